@@ -1,0 +1,2 @@
+// The definitions of host, endpoints and link, by names, and the laws that need no code.
+#![tactic(auto)]

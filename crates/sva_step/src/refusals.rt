@@ -1,0 +1,82 @@
+/// Why a step was refused. A refused step changes nothing.
+#[derive(Clone, Copy, Debug, PartialEq, Eq)]
+pub enum Refusal {
+    /// A count of the config is out of its limits, or `first` is above 2^63.
+    BadConfig,
+    /// The endpoint's number is not below the number of endpoints.
+    NoSuchEndpoint,
+    /// No live space has this number.
+    NoSuchSpace,
+    /// 64 spaces are live.
+    TooManySpaces,
+    /// A page of the step is 2^36 or more.
+    PageRange,
+    /// The page is mapped.
+    Mapped,
+    /// One of the pages isn't mapped.
+    NotMapped,
+    /// No frame is free, fewer frames are free than pages are to be mapped, or there is no frame of this number.
+    NoFrame,
+    /// The space would have more than 1024 pages.
+    SpaceFull,
+    /// The space has an unreleased binding at this endpoint.
+    AlreadyBound,
+    /// The 32 PASIDs of the endpoint are taken.
+    NoPasid,
+    /// The space has an unreleased binding.
+    StillBound,
+    /// No unreleased binding has this number.
+    NoSuchBinding,
+    /// The binding is neither Live nor Lost.
+    NotLive,
+    /// What the binding's stage needs isn't there.
+    NotYet,
+    /// At a unit the descriptors don't fit into the 64 places of its invalidation queue.
+    QueueFull,
+    /// The unit is in reset.
+    Resetting,
+    /// The PASID's state at the endpoint doesn't allow the step.
+    NotStarted,
+    /// The 32 request tags are taken.
+    NoTag,
+    /// There is no cached translation of this PASID and page.
+    NotHeld,
+    /// A write use of a translation that doesn't allow writing.
+    ReadOnly,
+    /// The 16 use slots are taken.
+    NoUseSlot,
+    /// The use slot isn't taken.
+    NoSuchUse,
+    /// 32 page requests are outstanding at the endpoint.
+    NoCredit,
+    /// The index isn't that of an unfinished group of this PASID.
+    NoSuchGroup,
+    /// The page request interface is disabled.
+    PriDisabled,
+    /// The vector is 0, or names a tag without a taken, unfinished invalidation.
+    NotPending,
+    /// A running use that a named invalidation noted hasn't ended.
+    InUse,
+    /// The count is not one of 1 to 8 (completions) or 1 to 48 (pages).
+    BadCount,
+    /// The PASID isn't stopping at the endpoint.
+    NotStopping,
+    /// An unfinished group, a request tag out or a running use of this PASID.
+    Busy,
+    /// No message in flight has this number.
+    NoSuchMessage,
+    /// The permitted order of the link forbids the delivery now.
+    Overtakes,
+    /// The worker's number is not below the number of workers.
+    NoSuchWorker,
+    /// The worker holds a job.
+    HandsFull,
+    /// No job is queued, or the worker holds none.
+    NoJob,
+    /// `success`, and the group asks to write a page that is mapped read-only.
+    BadVerdict,
+    /// Fewer numbers are left below 2^63 than the step needs.
+    NumbersSpent,
+    /// A growth of this step was refused.
+    OutOfMemory,
+}

@@ -1,0 +1,191 @@
+-- What the numbers and labels of a step mean now.
+use Rattle.std.specs.Prelude.{ℕ, suc, ◌+◌, ◌-◌, ◌^◌, Bool, false, ◌&&◌, not, ◌==◌, nat_lt, nat_le, Option, Some, None, List, map}
+use Rattle.std.specs.Int.{bit_at}
+use Rattle.sva_model.specs.Words.{lowest, any_below, count_below, select, is_some, holds_of, the}
+use Rattle.sva_model.specs.Order.{Sort, stays_behind}
+use Rattle.sva_model.specs.Order.Sort.{StartSort, StopSort, ResetSort, CompletionSort, InvalidateSort, ResponseSort, RequestSort, InvalidatedSort, PageRequestSort, MarkerSort, ResetDoneSort}
+use Rattle.sva_model.specs.State.{About, Part, World}
+use Rattle.sva_model.specs.State.About.{StartOf, StopOf, ResetOrder, CompletionOf, InvalidateOf, ResponseOf, RequestOf, InvalidatedOf, PageRequestOf, MarkerOf, ResetDone}
+use Rattle.sva_model.specs.States.{is_unreleased, is_on, is_ending, is_arrived, is_unfinished, is_outstanding, is_out, is_queued, is_taken, is_busy, uses_noted, is_running, covers, is_open_group, is_job, is_present, is_free}
+
+-- Numbers. Spaces, bindings, messages and cookies are numbered from `first` on, each below 2^63.
+
+abbrev pub number : World → ℕ → ℕ
+number w name = w.config.first + name
+
+abbrev pub name : World → ℕ → ℕ
+name w n = n - w.config.first
+
+-- is it the number of one of the first `count`?
+abbrev pub is_number : World → ℕ → ℕ → Bool
+is_number w count n = nat_le w.config.first n && nat_lt (name w n) count
+
+-- are fewer numbers left than are needed, `count` being given?
+abbrev pub lacks : World → (count needed : ℕ) → Bool
+lacks w count needed = nat_lt (2 ^ 63) (w.config.first + count + needed)
+
+-- Spaces.
+
+abbrev pub is_space : World → ℕ → Bool
+is_space w n = is_number w w.spaces n && w.is_live (name w n)
+
+abbrev pub live_spaces : World → ℕ
+live_spaces w = count_below w.spaces w.is_live
+
+abbrev pub pages_of : World → (space : ℕ) → ℕ
+pages_of w s = count_below w.mappings.made (λ m. is_present (w.mappings.state m) && w.mappings.space m == s)
+
+abbrev pub is_mapped : World → (space page : ℕ) → Bool
+is_mapped w s q = is_some (w.mappings.at s q)
+
+abbrev pub free_frames : World → ℕ
+free_frames w = count_below w.config.frames (is_free w)
+
+abbrev pub lowest_frame : World → ℕ
+lowest_frame w = lowest w.config.frames (is_free w)
+
+-- Bindings.
+
+abbrev pub is_binding : World → ℕ → Bool
+is_binding w n = is_number w w.bindings n && is_unreleased ((w.part (w.home (name w n))).stage (name w n))
+
+-- has the space an unreleased binding at this endpoint?
+abbrev pub is_bound_at : World → (space endpoint : ℕ) → Bool
+is_bound_at w s e = any_below w.bindings (λ b. is_unreleased ((w.part e).stage b) && (w.part e).space b == s)
+
+abbrev pub is_bound : World → (space : ℕ) → Bool
+is_bound w s = any_below w.config.endpoints (is_bound_at w s)
+
+-- the lowest PASID that is free, less 1; 32 where none is
+abbrev pub lowest_pasid : Part → ℕ
+lowest_pasid p = lowest 32 (λ t. not (is_some (p.at_pasid (suc t))))
+
+-- A PASID at an endpoint: the binding that bears it, and its state there.
+
+abbrev pub bearer : Part → (pasid : ℕ) → ℕ
+bearer p t = the (p.at_pasid t)
+
+abbrev pub is_started : Part → (pasid : ℕ) → Bool
+is_started p t = holds_of (λ b. is_on (p.pasid_state b)) (p.at_pasid t)
+
+abbrev pub is_told_to_stop : Part → (pasid : ℕ) → Bool
+is_told_to_stop p t = holds_of (λ b. is_ending (p.pasid_state b)) (p.at_pasid t)
+
+-- What the endpoint keeps under a binding.
+
+abbrev pub is_held_at : Part → (binding page request : ℕ) → Bool
+is_held_at p b q r = is_some (p.held r) && p.request_binding r == b && p.request_page r == q
+
+-- the request whose answer is cached for the page
+abbrev pub cached : Part → (binding page : ℕ) → ℕ
+cached p b q = lowest p.requests (is_held_at p b q)
+
+abbrev pub is_cached : Part → (pasid page : ℕ) → Bool
+is_cached p t q = holds_of (λ b. any_below p.requests (is_held_at p b q)) (p.at_pasid t)
+
+abbrev pub is_request_out_of : Part → (binding : ℕ) → Bool
+is_request_out_of p b = any_below p.requests (λ r. is_out (p.request r) && p.request_binding r == b)
+
+abbrev pub is_use_of : Part → (binding : ℕ) → Bool
+is_use_of p b = any_below p.uses (λ u. is_running (p.use_state u) && p.use_binding u == b)
+
+abbrev pub is_unfinished_of : Part → (binding : ℕ) → Bool
+is_unfinished_of p b = any_below p.groups (λ g. is_unfinished (p.group g) && p.asker g == b)
+
+-- Lowest free labels.
+
+abbrev pub lowest_label : ℕ → (ℕ → Option ℕ) → ℕ
+lowest_label n at = lowest n (λ t. not (is_some (at t)))
+
+-- Page requests.
+
+-- the page requests that wait for their group's response
+abbrev pub outstanding : Part → ℕ
+outstanding p = count_below p.page_requests (λ r. is_outstanding (p.group (p.group_of r)))
+
+abbrev pub is_group_of : Part → (pasid index : ℕ) → Bool
+is_group_of p t i = holds_of (λ g. is_unfinished (p.group g) && is_some (p.at_pasid t) && p.asker g == bearer p t) (p.at_index i)
+
+-- the page request queue holds the page requests that arrived and aren't filed, in order of arrival
+abbrev pub is_waiting : Part → (arrival : ℕ) → Bool
+is_waiting p k = is_arrived (p.page_request (p.arrival k))
+
+abbrev pub is_page_queue_empty : Part → Bool
+is_page_queue_empty p = not (any_below p.arrivals (is_waiting p))
+
+abbrev pub oldest_arrived : Part → ℕ
+oldest_arrived p = p.arrival (lowest p.arrivals (is_waiting p))
+
+-- has the binding a group that the host has filed in part or whole, and not answered?
+abbrev pub has_open_group : Part → (binding : ℕ) → Bool
+has_open_group p b = any_below p.groups (λ g. is_open_group (p.host_group g) && p.filed_under g == b)
+
+-- the page requests of a group that are filed, in order of filing
+abbrev pub asks : Part → (group : ℕ) → List ℕ
+asks p g = map p.filing (select p.filings (λ k. p.group_of (p.filing k) == g))
+
+-- the job queue holds the groups with a job, in order of the filing of their last request
+abbrev pub is_queued_job : World → (job : ℕ) → Bool
+is_queued_job w j = is_job ((w.part (w.job j).endpoint).host_group (w.job j).group)
+
+-- The invalidation queue holds the orders of the unit that are queued, in order of submission.
+
+abbrev pub queue_length : Part → ℕ
+queue_length p = count_below p.orders (λ k. is_queued (p.order_state k))
+
+abbrev pub is_queue_empty : Part → Bool
+is_queue_empty p = not (any_below p.orders (λ k. is_queued (p.order_state k)))
+
+abbrev pub head : Part → ℕ
+head p = lowest p.orders (λ k. is_queued (p.order_state k))
+
+abbrev pub is_some_busy : Part → Bool
+is_some_busy p = any_below p.orders (λ k. is_busy (p.order_state k))
+
+-- Invalidations in the endpoint's hands, by the bits of an ITag Vector (PCI Express Base 5.0, section 10.3.2).
+
+abbrev pub is_set : (vector itag : ℕ) → Bool
+is_set vector t = bit_at vector t == 1
+
+abbrev pub is_pending : Part → (itag : ℕ) → Bool
+is_pending p t = holds_of (λ k. is_taken (p.order_state k)) (p.at_itag t)
+
+abbrev pub is_named : Part → (vector order : ℕ) → Bool
+is_named p vector k = is_taken (p.order_state k) && is_set vector (p.itag k)
+
+-- does a running use go on that the invalidation noted?
+abbrev pub is_noted_running : World → Part → (order used : ℕ) → Bool
+is_noted_running w p k u = is_running (p.use_state u) && covers (p.order k) (p.use_binding u) (w.mappings.page (p.use_mapping u))
+
+abbrev pub is_in_use : World → Part → (order : ℕ) → Bool
+is_in_use w p k = any_below (uses_noted (p.order_state k)) (is_noted_running w p k)
+
+-- The link.
+
+abbrev pub sort_of : Part → About → Sort
+sort_of p (StartOf b) = StartSort
+sort_of p (StopOf b) = StopSort
+sort_of p ResetOrder = ResetSort
+sort_of p (CompletionOf r found) = CompletionSort
+sort_of p (InvalidateOf k) = InvalidateSort
+sort_of p (ResponseOf g code) = ResponseSort
+sort_of p (RequestOf r) = RequestSort
+sort_of p (InvalidatedOf names) = InvalidatedSort
+sort_of p (PageRequestOf r) = PageRequestSort (p.is_last r)
+sort_of p (MarkerOf b) = MarkerSort
+sort_of p ResetDone = ResetDoneSort
+
+-- must a message of sort `newer` stay behind what is in flight, if anything is?
+abbrev pub holds_back : Part → Sort → Option About → Bool
+holds_back p newer None = false
+holds_back p newer (Some older) = stays_behind newer (sort_of p older)
+
+abbrev pub is_permitted : Part → (message : ℕ) → About → Bool
+is_permitted p c about = not (any_below c (λ d. holds_back p (sort_of p about) (p.message d)))
+
+abbrev pub is_permitted_now : Part → (message : ℕ) → Option About → Bool
+is_permitted_now p c None = false
+is_permitted_now p c (Some about) = is_permitted p c about
+
+abbrev pub is_in_flight : World → ℕ → Bool
+is_in_flight w n = is_number w w.messages n && is_some ((w.part (w.way (name w n))).message (name w n))

@@ -1,0 +1,166 @@
+-- What the states of records mean.
+use Rattle.std.specs.Prelude.{ℕ, suc, ◌+◌, Bool, true, false, ◌&&◌, ◌||◌, ◌==◌, nat_lt, Option, Some, None}
+use Rattle.sva_model.specs.Words.{all_below}
+use Rattle.sva_model.specs.State.{Owed, MappingState, Stage, PasidState, RequestState, UseState, PageRequestState, GroupState, HostGroupState, Order, OrderState, Phase, Part, World}
+use Rattle.sva_model.specs.State.Owed.{Nothing, Pages, Pasid, AReset}
+use Rattle.sva_model.specs.State.MappingState.{Present, Gone}
+use Rattle.sva_model.specs.State.Stage.{Unbound, Live, Stopping, Draining, Quiet, Lost, Released}
+use Rattle.sva_model.specs.State.PasidState.{Off, On, Ending}
+use Rattle.sva_model.specs.State.RequestState.{Out, Doomed}
+use Rattle.sva_model.specs.State.UseState.{Running}
+use Rattle.sva_model.specs.State.PageRequestState.{Arrived}
+use Rattle.sva_model.specs.State.GroupState.{Unfinished, Finished}
+use Rattle.sva_model.specs.State.HostGroupState.{PartFiled, Job, InHand}
+use Rattle.sva_model.specs.State.Order.{PageOf, PasidOf, Wait}
+use Rattle.sva_model.specs.State.OrderState.{Queued, Sent, Taken, Lapsed, Owing, Done}
+use Rattle.sva_model.specs.State.Phase.{Open}
+
+abbrev pub is_open : Phase → Bool
+is_open Open = true
+is_open _ = false
+
+-- bound, and not yet released
+abbrev pub is_unreleased : Stage → Bool
+is_unreleased Unbound = false
+is_unreleased Released = false
+is_unreleased _ = true
+
+abbrev pub is_live_stage : Stage → Bool
+is_live_stage Live = true
+is_live_stage _ = false
+
+abbrev pub is_lost : Stage → Bool
+is_lost Lost = true
+is_lost _ = false
+
+abbrev pub is_quiet : Stage → Bool
+is_quiet Quiet = true
+is_quiet _ = false
+
+-- Live, Stopping or Draining: its translations may be asked for or are still cached, and nothing was ordered of all
+abbrev pub is_before_invalidating : Stage → Bool
+is_before_invalidating Live = true
+is_before_invalidating (Stopping marked) = true
+is_before_invalidating (Draining wait) = true
+is_before_invalidating _ = false
+
+abbrev pub is_off : PasidState → Bool
+is_off Off = true
+is_off _ = false
+
+abbrev pub is_on : PasidState → Bool
+is_on On = true
+is_on _ = false
+
+abbrev pub is_ending : PasidState → Bool
+is_ending Ending = true
+is_ending _ = false
+
+-- is its request tag taken?
+abbrev pub is_out : RequestState → Bool
+is_out Out = true
+is_out Doomed = true
+is_out _ = false
+
+abbrev pub is_running : UseState → Bool
+is_running Running = true
+is_running _ = false
+
+abbrev pub is_arrived : PageRequestState → Bool
+is_arrived Arrived = true
+is_arrived _ = false
+
+abbrev pub is_unfinished : GroupState → Bool
+is_unfinished Unfinished = true
+is_unfinished _ = false
+
+-- does it keep its index and its requests' allocation?
+abbrev pub is_outstanding : GroupState → Bool
+is_outstanding Finished = false
+is_outstanding _ = true
+
+abbrev pub is_job : HostGroupState → Bool
+is_job Job = true
+is_job _ = false
+
+-- has the host filed it in part or whole, and not answered it?
+abbrev pub is_open_group : HostGroupState → Bool
+is_open_group PartFiled = true
+is_open_group Job = true
+is_open_group (InHand worker) = true
+is_open_group _ = false
+
+abbrev pub is_queued : OrderState → Bool
+is_queued Queued = true
+is_queued _ = false
+
+abbrev pub is_taken : OrderState → Bool
+is_taken (Taken uses) = true
+is_taken _ = false
+
+-- does it bear an ITag?
+abbrev pub is_busy : OrderState → Bool
+is_busy Sent = true
+is_busy (Taken uses) = true
+is_busy Lapsed = true
+is_busy (Owing count left) = true
+is_busy _ = false
+
+abbrev pub is_done : OrderState → Bool
+is_done Done = true
+is_done _ = false
+
+abbrev pub is_wait : Order → Bool
+is_wait (Wait cookie drain) = true
+is_wait _ = false
+
+-- of how many uses a taken invalidation was taken in sight
+abbrev pub uses_noted : OrderState → ℕ
+uses_noted (Taken uses) = uses
+uses_noted _ = 0
+
+-- What an invalidation covers: its page, or every page, of its own binding.
+abbrev pub covers : Order → (binding page : ℕ) → Bool
+covers (PageOf b q) binding page = b == binding && q == page
+covers (PasidOf b) binding page = b == binding
+covers (Wait cookie drain) binding page = false
+
+-- Has the endpoint answered for a mapping that was taken out, by now?
+abbrev pub answered : Part → Owed → Bool
+answered p Nothing = true
+answered p (Pages first count resets) = all_below (suc count) (λ j. is_done (p.order_state (first + j))) || nat_lt resets p.resets
+answered p (Pasid invalidation wait resets) = (is_done (p.order_state invalidation) && is_done (p.order_state wait)) || nat_lt resets p.resets
+answered p (AReset resets) = nat_lt resets p.resets
+
+abbrev pub is_present : MappingState → Bool
+is_present Present = true
+is_present _ = false
+
+-- Where a frame is: at a page of a space; withheld, since an endpoint hasn't answered; or free.
+pub data Place : Type 0 where
+  Free : Place
+  Mapped : Place
+  Withheld : Place
+
+abbrev pub place_of_gone : Bool → Place
+place_of_gone true = Free
+place_of_gone false = Withheld
+
+abbrev pub place_by : World → MappingState → Place
+place_by w Present = Mapped
+place_by w (Gone owed) = place_of_gone (all_below w.config.endpoints (λ e. answered (w.part e) (owed e)))
+place_by w _ = Free
+
+abbrev pub place_at : World → Option ℕ → Place
+place_at w None = Free
+place_at w (Some m) = place_by w (w.mappings.state m)
+
+abbrev pub place : World → (frame : ℕ) → Place
+place w f = place_at w (w.mappings.latest f)
+
+abbrev pub is_free_place : Place → Bool
+is_free_place Free = true
+is_free_place _ = false
+
+abbrev pub is_free : World → (frame : ℕ) → Bool
+is_free w f = is_free_place (place w f)

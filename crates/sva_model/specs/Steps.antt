@@ -1,0 +1,79 @@
+-- The step, and the run over a list of steps. A refused step changes nothing.
+use Rattle.std.specs.Prelude.{ℕ, Bool, true, false, if◌then◌else◌, List, [], ◌∷◌, Result, Ok, Err}
+use Rattle.sva_step.specs.declared.answers.Answer.{Answer}
+use Rattle.sva_step.specs.declared.limits.Config.{Config}
+use Rattle.sva_step.specs.declared.refusals.Refusal.{Refusal}
+use Rattle.sva_step.specs.declared.steps.Step.{Step}
+use Rattle.sva_model.specs.Words.{count_below}
+use Rattle.sva_model.specs.State.{World, opened}
+use Rattle.sva_model.specs.States.{Place, place}
+use Rattle.sva_model.specs.States.Place.{Free, Mapped, Withheld}
+use Rattle.sva_model.specs.Acts.{Act, act}
+use Rattle.sva_model.specs.Refusals.{Cause, refusals}
+use Rattle.sva_model.specs.Outcomes.{Outcome, outcome}
+
+abbrev pub Reply : Type 0
+Reply = Result Answer Refusal
+
+-- what is answered, and what is done
+pub record Decision : Type 0 where
+  pub reply : Reply
+  pub acts : List Act
+
+-- the first cause that holds refuses the step
+abbrev pub checked : List Cause → Outcome → Decision
+checked [] o = record { reply = Ok o.answer; acts = o.acts }
+checked (c ∷ cs) o = if c.0 then record { reply = Err c.1; acts = [] } else checked cs o
+
+abbrev pub decide : World → Step → Decision
+decide w s = checked (refusals w s) (outcome w s)
+
+abbrev pub after_acts : World → List Act → World
+after_acts w [] = w
+after_acts w (a ∷ acts) = after_acts (act w a) acts
+
+-- the answer to a step, and the next world
+abbrev pub reply : World → Step → Reply
+reply w s = (decide w s).reply
+
+abbrev pub next : World → Step → World
+next w s = after_acts w (decide w s).acts
+
+-- the world after a list of steps
+abbrev pub run : World → List Step → World
+run w [] = w
+run w (s ∷ ss) = run (next w s) ss
+
+-- the answers to a list of steps
+unfoldable pub replies : World → List Step → List Reply
+replies w [] = []
+replies w (s ∷ ss) = reply w s ∷ replies (next w s) ss
+
+abbrev pub world_after : Config → List Step → World
+world_after config steps = run (opened config) steps
+
+-- how many frames are free, mapped and withheld
+abbrev pub is_free_at : Place → Bool
+is_free_at Free = true
+is_free_at _ = false
+
+abbrev pub is_mapped_at : Place → Bool
+is_mapped_at Mapped = true
+is_mapped_at _ = false
+
+abbrev pub is_withheld_at : Place → Bool
+is_withheld_at Withheld = true
+is_withheld_at _ = false
+
+pub record Counts : Type 0 where
+  pub free : ℕ
+  pub mapped : ℕ
+  pub withheld : ℕ
+
+abbrev pub counts : World → Counts
+counts w =
+    record {
+      free = count_below w.config.frames (λ f. is_free_at (place w f));
+      mapped = count_below w.config.frames (λ f. is_mapped_at (place w f));
+      withheld = count_below w.config.frames (λ f. is_withheld_at (place w f));
+    }

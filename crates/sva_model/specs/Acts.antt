@@ -39,7 +39,7 @@ pub data Own : Type 0 where
   Discard : (group : ℕ) → Own
   -- the endpoint
   Ask : (binding page tag : ℕ) → Own
-  Begin : (binding mapping slot : ℕ) → Own
+  Begin : (request mapping slot : ℕ) → Own
   End : (used : ℕ) → Own
   Evict : (request : ℕ) → Own
   Group : (binding index : ℕ) → Own
@@ -86,21 +86,21 @@ submits_at p (Some b) = is_open p.phase && is_before_invalidating (p.stage b)
 abbrev pub submits : World → (space endpoint : ℕ) → Bool
 submits w s e = submits_at (w.part e) (bound w e s)
 
-abbrev pub owed_by_unit : Part → ℕ → Bool → Owed
-owed_by_unit p count true = Pages p.orders count p.resets
-owed_by_unit p count false = AReset p.resets
+abbrev pub owed_by_unit : Part → (page count : ℕ) → Bool → Owed
+owed_by_unit p q count true = Pages q p.orders count p.resets
+owed_by_unit p q count false = AReset p.resets
 
--- what the endpoint has to answer for `count` pages that a binding in this stage loses
-abbrev pub owed_by_stage : Part → ℕ → Stage → Owed
-owed_by_stage p count Live = owed_by_unit p count (is_open p.phase)
-owed_by_stage p count (Stopping marked) = owed_by_unit p count (is_open p.phase)
-owed_by_stage p count (Draining wait) = owed_by_unit p count (is_open p.phase)
-owed_by_stage p count (Invalidating invalidation wait) = Pasid invalidation wait p.resets
-owed_by_stage p count _ = Nothing
+-- what the endpoint has to answer for the `count` pages from `page` on that a binding in this stage loses
+abbrev pub owed_by_stage : Part → (page count : ℕ) → Stage → Owed
+owed_by_stage p q count Live = owed_by_unit p q count (is_open p.phase)
+owed_by_stage p q count (Stopping marked) = owed_by_unit p q count (is_open p.phase)
+owed_by_stage p q count (Draining wait) = owed_by_unit p q count (is_open p.phase)
+owed_by_stage p q count (Invalidating invalidation wait) = Pasid invalidation wait p.resets
+owed_by_stage p q count _ = Nothing
 
-abbrev pub owed_by : Part → ℕ → Option ℕ → Owed
-owed_by p count None = Nothing
-owed_by p count (Some b) = owed_by_stage p count (p.stage b)
+abbrev pub owed_by : Part → (page count : ℕ) → Option ℕ → Owed
+owed_by p q count None = Nothing
+owed_by p q count (Some b) = owed_by_stage p q count (p.stage b)
 
 -- is there something to wait for at the endpoint?
 abbrev pub waits_by_stage : Part → Stage → Bool
@@ -282,6 +282,7 @@ own p n (Release b) = record p { stage = put p.stage b Released; at_pasid = put 
 own p n (Send k t) =
     record p {
       order_state = put p.order_state k Sent;
+      invalidate_message = put p.invalidate_message k n;
       itag = put p.itag k t;
       at_itag = put p.at_itag t (Some k);
       message = put p.message n (Some (InvalidateOf k));
@@ -310,6 +311,7 @@ own p n (Respond g code) =
     record p {
       host_group = put p.host_group g Replied;
       responses = put p.responses g (suc (p.responses g));
+      response_message = put p.response_message g n;
       message = put p.message n (Some (ResponseOf g code));
       carried = put p.carried n (ResponseMessage (p.pasid (p.filed_under g)) (p.index g) code);
     }
@@ -321,14 +323,15 @@ own p n (Ask b q t) =
       request_page = put p.request_page p.requests q;
       request_tag = put p.request_tag p.requests t;
       request = put p.request p.requests Out;
+      request_message = put p.request_message p.requests n;
       at_tag = put p.at_tag t (Some p.requests);
       message = put p.message n (Some (RequestOf p.requests));
       carried = put p.carried n (RequestMessage t (p.pasid b) q);
     }
-own p n (Begin b m t) =
+own p n (Begin r m t) =
     record p {
       uses = suc p.uses;
-      use_binding = put p.use_binding p.uses b;
+      use_binding = put p.use_binding p.uses (p.request_binding r);
       use_mapping = put p.use_mapping p.uses m;
       use_slot = put p.use_slot p.uses t;
       use_state = put p.use_state p.uses Running;
@@ -353,6 +356,7 @@ own p n (Request g q r x l) =
       asks_write = put p.asks_write p.page_requests x;
       is_last = put p.is_last p.page_requests l;
       page_request = put p.page_request p.page_requests InFlight;
+      page_request_message = put p.page_request_message p.page_requests n;
       group = put p.group g (sent_as l);
       message = put p.message n (Some (PageRequestOf p.page_requests));
       carried = put p.carried n (PageRequestMessage (p.pasid (p.asker g)) (p.index g) q r x l);
@@ -410,7 +414,11 @@ own p n (Answered c g code) =
       message = put p.message c None;
     }
 own p n (Complete c r found answer) =
-    record p { message = put (put p.message c None) n (Some (CompletionOf r found)); carried = put p.carried n answer }
+    record p {
+      request_message = put p.request_message r n;
+      message = put (put p.message c None) n (Some (CompletionOf r found));
+      carried = put p.carried n answer;
+    }
 own p n (Count c names) =
     record p {
       order_state = λ k. counted_if (names k) (p.order_state k);
@@ -422,6 +430,7 @@ own p n (Arrive c r) =
       page_request = put p.page_request r Arrived;
       arrivals = suc p.arrivals;
       arrival = put p.arrival p.arrivals r;
+      arrived_as = put p.arrived_as r p.arrivals;
       message = put p.message c None;
     }
 own p n (Miss c r) = record p { page_request = put p.page_request r Dropped; message = put p.message c None }
@@ -478,7 +487,7 @@ act w (Map s q f x) =
     }
 act w (Unmap s q count) =
     record w {
-      mappings = without_pages w.mappings s (in_range q count) (λ e. owed_by (w.part e) count (bound w e s));
+      mappings = without_pages w.mappings s (in_range q count) (λ e. owed_by (w.part e) q count (bound w e s));
       cookies = w.cookies + count_below w.config.endpoints (submits w s);
       part = part_after_unmap w s q count;
     }

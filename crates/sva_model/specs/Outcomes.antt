@@ -118,8 +118,8 @@ ask_outcome p e t q tag = at_one (answer.Tag tag) e (Own.Ask (Labels.bearer p t)
 
 abbrev pub begin_outcome : World → Part → (endpoint pasid page slot : ℕ) → Outcome
 begin_outcome w p e t q slot =
-    let m = the (p.held (Labels.cached p (Labels.bearer p t) q)) in
-    at_one (answer.Use slot (w.mappings.frame m)) e (Own.Begin (Labels.bearer p t) m slot)
+    let r = Labels.cached p (Labels.bearer p t) q in
+    at_one (answer.Use slot (w.mappings.frame (the (p.held r)))) e (Own.Begin r (the (p.held r)) slot)
 
 abbrev pub end_outcome : Part → (endpoint used : ℕ) → Outcome
 end_outcome p e u = at_one (if is_running (p.use_state u) then answer.Ended else answer.Dead) e (Own.End u)

@@ -1,9 +1,8 @@
 -- Runs that are worked out: invalidations, their tags and completions, and bindings that are taken back.
-use Rattle.std.specs.Prelude.{ℕ, ◌+◌, true, false, List, [], ◌∷◌, ◌++◌, Some, None}
+use Rattle.std.specs.Prelude.{◌+◌, false, List, [], ◌∷◌, ◌++◌}
 use Rattle.sva_step.specs.declared.answers.Answer.TheVariants as answer
 use Rattle.sva_step.specs.declared.refusals.Refusal.TheVariants as refusal
 use Rattle.sva_step.specs.declared.steps.Step.TheVariants as step
-use Rattle.sva_step.specs.declared.steps.Verdict.TheVariants as verdict
 use Rattle.sva_model.specs.Rows.{Line, says, refused, lines, IsRow, config}
 
 -- eight completions for one invalidation: the count field is 0

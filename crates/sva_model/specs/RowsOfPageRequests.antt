@@ -1,10 +1,10 @@
 -- Runs that are worked out: page requests, their groups, jobs and responses.
-use Rattle.std.specs.Prelude.{ℕ, ◌+◌, true, false, List, [], ◌∷◌, ◌++◌, Some, None}
+use Rattle.std.specs.Prelude.{true, false, List, [], ◌∷◌, Some, None}
 use Rattle.sva_step.specs.declared.answers.Answer.TheVariants as answer
 use Rattle.sva_step.specs.declared.refusals.Refusal.TheVariants as refusal
 use Rattle.sva_step.specs.declared.steps.Step.TheVariants as step
 use Rattle.sva_step.specs.declared.steps.Verdict.TheVariants as verdict
-use Rattle.sva_model.specs.Rows.{Line, says, refused, lines, IsRow, config}
+use Rattle.sva_model.specs.Rows.{Line, says, refused, IsRow, config}
 
 -- a group of three page requests over two pages
 abbrev pub page_request_group : List Line

@@ -1,10 +1,9 @@
 -- Runs that are worked out: spaces, bindings, translations, and pages unmapped while they are in use.
-use Rattle.std.specs.Prelude.{ℕ, ◌+◌, true, false, List, [], ◌∷◌, ◌++◌, Some, None}
+use Rattle.std.specs.Prelude.{true, false, List, [], ◌∷◌}
 use Rattle.sva_step.specs.declared.answers.Answer.TheVariants as answer
 use Rattle.sva_step.specs.declared.refusals.Refusal.TheVariants as refusal
 use Rattle.sva_step.specs.declared.steps.Step.TheVariants as step
-use Rattle.sva_step.specs.declared.steps.Verdict.TheVariants as verdict
-use Rattle.sva_model.specs.Rows.{Line, says, refused, lines, IsRow, config}
+use Rattle.sva_model.specs.Rows.{Line, says, refused, IsRow, config}
 
 -- a page is mapped, unmapped and mapped again while nothing is bound
 abbrev pub spaces_and_frames : List Line

@@ -9,11 +9,11 @@ use Rattle.sva_step.specs.declared.limits.Config.{Config}
 
 -- A mapping is a page of a space that led to a frame. When it is taken out of its space, it is written down what each
 -- endpoint then had to answer before the frame may be used again:
--- nothing; the `count` page invalidations from `first` on, and the wait behind them; its binding's PASID invalidation
--- and the wait behind that; or a reset-done. A reset-done answers in each case; `resets` counts those before.
+-- nothing; the page invalidations of the `count` pages from `page` on, which are the orders from `first` on, and the wait
+-- behind them; its binding's PASID invalidation and the wait behind that; or a reset-done. A reset-done answers in each case; `resets` counts those before.
 pub data Owed : Type 0 where
   Nothing : Owed
-  Pages : (first count resets : ℕ) → Owed
+  Pages : (page first count resets : ℕ) → Owed
   Pasid : (invalidation wait resets : ℕ) → Owed
   AReset : (resets : ℕ) → Owed
 
@@ -138,6 +138,7 @@ pub record Part : Type 0 where
   pub request_page : ℕ → ℕ
   pub request_tag : ℕ → ℕ
   pub request : ℕ → RequestState
+  pub request_message : ℕ → ℕ  -- the last message that speaks of a request: it, or its completion
   pub at_tag : ℕ → Option ℕ
   pub held : ℕ → Option ℕ  -- of a request: the mapping whose translation is cached since it was answered
   pub uses : ℕ
@@ -159,16 +160,20 @@ pub record Part : Type 0 where
   pub asks_write : ℕ → Bool
   pub is_last : ℕ → Bool
   pub page_request : ℕ → PageRequestState
+  pub page_request_message : ℕ → ℕ  -- the message of a page request
   pub arrivals : ℕ
   pub arrival : ℕ → ℕ  -- the page request that arrived as the k-th
+  pub arrived_as : ℕ → ℕ  -- of a page request: as which it arrived
   pub filings : ℕ
   pub filing : ℕ → ℕ  -- the page request that was filed as the k-th
   pub filed_under : ℕ → ℕ  -- of a group: the binding under which the host filed it
   pub host_group : ℕ → HostGroupState
   pub responses : ℕ → ℕ  -- of a group: how many responses it has had
+  pub response_message : ℕ → ℕ  -- the message of a group's last response
   pub orders : ℕ
   pub order : ℕ → Order
   pub order_state : ℕ → OrderState
+  pub invalidate_message : ℕ → ℕ  -- the message of an order that was sent
   pub itag : ℕ → ℕ
   pub at_itag : ℕ → Option ℕ
   pub message : ℕ → Option About  -- what a message in flight speaks of
@@ -210,6 +215,7 @@ blank =
       request_page = λ r. 0;
       request_tag = λ r. 0;
       request = λ r. RequestState.Over;
+      request_message = λ r. 0;
       at_tag = λ t. None;
       held = λ r. None;
       uses = 0;
@@ -231,16 +237,20 @@ blank =
       asks_write = λ r. false;
       is_last = λ r. false;
       page_request = λ r. PageRequestState.Dropped;
+      page_request_message = λ r. 0;
       arrivals = 0;
       arrival = λ k. 0;
+      arrived_as = λ r. 0;
       filings = 0;
       filing = λ k. 0;
       filed_under = λ g. 0;
       host_group = λ g. HostGroupState.NotFiled;
       responses = λ g. 0;
+      response_message = λ g. 0;
       orders = 0;
       order = λ k. Order.Wait 0 false;
       order_state = λ k. OrderState.Void;
+      invalidate_message = λ k. 0;
       itag = λ k. 0;
       at_itag = λ t. None;
       message = λ c. None;

@@ -114,6 +114,11 @@ abbrev pub is_wait : Order → Bool
 is_wait (Wait cookie drain) = true
 is_wait _ = false
 
+-- a wait that drains: it waits for an empty page request queue too
+abbrev pub drains : Order → Bool
+drains (Wait cookie drain) = drain
+drains _ = false
+
 -- of how many uses a taken invalidation was taken in sight
 abbrev pub uses_noted : OrderState → ℕ
 uses_noted (Taken uses) = uses
@@ -128,7 +133,7 @@ covers (Wait cookie drain) binding page = false
 -- Has the endpoint answered for a mapping that was taken out, by now?
 abbrev pub answered : Part → Owed → Bool
 answered p Nothing = true
-answered p (Pages first count resets) = all_below (suc count) (λ j. is_done (p.order_state (first + j))) || nat_lt resets p.resets
+answered p (Pages page first count resets) = all_below (suc count) (λ j. is_done (p.order_state (first + j))) || nat_lt resets p.resets
 answered p (Pasid invalidation wait resets) = (is_done (p.order_state invalidation) && is_done (p.order_state wait)) || nat_lt resets p.resets
 answered p (AReset resets) = nat_lt resets p.resets
 

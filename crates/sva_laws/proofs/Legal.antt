@@ -1,0 +1,101 @@
+-- What a step has tested when an act is done, by names: a clause for each act.
+use Rattle.std.proofs.Common.{◌≡◌, ℕ, suc, ◌<◌, ◌≤◌, ◌≢◌, ◌⊎◌, Bool, true, false}
+use Rattle.std.specs.Prelude.{Option, Some, None}
+use Rattle.sva_model.specs.Message.{Code, Message}
+use Rattle.sva_model.specs.Order.{is_page_request, is_order_down}
+use Rattle.sva_model.specs.State.{Mappings, Part, About}
+use Rattle.sva_model.specs.State.MappingState.{Present}
+use Rattle.sva_model.specs.State.Stage.{Unbound, Live, Stopping, Draining, Invalidating, Quiet, Lost}
+use Rattle.sva_model.specs.State.PasidState.{Off, On, Ending}
+use Rattle.sva_model.specs.State.RequestState.{Out}
+use Rattle.sva_model.specs.State.UseState.{Running, Ended}
+use Rattle.sva_model.specs.State.PageRequestState.{Arrived}
+use Rattle.sva_model.specs.State.GroupState.{Unfinished}
+use Rattle.sva_model.specs.State.HostGroupState.{Job, InHand, InHandDiscarded}
+use Rattle.sva_model.specs.State.Order.{Wait}
+use Rattle.sva_model.specs.State.OrderState.{Queued, Done}
+use Rattle.sva_model.specs.State.About.{StartOf, StopOf, ResetOrder, CompletionOf, InvalidateOf, ResponseOf, RequestOf, InvalidatedOf, PageRequestOf, MarkerOf, ResetDone}
+use Rattle.sva_model.specs.State.Phase.{Open}
+use Rattle.sva_model.specs.States.{is_open, is_unreleased, is_before_invalidating, is_off, is_out, is_running, is_unfinished, is_open_group, is_taken, is_busy, is_wait, drains, uses_noted, covers}
+use Rattle.sva_model.specs.Acts.{Own}
+use Rattle.sva_model.specs.Acts.Own.{Bind, Stop, Drain, Invalidate, Quieten, Release, Send, Pass, File, Reset, Hand, Respond, Discard, Ask, Begin, End, Evict, Group, Request, Finish, Quit, Start_arrives, Stop_arrives, Reset_arrives, Keep, Forget, Take, Answered, Complete, Count, Arrive, Miss, Mark, Ignore, Reopen}
+use Rattle.sva_model.specs.Labels.{sort_of, outstanding, queue_length}
+
+-- no older message down that orders something
+pub record NoOlderDown (p : Part) (c : ℕ) : Type 0 where
+  pub no_start : (d b : ℕ) → d < c → p.message d ≢ Some (StartOf b)
+  pub no_stop : (d b : ℕ) → d < c → p.message d ≢ Some (StopOf b)
+  pub no_reset : (d : ℕ) → d < c → p.message d ≢ Some ResetOrder
+  pub no_invalidate : (d k : ℕ) → d < c → p.message d ≢ Some (InvalidateOf k)
+  pub no_response : (d g : ℕ) (code : Code) → d < c → p.message d ≢ Some (ResponseOf g code)
+
+-- no older page request
+abbrev pub NoOlderPageRequest : Part → ℕ → Type 0
+NoOlderPageRequest p c = (d r : ℕ) → d < c → p.message d ≢ Some (PageRequestOf r)
+
+-- a message that is let go changes nothing that counts
+abbrev pub IsIdle : Part → About → Type 0
+IsIdle p (CompletionOf r found) = is_out (p.request r) ≡ false
+IsIdle p (RequestOf r) = is_open p.phase ≡ false
+IsIdle p (InvalidatedOf names) = is_open p.phase ≡ false
+IsIdle p (MarkerOf b) = is_open p.phase ≡ false
+IsIdle p _ = ⊥
+
+-- g is the number of bindings
+abbrev pub LegalOwn : Mappings → (g : ℕ) → Part → Own → Type 0
+LegalOwn ms g p (Bind b s t) =
+    (b < g) × (p.phase ≡ Open) × (p.stage b ≡ Unbound) × (p.at_pasid t ≡ None) × (0 < t) × (t ≤ 32)
+    × ((d : ℕ) → is_unreleased (p.stage d) ≡ true → p.space d ≢ s)
+LegalOwn ms g p (Stop b) = (p.phase ≡ Open) × (p.stage b ≡ Live)
+LegalOwn ms g p (Drain b cookie) = (p.phase ≡ Open) × (p.stage b ≡ Stopping true) × (queue_length p < 64)
+LegalOwn ms g p (Invalidate b cookie) =
+    (p.phase ≡ Open) × ((w : ℕ) × (p.stage b ≡ Draining w) × (p.order_state w ≡ Done)) × (suc (queue_length p) < 64)
+    × ((x : ℕ) → is_open_group (p.host_group x) ≡ true → p.filed_under x ≢ b)
+LegalOwn ms g p (Quieten b) =
+    (p.stage b ≡ Lost) ⊎ ((k w : ℕ) × (p.phase ≡ Open) × (p.stage b ≡ Invalidating k w) × (p.order_state w ≡ Done))
+LegalOwn ms g p (Release b) = p.stage b ≡ Quiet
+LegalOwn ms g p (Send k t) = (p.phase ≡ Open) × (p.order_state k ≡ Queued) × (is_wait (p.order k) ≡ false) × (p.at_itag t ≡ None) × (t < 32)
+LegalOwn ms g p (Pass k) =
+    (p.phase ≡ Open) × (p.order_state k ≡ Queued) × (is_wait (p.order k) ≡ true) × ((j : ℕ) → j < k → p.order_state j ≢ Queued)
+    × ((j : ℕ) → is_busy (p.order_state j) ≡ false)
+    × ((r : ℕ) → drains (p.order k) ≡ true → p.page_request r ≢ Arrived)
+LegalOwn ms g p (File r) = (p.phase ≡ Open) × (p.page_request r ≡ Arrived) × ((x : ℕ) → p.page_request x ≡ Arrived → p.arrived_as r ≤ p.arrived_as x)
+LegalOwn ms g p Reset = p.phase ≡ Open
+LegalOwn ms g p (Hand x w) = p.host_group x ≡ Job
+LegalOwn ms g p (Respond x code) = (p.phase ≡ Open) × ((w : ℕ) × ((p.host_group x ≡ InHand w) ⊎ (p.host_group x ≡ InHandDiscarded w))) × (is_before_invalidating (p.stage (p.filed_under x)) ≡ true)
+LegalOwn ms g p (Discard x) =
+    ((w : ℕ) × ((p.host_group x ≡ InHand w) ⊎ (p.host_group x ≡ InHandDiscarded w)))
+    × (p.phase ≡ Open → is_before_invalidating (p.stage (p.filed_under x)) ≡ false)
+LegalOwn ms g p (Ask b q t) = (p.pasid_state b ≡ On) × (p.at_tag t ≡ None) × (t < 32)
+LegalOwn ms g p (Begin r m t) = (p.pasid_state (p.request_binding r) ≡ On) × (p.held r ≡ Some m) × (p.at_slot t ≡ None) × (t < 16)
+LegalOwn ms g p (End u) = p.at_slot (p.use_slot u) ≡ Some u
+LegalOwn ms g p (Evict r) = (m : ℕ) × (p.held r ≡ Some m)
+LegalOwn ms g p (Group b i) = (p.pasid_state b ≡ On) × (p.at_index i ≡ None) × (i < 32)
+LegalOwn ms g p (Request y q r x l) = (p.group y ≡ Unfinished) × (is_off (p.pasid_state (p.asker y)) ≡ false) × (outstanding p < 32)
+LegalOwn ms g p (Finish names vector count) =
+    ((k : ℕ) × (names k ≡ true))
+    × ((k : ℕ) → names k ≡ true → is_taken (p.order_state k) ≡ true)
+    × ((k u : ℕ) → names k ≡ true → u < uses_noted (p.order_state k) → p.use_state u ≡ Running → covers (p.order k) (p.use_binding u) (ms.page (p.use_mapping u)) ≡ false)
+    × (0 < count) × (count ≤ 8)
+LegalOwn ms g p (Quit b) =
+    (p.pasid_state b ≡ Ending)
+    × ((x : ℕ) → p.group x ≡ Unfinished → p.asker x ≢ b)
+    × ((r : ℕ) → is_out (p.request r) ≡ true → p.request_binding r ≢ b)
+    × ((u : ℕ) → p.use_state u ≡ Running → p.use_binding u ≢ b)
+LegalOwn ms g p (Start_arrives c b) = (p.message c ≡ Some (StartOf b)) × NoOlderDown p c
+LegalOwn ms g p (Stop_arrives c b) = (p.message c ≡ Some (StopOf b)) × NoOlderDown p c
+LegalOwn ms g p (Reset_arrives c) = (p.message c ≡ Some ResetOrder) × NoOlderDown p c
+LegalOwn ms g p (Keep c r m) = (p.message c ≡ Some (CompletionOf r (Some m))) × (p.request r ≡ Out)
+LegalOwn ms g p (Forget c r) = (found : Option ℕ) × (p.message c ≡ Some (CompletionOf r found)) × (is_out (p.request r) ≡ true)
+LegalOwn ms g p (Take c k) = p.message c ≡ Some (InvalidateOf k)
+LegalOwn ms g p (Answered c x code) = p.message c ≡ Some (ResponseOf x code)
+LegalOwn ms g p (Complete c r None answer) = (p.message c ≡ Some (RequestOf r)) × (p.phase ≡ Open)
+LegalOwn ms g p (Complete c r (Some m) answer) =
+    (p.message c ≡ Some (RequestOf r)) × (p.phase ≡ Open) × (p.stage (p.request_binding r) ≡ Live)
+    × (ms.at (p.space (p.request_binding r)) (p.request_page r) ≡ Some m)
+LegalOwn ms g p (Count c names) = (p.message c ≡ Some (InvalidatedOf names)) × (p.phase ≡ Open)
+LegalOwn ms g p (Arrive c r) = (p.message c ≡ Some (PageRequestOf r)) × (p.phase ≡ Open) × (p.is_last r ≡ true → NoOlderPageRequest p c)
+LegalOwn ms g p (Miss c r) = (p.message c ≡ Some (PageRequestOf r)) × (is_open p.phase ≡ false)
+LegalOwn ms g p (Mark c b) = (p.message c ≡ Some (MarkerOf b)) × (p.phase ≡ Open) × NoOlderPageRequest p c
+LegalOwn ms g p (Ignore c) = (a : About) × (p.message c ≡ Some a) × IsIdle p a
+LegalOwn ms g p (Reopen c) = (p.message c ≡ Some ResetDone) × ((d : ℕ) → d < c → p.message d ≡ None)

@@ -1,0 +1,12 @@
+pub mod Words
+pub mod Legal
+pub mod Resets
+pub mod Bounds
+pub mod Bindings
+pub mod Labels
+pub mod Requests
+pub mod Orders
+pub mod Owners
+pub mod Safe
+pub mod PageRequests
+pub mod Groups

@@ -1,0 +1,144 @@
+-- The orders of a unit: what is ahead of a wait that is done is done or void, and an order that isn't done or void is of
+-- a binding that isn't quiet yet.
+use Rattle.std.proofs.Common.{◌≡◌, ◌≢◌, ◌⊎◌, inl, inr, refl, ℕ, suc, ◌+◌, ◌<◌, ◌≤◌, Bool, true, false, arith}
+use Rattle.std.specs.Prelude.{Option, Some, None, not, ◌==◌}
+use Rattle.std.proofs.lemmas.Bool.Decides.{nat_tests}
+use Rattle.sva_model.specs.State.{Mappings, Part, Stage, Order, OrderState}
+use Rattle.sva_model.specs.State.Stage.{Live, Stopping, Draining, Invalidating}
+use Rattle.sva_model.specs.State.Order.{PageOf, PasidOf, Wait}
+use Rattle.sva_model.specs.State.OrderState.{Queued, Sent, Taken, Lapsed, Owing, Done, Void}
+use Rattle.sva_model.specs.State.About.{InvalidateOf, ResetDone}
+use Rattle.sva_model.specs.State.Phase.{Open, Cleared}
+use Rattle.sva_model.specs.States.{is_busy, is_wait, is_open, drains}
+use Rattle.sva_model.specs.Acts.{own, Own, binding_of}
+use Rattle.sva_laws.proofs.Legal.{LegalOwn}
+use Rattle.sva_laws.proofs.Resets.{Resets}
+use Rattle.sva_laws.proofs.Bounds.{Bounds}
+use Rattle.sva_laws.proofs.Labels.{Labels}
+
+-- Live, Stopping, Draining or Invalidating
+abbrev pub is_active : Stage → Bool
+is_active Live = true
+is_active (Stopping m) = true
+is_active (Draining w) = true
+is_active (Invalidating k w) = true
+is_active _ = false
+
+abbrev pub is_undone : OrderState → Bool
+is_undone Done = false
+is_undone Void = false
+is_undone _ = true
+
+abbrev pub is_queued_or_done : OrderState → Bool
+is_queued_or_done Queued = true
+is_queued_or_done Done = true
+is_queued_or_done _ = false
+
+abbrev pub owes : OrderState → Bool
+owes (Owing n l) = true
+owes _ = false
+
+pub record Orders (p : Part) : Type 0 where
+  pub no_wait : (k : ℕ) → is_busy (p.order_state k) ≡ true → is_wait (p.order k) ≡ false
+  pub ahead : (w k : ℕ) → p.order_state w ≡ Done → is_wait (p.order w) ≡ true → k < w → is_undone (p.order_state k) ≡ false
+  pub draining : (b w : ℕ) → p.stage b ≡ Draining w → (drains (p.order w) ≡ true) × (w < p.orders)
+  pub draining_state : (b w : ℕ) → p.stage b ≡ Draining w → p.phase ≡ Open → is_queued_or_done (p.order_state w) ≡ true
+  pub invalidating : (b k w : ℕ) → p.stage b ≡ Invalidating k w → (w ≡ suc k) × (p.order k ≡ PasidOf b) × (is_wait (p.order w) ≡ true) × (w < p.orders)
+  pub invalidating_state : (b k w : ℕ) → p.stage b ≡ Invalidating k w → p.phase ≡ Open → is_queued_or_done (p.order_state w) ≡ true
+  pub undone_before : (b k w x : ℕ) → p.stage b ≡ Invalidating k w → is_undone (p.order_state x) ≡ true → is_wait (p.order x) ≡ false → binding_of (p.order x) ≡ b → x < w
+  pub undone_stage : (k : ℕ) → is_undone (p.order_state k) ≡ true → is_wait (p.order k) ≡ false → is_active (p.stage (binding_of (p.order k))) ≡ true
+
+-- an invalidate in flight is of an order that was sent
+abbrev pub SentOnly : Part → Type 0
+SentOnly p = (c k : ℕ) → p.message c ≡ Some (InvalidateOf k) → p.order_state k ≡ Sent
+
+-- what is done or void stays so
+stays_done : (ms : Mappings) (g n : ℕ) (p : Part) (o : Own) → LegalOwn ms g p o → SentOnly p → (k : ℕ) → k < p.orders → is_undone (p.order_state k) ≡ false → is_undone ((own p n o).order_state k) ≡ false
+stays_done ms g n p o l sent k b h = grind (arith, nat_tests)
+
+-- a wait is done since before, or since now, and then nothing ahead of it is undone
+was_done : (ms : Mappings) (g n : ℕ) (p : Part) (o : Own) → LegalOwn ms g p o → (w k : ℕ) → k < w → (is_busy (p.order_state w) ≡ true → is_wait (p.order w) ≡ false) → (w < p.orders ⊎ (p.order_state w ≡ Void)) → (own p n o).order_state w ≡ Done → is_wait ((own p n o).order w) ≡ true → ((p.order_state w ≡ Done) × (is_wait (p.order w) ≡ true)) ⊎ (is_undone (p.order_state k) ≡ false)
+was_done ms g n p o l w k b nw made h i = grind (arith, nat_tests)
+
+made_or_void : (p : Part) (g w : ℕ) → Bounds g p → (w < p.orders) ⊎ (p.order_state w ≡ Void)
+made_or_void p g w bo = grind (arith, nat_tests, bo.order_state w)
+
+done_made : (ms : Mappings) (g n : ℕ) (p : Part) (o : Own) → LegalOwn ms g p o → SentOnly p → (w : ℕ) → (w < p.orders) ⊎ (p.order_state w ≡ Void) → (own p n o).order_state w ≡ Done → w < p.orders
+done_made ms g n p o l sent w made h = grind (arith, nat_tests)
+
+ahead_kept : (ms : Mappings) (g n : ℕ) (p : Part) (o : Own) → LegalOwn ms g p o → Bounds g p → SentOnly p → Orders p → (w k : ℕ) → (own p n o).order_state w ≡ Done → is_wait ((own p n o).order w) ≡ true → k < w → is_undone ((own p n o).order_state k) ≡ false
+ahead_kept ms g n p o l bo sent or w k h i b =
+    let made : w < p.orders = done_made ms g n p o l sent w (made_or_void p g w bo) h in
+    let old : is_undone (p.order_state k) ≡ false =
+        elim (was_done ms g n p o l w k b (or.no_wait w) (made_or_void p g w bo) h i) [ inl x ↦ or.ahead w k x.0 x.1 b | inr x ↦ x ]
+    in
+    stays_done ms g n p o l sent k (omega arith) old
+
+no_wait_kept : (ms : Mappings) (g n : ℕ) (p : Part) (o : Own) → LegalOwn ms g p o → SentOnly p → (k : ℕ) → (k < p.orders) ⊎ (p.order_state k ≡ Void) → (is_busy (p.order_state k) ≡ true → is_wait (p.order k) ≡ false) → is_busy ((own p n o).order_state k) ≡ true → is_wait ((own p n o).order k) ≡ false
+no_wait_kept ms g n p o l sent k made old h = grind (arith, nat_tests)
+
+draining_kept : (ms : Mappings) (g n : ℕ) (p : Part) (o : Own) → LegalOwn ms g p o → (b w : ℕ) → (p.stage b ≡ Draining w → (drains (p.order w) ≡ true) × (w < p.orders)) → (own p n o).stage b ≡ Draining w → (drains ((own p n o).order w) ≡ true) × (w < (own p n o).orders)
+draining_kept ms g n p o l b w old h = grind (arith, nat_tests)
+
+-- a wait that a binding waits for is queued or done at an open unit
+wait_state_kept : (ms : Mappings) (g n : ℕ) (p : Part) (o : Own) → LegalOwn ms g p o → SentOnly p → ((c : ℕ) → p.message c ≡ Some ResetDone → p.phase ≡ Cleared c) → (w : ℕ) → w < p.orders → is_wait (p.order w) ≡ true → (p.phase ≡ Open → is_queued_or_done (p.order_state w) ≡ true) → p.phase ≡ Open → (own p n o).phase ≡ Open → is_queued_or_done ((own p n o).order_state w) ≡ true
+wait_state_kept ms g n p o l sent up w b wt old q h = grind (arith, nat_tests)
+
+-- a binding that drains or invalidates did so before, at an open unit, or begins to now
+begins_to_drain : (ms : Mappings) (g n : ℕ) (p : Part) (o : Own) → LegalOwn ms g p o → (b w : ℕ) → (own p n o).stage b ≡ Draining w → (own p n o).phase ≡ Open → ((p.stage b ≡ Draining w) × (p.phase ≡ Open)) ⊎ ((w ≡ p.orders) × ((own p n o).order_state w ≡ Queued))
+begins_to_drain ms g n p o l b w h i = grind (arith, nat_tests)
+
+invalidates : (ms : Mappings) (g n : ℕ) (p : Part) (o : Own) → LegalOwn ms g p o → (b k w : ℕ) → (own p n o).stage b ≡ Invalidating k w → (own p n o).phase ≡ Open → ((p.stage b ≡ Invalidating k w) × (p.phase ≡ Open)) ⊎ ((own p n o).order_state w ≡ Queued)
+invalidates ms g n p o l b k w h i = grind (arith, nat_tests)
+
+drain_is_wait : (o : Order) → drains o ≡ true → is_wait o ≡ true
+drain_is_wait (Wait cookie drain) h = refl
+drain_is_wait (PageOf b q) h = absurd (cc)
+drain_is_wait (PasidOf b) h = absurd (cc)
+
+queued_is : (s : OrderState) → s ≡ Queued → is_queued_or_done s ≡ true
+queued_is s h = grind arith
+
+draining_state_kept : (ms : Mappings) (g n : ℕ) (p : Part) (o : Own) → LegalOwn ms g p o → SentOnly p → Resets n p → Orders p → (b w : ℕ) → (own p n o).stage b ≡ Draining w → (own p n o).phase ≡ Open → is_queued_or_done ((own p n o).order_state w) ≡ true
+draining_state_kept ms g n p o l sent re or b w h i =
+    elim (begins_to_drain ms g n p o l b w h i) [
+      | inl x ↦ let d = or.draining b w x.0 in wait_state_kept ms g n p o l sent re.up w d.1 (drain_is_wait (p.order w) d.0) (or.draining_state b w x.0) x.1 i
+      | inr x ↦ queued_is ((own p n o).order_state w) x.1
+    ]
+
+invalidating_kept : (ms : Mappings) (g n : ℕ) (p : Part) (o : Own) → LegalOwn ms g p o → (b k w : ℕ) → (p.stage b ≡ Invalidating k w → (w ≡ suc k) × (p.order k ≡ PasidOf b) × (is_wait (p.order w) ≡ true) × (w < p.orders)) → (own p n o).stage b ≡ Invalidating k w → (w ≡ suc k) × ((own p n o).order k ≡ PasidOf b) × (is_wait ((own p n o).order w) ≡ true) × (w < (own p n o).orders)
+invalidating_kept ms g n p o l b k w old h = grind (arith, nat_tests)
+
+invalidating_state_kept : (ms : Mappings) (g n : ℕ) (p : Part) (o : Own) → LegalOwn ms g p o → SentOnly p → Resets n p → Orders p → (b k w : ℕ) → (own p n o).stage b ≡ Invalidating k w → (own p n o).phase ≡ Open → is_queued_or_done ((own p n o).order_state w) ≡ true
+invalidating_state_kept ms g n p o l sent re or b k w h i =
+    elim (invalidates ms g n p o l b k w h i) [
+      | inl x ↦ let d = or.invalidating b k w x.0 in wait_state_kept ms g n p o l sent re.up w d.3 d.2 (or.invalidating_state b k w x.0) x.1 i
+      | inr x ↦ queued_is ((own p n o).order_state w) x
+    ]
+
+undone_before_kept : (ms : Mappings) (g n : ℕ) (p : Part) (o : Own) → LegalOwn ms g p o → SentOnly p → (b k w x : ℕ) → (x < p.orders) ⊎ (p.order_state x ≡ Void) → (p.stage b ≡ Invalidating k w → is_undone (p.order_state x) ≡ true → is_wait (p.order x) ≡ false → binding_of (p.order x) ≡ b → x < w) → (own p n o).stage b ≡ Invalidating k w → is_undone ((own p n o).order_state x) ≡ true → is_wait ((own p n o).order x) ≡ false → binding_of ((own p n o).order x) ≡ b → x < w
+undone_before_kept ms g n p o l sent b k w x made old h i j e = grind (arith, nat_tests)
+
+-- when its wait is done, nothing is undone of a binding that invalidates
+pub quiet_now : (p : Part) → Orders p → (b k w x : ℕ) → p.stage b ≡ Invalidating k w → p.order_state w ≡ Done → is_undone (p.order_state x) ≡ true → is_wait (p.order x) ≡ false → binding_of (p.order x) ≢ b
+quiet_now p or b k w x h d u nw e =
+    let i = or.invalidating b k w h in
+    let lt = or.undone_before b k w x h u nw e in
+    let dn = or.ahead w x d i.2 lt in
+    absurd (cc)
+
+undone_stage_kept : (ms : Mappings) (g n : ℕ) (p : Part) (o : Own) → LegalOwn ms g p o → SentOnly p → (x : ℕ) → (x < p.orders) ⊎ (p.order_state x ≡ Void) → ((b k w : ℕ) → p.stage b ≡ Invalidating k w → p.order_state w ≡ Done → is_undone (p.order_state x) ≡ true → is_wait (p.order x) ≡ false → binding_of (p.order x) ≢ b) → (is_undone (p.order_state x) ≡ true → is_wait (p.order x) ≡ false → is_active (p.stage (binding_of (p.order x))) ≡ true) → is_undone ((own p n o).order_state x) ≡ true → is_wait ((own p n o).order x) ≡ false → is_active ((own p n o).stage (binding_of ((own p n o).order x))) ≡ true
+undone_stage_kept ms g n p o l sent x made quiet old h i = grind (arith, nat_tests)
+
+pub every : (ms : Mappings) (g n : ℕ) (p : Part) (o : Own) → LegalOwn ms g p o → Resets n p → Bounds g p → Labels p → Orders p → Orders (own p n o)
+every ms g n p o l re bo la or =
+    record {
+      no_wait = λ k h. no_wait_kept ms g n p o l la.sent k (made_or_void p g k bo) (or.no_wait k) h;
+      ahead = λ w k h i j. ahead_kept ms g n p o l bo la.sent or w k h i j;
+      draining = λ b w h. draining_kept ms g n p o l b w (or.draining b w) h;
+      draining_state = λ b w h i. draining_state_kept ms g n p o l la.sent re or b w h i;
+      invalidating = λ b k w h. invalidating_kept ms g n p o l b k w (or.invalidating b k w) h;
+      invalidating_state = λ b k w h i. invalidating_state_kept ms g n p o l la.sent re or b k w h i;
+      undone_before = λ b k w x h i j e. undone_before_kept ms g n p o l la.sent b k w x (made_or_void p g x bo) (or.undone_before b k w x) h i j e;
+      undone_stage = λ x h i. undone_stage_kept ms g n p o l la.sent x (made_or_void p g x bo) (λ b k w. quiet_now p or b k w x) (or.undone_stage x) h i;
+    }

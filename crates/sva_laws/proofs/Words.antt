@@ -1,0 +1,85 @@
+-- What the searches find.
+use Rattle.std.proofs.Common.{◌≡◌, ℕ, zero, suc, ◌+◌, ◌<◌, ◌≤◌, ◌≢◌, ◌⊎◌, inl, inr, refl, arith, Bool, true, false, ap, sym, ◌∙◌}
+use Rattle.std.specs.Prelude.{Option, Some, None, if◌then◌else◌, nat_lt, nat_le, not, ◌&&◌}
+use Rattle.std.proofs.lemmas.Bool.Decides.{nat_tests}
+use Rattle.sva_model.specs.Words.{put, put_range, lowest, any_below, all_below, is_some, the, holds_of}
+
+pub put-same : {A : Type 0} (f : ℕ → A) (i : ℕ) (v : A) → put f i v i ≡ v
+put-same f i v = grind (arith, nat_tests)
+
+pub put-other : {A : Type 0} (f : ℕ → A) (i : ℕ) (v : A) (k : ℕ) → k ≢ i → put f i v k ≡ f k
+put-other f i v k ne = grind (arith, nat_tests)
+
+pub ℕ_cases : (a b : ℕ) → (a ≡ b) ⊎ (a ≢ b)
+ℕ_cases a b = grind arith
+
+pub not_true : (b : Bool) → not b ≡ false → b ≡ true
+not_true b h = grind arith
+
+pub below : (a b : ℕ) → not (nat_lt a b) ≡ false → a < b
+below a b h = grind (arith, nat_tests)
+
+-- a record that is there
+pub some_the : (o : Option ℕ) → is_some o ≡ true → o ≡ Some (the o)
+some_the None h = absurd (cc)
+some_the (Some k) h = refl
+
+pub none_is : {A : Type 0} (o : Option A) → is_some o ≡ false → o ≡ None
+none_is None h = refl
+none_is (Some k) h = absurd (cc)
+
+-- where a record passes that is there, it is there and passes
+pub holds_the : (p : ℕ → Bool) (o : Option ℕ) → holds_of p o ≡ true → (o ≡ Some (the o)) × (p (the o) ≡ true)
+holds_the p None h = absurd (cc)
+holds_the p (Some k) h = (refl, h)
+
+any_next : (n j : ℕ) (p : ℕ → Bool) (b : Bool) → (b ≡ false → j < n → p j ≡ false) → (if p n then true else b) ≡ false → j < n + 1 → p j ≡ false
+any_next n j p b h e l = grind arith
+
+pub any_below-false : (n : ℕ) (p : ℕ → Bool) → any_below n p ≡ false → (j : ℕ) → j < n → p j ≡ false
+unfolding any_below
+any_below-false zero p h j l = absurd (omega arith)
+any_below-false (suc n) p h j l = any_next n j p (any_below n p) (λ e. any_below-false n p e j) h (omega arith)
+
+any_step : (n : ℕ) (p : ℕ → Bool) (b c : Bool) → p n ≡ c → (b ≡ true → (j : ℕ) × (j < n) × (p j ≡ true)) → (if c then true else b) ≡ true → (j : ℕ) × (j < suc n) × (p j ≡ true)
+any_step n p b true e f h = (n, omega arith, e)
+any_step n p b false e f h = let (j, l, k) = f h in (j, omega arith, k)
+
+pub any_below-true : (n : ℕ) (p : ℕ → Bool) → any_below n p ≡ true → (j : ℕ) × (j < n) × (p j ≡ true)
+unfolding any_below
+any_below-true zero p h = absurd (cc)
+any_below-true (suc n) p h = any_step n p (any_below n p) (p n) refl (any_below-true n p) h
+
+pub any_below-intro : (n : ℕ) (p : ℕ → Bool) (j : ℕ) → j < n → p j ≡ true → any_below n p ≡ true
+any_below-intro n p j l h = go (any_below n p) refl
+  where
+    go : (b : Bool) → any_below n p ≡ b → any_below n p ≡ true
+    go true e = e
+    go false e = absurd (let a = any_below-false n p e j l in cc)
+
+all_next : (n j : ℕ) (p : ℕ → Bool) (b : Bool) → (b ≡ true → j < n → p j ≡ true) → (if p n then b else false) ≡ true → j < n + 1 → p j ≡ true
+all_next n j p b h e l = grind arith
+
+pub all_below-true : (n : ℕ) (p : ℕ → Bool) → all_below n p ≡ true → (j : ℕ) → j < n → p j ≡ true
+unfolding all_below
+all_below-true zero p h j l = absurd (omega arith)
+all_below-true (suc n) p h j l = all_next n j p (all_below n p) (λ e. all_below-true n p e j) h (omega arith)
+
+pub all_below-false : (n : ℕ) (p : ℕ → Bool) (j : ℕ) → j < n → p j ≡ false → all_below n p ≡ false
+unfolding all_below
+all_below-false zero p j l h = absurd (omega arith)
+all_below-false (suc n) p j l h = false_next n j p (all_below n p) (λ l. all_below-false n p j l h) (omega arith) h
+  where
+    false_next : (n j : ℕ) (p : ℕ → Bool) (b : Bool) → (j < n → b ≡ false) → j < n + 1 → p j ≡ false → (if p n then b else false) ≡ false
+    false_next n j p b h l e = grind arith
+
+-- each number below n passes, or one does not
+pub all_below_cases : (n : ℕ) (p : ℕ → Bool) → (all_below n p ≡ true) ⊎ ((j : ℕ) × (j < n) × (p j ≡ false))
+unfolding all_below
+all_below_cases zero p = inl refl
+all_below_cases (suc n) p = more n p (all_below n p) (p n) refl refl (all_below_cases n p)
+  where
+    more : (n : ℕ) (p : ℕ → Bool) (b c : Bool) → all_below n p ≡ b → p n ≡ c → (b ≡ true) ⊎ ((j : ℕ) × (j < n) × (p j ≡ false)) → ((if c then b else false) ≡ true) ⊎ ((j : ℕ) × (j < suc n) × (p j ≡ false))
+    more n p b false e h x = inr (n, omega arith, h)
+    more n p b true e h (inl x) = inl x
+    more n p b true e h (inr (j, l, x)) = inr (j, omega arith, x)

@@ -1,0 +1,150 @@
+-- What holds after every list of steps: the headline, and the definitions that it is made of.
+use Rattle.std.specs.Prelude.{◌≡◌, ◌↔◌, ℕ, ◌<◌, ◌≤◌, ◌^◌, Bool, true, Some, ◌⊎◌, List, [], ◌∷◌, ◌++◌}
+use Rattle.sva_step.specs.declared.limits.Config.{Config}
+use Rattle.sva_step.specs.declared.steps.Step.{Step}
+use Rattle.sva_model.specs.Message.{Code}
+use Rattle.sva_model.specs.State.{Part, World}
+use Rattle.sva_model.specs.State.Stage.{Live, Stopping, Draining, Invalidating, Quiet, Lost}
+use Rattle.sva_model.specs.State.RequestState.{Out}
+use Rattle.sva_model.specs.State.UseState.{Running}
+use Rattle.sva_model.specs.State.PageRequestState.{Arrived, Filed}
+use Rattle.sva_model.specs.State.OrderState.{Done}
+use Rattle.sva_model.specs.State.About.{CompletionOf, ResponseOf, PageRequestOf, MarkerOf}
+use Rattle.sva_model.specs.State.Phase.{Open}
+use Rattle.sva_model.specs.States.{is_unreleased, is_open_group, place}
+use Rattle.sva_model.specs.States.Place.{Free, Mapped, Withheld}
+use Rattle.sva_model.specs.Steps.{world_after}
+
+-- the limits of a config
+pub record Fits (config : Config) : Type 0 where
+  pub some_endpoint : 1 ≤ config.endpoints
+  pub endpoints : config.endpoints ≤ 8
+  pub some_frame : 1 ≤ config.frames
+  pub frames : config.frames ≤ 4096
+  pub some_worker : 1 ≤ config.workers
+  pub workers : config.workers ≤ 4
+  pub first : config.first ≤ 2 ^ 63
+
+-- Usable translations. At endpoint e, of binding b and page q, and by mapping m: one that is cached; that of a running
+-- use; or one that a Completion in flight carries, whose request is out and not doomed.
+pub data Usable (w : World) (e : ℕ) : (binding page mapping : ℕ) → Type 0 where
+  cached : (r m : ℕ) → (w.part e).held r ≡ Some m → Usable w e ((w.part e).request_binding r) ((w.part e).request_page r) m
+  in_use : (u : ℕ) → (w.part e).use_state u ≡ Running → Usable w e ((w.part e).use_binding u) (w.mappings.page ((w.part e).use_mapping u)) ((w.part e).use_mapping u)
+  under_way : (c r m : ℕ) → (w.part e).message c ≡ Some (CompletionOf r (Some m)) → (w.part e).request r ≡ Out → Usable w e ((w.part e).request_binding r) ((w.part e).request_page r) m
+
+-- the owner's space maps that page to that frame with that write flag
+pub record IsPresent (w : World) (e binding page mapping : ℕ) : Type 0 where
+  pub there : ℕ
+  pub maps : w.mappings.at ((w.part e).space binding) page ≡ Some there
+  pub frame : w.mappings.frame there ≡ w.mappings.frame mapping
+  pub write : w.mappings.write there ≡ w.mappings.write mapping
+
+-- Frames. A frame is at a page of a live space.
+pub record IsAt (w : World) (frame space page : ℕ) : Type 0 where
+  pub live : w.is_live space ≡ true
+  pub mapping : ℕ
+  pub maps : w.mappings.at space page ≡ Some mapping
+  pub leads : w.mappings.frame mapping ≡ frame
+
+pub record IsMapped (w : World) (frame : ℕ) : Type 0 where
+  pub space : ℕ
+  pub page : ℕ
+  pub is_at : IsAt w frame space page
+
+-- Withheld, by looking back over the list of steps. The steps are `before`, then the step that took the frame out of a
+-- space, then `since`. An endpoint with an unreleased binding of that space just before the step has answered by now if
+-- the binding was Quiet or Lost then;
+abbrev pub WasDone : Part → (binding : ℕ) → Type 0
+WasDone p b = (p.stage b ≡ Quiet) ⊎ (p.stage b ≡ Lost)
+
+-- or the unit was open, the binding Live, Stopping or Draining, and the orders that the step submitted at the unit, page
+-- invalidations and the wait behind them, are done by now;
+abbrev pub IsBeforeInvalidating : Part → (binding : ℕ) → Type 0
+IsBeforeInvalidating p b = (p.stage b ≡ Live) ⊎ ((marked : Bool) × (p.stage b ≡ Stopping marked)) ⊎ ((wait : ℕ) × (p.stage b ≡ Draining wait))
+
+abbrev pub AreDone : Part → (from to : ℕ) → Type 0
+AreDone p from to = (k : ℕ) → from ≤ k → k < to → p.order_state k ≡ Done
+
+-- or the binding was Invalidating, and its PASID invalidation and the wait behind it are done by now, perhaps since
+-- before the step; or a reset-done of the endpoint was delivered after the step.
+pub data HasAnswered (was then now : Part) (binding : ℕ) : Type 0 where
+  was_done : WasDone was binding → HasAnswered was then now binding
+  orders_done : was.phase ≡ Open → IsBeforeInvalidating was binding → AreDone now was.orders then.orders → HasAnswered was then now binding
+  pasid_done : (invalidation wait : ℕ) → was.stage binding ≡ Invalidating invalidation wait → now.order_state invalidation ≡ Done → now.order_state wait ≡ Done → HasAnswered was then now binding
+  was_reset : then.resets < now.resets → HasAnswered was then now binding
+
+-- After these steps the frame is withheld: the last step that took it out of a space is the one between `before` and
+-- `since`, it was not mapped since, and an endpoint bound to that space just before has not answered yet.
+pub record IsWithheld (config : Config) (steps : List Step) (frame : ℕ) : Type 0 where
+  pub before : List Step
+  pub step : Step
+  pub since : List Step
+  pub steps_are : steps ≡ before ++ step ∷ since
+  pub space : ℕ
+  pub page : ℕ
+  pub was_there : IsAt (world_after config before) frame space page
+  pub not_mapped_since : (some rest : List Step) → some ++ rest ≡ since → IsMapped (world_after config (before ++ step ∷ some)) frame → ⊥
+  pub endpoint : ℕ
+  pub is_endpoint : endpoint < config.endpoints
+  pub binding : ℕ
+  pub unreleased : is_unreleased (((world_after config before).part endpoint).stage binding) ≡ true
+  pub of_space : ((world_after config before).part endpoint).space binding ≡ space
+  pub silent :
+      HasAnswered
+          ((world_after config before).part endpoint)
+          ((world_after config (before ++ step ∷ [])).part endpoint)
+          ((world_after config steps).part endpoint)
+          binding
+      → ⊥
+
+-- each frame is at exactly one page of one live space, or withheld, or free, and only one of these; the step reads its
+-- place from what was written down when it was taken out, and that agrees with the look back
+pub record IsDivided (config : Config) (steps : List Step) : Type 0 where
+  pub mapped_once : (f s q t r : ℕ) → IsAt (world_after config steps) f s q → IsAt (world_after config steps) f t r → (s ≡ t) × (q ≡ r)
+  pub mapped : (f : ℕ) → (place (world_after config steps) f ≡ Mapped) ↔ IsMapped (world_after config steps) f
+  pub withheld : (f : ℕ) → (place (world_after config steps) f ≡ Withheld) ↔ IsWithheld config steps f
+  pub free : (f : ℕ) → (place (world_after config steps) f ≡ Free) ↔ ((IsMapped (world_after config steps) f → ⊥) × (IsWithheld config steps f → ⊥))
+
+-- Page requests and responses. The binding under which a page request, a group or a marker was sent is its asker.
+abbrev pub asker_of : Part → (page_request : ℕ) → ℕ
+asker_of p r = p.asker (p.group_of r)
+
+-- the binding is the one unreleased binding of the endpoint that bears its PASID
+pub record IsBearer (p : Part) (binding : ℕ) : Type 0 where
+  pub unreleased : is_unreleased (p.stage binding) ≡ true
+  pub bears : p.at_pasid (p.pasid binding) ≡ Some binding
+  pub alone : (other : ℕ) → is_unreleased (p.stage other) ≡ true → p.pasid other ≡ p.pasid binding → other ≡ binding
+
+pub record IsMatched (p : Part) : Type 0 where
+  -- what the host has filed, and each job, stands under its asker
+  pub filed : (r : ℕ) → p.page_request r ≡ Filed → p.filed_under (p.group_of r) ≡ asker_of p r
+  pub job : (g : ℕ) → is_open_group (p.host_group g) ≡ true → p.filed_under g ≡ p.asker g
+  -- at an open unit a page request in flight or arrived, and a marker in flight, finds its asker by its PASID
+  pub in_flight : (c r : ℕ) → p.phase ≡ Open → p.message c ≡ Some (PageRequestOf r) → IsBearer p (asker_of p r)
+  pub arrived : (r : ℕ) → p.phase ≡ Open → p.page_request r ≡ Arrived → IsBearer p (asker_of p r)
+  pub marker : (c b : ℕ) → p.phase ≡ Open → p.message c ≡ Some (MarkerOf b) → IsBearer p b
+  -- a response in flight finds the group that it answers by its index, and was sent for the binding that asked
+  pub response : (c g : ℕ) (code : Code) → p.message c ≡ Some (ResponseOf g code) → (p.at_index (p.index g) ≡ Some g) × (p.filed_under g ≡ p.asker g)
+  pub once : (g : ℕ) → p.responses g ≤ 1
+
+-- The agreement: after these steps each usable translation has an unreleased owner and is present or leads to a withheld
+-- frame; page requests and responses are matched; frames are divided; and two unreleased bindings of an endpoint have two
+-- PASIDs.
+pub record Agrees (config : Config) (steps : List Step) : Type 0 where
+  pub owner : (e b q m : ℕ) → Usable (world_after config steps) e b q m → is_unreleased (((world_after config steps).part e).stage b) ≡ true
+  pub usable :
+      (e b q m : ℕ)
+      → Usable (world_after config steps) e b q m
+      → IsPresent (world_after config steps) e b q m ⊎ IsWithheld config steps ((world_after config steps).mappings.frame m)
+  pub matched : (e : ℕ) → IsMatched ((world_after config steps).part e)
+  pub divided : IsDivided config steps
+  pub distinct :
+      (e b d : ℕ)
+      → is_unreleased (((world_after config steps).part e).stage b) ≡ true
+      → is_unreleased (((world_after config steps).part e).stage d) ≡ true
+      → ((world_after config steps).part e).pasid b ≡ ((world_after config steps).part e).pasid d
+      → b ≡ d
+
+-- After every list of steps, however late messages come in a permitted order.
+abbrev pub AlwaysAgrees : Type 0
+AlwaysAgrees = (config : Config) (steps : List Step) → Fits config → Agrees config steps

@@ -10,3 +10,7 @@ pub mod Owners
 pub mod Safe
 pub mod PageRequests
 pub mod Groups
+pub mod Invariant
+pub mod Answered
+pub mod Submitted
+pub mod Unmap

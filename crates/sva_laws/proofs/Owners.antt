@@ -38,6 +38,9 @@ pub record Owners (ms : Mappings) (p : Part) : Type 0 where
   pub flying_space : (c r m : ℕ) → p.message c ≡ Some (CompletionOf r (Some m)) → ms.space m ≡ p.space (p.request_binding r)
   pub flying_page : (c r m : ℕ) → p.message c ≡ Some (CompletionOf r (Some m)) → ms.page m ≡ p.request_page r
   pub running_space : (u : ℕ) → p.use_state u ≡ Running → ms.space (p.use_mapping u) ≡ p.space (p.use_binding u)
+  pub held_made : (r m : ℕ) → p.held r ≡ Some m → m < ms.made
+  pub flying_made : (c r m : ℕ) → p.message c ≡ Some (CompletionOf r (Some m)) → m < ms.made
+  pub running_made : (u : ℕ) → p.use_state u ≡ Running → p.use_mapping u < ms.made
   pub held_open : (r m k w : ℕ) → p.held r ≡ Some m → p.stage (p.request_binding r) ≡ Invalidating k w → p.phase ≡ Open → blocks (p.order_state k) p.uses ≡ true
   pub held_closed : (r m k w : ℕ) → p.held r ≡ Some m → p.stage (p.request_binding r) ≡ Invalidating k w → is_open p.phase ≡ false → p.order_state k ≢ Done
   pub running_open : (u k w : ℕ) → p.use_state u ≡ Running → p.stage (p.use_binding u) ≡ Invalidating k w → p.phase ≡ Open → blocks (p.order_state k) u ≡ true
@@ -84,13 +87,22 @@ held_page_kept ms g n p o l r m bound old flying h = grind (arith, nat_tests)
 
 -- the mapping that a page of a space leads to is of that space and page
 abbrev pub Leads : Mappings → Type 0
-Leads ms = (s q m : ℕ) → ms.at s q ≡ Some m → (ms.space m ≡ s) × (ms.page m ≡ q)
+Leads ms = (s q m : ℕ) → ms.at s q ≡ Some m → (ms.space m ≡ s) × (ms.page m ≡ q) × (m < ms.made)
 
 flying_space_kept : (ms : Mappings) (g n : ℕ) (p : Part) (o : Own) → LegalOwn ms g p o → Leads ms → (c r m : ℕ) → (p.message c ≡ Some (CompletionOf r (Some m)) → r < p.requests) → (r < p.requests → p.stage (p.request_binding r) ≢ Unbound) → (p.message c ≡ Some (CompletionOf r (Some m)) → ms.space m ≡ p.space (p.request_binding r)) → (own p n o).message c ≡ Some (CompletionOf r (Some m)) → ms.space m ≡ (own p n o).space ((own p n o).request_binding r)
 flying_space_kept ms g n p o l le c r m bound made old h = grind (arith, nat_tests, le (p.space (p.request_binding r)) (p.request_page r) m)
 
 flying_page_kept : (ms : Mappings) (g n : ℕ) (p : Part) (o : Own) → LegalOwn ms g p o → Leads ms → (c r m : ℕ) → (p.message c ≡ Some (CompletionOf r (Some m)) → r < p.requests) → (p.message c ≡ Some (CompletionOf r (Some m)) → ms.page m ≡ p.request_page r) → (own p n o).message c ≡ Some (CompletionOf r (Some m)) → ms.page m ≡ (own p n o).request_page r
 flying_page_kept ms g n p o l le c r m bound old h = grind (arith, nat_tests, le (p.space (p.request_binding r)) (p.request_page r) m)
+
+held_made_kept : (ms : Mappings) (g n : ℕ) (p : Part) (o : Own) → LegalOwn ms g p o → (r m : ℕ) → (p.held r ≡ Some m → m < ms.made) → ((c : ℕ) → p.message c ≡ Some (CompletionOf r (Some m)) → m < ms.made) → (own p n o).held r ≡ Some m → m < ms.made
+held_made_kept ms g n p o l r m old flying h = grind (arith, nat_tests)
+
+flying_made_kept : (ms : Mappings) (g n : ℕ) (p : Part) (o : Own) → LegalOwn ms g p o → Leads ms → (c r m : ℕ) → (p.message c ≡ Some (CompletionOf r (Some m)) → m < ms.made) → (own p n o).message c ≡ Some (CompletionOf r (Some m)) → m < ms.made
+flying_made_kept ms g n p o l le c r m old h = grind (arith, nat_tests, le (p.space (p.request_binding r)) (p.request_page r) m)
+
+running_made_kept : (ms : Mappings) (g n : ℕ) (p : Part) (o : Own) → LegalOwn ms g p o → (u : ℕ) → ((r m : ℕ) → p.held r ≡ Some m → m < ms.made) → (p.uses ≤ u → p.use_state u ≡ Ended) → (p.use_state u ≡ Running → p.use_mapping u < ms.made) → (own p n o).use_state u ≡ Running → (own p n o).use_mapping u < ms.made
+running_made_kept ms g n p o l u held bound old h = grind (arith, nat_tests)
 
 running_space_kept : (ms : Mappings) (g n : ℕ) (p : Part) (o : Own) → LegalOwn ms g p o → ((r m : ℕ) → p.held r ≡ Some m → ms.space m ≡ p.space (p.request_binding r)) → (u : ℕ) → (p.uses ≤ u → p.use_state u ≡ Ended) → (p.use_state u ≡ Running → is_active (p.stage (p.use_binding u)) ≡ true) → (p.use_state u ≡ Running → ms.space (p.use_mapping u) ≡ p.space (p.use_binding u)) → (own p n o).use_state u ≡ Running → ms.space ((own p n o).use_mapping u) ≡ (own p n o).space ((own p n o).use_binding u)
 running_space_kept ms g n p o l held u bound act old h = grind (arith, nat_tests)
@@ -133,6 +145,9 @@ every ms g n p o l le re bo bi la ra or ow =
       flying_space = λ c r m h. flying_space_kept ms g n p o l le c r m (bo.answered c r (Some m)) (ra.bound r) (ow.flying_space c r m) h;
       flying_page = λ c r m h. flying_page_kept ms g n p o l le c r m (bo.answered c r (Some m)) (ow.flying_page c r m) h;
       running_space = λ u h. running_space_kept ms g n p o l ow.held_space u (bo.use_state u) (ow.running u) (ow.running_space u) h;
+      held_made = λ r m h. held_made_kept ms g n p o l r m (ow.held_made r m) (λ c. ow.flying_made c r m) h;
+      flying_made = λ c r m h. flying_made_kept ms g n p o l le c r m (ow.flying_made c r m) h;
+      running_made = λ u h. running_made_kept ms g n p o l u ow.held_made (bo.use_state u) (ow.running_made u) h;
       held_open = λ r m k w h i j. held_open_kept ms g n p o l (none_left n p re) la.sent (λ x. asker_stage p x bi ra) r m k w (bo.held r) (invalidating_order p or (p.request_binding r) k w) (bo.noted k) (ow.held_open r m k w) h i j;
       held_closed = λ r m k w h i j. held_closed_kept ms g n p o l (none_left n p re) la.sent (λ x. asker_stage p x bi ra) r m k w (bo.held r) (ow.held_open r m k w) (ow.held_closed r m k w) h i j;
       running_open = λ u k w h i j. running_open_kept ms g n p o l (none_left n p re) la.sent bi.on_stage u k w (bo.use_state u) (invalidating_order p or (p.use_binding u) k w) (spares ms g p o l k u) (ow.running_open u k w) h i j;

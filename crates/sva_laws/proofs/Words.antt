@@ -1,8 +1,8 @@
 -- What the searches find.
-use Rattle.std.proofs.Common.{◌≡◌, ℕ, zero, suc, ◌+◌, ◌<◌, ◌≤◌, ◌≢◌, ◌⊎◌, inl, inr, refl, arith, Bool, true, false, ap, sym, ◌∙◌}
-use Rattle.std.specs.Prelude.{Option, Some, None, if◌then◌else◌, nat_lt, nat_le, not, ◌&&◌}
+use Rattle.std.proofs.Common.{◌≡◌, ℕ, zero, suc, ◌+◌, ◌<◌, ◌≤◌, ◌≢◌, ◌⊎◌, inl, inr, refl, arith, Bool, true, false, ap, sym, subst, ◌∙◌}
+use Rattle.std.specs.Prelude.{Option, Some, None, if◌then◌else◌, nat_lt, nat_le, not, ◌&&◌, ◌==◌}
 use Rattle.std.proofs.lemmas.Bool.Decides.{nat_tests}
-use Rattle.sva_model.specs.Words.{put, put_range, lowest, any_below, all_below, is_some, the, holds_of}
+use Rattle.sva_model.specs.Words.{put, put_range, lowest, find, if_found, step_lowest, any_below, all_below, is_some, the, holds_of}
 
 pub put-same : {A : Type 0} (f : ℕ → A) (i : ℕ) (v : A) → put f i v i ≡ v
 put-same f i v = grind (arith, nat_tests)
@@ -83,3 +83,48 @@ all_below_cases (suc n) p = more n p (all_below n p) (p n) refl refl (all_below_
     more n p b false e h x = inr (n, omega arith, h)
     more n p b true e h (inl x) = inl x
     more n p b true e h (inr (j, l, x)) = inr (j, omega arith, x)
+
+-- the lowest number that passes
+lowest_cases : (n : ℕ) (p : ℕ → Bool) → ((lowest n p ≡ n) × ((j : ℕ) → j < n → p j ≡ false)) ⊎ ((lowest n p < n) × (p (lowest n p) ≡ true) × ((j : ℕ) → j < lowest n p → p j ≡ false))
+unfolding lowest
+lowest_cases zero p = inl (refl, λ j l. absurd (omega arith))
+lowest_cases (suc n) p = next n p (lowest n p) (p n) (lowest n p == n) refl refl (lowest_cases n p)
+  where
+    next : (n : ℕ) (p : ℕ → Bool) (k : ℕ) (b t : Bool) → p n ≡ b → (k == n) ≡ t → ((k ≡ n) × ((j : ℕ) → j < n → p j ≡ false)) ⊎ ((k < n) × (p k ≡ true) × ((j : ℕ) → j < k → p j ≡ false)) → ((step_lowest t k n b ≡ suc n) × ((j : ℕ) → j < suc n → p j ≡ false)) ⊎ ((step_lowest t k n b < suc n) × (p (step_lowest t k n b) ≡ true) × ((j : ℕ) → j < step_lowest t k n b → p j ≡ false))
+    next n p k b false e f (inl x) = absurd (grind (arith, nat_tests))
+    next n p k b false e f (inr x) = inr (omega arith, x.1, x.2)
+    next n p k true true e f (inl x) = inr (omega arith, e, x.1)
+    next n p k false true e f (inl x) = inl (refl, λ j l. below_next j l x.1)
+      where
+        below_next : (j : ℕ) → j < suc n → ((j : ℕ) → j < n → p j ≡ false) → p j ≡ false
+        below_next j l h = grind (arith, h j)
+    next n p k b true e f (inr x) = absurd (grind (arith, nat_tests))
+
+pub lowest_below : (n : ℕ) (p : ℕ → Bool) (j : ℕ) → j < n → p j ≡ true → (lowest n p < n) × (p (lowest n p) ≡ true) × ((i : ℕ) → i < lowest n p → p i ≡ false)
+lowest_below n p j l h = elim (lowest_cases n p) [ inl x ↦ absurd (let f = x.1 j l in cc) | inr x ↦ x ]
+
+pub lowest_passes : (n : ℕ) (p : ℕ → Bool) → (lowest n p == n) ≡ false → (lowest n p < n) × (p (lowest n p) ≡ true) × ((i : ℕ) → i < lowest n p → p i ≡ false)
+lowest_passes n p h = elim (lowest_cases n p) [ inl x ↦ absurd (grind (arith, nat_tests, x.0)) | inr x ↦ x ]
+
+-- what is found passes
+pub find_passes : (n : ℕ) (p : ℕ → Bool) (k : ℕ) → find n p ≡ Some k → (k < n) × (p k ≡ true)
+find_passes n p k h = go (lowest_cases n p)
+  where
+    go : ((lowest n p ≡ n) × ((j : ℕ) → j < n → p j ≡ false)) ⊎ ((lowest n p < n) × (p (lowest n p) ≡ true) × ((j : ℕ) → j < lowest n p → p j ≡ false)) → (k < n) × (p k ≡ true)
+    go (inl x) = absurd (nothing (lowest n p) x.0 h)
+      where
+        nothing : (z : ℕ) → z ≡ n → if_found (nat_lt z n) z ≢ Some k
+        nothing z e i = grind (arith, nat_tests)
+    go (inr x) =
+        let e : lowest n p ≡ k = same (lowest n p) h in
+        (subst (λ z. z < n) e x.0, subst (λ z. p z ≡ true) e x.1)
+      where
+        same : (z : ℕ) → if_found (nat_lt z n) z ≡ Some k → z ≡ k
+        same z i = grind (arith, nat_tests)
+
+-- where one passes, one is found
+pub find_some : (n : ℕ) (p : ℕ → Bool) (j : ℕ) → j < n → p j ≡ true → find n p ≡ Some (lowest n p)
+find_some n p j l h = found (lowest n p) (lowest_below n p j l h).0
+  where
+    found : (z : ℕ) → z < n → if_found (nat_lt z n) z ≡ Some z
+    found z b = grind (arith, nat_tests)

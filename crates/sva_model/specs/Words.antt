@@ -10,15 +10,15 @@ put f i v k = if k == i then v else f k
 abbrev pub put_range : {A : Type 0} → (ℕ → A) → (first n : ℕ) → (ℕ → A) → ℕ → A
 put_range f first n g k = if nat_le first k && nat_lt k (first + n) then g (k - first) else f k
 
--- the lowest number below n that passes; n where none does
+-- the lowest number below n that passes; n where none does: k is that below n, and b tells of n
+abbrev pub step_lowest : Bool → ℕ → ℕ → Bool → ℕ
+step_lowest false k n b = k
+step_lowest true k n true = n
+step_lowest true k n false = suc n
+
 unfoldable pub lowest : ℕ → (ℕ → Bool) → ℕ
 lowest zero p = zero
 lowest (suc n) p = step_lowest (lowest n p == n) (lowest n p) n (p n)
-  where
-  step_lowest : Bool → ℕ → ℕ → Bool → ℕ
-  step_lowest false k n b = k
-  step_lowest true k n true = n
-  step_lowest true k n false = suc n
 
 -- does some number below n pass?
 unfoldable pub any_below : ℕ → (ℕ → Bool) → Bool

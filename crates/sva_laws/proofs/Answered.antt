@@ -1,0 +1,66 @@
+-- What an endpoint has answered stays answered.
+use Rattle.std.proofs.Common.{◌≡◌, ◌≢◌, ◌⊎◌, inl, inr, refl, ap, sym, ◌∙◌, ℕ, zero, suc, ◌+◌, ◌<◌, ◌≤◌, Bool, true, false, arith}
+use Rattle.std.specs.Prelude.{Option, Some, None, ◌&&◌, ◌||◌, nat_lt, if◌then◌else◌}
+use Rattle.std.proofs.lemmas.Bool.Decides.{nat_tests}
+use Rattle.sva_model.specs.Words.{all_below}
+use Rattle.sva_model.specs.State.{Owed, Mappings, Part, OrderState}
+use Rattle.sva_model.specs.State.Owed.{Nothing, Pages, Pasid, AReset}
+use Rattle.sva_model.specs.State.OrderState.{Done, Void}
+use Rattle.sva_model.specs.States.{is_done, answered}
+use Rattle.sva_model.specs.Acts.{own, Own, submitted, submitted_if}
+use Rattle.sva_laws.proofs.Legal.{LegalOwn}
+use Rattle.sva_laws.proofs.Bounds.{Bounds}
+use Rattle.sva_laws.proofs.Orders.{SentOnly}
+use Rattle.sva_laws.proofs.Words.{all_below-true, all_below-false}
+
+all_below-intro : (n : ℕ) (p : ℕ → Bool) → ((j : ℕ) → j < n → p j ≡ true) → all_below n p ≡ true
+unfolding all_below
+all_below-intro zero p h = refl
+all_below-intro (suc n) p h = both (p n) (all_below n p) (h n (omega arith)) (all_below-intro n p (λ j l. h j (omega arith)))
+  where
+    both : (b c : Bool) → b ≡ true → c ≡ true → (if b then c else false) ≡ true
+    both b c h i = grind arith
+
+all_below-more : (n : ℕ) (p q : ℕ → Bool) → ((j : ℕ) → p j ≡ true → q j ≡ true) → all_below n p ≡ true → all_below n q ≡ true
+all_below-more n p q f h = all_below-intro n q (λ j l. f j (all_below-true n p h j l))
+
+or_more : (a b c d : Bool) → (a ≡ true → c ≡ true) → (b ≡ true → d ≡ true) → (a || b) ≡ true → (c || d) ≡ true
+or_more a b c d f g h = grind arith
+
+and_more : (a b c d : Bool) → (a ≡ true → c ≡ true) → (b ≡ true → d ≡ true) → (a && b) ≡ true → (c && d) ≡ true
+and_more a b c d f g h = grind arith
+
+lt_more : (a b c : ℕ) → b ≤ c → nat_lt a b ≡ true → nat_lt a c ≡ true
+lt_more a b c l h = grind (arith, nat_tests)
+
+-- what is answered by orders that are done stays so, where these stay done and resets are counted up
+answered_more : (p q : Part) → ((k : ℕ) → is_done (p.order_state k) ≡ true → is_done (q.order_state k) ≡ true) → p.resets ≤ q.resets → (v : Owed) → answered p v ≡ true → answered q v ≡ true
+answered_more p q f l Nothing h = refl
+answered_more p q f l (Pages page first count resets) h =
+    or_more (all_below (suc count) (λ j. is_done (p.order_state (first + j)))) (nat_lt resets p.resets) (all_below (suc count) (λ j. is_done (q.order_state (first + j)))) (nat_lt resets q.resets)
+    (all_below-more (suc count) (λ j. is_done (p.order_state (first + j))) (λ j. is_done (q.order_state (first + j))) (λ j. f (first + j)))
+    (lt_more resets p.resets q.resets l) h
+answered_more p q f l (Pasid k w resets) h =
+    or_more (is_done (p.order_state k) && is_done (p.order_state w)) (nat_lt resets p.resets) (is_done (q.order_state k) && is_done (q.order_state w)) (nat_lt resets q.resets)
+    (and_more (is_done (p.order_state k)) (is_done (p.order_state w)) (is_done (q.order_state k)) (is_done (q.order_state w)) (f k) (f w))
+    (lt_more resets p.resets q.resets l) h
+answered_more p q f l (AReset resets) h = lt_more resets p.resets q.resets l h
+
+done_stays : (ms : Mappings) (g n : ℕ) (p : Part) (o : Own) → LegalOwn ms g p o → SentOnly p → (k : ℕ) → (p.orders ≤ k → p.order_state k ≡ Void) → is_done (p.order_state k) ≡ true → is_done ((own p n o).order_state k) ≡ true
+done_stays ms g n p o l sent k bo h = grind (arith, nat_tests)
+
+resets_grow : (ms : Mappings) (g n : ℕ) (p : Part) (o : Own) → LegalOwn ms g p o → p.resets ≤ (own p n o).resets
+resets_grow ms g n p o l = grind (arith, nat_tests)
+
+pub answered_own : (ms : Mappings) (g n : ℕ) (p : Part) (o : Own) → LegalOwn ms g p o → SentOnly p → Bounds g p → (v : Owed) → answered p v ≡ true → answered (own p n o) v ≡ true
+answered_own ms g n p o l sent bo v h =
+    answered_more p (own p n o) (λ k. done_stays ms g n p o l sent k (bo.order_state k)) (resets_grow ms g n p o l) v h
+
+submitted_done : (g b q count cookie k : ℕ) (p : Part) → Bounds g p → is_done (p.order_state k) ≡ true → is_done ((submitted p b q count cookie).order_state k) ≡ true
+submitted_done g b q count cookie k p bo h = grind (arith, nat_tests, bo.order_state k)
+
+pub answered_submitted : (g : ℕ) (s : Bool) (p : Part) (o : Option ℕ) (q count cookie : ℕ) → Bounds g p → (v : Owed) → answered p v ≡ true → answered (submitted_if s p o q count cookie) v ≡ true
+answered_submitted g true p (Some b) q count cookie bo v h =
+    answered_more p (submitted p b q count cookie) (λ k. submitted_done g b q count cookie k p bo) (omega arith) v h
+answered_submitted g true p None q count cookie bo v h = h
+answered_submitted g false p o q count cookie bo v h = h

@@ -1,0 +1,82 @@
+-- What holds after every list of steps, family by family: of each endpoint with its unit, and of the mappings.
+use Rattle.std.proofs.Common.{◌≡◌, ◌≢◌, ◌⊎◌, inl, inr, ℕ, suc, ◌+◌, ◌<◌, ◌≤◌, Bool, true, false, arith}
+use Rattle.std.specs.Prelude.{Option, Some, None}
+use Rattle.std.proofs.lemmas.Bool.Decides.{nat_tests}
+use Rattle.sva_model.specs.State.{Owed, Mappings, Part, World}
+use Rattle.sva_model.specs.State.MappingState.{Unmade, Present, Gone}
+use Rattle.sva_model.specs.State.Stage.{Unbound}
+use Rattle.sva_model.specs.States.{is_unreleased, answered}
+use Rattle.sva_model.specs.Acts.{own, sends, Own}
+use Rattle.sva_laws.proofs.Legal.{LegalOwn}
+use Rattle.sva_laws.proofs.Resets as R
+use Rattle.sva_laws.proofs.Bounds as B
+use Rattle.sva_laws.proofs.Bindings as Bi
+use Rattle.sva_laws.proofs.Labels as L
+use Rattle.sva_laws.proofs.Requests as T
+use Rattle.sva_laws.proofs.Orders as I
+use Rattle.sva_laws.proofs.Owners as O
+use Rattle.sva_laws.proofs.Safe as S
+use Rattle.sva_laws.proofs.PageRequests as P
+use Rattle.sva_laws.proofs.Groups as G
+
+pub record PartInv (ms : Mappings) (endpoints g n e : ℕ) (p : Part) : Type 0 where
+  pub there : (b : ℕ) → p.stage b ≢ Unbound → e < endpoints
+  pub resets : R.Resets n p
+  pub bounds : B.Bounds g p
+  pub bindings : Bi.Bindings p
+  pub labels : L.Labels p
+  pub requests : T.Requests p
+  pub orders : I.Orders p
+  pub owners : O.Owners ms p
+  pub safe : S.Safe ms e p
+  pub queued : P.Queued p
+  pub lasts : P.Lasts p
+  pub groups : G.Groups p
+
+-- Mappings: not made yet; at the page of their space while they are present; a present one is the latest of its frame;
+-- one that is gone and not the latest of its frame is answered for.
+pub record Mapped (w : World) : Type 0 where
+  pub unmade : (m : ℕ) → w.mappings.made ≤ m → w.mappings.state m ≡ Unmade
+  pub made : (m : ℕ) → m < w.mappings.made → w.mappings.state m ≢ Unmade
+  pub present_at : (m : ℕ) → w.mappings.state m ≡ Present → w.mappings.at (w.mappings.space m) (w.mappings.page m) ≡ Some m
+  pub at_present : (s q m : ℕ) → w.mappings.at s q ≡ Some m → (w.mappings.state m ≡ Present) × (w.mappings.space m ≡ s) × (w.mappings.page m ≡ q) × (w.is_live s ≡ true)
+  pub latest : (m : ℕ) → w.mappings.state m ≡ Present → w.mappings.latest (w.mappings.frame m) ≡ Some m
+  pub named : (f m : ℕ) → w.mappings.latest f ≡ Some m → (w.mappings.frame m ≡ f) × (m < w.mappings.made)
+  pub passed : (m : ℕ) (owed : ℕ → Owed) (e : ℕ) → w.mappings.state m ≡ Gone owed → e < w.config.endpoints → (w.mappings.latest (w.mappings.frame m) ≡ Some m) ⊎ (answered (w.part e) (owed e) ≡ true)
+  pub live : (s : ℕ) → w.is_live s ≡ true → s < w.spaces
+  pub bound_live : (e b : ℕ) → is_unreleased ((w.part e).stage b) ≡ true → w.is_live ((w.part e).space b) ≡ true
+
+pub record Inv (w : World) : Type 0 where
+  pub mapped : Mapped w
+  pub parts : (e : ℕ) → PartInv w.mappings w.config.endpoints w.bindings w.messages e (w.part e)
+
+-- what the mappings say to an endpoint's act
+pub leads : (w : World) → Mapped w → O.Leads w.mappings
+leads w ma s q m h = let a = ma.at_present s q m h in (a.1, a.2, made_of (ma.unmade m) a.0)
+  where
+    made_of : {m : ℕ} → (w.mappings.made ≤ m → w.mappings.state m ≡ Unmade) → w.mappings.state m ≡ Present → m < w.mappings.made
+    made_of u h = grind (arith)
+
+pub presents : (w : World) → Mapped w → (s q m : ℕ) → w.mappings.at s q ≡ Some m → w.mappings.state m ≡ Present
+presents w ma s q m h = (ma.at_present s q m h).0
+
+there_kept : (ms : Mappings) (g n e x : ℕ) (p : Part) (o : Own) → e < x → LegalOwn ms g p o → (b : ℕ) → (own p n o).stage b ≢ Unbound → e < x
+there_kept ms g n e x p o h l b u = h
+
+-- an act of an endpoint keeps what holds of it
+pub own_keeps : (ms : Mappings) (x g n e : ℕ) (p : Part) (o : Own) → e < x → LegalOwn ms g p o → O.Leads ms → ((s q m : ℕ) → ms.at s q ≡ Some m → ms.state m ≡ Present) → PartInv ms x g n e p → PartInv ms x g (n + sends o) e (own p n o)
+own_keeps ms x g n e p o h l le pr i =
+    record {
+      there = λ b u. h;
+      resets = R.every ms g n p o l i.resets;
+      bounds = B.every ms g n p o l i.resets i.bounds;
+      bindings = Bi.every ms g n p o l i.resets i.bindings;
+      labels = L.every ms g n p o l i.resets i.bounds i.labels;
+      requests = T.every ms g n p o l i.resets i.bounds i.bindings i.requests;
+      orders = I.every ms g n p o l i.resets i.bounds i.labels i.orders;
+      owners = O.every ms g n p o l le i.resets i.bounds i.bindings i.labels i.requests i.orders i.owners;
+      safe = S.every ms g n e p o l pr i.resets i.bounds i.bindings i.labels i.requests i.orders i.owners i.safe;
+      queued = P.queued ms g n p o l i.resets i.bounds i.queued;
+      lasts = P.lasts ms g n p o l i.resets i.bounds i.queued (G.has_job p i.groups) (G.response_whole p i.groups) i.lasts;
+      groups = G.every ms g n p o l i.resets i.bounds i.bindings i.orders i.queued i.lasts i.groups;
+    }

@@ -1,0 +1,139 @@
+-- Unmapping: what is taken out is either used by nobody, or its endpoint owes an answer, and will strike first.
+use Rattle.std.proofs.Common.{◌≡◌, ◌≢◌, ◌⊎◌, inl, inr, refl, ap, sym, subst, ◌∙◌, ℕ, zero, suc, ◌+◌, ◌-◌, ◌<◌, ◌≤◌, Bool, true, false, arith}
+use Rattle.std.specs.Prelude.{Option, Some, None, ◌&&◌, ◌==◌, nat_le, nat_lt}
+use Rattle.std.proofs.lemmas.Bool.Decides.{nat_tests}
+use Rattle.sva_model.specs.State.{Owed, MappingState, Mappings, Part, World, Stage}
+use Rattle.sva_model.specs.State.Owed.{Nothing, Pages, Pasid, AReset}
+use Rattle.sva_model.specs.State.MappingState.{Unmade, Present, Gone}
+use Rattle.sva_model.specs.State.Stage.{Unbound, Live, Stopping, Draining, Invalidating, Quiet, Lost, Released}
+use Rattle.sva_model.specs.State.UseState.{Running}
+use Rattle.sva_model.specs.State.RequestState.{Out}
+use Rattle.sva_model.specs.State.About.{CompletionOf}
+use Rattle.sva_model.specs.State.Phase.{Open}
+use Rattle.sva_model.specs.States.{is_unreleased, is_open, is_before_invalidating}
+use Rattle.sva_model.specs.Acts.{bound, submits_at, submits, owed_by_unit, owed_by_stage, owed_by, submitted, submitted_if, cookie_of, part_after_unmap, gone_if, in_range, without_pages, act, Act}
+use Rattle.sva_model.specs.Acts.Act.{Unmap, DropSpace}
+use Rattle.sva_laws.proofs.Words.{find_passes, find_some}
+use Rattle.sva_laws.proofs.Bounds.{Bounds}
+use Rattle.sva_laws.proofs.Labels.{Labels}
+use Rattle.sva_laws.proofs.Orders.{is_active}
+use Rattle.sva_laws.proofs.Owners.{Owners, blocks}
+use Rattle.sva_laws.proofs.Safe.{Safe, Pending, IsSafe, owed_of, order_of_page}
+use Rattle.sva_laws.proofs.Invariant.{PartInv, Inv}
+use Rattle.sva_laws.proofs.Submitted as Sub
+
+-- a translation of a mapping, where some mappings go
+pub safe_without : (ms : Mappings) (e : ℕ) (p p' : Part) (b m age : ℕ) (t : Bool) (owed : ℕ → Owed) → IsSafe ms e p b m age → ((v : Owed) → Pending p b (ms.page m) age v → Pending p' b (ms.page m) age v) → (t ≡ true → ms.state m ≡ Present → Pending p' b (ms.page m) age (owed e)) → (gone_if t owed (ms.state m) ≡ Present) ⊎ Pending p' b (ms.page m) age (owed_of (gone_if t owed (ms.state m)) e)
+safe_without ms e p p' b m age t owed sa keep new = go (ms.state m) t refl refl sa
+  where
+    go : (s : MappingState) (x : Bool) → ms.state m ≡ s → t ≡ x → (s ≡ Present) ⊎ Pending p b (ms.page m) age (owed_of s e) → (gone_if x owed s ≡ Present) ⊎ Pending p' b (ms.page m) age (owed_of (gone_if x owed s) e)
+    go Unmade true a c (inl h) = absurd (cc)
+    go Unmade true a c (inr h) = absurd h
+    go Unmade false a c (inl h) = absurd (cc)
+    go Unmade false a c (inr h) = absurd h
+    go Present true a c h = inr (new c a)
+    go Present false a c h = inl refl
+    go (Gone v) true a c (inl h) = absurd (cc)
+    go (Gone v) true a c (inr h) = inr (keep (v e) h)
+    go (Gone v) false a c (inl h) = absurd (cc)
+    go (Gone v) false a c (inr h) = inr (keep (v e) h)
+
+-- what was pending stays so while orders are submitted
+pending_submitted : (g b' q' count cookie : ℕ) (p : Part) → Bounds g p → (b q age : ℕ) (v : Owed) → Pending p b q age v → Pending (submitted p b' q' count cookie) b q age v
+pending_submitted g b' q' count cookie p bo b q age Nothing h = h
+pending_submitted g b' q' count cookie p bo b q age (Pages page first n resets) h = pages_submitted g b' q' count cookie p b q age page first n resets h
+  where
+    pages_submitted : (g b' q' count cookie : ℕ) (p : Part) (b q age page first n resets : ℕ) → Pending p b q age (Pages page first n resets) → Pending (submitted p b' q' count cookie) b q age (Pages page first n resets)
+    pages_submitted g b' q' count cookie p b q age page first n resets h = grind (arith, nat_tests)
+pending_submitted g b' q' count cookie p bo b q age (Pasid k w resets) h = h
+pending_submitted g b' q' count cookie p bo b q age (AReset resets) h = h
+
+pending_submitted_if : (g : ℕ) (s : Bool) (o : Option ℕ) (q' count cookie : ℕ) (p : Part) → Bounds g p → (b q age : ℕ) (v : Owed) → Pending p b q age v → Pending (submitted_if s p o q' count cookie) b q age v
+pending_submitted_if g true (Some b') q' count cookie p bo b q age v h = pending_submitted g b' q' count cookie p bo b q age v h
+pending_submitted_if g true None q' count cookie p bo b q age v h = h
+pending_submitted_if g false o q' count cookie p bo b q age v h = h
+
+-- the unreleased binding of a space at an endpoint is found
+pub bound_is : (w : World) (e b s : ℕ) → Inv w → is_unreleased ((w.part e).stage b) ≡ true → (w.part e).space b ≡ s → bound w e s ≡ Some b
+bound_is w e b s i u sp =
+    let test : ℕ → Bool = λ d. is_unreleased ((w.part e).stage d) && (w.part e).space d == s in
+    let lt : b < w.bindings = made (i.parts e).bounds u in
+    let here : (is_unreleased ((w.part e).stage b) && (w.part e).space b == s) ≡ true = grind (arith, nat_tests) in
+    let f = find_some w.bindings (λ d. is_unreleased ((w.part e).stage d) && (w.part e).space d == s) b lt here in
+    let found = find_passes w.bindings (λ d. is_unreleased ((w.part e).stage d) && (w.part e).space d == s) _ f in
+    f ∙ ap (λ x. Some x) (one found.1)
+  where
+    made : Bounds w.bindings (w.part e) → is_unreleased ((w.part e).stage b) ≡ true → b < w.bindings
+    made bo h = grind (arith, nat_tests, bo.stage b)
+
+    one : {k : ℕ} → (is_unreleased ((w.part e).stage k) && (w.part e).space k == s) ≡ true → k ≡ b
+    one {k} h = (i.parts e).labels.one_space k b (unreleased h) u (spaces h)
+      where
+        unreleased : (is_unreleased ((w.part e).stage k) && (w.part e).space k == s) ≡ true → is_unreleased ((w.part e).stage k) ≡ true
+        unreleased h = grind (arith, nat_tests)
+
+        spaces : (is_unreleased ((w.part e).stage k) && (w.part e).space k == s) ≡ true → (w.part e).space k ≡ (w.part e).space b
+        spaces h = grind (arith, nat_tests)
+
+open_is : (p : Part) → is_open p.phase ≡ true → p.phase ≡ Open
+open_is p h = grind arith
+
+new_open : (p : Part) (b q page count age cookie : ℕ) → p.phase ≡ Open → page ≤ q → q < page + count → Pending (submitted p b page count cookie) b q age (Pages page p.orders count p.resets)
+new_open p b q page count age cookie ph lo hi = grind (arith, nat_tests)
+
+-- what an active binding's endpoint owes for a page that is taken out now
+new_pending : (p : Part) (b q page count age cookie : ℕ) → is_active (p.stage b) ≡ true → page ≤ q → q < page + count → Pending (submitted_if (submits_at p (Some b)) p (Some b) page count cookie) b q age (owed_by p page count (Some b))
+new_pending p b q page count age cookie act lo hi =
+    subst (λ s. Pending (submitted_if (is_open p.phase && is_before_invalidating s) p (Some b) page count cookie) b q age (owed_by_stage p page count s)) refl
+    (go (p.stage b) refl act)
+  where
+    unit : (x : Bool) → is_open p.phase ≡ x → Pending (submitted_if (x && true) p (Some b) page count cookie) b q age (owed_by_unit p page count x)
+    unit true h = new_open p b q page count age cookie (open_is p h) lo hi
+    unit false h = (refl, h)
+
+    either : (s : Stage) → is_before_invalidating s ≡ true → owed_by_stage p page count s ≡ owed_by_unit p page count (is_open p.phase) → Pending (submitted_if (is_open p.phase && is_before_invalidating s) p (Some b) page count cookie) b q age (owed_by_stage p page count s)
+    either s h o =
+        subst (λ y. Pending (submitted_if (is_open p.phase && y) p (Some b) page count cookie) b q age (owed_by_stage p page count s)) (sym h)
+        (subst (λ v. Pending (submitted_if (is_open p.phase && true) p (Some b) page count cookie) b q age v) (sym o) (unit (is_open p.phase) refl))
+
+    not_both : (x : Bool) (k w : ℕ) → p.stage b ≡ Invalidating k w → Pending (submitted_if (x && false) p (Some b) page count cookie) b q age (Pasid k w p.resets)
+    not_both true k w h = (refl, h)
+    not_both false k w h = (refl, h)
+
+    go : (s : Stage) → p.stage b ≡ s → is_active s ≡ true → Pending (submitted_if (is_open p.phase && is_before_invalidating s) p (Some b) page count cookie) b q age (owed_by_stage p page count s)
+    go Live h a = either Live refl refl
+    go (Stopping m) h a = either (Stopping m) refl refl
+    go (Draining w) h a = either (Draining w) refl refl
+    go (Invalidating k w) h a = not_both (is_open p.phase) k w h
+    go Unbound h a = absurd (cc)
+    go Quiet h a = absurd (cc)
+    go Lost h a = absurd (cc)
+    go Released h a = absurd (cc)
+
+active_unreleased : (s : Stage) → is_active s ≡ true → is_unreleased s ≡ true
+active_unreleased s h = grind arith
+
+in_range_low : (q count k : ℕ) → in_range q count k ≡ true → q ≤ k
+in_range_low q count k h = grind (arith, nat_tests)
+
+in_range_high : (q count k : ℕ) → in_range q count k ≡ true → k < q + count
+in_range_high q count k h = grind (arith, nat_tests)
+
+-- a usable translation stays safe when pages are unmapped
+unmap_safe : (w : World) (s q count e b m age : ℕ) → Inv w → is_active ((w.part e).stage b) ≡ true → w.mappings.space m ≡ (w.part e).space b → IsSafe w.mappings e (w.part e) b m age → IsSafe (act w (Unmap s q count)).mappings e ((act w (Unmap s q count)).part e) b m age
+unmap_safe w s q count e b m age i a sp sa =
+    safe_without w.mappings e (w.part e) (part_after_unmap w s q count e) b m age (w.mappings.space m == s && in_range q count (w.mappings.page m)) (λ x. owed_by (w.part x) q count (bound w x s)) sa
+    (λ v h. pending_submitted_if w.bindings (submits w s e) (bound w e s) q count (cookie_of w s e) (w.part e) (i.parts e).bounds b (w.mappings.page m) age v h)
+    (λ t pr. new t)
+  where
+    same_space : (w.mappings.space m == s && in_range q count (w.mappings.page m)) ≡ true → w.mappings.space m ≡ s
+    same_space t = grind (arith, nat_tests)
+
+    inside : (w.mappings.space m == s && in_range q count (w.mappings.page m)) ≡ true → in_range q count (w.mappings.page m) ≡ true
+    inside t = grind (arith, nat_tests)
+
+    new : (w.mappings.space m == s && in_range q count (w.mappings.page m)) ≡ true → Pending (part_after_unmap w s q count e) b (w.mappings.page m) age (owed_by (w.part e) q count (bound w e s))
+    new t =
+        let f : bound w e s ≡ Some b = bound_is w e b s i (active_unreleased ((w.part e).stage b) a) (sym sp ∙ same_space t) in
+        subst (λ o. Pending (submitted_if (submits_at (w.part e) o) (w.part e) o q count (cookie_of w s e)) b (w.mappings.page m) age (owed_by (w.part e) q count o)) (sym f)
+        (new_pending (w.part e) b (w.mappings.page m) q count age (cookie_of w s e) a (in_range_low q count (w.mappings.page m) (inside t)) (in_range_high q count (w.mappings.page m) (inside t)))

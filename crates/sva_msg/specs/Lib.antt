@@ -1,0 +1,5 @@
+pub mod Bag
+pub mod Calls
+pub mod Code
+pub mod Kind
+pub mod Laws

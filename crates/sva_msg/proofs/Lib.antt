@@ -1,0 +1,4 @@
+pub mod Deliverable
+pub mod Histories
+pub mod Numbered
+pub mod Ordered

@@ -14,3 +14,4 @@ pub mod Invariant
 pub mod Answered
 pub mod Submitted
 pub mod Unmap
+pub mod Keeps

@@ -18,7 +18,7 @@ use Rattle.sva_laws.proofs.Owners.{Owners}
 use Rattle.sva_laws.proofs.PageRequests.{Queued, Lasts}
 use Rattle.sva_laws.proofs.Groups.{Groups}
 
-resets_sub : (n b q count cookie : ℕ) (p : Part) → p.phase ≡ Open → Resets n p → Resets n (submitted p b q count cookie)
+pub resets_sub : (n b q count cookie : ℕ) (p : Part) → p.phase ≡ Open → Resets n p → Resets n (submitted p b q count cookie)
 resets_sub n b q count cookie p ph re =
     record {
       unsent = re.unsent; down = re.down; up = re.up; ordered = re.ordered; cleared = re.cleared;
@@ -31,7 +31,7 @@ resets_sub n b q count cookie p ph re =
       unarrived = re.unarrived; unfiled = re.unfiled;
     }
 
-bounds_sub : (g b q count cookie : ℕ) (p : Part) → Bounds g p → Bounds g (submitted p b q count cookie)
+pub bounds_sub : (g b q count cookie : ℕ) (p : Part) → Bounds g p → Bounds g (submitted p b q count cookie)
 bounds_sub g b q count cookie p bo =
     record {
       stage = bo.stage; request = bo.request; held = bo.held; use_state = bo.use_state; group = bo.group; host_group = bo.host_group;
@@ -43,7 +43,7 @@ bounds_sub g b q count cookie p bo =
       requested = bo.requested; responded = bo.responded;
     }
 
-bindings_sub : (b q count cookie : ℕ) (p : Part) → Bindings p → Bindings (submitted p b q count cookie)
+pub bindings_sub : (b q count cookie : ℕ) (p : Part) → Bindings p → Bindings (submitted p b q count cookie)
 bindings_sub b q count cookie p bi =
     record {
       start_once = bi.start_once; start_off = bi.start_off; start_stage = bi.start_stage; on_stage = bi.on_stage;
@@ -52,7 +52,7 @@ bindings_sub b q count cookie p bi =
       marker_start = bi.marker_start; marker_stop = bi.marker_stop;
     }
 
-labels_sub : (g b q count cookie : ℕ) (p : Part) → Bounds g p → Labels p → Labels (submitted p b q count cookie)
+pub labels_sub : (g b q count cookie : ℕ) (p : Part) → Bounds g p → Labels p → Labels (submitted p b q count cookie)
 labels_sub g b q count cookie p bo la =
     record {
       pasid_bears = la.pasid_bears; bears_pasid = la.bears_pasid; pasid_low = la.pasid_low; one_space = la.one_space;
@@ -65,10 +65,10 @@ labels_sub g b q count cookie p bo la =
       sent_once = la.sent_once;
     }
 
-requests_sub : (b q count cookie : ℕ) (p : Part) → Requests p → Requests (submitted p b q count cookie)
+pub requests_sub : (b q count cookie : ℕ) (p : Part) → Requests p → Requests (submitted p b q count cookie)
 requests_sub b q count cookie p ra = record { bound = ra.bound; alive = ra.alive; ask_once = ra.ask_once; answer_once = ra.answer_once; not_both = ra.not_both; ask_out = ra.ask_out; answer_out = ra.answer_out }
 
-orders_sub : (g b q count cookie : ℕ) (p : Part) → is_before_invalidating (p.stage b) ≡ true → Bounds g p → Orders p → Orders (submitted p b q count cookie)
+pub orders_sub : (g b q count cookie : ℕ) (p : Part) → is_before_invalidating (p.stage b) ≡ true → Bounds g p → Orders p → Orders (submitted p b q count cookie)
 orders_sub g b q count cookie p st bo or =
     record {
       no_wait = λ k h. grind (arith, nat_tests, or.no_wait k);
@@ -81,7 +81,7 @@ orders_sub g b q count cookie p st bo or =
       undone_stage = λ k h i. grind (arith, nat_tests, or.undone_stage k);
     }
 
-owners_sub : (ms : Mappings) (g b q count cookie : ℕ) (p : Part) → Orders p → Owners ms p → Owners ms (submitted p b q count cookie)
+pub owners_sub : (ms : Mappings) (g b q count cookie : ℕ) (p : Part) → Orders p → Owners ms p → Owners ms (submitted p b q count cookie)
 owners_sub ms g b q count cookie p or ow =
     record {
       held = ow.held; running = ow.running; held_space = ow.held_space; held_page = ow.held_page; flying_space = ow.flying_space;
@@ -92,14 +92,14 @@ owners_sub ms g b q count cookie p or ow =
       running_closed = λ u k w h i j d. grind (arith, nat_tests, ow.running_closed u k w, or.invalidating (p.use_binding u) k w);
     }
 
-queued_sub : (b q count cookie : ℕ) (p : Part) → Queued p → Queued (submitted p b q count cookie)
+pub queued_sub : (b q count cookie : ℕ) (p : Part) → Queued p → Queued (submitted p b q count cookie)
 queued_sub b q count cookie p qu = record { in_flight = qu.in_flight; message = qu.message; arrived = qu.arrived; arrival = qu.arrival; landed = qu.landed; made = qu.made }
 
-lasts_sub : (b q count cookie : ℕ) (p : Part) → Lasts p → Lasts (submitted p b q count cookie)
+pub lasts_sub : (b q count cookie : ℕ) (p : Part) → Lasts p → Lasts (submitted p b q count cookie)
 lasts_sub b q count cookie p la =
     record { last_group = la.last_group; last_once = la.last_once; last_flight = la.last_flight; last_arrived = la.last_arrived; last_order = la.last_order; whole_group = la.whole_group; whole = la.whole; kept = la.kept; out = la.out }
 
-groups_sub : (b q count cookie : ℕ) (p : Part) → Orders p → Groups p → Groups (submitted p b q count cookie)
+pub groups_sub : (b q count cookie : ℕ) (p : Part) → Orders p → Groups p → Groups (submitted p b q count cookie)
 groups_sub b q count cookie p or gr =
     record {
       index_bears = gr.index_bears; bears_index = gr.bears_index; index_low = gr.index_low; asker_bound = gr.asker_bound; alive = gr.alive;

@@ -1,6 +1,6 @@
 -- Unmapping: what is taken out is either used by nobody, or its endpoint owes an answer, and will strike first.
 use Rattle.std.proofs.Common.{◌≡◌, ◌≢◌, ◌⊎◌, inl, inr, refl, ap, sym, subst, ◌∙◌, ℕ, zero, suc, ◌+◌, ◌-◌, ◌<◌, ◌≤◌, Bool, true, false, arith}
-use Rattle.std.specs.Prelude.{Option, Some, None, ◌&&◌, ◌==◌, nat_le, nat_lt}
+use Rattle.std.specs.Prelude.{Option, Some, None, ◌&&◌, ◌==◌, nat_le, nat_lt, if◌then◌else◌}
 use Rattle.std.proofs.lemmas.Bool.Decides.{nat_tests}
 use Rattle.sva_model.specs.State.{Owed, MappingState, Mappings, Part, World, Stage}
 use Rattle.sva_model.specs.State.Owed.{Nothing, Pages, Pasid, AReset}
@@ -13,7 +13,8 @@ use Rattle.sva_model.specs.State.Phase.{Open}
 use Rattle.sva_model.specs.States.{is_unreleased, is_open, is_before_invalidating}
 use Rattle.sva_model.specs.Acts.{bound, submits_at, submits, owed_by_unit, owed_by_stage, owed_by, submitted, submitted_if, cookie_of, part_after_unmap, gone_if, in_range, without_pages, act, Act}
 use Rattle.sva_model.specs.Acts.Act.{Unmap, DropSpace}
-use Rattle.sva_laws.proofs.Words.{find_passes, find_some}
+use Rattle.sva_laws.proofs.Words.{put-same, put-other, ℕ_cases, find_passes, find_some}
+use Rattle.sva_model.specs.Words.{unless}
 use Rattle.sva_laws.proofs.Bounds.{Bounds}
 use Rattle.sva_laws.proofs.Labels.{Labels}
 use Rattle.sva_laws.proofs.Orders.{is_active}
@@ -75,7 +76,7 @@ bound_is w e b s i u sp =
         spaces : (is_unreleased ((w.part e).stage k) && (w.part e).space k == s) ≡ true → (w.part e).space k ≡ (w.part e).space b
         spaces h = grind (arith, nat_tests)
 
-open_is : (p : Part) → is_open p.phase ≡ true → p.phase ≡ Open
+pub open_is : (p : Part) → is_open p.phase ≡ true → p.phase ≡ Open
 open_is p h = grind arith
 
 new_open : (p : Part) (b q page count age cookie : ℕ) → p.phase ≡ Open → page ≤ q → q < page + count → Pending (submitted p b page count cookie) b q age (Pages page p.orders count p.resets)
@@ -110,7 +111,7 @@ new_pending p b q page count age cookie act lo hi =
     go Lost h a = absurd (cc)
     go Released h a = absurd (cc)
 
-active_unreleased : (s : Stage) → is_active s ≡ true → is_unreleased s ≡ true
+pub active_unreleased : (s : Stage) → is_active s ≡ true → is_unreleased s ≡ true
 active_unreleased s h = grind arith
 
 in_range_low : (q count k : ℕ) → in_range q count k ≡ true → q ≤ k
@@ -120,7 +121,7 @@ in_range_high : (q count k : ℕ) → in_range q count k ≡ true → k < q + co
 in_range_high q count k h = grind (arith, nat_tests)
 
 -- a usable translation stays safe when pages are unmapped
-unmap_safe : (w : World) (s q count e b m age : ℕ) → Inv w → is_active ((w.part e).stage b) ≡ true → w.mappings.space m ≡ (w.part e).space b → IsSafe w.mappings e (w.part e) b m age → IsSafe (act w (Unmap s q count)).mappings e ((act w (Unmap s q count)).part e) b m age
+pub unmap_safe : (w : World) (s q count e b m age : ℕ) → Inv w → is_active ((w.part e).stage b) ≡ true → w.mappings.space m ≡ (w.part e).space b → IsSafe w.mappings e (w.part e) b m age → IsSafe (act w (Unmap s q count)).mappings e ((act w (Unmap s q count)).part e) b m age
 unmap_safe w s q count e b m age i a sp sa =
     safe_without w.mappings e (w.part e) (part_after_unmap w s q count e) b m age (w.mappings.space m == s && in_range q count (w.mappings.page m)) (λ x. owed_by (w.part x) q count (bound w x s)) sa
     (λ v h. pending_submitted_if w.bindings (submits w s e) (bound w e s) q count (cookie_of w s e) (w.part e) (i.parts e).bounds b (w.mappings.page m) age v h)
@@ -137,3 +138,22 @@ unmap_safe w s q count e b m age i a sp sa =
         let f : bound w e s ≡ Some b = bound_is w e b s i (active_unreleased ((w.part e).stage b) a) (sym sp ∙ same_space t) in
         subst (λ o. Pending (submitted_if (submits_at (w.part e) o) (w.part e) o q count (cookie_of w s e)) b (w.mappings.page m) age (owed_by (w.part e) q count o)) (sym f)
         (new_pending (w.part e) b (w.mappings.page m) q count age (cookie_of w s e) a (in_range_low q count (w.mappings.page m) (inside t)) (in_range_high q count (w.mappings.page m) (inside t)))
+
+unless_some : (p : ℕ → Bool) (o : Option ℕ) (m : ℕ) → unless p o ≡ Some m → o ≡ Some m
+unless_some p None m h = absurd (cc)
+unless_some p (Some k) m h = go (p k) h
+  where
+    go : (b : Bool) → (if b then None else Some k) ≡ Some m → Some k ≡ Some m
+    go true h = absurd (cc)
+    go false h = h
+
+-- a mapping that is at a page of a space was there before some mappings went
+pub was_at : (ms : Mappings) (s : ℕ) (pages : ℕ → Bool) (owed : ℕ → Owed) (t q m : ℕ) → (without_pages ms s pages owed).at t q ≡ Some m → ms.at t q ≡ Some m
+was_at ms s pages owed t q m h = go (ℕ_cases t s)
+  where
+    go : (t ≡ s) ⊎ (t ≢ s) → ms.at t q ≡ Some m
+    go (inl e) =
+        let eq : (without_pages ms s pages owed).at s q ≡ unless (λ k. pages q) (ms.at s q) = ap (λ g. g q) (put-same ms.at s (λ x. unless (λ k. pages x) (ms.at s x))) in
+        let at_s : (without_pages ms s pages owed).at s q ≡ Some m = subst (λ z. (without_pages ms s pages owed).at z q ≡ Some m) e h in
+        subst (λ z. ms.at z q ≡ Some m) (sym e) (unless_some (λ k. pages q) (ms.at s q) m (sym eq ∙ at_s))
+    go (inr ne) = sym (ap (λ g. g q) (put-other ms.at s (λ x. unless (λ k. pages x) (ms.at s x)) t ne)) ∙ h

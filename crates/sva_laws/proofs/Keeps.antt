@@ -1,0 +1,444 @@
+-- Each act keeps what holds of the world.
+use Rattle.std.proofs.Common.{◌≡◌, ◌≢◌, ◌⊎◌, inl, inr, refl, ap, sym, subst, ◌∙◌, ℕ, zero, suc, ◌+◌, ◌-◌, ◌<◌, ◌≤◌, Bool, true, false, arith}
+use Rattle.std.specs.Prelude.{Option, Some, None, ◌&&◌, ◌==◌, nat_le, nat_lt, if◌then◌else◌}
+use Rattle.std.proofs.lemmas.Bool.Decides.{nat_tests}
+use Rattle.sva_model.specs.Words.{put, unless, all_below}
+use Rattle.sva_model.specs.State.{Owed, MappingState, Mappings, Part, JobName, World}
+use Rattle.sva_model.specs.State.Owed.{Nothing, Pages, Pasid, AReset}
+use Rattle.sva_model.specs.State.MappingState.{Unmade, Present, Gone}
+use Rattle.sva_model.specs.State.Stage.{Unbound}
+use Rattle.sva_model.specs.State.UseState.{Running}
+use Rattle.sva_model.specs.State.RequestState.{Out}
+use Rattle.sva_model.specs.State.About.{CompletionOf}
+use Rattle.sva_model.specs.State.Phase.{Open}
+use Rattle.sva_model.specs.States.{is_unreleased, is_open, is_before_invalidating, answered, is_free, place, place_at, place_by, place_of_gone, is_free_place}
+use Rattle.sva_model.specs.Acts.{Act, Own, act, own, sends, bound, submits, submits_at, owed_by, part_after_unmap, submitted, submitted_if, cookie_of, gone_if, in_range, without_pages}
+use Rattle.sva_model.specs.Acts.Act.{NewSpace, DropSpace, Map, Unmap, NewBinding, NewJob, Hold, LetGo, At}
+use Rattle.sva_laws.proofs.Words.{put-same, put-other, ℕ_cases, all_below-true}
+use Rattle.sva_laws.proofs.Legal.{LegalOwn}
+use Rattle.sva_laws.proofs.Resets as R
+use Rattle.sva_laws.proofs.Bounds as B
+use Rattle.sva_laws.proofs.Bindings as Bi
+use Rattle.sva_laws.proofs.Labels as L
+use Rattle.sva_laws.proofs.Requests as T
+use Rattle.sva_laws.proofs.Orders as I
+use Rattle.sva_laws.proofs.Owners as O
+use Rattle.sva_laws.proofs.Safe as S
+use Rattle.sva_laws.proofs.Invariant.{PartInv, Mapped, Inv, own_keeps, leads, presents}
+use Rattle.sva_laws.proofs.Answered.{answered_own, answered_submitted}
+use Rattle.sva_laws.proofs.Submitted as Sub
+use Rattle.sva_laws.proofs.Unmap as U
+
+-- a space is bound while it is live
+abbrev pub BoundSpace : (ℕ → Bool) → Own → Type 0
+BoundSpace live (Own.Bind b s t) = live s ≡ true
+BoundSpace live _ = Unit {0}
+
+-- what a step has tested when an act is done
+abbrev pub Legal : World → Act → Type 0
+Legal w NewSpace = Unit {0}
+Legal w (DropSpace s) = (e b : ℕ) → is_unreleased ((w.part e).stage b) ≡ true → (w.part e).space b ≢ s
+Legal w (Map s q f x) = (w.is_live s ≡ true) × (w.mappings.at s q ≡ None) × (is_free w f ≡ true)
+Legal w (Unmap s q count) = Unit {0}
+Legal w (NewBinding e) = Unit {0}
+Legal w (NewJob e g) = Unit {0}
+Legal w (Hold x j) = Unit {0}
+Legal w (LetGo x) = Unit {0}
+Legal w (At e o) = (e < w.config.endpoints) × (LegalOwn w.mappings w.bindings (w.part e) o × BoundSpace w.is_live o)
+
+-- a table with one row replaced keeps what the old row and the new one have
+pub put_keeps : {A : Type 0} (P : ℕ → A → Type 0) (f : ℕ → A) (i : ℕ) (v : A) → P i v → ((k : ℕ) → P k (f k)) → (k : ℕ) → P k (put f i v k)
+put_keeps P f i v new old k = go (ℕ_cases k i)
+  where
+    go : (k ≡ i) ⊎ (k ≢ i) → P k (put f i v k)
+    go (inl e) = subst (λ z. P z (put f i v z)) (sym e) (subst (P i) (sym (put-same f i v)) new)
+    go (inr ne) = subst (P k) (sym (put-other f i v k ne)) (old k)
+
+-- a part that an act of another endpoint leaves: more bindings and messages may be there
+bounds_more : (g h : ℕ) (p : Part) → g ≤ h → B.Bounds g p → B.Bounds h p
+bounds_more g h p a bo =
+    record {
+      stage = λ b k. bo.stage b (omega arith); request = bo.request; held = bo.held; use_state = bo.use_state; group = bo.group; host_group = bo.host_group;
+      responses = bo.responses; page_request = bo.page_request; group_of = bo.group_of; order_state = bo.order_state; noted = bo.noted;
+      asked = bo.asked; answered = bo.answered; sent = bo.sent; requested = bo.requested; responded = bo.responded;
+    }
+
+resets_more : (n m : ℕ) (p : Part) → n ≤ m → R.Resets n p → R.Resets m p
+resets_more n m p a re =
+    record {
+      unsent = λ c k. re.unsent c (omega arith); down = re.down; up = re.up; ordered = re.ordered; cleared = re.cleared;
+      start_before = re.start_before; stop_before = re.stop_before; invalidate_before = re.invalidate_before; response_before = re.response_before;
+      older = re.older; no_start = re.no_start; no_stop = re.no_stop; no_invalidate = re.no_invalidate; no_response = re.no_response;
+      off = re.off; empty = re.empty; over = re.over; dead = re.dead; finished = re.finished; untaken = re.untaken; lapsed = re.lapsed;
+      unqueued = re.unqueued; unarrived = re.unarrived; unfiled = re.unfiled;
+    }
+
+later : (ms : Mappings) (x g h n m e : ℕ) (p : Part) → g ≤ h → n ≤ m → PartInv ms x g n e p → PartInv ms x h m e p
+later ms x g h n m e p a b i =
+    record {
+      there = i.there; resets = resets_more n m p b i.resets; bounds = bounds_more g h p a i.bounds; bindings = i.bindings; labels = i.labels;
+      requests = i.requests; orders = i.orders; owners = i.owners; safe = i.safe; queued = i.queued; lasts = i.lasts; groups = i.groups;
+    }
+
+bound_live_own : (live : ℕ → Bool) (ms : Mappings) (g n : ℕ) (p : Part) (o : Own) → LegalOwn ms g p o → BoundSpace live o → (b : ℕ) → (is_unreleased (p.stage b) ≡ true → live (p.space b) ≡ true) → is_unreleased ((own p n o).stage b) ≡ true → live ((own p n o).space b) ≡ true
+bound_live_own live ms g n p o l bs b old h = grind (arith, nat_tests)
+
+at_parts : (w : World) (e : ℕ) (o : Own) → Legal w (At e o) → Inv w → (x : ℕ) → PartInv w.mappings w.config.endpoints w.bindings (w.messages + sends o) x ((act w (At e o)).part x)
+at_parts w e o l i =
+    put_keeps (λ x p. PartInv w.mappings w.config.endpoints w.bindings (w.messages + sends o) x p) w.part e (own (w.part e) w.messages o)
+    (own_keeps w.mappings w.config.endpoints w.bindings w.messages e (w.part e) o l.0 l.1.0 (leads w i.mapped) (presents w i.mapped) (i.parts e))
+    (λ x. later w.mappings w.config.endpoints w.bindings w.bindings w.messages (w.messages + sends o) x (w.part x) (omega arith) (omega arith) (i.parts x))
+
+at_answered : (w : World) (e : ℕ) (o : Own) (v : Owed) → Legal w (At e o) → Inv w → (x : ℕ) → answered (w.part x) v ≡ true → answered ((act w (At e o)).part x) v ≡ true
+at_answered w e o v l i x h =
+    put_keeps (λ x p. answered (w.part x) v ≡ true → answered p v ≡ true) w.part e (own (w.part e) w.messages o)
+    (λ k. answered_own w.mappings w.bindings w.messages (w.part e) o l.1.0 (i.parts e).labels.sent (i.parts e).bounds v k)
+    (λ x k. k) x h
+
+or_answered : {A : Type 0} (b c : Bool) → A ⊎ (b ≡ true) → (b ≡ true → c ≡ true) → A ⊎ (c ≡ true)
+or_answered b c (inl a) f = inl a
+or_answered b c (inr e) f = inr (f e)
+
+at_keeps : (w : World) (e : ℕ) (o : Own) → Legal w (At e o) → Inv w → Inv (act w (At e o))
+at_keeps w e o l i =
+    record {
+      mapped =
+          record {
+            unmade = i.mapped.unmade; made = i.mapped.made; present_at = i.mapped.present_at; at_present = i.mapped.at_present;
+            latest = i.mapped.latest; named = i.mapped.named; live = i.mapped.live;
+            passed = λ m v x g b. or_answered (answered (w.part x) (v x)) (answered ((act w (At e o)).part x) (v x)) (i.mapped.passed m v x g b) (at_answered w e o (v x) l i x);
+            bound_live =
+                put_keeps (λ x p. (b : ℕ) → is_unreleased (p.stage b) ≡ true → w.is_live (p.space b) ≡ true) w.part e (own (w.part e) w.messages o)
+                (λ b. bound_live_own w.is_live w.mappings w.bindings w.messages (w.part e) o l.1.0 l.1.1 b (i.mapped.bound_live e b))
+                i.mapped.bound_live;
+          };
+      parts = at_parts w e o l i;
+    }
+
+-- the world acts that change no mapping and no part
+new_space_keeps : (w : World) → Inv w → Inv (act w NewSpace)
+new_space_keeps w i =
+    record {
+      mapped =
+          record {
+            unmade = i.mapped.unmade; made = i.mapped.made; present_at = i.mapped.present_at;
+            at_present = λ s q m h. let a = i.mapped.at_present s q m h in (a.0, a.1, a.2, live_put s a.3);
+            latest = i.mapped.latest; named = i.mapped.named; passed = i.mapped.passed;
+            live = λ s h. live_below s h;
+            bound_live = λ e b h. live_put ((w.part e).space b) (i.mapped.bound_live e b h);
+          };
+      parts = i.parts;
+    }
+  where
+    live_put : (s : ℕ) → w.is_live s ≡ true → put w.is_live w.spaces true s ≡ true
+    live_put s h = grind (arith, nat_tests)
+
+    live_below : (s : ℕ) → put w.is_live w.spaces true s ≡ true → s < suc w.spaces
+    live_below s h = grind (arith, nat_tests, i.mapped.live s)
+
+new_binding_keeps : (w : World) (e : ℕ) → Inv w → Inv (act w (NewBinding e))
+new_binding_keeps w e i =
+    record {
+      mapped =
+          record {
+            unmade = i.mapped.unmade; made = i.mapped.made; present_at = i.mapped.present_at; at_present = i.mapped.at_present;
+            latest = i.mapped.latest; named = i.mapped.named; passed = i.mapped.passed; live = i.mapped.live; bound_live = i.mapped.bound_live;
+          };
+      parts = λ x. later w.mappings w.config.endpoints w.bindings (suc w.bindings) w.messages w.messages x (w.part x) (omega arith) (omega arith) (i.parts x);
+    }
+
+same_keeps : (w : World) (jobs : ℕ) (job : ℕ → JobName) (hand : ℕ → Option ℕ) → Inv w → Inv (record w { jobs = jobs; job = job; hand = hand })
+same_keeps w jobs job hand i =
+    record {
+      mapped =
+          record {
+            unmade = i.mapped.unmade; made = i.mapped.made; present_at = i.mapped.present_at; at_present = i.mapped.at_present;
+            latest = i.mapped.latest; named = i.mapped.named; passed = i.mapped.passed; live = i.mapped.live; bound_live = i.mapped.bound_live;
+          };
+      parts = i.parts;
+    }
+
+-- A frame that is free is at no page, and nobody owes an answer for it.
+free_gone : (w : World) (f m e : ℕ) (v : ℕ → Owed) → is_free w f ≡ true → w.mappings.latest f ≡ Some m → w.mappings.state m ≡ Gone v → e < w.config.endpoints → answered (w.part e) (v e) ≡ true
+free_gone w f m e v h la g b =
+    all_below-true w.config.endpoints (λ x. answered (w.part x) (v x)) (is_all (all_below w.config.endpoints (λ x. answered (w.part x) (v x))) (sym (ap (λ s. is_free_place (place_by w s)) g) ∙ sym (ap (λ o. is_free_place (place_at w o)) la) ∙ h)) e b
+  where
+    is_all : (x : Bool) → is_free_place (place_of_gone x) ≡ true → x ≡ true
+    is_all true k = refl
+    is_all false k = absurd (cc)
+
+free_present : (w : World) (f m : ℕ) → is_free w f ≡ true → w.mappings.latest f ≡ Some m → w.mappings.state m ≢ Present
+free_present w f m h la g = absurd (cc (sym (ap (λ s. is_free_place (place_by w s)) g) ∙ sym (ap (λ o. is_free_place (place_at w o)) la) ∙ h))
+
+-- mapping a page leaves what was made before
+safe_map : (w : World) (s q f : ℕ) (x : Bool) (e b m age : ℕ) (p : Part) → m < w.mappings.made → S.IsSafe w.mappings e p b m age → S.IsSafe (act w (Map s q f x)).mappings e p b m age
+safe_map w s q f x e b m age p l h =
+    let ne : m ≢ w.mappings.made = omega arith in
+    let a : (act w (Map s q f x)).mappings.state m ≡ w.mappings.state m = put-other w.mappings.state w.mappings.made Present m ne in
+    let c : (act w (Map s q f x)).mappings.page m ≡ w.mappings.page m = put-other w.mappings.page w.mappings.made q m ne in
+    subst (λ z. (z ≡ Present) ⊎ S.Pending p b ((act w (Map s q f x)).mappings.page m) age (S.owed_of z e)) (sym a)
+    (subst (λ z. (w.mappings.state m ≡ Present) ⊎ S.Pending p b z age (S.owed_of (w.mappings.state m) e)) (sym c) h)
+
+owners_map : (w : World) (s q f : ℕ) (x : Bool) (p : Part) → O.Owners w.mappings p → O.Owners (act w (Map s q f x)).mappings p
+owners_map w s q f x p ow =
+    record {
+      held = ow.held; running = ow.running;
+      held_space = λ r m h. other_space m (ow.held_made r m h) ∙ ow.held_space r m h;
+      held_page = λ r m h. other_page m (ow.held_made r m h) ∙ ow.held_page r m h;
+      flying_space = λ c r m h. other_space m (ow.flying_made c r m h) ∙ ow.flying_space c r m h;
+      flying_page = λ c r m h. other_page m (ow.flying_made c r m h) ∙ ow.flying_page c r m h;
+      running_space = λ u h. other_space (p.use_mapping u) (ow.running_made u h) ∙ ow.running_space u h;
+      held_made = λ r m h. let k = ow.held_made r m h in omega arith;
+      flying_made = λ c r m h. let k = ow.flying_made c r m h in omega arith;
+      running_made = λ u h. let k = ow.running_made u h in omega arith;
+      held_open = ow.held_open; held_closed = ow.held_closed; running_open = ow.running_open; running_closed = ow.running_closed;
+    }
+  where
+    other_space : (m : ℕ) → m < w.mappings.made → (act w (Map s q f x)).mappings.space m ≡ w.mappings.space m
+    other_space m l = let ne : m ≢ w.mappings.made = omega arith in put-other w.mappings.space w.mappings.made s m ne
+
+    other_page : (m : ℕ) → m < w.mappings.made → (act w (Map s q f x)).mappings.page m ≡ w.mappings.page m
+    other_page m l = let ne : m ≢ w.mappings.made = omega arith in put-other w.mappings.page w.mappings.made q m ne
+
+map_passed : (w : World) (s q f : ℕ) (x : Bool) → Legal w (Map s q f x) → Inv w → (k : ℕ) (v : ℕ → Owed) (e : ℕ) → (act w (Map s q f x)).mappings.state k ≡ Gone v → e < w.config.endpoints → ((act w (Map s q f x)).mappings.latest ((act w (Map s q f x)).mappings.frame k) ≡ Some k) ⊎ (answered (w.part e) (v e) ≡ true)
+map_passed w s q f x l i k v e g b =
+    let free : w.mappings.latest f ≡ Some k → w.mappings.state k ≡ Gone v → answered (w.part e) (v e) ≡ true = λ la gg. free_gone w f k e v l.2 la gg b in
+    let old : w.mappings.state k ≡ Gone v → (w.mappings.latest (w.mappings.frame k) ≡ Some k) ⊎ (answered (w.part e) (v e) ≡ true) = λ gg. i.mapped.passed k v e gg b in
+    grind (arith, nat_tests, free, old)
+
+map_mapped : (w : World) (s q f : ℕ) (x : Bool) → Legal w (Map s q f x) → Inv w → Mapped (act w (Map s q f x))
+map_mapped w s q f x l i =
+    let ma = i.mapped in
+    record {
+      unmade = λ k h. grind (arith, nat_tests, ma.unmade k);
+      made = λ k h. grind (arith, nat_tests, ma.made k);
+      present_at = λ k h. grind (arith, nat_tests, ma.present_at k);
+      at_present = λ t r k h. grind (arith, nat_tests, ma.at_present t r k, l.0, ma.unmade);
+      latest = λ k h. grind (arith, nat_tests, ma.latest k, free_present w f k l.2);
+      named = λ g k h. grind (arith, nat_tests, ma.named g k);
+      passed = map_passed w s q f x l i;
+      live = ma.live;
+      bound_live = ma.bound_live;
+    }
+
+map_keeps : (w : World) (s q f : ℕ) (x : Bool) → Legal w (Map s q f x) → Inv w → Inv (act w (Map s q f x))
+map_keeps w s q f x l i =
+    record {
+      mapped = map_mapped w s q f x l i;
+      parts =
+          λ e.
+          record {
+            there = (i.parts e).there; resets = (i.parts e).resets; bounds = (i.parts e).bounds; bindings = (i.parts e).bindings;
+            labels = (i.parts e).labels; requests = (i.parts e).requests; orders = (i.parts e).orders;
+            owners = owners_map w s q f x (w.part e) (i.parts e).owners;
+            safe =
+                record {
+                  held = λ r m h. safe_map w s q f x e ((w.part e).request_binding r) m (w.part e).uses (w.part e) ((i.parts e).owners.held_made r m h) ((i.parts e).safe.held r m h);
+                  flying = λ c r m h o. safe_map w s q f x e ((w.part e).request_binding r) m (w.part e).uses (w.part e) ((i.parts e).owners.flying_made c r m h) ((i.parts e).safe.flying c r m h o);
+                  running = λ u h. safe_map w s q f x e ((w.part e).use_binding u) ((w.part e).use_mapping u) u (w.part e) ((i.parts e).owners.running_made u h) ((i.parts e).safe.running u h);
+                };
+            queued = (i.parts e).queued; lasts = (i.parts e).lasts; groups = (i.parts e).groups;
+          };
+    }
+
+-- mappings that go leave the table of mappings in order
+without_mapped :
+    (w : World) (s cookies : ℕ) (pages : ℕ → Bool) (owed : ℕ → Owed) (live : ℕ → Bool) (part : ℕ → Part)
+    → ((x : ℕ) → live x ≡ true → w.is_live x ≡ true)
+    → ((t q m : ℕ) → (without_pages w.mappings s pages owed).at t q ≡ Some m → live t ≡ true)
+    → ((e b : ℕ) → is_unreleased ((part e).stage b) ≡ true → live ((part e).space b) ≡ true)
+    → ((e : ℕ) (v : Owed) → answered (w.part e) v ≡ true → answered (part e) v ≡ true)
+    → Mapped w
+    → Mapped (record w { mappings = without_pages w.mappings s pages owed; is_live = live; cookies = cookies; part = part })
+without_mapped w s cookies pages owed live part sub there alive more ma =
+    record {
+      unmade = λ m h. let u = ma.unmade m h in gone_unmade (w.mappings.space m == s && pages (w.mappings.page m)) (w.mappings.state m) u;
+      made = λ m h. gone_made (w.mappings.space m == s && pages (w.mappings.page m)) (w.mappings.state m) (ma.made m h);
+      present_at = λ m h. still_at m (gone_present (w.mappings.space m == s && pages (w.mappings.page m)) (w.mappings.state m) h) (gone_not (w.mappings.space m == s && pages (w.mappings.page m)) (w.mappings.state m) h);
+      at_present = λ t q m h. let a = ma.at_present t q m (U.was_at w.mappings s pages owed t q m h) in (still_present t q m h a.0 a.1 a.2, a.1, a.2, there t q m h);
+      latest = λ m h. ma.latest m (gone_present (w.mappings.space m == s && pages (w.mappings.page m)) (w.mappings.state m) h);
+      named = ma.named;
+      passed = λ m v e g b. gone_passed m v e (w.mappings.space m == s && pages (w.mappings.page m)) (w.mappings.state m) refl g b;
+      live = λ x h. ma.live x (sub x h);
+      bound_live = alive;
+    }
+  where
+    gone_unmade : (t : Bool) (z : MappingState) → z ≡ Unmade → gone_if t owed z ≡ Unmade
+    gone_unmade t z h = grind arith
+
+    gone_made : (t : Bool) (z : MappingState) → z ≢ Unmade → gone_if t owed z ≢ Unmade
+    gone_made t z h k = grind arith
+
+    gone_present : (t : Bool) (z : MappingState) → gone_if t owed z ≡ Present → z ≡ Present
+    gone_present t z h = grind arith
+
+    gone_not : (t : Bool) (z : MappingState) → gone_if t owed z ≡ Present → t ≡ false
+    gone_not t z h = grind arith
+
+    still_at : (m : ℕ) → w.mappings.state m ≡ Present → (w.mappings.space m == s && pages (w.mappings.page m)) ≡ false → (without_pages w.mappings s pages owed).at (w.mappings.space m) (w.mappings.page m) ≡ Some m
+    still_at m h t = let a = ma.present_at m h in grind (arith, nat_tests)
+
+    still_present : (t q m : ℕ) → (without_pages w.mappings s pages owed).at t q ≡ Some m → w.mappings.state m ≡ Present → w.mappings.space m ≡ t → w.mappings.page m ≡ q → gone_if (w.mappings.space m == s && pages (w.mappings.page m)) owed (w.mappings.state m) ≡ Present
+    still_present t q m h p sp pg = grind (arith, nat_tests)
+
+    gone_passed : (m : ℕ) (v : ℕ → Owed) (e : ℕ) (t : Bool) (z : MappingState) → w.mappings.state m ≡ z → gone_if t owed z ≡ Gone v → e < w.config.endpoints → (w.mappings.latest (w.mappings.frame m) ≡ Some m) ⊎ (answered (part e) (v e) ≡ true)
+    gone_passed m v e t Unmade a g b = absurd (gone_unmade_gone t g)
+      where
+        gone_unmade_gone : (t : Bool) → gone_if t owed Unmade ≢ Gone v
+        gone_unmade_gone true h = absurd (cc)
+        gone_unmade_gone false h = absurd (cc)
+    gone_passed m v e t Present a g b = inl (ma.latest m a)
+    gone_passed m v e t (Gone u) a g b =
+        or_answered (answered (w.part e) (v e)) (answered (part e) (v e)) (ma.passed m v e (a ∙ gone_gone t g) b) (more e (v e))
+      where
+        gone_gone : (t : Bool) → gone_if t owed (Gone u) ≡ Gone v → Gone u ≡ Gone v
+        gone_gone true h = h
+        gone_gone false h = h
+
+owners_without : (ms : Mappings) (s : ℕ) (pages : ℕ → Bool) (owed : ℕ → Owed) (p : Part) → O.Owners ms p → O.Owners (without_pages ms s pages owed) p
+owners_without ms s pages owed p ow =
+    record {
+      held = ow.held; running = ow.running; held_space = ow.held_space; held_page = ow.held_page; flying_space = ow.flying_space; flying_page = ow.flying_page;
+      running_space = ow.running_space; held_made = ow.held_made; flying_made = ow.flying_made; running_made = ow.running_made;
+      held_open = ow.held_open; held_closed = ow.held_closed; running_open = ow.running_open; running_closed = ow.running_closed;
+    }
+
+-- the owner of a request out is active
+asked_active : (p : Part) (r : ℕ) → Bi.Bindings p → T.Requests p → p.request r ≡ Out → I.is_active (p.stage (p.request_binding r)) ≡ true
+asked_active p r bi ra h = unmarked_active (O.asker_stage p r bi ra h)
+  where
+    unmarked_active : Bi.is_unmarked (p.stage (p.request_binding r)) ≡ true → I.is_active (p.stage (p.request_binding r)) ≡ true
+    unmarked_active k = grind arith
+
+-- what is safe for an active owner, wherever its mapping is of its space
+abbrev pub KeepsSafe : (ms ms' : Mappings) (e : ℕ) (p p' : Part) → Type 0
+KeepsSafe ms ms' e p p' = (b m age : ℕ) → I.is_active (p.stage b) ≡ true → ms.space m ≡ p.space b → S.IsSafe ms e p b m age → S.IsSafe ms' e p' b m age
+
+safe_kept : (ms ms' : Mappings) (x g n e : ℕ) (p : Part) → KeepsSafe ms ms' e p p → PartInv ms x g n e p → S.Safe ms' e p
+safe_kept ms ms' x g n e p k i =
+    record {
+      held = λ r m h. k (p.request_binding r) m p.uses (i.owners.held r m h) (i.owners.held_space r m h) (i.safe.held r m h);
+      flying = λ c r m h o. k (p.request_binding r) m p.uses (asked_active p r i.bindings i.requests o) (i.owners.flying_space c r m h) (i.safe.flying c r m h o);
+      running = λ u h. k (p.use_binding u) (p.use_mapping u) u (i.owners.running u h) (i.owners.running_space u h) (i.safe.running u h);
+    }
+
+safe_submitted : (ms ms' : Mappings) (x g n e : ℕ) (p : Part) (b q count cookie : ℕ) → KeepsSafe ms ms' e p (submitted p b q count cookie) → PartInv ms x g n e p → S.Safe ms' e (submitted p b q count cookie)
+safe_submitted ms ms' x g n e p b q count cookie k i =
+    record {
+      held = λ r m h. k (p.request_binding r) m p.uses (i.owners.held r m h) (i.owners.held_space r m h) (i.safe.held r m h);
+      flying = λ c r m h o. k (p.request_binding r) m p.uses (asked_active p r i.bindings i.requests o) (i.owners.flying_space c r m h) (i.safe.flying c r m h o);
+      running = λ u h. k (p.use_binding u) (p.use_mapping u) u (i.owners.running u h) (i.owners.running_space u h) (i.safe.running u h);
+    }
+
+left_part : (ms : Mappings) (s x g n e : ℕ) (pages : ℕ → Bool) (owed : ℕ → Owed) (p : Part) → KeepsSafe ms (without_pages ms s pages owed) e p p → PartInv ms x g n e p → PartInv (without_pages ms s pages owed) x g n e p
+left_part ms s x g n e pages owed p k i =
+    record {
+      there = i.there; resets = i.resets; bounds = i.bounds; bindings = i.bindings; labels = i.labels; requests = i.requests; orders = i.orders;
+      owners = owners_without ms s pages owed p i.owners;
+      safe = safe_kept ms (without_pages ms s pages owed) x g n e p k i;
+      queued = i.queued; lasts = i.lasts; groups = i.groups;
+    }
+
+submitted_part : (ms : Mappings) (s x g n e : ℕ) (pages : ℕ → Bool) (owed : ℕ → Owed) (p : Part) (b q count cookie : ℕ) → p.phase ≡ Open → is_before_invalidating (p.stage b) ≡ true → KeepsSafe ms (without_pages ms s pages owed) e p (submitted p b q count cookie) → PartInv ms x g n e p → PartInv (without_pages ms s pages owed) x g n e (submitted p b q count cookie)
+submitted_part ms s x g n e pages owed p b q count cookie ph st k i =
+    record {
+      there = i.there;
+      resets = Sub.resets_sub n b q count cookie p ph i.resets;
+      bounds = Sub.bounds_sub g b q count cookie p i.bounds;
+      bindings = Sub.bindings_sub b q count cookie p i.bindings;
+      labels = Sub.labels_sub g b q count cookie p i.bounds i.labels;
+      requests = Sub.requests_sub b q count cookie p i.requests;
+      orders = Sub.orders_sub g b q count cookie p st i.bounds i.orders;
+      owners = owners_without ms s pages owed (submitted p b q count cookie) (Sub.owners_sub ms g b q count cookie p i.orders i.owners);
+      safe = safe_submitted ms (without_pages ms s pages owed) x g n e p b q count cookie k i;
+      queued = Sub.queued_sub b q count cookie p i.queued;
+      lasts = Sub.lasts_sub b q count cookie p i.lasts;
+      groups = Sub.groups_sub b q count cookie p i.orders i.groups;
+    }
+
+part_unmapped : (ms : Mappings) (s x g n e : ℕ) (pages : ℕ → Bool) (owed : ℕ → Owed) (p : Part) (sub : Bool) (o : Option ℕ) (q count cookie : ℕ) → submits_at p o ≡ sub → KeepsSafe ms (without_pages ms s pages owed) e p (submitted_if sub p o q count cookie) → PartInv ms x g n e p → PartInv (without_pages ms s pages owed) x g n e (submitted_if sub p o q count cookie)
+part_unmapped ms s x g n e pages owed p true (Some b) q count cookie h k i =
+    submitted_part ms s x g n e pages owed p b q count cookie (opens (is_open p.phase) refl h) (before (is_open p.phase) h) k i
+  where
+    opens : (y : Bool) → is_open p.phase ≡ y → (y && is_before_invalidating (p.stage b)) ≡ true → p.phase ≡ Open
+    opens true f h = U.open_is p f
+    opens false f h = absurd (cc)
+
+    before : (y : Bool) → (y && is_before_invalidating (p.stage b)) ≡ true → is_before_invalidating (p.stage b) ≡ true
+    before true h = h
+    before false h = absurd (cc)
+part_unmapped ms s x g n e pages owed p true None q count cookie h k i = left_part ms s x g n e pages owed p k i
+part_unmapped ms s x g n e pages owed p false o q count cookie h k i = left_part ms s x g n e pages owed p k i
+
+unmap_keeps : (w : World) (s q count : ℕ) → Inv w → Inv (act w (Unmap s q count))
+unmap_keeps w s q count i =
+    record {
+      mapped =
+          without_mapped w s _ (in_range q count) (λ e. owed_by (w.part e) q count (bound w e s)) w.is_live (part_after_unmap w s q count)
+          (λ x h. h)
+          (λ t r m h. (i.mapped.at_present t r m (U.was_at w.mappings s (in_range q count) (λ e. owed_by (w.part e) q count (bound w e s)) t r m h)).3)
+          (λ e b h. sub_live e b (submits w s e) (bound w e s) h)
+          (λ e v h. answered_submitted w.bindings (submits w s e) (w.part e) (bound w e s) q count (cookie_of w s e) (i.parts e).bounds v h)
+          i.mapped;
+      parts =
+          λ e.
+          part_unmapped w.mappings s w.config.endpoints w.bindings w.messages e (in_range q count) (λ x. owed_by (w.part x) q count (bound w x s)) (w.part e) (submits w s e) (bound w e s) q count (cookie_of w s e) refl
+          (λ b m age a sp sa. U.unmap_safe w s q count e b m age i a sp sa)
+          (i.parts e);
+    }
+  where
+    sub_live : (e b : ℕ) (t : Bool) (o : Option ℕ) → is_unreleased ((submitted_if t (w.part e) o q count (cookie_of w s e)).stage b) ≡ true → w.is_live ((submitted_if t (w.part e) o q count (cookie_of w s e)).space b) ≡ true
+    sub_live e b true (Some d) h = i.mapped.bound_live e b h
+    sub_live e b true None h = i.mapped.bound_live e b h
+    sub_live e b false o h = i.mapped.bound_live e b h
+
+drop_keeps : (w : World) (s : ℕ) → Legal w (DropSpace s) → Inv w → Inv (act w (DropSpace s))
+drop_keeps w s l i =
+    record {
+      mapped =
+          without_mapped w s w.cookies (λ q. true) (λ e. Nothing) (put w.is_live s false) w.part
+          (λ x h. was_live x h)
+          (λ t q m h. other_live t q m (ℕ_cases t s) h)
+          (λ e b h. bound_other ((w.part e).space b) (l e b h) (i.mapped.bound_live e b h))
+          (λ e v h. h)
+          i.mapped;
+      parts =
+          λ e.
+          left_part w.mappings s w.config.endpoints w.bindings w.messages e (λ q. true) (λ x. Nothing) (w.part e)
+          (λ b m age a sp sa.
+           U.safe_without w.mappings e (w.part e) (w.part e) b m age (w.mappings.space m == s && true) (λ x. Nothing) sa (λ v h. h)
+           (λ t pr. absurd (l e b (U.active_unreleased ((w.part e).stage b) a) (sym sp ∙ same_space m t))))
+          (i.parts e);
+    }
+  where
+    was_live : (x : ℕ) → put w.is_live s false x ≡ true → w.is_live x ≡ true
+    was_live x h = grind (arith, nat_tests)
+
+    bound_other : (t : ℕ) → t ≢ s → w.is_live t ≡ true → put w.is_live s false t ≡ true
+    bound_other t ne h = put-other w.is_live s false t ne ∙ h
+
+    same_space : (m : ℕ) → (w.mappings.space m == s && true) ≡ true → w.mappings.space m ≡ s
+    same_space m h = grind (arith, nat_tests)
+
+    gone_pages : (q : ℕ) (o : Option ℕ) → unless (λ m. true) o ≡ None
+    gone_pages q None = refl
+    gone_pages q (Some k) = refl
+
+    other_live : (t q m : ℕ) → (t ≡ s) ⊎ (t ≢ s) → (without_pages w.mappings s (λ q. true) (λ e. Nothing)).at t q ≡ Some m → put w.is_live s false t ≡ true
+    other_live t q m (inl e) h =
+        let at_s : (without_pages w.mappings s (λ q. true) (λ e. Nothing)).at s q ≡ Some m = subst (λ z. (without_pages w.mappings s (λ q. true) (λ e. Nothing)).at z q ≡ Some m) e h in
+        let eq : (without_pages w.mappings s (λ q. true) (λ e. Nothing)).at s q ≡ unless (λ k. true) (w.mappings.at s q) = ap (λ g. g q) (put-same w.mappings.at s (λ x. unless (λ k. true) (w.mappings.at s x))) in
+        absurd (cc (sym (gone_pages q (w.mappings.at s q)) ∙ sym eq ∙ at_s))
+    other_live t q m (inr ne) h =
+        bound_other t ne (i.mapped.at_present t q m (U.was_at w.mappings s (λ q. true) (λ e. Nothing) t q m h)).3
+
+pub act_keeps : (w : World) (a : Act) → Legal w a → Inv w → Inv (act w a)
+act_keeps w NewSpace l i = new_space_keeps w i
+act_keeps w (DropSpace s) l i = drop_keeps w s l i
+act_keeps w (Map s q f x) l i = map_keeps w s q f x l i
+act_keeps w (Unmap s q count) l i = unmap_keeps w s q count i
+act_keeps w (NewBinding e) l i = new_binding_keeps w e i
+act_keeps w (NewJob e g) l i = same_keeps w (suc w.jobs) (put w.job w.jobs (record { endpoint = e; group = g })) w.hand i
+act_keeps w (Hold x j) l i = same_keeps w w.jobs w.job (put w.hand x (Some j)) i
+act_keeps w (LetGo x) l i = same_keeps w w.jobs w.job (put w.hand x None) i
+act_keeps w (At e o) l i = at_keeps w e o l i

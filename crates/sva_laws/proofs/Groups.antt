@@ -8,7 +8,7 @@ use Rattle.sva_model.specs.State.{Mappings, Part, Stage, GroupState, HostGroupSt
 use Rattle.sva_model.specs.State.Stage.{Unbound, Live, Stopping, Draining, Invalidating}
 use Rattle.sva_model.specs.State.PasidState.{Off}
 use Rattle.sva_model.specs.State.PageRequestState.{InFlight, Arrived, Filed}
-use Rattle.sva_model.specs.State.GroupState.{Unfinished, Awaiting, Stale}
+use Rattle.sva_model.specs.State.GroupState.{Unfinished, Awaiting, Stale, Finished}
 use Rattle.sva_model.specs.State.HostGroupState.{NotFiled, InHand, Replied, InHandDiscarded}
 use Rattle.sva_model.specs.State.OrderState.{Done}
 use Rattle.sva_model.specs.State.About.{ResetOrder, PageRequestOf, ResponseOf, MarkerOf, ResetDone}
@@ -49,6 +49,7 @@ pub record Groups (p : Part) : Type 0 where
   pub under : (x : ℕ) → is_filed_group (p.host_group x) ≡ true → p.filed_under x ≡ p.asker x
   pub open_group : (x : ℕ) → p.phase ≡ Open → is_open_group (p.host_group x) ≡ true → (is_outstanding (p.group x) ≡ true) × (is_before_invalidating (p.stage (p.filed_under x)) ≡ true)
   pub discarded : (x w : ℕ) → p.phase ≡ Open → p.host_group x ≡ InHandDiscarded w → is_active (p.stage (p.filed_under x)) ≡ false
+  pub discarded_over : (x w : ℕ) → p.phase ≡ Open → p.host_group x ≡ InHandDiscarded w → is_outstanding (p.group x) ≡ false
   pub responses : (x : ℕ) → p.responses x ≡ times_replied (p.host_group x)
   pub response : (c x : ℕ) (code : Code) → p.message c ≡ Some (ResponseOf x code) → (is_answerable (p.group x) ≡ true) × (p.host_group x ≡ Replied) × (p.response_message x ≡ c)
   -- the askers of page requests that are in flight or arrived
@@ -123,7 +124,7 @@ answerable_outstanding : (s : GroupState) → is_answerable s ≡ true → is_ou
 answerable_outstanding s h = grind arith
 
 -- of a group that is whole, no request is still to be filed
-whole_filed : (g : ℕ) (p : Part) → Bounds g p → Lasts p → (x : ℕ) → is_whole (p.host_group x) ≡ true → (r : ℕ) → p.group_of r ≡ x → p.page_request r ≢ Arrived
+pub whole_filed : (g : ℕ) (p : Part) → Bounds g p → Lasts p → (x : ℕ) → is_whole (p.host_group x) ≡ true → (r : ℕ) → p.group_of r ≡ x → p.page_request r ≢ Arrived
 whole_filed g p bo la x h r e a =
     let w : is_whole (p.host_group (p.group_of r)) ≡ true = ap (λ y. is_whole (p.host_group y)) e ∙ h in
     let f = la.whole r w (request_made g p bo r a) in
@@ -174,6 +175,12 @@ arrived_group p la gr r ph h = (la.out r ph (inr h), gr.arrived_stage r h)
 drain_order : (p : Part) → Orders p → (b w : ℕ) → p.stage b ≡ Draining w → (drains (p.order w) ≡ true) × (w < p.orders) × (p.phase ≡ Open → is_queued_or_done (p.order_state w) ≡ true)
 drain_order p or b w h = let d = or.draining b w h in (d.0, d.1, or.draining_state b w h)
 
+discarded_over_kept : (ms : Mappings) (g n : ℕ) (p : Part) (o : Own) → LegalOwn ms g p o → (x w : ℕ) → ((c : ℕ) → p.message c ≡ Some ResetDone → p.phase ≡ Cleared c) → ((c y : ℕ) → p.phase ≡ Cleared c → p.group y ≡ Finished) → (p.host_group x ≡ InHandDiscarded w → x < p.groups) → (p.phase ≡ Open → p.host_group x ≡ InHandDiscarded w → is_outstanding (p.group x) ≡ false) → (own p n o).phase ≡ Open → (own p n o).host_group x ≡ InHandDiscarded w → is_outstanding ((own p n o).group x) ≡ false
+discarded_over_kept ms g n p o l x w up fin made old h i = grind (arith, nat_tests)
+
+discarded_made : (g : ℕ) (p : Part) → Bounds g p → (x w : ℕ) → p.host_group x ≡ InHandDiscarded w → x < p.groups
+discarded_made g p bo x w h = grind (arith, bo.host_group x)
+
 pub every : (ms : Mappings) (g n : ℕ) (p : Part) (o : Own) → LegalOwn ms g p o → Resets n p → Bounds g p → Bindings p → Orders p → Queued p → Lasts p → Groups p → Groups (own p n o)
 every ms g n p o l re bo bi or qu la gr =
     record {
@@ -185,6 +192,7 @@ every ms g n p o l re bo bi or qu la gr =
       under = λ x h. under_kept ms g n p o l x (λ r a. bo.group_of r (request_made g p bo r a)) (filed_made g p bo x) (gr.under x) h;
       open_group = λ x h i. open_group_kept ms g n p o l (λ c y code k. (gr.response c y code k).1) (arrived_group p la gr) (reset_closed n p re) x (re.unfiled x) (open_made g p bo x) (gr.open_group x) h i;
       discarded = λ x w h i. discarded_kept ms g n p o l x w (discarded_bound g p bo gr x w) (whole_filed g p bo la x) (gr.discarded x w) h i;
+      discarded_over = λ x w h i. discarded_over_kept ms g n p o l x w re.up re.finished (discarded_made g p bo x w) (gr.discarded_over x w) h i;
       responses = λ x. responses_kept ms g n p o l x (whole_filed g p bo la x) (gr.responses x);
       response = λ c x code h. response_kept ms g n p o l c x code (re.unsent c) (bo.responded c x code) (replied_filed g p bo la) (in_hand_answerable p la gr x) (has_job p gr x) (response_older n p re c x code) (λ d z k. (gr.response d x z k).2) (gr.response c x code) h;
       flight_stage = λ c r h i. flight_stage_kept ms g n p o l (unmarked_on p bi) c r (re.unsent c) (bo.requested c r) (bo.group_of r) (λ d b. gr.marker_after d c b r) (flight_older n p re c r) (gr.flight_stage c r) h i;

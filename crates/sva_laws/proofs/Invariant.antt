@@ -2,9 +2,11 @@
 use Rattle.std.proofs.Common.{◌≡◌, ◌≢◌, ◌⊎◌, inl, inr, ℕ, suc, ◌+◌, ◌<◌, ◌≤◌, Bool, true, false, arith}
 use Rattle.std.specs.Prelude.{Option, Some, None}
 use Rattle.std.proofs.lemmas.Bool.Decides.{nat_tests}
-use Rattle.sva_model.specs.State.{Owed, Mappings, Part, World}
+use Rattle.sva_model.specs.State.{Owed, Mappings, Part, HostGroupState, World}
 use Rattle.sva_model.specs.State.MappingState.{Unmade, Present, Gone}
+use Rattle.sva_model.specs.State.HostGroupState.{InHand, InHandDiscarded}
 use Rattle.sva_model.specs.State.Stage.{Unbound}
+use Rattle.sva_model.specs.Words.{is_some}
 use Rattle.sva_model.specs.States.{is_unreleased, answered}
 use Rattle.sva_model.specs.Acts.{own, sends, Own}
 use Rattle.sva_laws.proofs.Legal.{LegalOwn}
@@ -21,6 +23,7 @@ use Rattle.sva_laws.proofs.Groups as G
 
 pub record PartInv (ms : Mappings) (endpoints g n e : ℕ) (p : Part) : Type 0 where
   pub there : (b : ℕ) → p.stage b ≢ Unbound → e < endpoints
+  pub near : (c : ℕ) → is_some (p.message c) ≡ true → e < endpoints
   pub resets : R.Resets n p
   pub bounds : B.Bounds g p
   pub bindings : Bi.Bindings p
@@ -46,7 +49,16 @@ pub record Mapped (w : World) : Type 0 where
   pub live : (s : ℕ) → w.is_live s ≡ true → s < w.spaces
   pub bound_live : (e b : ℕ) → is_unreleased ((w.part e).stage b) ≡ true → w.is_live ((w.part e).space b) ≡ true
 
+-- Hands: a worker that holds a job has it in hand, or its reset discarded it.
+abbrev pub IsHeldBy : HostGroupState → (worker : ℕ) → Type 0
+IsHeldBy h x = (h ≡ InHand x) ⊎ (h ≡ InHandDiscarded x)
+
+pub record Hands (w : World) : Type 0 where
+  pub made : (x j : ℕ) → w.hand x ≡ Some j → j < w.jobs
+  pub held : (x j : ℕ) → w.hand x ≡ Some j → IsHeldBy ((w.part (w.job j).endpoint).host_group (w.job j).group) x
+
 pub record Inv (w : World) : Type 0 where
+  pub hands : Hands w
   pub mapped : Mapped w
   pub parts : (e : ℕ) → PartInv w.mappings w.config.endpoints w.bindings w.messages e (w.part e)
 
@@ -68,6 +80,7 @@ pub own_keeps : (ms : Mappings) (x g n e : ℕ) (p : Part) (o : Own) → e < x �
 own_keeps ms x g n e p o h l le pr i =
     record {
       there = λ b u. h;
+      near = λ c u. h;
       resets = R.every ms g n p o l i.resets;
       bounds = B.every ms g n p o l i.resets i.bounds;
       bindings = Bi.every ms g n p o l i.resets i.bindings;

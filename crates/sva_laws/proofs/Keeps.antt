@@ -7,11 +7,13 @@ use Rattle.sva_model.specs.State.{Owed, MappingState, Mappings, Part, JobName, W
 use Rattle.sva_model.specs.State.Owed.{Nothing, Pages, Pasid, AReset}
 use Rattle.sva_model.specs.State.MappingState.{Unmade, Present, Gone}
 use Rattle.sva_model.specs.State.Stage.{Unbound}
+use Rattle.sva_model.specs.State.PageRequestState.{Arrived}
+use Rattle.sva_model.specs.State.HostGroupState.{InHand, InHandDiscarded}
 use Rattle.sva_model.specs.State.UseState.{Running}
 use Rattle.sva_model.specs.State.RequestState.{Out}
 use Rattle.sva_model.specs.State.About.{CompletionOf}
 use Rattle.sva_model.specs.State.Phase.{Open}
-use Rattle.sva_model.specs.States.{is_unreleased, is_open, is_before_invalidating, answered, is_free, place, place_at, place_by, place_of_gone, is_free_place}
+use Rattle.sva_model.specs.States.{is_unreleased, is_outstanding, is_open, is_before_invalidating, answered, is_free, place, place_at, place_by, place_of_gone, is_free_place}
 use Rattle.sva_model.specs.Acts.{Act, Own, act, own, sends, bound, submits, submits_at, owed_by, part_after_unmap, submitted, submitted_if, cookie_of, gone_if, in_range, without_pages}
 use Rattle.sva_model.specs.Acts.Act.{NewSpace, DropSpace, Map, Unmap, NewBinding, NewJob, Hold, LetGo, At}
 use Rattle.sva_laws.proofs.Words.{put-same, put-other, ℕ_cases, all_below-true}
@@ -24,7 +26,9 @@ use Rattle.sva_laws.proofs.Requests as T
 use Rattle.sva_laws.proofs.Orders as I
 use Rattle.sva_laws.proofs.Owners as O
 use Rattle.sva_laws.proofs.Safe as S
-use Rattle.sva_laws.proofs.Invariant.{PartInv, Mapped, Inv, own_keeps, leads, presents}
+use Rattle.sva_laws.proofs.PageRequests as P
+use Rattle.sva_laws.proofs.Groups as G
+use Rattle.sva_laws.proofs.Invariant.{PartInv, Mapped, Hands, IsHeldBy, Inv, own_keeps, leads, presents}
 use Rattle.sva_laws.proofs.Answered.{answered_own, answered_submitted}
 use Rattle.sva_laws.proofs.Submitted as Sub
 use Rattle.sva_laws.proofs.Unmap as U
@@ -34,6 +38,12 @@ abbrev pub BoundSpace : (ℕ → Bool) → Own → Type 0
 BoundSpace live (Own.Bind b s t) = live s ≡ true
 BoundSpace live _ = Unit {0}
 
+-- a job is answered once it is out of the worker's hand
+abbrev pub LetsGo : World → (e : ℕ) → Own → Type 0
+LetsGo w e (Own.Respond g code) = (x j : ℕ) → w.hand x ≡ Some j → (w.job j).endpoint ≡ e → (w.job j).group ≢ g
+LetsGo w e (Own.Discard g) = (x j : ℕ) → w.hand x ≡ Some j → (w.job j).endpoint ≡ e → (w.job j).group ≢ g
+LetsGo w e _ = Unit {0}
+
 -- what a step has tested when an act is done
 abbrev pub Legal : World → Act → Type 0
 Legal w NewSpace = Unit {0}
@@ -42,9 +52,9 @@ Legal w (Map s q f x) = (w.is_live s ≡ true) × (w.mappings.at s q ≡ None) �
 Legal w (Unmap s q count) = Unit {0}
 Legal w (NewBinding e) = Unit {0}
 Legal w (NewJob e g) = Unit {0}
-Legal w (Hold x j) = Unit {0}
+Legal w (Hold x j) = (j < w.jobs) × ((w.part (w.job j).endpoint).host_group (w.job j).group ≡ InHand x)
 Legal w (LetGo x) = Unit {0}
-Legal w (At e o) = (e < w.config.endpoints) × (LegalOwn w.mappings w.bindings (w.part e) o × BoundSpace w.is_live o)
+Legal w (At e o) = (e < w.config.endpoints) × (LegalOwn w.mappings w.bindings (w.part e) o × BoundSpace w.is_live o) × LetsGo w e o
 
 -- a table with one row replaced keeps what the old row and the new one have
 pub put_keeps : {A : Type 0} (P : ℕ → A → Type 0) (f : ℕ → A) (i : ℕ) (v : A) → P i v → ((k : ℕ) → P k (f k)) → (k : ℕ) → P k (put f i v k)
@@ -76,7 +86,7 @@ resets_more n m p a re =
 later : (ms : Mappings) (x g h n m e : ℕ) (p : Part) → g ≤ h → n ≤ m → PartInv ms x g n e p → PartInv ms x h m e p
 later ms x g h n m e p a b i =
     record {
-      there = i.there; resets = resets_more n m p b i.resets; bounds = bounds_more g h p a i.bounds; bindings = i.bindings; labels = i.labels;
+      there = i.there; near = i.near; resets = resets_more n m p b i.resets; bounds = bounds_more g h p a i.bounds; bindings = i.bindings; labels = i.labels;
       requests = i.requests; orders = i.orders; owners = i.owners; safe = i.safe; queued = i.queued; lasts = i.lasts; groups = i.groups;
     }
 
@@ -99,9 +109,92 @@ or_answered : {A : Type 0} (b c : Bool) → A ⊎ (b ≡ true) → (b ≡ true �
 or_answered b c (inl a) f = inl a
 or_answered b c (inr e) f = inr (f e)
 
+-- is the group's job answered or dropped by this act?
+abbrev pub responds_to : Own → ℕ → Bool
+responds_to (Own.Respond g code) x = x == g
+responds_to (Own.Discard g) x = x == g
+responds_to _ x = false
+
+not_answered : (w : World) (e : ℕ) (o : Own) → LetsGo w e o → (x j : ℕ) → w.hand x ≡ Some j → e ≡ (w.job j).endpoint → responds_to o (w.job j).group ≡ false
+not_answered w e (Own.Respond g code) l x j h same = differ (l x j h (sym same))
+  where
+    differ : (w.job j).group ≢ g → ((w.job j).group == g) ≡ false
+    differ ne = grind (arith, nat_tests)
+not_answered w e (Own.Discard g) l x j h same = differ (l x j h (sym same))
+  where
+    differ : (w.job j).group ≢ g → ((w.job j).group == g) ≡ false
+    differ ne = grind (arith, nat_tests)
+not_answered w e _ l x j h same = refl
+
+-- a job in hand stays in hand
+held_own : (ms : Mappings) (gs n : ℕ) (p : Part) (o : Own) → LegalOwn ms gs p o → (g x : ℕ) → (IsHeldBy (p.host_group g) x → (r : ℕ) → p.phase ≡ Open → p.group_of r ≡ g → p.page_request r ≢ Arrived) → responds_to o g ≡ false → IsHeldBy (p.host_group g) x → IsHeldBy ((own p n o).host_group g) x
+held_own ms gs n p o l g x nf ns h = grind (arith, nat_tests, nf h)
+
+-- no request of a group in hand is to be filed
+held_filed : (gs : ℕ) (p : Part) → B.Bounds gs p → P.Lasts p → G.Groups p → (g x : ℕ) → IsHeldBy (p.host_group g) x → (r : ℕ) → p.phase ≡ Open → p.group_of r ≡ g → p.page_request r ≢ Arrived
+held_filed gs p bo la gr g x (inl h) r ph e a = G.whole_filed gs p bo la g (ap P.is_whole h) r e a
+held_filed gs p bo la gr g x (inr h) r ph e a =
+    let out = la.out r ph (inr a) in
+    let over = gr.discarded_over g x ph h in
+    absurd (cc (sym (ap (λ y. is_outstanding (p.group y)) e) ∙ out, over))
+
+at_hands : (w : World) (e : ℕ) (o : Own) → Legal w (At e o) → Inv w → Hands (act w (At e o))
+at_hands w e o l i =
+    record {
+      made = i.hands.made;
+      held = λ x j h.
+             put_keeps (λ d p. (d ≡ (w.job j).endpoint → IsHeldBy (p.host_group (w.job j).group) x)) w.part e (own (w.part e) w.messages o)
+             (λ same. held_own w.mappings w.bindings w.messages (w.part e) o l.1.0 (w.job j).group x
+                          (held_filed w.bindings (w.part e) (i.parts e).bounds (i.parts e).lasts (i.parts e).groups (w.job j).group x)
+                          (not_answered w e o l.2 x j h same)
+                          (subst (λ d. IsHeldBy ((w.part d).host_group (w.job j).group) x) (sym same) (i.hands.held x j h)))
+             (λ d same. subst (λ z. IsHeldBy ((w.part z).host_group (w.job j).group) x) (sym same) (i.hands.held x j h))
+             (w.job j).endpoint refl;
+    }
+
+new_job_hands : (w : World) (e g : ℕ) → Hands w → Hands (act w (NewJob e g))
+new_job_hands w e g hs =
+    record {
+      made = λ x j h. let m = hs.made x j h in omega arith;
+      held = λ x j h. let m = hs.made x j h in let ne : j ≢ w.jobs = omega arith in
+             subst (λ d. IsHeldBy ((w.part d.endpoint).host_group d.group) x) (sym (put-other w.job w.jobs (record { endpoint = e; group = g }) j ne)) (hs.held x j h);
+    }
+
+hold_hands : (w : World) (x j : ℕ) → Legal w (Hold x j) → Hands w → Hands (act w (Hold x j))
+hold_hands w x j l hs =
+    record {
+      made = λ y k h. hold_made y k (ℕ_cases y x) h;
+      held = λ y k h. hold_held y k (ℕ_cases y x) h;
+    }
+  where
+    hold_made : (y k : ℕ) → (y ≡ x) ⊎ (y ≢ x) → put w.hand x (Some j) y ≡ Some k → k < w.jobs
+    hold_made y k c h = grind (arith, nat_tests, l.0, hs.made y k)
+
+    hold_held : (y k : ℕ) → (y ≡ x) ⊎ (y ≢ x) → put w.hand x (Some j) y ≡ Some k → IsHeldBy ((w.part (w.job k).endpoint).host_group (w.job k).group) y
+    hold_held y k (inl e) h =
+        let same : put w.hand x (Some j) y ≡ Some j = subst (λ z. put w.hand x (Some j) z ≡ Some j) (sym e) (put-same w.hand x (Some j)) in
+        let kj : j ≡ k = cc in
+        subst (λ z. IsHeldBy ((w.part (w.job z).endpoint).host_group (w.job z).group) y) kj
+        (subst (λ z. IsHeldBy ((w.part (w.job j).endpoint).host_group (w.job j).group) z) (sym e) (inl l.1))
+    hold_held y k (inr ne) h = hs.held y k (sym (put-other w.hand x (Some j) y ne) ∙ h)
+
+let_go_hands : (w : World) (x : ℕ) → Hands w → Hands (act w (LetGo x))
+let_go_hands w x hs =
+    record {
+      made = λ y k h. hs.made y k (was y k (ℕ_cases y x) h);
+      held = λ y k h. hs.held y k (was y k (ℕ_cases y x) h);
+    }
+  where
+    was : (y k : ℕ) → (y ≡ x) ⊎ (y ≢ x) → put w.hand x None y ≡ Some k → w.hand y ≡ Some k
+    was y k (inl e) h =
+        let same : put w.hand x None y ≡ None = subst (λ z. put w.hand x None z ≡ None) (sym e) (put-same w.hand x None) in
+        absurd (cc)
+    was y k (inr ne) h = sym (put-other w.hand x None y ne) ∙ h
+
 at_keeps : (w : World) (e : ℕ) (o : Own) → Legal w (At e o) → Inv w → Inv (act w (At e o))
 at_keeps w e o l i =
     record {
+      hands = at_hands w e o l i;
       mapped =
           record {
             unmade = i.mapped.unmade; made = i.mapped.made; present_at = i.mapped.present_at; at_present = i.mapped.at_present;
@@ -119,6 +212,7 @@ at_keeps w e o l i =
 new_space_keeps : (w : World) → Inv w → Inv (act w NewSpace)
 new_space_keeps w i =
     record {
+      hands = record { made = i.hands.made; held = i.hands.held };
       mapped =
           record {
             unmade = i.mapped.unmade; made = i.mapped.made; present_at = i.mapped.present_at;
@@ -139,6 +233,7 @@ new_space_keeps w i =
 new_binding_keeps : (w : World) (e : ℕ) → Inv w → Inv (act w (NewBinding e))
 new_binding_keeps w e i =
     record {
+      hands = record { made = i.hands.made; held = i.hands.held };
       mapped =
           record {
             unmade = i.mapped.unmade; made = i.mapped.made; present_at = i.mapped.present_at; at_present = i.mapped.at_present;
@@ -147,9 +242,10 @@ new_binding_keeps w e i =
       parts = λ x. later w.mappings w.config.endpoints w.bindings (suc w.bindings) w.messages w.messages x (w.part x) (omega arith) (omega arith) (i.parts x);
     }
 
-same_keeps : (w : World) (jobs : ℕ) (job : ℕ → JobName) (hand : ℕ → Option ℕ) → Inv w → Inv (record w { jobs = jobs; job = job; hand = hand })
-same_keeps w jobs job hand i =
+same_keeps : (w : World) (jobs : ℕ) (job : ℕ → JobName) (hand : ℕ → Option ℕ) → Hands (record w { jobs = jobs; job = job; hand = hand }) → Inv w → Inv (record w { jobs = jobs; job = job; hand = hand })
+same_keeps w jobs job hand hs i =
     record {
+      hands = hs;
       mapped =
           record {
             unmade = i.mapped.unmade; made = i.mapped.made; present_at = i.mapped.present_at; at_present = i.mapped.at_present;
@@ -224,11 +320,12 @@ map_mapped w s q f x l i =
 map_keeps : (w : World) (s q f : ℕ) (x : Bool) → Legal w (Map s q f x) → Inv w → Inv (act w (Map s q f x))
 map_keeps w s q f x l i =
     record {
+      hands = record { made = i.hands.made; held = i.hands.held };
       mapped = map_mapped w s q f x l i;
       parts =
           λ e.
           record {
-            there = (i.parts e).there; resets = (i.parts e).resets; bounds = (i.parts e).bounds; bindings = (i.parts e).bindings;
+            there = (i.parts e).there; near = (i.parts e).near; resets = (i.parts e).resets; bounds = (i.parts e).bounds; bindings = (i.parts e).bindings;
             labels = (i.parts e).labels; requests = (i.parts e).requests; orders = (i.parts e).orders;
             owners = owners_map w s q f x (w.part e) (i.parts e).owners;
             safe =
@@ -333,7 +430,7 @@ safe_submitted ms ms' x g n e p b q count cookie k i =
 left_part : (ms : Mappings) (s x g n e : ℕ) (pages : ℕ → Bool) (owed : ℕ → Owed) (p : Part) → KeepsSafe ms (without_pages ms s pages owed) e p p → PartInv ms x g n e p → PartInv (without_pages ms s pages owed) x g n e p
 left_part ms s x g n e pages owed p k i =
     record {
-      there = i.there; resets = i.resets; bounds = i.bounds; bindings = i.bindings; labels = i.labels; requests = i.requests; orders = i.orders;
+      there = i.there; near = i.near; resets = i.resets; bounds = i.bounds; bindings = i.bindings; labels = i.labels; requests = i.requests; orders = i.orders;
       owners = owners_without ms s pages owed p i.owners;
       safe = safe_kept ms (without_pages ms s pages owed) x g n e p k i;
       queued = i.queued; lasts = i.lasts; groups = i.groups;
@@ -342,7 +439,7 @@ left_part ms s x g n e pages owed p k i =
 submitted_part : (ms : Mappings) (s x g n e : ℕ) (pages : ℕ → Bool) (owed : ℕ → Owed) (p : Part) (b q count cookie : ℕ) → p.phase ≡ Open → is_before_invalidating (p.stage b) ≡ true → KeepsSafe ms (without_pages ms s pages owed) e p (submitted p b q count cookie) → PartInv ms x g n e p → PartInv (without_pages ms s pages owed) x g n e (submitted p b q count cookie)
 submitted_part ms s x g n e pages owed p b q count cookie ph st k i =
     record {
-      there = i.there;
+      there = i.there; near = i.near;
       resets = Sub.resets_sub n b q count cookie p ph i.resets;
       bounds = Sub.bounds_sub g b q count cookie p i.bounds;
       bindings = Sub.bindings_sub b q count cookie p i.bindings;
@@ -373,6 +470,7 @@ part_unmapped ms s x g n e pages owed p false o q count cookie h k i = left_part
 unmap_keeps : (w : World) (s q count : ℕ) → Inv w → Inv (act w (Unmap s q count))
 unmap_keeps w s q count i =
     record {
+      hands = record { made = i.hands.made; held = λ x j h. sub_hands (w.job j).endpoint (w.job j).group x (submits w s (w.job j).endpoint) (bound w (w.job j).endpoint s) (i.hands.held x j h) };
       mapped =
           without_mapped w s _ (in_range q count) (λ e. owed_by (w.part e) q count (bound w e s)) w.is_live (part_after_unmap w s q count)
           (λ x h. h)
@@ -392,9 +490,15 @@ unmap_keeps w s q count i =
     sub_live e b true None h = i.mapped.bound_live e b h
     sub_live e b false o h = i.mapped.bound_live e b h
 
+    sub_hands : (e g x : ℕ) (t : Bool) (o : Option ℕ) → IsHeldBy ((w.part e).host_group g) x → IsHeldBy ((submitted_if t (w.part e) o q count (cookie_of w s e)).host_group g) x
+    sub_hands e g x true (Some d) h = h
+    sub_hands e g x true None h = h
+    sub_hands e g x false o h = h
+
 drop_keeps : (w : World) (s : ℕ) → Legal w (DropSpace s) → Inv w → Inv (act w (DropSpace s))
 drop_keeps w s l i =
     record {
+      hands = record { made = i.hands.made; held = i.hands.held };
       mapped =
           without_mapped w s w.cookies (λ q. true) (λ e. Nothing) (put w.is_live s false) w.part
           (λ x h. was_live x h)
@@ -438,7 +542,7 @@ act_keeps w (DropSpace s) l i = drop_keeps w s l i
 act_keeps w (Map s q f x) l i = map_keeps w s q f x l i
 act_keeps w (Unmap s q count) l i = unmap_keeps w s q count i
 act_keeps w (NewBinding e) l i = new_binding_keeps w e i
-act_keeps w (NewJob e g) l i = same_keeps w (suc w.jobs) (put w.job w.jobs (record { endpoint = e; group = g })) w.hand i
-act_keeps w (Hold x j) l i = same_keeps w w.jobs w.job (put w.hand x (Some j)) i
-act_keeps w (LetGo x) l i = same_keeps w w.jobs w.job (put w.hand x None) i
+act_keeps w (NewJob e g) l i = same_keeps w (suc w.jobs) (put w.job w.jobs (record { endpoint = e; group = g })) w.hand (new_job_hands w e g i.hands) i
+act_keeps w (Hold x j) l i = same_keeps w w.jobs w.job (put w.hand x (Some j)) (hold_hands w x j l i.hands) i
+act_keeps w (LetGo x) l i = same_keeps w w.jobs w.job (put w.hand x None) (let_go_hands w x i.hands) i
 act_keeps w (At e o) l i = at_keeps w e o l i

@@ -107,9 +107,9 @@ code_answer mapped InvalidCode = answer.Invalid
 code_answer mapped FailureCode = answer.Failure
 
 abbrev pub reply_outcome : World → (worker job : ℕ) → List Act → Option Code → Outcome
-reply_outcome w x j maps None = says answer.Dropped (Act.At (w.job j).endpoint (Own.Discard (w.job j).group) ∷ Act.LetGo x ∷ [])
+reply_outcome w x j maps None = says answer.Dropped (Act.LetGo x ∷ Act.At (w.job j).endpoint (Own.Discard (w.job j).group) ∷ [])
 reply_outcome w x j maps (Some code) =
-    says (code_answer (length maps) code) (maps ++ Act.At (w.job j).endpoint (Own.Respond (w.job j).group code) ∷ Act.LetGo x ∷ [])
+    says (code_answer (length maps) code) (maps ++ Act.LetGo x ∷ Act.At (w.job j).endpoint (Own.Respond (w.job j).group code) ∷ [])
 
 -- The endpoint.
 

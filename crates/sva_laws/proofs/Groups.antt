@@ -44,6 +44,7 @@ pub record Groups (p : Part) : Type 0 where
   pub index_bears : (i x : ℕ) → p.at_index i ≡ Some x → (p.index x ≡ i) × (is_outstanding (p.group x) ≡ true)
   pub bears_index : (x : ℕ) → is_outstanding (p.group x) ≡ true → p.at_index (p.index x) ≡ Some x
   pub index_low : (i x : ℕ) → p.at_index i ≡ Some x → i < 32
+  pub first : (x : ℕ) → x < p.groups → (p.first_request x < p.page_requests) × (p.group_of (p.first_request x) ≡ x)
   pub asker_bound : (x : ℕ) → x < p.groups → p.stage (p.asker x) ≢ Unbound
   pub alive : (x : ℕ) → is_alive_group (p.group x) ≡ true → is_off (p.pasid_state (p.asker x)) ≡ false
   pub under : (x : ℕ) → is_filed_group (p.host_group x) ≡ true → p.filed_under x ≡ p.asker x
@@ -66,6 +67,9 @@ bears_index_kept ms g n p o l rs x ib old made h = grind (arith, nat_tests, old 
 
 index_low_kept : (ms : Mappings) (g n : ℕ) (p : Part) (o : Own) → LegalOwn ms g p o → (i x : ℕ) → (p.at_index i ≡ Some x → i < 32) → (own p n o).at_index i ≡ Some x → i < 32
 index_low_kept ms g n p o l i x old h = grind (arith, nat_tests)
+
+first_kept : (ms : Mappings) (g n : ℕ) (p : Part) (o : Own) → LegalOwn ms g p o → (x : ℕ) → (x < p.groups → (p.first_request x < p.page_requests) × (p.group_of (p.first_request x) ≡ x)) → x < (own p n o).groups → ((own p n o).first_request x < (own p n o).page_requests) × ((own p n o).group_of ((own p n o).first_request x) ≡ x)
+first_kept ms g n p o l x old h = grind (arith, nat_tests)
 
 asker_bound_kept : (ms : Mappings) (g n : ℕ) (p : Part) (o : Own) → LegalOwn ms g p o → ((b : ℕ) → is_off (p.pasid_state b) ≡ false → is_unmarked (p.stage b) ≡ true) → (x : ℕ) → (x < p.groups → p.stage (p.asker x) ≢ Unbound) → x < (own p n o).groups → (own p n o).stage ((own p n o).asker x) ≢ Unbound
 asker_bound_kept ms g n p o l on x old h = grind (arith, nat_tests)
@@ -187,6 +191,7 @@ every ms g n p o l re bo bi or qu la gr =
       index_bears = λ i x h. index_bears_kept ms g n p o l i x (gr.index_bears i x) (outstanding_made g p bo x) h;
       bears_index = λ x h. bears_index_kept ms g n p o l (λ c y code k. answerable_outstanding (p.group y) (gr.response c y code k).0) x (λ i y k. (gr.index_bears i y k).0) gr.bears_index (outstanding_made g p bo x) h;
       index_low = λ i x h. index_low_kept ms g n p o l i x (gr.index_low i x) h;
+      first = λ x h. first_kept ms g n p o l x (gr.first x) h;
       asker_bound = λ x h. asker_bound_kept ms g n p o l (unmarked_on p bi) x (gr.asker_bound x) h;
       alive = λ x h. alive_kept ms g n p o l x (alive_made g p bo x) (gr.alive x) h;
       under = λ x h. under_kept ms g n p o l x (λ r a. bo.group_of r (request_made g p bo r a)) (filed_made g p bo x) (gr.under x) h;

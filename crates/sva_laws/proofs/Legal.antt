@@ -70,7 +70,7 @@ LegalOwn ms g p (Ask b q t) = (p.pasid_state b ≡ On) × (p.at_tag t ≡ None) 
 LegalOwn ms g p (Begin r m t) = (p.pasid_state (p.request_binding r) ≡ On) × (p.held r ≡ Some m) × (p.at_slot t ≡ None) × (t < 16)
 LegalOwn ms g p (End u) = p.at_slot (p.use_slot u) ≡ Some u
 LegalOwn ms g p (Evict r) = (m : ℕ) × (p.held r ≡ Some m)
-LegalOwn ms g p (Group b i) = (p.pasid_state b ≡ On) × (p.at_index i ≡ None) × (i < 32)
+LegalOwn ms g p (Group b i q r x l) = (p.pasid_state b ≡ On) × (p.at_index i ≡ None) × (i < 32) × (outstanding p < 32)
 LegalOwn ms g p (Request y q r x l) = (p.group y ≡ Unfinished) × (is_off (p.pasid_state (p.asker y)) ≡ false) × (outstanding p < 32)
 LegalOwn ms g p (Finish names vector count) =
     ((k : ℕ) × (names k ≡ true))

@@ -42,7 +42,7 @@ pub data Own : Type 0 where
   Begin : (request mapping slot : ℕ) → Own
   End : (used : ℕ) → Own
   Evict : (request : ℕ) → Own
-  Group : (binding index : ℕ) → Own
+  Group : (binding index page : ℕ) (read write last : Bool) → Own
   Request : (group page : ℕ) (read write last : Bool) → Own
   Finish : (names : ℕ → Bool) (vector count : ℕ) → Own
   Quit : (binding : ℕ) → Own
@@ -339,13 +339,24 @@ own p n (Begin r m t) =
     }
 own p n (End u) = record p { use_state = put p.use_state u Ended; at_slot = put p.at_slot (p.use_slot u) None }
 own p n (Evict r) = record p { held = put p.held r None }
-own p n (Group b i) =
+own p n (Group b i q r x l) =
     record p {
       groups = suc p.groups;
       asker = put p.asker p.groups b;
       index = put p.index p.groups i;
-      group = put p.group p.groups Unfinished;
+      first_request = put p.first_request p.groups p.page_requests;
+      group = put p.group p.groups (sent_as l);
       at_index = put p.at_index i (Some p.groups);
+      page_requests = suc p.page_requests;
+      group_of = put p.group_of p.page_requests p.groups;
+      asked_page = put p.asked_page p.page_requests q;
+      asks_read = put p.asks_read p.page_requests r;
+      asks_write = put p.asks_write p.page_requests x;
+      is_last = put p.is_last p.page_requests l;
+      page_request = put p.page_request p.page_requests InFlight;
+      page_request_message = put p.page_request_message p.page_requests n;
+      message = put p.message n (Some (PageRequestOf p.page_requests));
+      carried = put p.carried n (PageRequestMessage (p.pasid b) i q r x l);
     }
 own p n (Request g q r x l) =
     record p {
@@ -454,6 +465,7 @@ sends (Send k t) = 1
 sends Reset = 1
 sends (Respond g code) = 1
 sends (Ask b q t) = 1
+sends (Group b i q r x l) = 1
 sends (Request g q r x l) = 1
 sends (Finish names vector count) = count
 sends (Quit b) = 1

@@ -147,6 +147,10 @@ is_some_busy p = any_below p.orders (λ k. is_busy (p.order_state k))
 abbrev pub is_set : (vector itag : ℕ) → Bool
 is_set vector t = bit_at vector t == 1
 
+-- does the vector name no tag?
+abbrev pub names_none : (vector : ℕ) → Bool
+names_none vector = not (any_below 32 (is_set vector))
+
 abbrev pub is_pending : Part → (itag : ℕ) → Bool
 is_pending p t = holds_of (λ k. is_taken (p.order_state k)) (p.at_itag t)
 

@@ -127,7 +127,7 @@ end_outcome p e u = at_one (if is_running (p.use_state u) then answer.Ended else
 abbrev pub fault_outcome : Part → (endpoint pasid page : ℕ) → (read write last : Bool) → Option ℕ → Outcome
 fault_outcome p e t q r x l None =
     let i = Labels.lowest_label 32 p.at_index in
-    says (answer.Group i) (Act.At e (Own.Group (Labels.bearer p t) i) ∷ Act.At e (Own.Request p.groups q r x l) ∷ [])
+    at_one (answer.Group i) e (Own.Group (Labels.bearer p t) i q r x l)
 fault_outcome p e t q r x l (Some i) = at_one (answer.Group i) e (Own.Request (the (p.at_index i)) q r x l)
 
 -- Deliveries, each by the names that the message carries.

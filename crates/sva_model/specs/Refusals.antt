@@ -131,7 +131,7 @@ fault_refusals w p t group =
 
 abbrev pub finish_refusals : World → Part → (vector count : ℕ) → List Cause
 finish_refusals w p vector count =
-    (vector == 0 || any_below 32 (λ t. Labels.is_set vector t && not (Labels.is_pending p t)), refusal.NotPending)
+    (Labels.names_none vector || any_below 32 (λ t. Labels.is_set vector t && not (Labels.is_pending p t)), refusal.NotPending)
     ∷ (any_below p.orders (λ k. Labels.is_named p vector k && Labels.is_in_use w p k), refusal.InUse)
     ∷ (not (nat_le 1 count && nat_le count 8), refusal.BadCount)
     ∷ messages_spent w count

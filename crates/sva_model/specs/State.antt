@@ -150,6 +150,7 @@ pub record Part : Type 0 where
   pub groups : ℕ
   pub asker : ℕ → ℕ  -- of a group: the binding under which it was asked
   pub index : ℕ → ℕ
+  pub first_request : ℕ → ℕ  -- of a group: its first page request
   pub group : ℕ → GroupState
   pub at_index : ℕ → Option ℕ
   pub is_disabled : Bool  -- the page request interface, by a response code 1111b
@@ -227,6 +228,7 @@ blank =
       groups = 0;
       asker = λ g. 0;
       index = λ g. 0;
+      first_request = λ g. 0;
       group = λ g. GroupState.Finished;
       at_index = λ t. None;
       is_disabled = false;

@@ -1,4 +1,5 @@
 pub mod Words
+pub mod Counting
 pub mod Legal
 pub mod Resets
 pub mod Bounds
@@ -15,3 +16,6 @@ pub mod Answered
 pub mod Submitted
 pub mod Unmap
 pub mod Keeps
+pub mod Passed
+pub mod LegalHost
+pub mod LegalUnit

@@ -1,0 +1,108 @@
+-- How many pass.
+use Rattle.std.proofs.Common.{◌≡◌, ◌≢◌, ◌⊎◌, inl, inr, refl, ap, sym, subst, ◌∙◌, ℕ, zero, suc, ◌+◌, ◌-◌, ◌<◌, ◌≤◌, Bool, true, false, arith}
+use Rattle.std.specs.Prelude.{if◌then◌else◌}
+use Rattle.std.proofs.lemmas.Bool.Decides.{nat_tests}
+use Rattle.sva_model.specs.Words.{put, count_below, any_below}
+use Rattle.sva_laws.proofs.Words.{put-same, put-other, ℕ_cases, any_below-false}
+
+pub bit : Bool → ℕ
+bit true = 1
+bit false = 0
+
+pub count_next : (n : ℕ) (f : ℕ → Bool) → count_below (suc n) f ≡ bit (f n) + count_below n f
+unfolding count_below bit
+count_next n f = go (f n)
+  where
+    go : (b : Bool) → (if b then suc (count_below n f) else count_below n f) ≡ bit b + count_below n f
+    go true = omega arith
+    go false = omega arith
+
+pub count_same : (n : ℕ) (f g : ℕ → Bool) → ((c : ℕ) → c < n → f c ≡ g c) → count_below n f ≡ count_below n g
+unfolding count_below
+count_same zero f g h = refl
+count_same (suc n) f g h =
+    let a : bit (f n) ≡ bit (g n) = ap bit (h n (omega arith)) in
+    let b : count_below n f ≡ count_below n g = count_same n f g (λ c l. h c (omega arith)) in
+    omega (arith, count_next n f, count_next n g)
+
+pub count_zero : (n : ℕ) (f : ℕ → Bool) → ((c : ℕ) → c < n → f c ≡ false) → count_below n f ≡ 0
+unfolding count_below bit
+count_zero zero f h = refl
+count_zero (suc n) f h =
+    let a : bit (f n) ≡ 0 = ap bit (h n (omega arith)) in
+    let b : count_below n f ≡ 0 = count_zero n f (λ c l. h c (omega arith)) in
+    omega (arith, count_next n f)
+
+bit_less : (b c : Bool) → (b ≡ true → c ≡ true) → bit b ≤ bit c
+unfolding bit
+bit_less true true h = omega arith
+bit_less true false h = absurd (let k = h refl in cc)
+bit_less false c h = omega arith
+
+pub count_less : (n : ℕ) (f g : ℕ → Bool) → ((c : ℕ) → c < n → f c ≡ true → g c ≡ true) → count_below n f ≤ count_below n g
+unfolding count_below
+count_less zero f g h = omega arith
+count_less (suc n) f g h =
+    let a : bit (f n) ≤ bit (g n) = bit_less (f n) (g n) (h n (omega arith)) in
+    let b : count_below n f ≤ count_below n g = count_less n f g (λ c l. h c (omega arith)) in
+    omega (arith, count_next n f, count_next n g)
+
+pub count_most : (n : ℕ) (f : ℕ → Bool) → count_below n f ≤ n
+unfolding count_below bit
+count_most zero f = omega arith
+count_most (suc n) f = omega (arith, count_next n f, count_most n f, bit_most (f n))
+  where
+    bit_most : (b : Bool) → bit b ≤ 1
+    bit_most true = omega arith
+    bit_most false = omega arith
+
+pub count_more : (n s : ℕ) (f : ℕ → Bool) → ((c : ℕ) → n ≤ c → c < n + s → f c ≡ false) → count_below (n + s) f ≡ count_below n f
+unfolding bit
+count_more n zero f h = let same : n + 0 ≡ n = omega arith in ap (λ z. count_below z f) same
+count_more n (suc s) f h =
+    let a : bit (f (n + s)) ≡ 0 = ap bit (h (n + s) (omega arith) (omega arith)) in
+    let b : count_below (n + s) f ≡ count_below n f = count_more n s f (λ c l m. h c l (omega arith)) in
+    let same : n + suc s ≡ suc (n + s) = omega arith in
+    let e : count_below (n + suc s) f ≡ count_below (suc (n + s)) f = ap (λ z. count_below z f) same in
+    omega (arith, e, count_next (n + s) f)
+
+pub count_all : (n s : ℕ) (f : ℕ → Bool) → ((c : ℕ) → n ≤ c → c < n + s → f c ≡ true) → count_below (n + s) f ≡ s + count_below n f
+unfolding bit
+count_all n zero f h = let same : n + 0 ≡ n = omega arith in let e : count_below (n + 0) f ≡ count_below n f = ap (λ z. count_below z f) same in omega (arith, e)
+count_all n (suc s) f h =
+    let a : bit (f (n + s)) ≡ 1 = ap bit (h (n + s) (omega arith) (omega arith)) in
+    let b : count_below (n + s) f ≡ s + count_below n f = count_all n s f (λ c l m. h c l (omega arith)) in
+    let same : n + suc s ≡ suc (n + s) = omega arith in
+    let e : count_below (n + suc s) f ≡ count_below (suc (n + s)) f = ap (λ z. count_below z f) same in
+    omega (arith, e, count_next (n + s) f)
+
+pub count_off : (n : ℕ) (f g : ℕ → Bool) (c : ℕ) → c < n → f c ≡ true → g c ≡ false → ((d : ℕ) → d ≢ c → f d ≡ g d) → count_below n f ≡ suc (count_below n g)
+unfolding count_below bit
+count_off zero f g c l a b h = absurd (omega arith)
+count_off (suc n) f g c l a b h = go (λ m. count_off n f g c m a b h) (ℕ_cases n c)
+  where
+    go : (c < n → count_below n f ≡ suc (count_below n g)) → (n ≡ c) ⊎ (n ≢ c) → count_below (suc n) f ≡ suc (count_below (suc n) g)
+    go rest (inl e) =
+        let x : bit (f n) ≡ 1 = ap bit (ap f e ∙ a) in
+        let y : bit (g n) ≡ 0 = ap bit (ap g e ∙ b) in
+        let z : count_below n f ≡ count_below n g = count_same n f g (λ d k. h d (omega arith)) in
+        omega (arith, count_next n f, count_next n g)
+    go rest (inr ne) =
+        let x : bit (f n) ≡ bit (g n) = ap bit (h n ne) in
+        let z : count_below n f ≡ suc (count_below n g) = rest (omega arith) in
+        omega (arith, count_next n f, count_next n g)
+
+-- as many as k different ones pass
+pub pigeons : (k n : ℕ) (p : ℕ → Bool) (f : ℕ → ℕ) → ((i : ℕ) → i < k → f i < n) → ((i : ℕ) → i < k → p (f i) ≡ true) → ((i j : ℕ) → i < k → j < k → f i ≡ f j → i ≡ j) → k ≤ count_below n p
+pigeons zero n p f b h d = omega arith
+pigeons (suc k) n p f b h d =
+    let l : k < suc k = omega arith in
+    let less : k ≤ count_below n (put p (f k) false) =
+        pigeons k n (put p (f k) false) f (λ i m. b i (omega arith))
+        (λ i m. let ne : f i ≢ f k = λ e. let same = d i k (omega arith) l e in absurd (omega arith) in put-other p (f k) false (f i) ne ∙ h i (omega arith))
+        (λ i j m o e. d i j (omega arith) (omega arith) e)
+    in
+    let off : count_below n p ≡ suc (count_below n (put p (f k) false)) =
+        count_off n p (put p (f k) false) (f k) (b k l) (h k l) (put-same p (f k) false) (λ x ne. sym (put-other p (f k) false x ne))
+    in
+    omega arith

@@ -1,0 +1,120 @@
+-- What the host's steps have tested.
+use Rattle.std.proofs.Common.{◌≡◌, ◌≢◌, ◌⊎◌, inl, inr, refl, ap, sym, subst, ◌∙◌, ℕ, zero, suc, ◌+◌, ◌-◌, ◌<◌, ◌≤◌, Bool, true, false, arith}
+use Rattle.std.specs.Prelude.{Option, Some, None, ◌&&◌, ◌||◌, not, ◌==◌, nat_le, nat_lt, if◌then◌else◌, List, [], ◌∷◌, ◌++◌}
+use Rattle.std.proofs.lemmas.Bool.Decides.{nat_tests}
+use Rattle.sva_step.specs.declared.steps.Step.TheVariants as step
+use Rattle.sva_model.specs.Words.{put, lowest, any_below, is_some, holds_of, the}
+use Rattle.sva_model.specs.State.{Part, World, Stage, Order, OrderState}
+use Rattle.sva_model.specs.State.Stage.{Unbound, Live, Stopping, Draining, Invalidating, Quiet, Lost, Released}
+use Rattle.sva_model.specs.State.PageRequestState.{Arrived}
+use Rattle.sva_model.specs.State.HostGroupState.{Job, InHand}
+use Rattle.sva_model.specs.State.Order.{PageOf, PasidOf, Wait}
+use Rattle.sva_model.specs.State.OrderState.{Queued, Done}
+use Rattle.sva_model.specs.State.Phase.{Open}
+use Rattle.sva_model.specs.States.{is_open, is_unreleased, is_done, is_queued, is_busy, is_arrived, is_free, is_open_group, is_job, drains}
+use Rattle.sva_model.specs.Acts.{Act, Own, act}
+use Rattle.sva_model.specs.Acts.Act.{NewSpace, DropSpace, Map, Unmap, NewBinding, NewJob, Hold, LetGo, At}
+use Rattle.sva_model.specs.Refusals.{Cause, refusals, unbind_refusals, advance_refusals, is_queue_short}
+use Rattle.sva_model.specs.Outcomes.{Outcome, outcome, unbind_outcome, advance_outcome, pump_outcome, head_outcome, wait_outcome, send_outcome, may_pass, serve_outcome, file_outcome}
+use Rattle.sva_model.specs.Labels
+use Rattle.sva_laws.proofs.Words.{put-same, none_is, lowest_passes, lowest_below, any_below-false, any_below-true, not_true}
+use Rattle.sva_laws.proofs.Bounds.{Bounds}
+use Rattle.sva_laws.proofs.PageRequests.{Queued as QueuedRequests}
+use Rattle.sva_laws.proofs.Invariant.{PartInv, Inv}
+use Rattle.sva_laws.proofs.Legal.{LegalOwn}
+use Rattle.sva_laws.proofs.Keeps.{Legal}
+use Rattle.sva_laws.proofs.Passed.{Passed, LegalAll, lt_of, and_left, and_right, or_left, or_right, not_false, opened_is, label_low, label_free, unreleased_made, unreleased_bound, not_bound_at, not_bound}
+
+pub drop : (w : World) (n : ℕ) → Inv w → Passed (refusals w (step.DropSpace n)) → LegalAll w (outcome w (step.DropSpace n)).acts
+drop w n i h = (not_bound w (Labels.name w n) i h.1.0, tt)
+
+pub map_page : (w : World) (n q : ℕ) (x : Bool) → Inv w → Passed (refusals w (step.Map n q x)) → LegalAll w (outcome w (step.Map n q x)).acts
+map_page w n q x i h =
+    ( ( and_right (Labels.is_number w w.spaces n) (w.is_live (Labels.name w n)) (not_true (Labels.is_space w n) h.0)
+      , none_is (w.mappings.at (Labels.name w n) q) h.1.1.0
+      , (lowest_passes w.config.frames (is_free w) h.1.1.1.1.0).1
+      )
+    , tt
+    )
+
+pub bind : (w : World) (e n : ℕ) → Inv w → Passed (refusals w (step.Bind e n)) → LegalAll w (outcome w (step.Bind e n)).acts
+bind w e n i h =
+    let free = lowest_passes 32 (λ t. not (is_some ((w.part e).at_pasid (suc t)))) h.1.1.1.1.0 in
+    ( tt
+    , ( ( lt_of e w.config.endpoints h.0
+        , ( ( omega arith
+            , opened_is (w.part e) h.1.1.0
+            , (i.parts e).bounds.stage w.bindings (omega arith)
+            , none_is ((w.part e).at_pasid (suc (Labels.lowest_pasid (w.part e)))) (not_false (is_some ((w.part e).at_pasid (suc (Labels.lowest_pasid (w.part e))))) free.1)
+            , omega arith
+            , omega (arith, free.0)
+            , not_bound_at w (Labels.name w n) e i h.1.1.1.0
+            )
+          , and_right (Labels.is_number w w.spaces n) (w.is_live (Labels.name w n)) (not_true (Labels.is_space w n) h.1.0)
+          )
+        , tt
+        )
+      , tt
+      )
+    )
+
+-- the binding of a step by its number
+home_there : (w : World) (n : ℕ) → Inv w → not (Labels.is_binding w n) ≡ false → w.home (Labels.name w n) < w.config.endpoints
+home_there w n i h =
+    let b = Labels.name w n in
+    (i.parts (w.home b)).there b (unreleased_bound (w.part (w.home b)) b (and_right (Labels.is_number w w.bindings n) (is_unreleased ((w.part (w.home b)).stage b)) (not_true (Labels.is_binding w n) h)))
+
+unbind_at : (w : World) (e b : ℕ) (s : Stage) → e < w.config.endpoints → (w.part e).stage b ≡ s → Passed (unbind_refusals w e s) → LegalAll w (unbind_outcome e b s).acts
+unbind_at w e b Lost l f h = ((l, (inl f, tt), tt), tt)
+unbind_at w e b Live l f h = ((l, ((opened_is (w.part e) h.1.0, f), tt), tt), tt)
+unbind_at w e b Unbound l f h = absurd (cc h.0)
+unbind_at w e b (Stopping m) l f h = absurd (cc h.0)
+unbind_at w e b (Draining x) l f h = absurd (cc h.0)
+unbind_at w e b (Invalidating k x) l f h = absurd (cc h.0)
+unbind_at w e b Quiet l f h = absurd (cc h.0)
+unbind_at w e b Released l f h = absurd (cc h.0)
+
+pub unbind : (w : World) (n : ℕ) → Inv w → Passed (refusals w (step.Unbind n)) → LegalAll w (outcome w (step.Unbind n)).acts
+unbind w n i h = unbind_at w (w.home (Labels.name w n)) (Labels.name w n) ((w.part (w.home (Labels.name w n))).stage (Labels.name w n)) (home_there w n i h.0) refl h.1
+
+done_is : (s : OrderState) → is_done s ≡ true → s ≡ Done
+done_is s h = grind arith
+
+short_one : (p : Part) → is_queue_short p 1 ≡ false → Labels.queue_length p < 64
+short_one p h = grind (arith, nat_tests)
+
+short_two : (p : Part) → is_queue_short p 2 ≡ false → suc (Labels.queue_length p) < 64
+short_two p h = grind (arith, nat_tests)
+
+-- no group of the binding is open
+no_open_group : (g : ℕ) (p : Part) (b : ℕ) → Bounds g p → Labels.has_open_group p b ≡ false → (x : ℕ) → is_open_group (p.host_group x) ≡ true → p.filed_under x ≢ b
+no_open_group g p b bo h x o same =
+    let lt = made x o in
+    let f = any_below-false p.groups (λ y. is_open_group (p.host_group y) && p.filed_under y == b) h x lt in
+    absurd (both x o same f)
+  where
+    made : (x : ℕ) → is_open_group (p.host_group x) ≡ true → x < p.groups
+    made x o = grind (arith, bo.host_group x)
+
+    both : (x : ℕ) → is_open_group (p.host_group x) ≡ true → p.filed_under x ≡ b → (is_open_group (p.host_group x) && p.filed_under x == b) ≢ false
+    both x o same f = grind (arith, nat_tests)
+
+advance_at : (w : World) (e b : ℕ) (s : Stage) → Inv w → e < w.config.endpoints → (w.part e).stage b ≡ s → Passed (advance_refusals w e b s) → LegalAll w (advance_outcome w e b s).acts
+advance_at w e b Quiet i l f h = ((l, (f, tt), tt), tt)
+advance_at w e b (Stopping m) i l f h =
+    let yes : m ≡ true = not_true m h.1.0 in
+    ((l, ((opened_is (w.part e) h.0, f ∙ ap (λ x. Stopping x) yes, short_one (w.part e) h.1.1.0), tt), tt), tt)
+advance_at w e b (Draining x) i l f h =
+    let done : is_done ((w.part e).order_state x) ≡ true = not_true (is_done ((w.part e).order_state x)) (or_left (not (is_done ((w.part e).order_state x))) (Labels.has_open_group (w.part e) b) h.1.0) in
+    let none = or_right (not (is_done ((w.part e).order_state x))) (Labels.has_open_group (w.part e) b) h.1.0 in
+    ((l, ((opened_is (w.part e) h.0, (x, f, done_is ((w.part e).order_state x) done), short_two (w.part e) h.1.1.0, no_open_group w.bindings (w.part e) b (i.parts e).bounds none), tt), tt), tt)
+advance_at w e b (Invalidating k x) i l f h =
+    let done : is_done ((w.part e).order_state x) ≡ true = not_true (is_done ((w.part e).order_state x)) h.1.0 in
+    ((l, (inr (k, x, opened_is (w.part e) h.0, f, done_is ((w.part e).order_state x) done), tt), tt), tt)
+advance_at w e b Unbound i l f h = absurd (cc h.1.0)
+advance_at w e b Live i l f h = absurd (cc h.1.0)
+advance_at w e b Lost i l f h = absurd (cc h.1.0)
+advance_at w e b Released i l f h = absurd (cc h.1.0)
+
+pub advance : (w : World) (n : ℕ) → Inv w → Passed (refusals w (step.Advance n)) → LegalAll w (outcome w (step.Advance n)).acts
+advance w n i h = advance_at w (w.home (Labels.name w n)) (Labels.name w n) ((w.part (w.home (Labels.name w n))).stage (Labels.name w n)) i (home_there w n i h.0) refl h.1

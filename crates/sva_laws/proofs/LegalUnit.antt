@@ -1,0 +1,155 @@
+-- What the steps at a unit have tested: pump, serve, reset, and a worker's take.
+use Rattle.std.proofs.Common.{◌≡◌, ◌≢◌, ◌⊎◌, inl, inr, refl, ap, sym, subst, ◌∙◌, ℕ, zero, suc, ◌+◌, ◌-◌, ◌<◌, ◌≤◌, Bool, true, false, arith}
+use Rattle.std.specs.Prelude.{Option, Some, None, ◌&&◌, ◌||◌, not, ◌==◌, nat_le, nat_lt, if◌then◌else◌, List, [], ◌∷◌, ◌++◌}
+use Rattle.std.proofs.lemmas.Bool.Decides.{nat_tests}
+use Rattle.sva_step.specs.declared.steps.Step.TheVariants as step
+use Rattle.sva_model.specs.Words.{put, lowest, any_below, is_some, holds_of, the}
+use Rattle.sva_model.specs.State.{Part, World, Order, OrderState, PageRequestState, HostGroupState}
+use Rattle.sva_model.specs.State.PageRequestState.{Arrived}
+use Rattle.sva_model.specs.State.HostGroupState.{Job, InHand}
+use Rattle.sva_model.specs.State.Order.{PageOf, PasidOf, Wait}
+use Rattle.sva_model.specs.State.OrderState.{Queued, Void}
+use Rattle.sva_model.specs.State.Phase.{Open}
+use Rattle.sva_model.specs.States.{is_open, is_queued, is_busy, is_arrived, is_job, is_wait, drains}
+use Rattle.sva_model.specs.Acts.{Act, Own, act, own}
+use Rattle.sva_model.specs.Acts.Act.{At, NewJob, Hold}
+use Rattle.sva_model.specs.Refusals.{Cause, refusals}
+use Rattle.sva_model.specs.Outcomes.{Outcome, outcome, pump_outcome, head_outcome, wait_outcome, send_outcome, may_pass, serve_outcome, file_outcome}
+use Rattle.sva_model.specs.Labels
+use Rattle.sva_laws.proofs.Words.{put-same, none_is, lowest_passes, lowest_below, any_below-false, any_below-true, any_below-intro, not_true}
+use Rattle.sva_laws.proofs.Bounds.{Bounds}
+use Rattle.sva_laws.proofs.PageRequests.{Queued as QueuedRequests}
+use Rattle.sva_laws.proofs.Groups.{Groups}
+use Rattle.sva_laws.proofs.Invariant.{PartInv, Inv}
+use Rattle.sva_laws.proofs.Legal.{LegalOwn}
+use Rattle.sva_laws.proofs.Keeps.{Legal}
+use Rattle.sva_laws.proofs.Passed.{Passed, LegalAll, lt_of, and_left, and_right, or_left, or_right, not_false, opened_is, label_low, label_free}
+
+-- Pump: the head is the lowest order that is queued.
+record Head (p : Part) : Type 0 where
+  queued : p.order_state (Labels.head p) ≡ Queued
+  lowest : (j : ℕ) → j < Labels.head p → p.order_state j ≢ Queued
+
+head_is : (p : Part) → not (any_below p.orders (λ k. is_queued (p.order_state k))) ≡ false → Head p
+head_is p h =
+    let some = any_below-true p.orders (λ k. is_queued (p.order_state k)) (not_true (any_below p.orders (λ k. is_queued (p.order_state k))) h) in
+    let low = lowest_below p.orders (λ k. is_queued (p.order_state k)) some.0 some.1 some.2 in
+    record { queued = queued_is (p.order_state (Labels.head p)) low.1; lowest = λ j l. not_queued (p.order_state j) (low.2 j l) }
+  where
+    queued_is : (s : OrderState) → is_queued s ≡ true → s ≡ Queued
+    queued_is s k = grind arith
+
+    not_queued : (s : OrderState) → is_queued s ≡ false → s ≢ Queued
+    not_queued s k e = absurd (cc)
+
+-- no order bears an ITag: those not made yet don't either
+idle : (g : ℕ) (p : Part) → Bounds g p → Labels.is_some_busy p ≡ false → (j : ℕ) → is_busy (p.order_state j) ≡ false
+idle g p bo h j =
+    let f : j < p.orders → is_busy (p.order_state j) ≡ false = any_below-false p.orders (λ k. is_busy (p.order_state k)) h j in
+    grind (arith, f, bo.order_state j)
+
+-- the page request queue is empty: nothing has arrived and isn't filed
+none_arrived : (p : Part) → QueuedRequests p → Labels.is_page_queue_empty p ≡ true → (r : ℕ) → p.page_request r ≢ Arrived
+none_arrived p qu h r a =
+    let place = qu.arrived r a in
+    let f = any_below-false p.arrivals (Labels.is_waiting p) (not_false (any_below p.arrivals (Labels.is_waiting p)) h) (p.arrived_as r) place.0 in
+    let back : is_arrived (p.page_request (p.arrival (p.arrived_as r))) ≡ is_arrived (p.page_request r) = ap (λ z. is_arrived (p.page_request z)) place.1 in
+    absurd (cc (sym f ∙ back ∙ ap is_arrived a))
+
+wait_legal : (w : World) (e cookie : ℕ) (drain t : Bool) → Inv w → e < w.config.endpoints → (w.part e).phase ≡ Open → Head (w.part e) → (w.part e).order (Labels.head (w.part e)) ≡ Wait cookie drain → may_pass (w.part e) drain ≡ t → LegalAll w (wait_outcome e (Labels.head (w.part e)) t).acts
+wait_legal w e cookie drain false i l ph hd o m = tt
+wait_legal w e cookie drain true i l ph hd o m =
+    ((l, ((ph, hd.queued, ap is_wait o, hd.lowest, idle w.bindings (w.part e) (i.parts e).bounds quiet, λ r d. none_arrived (w.part e) (i.parts e).queued (empty (sym (ap drains o) ∙ d)) r), tt), tt), tt)
+  where
+    quiet : Labels.is_some_busy (w.part e) ≡ false
+    quiet = not_false (Labels.is_some_busy (w.part e)) (and_left (not (Labels.is_some_busy (w.part e))) (not drain || Labels.is_page_queue_empty (w.part e)) m)
+
+    empty : drain ≡ true → Labels.is_page_queue_empty (w.part e) ≡ true
+    empty d = or_drain drain (Labels.is_page_queue_empty (w.part e)) d (and_right (not (Labels.is_some_busy (w.part e))) (not drain || Labels.is_page_queue_empty (w.part e)) m)
+      where
+        or_drain : (a b : Bool) → a ≡ true → (not a || b) ≡ true → b ≡ true
+        or_drain a b x y = grind arith
+
+send_legal : (w : World) (e : ℕ) (t : Bool) → e < w.config.endpoints → (w.part e).phase ≡ Open → Head (w.part e) → is_wait ((w.part e).order (Labels.head (w.part e))) ≡ false → not (Labels.lowest_label 32 (w.part e).at_itag == 32) ≡ t → LegalAll w (send_outcome e (Labels.head (w.part e)) (Labels.lowest_label 32 (w.part e).at_itag) t).acts
+send_legal w e false l ph hd o m = tt
+send_legal w e true l ph hd o m =
+    let some = not_false (Labels.lowest_label 32 (w.part e).at_itag == 32) m in
+    ((l, ((ph, hd.queued, o, label_free 32 (w.part e).at_itag some, label_low 32 (w.part e).at_itag some), tt), tt), tt)
+
+head_legal : (w : World) (e : ℕ) (o : Order) → Inv w → e < w.config.endpoints → (w.part e).phase ≡ Open → Head (w.part e) → (w.part e).order (Labels.head (w.part e)) ≡ o → LegalAll w (head_outcome (w.part e) e (Labels.head (w.part e)) o).acts
+head_legal w e (Wait cookie drain) i l ph hd f = wait_legal w e cookie drain (may_pass (w.part e) drain) i l ph hd f refl
+head_legal w e (PageOf b q) i l ph hd f = send_legal w e (not (Labels.lowest_label 32 (w.part e).at_itag == 32)) l ph hd (ap is_wait f) refl
+head_legal w e (PasidOf b) i l ph hd f = send_legal w e (not (Labels.lowest_label 32 (w.part e).at_itag == 32)) l ph hd (ap is_wait f) refl
+
+pump_at : (w : World) (e : ℕ) (b : Bool) → Inv w → e < w.config.endpoints → (w.part e).phase ≡ Open → Labels.is_queue_empty (w.part e) ≡ b → LegalAll w (pump_outcome (w.part e) e b).acts
+pump_at w e true i l ph f = tt
+pump_at w e false i l ph f = head_legal w e ((w.part e).order (Labels.head (w.part e))) i l ph (head_is (w.part e) f) refl
+
+pub pump : (w : World) (e : ℕ) → Inv w → Passed (refusals w (step.Pump e)) → LegalAll w (outcome w (step.Pump e)).acts
+pump w e i h = pump_at w e (Labels.is_queue_empty (w.part e)) i (lt_of e w.config.endpoints h.0) (opened_is (w.part e) h.1.0) refl
+
+-- Serve: the oldest page request that arrived is filed.
+record Oldest (p : Part) : Type 0 where
+  arrived : p.page_request (Labels.oldest_arrived p) ≡ Arrived
+  first : (x : ℕ) → p.page_request x ≡ Arrived → p.arrived_as (Labels.oldest_arrived p) ≤ p.arrived_as x
+
+oldest_is : (p : Part) → QueuedRequests p → Labels.is_page_queue_empty p ≡ false → Oldest p
+oldest_is p qu h =
+    let some = any_below-true p.arrivals (Labels.is_waiting p) (not_true (any_below p.arrivals (Labels.is_waiting p)) h) in
+    let low = lowest_below p.arrivals (Labels.is_waiting p) some.0 some.1 some.2 in
+    let back = qu.arrival (lowest p.arrivals (Labels.is_waiting p)) low.0 in
+    record {
+      arrived = arrived_is (p.page_request (Labels.oldest_arrived p)) low.1;
+      first = λ x a. no_earlier (lowest p.arrivals (Labels.is_waiting p)) x back.0 low.2 a (qu.arrived x a);
+    }
+  where
+    arrived_is : (s : PageRequestState) → is_arrived s ≡ true → s ≡ Arrived
+    arrived_is s k = grind arith
+
+    no_earlier : (k x : ℕ) → p.arrived_as (p.arrival k) ≡ k → ((i : ℕ) → i < k → Labels.is_waiting p i ≡ false) → p.page_request x ≡ Arrived → (p.arrived_as x < p.arrivals) × (p.arrival (p.arrived_as x) ≡ x) → p.arrived_as (p.arrival k) ≤ p.arrived_as x
+    no_earlier k x b none a place =
+        let waits : is_arrived (p.page_request (p.arrival (p.arrived_as x))) ≡ true = ap (λ z. is_arrived (p.page_request z)) place.1 ∙ ap is_arrived a in
+        grind (arith, none (p.arrived_as x))
+
+file_legal : (w : World) (e : ℕ) (t : Bool) → Inv w → e < w.config.endpoints → (w.part e).phase ≡ Open → Oldest (w.part e) → LegalAll w (file_outcome e (Labels.oldest_arrived (w.part e)) ((w.part e).group_of (Labels.oldest_arrived (w.part e))) t).acts
+file_legal w e true i l ph od = ((l, ((ph, od.arrived, od.first), tt), tt), (tt, tt))
+file_legal w e false i l ph od = ((l, ((ph, od.arrived, od.first), tt), tt), tt)
+
+serve_at : (w : World) (e : ℕ) (b : Bool) → Inv w → e < w.config.endpoints → (w.part e).phase ≡ Open → Labels.is_page_queue_empty (w.part e) ≡ b → LegalAll w (serve_outcome (w.part e) e b).acts
+serve_at w e true i l ph f = tt
+serve_at w e false i l ph f = file_legal w e ((w.part e).is_last (Labels.oldest_arrived (w.part e))) i l ph (oldest_is (w.part e) (i.parts e).queued f)
+
+pub serve : (w : World) (e : ℕ) → Inv w → Passed (refusals w (step.Serve e)) → LegalAll w (outcome w (step.Serve e)).acts
+serve w e i h = serve_at w e (Labels.is_page_queue_empty (w.part e)) i (lt_of e w.config.endpoints h.0) (opened_is (w.part e) h.1.0) refl
+
+pub reset : (w : World) (e : ℕ) → Inv w → Passed (refusals w (step.Reset e)) → LegalAll w (outcome w (step.Reset e)).acts
+reset w e i h = ((lt_of e w.config.endpoints h.0, (opened_is (w.part e) h.1.0, tt), tt), tt)
+
+-- Take: the oldest group with a job.
+-- a group that the host knows is at an endpoint
+pub group_there : (w : World) (e x : ℕ) → Inv w → x < (w.part e).groups → e < w.config.endpoints
+group_there w e x i l = (i.parts e).there ((w.part e).asker x) ((i.parts e).groups.asker_bound x l)
+
+take_at : (w : World) (x j : ℕ) → Inv w → j < w.jobs → Labels.is_queued_job w j ≡ true → LegalAll w (At (w.job j).endpoint (Own.Hand (w.job j).group x) ∷ Hold x j ∷ [])
+take_at w x j i l h =
+    let e = (w.job j).endpoint in
+    let g = (w.job j).group in
+    let job = job_is ((w.part e).host_group g) h in
+    ( (group_there w e g i (made e g (ap is_job job)), (job, tt), tt)
+    , ((l, held e g), tt)
+    )
+  where
+    job_is : (s : HostGroupState) → is_job s ≡ true → s ≡ Job
+    job_is s k = grind arith
+
+    made : (e g : ℕ) → is_job ((w.part e).host_group g) ≡ true → g < (w.part e).groups
+    made e g k = grind (arith, (i.parts e).bounds.host_group g)
+
+    held : (e g : ℕ) → (put w.part e (own (w.part e) w.messages (Own.Hand g x)) e).host_group g ≡ InHand x
+    held e g = ap (λ p. p.host_group g) (put-same w.part e (own (w.part e) w.messages (Own.Hand g x))) ∙ put-same (w.part e).host_group g (InHand x)
+
+pub take : (w : World) (x : ℕ) → Inv w → Passed (refusals w (step.Take x)) → LegalAll w (outcome w (step.Take x)).acts
+take w x i h =
+    let some = any_below-true w.jobs (Labels.is_queued_job w) (not_true (any_below w.jobs (Labels.is_queued_job w)) h.1.1.0) in
+    let low = lowest_below w.jobs (Labels.is_queued_job w) some.0 some.1 some.2 in
+    take_at w x (lowest w.jobs (Labels.is_queued_job w)) i low.0 low.1

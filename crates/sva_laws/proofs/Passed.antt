@@ -1,0 +1,97 @@
+-- What has been tested when no cause of a step holds.
+use Rattle.std.proofs.Common.{◌≡◌, ◌≢◌, ◌⊎◌, inl, inr, refl, ap, sym, subst, ◌∙◌, ℕ, zero, suc, ◌+◌, ◌-◌, ◌<◌, ◌≤◌, Bool, true, false, arith}
+use Rattle.std.specs.Prelude.{Option, Some, None, ◌&&◌, ◌||◌, not, ◌==◌, nat_le, nat_lt, if◌then◌else◌, List, [], ◌∷◌, ◌++◌, Err}
+use Rattle.std.proofs.lemmas.Bool.Decides.{nat_tests}
+use Rattle.sva_model.specs.Words.{lowest, any_below, is_some, holds_of, the}
+use Rattle.sva_model.specs.State.{Part, World}
+use Rattle.sva_model.specs.State.Phase.{Open}
+use Rattle.sva_model.specs.State.Stage.{Unbound}
+use Rattle.sva_model.specs.States.{is_open, is_unreleased, is_on}
+use Rattle.sva_model.specs.Acts.{Act, act}
+use Rattle.sva_model.specs.Refusals.{Cause}
+use Rattle.sva_model.specs.Outcomes.{Outcome}
+use Rattle.sva_model.specs.Steps.{Decision, checked, after_acts}
+use Rattle.sva_model.specs.Labels
+use Rattle.sva_laws.proofs.Words.{none_is, lowest_passes, any_below-false, not_true}
+use Rattle.sva_laws.proofs.Invariant.{PartInv, Inv}
+use Rattle.sva_laws.proofs.Keeps.{Legal, act_keeps}
+
+abbrev pub LegalAll : World → List Act → Type 0
+LegalAll w [] = Unit {0}
+LegalAll w (a ∷ acts) = Legal w a × LegalAll (act w a) acts
+
+pub acts_keep : (acts : List Act) (w : World) → LegalAll w acts → Inv w → Inv (after_acts w acts)
+acts_keep [] w l i = i
+acts_keep (a ∷ acts) w l i = acts_keep acts (act w a) l.1 (act_keeps w a l.0 i)
+
+abbrev pub Passed : List Cause → Type 0
+Passed [] = Unit {0}
+Passed (c ∷ cs) = (c.0 ≡ false) × Passed cs
+
+pub checked_legal : (w : World) (cs : List Cause) (o : Outcome) → (Passed cs → LegalAll w o.acts) → LegalAll w (checked cs o).acts
+checked_legal w [] o f = f tt
+checked_legal w (c ∷ cs) o f = go (λ e. checked_legal w cs o (λ k. f (e, k))) c.0 refl
+  where
+    go : (c.0 ≡ false → LegalAll w (checked cs o).acts) → (b : Bool) → c.0 ≡ b → LegalAll w (if b then record { reply = Err c.1; acts = [] } else checked cs o).acts
+    go rest true e = tt
+    go rest false e = rest e
+
+pub lt_of : (a b : ℕ) → not (nat_lt a b) ≡ false → a < b
+lt_of a b h = grind (arith, nat_tests)
+
+pub le_of : (a b : ℕ) → nat_lt a b ≡ false → b ≤ a
+le_of a b h = grind (arith, nat_tests)
+
+pub and_left : (a b : Bool) → (a && b) ≡ true → a ≡ true
+and_left a b h = grind arith
+
+pub and_right : (a b : Bool) → (a && b) ≡ true → b ≡ true
+and_right a b h = grind arith
+
+pub or_left : (a b : Bool) → (a || b) ≡ false → a ≡ false
+or_left a b h = grind arith
+
+pub or_right : (a b : Bool) → (a || b) ≡ false → b ≡ false
+or_right a b h = grind arith
+
+pub not_false : (b : Bool) → not b ≡ true → b ≡ false
+not_false b h = grind arith
+
+pub opened_is : (p : Part) → not (is_open p.phase) ≡ false → p.phase ≡ Open
+opened_is p h = grind arith
+
+-- the lowest free label
+pub label_low : (n : ℕ) (at : ℕ → Option ℕ) → (Labels.lowest_label n at == n) ≡ false → Labels.lowest_label n at < n
+label_low n at h = (lowest_passes n (λ t. not (is_some (at t))) h).0
+
+pub label_free : (n : ℕ) (at : ℕ → Option ℕ) → (Labels.lowest_label n at == n) ≡ false → at (Labels.lowest_label n at) ≡ None
+label_free n at h = none_is (at (Labels.lowest_label n at)) (not_false (is_some (at (Labels.lowest_label n at))) (lowest_passes n (λ t. not (is_some (at t))) h).1)
+
+-- bindings
+pub unreleased_made : (g : ℕ) (p : Part) (b : ℕ) → ((d : ℕ) → g ≤ d → p.stage d ≡ Unbound) → is_unreleased (p.stage b) ≡ true → b < g
+unreleased_made g p b bo h = grind (arith, nat_tests, bo b)
+
+pub unreleased_bound : (p : Part) (b : ℕ) → is_unreleased (p.stage b) ≡ true → p.stage b ≢ Unbound
+unreleased_bound p b h e = absurd (cc)
+
+pub not_bound_at : (w : World) (s e : ℕ) → Inv w → Labels.is_bound_at w s e ≡ false → (b : ℕ) → is_unreleased ((w.part e).stage b) ≡ true → (w.part e).space b ≢ s
+not_bound_at w s e i h b u same =
+    let lt = unreleased_made w.bindings (w.part e) b (i.parts e).bounds.stage u in
+    let f = any_below-false w.bindings (λ d. is_unreleased ((w.part e).stage d) && (w.part e).space d == s) h b lt in
+    absurd (both u same f)
+  where
+    both : is_unreleased ((w.part e).stage b) ≡ true → (w.part e).space b ≡ s → (is_unreleased ((w.part e).stage b) && (w.part e).space b == s) ≢ false
+    both u same f = grind (arith, nat_tests)
+
+pub not_bound : (w : World) (s : ℕ) → Inv w → Labels.is_bound w s ≡ false → (e b : ℕ) → is_unreleased ((w.part e).stage b) ≡ true → (w.part e).space b ≢ s
+not_bound w s i h e b u =
+    let there = (i.parts e).there b (unreleased_bound (w.part e) b u) in
+    not_bound_at w s e i (any_below-false w.config.endpoints (Labels.is_bound_at w s) h e there) b u
+
+-- a PASID that is on, or told to stop, has a bearer
+pub bearer_of : (p : Part) (t : ℕ) (test : ℕ → Bool) → holds_of test (p.at_pasid t) ≡ true → (p.at_pasid t ≡ Some (Labels.bearer p t)) × (test (Labels.bearer p t) ≡ true)
+bearer_of p t test h = go (p.at_pasid t) h
+  where
+    go : (o : Option ℕ) → holds_of test o ≡ true → (o ≡ Some (the o)) × (test (the o) ≡ true)
+    go None h = absurd (cc)
+    go (Some k) h = (refl, h)

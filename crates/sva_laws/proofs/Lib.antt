@@ -19,3 +19,4 @@ pub mod Keeps
 pub mod Passed
 pub mod LegalHost
 pub mod LegalUnit
+pub mod LegalReply

@@ -20,3 +20,5 @@ pub mod Passed
 pub mod LegalHost
 pub mod LegalUnit
 pub mod LegalReply
+pub mod LegalEndpoint
+pub mod LegalDeliver

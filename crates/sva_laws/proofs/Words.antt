@@ -85,7 +85,7 @@ all_below_cases (suc n) p = more n p (all_below n p) (p n) refl refl (all_below_
     more n p b true e h (inr (j, l, x)) = inr (j, omega arith, x)
 
 -- the lowest number that passes
-lowest_cases : (n : ℕ) (p : ℕ → Bool) → ((lowest n p ≡ n) × ((j : ℕ) → j < n → p j ≡ false)) ⊎ ((lowest n p < n) × (p (lowest n p) ≡ true) × ((j : ℕ) → j < lowest n p → p j ≡ false))
+pub lowest_cases : (n : ℕ) (p : ℕ → Bool) → ((lowest n p ≡ n) × ((j : ℕ) → j < n → p j ≡ false)) ⊎ ((lowest n p < n) × (p (lowest n p) ≡ true) × ((j : ℕ) → j < lowest n p → p j ≡ false))
 unfolding lowest
 lowest_cases zero p = inl (refl, λ j l. absurd (omega arith))
 lowest_cases (suc n) p = next n p (lowest n p) (p n) (lowest n p == n) refl refl (lowest_cases n p)

@@ -1,0 +1,5 @@
+pub mod Queue
+pub mod Job
+pub mod Groups
+pub mod Slots
+pub mod GroupCalls

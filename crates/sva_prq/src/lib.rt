@@ -1,13 +1,13 @@
-// A library with one function.
+// The host's side of page requests: the queue in which a unit's page requests wait, and the groups under which they
+// are filed until each group is answered.
 #![tactic(auto)]
 
-ghost use Rattle.std.specs.Prelude.{◌≡◌};
-ghost use Rattle.sva_prq.specs.Echo.{echo_of};
+mod group_table;
+mod jobs;
+mod laws;
+mod page_queue;
 
-// The `ensures` clause is the contract: what `echo` returns is `echo_of` of its argument, a definition
-// in `specs/Echo.antt`, which a caller's clause can cite too.
-pub fn echo(x: usize) -> usize
-    ensures { result ≡ echo_of x }
-{
-    x
-}
+pub use group_table::Groups;
+pub use jobs::{Ask, Job};
+pub use laws::{group_laws, queue_laws};
+pub use page_queue::PageQueue;

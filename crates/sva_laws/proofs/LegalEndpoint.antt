@@ -1,0 +1,256 @@
+-- What the endpoint's steps have tested.
+use Rattle.std.proofs.Common.{◌≡◌, ◌≢◌, ◌⊎◌, inl, inr, refl, ap, sym, subst, ◌∙◌, ℕ, zero, suc, ◌+◌, ◌-◌, ◌<◌, ◌≤◌, Bool, true, false, arith}
+use Rattle.std.specs.Prelude.{Option, Some, None, ◌&&◌, ◌||◌, not, ◌==◌, nat_le, nat_lt, if◌then◌else◌, List, [], ◌∷◌, ◌++◌}
+use Rattle.std.proofs.lemmas.Bool.Decides.{nat_tests}
+use Rattle.sva_step.specs.declared.steps.Step.TheVariants as step
+use Rattle.sva_model.specs.Words.{lowest, any_below, count_below, is_some, holds_of, the}
+use Rattle.sva_model.specs.State.{Part, World, PasidState, RequestState, UseState, GroupState, OrderState}
+use Rattle.sva_model.specs.State.PasidState.{Off, On, Ending}
+use Rattle.sva_model.specs.State.UseState.{Running}
+use Rattle.sva_model.specs.State.GroupState.{Unfinished}
+use Rattle.sva_model.specs.States.{is_on, is_ending, is_off, is_out, is_running, is_unfinished, is_outstanding, is_taken, uses_noted, covers}
+use Rattle.sva_model.specs.Refusals.{refusals, may_request, is_other_group, fault_refusals, finish_refusals}
+use Rattle.sva_model.specs.Outcomes.{outcome, fault_outcome}
+use Rattle.sva_model.specs.Labels
+use Rattle.sva_laws.proofs.Words.{lowest_cases, lowest_below, none_is, some_the, any_below-false, any_below-true, any_below-intro, not_true}
+use Rattle.sva_laws.proofs.Counting.{pigeons}
+use Rattle.sva_laws.proofs.Bounds.{Bounds}
+use Rattle.sva_laws.proofs.Labels.{Labels as LabelsOf}
+use Rattle.sva_laws.proofs.Groups.{Groups}
+use Rattle.sva_laws.proofs.Invariant.{PartInv, Inv}
+use Rattle.sva_laws.proofs.Passed.{Passed, LegalAll, lt_of, le_of, and_left, and_right, or_left, or_right, not_false, label_low, label_free, bearer_of}
+
+on_is : (s : PasidState) → is_on s ≡ true → s ≡ On
+on_is s h = grind arith
+
+ending_is : (s : PasidState) → is_ending s ≡ true → s ≡ Ending
+ending_is s h = grind arith
+
+started_on : (p : Part) (t : ℕ) → Labels.is_started p t ≡ true → p.pasid_state (Labels.bearer p t) ≡ On
+started_on p t h = on_is (p.pasid_state (Labels.bearer p t)) (bearer_of p t (λ b. is_on (p.pasid_state b)) h).1
+
+pub ask : (w : World) (e t q : ℕ) → Inv w → Passed (refusals w (step.Ask e t q)) → LegalAll w (outcome w (step.Ask e t q)).acts
+ask w e t q i h =
+    let p = w.part e in
+    ((lt_of e w.config.endpoints h.0, ((started_on p t (not_true (Labels.is_started p t) h.1.1.0), label_free 32 p.at_tag h.1.1.1.0, label_low 32 p.at_tag h.1.1.1.0), tt), tt), tt)
+
+-- what is cached for a PASID and page
+record Cached (p : Part) (t q : ℕ) : Type 0 where
+  held : p.held (Labels.cached p (Labels.bearer p t) q) ≡ Some (the (p.held (Labels.cached p (Labels.bearer p t) q)))
+  binding : p.request_binding (Labels.cached p (Labels.bearer p t) q) ≡ Labels.bearer p t
+
+cached_is : (p : Part) (t q : ℕ) → Labels.is_cached p t q ≡ true → Cached p t q
+cached_is p t q h =
+    let b = Labels.bearer p t in
+    let some = any_below-true p.requests (Labels.is_held_at p b q) (bearer_of p t (λ d. any_below p.requests (Labels.is_held_at p d q)) h).1 in
+    let low = lowest_below p.requests (Labels.is_held_at p b q) some.0 some.1 some.2 in
+    let r = Labels.cached p b q in
+    record {
+      held = some_the (p.held r) (first (is_some (p.held r)) (p.request_binding r == b) (p.request_page r == q) low.1);
+      binding = second (is_some (p.held r)) (p.request_binding r) b (p.request_page r == q) low.1;
+    }
+  where
+    first : (x y z : Bool) → (x && y && z) ≡ true → x ≡ true
+    first x y z h = grind arith
+
+    second : (x : Bool) (a b : ℕ) (z : Bool) → (x && a == b && z) ≡ true → a ≡ b
+    second x a b z h = grind (arith, nat_tests)
+
+pub begin : (w : World) (e t q : ℕ) (x : Bool) → Inv w → Passed (refusals w (step.BeginUse e t q x)) → LegalAll w (outcome w (step.BeginUse e t q x)).acts
+begin w e t q x i h =
+    let p = w.part e in
+    let c = cached_is p t q (not_true (Labels.is_cached p t q) h.1.1.1.0) in
+    ( ( lt_of e w.config.endpoints h.0
+      , ( ( ap p.pasid_state c.binding ∙ started_on p t (not_true (Labels.is_started p t) h.1.1.0)
+          , c.held
+          , label_free 16 p.at_slot h.1.1.1.1.1.0
+          , label_low 16 p.at_slot h.1.1.1.1.1.0
+          )
+        , tt
+        )
+      , tt
+      )
+    , tt
+    )
+
+pub end : (w : World) (e u : ℕ) → Inv w → Passed (refusals w (step.EndUse e u)) → LegalAll w (outcome w (step.EndUse e u)).acts
+end w e u i h =
+    let p = w.part e in
+    let there = some_the (p.at_slot u) (and_right (nat_lt u 16) (is_some (p.at_slot u)) (not_true (nat_lt u 16 && is_some (p.at_slot u)) h.1.0)) in
+    ((lt_of e w.config.endpoints h.0, (ap p.at_slot ((i.parts e).labels.slot_bears u (the (p.at_slot u)) there).0 ∙ there, tt), tt), tt)
+
+pub evict : (w : World) (e t q : ℕ) → Inv w → Passed (refusals w (step.Evict e t q)) → LegalAll w (outcome w (step.Evict e t q)).acts
+evict w e t q i h =
+    let p = w.part e in
+    let c = cached_is p t q (not_true (Labels.is_cached p t q) h.1.1.0) in
+    ((lt_of e w.config.endpoints h.0, ((the (p.held (Labels.cached p (Labels.bearer p t) q)), c.held), tt), tt), tt)
+
+-- where fewer than 32 page requests are outstanding, a group index is free: each group has a page request of its own
+index_free : (g : ℕ) (p : Part) → Groups p → Bounds g p → nat_le 32 (Labels.outstanding p) ≡ false → (Labels.lowest_label 32 p.at_index == 32) ≡ false
+index_free g p gr bo h = go (lowest_cases 32 (λ t. not (is_some (p.at_index t))))
+  where
+    full : ((j : ℕ) → j < 32 → not (is_some (p.at_index j)) ≡ false) → 32 ≤ Labels.outstanding p
+    full all =
+        pigeons 32 p.page_requests (λ r. is_outstanding (p.group (p.group_of r))) (λ j. p.first_request (the (p.at_index j)))
+        (λ j l. (gr.first (the (p.at_index j)) (made j l all)).0)
+        (λ j l. ap (λ z. is_outstanding (p.group z)) (gr.first (the (p.at_index j)) (made j l all)).1 ∙ (gr.index_bears j (the (p.at_index j)) (there j l all)).1)
+        (λ j k l m e. sym (gr.index_bears j (the (p.at_index j)) (there j l all)).0 ∙ ap p.index (sym (gr.first (the (p.at_index j)) (made j l all)).1 ∙ ap p.group_of e ∙ (gr.first (the (p.at_index k)) (made k m all)).1) ∙ (gr.index_bears k (the (p.at_index k)) (there k m all)).0)
+      where
+        there : (j : ℕ) → j < 32 → ((j : ℕ) → j < 32 → not (is_some (p.at_index j)) ≡ false) → p.at_index j ≡ Some (the (p.at_index j))
+        there j l all = some_the (p.at_index j) (not_true (is_some (p.at_index j)) (all j l))
+
+        made : (j : ℕ) → j < 32 → ((j : ℕ) → j < 32 → not (is_some (p.at_index j)) ≡ false) → the (p.at_index j) < p.groups
+        made j l all = outstanding_made (the (p.at_index j)) (gr.index_bears j (the (p.at_index j)) (there j l all)).1
+          where
+            outstanding_made : (x : ℕ) → is_outstanding (p.group x) ≡ true → x < p.groups
+            outstanding_made x k = grind (arith, bo.group x)
+
+    less : 32 ≤ Labels.outstanding p → nat_le 32 (Labels.outstanding p) ≢ false
+    less k f = grind (arith, nat_tests)
+
+    below : (k : ℕ) → k < 32 → (k == 32) ≡ false
+    below k l = grind (arith, nat_tests)
+
+    go : ((Labels.lowest_label 32 p.at_index ≡ 32) × ((j : ℕ) → j < 32 → not (is_some (p.at_index j)) ≡ false)) ⊎ ((Labels.lowest_label 32 p.at_index < 32) × (not (is_some (p.at_index (Labels.lowest_label 32 p.at_index))) ≡ true) × ((j : ℕ) → j < Labels.lowest_label 32 p.at_index → not (is_some (p.at_index j)) ≡ false)) → (Labels.lowest_label 32 p.at_index == 32) ≡ false
+    go (inl x) = absurd (less (full x.1) h)
+    go (inr x) = below (Labels.lowest_label 32 p.at_index) x.0
+
+credit : (p : Part) → nat_le 32 (Labels.outstanding p) ≡ false → Labels.outstanding p < 32
+credit p h = grind (arith, nat_tests)
+
+unfinished_is : (s : GroupState) → is_unfinished s ≡ true → s ≡ Unfinished
+unfinished_is s h = grind arith
+
+fault_at : (w : World) (e t q : ℕ) (r x l : Bool) (o : Option ℕ) → Inv w → e < w.config.endpoints → Passed (fault_refusals w (w.part e) t o) → LegalAll w (fault_outcome (w.part e) e t q r x l o).acts
+fault_at w e t q r x l None i b h =
+    let p = w.part e in
+    let some = index_free w.bindings p (i.parts e).groups (i.parts e).bounds h.1.0 in
+    ((b, ((started_on p t (not_true (Labels.is_started p t) h.0), label_free 32 p.at_index some, label_low 32 p.at_index some, credit p h.1.0), tt), tt), tt)
+fault_at w e t q r x l (Some k) i b h =
+    let p = w.part e in
+    let g = group_is (p.at_index k) (not_true (Labels.is_group_of p t k) h.1.1.0) in
+    ((b, ((unfinished_is (p.group (the (p.at_index k))) g.0, alive g.1 (not_true (Labels.is_started p t || Labels.is_told_to_stop p t) h.0), credit p h.1.0), tt), tt), tt)
+  where
+    parts_of : (a c : Bool) (x y : ℕ) → (a && c && x == y) ≡ true → (a ≡ true) × (x ≡ y)
+    parts_of a c x y h = grind (arith, nat_tests)
+
+    group_is : (o : Option ℕ) → holds_of (λ g. is_unfinished ((w.part e).group g) && is_some ((w.part e).at_pasid t) && (w.part e).asker g == Labels.bearer (w.part e) t) o ≡ true → (is_unfinished ((w.part e).group (the o)) ≡ true) × ((w.part e).asker (the o) ≡ Labels.bearer (w.part e) t)
+    group_is None h = absurd (cc)
+    group_is (Some g) h = parts_of (is_unfinished ((w.part e).group g)) (is_some ((w.part e).at_pasid t)) ((w.part e).asker g) (Labels.bearer (w.part e) t) h
+
+    not_off : (s : PasidState) → (s ≡ On) ⊎ (s ≡ Ending) → is_off s ≡ false
+    not_off s (inl h) = ap is_off h
+    not_off s (inr h) = ap is_off h
+
+    either : (a c : Bool) → (a || c) ≡ true → (a ≡ true) ⊎ (c ≡ true)
+    either true c h = inl refl
+    either false c h = inr h
+
+    alive : (w.part e).asker (the ((w.part e).at_index k)) ≡ Labels.bearer (w.part e) t → (Labels.is_started (w.part e) t || Labels.is_told_to_stop (w.part e) t) ≡ true → is_off ((w.part e).pasid_state ((w.part e).asker (the ((w.part e).at_index k)))) ≡ false
+    alive same h = ap (λ b. is_off ((w.part e).pasid_state b)) same ∙ go (either (Labels.is_started (w.part e) t) (Labels.is_told_to_stop (w.part e) t) h)
+      where
+        go : (Labels.is_started (w.part e) t ≡ true) ⊎ (Labels.is_told_to_stop (w.part e) t ≡ true) → is_off ((w.part e).pasid_state (Labels.bearer (w.part e) t)) ≡ false
+        go (inl k) = not_off ((w.part e).pasid_state (Labels.bearer (w.part e) t)) (inl (started_on (w.part e) t k))
+        go (inr k) = not_off ((w.part e).pasid_state (Labels.bearer (w.part e) t)) (inr (ending_is ((w.part e).pasid_state (Labels.bearer (w.part e) t)) (bearer_of (w.part e) t (λ b. is_ending ((w.part e).pasid_state b)) k).1))
+
+pub fault : (w : World) (e t q : ℕ) (r x : Bool) (o : Option ℕ) (l : Bool) → Inv w → Passed (refusals w (step.Fault e t q r x o l)) → LegalAll w (outcome w (step.Fault e t q r x o l)).acts
+fault w e t q r x o l i h = fault_at w e t q r x l o i (lt_of e w.config.endpoints h.0) h.1.1
+
+-- Finish: each named invalidation is taken, at least one is named, and no use that one noted runs on.
+finish_named : (w : World) (e vector : ℕ) → Inv w → Labels.names_none vector ≡ false → any_below 32 (λ t. Labels.is_set vector t && not (Labels.is_pending (w.part e) t)) ≡ false → (k : ℕ) × (Labels.is_named (w.part e) vector k ≡ true)
+finish_named w e vector i some pending =
+    let p = w.part e in
+    let set = any_below-true 32 (Labels.is_set vector) (not_true (any_below 32 (Labels.is_set vector)) some) in
+    let t = set.0 in
+    let there = pending_at p t (is_pending t set.1 set.2) in
+    let k = the (p.at_itag t) in
+    (k, both (is_taken (p.order_state k)) (Labels.is_set vector (p.itag k)) there.1 (ap (Labels.is_set vector) ((i.parts e).labels.itag_bears t k there.0).0 ∙ set.2))
+  where
+    is_pending : (t : ℕ) → t < 32 → Labels.is_set vector t ≡ true → Labels.is_pending (w.part e) t ≡ true
+    is_pending t l s = second (Labels.is_set vector t) (Labels.is_pending (w.part e) t) s (any_below-false 32 (λ t. Labels.is_set vector t && not (Labels.is_pending (w.part e) t)) pending t l)
+      where
+        second : (a b : Bool) → a ≡ true → (a && not b) ≡ false → b ≡ true
+        second a b x y = grind arith
+
+    pending_at : (p : Part) (t : ℕ) → Labels.is_pending p t ≡ true → (p.at_itag t ≡ Some (the (p.at_itag t))) × (is_taken (p.order_state (the (p.at_itag t))) ≡ true)
+    pending_at p t h = go (p.at_itag t) h
+      where
+        go : (o : Option ℕ) → holds_of (λ k. is_taken (p.order_state k)) o ≡ true → (o ≡ Some (the o)) × (is_taken (p.order_state (the o)) ≡ true)
+        go None h = absurd (cc)
+        go (Some k) h = (refl, h)
+
+    both : (a b : Bool) → a ≡ true → b ≡ true → (a && b) ≡ true
+    both a b x y = grind arith
+
+finish_unused : (w : World) (e vector : ℕ) → Inv w → any_below (w.part e).orders (λ k. Labels.is_named (w.part e) vector k && Labels.is_in_use w (w.part e) k) ≡ false → (k u : ℕ) → Labels.is_named (w.part e) vector k ≡ true → u < uses_noted ((w.part e).order_state k) → (w.part e).use_state u ≡ Running → covers ((w.part e).order k) ((w.part e).use_binding u) (w.mappings.page ((w.part e).use_mapping u)) ≡ false
+finish_unused w e vector i h k u nm l r =
+    let p = w.part e in
+    let made : k < p.orders = taken_made k (and_left (is_taken (p.order_state k)) (Labels.is_set vector (p.itag k)) nm) in
+    let unused : Labels.is_in_use w p k ≡ false = second (Labels.is_named p vector k) (Labels.is_in_use w p k) nm (any_below-false p.orders (λ j. Labels.is_named p vector j && Labels.is_in_use w p j) h k made) in
+    second (is_running (p.use_state u)) (covers (p.order k) (p.use_binding u) (w.mappings.page (p.use_mapping u))) (ap is_running r) (any_below-false (uses_noted (p.order_state k)) (Labels.is_noted_running w p k) unused u l)
+  where
+    taken_made : (k : ℕ) → is_taken ((w.part e).order_state k) ≡ true → k < (w.part e).orders
+    taken_made k t = grind (arith, (i.parts e).bounds.order_state k)
+
+    second : (a b : Bool) → a ≡ true → (a && b) ≡ false → b ≡ false
+    second a b x y = grind arith
+
+pub finish : (w : World) (e vector count : ℕ) → Inv w → Passed (refusals w (step.Finish e vector count)) → LegalAll w (outcome w (step.Finish e vector count)).acts
+finish w e vector count i h =
+    let p = w.part e in
+    let some = or_left (Labels.names_none vector) (any_below 32 (λ t. Labels.is_set vector t && not (Labels.is_pending p t))) h.1.0 in
+    let pending = or_right (Labels.names_none vector) (any_below 32 (λ t. Labels.is_set vector t && not (Labels.is_pending p t))) h.1.0 in
+    ( ( lt_of e w.config.endpoints h.0
+      , ( ( finish_named w e vector i some pending
+          , λ k nm. and_left (is_taken (p.order_state k)) (Labels.is_set vector (p.itag k)) nm
+          , finish_unused w e vector i h.1.1.0
+          , low count h.1.1.1.0
+          , high count h.1.1.1.0
+          )
+        , tt
+        )
+      , tt
+      )
+    , tt
+    )
+  where
+    low : (c : ℕ) → not (nat_le 1 c && nat_le c 8) ≡ false → 0 < c
+    low c h = grind (arith, nat_tests)
+
+    high : (c : ℕ) → not (nat_le 1 c && nat_le c 8) ≡ false → c ≤ 8
+    high c h = grind (arith, nat_tests)
+
+-- Quit: nothing of the PASID is unfinished, out or running.
+pub quit : (w : World) (e t : ℕ) → Inv w → Passed (refusals w (step.Quit e t)) → LegalAll w (outcome w (step.Quit e t)).acts
+quit w e t i h =
+    let p = w.part e in
+    let b = Labels.bearer p t in
+    let ending = bearer_of p t (λ d. is_ending (p.pasid_state d)) (not_true (Labels.is_told_to_stop p t) h.1.0) in
+    let busy = h.1.1.0 in
+    let groups = or_left (Labels.is_unfinished_of p b) (Labels.is_request_out_of p b) (or_left (Labels.is_unfinished_of p b || Labels.is_request_out_of p b) (Labels.is_use_of p b) busy) in
+    let requests = or_right (Labels.is_unfinished_of p b) (Labels.is_request_out_of p b) (or_left (Labels.is_unfinished_of p b || Labels.is_request_out_of p b) (Labels.is_use_of p b) busy) in
+    let uses = or_right (Labels.is_unfinished_of p b || Labels.is_request_out_of p b) (Labels.is_use_of p b) busy in
+    ( ( lt_of e w.config.endpoints h.0
+      , ( ( ending_is (p.pasid_state b) ending.1
+          , λ x u same. none (is_unfinished (p.group x)) (p.asker x) b (ap is_unfinished u) same (any_below-false p.groups (λ g. is_unfinished (p.group g) && p.asker g == b) groups x (group_made x u))
+          , λ r o same. none (is_out (p.request r)) (p.request_binding r) b o same (any_below-false p.requests (λ x. is_out (p.request x) && p.request_binding x == b) requests r (request_made r o))
+          , λ u r same. none (is_running (p.use_state u)) (p.use_binding u) b (ap is_running r) same (any_below-false p.uses (λ x. is_running (p.use_state x) && p.use_binding x == b) uses u (use_made u r))
+          )
+        , tt
+        )
+      , tt
+      )
+    , tt
+    )
+  where
+    none : (x : Bool) (a b : ℕ) → x ≡ true → a ≡ b → (x && a == b) ≡ false → ⊥
+    none x a b h e f = grind (arith, nat_tests)
+
+    group_made : (x : ℕ) → (w.part e).group x ≡ Unfinished → x < (w.part e).groups
+    group_made x u = grind (arith, (i.parts e).bounds.group x)
+
+    request_made : (r : ℕ) → is_out ((w.part e).request r) ≡ true → r < (w.part e).requests
+    request_made r o = grind (arith, (i.parts e).bounds.request r)
+
+    use_made : (u : ℕ) → (w.part e).use_state u ≡ Running → u < (w.part e).uses
+    use_made u r = grind (arith, (i.parts e).bounds.use_state u)

@@ -1,0 +1,14 @@
+-- A whole page request group, as it is handed to a worker.
+use Rattle.std.specs.Prelude.{ℕ, List}
+use Rattle.sva_msg.specs.declared.messages.PageRequest.{PageRequest}
+use Rattle.sva_prq.specs.declared.jobs.Ask.{Ask}
+
+-- what a page request asks for
+abbrev pub ask_of : PageRequest → Ask
+ask_of request = record { page = request.page; read = request.read; write = request.write }
+
+-- the binding and the group index under which the requests were filed, and what they ask for in order of filing
+pub record Job : Type 0 where
+  pub binding : ℕ
+  pub index : ℕ
+  pub asks : List Ask

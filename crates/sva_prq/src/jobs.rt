@@ -1,0 +1,59 @@
+ghost use Rattle.std.specs.Prelude.{◌≡◌, ◌≤◌, length};
+
+use arrayvec::ArrayVec;
+use std::marker::Model;
+
+/// The most page requests of one group, since an endpoint has at most 32 outstanding (this project's own profile of the
+/// Outstanding Page Request Allocation, PCI Express Base 5.0, section 10.5.2).
+pub(crate) const MOST_ASKS: usize = 32;
+
+/// What one page request of a group asks for.
+#[derive(Clone, Copy, Debug, Default, PartialEq, Eq)]
+pub struct Ask {
+    /// The number of the page, below 2^36.
+    pub page: u64,
+    /// R: the page is to be read.
+    pub read: bool,
+    /// W: the page is to be written.
+    pub write: bool,
+}
+
+/// A whole page request group, to be answered by one response (PCI Express Base 5.0, section 10.4.2).
+#[derive(Debug, Drop)]
+pub struct Job {
+    pub(crate) binding: u64,
+    pub(crate) index: u8,
+    pub(crate) asks: ArrayVec<Ask, MOST_ASKS>,
+}
+
+impl Model for Job {
+    ghost use Rattle.sva_prq.specs.Job.{Job as WholeGroup};
+
+    ghost Value = { WholeGroup };
+
+    ghost view = { λ j. record { binding = j.binding; index = j.index; asks = j.asks.items } };
+}
+
+impl Job {
+    /// The number of the binding under which the requests were filed.
+    pub fn binding(&self) -> u64
+        ensures { result ≡ self.now.binding }
+    {
+        self.binding
+    }
+
+    /// The Page Request Group Index under which the requests came.
+    pub fn index(&self) -> u8
+        ensures { result ≡ self.now.index }
+    {
+        self.index
+    }
+
+    /// What the requests ask for, in order of filing: at most 32.
+    pub fn asks(&self) -> &[Ask]
+        ensures asks { result.now ≡ self.now.asks }
+        ensures most { length result.now ≤ 32 }
+    {
+        self.asks.as_slice()
+    }
+}

@@ -1,0 +1,18 @@
+ghost use Rattle.sva_prq.specs.Queue.{IsFirstInFirstOut, NeverOverflows};
+ghost use Rattle.sva_prq.specs.GroupCalls.{JobsHoldTheirRequests, GroupsAreBounded, UnfinishedGroupsDiffer, OpenGroupsAreSeen, IndexesDiffer, OpenIsExact};
+
+/// What holds of a page request queue after every list of permitted calls.
+pub fn queue_laws()
+    ensures in_order { IsFirstInFirstOut }
+    ensures bounded { NeverOverflows }
+{}
+
+/// What holds of the open groups after every list of permitted calls.
+pub fn group_laws()
+    ensures jobs { JobsHoldTheirRequests }
+    ensures bounded { GroupsAreBounded }
+    ensures unfinished { UnfinishedGroupsDiffer }
+    ensures seen { OpenGroupsAreSeen }
+    ensures indexes { IndexesDiffer }
+    ensures exact { OpenIsExact }
+{}

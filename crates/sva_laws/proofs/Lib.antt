@@ -22,3 +22,4 @@ pub mod LegalUnit
 pub mod LegalReply
 pub mod LegalEndpoint
 pub mod LegalDeliver
+pub mod Runs

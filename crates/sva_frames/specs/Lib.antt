@@ -1,0 +1,4 @@
+pub mod Frames
+pub mod Slots
+pub mod Calls
+pub mod Laws

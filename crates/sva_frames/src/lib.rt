@@ -1,13 +1,15 @@
-// A library with one function.
+// The frames of a host: which are free, which stand in a space, and which are withheld until the units that may
+// still hold translations to them have answered.
 #![tactic(auto)]
 
-ghost use Rattle.std.specs.Prelude.{◌≡◌};
-ghost use Rattle.sva_frames.specs.Echo.{echo_of};
+mod laws;
+mod pool;
+mod slots;
+mod waits;
 
-// The `ensures` clause is the contract: what `echo` returns is `echo_of` of its argument, a definition
-// in `specs/Echo.antt`, which a caller's clause can cite too.
-pub fn echo(x: usize) -> usize
-    ensures { result ≡ echo_of x }
-{
-    x
-}
+pub use laws::frame_laws;
+pub use pool::{Counts, Frame, FramePool, Place};
+pub use waits::{Target, UNITS, Waits};
+
+#[cfg(test)]
+mod tests;

@@ -48,6 +48,7 @@ pub record Groups (p : Part) : Type 0 where
   pub asker_bound : (x : ℕ) → x < p.groups → p.stage (p.asker x) ≢ Unbound
   pub alive : (x : ℕ) → is_alive_group (p.group x) ≡ true → is_off (p.pasid_state (p.asker x)) ≡ false
   pub under : (x : ℕ) → is_filed_group (p.host_group x) ≡ true → p.filed_under x ≡ p.asker x
+  pub filed : (r : ℕ) → p.page_request r ≡ Filed → (is_filed_group (p.host_group (p.group_of r)) ≡ true) × (r < p.page_requests)
   pub open_group : (x : ℕ) → p.phase ≡ Open → is_open_group (p.host_group x) ≡ true → (is_outstanding (p.group x) ≡ true) × (is_before_invalidating (p.stage (p.filed_under x)) ≡ true)
   pub discarded : (x w : ℕ) → p.phase ≡ Open → p.host_group x ≡ InHandDiscarded w → is_active (p.stage (p.filed_under x)) ≡ false
   pub discarded_over : (x w : ℕ) → p.phase ≡ Open → p.host_group x ≡ InHandDiscarded w → is_outstanding (p.group x) ≡ false
@@ -79,6 +80,9 @@ alive_kept ms g n p o l x made old h = grind (arith, nat_tests)
 
 under_kept : (ms : Mappings) (g n : ℕ) (p : Part) (o : Own) → LegalOwn ms g p o → (x : ℕ) → ((r : ℕ) → p.page_request r ≡ Arrived → p.group_of r < p.groups) → (is_filed_group (p.host_group x) ≡ true → x < p.groups) → (is_filed_group (p.host_group x) ≡ true → p.filed_under x ≡ p.asker x) → is_filed_group ((own p n o).host_group x) ≡ true → (own p n o).filed_under x ≡ (own p n o).asker x
 under_kept ms g n p o l x ar made old h = grind (arith, nat_tests)
+
+filed_kept : (ms : Mappings) (g n : ℕ) (p : Part) (o : Own) → LegalOwn ms g p o → (r : ℕ) → (p.page_request r ≡ Arrived → r < p.page_requests) → (r < p.page_requests → p.group_of r < p.groups) → (p.page_request r ≡ Filed → (is_filed_group (p.host_group (p.group_of r)) ≡ true) × (r < p.page_requests)) → (own p n o).page_request r ≡ Filed → (is_filed_group ((own p n o).host_group ((own p n o).group_of r)) ≡ true) × (r < (own p n o).page_requests)
+filed_kept ms g n p o l r ar bo old h = grind (arith, nat_tests)
 
 responses_kept : (ms : Mappings) (g n : ℕ) (p : Part) (o : Own) → LegalOwn ms g p o → (x : ℕ) → (is_whole (p.host_group x) ≡ true → (r : ℕ) → p.group_of r ≡ x → p.page_request r ≢ Arrived) → p.responses x ≡ times_replied (p.host_group x) → (own p n o).responses x ≡ times_replied ((own p n o).host_group x)
 responses_kept ms g n p o l x wh old = grind (arith, nat_tests)
@@ -195,6 +199,7 @@ every ms g n p o l re bo bi or qu la gr =
       asker_bound = λ x h. asker_bound_kept ms g n p o l (unmarked_on p bi) x (gr.asker_bound x) h;
       alive = λ x h. alive_kept ms g n p o l x (alive_made g p bo x) (gr.alive x) h;
       under = λ x h. under_kept ms g n p o l x (λ r a. bo.group_of r (request_made g p bo r a)) (filed_made g p bo x) (gr.under x) h;
+      filed = λ r h. filed_kept ms g n p o l r (request_made g p bo r) (bo.group_of r) (gr.filed r) h;
       open_group = λ x h i. open_group_kept ms g n p o l (λ c y code k. (gr.response c y code k).1) (arrived_group p la gr) (reset_closed n p re) x (re.unfiled x) (open_made g p bo x) (gr.open_group x) h i;
       discarded = λ x w h i. discarded_kept ms g n p o l x w (discarded_bound g p bo gr x w) (whole_filed g p bo la x) (gr.discarded x w) h i;
       discarded_over = λ x w h i. discarded_over_kept ms g n p o l x w re.up re.finished (discarded_made g p bo x w) (gr.discarded_over x w) h i;

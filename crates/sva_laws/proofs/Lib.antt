@@ -23,3 +23,4 @@ pub mod LegalReply
 pub mod LegalEndpoint
 pub mod LegalDeliver
 pub mod Runs
+pub mod Agreement

@@ -103,7 +103,7 @@ pub groups_sub : (b q count cookie : ℕ) (p : Part) → Orders p → Groups p �
 groups_sub b q count cookie p or gr =
     record {
       index_bears = gr.index_bears; bears_index = gr.bears_index; index_low = gr.index_low; first = gr.first; asker_bound = gr.asker_bound; alive = gr.alive;
-      under = gr.under; open_group = gr.open_group; discarded = gr.discarded; discarded_over = gr.discarded_over; responses = gr.responses; response = gr.response;
+      under = gr.under; filed = gr.filed; open_group = gr.open_group; discarded = gr.discarded; discarded_over = gr.discarded_over; responses = gr.responses; response = gr.response;
       flight_stage = gr.flight_stage; marker_after = gr.marker_after; arrived_stage = gr.arrived_stage;
       arrived_wait = λ r w h i. grind (arith, nat_tests, gr.arrived_wait r w, or.draining (p.asker (p.group_of r)) w);
     }

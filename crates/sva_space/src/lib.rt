@@ -1,13 +1,11 @@
-// A library with one function.
+// An address space: a finite map from pages to the frames that it owns.
 #![tactic(auto)]
 
-ghost use Rattle.std.specs.Prelude.{◌≡◌};
-ghost use Rattle.sva_space.specs.Echo.{echo_of};
+mod laws;
+mod pages;
 
-// The `ensures` clause is the contract: what `echo` returns is `echo_of` of its argument, a definition
-// in `specs/Echo.antt`, which a caller's clause can cite too.
-pub fn echo(x: usize) -> usize
-    ensures { result ≡ echo_of x }
-{
-    x
-}
+pub use laws::space_laws;
+pub use pages::Space;
+
+#[cfg(test)]
+mod tests;

@@ -1,0 +1,9 @@
+ghost use Rattle.sva_space.specs.Laws.{Rising, FiniteMap, Owned, LowestFirst};
+
+/// What holds of a space after every list of permitted calls.
+pub fn space_laws()
+    ensures rising { Rising }
+    ensures finite_map { FiniteMap }
+    ensures owned { Owned }
+    ensures lowest_first { LowestFirst }
+{}

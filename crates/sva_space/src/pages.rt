@@ -1,0 +1,112 @@
+ghost use Rattle.std.specs.Prelude.{◌≡◌, ◌↔◌, [], ◌∷◌, IfSome, IfNone, IfErr, IsTrue, OnOk, None, length};
+
+use std::alloc::{AllocError, Global};
+use std::collections::BTreeMap;
+use std::marker::Model;
+use sva_frames::Frame;
+
+/// The pages of an address space, each with its frame and whether it may be written.
+///
+/// Contracts see the list of mappings (page, (frame, write)) in rising order of pages, a frame by its number. A
+/// space must be spent: emptied, and closed.
+pub struct Space {
+    pages: BTreeMap<u64, (Frame, bool)>,
+}
+
+impl Model for Space {
+    ghost use Rattle.std.specs.Prelude.{ℕ, Bool, List};
+    ghost use Rattle.sva_space.specs.Pages.{IsRising};
+
+    ghost Value = { List (ℕ × (ℕ × Bool)) };
+
+    ghost view = { λ s. s.pages.entries };
+
+    ghost invariant = { λ s. IsRising s.pages.entries };
+}
+
+impl Space {
+    ghost use Rattle.sva_space.specs.Pages.{IsRising, mapping_at};
+    ghost use Rattle.sva_space.specs.Calls.{Map, Unmap, after};
+
+    /// A space without pages.
+    pub fn new(alloc: Global) -> Space
+        ensures { result ≡ [] }
+    {
+        Space {
+            pages: BTreeMap::new(alloc),
+        }
+    }
+
+    /// Maps a page that isn't mapped. Where there is no memory it gives the frame back and changes nothing.
+    pub fn map(&mut self, page: u64, frame: Frame, write: bool) -> Result<(), (Frame, AllocError)>
+        requires { mapping_at self.old page ≡ None }
+        ensures ok { OnOk result (self.new ≡ after self.old (Map page frame write)) }
+        ensures err { IfErr result (λ failure. (self.new ≡ self.old) × (failure.0 ≡ frame)) }
+        ensures rising { IsRising self.new }
+    {
+        match self.pages.insert(page, (frame, write)) {
+            Ok(before) => {
+                let None = before else { unreachable!() };
+                Ok(())
+            }
+            Err(failure) => {
+                let (_page, (frame, _write)) = failure.value;
+                Err((frame, AllocError))
+            }
+        }
+    }
+
+    /// Takes a page out, and answers its frame and whether it could be written; `None` where it isn't mapped.
+    pub fn unmap(&mut self, page: u64) -> Option<(Frame, bool)>
+        ensures value { result ≡ mapping_at self.old page }
+        ensures after { self.new ≡ after self.old (Unmap page) }
+        ensures rising { IsRising self.new }
+    {
+        self.pages.remove(&page)
+    }
+
+    /// The number of the frame at a page, and whether it may be written.
+    pub fn find(&self, page: u64) -> Option<(u32, bool)>
+        ensures value { result ≡ mapping_at self.now page }
+        ensures rising { IsRising self.now }
+    {
+        match self.pages.get(&page) {
+            Some((frame, write)) => Some((frame.number(), *write)),
+            None => None,
+        }
+    }
+
+    /// How many pages are mapped.
+    pub fn len(&self) -> usize
+        ensures len { result ≡ length self.now }
+        ensures rising { IsRising self.now }
+    {
+        self.pages.len()
+    }
+
+    /// Whether no page is mapped.
+    pub fn is_empty(&self) -> bool
+        ensures { IsTrue result ↔ (self.now ≡ []) }
+    {
+        self.pages.is_empty()
+    }
+
+    /// Takes the lowest page out, and answers it with its frame and whether it could be written.
+    pub fn pop_first(&mut self) -> Option<(u64, Frame, bool)>
+        ensures some { IfSome result (λ first. self.old ≡ (first.0, (first.1, first.2)) ∷ self.new) }
+        ensures after { IfSome result (λ first. self.new ≡ after self.old (Unmap first.0)) }
+        ensures none { IfNone result ((self.old ≡ []) × (self.new ≡ [])) }
+        ensures rising { IsRising self.new }
+    {
+        let (page, (frame, write)) = self.pages.pop_first()?;
+        Some((page, frame, write))
+    }
+
+    /// Ends a space without pages.
+    pub fn close(self)
+        requires { self ≡ [] }
+    {
+        let Space { pages } = self;
+        pages.destroy_empty();
+    }
+}

@@ -52,8 +52,8 @@ silent_pages p b q age page first count resets h =
     not_done : Pending p b q age (Pages page first count resets) → is_done (p.order_state (first + count)) ≡ false
     not_done h = grind (arith)
 
-silent_pasid : (p : Part) (k w resets : ℕ) → is_done (p.order_state k) ≡ false → resets ≡ p.resets → answered p (Pasid k w resets) ≡ false
-silent_pasid p k w resets h e = grind (arith, nat_tests)
+silent_pasid : (p : Part) (k w resets : ℕ) (c0 : Bool) → is_done (p.order_state k) ≡ false → resets ≡ p.resets → answered p (Pasid k w resets c0) ≡ false
+silent_pasid p k w resets c0 h e = grind (arith, nat_tests)
 
 -- the PASID's invalidation of an owner of what is usable isn't done
 undone_held : (p : Part) (s : Bool) (k age : ℕ) → is_open p.phase ≡ s → (p.phase ≡ Open → blocks (p.order_state k) age ≡ true) → (is_open p.phase ≡ false → p.order_state k ≢ Done) → is_done (p.order_state k) ≡ false
@@ -63,7 +63,7 @@ undone_held p false k age e opened closed = grind (arith, nat_tests)
 silent : (p : Part) (b q age : ℕ) (v : Owed) → ((k w : ℕ) → p.stage b ≡ Invalidating k w → is_done (p.order_state k) ≡ false) → Pending p b q age v → answered p v ≡ false
 silent p b q age Nothing inv h = absurd h
 silent p b q age (Pages page first count resets) inv h = silent_pages p b q age page first count resets h
-silent p b q age (Pasid k w resets) inv h = silent_pasid p k w resets (inv k w h.1) h.0
+silent p b q age (Pasid k w resets c0) inv h = silent_pasid p k w resets c0 (inv k w h.1) h.0
 silent p b q age (AReset resets) inv h = reset_silent h.0
   where
     reset_silent : resets ≡ p.resets → answered p (AReset resets) ≡ false

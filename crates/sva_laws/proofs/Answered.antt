@@ -40,7 +40,7 @@ answered_more p q f l (Pages page first count resets) h =
     or_more (all_below (suc count) (λ j. is_done (p.order_state (first + j)))) (nat_lt resets p.resets) (all_below (suc count) (λ j. is_done (q.order_state (first + j)))) (nat_lt resets q.resets)
     (all_below-more (suc count) (λ j. is_done (p.order_state (first + j))) (λ j. is_done (q.order_state (first + j))) (λ j. f (first + j)))
     (lt_more resets p.resets q.resets l) h
-answered_more p q f l (Pasid k w resets) h =
+answered_more p q f l (Pasid k w resets c0) h =
     or_more (is_done (p.order_state k) && is_done (p.order_state w)) (nat_lt resets p.resets) (is_done (q.order_state k) && is_done (q.order_state w)) (nat_lt resets q.resets)
     (and_more (is_done (p.order_state k)) (is_done (p.order_state w)) (is_done (q.order_state k)) (is_done (q.order_state w)) (f k) (f w))
     (lt_more resets p.resets q.resets l) h

@@ -45,7 +45,7 @@ Pending p b q age (Pages page first count resets) =
     × (is_wait (p.order (first + count)) ≡ true)
     × (first + count < p.orders)
     × (((is_open p.phase ≡ false) × (p.order_state (first + count) ≡ Void)) ⊎ ((p.phase ≡ Open) × (p.order_state (first + count) ≡ Queued) × (blocks (p.order_state (order_of_page page first q)) age ≡ true)))
-Pending p b q age (Pasid k w resets) = (resets ≡ p.resets) × (p.stage b ≡ Invalidating k w)
+Pending p b q age (Pasid k w resets c0) = (resets ≡ p.resets) × (p.stage b ≡ Invalidating k w)
 
 pub record Safe (ms : Mappings) (e : ℕ) (p : Part) : Type 0 where
   pub held : (r m : ℕ) → p.held r ≡ Some m → (ms.state m ≡ Present) ⊎ Pending p (p.request_binding r) (ms.page m) p.uses (owed_of (ms.state m) e)
@@ -66,8 +66,8 @@ flying_pages ms g n p o l sent r m page first count resets b h h' over pg noted 
 reset_pending : (ms : Mappings) (g n : ℕ) (p : Part) (o : Own) → LegalOwn ms g p o → (b q age age' resets : ℕ) → ((c : ℕ) → p.message c ≢ Some ResetDone) ⊎ ((own p n o).resets ≡ p.resets) → Pending p b q age (AReset resets) → Pending (own p n o) b q age' (AReset resets)
 reset_pending ms g n p o l b q age age' resets nr pe = grind (arith, nat_tests)
 
-pasid_pending : (ms : Mappings) (g n : ℕ) (p : Part) (o : Own) → LegalOwn ms g p o → (b q age age' k w resets : ℕ) → ((c : ℕ) → p.message c ≢ Some ResetDone) ⊎ ((own p n o).resets ≡ p.resets) → (p.phase ≡ Open → p.order_state w ≢ Done) → Pending p b q age (Pasid k w resets) → Pending (own p n o) b q age' (Pasid k w resets)
-pasid_pending ms g n p o l b q age age' k w resets nr nd pe = grind (arith, nat_tests)
+pasid_pending : (ms : Mappings) (g n : ℕ) (p : Part) (o : Own) → LegalOwn ms g p o → (b q age age' k w resets : ℕ) (c0 : Bool) → ((c : ℕ) → p.message c ≢ Some ResetDone) ⊎ ((own p n o).resets ≡ p.resets) → (p.phase ≡ Open → p.order_state w ≢ Done) → Pending p b q age (Pasid k w resets c0) → Pending (own p n o) b q age' (Pasid k w resets c0)
+pasid_pending ms g n p o l b q age age' k w resets c0 nr nd pe = grind (arith, nat_tests)
 
 -- whatever is usable, no reset-done arrives
 same_resets : (p : Part) (n : ℕ) (o : Own) → Type 0
@@ -95,8 +95,8 @@ not_invalidating s k w h e = grind arith
 held_pending : (ms : Mappings) (g n : ℕ) (p : Part) (o : Own) → LegalOwn ms g p o → Resets n p → Bounds g p → Labels p → Orders p → Owners ms p → (r m : ℕ) → p.held r ≡ Some m → (own p n o).held r ≡ Some m → (v : Owed) → Pending p (p.request_binding r) (ms.page m) p.uses v → Pending (own p n o) (p.request_binding r) (ms.page m) (own p n o).uses v
 held_pending ms g n p o l re bo la or ow r m h h' Nothing pe = pe
 held_pending ms g n p o l re bo la or ow r m h h' (Pages page first count resets) pe = held_pages ms g n p o l (none_left n p re) la.sent r m page first count resets (bo.held r) h h' (ow.held_page r m h) bo.noted pe
-held_pending ms g n p o l re bo la or ow r m h h' (Pasid k w resets) pe =
-    pasid_pending ms g n p o l (p.request_binding r) (ms.page m) p.uses (own p n o).uses k w resets
+held_pending ms g n p o l re bo la or ow r m h h' (Pasid k w resets c0) pe =
+    pasid_pending ms g n p o l (p.request_binding r) (ms.page m) p.uses (own p n o).uses k w resets c0
     (inr (held_resets ms g n p o l (none_left n p re) r m h))
     (λ ph d. held_quiet ms p or ow r m k w ph pe.1 d h) pe
 held_pending ms g n p o l re bo la or ow r m h h' (AReset resets) pe =
@@ -107,8 +107,8 @@ running_pending ms g n p o l re bo la or ow u h h' Nothing pe = pe
 running_pending ms g n p o l re bo la or ow u h h' (Pages page first count resets) pe =
     running_pages ms g n p o l (none_left n p re) la.sent u page first count resets h h' (running_made g p bo u h)
     (spares ms g p o l (order_of_page page first (ms.page (p.use_mapping u))) u h) pe
-running_pending ms g n p o l re bo la or ow u h h' (Pasid k w resets) pe =
-    pasid_pending ms g n p o l (p.use_binding u) (ms.page (p.use_mapping u)) u u k w resets
+running_pending ms g n p o l re bo la or ow u h h' (Pasid k w resets c0) pe =
+    pasid_pending ms g n p o l (p.use_binding u) (ms.page (p.use_mapping u)) u u k w resets c0
     (inr (running_resets ms g n p o l (none_left n p re) u h))
     (λ ph d. running_quiet ms p or ow u k w ph pe.1 d h) pe
 running_pending ms g n p o l re bo la or ow u h h' (AReset resets) pe =
@@ -118,7 +118,7 @@ flying_pending : (ms : Mappings) (g n : ℕ) (p : Part) (o : Own) → LegalOwn m
 flying_pending ms g n p o l re bo bi la ra ow c r m h q q' Nothing pe = pe
 flying_pending ms g n p o l re bo bi la ra ow c r m h q q' (Pages page first count resets) pe =
     flying_pages ms g n p o l la.sent r m page first count resets (bo.answered c r (Some m) h) q q' (over_at n p re r) (ow.flying_page c r m h) bo.noted pe
-flying_pending ms g n p o l re bo bi la ra ow c r m h q q' (Pasid k w resets) pe =
+flying_pending ms g n p o l re bo bi la ra ow c r m h q q' (Pasid k w resets c0) pe =
     absurd (not_invalidating (p.stage (p.request_binding r)) k w (asker_stage p r bi ra q) pe.1)
 flying_pending ms g n p o l re bo bi la ra ow c r m h q q' (AReset resets) pe =
     reset_pending ms g n p o l (p.request_binding r) (ms.page m) p.uses (own p n o).uses resets (inr (flying_resets ms g n p o l r (over_at n p re r) q)) pe
@@ -161,14 +161,14 @@ IsSafe ms e p b m age = (ms.state m ≡ Present) ⊎ Pending p b (ms.page m) age
 keep_same : (p : Part) (n c x y b q age : ℕ) (v : Owed) → Pending p b q age v → Pending (own p n (Keep c x y)) b q age v
 keep_same p n c x y b q age Nothing h = h
 keep_same p n c x y b q age (Pages page first count resets) h = h
-keep_same p n c x y b q age (Pasid k w resets) h = h
+keep_same p n c x y b q age (Pasid k w resets c0) h = h
 keep_same p n c x y b q age (AReset resets) h = h
 
 -- the age of what is cached grows, and that of a use is what it was when it began
 begin_same : (p : Part) (n r m t b q : ℕ) (v : Owed) → Pending p b q p.uses v → Pending (own p n (Begin r m t)) b q p.uses v
 begin_same p n r m t b q Nothing h = h
 begin_same p n r m t b q (Pages page first count resets) h = h
-begin_same p n r m t b q (Pasid k w resets) h = h
+begin_same p n r m t b q (Pasid k w resets c0) h = h
 begin_same p n r m t b q (AReset resets) h = h
 
 kept_safe : (ms : Mappings) (g n e : ℕ) (p : Part) (o : Own) → LegalOwn ms g p o → Safe ms e p → (r m : ℕ) → keeps o r m → IsSafe ms e (own p n o) ((own p n o).request_binding r) m (own p n o).uses

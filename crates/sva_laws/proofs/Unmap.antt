@@ -1,6 +1,6 @@
 -- Unmapping: what is taken out is either used by nobody, or its endpoint owes an answer, and will strike first.
 use Rattle.std.proofs.Common.{◌≡◌, ◌≢◌, ◌⊎◌, inl, inr, refl, ap, sym, subst, ◌∙◌, ℕ, zero, suc, ◌+◌, ◌-◌, ◌<◌, ◌≤◌, Bool, true, false, arith}
-use Rattle.std.specs.Prelude.{Option, Some, None, ◌&&◌, ◌==◌, nat_le, nat_lt, if◌then◌else◌}
+use Rattle.std.specs.Prelude.{Option, Some, None, ◌&&◌, ◌==◌, not, nat_le, nat_lt, if◌then◌else◌}
 use Rattle.std.proofs.lemmas.Bool.Decides.{nat_tests}
 use Rattle.sva_model.specs.State.{Owed, MappingState, Mappings, Part, World, Stage}
 use Rattle.sva_model.specs.State.Owed.{Nothing, Pages, Pasid, AReset}
@@ -46,7 +46,7 @@ pending_submitted g b' q' count cookie p bo b q age (Pages page first n resets) 
   where
     pages_submitted : (g b' q' count cookie : ℕ) (p : Part) (b q age page first n resets : ℕ) → Pending p b q age (Pages page first n resets) → Pending (submitted p b' q' count cookie) b q age (Pages page first n resets)
     pages_submitted g b' q' count cookie p b q age page first n resets h = grind (arith, nat_tests)
-pending_submitted g b' q' count cookie p bo b q age (Pasid k w resets) h = h
+pending_submitted g b' q' count cookie p bo b q age (Pasid k w resets c0) h = h
 pending_submitted g b' q' count cookie p bo b q age (AReset resets) h = h
 
 pending_submitted_if : (g : ℕ) (s : Bool) (o : Option ℕ) (q' count cookie : ℕ) (p : Part) → Bounds g p → (b q age : ℕ) (v : Owed) → Pending p b q age v → Pending (submitted_if s p o q' count cookie) b q age v
@@ -97,7 +97,7 @@ new_pending p b q page count age cookie act lo hi =
         subst (λ y. Pending (submitted_if (is_open p.phase && y) p (Some b) page count cookie) b q age (owed_by_stage p page count s)) (sym h)
         (subst (λ v. Pending (submitted_if (is_open p.phase && true) p (Some b) page count cookie) b q age v) (sym o) (unit (is_open p.phase) refl))
 
-    not_both : (x : Bool) (k w : ℕ) → p.stage b ≡ Invalidating k w → Pending (submitted_if (x && false) p (Some b) page count cookie) b q age (Pasid k w p.resets)
+    not_both : (x : Bool) (k w : ℕ) → p.stage b ≡ Invalidating k w → Pending (submitted_if (x && false) p (Some b) page count cookie) b q age (Pasid k w p.resets (not (is_open p.phase)))
     not_both true k w h = (refl, h)
     not_both false k w h = (refl, h)
 

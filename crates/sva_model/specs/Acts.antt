@@ -95,7 +95,7 @@ abbrev pub owed_by_stage : Part → (page count : ℕ) → Stage → Owed
 owed_by_stage p q count Live = owed_by_unit p q count (is_open p.phase)
 owed_by_stage p q count (Stopping marked) = owed_by_unit p q count (is_open p.phase)
 owed_by_stage p q count (Draining wait) = owed_by_unit p q count (is_open p.phase)
-owed_by_stage p q count (Invalidating invalidation wait) = Pasid invalidation wait p.resets
+owed_by_stage p q count (Invalidating invalidation wait) = Pasid invalidation wait p.resets (not (is_open p.phase))
 owed_by_stage p q count _ = Nothing
 
 abbrev pub owed_by : Part → (page count : ℕ) → Option ℕ → Owed

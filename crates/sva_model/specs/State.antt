@@ -14,7 +14,7 @@ use Rattle.sva_step.specs.declared.limits.Config.{Config}
 pub data Owed : Type 0 where
   Nothing : Owed
   Pages : (page first count resets : ℕ) → Owed
-  Pasid : (invalidation wait resets : ℕ) → Owed
+  Pasid : (invalidation wait resets : ℕ) (in_reset : Bool) → Owed
   AReset : (resets : ℕ) → Owed
 
 pub data MappingState : Type 0 where

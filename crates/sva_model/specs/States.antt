@@ -134,7 +134,7 @@ covers (Wait cookie drain) binding page = false
 abbrev pub answered : Part → Owed → Bool
 answered p Nothing = true
 answered p (Pages page first count resets) = all_below (suc count) (λ j. is_done (p.order_state (first + j))) || nat_lt resets p.resets
-answered p (Pasid invalidation wait resets) = (is_done (p.order_state invalidation) && is_done (p.order_state wait)) || nat_lt resets p.resets
+answered p (Pasid invalidation wait resets in_reset) = (is_done (p.order_state invalidation) && is_done (p.order_state wait)) || nat_lt resets p.resets
 answered p (AReset resets) = nat_lt resets p.resets
 
 abbrev pub is_present : MappingState → Bool

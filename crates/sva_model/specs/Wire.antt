@@ -68,10 +68,10 @@ abbrev pub cookie_number : World → Order → ℕ
 cookie_number w (Wait cookie drain) = Labels.number w cookie
 cookie_number w o = 0
 
--- what is waited for at a unit that hasn't answered: a wait that was submitted, or else the end of its reset
+-- what is waited for at a unit that hasn't answered: a wait that was submitted, or the end of the reset that it was in
 abbrev pub target_of : World → Part → Owed → TargetWire
 target_of w p (Pages page first count resets) = Cookie (cookie_number w (p.order (first + count)))
-target_of w p (Pasid invalidation wait resets) = if is_open p.phase || is_done (p.order_state wait) then Cookie (cookie_number w (p.order wait)) else ResetEnd
+target_of w p (Pasid invalidation wait resets in_reset) = if in_reset then ResetEnd else Cookie (cookie_number w (p.order wait))
 target_of w p _ = ResetEnd
 
 abbrev pub target_wire : World → Part → Owed → Option TargetWire

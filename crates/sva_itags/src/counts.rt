@@ -33,7 +33,11 @@ impl Count {
         ensures zero { field ≡ 0 → result ≡ 8 }
         ensures other { field ≢ 0 → result ≡ field }
     {
-        if field == 0 { Count { count: 8 } } else { Count { count: field } }
+        if field == 0 {
+            Count { count: 8 }
+        } else {
+            Count { count: field }
+        }
     }
 
     /// The three bits of the Completion Count field, 0 to 7.

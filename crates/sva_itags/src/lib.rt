@@ -1,6 +1,9 @@
-// The invalidation tags of a unit, and the counting of completions.
+//! The invalidation tags of one unit, and the counting of the completions of each Invalidate Request.
 #![tactic(auto)]
 
 mod counts;
+mod itags;
+mod vectors;
 
 pub use counts::Count;
+pub use itags::{Itags, laws};

@@ -24,3 +24,4 @@ pub mod LegalEndpoint
 pub mod LegalDeliver
 pub mod Runs
 pub mod Agreement
+pub mod Adding

@@ -1,13 +1,8 @@
-// A library with one function.
+//! The invalidation queue of one remapping unit, which owns the unit's invalidation tags.
 #![tactic(auto)]
 
-ghost use Rattle.std.specs.Prelude.{◌≡◌};
-ghost use Rattle.sva_queue.specs.Echo.{echo_of};
+mod descriptors;
+mod units;
 
-// The `ensures` clause is the contract: what `echo` returns is `echo_of` of its argument, a definition
-// in `specs/Echo.antt`, which a caller's clause can cite too.
-pub fn echo(x: usize) -> usize
-    ensures { result ≡ echo_of x }
-{
-    x
-}
+pub use descriptors::{Descriptor, Pumped, QueueFull};
+pub use units::{Unit, laws};

@@ -1,0 +1,4 @@
+pub mod Faults
+pub mod Grammar
+pub mod Laws
+pub mod Streams

@@ -1,13 +1,22 @@
-// A library with one function.
+// Scenarios: the grammar of their text, the reader that it comes from, and the loop that writes a report.
 #![tactic(auto)]
 
-ghost use Rattle.std.specs.Prelude.{◌≡◌};
-ghost use Rattle.sva_scenario.specs.Echo.{echo_of};
+mod faults;
+mod forms;
+mod grammar;
+mod lines;
+mod parsing;
+mod reading;
+mod streams;
+mod words;
+mod writing;
 
-// The `ensures` clause is the contract: what `echo` returns is `echo_of` of its argument, a definition
-// in `specs/Echo.antt`, which a caller's clause can cite too.
-pub fn echo(x: usize) -> usize
-    ensures { result ≡ echo_of x }
-{
-    x
-}
+pub use faults::{Cause, LineFault, ParseFault};
+pub use grammar::laws;
+pub use parsing::{Scenario, parse};
+pub use reading::{MOST_KEPT, MOST_TURNS, read_all};
+pub use streams::{DriveFault, Outcome, Told};
+pub use writing::write_all;
+
+#[cfg(test)]
+mod tests;

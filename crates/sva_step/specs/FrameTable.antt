@@ -18,5 +18,5 @@ table_of-frames_of t h =
     let short : t.len ≤ length t.frames = omega arith in
     let count : length (take t.len t.frames) ≡ t.len = length-take-le t.len t.frames short in
     let whole : take t.len t.frames ++ replicate (48 - length (take t.len t.frames)) 0 ≡ t.frames =
-        rw (count, ← h.2) (take-append-drop t.len t.frames) in
+    rw (count, ← h.2) (take-append-drop t.len t.frames) in
     λ i. record { frames = whole i; len = count i }

@@ -1,1 +1,5 @@
 pub mod FrameTable
+pub mod Limits
+pub mod Refusals
+pub mod Steps
+pub mod Texts

@@ -1,7 +1,12 @@
+ghost use Rattle.std.specs.Prelude.{◌≡◌, ◌++◌, OnOk, OnErr};
+ghost use Rattle.sva_step.specs.Texts.{answer_text, frames_text, BeginsWith, TextsTellApart};
+
 use crate::frame_list::FrameList;
+use crate::pieces::{put, put_number, undo};
+use std::alloc::AllocError;
 
 /// What an accepted step answers: one variant for each text.
-#[derive(Clone, Copy, Debug)]
+#[derive(Clone, Copy, Debug, PartialEq, Eq)]
 pub enum Answer {
     /// `space S`: the new space.
     Space { space: u64 },
@@ -100,3 +105,112 @@ pub enum Answer {
     /// `reset done`: the unit is open again.
     ResetDone,
 }
+
+impl Answer {
+    /// Appends the answer's text, with no line end: words and decimal numbers with single spaces between them. Where
+    /// memory is refused, the items stay as they were.
+    pub fn write(&self, out: &mut Vec<u8>) -> Result<(), AllocError>
+        ensures ok { OnOk result (out.new.items ≡ out.old.items ++ answer_text self.now) }
+        ensures err { OnErr result (out.new.items ≡ out.old.items) }
+    {
+        let before = out.len();
+        let written = self.append(out);
+        undo(out, before, written)
+    }
+
+    // As `write`, but an `Err` leaves what was appended before it.
+    fn append(&self, out: &mut Vec<u8>) -> Result<(), AllocError>
+        ensures ok { OnOk result (out.new.items ≡ out.old.items ++ answer_text self.now) }
+        ensures err { OnErr result (BeginsWith out.new.items out.old.items) }
+    {
+        match self {
+            Answer::Space { space } => put_number(out, "space ", *space),
+            Answer::Gone => put(out, "gone"),
+            Answer::Frame { frame } => put_number(out, "frame ", u64::from(*frame)),
+            Answer::FreeFrames { frames } => put_frames(out, "free", frames),
+            Answer::WithheldFrames { frames } => put_frames(out, "withheld", frames),
+            Answer::Binding { binding, pasid } => {
+                put_number(out, "binding ", *binding)?;
+                put_number(out, " pasid ", u64::from(*pasid))
+            }
+            Answer::Stopping => put(out, "stopping"),
+            Answer::Draining => put(out, "draining"),
+            Answer::Invalidating => put(out, "invalidating"),
+            Answer::Quiet => put(out, "quiet"),
+            Answer::Released => put(out, "released"),
+            Answer::Idle => put(out, "idle"),
+            Answer::Itag { itag } => put_number(out, "itag ", u64::from(*itag)),
+            Answer::Blocked => put(out, "blocked"),
+            Answer::WaitDone => put(out, "wait done"),
+            Answer::Empty => put(out, "empty"),
+            Answer::Part => put(out, "part"),
+            Answer::Job => put(out, "job"),
+            Answer::Resetting => put(out, "resetting"),
+            Answer::JobTaken {
+                binding,
+                group,
+                pages,
+            } => put_job(out, *binding, *group, *pages),
+            Answer::Success { pages } => put_number(out, "success ", u64::from(*pages)),
+            Answer::Invalid => put(out, "invalid"),
+            Answer::Failure => put(out, "failure"),
+            Answer::Dropped => put(out, "dropped"),
+            Answer::Tag { tag } => put_number(out, "tag ", u64::from(*tag)),
+            Answer::Use { slot, frame } => {
+                put_number(out, "use ", u64::from(*slot))?;
+                put_number(out, " frame ", u64::from(*frame))
+            }
+            Answer::Ended => put(out, "ended"),
+            Answer::Dead => put(out, "dead"),
+            Answer::Evicted => put(out, "evicted"),
+            Answer::Group { group } => put_number(out, "group ", u64::from(*group)),
+            Answer::Sent { count } => put_number(out, "sent ", u64::from(*count)),
+            Answer::Marker => put(out, "marker"),
+            Answer::Free => put(out, "free"),
+            Answer::Mapped => put(out, "mapped"),
+            Answer::Withheld => put(out, "withheld"),
+            Answer::Started => put(out, "started"),
+            Answer::Reset => put(out, "reset"),
+            Answer::NoTranslation => put(out, "none"),
+            Answer::Full => put(out, "full"),
+            Answer::Held => put(out, "held"),
+            Answer::Taken => put(out, "taken"),
+            Answer::Answered => put(out, "answered"),
+            Answer::Stale => put(out, "stale"),
+            Answer::Completion => put(out, "completion"),
+            Answer::Freed { count } => put_number(out, "freed ", u64::from(*count)),
+            Answer::Queued => put(out, "queued"),
+            Answer::Marked => put(out, "marked"),
+            Answer::ResetDone => put(out, "reset done"),
+        }
+    }
+}
+
+// Appends the words and the numbers of the frames, a space before each.
+#[tactic(auto, using(crate::proofs::TextLemmas::begins_with_front))]
+fn put_frames(out: &mut Vec<u8>, words: &str, frames: &FrameList) -> Result<(), AllocError>
+    ensures ok { OnOk result (out.new.items ≡ out.old.items ++ (words.now ++ frames_text frames.now)) }
+    ensures err { OnErr result (BeginsWith out.new.items out.old.items) }
+{
+    put(out, words)?;
+    for frame in frames.as_slice() {
+        put_number(out, " ", u64::from(*frame))?;
+    }
+    Ok(())
+}
+
+// Appends the text of a job that a worker has taken.
+fn put_job(out: &mut Vec<u8>, binding: u64, group: u8, pages: u32) -> Result<(), AllocError>
+    ensures ok { OnOk result
+        (out.new.items ≡ out.old.items ++ answer_text (Answer.JobTaken binding group pages)) }
+    ensures err { OnErr result (BeginsWith out.new.items out.old.items) }
+{
+    put_number(out, "job binding ", binding)?;
+    put_number(out, " group ", u64::from(group))?;
+    put_number(out, " pages ", u64::from(pages))
+}
+
+/// A line of a report tells which answer it is, the frames of an `Unmap` being one or more, and that it is no refusal.
+pub fn texts_tell_apart()
+    ensures { TextsTellApart }
+{}

@@ -1,4 +1,7 @@
-ghost use Rattle.std.specs.Prelude.{◌≡◌, ℕ, ◌-◌, ◌<◌, ◌≤◌, List, [], ◌∷◌, ◌++◌, length, take, drop, replicate};
+ghost use Rattle.std.specs.Prelude.{◌≡◌, ℕ, ◌-◌, ◌<◌, ◌≤◌, List, [], ◌∷◌, ◌++◌, length, take, drop, replicate, ◌↔◌, IsTrue, nat_eq};
+ghost use Rattle.std.specs.Cmp.{partial_equiv_from_equiv};
+ghost use Rattle.std.specs.Cmp.Lexicographic.{pointwise};
+ghost use Rattle.std.proofs.lemmas.Cmp.{nat_list_eq_equiv};
 
 use std::marker::Model;
 
@@ -8,7 +11,7 @@ pub const MOST_PAGES: usize = 48;
 /// The frames that an `Unmap` took out of a space, in the order of their pages: a fixed table of at most 48.
 #[derive(Clone, Copy, Debug)]
 pub struct FrameList {
-    frames: [u32; 48],
+    frames: [u32; MOST_PAGES],
     len: usize,
 }
 
@@ -34,8 +37,62 @@ impl FrameList {
         ensures { result ≡ [] }
     {
         FrameList {
-            frames: [0; 48],
+            frames: [0; MOST_PAGES],
             len: 0,
         }
     }
+
+    /// Adds a frame behind the others.
+    pub fn push(&mut self, frame: u32)
+        requires { length self.old < 48 }
+        ensures { self.new ≡ self.old ++ frame ∷ [] }
+    {
+        self.frames[self.len] = frame;
+        self.len += 1;
+    }
+
+    /// How many frames there are, at most 48.
+    pub fn len(&self) -> usize
+        ensures exact { result ≡ length self.now }
+        ensures most { result ≤ 48 }
+    {
+        self.as_slice().len()
+    }
+
+    /// Tells that there are no frames.
+    pub fn is_empty(&self) -> bool
+        ensures { IsTrue result ↔ (self.now ≡ []) }
+    {
+        self.len == 0
+    }
+
+    /// The frames, in the order in which they were pushed.
+    pub fn as_slice(&self) -> &[u32]
+        ensures exact { result.now ≡ self.now }
+        ensures most { length result.now ≤ 48 }
+    {
+        &self.frames[..self.len]
+    }
+}
+
+impl Default for FrameList {
+    ghost is_default = { λ frames. frames ≡ [] };
+
+    fn default() -> Self {
+        FrameList::new()
+    }
+}
+
+impl PartialEq for FrameList {
+    ghost eq = { pointwise nat_eq };
+
+    ghost laws = { partial_equiv_from_equiv nat_list_eq_equiv };
+
+    fn eq(&self, other: &Self) -> bool {
+        self.as_slice() == other.as_slice()
+    }
+}
+
+impl Eq for FrameList {
+    ghost laws = { nat_list_eq_equiv };
 }

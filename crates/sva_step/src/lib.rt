@@ -5,11 +5,14 @@
 mod answers;
 mod frame_list;
 mod limits;
+mod pieces;
 mod refusals;
 mod steps;
+#[cfg(test)]
+mod tests;
 
-pub use answers::Answer;
-pub use frame_list::FrameList;
+pub use answers::{Answer, texts_tell_apart};
+pub use frame_list::{FrameList, MOST_PAGES};
 pub use limits::Config;
-pub use refusals::Refusal;
+pub use refusals::{Refusal, refusals_tell_apart};
 pub use steps::{Step, Verdict};

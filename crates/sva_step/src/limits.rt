@@ -1,3 +1,6 @@
+ghost use Rattle.std.specs.Prelude.{◌↔◌, IsTrue};
+ghost use Rattle.sva_step.specs.Limits.{Fits};
+
 /// How large a world is, and where its numbers begin.
 #[derive(Clone, Copy, Debug, PartialEq, Eq)]
 pub struct Config {
@@ -9,4 +12,16 @@ pub struct Config {
     pub workers: u64,
     /// The first number of spaces, of bindings, of messages and of cookies: at most 2^63.
     pub first: u64,
+}
+
+impl Config {
+    /// Tells that each count is within its limits and that the numbers begin at 2^63 or below.
+    pub fn fits(&self) -> bool
+        ensures { IsTrue result ↔ Fits self.now }
+    {
+        (1..=8).contains(&self.endpoints)
+            && (1..=4096).contains(&self.frames)
+            && (1..=4).contains(&self.workers)
+            && self.first <= 1 << 63
+    }
 }

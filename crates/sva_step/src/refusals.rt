@@ -1,3 +1,10 @@
+ghost use Rattle.std.specs.Prelude.{◌≡◌, ◌++◌, OnOk, OnErr};
+ghost use Rattle.sva_step.specs.Refusals.{number_of, name_of, refusal_text, TellApart};
+ghost use Rattle.sva_step.specs.Texts.{BeginsWith};
+
+use crate::pieces::{put, put_number, undo};
+use std::alloc::AllocError;
+
 /// Why a step was refused. A refused step changes nothing.
 #[derive(Clone, Copy, Debug, PartialEq, Eq)]
 pub enum Refusal {
@@ -80,3 +87,84 @@ pub enum Refusal {
     /// A growth of this step was refused.
     OutOfMemory,
 }
+
+impl Refusal {
+    /// The number that a report shows, 1 to 39.
+    pub fn number(self) -> u8
+        ensures { result ≡ number_of self }
+    {
+        self as u8 + 1
+    }
+
+    /// The name that a report shows.
+    pub fn name(self) -> &'static str
+        ensures { result.now ≡ name_of self }
+    {
+        match self {
+            Refusal::BadConfig => "BadConfig",
+            Refusal::NoSuchEndpoint => "NoSuchEndpoint",
+            Refusal::NoSuchSpace => "NoSuchSpace",
+            Refusal::TooManySpaces => "TooManySpaces",
+            Refusal::PageRange => "PageRange",
+            Refusal::Mapped => "Mapped",
+            Refusal::NotMapped => "NotMapped",
+            Refusal::NoFrame => "NoFrame",
+            Refusal::SpaceFull => "SpaceFull",
+            Refusal::AlreadyBound => "AlreadyBound",
+            Refusal::NoPasid => "NoPasid",
+            Refusal::StillBound => "StillBound",
+            Refusal::NoSuchBinding => "NoSuchBinding",
+            Refusal::NotLive => "NotLive",
+            Refusal::NotYet => "NotYet",
+            Refusal::QueueFull => "QueueFull",
+            Refusal::Resetting => "Resetting",
+            Refusal::NotStarted => "NotStarted",
+            Refusal::NoTag => "NoTag",
+            Refusal::NotHeld => "NotHeld",
+            Refusal::ReadOnly => "ReadOnly",
+            Refusal::NoUseSlot => "NoUseSlot",
+            Refusal::NoSuchUse => "NoSuchUse",
+            Refusal::NoCredit => "NoCredit",
+            Refusal::NoSuchGroup => "NoSuchGroup",
+            Refusal::PriDisabled => "PriDisabled",
+            Refusal::NotPending => "NotPending",
+            Refusal::InUse => "InUse",
+            Refusal::BadCount => "BadCount",
+            Refusal::NotStopping => "NotStopping",
+            Refusal::Busy => "Busy",
+            Refusal::NoSuchMessage => "NoSuchMessage",
+            Refusal::Overtakes => "Overtakes",
+            Refusal::NoSuchWorker => "NoSuchWorker",
+            Refusal::HandsFull => "HandsFull",
+            Refusal::NoJob => "NoJob",
+            Refusal::BadVerdict => "BadVerdict",
+            Refusal::NumbersSpent => "NumbersSpent",
+            Refusal::OutOfMemory => "OutOfMemory",
+        }
+    }
+
+    /// Appends `refused N Name`, with no line end. Where memory is refused, the items stay as they were.
+    pub fn write(&self, out: &mut Vec<u8>) -> Result<(), AllocError>
+        ensures ok { OnOk result (out.new.items ≡ out.old.items ++ refusal_text self.now) }
+        ensures err { OnErr result (out.new.items ≡ out.old.items) }
+    {
+        let before = out.len();
+        let written = self.append(out);
+        undo(out, before, written)
+    }
+
+    // As `write`, but an `Err` leaves what was appended before it.
+    fn append(&self, out: &mut Vec<u8>) -> Result<(), AllocError>
+        ensures ok { OnOk result (out.new.items ≡ out.old.items ++ refusal_text self.now) }
+        ensures err { OnErr result (BeginsWith out.new.items out.old.items) }
+    {
+        put_number(out, "refused ", u64::from(self.number()))?;
+        put(out, " ")?;
+        put(out, self.name())
+    }
+}
+
+/// The numbers are 1 to 39, and no two refusals have one number or one name.
+pub fn refusals_tell_apart()
+    ensures { TellApart }
+{}

@@ -1,0 +1,3 @@
+pub mod IdleTags
+pub mod InOrder
+pub mod Waits

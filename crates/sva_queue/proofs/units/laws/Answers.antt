@@ -1,0 +1,15 @@
+use Rattle.sva_queue.proofs.InOrder.{always_fits, first_in_first_out, tags_by_calls}
+use Rattle.sva_queue.proofs.Waits.{done_behind}
+use Rattle.sva_queue.proofs.units.laws.Goals as goal
+
+pub returns-clause-fits : goal.returns-clause-fits
+returns-clause-fits c = always_fits
+
+pub returns-clause-order : goal.returns-clause-order
+returns-clause-order c = first_in_first_out
+
+pub returns-clause-waits : goal.returns-clause-waits
+returns-clause-waits c = done_behind
+
+pub returns-clause-tags : goal.returns-clause-tags
+returns-clause-tags c = tags_by_calls

@@ -1,0 +1,81 @@
+-- The invalidation queue of a remapping unit (Intel VT-d, "Queued Invalidation Interface"), with the tags of the
+-- Invalidate Requests that it sent.
+use Rattle.std.specs.Prelude.{ℕ, ◌+◌, ◌-◌, ◌&&◌, ◌||◌, not, Bool, true, false, Option, Some, None, List, [], ◌∷◌, ◌++◌, length, drop, is_none, nat_le, if◌then◌else◌}
+use Rattle.std.specs.List.{list_all}
+use Rattle.sva_itags.specs.Tags.{all_free, lowest_free, taken, completed}
+use Rattle.sva_itags.specs.declared.itags.Busy.{Busy}
+use Rattle.sva_queue.specs.declared.descriptors.Descriptor.{Descriptor}
+use Rattle.sva_queue.specs.declared.descriptors.Descriptor.TheVariants.{Page, Pasid, Wait}
+use Rattle.sva_queue.specs.declared.descriptors.Pumped.{Pumped}
+use Rattle.sva_queue.specs.declared.descriptors.Pumped.TheVariants.{Issued, Done, Blocked, Idle}
+
+-- the descriptors in order of submission, whether the unit is open (else it is in reset), and its tags
+pub record Queue : Type 0 where
+  pub descriptors : List Descriptor
+  pub is_open : Bool
+  pub tags : List (Option Busy)
+
+-- an open unit: an empty queue, and every tag is free
+abbrev pub empty : Queue
+empty = record { descriptors = []; is_open = true; tags = all_free }
+
+-- how many descriptors fit in beside those that are queued
+abbrev pub room_of : Queue → ℕ
+room_of queue = 64 - length queue.descriptors
+
+-- the queue after a submission: all of it where it fits, else nothing
+abbrev pub submitted : List Descriptor → Queue → Queue
+submitted more queue =
+    if nat_le (length queue.descriptors + length more) 64 then record queue { descriptors = queue.descriptors ++ more }
+    else queue
+
+-- whether no tag is busy
+abbrev pub is_idle : List (Option Busy) → Bool
+is_idle tags = list_all is_none tags
+
+-- whether a wait at the head is complete: no tag is busy and, with the drain flag, the page request queue is empty
+abbrev pub is_complete : Queue → Bool → Bool → Bool
+is_complete queue prq_empty drain = is_idle queue.tags && (not drain || prq_empty)
+
+-- what a free tag, or none, makes of an invalidation at the head
+abbrev pub issued : Option ℕ → Pumped
+issued (Some tag) = Issued tag
+issued None = Blocked
+
+-- what the unit answers to a descriptor at the head
+abbrev pub answer_to : Queue → Bool → Descriptor → Pumped
+answer_to queue prq_empty (Page pasid page) = issued (lowest_free queue.tags)
+answer_to queue prq_empty (Pasid pasid) = issued (lowest_free queue.tags)
+answer_to queue prq_empty (Wait cookie drain) = if is_complete queue prq_empty drain then Done cookie else Blocked
+
+-- what the unit answers where these descriptors are queued
+abbrev pub answer_at : Queue → Bool → List Descriptor → Pumped
+answer_at queue prq_empty [] = Idle
+answer_at queue prq_empty (head ∷ rest) = answer_to queue prq_empty head
+
+-- what `pump` answers
+abbrev pub next_of : Queue → Bool → Pumped
+next_of queue prq_empty = answer_at queue prq_empty queue.descriptors
+
+-- the queue once `pump` has given this answer: the head is taken off, and an invalidation has the lowest free tag
+abbrev pub after_answer : Pumped → Queue → Queue
+after_answer (Issued tag) queue = record queue { descriptors = drop 1 queue.descriptors; tags = taken queue.tags }
+after_answer (Done cookie) queue = record queue { descriptors = drop 1 queue.descriptors }
+after_answer Blocked queue = queue
+after_answer Idle queue = queue
+
+-- the queue after `pump`
+abbrev pub pumped : Bool → Queue → Queue
+pumped prq_empty queue = after_answer (next_of queue prq_empty) queue
+
+-- the queue after a completion with this vector and count
+abbrev pub with_completion : ℕ → ℕ → Queue → Queue
+with_completion vector count queue = record queue { tags = completed vector count queue.tags }
+
+-- a reset begins: the queue is emptied, and the busy tags stay busy
+abbrev pub reset_begun : Queue → Queue
+reset_begun queue = record queue { descriptors = []; is_open = false }
+
+-- a reset ends: every tag is free
+abbrev pub reset_ended : Queue → Queue
+reset_ended queue = record queue { is_open = true; tags = all_free }

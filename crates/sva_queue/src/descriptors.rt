@@ -1,0 +1,55 @@
+//! What is put into an invalidation queue, and what comes of it.
+
+use std::error::Error;
+use std::fmt;
+
+/// What the host asks of a unit (Intel VT-d, "Queued Invalidation Interface").
+#[derive(Clone, Copy, Debug, PartialEq, Eq)]
+pub enum Descriptor {
+    /// Invalidate one page, a page number below 2^36, of a PASID.
+    Page { pasid: u32, page: u64 },
+    /// Invalidate all pages of a PASID.
+    Pasid { pasid: u32 },
+    /// Wait for all invalidations ahead of it and, with `drain`, until the page request queue is empty.
+    Wait { cookie: u64, drain: bool },
+}
+
+/// A wait that nothing asked for: what the unused places of a table hold.
+impl Default for Descriptor {
+    ghost use Rattle.std.specs.Prelude.{◌≡◌, false};
+    ghost use Rattle.sva_queue.specs.declared.descriptors.Descriptor.TheVariants.{Wait};
+
+    ghost is_default = { λ descriptor. descriptor ≡ Wait 0 false };
+
+    fn default() -> Self {
+        Descriptor::Wait {
+            cookie: 0,
+            drain: false,
+        }
+    }
+}
+
+/// What a unit has done with the head of its queue.
+#[derive(Clone, Copy, Debug, PartialEq, Eq)]
+pub enum Pumped {
+    /// An invalidation was taken off; an Invalidate Request with this tag is to be sent.
+    Issued(u8),
+    /// The wait with this cookie was taken off: all that was ahead of it is complete.
+    Done(u64),
+    /// The head has to stay: no tag is free for an invalidation, or a wait isn't complete.
+    Blocked,
+    /// The queue is empty.
+    Idle,
+}
+
+/// The descriptors don't fit into the queue.
+#[derive(Clone, Copy, Debug, PartialEq, Eq)]
+pub struct QueueFull;
+
+impl fmt::Display for QueueFull {
+    fn fmt<W: fmt::Write>(&self, f: &mut fmt::Formatter<W>) -> fmt::Result {
+        f.write_str("the invalidation queue is full")
+    }
+}
+
+impl Error for QueueFull {}

@@ -1,0 +1,277 @@
+//! A unit: its queue and its tags.
+ghost use Rattle.std.specs.Prelude.{◌≡◌, ℕ, ◌+◌, ◌≤◌, ◌↔◌, Bool, length, IsOk, OnOk, OnErr, slice_get, ◌++◌};
+ghost use Rattle.sva_itags.specs.Tags.{busy_vector, freed_vector};
+ghost use Rattle.sva_queue.specs.Calls.{AlwaysFits, FirstInFirstOut, DoneBehind, TagsByCalls};
+
+use crate::descriptors::{Descriptor, Pumped, QueueFull};
+use arrayvec::ArrayVec;
+use std::marker::Model;
+use sva_itags::{Count, Itags};
+
+/// How many descriptors a queue holds.
+const PLACES: usize = 64;
+
+/// The invalidation queue of one remapping unit and the tags of the Invalidate Requests that it sent. Descriptors leave
+/// the queue in the order of their submission, and a wait only where no tag is busy. No call takes memory.
+#[derive(Debug, Drop)]
+pub struct Unit {
+    queue: ArrayVec<Descriptor, PLACES>,
+    tags: Itags,
+    is_open: bool,
+}
+
+impl Model for Unit {
+    ghost use Rattle.sva_queue.specs.Queue.{Queue};
+
+    ghost Value = { Queue };
+
+    ghost view = { λ u. record { descriptors = u.queue.items; is_open = u.is_open; tags = u.tags } };
+}
+
+impl Default for Unit {
+    ghost use Rattle.sva_queue.specs.Queue.{empty};
+
+    ghost is_default = { λ unit. unit ≡ empty };
+
+    fn default() -> Self {
+        Unit::new()
+    }
+}
+
+impl Unit {
+    ghost use Rattle.sva_queue.specs.Queue.{empty, room_of, submitted, is_idle, is_complete, next_of, pumped, with_completion, reset_begun, reset_ended};
+    ghost use Rattle.sva_queue.specs.Calls.{IsWaitDone};
+
+    /// An open unit with an empty queue; all its tags are free.
+    pub fn new() -> Self
+        ensures { result ≡ empty }
+    {
+        Unit {
+            queue: ArrayVec::new(),
+            tags: Itags::new(),
+            is_open: true,
+        }
+    }
+
+    /// Puts all of the descriptors at the end of the queue, in their order; or none, where they don't fit into its 64
+    /// places.
+    pub fn submit(&mut self, descriptors: &[Descriptor]) -> Result<(), QueueFull>
+        ensures fits { IsOk result ↔ (length self.old.descriptors + length descriptors.now ≤ 64) }
+        ensures ok { OnOk result (self.new ≡ record self.old { descriptors = self.old.descriptors ++ descriptors.now }) }
+        ensures err { OnErr result (self.new ≡ self.old) }
+        ensures queue { self.new ≡ submitted descriptors.now self.old }
+    {
+        match self.queue.try_extend_from_slice(descriptors) {
+            Ok(()) => Ok(()),
+            Err(_) => Err(QueueFull),
+        }
+    }
+
+    /// How many descriptors fit into the queue beside those that are in it, 0 to 64.
+    pub fn room(&self) -> usize
+        ensures room { result ≡ room_of self.now }
+        ensures whole { result + length self.now.descriptors ≡ 64 }
+    {
+        self.queue.remaining_capacity()
+    }
+
+    /// The descriptor that is next, if the queue isn't empty.
+    pub fn head(&self) -> Option<Descriptor>
+        ensures { result ≡ slice_get self.now.descriptors 0 }
+    {
+        self.queue.first().copied()
+    }
+
+    /// Whether the unit is open, and not in reset.
+    pub fn is_open(&self) -> bool
+        ensures { result ≡ self.now.is_open }
+    {
+        self.is_open
+    }
+
+    fn is_idle(&self) -> bool
+        ensures { result ≡ is_idle self.now.tags }
+    {
+        self.busy() == 0
+    }
+
+    /// Whether a wait at the head is complete.
+    fn is_complete(&self, prq_empty: bool, drain: bool) -> bool
+        ensures { result ≡ is_complete self.now prq_empty drain }
+    {
+        self.is_idle() && (!drain || prq_empty)
+    }
+
+    /// What `pump` would answer; nothing changes.
+    pub fn next(&self, prq_empty: bool) -> Pumped
+        ensures { result ≡ next_of self.now prq_empty }
+    {
+        match self.head() {
+            None => Pumped::Idle,
+            Some(Descriptor::Wait { cookie, drain }) => {
+                if self.is_complete(prq_empty, drain) {
+                    Pumped::Done(cookie)
+                } else {
+                    Pumped::Blocked
+                }
+            }
+            Some(Descriptor::Page { .. } | Descriptor::Pasid { .. }) => {
+                match self.tags.lowest_free() {
+                    Some(tag) => Pumped::Issued(tag),
+                    None => Pumped::Blocked,
+                }
+            }
+        }
+    }
+
+    /// Takes the head off where it can go: an invalidation takes the lowest free tag, a wait goes where no tag is busy
+    /// and, with its drain flag, `prq_empty` says that the unit's page request queue is empty.
+    pub fn pump(&mut self, prq_empty: bool) -> Pumped
+        ensures answer { result ≡ next_of self.old prq_empty }
+        ensures done { (cookie : ℕ) → (result ≡ Pumped.Done cookie) ↔ IsWaitDone self.old prq_empty cookie }
+        ensures queue { self.new ≡ pumped prq_empty self.old }
+    {
+        let answer = self.next(prq_empty);
+        match answer {
+            Pumped::Issued(_) => {
+                let _invalidation = self.queue.pop_at(0);
+                let _tag = self.tags.take();
+            }
+            Pumped::Done(_) => {
+                let _wait = self.queue.pop_at(0);
+            }
+            Pumped::Blocked | Pumped::Idle => {}
+        }
+        answer
+    }
+
+    /// A completion has arrived that names the tags of `vector` and bears `count`. Gives the vector of the tags that it
+    /// completes; they are free.
+    pub fn arrived(&mut self, vector: u32, count: Count) -> u32
+        ensures freed { result ≡ freed_vector vector count self.old.tags }
+        ensures queue { self.new ≡ with_completion vector count self.old }
+    {
+        self.tags.arrived(vector, count)
+    }
+
+    /// The vector of the busy tags.
+    pub fn busy(&self) -> u32
+        ensures { result ≡ busy_vector self.now.tags }
+    {
+        self.tags.busy()
+    }
+
+    /// A reset of the function begins: the queue is emptied, and the busy tags stay busy.
+    pub fn begin_reset(&mut self)
+        ensures { self.new ≡ reset_begun self.old }
+    {
+        self.queue.clear();
+        self.is_open = false;
+    }
+
+    /// The reset has ended: all tags are free, and the unit is open.
+    pub fn end_reset(&mut self)
+        ensures { self.new ≡ reset_ended self.old }
+    {
+        self.tags.clear();
+        self.is_open = true;
+    }
+}
+
+/// What holds after every list of calls: at most 64 descriptors are queued; they leave in the order of their submission;
+/// where a wait is done, each invalidation ahead of it was issued and its tag freed since, or a reset took it out; and
+/// nothing but completions and the end of a reset frees a tag.
+pub fn laws()
+    ensures fits { AlwaysFits }
+    ensures order { FirstInFirstOut }
+    ensures waits { DoneBehind }
+    ensures tags { TagsByCalls }
+{}
+
+#[cfg(test)]
+mod tests {
+    use super::*;
+    use std::test::Fail;
+
+    #[test]
+    fn holds_64_descriptors(rt: HostRuntime) {
+        let mut unit = Unit::new();
+        let pages = [Descriptor::Page { pasid: 1, page: 16 }; 63];
+        assert_eq!(rt; unit.submit(&pages), Ok(()));
+        let two = [Descriptor::Pasid { pasid: 1 }; 2];
+        assert_eq!(rt; unit.submit(&two), Err(QueueFull));
+        assert_eq!(rt; unit.room(), 1);
+        assert_eq!(rt; unit.submit(&two[1..]), Ok(()));
+        assert_eq!(rt; unit.submit(&two[1..]), Err(QueueFull));
+        assert_eq!(rt; unit.room(), 0);
+        assert_eq!(rt; unit.head(), Some(pages[0]));
+        assert_eq!(rt; unit.pump(true), Pumped::Issued(0));
+        assert_eq!(rt; unit.submit(&two[1..]), Ok(()));
+    }
+
+    #[test]
+    fn waits_for_tag_and_drain(rt: HostRuntime) -> Result<(), Fail> {
+        let mut unit = Unit::default();
+        unit.submit(&[
+            Descriptor::Page { pasid: 1, page: 16 },
+            Descriptor::Wait {
+                cookie: 7,
+                drain: true,
+            },
+        ])?;
+        assert_eq!(rt; unit.pump(false), Pumped::Issued(0));
+        assert_eq!(rt; unit.pump(false), Pumped::Blocked);
+        assert_eq!(rt; unit.arrived(1, Count::new(1)), 1);
+        assert_eq!(rt; unit.pump(false), Pumped::Blocked);
+        assert_eq!(rt; unit.pump(true), Pumped::Done(7));
+        assert_eq!(rt; unit.pump(true), Pumped::Idle);
+        let text = format!(in rt.alloc(); "{QueueFull}")?;
+        assert_eq!(rt; text.as_str(), "the invalidation queue is full");
+        Ok(())
+    }
+
+    #[test]
+    fn goes_in_order_until_a_reset(rt: HostRuntime) -> Result<(), Fail> {
+        let mut unit = Unit::new();
+        let plain = Descriptor::Wait {
+            cookie: 0,
+            drain: false,
+        };
+        let draining = Descriptor::Wait {
+            cookie: 1,
+            drain: true,
+        };
+        let all = Descriptor::Pasid { pasid: 1 };
+        let page = Descriptor::Page { pasid: 1, page: 16 };
+        let other = Descriptor::Page { pasid: 1, page: 17 };
+        unit.submit(&[page, other, plain])?;
+        unit.submit(&[all, draining])?;
+        assert_eq!(rt; unit.next(false), Pumped::Issued(0));
+        assert_eq!(rt; unit.pump(false), Pumped::Issued(0));
+        assert_eq!(rt; unit.head(), Some(other));
+        assert_eq!(rt; unit.pump(false), Pumped::Issued(1));
+        assert_eq!(rt; unit.pump(true), Pumped::Blocked);
+        // Both tags wait for two; tag 0 has its second, tag 1 its first.
+        assert_eq!(rt; unit.arrived(0b01, Count::new(2)), 0);
+        assert_eq!(rt; unit.arrived(0b11, Count::new(2)), 0b01);
+        assert_eq!(rt; unit.busy(), 0b10);
+        assert_eq!(rt; unit.pump(true), Pumped::Blocked);
+        assert_eq!(rt; unit.arrived(0b10, Count::new(2)), 0b10);
+        assert_eq!(rt; unit.pump(false), Pumped::Done(0));
+        assert_eq!(rt; unit.pump(false), Pumped::Issued(0));
+        assert_eq!(rt; unit.head(), Some(draining));
+        assert_eq!(rt; unit.pump(true), Pumped::Blocked);
+        unit.begin_reset();
+        assert!(rt; !unit.is_open());
+        assert_eq!(rt; unit.head(), None);
+        assert_eq!(rt; unit.busy(), 0b01);
+        assert_eq!(rt; unit.pump(true), Pumped::Idle);
+        unit.end_reset();
+        assert!(rt; unit.is_open());
+        assert_eq!(rt; unit.busy(), 0);
+        unit.submit(&[plain])?;
+        assert_eq!(rt; unit.pump(false), Pumped::Done(0));
+        assert_eq!(rt; unit.room(), 64);
+        Ok(())
+    }
+}

@@ -1,0 +1,5 @@
+pub mod LineLemmas
+pub mod WordLemmas
+pub mod StepLemmas
+pub mod StreamLemmas
+pub mod LawLemmas

@@ -1,0 +1,98 @@
+-- The number and the name of each refusal, and its text.
+use Rattle.std.specs.Prelude.{◌≡◌, ℕ, ◌≤◌, List, ◌++◌, codes, decimal}
+use Rattle.sva_step.specs.declared.refusals.Refusal.{Refusal}
+use Rattle.sva_step.specs.declared.refusals.Refusal.TheVariants.{BadConfig, NoSuchEndpoint, NoSuchSpace, TooManySpaces, PageRange, Mapped, NotMapped, NoFrame, SpaceFull, AlreadyBound, NoPasid, StillBound, NoSuchBinding, NotLive, NotYet, QueueFull, Resetting, NotStarted, NoTag, NotHeld, ReadOnly, NoUseSlot, NoSuchUse, NoCredit, NoSuchGroup, PriDisabled, NotPending, InUse, BadCount, NotStopping, Busy, NoSuchMessage, Overtakes, NoSuchWorker, HandsFull, NoJob, BadVerdict, NumbersSpent, OutOfMemory}
+
+-- the numbers are this project's own
+abbrev pub number_of : Refusal → ℕ
+number_of BadConfig = 1
+number_of NoSuchEndpoint = 2
+number_of NoSuchSpace = 3
+number_of TooManySpaces = 4
+number_of PageRange = 5
+number_of Mapped = 6
+number_of NotMapped = 7
+number_of NoFrame = 8
+number_of SpaceFull = 9
+number_of AlreadyBound = 10
+number_of NoPasid = 11
+number_of StillBound = 12
+number_of NoSuchBinding = 13
+number_of NotLive = 14
+number_of NotYet = 15
+number_of QueueFull = 16
+number_of Resetting = 17
+number_of NotStarted = 18
+number_of NoTag = 19
+number_of NotHeld = 20
+number_of ReadOnly = 21
+number_of NoUseSlot = 22
+number_of NoSuchUse = 23
+number_of NoCredit = 24
+number_of NoSuchGroup = 25
+number_of PriDisabled = 26
+number_of NotPending = 27
+number_of InUse = 28
+number_of BadCount = 29
+number_of NotStopping = 30
+number_of Busy = 31
+number_of NoSuchMessage = 32
+number_of Overtakes = 33
+number_of NoSuchWorker = 34
+number_of HandsFull = 35
+number_of NoJob = 36
+number_of BadVerdict = 37
+number_of NumbersSpent = 38
+number_of OutOfMemory = 39
+
+abbrev pub name_of : Refusal → List ℕ
+name_of BadConfig = codes "BadConfig"
+name_of NoSuchEndpoint = codes "NoSuchEndpoint"
+name_of NoSuchSpace = codes "NoSuchSpace"
+name_of TooManySpaces = codes "TooManySpaces"
+name_of PageRange = codes "PageRange"
+name_of Mapped = codes "Mapped"
+name_of NotMapped = codes "NotMapped"
+name_of NoFrame = codes "NoFrame"
+name_of SpaceFull = codes "SpaceFull"
+name_of AlreadyBound = codes "AlreadyBound"
+name_of NoPasid = codes "NoPasid"
+name_of StillBound = codes "StillBound"
+name_of NoSuchBinding = codes "NoSuchBinding"
+name_of NotLive = codes "NotLive"
+name_of NotYet = codes "NotYet"
+name_of QueueFull = codes "QueueFull"
+name_of Resetting = codes "Resetting"
+name_of NotStarted = codes "NotStarted"
+name_of NoTag = codes "NoTag"
+name_of NotHeld = codes "NotHeld"
+name_of ReadOnly = codes "ReadOnly"
+name_of NoUseSlot = codes "NoUseSlot"
+name_of NoSuchUse = codes "NoSuchUse"
+name_of NoCredit = codes "NoCredit"
+name_of NoSuchGroup = codes "NoSuchGroup"
+name_of PriDisabled = codes "PriDisabled"
+name_of NotPending = codes "NotPending"
+name_of InUse = codes "InUse"
+name_of BadCount = codes "BadCount"
+name_of NotStopping = codes "NotStopping"
+name_of Busy = codes "Busy"
+name_of NoSuchMessage = codes "NoSuchMessage"
+name_of Overtakes = codes "Overtakes"
+name_of NoSuchWorker = codes "NoSuchWorker"
+name_of HandsFull = codes "HandsFull"
+name_of NoJob = codes "NoJob"
+name_of BadVerdict = codes "BadVerdict"
+name_of NumbersSpent = codes "NumbersSpent"
+name_of OutOfMemory = codes "OutOfMemory"
+
+-- `refused N Name`
+abbrev pub refusal_text : Refusal → List ℕ
+refusal_text refusal = codes "refused " ++ decimal (number_of refusal) ++ codes " " ++ name_of refusal
+
+-- the numbers are 1 to 39, and no two refusals have one number or one name
+pub record TellApart : Type 0 where
+  pub from_one : (refusal : Refusal) → 1 ≤ number_of refusal
+  pub to_last : (refusal : Refusal) → number_of refusal ≤ 39
+  pub numbers : (a b : Refusal) → number_of a ≡ number_of b → a ≡ b
+  pub names : (a b : Refusal) → name_of a ≡ name_of b → a ≡ b

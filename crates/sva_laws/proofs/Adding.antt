@@ -7,7 +7,7 @@ use Rattle.sva_step.specs.declared.steps.Step.TheVariants as step
 use Rattle.sva_step.specs.declared.steps.Verdict.{Verdict}
 use Rattle.sva_model.specs.Words.{put, the, lowest}
 use Rattle.sva_model.specs.Message.{Code}
-use Rattle.sva_model.specs.State.{Owed, Part, World, Stage, Order, About, RequestState}
+use Rattle.sva_model.specs.State.{Owed, MappingState, Part, World, Stage, Order, About, RequestState}
 use Rattle.sva_model.specs.State.MappingState.{Unmade, Present, Gone}
 use Rattle.sva_model.specs.State.Stage.{Unbound, Live, Stopping, Draining, Invalidating, Quiet, Lost, Released}
 use Rattle.sva_model.specs.State.Order.{PageOf, PasidOf, Wait}
@@ -40,6 +40,7 @@ pub record Adds (w v : World) : Type 0 where
   pub gone_back : (m : ℕ) (owed : ℕ → Owed) → v.mappings.state m ≡ Gone owed → w.mappings.state m ≡ Gone owed
   pub gone_on : (m : ℕ) (owed : ℕ → Owed) → w.mappings.state m ≡ Gone owed → v.mappings.state m ≡ Gone owed
   pub present_on : (m : ℕ) → w.mappings.state m ≡ Present → v.mappings.state m ≡ Present
+  pub frame_on : (m : ℕ) → w.mappings.state m ≢ Unmade → v.mappings.frame m ≡ w.mappings.frame m
   pub latest_grows : (f k : ℕ) → w.mappings.latest f ≡ Some k → (z : ℕ) × (v.mappings.latest f ≡ Some z) × (k ≤ z)
   pub latest_new : (f : ℕ) → (v.mappings.latest f ≡ w.mappings.latest f) ⊎ ((z : ℕ) × (v.mappings.latest f ≡ Some z) × (v.mappings.state z ≡ Present))
 
@@ -49,6 +50,7 @@ adds_nothing w v e =
       gone_back = λ m o h. ap (λ x. x.state m) e ∙ h;
       gone_on = λ m o h. sym (ap (λ x. x.state m) e) ∙ h;
       present_on = λ m h. sym (ap (λ x. x.state m) e) ∙ h;
+      frame_on = λ m h. sym (ap (λ x. x.frame m) e);
       latest_grows = λ f k h. (k, sym (ap (λ x. x.latest f) e) ∙ h, omega arith);
       latest_new = λ f. inl (sym (ap (λ x. x.latest f) e));
     }
@@ -59,12 +61,16 @@ adds_map w s q f x i =
       gone_back = λ m o h. back m o (ℕ_cases m w.mappings.made) h;
       gone_on = λ m o h. put-other w.mappings.state w.mappings.made Present m (old_gone m o h) ∙ h;
       present_on = λ m h. put-other w.mappings.state w.mappings.made Present m (old_present m h) ∙ h;
+      frame_on = λ m h. put-other w.mappings.frame w.mappings.made f m (old_made m h);
       latest_grows = λ g k h. grows g k (ℕ_cases g f) h;
       latest_new = λ g. new g (ℕ_cases g f);
     }
   where
     old_gone : (m : ℕ) (o : ℕ → Owed) → w.mappings.state m ≡ Gone o → m ≢ w.mappings.made
     old_gone m o h e = grind (arith, i.mapped.unmade m)
+
+    old_made : (m : ℕ) → w.mappings.state m ≢ Unmade → m ≢ w.mappings.made
+    old_made m h e = h (i.mapped.unmade m (omega arith))
 
     old_present : (m : ℕ) → w.mappings.state m ≡ Present → m ≢ w.mappings.made
     old_present m h e = grind (arith, i.mapped.unmade m)
@@ -101,10 +107,19 @@ adds_more u v w a b =
       gone_back = λ m o h. a.gone_back m o (b.gone_back m o h);
       gone_on = λ m o h. b.gone_on m o (a.gone_on m o h);
       present_on = λ m h. b.present_on m (a.present_on m h);
+      frame_on = λ m h. b.frame_on m (still m h) ∙ a.frame_on m h;
       latest_grows = λ f k h. let x = a.latest_grows f k h in let y = b.latest_grows f x.0 x.1 in (y.0, y.1, omega (arith, x.2, y.2));
       latest_new = λ f. new f (a.latest_new f) (b.latest_new f);
     }
   where
+    still : (m : ℕ) → u.mappings.state m ≢ Unmade → v.mappings.state m ≢ Unmade
+    still m h e = go (u.mappings.state m) refl
+      where
+        go : (z : MappingState) → u.mappings.state m ≡ z → ⊥
+        go Unmade g = h g
+        go Present g = absurd (cc (sym (a.present_on m g) ∙ e))
+        go (Gone o) g = absurd (cc (sym (a.gone_on m o g) ∙ e))
+
     new : (f : ℕ) → (v.mappings.latest f ≡ u.mappings.latest f) ⊎ ((z : ℕ) × (v.mappings.latest f ≡ Some z) × (v.mappings.state z ≡ Present)) → (w.mappings.latest f ≡ v.mappings.latest f) ⊎ ((z : ℕ) × (w.mappings.latest f ≡ Some z) × (w.mappings.state z ≡ Present)) → (w.mappings.latest f ≡ u.mappings.latest f) ⊎ ((z : ℕ) × (w.mappings.latest f ≡ Some z) × (w.mappings.state z ≡ Present))
     new f (inl x) (inl y) = inl (y ∙ x)
     new f (inr x) (inl y) = inr (x.0, y ∙ x.1, b.present_on x.0 x.2)

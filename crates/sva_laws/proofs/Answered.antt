@@ -13,7 +13,7 @@ use Rattle.sva_laws.proofs.Bounds.{Bounds}
 use Rattle.sva_laws.proofs.Orders.{SentOnly}
 use Rattle.sva_laws.proofs.Words.{all_below-true, all_below-false}
 
-all_below-intro : (n : ℕ) (p : ℕ → Bool) → ((j : ℕ) → j < n → p j ≡ true) → all_below n p ≡ true
+pub all_below-intro : (n : ℕ) (p : ℕ → Bool) → ((j : ℕ) → j < n → p j ≡ true) → all_below n p ≡ true
 unfolding all_below
 all_below-intro zero p h = refl
 all_below-intro (suc n) p h = both (p n) (all_below n p) (h n (omega arith)) (all_below-intro n p (λ j l. h j (omega arith)))

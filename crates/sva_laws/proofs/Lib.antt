@@ -25,3 +25,4 @@ pub mod LegalDeliver
 pub mod Runs
 pub mod Agreement
 pub mod Adding
+pub mod Lookback

@@ -1,0 +1,6 @@
+pub mod States
+pub mod Stages
+pub mod Moves
+pub mod Places
+pub mod Indexes
+pub mod Calls

@@ -1,13 +1,17 @@
-// A library with one function.
+//! Bindings of an address space to an endpoint as states that must be spent, and the table of the PASIDs that they bear.
 #![tactic(auto)]
 
-ghost use Rattle.std.specs.Prelude.{◌≡◌};
-ghost use Rattle.sva_pasid.specs.Echo.{echo_of};
+mod laws;
+mod places;
+mod stages;
+mod states;
+mod tables;
 
-// The `ensures` clause is the contract: what `echo` returns is `echo_of` of its argument, a definition
-// in `specs/Echo.antt`, which a caller's clause can cite too.
-pub fn echo(x: usize) -> usize
-    ensures { result ≡ echo_of x }
-{
-    x
-}
+pub use laws::{laws_of_moves, laws_of_tables};
+pub use places::PASIDS;
+pub use stages::Stage;
+pub use states::{Draining, Invalidating, Live, Lost, Quiet, Released, Stopping};
+pub use tables::Table;
+
+#[cfg(test)]
+mod tests;

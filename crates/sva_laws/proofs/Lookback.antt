@@ -1,0 +1,200 @@
+-- The look back over the list of steps, and what the step reads: they say the same of which frames are withheld.
+use Rattle.std.proofs.Common.{◌≡◌, ◌≢◌, ◌⊎◌, ◌↔◌, inl, inr, refl, ap, sym, subst, ◌∙◌, ℕ, zero, suc, ◌+◌, ◌<◌, ◌≤◌, Bool, true, false, arith, append_assoc}
+use Rattle.std.specs.Prelude.{Option, Some, None, ◌&&◌, ◌||◌, ◌==◌, nat_lt, List, [], ◌∷◌, ◌++◌}
+use Rattle.std.proofs.lemmas.Bool.Decides.{nat_tests}
+use Rattle.sva_step.specs.declared.limits.Config.{Config}
+use Rattle.sva_step.specs.declared.steps.Step.{Step}
+use Rattle.sva_model.specs.Words.{all_below, put}
+use Rattle.sva_model.specs.State.{Owed, MappingState, Part, World, Stage, opened}
+use Rattle.sva_model.specs.State.Owed.{Nothing, Pages, Pasid, AReset}
+use Rattle.sva_model.specs.State.MappingState.{Unmade, Present, Gone}
+use Rattle.sva_model.specs.State.Stage.{Unbound, Live, Stopping, Draining, Invalidating, Quiet, Lost, Released}
+use Rattle.sva_model.specs.State.OrderState.{Done}
+use Rattle.sva_model.specs.State.Phase.{Open}
+use Rattle.sva_model.specs.States.{Place, is_unreleased, is_open, is_done, answered, place, place_at, place_by, place_of_gone}
+use Rattle.sva_model.specs.States.Place.{Free, Mapped, Withheld}
+use Rattle.sva_model.specs.Acts.{Act, act, bound, submits_at, submits, owed_by, owed_by_stage, submitted_if, cookie_of, part_after_unmap, gone_if, in_range, without_pages}
+use Rattle.sva_model.specs.Acts.Act.{Unmap, DropSpace}
+use Rattle.sva_model.specs.Steps.{decide, next, run, after_acts, world_after}
+use Rattle.sva_model.specs.Claims.{IsAt, IsMapped, WasDone, IsBeforeInvalidating, AreDone, HasAnswered, IsWithheld}
+use Rattle.sva_model.specs.Claims.HasAnswered.{was_done, orders_done, pasid_done, was_reset}
+use Rattle.sva_laws.proofs.Words.{find_passes, all_below-true, all_below-false, all_below_cases}
+use Rattle.sva_laws.proofs.Answered.{all_below-intro}
+use Rattle.sva_laws.proofs.Invariant.{PartInv, Inv}
+use Rattle.sva_laws.proofs.Keeps.{Legal}
+use Rattle.sva_laws.proofs.Passed.{LegalAll, unreleased_made}
+use Rattle.sva_laws.proofs.Unmap.{bound_is}
+use Rattle.sva_laws.proofs.Runs.{always, step_legal, next_keeps}
+use Rattle.sva_laws.proofs.Agreement.{withheld_at, mapped_at, place_mapped}
+use Rattle.sva_laws.proofs.Adding.{Adds, Kind, acts_add, step_kind}
+use Rattle.sva_laws.proofs.Adding.Kind.{adding, unmapping, dropping}
+
+-- Lists of steps.
+
+pub run_append : (ss rest : List Step) (w : World) → run w (ss ++ rest) ≡ run (run w ss) rest
+run_append [] rest w = refl
+run_append (s ∷ ss) rest w = run_append ss rest (next w s)
+
+pub after_one : (c : Config) (ss : List Step) (s : Step) → world_after c (ss ++ s ∷ []) ≡ next (world_after c ss) s
+after_one c ss s = run_append ss (s ∷ []) (opened c)
+
+append_none : (xs : List Step) → xs ++ [] ≡ xs
+append_none [] = refl
+append_none (x ∷ xs) = ap (λ ys. x ∷ ys) (append_none xs)
+
+one_more : (before : List Step) (s : Step) (some : List Step) (t : Step) → before ++ s ∷ (some ++ t ∷ []) ≡ (before ++ s ∷ some) ++ t ∷ []
+one_more before s some t = sym (append_assoc before (s ∷ some) (t ∷ []))
+
+-- How a mapping goes: by an unmapping of its page, or with its space.
+pub data Goes (w v : World) (m : ℕ) (owed : ℕ → Owed) : Type 0 where
+  unmapped : (s q count : ℕ) → v ≡ act w (Unmap s q count) → w.mappings.space m ≡ s → owed ≡ (λ e. owed_by (w.part e) q count (bound w e s)) → Goes w v m owed
+  dropped : (s : ℕ) → w.mappings.space m ≡ s → ((e b : ℕ) → is_unreleased ((w.part e).stage b) ≡ true → (w.part e).space b ≢ s) → owed ≡ (λ e. Nothing) → Goes w v m owed
+
+-- what one step does to mappings
+pub record Moves (w v : World) : Type 0 where
+  pub gone_on : (m : ℕ) (owed : ℕ → Owed) → w.mappings.state m ≡ Gone owed → v.mappings.state m ≡ Gone owed
+  pub gone_back : (m : ℕ) (owed : ℕ → Owed) → v.mappings.state m ≡ Gone owed → (w.mappings.state m ≡ Gone owed) ⊎ ((w.mappings.state m ≡ Present) × Goes w v m owed)
+  pub present_on : (m : ℕ) → w.mappings.state m ≡ Present → (v.mappings.state m ≡ Present) ⊎ ((owed : ℕ → Owed) × (v.mappings.state m ≡ Gone owed) × Goes w v m owed)
+  pub frame_on : (m : ℕ) → w.mappings.state m ≢ Unmade → v.mappings.frame m ≡ w.mappings.frame m
+  pub latest_grows : (f k : ℕ) → w.mappings.latest f ≡ Some k → (z : ℕ) × (v.mappings.latest f ≡ Some z) × (k ≤ z)
+  pub latest_new : (f : ℕ) → (v.mappings.latest f ≡ w.mappings.latest f) ⊎ ((z : ℕ) × (v.mappings.latest f ≡ Some z) × (v.mappings.state z ≡ Present))
+
+moves_adds : (w v : World) → Adds w v → Moves w v
+moves_adds w v a =
+    record { gone_on = a.gone_on; gone_back = λ m o h. inl (a.gone_back m o h); present_on = λ m h. inl (a.present_on m h); frame_on = a.frame_on; latest_grows = a.latest_grows; latest_new = a.latest_new }
+
+gone_same : (t : Bool) (owed : ℕ → Owed) (z : MappingState) (o : ℕ → Owed) → z ≡ Gone o → gone_if t owed z ≡ Gone o
+gone_same t owed z o h = grind arith
+
+gone_from : (t : Bool) (owed : ℕ → Owed) (z : MappingState) (o : ℕ → Owed) → gone_if t owed z ≡ Gone o → (z ≡ Gone o) ⊎ ((z ≡ Present) × (t ≡ true) × (owed ≡ o))
+gone_from true owed Unmade o h = absurd (cc)
+gone_from true owed Present o h = inr (refl, refl, cc)
+gone_from true owed (Gone v) o h = inl h
+gone_from false owed z o h = inl h
+
+present_from : (t : Bool) (owed : ℕ → Owed) (z : MappingState) → z ≡ Present → (gone_if t owed z ≡ Present) ⊎ ((t ≡ true) × (gone_if t owed z ≡ Gone owed))
+present_from true owed z h = inr (refl, ap (gone_if true owed) h)
+present_from false owed z h = inl h
+
+range_space : (a s : ℕ) (b : Bool) → (a == s && b) ≡ true → a ≡ s
+range_space a s b h = grind (arith, nat_tests)
+
+moves_unmap : (w : World) (s q count : ℕ) → Moves w (act w (Unmap s q count))
+moves_unmap w s q count =
+    record {
+      gone_on = λ m o h. gone_same (w.mappings.space m == s && in_range q count (w.mappings.page m)) (λ e. owed_by (w.part e) q count (bound w e s)) (w.mappings.state m) o h;
+      gone_back = λ m o h. back m o (gone_from (w.mappings.space m == s && in_range q count (w.mappings.page m)) (λ e. owed_by (w.part e) q count (bound w e s)) (w.mappings.state m) o h);
+      present_on = λ m h. on m (present_from (w.mappings.space m == s && in_range q count (w.mappings.page m)) (λ e. owed_by (w.part e) q count (bound w e s)) (w.mappings.state m) h);
+      frame_on = λ m h. refl;
+      latest_grows = λ f k h. (k, h, omega arith);
+      latest_new = λ f. inl refl;
+    }
+  where
+    back : (m : ℕ) (o : ℕ → Owed) → (w.mappings.state m ≡ Gone o) ⊎ ((w.mappings.state m ≡ Present) × ((w.mappings.space m == s && in_range q count (w.mappings.page m)) ≡ true) × ((λ e. owed_by (w.part e) q count (bound w e s)) ≡ o)) → (w.mappings.state m ≡ Gone o) ⊎ ((w.mappings.state m ≡ Present) × Goes w (act w (Unmap s q count)) m o)
+    back m o (inl x) = inl x
+    back m o (inr x) = inr (x.0, unmapped s q count refl (range_space (w.mappings.space m) s (in_range q count (w.mappings.page m)) x.1) (sym x.2))
+
+    on : (m : ℕ) → ((act w (Unmap s q count)).mappings.state m ≡ Present) ⊎ (((w.mappings.space m == s && in_range q count (w.mappings.page m)) ≡ true) × ((act w (Unmap s q count)).mappings.state m ≡ Gone (λ e. owed_by (w.part e) q count (bound w e s)))) → ((act w (Unmap s q count)).mappings.state m ≡ Present) ⊎ ((owed : ℕ → Owed) × ((act w (Unmap s q count)).mappings.state m ≡ Gone owed) × Goes w (act w (Unmap s q count)) m owed)
+    on m (inl x) = inl x
+    on m (inr x) = inr ((λ e. owed_by (w.part e) q count (bound w e s)), x.1, unmapped s q count refl (range_space (w.mappings.space m) s (in_range q count (w.mappings.page m)) x.0) refl)
+
+moves_drop : (w : World) (s : ℕ) → Legal w (DropSpace s) → Moves w (act w (DropSpace s))
+moves_drop w s l =
+    record {
+      gone_on = λ m o h. gone_same (w.mappings.space m == s && true) (λ e. Nothing) (w.mappings.state m) o h;
+      gone_back = λ m o h. back m o (gone_from (w.mappings.space m == s && true) (λ e. Nothing) (w.mappings.state m) o h);
+      present_on = λ m h. on m (present_from (w.mappings.space m == s && true) (λ e. Nothing) (w.mappings.state m) h);
+      frame_on = λ m h. refl;
+      latest_grows = λ f k h. (k, h, omega arith);
+      latest_new = λ f. inl refl;
+    }
+  where
+    back : (m : ℕ) (o : ℕ → Owed) → (w.mappings.state m ≡ Gone o) ⊎ ((w.mappings.state m ≡ Present) × ((w.mappings.space m == s && true) ≡ true) × ((λ e. Nothing) ≡ o)) → (w.mappings.state m ≡ Gone o) ⊎ ((w.mappings.state m ≡ Present) × Goes w (act w (DropSpace s)) m o)
+    back m o (inl x) = inl x
+    back m o (inr x) = inr (x.0, dropped s (range_space (w.mappings.space m) s true x.1) l (sym x.2))
+
+    on : (m : ℕ) → ((act w (DropSpace s)).mappings.state m ≡ Present) ⊎ (((w.mappings.space m == s && true) ≡ true) × ((act w (DropSpace s)).mappings.state m ≡ Gone (λ e. Nothing))) → ((act w (DropSpace s)).mappings.state m ≡ Present) ⊎ ((owed : ℕ → Owed) × ((act w (DropSpace s)).mappings.state m ≡ Gone owed) × Goes w (act w (DropSpace s)) m owed)
+    on m (inl x) = inl x
+    on m (inr x) = inr ((λ e. Nothing), x.1, dropped s (range_space (w.mappings.space m) s true x.0) l refl)
+
+pub moves : (w : World) (s : Step) → Inv w → Moves w (next w s)
+moves w s i = go (decide w s).acts (step_kind w s) (step_legal w s i)
+  where
+    single : (acts : List Act) (a : Act) → acts ≡ a ∷ [] → LegalAll w acts → Legal w a
+    single acts a e l = (subst (LegalAll w) e l).0
+
+    go : (acts : List Act) → Kind acts → LegalAll w acts → Moves w (after_acts w acts)
+    go acts (adding a) l = moves_adds w (after_acts w acts) (acts_add acts w a l i)
+    go acts (unmapping t q count e) l = subst (λ z. Moves w (after_acts w z)) (sym e) (moves_unmap w t q count)
+    go acts (dropping t e) l = subst (λ z. Moves w (after_acts w z)) (sym e) (moves_drop w t (single acts (DropSpace t) e l))
+
+-- A mapping that is gone went at one step of the list.
+pub record WentAt (c : Config) (steps : List Step) (m : ℕ) (owed : ℕ → Owed) : Type 0 where
+  pub before : List Step
+  pub step : Step
+  pub since : List Step
+  pub steps_are : steps ≡ before ++ step ∷ since
+  pub present : (world_after c before).mappings.state m ≡ Present
+  pub gone : (next (world_after c before) step).mappings.state m ≡ Gone owed
+  pub goes : Goes (world_after c before) (next (world_after c before) step) m owed
+
+went_more : (c : Config) (ss : List Step) (s : Step) (m : ℕ) (owed : ℕ → Owed) → WentAt c ss m owed → WentAt c (ss ++ s ∷ []) m owed
+went_more c ss s m owed x =
+    record {
+      before = x.before; step = x.step; since = x.since ++ s ∷ [];
+      steps_are = ap (λ z. z ++ s ∷ []) x.steps_are ∙ sym (one_more x.before x.step x.since s);
+      present = x.present; gone = x.gone; goes = x.goes;
+    }
+
+went_next : (c : Config) (ss : List Step) (s : Step) → ((m : ℕ) (owed : ℕ → Owed) → (world_after c ss).mappings.state m ≡ Gone owed → WentAt c ss m owed) → (m : ℕ) (owed : ℕ → Owed) → (world_after c (ss ++ s ∷ [])).mappings.state m ≡ Gone owed → WentAt c (ss ++ s ∷ []) m owed
+went_next c ss s old m owed h =
+    go ((moves (world_after c ss) s (always c ss)).gone_back m owed now)
+  where
+    now : (next (world_after c ss) s).mappings.state m ≡ Gone owed
+    now = subst (λ w. w.mappings.state m ≡ Gone owed) (after_one c ss s) h
+
+    go : ((world_after c ss).mappings.state m ≡ Gone owed) ⊎ (((world_after c ss).mappings.state m ≡ Present) × Goes (world_after c ss) (next (world_after c ss) s) m owed) → WentAt c (ss ++ s ∷ []) m owed
+    go (inl x) = went_more c ss s m owed (old m owed x)
+    go (inr x) = record { before = ss; step = s; since = []; steps_are = refl; present = x.0; gone = now; goes = x.1 }
+
+went_along : (c : Config) (rest before : List Step) → ((m : ℕ) (owed : ℕ → Owed) → (world_after c before).mappings.state m ≡ Gone owed → WentAt c before m owed) → (m : ℕ) (owed : ℕ → Owed) → (world_after c (before ++ rest)).mappings.state m ≡ Gone owed → WentAt c (before ++ rest) m owed
+went_along c [] before old m owed h =
+    subst (λ z. WentAt c z m owed) (sym (append_none before)) (old m owed (subst (λ z. (world_after c z).mappings.state m ≡ Gone owed) (append_none before) h))
+went_along c (s ∷ rest) before old m owed h =
+    subst (λ z. WentAt c z m owed) (append_assoc before (s ∷ []) rest)
+    (went_along c rest (before ++ s ∷ []) (went_next c before s old) m owed (subst (λ z. (world_after c z).mappings.state m ≡ Gone owed) (sym (append_assoc before (s ∷ []) rest)) h))
+
+pub went : (c : Config) (steps : List Step) (m : ℕ) (owed : ℕ → Owed) → (world_after c steps).mappings.state m ≡ Gone owed → WentAt c steps m owed
+went c steps m owed h = went_along c steps [] (λ k o x. absurd (cc)) m owed h
+
+-- From one world to a later one.
+pub record Later (w v : World) : Type 0 where
+  pub gone_on : (m : ℕ) (owed : ℕ → Owed) → w.mappings.state m ≡ Gone owed → v.mappings.state m ≡ Gone owed
+  pub made_on : (m : ℕ) → w.mappings.state m ≢ Unmade → v.mappings.state m ≢ Unmade
+  pub frame_on : (m : ℕ) → w.mappings.state m ≢ Unmade → v.mappings.frame m ≡ w.mappings.frame m
+  pub latest_grows : (f k : ℕ) → w.mappings.latest f ≡ Some k → (z : ℕ) × (v.mappings.latest f ≡ Some z) × (k ≤ z)
+
+made_kept : (w v : World) → Moves w v → (m : ℕ) → w.mappings.state m ≢ Unmade → v.mappings.state m ≢ Unmade
+made_kept w v a m h e = go (w.mappings.state m) refl
+  where
+    go : (z : MappingState) → w.mappings.state m ≡ z → ⊥
+    go Unmade g = h g
+    go Present g = after (a.present_on m g)
+      where
+        after : (v.mappings.state m ≡ Present) ⊎ ((owed : ℕ → Owed) × (v.mappings.state m ≡ Gone owed) × Goes w v m owed) → ⊥
+        after (inl x) = absurd (cc)
+        after (inr x) = absurd (cc (sym x.1 ∙ e))
+    go (Gone o) g = absurd (cc (sym (a.gone_on m o g) ∙ e))
+
+pub later : (rest : List Step) (w : World) → Inv w → Later w (run w rest)
+later [] w i = record { gone_on = λ m o h. h; made_on = λ m h. h; frame_on = λ m h. refl; latest_grows = λ f k h. (k, h, omega arith) }
+later (s ∷ rest) w i = more (moves w s i) (later rest (next w s) (next_keeps w s i))
+  where
+    more : Moves w (next w s) → Later (next w s) (run (next w s) rest) → Later w (run (next w s) rest)
+    more a b =
+        record {
+          gone_on = λ m o h. b.gone_on m o (a.gone_on m o h);
+          made_on = λ m h. b.made_on m (made_kept w (next w s) a m h);
+          frame_on = λ m h. b.frame_on m (made_kept w (next w s) a m h) ∙ a.frame_on m h;
+          latest_grows = λ f k h. let x = a.latest_grows f k h in let y = b.latest_grows f x.0 x.1 in (y.0, y.1, omega (arith, x.2, y.2));
+        }

@@ -1,0 +1,107 @@
+-- The calls of a table over time, with the moves of the stages that are in hand in between, and what holds after every
+-- list of them.
+use Rattle.std.specs.Prelude.{◌≡◌, ◌≢◌, ℕ, ◌==◌, if◌then◌else◌, Option, Some, None, option_map, IsSome, List, [], ◌∷◌, ◌++◌, All}
+use Rattle.sva_pasid.specs.Moves.{Life, Move, after_move, numbers_of_life, kind_of, IsTableStep}
+use Rattle.sva_pasid.specs.Moves.Life.{at, over}
+use Rattle.sva_pasid.specs.Moves.Kind.{live, released}
+use Rattle.sva_pasid.specs.Places.{place_of, stage_of, with_stage, without, lowest, begun, Awaits, IsTable}
+use Rattle.sva_pasid.specs.declared.stages.Stage.{Stage}
+use Rattle.sva_pasid.specs.declared.places.Place.{Place}
+
+-- a table, and what is in hand of each binding: a stage that was taken out of the table, or what was released of it
+pub record Holder : Type 0 where
+  pub places : List Place
+  pub hand : ℕ → Option Life
+
+abbrev pub opening : Holder
+opening = record { places = []; hand = λ _. None }
+
+-- the four calls that change a table, and a move of the stage that is in hand
+pub data Call : Type 0 where
+  begin : (endpoint space binding : ℕ) → Call
+  take : (binding : ℕ) → Call
+  move : (binding : ℕ) (by : Move) → Call
+  put : (binding : ℕ) → Call
+  end : (binding : ℕ) → Call
+
+abbrev pub hand_with : ℕ → Option Life → (ℕ → Option Life) → ℕ → Option Life
+hand_with binding life hand b = if b == binding then life else hand b
+
+abbrev pub after_begin : ℕ → ℕ → ℕ → Option ℕ → Holder → Holder
+after_begin endpoint space binding None h = h
+after_begin endpoint space binding (Some pasid) h = record h { places = h.places ++ begun endpoint space binding pasid ∷ [] }
+
+abbrev pub after_take : ℕ → Option Stage → Holder → Holder
+after_take binding None h = h
+after_take binding (Some stage) h =
+    record { places = with_stage binding None h.places; hand = hand_with binding (Some (at stage)) h.hand }
+
+abbrev pub after_moving : ℕ → Move → Option Life → Holder → Holder
+after_moving binding m None h = h
+after_moving binding m (Some life) h = record h { hand = hand_with binding (Some (after_move life m)) h.hand }
+
+abbrev pub after_put : ℕ → Option Life → Holder → Holder
+after_put binding (Some (at stage)) h =
+    record { places = with_stage binding (Some stage) h.places; hand = hand_with binding None h.hand }
+after_put binding _ h = h
+
+abbrev pub after_end : ℕ → Option Life → Holder → Holder
+after_end binding (Some (over n)) h = record { places = without n.binding h.places; hand = hand_with binding None h.hand }
+after_end binding _ h = h
+
+-- a call that lacks its value in hand can't be written, and is here one that does nothing
+abbrev pub after : Holder → Call → Holder
+after h (begin endpoint space binding) = after_begin endpoint space binding (lowest endpoint h.places) h
+after h (take binding) = after_take binding (stage_of binding h.places) h
+after h (move binding m) = after_moving binding m (h.hand binding) h
+after h (put binding) = after_put binding (h.hand binding) h
+after h (end binding) = after_end binding (h.hand binding) h
+
+abbrev pub after_all : Holder → List Call → Holder
+after_all h [] = h
+after_all h (c ∷ cs) = after_all (after h c) cs
+
+-- the condition of `begin`; those of `put` and `end` are no premise, they are a law below
+abbrev pub IsPermitted : Holder → Call → Type 0
+IsPermitted h (begin endpoint space binding) = IsSome (lowest endpoint h.places) × (place_of binding h.places ≡ None)
+IsPermitted h _ = Unit {0}
+
+abbrev pub ArePermitted : Holder → List Call → Type 0
+ArePermitted h [] = Unit {0}
+ArePermitted h (c ∷ cs) = IsPermitted h c × ArePermitted (after h c) cs
+
+-- the stage of a binding, or what was released of it, wherever it is: in hand or in its place
+abbrev pub life_in : Option Place → Option Life → Option Life
+life_in place (Some life) = Some life
+life_in None None = None
+life_in (Some place) None = option_map (λ (stage : Stage). at stage) place.stage
+
+abbrev pub life_of : ℕ → Holder → Option Life
+life_of binding h = life_in (place_of binding h.places) (h.hand binding)
+
+-- a binding begins live, goes by the stage table with its number and PASID, and ends released
+abbrev pub IsLifeStep : Option Life → Option Life → Type 0
+IsLifeStep None None = Unit {0}
+IsLifeStep None (Some life) = kind_of life ≡ live
+IsLifeStep (Some life) None = kind_of life ≡ released
+IsLifeStep (Some before) (Some after) =
+    IsTableStep (kind_of before) (kind_of after) × (numbers_of_life after ≡ numbers_of_life before)
+
+-- two places are of two bindings, at one endpoint they bear two PASIDs of 1 to 32, and each stage is of its place
+abbrev pub AlwaysTable : Type 0
+AlwaysTable = (calls : List Call) → ArePermitted opening calls → IsTable (after_all opening calls).places
+
+-- what is in hand can always be put back, or ended: its place is there, empty, and of its binding and PASID
+abbrev pub AlwaysAwaited : Type 0
+AlwaysAwaited =
+    (calls : List Call) (binding : ℕ) (life : Life) → ArePermitted opening calls → (after_all opening calls).hand binding ≡ Some life → ((numbers_of_life life).binding ≡ binding) × Awaits (numbers_of_life life) (after_all opening calls).places
+
+-- a PASID that was given to a binding isn't given out again at that endpoint before the binding's end
+abbrev pub KeptUntilEnd : Type 0
+KeptUntilEnd =
+    (calls between : List Call) (endpoint space binding pasid : ℕ) → ArePermitted opening (calls ++ begin endpoint space binding ∷ between) → lowest endpoint (after_all opening calls).places ≡ Some pasid → All (λ c. c ≢ end binding) between → lowest endpoint (after_all opening (calls ++ begin endpoint space binding ∷ between)).places ≢ Some pasid
+
+-- over every list of calls each binding begins live, goes by the stage table alone, and ends released
+abbrev pub LivesByTable : Type 0
+LivesByTable =
+    (calls : List Call) (c : Call) (binding : ℕ) → ArePermitted opening (calls ++ c ∷ []) → IsLifeStep (life_of binding (after_all opening calls)) (life_of binding (after_all opening (calls ++ c ∷ [])))

@@ -1,0 +1,150 @@
+-- The moves of a binding from its beginning to its release, and the stage table (this project's own rule).
+use Rattle.std.specs.Prelude.{◌≡◌, ℕ, Bool, true, false, ◌≢◌, ◌⊎◌, not, Result, Ok, Err, List, [], ◌∷◌, All, Contains}
+use Rattle.std.specs.Bool.{MatchBool}
+use Rattle.sva_pasid.specs.States.{Numbers, Stop, Wait, stop_of, marked_stop, drain_of, done_wait, invalidation_of, quiet_of, numbers_of_stop, numbers_of_wait}
+use Rattle.sva_pasid.specs.Stages.{numbers_of}
+use Rattle.sva_pasid.specs.declared.stages.Stage.{Stage}
+use Rattle.sva_pasid.specs.declared.stages.Stage.TheVariants.{Live, Stopping, Draining, Invalidating, Quiet, Lost}
+
+-- a binding is at a stage until it is released
+pub data Life : Type 0 where
+  at : (stage : Stage) → Life
+  over : (numbers : Numbers) → Life
+
+-- the calls on a state: `reset` stands for each `by_reset` and for `lost`, `settle` for each `quiet`
+pub data Move : Type 0 where
+  stop : Move
+  mark : Move
+  drain : (cookie : ℕ) → Move
+  wait_done : Move
+  invalidate : (cookie : ℕ) (groups_open : Bool) → Move
+  settle : Move
+  reset : Move
+  release : Move
+
+abbrev pub at_drained : Result Wait Stop → Life
+at_drained (Ok w) = at (Draining w)
+at_drained (Err s) = at (Stopping s)
+
+abbrev pub at_invalidated : Result Wait Wait → Life
+at_invalidated (Ok w) = at (Invalidating w)
+at_invalidated (Err w) = at (Draining w)
+
+abbrev pub at_settled : Result Numbers Wait → Life
+at_settled (Ok n) = at (Quiet n)
+at_settled (Err w) = at (Invalidating w)
+
+-- a move that the state has no call for, and one that is refused, leave it as it is
+abbrev pub after_move : Life → Move → Life
+after_move (at (Live n)) stop = at (Stopping (stop_of n))
+after_move (at (Live n)) reset = at (Lost n)
+after_move (at (Stopping s)) mark = at (Stopping (marked_stop s))
+after_move (at (Stopping s)) (drain cookie) = at_drained (drain_of s cookie)
+after_move (at (Stopping s)) reset = at (Quiet (numbers_of_stop s))
+after_move (at (Draining w)) wait_done = at (Draining (done_wait w))
+after_move (at (Draining w)) (invalidate cookie groups_open) = at_invalidated (invalidation_of w cookie groups_open)
+after_move (at (Draining w)) reset = at (Quiet (numbers_of_wait w))
+after_move (at (Invalidating w)) wait_done = at (Invalidating (done_wait w))
+after_move (at (Invalidating w)) settle = at_settled (quiet_of w)
+after_move (at (Invalidating w)) reset = at (Quiet (numbers_of_wait w))
+after_move (at (Lost n)) settle = at (Quiet n)
+after_move (at (Quiet n)) release = over n
+after_move life _ = life
+
+abbrev pub after_moves : Life → List Move → Life
+after_moves life [] = life
+after_moves life (m ∷ ms) = after_moves (after_move life m) ms
+
+abbrev pub numbers_of_life : Life → Numbers
+numbers_of_life (at stage) = numbers_of stage
+numbers_of_life (over n) = n
+
+-- the names of the stages, and of their end
+pub data Kind : Type 0 where
+  live : Kind
+  stopping : Kind
+  draining : Kind
+  invalidating : Kind
+  quiet : Kind
+  lost : Kind
+  released : Kind
+
+abbrev pub kind_of_stage : Stage → Kind
+kind_of_stage (Live _) = live
+kind_of_stage (Stopping _) = stopping
+kind_of_stage (Draining _) = draining
+kind_of_stage (Invalidating _) = invalidating
+kind_of_stage (Quiet _) = quiet
+kind_of_stage (Lost _) = lost
+
+abbrev pub kind_of : Life → Kind
+kind_of (at stage) = kind_of_stage stage
+kind_of (over _) = released
+
+-- the stage table: to what each stage may move
+abbrev pub next_of : Kind → List Kind
+next_of live = stopping ∷ lost ∷ []
+next_of stopping = draining ∷ quiet ∷ []
+next_of draining = invalidating ∷ quiet ∷ []
+next_of invalidating = quiet ∷ []
+next_of quiet = released ∷ []
+next_of lost = quiet ∷ []
+next_of released = []
+
+-- the stage is the same, or has moved by one row of the stage table
+abbrev pub IsTableStep : Kind → Kind → Type 0
+IsTableStep before after = (before ≡ after) ⊎ Contains (next_of before) after
+
+-- each move is a row of the stage table, or leaves the stage
+abbrev pub MovesByTable : Type 0
+MovesByTable = (life : Life) (m : Move) → IsTableStep (kind_of life) (kind_of (after_move life m))
+
+-- each row of the stage table is a move
+abbrev pub TableByMoves : Type 0
+TableByMoves =
+    (before : Kind) → All (λ after. (life : Life) × (m : Move) × (kind_of life ≡ before) × (kind_of (after_move life m) ≡ after)) (next_of before)
+
+-- a binding keeps its number and its PASID through all its moves: those with which it began are released
+abbrev pub KeepsNumbers : Type 0
+KeepsNumbers = (life : Life) (ms : List Move) → numbers_of_life (after_moves life ms) ≡ numbers_of_life life
+
+-- which call a move is
+abbrev pub is_stop : Move → Bool
+is_stop stop = true
+is_stop _ = false
+
+abbrev pub is_mark : Move → Bool
+is_mark mark = true
+is_mark _ = false
+
+abbrev pub is_drain : Move → Bool
+is_drain (drain _) = true
+is_drain _ = false
+
+abbrev pub is_wait_done : Move → Bool
+is_wait_done wait_done = true
+is_wait_done _ = false
+
+-- with no group of page requests open
+abbrev pub is_invalidate : Move → Bool
+is_invalidate (invalidate _ groups_open) = not groups_open
+is_invalidate _ = false
+
+abbrev pub is_settle : Move → Bool
+is_settle settle = true
+is_settle _ = false
+
+-- the moves have one for each of the tests, in the tests' order
+abbrev pub HasInOrder : List (Move → Bool) → List Move → Type 0
+HasInOrder [] ms = Unit {0}
+HasInOrder (t ∷ ts) [] = ⊥
+HasInOrder (t ∷ ts) (m ∷ ms) = MatchBool (t m) (HasInOrder ts ms) (HasInOrder (t ∷ ts) ms)
+
+-- what has to come, in this order, before the endpoint can hold nothing of a binding any longer
+abbrev pub whole_unbinding : List (Move → Bool)
+whole_unbinding = is_stop ∷ is_mark ∷ is_drain ∷ is_wait_done ∷ is_invalidate ∷ is_wait_done ∷ is_settle ∷ []
+
+-- without a reset a binding that has begun is quiet, or released, only after the whole unbinding
+abbrev pub QuietAfterUnbinding : Type 0
+QuietAfterUnbinding =
+    (n : Numbers) (ms : List Move) → All (λ m. m ≢ reset) ms → (kind_of (after_moves (at (Live n)) ms) ≡ quiet) ⊎ (kind_of (after_moves (at (Live n)) ms) ≡ released) → HasInOrder whole_unbinding ms

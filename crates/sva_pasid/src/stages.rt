@@ -1,0 +1,63 @@
+//! The stage of a binding: the enum of its six states.
+
+ghost use Rattle.std.specs.Prelude.{◌≡◌};
+
+use crate::states::{Draining, Invalidating, Live, Lost, Quiet, Released, Stopping};
+
+/// The state that a binding is in until it is released. A stage must be spent, as the states must.
+#[derive(Debug)]
+pub enum Stage {
+    Live(Live),
+    Stopping(Stopping),
+    Draining(Draining),
+    Invalidating(Invalidating),
+    Quiet(Quiet),
+    Lost(Lost),
+}
+
+impl Stage {
+    ghost use Rattle.sva_pasid.specs.Stages.{numbers_of};
+
+    /// The number of the binding.
+    pub fn binding(&self) -> u64
+        ensures { result ≡ (numbers_of self.now).binding }
+    {
+        match self {
+            Stage::Live(live) => live.binding(),
+            Stage::Stopping(stopping) => stopping.binding(),
+            Stage::Draining(draining) => draining.binding(),
+            Stage::Invalidating(invalidating) => invalidating.binding(),
+            Stage::Quiet(quiet) => quiet.binding(),
+            Stage::Lost(lost) => lost.binding(),
+        }
+    }
+
+    /// The PASID that the binding bears, of 20 bits.
+    pub fn pasid(&self) -> u32
+        ensures { result ≡ (numbers_of self.now).pasid }
+    {
+        match self {
+            Stage::Live(live) => live.pasid(),
+            Stage::Stopping(stopping) => stopping.pasid(),
+            Stage::Draining(draining) => draining.pasid(),
+            Stage::Invalidating(invalidating) => invalidating.pasid(),
+            Stage::Quiet(quiet) => quiet.pasid(),
+            Stage::Lost(lost) => lost.pasid(),
+        }
+    }
+
+    /// Ends the binding as a function level reset does, by way of `Quiet`.
+    pub(crate) fn release_by_reset(self) -> Released
+        ensures { result ≡ numbers_of self }
+    {
+        let quiet = match self {
+            Stage::Live(live) => live.lost().quiet(),
+            Stage::Stopping(stopping) => stopping.by_reset(),
+            Stage::Draining(draining) => draining.by_reset(),
+            Stage::Invalidating(invalidating) => invalidating.by_reset(),
+            Stage::Quiet(quiet) => quiet,
+            Stage::Lost(lost) => lost.quiet(),
+        };
+        quiet.release()
+    }
+}

@@ -1,0 +1,146 @@
+ghost use Rattle.std.specs.Prelude.{◌≡◌, ◌++◌, ◌∷◌, []};
+ghost use Rattle.sva_pasid.specs.Places.{begun};
+
+use super::*;
+use std::process::Abort;
+
+// Begins a binding under a PASID that the test counts on being free. Where memory is refused once, nothing has changed,
+// and the same call again begins it.
+fn begin<R: Abort>(rt: &R, table: &mut Table, endpoint: u64, space: u64, binding: u64) -> u32
+    ensures { table.new ≡ table.old ++ begun endpoint space binding result ∷ [] }
+{
+    assert!(rt; table.lowest(endpoint).is_some());
+    assert!(rt; !table.contains(binding));
+    let (len, lowest) = (table.len(), table.lowest(endpoint));
+    match table.begin(endpoint, space, binding) {
+        Ok(pasid) => pasid,
+        Err(_refused) => {
+            assert_eq!(rt; (table.len(), table.lowest(endpoint)), (len, lowest));
+            table
+                .begin(endpoint, space, binding)
+                .expect(rt, "memory is refused once")
+        }
+    }
+}
+
+// Ends a binding that is in its place, as a reset does.
+fn end_by_reset<R: Abort>(rt: &R, table: &mut Table, binding: u64) {
+    match table.take(binding) {
+        Some(stage) => table.end(stage.release_by_reset()),
+        None => panic!(rt; "the binding has a stage in its place"),
+    }
+}
+
+#[test]
+fn each_move_once(rt: HostRuntime) {
+    let stopping = Live::new(9, 4).stop();
+    assert_eq!(rt;
+        (stopping.binding(), stopping.pasid(), stopping.is_marked()),
+        (9, 4, false)
+    );
+    let stopping = match stopping.drain(70) {
+        Ok(_draining) => panic!(rt; "the marker was not noted"),
+        Err(stopping) => stopping.mark(),
+    };
+    assert!(rt; stopping.is_marked());
+    let draining = match stopping.drain(71) {
+        Ok(draining) => draining,
+        Err(_stopping) => panic!(rt; "the marker was noted"),
+    };
+    assert_eq!(rt;
+        (
+            draining.binding(),
+            draining.pasid(),
+            draining.cookie(),
+            draining.is_waited()
+        ),
+        (9, 4, 71, false)
+    );
+    let draining = match draining.invalidate(72, false) {
+        Ok(_invalidating) => panic!(rt; "the wait with drain is not done"),
+        Err(draining) => draining.waited(),
+    };
+    let draining = match draining.invalidate(73, true) {
+        Ok(_invalidating) => panic!(rt; "a group is open"),
+        Err(draining) => draining,
+    };
+    let invalidating = match draining.invalidate(74, false) {
+        Ok(invalidating) => invalidating,
+        Err(_draining) => panic!(rt; "the wait is done and no group is open"),
+    };
+    assert_eq!(rt;
+        (invalidating.cookie(), invalidating.is_waited()),
+        (74, false)
+    );
+    let invalidating = match invalidating.quiet() {
+        Ok(_quiet) => panic!(rt; "the wait behind the invalidation is not done"),
+        Err(invalidating) => invalidating.waited(),
+    };
+    let quiet = match invalidating.quiet() {
+        Ok(quiet) => quiet,
+        Err(_invalidating) => panic!(rt; "the wait is done"),
+    };
+    let released = quiet.release();
+    assert_eq!(rt; (released.binding(), released.pasid()), (9, 4));
+    released.spend();
+}
+
+#[test]
+fn each_move_by_reset(rt: HostRuntime) {
+    let lost = Live::new(1, 2).lost();
+    assert_eq!(rt; (lost.binding(), lost.pasid()), (1, 2));
+    lost.quiet().release().spend();
+    Live::new(1, 2).stop().by_reset().release().spend();
+    let draining = match Live::new(1, 2).stop().mark().drain(3) {
+        Ok(draining) => draining,
+        Err(_stopping) => panic!(rt; "the marker was noted"),
+    };
+    let invalidating = match draining.waited().invalidate(4, false) {
+        Ok(invalidating) => invalidating,
+        Err(_draining) => panic!(rt; "the wait is done and no group is open"),
+    };
+    let released = invalidating.by_reset().release();
+    assert_eq!(rt; (released.binding(), released.pasid()), (1, 2));
+    released.spend();
+}
+
+#[test]
+fn the_lowest_pasid_of_each_endpoint(rt: HostRuntime) {
+    let mut table = Table::new(rt.alloc());
+    for binding in 0..32 {
+        let pasid = begin(&rt, &mut table, 0, 5, binding);
+        assert_eq!(rt; u64::from(pasid), binding + 1);
+    }
+    assert_eq!(rt; table.lowest(0), None);
+    assert_eq!(rt; begin(&rt, &mut table, 1, 5, 32), 1);
+    end_by_reset(&rt, &mut table, 6);
+    assert_eq!(rt; table.len(), 32);
+    assert_eq!(rt; table.lowest(0), Some(7));
+    table.abandon();
+}
+
+#[test]
+fn a_place_stays_while_its_stage_is_in_hand(rt: HostRuntime) {
+    let mut table = Table::new(rt.alloc());
+    assert_eq!(rt; begin(&rt, &mut table, 3, 8, 20), 1);
+    let (endpoint, space, stage) = table.at(0);
+    assert_eq!(rt;
+        (endpoint, space, stage.binding(), stage.pasid()),
+        (3, 8, 20, 1)
+    );
+    let stage = match table.take(20) {
+        Some(Stage::Live(live)) => Stage::Stopping(live.stop()),
+        _other => panic!(rt; "a binding begins live"),
+    };
+    assert_eq!(rt;
+        (table.len(), table.contains(20), table.lowest(3)),
+        (1, true, Some(2))
+    );
+    match table.take(20) {
+        Some(_stage) => panic!(rt; "the place is empty"),
+        None => table.put(20, stage),
+    }
+    end_by_reset(&rt, &mut table, 20);
+    assert!(rt; table.is_empty());
+    table.close();
+}

@@ -26,3 +26,4 @@ pub mod Runs
 pub mod Agreement
 pub mod Adding
 pub mod Lookback
+pub mod Withheld

@@ -38,11 +38,11 @@ run_append (s ∷ ss) rest w = run_append ss rest (next w s)
 pub after_one : (c : Config) (ss : List Step) (s : Step) → world_after c (ss ++ s ∷ []) ≡ next (world_after c ss) s
 after_one c ss s = run_append ss (s ∷ []) (opened c)
 
-append_none : (xs : List Step) → xs ++ [] ≡ xs
+pub append_none : (xs : List Step) → xs ++ [] ≡ xs
 append_none [] = refl
 append_none (x ∷ xs) = ap (λ ys. x ∷ ys) (append_none xs)
 
-one_more : (before : List Step) (s : Step) (some : List Step) (t : Step) → before ++ s ∷ (some ++ t ∷ []) ≡ (before ++ s ∷ some) ++ t ∷ []
+pub one_more : (before : List Step) (s : Step) (some : List Step) (t : Step) → before ++ s ∷ (some ++ t ∷ []) ≡ (before ++ s ∷ some) ++ t ∷ []
 one_more before s some t = sym (append_assoc before (s ∷ some) (t ∷ []))
 
 -- How a mapping goes: by an unmapping of its page, or with its space.

@@ -1,0 +1,409 @@
+-- A frame's place is Withheld exactly where the look back over the list of steps says so.
+use Rattle.std.proofs.Common.{◌≡◌, ◌≢◌, ◌⊎◌, ◌↔◌, inl, inr, refl, ap, sym, subst, ◌∙◌, ℕ, zero, suc, ◌+◌, ◌-◌, ◌<◌, ◌≤◌, Bool, true, false, arith, append_assoc}
+use Rattle.std.specs.Prelude.{Option, Some, None, ◌&&◌, ◌||◌, ◌==◌, nat_lt, List, [], ◌∷◌, ◌++◌}
+use Rattle.std.proofs.lemmas.Bool.Decides.{nat_tests}
+use Rattle.sva_step.specs.declared.limits.Config.{Config}
+use Rattle.sva_step.specs.declared.steps.Step.{Step}
+use Rattle.sva_model.specs.Words.{all_below}
+use Rattle.sva_model.specs.State.{Owed, OrderState, MappingState, Part, World, Stage, opened}
+use Rattle.sva_model.specs.State.Owed.{Nothing, Pages, Pasid, AReset}
+use Rattle.sva_model.specs.State.MappingState.{Unmade, Present, Gone}
+use Rattle.sva_model.specs.State.Stage.{Unbound, Live, Stopping, Draining, Invalidating, Quiet, Lost, Released}
+use Rattle.sva_model.specs.State.OrderState.{Done}
+use Rattle.sva_model.specs.State.Phase.{Open}
+use Rattle.sva_model.specs.States.{Place, is_unreleased, is_open, is_done, answered, place, place_at, place_by, place_of_gone}
+use Rattle.sva_model.specs.States.Place.{Free, Mapped, Withheld}
+use Rattle.sva_model.specs.Acts.{Act, act, bound, submits_at, owed_by, owed_by_unit, owed_by_stage, submitted_if, cookie_of}
+use Rattle.sva_model.specs.Acts.Act.{Unmap}
+use Rattle.sva_model.specs.Steps.{next, run, after_acts, decide, world_after}
+use Rattle.sva_model.specs.Claims.{IsAt, IsMapped, WasDone, IsBeforeInvalidating, AreDone, HasAnswered, IsWithheld}
+use Rattle.sva_model.specs.Claims.HasAnswered.{was_done, orders_done, pasid_done, was_reset}
+use Rattle.sva_laws.proofs.Words.{find_passes, all_below-true, all_below-false, all_below_cases}
+use Rattle.sva_laws.proofs.Answered.{all_below-intro}
+use Rattle.sva_laws.proofs.Invariant.{Inv}
+use Rattle.sva_laws.proofs.Passed.{and_left, and_right}
+use Rattle.sva_laws.proofs.Unmap.{bound_is, open_is}
+use Rattle.sva_laws.proofs.Runs.{always, next_keeps}
+use Rattle.sva_laws.proofs.Agreement.{withheld_at}
+use Rattle.sva_laws.proofs.Lookback.{Goes, Moves, Later, WentAt, moves, later, went, run_append, after_one, one_more, append_none}
+use Rattle.sva_laws.proofs.Lookback.Goes.{unmapped, dropped}
+
+-- What an endpoint owes for an unmapping is answered, exactly where it has answered for its binding.
+
+done_is : (x : OrderState) → is_done x ≡ true → x ≡ Done
+done_is x h = grind arith
+
+is_done_of : (x : OrderState) → x ≡ Done → is_done x ≡ true
+is_done_of x h = ap is_done h
+
+resets_same : (t : Bool) (p : Part) (b q count cookie : ℕ) → (submitted_if t p (Some b) q count cookie).resets ≡ p.resets
+resets_same true p b q count cookie = refl
+resets_same false p b q count cookie = refl
+
+orders_more : (t : Bool) (p : Part) (b q count cookie : ℕ) → t ≡ true → (submitted_if t p (Some b) q count cookie).orders ≡ p.orders + suc count
+orders_more true p b q count cookie h = refl
+orders_more false p b q count cookie h = absurd (cc)
+
+or_first : (a b : Bool) → a ≡ true → (a || b) ≡ true
+or_first a b h = grind arith
+
+or_second : (a b : Bool) → b ≡ true → (a || b) ≡ true
+or_second a b h = grind arith
+
+and_both : (a b : Bool) → a ≡ true → b ≡ true → (a && b) ≡ true
+and_both a b h k = grind arith
+
+or_cases : (a b : Bool) → (a || b) ≡ true → (a ≡ true) ⊎ (b ≡ true)
+or_cases true b h = inl refl
+or_cases false b h = inr h
+
+less : (a b : ℕ) → a < b → nat_lt a b ≡ true
+less a b h = grind (arith, nat_tests)
+
+less_is : (a b : ℕ) → nat_lt a b ≡ true → a < b
+less_is a b h = grind (arith, nat_tests)
+
+answered_by_reset : (now : Part) (resets q k i w count : ℕ) (flag : Bool) → resets < now.resets → (answered now (Pages q k count resets) ≡ true) × (answered now (Pasid i w resets flag) ≡ true) × (answered now (AReset resets) ≡ true)
+answered_by_reset now resets q k i w count flag l =
+    (or_second (all_below (suc count) (λ j. is_done (now.order_state (k + j)))) (nat_lt resets now.resets) (less resets now.resets l),
+    or_second (is_done (now.order_state i) && is_done (now.order_state w)) (nat_lt resets now.resets) (less resets now.resets l),
+    less resets now.resets l)
+
+stage_by_reset : (was now : Part) (q count : ℕ) (s : Stage) (o : Bool) → is_open was.phase ≡ o → was.resets < now.resets → answered now (owed_by_stage was q count s) ≡ true
+stage_by_reset was now q count Unbound o e l = refl
+stage_by_reset was now q count Live o e l = grind (arith, nat_tests)
+stage_by_reset was now q count (Stopping marked) o e l = grind (arith, nat_tests)
+stage_by_reset was now q count (Draining wait) o e l = grind (arith, nat_tests)
+stage_by_reset was now q count (Invalidating i w) o e l = grind (arith, nat_tests)
+stage_by_reset was now q count Quiet o e l = refl
+stage_by_reset was now q count Lost o e l = refl
+stage_by_reset was now q count Released o e l = refl
+
+range_done : (now : Part) (from count : ℕ) → AreDone now from (from + suc count) → all_below (suc count) (λ j. is_done (now.order_state (from + j))) ≡ true
+range_done now from count dn =
+    all_below-intro (suc count) (λ j. is_done (now.order_state (from + j))) (λ j l. is_done_of (now.order_state (from + j)) (dn (from + j) (omega arith) (omega arith)))
+
+done_range : (now : Part) (from count : ℕ) → all_below (suc count) (λ j. is_done (now.order_state (from + j))) ≡ true → AreDone now from (from + suc count)
+done_range now from count all k l h =
+    subst (λ z. now.order_state z ≡ Done) sum (done_is (now.order_state (from + (k - from))) (all_below-true (suc count) (λ j. is_done (now.order_state (from + j))) all (k - from) (omega arith)))
+  where
+    sum : from + (k - from) ≡ k
+    sum = omega arith
+
+-- what the unit submits for the binding is done: so all that it owes
+pages_done : (was now : Part) (q count : ℕ) → AreDone now was.orders (was.orders + suc count) → answered now (Pages q was.orders count was.resets) ≡ true
+pages_done was now q count dn =
+    or_first (all_below (suc count) (λ j. is_done (now.order_state (was.orders + j)))) (nat_lt was.resets now.resets) (range_done now was.orders count dn)
+
+before_submits : (was : Part) (b : ℕ) → was.phase ≡ Open → IsBeforeInvalidating was b → submits_at was (Some b) ≡ true
+before_submits was b ph (inl h) = grind arith
+before_submits was b ph (inr (inl h)) = let e = h.1 in grind arith
+before_submits was b ph (inr (inr h)) = let e = h.1 in grind arith
+
+before_owes : (was : Part) (b q count : ℕ) → was.phase ≡ Open → IsBeforeInvalidating was b → owed_by was q count (Some b) ≡ Pages q was.orders count was.resets
+before_owes was b q count ph (inl h) = grind arith
+before_owes was b q count ph (inr (inl h)) = let e = h.1 in grind arith
+before_owes was b q count ph (inr (inr h)) = let e = h.1 in grind arith
+
+pub answered_if : (was now then : Part) (b q count cookie : ℕ) → then ≡ submitted_if (submits_at was (Some b)) was (Some b) q count cookie → HasAnswered was then now b → answered now (owed_by was q count (Some b)) ≡ true
+answered_if was now then b q count cookie e (was_done (inl h)) = ap (λ s. answered now (owed_by_stage was q count s)) h
+answered_if was now then b q count cookie e (was_done (inr h)) = ap (λ s. answered now (owed_by_stage was q count s)) h
+answered_if was now then b q count cookie e (orders_done ph st dn) =
+    ap (answered now) (before_owes was b q count ph st) ∙ pages_done was now q count (subst (λ z. AreDone now was.orders z) sum dn)
+  where
+    sum : then.orders ≡ was.orders + suc count
+    sum = ap (λ p. p.orders) e ∙ orders_more (submits_at was (Some b)) was b q count cookie (before_submits was b ph st)
+answered_if was now then b q count cookie e (pasid_done i w st x y) =
+    ap (λ s. answered now (owed_by_stage was q count s)) st
+    ∙ or_first (is_done (now.order_state i) && is_done (now.order_state w)) (nat_lt was.resets now.resets) (and_both (is_done (now.order_state i)) (is_done (now.order_state w)) (is_done_of (now.order_state i) x) (is_done_of (now.order_state w) y))
+answered_if was now then b q count cookie e (was_reset l) =
+    stage_by_reset was now q count (was.stage b) (is_open was.phase) refl (subst (λ z. z < now.resets) (ap (λ p. p.resets) e ∙ resets_same (submits_at was (Some b)) was b q count cookie) l)
+
+then_resets : (was now then : Part) (b q count cookie : ℕ) → then ≡ submitted_if (submits_at was (Some b)) was (Some b) q count cookie → nat_lt was.resets now.resets ≡ true → HasAnswered was then now b
+then_resets was now then b q count cookie e h =
+    was_reset (subst (λ z. z < now.resets) (sym (ap (λ p. p.resets) e ∙ resets_same (submits_at was (Some b)) was b q count cookie)) (less_is was.resets now.resets h))
+
+unit_answers : (was now then : Part) (b q count cookie : ℕ) (o : Bool) → is_open was.phase ≡ o → IsBeforeInvalidating was b → owed_by was q count (Some b) ≡ owed_by_unit was q count o → then ≡ submitted_if (submits_at was (Some b)) was (Some b) q count cookie → answered now (owed_by was q count (Some b)) ≡ true → HasAnswered was then now b
+unit_answers was now then b q count cookie false op st ow e h =
+    then_resets was now then b q count cookie e (sym (ap (answered now) ow) ∙ h)
+unit_answers was now then b q count cookie true op st ow e h =
+    by (or_cases (all_below (suc count) (λ j. is_done (now.order_state (was.orders + j)))) (nat_lt was.resets now.resets) (sym (ap (answered now) ow) ∙ h))
+  where
+    sum : then.orders ≡ was.orders + suc count
+    sum = ap (λ p. p.orders) e ∙ orders_more (submits_at was (Some b)) was b q count cookie (before_submits was b (open_is was op) st)
+
+    by : (all_below (suc count) (λ j. is_done (now.order_state (was.orders + j))) ≡ true) ⊎ (nat_lt was.resets now.resets ≡ true) → HasAnswered was then now b
+    by (inl x) = orders_done (open_is was op) st (subst (λ z. AreDone now was.orders z) (sym sum) (done_range now was.orders count x))
+    by (inr x) = then_resets was now then b q count cookie e x
+
+pub answers_if : (was now then : Part) (b q count cookie : ℕ) → is_unreleased (was.stage b) ≡ true → then ≡ submitted_if (submits_at was (Some b)) was (Some b) q count cookie → answered now (owed_by was q count (Some b)) ≡ true → HasAnswered was then now b
+answers_if was now then b q count cookie u e h = go (was.stage b) refl
+  where
+    go : (s : Stage) → was.stage b ≡ s → HasAnswered was then now b
+    go Unbound st = absurd (cc (sym u ∙ ap is_unreleased st))
+    go Released st = absurd (cc (sym u ∙ ap is_unreleased st))
+    go Quiet st = was_done (inl st)
+    go Lost st = was_done (inr st)
+    go Live st = unit_answers was now then b q count cookie (is_open was.phase) refl (inl st) (ap (owed_by_stage was q count) st) e h
+    go (Stopping marked) st = unit_answers was now then b q count cookie (is_open was.phase) refl (inr (inl (marked, st))) (ap (owed_by_stage was q count) st) e h
+    go (Draining wait) st = unit_answers was now then b q count cookie (is_open was.phase) refl (inr (inr (wait, st))) (ap (owed_by_stage was q count) st) e h
+    go (Invalidating i w) st = by (or_cases (is_done (now.order_state i) && is_done (now.order_state w)) (nat_lt was.resets now.resets) (sym (ap (λ s. answered now (owed_by_stage was q count s)) st) ∙ h))
+      where
+        by : ((is_done (now.order_state i) && is_done (now.order_state w)) ≡ true) ⊎ (nat_lt was.resets now.resets ≡ true) → HasAnswered was then now b
+        by (inl x) = pasid_done i w st (done_is (now.order_state i) (and_left (is_done (now.order_state i)) (is_done (now.order_state w)) x)) (done_is (now.order_state w) (and_right (is_done (now.order_state i)) (is_done (now.order_state w)) x))
+        by (inr x) = then_resets was now then b q count cookie e x
+
+-- The config stays.
+
+config_act : (w : World) (a : Act) → (act w a).config ≡ w.config
+config_act w a = grind arith
+
+config_acts : (acts : List Act) (w : World) → (after_acts w acts).config ≡ w.config
+config_acts [] w = refl
+config_acts (a ∷ acts) w = config_acts acts (act w a) ∙ config_act w a
+
+config_run : (ss : List Step) (w : World) → (run w ss).config ≡ w.config
+config_run [] w = refl
+config_run (s ∷ ss) w = config_run ss (next w s) ∙ config_acts (decide w s).acts w
+
+pub config_kept : (c : Config) (ss : List Step) → (world_after c ss).config ≡ c
+config_kept c ss = config_run ss (opened c)
+
+-- From one list of steps to a longer one.
+
+later_by : (c : Config) (before rest : List Step) → Later (world_after c before) (world_after c (before ++ rest))
+later_by c before rest = subst (λ v. Later (world_after c before) v) (sym (run_append before rest (opened c))) (later rest (world_after c before) (always c before))
+
+later_from_next : (c : Config) (before : List Step) (s : Step) (rest : List Step) → Later (next (world_after c before) s) (world_after c (before ++ s ∷ rest))
+later_from_next c before s rest =
+    subst (λ v. Later (next (world_after c before) s) v) (sym (run_append before (s ∷ rest) (opened c))) (later rest (next (world_after c before) s) (next_keeps (world_after c before) s (always c before)))
+
+longer : (before : List Step) (s : Step) (some rest : List Step) → (before ++ s ∷ some) ++ rest ≡ before ++ s ∷ (some ++ rest)
+longer before s some rest = append_assoc before (s ∷ some) rest
+
+-- what is mapped is the latest mapping of its frame, and present
+mapped_latest : (w : World) (f : ℕ) → Inv w → IsMapped w f → (k : ℕ) × (w.mappings.latest f ≡ Some k) × (w.mappings.state k ≡ Present)
+mapped_latest w f i a =
+    let x = i.mapped.at_present a.space a.page a.is_at.mapping a.is_at.maps in
+    (a.is_at.mapping, subst (λ z. w.mappings.latest z ≡ Some a.is_at.mapping) a.is_at.leads (i.mapped.latest a.is_at.mapping x.0), x.0)
+
+present_mapped : (w : World) (f k : ℕ) → Inv w → w.mappings.latest f ≡ Some k → w.mappings.state k ≡ Present → IsMapped w f
+present_mapped w f k i la g =
+    let at = i.mapped.present_at k g in
+    record {
+      space = w.mappings.space k; page = w.mappings.page k;
+      is_at = record { live = (i.mapped.at_present (w.mappings.space k) (w.mappings.page k) k at).3; mapping = k; maps = at; leads = (i.mapped.named f k la).0 };
+    }
+
+-- where the latest mapping of a frame is gone and stays the latest, the frame wasn't mapped in between
+not_between : (w u v : World) (f m : ℕ) (owed : ℕ → Owed) → Inv u → Later w u → Later u v → w.mappings.latest f ≡ Some m → u.mappings.state m ≡ Gone owed → v.mappings.latest f ≡ Some m → IsMapped u f → ⊥
+not_between w u v f m owed i a b la g lv is =
+    let x = mapped_latest u f i is in
+    let y = a.latest_grows f m la in
+    let z = b.latest_grows f x.0 x.1 in
+    let low : m ≤ x.0 = subst (λ k. m ≤ k) (some_is (sym y.1 ∙ x.1)) y.2 in
+    let high : x.0 ≤ m = subst (λ k. x.0 ≤ k) (some_is (sym z.1 ∙ lv)) z.2 in
+    let same : x.0 ≡ m = omega (arith, low, high) in
+    apart (sym (subst (λ k. u.mappings.state k ≡ Present) same x.2) ∙ g)
+  where
+    some_is : {j k : ℕ} → Some j ≡ Some k → j ≡ k
+    some_is h = cc
+
+    apart : Present ≡ Gone owed → ⊥
+    apart h = absurd (cc)
+
+then_part : (c : Config) (before : List Step) (step : Step) (e s q count b : ℕ) → next (world_after c before) step ≡ act (world_after c before) (Unmap s q count) → bound (world_after c before) e s ≡ Some b → ((world_after c (before ++ step ∷ [])).part e) ≡ submitted_if (submits_at ((world_after c before).part e) (Some b)) ((world_after c before).part e) (Some b) q count (cookie_of (world_after c before) s e)
+then_part c before step e s q count b nx bo =
+    ap (λ w. w.part e) (after_one c before step ∙ nx) ∙ ap (λ o. submitted_if (submits_at ((world_after c before).part e) o) ((world_after c before).part e) o q count (cookie_of (world_after c before) s e)) bo
+
+both : {t : Bool} → t ≡ true → t ≡ false → ⊥
+both h k = absurd (cc)
+
+-- An endpoint that owes for the latest mapping of a frame: then the frame is withheld by the look back.
+record Owes (c : Config) (before : List Step) (step : Step) (since : List Step) (f m e : ℕ) (owed : ℕ → Owed) : Type 0 where
+  is_endpoint : e < c.endpoints
+  present : (world_after c before).mappings.state m ≡ Present
+  gone : (next (world_after c before) step).mappings.state m ≡ Gone owed
+  latest : (world_after c (before ++ step ∷ since)).mappings.latest f ≡ Some m
+  unanswered : answered ((world_after c (before ++ step ∷ since)).part e) (owed e) ≡ false
+
+was_at : (c : Config) (before : List Step) (step : Step) (since : List Step) (f m e : ℕ) (owed : ℕ → Owed) → Owes c before step since f m e owed → (world_after c before).mappings.frame m ≡ f
+was_at c before step since f m e owed o =
+    let l = later_by c before (step ∷ since) in
+    let made : (world_after c before).mappings.state m ≢ Unmade = made_of o.present in
+    sym (l.frame_on m made) ∙ ((always c (before ++ step ∷ since)).mapped.named f m o.latest).0
+  where
+    made_of : {z : MappingState} → z ≡ Present → z ≢ Unmade
+    made_of h k = absurd (cc)
+
+withheld_by : (c : Config) (before : List Step) (step : Step) (since : List Step) (f m e : ℕ) (owed : ℕ → Owed) (s q count b : ℕ) → Owes c before step since f m e owed → next (world_after c before) step ≡ act (world_after c before) (Unmap s q count) → (world_after c before).mappings.space m ≡ s → owed ≡ (λ x. owed_by ((world_after c before).part x) q count (bound (world_after c before) x s)) → bound (world_after c before) e s ≡ Some b → IsWithheld c (before ++ step ∷ since) f
+withheld_by c before step since f m e owed s q count b o nx sp ow bo =
+    let w = world_after c before in
+    let i = always c before in
+    let at = i.mapped.present_at m o.present in
+    let found = find_passes w.bindings (λ d. is_unreleased ((w.part e).stage d) && (w.part e).space d == s) b bo in
+    record {
+      before = before; step = step; since = since; steps_are = refl;
+      space = s; page = w.mappings.page m;
+      was_there = record {
+        live = subst (λ z. w.is_live z ≡ true) sp (i.mapped.at_present (w.mappings.space m) (w.mappings.page m) m at).3;
+        mapping = m;
+        maps = subst (λ z. w.mappings.at z (w.mappings.page m) ≡ Some m) sp at;
+        leads = frame;
+      };
+      not_mapped_since = λ some rest e. between some rest e;
+      endpoint = e; is_endpoint = o.is_endpoint; binding = b;
+      unreleased = and_left (is_unreleased ((w.part e).stage b)) ((w.part e).space b == s) found.1;
+      of_space = space_is (and_right (is_unreleased ((w.part e).stage b)) ((w.part e).space b == s) found.1);
+      silent = λ h. silent h;
+    }
+  where
+    frame : (world_after c before).mappings.frame m ≡ f
+    frame = was_at c before step since f m e owed o
+
+    space_is : ((((world_after c before).part e).space b) == s) ≡ true → ((world_after c before).part e).space b ≡ s
+    space_is h = grind (arith, nat_tests)
+
+    between : (some rest : List Step) → some ++ rest ≡ since → IsMapped (world_after c (before ++ step ∷ some)) f → ⊥
+    between some rest sum is =
+        not_between (world_after c before) (world_after c (before ++ step ∷ some)) (world_after c (before ++ step ∷ since)) f m owed (always c (before ++ step ∷ some))
+        (later_by c before (step ∷ some))
+        (subst (λ z. Later (world_after c (before ++ step ∷ some)) (world_after c z)) (longer before step some rest ∙ ap (λ z. before ++ step ∷ z) sum) (later_by c (before ++ step ∷ some) rest))
+        (subst (λ z. (world_after c before).mappings.latest z ≡ Some m) frame ((always c before).mapped.latest m o.present))
+        ((later_from_next c before step some).gone_on m owed o.gone)
+        o.latest is
+
+    silent : HasAnswered ((world_after c before).part e) ((world_after c (before ++ step ∷ [])).part e) ((world_after c (before ++ step ∷ since)).part e) b → ⊥
+    silent h =
+        let yes = answered_if ((world_after c before).part e) ((world_after c (before ++ step ∷ since)).part e) ((world_after c (before ++ step ∷ [])).part e) b q count (cookie_of (world_after c before) s e) (then_part c before step e s q count b nx bo) h in
+        let owes : owed e ≡ owed_by ((world_after c before).part e) q count (Some b) = ap (λ v. v e) ow ∙ ap (owed_by ((world_after c before).part e) q count) bo in
+        both (ap (answered ((world_after c (before ++ step ∷ since)).part e)) owes ∙ yes) o.unanswered
+
+owed_withheld : (c : Config) (before : List Step) (step : Step) (since : List Step) (f m e : ℕ) (owed : ℕ → Owed) → Owes c before step since f m e owed → Goes (world_after c before) (next (world_after c before) step) m owed → IsWithheld c (before ++ step ∷ since) f
+owed_withheld c before step since f m e owed o (dropped s sp none ow) = absurd (cc (sym o.unanswered ∙ ap (λ v. answered ((world_after c (before ++ step ∷ since)).part e) (v e)) ow))
+owed_withheld c before step since f m e owed o (unmapped s q count nx sp ow) = go (bound (world_after c before) e s) refl
+  where
+    nothing : bound (world_after c before) e s ≡ None → answered ((world_after c (before ++ step ∷ since)).part e) (owed e) ≡ true
+    nothing bo = ap (λ v. answered ((world_after c (before ++ step ∷ since)).part e) (v e)) ow ∙ ap (λ x. answered ((world_after c (before ++ step ∷ since)).part e) (owed_by ((world_after c before).part e) q count x)) bo
+
+    go : (x : Option ℕ) → bound (world_after c before) e s ≡ x → IsWithheld c (before ++ step ∷ since) f
+    go None bo = absurd (cc (sym o.unanswered ∙ nothing bo))
+    go (Some b) bo = withheld_by c before step since f m e owed s q count b o nx sp ow bo
+
+gone_withheld : (c : Config) (steps : List Step) (f m e : ℕ) (owed : ℕ → Owed) → e < c.endpoints → (world_after c steps).mappings.latest f ≡ Some m → (world_after c steps).mappings.state m ≡ Gone owed → answered ((world_after c steps).part e) (owed e) ≡ false → IsWithheld c steps f
+gone_withheld c steps f m e owed lt la g un =
+    let x = went c steps m owed g in
+    subst (λ z. IsWithheld c z f) (sym x.steps_are)
+    (owed_withheld c x.before x.step x.since f m e owed
+    (record { is_endpoint = lt; present = x.present; gone = x.gone; latest = subst (λ z. (world_after c z).mappings.latest f ≡ Some m) x.steps_are la; unanswered = subst (λ z. answered ((world_after c z).part e) (owed e) ≡ false) x.steps_are un })
+    x.goes)
+
+pub is_withheld : (c : Config) (steps : List Step) (f : ℕ) → place (world_after c steps) f ≡ Withheld → IsWithheld c steps f
+is_withheld c steps f h = go ((world_after c steps).mappings.latest f) refl h
+  where
+    go : (o : Option ℕ) → (world_after c steps).mappings.latest f ≡ o → place_at (world_after c steps) o ≡ Withheld → IsWithheld c steps f
+    go None la h = absurd (cc)
+    go (Some m) la h = by ((world_after c steps).mappings.state m) refl h
+      where
+        by : (z : MappingState) → (world_after c steps).mappings.state m ≡ z → place_by (world_after c steps) z ≡ Withheld → IsWithheld c steps f
+        by Unmade g h = absurd (cc)
+        by Present g h = absurd (cc)
+        by (Gone owed) g h = some (all_below_cases (world_after c steps).config.endpoints (λ x. answered ((world_after c steps).part x) (owed x)))
+          where
+            free : all_below (world_after c steps).config.endpoints (λ x. answered ((world_after c steps).part x) (owed x)) ≡ true → Free ≡ Withheld
+            free a = sym (ap place_of_gone a) ∙ h
+
+            some : (all_below (world_after c steps).config.endpoints (λ x. answered ((world_after c steps).part x) (owed x)) ≡ true) ⊎ ((j : ℕ) × (j < (world_after c steps).config.endpoints) × (answered ((world_after c steps).part j) (owed j) ≡ false)) → IsWithheld c steps f
+            some (inl a) = absurd (cc (free a))
+            some (inr x) = gone_withheld c steps f m x.0 owed (subst (λ k. x.0 < k.endpoints) (config_kept c steps) x.1) la g x.2
+
+-- And back: what is withheld by the look back is owed for.
+
+mapped_latest_at : (c : Config) (steps : List Step) (f k : ℕ) → (world_after c steps).mappings.latest f ≡ Some k → (world_after c steps).mappings.state k ≡ Present → IsMapped (world_after c steps) f
+mapped_latest_at c steps f k la g = present_mapped (world_after c steps) f k (always c steps) la g
+
+-- while the frame isn't mapped, its latest mapping stays
+latest_stays : (c : Config) (before : List Step) (step : Step) (since : List Step) (f m : ℕ) → ((some rest : List Step) → some ++ rest ≡ since → IsMapped (world_after c (before ++ step ∷ some)) f → ⊥) → (rest some : List Step) → some ++ rest ≡ since → (world_after c (before ++ step ∷ some)).mappings.latest f ≡ Some m → (world_after c (before ++ step ∷ since)).mappings.latest f ≡ Some m
+latest_stays c before step since f m un [] some sum la = subst (λ z. (world_after c (before ++ step ∷ z)).mappings.latest f ≡ Some m) (sym (append_none some) ∙ sum) la
+latest_stays c before step since f m un (s ∷ rest) some sum la =
+    latest_stays c before step since f m un rest (some ++ s ∷ []) (append_assoc some (s ∷ []) rest ∙ sum)
+    (go ((moves u s (always c (before ++ step ∷ some))).latest_new f))
+  where
+    u : World
+    u = world_after c (before ++ step ∷ some)
+
+    after : world_after c (before ++ step ∷ (some ++ s ∷ [])) ≡ next u s
+    after = ap (world_after c) (one_more before step some s) ∙ after_one c (before ++ step ∷ some) s
+
+    go : ((next u s).mappings.latest f ≡ u.mappings.latest f) ⊎ ((z : ℕ) × ((next u s).mappings.latest f ≡ Some z) × ((next u s).mappings.state z ≡ Present)) → (world_after c (before ++ step ∷ (some ++ s ∷ []))).mappings.latest f ≡ Some m
+    go (inl x) = ap (λ w. w.mappings.latest f) after ∙ x ∙ la
+    go (inr x) =
+        absurd (un (some ++ s ∷ []) rest (append_assoc some (s ∷ []) rest ∙ sum)
+        (mapped_latest_at c (before ++ step ∷ (some ++ s ∷ [])) f x.0 (ap (λ w. w.mappings.latest f) after ∙ x.1) (ap (λ w. w.mappings.state x.0) after ∙ x.2)))
+
+-- an endpoint with an unreleased binding of the space, which hasn't answered for it, hasn't answered what it owes
+not_answered : (c : Config) (before : List Step) (step : Step) (since : List Step) (m e b t : ℕ) (owed : ℕ → Owed) → (world_after c before).mappings.space m ≡ t → is_unreleased (((world_after c before).part e).stage b) ≡ true → ((world_after c before).part e).space b ≡ t → (HasAnswered ((world_after c before).part e) ((world_after c (before ++ step ∷ [])).part e) ((world_after c (before ++ step ∷ since)).part e) b → ⊥) → Goes (world_after c before) (next (world_after c before) step) m owed → answered ((world_after c (before ++ step ∷ since)).part e) (owed e) ≡ true → ⊥
+not_answered c before step since m e b t owed mt u bt silent (dropped s sp none ow) h = none e b u (bt ∙ sym mt ∙ sp)
+not_answered c before step since m e b t owed mt u bt silent (unmapped s q count nx sp ow) h =
+    silent (answers_if ((world_after c before).part e) ((world_after c (before ++ step ∷ since)).part e) ((world_after c (before ++ step ∷ [])).part e) b q count (cookie_of (world_after c before) s e) u
+    (then_part c before step e s q count b nx bo)
+    (ap (answered ((world_after c (before ++ step ∷ since)).part e)) (sym owes) ∙ h))
+  where
+    bo : bound (world_after c before) e s ≡ Some b
+    bo = bound_is (world_after c before) e b s (always c before) u (bt ∙ sym mt ∙ sp)
+
+    owes : owed e ≡ owed_by ((world_after c before).part e) q count (Some b)
+    owes = ap (λ v. v e) ow ∙ ap (owed_by ((world_after c before).part e) q count) bo
+
+bool_false : (b : Bool) → (b ≡ true → ⊥) → b ≡ false
+bool_false true h = absurd (h refl)
+bool_false false h = refl
+
+withheld_after : (c : Config) (before : List Step) (step : Step) (since : List Step) (f t q e b : ℕ) → IsAt (world_after c before) f t q → ((some rest : List Step) → some ++ rest ≡ since → IsMapped (world_after c (before ++ step ∷ some)) f → ⊥) → e < c.endpoints → is_unreleased (((world_after c before).part e).stage b) ≡ true → ((world_after c before).part e).space b ≡ t → (HasAnswered ((world_after c before).part e) ((world_after c (before ++ step ∷ [])).part e) ((world_after c (before ++ step ∷ since)).part e) b → ⊥) → place (world_after c (before ++ step ∷ since)) f ≡ Withheld
+withheld_after c before step since f t q e b is un lt u bt silent =
+    by ((moves w step i).present_on m (at.0))
+  where
+    w : World
+    w = world_after c before
+
+    i : Inv w
+    i = always c before
+
+    m : ℕ
+    m = is.mapping
+
+    at : (w.mappings.state m ≡ Present) × (w.mappings.space m ≡ t) × (w.mappings.page m ≡ q) × (w.is_live t ≡ true)
+    at = i.mapped.at_present t q m is.maps
+
+    la : w.mappings.latest f ≡ Some m
+    la = subst (λ z. w.mappings.latest z ≡ Some m) is.leads (i.mapped.latest m at.0)
+
+    first : world_after c (before ++ step ∷ []) ≡ next w step
+    first = after_one c before step
+
+    not_new : (k : ℕ) → (next w step).mappings.latest f ≡ Some k → (next w step).mappings.state k ≡ Present → ⊥
+    not_new k la g = un [] since refl (mapped_latest_at c (before ++ step ∷ []) f k (ap (λ v. v.mappings.latest f) first ∙ la) (ap (λ v. v.mappings.state k) first ∙ g))
+
+    stays : ((next w step).mappings.latest f ≡ w.mappings.latest f) ⊎ ((z : ℕ) × ((next w step).mappings.latest f ≡ Some z) × ((next w step).mappings.state z ≡ Present)) → (next w step).mappings.latest f ≡ Some m
+    stays (inl x) = x ∙ la
+    stays (inr x) = absurd (not_new x.0 x.1 x.2)
+
+    latest : (next w step).mappings.latest f ≡ Some m
+    latest = stays ((moves w step i).latest_new f)
+
+    end : (world_after c (before ++ step ∷ since)).mappings.latest f ≡ Some m
+    end = latest_stays c before step since f m un since [] refl (ap (λ v. v.mappings.latest f) first ∙ latest)
+
+    by : ((next w step).mappings.state m ≡ Present) ⊎ ((owed : ℕ → Owed) × ((next w step).mappings.state m ≡ Gone owed) × Goes w (next w step) m owed) → place (world_after c (before ++ step ∷ since)) f ≡ Withheld
+    by (inl g) = absurd (not_new m latest g)
+    by (inr x) =
+        withheld_at (world_after c (before ++ step ∷ since)) f m e x.0 end
+        ((later_from_next c before step since).gone_on m x.0 x.1)
+        (subst (λ k. e < k.endpoints) (sym (config_kept c (before ++ step ∷ since))) lt)
+        (bool_false (answered ((world_after c (before ++ step ∷ since)).part e) (x.0 e)) (λ h. not_answered c before step since m e b t x.0 at.1 u bt silent x.2 h))
+
+pub place_withheld : (c : Config) (steps : List Step) (f : ℕ) → IsWithheld c steps f → place (world_after c steps) f ≡ Withheld
+place_withheld c steps f x =
+    subst (λ z. place (world_after c z) f ≡ Withheld) (sym x.steps_are)
+    (withheld_after c x.before x.step x.since f x.space x.page x.endpoint x.binding x.was_there x.not_mapped_since x.is_endpoint x.unreleased x.of_space
+    (subst (λ z. HasAnswered ((world_after c x.before).part x.endpoint) ((world_after c (x.before ++ x.step ∷ [])).part x.endpoint) ((world_after c z).part x.endpoint) x.binding → ⊥) x.steps_are x.silent))

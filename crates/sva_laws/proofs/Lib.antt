@@ -27,3 +27,4 @@ pub mod Agreement
 pub mod Adding
 pub mod Lookback
 pub mod Withheld
+pub mod Claimed

@@ -1,0 +1,53 @@
+-- The headline: after every list of steps the agreement holds.
+use Rattle.std.proofs.Common.{◌≡◌, ◌≢◌, ◌⊎◌, ◌↔◌, inl, inr, refl, ℕ, sym, ◌∙◌}
+use Rattle.std.specs.Prelude.{List}
+use Rattle.sva_step.specs.declared.limits.Config.{Config}
+use Rattle.sva_step.specs.declared.steps.Step.{Step}
+use Rattle.sva_model.specs.States.{Place, place}
+use Rattle.sva_model.specs.States.Place.{Free, Mapped, Withheld}
+use Rattle.sva_model.specs.Steps.{world_after}
+use Rattle.sva_model.specs.Claims.{IsPresent, IsMapped, IsWithheld, IsDivided, Agrees, AlwaysAgrees, Usable}
+use Rattle.sva_laws.proofs.Runs.{always}
+use Rattle.sva_laws.proofs.Agreement.{owner, usable, matched, distinct, mapped_once, is_mapped, place_mapped}
+use Rattle.sva_laws.proofs.Withheld.{is_withheld, place_withheld}
+
+-- a place that is neither Mapped nor Withheld is Free
+free_is : (p : Place) → (p ≡ Mapped → ⊥) → (p ≡ Withheld → ⊥) → p ≡ Free
+free_is Free h k = refl
+free_is Mapped h k = absurd (h refl)
+free_is Withheld h k = absurd (k refl)
+
+apart_mapped : (p : Place) → p ≡ Free → p ≡ Mapped → ⊥
+apart_mapped p h k = absurd (cc)
+
+apart_withheld : (p : Place) → p ≡ Free → p ≡ Withheld → ⊥
+apart_withheld p h k = absurd (cc)
+
+pub divided : (c : Config) (steps : List Step) → IsDivided c steps
+divided c steps =
+    let i = always c steps in
+    record {
+      mapped_once = λ f s q t r a b. mapped_once (world_after c steps) f s q t r i a b;
+      mapped = λ f. (is_mapped (world_after c steps) f i, place_mapped (world_after c steps) f i);
+      withheld = λ f. (is_withheld c steps f, place_withheld c steps f);
+      free = λ f. (
+        (λ h. (λ a. apart_mapped (place (world_after c steps) f) h (place_mapped (world_after c steps) f i a), λ x. apart_withheld (place (world_after c steps) f) h (place_withheld c steps f x))),
+        (λ h. free_is (place (world_after c steps) f) (λ a. h.0 (is_mapped (world_after c steps) f i a)) (λ x. h.1 (is_withheld c steps f x))));
+    }
+
+usable_now : (c : Config) (steps : List Step) (e b q m : ℕ) → Usable (world_after c steps) e b q m → IsPresent (world_after c steps) e b q m ⊎ IsWithheld c steps ((world_after c steps).mappings.frame m)
+usable_now c steps e b q m u = go (usable (world_after c steps) e b q m (always c steps) u)
+  where
+    go : IsPresent (world_after c steps) e b q m ⊎ (place (world_after c steps) ((world_after c steps).mappings.frame m) ≡ Withheld) → IsPresent (world_after c steps) e b q m ⊎ IsWithheld c steps ((world_after c steps).mappings.frame m)
+    go (inl x) = inl x
+    go (inr y) = inr (is_withheld c steps ((world_after c steps).mappings.frame m) y)
+
+pub always_agrees : AlwaysAgrees
+always_agrees c steps fits =
+    record {
+      owner = λ e b q m u. owner (world_after c steps) e b q m (always c steps) u;
+      usable = λ e b q m u. usable_now c steps e b q m u;
+      matched = λ e. matched (world_after c steps) e (always c steps);
+      divided = divided c steps;
+      distinct = λ e b d u v same. distinct (world_after c steps) e b d (always c steps) u v same;
+    }

@@ -1,0 +1,14 @@
+pub mod Cache
+pub mod Calls
+pub mod Coverage
+pub mod Deliveries
+pub mod Entries
+pub mod Groups
+pub mod Laws
+pub mod PasidStates
+pub mod RequestTags
+pub mod Steps
+pub mod Tables
+pub mod Taken
+pub mod UseSlots
+pub mod Vectors

@@ -1,0 +1,89 @@
+-- What an endpoint does with a message from the host, and answers.
+use Rattle.std.specs.Prelude.{ℕ, Bool, true, false, map, slice_set, Some, not, ◌&&◌, if◌then◌else◌}
+use Rattle.std.specs.FinMap.{insert}
+use Rattle.sva_step.specs.declared.answers.Answer.{Answer}
+use Rattle.sva_step.specs.declared.answers.Answer.TheVariants.{Started, Stopping as ToldToStop, Reset as IsReset, Dropped, NoTranslation, Full, Held, Taken as IsTaken, Answered, Stale as AnsweredStale}
+use Rattle.sva_msg.specs.declared.messages.Kind.{Kind}
+use Rattle.sva_msg.specs.declared.messages.Kind.TheVariants.{Start, Stop, Reset, Completion, Invalidate, Response}
+use Rattle.sva_msg.specs.declared.messages.Code.{Code}
+use Rattle.sva_msg.specs.declared.messages.Code.TheVariants.{Success, InvalidRequest, ResponseFailure}
+use Rattle.sva_endpoint.specs.declared.pasid_states.PasidState.TheVariants.{On, Stopping}
+use Rattle.sva_endpoint.specs.declared.request_tags.RequestTag.{RequestTag}
+use Rattle.sva_endpoint.specs.declared.request_tags.RequestTag.TheVariants.{Free, Out, Doomed}
+use Rattle.sva_endpoint.specs.declared.group_table.GroupPlace.{GroupPlace}
+use Rattle.sva_endpoint.specs.declared.group_table.GroupPlace.TheVariants.{Free as NoGroup, Unfinished, Out as GroupOut, Stale}
+use Rattle.sva_endpoint.specs.declared.coverage.Invalidation.{Invalidation}
+use Rattle.sva_endpoint.specs.Cache.{Translations, has_room_for, without_covered}
+use Rattle.sva_endpoint.specs.PasidStates.{with_state}
+use Rattle.sva_endpoint.specs.RequestTags.{request_at, doomed_by}
+use Rattle.sva_endpoint.specs.UseSlots.{cut_off, runs_covered}
+use Rattle.sva_endpoint.specs.Groups.{group_at}
+use Rattle.sva_endpoint.specs.Tables.{Tables, fresh}
+
+-- ---- a translation completion, by the request that bore its tag
+
+-- the answer to a doomed request is thrown away; one that finds the cache full of other pages isn't kept (this
+-- project's own rules)
+abbrev pub cache_after : Translations → ℕ → Bool → Bool → RequestTag → Translations
+cache_after cache frame read write Free = cache
+cache_after cache frame read write (Out pasid page) =
+    if read && has_room_for cache (pasid, page) then insert cache (pasid, page) (record { frame = frame; write = write }) else cache
+cache_after cache frame read write (Doomed pasid page) = cache
+
+-- with R clear there is no translation
+abbrev pub answer_to_completion : Translations → Bool → RequestTag → Answer
+answer_to_completion cache read Free = Dropped
+answer_to_completion cache read (Out pasid page) = if read then (if has_room_for cache (pasid, page) then Held else Full) else NoTranslation
+answer_to_completion cache read (Doomed pasid page) = Dropped
+
+abbrev pub after_completion : Tables → ℕ → ℕ → Bool → Bool → Tables
+after_completion s tag frame read write =
+    record s { cache = cache_after s.cache frame read write (request_at s.tags tag); tags = slice_set s.tags tag Free }
+
+-- ---- an invalidation
+
+-- it strikes what is cached, dooms the requests that are out and notes the uses that run, as far as it covers them
+abbrev pub after_invalidate : Tables → ℕ → Invalidation → Tables
+after_invalidate s itag invalidation =
+    record s {
+      cache = without_covered invalidation s.cache;
+      tags = map (doomed_by invalidation) s.tags;
+      taken = slice_set s.taken itag (Some (record { invalidation = invalidation; noted = map (runs_covered invalidation) s.uses }));
+    }
+
+-- ---- a page request group response
+
+abbrev pub is_failure : Code → Bool
+is_failure Success = false
+is_failure InvalidRequest = false
+is_failure ResponseFailure = true
+
+abbrev pub answer_to_response : GroupPlace → Answer
+answer_to_response NoGroup = Answered
+answer_to_response (Unfinished pasid requests) = Answered
+answer_to_response (GroupOut pasid requests) = Answered
+answer_to_response (Stale pasid requests) = AnsweredStale
+
+-- the group's index and its requests are free; a response failure disables the page request interface
+abbrev pub after_response : Tables → ℕ → Code → Tables
+after_response s index code = record s { groups = slice_set s.groups index NoGroup; enabled = s.enabled && not (is_failure code) }
+
+-- ---- each message; one that isn't sent to an endpoint changes nothing
+
+abbrev pub after_receive : Tables → Kind → Tables
+after_receive s (Start pasid) = record s { pasids = with_state s.pasids pasid On }
+after_receive s (Stop pasid) = record s { pasids = with_state s.pasids pasid Stopping }
+after_receive s Reset = record fresh { uses = map cut_off s.uses }
+after_receive s (Completion tag frame read write) = after_completion s tag frame read write
+after_receive s (Invalidate itag pasid scope) = after_invalidate s itag (record { pasid = pasid; scope = scope })
+after_receive s (Response pasid index code) = after_response s index code
+after_receive s _ = s
+
+abbrev pub answer_to : Tables → Kind → Answer
+answer_to s (Start pasid) = Started
+answer_to s (Stop pasid) = ToldToStop
+answer_to s Reset = IsReset
+answer_to s (Completion tag frame read write) = answer_to_completion s.cache read (request_at s.tags tag)
+answer_to s (Invalidate itag pasid scope) = IsTaken
+answer_to s (Response pasid index code) = answer_to_response (group_at s.groups index)
+answer_to s _ = Dropped

@@ -1,0 +1,446 @@
+ghost use Rattle.std.specs.Prelude.{◌≡◌, Ok, IsOk};
+ghost use Rattle.sva_endpoint.specs.Tables.{fresh};
+ghost use Rattle.sva_endpoint.specs.Steps.{asking, after_ask, lowest_tag, using, after_begin_use, ending, after_end_use, evicting, after_evict, may_send, faulting, after_fault, index_for, finishing, after_finish, quitting, after_quit};
+ghost use Rattle.sva_endpoint.specs.Deliveries.{answer_to, after_receive, answer_to_completion, after_completion, after_invalidate, answer_to_response, after_response};
+ghost use Rattle.sva_endpoint.specs.RequestTags.{request_at};
+ghost use Rattle.sva_endpoint.specs.Groups.{group_at};
+
+use crate::cached::{Cache, Translation};
+use crate::coverage::Invalidation;
+use crate::group_table::{GroupPlace, GroupTable};
+use crate::pasid_states::{PasidState, PasidStates};
+use crate::request_tags::{RequestTag, RequestTags};
+use crate::taken_table::{Taken, TakenTable};
+use crate::use_slots::{Use, UseSlot, UseSlots};
+use crate::yeses::{Asking, Fault, Faulting, Finishing, Received, Using};
+use std::marker::Model;
+use sva_itags::Count;
+use sva_msg::{Code, CountField, Kind, Message};
+use sva_step::{Answer, Refusal};
+
+#[cfg(test)]
+mod tests;
+
+/// Page numbers are below 2^36.
+const PAGES: u64 = 1 << 36;
+
+/// An endpoint with address translation services, page requests and PASIDs (PCI Express Base 5.0, sections 10.2 to
+/// 10.5). It is seen as its tables, by labels. No call takes memory. Each step has a test, which changes nothing and
+/// gives the first refusal that holds, or the label and the message of the step; its yes is the step's condition. That
+/// an answer to a request that an invalidation covered is thrown away, and that a completion waits for the uses that
+/// the invalidation covered, are this project's own rules.
+#[derive(Drop)]
+pub struct Endpoint {
+    pasids: PasidStates,
+    cache: Cache,
+    tags: RequestTags,
+    uses: UseSlots,
+    taken: TakenTable,
+    groups: GroupTable,
+    enabled: bool,
+}
+
+impl Model for Endpoint {
+    ghost use Rattle.std.specs.Coded.{codes};
+    ghost use Rattle.sva_endpoint.specs.Cache.{translations_code};
+    ghost use Rattle.sva_endpoint.specs.Tables.{Tables};
+
+    ghost Value = { Tables };
+
+    ghost coded = { Prim.hlevel (codes, translations_code) };
+
+    ghost view = { λ endpoint. record {
+      pasids = endpoint.pasids;
+      cache = endpoint.cache;
+      tags = endpoint.tags;
+      uses = endpoint.uses;
+      taken = endpoint.taken;
+      groups = endpoint.groups;
+      enabled = endpoint.enabled;
+    } };
+}
+
+impl Endpoint {
+    /// An endpoint that does nothing yet: every PASID is off.
+    pub fn new() -> Self
+        ensures { result ≡ fresh }
+    {
+        Endpoint {
+            pasids: PasidStates::new(),
+            cache: Cache::new(),
+            tags: RequestTags::new(),
+            uses: UseSlots::new(),
+            taken: TakenTable::new(),
+            groups: GroupTable::new(),
+            enabled: true,
+        }
+    }
+
+    /// Tells whether this page may be asked for under this PASID: the request, or `PageRange`, `NotStarted` or `NoTag`.
+    pub fn may_ask(&self, pasid: u64, page: u64) -> Result<Asking, Refusal>
+        ensures { result ≡ asking self.now pasid page }
+    {
+        if page >= PAGES {
+            return Err(Refusal::PageRange);
+        }
+        if !self.pasids.state_of(pasid).is_on() {
+            return Err(Refusal::NotStarted);
+        }
+        let Some(tag) = self.tags.lowest_free() else {
+            return Err(Refusal::NoTag);
+        };
+        let pasid = self.pasids.label(pasid);
+        Ok(Asking {
+            tag,
+            kind: Kind::Request { tag, pasid, page },
+        })
+    }
+
+    /// Asks for a translation of this page, and gives the tag of the request.
+    pub fn ask(&mut self, pasid: u64, page: u64) -> u8
+        requires { IsOk (asking self.old pasid page) }
+        ensures tag { result ≡ lowest_tag self.old }
+        ensures after { self.new ≡ after_ask self.old pasid page }
+    {
+        let Some(tag) = self.tags.lowest_free() else {
+            unreachable!()
+        };
+        self.tags.take(tag, self.pasids.label(pasid), page);
+        tag
+    }
+
+    /// Tells whether the cached translation of this page may be used, to write or only to read: the slot and the frame,
+    /// or `PageRange`, `NotStarted`, `NotHeld`, `ReadOnly` or `NoUseSlot`.
+    pub fn may_begin_use(&self, pasid: u64, page: u64, write: bool) -> Result<Using, Refusal>
+        ensures { result ≡ using self.now pasid page write }
+    {
+        if page >= PAGES {
+            return Err(Refusal::PageRange);
+        }
+        if !self.pasids.state_of(pasid).is_on() {
+            return Err(Refusal::NotStarted);
+        }
+        let Some(translation) = self.cache.get(pasid, page) else {
+            return Err(Refusal::NotHeld);
+        };
+        if write && !translation.write {
+            return Err(Refusal::ReadOnly);
+        }
+        let Some(slot) = self.uses.lowest_free() else {
+            return Err(Refusal::NoUseSlot);
+        };
+        Ok(Using {
+            slot,
+            frame: translation.frame,
+        })
+    }
+
+    /// Begins a use of the cached translation of this page, and gives its slot and its frame.
+    pub fn begin_use(&mut self, pasid: u64, page: u64, write: bool) -> Using
+        requires { IsOk (using self.old pasid page write) }
+        ensures begun { using self.old pasid page write ≡ Ok result }
+        ensures after { self.new ≡ after_begin_use self.old pasid page }
+    {
+        let Some(translation) = self.cache.get(pasid, page) else {
+            unreachable!()
+        };
+        let Some(slot) = self.uses.lowest_free() else {
+            unreachable!()
+        };
+        let Translation { frame, write } = translation;
+        self.uses.begin(
+            slot,
+            Use {
+                pasid: self.pasids.label(pasid),
+                page,
+                frame,
+                write,
+            },
+        );
+        Using { slot, frame }
+    }
+
+    /// Tells whether the slot is taken: what its use has come to, `Ended` or `Dead`, or `NoSuchUse`.
+    pub fn may_end_use(&self, slot: u64) -> Result<Answer, Refusal>
+        ensures { result ≡ ending self.now slot }
+    {
+        match self.uses.at(slot) {
+            UseSlot::Free => Err(Refusal::NoSuchUse),
+            UseSlot::Running(_) => Ok(Answer::Ended),
+            UseSlot::Dead => Ok(Answer::Dead),
+        }
+    }
+
+    /// Ends the use in this slot, which is free then.
+    pub fn end_use(&mut self, slot: u64)
+        requires { IsOk (ending self.old slot) }
+        ensures { self.new ≡ after_end_use self.old slot }
+    {
+        self.uses.free(slot);
+        self.taken.forget(slot);
+    }
+
+    /// Tells whether a translation of this page is cached; else it gives `PageRange` or `NotHeld`.
+    pub fn may_evict(&self, pasid: u64, page: u64) -> Result<(), Refusal>
+        ensures { result ≡ evicting self.now pasid page }
+    {
+        if page >= PAGES {
+            return Err(Refusal::PageRange);
+        }
+        if self.cache.get(pasid, page).is_none() {
+            return Err(Refusal::NotHeld);
+        }
+        Ok(())
+    }
+
+    /// Lets go of the cached translation of this page.
+    pub fn evict(&mut self, pasid: u64, page: u64)
+        requires { IsOk (evicting self.old pasid page) }
+        ensures { self.new ≡ after_evict self.old pasid page }
+    {
+        self.cache.remove(pasid, page);
+    }
+
+    /// Tells whether this page request may be sent: the request, or `PageRange`, `NotStarted`, `NoCredit`,
+    /// `NoSuchGroup` or `PriDisabled`.
+    pub fn may_fault(&self, fault: &Fault) -> Result<Faulting, Refusal>
+        ensures { result ≡ faulting self.now fault.now }
+    {
+        if fault.page >= PAGES {
+            return Err(Refusal::PageRange);
+        }
+        if !may_send(fault.group, self.pasids.state_of(fault.pasid)) {
+            return Err(Refusal::NotStarted);
+        }
+        if self.groups.outstanding() >= 32 {
+            return Err(Refusal::NoCredit);
+        }
+        let index = match fault.group {
+            None => self.groups.lowest_free(),
+            Some(index) => match self.groups.unfinished(index, fault.pasid) {
+                Some(index) => index,
+                None => return Err(Refusal::NoSuchGroup),
+            },
+        };
+        if !self.enabled {
+            return Err(Refusal::PriDisabled);
+        }
+        let request = fault.request(self.pasids.label(fault.pasid), index);
+        Ok(Faulting {
+            index,
+            kind: Kind::PageRequest(request),
+        })
+    }
+
+    /// Sends this page request, and gives the index of its group.
+    pub fn fault(&mut self, fault: &Fault) -> u8
+        requires { IsOk (faulting self.old fault.now) }
+        ensures index { result ≡ index_for self.old fault.now.group }
+        ensures after { self.new ≡ after_fault self.old fault.now }
+    {
+        match fault.group {
+            None => {
+                let index = self.groups.lowest_free();
+                self.groups
+                    .begin(index, self.pasids.label(fault.pasid), fault.last);
+                index
+            }
+            Some(index) => {
+                let Some(index) = self.groups.unfinished(index, fault.pasid) else {
+                    unreachable!()
+                };
+                self.groups.extend(index, fault.last);
+                index
+            }
+        }
+    }
+
+    /// Tells whether the invalidations that the vector names may be completed, by so many completions: these, or
+    /// `NotPending`, `InUse` or `BadCount`.
+    pub fn may_finish(&self, vector: u32, count: u64) -> Result<Finishing, Refusal>
+        ensures { result ≡ finishing self.now vector count }
+    {
+        if vector == 0 || !self.taken.are_pending(vector) {
+            return Err(Refusal::NotPending);
+        }
+        if self.taken.is_one_waiting(vector) {
+            return Err(Refusal::InUse);
+        }
+        if count == 0 || count > 8 {
+            return Err(Refusal::BadCount);
+        }
+        let count = Count::new(count as u8);
+        let field = CountField::new(count.field());
+        Ok(Finishing {
+            count,
+            kind: Kind::Invalidated {
+                vector,
+                count: field,
+            },
+        })
+    }
+
+    /// Completes the invalidations that the vector names.
+    pub fn finish(&mut self, vector: u32, count: u64)
+        requires { IsOk (finishing self.old vector count) }
+        ensures { self.new ≡ after_finish self.old vector }
+    {
+        self.taken.complete(vector);
+    }
+
+    /// Tells whether this PASID may be quit: the Stop Marker, or `NotStopping` or `Busy`.
+    pub fn may_quit(&self, pasid: u64) -> Result<Kind, Refusal>
+        ensures { result ≡ quitting self.now pasid }
+    {
+        if !self.pasids.state_of(pasid).is_stopping() {
+            return Err(Refusal::NotStopping);
+        }
+        if self.groups.is_unfinished(pasid)
+            || self.tags.asks_under(pasid)
+            || self.uses.runs_under(pasid)
+        {
+            return Err(Refusal::Busy);
+        }
+        Ok(Kind::Marker {
+            pasid: self.pasids.label(pasid),
+        })
+    }
+
+    /// Stops using this PASID.
+    pub fn quit(&mut self, pasid: u64)
+        requires { IsOk (quitting self.old pasid) }
+        ensures { self.new ≡ after_quit self.old pasid }
+    {
+        let pasid = self.pasids.label(pasid);
+        self.pasids.set(pasid, PasidState::Off);
+        self.groups.make_stale(pasid);
+    }
+
+    /// Takes a message from the host, and answers what came of it: `Started`, `Stopping`, `Reset`, `Dropped`,
+    /// `NoTranslation`, `Full`, `Held`, `Taken`, `Answered` or `Stale`. Whose message it is was looked at before. One
+    /// that isn't sent to an endpoint changes nothing and is `Dropped`.
+    pub fn receive(&mut self, message: Message) -> Received
+        ensures answer { result.answer ≡ answer_to self.old message.kind }
+        ensures after { self.new ≡ after_receive self.old message.kind }
+    {
+        let answer = self.take(message.kind);
+        Received { answer }
+    }
+
+    fn take(&mut self, kind: Kind) -> Answer
+        ensures answer { result ≡ answer_to self.old kind }
+        ensures after { self.new ≡ after_receive self.old kind }
+    {
+        match kind {
+            Kind::Start { pasid } => self.start(pasid),
+            Kind::Stop { pasid } => self.stop(pasid),
+            Kind::Reset => self.reset(),
+            Kind::Completion {
+                tag,
+                frame,
+                read,
+                write,
+            } => self.complete(tag, read, Translation { frame, write }),
+            Kind::Invalidate { itag, pasid, scope } => self.invalidate(
+                itag,
+                Invalidation { pasid, scope },
+            ),
+            Kind::Response { index, code, .. } => self.respond(index, code),
+            Kind::Request { .. } => Answer::Dropped,
+            Kind::Invalidated { .. } => Answer::Dropped,
+            Kind::PageRequest(_) => Answer::Dropped,
+            Kind::Marker { .. } => Answer::Dropped,
+            Kind::ResetDone => Answer::Dropped,
+        }
+    }
+
+    fn start(&mut self, pasid: u32) -> Answer
+        ensures answer { result ≡ Answer.Started }
+        ensures after { self.new ≡ after_receive self.old (Kind.Start pasid) }
+    {
+        self.pasids.set(pasid, PasidState::On);
+        Answer::Started
+    }
+
+    fn stop(&mut self, pasid: u32) -> Answer
+        ensures answer { result ≡ Answer.Stopping }
+        ensures after { self.new ≡ after_receive self.old (Kind.Stop pasid) }
+    {
+        self.pasids.set(pasid, PasidState::Stopping);
+        Answer::Stopping
+    }
+
+    // Clears everything but the slots of uses: those that run are dead from now on.
+    fn reset(&mut self) -> Answer
+        ensures answer { result ≡ Answer.Reset }
+        ensures after { self.new ≡ after_receive self.old Kind.Reset }
+    {
+        self.pasids = PasidStates::new();
+        self.cache = Cache::new();
+        self.tags = RequestTags::new();
+        self.uses.cut_off();
+        self.taken = TakenTable::new();
+        self.groups = GroupTable::new();
+        self.enabled = true;
+        Answer::Reset
+    }
+
+    // The answer to a translation request comes. `read` clear tells that there is no translation.
+    fn complete(&mut self, tag: u8, read: bool, translation: Translation) -> Answer
+        ensures answer { result ≡ answer_to_completion self.old.cache read (request_at self.old.tags tag) }
+        ensures after { self.new ≡ after_completion self.old tag translation.frame read translation.write }
+    {
+        match self.tags.free(tag) {
+            RequestTag::Free | RequestTag::Doomed { .. } => Answer::Dropped,
+            RequestTag::Out { .. } if !read => Answer::NoTranslation,
+            RequestTag::Out { pasid, page } => {
+                if !self.cache.has_room_for(u64::from(pasid), page) {
+                    return Answer::Full;
+                }
+                self.cache.insert(pasid, page, translation);
+                Answer::Held
+            }
+        }
+    }
+
+    fn invalidate(&mut self, itag: u8, invalidation: Invalidation) -> Answer
+        ensures answer { result ≡ Answer.Taken }
+        ensures after { self.new ≡ after_invalidate self.old itag invalidation }
+    {
+        self.cache.remove_covered(&invalidation);
+        self.tags.doom(&invalidation);
+        let noted = self.uses.covered(&invalidation);
+        self.taken.take(
+            itag,
+            Taken {
+                invalidation,
+                noted,
+            },
+        );
+        Answer::Taken
+    }
+
+    fn respond(&mut self, index: u8, code: Code) -> Answer
+        ensures answer { result ≡ answer_to_response (group_at self.old.groups index) }
+        ensures after { self.new ≡ after_response self.old index code }
+    {
+        if matches!(code, Code::ResponseFailure) {
+            self.enabled = false;
+        }
+        match self.groups.free(index) {
+            GroupPlace::Stale { .. } => Answer::Stale,
+            GroupPlace::Free | GroupPlace::Unfinished { .. } | GroupPlace::Out { .. } =>
+                Answer::Answered,
+        }
+    }
+}
+
+// Does the state of its PASID allow a request of this group?
+fn may_send(group: Option<u64>, state: PasidState) -> bool
+    ensures { result ≡ may_send group state }
+{
+    match group {
+        None => state.is_on(),
+        Some(_) => !state.is_off(),
+    }
+}

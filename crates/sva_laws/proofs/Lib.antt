@@ -28,3 +28,4 @@ pub mod Adding
 pub mod Lookback
 pub mod Withheld
 pub mod Claimed
+pub mod Limits

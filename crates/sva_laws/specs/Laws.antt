@@ -1,0 +1,121 @@
+-- Laws of the definitions beside the headline: what labels find, what can't occur, and how many there are.
+use Rattle.std.specs.Prelude.{◌≡◌, ◌≢◌, ◌⊎◌, ◌↔◌, ℕ, ◌+◌, ◌<◌, ◌≤◌, Bool, true, false, Option, Some, None, List, [], ◌∷◌, ◌++◌}
+use Rattle.sva_step.specs.declared.limits.Config.{Config}
+use Rattle.sva_step.specs.declared.steps.Step.{Step}
+use Rattle.sva_model.specs.Words.{count_below}
+use Rattle.sva_model.specs.Message.{Code}
+use Rattle.sva_model.specs.State.{About, Part, World, Phase}
+use Rattle.sva_model.specs.State.About.{StartOf, StopOf, ResetOrder, CompletionOf, InvalidateOf, ResponseOf, RequestOf, PageRequestOf, MarkerOf, ResetDone}
+use Rattle.sva_model.specs.State.Phase.{Open, Cleared}
+use Rattle.sva_model.specs.State.Stage.{Stopping, Invalidating}
+use Rattle.sva_model.specs.State.OrderState.{Sent}
+use Rattle.sva_model.specs.State.RequestState.{Out}
+use Rattle.sva_model.specs.State.UseState.{Running, Ended}
+use Rattle.sva_model.specs.State.PageRequestState.{Arrived}
+use Rattle.sva_model.specs.States.{is_unreleased, is_open, is_out, is_busy, is_outstanding, is_open_group, is_arrived, is_before_invalidating, place}
+use Rattle.sva_model.specs.States.Place.{Free, Mapped, Withheld}
+use Rattle.sva_model.specs.Acts.{binding_of}
+use Rattle.sva_model.specs.Labels.{outstanding}
+use Rattle.sva_model.specs.Steps.{counts, world_after}
+use Rattle.sva_model.specs.Claims.{Fits, Usable, IsPresent, IsMapped, IsWithheld, IsDivided, IsMatched, IsBearer}
+
+-- The headline's parts, each by itself.
+
+-- each usable translation has an unreleased owner, and is present or leads to a withheld frame
+abbrev pub AlwaysOwned : Type 0
+AlwaysOwned =
+    (config : Config) (steps : List Step) (e b q m : ℕ)
+    → Fits config
+    → Usable (world_after config steps) e b q m
+    → is_unreleased (((world_after config steps).part e).stage b) ≡ true
+
+abbrev pub AlwaysPresentOrWithheld : Type 0
+AlwaysPresentOrWithheld =
+    (config : Config) (steps : List Step) (e b q m : ℕ)
+    → Fits config
+    → Usable (world_after config steps) e b q m
+    → IsPresent (world_after config steps) e b q m ⊎ IsWithheld config steps ((world_after config steps).mappings.frame m)
+
+abbrev pub AlwaysMatched : Type 0
+AlwaysMatched = (config : Config) (steps : List Step) (e : ℕ) → Fits config → IsMatched ((world_after config steps).part e)
+
+abbrev pub AlwaysDivided : Type 0
+AlwaysDivided = (config : Config) (steps : List Step) → Fits config → IsDivided config steps
+
+-- free, mapped and withheld frames together are all frames
+abbrev pub AlwaysAddsUp : Type 0
+AlwaysAddsUp =
+    (config : Config) (steps : List Step)
+    → Fits config
+    → (counts (world_after config steps)).free + (counts (world_after config steps)).mapped + (counts (world_after config steps)).withheld ≡ config.frames
+
+-- the place that the step reads is Withheld exactly where the look back over the list says so
+abbrev pub AlwaysWithheldExactly : Type 0
+AlwaysWithheldExactly = (config : Config) (steps : List Step) (f : ℕ) → Fits config → (place (world_after config steps) f ≡ Withheld) ↔ IsWithheld config steps f
+
+-- Labels. What a label finds is the one record that bears it, and each record that bears a label is found by it.
+pub record IsLabelled (p : Part) : Type 0 where
+  pub pasid : (t b : ℕ) → (p.at_pasid t ≡ Some b) ↔ ((is_unreleased (p.stage b) ≡ true) × (p.pasid b ≡ t))
+  pub tag : (t r : ℕ) → (p.at_tag t ≡ Some r) ↔ ((is_out (p.request r) ≡ true) × (p.request_tag r ≡ t))
+  pub slot : (t u : ℕ) → (p.at_slot t ≡ Some u) ↔ ((p.use_state u ≢ Ended) × (p.use_slot u ≡ t))
+  pub itag : (t k : ℕ) → (p.at_itag t ≡ Some k) ↔ ((is_busy (p.order_state k) ≡ true) × (p.itag k ≡ t))
+  pub index : (t g : ℕ) → (p.at_index t ≡ Some g) ↔ ((is_outstanding (p.group g) ≡ true) × (p.index g ≡ t))
+  -- the limits: PASIDs 1 to 32; 32 request tags, ITags and page request group indexes; 16 uses
+  pub pasid_low : (b : ℕ) → is_unreleased (p.stage b) ≡ true → (0 < p.pasid b) × (p.pasid b ≤ 32)
+  pub tag_low : (r : ℕ) → is_out (p.request r) ≡ true → p.request_tag r < 32
+  pub slot_low : (u : ℕ) → p.use_state u ≢ Ended → p.use_slot u < 16
+  pub itag_low : (k : ℕ) → is_busy (p.order_state k) ≡ true → p.itag k < 32
+  pub index_low : (g : ℕ) → is_outstanding (p.group g) ≡ true → p.index g < 32
+  -- a space has one unreleased binding at an endpoint
+  pub one_space : (b d : ℕ) → is_unreleased (p.stage b) ≡ true → is_unreleased (p.stage d) ≡ true → p.space b ≡ p.space d → b ≡ d
+
+-- What a message or a step names by a label is the record that it was sent for.
+pub record IsFound (p : Part) : Type 0 where
+  pub start : (c b : ℕ) → p.message c ≡ Some (StartOf b) → IsBearer p b
+  pub stop : (c b : ℕ) → p.message c ≡ Some (StopOf b) → IsBearer p b
+  pub request : (c r : ℕ) → p.phase ≡ Open → p.message c ≡ Some (RequestOf r) → (IsBearer p (p.request_binding r)) × (p.at_tag (p.request_tag r) ≡ Some r)
+  pub completion : (c r : ℕ) (found : Option ℕ) → p.phase ≡ Open → p.message c ≡ Some (CompletionOf r found) → p.at_tag (p.request_tag r) ≡ Some r
+  pub invalidate : (c k : ℕ) → p.message c ≡ Some (InvalidateOf k) → (p.order_state k ≡ Sent) × (p.at_itag (p.itag k) ≡ Some k) × (IsBearer p (binding_of (p.order k)))
+  pub cached : (r m : ℕ) → p.held r ≡ Some m → IsBearer p (p.request_binding r)
+  pub in_use : (u : ℕ) → p.use_state u ≡ Running → IsBearer p (p.use_binding u)
+  -- each is in flight once
+  pub request_once : (c d r : ℕ) → p.message c ≡ Some (RequestOf r) → p.message d ≡ Some (RequestOf r) → c ≡ d
+  pub completion_once : (c d r : ℕ) (f g : Option ℕ) → p.message c ≡ Some (CompletionOf r f) → p.message d ≡ Some (CompletionOf r g) → c ≡ d
+  pub there_or_back : (c d r : ℕ) (f : Option ℕ) → p.message c ≡ Some (RequestOf r) → p.message d ≢ Some (CompletionOf r f)
+  pub invalidate_once : (c d k : ℕ) → p.message c ≡ Some (InvalidateOf k) → p.message d ≡ Some (InvalidateOf k) → c ≡ d
+
+-- What can't occur.
+pub record NeverOccurs (p : Part) : Type 0 where
+  -- a Reset or a ResetDone in flight at an open unit
+  pub reset : (c : ℕ) → p.phase ≡ Open → p.message c ≢ Some ResetOrder
+  pub reset_done : (c : ℕ) → p.phase ≡ Open → p.message c ≢ Some ResetDone
+  -- an order in flight to an endpoint that has reset itself
+  pub start : (c d b : ℕ) → p.phase ≡ Cleared c → p.message d ≢ Some (StartOf b)
+  pub stop : (c d b : ℕ) → p.phase ≡ Cleared c → p.message d ≢ Some (StopOf b)
+  pub invalidate : (c d k : ℕ) → p.phase ≡ Cleared c → p.message d ≢ Some (InvalidateOf k)
+  pub response : (c d g : ℕ) (code : Code) → p.phase ≡ Cleared c → p.message d ≢ Some (ResponseOf g code)
+  -- a Stop Marker in flight of a binding that isn't Stopping, or whose marker is noted
+  pub marker : (c b : ℕ) → p.message c ≡ Some (MarkerOf b) → p.stage b ≡ Stopping false
+  -- an open group of page requests, or a page request that has arrived, of a binding that is past Draining
+  pub open_group : (g : ℕ) → p.phase ≡ Open → is_open_group (p.host_group g) ≡ true → is_before_invalidating (p.stage (p.filed_under g)) ≡ true
+  pub arrived : (r : ℕ) → p.page_request r ≡ Arrived → is_before_invalidating (p.stage (p.asker (p.group_of r))) ≡ true
+
+-- page requests that have arrived and aren't filed
+abbrev pub page_queue : Part → ℕ
+page_queue p = count_below p.page_requests (λ r. is_arrived (p.page_request r))
+
+pub record IsLimited (p : Part) : Type 0 where
+  pub outstanding : outstanding p ≤ 32
+  pub page_queue : page_queue p ≤ 32
+
+abbrev pub AlwaysLabelled : Type 0
+AlwaysLabelled = (config : Config) (steps : List Step) (e : ℕ) → Fits config → IsLabelled ((world_after config steps).part e)
+
+abbrev pub AlwaysFound : Type 0
+AlwaysFound = (config : Config) (steps : List Step) (e : ℕ) → Fits config → IsFound ((world_after config steps).part e)
+
+abbrev pub NeverOccurring : Type 0
+NeverOccurring = (config : Config) (steps : List Step) (e : ℕ) → Fits config → NeverOccurs ((world_after config steps).part e)
+
+abbrev pub AlwaysLimited : Type 0
+AlwaysLimited = (config : Config) (steps : List Step) (e : ℕ) → Fits config → IsLimited ((world_after config steps).part e)

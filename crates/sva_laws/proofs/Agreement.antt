@@ -120,7 +120,7 @@ usable w e b q m i (under_way c r k h o) =
 
 -- Page requests and responses.
 
-bearer : (p : Part) (b : ℕ) → Labels p → is_unreleased (p.stage b) ≡ true → IsBearer p b
+pub bearer : (p : Part) (b : ℕ) → Labels p → is_unreleased (p.stage b) ≡ true → IsBearer p b
 bearer p b la u =
     record {
       unreleased = u;

@@ -5,7 +5,7 @@ use Rattle.std.proofs.lemmas.Bool.Decides.{nat_tests}
 use Rattle.sva_model.specs.Words.{put, count_below, any_below}
 use Rattle.sva_laws.proofs.Words.{put-same, put-other, ℕ_cases, any_below-false}
 
-pub bit : Bool → ℕ
+unfoldable pub bit : Bool → ℕ
 bit true = 1
 bit false = 0
 
@@ -47,14 +47,15 @@ count_less (suc n) f g h =
     let b : count_below n f ≤ count_below n g = count_less n f g (λ c l. h c (omega arith)) in
     omega (arith, count_next n f, count_next n g)
 
+pub bit_most : (b : Bool) → bit b ≤ 1
+unfolding bit
+bit_most true = omega arith
+bit_most false = omega arith
+
 pub count_most : (n : ℕ) (f : ℕ → Bool) → count_below n f ≤ n
 unfolding count_below bit
 count_most zero f = omega arith
 count_most (suc n) f = omega (arith, count_next n f, count_most n f, bit_most (f n))
-  where
-    bit_most : (b : Bool) → bit b ≤ 1
-    bit_most true = omega arith
-    bit_most false = omega arith
 
 pub count_more : (n s : ℕ) (f : ℕ → Bool) → ((c : ℕ) → n ≤ c → c < n + s → f c ≡ false) → count_below (n + s) f ≡ count_below n f
 unfolding bit

@@ -29,3 +29,4 @@ pub mod Lookback
 pub mod Withheld
 pub mod Claimed
 pub mod Limits
+pub mod Found

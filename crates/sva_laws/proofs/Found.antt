@@ -1,0 +1,99 @@
+-- From the invariant to what labels find and what can't occur.
+use Rattle.std.proofs.Common.{◌≡◌, ◌≢◌, ◌⊎◌, ◌↔◌, inl, inr, refl, ap, sym, subst, ◌∙◌, ℕ, ◌<◌, ◌≤◌, Bool, true, false, arith}
+use Rattle.std.specs.Prelude.{Option, Some, None}
+use Rattle.std.proofs.lemmas.Bool.Decides.{nat_tests}
+use Rattle.sva_model.specs.State.{Part, World, Stage, UseState, Phase, OrderState}
+use Rattle.sva_model.specs.State.Stage.{Stopping}
+use Rattle.sva_model.specs.State.PasidState.{On, Ending}
+use Rattle.sva_model.specs.State.UseState.{Ended}
+use Rattle.sva_model.specs.State.OrderState.{Sent}
+use Rattle.sva_model.specs.State.Phase.{Open}
+use Rattle.sva_model.specs.State.About.{RequestOf}
+use Rattle.sva_model.specs.States.{is_unreleased, is_out, is_busy, is_off, is_open}
+use Rattle.sva_model.specs.Acts.{binding_of}
+use Rattle.sva_model.specs.Claims.{IsBearer}
+use Rattle.sva_laws.specs.Laws.{IsLabelled, IsFound, NeverOccurs}
+use Rattle.sva_laws.proofs.Bindings.{is_unmarked}
+use Rattle.sva_laws.proofs.Labels.{has_slot}
+use Rattle.sva_laws.proofs.Orders.{is_active, is_undone}
+use Rattle.sva_laws.proofs.Requests.{is_cleared}
+use Rattle.sva_laws.proofs.Invariant.{PartInv, Inv}
+use Rattle.sva_laws.proofs.Agreement.{bearer}
+use Rattle.sva_laws.proofs.Unmap.{active_unreleased}
+
+taken_slot : (u : UseState) → u ≢ Ended → has_slot u ≡ true
+taken_slot u h = grind arith
+
+slot_taken : (u : UseState) → has_slot u ≡ true → u ≢ Ended
+slot_taken u h e = grind arith
+
+pub labelled : (w : World) (e : ℕ) → Inv w → IsLabelled (w.part e)
+labelled w e i =
+    let p = w.part e in
+    let la = (i.parts e).labels in
+    let gr = (i.parts e).groups in
+    record {
+      pasid = λ t b. ((λ h. ((la.pasid_bears t b h).1, (la.pasid_bears t b h).0)), (λ h. subst (λ k. p.at_pasid k ≡ Some b) h.1 (la.bears_pasid b h.0)));
+      tag = λ t r. ((λ h. ((la.tag_bears t r h).1, (la.tag_bears t r h).0)), (λ h. subst (λ k. p.at_tag k ≡ Some r) h.1 (la.bears_tag r h.0)));
+      slot = λ t u. ((λ h. (slot_taken (p.use_state u) (la.slot_bears t u h).1, (la.slot_bears t u h).0)), (λ h. subst (λ k. p.at_slot k ≡ Some u) h.1 (la.bears_slot u (taken_slot (p.use_state u) h.0))));
+      itag = λ t k. ((λ h. ((la.itag_bears t k h).1, (la.itag_bears t k h).0)), (λ h. subst (λ z. p.at_itag z ≡ Some k) h.1 (la.bears_itag k h.0)));
+      index = λ t g. ((λ h. ((gr.index_bears t g h).1, (gr.index_bears t g h).0)), (λ h. subst (λ z. p.at_index z ≡ Some g) h.1 (gr.bears_index g h.0)));
+      pasid_low = λ b h. la.pasid_low (p.pasid b) b (la.bears_pasid b h);
+      tag_low = λ r h. la.tag_low (p.request_tag r) r (la.bears_tag r h);
+      slot_low = λ u h. la.slot_low (p.use_slot u) u (la.bears_slot u (taken_slot (p.use_state u) h));
+      itag_low = λ k h. la.itag_low (p.itag k) k (la.bears_itag k h);
+      index_low = λ g h. gr.index_low (p.index g) g (gr.bears_index g h);
+      one_space = λ b d u v same. la.one_space b d u v same;
+    }
+
+unmarked_unreleased : (s : Stage) → is_unmarked s ≡ true → is_unreleased s ≡ true
+unmarked_unreleased s h = grind arith
+
+not_cleared : (x : Phase) → x ≡ Open → is_cleared x ≡ false
+not_cleared x h = grind arith
+
+-- a PASID that is on or ending is of an unreleased binding
+alive_stage : (p : Part) (b : ℕ) → (p.pasid_state b ≡ On → is_unmarked (p.stage b) ≡ true) → (p.pasid_state b ≡ Ending → p.stage b ≡ Stopping false) → is_off (p.pasid_state b) ≡ false → is_unreleased (p.stage b) ≡ true
+alive_stage p b on ending h = grind arith
+
+sent_undone : (x : OrderState) → x ≡ Sent → is_undone x ≡ true
+sent_undone x h = grind arith
+
+sent_busy : (x : OrderState) → x ≡ Sent → is_busy x ≡ true
+sent_busy x h = grind arith
+
+pub found : (w : World) (e : ℕ) → Inv w → IsFound (w.part e)
+found w e i =
+    let p = w.part e in
+    let la = (i.parts e).labels in
+    let bi = (i.parts e).bindings in
+    let ra = (i.parts e).requests in
+    let or = (i.parts e).orders in
+    let ow = (i.parts e).owners in
+    record {
+      start = λ c b h. bearer p b la (unmarked_unreleased (p.stage b) (bi.start_stage c b h));
+      stop = λ c b h. bearer p b la (ap is_unreleased (bi.stop_stage c b h));
+      request = λ c r ph h. let out = ra.ask_out c r h (not_cleared p.phase ph) in (bearer p (p.request_binding r) la (alive_stage p (p.request_binding r) (bi.on_stage (p.request_binding r)) (bi.ending_stage (p.request_binding r)) (ra.alive r out)), la.bears_tag r out);
+      completion = λ c r f ph h. la.bears_tag r (ra.answer_out c r f h (not_cleared p.phase ph));
+      invalidate = λ c k h. let s = la.sent c k h in (s, la.bears_itag k (sent_busy (p.order_state k) s), bearer p (binding_of (p.order k)) la (active_unreleased (p.stage (binding_of (p.order k))) (or.undone_stage k (sent_undone (p.order_state k) s) (or.no_wait k (sent_busy (p.order_state k) s)))));
+      cached = λ r m h. bearer p (p.request_binding r) la (active_unreleased (p.stage (p.request_binding r)) (ow.held r m h));
+      in_use = λ u h. bearer p (p.use_binding u) la (active_unreleased (p.stage (p.use_binding u)) (ow.running u h));
+      request_once = ra.ask_once;
+      completion_once = ra.answer_once;
+      there_or_back = ra.not_both;
+      invalidate_once = la.sent_once;
+    }
+
+pub never : (w : World) (e : ℕ) → Inv w → NeverOccurs (w.part e)
+never w e i =
+    let p = w.part e in
+    let re = (i.parts e).resets in
+    let gr = (i.parts e).groups in
+    record {
+      reset = λ c ph h. absurd (cc (sym ph ∙ re.down c h));
+      reset_done = λ c ph h. absurd (cc (sym ph ∙ re.up c h));
+      start = re.no_start; stop = re.no_stop; invalidate = re.no_invalidate; response = re.no_response;
+      marker = (i.parts e).bindings.marker_stage;
+      open_group = λ g ph h. (gr.open_group g ph h).1;
+      arrived = gr.arrived_stage;
+    }

@@ -1,0 +1,15 @@
+use Rattle.std.proofs.Common.{◌≡◌, ◌∙◌, ap}
+use Rattle.sva_model.specs.Steps.{world_after}
+use Rattle.sva_laws.proofs.Claimed.{always_agrees}
+use Rattle.sva_laws.proofs.Limits.{adds_up}
+use Rattle.sva_laws.proofs.Withheld.{config_kept}
+use Rattle.sva_laws.proofs.frames.Goals as goal
+
+pub returns-clause-divided : goal.returns-clause-divided
+returns-clause-divided c = λ config steps fits. (always_agrees config steps fits).divided
+
+pub returns-clause-adds_up : goal.returns-clause-adds_up
+returns-clause-adds_up c = λ config steps fits. adds_up (world_after config steps) ∙ ap (λ k. k.frames) (config_kept config steps)
+
+pub returns-clause-withheld : goal.returns-clause-withheld
+returns-clause-withheld c = λ config steps f fits. (always_agrees config steps fits).divided.withheld f

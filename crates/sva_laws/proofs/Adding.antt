@@ -1,11 +1,10 @@
 -- What a step does to mappings: all steps but an unmapping and the drop of a space only add to them.
-use Rattle.std.proofs.Common.{◌≡◌, ◌≢◌, ◌⊎◌, inl, inr, refl, ap, sym, subst, ◌∙◌, ℕ, zero, suc, ◌+◌, ◌<◌, ◌≤◌, Bool, true, false, arith}
+use Rattle.std.proofs.Common.{◌≡◌, ◌≢◌, ◌⊎◌, inl, inr, refl, ap, sym, subst, ◌∙◌, ℕ, ◌≤◌, Bool, true, false, arith}
 use Rattle.std.specs.Prelude.{Option, Some, None, List, [], ◌∷◌, ◌++◌, if◌then◌else◌, Err}
-use Rattle.std.proofs.lemmas.Bool.Decides.{nat_tests}
 use Rattle.sva_step.specs.declared.steps.Step.{Step}
 use Rattle.sva_step.specs.declared.steps.Step.TheVariants as step
 use Rattle.sva_step.specs.declared.steps.Verdict.{Verdict}
-use Rattle.sva_model.specs.Words.{put, the, lowest}
+use Rattle.sva_model.specs.Words.{put, the}
 use Rattle.sva_model.specs.Message.{Code}
 use Rattle.sva_model.specs.State.{Owed, MappingState, Part, World, Stage, Order, About, RequestState}
 use Rattle.sva_model.specs.State.MappingState.{Unmade, Present, Gone}
@@ -20,10 +19,10 @@ use Rattle.sva_model.specs.Refusals.{Cause, refusals}
 use Rattle.sva_model.specs.Replies.{maps_to, reply_maps, replies_success, newly_mapped, free_list, is_write_asked, job_space, response_to}
 use Rattle.sva_model.specs.Outcomes.{Outcome, outcome, unbind_outcome, advance_outcome, pump_outcome, head_outcome, wait_outcome, send_outcome, may_pass, serve_outcome, file_outcome, reply_outcome, fault_outcome, about_outcome, deliver_outcome, completion_outcome, keep_outcome, is_full, request_outcome, count_outcome, page_request_outcome, marker_outcome}
 use Rattle.sva_model.specs.States.{is_open}
-use Rattle.sva_model.specs.Steps.{checked, decide, next, after_acts}
+use Rattle.sva_model.specs.Steps.{checked, decide, after_acts}
 use Rattle.sva_laws.proofs.Words.{put-same, put-other, ℕ_cases}
 use Rattle.sva_laws.proofs.Invariant.{Inv}
-use Rattle.sva_laws.proofs.Keeps.{Legal, act_keeps}
+use Rattle.sva_laws.proofs.Keeps.{act_keeps}
 use Rattle.sva_laws.proofs.Passed.{LegalAll}
 
 abbrev pub IsAdding : Act → Type 0

@@ -1,30 +1,26 @@
 -- From the invariant to what is claimed: usable translations, matched page requests, frames in one place.
-use Rattle.std.proofs.Common.{◌≡◌, ◌≢◌, ◌⊎◌, ◌↔◌, inl, inr, refl, ap, sym, subst, ◌∙◌, ℕ, zero, suc, ◌+◌, ◌-◌, ◌<◌, ◌≤◌, Bool, true, false, arith}
+use Rattle.std.proofs.Common.{◌≡◌, ◌≢◌, ◌⊎◌, inl, inr, refl, ap, sym, subst, ◌∙◌, ℕ, suc, ◌+◌, ◌<◌, ◌≤◌, Bool, true, false, arith}
 use Rattle.std.specs.Prelude.{Option, Some, None}
 use Rattle.std.proofs.lemmas.Bool.Decides.{nat_tests}
 use Rattle.sva_model.specs.Words.{all_below}
-use Rattle.sva_model.specs.Message.{Code}
 use Rattle.sva_model.specs.State.{Owed, MappingState, Part, World, Stage, HostGroupState, GroupState}
 use Rattle.sva_model.specs.State.Owed.{Nothing, Pages, Pasid, AReset}
 use Rattle.sva_model.specs.State.MappingState.{Unmade, Present, Gone}
-use Rattle.sva_model.specs.State.Stage.{Live, Stopping, Draining, Invalidating}
-use Rattle.sva_model.specs.State.PageRequestState.{Arrived, Filed}
-use Rattle.sva_model.specs.State.HostGroupState.{Replied}
-use Rattle.sva_model.specs.State.About.{ResponseOf, PageRequestOf, MarkerOf}
+use Rattle.sva_model.specs.State.Stage.{Invalidating}
 use Rattle.sva_model.specs.State.Phase.{Open}
 use Rattle.sva_model.specs.State.OrderState.{Done}
-use Rattle.sva_model.specs.States.{Place, is_unreleased, is_before_invalidating, is_open, is_open_group, is_outstanding, is_done, answered, place, place_at, place_by, place_of_gone}
-use Rattle.sva_model.specs.States.Place.{Free, Mapped, Withheld}
+use Rattle.sva_model.specs.States.{is_unreleased, is_before_invalidating, is_open, is_open_group, is_outstanding, is_done, answered, place, place_at, place_by, place_of_gone}
+use Rattle.sva_model.specs.States.Place.{Mapped, Withheld}
 use Rattle.sva_model.specs.Claims.{Usable, IsPresent, IsAt, IsMapped, IsBearer, IsMatched, asker_of}
 use Rattle.sva_model.specs.Claims.Usable.{cached, in_use, under_way}
-use Rattle.sva_laws.proofs.Words.{all_below-false, all_below-true, all_below_cases}
+use Rattle.sva_laws.proofs.Words.{all_below-false}
 use Rattle.sva_laws.proofs.Bindings.{is_unmarked}
 use Rattle.sva_laws.proofs.Labels.{Labels}
-use Rattle.sva_laws.proofs.Orders.{Orders, is_active}
-use Rattle.sva_laws.proofs.Owners.{Owners, blocks, asker_stage}
-use Rattle.sva_laws.proofs.Safe.{Safe, Pending, IsSafe, owed_of, order_of_page}
-use Rattle.sva_laws.proofs.Groups.{Groups, is_filed_group, is_answerable, times_replied}
-use Rattle.sva_laws.proofs.Invariant.{PartInv, Inv}
+use Rattle.sva_laws.proofs.Orders.{is_active}
+use Rattle.sva_laws.proofs.Owners.{blocks, asker_stage}
+use Rattle.sva_laws.proofs.Safe.{Pending, IsSafe, owed_of}
+use Rattle.sva_laws.proofs.Groups.{is_filed_group, is_answerable, times_replied}
+use Rattle.sva_laws.proofs.Invariant.{Inv}
 use Rattle.sva_laws.proofs.Passed.{unreleased_bound}
 use Rattle.sva_laws.proofs.Unmap.{active_unreleased}
 
@@ -187,7 +183,8 @@ is_mapped w f i h = go (w.mappings.latest f) refl h
         present Present g k =
             let at = i.mapped.present_at m g in
             record {
-              space = w.mappings.space m; page = w.mappings.page m;
+              space = w.mappings.space m;
+              page = w.mappings.page m;
               is_at = record { live = (i.mapped.at_present (w.mappings.space m) (w.mappings.page m) m at).3; mapping = m; maps = at; leads = (i.mapped.named f m e).0 };
             }
         present (Gone v) g k = absurd (neither (all_below w.config.endpoints (λ x. answered (w.part x) (v x))) k)

@@ -1,17 +1,17 @@
 -- What an endpoint has answered stays answered.
-use Rattle.std.proofs.Common.{◌≡◌, ◌≢◌, ◌⊎◌, inl, inr, refl, ap, sym, ◌∙◌, ℕ, zero, suc, ◌+◌, ◌<◌, ◌≤◌, Bool, true, false, arith}
+use Rattle.std.proofs.Common.{◌≡◌, refl, ℕ, zero, suc, ◌+◌, ◌<◌, ◌≤◌, Bool, true, false, arith}
 use Rattle.std.specs.Prelude.{Option, Some, None, ◌&&◌, ◌||◌, nat_lt, if◌then◌else◌}
 use Rattle.std.proofs.lemmas.Bool.Decides.{nat_tests}
 use Rattle.sva_model.specs.Words.{all_below}
-use Rattle.sva_model.specs.State.{Owed, Mappings, Part, OrderState}
+use Rattle.sva_model.specs.State.{Owed, Mappings, Part}
 use Rattle.sva_model.specs.State.Owed.{Nothing, Pages, Pasid, AReset}
-use Rattle.sva_model.specs.State.OrderState.{Done, Void}
+use Rattle.sva_model.specs.State.OrderState.{Void}
 use Rattle.sva_model.specs.States.{is_done, answered}
 use Rattle.sva_model.specs.Acts.{own, Own, submitted, submitted_if}
 use Rattle.sva_laws.proofs.Legal.{LegalOwn}
 use Rattle.sva_laws.proofs.Bounds.{Bounds}
 use Rattle.sva_laws.proofs.Orders.{SentOnly}
-use Rattle.sva_laws.proofs.Words.{all_below-true, all_below-false}
+use Rattle.sva_laws.proofs.Words.{all_below-true}
 
 pub all_below-intro : (n : ℕ) (p : ℕ → Bool) → ((j : ℕ) → j < n → p j ≡ true) → all_below n p ≡ true
 unfolding all_below

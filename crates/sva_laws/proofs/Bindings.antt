@@ -1,6 +1,6 @@
 -- A binding's life at its endpoint is a line: its Start in flight, on, told to stop, its Stop Marker in flight, over.
-use Rattle.std.proofs.Common.{◌≡◌, ◌≢◌, ℕ, ◌+◌, ◌<◌, ◌≤◌, Bool, true, false, arith}
-use Rattle.std.specs.Prelude.{Some, None, not}
+use Rattle.std.proofs.Common.{◌≡◌, ◌≢◌, ℕ, ◌<◌, Bool, true, false, arith}
+use Rattle.std.specs.Prelude.{Some, not}
 use Rattle.std.proofs.lemmas.Bool.Decides.{nat_tests}
 use Rattle.sva_model.specs.State.{Mappings, Part, Stage}
 use Rattle.sva_model.specs.State.Stage.{Live, Stopping}

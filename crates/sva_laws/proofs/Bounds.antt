@@ -1,5 +1,5 @@
 -- A record that isn't made yet is blank, and a message speaks of records that are made.
-use Rattle.std.proofs.Common.{◌≡◌, ◌≢◌, ℕ, ◌+◌, ◌<◌, ◌≤◌, arith, true, false}
+use Rattle.std.proofs.Common.{◌≡◌, ℕ, ◌<◌, ◌≤◌, arith}
 use Rattle.std.specs.Prelude.{Option, Some, None}
 use Rattle.std.proofs.lemmas.Bool.Decides.{nat_tests}
 use Rattle.sva_model.specs.Message.{Code}
@@ -11,8 +11,7 @@ use Rattle.sva_model.specs.State.PageRequestState.{Dropped}
 use Rattle.sva_model.specs.State.GroupState.{Finished}
 use Rattle.sva_model.specs.State.HostGroupState.{NotFiled}
 use Rattle.sva_model.specs.State.OrderState.{Void, Taken}
-use Rattle.sva_model.specs.State.About.{CompletionOf, InvalidateOf, ResponseOf, RequestOf, InvalidatedOf, PageRequestOf}
-use Rattle.sva_model.specs.States.{is_out}
+use Rattle.sva_model.specs.State.About.{CompletionOf, InvalidateOf, ResponseOf, RequestOf, PageRequestOf}
 use Rattle.sva_model.specs.Acts.{own, Own}
 use Rattle.sva_laws.proofs.Legal.{LegalOwn}
 use Rattle.sva_laws.proofs.Resets.{Resets}

@@ -1,12 +1,12 @@
 -- The headline: after every list of steps the agreement holds.
-use Rattle.std.proofs.Common.{◌≡◌, ◌≢◌, ◌⊎◌, ◌↔◌, inl, inr, refl, ℕ, sym, ◌∙◌}
+use Rattle.std.proofs.Common.{◌≡◌, ◌⊎◌, inl, inr, refl, ℕ}
 use Rattle.std.specs.Prelude.{List}
 use Rattle.sva_step.specs.declared.limits.Config.{Config}
 use Rattle.sva_step.specs.declared.steps.Step.{Step}
 use Rattle.sva_model.specs.States.{Place, place}
 use Rattle.sva_model.specs.States.Place.{Free, Mapped, Withheld}
 use Rattle.sva_model.specs.Steps.{world_after}
-use Rattle.sva_model.specs.Claims.{IsPresent, IsMapped, IsWithheld, IsDivided, Agrees, AlwaysAgrees, Usable}
+use Rattle.sva_model.specs.Claims.{IsPresent, IsWithheld, IsDivided, AlwaysAgrees, Usable}
 use Rattle.sva_laws.proofs.Runs.{always}
 use Rattle.sva_laws.proofs.Agreement.{owner, usable, matched, distinct, mapped_once, is_mapped, place_mapped}
 use Rattle.sva_laws.proofs.Withheld.{is_withheld, place_withheld}
@@ -32,7 +32,8 @@ divided c steps =
       withheld = λ f. (is_withheld c steps f, place_withheld c steps f);
       free = λ f. (
         (λ h. (λ a. apart_mapped (place (world_after c steps) f) h (place_mapped (world_after c steps) f i a), λ x. apart_withheld (place (world_after c steps) f) h (place_withheld c steps f x))),
-        (λ h. free_is (place (world_after c steps) f) (λ a. h.0 (is_mapped (world_after c steps) f i a)) (λ x. h.1 (is_withheld c steps f x))));
+        (λ h. free_is (place (world_after c steps) f) (λ a. h.0 (is_mapped (world_after c steps) f i a)) (λ x. h.1 (is_withheld c steps f x))),
+      );
     }
 
 usable_now : (c : Config) (steps : List Step) (e b q m : ℕ) → Usable (world_after c steps) e b q m → IsPresent (world_after c steps) e b q m ⊎ IsWithheld c steps ((world_after c steps).mappings.frame m)

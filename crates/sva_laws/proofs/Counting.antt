@@ -1,9 +1,8 @@
 -- How many pass.
-use Rattle.std.proofs.Common.{◌≡◌, ◌≢◌, ◌⊎◌, inl, inr, refl, ap, sym, subst, ◌∙◌, ℕ, zero, suc, ◌+◌, ◌-◌, ◌<◌, ◌≤◌, Bool, true, false, arith}
+use Rattle.std.proofs.Common.{◌≡◌, ◌≢◌, ◌⊎◌, inl, inr, refl, ap, sym, ◌∙◌, ℕ, zero, suc, ◌+◌, ◌<◌, ◌≤◌, Bool, true, false, arith}
 use Rattle.std.specs.Prelude.{if◌then◌else◌}
-use Rattle.std.proofs.lemmas.Bool.Decides.{nat_tests}
-use Rattle.sva_model.specs.Words.{put, count_below, any_below}
-use Rattle.sva_laws.proofs.Words.{put-same, put-other, ℕ_cases, any_below-false}
+use Rattle.sva_model.specs.Words.{put, count_below}
+use Rattle.sva_laws.proofs.Words.{put-same, put-other, ℕ_cases}
 
 unfoldable pub bit : Bool → ℕ
 bit true = 1
@@ -99,11 +98,11 @@ pigeons zero n p f b h d = omega arith
 pigeons (suc k) n p f b h d =
     let l : k < suc k = omega arith in
     let less : k ≤ count_below n (put p (f k) false) =
-        pigeons k n (put p (f k) false) f (λ i m. b i (omega arith))
-        (λ i m. let ne : f i ≢ f k = λ e. let same = d i k (omega arith) l e in absurd (omega arith) in put-other p (f k) false (f i) ne ∙ h i (omega arith))
-        (λ i j m o e. d i j (omega arith) (omega arith) e)
+    pigeons k n (put p (f k) false) f (λ i m. b i (omega arith))
+    (λ i m. let ne : f i ≢ f k = λ e. let same = d i k (omega arith) l e in absurd (omega arith) in put-other p (f k) false (f i) ne ∙ h i (omega arith))
+    (λ i j m o e. d i j (omega arith) (omega arith) e)
     in
     let off : count_below n p ≡ suc (count_below n (put p (f k) false)) =
-        count_off n p (put p (f k) false) (f k) (b k l) (h k l) (put-same p (f k) false) (λ x ne. sym (put-other p (f k) false x ne))
+    count_off n p (put p (f k) false) (f k) (b k l) (h k l) (put-same p (f k) false) (λ x ne. sym (put-other p (f k) false x ne))
     in
     omega arith

@@ -1,23 +1,20 @@
 -- From the invariant to what labels find and what can't occur.
-use Rattle.std.proofs.Common.{◌≡◌, ◌≢◌, ◌⊎◌, ◌↔◌, inl, inr, refl, ap, sym, subst, ◌∙◌, ℕ, ◌<◌, ◌≤◌, Bool, true, false, arith}
-use Rattle.std.specs.Prelude.{Option, Some, None}
-use Rattle.std.proofs.lemmas.Bool.Decides.{nat_tests}
+use Rattle.std.proofs.Common.{◌≡◌, ◌≢◌, ap, sym, subst, ◌∙◌, ℕ, true, false, arith}
+use Rattle.std.specs.Prelude.{Some}
 use Rattle.sva_model.specs.State.{Part, World, Stage, UseState, Phase, OrderState}
 use Rattle.sva_model.specs.State.Stage.{Stopping}
 use Rattle.sva_model.specs.State.PasidState.{On, Ending}
 use Rattle.sva_model.specs.State.UseState.{Ended}
 use Rattle.sva_model.specs.State.OrderState.{Sent}
 use Rattle.sva_model.specs.State.Phase.{Open}
-use Rattle.sva_model.specs.State.About.{RequestOf}
-use Rattle.sva_model.specs.States.{is_unreleased, is_out, is_busy, is_off, is_open}
+use Rattle.sva_model.specs.States.{is_unreleased, is_busy, is_off}
 use Rattle.sva_model.specs.Acts.{binding_of}
-use Rattle.sva_model.specs.Claims.{IsBearer}
 use Rattle.sva_laws.specs.Laws.{IsLabelled, IsFound, NeverOccurs}
 use Rattle.sva_laws.proofs.Bindings.{is_unmarked}
 use Rattle.sva_laws.proofs.Labels.{has_slot}
-use Rattle.sva_laws.proofs.Orders.{is_active, is_undone}
+use Rattle.sva_laws.proofs.Orders.{is_undone}
 use Rattle.sva_laws.proofs.Requests.{is_cleared}
-use Rattle.sva_laws.proofs.Invariant.{PartInv, Inv}
+use Rattle.sva_laws.proofs.Invariant.{Inv}
 use Rattle.sva_laws.proofs.Agreement.{bearer}
 use Rattle.sva_laws.proofs.Unmap.{active_unreleased}
 
@@ -92,7 +89,10 @@ never w e i =
     record {
       reset = λ c ph h. absurd (cc (sym ph ∙ re.down c h));
       reset_done = λ c ph h. absurd (cc (sym ph ∙ re.up c h));
-      start = re.no_start; stop = re.no_stop; invalidate = re.no_invalidate; response = re.no_response;
+      start = re.no_start;
+      stop = re.no_stop;
+      invalidate = re.no_invalidate;
+      response = re.no_response;
       marker = (i.parts e).bindings.marker_stage;
       open_group = λ g ph h. (gr.open_group g ph h).1;
       arrived = gr.arrived_stage;

@@ -1,19 +1,19 @@
 -- A group of page requests stands at the host under the binding that asked, which is still Live, Stopping or Draining
 -- while the host has it open; it has one response.
-use Rattle.std.proofs.Common.{◌≡◌, ◌≢◌, ◌⊎◌, inl, inr, refl, ap, sym, ◌∙◌, ℕ, suc, ◌+◌, ◌<◌, ◌≤◌, Bool, true, false, arith}
-use Rattle.std.specs.Prelude.{Option, Some, None, not}
+use Rattle.std.proofs.Common.{◌≡◌, ◌≢◌, inr, refl, ap, sym, ◌∙◌, ℕ, ◌<◌, ◌≤◌, Bool, true, false, arith}
+use Rattle.std.specs.Prelude.{Some, None}
 use Rattle.std.proofs.lemmas.Bool.Decides.{nat_tests}
 use Rattle.sva_model.specs.Message.{Code}
 use Rattle.sva_model.specs.State.{Mappings, Part, Stage, GroupState, HostGroupState}
-use Rattle.sva_model.specs.State.Stage.{Unbound, Live, Stopping, Draining, Invalidating}
+use Rattle.sva_model.specs.State.Stage.{Unbound, Draining}
 use Rattle.sva_model.specs.State.PasidState.{Off}
-use Rattle.sva_model.specs.State.PageRequestState.{InFlight, Arrived, Filed}
+use Rattle.sva_model.specs.State.PageRequestState.{Arrived, Filed}
 use Rattle.sva_model.specs.State.GroupState.{Unfinished, Awaiting, Stale, Finished}
 use Rattle.sva_model.specs.State.HostGroupState.{NotFiled, InHand, Replied, InHandDiscarded}
 use Rattle.sva_model.specs.State.OrderState.{Done}
 use Rattle.sva_model.specs.State.About.{ResetOrder, PageRequestOf, ResponseOf, MarkerOf, ResetDone}
 use Rattle.sva_model.specs.State.Phase.{Open, Cleared}
-use Rattle.sva_model.specs.States.{is_outstanding, is_open, is_open_group, is_before_invalidating, is_off, is_wait, drains}
+use Rattle.sva_model.specs.States.{is_outstanding, is_open, is_open_group, is_before_invalidating, is_off, drains}
 use Rattle.sva_model.specs.Acts.{own, Own}
 use Rattle.sva_laws.proofs.Legal.{LegalOwn}
 use Rattle.sva_laws.proofs.Resets.{Resets}

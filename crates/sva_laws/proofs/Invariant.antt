@@ -1,7 +1,6 @@
 -- What holds after every list of steps, family by family: of each endpoint with its unit, and of the mappings.
-use Rattle.std.proofs.Common.{◌≡◌, ◌≢◌, ◌⊎◌, inl, inr, ℕ, suc, ◌+◌, ◌<◌, ◌≤◌, Bool, true, false, arith}
-use Rattle.std.specs.Prelude.{Option, Some, None}
-use Rattle.std.proofs.lemmas.Bool.Decides.{nat_tests}
+use Rattle.std.proofs.Common.{◌≡◌, ◌≢◌, ◌⊎◌, ℕ, ◌+◌, ◌<◌, ◌≤◌, true, arith}
+use Rattle.std.specs.Prelude.{Some}
 use Rattle.sva_model.specs.State.{Owed, Mappings, Part, HostGroupState, World}
 use Rattle.sva_model.specs.State.MappingState.{Unmade, Present, Gone}
 use Rattle.sva_model.specs.State.HostGroupState.{InHand, InHandDiscarded}

@@ -1,19 +1,16 @@
 -- Each act keeps what holds of the world.
-use Rattle.std.proofs.Common.{◌≡◌, ◌≢◌, ◌⊎◌, inl, inr, refl, ap, sym, subst, ◌∙◌, ℕ, zero, suc, ◌+◌, ◌-◌, ◌<◌, ◌≤◌, Bool, true, false, arith}
-use Rattle.std.specs.Prelude.{Option, Some, None, ◌&&◌, ◌==◌, nat_le, nat_lt, if◌then◌else◌}
+use Rattle.std.proofs.Common.{◌≡◌, ◌≢◌, ◌⊎◌, inl, inr, refl, ap, sym, subst, ◌∙◌, ℕ, suc, ◌+◌, ◌<◌, ◌≤◌, Bool, true, false, arith}
+use Rattle.std.specs.Prelude.{Option, Some, None, ◌&&◌, ◌==◌}
 use Rattle.std.proofs.lemmas.Bool.Decides.{nat_tests}
 use Rattle.sva_model.specs.Words.{put, unless, all_below}
 use Rattle.sva_model.specs.State.{Owed, MappingState, Mappings, Part, JobName, World}
-use Rattle.sva_model.specs.State.Owed.{Nothing, Pages, Pasid, AReset}
+use Rattle.sva_model.specs.State.Owed.{Nothing}
 use Rattle.sva_model.specs.State.MappingState.{Unmade, Present, Gone}
-use Rattle.sva_model.specs.State.Stage.{Unbound}
 use Rattle.sva_model.specs.State.PageRequestState.{Arrived}
-use Rattle.sva_model.specs.State.HostGroupState.{InHand, InHandDiscarded}
-use Rattle.sva_model.specs.State.UseState.{Running}
+use Rattle.sva_model.specs.State.HostGroupState.{InHand}
 use Rattle.sva_model.specs.State.RequestState.{Out}
-use Rattle.sva_model.specs.State.About.{CompletionOf}
 use Rattle.sva_model.specs.State.Phase.{Open}
-use Rattle.sva_model.specs.States.{is_unreleased, is_outstanding, is_open, is_before_invalidating, answered, is_free, place, place_at, place_by, place_of_gone, is_free_place}
+use Rattle.sva_model.specs.States.{is_unreleased, is_outstanding, is_open, is_before_invalidating, answered, is_free, place_at, place_by, place_of_gone, is_free_place}
 use Rattle.sva_model.specs.Acts.{Act, Own, act, own, sends, bound, submits, submits_at, owed_by, part_after_unmap, submitted, submitted_if, cookie_of, gone_if, in_range, without_pages}
 use Rattle.sva_model.specs.Acts.Act.{NewSpace, DropSpace, Map, Unmap, NewBinding, NewJob, Hold, LetGo, At}
 use Rattle.sva_laws.proofs.Words.{put-same, put-other, ℕ_cases, all_below-true}
@@ -21,7 +18,6 @@ use Rattle.sva_laws.proofs.Legal.{LegalOwn}
 use Rattle.sva_laws.proofs.Resets as R
 use Rattle.sva_laws.proofs.Bounds as B
 use Rattle.sva_laws.proofs.Bindings as Bi
-use Rattle.sva_laws.proofs.Labels as L
 use Rattle.sva_laws.proofs.Requests as T
 use Rattle.sva_laws.proofs.Orders as I
 use Rattle.sva_laws.proofs.Owners as O
@@ -68,26 +64,69 @@ put_keeps P f i v new old k = go (ℕ_cases k i)
 bounds_more : (g h : ℕ) (p : Part) → g ≤ h → B.Bounds g p → B.Bounds h p
 bounds_more g h p a bo =
     record {
-      stage = λ b k. bo.stage b (omega arith); request = bo.request; held = bo.held; use_state = bo.use_state; group = bo.group; host_group = bo.host_group;
-      responses = bo.responses; page_request = bo.page_request; group_of = bo.group_of; order_state = bo.order_state; noted = bo.noted;
-      asked = bo.asked; answered = bo.answered; sent = bo.sent; requested = bo.requested; responded = bo.responded;
+      stage = λ b k. bo.stage b (omega arith);
+      request = bo.request;
+      held = bo.held;
+      use_state = bo.use_state;
+      group = bo.group;
+      host_group = bo.host_group;
+      responses = bo.responses;
+      page_request = bo.page_request;
+      group_of = bo.group_of;
+      order_state = bo.order_state;
+      noted = bo.noted;
+      asked = bo.asked;
+      answered = bo.answered;
+      sent = bo.sent;
+      requested = bo.requested;
+      responded = bo.responded;
     }
 
 resets_more : (n m : ℕ) (p : Part) → n ≤ m → R.Resets n p → R.Resets m p
 resets_more n m p a re =
     record {
-      unsent = λ c k. re.unsent c (omega arith); down = re.down; up = re.up; ordered = re.ordered; cleared = re.cleared;
-      start_before = re.start_before; stop_before = re.stop_before; invalidate_before = re.invalidate_before; response_before = re.response_before;
-      older = re.older; no_start = re.no_start; no_stop = re.no_stop; no_invalidate = re.no_invalidate; no_response = re.no_response;
-      off = re.off; empty = re.empty; over = re.over; dead = re.dead; finished = re.finished; untaken = re.untaken; lapsed = re.lapsed;
-      unqueued = re.unqueued; unarrived = re.unarrived; unfiled = re.unfiled;
+      unsent = λ c k. re.unsent c (omega arith);
+      down = re.down;
+      up = re.up;
+      ordered = re.ordered;
+      cleared = re.cleared;
+      start_before = re.start_before;
+      stop_before = re.stop_before;
+      invalidate_before = re.invalidate_before;
+      response_before = re.response_before;
+      older = re.older;
+      no_start = re.no_start;
+      no_stop = re.no_stop;
+      no_invalidate = re.no_invalidate;
+      no_response = re.no_response;
+      off = re.off;
+      empty = re.empty;
+      over = re.over;
+      dead = re.dead;
+      finished = re.finished;
+      untaken = re.untaken;
+      lapsed = re.lapsed;
+      unqueued = re.unqueued;
+      unarrived = re.unarrived;
+      unfiled = re.unfiled;
     }
 
 later : (ms : Mappings) (x g h n m e : ℕ) (p : Part) → g ≤ h → n ≤ m → PartInv ms x g n e p → PartInv ms x h m e p
 later ms x g h n m e p a b i =
     record {
-      there = i.there; near = i.near; resets = resets_more n m p b i.resets; bounds = bounds_more g h p a i.bounds; bindings = i.bindings; labels = i.labels;
-      requests = i.requests; orders = i.orders; owners = i.owners; safe = i.safe; queued = i.queued; lasts = i.lasts; groups = i.groups;
+      there = i.there;
+      near = i.near;
+      resets = resets_more n m p b i.resets;
+      bounds = bounds_more g h p a i.bounds;
+      bindings = i.bindings;
+      labels = i.labels;
+      requests = i.requests;
+      orders = i.orders;
+      owners = i.owners;
+      safe = i.safe;
+      queued = i.queued;
+      lasts = i.lasts;
+      groups = i.groups;
     }
 
 bound_live_own : (live : ℕ → Bool) (ms : Mappings) (g n : ℕ) (p : Part) (o : Own) → LegalOwn ms g p o → BoundSpace live o → (b : ℕ) → (is_unreleased (p.stage b) ≡ true → live (p.space b) ≡ true) → is_unreleased ((own p n o).stage b) ≡ true → live ((own p n o).space b) ≡ true
@@ -143,13 +182,13 @@ at_hands w e o l i =
     record {
       made = i.hands.made;
       held = λ x j h.
-             put_keeps (λ d p. (d ≡ (w.job j).endpoint → IsHeldBy (p.host_group (w.job j).group) x)) w.part e (own (w.part e) w.messages o)
-             (λ same. held_own w.mappings w.bindings w.messages (w.part e) o l.1.0 (w.job j).group x
-                          (held_filed w.bindings (w.part e) (i.parts e).bounds (i.parts e).lasts (i.parts e).groups (w.job j).group x)
-                          (not_answered w e o l.2 x j h same)
-                          (subst (λ d. IsHeldBy ((w.part d).host_group (w.job j).group) x) (sym same) (i.hands.held x j h)))
-             (λ d same. subst (λ z. IsHeldBy ((w.part z).host_group (w.job j).group) x) (sym same) (i.hands.held x j h))
-             (w.job j).endpoint refl;
+          put_keeps (λ d p. (d ≡ (w.job j).endpoint → IsHeldBy (p.host_group (w.job j).group) x)) w.part e (own (w.part e) w.messages o)
+          (λ same. held_own w.mappings w.bindings w.messages (w.part e) o l.1.0 (w.job j).group x
+          (held_filed w.bindings (w.part e) (i.parts e).bounds (i.parts e).lasts (i.parts e).groups (w.job j).group x)
+          (not_answered w e o l.2 x j h same)
+          (subst (λ d. IsHeldBy ((w.part d).host_group (w.job j).group) x) (sym same) (i.hands.held x j h)))
+          (λ d same. subst (λ z. IsHeldBy ((w.part z).host_group (w.job j).group) x) (sym same) (i.hands.held x j h))
+          (w.job j).endpoint refl;
     }
 
 new_job_hands : (w : World) (e g : ℕ) → Hands w → Hands (act w (NewJob e g))
@@ -157,7 +196,7 @@ new_job_hands w e g hs =
     record {
       made = λ x j h. let m = hs.made x j h in omega arith;
       held = λ x j h. let m = hs.made x j h in let ne : j ≢ w.jobs = omega arith in
-             subst (λ d. IsHeldBy ((w.part d.endpoint).host_group d.group) x) (sym (put-other w.job w.jobs (record { endpoint = e; group = g }) j ne)) (hs.held x j h);
+          subst (λ d. IsHeldBy ((w.part d.endpoint).host_group d.group) x) (sym (put-other w.job w.jobs (record { endpoint = e; group = g }) j ne)) (hs.held x j h);
     }
 
 hold_hands : (w : World) (x j : ℕ) → Legal w (Hold x j) → Hands w → Hands (act w (Hold x j))
@@ -197,8 +236,13 @@ at_keeps w e o l i =
       hands = at_hands w e o l i;
       mapped =
           record {
-            unmade = i.mapped.unmade; made = i.mapped.made; present_at = i.mapped.present_at; at_present = i.mapped.at_present;
-            latest = i.mapped.latest; named = i.mapped.named; live = i.mapped.live;
+            unmade = i.mapped.unmade;
+            made = i.mapped.made;
+            present_at = i.mapped.present_at;
+            at_present = i.mapped.at_present;
+            latest = i.mapped.latest;
+            named = i.mapped.named;
+            live = i.mapped.live;
             passed = λ m v x g b. or_answered (answered (w.part x) (v x)) (answered ((act w (At e o)).part x) (v x)) (i.mapped.passed m v x g b) (at_answered w e o (v x) l i x);
             bound_live =
                 put_keeps (λ x p. (b : ℕ) → is_unreleased (p.stage b) ≡ true → w.is_live (p.space b) ≡ true) w.part e (own (w.part e) w.messages o)
@@ -215,9 +259,13 @@ new_space_keeps w i =
       hands = record { made = i.hands.made; held = i.hands.held };
       mapped =
           record {
-            unmade = i.mapped.unmade; made = i.mapped.made; present_at = i.mapped.present_at;
+            unmade = i.mapped.unmade;
+            made = i.mapped.made;
+            present_at = i.mapped.present_at;
             at_present = λ s q m h. let a = i.mapped.at_present s q m h in (a.0, a.1, a.2, live_put s a.3);
-            latest = i.mapped.latest; named = i.mapped.named; passed = i.mapped.passed;
+            latest = i.mapped.latest;
+            named = i.mapped.named;
+            passed = i.mapped.passed;
             live = λ s h. live_below s h;
             bound_live = λ e b h. live_put ((w.part e).space b) (i.mapped.bound_live e b h);
           };
@@ -236,8 +284,15 @@ new_binding_keeps w e i =
       hands = record { made = i.hands.made; held = i.hands.held };
       mapped =
           record {
-            unmade = i.mapped.unmade; made = i.mapped.made; present_at = i.mapped.present_at; at_present = i.mapped.at_present;
-            latest = i.mapped.latest; named = i.mapped.named; passed = i.mapped.passed; live = i.mapped.live; bound_live = i.mapped.bound_live;
+            unmade = i.mapped.unmade;
+            made = i.mapped.made;
+            present_at = i.mapped.present_at;
+            at_present = i.mapped.at_present;
+            latest = i.mapped.latest;
+            named = i.mapped.named;
+            passed = i.mapped.passed;
+            live = i.mapped.live;
+            bound_live = i.mapped.bound_live;
           };
       parts = λ x. later w.mappings w.config.endpoints w.bindings (suc w.bindings) w.messages w.messages x (w.part x) (omega arith) (omega arith) (i.parts x);
     }
@@ -248,8 +303,15 @@ same_keeps w jobs job hand hs i =
       hands = hs;
       mapped =
           record {
-            unmade = i.mapped.unmade; made = i.mapped.made; present_at = i.mapped.present_at; at_present = i.mapped.at_present;
-            latest = i.mapped.latest; named = i.mapped.named; passed = i.mapped.passed; live = i.mapped.live; bound_live = i.mapped.bound_live;
+            unmade = i.mapped.unmade;
+            made = i.mapped.made;
+            present_at = i.mapped.present_at;
+            at_present = i.mapped.at_present;
+            latest = i.mapped.latest;
+            named = i.mapped.named;
+            passed = i.mapped.passed;
+            live = i.mapped.live;
+            bound_live = i.mapped.bound_live;
           };
       parts = i.parts;
     }
@@ -278,7 +340,8 @@ safe_map w s q f x e b m age p l h =
 owners_map : (w : World) (s q f : ℕ) (x : Bool) (p : Part) → O.Owners w.mappings p → O.Owners (act w (Map s q f x)).mappings p
 owners_map w s q f x p ow =
     record {
-      held = ow.held; running = ow.running;
+      held = ow.held;
+      running = ow.running;
       held_space = λ r m h. other_space m (ow.held_made r m h) ∙ ow.held_space r m h;
       held_page = λ r m h. other_page m (ow.held_made r m h) ∙ ow.held_page r m h;
       flying_space = λ c r m h. other_space m (ow.flying_made c r m h) ∙ ow.flying_space c r m h;
@@ -287,7 +350,10 @@ owners_map w s q f x p ow =
       held_made = λ r m h. let k = ow.held_made r m h in omega arith;
       flying_made = λ c r m h. let k = ow.flying_made c r m h in omega arith;
       running_made = λ u h. let k = ow.running_made u h in omega arith;
-      held_open = ow.held_open; held_closed = ow.held_closed; running_open = ow.running_open; running_closed = ow.running_closed;
+      held_open = ow.held_open;
+      held_closed = ow.held_closed;
+      running_open = ow.running_open;
+      running_closed = ow.running_closed;
     }
   where
     other_space : (m : ℕ) → m < w.mappings.made → (act w (Map s q f x)).mappings.space m ≡ w.mappings.space m
@@ -325,8 +391,14 @@ map_keeps w s q f x l i =
       parts =
           λ e.
           record {
-            there = (i.parts e).there; near = (i.parts e).near; resets = (i.parts e).resets; bounds = (i.parts e).bounds; bindings = (i.parts e).bindings;
-            labels = (i.parts e).labels; requests = (i.parts e).requests; orders = (i.parts e).orders;
+            there = (i.parts e).there;
+            near = (i.parts e).near;
+            resets = (i.parts e).resets;
+            bounds = (i.parts e).bounds;
+            bindings = (i.parts e).bindings;
+            labels = (i.parts e).labels;
+            requests = (i.parts e).requests;
+            orders = (i.parts e).orders;
             owners = owners_map w s q f x (w.part e) (i.parts e).owners;
             safe =
                 record {
@@ -334,7 +406,9 @@ map_keeps w s q f x l i =
                   flying = λ c r m h o. safe_map w s q f x e ((w.part e).request_binding r) m (w.part e).uses (w.part e) ((i.parts e).owners.flying_made c r m h) ((i.parts e).safe.flying c r m h o);
                   running = λ u h. safe_map w s q f x e ((w.part e).use_binding u) ((w.part e).use_mapping u) u (w.part e) ((i.parts e).owners.running_made u h) ((i.parts e).safe.running u h);
                 };
-            queued = (i.parts e).queued; lasts = (i.parts e).lasts; groups = (i.parts e).groups;
+            queued = (i.parts e).queued;
+            lasts = (i.parts e).lasts;
+            groups = (i.parts e).groups;
           };
     }
 
@@ -395,9 +469,20 @@ without_mapped w s cookies pages owed live part sub there alive more ma =
 owners_without : (ms : Mappings) (s : ℕ) (pages : ℕ → Bool) (owed : ℕ → Owed) (p : Part) → O.Owners ms p → O.Owners (without_pages ms s pages owed) p
 owners_without ms s pages owed p ow =
     record {
-      held = ow.held; running = ow.running; held_space = ow.held_space; held_page = ow.held_page; flying_space = ow.flying_space; flying_page = ow.flying_page;
-      running_space = ow.running_space; held_made = ow.held_made; flying_made = ow.flying_made; running_made = ow.running_made;
-      held_open = ow.held_open; held_closed = ow.held_closed; running_open = ow.running_open; running_closed = ow.running_closed;
+      held = ow.held;
+      running = ow.running;
+      held_space = ow.held_space;
+      held_page = ow.held_page;
+      flying_space = ow.flying_space;
+      flying_page = ow.flying_page;
+      running_space = ow.running_space;
+      held_made = ow.held_made;
+      flying_made = ow.flying_made;
+      running_made = ow.running_made;
+      held_open = ow.held_open;
+      held_closed = ow.held_closed;
+      running_open = ow.running_open;
+      running_closed = ow.running_closed;
     }
 
 -- the owner of a request out is active
@@ -430,16 +515,26 @@ safe_submitted ms ms' x g n e p b q count cookie k i =
 left_part : (ms : Mappings) (s x g n e : ℕ) (pages : ℕ → Bool) (owed : ℕ → Owed) (p : Part) → KeepsSafe ms (without_pages ms s pages owed) e p p → PartInv ms x g n e p → PartInv (without_pages ms s pages owed) x g n e p
 left_part ms s x g n e pages owed p k i =
     record {
-      there = i.there; near = i.near; resets = i.resets; bounds = i.bounds; bindings = i.bindings; labels = i.labels; requests = i.requests; orders = i.orders;
+      there = i.there;
+      near = i.near;
+      resets = i.resets;
+      bounds = i.bounds;
+      bindings = i.bindings;
+      labels = i.labels;
+      requests = i.requests;
+      orders = i.orders;
       owners = owners_without ms s pages owed p i.owners;
       safe = safe_kept ms (without_pages ms s pages owed) x g n e p k i;
-      queued = i.queued; lasts = i.lasts; groups = i.groups;
+      queued = i.queued;
+      lasts = i.lasts;
+      groups = i.groups;
     }
 
 submitted_part : (ms : Mappings) (s x g n e : ℕ) (pages : ℕ → Bool) (owed : ℕ → Owed) (p : Part) (b q count cookie : ℕ) → p.phase ≡ Open → is_before_invalidating (p.stage b) ≡ true → KeepsSafe ms (without_pages ms s pages owed) e p (submitted p b q count cookie) → PartInv ms x g n e p → PartInv (without_pages ms s pages owed) x g n e (submitted p b q count cookie)
 submitted_part ms s x g n e pages owed p b q count cookie ph st k i =
     record {
-      there = i.there; near = i.near;
+      there = i.there;
+      near = i.near;
       resets = Sub.resets_sub n b q count cookie p ph i.resets;
       bounds = Sub.bounds_sub g b q count cookie p i.bounds;
       bindings = Sub.bindings_sub b q count cookie p i.bindings;
@@ -510,8 +605,8 @@ drop_keeps w s l i =
           λ e.
           left_part w.mappings s w.config.endpoints w.bindings w.messages e (λ q. true) (λ x. Nothing) (w.part e)
           (λ b m age a sp sa.
-           U.safe_without w.mappings e (w.part e) (w.part e) b m age (w.mappings.space m == s && true) (λ x. Nothing) sa (λ v h. h)
-           (λ t pr. absurd (l e b (U.active_unreleased ((w.part e).stage b) a) (sym sp ∙ same_space m t))))
+          U.safe_without w.mappings e (w.part e) (w.part e) b m age (w.mappings.space m == s && true) (λ x. Nothing) sa (λ v h. h)
+          (λ t pr. absurd (l e b (U.active_unreleased ((w.part e).stage b) a) (sym sp ∙ same_space m t))))
           (i.parts e);
     }
   where

@@ -1,12 +1,12 @@
 -- A label's row names the one record that bears it, and each record that bears one is named.
-use Rattle.std.proofs.Common.{◌≡◌, ◌≢◌, ℕ, ◌+◌, ◌<◌, ◌≤◌, Bool, true, false, arith}
-use Rattle.std.specs.Prelude.{Some, None}
+use Rattle.std.proofs.Common.{◌≡◌, ℕ, ◌<◌, ◌≤◌, Bool, true, false, arith}
+use Rattle.std.specs.Prelude.{Some}
 use Rattle.std.proofs.lemmas.Bool.Decides.{nat_tests}
 use Rattle.sva_model.specs.State.{Mappings, Part, UseState}
 use Rattle.sva_model.specs.State.UseState.{Ended}
 use Rattle.sva_model.specs.State.About.{InvalidateOf}
 use Rattle.sva_model.specs.State.OrderState.{Sent}
-use Rattle.sva_model.specs.States.{is_unreleased, is_out, is_outstanding, is_busy, is_open}
+use Rattle.sva_model.specs.States.{is_unreleased, is_out, is_busy}
 use Rattle.sva_model.specs.Acts.{own, Own}
 use Rattle.sva_laws.proofs.Legal.{LegalOwn}
 use Rattle.sva_laws.proofs.Resets.{Resets}

@@ -1,25 +1,22 @@
 -- What a step has tested when an act is done, by names: a clause for each act.
-use Rattle.std.proofs.Common.{◌≡◌, ℕ, suc, ◌<◌, ◌≤◌, ◌≢◌, ◌⊎◌, Bool, true, false}
+use Rattle.std.proofs.Common.{◌≡◌, ℕ, suc, ◌<◌, ◌≤◌, ◌≢◌, ◌⊎◌, true, false}
 use Rattle.std.specs.Prelude.{Option, Some, None}
-use Rattle.sva_model.specs.Message.{Code, Message}
-use Rattle.sva_model.specs.Order.{is_page_request, is_order_down}
+use Rattle.sva_model.specs.Message.{Code}
 use Rattle.sva_model.specs.State.{Mappings, Part, About}
-use Rattle.sva_model.specs.State.MappingState.{Present}
 use Rattle.sva_model.specs.State.Stage.{Unbound, Live, Stopping, Draining, Invalidating, Quiet, Lost}
-use Rattle.sva_model.specs.State.PasidState.{Off, On, Ending}
+use Rattle.sva_model.specs.State.PasidState.{On, Ending}
 use Rattle.sva_model.specs.State.RequestState.{Out}
-use Rattle.sva_model.specs.State.UseState.{Running, Ended}
+use Rattle.sva_model.specs.State.UseState.{Running}
 use Rattle.sva_model.specs.State.PageRequestState.{Arrived}
 use Rattle.sva_model.specs.State.GroupState.{Unfinished}
 use Rattle.sva_model.specs.State.HostGroupState.{Job, InHand, InHandDiscarded}
-use Rattle.sva_model.specs.State.Order.{Wait}
 use Rattle.sva_model.specs.State.OrderState.{Queued, Done}
 use Rattle.sva_model.specs.State.About.{StartOf, StopOf, ResetOrder, CompletionOf, InvalidateOf, ResponseOf, RequestOf, InvalidatedOf, PageRequestOf, MarkerOf, ResetDone}
 use Rattle.sva_model.specs.State.Phase.{Open}
-use Rattle.sva_model.specs.States.{is_open, is_unreleased, is_before_invalidating, is_off, is_out, is_running, is_unfinished, is_open_group, is_taken, is_busy, is_wait, drains, uses_noted, covers}
+use Rattle.sva_model.specs.States.{is_open, is_unreleased, is_before_invalidating, is_off, is_out, is_open_group, is_taken, is_busy, is_wait, drains, uses_noted, covers}
 use Rattle.sva_model.specs.Acts.{Own}
 use Rattle.sva_model.specs.Acts.Own.{Bind, Stop, Drain, Invalidate, Quieten, Release, Send, Pass, File, Reset, Hand, Respond, Discard, Ask, Begin, End, Evict, Group, Request, Finish, Quit, Start_arrives, Stop_arrives, Reset_arrives, Keep, Forget, Take, Answered, Complete, Count, Arrive, Miss, Mark, Ignore, Reopen}
-use Rattle.sva_model.specs.Labels.{sort_of, outstanding, queue_length}
+use Rattle.sva_model.specs.Labels.{outstanding, queue_length}
 
 -- no older message down that orders something
 pub record NoOlderDown (p : Part) (c : ℕ) : Type 0 where

@@ -1,17 +1,14 @@
 -- What a delivery has tested: the message is in flight, and overtakes nothing that it must not.
-use Rattle.std.proofs.Common.{◌≡◌, ◌≢◌, ◌⊎◌, inl, inr, refl, ap, sym, subst, ◌∙◌, ℕ, zero, suc, ◌+◌, ◌-◌, ◌<◌, ◌≤◌, Bool, true, false, arith}
-use Rattle.std.specs.Prelude.{Option, Some, None, ◌&&◌, ◌||◌, not, ◌==◌, nat_le, nat_lt, if◌then◌else◌, List, [], ◌∷◌, ◌++◌}
-use Rattle.std.proofs.lemmas.Bool.Decides.{nat_tests}
+use Rattle.std.proofs.Common.{◌≡◌, ◌≢◌, refl, ap, sym, ◌∙◌, ℕ, ◌<◌, Bool, true, false, arith}
+use Rattle.std.specs.Prelude.{Option, Some, None, if◌then◌else◌, [], ◌∷◌}
 use Rattle.sva_step.specs.declared.steps.Step.TheVariants as step
 use Rattle.sva_model.specs.Words.{any_below, is_some}
-use Rattle.sva_model.specs.Message.{Code}
 use Rattle.sva_model.specs.Order.{Sort, stays_behind}
 use Rattle.sva_model.specs.Order.Sort.{StartSort, StopSort, ResetSort, MarkerSort, PageRequestSort, ResetDoneSort}
 use Rattle.sva_model.specs.State.{Part, World, About, RequestState, Stage}
 use Rattle.sva_model.specs.State.Stage.{Live}
 use Rattle.sva_model.specs.State.RequestState.{Out, Doomed, Over}
 use Rattle.sva_model.specs.State.About.{StartOf, StopOf, ResetOrder, CompletionOf, InvalidateOf, ResponseOf, RequestOf, InvalidatedOf, PageRequestOf, MarkerOf, ResetDone}
-use Rattle.sva_model.specs.State.Phase.{Open}
 use Rattle.sva_model.specs.States.{is_open, is_live_stage, is_out}
 use Rattle.sva_model.specs.Acts.{Act, Own}
 use Rattle.sva_model.specs.Refusals.{refusals}
@@ -19,8 +16,8 @@ use Rattle.sva_model.specs.Outcomes.{outcome, about_outcome, deliver_outcome, co
 use Rattle.sva_model.specs.Labels
 use Rattle.sva_laws.proofs.Words.{any_below-false, not_true}
 use Rattle.sva_laws.proofs.Legal.{NoOlderDown, NoOlderPageRequest}
-use Rattle.sva_laws.proofs.Invariant.{PartInv, Inv}
-use Rattle.sva_laws.proofs.Passed.{Passed, LegalAll, and_right, not_false}
+use Rattle.sva_laws.proofs.Invariant.{Inv}
+use Rattle.sva_laws.proofs.Passed.{Passed, LegalAll, not_false}
 use Rattle.sva_laws.proofs.Unmap.{open_is}
 
 -- what is permitted stays behind nothing that is older

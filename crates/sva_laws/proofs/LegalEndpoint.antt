@@ -1,24 +1,23 @@
 -- What the endpoint's steps have tested.
-use Rattle.std.proofs.Common.{◌≡◌, ◌≢◌, ◌⊎◌, inl, inr, refl, ap, sym, subst, ◌∙◌, ℕ, zero, suc, ◌+◌, ◌-◌, ◌<◌, ◌≤◌, Bool, true, false, arith}
-use Rattle.std.specs.Prelude.{Option, Some, None, ◌&&◌, ◌||◌, not, ◌==◌, nat_le, nat_lt, if◌then◌else◌, List, [], ◌∷◌, ◌++◌}
+use Rattle.std.proofs.Common.{◌≡◌, ◌≢◌, ◌⊎◌, inl, inr, refl, ap, sym, ◌∙◌, ℕ, ◌<◌, ◌≤◌, Bool, true, false, arith}
+use Rattle.std.specs.Prelude.{Option, Some, None, ◌&&◌, ◌||◌, not, ◌==◌, nat_le, nat_lt}
 use Rattle.std.proofs.lemmas.Bool.Decides.{nat_tests}
 use Rattle.sva_step.specs.declared.steps.Step.TheVariants as step
-use Rattle.sva_model.specs.Words.{lowest, any_below, count_below, is_some, holds_of, the}
-use Rattle.sva_model.specs.State.{Part, World, PasidState, RequestState, UseState, GroupState, OrderState}
-use Rattle.sva_model.specs.State.PasidState.{Off, On, Ending}
+use Rattle.sva_model.specs.Words.{any_below, is_some, holds_of, the}
+use Rattle.sva_model.specs.State.{Part, World, PasidState, GroupState}
+use Rattle.sva_model.specs.State.PasidState.{On, Ending}
 use Rattle.sva_model.specs.State.UseState.{Running}
 use Rattle.sva_model.specs.State.GroupState.{Unfinished}
 use Rattle.sva_model.specs.States.{is_on, is_ending, is_off, is_out, is_running, is_unfinished, is_outstanding, is_taken, uses_noted, covers}
-use Rattle.sva_model.specs.Refusals.{refusals, may_request, is_other_group, fault_refusals, finish_refusals}
+use Rattle.sva_model.specs.Refusals.{refusals, fault_refusals}
 use Rattle.sva_model.specs.Outcomes.{outcome, fault_outcome}
 use Rattle.sva_model.specs.Labels
-use Rattle.sva_laws.proofs.Words.{lowest_cases, lowest_below, none_is, some_the, any_below-false, any_below-true, any_below-intro, not_true}
+use Rattle.sva_laws.proofs.Words.{lowest_cases, lowest_below, some_the, any_below-false, any_below-true, not_true}
 use Rattle.sva_laws.proofs.Counting.{pigeons}
 use Rattle.sva_laws.proofs.Bounds.{Bounds}
-use Rattle.sva_laws.proofs.Labels.{Labels as LabelsOf}
 use Rattle.sva_laws.proofs.Groups.{Groups}
-use Rattle.sva_laws.proofs.Invariant.{PartInv, Inv}
-use Rattle.sva_laws.proofs.Passed.{Passed, LegalAll, lt_of, le_of, and_left, and_right, or_left, or_right, not_false, label_low, label_free, bearer_of}
+use Rattle.sva_laws.proofs.Invariant.{Inv}
+use Rattle.sva_laws.proofs.Passed.{Passed, LegalAll, lt_of, and_left, and_right, or_left, or_right, label_low, label_free, bearer_of}
 
 on_is : (s : PasidState) → is_on s ≡ true → s ≡ On
 on_is s h = grind arith
@@ -59,18 +58,21 @@ cached_is p t q h =
 pub begin : (w : World) (e t q : ℕ) (x : Bool) → Inv w → Passed (refusals w (step.BeginUse e t q x)) → LegalAll w (outcome w (step.BeginUse e t q x)).acts
 begin w e t q x i h =
     let p = w.part e in
-    let c = cached_is p t q (not_true (Labels.is_cached p t q) h.1.1.1.0) in
-    ( ( lt_of e w.config.endpoints h.0
-      , ( ( ap p.pasid_state c.binding ∙ started_on p t (not_true (Labels.is_started p t) h.1.1.0)
-          , c.held
-          , label_free 16 p.at_slot h.1.1.1.1.1.0
-          , label_low 16 p.at_slot h.1.1.1.1.1.0
-          )
-        , tt
-        )
-      , tt
-      )
-    , tt
+    let c = cached_is p t q (not_true (Labels.is_cached p t q) h.1.1.1.0) in (
+      (
+        lt_of e w.config.endpoints h.0,
+        (
+          (
+            ap p.pasid_state c.binding ∙ started_on p t (not_true (Labels.is_started p t) h.1.1.0),
+            c.held,
+            label_free 16 p.at_slot h.1.1.1.1.1.0,
+            label_low 16 p.at_slot h.1.1.1.1.1.0,
+          ),
+          tt,
+        ),
+        tt,
+      ),
+      tt,
     )
 
 pub end : (w : World) (e u : ℕ) → Inv w → Passed (refusals w (step.EndUse e u)) → LegalAll w (outcome w (step.EndUse e u)).acts
@@ -199,19 +201,22 @@ pub finish : (w : World) (e vector count : ℕ) → Inv w → Passed (refusals w
 finish w e vector count i h =
     let p = w.part e in
     let some = or_left (Labels.names_none vector) (any_below 32 (λ t. Labels.is_set vector t && not (Labels.is_pending p t))) h.1.0 in
-    let pending = or_right (Labels.names_none vector) (any_below 32 (λ t. Labels.is_set vector t && not (Labels.is_pending p t))) h.1.0 in
-    ( ( lt_of e w.config.endpoints h.0
-      , ( ( finish_named w e vector i some pending
-          , λ k nm. and_left (is_taken (p.order_state k)) (Labels.is_set vector (p.itag k)) nm
-          , finish_unused w e vector i h.1.1.0
-          , low count h.1.1.1.0
-          , high count h.1.1.1.0
-          )
-        , tt
-        )
-      , tt
-      )
-    , tt
+    let pending = or_right (Labels.names_none vector) (any_below 32 (λ t. Labels.is_set vector t && not (Labels.is_pending p t))) h.1.0 in (
+      (
+        lt_of e w.config.endpoints h.0,
+        (
+          (
+            finish_named w e vector i some pending,
+            λ k nm. and_left (is_taken (p.order_state k)) (Labels.is_set vector (p.itag k)) nm,
+            finish_unused w e vector i h.1.1.0,
+            low count h.1.1.1.0,
+            high count h.1.1.1.0,
+          ),
+          tt,
+        ),
+        tt,
+      ),
+      tt,
     )
   where
     low : (c : ℕ) → not (nat_le 1 c && nat_le c 8) ≡ false → 0 < c
@@ -229,18 +234,21 @@ quit w e t i h =
     let busy = h.1.1.0 in
     let groups = or_left (Labels.is_unfinished_of p b) (Labels.is_request_out_of p b) (or_left (Labels.is_unfinished_of p b || Labels.is_request_out_of p b) (Labels.is_use_of p b) busy) in
     let requests = or_right (Labels.is_unfinished_of p b) (Labels.is_request_out_of p b) (or_left (Labels.is_unfinished_of p b || Labels.is_request_out_of p b) (Labels.is_use_of p b) busy) in
-    let uses = or_right (Labels.is_unfinished_of p b || Labels.is_request_out_of p b) (Labels.is_use_of p b) busy in
-    ( ( lt_of e w.config.endpoints h.0
-      , ( ( ending_is (p.pasid_state b) ending.1
-          , λ x u same. none (is_unfinished (p.group x)) (p.asker x) b (ap is_unfinished u) same (any_below-false p.groups (λ g. is_unfinished (p.group g) && p.asker g == b) groups x (group_made x u))
-          , λ r o same. none (is_out (p.request r)) (p.request_binding r) b o same (any_below-false p.requests (λ x. is_out (p.request x) && p.request_binding x == b) requests r (request_made r o))
-          , λ u r same. none (is_running (p.use_state u)) (p.use_binding u) b (ap is_running r) same (any_below-false p.uses (λ x. is_running (p.use_state x) && p.use_binding x == b) uses u (use_made u r))
-          )
-        , tt
-        )
-      , tt
-      )
-    , tt
+    let uses = or_right (Labels.is_unfinished_of p b || Labels.is_request_out_of p b) (Labels.is_use_of p b) busy in (
+      (
+        lt_of e w.config.endpoints h.0,
+        (
+          (
+            ending_is (p.pasid_state b) ending.1,
+            λ x u same. none (is_unfinished (p.group x)) (p.asker x) b (ap is_unfinished u) same (any_below-false p.groups (λ g. is_unfinished (p.group g) && p.asker g == b) groups x (group_made x u)),
+            λ r o same. none (is_out (p.request r)) (p.request_binding r) b o same (any_below-false p.requests (λ x. is_out (p.request x) && p.request_binding x == b) requests r (request_made r o)),
+            λ u r same. none (is_running (p.use_state u)) (p.use_binding u) b (ap is_running r) same (any_below-false p.uses (λ x. is_running (p.use_state x) && p.use_binding x == b) uses u (use_made u r)),
+          ),
+          tt,
+        ),
+        tt,
+      ),
+      tt,
     )
   where
     none : (x : Bool) (a b : ℕ) → x ≡ true → a ≡ b → (x && a == b) ≡ false → ⊥

@@ -1,61 +1,57 @@
 -- What the host's steps have tested.
-use Rattle.std.proofs.Common.{◌≡◌, ◌≢◌, ◌⊎◌, inl, inr, refl, ap, sym, subst, ◌∙◌, ℕ, zero, suc, ◌+◌, ◌-◌, ◌<◌, ◌≤◌, Bool, true, false, arith}
-use Rattle.std.specs.Prelude.{Option, Some, None, ◌&&◌, ◌||◌, not, ◌==◌, nat_le, nat_lt, if◌then◌else◌, List, [], ◌∷◌, ◌++◌}
+use Rattle.std.proofs.Common.{◌≡◌, ◌≢◌, inl, inr, refl, ap, ◌∙◌, ℕ, suc, ◌<◌, Bool, true, false, arith}
+use Rattle.std.specs.Prelude.{◌&&◌, not, ◌==◌}
 use Rattle.std.proofs.lemmas.Bool.Decides.{nat_tests}
 use Rattle.sva_step.specs.declared.steps.Step.TheVariants as step
-use Rattle.sva_model.specs.Words.{put, lowest, any_below, is_some, holds_of, the}
-use Rattle.sva_model.specs.State.{Part, World, Stage, Order, OrderState}
+use Rattle.sva_model.specs.Words.{is_some}
+use Rattle.sva_model.specs.State.{Part, World, Stage, OrderState}
 use Rattle.sva_model.specs.State.Stage.{Unbound, Live, Stopping, Draining, Invalidating, Quiet, Lost, Released}
-use Rattle.sva_model.specs.State.PageRequestState.{Arrived}
-use Rattle.sva_model.specs.State.HostGroupState.{Job, InHand}
-use Rattle.sva_model.specs.State.Order.{PageOf, PasidOf, Wait}
-use Rattle.sva_model.specs.State.OrderState.{Queued, Done}
-use Rattle.sva_model.specs.State.Phase.{Open}
-use Rattle.sva_model.specs.States.{is_open, is_unreleased, is_done, is_queued, is_busy, is_arrived, is_free, is_open_group, is_job, drains}
-use Rattle.sva_model.specs.Acts.{Act, Own, act}
-use Rattle.sva_model.specs.Acts.Act.{NewSpace, DropSpace, Map, Unmap, NewBinding, NewJob, Hold, LetGo, At}
-use Rattle.sva_model.specs.Refusals.{Cause, refusals, unbind_refusals, advance_refusals, is_queue_short}
-use Rattle.sva_model.specs.Outcomes.{Outcome, outcome, unbind_outcome, advance_outcome, pump_outcome, head_outcome, wait_outcome, send_outcome, may_pass, serve_outcome, file_outcome}
+use Rattle.sva_model.specs.State.OrderState.{Done}
+use Rattle.sva_model.specs.States.{is_unreleased, is_done, is_free, is_open_group}
+use Rattle.sva_model.specs.Refusals.{refusals, unbind_refusals, advance_refusals, is_queue_short}
+use Rattle.sva_model.specs.Outcomes.{outcome, unbind_outcome, advance_outcome}
 use Rattle.sva_model.specs.Labels
-use Rattle.sva_laws.proofs.Words.{put-same, none_is, lowest_passes, lowest_below, any_below-false, any_below-true, not_true}
+use Rattle.sva_laws.proofs.Words.{none_is, lowest_passes, any_below-false, not_true}
 use Rattle.sva_laws.proofs.Bounds.{Bounds}
-use Rattle.sva_laws.proofs.PageRequests.{Queued as QueuedRequests}
-use Rattle.sva_laws.proofs.Invariant.{PartInv, Inv}
-use Rattle.sva_laws.proofs.Legal.{LegalOwn}
-use Rattle.sva_laws.proofs.Keeps.{Legal}
-use Rattle.sva_laws.proofs.Passed.{Passed, LegalAll, lt_of, and_left, and_right, or_left, or_right, not_false, opened_is, label_low, label_free, unreleased_made, unreleased_bound, not_bound_at, not_bound}
+use Rattle.sva_laws.proofs.Invariant.{Inv}
+use Rattle.sva_laws.proofs.Passed.{Passed, LegalAll, lt_of, and_right, or_left, or_right, not_false, opened_is, unreleased_bound, not_bound_at, not_bound}
 
 pub drop : (w : World) (n : ℕ) → Inv w → Passed (refusals w (step.DropSpace n)) → LegalAll w (outcome w (step.DropSpace n)).acts
 drop w n i h = (not_bound w (Labels.name w n) i h.1.0, tt)
 
 pub map_page : (w : World) (n q : ℕ) (x : Bool) → Inv w → Passed (refusals w (step.Map n q x)) → LegalAll w (outcome w (step.Map n q x)).acts
-map_page w n q x i h =
-    ( ( and_right (Labels.is_number w w.spaces n) (w.is_live (Labels.name w n)) (not_true (Labels.is_space w n) h.0)
-      , none_is (w.mappings.at (Labels.name w n) q) h.1.1.0
-      , (lowest_passes w.config.frames (is_free w) h.1.1.1.1.0).1
-      )
-    , tt
-    )
+map_page w n q x i h = (
+  (
+    and_right (Labels.is_number w w.spaces n) (w.is_live (Labels.name w n)) (not_true (Labels.is_space w n) h.0),
+    none_is (w.mappings.at (Labels.name w n) q) h.1.1.0,
+    (lowest_passes w.config.frames (is_free w) h.1.1.1.1.0).1,
+  ),
+  tt,
+)
 
 pub bind : (w : World) (e n : ℕ) → Inv w → Passed (refusals w (step.Bind e n)) → LegalAll w (outcome w (step.Bind e n)).acts
 bind w e n i h =
-    let free = lowest_passes 32 (λ t. not (is_some ((w.part e).at_pasid (suc t)))) h.1.1.1.1.0 in
-    ( tt
-    , ( ( lt_of e w.config.endpoints h.0
-        , ( ( omega arith
-            , opened_is (w.part e) h.1.1.0
-            , (i.parts e).bounds.stage w.bindings (omega arith)
-            , none_is ((w.part e).at_pasid (suc (Labels.lowest_pasid (w.part e)))) (not_false (is_some ((w.part e).at_pasid (suc (Labels.lowest_pasid (w.part e))))) free.1)
-            , omega arith
-            , omega (arith, free.0)
-            , not_bound_at w (Labels.name w n) e i h.1.1.1.0
-            )
-          , and_right (Labels.is_number w w.spaces n) (w.is_live (Labels.name w n)) (not_true (Labels.is_space w n) h.1.0)
-          )
-        , tt
-        )
-      , tt
-      )
+    let free = lowest_passes 32 (λ t. not (is_some ((w.part e).at_pasid (suc t)))) h.1.1.1.1.0 in (
+      tt,
+      (
+        (
+          lt_of e w.config.endpoints h.0,
+          (
+            (
+              omega arith,
+              opened_is (w.part e) h.1.1.0,
+              (i.parts e).bounds.stage w.bindings (omega arith),
+              none_is ((w.part e).at_pasid (suc (Labels.lowest_pasid (w.part e)))) (not_false (is_some ((w.part e).at_pasid (suc (Labels.lowest_pasid (w.part e))))) free.1),
+              omega arith,
+              omega (arith, free.0),
+              not_bound_at w (Labels.name w n) e i h.1.1.1.0,
+            ),
+            and_right (Labels.is_number w w.spaces n) (w.is_live (Labels.name w n)) (not_true (Labels.is_space w n) h.1.0),
+          ),
+          tt,
+        ),
+        tt,
+      ),
     )
 
 -- the binding of a step by its number

@@ -1,28 +1,25 @@
 -- What a worker's reply has tested: each page that a success maps is unmapped then and its frame free, one after another.
-use Rattle.std.proofs.Common.{◌≡◌, ◌≢◌, ◌⊎◌, inl, inr, refl, ap, sym, subst, ◌∙◌, ℕ, zero, suc, ◌+◌, ◌-◌, ◌<◌, ◌≤◌, Bool, true, false, arith}
-use Rattle.std.specs.Prelude.{Option, Some, None, ◌&&◌, ◌||◌, not, ◌==◌, nat_le, nat_lt, if◌then◌else◌, List, [], ◌∷◌, ◌++◌, map}
+use Rattle.std.proofs.Common.{◌≡◌, ◌≢◌, ◌⊎◌, inl, inr, refl, ap, sym, subst, ◌∙◌, ℕ, zero, suc, ◌<◌, Bool, true, false, arith}
+use Rattle.std.specs.Prelude.{Option, Some, None, ◌||◌, ◌==◌, if◌then◌else◌, List, [], ◌∷◌, ◌++◌, map}
 use Rattle.std.proofs.lemmas.Bool.Decides.{nat_tests}
 use Rattle.sva_step.specs.declared.steps.Step.TheVariants as step
 use Rattle.sva_step.specs.declared.steps.Verdict.{Verdict}
-use Rattle.sva_step.specs.declared.steps.Verdict.TheVariants as verdict
 use Rattle.sva_model.specs.Words.{put, select, is_some, the}
 use Rattle.sva_model.specs.Message.{Code}
-use Rattle.sva_model.specs.State.{MappingState, Part, World, Stage, HostGroupState}
+use Rattle.sva_model.specs.State.{MappingState, World, Stage, HostGroupState}
 use Rattle.sva_model.specs.State.MappingState.{Unmade, Present, Gone}
 use Rattle.sva_model.specs.State.Stage.{Unbound, Live, Stopping, Draining, Invalidating, Quiet, Lost, Released}
-use Rattle.sva_model.specs.State.HostGroupState.{InHand, InHandDiscarded}
-use Rattle.sva_model.specs.State.Phase.{Open}
 use Rattle.sva_model.specs.States.{is_open, is_unreleased, is_free, is_free_place, place_at, place_by, is_before_invalidating}
-use Rattle.sva_model.specs.Acts.{Act, Own, act}
+use Rattle.sva_model.specs.Acts.{Own, act}
 use Rattle.sva_model.specs.Acts.Act.{Map, LetGo, At}
 use Rattle.sva_model.specs.Refusals.{refusals}
 use Rattle.sva_model.specs.Outcomes.{outcome, reply_outcome}
 use Rattle.sva_model.specs.Replies.{response, response_to, is_success, replies_success, unseen, newly_mapped, maps_to, reply_maps, free_list, is_write_asked, job_part, job_binding, job_space, job_asks}
 use Rattle.sva_model.specs.Labels
 use Rattle.sva_laws.proofs.Words.{put-same, put-other, ℕ_cases, none_is, some_the, not_true}
-use Rattle.sva_laws.proofs.Invariant.{PartInv, Inv, Mapped, IsHeldBy}
+use Rattle.sva_laws.proofs.Invariant.{Inv, IsHeldBy}
 use Rattle.sva_laws.proofs.Keeps.{Legal, act_keeps}
-use Rattle.sva_laws.proofs.Passed.{Passed, LegalAll, lt_of, opened_is, unreleased_bound}
+use Rattle.sva_laws.proofs.Passed.{Passed, LegalAll}
 use Rattle.sva_laws.proofs.LegalUnit.{group_there}
 use Rattle.sva_laws.proofs.Unmap.{open_is}
 
@@ -194,7 +191,7 @@ reply_at w x j v None i h r =
 reply_at w x j v (Some code) i h r =
     let sent = sent_open (is_open (job_part w j).phase) ((job_part w j).stage (job_binding w j)) v code r in
     let rest : LegalAll w (LetGo x ∷ At (w.job j).endpoint (Own.Respond (w.job j).group code) ∷ []) =
-        (tt, ((hand_there w x j i h, ((open_is (job_part w j) sent.0, in_hand w x j i h, sent.1), tt), let_go w x j i h), tt)) in
+    (tt, ((hand_there w x j i h, ((open_is (job_part w j) sent.0, in_hand w x j i h, sent.1), tt), let_go w x j i h), tt)) in
     go (replies_success w j v) refl rest
   where
     go : (b : Bool) → replies_success w j v ≡ b → LegalAll w (LetGo x ∷ At (w.job j).endpoint (Own.Respond (w.job j).group code) ∷ []) → LegalAll w ((if b then maps_to (job_space w j) (is_write_asked w j) (newly_mapped w j) (free_list w) else []) ++ LetGo x ∷ At (w.job j).endpoint (Own.Respond (w.job j).group code) ∷ [])

@@ -1,29 +1,25 @@
 -- What the steps at a unit have tested: pump, serve, reset, and a worker's take.
-use Rattle.std.proofs.Common.{◌≡◌, ◌≢◌, ◌⊎◌, inl, inr, refl, ap, sym, subst, ◌∙◌, ℕ, zero, suc, ◌+◌, ◌-◌, ◌<◌, ◌≤◌, Bool, true, false, arith}
-use Rattle.std.specs.Prelude.{Option, Some, None, ◌&&◌, ◌||◌, not, ◌==◌, nat_le, nat_lt, if◌then◌else◌, List, [], ◌∷◌, ◌++◌}
-use Rattle.std.proofs.lemmas.Bool.Decides.{nat_tests}
+use Rattle.std.proofs.Common.{◌≡◌, ◌≢◌, refl, ap, sym, ◌∙◌, ℕ, ◌<◌, ◌≤◌, Bool, true, false, arith}
+use Rattle.std.specs.Prelude.{◌||◌, not, ◌==◌, [], ◌∷◌}
 use Rattle.sva_step.specs.declared.steps.Step.TheVariants as step
-use Rattle.sva_model.specs.Words.{put, lowest, any_below, is_some, holds_of, the}
+use Rattle.sva_model.specs.Words.{put, lowest, any_below}
 use Rattle.sva_model.specs.State.{Part, World, Order, OrderState, PageRequestState, HostGroupState}
 use Rattle.sva_model.specs.State.PageRequestState.{Arrived}
 use Rattle.sva_model.specs.State.HostGroupState.{Job, InHand}
 use Rattle.sva_model.specs.State.Order.{PageOf, PasidOf, Wait}
-use Rattle.sva_model.specs.State.OrderState.{Queued, Void}
+use Rattle.sva_model.specs.State.OrderState.{Queued}
 use Rattle.sva_model.specs.State.Phase.{Open}
-use Rattle.sva_model.specs.States.{is_open, is_queued, is_busy, is_arrived, is_job, is_wait, drains}
-use Rattle.sva_model.specs.Acts.{Act, Own, act, own}
-use Rattle.sva_model.specs.Acts.Act.{At, NewJob, Hold}
-use Rattle.sva_model.specs.Refusals.{Cause, refusals}
-use Rattle.sva_model.specs.Outcomes.{Outcome, outcome, pump_outcome, head_outcome, wait_outcome, send_outcome, may_pass, serve_outcome, file_outcome}
+use Rattle.sva_model.specs.States.{is_queued, is_busy, is_arrived, is_job, is_wait, drains}
+use Rattle.sva_model.specs.Acts.{Own, own}
+use Rattle.sva_model.specs.Acts.Act.{At, Hold}
+use Rattle.sva_model.specs.Refusals.{refusals}
+use Rattle.sva_model.specs.Outcomes.{outcome, pump_outcome, head_outcome, wait_outcome, send_outcome, may_pass, serve_outcome, file_outcome}
 use Rattle.sva_model.specs.Labels
-use Rattle.sva_laws.proofs.Words.{put-same, none_is, lowest_passes, lowest_below, any_below-false, any_below-true, any_below-intro, not_true}
+use Rattle.sva_laws.proofs.Words.{put-same, lowest_below, any_below-false, any_below-true, not_true}
 use Rattle.sva_laws.proofs.Bounds.{Bounds}
 use Rattle.sva_laws.proofs.PageRequests.{Queued as QueuedRequests}
-use Rattle.sva_laws.proofs.Groups.{Groups}
-use Rattle.sva_laws.proofs.Invariant.{PartInv, Inv}
-use Rattle.sva_laws.proofs.Legal.{LegalOwn}
-use Rattle.sva_laws.proofs.Keeps.{Legal}
-use Rattle.sva_laws.proofs.Passed.{Passed, LegalAll, lt_of, and_left, and_right, or_left, or_right, not_false, opened_is, label_low, label_free}
+use Rattle.sva_laws.proofs.Invariant.{Inv}
+use Rattle.sva_laws.proofs.Passed.{Passed, LegalAll, lt_of, and_left, and_right, not_false, opened_is, label_low, label_free}
 
 -- Pump: the head is the lowest order that is queued.
 record Head (p : Part) : Type 0 where
@@ -134,9 +130,9 @@ take_at : (w : World) (x j : ℕ) → Inv w → j < w.jobs → Labels.is_queued_
 take_at w x j i l h =
     let e = (w.job j).endpoint in
     let g = (w.job j).group in
-    let job = job_is ((w.part e).host_group g) h in
-    ( (group_there w e g i (made e g (ap is_job job)), (job, tt), tt)
-    , ((l, held e g), tt)
+    let job = job_is ((w.part e).host_group g) h in (
+      (group_there w e g i (made e g (ap is_job job)), (job, tt), tt),
+      ((l, held e g), tt),
     )
   where
     job_is : (s : HostGroupState) → is_job s ≡ true → s ≡ Job

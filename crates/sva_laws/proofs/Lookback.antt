@@ -1,31 +1,20 @@
 -- The look back over the list of steps, and what the step reads: they say the same of which frames are withheld.
-use Rattle.std.proofs.Common.{◌≡◌, ◌≢◌, ◌⊎◌, ◌↔◌, inl, inr, refl, ap, sym, subst, ◌∙◌, ℕ, zero, suc, ◌+◌, ◌<◌, ◌≤◌, Bool, true, false, arith, append_assoc}
-use Rattle.std.specs.Prelude.{Option, Some, None, ◌&&◌, ◌||◌, ◌==◌, nat_lt, List, [], ◌∷◌, ◌++◌}
+use Rattle.std.proofs.Common.{◌≡◌, ◌≢◌, ◌⊎◌, inl, inr, refl, ap, sym, subst, ◌∙◌, ℕ, ◌≤◌, Bool, true, false, arith, append_assoc}
+use Rattle.std.specs.Prelude.{Some, ◌&&◌, ◌==◌, List, [], ◌∷◌, ◌++◌}
 use Rattle.std.proofs.lemmas.Bool.Decides.{nat_tests}
 use Rattle.sva_step.specs.declared.limits.Config.{Config}
 use Rattle.sva_step.specs.declared.steps.Step.{Step}
-use Rattle.sva_model.specs.Words.{all_below, put}
-use Rattle.sva_model.specs.State.{Owed, MappingState, Part, World, Stage, opened}
-use Rattle.sva_model.specs.State.Owed.{Nothing, Pages, Pasid, AReset}
+use Rattle.sva_model.specs.State.{Owed, MappingState, World, opened}
+use Rattle.sva_model.specs.State.Owed.{Nothing}
 use Rattle.sva_model.specs.State.MappingState.{Unmade, Present, Gone}
-use Rattle.sva_model.specs.State.Stage.{Unbound, Live, Stopping, Draining, Invalidating, Quiet, Lost, Released}
-use Rattle.sva_model.specs.State.OrderState.{Done}
-use Rattle.sva_model.specs.State.Phase.{Open}
-use Rattle.sva_model.specs.States.{Place, is_unreleased, is_open, is_done, answered, place, place_at, place_by, place_of_gone}
-use Rattle.sva_model.specs.States.Place.{Free, Mapped, Withheld}
-use Rattle.sva_model.specs.Acts.{Act, act, bound, submits_at, submits, owed_by, owed_by_stage, submitted_if, cookie_of, part_after_unmap, gone_if, in_range, without_pages}
+use Rattle.sva_model.specs.States.{is_unreleased}
+use Rattle.sva_model.specs.Acts.{Act, act, bound, owed_by, gone_if, in_range}
 use Rattle.sva_model.specs.Acts.Act.{Unmap, DropSpace}
 use Rattle.sva_model.specs.Steps.{decide, next, run, after_acts, world_after}
-use Rattle.sva_model.specs.Claims.{IsAt, IsMapped, WasDone, IsBeforeInvalidating, AreDone, HasAnswered, IsWithheld}
-use Rattle.sva_model.specs.Claims.HasAnswered.{was_done, orders_done, pasid_done, was_reset}
-use Rattle.sva_laws.proofs.Words.{find_passes, all_below-true, all_below-false, all_below_cases}
-use Rattle.sva_laws.proofs.Answered.{all_below-intro}
-use Rattle.sva_laws.proofs.Invariant.{PartInv, Inv}
+use Rattle.sva_laws.proofs.Invariant.{Inv}
 use Rattle.sva_laws.proofs.Keeps.{Legal}
-use Rattle.sva_laws.proofs.Passed.{LegalAll, unreleased_made}
-use Rattle.sva_laws.proofs.Unmap.{bound_is}
+use Rattle.sva_laws.proofs.Passed.{LegalAll}
 use Rattle.sva_laws.proofs.Runs.{always, step_legal, next_keeps}
-use Rattle.sva_laws.proofs.Agreement.{withheld_at, mapped_at, place_mapped}
 use Rattle.sva_laws.proofs.Adding.{Adds, Kind, acts_add, step_kind}
 use Rattle.sva_laws.proofs.Adding.Kind.{adding, unmapping, dropping}
 
@@ -141,9 +130,13 @@ pub record WentAt (c : Config) (steps : List Step) (m : ℕ) (owed : ℕ → Owe
 went_more : (c : Config) (ss : List Step) (s : Step) (m : ℕ) (owed : ℕ → Owed) → WentAt c ss m owed → WentAt c (ss ++ s ∷ []) m owed
 went_more c ss s m owed x =
     record {
-      before = x.before; step = x.step; since = x.since ++ s ∷ [];
+      before = x.before;
+      step = x.step;
+      since = x.since ++ s ∷ [];
       steps_are = ap (λ z. z ++ s ∷ []) x.steps_are ∙ sym (one_more x.before x.step x.since s);
-      present = x.present; gone = x.gone; goes = x.goes;
+      present = x.present;
+      gone = x.gone;
+      goes = x.goes;
     }
 
 went_next : (c : Config) (ss : List Step) (s : Step) → ((m : ℕ) (owed : ℕ → Owed) → (world_after c ss).mappings.state m ≡ Gone owed → WentAt c ss m owed) → (m : ℕ) (owed : ℕ → Owed) → (world_after c (ss ++ s ∷ [])).mappings.state m ≡ Gone owed → WentAt c (ss ++ s ∷ []) m owed

@@ -1,15 +1,15 @@
 -- The orders of a unit: what is ahead of a wait that is done is done or void, and an order that isn't done or void is of
 -- a binding that isn't quiet yet.
-use Rattle.std.proofs.Common.{◌≡◌, ◌≢◌, ◌⊎◌, inl, inr, refl, ℕ, suc, ◌+◌, ◌<◌, ◌≤◌, Bool, true, false, arith}
-use Rattle.std.specs.Prelude.{Option, Some, None, not, ◌==◌}
+use Rattle.std.proofs.Common.{◌≡◌, ◌≢◌, ◌⊎◌, inl, inr, refl, ℕ, suc, ◌<◌, Bool, true, false, arith}
+use Rattle.std.specs.Prelude.{Some}
 use Rattle.std.proofs.lemmas.Bool.Decides.{nat_tests}
 use Rattle.sva_model.specs.State.{Mappings, Part, Stage, Order, OrderState}
 use Rattle.sva_model.specs.State.Stage.{Live, Stopping, Draining, Invalidating}
 use Rattle.sva_model.specs.State.Order.{PageOf, PasidOf, Wait}
-use Rattle.sva_model.specs.State.OrderState.{Queued, Sent, Taken, Lapsed, Owing, Done, Void}
+use Rattle.sva_model.specs.State.OrderState.{Queued, Sent, Owing, Done, Void}
 use Rattle.sva_model.specs.State.About.{InvalidateOf, ResetDone}
 use Rattle.sva_model.specs.State.Phase.{Open, Cleared}
-use Rattle.sva_model.specs.States.{is_busy, is_wait, is_open, drains}
+use Rattle.sva_model.specs.States.{is_busy, is_wait, drains}
 use Rattle.sva_model.specs.Acts.{own, Own, binding_of}
 use Rattle.sva_laws.proofs.Legal.{LegalOwn}
 use Rattle.sva_laws.proofs.Resets.{Resets}
@@ -70,7 +70,7 @@ ahead_kept : (ms : Mappings) (g n : ℕ) (p : Part) (o : Own) → LegalOwn ms g 
 ahead_kept ms g n p o l bo sent or w k h i b =
     let made : w < p.orders = done_made ms g n p o l sent w (made_or_void p g w bo) h in
     let old : is_undone (p.order_state k) ≡ false =
-        elim (was_done ms g n p o l w k b (or.no_wait w) (made_or_void p g w bo) h i) [ inl x ↦ or.ahead w k x.0 x.1 b | inr x ↦ x ]
+    elim (was_done ms g n p o l w k b (or.no_wait w) (made_or_void p g w bo) h i) [ inl x ↦ or.ahead w k x.0 x.1 b | inr x ↦ x ]
     in
     stays_done ms g n p o l sent k (omega arith) old
 

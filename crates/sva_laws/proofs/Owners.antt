@@ -1,7 +1,7 @@
 -- Whose translations are: the owner of each is Live, Stopping, Draining or Invalidating, its mapping is of that page of
 -- the owner's space, and while the owner is Invalidating, its PASID's invalidation is yet to strike it.
-use Rattle.std.proofs.Common.{ap, refl, ◌≡◌, ◌≢◌, ◌⊎◌, ℕ, suc, ◌+◌, ◌<◌, ◌≤◌, Bool, true, false, arith}
-use Rattle.std.specs.Prelude.{Option, Some, None, not, nat_lt}
+use Rattle.std.proofs.Common.{ap, refl, ◌≡◌, ◌≢◌, ℕ, ◌<◌, ◌≤◌, Bool, true, false, arith}
+use Rattle.std.specs.Prelude.{Some, None, nat_lt}
 use Rattle.std.proofs.lemmas.Bool.Decides.{nat_tests}
 use Rattle.sva_model.specs.State.{Mappings, Part, OrderState}
 use Rattle.sva_model.specs.State.Stage.{Unbound, Invalidating}

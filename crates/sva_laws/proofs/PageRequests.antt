@@ -1,15 +1,15 @@
 -- A page request is in flight once, then in the page request queue once; the last of a group stands behind all others.
-use Rattle.std.proofs.Common.{◌≡◌, ◌≢◌, ◌⊎◌, inl, inr, ap, ◌∙◌, ℕ, suc, ◌+◌, ◌<◌, ◌≤◌, Bool, true, false, arith}
-use Rattle.std.specs.Prelude.{Option, Some, None, not}
+use Rattle.std.proofs.Common.{◌≡◌, ◌≢◌, ◌⊎◌, inl, inr, ap, ◌∙◌, ℕ, ◌<◌, ◌≤◌, Bool, true, false, arith}
+use Rattle.std.specs.Prelude.{Some, None}
 use Rattle.std.proofs.lemmas.Bool.Decides.{nat_tests}
 use Rattle.sva_model.specs.Message.{Code}
-use Rattle.sva_model.specs.State.{Mappings, Part, PageRequestState, HostGroupState}
+use Rattle.sva_model.specs.State.{Mappings, Part, HostGroupState}
 use Rattle.sva_model.specs.State.PageRequestState.{InFlight, Arrived, Filed, Dropped}
 use Rattle.sva_model.specs.State.GroupState.{Unfinished, Finished}
-use Rattle.sva_model.specs.State.HostGroupState.{NotFiled, PartFiled, Job, InHand, Replied, Discarded, InHandDiscarded}
+use Rattle.sva_model.specs.State.HostGroupState.{NotFiled, Job, InHand, Replied, InHandDiscarded}
 use Rattle.sva_model.specs.State.About.{PageRequestOf, ResponseOf, ResetDone}
 use Rattle.sva_model.specs.State.Phase.{Open, Cleared}
-use Rattle.sva_model.specs.States.{is_outstanding, is_open, is_open_group, is_before_invalidating}
+use Rattle.sva_model.specs.States.{is_outstanding, is_before_invalidating}
 use Rattle.sva_model.specs.Acts.{own, Own}
 use Rattle.sva_model.specs.Acts.Own.{File, Reopen}
 use Rattle.sva_laws.proofs.Legal.{LegalOwn}

@@ -1,19 +1,19 @@
 -- What has been tested when no cause of a step holds.
-use Rattle.std.proofs.Common.{◌≡◌, ◌≢◌, ◌⊎◌, inl, inr, refl, ap, sym, subst, ◌∙◌, ℕ, zero, suc, ◌+◌, ◌-◌, ◌<◌, ◌≤◌, Bool, true, false, arith}
-use Rattle.std.specs.Prelude.{Option, Some, None, ◌&&◌, ◌||◌, not, ◌==◌, nat_le, nat_lt, if◌then◌else◌, List, [], ◌∷◌, ◌++◌, Err}
+use Rattle.std.proofs.Common.{◌≡◌, ◌≢◌, refl, ℕ, ◌<◌, ◌≤◌, Bool, true, false, arith}
+use Rattle.std.specs.Prelude.{Option, Some, None, ◌&&◌, ◌||◌, not, ◌==◌, nat_lt, if◌then◌else◌, List, [], ◌∷◌, Err}
 use Rattle.std.proofs.lemmas.Bool.Decides.{nat_tests}
-use Rattle.sva_model.specs.Words.{lowest, any_below, is_some, holds_of, the}
+use Rattle.sva_model.specs.Words.{is_some, holds_of, the}
 use Rattle.sva_model.specs.State.{Part, World}
 use Rattle.sva_model.specs.State.Phase.{Open}
 use Rattle.sva_model.specs.State.Stage.{Unbound}
-use Rattle.sva_model.specs.States.{is_open, is_unreleased, is_on}
+use Rattle.sva_model.specs.States.{is_open, is_unreleased}
 use Rattle.sva_model.specs.Acts.{Act, act}
 use Rattle.sva_model.specs.Refusals.{Cause}
 use Rattle.sva_model.specs.Outcomes.{Outcome}
-use Rattle.sva_model.specs.Steps.{Decision, checked, after_acts}
+use Rattle.sva_model.specs.Steps.{checked, after_acts}
 use Rattle.sva_model.specs.Labels
-use Rattle.sva_laws.proofs.Words.{none_is, lowest_passes, any_below-false, not_true}
-use Rattle.sva_laws.proofs.Invariant.{PartInv, Inv}
+use Rattle.sva_laws.proofs.Words.{none_is, lowest_passes, any_below-false}
+use Rattle.sva_laws.proofs.Invariant.{Inv}
 use Rattle.sva_laws.proofs.Keeps.{Legal, act_keeps}
 
 abbrev pub LegalAll : World → List Act → Type 0

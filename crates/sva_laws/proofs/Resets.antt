@@ -1,9 +1,8 @@
 -- A reset is one message on its way, down and then up, and the unit is in reset as long. While the reset-done is on its
 -- way, the endpoint keeps and sends nothing, so nothing is in flight behind it when it arrives.
-use Rattle.std.proofs.Common.{◌≡◌, ◌≢◌, ℕ, ◌+◌, ◌<◌, ◌≤◌, arith, true, false}
+use Rattle.std.proofs.Common.{◌≡◌, ◌≢◌, ℕ, ◌+◌, ◌<◌, ◌≤◌, arith, false}
 use Rattle.std.specs.Prelude.{Some, None}
 use Rattle.std.proofs.lemmas.Bool.Decides.{nat_tests}
-use Rattle.sva_model.specs.Order.{is_order_down}
 use Rattle.sva_model.specs.Message.{Code}
 use Rattle.sva_model.specs.State.{Mappings, Part, About}
 use Rattle.sva_model.specs.State.PasidState.{Off}
@@ -12,10 +11,9 @@ use Rattle.sva_model.specs.State.PageRequestState.{Arrived}
 use Rattle.sva_model.specs.State.GroupState.{Finished}
 use Rattle.sva_model.specs.State.OrderState.{Lapsed, Queued}
 use Rattle.sva_model.specs.State.About.{StartOf, StopOf, ResetOrder, InvalidateOf, ResponseOf, ResetDone}
-use Rattle.sva_model.specs.State.Phase.{Open, Ordered, Cleared}
+use Rattle.sva_model.specs.State.Phase.{Ordered, Cleared}
 use Rattle.sva_model.specs.States.{is_open, is_out, is_taken, is_open_group}
 use Rattle.sva_model.specs.Acts.{own, sends, Own}
-use Rattle.sva_model.specs.Labels.{sort_of}
 use Rattle.sva_laws.proofs.Legal.{LegalOwn}
 
 pub record Resets (n : ℕ) (p : Part) : Type 0 where

@@ -1,7 +1,6 @@
 -- The invariant holds after every list of steps.
-use Rattle.std.proofs.Common.{◌≡◌, ◌≢◌, ◌⊎◌, refl, ℕ, ◌<◌, ◌≤◌, Bool, true, false, arith}
-use Rattle.std.specs.Prelude.{List, [], ◌∷◌, Option, Some, None}
-use Rattle.std.proofs.lemmas.Bool.Decides.{nat_tests}
+use Rattle.std.proofs.Common.{refl, arith}
+use Rattle.std.specs.Prelude.{List, [], ◌∷◌}
 use Rattle.sva_step.specs.declared.limits.Config.{Config}
 use Rattle.sva_step.specs.declared.steps.Step.{Step}
 use Rattle.sva_step.specs.declared.steps.Step.TheVariants as step
@@ -9,7 +8,7 @@ use Rattle.sva_model.specs.State.{World, opened}
 use Rattle.sva_model.specs.Refusals.{refusals}
 use Rattle.sva_model.specs.Outcomes.{outcome}
 use Rattle.sva_model.specs.Steps.{decide, next, run, world_after}
-use Rattle.sva_laws.proofs.Invariant.{PartInv, Inv}
+use Rattle.sva_laws.proofs.Invariant.{Inv}
 use Rattle.sva_laws.proofs.Passed.{Passed, LegalAll, acts_keep, checked_legal}
 use Rattle.sva_laws.proofs.LegalHost as Host
 use Rattle.sva_laws.proofs.LegalUnit as Unit_steps
@@ -56,14 +55,31 @@ opened_inv c =
       hands = record { made = grind arith; held = grind arith };
       mapped =
           record {
-            unmade = λ m h. refl; made = grind arith; present_at = grind arith; at_present = grind arith; latest = grind arith;
-            named = grind arith; passed = grind arith; live = grind arith; bound_live = grind arith;
+            unmade = λ m h. refl;
+            made = grind arith;
+            present_at = grind arith;
+            at_present = grind arith;
+            latest = grind arith;
+            named = grind arith;
+            passed = grind arith;
+            live = grind arith;
+            bound_live = grind arith;
           };
       parts =
           λ e.
           record {
-            there = grind arith; near = grind arith; resets = grind arith; bounds = grind arith; bindings = grind arith; labels = grind arith;
-            requests = grind arith; orders = grind arith; owners = grind arith; safe = grind arith; queued = grind arith; lasts = grind arith;
+            there = grind arith;
+            near = grind arith;
+            resets = grind arith;
+            bounds = grind arith;
+            bindings = grind arith;
+            labels = grind arith;
+            requests = grind arith;
+            orders = grind arith;
+            owners = grind arith;
+            safe = grind arith;
+            queued = grind arith;
+            lasts = grind arith;
             groups = grind arith;
           };
     }

@@ -1,19 +1,19 @@
 -- Each usable translation is present, or its mapping is gone and the endpoint hasn't answered for it: an order ahead of
 -- the wait will strike it first.
 use Rattle.sva_laws.proofs.Words.{put-same}
-use Rattle.std.proofs.Common.{ap, refl, sym, subst, ◌≡◌, ◌≢◌, ◌⊎◌, inl, inr, ℕ, suc, ◌+◌, ◌-◌, ◌<◌, ◌≤◌, Bool, true, false, arith}
-use Rattle.std.specs.Prelude.{Option, Some, None, not, nat_lt}
+use Rattle.std.proofs.Common.{sym, subst, ◌≡◌, ◌≢◌, ◌⊎◌, inl, inr, ℕ, ◌+◌, ◌-◌, ◌<◌, ◌≤◌, Bool, true, false, arith}
+use Rattle.std.specs.Prelude.{Some, None}
 use Rattle.std.proofs.lemmas.Bool.Decides.{nat_tests}
-use Rattle.sva_model.specs.State.{Owed, MappingState, Mappings, Part, Stage, OrderState}
+use Rattle.sva_model.specs.State.{Owed, MappingState, Mappings, Part, Stage}
 use Rattle.sva_model.specs.State.Owed.{Nothing, Pages, Pasid, AReset}
 use Rattle.sva_model.specs.State.MappingState.{Unmade, Present, Gone}
 use Rattle.sva_model.specs.State.Stage.{Invalidating}
 use Rattle.sva_model.specs.State.RequestState.{Out}
-use Rattle.sva_model.specs.State.UseState.{Running, Ended}
+use Rattle.sva_model.specs.State.UseState.{Running}
 use Rattle.sva_model.specs.State.Order.{PageOf}
 use Rattle.sva_model.specs.State.OrderState.{Queued, Done, Void, Taken}
 use Rattle.sva_model.specs.State.About.{CompletionOf, ResetDone}
-use Rattle.sva_model.specs.State.Phase.{Open, Cleared}
+use Rattle.sva_model.specs.State.Phase.{Open}
 use Rattle.sva_model.specs.States.{is_open, is_out, is_wait, covers}
 use Rattle.sva_model.specs.Acts.{own, Own}
 use Rattle.sva_model.specs.Acts.Own.{Keep, Begin, Complete}

@@ -1,13 +1,10 @@
 -- What a unit's page invalidations and their wait leave as it was.
-use Rattle.std.proofs.Common.{◌≡◌, ◌≢◌, ◌⊎◌, inl, inr, refl, ap, sym, ◌∙◌, ℕ, zero, suc, ◌+◌, ◌-◌, ◌<◌, ◌≤◌, Bool, true, false, arith}
-use Rattle.std.specs.Prelude.{Option, Some, None}
+use Rattle.std.proofs.Common.{◌≡◌, ℕ, true, arith}
 use Rattle.std.proofs.lemmas.Bool.Decides.{nat_tests}
-use Rattle.sva_model.specs.State.{Owed, Mappings, Part}
+use Rattle.sva_model.specs.State.{Mappings, Part}
 use Rattle.sva_model.specs.State.Phase.{Open}
-use Rattle.sva_model.specs.State.Stage.{Unbound}
 use Rattle.sva_model.specs.States.{is_before_invalidating}
 use Rattle.sva_model.specs.Acts.{submitted}
-use Rattle.sva_laws.proofs.Invariant.{PartInv}
 use Rattle.sva_laws.proofs.Resets.{Resets}
 use Rattle.sva_laws.proofs.Bounds.{Bounds}
 use Rattle.sva_laws.proofs.Bindings.{Bindings}
@@ -21,43 +18,85 @@ use Rattle.sva_laws.proofs.Groups.{Groups}
 pub resets_sub : (n b q count cookie : ℕ) (p : Part) → p.phase ≡ Open → Resets n p → Resets n (submitted p b q count cookie)
 resets_sub n b q count cookie p ph re =
     record {
-      unsent = re.unsent; down = re.down; up = re.up; ordered = re.ordered; cleared = re.cleared;
-      start_before = re.start_before; stop_before = re.stop_before; invalidate_before = re.invalidate_before; response_before = re.response_before;
-      older = re.older; no_start = re.no_start; no_stop = re.no_stop; no_invalidate = re.no_invalidate; no_response = re.no_response;
-      off = re.off; empty = re.empty; over = re.over; dead = re.dead; finished = re.finished;
+      unsent = re.unsent;
+      down = re.down;
+      up = re.up;
+      ordered = re.ordered;
+      cleared = re.cleared;
+      start_before = re.start_before;
+      stop_before = re.stop_before;
+      invalidate_before = re.invalidate_before;
+      response_before = re.response_before;
+      older = re.older;
+      no_start = re.no_start;
+      no_stop = re.no_stop;
+      no_invalidate = re.no_invalidate;
+      no_response = re.no_response;
+      off = re.off;
+      empty = re.empty;
+      over = re.over;
+      dead = re.dead;
+      finished = re.finished;
       untaken = λ c k h. grind (arith, nat_tests, re.untaken c k);
       lapsed = λ k h. grind (arith, nat_tests, re.lapsed k);
       unqueued = λ k h. grind (arith, nat_tests, re.unqueued k);
-      unarrived = re.unarrived; unfiled = re.unfiled;
+      unarrived = re.unarrived;
+      unfiled = re.unfiled;
     }
 
 pub bounds_sub : (g b q count cookie : ℕ) (p : Part) → Bounds g p → Bounds g (submitted p b q count cookie)
 bounds_sub g b q count cookie p bo =
     record {
-      stage = bo.stage; request = bo.request; held = bo.held; use_state = bo.use_state; group = bo.group; host_group = bo.host_group;
-      responses = bo.responses; page_request = bo.page_request; group_of = bo.group_of;
+      stage = bo.stage;
+      request = bo.request;
+      held = bo.held;
+      use_state = bo.use_state;
+      group = bo.group;
+      host_group = bo.host_group;
+      responses = bo.responses;
+      page_request = bo.page_request;
+      group_of = bo.group_of;
       order_state = λ k h. grind (arith, nat_tests, bo.order_state k);
       noted = λ k m h. grind (arith, nat_tests, bo.noted k m);
-      asked = bo.asked; answered = bo.answered;
+      asked = bo.asked;
+      answered = bo.answered;
       sent = λ c k h. grind (arith, nat_tests, bo.sent c k);
-      requested = bo.requested; responded = bo.responded;
+      requested = bo.requested;
+      responded = bo.responded;
     }
 
 pub bindings_sub : (b q count cookie : ℕ) (p : Part) → Bindings p → Bindings (submitted p b q count cookie)
 bindings_sub b q count cookie p bi =
     record {
-      start_once = bi.start_once; start_off = bi.start_off; start_stage = bi.start_stage; on_stage = bi.on_stage;
-      stop_once = bi.stop_once; stop_stage = bi.stop_stage; stop_early = bi.stop_early; stop_order = bi.stop_order;
-      ending_stage = bi.ending_stage; marker_once = bi.marker_once; marker_stage = bi.marker_stage; marker_off = bi.marker_off;
-      marker_start = bi.marker_start; marker_stop = bi.marker_stop;
+      start_once = bi.start_once;
+      start_off = bi.start_off;
+      start_stage = bi.start_stage;
+      on_stage = bi.on_stage;
+      stop_once = bi.stop_once;
+      stop_stage = bi.stop_stage;
+      stop_early = bi.stop_early;
+      stop_order = bi.stop_order;
+      ending_stage = bi.ending_stage;
+      marker_once = bi.marker_once;
+      marker_stage = bi.marker_stage;
+      marker_off = bi.marker_off;
+      marker_start = bi.marker_start;
+      marker_stop = bi.marker_stop;
     }
 
 pub labels_sub : (g b q count cookie : ℕ) (p : Part) → Bounds g p → Labels p → Labels (submitted p b q count cookie)
 labels_sub g b q count cookie p bo la =
     record {
-      pasid_bears = la.pasid_bears; bears_pasid = la.bears_pasid; pasid_low = la.pasid_low; one_space = la.one_space;
-      tag_bears = la.tag_bears; bears_tag = la.bears_tag; tag_low = la.tag_low;
-      slot_bears = la.slot_bears; bears_slot = la.bears_slot; slot_low = la.slot_low;
+      pasid_bears = la.pasid_bears;
+      bears_pasid = la.bears_pasid;
+      pasid_low = la.pasid_low;
+      one_space = la.one_space;
+      tag_bears = la.tag_bears;
+      bears_tag = la.bears_tag;
+      tag_low = la.tag_low;
+      slot_bears = la.slot_bears;
+      bears_slot = la.bears_slot;
+      slot_low = la.slot_low;
       itag_bears = λ t k h. grind (arith, nat_tests, la.itag_bears t k, bo.order_state k);
       bears_itag = λ k h. grind (arith, nat_tests, la.bears_itag k);
       itag_low = la.itag_low;
@@ -84,8 +123,16 @@ orders_sub g b q count cookie p st bo or =
 pub owners_sub : (ms : Mappings) (g b q count cookie : ℕ) (p : Part) → Orders p → Owners ms p → Owners ms (submitted p b q count cookie)
 owners_sub ms g b q count cookie p or ow =
     record {
-      held = ow.held; running = ow.running; held_space = ow.held_space; held_page = ow.held_page; flying_space = ow.flying_space;
-      flying_page = ow.flying_page; running_space = ow.running_space; held_made = ow.held_made; flying_made = ow.flying_made; running_made = ow.running_made;
+      held = ow.held;
+      running = ow.running;
+      held_space = ow.held_space;
+      held_page = ow.held_page;
+      flying_space = ow.flying_space;
+      flying_page = ow.flying_page;
+      running_space = ow.running_space;
+      held_made = ow.held_made;
+      flying_made = ow.flying_made;
+      running_made = ow.running_made;
       held_open = λ r m k w h i j. grind (arith, nat_tests, ow.held_open r m k w, or.invalidating (p.request_binding r) k w);
       held_closed = λ r m k w h i j d. grind (arith, nat_tests, ow.held_closed r m k w, or.invalidating (p.request_binding r) k w);
       running_open = λ u k w h i j. grind (arith, nat_tests, ow.running_open u k w, or.invalidating (p.use_binding u) k w);
@@ -102,8 +149,21 @@ lasts_sub b q count cookie p la =
 pub groups_sub : (b q count cookie : ℕ) (p : Part) → Orders p → Groups p → Groups (submitted p b q count cookie)
 groups_sub b q count cookie p or gr =
     record {
-      index_bears = gr.index_bears; bears_index = gr.bears_index; index_low = gr.index_low; first = gr.first; asker_bound = gr.asker_bound; alive = gr.alive;
-      under = gr.under; filed = gr.filed; open_group = gr.open_group; discarded = gr.discarded; discarded_over = gr.discarded_over; responses = gr.responses; response = gr.response;
-      flight_stage = gr.flight_stage; marker_after = gr.marker_after; arrived_stage = gr.arrived_stage;
+      index_bears = gr.index_bears;
+      bears_index = gr.bears_index;
+      index_low = gr.index_low;
+      first = gr.first;
+      asker_bound = gr.asker_bound;
+      alive = gr.alive;
+      under = gr.under;
+      filed = gr.filed;
+      open_group = gr.open_group;
+      discarded = gr.discarded;
+      discarded_over = gr.discarded_over;
+      responses = gr.responses;
+      response = gr.response;
+      flight_stage = gr.flight_stage;
+      marker_after = gr.marker_after;
+      arrived_stage = gr.arrived_stage;
       arrived_wait = λ r w h i. grind (arith, nat_tests, gr.arrived_wait r w, or.draining (p.asker (p.group_of r)) w);
     }

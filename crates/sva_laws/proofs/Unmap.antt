@@ -1,27 +1,21 @@
 -- Unmapping: what is taken out is either used by nobody, or its endpoint owes an answer, and will strike first.
-use Rattle.std.proofs.Common.{◌≡◌, ◌≢◌, ◌⊎◌, inl, inr, refl, ap, sym, subst, ◌∙◌, ℕ, zero, suc, ◌+◌, ◌-◌, ◌<◌, ◌≤◌, Bool, true, false, arith}
-use Rattle.std.specs.Prelude.{Option, Some, None, ◌&&◌, ◌==◌, not, nat_le, nat_lt, if◌then◌else◌}
+use Rattle.std.proofs.Common.{◌≡◌, ◌≢◌, ◌⊎◌, inl, inr, refl, ap, sym, subst, ◌∙◌, ℕ, ◌+◌, ◌<◌, ◌≤◌, Bool, true, false, arith}
+use Rattle.std.specs.Prelude.{Option, Some, None, ◌&&◌, ◌==◌, not, if◌then◌else◌}
 use Rattle.std.proofs.lemmas.Bool.Decides.{nat_tests}
 use Rattle.sva_model.specs.State.{Owed, MappingState, Mappings, Part, World, Stage}
 use Rattle.sva_model.specs.State.Owed.{Nothing, Pages, Pasid, AReset}
 use Rattle.sva_model.specs.State.MappingState.{Unmade, Present, Gone}
 use Rattle.sva_model.specs.State.Stage.{Unbound, Live, Stopping, Draining, Invalidating, Quiet, Lost, Released}
-use Rattle.sva_model.specs.State.UseState.{Running}
-use Rattle.sva_model.specs.State.RequestState.{Out}
-use Rattle.sva_model.specs.State.About.{CompletionOf}
 use Rattle.sva_model.specs.State.Phase.{Open}
 use Rattle.sva_model.specs.States.{is_unreleased, is_open, is_before_invalidating}
-use Rattle.sva_model.specs.Acts.{bound, submits_at, submits, owed_by_unit, owed_by_stage, owed_by, submitted, submitted_if, cookie_of, part_after_unmap, gone_if, in_range, without_pages, act, Act}
-use Rattle.sva_model.specs.Acts.Act.{Unmap, DropSpace}
+use Rattle.sva_model.specs.Acts.{bound, submits_at, submits, owed_by_unit, owed_by_stage, owed_by, submitted, submitted_if, cookie_of, part_after_unmap, gone_if, in_range, without_pages, act}
+use Rattle.sva_model.specs.Acts.Act.{Unmap}
 use Rattle.sva_laws.proofs.Words.{put-same, put-other, ℕ_cases, find_passes, find_some}
 use Rattle.sva_model.specs.Words.{unless}
 use Rattle.sva_laws.proofs.Bounds.{Bounds}
-use Rattle.sva_laws.proofs.Labels.{Labels}
 use Rattle.sva_laws.proofs.Orders.{is_active}
-use Rattle.sva_laws.proofs.Owners.{Owners, blocks}
-use Rattle.sva_laws.proofs.Safe.{Safe, Pending, IsSafe, owed_of, order_of_page}
-use Rattle.sva_laws.proofs.Invariant.{PartInv, Inv}
-use Rattle.sva_laws.proofs.Submitted as Sub
+use Rattle.sva_laws.proofs.Safe.{Pending, IsSafe, owed_of}
+use Rattle.sva_laws.proofs.Invariant.{Inv}
 
 -- a translation of a mapping, where some mappings go
 pub safe_without : (ms : Mappings) (e : ℕ) (p p' : Part) (b m age : ℕ) (t : Bool) (owed : ℕ → Owed) → IsSafe ms e p b m age → ((v : Owed) → Pending p b (ms.page m) age v → Pending p' b (ms.page m) age v) → (t ≡ true → ms.state m ≡ Present → Pending p' b (ms.page m) age (owed e)) → (gone_if t owed (ms.state m) ≡ Present) ⊎ Pending p' b (ms.page m) age (owed_of (gone_if t owed (ms.state m)) e)

@@ -1,31 +1,31 @@
 -- A frame's place is Withheld exactly where the look back over the list of steps says so.
-use Rattle.std.proofs.Common.{◌≡◌, ◌≢◌, ◌⊎◌, ◌↔◌, inl, inr, refl, ap, sym, subst, ◌∙◌, ℕ, zero, suc, ◌+◌, ◌-◌, ◌<◌, ◌≤◌, Bool, true, false, arith, append_assoc}
+use Rattle.std.proofs.Common.{◌≡◌, ◌≢◌, ◌⊎◌, inl, inr, refl, ap, sym, subst, ◌∙◌, ℕ, suc, ◌+◌, ◌-◌, ◌<◌, ◌≤◌, Bool, true, false, arith, append_assoc}
 use Rattle.std.specs.Prelude.{Option, Some, None, ◌&&◌, ◌||◌, ◌==◌, nat_lt, List, [], ◌∷◌, ◌++◌}
 use Rattle.std.proofs.lemmas.Bool.Decides.{nat_tests}
 use Rattle.sva_step.specs.declared.limits.Config.{Config}
 use Rattle.sva_step.specs.declared.steps.Step.{Step}
 use Rattle.sva_model.specs.Words.{all_below}
 use Rattle.sva_model.specs.State.{Owed, OrderState, MappingState, Part, World, Stage, opened}
-use Rattle.sva_model.specs.State.Owed.{Nothing, Pages, Pasid, AReset}
+use Rattle.sva_model.specs.State.Owed.{Pages, Pasid, AReset}
 use Rattle.sva_model.specs.State.MappingState.{Unmade, Present, Gone}
 use Rattle.sva_model.specs.State.Stage.{Unbound, Live, Stopping, Draining, Invalidating, Quiet, Lost, Released}
 use Rattle.sva_model.specs.State.OrderState.{Done}
 use Rattle.sva_model.specs.State.Phase.{Open}
-use Rattle.sva_model.specs.States.{Place, is_unreleased, is_open, is_done, answered, place, place_at, place_by, place_of_gone}
-use Rattle.sva_model.specs.States.Place.{Free, Mapped, Withheld}
+use Rattle.sva_model.specs.States.{is_unreleased, is_open, is_done, answered, place, place_at, place_by, place_of_gone}
+use Rattle.sva_model.specs.States.Place.{Free, Withheld}
 use Rattle.sva_model.specs.Acts.{Act, act, bound, submits_at, owed_by, owed_by_unit, owed_by_stage, submitted_if, cookie_of}
 use Rattle.sva_model.specs.Acts.Act.{Unmap}
 use Rattle.sva_model.specs.Steps.{next, run, after_acts, decide, world_after}
-use Rattle.sva_model.specs.Claims.{IsAt, IsMapped, WasDone, IsBeforeInvalidating, AreDone, HasAnswered, IsWithheld}
+use Rattle.sva_model.specs.Claims.{IsAt, IsMapped, IsBeforeInvalidating, AreDone, HasAnswered, IsWithheld}
 use Rattle.sva_model.specs.Claims.HasAnswered.{was_done, orders_done, pasid_done, was_reset}
-use Rattle.sva_laws.proofs.Words.{find_passes, all_below-true, all_below-false, all_below_cases}
+use Rattle.sva_laws.proofs.Words.{find_passes, all_below-true, all_below_cases}
 use Rattle.sva_laws.proofs.Answered.{all_below-intro}
 use Rattle.sva_laws.proofs.Invariant.{Inv}
 use Rattle.sva_laws.proofs.Passed.{and_left, and_right}
 use Rattle.sva_laws.proofs.Unmap.{bound_is, open_is}
 use Rattle.sva_laws.proofs.Runs.{always, next_keeps}
 use Rattle.sva_laws.proofs.Agreement.{withheld_at}
-use Rattle.sva_laws.proofs.Lookback.{Goes, Moves, Later, WentAt, moves, later, went, run_append, after_one, one_more, append_none}
+use Rattle.sva_laws.proofs.Lookback.{Goes, Later, moves, later, went, run_append, after_one, one_more, append_none}
 use Rattle.sva_laws.proofs.Lookback.Goes.{unmapped, dropped}
 
 -- What an endpoint owes for an unmapping is answered, exactly where it has answered for its binding.
@@ -64,10 +64,11 @@ less_is : (a b : ℕ) → nat_lt a b ≡ true → a < b
 less_is a b h = grind (arith, nat_tests)
 
 answered_by_reset : (now : Part) (resets q k i w count : ℕ) (flag : Bool) → resets < now.resets → (answered now (Pages q k count resets) ≡ true) × (answered now (Pasid i w resets flag) ≡ true) × (answered now (AReset resets) ≡ true)
-answered_by_reset now resets q k i w count flag l =
-    (or_second (all_below (suc count) (λ j. is_done (now.order_state (k + j)))) (nat_lt resets now.resets) (less resets now.resets l),
-    or_second (is_done (now.order_state i) && is_done (now.order_state w)) (nat_lt resets now.resets) (less resets now.resets l),
-    less resets now.resets l)
+answered_by_reset now resets q k i w count flag l = (
+  or_second (all_below (suc count) (λ j. is_done (now.order_state (k + j)))) (nat_lt resets now.resets) (less resets now.resets l),
+  or_second (is_done (now.order_state i) && is_done (now.order_state w)) (nat_lt resets now.resets) (less resets now.resets l),
+  less resets now.resets l,
+)
 
 stage_by_reset : (was now : Part) (q count : ℕ) (s : Stage) (o : Bool) → is_open was.phase ≡ o → was.resets < now.resets → answered now (owed_by_stage was q count s) ≡ true
 stage_by_reset was now q count Unbound o e l = refl
@@ -191,7 +192,8 @@ present_mapped : (w : World) (f k : ℕ) → Inv w → w.mappings.latest f ≡ S
 present_mapped w f k i la g =
     let at = i.mapped.present_at k g in
     record {
-      space = w.mappings.space k; page = w.mappings.page k;
+      space = w.mappings.space k;
+      page = w.mappings.page k;
       is_at = record { live = (i.mapped.at_present (w.mappings.space k) (w.mappings.page k) k at).3; mapping = k; maps = at; leads = (i.mapped.named f k la).0 };
     }
 
@@ -243,8 +245,12 @@ withheld_by c before step since f m e owed s q count b o nx sp ow bo =
     let at = i.mapped.present_at m o.present in
     let found = find_passes w.bindings (λ d. is_unreleased ((w.part e).stage d) && (w.part e).space d == s) b bo in
     record {
-      before = before; step = step; since = since; steps_are = refl;
-      space = s; page = w.mappings.page m;
+      before = before;
+      step = step;
+      since = since;
+      steps_are = refl;
+      space = s;
+      page = w.mappings.page m;
       was_there = record {
         live = subst (λ z. w.is_live z ≡ true) sp (i.mapped.at_present (w.mappings.space m) (w.mappings.page m) m at).3;
         mapping = m;
@@ -252,7 +258,9 @@ withheld_by c before step since f m e owed s q count b o nx sp ow bo =
         leads = frame;
       };
       not_mapped_since = λ some rest e. between some rest e;
-      endpoint = e; is_endpoint = o.is_endpoint; binding = b;
+      endpoint = e;
+      is_endpoint = o.is_endpoint;
+      binding = b;
       unreleased = and_left (is_unreleased ((w.part e).stage b)) ((w.part e).space b == s) found.1;
       of_space = space_is (and_right (is_unreleased ((w.part e).stage b)) ((w.part e).space b == s) found.1);
       silent = λ h. silent h;

@@ -1,8 +1,8 @@
 -- What the searches find.
-use Rattle.std.proofs.Common.{◌≡◌, ℕ, zero, suc, ◌+◌, ◌<◌, ◌≤◌, ◌≢◌, ◌⊎◌, inl, inr, refl, arith, Bool, true, false, ap, sym, subst, ◌∙◌}
-use Rattle.std.specs.Prelude.{Option, Some, None, if◌then◌else◌, nat_lt, nat_le, not, ◌&&◌, ◌==◌}
+use Rattle.std.proofs.Common.{◌≡◌, ℕ, zero, suc, ◌+◌, ◌<◌, ◌≢◌, ◌⊎◌, inl, inr, refl, arith, Bool, true, false, subst}
+use Rattle.std.specs.Prelude.{Option, Some, None, if◌then◌else◌, nat_lt, not, ◌==◌}
 use Rattle.std.proofs.lemmas.Bool.Decides.{nat_tests}
-use Rattle.sva_model.specs.Words.{put, put_range, lowest, find, if_found, step_lowest, any_below, all_below, is_some, the, holds_of}
+use Rattle.sva_model.specs.Words.{put, lowest, find, if_found, step_lowest, any_below, all_below, is_some, the, holds_of}
 
 pub put-same : {A : Type 0} (f : ℕ → A) (i : ℕ) (v : A) → put f i v i ≡ v
 put-same f i v = grind (arith, nat_tests)

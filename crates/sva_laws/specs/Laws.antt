@@ -1,23 +1,22 @@
 -- Laws of the definitions beside the headline: what labels find, what can't occur, and how many there are.
-use Rattle.std.specs.Prelude.{◌≡◌, ◌≢◌, ◌⊎◌, ◌↔◌, ℕ, ◌+◌, ◌<◌, ◌≤◌, Bool, true, false, Option, Some, None, List, [], ◌∷◌, ◌++◌}
+use Rattle.std.specs.Prelude.{◌≡◌, ◌≢◌, ◌⊎◌, ◌↔◌, ℕ, ◌+◌, ◌<◌, ◌≤◌, true, false, Option, Some, List}
 use Rattle.sva_step.specs.declared.limits.Config.{Config}
 use Rattle.sva_step.specs.declared.steps.Step.{Step}
 use Rattle.sva_model.specs.Words.{count_below}
 use Rattle.sva_model.specs.Message.{Code}
-use Rattle.sva_model.specs.State.{About, Part, World, Phase}
-use Rattle.sva_model.specs.State.About.{StartOf, StopOf, ResetOrder, CompletionOf, InvalidateOf, ResponseOf, RequestOf, PageRequestOf, MarkerOf, ResetDone}
+use Rattle.sva_model.specs.State.{Part}
+use Rattle.sva_model.specs.State.About.{StartOf, StopOf, ResetOrder, CompletionOf, InvalidateOf, ResponseOf, RequestOf, MarkerOf, ResetDone}
 use Rattle.sva_model.specs.State.Phase.{Open, Cleared}
-use Rattle.sva_model.specs.State.Stage.{Stopping, Invalidating}
+use Rattle.sva_model.specs.State.Stage.{Stopping}
 use Rattle.sva_model.specs.State.OrderState.{Sent}
-use Rattle.sva_model.specs.State.RequestState.{Out}
 use Rattle.sva_model.specs.State.UseState.{Running, Ended}
 use Rattle.sva_model.specs.State.PageRequestState.{Arrived}
-use Rattle.sva_model.specs.States.{is_unreleased, is_open, is_out, is_busy, is_outstanding, is_open_group, is_arrived, is_before_invalidating, place}
-use Rattle.sva_model.specs.States.Place.{Free, Mapped, Withheld}
+use Rattle.sva_model.specs.States.{is_unreleased, is_out, is_busy, is_outstanding, is_open_group, is_arrived, is_before_invalidating, place}
+use Rattle.sva_model.specs.States.Place.{Withheld}
 use Rattle.sva_model.specs.Acts.{binding_of}
 use Rattle.sva_model.specs.Labels.{outstanding}
 use Rattle.sva_model.specs.Steps.{counts, world_after}
-use Rattle.sva_model.specs.Claims.{Fits, Usable, IsPresent, IsMapped, IsWithheld, IsDivided, IsMatched, IsBearer}
+use Rattle.sva_model.specs.Claims.{Fits, Usable, IsPresent, IsWithheld, IsDivided, IsMatched, IsBearer}
 
 -- The headline's parts, each by itself.
 

@@ -11,30 +11,26 @@ ghost use Rattle.sva_laws.specs.Laws.{AlwaysOwned, AlwaysPresentOrWithheld, Alwa
 /// unreleased bindings of an endpoint have two PASIDs.
 pub fn headline()
     ensures always { AlwaysAgrees }
-{
-}
+{}
 
 /// Usable translations: each has an unreleased owner, and is present or leads to a withheld frame.
 pub fn translations()
     ensures owned { AlwaysOwned }
     ensures safe { AlwaysPresentOrWithheld }
-{
-}
+{}
 
 /// Page requests, groups, jobs, markers and responses stand under the binding that asked.
 pub fn page_requests()
     ensures matched { AlwaysMatched }
     ensures limited { AlwaysLimited }
-{
-}
+{}
 
 /// Frames: in exactly one place; withheld exactly as long as an endpoint owes an answer.
 pub fn frames()
     ensures divided { AlwaysDivided }
     ensures adds_up { AlwaysAddsUp }
     ensures withheld { AlwaysWithheldExactly }
-{
-}
+{}
 
 /// Labels: each is borne by at most one record, and finds the record that a step or a message speaks of; and what can't
 /// occur at a delivery doesn't.
@@ -42,5 +38,4 @@ pub fn labels_and_deliveries()
     ensures labelled { AlwaysLabelled }
     ensures found { AlwaysFound }
     ensures never { NeverOccurring }
-{
-}
+{}

@@ -91,10 +91,10 @@ pub record IsWithheld (config : Config) (steps : List Step) (frame : ℕ) : Type
   pub of_space : ((world_after config before).part endpoint).space binding ≡ space
   pub silent :
       HasAnswered
-          ((world_after config before).part endpoint)
-          ((world_after config (before ++ step ∷ [])).part endpoint)
-          ((world_after config steps).part endpoint)
-          binding
+      ((world_after config before).part endpoint)
+      ((world_after config (before ++ step ∷ [])).part endpoint)
+      ((world_after config steps).part endpoint)
+      binding
       → ⊥
 
 -- each frame is at exactly one page of one live space, or withheld, or free, and only one of these; the step reads its

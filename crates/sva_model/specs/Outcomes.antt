@@ -95,11 +95,11 @@ serve_outcome p e false =
 abbrev pub take_outcome : World → (worker job : ℕ) → Outcome
 take_outcome w x j =
     says
-        (answer.JobTaken
-            (Labels.number w (job_binding w j))
-            ((job_part w j).index (w.job j).group)
-            (length (job_asks w j)))
-        (Act.At (w.job j).endpoint (Own.Hand (w.job j).group x) ∷ Act.Hold x j ∷ [])
+    (answer.JobTaken
+    (Labels.number w (job_binding w j))
+    ((job_part w j).index (w.job j).group)
+    (length (job_asks w j)))
+    (Act.At (w.job j).endpoint (Own.Hand (w.job j).group x) ∷ Act.Hold x j ∷ [])
 
 abbrev pub code_answer : (mapped : ℕ) → Code → Answer
 code_answer mapped SuccessCode = answer.Success mapped

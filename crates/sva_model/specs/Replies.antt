@@ -68,8 +68,8 @@ is_write_asked w j q = list_any (λ r. (job_part w j).asked_page r == q && (job_
 abbrev pub is_write_of_read_only : World → (job : ℕ) → Bool
 is_write_of_read_only w j =
     list_any
-        (λ r. (job_part w j).asks_write r && holds_of (λ m. not (w.mappings.write m)) (w.mappings.at (job_space w j) ((job_part w j).asked_page r)))
-        (job_asks w j)
+    (λ r. (job_part w j).asks_write r && holds_of (λ m. not (w.mappings.write m)) (w.mappings.at (job_space w j) ((job_part w j).asked_page r)))
+    (job_asks w j)
 
 -- each page to a frame, in order
 abbrev pub maps_to : (space : ℕ) → (ℕ → Bool) → List ℕ → List ℕ → List Act

@@ -9,21 +9,21 @@ use Rattle.sva_model.specs.Rows.{Line, says, refused, lines, IsRow, config}
 abbrev pub count_of_eight : List Line
 count_of_eight =
     (says (step.Space) (answer.Space 0)
-        ∷ says (step.Map 0 16 false) (answer.Frame 0)
-        ∷ says (step.Bind 0 0) (answer.Binding 0 1)
-        ∷ says (step.Deliver 0) (answer.Started)
-        ∷ says (step.Unmap 0 16 1) (answer.WithheldFrames (0 ∷ []))
-        ∷ says (step.Pump 0) (answer.Itag 0)
-        ∷ says (step.Deliver 1) (answer.Taken)
-        ∷ refused (step.Finish 0 1 0) refusal.BadCount
-        ∷ refused (step.Finish 0 1 9) refusal.BadCount
-        ∷ says (step.Finish 0 1 8) (answer.Sent 8)
-        ∷ [])
+    ∷ says (step.Map 0 16 false) (answer.Frame 0)
+    ∷ says (step.Bind 0 0) (answer.Binding 0 1)
+    ∷ says (step.Deliver 0) (answer.Started)
+    ∷ says (step.Unmap 0 16 1) (answer.WithheldFrames (0 ∷ []))
+    ∷ says (step.Pump 0) (answer.Itag 0)
+    ∷ says (step.Deliver 1) (answer.Taken)
+    ∷ refused (step.Finish 0 1 0) refusal.BadCount
+    ∷ refused (step.Finish 0 1 9) refusal.BadCount
+    ∷ says (step.Finish 0 1 8) (answer.Sent 8)
+    ∷ [])
     ++ lines 7 (λ k. says (step.Deliver (2 + k)) (answer.Freed 0))
     ++ (says (step.Pump 0) (answer.Blocked)
-        ∷ says (step.Deliver 9) (answer.Freed 1)
-        ∷ says (step.Pump 0) (answer.WaitDone)
-        ∷ [])
+    ∷ says (step.Deliver 9) (answer.Freed 1)
+    ∷ says (step.Pump 0) (answer.WaitDone)
+    ∷ [])
 
 abbrev pub CountOfEight : Type 0
 CountOfEight = IsRow (config 1 4 1 0) count_of_eight 4 0 0
@@ -32,21 +32,21 @@ CountOfEight = IsRow (config 1 4 1 0) count_of_eight 4 0 0
 abbrev pub one_vector_for_three : List Line
 one_vector_for_three =
     (says (step.Space) (answer.Space 0)
-        ∷ [])
+    ∷ [])
     ++ lines 4 (λ k. says (step.Map 0 (16 + k) false) (answer.Frame k))
     ++ (says (step.Bind 0 0) (answer.Binding 0 1)
-        ∷ says (step.Deliver 0) (answer.Started)
-        ∷ says (step.Unmap 0 16 4) (answer.WithheldFrames (0 ∷ 1 ∷ 2 ∷ 3 ∷ []))
-        ∷ [])
+    ∷ says (step.Deliver 0) (answer.Started)
+    ∷ says (step.Unmap 0 16 4) (answer.WithheldFrames (0 ∷ 1 ∷ 2 ∷ 3 ∷ []))
+    ∷ [])
     ++ lines 4 (λ k. says (step.Pump 0) (answer.Itag k))
     ++ (says (step.Deliver 1) (answer.Taken)
-        ∷ says (step.Deliver 2) (answer.Taken)
-        ∷ says (step.Deliver 4) (answer.Taken)
-        ∷ says (step.Finish 0 11 2) (answer.Sent 2)
-        ∷ says (step.Deliver 6) (answer.Freed 0)
-        ∷ says (step.Deliver 5) (answer.Freed 3)
-        ∷ says (step.Pump 0) (answer.Blocked)
-        ∷ [])
+    ∷ says (step.Deliver 2) (answer.Taken)
+    ∷ says (step.Deliver 4) (answer.Taken)
+    ∷ says (step.Finish 0 11 2) (answer.Sent 2)
+    ∷ says (step.Deliver 6) (answer.Freed 0)
+    ∷ says (step.Deliver 5) (answer.Freed 3)
+    ∷ says (step.Pump 0) (answer.Blocked)
+    ∷ [])
 
 abbrev pub OneVectorForThree : Type 0
 OneVectorForThree = IsRow (config 1 64 1 0) one_vector_for_three 60 0 4
@@ -55,19 +55,19 @@ OneVectorForThree = IsRow (config 1 64 1 0) one_vector_for_three 60 0 4
 abbrev pub all_tags_busy : List Line
 all_tags_busy =
     (says (step.Space) (answer.Space 0)
-        ∷ [])
+    ∷ [])
     ++ lines 40 (λ k. says (step.Map 0 (16 + k) false) (answer.Frame k))
     ++ (says (step.Bind 0 0) (answer.Binding 0 1)
-        ∷ says (step.Deliver 0) (answer.Started)
-        ∷ says (step.Unmap 0 16 40) (answer.WithheldFrames (0 ∷ 1 ∷ 2 ∷ 3 ∷ 4 ∷ 5 ∷ 6 ∷ 7 ∷ 8 ∷ 9 ∷ 10 ∷ 11 ∷ 12 ∷ 13 ∷ 14 ∷ 15 ∷ 16 ∷ 17 ∷ 18 ∷ 19 ∷ 20 ∷ 21 ∷ 22 ∷ 23 ∷ 24 ∷ 25 ∷ 26 ∷ 27 ∷ 28 ∷ 29 ∷ 30 ∷ 31 ∷ 32 ∷ 33 ∷ 34 ∷ 35 ∷ 36 ∷ 37 ∷ 38 ∷ 39 ∷ []))
-        ∷ [])
+    ∷ says (step.Deliver 0) (answer.Started)
+    ∷ says (step.Unmap 0 16 40) (answer.WithheldFrames (0 ∷ 1 ∷ 2 ∷ 3 ∷ 4 ∷ 5 ∷ 6 ∷ 7 ∷ 8 ∷ 9 ∷ 10 ∷ 11 ∷ 12 ∷ 13 ∷ 14 ∷ 15 ∷ 16 ∷ 17 ∷ 18 ∷ 19 ∷ 20 ∷ 21 ∷ 22 ∷ 23 ∷ 24 ∷ 25 ∷ 26 ∷ 27 ∷ 28 ∷ 29 ∷ 30 ∷ 31 ∷ 32 ∷ 33 ∷ 34 ∷ 35 ∷ 36 ∷ 37 ∷ 38 ∷ 39 ∷ []))
+    ∷ [])
     ++ lines 32 (λ k. says (step.Pump 0) (answer.Itag k))
     ++ (says (step.Pump 0) (answer.Blocked)
-        ∷ says (step.Deliver 1) (answer.Taken)
-        ∷ says (step.Finish 0 1 1) (answer.Sent 1)
-        ∷ says (step.Deliver 33) (answer.Freed 1)
-        ∷ says (step.Pump 0) (answer.Itag 0)
-        ∷ [])
+    ∷ says (step.Deliver 1) (answer.Taken)
+    ∷ says (step.Finish 0 1 1) (answer.Sent 1)
+    ∷ says (step.Deliver 33) (answer.Freed 1)
+    ∷ says (step.Pump 0) (answer.Itag 0)
+    ∷ [])
 
 abbrev pub AllTagsBusy : Type 0
 AllTagsBusy = IsRow (config 1 64 1 0) all_tags_busy 24 0 40

@@ -47,8 +47,8 @@ pub record SpaceWire : Type 0 where
 abbrev pub pages_wire : World → (space : ℕ) → List PageWire
 pages_wire w s =
     sorted_by (λ a b. nat_lt a.page b.page)
-        (map (λ m. record { page = w.mappings.page m; frame = w.mappings.frame m; write = w.mappings.write m })
-            (select w.mappings.made (λ m. is_present (w.mappings.state m) && w.mappings.space m == s)))
+    (map (λ m. record { page = w.mappings.page m; frame = w.mappings.frame m; write = w.mappings.write m })
+    (select w.mappings.made (λ m. is_present (w.mappings.state m) && w.mappings.space m == s)))
 
 abbrev pub spaces_wire : World → List SpaceWire
 spaces_wire w = map (λ s. record { number = Labels.number w s; pages = pages_wire w s }) (select w.spaces w.is_live)
@@ -206,7 +206,7 @@ is_before a b = nat_lt a.pasid b.pasid || (a.pasid == b.pasid && nat_lt a.page b
 abbrev pub cache_wire : World → Part → List TranslationWire
 cache_wire w p =
     sorted_by is_before
-        (map (λ r. translation_wire w p (p.request_binding r) (p.request_page r) (the (p.held r))) (select p.requests (λ r. is_some (p.held r))))
+    (map (λ r. translation_wire w p (p.request_binding r) (p.request_page r) (the (p.held r))) (select p.requests (λ r. is_some (p.held r))))
 
 abbrev pub use_wire : World → Part → (used : ℕ) → UseWire
 use_wire w p u =
@@ -315,7 +315,7 @@ wire w =
       hands = tabulate w.config.workers (λ x. over (job_wire w) (w.hand x));
       in_flight =
           map (λ c. record { number = Labels.number w c; endpoint = w.way c; message = (w.part (w.way c)).carried c })
-              (select w.messages (λ c. is_some ((w.part (w.way c)).message c)));
+          (select w.messages (λ c. is_some ((w.part (w.way c)).message c)));
       next_space = Labels.number w w.spaces;
       next_binding = Labels.number w w.bindings;
       next_message = Labels.number w w.messages;

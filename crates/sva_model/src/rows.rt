@@ -17,8 +17,7 @@ pub fn translations()
     ensures held_back_by_a_use { HeldBackByAUse }
     ensures late_answer { LateAnswer }
     ensures answers_crossed { AnswersCrossed }
-{
-}
+{}
 
 /// Invalidations, their tags and completions, and bindings that are taken back.
 pub fn invalidations()
@@ -27,8 +26,7 @@ pub fn invalidations()
     ensures all_tags_busy { AllTagsBusy }
     ensures unbind_stage_by_stage { UnbindStageByStage }
     ensures unmap_while_invalidating { UnmapWhileInvalidating }
-{
-}
+{}
 
 /// Function level resets and endpoints that are silent.
 pub fn resets()
@@ -37,8 +35,7 @@ pub fn resets()
     ensures old_job { OldJob }
     ensures reset_of_a_live_binding { ResetOfALiveBinding }
     ensures two_endpoints_one_silent { TwoEndpointsOneSilent }
-{
-}
+{}
 
 /// Page requests, their groups, jobs and responses.
 pub fn page_requests()
@@ -46,8 +43,7 @@ pub fn page_requests()
     ensures stale_group { StaleGroup }
     ensures drain_of_two_requests { DrainOfTwoRequests }
     ensures verdicts { Verdicts }
-{
-}
+{}
 
 /// The limits of the tables and of the numbers.
 pub fn limits()
@@ -61,5 +57,4 @@ pub fn limits()
     ensures spaces_spent { SpacesSpent }
     ensures pages_of_an_unmap { PagesOfAnUnmap }
     ensures numbers_spent_at_the_end { NumbersSpentAtTheEnd }
-{
-}
+{}

@@ -1,4 +1,4 @@
-use Rattle.std.proofs.Common.{◌≡◌, ◌∙◌, ap}
+use Rattle.std.proofs.Common.{◌∙◌, ap}
 use Rattle.sva_model.specs.Steps.{world_after}
 use Rattle.sva_laws.proofs.Claimed.{always_agrees}
 use Rattle.sva_laws.proofs.Limits.{adds_up}

@@ -30,3 +30,4 @@ pub mod Withheld
 pub mod Claimed
 pub mod Limits
 pub mod Found
+pub mod Freed

@@ -1,5 +1,5 @@
 -- Laws of the definitions beside the headline: what labels find, what can't occur, and how many there are.
-use Rattle.std.specs.Prelude.{◌≡◌, ◌≢◌, ◌⊎◌, ◌↔◌, ℕ, ◌+◌, ◌<◌, ◌≤◌, true, false, Option, Some, List}
+use Rattle.std.specs.Prelude.{◌≡◌, ◌≢◌, ◌⊎◌, ◌↔◌, ℕ, ◌+◌, ◌<◌, ◌≤◌, true, false, Option, Some, List, [], ◌∷◌, ◌++◌}
 use Rattle.sva_step.specs.declared.limits.Config.{Config}
 use Rattle.sva_step.specs.declared.steps.Step.{Step}
 use Rattle.sva_model.specs.Words.{count_below}
@@ -12,7 +12,7 @@ use Rattle.sva_model.specs.State.OrderState.{Sent}
 use Rattle.sva_model.specs.State.UseState.{Running, Ended}
 use Rattle.sva_model.specs.State.PageRequestState.{Arrived}
 use Rattle.sva_model.specs.States.{is_unreleased, is_out, is_busy, is_outstanding, is_open_group, is_arrived, is_before_invalidating, place}
-use Rattle.sva_model.specs.States.Place.{Withheld}
+use Rattle.sva_model.specs.States.Place.{Free, Withheld}
 use Rattle.sva_model.specs.Acts.{binding_of}
 use Rattle.sva_model.specs.Labels.{outstanding}
 use Rattle.sva_model.specs.Steps.{counts, world_after}
@@ -51,6 +51,15 @@ AlwaysAddsUp =
 -- the place that the step reads is Withheld exactly where the look back over the list says so
 abbrev pub AlwaysWithheldExactly : Type 0
 AlwaysWithheldExactly = (config : Config) (steps : List Step) (f : ℕ) → Fits config → (place (world_after config steps) f ≡ Withheld) ↔ IsWithheld config steps f
+
+-- a withheld frame is free after the very step that leaves no endpoint in debt for it, and isn't mapped again by that step
+abbrev pub FreeByTheLastAnswer : Type 0
+FreeByTheLastAnswer =
+    (config : Config) (steps : List Step) (step : Step) (f : ℕ)
+    → Fits config
+    → IsWithheld config steps f
+    → (IsWithheld config (steps ++ step ∷ []) f → ⊥)
+    → place (world_after config (steps ++ step ∷ [])) f ≡ Free
 
 -- Labels. What a label finds is the one record that bears it, and each record that bears a label is found by it.
 pub record IsLabelled (p : Part) : Type 0 where

@@ -2,7 +2,7 @@
 #![tactic(auto)]
 
 ghost use Rattle.sva_model.specs.Claims.{AlwaysAgrees};
-ghost use Rattle.sva_laws.specs.Laws.{AlwaysOwned, AlwaysPresentOrWithheld, AlwaysMatched, AlwaysDivided, AlwaysAddsUp, AlwaysWithheldExactly, AlwaysLabelled, AlwaysFound, NeverOccurring, AlwaysLimited};
+ghost use Rattle.sva_laws.specs.Laws.{AlwaysOwned, AlwaysPresentOrWithheld, AlwaysMatched, AlwaysDivided, AlwaysAddsUp, AlwaysWithheldExactly, FreeByTheLastAnswer, AlwaysLabelled, AlwaysFound, NeverOccurring, AlwaysLimited};
 
 /// The headline. After every list of steps, however late messages come in a permitted order: each translation that an
 /// endpoint may still use has an unreleased owner, and is the present one of its page or leads to a withheld frame; page
@@ -25,11 +25,12 @@ pub fn page_requests()
     ensures limited { AlwaysLimited }
 {}
 
-/// Frames: in exactly one place; withheld exactly as long as an endpoint owes an answer.
+/// Frames: in exactly one place; withheld exactly as long as an endpoint owes an answer, and free after the very step that ends it.
 pub fn frames()
     ensures divided { AlwaysDivided }
     ensures adds_up { AlwaysAddsUp }
     ensures withheld { AlwaysWithheldExactly }
+    ensures freed { FreeByTheLastAnswer }
 {}
 
 /// Labels: each is borne by at most one record, and finds the record that a step or a message speaks of; and what can't

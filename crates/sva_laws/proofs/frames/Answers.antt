@@ -3,6 +3,7 @@ use Rattle.sva_model.specs.Steps.{world_after}
 use Rattle.sva_laws.proofs.Claimed.{always_agrees}
 use Rattle.sva_laws.proofs.Limits.{adds_up}
 use Rattle.sva_laws.proofs.Withheld.{config_kept}
+use Rattle.sva_laws.proofs.Freed.{free_by}
 use Rattle.sva_laws.proofs.frames.Goals as goal
 
 pub returns-clause-divided : goal.returns-clause-divided
@@ -13,3 +14,6 @@ returns-clause-adds_up c = λ config steps fits. adds_up (world_after config ste
 
 pub returns-clause-withheld : goal.returns-clause-withheld
 returns-clause-withheld c = λ config steps f fits. (always_agrees config steps fits).divided.withheld f
+
+pub returns-clause-freed : goal.returns-clause-freed
+returns-clause-freed c = λ config steps step f fits was not_now. free_by config steps step f was not_now

@@ -31,3 +31,4 @@ pub mod Claimed
 pub mod Limits
 pub mod Found
 pub mod Freed
+pub mod Ways

@@ -19,7 +19,8 @@ use Rattle.sva_laws.proofs.Labels.{Labels}
 use Rattle.sva_laws.proofs.Orders.{is_active}
 use Rattle.sva_laws.proofs.Owners.{blocks, asker_stage}
 use Rattle.sva_laws.proofs.Safe.{Pending, IsSafe, owed_of}
-use Rattle.sva_laws.proofs.Groups.{is_filed_group, is_answerable, times_replied}
+use Rattle.sva_laws.specs.Laws.{is_answerable}
+use Rattle.sva_laws.proofs.Groups.{is_filed_group, times_replied}
 use Rattle.sva_laws.proofs.Invariant.{Inv}
 use Rattle.sva_laws.proofs.Passed.{unreleased_bound}
 use Rattle.sva_laws.proofs.Unmap.{active_unreleased}

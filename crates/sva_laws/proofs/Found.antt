@@ -1,22 +1,30 @@
 -- From the invariant to what labels find and what can't occur.
-use Rattle.std.proofs.Common.{◌≡◌, ◌≢◌, ap, sym, subst, ◌∙◌, ℕ, true, false, arith}
-use Rattle.std.specs.Prelude.{Some}
-use Rattle.sva_model.specs.State.{Part, World, Stage, UseState, Phase, OrderState}
+use Rattle.std.proofs.Common.{◌≡◌, ◌≢◌, ◌⊎◌, inl, inr, ap, sym, subst, ◌∙◌, ℕ, Bool, true, false, arith}
+use Rattle.std.specs.Prelude.{Option, Some, None, ◌==◌}
+use Rattle.std.proofs.lemmas.Bool.Decides.{nat_tests}
+use Rattle.sva_model.specs.Message.{Code}
+use Rattle.sva_model.specs.State.{About, Part, World, Stage, UseState, Phase, OrderState}
+use Rattle.sva_model.specs.State.About.{StartOf, StopOf, ResetOrder, CompletionOf, InvalidateOf, ResponseOf, RequestOf, InvalidatedOf, PageRequestOf, MarkerOf, ResetDone}
 use Rattle.sva_model.specs.State.Stage.{Stopping}
 use Rattle.sva_model.specs.State.PasidState.{On, Ending}
 use Rattle.sva_model.specs.State.UseState.{Ended}
 use Rattle.sva_model.specs.State.OrderState.{Sent}
 use Rattle.sva_model.specs.State.Phase.{Open}
-use Rattle.sva_model.specs.States.{is_unreleased, is_busy, is_off}
+use Rattle.sva_model.specs.States.{is_unreleased, is_busy, is_off, is_open}
 use Rattle.sva_model.specs.Acts.{binding_of}
-use Rattle.sva_laws.specs.Laws.{IsLabelled, IsFound, NeverOccurs}
+use Rattle.sva_laws.specs.Laws.{IsLabelled, IsFound, IsUnderWay, NeverOccurs}
 use Rattle.sva_laws.proofs.Bindings.{is_unmarked}
 use Rattle.sva_laws.proofs.Labels.{has_slot}
 use Rattle.sva_laws.proofs.Orders.{is_undone}
 use Rattle.sva_laws.proofs.Requests.{is_cleared}
 use Rattle.sva_laws.proofs.Invariant.{Inv}
+use Rattle.sva_laws.proofs.Ways.{Ways, is_of_request, is_response_to}
+use Rattle.sva_laws.proofs.Completions.{Owed}
 use Rattle.sva_laws.proofs.Agreement.{bearer}
 use Rattle.sva_laws.proofs.Unmap.{active_unreleased}
+
+equal : (x y : ℕ) → (x == y) ≡ true → x ≡ y
+equal x y h = grind (arith, nat_tests)
 
 taken_slot : (u : UseState) → u ≢ Ended → has_slot u ≡ true
 taken_slot u h = grind arith
@@ -96,4 +104,52 @@ never w e i =
       marker = (i.parts e).bindings.marker_stage;
       open_group = λ g ph h. (gr.open_group g ph h).1;
       arrived = gr.arrived_stage;
+    }
+
+-- what is awaited is on its way
+request_there : (r : ℕ) (m : Option About) → is_of_request r m ≡ true → (m ≡ Some (RequestOf r)) ⊎ ((found : Option ℕ) × (m ≡ Some (CompletionOf r found)))
+request_there r (Some (RequestOf x)) h = inl (ap (λ y. Some (RequestOf y)) (equal x r h))
+request_there r (Some (CompletionOf x f)) h = inr (f, ap (λ y. Some (CompletionOf y f)) (equal x r h))
+request_there r None h = absurd (cc)
+request_there r (Some (StartOf b)) h = absurd (cc)
+request_there r (Some (StopOf b)) h = absurd (cc)
+request_there r (Some ResetOrder) h = absurd (cc)
+request_there r (Some (InvalidateOf k)) h = absurd (cc)
+request_there r (Some (ResponseOf g code)) h = absurd (cc)
+request_there r (Some (InvalidatedOf names)) h = absurd (cc)
+request_there r (Some (PageRequestOf x)) h = absurd (cc)
+request_there r (Some (MarkerOf b)) h = absurd (cc)
+request_there r (Some ResetDone) h = absurd (cc)
+
+response_there : (g : ℕ) (m : Option About) → is_response_to g m ≡ true → (code : Code) × (m ≡ Some (ResponseOf g code))
+response_there g (Some (ResponseOf x code)) h = (code, ap (λ y. Some (ResponseOf y code)) (equal x g h))
+response_there g None h = absurd (cc)
+response_there g (Some (RequestOf x)) h = absurd (cc)
+response_there g (Some (CompletionOf x f)) h = absurd (cc)
+response_there g (Some (StartOf b)) h = absurd (cc)
+response_there g (Some (StopOf b)) h = absurd (cc)
+response_there g (Some ResetOrder) h = absurd (cc)
+response_there g (Some (InvalidateOf k)) h = absurd (cc)
+response_there g (Some (InvalidatedOf names)) h = absurd (cc)
+response_there g (Some (PageRequestOf x)) h = absurd (cc)
+response_there g (Some (MarkerOf b)) h = absurd (cc)
+response_there g (Some ResetDone) h = absurd (cc)
+
+is_closed : (x : Phase) → is_open x ≡ false → x ≡ Open → ⊥
+is_closed x h e = grind arith
+
+pub under_way : (w : World) (e : ℕ) → Inv w → Ways (w.part e) → Owed w.messages (w.part e) → IsUnderWay w.messages (w.part e)
+under_way w e i wa ow =
+    let p = w.part e in
+    let re = (i.parts e).resets in
+    let gr = (i.parts e).groups in
+    record {
+      sent = wa.sent;
+      sent_only = (i.parts e).labels.sent;
+      owed = ow.owed;
+      owing = ow.owing;
+      never_lapsed = λ k ph h. is_closed p.phase (re.lapsed k h) ph;
+      request = λ r ph h. (p.request_message r, request_there r (p.message (p.request_message r)) (wa.out r ph h));
+      response = λ g ph a h. let x = response_there g (p.message (p.response_message g)) (wa.response g ph a h) in (p.response_message g, x.0, x.1);
+      response_once = λ c d g code other h k. sym (gr.response c g code h).2 ∙ (gr.response d g other k).2;
     }

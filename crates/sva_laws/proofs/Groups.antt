@@ -15,6 +15,7 @@ use Rattle.sva_model.specs.State.About.{ResetOrder, PageRequestOf, ResponseOf, M
 use Rattle.sva_model.specs.State.Phase.{Open, Cleared}
 use Rattle.sva_model.specs.States.{is_outstanding, is_open, is_open_group, is_before_invalidating, is_off, drains}
 use Rattle.sva_model.specs.Acts.{own, Own}
+use Rattle.sva_laws.specs.Laws.{is_answerable}
 use Rattle.sva_laws.proofs.Legal.{LegalOwn}
 use Rattle.sva_laws.proofs.Resets.{Resets}
 use Rattle.sva_laws.proofs.Bounds.{Bounds}
@@ -25,11 +26,6 @@ use Rattle.sva_laws.proofs.PageRequests.{Queued, Lasts, HasJob, is_whole}
 abbrev pub is_filed_group : HostGroupState → Bool
 is_filed_group NotFiled = false
 is_filed_group _ = true
-
-abbrev pub is_answerable : GroupState → Bool
-is_answerable Awaiting = true
-is_answerable Stale = true
-is_answerable _ = false
 
 abbrev pub is_alive_group : GroupState → Bool
 is_alive_group Unfinished = true

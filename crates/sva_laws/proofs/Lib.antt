@@ -32,3 +32,4 @@ pub mod Limits
 pub mod Found
 pub mod Freed
 pub mod Ways
+pub mod Completions

@@ -21,7 +21,8 @@ use Rattle.sva_laws.proofs.Bounds.{Bounds}
 use Rattle.sva_laws.proofs.Labels.{Labels}
 use Rattle.sva_laws.proofs.Requests.{Requests}
 use Rattle.sva_laws.proofs.PageRequests.{Lasts, is_whole}
-use Rattle.sva_laws.proofs.Groups.{Groups, is_answerable}
+use Rattle.sva_laws.specs.Laws.{is_answerable}
+use Rattle.sva_laws.proofs.Groups.{Groups}
 use Rattle.sva_laws.proofs.Invariant.{PartInv, Inv}
 use Rattle.sva_laws.proofs.Keeps.{Legal, act_keeps, put_keeps}
 use Rattle.sva_laws.proofs.Passed.{LegalAll}

@@ -1,14 +1,16 @@
 -- Laws of the definitions beside the headline: what labels find, what can't occur, and how many there are.
-use Rattle.std.specs.Prelude.{◌≡◌, ◌≢◌, ◌⊎◌, ◌↔◌, ℕ, ◌+◌, ◌<◌, ◌≤◌, true, false, Option, Some, List, [], ◌∷◌, ◌++◌}
+use Rattle.std.specs.Prelude.{◌≡◌, ◌≢◌, ◌⊎◌, ◌↔◌, ℕ, ◌+◌, ◌<◌, ◌≤◌, Bool, true, false, Option, Some, List, [], ◌∷◌, ◌++◌}
 use Rattle.sva_step.specs.declared.limits.Config.{Config}
 use Rattle.sva_step.specs.declared.steps.Step.{Step}
 use Rattle.sva_model.specs.Words.{count_below}
 use Rattle.sva_model.specs.Message.{Code}
-use Rattle.sva_model.specs.State.{Part}
-use Rattle.sva_model.specs.State.About.{StartOf, StopOf, ResetOrder, CompletionOf, InvalidateOf, ResponseOf, RequestOf, MarkerOf, ResetDone}
+use Rattle.sva_model.specs.State.{About, GroupState, OrderState, Part}
+use Rattle.sva_model.specs.State.About.{StartOf, StopOf, ResetOrder, CompletionOf, InvalidateOf, ResponseOf, RequestOf, InvalidatedOf, MarkerOf, ResetDone}
 use Rattle.sva_model.specs.State.Phase.{Open, Cleared}
 use Rattle.sva_model.specs.State.Stage.{Stopping}
-use Rattle.sva_model.specs.State.OrderState.{Sent}
+use Rattle.sva_model.specs.State.OrderState.{Sent, Lapsed, Owing}
+use Rattle.sva_model.specs.State.GroupState.{Awaiting, Stale}
+use Rattle.sva_model.specs.State.HostGroupState.{Replied}
 use Rattle.sva_model.specs.State.UseState.{Running, Ended}
 use Rattle.sva_model.specs.State.PageRequestState.{Arrived}
 use Rattle.sva_model.specs.States.{is_unreleased, is_out, is_busy, is_outstanding, is_open_group, is_arrived, is_before_invalidating, place}
@@ -127,3 +129,37 @@ NeverOccurring = (config : Config) (steps : List Step) (e : ℕ) → Fits config
 
 abbrev pub AlwaysLimited : Type 0
 AlwaysLimited = (config : Config) (steps : List Step) (e : ℕ) → Fits config → IsLimited ((world_after config steps).part e)
+
+-- What is awaited at an open unit is on its way, once. Each busy ITag has exactly one of: its Invalidate in flight, an
+-- invalidation that the endpoint has taken, or completions owed, each of them in flight.
+abbrev pub names_order : (order : ℕ) → Option About → Bool
+names_order k (Some (InvalidatedOf names)) = names k
+names_order k _ = false
+
+abbrev pub completions : (messages : ℕ) → Part → (order : ℕ) → ℕ
+completions n p k = count_below n (λ c. names_order k (p.message c))
+
+abbrev pub left_of : OrderState → ℕ
+left_of (Owing count left) = left
+left_of _ = 0
+
+-- does a group await its response, or is it stale?
+abbrev pub is_answerable : GroupState → Bool
+is_answerable Awaiting = true
+is_answerable Stale = true
+is_answerable _ = false
+
+pub record IsUnderWay (n : ℕ) (p : Part) : Type 0 where
+  pub sent : (k : ℕ) → p.order_state k ≡ Sent → p.message (p.invalidate_message k) ≡ Some (InvalidateOf k)
+  pub sent_only : (c k : ℕ) → p.message c ≡ Some (InvalidateOf k) → p.order_state k ≡ Sent
+  pub owed : (k : ℕ) → p.phase ≡ Open → completions n p k ≡ left_of (p.order_state k)
+  pub owing : (k count left : ℕ) → p.order_state k ≡ Owing count left → (0 < left) × (left ≤ count) × (count ≤ 8)
+  pub never_lapsed : (k : ℕ) → p.phase ≡ Open → p.order_state k ≢ Lapsed
+  -- each translation request that is out has its request or its completion in flight
+  pub request : (r : ℕ) → p.phase ≡ Open → is_out (p.request r) ≡ true → (c : ℕ) × ((p.message c ≡ Some (RequestOf r)) ⊎ ((found : Option ℕ) × (p.message c ≡ Some (CompletionOf r found))))
+  -- each group that is answered and not yet told has its response in flight, and that one alone
+  pub response : (g : ℕ) → p.phase ≡ Open → is_answerable (p.group g) ≡ true → p.host_group g ≡ Replied → (c : ℕ) × (code : Code) × (p.message c ≡ Some (ResponseOf g code))
+  pub response_once : (c d g : ℕ) (code other : Code) → p.message c ≡ Some (ResponseOf g code) → p.message d ≡ Some (ResponseOf g other) → c ≡ d
+
+abbrev pub AlwaysUnderWay : Type 0
+AlwaysUnderWay = (config : Config) (steps : List Step) (e : ℕ) → Fits config → IsUnderWay (world_after config steps).messages ((world_after config steps).part e)

@@ -1,13 +1,13 @@
 -- Each completion that an order is owed is in flight, and no other that names it.
-use Rattle.std.proofs.Common.{◌≡◌, ◌≢◌, ◌⊎◌, inl, inr, refl, ap, sym, subst, ◌∙◌, ℕ, zero, suc, ◌+◌, ◌-◌, ◌<◌, ◌≤◌, Bool, true, false, arith}
-use Rattle.std.specs.Prelude.{Option, Some, None, ◌==◌, List, [], ◌∷◌}
+use Rattle.std.proofs.Common.{◌≡◌, ◌≢◌, ◌⊎◌, inl, inr, refl, ap, sym, ◌∙◌, ℕ, zero, suc, ◌+◌, ◌<◌, ◌≤◌, Bool, true, false, arith}
+use Rattle.std.specs.Prelude.{Option, Some, None, List, [], ◌∷◌}
 use Rattle.std.proofs.lemmas.Bool.Decides.{nat_tests}
 use Rattle.sva_step.specs.declared.limits.Config.{Config}
 use Rattle.sva_step.specs.declared.steps.Step.{Step}
-use Rattle.sva_model.specs.Words.{put, count_below}
+use Rattle.sva_model.specs.Words.{count_below}
 use Rattle.sva_model.specs.State.{About, Mappings, OrderState, Part, World, opened}
 use Rattle.sva_model.specs.State.OrderState.{Queued, Sent, Taken, Lapsed, Owing, Done, Void}
-use Rattle.sva_model.specs.State.About.{InvalidatedOf, ResetDone}
+use Rattle.sva_model.specs.State.About.{InvalidatedOf}
 use Rattle.sva_model.specs.State.Phase.{Open, Cleared}
 use Rattle.sva_model.specs.States.{is_taken}
 use Rattle.sva_model.specs.Acts.{Act, Own, act, own, sends, counted, counted_if, owe_if, submitted, submitted_if, submits, bound, cookie_of}

@@ -1,23 +1,28 @@
 -- From the invariant to what labels find and what can't occur.
-use Rattle.std.proofs.Common.{◌≡◌, ◌≢◌, ◌⊎◌, inl, inr, ap, sym, subst, ◌∙◌, ℕ, Bool, true, false, arith}
+use Rattle.std.proofs.Common.{◌≡◌, ◌≢◌, ◌⊎◌, inl, inr, refl, ap, sym, subst, ◌∙◌, ℕ, ◌<◌, true, false, arith}
 use Rattle.std.specs.Prelude.{Option, Some, None, ◌==◌}
 use Rattle.std.proofs.lemmas.Bool.Decides.{nat_tests}
 use Rattle.sva_model.specs.Message.{Code}
-use Rattle.sva_model.specs.State.{About, Part, World, Stage, UseState, Phase, OrderState}
+use Rattle.sva_model.specs.State.{About, GroupState, HostGroupState, Part, World, Stage, UseState, Phase, OrderState}
 use Rattle.sva_model.specs.State.About.{StartOf, StopOf, ResetOrder, CompletionOf, InvalidateOf, ResponseOf, RequestOf, InvalidatedOf, PageRequestOf, MarkerOf, ResetDone}
 use Rattle.sva_model.specs.State.Stage.{Stopping}
 use Rattle.sva_model.specs.State.PasidState.{On, Ending}
 use Rattle.sva_model.specs.State.UseState.{Ended}
 use Rattle.sva_model.specs.State.OrderState.{Sent}
+use Rattle.sva_model.specs.State.PageRequestState.{InFlight, Arrived, Filed, Dropped}
+use Rattle.sva_model.specs.State.HostGroupState.{NotFiled, PartFiled, Job, InHand, Replied, Discarded, InHandDiscarded}
 use Rattle.sva_model.specs.State.Phase.{Open}
-use Rattle.sva_model.specs.States.{is_unreleased, is_busy, is_off, is_open}
+use Rattle.sva_model.specs.States.{is_unreleased, is_busy, is_off, is_open, is_outstanding}
 use Rattle.sva_model.specs.Acts.{binding_of}
-use Rattle.sva_laws.specs.Laws.{IsLabelled, IsFound, IsUnderWay, NeverOccurs}
+use Rattle.sva_laws.specs.Laws.{IsLabelled, IsFound, IsOnItsWay, IsUnderWay, NeverOccurs, is_answerable}
+use Rattle.sva_laws.specs.Laws.IsOnItsWay.{asked, is_job, in_hand, answered}
 use Rattle.sva_laws.proofs.Bindings.{is_unmarked}
 use Rattle.sva_laws.proofs.Labels.{has_slot}
 use Rattle.sva_laws.proofs.Orders.{is_undone}
 use Rattle.sva_laws.proofs.Requests.{is_cleared}
 use Rattle.sva_laws.proofs.Invariant.{Inv}
+use Rattle.sva_laws.proofs.PageRequests.{is_whole}
+use Rattle.sva_laws.proofs.OnTheWay.{OnTheWay}
 use Rattle.sva_laws.proofs.Ways.{Ways, is_of_request, is_response_to}
 use Rattle.sva_laws.proofs.Completions.{Owed}
 use Rattle.sva_laws.proofs.Agreement.{bearer}
@@ -138,8 +143,43 @@ response_there g (Some ResetDone) h = absurd (cc)
 is_closed : (x : Phase) → is_open x ≡ false → x ≡ Open → ⊥
 is_closed x h e = grind arith
 
-pub under_way : (w : World) (e : ℕ) → Inv w → Ways (w.part e) → Owed w.messages (w.part e) → IsUnderWay w.messages (w.part e)
-under_way w e i wa ow =
+answerable_outstanding : (s : GroupState) → is_answerable s ≡ true → is_outstanding s ≡ true
+answerable_outstanding s h = grind arith
+
+-- the last request of a group that isn't whole at the host is in flight or arrived
+asked_last : (p : Part) (g r : ℕ) → p.group_of r ≡ g → is_whole (p.host_group g) ≡ false → p.page_request r ≢ Dropped → (p.page_request r ≡ Filed → is_whole (p.host_group (p.group_of r)) ≡ true) → (p.page_request r ≡ InFlight) ⊎ (p.page_request r ≡ Arrived)
+asked_last p g r e part kept filed = grind arith
+
+-- a group that is answerable at an open unit isn't discarded at the host
+way : (w : World) (e : ℕ) → Inv w → Ways (w.part e) → OnTheWay (w.part e) → (g : ℕ) → (w.part e).phase ≡ Open → is_answerable ((w.part e).group g) ≡ true → IsOnItsWay (w.part e) g
+way w e i wa on g ph a = go (p.host_group g) refl
+  where
+    p : Part
+    p = w.part e
+
+    out : is_outstanding (p.group g) ≡ true
+    out = answerable_outstanding (p.group g) a
+
+    x : (r : ℕ) × (r < p.page_requests) × (p.group_of r ≡ g) × (p.is_last r ≡ true)
+    x = on.last g a
+
+    out_last : is_outstanding (p.group (p.group_of x.0)) ≡ true
+    out_last = ap (λ z. is_outstanding (p.group z)) x.2 ∙ out
+
+    last_is : is_whole (p.host_group g) ≡ false → (p.page_request x.0 ≡ InFlight) ⊎ (p.page_request x.0 ≡ Arrived)
+    last_is h = asked_last p g x.0 x.2 h ((i.parts e).lasts.kept x.0 ph x.1 out_last) (λ f. on.filed_last x.0 ph x.1 x.3 f out_last)
+
+    go : (s : HostGroupState) → p.host_group g ≡ s → IsOnItsWay p g
+    go NotFiled h = asked x.0 x.2 x.3 (last_is (ap is_whole h)) (inl h)
+    go PartFiled h = asked x.0 x.2 x.3 (last_is (ap is_whole h)) (inr h)
+    go Job h = is_job h
+    go (InHand v) h = in_hand v h
+    go Replied h = let y = response_there g (p.message (p.response_message g)) (wa.response g ph a h) in answered (p.response_message g) y.0 y.1 h
+    go Discarded h = absurd (cc (sym out ∙ on.discarded g ph h))
+    go (InHandDiscarded v) h = absurd (cc (sym out ∙ (i.parts e).groups.discarded_over g v ph h))
+
+pub under_way : (w : World) (e : ℕ) → Inv w → Ways (w.part e) → OnTheWay (w.part e) → Owed w.messages (w.part e) → IsUnderWay w.messages (w.part e)
+under_way w e i wa on ow =
     let p = w.part e in
     let re = (i.parts e).resets in
     let gr = (i.parts e).groups in
@@ -150,6 +190,6 @@ under_way w e i wa ow =
       owing = ow.owing;
       never_lapsed = λ k ph h. is_closed p.phase (re.lapsed k h) ph;
       request = λ r ph h. (p.request_message r, request_there r (p.message (p.request_message r)) (wa.out r ph h));
-      response = λ g ph a h. let x = response_there g (p.message (p.response_message g)) (wa.response g ph a h) in (p.response_message g, x.0, x.1);
+      group = λ g ph a. way w e i wa on g ph a;
       response_once = λ c d g code other h k. sym (gr.response c g code h).2 ∙ (gr.response d g other k).2;
     }

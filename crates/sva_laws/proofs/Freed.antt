@@ -1,12 +1,12 @@
 -- A step maps pages before it does anything else, each to a frame that was free before the step: so a withheld frame is
 -- free by the very step after which no endpoint owes an answer for it.
-use Rattle.std.proofs.Common.{◌≡◌, ◌≢◌, ◌⊎◌, inl, inr, refl, ap, sym, subst, ◌∙◌, ℕ, ◌≤◌, Bool, true, false, arith}
+use Rattle.std.proofs.Common.{◌≡◌, ◌≢◌, ◌⊎◌, inl, inr, refl, ap, sym, ◌∙◌, ℕ, Bool, true, false, arith}
 use Rattle.std.specs.Prelude.{Option, Some, None, List, [], ◌∷◌, ◌++◌, if◌then◌else◌, Err}
 use Rattle.sva_step.specs.declared.limits.Config.{Config}
 use Rattle.sva_step.specs.declared.steps.Step.{Step}
 use Rattle.sva_step.specs.declared.steps.Step.TheVariants as step
 use Rattle.sva_step.specs.declared.steps.Verdict.{Verdict}
-use Rattle.sva_model.specs.Words.{put, the}
+use Rattle.sva_model.specs.Words.{the}
 use Rattle.sva_model.specs.Message.{Code}
 use Rattle.sva_model.specs.State.{Owed, MappingState, Part, World, Stage, Order, About, RequestState}
 use Rattle.sva_model.specs.State.MappingState.{Unmade, Present, Gone}
@@ -20,12 +20,12 @@ use Rattle.sva_model.specs.Labels
 use Rattle.sva_model.specs.Refusals.{Cause, refusals}
 use Rattle.sva_model.specs.Replies.{maps_to, reply_maps, replies_success, newly_mapped, free_list, is_write_asked, job_space, response_to}
 use Rattle.sva_model.specs.Outcomes.{Outcome, outcome, unbind_outcome, advance_outcome, pump_outcome, head_outcome, wait_outcome, send_outcome, may_pass, serve_outcome, file_outcome, reply_outcome, fault_outcome, about_outcome, deliver_outcome, completion_outcome, keep_outcome, is_full, request_outcome, count_outcome, page_request_outcome, marker_outcome}
-use Rattle.sva_model.specs.States.{Place, is_open, is_free, is_free_place, place, place_at, place_by, place_of_gone, answered}
+use Rattle.sva_model.specs.States.{Place, is_open, is_free_place, place, place_at, place_by, place_of_gone, answered}
 use Rattle.sva_model.specs.States.Place.{Free, Mapped, Withheld}
 use Rattle.sva_model.specs.Steps.{checked, decide, next, after_acts, world_after}
 use Rattle.sva_model.specs.Claims.{IsWithheld}
 use Rattle.sva_model.specs.Words.{all_below}
-use Rattle.sva_laws.proofs.Words.{put-same, put-other, ℕ_cases}
+use Rattle.sva_laws.proofs.Words.{put-other, ℕ_cases}
 use Rattle.sva_laws.proofs.Invariant.{Inv}
 use Rattle.sva_laws.proofs.Keeps.{Legal, act_keeps}
 use Rattle.sva_laws.proofs.Passed.{LegalAll}

@@ -8,7 +8,7 @@ use Rattle.sva_model.specs.State.{Mappings, Part, Stage, GroupState, HostGroupSt
 use Rattle.sva_model.specs.State.Stage.{Unbound, Draining}
 use Rattle.sva_model.specs.State.PasidState.{Off}
 use Rattle.sva_model.specs.State.PageRequestState.{Arrived, Filed}
-use Rattle.sva_model.specs.State.GroupState.{Unfinished, Awaiting, Stale, Finished}
+use Rattle.sva_model.specs.State.GroupState.{Unfinished, Awaiting, Finished}
 use Rattle.sva_model.specs.State.HostGroupState.{NotFiled, InHand, Replied, InHandDiscarded}
 use Rattle.sva_model.specs.State.OrderState.{Done}
 use Rattle.sva_model.specs.State.About.{ResetOrder, PageRequestOf, ResponseOf, MarkerOf, ResetDone}

@@ -33,3 +33,4 @@ pub mod Found
 pub mod Freed
 pub mod Ways
 pub mod Completions
+pub mod OnTheWay

@@ -1,10 +1,9 @@
 -- What is awaited is on its way: an order that was sent, a translation request that is out, a response.
-use Rattle.std.proofs.Common.{◌≡◌, ◌≢◌, ◌⊎◌, inl, inr, refl, ap, sym, subst, ◌∙◌, ℕ, zero, suc, ◌+◌, ◌<◌, ◌≤◌, Bool, true, false, arith}
+use Rattle.std.proofs.Common.{◌≡◌, ◌≢◌, ap, ℕ, ◌≤◌, Bool, true, false, arith}
 use Rattle.std.specs.Prelude.{Option, Some, None, ◌==◌, List, [], ◌∷◌}
 use Rattle.std.proofs.lemmas.Bool.Decides.{nat_tests}
 use Rattle.sva_step.specs.declared.limits.Config.{Config}
 use Rattle.sva_step.specs.declared.steps.Step.{Step}
-use Rattle.sva_model.specs.Message.{Code}
 use Rattle.sva_model.specs.State.{About, Mappings, Part, World, opened}
 use Rattle.sva_model.specs.State.OrderState.{Sent}
 use Rattle.sva_model.specs.State.GroupState.{Unfinished, Finished}
@@ -12,17 +11,13 @@ use Rattle.sva_model.specs.State.HostGroupState.{NotFiled, Replied}
 use Rattle.sva_model.specs.State.About.{RequestOf, CompletionOf, InvalidateOf, ResponseOf, ResetDone}
 use Rattle.sva_model.specs.State.Phase.{Open}
 use Rattle.sva_model.specs.States.{is_out}
-use Rattle.sva_model.specs.Acts.{Act, Own, act, own, sends, submitted, submitted_if, submits, bound, cookie_of}
+use Rattle.sva_model.specs.Acts.{Act, Own, act, own, submitted, submitted_if, submits, bound, cookie_of}
 use Rattle.sva_model.specs.Acts.Act.{NewSpace, DropSpace, Map, Unmap, NewBinding, NewJob, Hold, LetGo, At}
 use Rattle.sva_model.specs.Steps.{decide, next, run, after_acts, world_after}
 use Rattle.sva_laws.proofs.Legal.{LegalOwn}
-use Rattle.sva_laws.proofs.Resets.{Resets}
 use Rattle.sva_laws.proofs.Bounds.{Bounds}
-use Rattle.sva_laws.proofs.Labels.{Labels}
-use Rattle.sva_laws.proofs.Requests.{Requests}
 use Rattle.sva_laws.proofs.PageRequests.{Lasts, is_whole}
 use Rattle.sva_laws.specs.Laws.{is_answerable}
-use Rattle.sva_laws.proofs.Groups.{Groups}
 use Rattle.sva_laws.proofs.Invariant.{PartInv, Inv}
 use Rattle.sva_laws.proofs.Keeps.{Legal, act_keeps, put_keeps}
 use Rattle.sva_laws.proofs.Passed.{LegalAll}

@@ -10,9 +10,9 @@ use Rattle.sva_model.specs.State.Phase.{Open, Cleared}
 use Rattle.sva_model.specs.State.Stage.{Stopping}
 use Rattle.sva_model.specs.State.OrderState.{Sent, Lapsed, Owing}
 use Rattle.sva_model.specs.State.GroupState.{Awaiting, Stale}
-use Rattle.sva_model.specs.State.HostGroupState.{Replied}
+use Rattle.sva_model.specs.State.HostGroupState.{NotFiled, PartFiled, Job, InHand, Replied}
 use Rattle.sva_model.specs.State.UseState.{Running, Ended}
-use Rattle.sva_model.specs.State.PageRequestState.{Arrived}
+use Rattle.sva_model.specs.State.PageRequestState.{InFlight, Arrived}
 use Rattle.sva_model.specs.States.{is_unreleased, is_out, is_busy, is_outstanding, is_open_group, is_arrived, is_before_invalidating, place}
 use Rattle.sva_model.specs.States.Place.{Free, Withheld}
 use Rattle.sva_model.specs.Acts.{binding_of}
@@ -149,6 +149,14 @@ is_answerable Awaiting = true
 is_answerable Stale = true
 is_answerable _ = false
 
+-- The places of a group on the way to its response: its last request is in flight or arrived; or the host has it whole, as
+-- a job or in a worker's hand; or the response is in flight. The host's state of the group tells the three apart.
+pub data IsOnItsWay (p : Part) (g : ℕ) : Type 0 where
+  asked : (last : ℕ) → p.group_of last ≡ g → p.is_last last ≡ true → (p.page_request last ≡ InFlight) ⊎ (p.page_request last ≡ Arrived) → (p.host_group g ≡ NotFiled) ⊎ (p.host_group g ≡ PartFiled) → IsOnItsWay p g
+  is_job : p.host_group g ≡ Job → IsOnItsWay p g
+  in_hand : (worker : ℕ) → p.host_group g ≡ InHand worker → IsOnItsWay p g
+  answered : (c : ℕ) (code : Code) → p.message c ≡ Some (ResponseOf g code) → p.host_group g ≡ Replied → IsOnItsWay p g
+
 pub record IsUnderWay (n : ℕ) (p : Part) : Type 0 where
   pub sent : (k : ℕ) → p.order_state k ≡ Sent → p.message (p.invalidate_message k) ≡ Some (InvalidateOf k)
   pub sent_only : (c k : ℕ) → p.message c ≡ Some (InvalidateOf k) → p.order_state k ≡ Sent
@@ -157,8 +165,8 @@ pub record IsUnderWay (n : ℕ) (p : Part) : Type 0 where
   pub never_lapsed : (k : ℕ) → p.phase ≡ Open → p.order_state k ≢ Lapsed
   -- each translation request that is out has its request or its completion in flight
   pub request : (r : ℕ) → p.phase ≡ Open → is_out (p.request r) ≡ true → (c : ℕ) × ((p.message c ≡ Some (RequestOf r)) ⊎ ((found : Option ℕ) × (p.message c ≡ Some (CompletionOf r found))))
-  -- each group that is answered and not yet told has its response in flight, and that one alone
-  pub response : (g : ℕ) → p.phase ≡ Open → is_answerable (p.group g) ≡ true → p.host_group g ≡ Replied → (c : ℕ) × (code : Code) × (p.message c ≡ Some (ResponseOf g code))
+  -- each group that awaits its response, or is stale, is in one place on the way to it
+  pub group : (g : ℕ) → p.phase ≡ Open → is_answerable (p.group g) ≡ true → IsOnItsWay p g
   pub response_once : (c d g : ℕ) (code other : Code) → p.message c ≡ Some (ResponseOf g code) → p.message d ≡ Some (ResponseOf g other) → c ≡ d
 
 abbrev pub AlwaysUnderWay : Type 0

@@ -2,6 +2,7 @@ use Rattle.sva_model.specs.Steps.{world_after}
 use Rattle.sva_laws.proofs.Runs.{always}
 use Rattle.sva_laws.proofs.Found.{labelled, found, under_way, never}
 use Rattle.sva_laws.proofs.Ways.{always_ways}
+use Rattle.sva_laws.proofs.OnTheWay.{always_on_the_way}
 use Rattle.sva_laws.proofs.Completions.{always_owed}
 use Rattle.sva_laws.proofs.labels_and_deliveries.Goals as goal
 
@@ -15,4 +16,4 @@ pub returns-clause-never : goal.returns-clause-never
 returns-clause-never c = λ config steps e fits. never (world_after config steps) e (always config steps)
 
 pub returns-clause-under_way : goal.returns-clause-under_way
-returns-clause-under_way c = λ config steps e fits. under_way (world_after config steps) e (always config steps) (always_ways config steps e) (always_owed config steps e)
+returns-clause-under_way c = λ config steps e fits. under_way (world_after config steps) e (always config steps) (always_ways config steps e) (always_on_the_way config steps e) (always_owed config steps e)

@@ -1,0 +1,100 @@
+-- A group of page requests that awaits its response, or is stale, is in one place on the way to its response: its last
+-- request is in flight or arrived, or the host has it whole, or the response is in flight.
+use Rattle.std.proofs.Common.{◌≡◌, ◌⊎◌, inl, inr, ap, ◌∙◌, ℕ, ◌<◌, ◌≤◌, Bool, true, false, arith}
+use Rattle.std.specs.Prelude.{Option, Some, None, List, [], ◌∷◌}
+use Rattle.std.proofs.lemmas.Bool.Decides.{nat_tests}
+use Rattle.sva_step.specs.declared.limits.Config.{Config}
+use Rattle.sva_step.specs.declared.steps.Step.{Step}
+use Rattle.sva_model.specs.State.{HostGroupState, Mappings, Part, World, opened}
+use Rattle.sva_model.specs.State.PageRequestState.{Arrived, Filed, Dropped}
+use Rattle.sva_model.specs.State.HostGroupState.{NotFiled, InHand, Discarded, InHandDiscarded}
+use Rattle.sva_model.specs.State.GroupState.{Finished}
+use Rattle.sva_model.specs.State.About.{ResetDone}
+use Rattle.sva_model.specs.State.Phase.{Open}
+use Rattle.sva_model.specs.States.{is_outstanding, is_open_group, is_before_invalidating}
+use Rattle.sva_model.specs.Acts.{Act, Own, act, own, submitted_if, submits, bound, cookie_of}
+use Rattle.sva_model.specs.Acts.Act.{NewSpace, DropSpace, Map, Unmap, NewBinding, NewJob, Hold, LetGo, At}
+use Rattle.sva_model.specs.Steps.{decide, next, run, after_acts, world_after}
+use Rattle.sva_laws.specs.Laws.{is_answerable}
+use Rattle.sva_laws.proofs.Legal.{LegalOwn}
+use Rattle.sva_laws.proofs.PageRequests.{is_whole}
+use Rattle.sva_laws.proofs.Invariant.{PartInv, Inv}
+use Rattle.sva_laws.proofs.Keeps.{Legal, act_keeps, put_keeps}
+use Rattle.sva_laws.proofs.Passed.{LegalAll}
+use Rattle.sva_laws.proofs.Runs.{step_legal, next_keeps, opened_inv}
+
+pub record OnTheWay (p : Part) : Type 0 where
+  pub last : (g : ℕ) → is_answerable (p.group g) ≡ true → (r : ℕ) × (r < p.page_requests) × (p.group_of r ≡ g) × (p.is_last r ≡ true)
+  pub filed_last : (r : ℕ) → p.phase ≡ Open → r < p.page_requests → p.is_last r ≡ true → p.page_request r ≡ Filed → is_outstanding (p.group (p.group_of r)) ≡ true → is_whole (p.host_group (p.group_of r)) ≡ true
+  pub discarded : (g : ℕ) → p.phase ≡ Open → p.host_group g ≡ Discarded → is_outstanding (p.group g) ≡ false
+
+-- what an act says of a request that was made before
+old_last : (ms : Mappings) (g n : ℕ) (p : Part) (o : Own) (r : ℕ) → r < p.page_requests → (r < (own p n o).page_requests) × ((own p n o).group_of r ≡ p.group_of r) × ((own p n o).is_last r ≡ p.is_last r)
+old_last ms g n p o r lt = grind (arith, nat_tests)
+
+-- a group that awaits its response did so before, or its last request is the one that the act makes
+new_last : (ms : Mappings) (g n : ℕ) (p : Part) (o : Own) → LegalOwn ms g p o → (x : ℕ) → is_answerable ((own p n o).group x) ≡ true → (is_answerable (p.group x) ≡ true) ⊎ ((p.page_requests < (own p n o).page_requests) × ((own p n o).group_of p.page_requests ≡ x) × ((own p n o).is_last p.page_requests ≡ true))
+new_last ms g n p o l x h = grind (arith, nat_tests)
+
+filed_last_kept : (ms : Mappings) (g n : ℕ) (p : Part) (o : Own) → LegalOwn ms g p o → (r : ℕ) → ((x : ℕ) → p.page_request x ≡ Arrived → is_whole (p.host_group (p.group_of x)) ≡ false) → ((w : ℕ) → p.phase ≡ Open → p.host_group (p.group_of r) ≡ InHand w → is_before_invalidating (p.stage (p.filed_under (p.group_of r))) ≡ true) → (p.page_requests ≤ r → p.page_request r ≡ Dropped) → ((c : ℕ) → p.message c ≡ Some ResetDone → p.group (p.group_of r) ≡ Finished) → (r < p.page_requests → p.group_of r < p.groups) → (p.phase ≡ Open → r < p.page_requests → p.is_last r ≡ true → p.page_request r ≡ Filed → is_outstanding (p.group (p.group_of r)) ≡ true → is_whole (p.host_group (p.group_of r)) ≡ true) → (own p n o).phase ≡ Open → r < (own p n o).page_requests → (own p n o).is_last r ≡ true → (own p n o).page_request r ≡ Filed → is_outstanding ((own p n o).group ((own p n o).group_of r)) ≡ true → is_whole ((own p n o).host_group ((own p n o).group_of r)) ≡ true
+filed_last_kept ms g n p o l r part in_hand un re made old ph lt la fi out = grind (arith, nat_tests)
+
+discarded_kept : (ms : Mappings) (g n : ℕ) (p : Part) (o : Own) → LegalOwn ms g p o → (x : ℕ) → (p.groups ≤ x → p.host_group x ≡ NotFiled) → ((c : ℕ) → p.message c ≡ Some ResetDone → p.group x ≡ Finished) → ((w : ℕ) → p.phase ≡ Open → p.host_group x ≡ InHandDiscarded w → is_outstanding (p.group x) ≡ false) → ((w : ℕ) → p.phase ≡ Open → p.host_group x ≡ InHand w → is_before_invalidating (p.stage (p.filed_under x)) ≡ true) → (p.phase ≡ Open → p.host_group x ≡ Discarded → is_outstanding (p.group x) ≡ false) → (own p n o).phase ≡ Open → (own p n o).host_group x ≡ Discarded → is_outstanding ((own p n o).group x) ≡ false
+discarded_kept ms g n p o l x made re hand opened_hand old ph h = grind (arith, nat_tests)
+
+arrived_part : (p : Part) → ((r : ℕ) → is_whole (p.host_group (p.group_of r)) ≡ true → r < p.page_requests → p.page_request r ≡ Filed) → ((r : ℕ) → p.page_requests ≤ r → p.page_request r ≡ Dropped) → (x : ℕ) → p.page_request x ≡ Arrived → is_whole (p.host_group (p.group_of x)) ≡ false
+arrived_part p whole made x h = grind (arith, nat_tests, whole x, made x)
+
+last_kept : (ms : Mappings) (g n : ℕ) (p : Part) (o : Own) → LegalOwn ms g p o → OnTheWay p → (x : ℕ) → is_answerable ((own p n o).group x) ≡ true → (r : ℕ) × (r < (own p n o).page_requests) × ((own p n o).group_of r ≡ x) × ((own p n o).is_last r ≡ true)
+last_kept ms g n p o l w x h = go (new_last ms g n p o l x h)
+  where
+    go : (is_answerable (p.group x) ≡ true) ⊎ ((p.page_requests < (own p n o).page_requests) × ((own p n o).group_of p.page_requests ≡ x) × ((own p n o).is_last p.page_requests ≡ true)) → (r : ℕ) × (r < (own p n o).page_requests) × ((own p n o).group_of r ≡ x) × ((own p n o).is_last r ≡ true)
+    go (inl a) = let y = w.last x a in let z = old_last ms g n p o y.0 y.1 in (y.0, z.0, z.1 ∙ y.2, z.2 ∙ y.3)
+    go (inr y) = (p.page_requests, y.0, y.1, y.2)
+
+pub every : (ms : Mappings) (x g n e : ℕ) (p : Part) (o : Own) → LegalOwn ms g p o → PartInv ms x g n e p → OnTheWay p → OnTheWay (own p n o)
+every ms x g n e p o l i w =
+    let re = i.resets in
+    let bo = i.bounds in
+    let gr = i.groups in
+    record {
+      last = λ y h. last_kept ms g n p o l w y h;
+      filed_last = λ r ph lt la fi out. filed_last_kept ms g n p o l r (arrived_part p i.lasts.whole bo.page_request) (λ v q h. (gr.open_group (p.group_of r) q (in_hand_open v h)).1) (bo.page_request r) (λ c m. re.finished c (p.group_of r) (re.up c m)) (bo.group_of r) (w.filed_last r) ph lt la fi out;
+      discarded = λ y ph h. discarded_kept ms g n p o l y (bo.host_group y) (λ c m. re.finished c y (re.up c m)) (λ v. gr.discarded_over y v) (λ v q k. (gr.open_group y q (in_hand_open v k)).1) (w.discarded y) ph h;
+    }
+  where
+    in_hand_open : {s : HostGroupState} (v : ℕ) → s ≡ InHand v → is_open_group s ≡ true
+    in_hand_open v h = ap is_open_group h
+
+submitted_on : (t : Bool) (p : Part) (o : Option ℕ) (q count cookie : ℕ) → OnTheWay p → OnTheWay (submitted_if t p o q count cookie)
+submitted_on true p (Some b) q count cookie w = record { last = w.last; filed_last = w.filed_last; discarded = w.discarded }
+submitted_on true p None q count cookie w = w
+submitted_on false p o q count cookie w = w
+
+abbrev pub AllOn : World → Type 0
+AllOn w = (e : ℕ) → OnTheWay (w.part e)
+
+act_on : (w : World) (a : Act) → Legal w a → Inv w → AllOn w → AllOn (act w a)
+act_on w NewSpace l i h = h
+act_on w (DropSpace s) l i h = h
+act_on w (Map s q f x) l i h = h
+act_on w (Unmap s q count) l i h = λ e. submitted_on (submits w s e) (w.part e) (bound w e s) q count (cookie_of w s e) (h e)
+act_on w (NewBinding e) l i h = h
+act_on w (NewJob e g) l i h = h
+act_on w (Hold x j) l i h = h
+act_on w (LetGo x) l i h = h
+act_on w (At e o) l i h = put_keeps (λ k p. OnTheWay p) w.part e (own (w.part e) w.messages o) (every w.mappings w.config.endpoints w.bindings w.messages e (w.part e) o l.1.0 (i.parts e) (h e)) h
+
+acts_on : (acts : List Act) (w : World) → LegalAll w acts → Inv w → AllOn w → AllOn (after_acts w acts)
+acts_on [] w l i h = h
+acts_on (a ∷ acts) w l i h = acts_on acts (act w a) l.1 (act_keeps w a l.0 i) (act_on w a l.0 i h)
+
+run_on : (ss : List Step) (w : World) → Inv w → AllOn w → AllOn (run w ss)
+run_on [] w i h = h
+run_on (s ∷ ss) w i h = run_on ss (next w s) (next_keeps w s i) (acts_on (decide w s).acts w (step_legal w s i) i h)
+
+opened_on : (c : Config) → AllOn (opened c)
+opened_on c e = record { last = grind arith; filed_last = grind arith; discarded = grind arith }
+
+pub always_on_the_way : (c : Config) (ss : List Step) (e : ℕ) → OnTheWay ((world_after c ss).part e)
+always_on_the_way c ss = run_on ss (opened c) (opened_inv c) (opened_on c)

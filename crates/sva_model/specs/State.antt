@@ -8,9 +8,10 @@ use Rattle.sva_model.specs.Message.Message.{ResetMessage}
 use Rattle.sva_step.specs.declared.limits.Config.{Config}
 
 -- A mapping is a page of a space that led to a frame. When it is taken out of its space, it is written down what each
--- endpoint then had to answer before the frame may be used again:
--- nothing; the page invalidations of the `count` pages from `page` on, which are the orders from `first` on, and the wait
--- behind them; its binding's PASID invalidation and the wait behind that; or a reset-done. A reset-done answers in each case; `resets` counts those before.
+-- endpoint then had to answer before the frame may be used again: nothing; the page invalidations of the `count` pages
+-- from `page` on, which are the orders from `first` on, and the wait behind them; its binding's PASID invalidation and the
+-- wait behind that, the unit being in reset then or not; or a reset-done. A reset-done answers in each case; `resets`
+-- counts those before.
 pub data Owed : Type 0 where
   Nothing : Owed
   Pages : (page first count resets : ℕ) → Owed

@@ -5,6 +5,10 @@ ghost use Rattle.sva_model.specs.RowsOfInvalidations.{CountOfEight, OneVectorFor
 ghost use Rattle.sva_model.specs.RowsOfResets.{SilentEndpoint, ResetAndTags, OldJob, ResetOfALiveBinding, TwoEndpointsOneSilent};
 ghost use Rattle.sva_model.specs.RowsOfPageRequests.{PageRequestGroup, StaleGroup, DrainOfTwoRequests, Verdicts};
 ghost use Rattle.sva_model.specs.RowsOfLimits.{RequestTagsSpent, UseSlotsSpent, CacheFull, PasidsSpent, PageNumbers, PageRequestsSpent, QueueOfSixtyFour, SpacesSpent, PagesOfAnUnmap, NumbersSpentAtTheEnd};
+ghost use Rattle.sva_model.specs.RowsOfRefusals.{CausesOfSpace, CausesOfDropSpace, CausesOfMap, FullSpaceWithoutFrames, FullSpaceWithoutNumbers, CausesOfUnmap, FullQueueWhileStopping, FullQueueWhileDraining, CausesOfBind, BindInReset, CausesOfUnbind, UnbindWithoutNumbers, CausesOfAdvance, CausesAtAUnit, CausesOfWorkers, CausesOfAsk, CausesOfBeginUse, CausesOfEndUseAndEvict, CausesOfFault, FaultWhereDisabled, CausesOfFinish, CausesOfQuit, QuitWithoutNumbers, CausesOfDeliver, CausesOfLook, NoNumberAtAll, BindingsSpent, CookiesOfTwoUnits, CookiesWhileDraining, PumpWithoutNumbers, PumpWithoutTagsAndNumbers, VerdictsWithoutNumbers, DroppedWithoutNumbers, LostWithoutNumbers};
+ghost use Rattle.sva_model.specs.RowsOfDeliveries.{EachKindAtAnOpenUnit, StartAndStopInReset, StartBeforeTheReset, InvalidateInReset, ResponseInReset, StaleResponseInReset, CompletionsInReset, CompletionsAtAnOpenUnit, DoomedWithoutTranslation, CacheFullInReset, ResponsesByCode, MessagesUpInReset, VectorsOfTwoCounts, OwnReset, EachKindAsSent, CountFieldsAsSent};
+ghost use Rattle.sva_model.specs.RowsOfReadings.{LastRequestPastAMarker, MarkerPastAMarker, RequestWithoutLIsNotOrdered, AdvanceOfALiveBinding, AdvanceOfALostBinding, OneNumberOfEachKind, UnmapPastTheLastPage, UnmapWhileDrainedInReset, UnmapWhileInvalidatingInReset, UnmapAfterTheInvalidation, PageNamedTwice, PageRequestForNeither, OtherVerdictsNeedNoFrame, SuccessThatIsNone, JobOfALostBinding, DrainWaitsForOtherPasids, WaitOfAnUnmapDoesNotDrain, StaleGroupsKeepTheirRequests, UnfinishedWhereDisabled, UnfinishedWithoutCredit, GroupWhileStopping, GroupOfAnotherPasid, SecondReset, DoomedRequestsAreOut, FailureBeforeTheStop, EarlierWaitsInReset, OrdersDownStayInOrder, StopBehindAnInvalidate};
+ghost use Rattle.sva_model.specs.RowsOfWrongRules.{NotFreeWhenSent, NotFreeWhenTaken, NotFreeAtTheReset, NotFreeWhenUnmappedInReset, NotFreedAtTheFirstOfTwo, NotNoneOfEight, DoomedAnswerNotKept, DoomedAnswerNotKeptLater, DoomedTagNotGivenBack, NotFinishedWhileAUseRuns, NoUseHeldAgainstAnother, NoDrainPastAPageRequest, NoResponseByAnUnbind, NoResponseInReset, NotWithheldPastTheLastWait, NoPageInvalidationWhileInvalidating, NotFreeWhileInvalidating, NoResetDonePastOlderMessages, NotReleasedWhileInvalidating, NotReleasedWhileQuiet, NoMarkerPastPageRequests, NoWaitPastABusyTag, NoUseLeftByAReset, NoIndexGivenBackByAQuit, NoQuitWhileAUseRuns, NoQuitWhileARequestIsOut, NoTranslationWhileStopping, NoTranslationOfAnotherSpace, NothingElseInvalidated, NothingOfAPasidLeft};
 
 /// Spaces, bindings, translations, and pages unmapped while they are in use.
 pub fn translations()
@@ -57,4 +61,128 @@ pub fn limits()
     ensures spaces_spent { SpacesSpent }
     ensures pages_of_an_unmap { PagesOfAnUnmap }
     ensures numbers_spent_at_the_end { NumbersSpentAtTheEnd }
+{}
+
+/// Each cause of a refusal, and which cause is answered where two hold.
+pub fn refusals()
+    ensures causes_of_space { CausesOfSpace }
+    ensures causes_of_drop_space { CausesOfDropSpace }
+    ensures causes_of_map { CausesOfMap }
+    ensures full_space_without_frames { FullSpaceWithoutFrames }
+    ensures full_space_without_numbers { FullSpaceWithoutNumbers }
+    ensures causes_of_unmap { CausesOfUnmap }
+    ensures full_queue_while_stopping { FullQueueWhileStopping }
+    ensures full_queue_while_draining { FullQueueWhileDraining }
+    ensures causes_of_bind { CausesOfBind }
+    ensures bind_in_reset { BindInReset }
+    ensures causes_of_unbind { CausesOfUnbind }
+    ensures unbind_without_numbers { UnbindWithoutNumbers }
+    ensures causes_of_advance { CausesOfAdvance }
+    ensures causes_at_a_unit { CausesAtAUnit }
+    ensures causes_of_workers { CausesOfWorkers }
+    ensures causes_of_ask { CausesOfAsk }
+    ensures causes_of_begin_use { CausesOfBeginUse }
+    ensures causes_of_end_use_and_evict { CausesOfEndUseAndEvict }
+    ensures causes_of_fault { CausesOfFault }
+    ensures fault_where_disabled { FaultWhereDisabled }
+    ensures causes_of_finish { CausesOfFinish }
+    ensures causes_of_quit { CausesOfQuit }
+    ensures quit_without_numbers { QuitWithoutNumbers }
+    ensures causes_of_deliver { CausesOfDeliver }
+    ensures causes_of_look { CausesOfLook }
+    ensures no_number_at_all { NoNumberAtAll }
+    ensures bindings_spent { BindingsSpent }
+    ensures cookies_of_two_units { CookiesOfTwoUnits }
+    ensures cookies_while_draining { CookiesWhileDraining }
+    ensures pump_without_numbers { PumpWithoutNumbers }
+    ensures pump_without_tags_and_numbers { PumpWithoutTagsAndNumbers }
+    ensures verdicts_without_numbers { VerdictsWithoutNumbers }
+    ensures dropped_without_numbers { DroppedWithoutNumbers }
+    ensures lost_without_numbers { LostWithoutNumbers }
+{}
+
+/// What each kind of message does where it is delivered, at an open unit and at one in reset.
+pub fn deliveries()
+    ensures each_kind_at_an_open_unit { EachKindAtAnOpenUnit }
+    ensures start_and_stop_in_reset { StartAndStopInReset }
+    ensures start_before_the_reset { StartBeforeTheReset }
+    ensures invalidate_in_reset { InvalidateInReset }
+    ensures response_in_reset { ResponseInReset }
+    ensures stale_response_in_reset { StaleResponseInReset }
+    ensures completions_in_reset { CompletionsInReset }
+    ensures completions_at_an_open_unit { CompletionsAtAnOpenUnit }
+    ensures doomed_without_translation { DoomedWithoutTranslation }
+    ensures cache_full_in_reset { CacheFullInReset }
+    ensures responses_by_code { ResponsesByCode }
+    ensures messages_up_in_reset { MessagesUpInReset }
+    ensures vectors_of_two_counts { VectorsOfTwoCounts }
+    ensures own_reset { OwnReset }
+    ensures each_kind_as_sent { EachKindAsSent }
+    ensures count_fields_as_sent { CountFieldsAsSent }
+{}
+
+/// How a rule is read where it could be read in two ways, and what follows from the rules and may surprise.
+pub fn readings()
+    ensures last_request_past_a_marker { LastRequestPastAMarker }
+    ensures marker_past_a_marker { MarkerPastAMarker }
+    ensures request_without_l_is_not_ordered { RequestWithoutLIsNotOrdered }
+    ensures advance_of_a_live_binding { AdvanceOfALiveBinding }
+    ensures advance_of_a_lost_binding { AdvanceOfALostBinding }
+    ensures one_number_of_each_kind { OneNumberOfEachKind }
+    ensures unmap_past_the_last_page { UnmapPastTheLastPage }
+    ensures unmap_while_drained_in_reset { UnmapWhileDrainedInReset }
+    ensures unmap_while_invalidating_in_reset { UnmapWhileInvalidatingInReset }
+    ensures unmap_after_the_invalidation { UnmapAfterTheInvalidation }
+    ensures page_named_twice { PageNamedTwice }
+    ensures page_request_for_neither { PageRequestForNeither }
+    ensures other_verdicts_need_no_frame { OtherVerdictsNeedNoFrame }
+    ensures success_that_is_none { SuccessThatIsNone }
+    ensures job_of_a_lost_binding { JobOfALostBinding }
+    ensures drain_waits_for_other_pasids { DrainWaitsForOtherPasids }
+    ensures wait_of_an_unmap_does_not_drain { WaitOfAnUnmapDoesNotDrain }
+    ensures stale_groups_keep_their_requests { StaleGroupsKeepTheirRequests }
+    ensures unfinished_where_disabled { UnfinishedWhereDisabled }
+    ensures unfinished_without_credit { UnfinishedWithoutCredit }
+    ensures group_while_stopping { GroupWhileStopping }
+    ensures group_of_another_pasid { GroupOfAnotherPasid }
+    ensures second_reset { SecondReset }
+    ensures doomed_requests_are_out { DoomedRequestsAreOut }
+    ensures failure_before_the_stop { FailureBeforeTheStop }
+    ensures earlier_waits_in_reset { EarlierWaitsInReset }
+    ensures orders_down_stay_in_order { OrdersDownStayInOrder }
+    ensures stop_behind_an_invalidate { StopBehindAnInvalidate }
+{}
+
+/// Each is a short run in which a wrong rule would answer otherwise, and is named by what doesn't happen.
+pub fn wrong_rules()
+    ensures not_free_when_sent { NotFreeWhenSent }
+    ensures not_free_when_taken { NotFreeWhenTaken }
+    ensures not_free_at_the_reset { NotFreeAtTheReset }
+    ensures not_free_when_unmapped_in_reset { NotFreeWhenUnmappedInReset }
+    ensures not_freed_at_the_first_of_two { NotFreedAtTheFirstOfTwo }
+    ensures not_none_of_eight { NotNoneOfEight }
+    ensures doomed_answer_not_kept { DoomedAnswerNotKept }
+    ensures doomed_answer_not_kept_later { DoomedAnswerNotKeptLater }
+    ensures doomed_tag_not_given_back { DoomedTagNotGivenBack }
+    ensures not_finished_while_a_use_runs { NotFinishedWhileAUseRuns }
+    ensures no_use_held_against_another { NoUseHeldAgainstAnother }
+    ensures no_drain_past_a_page_request { NoDrainPastAPageRequest }
+    ensures no_response_by_an_unbind { NoResponseByAnUnbind }
+    ensures no_response_in_reset { NoResponseInReset }
+    ensures not_withheld_past_the_last_wait { NotWithheldPastTheLastWait }
+    ensures no_page_invalidation_while_invalidating { NoPageInvalidationWhileInvalidating }
+    ensures not_free_while_invalidating { NotFreeWhileInvalidating }
+    ensures no_reset_done_past_older_messages { NoResetDonePastOlderMessages }
+    ensures not_released_while_invalidating { NotReleasedWhileInvalidating }
+    ensures not_released_while_quiet { NotReleasedWhileQuiet }
+    ensures no_marker_past_page_requests { NoMarkerPastPageRequests }
+    ensures no_wait_past_a_busy_tag { NoWaitPastABusyTag }
+    ensures no_use_left_by_a_reset { NoUseLeftByAReset }
+    ensures no_index_given_back_by_a_quit { NoIndexGivenBackByAQuit }
+    ensures no_quit_while_a_use_runs { NoQuitWhileAUseRuns }
+    ensures no_quit_while_a_request_is_out { NoQuitWhileARequestIsOut }
+    ensures no_translation_while_stopping { NoTranslationWhileStopping }
+    ensures no_translation_of_another_space { NoTranslationOfAnotherSpace }
+    ensures nothing_else_invalidated { NothingElseInvalidated }
+    ensures nothing_of_a_pasid_left { NothingOfAPasidLeft }
 {}

@@ -6,6 +6,7 @@ ghost use Rattle.sva_itags.specs.Calls.{AlwaysTags, FreedAtItsCount};
 
 use crate::counts::Count;
 use crate::vectors::{is_tag_named, with_bit};
+use arrayvec::ArrayVec;
 use std::marker::Model;
 
 /// How many tags a unit has: an ITag has 5 bits (PCI Express Base 5.0, section 10.3.1).
@@ -94,7 +95,7 @@ fn first_free(places: &[Option<Busy>]) -> Option<usize>
 /// The 32 tags of a unit. No call takes memory.
 #[derive(Debug, Drop)]
 pub struct Itags {
-    places: [Option<Busy>; TAGS],
+    places: ArrayVec<Option<Busy>, TAGS>,
 }
 
 impl Model for Itags {
@@ -104,9 +105,9 @@ impl Model for Itags {
 
     ghost Value = { List (Option Busy) };
 
-    ghost view = { λ t. t.places };
+    ghost view = { λ t. t.places.items };
 
-    ghost invariant = { λ t. AreTags t.places };
+    ghost invariant = { λ t. AreTags t.places.items };
 }
 
 impl Default for Itags {
@@ -123,7 +124,7 @@ impl Itags {
         ensures { result ≡ all_free }
     {
         Itags {
-            places: [None; TAGS],
+            places: ArrayVec::from([None; TAGS]),
         }
     }
 

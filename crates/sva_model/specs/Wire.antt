@@ -1,6 +1,6 @@
 -- What the host, its endpoints and the link keep of the records: labels, numbers and counts, and no names. It is a
 -- function of the world, by lists: tables by label from 0 on, queues in their order, maps in rising order of their keys.
-use Rattle.std.specs.Prelude.{ℕ, suc, ◌+◌, ◌-◌, Bool, true, false, ◌&&◌, ◌||◌, not, ◌==◌, nat_lt, if◌then◌else◌, Option, Some, None, List, [], ◌∷◌, map}
+use Rattle.std.specs.Prelude.{ℕ, zero, suc, ◌+◌, ◌-◌, Bool, true, false, ◌&&◌, ◌||◌, not, ◌==◌, nat_lt, if◌then◌else◌, Option, Some, None, List, [], ◌∷◌, map}
 use Rattle.sva_model.specs.Words.{any_below, count_below, select, tabulate, is_some, holds_of, the}
 use Rattle.sva_model.specs.Message.{Extent, Message}
 use Rattle.sva_model.specs.State.{Owed, MappingState, Stage, PasidState, RequestState, GroupState, HostGroupState, Order, OrderState, Part, World}
@@ -44,11 +44,22 @@ pub record SpaceWire : Type 0 where
   pub number : ℕ
   pub pages : List PageWire
 
+abbrev pub page_wire : World → (mapping : ℕ) → PageWire
+page_wire w m = record { page = w.mappings.page m; frame = w.mappings.frame m; write = w.mappings.write m }
+
+abbrev pub is_page_of : World → (space mapping : ℕ) → Bool
+is_page_of w s m = is_present (w.mappings.state m) && w.mappings.space m == s
+
+abbrev pub is_lower_page : PageWire → PageWire → Bool
+is_lower_page a b = nat_lt a.page b.page
+
+-- the pages of a space by the mappings below n, in rising order
+unfoldable pub pages_below : World → (space n : ℕ) → List PageWire
+pages_below w s zero = []
+pages_below w s (suc n) = if is_page_of w s n then insert_by is_lower_page (page_wire w n) (pages_below w s n) else pages_below w s n
+
 abbrev pub pages_wire : World → (space : ℕ) → List PageWire
-pages_wire w s =
-    sorted_by (λ a b. nat_lt a.page b.page)
-    (map (λ m. record { page = w.mappings.page m; frame = w.mappings.frame m; write = w.mappings.write m })
-    (select w.mappings.made (λ m. is_present (w.mappings.state m) && w.mappings.space m == s)))
+pages_wire w s = pages_below w s w.mappings.made
 
 abbrev pub spaces_wire : World → List SpaceWire
 spaces_wire w = map (λ s. record { number = Labels.number w s; pages = pages_wire w s }) (select w.spaces w.is_live)

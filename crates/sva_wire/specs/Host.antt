@@ -1,21 +1,20 @@
 -- The steps of spaces and frames by numbers: what a host answers to them, and what it keeps afterwards, read off what it
 -- keeps before, while no endpoint has anything and nothing is in flight. No name of a record stands in it.
-use Rattle.std.specs.Prelude.{◌≡◌, ◌≤◌, ℕ, ◌+◌, ◌^◌, Bool, true, false, ◌&&◌, not, ◌==◌, nat_lt, nat_le, if◌then◌else◌, is_some, Option, Some, None, List, [], ◌∷◌, ◌++◌, map, filter, length, replicate, slice_set, Ok, Err, option_map}
+use Rattle.std.specs.Prelude.{◌≡◌, ◌≤◌, ℕ, ◌+◌, ◌^◌, Bool, true, false, ◌&&◌, not, ◌==◌, nat_lt, nat_le, if◌then◌else◌, is_some, Option, Some, None, List, [], ◌∷◌, ◌++◌, filter, length, replicate, slice_set, Ok, Err}
 use Rattle.sva_step.specs.declared.answers.Answer.{Answer}
 use Rattle.sva_step.specs.declared.answers.Answer.TheVariants as answer
 use Rattle.sva_step.specs.declared.limits.Config.{Config}
 use Rattle.sva_step.specs.declared.refusals.Refusal.TheVariants as refusal
 use Rattle.sva_step.specs.declared.steps.Step.{Step}
 use Rattle.sva_step.specs.declared.steps.Step.TheVariants as step
-use Rattle.sva_model.specs.Words.{tabulate, lowest, all_below}
-use Rattle.sva_model.specs.State.{PasidState}
+use Rattle.sva_model.specs.Words.{tabulate, all_below}
 use Rattle.sva_model.specs.State.PasidState.{Off}
 use Rattle.sva_model.specs.Acts.{in_range}
 use Rattle.sva_model.specs.Refusals.{Cause, page_range}
 use Rattle.sva_model.specs.Steps.{Reply, reply, next, world_after}
 use Rattle.sva_model.specs.Claims.{Fits}
 use Rattle.sva_model.specs.Wire.{Wire, SpaceWire, PageWire, PlaceWire, PartWire, insert_by, is_lower_page, wire}
-use Rattle.sva_model.specs.Wire.PlaceWire.{FreeWire, MappedWire, WithheldWire}
+use Rattle.sva_model.specs.Wire.PlaceWire.{FreeWire, MappedWire}
 
 -- an endpoint with its unit where nothing was ever sent, asked or submitted, or all of it is over
 abbrev pub idle : PartWire

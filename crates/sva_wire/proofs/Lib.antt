@@ -1,0 +1,6 @@
+pub mod Lists
+pub mod Parts
+pub mod Pages
+pub mod Spaces
+pub mod Places
+pub mod Numbers

@@ -1,10 +1,13 @@
 -- Facts on groups of page requests.
-use Rattle.std.proofs.Common.{◌≡◌, ℕ, zero, suc, ◌+◌, ◌<◌, ◌≤◌, length, set, replicate, Some, None, arith, List, [], ◌∷◌, map, sym, ◌∙◌, subst, get_or, not, refl, cond, true, false, Bool, eqb}
+use Rattle.std.proofs.Common.{◌≡◌, ℕ, zero, suc, ◌+◌, ◌<◌, ◌≤◌, length, set, replicate, Some, None, arith, List, [], ◌∷◌, map, sym, ◌∙◌, subst, ap, get_or, not, refl, cond, true, false, Bool, eqb}
 use Rattle.std.specs.List.{position, position_or_len}
 use Rattle.std.specs.Prelude.{nat_lt}
 use Rattle.std.proofs.lemmas.List.Sums.{sum_by-cons}
 use Rattle.std.proofs.lemmas.List.Quantifiers.{position-Some}
 use Rattle.std.proofs.lemmas.Bool.{ltb-false}
+use Rattle.std.proofs.Math.ListN.{length-set}
+use Rattle.arrayvec.specs.ArrayVec.{ArrayVec, with_items}
+use Rattle.arrayvec.proofs.ArrayVecLemmas.{items-with_items}
 use Rattle.sva_endpoint.specs.declared.group_table.GroupPlace.{GroupPlace}
 use Rattle.sva_endpoint.specs.declared.group_table.GroupPlace.TheVariants.{Free, Unfinished, Out, Stale}
 use Rattle.sva_endpoint.specs.Groups.{is_free, requests_of, outstanding, stale_of, group_of, with_request, HaveRequests}
@@ -37,6 +40,13 @@ pub HaveRequests-set : (groups : List GroupPlace) (i : ℕ) (place : GroupPlace)
 HaveRequests-set [] i place have here = tt
 HaveRequests-set (group ∷ groups) zero place have here = (here, have.1)
 HaveRequests-set (group ∷ groups) (suc i) place have here = (have.0, HaveRequests-set groups i place have.1 here)
+
+-- the same of a table that is written through the slice of its places
+pub HaveRequests-written : (table : ArrayVec GroupPlace) (groups : List GroupPlace) (i : ℕ) (place : GroupPlace) → groups ≡ table.items → HaveRequests table.items
+    → (is_free place ≡ false → 0 < requests_of place) → HaveRequests (with_items table (set groups i place)).items
+HaveRequests-written table groups i place same have here =
+    subst HaveRequests (sym (items-with_items table (set groups i place) (length-set groups i place ∙ ap length same)))
+    (HaveRequests-set groups i place (subst HaveRequests (sym same) have) here)
 
 is_free-cond : (b : Bool) (pasid requests : ℕ) → is_free (cond b (Stale pasid requests) (Out pasid requests)) ≡ false
 is_free-cond true pasid requests = refl

@@ -1,6 +1,8 @@
 ghost use Rattle.std.specs.Prelude.{◌≡◌, ◌<◌, ◌≤◌, IfSome, Some, None, if◌then◌else◌, map, position, slice_set, length};
 ghost use Rattle.std.specs.List.{list_any};
+ghost use Rattle.sva_endpoint.specs.Groups.{stale_of};
 
+use arrayvec::ArrayVec;
 use std::marker::Model;
 
 /// The place of one Page Request Group Index (PCI Express Base 5.0, section 10.4.1).
@@ -86,7 +88,7 @@ impl GroupPlace {
 /// The 32 groups of page requests of an endpoint, and how many requests are outstanding.
 #[derive(Drop)]
 pub struct GroupTable {
-    places: [GroupPlace; 32],
+    places: ArrayVec<GroupPlace, 32>,
     outstanding: u8,
 }
 
@@ -98,10 +100,10 @@ impl Model for GroupTable {
 
     ghost use Rattle.sva_endpoint.specs.Groups.{outstanding as outstanding_of, HaveRequests};
 
-    ghost view = { λ table. table.places };
+    ghost view = { λ table. table.places.items };
 
-    ghost invariant = { λ table. (length table.places ≡ 32) × (table.outstanding ≡ outstanding_of table.places) × (table.outstanding ≤ 32)
-        × HaveRequests table.places };
+    ghost invariant = { λ table. (length table.places.items ≡ 32) × (table.outstanding ≡ outstanding_of table.places.items)
+        × (table.outstanding ≤ 32) × HaveRequests table.places.items };
 }
 
 impl GroupTable {
@@ -112,7 +114,7 @@ impl GroupTable {
         ensures { result ≡ no_groups }
     {
         GroupTable {
-            places: [GroupPlace::Free; 32],
+            places: ArrayVec::from([GroupPlace::Free; 32]),
             outstanding: 0,
         }
     }
@@ -208,6 +210,15 @@ impl GroupTable {
     pub fn make_stale(&mut self, pasid: u32)
         ensures { self.new ≡ map (stale_of pasid) self.old }
     {
-        self.places = self.places.map(|place| place.stale_of(pasid));
+        make_each_stale(self.places.as_mut_slice(), pasid);
+    }
+}
+
+// Makes each of these that is a group of this PASID that is out stale.
+fn make_each_stale(places: &mut [GroupPlace], pasid: u32)
+    ensures { places.new ≡ map (stale_of pasid) places.old }
+{
+    for place in places.iter_mut() {
+        *place = place.stale_of(pasid);
     }
 }

@@ -1,5 +1,6 @@
 ghost use Rattle.std.specs.Prelude.{◌≡◌, false};
 
+use arrayvec::ArrayVec;
 use std::marker::Model;
 
 /// What an endpoint does under a PASID. How a device is told to start or stop is its own affair: here by the messages
@@ -39,7 +40,7 @@ impl PasidState {
 /// The states of the PASIDs 1 to 32 of an endpoint. Every other PASID is off.
 #[derive(Drop)]
 pub struct PasidStates {
-    states: [PasidState; 33],
+    states: ArrayVec<PasidState, 33>,
 }
 
 impl Model for PasidStates {
@@ -48,9 +49,9 @@ impl Model for PasidStates {
 
     ghost Value = { List PasidState };
 
-    ghost view = { λ table. table.states };
+    ghost view = { λ table. table.states.items };
 
-    ghost invariant = { λ table. length table.states ≡ 33 };
+    ghost invariant = { λ table. length table.states.items ≡ 33 };
 }
 
 impl PasidStates {
@@ -61,7 +62,7 @@ impl PasidStates {
         ensures { result ≡ all_off }
     {
         PasidStates {
-            states: [PasidState::Off; 33],
+            states: ArrayVec::from([PasidState::Off; 33]),
         }
     }
 

@@ -1,7 +1,9 @@
 ghost use Rattle.std.specs.Prelude.{◌≡◌, ◌<◌, IfSome, List, map, position, slice_set};
 ghost use Rattle.std.specs.List.{list_any};
+ghost use Rattle.sva_endpoint.specs.RequestTags.{doomed_by};
 
 use crate::coverage::Invalidation;
+use arrayvec::ArrayVec;
 use std::marker::Model;
 
 /// The place of one tag of a translation request (PCI Express Base 5.0, section 10.2).
@@ -48,7 +50,7 @@ impl RequestTag {
 /// The 32 tags of translation requests of an endpoint.
 #[derive(Drop)]
 pub struct RequestTags {
-    places: [RequestTag; 32],
+    places: ArrayVec<RequestTag, 32>,
 }
 
 impl Model for RequestTags {
@@ -57,9 +59,9 @@ impl Model for RequestTags {
 
     ghost Value = { List RequestTag };
 
-    ghost view = { λ tags. tags.places };
+    ghost view = { λ tags. tags.places.items };
 
-    ghost invariant = { λ tags. length tags.places ≡ 32 };
+    ghost invariant = { λ tags. length tags.places.items ≡ 32 };
 }
 
 impl RequestTags {
@@ -69,7 +71,7 @@ impl RequestTags {
         ensures { result ≡ no_requests }
     {
         RequestTags {
-            places: [RequestTag::Free; 32],
+            places: ArrayVec::from([RequestTag::Free; 32]),
         }
     }
 
@@ -125,6 +127,15 @@ impl RequestTags {
     pub fn doom(&mut self, invalidation: &Invalidation)
         ensures { self.new ≡ map (doomed_by invalidation.now) self.old }
     {
-        self.places = self.places.map(|place| place.doomed_by(invalidation));
+        doom_each(self.places.as_mut_slice(), invalidation);
+    }
+}
+
+// Dooms each of these that is out and covered.
+fn doom_each(places: &mut [RequestTag], invalidation: &Invalidation)
+    ensures { places.new ≡ map (doomed_by invalidation.now) places.old }
+{
+    for place in places.iter_mut() {
+        *place = place.doomed_by(invalidation);
     }
 }

@@ -1,8 +1,10 @@
 ghost use Rattle.std.specs.Prelude.{◌≡◌, ◌<◌, Some, None, if◌then◌else◌, map, slice_set};
 ghost use Rattle.sva_endpoint.specs.Vectors.{is_named};
+ghost use Rattle.sva_endpoint.specs.Taken.{without_note};
 
 use crate::coverage::Invalidation;
 use crate::vectors::is_named;
+use arrayvec::ArrayVec;
 use std::marker::Model;
 
 /// An invalidation that was taken and isn't completed yet.
@@ -42,10 +44,17 @@ fn without_named(place: Option<Taken>, vector: u32, itag: usize) -> Option<Taken
     if is_named(vector, itag) { None } else { place }
 }
 
+// What is left in this place where the use of this slot is noted no more.
+fn without_note(place: Option<Taken>, slot: u64) -> Option<Taken>
+    ensures { result ≡ without_note slot place }
+{
+    place.map(|taken| taken.without_note(slot))
+}
+
 /// The invalidations that an endpoint has taken under the ITags 0 to 31.
 #[derive(Drop)]
 pub struct TakenTable {
-    places: [Option<Taken>; 32],
+    places: ArrayVec<Option<Taken>, 32>,
 }
 
 impl Model for TakenTable {
@@ -54,9 +63,9 @@ impl Model for TakenTable {
 
     ghost Value = { List (Option Taken) };
 
-    ghost view = { λ table. table.places };
+    ghost view = { λ table. table.places.items };
 
-    ghost invariant = { λ table. length table.places ≡ 32 };
+    ghost invariant = { λ table. length table.places.items ≡ 32 };
 }
 
 impl TakenTable {
@@ -66,7 +75,9 @@ impl TakenTable {
     pub fn new() -> Self
         ensures { result ≡ none_taken }
     {
-        TakenTable { places: [None; 32] }
+        TakenTable {
+            places: ArrayVec::from([None; 32]),
+        }
     }
 
     /// Takes an invalidation under this ITag; one from 32 on has no place.
@@ -113,8 +124,15 @@ impl TakenTable {
     pub fn forget(&mut self, slot: u64)
         ensures { self.new ≡ map (without_note slot) self.old }
     {
-        self.places = self
-            .places
-            .map(|place| place.map(|taken| taken.without_note(slot)));
+        forget_in_each(self.places.as_mut_slice(), slot);
+    }
+}
+
+// Forgets the use of this slot in each of these.
+fn forget_in_each(places: &mut [Option<Taken>], slot: u64)
+    ensures { places.new ≡ map (without_note slot) places.old }
+{
+    for place in places.iter_mut() {
+        *place = without_note(*place, slot);
     }
 }

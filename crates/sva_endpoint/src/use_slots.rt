@@ -1,7 +1,9 @@
 ghost use Rattle.std.specs.Prelude.{◌≡◌, ◌<◌, IfSome, map, position, slice_set, length};
 ghost use Rattle.std.specs.List.{list_any};
+ghost use Rattle.sva_endpoint.specs.UseSlots.{runs_covered, cut_off};
 
 use crate::coverage::Invalidation;
+use arrayvec::ArrayVec;
 use std::marker::Model;
 
 /// A use of a cached translation: translated requests (AT field 10b) to one frame.
@@ -68,7 +70,7 @@ impl UseSlot {
 /// The 16 slots of uses of an endpoint.
 #[derive(Drop)]
 pub struct UseSlots {
-    slots: [UseSlot; 16],
+    slots: ArrayVec<UseSlot, 16>,
 }
 
 impl Model for UseSlots {
@@ -77,9 +79,9 @@ impl Model for UseSlots {
 
     ghost Value = { List UseSlot };
 
-    ghost view = { λ table. table.slots };
+    ghost view = { λ table. table.slots.items };
 
-    ghost invariant = { λ table. length table.slots ≡ 16 };
+    ghost invariant = { λ table. length table.slots.items ≡ 16 };
 }
 
 impl UseSlots {
@@ -90,7 +92,7 @@ impl UseSlots {
         ensures { result ≡ no_uses }
     {
         UseSlots {
-            slots: [UseSlot::Free; 16],
+            slots: ArrayVec::from([UseSlot::Free; 16]),
         }
     }
 
@@ -153,13 +155,34 @@ impl UseSlots {
     pub fn covered(&self, invalidation: &Invalidation) -> [bool; 16]
         ensures { result ≡ map (runs_covered invalidation.now) self.now }
     {
-        self.slots.map(|slot| slot.runs_covered(invalidation))
+        covered_in(self.slots.as_slice(), invalidation)
     }
 
     /// Ends each running use, as a reset does.
     pub fn cut_off(&mut self)
         ensures { self.new ≡ map cut_off self.old }
     {
-        self.slots = self.slots.map(|slot| slot.cut_off());
+        cut_off_each(self.slots.as_mut_slice());
+    }
+}
+
+// Tells for each of these slots whether a use runs in it that the invalidation covers.
+fn covered_in(slots: &[UseSlot], invalidation: &Invalidation) -> [bool; 16]
+    requires { length slots.now ≡ 16 }
+    ensures { result ≡ map (runs_covered invalidation.now) slots.now }
+{
+    let mut covered = [false; 16];
+    for (slot, place) in slots.iter().enumerate() {
+        covered[slot] = place.runs_covered(invalidation);
+    }
+    covered
+}
+
+// Ends each running use of these.
+fn cut_off_each(slots: &mut [UseSlot])
+    ensures { slots.new ≡ map cut_off slots.old }
+{
+    for slot in slots.iter_mut() {
+        *slot = slot.cut_off();
     }
 }

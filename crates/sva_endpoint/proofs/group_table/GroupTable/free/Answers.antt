@@ -1,7 +1,7 @@
 use Rattle.std.proofs.Common.{arith}
 use Rattle.std.proofs.lemmas.Grind.{common_steps}
 use Rattle.sva_endpoint.specs.declared.group_table.GroupPlace.TheVariants.{Free}
-use Rattle.sva_endpoint.proofs.GroupFacts.{HaveRequests-set}
+use Rattle.sva_endpoint.proofs.GroupFacts.{HaveRequests-written}
 use Rattle.sva_endpoint.proofs.group_table.GroupTable.free.Goals as goal
 
 pub invariant_of-self : goal.invariant_of-self
@@ -9,5 +9,5 @@ invariant_of-self c = (
   grind (arith, common_steps),
   grind (arith, common_steps),
   grind (arith, common_steps),
-  HaveRequests-set c.self.inside.places c.from-index.result Free c.self.invariant.3 (λ wrong. absurd (cc)),
+  HaveRequests-written c.self.inside.places _ c.from-index.result Free c.deref_mut.ensures.value c.self.invariant.3 (λ wrong. absurd (cc)),
 )

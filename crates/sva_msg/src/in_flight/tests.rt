@@ -170,3 +170,51 @@ fn spends_the_last_numbers(rt: HostRuntime) -> Result<(), Fail> {
     assert_eq!(rt; Bag::new(rt.alloc(), 9223372036854775808).left(), 0);
     Ok(())
 }
+
+// The stop that the sends of the next test put in flight under a number: one, eight, two and twice eight copies.
+fn stop(number: u64) -> Message {
+    let pasid = match number {
+        5 => 1,
+        6..=13 => 2,
+        14..=15 => 3,
+        16..=23 => 4,
+        _ => 5,
+    };
+    Message {
+        endpoint: 0,
+        kind: Kind::Stop { pasid },
+    }
+}
+
+// Whether the numbers from 5 on and below `next` are in flight, each with its stop, and no other. A stop overtakes no
+// older stop, so the oldest alone may be delivered.
+fn holds_stops_below(bag: &Bag, next: u64) -> bool {
+    (0..40).all(|number| {
+        let is_there = (5..next).contains(&number);
+        let message = if is_there { Some(stop(number)) } else { None };
+        bag.get(number) == message && bag.may_deliver(number) == (is_there && number == 5)
+    })
+}
+
+// Where an allocation is refused, that send leaves the bag as it was, and the next one gives the number that was next.
+#[test]
+fn a_refused_send_changes_nothing(rt: HostRuntime) {
+    let mut bag = Bag::new(rt.alloc(), 5);
+    for (number, copies) in [(5, 1), (6, 8), (14, 2), (16, 8), (24, 8)] {
+        assert!(rt; (1..=8).contains(&copies) && copies <= bag.left());
+        assert!(rt; holds_stops_below(&bag, number));
+        let left = bag.left();
+        let first = match bag.send(stop(number), copies) {
+            Ok(first) => first,
+            Err(_refused) => {
+                assert!(rt; holds_stops_below(&bag, number));
+                assert_eq!(rt; bag.left(), left);
+                bag.send(stop(number), copies)
+                    .expect(&rt, "memory is refused once")
+            }
+        };
+        assert_eq!(rt; first, number);
+        assert_eq!(rt; bag.left() + copies, left);
+    }
+    assert!(rt; holds_stops_below(&bag, 32));
+}

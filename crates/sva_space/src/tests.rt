@@ -1,6 +1,9 @@
+ghost use Rattle.std.specs.Prelude.{◌<◌};
+
 use crate::Space;
+use std::process::Abort;
 use std::test::Fail;
-use sva_frames::FramePool;
+use sva_frames::{Frame, FramePool, Place};
 
 /// Pages 17 and 16 in this order, each with the frame of a pool of its own.
 #[test]
@@ -46,4 +49,80 @@ fn maps_and_unmaps(rt: HostRuntime) -> Result<(), Fail> {
     assert!(rt; space.is_empty());
     space.close();
     Ok(())
+}
+
+/// A page of the test below: the first frame is mapped at page 100, and each next one at the page below.
+fn page_of(number: u32) -> u64
+    requires { number < 40 }
+{
+    100 - u64::from(number)
+}
+
+/// Whether the frames below `count` are mapped, every second one to be written, and nothing else is.
+fn holds_frames_below(space: &Space, count: u32) -> bool {
+    space.len() == count as usize
+        && (0..40).all(|number| {
+            let mapping = if number < count {
+                Some((number, number % 2 == 0))
+            } else {
+                None
+            };
+            space.find(page_of(number)) == mapping
+        })
+}
+
+/// Maps a frame at its page. Where memory is refused once, the frame comes back, the space is as it was, and the same
+/// call again maps it.
+fn map<R: Abort>(rt: &R, space: &mut Space, frame: Frame) {
+    let number = frame.number();
+    assert!(rt; number < 40 && holds_frames_below(space, number));
+    let (page, write) = (page_of(number), number % 2 == 0);
+    assert!(rt; space.find(page).is_none());
+    let Err((frame, _refused)) = space.map(page, frame, write) else {
+        return;
+    };
+    assert_eq!(rt; frame.number(), number);
+    assert!(rt; holds_frames_below(space, number));
+    if let Err((frame, _refused)) = space.map(page, frame, write) {
+        panic!(rt; "memory is refused once: frame {}", frame.number());
+    }
+}
+
+/// Gives a frame back to its pool.
+fn give<R: Abort>(rt: &R, pool: &mut FramePool, frame: Frame) {
+    let number = frame.number();
+    assert!(rt; (number as usize) < pool.len());
+    match pool.place(number) {
+        Place::Mapped => pool.give(frame),
+        _other => panic!(rt; "frame {} was given back before", frame.number()),
+    }
+}
+
+/// Thirty pages, for which a space takes memory several times, and a pool of as many frames.
+#[test]
+fn a_refused_map_changes_nothing(rt: HostRuntime) {
+    let mut pool = match FramePool::open(rt.alloc(), 30) {
+        Ok(pool) => pool,
+        Err(_refused) => FramePool::open(rt.alloc(), 30).expect(&rt, "memory is refused once"),
+    };
+    let mut space = Space::new(rt.alloc());
+    for number in 0..30 {
+        let Some(frame) = pool.take() else {
+            panic!(rt; "no frame {number}");
+        };
+        map(&rt, &mut space, frame);
+        assert!(rt; holds_frames_below(&space, number + 1));
+    }
+    for number in (0..30).rev() {
+        let Some((page, frame, write)) = space.pop_first() else {
+            panic!(rt; "the space is empty");
+        };
+        assert_eq!(rt;
+            (page, frame.number(), write),
+            (page_of(number), number, number % 2 == 0)
+        );
+        give(&rt, &mut pool, frame);
+    }
+    assert!(rt; space.is_empty());
+    space.close();
 }

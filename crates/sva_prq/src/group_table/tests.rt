@@ -122,19 +122,25 @@ fn most_asks(rt: HostRuntime) -> Result<(), Fail> {
     Ok(())
 }
 
-// Where an allocation is refused, that turn files nothing, and all else is as ever.
+// Whether each binding below this one has an open group, no other has, and no room is left.
+fn holds_groups_below(groups: &Groups, binding: u64) -> bool {
+    groups.room == 0 && (0..6).all(|other| groups.open_of(other) == (other < binding))
+}
+
+// Where an allocation is refused, the groups are as they were, and the next try makes the room.
 #[test]
 fn a_refused_reserve_changes_nothing(rt: HostRuntime) {
     let mut groups = Groups::new(rt.alloc());
     for binding in 0..6 {
         if groups.reserve(0).is_err() {
-            assert!(rt; !groups.open_of(binding));
+            assert!(rt; holds_groups_below(&groups, binding));
             assert!(rt; groups.reserve(0).is_ok());
         }
-        let job = filed(&rt, &mut groups, 0, binding, (0, 10, true));
-        assert!(rt; is_job(&job, binding, 0, &[10]));
+        let part = filed(&rt, &mut groups, 0, binding, (0, 10, false));
+        assert!(rt; part.is_none() && holds_groups_below(&groups, binding + 1));
     }
     for binding in 0..6 {
-        assert!(rt; groups.open_of(binding));
+        let job = filed(&rt, &mut groups, 0, binding, (0, 11, true));
+        assert!(rt; is_job(&job, binding, 0, &[10, 11]));
     }
 }

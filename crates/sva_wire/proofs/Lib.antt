@@ -4,3 +4,4 @@ pub mod Pages
 pub mod Spaces
 pub mod Places
 pub mod Numbers
+pub mod Idle

@@ -1,7 +1,7 @@
 -- Tables as lists, and the numbers that pass: what is read back from them, and what a change of one entry does.
 use Rattle.std.proofs.Common.{◌≡◌, ◌≢◌, ◌⊎◌, inl, inr, refl, ap, ap₂, sym, ◌∙◌, ℕ, zero, suc, ◌+◌, ◌<◌, Bool, true, false, arith, length-append, get_or}
 use Rattle.std.specs.Prelude.{if◌then◌else◌, ◌==◌, List, [], ◌∷◌, ◌++◌, map, length, replicate, slice_set}
-use Rattle.std.proofs.lemmas.List.{set-append_left, set_at, set_past, get_or_at, get_or_append_left, get_or-replicate}
+use Rattle.std.proofs.lemmas.List.{set-append_left, set_at, set_past, get_or_at, get_or_append_left, get_or-replicate, replicate_more}
 use Rattle.std.proofs.lemmas.Bool.Decides.{nat_tests}
 use Rattle.sva_model.specs.Words.{step_lowest, lowest, any_below, all_below, count_below, select, tabulate}
 use Rattle.sva_model.specs.Wire.{PlaceWire}
@@ -36,6 +36,14 @@ tabulate_at (suc n) f k d l = go (ℕ_cases k n) (λ m. tabulate_at n f k d m)
 
 pub tabulate_all : {A : Type 0} (n : ℕ) (f : ℕ → A) (x : A) → tabulate n f ≡ replicate n x → (k : ℕ) → k < n → f k ≡ x
 tabulate_all n f x h k l = sym (tabulate_at n f k x l) ∙ ap (λ xs. get_or xs k x) h ∙ get_or-replicate n k x x l
+
+-- the same at each number
+pub tabulate_one : {A : Type 0} (n : ℕ) (x : A) → tabulate n (λ k. x) ≡ replicate n x
+unfolding tabulate
+tabulate_one zero x = refl
+tabulate_one (suc n) x =
+    let more : n + 1 ≡ suc n = omega arith in
+    ap (λ xs. xs ++ x ∷ []) (tabulate_one n x) ∙ replicate_more n x ∙ ap (λ k. replicate k x) more
 
 -- a table with another entry at one number, which may be past its end
 pub tabulate_set : {A : Type 0} (n : ℕ) (g h : ℕ → A) (f : ℕ) (v : A) → h f ≡ v → ((k : ℕ) → k ≢ f → h k ≡ g k) → tabulate n h ≡ slice_set (tabulate n g) f v

@@ -194,10 +194,10 @@ unmap_leaves w n q count i h e m =
 
 -- The law, at a world where the invariant holds.
 
-abbrev IsByNumbers : World → Step → Type 0
+abbrev pub IsByNumbers : World → Step → Type 0
 IsByNumbers w s = (reply w s ≡ reply_of (wire w) s) × (wire (next w s) ≡ next_of (wire w) s)
 
-by_numbers : (w : World) (s : Step) → Inv w → IsOfSpaces s → IsIdle (wire w) → IsByNumbers w s
+pub by_numbers : (w : World) (s : Step) → Inv w → IsOfSpaces s → IsIdle (wire w) → IsByNumbers w s
 by_numbers w step.Space i t h = (space_answers w, next_by w step.Space (space_answers w) (λ r. refl) (λ p. space_leaves w i))
 by_numbers w (step.Map n q x) i t h =
     (map_answers w n q x i, next_by w (step.Map n q x) (map_answers w n q x i) (λ r. refl) (λ p. map_leaves w n q x i h (not_true (Labels.is_space w n) p.0)))

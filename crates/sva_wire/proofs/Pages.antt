@@ -12,6 +12,7 @@ use Rattle.sva_model.specs.Acts.Act.{Map}
 use Rattle.sva_model.specs.Wire.{PageWire, over, insert_by, is_lower_page, is_page_of, page_wire, pages_below, pages_wire}
 use Rattle.sva_laws.proofs.Words.{put-same, put-other, ℕ_cases}
 use Rattle.sva_laws.proofs.Invariant.{Mapped}
+use Rattle.sva_laws.proofs.Passed.{and_left, and_right}
 use Rattle.sva_wire.specs.Host.{page_at, without}
 use Rattle.sva_wire.proofs.Parts.{with_mappings, freely_without}
 
@@ -153,12 +154,6 @@ pub present_is : (s : MappingState) → is_present s ≡ true → s ≡ Present
 present_is Unmade h = absurd (cc)
 present_is Present h = refl
 present_is (Gone owed) h = absurd (cc)
-
-pub and_left : (a b : Bool) → (a && b) ≡ true → a ≡ true
-and_left a b h = grind arith
-
-pub and_right : (a b : Bool) → (a && b) ≡ true → b ≡ true
-and_right a b h = grind arith
 
 pub and_both : (a b : Bool) → a ≡ true → b ≡ true → (a && b) ≡ true
 and_both a b h k = grind arith

@@ -4,9 +4,8 @@ use Rattle.std.specs.Prelude.{Option, Some, None, ◌&&◌, ◌==◌, if◌then�
 use Rattle.std.proofs.lemmas.Bool.Decides.{nat_tests}
 use Rattle.std.proofs.Math.Path.{fun_ext}
 use Rattle.sva_model.specs.Words.{find, if_found, lowest, any_below, count_below, select, tabulate, is_some, the}
-use Rattle.sva_model.specs.State.{Mappings, Part, World, Stage}
+use Rattle.sva_model.specs.State.{Mappings, Part, World}
 use Rattle.sva_model.specs.State.Owed.{Nothing}
-use Rattle.sva_model.specs.State.Stage.{Unbound}
 use Rattle.sva_model.specs.States.{is_unreleased}
 use Rattle.sva_model.specs.Acts.{act, bound, submits_at, submits, waits_at, waits, owed_by, submitted_if, in_range, without_pages}
 use Rattle.sva_model.specs.Acts.Act.{Unmap}
@@ -14,6 +13,7 @@ use Rattle.sva_model.specs.Wire.{over, chain, sorted_by, insert_by, is_before, b
 use Rattle.sva_laws.proofs.Words.{lowest_cases}
 use Rattle.sva_laws.proofs.Counting.{count_zero}
 use Rattle.sva_laws.proofs.Invariant.{Inv}
+use Rattle.sva_laws.proofs.Passed.{unreleased_bound}
 use Rattle.sva_wire.specs.Host.{IsIdle, idle}
 use Rattle.sva_wire.proofs.Lists.{tabulate_same, tabulate_all, tabulate_length, select_empty, map_empty, none_below}
 
@@ -99,16 +99,13 @@ find_none n p h = go (lowest_cases n p)
 and_false : (a b : Bool) → a ≡ false → (a && b) ≡ false
 and_false a b h = grind arith
 
-unreleased_bound : (s : Stage) → is_unreleased s ≡ true → s ≢ Unbound
-unreleased_bound s h e = absurd (cc)
-
 pub none_unreleased : (w : World) → Inv w → IsIdle (wire w) → (e b : ℕ) → b < w.bindings → is_unreleased ((w.part e).stage b) ≡ false
 none_unreleased w i h e b l = go (is_unreleased ((w.part e).stage b)) refl
   where
     go : (x : Bool) → is_unreleased ((w.part e).stage b) ≡ x → x ≡ false
     go false c = refl
     go true c =
-        let there : e < w.config.endpoints = (i.parts e).there b (unreleased_bound ((w.part e).stage b) c) in
+        let there : e < w.config.endpoints = (i.parts e).there b (unreleased_bound (w.part e) b c) in
         let empty : select w.bindings (λ d. is_unreleased ((w.part e).stage d)) ≡ [] =
         map_empty (binding_wire w (w.part e)) (select w.bindings (λ d. is_unreleased ((w.part e).stage d))) (ap (λ x. x.bindings) (part_idle w h e there))
         in

@@ -12,9 +12,10 @@ use Rattle.sva_model.specs.Labels
 use Rattle.sva_model.specs.Wire.{PageWire, SpaceWire, is_page_of, pages_wire, spaces_wire}
 use Rattle.sva_laws.proofs.Words.{put-same, put-other, ℕ_cases}
 use Rattle.sva_laws.proofs.Invariant.{Mapped}
+use Rattle.sva_laws.proofs.Passed.{and_left, and_right}
 use Rattle.sva_wire.specs.Host.{pages_of, with_pages}
 use Rattle.sva_wire.proofs.Lists.{select_same, select_length}
-use Rattle.sva_wire.proofs.Pages.{pages_same, pages_none, and_left, and_right, and_both, same_is, is_same, is_other, present_is}
+use Rattle.sva_wire.proofs.Pages.{pages_same, pages_none, and_both, same_is, is_same, is_other, present_is}
 
 -- Spaces of any names.
 

@@ -11,7 +11,8 @@ use Rattle.sva_model.specs.Words.{tabulate, all_below}
 use Rattle.sva_model.specs.State.PasidState.{Off}
 use Rattle.sva_model.specs.Acts.{in_range}
 use Rattle.sva_model.specs.Refusals.{Cause, page_range}
-use Rattle.sva_model.specs.Steps.{Reply, reply, next, world_after}
+use Rattle.sva_model.specs.State.{opened}
+use Rattle.sva_model.specs.Steps.{Reply, reply, replies, next, world_after}
 use Rattle.sva_model.specs.Claims.{Fits}
 use Rattle.sva_model.specs.Wire.{Wire, SpaceWire, PageWire, PlaceWire, PartWire, insert_by, is_lower_page, wire}
 use Rattle.sva_model.specs.Wire.PlaceWire.{FreeWire, MappedWire}
@@ -54,6 +55,7 @@ with_pages [] n change = []
 with_pages (space ∷ spaces) n change =
     (if space.number == n then record space { pages = change space.pages } else space) ∷ with_pages spaces n change
 
+-- what stands at a page of a space, if anything does
 abbrev pub page_at : List PageWire → (page : ℕ) → Option PageWire
 page_at [] q = None
 page_at (entry ∷ pages) q = if entry.page == q then Some entry else page_at pages q
@@ -70,6 +72,7 @@ frame_or_0 (Some entry) = entry.frame
 abbrev pub frames_of : List PageWire → (page count : ℕ) → List ℕ
 frames_of pages q count = tabulate count (λ j. frame_or_0 (page_at pages (q + j)))
 
+-- the pages but for those in a row
 abbrev pub without : (page count : ℕ) → List PageWire → List PageWire
 without q count pages = filter (λ entry. not (in_range q count entry.page)) pages
 
@@ -82,6 +85,7 @@ abbrev pub lowest_free : List PlaceWire → ℕ
 lowest_free [] = 0
 lowest_free (place ∷ places) = if is_free place then 0 else 1 + lowest_free places
 
+-- the places where frames are free again, one after another
 abbrev pub freed : List PlaceWire → List ℕ → List PlaceWire
 freed places [] = places
 freed places (frame ∷ frames) = freed (slice_set places frame FreeWire) frames
@@ -91,10 +95,12 @@ abbrev pub unless_refused : List Cause → Answer → Reply
 unless_refused [] a = Ok a
 unless_refused (cause ∷ causes) a = if cause.0 then Err cause.1 else unless_refused causes a
 
--- in the space of a number
+-- what is answered in the space of a number; the refusal where there is no such space
 abbrev pub in_space : Option (List PageWire) → (List PageWire → Reply) → Reply
 in_space None answers = Err refusal.NoSuchSpace
 in_space (Some pages) answers = answers pages
+
+-- The answers: to a new space, and to a page mapped and pages unmapped among the pages of their space.
 
 abbrev pub space_reply : Wire → Reply
 space_reply w =
@@ -147,6 +153,7 @@ changed w (step.Unmap n q count) (Ok (answer.FreeFrames frames)) =
     record w { spaces = with_pages w.spaces n (without q count); places = freed w.places frames }
 changed w _ _ = w
 
+-- what is kept after a step
 abbrev pub next_of : Wire → Step → Wire
 next_of w s = changed w s (reply_of w s)
 
@@ -160,3 +167,44 @@ NumbersAreNames =
     → IsIdle (wire (world_after config steps))
     → (reply (world_after config steps) step ≡ reply_of (wire (world_after config steps)) step)
     × (wire (next (world_after config steps) step) ≡ next_of (wire (world_after config steps)) step)
+
+-- Whole lists of steps, from what a host keeps before the first.
+
+abbrev pub first_wire : Config → Wire
+first_wire config =
+    record {
+      spaces = [];
+      places = replicate config.frames FreeWire;
+      parts = replicate config.endpoints idle;
+      jobs = [];
+      hands = replicate config.workers None;
+      in_flight = [];
+      next_space = config.first;
+      next_binding = config.first;
+      next_message = config.first;
+      next_cookie = config.first;
+    }
+
+abbrev pub AreOfSpaces : List Step → Type 0
+AreOfSpaces [] = Unit {0}
+AreOfSpaces (s ∷ ss) = IsOfSpaces s × AreOfSpaces ss
+
+-- the answers to a list of steps
+abbrev pub replies_of : Wire → List Step → List Reply
+replies_of w [] = []
+replies_of w (s ∷ ss) = reply_of w s ∷ replies_of (next_of w s) ss
+
+-- what is kept after it
+abbrev pub run_of : Wire → List Step → Wire
+run_of w [] = w
+run_of w (s ∷ ss) = run_of (next_of w s) ss
+
+-- A list of steps of spaces and frames alone binds nothing: by numbers it gives the answers that the steps by names give,
+-- and leaves what the last world is seen as.
+abbrev pub RunsByNumbers : Type 0
+RunsByNumbers =
+    (config : Config) (steps : List Step)
+    → Fits config
+    → AreOfSpaces steps
+    → (replies (opened config) steps ≡ replies_of (first_wire config) steps)
+    × (wire (world_after config steps) ≡ run_of (first_wire config) steps)

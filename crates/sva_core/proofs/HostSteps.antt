@@ -1,0 +1,58 @@
+-- From the pieces of a step to the step by numbers.
+use Rattle.std.proofs.Common.{◌≡◌, ℕ, Bool, List, Some, None, sym, ap, ◌∙◌}
+use Rattle.std.specs.Prelude.{Ok, Err, is_ok, slice_set}
+use Rattle.sva_step.specs.declared.answers.Answer.TheVariants as answer
+use Rattle.sva_step.specs.declared.refusals.Refusal.TheVariants as refusal
+use Rattle.sva_step.specs.declared.steps.Step.TheVariants as step
+use Rattle.sva_model.specs.Steps.{Reply}
+use Rattle.sva_model.specs.Wire.{Wire, PageWire, SpaceWire, PlaceWire, insert_by, is_lower_page}
+use Rattle.sva_model.specs.Wire.PlaceWire.{MappedWire}
+use Rattle.sva_wire.specs.Host.{reply_of, changed, in_space, map_reply, unmap_reply, pages_of, with_pages, without, freed}
+use Rattle.sva_core.specs.Pieces.{ByNumbers, MapsPage, UnmapsPages}
+
+-- the wire with other spaces and places
+abbrev pub with_spaces : Wire → List SpaceWire → List PlaceWire → Wire
+with_spaces w spaces places = record w { spaces = spaces; places = places }
+
+both : (w : Wire) (spaces spaces_now : List SpaceWire) (places places_now : List PlaceWire) → spaces ≡ spaces_now → places ≡ places_now → with_spaces w spaces places ≡ with_spaces w spaces_now places_now
+both w spaces spaces_now places places_now e f = ap (λ ss. with_spaces w ss places) e ∙ ap (λ ps. with_spaces w spaces_now ps) f
+
+pub no_space_map : (w : Wire) (n q : ℕ) (x : Bool) → pages_of w.spaces n ≡ None → ByNumbers w (step.Map n q x) (Err refusal.NoSuchSpace) w
+no_space_map w n q x none =
+    let is : reply_of w (step.Map n q x) ≡ Err refusal.NoSuchSpace = ap (λ o. in_space o (map_reply w.places q)) none in
+    (sym is, sym (ap (changed w (step.Map n q x)) is))
+
+pub no_space_unmap : (w : Wire) (n q count : ℕ) → pages_of w.spaces n ≡ None → ByNumbers w (step.Unmap n q count) (Err refusal.NoSuchSpace) w
+no_space_unmap w n q count none =
+    let is : reply_of w (step.Unmap n q count) ≡ Err refusal.NoSuchSpace = ap (λ o. in_space o (unmap_reply q count)) none in
+    (sym is, sym (ap (changed w (step.Unmap n q count)) is))
+
+-- a map in the space of a number
+pub by_map : (w : Wire) (n q : ℕ) (x : Bool) (result : Reply) (pages pages_after : List PageWire) (spaces_after : List SpaceWire) (places_after : List PlaceWire) → pages_of w.spaces n ≡ Some pages → (pages_after ≡ pages → spaces_after ≡ w.spaces) → ((change : List PageWire → List PageWire) → pages_after ≡ change pages → spaces_after ≡ with_pages w.spaces n change) → MapsPage pages w.places q x result pages_after places_after → ByNumbers w (step.Map n q x) result (with_spaces w spaces_after places_after)
+by_map w n q x (Err refusal.OutOfMemory) pages pages_after spaces_after places_after found kept put maps = (
+  ap (λ o. is_ok (in_space o (map_reply w.places q))) found ∙ maps.0,
+  both w spaces_after w.spaces places_after w.places (kept maps.1) maps.2,
+)
+by_map w n q x (Ok (answer.Frame f)) pages pages_after spaces_after places_after found kept put maps =
+    let is : reply_of w (step.Map n q x) ≡ Ok (answer.Frame f) = ap (λ o. in_space o (map_reply w.places q)) found ∙ sym maps.0 in (
+      sym is,
+      both w spaces_after (with_pages w.spaces n (insert_by is_lower_page (record { page = q; frame = f; write = x }))) places_after (slice_set w.places f MappedWire) (put (insert_by is_lower_page (record { page = q; frame = f; write = x })) maps.1.0) maps.1.1
+          ∙ sym (ap (changed w (step.Map n q x)) is),
+    )
+by_map w n q x result pages pages_after spaces_after places_after found kept put maps =
+    let is : reply_of w (step.Map n q x) ≡ result = ap (λ o. in_space o (map_reply w.places q)) found ∙ sym maps.0 in
+    (sym is, both w spaces_after w.spaces places_after w.places (kept maps.1.0) maps.1.1 ∙ sym (ap (changed w (step.Map n q x)) is))
+
+-- an unmap in the space of a number
+pub by_unmap : (w : Wire) (n q count : ℕ) (result : Reply) (pages pages_after : List PageWire) (spaces_after : List SpaceWire) (places_after : List PlaceWire) → pages_of w.spaces n ≡ Some pages → (pages_after ≡ pages → spaces_after ≡ w.spaces) → ((change : List PageWire → List PageWire) → pages_after ≡ change pages → spaces_after ≡ with_pages w.spaces n change) → UnmapsPages pages w.places q count result pages_after places_after → ByNumbers w (step.Unmap n q count) result (with_spaces w spaces_after places_after)
+by_unmap w n q count (Ok (answer.FreeFrames frames)) pages pages_after spaces_after places_after found kept put unmaps =
+    let is : reply_of w (step.Unmap n q count) ≡ Ok (answer.FreeFrames frames) = ap (λ o. in_space o (unmap_reply q count)) found ∙ unmaps.0 in (
+      sym is,
+      both w spaces_after (with_pages w.spaces n (without q count)) places_after (freed w.places frames) (put (without q count) unmaps.1) unmaps.2
+          ∙ sym (ap (changed w (step.Unmap n q count)) is),
+    )
+by_unmap w n q count (Ok _) pages pages_after spaces_after places_after found kept put unmaps = absurd unmaps
+by_unmap w n q count (Err refusal.OutOfMemory) pages pages_after spaces_after places_after found kept put unmaps = absurd unmaps
+by_unmap w n q count result pages pages_after spaces_after places_after found kept put unmaps =
+    let is : reply_of w (step.Unmap n q count) ≡ result = ap (λ o. in_space o (unmap_reply q count)) found ∙ sym unmaps.0 in
+    (sym is, both w spaces_after w.spaces places_after w.places (kept unmaps.1) unmaps.2 ∙ sym (ap (changed w (step.Unmap n q count)) is))

@@ -1,0 +1,9 @@
+pub mod PageLists
+pub mod FrameLists
+pub mod Counting
+pub mod Replies
+pub mod Taking
+pub mod LiveLists
+pub mod HostSteps
+pub mod Opening
+pub mod Reaching

@@ -1,0 +1,104 @@
+-- From the step by numbers to the definitions' step.
+use Rattle.std.proofs.Common.{◌≡◌, ℕ, zero, suc, ◌+◌, ◌<◌, List, [], ◌∷◌, ◌++◌, length, take, get_or, arith, refl, sym, ap, subst, ◌∙◌, count_by}
+use Rattle.std.specs.Prelude.{Err, is_ok}
+use Rattle.sva_frames.specs.declared.pool.Counts.{Counts as FrameCounts}
+use Rattle.sva_step.specs.declared.limits.Config.{Config}
+use Rattle.sva_step.specs.declared.refusals.Refusal.TheVariants as refusal
+use Rattle.sva_step.specs.declared.steps.Step.{Step}
+use Rattle.sva_step.specs.Limits.{Fits as FitsStep}
+use Rattle.sva_model.specs.State.{World, opened}
+use Rattle.sva_model.specs.Claims.{Fits}
+use Rattle.sva_model.specs.Steps.{Reply, reply, next, world_after}
+use Rattle.sva_model.specs.Wire.{Wire, wire}
+use Rattle.sva_laws.proofs.Lookback.{after_one}
+use Rattle.sva_wire.specs.Host.{IsIdle, IsOfSpaces, reply_of, next_of, NumbersAreNames, is_free as is_free_wire}
+use Rattle.sva_core.specs.Pieces.{ByNumbers, Counted, is_mapped_wire, is_withheld_wire}
+use Rattle.sva_core.specs.Reached.{FollowsAt, Follows, IsReached, CountsOf, Ran}
+use Rattle.sva_core.proofs.Opening.{free-counted, mapped-counted, withheld-counted}
+
+at_world : (w : World) (s : Step) (result : Reply) (after : Wire) → reply w s ≡ reply_of (wire w) s → wire (next w s) ≡ next_of (wire w) s → ByNumbers (wire w) s result after → FollowsAt w s result after
+at_world w s (Err refusal.OutOfMemory) after replies nexts by = (ap is_ok replies ∙ by.0, by.1)
+at_world w s result after replies nexts by = (by.0 ∙ sym replies, by.1 ∙ sym nexts)
+
+pub follows : NumbersAreNames → (before : Wire) (s : Step) (result : Reply) (after : Wire) → IsOfSpaces s → IsIdle before → ByNumbers before s result after → Follows before s result after
+follows law before s result after of_spaces idle by config steps fits is =
+    let same = law config steps s fits of_spaces (subst (λ (b : Wire). IsIdle b) is idle) in
+    at_world (world_after config steps) s result after same.0 same.1 (subst (λ (b : Wire). ByNumbers b s result after) is by)
+
+-- a world more
+reached_at : (config : Config) (steps : List Step) (s : Step) (result : Reply) (after : Wire) → Fits config → FollowsAt (world_after config steps) s result after → IsReached after
+reached_at config steps s (Err refusal.OutOfMemory) after fits at = record { config = config; steps = steps; fits = fits; is_wire = at.1 }
+reached_at config steps s result after fits at = record { config = config; steps = steps ++ s ∷ []; fits = fits; is_wire = at.1 ∙ sym (ap wire (after_one config steps s)) }
+
+pub reached : (before : Wire) (s : Step) (result : Reply) (after : Wire) → IsReached before → Follows before s result after → IsReached after
+reached before s result after was step = reached_at was.config was.steps s result after was.fits (step was.config was.steps was.fits was.is_wire)
+
+pub reached_opened : (config : Config) (seen : Wire) → Fits config → seen ≡ wire (opened config) → IsReached seen
+reached_opened config seen fits is = record { config = config; steps = []; fits = fits; is_wire = is }
+
+-- the limits of a config, by both of their words
+pub fits_model : (config : Config) → FitsStep config → Fits config
+fits_model config f = record {
+  some_endpoint = f.some_endpoint;
+  endpoints = f.most_endpoints;
+  some_frame = f.some_frame;
+  frames = f.most_frames;
+  some_worker = f.some_worker;
+  workers = f.most_workers;
+  first = f.first_number;
+}
+
+pub fits_step : (config : Config) → Fits config → FitsStep config
+fits_step config f = record {
+  some_endpoint = f.some_endpoint;
+  most_endpoints = f.endpoints;
+  some_frame = f.some_frame;
+  most_frames = f.frames;
+  some_worker = f.some_worker;
+  most_workers = f.workers;
+  first_number = f.first;
+}
+
+pub counts_of : (seen : Wire) (found : FrameCounts) → Counted seen found → CountsOf seen found
+counts_of seen found counted config steps fits is = (
+  counted.0 ∙ ap (λ (w : Wire). count_by is_free_wire w.places) is ∙ free-counted (world_after config steps),
+  counted.1 ∙ ap (λ (w : Wire). count_by is_mapped_wire w.places) is ∙ mapped-counted (world_after config steps),
+  counted.2 ∙ ap (λ (w : Wire). count_by is_withheld_wire w.places) is ∙ withheld-counted (world_after config steps),
+)
+
+-- Runs: one step more at the end.
+
+one_step : (w : World) (s : Step) (r : Reply) (last : Wire) → FollowsAt w s r last → Ran w (s ∷ []) (r ∷ []) last
+one_step w s (Err refusal.OutOfMemory) last at = at
+one_step w s r last at = at
+
+pub ran-more : (config : Config) (before steps : List Step) (rs : List Reply) (s : Step) (r : Reply) (last after : Wire) → Fits config → Ran (world_after config before) steps rs last → Follows last s r after → Ran (world_after config before) (steps ++ s ∷ []) (rs ++ r ∷ []) after
+ran-more config before [] [] s r last after fits ran step = one_step (world_after config before) s r after (step config before fits ran)
+ran-more config before [] (r0 ∷ rs) s r last after fits ran step = absurd ran
+ran-more config before (s0 ∷ ss) [] s r last after fits ran step = absurd ran
+ran-more config before (s0 ∷ ss) (Err refusal.OutOfMemory ∷ rs) s r last after fits ran step = (ran.0, ran-more config before ss rs s r last after fits ran.1 step)
+ran-more config before (s0 ∷ ss) (r0 ∷ rs) s r last after fits ran step = (
+  ran.0,
+  subst (λ (w : World). Ran w (ss ++ s ∷ []) (rs ++ r ∷ []) after) (after_one config before s0)
+      (ran-more config (before ++ s0 ∷ []) ss rs s r last after fits (subst (λ (w : World). Ran w ss rs last) (sym (after_one config before s0)) ran.1) step),
+)
+
+pub follows_on : (before old : Wire) (s : Step) (result : Reply) (after : Wire) → before ≡ old → Follows before s result after → Follows old s result after
+follows_on before old s result after same step config steps fits is = step config steps fits (same ∙ is)
+
+pub counts_on : (before old : Wire) (found : FrameCounts) → before ≡ old → CountsOf before found → CountsOf old found
+counts_on before old found same counted config steps fits is = counted config steps fits (same ∙ is)
+
+-- the steps up to the next one
+take_next : (steps : List Step) (i : ℕ) (other : Step) → i < length steps → take (i + 1) steps ≡ take i steps ++ get_or steps i other ∷ []
+take_next [] i other within = absurd (omega arith)
+take_next (s ∷ ss) zero other within = refl
+take_next (s ∷ ss) (suc i) other within =
+    let same : suc i + 1 ≡ suc (i + 1) = omega arith in
+    ap (λ (k : ℕ). take k (s ∷ ss)) same ∙ ap (λ ts. s ∷ ts) (take_next ss i other (omega arith))
+
+pub ran_next : (config : Config) (steps : List Step) (i : ℕ) (other : Step) (rs rs_after : List Reply) (r : Reply) (last after : Wire) → Fits config → i < length steps → Ran (opened config) (take i steps) rs last → Follows last (get_or steps i other) r after → rs_after ≡ rs ++ r ∷ [] → Ran (opened config) (take (i + 1) steps) rs_after after
+ran_next config steps i other rs rs_after r last after fits within ran step pushed =
+    subst (λ (qs : List Reply). Ran (opened config) (take (i + 1) steps) qs after) (sym pushed)
+    (subst (λ (ss : List Step). Ran (opened config) ss (rs ++ r ∷ []) after) (sym (take_next steps i other within))
+    (ran-more config [] (take i steps) rs (get_or steps i other) r last after fits ran step))

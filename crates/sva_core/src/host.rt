@@ -1,0 +1,151 @@
+//! What the world keeps, and the steps of spaces and frames by numbers.
+
+ghost use Rattle.std.specs.Prelude.{◌≡◌, ◌≤◌, ◌^◌, count_by, IfOk};
+ghost use Rattle.sva_frames.specs.Frames.{is_free, is_mapped, is_withheld};
+ghost use Rattle.sva_step.specs.declared.limits.Config.{Config};
+ghost use Rattle.sva_step.specs.declared.steps.Step.TheVariants as step;
+ghost use Rattle.sva_model.specs.State.{opened};
+ghost use Rattle.sva_model.specs.Wire.{wire};
+ghost use Rattle.sva_wire.specs.Host.{IsIdle, IsOfSpaces};
+ghost use Rattle.sva_core.specs.Pieces.{ByNumbers, Counted};
+
+use crate::live::{Live, place_of};
+use crate::pages;
+use std::alloc::{AllocError, Global};
+use std::marker::Model;
+use sva_frames::{Counts, FramePool};
+use sva_space::Space;
+use sva_step::{Answer, Config, Refusal, Step};
+
+/// How many spaces live at most.
+const MOST_SPACES: usize = 64;
+
+/// Numbers are below this.
+const NUMBERS: u64 = 1 << 63;
+
+/// The frames, the live spaces and the counters. Contracts see what a host keeps of the records. It must be spent.
+pub struct Host {
+    alloc: Global,
+    endpoints: u64,
+    workers: u64,
+    pool: FramePool,
+    spaces: Vec<Live>,
+
+    // The next number of a space.
+    next_space: u64,
+
+    // The next number of a binding, of a message and of a cookie: no step gives one yet.
+    first: u64,
+}
+
+impl Model for Host {
+    ghost use Rattle.sva_model.specs.Wire.{Wire};
+
+    ghost Value = { Wire };
+
+    ghost use Rattle.sva_core.specs.Inner.{wire_of, IsHost};
+
+    ghost view = { wire_of };
+
+    ghost invariant = { IsHost };
+}
+
+impl Host {
+    /// The host of a config that fits, with no space and each frame free.
+    pub fn open(alloc: Global, config: Config) -> Result<Host, AllocError>
+        requires first { config.first ≤ 2 ^ 63 }
+        requires frames { config.frames ≤ 4096 }
+        ensures { IfOk result (λ host. host ≡ wire (opened config)) }
+    {
+        Ok(Host {
+            alloc,
+            endpoints: config.endpoints,
+            workers: config.workers,
+            pool: FramePool::open(alloc, config.frames as u32)?,
+            spaces: Vec::new(alloc),
+            next_space: config.first,
+            first: config.first,
+        })
+    }
+
+    /// Takes a step of spaces and frames. A refused step changes nothing.
+    pub fn apply(&mut self, step: &Step) -> Result<Answer, Refusal>
+        requires { IsOfSpaces step.now }
+        ensures step { ByNumbers self.old step.now result self.new }
+        ensures idle { IsIdle self.old }
+    {
+        match step {
+            Step::Space => self.space_step(),
+            Step::Map { space, page, write } => self.map_step(*space, *page, *write),
+            Step::Unmap { space, page, count } => self.unmap_step(*space, *page, *count),
+            _ => unreachable!(),
+        }
+    }
+
+    fn space_step(&mut self) -> Result<Answer, Refusal>
+        ensures step { ByNumbers self.old step.Space result self.new }
+        ensures idle { IsIdle self.old }
+    {
+        if self.spaces.len() >= MOST_SPACES {
+            return Err(Refusal::TooManySpaces);
+        }
+        if self.next_space >= NUMBERS {
+            return Err(Refusal::NumbersSpent);
+        }
+        if self.spaces.reserve(1).is_err() {
+            return Err(Refusal::OutOfMemory);
+        }
+        let number = self.next_space;
+        self.next_space += 1;
+        self.spaces.push_reserved(Live {
+            number,
+            space: Space::new(self.alloc),
+        });
+        Ok(Answer::Space { space: number })
+    }
+
+    fn map_step(&mut self, space: u64, page: u64, write: bool) -> Result<Answer, Refusal>
+        ensures step { ByNumbers self.old (step.Map space page write) result self.new }
+        ensures idle { IsIdle self.old }
+    {
+        let Some(place) = place_of(&self.spaces, space) else {
+            return Err(Refusal::NoSuchSpace);
+        };
+        pages::map_page(&mut self.spaces[place].space, &mut self.pool, page, write)
+    }
+
+    fn unmap_step(&mut self, space: u64, page: u64, count: u64) -> Result<Answer, Refusal>
+        ensures step { ByNumbers self.old (step.Unmap space page count) result self.new }
+        ensures idle { IsIdle self.old }
+    {
+        let Some(place) = place_of(&self.spaces, space) else {
+            return Err(Refusal::NoSuchSpace);
+        };
+        pages::unmap_pages(&mut self.spaces[place].space, &mut self.pool, page, count)
+    }
+
+    /// How many frames are at each place.
+    pub fn counts(&self) -> Counts
+        ensures { Counted self.now result }
+    {
+        self.pool.counts()
+    }
+
+    /// Takes a host apart.
+    pub fn close(self) {
+        let Host {
+            alloc: _,
+            endpoints: _,
+            workers: _,
+            mut pool,
+            mut spaces,
+            next_space: _,
+            first: _,
+        } = self;
+        while let Some(live) = spaces.pop() {
+            let Live { number: _, space } = live;
+            pages::give_all(space, &mut pool);
+        }
+        spaces.destroy_empty();
+    }
+}

@@ -1,0 +1,125 @@
+//! Pages and frames: what a step does to one space and to the pool.
+
+ghost use Rattle.std.specs.Prelude.{◌≡◌, ◌<◌, ◌≤◌, ◌+◌, ◌^◌, true};
+ghost use Rattle.sva_space.specs.Pages.{IsRising};
+ghost use Rattle.sva_wire.specs.Host.{frames_of, freed, without};
+ghost use Rattle.sva_core.specs.Seen.{pages_seen, places_seen};
+ghost use Rattle.sva_core.specs.Owned.{Owns, Balanced, Spent};
+ghost use Rattle.sva_core.specs.Pieces.{are_mapped, MapsPage, UnmapsPages};
+
+use sva_frames::FramePool;
+use sva_space::Space;
+use sva_step::{Answer, FrameList, Refusal};
+
+/// Page numbers are below this.
+const PAGES: u64 = 1 << 36;
+
+/// How many pages a space has at most.
+const MOST_MAPPED: usize = 1024;
+
+/// How many pages one step unmaps at most.
+const MOST_UNMAPPED: u64 = 48;
+
+/// Maps a page to the lowest free frame.
+pub fn map_page(
+    space: &mut Space,
+    pool: &mut FramePool,
+    page: u64,
+    write: bool,
+) -> Result<Answer, Refusal>
+    ensures step { MapsPage (pages_seen space.old) (places_seen pool.old) page write result (pages_seen space.new) (places_seen pool.new) }
+    ensures balanced { Balanced space.old pool.old space.new pool.new }
+{
+    if page >= PAGES {
+        return Err(Refusal::PageRange);
+    }
+    if space.find(page).is_some() {
+        return Err(Refusal::Mapped);
+    }
+    if space.len() >= MOST_MAPPED {
+        return Err(Refusal::SpaceFull);
+    }
+    let Some(frame) = pool.take() else {
+        return Err(Refusal::NoFrame);
+    };
+    let number = frame.number();
+    match space.map(page, frame, write) {
+        Ok(()) => Ok(Answer::Frame { frame: number }),
+        Err((frame, _refused)) => {
+            pool.give(frame);
+            Err(Refusal::OutOfMemory)
+        }
+    }
+}
+
+/// Takes `count` pages in a row out of a space, and gives their frames back.
+pub fn unmap_pages(
+    space: &mut Space,
+    pool: &mut FramePool,
+    page: u64,
+    count: u64,
+) -> Result<Answer, Refusal>
+    requires { Owns space.old pool.old }
+    ensures step { UnmapsPages (pages_seen space.old) (places_seen pool.old) page count result (pages_seen space.new) (places_seen pool.new) }
+    ensures balanced { Balanced space.old pool.old space.new pool.new }
+{
+    if count < 1 || count > MOST_UNMAPPED {
+        return Err(Refusal::BadCount);
+    }
+    if page > PAGES - count {
+        return Err(Refusal::PageRange);
+    }
+    if !are_mapped(space, page, count) {
+        return Err(Refusal::NotMapped);
+    }
+    let frames = take_out(space, pool, page, count);
+    Ok(Answer::FreeFrames { frames })
+}
+
+/// Whether each of `count` pages in a row is mapped.
+fn are_mapped(space: &Space, page: u64, count: u64) -> bool
+    requires { page + count ≤ 2 ^ 36 }
+    ensures mapped { result ≡ are_mapped (pages_seen space.now) page count }
+    ensures rising { 0 < count → IsRising space.now }
+{
+    for number in 0..count {
+        if space.find(page + number).is_none() {
+            return false;
+        }
+    }
+    true
+}
+
+/// Takes `count` pages in a row out of a space where each of them is mapped, and gives their frames back.
+fn take_out(space: &mut Space, pool: &mut FramePool, page: u64, count: u64) -> FrameList
+    requires range { page + count ≤ 2 ^ 36 }
+    requires few { count ≤ 48 }
+    requires mapped { are_mapped (pages_seen space.old) page count ≡ true }
+    requires rising { IsRising space.old }
+    requires owned { Owns space.old pool.old }
+    ensures frames { result ≡ frames_of (pages_seen space.old) page count }
+    ensures pages { pages_seen space.new ≡ without page count (pages_seen space.old) }
+    ensures places { places_seen pool.new ≡ freed (places_seen pool.old) result }
+    ensures balanced { Balanced space.old pool.old space.new pool.new }
+{
+    let mut frames = FrameList::new();
+    for number in 0..count {
+        let Some((frame, _write)) = space.unmap(page + number) else {
+            unreachable!();
+        };
+        frames.push(frame.number());
+        pool.give(frame);
+    }
+    frames
+}
+
+/// Ends a space: its frames are given back.
+pub fn give_all(mut space: Space, pool: &mut FramePool)
+    requires { Owns space pool.old }
+    ensures { Spent space pool.old pool.new }
+{
+    while let Some((_page, frame, _write)) = space.pop_first() {
+        pool.give(frame);
+    }
+    space.close();
+}

@@ -1,10 +1,12 @@
--- Laws of the grammar, over every word, every text and every scenario.
+-- Laws of the grammar, over every word, every text and every scenario, and of the report.
 use Rattle.std.specs.Prelude.{◌≡◌, ◌↔◌, ℕ, ◌+◌, ◌^◌, ◌<◌, ◌==◌, if◌then◌else◌, Bool, true, false, List, [], ◌∷◌, ◌++◌, length, count_by, codes, decimal, flat_map, map, Ok}
 use Rattle.std.specs.List.{AllByRecursion, join_with_byte}
 use Rattle.sva_step.specs.declared.steps.Step.{Step}
 use Rattle.sva_step.specs.declared.steps.Step.TheVariants.{Space, Map, Unmap}
 use Rattle.sva_step.specs.declared.limits.Config.{Config}
+use Rattle.sva_model.specs.Claims.{Fits}
 use Rattle.sva_scenario.specs.Grammar.{Script, is_too_large, lines_of, number, scenario_of}
+use Rattle.sva_scenario.specs.Report.{is_fit}
 
 -- a word writes a number exactly where it is the number's decimal text
 abbrev pub NumbersAreDecimal : Type 0
@@ -56,3 +58,7 @@ script_text script = text_of (config_words script.config ∷ map step_words scri
 abbrev pub ScriptsAreRead : Type 0
 ScriptsAreRead = (script : Script) → HasConfigLine script.config → AllByRecursion HasLine script.steps → is_too_large (script_text script) ≡ false
     → scenario_of (script_text script) ≡ Ok script
+
+-- the test of a config passes exactly those that are within their limits
+abbrev pub ConfigsAreTested : Type 0
+ConfigsAreTested = (config : Config) → (is_fit config ≡ true) ↔ Fits config

@@ -1,6 +1,8 @@
 -- What is read from a reader and written to a writer, where their bytes are known.
-use Rattle.std.specs.Prelude.{◌≡◌, ℕ, List, ◌++◌, Option}
+use Rattle.std.specs.Prelude.{◌≡◌, ℕ, ◌+◌, List, ◌++◌, Option, Result, Ok, Err}
 use Rattle.std.specs.Io.KnownBytes.{Appends}
+use Rattle.sva_scenario.specs.declared.streams.DriveFault.{DriveFault}
+use Rattle.sva_scenario.specs.declared.streams.DriveFault.TheVariants.{Read, Write, Memory}
 use Rattle.sva_scenario.specs.declared.streams.Told.{Told}
 
 -- no call was made yet
@@ -10,3 +12,15 @@ IsNew told = (told.calls ≡ 0) × (told.failures ≡ 0)
 -- known bytes grow by a front of some bytes
 abbrev pub AppendsPrefix : Option (List ℕ) → Option (List ℕ) → List ℕ → Type 0
 AppendsPrefix old new bytes = (front : List ℕ) × (rest : List ℕ) × (front ++ rest ≡ bytes) × Appends old new front
+
+-- known bytes grow by some bytes, or by a front of them where the result is a fault
+abbrev pub Writes : {A : Type 0} → Option (List ℕ) → Option (List ℕ) → List ℕ → Result A DriveFault → Type 0
+Writes old new bytes (Ok x) = Appends old new bytes
+Writes old new bytes (Err fault) = AppendsPrefix old new bytes
+
+-- the writer's failures are told: one more where the fault is `Write`, and none where there is no fault or memory lacks
+abbrev pub Tells : {A W : Type 0} → Told W → Told W → Result A DriveFault → Type 0
+Tells old new (Ok x) = new.failures ≡ old.failures
+Tells old new (Err Read) = ⊥
+Tells old new (Err Write) = new.failures ≡ old.failures + 1
+Tells old new (Err Memory) = new.failures ≡ old.failures

@@ -1,4 +1,4 @@
-ghost use Rattle.std.specs.Prelude.{◌≡◌, ◌++◌, OnOk, OnErr};
+ghost use Rattle.std.specs.Prelude.{◌≡◌, ◌+◌, ◌≤◌, ◌++◌, length, OnOk, OnErr};
 ghost use Rattle.sva_scenario.specs.Faults.{cause_name, line_fault_text};
 
 use itoa::Buffer;
@@ -47,6 +47,7 @@ impl LineFault {
     /// Appends `line L Cause`, with no line end. Where memory lacks, the items stay as they were.
     pub fn write(&self, out: &mut Vec<u8>) -> Result<(), AllocError>
         ensures ok { OnOk result (out.new.items ≡ out.old.items ++ line_fault_text self.now) }
+        ensures short { OnOk result (length out.new.items ≤ length out.old.items + 64) }
         ensures err { OnErr result (out.new.items ≡ out.old.items) }
     {
         let mut digits = Buffer::new();

@@ -17,7 +17,7 @@ fn ends(alloc: Global, text: &[u8], want: &str) -> Result<bool, AllocError> {
 }
 
 /// A text of a config and so many lines of steps or comments.
-fn long_text(alloc: Global, lines: usize, line: &[u8]) -> Result<Vec<u8>, AllocError> {
+pub(crate) fn long_text(alloc: Global, lines: usize, line: &[u8]) -> Result<Vec<u8>, AllocError> {
     let mut text = Vec::from_slice(alloc, b"config 1 4 1\n")?;
     for _ in 0..lines {
         text.extend_from_slice(line)?;
@@ -131,8 +131,14 @@ fn reads_the_steps(rt: HostRuntime) -> Result<(), Fail> {
 
 /// Gives a byte a call, so many times, and fails then.
 #[derive(Drop)]
-struct Broken {
+pub(crate) struct Broken {
     left: u64,
+}
+
+impl Broken {
+    pub(crate) fn new(left: u64) -> Self {
+        Broken { left }
+    }
 }
 
 impl Read for Broken {
@@ -156,7 +162,7 @@ fn reads_to_the_end(rt: HostRuntime) -> Result<(), Fail> {
     // 256 calls of 4096 bytes, one of 3, and the one that meets the end.
     assert_eq!(rt; (reader.calls, reader.failures), (258, 0));
     for (left, calls, failures) in [(5, 6, 1), (u64::MAX, 2_097_152, 0)] {
-        let mut broken = Told::new(Broken { left });
+        let mut broken = Told::new(Broken::new(left));
         assert_eq!(rt; read_all(alloc, &mut broken).err(), Some(DriveFault::Read));
         assert_eq!(rt; (broken.calls, broken.failures), (calls, failures));
     }
@@ -165,14 +171,14 @@ fn reads_to_the_end(rt: HostRuntime) -> Result<(), Fail> {
 
 /// Takes a byte a call, so many times, and fails then.
 #[derive(Drop)]
-struct Slow {
-    taken: [u8; 64],
-    len: usize,
+pub(crate) struct Slow {
+    pub(crate) taken: [u8; 64],
+    pub(crate) len: usize,
     most: usize,
 }
 
 impl Slow {
-    fn new(most: usize) -> Self {
+    pub(crate) fn new(most: usize) -> Self {
         Slow {
             taken: [0; 64],
             len: 0,

@@ -1,0 +1,198 @@
+-- Lemmas on the report of some steps as it is written, line by line.
+use Rattle.std.proofs.Common.{◌≡◌, ◌<◌, ◌≤◌, ◌^◌, ◌∙◌, ap, sym, subst, arith, ◌*◌, ℕ, suc, List, [], ◌∷◌, ◌++◌, append_assoc, length, get_or, refl, Bool, true, false, Option, Result, Ok, Err}
+use Rattle.std.specs.Prelude.{codes, decimal}
+use Rattle.std.specs.Io.KnownBytes.{Appends}
+use Rattle.std.proofs.KnownBytes.{Appends-nil, Appends-trans}
+use Rattle.std.proofs.lemmas.List.{length-append}
+use Rattle.std.proofs.lemmas.List.Concat.{flat_map-cons}
+use Rattle.std.proofs.lemmas.Fmt.{length-decimal-le}
+use Rattle.sva_frames.specs.declared.pool.Counts.{Counts as FrameCounts}
+use Rattle.sva_step.specs.declared.limits.Config.{Config}
+use Rattle.sva_step.specs.declared.answers.Answer.{Answer}
+use Rattle.sva_step.specs.declared.answers.Answer.TheVariants as answer
+use Rattle.sva_step.specs.declared.refusals.Refusal.{Refusal}
+use Rattle.sva_step.specs.declared.refusals.Refusal.TheVariants.{BadConfig, OutOfMemory}
+use Rattle.sva_step.specs.declared.steps.Step.{Step}
+use Rattle.sva_step.specs.Refusals.{name_of, number_of, refusal_text}
+use Rattle.sva_step.specs.Texts.{answer_text, frames_text}
+use Rattle.sva_step.proofs.RefusalLemmas.{number_of-le}
+use Rattle.sva_model.specs.State.{World}
+use Rattle.sva_model.specs.Claims.{Fits}
+use Rattle.sva_model.specs.Steps.{Counts, Reply, reply, replies, next, run, counts, world_after}
+use Rattle.sva_model.specs.Wire.{Wire, wire}
+use Rattle.sva_core.specs.Reached.{FollowsAt, Follows, CountsOf}
+use Rattle.sva_scenario.specs.declared.streams.DriveFault.{DriveFault}
+use Rattle.sva_scenario.specs.Report.{ended, reply_text, counts_text, steps_report}
+use Rattle.sva_scenario.specs.Streams.{AppendsPrefix, Writes}
+use Rattle.sva_scenario.proofs.StreamLemmas.{AppendsPrefix-after, AppendsPrefix-longer}
+
+-- ---- One line after another
+
+steps_report-step : (w : World) (step : Step) (steps : List Step) → steps_report w (step ∷ steps) ≡ ended (reply_text (reply w step)) ++ steps_report (next w step) steps
+unfolding steps_report replies
+steps_report-step w step steps =
+    ap (λ l. l ++ ended (counts_text (counts (run (next w step) steps)))) (flat_map-cons (λ r. ended (reply_text r)) (reply w step) (replies (next w step) steps))
+    ∙ append_assoc (ended (reply_text (reply w step))) _ _
+
+steps_report-end : (w : World) → steps_report w [] ≡ ended (counts_text (counts w))
+unfolding steps_report replies
+steps_report-end w = refl
+
+run_one : (w : World) (steps : List Step) (step : Step) → run w (steps ++ step ∷ []) ≡ next (run w steps) step
+run_one w [] step = refl
+run_one w (first ∷ steps) step = run_one (next w first) steps step
+
+-- a step that wasn't refused for want of memory is the definitions'
+followed : (w : World) (step : Step) (result : Reply) (after : Wire) → (result ≡ Err OutOfMemory → ⊥) → FollowsAt w step result after
+    → (result ≡ reply w step) × (after ≡ wire (next w step))
+followed w step (Ok a) after ne h = h
+followed w step (Err OutOfMemory) after ne h = absurd (ne refl)
+followed w step (Err _) after ne h = h
+
+-- what the host keeps is the world's after the steps that were taken; what is written, and the report of the steps that are
+-- left, are the whole
+pub record Reporting (config : Config) (seen : Wire) (left : List Step) (whole : List ℕ) (old now : Option (List ℕ)) : Type 0 where
+  pub fits : Fits config
+  pub taken : List Step
+  pub is_seen : seen ≡ wire (world_after config taken)
+  pub written : List ℕ
+  pub appended : Appends old now written
+  pub rest : written ++ steps_report (world_after config taken) left ≡ whole
+
+pub reporting_start : (config : Config) (taken steps : List Step) (seen : Wire) (known : Option (List ℕ)) → Fits config → seen ≡ wire (world_after config taken)
+    → Reporting config seen steps (steps_report (world_after config taken) steps) known known
+reporting_start config taken steps seen known f e =
+    record { fits = f; taken = taken; is_seen = e; written = []; appended = Appends-nil known; rest = refl }
+
+-- the line of the next step, and the report of those behind it
+line_and_rest : (w : World) (step : Step) (left : List Step) (result : Reply) → result ≡ reply w step
+    → ended (reply_text result) ++ steps_report (next w step) left ≡ steps_report w (step ∷ left)
+line_and_rest w step left result e = ap (λ r. ended (reply_text r) ++ steps_report (next w step) left) e ∙ sym (steps_report-step w step left)
+
+pub reporting_step : (config : Config) (before after : Wire) (step : Step) (left : List Step) (whole : List ℕ) (old now new : Option (List ℕ)) (result : Reply)
+    → Reporting config before (step ∷ left) whole old now → (result ≡ Err OutOfMemory → ⊥) → Follows before step result after
+    → Appends now new (ended (reply_text result)) → Reporting config after left whole old new
+reporting_step config before after step left whole old now new result r ne follows appended =
+    let w = world_after config r.taken in
+    let one = run_one _ r.taken step in
+    let is = followed w step result after ne (follows config r.taken r.fits r.is_seen) in
+    record {
+      fits = r.fits;
+      taken = r.taken ++ step ∷ [];
+      is_seen = is.1 ∙ ap wire (sym one);
+      written = r.written ++ ended (reply_text result);
+      appended = Appends-trans old now new r.written (ended (reply_text result)) r.appended appended;
+      rest =
+          append_assoc r.written (ended (reply_text result)) _
+          ∙ ap (λ v. r.written ++ (ended (reply_text result) ++ steps_report v left)) one
+          ∙ ap (λ l. r.written ++ l) (line_and_rest w step left result is.0)
+          ∙ r.rest;
+    }
+
+-- a front of the next line is written, and so a front of the whole
+pub reporting_cut : (config : Config) (before after : Wire) (step : Step) (left : List Step) (whole : List ℕ) (old now new : Option (List ℕ)) (result : Reply)
+    → Reporting config before (step ∷ left) whole old now → (result ≡ Err OutOfMemory → ⊥) → Follows before step result after
+    → AppendsPrefix now new (ended (reply_text result)) → AppendsPrefix old new whole
+reporting_cut config before after step left whole old now new result r ne follows front =
+    let w = world_after config r.taken in
+    let is = followed w step result after ne (follows config r.taken r.fits r.is_seen) in
+    let line = ended (reply_text result) in
+    let all = append_assoc r.written line (steps_report (next w step) left) ∙ ap (λ l. r.written ++ l) (line_and_rest w step left result is.0) ∙ r.rest in
+    subst (AppendsPrefix old new) all
+    (AppendsPrefix-longer old new (r.written ++ line) (steps_report (next w step) left) (AppendsPrefix-after old now new r.written line r.appended front))
+
+-- what is written is a front of the whole
+pub reporting_stop : (config : Config) (seen : Wire) (left : List Step) (whole : List ℕ) (old now : Option (List ℕ)) → Reporting config seen left whole old now
+    → AppendsPrefix old now whole
+reporting_stop config seen left whole old now r = (r.written, steps_report (world_after config r.taken) left, r.rest, r.appended)
+
+-- the counts as the definitions have them
+abbrev pub as_counts : FrameCounts → Counts
+as_counts found = record { free = found.free; mapped = found.mapped; withheld = found.withheld }
+
+writes_after : {A : Type 0} (old now new : Option (List ℕ)) (first more : List ℕ) (result : Result A DriveFault) → Appends old now first → Writes now new more result
+    → Writes old new (first ++ more) result
+writes_after old now new first more (Ok x) p q = Appends-trans old now new first more p q
+writes_after old now new first more (Err fault) p q = AppendsPrefix-after old now new first more p q
+
+pub reporting_end : {A : Type 0} (config : Config) (seen : Wire) (whole : List ℕ) (old now new : Option (List ℕ)) (found : FrameCounts) (result : Result A DriveFault)
+    → Reporting config seen [] whole old now → CountsOf seen found → Writes now new (ended (counts_text (as_counts found))) result → Writes old new whole result
+reporting_end config seen whole old now new found result r of line =
+    let w = world_after config r.taken in
+    let same = of config r.taken r.fits r.is_seen in
+    let counted : as_counts found ≡ counts w = λ i. record { free = same.0 i; mapped = same.1 i; withheld = same.2 i } in
+    let all = ap (λ c. r.written ++ ended (counts_text c)) counted ∙ ap (λ l. r.written ++ l) (sym (steps_report-end w)) ∙ r.rest in
+    subst (λ bytes. Writes old new bytes result) all (writes_after old now new r.written (ended (counts_text (as_counts found))) result r.appended line)
+
+-- ---- How long a line is
+
+decimal_short : (n : ℕ) → n < 2 ^ 64 → length (decimal n) ≤ 20
+decimal_short n small = length-decimal-le 20 n (omega arith) (omega arith) small
+
+name_short : (refusal : Refusal) → length (name_of refusal) ≤ 32
+name_short BadConfig = omega arith
+name_short _ = omega arith
+
+pub refusal_short : (refusal : Refusal) → length (refusal_text refusal) ≤ 1024
+refusal_short refusal =
+    let number = number_of-le refusal in
+    let digits = decimal_short (number_of refusal) (omega arith) in
+    let name = name_short refusal in
+    simp length-append (omega arith)
+
+-- What the type of answers says of those that have numbers: each is one of 64 bits, and a list of frames has 48 at most.
+pub record HasRanges (P : Answer → Type 0) : Type 0 where
+  pub space : (n : ℕ) → P (answer.Space n) → n < 2 ^ 64
+  pub frame : (n : ℕ) → P (answer.Frame n) → n < 2 ^ 64
+  pub free : (frames : List ℕ) → P (answer.FreeFrames frames) → (length frames ≤ 48) × ((i : ℕ) → i < length frames → get_or frames i 0 < 2 ^ 64)
+  pub withheld : (frames : List ℕ) → P (answer.WithheldFrames frames) → (length frames ≤ 48) × ((i : ℕ) → i < length frames → get_or frames i 0 < 2 ^ 64)
+  pub binding : (n m : ℕ) → P (answer.Binding n m) → (n < 2 ^ 64) × (m < 2 ^ 64)
+  pub itag : (n : ℕ) → P (answer.Itag n) → n < 2 ^ 64
+  pub job : (n m k : ℕ) → P (answer.JobTaken n m k) → (n < 2 ^ 64) × (m < 2 ^ 64) × (k < 2 ^ 64)
+  pub success : (n : ℕ) → P (answer.Success n) → n < 2 ^ 64
+  pub tag : (n : ℕ) → P (answer.Tag n) → n < 2 ^ 64
+  pub in_use : (n m : ℕ) → P (answer.Use n m) → (n < 2 ^ 64) × (m < 2 ^ 64)
+  pub group : (n : ℕ) → P (answer.Group n) → n < 2 ^ 64
+  pub sent : (n : ℕ) → P (answer.Sent n) → n < 2 ^ 64
+  pub freed : (n : ℕ) → P (answer.Freed n) → n < 2 ^ 64
+
+frames_short : (frames : List ℕ) → ((i : ℕ) → i < length frames → get_or frames i 0 < 2 ^ 64) → length (frames_text frames) ≤ 21 * length frames
+frames_short [] h = omega arith
+frames_short (frame ∷ frames) h =
+    let first = decimal_short frame (h 0 (omega arith)) in
+    let rest = frames_short frames (λ i below. h (suc i) (omega arith)) in
+    let joined = ap length (flat_map-cons (λ f. codes " " ++ decimal f) frame frames) in
+    let split = length-append (codes " " ++ decimal frame) (frames_text frames) in
+    let word = length-append (codes " ") (decimal frame) in
+    omega arith
+
+pub answer_short : (P : Answer → Type 0) → HasRanges P → (a : Answer) → P a → length (answer_text a) ≤ 1024
+answer_short P r (answer.Space n) h = let d = decimal_short n (r.space n h) in simp length-append (omega arith)
+answer_short P r (answer.Frame n) h = let d = decimal_short n (r.frame n h) in simp length-append (omega arith)
+answer_short P r (answer.FreeFrames frames) h = let f = r.free frames h in let d = frames_short frames f.1 in simp length-append (omega arith)
+answer_short P r (answer.WithheldFrames frames) h = let f = r.withheld frames h in let d = frames_short frames f.1 in simp length-append (omega arith)
+answer_short P r (answer.Binding n m) h =
+    let f = r.binding n m h in let d = decimal_short n f.0 in let e = decimal_short m f.1 in simp length-append (omega arith)
+answer_short P r (answer.Itag n) h = let d = decimal_short n (r.itag n h) in simp length-append (omega arith)
+answer_short P r (answer.JobTaken n m k) h =
+    let f = r.job n m k h in
+    let d = decimal_short n f.0 in
+    let e = decimal_short m f.1 in
+    let i = decimal_short k f.2 in
+    simp length-append (omega arith)
+answer_short P r (answer.Success n) h = let d = decimal_short n (r.success n h) in simp length-append (omega arith)
+answer_short P r (answer.Tag n) h = let d = decimal_short n (r.tag n h) in simp length-append (omega arith)
+answer_short P r (answer.Use n m) h =
+    let f = r.in_use n m h in let d = decimal_short n f.0 in let e = decimal_short m f.1 in simp length-append (omega arith)
+answer_short P r (answer.Group n) h = let d = decimal_short n (r.group n h) in simp length-append (omega arith)
+answer_short P r (answer.Sent n) h = let d = decimal_short n (r.sent n h) in simp length-append (omega arith)
+answer_short P r (answer.Freed n) h = let d = decimal_short n (r.freed n h) in simp length-append (omega arith)
+answer_short P r _ h = omega arith
+
+pub reply_short : (P : Reply → Type 0) → HasRanges (λ a. P (Ok a)) → (result : Reply) → P result → length (reply_text result) ≤ 1024
+reply_short P r (Ok a) h = answer_short (λ a. P (Ok a)) r a h
+reply_short P r (Err refusal) h = refusal_short refusal
+
+-- a test that a fact makes true is false where the fact isn't so
+pub not_so : (test : Bool) (P : Type 0) → (P → test ≡ true) → test ≡ false → P → ⊥
+not_so test P told off p = absurd (cc (told p))

@@ -1,0 +1,62 @@
+use Rattle.std.proofs.Common.{◌≡◌, ◌∙◌, arith, List, subst, Err, Ok}
+use Rattle.sva_step.specs.declared.steps.Step.{Step}
+use Rattle.sva_step.specs.declared.refusals.Refusal.TheVariants.{OutOfMemory}
+use Rattle.sva_model.specs.Steps.{world_after}
+use Rattle.sva_scenario.specs.Report.{steps_report}
+use Rattle.sva_scenario.proofs.ReportLemmas.{not_so, Reporting, reporting_start, reporting_step, reporting_cut, reporting_stop, reporting_end}
+use Rattle.sva_scenario.proofs.ScriptLemmas.{next_built, next_left, none_left, writes_front}
+use Rattle.sva_scenario.proofs.driving.report_steps.Goals as goal
+
+pub loop-step-init : goal.loop-step-init
+loop-step-init g c = record {
+  reports = λ config taken fits seen. reporting_start config taken c.args.steps.now c.args.world.now (g.W.Write.contents c.args.writer.now.inner) fits seen;
+  built = c.requires.built;
+  calls = omega arith;
+  failures = c.requires.new.1;
+}
+
+pub take_step-reply-requires : goal.take_step-reply-requires
+take_step-reply-requires g c = (next_built c.args.steps.now c.loop-step.step-index c.loop-step-test.true c.loop-step.invariant.built).0
+
+pub returns-then-lacks_memory-clause-report : goal.returns-then-lacks_memory-clause-report
+returns-then-lacks_memory-clause-report g c = λ config taken fits seen.
+    reporting_stop config c.loop-step.world _ _ _ _ (c.loop-step.invariant.reports config taken fits seen)
+
+pub returns-in_err-write_reply-clause-report : goal.returns-in_err-write_reply-clause-report
+returns-in_err-write_reply-clause-report g c = λ config taken fits seen.
+    let left = next_left c.args.steps.now c.loop-step.step-index c.loop-step-test.true in
+    let whole = steps_report (world_after config taken) c.args.steps.now in
+    let so_far = subst (λ (l : List Step). Reporting config c.loop-step.world l whole (g.W.Write.contents c.args.writer.now.inner) (g.W.Write.contents c.loop-step.writer.inner)) left (c.loop-step.invariant.reports config taken fits seen) in
+    writes_front _ _ _ c.from_residual.result c.from_residual.ensures.0
+    (reporting_cut config c.loop-step.world c.take_step-reply.new.world _ _ _ _ _ _ c.take_step-reply.result so_far
+    (not_so c.lacks_memory.result (c.take_step-reply.result ≡ Err OutOfMemory) c.lacks_memory.ensures.1 c.if-lacks_memory.false) c.take_step-reply.ensures.step
+    c.in_err-write_reply.ensures.written)
+
+pub loop-step-preserved : goal.loop-step-preserved
+loop-step-preserved g c = record {
+  reports = λ config taken fits seen.
+      let left = next_left c.args.steps.now c.loop-step.step-index c.loop-step-test.true in
+      let whole = steps_report (world_after config taken) c.args.steps.now in
+      let so_far = subst (λ (l : List Step). Reporting config c.loop-step.world l whole (g.W.Write.contents c.args.writer.now.inner) (g.W.Write.contents c.loop-step.writer.inner)) left (c.loop-step.invariant.reports config taken fits seen) in
+      reporting_step config c.loop-step.world c.take_step-reply.new.world _ _ _ _ _ _ c.take_step-reply.result so_far
+      (not_so c.lacks_memory.result (c.take_step-reply.result ≡ Err OutOfMemory) c.lacks_memory.ensures.1 c.if-lacks_memory.false) c.take_step-reply.ensures.step
+      c.in_ok-write_reply.ensures.written;
+  built = (next_built c.args.steps.now c.loop-step.step-index c.loop-step-test.true c.loop-step.invariant.built).1;
+  calls = omega (arith, c.write_reply.ensures.calls, c.loop-step.invariant.calls);
+  failures = c.in_ok-write_reply.ensures.told ∙ c.loop-step.invariant.failures;
+}
+
+pub returns-in_err-write_counts-clause-report : goal.returns-in_err-write_counts-clause-report
+returns-in_err-write_counts-clause-report g c = λ config taken fits seen.
+    let none = none_left c.args.steps.now c.loop-step.step-index c.loop-step-test.false in
+    let whole = steps_report (world_after config taken) c.args.steps.now in
+    let so_far = subst (λ (l : List Step). Reporting config c.loop-step.world l whole (g.W.Write.contents c.args.writer.now.inner) (g.W.Write.contents c.loop-step.writer.inner)) none (c.loop-step.invariant.reports config taken fits seen) in
+    writes_front _ _ _ c.from_residual-in_err-write_counts.result c.from_residual-in_err-write_counts.ensures.0
+    (reporting_end {A = Unit {0}} config c.loop-step.world whole _ _ _ c.counts.result (Err c.in_err-write_counts.field-0.0) so_far c.counts.ensures.counts c.in_err-write_counts.ensures.written)
+
+pub returns-clause-report : goal.returns-clause-report
+returns-clause-report g c = λ config taken fits seen.
+    let none = none_left c.args.steps.now c.loop-step.step-index c.loop-step-test.false in
+    let whole = steps_report (world_after config taken) c.args.steps.now in
+    let so_far = subst (λ (l : List Step). Reporting config c.loop-step.world l whole (g.W.Write.contents c.args.writer.now.inner) (g.W.Write.contents c.loop-step.writer.inner)) none (c.loop-step.invariant.reports config taken fits seen) in
+    reporting_end {A = Unit {0}} config c.loop-step.world whole _ _ _ c.counts.result (Ok tt) so_far c.counts.ensures.counts c.in_ok-write_counts.ensures.written

@@ -1,0 +1,108 @@
+ghost use Rattle.std.specs.Prelude.{◌≡◌, ◌+◌, ◌^◌, ◌<◌, ◌≤◌, ◌++◌, length, decimal, OnOk};
+ghost use Rattle.sva_scenario.specs.Faults.{line_fault_text};
+ghost use Rattle.sva_scenario.specs.Report.{ended, reply_text, counts_text};
+ghost use Rattle.sva_scenario.specs.Streams.{Writes, Tells};
+
+use crate::faults::LineFault;
+use crate::streams::{DriveFault, Told};
+use crate::writing::write_all;
+use itoa::Buffer;
+use std::alloc::AllocError;
+use std::io::Write;
+use sva_frames::Counts;
+use sva_step::{Answer, Refusal};
+
+/// Writes the line of a step: its answer, or its refusal. What stands in `line` is lost.
+pub fn write_reply<W: Write>(
+    line: &mut Vec<u8>,
+    reply: &Result<Answer, Refusal>,
+    writer: &mut Told<W>,
+) -> Result<(), DriveFault>
+    requires short { length (reply_text reply.now) ≤ 1024 }
+    requires calls { writer.old.calls + 1025 < 2 ^ 64 }
+    requires failures { writer.old.failures + 1 < 2 ^ 64 }
+    ensures written { Writes (W.contents writer.old.inner) (W.contents writer.new.inner) (ended (reply_text reply.now)) result }
+    ensures told { Tells writer.old writer.new result }
+    ensures calls { writer.new.calls ≤ writer.old.calls + 1025 }
+{
+    line.clear();
+    let put = match reply {
+        Ok(answer) => answer.write(line),
+        Err(refusal) => refusal.write(line),
+    };
+    if put.is_err() {
+        return Err(DriveFault::Memory);
+    }
+    end_line(line, writer)
+}
+
+/// Writes the line of a line fault.
+pub fn write_fault<W: Write>(
+    line: &mut Vec<u8>,
+    fault: &LineFault,
+    writer: &mut Told<W>,
+) -> Result<(), DriveFault>
+    requires calls { writer.old.calls + 1025 < 2 ^ 64 }
+    requires failures { writer.old.failures + 1 < 2 ^ 64 }
+    ensures written { Writes (W.contents writer.old.inner) (W.contents writer.new.inner) (ended (line_fault_text fault.now)) result }
+    ensures told { Tells writer.old writer.new result }
+{
+    line.clear();
+    if fault.write(line).is_err() {
+        return Err(DriveFault::Memory);
+    }
+    end_line(line, writer)
+}
+
+/// Writes the last line, that of the counts.
+pub fn write_counts<W: Write>(
+    line: &mut Vec<u8>,
+    counts: &Counts,
+    writer: &mut Told<W>,
+) -> Result<(), DriveFault>
+    requires calls { writer.old.calls + 1025 < 2 ^ 64 }
+    requires failures { writer.old.failures + 1 < 2 ^ 64 }
+    ensures written { Writes (W.contents writer.old.inner) (W.contents writer.new.inner)
+        (ended (counts_text (record { free = counts.now.free; mapped = counts.now.mapped; withheld = counts.now.withheld }))) result }
+    ensures told { Tells writer.old writer.new result }
+{
+    line.clear();
+    if put_counts(line, counts).is_err() {
+        return Err(DriveFault::Memory);
+    }
+    end_line(line, writer)
+}
+
+/// Appends `free X mapped Y withheld Z`.
+fn put_counts(line: &mut Vec<u8>, counts: &Counts) -> Result<(), AllocError>
+    ensures text { OnOk result (line.new.items ≡ line.old.items
+        ++ counts_text (record { free = counts.now.free; mapped = counts.now.mapped; withheld = counts.now.withheld })) }
+    ensures short { OnOk result (length line.new.items ≤ length line.old.items + 128) }
+{
+    put_count(line, "free ", counts.free)?;
+    put_count(line, " mapped ", counts.mapped)?;
+    put_count(line, " withheld ", counts.withheld)
+}
+
+/// Appends some words and a number.
+fn put_count(line: &mut Vec<u8>, words: &str, count: u32) -> Result<(), AllocError>
+    ensures text { OnOk result (line.new.items ≡ line.old.items ++ (words.now ++ decimal count)) }
+    ensures short { OnOk result (length line.new.items ≤ length line.old.items + length words.now + 20) }
+{
+    line.extend_from_slice(words.as_bytes())?;
+    line.extend_from_slice(Buffer::new().format(count).as_bytes())
+}
+
+/// Writes what stands in the line, and an LF behind it.
+fn end_line<W: Write>(line: &mut Vec<u8>, writer: &mut Told<W>) -> Result<(), DriveFault>
+    requires calls { writer.old.calls + length line.old.items + 1 < 2 ^ 64 }
+    requires failures { writer.old.failures + 1 < 2 ^ 64 }
+    ensures written { Writes (W.contents writer.old.inner) (W.contents writer.new.inner) (ended line.old.items) result }
+    ensures told { Tells writer.old writer.new result }
+    ensures calls { writer.new.calls ≤ writer.old.calls + length line.old.items + 1 }
+{
+    if line.push(b'\n').is_err() {
+        return Err(DriveFault::Memory);
+    }
+    write_all(writer, line.as_slice())
+}

@@ -8,6 +8,8 @@ ghost use Rattle.sva_model.specs.RowsOfLimits.{RequestTagsSpent, UseSlotsSpent, 
 ghost use Rattle.sva_model.specs.RowsOfRefusals.{CausesOfSpace, CausesOfDropSpace, CausesOfMap, FullSpaceWithoutFrames, FullSpaceWithoutNumbers, CausesOfUnmap, FullQueueWhileStopping, FullQueueWhileDraining, CausesOfBind, BindInReset, CausesOfUnbind, UnbindWithoutNumbers, CausesOfAdvance, CausesAtAUnit, CausesOfWorkers, CausesOfAsk, CausesOfBeginUse, CausesOfEndUseAndEvict, CausesOfFault, FaultWhereDisabled, CausesOfFinish, CausesOfQuit, QuitWithoutNumbers, CausesOfDeliver, CausesOfLook, NoNumberAtAll, BindingsSpent, CookiesOfTwoUnits, CookiesWhileDraining, PumpWithoutNumbers, PumpWithoutTagsAndNumbers, VerdictsWithoutNumbers, DroppedWithoutNumbers, LostWithoutNumbers};
 ghost use Rattle.sva_model.specs.RowsOfDeliveries.{EachKindAtAnOpenUnit, StartAndStopInReset, StartBeforeTheReset, InvalidateInReset, ResponseInReset, StaleResponseInReset, CompletionsInReset, CompletionsAtAnOpenUnit, DoomedWithoutTranslation, CacheFullInReset, ResponsesByCode, MessagesUpInReset, VectorsOfTwoCounts, OwnReset, EachKindAsSent, CountFieldsAsSent};
 ghost use Rattle.sva_model.specs.RowsOfReadings.{LastRequestPastAMarker, MarkerPastAMarker, RequestWithoutLIsNotOrdered, AdvanceOfALiveBinding, AdvanceOfALostBinding, OneNumberOfEachKind, UnmapPastTheLastPage, UnmapWhileDrainedInReset, UnmapWhileInvalidatingInReset, UnmapAfterTheInvalidation, PageNamedTwice, PageRequestForNeither, OtherVerdictsNeedNoFrame, SuccessThatIsNone, JobOfALostBinding, DrainWaitsForOtherPasids, WaitOfAnUnmapDoesNotDrain, StaleGroupsKeepTheirRequests, UnfinishedWhereDisabled, UnfinishedWithoutCredit, GroupWhileStopping, GroupOfAnotherPasid, SecondReset, DoomedRequestsAreOut, FailureBeforeTheStop, EarlierWaitsInReset, OrdersDownStayInOrder, StopBehindAnInvalidate};
+ghost use Rattle.sva_model.specs.RowsOfNames.{NumbersApart, NumbersApartAsSent, NumbersApartAsOrdered, OtherEndpointAsOrdered, CookiesOfTheFirst, CookiesOfTheOneInReset, CookiesOfTheLast, NoTranslationAsSent, FullQueueOfOneUnit, NumbersBelowTheFirst, JobsOfTwoEndpoints, QuitOfOneOfTwo, SecondJobOfAnEndpoint, FullQueueOfABinding, PastOlderMessages, NewerAnswerInPlace, SecondUnmap};
+ghost use Rattle.sva_model.specs.RowsOfBoundaries.{MessagesSpentBeforeBindings, LastNumberOfAReset, LastNumberOfACompletion, LastCookieOfADrain, LastCookieOfAnInvalidation, NoCookieInReset, QuietNeedsNoRoom, FullSpaceAndAnother, LastPageAndLastFrame, GreatestPage, HeldBeforeWritable, LastSlotAndLastTag, StagesInReset, UnmapInEachStage, UnmapWhileStoppingInReset, WaitsAfterAnEarlyReset, CreditAfterAReset, OrdersOverAfterAReset, LabelsBackInReset};
 ghost use Rattle.sva_model.specs.RowsOfWrongRules.{NotFreeWhenSent, NotFreeWhenTaken, NotFreeAtTheReset, NotFreeWhenUnmappedInReset, NotFreedAtTheFirstOfTwo, NotNoneOfEight, DoomedAnswerNotKept, DoomedAnswerNotKeptLater, DoomedTagNotGivenBack, NotFinishedWhileAUseRuns, NoUseHeldAgainstAnother, NoDrainPastAPageRequest, NoResponseByAnUnbind, NoResponseInReset, NotWithheldPastTheLastWait, NoPageInvalidationWhileInvalidating, NotFreeWhileInvalidating, NoResetDonePastOlderMessages, NotReleasedWhileInvalidating, NotReleasedWhileQuiet, NoMarkerPastPageRequests, NoWaitPastABusyTag, NoUseLeftByAReset, NoIndexGivenBackByAQuit, NoQuitWhileAUseRuns, NoQuitWhileARequestIsOut, NoTranslationWhileStopping, NoTranslationOfAnotherSpace, NothingElseInvalidated, NothingOfAPasidLeft};
 
 /// Spaces, bindings, translations, and pages unmapped while they are in use.
@@ -185,4 +187,49 @@ pub fn wrong_rules()
     ensures no_translation_of_another_space { NoTranslationOfAnotherSpace }
     ensures nothing_else_invalidated { NothingElseInvalidated }
     ensures nothing_of_a_pasid_left { NothingOfAPasidLeft }
+{}
+
+/// Runs in which endpoints, spaces, bindings, groups, requests and messages have different numbers, so that one taken for
+/// another would show.
+pub fn names()
+    ensures numbers_apart { NumbersApart }
+    ensures numbers_apart_as_sent { NumbersApartAsSent }
+    ensures numbers_apart_as_ordered { NumbersApartAsOrdered }
+    ensures other_endpoint_as_ordered { OtherEndpointAsOrdered }
+    ensures cookies_of_the_first { CookiesOfTheFirst }
+    ensures cookies_of_the_one_in_reset { CookiesOfTheOneInReset }
+    ensures cookies_of_the_last { CookiesOfTheLast }
+    ensures no_translation_as_sent { NoTranslationAsSent }
+    ensures full_queue_of_one_unit { FullQueueOfOneUnit }
+    ensures numbers_below_the_first { NumbersBelowTheFirst }
+    ensures jobs_of_two_endpoints { JobsOfTwoEndpoints }
+    ensures quit_of_one_of_two { QuitOfOneOfTwo }
+    ensures second_job_of_an_endpoint { SecondJobOfAnEndpoint }
+    ensures full_queue_of_a_binding { FullQueueOfABinding }
+    ensures past_older_messages { PastOlderMessages }
+    ensures newer_answer_in_place { NewerAnswerInPlace }
+    ensures second_unmap { SecondUnmap }
+{}
+
+/// The last that is accepted before a limit, and each stage of a binding where it is unmapped, advanced or reset.
+pub fn boundaries()
+    ensures messages_spent_before_bindings { MessagesSpentBeforeBindings }
+    ensures last_number_of_a_reset { LastNumberOfAReset }
+    ensures last_number_of_a_completion { LastNumberOfACompletion }
+    ensures last_cookie_of_a_drain { LastCookieOfADrain }
+    ensures last_cookie_of_an_invalidation { LastCookieOfAnInvalidation }
+    ensures no_cookie_in_reset { NoCookieInReset }
+    ensures quiet_needs_no_room { QuietNeedsNoRoom }
+    ensures full_space_and_another { FullSpaceAndAnother }
+    ensures last_page_and_last_frame { LastPageAndLastFrame }
+    ensures greatest_page { GreatestPage }
+    ensures held_before_writable { HeldBeforeWritable }
+    ensures last_slot_and_last_tag { LastSlotAndLastTag }
+    ensures stages_in_reset { StagesInReset }
+    ensures unmap_in_each_stage { UnmapInEachStage }
+    ensures unmap_while_stopping_in_reset { UnmapWhileStoppingInReset }
+    ensures waits_after_an_early_reset { WaitsAfterAnEarlyReset }
+    ensures credit_after_a_reset { CreditAfterAReset }
+    ensures orders_over_after_a_reset { OrdersOverAfterAReset }
+    ensures labels_back_in_reset { LabelsBackInReset }
 {}

@@ -1,7 +1,11 @@
 -- A page request queue over every list of calls. A queue is the list of the requests that wait, the oldest first, and a
 -- history is the list of the calls so far, the latest first.
-use Rattle.std.specs.Prelude.{◌≡◌, ◌<◌, ◌≤◌, List, [], ◌∷◌, ◌++◌, length, take, drop}
+use Rattle.std.specs.Prelude.{◌≡◌, ◌<◌, ◌≤◌, false, List, [], ◌∷◌, ◌++◌, length, take, drop}
 use Rattle.sva_msg.specs.declared.messages.PageRequest.{PageRequest}
+
+-- what lies in a place that isn't used
+abbrev pub blank : PageRequest
+blank = record { pasid = 0; index = 0; page = 0; read = false; write = false; last = false }
 
 -- the calls that change a queue
 pub data QueueCall : Type 0 where

@@ -24,6 +24,10 @@ impl Model for Arrival {
 }
 
 impl Default for Arrival {
+    ghost use Rattle.sva_prq.specs.Queue.{blank};
+
+    ghost is_default = { λ a. a ≡ blank };
+
     fn default() -> Self {
         Arrival {
             request: PageRequest {

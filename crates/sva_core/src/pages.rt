@@ -45,8 +45,8 @@ pub fn map_page(
     let number = frame.number();
     match space.map(page, frame, write) {
         Ok(()) => Ok(Answer::Frame { frame: number }),
-        Err((frame, _refused)) => {
-            pool.give(frame);
+        Err((unused, _refused)) => {
+            pool.give(unused);
             Err(Refusal::OutOfMemory)
         }
     }
@@ -104,11 +104,11 @@ fn take_out(space: &mut Space, pool: &mut FramePool, page: u64, count: u64) -> F
 {
     let mut frames = FrameList::new();
     for number in 0..count {
-        let Some((frame, _write)) = space.unmap(page + number) else {
+        let Some((taken, _write)) = space.unmap(page + number) else {
             unreachable!();
         };
-        frames.push(frame.number());
-        pool.give(frame);
+        frames.push(taken.number());
+        pool.give(taken);
     }
     frames
 }

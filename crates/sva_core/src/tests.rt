@@ -224,33 +224,32 @@ fn tells_the_steps_that_are_built(rt: HostRuntime) {
     assert!(rt; !is_built(&Step::Look { frame: 0 }));
 }
 
-// Nine spaces of forty pages: each allocation that may be refused, one after another by runs of this test, leaves the
-// world as it was.
+// Five spaces of twelve pages, for which each list and tree grows at least once.
 #[test]
 fn goes_on_where_memory_was_refused(rt: HostRuntime) {
     let config = Config {
         endpoints: 1,
-        frames: 400,
+        frames: 64,
         workers: 1,
         first: 0,
     };
     let mut world = open(&rt, rt.alloc(), config);
-    for space in 0..9 {
+    for space in 0..5 {
         assert_eq!(rt;
             apply(&rt, &mut world, Step::Space),
             Ok(Answer::Space { space })
         );
-        for page in 0..40 {
-            let frame = (40 * space + page) as u32;
+        for page in 0..12 {
+            let frame = (12 * space + page) as u32;
             let answer = apply(&rt, &mut world, map(space, page, true));
             assert_eq!(rt; answer, Ok(Answer::Frame { frame }));
         }
     }
-    assert_eq!(rt; world.counts(), counts(40, 360, 0));
+    assert_eq!(rt; world.counts(), counts(4, 60, 0));
     assert_eq!(rt;
-        apply(&rt, &mut world, unmap(8, 38, 2)),
-        Ok(freed_two(358, 359))
+        apply(&rt, &mut world, unmap(4, 10, 2)),
+        Ok(freed_two(58, 59))
     );
-    assert_eq!(rt; world.counts(), counts(42, 358, 0));
+    assert_eq!(rt; world.counts(), counts(6, 58, 0));
     world.close();
 }

@@ -38,10 +38,10 @@ returns-in-Ok-clause-balanced c =
 pub returns-in-Err-clause-step : goal.returns-in-Err-clause-step
 returns-in-Err-clause-step c =
     let none = none_there c.args.space.now c.args.page c.find.result c.find.ensures.value c.if-is_some.ensures in
-    no_memory c.args.space.now c.args.pool.now c.args.page c.len.result c.in-Some.frame c.in-Err.frame c.args.write c.map.new.self c.take.new.self c.give.new.self c.if-page-ge-PAGES.false none c.len.ensures.len c.if-len-ge-MOST_MAPPED.false (sym c.in-Some.ensures.lowest) c.in-Err.ensures.err.1 c.in-Err.ensures.err.0 c.in-Some.ensures.after c.give.ensures
+    no_memory c.args.space.now c.args.pool.now c.args.page c.len.result c.in-Some.frame c.in-Err.unused c.args.write c.map.new.self c.take.new.self c.give.new.self c.if-page-ge-PAGES.false none c.len.ensures.len c.if-len-ge-MOST_MAPPED.false (sym c.in-Some.ensures.lowest) c.in-Err.ensures.err.1 c.in-Err.ensures.err.0 c.in-Some.ensures.after c.give.ensures
 
 pub returns-in-Err-clause-balanced : goal.returns-in-Err-clause-balanced
 returns-in-Err-clause-balanced c =
     balanced-is c.args.space.now c.args.space.now c.map.new.self c.args.pool.now c.args.pool.now c.give.new.self c.in-Err.ensures.err.0
-    (given_back c.args.pool.now c.in-Some.frame c.in-Err.frame c.take.new.self c.give.new.self (sym c.in-Some.ensures.lowest) c.in-Err.ensures.err.1 c.in-Some.ensures.after c.give.ensures)
+    (given_back c.args.pool.now c.in-Some.frame c.in-Err.unused c.take.new.self c.give.new.self (sym c.in-Some.ensures.lowest) c.in-Err.ensures.err.1 c.in-Some.ensures.after c.give.ensures)
     (balanced-none c.args.space.now c.args.pool.now)

@@ -5,6 +5,7 @@ use Rattle.sva_step.specs.declared.limits.Config.{Config}
 use Rattle.sva_step.specs.declared.refusals.Refusal.{Refusal}
 use Rattle.sva_step.specs.declared.refusals.Refusal.TheVariants as refusal
 use Rattle.sva_step.specs.declared.steps.Step.{Step}
+use Rattle.sva_step.specs.declared.steps.Step.TheVariants as step
 use Rattle.sva_model.specs.State.{World}
 use Rattle.sva_model.specs.Claims.{Fits}
 use Rattle.sva_model.specs.Steps.{Reply, reply, next, counts, world_after}
@@ -13,14 +14,19 @@ use Rattle.sva_model.specs.Wire.{Wire, wire}
 -- what the definitions say of a step at one of their worlds; want of memory changes nothing, and comes only where they
 -- would have accepted the step
 abbrev pub FollowsAt : World → Step → Reply → Wire → Type 0
-FollowsAt w step (Err refusal.OutOfMemory) after = IsOk (reply w step) × (after ≡ wire w)
-FollowsAt w step result after = (result ≡ reply w step) × (after ≡ wire (next w step))
+FollowsAt w s (Err refusal.OutOfMemory) after = IsOk (reply w s) × (after ≡ wire w)
+FollowsAt w s result after = (result ≡ reply w s) × (after ≡ wire (next w s))
+
+-- the steps whose room was made before: they never want memory
+abbrev pub TakesNoMemory : Step → Type 0
+TakesNoMemory (step.Unmap n q count) = Unit {0}
+TakesNoMemory _ = ⊥
 
 -- a step from what the host keeps, as the definitions have it at each world after some list of steps that is seen so
 abbrev pub Follows : Wire → Step → Reply → Wire → Type 0
-Follows before step result after =
+Follows before s result after =
     (config : Config) (steps : List Step) → Fits config → before ≡ wire (world_after config steps)
-    → FollowsAt (world_after config steps) step result after
+    → FollowsAt (world_after config steps) s result after
 
 -- some list of steps leads to a world that is seen so
 pub record IsReached (seen : Wire) : Type 0 where
@@ -40,8 +46,8 @@ CountsOf seen found =
 -- the answers to a list of steps, and what the last world is seen as; a step that had no memory is left out
 abbrev pub Ran : World → List Step → List Reply → Wire → Type 0
 Ran w [] [] last = last ≡ wire w
-Ran w (step ∷ steps) (Err refusal.OutOfMemory ∷ results) last = IsOk (reply w step) × Ran w steps results last
-Ran w (step ∷ steps) (result ∷ results) last = (result ≡ reply w step) × Ran (next w step) steps results last
+Ran w (s ∷ steps) (Err refusal.OutOfMemory ∷ results) last = IsOk (reply w s) × Ran w steps results last
+Ran w (s ∷ steps) (result ∷ results) last = (result ≡ reply w s) × Ran (next w s) steps results last
 Ran w _ _ last = ⊥
 
 -- the refusals of an opening

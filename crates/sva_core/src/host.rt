@@ -1,13 +1,14 @@
 //! What the world keeps, and the steps of spaces and frames by numbers.
 
-ghost use Rattle.std.specs.Prelude.{◌≡◌, ◌≤◌, ◌^◌, count_by, IfOk};
-ghost use Rattle.sva_frames.specs.Frames.{is_free, is_mapped, is_withheld};
+ghost use Rattle.std.specs.Prelude.{◌≡◌, ◌≢◌, ◌≤◌, ◌^◌, Err, IfOk};
 ghost use Rattle.sva_step.specs.declared.limits.Config.{Config};
+ghost use Rattle.sva_step.specs.declared.refusals.Refusal.TheVariants as refusal;
 ghost use Rattle.sva_step.specs.declared.steps.Step.TheVariants as step;
 ghost use Rattle.sva_model.specs.State.{opened};
 ghost use Rattle.sva_model.specs.Wire.{wire};
 ghost use Rattle.sva_wire.specs.Host.{IsIdle, IsOfSpaces};
 ghost use Rattle.sva_core.specs.Pieces.{ByNumbers, Counted};
+ghost use Rattle.sva_core.specs.Reached.{TakesNoMemory};
 
 use crate::live::{Live, place_of};
 use crate::pages;
@@ -73,6 +74,7 @@ impl Host {
         requires { IsOfSpaces step.now }
         ensures step { ByNumbers self.old step.now result self.new }
         ensures idle { IsIdle self.old }
+        ensures memory { TakesNoMemory step.now → result ≢ Err refusal.OutOfMemory }
     {
         match step {
             Step::Space => self.space_step(),
@@ -117,6 +119,7 @@ impl Host {
     fn unmap_step(&mut self, space: u64, page: u64, count: u64) -> Result<Answer, Refusal>
         ensures step { ByNumbers self.old (step.Unmap space page count) result self.new }
         ensures idle { IsIdle self.old }
+        ensures memory { result ≢ Err refusal.OutOfMemory }
     {
         let Some(place) = place_of(&self.spaces, space) else {
             return Err(Refusal::NoSuchSpace);

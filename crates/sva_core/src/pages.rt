@@ -1,6 +1,7 @@
 //! Pages and frames: what a step does to one space and to the pool.
 
-ghost use Rattle.std.specs.Prelude.{◌≡◌, ◌<◌, ◌≤◌, ◌+◌, ◌^◌, true};
+ghost use Rattle.std.specs.Prelude.{◌≡◌, ◌≢◌, ◌<◌, ◌≤◌, ◌+◌, ◌^◌, true, Err};
+ghost use Rattle.sva_step.specs.declared.refusals.Refusal.TheVariants as refusal;
 ghost use Rattle.sva_space.specs.Pages.{IsRising};
 ghost use Rattle.sva_wire.specs.Host.{frames_of, freed, without};
 ghost use Rattle.sva_core.specs.Seen.{pages_seen, places_seen};
@@ -61,6 +62,7 @@ pub fn unmap_pages(
 ) -> Result<Answer, Refusal>
     requires { Owns space.old pool.old }
     ensures step { UnmapsPages (pages_seen space.old) (places_seen pool.old) page count result (pages_seen space.new) (places_seen pool.new) }
+    ensures memory { result ≢ Err refusal.OutOfMemory }
     ensures balanced { Balanced space.old pool.old space.new pool.new }
 {
     if count < 1 || count > MOST_UNMAPPED {

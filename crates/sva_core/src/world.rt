@@ -1,13 +1,13 @@
 //! The world, and one step of it.
 
-ghost use Rattle.std.specs.Prelude.{◌≡◌, ◌↔◌, IfOk, IfErr, Err, IsTrue};
+ghost use Rattle.std.specs.Prelude.{◌≡◌, ◌≢◌, ◌↔◌, IfOk, IfErr, Err, IsTrue};
 ghost use Rattle.sva_step.specs.declared.limits.Config.{Config};
 ghost use Rattle.sva_step.specs.declared.refusals.Refusal.TheVariants as refusal;
 ghost use Rattle.sva_model.specs.Claims.{Fits};
 ghost use Rattle.sva_model.specs.State.{opened};
 ghost use Rattle.sva_model.specs.Wire.{wire};
 ghost use Rattle.sva_wire.specs.Host.{IsOfSpaces};
-ghost use Rattle.sva_core.specs.Reached.{Follows, IsReached, IsOpenRefusal, CountsOf};
+ghost use Rattle.sva_core.specs.Reached.{Follows, IsReached, TakesNoMemory, IsOpenRefusal, CountsOf};
 
 use crate::host::Host;
 use std::alloc::Global;
@@ -50,11 +50,12 @@ impl World {
     }
 
     /// Takes one step, of the kinds that `is_built` tells. A refused step changes nothing. `OutOfMemory` is answered only
-    /// where a growth was refused and the step would have been accepted.
+    /// where a growth was refused and the step would have been accepted, and never by an unmap, which takes no memory.
     pub fn apply(&mut self, step: &Step) -> Result<Answer, Refusal>
         requires { IsOfSpaces step.now }
         ensures step { Follows self.old step.now result self.new }
         ensures reached { IsReached self.new }
+        ensures memory { TakesNoMemory step.now → result ≢ Err refusal.OutOfMemory }
     {
         self.host.apply(step)
     }

@@ -1,3 +1,4 @@
 pub mod Pools
 pub mod Waiting
+pub mod Pairs
 pub mod CallLists

@@ -6,7 +6,7 @@ use crate::pool::Place;
 use crate::waits::Waits;
 
 /// What the pool keeps of one frame.
-#[derive(Clone, Copy, Debug)]
+#[derive(Clone, Debug, Drop)]
 pub enum Slot {
     Free,
     Mapped,
@@ -18,13 +18,13 @@ impl Slot {
     ghost use Rattle.sva_frames.specs.Slots.{holding_of};
 
     /// That of a frame which is in no space and has these waits left.
-    pub fn after_waits(waits: Waits) -> Slot
-        ensures { holding_of result ≡ after_waits waits }
+    pub fn after_waits(left: Waits) -> Slot
+        ensures { holding_of result ≡ after_waits left }
     {
-        if waits.is_empty() {
+        if left.is_empty() {
             Slot::Free
         } else {
-            Slot::Withheld(waits)
+            Slot::Withheld(left)
         }
     }
 
@@ -47,21 +47,27 @@ impl Slot {
         }
     }
 
-    pub fn past_cookie(self, unit: u64, cookie: u64) -> Slot
-        ensures { holding_of result ≡ settled unit (past_cookie cookie) (holding_of self) }
+    /// The wait of this unit with this cookie is done.
+    pub fn settle_cookie(&mut self, unit: u64, cookie: u64)
+        ensures { holding_of self.new ≡ settled unit (past_cookie cookie) (holding_of self.old) }
     {
-        match self {
-            Slot::Withheld(waits) => Slot::after_waits(waits.past_cookie(unit, cookie)),
-            Slot::Free | Slot::Mapped => self,
+        if let Slot::Withheld(waits) = self {
+            waits.settle_cookie(unit, cookie);
+            if waits.is_empty() {
+                *self = Slot::Free;
+            }
         }
     }
 
-    pub fn past_reset(self, unit: u64) -> Slot
-        ensures { holding_of result ≡ settled unit past_reset (holding_of self) }
+    /// The reset of this unit's endpoint has ended.
+    pub fn settle_unit(&mut self, unit: u64)
+        ensures { holding_of self.new ≡ settled unit past_reset (holding_of self.old) }
     {
-        match self {
-            Slot::Withheld(waits) => Slot::after_waits(waits.past_reset(unit)),
-            Slot::Free | Slot::Mapped => self,
+        if let Slot::Withheld(waits) = self {
+            waits.settle_unit(unit);
+            if waits.is_empty() {
+                *self = Slot::Free;
+            }
         }
     }
 }
@@ -85,7 +91,7 @@ pub fn settle_cookie(slots: &mut [Slot], unit: u64, cookie: u64)
     ensures { map holding_of slots.new ≡ map (settled unit (past_cookie cookie)) (map holding_of slots.old) }
 {
     for slot in slots.iter_mut() {
-        *slot = slot.past_cookie(unit, cookie);
+        slot.settle_cookie(unit, cookie);
     }
 }
 
@@ -94,6 +100,6 @@ pub fn settle_unit(slots: &mut [Slot], unit: u64)
     ensures { map holding_of slots.new ≡ map (settled unit past_reset) (map holding_of slots.old) }
 {
     for slot in slots.iter_mut() {
-        *slot = slot.past_reset(unit);
+        slot.settle_unit(unit);
     }
 }

@@ -55,7 +55,7 @@ fn settles_in_turn(rt: HostRuntime) -> Result<(), Fail> {
     third.push(2, Target::Cookie(7));
     assert_eq!(rt; withhold_lowest(&mut pool, first), Some(0));
     assert_eq!(rt; withhold_lowest(&mut pool, second), Some(1));
-    assert_eq!(rt; withhold_lowest(&mut pool, third), Some(2));
+    assert_eq!(rt; withhold_lowest(&mut pool, third.copied()), Some(2));
     assert_eq!(rt; withhold_lowest(&mut pool, third), None);
     assert_eq!(rt;
         pool.counts(),

@@ -1,5 +1,7 @@
-ghost use Rattle.std.specs.Prelude.{◌≡◌, ◌↔◌, IsTrue, false, Some, None, replicate, slice_get, slice_set, slice_index_or};
+ghost use Rattle.std.specs.Prelude.{◌≡◌, ◌↔◌, ◌&&◌, ◌==◌, IsTrue, false, Some, None, replicate, slice_get, slice_set, slice_index_or};
 
+use arrayvec::ArrayVec;
+use std::alloc::AllocError;
 use std::marker::Model;
 
 /// How many remapping units a host has at most. Their numbers are below it.
@@ -14,26 +16,72 @@ pub enum Target {
     ResetEnd,
 }
 
-/// What a frame waits for: at most one target at each unit.
+/// A unit, and what a frame waits for there.
+#[derive(Clone, Copy, Debug)]
+pub struct Wait {
+    unit: u64,
+    target: Target,
+}
+
+/// A wait that nothing asked for: what the unused places of a list hold.
+impl Default for Wait {
+    ghost use Rattle.sva_frames.specs.declared.waits.Target.TheVariants.{ResetEnd};
+
+    ghost is_default = { λ wait. wait ≡ record { unit = 0; target = ResetEnd } };
+
+    fn default() -> Self {
+        Wait {
+            unit: 0,
+            target: Target::ResetEnd,
+        }
+    }
+}
+
+impl Wait {
+    ghost use Rattle.sva_frames.specs.Pairs.{awaits_cookie};
+
+    /// Whether it is settled where the wait descriptor of this unit with this cookie is done.
+    fn is_for_cookie(&self, unit: u64, cookie: u64) -> bool
+        ensures { result ≡ (self.now.unit == unit && awaits_cookie cookie self.now.target) }
+    {
+        let is_awaited = match self.target {
+            Target::Cookie(awaited) => awaited == cookie,
+            Target::ResetEnd => false,
+        };
+        self.unit == unit && is_awaited
+    }
+}
+
+/// What a frame waits for: pairs of a unit and a target, at most one at each unit.
 ///
 /// Contracts see the table by units, a place for each of the eight: its target, if there is one.
-#[derive(Clone, Copy, Debug)]
+#[derive(Debug, Drop)]
 pub struct Waits {
-    targets: [Option<Target>; UNITS],
+    pairs: ArrayVec<Wait, UNITS>,
 }
 
 impl Model for Waits {
-    ghost use Rattle.std.specs.Prelude.{◌≡◌, List, Option, length};
+    ghost use Rattle.std.specs.Prelude.{List, Option};
     ghost use Rattle.sva_frames.specs.declared.waits.Target.{Target};
-    ghost use Rattle.sva_frames.specs.declared.waits.TheConstants.{UNITS};
+    ghost use Rattle.sva_frames.specs.Pairs.{by_units, AreApart};
 
     ghost Value = { List (Option Target) };
 
-    ghost view = { λ w. w.targets };
+    ghost view = { λ w. by_units w.pairs.items };
 
-    ghost invariant = { λ w. length w.targets ≡ UNITS };
+    ghost invariant = { λ w. AreApart w.pairs.items };
+}
 
-    ghost inverse = { λ targets. record { targets = targets } };
+impl Clone for Waits {
+    ghost use Rattle.std.specs.Prelude.{⊤};
+
+    ghost is_clone = { λ waits copy. copy ≡ waits };
+
+    ghost is_infallible = { λ _. ⊤ };
+
+    fn clone(&self) -> Result<Waits, AllocError> {
+        Ok(self.copied())
+    }
 }
 
 impl Waits {
@@ -44,62 +92,47 @@ impl Waits {
         ensures { result ≡ replicate UNITS None }
     {
         Waits {
-            targets: [None; UNITS],
+            pairs: ArrayVec::new(),
         }
     }
 
+    /// The same once more, for another frame.
+    pub fn copied(&self) -> Waits
+        ensures { result ≡ self.now }
+    {
+        let mut pairs = ArrayVec::new();
+        for wait in self.pairs.iter() {
+            pairs.push(*wait);
+        }
+        Waits { pairs }
+    }
+
     /// Adds a target at a unit, one of the eight, that has none yet.
-    #[tactic(auto, using(std::proofs::lemmas::Option::slice_get_within))]
     pub fn push(&mut self, unit: u64, target: Target)
         requires { slice_get self.old unit ≡ Some None }
         ensures { self.new ≡ slice_set self.old unit (Some target) }
     {
-        let targets = &mut self.targets;
-        targets[unit as usize] = Some(target);
+        self.pairs.push(Wait { unit, target });
     }
 
     /// Whether there is nothing to wait for.
     pub fn is_empty(&self) -> bool
         ensures { IsTrue result ↔ (has_target self.now ≡ false) }
     {
-        !self.has_target()
+        self.pairs.is_empty()
     }
 
-    fn has_target(&self) -> bool
-        ensures { result ≡ has_target self.now }
+    /// The wait descriptor of this unit with this cookie is done.
+    pub(crate) fn settle_cookie(&mut self, unit: u64, cookie: u64)
+        ensures { self.new ≡ slice_set self.old unit (past_cookie cookie (slice_index_or self.old unit None)) }
     {
-        self.targets.iter().any(|target| target.is_some())
+        self.pairs.retain(|wait| !wait.is_for_cookie(unit, cookie));
     }
 
-    #[tactic(auto, using(std::proofs::lemmas::List::get_or_past))]
-    fn target(&self, unit: u64) -> Option<Target>
-        ensures { result ≡ slice_index_or self.now unit None }
+    /// The reset of this unit's endpoint has ended.
+    pub(crate) fn settle_unit(&mut self, unit: u64)
+        ensures { self.new ≡ slice_set self.old unit (past_reset (slice_index_or self.old unit None)) }
     {
-        let targets = &self.targets;
-        if unit < UNITS as u64 {
-            targets[unit as usize]
-        } else {
-            None
-        }
-    }
-
-    /// What is left once the wait of this unit with this cookie is done.
-    pub(crate) fn past_cookie(self, unit: u64, cookie: u64) -> Waits
-        ensures { result ≡ slice_set self unit (past_cookie cookie (slice_index_or self unit None)) }
-    {
-        match self.target(unit) {
-            Some(Target::Cookie(awaited)) if awaited == cookie => self.past_reset(unit),
-            _ => self,
-        }
-    }
-
-    /// What is left once the reset of this unit's endpoint has ended.
-    pub(crate) fn past_reset(mut self, unit: u64) -> Waits
-        ensures { result ≡ slice_set self unit (past_reset (slice_index_or self unit None)) }
-    {
-        if unit < UNITS as u64 {
-            self.targets[unit as usize] = None;
-        }
-        self
+        self.pairs.retain(|wait| wait.unit != unit);
     }
 }

@@ -7,5 +7,5 @@ use Rattle.sva_frames.proofs.slots.settle_cookie.Goals as goal
 
 pub loop-slot-preserved : goal.loop-slot-preserved
 loop-slot-preserved c =
-    settle_more (settled c.args.unit (past_cookie c.args.cookie)) (map holding_of c.args.slots.now) c.loop-slot.slots c.loop-slot.slot-index c.slot-item.result c.past_cookie.result
+    settle_more (settled c.args.unit (past_cookie c.args.cookie)) (map holding_of c.args.slots.now) c.loop-slot.slots c.loop-slot.slot-index c.slot-item.result c.settle_cookie.new.self
     (omega arith) (omega (arith, length-map c.args.slots.now holding_of)) c.loop-slot.invariant c.slot-item.is (cc)

@@ -7,5 +7,5 @@ use Rattle.sva_frames.proofs.slots.settle_unit.Goals as goal
 
 pub loop-slot-preserved : goal.loop-slot-preserved
 loop-slot-preserved c =
-    settle_more (settled c.args.unit past_reset) (map holding_of c.args.slots.now) c.loop-slot.slots c.loop-slot.slot-index c.slot-item.result c.past_reset.result
+    settle_more (settled c.args.unit past_reset) (map holding_of c.args.slots.now) c.loop-slot.slots c.loop-slot.slot-index c.slot-item.result c.settle_unit.new.self
     (omega arith) (omega (arith, length-map c.args.slots.now holding_of)) c.loop-slot.invariant c.slot-item.is (cc)

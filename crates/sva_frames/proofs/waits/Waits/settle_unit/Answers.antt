@@ -1,0 +1,14 @@
+use Rattle.std.proofs.Common.{◌≡◌, filter, sym, ap, refl, subst, ◌∙◌, rules}
+use Rattle.arrayvec.proofs.ArrayVecLemmas.{filter-from_retain}
+use Rattle.sva_frames.specs.Pairs.{AreApart, by_units}
+use Rattle.sva_frames.proofs.Pairs.{past_unit, apart_kept, settled_unit}
+use Rattle.sva_frames.proofs.waits.Waits.settle_unit.Goals as goal
+
+kept : (c : goal.After-retain) → c.retain.new.self.items ≡ filter (past_unit c.args.unit) c.self.inside.pairs.items
+kept c = filter-from_retain _ (past_unit c.args.unit) _ (λ x b f' y called. search rules) _ _ c.retain.ensures.filtered
+
+pub invariant_of-self : goal.invariant_of-self
+invariant_of-self c = subst AreApart (sym (kept c)) (apart_kept (past_unit c.args.unit) c.self.inside.pairs.items c.self.invariant)
+
+pub returns : goal.returns
+returns c = ap by_units (kept c) ∙ settled_unit c.args.unit c.self.inside.pairs.items ∙ rw c.self.view_is refl

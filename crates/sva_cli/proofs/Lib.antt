@@ -1,0 +1,3 @@
+mod SayLemmas
+mod RunLemmas
+mod LineLemmas

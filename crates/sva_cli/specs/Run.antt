@@ -1,0 +1,45 @@
+-- How a run of svahost ends.
+use Rattle.std.specs.Prelude.{◌≡◌, ◌⊎◌, ℕ, List, [], ◌∷◌, ◌++◌, codes, Option, IfSome, Result, Ok, Err}
+use Rattle.std.specs.Io.KnownBytes.{Appends, Keeps}
+use Rattle.sva_scenario.specs.Report.{outcome_of, report_of}
+use Rattle.sva_scenario.specs.Streams.{AppendsPrefix}
+use Rattle.sva_scenario.specs.declared.reading.TheConstants.{MOST_TURNS}
+use Rattle.sva_scenario.specs.declared.streams.DriveFault.{DriveFault}
+use Rattle.sva_scenario.specs.declared.streams.DriveFault.TheVariants.{Read, Write, Memory}
+use Rattle.sva_scenario.specs.declared.streams.Outcome.{Outcome}
+use Rattle.sva_scenario.specs.declared.streams.Outcome.TheVariants.{Done, Faulted}
+use Rattle.sva_scenario.specs.declared.streams.Told.{Told}
+
+-- the status: 0 where the steps were run, 1 for a line fault, a refused config and every fault of a stream or of memory
+abbrev pub status_of : Result Outcome DriveFault → ℕ
+status_of (Ok Done) = 0
+status_of (Ok Faulted) = 1
+status_of (Err fault) = 1
+
+-- the line that tells of a fault
+abbrev pub fault_line : DriveFault → List ℕ
+fault_line Read = codes "svahost: read fault" ++ 10 ∷ []
+fault_line Write = codes "svahost: write fault" ++ 10 ∷ []
+fault_line Memory = codes "svahost: out of memory" ++ 10 ∷ []
+
+-- what the run says on standard error
+abbrev pub complaint : Result Outcome DriveFault → List ℕ
+complaint (Ok outcome) = []
+complaint (Err fault) = fault_line fault
+
+-- a stream was given a text: all of it where no call failed, and else a front of it
+abbrev pub Says : {T : Type 0} → (T → Option (List ℕ)) → Told T → Told T → List ℕ → Type 0
+Says contents old new text =
+    AppendsPrefix (contents old.inner) (contents new.inner) text × (new.failures ≡ old.failures → Appends (contents old.inner) (contents new.inner) text)
+
+-- what a replay wrote, where the input is known: its report; after a fault a front of the report, and nothing after a read fault
+abbrev pub Reports : Option (List ℕ) → Option (List ℕ) → Option (List ℕ) → Result Outcome DriveFault → Type 0
+Reports input old new (Ok outcome) = IfSome input (λ text. (outcome ≡ outcome_of text) × Appends old new (report_of text))
+Reports input old new (Err Read) = Keeps old new
+Reports input old new (Err fault) = IfSome input (λ text. AppendsPrefix old new (report_of text))
+
+-- a read fault comes where the reader failed or its turns were spent, a write fault where the writer failed, and else none of them failed
+abbrev pub HasCause : {R W : Type 0} → Told R → Told W → Result Outcome DriveFault → Type 0
+HasCause reader writer (Err Read) = (reader.failures ≡ 1) ⊎ ((reader.failures ≡ 0) × (reader.calls ≡ MOST_TURNS))
+HasCause reader writer (Err Write) = (reader.failures ≡ 0) × (writer.failures ≡ 1)
+HasCause reader writer _ = (reader.failures ≡ 0) × (writer.failures ≡ 0)

@@ -1,0 +1,31 @@
+// The program svahost: reads a scenario from standard input, and writes its report to standard output.
+#![tactic(auto)]
+
+mod command;
+mod run;
+
+use run::{main_with, unread};
+use std::io;
+use std::process::ExitCode;
+use std::rt::Env;
+use sva_scenario::Told;
+
+/// The words of the command line, the program's name first.
+fn words<R: Env + AllocGlobal>(rt: &R) -> io::Result<Vec<String>> {
+    let words = std::env::args(rt)?.collect(rt.alloc())?;
+    Ok(words)
+}
+
+fn main(rt: HostRuntime) -> ExitCode {
+    let mut reader = Told::new(rt.stdin());
+    let mut writer = Told::new(rt.stdout());
+    let mut errors = Told::new(rt.stderr());
+    let status = match words(&rt) {
+        Ok(words) => main_with(&rt, words.as_slice(), &mut reader, &mut writer, &mut errors),
+        Err(error) => unread(&error, &mut errors),
+    };
+    ExitCode::from(status)
+}
+
+#[cfg(test)]
+mod tests;

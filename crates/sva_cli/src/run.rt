@@ -1,0 +1,159 @@
+ghost use Rattle.std.specs.Prelude.{◌≡◌, ◌≢◌, ◌≤◌, ◌<◌, ◌⊎◌, length, OnOk, Result};
+ghost use Rattle.clap.specs.Words.{kind_of};
+ghost use Rattle.sva_cli.specs.Command.{AsksHelp, AsksReplay, CallsHelp, IsMistaken, texts};
+ghost use Rattle.sva_cli.specs.Run.{HasCause, Reports, Says, complaint, fault_line, status_of};
+ghost use Rattle.sva_scenario.specs.Streams.{IsNew};
+
+use crate::command::parse;
+use clap::Error;
+use clap::error::ErrorKind;
+use std::alloc::Global;
+use std::io;
+use std::io::{Read, Write};
+use sva_scenario::{DriveFault, Outcome, Told, drive, write_all};
+
+/// The steps were run, or help was shown.
+const DONE: u8 = 0;
+
+/// A line fault, a config out of its limits, or a fault of a stream or of memory.
+const FAULT: u8 = 1;
+
+/// The command line is wrong.
+const MISTAKE: u8 = 2;
+
+/// A whole run of svahost on its words, the program's name first: the status that it exits with. The command line is
+/// judged before anything is read. `replay` writes the report of all that the reader gives; what a fault is, `errors`
+/// is told in a line.
+pub fn main_with<X: AllocGlobal, R: Read, W: Write, E: Write>(
+    rt: &X,
+    words: &[String],
+    reader: &mut Told<R>,
+    writer: &mut Told<W>,
+    errors: &mut Told<E>,
+) -> u8
+    requires reader { IsNew reader.old }
+    requires writer { IsNew writer.old }
+    requires errors { IsNew errors.old }
+    ensures replay { AsksReplay (texts words.now) → (ended : Result Outcome DriveFault) × (result ≡ status_of ended)
+        × Reports (R.remaining reader.old.inner) (W.contents writer.old.inner) (W.contents writer.new.inner) ended
+        × HasCause reader.new writer.new ended
+        × Says E.contents errors.old errors.new (complaint ended) }
+    ensures unread { (AsksReplay (texts words.now) → ⊥) → reader.new ≡ reader.old }
+    ensures help { (AsksReplay (texts words.now) → ⊥) → result ≡ DONE
+        → AsksHelp (texts words.now) × (writer.new.failures ≡ 0) × (errors.new ≡ errors.old) }
+    ensures fault { (AsksReplay (texts words.now) → ⊥) → result ≡ FAULT
+        → (fault : DriveFault) × HasCause reader.new writer.new (Err fault) × Says E.contents errors.old errors.new (fault_line fault) }
+    ensures mistake { result ≡ MISTAKE → IsMistaken (texts words.now) × (writer.new ≡ writer.old) }
+    ensures calls_help { CallsHelp (texts words.now) → result ≢ MISTAKE }
+    ensures no_command { length words.now < 2 → result ≢ DONE }
+    ensures status { result ≤ MISTAKE }
+{
+    match parse(rt.alloc(), words) {
+        Ok(()) => {
+            let ended = drive(rt.alloc(), reader, writer);
+            finish(ended, errors)
+        }
+        Err(error) => answer(rt.alloc(), &error, writer, errors),
+    }
+}
+
+/// The status where the command line couldn't be read: memory ran out, or a word isn't UTF-8 text.
+pub fn unread<E: Write>(error: &io::Error, errors: &mut Told<E>) -> u8
+    requires { IsNew errors.old }
+    ensures { (result ≡ FAULT) ⊎ (result ≡ MISTAKE) }
+{
+    match error.kind() {
+        io::ErrorKind::OutOfMemory => finish(Err(DriveFault::Memory), errors),
+        _ => {
+            say(
+                "error: a word of the command line isn't UTF-8 text\n",
+                errors,
+            );
+            MISTAKE
+        }
+    }
+}
+
+/// The status of a run that ended so. A fault is told to `errors`.
+fn finish<E: Write>(ended: Result<Outcome, DriveFault>, errors: &mut Told<E>) -> u8
+    requires { IsNew errors.old }
+    ensures status { result ≡ status_of ended }
+    ensures said { Says E.contents errors.old errors.new (complaint ended) }
+    ensures silent { OnOk ended (errors.new ≡ errors.old) }
+{
+    match ended {
+        Ok(Outcome::Done) => DONE,
+        Ok(Outcome::Faulted) => FAULT,
+        Err(fault) => {
+            complain(fault, errors);
+            FAULT
+        }
+    }
+}
+
+/// Tells of a fault in a line.
+fn complain<E: Write>(fault: DriveFault, errors: &mut Told<E>)
+    requires { IsNew errors.old }
+    ensures { Says E.contents errors.old errors.new (fault_line fault) }
+{
+    let line = match fault {
+        DriveFault::Read => "svahost: read fault\n",
+        DriveFault::Write => "svahost: write fault\n",
+        DriveFault::Memory => "svahost: out of memory\n",
+    };
+    say(line, errors);
+}
+
+/// Writes a text. Where that fails nothing is left to be done: the status alone tells of the fault.
+fn say<E: Write>(text: &str, errors: &mut Told<E>)
+    requires { IsNew errors.old }
+    ensures { Says E.contents errors.old errors.new text.now }
+{
+    let _ = write_all(errors, text.as_bytes());
+}
+
+/// Answers a command line that asks for no run: help goes to the writer, what is wrong to `errors`.
+fn answer<W: Write, E: Write>(
+    alloc: Global,
+    error: &Error,
+    writer: &mut Told<W>,
+    errors: &mut Told<E>,
+) -> u8
+    requires writer { IsNew writer.old }
+    requires errors { IsNew errors.old }
+    ensures memory { kind_of error.now ≡ ErrorKind.OutOfMemory
+        → (result ≡ FAULT) × (writer.new ≡ writer.old) × Says E.contents errors.old errors.new (fault_line DriveFault.Memory) }
+    ensures help { result ≡ DONE
+        → (kind_of error.now ≡ ErrorKind.DisplayHelp) × (writer.new.failures ≡ 0) × (errors.new ≡ errors.old) }
+    ensures fault { result ≡ FAULT
+        → (fault : DriveFault) × (fault ≢ DriveFault.Read) × ((fault ≡ DriveFault.Write) → writer.new.failures ≡ 1) × ((fault ≡ DriveFault.Memory) → writer.new ≡ writer.old) × Says E.contents errors.old errors.new (fault_line fault) }
+    ensures mistake { result ≡ MISTAKE
+        → (kind_of error.now ≢ ErrorKind.OutOfMemory) × (kind_of error.now ≢ ErrorKind.DisplayHelp) × (writer.new ≡ writer.old) }
+    ensures status { result ≤ MISTAKE }
+{
+    match error.kind() {
+        ErrorKind::OutOfMemory => finish(Err(DriveFault::Memory), errors),
+        ErrorKind::DisplayHelp => match show(alloc, error, writer) {
+            Ok(()) => DONE,
+            Err(fault) => finish(Err(fault), errors),
+        },
+        _ => match show(alloc, error, errors) {
+            Err(DriveFault::Memory) => finish(Err(DriveFault::Memory), errors),
+            _ => MISTAKE,
+        },
+    }
+}
+
+/// Writes clap's text.
+fn show<W: Write>(alloc: Global, error: &Error, writer: &mut Told<W>) -> Result<(), DriveFault>
+    requires { IsNew writer.old }
+    ensures ok { OnOk result (writer.new.failures ≡ 0) }
+    ensures read { result ≢ Err DriveFault.Read }
+    ensures write { result ≡ Err DriveFault.Write → writer.new.failures ≡ 1 }
+    ensures memory { result ≡ Err DriveFault.Memory → writer.new ≡ writer.old }
+{
+    let Ok(text) = error.to_string(alloc) else {
+        return Err(DriveFault::Memory);
+    };
+    write_all(writer, text.as_bytes())
+}

@@ -1,0 +1,240 @@
+mod examples;
+
+use crate::run::main_with;
+use examples::EXAMPLES;
+use std::alloc::AllocError;
+use std::io;
+use std::io::{ErrorKind, Read, Write};
+use std::test::Fail;
+use sva_scenario::Told;
+
+/// The report of the first example, and a scenario for it.
+const SCENARIO: &[u8] = b"config 1 4 1\nspace\nmap 0 16 w\nunmap 0 16\nmap 0 16 r\n";
+
+const REPORT: &str = "space 0\nframe 0\nfree 0\nframe 0\nfree 3 mapped 1 withheld 0\n";
+
+/// The words of a command line, the program's name first.
+fn line<R: AllocGlobal>(rt: &R, words: &[&str]) -> Result<Vec<String>, AllocError> {
+    let mut line = Vec::new(rt.alloc());
+    line.push(String::from_str(rt.alloc(), "svahost")?)?;
+    for word in words {
+        line.push(String::from_str(rt.alloc(), word)?)?;
+    }
+    Ok(line)
+}
+
+/// What a run wrote, its status, and how often it read.
+#[derive(Drop)]
+struct Ran {
+    status: u8,
+    written: Vec<u8>,
+    said: Vec<u8>,
+    reads: u64,
+}
+
+/// Runs the program on an input that is in memory.
+fn run_on<R: AllocGlobal>(rt: &R, words: &[&str], input: &[u8]) -> Result<Ran, AllocError> {
+    let words = line(rt, words)?;
+    let mut reader = Told::new(input);
+    let mut writer = Told::new(Vec::new(rt.alloc()));
+    let mut errors = Told::new(Vec::new(rt.alloc()));
+    let status = main_with(rt, words.as_slice(), &mut reader, &mut writer, &mut errors);
+    Ok(Ran {
+        status,
+        written: writer.inner,
+        said: errors.inner,
+        reads: reader.calls,
+    })
+}
+
+#[test]
+fn replays_the_examples(rt: HostRuntime) -> Result<(), Fail> {
+    for (scenario, report, status) in EXAMPLES {
+        let ran = run_on(&rt, &["replay"], scenario.as_bytes())?;
+        assert!(rt; ran.written.as_slice() == report.as_bytes(), "{scenario}");
+        assert_eq!(rt; (ran.status, ran.said.len()), (status, 0), "{scenario}");
+    }
+    Ok(())
+}
+
+#[test]
+fn replays_short_inputs(rt: HostRuntime) -> Result<(), Fail> {
+    let runs = [
+        ("", "line 1 NoConfig\n", 1),
+        ("config 2 5 1", "free 5 mapped 0 withheld 0\n", 0),
+        ("config 1 4 1\nmap 0 x w", "line 2 BadWord\n", 1),
+        ("config 1 4 1\nspase", "line 2 UnknownStep\n", 1),
+        ("config 1 4097 1", "refused 1 BadConfig\n", 1),
+    ];
+    for (scenario, report, status) in runs {
+        let ran = run_on(&rt, &["replay"], scenario.as_bytes())?;
+        assert!(rt; ran.written.as_slice() == report.as_bytes(), "{scenario}");
+        assert_eq!(rt; (ran.status, ran.said.len()), (status, 0), "{scenario}");
+    }
+    Ok(())
+}
+
+#[test]
+fn judges_the_command_line_first(rt: HostRuntime) -> Result<(), Fail> {
+    let none: &[&str] = &[];
+    let mistakes = [
+        (
+            none,
+            "error: 'svahost' requires a subcommand but one was not provided\n  [subcommands: replay]\n\nUsage: svahost <COMMAND>\n\nFor more information, try '--help'.\n",
+        ),
+        (
+            &["storm"],
+            "error: unrecognized subcommand 'storm'\n\nUsage: svahost <COMMAND>\n\nFor more information, try '--help'.\n",
+        ),
+        (
+            &["--version"],
+            "error: unexpected argument '--version' found\n\nUsage: svahost <COMMAND>\n\nFor more information, try '--help'.\n",
+        ),
+        (
+            &["replay", "first.sva"],
+            "error: unexpected argument 'first.sva' found\n\nUsage: svahost replay\n\nFor more information, try '--help'.\n",
+        ),
+    ];
+    for (words, text) in mistakes {
+        let ran = run_on(&rt, words, SCENARIO)?;
+        assert!(rt; ran.said.as_slice() == text.as_bytes(), "{text}");
+        assert_eq!(rt;
+            (ran.status, ran.written.len(), ran.reads),
+            (2, 0, 0),
+            "{text}"
+        );
+    }
+    Ok(())
+}
+
+#[test]
+fn shows_help(rt: HostRuntime) -> Result<(), Fail> {
+    let short =
+        "Runs scenarios of a host for shared virtual addressing\n\nUsage: svahost <COMMAND>\n\nCommands:\n  replay  Runs the scenario on standard input, and prints its report\n\nOptions:\n  -h, --help  Print help (see more with '--help')\n";
+    let ran = run_on(&rt, &["-h"], SCENARIO)?;
+    assert!(rt; ran.written.as_slice() == short.as_bytes());
+    assert_eq!(rt; (ran.status, ran.said.len(), ran.reads), (0, 0, 0));
+    for words in [["--help"].as_slice(), ["replay", "--help"].as_slice()] {
+        let ran = run_on(&rt, words, SCENARIO)?;
+        assert_eq!(rt; (ran.status, ran.said.len(), ran.reads), (0, 0, 0));
+        let text = std::str::from_utf8(ran.written.as_slice())
+            .ok()
+            .ok_or("help is text")?;
+        for part in [
+            "A scenario is a text",
+            "    map 0 16 w\n",
+            "    free 3 mapped 1 withheld 0\n",
+            "docs/FORMAT.md",
+        ] {
+            assert!(rt; text.contains(part), "{part}");
+        }
+    }
+    Ok(())
+}
+
+/// Gives a byte a call, so many times, and fails then.
+#[derive(Drop)]
+struct BrokenReader {
+    left: u64,
+}
+
+impl Read for BrokenReader {
+    fn read(&mut self, piece: &mut [u8]) -> io::Result<usize> {
+        if self.left == 0 || piece.is_empty() {
+            return Err(ErrorKind::Other.into());
+        }
+        self.left -= 1;
+        piece[0] = b'#';
+        Ok(1)
+    }
+}
+
+/// Takes a byte a call, so many in all, and fails then.
+#[derive(Drop)]
+struct BrokenWriter {
+    taken: Vec<u8>,
+    most: usize,
+}
+
+impl Write for BrokenWriter {
+    fn write(&mut self, bytes: &[u8]) -> io::Result<usize> {
+        if self.taken.len() >= self.most {
+            return Err(ErrorKind::Other.into());
+        }
+        let Some(first) = bytes.first() else {
+            return Ok(0);
+        };
+        self.taken.push(*first)?;
+        Ok(1)
+    }
+
+    fn flush(&mut self) -> io::Result<()> {
+        Ok(())
+    }
+}
+
+#[test]
+fn tells_of_a_read_fault(rt: HostRuntime) -> Result<(), Fail> {
+    let alloc = rt.alloc();
+    let words = line(&rt, &["replay"])?;
+    let mut reader = Told::new(BrokenReader { left: 5 });
+    let mut writer = Told::new(Vec::new(alloc));
+    let mut errors = Told::new(Vec::new(alloc));
+    let status = main_with(&rt, words.as_slice(), &mut reader, &mut writer, &mut errors);
+    assert_eq!(rt; (status, writer.inner.len()), (1, 0));
+    assert!(rt; errors.inner.as_slice() == b"svahost: read fault\n".as_slice());
+    Ok(())
+}
+
+/// A run whose writer fails after so many bytes: is the status 1, are these bytes the text's front, and is the write
+/// fault told?
+fn ends_in_write_fault<R: AllocGlobal>(
+    rt: &R,
+    words: &[&str],
+    most: usize,
+    text: &str,
+) -> Result<bool, AllocError> {
+    let words = line(rt, words)?;
+    let mut reader = Told::new(SCENARIO);
+    let taken = Vec::new(rt.alloc());
+    let mut writer = Told::new(BrokenWriter { taken, most });
+    let mut errors = Told::new(Vec::new(rt.alloc()));
+    let status = main_with(rt, words.as_slice(), &mut reader, &mut writer, &mut errors);
+    let taken = writer.inner.taken.as_slice();
+    Ok(
+        status == 1
+            && taken.len() == most
+            && text.as_bytes().starts_with(taken)
+            && errors.inner.as_slice() == b"svahost: write fault\n".as_slice(),
+    )
+}
+
+#[test]
+fn tells_of_a_write_fault(rt: HostRuntime) -> Result<(), Fail> {
+    for most in [0, 1, 7, 8, 57] {
+        assert!(rt;
+            ends_in_write_fault(&rt, &["replay"], most, REPORT)?,
+            "{most}"
+        );
+    }
+    assert!(rt; ends_in_write_fault(&rt, &["--help"], 4, "Runs")?);
+    Ok(())
+}
+
+#[test]
+fn keeps_the_status_where_errors_fail(rt: HostRuntime) -> Result<(), Fail> {
+    let alloc = rt.alloc();
+    for (word, want) in [("replay", 1), ("storm", 2)] {
+        let words = line(&rt, &[word])?;
+        let mut reader = Told::new(BrokenReader { left: 0 });
+        let mut writer = Told::new(Vec::new(alloc));
+        let taken = Vec::new(alloc);
+        let mut errors = Told::new(BrokenWriter { taken, most: 3 });
+        let status = main_with(&rt, words.as_slice(), &mut reader, &mut writer, &mut errors);
+        assert_eq!(rt;
+            (status, writer.inner.len(), errors.inner.taken.len()),
+            (want, 0, 3)
+        );
+    }
+    Ok(())
+}

@@ -1,0 +1,150 @@
+//! The scenarios of examples/ with their reports, as they stand there: `scripts/examples` compares them.
+
+/// Each scenario, its report, and the status of its run.
+pub const EXAMPLES: [(&str, &str, u8); 5] = [
+    (FIRST, FIRST_REPORT, 0),
+    (PAGES, PAGES_REPORT, 0),
+    (REFUSALS, REFUSALS_REPORT, 0),
+    (TYPO, TYPO_REPORT, 1),
+    (TOO_LARGE, TOO_LARGE_REPORT, 1),
+];
+
+const FIRST: &str = "# A page is mapped, unmapped, and its frame used again.
+
+# One endpoint, four frames, one worker.
+config 1 4 1
+
+# An address space. Its number is 0.
+space
+
+# Page 16 of space 0 leads to the lowest free frame, and may be read and written.
+map 0 16 w
+
+# No endpoint is bound to the space, so the frame is free at once.
+unmap 0 16
+
+# The lowest free frame is that same one. This time the page may only be read.
+map 0 16 r
+";
+
+const FIRST_REPORT: &str = "space 0
+frame 0
+free 0
+frame 0
+free 3 mapped 1 withheld 0
+";
+
+const PAGES: &str = "# Two address spaces share eight frames: the lowest free frame comes first.
+config 1 8 1
+space
+space
+
+# Three pages of space 0 take the frames 0, 1 and 2.
+map 0 16 w
+map 0 17 w
+map 0 18 r
+
+# Page 16 of space 1 is another page than page 16 of space 0, and takes a frame of its own.
+map 1 16 r
+
+# Frame 1 comes back, and the next page takes it; the one after that takes frame 4.
+unmap 0 17
+map 1 17 w
+map 0 17 r
+
+# Three pages at once, from page 16 on: their frames are answered in the order of the pages.
+unmap 0 16 3
+
+# Of the frames 0, 2 and 4 to 7, which are free, 0 is the lowest.
+map 1 18 r
+";
+
+const PAGES_REPORT: &str = "space 0
+space 1
+frame 0
+frame 1
+frame 2
+frame 3
+free 1
+frame 1
+frame 4
+free 0 4 2
+frame 0
+free 5 mapped 3 withheld 0
+";
+
+const REFUSALS: &str =
+    "# Steps that are refused change nothing, and the run goes on. Refused steps are no failure: the status is 0.
+config 1 2 1
+
+# There is no space yet.
+map 0 16 w
+space
+map 0 16 w
+
+# A page is mapped once.
+map 0 16 r
+
+# Page numbers are below 2^36, which is 68719476736; the last of them can be mapped.
+map 0 68719476736 r
+map 0 68719476735 r
+
+# Both frames are in use.
+map 0 17 r
+
+# Page 17 isn't mapped. Nor can the pages 16 and 17 be unmapped together: page 16 stays.
+unmap 0 17
+unmap 0 16 2
+map 0 16 w
+
+# At most 48 pages are unmapped at once, and at least one.
+unmap 0 16 49
+unmap 0 16 0
+
+# The second of these two pages would be page 2^36.
+unmap 0 68719476735 2
+
+# The first cause that holds is answered: there is no space 1, and the count is too large.
+unmap 1 16 49
+";
+
+const REFUSALS_REPORT: &str = "refused 3 NoSuchSpace
+space 0
+frame 0
+refused 6 Mapped
+refused 5 PageRange
+frame 1
+refused 8 NoFrame
+refused 7 NotMapped
+refused 7 NotMapped
+refused 6 Mapped
+refused 29 BadCount
+refused 29 BadCount
+refused 5 PageRange
+refused 3 NoSuchSpace
+free 0 mapped 2 withheld 0
+";
+
+const TYPO: &str =
+    "# A text that can't be read is no scenario: nothing is run, and the report is its first fault alone. The status is 1.
+config 1 4 1
+space
+
+# The first line that can't be read is line 6, which is counted with the skipped ones: it has a word too few.
+map 0 16
+
+# This line can't be read either. It has the name of no step.
+mpa 0 17 w
+";
+
+const TYPO_REPORT: &str = "line 6 WordCount
+";
+
+const TOO_LARGE: &str =
+    "# A config out of its limits is refused, and no step is taken: there are at most 4096 frames. The status is 1.
+config 1 4097 1
+space
+";
+
+const TOO_LARGE_REPORT: &str = "refused 1 BadConfig
+";

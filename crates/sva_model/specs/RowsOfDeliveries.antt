@@ -288,6 +288,8 @@ cache_full_in_reset =
     ∷ says (step.Deliver 134) answer.Held
     ∷ says (step.BeginUse 0 1 16 false) (answer.Use 0 0)
     ∷ says (step.Deliver 135) answer.Dropped
+    ∷ refused (step.Deliver 133) refusal.NoSuchMessage
+    ∷ says (step.Ask 0 1 81) (answer.Tag 1)
     ∷ [])
 
 abbrev pub CacheFullInReset : Type 0

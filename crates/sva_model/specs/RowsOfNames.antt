@@ -1,6 +1,6 @@
 -- Runs that are worked out: the numbers of endpoints, spaces, bindings, groups, requests and messages differ from one another,
 -- so that one taken for another would show; and two of a kind side by side, of which a step means one.
-use Rattle.std.specs.Prelude.{◌≡◌, ℕ, true, false, List, [], ◌∷◌, None, ◌++◌, ◌+◌, Some}
+use Rattle.std.specs.Prelude.{◌≡◌, ℕ, Bool, true, false, List, [], ◌∷◌, None, ◌++◌, ◌+◌, Some}
 use Rattle.sva_step.specs.declared.answers.Answer.TheVariants as answer
 use Rattle.sva_step.specs.declared.limits.Config.{Config}
 use Rattle.sva_step.specs.declared.refusals.Refusal.TheVariants as refusal
@@ -716,3 +716,39 @@ second_unmap =
 
 abbrev pub SecondUnmap : Type 0
 SecondUnmap = IsRow (config 1 4 1 0) second_unmap 4 0 0
+
+-- an ITag comes back with the last completion that names it, and is given out again only then
+abbrev pub tags_given_back : List Line
+tags_given_back =
+    (says step.Space (answer.Space 0)
+    ∷ [])
+    ++ lines 5 (λ k. says (step.Map 0 (16 + k) false) (answer.Frame k))
+    ++ (says (step.Bind 0 0) (answer.Binding 0 1)
+    ∷ says (step.Unmap 0 16 5) (answer.WithheldFrames (0 ∷ 1 ∷ 2 ∷ 3 ∷ 4 ∷ []))
+    ∷ says (step.Pump 0) (answer.Itag 0)
+    ∷ says (step.Pump 0) (answer.Itag 1)
+    ∷ says (step.Deliver 1) answer.Taken
+    ∷ says (step.Deliver 2) answer.Taken
+    ∷ says (step.Finish 0 1 2) (answer.Sent 2)
+    ∷ says (step.Deliver 3) (answer.Freed 0)
+    ∷ says (step.Pump 0) (answer.Itag 2)
+    ∷ says (step.Finish 0 2 1) (answer.Sent 1)
+    ∷ says (step.Deliver 4) (answer.Freed 1)
+    ∷ says (step.Pump 0) (answer.Itag 0)
+    ∷ says (step.Pump 0) (answer.Itag 3)
+    ∷ says (step.Deliver 6) (answer.Freed 1)
+    ∷ says (step.Pump 0) answer.Blocked
+    ∷ [])
+
+abbrev pub TagsGivenBack : Type 0
+TagsGivenBack = IsRow (config 1 5 1 0) tags_given_back 0 0 5
+
+-- what the page requests of an endpoint ask for, to read and to write, in the order in which they were sent
+abbrev pub AreAsked : Config → List Line → (endpoint : ℕ) → (read write : List Bool) → Type 0
+AreAsked c row e read write =
+    let p = (world_after c (steps_of row)).part e in
+    (tabulate p.page_requests p.asks_read ≡ read) × (tabulate p.page_requests p.asks_write ≡ write)
+
+abbrev pub NumbersApartAsAsked : Type 0
+NumbersApartAsAsked =
+    AreAsked (config 3 8 3 100) numbers_apart 1 (true ∷ true ∷ false ∷ true ∷ []) (true ∷ false ∷ true ∷ false ∷ [])

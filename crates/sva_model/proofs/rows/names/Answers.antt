@@ -70,3 +70,11 @@ returns-clause-newer_answer_in_place c = (refl, refl)
 pub returns-clause-second_unmap : goal.returns-clause-second_unmap
 unfolding lowest any_below all_below count_below select tabulate replies
 returns-clause-second_unmap c = (refl, refl)
+
+pub returns-clause-tags_given_back : goal.returns-clause-tags_given_back
+unfolding lowest any_below all_below count_below select tabulate replies
+returns-clause-tags_given_back c = (refl, refl)
+
+pub returns-clause-numbers_apart_as_asked : goal.returns-clause-numbers_apart_as_asked
+unfolding lowest any_below all_below count_below select tabulate replies
+returns-clause-numbers_apart_as_asked c = (refl, refl)

@@ -133,3 +133,25 @@ fn takes_the_lowest(rt: HostRuntime) -> Result<(), Fail> {
     assert_eq!(rt; withhold_lowest(&mut pool, Waits::new()), Some(0));
     Ok(())
 }
+
+/// A pool whose memory was refused opens at the next call. Both frames get the same waits.
+#[test]
+fn opens_after_a_refusal(rt: HostRuntime) -> Result<(), Fail> {
+    let mut pool = match FramePool::open(rt.alloc(), 2) {
+        Ok(pool) => pool,
+        Err(_refused) => FramePool::open(rt.alloc(), 2)?,
+    };
+    let mut waits = Waits::new();
+    waits.push(7, Target::Cookie(27));
+    waits.push(0, Target::Cookie(20));
+    assert_eq!(rt; withhold_lowest(&mut pool, waits.copied()), Some(0));
+    assert_eq!(rt; withhold_lowest(&mut pool, waits), Some(1));
+    pool.settle(0, 20);
+    pool.settle(7, 20);
+    assert_eq!(rt; place(&pool, 0), Some(Place::Withheld));
+    assert_eq!(rt; place(&pool, 1), Some(Place::Withheld));
+    pool.settle(7, 27);
+    assert_eq!(rt; place(&pool, 0), Some(Place::Free));
+    assert_eq!(rt; place(&pool, 1), Some(Place::Free));
+    Ok(())
+}

@@ -7,7 +7,7 @@ use Rattle.sva_step.specs.declared.steps.Verdict.TheVariants as verdict
 use Rattle.sva_model.specs.Rows.{Line, says, IsRow, config, refused, lines}
 use Rattle.std.specs.Prelude.{◌≡◌, ℕ, ◌&&◌, ◌==◌, nat_lt, if◌then◌else◌, map}
 use Rattle.sva_model.specs.Rows.{steps_of}
-use Rattle.sva_model.specs.State.{World, MappingState, opened}
+use Rattle.sva_model.specs.State.{World, opened}
 use Rattle.sva_model.specs.State.MappingState.{Unmade, Present}
 use Rattle.sva_model.specs.Steps.{replies, counts, run}
 

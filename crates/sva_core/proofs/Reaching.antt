@@ -5,7 +5,6 @@ use Rattle.sva_frames.specs.declared.pool.Counts.{Counts as FrameCounts}
 use Rattle.sva_step.specs.declared.limits.Config.{Config}
 use Rattle.sva_step.specs.declared.refusals.Refusal.TheVariants as refusal
 use Rattle.sva_step.specs.declared.steps.Step.{Step}
-use Rattle.sva_step.specs.Limits.{Fits as FitsStep}
 use Rattle.sva_model.specs.State.{World, opened}
 use Rattle.sva_model.specs.Claims.{Fits}
 use Rattle.sva_model.specs.Steps.{Reply, reply, next, world_after}
@@ -35,29 +34,6 @@ reached before s result after was step = reached_at was.config was.steps s resul
 
 pub reached_opened : (config : Config) (seen : Wire) → Fits config → seen ≡ wire (opened config) → IsReached seen
 reached_opened config seen fits is = record { config = config; steps = []; fits = fits; is_wire = is }
-
--- the limits of a config, by both of their words
-pub fits_model : (config : Config) → FitsStep config → Fits config
-fits_model config f = record {
-  some_endpoint = f.some_endpoint;
-  endpoints = f.most_endpoints;
-  some_frame = f.some_frame;
-  frames = f.most_frames;
-  some_worker = f.some_worker;
-  workers = f.most_workers;
-  first = f.first_number;
-}
-
-pub fits_step : (config : Config) → Fits config → FitsStep config
-fits_step config f = record {
-  some_endpoint = f.some_endpoint;
-  most_endpoints = f.endpoints;
-  some_frame = f.some_frame;
-  most_frames = f.frames;
-  some_worker = f.some_worker;
-  most_workers = f.workers;
-  first_number = f.first;
-}
 
 pub counts_of : (seen : Wire) (found : FrameCounts) → Counted seen found → CountsOf seen found
 counts_of seen found counted config steps fits is = (

@@ -2,6 +2,7 @@
 use Rattle.std.specs.Prelude.{◌≡◌, ◌↔◌, ℕ, ◌<◌, ◌≤◌, ◌^◌, Bool, true, Some, ◌⊎◌, List, [], ◌∷◌, ◌++◌}
 use Rattle.sva_step.specs.declared.limits.Config.{Config}
 use Rattle.sva_step.specs.declared.steps.Step.{Step}
+pub use Rattle.sva_step.specs.Limits.{Fits}
 use Rattle.sva_model.specs.Message.{Code}
 use Rattle.sva_model.specs.State.{Part, World}
 use Rattle.sva_model.specs.State.Stage.{Live, Stopping, Draining, Invalidating, Quiet, Lost}
@@ -14,16 +15,6 @@ use Rattle.sva_model.specs.State.Phase.{Open}
 use Rattle.sva_model.specs.States.{is_unreleased, is_open_group, place}
 use Rattle.sva_model.specs.States.Place.{Free, Mapped, Withheld}
 use Rattle.sva_model.specs.Steps.{world_after}
-
--- the limits of a config
-pub record Fits (config : Config) : Type 0 where
-  pub some_endpoint : 1 ≤ config.endpoints
-  pub endpoints : config.endpoints ≤ 8
-  pub some_frame : 1 ≤ config.frames
-  pub frames : config.frames ≤ 4096
-  pub some_worker : 1 ≤ config.workers
-  pub workers : config.workers ≤ 4
-  pub first : config.first ≤ 2 ^ 63
 
 -- Usable translations. At endpoint e, of binding b and page q, and by mapping m: one that is cached; that of a running
 -- use; or one that a Completion in flight carries, whose request is out and not doomed.

@@ -158,11 +158,11 @@ fit_from config f =
     (and_from _ _
     (and_from _ _
     (and_from _ _
-    (and_from _ _ (and_from _ _ (le-leb _ _ f.some_endpoint) (le-leb _ _ f.endpoints)) (le-leb _ _ f.some_frame))
-    (le-leb _ _ f.frames))
+    (and_from _ _ (and_from _ _ (le-leb _ _ f.some_endpoint) (le-leb _ _ f.most_endpoints)) (le-leb _ _ f.some_frame))
+    (le-leb _ _ f.most_frames))
     (le-leb _ _ f.some_worker))
-    (le-leb _ _ f.workers))
-    (le-leb _ _ f.first)
+    (le-leb _ _ f.most_workers))
+    (le-leb _ _ f.first_number)
 
 fit_to : (config : Config) → is_fit config ≡ true → Fits config
 fit_to config h =
@@ -174,12 +174,12 @@ fit_to config h =
     let one = and_parts _ _ two.0 in
     record {
       some_endpoint = leb-true _ _ one.0;
-      endpoints = leb-true _ _ one.1;
+      most_endpoints = leb-true _ _ one.1;
       some_frame = leb-true _ _ two.1;
-      frames = leb-true _ _ three.1;
+      most_frames = leb-true _ _ three.1;
       some_worker = leb-true _ _ four.1;
-      workers = leb-true _ _ five.1;
-      first = leb-true _ _ six.1;
+      most_workers = leb-true _ _ five.1;
+      first_number = leb-true _ _ six.1;
     }
 
 pub configs_are_tested : ConfigsAreTested

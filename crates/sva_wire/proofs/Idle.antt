@@ -59,7 +59,7 @@ first_idle config fits =
       jobs = refl;
       hands = ap (λ n. replicate n None) (sym (length-replicate {A = Option JobWire} config.workers None));
       in_flight = refl;
-      cookies = fits.first;
+      cookies = fits.first_number;
     }
 
 -- a step of spaces and frames leaves idle what was idle

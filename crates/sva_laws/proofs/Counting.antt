@@ -1,7 +1,7 @@
 -- How many pass.
 use Rattle.std.proofs.Common.{◌≡◌, ◌≢◌, ◌⊎◌, inl, inr, refl, ap, sym, ◌∙◌, ℕ, zero, suc, ◌+◌, ◌<◌, ◌≤◌, Bool, true, false, arith}
-use Rattle.std.specs.Prelude.{if◌then◌else◌}
-use Rattle.sva_model.specs.Words.{put, count_below}
+use Rattle.std.specs.Prelude.{if◌then◌else◌, List, [], ◌∷◌, ◌++◌, length}
+use Rattle.sva_model.specs.Words.{put, count_below, select}
 use Rattle.sva_laws.proofs.Words.{put-same, put-other, ℕ_cases}
 
 unfoldable pub bit : Bool → ℕ
@@ -106,3 +106,40 @@ pigeons (suc k) n p f b h d =
     count_off n p (put p (f k) false) (f k) (b k l) (h k l) (put-same p (f k) false) (λ x ne. sym (put-other p (f k) false x ne))
     in
     omega arith
+
+-- the list of those that pass is as long as they are many
+length_push : (xs ys : List ℕ) → length (xs ++ ys) ≡ length ys + length xs
+length_push [] ys = omega arith
+length_push (x ∷ xs) ys = omega (arith, length_push xs ys)
+
+pub length_select : (n : ℕ) (f : ℕ → Bool) → length (select n f) ≡ count_below n f
+unfolding select count_below bit
+length_select zero f = refl
+length_select (suc n) f = go (f n) (length_select n f)
+  where
+    go : (b : Bool) → length (select n f) ≡ count_below n f → length (select n f ++ (if b then n ∷ [] else [])) ≡ (if b then suc (count_below n f) else count_below n f)
+    go true e = omega (arith, e, length_push (select n f) (n ∷ []))
+    go false e = omega (arith, e, length_push (select n f) [])
+
+-- what passes of one table passes in another at places of their own
+pub count_placed : (k n : ℕ) (q p : ℕ → Bool) (f : ℕ → ℕ) → ((i : ℕ) → i < k → q i ≡ true → f i < n) → ((i : ℕ) → i < k → q i ≡ true → p (f i) ≡ true) → ((i j : ℕ) → i < k → j < k → f i ≡ f j → i ≡ j) → count_below k q ≤ count_below n p
+unfolding count_below
+count_placed zero n q p f b h d = omega arith
+count_placed (suc k) n q p f b h d =
+    go (q k) refl
+    (count_placed k n q p f (λ i m. b i (omega arith)) (λ i m. h i (omega arith)) (λ i j m o. d i j (omega arith) (omega arith)))
+    (count_placed k n q (put p (f k) false) f (λ i m. b i (omega arith)) (λ i m t. put-other p (f k) false (f i) (apart i m) ∙ h i (omega arith) t) (λ i j m o. d i j (omega arith) (omega arith)))
+  where
+    l : k < suc k
+    l = omega arith
+
+    apart : (i : ℕ) → i < k → f i ≢ f k
+    apart i m z = let same = d i k (omega arith) l z in absurd (omega arith)
+
+    go : (t : Bool) → q k ≡ t → count_below k q ≤ count_below n p → count_below k q ≤ count_below n (put p (f k) false) → (if t then suc (count_below k q) else count_below k q) ≤ count_below n p
+    go false e rest less = rest
+    go true e rest less =
+        let off : count_below n p ≡ suc (count_below n (put p (f k) false)) =
+        count_off n p (put p (f k) false) (f k) (b k l e) (h k l e) (put-same p (f k) false) (λ x ne. sym (put-other p (f k) false x ne))
+        in
+        omega arith

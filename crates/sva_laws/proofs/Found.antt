@@ -3,25 +3,28 @@ use Rattle.std.proofs.Common.{◌≡◌, ◌≢◌, ◌⊎◌, inl, inr, refl, a
 use Rattle.std.specs.Prelude.{Option, Some, None, ◌==◌}
 use Rattle.std.proofs.lemmas.Bool.Decides.{nat_tests}
 use Rattle.sva_model.specs.Message.{Code}
-use Rattle.sva_model.specs.State.{About, GroupState, HostGroupState, Part, World, Stage, UseState, Phase, OrderState}
+use Rattle.sva_model.specs.State.{About, PasidState, GroupState, HostGroupState, Part, World, Stage, UseState, Phase, OrderState}
 use Rattle.sva_model.specs.State.About.{StartOf, StopOf, ResetOrder, CompletionOf, InvalidateOf, ResponseOf, RequestOf, InvalidatedOf, PageRequestOf, MarkerOf, ResetDone}
-use Rattle.sva_model.specs.State.Stage.{Stopping}
-use Rattle.sva_model.specs.State.PasidState.{On, Ending}
+use Rattle.sva_model.specs.State.Stage.{Stopping, Invalidating}
+use Rattle.sva_model.specs.State.PasidState.{Off, On, Ending}
+use Rattle.sva_model.specs.State.GroupState.{Unfinished, Awaiting}
 use Rattle.sva_model.specs.State.UseState.{Ended}
 use Rattle.sva_model.specs.State.OrderState.{Sent}
 use Rattle.sva_model.specs.State.PageRequestState.{InFlight, Arrived, Filed, Dropped}
 use Rattle.sva_model.specs.State.HostGroupState.{NotFiled, PartFiled, Job, InHand, Replied, Discarded, InHandDiscarded}
-use Rattle.sva_model.specs.State.Phase.{Open}
-use Rattle.sva_model.specs.States.{is_unreleased, is_busy, is_off, is_open, is_outstanding}
+use Rattle.sva_model.specs.State.Phase.{Open, Ordered, Cleared}
+use Rattle.sva_model.specs.States.{is_unreleased, is_busy, is_off, is_open, is_outstanding, is_open_group, is_before_invalidating}
+use Rattle.sva_model.specs.Claims.{IsBearer}
 use Rattle.sva_model.specs.Acts.{binding_of}
 use Rattle.sva_laws.specs.Laws.{IsLabelled, IsFound, IsOnItsWay, IsUnderWay, NeverOccurs, is_answerable}
 use Rattle.sva_laws.specs.Laws.IsOnItsWay.{asked, is_job, in_hand, answered}
-use Rattle.sva_laws.proofs.Bindings.{is_unmarked}
-use Rattle.sva_laws.proofs.Labels.{has_slot}
-use Rattle.sva_laws.proofs.Orders.{is_undone}
+use Rattle.sva_laws.proofs.Bindings.{Bindings, is_unmarked}
+use Rattle.sva_laws.proofs.Labels.{Labels, has_slot}
+use Rattle.sva_laws.proofs.Orders.{is_undone, is_active}
 use Rattle.sva_laws.proofs.Requests.{is_cleared}
 use Rattle.sva_laws.proofs.Invariant.{Inv}
 use Rattle.sva_laws.proofs.PageRequests.{is_whole}
+use Rattle.sva_laws.proofs.Groups.{Groups, is_alive_group}
 use Rattle.sva_laws.proofs.OnTheWay.{OnTheWay}
 use Rattle.sva_laws.proofs.Ways.{Ways, is_of_request, is_response_to}
 use Rattle.sva_laws.proofs.Completions.{Owed}
@@ -66,11 +69,34 @@ not_cleared x h = grind arith
 alive_stage : (p : Part) (b : ℕ) → (p.pasid_state b ≡ On → is_unmarked (p.stage b) ≡ true) → (p.pasid_state b ≡ Ending → p.stage b ≡ Stopping false) → is_off (p.pasid_state b) ≡ false → is_unreleased (p.stage b) ≡ true
 alive_stage p b on ending h = grind arith
 
-sent_undone : (x : OrderState) → x ≡ Sent → is_undone x ≡ true
+pub sent_undone : (x : OrderState) → x ≡ Sent → is_undone x ≡ true
 sent_undone x h = grind arith
 
-sent_busy : (x : OrderState) → x ≡ Sent → is_busy x ≡ true
+pub sent_busy : (x : OrderState) → x ≡ Sent → is_busy x ≡ true
 sent_busy x h = grind arith
+
+isnt_cleared : (x : Phase) → ((d : ℕ) → x ≢ Cleared d) → is_cleared x ≡ false
+isnt_cleared Open h = refl
+isnt_cleared (Ordered c) h = refl
+isnt_cleared (Cleared c) h = absurd (h c refl)
+
+isnt_off : (s : PasidState) → is_off s ≡ false → s ≢ Off
+isnt_off s h e = absurd (cc)
+
+alive_group : (s : GroupState) → (s ≡ Unfinished) ⊎ (s ≡ Awaiting) → is_alive_group s ≡ true
+alive_group s (inl h) = ap is_alive_group h
+alive_group s (inr h) = ap is_alive_group h
+
+-- a binding whose PASID isn't off bears it
+started : (p : Part) (b : ℕ) → Labels p → Bindings p → is_off (p.pasid_state b) ≡ false → (IsBearer p b) × (p.pasid_state b ≢ Off)
+started p b la bi h = (bearer p b la (alive_stage p b (bi.on_stage b) (bi.ending_stage b) h), isnt_off (p.pasid_state b) h)
+
+-- an open group at an open unit is outstanding at the endpoint
+open_at : (p : Part) → Groups p → (g : ℕ) → p.phase ≡ Open → is_open_group (p.host_group g) ≡ true → p.at_index (p.index g) ≡ Some g
+open_at p gr g ph h = gr.bears_index g (gr.open_group g ph h).0
+
+one_index : (p : Part) (g h : ℕ) → p.at_index (p.index g) ≡ Some g → p.at_index (p.index h) ≡ Some h → p.index g ≡ p.index h → g ≡ h
+one_index p g h a b same = let z : p.at_index (p.index g) ≡ p.at_index (p.index h) = ap p.at_index same in cc
 
 pub found : (w : World) (e : ℕ) → Inv w → IsFound (w.part e)
 found w e i =
@@ -80,19 +106,33 @@ found w e i =
     let ra = (i.parts e).requests in
     let or = (i.parts e).orders in
     let ow = (i.parts e).owners in
+    let re = (i.parts e).resets in
+    let gr = (i.parts e).groups in
     record {
       start = λ c b h. bearer p b la (unmarked_unreleased (p.stage b) (bi.start_stage c b h));
       stop = λ c b h. bearer p b la (ap is_unreleased (bi.stop_stage c b h));
       request = λ c r ph h. let out = ra.ask_out c r h (not_cleared p.phase ph) in (bearer p (p.request_binding r) la (alive_stage p (p.request_binding r) (bi.on_stage (p.request_binding r)) (bi.ending_stage (p.request_binding r)) (ra.alive r out)), la.bears_tag r out);
-      completion = λ c r f ph h. la.bears_tag r (ra.answer_out c r f h (not_cleared p.phase ph));
+      completion = λ c r f ph h. la.bears_tag r (ra.answer_out c r f h (isnt_cleared p.phase ph));
+      none_out = λ c r h. re.over c r h;
+      out = λ r h. started p (p.request_binding r) la bi (ra.alive r h);
+      asker = λ g h. started p (p.asker g) la bi (gr.alive g (alive_group (p.group g) h));
       invalidate = λ c k h. let s = la.sent c k h in (s, la.bears_itag k (sent_busy (p.order_state k) s), bearer p (binding_of (p.order k)) la (active_unreleased (p.stage (binding_of (p.order k))) (or.undone_stage k (sent_undone (p.order_state k) s) (or.no_wait k (sent_busy (p.order_state k) s)))));
       cached = λ r m h. bearer p (p.request_binding r) la (active_unreleased (p.stage (p.request_binding r)) (ow.held r m h));
       in_use = λ u h. bearer p (p.use_binding u) la (active_unreleased (p.stage (p.use_binding u)) (ow.running u h));
+      page_request = λ r ph h. gr.bears_index (p.group_of r) ((i.parts e).lasts.out r ph h);
+      open_group = λ g ph h. open_at p gr g ph h;
+      one_group = λ g h ph x y same. one_index p g h (open_at p gr g ph x) (open_at p gr h ph y) same;
       request_once = ra.ask_once;
       completion_once = ra.answer_once;
       there_or_back = ra.not_both;
       invalidate_once = la.sent_once;
     }
+
+before_not : (s : Stage) (k x : ℕ) → is_before_invalidating s ≡ true → s ≢ Invalidating k x
+before_not s k x h e = absurd (cc (sym (ap is_before_invalidating e) ∙ h))
+
+inactive_not : (s : Stage) (k x : ℕ) → is_active s ≡ false → s ≢ Invalidating k x
+inactive_not s k x h e = absurd (cc (sym (ap is_active e) ∙ h))
 
 pub never : (w : World) (e : ℕ) → Inv w → NeverOccurs (w.part e)
 never w e i =
@@ -109,7 +149,12 @@ never w e i =
       marker = (i.parts e).bindings.marker_stage;
       open_group = λ g ph h. (gr.open_group g ph h).1;
       arrived = gr.arrived_stage;
+      reply = λ g v k x ph h. replies g v k x ph h;
     }
+  where
+    replies : (g v k x : ℕ) → (w.part e).phase ≡ Open → ((w.part e).host_group g ≡ InHand v) ⊎ ((w.part e).host_group g ≡ InHandDiscarded v) → (w.part e).stage ((w.part e).filed_under g) ≢ Invalidating k x
+    replies g v k x ph (inl h) = before_not ((w.part e).stage ((w.part e).filed_under g)) k x ((i.parts e).groups.open_group g ph (ap is_open_group h)).1
+    replies g v k x ph (inr h) = inactive_not ((w.part e).stage ((w.part e).filed_under g)) k x ((i.parts e).groups.discarded g v ph h)
 
 -- what is awaited is on its way
 request_there : (r : ℕ) (m : Option About) → is_of_request r m ≡ true → (m ≡ Some (RequestOf r)) ⊎ ((found : Option ℕ) × (m ≡ Some (CompletionOf r found)))
@@ -183,6 +228,7 @@ under_way w e i wa on ow =
     let p = w.part e in
     let re = (i.parts e).resets in
     let gr = (i.parts e).groups in
+    let qu = (i.parts e).queued in
     record {
       sent = wa.sent;
       sent_only = (i.parts e).labels.sent;
@@ -190,6 +236,8 @@ under_way w e i wa on ow =
       owing = ow.owing;
       never_lapsed = λ k ph h. is_closed p.phase (re.lapsed k h) ph;
       request = λ r ph h. (p.request_message r, request_there r (p.message (p.request_message r)) (wa.out r ph h));
+      asked = λ r. ((λ h. (p.page_request_message r, qu.message r h)), (λ x. (qu.in_flight x.0 r x.1).0));
+      asked_once = λ c d r h k. sym (qu.in_flight c r h).1 ∙ (qu.in_flight d r k).1;
       group = λ g ph a. way w e i wa on g ph a;
       response_once = λ c d g code other h k. sym (gr.response c g code h).2 ∙ (gr.response d g other k).2;
     }

@@ -1,6 +1,6 @@
 -- No endpoint has more than 32 page requests outstanding, and so no more in its page request queue.
-use Rattle.std.proofs.Common.{◌≡◌, ◌≢◌, ◌⊎◌, inl, inr, refl, sym, subst, ℕ, zero, suc, ◌+◌, ◌<◌, ◌≤◌, Bool, true, false, arith}
-use Rattle.std.specs.Prelude.{Option, Some, None, List, [], ◌∷◌}
+use Rattle.std.proofs.Common.{◌≡◌, ◌≢◌, ◌⊎◌, inl, inr, refl, ap, sym, subst, ◌∙◌, ℕ, zero, suc, ◌+◌, ◌<◌, ◌≤◌, Bool, true, false, arith}
+use Rattle.std.specs.Prelude.{Option, Some, None, List, [], ◌∷◌, length}
 use Rattle.std.proofs.lemmas.Bool.Decides.{nat_tests}
 use Rattle.sva_step.specs.declared.limits.Config.{Config}
 use Rattle.sva_step.specs.declared.steps.Step.{Step}
@@ -12,12 +12,13 @@ use Rattle.sva_model.specs.States.{Place, is_arrived, is_outstanding, is_open, p
 use Rattle.sva_model.specs.States.Place.{Free, Mapped, Withheld}
 use Rattle.sva_model.specs.Acts.{Act, Own, act, own, submitted_if, submits, bound, cookie_of}
 use Rattle.sva_model.specs.Acts.Act.{NewSpace, DropSpace, Map, Unmap, NewBinding, NewJob, Hold, LetGo, At}
-use Rattle.sva_model.specs.Labels.{outstanding}
+use Rattle.sva_model.specs.Labels.{outstanding, is_waiting}
 use Rattle.sva_model.specs.Steps.{decide, next, run, after_acts, world_after, counts, is_free_at, is_mapped_at, is_withheld_at}
-use Rattle.sva_laws.specs.Laws.{page_queue}
-use Rattle.sva_laws.proofs.Counting.{bit, bit_most, count_next, count_less}
+use Rattle.sva_laws.specs.Laws.{page_queue, waiting}
+use Rattle.sva_laws.proofs.Counting.{bit, bit_most, count_next, count_less, length_select, count_placed}
 use Rattle.sva_laws.proofs.Legal.{LegalOwn}
 use Rattle.sva_laws.proofs.Bounds.{Bounds}
+use Rattle.sva_laws.proofs.PageRequests.{Queued}
 use Rattle.sva_laws.proofs.Invariant.{Inv}
 use Rattle.sva_laws.proofs.Keeps.{Legal, act_keeps, put_keeps}
 use Rattle.sva_laws.proofs.Passed.{LegalAll}
@@ -102,6 +103,22 @@ always_page_queue c ss e = omega (arith, less, always_outstanding c ss e)
 
     less : page_queue p ≤ outstanding p
     less = count_less p.page_requests (λ r. is_arrived (p.page_request r)) (λ r. is_outstanding (p.group (p.group_of r))) (λ r lt h. is (is_open p.phase) refl r h)
+
+-- each that waits is in the list of arrivals once
+waiting_placed : (p : Part) → Queued p → length (waiting p) ≤ page_queue p
+waiting_placed p qu =
+    omega (arith, length_select p.arrivals (is_waiting p), placed)
+  where
+    same : (i j : ℕ) → i < p.arrivals → j < p.arrivals → p.arrival i ≡ p.arrival j → i ≡ j
+    same i j a b e = sym (qu.arrival i a).0 ∙ ap p.arrived_as e ∙ (qu.arrival j b).0
+
+    placed : count_below p.arrivals (is_waiting p) ≤ page_queue p
+    placed = count_placed p.arrivals p.page_requests (is_waiting p) (λ r. is_arrived (p.page_request r)) p.arrival (λ i a t. (qu.arrival i a).1) (λ i a t. t) same
+
+pub always_waiting : (c : Config) (ss : List Step) (e : ℕ) → length (waiting ((world_after c ss).part e)) ≤ 32
+always_waiting c ss e =
+    let i = (always c ss).parts e in
+    omega (arith, waiting_placed ((world_after c ss).part e) i.queued, always_page_queue c ss e)
 
 -- Free, mapped and withheld frames are all frames.
 

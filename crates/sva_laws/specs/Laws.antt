@@ -1,22 +1,23 @@
 -- Laws of the definitions beside the headline: what labels find, what can't occur, and how many there are.
-use Rattle.std.specs.Prelude.{◌≡◌, ◌≢◌, ◌⊎◌, ◌↔◌, ℕ, ◌+◌, ◌<◌, ◌≤◌, Bool, true, false, Option, Some, List, [], ◌∷◌, ◌++◌}
+use Rattle.std.specs.Prelude.{◌≡◌, ◌≢◌, ◌⊎◌, ◌↔◌, ℕ, ◌+◌, ◌<◌, ◌≤◌, Bool, true, false, Option, Some, List, [], ◌∷◌, ◌++◌, length}
 use Rattle.sva_step.specs.declared.limits.Config.{Config}
 use Rattle.sva_step.specs.declared.steps.Step.{Step}
-use Rattle.sva_model.specs.Words.{count_below}
+use Rattle.sva_model.specs.Words.{count_below, select}
 use Rattle.sva_model.specs.Message.{Code}
 use Rattle.sva_model.specs.State.{About, GroupState, OrderState, Part}
-use Rattle.sva_model.specs.State.About.{StartOf, StopOf, ResetOrder, CompletionOf, InvalidateOf, ResponseOf, RequestOf, InvalidatedOf, MarkerOf, ResetDone}
+use Rattle.sva_model.specs.State.About.{StartOf, StopOf, ResetOrder, CompletionOf, InvalidateOf, ResponseOf, RequestOf, InvalidatedOf, PageRequestOf, MarkerOf, ResetDone}
 use Rattle.sva_model.specs.State.Phase.{Open, Cleared}
-use Rattle.sva_model.specs.State.Stage.{Stopping}
+use Rattle.sva_model.specs.State.Stage.{Stopping, Invalidating}
 use Rattle.sva_model.specs.State.OrderState.{Sent, Lapsed, Owing}
-use Rattle.sva_model.specs.State.GroupState.{Awaiting, Stale}
-use Rattle.sva_model.specs.State.HostGroupState.{NotFiled, PartFiled, Job, InHand, Replied}
+use Rattle.sva_model.specs.State.PasidState.{Off}
+use Rattle.sva_model.specs.State.GroupState.{Unfinished, Awaiting, Stale}
+use Rattle.sva_model.specs.State.HostGroupState.{NotFiled, PartFiled, Job, InHand, Replied, InHandDiscarded}
 use Rattle.sva_model.specs.State.UseState.{Running, Ended}
 use Rattle.sva_model.specs.State.PageRequestState.{InFlight, Arrived}
 use Rattle.sva_model.specs.States.{is_unreleased, is_out, is_busy, is_outstanding, is_open_group, is_arrived, is_before_invalidating, place}
 use Rattle.sva_model.specs.States.Place.{Free, Withheld}
 use Rattle.sva_model.specs.Acts.{binding_of}
-use Rattle.sva_model.specs.Labels.{outstanding}
+use Rattle.sva_model.specs.Labels.{outstanding, is_waiting}
 use Rattle.sva_model.specs.Steps.{counts, world_after}
 use Rattle.sva_model.specs.Claims.{Fits, Usable, IsPresent, IsWithheld, IsDivided, IsMatched, IsBearer}
 
@@ -84,10 +85,21 @@ pub record IsFound (p : Part) : Type 0 where
   pub start : (c b : ℕ) → p.message c ≡ Some (StartOf b) → IsBearer p b
   pub stop : (c b : ℕ) → p.message c ≡ Some (StopOf b) → IsBearer p b
   pub request : (c r : ℕ) → p.phase ≡ Open → p.message c ≡ Some (RequestOf r) → (IsBearer p (p.request_binding r)) × (p.at_tag (p.request_tag r) ≡ Some r)
-  pub completion : (c r : ℕ) (found : Option ℕ) → p.phase ≡ Open → p.message c ≡ Some (CompletionOf r found) → p.at_tag (p.request_tag r) ≡ Some r
+  -- a completion finds its request by the tag while the endpoint hasn't reset itself; from then until the reset-done none is out
+  pub completion : (c r : ℕ) (found : Option ℕ) → ((d : ℕ) → p.phase ≢ Cleared d) → p.message c ≡ Some (CompletionOf r found) → p.at_tag (p.request_tag r) ≡ Some r
+  pub none_out : (c r : ℕ) → p.phase ≡ Cleared c → is_out (p.request r) ≡ false
+  -- in every phase a translation request that is out, and a group of page requests that isn't whole or awaits its response,
+  -- is of the binding that bears the PASID, which the endpoint has started
+  pub out : (r : ℕ) → is_out (p.request r) ≡ true → (IsBearer p (p.request_binding r)) × (p.pasid_state (p.request_binding r) ≢ Off)
+  pub asker : (g : ℕ) → (p.group g ≡ Unfinished) ⊎ (p.group g ≡ Awaiting) → (IsBearer p (p.asker g)) × (p.pasid_state (p.asker g) ≢ Off)
   pub invalidate : (c k : ℕ) → p.message c ≡ Some (InvalidateOf k) → (p.order_state k ≡ Sent) × (p.at_itag (p.itag k) ≡ Some k) × (IsBearer p (binding_of (p.order k)))
   pub cached : (r m : ℕ) → p.held r ≡ Some m → IsBearer p (p.request_binding r)
   pub in_use : (u : ℕ) → p.use_state u ≡ Running → IsBearer p (p.use_binding u)
+  -- at an open unit a page request in flight or arrived, and a group that the host has open, finds the group at the endpoint
+  -- by its index; so no two groups that the host has open have the same index
+  pub page_request : (r : ℕ) → p.phase ≡ Open → (p.page_request r ≡ InFlight) ⊎ (p.page_request r ≡ Arrived) → p.at_index (p.index (p.group_of r)) ≡ Some (p.group_of r)
+  pub open_group : (g : ℕ) → p.phase ≡ Open → is_open_group (p.host_group g) ≡ true → p.at_index (p.index g) ≡ Some g
+  pub one_group : (g h : ℕ) → p.phase ≡ Open → is_open_group (p.host_group g) ≡ true → is_open_group (p.host_group h) ≡ true → p.index g ≡ p.index h → g ≡ h
   -- each is in flight once
   pub request_once : (c d r : ℕ) → p.message c ≡ Some (RequestOf r) → p.message d ≡ Some (RequestOf r) → c ≡ d
   pub completion_once : (c d r : ℕ) (f g : Option ℕ) → p.message c ≡ Some (CompletionOf r f) → p.message d ≡ Some (CompletionOf r g) → c ≡ d
@@ -109,14 +121,20 @@ pub record NeverOccurs (p : Part) : Type 0 where
   -- an open group of page requests, or a page request that has arrived, of a binding that is past Draining
   pub open_group : (g : ℕ) → p.phase ≡ Open → is_open_group (p.host_group g) ≡ true → is_before_invalidating (p.stage (p.filed_under g)) ≡ true
   pub arrived : (r : ℕ) → p.page_request r ≡ Arrived → is_before_invalidating (p.stage (p.asker (p.group_of r))) ≡ true
+  -- a worker that replies at an open unit for a binding that is Invalidating, whether or not a reset has dropped the job
+  pub reply : (g worker invalidation wait : ℕ) → p.phase ≡ Open → (p.host_group g ≡ InHand worker) ⊎ (p.host_group g ≡ InHandDiscarded worker) → p.stage (p.filed_under g) ≢ Invalidating invalidation wait
 
--- page requests that have arrived and aren't filed
+-- page requests that have arrived and aren't filed: their number, and their list in order of arrival
 abbrev pub page_queue : Part → ℕ
 page_queue p = count_below p.page_requests (λ r. is_arrived (p.page_request r))
+
+abbrev pub waiting : Part → List ℕ
+waiting p = select p.arrivals (is_waiting p)
 
 pub record IsLimited (p : Part) : Type 0 where
   pub outstanding : outstanding p ≤ 32
   pub page_queue : page_queue p ≤ 32
+  pub waiting : length (waiting p) ≤ 32
 
 abbrev pub AlwaysLabelled : Type 0
 AlwaysLabelled = (config : Config) (steps : List Step) (e : ℕ) → Fits config → IsLabelled ((world_after config steps).part e)
@@ -165,6 +183,9 @@ pub record IsUnderWay (n : ℕ) (p : Part) : Type 0 where
   pub never_lapsed : (k : ℕ) → p.phase ≡ Open → p.order_state k ≢ Lapsed
   -- each translation request that is out has its request or its completion in flight
   pub request : (r : ℕ) → p.phase ≡ Open → is_out (p.request r) ≡ true → (c : ℕ) × ((p.message c ≡ Some (RequestOf r)) ⊎ ((found : Option ℕ) × (p.message c ≡ Some (CompletionOf r found))))
+  -- a page request is in flight exactly where a message in flight speaks of it, and one does
+  pub asked : (r : ℕ) → (p.page_request r ≡ InFlight) ↔ ((c : ℕ) × (p.message c ≡ Some (PageRequestOf r)))
+  pub asked_once : (c d r : ℕ) → p.message c ≡ Some (PageRequestOf r) → p.message d ≡ Some (PageRequestOf r) → c ≡ d
   -- each group that awaits its response, or is stale, is in one place on the way to it
   pub group : (g : ℕ) → p.phase ≡ Open → is_answerable (p.group g) ≡ true → IsOnItsWay p g
   pub response_once : (c d g : ℕ) (code other : Code) → p.message c ≡ Some (ResponseOf g code) → p.message d ≡ Some (ResponseOf g other) → c ≡ d

@@ -1,9 +1,9 @@
 use Rattle.sva_laws.proofs.Claimed.{always_agrees}
-use Rattle.sva_laws.proofs.Limits.{always_outstanding, always_page_queue}
+use Rattle.sva_laws.proofs.Limits.{always_outstanding, always_page_queue, always_waiting}
 use Rattle.sva_laws.proofs.page_requests.Goals as goal
 
 pub returns-clause-matched : goal.returns-clause-matched
 returns-clause-matched c = λ config steps e fits. (always_agrees config steps fits).matched e
 
 pub returns-clause-limited : goal.returns-clause-limited
-returns-clause-limited c = λ config steps e fits. record { outstanding = always_outstanding config steps e; page_queue = always_page_queue config steps e }
+returns-clause-limited c = λ config steps e fits. record { outstanding = always_outstanding config steps e; page_queue = always_page_queue config steps e; waiting = always_waiting config steps e }

@@ -34,21 +34,30 @@ fn maps_and_unmaps(rt: HostRuntime) -> Result<(), Fail> {
     }
     assert_eq!(rt; space.find(16), Some((0, false)));
     assert_eq!(rt; space.len(), 2);
+    pops_and_unmaps(&rt, space, first, second);
+    Ok(())
+}
 
+/// Takes page 16 out as the lowest one, and then page 17 by its number.
+fn pops_and_unmaps<R: Abort>(
+    rt: &R,
+    mut space: Space,
+    mut first: FramePool,
+    mut second: FramePool,
+) {
     let Some((page, frame, write)) = space.pop_first() else {
         panic!(rt; "the space is empty");
     };
     assert_eq!(rt; (page, write), (16, false));
-    second.give(frame);
+    give(rt, &mut second, frame);
     let Some((frame, write)) = space.unmap(17) else {
         panic!(rt; "page 17 isn't mapped");
     };
     assert!(rt; write);
-    first.give(frame);
+    give(rt, &mut first, frame);
     assert!(rt; space.find(17).is_none());
     assert!(rt; space.is_empty());
     space.close();
-    Ok(())
 }
 
 /// A page of the test below: the first frame is mapped at page 100, and each next one at the page below.

@@ -32,7 +32,7 @@ fn end_by_reset<R: Abort>(rt: &R, table: &mut Table, binding: u64) {
 }
 
 #[test]
-fn each_move_once(rt: HostRuntime) {
+fn stops_and_drains_once(rt: HostRuntime) {
     let stopping = Live::new(9, 4).stop();
     assert_eq!(rt;
         (stopping.binding(), stopping.pasid(), stopping.is_marked()),
@@ -56,6 +56,15 @@ fn each_move_once(rt: HostRuntime) {
         ),
         (9, 4, 71, false)
     );
+    draining.by_reset().release().spend();
+}
+
+#[test]
+fn invalidates_and_releases_once(rt: HostRuntime) {
+    let draining = match Live::new(9, 4).stop().mark().drain(71) {
+        Ok(draining) => draining,
+        Err(_stopping) => panic!(rt; "the marker was noted"),
+    };
     let draining = match draining.invalidate(72, false) {
         Ok(_invalidating) => panic!(rt; "the wait with drain is not done"),
         Err(draining) => draining.waited(),

@@ -16,13 +16,13 @@ use Rattle.sva_model.specs.State.Phase.{Open, Ordered, Cleared}
 use Rattle.sva_model.specs.States.{is_unreleased, is_busy, is_off, is_open, is_outstanding, is_open_group, is_before_invalidating}
 use Rattle.sva_model.specs.Claims.{IsBearer}
 use Rattle.sva_model.specs.Acts.{binding_of}
-use Rattle.sva_laws.specs.Laws.{IsLabelled, IsFound, IsOnItsWay, IsUnderWay, NeverOccurs, is_answerable}
+use Rattle.sva_laws.specs.Laws.{IsLabelled, IsFound, IsOnItsWay, IsUnderWay, NeverOccurs, HoldsJobs, is_answerable}
 use Rattle.sva_laws.specs.Laws.IsOnItsWay.{asked, is_job, in_hand, answered}
 use Rattle.sva_laws.proofs.Bindings.{Bindings, is_unmarked}
 use Rattle.sva_laws.proofs.Labels.{Labels, has_slot}
 use Rattle.sva_laws.proofs.Orders.{is_undone, is_active}
 use Rattle.sva_laws.proofs.Requests.{is_cleared}
-use Rattle.sva_laws.proofs.Invariant.{Inv}
+use Rattle.sva_laws.proofs.Invariant.{Inv, IsHeldBy}
 use Rattle.sva_laws.proofs.PageRequests.{is_whole}
 use Rattle.sva_laws.proofs.Groups.{Groups, is_alive_group}
 use Rattle.sva_laws.proofs.OnTheWay.{OnTheWay}
@@ -241,3 +241,18 @@ under_way w e i wa on ow =
       group = λ g ph a. way w e i wa on g ph a;
       response_once = λ c d g code other h k. sym (gr.response c g code h).2 ∙ (gr.response d g other k).2;
     }
+
+-- a group is in one hand
+one_worker : (s : HostGroupState) (x y : ℕ) → IsHeldBy s x → IsHeldBy s y → x ≡ y
+one_worker s x y a b = grind arith
+
+pub holds_jobs : (w : World) → Inv w → HoldsJobs w
+holds_jobs w i =
+    record {
+      made = i.hands.made;
+      in_hand = i.hands.held;
+      one_hand = λ x y j k a b e g. one_worker ((w.part (w.job k).endpoint).host_group (w.job k).group) x y (moved x j k e g (i.hands.held x j a)) (i.hands.held y k b);
+    }
+  where
+    moved : (x j k : ℕ) → (w.job j).endpoint ≡ (w.job k).endpoint → (w.job j).group ≡ (w.job k).group → IsHeldBy ((w.part (w.job j).endpoint).host_group (w.job j).group) x → IsHeldBy ((w.part (w.job k).endpoint).host_group (w.job k).group) x
+    moved x j k e g h = subst (λ z. IsHeldBy ((w.part z).host_group (w.job k).group) x) e (subst (λ z. IsHeldBy ((w.part (w.job j).endpoint).host_group z) x) g h)

@@ -2,6 +2,7 @@
 use Rattle.std.proofs.Common.{◌≡◌, ℕ, suc, ◌<◌, ◌≤◌, ◌≢◌, ◌⊎◌, true, false}
 use Rattle.std.specs.Prelude.{Option, Some, None}
 use Rattle.sva_model.specs.Message.{Code}
+use Rattle.sva_model.specs.Message.Message.{CompletionMessage}
 use Rattle.sva_model.specs.State.{Mappings, Part, About}
 use Rattle.sva_model.specs.State.Stage.{Unbound, Live, Stopping, Draining, Invalidating, Quiet, Lost}
 use Rattle.sva_model.specs.State.PasidState.{On, Ending}
@@ -86,10 +87,11 @@ LegalOwn ms g p (Keep c r m) = (p.message c ≡ Some (CompletionOf r (Some m))) 
 LegalOwn ms g p (Forget c r) = (found : Option ℕ) × (p.message c ≡ Some (CompletionOf r found)) × (is_out (p.request r) ≡ true)
 LegalOwn ms g p (Take c k) = p.message c ≡ Some (InvalidateOf k)
 LegalOwn ms g p (Answered c x code) = p.message c ≡ Some (ResponseOf x code)
-LegalOwn ms g p (Complete c r None answer) = (p.message c ≡ Some (RequestOf r)) × (p.phase ≡ Open)
+LegalOwn ms g p (Complete c r None answer) = (p.message c ≡ Some (RequestOf r)) × (p.phase ≡ Open) × (answer ≡ CompletionMessage (p.request_tag r) 0 false false)
 LegalOwn ms g p (Complete c r (Some m) answer) =
     (p.message c ≡ Some (RequestOf r)) × (p.phase ≡ Open) × (p.stage (p.request_binding r) ≡ Live)
     × (ms.at (p.space (p.request_binding r)) (p.request_page r) ≡ Some m)
+    × (answer ≡ CompletionMessage (p.request_tag r) (ms.frame m) true (ms.write m))
 LegalOwn ms g p (Count c names) = (p.message c ≡ Some (InvalidatedOf names)) × (p.phase ≡ Open)
 LegalOwn ms g p (Arrive c r) = (p.message c ≡ Some (PageRequestOf r)) × (p.phase ≡ Open) × (p.is_last r ≡ true → NoOlderPageRequest p c)
 LegalOwn ms g p (Miss c r) = (p.message c ≡ Some (PageRequestOf r)) × (is_open p.phase ≡ false)

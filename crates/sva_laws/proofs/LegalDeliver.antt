@@ -75,10 +75,10 @@ request_legal w e c r true l h o = go (found_for w (w.part e) r) refl
     live_is s k = grind arith
 
     go : (x : Option ℕ) → found_for w (w.part e) r ≡ x → LegalAll w (Act.At e (Own.Complete c r x (completion_message w ((w.part e).request_tag r) x)) ∷ [])
-    go None f = ((l, ((h, open_is (w.part e) o), tt), tt), tt)
+    go None f = ((l, ((h, open_is (w.part e) o, refl), tt), tt), tt)
     go (Some m) f =
         let there = live (is_live_stage ((w.part e).stage ((w.part e).request_binding r))) (w.mappings.at ((w.part e).space ((w.part e).request_binding r)) ((w.part e).request_page r)) m f in
-        ((l, ((h, open_is (w.part e) o, live_is ((w.part e).stage ((w.part e).request_binding r)) there.0, there.1), tt), tt), tt)
+        ((l, ((h, open_is (w.part e) o, live_is ((w.part e).stage ((w.part e).request_binding r)) there.0, there.1, refl), tt), tt), tt)
 
 count_legal : (w : World) (e c : ℕ) (names : ℕ → Bool) (b : Bool) → e < w.config.endpoints → (w.part e).message c ≡ Some (InvalidatedOf names) → is_open (w.part e).phase ≡ b → LegalAll w (count_outcome (w.part e) e c names b).acts
 count_legal w e c names true l h o = ((l, ((h, open_is (w.part e) o), tt), tt), tt)

@@ -34,3 +34,4 @@ pub mod Freed
 pub mod Ways
 pub mod Completions
 pub mod OnTheWay
+pub mod Carried

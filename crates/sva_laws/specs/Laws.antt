@@ -1,10 +1,11 @@
 -- Laws of the definitions beside the headline: what labels find, what can't occur, and how many there are.
-use Rattle.std.specs.Prelude.{◌≡◌, ◌≢◌, ◌⊎◌, ◌↔◌, ℕ, ◌+◌, ◌<◌, ◌≤◌, Bool, true, false, Option, Some, List, [], ◌∷◌, ◌++◌, length}
+use Rattle.std.specs.Prelude.{◌≡◌, ◌≢◌, ◌⊎◌, ◌↔◌, ℕ, ◌+◌, ◌<◌, ◌≤◌, Bool, true, false, Option, Some, None, List, [], ◌∷◌, ◌++◌, length}
 use Rattle.sva_step.specs.declared.limits.Config.{Config}
 use Rattle.sva_step.specs.declared.steps.Step.{Step}
 use Rattle.sva_model.specs.Words.{count_below, select}
 use Rattle.sva_model.specs.Message.{Code}
-use Rattle.sva_model.specs.State.{About, GroupState, OrderState, Part}
+use Rattle.sva_model.specs.Message.Message.{StartMessage, StopMessage, ResetMessage, CompletionMessage, InvalidateMessage, ResponseMessage, RequestMessage, PageRequestMessage, MarkerMessage, ResetDoneMessage}
+use Rattle.sva_model.specs.State.{About, GroupState, Mappings, OrderState, Part, World}
 use Rattle.sva_model.specs.State.About.{StartOf, StopOf, ResetOrder, CompletionOf, InvalidateOf, ResponseOf, RequestOf, InvalidatedOf, PageRequestOf, MarkerOf, ResetDone}
 use Rattle.sva_model.specs.State.Phase.{Open, Cleared}
 use Rattle.sva_model.specs.State.Stage.{Stopping, Invalidating}
@@ -16,7 +17,7 @@ use Rattle.sva_model.specs.State.UseState.{Running, Ended}
 use Rattle.sva_model.specs.State.PageRequestState.{InFlight, Arrived}
 use Rattle.sva_model.specs.States.{is_unreleased, is_out, is_busy, is_outstanding, is_open_group, is_arrived, is_before_invalidating, place}
 use Rattle.sva_model.specs.States.Place.{Free, Withheld}
-use Rattle.sva_model.specs.Acts.{binding_of}
+use Rattle.sva_model.specs.Acts.{binding_of, extent_of}
 use Rattle.sva_model.specs.Labels.{outstanding, is_waiting}
 use Rattle.sva_model.specs.Steps.{counts, world_after}
 use Rattle.sva_model.specs.Claims.{Fits, Usable, IsPresent, IsWithheld, IsDivided, IsMatched, IsBearer}
@@ -106,6 +107,26 @@ pub record IsFound (p : Part) : Type 0 where
   pub there_or_back : (c d r : ℕ) (f : Option ℕ) → p.message c ≡ Some (RequestOf r) → p.message d ≢ Some (CompletionOf r f)
   pub invalidate_once : (c d k : ℕ) → p.message c ≡ Some (InvalidateOf k) → p.message d ≡ Some (InvalidateOf k) → c ≡ d
 
+-- What a message in flight carries: the labels and fields of the records that it was sent for, as these records have them
+-- still. So what its receiver finds by them is what `IsLabelled` and `IsFound` say.
+pub record IsCarried (ms : Mappings) (p : Part) : Type 0 where
+  pub start : (c b : ℕ) → p.message c ≡ Some (StartOf b) → p.carried c ≡ StartMessage (p.pasid b)
+  pub stop : (c b : ℕ) → p.message c ≡ Some (StopOf b) → p.carried c ≡ StopMessage (p.pasid b)
+  pub reset : (c : ℕ) → p.message c ≡ Some ResetOrder → p.carried c ≡ ResetMessage
+  -- a Completion: the tag of its request; the frame of the mapping that it found, which may be read, and written if the
+  -- mapping may; or no translation, which has neither flag
+  pub completion : (c r m : ℕ) → p.message c ≡ Some (CompletionOf r (Some m)) → p.carried c ≡ CompletionMessage (p.request_tag r) (ms.frame m) true (ms.write m)
+  pub no_translation : (c r : ℕ) → p.message c ≡ Some (CompletionOf r None) → p.carried c ≡ CompletionMessage (p.request_tag r) 0 false false
+  -- an Invalidate: the ITag of its order, the PASID of the order's binding, and one page or all
+  pub invalidate : (c k : ℕ) → p.message c ≡ Some (InvalidateOf k) → p.carried c ≡ InvalidateMessage (p.itag k) (p.pasid (binding_of (p.order k))) (extent_of (p.order k))
+  -- a Response: the PASID under which the host filed its group, the group's index, and the code
+  pub response : (c g : ℕ) (code : Code) → p.message c ≡ Some (ResponseOf g code) → p.carried c ≡ ResponseMessage (p.pasid (p.filed_under g)) (p.index g) code
+  pub request : (c r : ℕ) → p.message c ≡ Some (RequestOf r) → p.carried c ≡ RequestMessage (p.request_tag r) (p.pasid (p.request_binding r)) (p.request_page r)
+  -- a page request: the PASID of its group's asker, the group's index, and what it asks
+  pub page_request : (c r : ℕ) → p.message c ≡ Some (PageRequestOf r) → p.carried c ≡ PageRequestMessage (p.pasid (p.asker (p.group_of r))) (p.index (p.group_of r)) (p.asked_page r) (p.asks_read r) (p.asks_write r) (p.is_last r)
+  pub marker : (c b : ℕ) → p.message c ≡ Some (MarkerOf b) → p.carried c ≡ MarkerMessage (p.pasid b)
+  pub reset_done : (c : ℕ) → p.message c ≡ Some ResetDone → p.carried c ≡ ResetDoneMessage
+
 -- What can't occur.
 pub record NeverOccurs (p : Part) : Type 0 where
   -- a Reset or a ResetDone in flight at an open unit
@@ -192,3 +213,25 @@ pub record IsUnderWay (n : ℕ) (p : Part) : Type 0 where
 
 abbrev pub AlwaysUnderWay : Type 0
 AlwaysUnderWay = (config : Config) (steps : List Step) (e : ℕ) → Fits config → IsUnderWay (world_after config steps).messages ((world_after config steps).part e)
+
+abbrev pub AlwaysCarried : Type 0
+AlwaysCarried = (config : Config) (steps : List Step) (e : ℕ) → Fits config → IsCarried (world_after config steps).mappings ((world_after config steps).part e)
+
+-- A worker's hand holds a job that was made, of a group that is in that worker's hand at the host, whether or not a reset has
+-- dropped it since; so no two hands hold jobs of the same group.
+pub record HoldsJobs (w : World) : Type 0 where
+  pub made : (worker job : ℕ) → w.hand worker ≡ Some job → job < w.jobs
+  pub in_hand :
+      (worker job : ℕ)
+      → w.hand worker ≡ Some job
+      → ((w.part (w.job job).endpoint).host_group (w.job job).group ≡ InHand worker) ⊎ ((w.part (w.job job).endpoint).host_group (w.job job).group ≡ InHandDiscarded worker)
+  pub one_hand :
+      (worker other job same : ℕ)
+      → w.hand worker ≡ Some job
+      → w.hand other ≡ Some same
+      → (w.job job).endpoint ≡ (w.job same).endpoint
+      → (w.job job).group ≡ (w.job same).group
+      → worker ≡ other
+
+abbrev pub AlwaysHoldsJobs : Type 0
+AlwaysHoldsJobs = (config : Config) (steps : List Step) → Fits config → HoldsJobs (world_after config steps)

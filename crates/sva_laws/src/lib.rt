@@ -2,7 +2,7 @@
 #![tactic(auto)]
 
 ghost use Rattle.sva_model.specs.Claims.{AlwaysAgrees};
-ghost use Rattle.sva_laws.specs.Laws.{AlwaysOwned, AlwaysPresentOrWithheld, AlwaysMatched, AlwaysDivided, AlwaysAddsUp, AlwaysWithheldExactly, FreeByTheLastAnswer, AlwaysLabelled, AlwaysFound, AlwaysUnderWay, NeverOccurring, AlwaysLimited};
+ghost use Rattle.sva_laws.specs.Laws.{AlwaysOwned, AlwaysPresentOrWithheld, AlwaysMatched, AlwaysHoldsJobs, AlwaysDivided, AlwaysAddsUp, AlwaysWithheldExactly, FreeByTheLastAnswer, AlwaysLabelled, AlwaysFound, AlwaysCarried, AlwaysUnderWay, NeverOccurring, AlwaysLimited};
 
 /// The headline. After every list of steps, however late messages come in a permitted order: each translation that an
 /// endpoint may still use has an unreleased owner, and is the present one of its page or leads to a withheld frame; page
@@ -22,6 +22,7 @@ pub fn translations()
 /// Page requests, groups, jobs, markers and responses stand under the binding that asked.
 pub fn page_requests()
     ensures matched { AlwaysMatched }
+    ensures hands { AlwaysHoldsJobs }
     ensures limited { AlwaysLimited }
 {}
 
@@ -33,11 +34,13 @@ pub fn frames()
     ensures freed { FreeByTheLastAnswer }
 {}
 
-/// Labels: each is borne by at most one record, and finds the record that a step or a message speaks of; what is awaited
+/// Labels: each is borne by at most one record, and finds the record that a step or a message speaks of; a message in
+/// flight carries the labels of the records that it was sent for; what is awaited
 /// at an open unit is on its way, once; and what can't occur at a delivery doesn't.
 pub fn labels_and_deliveries()
     ensures labelled { AlwaysLabelled }
     ensures found { AlwaysFound }
+    ensures carried { AlwaysCarried }
     ensures under_way { AlwaysUnderWay }
     ensures never { NeverOccurring }
 {}

@@ -4,6 +4,7 @@ use Rattle.sva_laws.proofs.Found.{labelled, found, under_way, never}
 use Rattle.sva_laws.proofs.Ways.{always_ways}
 use Rattle.sva_laws.proofs.OnTheWay.{always_on_the_way}
 use Rattle.sva_laws.proofs.Completions.{always_owed}
+use Rattle.sva_laws.proofs.Carried.{always_carried}
 use Rattle.sva_laws.proofs.labels_and_deliveries.Goals as goal
 
 pub returns-clause-labelled : goal.returns-clause-labelled
@@ -17,3 +18,6 @@ returns-clause-never c = λ config steps e fits. never (world_after config steps
 
 pub returns-clause-under_way : goal.returns-clause-under_way
 returns-clause-under_way c = λ config steps e fits. under_way (world_after config steps) e (always config steps) (always_ways config steps e) (always_on_the_way config steps e) (always_owed config steps e)
+
+pub returns-clause-carried : goal.returns-clause-carried
+returns-clause-carried c = λ config steps e fits. always_carried config steps e

@@ -1,4 +1,7 @@
 use Rattle.sva_laws.proofs.Claimed.{always_agrees}
+use Rattle.sva_model.specs.Steps.{world_after}
+use Rattle.sva_laws.proofs.Runs.{always}
+use Rattle.sva_laws.proofs.Found.{holds_jobs}
 use Rattle.sva_laws.proofs.Limits.{always_outstanding, always_page_queue, always_waiting}
 use Rattle.sva_laws.proofs.page_requests.Goals as goal
 
@@ -7,3 +10,6 @@ returns-clause-matched c = λ config steps e fits. (always_agrees config steps f
 
 pub returns-clause-limited : goal.returns-clause-limited
 returns-clause-limited c = λ config steps e fits. record { outstanding = always_outstanding config steps e; page_queue = always_page_queue config steps e; waiting = always_waiting config steps e }
+
+pub returns-clause-hands : goal.returns-clause-hands
+returns-clause-hands c = λ config steps fits. holds_jobs (world_after config steps) (always config steps)

@@ -3,6 +3,7 @@ use Rattle.std.proofs.Common.{◌≡◌, ℕ, ◌+◌, ◌-◌, ◌<◌, unwrap_
 use Rattle.std.proofs.lemmas.Bool.{or_parts, or_right, and_parts, eqb-true}
 use Rattle.std.proofs.lemmas.List.{drop_more, set_at, length-append}
 use Rattle.std.proofs.lemmas.Option.{same_Some, slice_get_within, get_or_from_slice_get}
+use Rattle.std.specs.Hash.DefaultHasher.{wrapping_add}
 use Rattle.std.specs.List.{position_from, list_any, find}
 use Rattle.sva_msg.specs.declared.messages.PageRequest.{PageRequest}
 use Rattle.sva_prq.specs.Groups.{OpenGroup, Groups, is_unfinished, has_job, new_group, with_request, filed_among, answered_among, after_answer, filed, unfinished_asks, job_of, job_made}
@@ -130,57 +131,57 @@ find-place p gs place is g there =
     ap (find p) f.whole ∙ find-first p f.front f.group f.back f.none f.passes ∙ sym at ∙ there
 
 -- filing goes to the first unfinished group, or to a new one
-module _ (unit binding : ℕ) (request : PageRequest) where
-  pub filed_among-first : (front : List OpenGroup) (g : OpenGroup) (back : List OpenGroup) → list_any (is_unfinished unit binding request.index) front ≡ false → is_unfinished unit binding request.index g ≡ true → filed_among unit binding request (front ++ g ∷ back) ≡ front ++ with_request g request ∷ back
+module _ (next unit binding : ℕ) (request : PageRequest) where
+  pub filed_among-first : (front : List OpenGroup) (g : OpenGroup) (back : List OpenGroup) → list_any (is_unfinished unit binding request.index) front ≡ false → is_unfinished unit binding request.index g ≡ true → filed_among next unit binding request (front ++ g ∷ back) ≡ front ++ with_request g request ∷ back
   filed_among-first [] g back none passes =
-      ap (λ t. cond t (with_request g request ∷ back) (g ∷ filed_among unit binding request back)) passes
+      ap (λ t. cond t (with_request g request ∷ back) (g ∷ filed_among next unit binding request back)) passes
   filed_among-first (h ∷ front) g back none passes =
       let p = is_unfinished unit binding request.index in
       let parts = or_parts (p h) (list_any p front) none in
-      ap (λ t. cond t (with_request h request ∷ (front ++ g ∷ back)) (h ∷ filed_among unit binding request (front ++ g ∷ back))) parts.0
+      ap (λ t. cond t (with_request h request ∷ (front ++ g ∷ back)) (h ∷ filed_among next unit binding request (front ++ g ∷ back))) parts.0
       ∙ ap (λ gs. h ∷ gs) (filed_among-first front g back parts.1 passes)
 
-  pub filed_among-none : (gs : List OpenGroup) → list_any (is_unfinished unit binding request.index) gs ≡ false → filed_among unit binding request gs ≡ gs ++ with_request (new_group unit binding request.index) request ∷ []
+  pub filed_among-none : (gs : List OpenGroup) → list_any (is_unfinished unit binding request.index) gs ≡ false → filed_among next unit binding request gs ≡ gs ++ with_request (new_group next unit binding request.index) request ∷ []
   filed_among-none [] none = refl
   filed_among-none (h ∷ gs) none =
       let p = is_unfinished unit binding request.index in
       let parts = or_parts (p h) (list_any p gs) none in
-      ap (λ t. cond t (with_request h request ∷ gs) (h ∷ filed_among unit binding request gs)) parts.0
+      ap (λ t. cond t (with_request h request ∷ gs) (h ∷ filed_among next unit binding request gs)) parts.0
       ∙ ap (λ gs. h ∷ gs) (filed_among-none gs parts.1)
 
 -- an answer ends the first group whose job is made, if there is one
-module _ (binding index : ℕ) where
-  pub answered_among-first : (front : List OpenGroup) (g : OpenGroup) (back : List OpenGroup) → list_any (has_job binding index) front ≡ false → has_job binding index g ≡ true → answered_among binding index (front ++ g ∷ back) ≡ front ++ back
-  answered_among-first [] g back none passes = ap (λ t. cond t back (g ∷ answered_among binding index back)) passes
+module _ (serial : ℕ) where
+  pub answered_among-first : (front : List OpenGroup) (g : OpenGroup) (back : List OpenGroup) → list_any (has_job serial) front ≡ false → has_job serial g ≡ true → answered_among serial (front ++ g ∷ back) ≡ front ++ back
+  answered_among-first [] g back none passes = ap (λ t. cond t back (g ∷ answered_among serial back)) passes
   answered_among-first (h ∷ front) g back none passes =
-      let parts = or_parts (has_job binding index h) (list_any (has_job binding index) front) none in
-      ap (λ t. cond t (front ++ g ∷ back) (h ∷ answered_among binding index (front ++ g ∷ back))) parts.0
+      let parts = or_parts (has_job serial h) (list_any (has_job serial) front) none in
+      ap (λ t. cond t (front ++ g ∷ back) (h ∷ answered_among serial (front ++ g ∷ back))) parts.0
       ∙ ap (λ gs. h ∷ gs) (answered_among-first front g back parts.1 passes)
 
-  pub answered_among-none : (gs : List OpenGroup) → list_any (has_job binding index) gs ≡ false → answered_among binding index gs ≡ gs
+  pub answered_among-none : (gs : List OpenGroup) → list_any (has_job serial) gs ≡ false → answered_among serial gs ≡ gs
   answered_among-none [] none = refl
   answered_among-none (h ∷ gs) none =
-      let parts = or_parts (has_job binding index h) (list_any (has_job binding index) gs) none in
-      ap (λ t. cond t gs (h ∷ answered_among binding index gs)) parts.0
+      let parts = or_parts (has_job serial h) (list_any (has_job serial) gs) none in
+      ap (λ t. cond t gs (h ∷ answered_among serial gs)) parts.0
       ∙ ap (λ gs. h ∷ gs) (answered_among-none gs parts.1)
 
 -- what an answer leaves, by the place that the search found
-pub answered-some : (s : Groups) (binding index place : ℕ) → position_from (has_job binding index) 0 s.groups ≡ Some place → (place < length s.groups) × (record { groups = remove s.groups place; room = s.room + 1 } ≡ after_answer s binding index)
-answered-some s binding index place is =
-    let p = has_job binding index in
+pub answered-some : (s : Groups) (serial place : ℕ) → position_from (has_job serial) 0 s.groups ≡ Some place → (place < length s.groups) × (record s { groups = remove s.groups place; room = s.room + 1 } ≡ after_answer s serial)
+answered-some s serial place is =
+    let p = has_job serial in
     let f = first_at p s.groups place is in
     let any : list_any p s.groups ≡ true = ap (list_any p) f.whole ∙ any-first p f.front f.group f.back f.passes in
-    let gone : remove s.groups place ≡ answered_among binding index s.groups =
+    let gone : remove s.groups place ≡ answered_among serial s.groups =
     ap (λ gs. remove gs place) f.whole ∙ ap (remove (f.front ++ f.group ∷ f.back)) (sym f.long)
     ∙ remove-first p f.front f.group f.back
-    ∙ sym (answered_among-first binding index f.front f.group f.back f.none f.passes)
-    ∙ ap (answered_among binding index) (sym f.whole) in
-    (position-within p s.groups place is, λ i. record { groups = gone i; room = cond (sym any i) (s.room + 1) s.room })
+    ∙ sym (answered_among-first serial f.front f.group f.back f.none f.passes)
+    ∙ ap (answered_among serial) (sym f.whole) in
+    (position-within p s.groups place is, λ i. record s { groups = gone i; room = cond (sym any i) (s.room + 1) s.room })
 
-pub answered-none : (s : Groups) (binding index : ℕ) → position_from (has_job binding index) 0 s.groups ≡ None → s ≡ after_answer s binding index
-answered-none s binding index is =
-    let none = no_first (has_job binding index) s.groups 0 is in
-    λ i. record { groups = sym (answered_among-none binding index s.groups none) i; room = cond (sym none i) (s.room + 1) s.room }
+pub answered-none : (s : Groups) (serial : ℕ) → position_from (has_job serial) 0 s.groups ≡ None → s ≡ after_answer s serial
+answered-none s serial is =
+    let none = no_first (has_job serial) s.groups 0 is in
+    λ i. record s { groups = sym (answered_among-none serial s.groups none) i; room = cond (sym none i) (s.room + 1) s.room }
 
 -- what filing leaves and makes, by the place that the search found
 pub record FiledAt (s : Groups) (unit binding : ℕ) (request : PageRequest) (place : ℕ) : Type 0 where
@@ -192,19 +193,20 @@ pub record FiledAt (s : Groups) (unit binding : ℕ) (request : PageRequest) (pl
   pub job : job_of (with_request group request) ≡ job_made s unit binding request
 
 -- the group that an unfinished place has names the binding and the index
-job-unfinished : (unit binding : ℕ) (request : PageRequest) (gs : List OpenGroup) (g : OpenGroup) → find (is_unfinished unit binding request.index) gs ≡ Some g → is_unfinished unit binding request.index g ≡ true → (room : ℕ) → job_of (with_request g request) ≡ job_made (record { groups = gs; room = room }) unit binding request
-job-unfinished unit binding request gs g found passes room =
+job-unfinished : (unit binding : ℕ) (request : PageRequest) (gs : List OpenGroup) (g : OpenGroup) → find (is_unfinished unit binding request.index) gs ≡ Some g → is_unfinished unit binding request.index g ≡ true → (room next : ℕ) → job_of (with_request g request) ≡ job_made (record { groups = gs; room = room; next = next }) unit binding request
+job-unfinished unit binding request gs g found passes room next =
     let all = and_parts _ _ passes in
     let three = and_parts _ _ all.0 in
     let two = and_parts _ _ three.0 in
     let same_binding : g.binding ≡ binding = eqb-true _ _ two.1 in
     let same_index : g.index ≡ request.index = eqb-true _ _ three.1 in
     let same_asks : g.asks ≡ unfinished_asks unit binding request.index gs =
-    ap (λ o. (unwrap_or o (new_group unit binding request.index)).asks) (sym found) in
+    ap (λ o. (unwrap_or o (new_group 0 unit binding request.index)).asks) (sym found) in
     λ i. cond request.last (Some (record {
       binding = same_binding i;
       index = same_index i;
       asks = same_asks i ++ ask_of request ∷ [];
+      serial = (unwrap_or (sym found i) (new_group next unit binding request.index)).serial;
     })) None
 
 pub filed-some : (s : Groups) (unit binding : ℕ) (request : PageRequest) (place : ℕ) → position_from (is_unfinished unit binding request.index) 0 s.groups ≡ Some place → FiledAt s unit binding request place
@@ -213,11 +215,11 @@ filed-some s unit binding request place is =
     let f = first_at p s.groups place is in
     let any : list_any p s.groups ≡ true = ap (list_any p) f.whole ∙ any-first p f.front f.group f.back f.passes in
     let found : find p s.groups ≡ Some f.group = ap (find p) f.whole ∙ find-first p f.front f.group f.back f.none f.passes in
-    let written : set s.groups place (with_request f.group request) ≡ filed_among unit binding request s.groups =
+    let written : set s.groups place (with_request f.group request) ≡ filed_among s.next unit binding request s.groups =
     ap (λ gs. set gs place (with_request f.group request)) f.whole
     ∙ set_at f.front f.group f.back (with_request f.group request) place f.long
-    ∙ sym (filed_among-first unit binding request f.front f.group f.back f.none f.passes)
-    ∙ ap (filed_among unit binding request) (sym f.whole) in
+    ∙ sym (filed_among-first s.next unit binding request f.front f.group f.back f.none f.passes)
+    ∙ ap (filed_among s.next unit binding request) (sym f.whole) in
     let at : slice_get s.groups place ≡ Some f.group =
     ap (λ gs. slice_get gs place) f.whole ∙ ap (slice_get (f.front ++ f.group ∷ f.back)) (sym f.long)
     ∙ get-first p f.front f.group f.back in
@@ -226,14 +228,14 @@ filed-some s unit binding request place is =
       at = at;
       within = slice_get_within s.groups place f.group at;
       found = found;
-      groups = λ i. record { groups = written i; room = cond (sym any i) s.room (s.room - 1) };
-      job = job-unfinished unit binding request s.groups f.group found f.passes s.room;
+      groups = λ i. record { groups = written i; room = cond (sym any i) s.room (s.room - 1); next = cond (sym any i) s.next (wrapping_add s.next 1) };
+      job = job-unfinished unit binding request s.groups f.group found f.passes s.room s.next;
     }
 
 pub record FiledNew (s : Groups) (unit binding : ℕ) (request : PageRequest) : Type 0 where
   pub found : find (is_unfinished unit binding request.index) s.groups ≡ None
-  pub groups : record { groups = s.groups ++ with_request (new_group unit binding request.index) request ∷ []; room = s.room - 1 } ≡ filed s unit binding request
-  pub job : job_of (with_request (new_group unit binding request.index) request) ≡ job_made s unit binding request
+  pub groups : record { groups = s.groups ++ with_request (new_group s.next unit binding request.index) request ∷ []; room = s.room - 1; next = wrapping_add s.next 1 } ≡ filed s unit binding request
+  pub job : job_of (with_request (new_group s.next unit binding request.index) request) ≡ job_made s unit binding request
 
 pub filed-none : (s : Groups) (unit binding : ℕ) (request : PageRequest) → position_from (is_unfinished unit binding request.index) 0 s.groups ≡ None → FiledNew s unit binding request
 filed-none s unit binding request is =
@@ -242,10 +244,15 @@ filed-none s unit binding request is =
     let found = find-none p s.groups none in
     record {
       found = found;
-      groups = λ i. record { groups = sym (filed_among-none unit binding request s.groups none) i; room = cond (sym none i) s.room (s.room - 1) };
+      groups = λ i. record {
+        groups = sym (filed_among-none s.next unit binding request s.groups none) i;
+        room = cond (sym none i) s.room (s.room - 1);
+        next = cond (sym none i) s.next (wrapping_add s.next 1);
+      };
       job = λ i. cond request.last (Some (record {
         binding = binding;
         index = request.index;
-        asks = (unwrap_or (sym found i) (new_group unit binding request.index)).asks ++ ask_of request ∷ [];
+        asks = (unwrap_or (sym found i) (new_group 0 unit binding request.index)).asks ++ ask_of request ∷ [];
+        serial = (unwrap_or (sym found i) (new_group s.next unit binding request.index)).serial;
       })) None;
     }

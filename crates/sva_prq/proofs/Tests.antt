@@ -45,23 +45,23 @@ name_as u b i unit binding index g h =
     let name = unfinished_name u b i g h in
     λ j. is_same (name.units j) (name.bindings j) (name.indexes j) unit binding index
 
-or_swap : (x s a : Bool) → (x || (s || a)) ≡ (s || (x || a))
+pub or_swap : (x s a : Bool) → (x || (s || a)) ≡ (s || (x || a))
 or_swap true true a = refl
 or_swap true false a = refl
 or_swap false s a = refl
 
-or_twice : (s a : Bool) → (s || a) ≡ (s || (s || a))
+pub or_twice : (s a : Bool) → (s || a) ≡ (s || (s || a))
 or_twice true a = refl
 or_twice false a = refl
 
 -- a test that answers one thing at the groups that a request can go to
-module _ (p : OpenGroup → Bool) (s : Bool) (u b : ℕ) (request : PageRequest) where
-  pub filed_any : ((g : OpenGroup) → is_unfinished u b request.index g ≡ true → (p (with_request g request) ≡ s) × (p g ≡ s)) → p (with_request (new_group u b request.index) request) ≡ s → (gs : List OpenGroup) → list_any p (filed_among u b request gs) ≡ (s || list_any p gs)
+module _ (p : OpenGroup → Bool) (s : Bool) (n u b : ℕ) (request : PageRequest) where
+  pub filed_any : ((g : OpenGroup) → is_unfinished u b request.index g ≡ true → (p (with_request g request) ≡ s) × (p g ≡ s)) → p (with_request (new_group n u b request.index) request) ≡ s → (gs : List OpenGroup) → list_any p (filed_among n u b request gs) ≡ (s || list_any p gs)
   filed_any keeps new [] = ap (λ t. t || false) new
   filed_any keeps new (g ∷ gs) =
       (elim (is_unfinished u b request.index g)
       as (λ t. is_unfinished u b request.index g ≡ t
-      → list_any p (cond t (with_request g request ∷ gs) (g ∷ filed_among u b request gs)) ≡ (s || (p g || list_any p gs))) [
+      → list_any p (cond t (with_request g request ∷ gs) (g ∷ filed_among n u b request gs)) ≡ (s || (p g || list_any p gs))) [
         | true ↦ λ e.
             ap (λ t. t || list_any p gs) (keeps g e).0 ∙ or_twice s (list_any p gs)
             ∙ ap (λ t. s || (t || list_any p gs)) (sym (keeps g e).1)
@@ -69,36 +69,36 @@ module _ (p : OpenGroup → Bool) (s : Bool) (u b : ℕ) (request : PageRequest)
       ]) refl
 
 -- a test that fails at the groups that an answer can end
-module _ (p : OpenGroup → Bool) (binding index : ℕ) where
-  pub answered_any : ((g : OpenGroup) → has_job binding index g ≡ true → p g ≡ false) → (gs : List OpenGroup) → list_any p (answered_among binding index gs) ≡ list_any p gs
+module _ (p : OpenGroup → Bool) (serial : ℕ) where
+  pub answered_any : ((g : OpenGroup) → has_job serial g ≡ true → p g ≡ false) → (gs : List OpenGroup) → list_any p (answered_among serial gs) ≡ list_any p gs
   answered_any fails [] = refl
   answered_any fails (g ∷ gs) =
-      (elim (has_job binding index g)
-      as (λ t. has_job binding index g ≡ t
-      → list_any p (cond t gs (g ∷ answered_among binding index gs)) ≡ (p g || list_any p gs)) [
+      (elim (has_job serial g)
+      as (λ t. has_job serial g ≡ t
+      → list_any p (cond t gs (g ∷ answered_among serial gs)) ≡ (p g || list_any p gs)) [
         | true ↦ λ e. ap (λ t. t || list_any p gs) (sym (fails g e))
         | false ↦ λ e. ap (λ t. p g || t) (answered_any fails gs)
       ]) refl
 
-  pub answered_find : ((g : OpenGroup) → has_job binding index g ≡ true → p g ≡ false) → (gs : List OpenGroup) → find p (answered_among binding index gs) ≡ find p gs
+  pub answered_find : ((g : OpenGroup) → has_job serial g ≡ true → p g ≡ false) → (gs : List OpenGroup) → find p (answered_among serial gs) ≡ find p gs
   answered_find fails [] = refl
   answered_find fails (g ∷ gs) =
-      (elim (has_job binding index g)
-      as (λ t. has_job binding index g ≡ t
-      → find p (cond t gs (g ∷ answered_among binding index gs)) ≡ cond (p g) (Some g) (find p gs)) [
+      (elim (has_job serial g)
+      as (λ t. has_job serial g ≡ t
+      → find p (cond t gs (g ∷ answered_among serial gs)) ≡ cond (p g) (Some g) (find p gs)) [
         | true ↦ λ e. ap (λ t. cond t (Some g) (find p gs)) (sym (fails g e))
         | false ↦ λ e. ap (cond (p g) (Some g)) (answered_find fails gs)
       ]) refl
 
   -- an answer adds nothing
-  pub answered_none : (gs : List OpenGroup) → list_any p gs ≡ false → list_any p (answered_among binding index gs) ≡ false
+  pub answered_none : (gs : List OpenGroup) → list_any p gs ≡ false → list_any p (answered_among serial gs) ≡ false
   answered_none [] none = refl
   answered_none (g ∷ gs) none =
       let parts = or_parts (p g) (list_any p gs) none in
-      elim (has_job binding index g)
-      as (λ t. list_any p (cond t gs (g ∷ answered_among binding index gs)) ≡ false) [
+      elim (has_job serial g)
+      as (λ t. list_any p (cond t gs (g ∷ answered_among serial gs)) ≡ false) [
         | true ↦ parts.1
-        | false ↦ ap (λ t. t || list_any p (answered_among binding index gs)) parts.0 ∙ answered_none gs parts.1
+        | false ↦ ap (λ t. t || list_any p (answered_among serial gs)) parts.0 ∙ answered_none gs parts.1
       ]
 
 -- a filter
@@ -139,10 +139,10 @@ AtMostOne-filter p q (g ∷ gs) h =
       | false ↦ AtMostOne-filter p q gs h.1
     ]
 
-pub AtMostOne-answered : (p : OpenGroup → Bool) (binding index : ℕ) (gs : List OpenGroup) → AtMostOne p gs → AtMostOne p (answered_among binding index gs)
-AtMostOne-answered p binding index [] h = tt
-AtMostOne-answered p binding index (g ∷ gs) h =
-    elim (has_job binding index g) as (λ t. AtMostOne p (cond t gs (g ∷ answered_among binding index gs))) [
+pub AtMostOne-answered : (p : OpenGroup → Bool) (serial : ℕ) (gs : List OpenGroup) → AtMostOne p gs → AtMostOne p (answered_among serial gs)
+AtMostOne-answered p serial [] h = tt
+AtMostOne-answered p serial (g ∷ gs) h =
+    elim (has_job serial g) as (λ t. AtMostOne p (cond t gs (g ∷ answered_among serial gs))) [
       | true ↦ h.1
-      | false ↦ (λ passes. answered_none p binding index gs (h.0 passes), AtMostOne-answered p binding index gs h.1)
+      | false ↦ (λ passes. answered_none p serial gs (h.0 passes), AtMostOne-answered p serial gs h.1)
     ]

@@ -1,10 +1,9 @@
 -- The open groups over every list of calls. A history is the list of the calls so far, the latest first.
-use Rattle.std.specs.Prelude.{◌≡◌, ℕ, ◌≤◌, ◌==◌, Bool, true, false, ◌&&◌, ◌||◌, not, if◌then◌else◌, List, [], ◌∷◌, ◌++◌, length, Some, None, All, count_by, ◌↔◌}
-use Rattle.std.specs.List.{list_any}
+use Rattle.std.specs.Prelude.{◌≡◌, ℕ, ◌<◌, ◌≤◌, ◌^◌, ◌==◌, Bool, true, false, ◌&&◌, ◌||◌, not, if◌then◌else◌, List, [], ◌∷◌, ◌++◌, length, Some, None, All, count_by, ◌↔◌}
 use Rattle.sva_msg.specs.declared.messages.PageRequest.{PageRequest}
 use Rattle.sva_prq.specs.declared.jobs.Ask.{Ask}
 use Rattle.sva_prq.specs.Job.{Job, ask_of}
-use Rattle.sva_prq.specs.Groups.{OpenGroup, Groups, is_unfinished, no_groups, is_open, CanFile, filed, job_made, with_room, after_answer, without_unit}
+use Rattle.sva_prq.specs.Groups.{Groups, is_unfinished, is_of_serial, no_groups, is_open, CanFile, filed, serial_for, job_made, with_room, after_answer, without_unit}
 
 -- the calls that change the open groups; a `reserve` that memory refuses changes nothing, and is no call here
 pub data GroupCall : Type 0 where
@@ -17,7 +16,7 @@ pub data GroupCall : Type 0 where
 abbrev pub groups_after_call : Groups → GroupCall → Groups
 groups_after_call s (Reserve unit) = with_room s
 groups_after_call s (File unit binding request) = filed s unit binding request
-groups_after_call s (Answered job) = after_answer s job.binding job.index
+groups_after_call s (Answered job) = after_answer s job.serial
 groups_after_call s (DropUnit unit) = without_unit s unit
 
 -- the open groups after a history, from none on
@@ -44,7 +43,7 @@ asks_filed unit binding index (DropUnit u ∷ earlier) = if unit == u then [] el
 asks_filed unit binding index (_ ∷ earlier) = asks_filed unit binding index earlier
 
 -- the last request of a group makes a job, and only that. The job names the binding and the index under which its
--- requests were filed, and has what they ask for, in order of filing
+-- requests were filed, and has what they ask for, in order of filing, and the serial of the group to which they went
 abbrev pub JobsHoldTheirRequests : Type 0
 JobsHoldTheirRequests =
     (history : List GroupCall) (unit binding : ℕ) (request : PageRequest)
@@ -54,6 +53,7 @@ JobsHoldTheirRequests =
       binding = binding;
       index = request.index;
       asks = asks_filed unit binding request.index history ++ ask_of request ∷ [];
+      serial = serial_for (groups_after history) unit binding request.index;
     })
     else None)
 
@@ -68,57 +68,43 @@ UnfinishedGroupsDiffer =
     (history : List GroupCall) (unit binding index : ℕ)
     → count_by (is_unfinished unit binding index) (groups_after history).groups ≤ 1
 
--- a request was filed under this unit, binding and index, and since then neither was a job of the binding and the index
--- answered nor the unit dropped
-abbrev pub is_pending : ℕ → ℕ → ℕ → List GroupCall → Bool
-is_pending unit binding index [] = false
-is_pending unit binding index (Reserve _ ∷ earlier) = is_pending unit binding index earlier
-is_pending unit binding index (File u b request ∷ earlier) =
-    (u == unit && b == binding && request.index == index) || is_pending unit binding index earlier
-is_pending unit binding index (Answered job ∷ earlier) =
-    not (job.binding == binding && job.index == index) && is_pending unit binding index earlier
-is_pending unit binding index (DropUnit u ∷ earlier) = not (unit == u) && is_pending unit binding index earlier
+-- no two open groups share a serial, so the job of a group ends that group and no other. A history of 2^64 calls is longer
+-- than any that a computer can make
+abbrev pub SerialsDiffer : Type 0
+SerialsDiffer =
+    (history : List GroupCall) (serial : ℕ) → length history < 2 ^ 64
+    → count_by (is_of_serial serial) (groups_after history).groups ≤ 1
 
--- `open_of` overlooks no group: a binding is open if a request was filed under it, and since then neither was its group
--- answered nor its unit dropped
+-- the last request of the group with this serial was filed, so its job was made
+abbrev pub was_made : ℕ → List GroupCall → Bool
+was_made serial [] = false
+was_made serial (File u b request ∷ earlier) =
+    (serial_for (groups_after earlier) u b request.index == serial && request.last) || was_made serial earlier
+was_made serial (_ ∷ earlier) = was_made serial earlier
+
+-- a request of this unit and binding was filed in the group with this serial, and since then neither was the job of that
+-- group answered nor the unit dropped
+abbrev pub is_pending : ℕ → ℕ → ℕ → List GroupCall → Bool
+is_pending serial unit binding [] = false
+is_pending serial unit binding (Reserve _ ∷ earlier) = is_pending serial unit binding earlier
+is_pending serial unit binding (File u b request ∷ earlier) =
+    (serial_for (groups_after earlier) u b request.index == serial && u == unit && b == binding)
+    || is_pending serial unit binding earlier
+is_pending serial unit binding (Answered job ∷ earlier) =
+    not (job.serial == serial && was_made serial earlier) && is_pending serial unit binding earlier
+is_pending serial unit binding (DropUnit u ∷ earlier) = not (unit == u) && is_pending serial unit binding earlier
+
+-- `open_of` overlooks no group: a binding is open if a request was filed under it, and since then neither was the job of
+-- its group answered nor its unit dropped
 abbrev pub OpenGroupsAreSeen : Type 0
 OpenGroupsAreSeen =
-    (history : List GroupCall) (unit binding index : ℕ)
-    → is_pending unit binding index history ≡ true → is_open binding (groups_after history) ≡ true
+    (history : List GroupCall) (serial unit binding : ℕ)
+    → is_pending serial unit binding history ≡ true → is_open binding (groups_after history) ≡ true
 
--- a group of this binding and index
-abbrev pub has_index : ℕ → ℕ → OpenGroup → Bool
-has_index binding index g = g.binding == binding && g.index == index
-
--- a group of this binding and index is at another unit, or waits for its answer
-abbrev pub is_taken : ℕ → ℕ → ℕ → OpenGroup → Bool
-is_taken unit binding index g = has_index binding index g && (not (g.unit == unit) || g.last)
-
--- a group of this binding and index is unfinished
-abbrev pub is_not_whole : ℕ → ℕ → OpenGroup → Bool
-is_not_whole binding index g = has_index binding index g && not g.last
-
--- indexes are used as a function uses them (PCI Express Base 5.0, section 10.4): an index goes to a new group of a
--- binding only once the group before it is answered, and it is answered once it is whole
-abbrev pub UsesIndexesInTurn : List GroupCall → Type 0
-UsesIndexesInTurn [] = Unit {0}
-UsesIndexesInTurn (File unit binding request ∷ earlier) =
-    (list_any (is_taken unit binding request.index) (groups_after earlier).groups ≡ false) × UsesIndexesInTurn earlier
-UsesIndexesInTurn (Answered job ∷ earlier) =
-    (list_any (is_not_whole job.binding job.index) (groups_after earlier).groups ≡ false) × UsesIndexesInTurn earlier
-UsesIndexesInTurn (_ ∷ earlier) = UsesIndexesInTurn earlier
-
--- where indexes are used so, a binding has at most one open group of an index: an answer ends the group of its job, if
--- that is still there, and no other
-abbrev pub IndexesDiffer : Type 0
-IndexesDiffer =
-    (history : List GroupCall) (binding index : ℕ) → UsesIndexesInTurn history
-    → count_by (has_index binding index) (groups_after history).groups ≤ 1
-
--- where indexes are used so, `open_of` tells exactly whether the binding has a group that is neither answered nor dropped
--- with its unit
+-- `open_of` tells exactly whether the binding has a group whose own job isn't answered, and that isn't dropped with its
+-- unit, whatever the indexes of the requests. A history of 2^64 calls is longer than any that a computer can make
 abbrev pub OpenIsExact : Type 0
 OpenIsExact =
-    (history : List GroupCall) (binding : ℕ) → UsesIndexesInTurn history
+    (history : List GroupCall) (binding : ℕ) → length history < 2 ^ 64
     → ((is_open binding (groups_after history) ≡ true)
-    ↔ ((unit : ℕ) × (index : ℕ) × (is_pending unit binding index history ≡ true)))
+    ↔ ((serial : ℕ) × (unit : ℕ) × (is_pending serial unit binding history ≡ true)))

@@ -1,35 +1,42 @@
 -- The page request groups that are open at the host: those that are filed in part or whole, and not answered.
 use Rattle.std.specs.Prelude.{ℕ, ◌+◌, ◌-◌, ◌<◌, ◌==◌, Bool, false, ◌&&◌, not, if◌then◌else◌, List, [], ◌∷◌, ◌++◌, length, max, Option, Some, None, MatchOption, unwrap_or, find, filter, count_by}
+use Rattle.std.specs.Hash.DefaultHasher.{wrapping_add}
 use Rattle.std.specs.List.{list_any}
 use Rattle.sva_msg.specs.declared.messages.PageRequest.{PageRequest}
 use Rattle.sva_prq.specs.declared.jobs.Ask.{Ask}
 use Rattle.sva_prq.specs.Job.{Job, ask_of}
 
--- the unit at which the requests came, the binding and the group index under which they are filed, what they ask for in
+-- the serial that tells a group from all others, the unit at which the requests came, the binding and the group index under which they are filed, what they ask for in
 -- order of filing, and whether the last of them is filed: with it the job is made
 pub record OpenGroup : Type 0 where
+  pub serial : ℕ
   pub unit : ℕ
   pub binding : ℕ
   pub index : ℕ
   pub asks : List Ask
   pub last : Bool
 
--- the open groups in the order in which they began, and how many more can begin without memory
+-- the open groups in the order in which they began, how many more can begin without memory, and the serial of the next
+-- one that begins
 pub record Groups : Type 0 where
   pub groups : List OpenGroup
   pub room : ℕ
+  pub next : ℕ
 
--- no groups, and no room
+-- no groups, and no room; serials begin at 0
 abbrev pub no_groups : Groups
-no_groups = record { groups = []; room = 0 }
+no_groups = record { groups = []; room = 0; next = 0 }
 
 -- a group of this unit, binding and index whose last request isn't filed
 abbrev pub is_unfinished : ℕ → ℕ → ℕ → OpenGroup → Bool
 is_unfinished unit binding index g = g.unit == unit && g.binding == binding && g.index == index && not g.last
 
--- a group of this binding and index whose job is made
-abbrev pub has_job : ℕ → ℕ → OpenGroup → Bool
-has_job binding index g = g.binding == binding && g.index == index && g.last
+abbrev pub is_of_serial : ℕ → OpenGroup → Bool
+is_of_serial serial g = g.serial == serial
+
+-- the group with this serial, its job being made
+abbrev pub has_job : ℕ → OpenGroup → Bool
+has_job serial g = is_of_serial serial g && g.last
 
 abbrev pub is_of_binding : ℕ → OpenGroup → Bool
 is_of_binding binding g = g.binding == binding
@@ -41,37 +48,45 @@ abbrev pub is_of_other_unit : ℕ → OpenGroup → Bool
 is_of_other_unit unit g = not (is_of_unit unit g)
 
 -- a group before its first request is filed
-abbrev pub new_group : ℕ → ℕ → ℕ → OpenGroup
-new_group unit binding index = record { unit = unit; binding = binding; index = index; asks = []; last = false }
+abbrev pub new_group : ℕ → ℕ → ℕ → ℕ → OpenGroup
+new_group serial unit binding index =
+    record { serial = serial; unit = unit; binding = binding; index = index; asks = []; last = false }
 
 -- a group with one request more
 abbrev pub with_request : OpenGroup → PageRequest → OpenGroup
 with_request g request = record g { asks = g.asks ++ ask_of request ∷ []; last = request.last }
 
--- the groups once a request is filed: in the unfinished group of its unit, binding and index, or in a new one
-abbrev pub filed_among : ℕ → ℕ → PageRequest → List OpenGroup → List OpenGroup
-filed_among unit binding request [] = with_request (new_group unit binding request.index) request ∷ []
-filed_among unit binding request (g ∷ gs) =
+-- the groups once a request is filed: in the unfinished group of its unit, binding and index, or in a new one with the
+-- first of these numbers as its serial
+abbrev pub filed_among : ℕ → ℕ → ℕ → PageRequest → List OpenGroup → List OpenGroup
+filed_among next unit binding request [] = with_request (new_group next unit binding request.index) request ∷ []
+filed_among next unit binding request (g ∷ gs) =
     if is_unfinished unit binding request.index g
     then with_request g request ∷ gs
-    else g ∷ filed_among unit binding request gs
+    else g ∷ filed_among next unit binding request gs
 
--- the same with the room, of which a new group takes one
+-- the same with the room, of which a new group takes one, and the next serial, which a new group takes
 abbrev pub filed : Groups → ℕ → ℕ → PageRequest → Groups
 filed s unit binding request =
     record {
-      groups = filed_among unit binding request s.groups;
+      groups = filed_among s.next unit binding request s.groups;
       room = if list_any (is_unfinished unit binding request.index) s.groups then s.room else s.room - 1;
+      next = if list_any (is_unfinished unit binding request.index) s.groups then s.next else wrapping_add s.next 1;
     }
 
 -- what the requests of the unfinished group of this unit, binding and index ask for
 abbrev pub unfinished_asks : ℕ → ℕ → ℕ → List OpenGroup → List Ask
 unfinished_asks unit binding index gs =
-    (unwrap_or (find (is_unfinished unit binding index) gs) (new_group unit binding index)).asks
+    (unwrap_or (find (is_unfinished unit binding index) gs) (new_group 0 unit binding index)).asks
+
+-- the serial of the group to which a request of this unit, binding and index goes
+abbrev pub serial_for : Groups → ℕ → ℕ → ℕ → ℕ
+serial_for s unit binding index =
+    (unwrap_or (find (is_unfinished unit binding index) s.groups) (new_group s.next unit binding index)).serial
 
 -- the job of a group whose last request is filed
 abbrev pub job_of : OpenGroup → Option Job
-job_of g = if g.last then Some (record { binding = g.binding; index = g.index; asks = g.asks }) else None
+job_of g = if g.last then Some (record { binding = g.binding; index = g.index; asks = g.asks; serial = g.serial }) else None
 
 -- the job that the filing of a request makes, if that is the last of its group
 abbrev pub job_made : Groups → ℕ → ℕ → PageRequest → Option Job
@@ -81,6 +96,7 @@ job_made s unit binding request =
       binding = binding;
       index = request.index;
       asks = unfinished_asks unit binding request.index s.groups ++ ask_of request ∷ [];
+      serial = serial_for s unit binding request.index;
     })
     else None
 
@@ -93,23 +109,23 @@ CanFile s unit binding index =
 abbrev pub with_room : Groups → Groups
 with_room s = record s { room = max 1 s.room }
 
--- the groups without the oldest of this binding and index whose job is made
-abbrev pub answered_among : ℕ → ℕ → List OpenGroup → List OpenGroup
-answered_among binding index [] = []
-answered_among binding index (g ∷ gs) = if has_job binding index g then gs else g ∷ answered_among binding index gs
+-- the groups without the one that has this serial and whose job is made
+abbrev pub answered_among : ℕ → List OpenGroup → List OpenGroup
+answered_among serial [] = []
+answered_among serial (g ∷ gs) = if has_job serial g then gs else g ∷ answered_among serial gs
 
 -- the same with the room, of which the ended group gives one back
-abbrev pub after_answer : Groups → ℕ → ℕ → Groups
-after_answer s binding index =
-    record {
-      groups = answered_among binding index s.groups;
-      room = if list_any (has_job binding index) s.groups then s.room + 1 else s.room;
+abbrev pub after_answer : Groups → ℕ → Groups
+after_answer s serial =
+    record s {
+      groups = answered_among serial s.groups;
+      room = if list_any (has_job serial) s.groups then s.room + 1 else s.room;
     }
 
 -- no group of the unit is left, and each gives its room back
 abbrev pub without_unit : Groups → ℕ → Groups
 without_unit s unit =
-    record {
+    record s {
       groups = filter (is_of_other_unit unit) s.groups;
       room = s.room + count_by (is_of_unit unit) s.groups;
     }

@@ -1,5 +1,6 @@
 ghost use Rattle.std.specs.Prelude.{◌≡◌, ◌+◌, ◌-◌, ◌<◌, [], ◌∷◌, ◌++◌, ℕ, length, Some, IsOk, OnOk, OnErr, slice_get, slice_set, remove};
 ghost use Rattle.std.specs.List.{position_from};
+ghost use Rattle.std.specs.Hash.DefaultHasher.{wrapping_add};
 ghost use Rattle.sva_prq.specs.Groups.{OpenGroup, no_groups, is_unfinished, has_job, is_of_binding, is_of_unit, is_open, new_group, with_request, job_of, CanFile, filed, job_made, with_room, after_answer, without_unit};
 
 #[cfg(test)]
@@ -15,6 +16,8 @@ use sva_msg::PageRequest;
 // A page request group that is filed in part or whole and not answered.
 #[derive(Debug, Drop)]
 struct Group {
+    // How many groups began before it. It tells the group from all others.
+    serial: u64,
     unit: u64,
     binding: u64,
     index: u8,
@@ -29,6 +32,7 @@ impl Model for Group {
     ghost Value = { OpenGroup };
 
     ghost view = { λ g. record {
+      serial = g.serial;
       unit = g.unit;
       binding = g.binding;
       index = g.index;
@@ -38,10 +42,11 @@ impl Model for Group {
 }
 
 impl Group {
-    fn new(unit: u64, binding: u64, index: u8) -> Self
-        ensures { result ≡ new_group unit binding index }
+    fn new(serial: u64, unit: u64, binding: u64, index: u8) -> Self
+        ensures { result ≡ new_group serial unit binding index }
     {
         Group {
+            serial,
             unit,
             binding,
             index,
@@ -56,10 +61,10 @@ impl Group {
         self.unit == unit && self.binding == binding && self.index == index && !self.last
     }
 
-    fn has_job(&self, binding: u64, index: u8) -> bool
-        ensures { result ≡ has_job binding index self.now }
+    fn has_job(&self, serial: u64) -> bool
+        ensures { result ≡ has_job serial self.now }
     {
-        self.binding == binding && self.index == index && self.last
+        self.serial == serial && self.last
     }
 
     fn is_of_binding(&self, binding: u64) -> bool
@@ -93,6 +98,7 @@ impl Group {
             binding: self.binding,
             index: self.index,
             asks: copied(&self.asks),
+            serial: self.serial,
         })
     }
 }
@@ -118,6 +124,8 @@ pub struct Groups {
     order: Vec<usize>,
     // How many groups more fit into `slots` and `order` as they are.
     room: usize,
+    // The serial of the next group that begins. 2^64 groups can't begin in any computer's life, so none is there twice.
+    next: u64,
 }
 
 impl Model for Groups {
@@ -129,7 +137,7 @@ impl Model for Groups {
 
     ghost use Rattle.sva_prq.specs.Slots.{groups_under, AreSeated};
 
-    ghost view = { λ g. record { groups = groups_under g.slots.slots g.order.items; room = g.room } };
+    ghost view = { λ g. record { groups = groups_under g.slots.slots g.order.items; room = g.room; next = g.next } };
 
     ghost invariant = { λ g. AreSeated g.slots.slots g.order.items
         × (slab_len g.slots + g.room ≤ g.slots.capacity)
@@ -145,6 +153,7 @@ impl Groups {
             slots: Slab::new(alloc),
             order: Vec::new(alloc),
             room: 0,
+            next: 0,
         }
     }
 
@@ -198,22 +207,27 @@ impl Groups {
     // Files a request in a new group.
     fn begin(&mut self, unit: u64, binding: u64, request: PageRequest) -> Option<Job>
         requires { 0 < self.old.room }
-        ensures group { let group = with_request (new_group unit binding request.index) request
-            in self.new ≡ record { groups = self.old.groups ++ group ∷ []; room = self.old.room - 1 } }
-        ensures job { result ≡ job_of (with_request (new_group unit binding request.index) request) }
+        ensures group { let group = with_request (new_group self.old.next unit binding request.index) request
+            in self.new ≡ record {
+              groups = self.old.groups ++ group ∷ [];
+              room = self.old.room - 1;
+              next = wrapping_add self.old.next 1;
+            } }
+        ensures job { result ≡ job_of (with_request (new_group self.old.next unit binding request.index) request) }
     {
-        let mut group = Group::new(unit, binding, request.index);
+        let mut group = Group::new(self.next, unit, binding, request.index);
         let job = group.file(request);
         let key = self.slots.insert_reserved(group);
         self.order.push_reserved(key);
         self.room -= 1;
+        self.next = self.next.wrapping_add(1);
         job
     }
 
     // Ends the group at this place.
     fn end_at(&mut self, place: usize)
         requires { place < length self.old.groups }
-        ensures { self.new ≡ record { groups = remove self.old.groups place; room = self.old.room + 1 } }
+        ensures { self.new ≡ record self.old { groups = remove self.old.groups place; room = self.old.room + 1 } }
     {
         let key = self.order.remove(place);
         self.slots.remove(key);
@@ -232,12 +246,12 @@ impl Groups {
         None
     }
 
-    // The place of the oldest group of this binding and index whose job is made.
-    fn job_place(&self, binding: u64, index: u8) -> Option<usize>
-        ensures { result ≡ position_from (has_job binding index) 0 self.now.groups }
+    // The place of the group with this serial, if its job is made.
+    fn job_place(&self, serial: u64) -> Option<usize>
+        ensures { result ≡ position_from (has_job serial) 0 self.now.groups }
     {
         for place in 0..self.len() {
-            if self.at(place).has_job(binding, index) {
+            if self.at(place).has_job(serial) {
                 return Some(place);
             }
         }
@@ -257,11 +271,12 @@ impl Groups {
         }
     }
 
-    /// A job is answered, or nobody waits for its answer: its group is at its end, if it is still there.
+    /// A job is answered, or nobody waits for its answer: its group is at its end, if it is still there. No other group
+    /// is, even of the same binding and index.
     pub fn answered(&mut self, job: &Job)
-        ensures { self.new ≡ after_answer self.old job.now.binding job.now.index }
+        ensures { self.new ≡ after_answer self.old job.now.serial }
     {
-        if let Some(place) = self.job_place(job.binding(), job.index()) {
+        if let Some(place) = self.job_place(job.serial()) {
             self.end_at(place);
         }
     }

@@ -24,6 +24,8 @@ pub struct Job {
     pub(crate) binding: u64,
     pub(crate) index: u8,
     pub(crate) asks: ArrayVec<Ask, MOST_ASKS>,
+    // The serial of its group.
+    pub(crate) serial: u64,
 }
 
 impl Model for Job {
@@ -31,7 +33,7 @@ impl Model for Job {
 
     ghost Value = { WholeGroup };
 
-    ghost view = { λ j. record { binding = j.binding; index = j.index; asks = j.asks.items } };
+    ghost view = { λ j. record { binding = j.binding; index = j.index; asks = j.asks.items; serial = j.serial } };
 }
 
 impl Job {
@@ -55,5 +57,12 @@ impl Job {
         ensures most { length result.now ≤ 32 }
     {
         self.asks.as_slice()
+    }
+
+    // The serial of its group.
+    pub(crate) fn serial(&self) -> u64
+        ensures { result ≡ self.now.serial }
+    {
+        self.serial
     }
 }

@@ -1,5 +1,5 @@
 ghost use Rattle.sva_prq.specs.Queue.{IsFirstInFirstOut, NeverOverflows};
-ghost use Rattle.sva_prq.specs.GroupCalls.{JobsHoldTheirRequests, GroupsAreBounded, UnfinishedGroupsDiffer, OpenGroupsAreSeen, IndexesDiffer, OpenIsExact};
+ghost use Rattle.sva_prq.specs.GroupCalls.{JobsHoldTheirRequests, GroupsAreBounded, UnfinishedGroupsDiffer, OpenGroupsAreSeen, SerialsDiffer, OpenIsExact};
 
 /// What holds of a page request queue after every list of permitted calls.
 pub fn queue_laws()
@@ -13,6 +13,6 @@ pub fn group_laws()
     ensures bounded { GroupsAreBounded }
     ensures unfinished { UnfinishedGroupsDiffer }
     ensures seen { OpenGroupsAreSeen }
-    ensures indexes { IndexesDiffer }
+    ensures serials { SerialsDiffer }
     ensures exact { OpenIsExact }
 {}

@@ -105,6 +105,28 @@ fn a_job_outlives_its_unit(rt: HostRuntime) -> Result<(), Fail> {
     Ok(())
 }
 
+// A reset drops the group of a first job, and the same binding and index have a second one. The late answer of the first
+// leaves the second as it is.
+#[test]
+fn a_late_answer_ends_no_other_group(rt: HostRuntime) -> Result<(), Fail> {
+    let mut groups = Groups::new(rt.alloc());
+    groups.reserve(0)?;
+    let first = filed(&rt, &mut groups, 0, 7, (3, 10, true));
+    groups.drop_unit(0);
+    groups.reserve(0)?;
+    let second = filed(&rt, &mut groups, 0, 7, (3, 20, true));
+    assert!(rt; is_job(&first, 7, 3, &[10]) && is_job(&second, 7, 3, &[20]));
+    if let Some(job) = &first {
+        groups.answered(job);
+    }
+    assert!(rt; groups.open_of(7));
+    if let Some(job) = &second {
+        groups.answered(job);
+    }
+    assert!(rt; !groups.open_of(7));
+    Ok(())
+}
+
 #[test]
 fn most_asks(rt: HostRuntime) -> Result<(), Fail> {
     let mut groups = Groups::new(rt.alloc());

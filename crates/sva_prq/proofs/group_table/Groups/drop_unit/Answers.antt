@@ -14,7 +14,8 @@ loop-place-preserved-then-is_of_unit c =
     let room : c.end_at.new.self.room ≡ c.loop-place.self.room + 1 = ap (λ s. s.room) c.end_at.ensures in (
       ap (λ s. s.groups) c.end_at.ensures ∙ ap (λ gs. remove gs (place - 1)) c.loop-place.invariant.0
           ∙ turn-gone c.args.unit xs place (place - 1) next within c.at.result.now is mine,
-      omega (arith, count, c.loop-place.invariant.1),
+      ap (λ s. s.next) c.end_at.ensures ∙ c.loop-place.invariant.1,
+      omega (arith, count, c.loop-place.invariant.2),
     )
 
 pub loop-place-preserved : goal.loop-place-preserved
@@ -27,5 +28,6 @@ loop-place-preserved c =
     let other = sym c.is_of_unit.ensures ∙ c.if-is_of_unit.false in
     let count = count-stays c.args.unit xs place (place - 1) next within c.at.result.now is other in (
       c.loop-place.invariant.0 ∙ turn-stays c.args.unit xs place (place - 1) next within c.at.result.now is other,
-      omega (arith, count, c.loop-place.invariant.1),
+      c.loop-place.invariant.1,
+      omega (arith, count, c.loop-place.invariant.2),
     )

@@ -27,4 +27,4 @@ returns c =
     ap (groups_under _) c.remove-key.ensures.items
     ∙ groups_under-removed _ _ c.self.inside.order.items c.args.place c.remove-key.result c.self.invariant.0 within same
     ∙ ap (λ s. remove s.groups c.args.place) c.self.view_is in
-    λ i. record { groups = groups i; room = (c.self.view_is i).room + 1 }
+    λ i. record (c.self.view_is i) { groups = groups i; room = (c.self.view_is i).room + 1 }

@@ -58,7 +58,7 @@ returns-clause-group c g is =
     groups_under-written old new keys c.args.place key c.file.new.self c.self.invariant.0 within changed others
     ∙ ap (λ gs. set gs c.args.place c.file.new.self) now
     ∙ ap (set c.args.self.now.groups c.args.place) (c.file.ensures.group ∙ ap (λ h. with_request h c.args.request) (same_group c g is)) in
-    λ i. record { groups = groups i; room = (c.self.view_is i).room }
+    λ i. record (c.self.view_is i) { groups = groups i }
 
 pub returns-clause-job : goal.returns-clause-job
 returns-clause-job c g is = c.file.ensures.job ∙ ap (λ h. job_of (with_request h c.args.request)) (same_group c g is)

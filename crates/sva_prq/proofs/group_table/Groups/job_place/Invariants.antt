@@ -6,5 +6,5 @@ use Rattle.sva_prq.proofs.group_table.Groups.job_place.Given as goal
 
 abbrev pub invariant-loop-place : goal.invariant-loop-place
 invariant-loop-place l =
-    position_from (has_job l.binding l.index) l.place (drop l.place l.self.groups)
-    ≡ position_from (has_job l.binding l.index) 0 l.self.groups
+    position_from (has_job l.serial) l.place (drop l.place l.self.groups)
+    ≡ position_from (has_job l.serial) 0 l.self.groups

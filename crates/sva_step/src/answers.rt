@@ -1,5 +1,5 @@
 ghost use Rattle.std.specs.Prelude.{◌≡◌, ◌++◌, OnOk, OnErr};
-ghost use Rattle.sva_step.specs.Texts.{answer_text, frames_text, BeginsWith, TextsTellApart};
+ghost use Rattle.sva_step.specs.Texts.{answer_text, endpoint_text, frames_text, BeginsWith, TextsTellApart};
 
 use crate::frame_list::FrameList;
 use crate::pieces::{put, put_number, undo};
@@ -9,17 +9,34 @@ use std::alloc::AllocError;
 #[derive(Clone, Copy, Debug, PartialEq, Eq)]
 pub enum Answer {
     /// `space S`: the new space.
-    Space { space: u64 },
+    Space {
+        /// The number of the space, below 2^63.
+        space: u64,
+    },
     /// `gone`: the space was taken away.
     Gone,
     /// `frame F`: the frame that the page leads to.
-    Frame { frame: u32 },
+    Frame {
+        /// The number of the frame, below the config's count (at most 4096).
+        frame: u32,
+    },
     /// `free F ..`: the frames that were taken out are free.
-    FreeFrames { frames: FrameList },
+    FreeFrames {
+        /// The numbers of 1 to 48 frames, by page.
+        frames: FrameList,
+    },
     /// `withheld F ..`: the frames that were taken out wait for an endpoint.
-    WithheldFrames { frames: FrameList },
+    WithheldFrames {
+        /// The numbers of 1 to 48 frames, by page.
+        frames: FrameList,
+    },
     /// `binding B pasid P`: the new binding.
-    Binding { binding: u64, pasid: u32 },
+    Binding {
+        /// The number of the binding, below 2^63.
+        binding: u64,
+        /// The PASID: 1 to 32 of its 20 bits (PCI Express Base 5.0, section 6.20).
+        pasid: u32,
+    },
     /// `stopping`: a Stop was sent, or has arrived.
     Stopping,
     /// `draining`: the binding waits for the page requests ahead.
@@ -33,7 +50,10 @@ pub enum Answer {
     /// `idle`: the invalidation queue is empty.
     Idle,
     /// `itag T`: an invalidation was sent under this ITag.
-    Itag { itag: u8 },
+    Itag {
+        /// The ITag, five bits: 0 to 31 (PCI Express Base 5.0, section 10.3.1).
+        itag: u8,
+    },
     /// `blocked`: the head of the invalidation queue can't be taken yet.
     Blocked,
     /// `wait done`: a wait descriptor was taken.
@@ -47,9 +67,19 @@ pub enum Answer {
     /// `resetting`: a function level reset was sent.
     Resetting,
     /// `job binding B group I pages N`: the job that the worker holds now, of N page requests.
-    JobTaken { binding: u64, group: u8, pages: u32 },
+    JobTaken {
+        /// The number of the binding, below 2^63.
+        binding: u64,
+        /// The Page Request Group Index: 0 to 31 of its nine bits (PCI Express Base 5.0, section 10.4.1).
+        group: u8,
+        /// How many page requests the group has: 1 to 32.
+        pages: u32,
+    },
     /// `success K`: the group was answered Success, and K pages were newly mapped.
-    Success { pages: u32 },
+    Success {
+        /// How many pages were newly mapped: 0 to 32.
+        pages: u32,
+    },
     /// `invalid`: the group was answered Invalid Request.
     Invalid,
     /// `failure`: the group was answered Response Failure.
@@ -57,9 +87,17 @@ pub enum Answer {
     /// `dropped`: nobody waits for what came; nothing was sent or kept.
     Dropped,
     /// `tag T`: a translation request was sent under this tag.
-    Tag { tag: u8 },
+    Tag {
+        /// The request tag, 0 to 31.
+        tag: u8,
+    },
     /// `use U frame F`: a use of this frame began in this slot.
-    Use { slot: u8, frame: u32 },
+    Use {
+        /// The use slot, 0 to 15 (a limit of this project).
+        slot: u8,
+        /// The number of the frame, below the config's count (at most 4096).
+        frame: u32,
+    },
     /// `ended`: the use has ended.
     Ended,
     /// `dead`: a reset had ended the use.
@@ -67,9 +105,15 @@ pub enum Answer {
     /// `evicted`: the cached translation is gone.
     Evicted,
     /// `group I`: a page request was sent in this group.
-    Group { group: u8 },
+    Group {
+        /// The Page Request Group Index: 0 to 31 of its nine bits (PCI Express Base 5.0, section 10.4.1).
+        group: u8,
+    },
     /// `sent COUNT`: so many invalidation completions were sent.
-    Sent { count: u8 },
+    Sent {
+        /// How many completions: 1 to 8 (PCI Express Base 5.0, section 10.3.2).
+        count: u8,
+    },
     /// `marker`: the Stop Marker was sent.
     Marker,
     /// `free`: the frame is free.
@@ -97,7 +141,10 @@ pub enum Answer {
     /// `completion`: a translation completion was sent.
     Completion,
     /// `freed K`: K invalidations were completed.
-    Freed { count: u8 },
+    Freed {
+        /// How many invalidations: 0 to 32, one for each ITag of the vector at most.
+        count: u8,
+    },
     /// `queued`: the page request is in the unit's queue.
     Queued,
     /// `marked`: the binding's Stop Marker was noted.
@@ -155,6 +202,16 @@ impl Answer {
             Answer::Invalid => put(out, "invalid"),
             Answer::Failure => put(out, "failure"),
             Answer::Dropped => put(out, "dropped"),
+            _ => self.append_endpoint(out),
+        }
+    }
+
+    // As `append`, for the answers of endpoints, of the link and of `look`; nothing for another answer.
+    fn append_endpoint(&self, out: &mut Vec<u8>) -> Result<(), AllocError>
+        ensures ok { OnOk result (out.new.items ≡ out.old.items ++ endpoint_text self.now) }
+        ensures err { OnErr result (BeginsWith out.new.items out.old.items) }
+    {
+        match self {
             Answer::Tag { tag } => put_number(out, "tag ", u64::from(*tag)),
             Answer::Use { slot, frame } => {
                 put_number(out, "use ", u64::from(*slot))?;
@@ -182,6 +239,7 @@ impl Answer {
             Answer::Queued => put(out, "queued"),
             Answer::Marked => put(out, "marked"),
             Answer::ResetDone => put(out, "reset done"),
+            _ => Ok(()),
         }
     }
 }

@@ -1,5 +1,5 @@
 ghost use Rattle.std.specs.Prelude.{◌≡◌, ◌++◌, OnOk, OnErr};
-ghost use Rattle.sva_step.specs.Refusals.{number_of, name_of, refusal_text, TellApart};
+ghost use Rattle.sva_step.specs.Refusals.{number_of, name_of, endpoint_name_of, refusal_text, TellApart};
 ghost use Rattle.sva_step.specs.Texts.{BeginsWith};
 
 use crate::pieces::{put, put_number, undo};
@@ -118,6 +118,16 @@ impl Refusal {
             Refusal::NotYet => "NotYet",
             Refusal::QueueFull => "QueueFull",
             Refusal::Resetting => "Resetting",
+            _ => self.endpoint_name(),
+        }
+    }
+
+    // As `name`, for the refusals of endpoints, of the link and of workers, and of a step that finds no number or no
+    // memory; nothing for another.
+    fn endpoint_name(self) -> &'static str
+        ensures { result.now ≡ endpoint_name_of self }
+    {
+        match self {
             Refusal::NotStarted => "NotStarted",
             Refusal::NoTag => "NoTag",
             Refusal::NotHeld => "NotHeld",
@@ -140,6 +150,7 @@ impl Refusal {
             Refusal::BadVerdict => "BadVerdict",
             Refusal::NumbersSpent => "NumbersSpent",
             Refusal::OutOfMemory => "OutOfMemory",
+            _ => "",
         }
     }
 

@@ -12,113 +12,157 @@ pub enum Verdict {
     Failure,
 }
 
-/// One atomic event of a host, its endpoints and the link between them.
+/// One atomic event of a host, its endpoints and the link between them. A number out of its range isn't an error of the
+/// caller: the step is refused.
 #[derive(Clone, Copy, Debug, PartialEq, Eq)]
 pub enum Step {
     /// Makes a new empty address space.
     Space,
     /// Takes a space away; its frames are free at once.
     DropSpace {
+        /// The number of a live space, below 2^63.
         space: u64,
     },
-    /// Maps a page of a space to the lowest free frame. `write` allows writing beside reading.
+    /// Maps a page of a space to the lowest free frame.
     Map {
+        /// The number of a live space, below 2^63.
         space: u64,
+        /// The number of the page, below 2^36; a page has 4096 bytes (PCI Express Base 5.0, section 10.2.3).
         page: u64,
+        /// Allows writing beside reading.
         write: bool,
     },
-    /// Takes `count` pages in a row, from `page` on, out of a space.
+    /// Takes pages in a row out of a space.
     Unmap {
+        /// The number of a live space, below 2^63.
         space: u64,
+        /// The number of the first page; that of the last is below 2^36. A page has 4096 bytes.
         page: u64,
+        /// How many pages: 1 to 48 (a limit of this project).
         count: u64,
     },
     /// Binds a space to an endpoint under its lowest free PASID, and sends Start.
     Bind {
+        /// The number of the endpoint, below the config's count (at most 8).
         endpoint: u64,
+        /// The number of a live space, below 2^63.
         space: u64,
     },
     /// Begins to take a binding back: sends Stop, or ends one that a reset has cut off.
     Unbind {
+        /// The number of an unreleased binding, below 2^63.
         binding: u64,
     },
     /// Moves a binding to its next stage.
     Advance {
+        /// The number of an unreleased binding, below 2^63.
         binding: u64,
     },
-    /// Takes the head of an endpoint's invalidation queue.
+    /// Takes the head of an endpoint's invalidation queue (Intel VT-d, "Queued Invalidation Interface").
     Pump {
+        /// The number of the endpoint, below the config's count (at most 8).
         endpoint: u64,
     },
-    /// Files the head of an endpoint's page request queue under its binding.
+    /// Files the head of an endpoint's page request queue under its binding (Intel VT-d, "Page Request Queue").
     Serve {
+        /// The number of the endpoint, below the config's count (at most 8).
         endpoint: u64,
     },
-    /// Closes an endpoint's unit and sends it a function level reset.
+    /// Closes an endpoint's unit and sends it a function level reset (PCI Express Base 5.0, section 6.6.2).
     Reset {
+        /// The number of the endpoint, below the config's count (at most 8).
         endpoint: u64,
     },
     /// A worker takes the oldest job.
     Take {
+        /// The number of the worker, below the config's count (at most 4).
         worker: u64,
     },
     /// A worker answers the job that it holds.
     Reply {
+        /// The number of the worker, below the config's count (at most 4).
         worker: u64,
+        /// What the worker decides of the job's group.
         verdict: Verdict,
     },
-    /// An endpoint asks for a translation (AT field 01b).
+    /// An endpoint asks for a translation (AT field 01b: PCI Express Base 5.0, section 10.2.1).
     Ask {
+        /// The number of the endpoint, below the config's count (at most 8).
         endpoint: u64,
+        /// The PASID: 1 to 32 of its 20 bits (PCI Express Base 5.0, section 6.20).
         pasid: u64,
+        /// The number of the page, below 2^36; a page has 4096 bytes.
         page: u64,
     },
-    /// An endpoint begins to use a cached translation (AT field 10b).
+    /// An endpoint begins to use a cached translation (AT field 10b: PCI Express Base 5.0, section 10.2.1).
     BeginUse {
+        /// The number of the endpoint, below the config's count (at most 8).
         endpoint: u64,
+        /// The PASID: 1 to 32 of its 20 bits (PCI Express Base 5.0, section 6.20).
         pasid: u64,
+        /// The number of the page, below 2^36; a page has 4096 bytes.
         page: u64,
+        /// Writes, where else it reads.
         write: bool,
     },
     /// An endpoint ends the use in a slot.
     EndUse {
+        /// The number of the endpoint, below the config's count (at most 8).
         endpoint: u64,
+        /// The use slot: 0 to 15 (a limit of this project).
         slot: u64,
     },
     /// An endpoint lets go of a cached translation.
     Evict {
+        /// The number of the endpoint, below the config's count (at most 8).
         endpoint: u64,
+        /// The PASID: 1 to 32 of its 20 bits (PCI Express Base 5.0, section 6.20).
         pasid: u64,
+        /// The number of the page, below 2^36; a page has 4096 bytes.
         page: u64,
     },
-    /// An endpoint sends a page request: the first of a new group, or one more of the unfinished group with this
-    /// index. `last` is the bit L.
+    /// An endpoint sends a page request: the first of a new group, or one more of an unfinished group (PCI Express
+    /// Base 5.0, section 10.4.1).
     Fault {
+        /// The number of the endpoint, below the config's count (at most 8).
         endpoint: u64,
+        /// The PASID: 1 to 32 of its 20 bits (PCI Express Base 5.0, section 6.20).
         pasid: u64,
+        /// The number of the page, below 2^36; a page has 4096 bytes.
         page: u64,
+        /// The bit R: the page is to be read.
         read: bool,
+        /// The bit W: the page is to be written.
         write: bool,
+        /// The index of an unfinished group of this PASID, 0 to 31 of its nine bits, or none for a new group.
         group: Option<u64>,
+        /// The bit L: the last request of its group.
         last: bool,
     },
-    /// An endpoint completes the invalidations whose ITags are set in `vector`, by `count` completions.
+    /// An endpoint completes invalidations (PCI Express Base 5.0, sections 10.3.2 and 10.3.3).
     Finish {
+        /// The number of the endpoint, below the config's count (at most 8).
         endpoint: u64,
+        /// The ITag Vector, not 0: bit T stands for ITag T, 0 to 31.
         vector: u32,
+        /// By how many completions: 1 to 8.
         count: u64,
     },
-    /// An endpoint stops using a PASID, and sends the Stop Marker.
+    /// An endpoint stops using a PASID, and sends the Stop Marker (PCI Express Base 5.0, section 10.4.1).
     Quit {
+        /// The number of the endpoint, below the config's count (at most 8).
         endpoint: u64,
+        /// The PASID: 1 to 32 of its 20 bits (PCI Express Base 5.0, section 6.20).
         pasid: u64,
     },
     /// The link delivers a message.
     Deliver {
+        /// The number of a message in flight, below 2^63.
         message: u64,
     },
     /// Tells where a frame is.
     Look {
+        /// The number of the frame, below the config's count (at most 4096).
         frame: u64,
     },
 }

@@ -1,7 +1,7 @@
 use crate::{Answer, Config, FrameList, MOST_PAGES, Refusal, Step, Verdict};
 use std::test::Fail;
 
-// The texts that the host and its service print, behind a text that was there before.
+// The texts that the calls of the host print, behind a text that was there before.
 #[test]
 fn host_answers(rt: HostRuntime) -> Result<(), Fail> {
     let mut frames = FrameList::new();
@@ -27,6 +27,18 @@ fn host_answers(rt: HostRuntime) -> Result<(), Fail> {
         (Answer::Quiet, "> quiet"),
         (Answer::Released, "> released"),
         (Answer::Idle, "> idle"),
+    ] {
+        let mut line = Vec::from_slice(rt.alloc(), b"> ")?;
+        answer.write(&mut line)?;
+        assert!(rt; line.as_slice() == text.as_bytes(), "{answer:?}");
+    }
+    Ok(())
+}
+
+// The texts that the service of the queues and the workers print.
+#[test]
+fn service_answers(rt: HostRuntime) -> Result<(), Fail> {
+    for (answer, text) in [
         (Answer::Itag { itag: 31 }, "> itag 31"),
         (Answer::Blocked, "> blocked"),
         (Answer::WaitDone, "> wait done"),
@@ -91,7 +103,7 @@ fn endpoint_answers(rt: HostRuntime) -> Result<(), Fail> {
 }
 
 #[test]
-fn refusals(rt: HostRuntime) -> Result<(), Fail> {
+fn refusals_of_the_host(rt: HostRuntime) -> Result<(), Fail> {
     for (refusal, number, text) in [
         (Refusal::BadConfig, 1, "> refused 1 BadConfig"),
         (Refusal::NoSuchEndpoint, 2, "> refused 2 NoSuchEndpoint"),
@@ -110,6 +122,19 @@ fn refusals(rt: HostRuntime) -> Result<(), Fail> {
         (Refusal::NotYet, 15, "> refused 15 NotYet"),
         (Refusal::QueueFull, 16, "> refused 16 QueueFull"),
         (Refusal::Resetting, 17, "> refused 17 Resetting"),
+    ] {
+        let mut line = Vec::from_slice(rt.alloc(), b"> ")?;
+        refusal.write(&mut line)?;
+        assert!(rt; line.as_slice() == text.as_bytes(), "{refusal:?}");
+        assert_eq!(rt; refusal.number(), number);
+        assert!(rt; text.ends_with(refusal.name()), "{refusal:?}");
+    }
+    Ok(())
+}
+
+#[test]
+fn refusals_of_the_others(rt: HostRuntime) -> Result<(), Fail> {
+    for (refusal, number, text) in [
         (Refusal::NotStarted, 18, "> refused 18 NotStarted"),
         (Refusal::NoTag, 19, "> refused 19 NoTag"),
         (Refusal::NotHeld, 20, "> refused 20 NotHeld"),

@@ -76,11 +76,11 @@ impl CountField {
 /// A Page Request (PCI Express Base 5.0, section 10.4.1).
 #[derive(Clone, Copy, Debug, PartialEq, Eq)]
 pub struct PageRequest {
-    /// The PASID, 20 bits.
+    /// The PASID: 1 to 32 of its 20 bits (PCI Express Base 5.0, section 6.20).
     pub pasid: u32,
     /// The Page Request Group Index: 0 to 31 of its nine bits.
     pub index: u8,
-    /// The number of the page, below 2^36.
+    /// The number of the page, below 2^36; a page has 4096 bytes.
     pub page: u64,
     /// R: the page is to be read.
     pub read: bool,
@@ -95,48 +95,67 @@ pub struct PageRequest {
 pub enum Kind {
     /// Down: the endpoint may use this PASID.
     Start {
+        /// The PASID: 1 to 32 of its 20 bits (PCI Express Base 5.0, section 6.20).
         pasid: u32,
     },
     /// Down: the endpoint is to stop using this PASID.
     Stop {
+        /// The PASID: 1 to 32 of its 20 bits (PCI Express Base 5.0, section 6.20).
         pasid: u32,
     },
-    /// Down: a function level reset.
+    /// Down: a function level reset (PCI Express Base 5.0, section 6.6.2).
     Reset,
-    /// Down: a Translation Completion. With `read` clear there is no translation, and `frame` is 0.
+    /// Down: a Translation Completion (PCI Express Base 5.0, section 10.2.3).
     Completion {
+        /// The tag of the request that it completes, 0 to 31.
         tag: u8,
+        /// The number of the frame, below 4096; a frame has 4096 bytes. 0 where there is no translation.
         frame: u32,
+        /// The bit R: there is a translation.
         read: bool,
+        /// The bit W: it allows writing.
         write: bool,
     },
-    /// Down: an Invalidate Request under an ITag of 0 to 31.
+    /// Down: an Invalidate Request (PCI Express Base 5.0, section 10.3.1).
     Invalidate {
+        /// The ITag, five bits: 0 to 31.
         itag: u8,
+        /// The PASID: 1 to 32 of its 20 bits (PCI Express Base 5.0, section 6.20).
         pasid: u32,
+        /// The page, or all pages, of the PASID.
         scope: Scope,
     },
-    /// Down: a Page Request Group Response.
+    /// Down: a Page Request Group Response (PCI Express Base 5.0, section 10.4.2).
     Response {
+        /// The PASID: 1 to 32 of its 20 bits (PCI Express Base 5.0, section 6.20).
         pasid: u32,
+        /// The Page Request Group Index: 0 to 31 of its nine bits.
         index: u8,
+        /// The response code.
         code: Code,
     },
-    /// Up: a Translation Request under a tag of 0 to 31.
+    /// Up: a Translation Request (PCI Express Base 5.0, section 10.2.2).
     Request {
+        /// The tag by which its completion finds it, 0 to 31.
         tag: u8,
+        /// The PASID: 1 to 32 of its 20 bits (PCI Express Base 5.0, section 6.20).
         pasid: u32,
+        /// The number of the page, below 2^36; a page has 4096 bytes.
         page: u64,
     },
-    /// Up: an Invalidate Completion; bit T of the ITag Vector stands for ITag T.
+    /// Up: an Invalidate Completion (PCI Express Base 5.0, section 10.3.2).
     Invalidated {
+        /// The ITag Vector: bit T stands for ITag T, 0 to 31.
         vector: u32,
+        /// The Completion Count field: how many completions there are in all.
         count: CountField,
     },
     /// Up: a Page Request.
     PageRequest(PageRequest),
-    /// Up: a Stop Marker, after which the function sends nothing under this PASID.
+    /// Up: a Stop Marker, after which the function sends nothing under this PASID (PCI Express Base 5.0, section
+    /// 10.4.1).
     Marker {
+        /// The PASID: 1 to 32 of its 20 bits (PCI Express Base 5.0, section 6.20).
         pasid: u32,
     },
     /// Up: the function level reset is done.
@@ -185,6 +204,7 @@ impl Kind {
 pub struct Message {
     /// The number of the endpoint, below 8.
     pub endpoint: u64,
+    /// What the message is, and its fields.
     pub kind: Kind,
 }
 

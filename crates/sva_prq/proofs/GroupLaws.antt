@@ -8,7 +8,7 @@ use Rattle.std.specs.Hash.DefaultHasher.{wrapping_add}
 use Rattle.std.specs.List.{find, list_any}
 use Rattle.sva_msg.specs.declared.messages.PageRequest.{PageRequest}
 use Rattle.sva_prq.specs.Groups.{OpenGroup, is_unfinished, is_of_serial, is_of_binding, is_of_other_unit, has_job, new_group, with_request, filed_among, serial_for, answered_among}
-use Rattle.sva_prq.specs.GroupCalls.{GroupCall, Reserve, File, Answered, DropUnit, groups_after, IsGroupHistory, GroupsAreBounded, was_made, is_pending, OpenGroupsAreSeen, SerialsDiffer, OpenIsExact}
+use Rattle.sva_prq.specs.GroupCalls.{GroupCall, Reserve, File, Answered, DropUnit, groups_after, IsGroupHistory, GroupsAreBounded, was_filed, was_made, is_pending, OpenGroupsAreSeen, SerialsAreNew, SerialsDiffer, OpenIsExact}
 use Rattle.sva_prq.proofs.Filing.{count-one}
 use Rattle.sva_prq.proofs.Searches.{filed_among-none, answered_among-none, find-none}
 use Rattle.sva_prq.proofs.Tests.{or_swap, or_twice, unfinished_name, unfinished_part, filter_none, answered_any, answered_none, AtMostOne, AtMostOne-filter, AtMostOne-answered}
@@ -295,6 +295,7 @@ open_groups_are_seen history serial unit binding h =
 record Kept (history : List GroupCall) : Type 0 where
   young : (groups_after history).next ≤ length history
   fresh : (s : ℕ) → (groups_after history).next ≤ s → list_any (is_of_serial s) (groups_after history).groups ≡ false
+  unfiled : (s : ℕ) → (groups_after history).next ≤ s → was_filed s history ≡ false
   unmade : (s : ℕ) → (groups_after history).next ≤ s → was_made s history ≡ false
   single : (s : ℕ) → AtMostOne (is_of_serial s) (groups_after history).groups
   whole : (s : ℕ) → was_made s history ≡ true → list_any (is_part s) (groups_after history).groups ≡ false
@@ -304,12 +305,17 @@ module _ (earlier : List GroupCall) (u b : ℕ) (request : PageRequest) (k : Kep
   next_joined : (groups_after (File u b request ∷ earlier)).next ≡ (groups_after earlier).next
   next_joined = ap (λ t. cond t (groups_after earlier).next (wrapping_add (groups_after earlier).next 1)) some
 
+  apart_joined : (s : ℕ) → (groups_after earlier).next ≤ s → eqb (serial_for (groups_after earlier) u b request.index) s ≡ false
+  apart_joined s past =
+      let gs = (groups_after earlier).groups in
+      false_from_ne_true _ (λ same. true≢false (sym (joined_with (groups_after earlier).next u b request s gs some same) ∙ k.fresh s past))
+
+  unfiled_joined : (s : ℕ) → (groups_after earlier).next ≤ s → was_filed s (File u b request ∷ earlier) ≡ false
+  unfiled_joined s past = ap (λ t. t || was_filed s earlier) (apart_joined s past) ∙ k.unfiled s past
+
   unmade_joined : (s : ℕ) → (groups_after earlier).next ≤ s → was_made s (File u b request ∷ earlier) ≡ false
   unmade_joined s past =
-      let gs = (groups_after earlier).groups in
-      let apart : eqb (serial_for (groups_after earlier) u b request.index) s ≡ false =
-      false_from_ne_true _ (λ same. true≢false (sym (joined_with (groups_after earlier).next u b request s gs some same) ∙ k.fresh s past)) in
-      ap (λ t. (t && request.last) || was_made s earlier) apart ∙ k.unmade s past
+      ap (λ t. (t && request.last) || was_made s earlier) (apart_joined s past) ∙ k.unmade s past
 
   whole_joined : (s : ℕ) → was_made s (File u b request ∷ earlier) ≡ true → list_any (is_part s) (groups_after (File u b request ∷ earlier)).groups ≡ false
   whole_joined s made =
@@ -329,6 +335,7 @@ module _ (earlier : List GroupCall) (u b : ℕ) (request : PageRequest) (k : Kep
       record {
         young = omega (arith, next_joined, young);
         fresh = λ s past. joined_any n u b request s gs some ∙ k.fresh s (omega (arith, next_joined, past));
+        unfiled = λ s past. unfiled_joined s (omega (arith, next_joined, past));
         unmade = λ s past. unmade_joined s (omega (arith, next_joined, past));
         single = λ s. joined_one n u b request s gs some (k.single s);
         whole = whole_joined;
@@ -359,6 +366,12 @@ module _ (earlier : List GroupCall) (u b : ℕ) (request : PageRequest) (k : Kep
   apart : (s : ℕ) → n + 1 ≤ s → eqb n s ≡ false
   apart s past = ne_eqb n s (λ e. absurd (omega (arith, e, past)))
 
+  unfiled_begun : (s : ℕ) → n + 1 ≤ s → was_filed s (File u b request ∷ earlier) ≡ false
+  unfiled_begun s past =
+      ap (λ x. eqb x s || was_filed s earlier) serial_begun
+      ∙ ap (λ t. t || was_filed s earlier) (apart s past)
+      ∙ k.unfiled s (omega (arith, past))
+
   unmade_begun : (s : ℕ) → n + 1 ≤ s → was_made s (File u b request ∷ earlier) ≡ false
   unmade_begun s past =
       ap (λ x. (eqb x s && request.last) || was_made s earlier) serial_begun
@@ -388,6 +401,7 @@ module _ (earlier : List GroupCall) (u b : ℕ) (request : PageRequest) (k : Kep
         fresh = λ s past.
             let later : n + 1 ≤ s = omega (arith, next_begun, past) in
             ap (list_any (is_of_serial s)) groups_begun ∙ any_pushed (is_of_serial s) gs begun (k.fresh s (omega (arith, later))) (apart s later);
+        unfiled = λ s past. unfiled_begun s (omega (arith, next_begun, past));
         unmade = λ s past. unmade_begun s (omega (arith, next_begun, past));
         single = λ s.
             subst (AtMostOne (is_of_serial s)) (sym groups_begun)
@@ -396,11 +410,11 @@ module _ (earlier : List GroupCall) (u b : ℕ) (request : PageRequest) (k : Kep
       }
 
 kept : (history : List GroupCall) → length history < 2 ^ 64 → Kept history
-kept [] short = record { young = omega arith; fresh = λ s past. refl; unmade = λ s past. refl; single = λ s. tt; whole = λ s made. refl }
+kept [] short = record { young = omega arith; fresh = λ s past. refl; unfiled = λ s past. refl; unmade = λ s past. refl; single = λ s. tt; whole = λ s made. refl }
 kept (Reserve _ ∷ earlier) short =
     let k = kept earlier (omega (arith, short)) in
     let young = k.young in
-    record { young = omega (arith, young); fresh = k.fresh; unmade = k.unmade; single = k.single; whole = k.whole }
+    record { young = omega (arith, young); fresh = k.fresh; unfiled = k.unfiled; unmade = k.unmade; single = k.single; whole = k.whole }
 kept (File u b request ∷ earlier) short =
     let k = kept earlier (omega (arith, short)) in
     (elim (list_any (is_unfinished u b request.index) (groups_after earlier).groups)
@@ -415,6 +429,7 @@ kept (Answered job ∷ earlier) short =
     record {
       young = omega (arith, young);
       fresh = λ s past. answered_none (is_of_serial s) job.serial gs (k.fresh s past);
+      unfiled = k.unfiled;
       unmade = k.unmade;
       single = λ s. AtMostOne-answered (is_of_serial s) job.serial gs (k.single s);
       whole = λ s made. answered_none (is_part s) job.serial gs (k.whole s made);
@@ -426,10 +441,17 @@ kept (DropUnit u ∷ earlier) short =
     record {
       young = omega (arith, young);
       fresh = λ s past. filter_none (is_of_serial s) (is_of_other_unit u) gs (k.fresh s past);
+      unfiled = k.unfiled;
       unmade = k.unmade;
       single = λ s. AtMostOne-filter (is_of_serial s) (is_of_other_unit u) gs (k.single s);
       whole = λ s made. filter_none (is_part s) (is_of_other_unit u) gs (k.whole s made);
     }
+
+pub serials_are_new : SerialsAreNew
+serials_are_new history unit binding index short none =
+    let s = groups_after history in
+    ap (λ o. was_filed (unwrap_or o (new_group s.next unit binding index)).serial history) (find-none (is_unfinished unit binding index) s.groups none)
+    ∙ (kept history short).unfiled s.next (omega arith)
 
 pub serials_differ : SerialsDiffer
 serials_differ history serial short =

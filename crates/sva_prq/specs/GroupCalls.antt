@@ -1,5 +1,6 @@
 -- The open groups over every list of calls. A history is the list of the calls so far, the latest first.
 use Rattle.std.specs.Prelude.{◌≡◌, ℕ, ◌<◌, ◌≤◌, ◌^◌, ◌==◌, Bool, true, false, ◌&&◌, ◌||◌, not, if◌then◌else◌, List, [], ◌∷◌, ◌++◌, length, Some, None, All, count_by, ◌↔◌}
+use Rattle.std.specs.List.{list_any}
 use Rattle.sva_msg.specs.declared.messages.PageRequest.{PageRequest}
 use Rattle.sva_prq.specs.declared.jobs.Ask.{Ask}
 use Rattle.sva_prq.specs.Job.{Job, ask_of}
@@ -68,8 +69,22 @@ UnfinishedGroupsDiffer =
     (history : List GroupCall) (unit binding index : ℕ)
     → count_by (is_unfinished unit binding index) (groups_after history).groups ≤ 1
 
--- no two open groups share a serial, so the job of a group ends that group and no other. A history of 2^64 calls is longer
--- than any that a computer can make
+-- a request was filed in the group with this serial
+abbrev pub was_filed : ℕ → List GroupCall → Bool
+was_filed serial [] = false
+was_filed serial (File u b request ∷ earlier) =
+    serial_for (groups_after earlier) u b request.index == serial || was_filed serial earlier
+was_filed serial (_ ∷ earlier) = was_filed serial earlier
+
+-- a group that begins takes a serial under which no request was filed before, so no job of an earlier group ends it. A
+-- history of 2^64 calls is longer than any that a computer can make
+abbrev pub SerialsAreNew : Type 0
+SerialsAreNew =
+    (history : List GroupCall) (unit binding index : ℕ) → length history < 2 ^ 64
+    → list_any (is_unfinished unit binding index) (groups_after history).groups ≡ false
+    → was_filed (serial_for (groups_after history) unit binding index) history ≡ false
+
+-- no two open groups share a serial, so the job of a group ends that group and no other
 abbrev pub SerialsDiffer : Type 0
 SerialsDiffer =
     (history : List GroupCall) (serial : ℕ) → length history < 2 ^ 64
@@ -102,7 +117,7 @@ OpenGroupsAreSeen =
     → is_pending serial unit binding history ≡ true → is_open binding (groups_after history) ≡ true
 
 -- `open_of` tells exactly whether the binding has a group whose own job isn't answered, and that isn't dropped with its
--- unit, whatever the indexes of the requests. A history of 2^64 calls is longer than any that a computer can make
+-- unit, whatever the indexes of the requests
 abbrev pub OpenIsExact : Type 0
 OpenIsExact =
     (history : List GroupCall) (binding : ℕ) → length history < 2 ^ 64

@@ -6,8 +6,9 @@ use Rattle.sva_msg.specs.declared.messages.PageRequest.{PageRequest}
 use Rattle.sva_prq.specs.declared.jobs.Ask.{Ask}
 use Rattle.sva_prq.specs.Job.{Job, ask_of}
 
--- the serial that tells a group from all others, the unit at which the requests came, the binding and the group index under which they are filed, what they ask for in
--- order of filing, and whether the last of them is filed: with it the job is made
+-- the serial that tells a group from all others, the unit at which the requests came, the binding and the group index
+-- under which they are filed, what they ask for in order of filing, and whether the last of them is filed: with it the job
+-- is made
 pub record OpenGroup : Type 0 where
   pub serial : ℕ
   pub unit : ℕ

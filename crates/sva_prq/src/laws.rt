@@ -1,5 +1,5 @@
 ghost use Rattle.sva_prq.specs.Queue.{IsFirstInFirstOut, NeverOverflows};
-ghost use Rattle.sva_prq.specs.GroupCalls.{JobsHoldTheirRequests, GroupsAreBounded, UnfinishedGroupsDiffer, OpenGroupsAreSeen, SerialsDiffer, OpenIsExact};
+ghost use Rattle.sva_prq.specs.GroupCalls.{JobsHoldTheirRequests, GroupsAreBounded, UnfinishedGroupsDiffer, OpenGroupsAreSeen, SerialsAreNew, SerialsDiffer, OpenIsExact};
 
 /// What holds of a page request queue after every list of permitted calls.
 pub fn queue_laws()
@@ -13,6 +13,7 @@ pub fn group_laws()
     ensures bounded { GroupsAreBounded }
     ensures unfinished { UnfinishedGroupsDiffer }
     ensures seen { OpenGroupsAreSeen }
+    ensures new { SerialsAreNew }
     ensures serials { SerialsDiffer }
     ensures exact { OpenIsExact }
 {}

@@ -39,6 +39,15 @@ fn waits_for_both_units(rt: HostRuntime) -> Result<(), Fail> {
     Ok(())
 }
 
+/// Counts of frames of which none is mapped.
+fn unmapped(free: u32, withheld: u32) -> Counts {
+    Counts {
+        free,
+        mapped: 0,
+        withheld,
+    }
+}
+
 /// Three frames: the first waits for a reset and a cookie, the second for another cookie of the same unit, the
 /// third for both cookies.
 #[test]
@@ -57,48 +66,20 @@ fn settles_in_turn(rt: HostRuntime) -> Result<(), Fail> {
     assert_eq!(rt; withhold_lowest(&mut pool, second), Some(1));
     assert_eq!(rt; withhold_lowest(&mut pool, third.copied()), Some(2));
     assert_eq!(rt; withhold_lowest(&mut pool, third), None);
-    assert_eq!(rt;
-        pool.counts(),
-        Counts {
-            free: 0,
-            mapped: 0,
-            withheld: 3
-        }
-    );
+    assert_eq!(rt; pool.counts(), unmapped(0, 3));
 
     // The unit's cookie, then another unit's, one that nobody waits for, and the reset's end.
     pool.settle(2, 7);
-    assert_eq!(rt;
-        pool.counts(),
-        Counts {
-            free: 1,
-            mapped: 0,
-            withheld: 2
-        }
-    );
+    assert_eq!(rt; pool.counts(), unmapped(1, 2));
     assert_eq!(rt; place(&pool, 1), Some(Place::Free));
     pool.settle(3, 9);
     assert_eq!(rt; place(&pool, 2), Some(Place::Free));
     assert_eq!(rt; place(&pool, 0), Some(Place::Withheld));
     pool.settle(2, 9);
     pool.settle_all(3);
-    assert_eq!(rt;
-        pool.counts(),
-        Counts {
-            free: 2,
-            mapped: 0,
-            withheld: 1
-        }
-    );
+    assert_eq!(rt; pool.counts(), unmapped(2, 1));
     pool.settle_all(2);
-    assert_eq!(rt;
-        pool.counts(),
-        Counts {
-            free: 3,
-            mapped: 0,
-            withheld: 0
-        }
-    );
+    assert_eq!(rt; pool.counts(), unmapped(3, 0));
     Ok(())
 }
 
@@ -121,14 +102,7 @@ fn takes_the_lowest(rt: HostRuntime) -> Result<(), Fail> {
         }
     );
     pool.give(frame);
-    assert_eq!(rt;
-        pool.counts(),
-        Counts {
-            free: 1,
-            mapped: 0,
-            withheld: 1
-        }
-    );
+    assert_eq!(rt; pool.counts(), unmapped(1, 1));
     pool.settle_all(7);
     assert_eq!(rt; withhold_lowest(&mut pool, Waits::new()), Some(0));
     Ok(())

@@ -225,17 +225,14 @@ mod tests {
             (0x0000_0006, three, 0x0000_0002),
             // Tag 1 is free, tag 2 has its third, tag 3 waits for eight.
             (0x0000_000e, eight, 0x0000_0004),
-            (0x0000_0008, eight, 0),
-            (0x0000_0008, eight, 0),
-            (0x0000_0008, eight, 0),
-            (0x0000_0008, eight, 0),
-            (0x0000_0008, eight, 0),
-            (0x0000_0008, eight, 0),
-            (0x0000_0008, one, 0x0000_0008),
         ];
         for (vector, count, freed) in completions {
             assert_eq!(rt; tags.arrived(vector, count), freed, "at {vector}");
         }
+        for _second_to_seventh in 0..6 {
+            assert_eq!(rt; tags.arrived(0x0000_0008, eight), 0);
+        }
+        assert_eq!(rt; tags.arrived(0x0000_0008, one), 0x0000_0008);
         assert_eq!(rt; tags.busy(), 0x7fff_fff0);
         for tag in 0..4 {
             assert_eq!(rt; tags.take(), Some(tag));

@@ -230,17 +230,15 @@ mod tests {
         Ok(())
     }
 
+    fn wait(cookie: u64, drain: bool) -> Descriptor {
+        Descriptor::Wait { cookie, drain }
+    }
+
     #[test]
     fn goes_in_order_until_a_reset(rt: HostRuntime) -> Result<(), Fail> {
         let mut unit = Unit::new();
-        let plain = Descriptor::Wait {
-            cookie: 0,
-            drain: false,
-        };
-        let draining = Descriptor::Wait {
-            cookie: 1,
-            drain: true,
-        };
+        let plain = wait(0, false);
+        let draining = wait(1, true);
         let all = Descriptor::Pasid { pasid: 1 };
         let page = Descriptor::Page { pasid: 1, page: 16 };
         let other = Descriptor::Page { pasid: 1, page: 17 };

@@ -98,8 +98,13 @@ fn reports_faults(rt: HostRuntime) -> Result<(), Fail> {
             "{want}"
         );
     }
+    Ok(())
+}
+
+#[test]
+fn reports_a_byte_that_is_no_text(rt: HostRuntime) -> Result<(), Fail> {
     let odd = b"config 1 4 1\nunmap 0 \xff\n";
-    assert!(rt; reports(alloc, odd, b"line 2 BadWord\n", Outcome::Faulted)?);
+    assert!(rt; reports(rt.alloc(), odd, b"line 2 BadWord\n", Outcome::Faulted)?);
     Ok(())
 }
 

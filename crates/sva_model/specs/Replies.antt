@@ -1,4 +1,5 @@
--- What a worker's reply does: it is decided by the binding that the job names, at the time of the reply.
+-- What a worker's reply does: it is decided by the binding that the job names, at the time of the reply. It is a Page Request
+-- Group Response (PCI Express Base 5.0, section 10.4.2).
 use Rattle.std.specs.Prelude.{ℕ, Bool, true, false, ◌&&◌, ◌||◌, not, ◌==◌, if◌then◌else◌, Option, Some, None, List, [], ◌∷◌, map}
 use Rattle.std.specs.List.{list_any}
 use Rattle.sva_step.specs.declared.steps.Verdict.{Verdict}

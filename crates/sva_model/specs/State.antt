@@ -33,8 +33,9 @@ pub record Mappings : Type 0 where
   pub at : ℕ → ℕ → Option ℕ  -- of a space and a page: the mapping that is present there
   pub latest : ℕ → Option ℕ  -- of a frame: the last mapping to it
 
--- The stages of a binding at the host, until it is released. A stopping one knows whether its Stop Marker was noted; a
--- draining one its wait; an invalidating one its PASID's invalidation and the wait behind that.
+-- The stages of a binding at the host, until it is released (this project's own). A stopping one knows whether its Stop
+-- Marker was noted (PCI Express Base 5.0, section 10.4.1); a draining one its wait; an invalidating one its PASID's
+-- invalidation and the wait behind that.
 pub data Stage : Type 0 where
   Unbound : Stage
   Live : Stage
@@ -45,30 +46,35 @@ pub data Stage : Type 0 where
   Lost : Stage
   Released : Stage
 
--- a PASID at its endpoint: it hasn't started or was quit, it has started, it is told to stop
+-- a PASID at its endpoint (section 6.20): it hasn't started or was quit, it has started, it is told to stop
 pub data PasidState : Type 0 where
   Off : PasidState
   On : PasidState
   Ending : PasidState
 
--- A translation request is out; out and doomed, since an invalidation that covers it was taken; or over.
+-- A translation request (section 10.2.2) is out; out and doomed, since an invalidation that covers it was taken; or over.
 pub data RequestState : Type 0 where
   Out : RequestState
   Doomed : RequestState
   Over : RequestState
 
+-- A use of a held translation (AT field 10b, section 10.2.1) runs; a reset has ended it, and its slot is taken yet; or it
+-- has ended.
 pub data UseState : Type 0 where
   Running : UseState
   Dead : UseState
   Ended : UseState
 
+-- A page request (section 10.4.1) is on its way; in the unit's page request queue (Intel VT-d, "Page Request Queue"); filed by
+-- the host in its group; or lost to a reset.
 pub data PageRequestState : Type 0 where
   InFlight : PageRequestState
   Arrived : PageRequestState
   Filed : PageRequestState
   Dropped : PageRequestState
 
--- a group of page requests at its endpoint: its last request isn't sent yet; it is; it is, and the PASID was quit
+-- a group of page requests at its endpoint (section 10.4.1): its last request isn't sent yet; it is; it is, and the PASID was
+-- quit; its response came
 pub data GroupState : Type 0 where
   Unfinished : GroupState
   Awaiting : GroupState
@@ -87,14 +93,16 @@ pub data HostGroupState : Type 0 where
   InHandDiscarded : (worker : ℕ) → HostGroupState
 
 -- What is ordered of a unit by its invalidation queue: the invalidation of one page or of all pages of a binding, or a
--- wait (Intel VT-d: IOTLB and device-TLB invalidation, and the invalidation wait descriptor with its page request drain).
+-- wait (Intel VT-d, "Queued Invalidation Interface": PASID-based IOTLB and device-TLB invalidation, the invalidation wait
+-- descriptor, and "Page Request Drain").
 pub data Order : Type 0 where
   PageOf : (binding page : ℕ) → Order
   PasidOf : (binding : ℕ) → Order
   Wait : (cookie : ℕ) (drain : Bool) → Order
 
--- The life of an order. A taken invalidation notes the running uses that it covers: they are among the first `uses`
--- uses. An owed one waits for `left` more of its `count` completions.
+-- The life of an order (sections 10.3.1 to 10.3.3; lapsed and void are this project's own). A taken invalidation notes the
+-- running uses that it covers: they are among the first `uses` uses. An owed one waits for `left` more of its `count`
+-- completions.
 pub data OrderState : Type 0 where
   Queued : OrderState
   Sent : OrderState
@@ -119,7 +127,8 @@ pub data About : Type 0 where
   MarkerOf : (binding : ℕ) → About
   ResetDone : About
 
--- A unit is open; or in reset, where first the reset order is in flight and then the reset-done.
+-- A unit is open; or in reset (a function level reset, section 6.6.2), where first the reset order is in flight and then the
+-- reset-done.
 pub data Phase : Type 0 where
   Open : Phase
   Ordered : (message : ℕ) → Phase

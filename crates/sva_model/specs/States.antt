@@ -1,4 +1,4 @@
--- What the states of records mean.
+-- What the states of records mean. Sections are those of PCI Express Base 5.0.
 use Rattle.std.specs.Prelude.{ℕ, suc, ◌+◌, Bool, true, false, ◌&&◌, ◌||◌, ◌==◌, nat_lt, Option, Some, None}
 use Rattle.sva_model.specs.Words.{all_below}
 use Rattle.sva_model.specs.State.{Owed, MappingState, Stage, PasidState, RequestState, UseState, PageRequestState, GroupState, HostGroupState, Order, OrderState, Phase, Part, World}
@@ -74,7 +74,7 @@ abbrev pub is_unfinished : GroupState → Bool
 is_unfinished Unfinished = true
 is_unfinished _ = false
 
--- does it keep its index and its requests' allocation?
+-- does it keep its index and its requests' allocation (section 10.5.2)?
 abbrev pub is_outstanding : GroupState → Bool
 is_outstanding Finished = false
 is_outstanding _ = true
@@ -98,7 +98,7 @@ abbrev pub is_taken : OrderState → Bool
 is_taken (Taken uses) = true
 is_taken _ = false
 
--- does it bear an ITag?
+-- does it bear an ITag (section 10.3.3: until the last of its completions)?
 abbrev pub is_busy : OrderState → Bool
 is_busy Sent = true
 is_busy (Taken uses) = true
@@ -114,7 +114,7 @@ abbrev pub is_wait : Order → Bool
 is_wait (Wait cookie drain) = true
 is_wait _ = false
 
--- a wait that drains: it waits for an empty page request queue too
+-- a wait that drains (Intel VT-d, "Page Request Drain"): it waits for an empty page request queue too
 abbrev pub drains : Order → Bool
 drains (Wait cookie drain) = drain
 drains _ = false
@@ -124,7 +124,7 @@ abbrev pub uses_noted : OrderState → ℕ
 uses_noted (Taken uses) = uses
 uses_noted _ = 0
 
--- What an invalidation covers: its page, or every page, of its own binding.
+-- What an invalidation covers (section 10.3.1): its page, or every page, of its own binding.
 abbrev pub covers : Order → (binding page : ℕ) → Bool
 covers (PageOf b q) binding page = b == binding && q == page
 covers (PasidOf b) binding page = b == binding

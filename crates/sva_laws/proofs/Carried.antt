@@ -25,6 +25,8 @@ use Rattle.sva_laws.proofs.PageRequests.{is_whole}
 use Rattle.sva_laws.proofs.Groups.{is_filed_group, whole_filed}
 use Rattle.sva_laws.proofs.Found.{sent_undone, sent_busy}
 use Rattle.sva_laws.proofs.Invariant.{PartInv, Inv}
+use Rattle.sva_laws.proofs.Completions.{Owed, AllOwed, act_owed, acts_owed, opened_owed}
+use Rattle.sva_laws.proofs.Vectors.{owed_for_kept, owed_for_submitted}
 use Rattle.sva_laws.proofs.Keeps.{Legal, act_keeps, put_keeps}
 use Rattle.sva_laws.proofs.Passed.{LegalAll}
 use Rattle.sva_laws.proofs.Runs.{step_legal, next_keeps, opened_inv}
@@ -74,8 +76,8 @@ active_bound s h e = absurd (cc (sym (ap is_active e) ∙ h))
 bound_as : (s t : Stage) → s ≡ t → t ≢ Unbound → s ≢ Unbound
 bound_as s t e ne h = ne (sym e ∙ h)
 
-pub every : (ms : Mappings) (x g n e : ℕ) (p : Part) (o : Own) → LegalOwn ms g p o → PartInv ms x g n e p → IsCarried ms p → IsCarried ms (own p n o)
-every ms x g n e p o l i ca =
+pub every : (ms : Mappings) (x g n e : ℕ) (p : Part) (o : Own) → LegalOwn ms g p o → PartInv ms x g n e p → Owed n p → IsCarried ms p → IsCarried ms (own p n o)
+every ms x g n e p o l i ow ca =
     let bo = i.bounds in
     let bi = i.bindings in
     let gr = i.groups in
@@ -88,6 +90,7 @@ every ms x g n e p o l i ca =
       invalidate = λ c k h. invalidate_kept ms g n p o l c k (bo.sent c k) (i.labels.sent c k) (λ m. order_bound k (i.labels.sent c k m)) (ca.invalidate c k) h;
       response = λ c y code h. response_kept ms g n p o l c y code (bo.responded c y code) (λ r m f. whole_filed g p bo i.lasts y (ap is_whole (gr.response c y code m).1) r f) (λ m. group_bound c y code m) (ca.response c y code) h;
       request = λ c r h. request_kept ms g n p o l c r (bo.asked c r) (λ m. i.requests.bound r (bo.asked c r m)) (ca.request c r) h;
+      invalidated = owed_for_kept ms g n p o l i.resets bo i.labels ow ca.invalidated;
       page_request = λ c r h. page_request_kept ms g n p o l c r (bo.requested c r) (bo.group_of r) (λ m. gr.asker_bound (p.group_of r) (bo.group_of r (bo.requested c r m))) (ca.page_request c r) h;
       marker = λ c b h. marker_kept ms g n p o l c b (λ k. unmarked_bound (p.stage b) (ap is_unmarked (bi.marker_stage c b k))) (ca.marker c b) h;
       reset_done = λ c h. reset_done_kept ms g n p o l c (ca.reset_done c) h;
@@ -116,6 +119,7 @@ submitted_carried ms g true p (Some b) q count cookie bo ca =
       invalidate = λ c k h. submitted_invalidate g b q count cookie c k p (bo.sent c k) (ca.invalidate c k) h;
       response = ca.response;
       request = ca.request;
+      invalidated = owed_for_submitted g b q count cookie p bo ca.invalidated;
       page_request = ca.page_request;
       marker = ca.marker;
       reset_done = ca.reset_done;
@@ -135,6 +139,7 @@ with_mappings ms ns p done ca =
       invalidate = ca.invalidate;
       response = ca.response;
       request = ca.request;
+      invalidated = ca.invalidated;
       page_request = ca.page_request;
       marker = ca.marker;
       reset_done = ca.reset_done;
@@ -146,32 +151,34 @@ mapped_completion p c r m made f x frame write lt old h = grind (arith, nat_test
 abbrev pub AllCarried : World → Type 0
 AllCarried w = (e : ℕ) → IsCarried w.mappings (w.part e)
 
-act_carried : (w : World) (a : Act) → Legal w a → Inv w → AllCarried w → AllCarried (act w a)
-act_carried w NewSpace l i h = h
-act_carried w (DropSpace s) l i h = λ e. with_mappings w.mappings (act w (DropSpace s)).mappings (w.part e) (h e).completion (h e)
-act_carried w (Map s q f x) l i h =
+act_carried : (w : World) (a : Act) → Legal w a → Inv w → AllOwed w → AllCarried w → AllCarried (act w a)
+act_carried w NewSpace l i ow h = h
+act_carried w (DropSpace s) l i ow h = λ e. with_mappings w.mappings (act w (DropSpace s)).mappings (w.part e) (h e).completion (h e)
+act_carried w (Map s q f x) l i ow h =
     λ e.
     with_mappings w.mappings (act w (Map s q f x)).mappings (w.part e)
     (λ c r m k. mapped_completion (w.part e) c r m w.mappings.made f x w.mappings.frame w.mappings.write ((i.parts e).owners.flying_made c r m) ((h e).completion c r m) k)
     (h e)
-act_carried w (Unmap s q count) l i h =
+act_carried w (Unmap s q count) l i ow h =
     λ e.
     let ca = submitted_carried w.mappings w.bindings (submits w s e) (w.part e) (bound w e s) q count (cookie_of w s e) (i.parts e).bounds (h e) in
     with_mappings w.mappings (act w (Unmap s q count)).mappings ((act w (Unmap s q count)).part e) ca.completion ca
-act_carried w (NewBinding e) l i h = h
-act_carried w (NewJob e g) l i h = h
-act_carried w (Hold x j) l i h = h
-act_carried w (LetGo x) l i h = h
-act_carried w (At e o) l i h =
-    put_keeps (λ k p. IsCarried w.mappings p) w.part e (own (w.part e) w.messages o) (every w.mappings w.config.endpoints w.bindings w.messages e (w.part e) o l.1.0 (i.parts e) (h e)) h
+act_carried w (NewBinding e) l i ow h = h
+act_carried w (NewJob e g) l i ow h = h
+act_carried w (Hold x j) l i ow h = h
+act_carried w (LetGo x) l i ow h = h
+act_carried w (At e o) l i ow h =
+    put_keeps (λ k p. IsCarried w.mappings p) w.part e (own (w.part e) w.messages o) (every w.mappings w.config.endpoints w.bindings w.messages e (w.part e) o l.1.0 (i.parts e) (ow e) (h e)) h
 
-acts_carried : (acts : List Act) (w : World) → LegalAll w acts → Inv w → AllCarried w → AllCarried (after_acts w acts)
-acts_carried [] w l i h = h
-acts_carried (a ∷ acts) w l i h = acts_carried acts (act w a) l.1 (act_keeps w a l.0 i) (act_carried w a l.0 i h)
+acts_carried : (acts : List Act) (w : World) → LegalAll w acts → Inv w → AllOwed w → AllCarried w → AllCarried (after_acts w acts)
+acts_carried [] w l i ow h = h
+acts_carried (a ∷ acts) w l i ow h = acts_carried acts (act w a) l.1 (act_keeps w a l.0 i) (act_owed w a l.0 i ow) (act_carried w a l.0 i ow h)
 
-run_carried : (ss : List Step) (w : World) → Inv w → AllCarried w → AllCarried (run w ss)
-run_carried [] w i h = h
-run_carried (s ∷ ss) w i h = run_carried ss (next w s) (next_keeps w s i) (acts_carried (decide w s).acts w (step_legal w s i) i h)
+run_carried : (ss : List Step) (w : World) → Inv w → AllOwed w → AllCarried w → AllCarried (run w ss)
+run_carried [] w i ow h = h
+run_carried (s ∷ ss) w i ow h =
+    run_carried ss (next w s) (next_keeps w s i) (acts_owed (decide w s).acts w (step_legal w s i) i ow)
+    (acts_carried (decide w s).acts w (step_legal w s i) i ow h)
 
 opened_carried : (c : Config) → AllCarried (opened c)
 opened_carried c e =
@@ -184,10 +191,11 @@ opened_carried c e =
       invalidate = grind arith;
       response = grind arith;
       request = grind arith;
+      invalidated = λ d names h. absurd (cc);
       page_request = grind arith;
       marker = grind arith;
       reset_done = grind arith;
     }
 
 pub always_carried : (c : Config) (ss : List Step) (e : ℕ) → IsCarried (world_after c ss).mappings ((world_after c ss).part e)
-always_carried c ss = run_carried ss (opened c) (opened_inv c) (opened_carried c)
+always_carried c ss = run_carried ss (opened c) (opened_inv c) (opened_owed c) (opened_carried c)

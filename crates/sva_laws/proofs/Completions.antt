@@ -66,7 +66,7 @@ plain_owed ms g n p o l e re bo la ow k ph =
 finish_old : (n : ℕ) (p : Part) (names : ℕ → Bool) (vector count k c : ℕ) → c < n → names_order k ((own p n (Own.Finish names vector count)).message c) ≡ names_order k (p.message c)
 finish_old n p names vector count k c lt = grind (arith, nat_tests)
 
-finish_new : (n : ℕ) (p : Part) (names : ℕ → Bool) (vector count k c : ℕ) → n ≤ c → c < n + count → names_order k ((own p n (Own.Finish names vector count)).message c) ≡ names k
+pub finish_new : (n : ℕ) (p : Part) (names : ℕ → Bool) (vector count k c : ℕ) → n ≤ c → c < n + count → names_order k ((own p n (Own.Finish names vector count)).message c) ≡ names k
 finish_new n p names vector count k c lt up = grind (arith, nat_tests)
 
 taken_left : (s : OrderState) → is_taken s ≡ true → left_of s ≡ 0
@@ -145,7 +145,7 @@ reopen_owed ms g n p c l re k =
     count_zero (n + 0) (λ d. names_order k ((own p n (Own.Reopen c)).message d)) (λ d lt. reopen_none ms g n p c k d l (re.up c l.0) (λ a h. re.older c d a (re.up c l.0) h))
     ∙ sym (reopen_left n p c k)
 
-sent_below : (n c : ℕ) (p : Part) (a : About) → (n ≤ c → p.message c ≡ None) → p.message c ≡ Some a → c < n
+pub sent_below : (n c : ℕ) (p : Part) (a : About) → (n ≤ c → p.message c ≡ None) → p.message c ≡ Some a → c < n
 sent_below n c p a un h = grind (arith, nat_tests)
 
 owed_kept : (ms : Mappings) (g n : ℕ) (p : Part) (o : Own) → LegalOwn ms g p o → Resets n p → Bounds g p → Labels p → Owed n p → (b : Bool) → counts_completions o ≡ b → (k : ℕ) → (own p n o).phase ≡ Open → completions (n + sends o) (own p n o) k ≡ left_of ((own p n o).order_state k)
@@ -188,7 +188,7 @@ submitted_owed g n false p o q count cookie bo ow = ow
 abbrev pub AllOwed : World → Type 0
 AllOwed w = (e : ℕ) → Owed w.messages (w.part e)
 
-act_owed : (w : World) (a : Act) → Legal w a → Inv w → AllOwed w → AllOwed (act w a)
+pub act_owed : (w : World) (a : Act) → Legal w a → Inv w → AllOwed w → AllOwed (act w a)
 act_owed w NewSpace l i h = h
 act_owed w (DropSpace s) l i h = h
 act_owed w (Map s q f x) l i h = h
@@ -201,7 +201,7 @@ act_owed w (At e o) l i h =
     put_keeps (λ k p. Owed (w.messages + sends o) p) w.part e (own (w.part e) w.messages o) (every w.mappings w.config.endpoints w.bindings w.messages e (w.part e) o l.1.0 (i.parts e) (h e))
     (λ d. more_messages w.messages (sends o) (w.part d) (i.parts d).resets (h d))
 
-acts_owed : (acts : List Act) (w : World) → LegalAll w acts → Inv w → AllOwed w → AllOwed (after_acts w acts)
+pub acts_owed : (acts : List Act) (w : World) → LegalAll w acts → Inv w → AllOwed w → AllOwed (after_acts w acts)
 acts_owed [] w l i h = h
 acts_owed (a ∷ acts) w l i h = acts_owed acts (act w a) l.1 (act_keeps w a l.0 i) (act_owed w a l.0 i h)
 
@@ -209,7 +209,7 @@ run_owed : (ss : List Step) (w : World) → Inv w → AllOwed w → AllOwed (run
 run_owed [] w i h = h
 run_owed (s ∷ ss) w i h = run_owed ss (next w s) (next_keeps w s i) (acts_owed (decide w s).acts w (step_legal w s i) i h)
 
-opened_owed : (c : Config) → AllOwed (opened c)
+pub opened_owed : (c : Config) → AllOwed (opened c)
 opened_owed c e =
     record {
       owed = λ k ph. count_zero (opened c).messages (λ d. names_order k (((opened c).part e).message d)) (λ d lt. refl);

@@ -18,6 +18,7 @@ use Rattle.sva_model.specs.States.{is_open, is_unreleased, is_before_invalidatin
 use Rattle.sva_model.specs.Acts.{Own}
 use Rattle.sva_model.specs.Acts.Own.{Bind, Stop, Drain, Invalidate, Quieten, Release, Send, Pass, File, Reset, Hand, Respond, Discard, Ask, Begin, End, Evict, Group, Request, Finish, Quit, Start_arrives, Stop_arrives, Reset_arrives, Keep, Forget, Take, Answered, Complete, Count, Arrive, Miss, Mark, Ignore, Reopen}
 use Rattle.sva_model.specs.Labels.{outstanding, queue_length}
+use Rattle.sva_laws.specs.Laws.{IsVectorOf}
 
 -- no older message down that orders something
 pub record NoOlderDown (p : Part) (c : ℕ) : Type 0 where
@@ -74,7 +75,7 @@ LegalOwn ms g p (Finish names vector count) =
     ((k : ℕ) × (names k ≡ true))
     × ((k : ℕ) → names k ≡ true → is_taken (p.order_state k) ≡ true)
     × ((k u : ℕ) → names k ≡ true → u < uses_noted (p.order_state k) → p.use_state u ≡ Running → covers (p.order k) (p.use_binding u) (ms.page (p.use_mapping u)) ≡ false)
-    × (0 < count) × (count ≤ 8)
+    × (0 < count) × (count ≤ 8) × IsVectorOf p names vector
 LegalOwn ms g p (Quit b) =
     (p.pasid_state b ≡ Ending)
     × ((x : ℕ) → p.group x ≡ Unfinished → p.asker x ≢ b)

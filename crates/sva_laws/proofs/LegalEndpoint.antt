@@ -12,6 +12,7 @@ use Rattle.sva_model.specs.States.{is_on, is_ending, is_off, is_out, is_running,
 use Rattle.sva_model.specs.Refusals.{refusals, fault_refusals}
 use Rattle.sva_model.specs.Outcomes.{outcome, fault_outcome}
 use Rattle.sva_model.specs.Labels
+use Rattle.sva_laws.specs.Laws.{IsVectorOf}
 use Rattle.sva_laws.proofs.Words.{lowest_cases, lowest_below, some_the, any_below-false, any_below-true, not_true}
 use Rattle.sva_laws.proofs.Counting.{pigeons}
 use Rattle.sva_laws.proofs.Bounds.{Bounds}
@@ -159,23 +160,22 @@ pub fault : (w : World) (e t q : ℕ) (r x : Bool) (o : Option ℕ) (l : Bool) �
 fault w e t q r x o l i h = fault_at w e t q r x l o i (lt_of e w.config.endpoints h.0) h.1.1
 
 -- Finish: each named invalidation is taken, at least one is named, and no use that one noted runs on.
-finish_named : (w : World) (e vector : ℕ) → Inv w → Labels.names_none vector ≡ false → any_below 32 (λ t. Labels.is_set vector t && not (Labels.is_pending (w.part e) t)) ≡ false → (k : ℕ) × (Labels.is_named (w.part e) vector k ≡ true)
-finish_named w e vector i some pending =
+finish_set : (w : World) (e vector t : ℕ) → Inv w → any_below 32 (λ t. Labels.is_set vector t && not (Labels.is_pending (w.part e) t)) ≡ false → t < 32 → Labels.is_set vector t ≡ true → (k : ℕ) × (Labels.is_named (w.part e) vector k ≡ true) × ((w.part e).itag k ≡ t)
+finish_set w e vector t i pending l s =
     let p = w.part e in
-    let set = any_below-true 32 (Labels.is_set vector) (not_true (any_below 32 (Labels.is_set vector)) some) in
-    let t = set.0 in
-    let there = pending_at p t (is_pending t set.1 set.2) in
+    let there = pending_at p is_pending in
     let k = the (p.at_itag t) in
-    (k, both (is_taken (p.order_state k)) (Labels.is_set vector (p.itag k)) there.1 (ap (Labels.is_set vector) ((i.parts e).labels.itag_bears t k there.0).0 ∙ set.2))
+    let bears : p.itag k ≡ t = ((i.parts e).labels.itag_bears t k there.0).0 in
+    (k, both (is_taken (p.order_state k)) (Labels.is_set vector (p.itag k)) there.1 (ap (Labels.is_set vector) bears ∙ s), bears)
   where
-    is_pending : (t : ℕ) → t < 32 → Labels.is_set vector t ≡ true → Labels.is_pending (w.part e) t ≡ true
-    is_pending t l s = second (Labels.is_set vector t) (Labels.is_pending (w.part e) t) s (any_below-false 32 (λ t. Labels.is_set vector t && not (Labels.is_pending (w.part e) t)) pending t l)
+    is_pending : Labels.is_pending (w.part e) t ≡ true
+    is_pending = second (Labels.is_set vector t) (Labels.is_pending (w.part e) t) s (any_below-false 32 (λ t. Labels.is_set vector t && not (Labels.is_pending (w.part e) t)) pending t l)
       where
         second : (a b : Bool) → a ≡ true → (a && not b) ≡ false → b ≡ true
         second a b x y = grind arith
 
-    pending_at : (p : Part) (t : ℕ) → Labels.is_pending p t ≡ true → (p.at_itag t ≡ Some (the (p.at_itag t))) × (is_taken (p.order_state (the (p.at_itag t))) ≡ true)
-    pending_at p t h = go (p.at_itag t) h
+    pending_at : (p : Part) → Labels.is_pending p t ≡ true → (p.at_itag t ≡ Some (the (p.at_itag t))) × (is_taken (p.order_state (the (p.at_itag t))) ≡ true)
+    pending_at p h = go (p.at_itag t) h
       where
         go : (o : Option ℕ) → holds_of (λ k. is_taken (p.order_state k)) o ≡ true → (o ≡ Some (the o)) × (is_taken (p.order_state (the o)) ≡ true)
         go None h = absurd (cc)
@@ -183,6 +183,19 @@ finish_named w e vector i some pending =
 
     both : (a b : Bool) → a ≡ true → b ≡ true → (a && b) ≡ true
     both a b x y = grind arith
+
+finish_named : (w : World) (e vector : ℕ) → Inv w → Labels.names_none vector ≡ false → any_below 32 (λ t. Labels.is_set vector t && not (Labels.is_pending (w.part e) t)) ≡ false → (k : ℕ) × (Labels.is_named (w.part e) vector k ≡ true)
+finish_named w e vector i some pending =
+    let set = any_below-true 32 (Labels.is_set vector) (not_true (any_below 32 (Labels.is_set vector)) some) in
+    let found = finish_set w e vector set.0 i pending set.1 set.2 in
+    (found.0, found.1)
+
+finish_vector : (w : World) (e vector : ℕ) → Inv w → any_below 32 (λ t. Labels.is_set vector t && not (Labels.is_pending (w.part e) t)) ≡ false → IsVectorOf (w.part e) (Labels.is_named (w.part e) vector) vector
+finish_vector w e vector i pending =
+    record {
+      named = λ k nm. and_right (is_taken ((w.part e).order_state k)) (Labels.is_set vector ((w.part e).itag k)) nm;
+      set = λ t l s. finish_set w e vector t i pending l s;
+    }
 
 finish_unused : (w : World) (e vector : ℕ) → Inv w → any_below (w.part e).orders (λ k. Labels.is_named (w.part e) vector k && Labels.is_in_use w (w.part e) k) ≡ false → (k u : ℕ) → Labels.is_named (w.part e) vector k ≡ true → u < uses_noted ((w.part e).order_state k) → (w.part e).use_state u ≡ Running → covers ((w.part e).order k) ((w.part e).use_binding u) (w.mappings.page ((w.part e).use_mapping u)) ≡ false
 finish_unused w e vector i h k u nm l r =
@@ -211,6 +224,7 @@ finish w e vector count i h =
             finish_unused w e vector i h.1.1.0,
             low count h.1.1.1.0,
             high count h.1.1.1.0,
+            finish_vector w e vector i pending,
           ),
           tt,
         ),

@@ -33,5 +33,6 @@ pub mod Found
 pub mod Freed
 pub mod Ways
 pub mod Completions
+pub mod Vectors
 pub mod OnTheWay
 pub mod Carried

@@ -27,6 +27,7 @@ use Rattle.sva_laws.proofs.PageRequests.{is_whole}
 use Rattle.sva_laws.proofs.Groups.{Groups, is_alive_group}
 use Rattle.sva_laws.proofs.OnTheWay.{OnTheWay}
 use Rattle.sva_laws.proofs.Ways.{Ways, is_of_request, is_response_to}
+use Rattle.sva_laws.proofs.Jobs.{Jobs}
 use Rattle.sva_laws.proofs.Completions.{Owed}
 use Rattle.sva_laws.proofs.Agreement.{bearer}
 use Rattle.sva_laws.proofs.Unmap.{active_unreleased}
@@ -246,12 +247,15 @@ under_way w e i wa on ow =
 one_worker : (s : HostGroupState) (x y : ℕ) → IsHeldBy s x → IsHeldBy s y → x ≡ y
 one_worker s x y a b = grind arith
 
-pub holds_jobs : (w : World) → Inv w → HoldsJobs w
-holds_jobs w i =
+pub holds_jobs : (w : World) → Inv w → Jobs w.jobs w.job w.hand (λ e. (w.part e).host_group) → HoldsJobs w
+holds_jobs w i js =
     record {
       made = i.hands.made;
       in_hand = i.hands.held;
       one_hand = λ x y j k a b e g. one_worker ((w.part (w.job k).endpoint).host_group (w.job k).group) x y (moved x j k e g (i.hands.held x j a)) (i.hands.held y k b);
+      held = js.held;
+      queued = js.queued;
+      one_job = js.once;
     }
   where
     moved : (x j k : ℕ) → (w.job j).endpoint ≡ (w.job k).endpoint → (w.job j).group ≡ (w.job k).group → IsHeldBy ((w.part (w.job j).endpoint).host_group (w.job j).group) x → IsHeldBy ((w.part (w.job k).endpoint).host_group (w.job k).group) x

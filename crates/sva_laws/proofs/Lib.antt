@@ -36,3 +36,5 @@ pub mod Completions
 pub mod Vectors
 pub mod OnTheWay
 pub mod Carried
+pub mod Jobs
+pub mod JobSteps

@@ -85,7 +85,7 @@ act_on w (Hold x j) l i h = h
 act_on w (LetGo x) l i h = h
 act_on w (At e o) l i h = put_keeps (λ k p. OnTheWay p) w.part e (own (w.part e) w.messages o) (every w.mappings w.config.endpoints w.bindings w.messages e (w.part e) o l.1.0 (i.parts e) (h e)) h
 
-acts_on : (acts : List Act) (w : World) → LegalAll w acts → Inv w → AllOn w → AllOn (after_acts w acts)
+pub acts_on : (acts : List Act) (w : World) → LegalAll w acts → Inv w → AllOn w → AllOn (after_acts w acts)
 acts_on [] w l i h = h
 acts_on (a ∷ acts) w l i h = acts_on acts (act w a) l.1 (act_keeps w a l.0 i) (act_on w a l.0 i h)
 
@@ -93,7 +93,7 @@ run_on : (ss : List Step) (w : World) → Inv w → AllOn w → AllOn (run w ss)
 run_on [] w i h = h
 run_on (s ∷ ss) w i h = run_on ss (next w s) (next_keeps w s i) (acts_on (decide w s).acts w (step_legal w s i) i h)
 
-opened_on : (c : Config) → AllOn (opened c)
+pub opened_on : (c : Config) → AllOn (opened c)
 opened_on c e = record { last = grind arith; filed_last = grind arith; discarded = grind arith }
 
 pub always_on_the_way : (c : Config) (ss : List Step) (e : ℕ) → OnTheWay ((world_after c ss).part e)

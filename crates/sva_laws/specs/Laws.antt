@@ -231,7 +231,8 @@ abbrev pub AlwaysCarried : Type 0
 AlwaysCarried = (config : Config) (steps : List Step) (e : ℕ) → Fits config → IsCarried (world_after config steps).mappings ((world_after config steps).part e)
 
 -- A worker's hand holds a job that was made, of a group that is in that worker's hand at the host, whether or not a reset has
--- dropped it since; so no two hands hold jobs of the same group.
+-- dropped it since; so no two hands hold jobs of the same group. And back: of a group that is in a worker's hand, that worker
+-- holds the job; and a group that is a job has an entry in the job table, which is queued as long, and no group has two entries.
 pub record HoldsJobs (w : World) : Type 0 where
   pub made : (worker job : ℕ) → w.hand worker ≡ Some job → job < w.jobs
   pub in_hand :
@@ -245,6 +246,21 @@ pub record HoldsJobs (w : World) : Type 0 where
       → (w.job job).endpoint ≡ (w.job same).endpoint
       → (w.job job).group ≡ (w.job same).group
       → worker ≡ other
+  pub held :
+      (endpoint group worker : ℕ)
+      → ((w.part endpoint).host_group group ≡ InHand worker) ⊎ ((w.part endpoint).host_group group ≡ InHandDiscarded worker)
+      → (job : ℕ) × (w.hand worker ≡ Some job) × ((w.job job).endpoint ≡ endpoint) × ((w.job job).group ≡ group)
+  pub queued :
+      (endpoint group : ℕ)
+      → (w.part endpoint).host_group group ≡ Job
+      → (job : ℕ) × (job < w.jobs) × ((w.job job).endpoint ≡ endpoint) × ((w.job job).group ≡ group)
+  pub one_job :
+      (job same : ℕ)
+      → job < w.jobs
+      → same < w.jobs
+      → (w.job job).endpoint ≡ (w.job same).endpoint
+      → (w.job job).group ≡ (w.job same).group
+      → job ≡ same
 
 abbrev pub AlwaysHoldsJobs : Type 0
 AlwaysHoldsJobs = (config : Config) (steps : List Step) → Fits config → HoldsJobs (world_after config steps)

@@ -2,6 +2,7 @@ use Rattle.sva_laws.proofs.Claimed.{always_agrees}
 use Rattle.sva_model.specs.Steps.{world_after}
 use Rattle.sva_laws.proofs.Runs.{always}
 use Rattle.sva_laws.proofs.Found.{holds_jobs}
+use Rattle.sva_laws.proofs.JobSteps.{always_jobs}
 use Rattle.sva_laws.proofs.Limits.{always_outstanding, always_page_queue, always_waiting}
 use Rattle.sva_laws.proofs.page_requests.Goals as goal
 
@@ -12,4 +13,4 @@ pub returns-clause-limited : goal.returns-clause-limited
 returns-clause-limited c = λ config steps e fits. record { outstanding = always_outstanding config steps e; page_queue = always_page_queue config steps e; waiting = always_waiting config steps e }
 
 pub returns-clause-hands : goal.returns-clause-hands
-returns-clause-hands c = λ config steps fits. holds_jobs (world_after config steps) (always config steps)
+returns-clause-hands c = λ config steps fits. holds_jobs (world_after config steps) (always config steps) (always_jobs config steps)

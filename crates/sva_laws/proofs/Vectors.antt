@@ -11,7 +11,7 @@ use Rattle.sva_model.specs.State.Phase.{Cleared}
 use Rattle.sva_model.specs.States.{is_taken}
 use Rattle.sva_model.specs.Labels.{is_set}
 use Rattle.sva_model.specs.Acts.{Own, own, submitted, counted_if, owe_if, count_field}
-use Rattle.sva_laws.specs.Laws.{IsVectorOf, names_order, left_of}
+use Rattle.sva_laws.specs.Laws.{IsVectorOf, count_read, names_order, left_of}
 use Rattle.sva_laws.proofs.Words.{put-same, put-other}
 use Rattle.sva_laws.proofs.Counting.{count_off}
 use Rattle.sva_laws.proofs.Legal.{LegalOwn}
@@ -23,9 +23,9 @@ use Rattle.sva_laws.proofs.Completions.{Owed, counts_completions, sent_below, fi
 -- what stands at the clause of an Invalidate Completion (`IsCarried`)
 abbrev pub IsOwedFor : Part → (message : ℕ) → (ℕ → Bool) → Type 0
 IsOwedFor p c names =
-    (vector count : ℕ)
-    × (p.carried c ≡ InvalidatedMessage vector (count_field count)) × IsVectorOf p names vector
-    × ((k : ℕ) → names k ≡ true → (left : ℕ) × (p.order_state k ≡ Owing count left))
+    (vector field : ℕ)
+    × (p.carried c ≡ InvalidatedMessage vector field) × (field < 8) × IsVectorOf p names vector
+    × ((k : ℕ) → names k ≡ true → (left : ℕ) × (p.order_state k ≡ Owing (count_read field) left))
 
 abbrev pub AreOwed : Part → Type 0
 AreOwed p = (c : ℕ) (names : ℕ → Bool) → p.message c ≡ Some (InvalidatedOf names) → IsOwedFor p c names
@@ -46,19 +46,20 @@ carried_same ms g n p o l c a un h = grind (arith, nat_tests)
 
 -- from an order that is owed to the same after the act
 kept : (ms : Mappings) (g n : ℕ) (p : Part) (o : Own) → LegalOwn ms g p o → (c : ℕ) (names : ℕ → Bool) → (n ≤ c → p.message c ≡ None) → p.message c ≡ Some (InvalidatedOf names) → ((k count left : ℕ) → names k ≡ true → p.order_state k ≡ Owing count left → (rest : ℕ) × ((own p n o).order_state k ≡ Owing count rest)) → IsOwedFor p c names → IsOwedFor (own p n o) c names
-kept ms g n p o l c names un m stays (vector, count, carried, bits, owed) = (
+kept ms g n p o l c names un m stays (vector, field, carried, low, bits, owed) = (
   vector,
-  count,
+  field,
   carried_same ms g n p o l c (InvalidatedOf names) un m ∙ carried,
+  low,
   record {
     named = λ k nm. ap (is_set vector) (same k nm) ∙ bits.named k nm;
     set = λ t low s. let b = bits.set t low s in (b.0, b.1, same b.0 b.1 ∙ b.2);
   },
-  λ k nm. stays k count (owed k nm).0 nm (owed k nm).1,
+  λ k nm. stays k (count_read field) (owed k nm).0 nm (owed k nm).1,
 )
   where
     same : (k : ℕ) → names k ≡ true → (own p n o).itag k ≡ p.itag k
-    same k nm = itag_same ms g n p o l k count (owed k nm).0 (owed k nm).1
+    same k nm = itag_same ms g n p o l k (count_read field) (owed k nm).0 (owed k nm).1
 
 plain : (ms : Mappings) (g n : ℕ) (p : Part) (o : Own) → LegalOwn ms g p o → counts_completions o ≡ false → Resets n p → Bounds g p → Labels p → AreOwed p → AreOwed (own p n o)
 plain ms g n p o l e re bo la old c names h =
@@ -81,6 +82,13 @@ finish_carried n p ns vector count c lt up = grind (arith, nat_tests)
 owed_stays : (b : Bool) (s : OrderState) (more count left : ℕ) → (b ≡ true → is_taken s ≡ true) → s ≡ Owing count left → owe_if b more s ≡ Owing count left
 owed_stays b s more count left taken h = grind arith
 
+-- the count field as it is read
+field_low : (count : ℕ) → 0 < count → count ≤ 8 → count_field count < 8
+field_low count l m = grind (arith, nat_tests)
+
+read_back : (count : ℕ) → 0 < count → count ≤ 8 → count_read (count_field count) ≡ count
+read_back count l m = grind (arith, nat_tests)
+
 finished : (ms : Mappings) (g n : ℕ) (p : Part) (ns : ℕ → Bool) (vector count : ℕ) → LegalOwn ms g p (Own.Finish ns vector count) → Resets n p → AreOwed p → AreOwed (own p n (Own.Finish ns vector count))
 finished ms g n p ns vector count l re old c names h = go (below_or_not c n)
   where
@@ -90,13 +98,14 @@ finished ms g n p ns vector count l re old c names h = go (below_or_not c n)
         kept ms g n p (Own.Finish ns vector count) l c names (re.unsent c) m (λ k was left nm s. (left, owed_stays (ns k) (p.order_state k) count was left (l.1 k) s)) (old c names m)
     go (inr up) = (
       vector,
-      count,
+      count_field count,
       finish_carried n p ns vector count c up below,
+      field_low count l.3 l.4,
       record {
         named = λ k nm. l.5.named k (same k ∙ nm);
         set = λ t low s. let b = l.5.set t low s in (b.0, sym (same b.0) ∙ b.1, b.2);
       },
-      λ k nm. (count, ap (λ b. owe_if b count (p.order_state k)) (same k ∙ nm)),
+      λ k nm. (count, ap (λ b. owe_if b count (p.order_state k)) (same k ∙ nm) ∙ ap (λ z. Owing z count) (sym (read_back count l.3 l.4))),
     )
       where
         below : c < n + count
@@ -164,10 +173,11 @@ pub owed_for_submitted : (g b q count cookie : ℕ) (p : Part) → Bounds g p �
 owed_for_submitted g b q count cookie p bo old c names h = go (old c names h)
   where
     go : IsOwedFor p c names → IsOwedFor (submitted p b q count cookie) c names
-    go (vector, owed_by, carried, bits, owed) = (
+    go (vector, field, carried, low, bits, owed) = (
       vector,
-      owed_by,
+      field,
       carried,
+      low,
       record { named = bits.named; set = bits.set },
-      λ k nm. ((owed k nm).0, submitted_state g b q count cookie k owed_by (owed k nm).0 p (bo.order_state k) (owed k nm).1),
+      λ k nm. ((owed k nm).0, submitted_state g b q count cookie k (count_read field) (owed k nm).0 p (bo.order_state k) (owed k nm).1),
     )

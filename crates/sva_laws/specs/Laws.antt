@@ -1,5 +1,5 @@
 -- Laws of the definitions beside the headline: what labels find, what can't occur, and how many there are.
-use Rattle.std.specs.Prelude.{◌≡◌, ◌≢◌, ◌⊎◌, ◌↔◌, ℕ, ◌+◌, ◌<◌, ◌≤◌, Bool, true, false, Option, Some, None, List, [], ◌∷◌, ◌++◌, length}
+use Rattle.std.specs.Prelude.{◌≡◌, ◌≢◌, ◌⊎◌, ◌↔◌, ℕ, zero, suc, ◌+◌, ◌<◌, ◌≤◌, Bool, true, false, Option, Some, None, List, [], ◌∷◌, ◌++◌, length}
 use Rattle.sva_step.specs.declared.limits.Config.{Config}
 use Rattle.sva_step.specs.declared.steps.Step.{Step}
 use Rattle.sva_model.specs.Words.{count_below, select}
@@ -17,7 +17,7 @@ use Rattle.sva_model.specs.State.UseState.{Running, Ended}
 use Rattle.sva_model.specs.State.PageRequestState.{InFlight, Arrived}
 use Rattle.sva_model.specs.States.{is_unreleased, is_out, is_busy, is_outstanding, is_open_group, is_arrived, is_before_invalidating, place}
 use Rattle.sva_model.specs.States.Place.{Free, Withheld}
-use Rattle.sva_model.specs.Acts.{binding_of, extent_of, count_field}
+use Rattle.sva_model.specs.Acts.{binding_of, extent_of}
 use Rattle.sva_model.specs.Labels.{outstanding, is_waiting, is_set}
 use Rattle.sva_model.specs.Steps.{counts, world_after}
 use Rattle.sva_model.specs.Claims.{Fits, Usable, IsPresent, IsWithheld, IsDivided, IsMatched, IsBearer}
@@ -113,6 +113,11 @@ pub record IsVectorOf (p : Part) (names : ℕ → Bool) (vector : ℕ) : Type 0 
   pub named : (k : ℕ) → names k ≡ true → is_set vector (p.itag k) ≡ true
   pub set : (t : ℕ) → t < 32 → is_set vector t ≡ true → (k : ℕ) × (names k ≡ true) × (p.itag k ≡ t)
 
+-- the Completion Count as it is read: a field of three bits, in which 0 stands for 8 (section 10.3.2)
+abbrev pub count_read : (field : ℕ) → ℕ
+count_read zero = 8
+count_read (suc n) = suc n
+
 -- What a message in flight carries: the labels and fields of the records that it was sent for, as these records have them
 -- still. So what its receiver finds by them is what `IsLabelled` and `IsFound` say.
 pub record IsCarried (ms : Mappings) (p : Part) : Type 0 where
@@ -128,13 +133,14 @@ pub record IsCarried (ms : Mappings) (p : Part) : Type 0 where
   -- a Response: the PASID under which the host filed its group, the group's index, and the code
   pub response : (c g : ℕ) (code : Code) → p.message c ≡ Some (ResponseOf g code) → p.carried c ≡ ResponseMessage (p.pasid (p.filed_under g)) (p.index g) code
   pub request : (c r : ℕ) → p.message c ≡ Some (RequestOf r) → p.carried c ≡ RequestMessage (p.request_tag r) (p.pasid (p.request_binding r)) (p.request_page r)
-  -- an Invalidate Completion: the ITags of the orders that it names, and the count by which each of them is owed
+  -- an Invalidate Completion: the ITags of the orders that it names, and the count by which each of them is owed, as it is
+  -- read
   pub invalidated :
       (c : ℕ) (names : ℕ → Bool)
       → p.message c ≡ Some (InvalidatedOf names)
-      → (vector count : ℕ)
-      × (p.carried c ≡ InvalidatedMessage vector (count_field count)) × IsVectorOf p names vector
-      × ((k : ℕ) → names k ≡ true → (left : ℕ) × (p.order_state k ≡ Owing count left))
+      → (vector field : ℕ)
+      × (p.carried c ≡ InvalidatedMessage vector field) × (field < 8) × IsVectorOf p names vector
+      × ((k : ℕ) → names k ≡ true → (left : ℕ) × (p.order_state k ≡ Owing (count_read field) left))
   -- a page request: the PASID of its group's asker, the group's index, and what it asks
   pub page_request : (c r : ℕ) → p.message c ≡ Some (PageRequestOf r) → p.carried c ≡ PageRequestMessage (p.pasid (p.asker (p.group_of r))) (p.index (p.group_of r)) (p.asked_page r) (p.asks_read r) (p.asks_write r) (p.is_last r)
   pub marker : (c b : ℕ) → p.message c ≡ Some (MarkerOf b) → p.carried c ≡ MarkerMessage (p.pasid b)

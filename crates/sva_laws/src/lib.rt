@@ -19,7 +19,8 @@ pub fn translations()
     ensures safe { AlwaysPresentOrWithheld }
 {}
 
-/// Page requests, groups, jobs, markers and responses stand under the binding that asked.
+/// Page requests, groups, jobs, markers and responses stand under the binding that asked; hands, groups and the job table
+/// agree.
 pub fn page_requests()
     ensures matched { AlwaysMatched }
     ensures hands { AlwaysHoldsJobs }

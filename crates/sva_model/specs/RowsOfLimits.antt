@@ -3,7 +3,12 @@ use Rattle.std.specs.Prelude.{◌+◌, true, false, List, [], ◌∷◌, ◌++�
 use Rattle.sva_step.specs.declared.answers.Answer.TheVariants as answer
 use Rattle.sva_step.specs.declared.refusals.Refusal.TheVariants as refusal
 use Rattle.sva_step.specs.declared.steps.Step.TheVariants as step
+use Rattle.sva_model.specs.Claims.{Fits}
 use Rattle.sva_model.specs.Rows.{Line, says, refused, lines, IsRow, config}
+
+-- 4097 frames are one too many: the config is refused, and there is no first step
+abbrev pub FramesPastTheLimit : Type 0
+FramesPastTheLimit = Fits (config 1 4097 1 0) → ⊥
 
 -- the thirty-third translation request
 abbrev pub request_tags_spent : List Line

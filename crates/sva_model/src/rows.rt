@@ -4,7 +4,7 @@ ghost use Rattle.sva_model.specs.RowsOfTranslations.{SpacesAndFrames, PagesOfASp
 ghost use Rattle.sva_model.specs.RowsOfInvalidations.{CountOfEight, OneVectorForThree, AllTagsBusy, UnbindStageByStage, UnmapWhileInvalidating};
 ghost use Rattle.sva_model.specs.RowsOfResets.{SilentEndpoint, ResetAndTags, OldJob, ResetOfALiveBinding, TwoEndpointsOneSilent};
 ghost use Rattle.sva_model.specs.RowsOfPageRequests.{PageRequestGroup, StaleGroup, DrainOfTwoRequests, Verdicts};
-ghost use Rattle.sva_model.specs.RowsOfLimits.{RequestTagsSpent, UseSlotsSpent, CacheFull, PasidsSpent, PageNumbers, PageRequestsSpent, QueueOfSixtyFour, SpacesSpent, PagesOfAnUnmap, NumbersSpentAtTheEnd};
+ghost use Rattle.sva_model.specs.RowsOfLimits.{FramesPastTheLimit, RequestTagsSpent, UseSlotsSpent, CacheFull, PasidsSpent, PageNumbers, PageRequestsSpent, QueueOfSixtyFour, SpacesSpent, PagesOfAnUnmap, NumbersSpentAtTheEnd};
 ghost use Rattle.sva_model.specs.RowsOfRefusals.{CausesOfSpace, CausesOfDropSpace, CausesOfMap, FullSpaceWithoutFrames, FullSpaceWithoutNumbers, CausesOfUnmap, FullQueueWhileStopping, FullQueueWhileDraining, CausesOfBind, BindInReset, CausesOfUnbind, UnbindWithoutNumbers, CausesOfAdvance, CausesAtAUnit, CausesOfWorkers, CausesOfAsk, CausesOfBeginUse, CausesOfEndUseAndEvict, CausesOfFault, FaultWhereDisabled, CausesOfFinish, CausesOfQuit, QuitWithoutNumbers, CausesOfDeliver, CausesOfLook, NoNumberAtAll, BindingsSpent, CookiesOfTwoUnits, CookiesWhileDraining, PumpWithoutNumbers, PumpWithoutTagsAndNumbers, VerdictsWithoutNumbers, DroppedWithoutNumbers, LostWithoutNumbers};
 ghost use Rattle.sva_model.specs.RowsOfDeliveries.{EachKindAtAnOpenUnit, StartAndStopInReset, StartBeforeTheReset, InvalidateInReset, ResponseInReset, StaleResponseInReset, CompletionsInReset, CompletionsAtAnOpenUnit, DoomedWithoutTranslation, CacheFullInReset, ResponsesByCode, MessagesUpInReset, VectorsOfTwoCounts, OwnReset, EachKindAsSent, CountFieldsAsSent};
 ghost use Rattle.sva_model.specs.RowsOfReadings.{LastRequestPastAMarker, MarkerPastAMarker, RequestWithoutLIsNotOrdered, AdvanceOfALiveBinding, AdvanceOfALostBinding, OneNumberOfEachKind, UnmapPastTheLastPage, UnmapWhileDrainedInReset, UnmapWhileInvalidatingInReset, UnmapAfterTheInvalidation, PageNamedTwice, PageRequestForNeither, OtherVerdictsNeedNoFrame, SuccessThatIsNone, JobOfALostBinding, DrainWaitsForOtherPasids, WaitOfAnUnmapDoesNotDrain, StaleGroupsKeepTheirRequests, UnfinishedWhereDisabled, UnfinishedWithoutCredit, GroupWhileStopping, GroupOfAnotherPasid, SecondReset, DoomedRequestsAreOut, FailureBeforeTheStop, EarlierWaitsInReset, OrdersDownStayInOrder, StopBehindAnInvalidate};
@@ -53,6 +53,7 @@ pub fn page_requests()
 
 /// The limits of the tables and of the numbers.
 pub fn limits()
+    ensures frames_past_the_limit { FramesPastTheLimit }
     ensures request_tags_spent { RequestTagsSpent }
     ensures use_slots_spent { UseSlotsSpent }
     ensures cache_full { CacheFull }

@@ -27,6 +27,7 @@ pub mod Agreement
 pub mod Adding
 pub mod Lookback
 pub mod Withheld
+pub mod Told
 pub mod Claimed
 pub mod Limits
 pub mod Found

@@ -45,6 +45,8 @@ pub record Orders (p : Part) : Type 0 where
   pub draining_state : (b w : ℕ) → p.stage b ≡ Draining w → p.phase ≡ Open → is_queued_or_done (p.order_state w) ≡ true
   pub invalidating : (b k w : ℕ) → p.stage b ≡ Invalidating k w → (w ≡ suc k) × (p.order k ≡ PasidOf b) × (is_wait (p.order w) ≡ true) × (w < p.orders)
   pub invalidating_state : (b k w : ℕ) → p.stage b ≡ Invalidating k w → p.phase ≡ Open → is_queued_or_done (p.order_state w) ≡ true
+  pub invalidation_state : (b k w : ℕ) → p.stage b ≡ Invalidating k w → p.phase ≡ Open → p.order_state k ≢ Void
+  pub invalidation_done : (b k w : ℕ) → p.stage b ≡ Invalidating k w → p.order_state w ≡ Done → p.order_state k ≡ Done
   pub undone_before : (b k w x : ℕ) → p.stage b ≡ Invalidating k w → is_undone (p.order_state x) ≡ true → is_wait (p.order x) ≡ false → binding_of (p.order x) ≡ b → x < w
   pub undone_stage : (k : ℕ) → is_undone (p.order_state k) ≡ true → is_wait (p.order k) ≡ false → is_active (p.stage (binding_of (p.order k))) ≡ true
 
@@ -116,6 +118,33 @@ invalidating_state_kept ms g n p o l sent re or b k w h i =
       | inr x ↦ queued_is ((own p n o).order_state w) x
     ]
 
+-- a binding's invalidation isn't void at an open unit, so it is done where the wait behind it is
+begins_to_invalidate : (ms : Mappings) (g n : ℕ) (p : Part) (o : Own) → LegalOwn ms g p o → (b k w : ℕ) → (own p n o).stage b ≡ Invalidating k w → (p.stage b ≡ Invalidating k w) ⊎ (((own p n o).order_state k ≡ Queued) × ((own p n o).order_state w ≡ Queued))
+begins_to_invalidate ms g n p o l b k w h = grind (arith, nat_tests)
+
+not_void_kept : (ms : Mappings) (g n : ℕ) (p : Part) (o : Own) → LegalOwn ms g p o → (b k w : ℕ) → p.stage b ≡ Invalidating k w → (p.phase ≡ Open → p.order_state k ≢ Void) → (own p n o).stage b ≡ Invalidating k w → (own p n o).phase ≡ Open → (own p n o).order_state k ≢ Void
+not_void_kept ms g n p o l b k w st old h i = grind (arith, nat_tests)
+
+queued_apart : (s z : OrderState) → s ≡ Queued → is_undone z ≡ false → s ≢ z
+queued_apart s z h u = grind arith
+
+invalidation_state_kept : (ms : Mappings) (g n : ℕ) (p : Part) (o : Own) → LegalOwn ms g p o → Orders p → (b k w : ℕ) → (own p n o).stage b ≡ Invalidating k w → (own p n o).phase ≡ Open → (own p n o).order_state k ≢ Void
+invalidation_state_kept ms g n p o l or b k w h i =
+    elim (begins_to_invalidate ms g n p o l b k w h) [
+      | inl x ↦ not_void_kept ms g n p o l b k w x (or.invalidation_state b k w x) h i
+      | inr x ↦ queued_apart ((own p n o).order_state k) Void x.0 refl
+    ]
+
+done_behind : (ms : Mappings) (g n : ℕ) (p : Part) (o : Own) → LegalOwn ms g p o → SentOnly p → (k w : ℕ) → k < w → w < p.orders → is_wait (p.order w) ≡ true → (is_busy (p.order_state w) ≡ true → is_wait (p.order w) ≡ false) → (p.phase ≡ Open → p.order_state k ≢ Void) → (p.order_state w ≡ Done → p.order_state k ≡ Done) → (own p n o).order_state w ≡ Done → (own p n o).order_state k ≡ Done
+done_behind ms g n p o l sent k w lt made wt nw not_void old h = grind (arith, nat_tests)
+
+invalidation_done_kept : (ms : Mappings) (g n : ℕ) (p : Part) (o : Own) → LegalOwn ms g p o → SentOnly p → Orders p → (b k w : ℕ) → (own p n o).stage b ≡ Invalidating k w → (own p n o).order_state w ≡ Done → (own p n o).order_state k ≡ Done
+invalidation_done_kept ms g n p o l sent or b k w h i =
+    elim (begins_to_invalidate ms g n p o l b k w h) [
+      | inl x ↦ let d = or.invalidating b k w x in done_behind ms g n p o l sent k w (omega (arith, d.0)) d.3 d.2 (or.no_wait w) (or.invalidation_state b k w x) (or.invalidation_done b k w x) i
+      | inr x ↦ absurd (queued_apart ((own p n o).order_state w) Done x.1 refl i)
+    ]
+
 undone_before_kept : (ms : Mappings) (g n : ℕ) (p : Part) (o : Own) → LegalOwn ms g p o → SentOnly p → (b k w x : ℕ) → (x < p.orders) ⊎ (p.order_state x ≡ Void) → (p.stage b ≡ Invalidating k w → is_undone (p.order_state x) ≡ true → is_wait (p.order x) ≡ false → binding_of (p.order x) ≡ b → x < w) → (own p n o).stage b ≡ Invalidating k w → is_undone ((own p n o).order_state x) ≡ true → is_wait ((own p n o).order x) ≡ false → binding_of ((own p n o).order x) ≡ b → x < w
 undone_before_kept ms g n p o l sent b k w x made old h i j e = grind (arith, nat_tests)
 
@@ -139,6 +168,8 @@ every ms g n p o l re bo la or =
       draining_state = λ b w h i. draining_state_kept ms g n p o l la.sent re or b w h i;
       invalidating = λ b k w h. invalidating_kept ms g n p o l b k w (or.invalidating b k w) h;
       invalidating_state = λ b k w h i. invalidating_state_kept ms g n p o l la.sent re or b k w h i;
+      invalidation_state = λ b k w h i. invalidation_state_kept ms g n p o l or b k w h i;
+      invalidation_done = λ b k w h i. invalidation_done_kept ms g n p o l la.sent or b k w h i;
       undone_before = λ b k w x h i j e. undone_before_kept ms g n p o l la.sent b k w x (made_or_void p g x bo) (or.undone_before b k w x) h i j e;
       undone_stage = λ x h i. undone_stage_kept ms g n p o l la.sent x (made_or_void p g x bo) (λ b k w. quiet_now p or b k w x) (or.undone_stage x) h i;
     }

@@ -116,6 +116,8 @@ orders_sub g b q count cookie p st bo or =
       draining_state = λ x w h i. grind (arith, nat_tests, or.draining_state x w, or.draining x w);
       invalidating = λ x k w h. grind (arith, nat_tests, or.invalidating x k w);
       invalidating_state = λ x k w h i. grind (arith, nat_tests, or.invalidating_state x k w, or.invalidating x k w);
+      invalidation_state = λ x k w h i. grind (arith, nat_tests, or.invalidation_state x k w, or.invalidating x k w);
+      invalidation_done = λ x k w h i. grind (arith, nat_tests, or.invalidation_done x k w, or.invalidating x k w);
       undone_before = λ x k w y h i j e. grind (arith, nat_tests, or.undone_before x k w y);
       undone_stage = λ k h i. grind (arith, nat_tests, or.undone_stage k);
     }

@@ -1,7 +1,10 @@
--- Laws of the definitions beside the headline: what labels find, what can't occur, and how many there are.
-use Rattle.std.specs.Prelude.{◌≡◌, ◌≢◌, ◌⊎◌, ◌↔◌, ℕ, zero, suc, ◌+◌, ◌<◌, ◌≤◌, Bool, true, false, Option, Some, None, List, [], ◌∷◌, ◌++◌, length}
+-- Laws of the definitions beside the headline: what answers tell, what labels find, what can't occur, and how many there are.
+use Rattle.std.specs.Prelude.{◌≡◌, ◌≢◌, ◌⊎◌, ◌↔◌, ℕ, zero, suc, ◌+◌, ◌<◌, ◌≤◌, Bool, true, false, Option, Some, None, List, [], ◌∷◌, ◌++◌, length, slice_get, Ok}
+use Rattle.sva_step.specs.declared.answers.Answer.{Answer}
+use Rattle.sva_step.specs.declared.answers.Answer.TheVariants.{Frame, FreeFrames, WithheldFrames}
 use Rattle.sva_step.specs.declared.limits.Config.{Config}
 use Rattle.sva_step.specs.declared.steps.Step.{Step}
+use Rattle.sva_step.specs.declared.steps.Step.TheVariants.{Map, Unmap}
 use Rattle.sva_model.specs.Words.{count_below, select}
 use Rattle.sva_model.specs.Message.{Code}
 use Rattle.sva_model.specs.Message.Message.{StartMessage, StopMessage, ResetMessage, CompletionMessage, InvalidateMessage, ResponseMessage, RequestMessage, InvalidatedMessage, PageRequestMessage, MarkerMessage, ResetDoneMessage}
@@ -18,9 +21,9 @@ use Rattle.sva_model.specs.State.PageRequestState.{InFlight, Arrived}
 use Rattle.sva_model.specs.States.{is_unreleased, is_out, is_busy, is_outstanding, is_open_group, is_arrived, is_before_invalidating, place}
 use Rattle.sva_model.specs.States.Place.{Free, Withheld}
 use Rattle.sva_model.specs.Acts.{binding_of, extent_of}
-use Rattle.sva_model.specs.Labels.{outstanding, is_waiting, is_set}
-use Rattle.sva_model.specs.Steps.{counts, world_after}
-use Rattle.sva_model.specs.Claims.{Fits, Usable, IsPresent, IsWithheld, IsDivided, IsMatched, IsBearer}
+use Rattle.sva_model.specs.Labels.{number, outstanding, is_waiting, is_set}
+use Rattle.sva_model.specs.Steps.{reply, counts, world_after}
+use Rattle.sva_model.specs.Claims.{Fits, Usable, IsPresent, IsAt, IsWithheld, IsDivided, IsMatched, IsBearer}
 
 -- The headline's parts, each by itself.
 
@@ -64,6 +67,38 @@ FreeByTheLastAnswer =
     → IsWithheld config steps f
     → (IsWithheld config (steps ++ step ∷ []) f → ⊥)
     → place (world_after config (steps ++ step ∷ [])) f ≡ Free
+
+-- What an unmapping that is accepted answers: the frames that its pages had just before, in the order of the pages; and each of
+-- them is said to be free exactly where it is free after the step, and withheld exactly where the look back says so.
+pub record IsTold (config : Config) (steps : List Step) (of_space page count : ℕ) (answer : Answer) : Type 0 where
+  pub space : ℕ
+  pub numbered : number (world_after config steps) space ≡ of_space
+  pub frames : List ℕ
+  pub one_a_page : length frames ≡ count
+  pub was_there : (k f : ℕ) → slice_get frames k ≡ Some f → IsAt (world_after config steps) f space (page + k)
+  pub said : (answer ≡ FreeFrames frames) ⊎ (answer ≡ WithheldFrames frames)
+  pub free : (k f : ℕ) → slice_get frames k ≡ Some f → (answer ≡ FreeFrames frames) ↔ (place (world_after config (steps ++ Unmap of_space page count ∷ [])) f ≡ Free)
+  pub withheld : (k f : ℕ) → slice_get frames k ≡ Some f → (answer ≡ WithheldFrames frames) ↔ IsWithheld config (steps ++ Unmap of_space page count ∷ []) f
+
+abbrev pub AlwaysTold : Type 0
+AlwaysTold =
+    (config : Config) (steps : List Step) (of_space page count : ℕ) (answer : Answer)
+    → Fits config
+    → reply (world_after config steps) (Unmap of_space page count) ≡ Ok answer
+    → IsTold config steps of_space page count answer
+
+-- What a mapping that is accepted answers: a frame that was free just before, and that is at the page after the step.
+abbrev pub AlwaysGiven : Type 0
+AlwaysGiven =
+    (config : Config) (steps : List Step) (of_space page : ℕ) (write : Bool) (answer : Answer)
+    → Fits config
+    → reply (world_after config steps) (Map of_space page write) ≡ Ok answer
+    → (space frame : ℕ)
+    × (number (world_after config steps) space ≡ of_space)
+    × (answer ≡ Frame frame)
+    × (frame < config.frames)
+    × (place (world_after config steps) frame ≡ Free)
+    × IsAt (world_after config (steps ++ Map of_space page write ∷ [])) frame space page
 
 -- Labels. What a label finds is the one record that bears it, and each record that bears a label is found by it.
 pub record IsLabelled (p : Part) : Type 0 where

@@ -2,7 +2,7 @@
 #![tactic(auto)]
 
 ghost use Rattle.sva_model.specs.Claims.{AlwaysAgrees};
-ghost use Rattle.sva_laws.specs.Laws.{AlwaysOwned, AlwaysPresentOrWithheld, AlwaysMatched, AlwaysHoldsJobs, AlwaysDivided, AlwaysAddsUp, AlwaysWithheldExactly, FreeByTheLastAnswer, AlwaysLabelled, AlwaysFound, AlwaysCarried, AlwaysUnderWay, NeverOccurring, AlwaysLimited};
+ghost use Rattle.sva_laws.specs.Laws.{AlwaysOwned, AlwaysPresentOrWithheld, AlwaysMatched, AlwaysHoldsJobs, AlwaysDivided, AlwaysAddsUp, AlwaysWithheldExactly, FreeByTheLastAnswer, AlwaysTold, AlwaysGiven, AlwaysLabelled, AlwaysFound, AlwaysCarried, AlwaysUnderWay, NeverOccurring, AlwaysLimited};
 
 /// The headline. After every list of steps, however late messages come in a permitted order: each translation that an
 /// endpoint may still use has an unreleased owner, and is the present one of its page or leads to a withheld frame; page
@@ -27,12 +27,16 @@ pub fn page_requests()
     ensures limited { AlwaysLimited }
 {}
 
-/// Frames: in exactly one place; withheld exactly as long as an endpoint owes an answer, and free after the very step that ends it.
+/// Frames: in exactly one place; withheld exactly as long as an endpoint owes an answer, and free after the very step that
+/// ends it. An unmapping answers truly which frames it took out, and whether they are free or withheld after it; a mapping
+/// answers a frame that was free before it, and is at the page after it.
 pub fn frames()
     ensures divided { AlwaysDivided }
     ensures adds_up { AlwaysAddsUp }
     ensures withheld { AlwaysWithheldExactly }
     ensures freed { FreeByTheLastAnswer }
+    ensures told { AlwaysTold }
+    ensures given { AlwaysGiven }
 {}
 
 /// Labels: each is borne by at most one record, and finds the record that a step or a message speaks of; a message in

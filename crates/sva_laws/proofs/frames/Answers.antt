@@ -4,6 +4,7 @@ use Rattle.sva_laws.proofs.Claimed.{always_agrees}
 use Rattle.sva_laws.proofs.Limits.{adds_up}
 use Rattle.sva_laws.proofs.Withheld.{config_kept}
 use Rattle.sva_laws.proofs.Freed.{free_by}
+use Rattle.sva_laws.proofs.Told.{told, given}
 use Rattle.sva_laws.proofs.frames.Goals as goal
 
 pub returns-clause-divided : goal.returns-clause-divided
@@ -17,3 +18,9 @@ returns-clause-withheld c = λ config steps f fits. (always_agrees config steps 
 
 pub returns-clause-freed : goal.returns-clause-freed
 returns-clause-freed c = λ config steps step f fits was not_now. free_by config steps step f was not_now
+
+pub returns-clause-told : goal.returns-clause-told
+returns-clause-told c = λ config steps of_space page count answer fits accepted. told config steps of_space page count answer accepted
+
+pub returns-clause-given : goal.returns-clause-given
+returns-clause-given c = λ config steps of_space page write answer fits accepted. given config steps of_space page write answer accepted

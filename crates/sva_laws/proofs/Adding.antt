@@ -21,7 +21,7 @@ use Rattle.sva_model.specs.Outcomes.{Outcome, outcome, unbind_outcome, advance_o
 use Rattle.sva_model.specs.States.{is_open}
 use Rattle.sva_model.specs.Steps.{checked, decide, after_acts}
 use Rattle.sva_laws.proofs.Words.{put-same, put-other, ℕ_cases}
-use Rattle.sva_laws.proofs.Invariant.{Inv}
+use Rattle.sva_laws.proofs.Invariant.{Invariant}
 use Rattle.sva_laws.proofs.Keeps.{act_keeps}
 use Rattle.sva_laws.proofs.Passed.{LegalAll}
 
@@ -54,7 +54,7 @@ adds_nothing w v e =
       latest_new = λ f. inl (sym (ap (λ x. x.latest f) e));
     }
 
-adds_map : (w : World) (s q f : ℕ) (x : Bool) → Inv w → Adds w (act w (Map s q f x))
+adds_map : (w : World) (s q f : ℕ) (x : Bool) → Invariant w → Adds w (act w (Map s q f x))
 adds_map w s q f x i =
     record {
       gone_back = λ m o h. back m o (ℕ_cases m w.mappings.made) h;
@@ -89,7 +89,7 @@ adds_map w s q f x i =
     new g (inl e) = inr (w.mappings.made, made_latest g e, put-same w.mappings.state w.mappings.made Present)
     new g (inr ne) = inl (put-other w.mappings.latest f (Some w.mappings.made) g ne)
 
-act_adds : (w : World) (a : Act) → IsAdding a → Inv w → Adds w (act w a)
+act_adds : (w : World) (a : Act) → IsAdding a → Invariant w → Adds w (act w a)
 act_adds w NewSpace a i = adds_nothing w (act w NewSpace) refl
 act_adds w (DropSpace s) a i = absurd a
 act_adds w (Map s q f x) a i = adds_map w s q f x i
@@ -124,7 +124,7 @@ adds_more u v w a b =
     new f (inr x) (inl y) = inr (x.0, y ∙ x.1, b.present_on x.0 x.2)
     new f x (inr y) = inr y
 
-pub acts_add : (acts : List Act) (w : World) → AreAdding acts → LegalAll w acts → Inv w → Adds w (after_acts w acts)
+pub acts_add : (acts : List Act) (w : World) → AreAdding acts → LegalAll w acts → Invariant w → Adds w (after_acts w acts)
 acts_add [] w a l i = adds_nothing w w refl
 acts_add (x ∷ acts) w a l i = adds_more w (act w x) (after_acts (act w x) acts) (act_adds w x a.0 i) (acts_add acts (act w x) a.1 l.1 (act_keeps w x l.0 i))
 

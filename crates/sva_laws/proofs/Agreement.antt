@@ -21,13 +21,13 @@ use Rattle.sva_laws.proofs.Owners.{blocks, asker_stage}
 use Rattle.sva_laws.proofs.Safe.{Pending, IsSafe, owed_of}
 use Rattle.sva_laws.specs.Laws.{is_answerable}
 use Rattle.sva_laws.proofs.Groups.{is_filed_group, times_replied}
-use Rattle.sva_laws.proofs.Invariant.{Inv}
+use Rattle.sva_laws.proofs.Invariant.{Invariant}
 use Rattle.sva_laws.proofs.Passed.{unreleased_bound}
 use Rattle.sva_laws.proofs.Unmap.{active_unreleased}
 
 -- Owners.
 
-active_owner : (w : World) (e b q m : ℕ) → Inv w → Usable w e b q m → is_active ((w.part e).stage b) ≡ true
+active_owner : (w : World) (e b q m : ℕ) → Invariant w → Usable w e b q m → is_active ((w.part e).stage b) ≡ true
 active_owner w e b q m i (cached r k h) = (i.parts e).owners.held r k h
 active_owner w e b q m i (in_use u h) = (i.parts e).owners.running u h
 active_owner w e b q m i (under_way c r k h o) = unmarked_active ((w.part e).stage ((w.part e).request_binding r)) (asker_stage (w.part e) r (i.parts e).bindings (i.parts e).requests o)
@@ -35,7 +35,7 @@ active_owner w e b q m i (under_way c r k h o) = unmarked_active ((w.part e).sta
     unmarked_active : (s : Stage) → is_unmarked s ≡ true → is_active s ≡ true
     unmarked_active s k = grind arith
 
-pub owner : (w : World) (e b q m : ℕ) → Inv w → Usable w e b q m → is_unreleased ((w.part e).stage b) ≡ true
+pub owner : (w : World) (e b q m : ℕ) → Invariant w → Usable w e b q m → is_unreleased ((w.part e).stage b) ≡ true
 owner w e b q m i u = active_unreleased ((w.part e).stage b) (active_owner w e b q m i u)
 
 -- What is pending isn't answered.
@@ -75,7 +75,7 @@ withheld_at w f m e v la g l s =
 pub mapped_at : (w : World) (f m : ℕ) → w.mappings.latest f ≡ Some m → w.mappings.state m ≡ Present → place w f ≡ Mapped
 mapped_at w f m la g = ap (place_at w) la ∙ ap (place_by w) g
 
-safe_place : (w : World) (e b q m age : ℕ) → Inv w → is_active ((w.part e).stage b) ≡ true → w.mappings.space m ≡ (w.part e).space b → w.mappings.page m ≡ q → ((k x : ℕ) → (w.part e).stage b ≡ Invalidating k x → is_done ((w.part e).order_state k) ≡ false) → IsSafe w.mappings e (w.part e) b m age → IsPresent w e b q m ⊎ (place w (w.mappings.frame m) ≡ Withheld)
+safe_place : (w : World) (e b q m age : ℕ) → Invariant w → is_active ((w.part e).stage b) ≡ true → w.mappings.space m ≡ (w.part e).space b → w.mappings.page m ≡ q → ((k x : ℕ) → (w.part e).stage b ≡ Invalidating k x → is_done ((w.part e).order_state k) ≡ false) → IsSafe w.mappings e (w.part e) b m age → IsPresent w e b q m ⊎ (place w (w.mappings.frame m) ≡ Withheld)
 safe_place w e b q m age i a sp pg inv (inl h) =
     let at = i.mapped.present_at m h in
     inl (record { there = m; maps = ap (λ s. w.mappings.at s q) (sym sp) ∙ ap (w.mappings.at (w.mappings.space m)) (sym pg) ∙ at; frame = refl; write = refl })
@@ -94,7 +94,7 @@ safe_place w e b q m age i a sp pg inv (inr h) = inr (go (w.mappings.state m) re
         latest_of (inr y) s = absurd (cc)
 
 -- each usable translation is present or leads to a withheld frame
-pub usable : (w : World) (e b q m : ℕ) → Inv w → Usable w e b q m → IsPresent w e b q m ⊎ (place w (w.mappings.frame m) ≡ Withheld)
+pub usable : (w : World) (e b q m : ℕ) → Invariant w → Usable w e b q m → IsPresent w e b q m ⊎ (place w (w.mappings.frame m) ≡ Withheld)
 usable w e b q m i (cached r k h) =
     let ow = (i.parts e).owners in
     safe_place w e ((w.part e).request_binding r) ((w.part e).request_page r) k (w.part e).uses i (ow.held r k h) (ow.held_space r k h) (ow.held_page r k h)
@@ -128,7 +128,7 @@ bearer p b la u =
     one_of : (d : ℕ) → p.at_pasid (p.pasid d) ≡ Some d → p.at_pasid (p.pasid b) ≡ Some b → p.pasid d ≡ p.pasid b → d ≡ b
     one_of d x y same = let z : p.at_pasid (p.pasid d) ≡ p.at_pasid (p.pasid b) = ap p.at_pasid same in cc
 
-pub matched : (w : World) (e : ℕ) → Inv w → IsMatched (w.part e)
+pub matched : (w : World) (e : ℕ) → Invariant w → IsMatched (w.part e)
 matched w e i =
     let p = w.part e in
     let gr = (i.parts e).groups in
@@ -158,12 +158,12 @@ matched w e i =
     at_most : (s : HostGroupState) {x : ℕ} → x ≡ times_replied s → x ≤ 1
     at_most s h = grind arith
 
-pub distinct : (w : World) (e b d : ℕ) → Inv w → is_unreleased ((w.part e).stage b) ≡ true → is_unreleased ((w.part e).stage d) ≡ true → (w.part e).pasid b ≡ (w.part e).pasid d → b ≡ d
+pub distinct : (w : World) (e b d : ℕ) → Invariant w → is_unreleased ((w.part e).stage b) ≡ true → is_unreleased ((w.part e).stage d) ≡ true → (w.part e).pasid b ≡ (w.part e).pasid d → b ≡ d
 distinct w e b d i u v same = sym ((bearer (w.part e) b (i.parts e).labels u).alone d v (sym same))
 
 -- Frames.
 
-pub mapped_once : (w : World) (f s q t r : ℕ) → Inv w → IsAt w f s q → IsAt w f t r → (s ≡ t) × (q ≡ r)
+pub mapped_once : (w : World) (f s q t r : ℕ) → Invariant w → IsAt w f s q → IsAt w f t r → (s ≡ t) × (q ≡ r)
 mapped_once w f s q t r i a b =
     let x = i.mapped.at_present s q a.mapping a.maps in
     let y = i.mapped.at_present t r b.mapping b.maps in
@@ -172,7 +172,7 @@ mapped_once w f s q t r i a b =
     let same : a.mapping ≡ b.mapping = cc in
     (sym x.1 ∙ ap w.mappings.space same ∙ y.1, sym x.2 ∙ ap w.mappings.page same ∙ y.2)
 
-pub is_mapped : (w : World) (f : ℕ) → Inv w → place w f ≡ Mapped → IsMapped w f
+pub is_mapped : (w : World) (f : ℕ) → Invariant w → place w f ≡ Mapped → IsMapped w f
 is_mapped w f i h = go (w.mappings.latest f) refl h
   where
     go : (o : Option ℕ) → w.mappings.latest f ≡ o → place_at w o ≡ Mapped → IsMapped w f
@@ -194,7 +194,7 @@ is_mapped w f i h = go (w.mappings.latest f) refl h
             neither true h = absurd (cc)
             neither false h = absurd (cc)
 
-pub place_mapped : (w : World) (f : ℕ) → Inv w → IsMapped w f → place w f ≡ Mapped
+pub place_mapped : (w : World) (f : ℕ) → Invariant w → IsMapped w f → place w f ≡ Mapped
 place_mapped w f i a =
     let x = i.mapped.at_present a.space a.page a.is_at.mapping a.is_at.maps in
     mapped_at w f a.is_at.mapping (subst (λ z. w.mappings.latest z ≡ Some a.is_at.mapping) a.is_at.leads (i.mapped.latest a.is_at.mapping x.0)) x.0

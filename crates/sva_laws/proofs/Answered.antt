@@ -30,8 +30,8 @@ or_more a b c d f g h = grind arith
 and_more : (a b c d : Bool) → (a ≡ true → c ≡ true) → (b ≡ true → d ≡ true) → (a && b) ≡ true → (c && d) ≡ true
 and_more a b c d f g h = grind arith
 
-lt_more : (a b c : ℕ) → b ≤ c → nat_lt a b ≡ true → nat_lt a c ≡ true
-lt_more a b c l h = grind (arith, nat_tests)
+less_more : (a b c : ℕ) → b ≤ c → nat_lt a b ≡ true → nat_lt a c ≡ true
+less_more a b c l h = grind (arith, nat_tests)
 
 -- what is answered by orders that are done stays so, where these stay done and resets are counted up
 answered_more : (p q : Part) → ((k : ℕ) → is_done (p.order_state k) ≡ true → is_done (q.order_state k) ≡ true) → p.resets ≤ q.resets → (v : Owed) → answered p v ≡ true → answered q v ≡ true
@@ -39,12 +39,12 @@ answered_more p q f l Nothing h = refl
 answered_more p q f l (Pages page first count resets) h =
     or_more (all_below (suc count) (λ j. is_done (p.order_state (first + j)))) (nat_lt resets p.resets) (all_below (suc count) (λ j. is_done (q.order_state (first + j)))) (nat_lt resets q.resets)
     (all_below-more (suc count) (λ j. is_done (p.order_state (first + j))) (λ j. is_done (q.order_state (first + j))) (λ j. f (first + j)))
-    (lt_more resets p.resets q.resets l) h
+    (less_more resets p.resets q.resets l) h
 answered_more p q f l (Pasid k w resets c0) h =
     or_more (is_done (p.order_state k) && is_done (p.order_state w)) (nat_lt resets p.resets) (is_done (q.order_state k) && is_done (q.order_state w)) (nat_lt resets q.resets)
     (and_more (is_done (p.order_state k)) (is_done (p.order_state w)) (is_done (q.order_state k)) (is_done (q.order_state w)) (f k) (f w))
-    (lt_more resets p.resets q.resets l) h
-answered_more p q f l (AReset resets) h = lt_more resets p.resets q.resets l h
+    (less_more resets p.resets q.resets l) h
+answered_more p q f l (AReset resets) h = less_more resets p.resets q.resets l h
 
 done_stays : (ms : Mappings) (g n : ℕ) (p : Part) (o : Own) → LegalOwn ms g p o → SentOnly p → (k : ℕ) → (p.orders ≤ k → p.order_state k ≡ Void) → is_done (p.order_state k) ≡ true → is_done ((own p n o).order_state k) ≡ true
 done_stays ms g n p o l sent k bo h = grind (arith, nat_tests)

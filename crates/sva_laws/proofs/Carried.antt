@@ -24,12 +24,12 @@ use Rattle.sva_laws.proofs.Orders.{is_active}
 use Rattle.sva_laws.proofs.PageRequests.{is_whole}
 use Rattle.sva_laws.proofs.Groups.{is_filed_group, whole_filed}
 use Rattle.sva_laws.proofs.Found.{sent_undone, sent_busy}
-use Rattle.sva_laws.proofs.Invariant.{PartInv, Inv}
+use Rattle.sva_laws.proofs.Invariant.{PartInvariant, Invariant}
 use Rattle.sva_laws.proofs.Completions.{Owed, AllOwed, act_owed, acts_owed, opened_owed}
 use Rattle.sva_laws.proofs.Vectors.{owed_for_kept, owed_for_submitted}
 use Rattle.sva_laws.proofs.Keeps.{Legal, act_keeps, put_keeps}
 use Rattle.sva_laws.proofs.Passed.{LegalAll}
-use Rattle.sva_laws.proofs.Runs.{step_legal, next_keeps, opened_inv}
+use Rattle.sva_laws.proofs.Runs.{step_legal, next_keeps, opened_invariant}
 
 start_kept : (ms : Mappings) (g n : ℕ) (p : Part) (o : Own) → LegalOwn ms g p o → (c b : ℕ) → (p.message c ≡ Some (StartOf b) → p.stage b ≢ Unbound) → (p.message c ≡ Some (StartOf b) → p.carried c ≡ StartMessage (p.pasid b)) → (own p n o).message c ≡ Some (StartOf b) → (own p n o).carried c ≡ StartMessage ((own p n o).pasid b)
 start_kept ms g n p o l c b bound old h = grind (arith, nat_tests)
@@ -76,7 +76,7 @@ active_bound s h e = absurd (cc (sym (ap is_active e) ∙ h))
 bound_as : (s t : Stage) → s ≡ t → t ≢ Unbound → s ≢ Unbound
 bound_as s t e ne h = ne (sym e ∙ h)
 
-pub every : (ms : Mappings) (x g n e : ℕ) (p : Part) (o : Own) → LegalOwn ms g p o → PartInv ms x g n e p → Owed n p → IsCarried ms p → IsCarried ms (own p n o)
+pub every : (ms : Mappings) (x g n e : ℕ) (p : Part) (o : Own) → LegalOwn ms g p o → PartInvariant ms x g n e p → Owed n p → IsCarried ms p → IsCarried ms (own p n o)
 every ms x g n e p o l i ow ca =
     let bo = i.bounds in
     let bi = i.bindings in
@@ -151,7 +151,7 @@ mapped_completion p c r m made f x frame write lt old h = grind (arith, nat_test
 abbrev pub AllCarried : World → Type 0
 AllCarried w = (e : ℕ) → IsCarried w.mappings (w.part e)
 
-act_carried : (w : World) (a : Act) → Legal w a → Inv w → AllOwed w → AllCarried w → AllCarried (act w a)
+act_carried : (w : World) (a : Act) → Legal w a → Invariant w → AllOwed w → AllCarried w → AllCarried (act w a)
 act_carried w NewSpace l i ow h = h
 act_carried w (DropSpace s) l i ow h = λ e. with_mappings w.mappings (act w (DropSpace s)).mappings (w.part e) (h e).completion (h e)
 act_carried w (Map s q f x) l i ow h =
@@ -170,11 +170,11 @@ act_carried w (LetGo x) l i ow h = h
 act_carried w (At e o) l i ow h =
     put_keeps (λ k p. IsCarried w.mappings p) w.part e (own (w.part e) w.messages o) (every w.mappings w.config.endpoints w.bindings w.messages e (w.part e) o l.1.0 (i.parts e) (ow e) (h e)) h
 
-acts_carried : (acts : List Act) (w : World) → LegalAll w acts → Inv w → AllOwed w → AllCarried w → AllCarried (after_acts w acts)
+acts_carried : (acts : List Act) (w : World) → LegalAll w acts → Invariant w → AllOwed w → AllCarried w → AllCarried (after_acts w acts)
 acts_carried [] w l i ow h = h
 acts_carried (a ∷ acts) w l i ow h = acts_carried acts (act w a) l.1 (act_keeps w a l.0 i) (act_owed w a l.0 i ow) (act_carried w a l.0 i ow h)
 
-run_carried : (ss : List Step) (w : World) → Inv w → AllOwed w → AllCarried w → AllCarried (run w ss)
+run_carried : (ss : List Step) (w : World) → Invariant w → AllOwed w → AllCarried w → AllCarried (run w ss)
 run_carried [] w i ow h = h
 run_carried (s ∷ ss) w i ow h =
     run_carried ss (next w s) (next_keeps w s i) (acts_owed (decide w s).acts w (step_legal w s i) i ow)
@@ -198,4 +198,4 @@ opened_carried c e =
     }
 
 pub always_carried : (c : Config) (ss : List Step) (e : ℕ) → IsCarried (world_after c ss).mappings ((world_after c ss).part e)
-always_carried c ss = run_carried ss (opened c) (opened_inv c) (opened_owed c) (opened_carried c)
+always_carried c ss = run_carried ss (opened c) (opened_invariant c) (opened_owed c) (opened_carried c)

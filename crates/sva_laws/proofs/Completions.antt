@@ -20,10 +20,10 @@ use Rattle.sva_laws.proofs.Legal.{LegalOwn}
 use Rattle.sva_laws.proofs.Resets.{Resets}
 use Rattle.sva_laws.proofs.Bounds.{Bounds}
 use Rattle.sva_laws.proofs.Labels.{Labels}
-use Rattle.sva_laws.proofs.Invariant.{PartInv, Inv}
+use Rattle.sva_laws.proofs.Invariant.{PartInvariant, Invariant}
 use Rattle.sva_laws.proofs.Keeps.{Legal, act_keeps, put_keeps}
 use Rattle.sva_laws.proofs.Passed.{LegalAll}
-use Rattle.sva_laws.proofs.Runs.{step_legal, next_keeps, opened_inv}
+use Rattle.sva_laws.proofs.Runs.{step_legal, next_keeps, opened_invariant}
 
 pub record Owed (n : ℕ) (p : Part) : Type 0 where
   pub owed : (k : ℕ) → p.phase ≡ Open → completions n p k ≡ left_of (p.order_state k)
@@ -155,7 +155,7 @@ owed_kept ms g n p (Own.Count c names) l re bo la ow true e k ph = count_owed n 
 owed_kept ms g n p (Own.Reopen c) l re bo la ow true e k ph = reopen_owed ms g n p c l re k
 owed_kept ms g n p o l re bo la ow true e k ph = absurd (grind arith)
 
-pub every : (ms : Mappings) (x g n e : ℕ) (p : Part) (o : Own) → LegalOwn ms g p o → PartInv ms x g n e p → Owed n p → Owed (n + sends o) (own p n o)
+pub every : (ms : Mappings) (x g n e : ℕ) (p : Part) (o : Own) → LegalOwn ms g p o → PartInvariant ms x g n e p → Owed n p → Owed (n + sends o) (own p n o)
 every ms x g n e p o l i ow =
     record {
       owed = λ k ph. owed_kept ms g n p o l i.resets i.bounds i.labels ow (counts_completions o) refl k ph;
@@ -188,7 +188,7 @@ submitted_owed g n false p o q count cookie bo ow = ow
 abbrev pub AllOwed : World → Type 0
 AllOwed w = (e : ℕ) → Owed w.messages (w.part e)
 
-pub act_owed : (w : World) (a : Act) → Legal w a → Inv w → AllOwed w → AllOwed (act w a)
+pub act_owed : (w : World) (a : Act) → Legal w a → Invariant w → AllOwed w → AllOwed (act w a)
 act_owed w NewSpace l i h = h
 act_owed w (DropSpace s) l i h = h
 act_owed w (Map s q f x) l i h = h
@@ -201,11 +201,11 @@ act_owed w (At e o) l i h =
     put_keeps (λ k p. Owed (w.messages + sends o) p) w.part e (own (w.part e) w.messages o) (every w.mappings w.config.endpoints w.bindings w.messages e (w.part e) o l.1.0 (i.parts e) (h e))
     (λ d. more_messages w.messages (sends o) (w.part d) (i.parts d).resets (h d))
 
-pub acts_owed : (acts : List Act) (w : World) → LegalAll w acts → Inv w → AllOwed w → AllOwed (after_acts w acts)
+pub acts_owed : (acts : List Act) (w : World) → LegalAll w acts → Invariant w → AllOwed w → AllOwed (after_acts w acts)
 acts_owed [] w l i h = h
 acts_owed (a ∷ acts) w l i h = acts_owed acts (act w a) l.1 (act_keeps w a l.0 i) (act_owed w a l.0 i h)
 
-run_owed : (ss : List Step) (w : World) → Inv w → AllOwed w → AllOwed (run w ss)
+run_owed : (ss : List Step) (w : World) → Invariant w → AllOwed w → AllOwed (run w ss)
 run_owed [] w i h = h
 run_owed (s ∷ ss) w i h = run_owed ss (next w s) (next_keeps w s i) (acts_owed (decide w s).acts w (step_legal w s i) i h)
 
@@ -217,4 +217,4 @@ opened_owed c e =
     }
 
 pub always_owed : (c : Config) (ss : List Step) (e : ℕ) → Owed (world_after c ss).messages ((world_after c ss).part e)
-always_owed c ss = run_owed ss (opened c) (opened_inv c) (opened_owed c)
+always_owed c ss = run_owed ss (opened c) (opened_invariant c) (opened_owed c)

@@ -22,7 +22,7 @@ use Rattle.sva_laws.proofs.Bindings.{Bindings, is_unmarked}
 use Rattle.sva_laws.proofs.Labels.{Labels, has_slot}
 use Rattle.sva_laws.proofs.Orders.{is_undone, is_active}
 use Rattle.sva_laws.proofs.Requests.{is_cleared}
-use Rattle.sva_laws.proofs.Invariant.{Inv, IsHeldBy}
+use Rattle.sva_laws.proofs.Invariant.{Invariant, IsHeldBy}
 use Rattle.sva_laws.proofs.PageRequests.{is_whole}
 use Rattle.sva_laws.proofs.Groups.{Groups, is_alive_group}
 use Rattle.sva_laws.proofs.OnTheWay.{OnTheWay}
@@ -41,7 +41,7 @@ taken_slot u h = grind arith
 slot_taken : (u : UseState) → has_slot u ≡ true → u ≢ Ended
 slot_taken u h e = grind arith
 
-pub labelled : (w : World) (e : ℕ) → Inv w → IsLabelled (w.part e)
+pub labelled : (w : World) (e : ℕ) → Invariant w → IsLabelled (w.part e)
 labelled w e i =
     let p = w.part e in
     let la = (i.parts e).labels in
@@ -99,7 +99,7 @@ open_at p gr g ph h = gr.bears_index g (gr.open_group g ph h).0
 one_index : (p : Part) (g h : ℕ) → p.at_index (p.index g) ≡ Some g → p.at_index (p.index h) ≡ Some h → p.index g ≡ p.index h → g ≡ h
 one_index p g h a b same = let z : p.at_index (p.index g) ≡ p.at_index (p.index h) = ap p.at_index same in cc
 
-pub found : (w : World) (e : ℕ) → Inv w → IsFound (w.part e)
+pub found : (w : World) (e : ℕ) → Invariant w → IsFound (w.part e)
 found w e i =
     let p = w.part e in
     let la = (i.parts e).labels in
@@ -135,7 +135,7 @@ before_not s k x h e = absurd (cc (sym (ap is_before_invalidating e) ∙ h))
 inactive_not : (s : Stage) (k x : ℕ) → is_active s ≡ false → s ≢ Invalidating k x
 inactive_not s k x h e = absurd (cc (sym (ap is_active e) ∙ h))
 
-pub never : (w : World) (e : ℕ) → Inv w → NeverOccurs (w.part e)
+pub never : (w : World) (e : ℕ) → Invariant w → NeverOccurs (w.part e)
 never w e i =
     let p = w.part e in
     let re = (i.parts e).resets in
@@ -197,7 +197,7 @@ asked_last : (p : Part) (g r : ℕ) → p.group_of r ≡ g → is_whole (p.host_
 asked_last p g r e part kept filed = grind arith
 
 -- a group that is answerable at an open unit isn't discarded at the host
-way : (w : World) (e : ℕ) → Inv w → Ways (w.part e) → OnTheWay (w.part e) → (g : ℕ) → (w.part e).phase ≡ Open → is_answerable ((w.part e).group g) ≡ true → IsOnItsWay (w.part e) g
+way : (w : World) (e : ℕ) → Invariant w → Ways (w.part e) → OnTheWay (w.part e) → (g : ℕ) → (w.part e).phase ≡ Open → is_answerable ((w.part e).group g) ≡ true → IsOnItsWay (w.part e) g
 way w e i wa on g ph a = go (p.host_group g) refl
   where
     p : Part
@@ -224,7 +224,7 @@ way w e i wa on g ph a = go (p.host_group g) refl
     go Discarded h = absurd (cc (sym out ∙ on.discarded g ph h))
     go (InHandDiscarded v) h = absurd (cc (sym out ∙ (i.parts e).groups.discarded_over g v ph h))
 
-pub under_way : (w : World) (e : ℕ) → Inv w → Ways (w.part e) → OnTheWay (w.part e) → Owed w.messages (w.part e) → IsUnderWay w.messages (w.part e)
+pub under_way : (w : World) (e : ℕ) → Invariant w → Ways (w.part e) → OnTheWay (w.part e) → Owed w.messages (w.part e) → IsUnderWay w.messages (w.part e)
 under_way w e i wa on ow =
     let p = w.part e in
     let re = (i.parts e).resets in
@@ -247,7 +247,7 @@ under_way w e i wa on ow =
 one_worker : (s : HostGroupState) (x y : ℕ) → IsHeldBy s x → IsHeldBy s y → x ≡ y
 one_worker s x y a b = grind arith
 
-pub holds_jobs : (w : World) → Inv w → Jobs w.jobs w.job w.hand (λ e. (w.part e).host_group) → HoldsJobs w
+pub holds_jobs : (w : World) → Invariant w → Jobs w.jobs w.job w.hand (λ e. (w.part e).host_group) → HoldsJobs w
 holds_jobs w i js =
     record {
       made = i.hands.made;

@@ -26,7 +26,7 @@ use Rattle.sva_model.specs.Steps.{checked, decide, next, after_acts, world_after
 use Rattle.sva_model.specs.Claims.{IsWithheld}
 use Rattle.sva_model.specs.Words.{all_below}
 use Rattle.sva_laws.proofs.Words.{put-other, ℕ_cases}
-use Rattle.sva_laws.proofs.Invariant.{Inv}
+use Rattle.sva_laws.proofs.Invariant.{Invariant}
 use Rattle.sva_laws.proofs.Keeps.{Legal, act_keeps}
 use Rattle.sva_laws.proofs.Passed.{LegalAll}
 use Rattle.sva_laws.proofs.Runs.{always, step_legal}
@@ -207,7 +207,7 @@ rest_same (a ∷ acts) w f h = go (is_map a) refl h (rest_same acts (act w a) f)
     go true e h k = absurd (cc)
     go false e h k = k h ∙ latest_same w a f e
 
-place_other : (w : World) (s q f g : ℕ) (x : Bool) → Inv w → g ≢ f → place (act w (Map s q f x)) g ≡ place w g
+place_other : (w : World) (s q f g : ℕ) (x : Bool) → Invariant w → g ≢ f → place (act w (Map s q f x)) g ≡ place w g
 place_other w s q f g x i ne = go (w.mappings.latest g) refl
   where
     go : (o : Option ℕ) → w.mappings.latest g ≡ o → place (act w (Map s q f x)) g ≡ place w g
@@ -230,13 +230,13 @@ is_free_is Free h = refl
 is_free_is Mapped h = absurd (cc)
 is_free_is Withheld h = absurd (cc)
 
-map_then : (w : World) (s q g : ℕ) (x : Bool) (f : ℕ) {v : Option ℕ} → Legal w (Map s q g x) → Inv w → (f ≡ g) ⊎ (f ≢ g) → (v ≡ (act w (Map s q g x)).mappings.latest f) ⊎ (place (act w (Map s q g x)) f ≡ Free) → (v ≡ w.mappings.latest f) ⊎ (place w f ≡ Free)
+map_then : (w : World) (s q g : ℕ) (x : Bool) (f : ℕ) {v : Option ℕ} → Legal w (Map s q g x) → Invariant w → (f ≡ g) ⊎ (f ≢ g) → (v ≡ (act w (Map s q g x)).mappings.latest f) ⊎ (place (act w (Map s q g x)) f ≡ Free) → (v ≡ w.mappings.latest f) ⊎ (place w f ≡ Free)
 map_then w s q g x f l i (inl e) old = inr (ap (place w) e ∙ is_free_is (place w g) l.2)
 map_then w s q g x f l i (inr ne) (inl y) = inl (y ∙ put-other w.mappings.latest g (Some w.mappings.made) f ne)
 map_then w s q g x f l i (inr ne) (inr y) = inr (sym (place_other w s q g f x i ne) ∙ y)
 
 -- a frame's latest mapping stays, or the frame was free
-maps_free : (acts : List Act) (w : World) (f : ℕ) → maps_first acts ≡ true → LegalAll w acts → Inv w → ((after_acts w acts).mappings.latest f ≡ w.mappings.latest f) ⊎ (place w f ≡ Free)
+maps_free : (acts : List Act) (w : World) (f : ℕ) → maps_first acts ≡ true → LegalAll w acts → Invariant w → ((after_acts w acts).mappings.latest f ≡ w.mappings.latest f) ⊎ (place w f ≡ Free)
 maps_free [] w f h l i = inl refl
 maps_free (Map s q g x ∷ acts) w f h l i =
     map_then w s q g x f l.0 i (ℕ_cases f g) (maps_free acts (act w (Map s q g x)) f h l.1 (act_keeps w (Map s q g x) l.0 i))
@@ -249,7 +249,7 @@ maps_free (Hold x j ∷ acts) w f h l i = inl (rest_same (Hold x j ∷ acts) w f
 maps_free (LetGo x ∷ acts) w f h l i = inl (rest_same (LetGo x ∷ acts) w f h)
 maps_free (At e o ∷ acts) w f h l i = inl (rest_same (At e o ∷ acts) w f h)
 
-step_free : (w : World) (s : Step) (f : ℕ) → Inv w → ((next w s).mappings.latest f ≡ w.mappings.latest f) ⊎ (place w f ≡ Free)
+step_free : (w : World) (s : Step) (f : ℕ) → Invariant w → ((next w s).mappings.latest f ≡ w.mappings.latest f) ⊎ (place w f ≡ Free)
 step_free w s f i = maps_free (decide w s).acts w f (step_first w s) (step_legal w s i) i
 
 -- A withheld frame is withheld or free after one more step.
@@ -273,7 +273,7 @@ withheld_gone w f h = go (w.mappings.latest f) refl h
         by Present g h = absurd (cc)
         by (Gone owed) g h = (m, owed, e, g)
 
-next_place : (w : World) (s : Step) (f : ℕ) → Inv w → place w f ≡ Withheld → (place (next w s) f ≡ Free) ⊎ (place (next w s) f ≡ Withheld)
+next_place : (w : World) (s : Step) (f : ℕ) → Invariant w → place w f ≡ Withheld → (place (next w s) f ≡ Free) ⊎ (place (next w s) f ≡ Withheld)
 next_place w s f i h = go (step_free w s f i) (withheld_gone w f h)
   where
     go : ((next w s).mappings.latest f ≡ w.mappings.latest f) ⊎ (place w f ≡ Free) → (m : ℕ) × (owed : ℕ → Owed) × (w.mappings.latest f ≡ Some m) × (w.mappings.state m ≡ Gone owed) → (place (next w s) f ≡ Free) ⊎ (place (next w s) f ≡ Withheld)

@@ -9,31 +9,31 @@ use Rattle.sva_model.specs.Words.{is_some}
 use Rattle.sva_model.specs.States.{is_unreleased, answered}
 use Rattle.sva_model.specs.Acts.{own, sends, Own}
 use Rattle.sva_laws.proofs.Legal.{LegalOwn}
-use Rattle.sva_laws.proofs.Resets as R
-use Rattle.sva_laws.proofs.Bounds as B
-use Rattle.sva_laws.proofs.Bindings as Bi
-use Rattle.sva_laws.proofs.Labels as L
-use Rattle.sva_laws.proofs.Requests as T
-use Rattle.sva_laws.proofs.Orders as I
-use Rattle.sva_laws.proofs.Owners as O
-use Rattle.sva_laws.proofs.Safe as S
-use Rattle.sva_laws.proofs.PageRequests as P
-use Rattle.sva_laws.proofs.Groups as G
+use Rattle.sva_laws.proofs.Resets
+use Rattle.sva_laws.proofs.Bounds
+use Rattle.sva_laws.proofs.Bindings
+use Rattle.sva_laws.proofs.Labels
+use Rattle.sva_laws.proofs.Requests
+use Rattle.sva_laws.proofs.Orders
+use Rattle.sva_laws.proofs.Owners
+use Rattle.sva_laws.proofs.Safe
+use Rattle.sva_laws.proofs.PageRequests
+use Rattle.sva_laws.proofs.Groups
 
-pub record PartInv (ms : Mappings) (endpoints g n e : ℕ) (p : Part) : Type 0 where
+pub record PartInvariant (ms : Mappings) (endpoints g n e : ℕ) (p : Part) : Type 0 where
   pub there : (b : ℕ) → p.stage b ≢ Unbound → e < endpoints
   pub near : (c : ℕ) → is_some (p.message c) ≡ true → e < endpoints
-  pub resets : R.Resets n p
-  pub bounds : B.Bounds g p
-  pub bindings : Bi.Bindings p
-  pub labels : L.Labels p
-  pub requests : T.Requests p
-  pub orders : I.Orders p
-  pub owners : O.Owners ms p
-  pub safe : S.Safe ms e p
-  pub queued : P.Queued p
-  pub lasts : P.Lasts p
-  pub groups : G.Groups p
+  pub resets : Resets.Resets n p
+  pub bounds : Bounds.Bounds g p
+  pub bindings : Bindings.Bindings p
+  pub labels : Labels.Labels p
+  pub requests : Requests.Requests p
+  pub orders : Orders.Orders p
+  pub owners : Owners.Owners ms p
+  pub safe : Safe.Safe ms e p
+  pub queued : PageRequests.Queued p
+  pub lasts : PageRequests.Lasts p
+  pub groups : Groups.Groups p
 
 -- Mappings: not made yet; at the page of their space while they are present; a present one is the latest of its frame;
 -- one that is gone and not the latest of its frame is answered for.
@@ -56,13 +56,13 @@ pub record Hands (w : World) : Type 0 where
   pub made : (x j : ℕ) → w.hand x ≡ Some j → j < w.jobs
   pub held : (x j : ℕ) → w.hand x ≡ Some j → IsHeldBy ((w.part (w.job j).endpoint).host_group (w.job j).group) x
 
-pub record Inv (w : World) : Type 0 where
+pub record Invariant (w : World) : Type 0 where
   pub hands : Hands w
   pub mapped : Mapped w
-  pub parts : (e : ℕ) → PartInv w.mappings w.config.endpoints w.bindings w.messages e (w.part e)
+  pub parts : (e : ℕ) → PartInvariant w.mappings w.config.endpoints w.bindings w.messages e (w.part e)
 
 -- what the mappings say to an endpoint's act
-pub leads : (w : World) → Mapped w → O.Leads w.mappings
+pub leads : (w : World) → Mapped w → Owners.Leads w.mappings
 leads w ma s q m h = let a = ma.at_present s q m h in (a.1, a.2, made_of (ma.unmade m) a.0)
   where
     made_of : {m : ℕ} → (w.mappings.made ≤ m → w.mappings.state m ≡ Unmade) → w.mappings.state m ≡ Present → m < w.mappings.made
@@ -75,20 +75,20 @@ there_kept : (ms : Mappings) (g n e x : ℕ) (p : Part) (o : Own) → e < x → 
 there_kept ms g n e x p o h l b u = h
 
 -- an act of an endpoint keeps what holds of it
-pub own_keeps : (ms : Mappings) (x g n e : ℕ) (p : Part) (o : Own) → e < x → LegalOwn ms g p o → O.Leads ms → ((s q m : ℕ) → ms.at s q ≡ Some m → ms.state m ≡ Present) → PartInv ms x g n e p → PartInv ms x g (n + sends o) e (own p n o)
+pub own_keeps : (ms : Mappings) (x g n e : ℕ) (p : Part) (o : Own) → e < x → LegalOwn ms g p o → Owners.Leads ms → ((s q m : ℕ) → ms.at s q ≡ Some m → ms.state m ≡ Present) → PartInvariant ms x g n e p → PartInvariant ms x g (n + sends o) e (own p n o)
 own_keeps ms x g n e p o h l le pr i =
     record {
       there = λ b u. h;
       near = λ c u. h;
-      resets = R.every ms g n p o l i.resets;
-      bounds = B.every ms g n p o l i.resets i.bounds;
-      bindings = Bi.every ms g n p o l i.resets i.bindings;
-      labels = L.every ms g n p o l i.resets i.bounds i.labels;
-      requests = T.every ms g n p o l i.resets i.bounds i.bindings i.requests;
-      orders = I.every ms g n p o l i.resets i.bounds i.labels i.orders;
-      owners = O.every ms g n p o l le i.resets i.bounds i.bindings i.labels i.requests i.orders i.owners;
-      safe = S.every ms g n e p o l pr i.resets i.bounds i.bindings i.labels i.requests i.orders i.owners i.safe;
-      queued = P.queued ms g n p o l i.resets i.bounds i.queued;
-      lasts = P.lasts ms g n p o l i.resets i.bounds i.queued (G.has_job p i.groups) (G.response_whole p i.groups) i.lasts;
-      groups = G.every ms g n p o l i.resets i.bounds i.bindings i.orders i.queued i.lasts i.groups;
+      resets = Resets.every ms g n p o l i.resets;
+      bounds = Bounds.every ms g n p o l i.resets i.bounds;
+      bindings = Bindings.every ms g n p o l i.resets i.bindings;
+      labels = Labels.every ms g n p o l i.resets i.bounds i.labels;
+      requests = Requests.every ms g n p o l i.resets i.bounds i.bindings i.requests;
+      orders = Orders.every ms g n p o l i.resets i.bounds i.labels i.orders;
+      owners = Owners.every ms g n p o l le i.resets i.bounds i.bindings i.labels i.requests i.orders i.owners;
+      safe = Safe.every ms g n e p o l pr i.resets i.bounds i.bindings i.labels i.requests i.orders i.owners i.safe;
+      queued = PageRequests.queued ms g n p o l i.resets i.bounds i.queued;
+      lasts = PageRequests.lasts ms g n p o l i.resets i.bounds i.queued (Groups.has_job p i.groups) (Groups.response_whole p i.groups) i.lasts;
+      groups = Groups.every ms g n p o l i.resets i.bounds i.bindings i.orders i.queued i.lasts i.groups;
     }

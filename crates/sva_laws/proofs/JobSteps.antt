@@ -27,11 +27,11 @@ use Rattle.sva_model.specs.Steps.{checked, decide, next, run, after_acts, world_
 use Rattle.sva_laws.proofs.Words.{put-same, put-other, ℕ_cases, none_is, some_the, not_true}
 use Rattle.sva_laws.proofs.PageRequests.{is_whole}
 use Rattle.sva_laws.proofs.Groups.{whole_filed}
-use Rattle.sva_laws.proofs.Invariant.{IsHeldBy, Inv}
+use Rattle.sva_laws.proofs.Invariant.{IsHeldBy, Invariant}
 use Rattle.sva_laws.proofs.Keeps.{put_keeps}
 use Rattle.sva_laws.proofs.Passed.{Passed, LegalAll}
 use Rattle.sva_laws.proofs.LegalUnit as Unit_steps
-use Rattle.sva_laws.proofs.Runs.{step_legal, next_keeps, opened_inv}
+use Rattle.sva_laws.proofs.Runs.{step_legal, next_keeps, opened_invariant}
 use Rattle.sva_laws.proofs.OnTheWay.{OnTheWay, AllOn, acts_on, opened_on}
 use Rattle.sva_laws.proofs.Jobs.{Jobs, Still, Others, is_past, unchanged, still_jobs, filed, taken, answered, is_answered}
 
@@ -121,7 +121,7 @@ others part e p g s i d f ne = go (ℕ_cases d e) ne
         ∙ sym (ap (λ z. (part z).host_group f) a)
 
 -- Serve. What has arrived is of a group that isn't whole at the host, and that no reset has dropped.
-not_past : (w : World) (e r : ℕ) → Inv w → OnTheWay (w.part e) → (w.part e).phase ≡ Open → (w.part e).page_request r ≡ Arrived → is_past ((w.part e).host_group ((w.part e).group_of r)) ≡ false
+not_past : (w : World) (e r : ℕ) → Invariant w → OnTheWay (w.part e) → (w.part e).phase ≡ Open → (w.part e).page_request r ≡ Arrived → is_past ((w.part e).host_group ((w.part e).group_of r)) ≡ false
 not_past w e r i on ph a = go (p.host_group (p.group_of r)) refl
   where
     p : Part
@@ -154,7 +154,7 @@ part_still n r p l e = record { job = λ g h. part_job g h; held = λ g x h. par
     part_past : (g : ℕ) → is_past (p.host_group g) ≡ true → is_past ((own p n (Own.File r)).host_group g) ≡ true
     part_past g h = grind (arith, nat_tests)
 
-file_jobs : (w : World) (e r : ℕ) (b : Bool) → (w.part e).is_last r ≡ b → Inv w → OnTheWay (w.part e) → LegalAll w (file_outcome e r ((w.part e).group_of r) b).acts → JobsOf w → JobsOf (after_acts w (file_outcome e r ((w.part e).group_of r) b).acts)
+file_jobs : (w : World) (e r : ℕ) (b : Bool) → (w.part e).is_last r ≡ b → Invariant w → OnTheWay (w.part e) → LegalAll w (file_outcome e r ((w.part e).group_of r) b).acts → JobsOf w → JobsOf (after_acts w (file_outcome e r ((w.part e).group_of r) b).acts)
 file_jobs w e r false last i on l h =
     still_jobs w.jobs w.job w.hand (λ d. (w.part d).host_group) (λ d. ((act w (At e (Own.File r))).part d).host_group)
     (put_keeps (λ d p. Still (w.part d).host_group p.host_group) w.part e (own (w.part e) w.messages (Own.File r)) (part_still w.messages r (w.part e) last (not_past w e r i on l.0.1.0.0 l.0.1.0.1)) (λ d. unchanged (w.part d).host_group))
@@ -167,7 +167,7 @@ file_jobs w e r true last i on l h =
     (others w.part e p g Job same)
     h
 
-serve_jobs : (w : World) (e : ℕ) (b : Bool) → Inv w → OnTheWay (w.part e) → LegalAll w (serve_outcome (w.part e) e b).acts → JobsOf w → JobsOf (after_acts w (serve_outcome (w.part e) e b).acts)
+serve_jobs : (w : World) (e : ℕ) (b : Bool) → Invariant w → OnTheWay (w.part e) → LegalAll w (serve_outcome (w.part e) e b).acts → JobsOf w → JobsOf (after_acts w (serve_outcome (w.part e) e b).acts)
 serve_jobs w e true i on l h = h
 serve_jobs w e false i on l h = file_jobs w e (Labels.oldest_arrived (w.part e)) ((w.part e).is_last (Labels.oldest_arrived (w.part e))) refl i on l h
 
@@ -294,7 +294,7 @@ deliver_calm : (w : World) (p : Part) (e c : ℕ) (o : Option About) → AreCalm
 deliver_calm w p e c None = tt
 deliver_calm w p e c (Some a) = about_calm w p e c a
 
-outcome_jobs : (w : World) (s : Step) → Inv w → AllOn w → Passed (refusals w s) → JobsOf w → JobsOf (after_acts w (outcome w s).acts)
+outcome_jobs : (w : World) (s : Step) → Invariant w → AllOn w → Passed (refusals w s) → JobsOf w → JobsOf (after_acts w (outcome w s).acts)
 outcome_jobs w step.Space i on p h = acts_calm (outcome w step.Space).acts w (tt, tt) h
 outcome_jobs w (step.DropSpace n) i on p h = acts_calm (outcome w (step.DropSpace n)).acts w (tt, tt) h
 outcome_jobs w (step.Map n q x) i on p h = acts_calm (outcome w (step.Map n q x)).acts w (tt, tt) h
@@ -325,7 +325,7 @@ checked_jobs w (c ∷ cs) o h f = go (λ e. checked_jobs w cs o h (λ k. f (e, k
     go rest true e = h
     go rest false e = rest e
 
-run_jobs : (ss : List Step) (w : World) → Inv w → AllOn w → JobsOf w → JobsOf (run w ss)
+run_jobs : (ss : List Step) (w : World) → Invariant w → AllOn w → JobsOf w → JobsOf (run w ss)
 run_jobs [] w i on h = h
 run_jobs (s ∷ ss) w i on h =
     run_jobs ss (next w s) (next_keeps w s i) (acts_on (decide w s).acts w (step_legal w s i) i on)
@@ -344,4 +344,4 @@ opened_jobs c =
     }
 
 pub always_jobs : (c : Config) (ss : List Step) → JobsOf (world_after c ss)
-always_jobs c ss = run_jobs ss (opened c) (opened_inv c) (opened_on c) (opened_jobs c)
+always_jobs c ss = run_jobs ss (opened c) (opened_invariant c) (opened_on c) (opened_jobs c)

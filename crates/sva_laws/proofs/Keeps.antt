@@ -15,19 +15,19 @@ use Rattle.sva_model.specs.Acts.{Act, Own, act, own, sends, bound, submits, subm
 use Rattle.sva_model.specs.Acts.Act.{NewSpace, DropSpace, Map, Unmap, NewBinding, NewJob, Hold, LetGo, At}
 use Rattle.sva_laws.proofs.Words.{put-same, put-other, ℕ_cases, all_below-true}
 use Rattle.sva_laws.proofs.Legal.{LegalOwn}
-use Rattle.sva_laws.proofs.Resets as R
-use Rattle.sva_laws.proofs.Bounds as B
-use Rattle.sva_laws.proofs.Bindings as Bi
-use Rattle.sva_laws.proofs.Requests as T
-use Rattle.sva_laws.proofs.Orders as I
-use Rattle.sva_laws.proofs.Owners as O
-use Rattle.sva_laws.proofs.Safe as S
-use Rattle.sva_laws.proofs.PageRequests as P
-use Rattle.sva_laws.proofs.Groups as G
-use Rattle.sva_laws.proofs.Invariant.{PartInv, Mapped, Hands, IsHeldBy, Inv, own_keeps, leads, presents}
+use Rattle.sva_laws.proofs.Resets
+use Rattle.sva_laws.proofs.Bounds
+use Rattle.sva_laws.proofs.Bindings
+use Rattle.sva_laws.proofs.Requests
+use Rattle.sva_laws.proofs.Orders
+use Rattle.sva_laws.proofs.Owners
+use Rattle.sva_laws.proofs.Safe
+use Rattle.sva_laws.proofs.PageRequests
+use Rattle.sva_laws.proofs.Groups
+use Rattle.sva_laws.proofs.Invariant.{PartInvariant, Mapped, Hands, IsHeldBy, Invariant, own_keeps, leads, presents}
 use Rattle.sva_laws.proofs.Answered.{answered_own, answered_submitted}
-use Rattle.sva_laws.proofs.Submitted as Sub
-use Rattle.sva_laws.proofs.Unmap as U
+use Rattle.sva_laws.proofs.Submitted
+use Rattle.sva_laws.proofs.Unmap as Unmapping
 
 -- a space is bound while it is live
 abbrev pub BoundSpace : (ℕ → Bool) → Own → Type 0
@@ -61,7 +61,7 @@ put_keeps P f i v new old k = go (ℕ_cases k i)
     go (inr ne) = subst (P k) (sym (put-other f i v k ne)) (old k)
 
 -- a part that an act of another endpoint leaves: more bindings and messages may be there
-bounds_more : (g h : ℕ) (p : Part) → g ≤ h → B.Bounds g p → B.Bounds h p
+bounds_more : (g h : ℕ) (p : Part) → g ≤ h → Bounds.Bounds g p → Bounds.Bounds h p
 bounds_more g h p a bo =
     record {
       stage = λ b k. bo.stage b (omega arith);
@@ -82,7 +82,7 @@ bounds_more g h p a bo =
       responded = bo.responded;
     }
 
-resets_more : (n m : ℕ) (p : Part) → n ≤ m → R.Resets n p → R.Resets m p
+resets_more : (n m : ℕ) (p : Part) → n ≤ m → Resets.Resets n p → Resets.Resets m p
 resets_more n m p a re =
     record {
       unsent = λ c k. re.unsent c (omega arith);
@@ -111,7 +111,7 @@ resets_more n m p a re =
       unfiled = re.unfiled;
     }
 
-later : (ms : Mappings) (x g h n m e : ℕ) (p : Part) → g ≤ h → n ≤ m → PartInv ms x g n e p → PartInv ms x h m e p
+later : (ms : Mappings) (x g h n m e : ℕ) (p : Part) → g ≤ h → n ≤ m → PartInvariant ms x g n e p → PartInvariant ms x h m e p
 later ms x g h n m e p a b i =
     record {
       there = i.there;
@@ -132,13 +132,13 @@ later ms x g h n m e p a b i =
 bound_live_own : (live : ℕ → Bool) (ms : Mappings) (g n : ℕ) (p : Part) (o : Own) → LegalOwn ms g p o → BoundSpace live o → (b : ℕ) → (is_unreleased (p.stage b) ≡ true → live (p.space b) ≡ true) → is_unreleased ((own p n o).stage b) ≡ true → live ((own p n o).space b) ≡ true
 bound_live_own live ms g n p o l bs b old h = grind (arith, nat_tests)
 
-at_parts : (w : World) (e : ℕ) (o : Own) → Legal w (At e o) → Inv w → (x : ℕ) → PartInv w.mappings w.config.endpoints w.bindings (w.messages + sends o) x ((act w (At e o)).part x)
+at_parts : (w : World) (e : ℕ) (o : Own) → Legal w (At e o) → Invariant w → (x : ℕ) → PartInvariant w.mappings w.config.endpoints w.bindings (w.messages + sends o) x ((act w (At e o)).part x)
 at_parts w e o l i =
-    put_keeps (λ x p. PartInv w.mappings w.config.endpoints w.bindings (w.messages + sends o) x p) w.part e (own (w.part e) w.messages o)
+    put_keeps (λ x p. PartInvariant w.mappings w.config.endpoints w.bindings (w.messages + sends o) x p) w.part e (own (w.part e) w.messages o)
     (own_keeps w.mappings w.config.endpoints w.bindings w.messages e (w.part e) o l.0 l.1.0 (leads w i.mapped) (presents w i.mapped) (i.parts e))
     (λ x. later w.mappings w.config.endpoints w.bindings w.bindings w.messages (w.messages + sends o) x (w.part x) (omega arith) (omega arith) (i.parts x))
 
-at_answered : (w : World) (e : ℕ) (o : Own) (v : Owed) → Legal w (At e o) → Inv w → (x : ℕ) → answered (w.part x) v ≡ true → answered ((act w (At e o)).part x) v ≡ true
+at_answered : (w : World) (e : ℕ) (o : Own) (v : Owed) → Legal w (At e o) → Invariant w → (x : ℕ) → answered (w.part x) v ≡ true → answered ((act w (At e o)).part x) v ≡ true
 at_answered w e o v l i x h =
     put_keeps (λ x p. answered (w.part x) v ≡ true → answered p v ≡ true) w.part e (own (w.part e) w.messages o)
     (λ k. answered_own w.mappings w.bindings w.messages (w.part e) o l.1.0 (i.parts e).labels.sent (i.parts e).bounds v k)
@@ -170,14 +170,14 @@ held_own : (ms : Mappings) (gs n : ℕ) (p : Part) (o : Own) → LegalOwn ms gs 
 held_own ms gs n p o l g x nf ns h = grind (arith, nat_tests, nf h)
 
 -- no request of a group in hand is to be filed
-held_filed : (gs : ℕ) (p : Part) → B.Bounds gs p → P.Lasts p → G.Groups p → (g x : ℕ) → IsHeldBy (p.host_group g) x → (r : ℕ) → p.phase ≡ Open → p.group_of r ≡ g → p.page_request r ≢ Arrived
-held_filed gs p bo la gr g x (inl h) r ph e a = G.whole_filed gs p bo la g (ap P.is_whole h) r e a
+held_filed : (gs : ℕ) (p : Part) → Bounds.Bounds gs p → PageRequests.Lasts p → Groups.Groups p → (g x : ℕ) → IsHeldBy (p.host_group g) x → (r : ℕ) → p.phase ≡ Open → p.group_of r ≡ g → p.page_request r ≢ Arrived
+held_filed gs p bo la gr g x (inl h) r ph e a = Groups.whole_filed gs p bo la g (ap PageRequests.is_whole h) r e a
 held_filed gs p bo la gr g x (inr h) r ph e a =
     let out = la.out r ph (inr a) in
     let over = gr.discarded_over g x ph h in
     absurd (cc (sym (ap (λ y. is_outstanding (p.group y)) e) ∙ out, over))
 
-at_hands : (w : World) (e : ℕ) (o : Own) → Legal w (At e o) → Inv w → Hands (act w (At e o))
+at_hands : (w : World) (e : ℕ) (o : Own) → Legal w (At e o) → Invariant w → Hands (act w (At e o))
 at_hands w e o l i =
     record {
       made = i.hands.made;
@@ -230,7 +230,7 @@ let_go_hands w x hs =
         absurd (cc)
     was y k (inr ne) h = sym (put-other w.hand x None y ne) ∙ h
 
-at_keeps : (w : World) (e : ℕ) (o : Own) → Legal w (At e o) → Inv w → Inv (act w (At e o))
+at_keeps : (w : World) (e : ℕ) (o : Own) → Legal w (At e o) → Invariant w → Invariant (act w (At e o))
 at_keeps w e o l i =
     record {
       hands = at_hands w e o l i;
@@ -253,7 +253,7 @@ at_keeps w e o l i =
     }
 
 -- the world acts that change no mapping and no part
-new_space_keeps : (w : World) → Inv w → Inv (act w NewSpace)
+new_space_keeps : (w : World) → Invariant w → Invariant (act w NewSpace)
 new_space_keeps w i =
     record {
       hands = record { made = i.hands.made; held = i.hands.held };
@@ -278,7 +278,7 @@ new_space_keeps w i =
     live_below : (s : ℕ) → put w.is_live w.spaces true s ≡ true → s < suc w.spaces
     live_below s h = grind (arith, nat_tests, i.mapped.live s)
 
-new_binding_keeps : (w : World) (e : ℕ) → Inv w → Inv (act w (NewBinding e))
+new_binding_keeps : (w : World) (e : ℕ) → Invariant w → Invariant (act w (NewBinding e))
 new_binding_keeps w e i =
     record {
       hands = record { made = i.hands.made; held = i.hands.held };
@@ -297,7 +297,7 @@ new_binding_keeps w e i =
       parts = λ x. later w.mappings w.config.endpoints w.bindings (suc w.bindings) w.messages w.messages x (w.part x) (omega arith) (omega arith) (i.parts x);
     }
 
-same_keeps : (w : World) (jobs : ℕ) (job : ℕ → JobName) (hand : ℕ → Option ℕ) → Hands (record w { jobs = jobs; job = job; hand = hand }) → Inv w → Inv (record w { jobs = jobs; job = job; hand = hand })
+same_keeps : (w : World) (jobs : ℕ) (job : ℕ → JobName) (hand : ℕ → Option ℕ) → Hands (record w { jobs = jobs; job = job; hand = hand }) → Invariant w → Invariant (record w { jobs = jobs; job = job; hand = hand })
 same_keeps w jobs job hand hs i =
     record {
       hands = hs;
@@ -329,15 +329,15 @@ free_present : (w : World) (f m : ℕ) → is_free w f ≡ true → w.mappings.l
 free_present w f m h la g = absurd (cc (sym (ap (λ s. is_free_place (place_by w s)) g) ∙ sym (ap (λ o. is_free_place (place_at w o)) la) ∙ h))
 
 -- mapping a page leaves what was made before
-safe_map : (w : World) (s q f : ℕ) (x : Bool) (e b m age : ℕ) (p : Part) → m < w.mappings.made → S.IsSafe w.mappings e p b m age → S.IsSafe (act w (Map s q f x)).mappings e p b m age
+safe_map : (w : World) (s q f : ℕ) (x : Bool) (e b m age : ℕ) (p : Part) → m < w.mappings.made → Safe.IsSafe w.mappings e p b m age → Safe.IsSafe (act w (Map s q f x)).mappings e p b m age
 safe_map w s q f x e b m age p l h =
     let ne : m ≢ w.mappings.made = omega arith in
     let a : (act w (Map s q f x)).mappings.state m ≡ w.mappings.state m = put-other w.mappings.state w.mappings.made Present m ne in
     let c : (act w (Map s q f x)).mappings.page m ≡ w.mappings.page m = put-other w.mappings.page w.mappings.made q m ne in
-    subst (λ z. (z ≡ Present) ⊎ S.Pending p b ((act w (Map s q f x)).mappings.page m) age (S.owed_of z e)) (sym a)
-    (subst (λ z. (w.mappings.state m ≡ Present) ⊎ S.Pending p b z age (S.owed_of (w.mappings.state m) e)) (sym c) h)
+    subst (λ z. (z ≡ Present) ⊎ Safe.Pending p b ((act w (Map s q f x)).mappings.page m) age (Safe.owed_of z e)) (sym a)
+    (subst (λ z. (w.mappings.state m ≡ Present) ⊎ Safe.Pending p b z age (Safe.owed_of (w.mappings.state m) e)) (sym c) h)
 
-owners_map : (w : World) (s q f : ℕ) (x : Bool) (p : Part) → O.Owners w.mappings p → O.Owners (act w (Map s q f x)).mappings p
+owners_map : (w : World) (s q f : ℕ) (x : Bool) (p : Part) → Owners.Owners w.mappings p → Owners.Owners (act w (Map s q f x)).mappings p
 owners_map w s q f x p ow =
     record {
       held = ow.held;
@@ -362,13 +362,13 @@ owners_map w s q f x p ow =
     other_page : (m : ℕ) → m < w.mappings.made → (act w (Map s q f x)).mappings.page m ≡ w.mappings.page m
     other_page m l = let ne : m ≢ w.mappings.made = omega arith in put-other w.mappings.page w.mappings.made q m ne
 
-map_passed : (w : World) (s q f : ℕ) (x : Bool) → Legal w (Map s q f x) → Inv w → (k : ℕ) (v : ℕ → Owed) (e : ℕ) → (act w (Map s q f x)).mappings.state k ≡ Gone v → e < w.config.endpoints → ((act w (Map s q f x)).mappings.latest ((act w (Map s q f x)).mappings.frame k) ≡ Some k) ⊎ (answered (w.part e) (v e) ≡ true)
+map_passed : (w : World) (s q f : ℕ) (x : Bool) → Legal w (Map s q f x) → Invariant w → (k : ℕ) (v : ℕ → Owed) (e : ℕ) → (act w (Map s q f x)).mappings.state k ≡ Gone v → e < w.config.endpoints → ((act w (Map s q f x)).mappings.latest ((act w (Map s q f x)).mappings.frame k) ≡ Some k) ⊎ (answered (w.part e) (v e) ≡ true)
 map_passed w s q f x l i k v e g b =
     let free : w.mappings.latest f ≡ Some k → w.mappings.state k ≡ Gone v → answered (w.part e) (v e) ≡ true = λ la gg. free_gone w f k e v l.2 la gg b in
     let old : w.mappings.state k ≡ Gone v → (w.mappings.latest (w.mappings.frame k) ≡ Some k) ⊎ (answered (w.part e) (v e) ≡ true) = λ gg. i.mapped.passed k v e gg b in
     grind (arith, nat_tests, free, old)
 
-map_mapped : (w : World) (s q f : ℕ) (x : Bool) → Legal w (Map s q f x) → Inv w → Mapped (act w (Map s q f x))
+map_mapped : (w : World) (s q f : ℕ) (x : Bool) → Legal w (Map s q f x) → Invariant w → Mapped (act w (Map s q f x))
 map_mapped w s q f x l i =
     let ma = i.mapped in
     record {
@@ -383,7 +383,7 @@ map_mapped w s q f x l i =
       bound_live = ma.bound_live;
     }
 
-map_keeps : (w : World) (s q f : ℕ) (x : Bool) → Legal w (Map s q f x) → Inv w → Inv (act w (Map s q f x))
+map_keeps : (w : World) (s q f : ℕ) (x : Bool) → Legal w (Map s q f x) → Invariant w → Invariant (act w (Map s q f x))
 map_keeps w s q f x l i =
     record {
       hands = record { made = i.hands.made; held = i.hands.held };
@@ -426,7 +426,7 @@ without_mapped w s cookies pages owed live part sub there alive more ma =
       unmade = λ m h. let u = ma.unmade m h in gone_unmade (w.mappings.space m == s && pages (w.mappings.page m)) (w.mappings.state m) u;
       made = λ m h. gone_made (w.mappings.space m == s && pages (w.mappings.page m)) (w.mappings.state m) (ma.made m h);
       present_at = λ m h. still_at m (gone_present (w.mappings.space m == s && pages (w.mappings.page m)) (w.mappings.state m) h) (gone_not (w.mappings.space m == s && pages (w.mappings.page m)) (w.mappings.state m) h);
-      at_present = λ t q m h. let a = ma.at_present t q m (U.was_at w.mappings s pages owed t q m h) in (still_present t q m h a.0 a.1 a.2, a.1, a.2, there t q m h);
+      at_present = λ t q m h. let a = ma.at_present t q m (Unmapping.was_at w.mappings s pages owed t q m h) in (still_present t q m h a.0 a.1 a.2, a.1, a.2, there t q m h);
       latest = λ m h. ma.latest m (gone_present (w.mappings.space m == s && pages (w.mappings.page m)) (w.mappings.state m) h);
       named = ma.named;
       passed = λ m v e g b. gone_passed m v e (w.mappings.space m == s && pages (w.mappings.page m)) (w.mappings.state m) refl g b;
@@ -466,7 +466,7 @@ without_mapped w s cookies pages owed live part sub there alive more ma =
         gone_gone true h = h
         gone_gone false h = h
 
-owners_without : (ms : Mappings) (s : ℕ) (pages : ℕ → Bool) (owed : ℕ → Owed) (p : Part) → O.Owners ms p → O.Owners (without_pages ms s pages owed) p
+owners_without : (ms : Mappings) (s : ℕ) (pages : ℕ → Bool) (owed : ℕ → Owed) (p : Part) → Owners.Owners ms p → Owners.Owners (without_pages ms s pages owed) p
 owners_without ms s pages owed p ow =
     record {
       held = ow.held;
@@ -486,17 +486,17 @@ owners_without ms s pages owed p ow =
     }
 
 -- the owner of a request out is active
-asked_active : (p : Part) (r : ℕ) → Bi.Bindings p → T.Requests p → p.request r ≡ Out → I.is_active (p.stage (p.request_binding r)) ≡ true
-asked_active p r bi ra h = unmarked_active (O.asker_stage p r bi ra h)
+asked_active : (p : Part) (r : ℕ) → Bindings.Bindings p → Requests.Requests p → p.request r ≡ Out → Orders.is_active (p.stage (p.request_binding r)) ≡ true
+asked_active p r bi ra h = unmarked_active (Owners.asker_stage p r bi ra h)
   where
-    unmarked_active : Bi.is_unmarked (p.stage (p.request_binding r)) ≡ true → I.is_active (p.stage (p.request_binding r)) ≡ true
+    unmarked_active : Bindings.is_unmarked (p.stage (p.request_binding r)) ≡ true → Orders.is_active (p.stage (p.request_binding r)) ≡ true
     unmarked_active k = grind arith
 
 -- what is safe for an active owner, wherever its mapping is of its space
 abbrev pub KeepsSafe : (ms ms' : Mappings) (e : ℕ) (p p' : Part) → Type 0
-KeepsSafe ms ms' e p p' = (b m age : ℕ) → I.is_active (p.stage b) ≡ true → ms.space m ≡ p.space b → S.IsSafe ms e p b m age → S.IsSafe ms' e p' b m age
+KeepsSafe ms ms' e p p' = (b m age : ℕ) → Orders.is_active (p.stage b) ≡ true → ms.space m ≡ p.space b → Safe.IsSafe ms e p b m age → Safe.IsSafe ms' e p' b m age
 
-safe_kept : (ms ms' : Mappings) (x g n e : ℕ) (p : Part) → KeepsSafe ms ms' e p p → PartInv ms x g n e p → S.Safe ms' e p
+safe_kept : (ms ms' : Mappings) (x g n e : ℕ) (p : Part) → KeepsSafe ms ms' e p p → PartInvariant ms x g n e p → Safe.Safe ms' e p
 safe_kept ms ms' x g n e p k i =
     record {
       held = λ r m h. k (p.request_binding r) m p.uses (i.owners.held r m h) (i.owners.held_space r m h) (i.safe.held r m h);
@@ -504,7 +504,7 @@ safe_kept ms ms' x g n e p k i =
       running = λ u h. k (p.use_binding u) (p.use_mapping u) u (i.owners.running u h) (i.owners.running_space u h) (i.safe.running u h);
     }
 
-safe_submitted : (ms ms' : Mappings) (x g n e : ℕ) (p : Part) (b q count cookie : ℕ) → KeepsSafe ms ms' e p (submitted p b q count cookie) → PartInv ms x g n e p → S.Safe ms' e (submitted p b q count cookie)
+safe_submitted : (ms ms' : Mappings) (x g n e : ℕ) (p : Part) (b q count cookie : ℕ) → KeepsSafe ms ms' e p (submitted p b q count cookie) → PartInvariant ms x g n e p → Safe.Safe ms' e (submitted p b q count cookie)
 safe_submitted ms ms' x g n e p b q count cookie k i =
     record {
       held = λ r m h. k (p.request_binding r) m p.uses (i.owners.held r m h) (i.owners.held_space r m h) (i.safe.held r m h);
@@ -512,7 +512,7 @@ safe_submitted ms ms' x g n e p b q count cookie k i =
       running = λ u h. k (p.use_binding u) (p.use_mapping u) u (i.owners.running u h) (i.owners.running_space u h) (i.safe.running u h);
     }
 
-left_part : (ms : Mappings) (s x g n e : ℕ) (pages : ℕ → Bool) (owed : ℕ → Owed) (p : Part) → KeepsSafe ms (without_pages ms s pages owed) e p p → PartInv ms x g n e p → PartInv (without_pages ms s pages owed) x g n e p
+left_part : (ms : Mappings) (s x g n e : ℕ) (pages : ℕ → Bool) (owed : ℕ → Owed) (p : Part) → KeepsSafe ms (without_pages ms s pages owed) e p p → PartInvariant ms x g n e p → PartInvariant (without_pages ms s pages owed) x g n e p
 left_part ms s x g n e pages owed p k i =
     record {
       there = i.there;
@@ -530,30 +530,30 @@ left_part ms s x g n e pages owed p k i =
       groups = i.groups;
     }
 
-submitted_part : (ms : Mappings) (s x g n e : ℕ) (pages : ℕ → Bool) (owed : ℕ → Owed) (p : Part) (b q count cookie : ℕ) → p.phase ≡ Open → is_before_invalidating (p.stage b) ≡ true → KeepsSafe ms (without_pages ms s pages owed) e p (submitted p b q count cookie) → PartInv ms x g n e p → PartInv (without_pages ms s pages owed) x g n e (submitted p b q count cookie)
+submitted_part : (ms : Mappings) (s x g n e : ℕ) (pages : ℕ → Bool) (owed : ℕ → Owed) (p : Part) (b q count cookie : ℕ) → p.phase ≡ Open → is_before_invalidating (p.stage b) ≡ true → KeepsSafe ms (without_pages ms s pages owed) e p (submitted p b q count cookie) → PartInvariant ms x g n e p → PartInvariant (without_pages ms s pages owed) x g n e (submitted p b q count cookie)
 submitted_part ms s x g n e pages owed p b q count cookie ph st k i =
     record {
       there = i.there;
       near = i.near;
-      resets = Sub.resets_sub n b q count cookie p ph i.resets;
-      bounds = Sub.bounds_sub g b q count cookie p i.bounds;
-      bindings = Sub.bindings_sub b q count cookie p i.bindings;
-      labels = Sub.labels_sub g b q count cookie p i.bounds i.labels;
-      requests = Sub.requests_sub b q count cookie p i.requests;
-      orders = Sub.orders_sub g b q count cookie p st i.bounds i.orders;
-      owners = owners_without ms s pages owed (submitted p b q count cookie) (Sub.owners_sub ms g b q count cookie p i.orders i.owners);
+      resets = Submitted.resets_submitted n b q count cookie p ph i.resets;
+      bounds = Submitted.bounds_submitted g b q count cookie p i.bounds;
+      bindings = Submitted.bindings_submitted b q count cookie p i.bindings;
+      labels = Submitted.labels_submitted g b q count cookie p i.bounds i.labels;
+      requests = Submitted.requests_submitted b q count cookie p i.requests;
+      orders = Submitted.orders_submitted g b q count cookie p st i.bounds i.orders;
+      owners = owners_without ms s pages owed (submitted p b q count cookie) (Submitted.owners_submitted ms g b q count cookie p i.orders i.owners);
       safe = safe_submitted ms (without_pages ms s pages owed) x g n e p b q count cookie k i;
-      queued = Sub.queued_sub b q count cookie p i.queued;
-      lasts = Sub.lasts_sub b q count cookie p i.lasts;
-      groups = Sub.groups_sub b q count cookie p i.orders i.groups;
+      queued = Submitted.queued_submitted b q count cookie p i.queued;
+      lasts = Submitted.lasts_submitted b q count cookie p i.lasts;
+      groups = Submitted.groups_submitted b q count cookie p i.orders i.groups;
     }
 
-part_unmapped : (ms : Mappings) (s x g n e : ℕ) (pages : ℕ → Bool) (owed : ℕ → Owed) (p : Part) (sub : Bool) (o : Option ℕ) (q count cookie : ℕ) → submits_at p o ≡ sub → KeepsSafe ms (without_pages ms s pages owed) e p (submitted_if sub p o q count cookie) → PartInv ms x g n e p → PartInv (without_pages ms s pages owed) x g n e (submitted_if sub p o q count cookie)
+part_unmapped : (ms : Mappings) (s x g n e : ℕ) (pages : ℕ → Bool) (owed : ℕ → Owed) (p : Part) (sub : Bool) (o : Option ℕ) (q count cookie : ℕ) → submits_at p o ≡ sub → KeepsSafe ms (without_pages ms s pages owed) e p (submitted_if sub p o q count cookie) → PartInvariant ms x g n e p → PartInvariant (without_pages ms s pages owed) x g n e (submitted_if sub p o q count cookie)
 part_unmapped ms s x g n e pages owed p true (Some b) q count cookie h k i =
     submitted_part ms s x g n e pages owed p b q count cookie (opens (is_open p.phase) refl h) (before (is_open p.phase) h) k i
   where
     opens : (y : Bool) → is_open p.phase ≡ y → (y && is_before_invalidating (p.stage b)) ≡ true → p.phase ≡ Open
-    opens true f h = U.open_is p f
+    opens true f h = Unmapping.open_is p f
     opens false f h = absurd (cc)
 
     before : (y : Bool) → (y && is_before_invalidating (p.stage b)) ≡ true → is_before_invalidating (p.stage b) ≡ true
@@ -562,21 +562,21 @@ part_unmapped ms s x g n e pages owed p true (Some b) q count cookie h k i =
 part_unmapped ms s x g n e pages owed p true None q count cookie h k i = left_part ms s x g n e pages owed p k i
 part_unmapped ms s x g n e pages owed p false o q count cookie h k i = left_part ms s x g n e pages owed p k i
 
-unmap_keeps : (w : World) (s q count : ℕ) → Inv w → Inv (act w (Unmap s q count))
+unmap_keeps : (w : World) (s q count : ℕ) → Invariant w → Invariant (act w (Unmap s q count))
 unmap_keeps w s q count i =
     record {
       hands = record { made = i.hands.made; held = λ x j h. sub_hands (w.job j).endpoint (w.job j).group x (submits w s (w.job j).endpoint) (bound w (w.job j).endpoint s) (i.hands.held x j h) };
       mapped =
           without_mapped w s _ (in_range q count) (λ e. owed_by (w.part e) q count (bound w e s)) w.is_live (part_after_unmap w s q count)
           (λ x h. h)
-          (λ t r m h. (i.mapped.at_present t r m (U.was_at w.mappings s (in_range q count) (λ e. owed_by (w.part e) q count (bound w e s)) t r m h)).3)
+          (λ t r m h. (i.mapped.at_present t r m (Unmapping.was_at w.mappings s (in_range q count) (λ e. owed_by (w.part e) q count (bound w e s)) t r m h)).3)
           (λ e b h. sub_live e b (submits w s e) (bound w e s) h)
           (λ e v h. answered_submitted w.bindings (submits w s e) (w.part e) (bound w e s) q count (cookie_of w s e) (i.parts e).bounds v h)
           i.mapped;
       parts =
           λ e.
           part_unmapped w.mappings s w.config.endpoints w.bindings w.messages e (in_range q count) (λ x. owed_by (w.part x) q count (bound w x s)) (w.part e) (submits w s e) (bound w e s) q count (cookie_of w s e) refl
-          (λ b m age a sp sa. U.unmap_safe w s q count e b m age i a sp sa)
+          (λ b m age a sp sa. Unmapping.unmap_safe w s q count e b m age i a sp sa)
           (i.parts e);
     }
   where
@@ -590,7 +590,7 @@ unmap_keeps w s q count i =
     sub_hands e g x true None h = h
     sub_hands e g x false o h = h
 
-drop_keeps : (w : World) (s : ℕ) → Legal w (DropSpace s) → Inv w → Inv (act w (DropSpace s))
+drop_keeps : (w : World) (s : ℕ) → Legal w (DropSpace s) → Invariant w → Invariant (act w (DropSpace s))
 drop_keeps w s l i =
     record {
       hands = record { made = i.hands.made; held = i.hands.held };
@@ -605,8 +605,8 @@ drop_keeps w s l i =
           λ e.
           left_part w.mappings s w.config.endpoints w.bindings w.messages e (λ q. true) (λ x. Nothing) (w.part e)
           (λ b m age a sp sa.
-          U.safe_without w.mappings e (w.part e) (w.part e) b m age (w.mappings.space m == s && true) (λ x. Nothing) sa (λ v h. h)
-          (λ t pr. absurd (l e b (U.active_unreleased ((w.part e).stage b) a) (sym sp ∙ same_space m t))))
+          Unmapping.safe_without w.mappings e (w.part e) (w.part e) b m age (w.mappings.space m == s && true) (λ x. Nothing) sa (λ v h. h)
+          (λ t pr. absurd (l e b (Unmapping.active_unreleased ((w.part e).stage b) a) (sym sp ∙ same_space m t))))
           (i.parts e);
     }
   where
@@ -629,9 +629,9 @@ drop_keeps w s l i =
         let eq : (without_pages w.mappings s (λ q. true) (λ e. Nothing)).at s q ≡ unless (λ k. true) (w.mappings.at s q) = ap (λ g. g q) (put-same w.mappings.at s (λ x. unless (λ k. true) (w.mappings.at s x))) in
         absurd (cc (sym (gone_pages q (w.mappings.at s q)) ∙ sym eq ∙ at_s))
     other_live t q m (inr ne) h =
-        bound_other t ne (i.mapped.at_present t q m (U.was_at w.mappings s (λ q. true) (λ e. Nothing) t q m h)).3
+        bound_other t ne (i.mapped.at_present t q m (Unmapping.was_at w.mappings s (λ q. true) (λ e. Nothing) t q m h)).3
 
-pub act_keeps : (w : World) (a : Act) → Legal w a → Inv w → Inv (act w a)
+pub act_keeps : (w : World) (a : Act) → Legal w a → Invariant w → Invariant (act w a)
 act_keeps w NewSpace l i = new_space_keeps w i
 act_keeps w (DropSpace s) l i = drop_keeps w s l i
 act_keeps w (Map s q f x) l i = map_keeps w s q f x l i

@@ -16,7 +16,7 @@ use Rattle.sva_model.specs.Outcomes.{outcome, about_outcome, deliver_outcome, co
 use Rattle.sva_model.specs.Labels
 use Rattle.sva_laws.proofs.Words.{any_below-false, not_true}
 use Rattle.sva_laws.proofs.Legal.{NoOlderDown, NoOlderPageRequest}
-use Rattle.sva_laws.proofs.Invariant.{Inv}
+use Rattle.sva_laws.proofs.Invariant.{Invariant}
 use Rattle.sva_laws.proofs.Passed.{Passed, LegalAll, not_false}
 use Rattle.sva_laws.proofs.Unmap.{open_is}
 
@@ -105,11 +105,11 @@ about_legal w e c (PageRequestOf r) l h p = page_request_legal w e c r (is_open 
 about_legal w e c (MarkerOf b) l h p = marker_legal w e c b (is_open (w.part e).phase) l h (marker_behind (w.part e) c (nothing_held (w.part e) c (MarkerOf b) p)) refl
 about_legal w e c ResetDone l h p = ((l, ((h, done_behind (w.part e) c (nothing_held (w.part e) c ResetDone p)), tt), tt), tt)
 
-message_legal : (w : World) (e c : ℕ) (o : Option About) → Inv w → (w.part e).message c ≡ o → Labels.is_permitted_now (w.part e) c o ≡ true → LegalAll w (deliver_outcome w (w.part e) e c o).acts
+message_legal : (w : World) (e c : ℕ) (o : Option About) → Invariant w → (w.part e).message c ≡ o → Labels.is_permitted_now (w.part e) c o ≡ true → LegalAll w (deliver_outcome w (w.part e) e c o).acts
 message_legal w e c None i h p = tt
 message_legal w e c (Some a) i h p = about_legal w e c a ((i.parts e).near c (ap is_some h)) h p
 
-pub deliver : (w : World) (n : ℕ) → Inv w → Passed (refusals w (step.Deliver n)) → LegalAll w (outcome w (step.Deliver n)).acts
+pub deliver : (w : World) (n : ℕ) → Invariant w → Passed (refusals w (step.Deliver n)) → LegalAll w (outcome w (step.Deliver n)).acts
 deliver w n i h =
     let c = Labels.name w n in
     let e = w.way c in

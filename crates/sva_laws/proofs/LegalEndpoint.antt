@@ -17,8 +17,8 @@ use Rattle.sva_laws.proofs.Words.{lowest_cases, lowest_below, some_the, any_belo
 use Rattle.sva_laws.proofs.Counting.{pigeons}
 use Rattle.sva_laws.proofs.Bounds.{Bounds}
 use Rattle.sva_laws.proofs.Groups.{Groups}
-use Rattle.sva_laws.proofs.Invariant.{Inv}
-use Rattle.sva_laws.proofs.Passed.{Passed, LegalAll, lt_of, and_left, and_right, or_left, or_right, label_low, label_free, bearer_of}
+use Rattle.sva_laws.proofs.Invariant.{Invariant}
+use Rattle.sva_laws.proofs.Passed.{Passed, LegalAll, is_less, and_left, and_right, or_left, or_right, label_low, label_free, bearer_of}
 
 on_is : (s : PasidState) → is_on s ≡ true → s ≡ On
 on_is s h = grind arith
@@ -29,10 +29,10 @@ ending_is s h = grind arith
 started_on : (p : Part) (t : ℕ) → Labels.is_started p t ≡ true → p.pasid_state (Labels.bearer p t) ≡ On
 started_on p t h = on_is (p.pasid_state (Labels.bearer p t)) (bearer_of p t (λ b. is_on (p.pasid_state b)) h).1
 
-pub ask : (w : World) (e t q : ℕ) → Inv w → Passed (refusals w (step.Ask e t q)) → LegalAll w (outcome w (step.Ask e t q)).acts
+pub ask : (w : World) (e t q : ℕ) → Invariant w → Passed (refusals w (step.Ask e t q)) → LegalAll w (outcome w (step.Ask e t q)).acts
 ask w e t q i h =
     let p = w.part e in
-    ((lt_of e w.config.endpoints h.0, ((started_on p t (not_true (Labels.is_started p t) h.1.1.0), label_free 32 p.at_tag h.1.1.1.0, label_low 32 p.at_tag h.1.1.1.0), tt), tt), tt)
+    ((is_less e w.config.endpoints h.0, ((started_on p t (not_true (Labels.is_started p t) h.1.1.0), label_free 32 p.at_tag h.1.1.1.0, label_low 32 p.at_tag h.1.1.1.0), tt), tt), tt)
 
 -- what is cached for a PASID and page
 record Cached (p : Part) (t q : ℕ) : Type 0 where
@@ -56,12 +56,12 @@ cached_is p t q h =
     second : (x : Bool) (a b : ℕ) (z : Bool) → (x && a == b && z) ≡ true → a ≡ b
     second x a b z h = grind (arith, nat_tests)
 
-pub begin : (w : World) (e t q : ℕ) (x : Bool) → Inv w → Passed (refusals w (step.BeginUse e t q x)) → LegalAll w (outcome w (step.BeginUse e t q x)).acts
+pub begin : (w : World) (e t q : ℕ) (x : Bool) → Invariant w → Passed (refusals w (step.BeginUse e t q x)) → LegalAll w (outcome w (step.BeginUse e t q x)).acts
 begin w e t q x i h =
     let p = w.part e in
     let c = cached_is p t q (not_true (Labels.is_cached p t q) h.1.1.1.0) in (
       (
-        lt_of e w.config.endpoints h.0,
+        is_less e w.config.endpoints h.0,
         (
           (
             ap p.pasid_state c.binding ∙ started_on p t (not_true (Labels.is_started p t) h.1.1.0),
@@ -76,17 +76,17 @@ begin w e t q x i h =
       tt,
     )
 
-pub end : (w : World) (e u : ℕ) → Inv w → Passed (refusals w (step.EndUse e u)) → LegalAll w (outcome w (step.EndUse e u)).acts
+pub end : (w : World) (e u : ℕ) → Invariant w → Passed (refusals w (step.EndUse e u)) → LegalAll w (outcome w (step.EndUse e u)).acts
 end w e u i h =
     let p = w.part e in
     let there = some_the (p.at_slot u) (and_right (nat_lt u 16) (is_some (p.at_slot u)) (not_true (nat_lt u 16 && is_some (p.at_slot u)) h.1.0)) in
-    ((lt_of e w.config.endpoints h.0, (ap p.at_slot ((i.parts e).labels.slot_bears u (the (p.at_slot u)) there).0 ∙ there, tt), tt), tt)
+    ((is_less e w.config.endpoints h.0, (ap p.at_slot ((i.parts e).labels.slot_bears u (the (p.at_slot u)) there).0 ∙ there, tt), tt), tt)
 
-pub evict : (w : World) (e t q : ℕ) → Inv w → Passed (refusals w (step.Evict e t q)) → LegalAll w (outcome w (step.Evict e t q)).acts
+pub evict : (w : World) (e t q : ℕ) → Invariant w → Passed (refusals w (step.Evict e t q)) → LegalAll w (outcome w (step.Evict e t q)).acts
 evict w e t q i h =
     let p = w.part e in
     let c = cached_is p t q (not_true (Labels.is_cached p t q) h.1.1.0) in
-    ((lt_of e w.config.endpoints h.0, ((the (p.held (Labels.cached p (Labels.bearer p t) q)), c.held), tt), tt), tt)
+    ((is_less e w.config.endpoints h.0, ((the (p.held (Labels.cached p (Labels.bearer p t) q)), c.held), tt), tt), tt)
 
 -- where fewer than 32 page requests are outstanding, a group index is free: each group has a page request of its own
 index_free : (g : ℕ) (p : Part) → Groups p → Bounds g p → nat_le 32 (Labels.outstanding p) ≡ false → (Labels.lowest_label 32 p.at_index == 32) ≡ false
@@ -124,7 +124,7 @@ credit p h = grind (arith, nat_tests)
 unfinished_is : (s : GroupState) → is_unfinished s ≡ true → s ≡ Unfinished
 unfinished_is s h = grind arith
 
-fault_at : (w : World) (e t q : ℕ) (r x l : Bool) (o : Option ℕ) → Inv w → e < w.config.endpoints → Passed (fault_refusals w (w.part e) t o) → LegalAll w (fault_outcome (w.part e) e t q r x l o).acts
+fault_at : (w : World) (e t q : ℕ) (r x l : Bool) (o : Option ℕ) → Invariant w → e < w.config.endpoints → Passed (fault_refusals w (w.part e) t o) → LegalAll w (fault_outcome (w.part e) e t q r x l o).acts
 fault_at w e t q r x l None i b h =
     let p = w.part e in
     let some = index_free w.bindings p (i.parts e).groups (i.parts e).bounds h.1.0 in
@@ -156,11 +156,11 @@ fault_at w e t q r x l (Some k) i b h =
         go (inl k) = not_off ((w.part e).pasid_state (Labels.bearer (w.part e) t)) (inl (started_on (w.part e) t k))
         go (inr k) = not_off ((w.part e).pasid_state (Labels.bearer (w.part e) t)) (inr (ending_is ((w.part e).pasid_state (Labels.bearer (w.part e) t)) (bearer_of (w.part e) t (λ b. is_ending ((w.part e).pasid_state b)) k).1))
 
-pub fault : (w : World) (e t q : ℕ) (r x : Bool) (o : Option ℕ) (l : Bool) → Inv w → Passed (refusals w (step.Fault e t q r x o l)) → LegalAll w (outcome w (step.Fault e t q r x o l)).acts
-fault w e t q r x o l i h = fault_at w e t q r x l o i (lt_of e w.config.endpoints h.0) h.1.1
+pub fault : (w : World) (e t q : ℕ) (r x : Bool) (o : Option ℕ) (l : Bool) → Invariant w → Passed (refusals w (step.Fault e t q r x o l)) → LegalAll w (outcome w (step.Fault e t q r x o l)).acts
+fault w e t q r x o l i h = fault_at w e t q r x l o i (is_less e w.config.endpoints h.0) h.1.1
 
 -- Finish: each named invalidation is taken, at least one is named, and no use that one noted runs on.
-finish_set : (w : World) (e vector t : ℕ) → Inv w → any_below 32 (λ t. Labels.is_set vector t && not (Labels.is_pending (w.part e) t)) ≡ false → t < 32 → Labels.is_set vector t ≡ true → (k : ℕ) × (Labels.is_named (w.part e) vector k ≡ true) × ((w.part e).itag k ≡ t)
+finish_set : (w : World) (e vector t : ℕ) → Invariant w → any_below 32 (λ t. Labels.is_set vector t && not (Labels.is_pending (w.part e) t)) ≡ false → t < 32 → Labels.is_set vector t ≡ true → (k : ℕ) × (Labels.is_named (w.part e) vector k ≡ true) × ((w.part e).itag k ≡ t)
 finish_set w e vector t i pending l s =
     let p = w.part e in
     let there = pending_at p is_pending in
@@ -184,20 +184,20 @@ finish_set w e vector t i pending l s =
     both : (a b : Bool) → a ≡ true → b ≡ true → (a && b) ≡ true
     both a b x y = grind arith
 
-finish_named : (w : World) (e vector : ℕ) → Inv w → Labels.names_none vector ≡ false → any_below 32 (λ t. Labels.is_set vector t && not (Labels.is_pending (w.part e) t)) ≡ false → (k : ℕ) × (Labels.is_named (w.part e) vector k ≡ true)
+finish_named : (w : World) (e vector : ℕ) → Invariant w → Labels.names_none vector ≡ false → any_below 32 (λ t. Labels.is_set vector t && not (Labels.is_pending (w.part e) t)) ≡ false → (k : ℕ) × (Labels.is_named (w.part e) vector k ≡ true)
 finish_named w e vector i some pending =
     let set = any_below-true 32 (Labels.is_set vector) (not_true (any_below 32 (Labels.is_set vector)) some) in
     let found = finish_set w e vector set.0 i pending set.1 set.2 in
     (found.0, found.1)
 
-finish_vector : (w : World) (e vector : ℕ) → Inv w → any_below 32 (λ t. Labels.is_set vector t && not (Labels.is_pending (w.part e) t)) ≡ false → IsVectorOf (w.part e) (Labels.is_named (w.part e) vector) vector
+finish_vector : (w : World) (e vector : ℕ) → Invariant w → any_below 32 (λ t. Labels.is_set vector t && not (Labels.is_pending (w.part e) t)) ≡ false → IsVectorOf (w.part e) (Labels.is_named (w.part e) vector) vector
 finish_vector w e vector i pending =
     record {
       named = λ k nm. and_right (is_taken ((w.part e).order_state k)) (Labels.is_set vector ((w.part e).itag k)) nm;
       set = λ t l s. finish_set w e vector t i pending l s;
     }
 
-finish_unused : (w : World) (e vector : ℕ) → Inv w → any_below (w.part e).orders (λ k. Labels.is_named (w.part e) vector k && Labels.is_in_use w (w.part e) k) ≡ false → (k u : ℕ) → Labels.is_named (w.part e) vector k ≡ true → u < uses_noted ((w.part e).order_state k) → (w.part e).use_state u ≡ Running → covers ((w.part e).order k) ((w.part e).use_binding u) (w.mappings.page ((w.part e).use_mapping u)) ≡ false
+finish_unused : (w : World) (e vector : ℕ) → Invariant w → any_below (w.part e).orders (λ k. Labels.is_named (w.part e) vector k && Labels.is_in_use w (w.part e) k) ≡ false → (k u : ℕ) → Labels.is_named (w.part e) vector k ≡ true → u < uses_noted ((w.part e).order_state k) → (w.part e).use_state u ≡ Running → covers ((w.part e).order k) ((w.part e).use_binding u) (w.mappings.page ((w.part e).use_mapping u)) ≡ false
 finish_unused w e vector i h k u nm l r =
     let p = w.part e in
     let made : k < p.orders = taken_made k (and_left (is_taken (p.order_state k)) (Labels.is_set vector (p.itag k)) nm) in
@@ -210,13 +210,13 @@ finish_unused w e vector i h k u nm l r =
     second : (a b : Bool) → a ≡ true → (a && b) ≡ false → b ≡ false
     second a b x y = grind arith
 
-pub finish : (w : World) (e vector count : ℕ) → Inv w → Passed (refusals w (step.Finish e vector count)) → LegalAll w (outcome w (step.Finish e vector count)).acts
+pub finish : (w : World) (e vector count : ℕ) → Invariant w → Passed (refusals w (step.Finish e vector count)) → LegalAll w (outcome w (step.Finish e vector count)).acts
 finish w e vector count i h =
     let p = w.part e in
     let some = or_left (Labels.names_none vector) (any_below 32 (λ t. Labels.is_set vector t && not (Labels.is_pending p t))) h.1.0 in
     let pending = or_right (Labels.names_none vector) (any_below 32 (λ t. Labels.is_set vector t && not (Labels.is_pending p t))) h.1.0 in (
       (
-        lt_of e w.config.endpoints h.0,
+        is_less e w.config.endpoints h.0,
         (
           (
             finish_named w e vector i some pending,
@@ -240,7 +240,7 @@ finish w e vector count i h =
     high c h = grind (arith, nat_tests)
 
 -- Quit: nothing of the PASID is unfinished, out or running.
-pub quit : (w : World) (e t : ℕ) → Inv w → Passed (refusals w (step.Quit e t)) → LegalAll w (outcome w (step.Quit e t)).acts
+pub quit : (w : World) (e t : ℕ) → Invariant w → Passed (refusals w (step.Quit e t)) → LegalAll w (outcome w (step.Quit e t)).acts
 quit w e t i h =
     let p = w.part e in
     let b = Labels.bearer p t in
@@ -250,7 +250,7 @@ quit w e t i h =
     let requests = or_right (Labels.is_unfinished_of p b) (Labels.is_request_out_of p b) (or_left (Labels.is_unfinished_of p b || Labels.is_request_out_of p b) (Labels.is_use_of p b) busy) in
     let uses = or_right (Labels.is_unfinished_of p b || Labels.is_request_out_of p b) (Labels.is_use_of p b) busy in (
       (
-        lt_of e w.config.endpoints h.0,
+        is_less e w.config.endpoints h.0,
         (
           (
             ending_is (p.pasid_state b) ending.1,

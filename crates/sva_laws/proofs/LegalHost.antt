@@ -13,13 +13,13 @@ use Rattle.sva_model.specs.Outcomes.{outcome, unbind_outcome, advance_outcome}
 use Rattle.sva_model.specs.Labels
 use Rattle.sva_laws.proofs.Words.{none_is, lowest_passes, any_below-false, not_true}
 use Rattle.sva_laws.proofs.Bounds.{Bounds}
-use Rattle.sva_laws.proofs.Invariant.{Inv}
-use Rattle.sva_laws.proofs.Passed.{Passed, LegalAll, lt_of, and_right, or_left, or_right, not_false, opened_is, unreleased_bound, not_bound_at, not_bound}
+use Rattle.sva_laws.proofs.Invariant.{Invariant}
+use Rattle.sva_laws.proofs.Passed.{Passed, LegalAll, is_less, and_right, or_left, or_right, not_false, opened_is, unreleased_bound, not_bound_at, not_bound}
 
-pub drop : (w : World) (n : ℕ) → Inv w → Passed (refusals w (step.DropSpace n)) → LegalAll w (outcome w (step.DropSpace n)).acts
+pub drop : (w : World) (n : ℕ) → Invariant w → Passed (refusals w (step.DropSpace n)) → LegalAll w (outcome w (step.DropSpace n)).acts
 drop w n i h = (not_bound w (Labels.name w n) i h.1.0, tt)
 
-pub map_page : (w : World) (n q : ℕ) (x : Bool) → Inv w → Passed (refusals w (step.Map n q x)) → LegalAll w (outcome w (step.Map n q x)).acts
+pub map_page : (w : World) (n q : ℕ) (x : Bool) → Invariant w → Passed (refusals w (step.Map n q x)) → LegalAll w (outcome w (step.Map n q x)).acts
 map_page w n q x i h = (
   (
     and_right (Labels.is_number w w.spaces n) (w.is_live (Labels.name w n)) (not_true (Labels.is_space w n) h.0),
@@ -29,13 +29,13 @@ map_page w n q x i h = (
   tt,
 )
 
-pub bind : (w : World) (e n : ℕ) → Inv w → Passed (refusals w (step.Bind e n)) → LegalAll w (outcome w (step.Bind e n)).acts
+pub bind : (w : World) (e n : ℕ) → Invariant w → Passed (refusals w (step.Bind e n)) → LegalAll w (outcome w (step.Bind e n)).acts
 bind w e n i h =
     let free = lowest_passes 32 (λ t. not (is_some ((w.part e).at_pasid (suc t)))) h.1.1.1.1.0 in (
       tt,
       (
         (
-          lt_of e w.config.endpoints h.0,
+          is_less e w.config.endpoints h.0,
           (
             (
               omega arith,
@@ -55,7 +55,7 @@ bind w e n i h =
     )
 
 -- the binding of a step by its number
-home_there : (w : World) (n : ℕ) → Inv w → not (Labels.is_binding w n) ≡ false → w.home (Labels.name w n) < w.config.endpoints
+home_there : (w : World) (n : ℕ) → Invariant w → not (Labels.is_binding w n) ≡ false → w.home (Labels.name w n) < w.config.endpoints
 home_there w n i h =
     let b = Labels.name w n in
     (i.parts (w.home b)).there b (unreleased_bound (w.part (w.home b)) b (and_right (Labels.is_number w w.bindings n) (is_unreleased ((w.part (w.home b)).stage b)) (not_true (Labels.is_binding w n) h)))
@@ -70,7 +70,7 @@ unbind_at w e b (Invalidating k x) l f h = absurd (cc h.0)
 unbind_at w e b Quiet l f h = absurd (cc h.0)
 unbind_at w e b Released l f h = absurd (cc h.0)
 
-pub unbind : (w : World) (n : ℕ) → Inv w → Passed (refusals w (step.Unbind n)) → LegalAll w (outcome w (step.Unbind n)).acts
+pub unbind : (w : World) (n : ℕ) → Invariant w → Passed (refusals w (step.Unbind n)) → LegalAll w (outcome w (step.Unbind n)).acts
 unbind w n i h = unbind_at w (w.home (Labels.name w n)) (Labels.name w n) ((w.part (w.home (Labels.name w n))).stage (Labels.name w n)) (home_there w n i h.0) refl h.1
 
 done_is : (s : OrderState) → is_done s ≡ true → s ≡ Done
@@ -95,7 +95,7 @@ no_open_group g p b bo h x o same =
     both : (x : ℕ) → is_open_group (p.host_group x) ≡ true → p.filed_under x ≡ b → (is_open_group (p.host_group x) && p.filed_under x == b) ≢ false
     both x o same f = grind (arith, nat_tests)
 
-advance_at : (w : World) (e b : ℕ) (s : Stage) → Inv w → e < w.config.endpoints → (w.part e).stage b ≡ s → Passed (advance_refusals w e b s) → LegalAll w (advance_outcome w e b s).acts
+advance_at : (w : World) (e b : ℕ) (s : Stage) → Invariant w → e < w.config.endpoints → (w.part e).stage b ≡ s → Passed (advance_refusals w e b s) → LegalAll w (advance_outcome w e b s).acts
 advance_at w e b Quiet i l f h = ((l, (f, tt), tt), tt)
 advance_at w e b (Stopping m) i l f h =
     let yes : m ≡ true = not_true m h.1.0 in
@@ -112,5 +112,5 @@ advance_at w e b Live i l f h = absurd (cc h.1.0)
 advance_at w e b Lost i l f h = absurd (cc h.1.0)
 advance_at w e b Released i l f h = absurd (cc h.1.0)
 
-pub advance : (w : World) (n : ℕ) → Inv w → Passed (refusals w (step.Advance n)) → LegalAll w (outcome w (step.Advance n)).acts
+pub advance : (w : World) (n : ℕ) → Invariant w → Passed (refusals w (step.Advance n)) → LegalAll w (outcome w (step.Advance n)).acts
 advance w n i h = advance_at w (w.home (Labels.name w n)) (Labels.name w n) ((w.part (w.home (Labels.name w n))).stage (Labels.name w n)) i (home_there w n i h.0) refl h.1

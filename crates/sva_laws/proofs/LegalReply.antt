@@ -17,7 +17,7 @@ use Rattle.sva_model.specs.Outcomes.{outcome, reply_outcome}
 use Rattle.sva_model.specs.Replies.{response, response_to, is_success, replies_success, unseen, newly_mapped, maps_to, reply_maps, free_list, is_write_asked, job_part, job_binding, job_space, job_asks}
 use Rattle.sva_model.specs.Labels
 use Rattle.sva_laws.proofs.Words.{put-same, put-other, ℕ_cases, none_is, some_the, not_true}
-use Rattle.sva_laws.proofs.Invariant.{Inv, IsHeldBy}
+use Rattle.sva_laws.proofs.Invariant.{Invariant, IsHeldBy}
 use Rattle.sva_laws.proofs.Keeps.{Legal, act_keeps}
 use Rattle.sva_laws.proofs.Passed.{Passed, LegalAll}
 use Rattle.sva_laws.proofs.LegalUnit.{group_there}
@@ -34,7 +34,7 @@ AreFree w [] = Unit {0}
 AreFree w (f ∷ fs) = (is_free w f ≡ true) × (NotAmong f fs × AreFree w fs)
 
 -- mapping a page to another frame leaves a free frame free
-free_other : (w : World) (s q f g : ℕ) (x : Bool) → Inv w → g ≢ f → is_free w g ≡ true → is_free (act w (Map s q f x)) g ≡ true
+free_other : (w : World) (s q f g : ℕ) (x : Bool) → Invariant w → g ≢ f → is_free w g ≡ true → is_free (act w (Map s q f x)) g ≡ true
 free_other w s q f g x i ne h = go (w.mappings.latest g) refl
   where
     go : (o : Option ℕ) → w.mappings.latest g ≡ o → is_free (act w (Map s q f x)) g ≡ true
@@ -55,7 +55,7 @@ free_other w s q f g x i ne h = go (w.mappings.latest g) refl
         same_place Present = refl
         same_place (Gone owed) = refl
 
-are_free_other : (w : World) (s q f : ℕ) (x : Bool) (fs : List ℕ) → Inv w → NotAmong f fs → AreFree w fs → AreFree (act w (Map s q f x)) fs
+are_free_other : (w : World) (s q f : ℕ) (x : Bool) (fs : List ℕ) → Invariant w → NotAmong f fs → AreFree w fs → AreFree (act w (Map s q f x)) fs
 are_free_other w s q f x [] i n a = tt
 are_free_other w s q f x (g ∷ gs) i n a = (free_other w s q f g x i n.0 a.0, (a.1.0, are_free_other w s q f x gs i n.1 a.1.1))
 
@@ -74,7 +74,7 @@ next_unmapped w s q f x seen u r h =
     rest r h = grind (arith, nat_tests)
 
 -- the pages that are mapped by a success, and then the response
-maps_legal : (x e g : ℕ) (code : Code) (s : ℕ) (write : ℕ → Bool) (qs : List ℕ) (seen : ℕ → Bool) (fs : List ℕ) (w : World) → Inv w → w.is_live s ≡ true → ((q : ℕ) → seen q ≡ false → w.mappings.at s q ≡ None) → AreFree w fs → LegalAll w (LetGo x ∷ At e (Own.Respond g code) ∷ []) → LegalAll w (maps_to s write (unseen seen qs) fs ++ LetGo x ∷ At e (Own.Respond g code) ∷ [])
+maps_legal : (x e g : ℕ) (code : Code) (s : ℕ) (write : ℕ → Bool) (qs : List ℕ) (seen : ℕ → Bool) (fs : List ℕ) (w : World) → Invariant w → w.is_live s ≡ true → ((q : ℕ) → seen q ≡ false → w.mappings.at s q ≡ None) → AreFree w fs → LegalAll w (LetGo x ∷ At e (Own.Respond g code) ∷ []) → LegalAll w (maps_to s write (unseen seen qs) fs ++ LetGo x ∷ At e (Own.Respond g code) ∷ [])
 maps_legal x e g code s write [] seen fs w i l u a rest = rest
 maps_legal x e g code s write (q ∷ qs) seen fs w i l u a rest =
     go (seen q) refl (λ fs' k. maps_legal x e g code s write qs seen fs' w i l u k rest) fs a
@@ -128,7 +128,7 @@ select_free w (suc n) = go (is_free w n) refl (select_free w n)
     go false h r = subst (λ z. Selected w (suc n) z) (sym (append_none (select n (is_free w)))) (record { below = below_more n (select n (is_free w)) r.below; free = r.free })
 
 -- the job of a hand is in that hand alone
-let_go : (w : World) (x j : ℕ) → Inv w → w.hand x ≡ Some j → (y k : ℕ) → put w.hand x None y ≡ Some k → (w.job k).endpoint ≡ (w.job j).endpoint → (w.job k).group ≢ (w.job j).group
+let_go : (w : World) (x j : ℕ) → Invariant w → w.hand x ≡ Some j → (y k : ℕ) → put w.hand x None y ≡ Some k → (w.job k).endpoint ≡ (w.job j).endpoint → (w.job k).group ≢ (w.job j).group
 let_go w x j i h y k g e same = go (ℕ_cases y x)
   where
     go : (y ≡ x) ⊎ (y ≢ x) → ⊥
@@ -142,7 +142,7 @@ let_go w x j i h y k g e same = go (ℕ_cases y x)
         one_hand : (s : HostGroupState) → IsHeldBy s x → IsHeldBy s y → y ≡ x
         one_hand s a b = grind arith
 
-hand_there : (w : World) (x j : ℕ) → Inv w → w.hand x ≡ Some j → (w.job j).endpoint < w.config.endpoints
+hand_there : (w : World) (x j : ℕ) → Invariant w → w.hand x ≡ Some j → (w.job j).endpoint < w.config.endpoints
 hand_there w x j i h = group_there w (w.job j).endpoint (w.job j).group i (made (i.hands.held x j h))
   where
     made : IsHeldBy ((w.part (w.job j).endpoint).host_group (w.job j).group) x → (w.job j).group < (w.part (w.job j).endpoint).groups
@@ -182,10 +182,10 @@ success_live true Lost v h = absurd (cc)
 success_live true Released v h = absurd (cc)
 success_live false s v h = absurd (cc)
 
-in_hand : (w : World) (x j : ℕ) → Inv w → w.hand x ≡ Some j → (y : ℕ) × IsHeldBy ((w.part (w.job j).endpoint).host_group (w.job j).group) y
+in_hand : (w : World) (x j : ℕ) → Invariant w → w.hand x ≡ Some j → (y : ℕ) × IsHeldBy ((w.part (w.job j).endpoint).host_group (w.job j).group) y
 in_hand w x j i h = (x, i.hands.held x j h)
 
-reply_at : (w : World) (x j : ℕ) (v : Verdict) (o : Option Code) → Inv w → w.hand x ≡ Some j → response_to w j v ≡ o → LegalAll w (reply_outcome w x j (reply_maps w j v) o).acts
+reply_at : (w : World) (x j : ℕ) (v : Verdict) (o : Option Code) → Invariant w → w.hand x ≡ Some j → response_to w j v ≡ o → LegalAll w (reply_outcome w x j (reply_maps w j v) o).acts
 reply_at w x j v None i h r =
     (tt, ((hand_there w x j i h, ((in_hand w x j i h, λ ph. silent (is_open (job_part w j).phase) ((job_part w j).stage (job_binding w j)) v r (ap is_open ph)), tt), let_go w x j i h), tt))
 reply_at w x j v (Some code) i h r =
@@ -203,5 +203,5 @@ reply_at w x j v (Some code) i h r =
         rest
     go false e rest = rest
 
-pub reply : (w : World) (x : ℕ) (v : Verdict) → Inv w → Passed (refusals w (step.Reply x v)) → LegalAll w (outcome w (step.Reply x v)).acts
+pub reply : (w : World) (x : ℕ) (v : Verdict) → Invariant w → Passed (refusals w (step.Reply x v)) → LegalAll w (outcome w (step.Reply x v)).acts
 reply w x v i h = reply_at w x (the (w.hand x)) v (response_to w (the (w.hand x)) v) i (some_the (w.hand x) (not_true (is_some (w.hand x)) h.1.0)) refl

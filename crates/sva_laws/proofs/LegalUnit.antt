@@ -18,8 +18,8 @@ use Rattle.sva_model.specs.Labels
 use Rattle.sva_laws.proofs.Words.{put-same, lowest_below, any_below-false, any_below-true, not_true}
 use Rattle.sva_laws.proofs.Bounds.{Bounds}
 use Rattle.sva_laws.proofs.PageRequests.{Queued as QueuedRequests}
-use Rattle.sva_laws.proofs.Invariant.{Inv}
-use Rattle.sva_laws.proofs.Passed.{Passed, LegalAll, lt_of, and_left, and_right, not_false, opened_is, label_low, label_free}
+use Rattle.sva_laws.proofs.Invariant.{Invariant}
+use Rattle.sva_laws.proofs.Passed.{Passed, LegalAll, is_less, and_left, and_right, not_false, opened_is, label_low, label_free}
 
 -- Pump: the head is the lowest order that is queued.
 record Head (p : Part) : Type 0 where
@@ -52,7 +52,7 @@ none_arrived p qu h r a =
     let back : is_arrived (p.page_request (p.arrival (p.arrived_as r))) ≡ is_arrived (p.page_request r) = ap (λ z. is_arrived (p.page_request z)) place.1 in
     absurd (cc (sym f ∙ back ∙ ap is_arrived a))
 
-wait_legal : (w : World) (e cookie : ℕ) (drain t : Bool) → Inv w → e < w.config.endpoints → (w.part e).phase ≡ Open → Head (w.part e) → (w.part e).order (Labels.head (w.part e)) ≡ Wait cookie drain → may_pass (w.part e) drain ≡ t → LegalAll w (wait_outcome e (Labels.head (w.part e)) t).acts
+wait_legal : (w : World) (e cookie : ℕ) (drain t : Bool) → Invariant w → e < w.config.endpoints → (w.part e).phase ≡ Open → Head (w.part e) → (w.part e).order (Labels.head (w.part e)) ≡ Wait cookie drain → may_pass (w.part e) drain ≡ t → LegalAll w (wait_outcome e (Labels.head (w.part e)) t).acts
 wait_legal w e cookie drain false i l ph hd o m = tt
 wait_legal w e cookie drain true i l ph hd o m =
     ((l, ((ph, hd.queued, ap is_wait o, hd.lowest, idle w.bindings (w.part e) (i.parts e).bounds quiet, λ r d. none_arrived (w.part e) (i.parts e).queued (empty (sym (ap drains o) ∙ d)) r), tt), tt), tt)
@@ -72,17 +72,17 @@ send_legal w e true l ph hd o m =
     let some = not_false (Labels.lowest_label 32 (w.part e).at_itag == 32) m in
     ((l, ((ph, hd.queued, o, label_free 32 (w.part e).at_itag some, label_low 32 (w.part e).at_itag some), tt), tt), tt)
 
-head_legal : (w : World) (e : ℕ) (o : Order) → Inv w → e < w.config.endpoints → (w.part e).phase ≡ Open → Head (w.part e) → (w.part e).order (Labels.head (w.part e)) ≡ o → LegalAll w (head_outcome (w.part e) e (Labels.head (w.part e)) o).acts
+head_legal : (w : World) (e : ℕ) (o : Order) → Invariant w → e < w.config.endpoints → (w.part e).phase ≡ Open → Head (w.part e) → (w.part e).order (Labels.head (w.part e)) ≡ o → LegalAll w (head_outcome (w.part e) e (Labels.head (w.part e)) o).acts
 head_legal w e (Wait cookie drain) i l ph hd f = wait_legal w e cookie drain (may_pass (w.part e) drain) i l ph hd f refl
 head_legal w e (PageOf b q) i l ph hd f = send_legal w e (not (Labels.lowest_label 32 (w.part e).at_itag == 32)) l ph hd (ap is_wait f) refl
 head_legal w e (PasidOf b) i l ph hd f = send_legal w e (not (Labels.lowest_label 32 (w.part e).at_itag == 32)) l ph hd (ap is_wait f) refl
 
-pump_at : (w : World) (e : ℕ) (b : Bool) → Inv w → e < w.config.endpoints → (w.part e).phase ≡ Open → Labels.is_queue_empty (w.part e) ≡ b → LegalAll w (pump_outcome (w.part e) e b).acts
+pump_at : (w : World) (e : ℕ) (b : Bool) → Invariant w → e < w.config.endpoints → (w.part e).phase ≡ Open → Labels.is_queue_empty (w.part e) ≡ b → LegalAll w (pump_outcome (w.part e) e b).acts
 pump_at w e true i l ph f = tt
 pump_at w e false i l ph f = head_legal w e ((w.part e).order (Labels.head (w.part e))) i l ph (head_is (w.part e) f) refl
 
-pub pump : (w : World) (e : ℕ) → Inv w → Passed (refusals w (step.Pump e)) → LegalAll w (outcome w (step.Pump e)).acts
-pump w e i h = pump_at w e (Labels.is_queue_empty (w.part e)) i (lt_of e w.config.endpoints h.0) (opened_is (w.part e) h.1.0) refl
+pub pump : (w : World) (e : ℕ) → Invariant w → Passed (refusals w (step.Pump e)) → LegalAll w (outcome w (step.Pump e)).acts
+pump w e i h = pump_at w e (Labels.is_queue_empty (w.part e)) i (is_less e w.config.endpoints h.0) (opened_is (w.part e) h.1.0) refl
 
 -- Serve: the oldest page request that arrived is filed.
 record Oldest (p : Part) : Type 0 where
@@ -107,26 +107,26 @@ oldest_is p qu h =
         let waits : is_arrived (p.page_request (p.arrival (p.arrived_as x))) ≡ true = ap (λ z. is_arrived (p.page_request z)) place.1 ∙ ap is_arrived a in
         grind (arith, none (p.arrived_as x))
 
-file_legal : (w : World) (e : ℕ) (t : Bool) → Inv w → e < w.config.endpoints → (w.part e).phase ≡ Open → Oldest (w.part e) → LegalAll w (file_outcome e (Labels.oldest_arrived (w.part e)) ((w.part e).group_of (Labels.oldest_arrived (w.part e))) t).acts
+file_legal : (w : World) (e : ℕ) (t : Bool) → Invariant w → e < w.config.endpoints → (w.part e).phase ≡ Open → Oldest (w.part e) → LegalAll w (file_outcome e (Labels.oldest_arrived (w.part e)) ((w.part e).group_of (Labels.oldest_arrived (w.part e))) t).acts
 file_legal w e true i l ph od = ((l, ((ph, od.arrived, od.first), tt), tt), (tt, tt))
 file_legal w e false i l ph od = ((l, ((ph, od.arrived, od.first), tt), tt), tt)
 
-serve_at : (w : World) (e : ℕ) (b : Bool) → Inv w → e < w.config.endpoints → (w.part e).phase ≡ Open → Labels.is_page_queue_empty (w.part e) ≡ b → LegalAll w (serve_outcome (w.part e) e b).acts
+serve_at : (w : World) (e : ℕ) (b : Bool) → Invariant w → e < w.config.endpoints → (w.part e).phase ≡ Open → Labels.is_page_queue_empty (w.part e) ≡ b → LegalAll w (serve_outcome (w.part e) e b).acts
 serve_at w e true i l ph f = tt
 serve_at w e false i l ph f = file_legal w e ((w.part e).is_last (Labels.oldest_arrived (w.part e))) i l ph (oldest_is (w.part e) (i.parts e).queued f)
 
-pub serve : (w : World) (e : ℕ) → Inv w → Passed (refusals w (step.Serve e)) → LegalAll w (outcome w (step.Serve e)).acts
-serve w e i h = serve_at w e (Labels.is_page_queue_empty (w.part e)) i (lt_of e w.config.endpoints h.0) (opened_is (w.part e) h.1.0) refl
+pub serve : (w : World) (e : ℕ) → Invariant w → Passed (refusals w (step.Serve e)) → LegalAll w (outcome w (step.Serve e)).acts
+serve w e i h = serve_at w e (Labels.is_page_queue_empty (w.part e)) i (is_less e w.config.endpoints h.0) (opened_is (w.part e) h.1.0) refl
 
-pub reset : (w : World) (e : ℕ) → Inv w → Passed (refusals w (step.Reset e)) → LegalAll w (outcome w (step.Reset e)).acts
-reset w e i h = ((lt_of e w.config.endpoints h.0, (opened_is (w.part e) h.1.0, tt), tt), tt)
+pub reset : (w : World) (e : ℕ) → Invariant w → Passed (refusals w (step.Reset e)) → LegalAll w (outcome w (step.Reset e)).acts
+reset w e i h = ((is_less e w.config.endpoints h.0, (opened_is (w.part e) h.1.0, tt), tt), tt)
 
 -- Take: the oldest group with a job.
 -- a group that the host knows is at an endpoint
-pub group_there : (w : World) (e x : ℕ) → Inv w → x < (w.part e).groups → e < w.config.endpoints
+pub group_there : (w : World) (e x : ℕ) → Invariant w → x < (w.part e).groups → e < w.config.endpoints
 group_there w e x i l = (i.parts e).there ((w.part e).asker x) ((i.parts e).groups.asker_bound x l)
 
-take_at : (w : World) (x j : ℕ) → Inv w → j < w.jobs → Labels.is_queued_job w j ≡ true → LegalAll w (At (w.job j).endpoint (Own.Hand (w.job j).group x) ∷ Hold x j ∷ [])
+take_at : (w : World) (x j : ℕ) → Invariant w → j < w.jobs → Labels.is_queued_job w j ≡ true → LegalAll w (At (w.job j).endpoint (Own.Hand (w.job j).group x) ∷ Hold x j ∷ [])
 take_at w x j i l h =
     let e = (w.job j).endpoint in
     let g = (w.job j).group in
@@ -144,7 +144,7 @@ take_at w x j i l h =
     held : (e g : ℕ) → (put w.part e (own (w.part e) w.messages (Own.Hand g x)) e).host_group g ≡ InHand x
     held e g = ap (λ p. p.host_group g) (put-same w.part e (own (w.part e) w.messages (Own.Hand g x))) ∙ put-same (w.part e).host_group g (InHand x)
 
-pub take : (w : World) (x : ℕ) → Inv w → Passed (refusals w (step.Take x)) → LegalAll w (outcome w (step.Take x)).acts
+pub take : (w : World) (x : ℕ) → Invariant w → Passed (refusals w (step.Take x)) → LegalAll w (outcome w (step.Take x)).acts
 take w x i h =
     let some = any_below-true w.jobs (Labels.is_queued_job w) (not_true (any_below w.jobs (Labels.is_queued_job w)) h.1.1.0) in
     let low = lowest_below w.jobs (Labels.is_queued_job w) some.0 some.1 some.2 in

@@ -19,10 +19,10 @@ use Rattle.sva_laws.proofs.Counting.{bit, bit_most, count_next, count_less, leng
 use Rattle.sva_laws.proofs.Legal.{LegalOwn}
 use Rattle.sva_laws.proofs.Bounds.{Bounds}
 use Rattle.sva_laws.proofs.PageRequests.{Queued}
-use Rattle.sva_laws.proofs.Invariant.{Inv}
+use Rattle.sva_laws.proofs.Invariant.{Invariant}
 use Rattle.sva_laws.proofs.Keeps.{Legal, act_keeps, put_keeps}
 use Rattle.sva_laws.proofs.Passed.{LegalAll}
-use Rattle.sva_laws.proofs.Runs.{always, step_legal, next_keeps, opened_inv}
+use Rattle.sva_laws.proofs.Runs.{always, step_legal, next_keeps, opened_invariant}
 
 -- An act of an endpoint: a page request that was outstanding after it was so before, but for the one that is new.
 
@@ -55,7 +55,7 @@ submitted_limited false p o q count cookie h = h
 abbrev pub AllLimited : World → Type 0
 AllLimited w = (e : ℕ) → outstanding (w.part e) ≤ 32
 
-act_limited : (w : World) (a : Act) → Legal w a → Inv w → AllLimited w → AllLimited (act w a)
+act_limited : (w : World) (a : Act) → Legal w a → Invariant w → AllLimited w → AllLimited (act w a)
 act_limited w NewSpace l i h = h
 act_limited w (DropSpace s) l i h = h
 act_limited w (Map s q f x) l i h = h
@@ -66,11 +66,11 @@ act_limited w (Hold x j) l i h = h
 act_limited w (LetGo x) l i h = h
 act_limited w (At e o) l i h = put_keeps (λ k p. outstanding p ≤ 32) w.part e (own (w.part e) w.messages o) (own_limited w.mappings w.bindings w.messages (w.part e) o l.1.0 (i.parts e).bounds (h e)) h
 
-acts_limited : (acts : List Act) (w : World) → LegalAll w acts → Inv w → AllLimited w → AllLimited (after_acts w acts)
+acts_limited : (acts : List Act) (w : World) → LegalAll w acts → Invariant w → AllLimited w → AllLimited (after_acts w acts)
 acts_limited [] w l i h = h
 acts_limited (a ∷ acts) w l i h = acts_limited acts (act w a) l.1 (act_keeps w a l.0 i) (act_limited w a l.0 i h)
 
-run_limited : (ss : List Step) (w : World) → Inv w → AllLimited w → AllLimited (run w ss)
+run_limited : (ss : List Step) (w : World) → Invariant w → AllLimited w → AllLimited (run w ss)
 run_limited [] w i h = h
 run_limited (s ∷ ss) w i h = run_limited ss (next w s) (next_keeps w s i) (acts_limited (decide w s).acts w (step_legal w s i) i h)
 
@@ -79,7 +79,7 @@ unfolding count_below
 opened_limited c e = omega arith
 
 pub always_outstanding : (c : Config) (ss : List Step) (e : ℕ) → outstanding ((world_after c ss).part e) ≤ 32
-always_outstanding c ss = run_limited ss (opened c) (opened_inv c) (opened_limited c)
+always_outstanding c ss = run_limited ss (opened c) (opened_invariant c) (opened_limited c)
 
 -- what has arrived is outstanding at an open unit, and at a unit in reset nothing has
 pub always_page_queue : (c : Config) (ss : List Step) (e : ℕ) → page_queue ((world_after c ss).part e) ≤ 32

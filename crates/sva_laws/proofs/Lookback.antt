@@ -11,7 +11,7 @@ use Rattle.sva_model.specs.States.{is_unreleased}
 use Rattle.sva_model.specs.Acts.{Act, act, bound, owed_by, gone_if, in_range}
 use Rattle.sva_model.specs.Acts.Act.{Unmap, DropSpace}
 use Rattle.sva_model.specs.Steps.{decide, next, run, after_acts, world_after}
-use Rattle.sva_laws.proofs.Invariant.{Inv}
+use Rattle.sva_laws.proofs.Invariant.{Invariant}
 use Rattle.sva_laws.proofs.Keeps.{Legal}
 use Rattle.sva_laws.proofs.Passed.{LegalAll}
 use Rattle.sva_laws.proofs.Runs.{always, step_legal, next_keeps}
@@ -106,7 +106,7 @@ moves_drop w s l =
     on m (inl x) = inl x
     on m (inr x) = inr ((λ e. Nothing), x.1, dropped s (range_space (w.mappings.space m) s true x.0) l refl)
 
-pub moves : (w : World) (s : Step) → Inv w → Moves w (next w s)
+pub moves : (w : World) (s : Step) → Invariant w → Moves w (next w s)
 moves w s i = go (decide w s).acts (step_kind w s) (step_legal w s i)
   where
     single : (acts : List Act) (a : Act) → acts ≡ a ∷ [] → LegalAll w acts → Legal w a
@@ -179,7 +179,7 @@ made_kept w v a m h e = go (w.mappings.state m) refl
         after (inr x) = absurd (cc (sym x.1 ∙ e))
     go (Gone o) g = absurd (cc (sym (a.gone_on m o g) ∙ e))
 
-pub later : (rest : List Step) (w : World) → Inv w → Later w (run w rest)
+pub later : (rest : List Step) (w : World) → Invariant w → Later w (run w rest)
 later [] w i = record { gone_on = λ m o h. h; made_on = λ m h. h; frame_on = λ m h. refl; latest_grows = λ f k h. (k, h, omega arith) }
 later (s ∷ rest) w i = more (moves w s i) (later rest (next w s) (next_keeps w s i))
   where

@@ -18,10 +18,10 @@ use Rattle.sva_model.specs.Steps.{decide, next, run, after_acts, world_after}
 use Rattle.sva_laws.specs.Laws.{is_answerable}
 use Rattle.sva_laws.proofs.Legal.{LegalOwn}
 use Rattle.sva_laws.proofs.PageRequests.{is_whole}
-use Rattle.sva_laws.proofs.Invariant.{PartInv, Inv}
+use Rattle.sva_laws.proofs.Invariant.{PartInvariant, Invariant}
 use Rattle.sva_laws.proofs.Keeps.{Legal, act_keeps, put_keeps}
 use Rattle.sva_laws.proofs.Passed.{LegalAll}
-use Rattle.sva_laws.proofs.Runs.{step_legal, next_keeps, opened_inv}
+use Rattle.sva_laws.proofs.Runs.{step_legal, next_keeps, opened_invariant}
 
 pub record OnTheWay (p : Part) : Type 0 where
   pub last : (g : ℕ) → is_answerable (p.group g) ≡ true → (r : ℕ) × (r < p.page_requests) × (p.group_of r ≡ g) × (p.is_last r ≡ true)
@@ -52,7 +52,7 @@ last_kept ms g n p o l w x h = go (new_last ms g n p o l x h)
     go (inl a) = let y = w.last x a in let z = old_last ms g n p o y.0 y.1 in (y.0, z.0, z.1 ∙ y.2, z.2 ∙ y.3)
     go (inr y) = (p.page_requests, y.0, y.1, y.2)
 
-pub every : (ms : Mappings) (x g n e : ℕ) (p : Part) (o : Own) → LegalOwn ms g p o → PartInv ms x g n e p → OnTheWay p → OnTheWay (own p n o)
+pub every : (ms : Mappings) (x g n e : ℕ) (p : Part) (o : Own) → LegalOwn ms g p o → PartInvariant ms x g n e p → OnTheWay p → OnTheWay (own p n o)
 every ms x g n e p o l i w =
     let re = i.resets in
     let bo = i.bounds in
@@ -74,7 +74,7 @@ submitted_on false p o q count cookie w = w
 abbrev pub AllOn : World → Type 0
 AllOn w = (e : ℕ) → OnTheWay (w.part e)
 
-act_on : (w : World) (a : Act) → Legal w a → Inv w → AllOn w → AllOn (act w a)
+act_on : (w : World) (a : Act) → Legal w a → Invariant w → AllOn w → AllOn (act w a)
 act_on w NewSpace l i h = h
 act_on w (DropSpace s) l i h = h
 act_on w (Map s q f x) l i h = h
@@ -85,11 +85,11 @@ act_on w (Hold x j) l i h = h
 act_on w (LetGo x) l i h = h
 act_on w (At e o) l i h = put_keeps (λ k p. OnTheWay p) w.part e (own (w.part e) w.messages o) (every w.mappings w.config.endpoints w.bindings w.messages e (w.part e) o l.1.0 (i.parts e) (h e)) h
 
-pub acts_on : (acts : List Act) (w : World) → LegalAll w acts → Inv w → AllOn w → AllOn (after_acts w acts)
+pub acts_on : (acts : List Act) (w : World) → LegalAll w acts → Invariant w → AllOn w → AllOn (after_acts w acts)
 acts_on [] w l i h = h
 acts_on (a ∷ acts) w l i h = acts_on acts (act w a) l.1 (act_keeps w a l.0 i) (act_on w a l.0 i h)
 
-run_on : (ss : List Step) (w : World) → Inv w → AllOn w → AllOn (run w ss)
+run_on : (ss : List Step) (w : World) → Invariant w → AllOn w → AllOn (run w ss)
 run_on [] w i h = h
 run_on (s ∷ ss) w i h = run_on ss (next w s) (next_keeps w s i) (acts_on (decide w s).acts w (step_legal w s i) i h)
 
@@ -97,4 +97,4 @@ pub opened_on : (c : Config) → AllOn (opened c)
 opened_on c e = record { last = grind arith; filed_last = grind arith; discarded = grind arith }
 
 pub always_on_the_way : (c : Config) (ss : List Step) (e : ℕ) → OnTheWay ((world_after c ss).part e)
-always_on_the_way c ss = run_on ss (opened c) (opened_inv c) (opened_on c)
+always_on_the_way c ss = run_on ss (opened c) (opened_invariant c) (opened_on c)

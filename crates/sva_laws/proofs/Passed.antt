@@ -13,14 +13,14 @@ use Rattle.sva_model.specs.Outcomes.{Outcome}
 use Rattle.sva_model.specs.Steps.{checked, after_acts}
 use Rattle.sva_model.specs.Labels
 use Rattle.sva_laws.proofs.Words.{none_is, lowest_passes, any_below-false}
-use Rattle.sva_laws.proofs.Invariant.{Inv}
+use Rattle.sva_laws.proofs.Invariant.{Invariant}
 use Rattle.sva_laws.proofs.Keeps.{Legal, act_keeps}
 
 abbrev pub LegalAll : World → List Act → Type 0
 LegalAll w [] = Unit {0}
 LegalAll w (a ∷ acts) = Legal w a × LegalAll (act w a) acts
 
-pub acts_keep : (acts : List Act) (w : World) → LegalAll w acts → Inv w → Inv (after_acts w acts)
+pub acts_keep : (acts : List Act) (w : World) → LegalAll w acts → Invariant w → Invariant (after_acts w acts)
 acts_keep [] w l i = i
 acts_keep (a ∷ acts) w l i = acts_keep acts (act w a) l.1 (act_keeps w a l.0 i)
 
@@ -36,11 +36,11 @@ checked_legal w (c ∷ cs) o f = go (λ e. checked_legal w cs o (λ k. f (e, k))
     go rest true e = tt
     go rest false e = rest e
 
-pub lt_of : (a b : ℕ) → not (nat_lt a b) ≡ false → a < b
-lt_of a b h = grind (arith, nat_tests)
+pub is_less : (a b : ℕ) → not (nat_lt a b) ≡ false → a < b
+is_less a b h = grind (arith, nat_tests)
 
-pub le_of : (a b : ℕ) → nat_lt a b ≡ false → b ≤ a
-le_of a b h = grind (arith, nat_tests)
+pub is_at_most : (a b : ℕ) → nat_lt a b ≡ false → b ≤ a
+is_at_most a b h = grind (arith, nat_tests)
 
 pub and_left : (a b : Bool) → (a && b) ≡ true → a ≡ true
 and_left a b h = grind arith
@@ -74,7 +74,7 @@ unreleased_made g p b bo h = grind (arith, nat_tests, bo b)
 pub unreleased_bound : (p : Part) (b : ℕ) → is_unreleased (p.stage b) ≡ true → p.stage b ≢ Unbound
 unreleased_bound p b h e = absurd (cc)
 
-pub not_bound_at : (w : World) (s e : ℕ) → Inv w → Labels.is_bound_at w s e ≡ false → (b : ℕ) → is_unreleased ((w.part e).stage b) ≡ true → (w.part e).space b ≢ s
+pub not_bound_at : (w : World) (s e : ℕ) → Invariant w → Labels.is_bound_at w s e ≡ false → (b : ℕ) → is_unreleased ((w.part e).stage b) ≡ true → (w.part e).space b ≢ s
 not_bound_at w s e i h b u same =
     let lt = unreleased_made w.bindings (w.part e) b (i.parts e).bounds.stage u in
     let f = any_below-false w.bindings (λ d. is_unreleased ((w.part e).stage d) && (w.part e).space d == s) h b lt in
@@ -83,7 +83,7 @@ not_bound_at w s e i h b u same =
     both : is_unreleased ((w.part e).stage b) ≡ true → (w.part e).space b ≡ s → (is_unreleased ((w.part e).stage b) && (w.part e).space b == s) ≢ false
     both u same f = grind (arith, nat_tests)
 
-pub not_bound : (w : World) (s : ℕ) → Inv w → Labels.is_bound w s ≡ false → (e b : ℕ) → is_unreleased ((w.part e).stage b) ≡ true → (w.part e).space b ≢ s
+pub not_bound : (w : World) (s : ℕ) → Invariant w → Labels.is_bound w s ≡ false → (e b : ℕ) → is_unreleased ((w.part e).stage b) ≡ true → (w.part e).space b ≢ s
 not_bound w s i h e b u =
     let there = (i.parts e).there b (unreleased_bound (w.part e) b u) in
     not_bound_at w s e i (any_below-false w.config.endpoints (Labels.is_bound_at w s) h e there) b u

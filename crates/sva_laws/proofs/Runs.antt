@@ -8,7 +8,7 @@ use Rattle.sva_model.specs.State.{World, opened}
 use Rattle.sva_model.specs.Refusals.{refusals}
 use Rattle.sva_model.specs.Outcomes.{outcome}
 use Rattle.sva_model.specs.Steps.{decide, next, run, world_after}
-use Rattle.sva_laws.proofs.Invariant.{Inv}
+use Rattle.sva_laws.proofs.Invariant.{Invariant}
 use Rattle.sva_laws.proofs.Passed.{Passed, LegalAll, acts_keep, checked_legal}
 use Rattle.sva_laws.proofs.LegalHost as Host
 use Rattle.sva_laws.proofs.LegalUnit as Unit_steps
@@ -16,7 +16,7 @@ use Rattle.sva_laws.proofs.LegalReply as Reply_step
 use Rattle.sva_laws.proofs.LegalEndpoint as Endpoint_steps
 use Rattle.sva_laws.proofs.LegalDeliver as Link
 
-outcome_legal : (w : World) (s : Step) → Inv w → Passed (refusals w s) → LegalAll w (outcome w s).acts
+outcome_legal : (w : World) (s : Step) → Invariant w → Passed (refusals w s) → LegalAll w (outcome w s).acts
 outcome_legal w step.Space i h = (tt, tt)
 outcome_legal w (step.DropSpace n) i h = Host.drop w n i h
 outcome_legal w (step.Map n q x) i h = Host.map_page w n q x i h
@@ -39,18 +39,18 @@ outcome_legal w (step.Quit e t) i h = Endpoint_steps.quit w e t i h
 outcome_legal w (step.Deliver n) i h = Link.deliver w n i h
 outcome_legal w (step.Look f) i h = tt
 
-pub step_legal : (w : World) (s : Step) → Inv w → LegalAll w (decide w s).acts
+pub step_legal : (w : World) (s : Step) → Invariant w → LegalAll w (decide w s).acts
 step_legal w s i = checked_legal w (refusals w s) (outcome w s) (outcome_legal w s i)
 
-pub next_keeps : (w : World) (s : Step) → Inv w → Inv (next w s)
+pub next_keeps : (w : World) (s : Step) → Invariant w → Invariant (next w s)
 next_keeps w s i = acts_keep (decide w s).acts w (step_legal w s i) i
 
-pub run_keeps : (ss : List Step) (w : World) → Inv w → Inv (run w ss)
+pub run_keeps : (ss : List Step) (w : World) → Invariant w → Invariant (run w ss)
 run_keeps [] w i = i
 run_keeps (s ∷ ss) w i = run_keeps ss (next w s) (next_keeps w s i)
 
-pub opened_inv : (c : Config) → Inv (opened c)
-opened_inv c =
+pub opened_invariant : (c : Config) → Invariant (opened c)
+opened_invariant c =
     record {
       hands = record { made = grind arith; held = grind arith };
       mapped =
@@ -84,5 +84,5 @@ opened_inv c =
           };
     }
 
-pub always : (c : Config) (ss : List Step) → Inv (world_after c ss)
-always c ss = run_keeps ss (opened c) (opened_inv c)
+pub always : (c : Config) (ss : List Step) → Invariant (world_after c ss)
+always c ss = run_keeps ss (opened c) (opened_invariant c)

@@ -27,7 +27,7 @@ use Rattle.sva_model.specs.Claims.{IsAt, IsWithheld}
 use Rattle.sva_laws.specs.Laws.{IsTold}
 use Rattle.sva_laws.proofs.Words.{put-same, lowest_passes, not_true, some_the, all_below-true, all_below-false}
 use Rattle.sva_laws.proofs.Orders.{Orders}
-use Rattle.sva_laws.proofs.Invariant.{Inv}
+use Rattle.sva_laws.proofs.Invariant.{Invariant}
 use Rattle.sva_laws.proofs.Passed.{Passed, and_left, and_right}
 use Rattle.sva_laws.proofs.Runs.{always}
 use Rattle.sva_laws.proofs.Lookback.{after_one}
@@ -108,7 +108,7 @@ stage_told p b q count cookie or Quiet st = refl
 stage_told p b q count cookie or Lost st = refl
 stage_told p b q count cookie or Released st = refl
 
-endpoint_told : (w : World) (s q count e : ℕ) → Inv w → answered (part_after_unmap w s q count e) (owed_by (w.part e) q count (bound w e s)) ≡ not (waits w s e)
+endpoint_told : (w : World) (s q count e : ℕ) → Invariant w → answered (part_after_unmap w s q count e) (owed_by (w.part e) q count (bound w e s)) ≡ not (waits w s e)
 endpoint_told w s q count e i = go (bound w e s)
   where
     go : (o : Option ℕ) → answered (submitted_if (submits_at (w.part e) o) (w.part e) o q count (cookie_of w s e)) (owed_by (w.part e) q count o) ≡ not (waits_at (w.part e) o)
@@ -128,7 +128,7 @@ none_waits (suc n) p r h = more (p n) (r n) (all_below n p) (any_below n r) (h n
 goes : (w : World) (s q count k m : ℕ) (owed : ℕ → Owed) → k < count → w.mappings.state m ≡ Present → w.mappings.space m ≡ s → w.mappings.page m ≡ q + k → gone_if (w.mappings.space m == s && in_range q count (w.mappings.page m)) owed (w.mappings.state m) ≡ Gone owed
 goes w s q count k m owed l st sp pg = grind (arith, nat_tests)
 
-place_told : (w : World) (s q count k f : ℕ) → Inv w → k < count → IsAt w f s (q + k) → place (act w (Unmap s q count)) f ≡ place_of_gone (not (any_below w.config.endpoints (waits w s)))
+place_told : (w : World) (s q count k f : ℕ) → Invariant w → k < count → IsAt w f s (q + k) → place (act w (Unmap s q count)) f ≡ place_of_gone (not (any_below w.config.endpoints (waits w s)))
 place_told w s q count k f i l is =
     let at = i.mapped.at_present s (q + k) is.mapping is.maps in
     let la : w.mappings.latest f ≡ Some is.mapping = subst (λ z. w.mappings.latest z ≡ Some is.mapping) is.leads (i.mapped.latest is.mapping at.0) in

@@ -15,7 +15,7 @@ use Rattle.sva_model.specs.Words.{unless}
 use Rattle.sva_laws.proofs.Bounds.{Bounds}
 use Rattle.sva_laws.proofs.Orders.{is_active}
 use Rattle.sva_laws.proofs.Safe.{Pending, IsSafe, owed_of}
-use Rattle.sva_laws.proofs.Invariant.{Inv}
+use Rattle.sva_laws.proofs.Invariant.{Invariant}
 
 -- a translation of a mapping, where some mappings go
 pub safe_without : (ms : Mappings) (e : ℕ) (p p' : Part) (b m age : ℕ) (t : Bool) (owed : ℕ → Owed) → IsSafe ms e p b m age → ((v : Owed) → Pending p b (ms.page m) age v → Pending p' b (ms.page m) age v) → (t ≡ true → ms.state m ≡ Present → Pending p' b (ms.page m) age (owed e)) → (gone_if t owed (ms.state m) ≡ Present) ⊎ Pending p' b (ms.page m) age (owed_of (gone_if t owed (ms.state m)) e)
@@ -49,7 +49,7 @@ pending_submitted_if g true None q' count cookie p bo b q age v h = h
 pending_submitted_if g false o q' count cookie p bo b q age v h = h
 
 -- the unreleased binding of a space at an endpoint is found
-pub bound_is : (w : World) (e b s : ℕ) → Inv w → is_unreleased ((w.part e).stage b) ≡ true → (w.part e).space b ≡ s → bound w e s ≡ Some b
+pub bound_is : (w : World) (e b s : ℕ) → Invariant w → is_unreleased ((w.part e).stage b) ≡ true → (w.part e).space b ≡ s → bound w e s ≡ Some b
 bound_is w e b s i u sp =
     let test : ℕ → Bool = λ d. is_unreleased ((w.part e).stage d) && (w.part e).space d == s in
     let lt : b < w.bindings = made (i.parts e).bounds u in
@@ -115,7 +115,7 @@ in_range_high : (q count k : ℕ) → in_range q count k ≡ true → k < q + co
 in_range_high q count k h = grind (arith, nat_tests)
 
 -- a usable translation stays safe when pages are unmapped
-pub unmap_safe : (w : World) (s q count e b m age : ℕ) → Inv w → is_active ((w.part e).stage b) ≡ true → w.mappings.space m ≡ (w.part e).space b → IsSafe w.mappings e (w.part e) b m age → IsSafe (act w (Unmap s q count)).mappings e ((act w (Unmap s q count)).part e) b m age
+pub unmap_safe : (w : World) (s q count e b m age : ℕ) → Invariant w → is_active ((w.part e).stage b) ≡ true → w.mappings.space m ≡ (w.part e).space b → IsSafe w.mappings e (w.part e) b m age → IsSafe (act w (Unmap s q count)).mappings e ((act w (Unmap s q count)).part e) b m age
 unmap_safe w s q count e b m age i a sp sa =
     safe_without w.mappings e (w.part e) (part_after_unmap w s q count e) b m age (w.mappings.space m == s && in_range q count (w.mappings.page m)) (λ x. owed_by (w.part x) q count (bound w x s)) sa
     (λ v h. pending_submitted_if w.bindings (submits w s e) (bound w e s) q count (cookie_of w s e) (w.part e) (i.parts e).bounds b (w.mappings.page m) age v h)

@@ -18,10 +18,10 @@ use Rattle.sva_laws.proofs.Legal.{LegalOwn}
 use Rattle.sva_laws.proofs.Bounds.{Bounds}
 use Rattle.sva_laws.proofs.PageRequests.{Lasts, is_whole}
 use Rattle.sva_laws.specs.Laws.{is_answerable}
-use Rattle.sva_laws.proofs.Invariant.{PartInv, Inv}
+use Rattle.sva_laws.proofs.Invariant.{PartInvariant, Invariant}
 use Rattle.sva_laws.proofs.Keeps.{Legal, act_keeps, put_keeps}
 use Rattle.sva_laws.proofs.Passed.{LegalAll}
-use Rattle.sva_laws.proofs.Runs.{step_legal, next_keeps, opened_inv}
+use Rattle.sva_laws.proofs.Runs.{step_legal, next_keeps, opened_invariant}
 
 -- is it a translation request's message, there or back?
 abbrev pub is_of_request : (request : ℕ) → Option About → Bool
@@ -51,7 +51,7 @@ response_kept ms g n x p o l un made whole re old ph a h = grind (arith, nat_tes
 whole_of : (p : Part) → Lasts p → (x : ℕ) → p.host_group x ≡ Replied → p.group x ≢ Unfinished
 whole_of p la x h = la.whole_group x (ap is_whole h)
 
-pub every : (ms : Mappings) (x g n e : ℕ) (p : Part) (o : Own) → LegalOwn ms g p o → PartInv ms x g n e p → Ways p → Ways (own p n o)
+pub every : (ms : Mappings) (x g n e : ℕ) (p : Part) (o : Own) → LegalOwn ms g p o → PartInvariant ms x g n e p → Ways p → Ways (own p n o)
 every ms x g n e p o l i wa =
     record {
       sent = λ k h. sent_kept ms g n k p o l (i.resets.unsent (p.invalidate_message k)) (wa.sent k) h;
@@ -70,7 +70,7 @@ submitted_ways g false p o q count cookie bo wa = wa
 abbrev pub AllWays : World → Type 0
 AllWays w = (e : ℕ) → Ways (w.part e)
 
-act_ways : (w : World) (a : Act) → Legal w a → Inv w → AllWays w → AllWays (act w a)
+act_ways : (w : World) (a : Act) → Legal w a → Invariant w → AllWays w → AllWays (act w a)
 act_ways w NewSpace l i h = h
 act_ways w (DropSpace s) l i h = h
 act_ways w (Map s q f x) l i h = h
@@ -81,11 +81,11 @@ act_ways w (Hold x j) l i h = h
 act_ways w (LetGo x) l i h = h
 act_ways w (At e o) l i h = put_keeps (λ k p. Ways p) w.part e (own (w.part e) w.messages o) (every w.mappings w.config.endpoints w.bindings w.messages e (w.part e) o l.1.0 (i.parts e) (h e)) h
 
-acts_ways : (acts : List Act) (w : World) → LegalAll w acts → Inv w → AllWays w → AllWays (after_acts w acts)
+acts_ways : (acts : List Act) (w : World) → LegalAll w acts → Invariant w → AllWays w → AllWays (after_acts w acts)
 acts_ways [] w l i h = h
 acts_ways (a ∷ acts) w l i h = acts_ways acts (act w a) l.1 (act_keeps w a l.0 i) (act_ways w a l.0 i h)
 
-run_ways : (ss : List Step) (w : World) → Inv w → AllWays w → AllWays (run w ss)
+run_ways : (ss : List Step) (w : World) → Invariant w → AllWays w → AllWays (run w ss)
 run_ways [] w i h = h
 run_ways (s ∷ ss) w i h = run_ways ss (next w s) (next_keeps w s i) (acts_ways (decide w s).acts w (step_legal w s i) i h)
 
@@ -93,4 +93,4 @@ opened_ways : (c : Config) → AllWays (opened c)
 opened_ways c e = record { sent = grind arith; out = grind arith; response = grind arith }
 
 pub always_ways : (c : Config) (ss : List Step) (e : ℕ) → Ways ((world_after c ss).part e)
-always_ways c ss = run_ways ss (opened c) (opened_inv c) (opened_ways c)
+always_ways c ss = run_ways ss (opened c) (opened_invariant c) (opened_ways c)

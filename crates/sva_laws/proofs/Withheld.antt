@@ -20,7 +20,7 @@ use Rattle.sva_model.specs.Claims.{IsAt, IsMapped, IsBeforeInvalidating, AreDone
 use Rattle.sva_model.specs.Claims.HasAnswered.{was_done, orders_done, pasid_done, was_reset}
 use Rattle.sva_laws.proofs.Words.{find_passes, all_below-true, all_below_cases}
 use Rattle.sva_laws.proofs.Answered.{all_below-intro}
-use Rattle.sva_laws.proofs.Invariant.{Inv}
+use Rattle.sva_laws.proofs.Invariant.{Invariant}
 use Rattle.sva_laws.proofs.Passed.{and_left, and_right}
 use Rattle.sva_laws.proofs.Unmap.{bound_is, open_is}
 use Rattle.sva_laws.proofs.Runs.{always, next_keeps}
@@ -183,12 +183,12 @@ longer : (before : List Step) (s : Step) (some rest : List Step) → (before ++ 
 longer before s some rest = append_assoc before (s ∷ some) rest
 
 -- what is mapped is the latest mapping of its frame, and present
-mapped_latest : (w : World) (f : ℕ) → Inv w → IsMapped w f → (k : ℕ) × (w.mappings.latest f ≡ Some k) × (w.mappings.state k ≡ Present)
+mapped_latest : (w : World) (f : ℕ) → Invariant w → IsMapped w f → (k : ℕ) × (w.mappings.latest f ≡ Some k) × (w.mappings.state k ≡ Present)
 mapped_latest w f i a =
     let x = i.mapped.at_present a.space a.page a.is_at.mapping a.is_at.maps in
     (a.is_at.mapping, subst (λ z. w.mappings.latest z ≡ Some a.is_at.mapping) a.is_at.leads (i.mapped.latest a.is_at.mapping x.0), x.0)
 
-present_mapped : (w : World) (f k : ℕ) → Inv w → w.mappings.latest f ≡ Some k → w.mappings.state k ≡ Present → IsMapped w f
+present_mapped : (w : World) (f k : ℕ) → Invariant w → w.mappings.latest f ≡ Some k → w.mappings.state k ≡ Present → IsMapped w f
 present_mapped w f k i la g =
     let at = i.mapped.present_at k g in
     record {
@@ -198,7 +198,7 @@ present_mapped w f k i la g =
     }
 
 -- where the latest mapping of a frame is gone and stays the latest, the frame wasn't mapped in between
-not_between : (w u v : World) (f m : ℕ) (owed : ℕ → Owed) → Inv u → Later w u → Later u v → w.mappings.latest f ≡ Some m → u.mappings.state m ≡ Gone owed → v.mappings.latest f ≡ Some m → IsMapped u f → ⊥
+not_between : (w u v : World) (f m : ℕ) (owed : ℕ → Owed) → Invariant u → Later w u → Later u v → w.mappings.latest f ≡ Some m → u.mappings.state m ≡ Gone owed → v.mappings.latest f ≡ Some m → IsMapped u f → ⊥
 not_between w u v f m owed i a b la g lv is =
     let x = mapped_latest u f i is in
     let y = a.latest_grows f m la in
@@ -374,7 +374,7 @@ withheld_after c before step since f t q e b is un lt u bt silent =
     w : World
     w = world_after c before
 
-    i : Inv w
+    i : Invariant w
     i = always c before
 
     m : ℕ

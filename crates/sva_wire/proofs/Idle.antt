@@ -13,8 +13,8 @@ use Rattle.sva_model.specs.Steps.{Reply, replies, next, run}
 use Rattle.sva_model.specs.Claims.{Fits}
 use Rattle.sva_model.specs.Wire.{Wire, RequestWire, UseWire, TakenWire, GroupWire, BusyWire, JobWire, part_wire, wire}
 use Rattle.sva_model.specs.Wire.PlaceWire.{FreeWire}
-use Rattle.sva_laws.proofs.Invariant.{Inv}
-use Rattle.sva_laws.proofs.Runs.{opened_inv, next_keeps}
+use Rattle.sva_laws.proofs.Invariant.{Invariant}
+use Rattle.sva_laws.proofs.Runs.{opened_invariant, next_keeps}
 use Rattle.sva_wire.specs.Host.{IsIdle, IsOfSpaces, AreOfSpaces, RunsByNumbers, idle, first_wire, reply_of, changed, next_of, replies_of, run_of}
 use Rattle.sva_wire.proofs.Lists.{tabulate_one}
 use Rattle.sva_wire.proofs.Numbers.{by_numbers}
@@ -78,7 +78,7 @@ stays_idle w s t h = go s t (reply_of w s)
     go _ t r = absurd t
 
 -- a list of such steps, from a world where nothing is bound
-run_by_numbers : (ss : List Step) (w : World) → Inv w → AreOfSpaces ss → IsIdle (wire w) → (replies w ss ≡ replies_of (wire w) ss) × (wire (run w ss) ≡ run_of (wire w) ss)
+run_by_numbers : (ss : List Step) (w : World) → Invariant w → AreOfSpaces ss → IsIdle (wire w) → (replies w ss ≡ replies_of (wire w) ss) × (wire (run w ss) ≡ run_of (wire w) ss)
 unfolding replies
 run_by_numbers [] w i t h = (refl, refl)
 run_by_numbers (s ∷ ss) w i t h =
@@ -89,5 +89,5 @@ run_by_numbers (s ∷ ss) w i t h =
 pub runs_by_numbers : RunsByNumbers
 runs_by_numbers config steps fits t =
     let first = opened_is config in
-    let r = run_by_numbers steps (opened config) (opened_inv config) t (subst IsIdle (sym first) (first_idle config fits)) in
+    let r = run_by_numbers steps (opened config) (opened_invariant config) t (subst IsIdle (sym first) (first_idle config fits)) in
     (r.0 ∙ ap (λ v. replies_of v steps) first, r.1 ∙ ap (λ v. run_of v steps) first)

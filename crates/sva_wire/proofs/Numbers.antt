@@ -19,7 +19,7 @@ use Rattle.sva_model.specs.Labels
 use Rattle.sva_model.specs.Wire.{PageWire, over, insert_by, is_lower_page, page_wire, pages_wire, spaces_wire, places_wire, wire}
 use Rattle.sva_laws.proofs.Words.{some_the, not_true, all_below-true}
 use Rattle.sva_laws.proofs.Counting.{count_zero}
-use Rattle.sva_laws.proofs.Invariant.{Inv}
+use Rattle.sva_laws.proofs.Invariant.{Invariant}
 use Rattle.sva_laws.proofs.Passed.{Passed}
 use Rattle.sva_laws.proofs.Runs.{always}
 use Rattle.sva_wire.specs.Host.{IsIdle, NumbersAreNames, IsOfSpaces, unless_refused, in_space, pages_of, page_at, is_mapped, frame_or_0, frames_of, without, map_reply, unmap_reply, reply_of, changed, next_of}
@@ -85,7 +85,7 @@ space_answers w =
     reply_checked (refusals w step.Space) (outcome w step.Space)
     ∙ ap (λ n. unless_refused ((nat_le 64 n, refusal.TooManySpaces) ∷ (Labels.lacks w w.spaces 1, refusal.NumbersSpent) ∷ []) (answer.Space (Labels.number w w.spaces))) (sym (spaces_length w))
 
-space_leaves : (w : World) → Inv w → wire (act w NewSpace) ≡ changed (wire w) step.Space (Ok (answer.Space (Labels.number w w.spaces)))
+space_leaves : (w : World) → Invariant w → wire (act w NewSpace) ≡ changed (wire w) step.Space (Ok (answer.Space (Labels.number w w.spaces)))
 space_leaves w i =
     let one : w.config.first + suc w.spaces ≡ w.config.first + w.spaces + 1 = omega arith in
     λ k. record (wire w) { spaces = spaces_more w i.mapped k; next_space = one k }
@@ -98,7 +98,7 @@ map_answers_by q mapped pages low frames =
     (page_range q 1 ∷ (mapped, refusal.Mapped) ∷ (nat_le 1024 pages, refusal.SpaceFull) ∷ (low == frames, refusal.NoFrame) ∷ [])
     (answer.Frame low)
 
-mapped_is : (w : World) → Inv w → (s q : ℕ) → is_mapped (pages_wire w s) q ≡ Labels.is_mapped w s q
+mapped_is : (w : World) → Invariant w → (s q : ℕ) → is_mapped (pages_wire w s) q ≡ Labels.is_mapped w s q
 mapped_is w i s q = ap mapped_there (page_at_is w i.mapped s q) ∙ go (w.mappings.at s q)
   where
     mapped_there : Option PageWire → Bool
@@ -109,7 +109,7 @@ mapped_is w i s q = ap mapped_there (page_at_is w i.mapped s q) ∙ go (w.mappin
     go None = refl
     go (Some m) = refl
 
-map_answers : (w : World) (n q : ℕ) (x : Bool) → Inv w → reply w (step.Map n q x) ≡ reply_of (wire w) (step.Map n q x)
+map_answers : (w : World) (n q : ℕ) (x : Bool) → Invariant w → reply w (step.Map n q x) ≡ reply_of (wire w) (step.Map n q x)
 map_answers w n q x i = reply_checked (refusals w (step.Map n q x)) (outcome w (step.Map n q x)) ∙ go (Labels.is_space w n) refl
   where
     go : (b : Bool) → Labels.is_space w n ≡ b → (if not b then Err refusal.NoSuchSpace else map_answers_by q (Labels.is_mapped w (Labels.name w n) q) (Labels.pages_of w (Labels.name w n)) (Labels.lowest_frame w) w.config.frames) ≡ in_space (pages_of (spaces_wire w) n) (map_reply (places_wire w) q)
@@ -118,7 +118,7 @@ map_answers w n q x i = reply_checked (refusals w (step.Map n q x)) (outcome w (
         sym (λ k. map_answers_by q (mapped_is w i (Labels.name w n) q k) (pages_length w (Labels.name w n) w.mappings.made k) (lowest_is w k) (places_length w k))
         ∙ sym (ap (λ o. in_space o (map_reply (places_wire w) q)) (space_found w n e))
 
-map_leaves : (w : World) (n q : ℕ) (x : Bool) → Inv w → IsIdle (wire w) → Labels.is_space w n ≡ true → wire (act w (Map (Labels.name w n) q (Labels.lowest_frame w) x)) ≡ changed (wire w) (step.Map n q x) (Ok (answer.Frame (Labels.lowest_frame w)))
+map_leaves : (w : World) (n q : ℕ) (x : Bool) → Invariant w → IsIdle (wire w) → Labels.is_space w n ≡ true → wire (act w (Map (Labels.name w n) q (Labels.lowest_frame w) x)) ≡ changed (wire w) (step.Map n q x) (Ok (answer.Frame (Labels.lowest_frame w)))
 map_leaves w n q x i h e =
     let s = space_is w n e in
     let v = act w (Map (Labels.name w n) q (Labels.lowest_frame w) x) in
@@ -140,19 +140,19 @@ unmap_answers_by q count mapped full spent a =
     ∷ [])
     a
 
-not_full : (w : World) (s count : ℕ) → Inv w → IsIdle (wire w) → any_below w.config.endpoints (λ e. submits w s e && is_queue_short (w.part e) (count + 1)) ≡ false
+not_full : (w : World) (s count : ℕ) → Invariant w → IsIdle (wire w) → any_below w.config.endpoints (λ e. submits w s e && is_queue_short (w.part e) (count + 1)) ≡ false
 not_full w s count i h =
     none_below w.config.endpoints (λ e. submits w s e && is_queue_short (w.part e) (count + 1))
     (λ e l. ap (λ b. b && is_queue_short (w.part e) (count + 1)) (none_submits w s e i h))
 
-not_spent : (w : World) (s : ℕ) → Inv w → IsIdle (wire w) → Labels.lacks w w.cookies (count_below w.config.endpoints (submits w s)) ≡ false
+not_spent : (w : World) (s : ℕ) → Invariant w → IsIdle (wire w) → Labels.lacks w w.cookies (count_below w.config.endpoints (submits w s)) ≡ false
 not_spent w s i h = enough (w.config.first + w.cookies) (count_below w.config.endpoints (submits w s)) h.cookies (count_zero w.config.endpoints (submits w s) (λ e l. none_submits w s e i h))
   where
     enough : (a n : ℕ) → a ≤ 2 ^ 63 → n ≡ 0 → nat_lt (2 ^ 63) (a + n) ≡ false
     enough a n l z = grind (arith, nat_tests)
 
 -- the frames of pages that are mapped
-frames_are : (w : World) → Inv w → (s q count : ℕ) → all_below count (λ j. is_mapped (pages_wire w s) (q + j)) ≡ true → frames_at w s q count ≡ frames_of (pages_wire w s) q count
+frames_are : (w : World) → Invariant w → (s q count : ℕ) → all_below count (λ j. is_mapped (pages_wire w s) (q + j)) ≡ true → frames_at w s q count ≡ frames_of (pages_wire w s) q count
 frames_are w i s q count h =
     tabulate_same count (λ j. w.mappings.frame (the (w.mappings.at s (q + j)))) (λ j. frame_or_0 (page_at (pages_wire w s) (q + j)))
     (λ j l. go (w.mappings.at s (q + j)) (sym (mapped_is w i s (q + j)) ∙ all_below-true count (λ j. is_mapped (pages_wire w s) (q + j)) h j l) ∙ sym (ap frame_or_0 (page_at_is w i.mapped s (q + j))))
@@ -161,7 +161,7 @@ frames_are w i s q count h =
     go None t = absurd (cc)
     go (Some m) t = refl
 
-unmap_answers : (w : World) (n q count : ℕ) → Inv w → IsIdle (wire w) → reply w (step.Unmap n q count) ≡ reply_of (wire w) (step.Unmap n q count)
+unmap_answers : (w : World) (n q count : ℕ) → Invariant w → IsIdle (wire w) → reply w (step.Unmap n q count) ≡ reply_of (wire w) (step.Unmap n q count)
 unmap_answers w n q count i h = reply_checked (refusals w (step.Unmap n q count)) (outcome w (step.Unmap n q count)) ∙ go (Labels.is_space w n) refl
   where
     all_mapped : all_below count (λ j. Labels.is_mapped w (Labels.name w n) (q + j)) ≡ all_below count (λ j. is_mapped (pages_wire w (Labels.name w n)) (q + j))
@@ -181,7 +181,7 @@ unmap_answers w n q count i h = reply_checked (refusals w (step.Unmap n q count)
     go false e = sym (ap (λ o. in_space o (unmap_reply q count)) (space_missing w n e))
     go true e = tests ∙ frames ∙ sym (ap (λ o. in_space o (unmap_reply q count)) (space_found w n e))
 
-unmap_leaves : (w : World) (n q count : ℕ) → Inv w → IsIdle (wire w) → Labels.is_space w n ≡ true → all_below count (λ j. Labels.is_mapped w (Labels.name w n) (q + j)) ≡ true → wire (act w (Unmap (Labels.name w n) q count)) ≡ changed (wire w) (step.Unmap n q count) (Ok (unmap_answer (any_below w.config.endpoints (waits w (Labels.name w n))) (frames_at w (Labels.name w n) q count)))
+unmap_leaves : (w : World) (n q count : ℕ) → Invariant w → IsIdle (wire w) → Labels.is_space w n ≡ true → all_below count (λ j. Labels.is_mapped w (Labels.name w n) (q + j)) ≡ true → wire (act w (Unmap (Labels.name w n) q count)) ≡ changed (wire w) (step.Unmap n q count) (Ok (unmap_answer (any_below w.config.endpoints (waits w (Labels.name w n))) (frames_at w (Labels.name w n) q count)))
 unmap_leaves w n q count i h e m =
     let s = space_is w n e in
     let ms = freely_without w.mappings (Labels.name w n) q count in
@@ -197,7 +197,7 @@ unmap_leaves w n q count i h e m =
 abbrev pub IsByNumbers : World → Step → Type 0
 IsByNumbers w s = (reply w s ≡ reply_of (wire w) s) × (wire (next w s) ≡ next_of (wire w) s)
 
-pub by_numbers : (w : World) (s : Step) → Inv w → IsOfSpaces s → IsIdle (wire w) → IsByNumbers w s
+pub by_numbers : (w : World) (s : Step) → Invariant w → IsOfSpaces s → IsIdle (wire w) → IsByNumbers w s
 by_numbers w step.Space i t h = (space_answers w, next_by w step.Space (space_answers w) (λ r. refl) (λ p. space_leaves w i))
 by_numbers w (step.Map n q x) i t h =
     (map_answers w n q x i, next_by w (step.Map n q x) (map_answers w n q x i) (λ r. refl) (λ p. map_leaves w n q x i h (not_true (Labels.is_space w n) p.0)))

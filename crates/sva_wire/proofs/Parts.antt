@@ -12,7 +12,7 @@ use Rattle.sva_model.specs.Acts.Act.{Unmap}
 use Rattle.sva_model.specs.Wire.{over, chain, sorted_by, insert_by, is_before, binding_wire, translation_wire, cache_wire, use_wire, taken_by, part_wire, spaces_wire, places_wire, busy_wire, wire}
 use Rattle.sva_laws.proofs.Words.{lowest_cases}
 use Rattle.sva_laws.proofs.Counting.{count_zero}
-use Rattle.sva_laws.proofs.Invariant.{Inv}
+use Rattle.sva_laws.proofs.Invariant.{Invariant}
 use Rattle.sva_laws.proofs.Passed.{unreleased_bound}
 use Rattle.sva_wire.specs.Host.{IsIdle, idle}
 use Rattle.sva_wire.proofs.Lists.{tabulate_same, tabulate_all, tabulate_length, select_empty, map_empty, none_below}
@@ -99,7 +99,7 @@ find_none n p h = go (lowest_cases n p)
 and_false : (a b : Bool) → a ≡ false → (a && b) ≡ false
 and_false a b h = grind arith
 
-pub none_unreleased : (w : World) → Inv w → IsIdle (wire w) → (e b : ℕ) → b < w.bindings → is_unreleased ((w.part e).stage b) ≡ false
+pub none_unreleased : (w : World) → Invariant w → IsIdle (wire w) → (e b : ℕ) → b < w.bindings → is_unreleased ((w.part e).stage b) ≡ false
 none_unreleased w i h e b l = go (is_unreleased ((w.part e).stage b)) refl
   where
     go : (x : Bool) → is_unreleased ((w.part e).stage b) ≡ x → x ≡ false
@@ -111,7 +111,7 @@ none_unreleased w i h e b l = go (is_unreleased ((w.part e).stage b)) refl
         in
         sym c ∙ select_empty w.bindings (λ d. is_unreleased ((w.part e).stage d)) empty b l
 
-pub none_bound : (w : World) (e s : ℕ) → Inv w → IsIdle (wire w) → bound w e s ≡ None
+pub none_bound : (w : World) (e s : ℕ) → Invariant w → IsIdle (wire w) → bound w e s ≡ None
 none_bound w e s i h =
     find_none w.bindings (λ b. is_unreleased ((w.part e).stage b) && (w.part e).space b == s)
     (λ b l. and_false (is_unreleased ((w.part e).stage b)) ((w.part e).space b == s) (none_unreleased w i h e b l))
@@ -129,7 +129,7 @@ unmapped_by w s q count bound_at =
 abbrev pub freely_without : Mappings → (space page count : ℕ) → Mappings
 freely_without ms s q count = without_pages ms s (in_range q count) (λ e. Nothing)
 
-pub unmap_is : (w : World) (s q count : ℕ) → Inv w → IsIdle (wire w) → act w (Unmap s q count) ≡ with_mappings w (freely_without w.mappings s q count)
+pub unmap_is : (w : World) (s q count : ℕ) → Invariant w → IsIdle (wire w) → act w (Unmap s q count) ≡ with_mappings w (freely_without w.mappings s q count)
 unmap_is w s q count i h = ap (unmapped_by w s q count) (fun_ext (λ e. none_bound w e s i h)) ∙ none_asked
   where
     none_counted : w.cookies + count_below w.config.endpoints (λ e. false) ≡ w.cookies
@@ -140,8 +140,8 @@ unmap_is w s q count i h = ap (unmapped_by w s q count) (fun_ext (λ e. none_bou
     none_asked : unmapped_by w s q count (λ e. None) ≡ with_mappings w (freely_without w.mappings s q count)
     none_asked = ap (λ n. record (with_mappings w (freely_without w.mappings s q count)) { cookies = n }) none_counted
 
-pub none_submits : (w : World) (s e : ℕ) → Inv w → IsIdle (wire w) → submits w s e ≡ false
+pub none_submits : (w : World) (s e : ℕ) → Invariant w → IsIdle (wire w) → submits w s e ≡ false
 none_submits w s e i h = ap (submits_at (w.part e)) (none_bound w e s i h)
 
-pub none_waits : (w : World) (s : ℕ) → Inv w → IsIdle (wire w) → any_below w.config.endpoints (waits w s) ≡ false
+pub none_waits : (w : World) (s : ℕ) → Invariant w → IsIdle (wire w) → any_below w.config.endpoints (waits w s) ≡ false
 none_waits w s i h = none_below w.config.endpoints (waits w s) (λ e l. ap (waits_at (w.part e)) (none_bound w e s i h))

@@ -12,36 +12,34 @@ use Rattle.std.proofs.lemmas.List.Sums.{sum_by-set}
 use Rattle.std.proofs.lemmas.List.FromFn.{length-enumerate_from}
 use Rattle.sva_msg.specs.declared.messages.Kind.{Kind}
 use Rattle.sva_msg.specs.declared.messages.Kind.TheVariants.{Start, Stop, Reset, Completion, Invalidate, Response}
-use Rattle.sva_endpoint.specs.declared.pasid_states.PasidState.{PasidState}
-use Rattle.sva_endpoint.specs.declared.pasid_states.PasidState.TheVariants.{Off, On, Stopping}
-use Rattle.sva_endpoint.specs.declared.coverage.Invalidation.{Invalidation}
-use Rattle.sva_endpoint.specs.declared.cached.Translation.{Translation}
-use Rattle.sva_endpoint.specs.declared.cached.Entry.{Entry}
-use Rattle.sva_endpoint.specs.declared.request_tags.RequestTag.{RequestTag}
-use Rattle.sva_endpoint.specs.declared.request_tags.RequestTag.TheVariants.{Free, Out, Doomed}
-use Rattle.sva_endpoint.specs.declared.use_slots.UseSlot.{UseSlot}
-use Rattle.sva_endpoint.specs.declared.use_slots.UseSlot.TheVariants.{Free as FreeSlot, Running, Dead}
-use Rattle.sva_endpoint.specs.declared.taken_table.Taken.{Taken}
-use Rattle.sva_endpoint.specs.declared.group_table.GroupPlace.{GroupPlace}
-use Rattle.sva_endpoint.specs.declared.group_table.GroupPlace.TheVariants.{Free as NoGroup, Unfinished, Out as GroupOut, Stale}
+use Rattle.sva_tables.specs.declared.pasid_states.PasidState.{PasidState}
+use Rattle.sva_tables.specs.declared.pasid_states.PasidState.TheVariants.{Off, On, Stopping}
+use Rattle.sva_tables.specs.declared.coverage.Invalidation.{Invalidation}
+use Rattle.sva_tables.specs.declared.cached.Translation.{Translation}
+use Rattle.sva_tables.specs.declared.request_tags.RequestTag.{RequestTag}
+use Rattle.sva_tables.specs.declared.request_tags.RequestTag.TheVariants.{Free, Out, Doomed}
+use Rattle.sva_tables.specs.declared.use_slots.UseSlot.{UseSlot}
+use Rattle.sva_tables.specs.declared.use_slots.UseSlot.TheVariants.{Free as FreeSlot, Running, Dead}
+use Rattle.sva_tables.specs.declared.taken_table.Taken.{Taken}
+use Rattle.sva_tables.specs.declared.group_table.GroupPlace.{GroupPlace}
+use Rattle.sva_tables.specs.declared.group_table.GroupPlace.TheVariants.{Free as NoGroup, Unfinished, Out as GroupOut, Stale}
 use Rattle.sva_endpoint.specs.declared.yeses.Fault.{Fault}
-use Rattle.sva_endpoint.specs.Coverage.{covers}
-use Rattle.sva_endpoint.specs.Cache.{Key, Translations, key_cmp, key_cmp_total, has_room_for}
-use Rattle.sva_endpoint.specs.Entries.{key_of, map_of, found_in}
-use Rattle.sva_endpoint.specs.PasidStates.{state_of}
-use Rattle.sva_endpoint.specs.RequestTags.{request_at, doomed_by}
-use Rattle.sva_endpoint.specs.UseSlots.{slot_at, is_free as is_free_slot, runs_covered, cut_off}
-use Rattle.sva_endpoint.specs.Vectors.{is_named}
-use Rattle.sva_endpoint.specs.Taken.{without_note}
-use Rattle.sva_endpoint.specs.Groups.{is_free, group_at, group_of, with_request, requests_of, outstanding, stale_of, HaveRequests}
+use Rattle.sva_tables.specs.Coverage.{covers}
+use Rattle.sva_tables.specs.Cache.{Key, Translations, key_cmp, key_cmp_total, has_room_for}
+use Rattle.sva_tables.specs.PasidStates.{state_of}
+use Rattle.sva_tables.specs.RequestTags.{request_at, doomed_by}
+use Rattle.sva_tables.specs.UseSlots.{slot_at, is_free as is_free_slot, runs_covered, cut_off}
+use Rattle.sva_tables.specs.Vectors.{is_named}
+use Rattle.sva_tables.specs.Taken.{without_note}
+use Rattle.sva_tables.specs.Groups.{is_free, group_at, group_of, with_request, requests_of, outstanding, stale_of, HaveRequests}
 use Rattle.sva_endpoint.specs.Tables.{Tables, fresh}
 use Rattle.sva_endpoint.specs.Steps.{lowest_slot, refusals_of_use, refusals_of_fault, index_for, group_after}
 use Rattle.sva_endpoint.specs.Deliveries.{after_receive, cache_after}
 use Rattle.sva_endpoint.specs.Calls.{Call, Ask, BeginUse, EndUse, Evict, SendFault, Finish, Quit, Receive, is_permitted, after, run, ArePermitted}
 use Rattle.sva_endpoint.specs.Laws.{NotesRun, IsSound, AlwaysSound}
-use Rattle.sva_endpoint.proofs.CacheFacts.{key_cmp-IsAntisymmetric, get-map_of, map_of-filter}
-use Rattle.sva_endpoint.proofs.GroupFacts.{outstanding-stale_of, HaveRequests-replicate, HaveRequests-set, HaveRequests-at, HaveRequests-stale_of, requests_of-group_of, requests_of-with_request, index_with_credit}
-use Rattle.sva_endpoint.proofs.TakenFacts.{get_or-without_named}
+use Rattle.sva_tables.proofs.CacheFacts.{len-retain_keys-le}
+use Rattle.sva_tables.proofs.GroupFacts.{outstanding-stale_of, HaveRequests-replicate, HaveRequests-set, HaveRequests-at, HaveRequests-stale_of, requests_of-group_of, requests_of-with_request, index_with_credit}
+use Rattle.sva_tables.proofs.TakenFacts.{get_or-without_named}
 use Rattle.sva_endpoint.proofs.Permitted.{are_clear, lowest}
 use Rattle.sva_endpoint.proofs.TagLaws.{clash}
 
@@ -126,49 +124,6 @@ no_zero_after s (Receive kind) h = no_zero_received s kind h
 no_zero_after s _ h = h
 
 -- ---- at most 64 translations are cached
-
-as_entry : Key × Translation → Entry
-as_entry e = record { pasid = e.0.0; page = e.0.1; translation = e.1 }
-
-found_in-as_entry : (es : List (Key × Translation)) (key : Key) → found_in key (map as_entry es) ≡ finite.find key_cmp key es
-unfolding as_entry
-found_in-as_entry [] key = refl
-found_in-as_entry (e ∷ es) key = ap (cond (eq_by_cmp key_cmp key e.0) (Some e.1)) (found_in-as_entry es key)
-
-map_of-entries : (cache : Translations) → map_of (map as_entry (finite.entries cache)) ≡ cache
-map_of-entries cache = same_map key_cmp_total key_cmp-IsAntisymmetric _ _ (λ key.
-    get-map_of (map as_entry (finite.entries cache)) key ∙ found_in-as_entry (finite.entries cache) key ∙ sym (get-entries cache key))
-
-one_more : (b : Bool) (n m : ℕ) → n ≤ m → cond b n (n + 1) ≤ m + 1
-one_more true n m h = let bound : n ≤ m + 1 = omega arith in bound
-one_more false n m h = let bound : n + 1 ≤ m + 1 = omega arith in bound
-
-len-map_of-le : (entries : List Entry) → finite.len (map_of entries) ≤ length entries
-len-map_of-le [] = let none = len-empty key_cmp Translation in omega arith
-len-map_of-le (entry ∷ entries) =
-    let more = one_more (finite.contains_key (map_of entries) (key_of entry)) (finite.len (map_of entries)) (length entries) (len-map_of-le entries) in
-    let count = len-insert key_cmp_total (map_of entries) (key_of entry) entry.translation in
-    let bound : finite.len (map_of (entry ∷ entries)) ≤ length entries + 1 = subst (λ (n : ℕ). n ≤ length entries + 1) (sym count) more in
-    omega arith
-
-fewer : {X : Type 0} (b : Bool) (x : X) (xs : List X) (n : ℕ) → length xs ≤ n → length (cond b (x ∷ xs) xs) ≤ suc n
-fewer true x xs n h = omega arith
-fewer false x xs n h = omega arith
-
-length-filter-le : {X : Type 0} (p : X → Bool) (xs : List X) → length (filter p xs) ≤ length xs
-length-filter-le p [] = omega arith
-length-filter-le p (x ∷ xs) = fewer (p x) x (filter p xs) (length xs) (length-filter-le p xs)
-
-len-retain_keys-le : (cache : Translations) (p : Key → Bool) → finite.len (finite.retain_keys cache p) ≤ finite.len cache
-len-retain_keys-le cache p =
-    let es : List Entry = map as_entry (finite.entries cache) in
-    let same : finite.retain_keys cache p ≡ map_of (filter (λ entry. p (key_of entry)) es) =
-    ap (λ m. finite.retain_keys m p) (sym (map_of-entries cache)) ∙ sym (map_of-filter p es) in
-    let count : finite.len (finite.retain_keys cache p) ≡ finite.len (map_of (filter (λ entry. p (key_of entry)) es)) = ap finite.len same in
-    let few = len-map_of-le (filter (λ entry. p (key_of entry)) es) in
-    let kept = length-filter-le (λ (entry : Entry). p (key_of entry)) es in
-    let all : length es ≡ finite.len cache = length-map (finite.entries cache) as_entry ∙ sym (len-entries cache) in
-    omega arith
 
 one_less : (b : Bool) (n : ℕ) → n ≤ 64 → cond b (n - 1) n ≤ 64
 one_less true n h = let bound : n - 1 ≤ 64 = omega arith in bound

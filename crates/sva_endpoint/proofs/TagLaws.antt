@@ -5,11 +5,11 @@ use Rattle.std.proofs.Math.ListN.{get_or-map}
 use Rattle.std.proofs.lemmas.Bool.{eqb-false}
 use Rattle.sva_msg.specs.declared.messages.Kind.{Kind}
 use Rattle.sva_msg.specs.declared.messages.Kind.TheVariants.{Reset, Completion, Invalidate}
-use Rattle.sva_endpoint.specs.declared.coverage.Invalidation.{Invalidation}
-use Rattle.sva_endpoint.specs.declared.request_tags.RequestTag.{RequestTag}
-use Rattle.sva_endpoint.specs.declared.request_tags.RequestTag.TheVariants.{Free, Out, Doomed}
-use Rattle.sva_endpoint.specs.Coverage.{covers}
-use Rattle.sva_endpoint.specs.RequestTags.{request_at, is_free, doomed_by}
+use Rattle.sva_tables.specs.declared.coverage.Invalidation.{Invalidation}
+use Rattle.sva_tables.specs.declared.request_tags.RequestTag.{RequestTag}
+use Rattle.sva_tables.specs.declared.request_tags.RequestTag.TheVariants.{Free, Out, Doomed}
+use Rattle.sva_tables.specs.Coverage.{covers}
+use Rattle.sva_tables.specs.RequestTags.{request_at, is_free, doomed_by}
 use Rattle.sva_endpoint.specs.Tables.{Tables}
 use Rattle.sva_endpoint.specs.Steps.{lowest_tag, refusals_of_ask}
 use Rattle.sva_endpoint.specs.Deliveries.{after_receive, answer_to_completion, cache_after}

@@ -5,19 +5,19 @@ use Rattle.std.specs.FinMap.{len}
 use Rattle.sva_step.specs.declared.answers.Answer.TheVariants.{Dropped}
 use Rattle.sva_msg.specs.declared.messages.Kind.{Kind}
 use Rattle.sva_msg.specs.declared.messages.Kind.TheVariants.{Reset, Completion, Invalidate}
-use Rattle.sva_endpoint.specs.declared.pasid_states.PasidState.TheVariants.{Off}
-use Rattle.sva_endpoint.specs.declared.coverage.Invalidation.{Invalidation}
-use Rattle.sva_endpoint.specs.declared.request_tags.RequestTag.{RequestTag}
-use Rattle.sva_endpoint.specs.declared.request_tags.RequestTag.TheVariants.{Free, Out, Doomed}
-use Rattle.sva_endpoint.specs.declared.use_slots.Use.{Use}
-use Rattle.sva_endpoint.specs.declared.use_slots.UseSlot.TheVariants.{Running}
-use Rattle.sva_endpoint.specs.declared.taken_table.Taken.{Taken}
-use Rattle.sva_endpoint.specs.Coverage.{covers}
-use Rattle.sva_endpoint.specs.PasidStates.{state_of}
-use Rattle.sva_endpoint.specs.RequestTags.{request_at}
-use Rattle.sva_endpoint.specs.UseSlots.{slot_at, runs_covered}
-use Rattle.sva_endpoint.specs.Vectors.{is_named}
-use Rattle.sva_endpoint.specs.Groups.{is_free, outstanding, HaveRequests}
+use Rattle.sva_tables.specs.declared.pasid_states.PasidState.TheVariants.{Off}
+use Rattle.sva_tables.specs.declared.coverage.Invalidation.{Invalidation}
+use Rattle.sva_tables.specs.declared.request_tags.RequestTag.{RequestTag}
+use Rattle.sva_tables.specs.declared.request_tags.RequestTag.TheVariants.{Free, Out, Doomed}
+use Rattle.sva_tables.specs.declared.use_slots.Use.{Use}
+use Rattle.sva_tables.specs.declared.use_slots.UseSlot.TheVariants.{Running}
+use Rattle.sva_tables.specs.declared.taken_table.Taken.{Taken}
+use Rattle.sva_tables.specs.Coverage.{covers}
+use Rattle.sva_tables.specs.PasidStates.{state_of}
+use Rattle.sva_tables.specs.RequestTags.{request_at}
+use Rattle.sva_tables.specs.UseSlots.{slot_at, runs_covered}
+use Rattle.sva_tables.specs.Vectors.{is_named}
+use Rattle.sva_tables.specs.Groups.{is_free, outstanding, HaveRequests}
 use Rattle.sva_endpoint.specs.Tables.{Tables, fresh}
 use Rattle.sva_endpoint.specs.Steps.{finishing}
 use Rattle.sva_endpoint.specs.Deliveries.{answer_to}

@@ -1,14 +1,5 @@
-pub mod Cache
 pub mod Calls
-pub mod Coverage
 pub mod Deliveries
-pub mod Entries
-pub mod Groups
 pub mod Laws
-pub mod PasidStates
-pub mod RequestTags
 pub mod Steps
 pub mod Tables
-pub mod Taken
-pub mod UseSlots
-pub mod Vectors

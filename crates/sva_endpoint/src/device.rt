@@ -2,21 +2,15 @@ ghost use Rattle.std.specs.Prelude.{◌≡◌, Ok, IsOk};
 ghost use Rattle.sva_endpoint.specs.Tables.{fresh};
 ghost use Rattle.sva_endpoint.specs.Steps.{asking, after_ask, lowest_tag, using, after_begin_use, ending, after_end_use, evicting, after_evict, may_send, faulting, after_fault, index_for, finishing, after_finish, quitting, after_quit};
 ghost use Rattle.sva_endpoint.specs.Deliveries.{answer_to, after_receive, answer_to_completion, after_completion, after_invalidate, answer_to_response, after_response};
-ghost use Rattle.sva_endpoint.specs.RequestTags.{request_at};
-ghost use Rattle.sva_endpoint.specs.Groups.{group_at};
+ghost use Rattle.sva_tables.specs.RequestTags.{request_at};
+ghost use Rattle.sva_tables.specs.Groups.{group_at};
 
-use crate::cached::{Cache, Translation};
-use crate::coverage::Invalidation;
-use crate::group_table::{GroupPlace, GroupTable};
-use crate::pasid_states::{PasidState, PasidStates};
-use crate::request_tags::{RequestTag, RequestTags};
-use crate::taken_table::{Taken, TakenTable};
-use crate::use_slots::{Use, UseSlot, UseSlots};
 use crate::yeses::{Asking, Fault, Faulting, Finishing, Received, Using};
 use std::marker::Model;
 use sva_itags::Count;
 use sva_msg::{Code, CountField, Kind, Message};
 use sva_step::{Answer, Refusal};
+use sva_tables::{Cache, GroupPlace, GroupTable, Invalidation, PasidState, PasidStates, RequestTag, RequestTags, Taken, TakenTable, Translation, Use, UseSlot, UseSlots};
 
 #[cfg(test)]
 mod tests;
@@ -42,7 +36,7 @@ pub struct Endpoint {
 
 impl Model for Endpoint {
     ghost use Rattle.std.specs.Coded.{codes};
-    ghost use Rattle.sva_endpoint.specs.Cache.{translations_code};
+    ghost use Rattle.sva_tables.specs.Cache.{translations_code};
     ghost use Rattle.sva_endpoint.specs.Tables.{Tables};
 
     ghost Value = { Tables };

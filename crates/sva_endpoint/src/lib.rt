@@ -1,26 +1,12 @@
-// What an endpoint with address translation services, page requests and PASIDs does: its cached translations, the
-// translation requests that are out, its uses, the invalidations that it has taken and its groups of page requests.
+// What an endpoint with address translation services, page requests and PASIDs does: which step it may make, what each
+// step and each message from the host leaves in its tables, and what holds of them over every list of permitted calls.
 #![tactic(auto)]
 
-mod cached;
-mod coverage;
 mod device;
-mod group_table;
-mod pasid_states;
 mod promises;
-mod request_tags;
-mod taken_table;
-mod use_slots;
-mod vectors;
 mod yeses;
 
-pub use cached::Translation;
-pub use coverage::Invalidation;
 pub use device::Endpoint;
-pub use group_table::GroupPlace;
-pub use pasid_states::PasidState;
 pub use promises::laws;
-pub use request_tags::RequestTag;
-pub use taken_table::Taken;
-pub use use_slots::{Use, UseSlot};
+pub use sva_tables::{GroupPlace, Invalidation, PasidState, RequestTag, Taken, Translation, Use, UseSlot};
 pub use yeses::{Asking, Fault, Faulting, Finishing, Received, Using};

@@ -1,0 +1,4 @@
+pub mod Places
+pub mod GroupFacts
+pub mod CacheFacts
+pub mod TakenFacts

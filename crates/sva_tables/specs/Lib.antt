@@ -1,0 +1,9 @@
+pub mod Cache
+pub mod Coverage
+pub mod Entries
+pub mod Groups
+pub mod PasidStates
+pub mod RequestTags
+pub mod Taken
+pub mod UseSlots
+pub mod Vectors

@@ -1,0 +1,108 @@
+ghost use Rattle.std.specs.Prelude.{◌≡◌, false};
+
+use arrayvec::ArrayVec;
+use std::marker::Model;
+
+/// What an endpoint does under a PASID. How a device is told to start or stop is its own affair: here by the messages
+/// Start and Stop.
+#[derive(Clone, Copy, Debug, PartialEq, Eq)]
+pub enum PasidState {
+    /// Nothing: no Start came since the PASID was last off.
+    Off,
+    /// A Start came: it asks, uses and sends page requests.
+    On,
+    /// A Stop came: it ends what it began, and begins nothing.
+    Stopping,
+}
+
+impl PasidState {
+    ghost use Rattle.sva_tables.specs.PasidStates.{is_off, is_on, is_stopping};
+
+    /// Is nothing to be done under the PASID?
+    pub fn is_off(self) -> bool
+        ensures { result ≡ is_off self }
+    {
+        matches!(self, PasidState::Off)
+    }
+
+    /// May the endpoint begin something under the PASID?
+    pub fn is_on(self) -> bool
+        ensures { result ≡ is_on self }
+    {
+        matches!(self, PasidState::On)
+    }
+
+    /// May the endpoint only end what it began under the PASID?
+    pub fn is_stopping(self) -> bool
+        ensures { result ≡ is_stopping self }
+    {
+        matches!(self, PasidState::Stopping)
+    }
+}
+
+/// The states of the PASIDs 1 to 32 of an endpoint. Every other PASID is off.
+#[derive(Drop)]
+pub struct PasidStates {
+    states: ArrayVec<PasidState, 33>,
+}
+
+impl Model for PasidStates {
+    ghost use Rattle.std.specs.Prelude.{◌≡◌, List, length};
+    ghost use Rattle.sva_tables.specs.declared.pasid_states.PasidState.{PasidState};
+
+    ghost Value = { List PasidState };
+
+    ghost view = { λ table. table.states.items };
+
+    ghost invariant = { λ table. length table.states.items ≡ 33 };
+}
+
+impl PasidStates {
+    ghost use Rattle.sva_tables.specs.PasidStates.{all_off, state_of, with_state, is_off};
+
+    /// Every PASID is off.
+    pub fn new() -> Self
+        ensures { result ≡ all_off }
+    {
+        PasidStates {
+            states: ArrayVec::from([PasidState::Off; 33]),
+        }
+    }
+
+    /// The state of a PASID; that of one outside 1 to 32 is `Off`.
+    #[tactic(auto, using(crate::proofs::Places::past_the_end))]
+    pub fn state_of(&self, pasid: u64) -> PasidState
+        ensures { result ≡ state_of self.now pasid }
+    {
+        if pasid < self.states.len() as u64 {
+            self.states[pasid as usize]
+        } else {
+            PasidState::Off
+        }
+    }
+
+    /// The PASID as messages carry it.
+    #[tactic(auto, using(crate::proofs::Places::past_the_end))]
+    pub fn label(&self, pasid: u64) -> u32
+        requires { is_off (state_of self.now pasid) ≡ false }
+        ensures { result ≡ pasid }
+    {
+        let states = &self.states;
+        if pasid < states.len() as u64 {
+            pasid as u32
+        } else {
+            unreachable!()
+        }
+    }
+
+    /// Moves a PASID to a state; one outside 1 to 32 stays off.
+    #[tactic(auto, using(crate::proofs::Places::past_the_end))]
+    pub fn set(&mut self, pasid: u32, state: PasidState)
+        ensures { self.new ≡ with_state self.old pasid state }
+    {
+        let place = pasid as usize;
+        if 0 < place && place < self.states.len() {
+            self.states[place] = state;
+        }
+    }
+}

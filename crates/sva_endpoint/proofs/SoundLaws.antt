@@ -1,10 +1,9 @@
 -- The limits of an endpoint hold after every list of permitted calls.
-use Rattle.std.proofs.Common.{◌≡◌, ◌≢◌, ℕ, zero, suc, ◌+◌, ◌-◌, ◌<◌, ◌≤◌, List, [], ◌∷◌, length, map, set, replicate, ◌⊎◌, get_or, filter, Bool, true, false, cond, not, subst, refl, ap, sym, ◌∙◌, get_or-set_other, ◌||◌, Option, Some, None, inl, inr, arith}
+use Rattle.std.proofs.Common.{◌≡◌, ◌≢◌, ℕ, zero, suc, ◌+◌, ◌-◌, ◌<◌, ◌≤◌, List, [], ◌∷◌, length, map, set, replicate, ◌⊎◌, get_or, Bool, true, false, cond, not, subst, refl, ap, sym, ◌∙◌, get_or-set_other, ◌||◌, Option, Some, None, inl, inr, arith}
 use Rattle.std.specs.Prelude.{nat_lt, position, IsSome}
 use Rattle.std.specs.List.{enumerate_from}
-use Rattle.std.specs.Ordering.{eq_by_cmp}
 use Rattle.std.specs.FinMap as finite
-use Rattle.std.specs.FinMap.{len-insert, len-remove, len-empty, len-entries, get-entries, same_map}
+use Rattle.std.specs.FinMap.{len-insert, len-remove, len-empty}
 use Rattle.std.proofs.Math.ListN.{get_or-map, length-set}
 use Rattle.std.proofs.lemmas.Bool.{cases_lt, ltb-true}
 use Rattle.std.proofs.lemmas.List.{set_past, length-map}

@@ -10,7 +10,10 @@ use std::marker::Model;
 use sva_itags::Count;
 use sva_msg::{Code, CountField, Kind, Message};
 use sva_step::{Answer, Refusal};
-use sva_tables::{Cache, GroupPlace, GroupTable, Invalidation, PasidState, PasidStates, RequestTag, RequestTags, Taken, TakenTable, Translation, Use, UseSlot, UseSlots};
+use sva_tables::{
+    Cache, GroupPlace, GroupTable, Invalidation, PasidState, PasidStates, RequestTag, RequestTags,
+    Taken, TakenTable, Translation, Use, UseSlot, UseSlots,
+};
 
 #[cfg(test)]
 mod tests;

@@ -8,5 +8,7 @@ mod yeses;
 
 pub use device::Endpoint;
 pub use promises::laws;
-pub use sva_tables::{GroupPlace, Invalidation, PasidState, RequestTag, Taken, Translation, Use, UseSlot};
+pub use sva_tables::{
+    GroupPlace, Invalidation, PasidState, RequestTag, Taken, Translation, Use, UseSlot,
+};
 pub use yeses::{Asking, Fault, Faulting, Finishing, Received, Using};

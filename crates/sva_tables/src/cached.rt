@@ -85,7 +85,7 @@ impl Cache {
         }
     }
 
-    /// The cached translation of this page of this PASID.
+    /// The cached translation of this page of this PASID; none where none is cached.
     pub fn get(&self, pasid: u64, page: u64) -> Option<Translation>
         ensures { result ≡ get self.now (pasid, page) }
     {
@@ -100,7 +100,7 @@ impl Cache {
         self.get(pasid, page).is_some() || self.entries.len() < 64
     }
 
-    /// Keeps a translation, in place of one of the same page of the same PASID.
+    /// Keeps a translation, in place of one of the same page of the same PASID. There has to be room for it.
     pub fn insert(&mut self, pasid: u32, page: u64, translation: Translation)
         requires { has_room_for self.old (pasid, page) ≡ true }
         ensures { self.new ≡ insert self.old (pasid, page) translation }
@@ -114,7 +114,7 @@ impl Cache {
         });
     }
 
-    /// Lets go of the translation of this page of this PASID.
+    /// Lets go of the translation of this page of this PASID, where one is cached.
     pub fn remove(&mut self, pasid: u64, page: u64)
         ensures { self.new ≡ remove self.old (pasid, page) }
     {

@@ -127,7 +127,7 @@ impl GroupTable {
         self.outstanding
     }
 
-    /// The lowest index that no group has. There is one where fewer than 32 requests are outstanding, since each group
+    /// The lowest index that no group has, 0 to 31. There is one where fewer than 32 requests are outstanding, since each group
     /// has one at least.
     pub fn lowest_free(&self) -> u8
         requires { outstanding_of self.now < 32 }
@@ -168,7 +168,8 @@ impl GroupTable {
         self.places.iter().any(|place| place.is_unfinished(pasid))
     }
 
-    /// Begins a group with its first request.
+    /// Begins a group of this PASID under the lowest free index with its first request, which may be its last. Fewer than
+    /// 32 requests have to be outstanding.
     pub fn begin(&mut self, index: u8, pasid: u32, last: bool)
         requires lowest { position is_free self.old ≡ Some index }
         requires within { index < 32 }
@@ -179,7 +180,8 @@ impl GroupTable {
         self.outstanding += 1;
     }
 
-    /// Adds a request to an unfinished group.
+    /// Adds a request, which may be the last, to the group of this index, 0 to 31, where it is unfinished. Fewer than 32
+    /// requests have to be outstanding.
     pub fn extend(&mut self, index: u8, last: bool)
         requires within { index < 32 }
         requires credit { outstanding_of self.old < 32 }
@@ -206,7 +208,7 @@ impl GroupTable {
         was
     }
 
-    /// Makes the groups of this PASID that are out stale.
+    /// Makes the groups of this PASID that are out stale: they keep their indexes and their requests.
     pub fn make_stale(&mut self, pasid: u32)
         ensures { self.new ≡ map (stale_of pasid) self.old }
     {

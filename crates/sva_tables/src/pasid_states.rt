@@ -81,7 +81,7 @@ impl PasidStates {
         }
     }
 
-    /// The PASID as messages carry it.
+    /// The PASID, which has to be on or stopping, as messages carry it.
     #[tactic(auto, using(crate::proofs::Places::past_the_end))]
     pub fn label(&self, pasid: u64) -> u32
         requires { is_off (state_of self.now pasid) ≡ false }

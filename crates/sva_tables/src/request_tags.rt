@@ -47,7 +47,7 @@ impl RequestTag {
     }
 }
 
-/// The 32 tags of translation requests of an endpoint.
+/// The 32 tags of translation requests of an endpoint (PCI Express Base 5.0, section 10.2).
 #[derive(Drop)]
 pub struct RequestTags {
     places: ArrayVec<RequestTag, 32>,
@@ -76,7 +76,7 @@ impl RequestTags {
         }
     }
 
-    /// The lowest tag that no request has.
+    /// The lowest tag that no request has, 0 to 31; none where each has one.
     pub fn lowest_free(&self) -> Option<u8>
         ensures found { result ≡ position is_free self.now }
         ensures within { IfSome result (λ tag. tag < 32) }
@@ -94,7 +94,7 @@ impl RequestTags {
         self.places.iter().position(|place| place.is_free())
     }
 
-    /// Sends a request out under this tag.
+    /// Sends a request for this page out under this tag, 0 to 31.
     pub fn take(&mut self, tag: u8, pasid: u32, page: u64)
         requires { tag < 32 }
         ensures { self.new ≡ slice_set self.old tag (RequestTag.Out pasid page) }
@@ -102,7 +102,7 @@ impl RequestTags {
         self.places[tag as usize] = RequestTag::Out { pasid, page };
     }
 
-    /// Frees the tag and gives what it was.
+    /// Frees the tag and gives what it was; one from 32 on is free and stays so.
     #[tactic(auto, using(crate::proofs::Places::past_the_end))]
     pub fn free(&mut self, tag: u8) -> RequestTag
         ensures was { result ≡ request_at self.old tag }
@@ -124,7 +124,7 @@ impl RequestTags {
         self.places.iter().any(|place| place.asks_under(pasid))
     }
 
-    /// Dooms each request that is out and covered.
+    /// Dooms each request that is out and that the invalidation covers: it keeps its tag (this project's own rule).
     pub fn doom(&mut self, invalidation: &Invalidation)
         ensures { self.new ≡ map (doomed_by invalidation.now) self.old }
     {

@@ -91,7 +91,8 @@ impl TakenTable {
         }
     }
 
-    /// Tells whether each ITag that the vector names has an invalidation.
+    /// Tells whether each ITag that the vector names has an invalidation (ITag Vector of an Invalidate Completion, PCI
+    /// Express Base 5.0, section 10.3.2).
     pub fn are_pending(&self, vector: u32) -> bool
         ensures { result ≡ are_pending vector self.now }
     {
@@ -101,7 +102,7 @@ impl TakenTable {
             .all(|(itag, place)| !is_named(vector, itag) || place.is_some())
     }
 
-    /// Tells whether one of those that the vector names waits for a use that it noted.
+    /// Tells whether one of those that the vector names waits for a use that it noted (this project's own rule).
     pub fn is_one_waiting(&self, vector: u32) -> bool
         ensures { result ≡ is_one_waiting vector self.now }
     {
@@ -111,7 +112,7 @@ impl TakenTable {
         })
     }
 
-    /// Completes those that the vector names.
+    /// Completes those that the vector names: nothing is taken under their ITags any more.
     pub fn complete(&mut self, vector: u32)
         ensures { self.new ≡ without_named vector self.old }
     {

@@ -108,7 +108,7 @@ impl UseSlots {
         }
     }
 
-    /// The lowest slot that no use has.
+    /// The lowest slot that no use has, 0 to 15; none where each has one.
     pub fn lowest_free(&self) -> Option<u8>
         ensures found { result ≡ position is_free self.now }
         ensures within { IfSome result (λ slot. slot < 16) }
@@ -126,7 +126,7 @@ impl UseSlots {
         self.slots.iter().position(|slot| slot.is_free())
     }
 
-    /// Lets a use run in this slot.
+    /// Lets a use run in this slot, 0 to 15.
     pub fn begin(&mut self, slot: u8, begun: Use)
         requires { slot < 16 }
         ensures { self.new ≡ slice_set self.old slot (UseSlot.Running begun) }
@@ -144,7 +144,7 @@ impl UseSlots {
         }
     }
 
-    /// Tells whether a use of this PASID runs.
+    /// Tells whether a use of this PASID runs; a dead one doesn't.
     pub fn runs_under(&self, pasid: u64) -> bool
         ensures { result ≡ list_any (runs_under pasid) self.now }
     {
@@ -158,7 +158,7 @@ impl UseSlots {
         covered_in(self.slots.as_slice(), invalidation)
     }
 
-    /// Ends each running use, as a reset does.
+    /// Ends each running use, as a reset does: its slot is dead until it is freed (this project's own rule).
     pub fn cut_off(&mut self)
         ensures { self.new ≡ map cut_off self.old }
     {

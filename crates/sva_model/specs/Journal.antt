@@ -1,4 +1,4 @@
--- A journal: what was asked by whom, and what was answered.
+-- A journal: what was asked by whom, and what was answered. (This project's own.)
 use Rattle.std.specs.Prelude.{◌≡◌, ℕ, List, map}
 use Rattle.sva_step.specs.declared.limits.Config.{Config}
 use Rattle.sva_step.specs.declared.steps.Step.{Step}

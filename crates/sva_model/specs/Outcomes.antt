@@ -1,4 +1,7 @@
--- What a step answers and does where nothing refuses it: what its labels mean now, the answer, and the acts by names.
+-- What a step answers and does where nothing refuses it: what its labels mean now, the answer, and the acts by names. The
+-- messages are those of PCI Express Base 5.0, chapter 10, beside start, stop, reset and reset-done, which are this project's
+-- own; the queues are those of Intel VT-d, "Queued Invalidation Interface" and "Page Request Queue". That a label which is
+-- given out is the lowest free one is this project's own.
 use Rattle.std.specs.Prelude.{ℕ, suc, ◌+◌, Bool, true, false, ◌&&◌, ◌||◌, not, ◌==◌, nat_le, if◌then◌else◌, Option, Some, None, List, [], ◌∷◌, ◌++◌, length}
 use Rattle.sva_step.specs.declared.answers.Answer.{Answer}
 use Rattle.sva_step.specs.declared.answers.Answer.TheVariants as answer
@@ -62,7 +65,8 @@ advance_outcome w e b (Draining wait) = at_one answer.Invalidating e (Own.Invali
 advance_outcome w e b (Invalidating invalidation wait) = at_one answer.Quiet e (Own.Quieten b)
 advance_outcome w e b stage = at_one answer.Released e (Own.Release b)
 
--- a wait is taken where no ITag is busy and, if it drains, the page request queue is empty
+-- A wait (Intel VT-d, "Invalidation Wait Descriptor", "Page Request Drain") is taken where no ITag is busy and, if it drains,
+-- the page request queue is empty. When it is taken is this project's own.
 abbrev pub may_pass : Part → Bool → Bool
 may_pass p drain = not (Labels.is_some_busy p) && (not drain || Labels.is_page_queue_empty p)
 
@@ -139,6 +143,8 @@ abbrev pub keep_outcome : (endpoint message request mapping : ℕ) → Bool → 
 keep_outcome e c r m true = at_one answer.Full e (Own.Forget c r)
 keep_outcome e c r m false = at_one answer.Held e (Own.Keep c r m)
 
+-- A translation completion (PCI Express Base 5.0, section 10.2.3): with R and W clear there is no translation. What is
+-- doomed, and a cache of 64 translations, are this project's own.
 abbrev pub completion_outcome : Part → (endpoint message request : ℕ) → Option ℕ → RequestState → Outcome
 completion_outcome p e c r (Some m) Out = keep_outcome e c r m (is_full p r)
 completion_outcome p e c r None Out = at_one answer.NoTranslation e (Own.Forget c r)

@@ -1,4 +1,5 @@
 -- The refusals of each step, in the order in which they are asked, each with its cause. Want of memory is none of them.
+-- The refusals, their order and the limits are this project's own, except where a comment names a standard.
 use Rattle.std.specs.Prelude.{ℕ, ◌+◌, ◌^◌, Bool, true, false, ◌&&◌, ◌||◌, not, ◌==◌, nat_lt, nat_le, Option, Some, None, List, [], ◌∷◌, length}
 use Rattle.sva_step.specs.declared.refusals.Refusal.{Refusal}
 use Rattle.sva_step.specs.declared.refusals.Refusal.TheVariants as refusal
@@ -120,6 +121,8 @@ abbrev pub is_other_group : Part → (pasid : ℕ) → Option ℕ → Bool
 is_other_group p t None = false
 is_other_group p t (Some i) = not (Labels.is_group_of p t i)
 
+-- Page requests (PCI Express Base 5.0, section 10.4.1): their allocation (NoCredit; section 10.5.2), and the interface that a
+-- Response Failure disables (PriDisabled; section 10.4.2).
 abbrev pub fault_refusals : World → Part → (pasid : ℕ) → Option ℕ → List Cause
 fault_refusals w p t group =
     (not (may_request p t group), refusal.NotStarted)
@@ -129,6 +132,9 @@ fault_refusals w p t group =
     ∷ messages_spent w 1
     ∷ []
 
+-- An ITag Vector has 32 bits, and a Completion Count says 1 to 8 (PCI Express Base 5.0, section 10.3.2). That each ITag
+-- that the vector names is one which the endpoint has taken, and that no use runs that one of them noted, are this project's
+-- own, in place of section 10.3.3's rules for outstanding requests.
 abbrev pub finish_refusals : World → Part → (vector count : ℕ) → List Cause
 finish_refusals w p vector count =
     (Labels.names_none vector || any_below 32 (λ t. Labels.is_set vector t && not (Labels.is_pending p t)), refusal.NotPending)

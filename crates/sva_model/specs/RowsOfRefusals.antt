@@ -11,25 +11,30 @@ use Rattle.sva_model.specs.State.{World, opened}
 use Rattle.sva_model.specs.State.MappingState.{Unmade, Present}
 use Rattle.sva_model.specs.Steps.{replies, counts, run}
 
--- A space as 1024 maps of its pages from 0 on leave it, each for reading alone: page q is at frame q. So many maps one by
--- one would take the checker minutes; so this world is written down, and the runs go on from it.
-abbrev pub full_space : (frames first : ℕ) → World
-full_space frames first =
+-- One space, of which the pages from 0 on are mapped, each for reading alone: page q is at frame q. It is written down, and
+-- stands for the world that a Space and so many maps in order of pages reach. The maps of 1024 pages, one by one, would take
+-- the checker minutes.
+abbrev pub mapped_space : (pages frames first : ℕ) → World
+mapped_space pages frames first =
     record (opened (config 1 frames 1 first)) {
       spaces = 1;
       is_live = λ s. s == 0;
       mappings =
           record {
-            made = 1024;
+            made = pages;
             space = λ m. 0;
-            page = λ m. m;
-            frame = λ m. m;
+            page = λ m. if nat_lt m pages then m else 0;
+            frame = λ m. if nat_lt m pages then m else 0;
             write = λ m. false;
-            state = λ m. if nat_lt m 1024 then Present else Unmade;
-            at = λ s q. if s == 0 && nat_lt q 1024 then Some q else None;
-            latest = λ f. if nat_lt f 1024 then Some f else None;
+            state = λ m. if nat_lt m pages then Present else Unmade;
+            at = λ s q. if s == 0 && nat_lt q pages then Some q else None;
+            latest = λ f. if nat_lt f pages then Some f else None;
           };
     }
+
+-- a space of as many pages as it can have
+abbrev pub full_space : (frames first : ℕ) → World
+full_space = mapped_space 1024
 
 -- as IsRow, from a world that is there
 abbrev pub IsRowAfter : World → List Line → (free mapped withheld : ℕ) → Type 0

@@ -1,4 +1,4 @@
--- The step, and the run over a list of steps. A refused step changes nothing.
+-- The step, and the run over a list of steps. A refused step changes nothing. (This project's own form.)
 use Rattle.std.specs.Prelude.{ℕ, Bool, true, false, if◌then◌else◌, List, [], ◌∷◌, Result, Ok, Err}
 use Rattle.sva_step.specs.declared.answers.Answer.{Answer}
 use Rattle.sva_step.specs.declared.limits.Config.{Config}

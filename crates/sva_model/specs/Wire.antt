@@ -1,5 +1,7 @@
 -- What the host, its endpoints and the link keep of the records: labels, numbers and counts, and no names. It is a
 -- function of the world, by lists: tables by label from 0 on, queues in their order, maps in rising order of their keys.
+-- (This project's own form; the queues and descriptors are those of Intel VT-d, "Queued Invalidation Interface",
+-- "Invalidation Wait Descriptor" and "Page Request Queue".)
 use Rattle.std.specs.Prelude.{ℕ, zero, suc, ◌+◌, ◌-◌, Bool, true, false, ◌&&◌, ◌||◌, not, ◌==◌, nat_lt, if◌then◌else◌, Option, Some, None, List, [], ◌∷◌, map}
 use Rattle.sva_model.specs.Words.{any_below, count_below, select, tabulate, is_some, holds_of, the}
 use Rattle.sva_model.specs.Message.{Extent, Message}

@@ -1,5 +1,5 @@
--- What holds after every list of steps: the headline, and the definitions that it is made of. They are this
--- project's own.
+-- What holds after every list of steps: the headline, and the definitions that it is made of. (This project's
+-- own.)
 use Rattle.std.specs.Prelude.{◌≡◌, ◌↔◌, ℕ, ◌<◌, ◌≤◌, ◌^◌, Bool, true, Some, ◌⊎◌, List, [], ◌∷◌, ◌++◌}
 use Rattle.sva_step.specs.declared.limits.Config.{Config}
 use Rattle.sva_step.specs.declared.steps.Step.{Step}
@@ -18,8 +18,8 @@ use Rattle.sva_model.specs.States.Place.{Free, Mapped, Withheld}
 use Rattle.sva_model.specs.Steps.{world_after}
 
 -- Usable translations (what a translation completion gave, or may yet give: PCI Express Base 5.0, section 10.2.3; a use is a
--- memory request with AT field 10b: section 10.2.1). At endpoint e, of binding b and page q, and by mapping m: one that is cached; that of a running
--- use; or one that a Completion in flight carries, whose request is out and not doomed.
+-- memory request with AT field 10b: section 10.2.1). At endpoint e, of binding b and page q, and by mapping m: one that is
+-- cached; that of a running use; or one that a Completion in flight carries, whose request is out and not doomed.
 pub data Usable (w : World) (e : ℕ) : (binding page mapping : ℕ) → Type 0 where
   cached : (r m : ℕ) → (w.part e).held r ≡ Some m → Usable w e ((w.part e).request_binding r) ((w.part e).request_page r) m
   in_use : (u : ℕ) → (w.part e).use_state u ≡ Running → Usable w e ((w.part e).use_binding u) (w.mappings.page ((w.part e).use_mapping u)) ((w.part e).use_mapping u)

@@ -5,15 +5,16 @@ use Rattle.sva_step.specs.declared.refusals.Refusal.TheVariants as refusal
 use Rattle.sva_step.specs.declared.steps.Step.TheVariants as step
 use Rattle.sva_step.specs.declared.steps.Verdict.TheVariants as verdict
 use Rattle.sva_model.specs.Rows.{Line, says, IsRow, config, refused, lines}
-use Rattle.std.specs.Prelude.{◌≡◌, ℕ, ◌&&◌, ◌==◌, nat_lt, if◌then◌else◌, map}
+use Rattle.std.specs.Prelude.{◌≡◌, ℕ, zero, suc, ◌<◌, ◌≤◌, ◌^◌, ◌&&◌, ◌==◌, nat_lt, if◌then◌else◌, map}
+use Rattle.sva_step.specs.declared.steps.Step.{Step}
 use Rattle.sva_model.specs.Rows.{steps_of}
 use Rattle.sva_model.specs.State.{World, opened}
 use Rattle.sva_model.specs.State.MappingState.{Unmade, Present}
-use Rattle.sva_model.specs.Steps.{replies, counts, run}
+use Rattle.sva_model.specs.Steps.{replies, counts, run, world_after}
 
--- One space, of which the pages from 0 on are mapped, each for reading alone: page q is at frame q. It is written down, and
--- stands for the world that a Space and so many maps in order of pages reach. The maps of 1024 pages, one by one, would take
--- the checker minutes.
+-- One space, of which the pages from 0 on are mapped, each for reading alone: page q is at frame q. It is written down, as
+-- the maps of 1024 pages, one by one, would take the checker minutes; that a Space and 1024 maps reach it is
+-- `FullSpaceReached`.
 abbrev pub mapped_space : (pages frames first : ℕ) → World
 mapped_space pages frames first =
     record (opened (config 1 frames 1 first)) {
@@ -35,6 +36,19 @@ mapped_space pages frames first =
 -- a space of as many pages as it can have
 abbrev pub full_space : (frames first : ℕ) → World
 full_space = mapped_space 1024
+
+-- the maps of the first pages of the first space, in order of pages
+unfoldable pub maps_of : (pages first : ℕ) → List Step
+maps_of zero first = []
+maps_of (suc n) first = maps_of n first ++ step.Map first n false ∷ []
+
+-- a Space, and a map of each page, reach the full space
+abbrev pub FullSpaceReached : Type 0
+FullSpaceReached =
+    (frames first : ℕ)
+    → 1024 ≤ frames
+    → first < 2 ^ 63
+    → world_after (config 1 frames 1 first) (step.Space ∷ maps_of 1024 first) ≡ full_space frames first
 
 -- as IsRow, from a world that is there
 abbrev pub IsRowAfter : World → List Line → (free mapped withheld : ℕ) → Type 0

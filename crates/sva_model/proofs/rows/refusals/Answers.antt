@@ -1,6 +1,7 @@
 use Rattle.std.specs.Prelude.{refl}
 use Rattle.sva_model.specs.Words.{lowest, any_below, all_below, count_below, select, tabulate}
 use Rattle.sva_model.specs.Steps.{replies}
+use Rattle.sva_model.proofs.FullSpace.{reached}
 use Rattle.sva_model.proofs.rows.refusals.Goals as goal
 
 pub returns-clause-causes_of_space : goal.returns-clause-causes_of_space
@@ -14,6 +15,9 @@ returns-clause-causes_of_drop_space c = (refl, refl)
 pub returns-clause-causes_of_map : goal.returns-clause-causes_of_map
 unfolding lowest any_below all_below count_below select tabulate replies
 returns-clause-causes_of_map c = (refl, refl)
+
+pub returns-clause-full_space_reached : goal.returns-clause-full_space_reached
+returns-clause-full_space_reached c = reached
 
 pub returns-clause-full_space_without_frames : goal.returns-clause-full_space_without_frames
 unfolding lowest any_below all_below count_below select tabulate replies

@@ -12,7 +12,7 @@ use Rattle.sva_frames.proofs.Pools.{slice_get-set_same, slice_get-set_other}
 use Rattle.sva_model.specs.Wire.{PlaceWire}
 use Rattle.sva_model.specs.Wire.PlaceWire.{FreeWire}
 use Rattle.sva_wire.specs.Host.{lowest_free, freed, is_free as is_free_wire}
-use Rattle.sva_core.specs.Seen.{place_seen, places_seen}
+use Rattle.sva_core.specs.Seen.{frames_in, place_seen, places_seen}
 use Rattle.sva_core.specs.Owned.{mapped_once, mapped_bit}
 
 pub length-seen : (frames : List Holding) → length (places_seen frames) ≡ length frames
@@ -90,6 +90,12 @@ first-free frames n first =
 pub freed-more : (places : List PlaceWire) (fs : List ℕ) (f : ℕ) → freed places (fs ++ f ∷ []) ≡ set (freed places fs) f FreeWire
 freed-more places [] f = refl
 freed-more places (g ∷ fs) f = freed-more (set places g FreeWire) fs f
+
+-- the first frame of a space given back, and the others later
+pub first-freed : (space rest : List (ℕ × (ℕ × Bool))) (frames frames_after : List Holding) (first : ℕ × (ℕ × Bool)) → space ≡ first ∷ rest → frames_after ≡ set frames first.1.0 Free → freed (places_seen frames_after) (frames_in rest) ≡ freed (places_seen frames) (frames_in space)
+first-freed space rest frames frames_after first is gave =
+    ap (λ (ps : List PlaceWire). freed ps (frames_in rest)) (ap places_seen gave ∙ places_seen-set frames first.1.0 Free)
+    ∙ sym (ap (λ (ms : List (ℕ × (ℕ × Bool))). freed (places_seen frames) (frames_in ms)) is)
 
 -- whether a frame is mapped in the pool, after a place changed
 pub mapped_bit-set : (frames : List Holding) (n : ℕ) (h : Holding) (f : ℕ) → n < length frames → mapped_bit f (set frames n h) ≡ (if n == f then mapped_once (Some h) else mapped_bit f frames)

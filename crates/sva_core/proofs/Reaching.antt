@@ -1,5 +1,5 @@
 -- From the step by numbers to the definitions' step.
-use Rattle.std.proofs.Common.{◌≡◌, ℕ, zero, suc, ◌+◌, ◌<◌, List, [], ◌∷◌, ◌++◌, length, take, get_or, arith, refl, sym, ap, subst, ◌∙◌, count_by}
+use Rattle.std.proofs.Common.{◌≡◌, ◌≢◌, ℕ, zero, suc, ◌+◌, ◌<◌, List, [], ◌∷◌, ◌++◌, length, take, get_or, arith, refl, sym, ap, subst, ◌∙◌, count_by}
 use Rattle.std.specs.Prelude.{Err, is_ok}
 use Rattle.sva_frames.specs.declared.pool.Counts.{Counts as FrameCounts}
 use Rattle.sva_step.specs.declared.limits.Config.{Config}
@@ -12,7 +12,7 @@ use Rattle.sva_model.specs.Wire.{Wire, wire}
 use Rattle.sva_laws.proofs.Lookback.{after_one}
 use Rattle.sva_wire.specs.Host.{IsIdle, IsOfSpaces, reply_of, next_of, NumbersAreNames, is_free as is_free_wire}
 use Rattle.sva_core.specs.Pieces.{ByNumbers, Counted, is_mapped_wire, is_withheld_wire}
-use Rattle.sva_core.specs.Reached.{FollowsAt, Follows, IsReached, CountsOf, Ran}
+use Rattle.sva_core.specs.Reached.{FollowsAt, Follows, IsReached, CountsOf, Ran, TakesNoMemory}
 use Rattle.sva_core.proofs.Opening.{free-counted, mapped-counted, withheld-counted}
 
 at_world : (w : World) (s : Step) (result : Reply) (after : Wire) → reply w s ≡ reply_of (wire w) s → wire (next w s) ≡ next_of (wire w) s → ByNumbers (wire w) s result after → FollowsAt w s result after
@@ -44,19 +44,19 @@ counts_of seen found counted config steps fits is = (
 
 -- Runs: one step more at the end.
 
-one_step : (w : World) (s : Step) (r : Reply) (last : Wire) → FollowsAt w s r last → Ran w (s ∷ []) (r ∷ []) last
-one_step w s (Err refusal.OutOfMemory) last at = at
-one_step w s r last at = at
+one_step : (w : World) (s : Step) (r : Reply) (last : Wire) → FollowsAt w s r last → (TakesNoMemory s → r ≢ Err refusal.OutOfMemory) → Ran w (s ∷ []) (r ∷ []) last
+one_step w s (Err refusal.OutOfMemory) last at memory = (at.0, λ none. memory none refl, at.1)
+one_step w s r last at memory = at
 
-pub ran-more : (config : Config) (before steps : List Step) (rs : List Reply) (s : Step) (r : Reply) (last after : Wire) → Fits config → Ran (world_after config before) steps rs last → Follows last s r after → Ran (world_after config before) (steps ++ s ∷ []) (rs ++ r ∷ []) after
-ran-more config before [] [] s r last after fits ran step = one_step (world_after config before) s r after (step config before fits ran)
-ran-more config before [] (r0 ∷ rs) s r last after fits ran step = absurd ran
-ran-more config before (s0 ∷ ss) [] s r last after fits ran step = absurd ran
-ran-more config before (s0 ∷ ss) (Err refusal.OutOfMemory ∷ rs) s r last after fits ran step = (ran.0, ran-more config before ss rs s r last after fits ran.1 step)
-ran-more config before (s0 ∷ ss) (r0 ∷ rs) s r last after fits ran step = (
+pub ran-more : (config : Config) (before steps : List Step) (rs : List Reply) (s : Step) (r : Reply) (last after : Wire) → Fits config → Ran (world_after config before) steps rs last → Follows last s r after → (TakesNoMemory s → r ≢ Err refusal.OutOfMemory) → Ran (world_after config before) (steps ++ s ∷ []) (rs ++ r ∷ []) after
+ran-more config before [] [] s r last after fits ran step memory = one_step (world_after config before) s r after (step config before fits ran) memory
+ran-more config before [] (r0 ∷ rs) s r last after fits ran step memory = absurd ran
+ran-more config before (s0 ∷ ss) [] s r last after fits ran step memory = absurd ran
+ran-more config before (s0 ∷ ss) (Err refusal.OutOfMemory ∷ rs) s r last after fits ran step memory = (ran.0, ran.1, ran-more config before ss rs s r last after fits ran.2 step memory)
+ran-more config before (s0 ∷ ss) (r0 ∷ rs) s r last after fits ran step memory = (
   ran.0,
   subst (λ (w : World). Ran w (ss ++ s ∷ []) (rs ++ r ∷ []) after) (after_one config before s0)
-      (ran-more config (before ++ s0 ∷ []) ss rs s r last after fits (subst (λ (w : World). Ran w ss rs last) (sym (after_one config before s0)) ran.1) step),
+      (ran-more config (before ++ s0 ∷ []) ss rs s r last after fits (subst (λ (w : World). Ran w ss rs last) (sym (after_one config before s0)) ran.1) step memory),
 )
 
 pub follows_on : (before old : Wire) (s : Step) (result : Reply) (after : Wire) → before ≡ old → Follows before s result after → Follows old s result after
@@ -73,8 +73,8 @@ take_next (s ∷ ss) (suc i) other within =
     let same : suc i + 1 ≡ suc (i + 1) = omega arith in
     ap (λ (k : ℕ). take k (s ∷ ss)) same ∙ ap (λ ts. s ∷ ts) (take_next ss i other (omega arith))
 
-pub ran_next : (config : Config) (steps : List Step) (i : ℕ) (other : Step) (rs rs_after : List Reply) (r : Reply) (last after : Wire) → Fits config → i < length steps → Ran (opened config) (take i steps) rs last → Follows last (get_or steps i other) r after → rs_after ≡ rs ++ r ∷ [] → Ran (opened config) (take (i + 1) steps) rs_after after
-ran_next config steps i other rs rs_after r last after fits within ran step pushed =
+pub ran_next : (config : Config) (steps : List Step) (i : ℕ) (other : Step) (rs rs_after : List Reply) (r : Reply) (last after : Wire) → Fits config → i < length steps → Ran (opened config) (take i steps) rs last → Follows last (get_or steps i other) r after → (TakesNoMemory (get_or steps i other) → r ≢ Err refusal.OutOfMemory) → rs_after ≡ rs ++ r ∷ [] → Ran (opened config) (take (i + 1) steps) rs_after after
+ran_next config steps i other rs rs_after r last after fits within ran step memory pushed =
     subst (λ (qs : List Reply). Ran (opened config) (take (i + 1) steps) qs after) (sym pushed)
     (subst (λ (ss : List Step). Ran (opened config) ss (rs ++ r ∷ []) after) (sym (take_next steps i other within))
-    (ran-more config [] (take i steps) rs (get_or steps i other) r last after fits ran step))
+    (ran-more config [] (take i steps) rs (get_or steps i other) r last after fits ran step memory))

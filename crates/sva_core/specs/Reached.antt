@@ -43,10 +43,11 @@ CountsOf seen found =
     × (found.mapped ≡ (counts (world_after config steps)).mapped)
     × (found.withheld ≡ (counts (world_after config steps)).withheld)
 
--- the answers to a list of steps, and what the last world is seen as; a step that had no memory is left out
+-- the answers to a list of steps, and what the last world is seen as; a step that had no memory is left out, and it is one
+-- that takes memory
 abbrev pub Ran : World → List Step → List Reply → Wire → Type 0
 Ran w [] [] last = last ≡ wire w
-Ran w (s ∷ steps) (Err refusal.OutOfMemory ∷ results) last = IsOk (reply w s) × Ran w steps results last
+Ran w (s ∷ steps) (Err refusal.OutOfMemory ∷ results) last = IsOk (reply w s) × (TakesNoMemory s → ⊥) × Ran w steps results last
 Ran w (s ∷ steps) (result ∷ results) last = (result ≡ reply w s) × Ran (next w s) steps results last
 Ran w _ _ last = ⊥
 

@@ -4,7 +4,7 @@ ghost use Rattle.std.specs.Prelude.{◌≡◌, ◌≢◌, ◌<◌, ◌≤◌, �
 ghost use Rattle.sva_step.specs.declared.refusals.Refusal.TheVariants as refusal;
 ghost use Rattle.sva_space.specs.Pages.{IsRising};
 ghost use Rattle.sva_wire.specs.Host.{frames_of, freed, without};
-ghost use Rattle.sva_core.specs.Seen.{pages_seen, places_seen};
+ghost use Rattle.sva_core.specs.Seen.{frames_in, pages_seen, places_seen};
 ghost use Rattle.sva_core.specs.Owned.{Owns, Balanced, Spent};
 ghost use Rattle.sva_core.specs.Pieces.{are_mapped, MapsPage, UnmapsPages};
 
@@ -115,10 +115,11 @@ fn take_out(space: &mut Space, pool: &mut FramePool, page: u64, count: u64) -> F
     frames
 }
 
-/// Ends a space: its frames are given back.
+/// Ends a space: its frames are given back, and are free.
 pub fn give_all(mut space: Space, pool: &mut FramePool)
     requires { Owns space pool.old }
-    ensures { Spent space pool.old pool.new }
+    ensures places { places_seen pool.new ≡ freed (places_seen pool.old) (frames_in space) }
+    ensures spent { Spent space pool.old pool.new }
 {
     while let Some((_page, frame, _write)) = space.pop_first() {
         pool.give(frame);

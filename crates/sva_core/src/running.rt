@@ -13,8 +13,8 @@ use std::alloc::Global;
 use sva_step::{Answer, Config, Refusal, Step};
 
 /// Opens a world and takes the steps one after another: the world at the end, and an answer for each step. A step that
-/// was answered `OutOfMemory` changed nothing, and is no unmap. The fault is `BadConfig` where the config is out of its limits; else
-/// `OutOfMemory` where there is no memory for the world or for the list of answers.
+/// was answered `OutOfMemory` changed nothing, and is no unmap. The fault is `BadConfig` where the config is out of its
+/// limits; else `OutOfMemory` where there is no memory for the world or for the list of answers.
 pub fn run(
     alloc: Global,
     config: Config,

@@ -1,10 +1,10 @@
 -- Lemmas on what is read and written in several calls.
-use Rattle.std.proofs.Common.{◌≡◌, ◌+◌, ◌-◌, ◌∙◌, ap, sym, arith, min, ℕ, zero, suc, List, [], ◌∷◌, ◌++◌, length, take, drop, append_assoc, append-nil, refl, Option, Some, None, IfSome}
+use Rattle.std.proofs.Common.{◌≡◌, ◌+◌, ◌-◌, ◌<◌, ◌≤◌, ◌∙◌, ap, sym, arith, min, ℕ, zero, suc, List, [], ◌∷◌, ◌++◌, length, take, drop, append_assoc, append-nil, refl, Option, Some, None, IfSome}
 use Rattle.std.specs.Io.KnownBytes.{Appends, Consumes, Keeps, IsAtEnd}
 use Rattle.std.proofs.KnownBytes.{Appends-kept, Appends-trans}
 use Rattle.std.proofs.Math.Seq.{take-add}
-use Rattle.std.proofs.lemmas.List.{length-take, take-append-drop, take_rest}
-use Rattle.sva_scenario.specs.Streams.{AppendsPrefix}
+use Rattle.std.proofs.lemmas.List.{length-append, length-drop, length-take, take-append-drop, take_rest}
+use Rattle.sva_scenario.specs.Streams.{AppendsPrefix, AppendsProperPrefix}
 
 take-nil : (n : ℕ) → take {A = ℕ} n [] ≡ []
 take-nil zero = refl
@@ -83,9 +83,23 @@ Appends-more (Some x) (Some y) (Some z) bytes written n p q =
     ∙ ap (λ l. x ++ (take written bytes ++ take n l)) (take_rest bytes written)
     ∙ ap (λ l. x ++ l) (sym (take-add written n bytes))
 
--- where a call fails, a front of the bytes is written
-pub AppendsPrefix-cut : (a b c : Option (List ℕ)) (bytes : List ℕ) (written : ℕ) → Appends a b (take written bytes) → Keeps b c → AppendsPrefix a c bytes
-AppendsPrefix-cut a b c bytes written p q = (take written bytes, drop written bytes, take-append-drop written bytes, Appends-kept a b c (take written bytes) p q)
+-- where a call fails, a front of the bytes is written, and some are left
+pub AppendsPrefix-cut : (a b c : Option (List ℕ)) (bytes : List ℕ) (written : ℕ) → written < length bytes → Appends a b (take written bytes) → Keeps b c → AppendsProperPrefix a c bytes
+AppendsPrefix-cut a b c bytes written within p q =
+    let left : 0 < length (drop written bytes) = omega (arith, length-drop written bytes, within) in
+    (take written bytes, drop written bytes, take-append-drop written bytes, Appends-kept a b c (take written bytes) p q, left)
+
+-- a front is a front, whether or not some bytes are left
+pub AppendsPrefix-whole : (a b : Option (List ℕ)) (bytes : List ℕ) → AppendsProperPrefix a b bytes → AppendsPrefix a b bytes
+AppendsPrefix-whole a b bytes p = (p.0, p.1, p.2, p.3)
+
+-- where bytes came, known input had some
+pub Consumes-some : (most n : ℕ) (a b c : Option (List ℕ)) (kept piece : List ℕ) → 0 < n → n ≤ length piece → KeepsFront most a b kept → Consumes b c (take n piece) → IfSome a (λ input. 0 < length input)
+Consumes-some most n None b c kept piece some within h r = tt
+Consumes-some most n (Some xs) None c kept piece some within h r = absurd h
+Consumes-some most n (Some xs) (Some ys) None kept piece some within h r = absurd r
+Consumes-some most n (Some xs) (Some ys) (Some zs) kept piece some within h r =
+    omega (arith, ap length h.1, length-append h.0 ys, ap length r, length-append (take n piece) zs, length-take n piece, some, within)
 
 -- a front of the bytes that come next is a front of all of them
 pub AppendsPrefix-after : (a b c : Option (List ℕ)) (first next : List ℕ) → Appends a b first → AppendsPrefix b c next → AppendsPrefix a c (first ++ next)

@@ -1,5 +1,5 @@
-ghost use Rattle.std.specs.Prelude.{◌≡◌, IfOk, IfErr};
-ghost use Rattle.sva_scenario.specs.Grammar.{at_line, config_of, step_of, steps_of, words_of, scenario_of, Reads};
+ghost use Rattle.std.specs.Prelude.{◌≡◌, ◌≢◌, ◌≤◌, Err, IfOk, IfErr, length};
+ghost use Rattle.sva_scenario.specs.Grammar.{at_line, config_of, lines_of, step_of, steps_of, words_of, scenario_of, Reads};
 
 use crate::faults::{Cause, LineFault, ParseFault};
 use crate::forms::{config_in, step_in};
@@ -32,10 +32,12 @@ impl Model for Scenario {
     ghost view = { λ s. record { config = s.config; steps = s.steps.items } };
 }
 
-/// The scenario that a text writes. `Line` is the text's first fault; `Memory` comes only where a growth was refused.
+/// The scenario that a text writes. `Line` is the text's first fault; `Memory` comes only where a growth was refused, and
+/// never where the text is too large.
 #[tactic(auto, unfolding(crate::specs::Grammar::scenario_of))]
 pub fn parse(alloc: Global, text: &[u8]) -> Result<Scenario, ParseFault>
-    ensures { Reads (λ s. s) result (scenario_of text.now) }
+    ensures read { Reads (λ s. s) result (scenario_of text.now) }
+    ensures memory { result ≡ Err ParseFault.Memory → (length text.now ≤ 1048576) × (length (lines_of text.now) ≤ 65536) }
 {
     let count = line_count(text);
     if text.len() > MOST_BYTES || count > MOST_LINES {
@@ -66,14 +68,16 @@ fn steps_in(alloc: Global, mut lines: Lines<'_>) -> Result<Vec<Step>, ParseFault
 
 /// The config that a line writes.
 fn config_at(number: u64, line: &[u8]) -> Result<Config, ParseFault>
-    ensures { Reads (λ config. config) result (at_line number (config_of (words_of line.now))) }
+    ensures read { Reads (λ config. config) result (at_line number (config_of (words_of line.now))) }
+    ensures memory { result ≢ Err ParseFault.Memory }
 {
     config_in(&Words::new(line)).map_err(|cause| fault(number, cause))
 }
 
 /// The step that a line writes.
 fn step_at(number: u64, line: &[u8]) -> Result<Step, ParseFault>
-    ensures { Reads (λ step. step) result (at_line number (step_of (words_of line.now))) }
+    ensures read { Reads (λ step. step) result (at_line number (step_of (words_of line.now))) }
+    ensures memory { result ≢ Err ParseFault.Memory }
 {
     step_in(&Words::new(line)).map_err(|cause| fault(number, cause))
 }

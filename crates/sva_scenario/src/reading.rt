@@ -1,4 +1,4 @@
-ghost use Rattle.std.specs.Prelude.{◌≡◌, ◌<◌, ◌≤◌, ◌⊎◌, ◌≢◌, take, IfOk, OnOk, IfSome};
+ghost use Rattle.std.specs.Prelude.{◌≡◌, ◌<◌, ◌≤◌, ◌⊎◌, ◌≢◌, length, take, IfOk, OnOk, IfSome};
 ghost use Rattle.std.specs.Io.KnownBytes.{IsAtEnd};
 ghost use Rattle.sva_scenario.specs.Streams.{IsNew};
 
@@ -13,13 +13,14 @@ pub const MOST_TURNS: u64 = 2_097_152;
 pub const MOST_KEPT: usize = 1_048_577;
 
 /// All that the reader gives, or its first 1,048,577 bytes; it is read to its end in each case. `Read` where the
-/// reader fails or the calls are spent, the first failure at once; `Memory` where a growth was refused.
+/// reader fails or the calls are spent, the first failure at once; `Memory` where a growth was refused, which takes a byte to be kept.
 pub fn read_all<R: Read>(alloc: Global, reader: &mut Told<R>) -> Result<Vec<u8>, DriveFault>
     requires { IsNew reader.old }
     ensures ok { IfOk result (λ bytes. IfSome (R.remaining reader.old.inner) (λ input. bytes.items ≡ take MOST_KEPT input)) }
     ensures end { OnOk result ((reader.new.failures ≡ 0) × IsAtEnd (R.remaining reader.new.inner)) }
     ensures read { result ≡ Err DriveFault.Read → (reader.new.failures ≡ 1) ⊎ ((reader.new.failures ≡ 0) × (reader.new.calls ≡ MOST_TURNS)) }
-    ensures memory { result ≡ Err DriveFault.Memory → reader.new.failures ≡ 0 }
+    ensures memory { result ≡ Err DriveFault.Memory → (reader.new.failures ≡ 0)
+        × (0 < reader.new.calls) × IfSome (R.remaining reader.old.inner) (λ input. 0 < length input) }
     ensures write { result ≢ Err DriveFault.Write }
     ensures turns { reader.new.calls ≤ MOST_TURNS }
 {

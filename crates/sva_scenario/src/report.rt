@@ -1,4 +1,4 @@
-ghost use Rattle.std.specs.Prelude.{◌≡◌, ◌+◌, ◌^◌, ◌<◌, ◌≤◌, ◌++◌, length, decimal, OnOk};
+ghost use Rattle.std.specs.Prelude.{◌≡◌, ◌+◌, ◌^◌, ◌<◌, ◌≤◌, ◌++◌, length, decimal, Err, OnOk};
 ghost use Rattle.sva_scenario.specs.Faults.{line_fault_text};
 ghost use Rattle.sva_scenario.specs.Report.{ended, reply_text, counts_text};
 ghost use Rattle.sva_scenario.specs.Streams.{Writes, Tells};
@@ -12,7 +12,8 @@ use std::io::Write;
 use sva_frames::Counts;
 use sva_step::{Answer, Refusal};
 
-/// Writes the line of a step: its answer, or its refusal. What stands in `line` is lost.
+/// Writes the line of a step: its answer, or its refusal. What stands in `line` is lost. Want of memory comes before
+/// anything is written.
 pub fn write_reply<W: Write>(
     line: &mut Vec<u8>,
     reply: &Result<Answer, Refusal>,
@@ -23,6 +24,7 @@ pub fn write_reply<W: Write>(
     requires failures { writer.old.failures + 1 < 2 ^ 64 }
     ensures written { Writes (W.contents writer.old.inner) (W.contents writer.new.inner) (ended (reply_text reply.now)) result }
     ensures told { Tells writer.old writer.new result }
+    ensures memory { result ≡ Err DriveFault.Memory → writer.new ≡ writer.old }
     ensures calls { writer.new.calls ≤ writer.old.calls + 1025 }
 {
     line.clear();
@@ -46,6 +48,8 @@ pub fn write_fault<W: Write>(
     requires failures { writer.old.failures + 1 < 2 ^ 64 }
     ensures written { Writes (W.contents writer.old.inner) (W.contents writer.new.inner) (ended (line_fault_text fault.now)) result }
     ensures told { Tells writer.old writer.new result }
+    ensures memory { result ≡ Err DriveFault.Memory → writer.new ≡ writer.old }
+    ensures calls { writer.new.calls ≤ writer.old.calls + 1025 }
 {
     line.clear();
     if fault.write(line).is_err() {
@@ -65,6 +69,8 @@ pub fn write_counts<W: Write>(
     ensures written { Writes (W.contents writer.old.inner) (W.contents writer.new.inner)
         (ended (counts_text (record { free = counts.now.free; mapped = counts.now.mapped; withheld = counts.now.withheld }))) result }
     ensures told { Tells writer.old writer.new result }
+    ensures memory { result ≡ Err DriveFault.Memory → writer.new ≡ writer.old }
+    ensures calls { writer.new.calls ≤ writer.old.calls + 1025 }
 {
     line.clear();
     if put_counts(line, counts).is_err() {
@@ -99,6 +105,7 @@ fn end_line<W: Write>(line: &mut Vec<u8>, writer: &mut Told<W>) -> Result<(), Dr
     requires failures { writer.old.failures + 1 < 2 ^ 64 }
     ensures written { Writes (W.contents writer.old.inner) (W.contents writer.new.inner) (ended line.old.items) result }
     ensures told { Tells writer.old writer.new result }
+    ensures memory { result ≡ Err DriveFault.Memory → writer.new ≡ writer.old }
     ensures calls { writer.new.calls ≤ writer.old.calls + length line.old.items + 1 }
 {
     if line.push(b'\n').is_err() {

@@ -10,18 +10,18 @@ use Rattle.sva_scenario.proofs.driving.report_text.Goals as goal
 
 pub report_script-requires-clause-built : goal.report_script-requires-clause-built
 report_script-requires-clause-built g c =
-    let built = read_built c.args.text.now c.in-Ok.scenario c.in-Ok.ensures in
+    let built = read_built c.args.text.now c.in-Ok.scenario c.in-Ok.ensures.read in
     let same = c.as_slice-steps.ensures.value ∙ ap (λ s. s.steps) c.scenario.view_is in
     subst (λ (steps : List Step). AllByRecursion IsOfSpaces steps) (sym same) built.0
 
 pub report_script-requires-clause-few : goal.report_script-requires-clause-few
 report_script-requires-clause-few g c =
-    let built = read_built c.args.text.now c.in-Ok.scenario c.in-Ok.ensures in
+    let built = read_built c.args.text.now c.in-Ok.scenario c.in-Ok.ensures.read in
     let same = c.as_slice-steps.ensures.value ∙ ap (λ s. s.steps) c.scenario.view_is in
     omega (arith, built.1, ap length same)
 
 pub returns-in_err-write_fault-in-Err-Line-clause-report : goal.returns-in_err-write_fault-in-Err-Line-clause-report
 returns-in_err-write_fault-in-Err-Line-clause-report g c =
-    let told = rw c.in-Err-Line.field-0-is at c.in-Err-Line.ensures in
+    let told = rw c.in-Err-Line.field-0-is at c.in-Err-Line.ensures.read in
     writes_as _ _ _ _ c.from_residual.result (read_fault c.args.text.now c.in-Err-Line.fault told ∙ ap (λ (f : LineFault). ended (line_fault_text f)) (sym c.in-Err-Line.fault-is))
     (writes_front _ _ _ c.from_residual.result c.from_residual.ensures.0 c.in_err-write_fault-in-Err-Line.ensures.written)

@@ -1,6 +1,6 @@
 use Rattle.std.proofs.Common.{◌≡◌, ◌++◌, ◌-◌, ◌∙◌, arith, ap, Some, min, take, length}
 use Rattle.std.proofs.lemmas.Grind.{common_steps}
-use Rattle.sva_scenario.proofs.StreamLemmas.{KeepsFront-more, KeepsFront-all}
+use Rattle.sva_scenario.proofs.StreamLemmas.{KeepsFront-more, KeepsFront-all, Consumes-some}
 use Rattle.sva_scenario.proofs.reading.read_all.Goals as goal
 
 pub returns-then-n-eq0-clause-ok : goal.returns-then-n-eq0-clause-ok
@@ -8,6 +8,13 @@ returns-then-n-eq0-clause-ok g c =
     let none : c.in-Some.n ≡ 0 = omega arith in
     KeepsFront-all 1048577 c.in-Some.n _ _ _ c.loop-turn.kept.items c.read_once.new.piece none c.loop-turn.invariant.kept c.in-Some.ensures.read.2
     (c.in-Some.ensures.end (ap Some none) (omega arith))
+
+pub returns-then-is_err-clause-memory : goal.returns-then-is_err-clause-memory
+returns-then-is_err-clause-memory g c _ = (
+  c.in-Some.ensures.read.1 ∙ c.loop-turn.invariant.failures,
+  omega arith,
+  Consumes-some 1048577 c.in-Some.n _ _ _ c.loop-turn.kept.items c.read_once.new.piece (omega arith) c.in-Some.ensures.read.0 c.loop-turn.invariant.kept c.in-Some.ensures.read.2,
+)
 
 pub loop-turn-preserved : goal.loop-turn-preserved
 loop-turn-preserved g c =

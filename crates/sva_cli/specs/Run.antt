@@ -1,5 +1,5 @@
 -- How a run of svahost ends.
-use Rattle.std.specs.Prelude.{◌≡◌, ◌⊎◌, ℕ, List, [], ◌∷◌, ◌++◌, codes, Option, IfSome, Result, Ok, Err}
+use Rattle.std.specs.Prelude.{◌≡◌, ◌⊎◌, ◌≤◌, ℕ, ◌+◌, List, [], ◌∷◌, ◌++◌, codes, Option, IfSome, Result, Ok, Err}
 use Rattle.std.specs.Io.KnownBytes.{Appends, Keeps}
 use Rattle.sva_scenario.specs.Report.{outcome_of, report_of}
 use Rattle.sva_scenario.specs.Streams.{AppendsPrefix}
@@ -22,15 +22,22 @@ fault_line Read = codes "svahost: read fault" ++ 10 ∷ []
 fault_line Write = codes "svahost: write fault" ++ 10 ∷ []
 fault_line Memory = codes "svahost: out of memory" ++ 10 ∷ []
 
+-- the line that tells of a command line that couldn't be read as text
+abbrev pub unread_line : List ℕ
+unread_line = codes "error: a word of the command line isn't UTF-8 text" ++ 10 ∷ []
+
 -- what the run says on standard error
 abbrev pub complaint : Result Outcome DriveFault → List ℕ
 complaint (Ok outcome) = []
 complaint (Err fault) = fault_line fault
 
--- a stream was given a text: all of it where no call failed, and else a front of it
+-- a stream was given a text: all of it where no call failed, and else a front of it, up to the first failure
 abbrev pub Says : {T : Type 0} → (T → Option (List ℕ)) → Told T → Told T → List ℕ → Type 0
 Says contents old new text =
-    AppendsPrefix (contents old.inner) (contents new.inner) text × (new.failures ≡ old.failures → Appends (contents old.inner) (contents new.inner) text)
+    AppendsPrefix (contents old.inner) (contents new.inner) text
+    × (new.failures ≡ old.failures → Appends (contents old.inner) (contents new.inner) text)
+    × (old.failures ≤ new.failures)
+    × (new.failures ≤ old.failures + 1)
 
 -- what a replay wrote, where the input is known: its report; after a fault a front of the report, and nothing after a read fault
 abbrev pub Reports : Option (List ℕ) → Option (List ℕ) → Option (List ℕ) → Result Outcome DriveFault → Type 0

@@ -1,15 +1,16 @@
-ghost use Rattle.std.specs.Prelude.{◌≡◌, ◌≢◌, ◌≤◌, ◌<◌, ◌⊎◌, length, OnOk, Result};
-ghost use Rattle.clap.specs.Words.{kind_of};
+ghost use Rattle.std.specs.Prelude.{◌≡◌, ◌≢◌, ◌≤◌, ◌<◌, length, IfSome, OnOk, Result};
+ghost use Rattle.std.specs.Io.KnownBytes.{Appends};
+ghost use Rattle.std.specs.IoError.{error_kind};
 ghost use Rattle.sva_cli.specs.Command.{AsksHelp, AsksReplay, CallsHelp, IsMistaken, texts};
-ghost use Rattle.sva_cli.specs.Run.{HasCause, Reports, Says, complaint, fault_line, status_of};
-ghost use Rattle.sva_scenario.specs.Streams.{IsNew};
+ghost use Rattle.sva_cli.specs.Run.{HasCause, Reports, Says, complaint, fault_line, status_of, unread_line};
+ghost use Rattle.sva_scenario.specs.Streams.{IsNew, Writes};
 
 use crate::command::parse;
-use clap::Error;
 use clap::error::ErrorKind;
 use std::alloc::Global;
+use std::fmt::Display;
 use std::io;
-use std::io::{Read, Write};
+use std::io::{ErrorKind as IoErrorKind, Read, Write};
 use sva_scenario::{DriveFault, Outcome, Told, drive, write_all};
 
 /// The steps were run, or help was shown.
@@ -37,12 +38,13 @@ pub fn main_with<X: AllocGlobal, R: Read, W: Write, E: Write>(
     ensures replay { AsksReplay (texts words.now) → (ended : Result Outcome DriveFault) × (result ≡ status_of ended)
         × Reports (R.remaining reader.old.inner) (W.contents writer.old.inner) (W.contents writer.new.inner) ended
         × HasCause reader.new writer.new ended
-        × Says E.contents errors.old errors.new (complaint ended) }
+        × Says E.contents errors.old errors.new (complaint ended)
+        × OnOk ended (errors.new ≡ errors.old) }
     ensures unread { (AsksReplay (texts words.now) → ⊥) → reader.new ≡ reader.old }
     ensures help { (AsksReplay (texts words.now) → ⊥) → result ≡ DONE
         → AsksHelp (texts words.now) × (writer.new.failures ≡ 0) × (errors.new ≡ errors.old) }
     ensures fault { (AsksReplay (texts words.now) → ⊥) → result ≡ FAULT
-        → (fault : DriveFault) × HasCause reader.new writer.new (Err fault) × Says E.contents errors.old errors.new (fault_line fault) }
+        → (fault : DriveFault) × HasCause reader.new writer.new (Err fault) × ((fault ≡ DriveFault.Memory) → writer.new ≡ writer.old) × Says E.contents errors.old errors.new (fault_line fault) }
     ensures mistake { result ≡ MISTAKE → IsMistaken (texts words.now) × (writer.new ≡ writer.old) }
     ensures calls_help { CallsHelp (texts words.now) → result ≢ MISTAKE }
     ensures no_command { length words.now < 2 → result ≢ DONE }
@@ -53,17 +55,21 @@ pub fn main_with<X: AllocGlobal, R: Read, W: Write, E: Write>(
             let ended = drive(rt.alloc(), reader, writer);
             finish(ended, errors)
         }
-        Err(error) => answer(rt.alloc(), &error, writer, errors),
+        Err(error) => answer(rt.alloc(), error.kind(), &error, writer, errors),
     }
 }
 
-/// The status where the command line couldn't be read: memory ran out, or a word isn't UTF-8 text.
+/// The status where the command line couldn't be read: memory ran out, or a word isn't UTF-8 text. `errors` is told in
+/// a line which it was.
 pub fn unread<E: Write>(error: &io::Error, errors: &mut Told<E>) -> u8
     requires { IsNew errors.old }
-    ensures { (result ≡ FAULT) ⊎ (result ≡ MISTAKE) }
+    ensures memory { error_kind error.now ≡ IoErrorKind.OutOfMemory
+        → (result ≡ FAULT) × Says E.contents errors.old errors.new (fault_line DriveFault.Memory) }
+    ensures other { error_kind error.now ≢ IoErrorKind.OutOfMemory
+        → (result ≡ MISTAKE) × Says E.contents errors.old errors.new unread_line }
 {
     match error.kind() {
-        io::ErrorKind::OutOfMemory => finish(Err(DriveFault::Memory), errors),
+        IoErrorKind::OutOfMemory => finish(Err(DriveFault::Memory), errors),
         _ => {
             say(
                 "error: a word of the command line isn't UTF-8 text\n",
@@ -112,26 +118,30 @@ fn say<E: Write>(text: &str, errors: &mut Told<E>)
     let _ = write_all(errors, text.as_bytes());
 }
 
-/// Answers a command line that asks for no run: help goes to the writer, what is wrong to `errors`.
-fn answer<W: Write, E: Write>(
+/// Answers a command line that asks for no run, by the kind of its error and the error's text: help goes to the writer,
+/// what is wrong to `errors`.
+fn answer<T: Display, W: Write, E: Write>(
     alloc: Global,
-    error: &Error,
+    kind: ErrorKind,
+    error: &T,
     writer: &mut Told<W>,
     errors: &mut Told<E>,
 ) -> u8
     requires writer { IsNew writer.old }
     requires errors { IsNew errors.old }
-    ensures memory { kind_of error.now ≡ ErrorKind.OutOfMemory
+    ensures memory { kind ≡ ErrorKind.OutOfMemory
         → (result ≡ FAULT) × (writer.new ≡ writer.old) × Says E.contents errors.old errors.new (fault_line DriveFault.Memory) }
     ensures help { result ≡ DONE
-        → (kind_of error.now ≡ ErrorKind.DisplayHelp) × (writer.new.failures ≡ 0) × (errors.new ≡ errors.old) }
+        → (kind ≡ ErrorKind.DisplayHelp) × (writer.new.failures ≡ 0) × (errors.new ≡ errors.old)
+        × IfSome (T.output error.now) (λ text. Appends (W.contents writer.old.inner) (W.contents writer.new.inner) text) }
     ensures fault { result ≡ FAULT
         → (fault : DriveFault) × (fault ≢ DriveFault.Read) × ((fault ≡ DriveFault.Write) → writer.new.failures ≡ 1) × ((fault ≡ DriveFault.Memory) → writer.new ≡ writer.old) × Says E.contents errors.old errors.new (fault_line fault) }
     ensures mistake { result ≡ MISTAKE
-        → (kind_of error.now ≢ ErrorKind.OutOfMemory) × (kind_of error.now ≢ ErrorKind.DisplayHelp) × (writer.new ≡ writer.old) }
+        → (kind ≢ ErrorKind.OutOfMemory) × (kind ≢ ErrorKind.DisplayHelp) × (writer.new ≡ writer.old)
+        × IfSome (T.output error.now) (λ text. Says E.contents errors.old errors.new text) }
     ensures status { result ≤ MISTAKE }
 {
-    match error.kind() {
+    match kind {
         ErrorKind::OutOfMemory => finish(Err(DriveFault::Memory), errors),
         ErrorKind::DisplayHelp => match show(alloc, error, writer) {
             Ok(()) => DONE,
@@ -144,15 +154,20 @@ fn answer<W: Write, E: Write>(
     }
 }
 
-/// Writes clap's text.
-fn show<W: Write>(alloc: Global, error: &Error, writer: &mut Told<W>) -> Result<(), DriveFault>
+/// Writes the text of a value. Want of memory comes before anything is written.
+fn show<T: Display, W: Write>(
+    alloc: Global,
+    shown: &T,
+    writer: &mut Told<W>,
+) -> Result<(), DriveFault>
     requires { IsNew writer.old }
+    ensures text { IfSome (T.output shown.now) (λ text. Writes (W.contents writer.old.inner) (W.contents writer.new.inner) text result) }
     ensures ok { OnOk result (writer.new.failures ≡ 0) }
     ensures read { result ≢ Err DriveFault.Read }
     ensures write { result ≡ Err DriveFault.Write → writer.new.failures ≡ 1 }
     ensures memory { result ≡ Err DriveFault.Memory → writer.new ≡ writer.old }
 {
-    let Ok(text) = error.to_string(alloc) else {
+    let Ok(text) = shown.to_string(alloc) else {
         return Err(DriveFault::Memory);
     };
     write_all(writer, text.as_bytes())

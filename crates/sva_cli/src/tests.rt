@@ -1,6 +1,6 @@
 mod examples;
 
-use crate::run::main_with;
+use crate::run::{main_with, unread};
 use examples::EXAMPLES;
 use std::alloc::AllocError;
 use std::io;
@@ -103,6 +103,25 @@ fn judges_the_command_line_first(rt: HostRuntime) -> Result<(), Fail> {
             (2, 0, 0),
             "{text}"
         );
+    }
+    Ok(())
+}
+
+#[test]
+fn tells_of_a_command_line_that_is_not_read(rt: HostRuntime) -> Result<(), Fail> {
+    let runs = [
+        (
+            ErrorKind::InvalidData,
+            "error: a word of the command line isn't UTF-8 text\n",
+            2,
+        ),
+        (ErrorKind::OutOfMemory, "svahost: out of memory\n", 1),
+    ];
+    for (kind, text, status) in runs {
+        let mut errors = Told::new(Vec::new(rt.alloc()));
+        let found = unread(&io::Error::from(kind), &mut errors);
+        assert!(rt; errors.inner.as_slice() == text.as_bytes(), "{text}");
+        assert_eq!(rt; found, status, "{text}");
     }
     Ok(())
 }

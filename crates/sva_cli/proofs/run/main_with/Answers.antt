@@ -16,24 +16,26 @@ returns-in-Ok-clause-replay g c asks =
       reported _ _ _ drive.result drive.ensures.report drive.ensures.outcome (λ read. ap (λ told. g.W.Write.contents told.inner) (drive.ensures.read read).0),
       caused drive.new.reader drive.new.writer drive.result none (λ read. (drive.ensures.read read).1) drive.ensures.write drive.ensures.memory,
       c.finish.ensures.said,
+      c.finish.ensures.silent,
     )
 
 pub returns-in-Err-clause-replay : goal.returns-in-Err-clause-replay
 returns-in-Err-clause-replay g c asks =
     let fails : HasKind (fault_of svahost (texts c.args.words.now)) c.in-Err.error = search rules in
-    let memory = c.answer.ensures.memory (only_memory _ c.in-Err.error (takes_replay _ asks) fails) in (
+    let memory = c.answer.ensures.memory (c.kind.ensures ∙ only_memory _ c.in-Err.error (takes_replay _ asks) fails) in (
       Err Memory,
       memory.0,
       unwritten _ _ _ (ap (λ told. g.W.Write.contents told.inner) memory.1),
       (c.requires.reader.1, ap (λ told. told.failures) memory.1 ∙ c.requires.writer.1),
       memory.2,
+      tt,
     )
 
 pub returns-in-Err-clause-mistake : goal.returns-in-Err-clause-mistake
 returns-in-Err-clause-mistake g c two =
     let fails : HasKind (fault_of svahost (texts c.args.words.now)) c.in-Err.error = search rules in
     let mistake = c.answer.ensures.mistake two in
-    ((kind_of c.in-Err.error, mistake.1, among_faults _ c.in-Err.error fails mistake.0), mistake.2)
+    ((kind_of c.in-Err.error, λ help. mistake.1 (c.kind.ensures ∙ help), among_faults _ c.in-Err.error fails (λ memory. mistake.0 (c.kind.ensures ∙ memory))), mistake.2)
 
 pub returns-in-Ok-clause-unread : goal.returns-in-Ok-clause-unread
 returns-in-Ok-clause-unread g c other = absurd (asked_after_all (texts c.args.words.now) other (search rules))
@@ -50,6 +52,6 @@ returns-in-Err-clause-calls_help g c calls two = help_unmistaken _ calls (return
 pub returns-in-Err-clause-no_command : goal.returns-in-Err-clause-no_command
 returns-in-Err-clause-no_command g c few done =
     let fails : HasKind (fault_of svahost (texts c.args.words.now)) c.in-Err.error = search rules in
-    let asked = (c.answer.ensures.help done).0 in
+    let asked = sym c.kind.ensures ∙ (c.answer.ensures.help done).0 in
     let among = among_faults _ c.in-Err.error fails (λ memory. cc (sym memory ∙ asked)) in
     no_command_helps c.args.words.now few (subst (λ kind. IsAmong kind (fault_of svahost (texts c.args.words.now))) asked among)

@@ -45,6 +45,7 @@ pub fn main_with<X: AllocGlobal, R: Read, W: Write, E: Write>(
         → AsksHelp (texts words.now) × (writer.new.failures ≡ 0) × (errors.new ≡ errors.old) }
     ensures fault { (AsksReplay (texts words.now) → ⊥) → result ≡ FAULT
         → (fault : DriveFault) × HasCause reader.new writer.new (Err fault) × ((fault ≡ DriveFault.Memory) → writer.new ≡ writer.old) × Says E.contents errors.old errors.new (fault_line fault) }
+    ensures silent { (AsksReplay (texts words.now) → ⊥) → (AsksHelp (texts words.now) → ⊥) → writer.new ≡ writer.old }
     ensures mistake { result ≡ MISTAKE → IsMistaken (texts words.now) × (writer.new ≡ writer.old) }
     ensures calls_help { CallsHelp (texts words.now) → result ≢ MISTAKE }
     ensures no_command { length words.now < 2 → result ≢ DONE }
@@ -136,6 +137,7 @@ fn answer<T: Display, W: Write, E: Write>(
         × IfSome (T.output error.now) (λ text. Appends (W.contents writer.old.inner) (W.contents writer.new.inner) text) }
     ensures fault { result ≡ FAULT
         → (fault : DriveFault) × (fault ≢ DriveFault.Read) × ((fault ≡ DriveFault.Write) → writer.new.failures ≡ 1) × ((fault ≡ DriveFault.Memory) → writer.new ≡ writer.old) × Says E.contents errors.old errors.new (fault_line fault) }
+    ensures silent { kind ≢ ErrorKind.DisplayHelp → writer.new ≡ writer.old }
     ensures mistake { result ≡ MISTAKE
         → (kind ≢ ErrorKind.OutOfMemory) × (kind ≢ ErrorKind.DisplayHelp) × (writer.new ≡ writer.old)
         × IfSome (T.output error.now) (λ text. Says E.contents errors.old errors.new text) }

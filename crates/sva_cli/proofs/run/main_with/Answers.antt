@@ -46,6 +46,18 @@ returns-in-Ok-clause-help g c other = absurd (asked_after_all (texts c.args.word
 pub returns-in-Ok-clause-fault : goal.returns-in-Ok-clause-fault
 returns-in-Ok-clause-fault g c other = absurd (asked_after_all (texts c.args.words.now) other (search rules))
 
+pub returns-in-Ok-clause-silent : goal.returns-in-Ok-clause-silent
+returns-in-Ok-clause-silent g c other = absurd (asked_after_all (texts c.args.words.now) other (search rules))
+
+pub returns-in-Err-clause-silent : goal.returns-in-Err-clause-silent
+returns-in-Err-clause-silent g c other unasked =
+    let fails : HasKind (fault_of svahost (texts c.args.words.now)) c.in-Err.error = search rules in
+    c.answer.ensures.silent
+    (λ help.
+    let asked = sym c.kind.ensures ∙ help in
+    let among = among_faults _ c.in-Err.error fails (λ memory. cc (sym memory ∙ asked)) in
+    unasked (subst (λ kind. IsAmong kind (fault_of svahost (texts c.args.words.now))) asked among))
+
 pub returns-in-Err-clause-calls_help : goal.returns-in-Err-clause-calls_help
 returns-in-Err-clause-calls_help g c calls two = help_unmistaken _ calls (returns-in-Err-clause-mistake g c two).0
 

@@ -9,8 +9,10 @@ use Rattle.sva_step.specs.Texts.{answer_text, frames_text, InRange, TextsTellApa
 use Rattle.sva_step.specs.declared.refusals.Refusal.{Refusal}
 use Rattle.sva_step.specs.declared.answers.Answer.{Answer}
 use Rattle.sva_step.specs.declared.answers.Answer.TheVariants.{Space, Gone, Frame, FreeFrames, WithheldFrames, Binding, Stopping, Draining, Invalidating, Quiet, Released, Idle, Itag, Blocked, WaitDone, Empty, Part, Job, Resetting, JobTaken, Success, Invalid, Failure, Dropped, Tag, Use, Ended, Dead, Evicted, Group, Sent, Marker, Free, Mapped, Withheld, Started, Reset, NoTranslation, Full, Held, Taken, Answered, Stale, Completion, Freed, Queued, Marked, ResetDone}
-use Rattle.sva_step.proofs.Equality.{absurd_false}
 use Rattle.sva_step.proofs.RefusalLemmas.{number_of-le}
+
+absurd_false : {A : Type 0} → false ≡ true → A
+absurd_false h = cc
 
 -- a digit of a decimal number
 abbrev IsDigit : ℕ → Type 0

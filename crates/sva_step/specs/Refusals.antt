@@ -1,5 +1,5 @@
 -- The number and the name of each refusal, and its text.
-use Rattle.std.specs.Prelude.{◌≡◌, ℕ, ◌≤◌, List, [], ◌++◌, codes, decimal}
+use Rattle.std.specs.Prelude.{◌≡◌, ℕ, ◌≤◌, Bool, true, false, List, ◌++◌, codes, decimal}
 use Rattle.sva_step.specs.declared.refusals.Refusal.{Refusal}
 use Rattle.sva_step.specs.declared.refusals.Refusal.TheVariants.{BadConfig, NoSuchEndpoint, NoSuchSpace, TooManySpaces, PageRange, Mapped, NotMapped, NoFrame, SpaceFull, AlreadyBound, NoPasid, StillBound, NoSuchBinding, NotLive, NotYet, QueueFull, Resetting, NotStarted, NoTag, NotHeld, ReadOnly, NoUseSlot, NoSuchUse, NoCredit, NoSuchGroup, PriDisabled, NotPending, InUse, BadCount, NotStopping, Busy, NoSuchMessage, Overtakes, NoSuchWorker, HandsFull, NoJob, BadVerdict, NumbersSpent, OutOfMemory}
 
@@ -45,34 +45,8 @@ number_of BadVerdict = 37
 number_of NumbersSpent = 38
 number_of OutOfMemory = 39
 
--- the refusals of endpoints, of the link and of workers, and of a step that finds no number or no memory; nothing for
--- another
-abbrev pub endpoint_name_of : Refusal → List ℕ
-endpoint_name_of NotStarted = codes "NotStarted"
-endpoint_name_of NoTag = codes "NoTag"
-endpoint_name_of NotHeld = codes "NotHeld"
-endpoint_name_of ReadOnly = codes "ReadOnly"
-endpoint_name_of NoUseSlot = codes "NoUseSlot"
-endpoint_name_of NoSuchUse = codes "NoSuchUse"
-endpoint_name_of NoCredit = codes "NoCredit"
-endpoint_name_of NoSuchGroup = codes "NoSuchGroup"
-endpoint_name_of PriDisabled = codes "PriDisabled"
-endpoint_name_of NotPending = codes "NotPending"
-endpoint_name_of InUse = codes "InUse"
-endpoint_name_of BadCount = codes "BadCount"
-endpoint_name_of NotStopping = codes "NotStopping"
-endpoint_name_of Busy = codes "Busy"
-endpoint_name_of NoSuchMessage = codes "NoSuchMessage"
-endpoint_name_of Overtakes = codes "Overtakes"
-endpoint_name_of NoSuchWorker = codes "NoSuchWorker"
-endpoint_name_of HandsFull = codes "HandsFull"
-endpoint_name_of NoJob = codes "NoJob"
-endpoint_name_of BadVerdict = codes "BadVerdict"
-endpoint_name_of NumbersSpent = codes "NumbersSpent"
-endpoint_name_of OutOfMemory = codes "OutOfMemory"
-endpoint_name_of _ = []
-
--- the refusals of the host's own calls, and then the others
+-- the refusals of the host's own calls, then those of endpoints, of the link and of workers, and of a step that finds
+-- no number or no memory
 abbrev pub name_of : Refusal → List ℕ
 name_of BadConfig = codes "BadConfig"
 name_of NoSuchEndpoint = codes "NoSuchEndpoint"
@@ -91,7 +65,49 @@ name_of NotLive = codes "NotLive"
 name_of NotYet = codes "NotYet"
 name_of QueueFull = codes "QueueFull"
 name_of Resetting = codes "Resetting"
-name_of refusal = endpoint_name_of refusal
+name_of NotStarted = codes "NotStarted"
+name_of NoTag = codes "NoTag"
+name_of NotHeld = codes "NotHeld"
+name_of ReadOnly = codes "ReadOnly"
+name_of NoUseSlot = codes "NoUseSlot"
+name_of NoSuchUse = codes "NoSuchUse"
+name_of NoCredit = codes "NoCredit"
+name_of NoSuchGroup = codes "NoSuchGroup"
+name_of PriDisabled = codes "PriDisabled"
+name_of NotPending = codes "NotPending"
+name_of InUse = codes "InUse"
+name_of BadCount = codes "BadCount"
+name_of NotStopping = codes "NotStopping"
+name_of Busy = codes "Busy"
+name_of NoSuchMessage = codes "NoSuchMessage"
+name_of Overtakes = codes "Overtakes"
+name_of NoSuchWorker = codes "NoSuchWorker"
+name_of HandsFull = codes "HandsFull"
+name_of NoJob = codes "NoJob"
+name_of BadVerdict = codes "BadVerdict"
+name_of NumbersSpent = codes "NumbersSpent"
+name_of OutOfMemory = codes "OutOfMemory"
+
+-- a refusal of the host's own calls, which the table of names has first
+abbrev pub is_of_call : Refusal → Bool
+is_of_call BadConfig = true
+is_of_call NoSuchEndpoint = true
+is_of_call NoSuchSpace = true
+is_of_call TooManySpaces = true
+is_of_call PageRange = true
+is_of_call Mapped = true
+is_of_call NotMapped = true
+is_of_call NoFrame = true
+is_of_call SpaceFull = true
+is_of_call AlreadyBound = true
+is_of_call NoPasid = true
+is_of_call StillBound = true
+is_of_call NoSuchBinding = true
+is_of_call NotLive = true
+is_of_call NotYet = true
+is_of_call QueueFull = true
+is_of_call Resetting = true
+is_of_call _ = false
 
 -- `refused N Name`
 abbrev pub refusal_text : Refusal → List ℕ

@@ -1,6 +1,6 @@
 -- The text of each answer: its words with single spaces between them, the numbers decimal without leading zeros, and no
 -- line end.
-use Rattle.std.specs.Prelude.{◌≡◌, ◌≢◌, ℕ, ◌^◌, ◌<◌, List, [], ◌++◌, length, take, flat_map, All, codes, decimal}
+use Rattle.std.specs.Prelude.{◌≡◌, ◌≢◌, ℕ, ◌^◌, ◌<◌, Bool, true, false, List, [], ◌++◌, length, take, flat_map, All, codes, decimal}
 use Rattle.sva_step.specs.Refusals.{refusal_text}
 use Rattle.sva_step.specs.declared.refusals.Refusal.{Refusal}
 use Rattle.sva_step.specs.declared.answers.Answer.{Answer}
@@ -14,35 +14,7 @@ frames_text frames = flat_map (λ frame. codes " " ++ decimal frame) frames
 abbrev pub BeginsWith : List ℕ → List ℕ → Type 0
 BeginsWith text start = take (length start) text ≡ start
 
--- the answers of endpoints, of the link and of `look`; nothing for another answer
-abbrev pub endpoint_text : Answer → List ℕ
-endpoint_text (Tag tag) = codes "tag " ++ decimal tag
-endpoint_text (Use slot frame) = codes "use " ++ decimal slot ++ codes " frame " ++ decimal frame
-endpoint_text Ended = codes "ended"
-endpoint_text Dead = codes "dead"
-endpoint_text Evicted = codes "evicted"
-endpoint_text (Group group) = codes "group " ++ decimal group
-endpoint_text (Sent count) = codes "sent " ++ decimal count
-endpoint_text Marker = codes "marker"
-endpoint_text Free = codes "free"
-endpoint_text Mapped = codes "mapped"
-endpoint_text Withheld = codes "withheld"
-endpoint_text Started = codes "started"
-endpoint_text Reset = codes "reset"
-endpoint_text NoTranslation = codes "none"
-endpoint_text Full = codes "full"
-endpoint_text Held = codes "held"
-endpoint_text Taken = codes "taken"
-endpoint_text Answered = codes "answered"
-endpoint_text Stale = codes "stale"
-endpoint_text Completion = codes "completion"
-endpoint_text (Freed count) = codes "freed " ++ decimal count
-endpoint_text Queued = codes "queued"
-endpoint_text Marked = codes "marked"
-endpoint_text ResetDone = codes "reset done"
-endpoint_text _ = []
-
--- the answers of the host and its service, and then those of the others
+-- the answers of the host and its service, and then those of the endpoints, of the link and of `look`
 abbrev pub answer_text : Answer → List ℕ
 answer_text (Space space) = codes "space " ++ decimal space
 answer_text Gone = codes "gone"
@@ -69,7 +41,58 @@ answer_text (Success pages) = codes "success " ++ decimal pages
 answer_text Invalid = codes "invalid"
 answer_text Failure = codes "failure"
 answer_text Dropped = codes "dropped"
-answer_text answer = endpoint_text answer
+answer_text (Tag tag) = codes "tag " ++ decimal tag
+answer_text (Use slot frame) = codes "use " ++ decimal slot ++ codes " frame " ++ decimal frame
+answer_text Ended = codes "ended"
+answer_text Dead = codes "dead"
+answer_text Evicted = codes "evicted"
+answer_text (Group group) = codes "group " ++ decimal group
+answer_text (Sent count) = codes "sent " ++ decimal count
+answer_text Marker = codes "marker"
+answer_text Free = codes "free"
+answer_text Mapped = codes "mapped"
+answer_text Withheld = codes "withheld"
+answer_text Started = codes "started"
+answer_text Reset = codes "reset"
+answer_text NoTranslation = codes "none"
+answer_text Full = codes "full"
+answer_text Held = codes "held"
+answer_text Taken = codes "taken"
+answer_text Answered = codes "answered"
+answer_text Stale = codes "stale"
+answer_text Completion = codes "completion"
+answer_text (Freed count) = codes "freed " ++ decimal count
+answer_text Queued = codes "queued"
+answer_text Marked = codes "marked"
+answer_text ResetDone = codes "reset done"
+
+-- an answer of the host or of its service, which the table has first
+abbrev pub is_of_host : Answer → Bool
+is_of_host (Space space) = true
+is_of_host Gone = true
+is_of_host (Frame frame) = true
+is_of_host (FreeFrames frames) = true
+is_of_host (WithheldFrames frames) = true
+is_of_host (Binding binding pasid) = true
+is_of_host Stopping = true
+is_of_host Draining = true
+is_of_host Invalidating = true
+is_of_host Quiet = true
+is_of_host Released = true
+is_of_host Idle = true
+is_of_host (Itag itag) = true
+is_of_host Blocked = true
+is_of_host WaitDone = true
+is_of_host Empty = true
+is_of_host Part = true
+is_of_host Job = true
+is_of_host Resetting = true
+is_of_host (JobTaken binding group pages) = true
+is_of_host (Success pages) = true
+is_of_host Invalid = true
+is_of_host Failure = true
+is_of_host Dropped = true
+is_of_host _ = false
 
 -- each number is one of 64 bits, and a list of frames has a frame
 abbrev pub InRange : Answer → Type 0

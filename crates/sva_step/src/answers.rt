@@ -1,5 +1,5 @@
-ghost use Rattle.std.specs.Prelude.{◌≡◌, ◌++◌, OnOk, OnErr};
-ghost use Rattle.sva_step.specs.Texts.{answer_text, endpoint_text, frames_text, BeginsWith, TextsTellApart};
+ghost use Rattle.std.specs.Prelude.{◌≡◌, false, ◌++◌, OnOk, OnErr};
+ghost use Rattle.sva_step.specs.Texts.{answer_text, is_of_host, frames_text, BeginsWith, TextsTellApart};
 
 use crate::frame_list::FrameList;
 use crate::pieces::{put, put_number, undo};
@@ -206,9 +206,10 @@ impl Answer {
         }
     }
 
-    // As `append`, for the answers of endpoints, of the link and of `look`; nothing for another answer.
+    // As `append`, for the answers of endpoints, of the link and of `look`.
     fn append_endpoint(&self, out: &mut Vec<u8>) -> Result<(), AllocError>
-        ensures ok { OnOk result (out.new.items ≡ out.old.items ++ endpoint_text self.now) }
+        requires { is_of_host self.now ≡ false }
+        ensures ok { OnOk result (out.new.items ≡ out.old.items ++ answer_text self.now) }
         ensures err { OnErr result (BeginsWith out.new.items out.old.items) }
     {
         match self {
@@ -239,7 +240,7 @@ impl Answer {
             Answer::Queued => put(out, "queued"),
             Answer::Marked => put(out, "marked"),
             Answer::ResetDone => put(out, "reset done"),
-            _ => Ok(()),
+            _ => unreachable!(),
         }
     }
 }

@@ -1,5 +1,5 @@
-ghost use Rattle.std.specs.Prelude.{◌≡◌, ◌++◌, OnOk, OnErr};
-ghost use Rattle.sva_step.specs.Refusals.{number_of, name_of, endpoint_name_of, refusal_text, TellApart};
+ghost use Rattle.std.specs.Prelude.{◌≡◌, false, ◌++◌, OnOk, OnErr};
+ghost use Rattle.sva_step.specs.Refusals.{number_of, name_of, is_of_call, refusal_text, TellApart};
 ghost use Rattle.sva_step.specs.Texts.{BeginsWith};
 
 use crate::pieces::{put, put_number, undo};
@@ -123,9 +123,10 @@ impl Refusal {
     }
 
     // As `name`, for the refusals of endpoints, of the link and of workers, and of a step that finds no number or no
-    // memory; nothing for another.
+    // memory.
     fn endpoint_name(self) -> &'static str
-        ensures { result.now ≡ endpoint_name_of self }
+        requires { is_of_call self ≡ false }
+        ensures { result.now ≡ name_of self }
     {
         match self {
             Refusal::NotStarted => "NotStarted",
@@ -150,7 +151,7 @@ impl Refusal {
             Refusal::BadVerdict => "BadVerdict",
             Refusal::NumbersSpent => "NumbersSpent",
             Refusal::OutOfMemory => "OutOfMemory",
-            _ => "",
+            _ => unreachable!(),
         }
     }
 

@@ -179,7 +179,22 @@ impl Step {
             | Step::Advance { .. }
             | Step::BeginUse { .. }
             | Step::EndUse { .. } => false,
-            _ => true,
+            Step::Space
+            | Step::DropSpace { .. }
+            | Step::Map { .. }
+            | Step::Unmap { .. }
+            | Step::Pump { .. }
+            | Step::Serve { .. }
+            | Step::Reset { .. }
+            | Step::Take { .. }
+            | Step::Reply { .. }
+            | Step::Ask { .. }
+            | Step::Evict { .. }
+            | Step::Fault { .. }
+            | Step::Finish { .. }
+            | Step::Quit { .. }
+            | Step::Deliver { .. }
+            | Step::Look { .. } => true,
         }
     }
 }

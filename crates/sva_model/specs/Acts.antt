@@ -143,7 +143,8 @@ gone_if _ owed state = state
 abbrev pub in_range : (first count k : ℕ) → Bool
 in_range first count k = nat_le first k && nat_lt k (first + count)
 
--- the mappings without the pages of a space that are in sight, each with what the endpoints owe for it
+-- the mappings after some pages of a space are taken out of it: each that was present is gone, and waits for what the
+-- endpoints owe for it
 abbrev pub without_pages : Mappings → ℕ → (ℕ → Bool) → (ℕ → Owed) → Mappings
 without_pages ms s pages owed =
     record ms {
@@ -246,7 +247,8 @@ binding_of (Wait cookie drain) = 0
 abbrev pub count_field : ℕ → ℕ
 count_field count = if count == 8 then 0 else count
 
--- a translation of this binding and page, other than that of request r
+-- is request x, which may be r itself, of the binding and the page of request r? Then no translation that it brought
+-- is kept beside that of r.
 abbrev pub is_replaced : Part → (r request : ℕ) → Bool
 is_replaced p r x = p.request_binding x == p.request_binding r && p.request_page x == p.request_page r
 

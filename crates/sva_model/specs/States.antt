@@ -4,7 +4,7 @@ use Rattle.sva_model.specs.Words.{all_below}
 use Rattle.sva_model.specs.State.{Owed, MappingState, Stage, PasidState, RequestState, UseState, PageRequestState, GroupState, HostGroupState, Order, OrderState, Phase, Part, World}
 use Rattle.sva_model.specs.State.Owed.{Nothing, Pages, Pasid, AReset}
 use Rattle.sva_model.specs.State.MappingState.{Present, Gone}
-use Rattle.sva_model.specs.State.Stage.{Unbound, Live, Stopping, Draining, Quiet, Lost, Released}
+use Rattle.sva_model.specs.State.Stage.{Unbound, Live, Stopping, Draining, Released}
 use Rattle.sva_model.specs.State.PasidState.{Off, On, Ending}
 use Rattle.sva_model.specs.State.RequestState.{Out, Doomed}
 use Rattle.sva_model.specs.State.UseState.{Running}
@@ -29,15 +29,8 @@ abbrev pub is_live_stage : Stage → Bool
 is_live_stage Live = true
 is_live_stage _ = false
 
-abbrev pub is_lost : Stage → Bool
-is_lost Lost = true
-is_lost _ = false
-
-abbrev pub is_quiet : Stage → Bool
-is_quiet Quiet = true
-is_quiet _ = false
-
--- Live, Stopping or Draining: its translations may be asked for or are still cached, and nothing was ordered of all
+-- Live, Stopping or Draining: its translations may be asked for or are still cached, and the invalidation of its whole
+-- PASID isn't ordered yet
 abbrev pub is_before_invalidating : Stage → Bool
 is_before_invalidating Live = true
 is_before_invalidating (Stopping marked) = true
@@ -119,7 +112,7 @@ abbrev pub drains : Order → Bool
 drains (Wait cookie drain) = drain
 drains _ = false
 
--- of how many uses a taken invalidation was taken in sight
+-- how many uses had begun at the endpoint when it took the invalidation; 0 of one that isn't taken and unfinished
 abbrev pub uses_noted : OrderState → ℕ
 uses_noted (Taken uses) = uses
 uses_noted _ = 0

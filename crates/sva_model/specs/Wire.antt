@@ -2,7 +2,7 @@
 -- function of the world, by lists: tables by label from 0 on, queues in their order, maps in rising order of their keys.
 -- (This project's own form; the queues and descriptors are those of Intel VT-d, "Queued Invalidation Interface",
 -- "Invalidation Wait Descriptor" and "Page Request Queue".)
-use Rattle.std.specs.Prelude.{ℕ, zero, suc, ◌+◌, ◌-◌, Bool, true, false, ◌&&◌, ◌||◌, not, ◌==◌, nat_lt, if◌then◌else◌, Option, Some, None, List, [], ◌∷◌, map}
+use Rattle.std.specs.Prelude.{ℕ, zero, suc, ◌+◌, ◌-◌, Bool, true, false, ◌&&◌, ◌||◌, not, ◌==◌, nat_lt, if◌then◌else◌, Option, Some, None, option_map, List, [], ◌∷◌, map}
 use Rattle.sva_model.specs.Words.{any_below, count_below, select, tabulate, is_some, holds_of, the}
 use Rattle.sva_model.specs.Message.{Extent, Message}
 use Rattle.sva_model.specs.State.{Owed, MappingState, Stage, PasidState, RequestState, GroupState, HostGroupState, Order, OrderState, Part, World}
@@ -17,10 +17,6 @@ use Rattle.sva_model.specs.States.{Place, is_open, is_unreleased, is_running, is
 use Rattle.sva_model.specs.States.Place.{Free, Mapped, Withheld}
 use Rattle.sva_model.specs.Acts.{extent_of, binding_of}
 use Rattle.sva_model.specs.Labels
-
-abbrev pub over : {A : Type 0} → (ℕ → A) → Option ℕ → Option A
-over f None = None
-over f (Some k) = Some (f k)
 
 abbrev pub chain : {A : Type 0} → (ℕ → Option A) → Option ℕ → Option A
 chain f None = None
@@ -277,14 +273,14 @@ part_wire w p =
       is_open = is_open p.phase;
       bindings = map (binding_wire w p) (select w.bindings (λ b. is_unreleased (p.stage b)));
       pasids = tabulate 32 (λ t. state_of_pasid p (p.at_pasid (suc t)));
-      tags = tabulate 32 (λ t. over (request_wire p) (p.at_tag t));
+      tags = tabulate 32 (λ t. option_map (request_wire p) (p.at_tag t));
       cache = cache_wire w p;
-      slots = tabulate 16 (λ t. over (use_wire w p) (p.at_slot t));
+      slots = tabulate 16 (λ t. option_map (use_wire w p) (p.at_slot t));
       taken = tabulate 32 (λ t. chain (λ k. taken_by w p k (p.order_state k)) (p.at_itag t));
-      groups = tabulate 32 (λ i. over (group_wire p) (p.at_index i));
+      groups = tabulate 32 (λ i. option_map (group_wire p) (p.at_index i));
       is_disabled = p.is_disabled;
       queue = map (λ k. descriptor w p (p.order k)) (select p.orders (λ k. is_queued (p.order_state k)));
-      busy = tabulate 32 (λ t. over (λ k. busy_wire (p.order_state k)) (p.at_itag t));
+      busy = tabulate 32 (λ t. option_map (λ k. busy_wire (p.order_state k)) (p.at_itag t));
       page_queue = map (λ k. page_request_wire p (p.arrival k)) (select p.arrivals (Labels.is_waiting p));
       host_groups = map (λ k. host_group_wire w p (p.group_of (p.filing k))) (select p.filings (begins_open p));
     }
@@ -325,7 +321,7 @@ wire w =
       places = places_wire w;
       parts = tabulate w.config.endpoints (λ e. part_wire w (w.part e));
       jobs = map (job_wire w) (select w.jobs (Labels.is_queued_job w));
-      hands = tabulate w.config.workers (λ x. over (job_wire w) (w.hand x));
+      hands = tabulate w.config.workers (λ x. option_map (job_wire w) (w.hand x));
       in_flight =
           map (λ c. record { number = Labels.number w c; endpoint = w.way c; message = (w.part (w.way c)).carried c })
           (select w.messages (λ c. is_some ((w.part (w.way c)).message c)));

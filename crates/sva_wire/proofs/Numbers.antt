@@ -1,6 +1,6 @@
 -- The law: while nothing is bound, a step of spaces and frames by numbers is the step by names.
 use Rattle.std.proofs.Common.{◌≡◌, ◌⊎◌, inl, inr, refl, ap, sym, ◌∙◌, ℕ, suc, ◌+◌, ◌≤◌, ◌^◌, Bool, true, false, arith}
-use Rattle.std.specs.Prelude.{Option, Some, None, ◌&&◌, not, ◌==◌, nat_lt, nat_le, if◌then◌else◌, List, [], ◌∷◌, Ok, Err}
+use Rattle.std.specs.Prelude.{Option, Some, None, option_map, ◌&&◌, not, ◌==◌, nat_lt, nat_le, if◌then◌else◌, List, [], ◌∷◌, Ok, Err}
 use Rattle.std.proofs.lemmas.Bool.Decides.{nat_tests}
 use Rattle.sva_step.specs.declared.answers.Answer.{Answer}
 use Rattle.sva_step.specs.declared.answers.Answer.TheVariants as answer
@@ -16,7 +16,7 @@ use Rattle.sva_model.specs.Refusals.{Cause, refusals, page_range, unmap_refusals
 use Rattle.sva_model.specs.Outcomes.{Outcome, outcome, frames_at, unmap_answer}
 use Rattle.sva_model.specs.Steps.{Reply, Decision, checked, after_acts, reply, next, world_after}
 use Rattle.sva_model.specs.Labels
-use Rattle.sva_model.specs.Wire.{PageWire, over, insert_by, is_lower_page, page_wire, pages_wire, spaces_wire, places_wire, wire}
+use Rattle.sva_model.specs.Wire.{PageWire, insert_by, is_lower_page, page_wire, pages_wire, spaces_wire, places_wire, wire}
 use Rattle.sva_laws.proofs.Words.{some_the, not_true, all_below-true}
 use Rattle.sva_laws.proofs.Counting.{count_zero}
 use Rattle.sva_laws.proofs.Invariant.{Invariant}
@@ -105,7 +105,7 @@ mapped_is w i s q = ap mapped_there (page_at_is w i.mapped s q) ∙ go (w.mappin
     mapped_there None = false
     mapped_there (Some entry) = true
 
-    go : (o : Option ℕ) → mapped_there (over (page_wire w) o) ≡ is_some o
+    go : (o : Option ℕ) → mapped_there (option_map (page_wire w) o) ≡ is_some o
     go None = refl
     go (Some m) = refl
 
@@ -157,7 +157,7 @@ frames_are w i s q count h =
     tabulate_same count (λ j. w.mappings.frame (the (w.mappings.at s (q + j)))) (λ j. frame_or_0 (page_at (pages_wire w s) (q + j)))
     (λ j l. go (w.mappings.at s (q + j)) (sym (mapped_is w i s (q + j)) ∙ all_below-true count (λ j. is_mapped (pages_wire w s) (q + j)) h j l) ∙ sym (ap frame_or_0 (page_at_is w i.mapped s (q + j))))
   where
-    go : (o : Option ℕ) → is_some o ≡ true → w.mappings.frame (the o) ≡ frame_or_0 (over (page_wire w) o)
+    go : (o : Option ℕ) → is_some o ≡ true → w.mappings.frame (the o) ≡ frame_or_0 (option_map (page_wire w) o)
     go None t = absurd (cc)
     go (Some m) t = refl
 

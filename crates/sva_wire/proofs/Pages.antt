@@ -1,7 +1,7 @@
 -- The pages of a space as a list in rising order: what stands at a page, how many there are, and what an insertion and a
 -- removal do.
 use Rattle.std.proofs.Common.{◌≡◌, ◌≢◌, ◌⊎◌, inl, inr, refl, ap, ap₂, sym, subst, ◌∙◌, ℕ, zero, suc, ◌<◌, ◌≤◌, Bool, true, false, arith}
-use Rattle.std.specs.Prelude.{Option, Some, None, ◌&&◌, not, ◌==◌, nat_lt, if◌then◌else◌, List, [], ◌∷◌, length, filter}
+use Rattle.std.specs.Prelude.{Option, Some, None, option_map, ◌&&◌, not, ◌==◌, nat_lt, if◌then◌else◌, List, [], ◌∷◌, length, filter}
 use Rattle.std.proofs.lemmas.Bool.Decides.{nat_tests}
 use Rattle.sva_model.specs.Words.{count_below}
 use Rattle.sva_model.specs.State.{Owed, MappingState, World}
@@ -9,7 +9,7 @@ use Rattle.sva_model.specs.State.MappingState.{Unmade, Present, Gone}
 use Rattle.sva_model.specs.States.{is_present}
 use Rattle.sva_model.specs.Acts.{act, gone_if, in_range}
 use Rattle.sva_model.specs.Acts.Act.{Map}
-use Rattle.sva_model.specs.Wire.{PageWire, over, insert_by, is_lower_page, is_page_of, page_wire, pages_below, pages_wire}
+use Rattle.sva_model.specs.Wire.{PageWire, insert_by, is_lower_page, is_page_of, page_wire, pages_below, pages_wire}
 use Rattle.sva_laws.proofs.Words.{put-same, put-other, ℕ_cases}
 use Rattle.sva_laws.proofs.Invariant.{Mapped}
 use Rattle.sva_laws.proofs.Passed.{and_left, and_right}
@@ -221,7 +221,7 @@ page_at_some w ma s q m (suc n) h l = go (ℕ_cases m n) (λ k. page_at_some w m
     go (inr ne) rest = there ne (is_page_of w s n) refl (rest (omega arith))
 
 -- what stands at a page of the list is the mapping that is present there
-pub page_at_is : (w : World) → Mapped w → (s q : ℕ) → page_at (pages_wire w s) q ≡ over (page_wire w) (w.mappings.at s q)
+pub page_at_is : (w : World) → Mapped w → (s q : ℕ) → page_at (pages_wire w s) q ≡ option_map (page_wire w) (w.mappings.at s q)
 page_at_is w ma s q = go (w.mappings.at s q) refl
   where
     made : (m : ℕ) → w.mappings.at s q ≡ Some m → m < w.mappings.made
@@ -230,7 +230,7 @@ page_at_is w ma s q = go (w.mappings.at s q) refl
         made_by : (w.mappings.made ≤ m → w.mappings.state m ≡ Unmade) → w.mappings.state m ≡ Present → m < w.mappings.made
         made_by u h = grind (arith)
 
-    go : (o : Option ℕ) → w.mappings.at s q ≡ o → page_at (pages_wire w s) q ≡ over (page_wire w) o
+    go : (o : Option ℕ) → w.mappings.at s q ≡ o → page_at (pages_wire w s) q ≡ option_map (page_wire w) o
     go None h = page_at_none w s q w.mappings.made (λ m l t e. absurd (cc (sym (page_there w ma s q m t e) ∙ h)))
     go (Some m) h = page_at_some w ma s q m w.mappings.made h (made m h)
 

@@ -1,6 +1,6 @@
 -- While nothing is bound: what the endpoints keep doesn't depend on the mappings, and unmapping asks nothing of them.
 use Rattle.std.proofs.Common.{◌≡◌, ◌≢◌, ◌⊎◌, inl, inr, refl, ap, sym, ◌∙◌, ℕ, ◌+◌, ◌<◌, Bool, true, false, arith}
-use Rattle.std.specs.Prelude.{Option, Some, None, ◌&&◌, ◌==◌, if◌then◌else◌, nat_lt, List, [], ◌∷◌, map, length, replicate}
+use Rattle.std.specs.Prelude.{Option, Some, None, option_map, ◌&&◌, ◌==◌, if◌then◌else◌, nat_lt, List, [], ◌∷◌, map, length, replicate}
 use Rattle.std.proofs.lemmas.Bool.Decides.{nat_tests}
 use Rattle.std.proofs.Math.Path.{fun_ext}
 use Rattle.sva_model.specs.Words.{find, if_found, lowest, any_below, count_below, select, tabulate, is_some, the}
@@ -9,7 +9,7 @@ use Rattle.sva_model.specs.State.Owed.{Nothing}
 use Rattle.sva_model.specs.States.{is_unreleased}
 use Rattle.sva_model.specs.Acts.{act, bound, submits_at, submits, waits_at, waits, owed_by, submitted_if, in_range, without_pages}
 use Rattle.sva_model.specs.Acts.Act.{Unmap}
-use Rattle.sva_model.specs.Wire.{over, chain, sorted_by, insert_by, is_before, binding_wire, translation_wire, cache_wire, use_wire, taken_by, part_wire, spaces_wire, places_wire, busy_wire, wire}
+use Rattle.sva_model.specs.Wire.{chain, sorted_by, insert_by, is_before, binding_wire, translation_wire, cache_wire, use_wire, taken_by, part_wire, spaces_wire, places_wire, busy_wire, wire}
 use Rattle.sva_laws.proofs.Words.{lowest_cases}
 use Rattle.sva_laws.proofs.Counting.{count_zero}
 use Rattle.sva_laws.proofs.Invariant.{Invariant}
@@ -41,7 +41,7 @@ sorted_empty : {A : Type 0} (below : A → A → Bool) (xs : List A) → sorted_
 sorted_empty below [] h = refl
 sorted_empty below (x ∷ xs) h = absurd (insert_some below x (sorted_by below xs) h)
 
-over_none : {A : Type 0} (f : ℕ → A) (o : Option ℕ) → over f o ≡ None → o ≡ None
+over_none : {A : Type 0} (f : ℕ → A) (o : Option ℕ) → option_map f o ≡ None → o ≡ None
 over_none f None h = refl
 over_none f (Some k) h = absurd (cc)
 
@@ -51,10 +51,10 @@ none_cached w p h = map_empty (λ r. translation_wire w p (p.request_binding r) 
 
 -- no use slot is taken, and no ITag
 no_slot : (w : World) (p : Part) → part_wire w p ≡ idle → (t : ℕ) → t < 16 → p.at_slot t ≡ None
-no_slot w p h t l = over_none (use_wire w p) (p.at_slot t) (tabulate_all 16 (λ x. over (use_wire w p) (p.at_slot x)) None (ap (λ x. x.slots) h) t l)
+no_slot w p h t l = over_none (use_wire w p) (p.at_slot t) (tabulate_all 16 (λ x. option_map (use_wire w p) (p.at_slot x)) None (ap (λ x. x.slots) h) t l)
 
 no_itag : (w : World) (p : Part) → part_wire w p ≡ idle → (t : ℕ) → t < 32 → p.at_itag t ≡ None
-no_itag w p h t l = over_none (λ k. busy_wire (p.order_state k)) (p.at_itag t) (tabulate_all 32 (λ x. over (λ k. busy_wire (p.order_state k)) (p.at_itag x)) None (ap (λ x. x.busy) h) t l)
+no_itag w p h t l = over_none (λ k. busy_wire (p.order_state k)) (p.at_itag t) (tabulate_all 32 (λ x. option_map (λ k. busy_wire (p.order_state k)) (p.at_itag x)) None (ap (λ x. x.busy) h) t l)
 
 -- so it is seen the same whatever the mappings are
 cache_same : (w : World) (ms : Mappings) (p : Part) → part_wire w p ≡ idle → cache_wire (with_mappings w ms) p ≡ cache_wire w p
@@ -63,10 +63,10 @@ cache_same w ms p h = go (select p.requests (λ r. is_some (p.held r))) (none_ca
     go : (rs : List ℕ) → rs ≡ [] → sorted_by is_before (map (λ r. translation_wire (with_mappings w ms) p (p.request_binding r) (p.request_page r) (the (p.held r))) rs) ≡ sorted_by is_before (map (λ r. translation_wire w p (p.request_binding r) (p.request_page r) (the (p.held r))) rs)
     go rs e = ap (λ z. sorted_by is_before (map (λ r. translation_wire (with_mappings w ms) p (p.request_binding r) (p.request_page r) (the (p.held r))) z)) e ∙ sym (ap (λ z. sorted_by is_before (map (λ r. translation_wire w p (p.request_binding r) (p.request_page r) (the (p.held r))) z)) e)
 
-slots_same : (w : World) (ms : Mappings) (p : Part) → part_wire w p ≡ idle → tabulate 16 (λ t. over (use_wire (with_mappings w ms) p) (p.at_slot t)) ≡ tabulate 16 (λ t. over (use_wire w p) (p.at_slot t))
+slots_same : (w : World) (ms : Mappings) (p : Part) → part_wire w p ≡ idle → tabulate 16 (λ t. option_map (use_wire (with_mappings w ms) p) (p.at_slot t)) ≡ tabulate 16 (λ t. option_map (use_wire w p) (p.at_slot t))
 slots_same w ms p h =
-    tabulate_same 16 (λ t. over (use_wire (with_mappings w ms) p) (p.at_slot t)) (λ t. over (use_wire w p) (p.at_slot t))
-    (λ t l. ap (over (use_wire (with_mappings w ms) p)) (no_slot w p h t l) ∙ sym (ap (over (use_wire w p)) (no_slot w p h t l)))
+    tabulate_same 16 (λ t. option_map (use_wire (with_mappings w ms) p) (p.at_slot t)) (λ t. option_map (use_wire w p) (p.at_slot t))
+    (λ t l. ap (option_map (use_wire (with_mappings w ms) p)) (no_slot w p h t l) ∙ sym (ap (option_map (use_wire w p)) (no_slot w p h t l)))
 
 taken_same : (w : World) (ms : Mappings) (p : Part) → part_wire w p ≡ idle → tabulate 32 (λ t. chain (λ k. taken_by (with_mappings w ms) p k (p.order_state k)) (p.at_itag t)) ≡ tabulate 32 (λ t. chain (λ k. taken_by w p k (p.order_state k)) (p.at_itag t))
 taken_same w ms p h =

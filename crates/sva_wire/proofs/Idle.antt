@@ -1,6 +1,7 @@
 -- Nothing is bound before the first step, and steps of spaces and frames bind nothing: whole lists of them go by numbers.
 use Rattle.std.proofs.Common.{◌≡◌, refl, ap, ap₂, sym, subst, ◌∙◌, ◌+◌, arith}
 use Rattle.std.specs.Prelude.{Option, None, List, [], ◌∷◌, replicate, Ok, Err}
+use Rattle.std.specs.List.{AllByRecursion}
 use Rattle.std.proofs.lemmas.List.{length-replicate}
 use Rattle.sva_step.specs.declared.answers.Answer.TheVariants as answer
 use Rattle.sva_step.specs.declared.limits.Config.{Config}
@@ -15,7 +16,7 @@ use Rattle.sva_model.specs.Wire.{Wire, RequestWire, UseWire, TakenWire, GroupWir
 use Rattle.sva_model.specs.Wire.PlaceWire.{FreeWire}
 use Rattle.sva_laws.proofs.Invariant.{Invariant}
 use Rattle.sva_laws.proofs.Runs.{opened_invariant, next_keeps}
-use Rattle.sva_wire.specs.Host.{IsIdle, IsOfSpaces, AreOfSpaces, RunsByNumbers, idle, first_wire, reply_of, changed, next_of, replies_of, run_of}
+use Rattle.sva_wire.specs.Host.{IsIdle, IsOfSpaces, RunsByNumbers, idle, first_wire, reply_of, changed, next_of, replies_of, run_of}
 use Rattle.sva_wire.proofs.Lists.{tabulate_one}
 use Rattle.sva_wire.proofs.Numbers.{by_numbers}
 
@@ -78,7 +79,7 @@ stays_idle w s t h = go s t (reply_of w s)
     go _ t r = absurd t
 
 -- a list of such steps, from a world where nothing is bound
-run_by_numbers : (ss : List Step) (w : World) → Invariant w → AreOfSpaces ss → IsIdle (wire w) → (replies w ss ≡ replies_of (wire w) ss) × (wire (run w ss) ≡ run_of (wire w) ss)
+run_by_numbers : (ss : List Step) (w : World) → Invariant w → AllByRecursion IsOfSpaces ss → IsIdle (wire w) → (replies w ss ≡ replies_of (wire w) ss) × (wire (run w ss) ≡ run_of (wire w) ss)
 unfolding replies
 run_by_numbers [] w i t h = (refl, refl)
 run_by_numbers (s ∷ ss) w i t h =

@@ -1,6 +1,7 @@
 -- The steps of spaces and frames by numbers: what a host answers to them, and what it keeps afterwards, read off what it
 -- keeps before, while no endpoint has anything and nothing is in flight. No name of a record stands in it.
 use Rattle.std.specs.Prelude.{◌≡◌, ◌≤◌, ℕ, ◌+◌, ◌^◌, Bool, true, false, ◌&&◌, not, ◌==◌, nat_lt, nat_le, if◌then◌else◌, is_some, Option, Some, None, List, [], ◌∷◌, ◌++◌, filter, length, replicate, slice_set, Ok, Err}
+use Rattle.std.specs.List.{AllByRecursion}
 use Rattle.sva_step.specs.declared.answers.Answer.{Answer}
 use Rattle.sva_step.specs.declared.answers.Answer.TheVariants as answer
 use Rattle.sva_step.specs.declared.limits.Config.{Config}
@@ -185,10 +186,6 @@ first_wire config =
       next_cookie = config.first;
     }
 
-abbrev pub AreOfSpaces : List Step → Type 0
-AreOfSpaces [] = Unit {0}
-AreOfSpaces (s ∷ ss) = IsOfSpaces s × AreOfSpaces ss
-
 -- the answers to a list of steps
 abbrev pub replies_of : Wire → List Step → List Reply
 replies_of w [] = []
@@ -205,6 +202,6 @@ abbrev pub RunsByNumbers : Type 0
 RunsByNumbers =
     (config : Config) (steps : List Step)
     → Fits config
-    → AreOfSpaces steps
+    → AllByRecursion IsOfSpaces steps
     → (replies (opened config) steps ≡ replies_of (first_wire config) steps)
     × (wire (world_after config steps) ≡ run_of (first_wire config) steps)

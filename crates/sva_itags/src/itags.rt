@@ -12,11 +12,18 @@ use std::marker::Model;
 /// How many tags a unit has: an ITag has 5 bits (PCI Express Base 5.0, section 10.3.1).
 const TAGS: usize = 32;
 
-/// A tag in use: no completion has arrived, or `arrived` of the `count` that it waits for.
+/// A tag in use, and how many of the completions that it waits for have arrived.
 #[derive(Clone, Copy, Debug)]
 pub enum Busy {
+    /// None has arrived, so their count isn't known.
     Fresh,
-    Counting { count: u8, arrived: u8 },
+    /// Some have arrived, and not all.
+    Counting {
+        /// How many it waits for in all: 2 to 8.
+        count: u8,
+        /// How many have arrived: 1 to 7, fewer than `count`.
+        arrived: u8,
+    },
 }
 
 /// A busy tag once `arrived` completions have come: `None`, and so free, where that is its count.
@@ -180,7 +187,8 @@ impl Itags {
 }
 
 /// What holds after every list of calls: 32 tags, each free or busy with fewer completions than its count; and a tag
-/// is busy from the call that takes it until exactly the completion that brings their number to the first one's count.
+/// is busy from the call that takes it, over every list of calls without `clear`, until exactly the completion that brings
+/// their number to the first one's count.
 pub fn laws()
     ensures tags { AlwaysTags }
     ensures freed { FreedAtItsCount }

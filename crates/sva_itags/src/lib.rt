@@ -7,3 +7,4 @@ mod vectors;
 
 pub use counts::Count;
 pub use itags::{Itags, laws};
+pub use vectors::is_tag_named;

@@ -2,7 +2,7 @@
 ghost use Rattle.std.specs.Prelude.{◌≡◌, ◌+◌, ◌^◌, ◌<◌, if◌then◌else◌};
 ghost use Rattle.sva_itags.specs.Vector.{is_named};
 
-/// Whether a vector names a tag.
+/// Whether an ITag Vector names a tag, 0 to 31: its bit T stands for tag T (PCI Express Base 5.0, section 10.3.2).
 pub fn is_tag_named(vector: u32, tag: usize) -> bool
     requires { tag < 32 }
     ensures { result ≡ is_named vector tag }

@@ -27,7 +27,12 @@ is_order_down StopSort = true
 is_order_down ResetSort = true
 is_order_down InvalidateSort = true
 is_order_down ResponseSort = true
-is_order_down _ = false
+is_order_down CompletionSort = false
+is_order_down RequestSort = false
+is_order_down InvalidatedSort = false
+is_order_down (PageRequestSort last) = false
+is_order_down MarkerSort = false
+is_order_down ResetDoneSort = false
 
 -- must a message of the first kind not overtake an older one of the second kind of the same endpoint?
 -- A page request with L, or a marker, overtakes no page request; a start, a stop and a reset overtake no message down
@@ -39,4 +44,9 @@ stays_behind StartSort older = is_order_down older
 stays_behind StopSort older = is_order_down older
 stays_behind ResetSort older = is_order_down older
 stays_behind ResetDoneSort older = true
-stays_behind _ older = false
+stays_behind (PageRequestSort false) older = false
+stays_behind CompletionSort older = false
+stays_behind InvalidateSort older = false
+stays_behind ResponseSort older = false
+stays_behind RequestSort older = false
+stays_behind InvalidatedSort older = false

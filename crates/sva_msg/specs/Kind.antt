@@ -11,7 +11,12 @@ is_up (Invalidated vector count) = true
 is_up (PageRequest request) = true
 is_up (Marker pasid) = true
 is_up ResetDone = true
-is_up _ = false
+is_up (Start pasid) = false
+is_up (Stop pasid) = false
+is_up Reset = false
+is_up (Completion tag frame read write) = false
+is_up (Invalidate itag pasid scope) = false
+is_up (Response pasid index code) = false
 
 -- is it sent by the host to the endpoint?
 abbrev pub is_down : Kind → Bool

@@ -47,7 +47,7 @@ impl Bag {
         }
     }
 
-    /// How many numbers are left.
+    /// How many numbers are left below 2^63.
     pub fn left(&self) -> u64
         ensures left { result ≡ 2 ^ 63 - self.now.next }
         ensures numbered { IsNumbered self.now }
@@ -56,7 +56,7 @@ impl Bag {
     }
 
     /// Sends `copies` copies of a message, 1 to 8, and gives the number of the first; the numbers of the others follow it.
-    /// `left` tells whether so many numbers are left. An `Err` comes only where memory was refused, and sends none.
+    /// `left` tells whether so many numbers are left. Where memory is refused, nothing is sent and the bag is as before.
     pub fn send(&mut self, message: Message, copies: u64) -> Result<u64, AllocError>
         requires at_least_one { 1 ≤ copies }
         requires at_most_eight { copies ≤ 8 }

@@ -131,7 +131,7 @@ pub enum Kind {
         pasid: u32,
         /// The Page Request Group Index: 0 to 31 of its nine bits.
         index: u8,
-        /// The response code.
+        /// The response code, one of three of its four bits.
         code: Code,
     },
     /// Up: a Translation Request (PCI Express Base 5.0, section 10.2.2).
@@ -147,7 +147,7 @@ pub enum Kind {
     Invalidated {
         /// The ITag Vector: bit T stands for ITag T, 0 to 31.
         vector: u32,
-        /// The Completion Count field: how many completions there are in all.
+        /// The Completion Count field, 0 to 7: how many completions there are in all, 1 to 8.
         count: CountField,
     },
     /// Up: a Page Request.
@@ -181,7 +181,12 @@ impl Kind {
             | Kind::Reset
             | Kind::Invalidate { .. }
             | Kind::Response { .. } => true,
-            _ => false,
+            Kind::Completion { .. }
+            | Kind::Request { .. }
+            | Kind::Invalidated { .. }
+            | Kind::PageRequest(_)
+            | Kind::Marker { .. }
+            | Kind::ResetDone => false,
         }
     }
 
@@ -194,7 +199,11 @@ impl Kind {
             Kind::Marker { .. } => older.is_page_request(),
             Kind::Start { .. } | Kind::Stop { .. } | Kind::Reset => older.is_order_down(),
             Kind::ResetDone => true,
-            _ => false,
+            Kind::Completion { .. }
+            | Kind::Invalidate { .. }
+            | Kind::Response { .. }
+            | Kind::Request { .. }
+            | Kind::Invalidated { .. } => false,
         }
     }
 }
@@ -222,7 +231,12 @@ impl Message {
             | Kind::PageRequest(_)
             | Kind::ResetDone
             | Kind::Marker { .. } => true,
-            _ => false,
+            Kind::Start { .. }
+            | Kind::Stop { .. }
+            | Kind::Reset
+            | Kind::Completion { .. }
+            | Kind::Invalidate { .. }
+            | Kind::Response { .. } => false,
         }
     }
 

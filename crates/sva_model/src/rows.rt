@@ -1,4 +1,4 @@
-// Runs that are worked out by hand: the definitions give these answers, line by line, and these counts of frames.
+//! Runs that are worked out by hand: the definitions give these answers, line by line, and these counts of frames.
 
 ghost use Rattle.sva_model.specs.RowsOfTranslations.{SpacesAndFrames, PagesOfASpace, TwoBindings, DropOfASpace, Translations, FirstTranslation, HeldBackByAUse, LateAnswer, AnswersCrossed};
 ghost use Rattle.sva_model.specs.RowsOfInvalidations.{CountOfEight, OneVectorForThree, AllTagsBusy, UnbindStageByStage, UnmapWhileInvalidating};

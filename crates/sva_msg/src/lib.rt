@@ -1,4 +1,4 @@
-// The messages between a host and its endpoints, and those of them that are in flight.
+//! The messages between a host and its endpoints, and those of them that are in flight.
 #![tactic(auto)]
 
 mod in_flight;

@@ -6,12 +6,25 @@ use std::fmt;
 /// What the host asks of a unit (Intel VT-d, "Queued Invalidation Interface").
 #[derive(Clone, Copy, Debug, PartialEq, Eq)]
 pub enum Descriptor {
-    /// Invalidate one page, a page number below 2^36, of a PASID.
-    Page { pasid: u32, page: u64 },
+    /// Invalidate one page of a PASID.
+    Page {
+        /// The PASID: 1 to 32 of its 20 bits (PCI Express Base 5.0, section 6.20).
+        pasid: u32,
+        /// The number of the page, below 2^36; a page has 4096 bytes.
+        page: u64,
+    },
     /// Invalidate all pages of a PASID.
-    Pasid { pasid: u32 },
-    /// Wait for all invalidations ahead of it and, with `drain`, until the page request queue is empty.
-    Wait { cookie: u64, drain: bool },
+    Pasid {
+        /// The PASID: 1 to 32 of its 20 bits (PCI Express Base 5.0, section 6.20).
+        pasid: u32,
+    },
+    /// Wait for all invalidations ahead of it.
+    Wait {
+        /// The number by which its submitter knows it again, below 2^63.
+        cookie: u64,
+        /// Waits until the page request queue is empty too (Intel VT-d, "Page Request Drain").
+        drain: bool,
+    },
 }
 
 /// A wait that nothing asked for: what the unused places of a table hold.
@@ -32,9 +45,9 @@ impl Default for Descriptor {
 /// What a unit has done with the head of its queue.
 #[derive(Clone, Copy, Debug, PartialEq, Eq)]
 pub enum Pumped {
-    /// An invalidation was taken off; an Invalidate Request with this tag is to be sent.
+    /// An invalidation was taken off; an Invalidate Request with this ITag, 0 to 31, is to be sent.
     Issued(u8),
-    /// The wait with this cookie was taken off: all that was ahead of it is complete.
+    /// The wait with this cookie, below 2^63, was taken off: all that was ahead of it is complete.
     Done(u64),
     /// The head has to stay: no tag is free for an invalidation, or a wait isn't complete.
     Blocked,

@@ -1,5 +1,5 @@
-// The words of svahost: the steps that a host, its endpoints and their link take, the answers that they give, and
-// the refusals, each with its number and its name.
+//! The words of svahost: the steps that a host, its endpoints and their link take, the answers that they give, and
+//! the refusals, each with its number and its name.
 #![tactic(auto)]
 
 mod answers;

@@ -1,4 +1,4 @@
-// The pieces of a text, appended one after another.
+//! The pieces of a text, appended one after another.
 ghost use Rattle.std.specs.Prelude.{◌≡◌, ◌++◌, take, codes, decimal, OnOk, OnErr};
 ghost use Rattle.sva_step.specs.Texts.{BeginsWith};
 

@@ -1,4 +1,4 @@
-// What a host keeps by numbers and labels, tied to the definitions by names.
+//! What a host keeps by numbers and labels, tied to the definitions by names.
 #![tactic(auto)]
 
 ghost use Rattle.sva_wire.specs.Host.{NumbersAreNames, RunsByNumbers};

@@ -1,6 +1,6 @@
 -- The text of each answer: its words with single spaces between them, the numbers decimal without leading zeros, and no
 -- line end.
-use Rattle.std.specs.Prelude.{◌≡◌, ◌≢◌, ℕ, ◌^◌, ◌<◌, Bool, true, false, List, [], ◌++◌, length, take, flat_map, All, codes, decimal}
+use Rattle.std.specs.Prelude.{◌≡◌, ◌≢◌, ℕ, ◌^◌, ◌<◌, Bool, true, false, List, ◌++◌, length, take, flat_map, All, codes, decimal}
 use Rattle.sva_step.specs.Refusals.{refusal_text}
 use Rattle.sva_step.specs.declared.refusals.Refusal.{Refusal}
 use Rattle.sva_step.specs.declared.answers.Answer.{Answer}

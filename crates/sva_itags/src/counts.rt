@@ -27,7 +27,7 @@ impl Count {
         Count { count }
     }
 
-    /// The count that the three bits of a Completion Count field stand for; 0 stands for 8.
+    /// The count that the three bits of a Completion Count field, 0 to 7, stand for; 0 stands for 8.
     pub fn from_field(field: u8) -> Self
         requires { field < 8 }
         ensures zero { field ≡ 0 → result ≡ 8 }
@@ -49,7 +49,7 @@ impl Count {
         if self.count == 8 { 0 } else { self.count }
     }
 
-    /// The number of completions.
+    /// The number of completions, 1 to 8.
     pub fn get(self) -> u8
         ensures value { result ≡ self }
         ensures within { (0 < result) × (result ≤ 8) }

@@ -155,9 +155,9 @@ impl Itags {
         Some(tag as u8)
     }
 
-    /// A completion has arrived that names the tags of `vector` and bears `count`. Gives the vector of the tags that it
-    /// completes; they are free. A bit of a tag that isn't busy is ignored, and the first completion of a tag fixes its
-    /// count.
+    /// A completion has arrived that names the tags of `vector` (bit T stands for tag T, 0 to 31) and bears `count`. Gives
+    /// the vector of the tags that it completes; they are free. A bit of a tag that isn't busy is ignored, and the first
+    /// completion of a tag fixes its count.
     pub fn arrived(&mut self, vector: u32, count: Count) -> u32
         ensures freed { result ≡ freed_vector vector count self.old }
         ensures places { self.new ≡ completed vector count self.old }
@@ -166,7 +166,7 @@ impl Itags {
         complete_places(&mut self.places, vector, count)
     }
 
-    /// The vector of the busy tags.
+    /// The vector of the busy tags: bit T stands for tag T, 0 to 31.
     pub fn busy(&self) -> u32
         ensures vector { result ≡ busy_vector self.now }
         ensures exactly { (tag : ℕ) → IsTrue (is_named result tag) ↔ IsBusy self.now tag }

@@ -56,7 +56,7 @@ impl Model for CountField {
 }
 
 impl CountField {
-    /// The field with these three bits.
+    /// The field with these three bits, 0 to 7.
     pub fn new(field: u8) -> Self
         requires { field < 8 }
         ensures { result ≡ field }

@@ -145,8 +145,8 @@ impl Unit {
         answer
     }
 
-    /// A completion has arrived that names the tags of `vector` and bears `count`. Gives the vector of the tags that it
-    /// completes; they are free.
+    /// A completion has arrived that names the tags of `vector` (bit T stands for tag T, 0 to 31) and bears `count`. Gives
+    /// the vector of the tags that it completes; they are free.
     pub fn arrived(&mut self, vector: u32, count: Count) -> u32
         ensures freed { result ≡ freed_vector vector count self.old.tags }
         ensures queue { self.new ≡ with_completion vector count self.old }
@@ -154,7 +154,7 @@ impl Unit {
         self.tags.arrived(vector, count)
     }
 
-    /// The vector of the busy tags.
+    /// The vector of the busy tags: bit T stands for tag T, 0 to 31.
     pub fn busy(&self) -> u32
         ensures { result ≡ busy_vector self.now.tags }
     {

@@ -42,7 +42,7 @@ impl FrameList {
         }
     }
 
-    /// Adds a frame behind the others.
+    /// Adds a frame behind the others, which are fewer than 48.
     pub fn push(&mut self, frame: u32)
         requires { length self.old < 48 }
         ensures { self.new ≡ self.old ++ frame ∷ [] }

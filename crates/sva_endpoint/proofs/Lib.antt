@@ -1,4 +1,7 @@
 pub mod Permitted
 pub mod TagLaws
 pub mod WaitLaws
+pub mod NoteLaws
+pub mod UseLaws
+pub mod GroupLaws
 pub mod SoundLaws

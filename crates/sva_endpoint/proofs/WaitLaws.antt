@@ -19,15 +19,10 @@ use Rattle.sva_endpoint.specs.Tables.{Tables}
 use Rattle.sva_endpoint.specs.Steps.{lowest_slot, finishing, refusals_of_use, refusals_of_finish}
 use Rattle.sva_endpoint.specs.Deliveries.{after_receive}
 use Rattle.sva_endpoint.specs.Calls.{Call, BeginUse, EndUse, Finish, Receive, is_permitted, after, run}
-use Rattle.sva_endpoint.specs.Laws.{takes_itag, ends_wait, FinishWaits}
+use Rattle.sva_endpoint.specs.Laws.{is_noted, takes_itag, ends_wait, FinishWaits}
 use Rattle.sva_endpoint.proofs.Permitted.{are_clear, lowest, lasts}
 use Rattle.sva_endpoint.proofs.TagLaws.{clash}
 use Rattle.sva_tables.proofs.TakenFacts.{get_or-without_named}
-
--- does what was taken note the slot?
-abbrev notes : ℕ → Option Taken → Bool
-notes slot None = false
-notes slot (Some taken) = get_or taken.noted slot false
 
 some_noted : (noted : List Bool) (slot : ℕ) → get_or noted slot false ≡ true → list_any (λ b. b) noted ≡ true
 some_noted noted slot is = elim (cases_lt slot (length noted)) [
@@ -35,29 +30,29 @@ some_noted noted slot is = elim (cases_lt slot (length noted)) [
   | inr past ↦ clash (get_or noted slot false) is (get_or_past noted slot false past)
 ]
 
-notes-waits : (slot : ℕ) (place : Option Taken) → notes slot place ≡ true → waits place ≡ true
+pub notes-waits : (slot : ℕ) (place : Option Taken) → is_noted slot place ≡ true → waits place ≡ true
 notes-waits slot None is = absurd (cc)
 notes-waits slot (Some taken) is = some_noted taken.noted slot is
 
-notes-without_note : (slot other : ℕ) (place : Option Taken) → slot ≢ other → notes slot (without_note other place) ≡ notes slot place
+notes-without_note : (slot other : ℕ) (place : Option Taken) → slot ≢ other → is_noted slot (without_note other place) ≡ is_noted slot place
 notes-without_note slot other None apart = refl
 notes-without_note slot other (Some taken) apart = get_or-set_other taken.noted other slot false false apart
 
 -- a named invalidation that waits is one that waits
-one_waiting : (vector itag : ℕ) (taken : List (Option Taken)) → itag < length taken → is_named vector itag ≡ true → waits (get_or taken itag None) ≡ true → is_one_waiting vector taken ≡ true
+pub one_waiting : (vector itag : ℕ) (taken : List (Option Taken)) → itag < length taken → is_named vector itag ≡ true → waits (get_or taken itag None) ≡ true → is_one_waiting vector taken ≡ true
 one_waiting vector itag taken within named waiting =
     let test : ℕ × Option Taken → Bool = λ place. is_named vector place.0 && waits place.1 in
     let at : get_or (enumerate_from 0 taken) itag (0, None) ≡ (0 + itag, get_or taken itag None) = get_or-enumerate_from 0 taken itag (0, None) within in
     list_any_at test (enumerate_from 0 taken) itag (0, None) (omega (arith, length-enumerate_from 0 taken))
     (ap test at ∙ ap (λ k. is_named vector k && waits (get_or taken itag None)) (zero-add itag) ∙ ap (λ b. b && waits (get_or taken itag None)) named ∙ waiting)
 
-within_table : (slot itag : ℕ) (taken : List (Option Taken)) → notes slot (get_or taken itag None) ≡ true → itag < length taken
+pub within_table : (slot itag : ℕ) (taken : List (Option Taken)) → is_noted slot (get_or taken itag None) ≡ true → itag < length taken
 within_table slot itag taken is = elim (cases_lt itag (length taken)) [
   | inl within ↦ within
-  | inr past ↦ clash (notes slot (get_or taken itag None)) is (ap (notes slot) (get_or_past taken itag None past))
+  | inr past ↦ clash (is_noted slot (get_or taken itag None)) is (ap (is_noted slot) (get_or_past taken itag None past))
 ]
 
-not_named : (vector itag slot : ℕ) (taken : List (Option Taken)) → is_one_waiting vector taken ≡ false → notes slot (get_or taken itag None) ≡ true → (b : Bool) → is_named vector itag ≡ b → b ≡ false
+not_named : (vector itag slot : ℕ) (taken : List (Option Taken)) → is_one_waiting vector taken ≡ false → is_noted slot (get_or taken itag None) ≡ true → (b : Bool) → is_named vector itag ≡ b → b ≡ false
 not_named vector itag slot taken none noted true named =
     clash (is_one_waiting vector taken) (one_waiting vector itag taken (within_table slot itag taken noted) named (notes-waits slot (get_or taken itag None) noted)) none
 not_named vector itag slot taken none noted false named = refl
@@ -66,13 +61,13 @@ not_named vector itag slot taken none noted false named = refl
 
 module _ (itag slot : ℕ) (running : Use) where
   abbrev Waits : Tables → Type 0
-  Waits s = (slot_at s.uses slot ≡ Running running) × (notes slot (get_or s.taken itag None) ≡ true)
+  Waits s = (slot_at s.uses slot ≡ Running running) × (is_noted slot (get_or s.taken itag None) ≡ true)
 
   received : (s : Tables) (kind : Kind) → takes_itag itag kind ≡ false → Waits s → Waits (after_receive s kind)
   received s Reset stays w = absurd (cc)
   received s (Invalidate other pasid scope) stays w =
       let apart : itag ≢ other = λ same. eqb-false other itag stays (sym same) in
-      (w.0, ap (notes slot) (get_or-set_other s.taken other itag _ None apart) ∙ w.1)
+      (w.0, ap (is_noted slot) (get_or-set_other s.taken other itag _ None apart) ∙ w.1)
   received s _ stays w = w
 
   stepped : (s : Tables) (call : Call) → is_permitted s call ≡ true → ends_wait itag slot call ≡ false → Waits s → Waits (after s call)
@@ -84,16 +79,16 @@ module _ (itag slot : ℕ) (running : Use) where
   stepped s (EndUse other) may stays w =
       let apart : slot ≢ other = λ same. eqb-false other slot stays (sym same) in (
         get_or-set_other s.uses other slot Free Free apart ∙ w.0,
-        ap (notes slot) (get_or-map (without_note other) s.taken itag None) ∙ notes-without_note slot other (get_or s.taken itag None) apart ∙ w.1,
+        ap (is_noted slot) (get_or-map (without_note other) s.taken itag None) ∙ notes-without_note slot other (get_or s.taken itag None) apart ∙ w.1,
       )
   stepped s (Finish vector count) may stays w =
       let clear = are_clear (refusals_of_finish s vector count) _ may in
       let other = not_named vector itag slot s.taken clear.1.0 w.1 (is_named vector itag) refl in
-      (w.0, ap (notes slot) (get_or-without_named vector s.taken itag ∙ ap (λ b. cond b None (get_or s.taken itag None)) other) ∙ w.1)
+      (w.0, ap (is_noted slot) (get_or-without_named vector s.taken itag ∙ ap (λ b. cond b None (get_or s.taken itag None)) other) ∙ w.1)
   stepped s (Receive kind) may stays w = received s kind stays w
   stepped s _ may stays w = w
 
-refused : (s : Tables) (itag slot vector count : ℕ) → notes slot (get_or s.taken itag None) ≡ true → is_named vector itag ≡ true → (b : Bool) → is_ok (finishing s vector count) ≡ b → b ≡ false
+refused : (s : Tables) (itag slot vector count : ℕ) → is_noted slot (get_or s.taken itag None) ≡ true → is_named vector itag ≡ true → (b : Bool) → is_ok (finishing s vector count) ≡ b → b ≡ false
 refused s itag slot vector count noted named true may =
     let clear = are_clear (refusals_of_finish s vector count) _ may in
     clash (is_named vector itag) named (not_named vector itag slot s.taken clear.1.0 noted (is_named vector itag) refl)
@@ -102,8 +97,8 @@ refused s itag slot vector count noted named false may = refl
 pub finish_waits : FinishWaits
 finish_waits s itag slot running invalidation calls vector count within runs covered permitted none =
     let told = after s (Receive (Invalidate itag invalidation.pasid invalidation.scope)) in
-    let noted : notes slot (get_or told.taken itag None) ≡ true =
-    ap (notes slot) (get_or-set_same s.taken itag _ None within)
+    let noted : is_noted slot (get_or told.taken itag None) ≡ true =
+    ap (is_noted slot) (get_or-set_same s.taken itag _ None within)
     ∙ get_or-map (runs_covered invalidation) s.uses slot Free ∙ ap (runs_covered invalidation) runs ∙ covered in
     let end = lasts (Waits itag slot running) (ends_wait itag slot) (stepped itag slot running) told calls permitted none (runs, noted) in
     (end.0, λ named. refused (run told calls) itag slot vector count end.1 named (is_ok (finishing (run told calls) vector count)) refl)

@@ -1,27 +1,30 @@
 -- What holds of an endpoint after every list of permitted calls.
-use Rattle.std.specs.Prelude.{◌≡◌, ℕ, ◌<◌, ◌≤◌, Bool, true, false, List, Some, None, length, position, slice_index_or, is_ok, IsSome, ◌==◌, ◌&&◌}
+use Rattle.std.specs.Prelude.{◌≡◌, ◌≢◌, ℕ, ◌<◌, ◌≤◌, ◌↔◌, Bool, true, false, List, Option, Some, None, Ok, Err, length, position, slice_index_or, is_ok, IsSome, ◌==◌, ◌&&◌, nat_le, not}
 use Rattle.std.specs.List.{list_any}
 use Rattle.std.specs.FinMap.{len}
-use Rattle.sva_step.specs.declared.answers.Answer.TheVariants.{Dropped}
+use Rattle.sva_step.specs.declared.answers.Answer.TheVariants.{Dropped, Dead as EndedDead}
+use Rattle.sva_step.specs.declared.refusals.Refusal.TheVariants.{InUse}
 use Rattle.sva_msg.specs.declared.messages.Kind.{Kind}
-use Rattle.sva_msg.specs.declared.messages.Kind.TheVariants.{Reset, Completion, Invalidate}
+use Rattle.sva_msg.specs.declared.messages.Kind.TheVariants.{Reset, Completion, Invalidate, Response}
 use Rattle.sva_tables.specs.declared.pasid_states.PasidState.TheVariants.{Off}
 use Rattle.sva_tables.specs.declared.coverage.Invalidation.{Invalidation}
 use Rattle.sva_tables.specs.declared.request_tags.RequestTag.{RequestTag}
 use Rattle.sva_tables.specs.declared.request_tags.RequestTag.TheVariants.{Free, Out, Doomed}
 use Rattle.sva_tables.specs.declared.use_slots.Use.{Use}
-use Rattle.sva_tables.specs.declared.use_slots.UseSlot.TheVariants.{Running}
+use Rattle.sva_tables.specs.declared.use_slots.UseSlot.TheVariants.{Running, Dead as DeadUse}
 use Rattle.sva_tables.specs.declared.taken_table.Taken.{Taken}
+use Rattle.sva_tables.specs.declared.group_table.GroupPlace.{GroupPlace}
+use Rattle.sva_tables.specs.declared.group_table.GroupPlace.TheVariants.{Free as NoGroup, Unfinished, Out as GroupOut, Stale}
 use Rattle.sva_tables.specs.Coverage.{covers}
 use Rattle.sva_tables.specs.PasidStates.{state_of}
 use Rattle.sva_tables.specs.RequestTags.{request_at}
-use Rattle.sva_tables.specs.UseSlots.{slot_at, runs_covered}
+use Rattle.sva_tables.specs.UseSlots.{slot_at, is_free as is_free_slot, runs_covered}
 use Rattle.sva_tables.specs.Vectors.{is_named}
-use Rattle.sva_tables.specs.Groups.{is_free, outstanding, HaveRequests}
+use Rattle.sva_tables.specs.Groups.{is_free, group_at, outstanding, HaveRequests}
 use Rattle.sva_endpoint.specs.Tables.{Tables, fresh}
-use Rattle.sva_endpoint.specs.Steps.{finishing}
+use Rattle.sva_endpoint.specs.Steps.{ending, finishing}
 use Rattle.sva_endpoint.specs.Deliveries.{answer_to}
-use Rattle.sva_endpoint.specs.Calls.{Call, EndUse, Receive, after, run, ArePermitted}
+use Rattle.sva_endpoint.specs.Calls.{Call, EndUse, Finish, Receive, after, run, ArePermitted}
 
 -- ---- the limits
 
@@ -107,3 +110,85 @@ FinishWaits = (s : Tables) (itag slot : ℕ) (running : Use) (invalidation : Inv
     ArePermitted taken calls → list_any (ends_wait itag slot) calls ≡ false
     → let late = run taken calls in
     (slot_at late.uses slot ≡ Running running) × (is_named vector itag ≡ true → is_ok (finishing late vector count) ≡ false)
+
+-- is the slot one of those that an invalidation waits for?
+abbrev pub is_noted : ℕ → Option Taken → Bool
+is_noted slot None = false
+is_noted slot (Some taken) = slice_index_or taken.noted slot false
+
+-- is it the end of the use in this slot?
+abbrev pub is_end_of_use : ℕ → Call → Bool
+is_end_of_use slot (EndUse other) = other == slot
+is_end_of_use slot _ = false
+
+-- is it a reset, another invalidation under this ITag, or a completion that names it?
+abbrev pub ends_taking : ℕ → Call → Bool
+ends_taking itag (Finish vector count) = is_named vector itag
+ends_taking itag (Receive kind) = takes_itag itag kind
+ends_taking itag _ = false
+
+-- until it is completed, an invalidation waits for exactly the uses that ran when it was taken, that it covers and that
+-- haven't ended since: a use that begins later is none of them
+abbrev pub NotesExactly : Type 0
+NotesExactly = (s : Tables) (itag slot : ℕ) (invalidation : Invalidation) (calls : List Call)
+    → itag < length s.taken
+    → let taken = after s (Receive (Invalidate itag invalidation.pasid invalidation.scope)) in
+    ArePermitted taken calls → list_any (ends_taking itag) calls ≡ false
+    → is_noted slot (slice_index_or (run taken calls).taken itag None) ≡ (runs_covered invalidation (slot_at s.uses slot) && not (list_any (is_end_of_use slot) calls))
+
+-- the vector names this ITag and no other
+abbrev pub NamesAlone : ℕ → ℕ → Type 0
+NamesAlone vector itag = (is_named vector itag ≡ true) × ((other : ℕ) → other ≢ itag → is_named vector other ≡ false)
+
+-- a completion is refused as in use exactly while one of those uses runs
+abbrev pub InUseExactly : Type 0
+InUseExactly = (s : Tables) (itag : ℕ) (invalidation : Invalidation) (calls : List Call) (vector count : ℕ)
+    → itag < length s.taken → NamesAlone vector itag
+    → let taken = after s (Receive (Invalidate itag invalidation.pasid invalidation.scope)) in
+    ArePermitted taken calls → list_any (ends_taking itag) calls ≡ false
+    → (finishing (run taken calls) vector count ≡ Err InUse)
+    ↔ ((slot : ℕ) × (runs_covered invalidation (slot_at s.uses slot) ≡ true) × (list_any (is_end_of_use slot) calls ≡ false))
+
+-- ---- uses
+
+-- a dead use keeps its slot until it is told of its end
+abbrev pub DeadUsesStay : Type 0
+DeadUsesStay = (s : Tables) (slot : ℕ) (calls : List Call) → ArePermitted s calls → list_any (is_end_of_use slot) calls ≡ false
+    → slot_at s.uses slot ≡ DeadUse → slot_at (run s calls).uses slot ≡ DeadUse
+
+-- a use that a reset finds is dead from then on, and its end is answered so
+abbrev pub ResetsEndUses : Type 0
+ResetsEndUses = (s : Tables) (slot : ℕ) (calls : List Call) → is_free_slot (slot_at s.uses slot) ≡ false
+    → let reset = after s (Receive Reset) in
+    ArePermitted reset calls → list_any (is_end_of_use slot) calls ≡ false
+    → let late = run reset calls in
+    (slot_at late.uses slot ≡ DeadUse) × (ending late slot ≡ Ok EndedDead)
+
+-- ---- groups
+
+-- is it a response to the group of this index, or a reset?
+abbrev pub ends_group : ℕ → Kind → Bool
+ends_group index Reset = true
+ends_group index (Response pasid other code) = other == index
+ends_group index _ = false
+
+abbrev pub is_end_of_group : ℕ → Call → Bool
+is_end_of_group index (Receive kind) = ends_group index kind
+is_end_of_group index _ = false
+
+-- a stale group keeps its index and its requests until its response or a reset comes
+abbrev pub StaleGroupsStay : Type 0
+StaleGroupsStay = (s : Tables) (index pasid requests : ℕ) (calls : List Call) → ArePermitted s calls → list_any (is_end_of_group index) calls ≡ false
+    → group_at s.groups index ≡ Stale pasid requests → group_at (run s calls).groups index ≡ Stale pasid requests
+
+-- is it a group of this PASID, with so many requests at least?
+abbrev pub is_group : ℕ → ℕ → GroupPlace → Bool
+is_group pasid requests NoGroup = false
+is_group pasid requests (Unfinished sender sent) = (sender == pasid) && nat_le requests sent
+is_group pasid requests (GroupOut sender sent) = (sender == pasid) && nat_le requests sent
+is_group pasid requests (Stale sender sent) = (sender == pasid) && nat_le requests sent
+
+-- a group has its index until its response or a reset comes, and its requests stay outstanding until then
+abbrev pub GroupsStay : Type 0
+GroupsStay = (s : Tables) (index pasid requests : ℕ) (calls : List Call) → ArePermitted s calls → list_any (is_end_of_group index) calls ≡ false
+    → is_group pasid requests (group_at s.groups index) ≡ true → is_group pasid requests (group_at (run s calls).groups index) ≡ true

@@ -371,12 +371,16 @@ fn a_reset_leaves_dead_uses(rt: HostRuntime) {
         Using { slot: 0, frame: 3 }
     );
     assert_eq!(rt; ask(&rt, &mut endpoint, 17), 0);
+    assert_eq!(rt; send(&rt, &mut endpoint, 32, None, true), 0);
     tell(&mut endpoint, invalidate(0, 18));
     assert!(rt; matches!(tell(&mut endpoint, Kind::Reset), Answer::Reset));
     assert_eq!(rt; endpoint.may_ask(1, 17), Err(Refusal::NotStarted));
     assert_eq!(rt; endpoint.may_evict(1, 16), Err(Refusal::NotHeld));
     assert_eq!(rt; why_not(&endpoint, 1, 1), Some(Refusal::NotPending));
     tell(&mut endpoint, Kind::Start { pasid: 1 });
+    // neither the request nor the group of before has its tag or index any more
+    assert_eq!(rt; ask(&rt, &mut endpoint, 17), 0);
+    assert_eq!(rt; send(&rt, &mut endpoint, 32, None, true), 0);
     hold(&rt, &mut endpoint, 16, 5);
     assert_eq!(rt;
         use_page(&rt, &mut endpoint, 16, true),

@@ -1,5 +1,5 @@
 -- A group has its index and its requests until its response or a reset comes.
-use Rattle.std.proofs.Common.{◌≡◌, ◌≢◌, ℕ, ◌+◌, ◌≤◌, List, length, get_or, set, Bool, true, false, cond, Option, Some, None, not, subst, refl, ap, sym, ◌∙◌, ◌&&◌, eqb, inl, inr, arith, get_or-set_same, get_or-set_other}
+use Rattle.std.proofs.Common.{◌≡◌, ◌≢◌, ℕ, ◌+◌, List, length, set, Bool, true, false, cond, Option, Some, None, not, subst, refl, ap, sym, ◌∙◌, ◌&&◌, eqb, inl, inr, arith, get_or-set_same, get_or-set_other}
 use Rattle.std.specs.Prelude.{nat_lt, nat_le, ◌==◌}
 use Rattle.std.specs.List.{list_any, position_or_len}
 use Rattle.std.proofs.Math.ListN.{get_or-map}
@@ -11,13 +11,13 @@ use Rattle.sva_msg.specs.declared.messages.Kind.TheVariants.{Reset, Response}
 use Rattle.sva_tables.specs.declared.group_table.GroupPlace.{GroupPlace}
 use Rattle.sva_tables.specs.declared.group_table.GroupPlace.TheVariants.{Free, Unfinished, Out, Stale}
 use Rattle.sva_tables.specs.Groups.{group_at, is_free, is_unfinished, group_of, with_request, stale_of}
-use Rattle.sva_endpoint.specs.declared.yeses.Fault.{Fault}
+use Rattle.sva_endpoint.specs.declared.permitted.Fault.{Fault}
 use Rattle.sva_endpoint.specs.Tables.{Tables}
 use Rattle.sva_endpoint.specs.Steps.{refusals_of_fault, is_of_group, index_for, group_after}
 use Rattle.sva_endpoint.specs.Deliveries.{after_receive}
 use Rattle.sva_endpoint.specs.Calls.{Call, SendFault, Quit, Receive, is_permitted, after, run, ArePermitted}
 use Rattle.sva_endpoint.specs.Laws.{ends_group, is_end_of_group, is_group, StaleGroupsStay, GroupsStay}
-use Rattle.sva_endpoint.proofs.Permitted.{are_clear, lasts}
+use Rattle.sva_endpoint.proofs.CallFacts.{are_clear, lasts}
 use Rattle.sva_endpoint.proofs.TagLaws.{clash}
 
 -- the lowest free index is free; where no index is, it is past the table

@@ -1,4 +1,4 @@
-pub mod Permitted
+pub mod CallFacts
 pub mod TagLaws
 pub mod WaitLaws
 pub mod NoteLaws

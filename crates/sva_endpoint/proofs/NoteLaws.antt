@@ -1,8 +1,7 @@
 -- An invalidation waits for exactly the uses that ran and that it covered when it was taken, until each has ended.
-use Rattle.std.proofs.Common.{◌≡◌, ◌≢◌, ℕ, ◌+◌, ◌<◌, List, [], ◌∷◌, length, get_or, set, Bool, true, false, cond, Option, Some, None, Result, Ok, Err, not, subst, suc, refl, ap, sym, ◌∙◌, ◌&&◌, ◌||◌, eqb, inl, inr, arith, get_or-set_same, get_or-set_other, zero-add}
+use Rattle.std.proofs.Common.{◌≡◌, ◌≢◌, ℕ, ◌<◌, List, [], ◌∷◌, length, get_or, set, Bool, true, false, cond, Option, Some, None, Result, Err, not, suc, refl, ap, sym, ◌∙◌, ◌&&◌, ◌||◌, eqb, inl, inr, arith, get_or-set_same, get_or-set_other, zero-add}
 use Rattle.std.specs.Prelude.{is_some}
-use Rattle.std.specs.List.{list_any, list_all, enumerate_from}
-use Rattle.std.specs.Int.{bit_at}
+use Rattle.std.specs.List.{list_any, enumerate_from}
 use Rattle.std.proofs.Math.ListN.{get_or-map, length-set}
 use Rattle.std.proofs.lemmas.Bool.{eqb-false, eqb-true, cases_lt, cases_eq, and_parts, and_from, or_parts, or_from, or_left, or_right}
 use Rattle.std.proofs.lemmas.List.{get_or_past, get_or_default}
@@ -14,14 +13,13 @@ use Rattle.sva_step.specs.declared.refusals.Refusal.{Refusal}
 use Rattle.sva_step.specs.declared.refusals.Refusal.TheVariants.{NotPending, InUse, BadCount}
 use Rattle.sva_msg.specs.declared.messages.Kind.{Kind}
 use Rattle.sva_msg.specs.declared.messages.Kind.TheVariants.{Reset, Invalidate}
-use Rattle.sva_tables.specs.declared.coverage.Invalidation.{Invalidation}
 use Rattle.sva_tables.specs.declared.use_slots.UseSlot.TheVariants.{Free}
 use Rattle.sva_tables.specs.declared.taken_table.Taken.{Taken}
 use Rattle.sva_tables.specs.UseSlots.{slot_at, runs_covered}
 use Rattle.sva_tables.specs.Vectors.{is_named}
 use Rattle.sva_tables.specs.Taken.{waits, are_pending, is_one_waiting, without_note}
 use Rattle.sva_endpoint.specs.Tables.{Tables}
-use Rattle.sva_endpoint.specs.Steps.{unless, finishing, refusals_of_finish}
+use Rattle.sva_endpoint.specs.Steps.{unless, finishing}
 use Rattle.sva_endpoint.specs.Deliveries.{after_receive}
 use Rattle.sva_endpoint.specs.Calls.{Call, EndUse, Finish, Receive, after, run}
 use Rattle.sva_endpoint.specs.Laws.{takes_itag, is_noted, is_end_of_use, ends_taking, NotesExactly, NamesAlone, InUseExactly}

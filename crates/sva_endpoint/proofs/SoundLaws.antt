@@ -22,7 +22,7 @@ use Rattle.sva_tables.specs.declared.use_slots.UseSlot.TheVariants.{Free as Free
 use Rattle.sva_tables.specs.declared.taken_table.Taken.{Taken}
 use Rattle.sva_tables.specs.declared.group_table.GroupPlace.{GroupPlace}
 use Rattle.sva_tables.specs.declared.group_table.GroupPlace.TheVariants.{Free as NoGroup, Unfinished, Out as GroupOut, Stale}
-use Rattle.sva_endpoint.specs.declared.yeses.Fault.{Fault}
+use Rattle.sva_endpoint.specs.declared.permitted.Fault.{Fault}
 use Rattle.sva_tables.specs.Coverage.{covers}
 use Rattle.sva_tables.specs.Cache.{Key, Translations, key_cmp, key_cmp_total, has_room_for}
 use Rattle.sva_tables.specs.PasidStates.{state_of}
@@ -39,7 +39,7 @@ use Rattle.sva_endpoint.specs.Laws.{NotesRun, IsSound, AlwaysSound}
 use Rattle.sva_tables.proofs.CacheFacts.{len-retain_keys-le}
 use Rattle.sva_tables.proofs.GroupFacts.{outstanding-stale_of, HaveRequests-replicate, HaveRequests-set, HaveRequests-at, HaveRequests-stale_of, requests_of-group_of, requests_of-with_request, index_with_credit}
 use Rattle.sva_tables.proofs.TakenFacts.{get_or-without_named}
-use Rattle.sva_endpoint.proofs.Permitted.{are_clear, lowest}
+use Rattle.sva_endpoint.proofs.CallFacts.{are_clear, lowest}
 use Rattle.sva_endpoint.proofs.TagLaws.{clash}
 
 -- ---- the lengths of the tables

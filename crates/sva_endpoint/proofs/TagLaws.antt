@@ -15,7 +15,7 @@ use Rattle.sva_endpoint.specs.Steps.{lowest_tag, refusals_of_ask}
 use Rattle.sva_endpoint.specs.Deliveries.{after_receive, answer_to_completion, cache_after}
 use Rattle.sva_endpoint.specs.Calls.{Call, Ask, Receive, is_permitted, after, run, ArePermitted}
 use Rattle.sva_endpoint.specs.Laws.{ends_request, is_end_of_request, asks_for, TagsStayTaken, DoomedNeverHeld}
-use Rattle.sva_endpoint.proofs.Permitted.{are_clear, lowest, lasts}
+use Rattle.sva_endpoint.proofs.CallFacts.{are_clear, lowest, lasts}
 
 pub clash : {A : Type 0} (b : Bool) → b ≡ true → b ≡ false → A
 clash true holds fails = absurd (cc)

@@ -1,6 +1,5 @@
 -- A use that a reset ended has its slot, dead, until it is told of its end.
-use Rattle.std.proofs.Common.{◌≡◌, ◌≢◌, ℕ, List, [], ◌∷◌, Bool, true, false, refl, ap, sym, ◌∙◌, get_or-set_other}
-use Rattle.std.specs.List.{list_any}
+use Rattle.std.proofs.Common.{◌≡◌, ◌≢◌, ℕ, [], ◌∷◌, true, false, refl, ap, sym, ◌∙◌, get_or-set_other}
 use Rattle.std.proofs.Math.ListN.{get_or-map}
 use Rattle.std.proofs.lemmas.Bool.{eqb-false}
 use Rattle.sva_msg.specs.declared.messages.Kind.{Kind}
@@ -10,11 +9,11 @@ use Rattle.sva_tables.specs.declared.use_slots.UseSlot.{UseSlot}
 use Rattle.sva_tables.specs.declared.use_slots.UseSlot.TheVariants.{Free, Running, Dead}
 use Rattle.sva_tables.specs.UseSlots.{slot_at, is_free, cut_off}
 use Rattle.sva_endpoint.specs.Tables.{Tables}
-use Rattle.sva_endpoint.specs.Steps.{unless, lowest_slot, refusals_of_use, ending, end_of}
+use Rattle.sva_endpoint.specs.Steps.{unless, lowest_slot, refusals_of_use, end_of}
 use Rattle.sva_endpoint.specs.Deliveries.{after_receive}
-use Rattle.sva_endpoint.specs.Calls.{Call, BeginUse, EndUse, Receive, is_permitted, after, run, ArePermitted}
+use Rattle.sva_endpoint.specs.Calls.{Call, BeginUse, EndUse, Receive, is_permitted, after}
 use Rattle.sva_endpoint.specs.Laws.{is_end_of_use, DeadUsesStay, ResetsEndUses}
-use Rattle.sva_endpoint.proofs.Permitted.{are_clear, lowest, lasts}
+use Rattle.sva_endpoint.proofs.CallFacts.{are_clear, lowest, lasts}
 use Rattle.sva_endpoint.proofs.TagLaws.{clash}
 
 module _ (slot : ℕ) where

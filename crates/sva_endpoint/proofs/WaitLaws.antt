@@ -20,7 +20,7 @@ use Rattle.sva_endpoint.specs.Steps.{lowest_slot, finishing, refusals_of_use, re
 use Rattle.sva_endpoint.specs.Deliveries.{after_receive}
 use Rattle.sva_endpoint.specs.Calls.{Call, BeginUse, EndUse, Finish, Receive, is_permitted, after, run}
 use Rattle.sva_endpoint.specs.Laws.{is_noted, takes_itag, ends_wait, FinishWaits}
-use Rattle.sva_endpoint.proofs.Permitted.{are_clear, lowest, lasts}
+use Rattle.sva_endpoint.proofs.CallFacts.{are_clear, lowest, lasts}
 use Rattle.sva_endpoint.proofs.TagLaws.{clash}
 use Rattle.sva_tables.proofs.TakenFacts.{get_or-without_named}
 

@@ -15,11 +15,11 @@ use Rattle.sva_tables.specs.declared.request_tags.RequestTag.TheVariants.{Out}
 use Rattle.sva_tables.specs.declared.use_slots.UseSlot.{UseSlot}
 use Rattle.sva_tables.specs.declared.use_slots.UseSlot.TheVariants.{Free as FreeSlot, Running, Dead as DeadUse}
 use Rattle.sva_tables.specs.declared.group_table.GroupPlace.{GroupPlace}
-use Rattle.sva_endpoint.specs.declared.yeses.Asking.{Asking}
-use Rattle.sva_endpoint.specs.declared.yeses.Using.{Using}
-use Rattle.sva_endpoint.specs.declared.yeses.Fault.{Fault}
-use Rattle.sva_endpoint.specs.declared.yeses.Faulting.{Faulting}
-use Rattle.sva_endpoint.specs.declared.yeses.Finishing.{Finishing}
+use Rattle.sva_endpoint.specs.declared.permitted.Asking.{Asking}
+use Rattle.sva_endpoint.specs.declared.permitted.Using.{Using}
+use Rattle.sva_endpoint.specs.declared.permitted.Fault.{Fault}
+use Rattle.sva_endpoint.specs.declared.permitted.Faulting.{Faulting}
+use Rattle.sva_endpoint.specs.declared.permitted.Finishing.{Finishing}
 use Rattle.sva_tables.specs.PasidStates.{state_of, with_state, is_on, is_stopping, is_off}
 use Rattle.sva_tables.specs.RequestTags.{is_free as is_free_tag, asks_under}
 use Rattle.sva_tables.specs.UseSlots.{is_free as is_free_slot, slot_at, runs_under}

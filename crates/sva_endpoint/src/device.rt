@@ -5,7 +5,7 @@ ghost use Rattle.sva_endpoint.specs.Deliveries.{answer_to, after_receive, answer
 ghost use Rattle.sva_tables.specs.RequestTags.{request_at};
 ghost use Rattle.sva_tables.specs.Groups.{group_at};
 
-use crate::yeses::{Asking, Fault, Faulting, Finishing, Received, Using};
+use crate::permitted::{Asking, Fault, Faulting, Finishing, Received, Using};
 use std::marker::Model;
 use sva_itags::Count;
 use sva_msg::{Code, CountField, Kind, Message};
@@ -18,8 +18,16 @@ use sva_tables::{
 #[cfg(test)]
 mod tests;
 
-/// Page numbers are below 2^36.
+/// Page numbers are below 2^36 (a limit of this project).
 const PAGES: u64 = 1 << 36;
+
+/// How many page requests may be outstanding (Outstanding Page Request Allocation, PCI Express Base 5.0, section 10.5.2; how
+/// many is a limit of this project).
+const PAGE_REQUESTS: u8 = 32;
+
+/// How many completions an invalidation may have: the Completion Count field has three bits, in which 0 stands for 8 (PCI
+/// Express Base 5.0, section 10.3.2).
+const COMPLETIONS: u64 = 8;
 
 /// An endpoint with address translation services, page requests and PASIDs (PCI Express Base 5.0, sections 10.2 to
 /// 10.5). It is seen as its tables, by labels. No call takes memory. Each step has a test, which changes nothing and
@@ -73,7 +81,9 @@ impl Endpoint {
         }
     }
 
-    /// Tells whether this page may be asked for under this PASID: the request, or `PageRange`, `NotStarted` or `NoTag`.
+    /// Tells whether this page may be asked for under this PASID (PCI Express Base 5.0, section 10.2.2): the request, or
+    /// `PageRange` for a page from 2^36 on, `NotStarted` for a PASID that isn't on (one outside 1 to 32 never is), or
+    /// `NoTag` where 32 requests are out.
     pub fn may_ask(&self, pasid: u64, page: u64) -> Result<Asking, Refusal>
         ensures { result ≡ asking self.now pasid page }
     {
@@ -93,7 +103,7 @@ impl Endpoint {
         })
     }
 
-    /// Asks for a translation of this page, and gives the tag of the request.
+    /// Asks for a translation of this page, and gives the tag of the request: the lowest free one, 0 to 31.
     pub fn ask(&mut self, pasid: u64, page: u64) -> u8
         requires { IsOk (asking self.old pasid page) }
         ensures tag { result ≡ lowest_tag self.old }
@@ -106,8 +116,10 @@ impl Endpoint {
         tag
     }
 
-    /// Tells whether the cached translation of this page may be used, to write or only to read: the slot and the frame,
-    /// or `PageRange`, `NotStarted`, `NotHeld`, `ReadOnly` or `NoUseSlot`.
+    /// Tells whether the cached translation of this page may be used, to write or only to read (PCI Express Base 5.0,
+    /// section 10.2.3): the slot and the frame, or `PageRange` for a page from 2^36 on, `NotStarted` for a PASID that isn't
+    /// on (one outside 1 to 32 never is), `NotHeld` where no translation is cached, `ReadOnly` where it doesn't allow
+    /// writing that is asked, or `NoUseSlot` where 16 slots are taken.
     pub fn may_begin_use(&self, pasid: u64, page: u64, write: bool) -> Result<Using, Refusal>
         ensures { result ≡ using self.now pasid page write }
     {
@@ -132,7 +144,8 @@ impl Endpoint {
         })
     }
 
-    /// Begins a use of the cached translation of this page, and gives its slot and its frame.
+    /// Begins a use of the cached translation of this page, and gives its slot, the lowest free one of 0 to 15, and its
+    /// frame. The use may write where the translation allows it, whatever was asked.
     pub fn begin_use(&mut self, pasid: u64, page: u64, write: bool) -> Using
         requires { IsOk (using self.old pasid page write) }
         ensures begun { using self.old pasid page write ≡ Ok result }
@@ -157,7 +170,8 @@ impl Endpoint {
         Using { slot, frame }
     }
 
-    /// Tells whether the slot is taken: what its use has come to, `Ended` or `Dead`, or `NoSuchUse`.
+    /// Tells whether the slot is taken: `Ended` for a use that runs, `Dead` for one that a reset ended (this project's own
+    /// rule), or `NoSuchUse` for a free slot; one from 16 on is free.
     pub fn may_end_use(&self, slot: u64) -> Result<Answer, Refusal>
         ensures { result ≡ ending self.now slot }
     {
@@ -168,7 +182,7 @@ impl Endpoint {
         }
     }
 
-    /// Ends the use in this slot, which is free then.
+    /// Ends the use in this slot, 0 to 15, which is free then. No invalidation waits for it any more.
     pub fn end_use(&mut self, slot: u64)
         requires { IsOk (ending self.old slot) }
         ensures { self.new ≡ after_end_use self.old slot }
@@ -177,7 +191,8 @@ impl Endpoint {
         self.taken.forget(slot);
     }
 
-    /// Tells whether a translation of this page is cached; else it gives `PageRange` or `NotHeld`.
+    /// Tells whether a translation of this page is cached, whatever its PASID's state; else it gives `PageRange` for a page
+    /// from 2^36 on, or `NotHeld` (and so for a PASID outside 1 to 32).
     pub fn may_evict(&self, pasid: u64, page: u64) -> Result<(), Refusal>
         ensures { result ≡ evicting self.now pasid page }
     {
@@ -190,7 +205,7 @@ impl Endpoint {
         Ok(())
     }
 
-    /// Lets go of the cached translation of this page.
+    /// Lets go of the cached translation of this page (PCI Express Base 5.0, section 10.1).
     pub fn evict(&mut self, pasid: u64, page: u64)
         requires { IsOk (evicting self.old pasid page) }
         ensures { self.new ≡ after_evict self.old pasid page }
@@ -198,8 +213,10 @@ impl Endpoint {
         self.cache.remove(pasid, page);
     }
 
-    /// Tells whether this page request may be sent: the request, or `PageRange`, `NotStarted`, `NoCredit`,
-    /// `NoSuchGroup` or `PriDisabled`.
+    /// Tells whether this page request may be sent (PCI Express Base 5.0, section 10.4.1): the request, or `PageRange` for a
+    /// page from 2^36 on; `NotStarted` for a new group where the PASID isn't on, and for one that goes on where it is off
+    /// (one outside 1 to 32 is off); `NoCredit` where 32 page requests are outstanding (section 10.5.2); `NoSuchGroup`
+    /// where no unfinished group of the PASID has the index; or `PriDisabled` after a response failure.
     pub fn may_fault(&self, fault: &Fault) -> Result<Faulting, Refusal>
         ensures { result ≡ faulting self.now fault.now }
     {
@@ -209,7 +226,7 @@ impl Endpoint {
         if !may_send(fault.group, self.pasids.state_of(fault.pasid)) {
             return Err(Refusal::NotStarted);
         }
-        if self.groups.outstanding() >= 32 {
+        if self.groups.outstanding() >= PAGE_REQUESTS {
             return Err(Refusal::NoCredit);
         }
         let index = match fault.group {
@@ -229,7 +246,7 @@ impl Endpoint {
         })
     }
 
-    /// Sends this page request, and gives the index of its group.
+    /// Sends this page request, and gives the index of its group, 0 to 31: for a new group the lowest free one.
     pub fn fault(&mut self, fault: &Fault) -> u8
         requires { IsOk (faulting self.old fault.now) }
         ensures index { result ≡ index_for self.old fault.now.group }
@@ -252,8 +269,10 @@ impl Endpoint {
         }
     }
 
-    /// Tells whether the invalidations that the vector names may be completed, by so many completions: these, or
-    /// `NotPending`, `InUse` or `BadCount`.
+    /// Tells whether the invalidations that the vector names, bit T for ITag T, may be completed, by so many completions
+    /// (PCI Express Base 5.0, section 10.3.2): these, or `NotPending` for a vector of no bit, or of one whose ITag has no
+    /// invalidation; `InUse` where one of them waits for a use that it noted (this project's own rule); or `BadCount` for a
+    /// count that isn't 1 to 8.
     pub fn may_finish(&self, vector: u32, count: u64) -> Result<Finishing, Refusal>
         ensures { result ≡ finishing self.now vector count }
     {
@@ -263,7 +282,7 @@ impl Endpoint {
         if self.taken.is_one_waiting(vector) {
             return Err(Refusal::InUse);
         }
-        if count == 0 || count > 8 {
+        if count == 0 || count > COMPLETIONS {
             return Err(Refusal::BadCount);
         }
         let count = Count::new(count as u8);
@@ -277,7 +296,7 @@ impl Endpoint {
         })
     }
 
-    /// Completes the invalidations that the vector names.
+    /// Completes the invalidations that the vector names, bit T for ITag T. What is left doesn't depend on the count.
     pub fn finish(&mut self, vector: u32, count: u64)
         requires { IsOk (finishing self.old vector count) }
         ensures { self.new ≡ after_finish self.old vector }
@@ -285,7 +304,9 @@ impl Endpoint {
         self.taken.complete(vector);
     }
 
-    /// Tells whether this PASID may be quit: the Stop Marker, or `NotStopping` or `Busy`.
+    /// Tells whether this PASID may be quit: the Stop Marker (PCI Express Base 5.0, section 10.4.1), or `NotStopping` for
+    /// one that isn't stopping (one outside 1 to 32 never is), or `Busy` where a group of it is unfinished, a request of it
+    /// is out, doomed or not, or a use of it runs.
     pub fn may_quit(&self, pasid: u64) -> Result<Kind, Refusal>
         ensures { result ≡ quitting self.now pasid }
     {
@@ -303,7 +324,9 @@ impl Endpoint {
         })
     }
 
-    /// Stops using this PASID.
+    /// Stops using this PASID, which is off then. Its groups that are out become stale: they keep their indexes and their
+    /// requests until their responses come (PCI Express Base 5.0, sections 6.20 and 10.4.1; that they keep their indexes is
+    /// this project's own rule).
     pub fn quit(&mut self, pasid: u64)
         requires { IsOk (quitting self.old pasid) }
         ensures { self.new ≡ after_quit self.old pasid }
@@ -313,9 +336,22 @@ impl Endpoint {
         self.groups.make_stale(pasid);
     }
 
-    /// Takes a message from the host, and answers what came of it: `Started`, `Stopping`, `Reset`, `Dropped`,
-    /// `NoTranslation`, `Full`, `Held`, `Taken`, `Answered` or `Stale`. Whose message it is was looked at before. One
-    /// that isn't sent to an endpoint changes nothing and is `Dropped`.
+    /// Takes a message from the host, and answers what came of it. Whose message it is was looked at before. By kind, with
+    /// the sections of PCI Express Base 5.0:
+    ///
+    /// - Start: the PASID is on, `Started`; one outside 1 to 32 stays off. Stop: it is stopping, `Stopping`. (Both are this
+    ///   project's own messages, 6.20.)
+    /// - Reset (6.6.2): all is as at first, and the page request interface is enabled, but each use that runs is dead and
+    ///   keeps its slot, as the dead ones do (this project's own rule). `Reset`.
+    /// - Completion (10.2.3): the request's tag is free. `Dropped` for a tag that no request has or whose request is
+    ///   doomed, since the answer to a doomed one is thrown away (this project's own rule); `NoTranslation` with R clear;
+    ///   `Full` where 64 translations of other pages are cached, which stay, and the new one isn't kept (this project's
+    ///   own rule); else the translation is cached in place of one of its page, `Held`.
+    /// - Invalidate (10.3.1): what it covers is no more cached; each request out that it covers is doomed; the uses
+    ///   running that it covers are noted, and it waits for these (this project's own rules). `Taken`.
+    /// - Response (10.4.2): the group's index and its requests are free, `Answered`, or `Stale` for a stale group. A
+    ///   response failure, 1111b, disables the page request interface until a reset.
+    /// - Any other isn't sent to an endpoint and changes nothing. `Dropped`.
     pub fn receive(&mut self, message: Message) -> Received
         ensures answer { result.answer ≡ answer_to self.old message.kind }
         ensures after { self.new ≡ after_receive self.old message.kind }

@@ -3,12 +3,12 @@
 #![tactic(auto)]
 
 mod device;
-mod promises;
-mod yeses;
+mod laws;
+mod permitted;
 
 pub use device::Endpoint;
-pub use promises::laws;
+pub use laws::endpoint_laws;
+pub use permitted::{Asking, Fault, Faulting, Finishing, Received, Using};
 pub use sva_tables::{
     GroupPlace, Invalidation, PasidState, RequestTag, Taken, Translation, Use, UseSlot,
 };
-pub use yeses::{Asking, Fault, Faulting, Finishing, Received, Using};

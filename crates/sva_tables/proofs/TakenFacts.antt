@@ -15,9 +15,6 @@ pub record IsCompletedBelow (vector i : ℕ) (xs ys : List (Option Taken)) : Typ
   pub below : (k : ℕ) → k < i → get_or ys k None ≡ cond (is_named vector k) None (get_or xs k None)
   pub above : (k : ℕ) → i ≤ k → get_or ys k None ≡ get_or xs k None
 
-pub completed_none : (vector : ℕ) (xs : List (Option Taken)) → IsCompletedBelow vector 0 xs xs
-completed_none vector xs = record { long = refl; below = λ k low. absurd (omega arith); above = λ k high. refl }
-
 pub completed_more : (vector i : ℕ) (xs ys : List (Option Taken)) (y : Option Taken) → i < length xs → IsCompletedBelow vector i xs ys
     → y ≡ cond (is_named vector i) None (get_or ys i None) → IsCompletedBelow vector (i + 1) xs (set ys i y)
 completed_more vector i xs ys y within done is =

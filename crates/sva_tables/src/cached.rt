@@ -2,13 +2,14 @@ ghost use Rattle.std.specs.Prelude.{◌≡◌, true};
 ghost use Rattle.std.specs.FinMap.{empty, get, insert, remove};
 
 use crate::coverage::Invalidation;
+use crate::limits::CACHED;
 use arrayvec::ArrayVec;
 use std::marker::Model;
 
-/// A translation: the frame of a page, and whether it may be written.
+/// A translation: the frame of a page, and whether it may be written (PCI Express Base 5.0, section 10.2.3).
 #[derive(Clone, Copy, Debug, Default, PartialEq, Eq)]
 pub struct Translation {
-    /// The number of the frame.
+    /// The number of the frame, below the config's count (at most 4096).
     pub frame: u32,
     /// W: writing is allowed, beside reading.
     pub write: bool,
@@ -52,10 +53,11 @@ impl Entry {
     }
 }
 
-/// The translation cache of an endpoint, of at most 64 translations (PCI Express Base 5.0, section 10.2).
+/// The translation cache of an endpoint (PCI Express Base 5.0, section 10.2), of at most 64 translations (a limit of this
+/// project): for each PASID and page at most one.
 #[derive(Drop)]
 pub struct Cache {
-    entries: ArrayVec<Entry, 64>,
+    entries: ArrayVec<Entry, CACHED>,
 }
 
 impl Model for Cache {
@@ -97,10 +99,11 @@ impl Cache {
     pub fn has_room_for(&self, pasid: u64, page: u64) -> bool
         ensures { result ≡ has_room_for self.now (pasid, page) }
     {
-        self.get(pasid, page).is_some() || self.entries.len() < 64
+        self.get(pasid, page).is_some() || self.entries.len() < CACHED
     }
 
-    /// Keeps a translation, in place of one of the same page of the same PASID. There has to be room for it.
+    /// Keeps a translation, in place of one of the same page (below 2^36) of the same PASID (1 to 32). There has to be room
+    /// for it.
     pub fn insert(&mut self, pasid: u32, page: u64, translation: Translation)
         requires { has_room_for self.old (pasid, page) ≡ true }
         ensures { self.new ≡ insert self.old (pasid, page) translation }

@@ -2,12 +2,12 @@ ghost use Rattle.std.specs.Prelude.{◌≡◌};
 
 use sva_msg::Scope;
 
-/// What an Invalidate Request covers: one page of a PASID, or all of its pages (PCI Express Base 5.0, section 10.3).
+/// What an Invalidate Request covers: one page of a PASID, or all of its pages (PCI Express Base 5.0, section 10.3.1).
 #[derive(Clone, Copy, Debug, PartialEq, Eq)]
 pub struct Invalidation {
-    /// The PASID, 20 bits.
+    /// The PASID: 1 to 32 of its 20 bits (PCI Express Base 5.0, section 6.20).
     pub pasid: u32,
-    /// Which of its pages.
+    /// The page, or all pages, of the PASID.
     pub scope: Scope,
 }
 

@@ -2,20 +2,37 @@ ghost use Rattle.std.specs.Prelude.{◌≡◌, ◌<◌, ◌≤◌, IfSome, Some,
 ghost use Rattle.std.specs.List.{list_any};
 ghost use Rattle.sva_tables.specs.Groups.{stale_of};
 
+use crate::limits::GROUPS;
 use arrayvec::ArrayVec;
 use std::marker::Model;
 
-/// The place of one Page Request Group Index (PCI Express Base 5.0, section 10.4.1).
+/// The place of one Page Request Group Index: 0 to 31 of its nine bits (PCI Express Base 5.0, section 10.4.1).
 #[derive(Clone, Copy, Debug, PartialEq, Eq)]
 pub enum GroupPlace {
     /// No group has the index.
     Free,
-    /// A group of this PASID with so many requests, 1 to 32, the last of which wasn't sent.
-    Unfinished { pasid: u32, requests: u8 },
+    /// A group whose last request wasn't sent.
+    Unfinished {
+        /// The PASID, 1 to 32.
+        pasid: u32,
+        /// How many requests it has, 1 to 32.
+        requests: u8,
+    },
     /// A group whose last request was sent and whose response hasn't come.
-    Out { pasid: u32, requests: u8 },
-    /// A group that was out when its PASID was quit, and whose response hasn't come.
-    Stale { pasid: u32, requests: u8 },
+    Out {
+        /// The PASID, 1 to 32.
+        pasid: u32,
+        /// How many requests it has, 1 to 32.
+        requests: u8,
+    },
+    /// A group that was out when its PASID was quit, and whose response hasn't come: it keeps its index until then (this
+    /// project's own rule).
+    Stale {
+        /// The PASID that was quit, 1 to 32.
+        pasid: u32,
+        /// How many requests it has, 1 to 32.
+        requests: u8,
+    },
 }
 
 impl GroupPlace {
@@ -85,10 +102,11 @@ impl GroupPlace {
     }
 }
 
-/// The 32 groups of page requests of an endpoint, and how many requests are outstanding.
+/// The groups of page requests of an endpoint under the indexes 0 to 31, and how many of their requests are outstanding:
+/// at most 32 (PCI Express Base 5.0, section 10.5.2; both limits are this project's own).
 #[derive(Drop)]
 pub struct GroupTable {
-    places: ArrayVec<GroupPlace, 32>,
+    places: ArrayVec<GroupPlace, GROUPS>,
     outstanding: u8,
 }
 
@@ -114,7 +132,7 @@ impl GroupTable {
         ensures { result ≡ no_groups }
     {
         GroupTable {
-            places: ArrayVec::from([GroupPlace::Free; 32]),
+            places: ArrayVec::from([GroupPlace::Free; GROUPS]),
             outstanding: 0,
         }
     }
@@ -127,13 +145,14 @@ impl GroupTable {
         self.outstanding
     }
 
-    /// The lowest index that no group has, 0 to 31. There is one where fewer than 32 requests are outstanding, since each group
-    /// has one at least.
+    /// The lowest index that no group has, 0 to 31. There is one where fewer than 32 requests are outstanding, since each
+    /// group has one at least.
     pub fn lowest_free(&self) -> u8
         requires { outstanding_of self.now < 32 }
         ensures found { position is_free self.now ≡ Some result }
         ensures within { result < 32 }
     {
+        // That there are 32 places and that each group has a request is known once the places have been read.
         let _places = &self.places;
         match self.first_free() {
             Some(index) => index as u8,
@@ -168,8 +187,8 @@ impl GroupTable {
         self.places.iter().any(|place| place.is_unfinished(pasid))
     }
 
-    /// Begins a group of this PASID under the lowest free index with its first request, which may be its last. Fewer than
-    /// 32 requests have to be outstanding.
+    /// Begins a group of this PASID, 1 to 32, under the lowest free index, 0 to 31, with its first request, which may be its
+    /// last. Fewer than 32 requests have to be outstanding.
     pub fn begin(&mut self, index: u8, pasid: u32, last: bool)
         requires lowest { position is_free self.old ≡ Some index }
         requires within { index < 32 }

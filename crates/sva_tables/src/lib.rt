@@ -6,6 +6,7 @@
 mod cached;
 mod coverage;
 mod group_table;
+mod limits;
 mod pasid_states;
 mod request_tags;
 mod taken_table;

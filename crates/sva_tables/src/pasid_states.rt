@@ -1,10 +1,11 @@
 ghost use Rattle.std.specs.Prelude.{◌≡◌, false};
 
+use crate::limits::PASID_PLACES;
 use arrayvec::ArrayVec;
 use std::marker::Model;
 
-/// What an endpoint does under a PASID. How a device is told to start or stop is its own affair: here by the messages
-/// Start and Stop.
+/// What an endpoint does under a PASID. How a device is told to start or stop is its own affair (PCI Express Base 5.0,
+/// section 6.20): here by the messages Start and Stop (this project's own rule).
 #[derive(Clone, Copy, Debug, PartialEq, Eq)]
 pub enum PasidState {
     /// Nothing: no Start came since the PASID was last off.
@@ -40,10 +41,11 @@ impl PasidState {
     }
 }
 
-/// The states of the PASIDs 1 to 32 of an endpoint. Every other PASID is off.
+/// The states of the PASIDs 1 to 32 of an endpoint. A PASID has 20 bits (PCI Express Base 5.0, section 6.20); every one
+/// outside 1 to 32 is off (a limit of this project).
 #[derive(Drop)]
 pub struct PasidStates {
-    states: ArrayVec<PasidState, 33>,
+    states: ArrayVec<PasidState, PASID_PLACES>,
 }
 
 impl Model for PasidStates {
@@ -65,7 +67,7 @@ impl PasidStates {
         ensures { result ≡ all_off }
     {
         PasidStates {
-            states: ArrayVec::from([PasidState::Off; 33]),
+            states: ArrayVec::from([PasidState::Off; PASID_PLACES]),
         }
     }
 
@@ -81,7 +83,7 @@ impl PasidStates {
         }
     }
 
-    /// The PASID, which has to be on or stopping, as messages carry it.
+    /// The PASID, which has to be on or stopping and so is 1 to 32, as messages carry it.
     #[tactic(auto, using(crate::proofs::Places::past_the_end))]
     pub fn label(&self, pasid: u64) -> u32
         requires { is_off (state_of self.now pasid) ≡ false }

@@ -3,18 +3,30 @@ ghost use Rattle.std.specs.List.{list_any};
 ghost use Rattle.sva_tables.specs.RequestTags.{doomed_by};
 
 use crate::coverage::Invalidation;
+use crate::limits::REQUEST_TAGS;
 use arrayvec::ArrayVec;
 use std::marker::Model;
 
-/// The place of one tag of a translation request (PCI Express Base 5.0, section 10.2).
+/// The place of one tag of a translation request (PCI Express Base 5.0, section 10.2.2).
 #[derive(Clone, Copy, Debug, PartialEq, Eq)]
 pub enum RequestTag {
     /// No request has the tag.
     Free,
     /// The tag of a request that is out.
-    Out { pasid: u32, page: u64 },
-    /// The tag of a request that is out and that an invalidation covered meanwhile: its answer will be thrown away.
-    Doomed { pasid: u32, page: u64 },
+    Out {
+        /// The PASID, 1 to 32.
+        pasid: u32,
+        /// The number of the page, below 2^36.
+        page: u64,
+    },
+    /// The tag of a request that is out and that an invalidation covered meanwhile: its answer will be thrown away (this
+    /// project's own rule).
+    Doomed {
+        /// The PASID, 1 to 32.
+        pasid: u32,
+        /// The number of the page, below 2^36.
+        page: u64,
+    },
 }
 
 impl RequestTag {
@@ -47,10 +59,11 @@ impl RequestTag {
     }
 }
 
-/// The 32 tags of translation requests of an endpoint (PCI Express Base 5.0, section 10.2).
+/// The tags of translation requests of an endpoint (PCI Express Base 5.0, section 10.2.2): 0 to 31 (a limit of this
+/// project).
 #[derive(Drop)]
 pub struct RequestTags {
-    places: ArrayVec<RequestTag, 32>,
+    places: ArrayVec<RequestTag, REQUEST_TAGS>,
 }
 
 impl Model for RequestTags {
@@ -72,7 +85,7 @@ impl RequestTags {
         ensures { result ≡ no_requests }
     {
         RequestTags {
-            places: ArrayVec::from([RequestTag::Free; 32]),
+            places: ArrayVec::from([RequestTag::Free; REQUEST_TAGS]),
         }
     }
 
@@ -81,10 +94,7 @@ impl RequestTags {
         ensures found { result ≡ position is_free self.now }
         ensures within { IfSome result (λ tag. tag < 32) }
     {
-        match self.first_free() {
-            Some(tag) => Some(tag as u8),
-            None => None,
-        }
+        self.first_free().map(|tag| tag as u8)
     }
 
     fn first_free(&self) -> Option<usize>
@@ -94,7 +104,7 @@ impl RequestTags {
         self.places.iter().position(|place| place.is_free())
     }
 
-    /// Sends a request for this page out under this tag, 0 to 31.
+    /// Sends a request for this page, below 2^36, of this PASID, 1 to 32, out under this tag, 0 to 31.
     pub fn take(&mut self, tag: u8, pasid: u32, page: u64)
         requires { tag < 32 }
         ensures { self.new ≡ slice_set self.old tag (RequestTag.Out pasid page) }

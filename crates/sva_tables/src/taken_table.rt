@@ -3,17 +3,19 @@ ghost use Rattle.sva_tables.specs.Vectors.{is_named};
 ghost use Rattle.sva_tables.specs.Taken.{without_note};
 
 use crate::coverage::Invalidation;
+use crate::limits::{ITAGS, USE_SLOTS};
 use crate::vectors::is_named;
 use arrayvec::ArrayVec;
 use std::marker::Model;
 
-/// An invalidation that was taken and isn't completed yet.
+/// An invalidation that was taken and isn't completed yet (PCI Express Base 5.0, section 10.3).
 #[derive(Clone, Copy, Debug, PartialEq, Eq)]
 pub struct Taken {
     /// What it covers.
     pub invalidation: Invalidation,
-    /// The slots of the uses that it covers, that ran when it was taken and that haven't ended.
-    pub noted: [bool; 16],
+    /// At each slot, 0 to 15: is its use one that it covers, that ran when it was taken and that hasn't ended? It waits
+    /// for these uses (this project's own rule).
+    pub noted: [bool; USE_SLOTS],
 }
 
 impl Taken {
@@ -29,7 +31,7 @@ impl Taken {
         ensures { Some result ≡ without_note slot (Some self) }
     {
         let mut noted = self.noted;
-        if slot < 16 {
+        if slot < noted.len() as u64 {
             noted[slot as usize] = false;
         }
         Taken { noted, ..self }
@@ -51,10 +53,10 @@ fn without_note(place: Option<Taken>, slot: u64) -> Option<Taken>
     place.map(|taken| taken.without_note(slot))
 }
 
-/// The invalidations that an endpoint has taken under the ITags 0 to 31.
+/// The invalidations that an endpoint has taken under the ITags 0 to 31 (PCI Express Base 5.0, section 10.3.1).
 #[derive(Drop)]
 pub struct TakenTable {
-    places: ArrayVec<Option<Taken>, 32>,
+    places: ArrayVec<Option<Taken>, ITAGS>,
 }
 
 impl Model for TakenTable {
@@ -76,7 +78,7 @@ impl TakenTable {
         ensures { result ≡ none_taken }
     {
         TakenTable {
-            places: ArrayVec::from([None; 32]),
+            places: ArrayVec::from([None; ITAGS]),
         }
     }
 
@@ -116,12 +118,12 @@ impl TakenTable {
     pub fn complete(&mut self, vector: u32)
         ensures { self.new ≡ without_named vector self.old }
     {
-        for itag in 0..32 {
+        for itag in 0..ITAGS {
             self.places[itag] = without_named(self.places[itag], vector, itag);
         }
     }
 
-    /// Forgets the use of this slot, which has ended, wherever it was noted.
+    /// Forgets the use of this slot, which has ended, wherever it was noted; a slot from 16 on is noted nowhere.
     pub fn forget(&mut self, slot: u64)
         ensures { self.new ≡ map (without_note slot) self.old }
     {

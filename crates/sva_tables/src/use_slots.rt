@@ -3,19 +3,20 @@ ghost use Rattle.std.specs.List.{list_any};
 ghost use Rattle.sva_tables.specs.UseSlots.{runs_covered, cut_off};
 
 use crate::coverage::Invalidation;
+use crate::limits::USE_SLOTS;
 use arrayvec::ArrayVec;
 use std::marker::Model;
 
-/// A use of a cached translation: translated requests (AT field 10b) to one frame.
+/// A use of a cached translation: translated requests (AT field 10b; PCI Express Base 5.0, section 10.2.1) to one frame.
 #[derive(Clone, Copy, Debug, PartialEq, Eq)]
 pub struct Use {
     /// The PASID, 1 to 32.
     pub pasid: u32,
     /// The number of the page, below 2^36.
     pub page: u64,
-    /// The frame that the translation leads to.
+    /// The number of the frame that the translation leads to, below the config's count (at most 4096).
     pub frame: u32,
-    /// Does the translation allow writing?
+    /// W: the translation allows writing, beside reading.
     pub write: bool,
 }
 
@@ -26,7 +27,8 @@ pub enum UseSlot {
     Free,
     /// A use that runs.
     Running(Use),
-    /// A use that a reset ended: it touches nothing and names no frame, and has its slot until it is told of its end.
+    /// A use that a reset ended: it touches nothing and names no frame, and has its slot until it is told of its end (this
+    /// project's own rule).
     Dead,
 }
 
@@ -67,10 +69,10 @@ impl UseSlot {
     }
 }
 
-/// The 16 slots of uses of an endpoint.
+/// The slots of uses of an endpoint: 0 to 15 (a limit of this project).
 #[derive(Drop)]
 pub struct UseSlots {
-    slots: ArrayVec<UseSlot, 16>,
+    slots: ArrayVec<UseSlot, USE_SLOTS>,
 }
 
 impl Model for UseSlots {
@@ -92,7 +94,7 @@ impl UseSlots {
         ensures { result ≡ no_uses }
     {
         UseSlots {
-            slots: ArrayVec::from([UseSlot::Free; 16]),
+            slots: ArrayVec::from([UseSlot::Free; USE_SLOTS]),
         }
     }
 
@@ -113,10 +115,7 @@ impl UseSlots {
         ensures found { result ≡ position is_free self.now }
         ensures within { IfSome result (λ slot. slot < 16) }
     {
-        match self.first_free() {
-            Some(slot) => Some(slot as u8),
-            None => None,
-        }
+        self.first_free().map(|slot| slot as u8)
     }
 
     fn first_free(&self) -> Option<usize>
@@ -152,7 +151,7 @@ impl UseSlots {
     }
 
     /// Tells for each slot whether a use runs in it that the invalidation covers.
-    pub fn covered(&self, invalidation: &Invalidation) -> [bool; 16]
+    pub fn covered(&self, invalidation: &Invalidation) -> [bool; USE_SLOTS]
         ensures { result ≡ map (runs_covered invalidation.now) self.now }
     {
         covered_in(self.slots.as_slice(), invalidation)
@@ -167,11 +166,11 @@ impl UseSlots {
 }
 
 // Tells for each of these slots whether a use runs in it that the invalidation covers.
-fn covered_in(slots: &[UseSlot], invalidation: &Invalidation) -> [bool; 16]
+fn covered_in(slots: &[UseSlot], invalidation: &Invalidation) -> [bool; USE_SLOTS]
     requires { length slots.now ≡ 16 }
     ensures { result ≡ map (runs_covered invalidation.now) slots.now }
 {
-    let mut covered = [false; 16];
+    let mut covered = [false; USE_SLOTS];
     for (slot, place) in slots.iter().enumerate() {
         covered[slot] = place.runs_covered(invalidation);
     }

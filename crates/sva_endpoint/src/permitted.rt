@@ -4,10 +4,10 @@ use sva_itags::Count;
 use sva_msg::{Kind, PageRequest};
 use sva_step::Answer;
 
-/// A translation request that an endpoint may send.
+/// A translation request that an endpoint may send (PCI Express Base 5.0, section 10.2.2).
 #[derive(Clone, Copy, Debug, PartialEq, Eq)]
 pub struct Asking {
-    /// The lowest free request tag, 0 to 31.
+    /// The lowest free request tag, 0 to 31 (a limit of this project).
     pub tag: u8,
     /// The Translation Request that is to be sent.
     pub kind: Kind,
@@ -16,24 +16,24 @@ pub struct Asking {
 /// A use of a cached translation that an endpoint may begin.
 #[derive(Clone, Copy, Debug, PartialEq, Eq)]
 pub struct Using {
-    /// The lowest free slot, 0 to 15.
+    /// The lowest free slot, 0 to 15 (a limit of this project).
     pub slot: u8,
-    /// The frame that the translation leads to.
+    /// The number of the frame that the translation leads to, below the config's count (at most 4096).
     pub frame: u32,
 }
 
-/// What an endpoint asks for by a page request.
+/// What an endpoint asks for by a page request (PCI Express Base 5.0, section 10.4.1).
 #[derive(Clone, Copy, Debug, PartialEq, Eq)]
 pub struct Fault {
-    /// The PASID; one outside 1 to 32 is off.
+    /// The PASID, 1 to 32 of its 20 bits (PCI Express Base 5.0, section 6.20); one outside them is off.
     pub pasid: u64,
-    /// The number of the page; 2^36 or more is out of range.
+    /// The number of the page, of 4096 bytes, below 2^36; one from 2^36 on is out of range.
     pub page: u64,
     /// R: the page is to be read.
     pub read: bool,
     /// W: the page is to be written.
     pub write: bool,
-    /// The index of the unfinished group that goes on; none where a new group begins.
+    /// The index, 0 to 31, of the unfinished group that goes on; none where a new group begins.
     pub group: Option<u64>,
     /// L: this is the last request of its group.
     pub last: bool,
@@ -62,21 +62,21 @@ impl Fault {
     }
 }
 
-/// A page request that an endpoint may send.
+/// A page request that an endpoint may send (PCI Express Base 5.0, section 10.4.1).
 #[derive(Clone, Copy, Debug, PartialEq, Eq)]
 pub struct Faulting {
-    /// The index of its group, 0 to 31: for a new group the lowest free one.
+    /// The Page Request Group Index, 0 to 31 of its nine bits: for a new group the lowest free one.
     pub index: u8,
     /// The Page Request that is to be sent.
     pub kind: Kind,
 }
 
-/// Invalidations that an endpoint may complete.
+/// Invalidations that an endpoint may complete (PCI Express Base 5.0, section 10.3.2).
 #[derive(Clone, Copy, Debug, PartialEq, Eq)]
 pub struct Finishing {
-    /// How many Invalidate Completions are to be sent.
+    /// How many Invalidate Completions are to be sent, 1 to 8.
     pub count: Count,
-    /// Each of them.
+    /// Each of them: the ITag Vector, and the count in its Completion Count field, where 8 is written 0.
     pub kind: Kind,
 }
 

@@ -6,7 +6,7 @@ ghost use Rattle.sva_endpoint.specs.Laws.{AlwaysSound, TagsStayTaken, DoomedNeve
 /// a completion is refused as in use exactly while one of them runs; that a use that a reset ended keeps its slot, dead,
 /// until it is told of its end; and that a group, stale or not, keeps its index and its requests until its response or a
 /// reset comes.
-pub fn laws()
+pub fn endpoint_laws()
     ensures sound { AlwaysSound }
     ensures tags { TagsStayTaken }
     ensures doomed { DoomedNeverHeld }

@@ -9,7 +9,7 @@ use Rattle.sva_model.specs.State.Stage.{Stopping, Invalidating}
 use Rattle.sva_model.specs.State.PasidState.{Off, On, Ending}
 use Rattle.sva_model.specs.State.GroupState.{Unfinished, Awaiting}
 use Rattle.sva_model.specs.State.UseState.{Ended}
-use Rattle.sva_model.specs.State.OrderState.{Sent}
+use Rattle.sva_model.specs.State.OrderState.{Sent, Queued, Taken, Lapsed, Owing, Done, Void}
 use Rattle.sva_model.specs.State.PageRequestState.{InFlight, Arrived, Filed, Dropped}
 use Rattle.sva_model.specs.State.HostGroupState.{NotFiled, PartFiled, Job, InHand, Replied, Discarded, InHandDiscarded}
 use Rattle.sva_model.specs.State.Phase.{Open, Ordered, Cleared}
@@ -84,6 +84,29 @@ isnt_cleared (Cleared c) h = absurd (h c refl)
 isnt_off : (s : PasidState) → is_off s ≡ false → s ≢ Off
 isnt_off s h e = absurd (cc)
 
+off_not : (s : PasidState) → s ≢ Off → is_off s ≡ false
+off_not s h = grind arith
+
+not_before : (s : Stage) → is_active s ≡ false → is_before_invalidating s ≡ false
+not_before s h = grind arith
+
+not_undone : (s : OrderState) → is_undone s ≡ false → (s ≡ Done) ⊎ (s ≡ Void)
+not_undone Done h = inl refl
+not_undone Void h = inr refl
+not_undone Queued h = absurd (cc)
+not_undone Sent h = absurd (cc)
+not_undone (Taken u) h = absurd (cc)
+not_undone Lapsed h = absurd (cc)
+not_undone (Owing c l) h = absurd (cc)
+
+noted_off : (p : Part) (b : ℕ) → Bindings p → p.stage b ≡ Stopping true → (p.pasid_state b ≡ Off) × ((c : ℕ) → p.message c ≢ Some (StartOf b)) × ((c : ℕ) → p.message c ≢ Some (StopOf b)) × ((c : ℕ) → p.message c ≢ Some (MarkerOf b))
+noted_off p b bi h = (off_of (p.pasid_state b) (bi.on_stage b) (bi.ending_stage b), λ c m. absurd (cc (sym (ap is_unmarked h) ∙ bi.start_stage c b m)), λ c m. absurd (cc (sym h ∙ bi.stop_stage c b m)), λ c m. absurd (cc (sym h ∙ bi.marker_stage c b m)))
+  where
+    off_of : (s : PasidState) → (s ≡ On → is_unmarked (p.stage b) ≡ true) → (s ≡ Ending → p.stage b ≡ Stopping false) → s ≡ Off
+    off_of Off x y = refl
+    off_of On x y = absurd (cc (sym (ap is_unmarked h) ∙ x refl))
+    off_of Ending x y = absurd (cc (sym h ∙ y refl))
+
 alive_group : (s : GroupState) → (s ≡ Unfinished) ⊎ (s ≡ Awaiting) → is_alive_group s ≡ true
 alive_group s (inl h) = ap is_alive_group h
 alive_group s (inr h) = ap is_alive_group h
@@ -116,9 +139,11 @@ found w e i =
       completion = λ c r f ph h. la.bears_tag r (ra.answer_out c r f h (isnt_cleared p.phase ph));
       none_out = λ c r h. re.over c r h;
       out = λ r h. started p (p.request_binding r) la bi (ra.alive r h);
+      started = λ b h. (started p b la bi (off_not (p.pasid_state b) h)).0;
       asker = λ g h. started p (p.asker g) la bi (gr.alive g (alive_group (p.group g) h));
       invalidate = λ c k h. let s = la.sent c k h in (s, la.bears_itag k (sent_busy (p.order_state k) s), bearer p (binding_of (p.order k)) la (active_unreleased (p.stage (binding_of (p.order k))) (or.undone_stage k (sent_undone (p.order_state k) s) (or.no_wait k (sent_busy (p.order_state k) s)))));
       cached = λ r m h. bearer p (p.request_binding r) la (active_unreleased (p.stage (p.request_binding r)) (ow.held r m h));
+      one_held = ra.one_held;
       in_use = λ u h. bearer p (p.use_binding u) la (active_unreleased (p.stage (p.use_binding u)) (ow.running u h));
       page_request = λ r ph h. gr.bears_index (p.group_of r) ((i.parts e).lasts.out r ph h);
       open_group = λ g ph h. open_at p gr g ph h;
@@ -151,6 +176,8 @@ never w e i =
       open_group = λ g ph h. (gr.open_group g ph h).1;
       arrived = gr.arrived_stage;
       reply = λ g v k x ph h. replies g v k x ph h;
+      discarded = λ g v ph h. not_before (p.stage (p.filed_under g)) (gr.discarded g v ph h);
+      noted = λ b h. noted_off p b (i.parts e).bindings h;
     }
   where
     replies : (g v k x : ℕ) → (w.part e).phase ≡ Open → ((w.part e).host_group g ≡ InHand v) ⊎ ((w.part e).host_group g ≡ InHandDiscarded v) → (w.part e).stage ((w.part e).filed_under g) ≢ Invalidating k x
@@ -240,8 +267,25 @@ under_way w e i wa on ow =
       asked = λ r. ((λ h. (p.page_request_message r, qu.message r h)), (λ x. (qu.in_flight x.0 r x.1).0));
       asked_once = λ c d r h k. sym (qu.in_flight c r h).1 ∙ (qu.in_flight d r k).1;
       group = λ g ph a. way w e i wa on g ph a;
+      responded = λ c g code h. ((gr.response c g code h).0, (gr.response c g code h).1);
+      one_last = (i.parts e).lasts.last_once;
+      unfiled = λ r ph h. not_filed r ph (made_of r h) h (p.host_group (p.group_of r)) refl;
+      ahead = λ k j wt d lt. not_undone (p.order_state j) ((i.parts e).orders.ahead k j d wt lt);
       response_once = λ c d g code other h k. sym (gr.response c g code h).2 ∙ (gr.response d g other k).2;
     }
+
+  where
+    made_of : (r : ℕ) → ((w.part e).page_request r ≡ InFlight) ⊎ ((w.part e).page_request r ≡ Arrived) → r < (w.part e).page_requests
+    made_of r h = grind (arith, nat_tests, (i.parts e).bounds.page_request r)
+
+    not_filed : (r : ℕ) → (w.part e).phase ≡ Open → r < (w.part e).page_requests → ((w.part e).page_request r ≡ InFlight) ⊎ ((w.part e).page_request r ≡ Arrived) → (s : HostGroupState) → (w.part e).host_group ((w.part e).group_of r) ≡ s → ((w.part e).host_group ((w.part e).group_of r) ≡ NotFiled) ⊎ ((w.part e).host_group ((w.part e).group_of r) ≡ PartFiled)
+    not_filed r ph lt h NotFiled x = inl x
+    not_filed r ph lt h PartFiled x = inr x
+    not_filed r ph lt h Job x = let z = (i.parts e).lasts.whole r (ap is_whole x) lt in grind arith
+    not_filed r ph lt h (InHand v) x = let z = (i.parts e).lasts.whole r (ap is_whole x) lt in grind arith
+    not_filed r ph lt h Replied x = let z = (i.parts e).lasts.whole r (ap is_whole x) lt in grind arith
+    not_filed r ph lt h Discarded x = absurd (cc (sym ((i.parts e).lasts.out r ph h) ∙ on.discarded ((w.part e).group_of r) ph x))
+    not_filed r ph lt h (InHandDiscarded v) x = absurd (cc (sym ((i.parts e).lasts.out r ph h) ∙ (i.parts e).groups.discarded_over ((w.part e).group_of r) v ph x))
 
 -- a group is in one hand
 one_worker : (s : HostGroupState) (x y : ℕ) → IsHeldBy s x → IsHeldBy s y → x ≡ y

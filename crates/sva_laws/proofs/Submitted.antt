@@ -105,7 +105,7 @@ labels_submitted g b q count cookie p bo la =
     }
 
 pub requests_submitted : (b q count cookie : ℕ) (p : Part) → Requests p → Requests (submitted p b q count cookie)
-requests_submitted b q count cookie p ra = record { bound = ra.bound; alive = ra.alive; ask_once = ra.ask_once; answer_once = ra.answer_once; not_both = ra.not_both; ask_out = ra.ask_out; answer_out = ra.answer_out }
+requests_submitted b q count cookie p ra = record { bound = ra.bound; alive = ra.alive; ask_once = ra.ask_once; answer_once = ra.answer_once; not_both = ra.not_both; ask_out = ra.ask_out; answer_out = ra.answer_out; one_held = ra.one_held }
 
 pub orders_submitted : (g b q count cookie : ℕ) (p : Part) → is_before_invalidating (p.stage b) ≡ true → Bounds g p → Orders p → Orders (submitted p b q count cookie)
 orders_submitted g b q count cookie p st bo or =

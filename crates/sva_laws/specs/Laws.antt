@@ -12,13 +12,13 @@ use Rattle.sva_model.specs.State.{About, GroupState, Mappings, OrderState, Part,
 use Rattle.sva_model.specs.State.About.{StartOf, StopOf, ResetOrder, CompletionOf, InvalidateOf, ResponseOf, RequestOf, InvalidatedOf, PageRequestOf, MarkerOf, ResetDone}
 use Rattle.sva_model.specs.State.Phase.{Open, Cleared}
 use Rattle.sva_model.specs.State.Stage.{Stopping, Invalidating}
-use Rattle.sva_model.specs.State.OrderState.{Sent, Lapsed, Owing}
+use Rattle.sva_model.specs.State.OrderState.{Sent, Lapsed, Owing, Done, Void}
 use Rattle.sva_model.specs.State.PasidState.{Off}
 use Rattle.sva_model.specs.State.GroupState.{Unfinished, Awaiting, Stale}
 use Rattle.sva_model.specs.State.HostGroupState.{NotFiled, PartFiled, Job, InHand, Replied, InHandDiscarded}
 use Rattle.sva_model.specs.State.UseState.{Running, Ended}
 use Rattle.sva_model.specs.State.PageRequestState.{InFlight, Arrived}
-use Rattle.sva_model.specs.States.{is_unreleased, is_out, is_busy, is_outstanding, is_open_group, is_arrived, is_before_invalidating, place}
+use Rattle.sva_model.specs.States.{is_unreleased, is_out, is_busy, is_outstanding, is_open_group, is_arrived, is_before_invalidating, is_wait, place}
 use Rattle.sva_model.specs.States.Place.{Free, Withheld}
 use Rattle.sva_model.specs.Acts.{binding_of, extent_of}
 use Rattle.sva_model.specs.Labels.{number, outstanding, is_waiting, is_set}
@@ -127,9 +127,19 @@ pub record IsFound (p : Part) : Type 0 where
   -- in every phase a translation request that is out, and a group of page requests that isn't whole or awaits its response,
   -- is of the binding that bears the PASID, which the endpoint has started
   pub out : (r : ℕ) → is_out (p.request r) ≡ true → (IsBearer p (p.request_binding r)) × (p.pasid_state (p.request_binding r) ≢ Off)
+  -- a binding whose PASID the endpoint has started bears it
+  pub started : (b : ℕ) → p.pasid_state b ≢ Off → IsBearer p b
   pub asker : (g : ℕ) → (p.group g ≡ Unfinished) ⊎ (p.group g ≡ Awaiting) → (IsBearer p (p.asker g)) × (p.pasid_state (p.asker g) ≢ Off)
   pub invalidate : (c k : ℕ) → p.message c ≡ Some (InvalidateOf k) → (p.order_state k ≡ Sent) × (p.at_itag (p.itag k) ≡ Some k) × (IsBearer p (binding_of (p.order k)))
   pub cached : (r m : ℕ) → p.held r ≡ Some m → IsBearer p (p.request_binding r)
+  -- of one binding and page one translation is cached: a new one replaces the older
+  pub one_held :
+      (r other m n : ℕ)
+      → p.held r ≡ Some m
+      → p.held other ≡ Some n
+      → p.request_binding r ≡ p.request_binding other
+      → p.request_page r ≡ p.request_page other
+      → r ≡ other
   pub in_use : (u : ℕ) → p.use_state u ≡ Running → IsBearer p (p.use_binding u)
   -- at an open unit a page request in flight or arrived, and a group that the host has open, finds the group at the endpoint
   -- by its index; so no two groups that the host has open have the same index
@@ -198,6 +208,9 @@ pub record NeverOccurs (p : Part) : Type 0 where
   pub arrived : (r : ℕ) → p.page_request r ≡ Arrived → is_before_invalidating (p.stage (p.asker (p.group_of r))) ≡ true
   -- a worker that replies at an open unit for a binding that is Invalidating, whether or not a reset has dropped the job
   pub reply : (g worker invalidation wait : ℕ) → p.phase ≡ Open → (p.host_group g ≡ InHand worker) ⊎ (p.host_group g ≡ InHandDiscarded worker) → p.stage (p.filed_under g) ≢ Invalidating invalidation wait
+  -- a worker that holds, at an open unit, a job that a reset has dropped, for a binding that is Live, Stopping or Draining
+  pub discarded : (g worker : ℕ) → p.phase ≡ Open → p.host_group g ≡ InHandDiscarded worker → is_before_invalidating (p.stage (p.filed_under g)) ≡ false
+  pub noted : (b : ℕ) → p.stage b ≡ Stopping true → (p.pasid_state b ≡ Off) × ((c : ℕ) → p.message c ≢ Some (StartOf b)) × ((c : ℕ) → p.message c ≢ Some (StopOf b)) × ((c : ℕ) → p.message c ≢ Some (MarkerOf b))
 
 -- page requests that have arrived and aren't filed: their number, and their list in order of arrival
 abbrev pub page_queue : Part → ℕ
@@ -263,6 +276,21 @@ pub record IsUnderWay (n : ℕ) (p : Part) : Type 0 where
   pub asked_once : (c d r : ℕ) → p.message c ≡ Some (PageRequestOf r) → p.message d ≡ Some (PageRequestOf r) → c ≡ d
   -- each group that awaits its response, or is stale, is in one place on the way to it
   pub group : (g : ℕ) → p.phase ≡ Open → is_answerable (p.group g) ≡ true → IsOnItsWay p g
+  -- a response in flight is to a group that awaits it, or is stale, and that the host has answered
+  pub responded : (c g : ℕ) (code : Code) → p.message c ≡ Some (ResponseOf g code) → (is_answerable (p.group g) ≡ true) × (p.host_group g ≡ Replied)
+  -- a group has one last page request
+  pub one_last :
+      (r other : ℕ)
+      → r < p.page_requests
+      → other < p.page_requests
+      → p.is_last r ≡ true
+      → p.is_last other ≡ true
+      → p.group_of r ≡ p.group_of other
+      → r ≡ other
+  -- while a page request of it is in flight or arrived, the host doesn't have the group whole
+  pub unfiled : (r : ℕ) → p.phase ≡ Open → (p.page_request r ≡ InFlight) ⊎ (p.page_request r ≡ Arrived) → (p.host_group (p.group_of r) ≡ NotFiled) ⊎ (p.host_group (p.group_of r) ≡ PartFiled)
+  -- a wait is done only behind orders that are done or void
+  pub ahead : (wait k : ℕ) → is_wait (p.order wait) ≡ true → p.order_state wait ≡ Done → k < wait → (p.order_state k ≡ Done) ⊎ (p.order_state k ≡ Void)
   pub response_once : (c d g : ℕ) (code other : Code) → p.message c ≡ Some (ResponseOf g code) → p.message d ≡ Some (ResponseOf g other) → c ≡ d
 
 abbrev pub AlwaysUnderWay : Type 0

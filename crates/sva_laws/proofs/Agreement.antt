@@ -3,18 +3,19 @@ use Rattle.std.proofs.Common.{◌≡◌, ◌≢◌, ◌⊎◌, inl, inr, refl, a
 use Rattle.std.specs.Prelude.{Option, Some, None}
 use Rattle.std.proofs.lemmas.Bool.Decides.{nat_tests}
 use Rattle.sva_model.specs.Words.{all_below}
-use Rattle.sva_model.specs.State.{Owed, MappingState, Part, World, Stage, HostGroupState, GroupState}
+use Rattle.sva_model.specs.State.{Owed, MappingState, PasidState, Part, World, Stage, HostGroupState, GroupState}
 use Rattle.sva_model.specs.State.Owed.{Nothing, Pages, Pasid, AReset}
 use Rattle.sva_model.specs.State.MappingState.{Unmade, Present, Gone}
-use Rattle.sva_model.specs.State.Stage.{Invalidating}
+use Rattle.sva_model.specs.State.Stage.{Stopping, Invalidating}
+use Rattle.sva_model.specs.State.PasidState.{Off, On, Ending}
 use Rattle.sva_model.specs.State.Phase.{Open}
 use Rattle.sva_model.specs.State.OrderState.{Done}
 use Rattle.sva_model.specs.States.{is_unreleased, is_before_invalidating, is_open, is_open_group, is_outstanding, is_done, answered, place, place_at, place_by, place_of_gone}
 use Rattle.sva_model.specs.States.Place.{Mapped, Withheld}
-use Rattle.sva_model.specs.Claims.{Usable, IsPresent, IsAt, IsMapped, IsBearer, IsMatched, asker_of}
+use Rattle.sva_model.specs.Claims.{Usable, IsPresent, IsAt, IsMapped, IsBearer, HasSentMarker, IsMatched, asker_of}
 use Rattle.sva_model.specs.Claims.Usable.{cached, in_use, under_way}
 use Rattle.sva_laws.proofs.Words.{all_below-false}
-use Rattle.sva_laws.proofs.Bindings.{is_unmarked}
+use Rattle.sva_laws.proofs.Bindings.{Bindings, is_unmarked}
 use Rattle.sva_laws.proofs.Labels.{Labels}
 use Rattle.sva_laws.proofs.Orders.{is_active}
 use Rattle.sva_laws.proofs.Owners.{blocks, asker_stage}
@@ -78,7 +79,7 @@ mapped_at w f m la g = ap (place_at w) la ∙ ap (place_by w) g
 safe_place : (w : World) (e b q m age : ℕ) → Invariant w → is_active ((w.part e).stage b) ≡ true → w.mappings.space m ≡ (w.part e).space b → w.mappings.page m ≡ q → ((k x : ℕ) → (w.part e).stage b ≡ Invalidating k x → is_done ((w.part e).order_state k) ≡ false) → IsSafe w.mappings e (w.part e) b m age → IsPresent w e b q m ⊎ (place w (w.mappings.frame m) ≡ Withheld)
 safe_place w e b q m age i a sp pg inv (inl h) =
     let at = i.mapped.present_at m h in
-    inl (record { there = m; maps = ap (λ s. w.mappings.at s q) (sym sp) ∙ ap (w.mappings.at (w.mappings.space m)) (sym pg) ∙ at; frame = refl; write = refl })
+    inl (record { live = i.mapped.bound_live e b (active_unreleased ((w.part e).stage b) a); there = m; maps = ap (λ s. w.mappings.at s q) (sym sp) ∙ ap (w.mappings.at (w.mappings.space m)) (sym pg) ∙ at; frame = refl; write = refl })
 safe_place w e b q m age i a sp pg inv (inr h) = inr (go (w.mappings.state m) refl h)
   where
     go : (z : MappingState) → w.mappings.state m ≡ z → Pending (w.part e) b (w.mappings.page m) age (owed_of z e) → place w (w.mappings.frame m) ≡ Withheld
@@ -128,6 +129,22 @@ bearer p b la u =
     one_of : (d : ℕ) → p.at_pasid (p.pasid d) ≡ Some d → p.at_pasid (p.pasid b) ≡ Some b → p.pasid d ≡ p.pasid b → d ≡ b
     one_of d x y same = let z : p.at_pasid (p.pasid d) ≡ p.at_pasid (p.pasid b) = ap p.at_pasid same in cc
 
+-- a binding whose marker is noted has gone its line at the endpoint to the end
+has_sent_marker : (p : Part) (b : ℕ) → Labels p → Bindings p → p.stage b ≡ Stopping true → HasSentMarker p b
+has_sent_marker p b la bi h =
+    record {
+      bearer = bearer p b la (ap is_unreleased h);
+      off = off_of (p.pasid_state b) (bi.on_stage b) (bi.ending_stage b);
+      no_start = λ c m. absurd (cc (sym (ap is_unmarked h) ∙ bi.start_stage c b m));
+      no_stop = λ c m. absurd (cc (sym h ∙ bi.stop_stage c b m));
+      no_marker = λ c m. absurd (cc (sym h ∙ bi.marker_stage c b m));
+    }
+  where
+    off_of : (s : PasidState) → (s ≡ On → is_unmarked (p.stage b) ≡ true) → (s ≡ Ending → p.stage b ≡ Stopping false) → s ≡ Off
+    off_of Off x y = refl
+    off_of On x y = absurd (cc (sym (ap is_unmarked h) ∙ x refl))
+    off_of Ending x y = absurd (cc (sym h ∙ y refl))
+
 pub matched : (w : World) (e : ℕ) → Invariant w → IsMatched (w.part e)
 matched w e i =
     let p = w.part e in
@@ -138,6 +155,7 @@ matched w e i =
       job = λ g h. gr.under g (open_filed (p.host_group g) h);
       in_flight = λ c r ph h. bearer p (asker_of p r) la (unmarked_unreleased (p.stage (asker_of p r)) (gr.flight_stage c r ph h));
       arrived = λ r ph h. bearer p (asker_of p r) la (before_unreleased (p.stage (asker_of p r)) (gr.arrived_stage r h));
+      noted = λ b h. has_sent_marker p b la (i.parts e).bindings h;
       marker = λ c b ph h. bearer p b la (ap is_unreleased ((i.parts e).bindings.marker_stage c b h));
       response = λ c g code h. let x = gr.response c g code h in (gr.bears_index g (answerable (p.group g) x.0), gr.under g (ap is_filed_group x.1));
       once = λ g. at_most (p.host_group g) (gr.responses g);
@@ -171,6 +189,13 @@ mapped_once w f s q t r i a b =
     let ly : w.mappings.latest f ≡ Some b.mapping = subst (λ z. w.mappings.latest z ≡ Some b.mapping) b.leads (i.mapped.latest b.mapping y.0) in
     let same : a.mapping ≡ b.mapping = cc in
     (sym x.1 ∙ ap w.mappings.space same ∙ y.1, sym x.2 ∙ ap w.mappings.page same ∙ y.2)
+
+-- what is at a page is a frame of the config
+pub frame_low : (w : World) (f s q : ℕ) → Invariant w → IsAt w f s q → f < w.config.frames
+frame_low w f s q i a =
+    let x = i.mapped.at_present s q a.mapping a.maps in
+    let made = (i.mapped.named (w.mappings.frame a.mapping) a.mapping (i.mapped.latest a.mapping x.0)).1 in
+    subst (λ z. z < w.config.frames) a.leads (i.mapped.low a.mapping made)
 
 pub is_mapped : (w : World) (f : ℕ) → Invariant w → place w f ≡ Mapped → IsMapped w f
 is_mapped w f i h = go (w.mappings.latest f) refl h

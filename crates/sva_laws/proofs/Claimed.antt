@@ -1,5 +1,5 @@
 -- The headline: after every list of steps the agreement holds.
-use Rattle.std.proofs.Common.{◌≡◌, ◌⊎◌, inl, inr, refl, ℕ}
+use Rattle.std.proofs.Common.{◌≡◌, ◌⊎◌, inl, inr, refl, subst, ℕ, ◌<◌}
 use Rattle.std.specs.Prelude.{List}
 use Rattle.sva_step.specs.declared.limits.Config.{Config}
 use Rattle.sva_step.specs.declared.steps.Step.{Step}
@@ -8,8 +8,8 @@ use Rattle.sva_model.specs.States.Place.{Free, Mapped, Withheld}
 use Rattle.sva_model.specs.Steps.{world_after}
 use Rattle.sva_model.specs.Claims.{IsPresent, IsWithheld, IsDivided, AlwaysAgrees, Usable}
 use Rattle.sva_laws.proofs.Runs.{always}
-use Rattle.sva_laws.proofs.Agreement.{owner, usable, matched, distinct, mapped_once, is_mapped, place_mapped}
-use Rattle.sva_laws.proofs.Withheld.{is_withheld, place_withheld}
+use Rattle.sva_laws.proofs.Agreement.{owner, usable, matched, distinct, mapped_once, frame_low, is_mapped, place_mapped}
+use Rattle.sva_laws.proofs.Withheld.{config_kept, is_withheld, place_withheld}
 
 -- a place that is neither Mapped nor Withheld is Free
 free_is : (p : Place) → (p ≡ Mapped → ⊥) → (p ≡ Withheld → ⊥) → p ≡ Free
@@ -27,6 +27,7 @@ pub divided : (c : Config) (steps : List Step) → IsDivided c steps
 divided c steps =
     let i = always c steps in
     record {
+      low = λ f s q a. subst (λ k. f < k.frames) (config_kept c steps) (frame_low (world_after c steps) f s q i a);
       mapped_once = λ f s q t r a b. mapped_once (world_after c steps) f s q t r i a b;
       mapped = λ f. (is_mapped (world_after c steps) f i, place_mapped (world_after c steps) f i);
       withheld = λ f. (is_withheld c steps f, place_withheld c steps f);

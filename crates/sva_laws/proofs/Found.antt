@@ -99,14 +99,6 @@ not_undone (Taken u) h = absurd (cc)
 not_undone Lapsed h = absurd (cc)
 not_undone (Owing c l) h = absurd (cc)
 
-noted_off : (p : Part) (b : ℕ) → Bindings p → p.stage b ≡ Stopping true → (p.pasid_state b ≡ Off) × ((c : ℕ) → p.message c ≢ Some (StartOf b)) × ((c : ℕ) → p.message c ≢ Some (StopOf b)) × ((c : ℕ) → p.message c ≢ Some (MarkerOf b))
-noted_off p b bi h = (off_of (p.pasid_state b) (bi.on_stage b) (bi.ending_stage b), λ c m. absurd (cc (sym (ap is_unmarked h) ∙ bi.start_stage c b m)), λ c m. absurd (cc (sym h ∙ bi.stop_stage c b m)), λ c m. absurd (cc (sym h ∙ bi.marker_stage c b m)))
-  where
-    off_of : (s : PasidState) → (s ≡ On → is_unmarked (p.stage b) ≡ true) → (s ≡ Ending → p.stage b ≡ Stopping false) → s ≡ Off
-    off_of Off x y = refl
-    off_of On x y = absurd (cc (sym (ap is_unmarked h) ∙ x refl))
-    off_of Ending x y = absurd (cc (sym h ∙ y refl))
-
 alive_group : (s : GroupState) → (s ≡ Unfinished) ⊎ (s ≡ Awaiting) → is_alive_group s ≡ true
 alive_group s (inl h) = ap is_alive_group h
 alive_group s (inr h) = ap is_alive_group h
@@ -177,7 +169,6 @@ never w e i =
       arrived = gr.arrived_stage;
       reply = λ g v k x ph h. replies g v k x ph h;
       discarded = λ g v ph h. not_before (p.stage (p.filed_under g)) (gr.discarded g v ph h);
-      noted = λ b h. noted_off p b (i.parts e).bindings h;
     }
   where
     replies : (g v k x : ℕ) → (w.part e).phase ≡ Open → ((w.part e).host_group g ≡ InHand v) ⊎ ((w.part e).host_group g ≡ InHandDiscarded v) → (w.part e).stage ((w.part e).filed_under g) ≢ Invalidating k x
@@ -270,11 +261,17 @@ under_way w e i wa on ow =
       responded = λ c g code h. ((gr.response c g code h).0, (gr.response c g code h).1);
       one_last = (i.parts e).lasts.last_once;
       unfiled = λ r ph h. not_filed r ph (made_of r h) h (p.host_group (p.group_of r)) refl;
+      void = λ k lt v. voided p.phase (λ ph. (i.parts e).orders.void k lt v ph);
       ahead = λ k j wt d lt. not_undone (p.order_state j) ((i.parts e).orders.ahead k j d wt lt);
       response_once = λ c d g code other h k. sym (gr.response c g code h).2 ∙ (gr.response d g other k).2;
     }
 
   where
+    voided : (x : Phase) → (x ≡ Open → 0 < (w.part e).resets) → (x ≢ Open) ⊎ (0 < (w.part e).resets)
+    voided Open h = inr (h refl)
+    voided (Ordered c) h = inl (λ k. absurd (cc k))
+    voided (Cleared c) h = inl (λ k. absurd (cc k))
+
     made_of : (r : ℕ) → ((w.part e).page_request r ≡ InFlight) ⊎ ((w.part e).page_request r ≡ Arrived) → r < (w.part e).page_requests
     made_of r h = grind (arith, nat_tests, (i.parts e).bounds.page_request r)
 

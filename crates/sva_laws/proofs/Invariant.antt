@@ -44,6 +44,7 @@ pub record Mapped (w : World) : Type 0 where
   pub at_present : (s q m : ℕ) → w.mappings.at s q ≡ Some m → (w.mappings.state m ≡ Present) × (w.mappings.space m ≡ s) × (w.mappings.page m ≡ q) × (w.is_live s ≡ true)
   pub latest : (m : ℕ) → w.mappings.state m ≡ Present → w.mappings.latest (w.mappings.frame m) ≡ Some m
   pub named : (f m : ℕ) → w.mappings.latest f ≡ Some m → (w.mappings.frame m ≡ f) × (m < w.mappings.made)
+  pub low : (m : ℕ) → m < w.mappings.made → w.mappings.frame m < w.config.frames
   pub passed : (m : ℕ) (owed : ℕ → Owed) (e : ℕ) → w.mappings.state m ≡ Gone owed → e < w.config.endpoints → (w.mappings.latest (w.mappings.frame m) ≡ Some m) ⊎ (answered (w.part e) (owed e) ≡ true)
   pub live : (s : ℕ) → w.is_live s ≡ true → s < w.spaces
   pub bound_live : (e b : ℕ) → is_unreleased ((w.part e).stage b) ≡ true → w.is_live ((w.part e).space b) ≡ true

@@ -44,7 +44,7 @@ LetsGo w e _ = Unit {0}
 abbrev pub Legal : World → Act → Type 0
 Legal w NewSpace = Unit {0}
 Legal w (DropSpace s) = (e b : ℕ) → is_unreleased ((w.part e).stage b) ≡ true → (w.part e).space b ≢ s
-Legal w (Map s q f x) = (w.is_live s ≡ true) × (w.mappings.at s q ≡ None) × (is_free w f ≡ true)
+Legal w (Map s q f x) = (w.is_live s ≡ true) × (w.mappings.at s q ≡ None) × (is_free w f ≡ true) × (f < w.config.frames)
 Legal w (Unmap s q count) = Unit {0}
 Legal w (NewBinding e) = Unit {0}
 Legal w (NewJob e g) = Unit {0}
@@ -242,6 +242,7 @@ at_keeps w e o l i =
             at_present = i.mapped.at_present;
             latest = i.mapped.latest;
             named = i.mapped.named;
+            low = i.mapped.low;
             live = i.mapped.live;
             passed = λ m v x g b. or_answered (answered (w.part x) (v x)) (answered ((act w (At e o)).part x) (v x)) (i.mapped.passed m v x g b) (at_answered w e o (v x) l i x);
             bound_live =
@@ -265,6 +266,7 @@ new_space_keeps w i =
             at_present = λ s q m h. let a = i.mapped.at_present s q m h in (a.0, a.1, a.2, live_put s a.3);
             latest = i.mapped.latest;
             named = i.mapped.named;
+            low = i.mapped.low;
             passed = i.mapped.passed;
             live = λ s h. live_below s h;
             bound_live = λ e b h. live_put ((w.part e).space b) (i.mapped.bound_live e b h);
@@ -290,6 +292,7 @@ new_binding_keeps w e i =
             at_present = i.mapped.at_present;
             latest = i.mapped.latest;
             named = i.mapped.named;
+            low = i.mapped.low;
             passed = i.mapped.passed;
             live = i.mapped.live;
             bound_live = i.mapped.bound_live;
@@ -309,6 +312,7 @@ same_keeps w jobs job hand hs i =
             at_present = i.mapped.at_present;
             latest = i.mapped.latest;
             named = i.mapped.named;
+            low = i.mapped.low;
             passed = i.mapped.passed;
             live = i.mapped.live;
             bound_live = i.mapped.bound_live;
@@ -378,6 +382,7 @@ map_mapped w s q f x l i =
       at_present = λ t r k h. grind (arith, nat_tests, ma.at_present t r k, l.0, ma.unmade);
       latest = λ k h. grind (arith, nat_tests, ma.latest k, free_present w f k l.2);
       named = λ g k h. grind (arith, nat_tests, ma.named g k);
+      low = λ k h. grind (arith, nat_tests, ma.low k, l.3);
       passed = map_passed w s q f x l i;
       live = ma.live;
       bound_live = ma.bound_live;
@@ -429,6 +434,7 @@ without_mapped w s cookies pages owed live part sub there alive more ma =
       at_present = λ t q m h. let a = ma.at_present t q m (Unmapping.was_at w.mappings s pages owed t q m h) in (still_present t q m h a.0 a.1 a.2, a.1, a.2, there t q m h);
       latest = λ m h. ma.latest m (gone_present (w.mappings.space m == s && pages (w.mappings.page m)) (w.mappings.state m) h);
       named = ma.named;
+      low = ma.low;
       passed = λ m v e g b. gone_passed m v e (w.mappings.space m == s && pages (w.mappings.page m)) (w.mappings.state m) refl g b;
       live = λ x h. ma.live x (sub x h);
       bound_live = alive;

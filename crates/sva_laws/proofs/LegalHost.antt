@@ -25,6 +25,7 @@ map_page w n q x i h = (
     and_right (Labels.is_number w w.spaces n) (w.is_live (Labels.name w n)) (not_true (Labels.is_space w n) h.0),
     none_is (w.mappings.at (Labels.name w n) q) h.1.1.0,
     (lowest_passes w.config.frames (is_free w) h.1.1.1.1.0).1,
+    (lowest_passes w.config.frames (is_free w) h.1.1.1.1.0).0,
   ),
   tt,
 )

@@ -1,5 +1,5 @@
 -- What a worker's reply has tested: each page that a success maps is unmapped then and its frame free, one after another.
-use Rattle.std.proofs.Common.{◌≡◌, ◌≢◌, ◌⊎◌, inl, inr, refl, ap, sym, subst, ◌∙◌, ℕ, zero, suc, ◌<◌, Bool, true, false, arith}
+use Rattle.std.proofs.Common.{◌≡◌, ◌≢◌, ◌⊎◌, inl, inr, refl, ap, sym, subst, ◌∙◌, ℕ, zero, suc, ◌<◌, ◌≤◌, Bool, true, false, arith}
 use Rattle.std.specs.Prelude.{Option, Some, None, ◌||◌, ◌==◌, if◌then◌else◌, List, [], ◌∷◌, ◌++◌, map}
 use Rattle.std.proofs.lemmas.Bool.Decides.{nat_tests}
 use Rattle.sva_step.specs.declared.steps.Step.TheVariants as step
@@ -28,10 +28,10 @@ abbrev pub NotAmong : ℕ → List ℕ → Type 0
 NotAmong f [] = Unit {0}
 NotAmong f (g ∷ gs) = (g ≢ f) × NotAmong f gs
 
--- frames that are free, each once
+-- frames of the config that are free, each once
 abbrev pub AreFree : World → List ℕ → Type 0
 AreFree w [] = Unit {0}
-AreFree w (f ∷ fs) = (is_free w f ≡ true) × (NotAmong f fs × AreFree w fs)
+AreFree w (f ∷ fs) = ((is_free w f ≡ true) × (f < w.config.frames)) × (NotAmong f fs × AreFree w fs)
 
 -- mapping a page to another frame leaves a free frame free
 free_other : (w : World) (s q f g : ℕ) (x : Bool) → Invariant w → g ≢ f → is_free w g ≡ true → is_free (act w (Map s q f x)) g ≡ true
@@ -57,7 +57,7 @@ free_other w s q f g x i ne h = go (w.mappings.latest g) refl
 
 are_free_other : (w : World) (s q f : ℕ) (x : Bool) (fs : List ℕ) → Invariant w → NotAmong f fs → AreFree w fs → AreFree (act w (Map s q f x)) fs
 are_free_other w s q f x [] i n a = tt
-are_free_other w s q f x (g ∷ gs) i n a = (free_other w s q f g x i n.0 a.0, (a.1.0, are_free_other w s q f x gs i n.1 a.1.1))
+are_free_other w s q f x (g ∷ gs) i n a = ((free_other w s q f g x i n.0 a.0.0, a.0.1), (a.1.0, are_free_other w s q f x gs i n.1 a.1.1))
 
 -- a page that is mapped isn't to be mapped again
 next_unmapped : (w : World) (s q f : ℕ) (x : Bool) (seen : ℕ → Bool) → ((r : ℕ) → seen r ≡ false → w.mappings.at s r ≡ None) → (r : ℕ) → (r == q || seen r) ≡ false → (act w (Map s q f x)).mappings.at s r ≡ None
@@ -84,7 +84,7 @@ maps_legal x e g code s write (q ∷ qs) seen fs w i l u a rest =
     go true h same fs' k next = same fs' k
     go false h same [] k next = rest
     go false h same (f ∷ fs') k next =
-        let here : Legal w (Map s q f (write q)) = (l, u q h, k.0) in
+        let here : Legal w (Map s q f (write q)) = (l, u q h, k.0.0, k.0.1) in
         (here, next f fs' here (are_free_other w s q f (write q) fs' i k.1.0 k.1.1))
 
 -- the free frames, lowest first, are free and each once
@@ -104,7 +104,7 @@ not_among_push : (f n : ℕ) (fs : List ℕ) → n ≢ f → NotAmong f fs → N
 not_among_push f n [] ne h = (ne, tt)
 not_among_push f n (g ∷ gs) ne h = (h.0, not_among_push f n gs ne h.1)
 
-are_free_push : (w : World) (n : ℕ) (fs : List ℕ) → AreBelow n fs → is_free w n ≡ true → AreFree w fs → AreFree w (fs ++ n ∷ [])
+are_free_push : (w : World) (n : ℕ) (fs : List ℕ) → AreBelow n fs → (is_free w n ≡ true) × (n < w.config.frames) → AreFree w fs → AreFree w (fs ++ n ∷ [])
 are_free_push w n [] b h a = (h, (tt, tt))
 are_free_push w n (f ∷ fs) b h a =
     let ne : n ≢ f = omega (arith, b.0) in
@@ -118,13 +118,13 @@ record Selected (w : World) (n : ℕ) (fs : List ℕ) : Type 0 where
   below : AreBelow n fs
   free : AreFree w fs
 
-select_free : (w : World) (n : ℕ) → Selected w n (select n (is_free w))
+select_free : (w : World) (n : ℕ) → n ≤ w.config.frames → Selected w n (select n (is_free w))
 unfolding select
-select_free w zero = record { below = tt; free = tt }
-select_free w (suc n) = go (is_free w n) refl (select_free w n)
+select_free w zero lt = record { below = tt; free = tt }
+select_free w (suc n) lt = go (is_free w n) refl (select_free w n (omega (arith, lt)))
   where
     go : (b : Bool) → is_free w n ≡ b → Selected w n (select n (is_free w)) → Selected w (suc n) (select n (is_free w) ++ (if b then n ∷ [] else []))
-    go true h r = record { below = below_push n (select n (is_free w)) r.below; free = are_free_push w n (select n (is_free w)) r.below h r.free }
+    go true h r = record { below = below_push n (select n (is_free w)) r.below; free = are_free_push w n (select n (is_free w)) r.below (h, omega (arith, lt)) r.free }
     go false h r = subst (λ z. Selected w (suc n) z) (sym (append_none (select n (is_free w)))) (record { below = below_more n (select n (is_free w)) r.below; free = r.free })
 
 -- the job of a hand is in that hand alone
@@ -199,7 +199,7 @@ reply_at w x j v (Some code) i h r =
         maps_legal x (w.job j).endpoint (w.job j).group code (job_space w j) (is_write_asked w j) (map (job_part w j).asked_page (job_asks w j)) (Labels.is_mapped w (job_space w j)) (free_list w) w i
         (i.mapped.bound_live (w.job j).endpoint (job_binding w j) (ap is_unreleased (success_live (is_open (job_part w j).phase) ((job_part w j).stage (job_binding w j)) v e)))
         (λ q k. none_is (w.mappings.at (job_space w j) q) k)
-        (select_free w w.config.frames).free
+        (select_free w w.config.frames (omega arith)).free
         rest
     go false e rest = rest
 

@@ -47,6 +47,7 @@ pub record Orders (p : Part) : Type 0 where
   pub invalidating_state : (b k w : ℕ) → p.stage b ≡ Invalidating k w → p.phase ≡ Open → is_queued_or_done (p.order_state w) ≡ true
   pub invalidation_state : (b k w : ℕ) → p.stage b ≡ Invalidating k w → p.phase ≡ Open → p.order_state k ≢ Void
   pub invalidation_done : (b k w : ℕ) → p.stage b ≡ Invalidating k w → p.order_state w ≡ Done → p.order_state k ≡ Done
+  pub void : (k : ℕ) → k < p.orders → p.order_state k ≡ Void → p.phase ≡ Open → 0 < p.resets
   pub undone_before : (b k w x : ℕ) → p.stage b ≡ Invalidating k w → is_undone (p.order_state x) ≡ true → is_wait (p.order x) ≡ false → binding_of (p.order x) ≡ b → x < w
   pub undone_stage : (k : ℕ) → is_undone (p.order_state k) ≡ true → is_wait (p.order k) ≡ false → is_active (p.stage (binding_of (p.order k))) ≡ true
 
@@ -145,6 +146,10 @@ invalidation_done_kept ms g n p o l sent or b k w h i =
       | inr x ↦ absurd (queued_apart ((own p n o).order_state w) Done x.1 refl i)
     ]
 
+-- an order is void only by a reset
+void_kept : (ms : Mappings) (g n : ℕ) (p : Part) (o : Own) → LegalOwn ms g p o → (k : ℕ) → (k < p.orders → p.order_state k ≡ Void → p.phase ≡ Open → 0 < p.resets) → k < (own p n o).orders → (own p n o).order_state k ≡ Void → (own p n o).phase ≡ Open → 0 < (own p n o).resets
+void_kept ms g n p o l k old lt h i = grind (arith, nat_tests)
+
 undone_before_kept : (ms : Mappings) (g n : ℕ) (p : Part) (o : Own) → LegalOwn ms g p o → SentOnly p → (b k w x : ℕ) → (x < p.orders) ⊎ (p.order_state x ≡ Void) → (p.stage b ≡ Invalidating k w → is_undone (p.order_state x) ≡ true → is_wait (p.order x) ≡ false → binding_of (p.order x) ≡ b → x < w) → (own p n o).stage b ≡ Invalidating k w → is_undone ((own p n o).order_state x) ≡ true → is_wait ((own p n o).order x) ≡ false → binding_of ((own p n o).order x) ≡ b → x < w
 undone_before_kept ms g n p o l sent b k w x made old h i j e = grind (arith, nat_tests)
 
@@ -170,6 +175,7 @@ every ms g n p o l re bo la or =
       invalidating_state = λ b k w h i. invalidating_state_kept ms g n p o l la.sent re or b k w h i;
       invalidation_state = λ b k w h i. invalidation_state_kept ms g n p o l or b k w h i;
       invalidation_done = λ b k w h i. invalidation_done_kept ms g n p o l la.sent or b k w h i;
+      void = λ k lt h i. void_kept ms g n p o l k (or.void k) lt h i;
       undone_before = λ b k w x h i j e. undone_before_kept ms g n p o l la.sent b k w x (made_or_void p g x bo) (or.undone_before b k w x) h i j e;
       undone_stage = λ x h i. undone_stage_kept ms g n p o l la.sent x (made_or_void p g x bo) (λ b k w. quiet_now p or b k w x) (or.undone_stage x) h i;
     }

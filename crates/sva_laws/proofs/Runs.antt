@@ -61,6 +61,7 @@ opened_invariant c =
             at_present = grind arith;
             latest = grind arith;
             named = grind arith;
+            low = grind arith;
             passed = grind arith;
             live = grind arith;
             bound_live = grind arith;

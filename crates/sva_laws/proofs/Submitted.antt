@@ -118,6 +118,7 @@ orders_submitted g b q count cookie p st bo or =
       invalidating_state = λ x k w h i. grind (arith, nat_tests, or.invalidating_state x k w, or.invalidating x k w);
       invalidation_state = λ x k w h i. grind (arith, nat_tests, or.invalidation_state x k w, or.invalidating x k w);
       invalidation_done = λ x k w h i. grind (arith, nat_tests, or.invalidation_done x k w, or.invalidating x k w);
+      void = λ k lt h i. grind (arith, nat_tests, or.void k);
       undone_before = λ x k w y h i j e. grind (arith, nat_tests, or.undone_before x k w y);
       undone_stage = λ k h i. grind (arith, nat_tests, or.undone_stage k);
     }

@@ -4,21 +4,22 @@ use Rattle.std.specs.Prelude.{Option, Some, None, ◌&&◌, ◌||◌, ◌==◌, 
 use Rattle.std.proofs.lemmas.Bool.Decides.{nat_tests}
 use Rattle.sva_step.specs.declared.limits.Config.{Config}
 use Rattle.sva_step.specs.declared.steps.Step.{Step}
-use Rattle.sva_model.specs.Words.{all_below}
+use Rattle.sva_model.specs.Words.{all_below, put_range}
 use Rattle.sva_model.specs.State.{Owed, OrderState, MappingState, Part, World, Stage, opened}
 use Rattle.sva_model.specs.State.Owed.{Pages, Pasid, AReset}
 use Rattle.sva_model.specs.State.MappingState.{Unmade, Present, Gone}
 use Rattle.sva_model.specs.State.Stage.{Unbound, Live, Stopping, Draining, Invalidating, Quiet, Lost, Released}
+use Rattle.sva_model.specs.State.Order.{PageOf, Wait}
 use Rattle.sva_model.specs.State.OrderState.{Done}
 use Rattle.sva_model.specs.State.Phase.{Open}
-use Rattle.sva_model.specs.States.{is_unreleased, is_open, is_done, answered, place, place_at, place_by, place_of_gone}
+use Rattle.sva_model.specs.States.{is_unreleased, is_open, is_done, is_wait, answered, place, place_at, place_by, place_of_gone}
 use Rattle.sva_model.specs.States.Place.{Free, Withheld}
-use Rattle.sva_model.specs.Acts.{Act, act, bound, submits_at, owed_by, owed_by_unit, owed_by_stage, submitted_if, cookie_of}
+use Rattle.sva_model.specs.Acts.{Act, act, bound, submits_at, owed_by, owed_by_unit, owed_by_stage, submitted, submitted_if, cookie_of}
 use Rattle.sva_model.specs.Acts.Act.{Unmap}
 use Rattle.sva_model.specs.Steps.{next, run, after_acts, decide, world_after}
-use Rattle.sva_model.specs.Claims.{IsAt, IsMapped, IsBeforeInvalidating, AreDone, HasAnswered, IsWithheld}
+use Rattle.sva_model.specs.Claims.{IsAt, IsMapped, IsBeforeInvalidating, HasSubmitted, AreDone, HasAnswered, IsWithheld}
 use Rattle.sva_model.specs.Claims.HasAnswered.{was_done, orders_done, pasid_done, was_reset}
-use Rattle.sva_laws.proofs.Words.{find_passes, all_below-true, all_below_cases}
+use Rattle.sva_laws.proofs.Words.{put-same, find_passes, all_below-true, all_below_cases}
 use Rattle.sva_laws.proofs.Answered.{all_below-intro}
 use Rattle.sva_laws.proofs.Invariant.{Invariant}
 use Rattle.sva_laws.proofs.Passed.{and_left, and_right}
@@ -109,7 +110,7 @@ before_owes was b q count ph (inr (inr h)) = let e = h.1 in grind arith
 pub answered_if : (was now then : Part) (b q count cookie : ℕ) → then ≡ submitted_if (submits_at was (Some b)) was (Some b) q count cookie → HasAnswered was then now b → answered now (owed_by was q count (Some b)) ≡ true
 answered_if was now then b q count cookie e (was_done (inl h)) = ap (λ s. answered now (owed_by_stage was q count s)) h
 answered_if was now then b q count cookie e (was_done (inr h)) = ap (λ s. answered now (owed_by_stage was q count s)) h
-answered_if was now then b q count cookie e (orders_done ph st dn) =
+answered_if was now then b q count cookie e (orders_done ph st su dn) =
     ap (answered now) (before_owes was b q count ph st) ∙ pages_done was now q count (subst (λ z. AreDone now was.orders z) sum dn)
   where
     sum : then.orders ≡ was.orders + suc count
@@ -124,6 +125,20 @@ then_resets : (was now then : Part) (b q count cookie : ℕ) → then ≡ submit
 then_resets was now then b q count cookie e h =
     was_reset (subst (λ z. z < now.resets) (sym (ap (λ p. p.resets) e ∙ resets_same (submits_at was (Some b)) was b q count cookie)) (less_is was.resets now.resets h))
 
+-- what is submitted for the binding: its page invalidations, and the wait behind them
+submits_wait : (was : Part) (b q count cookie : ℕ) → HasSubmitted was (submitted was b q count cookie) b
+submits_wait was b q count cookie =
+    record {
+      wait = was.orders + count;
+      is_new = omega arith;
+      is_last = omega arith;
+      is_a_wait = ap is_wait (put-same (put_range was.order was.orders count (λ j. PageOf b (q + j))) (was.orders + count) (Wait cookie false));
+      pages = λ k low high. (q + (k - was.orders), page_of k low high);
+    }
+  where
+    page_of : (k : ℕ) → was.orders ≤ k → k < was.orders + count → (submitted was b q count cookie).order k ≡ PageOf b (q + (k - was.orders))
+    page_of k low high = grind (arith, nat_tests)
+
 unit_answers : (was now then : Part) (b q count cookie : ℕ) (o : Bool) → is_open was.phase ≡ o → IsBeforeInvalidating was b → owed_by was q count (Some b) ≡ owed_by_unit was q count o → then ≡ submitted_if (submits_at was (Some b)) was (Some b) q count cookie → answered now (owed_by was q count (Some b)) ≡ true → HasAnswered was then now b
 unit_answers was now then b q count cookie false op st ow e h =
     then_resets was now then b q count cookie e (sym (ap (answered now) ow) ∙ h)
@@ -134,7 +149,7 @@ unit_answers was now then b q count cookie true op st ow e h =
     sum = ap (λ p. p.orders) e ∙ orders_more (submits_at was (Some b)) was b q count cookie (before_submits was b (open_is was op) st)
 
     by : (all_below (suc count) (λ j. is_done (now.order_state (was.orders + j))) ≡ true) ⊎ (nat_lt was.resets now.resets ≡ true) → HasAnswered was then now b
-    by (inl x) = orders_done (open_is was op) st (subst (λ z. AreDone now was.orders z) (sym sum) (done_range now was.orders count x))
+    by (inl x) = orders_done (open_is was op) st (subst (λ z. HasSubmitted was z b) (sym (e ∙ ap (λ t. submitted_if t was (Some b) q count cookie) (before_submits was b (open_is was op) st))) (submits_wait was b q count cookie)) (subst (λ z. AreDone now was.orders z) (sym sum) (done_range now was.orders count x))
     by (inr x) = then_resets was now then b q count cookie e x
 
 pub answers_if : (was now then : Part) (b q count cookie : ℕ) → is_unreleased (was.stage b) ≡ true → then ≡ submitted_if (submits_at was (Some b)) was (Some b) q count cookie → answered now (owed_by was q count (Some b)) ≡ true → HasAnswered was then now b

@@ -210,7 +210,6 @@ pub record NeverOccurs (p : Part) : Type 0 where
   pub reply : (g worker invalidation wait : ℕ) → p.phase ≡ Open → (p.host_group g ≡ InHand worker) ⊎ (p.host_group g ≡ InHandDiscarded worker) → p.stage (p.filed_under g) ≢ Invalidating invalidation wait
   -- a worker that holds, at an open unit, a job that a reset has dropped, for a binding that is Live, Stopping or Draining
   pub discarded : (g worker : ℕ) → p.phase ≡ Open → p.host_group g ≡ InHandDiscarded worker → is_before_invalidating (p.stage (p.filed_under g)) ≡ false
-  pub noted : (b : ℕ) → p.stage b ≡ Stopping true → (p.pasid_state b ≡ Off) × ((c : ℕ) → p.message c ≢ Some (StartOf b)) × ((c : ℕ) → p.message c ≢ Some (StopOf b)) × ((c : ℕ) → p.message c ≢ Some (MarkerOf b))
 
 -- page requests that have arrived and aren't filed: their number, and their list in order of arrival
 abbrev pub page_queue : Part → ℕ
@@ -291,6 +290,8 @@ pub record IsUnderWay (n : ℕ) (p : Part) : Type 0 where
   pub unfiled : (r : ℕ) → p.phase ≡ Open → (p.page_request r ≡ InFlight) ⊎ (p.page_request r ≡ Arrived) → (p.host_group (p.group_of r) ≡ NotFiled) ⊎ (p.host_group (p.group_of r) ≡ PartFiled)
   -- a wait is done only behind orders that are done or void
   pub ahead : (wait k : ℕ) → is_wait (p.order wait) ≡ true → p.order_state wait ≡ Done → k < wait → (p.order_state k ≡ Done) ⊎ (p.order_state k ≡ Void)
+  -- an order is void only by a reset: at an open unit a reset-done has been delivered
+  pub void : (k : ℕ) → k < p.orders → p.order_state k ≡ Void → (p.phase ≢ Open) ⊎ (0 < p.resets)
   pub response_once : (c d g : ℕ) (code other : Code) → p.message c ≡ Some (ResponseOf g code) → p.message d ≡ Some (ResponseOf g other) → c ≡ d
 
 abbrev pub AlwaysUnderWay : Type 0

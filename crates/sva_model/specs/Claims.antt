@@ -1,19 +1,21 @@
 -- What holds after every list of steps: the headline, and the definitions that it is made of. (This project's
 -- own.)
-use Rattle.std.specs.Prelude.{◌≡◌, ◌↔◌, ℕ, ◌<◌, ◌≤◌, Bool, true, Some, ◌⊎◌, List, [], ◌∷◌, ◌++◌}
+use Rattle.std.specs.Prelude.{◌≡◌, ◌≢◌, ◌↔◌, ℕ, suc, ◌<◌, ◌≤◌, Bool, true, Some, ◌⊎◌, List, [], ◌∷◌, ◌++◌}
 use Rattle.sva_step.specs.declared.limits.Config.{Config}
 use Rattle.sva_step.specs.declared.steps.Step.{Step}
 pub use Rattle.sva_step.specs.Limits.{Fits}
 use Rattle.sva_model.specs.Message.{Code}
 use Rattle.sva_model.specs.State.{Part, World}
+use Rattle.sva_model.specs.State.PasidState.{Off}
 use Rattle.sva_model.specs.State.Stage.{Live, Stopping, Draining, Invalidating, Quiet, Lost}
 use Rattle.sva_model.specs.State.RequestState.{Out}
 use Rattle.sva_model.specs.State.UseState.{Running}
 use Rattle.sva_model.specs.State.PageRequestState.{Arrived, Filed}
+use Rattle.sva_model.specs.State.Order.{PageOf}
 use Rattle.sva_model.specs.State.OrderState.{Done}
-use Rattle.sva_model.specs.State.About.{CompletionOf, ResponseOf, PageRequestOf, MarkerOf}
+use Rattle.sva_model.specs.State.About.{StartOf, StopOf, CompletionOf, ResponseOf, PageRequestOf, MarkerOf}
 use Rattle.sva_model.specs.State.Phase.{Open}
-use Rattle.sva_model.specs.States.{is_unreleased, is_open_group, place}
+use Rattle.sva_model.specs.States.{is_unreleased, is_open_group, is_wait, place}
 use Rattle.sva_model.specs.States.Place.{Free, Mapped, Withheld}
 use Rattle.sva_model.specs.Steps.{world_after}
 
@@ -25,8 +27,9 @@ pub data Usable (w : World) (e : ℕ) : (binding page mapping : ℕ) → Type 0 
   in_use : (u : ℕ) → (w.part e).use_state u ≡ Running → Usable w e ((w.part e).use_binding u) (w.mappings.page ((w.part e).use_mapping u)) ((w.part e).use_mapping u)
   under_way : (c r m : ℕ) → (w.part e).message c ≡ Some (CompletionOf r (Some m)) → (w.part e).request r ≡ Out → Usable w e ((w.part e).request_binding r) ((w.part e).request_page r) m
 
--- the owner's space maps that page to that frame with that write flag
+-- the owner's space is live, and maps that page to that frame with that write flag
 pub record IsPresent (w : World) (e binding page mapping : ℕ) : Type 0 where
+  pub live : w.is_live ((w.part e).space binding) ≡ true
   pub there : ℕ
   pub maps : w.mappings.at ((w.part e).space binding) page ≡ Some there
   pub frame : w.mappings.frame there ≡ w.mappings.frame mapping
@@ -50,10 +53,17 @@ pub record IsMapped (w : World) (frame : ℕ) : Type 0 where
 abbrev pub WasDone : Part → (binding : ℕ) → Type 0
 WasDone p b = (p.stage b ≡ Quiet) ⊎ (p.stage b ≡ Lost)
 
--- or the unit was open, the binding Live, Stopping or Draining, and the orders that the step submitted at the unit, page
--- invalidations and the wait behind them, are done by now;
+-- or the unit was open, the binding Live, Stopping or Draining, and the orders that the step submitted at the unit are done
+-- by now, which are invalidations of its pages and a wait behind them;
 abbrev pub IsBeforeInvalidating : Part → (binding : ℕ) → Type 0
 IsBeforeInvalidating p b = (p.stage b ≡ Live) ⊎ ((marked : Bool) × (p.stage b ≡ Stopping marked)) ⊎ ((wait : ℕ) × (p.stage b ≡ Draining wait))
+
+pub record HasSubmitted (was then : Part) (binding : ℕ) : Type 0 where
+  pub wait : ℕ
+  pub is_new : was.orders ≤ wait
+  pub is_last : then.orders ≡ suc wait
+  pub is_a_wait : is_wait (then.order wait) ≡ true
+  pub pages : (k : ℕ) → was.orders ≤ k → k < wait → (page : ℕ) × (then.order k ≡ PageOf binding page)
 
 abbrev pub AreDone : Part → (from to : ℕ) → Type 0
 AreDone p from to = (k : ℕ) → from ≤ k → k < to → p.order_state k ≡ Done
@@ -62,7 +72,12 @@ AreDone p from to = (k : ℕ) → from ≤ k → k < to → p.order_state k ≡ 
 -- before the step; or a reset-done of the endpoint was delivered after the step.
 pub data HasAnswered (was then now : Part) (binding : ℕ) : Type 0 where
   was_done : WasDone was binding → HasAnswered was then now binding
-  orders_done : was.phase ≡ Open → IsBeforeInvalidating was binding → AreDone now was.orders then.orders → HasAnswered was then now binding
+  orders_done :
+      was.phase ≡ Open
+      → IsBeforeInvalidating was binding
+      → HasSubmitted was then binding
+      → AreDone now was.orders then.orders
+      → HasAnswered was then now binding
   pasid_done : (invalidation wait : ℕ) → was.stage binding ≡ Invalidating invalidation wait → now.order_state invalidation ≡ Done → now.order_state wait ≡ Done → HasAnswered was then now binding
   was_reset : then.resets < now.resets → HasAnswered was then now binding
 
@@ -91,8 +106,10 @@ pub record IsWithheld (config : Config) (steps : List Step) (frame : ℕ) : Type
       → ⊥
 
 -- each frame is at exactly one page of one live space, or withheld, or free, and only one of these; the step reads its
--- place from what was written down when it was taken out, and that agrees with the look back
+-- place from what was written down when it was taken out, and that agrees with the look back; and what is at a page is a
+-- frame of the config
 pub record IsDivided (config : Config) (steps : List Step) : Type 0 where
+  pub low : (f s q : ℕ) → IsAt (world_after config steps) f s q → f < config.frames
   pub mapped_once : (f s q t r : ℕ) → IsAt (world_after config steps) f s q → IsAt (world_after config steps) f t r → (s ≡ t) × (q ≡ r)
   pub mapped : (f : ℕ) → (place (world_after config steps) f ≡ Mapped) ↔ IsMapped (world_after config steps) f
   pub withheld : (f : ℕ) → (place (world_after config steps) f ≡ Withheld) ↔ IsWithheld config steps f
@@ -108,6 +125,15 @@ pub record IsBearer (p : Part) (binding : ℕ) : Type 0 where
   pub bears : p.at_pasid (p.pasid binding) ≡ Some binding
   pub alone : (other : ℕ) → is_unreleased (p.stage other) ≡ true → p.pasid other ≡ p.pasid binding → other ≡ binding
 
+-- the endpoint has sent the binding's Stop Marker, and it has arrived: the binding bears its PASID, which is off at the
+-- endpoint since, and no Start, Stop or Marker of it is in flight
+pub record HasSentMarker (p : Part) (binding : ℕ) : Type 0 where
+  pub bearer : IsBearer p binding
+  pub off : p.pasid_state binding ≡ Off
+  pub no_start : (c : ℕ) → p.message c ≢ Some (StartOf binding)
+  pub no_stop : (c : ℕ) → p.message c ≢ Some (StopOf binding)
+  pub no_marker : (c : ℕ) → p.message c ≢ Some (MarkerOf binding)
+
 pub record IsMatched (p : Part) : Type 0 where
   -- what the host has filed, and each job, stands under its asker
   pub filed : (r : ℕ) → p.page_request r ≡ Filed → p.filed_under (p.group_of r) ≡ asker_of p r
@@ -116,6 +142,8 @@ pub record IsMatched (p : Part) : Type 0 where
   pub in_flight : (c r : ℕ) → p.phase ≡ Open → p.message c ≡ Some (PageRequestOf r) → IsBearer p (asker_of p r)
   pub arrived : (r : ℕ) → p.phase ≡ Open → p.page_request r ≡ Arrived → IsBearer p (asker_of p r)
   pub marker : (c b : ℕ) → p.phase ≡ Open → p.message c ≡ Some (MarkerOf b) → IsBearer p b
+  -- in every phase a marker that is noted stands under the binding whose endpoint sent it
+  pub noted : (b : ℕ) → p.stage b ≡ Stopping true → HasSentMarker p b
   -- a response in flight finds the group that it answers by its index, and was sent for the binding that asked
   pub response : (c g : ℕ) (code : Code) → p.message c ≡ Some (ResponseOf g code) → (p.at_index (p.index g) ≡ Some g) × (p.filed_under g ≡ p.asker g)
   pub once : (g : ℕ) → p.responses g ≤ 1

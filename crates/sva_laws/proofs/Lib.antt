@@ -39,3 +39,6 @@ pub mod OnTheWay
 pub mod Carried
 pub mod Jobs
 pub mod JobSteps
+pub mod StepKinds
+pub mod UnitSteps
+pub mod Voids

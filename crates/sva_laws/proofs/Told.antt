@@ -38,7 +38,7 @@ use Rattle.sva_laws.proofs.Withheld.{config_kept, is_withheld, place_withheld}
 answer_is : (o : Outcome) (a : Answer) → (checked [] o).reply ≡ Ok a → o.answer ≡ a
 answer_is o a h = cc
 
-accepted : (cs : List Cause) (o : Outcome) (a : Answer) → (checked cs o).reply ≡ Ok a → Passed cs × (o.answer ≡ a) × ((checked cs o).acts ≡ o.acts)
+pub accepted : (cs : List Cause) (o : Outcome) (a : Answer) → (checked cs o).reply ≡ Ok a → Passed cs × (o.answer ≡ a) × ((checked cs o).acts ≡ o.acts)
 accepted [] o a h = (tt, answer_is o a h, refl)
 accepted (c ∷ cs) o a h = go (λ k. accepted cs o a k) c.0 refl h
   where

@@ -3,6 +3,7 @@
 
 ghost use Rattle.sva_model.specs.Claims.{AlwaysAgrees};
 ghost use Rattle.sva_laws.specs.Laws.{AlwaysOwned, AlwaysPresentOrWithheld, AlwaysMatched, AlwaysHoldsJobs, AlwaysDivided, AlwaysAddsUp, AlwaysWithheldExactly, FreeByTheLastAnswer, AlwaysTold, AlwaysGiven, AlwaysLabelled, AlwaysFound, AlwaysCarried, AlwaysUnderWay, NeverOccurring, AlwaysLimited};
+ghost use Rattle.sva_laws.specs.UnitSteps.{AlwaysCountsResetDones, AlwaysChangesOrders, AlwaysVoidByReset, AlwaysNotesMarkers};
 
 /// The headline. After every list of steps, however late messages come in a permitted order: each translation that an
 /// endpoint may still use has an unreleased owner, and is the present one of its page or leads to a withheld frame; page
@@ -48,4 +49,14 @@ pub fn labels_and_deliveries()
     ensures carried { AlwaysCarried }
     ensures under_way { AlwaysUnderWay }
     ensures never { NeverOccurring }
+{}
+
+/// One step at an endpoint with its unit: the counter of reset-dones rises by one exactly where it delivers one; an order
+/// becomes done exactly by the pump that answers so, or by the delivery of the last completion that it is owed, and void
+/// exactly by a reset; and a marker is noted exactly by its own delivery.
+pub fn orders_and_resets()
+    ensures counted { AlwaysCountsResetDones }
+    ensures ended { AlwaysChangesOrders }
+    ensures void { AlwaysVoidByReset }
+    ensures noted { AlwaysNotesMarkers }
 {}

@@ -1,0 +1,15 @@
+use Rattle.sva_laws.proofs.UnitSteps.{always_counts, always_changes, always_notes}
+use Rattle.sva_laws.proofs.Voids.{always_void}
+use Rattle.sva_laws.proofs.orders_and_resets.Goals as goal
+
+pub returns-clause-counted : goal.returns-clause-counted
+returns-clause-counted c = λ config steps s e fits. always_counts config steps s e
+
+pub returns-clause-ended : goal.returns-clause-ended
+returns-clause-ended c = λ config steps s e fits. always_changes config steps s e
+
+pub returns-clause-void : goal.returns-clause-void
+returns-clause-void c = λ config before since e fits. always_void config before since e
+
+pub returns-clause-noted : goal.returns-clause-noted
+returns-clause-noted c = λ config steps s e fits. always_notes config steps s e

@@ -265,7 +265,6 @@ under_way w e i wa on ow =
       ahead = λ k j wt d lt. not_undone (p.order_state j) ((i.parts e).orders.ahead k j d wt lt);
       response_once = λ c d g code other h k. sym (gr.response c g code h).2 ∙ (gr.response d g other k).2;
     }
-
   where
     voided : (x : Phase) → (x ≡ Open → 0 < (w.part e).resets) → (x ≢ Open) ⊎ (0 < (w.part e).resets)
     voided Open h = inr (h refl)

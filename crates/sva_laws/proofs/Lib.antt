@@ -42,3 +42,4 @@ pub mod JobSteps
 pub mod StepKinds
 pub mod UnitSteps
 pub mod Voids
+pub mod Cookies

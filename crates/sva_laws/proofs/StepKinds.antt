@@ -1,6 +1,6 @@
 -- By which step each act is done that changes an order, the counter of reset-dones or a marker noted.
 use Rattle.std.proofs.Common.{◌≡◌, refl, ℕ, Bool, true, false}
-use Rattle.std.specs.Prelude.{Option, Some, None, List, [], ◌∷◌, ◌++◌, if◌then◌else◌, not, ◌==◌, Ok, Err}
+use Rattle.std.specs.Prelude.{Option, Some, None, List, [], ◌∷◌, ◌++◌, if◌then◌else◌, Ok, Err}
 use Rattle.sva_step.specs.declared.answers.Answer.{Answer}
 use Rattle.sva_step.specs.declared.answers.Answer.TheVariants as answer
 use Rattle.sva_step.specs.declared.steps.Step.{Step}

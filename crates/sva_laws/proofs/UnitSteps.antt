@@ -8,14 +8,14 @@ use Rattle.sva_step.specs.declared.limits.Config.{Config}
 use Rattle.sva_step.specs.declared.steps.Step.{Step}
 use Rattle.sva_step.specs.declared.steps.Step.TheVariants as step
 use Rattle.sva_model.specs.Words.{put}
-use Rattle.sva_model.specs.State.{About, Mappings, Order, OrderState, Part, Stage, World}
+use Rattle.sva_model.specs.State.{About, Mappings, Order, OrderState, Part, World}
 use Rattle.sva_model.specs.State.About.{InvalidateOf, InvalidatedOf, MarkerOf, ResetDone}
 use Rattle.sva_model.specs.State.Order.{PageOf, PasidOf, Wait}
 use Rattle.sva_model.specs.State.Phase.{Open}
 use Rattle.sva_model.specs.State.Stage.{Stopping}
 use Rattle.sva_model.specs.State.OrderState.{Queued, Sent, Taken, Lapsed, Owing, Done, Void}
-use Rattle.sva_model.specs.States.{is_open, is_wait}
-use Rattle.sva_model.specs.Acts.{Act, Own, act, own, sends, counted, counted_if, void_queued, void_undone, marked, submitted, submitted_if, submits, bound, cookie_of, part_after_unmap}
+use Rattle.sva_model.specs.States.{is_open}
+use Rattle.sva_model.specs.Acts.{Act, Own, act, own, counted, counted_if, void_queued, void_undone, marked, submitted, submitted_if, submits, bound, cookie_of}
 use Rattle.sva_model.specs.Acts.Act.{NewSpace, DropSpace, Map, Unmap, NewBinding, NewJob, Hold, LetGo, At}
 use Rattle.sva_model.specs.Labels
 use Rattle.sva_model.specs.Refusals.{refusals}
@@ -24,7 +24,7 @@ use Rattle.sva_model.specs.Steps.{reply, decide, next, after_acts, world_after}
 use Rattle.sva_laws.specs.UnitSteps.{Delivers, OrdersReset, PassesWait, CompletesOrder, CountsResetDones, ChangesOrders, NotesMarkers}
 use Rattle.sva_laws.proofs.Words.{put-same, put-other, ℕ_cases}
 use Rattle.sva_laws.proofs.Legal.{LegalOwn}
-use Rattle.sva_laws.proofs.Invariant.{Invariant, PartInvariant}
+use Rattle.sva_laws.proofs.Invariant.{Invariant}
 use Rattle.sva_laws.proofs.Keeps.{Legal, put_keeps}
 use Rattle.sva_laws.proofs.Passed.{LegalAll}
 use Rattle.sva_laws.proofs.Runs.{always, step_legal}

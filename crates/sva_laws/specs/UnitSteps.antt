@@ -1,5 +1,6 @@
 -- What one step does at an endpoint with its unit: to the counter of reset-dones, to the orders, and to the markers noted. So
--- each of "a reset-done was delivered", "done", "void" and "marker noted" stands for events of the list.
+-- each of "a reset-done was delivered", "done", "void" and "marker noted" stands for events of the list. And each wait has a
+-- cookie of its own.
 use Rattle.std.specs.Prelude.{◌≡◌, ◌≢◌, ◌⊎◌, ◌↔◌, ℕ, suc, ◌<◌, ◌≤◌, Bool, true, Some, List, [], ◌∷◌, ◌++◌, Ok}
 use Rattle.sva_step.specs.declared.answers.Answer.{Answer}
 use Rattle.sva_step.specs.declared.answers.Answer.TheVariants as answer
@@ -8,6 +9,7 @@ use Rattle.sva_step.specs.declared.steps.Step.{Step}
 use Rattle.sva_step.specs.declared.steps.Step.TheVariants as step
 use Rattle.sva_model.specs.State.{About, Part, World}
 use Rattle.sva_model.specs.State.About.{InvalidatedOf, MarkerOf, ResetDone}
+use Rattle.sva_model.specs.State.Order.{Wait}
 use Rattle.sva_model.specs.State.Phase.{Open}
 use Rattle.sva_model.specs.State.Stage.{Stopping}
 use Rattle.sva_model.specs.State.OrderState.{Queued, Owing, Done, Void}
@@ -84,6 +86,17 @@ pub record IsVoidByReset (was now : Part) : Type 0 where
       → now.order_state k ≡ Void
       → ((k < was.orders) × (was.order_state k ≡ Void)) ⊎ ((now.phase ≢ Open) ⊎ (was.resets < now.resets))
 
+-- A cookie is given out once: no two waits have the same, of whatever units they are.
+pub record GivesCookies (w : World) : Type 0 where
+  pub low : (e wait cookie : ℕ) (drain : Bool) → wait < (w.part e).orders → (w.part e).order wait ≡ Wait cookie drain → cookie < w.cookies
+  pub once :
+      (e f wait other cookie : ℕ) (drain drains : Bool)
+      → wait < (w.part e).orders
+      → other < (w.part f).orders
+      → (w.part e).order wait ≡ Wait cookie drain
+      → (w.part f).order other ≡ Wait cookie drains
+      → (e ≡ f) × (wait ≡ other)
+
 abbrev pub AlwaysCountsResetDones : Type 0
 AlwaysCountsResetDones =
     (config : Config) (steps : List Step) (s : Step) (e : ℕ)
@@ -107,3 +120,6 @@ AlwaysVoidByReset =
     (config : Config) (before since : List Step) (e : ℕ)
     → Fits config
     → IsVoidByReset ((world_after config before).part e) ((world_after config (before ++ since)).part e)
+
+abbrev pub AlwaysGivesCookies : Type 0
+AlwaysGivesCookies = (config : Config) (steps : List Step) → Fits config → GivesCookies (world_after config steps)

@@ -3,7 +3,7 @@
 
 ghost use Rattle.sva_model.specs.Claims.{AlwaysAgrees};
 ghost use Rattle.sva_laws.specs.Laws.{AlwaysOwned, AlwaysPresentOrWithheld, AlwaysMatched, AlwaysHoldsJobs, AlwaysDivided, AlwaysAddsUp, AlwaysWithheldExactly, FreeByTheLastAnswer, AlwaysTold, AlwaysGiven, AlwaysLabelled, AlwaysFound, AlwaysCarried, AlwaysUnderWay, NeverOccurring, AlwaysLimited};
-ghost use Rattle.sva_laws.specs.UnitSteps.{AlwaysCountsResetDones, AlwaysChangesOrders, AlwaysVoidByReset, AlwaysNotesMarkers};
+ghost use Rattle.sva_laws.specs.UnitSteps.{AlwaysCountsResetDones, AlwaysChangesOrders, AlwaysVoidByReset, AlwaysNotesMarkers, AlwaysGivesCookies};
 
 /// The headline. After every list of steps, however late messages come in a permitted order: each translation that an
 /// endpoint may still use has an unreleased owner, and is the present one of its page or leads to a withheld frame; page
@@ -53,10 +53,11 @@ pub fn labels_and_deliveries()
 
 /// One step at an endpoint with its unit: the counter of reset-dones rises by one exactly where it delivers one; an order
 /// becomes done exactly by the pump that answers so, or by the delivery of the last completion that it is owed, and void
-/// exactly by a reset; and a marker is noted exactly by its own delivery.
+/// exactly by a reset; and a marker is noted exactly by its own delivery. No two waits have the same cookie.
 pub fn orders_and_resets()
     ensures counted { AlwaysCountsResetDones }
     ensures ended { AlwaysChangesOrders }
     ensures void { AlwaysVoidByReset }
     ensures noted { AlwaysNotesMarkers }
+    ensures cookies { AlwaysGivesCookies }
 {}

@@ -1,5 +1,6 @@
 use Rattle.sva_laws.proofs.UnitSteps.{always_counts, always_changes, always_notes}
 use Rattle.sva_laws.proofs.Voids.{always_void}
+use Rattle.sva_laws.proofs.Cookies.{always_cookies}
 use Rattle.sva_laws.proofs.orders_and_resets.Goals as goal
 
 pub returns-clause-counted : goal.returns-clause-counted
@@ -13,3 +14,6 @@ returns-clause-void c = λ config before since e fits. always_void config before
 
 pub returns-clause-noted : goal.returns-clause-noted
 returns-clause-noted c = λ config steps s e fits. always_notes config steps s e
+
+pub returns-clause-cookies : goal.returns-clause-cookies
+returns-clause-cookies c = λ config steps fits. always_cookies config steps

@@ -36,7 +36,7 @@ one_more before s some t = sym (append_assoc before (s ∷ some) (t ∷ []))
 
 -- How a mapping goes: by an unmapping of its page, or with its space.
 pub data Goes (w v : World) (m : ℕ) (owed : ℕ → Owed) : Type 0 where
-  unmapped : (s q count : ℕ) → v ≡ act w (Unmap s q count) → w.mappings.space m ≡ s → owed ≡ (λ e. owed_by (w.part e) q count (bound w e s)) → Goes w v m owed
+  unmapped : (s q count : ℕ) → v ≡ act w (Unmap s q count) → w.mappings.space m ≡ s → in_range q count (w.mappings.page m) ≡ true → owed ≡ (λ e. owed_by (w.part e) q count (bound w e s)) → Goes w v m owed
   dropped : (s : ℕ) → w.mappings.space m ≡ s → ((e b : ℕ) → is_unreleased ((w.part e).stage b) ≡ true → (w.part e).space b ≢ s) → owed ≡ (λ e. Nothing) → Goes w v m owed
 
 -- what one step does to mappings
@@ -65,6 +65,9 @@ present_from : (t : Bool) (owed : ℕ → Owed) (z : MappingState) → z ≡ Pre
 present_from true owed z h = inr (refl, ap (gone_if true owed) h)
 present_from false owed z h = inl h
 
+range_page : (a s : ℕ) (b : Bool) → (a == s && b) ≡ true → b ≡ true
+range_page a s b h = grind (arith, nat_tests)
+
 range_space : (a s : ℕ) (b : Bool) → (a == s && b) ≡ true → a ≡ s
 range_space a s b h = grind (arith, nat_tests)
 
@@ -81,11 +84,11 @@ moves_unmap w s q count =
   where
     back : (m : ℕ) (o : ℕ → Owed) → (w.mappings.state m ≡ Gone o) ⊎ ((w.mappings.state m ≡ Present) × ((w.mappings.space m == s && in_range q count (w.mappings.page m)) ≡ true) × ((λ e. owed_by (w.part e) q count (bound w e s)) ≡ o)) → (w.mappings.state m ≡ Gone o) ⊎ ((w.mappings.state m ≡ Present) × Goes w (act w (Unmap s q count)) m o)
     back m o (inl x) = inl x
-    back m o (inr x) = inr (x.0, unmapped s q count refl (range_space (w.mappings.space m) s (in_range q count (w.mappings.page m)) x.1) (sym x.2))
+    back m o (inr x) = inr (x.0, unmapped s q count refl (range_space (w.mappings.space m) s (in_range q count (w.mappings.page m)) x.1) (range_page (w.mappings.space m) s (in_range q count (w.mappings.page m)) x.1) (sym x.2))
 
     on : (m : ℕ) → ((act w (Unmap s q count)).mappings.state m ≡ Present) ⊎ (((w.mappings.space m == s && in_range q count (w.mappings.page m)) ≡ true) × ((act w (Unmap s q count)).mappings.state m ≡ Gone (λ e. owed_by (w.part e) q count (bound w e s)))) → ((act w (Unmap s q count)).mappings.state m ≡ Present) ⊎ ((owed : ℕ → Owed) × ((act w (Unmap s q count)).mappings.state m ≡ Gone owed) × Goes w (act w (Unmap s q count)) m owed)
     on m (inl x) = inl x
-    on m (inr x) = inr ((λ e. owed_by (w.part e) q count (bound w e s)), x.1, unmapped s q count refl (range_space (w.mappings.space m) s (in_range q count (w.mappings.page m)) x.0) refl)
+    on m (inr x) = inr ((λ e. owed_by (w.part e) q count (bound w e s)), x.1, unmapped s q count refl (range_space (w.mappings.space m) s (in_range q count (w.mappings.page m)) x.0) (range_page (w.mappings.space m) s (in_range q count (w.mappings.page m)) x.0) refl)
 
 moves_drop : (w : World) (s : ℕ) → Legal w (DropSpace s) → Moves w (act w (DropSpace s))
 moves_drop w s l =

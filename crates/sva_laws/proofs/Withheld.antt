@@ -14,7 +14,7 @@ use Rattle.sva_model.specs.State.OrderState.{Done}
 use Rattle.sva_model.specs.State.Phase.{Open}
 use Rattle.sva_model.specs.States.{is_unreleased, is_open, is_done, is_wait, answered, place, place_at, place_by, place_of_gone}
 use Rattle.sva_model.specs.States.Place.{Free, Withheld}
-use Rattle.sva_model.specs.Acts.{Act, act, bound, submits_at, owed_by, owed_by_unit, owed_by_stage, submitted, submitted_if, cookie_of}
+use Rattle.sva_model.specs.Acts.{Act, act, bound, submits_at, owed_by, owed_by_unit, owed_by_stage, submitted, submitted_if, cookie_of, in_range}
 use Rattle.sva_model.specs.Acts.Act.{Unmap}
 use Rattle.sva_model.specs.Steps.{next, run, after_acts, decide, world_after}
 use Rattle.sva_model.specs.Claims.{IsAt, IsMapped, IsBeforeInvalidating, HasSubmitted, AreDone, HasAnswered, IsWithheld}
@@ -107,67 +107,83 @@ before_owes was b q count ph (inl h) = grind arith
 before_owes was b q count ph (inr (inl h)) = let e = h.1 in grind arith
 before_owes was b q count ph (inr (inr h)) = let e = h.1 in grind arith
 
-pub answered_if : (was now then : Part) (b q count cookie : ℕ) → then ≡ submitted_if (submits_at was (Some b)) was (Some b) q count cookie → HasAnswered was then now b → answered now (owed_by was q count (Some b)) ≡ true
-answered_if was now then b q count cookie e (was_done (inl h)) = ap (λ s. answered now (owed_by_stage was q count s)) h
-answered_if was now then b q count cookie e (was_done (inr h)) = ap (λ s. answered now (owed_by_stage was q count s)) h
-answered_if was now then b q count cookie e (orders_done ph st su dn) =
+pub answered_if : (was now then : Part) (b page q count cookie : ℕ) → then ≡ submitted_if (submits_at was (Some b)) was (Some b) q count cookie → HasAnswered was then now b page → answered now (owed_by was q count (Some b)) ≡ true
+answered_if was now then b page q count cookie e (was_done (inl h)) = ap (λ s. answered now (owed_by_stage was q count s)) h
+answered_if was now then b page q count cookie e (was_done (inr h)) = ap (λ s. answered now (owed_by_stage was q count s)) h
+answered_if was now then b page q count cookie e (orders_done ph st su dn) =
     ap (answered now) (before_owes was b q count ph st) ∙ pages_done was now q count (subst (λ z. AreDone now was.orders z) sum dn)
   where
     sum : then.orders ≡ was.orders + suc count
     sum = ap (λ p. p.orders) e ∙ orders_more (submits_at was (Some b)) was b q count cookie (before_submits was b ph st)
-answered_if was now then b q count cookie e (pasid_done i w st x y) =
+answered_if was now then b page q count cookie e (pasid_done i w st x y) =
     ap (λ s. answered now (owed_by_stage was q count s)) st
     ∙ or_first (is_done (now.order_state i) && is_done (now.order_state w)) (nat_lt was.resets now.resets) (and_both (is_done (now.order_state i)) (is_done (now.order_state w)) (is_done_of (now.order_state i) x) (is_done_of (now.order_state w) y))
-answered_if was now then b q count cookie e (was_reset l) =
+answered_if was now then b page q count cookie e (was_reset l) =
     stage_by_reset was now q count (was.stage b) (is_open was.phase) refl (subst (λ z. z < now.resets) (ap (λ p. p.resets) e ∙ resets_same (submits_at was (Some b)) was b q count cookie) l)
 
-then_resets : (was now then : Part) (b q count cookie : ℕ) → then ≡ submitted_if (submits_at was (Some b)) was (Some b) q count cookie → nat_lt was.resets now.resets ≡ true → HasAnswered was then now b
-then_resets was now then b q count cookie e h =
+then_resets : (was now then : Part) (b page q count cookie : ℕ) → then ≡ submitted_if (submits_at was (Some b)) was (Some b) q count cookie → nat_lt was.resets now.resets ≡ true → HasAnswered was then now b page
+then_resets was now then b page q count cookie e h =
     was_reset (subst (λ z. z < now.resets) (sym (ap (λ p. p.resets) e ∙ resets_same (submits_at was (Some b)) was b q count cookie)) (less_is was.resets now.resets h))
 
 -- what is submitted for the binding: its page invalidations, and the wait behind them
-submits_wait : (was : Part) (b q count cookie : ℕ) → HasSubmitted was (submitted was b q count cookie) b
-submits_wait was b q count cookie =
+submits_wait : (was : Part) (b page q count cookie : ℕ) → q ≤ page → page < q + count → HasSubmitted was (submitted was b q count cookie) b page
+submits_wait was b page q count cookie low high =
     record {
       wait = was.orders + count;
       is_new = omega arith;
       is_last = omega arith;
       is_a_wait = ap is_wait (put-same (put_range was.order was.orders count (λ j. PageOf b (q + j))) (was.orders + count) (Wait cookie false));
-      pages = λ k low high. (q + (k - was.orders), page_of k low high);
+      pages = λ k at_least below. (q + (k - was.orders), page_of k at_least below);
+      its_own = was.orders + (page - q);
+      own_is_new = omega arith;
+      own_is_ahead = omega (arith, low, high);
+      own_page = page_of (was.orders + (page - q)) (omega arith) (omega (arith, low, high)) ∙ ap (PageOf b) same;
     }
   where
     page_of : (k : ℕ) → was.orders ≤ k → k < was.orders + count → (submitted was b q count cookie).order k ≡ PageOf b (q + (k - was.orders))
     page_of k low high = grind (arith, nat_tests)
 
-unit_answers : (was now then : Part) (b q count cookie : ℕ) (o : Bool) → is_open was.phase ≡ o → IsBeforeInvalidating was b → owed_by was q count (Some b) ≡ owed_by_unit was q count o → then ≡ submitted_if (submits_at was (Some b)) was (Some b) q count cookie → answered now (owed_by was q count (Some b)) ≡ true → HasAnswered was then now b
-unit_answers was now then b q count cookie false op st ow e h =
-    then_resets was now then b q count cookie e (sym (ap (answered now) ow) ∙ h)
-unit_answers was now then b q count cookie true op st ow e h =
+    same : q + ((was.orders + (page - q)) - was.orders) ≡ page
+    same = omega (arith, low)
+
+range_low : (q count page : ℕ) → in_range q count page ≡ true → (q ≤ page) × (page < q + count)
+range_low q count page h = (low, high)
+  where
+    low : q ≤ page
+    low = grind (arith, nat_tests)
+
+    high : page < q + count
+    high = grind (arith, nat_tests)
+
+unit_answers : (was now then : Part) (b page q count cookie : ℕ) (o : Bool) → in_range q count page ≡ true → is_open was.phase ≡ o → IsBeforeInvalidating was b → owed_by was q count (Some b) ≡ owed_by_unit was q count o → then ≡ submitted_if (submits_at was (Some b)) was (Some b) q count cookie → answered now (owed_by was q count (Some b)) ≡ true → HasAnswered was then now b page
+unit_answers was now then b page q count cookie false r op st ow e h =
+    then_resets was now then b page q count cookie e (sym (ap (answered now) ow) ∙ h)
+unit_answers was now then b page q count cookie true r op st ow e h =
     by (or_cases (all_below (suc count) (λ j. is_done (now.order_state (was.orders + j)))) (nat_lt was.resets now.resets) (sym (ap (answered now) ow) ∙ h))
   where
     sum : then.orders ≡ was.orders + suc count
     sum = ap (λ p. p.orders) e ∙ orders_more (submits_at was (Some b)) was b q count cookie (before_submits was b (open_is was op) st)
 
-    by : (all_below (suc count) (λ j. is_done (now.order_state (was.orders + j))) ≡ true) ⊎ (nat_lt was.resets now.resets ≡ true) → HasAnswered was then now b
-    by (inl x) = orders_done (open_is was op) st (subst (λ z. HasSubmitted was z b) (sym (e ∙ ap (λ t. submitted_if t was (Some b) q count cookie) (before_submits was b (open_is was op) st))) (submits_wait was b q count cookie)) (subst (λ z. AreDone now was.orders z) (sym sum) (done_range now was.orders count x))
-    by (inr x) = then_resets was now then b q count cookie e x
+    by : (all_below (suc count) (λ j. is_done (now.order_state (was.orders + j))) ≡ true) ⊎ (nat_lt was.resets now.resets ≡ true) → HasAnswered was then now b page
+    by (inl x) = orders_done (open_is was op) st (subst (λ z. HasSubmitted was z b page) (sym (e ∙ ap (λ t. submitted_if t was (Some b) q count cookie) (before_submits was b (open_is was op) st))) (submits_wait was b page q count cookie (range_low q count page r).0 (range_low q count page r).1)) (subst (λ z. AreDone now was.orders z) (sym sum) (done_range now was.orders count x))
+    by (inr x) = then_resets was now then b page q count cookie e x
 
-pub answers_if : (was now then : Part) (b q count cookie : ℕ) → is_unreleased (was.stage b) ≡ true → then ≡ submitted_if (submits_at was (Some b)) was (Some b) q count cookie → answered now (owed_by was q count (Some b)) ≡ true → HasAnswered was then now b
-answers_if was now then b q count cookie u e h = go (was.stage b) refl
+pub answers_if : (was now then : Part) (b page q count cookie : ℕ) → in_range q count page ≡ true → is_unreleased (was.stage b) ≡ true → then ≡ submitted_if (submits_at was (Some b)) was (Some b) q count cookie → answered now (owed_by was q count (Some b)) ≡ true → HasAnswered was then now b page
+answers_if was now then b page q count cookie r u e h = go (was.stage b) refl
   where
-    go : (s : Stage) → was.stage b ≡ s → HasAnswered was then now b
+    go : (s : Stage) → was.stage b ≡ s → HasAnswered was then now b page
     go Unbound st = absurd (cc (sym u ∙ ap is_unreleased st))
     go Released st = absurd (cc (sym u ∙ ap is_unreleased st))
     go Quiet st = was_done (inl st)
     go Lost st = was_done (inr st)
-    go Live st = unit_answers was now then b q count cookie (is_open was.phase) refl (inl st) (ap (owed_by_stage was q count) st) e h
-    go (Stopping marked) st = unit_answers was now then b q count cookie (is_open was.phase) refl (inr (inl (marked, st))) (ap (owed_by_stage was q count) st) e h
-    go (Draining wait) st = unit_answers was now then b q count cookie (is_open was.phase) refl (inr (inr (wait, st))) (ap (owed_by_stage was q count) st) e h
+    go Live st = unit_answers was now then b page q count cookie (is_open was.phase) r refl (inl st) (ap (owed_by_stage was q count) st) e h
+    go (Stopping marked) st = unit_answers was now then b page q count cookie (is_open was.phase) r refl (inr (inl (marked, st))) (ap (owed_by_stage was q count) st) e h
+    go (Draining wait) st = unit_answers was now then b page q count cookie (is_open was.phase) r refl (inr (inr (wait, st))) (ap (owed_by_stage was q count) st) e h
     go (Invalidating i w) st = by (or_cases (is_done (now.order_state i) && is_done (now.order_state w)) (nat_lt was.resets now.resets) (sym (ap (λ s. answered now (owed_by_stage was q count s)) st) ∙ h))
       where
-        by : ((is_done (now.order_state i) && is_done (now.order_state w)) ≡ true) ⊎ (nat_lt was.resets now.resets ≡ true) → HasAnswered was then now b
+        by : ((is_done (now.order_state i) && is_done (now.order_state w)) ≡ true) ⊎ (nat_lt was.resets now.resets ≡ true) → HasAnswered was then now b page
         by (inl x) = pasid_done i w st (done_is (now.order_state i) (and_left (is_done (now.order_state i)) (is_done (now.order_state w)) x)) (done_is (now.order_state w) (and_right (is_done (now.order_state i)) (is_done (now.order_state w)) x))
-        by (inr x) = then_resets was now then b q count cookie e x
+        by (inr x) = then_resets was now then b page q count cookie e x
 
 -- The config stays.
 
@@ -296,15 +312,15 @@ withheld_by c before step since f m e owed s q count b o nx sp ow bo =
         ((later_from_next c before step some).gone_on m owed o.gone)
         o.latest is
 
-    silent : HasAnswered ((world_after c before).part e) ((world_after c (before ++ step ∷ [])).part e) ((world_after c (before ++ step ∷ since)).part e) b → ⊥
+    silent : HasAnswered ((world_after c before).part e) ((world_after c (before ++ step ∷ [])).part e) ((world_after c (before ++ step ∷ since)).part e) b ((world_after c before).mappings.page m) → ⊥
     silent h =
-        let yes = answered_if ((world_after c before).part e) ((world_after c (before ++ step ∷ since)).part e) ((world_after c (before ++ step ∷ [])).part e) b q count (cookie_of (world_after c before) s e) (then_part c before step e s q count b nx bo) h in
+        let yes = answered_if ((world_after c before).part e) ((world_after c (before ++ step ∷ since)).part e) ((world_after c (before ++ step ∷ [])).part e) b ((world_after c before).mappings.page m) q count (cookie_of (world_after c before) s e) (then_part c before step e s q count b nx bo) h in
         let owes : owed e ≡ owed_by ((world_after c before).part e) q count (Some b) = ap (λ v. v e) ow ∙ ap (owed_by ((world_after c before).part e) q count) bo in
         both (ap (answered ((world_after c (before ++ step ∷ since)).part e)) owes ∙ yes) o.unanswered
 
 owed_withheld : (c : Config) (before : List Step) (step : Step) (since : List Step) (f m e : ℕ) (owed : ℕ → Owed) → Owes c before step since f m e owed → Goes (world_after c before) (next (world_after c before) step) m owed → IsWithheld c (before ++ step ∷ since) f
 owed_withheld c before step since f m e owed o (dropped s sp none ow) = absurd (cc (sym o.unanswered ∙ ap (λ v. answered ((world_after c (before ++ step ∷ since)).part e) (v e)) ow))
-owed_withheld c before step since f m e owed o (unmapped s q count nx sp ow) = go (bound (world_after c before) e s) refl
+owed_withheld c before step since f m e owed o (unmapped s q count nx sp r ow) = go (bound (world_after c before) e s) refl
   where
     nothing : bound (world_after c before) e s ≡ None → answered ((world_after c (before ++ step ∷ since)).part e) (owed e) ≡ true
     nothing bo = ap (λ v. answered ((world_after c (before ++ step ∷ since)).part e) (v e)) ow ∙ ap (λ x. answered ((world_after c (before ++ step ∷ since)).part e) (owed_by ((world_after c before).part e) q count x)) bo
@@ -365,10 +381,10 @@ latest_stays c before step since f m un (s ∷ rest) some sum la =
         (mapped_latest_at c (before ++ step ∷ (some ++ s ∷ [])) f x.0 (ap (λ w. w.mappings.latest f) after ∙ x.1) (ap (λ w. w.mappings.state x.0) after ∙ x.2)))
 
 -- an endpoint with an unreleased binding of the space, which hasn't answered for it, hasn't answered what it owes
-not_answered : (c : Config) (before : List Step) (step : Step) (since : List Step) (m e b t : ℕ) (owed : ℕ → Owed) → (world_after c before).mappings.space m ≡ t → is_unreleased (((world_after c before).part e).stage b) ≡ true → ((world_after c before).part e).space b ≡ t → (HasAnswered ((world_after c before).part e) ((world_after c (before ++ step ∷ [])).part e) ((world_after c (before ++ step ∷ since)).part e) b → ⊥) → Goes (world_after c before) (next (world_after c before) step) m owed → answered ((world_after c (before ++ step ∷ since)).part e) (owed e) ≡ true → ⊥
-not_answered c before step since m e b t owed mt u bt silent (dropped s sp none ow) h = none e b u (bt ∙ sym mt ∙ sp)
-not_answered c before step since m e b t owed mt u bt silent (unmapped s q count nx sp ow) h =
-    silent (answers_if ((world_after c before).part e) ((world_after c (before ++ step ∷ since)).part e) ((world_after c (before ++ step ∷ [])).part e) b q count (cookie_of (world_after c before) s e) u
+not_answered : (c : Config) (before : List Step) (step : Step) (since : List Step) (m e b t page : ℕ) (owed : ℕ → Owed) → (world_after c before).mappings.space m ≡ t → (world_after c before).mappings.page m ≡ page → is_unreleased (((world_after c before).part e).stage b) ≡ true → ((world_after c before).part e).space b ≡ t → (HasAnswered ((world_after c before).part e) ((world_after c (before ++ step ∷ [])).part e) ((world_after c (before ++ step ∷ since)).part e) b page → ⊥) → Goes (world_after c before) (next (world_after c before) step) m owed → answered ((world_after c (before ++ step ∷ since)).part e) (owed e) ≡ true → ⊥
+not_answered c before step since m e b t page owed mt mp u bt silent (dropped s sp none ow) h = none e b u (bt ∙ sym mt ∙ sp)
+not_answered c before step since m e b t page owed mt mp u bt silent (unmapped s q count nx sp r ow) h =
+    silent (answers_if ((world_after c before).part e) ((world_after c (before ++ step ∷ since)).part e) ((world_after c (before ++ step ∷ [])).part e) b page q count (cookie_of (world_after c before) s e) (subst (λ z. in_range q count z ≡ true) mp r) u
     (then_part c before step e s q count b nx bo)
     (ap (answered ((world_after c (before ++ step ∷ since)).part e)) (sym owes) ∙ h))
   where
@@ -382,7 +398,7 @@ bool_false : (b : Bool) → (b ≡ true → ⊥) → b ≡ false
 bool_false true h = absurd (h refl)
 bool_false false h = refl
 
-withheld_after : (c : Config) (before : List Step) (step : Step) (since : List Step) (f t q e b : ℕ) → IsAt (world_after c before) f t q → ((some rest : List Step) → some ++ rest ≡ since → IsMapped (world_after c (before ++ step ∷ some)) f → ⊥) → e < c.endpoints → is_unreleased (((world_after c before).part e).stage b) ≡ true → ((world_after c before).part e).space b ≡ t → (HasAnswered ((world_after c before).part e) ((world_after c (before ++ step ∷ [])).part e) ((world_after c (before ++ step ∷ since)).part e) b → ⊥) → place (world_after c (before ++ step ∷ since)) f ≡ Withheld
+withheld_after : (c : Config) (before : List Step) (step : Step) (since : List Step) (f t q e b : ℕ) → IsAt (world_after c before) f t q → ((some rest : List Step) → some ++ rest ≡ since → IsMapped (world_after c (before ++ step ∷ some)) f → ⊥) → e < c.endpoints → is_unreleased (((world_after c before).part e).stage b) ≡ true → ((world_after c before).part e).space b ≡ t → (HasAnswered ((world_after c before).part e) ((world_after c (before ++ step ∷ [])).part e) ((world_after c (before ++ step ∷ since)).part e) b q → ⊥) → place (world_after c (before ++ step ∷ since)) f ≡ Withheld
 withheld_after c before step since f t q e b is un lt u bt silent =
     by ((moves w step i).present_on m (at.0))
   where
@@ -423,10 +439,10 @@ withheld_after c before step since f t q e b is un lt u bt silent =
         withheld_at (world_after c (before ++ step ∷ since)) f m e x.0 end
         ((later_from_next c before step since).gone_on m x.0 x.1)
         (subst (λ k. e < k.endpoints) (sym (config_kept c (before ++ step ∷ since))) lt)
-        (bool_false (answered ((world_after c (before ++ step ∷ since)).part e) (x.0 e)) (λ h. not_answered c before step since m e b t x.0 at.1 u bt silent x.2 h))
+        (bool_false (answered ((world_after c (before ++ step ∷ since)).part e) (x.0 e)) (λ h. not_answered c before step since m e b t q x.0 at.1 at.2 u bt silent x.2 h))
 
 pub place_withheld : (c : Config) (steps : List Step) (f : ℕ) → IsWithheld c steps f → place (world_after c steps) f ≡ Withheld
 place_withheld c steps f x =
     subst (λ z. place (world_after c z) f ≡ Withheld) (sym x.steps_are)
     (withheld_after c x.before x.step x.since f x.space x.page x.endpoint x.binding x.was_there x.not_mapped_since x.is_endpoint x.unreleased x.of_space
-    (subst (λ z. HasAnswered ((world_after c x.before).part x.endpoint) ((world_after c (x.before ++ x.step ∷ [])).part x.endpoint) ((world_after c z).part x.endpoint) x.binding → ⊥) x.steps_are x.silent))
+    (subst (λ z. HasAnswered ((world_after c x.before).part x.endpoint) ((world_after c (x.before ++ x.step ∷ [])).part x.endpoint) ((world_after c z).part x.endpoint) x.binding x.page → ⊥) x.steps_are x.silent))

@@ -54,32 +54,36 @@ abbrev pub WasDone : Part → (binding : ℕ) → Type 0
 WasDone p b = (p.stage b ≡ Quiet) ⊎ (p.stage b ≡ Lost)
 
 -- or the unit was open, the binding Live, Stopping or Draining, and the orders that the step submitted at the unit are done
--- by now, which are invalidations of its pages and a wait behind them;
+-- by now, which are invalidations of its pages, that of the page that led to the frame among them, and a wait behind them;
 abbrev pub IsBeforeInvalidating : Part → (binding : ℕ) → Type 0
 IsBeforeInvalidating p b = (p.stage b ≡ Live) ⊎ ((marked : Bool) × (p.stage b ≡ Stopping marked)) ⊎ ((wait : ℕ) × (p.stage b ≡ Draining wait))
 
-pub record HasSubmitted (was then : Part) (binding : ℕ) : Type 0 where
+pub record HasSubmitted (was then : Part) (binding page : ℕ) : Type 0 where
   pub wait : ℕ
   pub is_new : was.orders ≤ wait
   pub is_last : then.orders ≡ suc wait
   pub is_a_wait : is_wait (then.order wait) ≡ true
-  pub pages : (k : ℕ) → was.orders ≤ k → k < wait → (page : ℕ) × (then.order k ≡ PageOf binding page)
+  pub pages : (k : ℕ) → was.orders ≤ k → k < wait → (other : ℕ) × (then.order k ≡ PageOf binding other)
+  pub its_own : ℕ
+  pub own_is_new : was.orders ≤ its_own
+  pub own_is_ahead : its_own < wait
+  pub own_page : then.order its_own ≡ PageOf binding page
 
 abbrev pub AreDone : Part → (from to : ℕ) → Type 0
 AreDone p from to = (k : ℕ) → from ≤ k → k < to → p.order_state k ≡ Done
 
 -- or the binding was Invalidating, and its PASID invalidation and the wait behind it are done by now, perhaps since
 -- before the step; or a reset-done of the endpoint was delivered after the step.
-pub data HasAnswered (was then now : Part) (binding : ℕ) : Type 0 where
-  was_done : WasDone was binding → HasAnswered was then now binding
+pub data HasAnswered (was then now : Part) (binding page : ℕ) : Type 0 where
+  was_done : WasDone was binding → HasAnswered was then now binding page
   orders_done :
       was.phase ≡ Open
       → IsBeforeInvalidating was binding
-      → HasSubmitted was then binding
+      → HasSubmitted was then binding page
       → AreDone now was.orders then.orders
-      → HasAnswered was then now binding
-  pasid_done : (invalidation wait : ℕ) → was.stage binding ≡ Invalidating invalidation wait → now.order_state invalidation ≡ Done → now.order_state wait ≡ Done → HasAnswered was then now binding
-  was_reset : then.resets < now.resets → HasAnswered was then now binding
+      → HasAnswered was then now binding page
+  pasid_done : (invalidation wait : ℕ) → was.stage binding ≡ Invalidating invalidation wait → now.order_state invalidation ≡ Done → now.order_state wait ≡ Done → HasAnswered was then now binding page
+  was_reset : then.resets < now.resets → HasAnswered was then now binding page
 
 -- After these steps the frame is withheld: the last step that took it out of a space is the one between `before` and
 -- `since`, it was not mapped since, and an endpoint bound to that space just before has not answered yet.
@@ -103,6 +107,7 @@ pub record IsWithheld (config : Config) (steps : List Step) (frame : ℕ) : Type
       ((world_after config (before ++ step ∷ [])).part endpoint)
       ((world_after config steps).part endpoint)
       binding
+      page
       → ⊥
 
 -- each frame is at exactly one page of one live space, or withheld, or free, and only one of these; the step reads its

@@ -59,11 +59,14 @@ abbrev pub IsBeforeInvalidating : Part → (binding : ℕ) → Type 0
 IsBeforeInvalidating p b = (p.stage b ≡ Live) ⊎ ((marked : Bool) × (p.stage b ≡ Stopping marked)) ⊎ ((wait : ℕ) × (p.stage b ≡ Draining wait))
 
 pub record HasSubmitted (was then : Part) (binding page : ℕ) : Type 0 where
+  -- the last order that the step submitted is a wait
   pub wait : ℕ
   pub is_new : was.orders ≤ wait
   pub is_last : then.orders ≡ suc wait
   pub is_a_wait : is_wait (then.order wait) ≡ true
+  -- what is ahead of the wait are invalidations of pages of the binding
   pub pages : (k : ℕ) → was.orders ≤ k → k < wait → (other : ℕ) × (then.order k ≡ PageOf binding other)
+  -- and one of them is that of the page itself
   pub its_own : ℕ
   pub own_is_new : was.orders ≤ its_own
   pub own_is_ahead : its_own < wait

@@ -277,7 +277,7 @@ pub record IsUnderWay (n : ℕ) (p : Part) : Type 0 where
   pub group : (g : ℕ) → p.phase ≡ Open → is_answerable (p.group g) ≡ true → IsOnItsWay p g
   -- a response in flight is to a group that awaits it, or is stale, and that the host has answered
   pub responded : (c g : ℕ) (code : Code) → p.message c ≡ Some (ResponseOf g code) → (is_answerable (p.group g) ≡ true) × (p.host_group g ≡ Replied)
-  -- a group has one last page request
+  -- a group has at most one last page request
   pub one_last :
       (r other : ℕ)
       → r < p.page_requests

@@ -1,7 +1,7 @@
-use Rattle.std.proofs.Common.{◌≡◌, ◌≢◌, ℕ, ◌<◌, ◌==◌, Bool, true, false, ◌||◌, List, Option, Some, None, [], ◌∷◌, ◌++◌, length, get_or, set, map, slice_get, refl, sym, ap, subst, ◌∙◌, ⊎_elim, arith}
+use Rattle.std.proofs.Common.{◌≡◌, ◌≢◌, ℕ, ◌<◌, ◌==◌, Bool, true, false, List, Option, Some, None, [], ◌∷◌, ◌++◌, length, get_or, set, map, slice_get, refl, sym, ap, subst, ◌∙◌, ⊎_elim, arith}
 use Rattle.std.specs.List.{list_any, position}
 use Rattle.std.specs.Option.{option_map, MatchOption}
-use Rattle.std.proofs.lemmas.Bool.{cases_eq}
+use Rattle.std.proofs.lemmas.Bool.{cases_eq, or_parts}
 use Rattle.std.proofs.lemmas.Bool.Decides.{nat_tests}
 use Rattle.std.proofs.lemmas.List.{length-set, length-map, length-replicate, get_or-replicate}
 use Rattle.std.proofs.lemmas.List.Quantifiers.{position-Some}
@@ -53,10 +53,6 @@ divided count calls permitted =
 
 two : (n m : ℕ) → (m == n) ≡ false → n ≢ m
 two n m differ same = grind (arith, nat_tests)
-
-or_false : (b c : Bool) → (b || c) ≡ false → (b ≡ false) × (c ≡ false)
-or_false true c is = absurd (cc)
-or_false false c is = (refl, is)
 
 free_is : (h : Holding) → is_free h ≡ true → h ≡ Free
 free_is Free is = refl
@@ -112,7 +108,7 @@ mapped_step frames n (SettleAll unit) here kept = slice_get-map (settled unit pa
 pub mapped_all : (frames : List Holding) (n : ℕ) (calls : List Call) → slice_get frames n ≡ Some Mapped → list_any (spends n) calls ≡ false → slice_get (after_all frames calls) n ≡ Some Mapped
 mapped_all frames n [] here kept = here
 mapped_all frames n (call ∷ calls) here kept =
-    let each : (spends n call ≡ false) × (list_any (spends n) calls ≡ false) = or_false (spends n call) (list_any (spends n) calls) kept in
+    let each : (spends n call ≡ false) × (list_any (spends n) calls ≡ false) = or_parts (spends n call) (list_any (spends n) calls) kept in
     mapped_all (after frames call) n calls (mapped_step frames n call here each.0) each.1
 
 pub withheld_all : (frames : List Holding) (n : ℕ) (waits : List (Option Target)) (calls : List Call) → slice_get frames n ≡ Some (Withheld waits) → ArePermitted frames calls → has_target (unsettled calls 0 waits) ≡ true → slice_get (after_all frames calls) n ≡ Some (Withheld (unsettled calls 0 waits))

@@ -82,10 +82,6 @@ pool_taken xs lowest n is first = record {
   none_free = none_free_more (set xs n Mapped) n Mapped (λ k x below found. none_free_first xs n first k x below (sym (slice_get-set_other xs n k Mapped (omega arith)) ∙ found)) (slice_get-set_same xs n Mapped (position-Some is_free xs n Free first).0) refl;
 }
 
--- a fresh bound, below which there is nothing
-pub pool_from : (xs ys : List Holding) (lowest : ℕ) → IsPool xs lowest → length ys ≡ length xs → IsPool ys 0
-pool_from xs ys lowest is same = record { few = omega (arith, is.few); bounded = omega arith; none_free = λ k x below found. absurd (omega arith) }
-
 -- the place of a frame in hand
 pub slot_within : (slots : List Slot) (xs : List Holding) (n m : ℕ) (h : Holding) → map holding_of slots ≡ xs → n ≡ m → slice_get xs m ≡ Some h → n < length slots
 slot_within slots xs n m h view number here =

@@ -33,10 +33,6 @@ or-false : (b : Bool) → (b || false) ≡ b
 or-false true = refl
 or-false false = refl
 
-or_false : (b c : Bool) → (b || c) ≡ false → (b ≡ false) × (c ≡ false)
-or_false true c is = absurd (cc)
-or_false false c is = (refl, is)
-
 -- a table of no targets stays so, whatever an event leaves of a target
 pub set_none : (waits : List (Option Target)) (unit : ℕ) (left : Option Target → Option Target) → left None ≡ None → has_target waits ≡ false → has_target (set waits unit (left (get_or waits unit None))) ≡ false
 set_none [] unit left keeps none = refl

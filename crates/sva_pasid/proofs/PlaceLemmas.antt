@@ -369,11 +369,7 @@ place_of-with_other b c s ps (Some p) n h =
 
 pub place_of-without_same : (b : ℕ) (ps : List Place) → place_of b (without b ps) ≡ None
 place_of-without_same b ps =
-    absent-from_all b (without b ps) (λ k d l. not_true_is (is_of b (slice_index_or (without b ps) k d)) (filter_passes (λ (q : Place). not (is_of b q)) ps k d l))
-  where
-    not_true_is : (t : Bool) → not t ≡ true → t ≡ false
-    not_true_is true h = absurd (cc)
-    not_true_is false h = refl
+    absent-from_all b (without b ps) (λ k d l. not_false (is_of b (slice_index_or (without b ps) k d)) (filter_passes (λ (q : Place). not (is_of b q)) ps k d l))
 
 pub place_of-without_other : (b c : ℕ) (ps : List Place) → b ≢ c → place_of c (without b ps) ≡ place_of c ps
 place_of-without_other b c ps n = find-filter (is_of c) (λ (q : Place). not (is_of b q)) ps (λ p h. grind (arith, nat_tests))
@@ -412,28 +408,3 @@ pub written-item : (b i : ℕ) (ps seen : List Place) (item : Place) (s : Option
 written-item b i ps seen item s e x at_i =
     let y : IsIndexOf b ps i = subst (λ (qs : List Place). IsIndexOf b qs i) e x in
     (ap (λ (q : Place). slice_set ps i (record q { stage = s })) at_i ∙ y.written item s, y.found item ∙ ap (λ (q : Place). Some q) (sym at_i))
-
--- one write after another, and a removal after a write: for a stage that is taken, moved and put back, or ended
-
-changed-twice : (b : ℕ) (s t : Option Stage) (p : Place) → changed b s (changed b t p) ≡ changed b s p
-changed-twice b s t p = by_test (is_of b p) b s t p refl
-  where
-    by_test : (u : Bool) (b : ℕ) (s t : Option Stage) (p : Place) → is_of b p ≡ u → changed b s (cond u (record p { stage = t }) p) ≡ cond u (record p { stage = s }) p
-    by_test true b s t p e = rw e
-    by_test false b s t p e = rw e
-
-pub with_stage-twice : (b : ℕ) (s t : Option Stage) (ps : List Place) → with_stage b s (with_stage b t ps) ≡ with_stage b s ps
-with_stage-twice b s t [] = refl
-with_stage-twice b s t (p ∷ ps) =
-    let here : changed b s (changed b t p) ≡ changed b s p = changed-twice b s t p in
-    let there : with_stage b s (with_stage b t ps) ≡ with_stage b s ps = with_stage-twice b s t ps in
-    λ i. here i ∷ there i
-
-pub without-with_stage : (b : ℕ) (s : Option Stage) (ps : List Place) → without b (with_stage b s ps) ≡ without b ps
-without-with_stage b s [] = refl
-without-with_stage b s (p ∷ ps) =
-    let there : without b (with_stage b s ps) ≡ without b ps = without-with_stage b s ps in
-    elim (cases_Bool (is_of b p)) [
-      | inl e ↦ rw e (rw e there)
-      | inr e ↦ rw e (rw e (ap (λ (qs : List Place). p ∷ qs) there))
-    ]

@@ -162,10 +162,7 @@ AreSeated-pushed old new (k ∷ ks) key g h vacant filled same =
     let other : k ≢ key = λ e. false≢true (sym (ap is_some vacant) ∙ ap (λ j. is_some (get_or old j None)) (sym e) ∙ h.0) in
     (ap is_some (same k other) ∙ h.0, none-push _ ks key h.1 (ne_eqb k key other), AreSeated-pushed old new ks key g h.2 vacant filled same)
 
--- the same for a place that is known by the groups, and a key that was read there
-pub in_order : (slots : List (Option OpenGroup)) (keys : List ℕ) (i : ℕ) → AreSeated slots keys → i < length (groups_under slots keys) → i < length keys
-in_order slots keys i h within = let same = length-groups_under slots keys h in omega arith
-
+-- the same for a key that was read at a place
 pub seated_read : (slots : List (Option OpenGroup)) (keys : List ℕ) (i key : ℕ) → AreSeated slots keys → i < length keys → key ≡ get_or keys i key → IsSome (get_or slots key None)
 seated_read slots keys i key h within read =
     ap (λ k. is_some (get_or slots k None)) read ∙ seated_at slots keys i key h within

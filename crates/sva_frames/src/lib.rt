@@ -1,5 +1,5 @@
-// The frames of a host: which are free, which stand in a space, and which are withheld until the units that may
-// still hold translations to them have answered.
+//! The frames of a host: which are free, which stand in a space, and which are withheld until the units that may
+//! still hold translations to them have answered.
 #![tactic(auto)]
 
 mod laws;

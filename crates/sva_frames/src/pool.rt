@@ -16,11 +16,14 @@ pub enum Place {
     Withheld,
 }
 
-/// How many frames are at each place.
+/// How many frames are at each place: three numbers whose sum is that of all frames.
 #[derive(Clone, Copy, Debug, PartialEq, Eq)]
 pub struct Counts {
+    /// Frames in the pool, to be taken.
     pub free: u32,
+    /// Frames that `take` handed out and that are neither given back nor withheld.
     pub mapped: u32,
+    /// Frames that are out of every space and still waited for at some unit.
     pub withheld: u32,
 }
 
@@ -127,7 +130,8 @@ impl FramePool {
         self.lowest = self.lowest.min(number);
     }
 
-    /// The wait of this unit with this cookie is done: no frame waits for it any more.
+    /// The wait descriptor with this cookie is done at the unit with this number, of 0 to 7: no frame waits for it any
+    /// more.
     pub fn settle(&mut self, unit: u64, cookie: u64)
         ensures { self.new ≡ after self.old (Settle unit cookie) }
     {
@@ -135,7 +139,8 @@ impl FramePool {
         self.lowest = 0;
     }
 
-    /// The reset of this unit's endpoint has ended: no frame waits for this unit any more.
+    /// The reset of the endpoint of the unit with this number, of 0 to 7, has ended: no frame waits for this
+    /// unit any more.
     pub fn settle_all(&mut self, unit: u64)
         ensures { self.new ≡ after self.old (SettleAll unit) }
     {

@@ -28,6 +28,7 @@ impl Slot {
         }
     }
 
+    /// Whether the frame is in the pool, to be taken.
     pub fn is_free(&self) -> bool
         ensures { result ≡ is_free (holding_of self.now) }
     {
@@ -37,6 +38,7 @@ impl Slot {
         }
     }
 
+    /// Where the frame is.
     pub fn place(&self) -> Place
         ensures { result ≡ place_of (holding_of self.now) }
     {

@@ -71,8 +71,9 @@ impl Table {
         lowest_free(self.places.as_slice(), endpoint)
     }
 
-    /// Begins a binding of the space to the endpoint, `Live` under the lowest PASID, and gives that PASID. An Err
-    /// changes nothing.
+    /// Begins a binding of the space to the endpoint, `Live` under the lowest PASID, and gives that PASID, of 1 to 32.
+    /// An Err changes nothing. Each of the three is named by a number of the host's own, of 64 bits; no binding in the
+    /// table has this one's.
     pub fn begin(&mut self, endpoint: u64, space: u64, binding: u64) -> Result<u32, AllocError>
         requires free { IsSome (lowest endpoint self.old) }
         requires fresh { place_of binding self.old ≡ None }

@@ -1,5 +1,5 @@
-// The host's side of page requests: the queue in which a unit's page requests wait, and the groups under which they
-// are filed until each group is answered.
+//! The host's side of page requests: the queue in which a unit's page requests wait, and the groups under which they
+//! are filed until each group is answered.
 #![tactic(auto)]
 
 mod group_table;

@@ -42,8 +42,8 @@ impl Default for Arrival {
     }
 }
 
-/// The page request queue of a remapping unit (Intel VT-d, "Page Requests"): 32 places, first in, first out. It is seen
-/// as the list of the requests that wait, the oldest first. No call takes memory.
+/// The page request queue of a remapping unit (Intel VT-d, "Page Request Queue"): 32 places, first in, first out. It is
+/// seen as the list of the requests that wait, the oldest first. No call takes memory.
 #[derive(Debug, Drop)]
 pub struct PageQueue {
     waiting: ArrayVec<Arrival, PLACES>,

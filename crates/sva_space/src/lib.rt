@@ -1,4 +1,4 @@
-// An address space: a finite map from pages to the frames that it owns.
+//! An address space: a finite map from pages to the frames that it owns.
 #![tactic(auto)]
 
 mod laws;

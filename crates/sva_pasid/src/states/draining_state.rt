@@ -69,8 +69,8 @@ impl Draining {
     }
 
     /// Goes on to wait for the wait descriptor with this cookie, behind an invalidation of the whole PASID (Intel VT-d,
-    /// "Device-TLB Invalidate"). `groups_open` tells whether a group of page requests of the binding is not answered.
-    /// Ok exactly where the wait with drain is done and no group is open; an Err gives the state back.
+    /// "Queued Invalidation Interface"). `groups_open` tells whether a group of page requests of the binding is not
+    /// answered. Ok exactly where the wait with drain is done and no group is open; an Err gives the state back.
     pub fn invalidate(self, cookie: u64, groups_open: bool) -> Result<Invalidating, Draining>
         ensures value { result ≡ invalidation_of self cookie groups_open }
         ensures ok { IfOk result (λ invalidating. (self.waited ≡ true) × (groups_open ≡ false)

@@ -28,9 +28,8 @@ impl Place {
             pasid: _,
             stage,
         } = self;
-        match stage {
-            Some(stage) => stage.release_by_reset().spend(),
-            None => {}
+        if let Some(stage) = stage {
+            stage.release_by_reset().spend();
         }
     }
 }
@@ -38,7 +37,7 @@ impl Place {
 /// Where the place of the binding stands.
 pub(crate) fn index_of(places: &[Place], binding: u64) -> Option<usize>
     requires { IsTable places.now }
-    ensures some { IfSome result (λ i. IsIndexOf binding places.now i) }
+    ensures some { IfSome result (λ index. IsIndexOf binding places.now index) }
     ensures none { IfNone result (place_of binding places.now ≡ None) }
 {
     places.iter().position(|place| place.binding == binding)
@@ -57,7 +56,7 @@ pub(crate) fn lowest_free(places: &[Place], endpoint: u64) -> Option<u32>
     ensures some { IfSome result (λ pasid. IsLowest endpoint places.now pasid) }
     ensures none { IfNone result (AllBorne endpoint places.now) }
 {
-    for pasid in 1..PASIDS + 1 {
+    for pasid in 1..=PASIDS {
         if !is_borne(places, endpoint, pasid) {
             return Some(pasid);
         }

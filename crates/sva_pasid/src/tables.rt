@@ -96,13 +96,13 @@ impl Table {
     }
 
     /// The endpoint, the space and the stage of the place with this index, in order of binding.
-    pub fn at(&self, i: usize) -> (u64, u64, &Stage)
-        requires { IsSomeAnd (slice_get self.now i) (λ place. IsSome place.stage) }
-        ensures { IsSomeAnd (slice_get self.now i) (λ place. (result.0 ≡ place.endpoint)
+    pub fn at(&self, index: usize) -> (u64, u64, &Stage)
+        requires { IsSomeAnd (slice_get self.now index) (λ place. IsSome place.stage) }
+        ensures { IsSomeAnd (slice_get self.now index) (λ place. (result.0 ≡ place.endpoint)
             × (result.1 ≡ place.space)
             × (place.stage ≡ Some result.2.now)) }
     {
-        let place = &self.places[i];
+        let place = &self.places[index];
         let Some(stage) = &place.stage else {
             unreachable!();
         };
@@ -117,10 +117,10 @@ impl Table {
         ensures none { IfNone result (self.new ≡ self.old) }
         ensures awaits { IfSome result (λ stage. ((numbers_of stage).binding ≡ binding) × Awaits (numbers_of stage) self.new) }
     {
-        let Some(i) = index_of(self.places.as_slice(), binding) else {
+        let Some(index) = index_of(self.places.as_slice(), binding) else {
             return None;
         };
-        self.places[i].stage.take()
+        self.places[index].stage.take()
     }
 
     /// Puts a stage back into the place of its binding, which is there and empty.
@@ -129,10 +129,10 @@ impl Table {
         requires awaits { Awaits (numbers_of stage) self.old }
         ensures { self.new ≡ with_stage binding (Some stage) self.old }
     {
-        let Some(i) = index_of(self.places.as_slice(), binding) else {
+        let Some(index) = index_of(self.places.as_slice(), binding) else {
             unreachable!();
         };
-        let empty = self.places[i].stage.replace(stage);
+        let empty = self.places[index].stage.replace(stage);
         let None = empty else {
             unreachable!();
         };
@@ -143,7 +143,7 @@ impl Table {
         requires { Awaits released self.old }
         ensures { self.new ≡ without released.binding self.old }
     {
-        let Some(i) = index_of(self.places.as_slice(), released.binding()) else {
+        let Some(index) = index_of(self.places.as_slice(), released.binding()) else {
             unreachable!();
         };
         let Place {
@@ -152,7 +152,7 @@ impl Table {
             binding: _,
             pasid: _,
             stage,
-        } = self.places.remove(i);
+        } = self.places.remove(index);
         let None = stage else {
             unreachable!();
         };

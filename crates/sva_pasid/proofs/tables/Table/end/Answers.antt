@@ -8,5 +8,5 @@ use Rattle.sva_pasid.proofs.tables.Table.end.Goals as goal
 pub invariant_of-self : goal.invariant_of-self
 invariant_of-self c =
     let ps = c.self.inside.places.items in
-    let at_i : IsIndexOf c.binding.result ps c.in-Some.i = subst (λ (qs : List Place). IsIndexOf c.binding.result qs c.in-Some.i) c.as_slice.ensures.value c.in-Some.ensures.some in
+    let at_i : IsIndexOf c.binding.result ps c.in-Some.index = subst (λ (qs : List Place). IsIndexOf c.binding.result qs c.in-Some.index) c.as_slice.ensures.value c.in-Some.ensures.some in
     subst (λ (qs : List Place). IsTable qs) (sym (c.remove-stage.ensures.items ∙ at_i.removed)) (without-table c.binding.result ps c.self.invariant)

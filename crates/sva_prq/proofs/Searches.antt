@@ -1,5 +1,5 @@
 -- A search for the first group that passes a test, and what it says of filing and answering.
-use Rattle.std.proofs.Common.{◌≡◌, ℕ, ◌+◌, ◌-◌, ◌<◌, unwrap_or, Bool, true, false, ◌||◌, cond, List, [], ◌∷◌, ◌++◌, length, set, drop, remove, Some, None, slice_get, refl, sym, ap, ◌∙◌, arith, zero-add}
+use Rattle.std.proofs.Common.{◌≡◌, ℕ, ◌+◌, ◌-◌, ◌<◌, unwrap_or, Bool, true, false, ◌||◌, cond, List, [], ◌∷◌, ◌++◌, length, set, drop, remove, Some, None, is_some, slice_get, refl, sym, ap, ◌∙◌, arith, zero-add}
 use Rattle.std.proofs.lemmas.Bool.{or_parts, or_right, and_parts, eqb-true}
 use Rattle.std.proofs.lemmas.List.{drop_more, set_at, length-append}
 use Rattle.std.proofs.lemmas.Option.{same_Some, slice_get_within, get_or_from_slice_get}
@@ -23,14 +23,6 @@ module _ (p : OpenGroup → Bool) where
   pub position-next : (gs : List OpenGroup) (place : ℕ) (g : OpenGroup) → slice_get gs place ≡ Some g → p g ≡ false → position_from p place (drop place gs) ≡ position_from p (place + 1) (drop (place + 1) gs)
   position-next gs place g is fails =
       ap (position_from p place) (drop_group gs place g is) ∙ ap (λ t. cond t (Some place) (position_from p (place + 1) (drop (place + 1) gs))) fails
-
-  pub list_any-here : (gs : List OpenGroup) (place : ℕ) (g : OpenGroup) → slice_get gs place ≡ Some g → p g ≡ true → list_any p (drop place gs) ≡ true
-  list_any-here gs place g is passes =
-      ap (list_any p) (drop_group gs place g is) ∙ ap (λ t. t || list_any p (drop (place + 1) gs)) passes
-
-  pub list_any-next : (gs : List OpenGroup) (place : ℕ) (g : OpenGroup) → slice_get gs place ≡ Some g → p g ≡ false → list_any p (drop place gs) ≡ list_any p (drop (place + 1) gs)
-  list_any-next gs place g is fails =
-      ap (list_any p) (drop_group gs place g is) ∙ ap (λ t. t || list_any p (drop (place + 1) gs)) fails
 
   -- the first group that passes, and those before and behind it
   pub record FirstAt (gs : List OpenGroup) (place : ℕ) : Type 0 where
@@ -86,6 +78,14 @@ module _ (p : OpenGroup → Bool) where
       by_test rest false e is = ap (λ t. t || list_any p gs) e ∙ rest is
 
   -- what the search says of `find` and `list_any`
+  pub position-any : (gs : List OpenGroup) (k : ℕ) → is_some (position_from p k gs) ≡ list_any p gs
+  position-any [] k = refl
+  position-any (g ∷ gs) k = by_test (position-any gs (k + 1)) (p g)
+    where
+      by_test : is_some (position_from p (k + 1) gs) ≡ list_any p gs → (t : Bool) → is_some (cond t (Some k) (position_from p (k + 1) gs)) ≡ (t || list_any p gs)
+      by_test rest true = refl
+      by_test rest false = rest
+
   pub find-none : (gs : List OpenGroup) → list_any p gs ≡ false → find p gs ≡ None
   find-none [] none = refl
   find-none (g ∷ gs) none =

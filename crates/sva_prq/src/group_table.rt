@@ -1,6 +1,7 @@
-ghost use Rattle.std.specs.Prelude.{◌≡◌, ◌+◌, ◌-◌, ◌<◌, [], ◌∷◌, ◌++◌, ℕ, length, Some, IsOk, OnOk, OnErr, slice_get, slice_set, remove};
+ghost use Rattle.std.specs.Prelude.{◌≡◌, Bool, ◌+◌, ◌-◌, ◌<◌, [], ◌∷◌, ◌++◌, ℕ, length, Some, IsOk, OnOk, OnErr, slice_get, slice_set, remove};
 ghost use Rattle.std.specs.List.{position_from};
 ghost use Rattle.std.specs.Hash.DefaultHasher.{wrapping_add};
+ghost use Rattle.sva_prq.specs.Slots.{IsTest};
 ghost use Rattle.sva_prq.specs.Groups.{OpenGroup, no_groups, is_unfinished, has_job, is_of_binding, is_of_unit, is_open, new_group, with_request, job_of, CanFile, filed, job_made, with_room, after_answer, without_unit};
 
 #[cfg(test)]
@@ -234,28 +235,32 @@ impl Groups {
         self.room += 1;
     }
 
-    // The place of the oldest unfinished group of this unit, binding and index.
-    fn unfinished_place(&self, unit: u64, binding: u64, index: u8) -> Option<usize>
-        ensures { result ≡ position_from (is_unfinished unit binding index) 0 self.now.groups }
+    // The place of the oldest group that passes the test.
+    fn first_place<F: Fn(&Group) -> bool>(&self, test: F) -> Option<usize>
+        requires { F.IsAlwaysCallable test }
+        ensures { (passes : OpenGroup → Bool) → IsTest (F.post test) passes
+            → result ≡ position_from passes 0 self.now.groups }
     {
         for place in 0..self.len() {
-            if self.at(place).is_unfinished(unit, binding, index) {
+            if test(self.at(place)) {
                 return Some(place);
             }
         }
         None
     }
 
+    // The place of the oldest unfinished group of this unit, binding and index.
+    fn unfinished_place(&self, unit: u64, binding: u64, index: u8) -> Option<usize>
+        ensures { result ≡ position_from (is_unfinished unit binding index) 0 self.now.groups }
+    {
+        self.first_place(|group| group.is_unfinished(unit, binding, index))
+    }
+
     // The place of the group with this serial, if its job is made.
     fn job_place(&self, serial: u64) -> Option<usize>
         ensures { result ≡ position_from (has_job serial) 0 self.now.groups }
     {
-        for place in 0..self.len() {
-            if self.at(place).has_job(serial) {
-                return Some(place);
-            }
-        }
-        None
+        self.first_place(|group| group.has_job(serial))
     }
 
     /// Files a page request that came at this unit under a binding: in the unfinished group of this unit, binding and
@@ -286,12 +291,8 @@ impl Groups {
     pub fn open_of(&self, binding: u64) -> bool
         ensures { result ≡ is_open binding self.now }
     {
-        for place in 0..self.len() {
-            if self.at(place).is_of_binding(binding) {
-                return true;
-            }
-        }
-        false
+        self.first_place(|group| group.is_of_binding(binding))
+            .is_some()
     }
 
     /// Ends all groups of a unit, those in part and those whose jobs are made.

@@ -13,6 +13,7 @@ mod lost_state;
 mod quiet_state;
 mod released_state;
 mod stopping_state;
+mod wait;
 
 pub use draining_state::Draining;
 pub use invalidating_state::Invalidating;

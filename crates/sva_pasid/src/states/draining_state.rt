@@ -3,22 +3,20 @@
 ghost use Rattle.std.specs.Prelude.{◌≡◌, ◌&&◌, not, true, false, IfOk, IfErr};
 ghost use Rattle.sva_pasid.specs.States.{Wait, done_wait, invalidation_of, numbers_of_wait};
 
+use crate::states::wait::Wait;
 use crate::states::{Invalidating, Quiet};
 use std::marker::Model;
 
 /// The marker was noted. The binding waits until the page requests that came before it are answered.
 #[derive(Debug)]
 pub struct Draining {
-    pub(crate) binding: u64,
-    pub(crate) pasid: u32,
-    pub(crate) cookie: u64,
-    pub(crate) waited: bool,
+    pub(crate) wait: Wait,
 }
 
 impl Model for Draining {
     ghost Value = { Wait };
 
-    ghost view = { λ draining. record { binding = draining.binding; pasid = draining.pasid; cookie = draining.cookie; waited = draining.waited } };
+    ghost view = { λ draining. draining.wait };
 }
 
 impl Draining {
@@ -26,46 +24,36 @@ impl Draining {
     pub fn binding(&self) -> u64
         ensures { result ≡ self.now.binding }
     {
-        self.binding
+        self.wait.binding
     }
 
     /// The PASID that the binding bears, of 20 bits.
     pub fn pasid(&self) -> u32
         ensures { result ≡ self.now.pasid }
     {
-        self.pasid
+        self.wait.pasid
     }
 
     /// The cookie of the wait descriptor for which the binding waits.
     pub fn cookie(&self) -> u64
         ensures { result ≡ self.now.cookie }
     {
-        self.cookie
+        self.wait.cookie
     }
 
     /// Whether that wait was told to be done.
     pub fn is_waited(&self) -> bool
         ensures { result ≡ self.now.waited }
     {
-        self.waited
+        self.wait.waited
     }
 
     /// The wait is done.
     pub fn waited(self) -> Draining
         ensures { result ≡ done_wait self }
     {
-        let Draining {
-            binding,
-            pasid,
-            cookie,
-            waited: _,
-        } = self;
-        Draining {
-            binding,
-            pasid,
-            cookie,
-            waited: true,
-        }
+        let Draining { wait } = self;
+        Draining { wait: wait.done() }
     }
 
     /// Goes on to wait for the wait descriptor with this cookie, behind an invalidation of the whole PASID (Intel VT-d,
@@ -77,20 +65,12 @@ impl Draining {
             × (invalidating ≡ record self { cookie = cookie; waited = false })) }
         ensures err { IfErr result (λ draining. ((self.waited && not groups_open) ≡ false) × (draining ≡ self)) }
     {
-        if !self.waited || groups_open {
+        if !self.wait.waited || groups_open {
             return Err(self);
         }
-        let Draining {
-            binding,
-            pasid,
-            cookie: _,
-            waited: _,
-        } = self;
+        let Draining { wait } = self;
         Ok(Invalidating {
-            binding,
-            pasid,
-            cookie,
-            waited: false,
+            wait: Wait::new(wait.binding, wait.pasid, cookie),
         })
     }
 
@@ -98,12 +78,7 @@ impl Draining {
     pub fn by_reset(self) -> Quiet
         ensures { result ≡ numbers_of_wait self }
     {
-        let Draining {
-            binding,
-            pasid,
-            cookie: _,
-            waited: _,
-        } = self;
-        Quiet { binding, pasid }
+        let Draining { wait } = self;
+        wait.quiet()
     }
 }

@@ -4,21 +4,19 @@ ghost use Rattle.std.specs.Prelude.{◌≡◌, true, false, IfOk, IfErr};
 ghost use Rattle.sva_pasid.specs.States.{Wait, done_wait, numbers_of_wait, quiet_of};
 
 use crate::states::Quiet;
+use crate::states::wait::Wait;
 use std::marker::Model;
 
 /// The page requests are answered. The binding waits until the endpoint has given up all that it holds under the PASID.
 #[derive(Debug)]
 pub struct Invalidating {
-    pub(crate) binding: u64,
-    pub(crate) pasid: u32,
-    pub(crate) cookie: u64,
-    pub(crate) waited: bool,
+    pub(crate) wait: Wait,
 }
 
 impl Model for Invalidating {
     ghost Value = { Wait };
 
-    ghost view = { λ invalidating. record { binding = invalidating.binding; pasid = invalidating.pasid; cookie = invalidating.cookie; waited = invalidating.waited } };
+    ghost view = { λ invalidating. invalidating.wait };
 }
 
 impl Invalidating {
@@ -26,46 +24,36 @@ impl Invalidating {
     pub fn binding(&self) -> u64
         ensures { result ≡ self.now.binding }
     {
-        self.binding
+        self.wait.binding
     }
 
     /// The PASID that the binding bears, of 20 bits.
     pub fn pasid(&self) -> u32
         ensures { result ≡ self.now.pasid }
     {
-        self.pasid
+        self.wait.pasid
     }
 
     /// The cookie of the wait descriptor for which the binding waits.
     pub fn cookie(&self) -> u64
         ensures { result ≡ self.now.cookie }
     {
-        self.cookie
+        self.wait.cookie
     }
 
     /// Whether that wait was told to be done.
     pub fn is_waited(&self) -> bool
         ensures { result ≡ self.now.waited }
     {
-        self.waited
+        self.wait.waited
     }
 
     /// The wait is done.
     pub fn waited(self) -> Invalidating
         ensures { result ≡ done_wait self }
     {
-        let Invalidating {
-            binding,
-            pasid,
-            cookie,
-            waited: _,
-        } = self;
-        Invalidating {
-            binding,
-            pasid,
-            cookie,
-            waited: true,
-        }
+        let Invalidating { wait } = self;
+        Invalidating { wait: wait.done() }
     }
 
     /// The endpoint holds nothing under the PASID any longer. Ok exactly where the wait is done; an Err gives the state
@@ -75,28 +63,18 @@ impl Invalidating {
         ensures ok { IfOk result (λ quiet. (self.waited ≡ true) × (quiet ≡ numbers_of_wait self)) }
         ensures err { IfErr result (λ invalidating. (self.waited ≡ false) × (invalidating ≡ self)) }
     {
-        if !self.waited {
+        if !self.wait.waited {
             return Err(self);
         }
-        let Invalidating {
-            binding,
-            pasid,
-            cookie: _,
-            waited: _,
-        } = self;
-        Ok(Quiet { binding, pasid })
+        let Invalidating { wait } = self;
+        Ok(wait.quiet())
     }
 
     /// A function level reset emptied the endpoint: there is nothing left to wait for.
     pub fn by_reset(self) -> Quiet
         ensures { result ≡ numbers_of_wait self }
     {
-        let Invalidating {
-            binding,
-            pasid,
-            cookie: _,
-            waited: _,
-        } = self;
-        Quiet { binding, pasid }
+        let Invalidating { wait } = self;
+        wait.quiet()
     }
 }

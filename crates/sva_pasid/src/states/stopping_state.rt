@@ -3,6 +3,7 @@
 ghost use Rattle.std.specs.Prelude.{◌≡◌, true, false, IfOk, IfErr};
 ghost use Rattle.sva_pasid.specs.States.{Stop, marked_stop, drain_of, numbers_of_stop};
 
+use crate::states::wait::Wait;
 use crate::states::{Draining, Quiet};
 use std::marker::Model;
 
@@ -76,10 +77,7 @@ impl Stopping {
             marked: _,
         } = self;
         Ok(Draining {
-            binding,
-            pasid,
-            cookie,
-            waited: false,
+            wait: Wait::new(binding, pasid, cookie),
         })
     }
 

@@ -72,9 +72,6 @@ leads w ma s q m h = let a = ma.at_present s q m h in (a.1, a.2, made_of (ma.unm
 pub presents : (w : World) → Mapped w → (s q m : ℕ) → w.mappings.at s q ≡ Some m → w.mappings.state m ≡ Present
 presents w ma s q m h = (ma.at_present s q m h).0
 
-there_kept : (ms : Mappings) (g n e x : ℕ) (p : Part) (o : Own) → e < x → LegalOwn ms g p o → (b : ℕ) → (own p n o).stage b ≢ Unbound → e < x
-there_kept ms g n e x p o h l b u = h
-
 -- an act of an endpoint keeps what holds of it
 pub own_keeps : (ms : Mappings) (x g n e : ℕ) (p : Part) (o : Own) → e < x → LegalOwn ms g p o → Owners.Leads ms → ((s q m : ℕ) → ms.at s q ≡ Some m → ms.state m ≡ Present) → PartInvariant ms x g n e p → PartInvariant ms x g (n + sends o) e (own p n o)
 own_keeps ms x g n e p o h l le pr i =

@@ -6,7 +6,7 @@ use Rattle.std.proofs.lemmas.Bool.Decides.{nat_tests}
 use Rattle.sva_model.specs.State.{Mappings, Part, Stage, Order, OrderState}
 use Rattle.sva_model.specs.State.Stage.{Live, Stopping, Draining, Invalidating}
 use Rattle.sva_model.specs.State.Order.{PageOf, PasidOf, Wait}
-use Rattle.sva_model.specs.State.OrderState.{Queued, Sent, Owing, Done, Void}
+use Rattle.sva_model.specs.State.OrderState.{Queued, Sent, Done, Void}
 use Rattle.sva_model.specs.State.About.{InvalidateOf, ResetDone}
 use Rattle.sva_model.specs.State.Phase.{Open, Cleared}
 use Rattle.sva_model.specs.States.{is_busy, is_wait, drains}
@@ -33,10 +33,6 @@ abbrev pub is_queued_or_done : OrderState → Bool
 is_queued_or_done Queued = true
 is_queued_or_done Done = true
 is_queued_or_done _ = false
-
-abbrev pub owes : OrderState → Bool
-owes (Owing n l) = true
-owes _ = false
 
 pub record Orders (p : Part) : Type 0 where
   pub no_wait : (k : ℕ) → is_busy (p.order_state k) ≡ true → is_wait (p.order k) ≡ false

@@ -70,9 +70,6 @@ pasid_pending : (ms : Mappings) (g n : ℕ) (p : Part) (o : Own) → LegalOwn ms
 pasid_pending ms g n p o l b q age age' k w resets c0 nr nd pe = grind (arith, nat_tests)
 
 -- whatever is usable, no reset-done arrives
-same_resets : (p : Part) (n : ℕ) (o : Own) → Type 0
-same_resets p n o = (own p n o).resets ≡ p.resets
-
 held_resets : (ms : Mappings) (g n : ℕ) (p : Part) (o : Own) → LegalOwn ms g p o → NoneLeft p → (r m : ℕ) → p.held r ≡ Some m → (own p n o).resets ≡ p.resets
 held_resets ms g n p o l left r m h = grind (arith, nat_tests, left.up, left.empty)
 

@@ -6,7 +6,7 @@ use Rattle.sva_step.specs.declared.limits.Config.{Config}
 use Rattle.sva_step.specs.declared.steps.Step.{Step}
 use Rattle.sva_model.specs.Words.{all_below, put_range}
 use Rattle.sva_model.specs.State.{Owed, OrderState, MappingState, Part, World, Stage, opened}
-use Rattle.sva_model.specs.State.Owed.{Pages, Pasid, AReset}
+use Rattle.sva_model.specs.State.Owed.{Pages}
 use Rattle.sva_model.specs.State.MappingState.{Unmade, Present, Gone}
 use Rattle.sva_model.specs.State.Stage.{Unbound, Live, Stopping, Draining, Invalidating, Quiet, Lost, Released}
 use Rattle.sva_model.specs.State.Order.{PageOf, Wait}
@@ -63,13 +63,6 @@ less a b h = grind (arith, nat_tests)
 
 less_is : (a b : ℕ) → nat_lt a b ≡ true → a < b
 less_is a b h = grind (arith, nat_tests)
-
-answered_by_reset : (now : Part) (resets q k i w count : ℕ) (flag : Bool) → resets < now.resets → (answered now (Pages q k count resets) ≡ true) × (answered now (Pasid i w resets flag) ≡ true) × (answered now (AReset resets) ≡ true)
-answered_by_reset now resets q k i w count flag l = (
-  or_second (all_below (suc count) (λ j. is_done (now.order_state (k + j)))) (nat_lt resets now.resets) (less resets now.resets l),
-  or_second (is_done (now.order_state i) && is_done (now.order_state w)) (nat_lt resets now.resets) (less resets now.resets l),
-  less resets now.resets l,
-)
 
 stage_by_reset : (was now : Part) (q count : ℕ) (s : Stage) (o : Bool) → is_open was.phase ≡ o → was.resets < now.resets → answered now (owed_by_stage was q count s) ≡ true
 stage_by_reset was now q count Unbound o e l = refl

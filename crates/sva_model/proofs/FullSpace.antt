@@ -1,5 +1,5 @@
 -- The world of a full space is reached: by a Space, and a map of each page.
-use Rattle.std.proofs.Common.{◌≡◌, ◌≢◌, ℕ, zero, suc, ◌+◌, ◌-◌, ◌<◌, ◌≤◌, ◌^◌, ◌⊎◌, inl, inr, refl, ap, ◌∙◌, arith, Bool, true, false}
+use Rattle.std.proofs.Common.{◌≡◌, ℕ, zero, suc, ◌+◌, ◌<◌, ◌≤◌, ◌^◌, ◌⊎◌, inl, inr, refl, ap, ◌∙◌, arith, Bool, true, false}
 use Rattle.std.specs.Prelude.{Option, Some, None, List, [], ◌∷◌, ◌++◌, if◌then◌else◌, ◌&&◌, nat_lt, nat_le, not, ◌==◌}
 use Rattle.std.proofs.lemmas.Bool.Decides.{nat_tests}
 use Rattle.sva_step.specs.declared.refusals.Refusal.{Refusal}
@@ -7,15 +7,15 @@ use Rattle.sva_step.specs.declared.refusals.Refusal.TheVariants as refusal
 use Rattle.sva_step.specs.declared.steps.Step.{Step}
 use Rattle.sva_step.specs.declared.steps.Step.TheVariants as step
 use Rattle.sva_model.specs.Words.{put, lowest, step_lowest, count_below}
-use Rattle.sva_model.specs.State.{MappingState, Mappings, World, opened}
+use Rattle.sva_model.specs.State.{MappingState, World, opened}
 use Rattle.sva_model.specs.State.MappingState.{Unmade, Present}
-use Rattle.sva_model.specs.States.{is_free, is_present}
+use Rattle.sva_model.specs.States.{is_free}
 use Rattle.sva_model.specs.Acts.{Act, act}
 use Rattle.sva_model.specs.Labels
 use Rattle.sva_model.specs.Outcomes.{Outcome, outcome}
-use Rattle.sva_model.specs.Steps.{checked, decide, next, run, after_acts, world_after}
+use Rattle.sva_model.specs.Steps.{checked, decide, next, run, after_acts}
 use Rattle.sva_model.specs.Rows.{config}
-use Rattle.sva_model.specs.RowsOfRefusals.{mapped_space, full_space, maps_of, FullSpaceReached}
+use Rattle.sva_model.specs.RowsOfRefusals.{mapped_space, maps_of, FullSpaceReached}
 
 count_most : (n : ℕ) (f : ℕ → Bool) → count_below n f ≤ n
 unfolding count_below

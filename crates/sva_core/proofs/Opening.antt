@@ -2,7 +2,7 @@
 use Rattle.std.proofs.Common.{◌≡◌, ℕ, zero, suc, ◌+◌, Bool, true, false, cond, List, Option, Some, None, [], ◌∷◌, ◌++◌, refl, sym, ap, ◌∙◌, arith, replicate, count_by, if◌then◌else◌}
 use Rattle.std.proofs.lemmas.List.Sums.{sum_by-cons, sum_by_push}
 use Rattle.sva_step.specs.declared.limits.Config.{Config}
-use Rattle.sva_frames.specs.Frames.{Holding, Free, Mapped, Withheld, is_free, is_mapped, is_withheld}
+use Rattle.sva_frames.specs.Frames.{Holding, Free, Mapped, Withheld, is_mapped, is_withheld}
 use Rattle.sva_frames.proofs.Pools.{map-replicate}
 use Rattle.sva_model.specs.Words.{tabulate, select, count_below, all_below, the}
 use Rattle.sva_model.specs.State.{World, opened, blank, MappingState, Owed, PasidState}
@@ -83,11 +83,6 @@ count-seen p q same (h ∷ hs) =
     ∙ ap (λ b. cond b 1 0 + count_by p hs) (sym (same h))
     ∙ ap (λ (k : ℕ). cond (q (place_seen h)) 1 0 + k) (count-seen p q same hs)
     ∙ sym (sum_by-cons (λ (x : PlaceWire). cond (q x) 1 0) (place_seen h) (places_seen hs))
-
-pub free-seen : (h : Holding) → is_free_wire (place_seen h) ≡ is_free h
-free-seen Free = refl
-free-seen Mapped = refl
-free-seen (Withheld targets) = refl
 
 pub mapped-seen : (h : Holding) → is_mapped_wire (place_seen h) ≡ is_mapped h
 mapped-seen Free = refl

@@ -18,9 +18,6 @@ use Rattle.sva_core.proofs.FrameLists.{lowest_free-some, lowest_free-none, lengt
 in_range-page : (q : ℕ) → q < 2 ^ 36 → nat_lt (2 ^ 36) (q + 1) ≡ false
 in_range-page q h = grind (arith, nat_tests)
 
-pub past-page : (q : ℕ) → 2 ^ 36 ≤ q → nat_lt (2 ^ 36) (q + 1) ≡ true
-past-page q h = grind (arith, nat_tests)
-
 -- the answer to a map by the four tests
 map_reply-is : (places : List PlaceWire) (q : ℕ) (pages : List PageWire) (a b c d : Bool) (f : ℕ) → nat_lt (2 ^ 36) (q + 1) ≡ a → is_mapped pages q ≡ b → nat_le 1024 (length pages) ≡ c → (lowest_free places == length places) ≡ d → lowest_free places ≡ f → map_reply places q pages ≡ unless_refused ((a, refusal.PageRange) ∷ (b, refusal.Mapped) ∷ (c, refusal.SpaceFull) ∷ (d, refusal.NoFrame) ∷ []) (answer.Frame f)
 map_reply-is places q pages a b c d f past there full none lowest = rw (past, there, full, none, lowest) refl

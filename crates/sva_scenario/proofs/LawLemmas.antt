@@ -11,7 +11,7 @@ use Rattle.std.proofs.lemmas.List.Sums.{sum_by-cons}
 use Rattle.std.proofs.lemmas.Fmt.{decimal-digits_value, decimal_digit, decimal_nonempty, digits_decimal, digits_value-decimal, first_decimal}
 use Rattle.sva_scenario.specs.Grammar.{access, begins_number, config_counts, config_of, fault, is_skipped, is_too_large, lines_of, map_step, number, said_lines, scenario_of, script_of, space_step, step_of, steps_of, unmap_step, words_of}
 use Rattle.sva_scenario.specs.Laws.{config_words, HasConfigLine, HasLine, LinesAreCounted, NumbersAreDecimal, script_text, ScriptsAreRead, step_words, text_of}
-use Rattle.sva_scenario.proofs.WordLemmas.{number-is, number-not, own}
+use Rattle.sva_scenario.proofs.WordLemmas.{number-is, number-not, own, some_byte}
 use Rattle.sva_scenario.specs.declared.faults.Cause.TheVariants.{TooLarge}
 use Rattle.sva_step.specs.declared.limits.Config.{Config}
 use Rattle.sva_step.specs.declared.steps.Step.{Step}
@@ -22,10 +22,6 @@ use Rattle.sva_step.specs.declared.steps.Step.TheVariants.{Space, Map, Unmap}
 first_not_zero : (word : List ℕ) → begins_number word ≡ true → get_or word 0 0 ≡ 48 → length word ≡ 1
 first_not_zero [] h e = absurd (cc)
 first_not_zero (digit ∷ digits) h e = grind (arith, nat_tests)
-
-some_digit : (word : List ℕ) → begins_number word ≡ true → 0 < length word
-some_digit [] h = absurd (cc)
-some_digit (digit ∷ digits) h = omega arith
 
 begins_test : (digit len : ℕ) (t : Bool) → ltb 48 digit ≡ t → 48 ≤ digit → digit < 58 → (digit ≡ 48 → len ≡ 0) → (t && ltb digit 58 || eqb digit 48 && eqb len 0) ≡ true
 begins_test digit len true e low high one = ap (λ t. t || (eqb digit 48 && eqb len 0)) (lt-ltb digit 58 high)
@@ -52,7 +48,7 @@ decimal_word word n h =
     let front = and_parts _ _ parts.0 in
     let small : digits_value 10 word < 2 ^ 64 = ltb-true _ _ parts.1 in (
       subst (λ m. m < 2 ^ 64) passed.1 small,
-      sym (decimal-digits_value own word front.1 (some_digit word front.0) (first_not_zero word front.0) small) ∙ ap decimal passed.1,
+      sym (decimal-digits_value own word front.1 (some_byte word front.0) (first_not_zero word front.0) small) ∙ ap decimal passed.1,
     )
 
 one_zero : (n : ℕ) → n < 2 ^ 64 → get_or (decimal n) 0 0 ≡ 48 → length (decimal n) ≡ 1

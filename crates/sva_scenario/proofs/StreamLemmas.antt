@@ -33,10 +33,6 @@ KeepsFront most None new kept = Unit {0}
 KeepsFront most (Some xs) None kept = ⊥
 KeepsFront most (Some xs) (Some ys) kept = (given : List ℕ) × (xs ≡ given ++ ys) × (kept ≡ take most given)
 
-pub KeepsFront-nil : (most : ℕ) (known : Option (List ℕ)) → KeepsFront most known known []
-KeepsFront-nil most None = tt
-KeepsFront-nil most (Some xs) = ([], refl, sym (take-nil most))
-
 kept_more : (most n : ℕ) (given kept piece : List ℕ) → kept ≡ take most given
     → kept ++ take (min n (most - length kept)) piece ≡ take most (given ++ take n piece)
 kept_more most n given kept piece e =
@@ -88,10 +84,6 @@ pub AppendsPrefix-cut : (a b c : Option (List ℕ)) (bytes : List ℕ) (written 
 AppendsPrefix-cut a b c bytes written within p q =
     let left : 0 < length (drop written bytes) = omega (arith, length-drop written bytes, within) in
     (take written bytes, drop written bytes, take-append-drop written bytes, Appends-kept a b c (take written bytes) p q, left)
-
--- a front is a front, whether or not some bytes are left
-pub AppendsPrefix-whole : (a b : Option (List ℕ)) (bytes : List ℕ) → AppendsProperPrefix a b bytes → AppendsPrefix a b bytes
-AppendsPrefix-whole a b bytes p = (p.0, p.1, p.2, p.3)
 
 -- where bytes came, known input had some
 pub Consumes-some : (most n : ℕ) (a b c : Option (List ℕ)) (kept piece : List ℕ) → 0 < n → n ≤ length piece → KeepsFront most a b kept → Consumes b c (take n piece) → IfSome a (λ input. 0 < length input)

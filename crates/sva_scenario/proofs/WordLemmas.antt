@@ -58,7 +58,7 @@ no_plus : (word : List ℕ) → begins_number word ≡ true → get_or word 0 0 
 no_plus [] h = absurd (cc)
 no_plus (digit ∷ digits) h = λ e. absurd (grind (arith, nat_tests))
 
-some_byte : (word : List ℕ) → begins_number word ≡ true → 0 < length word
+pub some_byte : (word : List ℕ) → begins_number word ≡ true → 0 < length word
 some_byte [] h = absurd (cc)
 some_byte (digit ∷ digits) h = omega arith
 

@@ -1,78 +1,32 @@
 -- The wire of the world in which nothing has happened, and the counts of frames.
-use Rattle.std.proofs.Common.{◌≡◌, ℕ, zero, suc, ◌+◌, Bool, true, false, cond, List, Option, Some, None, [], ◌∷◌, ◌++◌, refl, sym, ap, ◌∙◌, arith, replicate, count_by, if◌then◌else◌}
+use Rattle.std.proofs.Common.{◌≡◌, ℕ, zero, suc, ◌+◌, Bool, true, false, cond, List, Option, Some, None, [], ◌∷◌, refl, sym, ap, ◌∙◌, arith, replicate, count_by, if◌then◌else◌}
 use Rattle.std.proofs.lemmas.List.Sums.{sum_by-cons, sum_by_push}
 use Rattle.sva_step.specs.declared.limits.Config.{Config}
 use Rattle.sva_frames.specs.Frames.{Holding, Free, Mapped, Withheld, is_mapped, is_withheld}
 use Rattle.sva_frames.proofs.Pools.{map-replicate}
-use Rattle.sva_model.specs.Words.{tabulate, select, count_below, all_below, the}
-use Rattle.sva_model.specs.State.{World, opened, blank, MappingState, Owed, PasidState}
+use Rattle.sva_model.specs.Words.{tabulate, count_below, all_below, the}
+use Rattle.sva_model.specs.State.{World, opened, MappingState, Owed}
 use Rattle.sva_model.specs.State.MappingState.{Present, Gone}
 use Rattle.sva_model.specs.States.{Place, place, place_at, place_by, place_of_gone, answered}
 use Rattle.sva_model.specs.Steps.{counts, is_free_at, is_mapped_at, is_withheld_at}
-use Rattle.sva_model.specs.Wire.{Wire, PlaceWire, RequestWire, UseWire, TakenWire, GroupWire, BusyWire, JobWire, part_wire, wire, places_wire, place_wire_by, withheld_wire}
+use Rattle.sva_model.specs.Wire.{PlaceWire, wire, places_wire, place_wire_by, withheld_wire}
 use Rattle.sva_model.specs.Wire.PlaceWire.{FreeWire, MappedWire, WithheldWire}
-use Rattle.sva_wire.specs.Host.{idle, is_free as is_free_wire}
+use Rattle.sva_wire.specs.Host.{first_wire, is_free as is_free_wire}
+use Rattle.sva_wire.proofs.Idle.{opened_is}
 use Rattle.sva_core.specs.declared.live.Live.{Live}
 use Rattle.sva_core.specs.Lives.{spaces_seen}
 use Rattle.sva_core.specs.Seen.{place_seen, places_seen}
 use Rattle.sva_core.specs.Pieces.{is_mapped_wire, is_withheld_wire}
 
--- a table with one entry under all names
-tabulate-same : {A : Type 0} (n : ℕ) (a : A) → tabulate n (λ k. a) ≡ replicate n a
-unfolding tabulate
-tabulate-same zero a = refl
-tabulate-same (suc n) a = ap (λ xs. xs ++ a ∷ []) (tabulate-same n a) ∙ at_end n a
-  where
-    at_end : {A : Type 0} (n : ℕ) (a : A) → replicate n a ++ a ∷ [] ≡ a ∷ replicate n a
-    at_end zero a = refl
-    at_end (suc n) a = ap (λ xs. a ∷ xs) (at_end n a)
-
--- an endpoint with its unit, to which nothing has happened
-idle-blank : (config : Config) → part_wire (opened config) blank ≡ idle
-unfolding select
-idle-blank config = λ i. record idle {
-  pasids = tabulate-same 32 PasidState.Off i;
-  tags = tabulate-same {A = Option RequestWire} 32 None i;
-  slots = tabulate-same {A = Option UseWire} 16 None i;
-  taken = tabulate-same {A = Option TakenWire} 32 None i;
-  groups = tabulate-same {A = Option GroupWire} 32 None i;
-  busy = tabulate-same {A = Option BusyWire} 32 None i;
-}
-
--- what a host keeps of some spaces and frames, where no step was taken
-abbrev pub seen_as : Config → List Live → List Holding → Wire
-seen_as config lives frames =
-    record {
-      spaces = spaces_seen lives;
-      places = places_seen frames;
-      parts = replicate config.endpoints idle;
-      jobs = [];
-      hands = replicate config.workers None;
-      in_flight = [];
-      next_space = config.first;
-      next_binding = config.first;
-      next_message = config.first;
-      next_cookie = config.first;
-    }
-
-from_first : (n : ℕ) → n ≡ n + 0
-from_first n = omega arith
-
 -- the world in which nothing has happened
-pub opened-seen : (config : Config) (lives : List Live) (frames : List Holding) → lives ≡ [] → frames ≡ replicate config.frames Free → seen_as config lives frames ≡ wire (opened config)
-unfolding select
-opened-seen config lives frames none all = λ i. record {
-  spaces = ap spaces_seen none i;
-  places = (ap places_seen all ∙ map-replicate place_seen config.frames Free ∙ sym (tabulate-same config.frames FreeWire)) i;
-  parts = (ap (replicate config.endpoints) (sym (idle-blank config)) ∙ sym (tabulate-same config.endpoints (part_wire (opened config) blank))) i;
-  jobs = [];
-  hands = sym (tabulate-same {A = Option JobWire} config.workers None) i;
-  in_flight = [];
-  next_space = from_first config.first i;
-  next_binding = from_first config.first i;
-  next_message = from_first config.first i;
-  next_cookie = from_first config.first i;
-}
+pub opened-seen : (config : Config) (lives : List Live) (frames : List Holding) → lives ≡ [] → frames ≡ replicate config.frames Free
+    → record (first_wire config) { spaces = spaces_seen lives; places = places_seen frames } ≡ wire (opened config)
+opened-seen config lives frames none all =
+    (λ i. record (first_wire config) {
+      spaces = ap spaces_seen none i;
+      places = (ap places_seen all ∙ map-replicate place_seen config.frames Free) i;
+    })
+    ∙ sym (opened_is config)
 
 -- Counts of frames.
 

@@ -13,7 +13,7 @@ use Rattle.std.proofs.lemmas.Option.{slice_get_within}
 use Rattle.sva_space.specs.Pages.{IsRising, mapping_at, with_page, without_page}
 use Rattle.sva_space.specs.Calls.{count_in}
 use Rattle.sva_frames.specs.Frames.{Holding, Free, Mapped, is_free}
-use Rattle.sva_core.specs.Owned.{mapped_once, mapped_bit, Owns, Balanced, Spent}
+use Rattle.sva_core.specs.Owned.{one_if_mapped, mapped_bit, Owns, Balanced, Spent}
 use Rattle.sva_core.proofs.FrameLists.{mapped_bit-set, is_mapped-bit, first-free, some-within}
 
 -- a page more is a frame more, and a page less a frame less
@@ -64,14 +64,14 @@ owned-mapped ms frames q mapping owned there = is_mapped-bit frames mapping.0 (o
 pub balanced-map : (ms : List (ℕ × (ℕ × Bool))) (frames : List Holding) (q n : ℕ) (x : Bool) → IsRising ms → mapping_at ms q ≡ None → position is_free frames ≡ Some n → Balanced ms frames (with_page ms q n x) (set frames n Mapped)
 balanced-map ms frames q n x rising none first f =
     one_more (n == f) _ _ _ _ (count_in-insert f q n x ms rising none) (mapped_bit-set frames n Mapped f (some-within frames n first))
-    (λ is. ap (λ (k : ℕ). mapped_bit k frames) (sym (same_frame n f is)) ∙ ap mapped_once (first-free frames n first))
+    (λ is. ap (λ (k : ℕ). mapped_bit k frames) (sym (same_frame n f is)) ∙ ap one_if_mapped (first-free frames n first))
 
 -- the frame of a page is given back
 pub balanced-unmap : (ms : List (ℕ × (ℕ × Bool))) (frames : List Holding) (q : ℕ) (mapping : ℕ × Bool) → Owns ms frames → mapping_at ms q ≡ Some mapping → Balanced ms frames (without_page ms q) (set frames mapping.0 Free)
 balanced-unmap ms frames q mapping owned there f =
     let mapped : slice_get frames mapping.0 ≡ Some Mapped = owned-mapped ms frames q mapping owned there in
     one_less (mapping.0 == f) _ _ _ _ (count_in-remove f q mapping ms there) (mapped_bit-set frames mapping.0 Free f (slice_get_within frames mapping.0 Mapped mapped))
-    (λ is. ap (λ (k : ℕ). mapped_bit k frames) (sym (same_frame mapping.0 f is)) ∙ ap mapped_once mapped)
+    (λ is. ap (λ (k : ℕ). mapped_bit k frames) (sym (same_frame mapping.0 f is)) ∙ ap one_if_mapped mapped)
 
 -- the same of the first page
 pub owned-first : (m : ℕ × (ℕ × Bool)) (ms : List (ℕ × (ℕ × Bool))) (frames : List Holding) → Owns (m ∷ ms) frames → slice_get frames m.1.0 ≡ Some Mapped
@@ -84,7 +84,7 @@ balanced-first m ms frames owned f =
     let mapped : slice_get frames m.1.0 ≡ Some Mapped = owned-first m ms frames owned in
     let first : count_in f ms + (if m.1.0 == f then 1 else 0) ≡ count_in f (m ∷ ms) = omega (arith, count_in-first f m ms) in
     one_less (m.1.0 == f) _ _ _ _ first (mapped_bit-set frames m.1.0 Free f (slice_get_within frames m.1.0 Mapped mapped))
-    (λ is. ap (λ (k : ℕ). mapped_bit k frames) (sym (same_frame m.1.0 f is)) ∙ ap mapped_once mapped)
+    (λ is. ap (λ (k : ℕ). mapped_bit k frames) (sym (same_frame m.1.0 f is)) ∙ ap one_if_mapped mapped)
 
 -- what is balanced step by step is balanced, and keeps what a space owns
 pub balanced-on : (a b c : List (ℕ × (ℕ × Bool))) (f g h : List Holding) → Balanced a f b g → Balanced b g c h → Balanced a f c h

@@ -13,7 +13,7 @@ use Rattle.sva_model.specs.Wire.{PlaceWire}
 use Rattle.sva_model.specs.Wire.PlaceWire.{FreeWire}
 use Rattle.sva_wire.specs.Host.{lowest_free, freed, is_free as is_free_wire}
 use Rattle.sva_core.specs.Seen.{frames_in, place_seen, places_seen}
-use Rattle.sva_core.specs.Owned.{mapped_once, mapped_bit}
+use Rattle.sva_core.specs.Owned.{one_if_mapped, mapped_bit}
 
 pub length-seen : (frames : List Holding) → length (places_seen frames) ≡ length frames
 length-seen frames = length-map frames place_seen
@@ -98,7 +98,7 @@ first-freed space rest frames frames_after first is gave =
     ∙ sym (ap (λ (ms : List (ℕ × (ℕ × Bool))). freed (places_seen frames) (frames_in ms)) is)
 
 -- whether a frame is mapped in the pool, after a place changed
-pub mapped_bit-set : (frames : List Holding) (n : ℕ) (h : Holding) (f : ℕ) → n < length frames → mapped_bit f (set frames n h) ≡ (if n == f then mapped_once (Some h) else mapped_bit f frames)
+pub mapped_bit-set : (frames : List Holding) (n : ℕ) (h : Holding) (f : ℕ) → n < length frames → mapped_bit f (set frames n h) ≡ (if n == f then one_if_mapped (Some h) else mapped_bit f frames)
 mapped_bit-set frames n h f within = by_test (n == f) refl
   where
     same : (n f : ℕ) → (n == f) ≡ true → n ≡ f
@@ -107,14 +107,14 @@ mapped_bit-set frames n h f within = by_test (n == f) refl
     apart : (n f : ℕ) → (n == f) ≡ false → f ≢ n
     apart n f is = grind (arith, nat_tests)
 
-    by_test : (b : Bool) → (n == f) ≡ b → mapped_bit f (set frames n h) ≡ (if b then mapped_once (Some h) else mapped_bit f frames)
-    by_test true is = ap (λ (k : ℕ). mapped_bit k (set frames n h)) (sym (same n f is)) ∙ ap mapped_once (slice_get-set_same frames n h within)
-    by_test false is = ap mapped_once (slice_get-set_other frames n f h (apart n f is))
+    by_test : (b : Bool) → (n == f) ≡ b → mapped_bit f (set frames n h) ≡ (if b then one_if_mapped (Some h) else mapped_bit f frames)
+    by_test true is = ap (λ (k : ℕ). mapped_bit k (set frames n h)) (sym (same n f is)) ∙ ap one_if_mapped (slice_get-set_same frames n h within)
+    by_test false is = ap one_if_mapped (slice_get-set_other frames n f h (apart n f is))
 
 pub is_mapped-bit : (frames : List Holding) (f : ℕ) → 1 ≤ mapped_bit f frames → slice_get frames f ≡ Some Mapped
 is_mapped-bit frames f one = go (slice_get frames f) one
   where
-    go : (o : Option Holding) → 1 ≤ mapped_once o → o ≡ Some Mapped
+    go : (o : Option Holding) → 1 ≤ one_if_mapped o → o ≡ Some Mapped
     go None one = absurd (omega arith)
     go (Some Free) one = absurd (omega arith)
     go (Some Mapped) one = refl

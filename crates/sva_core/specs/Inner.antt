@@ -27,4 +27,4 @@ wire_of host =
 pub record IsHost (host : Inside) : Type 0 where
   pub numbered : AreNumbered host.spaces.items host.next_space
   pub owned : (frame : ℕ) → count_all frame host.spaces.items ≤ mapped_bit frame host.pool
-  pub cookies : host.first ≤ 2 ^ 63
+  pub first : host.first ≤ 2 ^ 63

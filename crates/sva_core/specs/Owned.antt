@@ -3,13 +3,13 @@ use Rattle.std.specs.Prelude.{◌≡◌, ◌≤◌, ℕ, ◌+◌, Bool, Option, 
 use Rattle.sva_frames.specs.Frames.{Holding, Mapped}
 use Rattle.sva_space.specs.Calls.{count_in}
 
-abbrev pub mapped_once : Option Holding → ℕ
-mapped_once (Some Mapped) = 1
-mapped_once _ = 0
+abbrev pub one_if_mapped : Option Holding → ℕ
+one_if_mapped (Some Mapped) = 1
+one_if_mapped _ = 0
 
 -- 1 where the frame is mapped in the pool, else 0
 abbrev pub mapped_bit : (frame : ℕ) → List Holding → ℕ
-mapped_bit frame frames = mapped_once (slice_get frames frame)
+mapped_bit frame frames = one_if_mapped (slice_get frames frame)
 
 -- each page of the space leads to a frame that is mapped in the pool, no two to one
 abbrev pub Owns : List (ℕ × (ℕ × Bool)) → List Holding → Type 0

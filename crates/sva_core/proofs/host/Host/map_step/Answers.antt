@@ -28,7 +28,7 @@ invariant_of-self c =
     record {
       numbered = numbered-at lives c.self.inside.next_space c.in-Some.place live c.map_page.new.space c.self.invariant.numbered at.there;
       owned = owned-at lives c.self.inside.pool c.map_page.new.pool c.in-Some.place live c.map_page.new.space c.self.invariant.owned at.there c.map_page.ensures.balanced;
-      cookies = c.self.invariant.cookies;
+      first = c.self.invariant.first;
     }
 
 pub returns-clause-step : goal.returns-clause-step

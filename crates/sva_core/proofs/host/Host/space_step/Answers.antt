@@ -15,5 +15,5 @@ invariant_of-self-2 c =
       owned =
           λ f. subst (λ (ls : List Live). count_all f ls ≤ mapped_bit f c.self.inside.pool) (sym added)
           (owned-new lives c.self.inside.pool (record { number = c.self.inside.next_space; space = c.new.result }) c.self.invariant.owned c.new.ensures f);
-      cookies = c.self.invariant.cookies;
+      first = c.self.invariant.first;
     }

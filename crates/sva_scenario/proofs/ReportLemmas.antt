@@ -89,7 +89,7 @@ reporting_step config before after step left whole old now new result r ne follo
           ∙ r.rest;
     }
 
--- a front of the next line is written, and so a front of the whole
+-- a prefix of the next line is written, and so a prefix of the whole
 pub reporting_cut : (config : Config) (before after : Wire) (step : Step) (left : List Step) (whole : List ℕ) (old now new : Option (List ℕ)) (result : Reply)
     → Reporting config before (step ∷ left) whole old now → (result ≡ Err OutOfMemory → ⊥) → Follows before step result after
     → AppendsPrefix now new (ended (reply_text result)) → AppendsPrefix old new whole
@@ -101,7 +101,7 @@ reporting_cut config before after step left whole old now new result r ne follow
     subst (AppendsPrefix old new) all
     (AppendsPrefix-longer old new (r.written ++ line) (steps_report (next w step) left) (AppendsPrefix-after old now new r.written line r.appended front))
 
--- what is written is a front of the whole
+-- what is written is a prefix of the whole
 pub reporting_stop : (config : Config) (seen : Wire) (left : List Step) (whole : List ℕ) (old now : Option (List ℕ)) → Reporting config seen left whole old now
     → AppendsPrefix old now whole
 reporting_stop config seen left whole old now r = (r.written, steps_report (world_after config r.taken) left, r.rest, r.appended)

@@ -1,5 +1,5 @@
 -- Lemmas on the scenarios that the grammar reads: which steps they have and how many, that a text which is too large needs
--- no more than its front, and what the test of a config means.
+-- no more than a prefix of it, and what the test of a config means.
 use Rattle.std.proofs.Common.{◌≡◌, ◌<◌, ◌≤◌, ◌+◌, ◌∙◌, ap, sym, subst, arith, ℕ, zero, suc, List, [], ◌∷◌, Bool, true, false, not, ◌||◌, cond, ltb, length, take, drop, drop-cons, get_or, refl, Option, Some, None, IfSome, Result, Ok, Err}
 use Rattle.std.specs.Prelude.{IfOk}
 use Rattle.std.specs.Result.{IsErr}
@@ -129,7 +129,7 @@ pub scenario_built : (text : List ℕ) → ScriptBuilt 65536 (scenario_of text)
 unfolding scenario_of
 scenario_built text = size_built (is_too_large text) text (λ small. ltb-false 65536 (length (lines_of text)) (no_or _ _ small))
 
--- ---- The front of a text
+-- ---- The prefix of a text
 
 too_large : (text : List ℕ) → 1048576 < length text → scenario_of text ≡ fault 0 TooLarge
 unfolding scenario_of
@@ -241,7 +241,7 @@ kept_outcome known kept text (Err fault) e h o = tt
 kept_outcome None kept text (Ok outcome) e h o = tt
 kept_outcome (Some input) kept text (Ok outcome) e h o = o ∙ ap outcome_by (ap scenario_of (e ∙ h) ∙ front_scenario input)
 
--- a fault stands where a front was written
+-- a fault stands where a prefix was written
 pub writes_front : {A : Type 0} (old new : Option (List ℕ)) (bytes : List ℕ) (result : Result A DriveFault) → IsErr result → AppendsPrefix old new bytes → Writes old new bytes result
 writes_front old new bytes (Ok x) e front = absurd (cc)
 writes_front old new bytes (Err fault) e front = front

@@ -55,7 +55,7 @@ KeepsFront-more most n more (Some xs) (Some ys) (Some zs) kept new piece m e h r
   e ∙ ap (λ k. kept ++ take k piece) m ∙ kept_more most n h.0 kept piece h.2,
 )
 
--- nothing more was read since all is: what is kept is all, or its front
+-- nothing more was read since all is: what is kept is all, or a prefix of it
 pub KeepsFront-all : (most n : ℕ) (a b c : Option (List ℕ)) (kept piece : List ℕ) → n ≡ 0 → KeepsFront most a b kept → Consumes b c (take n piece) → IsAtEnd c
     → IfSome a (λ input. kept ≡ take most input)
 KeepsFront-all most n None b c kept piece z h r end = tt
@@ -79,7 +79,7 @@ Appends-more (Some x) (Some y) (Some z) bytes written n p q =
     ∙ ap (λ l. x ++ (take written bytes ++ take n l)) (take_rest bytes written)
     ∙ ap (λ l. x ++ l) (sym (take-add written n bytes))
 
--- where a call fails, a front of the bytes is written, and some are left
+-- where a call fails, a prefix of the bytes is written, and some are left
 pub AppendsPrefix-cut : (a b c : Option (List ℕ)) (bytes : List ℕ) (written : ℕ) → written < length bytes → Appends a b (take written bytes) → Keeps b c → AppendsProperPrefix a c bytes
 AppendsPrefix-cut a b c bytes written within p q =
     let left : 0 < length (drop written bytes) = omega (arith, length-drop written bytes, within) in
@@ -93,11 +93,11 @@ Consumes-some most n (Some xs) (Some ys) None kept piece some within h r = absur
 Consumes-some most n (Some xs) (Some ys) (Some zs) kept piece some within h r =
     omega (arith, ap length h.1, length-append h.0 ys, ap length r, length-append (take n piece) zs, length-take n piece, some, within)
 
--- a front of the bytes that come next is a front of all of them
+-- a prefix of the bytes that come next is, behind what was written, a prefix of all of them
 pub AppendsPrefix-after : (a b c : Option (List ℕ)) (first next : List ℕ) → Appends a b first → AppendsPrefix b c next → AppendsPrefix a c (first ++ next)
 AppendsPrefix-after a b c first next p q =
     (first ++ q.0, q.1, append_assoc first q.0 q.1 ∙ ap (λ l. first ++ l) q.2, Appends-trans a b c first q.0 p q.3)
 
--- a front of some bytes is one of these and of what would follow them
+-- a prefix of some bytes is one of these and of what would follow them
 pub AppendsPrefix-longer : (a b : Option (List ℕ)) (bytes more : List ℕ) → AppendsPrefix a b bytes → AppendsPrefix a b (bytes ++ more)
 AppendsPrefix-longer a b bytes more p = (p.0, p.1 ++ more, sym (append_assoc p.0 p.1 more) ∙ ap (λ l. l ++ more) p.2, p.3)

@@ -66,7 +66,7 @@ abbrev pub outcome_of : List ℕ → Outcome
 outcome_of text = outcome_by (scenario_of text)
 
 -- What was written is the report of some steps, as the definitions have it from each world after some list of steps that
--- is seen so; a front of it where the result is a fault.
+-- is seen so; a prefix of it where the result is a fault.
 abbrev pub ReportsFrom : {A : Type 0} → Wire → List Step → Option (List ℕ) → Option (List ℕ) → Result A DriveFault → Type 0
 ReportsFrom seen steps old new result =
     (config : Config) (taken : List Step) → Fits config → seen ≡ wire (world_after config taken)

@@ -9,15 +9,15 @@ use Rattle.sva_scenario.specs.declared.streams.Told.{Told}
 abbrev pub IsNew : {T : Type 0} → Told T → Type 0
 IsNew told = (told.calls ≡ 0) × (told.failures ≡ 0)
 
--- known bytes grow by a front of some bytes
+-- known bytes grow by a prefix of some bytes
 abbrev pub AppendsPrefix : Option (List ℕ) → Option (List ℕ) → List ℕ → Type 0
 AppendsPrefix old new bytes = (front : List ℕ) × (rest : List ℕ) × (front ++ rest ≡ bytes) × Appends old new front
 
--- known bytes grow by a front of some bytes, and not by all of them
+-- known bytes grow by a prefix of some bytes, and not by all of them
 abbrev pub AppendsProperPrefix : Option (List ℕ) → Option (List ℕ) → List ℕ → Type 0
 AppendsProperPrefix old new bytes = (front : List ℕ) × (rest : List ℕ) × (front ++ rest ≡ bytes) × Appends old new front × (0 < length rest)
 
--- known bytes grow by some bytes, or by a front of them where the result is a fault
+-- known bytes grow by some bytes, or by a prefix of them where the result is a fault
 abbrev pub Writes : {A : Type 0} → Option (List ℕ) → Option (List ℕ) → List ℕ → Result A DriveFault → Type 0
 Writes old new bytes (Ok x) = Appends old new bytes
 Writes old new bytes (Err fault) = AppendsPrefix old new bytes

@@ -18,7 +18,7 @@ use sva_core::World;
 use sva_step::{Answer, Config, Refusal, Step};
 
 /// Reads a scenario to its end, runs its steps, and writes its report line by line. `Faulted` tells that the report is a
-/// line fault or a refused config. After `Write` or `Memory` a front of the report was written, after `Read` nothing.
+/// line fault or a refused config. After `Write` or `Memory` a prefix of the report was written, after `Read` nothing.
 /// The first want of memory ends the run, also where a step meets it.
 pub fn drive<R: Read, W: Write>(
     alloc: Global,

@@ -27,13 +27,13 @@ pub fn read_all<R: Read>(alloc: Global, reader: &mut Told<R>) -> Result<Vec<u8>,
     let mut kept = Vec::new(alloc);
     let mut piece = [0u8; 4096];
     for _turn in 0..MOST_TURNS {
-        let Some(n) = reader.read_once(&mut piece) else {
+        let Some(count) = reader.read_once(&mut piece) else {
             return Err(DriveFault::Read);
         };
-        if n == 0 {
+        if count == 0 {
             return Ok(kept);
         }
-        let more = n.min(MOST_KEPT - kept.len());
+        let more = count.min(MOST_KEPT - kept.len());
         if kept.extend_from_slice(&piece[..more]).is_err() {
             return Err(DriveFault::Memory);
         }

@@ -205,7 +205,7 @@ fn stops_where_nothing_is_taken(rt: HostRuntime) {
     assert_eq!(rt; (writer.calls, writer.failures), (1, 1));
 }
 
-/// With ample memory the report is whole. Where an allocation fails, a front of it is written, and nothing failed.
+/// With ample memory the report is whole. Where an allocation fails, a prefix of it is written, and nothing failed.
 #[test]
 fn stops_where_memory_lacks(rt: HostRuntime) {
     let alloc = rt.alloc();

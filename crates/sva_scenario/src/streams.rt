@@ -57,15 +57,15 @@ impl<R: Read> Told<R> {
         requires calls { self.old.calls + 1 < 2 ^ 64 }
         requires failures { self.old.failures + 1 < 2 ^ 64 }
         ensures calls { self.new.calls ≡ self.old.calls + 1 }
-        ensures read { IfSome result (λ n. (n ≤ length piece.new) × (self.new.failures ≡ self.old.failures)
-            × Consumes (R.remaining self.old.inner) (R.remaining self.new.inner) (take n piece.new)) }
+        ensures read { IfSome result (λ count. (count ≤ length piece.new) × (self.new.failures ≡ self.old.failures)
+            × Consumes (R.remaining self.old.inner) (R.remaining self.new.inner) (take count piece.new)) }
         ensures end { result ≡ Some 0 → 0 < length piece.new → IsAtEnd (R.remaining self.new.inner) }
         ensures failed { IfNone result ((self.new.failures ≡ self.old.failures + 1)
             × Keeps (R.remaining self.old.inner) (R.remaining self.new.inner)) }
     {
         self.calls += 1;
         match self.inner.read(piece) {
-            Ok(n) => Some(n),
+            Ok(count) => Some(count),
             Err(_) => {
                 self.failures += 1;
                 None
@@ -80,14 +80,14 @@ impl<W: Write> Told<W> {
         requires calls { self.old.calls + 1 < 2 ^ 64 }
         requires failures { self.old.failures + 1 < 2 ^ 64 }
         ensures calls { self.new.calls ≡ self.old.calls + 1 }
-        ensures written { IfSome result (λ n. (0 < n) × (n ≤ length bytes.now) × (self.new.failures ≡ self.old.failures)
-            × Appends (W.contents self.old.inner) (W.contents self.new.inner) (take n bytes.now)) }
+        ensures written { IfSome result (λ count. (0 < count) × (count ≤ length bytes.now) × (self.new.failures ≡ self.old.failures)
+            × Appends (W.contents self.old.inner) (W.contents self.new.inner) (take count bytes.now)) }
         ensures failed { IfNone result ((self.new.failures ≡ self.old.failures + 1)
             × Keeps (W.contents self.old.inner) (W.contents self.new.inner)) }
     {
         self.calls += 1;
         match self.inner.write(bytes) {
-            Ok(n) if n > 0 => Some(n),
+            Ok(count) if count > 0 => Some(count),
             _ => {
                 self.failures += 1;
                 None

@@ -6,7 +6,7 @@ use crate::streams::{DriveFault, Told};
 use std::io::Write;
 
 /// Writes all the bytes, by as many calls of `write` as that takes. `Write` where a call fails or takes nothing, the
-/// first such call at once; a front of the bytes was written then, and not all of them.
+/// first such call at once; a prefix of the bytes was written then, and not all of them.
 pub fn write_all<W: Write>(writer: &mut Told<W>, bytes: &[u8]) -> Result<(), DriveFault>
     requires calls { writer.old.calls + length bytes.now < 2 ^ 64 }
     requires failures { writer.old.failures + 1 < 2 ^ 64 }
@@ -18,10 +18,10 @@ pub fn write_all<W: Write>(writer: &mut Told<W>, bytes: &[u8]) -> Result<(), Dri
 {
     let mut written = 0;
     while written < bytes.len() {
-        let Some(n) = writer.write_once(&bytes[written..]) else {
+        let Some(count) = writer.write_once(&bytes[written..]) else {
             return Err(DriveFault::Write);
         };
-        written += n;
+        written += count;
     }
     Ok(())
 }

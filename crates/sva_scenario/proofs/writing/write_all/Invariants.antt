@@ -2,7 +2,7 @@ use Rattle.std.proofs.Common.{length, ◌-◌, ◌≡◌, ◌+◌, ◌≤◌, ta
 use Rattle.std.specs.Io.KnownBytes.{Appends}
 use Rattle.sva_scenario.proofs.writing.write_all.Given as goal
 
--- a front of the bytes is written, by calls that each took one or more
+-- a prefix of the bytes is written, by calls that each took one or more
 abbrev pub invariant-loop-written : goal.invariant-loop-written
 invariant-loop-written g l = record {
   inside : l.written ≤ length l.bytes;

@@ -15,8 +15,8 @@ use std::marker::Model;
 use sva_frames::Counts;
 use sva_step::{Answer, Config, Refusal, Step};
 
-/// A host with its endpoints and the link between them. Contracts see what they keep of the records. A world must be
-/// spent: see `close`.
+/// The frames, the live spaces and the counters of a host. No step reaches its endpoints, its workers or the link yet:
+/// they are as they were at first. Contracts see what all of it keeps of the records. A world must be spent: see `close`.
 pub struct World {
     host: Host,
 }
@@ -49,8 +49,9 @@ impl World {
         }
     }
 
-    /// Takes one step, of the kinds that `is_built` tells. A refused step changes nothing. `OutOfMemory` is answered only
-    /// where a growth was refused and the step would have been accepted, and never by an unmap, which takes no memory.
+    /// Takes one step, of the kinds that `is_built` tells. A refused step changes nothing. `OutOfMemory` is answered where
+    /// a growth is refused; the contract says that the definitions accept the step then and that nothing changes, and
+    /// that an unmap, which takes no memory, never answers so.
     pub fn apply(&mut self, step: &Step) -> Result<Answer, Refusal>
         requires { IsOfSpaces step.now }
         ensures step { Follows self.old step.now result self.new }

@@ -32,8 +32,8 @@ impl Model for Scenario {
     ghost view = { λ s. record { config = s.config; steps = s.steps.items } };
 }
 
-/// The scenario that a text writes. `Line` is the text's first fault; `Memory` comes only where a growth was refused, and
-/// never where the text is too large.
+/// The scenario that a text writes. `Line` is the text's first fault. `Memory` comes where a growth is refused; the
+/// contract says that the text isn't too large then.
 #[tactic(auto, unfolding(crate::specs::Grammar::scenario_of))]
 pub fn parse(alloc: Global, text: &[u8]) -> Result<Scenario, ParseFault>
     ensures read { Reads (λ s. s) result (scenario_of text.now) }

@@ -10,16 +10,13 @@ ghost use Rattle.sva_core.specs.Pieces.{are_mapped, MapsPage, UnmapsPages};
 
 use sva_frames::FramePool;
 use sva_space::Space;
-use sva_step::{Answer, FrameList, Refusal};
+use sva_step::{Answer, FrameList, MOST_PAGES, Refusal};
 
 /// Page numbers are below this.
 const PAGES: u64 = 1 << 36;
 
 /// How many pages a space has at most.
 const MOST_MAPPED: usize = 1024;
-
-/// How many pages one step unmaps at most.
-const MOST_UNMAPPED: u64 = 48;
 
 /// Maps a page to the lowest free frame.
 pub fn map_page(
@@ -65,7 +62,7 @@ pub fn unmap_pages(
     ensures memory { result ≢ Err refusal.OutOfMemory }
     ensures balanced { Balanced space.old pool.old space.new pool.new }
 {
-    if count < 1 || count > MOST_UNMAPPED {
+    if count < 1 || count > MOST_PAGES as u64 {
         return Err(Refusal::BadCount);
     }
     if page > PAGES - count {

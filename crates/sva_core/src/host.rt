@@ -80,7 +80,24 @@ impl Host {
             Step::Space => self.space_step(),
             Step::Map { space, page, write } => self.map_step(*space, *page, *write),
             Step::Unmap { space, page, count } => self.unmap_step(*space, *page, *count),
-            _ => unreachable!(),
+            Step::DropSpace { .. }
+            | Step::Bind { .. }
+            | Step::Unbind { .. }
+            | Step::Advance { .. }
+            | Step::Pump { .. }
+            | Step::Serve { .. }
+            | Step::Reset { .. }
+            | Step::Take { .. }
+            | Step::Reply { .. }
+            | Step::Ask { .. }
+            | Step::BeginUse { .. }
+            | Step::EndUse { .. }
+            | Step::Evict { .. }
+            | Step::Fault { .. }
+            | Step::Finish { .. }
+            | Step::Quit { .. }
+            | Step::Deliver { .. }
+            | Step::Look { .. } => unreachable!(),
         }
     }
 

@@ -48,7 +48,7 @@ appends_nothing : (old : Option (List ℕ)) → Appends old old []
 appends_nothing None = tt
 appends_nothing (Some xs) = sym (append-nil xs)
 
--- nothing written is a front of each report
+-- nothing written is a prefix of each report
 pub unwritten : (input old new : Option (List ℕ)) → new ≡ old → Reports input old new (Err Memory)
 unwritten None old new e = tt
 unwritten (Some text) old new e = ([], report_of text, refl, subst (λ n. Appends old n []) (sym e) (appends_nothing old))

@@ -1,4 +1,4 @@
--- A text is said: all of it where no call failed, and else a front of it.
+-- A text is said: all of it where no call failed, and else a prefix of it.
 use Rattle.std.proofs.Common.{arith, append-nil, ◌≡◌, ◌+◌, ℕ, List, [], Option, Result, Ok, Err, OnOk, IfErr}
 use Rattle.std.specs.Io.KnownBytes.{Appends}
 use Rattle.sva_scenario.specs.Streams.{AppendsProperPrefix}

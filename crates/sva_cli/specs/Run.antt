@@ -31,7 +31,7 @@ abbrev pub complaint : Result Outcome DriveFault → List ℕ
 complaint (Ok outcome) = []
 complaint (Err fault) = fault_line fault
 
--- a stream was given a text: all of it where no call failed, and else a front of it, up to the first failure
+-- a stream was given a text: all of it where no call failed, and else a prefix of it, up to the first failure
 abbrev pub Says : {T : Type 0} → (T → Option (List ℕ)) → Told T → Told T → List ℕ → Type 0
 Says contents old new text =
     AppendsPrefix (contents old.inner) (contents new.inner) text
@@ -39,7 +39,7 @@ Says contents old new text =
     × (old.failures ≤ new.failures)
     × (new.failures ≤ old.failures + 1)
 
--- what a replay wrote, where the input is known: its report; after a fault a front of the report, and nothing after a read fault
+-- what a replay wrote, where the input is known: its report; after a fault a prefix of the report, and nothing after a read fault
 abbrev pub Reports : Option (List ℕ) → Option (List ℕ) → Option (List ℕ) → Result Outcome DriveFault → Type 0
 Reports input old new (Ok outcome) = IfSome input (λ text. (outcome ≡ outcome_of text) × Appends old new (report_of text))
 Reports input old new (Err Read) = Keeps old new

@@ -205,7 +205,7 @@ fn tells_of_a_read_fault(rt: HostRuntime) -> Result<(), Fail> {
     Ok(())
 }
 
-/// A run whose writer fails after so many bytes: is the status 1, are these bytes the text's front, and is the write
+/// A run whose writer fails after so many bytes: is the status 1, are these bytes a prefix of the text, and is the write
 /// fault told?
 fn ends_in_write_fault<R: AllocGlobal>(
     rt: &R,

@@ -27,32 +27,38 @@ no_space_unmap w n q count none =
     let is : reply_of w (step.Unmap n q count) ≡ Err refusal.NoSuchSpace = ap (λ o. in_space o (unmap_reply q count)) none in
     (sym is, sym (ap (changed w (step.Unmap n q count)) is))
 
+-- one space has other pages, and the others are as they were
+pub record OneChanged (spaces : List SpaceWire) (number : ℕ) (pages pages_after : List PageWire) (spaces_after : List SpaceWire) : Type 0 where
+  pub found : pages_of spaces number ≡ Some pages
+  pub kept : pages_after ≡ pages → spaces_after ≡ spaces
+  pub put : (change : List PageWire → List PageWire) → pages_after ≡ change pages → spaces_after ≡ with_pages spaces number change
+
 -- a map in the space of a number
-pub by_map : (w : Wire) (n q : ℕ) (x : Bool) (result : Reply) (pages pages_after : List PageWire) (spaces_after : List SpaceWire) (places_after : List PlaceWire) → pages_of w.spaces n ≡ Some pages → (pages_after ≡ pages → spaces_after ≡ w.spaces) → ((change : List PageWire → List PageWire) → pages_after ≡ change pages → spaces_after ≡ with_pages w.spaces n change) → MapsPage pages w.places q x result pages_after places_after → ByNumbers w (step.Map n q x) result (with_spaces w spaces_after places_after)
-by_map w n q x (Err refusal.OutOfMemory) pages pages_after spaces_after places_after found kept put maps = (
-  ap (λ o. is_ok (in_space o (map_reply w.places q))) found ∙ maps.0,
-  both w spaces_after w.spaces places_after w.places (kept maps.1) maps.2,
+pub by_map : (w : Wire) (n q : ℕ) (x : Bool) (result : Reply) (pages pages_after : List PageWire) (spaces_after : List SpaceWire) (places_after : List PlaceWire) → OneChanged w.spaces n pages pages_after spaces_after → MapsPage pages w.places q x result pages_after places_after → ByNumbers w (step.Map n q x) result (with_spaces w spaces_after places_after)
+by_map w n q x (Err refusal.OutOfMemory) pages pages_after spaces_after places_after one maps = (
+  ap (λ o. is_ok (in_space o (map_reply w.places q))) one.found ∙ maps.0,
+  both w spaces_after w.spaces places_after w.places (one.kept maps.1) maps.2,
 )
-by_map w n q x (Ok (answer.Frame f)) pages pages_after spaces_after places_after found kept put maps =
-    let is : reply_of w (step.Map n q x) ≡ Ok (answer.Frame f) = ap (λ o. in_space o (map_reply w.places q)) found ∙ sym maps.0 in (
+by_map w n q x (Ok (answer.Frame f)) pages pages_after spaces_after places_after one maps =
+    let is : reply_of w (step.Map n q x) ≡ Ok (answer.Frame f) = ap (λ o. in_space o (map_reply w.places q)) one.found ∙ sym maps.0 in (
       sym is,
-      both w spaces_after (with_pages w.spaces n (insert_by is_lower_page (record { page = q; frame = f; write = x }))) places_after (slice_set w.places f MappedWire) (put (insert_by is_lower_page (record { page = q; frame = f; write = x })) maps.1.0) maps.1.1
+      both w spaces_after (with_pages w.spaces n (insert_by is_lower_page (record { page = q; frame = f; write = x }))) places_after (slice_set w.places f MappedWire) (one.put (insert_by is_lower_page (record { page = q; frame = f; write = x })) maps.1.0) maps.1.1
           ∙ sym (ap (changed w (step.Map n q x)) is),
     )
-by_map w n q x result pages pages_after spaces_after places_after found kept put maps =
-    let is : reply_of w (step.Map n q x) ≡ result = ap (λ o. in_space o (map_reply w.places q)) found ∙ sym maps.0 in
-    (sym is, both w spaces_after w.spaces places_after w.places (kept maps.1.0) maps.1.1 ∙ sym (ap (changed w (step.Map n q x)) is))
+by_map w n q x result pages pages_after spaces_after places_after one maps =
+    let is : reply_of w (step.Map n q x) ≡ result = ap (λ o. in_space o (map_reply w.places q)) one.found ∙ sym maps.0 in
+    (sym is, both w spaces_after w.spaces places_after w.places (one.kept maps.1.0) maps.1.1 ∙ sym (ap (changed w (step.Map n q x)) is))
 
 -- an unmap in the space of a number
-pub by_unmap : (w : Wire) (n q count : ℕ) (result : Reply) (pages pages_after : List PageWire) (spaces_after : List SpaceWire) (places_after : List PlaceWire) → pages_of w.spaces n ≡ Some pages → (pages_after ≡ pages → spaces_after ≡ w.spaces) → ((change : List PageWire → List PageWire) → pages_after ≡ change pages → spaces_after ≡ with_pages w.spaces n change) → UnmapsPages pages w.places q count result pages_after places_after → ByNumbers w (step.Unmap n q count) result (with_spaces w spaces_after places_after)
-by_unmap w n q count (Ok (answer.FreeFrames frames)) pages pages_after spaces_after places_after found kept put unmaps =
-    let is : reply_of w (step.Unmap n q count) ≡ Ok (answer.FreeFrames frames) = ap (λ o. in_space o (unmap_reply q count)) found ∙ unmaps.0 in (
+pub by_unmap : (w : Wire) (n q count : ℕ) (result : Reply) (pages pages_after : List PageWire) (spaces_after : List SpaceWire) (places_after : List PlaceWire) → OneChanged w.spaces n pages pages_after spaces_after → UnmapsPages pages w.places q count result pages_after places_after → ByNumbers w (step.Unmap n q count) result (with_spaces w spaces_after places_after)
+by_unmap w n q count (Ok (answer.FreeFrames frames)) pages pages_after spaces_after places_after one unmaps =
+    let is : reply_of w (step.Unmap n q count) ≡ Ok (answer.FreeFrames frames) = ap (λ o. in_space o (unmap_reply q count)) one.found ∙ unmaps.0 in (
       sym is,
-      both w spaces_after (with_pages w.spaces n (without q count)) places_after (freed w.places frames) (put (without q count) unmaps.1) unmaps.2
+      both w spaces_after (with_pages w.spaces n (without q count)) places_after (freed w.places frames) (one.put (without q count) unmaps.1) unmaps.2
           ∙ sym (ap (changed w (step.Unmap n q count)) is),
     )
-by_unmap w n q count (Ok _) pages pages_after spaces_after places_after found kept put unmaps = absurd unmaps
-by_unmap w n q count (Err refusal.OutOfMemory) pages pages_after spaces_after places_after found kept put unmaps = absurd unmaps
-by_unmap w n q count result pages pages_after spaces_after places_after found kept put unmaps =
-    let is : reply_of w (step.Unmap n q count) ≡ result = ap (λ o. in_space o (unmap_reply q count)) found ∙ sym unmaps.0 in
-    (sym is, both w spaces_after w.spaces places_after w.places (kept unmaps.1) unmaps.2 ∙ sym (ap (changed w (step.Unmap n q count)) is))
+by_unmap w n q count (Ok _) pages pages_after spaces_after places_after one unmaps = absurd unmaps
+by_unmap w n q count (Err refusal.OutOfMemory) pages pages_after spaces_after places_after one unmaps = absurd unmaps
+by_unmap w n q count result pages pages_after spaces_after places_after one unmaps =
+    let is : reply_of w (step.Unmap n q count) ≡ result = ap (λ o. in_space o (unmap_reply q count)) one.found ∙ sym unmaps.0 in
+    (sym is, both w spaces_after w.spaces places_after w.places (one.kept unmaps.1) unmaps.2 ∙ sym (ap (changed w (step.Unmap n q count)) is))

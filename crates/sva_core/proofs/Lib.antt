@@ -5,5 +5,6 @@ pub mod Replies
 pub mod Taking
 pub mod LiveLists
 pub mod HostSteps
+pub mod ChangedSpace
 pub mod Opening
 pub mod Reaching

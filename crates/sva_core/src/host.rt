@@ -16,13 +16,10 @@ use std::alloc::{AllocError, Global};
 use std::marker::Model;
 use sva_frames::{Counts, FramePool};
 use sva_space::Space;
-use sva_step::{Answer, Config, Refusal, Step};
+use sva_step::{Answer, Config, NUMBERS, Refusal, Step};
 
 /// How many spaces live at most.
 const MOST_SPACES: usize = 64;
-
-/// Numbers are below this.
-const NUMBERS: u64 = 1 << 63;
 
 /// The frames, the live spaces and the counters. Contracts see what a host keeps of the records. It must be spent.
 pub struct Host {

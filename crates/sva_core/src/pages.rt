@@ -10,10 +10,7 @@ ghost use Rattle.sva_core.specs.Pieces.{are_mapped, MapsPage, UnmapsPages};
 
 use sva_frames::FramePool;
 use sva_space::Space;
-use sva_step::{Answer, FrameList, MOST_PAGES, Refusal};
-
-/// Page numbers are below this.
-const PAGES: u64 = 1 << 36;
+use sva_step::{Answer, FrameList, MOST_PAGES, PAGES, Refusal};
 
 /// How many pages a space has at most.
 const MOST_MAPPED: usize = 1024;

@@ -13,6 +13,6 @@ mod tests;
 
 pub use answers::{Answer, texts_tell_apart};
 pub use frame_list::{FrameList, MOST_PAGES};
-pub use limits::Config;
+pub use limits::{Config, NUMBERS, PAGES};
 pub use refusals::{Refusal, refusals_tell_apart};
 pub use steps::{Step, Verdict};

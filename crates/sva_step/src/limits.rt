@@ -1,6 +1,12 @@
 ghost use Rattle.std.specs.Prelude.{◌↔◌, IsTrue};
 ghost use Rattle.sva_step.specs.Limits.{Fits};
 
+/// Page numbers are below this (this project's own limit).
+pub const PAGES: u64 = 1 << 36;
+
+/// The numbers of spaces, bindings, messages and cookies are below this (this project's own limit).
+pub const NUMBERS: u64 = 1 << 63;
+
 /// How large a world is, and where its numbers begin.
 #[derive(Clone, Copy, Debug, PartialEq, Eq)]
 pub struct Config {
@@ -22,6 +28,6 @@ impl Config {
         (1..=8).contains(&self.endpoints)
             && (1..=4096).contains(&self.frames)
             && (1..=4).contains(&self.workers)
-            && self.first <= 1 << 63
+            && self.first <= NUMBERS
     }
 }

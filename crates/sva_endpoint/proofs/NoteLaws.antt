@@ -16,7 +16,7 @@ use Rattle.sva_msg.specs.declared.messages.Kind.TheVariants.{Reset, Invalidate}
 use Rattle.sva_tables.specs.declared.use_slots.UseSlot.TheVariants.{Free}
 use Rattle.sva_tables.specs.declared.taken_table.Taken.{Taken}
 use Rattle.sva_tables.specs.UseSlots.{slot_at, runs_covered}
-use Rattle.sva_tables.specs.Vectors.{is_named}
+use Rattle.sva_itags.specs.Vector.{is_named}
 use Rattle.sva_tables.specs.Taken.{waits, are_pending, is_one_waiting, without_note}
 use Rattle.sva_endpoint.specs.Tables.{Tables}
 use Rattle.sva_endpoint.specs.Steps.{unless, finishing}

@@ -28,7 +28,7 @@ use Rattle.sva_tables.specs.Cache.{Key, Translations, key_cmp, key_cmp_total, ha
 use Rattle.sva_tables.specs.PasidStates.{state_of}
 use Rattle.sva_tables.specs.RequestTags.{request_at, doomed_by}
 use Rattle.sva_tables.specs.UseSlots.{slot_at, is_free as is_free_slot, runs_covered, cut_off}
-use Rattle.sva_tables.specs.Vectors.{is_named}
+use Rattle.sva_itags.specs.Vector.{is_named}
 use Rattle.sva_tables.specs.Taken.{without_note}
 use Rattle.sva_tables.specs.Groups.{is_free, group_at, group_of, with_request, requests_of, outstanding, stale_of, HaveRequests}
 use Rattle.sva_endpoint.specs.Tables.{Tables, fresh}

@@ -13,7 +13,7 @@ use Rattle.sva_tables.specs.declared.use_slots.Use.{Use}
 use Rattle.sva_tables.specs.declared.use_slots.UseSlot.TheVariants.{Free, Running}
 use Rattle.sva_tables.specs.declared.taken_table.Taken.{Taken}
 use Rattle.sva_tables.specs.UseSlots.{slot_at, is_free, runs_covered}
-use Rattle.sva_tables.specs.Vectors.{is_named}
+use Rattle.sva_itags.specs.Vector.{is_named}
 use Rattle.sva_tables.specs.Taken.{waits, is_one_waiting, without_note}
 use Rattle.sva_endpoint.specs.Tables.{Tables}
 use Rattle.sva_endpoint.specs.Steps.{lowest_slot, finishing, refusals_of_use, refusals_of_finish}

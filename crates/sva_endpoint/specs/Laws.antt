@@ -19,7 +19,7 @@ use Rattle.sva_tables.specs.Coverage.{covers}
 use Rattle.sva_tables.specs.PasidStates.{state_of}
 use Rattle.sva_tables.specs.RequestTags.{request_at}
 use Rattle.sva_tables.specs.UseSlots.{slot_at, is_free as is_free_slot, runs_covered}
-use Rattle.sva_tables.specs.Vectors.{is_named}
+use Rattle.sva_itags.specs.Vector.{is_named}
 use Rattle.sva_tables.specs.Groups.{is_free, group_at, outstanding, HaveRequests}
 use Rattle.sva_endpoint.specs.Tables.{Tables, fresh}
 use Rattle.sva_endpoint.specs.Steps.{ending, finishing}

@@ -6,7 +6,7 @@ use Rattle.std.proofs.lemmas.List.FromFn.{length-enumerate_from, get_or-enumerat
 use Rattle.std.proofs.lemmas.Bool.{cases_order, cases_lt}
 use Rattle.std.proofs.Math.ListN.{length-set}
 use Rattle.sva_tables.specs.declared.taken_table.Taken.{Taken}
-use Rattle.sva_tables.specs.Vectors.{is_named}
+use Rattle.sva_itags.specs.Vector.{is_named}
 use Rattle.sva_tables.specs.Taken.{without_named}
 
 -- ys is xs where those below i that the vector names are gone

@@ -6,4 +6,3 @@ pub mod PasidStates
 pub mod RequestTags
 pub mod Taken
 pub mod UseSlots
-pub mod Vectors

@@ -2,7 +2,7 @@
 use Rattle.std.specs.Prelude.{ℕ, Bool, false, List, map, replicate, slice_set, Option, Some, None, is_some, ◌&&◌, ◌||◌, not, if◌then◌else◌}
 use Rattle.std.specs.List.{list_any, list_all, enumerate_from}
 use Rattle.sva_tables.specs.declared.taken_table.Taken.{Taken}
-use Rattle.sva_tables.specs.Vectors.{is_named}
+use Rattle.sva_itags.specs.Vector.{is_named}
 
 -- the place T of the list is that of ITag T
 abbrev pub none_taken : List (Option Taken)

@@ -11,7 +11,6 @@ mod pasid_states;
 mod request_tags;
 mod taken_table;
 mod use_slots;
-mod vectors;
 
 pub use cached::{Cache, Translation};
 pub use coverage::Invalidation;

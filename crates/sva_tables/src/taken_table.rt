@@ -1,12 +1,12 @@
 ghost use Rattle.std.specs.Prelude.{◌≡◌, ◌<◌, Some, None, if◌then◌else◌, map, slice_set};
-ghost use Rattle.sva_tables.specs.Vectors.{is_named};
+ghost use Rattle.sva_itags.specs.Vector.{is_named};
 ghost use Rattle.sva_tables.specs.Taken.{without_note};
 
 use crate::coverage::Invalidation;
 use crate::limits::{ITAGS, USE_SLOTS};
-use crate::vectors::is_named;
 use arrayvec::ArrayVec;
 use std::marker::Model;
+use sva_itags::is_tag_named;
 
 /// An invalidation that was taken and isn't completed yet (PCI Express Base 5.0, section 10.3).
 #[derive(Clone, Copy, Debug, PartialEq, Eq)]
@@ -43,7 +43,11 @@ fn without_named(place: Option<Taken>, vector: u32, itag: usize) -> Option<Taken
     requires { itag < 32 }
     ensures { result ≡ (if is_named vector itag then None else place) }
 {
-    if is_named(vector, itag) { None } else { place }
+    if is_tag_named(vector, itag) {
+        None
+    } else {
+        place
+    }
 }
 
 // What is left in this place where the use of this slot is noted no more.
@@ -98,10 +102,9 @@ impl TakenTable {
     pub fn are_pending(&self, vector: u32) -> bool
         ensures { result ≡ are_pending vector self.now }
     {
-        self.places
-            .iter()
-            .enumerate()
-            .all(|(itag, place)| !is_named(vector, itag) || place.is_some())
+        self.places.iter().enumerate().all(|(itag, place)| {
+            !is_tag_named(vector, itag) || place.is_some()
+        })
     }
 
     /// Tells whether one of those that the vector names waits for a use that it noted (this project's own rule).
@@ -109,7 +112,7 @@ impl TakenTable {
         ensures { result ≡ is_one_waiting vector self.now }
     {
         self.places.iter().enumerate().any(|(itag, place)| match place {
-            Some(taken) => is_named(vector, itag) && taken.waits(),
+            Some(taken) => is_tag_named(vector, itag) && taken.waits(),
             None => false,
         })
     }

@@ -2,7 +2,7 @@ use Rattle.std.proofs.Common.{◌≡◌, ◌+◌, ◌∙◌, ap, subst, sym, len
 use Rattle.std.proofs.Math.ListN.{length-set}
 use Rattle.arrayvec.proofs.ArrayVecLemmas.{items-with_items}
 use Rattle.sva_tables.specs.Taken.{without_named}
-use Rattle.sva_tables.specs.Vectors.{is_named}
+use Rattle.sva_itags.specs.Vector.{is_named}
 use Rattle.sva_tables.proofs.TakenFacts.{IsCompletedBelow, completed_more, completed_all}
 use Rattle.sva_tables.proofs.taken_table.TakenTable.complete.Goals as goal
 

@@ -6,6 +6,7 @@ use Rattle.sva_step.specs.declared.refusals.Refusal.{Refusal}
 use Rattle.sva_step.specs.declared.refusals.Refusal.TheVariants.{PageRange, NotStarted, NoTag, NotHeld, ReadOnly, NoUseSlot, NoSuchUse, NoCredit, NoSuchGroup, PriDisabled, NotPending, InUse, BadCount, NotStopping, Busy}
 use Rattle.sva_step.specs.declared.answers.Answer.{Answer}
 use Rattle.sva_step.specs.declared.answers.Answer.TheVariants.{Ended, Dead}
+use Rattle.sva_model.specs.Acts.{count_field}
 use Rattle.sva_msg.specs.declared.messages.Kind.{Kind}
 use Rattle.sva_msg.specs.declared.messages.Kind.TheVariants.{Request, Invalidated, PageRequest, Marker}
 use Rattle.sva_tables.specs.declared.pasid_states.PasidState.{PasidState}
@@ -140,10 +141,6 @@ abbrev pub after_fault : Tables → Fault → Tables
 after_fault s fault = record s { groups = slice_set s.groups (index_for s fault.group) (group_after s fault fault.group) }
 
 -- ---- to complete invalidations
-
--- the Completion Count field: 8 is written 0
-abbrev pub count_field : ℕ → ℕ
-count_field count = if count == 8 then 0 else count
 
 abbrev pub refusals_of_finish : Tables → ℕ → ℕ → List (Bool × Refusal)
 refusals_of_finish s vector count =

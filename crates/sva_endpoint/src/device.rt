@@ -9,7 +9,7 @@ use crate::permitted::{Asking, Fault, Faulting, Finishing, Received, Using};
 use std::marker::Model;
 use sva_itags::Count;
 use sva_msg::{Code, CountField, Kind, Message};
-use sva_step::{Answer, Refusal};
+use sva_step::{Answer, PAGES, Refusal};
 use sva_tables::{
     Cache, GroupPlace, GroupTable, Invalidation, PasidState, PasidStates, RequestTag, RequestTags,
     Taken, TakenTable, Translation, Use, UseSlot, UseSlots,
@@ -17,9 +17,6 @@ use sva_tables::{
 
 #[cfg(test)]
 mod tests;
-
-/// Page numbers are below 2^36 (a limit of this project).
-const PAGES: u64 = 1 << 36;
 
 /// How many page requests may be outstanding (Outstanding Page Request Allocation, PCI Express Base 5.0, section 10.5.2; how
 /// many is a limit of this project).

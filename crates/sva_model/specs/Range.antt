@@ -1,0 +1,55 @@
+-- Ranges of pages. An Invalidate Request names a range of 2^k aligned pages by one address field and the bit S (PCI Express
+-- Base 5.0, section 10.3.1, with the coding of a Translation Completion's size, section 10.2.3.2): with S clear it is one page;
+-- with S set, the address bits from bit 0 of the page number upwards that are set before the first clear one, and that clear
+-- one, are no part of the address, and the range has as many times two pages as there are such bits. Here k is 9 at most.
+use Rattle.std.specs.Prelude.{ℕ, zero, suc, ◌+◌, ◌-◌, ◌*◌, ◌/◌, ◌%◌, ◌^◌, ◌≡◌, ◌<◌, ◌≤◌, Bool, true, false, ◌&&◌, ◌==◌, nat_lt, nat_le, if◌then◌else◌, Option, Some, None}
+
+-- 2^order pages from `base` on
+pub record Range : Type 0 where
+  pub base : ℕ
+  pub order : ℕ
+
+-- how many pages it has
+abbrev pub pages_in : Range → ℕ
+pages_in r = 2 ^ r.order
+
+-- is the page one of the range?
+abbrev pub is_in : Range → (page : ℕ) → Bool
+is_in r q = nat_le r.base q && nat_lt q (r.base + 2 ^ r.order)
+
+-- a range that can be coded: of 1 to 512 pages, aligned to its size, of page numbers below 2^36
+pub record IsRange (r : Range) : Type 0 where
+  pub small : r.order ≤ 9
+  pub low : r.base < 2 ^ 36
+  pub times : ℕ
+  pub aligned : r.base ≡ times * 2 ^ r.order
+
+-- the address field, as a page number, and the bit S
+pub record Code : Type 0 where
+  pub page : ℕ
+  pub s : Bool
+
+-- the code of a range
+abbrev pub encode_by : (base order : ℕ) → Code
+encode_by base zero = record { page = base; s = false }
+encode_by base (suc j) = record { page = base + (2 ^ j - 1); s = true }
+
+abbrev pub encode : Range → Code
+encode r = encode_by r.base r.order
+
+-- how many bits of a number are set, of the n lowest ones from bit 0 upwards, before the first that is clear
+abbrev pub ones : (n number : ℕ) → ℕ
+ones zero number = zero
+ones (suc n) number = if number % 2 == 1 then suc (ones n (number / 2)) else zero
+
+-- the range of 2^(j+1) pages about a page, by the j bits that are set
+abbrev pub range_about : (page j : ℕ) → Option Range
+range_about q j = if nat_lt j 9 then Some (record { base = q - q % 2 ^ suc j; order = suc j }) else None
+
+-- the range of a code; none where it has more than 512 pages, or is no page number
+abbrev pub decode_by : Bool → Code → Option Range
+decode_by false c = None
+decode_by true c = if c.s then range_about c.page (ones 9 c.page) else Some (record { base = c.page; order = 0 })
+
+abbrev pub decode : Code → Option Range
+decode c = decode_by (nat_lt c.page (2 ^ 36)) c

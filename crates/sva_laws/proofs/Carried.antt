@@ -1,5 +1,6 @@
 -- A message in flight carries the labels of the records that it speaks of: what a record bears doesn't change while a
 -- message speaks of it.
+use Rattle.sva_model.specs.State.{PasidRule}
 use Rattle.std.proofs.Common.{◌≡◌, ◌≢◌, ap, sym, ◌∙◌, ℕ, ◌<◌, Bool, true, false, arith}
 use Rattle.std.specs.Prelude.{Option, Some, None, List, [], ◌∷◌}
 use Rattle.std.proofs.lemmas.Bool.Decides.{nat_tests}
@@ -180,8 +181,8 @@ run_carried (s ∷ ss) w i ow h =
     run_carried ss (next w s) (next_keeps w s i) (acts_owed (decide w s).acts w (step_legal w s i) i ow)
     (acts_carried (decide w s).acts w (step_legal w s i) i ow h)
 
-opened_carried : (c : Config) → AllCarried (opened c)
-opened_carried c e =
+opened_carried : (rule : PasidRule) (c : Config) → AllCarried (opened rule c)
+opened_carried rule c e =
     record {
       start = grind arith;
       stop = grind arith;
@@ -197,5 +198,5 @@ opened_carried c e =
       reset_done = grind arith;
     }
 
-pub always_carried : (c : Config) (ss : List Step) (e : ℕ) → IsCarried (world_after c ss).mappings ((world_after c ss).part e)
-always_carried c ss = run_carried ss (opened c) (opened_invariant c) (opened_owed c) (opened_carried c)
+pub always_carried : (rule : PasidRule) (c : Config) (ss : List Step) (e : ℕ) → IsCarried (world_after rule c ss).mappings ((world_after rule c ss).part e)
+always_carried rule c ss = run_carried ss (opened rule c) (opened_invariant rule c) (opened_owed rule c) (opened_carried rule c)

@@ -1,4 +1,5 @@
 -- The headline: after every list of steps the agreement holds.
+use Rattle.sva_model.specs.State.{PasidRule}
 use Rattle.std.proofs.Common.{◌≡◌, ◌⊎◌, inl, inr, refl, subst, ℕ, ◌<◌}
 use Rattle.std.specs.Prelude.{List}
 use Rattle.sva_step.specs.declared.limits.Config.{Config}
@@ -23,33 +24,33 @@ apart_mapped p h k = absurd (cc)
 apart_withheld : (p : Place) → p ≡ Free → p ≡ Withheld → ⊥
 apart_withheld p h k = absurd (cc)
 
-pub divided : (c : Config) (steps : List Step) → IsDivided c steps
-divided c steps =
-    let i = always c steps in
+pub divided : (rule : PasidRule) (c : Config) (steps : List Step) → IsDivided rule c steps
+divided rule c steps =
+    let i = always rule c steps in
     record {
-      low = λ f s q a. subst (λ k. f < k.frames) (config_kept c steps) (frame_low (world_after c steps) f s q i a);
-      mapped_once = λ f s q t r a b. mapped_once (world_after c steps) f s q t r i a b;
-      mapped = λ f. (is_mapped (world_after c steps) f i, place_mapped (world_after c steps) f i);
-      withheld = λ f. (is_withheld c steps f, place_withheld c steps f);
+      low = λ f s q a. subst (λ k. f < k.frames) (config_kept rule c steps) (frame_low (world_after rule c steps) f s q i a);
+      mapped_once = λ f s q t r a b. mapped_once (world_after rule c steps) f s q t r i a b;
+      mapped = λ f. (is_mapped (world_after rule c steps) f i, place_mapped (world_after rule c steps) f i);
+      withheld = λ f. (is_withheld rule c steps f, place_withheld rule c steps f);
       free = λ f. (
-        (λ h. (λ a. apart_mapped (place (world_after c steps) f) h (place_mapped (world_after c steps) f i a), λ x. apart_withheld (place (world_after c steps) f) h (place_withheld c steps f x))),
-        (λ h. free_is (place (world_after c steps) f) (λ a. h.0 (is_mapped (world_after c steps) f i a)) (λ x. h.1 (is_withheld c steps f x))),
+        (λ h. (λ a. apart_mapped (place (world_after rule c steps) f) h (place_mapped (world_after rule c steps) f i a), λ x. apart_withheld (place (world_after rule c steps) f) h (place_withheld rule c steps f x))),
+        (λ h. free_is (place (world_after rule c steps) f) (λ a. h.0 (is_mapped (world_after rule c steps) f i a)) (λ x. h.1 (is_withheld rule c steps f x))),
       );
     }
 
-usable_now : (c : Config) (steps : List Step) (e b q m : ℕ) → Usable (world_after c steps) e b q m → IsPresent (world_after c steps) e b q m ⊎ IsWithheld c steps ((world_after c steps).mappings.frame m)
-usable_now c steps e b q m u = go (usable (world_after c steps) e b q m (always c steps) u)
+usable_now : (rule : PasidRule) (c : Config) (steps : List Step) (e b q m : ℕ) → Usable (world_after rule c steps) e b q m → IsPresent (world_after rule c steps) e b q m ⊎ IsWithheld rule c steps ((world_after rule c steps).mappings.frame m)
+usable_now rule c steps e b q m u = go (usable (world_after rule c steps) e b q m (always rule c steps) u)
   where
-    go : IsPresent (world_after c steps) e b q m ⊎ (place (world_after c steps) ((world_after c steps).mappings.frame m) ≡ Withheld) → IsPresent (world_after c steps) e b q m ⊎ IsWithheld c steps ((world_after c steps).mappings.frame m)
+    go : IsPresent (world_after rule c steps) e b q m ⊎ (place (world_after rule c steps) ((world_after rule c steps).mappings.frame m) ≡ Withheld) → IsPresent (world_after rule c steps) e b q m ⊎ IsWithheld rule c steps ((world_after rule c steps).mappings.frame m)
     go (inl x) = inl x
-    go (inr y) = inr (is_withheld c steps ((world_after c steps).mappings.frame m) y)
+    go (inr y) = inr (is_withheld rule c steps ((world_after rule c steps).mappings.frame m) y)
 
 pub always_agrees : AlwaysAgrees
-always_agrees c steps fits =
+always_agrees rule c steps fits =
     record {
-      owner = λ e b q m u. owner (world_after c steps) e b q m (always c steps) u;
-      usable = λ e b q m u. usable_now c steps e b q m u;
-      matched = λ e. matched (world_after c steps) e (always c steps);
-      divided = divided c steps;
-      distinct = λ e b d u v same. distinct (world_after c steps) e b d (always c steps) u v same;
+      owner = λ e b q m u. owner (world_after rule c steps) e b q m (always rule c steps) u;
+      usable = λ e b q m u. usable_now rule c steps e b q m u;
+      matched = λ e. matched (world_after rule c steps) e (always rule c steps);
+      divided = divided rule c steps;
+      distinct = λ e b d u v same. distinct (world_after rule c steps) e b d (always rule c steps) u v same;
     }

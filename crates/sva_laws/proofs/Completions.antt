@@ -1,4 +1,5 @@
 -- Each completion that an order is owed is in flight, and no other that names it.
+use Rattle.sva_model.specs.State.{PasidRule}
 use Rattle.std.proofs.Common.{◌≡◌, ◌≢◌, ◌⊎◌, inl, inr, refl, ap, sym, ◌∙◌, ℕ, zero, suc, ◌+◌, ◌<◌, ◌≤◌, Bool, true, false, arith}
 use Rattle.std.specs.Prelude.{Option, Some, None, List, [], ◌∷◌}
 use Rattle.std.proofs.lemmas.Bool.Decides.{nat_tests}
@@ -209,12 +210,12 @@ run_owed : (ss : List Step) (w : World) → Invariant w → AllOwed w → AllOwe
 run_owed [] w i h = h
 run_owed (s ∷ ss) w i h = run_owed ss (next w s) (next_keeps w s i) (acts_owed (decide w s).acts w (step_legal w s i) i h)
 
-pub opened_owed : (c : Config) → AllOwed (opened c)
-opened_owed c e =
+pub opened_owed : (rule : PasidRule) (c : Config) → AllOwed (opened rule c)
+opened_owed rule c e =
     record {
-      owed = λ k ph. count_zero (opened c).messages (λ d. names_order k (((opened c).part e).message d)) (λ d lt. refl);
+      owed = λ k ph. count_zero (opened rule c).messages (λ d. names_order k (((opened rule c).part e).message d)) (λ d lt. refl);
       owing = λ k count left h. absurd (cc);
     }
 
-pub always_owed : (c : Config) (ss : List Step) (e : ℕ) → Owed (world_after c ss).messages ((world_after c ss).part e)
-always_owed c ss = run_owed ss (opened c) (opened_invariant c) (opened_owed c)
+pub always_owed : (rule : PasidRule) (c : Config) (ss : List Step) (e : ℕ) → Owed (world_after rule c ss).messages ((world_after rule c ss).part e)
+always_owed rule c ss = run_owed ss (opened rule c) (opened_invariant rule c) (opened_owed rule c)

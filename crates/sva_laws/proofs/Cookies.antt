@@ -1,4 +1,5 @@
 -- A cookie is given out once: no two waits have the same, over all units.
+use Rattle.sva_model.specs.State.{PasidRule}
 use Rattle.std.proofs.Common.{◌≡◌, ◌≢◌, ◌⊎◌, inl, inr, refl, ap, sym, subst, ◌∙◌, ℕ, zero, suc, ◌+◌, ◌<◌, ◌≤◌, Bool, true, false, arith}
 use Rattle.std.specs.Prelude.{Option, Some, None, ◌&&◌, ◌==◌, nat_lt, List, [], ◌∷◌, if◌then◌else◌}
 use Rattle.std.proofs.lemmas.Bool.Decides.{nat_tests}
@@ -250,5 +251,5 @@ run_cookies : (ss : List Step) (w : World) → Invariant w → GivesCookies w �
 run_cookies [] w i co = co
 run_cookies (s ∷ ss) w i co = run_cookies ss (next w s) (next_keeps w s i) (next_cookies w s i co)
 
-pub always_cookies : (c : Config) (ss : List Step) → GivesCookies (world_after c ss)
-always_cookies c ss = run_cookies ss (opened c) (opened_invariant c) (record { low = λ e k x d l h. absurd (omega (arith, l)); once = λ e f k j x d y l m h i. absurd (omega (arith, l)) })
+pub always_cookies : (rule : PasidRule) (c : Config) (ss : List Step) → GivesCookies (world_after rule c ss)
+always_cookies rule c ss = run_cookies ss (opened rule c) (opened_invariant rule c) (record { low = λ e k x d l h. absurd (omega (arith, l)); once = λ e f k j x d y l m h i. absurd (omega (arith, l)) })

@@ -1,5 +1,6 @@
 -- A step maps pages before it does anything else, each to a frame that was free before the step: so a withheld frame is
 -- free by the very step after which no endpoint owes an answer for it.
+use Rattle.sva_model.specs.State.{PasidRule}
 use Rattle.std.proofs.Common.{◌≡◌, ◌≢◌, ◌⊎◌, inl, inr, refl, ap, sym, ◌∙◌, ℕ, Bool, true, false, arith}
 use Rattle.std.specs.Prelude.{Option, Some, None, List, [], ◌∷◌, ◌++◌, if◌then◌else◌, Err}
 use Rattle.sva_step.specs.declared.limits.Config.{Config}
@@ -280,9 +281,9 @@ next_place w s f i h = go (step_free w s f i) (withheld_gone w f h)
     go (inr x) y = absurd (cc)
     go (inl x) y = gone_place (next w s) f y.0 y.1 (x ∙ y.2) ((moves w s i).gone_on y.0 y.1 y.3)
 
-pub free_by : (c : Config) (steps : List Step) (step : Step) (f : ℕ) → IsWithheld c steps f → (IsWithheld c (steps ++ step ∷ []) f → ⊥) → place (world_after c (steps ++ step ∷ [])) f ≡ Free
-free_by c steps step f was not_now = go (next_place (world_after c steps) step f (always c steps) (place_withheld c steps f was))
+pub free_by : (rule : PasidRule) (c : Config) (steps : List Step) (step : Step) (f : ℕ) → IsWithheld rule c steps f → (IsWithheld rule c (steps ++ step ∷ []) f → ⊥) → place (world_after rule c (steps ++ step ∷ [])) f ≡ Free
+free_by rule c steps step f was not_now = go (next_place (world_after rule c steps) step f (always rule c steps) (place_withheld rule c steps f was))
   where
-    go : (place (next (world_after c steps) step) f ≡ Free) ⊎ (place (next (world_after c steps) step) f ≡ Withheld) → place (world_after c (steps ++ step ∷ [])) f ≡ Free
-    go (inl x) = ap (λ w. place w f) (after_one c steps step) ∙ x
-    go (inr x) = absurd (not_now (is_withheld c (steps ++ step ∷ []) f (ap (λ w. place w f) (after_one c steps step) ∙ x)))
+    go : (place (next (world_after rule c steps) step) f ≡ Free) ⊎ (place (next (world_after rule c steps) step) f ≡ Withheld) → place (world_after rule c (steps ++ step ∷ [])) f ≡ Free
+    go (inl x) = ap (λ w. place w f) (after_one rule c steps step) ∙ x
+    go (inr x) = absurd (not_now (is_withheld rule c (steps ++ step ∷ []) f (ap (λ w. place w f) (after_one rule c steps step) ∙ x)))

@@ -1,4 +1,5 @@
 -- Jobs, hands and the host's groups agree after every step.
+use Rattle.sva_model.specs.State.{PasidRule}
 use Rattle.std.proofs.Common.{◌≡◌, ◌≢◌, ◌⊎◌, inl, inr, refl, ap, sym, ◌∙◌, ℕ, ◌<◌, Bool, true, false, arith}
 use Rattle.std.specs.Prelude.{Option, Some, None, List, [], ◌∷◌, ◌++◌, if◌then◌else◌, Err}
 use Rattle.std.proofs.lemmas.Bool.Decides.{nat_tests}
@@ -334,8 +335,8 @@ run_jobs (s ∷ ss) w i on h =
 none_yet : (n : ℕ) → n < 0 → ⊥
 none_yet n l = absurd (omega arith)
 
-opened_jobs : (c : Config) → JobsOf (opened c)
-opened_jobs c =
+opened_jobs : (rule : PasidRule) (c : Config) → JobsOf (opened rule c)
+opened_jobs rule c =
     record {
       queued = λ e g q. absurd (cc);
       held = λ e g x q. absurd (grind arith);
@@ -343,5 +344,5 @@ opened_jobs c =
       once = λ j k l m x y. absurd (none_yet j l);
     }
 
-pub always_jobs : (c : Config) (ss : List Step) → JobsOf (world_after c ss)
-always_jobs c ss = run_jobs ss (opened c) (opened_invariant c) (opened_on c) (opened_jobs c)
+pub always_jobs : (rule : PasidRule) (c : Config) (ss : List Step) → JobsOf (world_after rule c ss)
+always_jobs rule c ss = run_jobs ss (opened rule c) (opened_invariant rule c) (opened_on rule c) (opened_jobs rule c)

@@ -1,4 +1,5 @@
 -- No endpoint has more than 32 page requests outstanding, and so no more in its page request queue.
+use Rattle.sva_model.specs.State.{PasidRule}
 use Rattle.std.proofs.Common.{◌≡◌, ◌≢◌, ◌⊎◌, inl, inr, refl, ap, sym, subst, ◌∙◌, ℕ, zero, suc, ◌+◌, ◌<◌, ◌≤◌, Bool, true, false, arith}
 use Rattle.std.specs.Prelude.{Option, Some, None, List, [], ◌∷◌, length}
 use Rattle.std.proofs.lemmas.Bool.Decides.{nat_tests}
@@ -74,19 +75,19 @@ run_limited : (ss : List Step) (w : World) → Invariant w → AllLimited w → 
 run_limited [] w i h = h
 run_limited (s ∷ ss) w i h = run_limited ss (next w s) (next_keeps w s i) (acts_limited (decide w s).acts w (step_legal w s i) i h)
 
-opened_limited : (c : Config) → AllLimited (opened c)
+opened_limited : (rule : PasidRule) (c : Config) → AllLimited (opened rule c)
 unfolding count_below
-opened_limited c e = omega arith
+opened_limited rule c e = omega arith
 
-pub always_outstanding : (c : Config) (ss : List Step) (e : ℕ) → outstanding ((world_after c ss).part e) ≤ 32
-always_outstanding c ss = run_limited ss (opened c) (opened_invariant c) (opened_limited c)
+pub always_outstanding : (rule : PasidRule) (c : Config) (ss : List Step) (e : ℕ) → outstanding ((world_after rule c ss).part e) ≤ 32
+always_outstanding rule c ss = run_limited ss (opened rule c) (opened_invariant rule c) (opened_limited rule c)
 
 -- what has arrived is outstanding at an open unit, and at a unit in reset nothing has
-pub always_page_queue : (c : Config) (ss : List Step) (e : ℕ) → page_queue ((world_after c ss).part e) ≤ 32
-always_page_queue c ss e = omega (arith, less, always_outstanding c ss e)
+pub always_page_queue : (rule : PasidRule) (c : Config) (ss : List Step) (e : ℕ) → page_queue ((world_after rule c ss).part e) ≤ 32
+always_page_queue rule c ss e = omega (arith, less, always_outstanding rule c ss e)
   where
     p : Part
-    p = (world_after c ss).part e
+    p = (world_after rule c ss).part e
 
     is : (b : Bool) → is_open p.phase ≡ b → (r : ℕ) → is_arrived (p.page_request r) ≡ true → is_outstanding (p.group (p.group_of r)) ≡ true
     is true o r h = ((always c ss).parts e).lasts.out r (open_phase o) (inr (arrived h))
@@ -115,10 +116,10 @@ waiting_placed p qu =
     placed : count_below p.arrivals (is_waiting p) ≤ page_queue p
     placed = count_placed p.arrivals p.page_requests (is_waiting p) (λ r. is_arrived (p.page_request r)) p.arrival (λ i a t. (qu.arrival i a).1) (λ i a t. t) same
 
-pub always_waiting : (c : Config) (ss : List Step) (e : ℕ) → length (waiting ((world_after c ss).part e)) ≤ 32
-always_waiting c ss e =
-    let i = (always c ss).parts e in
-    omega (arith, waiting_placed ((world_after c ss).part e) i.queued, always_page_queue c ss e)
+pub always_waiting : (rule : PasidRule) (c : Config) (ss : List Step) (e : ℕ) → length (waiting ((world_after rule c ss).part e)) ≤ 32
+always_waiting rule c ss e =
+    let i = (always rule c ss).parts e in
+    omega (arith, waiting_placed ((world_after rule c ss).part e) i.queued, always_page_queue rule c ss e)
 
 -- Free, mapped and withheld frames are all frames.
 

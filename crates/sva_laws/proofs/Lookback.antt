@@ -1,4 +1,5 @@
 -- The look back over the list of steps, and what the step reads: they say the same of which frames are withheld.
+use Rattle.sva_model.specs.State.{PasidRule}
 use Rattle.std.proofs.Common.{◌≡◌, ◌≢◌, ◌⊎◌, inl, inr, refl, ap, sym, subst, ◌∙◌, ℕ, ◌≤◌, Bool, true, false, arith, append_assoc}
 use Rattle.std.specs.Prelude.{Some, ◌&&◌, ◌==◌, List, [], ◌∷◌, ◌++◌}
 use Rattle.std.proofs.lemmas.Bool.Decides.{nat_tests}
@@ -24,8 +25,8 @@ pub run_append : (ss rest : List Step) (w : World) → run w (ss ++ rest) ≡ ru
 run_append [] rest w = refl
 run_append (s ∷ ss) rest w = run_append ss rest (next w s)
 
-pub after_one : (c : Config) (ss : List Step) (s : Step) → world_after c (ss ++ s ∷ []) ≡ next (world_after c ss) s
-after_one c ss s = run_append ss (s ∷ []) (opened c)
+pub after_one : (rule : PasidRule) (c : Config) (ss : List Step) (s : Step) → world_after rule c (ss ++ s ∷ []) ≡ next (world_after rule c ss) s
+after_one rule c ss s = run_append ss (s ∷ []) (opened rule c)
 
 pub append_none : (xs : List Step) → xs ++ [] ≡ xs
 append_none [] = refl
@@ -121,17 +122,17 @@ moves w s i = go (decide w s).acts (step_kind w s) (step_legal w s i)
     go acts (dropping t e) l = subst (λ z. Moves w (after_acts w z)) (sym e) (moves_drop w t (single acts (DropSpace t) e l))
 
 -- A mapping that is gone went at one step of the list.
-pub record WentAt (c : Config) (steps : List Step) (m : ℕ) (owed : ℕ → Owed) : Type 0 where
+pub record WentAt (rule : PasidRule) (c : Config) (steps : List Step) (m : ℕ) (owed : ℕ → Owed) : Type 0 where
   pub before : List Step
   pub step : Step
   pub since : List Step
   pub steps_are : steps ≡ before ++ step ∷ since
-  pub present : (world_after c before).mappings.state m ≡ Present
-  pub gone : (next (world_after c before) step).mappings.state m ≡ Gone owed
-  pub goes : Goes (world_after c before) (next (world_after c before) step) m owed
+  pub present : (world_after rule c before).mappings.state m ≡ Present
+  pub gone : (next (world_after rule c before) step).mappings.state m ≡ Gone owed
+  pub goes : Goes (world_after rule c before) (next (world_after rule c before) step) m owed
 
-went_more : (c : Config) (ss : List Step) (s : Step) (m : ℕ) (owed : ℕ → Owed) → WentAt c ss m owed → WentAt c (ss ++ s ∷ []) m owed
-went_more c ss s m owed x =
+went_more : (rule : PasidRule) (c : Config) (ss : List Step) (s : Step) (m : ℕ) (owed : ℕ → Owed) → WentAt rule c ss m owed → WentAt rule c (ss ++ s ∷ []) m owed
+went_more rule c ss s m owed x =
     record {
       before = x.before;
       step = x.step;
@@ -142,26 +143,26 @@ went_more c ss s m owed x =
       goes = x.goes;
     }
 
-went_next : (c : Config) (ss : List Step) (s : Step) → ((m : ℕ) (owed : ℕ → Owed) → (world_after c ss).mappings.state m ≡ Gone owed → WentAt c ss m owed) → (m : ℕ) (owed : ℕ → Owed) → (world_after c (ss ++ s ∷ [])).mappings.state m ≡ Gone owed → WentAt c (ss ++ s ∷ []) m owed
-went_next c ss s old m owed h =
-    go ((moves (world_after c ss) s (always c ss)).gone_back m owed now)
+went_next : (rule : PasidRule) (c : Config) (ss : List Step) (s : Step) → ((m : ℕ) (owed : ℕ → Owed) → (world_after rule c ss).mappings.state m ≡ Gone owed → WentAt rule c ss m owed) → (m : ℕ) (owed : ℕ → Owed) → (world_after rule c (ss ++ s ∷ [])).mappings.state m ≡ Gone owed → WentAt rule c (ss ++ s ∷ []) m owed
+went_next rule c ss s old m owed h =
+    go ((moves (world_after rule c ss) s (always rule c ss)).gone_back m owed now)
   where
-    now : (next (world_after c ss) s).mappings.state m ≡ Gone owed
-    now = subst (λ w. w.mappings.state m ≡ Gone owed) (after_one c ss s) h
+    now : (next (world_after rule c ss) s).mappings.state m ≡ Gone owed
+    now = subst (λ w. w.mappings.state m ≡ Gone owed) (after_one rule c ss s) h
 
     go : ((world_after c ss).mappings.state m ≡ Gone owed) ⊎ (((world_after c ss).mappings.state m ≡ Present) × Goes (world_after c ss) (next (world_after c ss) s) m owed) → WentAt c (ss ++ s ∷ []) m owed
     go (inl x) = went_more c ss s m owed (old m owed x)
     go (inr x) = record { before = ss; step = s; since = []; steps_are = refl; present = x.0; gone = now; goes = x.1 }
 
-went_along : (c : Config) (rest before : List Step) → ((m : ℕ) (owed : ℕ → Owed) → (world_after c before).mappings.state m ≡ Gone owed → WentAt c before m owed) → (m : ℕ) (owed : ℕ → Owed) → (world_after c (before ++ rest)).mappings.state m ≡ Gone owed → WentAt c (before ++ rest) m owed
-went_along c [] before old m owed h =
-    subst (λ z. WentAt c z m owed) (sym (append_none before)) (old m owed (subst (λ z. (world_after c z).mappings.state m ≡ Gone owed) (append_none before) h))
-went_along c (s ∷ rest) before old m owed h =
-    subst (λ z. WentAt c z m owed) (append_assoc before (s ∷ []) rest)
-    (went_along c rest (before ++ s ∷ []) (went_next c before s old) m owed (subst (λ z. (world_after c z).mappings.state m ≡ Gone owed) (sym (append_assoc before (s ∷ []) rest)) h))
+went_along : (rule : PasidRule) (c : Config) (rest before : List Step) → ((m : ℕ) (owed : ℕ → Owed) → (world_after rule c before).mappings.state m ≡ Gone owed → WentAt rule c before m owed) → (m : ℕ) (owed : ℕ → Owed) → (world_after rule c (before ++ rest)).mappings.state m ≡ Gone owed → WentAt rule c (before ++ rest) m owed
+went_along rule c [] before old m owed h =
+    subst (λ z. WentAt rule c z m owed) (sym (append_none before)) (old m owed (subst (λ z. (world_after rule c z).mappings.state m ≡ Gone owed) (append_none before) h))
+went_along rule c (s ∷ rest) before old m owed h =
+    subst (λ z. WentAt rule c z m owed) (append_assoc before (s ∷ []) rest)
+    (went_along rule c rest (before ++ s ∷ []) (went_next rule c before s old) m owed (subst (λ z. (world_after rule c z).mappings.state m ≡ Gone owed) (sym (append_assoc before (s ∷ []) rest)) h))
 
-pub went : (c : Config) (steps : List Step) (m : ℕ) (owed : ℕ → Owed) → (world_after c steps).mappings.state m ≡ Gone owed → WentAt c steps m owed
-went c steps m owed h = went_along c steps [] (λ k o x. absurd (cc)) m owed h
+pub went : (rule : PasidRule) (c : Config) (steps : List Step) (m : ℕ) (owed : ℕ → Owed) → (world_after rule c steps).mappings.state m ≡ Gone owed → WentAt rule c steps m owed
+went rule c steps m owed h = went_along rule c steps [] (λ k o x. absurd (cc)) m owed h
 
 -- From one world to a later one.
 pub record Later (w v : World) : Type 0 where

@@ -1,5 +1,6 @@
 -- A group of page requests that awaits its response, or is stale, is in one place on the way to its response: its last
 -- request is in flight or arrived, or the host has it whole, or the response is in flight.
+use Rattle.sva_model.specs.State.{PasidRule}
 use Rattle.std.proofs.Common.{◌≡◌, ◌⊎◌, inl, inr, ap, ◌∙◌, ℕ, ◌<◌, ◌≤◌, Bool, true, false, arith}
 use Rattle.std.specs.Prelude.{Option, Some, None, List, [], ◌∷◌}
 use Rattle.std.proofs.lemmas.Bool.Decides.{nat_tests}
@@ -93,8 +94,8 @@ run_on : (ss : List Step) (w : World) → Invariant w → AllOn w → AllOn (run
 run_on [] w i h = h
 run_on (s ∷ ss) w i h = run_on ss (next w s) (next_keeps w s i) (acts_on (decide w s).acts w (step_legal w s i) i h)
 
-pub opened_on : (c : Config) → AllOn (opened c)
-opened_on c e = record { last = grind arith; filed_last = grind arith; discarded = grind arith }
+pub opened_on : (rule : PasidRule) (c : Config) → AllOn (opened rule c)
+opened_on rule c e = record { last = grind arith; filed_last = grind arith; discarded = grind arith }
 
-pub always_on_the_way : (c : Config) (ss : List Step) (e : ℕ) → OnTheWay ((world_after c ss).part e)
-always_on_the_way c ss = run_on ss (opened c) (opened_invariant c) (opened_on c)
+pub always_on_the_way : (rule : PasidRule) (c : Config) (ss : List Step) (e : ℕ) → OnTheWay ((world_after rule c ss).part e)
+always_on_the_way rule c ss = run_on ss (opened rule c) (opened_invariant rule c) (opened_on rule c)

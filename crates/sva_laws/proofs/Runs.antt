@@ -1,4 +1,5 @@
 -- The invariant holds after every list of steps.
+use Rattle.sva_model.specs.State.{PasidRule}
 use Rattle.std.proofs.Common.{refl, arith}
 use Rattle.std.specs.Prelude.{List, [], ◌∷◌}
 use Rattle.sva_step.specs.declared.limits.Config.{Config}
@@ -49,8 +50,8 @@ pub run_keeps : (ss : List Step) (w : World) → Invariant w → Invariant (run 
 run_keeps [] w i = i
 run_keeps (s ∷ ss) w i = run_keeps ss (next w s) (next_keeps w s i)
 
-pub opened_invariant : (c : Config) → Invariant (opened c)
-opened_invariant c =
+pub opened_invariant : (rule : PasidRule) (c : Config) → Invariant (opened rule c)
+opened_invariant rule c =
     record {
       hands = record { made = grind arith; held = grind arith };
       mapped =
@@ -85,5 +86,5 @@ opened_invariant c =
           };
     }
 
-pub always : (c : Config) (ss : List Step) → Invariant (world_after c ss)
-always c ss = run_keeps ss (opened c) (opened_invariant c)
+pub always : (rule : PasidRule) (c : Config) (ss : List Step) → Invariant (world_after rule c ss)
+always rule c ss = run_keeps ss (opened rule c) (opened_invariant rule c)

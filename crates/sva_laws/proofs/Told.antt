@@ -1,6 +1,7 @@
 -- What an unmapping answers is where its frames are after it: it answers by whether some endpoint has something to wait for,
 -- and that is whether some endpoint hasn't answered yet for what the step itself writes down. And a mapping answers a frame
 -- that was free, and is at the page after it.
+use Rattle.sva_model.specs.State.{PasidRule}
 use Rattle.std.proofs.Common.{◌≡◌, ◌⊎◌, inl, inr, refl, ap, sym, subst, ◌∙◌, ℕ, zero, suc, ◌+◌, ◌<◌, Bool, true, false, arith, length-append}
 use Rattle.std.specs.Prelude.{◌↔◌, Option, Some, None, ◌&&◌, ◌||◌, not, ◌==◌, nat_lt, if◌then◌else◌, List, [], ◌∷◌, ◌++◌, length, slice_get, Ok, Err}
 use Rattle.std.proofs.lemmas.Bool.Decides.{nat_tests}
@@ -154,8 +155,8 @@ said_withheld false frames a x h e = (λ y. absurd (cc), λ y. absurd (cc))
 number_back : (w : World) (n : ℕ) → Labels.is_number w w.spaces n ≡ true → Labels.number w (Labels.name w n) ≡ n
 number_back w n h = grind (arith, nat_tests)
 
-pub told : (c : Config) (steps : List Step) (n q count : ℕ) (a : Answer) → reply (world_after c steps) (step.Unmap n q count) ≡ Ok a → IsTold c steps n q count a
-told c steps n q count a h =
+pub told : (rule : PasidRule) (c : Config) (steps : List Step) (n q count : ℕ) (a : Answer) → reply (world_after rule c steps) (step.Unmap n q count) ≡ Ok a → IsTold rule c steps n q count a
+told rule c steps n q count a h =
     record {
       space = s;
       numbered = number_back w n (and_left (Labels.is_number w w.spaces n) (w.is_live s) is_space);
@@ -163,12 +164,12 @@ told c steps n q count a h =
       one_a_page = table_length count (λ j. w.mappings.frame (the (w.mappings.at s (q + j))));
       was_there = λ k f e. there k f (page_of k f e);
       said = said_one some_wait (frames_at w s q count) a yes.1;
-      free = λ k f e. said_free some_wait (frames_at w s q count) a (place (world_after c (steps ++ step.Unmap n q count ∷ [])) f) yes.1 (after k f (page_of k f e));
-      withheld = λ k f e. by_look_back f (said_withheld some_wait (frames_at w s q count) a (place (world_after c (steps ++ step.Unmap n q count ∷ [])) f) yes.1 (after k f (page_of k f e)));
+      free = λ k f e. said_free some_wait (frames_at w s q count) a (place (world_after rule c (steps ++ step.Unmap n q count ∷ [])) f) yes.1 (after k f (page_of k f e));
+      withheld = λ k f e. by_look_back f (said_withheld some_wait (frames_at w s q count) a (place (world_after rule c (steps ++ step.Unmap n q count ∷ [])) f) yes.1 (after k f (page_of k f e)));
     }
   where
     w : World
-    w = world_after c steps
+    w = world_after rule c steps
 
     s : ℕ
     s = Labels.name w n
@@ -220,20 +221,20 @@ at_the_page w s q f x live =
       leads = put-same w.mappings.frame w.mappings.made f;
     }
 
-pub given : (c : Config) (steps : List Step) (n q : ℕ) (x : Bool) (a : Answer) → reply (world_after c steps) (step.Map n q x) ≡ Ok a → (s f : ℕ) × (Labels.number (world_after c steps) s ≡ n) × (a ≡ Frame f) × (f < c.frames) × (place (world_after c steps) f ≡ Free) × IsAt (world_after c (steps ++ step.Map n q x ∷ [])) f s q
-given c steps n q x a h =
-    let w = world_after c steps in
+pub given : (rule : PasidRule) (c : Config) (steps : List Step) (n q : ℕ) (x : Bool) (a : Answer) → reply (world_after rule c steps) (step.Map n q x) ≡ Ok a → (s f : ℕ) × (Labels.number (world_after rule c steps) s ≡ n) × (a ≡ Frame f) × (f < c.frames) × (place (world_after rule c steps) f ≡ Free) × IsAt (world_after rule c (steps ++ step.Map n q x ∷ [])) f s q
+given rule c steps n q x a h =
+    let w = world_after rule c steps in
     let s = Labels.name w n in
     let f = Labels.lowest_frame w in
     let yes = accepted (refusals w (step.Map n q x)) (outcome w (step.Map n q x)) a h in
     let is_space = not_true (Labels.is_space w n) yes.0.0 in
     let low = lowest_passes w.config.frames (is_free w) yes.0.1.1.1.1.0 in
-    let next_is = after_one c steps (step.Map n q x) ∙ ap (after_acts w) yes.2 in (
+    let next_is = after_one rule c steps (step.Map n q x) ∙ ap (after_acts w) yes.2 in (
       s,
       f,
       number_back w n (and_left (Labels.is_number w w.spaces n) (w.is_live s) is_space),
       sym yes.1,
-      subst (λ k. f < k.frames) (config_kept c steps) low.0,
+      subst (λ k. f < k.frames) (config_kept rule c steps) low.0,
       free_place (place w f) low.1,
       subst (λ v. IsAt v f s q) (sym next_is) (at_the_page w s q f x (and_right (Labels.is_number w w.spaces n) (w.is_live s) is_space)),
     )

@@ -1,4 +1,5 @@
 -- What one step does to the orders of a unit, to the counter of its reset-dones, and to the markers noted.
+use Rattle.sva_model.specs.State.{PasidRule}
 use Rattle.std.proofs.Common.{◌≡◌, ◌≢◌, ◌⊎◌, inl, inr, refl, ap, sym, subst, ◌∙◌, ℕ, zero, suc, ◌+◌, ◌<◌, ◌≤◌, Bool, true, false, arith}
 use Rattle.std.specs.Prelude.{Option, Some, None, List, [], ◌∷◌, ◌++◌, if◌then◌else◌, Ok}
 use Rattle.std.proofs.lemmas.Bool.Decides.{nat_tests}
@@ -382,11 +383,11 @@ orders_change w s e i =
 notes : (w : World) (s : Step) (e : ℕ) → Invariant w → NotesMarkers w s e ((next w s).part e)
 notes w s e i = record { noted = (changes w s e i).noted; notes = λ b ph d. marks w s e b i ph d }
 
-pub always_counts : (config : Config) (steps : List Step) (s : Step) (e : ℕ) → CountsResetDones (world_after config steps) s e ((world_after config (steps ++ s ∷ [])).part e)
-always_counts config steps s e = subst (λ v. CountsResetDones (world_after config steps) s e (v.part e)) (sym (after_one config steps s)) (counts (world_after config steps) s e (always config steps))
+pub always_counts : (rule : PasidRule) (config : Config) (steps : List Step) (s : Step) (e : ℕ) → CountsResetDones (world_after rule config steps) s e ((world_after rule config (steps ++ s ∷ [])).part e)
+always_counts rule config steps s e = subst (λ v. CountsResetDones (world_after rule config steps) s e (v.part e)) (sym (after_one rule config steps s)) (counts (world_after rule config steps) s e (always rule config steps))
 
-pub always_changes : (config : Config) (steps : List Step) (s : Step) (e : ℕ) → ChangesOrders (world_after config steps) s e ((world_after config (steps ++ s ∷ [])).part e)
-always_changes config steps s e = subst (λ v. ChangesOrders (world_after config steps) s e (v.part e)) (sym (after_one config steps s)) (orders_change (world_after config steps) s e (always config steps))
+pub always_changes : (rule : PasidRule) (config : Config) (steps : List Step) (s : Step) (e : ℕ) → ChangesOrders (world_after rule config steps) s e ((world_after rule config (steps ++ s ∷ [])).part e)
+always_changes rule config steps s e = subst (λ v. ChangesOrders (world_after rule config steps) s e (v.part e)) (sym (after_one rule config steps s)) (orders_change (world_after rule config steps) s e (always rule config steps))
 
-pub always_notes : (config : Config) (steps : List Step) (s : Step) (e : ℕ) → NotesMarkers (world_after config steps) s e ((world_after config (steps ++ s ∷ [])).part e)
-always_notes config steps s e = subst (λ v. NotesMarkers (world_after config steps) s e (v.part e)) (sym (after_one config steps s)) (notes (world_after config steps) s e (always config steps))
+pub always_notes : (rule : PasidRule) (config : Config) (steps : List Step) (s : Step) (e : ℕ) → NotesMarkers (world_after rule config steps) s e ((world_after rule config (steps ++ s ∷ [])).part e)
+always_notes rule config steps s e = subst (λ v. NotesMarkers (world_after rule config steps) s e (v.part e)) (sym (after_one rule config steps s)) (notes (world_after rule config steps) s e (always rule config steps))

@@ -1,4 +1,5 @@
 -- An order is void only by a reset, also over a list of steps: from one world to a later one.
+use Rattle.sva_model.specs.State.{PasidRule}
 use Rattle.std.proofs.Common.{◌≡◌, ◌≢◌, ◌⊎◌, inl, inr, refl, sym, subst, ◌∙◌, ℕ, suc, ◌+◌, ◌<◌, ◌≤◌, Bool, true, false, arith}
 use Rattle.std.specs.Prelude.{Option, Some, None, List, [], ◌∷◌, ◌++◌}
 use Rattle.std.proofs.lemmas.Bool.Decides.{nat_tests}
@@ -88,7 +89,7 @@ void_by_reset p q x = record { void = λ k lt h. go k lt h q.phase refl }
     go k lt h (Ordered c) f = inr (inl (λ o. absurd (cc (sym o ∙ f))))
     go k lt h (Cleared c) f = inr (inl (λ o. absurd (cc (sym o ∙ f))))
 
-pub always_void : (config : Config) (before since : List Step) (e : ℕ) → IsVoidByReset ((world_after config before).part e) ((world_after config (before ++ since)).part e)
-always_void config before since e =
-    subst (λ v. IsVoidByReset ((world_after config before).part e) (v.part e)) (sym (run_append before since (opened config)))
-    (void_by_reset ((world_after config before).part e) ((run (world_after config before) since).part e) (since_run since (world_after config before) e))
+pub always_void : (rule : PasidRule) (config : Config) (before since : List Step) (e : ℕ) → IsVoidByReset ((world_after rule config before).part e) ((world_after rule config (before ++ since)).part e)
+always_void rule config before since e =
+    subst (λ v. IsVoidByReset ((world_after rule config before).part e) (v.part e)) (sym (run_append before since (opened rule config)))
+    (void_by_reset ((world_after rule config before).part e) ((run (world_after rule config before) since).part e) (since_run since (world_after rule config before) e))

@@ -1,4 +1,5 @@
 -- What is awaited is on its way: an order that was sent, a translation request that is out, a response.
+use Rattle.sva_model.specs.State.{PasidRule}
 use Rattle.std.proofs.Common.{◌≡◌, ◌≢◌, ap, ℕ, ◌≤◌, Bool, true, false, arith}
 use Rattle.std.specs.Prelude.{Option, Some, None, ◌==◌, List, [], ◌∷◌}
 use Rattle.std.proofs.lemmas.Bool.Decides.{nat_tests}
@@ -89,8 +90,8 @@ run_ways : (ss : List Step) (w : World) → Invariant w → AllWays w → AllWay
 run_ways [] w i h = h
 run_ways (s ∷ ss) w i h = run_ways ss (next w s) (next_keeps w s i) (acts_ways (decide w s).acts w (step_legal w s i) i h)
 
-opened_ways : (c : Config) → AllWays (opened c)
-opened_ways c e = record { sent = grind arith; out = grind arith; response = grind arith }
+opened_ways : (rule : PasidRule) (c : Config) → AllWays (opened rule c)
+opened_ways rule c e = record { sent = grind arith; out = grind arith; response = grind arith }
 
-pub always_ways : (c : Config) (ss : List Step) (e : ℕ) → Ways ((world_after c ss).part e)
-always_ways c ss = run_ways ss (opened c) (opened_invariant c) (opened_ways c)
+pub always_ways : (rule : PasidRule) (c : Config) (ss : List Step) (e : ℕ) → Ways ((world_after rule c ss).part e)
+always_ways rule c ss = run_ways ss (opened rule c) (opened_invariant rule c) (opened_ways rule c)

@@ -1,4 +1,5 @@
 -- A frame's place is Withheld exactly where the look back over the list of steps says so.
+use Rattle.sva_model.specs.State.{PasidRule}
 use Rattle.std.proofs.Common.{◌≡◌, ◌≢◌, ◌⊎◌, inl, inr, refl, ap, sym, subst, ◌∙◌, ℕ, suc, ◌+◌, ◌-◌, ◌<◌, ◌≤◌, Bool, true, false, arith, append_assoc}
 use Rattle.std.specs.Prelude.{Option, Some, None, ◌&&◌, ◌||◌, ◌==◌, nat_lt, List, [], ◌∷◌, ◌++◌}
 use Rattle.std.proofs.lemmas.Bool.Decides.{nat_tests}
@@ -191,17 +192,17 @@ config_run : (ss : List Step) (w : World) → (run w ss).config ≡ w.config
 config_run [] w = refl
 config_run (s ∷ ss) w = config_run ss (next w s) ∙ config_acts (decide w s).acts w
 
-pub config_kept : (c : Config) (ss : List Step) → (world_after c ss).config ≡ c
-config_kept c ss = config_run ss (opened c)
+pub config_kept : (rule : PasidRule) (c : Config) (ss : List Step) → (world_after rule c ss).config ≡ rule c
+config_kept rule c ss = config_run ss (opened rule c)
 
 -- From one list of steps to a longer one.
 
-later_by : (c : Config) (before rest : List Step) → Later (world_after c before) (world_after c (before ++ rest))
-later_by c before rest = subst (λ v. Later (world_after c before) v) (sym (run_append before rest (opened c))) (later rest (world_after c before) (always c before))
+later_by : (rule : PasidRule) (c : Config) (before rest : List Step) → Later (world_after rule c before) (world_after rule c (before ++ rest))
+later_by rule c before rest = subst (λ v. Later (world_after rule c before) v) (sym (run_append before rest (opened rule c))) (later rest (world_after rule c before) (always rule c before))
 
-later_from_next : (c : Config) (before : List Step) (s : Step) (rest : List Step) → Later (next (world_after c before) s) (world_after c (before ++ s ∷ rest))
-later_from_next c before s rest =
-    subst (λ v. Later (next (world_after c before) s) v) (sym (run_append before (s ∷ rest) (opened c))) (later rest (next (world_after c before) s) (next_keeps (world_after c before) s (always c before)))
+later_from_next : (rule : PasidRule) (c : Config) (before : List Step) (s : Step) (rest : List Step) → Later (next (world_after rule c before) s) (world_after rule c (before ++ s ∷ rest))
+later_from_next rule c before s rest =
+    subst (λ v. Later (next (world_after rule c before) s) v) (sym (run_append before (s ∷ rest) (opened rule c))) (later rest (next (world_after rule c before) s) (next_keeps (world_after rule c before) s (always rule c before)))
 
 longer : (before : List Step) (s : Step) (some rest : List Step) → (before ++ s ∷ some) ++ rest ≡ before ++ s ∷ (some ++ rest)
 longer before s some rest = append_assoc before (s ∷ some) rest
@@ -238,34 +239,34 @@ not_between w u v f m owed i a b la g lv is =
     apart : Present ≡ Gone owed → ⊥
     apart h = absurd (cc)
 
-then_part : (c : Config) (before : List Step) (step : Step) (e s q count b : ℕ) → next (world_after c before) step ≡ act (world_after c before) (Unmap s q count) → bound (world_after c before) e s ≡ Some b → ((world_after c (before ++ step ∷ [])).part e) ≡ submitted_if (submits_at ((world_after c before).part e) (Some b)) ((world_after c before).part e) (Some b) q count (cookie_of (world_after c before) s e)
-then_part c before step e s q count b nx bo =
-    ap (λ w. w.part e) (after_one c before step ∙ nx) ∙ ap (λ o. submitted_if (submits_at ((world_after c before).part e) o) ((world_after c before).part e) o q count (cookie_of (world_after c before) s e)) bo
+then_part : (rule : PasidRule) (c : Config) (before : List Step) (step : Step) (e s q count b : ℕ) → next (world_after rule c before) step ≡ act (world_after rule c before) (Unmap s q count) → bound (world_after rule c before) e s ≡ Some b → ((world_after rule c (before ++ step ∷ [])).part e) ≡ submitted_if (submits_at ((world_after rule c before).part e) (Some b)) ((world_after rule c before).part e) (Some b) q count (cookie_of (world_after rule c before) s e)
+then_part rule c before step e s q count b nx bo =
+    ap (λ w. w.part e) (after_one rule c before step ∙ nx) ∙ ap (λ o. submitted_if (submits_at ((world_after rule c before).part e) o) ((world_after rule c before).part e) o q count (cookie_of (world_after rule c before) s e)) bo
 
 both : {t : Bool} → t ≡ true → t ≡ false → ⊥
 both h k = absurd (cc)
 
 -- An endpoint that owes for the latest mapping of a frame: then the frame is withheld by the look back.
-record Owes (c : Config) (before : List Step) (step : Step) (since : List Step) (f m e : ℕ) (owed : ℕ → Owed) : Type 0 where
+record Owes (rule : PasidRule) (c : Config) (before : List Step) (step : Step) (since : List Step) (f m e : ℕ) (owed : ℕ → Owed) : Type 0 where
   is_endpoint : e < c.endpoints
-  present : (world_after c before).mappings.state m ≡ Present
-  gone : (next (world_after c before) step).mappings.state m ≡ Gone owed
-  latest : (world_after c (before ++ step ∷ since)).mappings.latest f ≡ Some m
-  unanswered : answered ((world_after c (before ++ step ∷ since)).part e) (owed e) ≡ false
+  present : (world_after rule c before).mappings.state m ≡ Present
+  gone : (next (world_after rule c before) step).mappings.state m ≡ Gone owed
+  latest : (world_after rule c (before ++ step ∷ since)).mappings.latest f ≡ Some m
+  unanswered : answered ((world_after rule c (before ++ step ∷ since)).part e) (owed e) ≡ false
 
-was_at : (c : Config) (before : List Step) (step : Step) (since : List Step) (f m e : ℕ) (owed : ℕ → Owed) → Owes c before step since f m e owed → (world_after c before).mappings.frame m ≡ f
-was_at c before step since f m e owed o =
-    let l = later_by c before (step ∷ since) in
-    let made : (world_after c before).mappings.state m ≢ Unmade = made_of o.present in
-    sym (l.frame_on m made) ∙ ((always c (before ++ step ∷ since)).mapped.named f m o.latest).0
+was_at : (rule : PasidRule) (c : Config) (before : List Step) (step : Step) (since : List Step) (f m e : ℕ) (owed : ℕ → Owed) → Owes rule c before step since f m e owed → (world_after rule c before).mappings.frame m ≡ f
+was_at rule c before step since f m e owed o =
+    let l = later_by rule c before (step ∷ since) in
+    let made : (world_after rule c before).mappings.state m ≢ Unmade = made_of o.present in
+    sym (l.frame_on m made) ∙ ((always rule c (before ++ step ∷ since)).mapped.named f m o.latest).0
   where
     made_of : {z : MappingState} → z ≡ Present → z ≢ Unmade
     made_of h k = absurd (cc)
 
-withheld_by : (c : Config) (before : List Step) (step : Step) (since : List Step) (f m e : ℕ) (owed : ℕ → Owed) (s q count b : ℕ) → Owes c before step since f m e owed → next (world_after c before) step ≡ act (world_after c before) (Unmap s q count) → (world_after c before).mappings.space m ≡ s → owed ≡ (λ x. owed_by ((world_after c before).part x) q count (bound (world_after c before) x s)) → bound (world_after c before) e s ≡ Some b → IsWithheld c (before ++ step ∷ since) f
-withheld_by c before step since f m e owed s q count b o nx sp ow bo =
-    let w = world_after c before in
-    let i = always c before in
+withheld_by : (rule : PasidRule) (c : Config) (before : List Step) (step : Step) (since : List Step) (f m e : ℕ) (owed : ℕ → Owed) (s q count b : ℕ) → Owes rule c before step since f m e owed → next (world_after rule c before) step ≡ act (world_after rule c before) (Unmap s q count) → (world_after rule c before).mappings.space m ≡ s → owed ≡ (λ x. owed_by ((world_after rule c before).part x) q count (bound (world_after rule c before) x s)) → bound (world_after rule c before) e s ≡ Some b → IsWithheld rule c (before ++ step ∷ since) f
+withheld_by rule c before step since f m e owed s q count b o nx sp ow bo =
+    let w = world_after rule c before in
+    let i = always rule c before in
     let at = i.mapped.present_at m o.present in
     let found = find_passes w.bindings (λ d. is_unreleased ((w.part e).stage d) && (w.part e).space d == s) b bo in
     record {
@@ -290,8 +291,8 @@ withheld_by c before step since f m e owed s q count b o nx sp ow bo =
       silent = λ h. silent h;
     }
   where
-    frame : (world_after c before).mappings.frame m ≡ f
-    frame = was_at c before step since f m e owed o
+    frame : (world_after rule c before).mappings.frame m ≡ f
+    frame = was_at rule c before step since f m e owed o
 
     space_is : ((((world_after c before).part e).space b) == s) ≡ true → ((world_after c before).part e).space b ≡ s
     space_is h = grind (arith, nat_tests)
@@ -311,38 +312,38 @@ withheld_by c before step since f m e owed s q count b o nx sp ow bo =
         let owes : owed e ≡ owed_by ((world_after c before).part e) q count (Some b) = ap (λ v. v e) ow ∙ ap (owed_by ((world_after c before).part e) q count) bo in
         both (ap (answered ((world_after c (before ++ step ∷ since)).part e)) owes ∙ yes) o.unanswered
 
-owed_withheld : (c : Config) (before : List Step) (step : Step) (since : List Step) (f m e : ℕ) (owed : ℕ → Owed) → Owes c before step since f m e owed → Goes (world_after c before) (next (world_after c before) step) m owed → IsWithheld c (before ++ step ∷ since) f
-owed_withheld c before step since f m e owed o (dropped s sp none ow) = absurd (cc (sym o.unanswered ∙ ap (λ v. answered ((world_after c (before ++ step ∷ since)).part e) (v e)) ow))
-owed_withheld c before step since f m e owed o (unmapped s q count nx sp r ow) = go (bound (world_after c before) e s) refl
+owed_withheld : (rule : PasidRule) (c : Config) (before : List Step) (step : Step) (since : List Step) (f m e : ℕ) (owed : ℕ → Owed) → Owes rule c before step since f m e owed → Goes (world_after rule c before) (next (world_after rule c before) step) m owed → IsWithheld rule c (before ++ step ∷ since) f
+owed_withheld rule c before step since f m e owed o (dropped s sp none ow) = absurd (cc (sym o.unanswered ∙ ap (λ v. answered ((world_after rule c (before ++ step ∷ since)).part e) (v e)) ow))
+owed_withheld rule c before step since f m e owed o (unmapped s q count nx sp r ow) = go (bound (world_after rule c before) e s) refl
   where
-    nothing : bound (world_after c before) e s ≡ None → answered ((world_after c (before ++ step ∷ since)).part e) (owed e) ≡ true
-    nothing bo = ap (λ v. answered ((world_after c (before ++ step ∷ since)).part e) (v e)) ow ∙ ap (λ x. answered ((world_after c (before ++ step ∷ since)).part e) (owed_by ((world_after c before).part e) q count x)) bo
+    nothing : bound (world_after rule c before) e s ≡ None → answered ((world_after rule c (before ++ step ∷ since)).part e) (owed e) ≡ true
+    nothing bo = ap (λ v. answered ((world_after rule c (before ++ step ∷ since)).part e) (v e)) ow ∙ ap (λ x. answered ((world_after rule c (before ++ step ∷ since)).part e) (owed_by ((world_after rule c before).part e) q count x)) bo
 
     go : (x : Option ℕ) → bound (world_after c before) e s ≡ x → IsWithheld c (before ++ step ∷ since) f
     go None bo = absurd (cc (sym o.unanswered ∙ nothing bo))
     go (Some b) bo = withheld_by c before step since f m e owed s q count b o nx sp ow bo
 
-gone_withheld : (c : Config) (steps : List Step) (f m e : ℕ) (owed : ℕ → Owed) → e < c.endpoints → (world_after c steps).mappings.latest f ≡ Some m → (world_after c steps).mappings.state m ≡ Gone owed → answered ((world_after c steps).part e) (owed e) ≡ false → IsWithheld c steps f
-gone_withheld c steps f m e owed lt la g un =
-    let x = went c steps m owed g in
-    subst (λ z. IsWithheld c z f) (sym x.steps_are)
-    (owed_withheld c x.before x.step x.since f m e owed
-    (record { is_endpoint = lt; present = x.present; gone = x.gone; latest = subst (λ z. (world_after c z).mappings.latest f ≡ Some m) x.steps_are la; unanswered = subst (λ z. answered ((world_after c z).part e) (owed e) ≡ false) x.steps_are un })
+gone_withheld : (rule : PasidRule) (c : Config) (steps : List Step) (f m e : ℕ) (owed : ℕ → Owed) → e < c.endpoints → (world_after rule c steps).mappings.latest f ≡ Some m → (world_after rule c steps).mappings.state m ≡ Gone owed → answered ((world_after rule c steps).part e) (owed e) ≡ false → IsWithheld rule c steps f
+gone_withheld rule c steps f m e owed lt la g un =
+    let x = went rule c steps m owed g in
+    subst (λ z. IsWithheld rule c z f) (sym x.steps_are)
+    (owed_withheld rule c x.before x.step x.since f m e owed
+    (record { is_endpoint = lt; present = x.present; gone = x.gone; latest = subst (λ z. (world_after rule c z).mappings.latest f ≡ Some m) x.steps_are la; unanswered = subst (λ z. answered ((world_after rule c z).part e) (owed e) ≡ false) x.steps_are un })
     x.goes)
 
-pub is_withheld : (c : Config) (steps : List Step) (f : ℕ) → place (world_after c steps) f ≡ Withheld → IsWithheld c steps f
-is_withheld c steps f h = go ((world_after c steps).mappings.latest f) refl h
+pub is_withheld : (rule : PasidRule) (c : Config) (steps : List Step) (f : ℕ) → place (world_after rule c steps) f ≡ Withheld → IsWithheld rule c steps f
+is_withheld rule c steps f h = go ((world_after rule c steps).mappings.latest f) refl h
   where
-    go : (o : Option ℕ) → (world_after c steps).mappings.latest f ≡ o → place_at (world_after c steps) o ≡ Withheld → IsWithheld c steps f
+    go : (o : Option ℕ) → (world_after rule c steps).mappings.latest f ≡ o → place_at (world_after rule c steps) o ≡ Withheld → IsWithheld rule c steps f
     go None la h = absurd (cc)
-    go (Some m) la h = by ((world_after c steps).mappings.state m) refl h
+    go (Some m) la h = by ((world_after rule c steps).mappings.state m) refl h
       where
-        by : (z : MappingState) → (world_after c steps).mappings.state m ≡ z → place_by (world_after c steps) z ≡ Withheld → IsWithheld c steps f
+        by : (z : MappingState) → (world_after rule c steps).mappings.state m ≡ z → place_by (world_after rule c steps) z ≡ Withheld → IsWithheld rule c steps f
         by Unmade g h = absurd (cc)
         by Present g h = absurd (cc)
-        by (Gone owed) g h = some (all_below_cases (world_after c steps).config.endpoints (λ x. answered ((world_after c steps).part x) (owed x)))
+        by (Gone owed) g h = some (all_below_cases (world_after rule c steps).config.endpoints (λ x. answered ((world_after rule c steps).part x) (owed x)))
           where
-            free : all_below (world_after c steps).config.endpoints (λ x. answered ((world_after c steps).part x) (owed x)) ≡ true → Free ≡ Withheld
+            free : all_below (world_after rule c steps).config.endpoints (λ x. answered ((world_after rule c steps).part x) (owed x)) ≡ true → Free ≡ Withheld
             free a = sym (ap place_of_gone a) ∙ h
 
             some : (all_below (world_after c steps).config.endpoints (λ x. answered ((world_after c steps).part x) (owed x)) ≡ true) ⊎ ((j : ℕ) × (j < (world_after c steps).config.endpoints) × (answered ((world_after c steps).part j) (owed j) ≡ false)) → IsWithheld c steps f
@@ -351,18 +352,18 @@ is_withheld c steps f h = go ((world_after c steps).mappings.latest f) refl h
 
 -- And back: what is withheld by the look back is owed for.
 
-mapped_latest_at : (c : Config) (steps : List Step) (f k : ℕ) → (world_after c steps).mappings.latest f ≡ Some k → (world_after c steps).mappings.state k ≡ Present → IsMapped (world_after c steps) f
-mapped_latest_at c steps f k la g = present_mapped (world_after c steps) f k (always c steps) la g
+mapped_latest_at : (rule : PasidRule) (c : Config) (steps : List Step) (f k : ℕ) → (world_after rule c steps).mappings.latest f ≡ Some k → (world_after rule c steps).mappings.state k ≡ Present → IsMapped (world_after rule c steps) f
+mapped_latest_at rule c steps f k la g = present_mapped (world_after rule c steps) f k (always rule c steps) la g
 
 -- while the frame isn't mapped, its latest mapping stays
-latest_stays : (c : Config) (before : List Step) (step : Step) (since : List Step) (f m : ℕ) → ((some rest : List Step) → some ++ rest ≡ since → IsMapped (world_after c (before ++ step ∷ some)) f → ⊥) → (rest some : List Step) → some ++ rest ≡ since → (world_after c (before ++ step ∷ some)).mappings.latest f ≡ Some m → (world_after c (before ++ step ∷ since)).mappings.latest f ≡ Some m
-latest_stays c before step since f m un [] some sum la = subst (λ z. (world_after c (before ++ step ∷ z)).mappings.latest f ≡ Some m) (sym (append_none some) ∙ sum) la
-latest_stays c before step since f m un (s ∷ rest) some sum la =
-    latest_stays c before step since f m un rest (some ++ s ∷ []) (append_assoc some (s ∷ []) rest ∙ sum)
-    (go ((moves u s (always c (before ++ step ∷ some))).latest_new f))
+latest_stays : (rule : PasidRule) (c : Config) (before : List Step) (step : Step) (since : List Step) (f m : ℕ) → ((some rest : List Step) → some ++ rest ≡ since → IsMapped (world_after rule c (before ++ step ∷ some)) f → ⊥) → (rest some : List Step) → some ++ rest ≡ since → (world_after rule c (before ++ step ∷ some)).mappings.latest f ≡ Some m → (world_after rule c (before ++ step ∷ since)).mappings.latest f ≡ Some m
+latest_stays rule c before step since f m un [] some sum la = subst (λ z. (world_after rule c (before ++ step ∷ z)).mappings.latest f ≡ Some m) (sym (append_none some) ∙ sum) la
+latest_stays rule c before step since f m un (s ∷ rest) some sum la =
+    latest_stays rule c before step since f m un rest (some ++ s ∷ []) (append_assoc some (s ∷ []) rest ∙ sum)
+    (go ((moves u s (always rule c (before ++ step ∷ some))).latest_new f))
   where
     u : World
-    u = world_after c (before ++ step ∷ some)
+    u = world_after rule c (before ++ step ∷ some)
 
     after : world_after c (before ++ step ∷ (some ++ s ∷ [])) ≡ next u s
     after = ap (world_after c) (one_more before step some s) ∙ after_one c (before ++ step ∷ some) s
@@ -374,15 +375,15 @@ latest_stays c before step since f m un (s ∷ rest) some sum la =
         (mapped_latest_at c (before ++ step ∷ (some ++ s ∷ [])) f x.0 (ap (λ w. w.mappings.latest f) after ∙ x.1) (ap (λ w. w.mappings.state x.0) after ∙ x.2)))
 
 -- an endpoint with an unreleased binding of the space, which hasn't answered for it, hasn't answered what it owes
-not_answered : (c : Config) (before : List Step) (step : Step) (since : List Step) (m e b t page : ℕ) (owed : ℕ → Owed) → (world_after c before).mappings.space m ≡ t → (world_after c before).mappings.page m ≡ page → is_unreleased (((world_after c before).part e).stage b) ≡ true → ((world_after c before).part e).space b ≡ t → (HasAnswered ((world_after c before).part e) ((world_after c (before ++ step ∷ [])).part e) ((world_after c (before ++ step ∷ since)).part e) b page → ⊥) → Goes (world_after c before) (next (world_after c before) step) m owed → answered ((world_after c (before ++ step ∷ since)).part e) (owed e) ≡ true → ⊥
-not_answered c before step since m e b t page owed mt mp u bt silent (dropped s sp none ow) h = none e b u (bt ∙ sym mt ∙ sp)
-not_answered c before step since m e b t page owed mt mp u bt silent (unmapped s q count nx sp r ow) h =
-    silent (answers_if ((world_after c before).part e) ((world_after c (before ++ step ∷ since)).part e) ((world_after c (before ++ step ∷ [])).part e) b page q count (cookie_of (world_after c before) s e) (subst (λ z. in_range q count z ≡ true) mp r) u
-    (then_part c before step e s q count b nx bo)
-    (ap (answered ((world_after c (before ++ step ∷ since)).part e)) (sym owes) ∙ h))
+not_answered : (rule : PasidRule) (c : Config) (before : List Step) (step : Step) (since : List Step) (m e b t page : ℕ) (owed : ℕ → Owed) → (world_after rule c before).mappings.space m ≡ t → (world_after rule c before).mappings.page m ≡ page → is_unreleased (((world_after rule c before).part e).stage b) ≡ true → ((world_after rule c before).part e).space b ≡ t → (HasAnswered ((world_after rule c before).part e) ((world_after rule c (before ++ step ∷ [])).part e) ((world_after rule c (before ++ step ∷ since)).part e) b page → ⊥) → Goes (world_after rule c before) (next (world_after rule c before) step) m owed → answered ((world_after rule c (before ++ step ∷ since)).part e) (owed e) ≡ true → ⊥
+not_answered rule c before step since m e b t page owed mt mp u bt silent (dropped s sp none ow) h = none e b u (bt ∙ sym mt ∙ sp)
+not_answered rule c before step since m e b t page owed mt mp u bt silent (unmapped s q count nx sp r ow) h =
+    silent (answers_if ((world_after rule c before).part e) ((world_after rule c (before ++ step ∷ since)).part e) ((world_after rule c (before ++ step ∷ [])).part e) b page q count (cookie_of (world_after rule c before) s e) (subst (λ z. in_range q count z ≡ true) mp r) u
+    (then_part rule c before step e s q count b nx bo)
+    (ap (answered ((world_after rule c (before ++ step ∷ since)).part e)) (sym owes) ∙ h))
   where
-    bo : bound (world_after c before) e s ≡ Some b
-    bo = bound_is (world_after c before) e b s (always c before) u (bt ∙ sym mt ∙ sp)
+    bo : bound (world_after rule c before) e s ≡ Some b
+    bo = bound_is (world_after rule c before) e b s (always rule c before) u (bt ∙ sym mt ∙ sp)
 
     owes : owed e ≡ owed_by ((world_after c before).part e) q count (Some b)
     owes = ap (λ v. v e) ow ∙ ap (owed_by ((world_after c before).part e) q count) bo
@@ -391,12 +392,12 @@ bool_false : (b : Bool) → (b ≡ true → ⊥) → b ≡ false
 bool_false true h = absurd (h refl)
 bool_false false h = refl
 
-withheld_after : (c : Config) (before : List Step) (step : Step) (since : List Step) (f t q e b : ℕ) → IsAt (world_after c before) f t q → ((some rest : List Step) → some ++ rest ≡ since → IsMapped (world_after c (before ++ step ∷ some)) f → ⊥) → e < c.endpoints → is_unreleased (((world_after c before).part e).stage b) ≡ true → ((world_after c before).part e).space b ≡ t → (HasAnswered ((world_after c before).part e) ((world_after c (before ++ step ∷ [])).part e) ((world_after c (before ++ step ∷ since)).part e) b q → ⊥) → place (world_after c (before ++ step ∷ since)) f ≡ Withheld
-withheld_after c before step since f t q e b is un lt u bt silent =
+withheld_after : (rule : PasidRule) (c : Config) (before : List Step) (step : Step) (since : List Step) (f t q e b : ℕ) → IsAt (world_after rule c before) f t q → ((some rest : List Step) → some ++ rest ≡ since → IsMapped (world_after rule c (before ++ step ∷ some)) f → ⊥) → e < c.endpoints → is_unreleased (((world_after rule c before).part e).stage b) ≡ true → ((world_after rule c before).part e).space b ≡ t → (HasAnswered ((world_after rule c before).part e) ((world_after rule c (before ++ step ∷ [])).part e) ((world_after rule c (before ++ step ∷ since)).part e) b q → ⊥) → place (world_after rule c (before ++ step ∷ since)) f ≡ Withheld
+withheld_after rule c before step since f t q e b is un lt u bt silent =
     by ((moves w step i).present_on m (at.0))
   where
     w : World
-    w = world_after c before
+    w = world_after rule c before
 
     i : Invariant w
     i = always c before
@@ -434,8 +435,8 @@ withheld_after c before step since f t q e b is un lt u bt silent =
         (subst (λ k. e < k.endpoints) (sym (config_kept c (before ++ step ∷ since))) lt)
         (bool_false (answered ((world_after c (before ++ step ∷ since)).part e) (x.0 e)) (λ h. not_answered c before step since m e b t q x.0 at.1 at.2 u bt silent x.2 h))
 
-pub place_withheld : (c : Config) (steps : List Step) (f : ℕ) → IsWithheld c steps f → place (world_after c steps) f ≡ Withheld
-place_withheld c steps f x =
-    subst (λ z. place (world_after c z) f ≡ Withheld) (sym x.steps_are)
-    (withheld_after c x.before x.step x.since f x.space x.page x.endpoint x.binding x.was_there x.not_mapped_since x.is_endpoint x.unreleased x.of_space
-    (subst (λ z. HasAnswered ((world_after c x.before).part x.endpoint) ((world_after c (x.before ++ x.step ∷ [])).part x.endpoint) ((world_after c z).part x.endpoint) x.binding x.page → ⊥) x.steps_are x.silent))
+pub place_withheld : (rule : PasidRule) (c : Config) (steps : List Step) (f : ℕ) → IsWithheld rule c steps f → place (world_after rule c steps) f ≡ Withheld
+place_withheld rule c steps f x =
+    subst (λ z. place (world_after rule c z) f ≡ Withheld) (sym x.steps_are)
+    (withheld_after rule c x.before x.step x.since f x.space x.page x.endpoint x.binding x.was_there x.not_mapped_since x.is_endpoint x.unreleased x.of_space
+    (subst (λ z. HasAnswered ((world_after rule c x.before).part x.endpoint) ((world_after rule c (x.before ++ x.step ∷ [])).part x.endpoint) ((world_after rule c z).part x.endpoint) x.binding x.page → ⊥) x.steps_are x.silent))

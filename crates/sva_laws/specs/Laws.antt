@@ -1,4 +1,5 @@
 -- Laws of the definitions beside the headline: what answers tell, what labels find, what can't occur, and how many there are.
+use Rattle.sva_model.specs.State.{PasidRule}
 use Rattle.std.specs.Prelude.{◌≡◌, ◌≢◌, ◌⊎◌, ◌↔◌, ℕ, zero, suc, ◌+◌, ◌<◌, ◌≤◌, Bool, true, false, Option, Some, None, List, [], ◌∷◌, ◌++◌, length, slice_get, Ok}
 use Rattle.sva_step.specs.declared.answers.Answer.{Answer}
 use Rattle.sva_step.specs.declared.answers.Answer.TheVariants.{Frame, FreeFrames, WithheldFrames}
@@ -30,75 +31,75 @@ use Rattle.sva_model.specs.Claims.{Fits, Usable, IsPresent, IsAt, IsWithheld, Is
 -- each usable translation has an unreleased owner, and is present or leads to a withheld frame
 abbrev pub AlwaysOwned : Type 0
 AlwaysOwned =
-    (config : Config) (steps : List Step) (e b q m : ℕ)
+    (rule : PasidRule) (config : Config) (steps : List Step) (e b q m : ℕ)
     → Fits config
-    → Usable (world_after config steps) e b q m
-    → is_unreleased (((world_after config steps).part e).stage b) ≡ true
+    → Usable (world_after rule config steps) e b q m
+    → is_unreleased (((world_after rule config steps).part e).stage b) ≡ true
 
 abbrev pub AlwaysPresentOrWithheld : Type 0
 AlwaysPresentOrWithheld =
-    (config : Config) (steps : List Step) (e b q m : ℕ)
+    (rule : PasidRule) (config : Config) (steps : List Step) (e b q m : ℕ)
     → Fits config
-    → Usable (world_after config steps) e b q m
-    → IsPresent (world_after config steps) e b q m ⊎ IsWithheld config steps ((world_after config steps).mappings.frame m)
+    → Usable (world_after rule config steps) e b q m
+    → IsPresent (world_after rule config steps) e b q m ⊎ IsWithheld rule config steps ((world_after rule config steps).mappings.frame m)
 
 abbrev pub AlwaysMatched : Type 0
-AlwaysMatched = (config : Config) (steps : List Step) (e : ℕ) → Fits config → IsMatched ((world_after config steps).part e)
+AlwaysMatched = (rule : PasidRule) (config : Config) (steps : List Step) (e : ℕ) → Fits config → IsMatched ((world_after rule config steps).part e)
 
 abbrev pub AlwaysDivided : Type 0
-AlwaysDivided = (config : Config) (steps : List Step) → Fits config → IsDivided config steps
+AlwaysDivided = (rule : PasidRule) (config : Config) (steps : List Step) → Fits config → IsDivided rule config steps
 
 -- free, mapped and withheld frames together are all frames
 abbrev pub AlwaysAddsUp : Type 0
 AlwaysAddsUp =
-    (config : Config) (steps : List Step)
+    (rule : PasidRule) (config : Config) (steps : List Step)
     → Fits config
-    → (counts (world_after config steps)).free + (counts (world_after config steps)).mapped + (counts (world_after config steps)).withheld ≡ config.frames
+    → (counts (world_after rule config steps)).free + (counts (world_after rule config steps)).mapped + (counts (world_after rule config steps)).withheld ≡ config.frames
 
 -- the place that the step reads is Withheld exactly where the look back over the list says so
 abbrev pub AlwaysWithheldExactly : Type 0
-AlwaysWithheldExactly = (config : Config) (steps : List Step) (f : ℕ) → Fits config → (place (world_after config steps) f ≡ Withheld) ↔ IsWithheld config steps f
+AlwaysWithheldExactly = (rule : PasidRule) (config : Config) (steps : List Step) (f : ℕ) → Fits config → (place (world_after rule config steps) f ≡ Withheld) ↔ IsWithheld rule config steps f
 
 -- a withheld frame is free after the very step that leaves no endpoint in debt for it, and isn't mapped again by that step
 abbrev pub FreeByTheLastAnswer : Type 0
 FreeByTheLastAnswer =
-    (config : Config) (steps : List Step) (step : Step) (f : ℕ)
+    (rule : PasidRule) (config : Config) (steps : List Step) (step : Step) (f : ℕ)
     → Fits config
-    → IsWithheld config steps f
-    → (IsWithheld config (steps ++ step ∷ []) f → ⊥)
-    → place (world_after config (steps ++ step ∷ [])) f ≡ Free
+    → IsWithheld rule config steps f
+    → (IsWithheld rule config (steps ++ step ∷ []) f → ⊥)
+    → place (world_after rule config (steps ++ step ∷ [])) f ≡ Free
 
 -- What an unmapping that is accepted answers: the frames that its pages had just before, in the order of the pages; and each of
 -- them is said to be free exactly where it is free after the step, and withheld exactly where the look back says so.
-pub record IsTold (config : Config) (steps : List Step) (of_space page count : ℕ) (answer : Answer) : Type 0 where
+pub record IsTold (rule : PasidRule) (config : Config) (steps : List Step) (of_space page count : ℕ) (answer : Answer) : Type 0 where
   pub space : ℕ
-  pub numbered : number (world_after config steps) space ≡ of_space
+  pub numbered : number (world_after rule config steps) space ≡ of_space
   pub frames : List ℕ
   pub one_a_page : length frames ≡ count
-  pub was_there : (k f : ℕ) → slice_get frames k ≡ Some f → IsAt (world_after config steps) f space (page + k)
+  pub was_there : (k f : ℕ) → slice_get frames k ≡ Some f → IsAt (world_after rule config steps) f space (page + k)
   pub said : (answer ≡ FreeFrames frames) ⊎ (answer ≡ WithheldFrames frames)
-  pub free : (k f : ℕ) → slice_get frames k ≡ Some f → (answer ≡ FreeFrames frames) ↔ (place (world_after config (steps ++ Unmap of_space page count ∷ [])) f ≡ Free)
-  pub withheld : (k f : ℕ) → slice_get frames k ≡ Some f → (answer ≡ WithheldFrames frames) ↔ IsWithheld config (steps ++ Unmap of_space page count ∷ []) f
+  pub free : (k f : ℕ) → slice_get frames k ≡ Some f → (answer ≡ FreeFrames frames) ↔ (place (world_after rule config (steps ++ Unmap of_space page count ∷ [])) f ≡ Free)
+  pub withheld : (k f : ℕ) → slice_get frames k ≡ Some f → (answer ≡ WithheldFrames frames) ↔ IsWithheld rule config (steps ++ Unmap of_space page count ∷ []) f
 
 abbrev pub AlwaysTold : Type 0
 AlwaysTold =
-    (config : Config) (steps : List Step) (of_space page count : ℕ) (answer : Answer)
+    (rule : PasidRule) (config : Config) (steps : List Step) (of_space page count : ℕ) (answer : Answer)
     → Fits config
-    → reply (world_after config steps) (Unmap of_space page count) ≡ Ok answer
-    → IsTold config steps of_space page count answer
+    → reply (world_after rule config steps) (Unmap of_space page count) ≡ Ok answer
+    → IsTold rule config steps of_space page count answer
 
 -- What a mapping that is accepted answers: a frame that was free just before, and that is at the page after the step.
 abbrev pub AlwaysGiven : Type 0
 AlwaysGiven =
-    (config : Config) (steps : List Step) (of_space page : ℕ) (write : Bool) (answer : Answer)
+    (rule : PasidRule) (config : Config) (steps : List Step) (of_space page : ℕ) (write : Bool) (answer : Answer)
     → Fits config
-    → reply (world_after config steps) (Map of_space page write) ≡ Ok answer
+    → reply (world_after rule config steps) (Map of_space page write) ≡ Ok answer
     → (space frame : ℕ)
-    × (number (world_after config steps) space ≡ of_space)
+    × (number (world_after rule config steps) space ≡ of_space)
     × (answer ≡ Frame frame)
     × (frame < config.frames)
-    × (place (world_after config steps) frame ≡ Free)
-    × IsAt (world_after config (steps ++ Map of_space page write ∷ [])) frame space page
+    × (place (world_after rule config steps) frame ≡ Free)
+    × IsAt (world_after rule config (steps ++ Map of_space page write ∷ [])) frame space page
 
 -- Labels. What a label finds is the one record that bears it, and each record that bears a label is found by it.
 pub record IsLabelled (p : Part) : Type 0 where
@@ -224,16 +225,16 @@ pub record IsLimited (p : Part) : Type 0 where
   pub waiting : length (waiting p) ≤ 32
 
 abbrev pub AlwaysLabelled : Type 0
-AlwaysLabelled = (config : Config) (steps : List Step) (e : ℕ) → Fits config → IsLabelled ((world_after config steps).part e)
+AlwaysLabelled = (rule : PasidRule) (config : Config) (steps : List Step) (e : ℕ) → Fits config → IsLabelled ((world_after rule config steps).part e)
 
 abbrev pub AlwaysFound : Type 0
-AlwaysFound = (config : Config) (steps : List Step) (e : ℕ) → Fits config → IsFound ((world_after config steps).part e)
+AlwaysFound = (rule : PasidRule) (config : Config) (steps : List Step) (e : ℕ) → Fits config → IsFound ((world_after rule config steps).part e)
 
 abbrev pub NeverOccurring : Type 0
-NeverOccurring = (config : Config) (steps : List Step) (e : ℕ) → Fits config → NeverOccurs ((world_after config steps).part e)
+NeverOccurring = (rule : PasidRule) (config : Config) (steps : List Step) (e : ℕ) → Fits config → NeverOccurs ((world_after rule config steps).part e)
 
 abbrev pub AlwaysLimited : Type 0
-AlwaysLimited = (config : Config) (steps : List Step) (e : ℕ) → Fits config → IsLimited ((world_after config steps).part e)
+AlwaysLimited = (rule : PasidRule) (config : Config) (steps : List Step) (e : ℕ) → Fits config → IsLimited ((world_after rule config steps).part e)
 
 -- What is awaited at an open unit is on its way, once. Each busy ITag has exactly one of: its Invalidate in flight, an
 -- invalidation that the endpoint has taken, or completions owed, each of them in flight.
@@ -295,10 +296,10 @@ pub record IsUnderWay (n : ℕ) (p : Part) : Type 0 where
   pub response_once : (c d g : ℕ) (code other : Code) → p.message c ≡ Some (ResponseOf g code) → p.message d ≡ Some (ResponseOf g other) → c ≡ d
 
 abbrev pub AlwaysUnderWay : Type 0
-AlwaysUnderWay = (config : Config) (steps : List Step) (e : ℕ) → Fits config → IsUnderWay (world_after config steps).messages ((world_after config steps).part e)
+AlwaysUnderWay = (rule : PasidRule) (config : Config) (steps : List Step) (e : ℕ) → Fits config → IsUnderWay (world_after rule config steps).messages ((world_after rule config steps).part e)
 
 abbrev pub AlwaysCarried : Type 0
-AlwaysCarried = (config : Config) (steps : List Step) (e : ℕ) → Fits config → IsCarried (world_after config steps).mappings ((world_after config steps).part e)
+AlwaysCarried = (rule : PasidRule) (config : Config) (steps : List Step) (e : ℕ) → Fits config → IsCarried (world_after rule config steps).mappings ((world_after rule config steps).part e)
 
 -- A worker's hand holds a job that was made, of a group that is in that worker's hand at the host, whether or not a reset has
 -- dropped it since; so no two hands hold jobs of the same group. And back: of a group that is in a worker's hand, that worker
@@ -333,4 +334,4 @@ pub record HoldsJobs (w : World) : Type 0 where
       → job ≡ same
 
 abbrev pub AlwaysHoldsJobs : Type 0
-AlwaysHoldsJobs = (config : Config) (steps : List Step) → Fits config → HoldsJobs (world_after config steps)
+AlwaysHoldsJobs = (rule : PasidRule) (config : Config) (steps : List Step) → Fits config → HoldsJobs (world_after rule config steps)

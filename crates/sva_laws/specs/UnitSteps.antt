@@ -1,6 +1,7 @@
 -- What one step does at an endpoint with its unit: to the counter of reset-dones, to the orders, and to the markers noted. So
 -- each of "a reset-done was delivered", "done", "void" and "marker noted" stands for events of the list. And each wait has a
 -- cookie of its own.
+use Rattle.sva_model.specs.State.{PasidRule}
 use Rattle.std.specs.Prelude.{◌≡◌, ◌≢◌, ◌⊎◌, ◌↔◌, ℕ, suc, ◌<◌, ◌≤◌, Bool, true, Some, List, [], ◌∷◌, ◌++◌, Ok}
 use Rattle.sva_step.specs.declared.answers.Answer.{Answer}
 use Rattle.sva_step.specs.declared.answers.Answer.TheVariants as answer
@@ -99,27 +100,27 @@ pub record GivesCookies (w : World) : Type 0 where
 
 abbrev pub AlwaysCountsResetDones : Type 0
 AlwaysCountsResetDones =
-    (config : Config) (steps : List Step) (s : Step) (e : ℕ)
+    (rule : PasidRule) (config : Config) (steps : List Step) (s : Step) (e : ℕ)
     → Fits config
-    → CountsResetDones (world_after config steps) s e ((world_after config (steps ++ s ∷ [])).part e)
+    → CountsResetDones (world_after rule config steps) s e ((world_after rule config (steps ++ s ∷ [])).part e)
 
 abbrev pub AlwaysChangesOrders : Type 0
 AlwaysChangesOrders =
-    (config : Config) (steps : List Step) (s : Step) (e : ℕ)
+    (rule : PasidRule) (config : Config) (steps : List Step) (s : Step) (e : ℕ)
     → Fits config
-    → ChangesOrders (world_after config steps) s e ((world_after config (steps ++ s ∷ [])).part e)
+    → ChangesOrders (world_after rule config steps) s e ((world_after rule config (steps ++ s ∷ [])).part e)
 
 abbrev pub AlwaysNotesMarkers : Type 0
 AlwaysNotesMarkers =
-    (config : Config) (steps : List Step) (s : Step) (e : ℕ)
+    (rule : PasidRule) (config : Config) (steps : List Step) (s : Step) (e : ℕ)
     → Fits config
-    → NotesMarkers (world_after config steps) s e ((world_after config (steps ++ s ∷ [])).part e)
+    → NotesMarkers (world_after rule config steps) s e ((world_after rule config (steps ++ s ∷ [])).part e)
 
 abbrev pub AlwaysVoidByReset : Type 0
 AlwaysVoidByReset =
-    (config : Config) (before since : List Step) (e : ℕ)
+    (rule : PasidRule) (config : Config) (before since : List Step) (e : ℕ)
     → Fits config
-    → IsVoidByReset ((world_after config before).part e) ((world_after config (before ++ since)).part e)
+    → IsVoidByReset ((world_after rule config before).part e) ((world_after rule config (before ++ since)).part e)
 
 abbrev pub AlwaysGivesCookies : Type 0
-AlwaysGivesCookies = (config : Config) (steps : List Step) → Fits config → GivesCookies (world_after config steps)
+AlwaysGivesCookies = (rule : PasidRule) (config : Config) (steps : List Step) → Fits config → GivesCookies (world_after rule config steps)

@@ -6,6 +6,7 @@ use Rattle.sva_step.specs.declared.refusals.Refusal.{Refusal}
 use Rattle.sva_step.specs.declared.refusals.Refusal.TheVariants as refusal
 use Rattle.sva_step.specs.declared.steps.Step.{Step}
 use Rattle.sva_step.specs.declared.steps.Step.TheVariants as step
+use Rattle.sva_model.specs.State.PasidRule.{PerSpace}
 use Rattle.sva_model.specs.Words.{put, lowest, step_lowest, count_below}
 use Rattle.sva_model.specs.State.{MappingState, World, opened}
 use Rattle.sva_model.specs.State.MappingState.{Unmade, Present}
@@ -110,7 +111,7 @@ at_column n s q = grind (arith, nat_tests)
 
 mapped : (n frames first : ℕ) → act (mapped_space n frames first) (Act.Map 0 n n false) ≡ mapped_space (suc n) frames first
 mapped n frames first =
-    ap (λ ms. record (opened (config 1 frames 1 first)) { spaces = 1; is_live = λ s. s == 0; mappings = ms }) columns
+    ap (λ ms. record (opened PerSpace (config 1 frames 1 first)) { spaces = 1; is_live = λ s. s == 0; mappings = ms }) columns
   where
     columns : (act (mapped_space n frames first) (Act.Map 0 n n false)).mappings ≡ (mapped_space (suc n) frames first).mappings
     columns =
@@ -170,10 +171,10 @@ no_page m = grind (arith, nat_tests)
 no_latest : (f : ℕ) → None ≡ (if nat_lt f 0 then Some f else None)
 no_latest f = grind (arith, nat_tests)
 
-made : (frames first : ℕ) → act (opened (config 1 frames 1 first)) Act.NewSpace ≡ mapped_space 0 frames first
+made : (frames first : ℕ) → act (opened PerSpace (config 1 frames 1 first)) Act.NewSpace ≡ mapped_space 0 frames first
 made frames first =
     λ i.
-    record (opened (config 1 frames 1 first)) {
+    record (opened PerSpace (config 1 frames 1 first)) {
       spaces = 1;
       is_live = λ s. live_column s i;
       mappings =
@@ -189,11 +190,11 @@ made frames first =
           };
     }
 
-space_next : (frames first : ℕ) → first < 2 ^ 63 → next (opened (config 1 frames 1 first)) step.Space ≡ mapped_space 0 frames first
+space_next : (frames first : ℕ) → first < 2 ^ 63 → next (opened PerSpace (config 1 frames 1 first)) step.Space ≡ mapped_space 0 frames first
 unfolding count_below
 space_next frames first l =
-    let acts : (decide (opened (config 1 frames 1 first)) step.Space).acts ≡ Act.NewSpace ∷ [] = first_unrefused _ refusal.TooManySpaces refusal.NumbersSpent (outcome (opened (config 1 frames 1 first)) step.Space) (enough first l) in
-    ap (after_acts (opened (config 1 frames 1 first))) acts ∙ made frames first
+    let acts : (decide (opened PerSpace (config 1 frames 1 first)) step.Space).acts ≡ Act.NewSpace ∷ [] = first_unrefused _ refusal.TooManySpaces refusal.NumbersSpent (outcome (opened PerSpace (config 1 frames 1 first)) step.Space) (enough first l) in
+    ap (after_acts (opened PerSpace (config 1 frames 1 first))) acts ∙ made frames first
 
 pub reached : FullSpaceReached
 reached frames first f l =

@@ -1,12 +1,13 @@
 -- What is done once the labels of a step are read: by names alone, and with no test round a record.
-use Rattle.std.specs.Prelude.{ℕ, zero, suc, ◌+◌, Bool, true, false, ◌&&◌, ◌||◌, not, ◌==◌, nat_lt, nat_le, if◌then◌else◌, Option, Some, None}
+use Rattle.std.specs.Prelude.{ℕ, zero, suc, ◌+◌, ◌*◌, ◌^◌, Bool, true, false, ◌&&◌, ◌||◌, not, ◌==◌, nat_lt, nat_le, if◌then◌else◌, Option, Some, None}
 use Rattle.sva_model.specs.Words.{put, put_range, count_below, find, unless}
-use Rattle.sva_model.specs.Message.{Code, Message, Extent}
-use Rattle.sva_model.specs.Message.Extent.{OnePage, AllPages}
+use Rattle.sva_model.specs.Range.{Range, encode}
+use Rattle.sva_model.specs.Message.{Code, Message, Scope}
+use Rattle.sva_model.specs.Message.Scope.{Coded, Everything}
 use Rattle.sva_model.specs.Message.Code.{FailureCode}
 use Rattle.sva_model.specs.Message.Message.{StartMessage, StopMessage, ResetMessage, InvalidateMessage, ResponseMessage, RequestMessage, InvalidatedMessage, PageRequestMessage, MarkerMessage, ResetDoneMessage}
 use Rattle.sva_model.specs.State.{Owed, MappingState, Mappings, Stage, RequestState, UseState, PageRequestState, GroupState, HostGroupState, Order, OrderState, Part, World}
-use Rattle.sva_model.specs.State.Owed.{Nothing, Pages, Pasid, AReset}
+use Rattle.sva_model.specs.State.Owed.{Nothing, Ranges, Pasid, AReset}
 use Rattle.sva_model.specs.State.MappingState.{Present, Gone}
 use Rattle.sva_model.specs.State.Stage.{Live, Stopping, Draining, Invalidating, Quiet, Lost, Released}
 use Rattle.sva_model.specs.State.PasidState.{Off, On, Ending}
@@ -15,11 +16,12 @@ use Rattle.sva_model.specs.State.UseState.{Running, Dead, Ended}
 use Rattle.sva_model.specs.State.PageRequestState.{InFlight, Arrived, Filed, Dropped}
 use Rattle.sva_model.specs.State.GroupState.{Unfinished, Awaiting, Stale, Finished}
 use Rattle.sva_model.specs.State.HostGroupState.{PartFiled, Job, InHand, Replied, Discarded, InHandDiscarded}
-use Rattle.sva_model.specs.State.Order.{PageOf, PasidOf, Wait}
+use Rattle.sva_model.specs.State.Order.{RangeOf, PasidOf, Wait}
 use Rattle.sva_model.specs.State.OrderState.{Queued, Sent, Taken, Lapsed, Owing, Done, Void}
 use Rattle.sva_model.specs.State.About.{StartOf, StopOf, ResetOrder, CompletionOf, InvalidateOf, ResponseOf, RequestOf, InvalidatedOf, PageRequestOf, MarkerOf, ResetDone}
 use Rattle.sva_model.specs.State.Phase.{Open, Ordered, Cleared}
-use Rattle.sva_model.specs.States.{is_open, is_unreleased, is_before_invalidating, is_done, covers}
+use Rattle.sva_model.specs.States.{Extent, is_open, is_unreleased, is_before_invalidating, is_done, covers}
+use Rattle.sva_model.specs.States.Extent.{Pages, AllPages}
 
 -- what one endpoint or its unit does alone
 pub data Own : Type 0 where
@@ -67,7 +69,8 @@ pub data Act : Type 0 where
   NewSpace : Act
   DropSpace : (space : ℕ) → Act
   Map : (space page frame : ℕ) (write : Bool) → Act
-  Unmap : (space page count : ℕ) → Act
+  -- the pages of `count` ranges of 2^order pages, one behind another, from `page` on
+  Unmap : (space page count order : ℕ) → Act
   NewBinding : (endpoint : ℕ) → Act
   NewJob : (endpoint group : ℕ) → Act
   Hold : (worker job : ℕ) → Act
@@ -78,7 +81,8 @@ pub data Act : Type 0 where
 abbrev pub bound : World → (endpoint space : ℕ) → Option ℕ
 bound w e s = find w.bindings (λ b. is_unreleased ((w.part e).stage b) && (w.part e).space b == s)
 
--- Unmapping. A unit that is open gets the page invalidations and a wait where its binding is Live, Stopping or Draining.
+-- Unmapping. A unit that is open gets the invalidations of the ranges and a wait where its binding is Live, Stopping or
+-- Draining.
 abbrev pub submits_at : Part → Option ℕ → Bool
 submits_at p None = false
 submits_at p (Some b) = is_open p.phase && is_before_invalidating (p.stage b)
@@ -86,21 +90,21 @@ submits_at p (Some b) = is_open p.phase && is_before_invalidating (p.stage b)
 abbrev pub submits : World → (space endpoint : ℕ) → Bool
 submits w s e = submits_at (w.part e) (bound w e s)
 
-abbrev pub owed_by_unit : Part → (page count : ℕ) → Bool → Owed
-owed_by_unit p q count true = Pages q p.orders count p.resets
-owed_by_unit p q count false = AReset p.resets
+abbrev pub owed_by_unit : Part → (count : ℕ) → Bool → Owed
+owed_by_unit p count true = Ranges p.orders count p.resets
+owed_by_unit p count false = AReset p.resets
 
--- what the endpoint has to answer for the `count` pages from `page` on that a binding in this stage loses
-abbrev pub owed_by_stage : Part → (page count : ℕ) → Stage → Owed
-owed_by_stage p q count Live = owed_by_unit p q count (is_open p.phase)
-owed_by_stage p q count (Stopping marked) = owed_by_unit p q count (is_open p.phase)
-owed_by_stage p q count (Draining wait) = owed_by_unit p q count (is_open p.phase)
-owed_by_stage p q count (Invalidating invalidation wait) = Pasid invalidation wait p.resets (not (is_open p.phase))
-owed_by_stage p q count _ = Nothing
+-- what the endpoint has to answer for the pages of `count` ranges that a binding in this stage loses
+abbrev pub owed_by_stage : Part → (count : ℕ) → Stage → Owed
+owed_by_stage p count Live = owed_by_unit p count (is_open p.phase)
+owed_by_stage p count (Stopping marked) = owed_by_unit p count (is_open p.phase)
+owed_by_stage p count (Draining wait) = owed_by_unit p count (is_open p.phase)
+owed_by_stage p count (Invalidating invalidation wait) = Pasid invalidation wait p.resets (not (is_open p.phase))
+owed_by_stage p count _ = Nothing
 
-abbrev pub owed_by : Part → (page count : ℕ) → Option ℕ → Owed
-owed_by p q count None = Nothing
-owed_by p q count (Some b) = owed_by_stage p q count (p.stage b)
+abbrev pub owed_by : Part → (count : ℕ) → Option ℕ → Owed
+owed_by p count None = Nothing
+owed_by p count (Some b) = owed_by_stage p count (p.stage b)
 
 -- is there something to wait for at the endpoint?
 abbrev pub waits_by_stage : Part → Stage → Bool
@@ -117,24 +121,29 @@ waits_at p (Some b) = waits_by_stage p (p.stage b)
 abbrev pub waits : World → (space endpoint : ℕ) → Bool
 waits w s e = waits_at (w.part e) (bound w e s)
 
-abbrev pub submitted : Part → (binding page count cookie : ℕ) → Part
-submitted p b q count cookie =
+-- of ranges of 2^order pages, one behind another from `page` on, that with this number
+abbrev pub range_at : (page order number : ℕ) → Range
+range_at q order j = record { base = q + j * 2 ^ order; order = order }
+
+abbrev pub submitted : Part → (binding page count order cookie : ℕ) → Part
+submitted p b q count order cookie =
     record p {
       orders = p.orders + suc count;
-      order = put (put_range p.order p.orders count (λ j. PageOf b (q + j))) (p.orders + count) (Wait cookie false);
+      order = put (put_range p.order p.orders count (λ j. RangeOf b (range_at q order j))) (p.orders + count) (Wait cookie false);
       order_state = put_range p.order_state p.orders (suc count) (λ j. Queued);
+      waits_end = suc cookie;
     }
 
-abbrev pub submitted_if : Bool → Part → Option ℕ → (page count cookie : ℕ) → Part
-submitted_if true p (Some b) q count cookie = submitted p b q count cookie
-submitted_if _ p _ q count cookie = p
+abbrev pub submitted_if : Bool → Part → Option ℕ → (page count order cookie : ℕ) → Part
+submitted_if true p (Some b) q count order cookie = submitted p b q count order cookie
+submitted_if _ p _ q count order cookie = p
 
 -- the cookies are given out in rising order of units
 abbrev pub cookie_of : World → (space endpoint : ℕ) → ℕ
 cookie_of w s e = w.cookies + count_below e (submits w s)
 
-abbrev pub part_after_unmap : World → (space page count endpoint : ℕ) → Part
-part_after_unmap w s q count e = submitted_if (submits w s e) (w.part e) (bound w e s) q count (cookie_of w s e)
+abbrev pub part_after_unmap : World → (space page count order endpoint : ℕ) → Part
+part_after_unmap w s q count order e = submitted_if (submits w s e) (w.part e) (bound w e s) q count order (cookie_of w s e)
 
 abbrev pub gone_if : Bool → (ℕ → Owed) → MappingState → MappingState
 gone_if true owed Present = Gone owed
@@ -235,11 +244,21 @@ disables FailureCode = true
 disables _ = false
 
 abbrev pub extent_of : Order → Extent
-extent_of (PageOf b q) = OnePage q
+extent_of (RangeOf b range) = Pages range
 extent_of _ = AllPages
 
+-- what its Invalidate Request names
+abbrev pub scope_of : Extent → Scope
+scope_of (Pages range) = Coded (encode range)
+scope_of AllPages = Everything
+
+-- one more than the cookie of a wait
+abbrev pub end_of : Order → ℕ
+end_of (Wait cookie drain) = suc cookie
+end_of _ = 0
+
 abbrev pub binding_of : Order → ℕ
-binding_of (PageOf b q) = b
+binding_of (RangeOf b range) = b
 binding_of (PasidOf b) = b
 binding_of (Wait cookie drain) = 0
 
@@ -271,6 +290,7 @@ own p n (Drain b cookie) =
       orders = suc p.orders;
       order = put p.order p.orders (Wait cookie true);
       order_state = put p.order_state p.orders Queued;
+      waits_end = suc cookie;
     }
 own p n (Invalidate b cookie) =
     record p {
@@ -278,6 +298,7 @@ own p n (Invalidate b cookie) =
       orders = suc (suc p.orders);
       order = put (put p.order p.orders (PasidOf b)) (suc p.orders) (Wait cookie false);
       order_state = put (put p.order_state p.orders Queued) (suc p.orders) Queued;
+      waits_end = suc cookie;
     }
 own p n (Quieten b) = record p { stage = put p.stage b Quiet }
 own p n (Release b) = record p { stage = put p.stage b Released; at_pasid = put p.at_pasid (p.pasid b) None }
@@ -288,9 +309,9 @@ own p n (Send k t) =
       itag = put p.itag k t;
       at_itag = put p.at_itag t (Some k);
       message = put p.message n (Some (InvalidateOf k));
-      carried = put p.carried n (InvalidateMessage t (p.pasid (binding_of (p.order k))) (extent_of (p.order k)));
+      carried = put p.carried n (InvalidateMessage t (p.pasid (binding_of (p.order k))) (scope_of (extent_of (p.order k))));
     }
-own p n (Pass k) = record p { order_state = put p.order_state k Done }
+own p n (Pass k) = record p { order_state = put p.order_state k Done; front = end_of (p.order k) }
 own p n (File r) =
     record p {
       page_request = put p.page_request r Filed;
@@ -455,6 +476,7 @@ own p n (Reopen c) =
       resets = suc p.resets;
       stage = λ b. cut_off (p.stage b);
       order_state = λ k. void_undone (p.order_state k);
+      front = p.waits_end;
       at_itag = λ t. None;
       message = put p.message c None;
     }
@@ -499,11 +521,11 @@ act w (Map s q f x) =
             latest = put ms.latest f (Some ms.made);
           };
     }
-act w (Unmap s q count) =
+act w (Unmap s q count order) =
     record w {
-      mappings = without_pages w.mappings s (in_range q count) (λ e. owed_by (w.part e) q count (bound w e s));
+      mappings = without_pages w.mappings s (in_range q (count * 2 ^ order)) (λ e. owed_by (w.part e) count (bound w e s));
       cookies = w.cookies + count_below w.config.endpoints (submits w s);
-      part = part_after_unmap w s q count;
+      part = part_after_unmap w s q count order;
     }
 act w (NewBinding e) = record w { bindings = suc w.bindings; home = put w.home w.bindings e }
 act w (NewJob e g) = record w { jobs = suc w.jobs; job = put w.job w.jobs (record { endpoint = e; group = g }) }

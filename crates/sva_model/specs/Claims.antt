@@ -5,17 +5,19 @@ use Rattle.sva_step.specs.declared.limits.Config.{Config}
 use Rattle.sva_step.specs.declared.steps.Step.{Step}
 pub use Rattle.sva_step.specs.Limits.{Fits}
 use Rattle.sva_model.specs.Message.{Code}
-use Rattle.sva_model.specs.State.{Part, World}
+use Rattle.sva_model.specs.Range.{Range}
+use Rattle.sva_model.specs.State.{PasidRule, Part, World}
+use Rattle.sva_model.specs.State.PasidRule.{PerSpace}
 use Rattle.sva_model.specs.State.PasidState.{Off}
 use Rattle.sva_model.specs.State.Stage.{Live, Stopping, Draining, Invalidating, Quiet, Lost}
 use Rattle.sva_model.specs.State.RequestState.{Out}
 use Rattle.sva_model.specs.State.UseState.{Running}
 use Rattle.sva_model.specs.State.PageRequestState.{Arrived, Filed}
-use Rattle.sva_model.specs.State.Order.{PageOf}
+use Rattle.sva_model.specs.State.Order.{RangeOf}
 use Rattle.sva_model.specs.State.OrderState.{Done}
 use Rattle.sva_model.specs.State.About.{StartOf, StopOf, CompletionOf, ResponseOf, PageRequestOf, MarkerOf}
 use Rattle.sva_model.specs.State.Phase.{Open}
-use Rattle.sva_model.specs.States.{is_unreleased, is_open_group, is_wait, place}
+use Rattle.sva_model.specs.States.{covers, is_unreleased, is_open_group, is_wait, place}
 use Rattle.sva_model.specs.States.Place.{Free, Mapped, Withheld}
 use Rattle.sva_model.specs.Steps.{world_after}
 
@@ -54,7 +56,8 @@ abbrev pub WasDone : Part → (binding : ℕ) → Type 0
 WasDone p b = (p.stage b ≡ Quiet) ⊎ (p.stage b ≡ Lost)
 
 -- or the unit was open, the binding Live, Stopping or Draining, and the orders that the step submitted at the unit are done
--- by now, which are invalidations of its pages, that of the page that led to the frame among them, and a wait behind them;
+-- by now, which are invalidations of ranges of its pages, one that covers the page that led to the frame among them, and a
+-- wait behind them;
 abbrev pub IsBeforeInvalidating : Part → (binding : ℕ) → Type 0
 IsBeforeInvalidating p b = (p.stage b ≡ Live) ⊎ ((marked : Bool) × (p.stage b ≡ Stopping marked)) ⊎ ((wait : ℕ) × (p.stage b ≡ Draining wait))
 
@@ -64,13 +67,13 @@ pub record HasSubmitted (was then : Part) (binding page : ℕ) : Type 0 where
   pub is_new : was.orders ≤ wait
   pub is_last : then.orders ≡ suc wait
   pub is_a_wait : is_wait (then.order wait) ≡ true
-  -- what is ahead of the wait are invalidations of pages of the binding
-  pub pages : (k : ℕ) → was.orders ≤ k → k < wait → (other : ℕ) × (then.order k ≡ PageOf binding other)
-  -- and one of them is that of the page itself
+  -- what is ahead of the wait are invalidations of ranges of the binding
+  pub ranges : (k : ℕ) → was.orders ≤ k → k < wait → (range : Range) × (then.order k ≡ RangeOf binding range)
+  -- and one of them covers the page
   pub its_own : ℕ
   pub own_is_new : was.orders ≤ its_own
   pub own_is_ahead : its_own < wait
-  pub own_page : then.order its_own ≡ PageOf binding page
+  pub own_covers : covers (then.order its_own) binding page ≡ true
 
 abbrev pub AreDone : Part → (from to : ℕ) → Type 0
 AreDone p from to = (k : ℕ) → from ≤ k → k < to → p.order_state k ≡ Done
@@ -90,25 +93,25 @@ pub data HasAnswered (was then now : Part) (binding page : ℕ) : Type 0 where
 
 -- After these steps the frame is withheld: the last step that took it out of a space is the one between `before` and
 -- `since`, it was not mapped since, and an endpoint bound to that space just before has not answered yet.
-pub record IsWithheld (config : Config) (steps : List Step) (frame : ℕ) : Type 0 where
+pub record IsWithheld (rule : PasidRule) (config : Config) (steps : List Step) (frame : ℕ) : Type 0 where
   pub before : List Step
   pub step : Step
   pub since : List Step
   pub steps_are : steps ≡ before ++ step ∷ since
   pub space : ℕ
   pub page : ℕ
-  pub was_there : IsAt (world_after config before) frame space page
-  pub not_mapped_since : (some rest : List Step) → some ++ rest ≡ since → IsMapped (world_after config (before ++ step ∷ some)) frame → ⊥
+  pub was_there : IsAt (world_after rule config before) frame space page
+  pub not_mapped_since : (some rest : List Step) → some ++ rest ≡ since → IsMapped (world_after rule config (before ++ step ∷ some)) frame → ⊥
   pub endpoint : ℕ
   pub is_endpoint : endpoint < config.endpoints
   pub binding : ℕ
-  pub unreleased : is_unreleased (((world_after config before).part endpoint).stage binding) ≡ true
-  pub of_space : ((world_after config before).part endpoint).space binding ≡ space
+  pub unreleased : is_unreleased (((world_after rule config before).part endpoint).stage binding) ≡ true
+  pub of_space : ((world_after rule config before).part endpoint).space binding ≡ space
   pub silent :
       HasAnswered
-      ((world_after config before).part endpoint)
-      ((world_after config (before ++ step ∷ [])).part endpoint)
-      ((world_after config steps).part endpoint)
+      ((world_after rule config before).part endpoint)
+      ((world_after rule config (before ++ step ∷ [])).part endpoint)
+      ((world_after rule config steps).part endpoint)
       binding
       page
       → ⊥
@@ -116,12 +119,12 @@ pub record IsWithheld (config : Config) (steps : List Step) (frame : ℕ) : Type
 -- each frame is at exactly one page of one live space, or withheld, or free, and only one of these; the step reads its
 -- place from what was written down when it was taken out, and that agrees with the look back; and what is at a page is a
 -- frame of the config
-pub record IsDivided (config : Config) (steps : List Step) : Type 0 where
-  pub low : (f s q : ℕ) → IsAt (world_after config steps) f s q → f < config.frames
-  pub mapped_once : (f s q t r : ℕ) → IsAt (world_after config steps) f s q → IsAt (world_after config steps) f t r → (s ≡ t) × (q ≡ r)
-  pub mapped : (f : ℕ) → (place (world_after config steps) f ≡ Mapped) ↔ IsMapped (world_after config steps) f
-  pub withheld : (f : ℕ) → (place (world_after config steps) f ≡ Withheld) ↔ IsWithheld config steps f
-  pub free : (f : ℕ) → (place (world_after config steps) f ≡ Free) ↔ ((IsMapped (world_after config steps) f → ⊥) × (IsWithheld config steps f → ⊥))
+pub record IsDivided (rule : PasidRule) (config : Config) (steps : List Step) : Type 0 where
+  pub low : (f s q : ℕ) → IsAt (world_after rule config steps) f s q → f < config.frames
+  pub mapped_once : (f s q t r : ℕ) → IsAt (world_after rule config steps) f s q → IsAt (world_after rule config steps) f t r → (s ≡ t) × (q ≡ r)
+  pub mapped : (f : ℕ) → (place (world_after rule config steps) f ≡ Mapped) ↔ IsMapped (world_after rule config steps) f
+  pub withheld : (f : ℕ) → (place (world_after rule config steps) f ≡ Withheld) ↔ IsWithheld rule config steps f
+  pub free : (f : ℕ) → (place (world_after rule config steps) f ≡ Free) ↔ ((IsMapped (world_after rule config steps) f → ⊥) × (IsWithheld rule config steps f → ⊥))
 
 -- Page requests and responses. The binding under which a page request, a group or a marker was sent is its asker.
 abbrev pub asker_of : Part → (page_request : ℕ) → ℕ
@@ -158,22 +161,31 @@ pub record IsMatched (p : Part) : Type 0 where
 
 -- The agreement: after these steps each usable translation has an unreleased owner and is present or leads to a withheld
 -- frame; page requests and responses are matched; frames are divided; and two unreleased bindings of an endpoint have two
--- PASIDs.
-pub record Agrees (config : Config) (steps : List Step) : Type 0 where
-  pub owner : (e b q m : ℕ) → Usable (world_after config steps) e b q m → is_unreleased (((world_after config steps).part e).stage b) ≡ true
+-- PASIDs, of whatever endpoints two where they have two spaces.
+pub record Agrees (rule : PasidRule) (config : Config) (steps : List Step) : Type 0 where
+  pub owner : (e b q m : ℕ) → Usable (world_after rule config steps) e b q m → is_unreleased (((world_after rule config steps).part e).stage b) ≡ true
   pub usable :
       (e b q m : ℕ)
-      → Usable (world_after config steps) e b q m
-      → IsPresent (world_after config steps) e b q m ⊎ IsWithheld config steps ((world_after config steps).mappings.frame m)
-  pub matched : (e : ℕ) → IsMatched ((world_after config steps).part e)
-  pub divided : IsDivided config steps
+      → Usable (world_after rule config steps) e b q m
+      → IsPresent (world_after rule config steps) e b q m ⊎ IsWithheld rule config steps ((world_after rule config steps).mappings.frame m)
+  pub matched : (e : ℕ) → IsMatched ((world_after rule config steps).part e)
+  pub divided : IsDivided rule config steps
   pub distinct :
       (e b d : ℕ)
-      → is_unreleased (((world_after config steps).part e).stage b) ≡ true
-      → is_unreleased (((world_after config steps).part e).stage d) ≡ true
-      → ((world_after config steps).part e).pasid b ≡ ((world_after config steps).part e).pasid d
+      → is_unreleased (((world_after rule config steps).part e).stage b) ≡ true
+      → is_unreleased (((world_after rule config steps).part e).stage d) ≡ true
+      → ((world_after rule config steps).part e).pasid b ≡ ((world_after rule config steps).part e).pasid d
       → b ≡ d
+  -- under the rule of one PASID for each space: two unreleased bindings, of whatever endpoints, have the same PASID exactly
+  -- where they have the same space
+  pub shared :
+      (e b d c : ℕ)
+      → rule ≡ PerSpace
+      → is_unreleased (((world_after rule config steps).part e).stage b) ≡ true
+      → is_unreleased (((world_after rule config steps).part d).stage c) ≡ true
+      → (((world_after rule config steps).part e).pasid b ≡ ((world_after rule config steps).part d).pasid c)
+      ↔ (((world_after rule config steps).part e).space b ≡ ((world_after rule config steps).part d).space c)
 
 -- After every list of steps, however late messages come in a permitted order.
 abbrev pub AlwaysAgrees : Type 0
-AlwaysAgrees = (config : Config) (steps : List Step) → Fits config → Agrees config steps
+AlwaysAgrees = (rule : PasidRule) (config : Config) (steps : List Step) → Fits config → Agrees rule config steps

@@ -1,10 +1,11 @@
 -- What the numbers and labels of a step mean now.
-use Rattle.std.specs.Prelude.{ℕ, suc, ◌+◌, ◌-◌, ◌^◌, Bool, false, ◌&&◌, not, ◌==◌, nat_lt, nat_le, Option, Some, None, List, map}
+use Rattle.std.specs.Prelude.{ℕ, suc, ◌+◌, ◌-◌, ◌^◌, Bool, false, ◌&&◌, not, ◌==◌, nat_lt, nat_le, Option, Some, None, option_map, List, map}
 use Rattle.std.specs.Int.{bit_at}
-use Rattle.sva_model.specs.Words.{lowest, any_below, count_below, select, is_some, holds_of, the}
+use Rattle.sva_model.specs.Words.{lowest, any_below, count_below, find, select, is_some, holds_of, the}
 use Rattle.sva_model.specs.Order.{Sort, stays_behind}
 use Rattle.sva_model.specs.Order.Sort.{StartSort, StopSort, ResetSort, CompletionSort, InvalidateSort, ResponseSort, RequestSort, InvalidatedSort, PageRequestSort, MarkerSort, ResetDoneSort}
-use Rattle.sva_model.specs.State.{About, Part, World}
+use Rattle.sva_model.specs.State.{PasidRule, Mappings, About, Part, World}
+use Rattle.sva_model.specs.State.PasidRule.{PerEndpoint, PerSpace}
 use Rattle.sva_model.specs.State.About.{StartOf, StopOf, ResetOrder, CompletionOf, InvalidateOf, ResponseOf, RequestOf, InvalidatedOf, PageRequestOf, MarkerOf, ResetDone}
 use Rattle.sva_model.specs.States.{is_unreleased, is_on, is_ending, is_arrived, is_unfinished, is_outstanding, is_out, is_queued, is_taken, is_busy, uses_noted, is_running, covers, is_open_group, is_job, is_present, is_free}
 
@@ -56,9 +57,43 @@ is_bound_at w s e = any_below w.bindings (λ b. is_unreleased ((w.part e).stage 
 abbrev pub is_bound : World → (space : ℕ) → Bool
 is_bound w s = any_below w.config.endpoints (is_bound_at w s)
 
--- the lowest PASID that is free, less 1; 32 where none is
-abbrev pub lowest_pasid : Part → ℕ
-lowest_pasid p = lowest 32 (λ t. not (is_some (p.at_pasid (suc t))))
+-- PASIDs: 1 to 32 of the 20 bits that one has (PCI Express Base 5.0, section 6.20).
+
+-- the lowest PASID that passes, if one does
+abbrev pub lowest_pasid : (ℕ → Bool) → Option ℕ
+lowest_pasid p = option_map suc (find 32 (λ t. p (suc t)))
+
+-- does a binding of the endpoint bear it? and one of any endpoint? and one of the space, at any endpoint?
+abbrev pub is_borne_at : Part → (pasid : ℕ) → Bool
+is_borne_at p t = is_some (p.at_pasid t)
+
+abbrev pub is_borne : World → (pasid : ℕ) → Bool
+is_borne w t = any_below w.config.endpoints (λ e. is_borne_at (w.part e) t)
+
+abbrev pub is_borne_by : World → (space pasid : ℕ) → Bool
+is_borne_by w s t = any_below w.config.endpoints (λ e. holds_of (λ b. (w.part e).space b == s) ((w.part e).at_pasid t))
+
+-- the first where it is there, else the second
+abbrev pub or_else : Option ℕ → Option ℕ → Option ℕ
+or_else None o = o
+or_else (Some t) o = Some t
+
+-- the PASID that a binding of the space at the endpoint is given; none where the rule has none to give
+abbrev pub pasid_by : PasidRule → World → (endpoint space : ℕ) → Option ℕ
+pasid_by PerEndpoint w e s = lowest_pasid (λ t. not (is_borne_at (w.part e) t))
+pasid_by PerSpace w e s = or_else (lowest_pasid (is_borne_by w s)) (lowest_pasid (λ t. not (is_borne w t)))
+
+abbrev pub pasid_for : World → (endpoint space : ℕ) → Option ℕ
+pasid_for w e s = pasid_by w.rule w e s
+
+-- how many bindings bear a PASID, and the space of the one at the lowest endpoint
+abbrev pub bindings_under : World → (pasid : ℕ) → ℕ
+bindings_under w t = count_below w.config.endpoints (λ e. is_borne_at (w.part e) t)
+
+abbrev pub space_under : World → (pasid : ℕ) → ℕ
+space_under w t =
+    let p = w.part (lowest w.config.endpoints (λ e. is_borne_at (w.part e) t)) in
+    p.space (the (p.at_pasid t))
 
 -- A PASID at an endpoint: the binding that bears it, and its state there.
 
@@ -158,11 +193,11 @@ abbrev pub is_named : Part → (vector order : ℕ) → Bool
 is_named p vector k = is_taken (p.order_state k) && is_set vector (p.itag k)
 
 -- does a running use go on that the invalidation noted?
-abbrev pub is_noted_running : World → Part → (order used : ℕ) → Bool
-is_noted_running w p k u = is_running (p.use_state u) && covers (p.order k) (p.use_binding u) (w.mappings.page (p.use_mapping u))
+abbrev pub is_noted_running : Mappings → Part → (order used : ℕ) → Bool
+is_noted_running ms p k u = is_running (p.use_state u) && covers (p.order k) (p.use_binding u) (ms.page (p.use_mapping u))
 
 abbrev pub is_in_use : World → Part → (order : ℕ) → Bool
-is_in_use w p k = any_below (uses_noted (p.order_state k)) (is_noted_running w p k)
+is_in_use w p k = any_below (uses_noted (p.order_state k)) (is_noted_running w.mappings p k)
 
 -- The link.
 

@@ -2,7 +2,7 @@
 -- messages are those of PCI Express Base 5.0, chapter 10, beside start, stop, reset and reset-done, which are this project's
 -- own; the queues are those of Intel VT-d, "Queued Invalidation Interface" and "Page Request Queue". That a label which is
 -- given out is the lowest free one is this project's own.
-use Rattle.std.specs.Prelude.{ℕ, suc, ◌+◌, Bool, true, false, ◌&&◌, ◌||◌, not, ◌==◌, nat_le, if◌then◌else◌, Option, Some, None, List, [], ◌∷◌, ◌++◌, length}
+use Rattle.std.specs.Prelude.{ℕ, suc, ◌+◌, ◌^◌, Bool, true, false, ◌&&◌, ◌||◌, not, ◌==◌, nat_le, if◌then◌else◌, Option, Some, None, List, [], ◌∷◌, ◌++◌, length}
 use Rattle.sva_step.specs.declared.answers.Answer.{Answer}
 use Rattle.sva_step.specs.declared.answers.Answer.TheVariants as answer
 use Rattle.sva_step.specs.declared.steps.Step.{Step}
@@ -15,7 +15,7 @@ use Rattle.sva_model.specs.State.{Stage, RequestState, GroupState, Order, About,
 use Rattle.sva_model.specs.State.Stage.{Stopping, Draining, Invalidating, Lost}
 use Rattle.sva_model.specs.State.RequestState.{Out, Doomed}
 use Rattle.sva_model.specs.State.GroupState.{Stale}
-use Rattle.sva_model.specs.State.Order.{PageOf, PasidOf, Wait}
+use Rattle.sva_model.specs.State.Order.{RangeOf, PasidOf, Wait}
 use Rattle.sva_model.specs.State.About.{StartOf, StopOf, ResetOrder, CompletionOf, InvalidateOf, ResponseOf, RequestOf, InvalidatedOf, PageRequestOf, MarkerOf, ResetDone}
 use Rattle.sva_model.specs.States.{Place, is_open, is_live_stage, is_running, place}
 use Rattle.sva_model.specs.States.Place.{Free, Mapped, Withheld}
@@ -49,7 +49,19 @@ unmap_answer false frames = answer.FreeFrames frames
 
 abbrev pub unmap_outcome : World → (space page count : ℕ) → Outcome
 unmap_outcome w s q count =
-    says (unmap_answer (any_below w.config.endpoints (waits w s)) (frames_at w s q count)) (Act.Unmap s q count ∷ [])
+    says (unmap_answer (any_below w.config.endpoints (waits w s)) (frames_at w s q count)) (Act.Unmap s q count 0 ∷ [])
+
+-- of the 2^order pages from `page` on, how many are mapped
+abbrev pub mapped_in : World → (space page order : ℕ) → ℕ
+mapped_in w s q order = count_below (2 ^ order) (λ j. Labels.is_mapped w s (q + j))
+
+abbrev pub unmap_range_answer : Bool → (frames : ℕ) → Answer
+unmap_range_answer true n = answer.RangeWithheld n
+unmap_range_answer false n = answer.RangeFree n
+
+abbrev pub unmap_range_outcome : World → (space page order : ℕ) → Outcome
+unmap_range_outcome w s q order =
+    says (unmap_range_answer (any_below w.config.endpoints (waits w s)) (mapped_in w s q order)) (Act.Unmap s q 1 order ∷ [])
 
 abbrev pub bind_outcome : World → (endpoint space pasid : ℕ) → Outcome
 bind_outcome w e s t =
@@ -80,7 +92,7 @@ send_outcome e k t false = says answer.Blocked []
 
 abbrev pub head_outcome : Part → (endpoint order : ℕ) → Order → Outcome
 head_outcome p e k (Wait cookie drain) = wait_outcome e k (may_pass p drain)
-head_outcome p e k (PageOf b q) = send_outcome e k (Labels.lowest_label 32 p.at_itag) (not (Labels.lowest_label 32 p.at_itag == 32))
+head_outcome p e k (RangeOf b range) = send_outcome e k (Labels.lowest_label 32 p.at_itag) (not (Labels.lowest_label 32 p.at_itag == 32))
 head_outcome p e k (PasidOf b) = send_outcome e k (Labels.lowest_label 32 p.at_itag) (not (Labels.lowest_label 32 p.at_itag == 32))
 
 abbrev pub pump_outcome : Part → (endpoint : ℕ) → Bool → Outcome
@@ -204,12 +216,17 @@ look_answer Free = answer.Free
 look_answer Mapped = answer.Mapped
 look_answer Withheld = answer.Withheld
 
+abbrev pub bearer_answer : World → (pasid : ℕ) → Bool → Answer
+bearer_answer w t true = answer.Bearer (Labels.number w (Labels.space_under w t)) (Labels.bindings_under w t)
+bearer_answer w t false = answer.NoBearer
+
 abbrev pub outcome : World → Step → Outcome
 outcome w step.Space = says (answer.Space (Labels.number w w.spaces)) (Act.NewSpace ∷ [])
 outcome w (step.DropSpace n) = says answer.Gone (Act.DropSpace (Labels.name w n) ∷ [])
 outcome w (step.Map n q x) = map_outcome w (Labels.name w n) q x (Labels.lowest_frame w)
 outcome w (step.Unmap n q count) = unmap_outcome w (Labels.name w n) q count
-outcome w (step.Bind e n) = bind_outcome w e (Labels.name w n) (suc (Labels.lowest_pasid (w.part e)))
+outcome w (step.UnmapRange n q order) = unmap_range_outcome w (Labels.name w n) q order
+outcome w (step.Bind e n) = bind_outcome w e (Labels.name w n) (the (Labels.pasid_for w e (Labels.name w n)))
 outcome w (step.Unbind n) =
     unbind_outcome (w.home (Labels.name w n)) (Labels.name w n) ((w.part (w.home (Labels.name w n))).stage (Labels.name w n))
 outcome w (step.Advance n) =
@@ -229,3 +246,4 @@ outcome w (step.Quit e t) = at_one answer.Marker e (Own.Quit (Labels.bearer (w.p
 outcome w (step.Deliver n) =
     deliver_outcome w (w.part (w.way (Labels.name w n))) (w.way (Labels.name w n)) (Labels.name w n) ((w.part (w.way (Labels.name w n))).message (Labels.name w n))
 outcome w (step.Look f) = says (look_answer (place w f)) []
+outcome w (step.Bearer t) = says (bearer_answer w t (Labels.is_borne w t)) []

@@ -25,16 +25,16 @@ pub record IsRange (r : Range) : Type 0 where
   pub aligned : r.base ≡ times * 2 ^ r.order
 
 -- the address field, as a page number, and the bit S
-pub record Code : Type 0 where
+pub record RangeCode : Type 0 where
   pub page : ℕ
   pub s : Bool
 
 -- the code of a range
-abbrev pub encode_by : (base order : ℕ) → Code
+abbrev pub encode_by : (base order : ℕ) → RangeCode
 encode_by base zero = record { page = base; s = false }
 encode_by base (suc j) = record { page = base + (2 ^ j - 1); s = true }
 
-abbrev pub encode : Range → Code
+abbrev pub encode : Range → RangeCode
 encode r = encode_by r.base r.order
 
 -- how many bits of a number are set, of the n lowest ones from bit 0 upwards, before the first that is clear
@@ -47,9 +47,9 @@ abbrev pub range_about : (page j : ℕ) → Option Range
 range_about q j = if nat_lt j 9 then Some (record { base = q - q % 2 ^ suc j; order = suc j }) else None
 
 -- the range of a code; none where it has more than 512 pages, or is no page number
-abbrev pub decode_by : Bool → Code → Option Range
+abbrev pub decode_by : Bool → RangeCode → Option Range
 decode_by false c = None
 decode_by true c = if c.s then range_about c.page (ones 9 c.page) else Some (record { base = c.page; order = 0 })
 
-abbrev pub decode : Code → Option Range
+abbrev pub decode : RangeCode → Option Range
 decode c = decode_by (nat_lt c.page (2 ^ 36)) c

@@ -1,6 +1,6 @@
 -- The refusals of each step, in the order in which they are asked, each with its cause. Want of memory is none of them.
 -- The refusals, their order and the limits are this project's own, except where a comment names a standard.
-use Rattle.std.specs.Prelude.{ℕ, ◌+◌, ◌^◌, Bool, true, false, ◌&&◌, ◌||◌, not, ◌==◌, nat_lt, nat_le, Option, Some, None, List, [], ◌∷◌, length}
+use Rattle.std.specs.Prelude.{ℕ, ◌+◌, ◌%◌, ◌^◌, Bool, true, false, ◌&&◌, ◌||◌, not, ◌==◌, nat_lt, nat_le, Option, Some, None, List, [], ◌∷◌, length}
 use Rattle.sva_step.specs.declared.refusals.Refusal.{Refusal}
 use Rattle.sva_step.specs.declared.refusals.Refusal.TheVariants as refusal
 use Rattle.sva_step.specs.declared.steps.Step.{Step}
@@ -64,11 +64,22 @@ unmap_refusals w s q count =
     ∷ cookies_spent w (count_below w.config.endpoints (submits w s))
     ∷ []
 
+-- a range that is taken out: of 1 to 512 pages, aligned to its size, with a page that is mapped
+abbrev pub unmap_range_refusals : World → (space page order : ℕ) → List Cause
+unmap_range_refusals w s q order =
+    (nat_lt 9 order, refusal.BadOrder)
+    ∷ page_range q (2 ^ order)
+    ∷ (not (q % 2 ^ order == 0), refusal.NotAligned)
+    ∷ (not (any_below (2 ^ order) (λ j. Labels.is_mapped w s (q + j))), refusal.NothingMapped)
+    ∷ (any_below w.config.endpoints (λ e. submits w s e && is_queue_short (w.part e) 2), refusal.QueueFull)
+    ∷ cookies_spent w (count_below w.config.endpoints (submits w s))
+    ∷ []
+
 abbrev pub bind_refusals : World → (endpoint space : ℕ) → List Cause
 bind_refusals w e s =
     resetting w e
     ∷ (Labels.is_bound_at w s e, refusal.AlreadyBound)
-    ∷ (Labels.lowest_pasid (w.part e) == 32, refusal.NoPasid)
+    ∷ (not (is_some (Labels.pasid_for w e s)), refusal.NoPasid)
     ∷ (Labels.lacks w w.bindings 1, refusal.NumbersSpent)
     ∷ messages_spent w 1
     ∷ []
@@ -176,6 +187,7 @@ refusals w (step.Map n q x) =
     ∷ (Labels.lowest_frame w == w.config.frames, refusal.NoFrame)
     ∷ []
 refusals w (step.Unmap n q count) = no_such_space w n ∷ unmap_refusals w (Labels.name w n) q count
+refusals w (step.UnmapRange n q order) = no_such_space w n ∷ unmap_range_refusals w (Labels.name w n) q order
 refusals w (step.Bind e n) = no_such_endpoint w e ∷ no_such_space w n ∷ bind_refusals w e (Labels.name w n)
 refusals w (step.Unbind n) =
     no_such_binding w n
@@ -220,3 +232,4 @@ refusals w (step.Deliver n) =
     (not (Labels.is_in_flight w n), refusal.NoSuchMessage)
     ∷ deliver_refusals w (Labels.name w n) (w.part (w.way (Labels.name w n)))
 refusals w (step.Look f) = (not (nat_lt f w.config.frames), refusal.NoFrame) ∷ []
+refusals w (step.Bearer t) = (not (nat_le 1 t && nat_le t 32), refusal.BadPasid) ∷ []

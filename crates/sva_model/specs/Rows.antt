@@ -1,10 +1,14 @@
 -- How a run that is worked out is written: line by line, each step with its answer, and at last the counts of frames.
-use Rattle.std.specs.Prelude.{◌≡◌, ℕ, zero, suc, List, [], ◌∷◌, ◌++◌, Ok, Err, map}
+use Rattle.std.specs.Prelude.{◌≡◌, ℕ, zero, suc, false, List, [], ◌∷◌, ◌++◌, Ok, Err, map}
 use Rattle.sva_step.specs.declared.answers.Answer.{Answer}
 use Rattle.sva_step.specs.declared.limits.Config.{Config}
 use Rattle.sva_step.specs.declared.refusals.Refusal.{Refusal}
 use Rattle.sva_step.specs.declared.steps.Step.{Step}
-use Rattle.sva_model.specs.State.{opened}
+use Rattle.sva_model.specs.State.PasidRule.{PerSpace}
+use Rattle.sva_model.specs.Message.{Scope}
+use Rattle.sva_model.specs.Message.Scope.{Coded}
+use Rattle.sva_model.specs.State.{PasidRule, Order, opened}
+use Rattle.sva_model.specs.State.Order.{RangeOf}
 use Rattle.sva_model.specs.Steps.{Reply, replies, counts, world_after}
 
 pub record Line : Type 0 where
@@ -17,6 +21,13 @@ says s a = record { step = s; reply = Ok a }
 abbrev pub refused : Step → Refusal → Line
 refused s r = record { step = s; reply = Err r }
 
+-- an Invalidate Request's one page, and the invalidation of one page
+abbrev pub one_page : (page : ℕ) → Scope
+one_page q = Coded (record { page = q; s = false })
+
+abbrev pub page_of : (binding page : ℕ) → Order
+page_of b q = RangeOf b (record { base = q; order = 0 })
+
 -- n lines, of which each goes by its place
 abbrev pub lines : ℕ → (ℕ → Line) → List Line
 lines zero f = []
@@ -28,8 +39,13 @@ config endpoints frames workers first = record { endpoints = endpoints; frames =
 abbrev pub steps_of : List Line → List Step
 steps_of row = map (λ l. l.step) row
 
--- the answers of the definitions over the row's steps are the row's answers, and so are the counts at its end
+-- by a rule of PASIDs the answers of the definitions over the row's steps are the row's answers, and so are the counts at its
+-- end
+abbrev pub IsRowBy : PasidRule → Config → List Line → (free mapped withheld : ℕ) → Type 0
+IsRowBy rule c row free mapped withheld =
+    (replies (opened rule c) (steps_of row) ≡ map (λ l. l.reply) row)
+    × (counts (world_after rule c (steps_of row)) ≡ record { free = free; mapped = mapped; withheld = withheld })
+
+-- by that of one PASID for each space
 abbrev pub IsRow : Config → List Line → (free mapped withheld : ℕ) → Type 0
-IsRow c row free mapped withheld =
-    (replies (opened c) (steps_of row) ≡ map (λ l. l.reply) row)
-    × (counts (world_after c (steps_of row)) ≡ record { free = free; mapped = mapped; withheld = withheld })
+IsRow = IsRowBy PerSpace

@@ -4,13 +4,13 @@ use Rattle.sva_step.specs.declared.answers.Answer.TheVariants as answer
 use Rattle.sva_step.specs.declared.refusals.Refusal.TheVariants as refusal
 use Rattle.sva_step.specs.declared.steps.Step.TheVariants as step
 use Rattle.sva_step.specs.declared.steps.Verdict.TheVariants as verdict
-use Rattle.sva_model.specs.Rows.{Line, says, IsRow, config, refused, lines}
+use Rattle.sva_model.specs.State.PasidRule.{PerSpace}
+use Rattle.sva_model.specs.Rows.{one_page, Line, says, IsRow, config, refused, lines}
 use Rattle.std.specs.Prelude.{◌≡◌, ℕ, replicate}
 use Rattle.sva_step.specs.declared.limits.Config.{Config}
 use Rattle.sva_model.specs.Words.{tabulate}
 use Rattle.sva_model.specs.Message.{Message}
 use Rattle.sva_model.specs.Message.Code.{InvalidCode}
-use Rattle.sva_model.specs.Message.Extent.{OnePage}
 use Rattle.sva_model.specs.Message.Message.{StartMessage, StopMessage, ResetMessage, CompletionMessage, InvalidateMessage, ResponseMessage, RequestMessage, InvalidatedMessage, PageRequestMessage, MarkerMessage, ResetDoneMessage}
 use Rattle.sva_model.specs.Rows.{steps_of}
 use Rattle.sva_model.specs.RowsOfInvalidations.{count_of_eight}
@@ -18,7 +18,7 @@ use Rattle.sva_model.specs.Steps.{world_after}
 
 -- the messages of a run at one endpoint, as they were sent, are these
 abbrev pub AreSent : Config → List Line → (count : ℕ) → List Message → Type 0
-AreSent c row count messages = tabulate count (((world_after c (steps_of row)).part 0).carried) ≡ messages
+AreSent c row count messages = tabulate count (((world_after PerSpace c (steps_of row)).part 0).carried) ≡ messages
 
 -- the eleven kinds in turn: the response finds its group stale, and the reset its unit closed
 abbrev pub each_kind_at_an_open_unit : List Line
@@ -463,7 +463,7 @@ EachKindAsSent =
     ∷ RequestMessage 0 1 16
     ∷ CompletionMessage 0 0 true false
     ∷ PageRequestMessage 1 0 32 true false true
-    ∷ InvalidateMessage 0 1 (OnePage 16)
+    ∷ InvalidateMessage 0 1 (one_page 16)
     ∷ InvalidatedMessage 1 1
     ∷ StopMessage 1
     ∷ MarkerMessage 1
@@ -479,4 +479,4 @@ CountFieldsAsSent =
     (config 1 4 1 0)
     count_of_eight
     10
-    (StartMessage 1 ∷ InvalidateMessage 0 1 (OnePage 16) ∷ replicate 8 (InvalidatedMessage 1 0))
+    (StartMessage 1 ∷ InvalidateMessage 0 1 (one_page 16) ∷ replicate 8 (InvalidatedMessage 1 0))

@@ -6,14 +6,15 @@ use Rattle.sva_step.specs.declared.limits.Config.{Config}
 use Rattle.sva_step.specs.declared.refusals.Refusal.TheVariants as refusal
 use Rattle.sva_step.specs.declared.steps.Step.TheVariants as step
 use Rattle.sva_step.specs.declared.steps.Verdict.TheVariants as verdict
-use Rattle.sva_model.specs.Rows.{Line, says, IsRow, config, refused, lines, steps_of}
+use Rattle.sva_model.specs.State.PasidRule.{PerEndpoint, PerSpace}
+use Rattle.sva_model.specs.Rows.{one_page, page_of, Line, says, IsRow, IsRowBy, config, refused, lines, steps_of}
 use Rattle.sva_model.specs.Words.{tabulate}
 use Rattle.sva_model.specs.Message.{Message}
 use Rattle.sva_model.specs.Message.Code.{SuccessCode, InvalidCode, FailureCode}
-use Rattle.sva_model.specs.Message.Extent.{OnePage, AllPages}
+use Rattle.sva_model.specs.Message.Scope.{Everything}
 use Rattle.sva_model.specs.Message.Message.{StartMessage, StopMessage, ResetMessage, CompletionMessage, InvalidateMessage, ResponseMessage, RequestMessage, InvalidatedMessage, PageRequestMessage, MarkerMessage, ResetDoneMessage}
 use Rattle.sva_model.specs.State.{Order, Part, World}
-use Rattle.sva_model.specs.State.Order.{PageOf, PasidOf, Wait}
+use Rattle.sva_model.specs.State.Order.{PasidOf, Wait}
 use Rattle.sva_model.specs.Steps.{world_after}
 
 -- three endpoints and three spaces: a binding from its start to its release, and a reset of one endpoint of two
@@ -194,7 +195,7 @@ abbrev pub carried_after : World → ℕ → Message
 carried_after w c = (w.part (w.way c)).carried c
 
 abbrev pub AreSentInAll : Config → List Line → (count : ℕ) → List Message → Type 0
-AreSentInAll c row count messages = tabulate count (carried_after (world_after c (steps_of row))) ≡ messages
+AreSentInAll c row count messages = tabulate count (carried_after (world_after PerSpace c (steps_of row))) ≡ messages
 
 -- each with its own labels, pages and flags
 abbrev pub NumbersApartAsSent : Type 0
@@ -214,9 +215,9 @@ NumbersApartAsSent =
     ∷ CompletionMessage 0 3 true true
     ∷ CompletionMessage 1 1 true false
     ∷ CompletionMessage 0 1 true false
-    ∷ InvalidateMessage 0 2 (OnePage 16)
-    ∷ InvalidateMessage 1 2 (OnePage 17)
-    ∷ InvalidateMessage 2 2 (OnePage 18)
+    ∷ InvalidateMessage 0 2 (one_page 16)
+    ∷ InvalidateMessage 1 2 (one_page 17)
+    ∷ InvalidateMessage 2 2 (one_page 18)
     ∷ InvalidatedMessage 2 2
     ∷ InvalidatedMessage 2 2
     ∷ InvalidatedMessage 5 1
@@ -231,11 +232,11 @@ NumbersApartAsSent =
     ∷ CompletionMessage 0 3 true true
     ∷ StopMessage 2
     ∷ MarkerMessage 2
-    ∷ InvalidateMessage 0 2 AllPages
+    ∷ InvalidateMessage 0 2 Everything
     ∷ InvalidatedMessage 1 1
     ∷ ResetMessage
     ∷ ResetDoneMessage
-    ∷ InvalidateMessage 0 1 (OnePage 20)
+    ∷ InvalidateMessage 0 1 (one_page 20)
     ∷ InvalidatedMessage 1 1
     ∷ StopMessage 1
     ∷ StartMessage 1
@@ -248,7 +249,7 @@ abbrev pub orders_of : Part → List Order
 orders_of p = tabulate p.orders p.order
 
 abbrev pub AreOrdered : Config → List Line → (endpoint : ℕ) → List Order → Type 0
-AreOrdered c row e orders = orders_of ((world_after c (steps_of row)).part e) ≡ orders
+AreOrdered c row e orders = orders_of ((world_after PerSpace c (steps_of row)).part e) ≡ orders
 
 -- pages of an unmap with the wait behind them; a wait that drains; a PASID with the wait behind it
 abbrev pub NumbersApartAsOrdered : Type 0
@@ -257,9 +258,9 @@ NumbersApartAsOrdered =
     (config 3 8 3 100)
     numbers_apart
     1
-    (PageOf 2 16
-    ∷ PageOf 2 17
-    ∷ PageOf 2 18
+    (page_of 2 16
+    ∷ page_of 2 17
+    ∷ page_of 2 18
     ∷ Wait 0 false
     ∷ Wait 1 true
     ∷ PasidOf 2
@@ -267,7 +268,7 @@ NumbersApartAsOrdered =
     ∷ [])
 
 abbrev pub OtherEndpointAsOrdered : Type 0
-OtherEndpointAsOrdered = AreOrdered (config 3 8 3 100) numbers_apart 2 (PageOf 1 20 ∷ Wait 3 false ∷ Wait 4 true ∷ [])
+OtherEndpointAsOrdered = AreOrdered (config 3 8 3 100) numbers_apart 2 (page_of 1 20 ∷ Wait 3 false ∷ Wait 4 true ∷ [])
 
 -- waits submitted by one unmap get their cookies in rising order of units, whatever the order of the bindings
 abbrev pub cookies_by_unit : List Line
@@ -285,13 +286,13 @@ cookies_by_unit =
     ∷ []
 
 abbrev pub CookiesOfTheFirst : Type 0
-CookiesOfTheFirst = AreOrdered (config 3 3 1 0) cookies_by_unit 0 (PageOf 1 16 ∷ PageOf 1 17 ∷ Wait 0 false ∷ PageOf 1 19 ∷ Wait 3 false ∷ [])
+CookiesOfTheFirst = AreOrdered (config 3 3 1 0) cookies_by_unit 0 (page_of 1 16 ∷ page_of 1 17 ∷ Wait 0 false ∷ page_of 1 19 ∷ Wait 3 false ∷ [])
 
 abbrev pub CookiesOfTheOneInReset : Type 0
-CookiesOfTheOneInReset = AreOrdered (config 3 3 1 0) cookies_by_unit 1 (PageOf 2 16 ∷ PageOf 2 17 ∷ Wait 1 false ∷ [])
+CookiesOfTheOneInReset = AreOrdered (config 3 3 1 0) cookies_by_unit 1 (page_of 2 16 ∷ page_of 2 17 ∷ Wait 1 false ∷ [])
 
 abbrev pub CookiesOfTheLast : Type 0
-CookiesOfTheLast = AreOrdered (config 3 3 1 0) cookies_by_unit 2 (PageOf 0 16 ∷ PageOf 0 17 ∷ Wait 2 false ∷ PageOf 0 19 ∷ Wait 4 false ∷ [])
+CookiesOfTheLast = AreOrdered (config 3 3 1 0) cookies_by_unit 2 (page_of 0 16 ∷ page_of 0 17 ∷ Wait 2 false ∷ page_of 0 19 ∷ Wait 4 false ∷ [])
 
 -- a completion without a translation: its tag and nothing else
 abbrev pub no_translation : List Line
@@ -337,7 +338,7 @@ full_queue_of_one_unit =
     ∷ [])
 
 abbrev pub FullQueueOfOneUnit : Type 0
-FullQueueOfOneUnit = IsRow (config 2 65 1 0) full_queue_of_one_unit 0 0 65
+FullQueueOfOneUnit = IsRowBy PerEndpoint (config 2 65 1 0) full_queue_of_one_unit 0 0 65
 
 -- a number below the first is nobody's
 abbrev pub numbers_below_the_first : List Line
@@ -395,7 +396,7 @@ jobs_of_two_endpoints =
     ∷ []
 
 abbrev pub JobsOfTwoEndpoints : Type 0
-JobsOfTwoEndpoints = IsRow (config 2 2 2 0) jobs_of_two_endpoints 2 0 0
+JobsOfTwoEndpoints = IsRowBy PerEndpoint (config 2 2 2 0) jobs_of_two_endpoints 2 0 0
 
 -- a PASID is quit, and its binding goes on, whatever another PASID of the endpoint has: a request, a use, a group
 abbrev pub quit_of_one_of_two : List Line
@@ -746,7 +747,7 @@ TagsGivenBack = IsRow (config 1 5 1 0) tags_given_back 0 0 5
 -- what the page requests of an endpoint ask for, to read and to write, in the order in which they were sent
 abbrev pub AreAsked : Config → List Line → (endpoint : ℕ) → (read write : List Bool) → Type 0
 AreAsked c row e read write =
-    let p = (world_after c (steps_of row)).part e in
+    let p = (world_after PerSpace c (steps_of row)).part e in
     (tabulate p.page_requests p.asks_read ≡ read) × (tabulate p.page_requests p.asks_write ≡ write)
 
 abbrev pub NumbersApartAsAsked : Type 0

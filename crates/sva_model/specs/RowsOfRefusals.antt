@@ -4,6 +4,7 @@ use Rattle.sva_step.specs.declared.answers.Answer.TheVariants as answer
 use Rattle.sva_step.specs.declared.refusals.Refusal.TheVariants as refusal
 use Rattle.sva_step.specs.declared.steps.Step.TheVariants as step
 use Rattle.sva_step.specs.declared.steps.Verdict.TheVariants as verdict
+use Rattle.sva_model.specs.State.PasidRule.{PerSpace}
 use Rattle.sva_model.specs.Rows.{Line, says, IsRow, config, refused, lines}
 use Rattle.std.specs.Prelude.{◌≡◌, ℕ, zero, suc, ◌<◌, ◌≤◌, ◌^◌, ◌&&◌, ◌==◌, nat_lt, if◌then◌else◌, map}
 use Rattle.sva_step.specs.declared.steps.Step.{Step}
@@ -17,7 +18,7 @@ use Rattle.sva_model.specs.Steps.{replies, counts, run, world_after}
 -- `FullSpaceReached`.
 abbrev pub mapped_space : (pages frames first : ℕ) → World
 mapped_space pages frames first =
-    record (opened (config 1 frames 1 first)) {
+    record (opened PerSpace (config 1 frames 1 first)) {
       spaces = 1;
       is_live = λ s. s == 0;
       mappings =
@@ -48,7 +49,7 @@ FullSpaceReached =
     (frames first : ℕ)
     → 1024 ≤ frames
     → first < 2 ^ 63
-    → world_after (config 1 frames 1 first) (step.Space ∷ maps_of 1024 first) ≡ full_space frames first
+    → world_after PerSpace (config 1 frames 1 first) (step.Space ∷ maps_of 1024 first) ≡ full_space frames first
 
 -- as IsRow, from a world that is there
 abbrev pub IsRowAfter : World → List Line → (free mapped withheld : ℕ) → Type 0

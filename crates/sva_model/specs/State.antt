@@ -3,18 +3,19 @@
 -- its state says so. PASIDs, ITags, request tags, use slots and group indexes are labels, which a record bears for a
 -- while: a column from labels names the record that bears one now.
 use Rattle.std.specs.Prelude.{ℕ, Bool, false, Option, None}
+use Rattle.sva_model.specs.Range.{Range}
 use Rattle.sva_model.specs.Message.{Code, Message}
 use Rattle.sva_model.specs.Message.Message.{ResetMessage}
 use Rattle.sva_step.specs.declared.limits.Config.{Config}
 
 -- A mapping is a page of a space that led to a frame. When it is taken out of its space, it is written down what each
--- endpoint then had to answer before the frame may be used again: nothing; the page invalidations of the `count` pages
--- from `page` on, which are the orders from `first` on, and the wait behind them; its binding's PASID invalidation and the
+-- endpoint then had to answer before the frame may be used again: nothing; the `count` invalidations of ranges that were
+-- submitted then, which are the orders from `first` on, and the wait behind them; its binding's PASID invalidation and the
 -- wait behind that, the unit being in reset then or not; or a reset-done. A reset-done answers in each case; `resets`
 -- counts those before.
 pub data Owed : Type 0 where
   Nothing : Owed
-  Pages : (page first count resets : ℕ) → Owed
+  Ranges : (first count resets : ℕ) → Owed
   Pasid : (invalidation wait resets : ℕ) (in_reset : Bool) → Owed
   AReset : (resets : ℕ) → Owed
 
@@ -92,11 +93,11 @@ pub data HostGroupState : Type 0 where
   Discarded : HostGroupState
   InHandDiscarded : (worker : ℕ) → HostGroupState
 
--- What is ordered of a unit by its invalidation queue: the invalidation of one page or of all pages of a binding, or a
--- wait (Intel VT-d, "Queued Invalidation Interface": PASID-based IOTLB and device-TLB invalidation, the invalidation wait
--- descriptor, and "Page Request Drain").
+-- What is ordered of a unit by its invalidation queue: the invalidation of a range of pages or of all pages of a binding,
+-- or a wait (Intel VT-d, "Queued Invalidation Interface": PASID-based IOTLB and device-TLB invalidation, the invalidation
+-- wait descriptor, and "Page Request Drain").
 pub data Order : Type 0 where
-  PageOf : (binding page : ℕ) → Order
+  RangeOf : (binding : ℕ) (range : Range) → Order
   PasidOf : (binding : ℕ) → Order
   Wait : (cookie : ℕ) (drain : Bool) → Order
 
@@ -184,6 +185,8 @@ pub record Part : Type 0 where
   pub orders : ℕ
   pub order : ℕ → Order
   pub order_state : ℕ → OrderState
+  pub waits_end : ℕ  -- one more than the greatest cookie of a wait that was submitted; 0 where none was
+  pub front : ℕ  -- one more than the greatest cookie of a wait that was taken, or void by a reset that has ended; 0 where none was
   pub invalidate_message : ℕ → ℕ  -- the message of an order that was sent
   pub itag : ℕ → ℕ
   pub at_itag : ℕ → Option ℕ
@@ -195,7 +198,15 @@ pub record JobName : Type 0 where
   pub endpoint : ℕ
   pub group : ℕ
 
+-- Which PASID a new binding is given (this project's own; PCI Express Base 5.0, section 6.20, leaves it to software): for
+-- each endpoint apart, the lowest that no binding of the endpoint bears; or one for each space over all endpoints: the one
+-- that the space bears, else the lowest that no space bears.
+pub data PasidRule : Type 0 where
+  PerEndpoint : PasidRule
+  PerSpace : PasidRule
+
 pub record World : Type 0 where
+  pub rule : PasidRule
   pub config : Config
   pub spaces : ℕ
   pub is_live : ℕ → Bool
@@ -262,6 +273,8 @@ blank =
       orders = 0;
       order = λ k. Order.Wait 0 false;
       order_state = λ k. OrderState.Void;
+      waits_end = 0;
+      front = 0;
       invalidate_message = λ k. 0;
       itag = λ k. 0;
       at_itag = λ t. None;
@@ -270,9 +283,10 @@ blank =
     }
 
 -- the world before the first step
-abbrev pub opened : Config → World
-opened config =
+abbrev pub opened : PasidRule → Config → World
+opened rule config =
     record {
+      rule = rule;
       config = config;
       spaces = 0;
       is_live = λ s. false;

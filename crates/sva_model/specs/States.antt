@@ -1,8 +1,9 @@
 -- What the states of records mean. Sections are those of PCI Express Base 5.0.
 use Rattle.std.specs.Prelude.{ℕ, suc, ◌+◌, Bool, true, false, ◌&&◌, ◌||◌, ◌==◌, nat_lt, Option, Some, None}
 use Rattle.sva_model.specs.Words.{all_below}
+use Rattle.sva_model.specs.Range.{Range, is_in}
 use Rattle.sva_model.specs.State.{Owed, MappingState, Stage, PasidState, RequestState, UseState, PageRequestState, GroupState, HostGroupState, Order, OrderState, Phase, Part, World}
-use Rattle.sva_model.specs.State.Owed.{Nothing, Pages, Pasid, AReset}
+use Rattle.sva_model.specs.State.Owed.{Nothing, Ranges, Pasid, AReset}
 use Rattle.sva_model.specs.State.MappingState.{Present, Gone}
 use Rattle.sva_model.specs.State.Stage.{Unbound, Live, Stopping, Draining, Released}
 use Rattle.sva_model.specs.State.PasidState.{Off, On, Ending}
@@ -11,7 +12,7 @@ use Rattle.sva_model.specs.State.UseState.{Running}
 use Rattle.sva_model.specs.State.PageRequestState.{Arrived}
 use Rattle.sva_model.specs.State.GroupState.{Unfinished, Finished}
 use Rattle.sva_model.specs.State.HostGroupState.{PartFiled, Job, InHand}
-use Rattle.sva_model.specs.State.Order.{PageOf, PasidOf, Wait}
+use Rattle.sva_model.specs.State.Order.{RangeOf, PasidOf, Wait}
 use Rattle.sva_model.specs.State.OrderState.{Queued, Sent, Taken, Lapsed, Owing, Done}
 use Rattle.sva_model.specs.State.Phase.{Open}
 
@@ -117,16 +118,25 @@ abbrev pub uses_noted : OrderState → ℕ
 uses_noted (Taken uses) = uses
 uses_noted _ = 0
 
--- What an invalidation covers (section 10.3.1): its page, or every page, of its own binding.
+-- What an invalidation is of (section 10.3.1): a range of pages, or every page.
+pub data Extent : Type 0 where
+  Pages : (range : Range) → Extent
+  AllPages : Extent
+
+abbrev pub is_within : Extent → (page : ℕ) → Bool
+is_within (Pages range) page = is_in range page
+is_within AllPages page = true
+
+-- it covers these pages of its own binding
 abbrev pub covers : Order → (binding page : ℕ) → Bool
-covers (PageOf b q) binding page = b == binding && q == page
-covers (PasidOf b) binding page = b == binding
+covers (RangeOf b range) binding page = b == binding && is_within (Pages range) page
+covers (PasidOf b) binding page = b == binding && is_within AllPages page
 covers (Wait cookie drain) binding page = false
 
 -- Has the endpoint answered for a mapping that was taken out, by now?
 abbrev pub answered : Part → Owed → Bool
 answered p Nothing = true
-answered p (Pages page first count resets) = all_below (suc count) (λ j. is_done (p.order_state (first + j))) || nat_lt resets p.resets
+answered p (Ranges first count resets) = all_below (suc count) (λ j. is_done (p.order_state (first + j))) || nat_lt resets p.resets
 answered p (Pasid invalidation wait resets in_reset) = (is_done (p.order_state invalidation) && is_done (p.order_state wait)) || nat_lt resets p.resets
 answered p (AReset resets) = nat_lt resets p.resets
 

@@ -5,7 +5,7 @@ use Rattle.sva_step.specs.declared.limits.Config.{Config}
 use Rattle.sva_step.specs.declared.refusals.Refusal.{Refusal}
 use Rattle.sva_step.specs.declared.steps.Step.{Step}
 use Rattle.sva_model.specs.Words.{count_below}
-use Rattle.sva_model.specs.State.{World, opened}
+use Rattle.sva_model.specs.State.{PasidRule, World, opened}
 use Rattle.sva_model.specs.States.{Place, place}
 use Rattle.sva_model.specs.States.Place.{Free, Mapped, Withheld}
 use Rattle.sva_model.specs.Acts.{Act, act}
@@ -49,8 +49,8 @@ unfoldable pub replies : World → List Step → List Reply
 replies w [] = []
 replies w (s ∷ ss) = reply w s ∷ replies (next w s) ss
 
-abbrev pub world_after : Config → List Step → World
-world_after config steps = run (opened config) steps
+abbrev pub world_after : PasidRule → Config → List Step → World
+world_after rule config steps = run (opened rule config) steps
 
 -- how many frames are free, mapped and withheld
 abbrev pub is_free_at : Place → Bool

@@ -1,22 +1,35 @@
 -- What the host, its endpoints and the link keep of the records: labels, numbers and counts, and no names. It is a
 -- function of the world, by lists: tables by label from 0 on, queues in their order, maps in rising order of their keys.
+-- It stands by its keepers: spaces, places of frames, bindings, of each endpoint its device, its unit, its page request
+-- queue and its open groups, jobs, hands, messages in flight and the numbers to come. Each view takes what it reads.
 -- (This project's own form; the queues and descriptors are those of Intel VT-d, "Queued Invalidation Interface",
 -- "Invalidation Wait Descriptor" and "Page Request Queue".)
 use Rattle.std.specs.Prelude.{ℕ, zero, suc, ◌+◌, ◌-◌, Bool, true, false, ◌&&◌, ◌||◌, not, ◌==◌, nat_lt, if◌then◌else◌, Option, Some, None, option_map, List, [], ◌∷◌, map}
 use Rattle.sva_model.specs.Words.{any_below, count_below, select, tabulate, is_some, holds_of, the}
-use Rattle.sva_model.specs.Message.{Extent, Message}
-use Rattle.sva_model.specs.State.{Owed, MappingState, Stage, PasidState, RequestState, GroupState, HostGroupState, Order, OrderState, Part, World}
-use Rattle.sva_model.specs.State.Owed.{Pages, Pasid}
+use Rattle.sva_model.specs.Range.{Range}
+use Rattle.sva_model.specs.Message.{Message}
+use Rattle.sva_model.specs.State.{Owed, MappingState, Mappings, Stage, PasidState, RequestState, GroupState, HostGroupState, Order, OrderState, Part, World}
+use Rattle.sva_model.specs.State.Owed.{Ranges, Pasid}
 use Rattle.sva_model.specs.State.MappingState.{Gone}
 use Rattle.sva_model.specs.State.Stage.{Live, Stopping, Draining, Invalidating, Lost}
 use Rattle.sva_model.specs.State.PasidState.{Off}
 use Rattle.sva_model.specs.State.RequestState.{Doomed}
-use Rattle.sva_model.specs.State.Order.{PageOf, PasidOf, Wait}
+use Rattle.sva_model.specs.State.Order.{RangeOf, PasidOf, Wait}
 use Rattle.sva_model.specs.State.OrderState.{Taken, Owing}
-use Rattle.sva_model.specs.States.{Place, is_open, is_unreleased, is_running, is_open_group, is_queued, is_done, is_present, answered, place}
+use Rattle.sva_model.specs.States.{Extent, Place, is_open, is_unreleased, is_running, is_open_group, is_queued, is_present, answered, covers, place}
 use Rattle.sva_model.specs.States.Place.{Free, Mapped, Withheld}
 use Rattle.sva_model.specs.Acts.{extent_of, binding_of}
 use Rattle.sva_model.specs.Labels
+
+-- Numbers. A name is seen by its number, which is counted from the config's `first` on.
+
+abbrev pub number : (first name : ℕ) → ℕ
+number first name = first + name
+
+-- the number after that of the last of so many; 0 where there is none
+abbrev pub end_number : (first count : ℕ) → ℕ
+end_number first zero = 0
+end_number first (suc n) = first + suc n
 
 abbrev pub chain : {A : Type 0} → (ℕ → Option A) → Option ℕ → Option A
 chain f None = None
@@ -42,28 +55,32 @@ pub record SpaceWire : Type 0 where
   pub number : ℕ
   pub pages : List PageWire
 
-abbrev pub page_wire : World → (mapping : ℕ) → PageWire
-page_wire w m = record { page = w.mappings.page m; frame = w.mappings.frame m; write = w.mappings.write m }
+abbrev pub page_wire : Mappings → (mapping : ℕ) → PageWire
+page_wire ms m = record { page = ms.page m; frame = ms.frame m; write = ms.write m }
 
-abbrev pub is_page_of : World → (space mapping : ℕ) → Bool
-is_page_of w s m = is_present (w.mappings.state m) && w.mappings.space m == s
+abbrev pub is_page_of : Mappings → (space mapping : ℕ) → Bool
+is_page_of ms s m = is_present (ms.state m) && ms.space m == s
 
 abbrev pub is_lower_page : PageWire → PageWire → Bool
 is_lower_page a b = nat_lt a.page b.page
 
 -- the pages of a space by the mappings below n, in rising order
-unfoldable pub pages_below : World → (space n : ℕ) → List PageWire
-pages_below w s zero = []
-pages_below w s (suc n) = if is_page_of w s n then insert_by is_lower_page (page_wire w n) (pages_below w s n) else pages_below w s n
+unfoldable pub pages_below : Mappings → (space n : ℕ) → List PageWire
+pages_below ms s zero = []
+pages_below ms s (suc n) = if is_page_of ms s n then insert_by is_lower_page (page_wire ms n) (pages_below ms s n) else pages_below ms s n
 
-abbrev pub pages_wire : World → (space : ℕ) → List PageWire
-pages_wire w s = pages_below w s w.mappings.made
+abbrev pub pages_wire : Mappings → (space : ℕ) → List PageWire
+pages_wire ms s = pages_below ms s ms.made
 
-abbrev pub spaces_wire : World → List SpaceWire
-spaces_wire w = map (λ s. record { number = Labels.number w s; pages = pages_wire w s }) (select w.spaces w.is_live)
+abbrev pub space_wire : (first : ℕ) → Mappings → (space : ℕ) → SpaceWire
+space_wire first ms s = record { number = number first s; pages = pages_wire ms s }
+
+abbrev pub spaces_wire : (first spaces : ℕ) → (is_live : ℕ → Bool) → Mappings → List SpaceWire
+spaces_wire first spaces is_live ms = map (space_wire first ms) (select spaces is_live)
 
 -- Frames: each by its number; a withheld one with what it waits for at each unit.
 
+-- a wait, by its cookie, or the end of the reset that the unit is in
 pub data TargetWire : Type 0 where
   Cookie : (cookie : ℕ) → TargetWire
   ResetEnd : TargetWire
@@ -73,54 +90,68 @@ pub data PlaceWire : Type 0 where
   MappedWire : PlaceWire
   WithheldWire : (targets : List (Option TargetWire)) → PlaceWire
 
-abbrev pub cookie_number : World → Order → ℕ
-cookie_number w (Wait cookie drain) = Labels.number w cookie
-cookie_number w o = 0
+-- the number of the cookie of a wait
+abbrev pub cookie_number : (first : ℕ) → Order → ℕ
+cookie_number first (Wait cookie drain) = number first cookie
+cookie_number first o = 0
 
 -- what is waited for at a unit that hasn't answered: a wait that was submitted, or the end of the reset that it was in
-abbrev pub target_of : World → Part → Owed → TargetWire
-target_of w p (Pages page first count resets) = Cookie (cookie_number w (p.order (first + count)))
-target_of w p (Pasid invalidation wait resets in_reset) = if in_reset then ResetEnd else Cookie (cookie_number w (p.order wait))
-target_of w p _ = ResetEnd
+abbrev pub target_of : (first : ℕ) → Part → Owed → TargetWire
+target_of first p (Ranges range count resets) = Cookie (cookie_number first (p.order (range + count)))
+target_of first p (Pasid invalidation wait resets in_reset) = if in_reset then ResetEnd else Cookie (cookie_number first (p.order wait))
+target_of first p _ = ResetEnd
 
-abbrev pub target_wire : World → Part → Owed → Option TargetWire
-target_wire w p owed = if answered p owed then None else Some (target_of w p owed)
+abbrev pub target_wire : (first : ℕ) → Part → Owed → Option TargetWire
+target_wire first p owed = if answered p owed then None else Some (target_of first p owed)
 
-abbrev pub withheld_wire : World → MappingState → PlaceWire
-withheld_wire w (Gone owed) = WithheldWire (tabulate 8 (λ e. if nat_lt e w.config.endpoints then target_wire w (w.part e) (owed e) else None))
-withheld_wire w state = FreeWire
+abbrev pub withheld_wire : (first endpoints : ℕ) → (ℕ → Part) → MappingState → PlaceWire
+withheld_wire first endpoints part (Gone owed) =
+    WithheldWire (tabulate 8 (λ e. if nat_lt e endpoints then target_wire first (part e) (owed e) else None))
+withheld_wire first endpoints part state = FreeWire
 
 abbrev pub place_wire_by : World → (frame : ℕ) → Place → PlaceWire
 place_wire_by w f Free = FreeWire
 place_wire_by w f Mapped = MappedWire
-place_wire_by w f Withheld = withheld_wire w (w.mappings.state (the (w.mappings.latest f)))
+place_wire_by w f Withheld = withheld_wire w.config.first w.config.endpoints w.part (w.mappings.state (the (w.mappings.latest f)))
 
 abbrev pub places_wire : World → List PlaceWire
 places_wire w = tabulate w.config.frames (λ f. place_wire_by w f (place w f))
 
--- An endpoint with its unit.
+-- Bindings: those that aren't released, in the order in which they began.
 
+-- whether its wait is done is read from the front of its unit
 pub data StageWire : Type 0 where
   LiveWire : StageWire
   StoppingWire : (marked : Bool) → StageWire
-  DrainingWire : (cookie : ℕ) (waited : Bool) → StageWire
-  InvalidatingWire : (cookie : ℕ) (waited : Bool) → StageWire
+  DrainingWire : (cookie : ℕ) → StageWire
+  InvalidatingWire : (cookie : ℕ) → StageWire
   QuietWire : StageWire
   LostWire : StageWire
 
-abbrev pub stage_wire : World → Part → Stage → StageWire
-stage_wire w p Live = LiveWire
-stage_wire w p (Stopping marked) = StoppingWire marked
-stage_wire w p (Draining wait) = DrainingWire (cookie_number w (p.order wait)) (is_done (p.order_state wait))
-stage_wire w p (Invalidating invalidation wait) = InvalidatingWire (cookie_number w (p.order wait)) (is_done (p.order_state wait))
-stage_wire w p Lost = LostWire
-stage_wire w p _ = QuietWire
+abbrev pub stage_wire : (first : ℕ) → Part → Stage → StageWire
+stage_wire first p Live = LiveWire
+stage_wire first p (Stopping marked) = StoppingWire marked
+stage_wire first p (Draining wait) = DrainingWire (cookie_number first (p.order wait))
+stage_wire first p (Invalidating invalidation wait) = InvalidatingWire (cookie_number first (p.order wait))
+stage_wire first p Lost = LostWire
+stage_wire first p _ = QuietWire
 
 pub record BindingWire : Type 0 where
-  pub number : ℕ
+  pub endpoint : ℕ
   pub space : ℕ
+  pub binding : ℕ
   pub pasid : ℕ
   pub stage : StageWire
+
+abbrev pub binding_wire : (first endpoint : ℕ) → Part → (binding : ℕ) → BindingWire
+binding_wire first e p b =
+    record { endpoint = e; space = number first (p.space b); binding = number first b; pasid = p.pasid b; stage = stage_wire first p (p.stage b) }
+
+abbrev pub bindings_wire : (first bindings : ℕ) → (home : ℕ → ℕ) → (ℕ → Part) → List BindingWire
+bindings_wire first bindings home part =
+    map (λ b. binding_wire first (home b) (part (home b)) b) (select bindings (λ b. is_unreleased ((part (home b)).stage b)))
+
+-- The device: what an endpoint keeps itself.
 
 pub record RequestWire : Type 0 where
   pub pasid : ℕ
@@ -149,15 +180,108 @@ pub record GroupWire : Type 0 where
   pub state : GroupState
   pub requests : ℕ
 
+pub record DeviceWire : Type 0 where
+  pub pasids : List PasidState  -- of the PASIDs 1 to 32
+  pub tags : List (Option RequestWire)
+  pub cache : List TranslationWire  -- in rising order of PASID and page
+  pub slots : List (Option UseWire)
+  pub taken : List (Option TakenWire)  -- by ITag
+  pub groups : List (Option GroupWire)
+  pub is_disabled : Bool
+
+abbrev pub state_of_pasid : Part → Option ℕ → PasidState
+state_of_pasid p None = Off
+state_of_pasid p (Some b) = p.pasid_state b
+
+abbrev pub is_doomed : RequestState → Bool
+is_doomed Doomed = true
+is_doomed _ = false
+
+abbrev pub request_wire : Part → (request : ℕ) → RequestWire
+request_wire p r = record { pasid = p.pasid (p.request_binding r); page = p.request_page r; is_doomed = is_doomed (p.request r) }
+
+abbrev pub translation_wire : Mappings → Part → (binding page mapping : ℕ) → TranslationWire
+translation_wire ms p b q m = record { pasid = p.pasid b; page = q; frame = ms.frame m; write = ms.write m }
+
+abbrev pub is_before : TranslationWire → TranslationWire → Bool
+is_before a b = nat_lt a.pasid b.pasid || (a.pasid == b.pasid && nat_lt a.page b.page)
+
+-- the translation that the answer to a request left in the cache
+abbrev pub cached_wire : Mappings → Part → (request : ℕ) → TranslationWire
+cached_wire ms p r = translation_wire ms p (p.request_binding r) (p.request_page r) (the (p.held r))
+
+abbrev pub cache_wire : Mappings → Part → List TranslationWire
+cache_wire ms p = sorted_by is_before (map (cached_wire ms p) (select p.requests (λ r. is_some (p.held r))))
+
+abbrev pub use_wire : Mappings → Part → (used : ℕ) → UseWire
+use_wire ms p u =
+    if is_running (p.use_state u)
+    then RunningWire (translation_wire ms p (p.use_binding u) (ms.page (p.use_mapping u)) (p.use_mapping u))
+    else DeadWire
+
+-- does a taken order wait for the use?
+abbrev pub is_noted : Mappings → Part → (order uses used : ℕ) → Bool
+is_noted ms p k uses u = nat_lt u uses && Labels.is_noted_running ms p k u
+
+abbrev pub taken_by : Mappings → Part → (order : ℕ) → OrderState → Option TakenWire
+taken_by ms p k (Taken uses) =
+    Some (record { pasid = p.pasid (binding_of (p.order k)); extent = extent_of (p.order k); slots = tabulate 16 (λ t. holds_of (is_noted ms p k uses) (p.at_slot t)) })
+taken_by ms p k _ = None
+
+abbrev pub group_wire : Part → (group : ℕ) → GroupWire
+group_wire p g = record { pasid = p.pasid (p.asker g); state = p.group g; requests = count_below p.page_requests (λ r. p.group_of r == g) }
+
+abbrev pub device_wire : Mappings → Part → DeviceWire
+device_wire ms p =
+    record {
+      pasids = tabulate 32 (λ t. state_of_pasid p (p.at_pasid (suc t)));
+      tags = tabulate 32 (λ t. option_map (request_wire p) (p.at_tag t));
+      cache = cache_wire ms p;
+      slots = tabulate 16 (λ t. option_map (use_wire ms p) (p.at_slot t));
+      taken = tabulate 32 (λ t. chain (λ k. taken_by ms p k (p.order_state k)) (p.at_itag t));
+      groups = tabulate 32 (λ i. option_map (group_wire p) (p.at_index i));
+      is_disabled = p.is_disabled;
+    }
+
+-- The unit's invalidation queue.
+
 -- an ITag that is busy: no completion came yet, or so many of so many
 pub data BusyWire : Type 0 where
   Fresh : BusyWire
   Counting : (count arrived : ℕ) → BusyWire
 
 pub data Descriptor : Type 0 where
-  PageDescriptor : (pasid page : ℕ) → Descriptor
+  RangeDescriptor : (pasid : ℕ) (range : Range) → Descriptor
   PasidDescriptor : (pasid : ℕ) → Descriptor
   WaitDescriptor : (cookie : ℕ) (drain : Bool) → Descriptor
+
+-- `front` is the number after the greatest cookie that the unit has taken, or that a reset made void which has ended; 0
+-- where there is none. A wait is done exactly where its cookie is below the front, and it isn't void.
+pub record UnitWire : Type 0 where
+  pub is_open : Bool
+  pub queue : List Descriptor
+  pub busy : List (Option BusyWire)  -- by ITag
+  pub front : ℕ
+
+abbrev pub descriptor : (first : ℕ) → Part → Order → Descriptor
+descriptor first p (RangeOf b range) = RangeDescriptor (p.pasid b) range
+descriptor first p (PasidOf b) = PasidDescriptor (p.pasid b)
+descriptor first p (Wait cookie drain) = WaitDescriptor (number first cookie) drain
+
+abbrev pub busy_wire : OrderState → BusyWire
+busy_wire (Owing count left) = if left == count then Fresh else Counting count (count - left)
+busy_wire _ = Fresh
+
+abbrev pub unit_wire : (first : ℕ) → Part → UnitWire
+unit_wire first p =
+    record {
+      is_open = is_open p.phase;
+      queue = map (λ k. descriptor first p (p.order k)) (select p.orders (λ k. is_queued (p.order_state k)));
+      busy = tabulate 32 (λ t. option_map (λ k. busy_wire (p.order_state k)) (p.at_itag t));
+      front = end_number first p.front;
+    }
+
+-- The unit's page request queue, and the groups that the host has open.
 
 pub record AskWire : Type 0 where
   pub page : ℕ
@@ -177,78 +301,14 @@ pub record HostGroupWire : Type 0 where
   pub asks : List AskWire
   pub is_whole : Bool
 
-pub record PartWire : Type 0 where
-  pub is_open : Bool
-  pub bindings : List BindingWire
-  pub pasids : List PasidState  -- of the PASIDs 1 to 32
-  pub tags : List (Option RequestWire)
-  pub cache : List TranslationWire  -- in rising order of PASID and page
-  pub slots : List (Option UseWire)
-  pub taken : List (Option TakenWire)  -- by ITag
-  pub groups : List (Option GroupWire)
-  pub is_disabled : Bool
-  pub queue : List Descriptor
-  pub busy : List (Option BusyWire)  -- by ITag
-  pub page_queue : List PageRequestWire
-  pub host_groups : List HostGroupWire
-
-abbrev pub binding_wire : World → Part → (binding : ℕ) → BindingWire
-binding_wire w p b = record { number = Labels.number w b; space = Labels.number w (p.space b); pasid = p.pasid b; stage = stage_wire w p (p.stage b) }
-
-abbrev pub state_of_pasid : Part → Option ℕ → PasidState
-state_of_pasid p None = Off
-state_of_pasid p (Some b) = p.pasid_state b
-
-abbrev pub is_doomed : RequestState → Bool
-is_doomed Doomed = true
-is_doomed _ = false
-
-abbrev pub request_wire : Part → (request : ℕ) → RequestWire
-request_wire p r = record { pasid = p.pasid (p.request_binding r); page = p.request_page r; is_doomed = is_doomed (p.request r) }
-
-abbrev pub translation_wire : World → Part → (binding page mapping : ℕ) → TranslationWire
-translation_wire w p b q m = record { pasid = p.pasid b; page = q; frame = w.mappings.frame m; write = w.mappings.write m }
-
-abbrev pub is_before : TranslationWire → TranslationWire → Bool
-is_before a b = nat_lt a.pasid b.pasid || (a.pasid == b.pasid && nat_lt a.page b.page)
-
-abbrev pub cache_wire : World → Part → List TranslationWire
-cache_wire w p =
-    sorted_by is_before
-    (map (λ r. translation_wire w p (p.request_binding r) (p.request_page r) (the (p.held r))) (select p.requests (λ r. is_some (p.held r))))
-
-abbrev pub use_wire : World → Part → (used : ℕ) → UseWire
-use_wire w p u =
-    if is_running (p.use_state u)
-    then RunningWire (translation_wire w p (p.use_binding u) (w.mappings.page (p.use_mapping u)) (p.use_mapping u))
-    else DeadWire
-
--- does a taken order wait for the use?
-abbrev pub is_noted : World → Part → (order uses used : ℕ) → Bool
-is_noted w p k uses u = nat_lt u uses && Labels.is_noted_running w p k u
-
-abbrev pub taken_by : World → Part → (order : ℕ) → OrderState → Option TakenWire
-taken_by w p k (Taken uses) =
-    Some (record { pasid = p.pasid (binding_of (p.order k)); extent = extent_of (p.order k); slots = tabulate 16 (λ t. holds_of (is_noted w p k uses) (p.at_slot t)) })
-taken_by w p k _ = None
-
-abbrev pub group_wire : Part → (group : ℕ) → GroupWire
-group_wire p g = record { pasid = p.pasid (p.asker g); state = p.group g; requests = count_below p.page_requests (λ r. p.group_of r == g) }
-
-abbrev pub descriptor : World → Part → Order → Descriptor
-descriptor w p (PageOf b q) = PageDescriptor (p.pasid b) q
-descriptor w p (PasidOf b) = PasidDescriptor (p.pasid b)
-descriptor w p (Wait cookie drain) = WaitDescriptor (Labels.number w cookie) drain
-
-abbrev pub busy_wire : OrderState → BusyWire
-busy_wire (Owing count left) = if left == count then Fresh else Counting count (count - left)
-busy_wire _ = Fresh
-
 abbrev pub ask_wire : Part → (page_request : ℕ) → AskWire
 ask_wire p r = record { page = p.asked_page r; read = p.asks_read r; write = p.asks_write r }
 
 abbrev pub page_request_wire : Part → (page_request : ℕ) → PageRequestWire
 page_request_wire p r = record { pasid = p.pasid (p.asker (p.group_of r)); index = p.index (p.group_of r); ask = ask_wire p r; last = p.is_last r }
+
+abbrev pub page_queue_wire : Part → List PageRequestWire
+page_queue_wire p = map (λ k. page_request_wire p (p.arrival k)) (select p.arrivals (Labels.is_waiting p))
 
 -- the asks of a group that are filed, in order of filing
 abbrev pub asks_wire : Part → (group : ℕ) → List AskWire
@@ -263,48 +323,50 @@ abbrev pub begins_open : Part → (filing : ℕ) → Bool
 begins_open p k =
     is_open_group (p.host_group (p.group_of (p.filing k))) && not (any_below k (λ j. p.group_of (p.filing j) == p.group_of (p.filing k)))
 
-abbrev pub host_group_wire : World → Part → (group : ℕ) → HostGroupWire
-host_group_wire w p g =
-    record { binding = Labels.number w (p.filed_under g); index = p.index g; asks = asks_wire p g; is_whole = not (is_part (p.host_group g)) }
+abbrev pub host_group_wire : (first : ℕ) → Part → (group : ℕ) → HostGroupWire
+host_group_wire first p g =
+    record { binding = number first (p.filed_under g); index = p.index g; asks = asks_wire p g; is_whole = not (is_part (p.host_group g)) }
 
-abbrev pub part_wire : World → Part → PartWire
-part_wire w p =
-    record {
-      is_open = is_open p.phase;
-      bindings = map (binding_wire w p) (select w.bindings (λ b. is_unreleased (p.stage b)));
-      pasids = tabulate 32 (λ t. state_of_pasid p (p.at_pasid (suc t)));
-      tags = tabulate 32 (λ t. option_map (request_wire p) (p.at_tag t));
-      cache = cache_wire w p;
-      slots = tabulate 16 (λ t. option_map (use_wire w p) (p.at_slot t));
-      taken = tabulate 32 (λ t. chain (λ k. taken_by w p k (p.order_state k)) (p.at_itag t));
-      groups = tabulate 32 (λ i. option_map (group_wire p) (p.at_index i));
-      is_disabled = p.is_disabled;
-      queue = map (λ k. descriptor w p (p.order k)) (select p.orders (λ k. is_queued (p.order_state k)));
-      busy = tabulate 32 (λ t. option_map (λ k. busy_wire (p.order_state k)) (p.at_itag t));
-      page_queue = map (λ k. page_request_wire p (p.arrival k)) (select p.arrivals (Labels.is_waiting p));
-      host_groups = map (λ k. host_group_wire w p (p.group_of (p.filing k))) (select p.filings (begins_open p));
-    }
+abbrev pub host_groups_wire : (first : ℕ) → Part → List HostGroupWire
+host_groups_wire first p = map (λ k. host_group_wire first p (p.group_of (p.filing k))) (select p.filings (begins_open p))
+
+-- an endpoint with its unit
+pub record PartWire : Type 0 where
+  pub device : DeviceWire
+  pub unit : UnitWire
+  pub page_queue : List PageRequestWire
+  pub host_groups : List HostGroupWire
+
+abbrev pub part_wire : (first : ℕ) → Mappings → Part → PartWire
+part_wire first ms p =
+    record { device = device_wire ms p; unit = unit_wire first p; page_queue = page_queue_wire p; host_groups = host_groups_wire first p }
 
 -- Jobs, hands and messages in flight.
 
 pub record JobWire : Type 0 where
+  pub endpoint : ℕ
   pub binding : ℕ
   pub index : ℕ
   pub asks : List AskWire
 
+abbrev pub group_job : (first endpoint : ℕ) → Part → (group : ℕ) → JobWire
+group_job first e p g = record { endpoint = e; binding = number first (p.filed_under g); index = p.index g; asks = asks_wire p g }
+
 abbrev pub job_wire : World → (job : ℕ) → JobWire
-job_wire w j =
-    let p = w.part (w.job j).endpoint in
-    record { binding = Labels.number w (p.filed_under (w.job j).group); index = p.index (w.job j).group; asks = asks_wire p (w.job j).group }
+job_wire w j = group_job w.config.first (w.job j).endpoint (w.part (w.job j).endpoint) (w.job j).group
 
 pub record FlightWire : Type 0 where
   pub number : ℕ
   pub endpoint : ℕ
   pub message : Message
 
+abbrev pub flight_wire : World → (message : ℕ) → FlightWire
+flight_wire w c = record { number = number w.config.first c; endpoint = w.way c; message = (w.part (w.way c)).carried c }
+
 pub record Wire : Type 0 where
   pub spaces : List SpaceWire
   pub places : List PlaceWire
+  pub bindings : List BindingWire
   pub parts : List PartWire
   pub jobs : List JobWire
   pub hands : List (Option JobWire)
@@ -316,17 +378,17 @@ pub record Wire : Type 0 where
 
 abbrev pub wire : World → Wire
 wire w =
+    let first = w.config.first in
     record {
-      spaces = spaces_wire w;
+      spaces = spaces_wire first w.spaces w.is_live w.mappings;
       places = places_wire w;
-      parts = tabulate w.config.endpoints (λ e. part_wire w (w.part e));
+      bindings = bindings_wire first w.bindings w.home w.part;
+      parts = tabulate w.config.endpoints (λ e. part_wire first w.mappings (w.part e));
       jobs = map (job_wire w) (select w.jobs (Labels.is_queued_job w));
       hands = tabulate w.config.workers (λ x. option_map (job_wire w) (w.hand x));
-      in_flight =
-          map (λ c. record { number = Labels.number w c; endpoint = w.way c; message = (w.part (w.way c)).carried c })
-          (select w.messages (λ c. is_some ((w.part (w.way c)).message c)));
-      next_space = Labels.number w w.spaces;
-      next_binding = Labels.number w w.bindings;
-      next_message = Labels.number w w.messages;
-      next_cookie = Labels.number w w.cookies;
+      in_flight = map (flight_wire w) (select w.messages (λ c. is_some ((w.part (w.way c)).message c)));
+      next_space = number first w.spaces;
+      next_binding = number first w.bindings;
+      next_message = number first w.messages;
+      next_cookie = number first w.cookies;
     }

@@ -4,16 +4,16 @@ use Rattle.sva_laws.proofs.Cookies.{always_cookies}
 use Rattle.sva_laws.proofs.orders_and_resets.Goals as goal
 
 pub returns-clause-counted : goal.returns-clause-counted
-returns-clause-counted c = λ config steps s e fits. always_counts config steps s e
+returns-clause-counted c = λ rule config steps s e fits. always_counts rule config steps s e
 
 pub returns-clause-ended : goal.returns-clause-ended
-returns-clause-ended c = λ config steps s e fits. always_changes config steps s e
+returns-clause-ended c = λ rule config steps s e fits. always_changes rule config steps s e
 
 pub returns-clause-void : goal.returns-clause-void
-returns-clause-void c = λ config before since e fits. always_void config before since e
+returns-clause-void c = λ rule config before since e fits. always_void rule config before since e
 
 pub returns-clause-noted : goal.returns-clause-noted
-returns-clause-noted c = λ config steps s e fits. always_notes config steps s e
+returns-clause-noted c = λ rule config steps s e fits. always_notes rule config steps s e
 
 pub returns-clause-cookies : goal.returns-clause-cookies
-returns-clause-cookies c = λ config steps fits. always_cookies config steps
+returns-clause-cookies c = λ rule config steps fits. always_cookies rule config steps

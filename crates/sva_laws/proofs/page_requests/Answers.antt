@@ -7,10 +7,10 @@ use Rattle.sva_laws.proofs.Limits.{always_outstanding, always_page_queue, always
 use Rattle.sva_laws.proofs.page_requests.Goals as goal
 
 pub returns-clause-matched : goal.returns-clause-matched
-returns-clause-matched c = λ config steps e fits. (always_agrees config steps fits).matched e
+returns-clause-matched c = λ rule config steps e fits. (always_agrees rule config steps fits).matched e
 
 pub returns-clause-limited : goal.returns-clause-limited
-returns-clause-limited c = λ config steps e fits. record { outstanding = always_outstanding config steps e; page_queue = always_page_queue config steps e; waiting = always_waiting config steps e }
+returns-clause-limited c = λ rule config steps e fits. record { outstanding = always_outstanding rule config steps e; page_queue = always_page_queue rule config steps e; waiting = always_waiting rule config steps e }
 
 pub returns-clause-hands : goal.returns-clause-hands
-returns-clause-hands c = λ config steps fits. holds_jobs (world_after config steps) (always config steps) (always_jobs config steps)
+returns-clause-hands c = λ rule config steps fits. holds_jobs (world_after rule config steps) (always rule config steps) (always_jobs rule config steps)

@@ -2,7 +2,7 @@ use Rattle.sva_laws.proofs.Claimed.{always_agrees}
 use Rattle.sva_laws.proofs.translations.Goals as goal
 
 pub returns-clause-owned : goal.returns-clause-owned
-returns-clause-owned c = λ config steps e b q m fits. (always_agrees config steps fits).owner e b q m
+returns-clause-owned c = λ rule config steps e b q m fits. (always_agrees rule config steps fits).owner e b q m
 
 pub returns-clause-safe : goal.returns-clause-safe
-returns-clause-safe c = λ config steps e b q m fits. (always_agrees config steps fits).usable e b q m
+returns-clause-safe c = λ rule config steps e b q m fits. (always_agrees rule config steps fits).usable e b q m

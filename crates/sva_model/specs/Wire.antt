@@ -256,12 +256,14 @@ pub data Descriptor : Type 0 where
   WaitDescriptor : (cookie : ℕ) (drain : Bool) → Descriptor
 
 -- `front` is the number after the greatest cookie that the unit has taken, or that a reset made void which has ended; 0
--- where there is none. A wait is done exactly where its cookie is below the front, and it isn't void.
+-- where there is none. A wait is done exactly where its cookie is below the front, and it isn't void. `waits_end` is the
+-- number after the greatest cookie that was submitted; 0 where there is none.
 pub record UnitWire : Type 0 where
   pub is_open : Bool
   pub queue : List Descriptor
   pub busy : List (Option BusyWire)  -- by ITag
   pub front : ℕ
+  pub waits_end : ℕ
 
 abbrev pub descriptor : (first : ℕ) → Part → Order → Descriptor
 descriptor first p (RangeOf b range) = RangeDescriptor (p.pasid b) range
@@ -279,6 +281,7 @@ unit_wire first p =
       queue = map (λ k. descriptor first p (p.order k)) (select p.orders (λ k. is_queued (p.order_state k)));
       busy = tabulate 32 (λ t. option_map (λ k. busy_wire (p.order_state k)) (p.at_itag t));
       front = end_number first p.front;
+      waits_end = end_number first p.waits_end;
     }
 
 -- The unit's page request queue, and the groups that the host has open.

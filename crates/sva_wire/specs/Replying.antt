@@ -1,0 +1,59 @@
+-- What a worker's reply does, read off what a host keeps: it is decided by the binding that the job names, at the time of
+-- the reply (Page Request Group Response: PCI Express Base 5.0, section 10.4.2).
+use Rattle.std.specs.Prelude.{ℕ, Bool, true, false, ◌&&◌, not, ◌==◌, if◌then◌else◌, is_some, Option, Some, None, List, [], ◌∷◌, map}
+use Rattle.std.specs.List.{list_any}
+use Rattle.sva_step.specs.declared.steps.Verdict.{Verdict}
+use Rattle.sva_step.specs.declared.steps.Verdict.TheVariants as verdict
+use Rattle.sva_model.specs.Message.{Code}
+use Rattle.sva_model.specs.Message.Code.{InvalidCode}
+use Rattle.sva_model.specs.Replies.{code_of_verdict, is_success, unseen}
+use Rattle.sva_model.specs.Wire.{Wire, PageWire, BindingWire, StageWire, AskWire, JobWire}
+use Rattle.sva_model.specs.Wire.StageWire.{LiveWire, StoppingWire, DrainingWire}
+use Rattle.sva_wire.specs.Finding.{pages_in, page_at, is_mapped, binding_of, unit_of}
+
+-- the code of the response; none is sent at a unit in reset, or for a binding that is Lost, Quiet or released
+abbrev pub response_by : Bool → StageWire → Verdict → Option Code
+response_by true LiveWire v = Some (code_of_verdict v)
+response_by true (StoppingWire marked) v = Some InvalidCode
+response_by true (DrainingWire cookie) v = Some InvalidCode
+response_by _ _ v = None
+
+abbrev pub response_for : (is_open : Bool) → Option BindingWire → Verdict → Option Code
+response_for is_open None v = None
+response_for is_open (Some b) v = response_by is_open b.stage v
+
+abbrev pub response_to : Wire → JobWire → Verdict → Option Code
+response_to w job v = response_for (unit_of w job.endpoint).is_open (binding_of w job.binding) v
+
+abbrev pub responds : Wire → JobWire → Bool
+responds w job = is_some (response_to w job verdict.Invalid)
+
+abbrev pub replies_success : Wire → JobWire → Verdict → Bool
+replies_success w job v = is_success (response_to w job v)
+
+-- the number of the space of the binding that the job names; 0 where that is released
+abbrev pub space_by : Option BindingWire → ℕ
+space_by None = 0
+space_by (Some b) = b.space
+
+abbrev pub space_of_job : Wire → JobWire → ℕ
+space_of_job w job = space_by (binding_of w job.binding)
+
+abbrev pub pages_of_job : Wire → JobWire → List PageWire
+pages_of_job w job = pages_in w (space_of_job w job)
+
+-- the pages that a success maps: each requested page that isn't mapped, in order of first filing
+abbrev pub newly_mapped : Wire → JobWire → List ℕ
+newly_mapped w job = unseen (is_mapped (pages_of_job w job)) (map (λ a. a.page) job.asks)
+
+-- does a request of the job ask to write the page?
+abbrev pub is_write_asked : List AskWire → (page : ℕ) → Bool
+is_write_asked asks q = list_any (λ a. a.page == q && a.write) asks
+
+abbrev pub is_read_only_at : Option PageWire → Bool
+is_read_only_at None = false
+is_read_only_at (Some entry) = not entry.write
+
+-- does a request of the job ask to write a page that is mapped read-only?
+abbrev pub is_write_of_read_only : Wire → JobWire → Bool
+is_write_of_read_only w job = list_any (λ a. a.write && is_read_only_at (page_at (pages_of_job w job) a.page)) job.asks

@@ -9,7 +9,7 @@ use Rattle.sva_model.specs.Message.{Code}
 use Rattle.sva_model.specs.State.{Owed, MappingState, Part, World, Stage, Order, About, RequestState}
 use Rattle.sva_model.specs.State.MappingState.{Unmade, Present, Gone}
 use Rattle.sva_model.specs.State.Stage.{Unbound, Live, Stopping, Draining, Invalidating, Quiet, Lost, Released}
-use Rattle.sva_model.specs.State.Order.{PageOf, PasidOf, Wait}
+use Rattle.sva_model.specs.State.Order.{RangeOf, PasidOf, Wait}
 use Rattle.sva_model.specs.State.RequestState.{Out, Doomed, Over}
 use Rattle.sva_model.specs.State.About.{StartOf, StopOf, ResetOrder, CompletionOf, InvalidateOf, ResponseOf, RequestOf, InvalidatedOf, PageRequestOf, MarkerOf, ResetDone}
 use Rattle.sva_model.specs.Acts.{Act, Own, act}
@@ -27,7 +27,7 @@ use Rattle.sva_laws.proofs.Passed.{LegalAll}
 
 abbrev pub IsAdding : Act → Type 0
 IsAdding (DropSpace s) = ⊥
-IsAdding (Unmap s q count) = ⊥
+IsAdding (Unmap s q count order) = ⊥
 IsAdding _ = Unit {0}
 
 abbrev pub AreAdding : List Act → Type 0
@@ -93,7 +93,7 @@ act_adds : (w : World) (a : Act) → IsAdding a → Invariant w → Adds w (act 
 act_adds w NewSpace a i = adds_nothing w (act w NewSpace) refl
 act_adds w (DropSpace s) a i = absurd a
 act_adds w (Map s q f x) a i = adds_map w s q f x i
-act_adds w (Unmap s q count) a i = absurd a
+act_adds w (Unmap s q count order) a i = absurd a
 act_adds w (NewBinding e) a i = adds_nothing w (act w (NewBinding e)) refl
 act_adds w (NewJob e g) a i = adds_nothing w (act w (NewJob e g)) refl
 act_adds w (Hold x j) a i = adds_nothing w (act w (Hold x j)) refl
@@ -131,7 +131,7 @@ acts_add (x ∷ acts) w a l i = adds_more w (act w x) (after_acts (act w x) acts
 -- The acts of a step: they only add, or are one unmapping, or the drop of a space.
 pub data Kind (acts : List Act) : Type 0 where
   adding : AreAdding acts → Kind acts
-  unmapping : (s q count : ℕ) → acts ≡ Unmap s q count ∷ [] → Kind acts
+  unmapping : (s q count order : ℕ) → acts ≡ Unmap s q count order ∷ [] → Kind acts
   dropping : (s : ℕ) → acts ≡ DropSpace s ∷ [] → Kind acts
 
 unbind_adds : (e b : ℕ) (s : Stage) → AreAdding (unbind_outcome e b s).acts
@@ -164,7 +164,7 @@ send_adds e k t false = tt
 
 head_adds : (p : Part) (e k : ℕ) (o : Order) → AreAdding (head_outcome p e k o).acts
 head_adds p e k (Wait cookie drain) = wait_adds e k (may_pass p drain)
-head_adds p e k (PageOf b q) = send_adds e k (Labels.lowest_label 32 p.at_itag) _
+head_adds p e k (RangeOf b q) = send_adds e k (Labels.lowest_label 32 p.at_itag) _
 head_adds p e k (PasidOf b) = send_adds e k (Labels.lowest_label 32 p.at_itag) _
 
 pump_adds : (p : Part) (e : ℕ) (b : Bool) → AreAdding (pump_outcome p e b).acts
@@ -245,7 +245,8 @@ outcome_kind : (w : World) (s : Step) → Kind (outcome w s).acts
 outcome_kind w step.Space = adding (tt, tt)
 outcome_kind w (step.DropSpace n) = dropping (Labels.name w n) refl
 outcome_kind w (step.Map n q x) = adding (tt, tt)
-outcome_kind w (step.Unmap n q count) = unmapping (Labels.name w n) q count refl
+outcome_kind w (step.Unmap n q count) = unmapping (Labels.name w n) q count 0 refl
+outcome_kind w (step.UnmapRange n q order) = unmapping (Labels.name w n) q 1 order refl
 outcome_kind w (step.Bind e n) = adding (tt, (tt, tt))
 outcome_kind w (step.Unbind n) = adding (unbind_adds (w.home (Labels.name w n)) (Labels.name w n) ((w.part (w.home (Labels.name w n))).stage (Labels.name w n)))
 outcome_kind w (step.Advance n) = adding (advance_adds w (w.home (Labels.name w n)) (Labels.name w n) ((w.part (w.home (Labels.name w n))).stage (Labels.name w n)))
@@ -263,6 +264,7 @@ outcome_kind w (step.Finish e vector count) = adding (tt, tt)
 outcome_kind w (step.Quit e t) = adding (tt, tt)
 outcome_kind w (step.Deliver n) = adding (deliver_adds w (w.part (w.way (Labels.name w n))) (w.way (Labels.name w n)) (Labels.name w n) ((w.part (w.way (Labels.name w n))).message (Labels.name w n)))
 outcome_kind w (step.Look f) = adding tt
+outcome_kind w (step.Bearer t) = adding tt
 
 checked_kind : (cs : List Cause) (o : Outcome) → Kind o.acts → Kind (checked cs o).acts
 checked_kind [] o k = k

@@ -4,7 +4,7 @@ use Rattle.std.specs.Prelude.{Option, Some, None}
 use Rattle.std.proofs.lemmas.Bool.Decides.{nat_tests}
 use Rattle.sva_model.specs.Words.{all_below}
 use Rattle.sva_model.specs.State.{Owed, MappingState, PasidState, Part, World, Stage, HostGroupState, GroupState}
-use Rattle.sva_model.specs.State.Owed.{Nothing, Pages, Pasid, AReset}
+use Rattle.sva_model.specs.State.Owed.{Nothing, Ranges, Pasid, AReset}
 use Rattle.sva_model.specs.State.MappingState.{Unmade, Present, Gone}
 use Rattle.sva_model.specs.State.Stage.{Stopping, Invalidating}
 use Rattle.sva_model.specs.State.PasidState.{Off, On, Ending}
@@ -19,7 +19,7 @@ use Rattle.sva_laws.proofs.Bindings.{Bindings, is_unmarked}
 use Rattle.sva_laws.proofs.Labels.{Labels}
 use Rattle.sva_laws.proofs.Orders.{is_active}
 use Rattle.sva_laws.proofs.Owners.{blocks, asker_stage}
-use Rattle.sva_laws.proofs.Safe.{Pending, IsSafe, owed_of}
+use Rattle.sva_laws.proofs.Safe.{IsAhead, Pending, IsSafe, owed_of}
 use Rattle.sva_laws.specs.Laws.{is_answerable}
 use Rattle.sva_laws.proofs.Groups.{is_filed_group, times_replied}
 use Rattle.sva_laws.proofs.Invariant.{Invariant}
@@ -41,13 +41,13 @@ owner w e b q m i u = active_unreleased ((w.part e).stage b) (active_owner w e b
 
 -- What is pending isn't answered.
 
-silent_pages : (p : Part) (b q age page first count resets : ℕ) → Pending p b q age (Pages page first count resets) → answered p (Pages page first count resets) ≡ false
-silent_pages p b q age page first count resets h =
+silent_ranges : (p : Part) (b q age first count resets k : ℕ) → IsAhead p b q age first count resets k → answered p (Ranges first count resets) ≡ false
+silent_ranges p b q age first count resets k h =
     let waits : is_done (p.order_state (first + count)) ≡ false = not_done h in
     let none : all_below (suc count) (λ j. is_done (p.order_state (first + j))) ≡ false = all_below-false (suc count) (λ j. is_done (p.order_state (first + j))) count (omega arith) waits in
     grind (arith, nat_tests, none)
   where
-    not_done : Pending p b q age (Pages page first count resets) → is_done (p.order_state (first + count)) ≡ false
+    not_done : IsAhead p b q age first count resets k → is_done (p.order_state (first + count)) ≡ false
     not_done h = grind (arith)
 
 silent_pasid : (p : Part) (k w resets : ℕ) (c0 : Bool) → is_done (p.order_state k) ≡ false → resets ≡ p.resets → answered p (Pasid k w resets c0) ≡ false
@@ -60,7 +60,7 @@ undone_held p false k age e opened closed = grind (arith, nat_tests)
 
 silent : (p : Part) (b q age : ℕ) (v : Owed) → ((k w : ℕ) → p.stage b ≡ Invalidating k w → is_done (p.order_state k) ≡ false) → Pending p b q age v → answered p v ≡ false
 silent p b q age Nothing inv h = absurd h
-silent p b q age (Pages page first count resets) inv h = silent_pages p b q age page first count resets h
+silent p b q age (Ranges first count resets) inv h = silent_ranges p b q age first count resets h.0 h.1
 silent p b q age (Pasid k w resets c0) inv h = silent_pasid p k w resets c0 (inv k w h.1) h.0
 silent p b q age (AReset resets) inv h = reset_silent h.0
   where

@@ -4,7 +4,7 @@ use Rattle.std.specs.Prelude.{Option, Some, None, ◌&&◌, ◌||◌, nat_lt, if
 use Rattle.std.proofs.lemmas.Bool.Decides.{nat_tests}
 use Rattle.sva_model.specs.Words.{all_below}
 use Rattle.sva_model.specs.State.{Owed, Mappings, Part}
-use Rattle.sva_model.specs.State.Owed.{Nothing, Pages, Pasid, AReset}
+use Rattle.sva_model.specs.State.Owed.{Nothing, Ranges, Pasid, AReset}
 use Rattle.sva_model.specs.State.OrderState.{Void}
 use Rattle.sva_model.specs.States.{is_done, answered}
 use Rattle.sva_model.specs.Acts.{own, Own, submitted, submitted_if}
@@ -36,7 +36,7 @@ less_more a b c l h = grind (arith, nat_tests)
 -- what is answered by orders that are done stays so, where these stay done and resets are counted up
 answered_more : (p q : Part) → ((k : ℕ) → is_done (p.order_state k) ≡ true → is_done (q.order_state k) ≡ true) → p.resets ≤ q.resets → (v : Owed) → answered p v ≡ true → answered q v ≡ true
 answered_more p q f l Nothing h = refl
-answered_more p q f l (Pages page first count resets) h =
+answered_more p q f l (Ranges first count resets) h =
     or_more (all_below (suc count) (λ j. is_done (p.order_state (first + j)))) (nat_lt resets p.resets) (all_below (suc count) (λ j. is_done (q.order_state (first + j)))) (nat_lt resets q.resets)
     (all_below-more (suc count) (λ j. is_done (p.order_state (first + j))) (λ j. is_done (q.order_state (first + j))) (λ j. f (first + j)))
     (less_more resets p.resets q.resets l) h
@@ -56,11 +56,11 @@ pub answered_own : (ms : Mappings) (g n : ℕ) (p : Part) (o : Own) → LegalOwn
 answered_own ms g n p o l sent bo v h =
     answered_more p (own p n o) (λ k. done_stays ms g n p o l sent k (bo.order_state k)) (resets_grow ms g n p o l) v h
 
-submitted_done : (g b q count cookie k : ℕ) (p : Part) → Bounds g p → is_done (p.order_state k) ≡ true → is_done ((submitted p b q count cookie).order_state k) ≡ true
-submitted_done g b q count cookie k p bo h = grind (arith, nat_tests, bo.order_state k)
+submitted_done : (g b q count order cookie k : ℕ) (p : Part) → Bounds g p → is_done (p.order_state k) ≡ true → is_done ((submitted p b q count order cookie).order_state k) ≡ true
+submitted_done g b q count order cookie k p bo h = grind (arith, nat_tests, bo.order_state k)
 
-pub answered_submitted : (g : ℕ) (s : Bool) (p : Part) (o : Option ℕ) (q count cookie : ℕ) → Bounds g p → (v : Owed) → answered p v ≡ true → answered (submitted_if s p o q count cookie) v ≡ true
-answered_submitted g true p (Some b) q count cookie bo v h =
-    answered_more p (submitted p b q count cookie) (λ k. submitted_done g b q count cookie k p bo) (omega arith) v h
-answered_submitted g true p None q count cookie bo v h = h
-answered_submitted g false p o q count cookie bo v h = h
+pub answered_submitted : (g : ℕ) (s : Bool) (p : Part) (o : Option ℕ) (q count order cookie : ℕ) → Bounds g p → (v : Owed) → answered p v ≡ true → answered (submitted_if s p o q count order cookie) v ≡ true
+answered_submitted g true p (Some b) q count order cookie bo v h =
+    answered_more p (submitted p b q count order cookie) (λ k. submitted_done g b q count order cookie k p bo) (omega arith) v h
+answered_submitted g true p None q count order cookie bo v h = h
+answered_submitted g false p o q count order cookie bo v h = h

@@ -14,7 +14,7 @@ use Rattle.sva_model.specs.State.Stage.{Unbound}
 use Rattle.sva_model.specs.State.PageRequestState.{Arrived}
 use Rattle.sva_model.specs.State.OrderState.{Sent}
 use Rattle.sva_model.specs.State.About.{StartOf, StopOf, ResetOrder, CompletionOf, InvalidateOf, ResponseOf, RequestOf, PageRequestOf, MarkerOf, ResetDone}
-use Rattle.sva_model.specs.Acts.{Act, Own, act, own, submitted, submitted_if, submits, bound, cookie_of, binding_of, extent_of}
+use Rattle.sva_model.specs.Acts.{Act, Own, act, own, submitted, submitted_if, submits, bound, cookie_of, binding_of, extent_of, scope_of}
 use Rattle.sva_model.specs.Acts.Act.{NewSpace, DropSpace, Map, Unmap, NewBinding, NewJob, Hold, LetGo, At}
 use Rattle.sva_model.specs.Steps.{decide, next, run, after_acts, world_after}
 use Rattle.sva_laws.specs.Laws.{IsCarried}
@@ -47,7 +47,7 @@ reset_done_kept ms g n p o l c old h = grind (arith, nat_tests)
 marker_kept : (ms : Mappings) (g n : ℕ) (p : Part) (o : Own) → LegalOwn ms g p o → (c b : ℕ) → (p.message c ≡ Some (MarkerOf b) → p.stage b ≢ Unbound) → (p.message c ≡ Some (MarkerOf b) → p.carried c ≡ MarkerMessage (p.pasid b)) → (own p n o).message c ≡ Some (MarkerOf b) → (own p n o).carried c ≡ MarkerMessage ((own p n o).pasid b)
 marker_kept ms g n p o l c b bound old h = grind (arith, nat_tests)
 
-invalidate_kept : (ms : Mappings) (g n : ℕ) (p : Part) (o : Own) → LegalOwn ms g p o → (c k : ℕ) → (p.message c ≡ Some (InvalidateOf k) → k < p.orders) → (p.message c ≡ Some (InvalidateOf k) → p.order_state k ≡ Sent) → (p.message c ≡ Some (InvalidateOf k) → p.stage (binding_of (p.order k)) ≢ Unbound) → (p.message c ≡ Some (InvalidateOf k) → p.carried c ≡ InvalidateMessage (p.itag k) (p.pasid (binding_of (p.order k))) (extent_of (p.order k))) → (own p n o).message c ≡ Some (InvalidateOf k) → (own p n o).carried c ≡ InvalidateMessage ((own p n o).itag k) ((own p n o).pasid (binding_of ((own p n o).order k))) (extent_of ((own p n o).order k))
+invalidate_kept : (ms : Mappings) (g n : ℕ) (p : Part) (o : Own) → LegalOwn ms g p o → (c k : ℕ) → (p.message c ≡ Some (InvalidateOf k) → k < p.orders) → (p.message c ≡ Some (InvalidateOf k) → p.order_state k ≡ Sent) → (p.message c ≡ Some (InvalidateOf k) → p.stage (binding_of (p.order k)) ≢ Unbound) → (p.message c ≡ Some (InvalidateOf k) → p.carried c ≡ InvalidateMessage (p.itag k) (p.pasid (binding_of (p.order k))) (scope_of (extent_of (p.order k)))) → (own p n o).message c ≡ Some (InvalidateOf k) → (own p n o).carried c ≡ InvalidateMessage ((own p n o).itag k) ((own p n o).pasid (binding_of ((own p n o).order k))) (scope_of (extent_of ((own p n o).order k)))
 invalidate_kept ms g n p o l c k made sent bound old h = grind (arith, nat_tests)
 
 response_kept : (ms : Mappings) (g n : ℕ) (p : Part) (o : Own) → LegalOwn ms g p o → (c x : ℕ) (code : Code) → (p.message c ≡ Some (ResponseOf x code) → x < p.groups) → ((r : ℕ) → p.message c ≡ Some (ResponseOf x code) → p.group_of r ≡ x → p.page_request r ≢ Arrived) → (p.message c ≡ Some (ResponseOf x code) → p.stage (p.filed_under x) ≢ Unbound) → (p.message c ≡ Some (ResponseOf x code) → p.carried c ≡ ResponseMessage (p.pasid (p.filed_under x)) (p.index x) code) → (own p n o).message c ≡ Some (ResponseOf x code) → (own p n o).carried c ≡ ResponseMessage ((own p n o).pasid ((own p n o).filed_under x)) ((own p n o).index x) code
@@ -106,27 +106,27 @@ every ms x g n e p o l i ow ca =
         bound_as (p.stage (p.filed_under y)) (p.stage (p.asker y)) (ap p.stage (i.groups.under y f)) (i.groups.asker_bound y (i.bounds.responded c y code m))
 
 -- a submission leaves the orders that were sent
-submitted_invalidate : (g b q count cookie c k : ℕ) (p : Part) → (p.message c ≡ Some (InvalidateOf k) → k < p.orders) → (p.message c ≡ Some (InvalidateOf k) → p.carried c ≡ InvalidateMessage (p.itag k) (p.pasid (binding_of (p.order k))) (extent_of (p.order k))) → p.message c ≡ Some (InvalidateOf k) → p.carried c ≡ InvalidateMessage (p.itag k) (p.pasid (binding_of ((submitted p b q count cookie).order k))) (extent_of ((submitted p b q count cookie).order k))
-submitted_invalidate g b q count cookie c k p made old h = grind (arith, nat_tests)
+submitted_invalidate : (g b q count order cookie c k : ℕ) (p : Part) → (p.message c ≡ Some (InvalidateOf k) → k < p.orders) → (p.message c ≡ Some (InvalidateOf k) → p.carried c ≡ InvalidateMessage (p.itag k) (p.pasid (binding_of (p.order k))) (scope_of (extent_of (p.order k)))) → p.message c ≡ Some (InvalidateOf k) → p.carried c ≡ InvalidateMessage (p.itag k) (p.pasid (binding_of ((submitted p b q count order cookie).order k))) (scope_of (extent_of ((submitted p b q count order cookie).order k)))
+submitted_invalidate g b q count order cookie c k p made old h = grind (arith, nat_tests)
 
-submitted_carried : (ms : Mappings) (g : ℕ) (t : Bool) (p : Part) (o : Option ℕ) (q count cookie : ℕ) → Bounds g p → IsCarried ms p → IsCarried ms (submitted_if t p o q count cookie)
-submitted_carried ms g true p (Some b) q count cookie bo ca =
+submitted_carried : (ms : Mappings) (g : ℕ) (t : Bool) (p : Part) (o : Option ℕ) (q count order cookie : ℕ) → Bounds g p → IsCarried ms p → IsCarried ms (submitted_if t p o q count order cookie)
+submitted_carried ms g true p (Some b) q count order cookie bo ca =
     record {
       start = ca.start;
       stop = ca.stop;
       reset = ca.reset;
       completion = ca.completion;
       no_translation = ca.no_translation;
-      invalidate = λ c k h. submitted_invalidate g b q count cookie c k p (bo.sent c k) (ca.invalidate c k) h;
+      invalidate = λ c k h. submitted_invalidate g b q count order cookie c k p (bo.sent c k) (ca.invalidate c k) h;
       response = ca.response;
       request = ca.request;
-      invalidated = owed_for_submitted g b q count cookie p bo ca.invalidated;
+      invalidated = owed_for_submitted g b q count order cookie p bo ca.invalidated;
       page_request = ca.page_request;
       marker = ca.marker;
       reset_done = ca.reset_done;
     }
-submitted_carried ms g true p None q count cookie bo ca = ca
-submitted_carried ms g false p o q count cookie bo ca = ca
+submitted_carried ms g true p None q count order cookie bo ca = ca
+submitted_carried ms g false p o q count order cookie bo ca = ca
 
 -- a mapping leads to the frame that it led to
 with_mappings : (ms ns : Mappings) (p : Part) → ((c r m : ℕ) → p.message c ≡ Some (CompletionOf r (Some m)) → p.carried c ≡ CompletionMessage (p.request_tag r) (ns.frame m) true (ns.write m)) → IsCarried ms p → IsCarried ns p
@@ -160,10 +160,10 @@ act_carried w (Map s q f x) l i ow h =
     with_mappings w.mappings (act w (Map s q f x)).mappings (w.part e)
     (λ c r m k. mapped_completion (w.part e) c r m w.mappings.made f x w.mappings.frame w.mappings.write ((i.parts e).owners.flying_made c r m) ((h e).completion c r m) k)
     (h e)
-act_carried w (Unmap s q count) l i ow h =
+act_carried w (Unmap s q count order) l i ow h =
     λ e.
-    let ca = submitted_carried w.mappings w.bindings (submits w s e) (w.part e) (bound w e s) q count (cookie_of w s e) (i.parts e).bounds (h e) in
-    with_mappings w.mappings (act w (Unmap s q count)).mappings ((act w (Unmap s q count)).part e) ca.completion ca
+    let ca = submitted_carried w.mappings w.bindings (submits w s e) (w.part e) (bound w e s) q count order (cookie_of w s e) (i.parts e).bounds (h e) in
+    with_mappings w.mappings (act w (Unmap s q count order)).mappings ((act w (Unmap s q count order)).part e) ca.completion ca
 act_carried w (NewBinding e) l i ow h = h
 act_carried w (NewJob e g) l i ow h = h
 act_carried w (Hold x j) l i ow h = h

@@ -1,6 +1,6 @@
 -- The headline: after every list of steps the agreement holds.
 use Rattle.sva_model.specs.State.{PasidRule}
-use Rattle.std.proofs.Common.{◌≡◌, ◌⊎◌, inl, inr, refl, subst, ℕ, ◌<◌}
+use Rattle.std.proofs.Common.{◌≡◌, ◌⊎◌, inl, inr, refl, subst, ◌∙◌, ℕ, ◌<◌}
 use Rattle.std.specs.Prelude.{List}
 use Rattle.sva_step.specs.declared.limits.Config.{Config}
 use Rattle.sva_step.specs.declared.steps.Step.{Step}
@@ -10,7 +10,7 @@ use Rattle.sva_model.specs.Steps.{world_after}
 use Rattle.sva_model.specs.Claims.{IsPresent, IsWithheld, IsDivided, AlwaysAgrees, Usable}
 use Rattle.sva_laws.proofs.Runs.{always}
 use Rattle.sva_laws.proofs.Agreement.{owner, usable, matched, distinct, mapped_once, frame_low, is_mapped, place_mapped}
-use Rattle.sva_laws.proofs.Withheld.{config_kept, is_withheld, place_withheld}
+use Rattle.sva_laws.proofs.Withheld.{config_kept, rule_kept, is_withheld, place_withheld}
 
 -- a place that is neither Mapped nor Withheld is Free
 free_is : (p : Place) → (p ≡ Mapped → ⊥) → (p ≡ Withheld → ⊥) → p ≡ Free
@@ -53,4 +53,5 @@ always_agrees rule c steps fits =
       matched = λ e. matched (world_after rule c steps) e (always rule c steps);
       divided = divided rule c steps;
       distinct = λ e b d u v same. distinct (world_after rule c steps) e b d (always rule c steps) u v same;
+      shared = λ e b d x of u v. ((λ same. ((always rule c steps).shared (rule_kept rule c steps ∙ of)).same_space e d b x u v same), (λ same. ((always rule c steps).shared (rule_kept rule c steps ∙ of)).same_pasid e d b x u v same));
     }

@@ -171,20 +171,20 @@ more_messages n s p re ow =
       owing = ow.owing;
     }
 
-submitted_left : (g b q count cookie k : ℕ) (p : Part) → Bounds g p → left_of ((submitted p b q count cookie).order_state k) ≡ left_of (p.order_state k)
-submitted_left g b q count cookie k p bo = grind (arith, nat_tests, bo.order_state k)
+submitted_left : (g b q count order cookie k : ℕ) (p : Part) → Bounds g p → left_of ((submitted p b q count order cookie).order_state k) ≡ left_of (p.order_state k)
+submitted_left g b q count order cookie k p bo = grind (arith, nat_tests, bo.order_state k)
 
-submitted_owing : (b q count cookie k c left : ℕ) (p : Part) → (submitted p b q count cookie).order_state k ≡ Owing c left → p.order_state k ≡ Owing c left
-submitted_owing b q count cookie k c left p h = grind (arith, nat_tests)
+submitted_owing : (b q count order cookie k c left : ℕ) (p : Part) → (submitted p b q count order cookie).order_state k ≡ Owing c left → p.order_state k ≡ Owing c left
+submitted_owing b q count order cookie k c left p h = grind (arith, nat_tests)
 
-submitted_owed : (g n : ℕ) (t : Bool) (p : Part) (o : Option ℕ) (q count cookie : ℕ) → Bounds g p → Owed n p → Owed n (submitted_if t p o q count cookie)
-submitted_owed g n true p (Some b) q count cookie bo ow =
+submitted_owed : (g n : ℕ) (t : Bool) (p : Part) (o : Option ℕ) (q count order cookie : ℕ) → Bounds g p → Owed n p → Owed n (submitted_if t p o q count order cookie)
+submitted_owed g n true p (Some b) q count order cookie bo ow =
     record {
-      owed = λ k ph. ow.owed k ph ∙ sym (submitted_left g b q count cookie k p bo);
-      owing = λ k c left h. ow.owing k c left (submitted_owing b q count cookie k c left p h);
+      owed = λ k ph. ow.owed k ph ∙ sym (submitted_left g b q count order cookie k p bo);
+      owing = λ k c left h. ow.owing k c left (submitted_owing b q count order cookie k c left p h);
     }
-submitted_owed g n true p None q count cookie bo ow = ow
-submitted_owed g n false p o q count cookie bo ow = ow
+submitted_owed g n true p None q count order cookie bo ow = ow
+submitted_owed g n false p o q count order cookie bo ow = ow
 
 abbrev pub AllOwed : World → Type 0
 AllOwed w = (e : ℕ) → Owed w.messages (w.part e)
@@ -193,7 +193,7 @@ pub act_owed : (w : World) (a : Act) → Legal w a → Invariant w → AllOwed w
 act_owed w NewSpace l i h = h
 act_owed w (DropSpace s) l i h = h
 act_owed w (Map s q f x) l i h = h
-act_owed w (Unmap s q count) l i h = λ e. submitted_owed w.bindings w.messages (submits w s e) (w.part e) (bound w e s) q count (cookie_of w s e) (i.parts e).bounds (h e)
+act_owed w (Unmap s q count order) l i h = λ e. submitted_owed w.bindings w.messages (submits w s e) (w.part e) (bound w e s) q count order (cookie_of w s e) (i.parts e).bounds (h e)
 act_owed w (NewBinding e) l i h = h
 act_owed w (NewJob e g) l i h = h
 act_owed w (Hold x j) l i h = h

@@ -135,7 +135,7 @@ calm_act : (w : World) (a : Act) → is_calm a ≡ true → Calm w (act w a)
 calm_act w NewSpace h = calm_same w (act w NewSpace) refl refl
 calm_act w (DropSpace s) h = calm_same w (act w (DropSpace s)) refl refl
 calm_act w (Map s q f x) h = calm_same w (act w (Map s q f x)) refl refl
-calm_act w (Unmap s q count) h = absurd (cc)
+calm_act w (Unmap s q count order) h = absurd (cc)
 calm_act w (NewBinding d) h = calm_same w (act w (NewBinding d)) refl refl
 calm_act w (NewJob d g) h = calm_same w (act w (NewJob d g)) refl refl
 calm_act w (Hold x j) h = calm_same w (act w (Hold x j)) refl refl
@@ -200,22 +200,22 @@ own_cookies w d o h co =
 
 -- An unmapping: the units to which it submits get cookies in their order.
 
-submitted_waits : (t : Bool) (p : Part) (o : Option ℕ) (q count cookie : ℕ) → PartWaits (t ≡ true) cookie p (submitted_if t p o q count cookie)
-submitted_waits true p (Some b) q count cookie = record { old = old; new = λ k c x low high h. (refl, new k c x low high h); once = once }
+submitted_waits : (t : Bool) (p : Part) (o : Option ℕ) (q count order cookie : ℕ) → PartWaits (t ≡ true) cookie p (submitted_if t p o q count order cookie)
+submitted_waits true p (Some b) q count order cookie = record { old = old; new = λ k c x low high h. (refl, new k c x low high h); once = once }
   where
-    old : (k : ℕ) → k < p.orders → (submitted p b q count cookie).order k ≡ p.order k
+    old : (k : ℕ) → k < p.orders → (submitted p b q count order cookie).order k ≡ p.order k
     old k l = grind (arith, nat_tests)
 
-    new : (k c : ℕ) (x : Bool) → p.orders ≤ k → k < p.orders + suc count → (submitted p b q count cookie).order k ≡ Wait c x → c ≡ cookie
+    new : (k c : ℕ) (x : Bool) → p.orders ≤ k → k < p.orders + suc count → (submitted p b q count order cookie).order k ≡ Wait c x → c ≡ cookie
     new k c x low high h = grind (arith, nat_tests)
 
-    last : (k c : ℕ) (x : Bool) → p.orders ≤ k → k < p.orders + suc count → (submitted p b q count cookie).order k ≡ Wait c x → k ≡ p.orders + count
+    last : (k c : ℕ) (x : Bool) → p.orders ≤ k → k < p.orders + suc count → (submitted p b q count order cookie).order k ≡ Wait c x → k ≡ p.orders + count
     last k c x low high h = grind (arith, nat_tests)
 
-    once : (k j c : ℕ) (x y : Bool) → p.orders ≤ k → k < p.orders + suc count → p.orders ≤ j → j < p.orders + suc count → (submitted p b q count cookie).order k ≡ Wait c x → (submitted p b q count cookie).order j ≡ Wait c y → k ≡ j
+    once : (k j c : ℕ) (x y : Bool) → p.orders ≤ k → k < p.orders + suc count → p.orders ≤ j → j < p.orders + suc count → (submitted p b q count order cookie).order k ≡ Wait c x → (submitted p b q count order cookie).order j ≡ Wait c y → k ≡ j
     once k j c x y low high b d h i = last k c x low high h ∙ sym (last j c y b d i)
-submitted_waits true p None q count cookie = same_waits (true ≡ true) cookie p p refl (λ k. refl)
-submitted_waits false p o q count cookie = same_waits (false ≡ true) cookie p p refl (λ k. refl)
+submitted_waits true p None q count order cookie = same_waits (true ≡ true) cookie p p refl (λ k. refl)
+submitted_waits false p o q count order cookie = same_waits (false ≡ true) cookie p p refl (λ k. refl)
 
 submits_there : (w : World) (t e : ℕ) → Invariant w → submits w t e ≡ true → e < w.config.endpoints
 submits_there w t e i h = go (bound w e t) refl h
@@ -226,10 +226,10 @@ submits_there w t e i h = go (bound w e t) refl h
         let found = find_passes w.bindings (λ d. is_unreleased ((w.part e).stage d) && (w.part e).space d == t) b x in
         (i.parts e).there b (unreleased_bound (w.part e) b (and_left (is_unreleased ((w.part e).stage b)) ((w.part e).space b == t) found.1))
 
-unmap_cookies : (w : World) (t q count : ℕ) → Invariant w → GivesCookies w → GivesCookies (act w (Unmap t q count))
-unmap_cookies w t q count i co =
-    more_waits w (act w (Unmap t q count)) (λ e. submits w t e ≡ true) (cookie_of w t) (omega arith)
-    (λ e. submitted_waits (submits w t e) (w.part e) (bound w e t) q count (cookie_of w t e))
+unmap_cookies : (w : World) (t q count order : ℕ) → Invariant w → GivesCookies w → GivesCookies (act w (Unmap t q count order))
+unmap_cookies w t q count order i co =
+    more_waits w (act w (Unmap t q count order)) (λ e. submits w t e ≡ true) (cookie_of w t) (omega arith)
+    (λ e. submitted_waits (submits w t e) (w.part e) (bound w e t) q count order (cookie_of w t e))
     (λ e g. let s = count_strict e w.config.endpoints (submits w t) (submits_there w t e i g) g in (omega arith, omega (arith, s)))
     (λ e f g h same. go e f g h same (less_or_not e f) (less_or_not f e))
     co
@@ -245,7 +245,7 @@ next_cookies w s i co = go (step_kind w s)
     go : Kind w s (decide w s) → GivesCookies (next w s)
     go (calm h) = calm_cookies w (next w s) (calm_acts (decide w s).acts w h) co
     go (single d o a x h by) = subst (λ z. GivesCookies (after_acts w z)) (sym x) (own_cookies w d o (has_cookie w s d o a by) co)
-    go (unmapping t q count x) = subst (λ z. GivesCookies (after_acts w z)) (sym x) (unmap_cookies w t q count i co)
+    go (unmapping t q count order x) = subst (λ z. GivesCookies (after_acts w z)) (sym x) (unmap_cookies w t q count order i co)
 
 run_cookies : (ss : List Step) (w : World) → Invariant w → GivesCookies w → GivesCookies (run w ss)
 run_cookies [] w i co = co

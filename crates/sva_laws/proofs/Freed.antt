@@ -12,7 +12,7 @@ use Rattle.sva_model.specs.Message.{Code}
 use Rattle.sva_model.specs.State.{Owed, MappingState, Part, World, Stage, Order, About, RequestState}
 use Rattle.sva_model.specs.State.MappingState.{Unmade, Present, Gone}
 use Rattle.sva_model.specs.State.Stage.{Unbound, Live, Stopping, Draining, Invalidating, Quiet, Lost, Released}
-use Rattle.sva_model.specs.State.Order.{PageOf, PasidOf, Wait}
+use Rattle.sva_model.specs.State.Order.{RangeOf, PasidOf, Wait}
 use Rattle.sva_model.specs.State.RequestState.{Out, Doomed, Over}
 use Rattle.sva_model.specs.State.About.{StartOf, StopOf, ResetOrder, CompletionOf, InvalidateOf, ResponseOf, RequestOf, InvalidatedOf, PageRequestOf, MarkerOf, ResetDone}
 use Rattle.sva_model.specs.Acts.{Act, Own, act}
@@ -76,7 +76,7 @@ send_first e k t false = refl
 
 head_first : (p : Part) (e k : ℕ) (o : Order) → maps_first (head_outcome p e k o).acts ≡ true
 head_first p e k (Wait cookie drain) = wait_first e k (may_pass p drain)
-head_first p e k (PageOf b q) = send_first e k (Labels.lowest_label 32 p.at_itag) _
+head_first p e k (RangeOf b q) = send_first e k (Labels.lowest_label 32 p.at_itag) _
 head_first p e k (PasidOf b) = send_first e k (Labels.lowest_label 32 p.at_itag) _
 
 pump_first : (p : Part) (e : ℕ) (b : Bool) → maps_first (pump_outcome p e b).acts ≡ true
@@ -158,6 +158,7 @@ outcome_first w step.Space = refl
 outcome_first w (step.DropSpace n) = refl
 outcome_first w (step.Map n q x) = refl
 outcome_first w (step.Unmap n q count) = refl
+outcome_first w (step.UnmapRange n q order) = refl
 outcome_first w (step.Bind e n) = refl
 outcome_first w (step.Unbind n) = unbind_first (w.home (Labels.name w n)) (Labels.name w n) ((w.part (w.home (Labels.name w n))).stage (Labels.name w n))
 outcome_first w (step.Advance n) = advance_first w (w.home (Labels.name w n)) (Labels.name w n) ((w.part (w.home (Labels.name w n))).stage (Labels.name w n))
@@ -175,6 +176,7 @@ outcome_first w (step.Finish e vector count) = refl
 outcome_first w (step.Quit e t) = refl
 outcome_first w (step.Deliver n) = deliver_first w (w.part (w.way (Labels.name w n))) (w.way (Labels.name w n)) (Labels.name w n) ((w.part (w.way (Labels.name w n))).message (Labels.name w n))
 outcome_first w (step.Look f) = refl
+outcome_first w (step.Bearer t) = refl
 
 checked_first : (cs : List Cause) (o : Outcome) → maps_first o.acts ≡ true → maps_first (checked cs o).acts ≡ true
 checked_first [] o k = k
@@ -193,7 +195,7 @@ latest_same : (w : World) (a : Act) (f : ℕ) → is_map a ≡ false → (act w 
 latest_same w NewSpace f h = refl
 latest_same w (DropSpace s) f h = refl
 latest_same w (Map s q g x) f h = absurd (cc)
-latest_same w (Unmap s q count) f h = refl
+latest_same w (Unmap s q count order) f h = refl
 latest_same w (NewBinding e) f h = refl
 latest_same w (NewJob e g) f h = refl
 latest_same w (Hold x j) f h = refl
@@ -243,7 +245,7 @@ maps_free (Map s q g x ∷ acts) w f h l i =
     map_then w s q g x f l.0 i (ℕ_cases f g) (maps_free acts (act w (Map s q g x)) f h l.1 (act_keeps w (Map s q g x) l.0 i))
 maps_free (NewSpace ∷ acts) w f h l i = inl (rest_same (NewSpace ∷ acts) w f h)
 maps_free (DropSpace s ∷ acts) w f h l i = inl (rest_same (DropSpace s ∷ acts) w f h)
-maps_free (Unmap s q count ∷ acts) w f h l i = inl (rest_same (Unmap s q count ∷ acts) w f h)
+maps_free (Unmap s q count order ∷ acts) w f h l i = inl (rest_same (Unmap s q count order ∷ acts) w f h)
 maps_free (NewBinding e ∷ acts) w f h l i = inl (rest_same (NewBinding e ∷ acts) w f h)
 maps_free (NewJob e g ∷ acts) w f h l i = inl (rest_same (NewJob e g ∷ acts) w f h)
 maps_free (Hold x j ∷ acts) w f h l i = inl (rest_same (Hold x j ∷ acts) w f h)

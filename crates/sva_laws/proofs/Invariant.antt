@@ -2,6 +2,7 @@
 use Rattle.std.proofs.Common.{◌≡◌, ◌≢◌, ◌⊎◌, ℕ, ◌+◌, ◌<◌, ◌≤◌, true, arith}
 use Rattle.std.specs.Prelude.{Some}
 use Rattle.sva_model.specs.State.{Owed, Mappings, Part, HostGroupState, World}
+use Rattle.sva_model.specs.State.PasidRule.{PerSpace}
 use Rattle.sva_model.specs.State.MappingState.{Unmade, Present, Gone}
 use Rattle.sva_model.specs.State.HostGroupState.{InHand, InHandDiscarded}
 use Rattle.sva_model.specs.State.Stage.{Unbound}
@@ -19,6 +20,7 @@ use Rattle.sva_laws.proofs.Owners
 use Rattle.sva_laws.proofs.Safe
 use Rattle.sva_laws.proofs.PageRequests
 use Rattle.sva_laws.proofs.Groups
+use Rattle.sva_laws.proofs.Shared.{Shared}
 
 pub record PartInvariant (ms : Mappings) (endpoints g n e : ℕ) (p : Part) : Type 0 where
   pub there : (b : ℕ) → p.stage b ≢ Unbound → e < endpoints
@@ -61,6 +63,7 @@ pub record Invariant (w : World) : Type 0 where
   pub hands : Hands w
   pub mapped : Mapped w
   pub parts : (e : ℕ) → PartInvariant w.mappings w.config.endpoints w.bindings w.messages e (w.part e)
+  pub shared : w.rule ≡ PerSpace → Shared w.part
 
 -- what the mappings say to an endpoint's act
 pub leads : (w : World) → Mapped w → Owners.Leads w.mappings

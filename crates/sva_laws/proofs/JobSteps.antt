@@ -14,7 +14,7 @@ use Rattle.sva_model.specs.State.Phase.{Open}
 use Rattle.sva_model.specs.State.PageRequestState.{Arrived}
 use Rattle.sva_model.specs.State.HostGroupState.{NotFiled, PartFiled, Job, InHand, Replied, Discarded, InHandDiscarded}
 use Rattle.sva_model.specs.State.Stage.{Unbound, Live, Stopping, Draining, Invalidating, Quiet, Lost, Released}
-use Rattle.sva_model.specs.State.Order.{PageOf, PasidOf, Wait}
+use Rattle.sva_model.specs.State.Order.{RangeOf, PasidOf, Wait}
 use Rattle.sva_model.specs.State.RequestState.{Out, Doomed, Over}
 use Rattle.sva_model.specs.State.About.{StartOf, StopOf, ResetOrder, CompletionOf, InvalidateOf, ResponseOf, RequestOf, InvalidatedOf, PageRequestOf, MarkerOf, ResetDone}
 use Rattle.sva_model.specs.Acts.{Act, Own, act, own, submitted_if, submits, bound, cookie_of, filed_as}
@@ -79,18 +79,18 @@ own_past n p o c g h = grind arith
 own_still : (n : ℕ) (p : Part) (o : Own) → is_calm_own o ≡ true → Still p.host_group (own p n o).host_group
 own_still n p o c = record { job = own_job n p o c; held = own_held n p o c; past = own_past n p o c }
 
-submitted_still : (t : Bool) (p : Part) (o : Option ℕ) (q count cookie : ℕ) → Still p.host_group (submitted_if t p o q count cookie).host_group
-submitted_still true p (Some b) q count cookie = unchanged p.host_group
-submitted_still true p None q count cookie = unchanged p.host_group
-submitted_still false p o q count cookie = unchanged p.host_group
+submitted_still : (t : Bool) (p : Part) (o : Option ℕ) (q count order cookie : ℕ) → Still p.host_group (submitted_if t p o q count order cookie).host_group
+submitted_still true p (Some b) q count order cookie = unchanged p.host_group
+submitted_still true p None q count order cookie = unchanged p.host_group
+submitted_still false p o q count order cookie = unchanged p.host_group
 
 act_calm : (w : World) (a : Act) → IsCalm a → JobsOf w → JobsOf (act w a)
 act_calm w NewSpace c h = h
 act_calm w (DropSpace s) c h = h
 act_calm w (Map s q f x) c h = h
-act_calm w (Unmap s q count) c h =
-    still_jobs w.jobs w.job w.hand (λ e. (w.part e).host_group) (λ e. ((act w (Unmap s q count)).part e).host_group)
-    (λ e. submitted_still (submits w s e) (w.part e) (bound w e s) q count (cookie_of w s e)) h
+act_calm w (Unmap s q count order) c h =
+    still_jobs w.jobs w.job w.hand (λ e. (w.part e).host_group) (λ e. ((act w (Unmap s q count order)).part e).host_group)
+    (λ e. submitted_still (submits w s e) (w.part e) (bound w e s) q count order (cookie_of w s e)) h
 act_calm w (NewBinding e) c h = h
 act_calm w (NewJob e g) c h = absurd c
 act_calm w (Hold x j) c h = absurd c
@@ -239,7 +239,7 @@ send_calm e k t false = tt
 
 head_calm : (p : Part) (e k : ℕ) (o : Order) → AreCalm (head_outcome p e k o).acts
 head_calm p e k (Wait cookie drain) = wait_calm e k (may_pass p drain)
-head_calm p e k (PageOf b q) = send_calm e k (Labels.lowest_label 32 p.at_itag) _
+head_calm p e k (RangeOf b q) = send_calm e k (Labels.lowest_label 32 p.at_itag) _
 head_calm p e k (PasidOf b) = send_calm e k (Labels.lowest_label 32 p.at_itag) _
 
 pump_calm : (p : Part) (e : ℕ) (b : Bool) → AreCalm (pump_outcome p e b).acts
@@ -300,6 +300,7 @@ outcome_jobs w step.Space i on p h = acts_calm (outcome w step.Space).acts w (tt
 outcome_jobs w (step.DropSpace n) i on p h = acts_calm (outcome w (step.DropSpace n)).acts w (tt, tt) h
 outcome_jobs w (step.Map n q x) i on p h = acts_calm (outcome w (step.Map n q x)).acts w (tt, tt) h
 outcome_jobs w (step.Unmap n q count) i on p h = acts_calm (outcome w (step.Unmap n q count)).acts w (tt, tt) h
+outcome_jobs w (step.UnmapRange n q order) i on p h = acts_calm (outcome w (step.UnmapRange n q order)).acts w (tt, tt) h
 outcome_jobs w (step.Bind e n) i on p h = acts_calm (outcome w (step.Bind e n)).acts w (tt, (tt, tt)) h
 outcome_jobs w (step.Unbind n) i on p h = acts_calm (outcome w (step.Unbind n)).acts w (unbind_calm (w.home (Labels.name w n)) (Labels.name w n) ((w.part (w.home (Labels.name w n))).stage (Labels.name w n))) h
 outcome_jobs w (step.Advance n) i on p h = acts_calm (outcome w (step.Advance n)).acts w (advance_calm w (w.home (Labels.name w n)) (Labels.name w n) ((w.part (w.home (Labels.name w n))).stage (Labels.name w n))) h
@@ -317,6 +318,7 @@ outcome_jobs w (step.Finish e vector count) i on p h = acts_calm (outcome w (ste
 outcome_jobs w (step.Quit e t) i on p h = acts_calm (outcome w (step.Quit e t)).acts w (tt, tt) h
 outcome_jobs w (step.Deliver n) i on p h = acts_calm (outcome w (step.Deliver n)).acts w (deliver_calm w (w.part (w.way (Labels.name w n))) (w.way (Labels.name w n)) (Labels.name w n) ((w.part (w.way (Labels.name w n))).message (Labels.name w n))) h
 outcome_jobs w (step.Look f) i on p h = acts_calm (outcome w (step.Look f)).acts w tt h
+outcome_jobs w (step.Bearer t) i on p h = acts_calm (outcome w (step.Bearer t)).acts w tt h
 
 checked_jobs : (w : World) (cs : List Cause) (o : Outcome) → JobsOf w → (Passed cs → JobsOf (after_acts w o.acts)) → JobsOf (after_acts w (checked cs o).acts)
 checked_jobs w [] o h f = f tt

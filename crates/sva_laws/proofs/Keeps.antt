@@ -1,10 +1,11 @@
 -- Each act keeps what holds of the world.
-use Rattle.std.proofs.Common.{◌≡◌, ◌≢◌, ◌⊎◌, inl, inr, refl, ap, sym, subst, ◌∙◌, ℕ, suc, ◌+◌, ◌<◌, ◌≤◌, Bool, true, false, arith}
+use Rattle.std.proofs.Common.{◌≡◌, ◌≢◌, ◌⊎◌, inl, inr, refl, ap, sym, subst, ◌∙◌, ℕ, suc, ◌+◌, ◌*◌, ◌^◌, ◌<◌, ◌≤◌, Bool, true, false, arith}
 use Rattle.std.specs.Prelude.{Option, Some, None, ◌&&◌, ◌==◌}
 use Rattle.std.proofs.lemmas.Bool.Decides.{nat_tests}
 use Rattle.sva_model.specs.Words.{put, unless, all_below}
 use Rattle.sva_model.specs.State.{Owed, MappingState, Mappings, Part, JobName, World}
 use Rattle.sva_model.specs.State.Owed.{Nothing}
+use Rattle.sva_model.specs.State.PasidRule.{PerSpace}
 use Rattle.sva_model.specs.State.MappingState.{Unmade, Present, Gone}
 use Rattle.sva_model.specs.State.PageRequestState.{Arrived}
 use Rattle.sva_model.specs.State.HostGroupState.{InHand}
@@ -27,12 +28,13 @@ use Rattle.sva_laws.proofs.Groups
 use Rattle.sva_laws.proofs.Invariant.{PartInvariant, Mapped, Hands, IsHeldBy, Invariant, own_keeps, leads, presents}
 use Rattle.sva_laws.proofs.Answered.{answered_own, answered_submitted}
 use Rattle.sva_laws.proofs.Submitted
+use Rattle.sva_laws.proofs.Shared.{Shared, IsOf, WasSo, IsNew, binds, bound_space, bound_pasid, own_from, submitted_from, shared_still, shared_more}
 use Rattle.sva_laws.proofs.Unmap as Unmapping
 
--- a space is bound while it is live
-abbrev pub BoundSpace : (ℕ → Bool) → Own → Type 0
-BoundSpace live (Own.Bind b s t) = live s ≡ true
-BoundSpace live _ = Unit {0}
+-- a space is bound while it is live; where PASIDs are one for each space, to one that is the space's
+abbrev pub BoundSpace : World → Own → Type 0
+BoundSpace w (Own.Bind b s t) = (w.is_live s ≡ true) × (w.rule ≡ PerSpace → IsOf w.part s t)
+BoundSpace w _ = Unit {0}
 
 -- a job is answered once it is out of the worker's hand
 abbrev pub LetsGo : World → (e : ℕ) → Own → Type 0
@@ -45,12 +47,12 @@ abbrev pub Legal : World → Act → Type 0
 Legal w NewSpace = Unit {0}
 Legal w (DropSpace s) = (e b : ℕ) → is_unreleased ((w.part e).stage b) ≡ true → (w.part e).space b ≢ s
 Legal w (Map s q f x) = (w.is_live s ≡ true) × (w.mappings.at s q ≡ None) × (is_free w f ≡ true) × (f < w.config.frames)
-Legal w (Unmap s q count) = Unit {0}
+Legal w (Unmap s q count order) = Unit {0}
 Legal w (NewBinding e) = Unit {0}
 Legal w (NewJob e g) = Unit {0}
 Legal w (Hold x j) = (j < w.jobs) × ((w.part (w.job j).endpoint).host_group (w.job j).group ≡ InHand x)
 Legal w (LetGo x) = Unit {0}
-Legal w (At e o) = (e < w.config.endpoints) × (LegalOwn w.mappings w.bindings (w.part e) o × BoundSpace w.is_live o) × LetsGo w e o
+Legal w (At e o) = (e < w.config.endpoints) × (LegalOwn w.mappings w.bindings (w.part e) o × BoundSpace w o) × LetsGo w e o
 
 -- a table with one row replaced keeps what the old row and the new one have
 pub put_keeps : {A : Type 0} (P : ℕ → A → Type 0) (f : ℕ → A) (i : ℕ) (v : A) → P i v → ((k : ℕ) → P k (f k)) → (k : ℕ) → P k (put f i v k)
@@ -129,8 +131,13 @@ later ms x g h n m e p a b i =
       groups = i.groups;
     }
 
-bound_live_own : (live : ℕ → Bool) (ms : Mappings) (g n : ℕ) (p : Part) (o : Own) → LegalOwn ms g p o → BoundSpace live o → (b : ℕ) → (is_unreleased (p.stage b) ≡ true → live (p.space b) ≡ true) → is_unreleased ((own p n o).stage b) ≡ true → live ((own p n o).space b) ≡ true
-bound_live_own live ms g n p o l bs b old h = grind (arith, nat_tests)
+bound_live_own : (w : World) (e : ℕ) (o : Own) → LegalOwn w.mappings w.bindings (w.part e) o → BoundSpace w o → (b : ℕ) → (is_unreleased ((w.part e).stage b) ≡ true → w.is_live ((w.part e).space b) ≡ true) → is_unreleased ((own (w.part e) w.messages o).stage b) ≡ true → w.is_live ((own (w.part e) w.messages o).space b) ≡ true
+bound_live_own w e o l bs b old h = go o bs (own_from w.mappings w.bindings w.messages (w.part e) o l b h)
+  where
+    go : (x : Own) → BoundSpace w x → WasSo (w.part e) (own (w.part e) w.messages o) b ⊎ IsNew x (own (w.part e) w.messages o) b → w.is_live ((own (w.part e) w.messages o).space b) ≡ true
+    go x bs (inl k) = ap w.is_live k.2 ∙ old k.0
+    go (Own.Bind d s t) bs (inr k) = ap w.is_live k.2 ∙ bs.0
+    go _ bs (inr k) = absurd (cc (k.0))
 
 at_parts : (w : World) (e : ℕ) (o : Own) → Legal w (At e o) → Invariant w → (x : ℕ) → PartInvariant w.mappings w.config.endpoints w.bindings (w.messages + sends o) x ((act w (At e o)).part x)
 at_parts w e o l i =
@@ -230,6 +237,18 @@ let_go_hands w x hs =
         absurd (cc)
     was y k (inr ne) h = sym (put-other w.hand x None y ne) ∙ h
 
+at_shared : (w : World) (e : ℕ) (o : Own) → Legal w (At e o) → Invariant w → w.rule ≡ PerSpace → Shared (act w (At e o)).part
+at_shared w e o l i rule =
+    shared_more w.part (act w (At e o)).part o (its o l.1.1)
+    (put_keeps (λ x p. (b : ℕ) → is_unreleased (p.stage b) ≡ true → WasSo (w.part x) p b ⊎ IsNew o p b) w.part e (own (w.part e) w.messages o)
+    (own_from w.mappings w.bindings w.messages (w.part e) o l.1.0)
+    (λ x b h. inl (h, refl, refl)))
+    (i.shared rule)
+  where
+    its : (x : Own) → BoundSpace w x → binds x ≡ true → IsOf w.part (bound_space x) (bound_pasid x)
+    its (Own.Bind b s t) bs h = bs.1 rule
+    its _ bs h = absurd (cc (h))
+
 at_keeps : (w : World) (e : ℕ) (o : Own) → Legal w (At e o) → Invariant w → Invariant (act w (At e o))
 at_keeps w e o l i =
     record {
@@ -247,10 +266,11 @@ at_keeps w e o l i =
             passed = λ m v x g b. or_answered (answered (w.part x) (v x)) (answered ((act w (At e o)).part x) (v x)) (i.mapped.passed m v x g b) (at_answered w e o (v x) l i x);
             bound_live =
                 put_keeps (λ x p. (b : ℕ) → is_unreleased (p.stage b) ≡ true → w.is_live (p.space b) ≡ true) w.part e (own (w.part e) w.messages o)
-                (λ b. bound_live_own w.is_live w.mappings w.bindings w.messages (w.part e) o l.1.0 l.1.1 b (i.mapped.bound_live e b))
+                (λ b. bound_live_own w e o l.1.0 l.1.1 b (i.mapped.bound_live e b))
                 i.mapped.bound_live;
           };
       parts = at_parts w e o l i;
+      shared = λ rule. at_shared w e o l i rule;
     }
 
 -- the world acts that change no mapping and no part
@@ -272,6 +292,7 @@ new_space_keeps w i =
             bound_live = λ e b h. live_put ((w.part e).space b) (i.mapped.bound_live e b h);
           };
       parts = i.parts;
+      shared = i.shared;
     }
   where
     live_put : (s : ℕ) → w.is_live s ≡ true → put w.is_live w.spaces true s ≡ true
@@ -298,6 +319,7 @@ new_binding_keeps w e i =
             bound_live = i.mapped.bound_live;
           };
       parts = λ x. later w.mappings w.config.endpoints w.bindings (suc w.bindings) w.messages w.messages x (w.part x) (omega arith) (omega arith) (i.parts x);
+      shared = i.shared;
     }
 
 same_keeps : (w : World) (jobs : ℕ) (job : ℕ → JobName) (hand : ℕ → Option ℕ) → Hands (record w { jobs = jobs; job = job; hand = hand }) → Invariant w → Invariant (record w { jobs = jobs; job = job; hand = hand })
@@ -318,6 +340,7 @@ same_keeps w jobs job hand hs i =
             bound_live = i.mapped.bound_live;
           };
       parts = i.parts;
+      shared = i.shared;
     }
 
 -- A frame that is free is at no page, and nobody owes an answer for it.
@@ -393,6 +416,7 @@ map_keeps w s q f x l i =
     record {
       hands = record { made = i.hands.made; held = i.hands.held };
       mapped = map_mapped w s q f x l i;
+      shared = i.shared;
       parts =
           λ e.
           record {
@@ -510,8 +534,8 @@ safe_kept ms ms' x g n e p k i =
       running = λ u h. k (p.use_binding u) (p.use_mapping u) u (i.owners.running u h) (i.owners.running_space u h) (i.safe.running u h);
     }
 
-safe_submitted : (ms ms' : Mappings) (x g n e : ℕ) (p : Part) (b q count cookie : ℕ) → KeepsSafe ms ms' e p (submitted p b q count cookie) → PartInvariant ms x g n e p → Safe.Safe ms' e (submitted p b q count cookie)
-safe_submitted ms ms' x g n e p b q count cookie k i =
+safe_submitted : (ms ms' : Mappings) (x g n e : ℕ) (p : Part) (b q count order cookie : ℕ) → KeepsSafe ms ms' e p (submitted p b q count order cookie) → PartInvariant ms x g n e p → Safe.Safe ms' e (submitted p b q count order cookie)
+safe_submitted ms ms' x g n e p b q count order cookie k i =
     record {
       held = λ r m h. k (p.request_binding r) m p.uses (i.owners.held r m h) (i.owners.held_space r m h) (i.safe.held r m h);
       flying = λ c r m h o. k (p.request_binding r) m p.uses (asked_active p r i.bindings i.requests o) (i.owners.flying_space c r m h) (i.safe.flying c r m h o);
@@ -536,27 +560,27 @@ left_part ms s x g n e pages owed p k i =
       groups = i.groups;
     }
 
-submitted_part : (ms : Mappings) (s x g n e : ℕ) (pages : ℕ → Bool) (owed : ℕ → Owed) (p : Part) (b q count cookie : ℕ) → p.phase ≡ Open → is_before_invalidating (p.stage b) ≡ true → KeepsSafe ms (without_pages ms s pages owed) e p (submitted p b q count cookie) → PartInvariant ms x g n e p → PartInvariant (without_pages ms s pages owed) x g n e (submitted p b q count cookie)
-submitted_part ms s x g n e pages owed p b q count cookie ph st k i =
+submitted_part : (ms : Mappings) (s x g n e : ℕ) (pages : ℕ → Bool) (owed : ℕ → Owed) (p : Part) (b q count order cookie : ℕ) → p.phase ≡ Open → is_before_invalidating (p.stage b) ≡ true → KeepsSafe ms (without_pages ms s pages owed) e p (submitted p b q count order cookie) → PartInvariant ms x g n e p → PartInvariant (without_pages ms s pages owed) x g n e (submitted p b q count order cookie)
+submitted_part ms s x g n e pages owed p b q count order cookie ph st k i =
     record {
       there = i.there;
       near = i.near;
-      resets = Submitted.resets_submitted n b q count cookie p ph i.resets;
-      bounds = Submitted.bounds_submitted g b q count cookie p i.bounds;
-      bindings = Submitted.bindings_submitted b q count cookie p i.bindings;
-      labels = Submitted.labels_submitted g b q count cookie p i.bounds i.labels;
-      requests = Submitted.requests_submitted b q count cookie p i.requests;
-      orders = Submitted.orders_submitted g b q count cookie p st i.bounds i.orders;
-      owners = owners_without ms s pages owed (submitted p b q count cookie) (Submitted.owners_submitted ms g b q count cookie p i.orders i.owners);
-      safe = safe_submitted ms (without_pages ms s pages owed) x g n e p b q count cookie k i;
-      queued = Submitted.queued_submitted b q count cookie p i.queued;
-      lasts = Submitted.lasts_submitted b q count cookie p i.lasts;
-      groups = Submitted.groups_submitted b q count cookie p i.orders i.groups;
+      resets = Submitted.resets_submitted n b q count order cookie p ph i.resets;
+      bounds = Submitted.bounds_submitted g b q count order cookie p i.bounds;
+      bindings = Submitted.bindings_submitted b q count order cookie p i.bindings;
+      labels = Submitted.labels_submitted g b q count order cookie p i.bounds i.labels;
+      requests = Submitted.requests_submitted b q count order cookie p i.requests;
+      orders = Submitted.orders_submitted g b q count order cookie p st i.bounds i.orders;
+      owners = owners_without ms s pages owed (submitted p b q count order cookie) (Submitted.owners_submitted ms g b q count order cookie p i.orders i.owners);
+      safe = safe_submitted ms (without_pages ms s pages owed) x g n e p b q count order cookie k i;
+      queued = Submitted.queued_submitted b q count order cookie p i.queued;
+      lasts = Submitted.lasts_submitted b q count order cookie p i.lasts;
+      groups = Submitted.groups_submitted b q count order cookie p i.orders i.groups;
     }
 
-part_unmapped : (ms : Mappings) (s x g n e : ℕ) (pages : ℕ → Bool) (owed : ℕ → Owed) (p : Part) (sub : Bool) (o : Option ℕ) (q count cookie : ℕ) → submits_at p o ≡ sub → KeepsSafe ms (without_pages ms s pages owed) e p (submitted_if sub p o q count cookie) → PartInvariant ms x g n e p → PartInvariant (without_pages ms s pages owed) x g n e (submitted_if sub p o q count cookie)
-part_unmapped ms s x g n e pages owed p true (Some b) q count cookie h k i =
-    submitted_part ms s x g n e pages owed p b q count cookie (opens (is_open p.phase) refl h) (before (is_open p.phase) h) k i
+part_unmapped : (ms : Mappings) (s x g n e : ℕ) (pages : ℕ → Bool) (owed : ℕ → Owed) (p : Part) (sub : Bool) (o : Option ℕ) (q count order cookie : ℕ) → submits_at p o ≡ sub → KeepsSafe ms (without_pages ms s pages owed) e p (submitted_if sub p o q count order cookie) → PartInvariant ms x g n e p → PartInvariant (without_pages ms s pages owed) x g n e (submitted_if sub p o q count order cookie)
+part_unmapped ms s x g n e pages owed p true (Some b) q count order cookie h k i =
+    submitted_part ms s x g n e pages owed p b q count order cookie (opens (is_open p.phase) refl h) (before (is_open p.phase) h) k i
   where
     opens : (y : Bool) → is_open p.phase ≡ y → (y && is_before_invalidating (p.stage b)) ≡ true → p.phase ≡ Open
     opens true f h = Unmapping.open_is p f
@@ -565,33 +589,34 @@ part_unmapped ms s x g n e pages owed p true (Some b) q count cookie h k i =
     before : (y : Bool) → (y && is_before_invalidating (p.stage b)) ≡ true → is_before_invalidating (p.stage b) ≡ true
     before true h = h
     before false h = absurd (cc)
-part_unmapped ms s x g n e pages owed p true None q count cookie h k i = left_part ms s x g n e pages owed p k i
-part_unmapped ms s x g n e pages owed p false o q count cookie h k i = left_part ms s x g n e pages owed p k i
+part_unmapped ms s x g n e pages owed p true None q count order cookie h k i = left_part ms s x g n e pages owed p k i
+part_unmapped ms s x g n e pages owed p false o q count order cookie h k i = left_part ms s x g n e pages owed p k i
 
-unmap_keeps : (w : World) (s q count : ℕ) → Invariant w → Invariant (act w (Unmap s q count))
-unmap_keeps w s q count i =
+unmap_keeps : (w : World) (s q count order : ℕ) → Invariant w → Invariant (act w (Unmap s q count order))
+unmap_keeps w s q count order i =
     record {
       hands = record { made = i.hands.made; held = λ x j h. sub_hands (w.job j).endpoint (w.job j).group x (submits w s (w.job j).endpoint) (bound w (w.job j).endpoint s) (i.hands.held x j h) };
       mapped =
-          without_mapped w s _ (in_range q count) (λ e. owed_by (w.part e) q count (bound w e s)) w.is_live (part_after_unmap w s q count)
+          without_mapped w s _ (in_range q (count * 2 ^ order)) (λ e. owed_by (w.part e) count (bound w e s)) w.is_live (part_after_unmap w s q count order)
           (λ x h. h)
-          (λ t r m h. (i.mapped.at_present t r m (Unmapping.was_at w.mappings s (in_range q count) (λ e. owed_by (w.part e) q count (bound w e s)) t r m h)).3)
+          (λ t r m h. (i.mapped.at_present t r m (Unmapping.was_at w.mappings s (in_range q (count * 2 ^ order)) (λ e. owed_by (w.part e) count (bound w e s)) t r m h)).3)
           (λ e b h. sub_live e b (submits w s e) (bound w e s) h)
-          (λ e v h. answered_submitted w.bindings (submits w s e) (w.part e) (bound w e s) q count (cookie_of w s e) (i.parts e).bounds v h)
+          (λ e v h. answered_submitted w.bindings (submits w s e) (w.part e) (bound w e s) q count order (cookie_of w s e) (i.parts e).bounds v h)
           i.mapped;
       parts =
           λ e.
-          part_unmapped w.mappings s w.config.endpoints w.bindings w.messages e (in_range q count) (λ x. owed_by (w.part x) q count (bound w x s)) (w.part e) (submits w s e) (bound w e s) q count (cookie_of w s e) refl
-          (λ b m age a sp sa. Unmapping.unmap_safe w s q count e b m age i a sp sa)
+          part_unmapped w.mappings s w.config.endpoints w.bindings w.messages e (in_range q (count * 2 ^ order)) (λ x. owed_by (w.part x) count (bound w x s)) (w.part e) (submits w s e) (bound w e s) q count order (cookie_of w s e) refl
+          (λ b m age a sp sa. Unmapping.unmap_safe w s q count order e b m age i a sp sa)
           (i.parts e);
+      shared = λ rule. shared_still w.part (part_after_unmap w s q count order) (λ e b h. submitted_from (submits w s e) (w.part e) (bound w e s) q count order (cookie_of w s e) b h) (i.shared rule);
     }
   where
-    sub_live : (e b : ℕ) (t : Bool) (o : Option ℕ) → is_unreleased ((submitted_if t (w.part e) o q count (cookie_of w s e)).stage b) ≡ true → w.is_live ((submitted_if t (w.part e) o q count (cookie_of w s e)).space b) ≡ true
+    sub_live : (e b : ℕ) (t : Bool) (o : Option ℕ) → is_unreleased ((submitted_if t (w.part e) o q count order (cookie_of w s e)).stage b) ≡ true → w.is_live ((submitted_if t (w.part e) o q count order (cookie_of w s e)).space b) ≡ true
     sub_live e b true (Some d) h = i.mapped.bound_live e b h
     sub_live e b true None h = i.mapped.bound_live e b h
     sub_live e b false o h = i.mapped.bound_live e b h
 
-    sub_hands : (e g x : ℕ) (t : Bool) (o : Option ℕ) → IsHeldBy ((w.part e).host_group g) x → IsHeldBy ((submitted_if t (w.part e) o q count (cookie_of w s e)).host_group g) x
+    sub_hands : (e g x : ℕ) (t : Bool) (o : Option ℕ) → IsHeldBy ((w.part e).host_group g) x → IsHeldBy ((submitted_if t (w.part e) o q count order (cookie_of w s e)).host_group g) x
     sub_hands e g x true (Some d) h = h
     sub_hands e g x true None h = h
     sub_hands e g x false o h = h
@@ -614,6 +639,7 @@ drop_keeps w s l i =
           Unmapping.safe_without w.mappings e (w.part e) (w.part e) b m age (w.mappings.space m == s && true) (λ x. Nothing) sa (λ v h. h)
           (λ t pr. absurd (l e b (Unmapping.active_unreleased ((w.part e).stage b) a) (sym sp ∙ same_space m t))))
           (i.parts e);
+      shared = i.shared;
     }
   where
     was_live : (x : ℕ) → put w.is_live s false x ≡ true → w.is_live x ≡ true
@@ -641,7 +667,7 @@ pub act_keeps : (w : World) (a : Act) → Legal w a → Invariant w → Invarian
 act_keeps w NewSpace l i = new_space_keeps w i
 act_keeps w (DropSpace s) l i = drop_keeps w s l i
 act_keeps w (Map s q f x) l i = map_keeps w s q f x l i
-act_keeps w (Unmap s q count) l i = unmap_keeps w s q count i
+act_keeps w (Unmap s q count order) l i = unmap_keeps w s q count order i
 act_keeps w (NewBinding e) l i = new_binding_keeps w e i
 act_keeps w (NewJob e g) l i = same_keeps w (suc w.jobs) (put w.job w.jobs (record { endpoint = e; group = g })) w.hand (new_job_hands w e g i.hands) i
 act_keeps w (Hold x j) l i = same_keeps w w.jobs w.job (put w.hand x (Some j)) (hold_hands w x j l i.hands) i

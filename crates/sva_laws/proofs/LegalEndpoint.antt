@@ -202,7 +202,7 @@ finish_unused w e vector i h k u nm l r =
     let p = w.part e in
     let made : k < p.orders = taken_made k (and_left (is_taken (p.order_state k)) (Labels.is_set vector (p.itag k)) nm) in
     let unused : Labels.is_in_use w p k ≡ false = second (Labels.is_named p vector k) (Labels.is_in_use w p k) nm (any_below-false p.orders (λ j. Labels.is_named p vector j && Labels.is_in_use w p j) h k made) in
-    second (is_running (p.use_state u)) (covers (p.order k) (p.use_binding u) (w.mappings.page (p.use_mapping u))) (ap is_running r) (any_below-false (uses_noted (p.order_state k)) (Labels.is_noted_running w p k) unused u l)
+    second (is_running (p.use_state u)) (covers (p.order k) (p.use_binding u) (w.mappings.page (p.use_mapping u))) (ap is_running r) (any_below-false (uses_noted (p.order_state k)) (Labels.is_noted_running w.mappings p k) unused u l)
   where
     taken_made : (k : ℕ) → is_taken ((w.part e).order_state k) ≡ true → k < (w.part e).orders
     taken_made k t = grind (arith, (i.parts e).bounds.order_state k)

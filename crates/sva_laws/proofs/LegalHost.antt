@@ -3,7 +3,7 @@ use Rattle.std.proofs.Common.{◌≡◌, ◌≢◌, inl, inr, refl, ap, ◌∙�
 use Rattle.std.specs.Prelude.{◌&&◌, not, ◌==◌}
 use Rattle.std.proofs.lemmas.Bool.Decides.{nat_tests}
 use Rattle.sva_step.specs.declared.steps.Step.TheVariants as step
-use Rattle.sva_model.specs.Words.{is_some}
+use Rattle.sva_model.specs.Words.{is_some, the}
 use Rattle.sva_model.specs.State.{Part, World, Stage, OrderState}
 use Rattle.sva_model.specs.State.Stage.{Unbound, Live, Stopping, Draining, Invalidating, Quiet, Lost, Released}
 use Rattle.sva_model.specs.State.OrderState.{Done}
@@ -11,9 +11,10 @@ use Rattle.sva_model.specs.States.{is_unreleased, is_done, is_free, is_open_grou
 use Rattle.sva_model.specs.Refusals.{refusals, unbind_refusals, advance_refusals, is_queue_short}
 use Rattle.sva_model.specs.Outcomes.{outcome, unbind_outcome, advance_outcome}
 use Rattle.sva_model.specs.Labels
-use Rattle.sva_laws.proofs.Words.{none_is, lowest_passes, any_below-false, not_true}
+use Rattle.sva_laws.proofs.Words.{none_is, some_the, lowest_passes, any_below-false, not_true}
 use Rattle.sva_laws.proofs.Bounds.{Bounds}
 use Rattle.sva_laws.proofs.Invariant.{Invariant}
+use Rattle.sva_laws.proofs.Pasids.{every_rule}
 use Rattle.sva_laws.proofs.Passed.{Passed, LegalAll, is_less, and_right, or_left, or_right, not_false, opened_is, unreleased_bound, not_bound_at, not_bound}
 
 pub drop : (w : World) (n : ℕ) → Invariant w → Passed (refusals w (step.DropSpace n)) → LegalAll w (outcome w (step.DropSpace n)).acts
@@ -32,22 +33,27 @@ map_page w n q x i h = (
 
 pub bind : (w : World) (e n : ℕ) → Invariant w → Passed (refusals w (step.Bind e n)) → LegalAll w (outcome w (step.Bind e n)).acts
 bind w e n i h =
-    let free = lowest_passes 32 (λ t. not (is_some ((w.part e).at_pasid (suc t)))) h.1.1.1.1.0 in (
+    let s = Labels.name w n in
+    let t = the (Labels.pasid_for w e s) in
+    let there = is_less e w.config.endpoints h.0 in
+    let none = not_bound_at w s e i h.1.1.1.0 in
+    let given = some_the (Labels.pasid_for w e s) (not_true (is_some (Labels.pasid_for w e s)) h.1.1.1.1.0) in
+    let is = every_rule w.rule in (
       tt,
       (
         (
-          is_less e w.config.endpoints h.0,
+          there,
           (
             (
               omega arith,
               opened_is (w.part e) h.1.1.0,
               (i.parts e).bounds.stage w.bindings (omega arith),
-              none_is ((w.part e).at_pasid (suc (Labels.lowest_pasid (w.part e)))) (not_false (is_some ((w.part e).at_pasid (suc (Labels.lowest_pasid (w.part e))))) free.1),
-              omega arith,
-              omega (arith, free.0),
-              not_bound_at w (Labels.name w n) e i h.1.1.1.0,
+              is.free w e s t refl i there none given,
+              (is.low w e s t given).0,
+              (is.low w e s t given).1,
+              none,
             ),
-            and_right (Labels.is_number w w.spaces n) (w.is_live (Labels.name w n)) (not_true (Labels.is_space w n) h.1.0),
+            (and_right (Labels.is_number w w.spaces n) (w.is_live s) (not_true (Labels.is_space w n) h.1.0), λ r. is.its w e s t r refl i given),
           ),
           tt,
         ),

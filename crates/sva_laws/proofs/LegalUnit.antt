@@ -6,7 +6,7 @@ use Rattle.sva_model.specs.Words.{put, lowest, any_below}
 use Rattle.sva_model.specs.State.{Part, World, Order, OrderState, PageRequestState, HostGroupState}
 use Rattle.sva_model.specs.State.PageRequestState.{Arrived}
 use Rattle.sva_model.specs.State.HostGroupState.{Job, InHand}
-use Rattle.sva_model.specs.State.Order.{PageOf, PasidOf, Wait}
+use Rattle.sva_model.specs.State.Order.{RangeOf, PasidOf, Wait}
 use Rattle.sva_model.specs.State.OrderState.{Queued}
 use Rattle.sva_model.specs.State.Phase.{Open}
 use Rattle.sva_model.specs.States.{is_queued, is_busy, is_arrived, is_job, is_wait, drains}
@@ -74,7 +74,7 @@ send_legal w e true l ph hd o m =
 
 head_legal : (w : World) (e : ℕ) (o : Order) → Invariant w → e < w.config.endpoints → (w.part e).phase ≡ Open → Head (w.part e) → (w.part e).order (Labels.head (w.part e)) ≡ o → LegalAll w (head_outcome (w.part e) e (Labels.head (w.part e)) o).acts
 head_legal w e (Wait cookie drain) i l ph hd f = wait_legal w e cookie drain (may_pass (w.part e) drain) i l ph hd f refl
-head_legal w e (PageOf b q) i l ph hd f = send_legal w e (not (Labels.lowest_label 32 (w.part e).at_itag == 32)) l ph hd (ap is_wait f) refl
+head_legal w e (RangeOf b q) i l ph hd f = send_legal w e (not (Labels.lowest_label 32 (w.part e).at_itag == 32)) l ph hd (ap is_wait f) refl
 head_legal w e (PasidOf b) i l ph hd f = send_legal w e (not (Labels.lowest_label 32 (w.part e).at_itag == 32)) l ph hd (ap is_wait f) refl
 
 pump_at : (w : World) (e : ℕ) (b : Bool) → Invariant w → e < w.config.endpoints → (w.part e).phase ≡ Open → Labels.is_queue_empty (w.part e) ≡ b → LegalAll w (pump_outcome (w.part e) e b).acts

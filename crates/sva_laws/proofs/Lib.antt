@@ -11,12 +11,15 @@ pub mod Owners
 pub mod Safe
 pub mod PageRequests
 pub mod Groups
+pub mod Shared
 pub mod Invariant
 pub mod Answered
+pub mod Ranges
 pub mod Submitted
 pub mod Unmap
 pub mod Keeps
 pub mod Passed
+pub mod Pasids
 pub mod LegalHost
 pub mod LegalUnit
 pub mod LegalReply

@@ -48,10 +48,10 @@ own_limited ms g n p o l bo h = go (one_more ms g n p o l)
     go (inl e) = subst (λ k. count_below k now ≤ 32) (sym e) (omega (arith, less, h))
     go (inr x) = subst (λ k. count_below k now ≤ 32) (sym x.0) (omega (arith, less, x.1, count_next p.page_requests now, bit_most (now p.page_requests)))
 
-submitted_limited : (t : Bool) (p : Part) (o : Option ℕ) (q count cookie : ℕ) → outstanding p ≤ 32 → outstanding (submitted_if t p o q count cookie) ≤ 32
-submitted_limited true p (Some b) q count cookie h = h
-submitted_limited true p None q count cookie h = h
-submitted_limited false p o q count cookie h = h
+submitted_limited : (t : Bool) (p : Part) (o : Option ℕ) (q count order cookie : ℕ) → outstanding p ≤ 32 → outstanding (submitted_if t p o q count order cookie) ≤ 32
+submitted_limited true p (Some b) q count order cookie h = h
+submitted_limited true p None q count order cookie h = h
+submitted_limited false p o q count order cookie h = h
 
 abbrev pub AllLimited : World → Type 0
 AllLimited w = (e : ℕ) → outstanding (w.part e) ≤ 32
@@ -60,7 +60,7 @@ act_limited : (w : World) (a : Act) → Legal w a → Invariant w → AllLimited
 act_limited w NewSpace l i h = h
 act_limited w (DropSpace s) l i h = h
 act_limited w (Map s q f x) l i h = h
-act_limited w (Unmap s q count) l i h = λ e. submitted_limited (submits w s e) (w.part e) (bound w e s) q count (cookie_of w s e) (h e)
+act_limited w (Unmap s q count order) l i h = λ e. submitted_limited (submits w s e) (w.part e) (bound w e s) q count order (cookie_of w s e) (h e)
 act_limited w (NewBinding e) l i h = h
 act_limited w (NewJob e g) l i h = h
 act_limited w (Hold x j) l i h = h
@@ -90,14 +90,14 @@ always_page_queue rule c ss e = omega (arith, less, always_outstanding rule c ss
     p = (world_after rule c ss).part e
 
     is : (b : Bool) → is_open p.phase ≡ b → (r : ℕ) → is_arrived (p.page_request r) ≡ true → is_outstanding (p.group (p.group_of r)) ≡ true
-    is true o r h = ((always c ss).parts e).lasts.out r (open_phase o) (inr (arrived h))
+    is true o r h = ((always rule c ss).parts e).lasts.out r (open_phase o) (inr (arrived h))
       where
         open_phase : is_open p.phase ≡ true → p.phase ≡ Open
         open_phase o = grind arith
 
         arrived : is_arrived (p.page_request r) ≡ true → p.page_request r ≡ Arrived
         arrived h = grind arith
-    is false o r h = absurd (none (((always c ss).parts e).resets.unarrived r o) h)
+    is false o r h = absurd (none (((always rule c ss).parts e).resets.unarrived r o) h)
       where
         none : p.page_request r ≢ Arrived → is_arrived (p.page_request r) ≡ true → ⊥
         none a h = grind arith

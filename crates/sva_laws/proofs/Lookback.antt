@@ -1,6 +1,6 @@
 -- The look back over the list of steps, and what the step reads: they say the same of which frames are withheld.
 use Rattle.sva_model.specs.State.{PasidRule}
-use Rattle.std.proofs.Common.{◌≡◌, ◌≢◌, ◌⊎◌, inl, inr, refl, ap, sym, subst, ◌∙◌, ℕ, ◌≤◌, Bool, true, false, arith, append_assoc}
+use Rattle.std.proofs.Common.{◌≡◌, ◌≢◌, ◌⊎◌, inl, inr, refl, ap, sym, subst, ◌∙◌, ℕ, ◌*◌, ◌^◌, ◌≤◌, Bool, true, false, arith, append_assoc}
 use Rattle.std.specs.Prelude.{Some, ◌&&◌, ◌==◌, List, [], ◌∷◌, ◌++◌}
 use Rattle.std.proofs.lemmas.Bool.Decides.{nat_tests}
 use Rattle.sva_step.specs.declared.limits.Config.{Config}
@@ -37,7 +37,7 @@ one_more before s some t = sym (append_assoc before (s ∷ some) (t ∷ []))
 
 -- How a mapping goes: by an unmapping of its page, or with its space.
 pub data Goes (w v : World) (m : ℕ) (owed : ℕ → Owed) : Type 0 where
-  unmapped : (s q count : ℕ) → v ≡ act w (Unmap s q count) → w.mappings.space m ≡ s → in_range q count (w.mappings.page m) ≡ true → owed ≡ (λ e. owed_by (w.part e) q count (bound w e s)) → Goes w v m owed
+  unmapped : (s q count order : ℕ) → v ≡ act w (Unmap s q count order) → w.mappings.space m ≡ s → in_range q (count * 2 ^ order) (w.mappings.page m) ≡ true → owed ≡ (λ e. owed_by (w.part e) count (bound w e s)) → Goes w v m owed
   dropped : (s : ℕ) → w.mappings.space m ≡ s → ((e b : ℕ) → is_unreleased ((w.part e).stage b) ≡ true → (w.part e).space b ≢ s) → owed ≡ (λ e. Nothing) → Goes w v m owed
 
 -- what one step does to mappings
@@ -72,24 +72,24 @@ range_page a s b h = grind (arith, nat_tests)
 range_space : (a s : ℕ) (b : Bool) → (a == s && b) ≡ true → a ≡ s
 range_space a s b h = grind (arith, nat_tests)
 
-moves_unmap : (w : World) (s q count : ℕ) → Moves w (act w (Unmap s q count))
-moves_unmap w s q count =
+moves_unmap : (w : World) (s q count order : ℕ) → Moves w (act w (Unmap s q count order))
+moves_unmap w s q count order =
     record {
-      gone_on = λ m o h. gone_same (w.mappings.space m == s && in_range q count (w.mappings.page m)) (λ e. owed_by (w.part e) q count (bound w e s)) (w.mappings.state m) o h;
-      gone_back = λ m o h. back m o (gone_from (w.mappings.space m == s && in_range q count (w.mappings.page m)) (λ e. owed_by (w.part e) q count (bound w e s)) (w.mappings.state m) o h);
-      present_on = λ m h. on m (present_from (w.mappings.space m == s && in_range q count (w.mappings.page m)) (λ e. owed_by (w.part e) q count (bound w e s)) (w.mappings.state m) h);
+      gone_on = λ m o h. gone_same (w.mappings.space m == s && in_range q (count * 2 ^ order) (w.mappings.page m)) (λ e. owed_by (w.part e) count (bound w e s)) (w.mappings.state m) o h;
+      gone_back = λ m o h. back m o (gone_from (w.mappings.space m == s && in_range q (count * 2 ^ order) (w.mappings.page m)) (λ e. owed_by (w.part e) count (bound w e s)) (w.mappings.state m) o h);
+      present_on = λ m h. on m (present_from (w.mappings.space m == s && in_range q (count * 2 ^ order) (w.mappings.page m)) (λ e. owed_by (w.part e) count (bound w e s)) (w.mappings.state m) h);
       frame_on = λ m h. refl;
       latest_grows = λ f k h. (k, h, omega arith);
       latest_new = λ f. inl refl;
     }
   where
-    back : (m : ℕ) (o : ℕ → Owed) → (w.mappings.state m ≡ Gone o) ⊎ ((w.mappings.state m ≡ Present) × ((w.mappings.space m == s && in_range q count (w.mappings.page m)) ≡ true) × ((λ e. owed_by (w.part e) q count (bound w e s)) ≡ o)) → (w.mappings.state m ≡ Gone o) ⊎ ((w.mappings.state m ≡ Present) × Goes w (act w (Unmap s q count)) m o)
+    back : (m : ℕ) (o : ℕ → Owed) → (w.mappings.state m ≡ Gone o) ⊎ ((w.mappings.state m ≡ Present) × ((w.mappings.space m == s && in_range q (count * 2 ^ order) (w.mappings.page m)) ≡ true) × ((λ e. owed_by (w.part e) count (bound w e s)) ≡ o)) → (w.mappings.state m ≡ Gone o) ⊎ ((w.mappings.state m ≡ Present) × Goes w (act w (Unmap s q count order)) m o)
     back m o (inl x) = inl x
-    back m o (inr x) = inr (x.0, unmapped s q count refl (range_space (w.mappings.space m) s (in_range q count (w.mappings.page m)) x.1) (range_page (w.mappings.space m) s (in_range q count (w.mappings.page m)) x.1) (sym x.2))
+    back m o (inr x) = inr (x.0, unmapped s q count order refl (range_space (w.mappings.space m) s (in_range q (count * 2 ^ order) (w.mappings.page m)) x.1) (range_page (w.mappings.space m) s (in_range q (count * 2 ^ order) (w.mappings.page m)) x.1) (sym x.2))
 
-    on : (m : ℕ) → ((act w (Unmap s q count)).mappings.state m ≡ Present) ⊎ (((w.mappings.space m == s && in_range q count (w.mappings.page m)) ≡ true) × ((act w (Unmap s q count)).mappings.state m ≡ Gone (λ e. owed_by (w.part e) q count (bound w e s)))) → ((act w (Unmap s q count)).mappings.state m ≡ Present) ⊎ ((owed : ℕ → Owed) × ((act w (Unmap s q count)).mappings.state m ≡ Gone owed) × Goes w (act w (Unmap s q count)) m owed)
+    on : (m : ℕ) → ((act w (Unmap s q count order)).mappings.state m ≡ Present) ⊎ (((w.mappings.space m == s && in_range q (count * 2 ^ order) (w.mappings.page m)) ≡ true) × ((act w (Unmap s q count order)).mappings.state m ≡ Gone (λ e. owed_by (w.part e) count (bound w e s)))) → ((act w (Unmap s q count order)).mappings.state m ≡ Present) ⊎ ((owed : ℕ → Owed) × ((act w (Unmap s q count order)).mappings.state m ≡ Gone owed) × Goes w (act w (Unmap s q count order)) m owed)
     on m (inl x) = inl x
-    on m (inr x) = inr ((λ e. owed_by (w.part e) q count (bound w e s)), x.1, unmapped s q count refl (range_space (w.mappings.space m) s (in_range q count (w.mappings.page m)) x.0) (range_page (w.mappings.space m) s (in_range q count (w.mappings.page m)) x.0) refl)
+    on m (inr x) = inr ((λ e. owed_by (w.part e) count (bound w e s)), x.1, unmapped s q count order refl (range_space (w.mappings.space m) s (in_range q (count * 2 ^ order) (w.mappings.page m)) x.0) (range_page (w.mappings.space m) s (in_range q (count * 2 ^ order) (w.mappings.page m)) x.0) refl)
 
 moves_drop : (w : World) (s : ℕ) → Legal w (DropSpace s) → Moves w (act w (DropSpace s))
 moves_drop w s l =
@@ -118,7 +118,7 @@ moves w s i = go (decide w s).acts (step_kind w s) (step_legal w s i)
 
     go : (acts : List Act) → Kind acts → LegalAll w acts → Moves w (after_acts w acts)
     go acts (adding a) l = moves_adds w (after_acts w acts) (acts_add acts w a l i)
-    go acts (unmapping t q count e) l = subst (λ z. Moves w (after_acts w z)) (sym e) (moves_unmap w t q count)
+    go acts (unmapping t q count order e) l = subst (λ z. Moves w (after_acts w z)) (sym e) (moves_unmap w t q count order)
     go acts (dropping t e) l = subst (λ z. Moves w (after_acts w z)) (sym e) (moves_drop w t (single acts (DropSpace t) e l))
 
 -- A mapping that is gone went at one step of the list.
@@ -150,8 +150,8 @@ went_next rule c ss s old m owed h =
     now : (next (world_after rule c ss) s).mappings.state m ≡ Gone owed
     now = subst (λ w. w.mappings.state m ≡ Gone owed) (after_one rule c ss s) h
 
-    go : ((world_after c ss).mappings.state m ≡ Gone owed) ⊎ (((world_after c ss).mappings.state m ≡ Present) × Goes (world_after c ss) (next (world_after c ss) s) m owed) → WentAt c (ss ++ s ∷ []) m owed
-    go (inl x) = went_more c ss s m owed (old m owed x)
+    go : ((world_after rule c ss).mappings.state m ≡ Gone owed) ⊎ (((world_after rule c ss).mappings.state m ≡ Present) × Goes (world_after rule c ss) (next (world_after rule c ss) s) m owed) → WentAt rule c (ss ++ s ∷ []) m owed
+    go (inl x) = went_more rule c ss s m owed (old m owed x)
     go (inr x) = record { before = ss; step = s; since = []; steps_are = refl; present = x.0; gone = now; goes = x.1 }
 
 went_along : (rule : PasidRule) (c : Config) (rest before : List Step) → ((m : ℕ) (owed : ℕ → Owed) → (world_after rule c before).mappings.state m ≡ Gone owed → WentAt rule c before m owed) → (m : ℕ) (owed : ℕ → Owed) → (world_after rule c (before ++ rest)).mappings.state m ≡ Gone owed → WentAt rule c (before ++ rest) m owed

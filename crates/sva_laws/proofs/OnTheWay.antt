@@ -67,10 +67,10 @@ every ms x g n e p o l i w =
     in_hand_open : {s : HostGroupState} (v : ℕ) → s ≡ InHand v → is_open_group s ≡ true
     in_hand_open v h = ap is_open_group h
 
-submitted_on : (t : Bool) (p : Part) (o : Option ℕ) (q count cookie : ℕ) → OnTheWay p → OnTheWay (submitted_if t p o q count cookie)
-submitted_on true p (Some b) q count cookie w = record { last = w.last; filed_last = w.filed_last; discarded = w.discarded }
-submitted_on true p None q count cookie w = w
-submitted_on false p o q count cookie w = w
+submitted_on : (t : Bool) (p : Part) (o : Option ℕ) (q count order cookie : ℕ) → OnTheWay p → OnTheWay (submitted_if t p o q count order cookie)
+submitted_on true p (Some b) q count order cookie w = record { last = w.last; filed_last = w.filed_last; discarded = w.discarded }
+submitted_on true p None q count order cookie w = w
+submitted_on false p o q count order cookie w = w
 
 abbrev pub AllOn : World → Type 0
 AllOn w = (e : ℕ) → OnTheWay (w.part e)
@@ -79,7 +79,7 @@ act_on : (w : World) (a : Act) → Legal w a → Invariant w → AllOn w → All
 act_on w NewSpace l i h = h
 act_on w (DropSpace s) l i h = h
 act_on w (Map s q f x) l i h = h
-act_on w (Unmap s q count) l i h = λ e. submitted_on (submits w s e) (w.part e) (bound w e s) q count (cookie_of w s e) (h e)
+act_on w (Unmap s q count order) l i h = λ e. submitted_on (submits w s e) (w.part e) (bound w e s) q count order (cookie_of w s e) (h e)
 act_on w (NewBinding e) l i h = h
 act_on w (NewJob e g) l i h = h
 act_on w (Hold x j) l i h = h

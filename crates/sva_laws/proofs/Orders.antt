@@ -5,7 +5,7 @@ use Rattle.std.specs.Prelude.{Some}
 use Rattle.std.proofs.lemmas.Bool.Decides.{nat_tests}
 use Rattle.sva_model.specs.State.{Mappings, Part, Stage, Order, OrderState}
 use Rattle.sva_model.specs.State.Stage.{Live, Stopping, Draining, Invalidating}
-use Rattle.sva_model.specs.State.Order.{PageOf, PasidOf, Wait}
+use Rattle.sva_model.specs.State.Order.{RangeOf, PasidOf, Wait}
 use Rattle.sva_model.specs.State.OrderState.{Queued, Sent, Done, Void}
 use Rattle.sva_model.specs.State.About.{InvalidateOf, ResetDone}
 use Rattle.sva_model.specs.State.Phase.{Open, Cleared}
@@ -92,7 +92,7 @@ invalidates ms g n p o l b k w h i = grind (arith, nat_tests)
 
 drain_is_wait : (o : Order) → drains o ≡ true → is_wait o ≡ true
 drain_is_wait (Wait cookie drain) h = refl
-drain_is_wait (PageOf b q) h = absurd (cc)
+drain_is_wait (RangeOf b q) h = absurd (cc)
 drain_is_wait (PasidOf b) h = absurd (cc)
 
 queued_is : (s : OrderState) → s ≡ Queued → is_queued_or_done s ≡ true

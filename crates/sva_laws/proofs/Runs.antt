@@ -22,6 +22,7 @@ outcome_legal w step.Space i h = (tt, tt)
 outcome_legal w (step.DropSpace n) i h = Host.drop w n i h
 outcome_legal w (step.Map n q x) i h = Host.map_page w n q x i h
 outcome_legal w (step.Unmap n q count) i h = (tt, tt)
+outcome_legal w (step.UnmapRange n q order) i h = (tt, tt)
 outcome_legal w (step.Bind e n) i h = Host.bind w e n i h
 outcome_legal w (step.Unbind n) i h = Host.unbind w n i h
 outcome_legal w (step.Advance n) i h = Host.advance w n i h
@@ -39,6 +40,7 @@ outcome_legal w (step.Finish e vector count) i h = Endpoint_steps.finish w e vec
 outcome_legal w (step.Quit e t) i h = Endpoint_steps.quit w e t i h
 outcome_legal w (step.Deliver n) i h = Link.deliver w n i h
 outcome_legal w (step.Look f) i h = tt
+outcome_legal w (step.Bearer t) i h = tt
 
 pub step_legal : (w : World) (s : Step) → Invariant w → LegalAll w (decide w s).acts
 step_legal w s i = checked_legal w (refusals w s) (outcome w s) (outcome_legal w s i)
@@ -54,6 +56,7 @@ pub opened_invariant : (rule : PasidRule) (c : Config) → Invariant (opened rul
 opened_invariant rule c =
     record {
       hands = record { made = grind arith; held = grind arith };
+      shared = λ r. record { same_space = grind arith; same_pasid = grind arith };
       mapped =
           record {
             unmade = λ m h. refl;

@@ -1,16 +1,15 @@
 -- Each usable translation is present, or its mapping is gone and the endpoint hasn't answered for it: an order ahead of
 -- the wait will strike it first.
 use Rattle.sva_laws.proofs.Words.{put-same}
-use Rattle.std.proofs.Common.{sym, subst, ◌≡◌, ◌≢◌, ◌⊎◌, inl, inr, ℕ, ◌+◌, ◌-◌, ◌<◌, ◌≤◌, Bool, true, false, arith}
+use Rattle.std.proofs.Common.{sym, subst, ◌≡◌, ◌≢◌, ◌⊎◌, inl, inr, ℕ, ◌+◌, ◌<◌, ◌≤◌, Bool, true, false, arith}
 use Rattle.std.specs.Prelude.{Some, None}
 use Rattle.std.proofs.lemmas.Bool.Decides.{nat_tests}
 use Rattle.sva_model.specs.State.{Owed, MappingState, Mappings, Part, Stage}
-use Rattle.sva_model.specs.State.Owed.{Nothing, Pages, Pasid, AReset}
+use Rattle.sva_model.specs.State.Owed.{Nothing, Ranges, Pasid, AReset}
 use Rattle.sva_model.specs.State.MappingState.{Unmade, Present, Gone}
 use Rattle.sva_model.specs.State.Stage.{Invalidating}
 use Rattle.sva_model.specs.State.RequestState.{Out}
 use Rattle.sva_model.specs.State.UseState.{Running}
-use Rattle.sva_model.specs.State.Order.{PageOf}
 use Rattle.sva_model.specs.State.OrderState.{Queued, Done, Void, Taken}
 use Rattle.sva_model.specs.State.About.{CompletionOf, ResetDone}
 use Rattle.sva_model.specs.State.Phase.{Open}
@@ -32,19 +31,20 @@ owed_of (Gone owed) e = owed e
 owed_of Present e = Nothing
 owed_of Unmade e = Nothing
 
--- the order of this page, among those from `first` on for the pages from `page` on
-abbrev pub order_of_page : (page first q : ℕ) → ℕ
-order_of_page page first q = first + (q - page)
+-- of the orders from `first` on, of which there are `count` and a wait behind them, order k covers the page q of binding b; and
+-- the unit is in reset, where the wait is void, or open, where order k will strike what is of this age ahead of the wait
+abbrev pub IsAhead : Part → (b q age first count resets k : ℕ) → Type 0
+IsAhead p b q age first count resets k =
+    (resets ≡ p.resets) × (first ≤ k) × (k < first + count) × (covers (p.order k) b q ≡ true)
+    × (is_wait (p.order (first + count)) ≡ true)
+    × (first + count < p.orders)
+    × (((is_open p.phase ≡ false) × (p.order_state (first + count) ≡ Void)) ⊎ ((p.phase ≡ Open) × (p.order_state (first + count) ≡ Queued) × (blocks (p.order_state k) age ≡ true)))
 
 -- the endpoint hasn't answered for the page q of binding b, and will strike what is of this age first
 abbrev pub Pending : Part → (b q age : ℕ) → Owed → Type 0
 Pending p b q age Nothing = ⊥
 Pending p b q age (AReset resets) = (resets ≡ p.resets) × (is_open p.phase ≡ false)
-Pending p b q age (Pages page first count resets) =
-    (resets ≡ p.resets) × (page ≤ q) × (q < page + count) × (p.order (order_of_page page first q) ≡ PageOf b q)
-    × (is_wait (p.order (first + count)) ≡ true)
-    × (first + count < p.orders)
-    × (((is_open p.phase ≡ false) × (p.order_state (first + count) ≡ Void)) ⊎ ((p.phase ≡ Open) × (p.order_state (first + count) ≡ Queued) × (blocks (p.order_state (order_of_page page first q)) age ≡ true)))
+Pending p b q age (Ranges first count resets) = (k : ℕ) × IsAhead p b q age first count resets k
 Pending p b q age (Pasid k w resets c0) = (resets ≡ p.resets) × (p.stage b ≡ Invalidating k w)
 
 pub record Safe (ms : Mappings) (e : ℕ) (p : Part) : Type 0 where
@@ -53,14 +53,14 @@ pub record Safe (ms : Mappings) (e : ℕ) (p : Part) : Type 0 where
   pub running : (u : ℕ) → p.use_state u ≡ Running → (ms.state (p.use_mapping u) ≡ Present) ⊎ Pending p (p.use_binding u) (ms.page (p.use_mapping u)) u (owed_of (ms.state (p.use_mapping u)) e)
 
 -- what is held stays pending
-held_pages : (ms : Mappings) (g n : ℕ) (p : Part) (o : Own) → LegalOwn ms g p o → NoneLeft p → SentOnly p → (r m page first count resets : ℕ) → (p.requests ≤ r → p.held r ≡ None) → p.held r ≡ Some m → (own p n o).held r ≡ Some m → ms.page m ≡ p.request_page r → ((k x : ℕ) → p.order_state k ≡ Taken x → x ≤ p.uses) → Pending p (p.request_binding r) (ms.page m) p.uses (Pages page first count resets) → Pending (own p n o) (p.request_binding r) (ms.page m) (own p n o).uses (Pages page first count resets)
-held_pages ms g n p o l left sent r m page first count resets b h h' pg noted pe = grind (arith, nat_tests, left.up, left.empty, noted (order_of_page page first (ms.page m)))
+held_ahead : (ms : Mappings) (g n : ℕ) (p : Part) (o : Own) → LegalOwn ms g p o → NoneLeft p → SentOnly p → (r m first count resets k : ℕ) → (p.requests ≤ r → p.held r ≡ None) → p.held r ≡ Some m → (own p n o).held r ≡ Some m → ms.page m ≡ p.request_page r → ((k x : ℕ) → p.order_state k ≡ Taken x → x ≤ p.uses) → IsAhead p (p.request_binding r) (ms.page m) p.uses first count resets k → IsAhead (own p n o) (p.request_binding r) (ms.page m) (own p n o).uses first count resets k
+held_ahead ms g n p o l left sent r m first count resets k b h h' pg noted pe = grind (arith, nat_tests, left.up, left.empty, noted k)
 
-running_pages : (ms : Mappings) (g n : ℕ) (p : Part) (o : Own) → LegalOwn ms g p o → NoneLeft p → SentOnly p → (u page first count resets : ℕ) → p.use_state u ≡ Running → (own p n o).use_state u ≡ Running → u < p.uses → (covers (p.order (order_of_page page first (ms.page (p.use_mapping u)))) (p.use_binding u) (ms.page (p.use_mapping u)) ≡ true → blocks (p.order_state (order_of_page page first (ms.page (p.use_mapping u)))) u ≡ true → finishes o (order_of_page page first (ms.page (p.use_mapping u))) ≡ false) → Pending p (p.use_binding u) (ms.page (p.use_mapping u)) u (Pages page first count resets) → Pending (own p n o) (p.use_binding u) (ms.page (p.use_mapping u)) u (Pages page first count resets)
-running_pages ms g n p o l left sent u page first count resets h h' b spared pe = grind (arith, nat_tests, left.up, left.dead)
+running_ahead : (ms : Mappings) (g n : ℕ) (p : Part) (o : Own) → LegalOwn ms g p o → NoneLeft p → SentOnly p → (u first count resets k : ℕ) → p.use_state u ≡ Running → (own p n o).use_state u ≡ Running → u < p.uses → (covers (p.order k) (p.use_binding u) (ms.page (p.use_mapping u)) ≡ true → blocks (p.order_state k) u ≡ true → finishes o k ≡ false) → IsAhead p (p.use_binding u) (ms.page (p.use_mapping u)) u first count resets k → IsAhead (own p n o) (p.use_binding u) (ms.page (p.use_mapping u)) u first count resets k
+running_ahead ms g n p o l left sent u first count resets k h h' b spared pe = grind (arith, nat_tests, left.up, left.dead)
 
-flying_pages : (ms : Mappings) (g n : ℕ) (p : Part) (o : Own) → LegalOwn ms g p o → SentOnly p → (r m page first count resets : ℕ) → r < p.requests → p.request r ≡ Out → (own p n o).request r ≡ Out → ((c : ℕ) → p.message c ≡ Some ResetDone → is_out (p.request r) ≡ false) → ms.page m ≡ p.request_page r → ((k x : ℕ) → p.order_state k ≡ Taken x → x ≤ p.uses) → Pending p (p.request_binding r) (ms.page m) p.uses (Pages page first count resets) → Pending (own p n o) (p.request_binding r) (ms.page m) (own p n o).uses (Pages page first count resets)
-flying_pages ms g n p o l sent r m page first count resets b h h' over pg noted pe = grind (arith, nat_tests, noted (order_of_page page first (ms.page m)))
+flying_ahead : (ms : Mappings) (g n : ℕ) (p : Part) (o : Own) → LegalOwn ms g p o → SentOnly p → (r m first count resets k : ℕ) → r < p.requests → p.request r ≡ Out → (own p n o).request r ≡ Out → ((c : ℕ) → p.message c ≡ Some ResetDone → is_out (p.request r) ≡ false) → ms.page m ≡ p.request_page r → ((k x : ℕ) → p.order_state k ≡ Taken x → x ≤ p.uses) → IsAhead p (p.request_binding r) (ms.page m) p.uses first count resets k → IsAhead (own p n o) (p.request_binding r) (ms.page m) (own p n o).uses first count resets k
+flying_ahead ms g n p o l sent r m first count resets k b h h' over pg noted pe = grind (arith, nat_tests, noted k)
 
 -- what waits for a reset-done, or for its PASID's invalidation
 reset_pending : (ms : Mappings) (g n : ℕ) (p : Part) (o : Own) → LegalOwn ms g p o → (b q age age' resets : ℕ) → ((c : ℕ) → p.message c ≢ Some ResetDone) ⊎ ((own p n o).resets ≡ p.resets) → Pending p b q age (AReset resets) → Pending (own p n o) b q age' (AReset resets)
@@ -91,7 +91,7 @@ not_invalidating s k w h e = grind arith
 -- the three kinds, over whatever is owed
 held_pending : (ms : Mappings) (g n : ℕ) (p : Part) (o : Own) → LegalOwn ms g p o → Resets n p → Bounds g p → Labels p → Orders p → Owners ms p → (r m : ℕ) → p.held r ≡ Some m → (own p n o).held r ≡ Some m → (v : Owed) → Pending p (p.request_binding r) (ms.page m) p.uses v → Pending (own p n o) (p.request_binding r) (ms.page m) (own p n o).uses v
 held_pending ms g n p o l re bo la or ow r m h h' Nothing pe = pe
-held_pending ms g n p o l re bo la or ow r m h h' (Pages page first count resets) pe = held_pages ms g n p o l (none_left n p re) la.sent r m page first count resets (bo.held r) h h' (ow.held_page r m h) bo.noted pe
+held_pending ms g n p o l re bo la or ow r m h h' (Ranges first count resets) pe = (pe.0, held_ahead ms g n p o l (none_left n p re) la.sent r m first count resets pe.0 (bo.held r) h h' (ow.held_page r m h) bo.noted pe.1)
 held_pending ms g n p o l re bo la or ow r m h h' (Pasid k w resets c0) pe =
     pasid_pending ms g n p o l (p.request_binding r) (ms.page m) p.uses (own p n o).uses k w resets c0
     (inr (held_resets ms g n p o l (none_left n p re) r m h))
@@ -101,9 +101,11 @@ held_pending ms g n p o l re bo la or ow r m h h' (AReset resets) pe =
 
 running_pending : (ms : Mappings) (g n : ℕ) (p : Part) (o : Own) → LegalOwn ms g p o → Resets n p → Bounds g p → Labels p → Orders p → Owners ms p → (u : ℕ) → p.use_state u ≡ Running → (own p n o).use_state u ≡ Running → (v : Owed) → Pending p (p.use_binding u) (ms.page (p.use_mapping u)) u v → Pending (own p n o) (p.use_binding u) (ms.page (p.use_mapping u)) u v
 running_pending ms g n p o l re bo la or ow u h h' Nothing pe = pe
-running_pending ms g n p o l re bo la or ow u h h' (Pages page first count resets) pe =
-    running_pages ms g n p o l (none_left n p re) la.sent u page first count resets h h' (running_made g p bo u h)
-    (spares ms g p o l (order_of_page page first (ms.page (p.use_mapping u))) u h) pe
+running_pending ms g n p o l re bo la or ow u h h' (Ranges first count resets) pe = (
+  pe.0,
+  running_ahead ms g n p o l (none_left n p re) la.sent u first count resets pe.0 h h' (running_made g p bo u h)
+      (spares ms g p o l pe.0 u h) pe.1,
+)
 running_pending ms g n p o l re bo la or ow u h h' (Pasid k w resets c0) pe =
     pasid_pending ms g n p o l (p.use_binding u) (ms.page (p.use_mapping u)) u u k w resets c0
     (inr (running_resets ms g n p o l (none_left n p re) u h))
@@ -113,8 +115,10 @@ running_pending ms g n p o l re bo la or ow u h h' (AReset resets) pe =
 
 flying_pending : (ms : Mappings) (g n : ℕ) (p : Part) (o : Own) → LegalOwn ms g p o → Resets n p → Bounds g p → Bindings p → Labels p → Requests p → Owners ms p → (c r m : ℕ) → p.message c ≡ Some (CompletionOf r (Some m)) → p.request r ≡ Out → (own p n o).request r ≡ Out → (v : Owed) → Pending p (p.request_binding r) (ms.page m) p.uses v → Pending (own p n o) (p.request_binding r) (ms.page m) (own p n o).uses v
 flying_pending ms g n p o l re bo bi la ra ow c r m h q q' Nothing pe = pe
-flying_pending ms g n p o l re bo bi la ra ow c r m h q q' (Pages page first count resets) pe =
-    flying_pages ms g n p o l la.sent r m page first count resets (bo.answered c r (Some m) h) q q' (over_at n p re r) (ow.flying_page c r m h) bo.noted pe
+flying_pending ms g n p o l re bo bi la ra ow c r m h q q' (Ranges first count resets) pe = (
+  pe.0,
+  flying_ahead ms g n p o l la.sent r m first count resets pe.0 (bo.answered c r (Some m) h) q q' (over_at n p re r) (ow.flying_page c r m h) bo.noted pe.1,
+)
 flying_pending ms g n p o l re bo bi la ra ow c r m h q q' (Pasid k w resets c0) pe =
     absurd (not_invalidating (p.stage (p.request_binding r)) k w (asker_stage p r bi ra q) pe.1)
 flying_pending ms g n p o l re bo bi la ra ow c r m h q q' (AReset resets) pe =
@@ -157,14 +161,14 @@ IsSafe ms e p b m age = (ms.state m ≡ Present) ⊎ Pending p b (ms.page m) age
 
 keep_same : (p : Part) (n c x y b q age : ℕ) (v : Owed) → Pending p b q age v → Pending (own p n (Keep c x y)) b q age v
 keep_same p n c x y b q age Nothing h = h
-keep_same p n c x y b q age (Pages page first count resets) h = h
+keep_same p n c x y b q age (Ranges first count resets) h = h
 keep_same p n c x y b q age (Pasid k w resets c0) h = h
 keep_same p n c x y b q age (AReset resets) h = h
 
 -- the age of what is cached grows, and that of a use is what it was when it began
 begin_same : (p : Part) (n r m t b q : ℕ) (v : Owed) → Pending p b q p.uses v → Pending (own p n (Begin r m t)) b q p.uses v
 begin_same p n r m t b q Nothing h = h
-begin_same p n r m t b q (Pages page first count resets) h = h
+begin_same p n r m t b q (Ranges first count resets) h = h
 begin_same p n r m t b q (Pasid k w resets c0) h = h
 begin_same p n r m t b q (AReset resets) h = h
 

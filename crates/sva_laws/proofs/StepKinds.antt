@@ -10,7 +10,7 @@ use Rattle.sva_model.specs.Words.{the}
 use Rattle.sva_model.specs.Message.{Code}
 use Rattle.sva_model.specs.State.{Part, World, Stage, Order, About, RequestState}
 use Rattle.sva_model.specs.State.Stage.{Unbound, Live, Stopping, Draining, Invalidating, Quiet, Lost, Released}
-use Rattle.sva_model.specs.State.Order.{PageOf, PasidOf, Wait}
+use Rattle.sva_model.specs.State.Order.{RangeOf, PasidOf, Wait}
 use Rattle.sva_model.specs.State.RequestState.{Out, Doomed, Over}
 use Rattle.sva_model.specs.State.About.{StartOf, StopOf, ResetOrder, CompletionOf, InvalidateOf, ResponseOf, RequestOf, InvalidatedOf, PageRequestOf, MarkerOf, ResetDone}
 use Rattle.sva_model.specs.Acts.{Act, Own}
@@ -38,7 +38,7 @@ is_calm_own (Own.Reopen c) = false
 is_calm_own _ = true
 
 abbrev pub is_calm : Act → Bool
-is_calm (Unmap s q count) = false
+is_calm (Unmap s q count order) = false
 is_calm (At e o) = is_calm_own o
 is_calm _ = true
 
@@ -68,7 +68,7 @@ IsBy w s e _ a = Unit {0}
 pub data Kind (w : World) (s : Step) (d : Decision) : Type 0 where
   calm : are_calm d.acts ≡ true → Kind w s d
   single : (e : ℕ) (o : Own) (a : Answer) → d.acts ≡ At e o ∷ [] → d.reply ≡ Ok a → IsBy w s e o a → Kind w s d
-  unmapping : (t q count : ℕ) → d.acts ≡ Unmap t q count ∷ [] → Kind w s d
+  unmapping : (t q count order : ℕ) → d.acts ≡ Unmap t q count order ∷ [] → Kind w s d
 
 -- what is done where no cause refuses
 abbrev pub plain : Outcome → Decision
@@ -104,7 +104,7 @@ send_kind w s e k t false = calm refl
 
 head_kind : (w : World) (e k : ℕ) (o : Order) → Labels.head (w.part e) ≡ k → Kind w (step.Pump e) (plain (head_outcome (w.part e) e k o))
 head_kind w e k (Wait cookie drain) h = wait_kind w e k (may_pass (w.part e) drain) h
-head_kind w e k (PageOf b q) h = send_kind w (step.Pump e) e k (Labels.lowest_label 32 (w.part e).at_itag) _
+head_kind w e k (RangeOf b q) h = send_kind w (step.Pump e) e k (Labels.lowest_label 32 (w.part e).at_itag) _
 head_kind w e k (PasidOf b) h = send_kind w (step.Pump e) e k (Labels.lowest_label 32 (w.part e).at_itag) _
 
 pump_kind : (w : World) (e : ℕ) (b : Bool) → Kind w (step.Pump e) (plain (pump_outcome (w.part e) e b))
@@ -187,7 +187,8 @@ outcome_kind : (w : World) (s : Step) → Kind w s (plain (outcome w s))
 outcome_kind w step.Space = calm refl
 outcome_kind w (step.DropSpace n) = calm refl
 outcome_kind w (step.Map n q x) = calm refl
-outcome_kind w (step.Unmap n q count) = unmapping (Labels.name w n) q count refl
+outcome_kind w (step.Unmap n q count) = unmapping (Labels.name w n) q count 0 refl
+outcome_kind w (step.UnmapRange n q order) = unmapping (Labels.name w n) q 1 order refl
 outcome_kind w (step.Bind e n) = calm refl
 outcome_kind w (step.Unbind n) = unbind_kind w (step.Unbind n) (w.home (Labels.name w n)) (Labels.name w n) ((w.part (w.home (Labels.name w n))).stage (Labels.name w n))
 outcome_kind w (step.Advance n) = advance_kind w (step.Advance n) (w.home (Labels.name w n)) (Labels.name w n) ((w.part (w.home (Labels.name w n))).stage (Labels.name w n))
@@ -207,6 +208,7 @@ outcome_kind w (step.Deliver n) =
     deliver_kind w (step.Deliver n) (w.part (w.way (Labels.name w n))) (w.way (Labels.name w n)) (Labels.name w n) ((w.part (w.way (Labels.name w n))).message (Labels.name w n))
     (record { number = n; step_is = refl; name_is = refl; way_is = refl })
 outcome_kind w (step.Look f) = calm refl
+outcome_kind w (step.Bearer t) = calm refl
 
 checked_kind : (w : World) (s : Step) (cs : List Cause) (o : Outcome) → Kind w s (plain o) → Kind w s (checked cs o)
 checked_kind w s [] o k = k

@@ -15,8 +15,8 @@ use Rattle.sva_laws.proofs.Owners.{Owners}
 use Rattle.sva_laws.proofs.PageRequests.{Queued, Lasts}
 use Rattle.sva_laws.proofs.Groups.{Groups}
 
-pub resets_submitted : (n b q count cookie : ℕ) (p : Part) → p.phase ≡ Open → Resets n p → Resets n (submitted p b q count cookie)
-resets_submitted n b q count cookie p ph re =
+pub resets_submitted : (n b q count order cookie : ℕ) (p : Part) → p.phase ≡ Open → Resets n p → Resets n (submitted p b q count order cookie)
+resets_submitted n b q count order cookie p ph re =
     record {
       unsent = re.unsent;
       down = re.down;
@@ -44,8 +44,8 @@ resets_submitted n b q count cookie p ph re =
       unfiled = re.unfiled;
     }
 
-pub bounds_submitted : (g b q count cookie : ℕ) (p : Part) → Bounds g p → Bounds g (submitted p b q count cookie)
-bounds_submitted g b q count cookie p bo =
+pub bounds_submitted : (g b q count order cookie : ℕ) (p : Part) → Bounds g p → Bounds g (submitted p b q count order cookie)
+bounds_submitted g b q count order cookie p bo =
     record {
       stage = bo.stage;
       request = bo.request;
@@ -65,8 +65,8 @@ bounds_submitted g b q count cookie p bo =
       responded = bo.responded;
     }
 
-pub bindings_submitted : (b q count cookie : ℕ) (p : Part) → Bindings p → Bindings (submitted p b q count cookie)
-bindings_submitted b q count cookie p bi =
+pub bindings_submitted : (b q count order cookie : ℕ) (p : Part) → Bindings p → Bindings (submitted p b q count order cookie)
+bindings_submitted b q count order cookie p bi =
     record {
       start_once = bi.start_once;
       start_off = bi.start_off;
@@ -84,8 +84,8 @@ bindings_submitted b q count cookie p bi =
       marker_stop = bi.marker_stop;
     }
 
-pub labels_submitted : (g b q count cookie : ℕ) (p : Part) → Bounds g p → Labels p → Labels (submitted p b q count cookie)
-labels_submitted g b q count cookie p bo la =
+pub labels_submitted : (g b q count order cookie : ℕ) (p : Part) → Bounds g p → Labels p → Labels (submitted p b q count order cookie)
+labels_submitted g b q count order cookie p bo la =
     record {
       pasid_bears = la.pasid_bears;
       bears_pasid = la.bears_pasid;
@@ -104,11 +104,11 @@ labels_submitted g b q count cookie p bo la =
       sent_once = la.sent_once;
     }
 
-pub requests_submitted : (b q count cookie : ℕ) (p : Part) → Requests p → Requests (submitted p b q count cookie)
-requests_submitted b q count cookie p ra = record { bound = ra.bound; alive = ra.alive; ask_once = ra.ask_once; answer_once = ra.answer_once; not_both = ra.not_both; ask_out = ra.ask_out; answer_out = ra.answer_out; one_held = ra.one_held }
+pub requests_submitted : (b q count order cookie : ℕ) (p : Part) → Requests p → Requests (submitted p b q count order cookie)
+requests_submitted b q count order cookie p ra = record { bound = ra.bound; alive = ra.alive; ask_once = ra.ask_once; answer_once = ra.answer_once; not_both = ra.not_both; ask_out = ra.ask_out; answer_out = ra.answer_out; one_held = ra.one_held }
 
-pub orders_submitted : (g b q count cookie : ℕ) (p : Part) → is_before_invalidating (p.stage b) ≡ true → Bounds g p → Orders p → Orders (submitted p b q count cookie)
-orders_submitted g b q count cookie p st bo or =
+pub orders_submitted : (g b q count order cookie : ℕ) (p : Part) → is_before_invalidating (p.stage b) ≡ true → Bounds g p → Orders p → Orders (submitted p b q count order cookie)
+orders_submitted g b q count order cookie p st bo or =
     record {
       no_wait = λ k h. grind (arith, nat_tests, or.no_wait k);
       ahead = λ w k h i j. grind (arith, nat_tests, or.ahead w k, bo.order_state w);
@@ -123,8 +123,8 @@ orders_submitted g b q count cookie p st bo or =
       undone_stage = λ k h i. grind (arith, nat_tests, or.undone_stage k);
     }
 
-pub owners_submitted : (ms : Mappings) (g b q count cookie : ℕ) (p : Part) → Orders p → Owners ms p → Owners ms (submitted p b q count cookie)
-owners_submitted ms g b q count cookie p or ow =
+pub owners_submitted : (ms : Mappings) (g b q count order cookie : ℕ) (p : Part) → Orders p → Owners ms p → Owners ms (submitted p b q count order cookie)
+owners_submitted ms g b q count order cookie p or ow =
     record {
       held = ow.held;
       running = ow.running;
@@ -142,15 +142,15 @@ owners_submitted ms g b q count cookie p or ow =
       running_closed = λ u k w h i j d. grind (arith, nat_tests, ow.running_closed u k w, or.invalidating (p.use_binding u) k w);
     }
 
-pub queued_submitted : (b q count cookie : ℕ) (p : Part) → Queued p → Queued (submitted p b q count cookie)
-queued_submitted b q count cookie p qu = record { in_flight = qu.in_flight; message = qu.message; arrived = qu.arrived; arrival = qu.arrival; landed = qu.landed; made = qu.made }
+pub queued_submitted : (b q count order cookie : ℕ) (p : Part) → Queued p → Queued (submitted p b q count order cookie)
+queued_submitted b q count order cookie p qu = record { in_flight = qu.in_flight; message = qu.message; arrived = qu.arrived; arrival = qu.arrival; landed = qu.landed; made = qu.made }
 
-pub lasts_submitted : (b q count cookie : ℕ) (p : Part) → Lasts p → Lasts (submitted p b q count cookie)
-lasts_submitted b q count cookie p la =
+pub lasts_submitted : (b q count order cookie : ℕ) (p : Part) → Lasts p → Lasts (submitted p b q count order cookie)
+lasts_submitted b q count order cookie p la =
     record { last_group = la.last_group; last_once = la.last_once; last_flight = la.last_flight; last_arrived = la.last_arrived; last_order = la.last_order; whole_group = la.whole_group; whole = la.whole; kept = la.kept; out = la.out }
 
-pub groups_submitted : (b q count cookie : ℕ) (p : Part) → Orders p → Groups p → Groups (submitted p b q count cookie)
-groups_submitted b q count cookie p or gr =
+pub groups_submitted : (b q count order cookie : ℕ) (p : Part) → Orders p → Groups p → Groups (submitted p b q count order cookie)
+groups_submitted b q count order cookie p or gr =
     record {
       index_bears = gr.index_bears;
       bears_index = gr.bears_index;

@@ -11,7 +11,7 @@ use Rattle.sva_step.specs.declared.steps.Step.TheVariants as step
 use Rattle.sva_model.specs.Words.{put}
 use Rattle.sva_model.specs.State.{About, Mappings, Order, OrderState, Part, World}
 use Rattle.sva_model.specs.State.About.{InvalidateOf, InvalidatedOf, MarkerOf, ResetDone}
-use Rattle.sva_model.specs.State.Order.{PageOf, PasidOf, Wait}
+use Rattle.sva_model.specs.State.Order.{RangeOf, PasidOf, Wait}
 use Rattle.sva_model.specs.State.Phase.{Open}
 use Rattle.sva_model.specs.State.Stage.{Stopping}
 use Rattle.sva_model.specs.State.OrderState.{Queued, Sent, Taken, Lapsed, Owing, Done, Void}
@@ -74,7 +74,7 @@ same_act : (w : World) (a : Act) → is_calm a ≡ true → (e : ℕ) → Same (
 same_act w NewSpace h e = same_part (w.part e)
 same_act w (DropSpace s) h e = same_part (w.part e)
 same_act w (Map s q f x) h e = same_part (w.part e)
-same_act w (Unmap s q count) h e = absurd (cc)
+same_act w (Unmap s q count order) h e = absurd (cc)
 same_act w (NewBinding d) h e = same_part (w.part e)
 same_act w (NewJob d g) h e = same_part (w.part e)
 same_act w (Hold x j) h e = same_part (w.part e)
@@ -102,8 +102,8 @@ changes_nothing w s e p q x =
     }
 
 -- an unmapping
-submitted_changes : (w : World) (s : Step) (e g : ℕ) (t : Bool) (p : Part) (o : Option ℕ) (q count cookie : ℕ) → ((k : ℕ) → p.orders ≤ k → p.order_state k ≡ Void) → Changes w s e p (submitted_if t p o q count cookie)
-submitted_changes w s e g true p (Some b) q count cookie bo =
+submitted_changes : (w : World) (s : Step) (e g : ℕ) (t : Bool) (p : Part) (o : Option ℕ) (q count order cookie : ℕ) → ((k : ℕ) → p.orders ≤ k → p.order_state k ≡ Void) → Changes w s e p (submitted_if t p o q count order cookie)
+submitted_changes w s e g true p (Some b) q count order cookie bo =
     record {
       resets = λ none. refl;
       done = λ k h. inl (was_done k h);
@@ -114,22 +114,22 @@ submitted_changes w s e g true p (Some b) q count cookie bo =
       noted = λ x h. inl h;
     }
   where
-    was_done : (k : ℕ) → (submitted p b q count cookie).order_state k ≡ Done → p.order_state k ≡ Done
+    was_done : (k : ℕ) → (submitted p b q count order cookie).order_state k ≡ Done → p.order_state k ≡ Done
     was_done k h = grind (arith, nat_tests)
 
-    done_still : (k : ℕ) → p.order_state k ≡ Done → (submitted p b q count cookie).order_state k ≡ Done
+    done_still : (k : ℕ) → p.order_state k ≡ Done → (submitted p b q count order cookie).order_state k ≡ Done
     done_still k h = grind (arith, nat_tests, bo k)
 
-    was_void : (k : ℕ) → k < p.orders → (submitted p b q count cookie).order_state k ≡ Void → p.order_state k ≡ Void
+    was_void : (k : ℕ) → k < p.orders → (submitted p b q count order cookie).order_state k ≡ Void → p.order_state k ≡ Void
     was_void k lt h = grind (arith, nat_tests)
 
-    void_still : (k : ℕ) → k < p.orders → p.order_state k ≡ Void → (submitted p b q count cookie).order_state k ≡ Void
+    void_still : (k : ℕ) → k < p.orders → p.order_state k ≡ Void → (submitted p b q count order cookie).order_state k ≡ Void
     void_still k lt h = grind (arith, nat_tests)
 
-    queued : (k : ℕ) → p.orders ≤ k → k < p.orders + suc count → (submitted p b q count cookie).order_state k ≡ Queued
+    queued : (k : ℕ) → p.orders ≤ k → k < p.orders + suc count → (submitted p b q count order cookie).order_state k ≡ Queued
     queued k low high = grind (arith, nat_tests)
-submitted_changes w s e g true p None q count cookie bo = changes_nothing w s e p p (same_part p)
-submitted_changes w s e g false p o q count cookie bo = changes_nothing w s e p p (same_part p)
+submitted_changes w s e g true p None q count order cookie bo = changes_nothing w s e p p (same_part p)
+submitted_changes w s e g false p o q count order cookie bo = changes_nothing w s e p p (same_part p)
 
 -- One act of an endpoint.
 
@@ -276,9 +276,9 @@ changes w s e i = go (step_kind w s)
         (own_changes w s d a o i h by (first d o x).1.0)
         (λ k. changes_nothing w s k (w.part k) (w.part k) (same_part (w.part k)))
         e)
-    go (unmapping t q count x) =
+    go (unmapping t q count order x) =
         subst (λ z. Changes w s e (w.part e) ((after_acts w z).part e)) (sym x)
-        (submitted_changes w s e 0 (submits w t e) (w.part e) (bound w e t) q count (cookie_of w t e) (i.parts e).bounds.order_state)
+        (submitted_changes w s e 0 (submits w t e) (w.part e) (bound w e t) q count order (cookie_of w t e) (i.parts e).bounds.order_state)
 
 -- And back: from what the step is to its act.
 
@@ -317,7 +317,7 @@ no_wait e k t false h = absurd (cc)
 
 head_waits : (p : Part) (e k : ℕ) (o : Order) → (head_outcome p e k o).answer ≡ answer.WaitDone → (head_outcome p e k o).acts ≡ At e (Own.Pass k) ∷ []
 head_waits p e k (Wait cookie drain) h = waits e k (may_pass p drain) h
-head_waits p e k (PageOf b q) h = no_wait e k (Labels.lowest_label 32 p.at_itag) _ h
+head_waits p e k (RangeOf b q) h = no_wait e k (Labels.lowest_label 32 p.at_itag) _ h
 head_waits p e k (PasidOf b) h = no_wait e k (Labels.lowest_label 32 p.at_itag) _ h
 
 pump_waits : (p : Part) (e : ℕ) (b : Bool) → (pump_outcome p e b).answer ≡ answer.WaitDone → (pump_outcome p e b).acts ≡ At e (Own.Pass (Labels.head p)) ∷ []

@@ -1,21 +1,26 @@
 -- Unmapping: what is taken out is either used by nobody, or its endpoint owes an answer, and will strike first.
-use Rattle.std.proofs.Common.{◌≡◌, ◌≢◌, ◌⊎◌, inl, inr, refl, ap, sym, subst, ◌∙◌, ℕ, ◌+◌, ◌<◌, ◌≤◌, Bool, true, false, arith}
+use Rattle.std.proofs.Common.{◌≡◌, ◌≢◌, ◌⊎◌, inl, inr, refl, ap, sym, subst, ◌∙◌, ℕ, ◌+◌, ◌*◌, ◌^◌, ◌<◌, ◌≤◌, Bool, true, false, arith}
 use Rattle.std.specs.Prelude.{Option, Some, None, ◌&&◌, ◌==◌, not, if◌then◌else◌}
 use Rattle.std.proofs.lemmas.Bool.Decides.{nat_tests}
 use Rattle.sva_model.specs.State.{Owed, MappingState, Mappings, Part, World, Stage}
-use Rattle.sva_model.specs.State.Owed.{Nothing, Pages, Pasid, AReset}
+use Rattle.sva_model.specs.State.Owed.{Nothing, Ranges, Pasid, AReset}
 use Rattle.sva_model.specs.State.MappingState.{Unmade, Present, Gone}
 use Rattle.sva_model.specs.State.Stage.{Unbound, Live, Stopping, Draining, Invalidating, Quiet, Lost, Released}
+use Rattle.sva_model.specs.State.Order.{RangeOf, Wait}
+use Rattle.sva_model.specs.State.OrderState.{Queued}
 use Rattle.sva_model.specs.State.Phase.{Open}
-use Rattle.sva_model.specs.States.{is_unreleased, is_open, is_before_invalidating}
-use Rattle.sva_model.specs.Acts.{bound, submits_at, submits, owed_by_unit, owed_by_stage, owed_by, submitted, submitted_if, cookie_of, part_after_unmap, gone_if, in_range, without_pages, act}
+use Rattle.sva_model.specs.Range.{is_in}
+use Rattle.sva_model.specs.States.{is_unreleased, is_open, is_wait, is_before_invalidating}
+use Rattle.sva_model.specs.Acts.{bound, submits_at, submits, owed_by_unit, owed_by_stage, owed_by, submitted, submitted_if, range_at, cookie_of, part_after_unmap, gone_if, in_range, without_pages, act}
 use Rattle.sva_model.specs.Acts.Act.{Unmap}
 use Rattle.sva_laws.proofs.Words.{put-same, put-other, ℕ_cases, find_passes, find_some}
-use Rattle.sva_model.specs.Words.{unless}
+use Rattle.sva_model.specs.Words.{put_range, unless}
 use Rattle.sva_laws.proofs.Bounds.{Bounds}
 use Rattle.sva_laws.proofs.Orders.{is_active}
-use Rattle.sva_laws.proofs.Safe.{Pending, IsSafe, owed_of}
+use Rattle.sva_laws.proofs.Owners.{blocks}
+use Rattle.sva_laws.proofs.Safe.{IsAhead, Pending, IsSafe, owed_of}
 use Rattle.sva_laws.proofs.Invariant.{Invariant}
+use Rattle.sva_laws.proofs.Ranges.{range_of, order_covers}
 
 -- a translation of a mapping, where some mappings go
 pub safe_without : (ms : Mappings) (e : ℕ) (p p' : Part) (b m age : ℕ) (t : Bool) (owed : ℕ → Owed) → IsSafe ms e p b m age → ((v : Owed) → Pending p b (ms.page m) age v → Pending p' b (ms.page m) age v) → (t ≡ true → ms.state m ≡ Present → Pending p' b (ms.page m) age (owed e)) → (gone_if t owed (ms.state m) ≡ Present) ⊎ Pending p' b (ms.page m) age (owed_of (gone_if t owed (ms.state m)) e)
@@ -34,19 +39,19 @@ safe_without ms e p p' b m age t owed sa keep new = go (ms.state m) t refl refl 
     go (Gone v) false a c (inr h) = inr (keep (v e) h)
 
 -- what was pending stays so while orders are submitted
-pending_submitted : (g b' q' count cookie : ℕ) (p : Part) → Bounds g p → (b q age : ℕ) (v : Owed) → Pending p b q age v → Pending (submitted p b' q' count cookie) b q age v
-pending_submitted g b' q' count cookie p bo b q age Nothing h = h
-pending_submitted g b' q' count cookie p bo b q age (Pages page first n resets) h = pages_submitted g b' q' count cookie p b q age page first n resets h
-  where
-    pages_submitted : (g b' q' count cookie : ℕ) (p : Part) (b q age page first n resets : ℕ) → Pending p b q age (Pages page first n resets) → Pending (submitted p b' q' count cookie) b q age (Pages page first n resets)
-    pages_submitted g b' q' count cookie p b q age page first n resets h = grind (arith, nat_tests)
-pending_submitted g b' q' count cookie p bo b q age (Pasid k w resets c0) h = h
-pending_submitted g b' q' count cookie p bo b q age (AReset resets) h = h
+ahead_submitted : (g b' q' count order cookie : ℕ) (p : Part) (b q age first n resets k : ℕ) → IsAhead p b q age first n resets k → IsAhead (submitted p b' q' count order cookie) b q age first n resets k
+ahead_submitted g b' q' count order cookie p b q age first n resets k h = grind (arith, nat_tests)
 
-pending_submitted_if : (g : ℕ) (s : Bool) (o : Option ℕ) (q' count cookie : ℕ) (p : Part) → Bounds g p → (b q age : ℕ) (v : Owed) → Pending p b q age v → Pending (submitted_if s p o q' count cookie) b q age v
-pending_submitted_if g true (Some b') q' count cookie p bo b q age v h = pending_submitted g b' q' count cookie p bo b q age v h
-pending_submitted_if g true None q' count cookie p bo b q age v h = h
-pending_submitted_if g false o q' count cookie p bo b q age v h = h
+pending_submitted : (g b' q' count order cookie : ℕ) (p : Part) → Bounds g p → (b q age : ℕ) (v : Owed) → Pending p b q age v → Pending (submitted p b' q' count order cookie) b q age v
+pending_submitted g b' q' count order cookie p bo b q age Nothing h = h
+pending_submitted g b' q' count order cookie p bo b q age (Ranges first n resets) h = (h.0, ahead_submitted g b' q' count order cookie p b q age first n resets h.0 h.1)
+pending_submitted g b' q' count order cookie p bo b q age (Pasid k w resets c0) h = h
+pending_submitted g b' q' count order cookie p bo b q age (AReset resets) h = h
+
+pending_submitted_if : (g : ℕ) (s : Bool) (o : Option ℕ) (q' count order cookie : ℕ) (p : Part) → Bounds g p → (b q age : ℕ) (v : Owed) → Pending p b q age v → Pending (submitted_if s p o q' count order cookie) b q age v
+pending_submitted_if g true (Some b') q' count order cookie p bo b q age v h = pending_submitted g b' q' count order cookie p bo b q age v h
+pending_submitted_if g true None q' count order cookie p bo b q age v h = h
+pending_submitted_if g false o q' count order cookie p bo b q age v h = h
 
 -- the unreleased binding of a space at an endpoint is found
 pub bound_is : (w : World) (e b s : ℕ) → Invariant w → is_unreleased ((w.part e).stage b) ≡ true → (w.part e).space b ≡ s → bound w e s ≡ Some b
@@ -73,29 +78,42 @@ bound_is w e b s i u sp =
 pub open_is : (p : Part) → is_open p.phase ≡ true → p.phase ≡ Open
 open_is p h = grind arith
 
-new_open : (p : Part) (b q page count age cookie : ℕ) → p.phase ≡ Open → page ≤ q → q < page + count → Pending (submitted p b page count cookie) b q age (Pages page p.orders count p.resets)
-new_open p b q page count age cookie ph lo hi = grind (arith, nat_tests)
+new_open : (p : Part) (b q page count order age cookie j : ℕ) → p.phase ≡ Open → j < count → is_in (range_at page order j) q ≡ true → IsAhead (submitted p b page count order cookie) b q age p.orders count p.resets (p.orders + j)
+new_open p b q page count order age cookie j ph l h =
+    (refl, omega arith, omega (arith, l), order_covers p b page count order cookie q j l h, is_a_wait, omega arith, inr (ph, wait_queued, strikes))
+  where
+    is_a_wait : is_wait ((submitted p b page count order cookie).order (p.orders + count)) ≡ true
+    is_a_wait = ap is_wait (put-same (put_range p.order p.orders count (λ i. RangeOf b (range_at page order i))) (p.orders + count) (Wait cookie false))
+
+    wait_queued : (submitted p b page count order cookie).order_state (p.orders + count) ≡ Queued
+    wait_queued = grind (arith, nat_tests)
+
+    own_queued : (submitted p b page count order cookie).order_state (p.orders + j) ≡ Queued
+    own_queued = grind (arith, nat_tests)
+
+    strikes : blocks ((submitted p b page count order cookie).order_state (p.orders + j)) age ≡ true
+    strikes = ap (λ s. blocks s age) own_queued
 
 -- what an active binding's endpoint owes for a page that is taken out now
-new_pending : (p : Part) (b q page count age cookie : ℕ) → is_active (p.stage b) ≡ true → page ≤ q → q < page + count → Pending (submitted_if (submits_at p (Some b)) p (Some b) page count cookie) b q age (owed_by p page count (Some b))
-new_pending p b q page count age cookie act lo hi =
-    subst (λ s. Pending (submitted_if (is_open p.phase && is_before_invalidating s) p (Some b) page count cookie) b q age (owed_by_stage p page count s)) refl
+new_pending : (p : Part) (b q page count order age cookie : ℕ) → is_active (p.stage b) ≡ true → in_range page (count * 2 ^ order) q ≡ true → Pending (submitted_if (submits_at p (Some b)) p (Some b) page count order cookie) b q age (owed_by p count (Some b))
+new_pending p b q page count order age cookie act inside =
+    subst (λ s. Pending (submitted_if (is_open p.phase && is_before_invalidating s) p (Some b) page count order cookie) b q age (owed_by_stage p count s)) refl
     (go (p.stage b) refl act)
   where
-    unit : (x : Bool) → is_open p.phase ≡ x → Pending (submitted_if (x && true) p (Some b) page count cookie) b q age (owed_by_unit p page count x)
-    unit true h = new_open p b q page count age cookie (open_is p h) lo hi
+    unit : (x : Bool) → is_open p.phase ≡ x → Pending (submitted_if (x && true) p (Some b) page count order cookie) b q age (owed_by_unit p count x)
+    unit true h = let x = range_of page order count q inside in (p.orders + x.0, new_open p b q page count order age cookie x.0 (open_is p h) x.1 x.2)
     unit false h = (refl, h)
 
-    either : (s : Stage) → is_before_invalidating s ≡ true → owed_by_stage p page count s ≡ owed_by_unit p page count (is_open p.phase) → Pending (submitted_if (is_open p.phase && is_before_invalidating s) p (Some b) page count cookie) b q age (owed_by_stage p page count s)
+    either : (s : Stage) → is_before_invalidating s ≡ true → owed_by_stage p count s ≡ owed_by_unit p count (is_open p.phase) → Pending (submitted_if (is_open p.phase && is_before_invalidating s) p (Some b) page count order cookie) b q age (owed_by_stage p count s)
     either s h o =
-        subst (λ y. Pending (submitted_if (is_open p.phase && y) p (Some b) page count cookie) b q age (owed_by_stage p page count s)) (sym h)
-        (subst (λ v. Pending (submitted_if (is_open p.phase && true) p (Some b) page count cookie) b q age v) (sym o) (unit (is_open p.phase) refl))
+        subst (λ y. Pending (submitted_if (is_open p.phase && y) p (Some b) page count order cookie) b q age (owed_by_stage p count s)) (sym h)
+        (subst (λ v. Pending (submitted_if (is_open p.phase && true) p (Some b) page count order cookie) b q age v) (sym o) (unit (is_open p.phase) refl))
 
-    not_both : (x : Bool) (k w : ℕ) → p.stage b ≡ Invalidating k w → Pending (submitted_if (x && false) p (Some b) page count cookie) b q age (Pasid k w p.resets (not (is_open p.phase)))
+    not_both : (x : Bool) (k w : ℕ) → p.stage b ≡ Invalidating k w → Pending (submitted_if (x && false) p (Some b) page count order cookie) b q age (Pasid k w p.resets (not (is_open p.phase)))
     not_both true k w h = (refl, h)
     not_both false k w h = (refl, h)
 
-    go : (s : Stage) → p.stage b ≡ s → is_active s ≡ true → Pending (submitted_if (is_open p.phase && is_before_invalidating s) p (Some b) page count cookie) b q age (owed_by_stage p page count s)
+    go : (s : Stage) → p.stage b ≡ s → is_active s ≡ true → Pending (submitted_if (is_open p.phase && is_before_invalidating s) p (Some b) page count order cookie) b q age (owed_by_stage p count s)
     go Live h a = either Live refl refl
     go (Stopping m) h a = either (Stopping m) refl refl
     go (Draining w) h a = either (Draining w) refl refl
@@ -108,30 +126,24 @@ new_pending p b q page count age cookie act lo hi =
 pub active_unreleased : (s : Stage) → is_active s ≡ true → is_unreleased s ≡ true
 active_unreleased s h = grind arith
 
-in_range_low : (q count k : ℕ) → in_range q count k ≡ true → q ≤ k
-in_range_low q count k h = grind (arith, nat_tests)
-
-in_range_high : (q count k : ℕ) → in_range q count k ≡ true → k < q + count
-in_range_high q count k h = grind (arith, nat_tests)
-
 -- a usable translation stays safe when pages are unmapped
-pub unmap_safe : (w : World) (s q count e b m age : ℕ) → Invariant w → is_active ((w.part e).stage b) ≡ true → w.mappings.space m ≡ (w.part e).space b → IsSafe w.mappings e (w.part e) b m age → IsSafe (act w (Unmap s q count)).mappings e ((act w (Unmap s q count)).part e) b m age
-unmap_safe w s q count e b m age i a sp sa =
-    safe_without w.mappings e (w.part e) (part_after_unmap w s q count e) b m age (w.mappings.space m == s && in_range q count (w.mappings.page m)) (λ x. owed_by (w.part x) q count (bound w x s)) sa
-    (λ v h. pending_submitted_if w.bindings (submits w s e) (bound w e s) q count (cookie_of w s e) (w.part e) (i.parts e).bounds b (w.mappings.page m) age v h)
+pub unmap_safe : (w : World) (s q count order e b m age : ℕ) → Invariant w → is_active ((w.part e).stage b) ≡ true → w.mappings.space m ≡ (w.part e).space b → IsSafe w.mappings e (w.part e) b m age → IsSafe (act w (Unmap s q count order)).mappings e ((act w (Unmap s q count order)).part e) b m age
+unmap_safe w s q count order e b m age i a sp sa =
+    safe_without w.mappings e (w.part e) (part_after_unmap w s q count order e) b m age (w.mappings.space m == s && in_range q (count * 2 ^ order) (w.mappings.page m)) (λ x. owed_by (w.part x) count (bound w x s)) sa
+    (λ v h. pending_submitted_if w.bindings (submits w s e) (bound w e s) q count order (cookie_of w s e) (w.part e) (i.parts e).bounds b (w.mappings.page m) age v h)
     (λ t pr. new t)
   where
-    same_space : (w.mappings.space m == s && in_range q count (w.mappings.page m)) ≡ true → w.mappings.space m ≡ s
+    same_space : (w.mappings.space m == s && in_range q (count * 2 ^ order) (w.mappings.page m)) ≡ true → w.mappings.space m ≡ s
     same_space t = grind (arith, nat_tests)
 
-    inside : (w.mappings.space m == s && in_range q count (w.mappings.page m)) ≡ true → in_range q count (w.mappings.page m) ≡ true
+    inside : (w.mappings.space m == s && in_range q (count * 2 ^ order) (w.mappings.page m)) ≡ true → in_range q (count * 2 ^ order) (w.mappings.page m) ≡ true
     inside t = grind (arith, nat_tests)
 
-    new : (w.mappings.space m == s && in_range q count (w.mappings.page m)) ≡ true → Pending (part_after_unmap w s q count e) b (w.mappings.page m) age (owed_by (w.part e) q count (bound w e s))
+    new : (w.mappings.space m == s && in_range q (count * 2 ^ order) (w.mappings.page m)) ≡ true → Pending (part_after_unmap w s q count order e) b (w.mappings.page m) age (owed_by (w.part e) count (bound w e s))
     new t =
         let f : bound w e s ≡ Some b = bound_is w e b s i (active_unreleased ((w.part e).stage b) a) (sym sp ∙ same_space t) in
-        subst (λ o. Pending (submitted_if (submits_at (w.part e) o) (w.part e) o q count (cookie_of w s e)) b (w.mappings.page m) age (owed_by (w.part e) q count o)) (sym f)
-        (new_pending (w.part e) b (w.mappings.page m) q count age (cookie_of w s e) a (in_range_low q count (w.mappings.page m) (inside t)) (in_range_high q count (w.mappings.page m) (inside t)))
+        subst (λ o. Pending (submitted_if (submits_at (w.part e) o) (w.part e) o q count order (cookie_of w s e)) b (w.mappings.page m) age (owed_by (w.part e) count o)) (sym f)
+        (new_pending (w.part e) b (w.mappings.page m) q count order age (cookie_of w s e) a (inside t))
 
 unless_some : (p : ℕ → Bool) (o : Option ℕ) (m : ℕ) → unless p o ≡ Some m → o ≡ Some m
 unless_some p None m h = absurd (cc)

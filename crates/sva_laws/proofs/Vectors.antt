@@ -166,18 +166,18 @@ pub owed_for_kept : (ms : Mappings) (g n : ℕ) (p : Part) (o : Own) → LegalOw
 owed_for_kept ms g n p o l re bo la ow old = by_act ms g n p o l re bo la ow old (counts_completions o) refl
 
 -- a submission leaves the orders that were made
-submitted_state : (g b q count cookie k c left : ℕ) (p : Part) → (p.orders ≤ k → p.order_state k ≡ Void) → p.order_state k ≡ Owing c left → (submitted p b q count cookie).order_state k ≡ Owing c left
-submitted_state g b q count cookie k c left p bo h = grind (arith, nat_tests)
+submitted_state : (g b q count order cookie k c left : ℕ) (p : Part) → (p.orders ≤ k → p.order_state k ≡ Void) → p.order_state k ≡ Owing c left → (submitted p b q count order cookie).order_state k ≡ Owing c left
+submitted_state g b q count order cookie k c left p bo h = grind (arith, nat_tests)
 
-pub owed_for_submitted : (g b q count cookie : ℕ) (p : Part) → Bounds g p → AreOwed p → AreOwed (submitted p b q count cookie)
-owed_for_submitted g b q count cookie p bo old c names h = go (old c names h)
+pub owed_for_submitted : (g b q count order cookie : ℕ) (p : Part) → Bounds g p → AreOwed p → AreOwed (submitted p b q count order cookie)
+owed_for_submitted g b q count order cookie p bo old c names h = go (old c names h)
   where
-    go : IsOwedFor p c names → IsOwedFor (submitted p b q count cookie) c names
+    go : IsOwedFor p c names → IsOwedFor (submitted p b q count order cookie) c names
     go (vector, field, carried, low, bits, owed) = (
       vector,
       field,
       carried,
       low,
       record { named = bits.named; set = bits.set },
-      λ k nm. ((owed k nm).0, submitted_state g b q count cookie k (count_read field) (owed k nm).0 p (bo.order_state k) (owed k nm).1),
+      λ k nm. ((owed k nm).0, submitted_state g b q count order cookie k (count_read field) (owed k nm).0 p (bo.order_state k) (owed k nm).1),
     )

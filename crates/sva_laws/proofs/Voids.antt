@@ -54,19 +54,19 @@ since_own p n o =
       void = λ k lt h ph. grind (arith, nat_tests);
     }
 
-since_submitted : (t : Bool) (p : Part) (o : Option ℕ) (q count cookie : ℕ) → Since p (submitted_if t p o q count cookie)
-since_submitted true p (Some b) q count cookie = record { resets = omega arith; opened = λ h. inl h; void = λ k lt h ph. inl (was_void k lt h) }
+since_submitted : (t : Bool) (p : Part) (o : Option ℕ) (q count order cookie : ℕ) → Since p (submitted_if t p o q count order cookie)
+since_submitted true p (Some b) q count order cookie = record { resets = omega arith; opened = λ h. inl h; void = λ k lt h ph. inl (was_void k lt h) }
   where
-    was_void : (k : ℕ) → k < p.orders + suc count → (submitted p b q count cookie).order_state k ≡ Void → (k < p.orders) × (p.order_state k ≡ Void)
+    was_void : (k : ℕ) → k < p.orders + suc count → (submitted p b q count order cookie).order_state k ≡ Void → (k < p.orders) × (p.order_state k ≡ Void)
     was_void k lt h = grind (arith, nat_tests)
-since_submitted true p None q count cookie = since_same p
-since_submitted false p o q count cookie = since_same p
+since_submitted true p None q count order cookie = since_same p
+since_submitted false p o q count order cookie = since_same p
 
 since_act : (w : World) (a : Act) (e : ℕ) → Since (w.part e) ((act w a).part e)
 since_act w NewSpace e = since_same (w.part e)
 since_act w (DropSpace s) e = since_same (w.part e)
 since_act w (Map s q f x) e = since_same (w.part e)
-since_act w (Unmap s q count) e = since_submitted (submits w s e) (w.part e) (bound w e s) q count (cookie_of w s e)
+since_act w (Unmap s q count order) e = since_submitted (submits w s e) (w.part e) (bound w e s) q count order (cookie_of w s e)
 since_act w (NewBinding d) e = since_same (w.part e)
 since_act w (NewJob d g) e = since_same (w.part e)
 since_act w (Hold x j) e = since_same (w.part e)

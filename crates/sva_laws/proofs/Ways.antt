@@ -60,13 +60,13 @@ every ms x g n e p o l i wa =
       response = λ y ph a h. response_kept ms g n y p o l (i.resets.unsent (p.response_message y)) (i.bounds.host_group y) (whole_of p i.lasts y) (λ c m. i.resets.finished c y (i.resets.up c m)) (wa.response y) ph a h;
     }
 
-submitted_sent : (g b q count cookie k : ℕ) (p : Part) → Bounds g p → (p.order_state k ≡ Sent → p.message (p.invalidate_message k) ≡ Some (InvalidateOf k)) → (submitted p b q count cookie).order_state k ≡ Sent → p.message (p.invalidate_message k) ≡ Some (InvalidateOf k)
-submitted_sent g b q count cookie k p bo old h = grind (arith, nat_tests)
+submitted_sent : (g b q count order cookie k : ℕ) (p : Part) → Bounds g p → (p.order_state k ≡ Sent → p.message (p.invalidate_message k) ≡ Some (InvalidateOf k)) → (submitted p b q count order cookie).order_state k ≡ Sent → p.message (p.invalidate_message k) ≡ Some (InvalidateOf k)
+submitted_sent g b q count order cookie k p bo old h = grind (arith, nat_tests)
 
-submitted_ways : (g : ℕ) (t : Bool) (p : Part) (o : Option ℕ) (q count cookie : ℕ) → Bounds g p → Ways p → Ways (submitted_if t p o q count cookie)
-submitted_ways g true p (Some b) q count cookie bo wa = record { sent = λ k h. submitted_sent g b q count cookie k p bo (wa.sent k) h; out = wa.out; response = wa.response }
-submitted_ways g true p None q count cookie bo wa = wa
-submitted_ways g false p o q count cookie bo wa = wa
+submitted_ways : (g : ℕ) (t : Bool) (p : Part) (o : Option ℕ) (q count order cookie : ℕ) → Bounds g p → Ways p → Ways (submitted_if t p o q count order cookie)
+submitted_ways g true p (Some b) q count order cookie bo wa = record { sent = λ k h. submitted_sent g b q count order cookie k p bo (wa.sent k) h; out = wa.out; response = wa.response }
+submitted_ways g true p None q count order cookie bo wa = wa
+submitted_ways g false p o q count order cookie bo wa = wa
 
 abbrev pub AllWays : World → Type 0
 AllWays w = (e : ℕ) → Ways (w.part e)
@@ -75,7 +75,7 @@ act_ways : (w : World) (a : Act) → Legal w a → Invariant w → AllWays w →
 act_ways w NewSpace l i h = h
 act_ways w (DropSpace s) l i h = h
 act_ways w (Map s q f x) l i h = h
-act_ways w (Unmap s q count) l i h = λ e. submitted_ways w.bindings (submits w s e) (w.part e) (bound w e s) q count (cookie_of w s e) (i.parts e).bounds (h e)
+act_ways w (Unmap s q count order) l i h = λ e. submitted_ways w.bindings (submits w s e) (w.part e) (bound w e s) q count order (cookie_of w s e) (i.parts e).bounds (h e)
 act_ways w (NewBinding e) l i h = h
 act_ways w (NewJob e g) l i h = h
 act_ways w (Hold x j) l i h = h

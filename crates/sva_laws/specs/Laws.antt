@@ -1,11 +1,11 @@
 -- Laws of the definitions beside the headline: what answers tell, what labels find, what can't occur, and how many there are.
 use Rattle.sva_model.specs.State.{PasidRule}
-use Rattle.std.specs.Prelude.{◌≡◌, ◌≢◌, ◌⊎◌, ◌↔◌, ℕ, zero, suc, ◌+◌, ◌<◌, ◌≤◌, Bool, true, false, Option, Some, None, List, [], ◌∷◌, ◌++◌, length, slice_get, Ok}
+use Rattle.std.specs.Prelude.{◌≡◌, ◌≢◌, ◌⊎◌, ◌↔◌, ℕ, zero, suc, ◌+◌, ◌^◌, ◌<◌, ◌≤◌, Bool, true, false, Option, Some, None, List, [], ◌∷◌, ◌++◌, length, slice_get, Ok}
 use Rattle.sva_step.specs.declared.answers.Answer.{Answer}
-use Rattle.sva_step.specs.declared.answers.Answer.TheVariants.{Frame, FreeFrames, WithheldFrames}
+use Rattle.sva_step.specs.declared.answers.Answer.TheVariants.{Frame, FreeFrames, WithheldFrames, RangeFree, RangeWithheld}
 use Rattle.sva_step.specs.declared.limits.Config.{Config}
 use Rattle.sva_step.specs.declared.steps.Step.{Step}
-use Rattle.sva_step.specs.declared.steps.Step.TheVariants.{Map, Unmap}
+use Rattle.sva_step.specs.declared.steps.Step.TheVariants.{Map, Unmap, UnmapRange}
 use Rattle.sva_model.specs.Words.{count_below, select}
 use Rattle.sva_model.specs.Message.{Code}
 use Rattle.sva_model.specs.Message.Message.{StartMessage, StopMessage, ResetMessage, CompletionMessage, InvalidateMessage, ResponseMessage, RequestMessage, InvalidatedMessage, PageRequestMessage, MarkerMessage, ResetDoneMessage}
@@ -21,8 +21,8 @@ use Rattle.sva_model.specs.State.UseState.{Running, Ended}
 use Rattle.sva_model.specs.State.PageRequestState.{InFlight, Arrived}
 use Rattle.sva_model.specs.States.{is_unreleased, is_out, is_busy, is_outstanding, is_open_group, is_arrived, is_before_invalidating, is_wait, place}
 use Rattle.sva_model.specs.States.Place.{Free, Withheld}
-use Rattle.sva_model.specs.Acts.{binding_of, extent_of}
-use Rattle.sva_model.specs.Labels.{number, outstanding, is_waiting, is_set}
+use Rattle.sva_model.specs.Acts.{binding_of, extent_of, scope_of}
+use Rattle.sva_model.specs.Labels.{number, is_mapped, outstanding, is_waiting, is_set}
 use Rattle.sva_model.specs.Steps.{reply, counts, world_after}
 use Rattle.sva_model.specs.Claims.{Fits, Usable, IsPresent, IsAt, IsWithheld, IsDivided, IsMatched, IsBearer}
 
@@ -87,6 +87,34 @@ AlwaysTold =
     → Fits config
     → reply (world_after rule config steps) (Unmap of_space page count) ≡ Ok answer
     → IsTold rule config steps of_space page count answer
+
+-- What an unmapping of a range that is accepted answers: how many pages of the range were mapped just before, whose frames it
+-- takes out; and each of these frames is said to be free exactly where it is free after the step, and withheld exactly where
+-- the look back says so. No page of the range is mapped then.
+pub record IsToldOfRange (rule : PasidRule) (config : Config) (steps : List Step) (of_space page order : ℕ) (answer : Answer) : Type 0 where
+  pub space : ℕ
+  pub numbered : number (world_after rule config steps) space ≡ of_space
+  pub frames : ℕ
+  pub counted : frames ≡ count_below (2 ^ order) (λ k. is_mapped (world_after rule config steps) space (page + k))
+  pub said : (answer ≡ RangeFree frames) ⊎ (answer ≡ RangeWithheld frames)
+  pub free :
+      (k f : ℕ)
+      → k < 2 ^ order
+      → IsAt (world_after rule config steps) f space (page + k)
+      → (answer ≡ RangeFree frames) ↔ (place (world_after rule config (steps ++ UnmapRange of_space page order ∷ [])) f ≡ Free)
+  pub withheld :
+      (k f : ℕ)
+      → k < 2 ^ order
+      → IsAt (world_after rule config steps) f space (page + k)
+      → (answer ≡ RangeWithheld frames) ↔ IsWithheld rule config (steps ++ UnmapRange of_space page order ∷ []) f
+  pub gone : (k : ℕ) → k < 2 ^ order → is_mapped (world_after rule config (steps ++ UnmapRange of_space page order ∷ [])) space (page + k) ≡ false
+
+abbrev pub AlwaysToldOfRange : Type 0
+AlwaysToldOfRange =
+    (rule : PasidRule) (config : Config) (steps : List Step) (of_space page order : ℕ) (answer : Answer)
+    → Fits config
+    → reply (world_after rule config steps) (UnmapRange of_space page order) ≡ Ok answer
+    → IsToldOfRange rule config steps of_space page order answer
 
 -- What a mapping that is accepted answers: a frame that was free just before, and that is at the page after the step.
 abbrev pub AlwaysGiven : Type 0
@@ -174,8 +202,8 @@ pub record IsCarried (ms : Mappings) (p : Part) : Type 0 where
   -- mapping may; or no translation, which has neither flag
   pub completion : (c r m : ℕ) → p.message c ≡ Some (CompletionOf r (Some m)) → p.carried c ≡ CompletionMessage (p.request_tag r) (ms.frame m) true (ms.write m)
   pub no_translation : (c r : ℕ) → p.message c ≡ Some (CompletionOf r None) → p.carried c ≡ CompletionMessage (p.request_tag r) 0 false false
-  -- an Invalidate: the ITag of its order, the PASID of the order's binding, and one page or all
-  pub invalidate : (c k : ℕ) → p.message c ≡ Some (InvalidateOf k) → p.carried c ≡ InvalidateMessage (p.itag k) (p.pasid (binding_of (p.order k))) (extent_of (p.order k))
+  -- an Invalidate: the ITag of its order, the PASID of the order's binding, and its range by its code, or all pages
+  pub invalidate : (c k : ℕ) → p.message c ≡ Some (InvalidateOf k) → p.carried c ≡ InvalidateMessage (p.itag k) (p.pasid (binding_of (p.order k))) (scope_of (extent_of (p.order k)))
   -- a Response: the PASID under which the host filed its group, the group's index, and the code
   pub response : (c g : ℕ) (code : Code) → p.message c ≡ Some (ResponseOf g code) → p.carried c ≡ ResponseMessage (p.pasid (p.filed_under g)) (p.index g) code
   pub request : (c r : ℕ) → p.message c ≡ Some (RequestOf r) → p.carried c ≡ RequestMessage (p.request_tag r) (p.pasid (p.request_binding r)) (p.request_page r)

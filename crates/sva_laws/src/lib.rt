@@ -2,7 +2,7 @@
 #![tactic(auto)]
 
 ghost use Rattle.sva_model.specs.Claims.{AlwaysAgrees};
-ghost use Rattle.sva_laws.specs.Laws.{AlwaysOwned, AlwaysPresentOrWithheld, AlwaysMatched, AlwaysHoldsJobs, AlwaysDivided, AlwaysAddsUp, AlwaysWithheldExactly, FreeByTheLastAnswer, AlwaysTold, AlwaysGiven, AlwaysLabelled, AlwaysFound, AlwaysCarried, AlwaysUnderWay, NeverOccurring, AlwaysLimited};
+ghost use Rattle.sva_laws.specs.Laws.{AlwaysOwned, AlwaysPresentOrWithheld, AlwaysMatched, AlwaysHoldsJobs, AlwaysDivided, AlwaysAddsUp, AlwaysWithheldExactly, FreeByTheLastAnswer, AlwaysTold, AlwaysToldOfRange, AlwaysGiven, AlwaysLabelled, AlwaysFound, AlwaysCarried, AlwaysUnderWay, NeverOccurring, AlwaysLimited};
 ghost use Rattle.sva_laws.specs.UnitSteps.{AlwaysCountsResetDones, AlwaysChangesOrders, AlwaysVoidByReset, AlwaysNotesMarkers, AlwaysGivesCookies};
 
 /// The headline. After every list of steps, however late messages come in a permitted order: each translation that an
@@ -29,7 +29,7 @@ pub fn page_requests()
 {}
 
 /// Frames: in exactly one place; withheld exactly as long as an endpoint owes an answer, and free after the very step that
-/// ends it. An unmapping answers truly which frames it took out, and whether they are free or withheld after it; a mapping
+/// ends it. An unmapping answers truly which frames it took out, or how many, and whether they are free or withheld after it; a mapping
 /// answers a frame that was free before it, and is at the page after it.
 pub fn frames()
     ensures divided { AlwaysDivided }
@@ -37,6 +37,7 @@ pub fn frames()
     ensures withheld { AlwaysWithheldExactly }
     ensures freed { FreeByTheLastAnswer }
     ensures told { AlwaysTold }
+    ensures told_of_range { AlwaysToldOfRange }
     ensures given { AlwaysGiven }
 {}
 

@@ -4,7 +4,7 @@ use Rattle.sva_laws.proofs.Claimed.{always_agrees}
 use Rattle.sva_laws.proofs.Limits.{adds_up}
 use Rattle.sva_laws.proofs.Withheld.{config_kept}
 use Rattle.sva_laws.proofs.Freed.{free_by}
-use Rattle.sva_laws.proofs.Told.{told, given}
+use Rattle.sva_laws.proofs.Told.{told, told_of_range, given}
 use Rattle.sva_laws.proofs.frames.Goals as goal
 
 pub returns-clause-divided : goal.returns-clause-divided
@@ -24,3 +24,6 @@ returns-clause-told c = λ rule config steps of_space page count answer fits acc
 
 pub returns-clause-given : goal.returns-clause-given
 returns-clause-given c = λ rule config steps of_space page write answer fits accepted. given rule config steps of_space page write answer accepted
+
+pub returns-clause-told_of_range : goal.returns-clause-told_of_range
+returns-clause-told_of_range c = λ rule config steps of_space page order answer fits accepted. told_of_range rule config steps of_space page order answer accepted

@@ -64,6 +64,8 @@ pub record Invariant (w : World) : Type 0 where
   pub mapped : Mapped w
   pub parts : (e : ℕ) → PartInvariant w.mappings w.config.endpoints w.bindings w.messages e (w.part e)
   pub shared : w.rule ≡ PerSpace → Shared w.part
+  -- a binding is at its own endpoint alone
+  pub homed : (e b : ℕ) → (w.part e).stage b ≢ Unbound → w.home b ≡ e
 
 -- what the mappings say to an endpoint's act
 pub leads : (w : World) → Mapped w → Owners.Leads w.mappings

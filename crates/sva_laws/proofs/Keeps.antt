@@ -14,6 +14,7 @@ use Rattle.sva_model.specs.State.Phase.{Open}
 use Rattle.sva_model.specs.States.{is_unreleased, is_outstanding, is_open, is_before_invalidating, answered, is_free, place_at, place_by, place_of_gone, is_free_place}
 use Rattle.sva_model.specs.Acts.{Act, Own, act, own, sends, bound, submits, submits_at, owed_by, part_after_unmap, submitted, submitted_if, cookie_of, gone_if, in_range, without_pages}
 use Rattle.sva_model.specs.Acts.Act.{NewSpace, DropSpace, Map, Unmap, NewBinding, NewJob, Hold, LetGo, At}
+use Rattle.sva_model.specs.State.Stage.{Unbound}
 use Rattle.sva_laws.proofs.Words.{put-same, put-other, ℕ_cases, all_below-true}
 use Rattle.sva_laws.proofs.Legal.{LegalOwn}
 use Rattle.sva_laws.proofs.Resets
@@ -31,10 +32,11 @@ use Rattle.sva_laws.proofs.Submitted
 use Rattle.sva_laws.proofs.Shared.{Shared, IsOf, WasSo, IsNew, binds, bound_space, bound_pasid, own_from, submitted_from, shared_still, shared_more}
 use Rattle.sva_laws.proofs.Unmap as Unmapping
 
--- a space is bound while it is live; where PASIDs are one for each space, to one that is the space's
-abbrev pub BoundSpace : World → Own → Type 0
-BoundSpace w (Own.Bind b s t) = (w.is_live s ≡ true) × (w.rule ≡ PerSpace → IsOf w.part s t)
-BoundSpace w _ = Unit {0}
+-- a space is bound while it is live, at the binding's own endpoint; where PASIDs are one for each space, to one that is the
+-- space's
+abbrev pub BoundSpace : World → (e : ℕ) → Own → Type 0
+BoundSpace w e (Own.Bind b s t) = (w.is_live s ≡ true) × (w.rule ≡ PerSpace → IsOf w.part s t) × (w.home b ≡ e)
+BoundSpace w e _ = Unit {0}
 
 -- a job is answered once it is out of the worker's hand
 abbrev pub LetsGo : World → (e : ℕ) → Own → Type 0
@@ -52,7 +54,7 @@ Legal w (NewBinding e) = Unit {0}
 Legal w (NewJob e g) = Unit {0}
 Legal w (Hold x j) = (j < w.jobs) × ((w.part (w.job j).endpoint).host_group (w.job j).group ≡ InHand x)
 Legal w (LetGo x) = Unit {0}
-Legal w (At e o) = (e < w.config.endpoints) × (LegalOwn w.mappings w.bindings (w.part e) o × BoundSpace w o) × LetsGo w e o
+Legal w (At e o) = (e < w.config.endpoints) × (LegalOwn w.mappings w.bindings (w.part e) o × BoundSpace w e o) × LetsGo w e o
 
 -- a table with one row replaced keeps what the old row and the new one have
 pub put_keeps : {A : Type 0} (P : ℕ → A → Type 0) (f : ℕ → A) (i : ℕ) (v : A) → P i v → ((k : ℕ) → P k (f k)) → (k : ℕ) → P k (put f i v k)
@@ -131,10 +133,10 @@ later ms x g h n m e p a b i =
       groups = i.groups;
     }
 
-bound_live_own : (w : World) (e : ℕ) (o : Own) → LegalOwn w.mappings w.bindings (w.part e) o → BoundSpace w o → (b : ℕ) → (is_unreleased ((w.part e).stage b) ≡ true → w.is_live ((w.part e).space b) ≡ true) → is_unreleased ((own (w.part e) w.messages o).stage b) ≡ true → w.is_live ((own (w.part e) w.messages o).space b) ≡ true
+bound_live_own : (w : World) (e : ℕ) (o : Own) → LegalOwn w.mappings w.bindings (w.part e) o → BoundSpace w e o → (b : ℕ) → (is_unreleased ((w.part e).stage b) ≡ true → w.is_live ((w.part e).space b) ≡ true) → is_unreleased ((own (w.part e) w.messages o).stage b) ≡ true → w.is_live ((own (w.part e) w.messages o).space b) ≡ true
 bound_live_own w e o l bs b old h = go o bs (own_from w.mappings w.bindings w.messages (w.part e) o l b h)
   where
-    go : (x : Own) → BoundSpace w x → WasSo (w.part e) (own (w.part e) w.messages o) b ⊎ IsNew x (own (w.part e) w.messages o) b → w.is_live ((own (w.part e) w.messages o).space b) ≡ true
+    go : (x : Own) → BoundSpace w e x → WasSo (w.part e) (own (w.part e) w.messages o) b ⊎ IsNew x (own (w.part e) w.messages o) b → w.is_live ((own (w.part e) w.messages o).space b) ≡ true
     go x bs (inl k) = ap w.is_live k.2 ∙ old k.0
     go (Own.Bind d s t) bs (inr k) = ap w.is_live k.2 ∙ bs.0
     go _ bs (inr k) = absurd (cc (k.0))
@@ -245,9 +247,19 @@ at_shared w e o l i rule =
     (λ x b h. inl (h, refl, refl)))
     (i.shared rule)
   where
-    its : (x : Own) → BoundSpace w x → binds x ≡ true → IsOf w.part (bound_space x) (bound_pasid x)
+    its : (x : Own) → BoundSpace w e x → binds x ≡ true → IsOf w.part (bound_space x) (bound_pasid x)
     its (Own.Bind b s t) bs h = bs.1 rule
     its _ bs h = absurd (cc (h))
+
+-- an act begins a binding only at the binding's own endpoint
+homed_own : (w : World) (e : ℕ) (o : Own) → LegalOwn w.mappings w.bindings (w.part e) o → BoundSpace w e o → (b : ℕ) → ((w.part e).stage b ≢ Unbound → w.home b ≡ e) → (own (w.part e) w.messages o).stage b ≢ Unbound → w.home b ≡ e
+homed_own w e o l bs b old h = grind (arith, nat_tests)
+
+at_homed : (w : World) (e : ℕ) (o : Own) → Legal w (At e o) → Invariant w → (x b : ℕ) → ((act w (At e o)).part x).stage b ≢ Unbound → w.home b ≡ x
+at_homed w e o l i =
+    put_keeps (λ x p. (b : ℕ) → p.stage b ≢ Unbound → w.home b ≡ x) w.part e (own (w.part e) w.messages o)
+    (λ b h. homed_own w e o l.1.0 l.1.1 b (i.homed e b) h)
+    i.homed
 
 at_keeps : (w : World) (e : ℕ) (o : Own) → Legal w (At e o) → Invariant w → Invariant (act w (At e o))
 at_keeps w e o l i =
@@ -271,6 +283,7 @@ at_keeps w e o l i =
           };
       parts = at_parts w e o l i;
       shared = λ rule. at_shared w e o l i rule;
+      homed = at_homed w e o l i;
     }
 
 -- the world acts that change no mapping and no part
@@ -293,6 +306,7 @@ new_space_keeps w i =
           };
       parts = i.parts;
       shared = i.shared;
+      homed = i.homed;
     }
   where
     live_put : (s : ℕ) → w.is_live s ≡ true → put w.is_live w.spaces true s ≡ true
@@ -320,7 +334,11 @@ new_binding_keeps w e i =
           };
       parts = λ x. later w.mappings w.config.endpoints w.bindings (suc w.bindings) w.messages w.messages x (w.part x) (omega arith) (omega arith) (i.parts x);
       shared = i.shared;
+      homed = λ x b h. new_home x b h;
     }
+  where
+    new_home : (x b : ℕ) → (w.part x).stage b ≢ Unbound → put w.home w.bindings e b ≡ x
+    new_home x b h = grind (arith, nat_tests, i.homed x b, (i.parts x).bounds.stage b)
 
 same_keeps : (w : World) (jobs : ℕ) (job : ℕ → JobName) (hand : ℕ → Option ℕ) → Hands (record w { jobs = jobs; job = job; hand = hand }) → Invariant w → Invariant (record w { jobs = jobs; job = job; hand = hand })
 same_keeps w jobs job hand hs i =
@@ -341,6 +359,7 @@ same_keeps w jobs job hand hs i =
           };
       parts = i.parts;
       shared = i.shared;
+      homed = i.homed;
     }
 
 -- A frame that is free is at no page, and nobody owes an answer for it.
@@ -417,6 +436,7 @@ map_keeps w s q f x l i =
       hands = record { made = i.hands.made; held = i.hands.held };
       mapped = map_mapped w s q f x l i;
       shared = i.shared;
+      homed = i.homed;
       parts =
           λ e.
           record {
@@ -609,8 +629,14 @@ unmap_keeps w s q count order i =
           (λ b m age a sp sa. Unmapping.unmap_safe w s q count order e b m age i a sp sa)
           (i.parts e);
       shared = λ rule. shared_still w.part (part_after_unmap w s q count order) (λ e b h. submitted_from (submits w s e) (w.part e) (bound w e s) q count order (cookie_of w s e) b h) (i.shared rule);
+      homed = λ e b h. sub_home e b (submits w s e) (bound w e s) h;
     }
   where
+    sub_home : (e b : ℕ) (t : Bool) (o : Option ℕ) → (submitted_if t (w.part e) o q count order (cookie_of w s e)).stage b ≢ Unbound → w.home b ≡ e
+    sub_home e b true (Some d) h = i.homed e b h
+    sub_home e b true None h = i.homed e b h
+    sub_home e b false o h = i.homed e b h
+
     sub_live : (e b : ℕ) (t : Bool) (o : Option ℕ) → is_unreleased ((submitted_if t (w.part e) o q count order (cookie_of w s e)).stage b) ≡ true → w.is_live ((submitted_if t (w.part e) o q count order (cookie_of w s e)).space b) ≡ true
     sub_live e b true (Some d) h = i.mapped.bound_live e b h
     sub_live e b true None h = i.mapped.bound_live e b h
@@ -640,6 +666,7 @@ drop_keeps w s l i =
           (λ t pr. absurd (l e b (Unmapping.active_unreleased ((w.part e).stage b) a) (sym sp ∙ same_space m t))))
           (i.parts e);
       shared = i.shared;
+      homed = i.homed;
     }
   where
     was_live : (x : ℕ) → put w.is_live s false x ≡ true → w.is_live x ≡ true

@@ -11,7 +11,7 @@ use Rattle.sva_model.specs.States.{is_unreleased, is_done, is_free, is_open_grou
 use Rattle.sva_model.specs.Refusals.{refusals, unbind_refusals, advance_refusals, is_queue_short}
 use Rattle.sva_model.specs.Outcomes.{outcome, unbind_outcome, advance_outcome}
 use Rattle.sva_model.specs.Labels
-use Rattle.sva_laws.proofs.Words.{none_is, some_the, lowest_passes, any_below-false, not_true}
+use Rattle.sva_laws.proofs.Words.{put-same, none_is, some_the, lowest_passes, any_below-false, not_true}
 use Rattle.sva_laws.proofs.Bounds.{Bounds}
 use Rattle.sva_laws.proofs.Invariant.{Invariant}
 use Rattle.sva_laws.proofs.Pasids.{every_rule}
@@ -53,7 +53,7 @@ bind w e n i h =
               (is.low w e s t given).1,
               none,
             ),
-            (and_right (Labels.is_number w w.spaces n) (w.is_live s) (not_true (Labels.is_space w n) h.1.0), λ r. is.its w e s t r refl i given),
+            (and_right (Labels.is_number w w.spaces n) (w.is_live s) (not_true (Labels.is_space w n) h.1.0), λ r. is.its w e s t r refl i given, put-same w.home w.bindings e),
           ),
           tt,
         ),

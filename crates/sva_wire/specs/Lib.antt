@@ -1,7 +1,2 @@
-pub mod Finding
-pub mod Replying
-pub mod Causes
-pub mod Moves
-pub mod Outcomes
+
 pub mod Host
-pub mod SideBySide

@@ -21,7 +21,7 @@ use Rattle.sva_model.specs.Wire.StageWire.{LiveWire, StoppingWire, DrainingWire,
 use Rattle.sva_model.specs.Wire.UseWire.{RunningWire, DeadWire}
 use Rattle.sva_model.specs.Wire.BusyWire.{Fresh, Counting}
 use Rattle.sva_model.specs.Wire.Descriptor.{RangeDescriptor, PasidDescriptor, WaitDescriptor}
-use Rattle.sva_wire.specs.Finding.{pages_in, page_at, bound_at, is_before_invalidating, part_of, device_of, unit_of, is_wait_done, submits, is_at_page, tag_at, covers}
+use Rattle.sva_labels.specs.Finding.{pages_in, page_at, bound_at, is_before_invalidating, part_of, device_of, unit_of, is_wait_done, submits, is_at_page, tag_at, covers}
 
 pub data Move : Type 0 where
   -- spaces and frames

@@ -9,7 +9,7 @@ use Rattle.sva_model.specs.Message.Code.{InvalidCode}
 use Rattle.sva_model.specs.Replies.{code_of_verdict, is_success, unseen}
 use Rattle.sva_model.specs.Wire.{Wire, PageWire, BindingWire, StageWire, AskWire, JobWire}
 use Rattle.sva_model.specs.Wire.StageWire.{LiveWire, StoppingWire, DrainingWire}
-use Rattle.sva_wire.specs.Finding.{pages_in, page_at, is_mapped, binding_of, unit_of}
+use Rattle.sva_labels.specs.Finding.{pages_in, page_at, is_mapped, binding_of, unit_of}
 
 -- the code of the response; none is sent at a unit in reset, or for a binding that is Lost, Quiet or released
 abbrev pub response_by : Bool → StageWire → Verdict → Option Code

@@ -1,6 +1,6 @@
 //! Runs that are worked out, by labels and by names side by side.
 
-ghost use Rattle.sva_wire.specs.SideBySide.{SpacesAndFrames, TwoBindings, FirstTranslation};
+ghost use Rattle.sva_labels.specs.SideBySide.{SpacesAndFrames, TwoBindings, FirstTranslation};
 
 /// Runs of translations.
 pub fn translations()

@@ -15,8 +15,8 @@ use Rattle.sva_model.specs.Refusals.{Cause, page_range}
 use Rattle.sva_model.specs.Wire.{Wire, PageWire, BindingWire, StageWire, PartWire, DeviceWire, UnitWire, TranslationWire, TakenWire, Descriptor, JobWire, FlightWire}
 use Rattle.sva_model.specs.Wire.StageWire.{LiveWire, StoppingWire, DrainingWire, InvalidatingWire, QuietWire, LostWire}
 use Rattle.sva_model.specs.Wire.Descriptor.{RangeDescriptor, PasidDescriptor, WaitDescriptor}
-use Rattle.sva_wire.specs.Finding.{is_space, pages_in, is_mapped, page_at, lowest_free, free_from, binding_of, bound_at, is_bound, pasid_for, part_of, device_of, unit_of, is_wait_done, lowest_label, has_room, submits, has_open_group, is_live, pasid_state, cached, is_request_of, is_use_of, is_unfinished_of, outstanding, group_at, use_at, taken_at, waits_for_use, held_by, flight_of, may_deliver}
-use Rattle.sva_wire.specs.Replying.{replies_success, responds, newly_mapped, is_write_of_read_only, space_of_job}
+use Rattle.sva_labels.specs.Finding.{is_space, pages_in, is_mapped, page_at, lowest_free, free_from, binding_of, bound_at, is_bound, pasid_for, part_of, device_of, unit_of, is_wait_done, lowest_label, has_room, submits, has_open_group, is_live, pasid_state, cached, is_request_of, is_use_of, is_unfinished_of, outstanding, group_at, use_at, taken_at, waits_for_use, held_by, flight_of, may_deliver}
+use Rattle.sva_labels.specs.Replying.{replies_success, responds, newly_mapped, is_write_of_read_only, space_of_job}
 
 -- Causes that several steps ask.
 

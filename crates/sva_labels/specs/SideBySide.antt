@@ -9,7 +9,7 @@ use Rattle.sva_model.specs.Steps.{Reply, reply, next}
 use Rattle.sva_model.specs.Wire.{Wire, wire}
 use Rattle.sva_model.specs.Rows.{Line, config, steps_of}
 use Rattle.sva_model.specs.RowsOfTranslations.{spaces_and_frames, two_bindings, first_translation}
-use Rattle.sva_wire.specs.Host.{reply_of, next_of}
+use Rattle.sva_labels.specs.Host.{reply_of, next_of}
 
 -- an answer, and what is kept after it
 pub record Turn : Type 0 where

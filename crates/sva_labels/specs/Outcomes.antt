@@ -21,9 +21,9 @@ use Rattle.sva_model.specs.Wire.StageWire.{LiveWire, StoppingWire, DrainingWire,
 use Rattle.sva_model.specs.Wire.UseWire.{RunningWire, DeadWire}
 use Rattle.sva_model.specs.Wire.BusyWire.{Fresh, Counting}
 use Rattle.sva_model.specs.Wire.Descriptor.{RangeDescriptor, PasidDescriptor, WaitDescriptor}
-use Rattle.sva_wire.specs.Finding.{pages_in, page_at, is_mapped, frames_of, lowest_free, free_from, binding_of, bearer, pasid_for, is_live, part_of, device_of, unit_of, lowest_label, is_some_busy, cached, is_at_page, use_at, tag_at, group_at, busy_at, held_by, flight_of}
-use Rattle.sva_wire.specs.Replying.{response_to, replies_success, newly_mapped, is_write_asked, space_of_job}
-use Rattle.sva_wire.specs.Moves.{Move, targets_of, pasid_or_0, extent_in, filed, is_begun}
+use Rattle.sva_labels.specs.Finding.{pages_in, page_at, is_mapped, frames_of, lowest_free, free_from, binding_of, bearer, pasid_for, is_live, part_of, device_of, unit_of, lowest_label, is_some_busy, cached, is_at_page, use_at, tag_at, group_at, busy_at, held_by, flight_of}
+use Rattle.sva_labels.specs.Replying.{response_to, replies_success, newly_mapped, is_write_asked, space_of_job}
+use Rattle.sva_labels.specs.Moves.{Move, targets_of, pasid_or_0, extent_in, filed, is_begun}
 
 -- what is answered, and what is moved
 pub record Result : Type 0 where

@@ -1,0 +1,8 @@
+
+pub mod Lists
+pub mod Parts
+pub mod Pages
+pub mod Spaces
+pub mod Places
+pub mod Numbers
+pub mod Idle

@@ -1,0 +1,165 @@
+-- Tables as lists, and the numbers that pass: what is read back from them, and what a change of one entry does.
+use Rattle.std.proofs.Common.{◌≡◌, ◌≢◌, ◌⊎◌, inl, inr, refl, ap, ap₂, sym, ◌∙◌, ℕ, zero, suc, ◌+◌, ◌<◌, Bool, true, false, arith, length-append, get_or}
+use Rattle.std.specs.Prelude.{if◌then◌else◌, ◌==◌, List, [], ◌∷◌, ◌++◌, map, length, replicate, slice_set}
+use Rattle.std.proofs.lemmas.List.{set-append_left, set_at, set_past, get_or_at, get_or_append_left, get_or-replicate, replicate_more}
+use Rattle.std.proofs.lemmas.Bool.Decides.{nat_tests}
+use Rattle.sva_model.specs.Words.{step_lowest, lowest, any_below, all_below, count_below, select, tabulate}
+use Rattle.sva_model.specs.Wire.{PlaceWire}
+use Rattle.sva_laws.proofs.Words.{ℕ_cases}
+use Rattle.sva_wire.specs.Host.{is_free, lowest_free}
+
+-- Tables.
+
+pub tabulate_same : {A : Type 0} (n : ℕ) (f g : ℕ → A) → ((k : ℕ) → k < n → f k ≡ g k) → tabulate n f ≡ tabulate n g
+unfolding tabulate
+tabulate_same zero f g h = refl
+tabulate_same (suc n) f g h = ap₂ (λ xs x. xs ++ x ∷ []) (tabulate_same n f g (λ k l. h k (omega arith))) (h n (omega arith))
+
+pub tabulate_length : {A : Type 0} (n : ℕ) (f : ℕ → A) → length (tabulate n f) ≡ n
+unfolding tabulate
+tabulate_length zero f = refl
+tabulate_length (suc n) f =
+    let rest : length (tabulate n f) ≡ n = tabulate_length n f in
+    length-append (tabulate n f) (f n ∷ []) ∙ omega arith
+
+-- what stands at a number
+pub tabulate_at : {A : Type 0} (n : ℕ) (f : ℕ → A) (k : ℕ) (d : A) → k < n → get_or (tabulate n f) k d ≡ f k
+unfolding tabulate
+tabulate_at zero f k d l = absurd (omega arith)
+tabulate_at (suc n) f k d l = go (ℕ_cases k n) (λ m. tabulate_at n f k d m)
+  where
+    go : (k ≡ n) ⊎ (k ≢ n) → (k < n → get_or (tabulate n f) k d ≡ f k) → get_or (tabulate n f ++ f n ∷ []) k d ≡ f k
+    go (inl e) rest = get_or_at (tabulate n f) (f n) [] d k (tabulate_length n f ∙ sym e) ∙ ap f (sym e)
+    go (inr ne) rest =
+        let len : length (tabulate n f) ≡ n = tabulate_length n f in
+        get_or_append_left (tabulate n f) (f n ∷ []) d k (omega arith) ∙ rest (omega arith)
+
+pub tabulate_all : {A : Type 0} (n : ℕ) (f : ℕ → A) (x : A) → tabulate n f ≡ replicate n x → (k : ℕ) → k < n → f k ≡ x
+tabulate_all n f x h k l = sym (tabulate_at n f k x l) ∙ ap (λ xs. get_or xs k x) h ∙ get_or-replicate n k x x l
+
+-- the same at each number
+pub tabulate_one : {A : Type 0} (n : ℕ) (x : A) → tabulate n (λ k. x) ≡ replicate n x
+unfolding tabulate
+tabulate_one zero x = refl
+tabulate_one (suc n) x =
+    let more : n + 1 ≡ suc n = omega arith in
+    ap (λ xs. xs ++ x ∷ []) (tabulate_one n x) ∙ replicate_more n x ∙ ap (λ k. replicate k x) more
+
+-- a table with another entry at one number, which may be past its end
+pub tabulate_set : {A : Type 0} (n : ℕ) (g h : ℕ → A) (f : ℕ) (v : A) → h f ≡ v → ((k : ℕ) → k ≢ f → h k ≡ g k) → tabulate n h ≡ slice_set (tabulate n g) f v
+unfolding tabulate
+tabulate_set zero g h f v here other = sym (set_past [] f v (omega arith))
+tabulate_set (suc n) g h f v here other = go (ℕ_cases f n) (tabulate_set n g h f v here other)
+  where
+    below_or_past : f ≢ n → tabulate n h ≡ slice_set (tabulate n g) f v → (f < n) ⊎ (n < f) → tabulate n h ++ h n ∷ [] ≡ slice_set (tabulate n g ++ g n ∷ []) f v
+    below_or_past ne rest (inl l) =
+        let len : length (tabulate n g) ≡ n = tabulate_length n g in
+        ap₂ (λ xs x. xs ++ x ∷ []) rest (other n (omega arith)) ∙ sym (set-append_left (tabulate n g) (g n ∷ []) f v (omega arith))
+    below_or_past ne rest (inr l) =
+        let len : length (tabulate n g) ≡ n = tabulate_length n g in
+        let more : length (tabulate n g ++ g n ∷ []) ≡ n + 1 = length-append (tabulate n g) (g n ∷ []) ∙ omega arith in
+        ap₂ (λ xs x. xs ++ x ∷ []) (tabulate_same n h g (λ k m. other k (omega arith))) (other n (omega arith)) ∙ sym (set_past (tabulate n g ++ g n ∷ []) f v (omega arith))
+
+    go : (f ≡ n) ⊎ (f ≢ n) → tabulate n h ≡ slice_set (tabulate n g) f v → tabulate n h ++ h n ∷ [] ≡ slice_set (tabulate n g ++ g n ∷ []) f v
+    go (inl e) rest =
+        ap₂ (λ xs x. xs ++ x ∷ []) (tabulate_same n h g (λ k m. other k (omega arith))) (ap h (sym e) ∙ here)
+        ∙ sym (set_at (tabulate n g) (g n) [] v f (tabulate_length n g ∙ sym e))
+    go (inr ne) rest = below_or_past ne rest (grind arith)
+
+-- The numbers that pass.
+
+pub select_same : (n : ℕ) (p q : ℕ → Bool) → ((k : ℕ) → k < n → p k ≡ q k) → select n p ≡ select n q
+unfolding select
+select_same zero p q h = refl
+select_same (suc n) p q h = ap₂ (λ xs b. xs ++ (if b then n ∷ [] else [])) (select_same n p q (λ k l. h k (omega arith))) (h n (omega arith))
+
+pub select_length : (n : ℕ) (p : ℕ → Bool) → length (select n p) ≡ count_below n p
+unfolding select count_below
+select_length zero p = refl
+select_length (suc n) p = go (p n) (select_length n p)
+  where
+    go : (b : Bool) → length (select n p) ≡ count_below n p → length (select n p ++ (if b then n ∷ [] else [])) ≡ (if b then suc (count_below n p) else count_below n p)
+    go true h = length-append (select n p) (n ∷ []) ∙ omega (arith, h)
+    go false h = length-append (select n p) [] ∙ omega (arith, h)
+
+both_empty : {A : Type 0} (xs ys : List A) → xs ++ ys ≡ [] → (xs ≡ []) × (ys ≡ [])
+both_empty [] ys h = (refl, h)
+both_empty (x ∷ xs) ys h = absurd (cc)
+
+pub map_empty : {A B : Type 0} (f : A → B) (xs : List A) → map f xs ≡ [] → xs ≡ []
+map_empty f [] h = refl
+map_empty f (x ∷ xs) h = absurd (cc)
+
+pub select_empty : (n : ℕ) (p : ℕ → Bool) → select n p ≡ [] → (k : ℕ) → k < n → p k ≡ false
+unfolding select
+select_empty zero p h k l = absurd (omega arith)
+select_empty (suc n) p h k l = go (p n) refl (both_empty (select n p) (if p n then n ∷ [] else []) h) (ℕ_cases k n) (λ e. select_empty n p e k)
+  where
+    go : (b : Bool) → p n ≡ b → (select n p ≡ []) × ((if b then n ∷ [] else []) ≡ []) → (k ≡ n) ⊎ (k ≢ n) → (select n p ≡ [] → k < n → p k ≡ false) → p k ≡ false
+    go true e x c rest = absurd (cc (x.1))
+    go false e x (inl c) rest = ap p c ∙ e
+    go false e x (inr ne) rest = rest x.0 (omega arith)
+
+pub lowest_same : (n : ℕ) (p q : ℕ → Bool) → ((k : ℕ) → k < n → p k ≡ q k) → lowest n p ≡ lowest n q
+unfolding lowest
+lowest_same zero p q h = refl
+lowest_same (suc n) p q h = ap₂ (λ l b. step_lowest (l == n) l n b) (lowest_same n p q (λ k l. h k (omega arith))) (h n (omega arith))
+
+pub all_same : (n : ℕ) (p q : ℕ → Bool) → ((k : ℕ) → k < n → p k ≡ q k) → all_below n p ≡ all_below n q
+unfolding all_below
+all_same zero p q h = refl
+all_same (suc n) p q h = ap₂ (λ b c. if c then b else false) (all_same n p q (λ k l. h k (omega arith))) (h n (omega arith))
+
+pub none_below : (n : ℕ) (p : ℕ → Bool) → ((k : ℕ) → k < n → p k ≡ false) → any_below n p ≡ false
+unfolding any_below
+none_below zero p h = refl
+none_below (suc n) p h = ap₂ (λ b c. if c then true else b) (none_below n p (λ k l. h k (omega arith))) (h n (omega arith))
+
+pub each_below : (n : ℕ) (p : ℕ → Bool) → ((k : ℕ) → k < n → p k ≡ true) → all_below n p ≡ true
+unfolding all_below
+each_below zero p h = refl
+each_below (suc n) p h = ap₂ (λ b c. if c then b else false) (each_below n p (λ k l. h k (omega arith))) (h n (omega arith))
+
+-- The lowest free place.
+
+one_more : (l n : ℕ) (b t : Bool) → (l == n) ≡ t → 1 + step_lowest t l n b ≡ step_lowest (suc l == suc n) (suc l) (suc n) b
+one_more l n b true h = go b (next h)
+  where
+    next : (l == n) ≡ true → (suc l == suc n) ≡ true
+    next h = grind (arith, nat_tests)
+
+    go : (b : Bool) → (suc l == suc n) ≡ true → 1 + step_lowest true l n b ≡ step_lowest (suc l == suc n) (suc l) (suc n) b
+    go true e = omega arith ∙ sym (ap (λ t. step_lowest t (suc l) (suc n) true) e)
+    go false e = omega arith ∙ sym (ap (λ t. step_lowest t (suc l) (suc n) false) e)
+one_more l n b false h = go (next h)
+  where
+    next : (l == n) ≡ false → (suc l == suc n) ≡ false
+    next h = grind (arith, nat_tests)
+
+    go : (suc l == suc n) ≡ false → 1 + step_lowest false l n b ≡ step_lowest (suc l == suc n) (suc l) (suc n) b
+    go e = omega arith ∙ sym (ap (λ t. step_lowest t (suc l) (suc n) b) e)
+
+differ : (n : ℕ) → (0 == suc n) ≡ false
+differ n = grind (arith, nat_tests)
+
+lowest_free_push : (xs : List PlaceWire) (x : PlaceWire) → lowest_free (xs ++ x ∷ []) ≡ step_lowest (lowest_free xs == length xs) (lowest_free xs) (length xs) (is_free x)
+lowest_free_push [] x = go (is_free x)
+  where
+    go : (b : Bool) → (if b then 0 else 1 + 0) ≡ step_lowest true 0 0 b
+    go true = refl
+    go false = refl
+lowest_free_push (y ∷ ys) x = go (is_free y) (lowest_free_push ys x)
+  where
+    go : (b : Bool) → lowest_free (ys ++ x ∷ []) ≡ step_lowest (lowest_free ys == length ys) (lowest_free ys) (length ys) (is_free x) → (if b then 0 else 1 + lowest_free (ys ++ x ∷ [])) ≡ step_lowest ((if b then 0 else 1 + lowest_free ys) == suc (length ys)) (if b then 0 else 1 + lowest_free ys) (suc (length ys)) (is_free x)
+    go true h = sym (ap (λ t. step_lowest t 0 (suc (length ys)) (is_free x)) (differ (length ys)))
+    go false h =
+        let more : suc (lowest_free ys) ≡ 1 + lowest_free ys = omega arith in
+        ap (λ l. 1 + l) h ∙ one_more (lowest_free ys) (length ys) (is_free x) (lowest_free ys == length ys) refl
+        ∙ ap (λ l. step_lowest (l == suc (length ys)) l (suc (length ys)) (is_free x)) more
+
+pub lowest_free_is : (n : ℕ) (g : ℕ → PlaceWire) → lowest_free (tabulate n g) ≡ lowest n (λ f. is_free (g f))
+unfolding tabulate lowest
+lowest_free_is zero g = refl
+lowest_free_is (suc n) g =
+    lowest_free_push (tabulate n g) (g n)
+    ∙ ap₂ (λ l k. step_lowest (l == k) l k (is_free (g n))) (lowest_free_is n g) (tabulate_length n g)

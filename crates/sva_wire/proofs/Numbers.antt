@@ -1,0 +1,217 @@
+-- The law: while nothing is bound, a step of spaces and frames by numbers is the step by names.
+use Rattle.std.proofs.Common.{◌≡◌, ◌⊎◌, inl, inr, refl, ap, sym, ◌∙◌, ℕ, suc, ◌+◌, ◌*◌, ◌≤◌, ◌^◌, Bool, true, false, arith}
+use Rattle.std.specs.Prelude.{Option, Some, None, option_map, ◌&&◌, not, ◌==◌, nat_lt, nat_le, if◌then◌else◌, List, [], ◌∷◌, Ok, Err}
+use Rattle.std.proofs.lemmas.Bool.Decides.{nat_tests}
+use Rattle.sva_step.specs.declared.answers.Answer.{Answer}
+use Rattle.sva_step.specs.declared.answers.Answer.TheVariants as answer
+use Rattle.sva_step.specs.declared.refusals.Refusal.{Refusal}
+use Rattle.sva_step.specs.declared.refusals.Refusal.TheVariants as refusal
+use Rattle.sva_step.specs.declared.steps.Step.{Step}
+use Rattle.sva_step.specs.declared.steps.Step.TheVariants as step
+use Rattle.sva_model.specs.State.PasidRule.{PerSpace}
+use Rattle.sva_model.specs.Words.{any_below, all_below, count_below, is_some, the}
+use Rattle.sva_model.specs.State.{World}
+use Rattle.sva_model.specs.Acts.{act, submits, waits}
+use Rattle.sva_model.specs.Acts.Act.{NewSpace, Map, Unmap}
+use Rattle.sva_model.specs.Refusals.{Cause, refusals, page_range, unmap_refusals, is_queue_short}
+use Rattle.sva_model.specs.Outcomes.{Outcome, outcome, frames_at, unmap_answer}
+use Rattle.sva_model.specs.Steps.{Reply, Decision, checked, after_acts, reply, next, world_after}
+use Rattle.sva_model.specs.Labels
+use Rattle.sva_model.specs.Wire.{PageWire, insert_by, is_lower_page, page_wire, pages_wire, spaces_wire, places_wire, wire}
+use Rattle.sva_laws.proofs.Words.{some_the, not_true, all_below-true}
+use Rattle.sva_laws.proofs.Counting.{count_zero}
+use Rattle.sva_laws.proofs.Invariant.{Invariant}
+use Rattle.sva_laws.proofs.Passed.{Passed}
+use Rattle.sva_laws.proofs.Runs.{always}
+use Rattle.sva_wire.specs.Host.{IsIdle, NumbersAreNames, IsOfSpaces, unless_refused, in_space, pages_of, page_at, is_mapped, frame_or_0, frames_of, without, map_reply, unmap_reply, reply_of, changed, next_of}
+use Rattle.sva_wire.proofs.Lists.{tabulate_same, all_same, none_below}
+use Rattle.sva_wire.proofs.Parts.{with_mappings, freely_without, wire_same, unmap_is, none_submits, none_waits}
+use Rattle.sva_wire.proofs.Pages.{page_at_is, pages_length, pages_mapped, pages_unmapped}
+use Rattle.sva_wire.proofs.Spaces.{space_is, space_found, space_missing, spaces_length, spaces_changed, spaces_more}
+use Rattle.sva_wire.proofs.Places.{lowest_is, places_length, places_mapped, places_unmapped}
+
+-- Causes, one after another.
+
+reply_checked : (cs : List Cause) (o : Outcome) → (checked cs o).reply ≡ unless_refused cs o.answer
+reply_checked [] o = refl
+reply_checked (c ∷ cs) o = go c.0 (reply_checked cs o)
+  where
+    go : (b : Bool) → (checked cs o).reply ≡ unless_refused cs o.answer → (if b then record { reply = Err c.1; acts = [] } else checked cs o).reply ≡ (if b then Err c.1 else unless_refused cs o.answer)
+    go true rest = refl
+    go false rest = rest
+
+-- the answer matters only where no cause holds
+same_answer : (cs : List Cause) (a b : Answer) → (Passed cs → a ≡ b) → unless_refused cs a ≡ unless_refused cs b
+same_answer [] a b h = ap (λ x. Ok x) (h tt)
+same_answer (c ∷ cs) a b h = go c.0 refl (λ e. same_answer cs a b (λ k. h (e, k)))
+  where
+    go : (x : Bool) → c.0 ≡ x → (c.0 ≡ false → unless_refused cs a ≡ unless_refused cs b) → (if x then Err c.1 else unless_refused cs a) ≡ (if x then Err c.1 else unless_refused cs b)
+    go true e rest = refl
+    go false e rest = rest e
+
+abbrev accepted : Outcome → Decision
+accepted o = record { reply = Ok o.answer; acts = o.acts }
+
+abbrev refused : Refusal → Decision
+refused r = record { reply = Err r; acts = [] }
+
+-- a step is refused, or no cause holds
+abbrev Decided : List Cause → Outcome → Type 0
+Decided cs o = ((r : Refusal) × (checked cs o ≡ refused r)) ⊎ (Passed cs × (checked cs o ≡ accepted o))
+
+decided : (cs : List Cause) (o : Outcome) → Decided cs o
+decided [] o = inr (tt, refl)
+decided (c ∷ cs) o = go c.0 refl (decided cs o)
+  where
+    passed : c.0 ≡ false → Decided cs o → ((r : Refusal) × (checked cs o ≡ refused r)) ⊎ (Passed (c ∷ cs) × (checked cs o ≡ accepted o))
+    passed e (inl x) = inl x
+    passed e (inr x) = inr ((e, x.0), x.1)
+
+    go : (b : Bool) → c.0 ≡ b → Decided cs o → ((r : Refusal) × ((if b then refused c.1 else checked cs o) ≡ refused r)) ⊎ (Passed (c ∷ cs) × ((if b then refused c.1 else checked cs o) ≡ accepted o))
+    go true e rest = inl (c.1, refl)
+    go false e rest = passed e rest
+
+-- what is left, by what is answered: a refused step changes nothing
+next_by : (w : World) (s : Step) → reply w s ≡ reply_of (wire w) s → ((r : Refusal) → changed (wire w) s (Err r) ≡ wire w) → (Passed (refusals w s) → wire (after_acts w (outcome w s).acts) ≡ changed (wire w) s (Ok (outcome w s).answer)) → wire (next w s) ≡ next_of (wire w) s
+next_by w s e nothing does = go (decided (refusals w s) (outcome w s)) ∙ ap (changed (wire w) s) e
+  where
+    go : Decided (refusals w s) (outcome w s) → wire (next w s) ≡ changed (wire w) s (reply w s)
+    go (inl x) = ap (λ d. wire (after_acts w d.acts)) x.1 ∙ sym (nothing x.0) ∙ sym (ap (λ d. changed (wire w) s d.reply) x.1)
+    go (inr x) = ap (λ d. wire (after_acts w d.acts)) x.1 ∙ does x.0 ∙ sym (ap (λ d. changed (wire w) s d.reply) x.1)
+
+-- A space more.
+
+space_answers : (w : World) → reply w step.Space ≡ reply_of (wire w) step.Space
+space_answers w =
+    reply_checked (refusals w step.Space) (outcome w step.Space)
+    ∙ ap (λ n. unless_refused ((nat_le 64 n, refusal.TooManySpaces) ∷ (Labels.lacks w w.spaces 1, refusal.NumbersSpent) ∷ []) (answer.Space (Labels.number w w.spaces))) (sym (spaces_length w))
+
+space_leaves : (w : World) → Invariant w → wire (act w NewSpace) ≡ changed (wire w) step.Space (Ok (answer.Space (Labels.number w w.spaces)))
+space_leaves w i =
+    let one : w.config.first + suc w.spaces ≡ w.config.first + w.spaces + 1 = omega arith in
+    λ k. record (wire w) { spaces = spaces_more w i.mapped k; next_space = one k }
+
+-- A page more.
+
+abbrev map_answers_by : (page : ℕ) → Bool → (pages lowest frames : ℕ) → Reply
+map_answers_by q mapped pages low frames =
+    unless_refused
+    (page_range q 1 ∷ (mapped, refusal.Mapped) ∷ (nat_le 1024 pages, refusal.SpaceFull) ∷ (low == frames, refusal.NoFrame) ∷ [])
+    (answer.Frame low)
+
+mapped_is : (w : World) → Invariant w → (s q : ℕ) → is_mapped (pages_wire w.mappings s) q ≡ Labels.is_mapped w s q
+mapped_is w i s q = ap mapped_there (page_at_is w i.mapped s q) ∙ go (w.mappings.at s q)
+  where
+    mapped_there : Option PageWire → Bool
+    mapped_there None = false
+    mapped_there (Some entry) = true
+
+    go : (o : Option ℕ) → mapped_there (option_map (page_wire w.mappings) o) ≡ is_some o
+    go None = refl
+    go (Some m) = refl
+
+map_answers : (w : World) (n q : ℕ) (x : Bool) → Invariant w → reply w (step.Map n q x) ≡ reply_of (wire w) (step.Map n q x)
+map_answers w n q x i = reply_checked (refusals w (step.Map n q x)) (outcome w (step.Map n q x)) ∙ go (Labels.is_space w n) refl
+  where
+    go : (b : Bool) → Labels.is_space w n ≡ b → (if not b then Err refusal.NoSuchSpace else map_answers_by q (Labels.is_mapped w (Labels.name w n) q) (Labels.pages_of w (Labels.name w n)) (Labels.lowest_frame w) w.config.frames) ≡ in_space (pages_of ((spaces_wire w.config.first w.spaces w.is_live w.mappings)) n) (map_reply (places_wire w) q)
+    go false e = sym (ap (λ o. in_space o (map_reply (places_wire w) q)) (space_missing w n e))
+    go true e =
+        sym (λ k. map_answers_by q (mapped_is w i (Labels.name w n) q k) (pages_length w (Labels.name w n) w.mappings.made k) (lowest_is w k) (places_length w k))
+        ∙ sym (ap (λ o. in_space o (map_reply (places_wire w) q)) (space_found w n e))
+
+map_leaves : (w : World) (n q : ℕ) (x : Bool) → Invariant w → IsIdle (wire w) → Labels.is_space w n ≡ true → wire (act w (Map (Labels.name w n) q (Labels.lowest_frame w) x)) ≡ changed (wire w) (step.Map n q x) (Ok (answer.Frame (Labels.lowest_frame w)))
+map_leaves w n q x i h e =
+    let s = space_is w n e in
+    let v = act w (Map (Labels.name w n) q (Labels.lowest_frame w) x) in
+    let change : List PageWire → List PageWire = insert_by is_lower_page (record { page = q; frame = Labels.lowest_frame w; write = x }) in
+    let spaces = spaces_changed w v n change s.from refl refl refl (λ t. pages_mapped w (Labels.name w n) q (Labels.lowest_frame w) x t) in
+    let places = places_mapped w (Labels.name w n) q (Labels.lowest_frame w) x i.mapped in
+    wire_same w v.mappings h ∙ (λ k. record (wire w) { spaces = spaces k; places = places k })
+
+-- Pages less.
+
+abbrev unmap_answers_by : (page count : ℕ) → (mapped full spent : Bool) → Answer → Reply
+unmap_answers_by q count mapped full spent a =
+    unless_refused
+    ((not (nat_le 1 count && nat_le count 48), refusal.BadCount)
+    ∷ page_range q count
+    ∷ (not mapped, refusal.NotMapped)
+    ∷ (full, refusal.QueueFull)
+    ∷ (spent, refusal.NumbersSpent)
+    ∷ [])
+    a
+
+not_full : (w : World) (s count : ℕ) → Invariant w → IsIdle (wire w) → any_below w.config.endpoints (λ e. submits w s e && is_queue_short (w.part e) (count + 1)) ≡ false
+not_full w s count i h =
+    none_below w.config.endpoints (λ e. submits w s e && is_queue_short (w.part e) (count + 1))
+    (λ e l. ap (λ b. b && is_queue_short (w.part e) (count + 1)) (none_submits w s e i h))
+
+not_spent : (w : World) (s : ℕ) → Invariant w → IsIdle (wire w) → Labels.lacks w w.cookies (count_below w.config.endpoints (submits w s)) ≡ false
+not_spent w s i h = enough (w.config.first + w.cookies) (count_below w.config.endpoints (submits w s)) h.cookies (count_zero w.config.endpoints (submits w s) (λ e l. none_submits w s e i h))
+  where
+    enough : (a n : ℕ) → a ≤ 2 ^ 63 → n ≡ 0 → nat_lt (2 ^ 63) (a + n) ≡ false
+    enough a n l z = grind (arith, nat_tests)
+
+-- the frames of pages that are mapped
+frames_are : (w : World) → Invariant w → (s q count : ℕ) → all_below count (λ j. is_mapped (pages_wire w.mappings s) (q + j)) ≡ true → frames_at w s q count ≡ frames_of (pages_wire w.mappings s) q count
+frames_are w i s q count h =
+    tabulate_same count (λ j. w.mappings.frame (the (w.mappings.at s (q + j)))) (λ j. frame_or_0 (page_at (pages_wire w.mappings s) (q + j)))
+    (λ j l. go (w.mappings.at s (q + j)) (sym (mapped_is w i s (q + j)) ∙ all_below-true count (λ j. is_mapped (pages_wire w.mappings s) (q + j)) h j l) ∙ sym (ap frame_or_0 (page_at_is w i.mapped s (q + j))))
+  where
+    go : (o : Option ℕ) → is_some o ≡ true → w.mappings.frame (the o) ≡ frame_or_0 (option_map (page_wire w.mappings) o)
+    go None t = absurd (cc)
+    go (Some m) t = refl
+
+unmap_answers : (w : World) (n q count : ℕ) → Invariant w → IsIdle (wire w) → reply w (step.Unmap n q count) ≡ reply_of (wire w) (step.Unmap n q count)
+unmap_answers w n q count i h = reply_checked (refusals w (step.Unmap n q count)) (outcome w (step.Unmap n q count)) ∙ go (Labels.is_space w n) refl
+  where
+    all_mapped : all_below count (λ j. Labels.is_mapped w (Labels.name w n) (q + j)) ≡ all_below count (λ j. is_mapped (pages_wire w.mappings (Labels.name w n)) (q + j))
+    all_mapped = all_same count (λ j. Labels.is_mapped w (Labels.name w n) (q + j)) (λ j. is_mapped (pages_wire w.mappings (Labels.name w n)) (q + j)) (λ j l. sym (mapped_is w i (Labels.name w n) (q + j)))
+
+    tests : unless_refused (unmap_refusals w (Labels.name w n) q count) (unmap_answer (any_below w.config.endpoints (waits w (Labels.name w n))) (frames_at w (Labels.name w n) q count)) ≡ unmap_answers_by q count (all_below count (λ j. is_mapped (pages_wire w.mappings (Labels.name w n)) (q + j))) false false (answer.FreeFrames (frames_at w (Labels.name w n) q count))
+    tests =
+        λ k. unmap_answers_by q count (all_mapped k) (not_full w (Labels.name w n) count i h k) (not_spent w (Labels.name w n) i h k) (unmap_answer (none_waits w (Labels.name w n) i h k) (frames_at w (Labels.name w n) q count))
+
+    frames : unless_refused ((not (nat_le 1 count && nat_le count 48), refusal.BadCount) ∷ page_range q count ∷ (not (all_below count (λ j. is_mapped (pages_wire w.mappings (Labels.name w n)) (q + j))), refusal.NotMapped) ∷ []) (answer.FreeFrames (frames_at w (Labels.name w n) q count)) ≡ unmap_reply q count (pages_wire w.mappings (Labels.name w n))
+    frames =
+        same_answer ((not (nat_le 1 count && nat_le count 48), refusal.BadCount) ∷ page_range q count ∷ (not (all_below count (λ j. is_mapped (pages_wire w.mappings (Labels.name w n)) (q + j))), refusal.NotMapped) ∷ [])
+        (answer.FreeFrames (frames_at w (Labels.name w n) q count)) (answer.FreeFrames (frames_of (pages_wire w.mappings (Labels.name w n)) q count))
+        (λ k. ap (λ fs. answer.FreeFrames fs) (frames_are w i (Labels.name w n) q count (not_true (all_below count (λ j. is_mapped (pages_wire w.mappings (Labels.name w n)) (q + j))) k.1.1.0)))
+
+    go : (b : Bool) → Labels.is_space w n ≡ b → (if not b then Err refusal.NoSuchSpace else unless_refused (unmap_refusals w (Labels.name w n) q count) (unmap_answer (any_below w.config.endpoints (waits w (Labels.name w n))) (frames_at w (Labels.name w n) q count))) ≡ in_space (pages_of ((spaces_wire w.config.first w.spaces w.is_live w.mappings)) n) (unmap_reply q count)
+    go false e = sym (ap (λ o. in_space o (unmap_reply q count)) (space_missing w n e))
+    go true e = tests ∙ frames ∙ sym (ap (λ o. in_space o (unmap_reply q count)) (space_found w n e))
+
+unmap_leaves : (w : World) (n q count : ℕ) → Invariant w → IsIdle (wire w) → Labels.is_space w n ≡ true → all_below count (λ j. Labels.is_mapped w (Labels.name w n) (q + j)) ≡ true → wire (act w (Unmap (Labels.name w n) q count 0)) ≡ changed (wire w) (step.Unmap n q count) (Ok (unmap_answer (any_below w.config.endpoints (waits w (Labels.name w n))) (frames_at w (Labels.name w n) q count)))
+unmap_leaves w n q count i h e m =
+    let s = space_is w n e in
+    let ms = freely_without w.mappings (Labels.name w n) q count in
+    let spaces = spaces_changed w (with_mappings w ms) n (without q count) s.from refl refl refl (λ t. pages_unmapped w (Labels.name w n) q count t) in
+    let places = places_unmapped w i.mapped (Labels.name w n) q count (λ j l. some_the (w.mappings.at (Labels.name w n) (q + j)) (all_below-true count (λ j. Labels.is_mapped w (Labels.name w n) (q + j)) m j l)) in
+    ap wire (unmap_is w (Labels.name w n) q count 0 i h)
+    ∙ ap (λ k. wire (with_mappings w (freely_without w.mappings (Labels.name w n) q k))) same_count
+    ∙ wire_same w ms h
+    ∙ (λ k. record (wire w) { spaces = spaces k; places = places k })
+    ∙ sym (ap (λ b. changed (wire w) (step.Unmap n q count) (Ok (unmap_answer b (frames_at w (Labels.name w n) q count)))) (none_waits w (Labels.name w n) i h))
+  where
+    same_count : count * 2 ^ 0 ≡ count
+    same_count = omega arith
+
+-- The law, at a world where the invariant holds.
+
+abbrev pub IsByNumbers : World → Step → Type 0
+IsByNumbers w s = (reply w s ≡ reply_of (wire w) s) × (wire (next w s) ≡ next_of (wire w) s)
+
+pub by_numbers : (w : World) (s : Step) → Invariant w → IsOfSpaces s → IsIdle (wire w) → IsByNumbers w s
+by_numbers w step.Space i t h = (space_answers w, next_by w step.Space (space_answers w) (λ r. refl) (λ p. space_leaves w i))
+by_numbers w (step.Map n q x) i t h =
+    (map_answers w n q x i, next_by w (step.Map n q x) (map_answers w n q x i) (λ r. refl) (λ p. map_leaves w n q x i h (not_true (Labels.is_space w n) p.0)))
+by_numbers w (step.Unmap n q count) i t h = (
+  unmap_answers w n q count i h,
+  next_by w (step.Unmap n q count) (unmap_answers w n q count i h) (λ r. refl)
+      (λ p. unmap_leaves w n q count i h (not_true (Labels.is_space w n) p.0) (not_true (all_below count (λ j. Labels.is_mapped w (Labels.name w n) (q + j))) p.1.1.1.0)),
+)
+by_numbers w _ i t h = absurd t
+
+pub numbers_are_names : NumbersAreNames
+numbers_are_names config steps s fits t h = by_numbers (world_after PerSpace config steps) s (always PerSpace config steps) t h

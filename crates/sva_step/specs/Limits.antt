@@ -99,9 +99,9 @@ pub record AreLimits : Type 0 where
 -- 1 to 8 endpoints, 1 to 4096 frames, 1 to 4 workers, and numbers that begin at 2^63 or below
 pub record Fits (config : Config) : Type 0 where
   pub some_endpoint : 1 ≤ config.endpoints
-  pub most_endpoints : config.endpoints ≤ 8
+  pub most_endpoints : config.endpoints ≤ most_endpoints
   pub some_frame : 1 ≤ config.frames
-  pub most_frames : config.frames ≤ 4096
+  pub most_frames : config.frames ≤ most_frames
   pub some_worker : 1 ≤ config.workers
-  pub most_workers : config.workers ≤ 4
-  pub first_number : config.first ≤ 2 ^ 63
+  pub most_workers : config.workers ≤ most_workers
+  pub first_number : config.first ≤ label_numbers

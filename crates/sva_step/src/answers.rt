@@ -196,7 +196,11 @@ impl Answer {
             Answer::FreeFrames { frames } => put_frames(out, "free", frames),
             Answer::WithheldFrames { frames } => put_frames(out, "withheld", frames),
             Answer::RangeFree { frames } => put_number(out, "range free ", u64::from(*frames)),
-            Answer::RangeWithheld { frames } => put_number(out, "range withheld ", u64::from(*frames)),
+            Answer::RangeWithheld { frames } => put_number(
+                out,
+                "range withheld ",
+                u64::from(*frames),
+            ),
             Answer::Binding { binding, pasid } => {
                 put_number(out, "binding ", *binding)?;
                 put_number(out, " pasid ", u64::from(*pasid))

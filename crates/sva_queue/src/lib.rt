@@ -2,6 +2,7 @@
 #![tactic(auto)]
 
 mod descriptors;
+mod ring;
 mod units;
 
 pub use descriptors::{Descriptor, Pumped, QueueFull};

@@ -53,6 +53,19 @@ rising-le (Page pasid page ∷ xs) first h = rising-le xs first h
 rising-le (Pasid pasid ∷ xs) first h = rising-le xs first h
 rising-le (Wait cookie drain ∷ xs) first h = omega (arith, h.0, rising-le xs (cookie + 1) h.1)
 
+pub number_after-mono : (xs : List Descriptor) (first least : ℕ) → first ≤ least → number_after first xs ≤ number_after least xs
+number_after-mono [] first least h = h
+number_after-mono (Page pasid page ∷ xs) first least h = number_after-mono xs first least h
+number_after-mono (Pasid pasid ∷ xs) first least h = number_after-mono xs first least h
+number_after-mono (Wait cookie drain ∷ xs) first least h = omega arith
+
+-- what rises from a number on rises from a lower one on
+pub rising-weaken : (xs : List Descriptor) (first least : ℕ) → first ≤ least → AreRising least xs → AreRising first xs
+rising-weaken [] first least h k = tt
+rising-weaken (Page pasid page ∷ xs) first least h k = rising-weaken xs first least h k
+rising-weaken (Pasid pasid ∷ xs) first least h k = rising-weaken xs first least h k
+rising-weaken (Wait cookie drain ∷ xs) first least h k = (omega (arith, k.0), k.1)
+
 pub number_after-fits : (xs : List Descriptor) (first : ℕ) → ByRecursion HasNumber xs → first ≤ 2 ^ 63 → number_after first xs ≤ 2 ^ 63
 number_after-fits [] first h k = k
 number_after-fits (Page pasid page ∷ xs) first h k = number_after-fits xs first h.1 k

@@ -267,41 +267,38 @@ mod tests {
         assert_eq!(rt; unit.submit(&two[1..]), Ok(()));
     }
 
+    fn wait(cookie: u64, drain: bool) -> Descriptor
+        ensures { result ≡ Descriptor.Wait cookie drain }
+    {
+        Descriptor::Wait { cookie, drain }
+    }
+
     #[test]
     fn waits_for_tag_and_drain(rt: HostRuntime) -> Result<(), Fail> {
         let mut unit = Unit::default();
-        unit.submit(&[
-            Descriptor::Page { pasid: 1, page: 16 },
-            Descriptor::Wait {
-                cookie: 7,
-                drain: true,
-            },
-        ])?;
+        unit.submit(&[Descriptor::Page { pasid: 1, page: 16 }, wait(7, true)])?;
         assert_eq!(rt; unit.pump(false), Pumped::Issued(0));
         assert_eq!(rt; unit.pump(false), Pumped::Blocked);
         assert_eq!(rt; unit.arrived(1, Count::new(1)), 1);
         assert_eq!(rt; unit.pump(false), Pumped::Blocked);
+        assert_eq!(rt; unit.front(), 0);
         assert_eq!(rt; unit.pump(true), Pumped::Done(7));
+        assert_eq!(rt; unit.front(), 8);
         assert_eq!(rt; unit.pump(true), Pumped::Idle);
         let text = format!(in rt.alloc(); "{QueueFull}")?;
         assert_eq!(rt; text.as_str(), "the invalidation queue is full");
         Ok(())
     }
 
-    fn wait(cookie: u64, drain: bool) -> Descriptor {
-        Descriptor::Wait { cookie, drain }
-    }
-
     #[test]
     fn goes_in_order_until_a_reset(rt: HostRuntime) -> Result<(), Fail> {
         let mut unit = Unit::new();
         let plain = wait(0, false);
-        let draining = wait(1, true);
+        let draining = wait(4, true);
         let all = Descriptor::Pasid { pasid: 1 };
         let page = Descriptor::Page { pasid: 1, page: 16 };
         let other = Descriptor::Page { pasid: 1, page: 17 };
-        unit.submit(&[page, other, plain])?;
-        unit.submit(&[all, draining])?;
+        unit.submit(&[page, other, plain, all, draining])?;
         assert_eq!(rt; unit.next(false), Pumped::Issued(0));
         assert_eq!(rt; unit.pump(false), Pumped::Issued(0));
         assert_eq!(rt; unit.head(), Some(other));
@@ -313,7 +310,9 @@ mod tests {
         assert_eq!(rt; unit.busy(), 0b10);
         assert_eq!(rt; unit.pump(true), Pumped::Blocked);
         assert_eq!(rt; unit.arrived(0b10, Count::new(2)), 0b10);
+        assert_eq!(rt; unit.front(), 0);
         assert_eq!(rt; unit.pump(false), Pumped::Done(0));
+        assert_eq!(rt; unit.front(), 1);
         assert_eq!(rt; unit.pump(false), Pumped::Issued(0));
         assert_eq!(rt; unit.head(), Some(draining));
         assert_eq!(rt; unit.pump(true), Pumped::Blocked);
@@ -322,11 +321,12 @@ mod tests {
         assert_eq!(rt; unit.head(), None);
         assert_eq!(rt; unit.busy(), 0b01);
         assert_eq!(rt; unit.pump(true), Pumped::Idle);
+        // The wait with cookie 4 is void, and isn't told to be done while the unit is in reset.
+        assert_eq!(rt; unit.front(), 1);
         unit.end_reset();
         assert!(rt; unit.is_open());
         assert_eq!(rt; unit.busy(), 0);
-        unit.submit(&[plain])?;
-        assert_eq!(rt; unit.pump(false), Pumped::Done(0));
+        assert_eq!(rt; unit.front(), 5);
         assert_eq!(rt; unit.room(), 64);
         Ok(())
     }

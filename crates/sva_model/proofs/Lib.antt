@@ -1,1 +1,2 @@
 mod FullSpace
+pub mod RangeLemmas

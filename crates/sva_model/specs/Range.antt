@@ -2,7 +2,7 @@
 -- Base 5.0, section 10.3.1, with the coding of a Translation Completion's size, section 10.2.3.2): with S clear it is one page;
 -- with S set, the address bits from bit 0 of the page number upwards that are set before the first clear one, and that clear
 -- one, are no part of the address, and the range has as many times two pages as there are such bits. Here k is 9 at most.
-use Rattle.std.specs.Prelude.{ℕ, zero, suc, ◌+◌, ◌-◌, ◌*◌, ◌/◌, ◌%◌, ◌^◌, ◌≡◌, ◌<◌, ◌≤◌, Bool, true, false, ◌&&◌, ◌==◌, nat_lt, nat_le, if◌then◌else◌, Option, Some, None}
+use Rattle.std.specs.Prelude.{ℕ, zero, suc, ◌+◌, ◌-◌, ◌/◌, ◌%◌, ◌^◌, ◌≡◌, ◌<◌, ◌≤◌, Bool, true, false, ◌&&◌, ◌==◌, nat_lt, nat_le, if◌then◌else◌, Option, Some, None}
 
 -- 2^order pages from `base` on
 pub record Range : Type 0 where
@@ -15,14 +15,13 @@ pages_in r = 2 ^ r.order
 
 -- is the page one of the range?
 abbrev pub is_in : Range → (page : ℕ) → Bool
-is_in r q = nat_le r.base q && nat_lt q (r.base + 2 ^ r.order)
+is_in r q = nat_le r.base q && nat_lt q (r.base + pages_in r)
 
 -- a range that can be coded: of 1 to 512 pages, aligned to its size, of page numbers below 2^36
 pub record IsRange (r : Range) : Type 0 where
   pub small : r.order ≤ 9
   pub low : r.base < 2 ^ 36
-  pub times : ℕ
-  pub aligned : r.base ≡ times * 2 ^ r.order
+  pub aligned : r.base % pages_in r ≡ 0
 
 -- the address field, as a page number, and the bit S
 pub record Code : Type 0 where

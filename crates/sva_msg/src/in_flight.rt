@@ -12,9 +12,7 @@ use crate::messages::Message;
 use indexmap::IndexMap;
 use std::alloc::{AllocError, Global};
 use std::marker::Model;
-
-/// One more than the largest number that a message can have.
-const NUMBERS_END: u64 = 1 << 63;
+use sva_step::NUMBERS;
 
 /// The messages in flight, each under its number, in order of age.
 ///
@@ -52,7 +50,7 @@ impl Bag {
         ensures left { result ≡ 2 ^ 63 - self.now.next }
         ensures numbered { IsNumbered self.now }
     {
-        NUMBERS_END - self.next
+        NUMBERS - self.next
     }
 
     /// Sends `copies` copies of a message, 1 to 8, and gives the number of the first; the numbers of the others follow it.

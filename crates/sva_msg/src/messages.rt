@@ -3,13 +3,18 @@ ghost use Rattle.sva_model.specs.Order.{is_page_request, is_order_down, stays_be
 
 use std::marker::Model;
 
-/// What an Invalidate Request covers of a PASID.
+/// What an Invalidate Request covers of a PASID (PCI Express Base 5.0, section 10.3.1), as it is sent.
 #[derive(Clone, Copy, Debug, PartialEq, Eq)]
 pub enum Scope {
-    /// The page with this number, of 4096 bytes (below 2^36).
-    Page(u64),
     /// Every page.
     All,
+    /// The pages of a code, which `Range::decode` reads: a range of 1 to 512 aligned pages.
+    Code {
+        /// The address field, as the number of a page of 4096 bytes, below 2^36.
+        page: u64,
+        /// The bit S: the range has more than one page.
+        s: bool,
+    },
 }
 
 /// The response code of a Page Request Group Response (PCI Express Base 5.0, section 10.4.2).
@@ -122,7 +127,7 @@ pub enum Kind {
         itag: u8,
         /// The PASID: 1 to 32 of its 20 bits (PCI Express Base 5.0, section 6.20).
         pasid: u32,
-        /// The page, or all pages, of the PASID.
+        /// A range of pages, or all pages, of the PASID.
         scope: Scope,
     },
     /// Down: a Page Request Group Response (PCI Express Base 5.0, section 10.4.2).

@@ -8,7 +8,7 @@ use Rattle.sva_step.specs.Refusals.{number_of, name_of, refusal_text}
 use Rattle.sva_step.specs.Texts.{answer_text, frames_text, InRange, TextsTellApart}
 use Rattle.sva_step.specs.declared.refusals.Refusal.{Refusal}
 use Rattle.sva_step.specs.declared.answers.Answer.{Answer}
-use Rattle.sva_step.specs.declared.answers.Answer.TheVariants.{Space, Gone, Frame, FreeFrames, WithheldFrames, Binding, Stopping, Draining, Invalidating, Quiet, Released, Idle, Itag, Blocked, WaitDone, Empty, Part, Job, Resetting, JobTaken, Success, Invalid, Failure, Dropped, Tag, Use, Ended, Dead, Evicted, Group, Sent, Marker, Free, Mapped, Withheld, Started, Reset, NoTranslation, Full, Held, Taken, Answered, Stale, Completion, Freed, Queued, Marked, ResetDone}
+use Rattle.sva_step.specs.declared.answers.Answer.TheVariants.{Space, Gone, Frame, FreeFrames, WithheldFrames, RangeFree, RangeWithheld, Binding, Stopping, Draining, Invalidating, Quiet, Released, Idle, Itag, Blocked, WaitDone, Empty, Part, Job, Resetting, JobTaken, Success, Invalid, Failure, Dropped, Tag, Use, Ended, Dead, Evicted, Group, Sent, Marker, Free, Mapped, Withheld, Started, Reset, NoTranslation, Full, Held, Taken, Answered, Stale, Completion, Freed, Queued, Marked, ResetDone, Bearer, NoBearer}
 use Rattle.sva_step.proofs.RefusalLemmas.{number_of-le}
 
 absurd_false : {A : Type 0} → false ≡ true → A
@@ -137,6 +137,8 @@ first_words Gone = codes "gone"
 first_words (Frame frame) = codes "frame "
 first_words (FreeFrames frames) = codes "free "
 first_words (WithheldFrames frames) = codes "withheld "
+first_words (RangeFree frames) = codes "range free "
+first_words (RangeWithheld frames) = codes "range withheld "
 first_words (Binding binding pasid) = codes "binding "
 first_words Stopping = codes "stopping"
 first_words Draining = codes "draining"
@@ -180,6 +182,8 @@ first_words (Freed count) = codes "freed "
 first_words Queued = codes "queued"
 first_words Marked = codes "marked"
 first_words ResetDone = codes "reset done"
+first_words (Bearer space bindings) = codes "bearer "
+first_words NoBearer = codes "bearer none"
 
 abbrev shape : Answer → ℕ
 shape (Space space) = 0
@@ -187,56 +191,60 @@ shape Gone = 1
 shape (Frame frame) = 2
 shape (FreeFrames frames) = 3
 shape (WithheldFrames frames) = 4
-shape (Binding binding pasid) = 5
-shape Stopping = 6
-shape Draining = 7
-shape Invalidating = 8
-shape Quiet = 9
-shape Released = 10
-shape Idle = 11
-shape (Itag itag) = 12
-shape Blocked = 13
-shape WaitDone = 14
-shape Empty = 15
-shape Part = 16
-shape Job = 17
-shape Resetting = 18
-shape (JobTaken binding group pages) = 19
-shape (Success pages) = 20
-shape Invalid = 21
-shape Failure = 22
-shape Dropped = 23
-shape (Tag tag) = 24
-shape (Use slot frame) = 25
-shape Ended = 26
-shape Dead = 27
-shape Evicted = 28
-shape (Group group) = 29
-shape (Sent count) = 30
-shape Marker = 31
-shape Free = 32
-shape Mapped = 33
-shape Withheld = 34
-shape Started = 35
-shape Reset = 36
-shape NoTranslation = 37
-shape Full = 38
-shape Held = 39
-shape Taken = 40
-shape Answered = 41
-shape Stale = 42
-shape Completion = 43
-shape (Freed count) = 44
-shape Queued = 45
-shape Marked = 46
-shape ResetDone = 47
+shape (RangeFree frames) = 5
+shape (RangeWithheld frames) = 6
+shape (Binding binding pasid) = 7
+shape Stopping = 8
+shape Draining = 9
+shape Invalidating = 10
+shape Quiet = 11
+shape Released = 12
+shape Idle = 13
+shape (Itag itag) = 14
+shape Blocked = 15
+shape WaitDone = 16
+shape Empty = 17
+shape Part = 18
+shape Job = 19
+shape Resetting = 20
+shape (JobTaken binding group pages) = 21
+shape (Success pages) = 22
+shape Invalid = 23
+shape Failure = 24
+shape Dropped = 25
+shape (Tag tag) = 26
+shape (Use slot frame) = 27
+shape Ended = 28
+shape Dead = 29
+shape Evicted = 30
+shape (Group group) = 31
+shape (Sent count) = 32
+shape Marker = 33
+shape Free = 34
+shape Mapped = 35
+shape Withheld = 36
+shape Started = 37
+shape Reset = 38
+shape NoTranslation = 39
+shape Full = 40
+shape Held = 41
+shape Taken = 42
+shape Answered = 43
+shape Stale = 44
+shape Completion = 45
+shape (Freed count) = 46
+shape Queued = 47
+shape Marked = 48
+shape ResetDone = 49
+shape (Bearer space bindings) = 50
+shape NoBearer = 51
 
 -- the variants' words, each at its variant's number
 abbrev all_words : List (List ℕ)
-all_words = codes "space " ∷ codes "gone" ∷ codes "frame " ∷ codes "free " ∷ codes "withheld " ∷ codes "binding " ∷ codes "stopping" ∷ codes "draining" ∷ codes "invalidating" ∷ codes "quiet" ∷ codes "released" ∷ codes "idle" ∷ codes "itag " ∷ codes "blocked" ∷ codes "wait done" ∷ codes "empty" ∷ codes "part" ∷ codes "job" ∷ codes "resetting" ∷ codes "job binding " ∷ codes "success " ∷ codes "invalid" ∷ codes "failure" ∷ codes "dropped" ∷ codes "tag " ∷ codes "use " ∷ codes "ended" ∷ codes "dead" ∷ codes "evicted" ∷ codes "group " ∷ codes "sent " ∷ codes "marker" ∷ codes "free" ∷ codes "mapped" ∷ codes "withheld" ∷ codes "started" ∷ codes "reset" ∷ codes "none" ∷ codes "full" ∷ codes "held" ∷ codes "taken" ∷ codes "answered" ∷ codes "stale" ∷ codes "completion" ∷ codes "freed " ∷ codes "queued" ∷ codes "marked" ∷ codes "reset done" ∷ []
+all_words = codes "space " ∷ codes "gone" ∷ codes "frame " ∷ codes "free " ∷ codes "withheld " ∷ codes "range free " ∷ codes "range withheld " ∷ codes "binding " ∷ codes "stopping" ∷ codes "draining" ∷ codes "invalidating" ∷ codes "quiet" ∷ codes "released" ∷ codes "idle" ∷ codes "itag " ∷ codes "blocked" ∷ codes "wait done" ∷ codes "empty" ∷ codes "part" ∷ codes "job" ∷ codes "resetting" ∷ codes "job binding " ∷ codes "success " ∷ codes "invalid" ∷ codes "failure" ∷ codes "dropped" ∷ codes "tag " ∷ codes "use " ∷ codes "ended" ∷ codes "dead" ∷ codes "evicted" ∷ codes "group " ∷ codes "sent " ∷ codes "marker" ∷ codes "free" ∷ codes "mapped" ∷ codes "withheld" ∷ codes "started" ∷ codes "reset" ∷ codes "none" ∷ codes "full" ∷ codes "held" ∷ codes "taken" ∷ codes "answered" ∷ codes "stale" ∷ codes "completion" ∷ codes "freed " ∷ codes "queued" ∷ codes "marked" ∷ codes "reset done" ∷ codes "bearer " ∷ codes "bearer none" ∷ []
 
 abbrev shape_at : List ℕ → ℕ
-shape_at ws = unwrap_or (position (λ known. bytes_eq known ws) all_words) 48
+shape_at ws = unwrap_or (position (λ known. bytes_eq known ws) all_words) 52
 
 shape_at-first_words : (a : Answer) → shape_at (first_words a) ≡ shape a
 shape_at-first_words (Space space) = refl
@@ -244,6 +252,8 @@ shape_at-first_words Gone = refl
 shape_at-first_words (Frame frame) = refl
 shape_at-first_words (FreeFrames frames) = refl
 shape_at-first_words (WithheldFrames frames) = refl
+shape_at-first_words (RangeFree frames) = refl
+shape_at-first_words (RangeWithheld frames) = refl
 shape_at-first_words (Binding binding pasid) = refl
 shape_at-first_words Stopping = refl
 shape_at-first_words Draining = refl
@@ -287,6 +297,8 @@ shape_at-first_words (Freed count) = refl
 shape_at-first_words Queued = refl
 shape_at-first_words Marked = refl
 shape_at-first_words ResetDone = refl
+shape_at-first_words (Bearer space bindings) = refl
+shape_at-first_words NoBearer = refl
 
 words-answer_text : (a : Answer) → InRange a → words (answer_text a) ≡ first_words a
 words-answer_text (Space space) range = ap (λ ws. codes "space " ++ ws) (words-alone space range)
@@ -298,6 +310,8 @@ words-answer_text (FreeFrames (frame ∷ frames)) range =
 words-answer_text (WithheldFrames []) range = absurd (omega (arith, range.0))
 words-answer_text (WithheldFrames (frame ∷ frames)) range =
     ap (λ ws. codes "withheld " ++ ws) (words-decimal frame (frames_text frames) (AllSmall-head frame frames range.1))
+words-answer_text (RangeFree frames) range = ap (λ ws. codes "range free " ++ ws) (words-alone frames range)
+words-answer_text (RangeWithheld frames) range = ap (λ ws. codes "range withheld " ++ ws) (words-alone frames range)
 words-answer_text (Binding binding pasid) range =
     ap (λ ws. codes "binding " ++ ws)
     (ap words (three_right (decimal binding) (codes " pasid ") (decimal pasid)) ∙ words-decimal binding _ range.0)
@@ -347,6 +361,10 @@ words-answer_text (Freed count) range = ap (λ ws. codes "freed " ++ ws) (words-
 words-answer_text Queued range = refl
 words-answer_text Marked range = refl
 words-answer_text ResetDone range = refl
+words-answer_text (Bearer space bindings) range =
+    ap (λ ws. codes "bearer " ++ ws)
+    (ap words (three_right (decimal space) (codes " bindings ") (decimal bindings)) ∙ words-decimal space _ range.0)
+words-answer_text NoBearer range = refl
 
 shape-answer_text : (a : Answer) → InRange a → shape_at (words (answer_text a)) ≡ shape a
 shape-answer_text a range = ap shape_at (words-answer_text a range) ∙ shape_at-first_words a
@@ -361,6 +379,10 @@ same_by_shape (FreeFrames frames) (FreeFrames frames') range range' shape same =
     λ i. FreeFrames (same_frames frames frames' range.1 range'.1 (ap (drop 4) same) i)
 same_by_shape (WithheldFrames frames) (WithheldFrames frames') range range' shape same =
     λ i. WithheldFrames (same_frames frames frames' range.1 range'.1 (ap (drop 8) same) i)
+same_by_shape (RangeFree frames) (RangeFree frames') range range' shape same =
+    λ i. RangeFree (decimal_injective frames frames' range range' (ap (drop 11) same) i)
+same_by_shape (RangeWithheld frames) (RangeWithheld frames') range range' shape same =
+    λ i. RangeWithheld (decimal_injective frames frames' range range' (ap (drop 15) same) i)
 same_by_shape (Binding binding pasid) (Binding binding' pasid') range range' shape same =
     let parted : (decimal binding) ++ ((codes " pasid ") ++ ((decimal pasid))) ≡ (decimal binding') ++ ((codes " pasid ") ++ ((decimal pasid'))) =
     sym (three_right (decimal binding) (codes " pasid ") (decimal pasid)) ∙ ap (drop 8) same ∙ three_right (decimal binding') (codes " pasid ") (decimal pasid') in
@@ -430,14 +452,26 @@ same_by_shape (Freed count) (Freed count') range range' shape same =
 same_by_shape Queued Queued range range' shape same = refl
 same_by_shape Marked Marked range range' shape same = refl
 same_by_shape ResetDone ResetDone range range' shape same = refl
+same_by_shape (Bearer space bindings) (Bearer space' bindings') range range' shape same =
+    let parted : decimal space ++ (codes " bindings " ++ decimal bindings) ≡ decimal space' ++ (codes " bindings " ++ decimal bindings') =
+    sym (three_right (decimal space) (codes " bindings ") (decimal bindings)) ∙ ap (drop 7) same
+    ∙ three_right (decimal space') (codes " bindings ") (decimal bindings') in
+    let parts : (space ≡ space') × (codes " bindings " ++ decimal bindings ≡ codes " bindings " ++ decimal bindings') =
+    same_numbers space space' (codes " bindings " ++ decimal bindings) (codes " bindings " ++ decimal bindings')
+    range.0 range'.0 refl refl parted in
+    let last : bindings ≡ bindings' = decimal_injective bindings bindings' range.1 range'.1 (ap (drop 10) parts.1) in
+    λ i. Bearer (parts.0 i) (last i)
+same_by_shape NoBearer NoBearer range range' shape same = refl
 same_by_shape _ _ range range' shape same = absurd_false shape
 
-shape-le : (a : Answer) → shape a ≤ 47
+shape-le : (a : Answer) → shape a ≤ 51
 shape-le (Space space) = lit≤ tt
 shape-le Gone = lit≤ tt
 shape-le (Frame frame) = lit≤ tt
 shape-le (FreeFrames frames) = lit≤ tt
 shape-le (WithheldFrames frames) = lit≤ tt
+shape-le (RangeFree frames) = lit≤ tt
+shape-le (RangeWithheld frames) = lit≤ tt
 shape-le (Binding binding pasid) = lit≤ tt
 shape-le Stopping = lit≤ tt
 shape-le Draining = lit≤ tt
@@ -481,6 +515,8 @@ shape-le (Freed count) = lit≤ tt
 shape-le Queued = lit≤ tt
 shape-le Marked = lit≤ tt
 shape-le ResetDone = lit≤ tt
+shape-le (Bearer space bindings) = lit≤ tt
+shape-le NoBearer = lit≤ tt
 
 words-refusal_text : (refusal : Refusal) → words (refusal_text refusal) ≡ codes "refused "
 words-refusal_text refusal =
@@ -497,7 +533,7 @@ texts_tell_apart = record {
       (sym (shape-answer_text a range) ∙ ap (λ text. shape_at (words text)) same ∙ shape-answer_text b range'))
       same;
   no_refusal = λ a refusal range same.
-      let none : shape a ≡ 48 =
+      let none : shape a ≡ 52 =
       sym (shape-answer_text a range) ∙ ap (λ text. shape_at (words text)) same
       ∙ ap shape_at (words-refusal_text refusal) in
       absurd (omega (arith, shape-le a, none));

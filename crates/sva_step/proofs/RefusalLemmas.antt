@@ -2,12 +2,12 @@
 use Rattle.std.specs.Prelude.{◌≡◌, ℕ, ◌-◌, ◌≤◌, List, [], ◌∷◌, Option, Some, find, bytes_eq, slice_get, refl}
 use Rattle.std.proofs.Common.{sym, ◌∙◌, ap, lit≤}
 use Rattle.sva_step.specs.declared.refusals.Refusal.{Refusal}
-use Rattle.sva_step.specs.declared.refusals.Refusal.TheVariants.{BadConfig, NoSuchEndpoint, NoSuchSpace, TooManySpaces, PageRange, Mapped, NotMapped, NoFrame, SpaceFull, AlreadyBound, NoPasid, StillBound, NoSuchBinding, NotLive, NotYet, QueueFull, Resetting, NotStarted, NoTag, NotHeld, ReadOnly, NoUseSlot, NoSuchUse, NoCredit, NoSuchGroup, PriDisabled, NotPending, InUse, BadCount, NotStopping, Busy, NoSuchMessage, Overtakes, NoSuchWorker, HandsFull, NoJob, BadVerdict, NumbersSpent, OutOfMemory}
+use Rattle.sva_step.specs.declared.refusals.Refusal.TheVariants.{BadConfig, NoSuchEndpoint, NoSuchSpace, TooManySpaces, PageRange, Mapped, NotMapped, NoFrame, SpaceFull, AlreadyBound, NoPasid, StillBound, NoSuchBinding, NotLive, NotYet, QueueFull, Resetting, NotStarted, NoTag, NotHeld, ReadOnly, NoUseSlot, NoSuchUse, NoCredit, NoSuchGroup, PriDisabled, NotPending, InUse, BadCount, NotStopping, Busy, NoSuchMessage, Overtakes, NoSuchWorker, HandsFull, NoJob, BadVerdict, NumbersSpent, OutOfMemory, BadOrder, NotAligned, NothingMapped, BadPasid}
 use Rattle.sva_step.specs.Refusals.{number_of, name_of, TellApart}
 
 -- the refusals by number
 abbrev all_refusals : List Refusal
-all_refusals = BadConfig ∷ NoSuchEndpoint ∷ NoSuchSpace ∷ TooManySpaces ∷ PageRange ∷ Mapped ∷ NotMapped ∷ NoFrame ∷ SpaceFull ∷ AlreadyBound ∷ NoPasid ∷ StillBound ∷ NoSuchBinding ∷ NotLive ∷ NotYet ∷ QueueFull ∷ Resetting ∷ NotStarted ∷ NoTag ∷ NotHeld ∷ ReadOnly ∷ NoUseSlot ∷ NoSuchUse ∷ NoCredit ∷ NoSuchGroup ∷ PriDisabled ∷ NotPending ∷ InUse ∷ BadCount ∷ NotStopping ∷ Busy ∷ NoSuchMessage ∷ Overtakes ∷ NoSuchWorker ∷ HandsFull ∷ NoJob ∷ BadVerdict ∷ NumbersSpent ∷ OutOfMemory ∷ []
+all_refusals = BadConfig ∷ NoSuchEndpoint ∷ NoSuchSpace ∷ TooManySpaces ∷ PageRange ∷ Mapped ∷ NotMapped ∷ NoFrame ∷ SpaceFull ∷ AlreadyBound ∷ NoPasid ∷ StillBound ∷ NoSuchBinding ∷ NotLive ∷ NotYet ∷ QueueFull ∷ Resetting ∷ NotStarted ∷ NoTag ∷ NotHeld ∷ ReadOnly ∷ NoUseSlot ∷ NoSuchUse ∷ NoCredit ∷ NoSuchGroup ∷ PriDisabled ∷ NotPending ∷ InUse ∷ BadCount ∷ NotStopping ∷ Busy ∷ NoSuchMessage ∷ Overtakes ∷ NoSuchWorker ∷ HandsFull ∷ NoJob ∷ BadVerdict ∷ NumbersSpent ∷ OutOfMemory ∷ BadOrder ∷ NotAligned ∷ NothingMapped ∷ BadPasid ∷ []
 
 abbrev numbered : ℕ → Option Refusal
 numbered number = slice_get all_refusals (number - 1)
@@ -55,6 +55,10 @@ numbered-number_of NoJob = refl
 numbered-number_of BadVerdict = refl
 numbered-number_of NumbersSpent = refl
 numbered-number_of OutOfMemory = refl
+numbered-number_of BadOrder = refl
+numbered-number_of NotAligned = refl
+numbered-number_of NothingMapped = refl
+numbered-number_of BadPasid = refl
 
 named-name_of : (refusal : Refusal) → named (name_of refusal) ≡ Some refusal
 named-name_of BadConfig = refl
@@ -96,6 +100,10 @@ named-name_of NoJob = refl
 named-name_of BadVerdict = refl
 named-name_of NumbersSpent = refl
 named-name_of OutOfMemory = refl
+named-name_of BadOrder = refl
+named-name_of NotAligned = refl
+named-name_of NothingMapped = refl
+named-name_of BadPasid = refl
 
 one-le-number_of : (refusal : Refusal) → 1 ≤ number_of refusal
 one-le-number_of BadConfig = lit≤ tt
@@ -137,8 +145,12 @@ one-le-number_of NoJob = lit≤ tt
 one-le-number_of BadVerdict = lit≤ tt
 one-le-number_of NumbersSpent = lit≤ tt
 one-le-number_of OutOfMemory = lit≤ tt
+one-le-number_of BadOrder = lit≤ tt
+one-le-number_of NotAligned = lit≤ tt
+one-le-number_of NothingMapped = lit≤ tt
+one-le-number_of BadPasid = lit≤ tt
 
-pub number_of-le : (refusal : Refusal) → number_of refusal ≤ 39
+pub number_of-le : (refusal : Refusal) → number_of refusal ≤ 43
 number_of-le BadConfig = lit≤ tt
 number_of-le NoSuchEndpoint = lit≤ tt
 number_of-le NoSuchSpace = lit≤ tt
@@ -178,6 +190,10 @@ number_of-le NoJob = lit≤ tt
 number_of-le BadVerdict = lit≤ tt
 number_of-le NumbersSpent = lit≤ tt
 number_of-le OutOfMemory = lit≤ tt
+number_of-le BadOrder = lit≤ tt
+number_of-le NotAligned = lit≤ tt
+number_of-le NothingMapped = lit≤ tt
+number_of-le BadPasid = lit≤ tt
 
 same_some : (a b : Refusal) → Some a ≡ Some b → a ≡ b
 same_some a b h = cc

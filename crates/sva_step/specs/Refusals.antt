@@ -1,7 +1,7 @@
 -- The number and the name of each refusal, and its text.
 use Rattle.std.specs.Prelude.{◌≡◌, ℕ, ◌≤◌, Bool, true, false, List, ◌++◌, codes, decimal}
 use Rattle.sva_step.specs.declared.refusals.Refusal.{Refusal}
-use Rattle.sva_step.specs.declared.refusals.Refusal.TheVariants.{BadConfig, NoSuchEndpoint, NoSuchSpace, TooManySpaces, PageRange, Mapped, NotMapped, NoFrame, SpaceFull, AlreadyBound, NoPasid, StillBound, NoSuchBinding, NotLive, NotYet, QueueFull, Resetting, NotStarted, NoTag, NotHeld, ReadOnly, NoUseSlot, NoSuchUse, NoCredit, NoSuchGroup, PriDisabled, NotPending, InUse, BadCount, NotStopping, Busy, NoSuchMessage, Overtakes, NoSuchWorker, HandsFull, NoJob, BadVerdict, NumbersSpent, OutOfMemory}
+use Rattle.sva_step.specs.declared.refusals.Refusal.TheVariants.{BadConfig, NoSuchEndpoint, NoSuchSpace, TooManySpaces, PageRange, Mapped, NotMapped, NoFrame, SpaceFull, AlreadyBound, NoPasid, StillBound, NoSuchBinding, NotLive, NotYet, QueueFull, Resetting, NotStarted, NoTag, NotHeld, ReadOnly, NoUseSlot, NoSuchUse, NoCredit, NoSuchGroup, PriDisabled, NotPending, InUse, BadCount, NotStopping, Busy, NoSuchMessage, Overtakes, NoSuchWorker, HandsFull, NoJob, BadVerdict, NumbersSpent, OutOfMemory, BadOrder, NotAligned, NothingMapped, BadPasid}
 
 -- the numbers are this project's own
 abbrev pub number_of : Refusal → ℕ
@@ -44,9 +44,13 @@ number_of NoJob = 36
 number_of BadVerdict = 37
 number_of NumbersSpent = 38
 number_of OutOfMemory = 39
+number_of BadOrder = 40
+number_of NotAligned = 41
+number_of NothingMapped = 42
+number_of BadPasid = 43
 
 -- the refusals of the host's own calls, then those of endpoints, of the link and of workers, and of a step that finds
--- no number or no memory
+-- no number or no memory, and then those of ranges and of the bearer of a PASID
 abbrev pub name_of : Refusal → List ℕ
 name_of BadConfig = codes "BadConfig"
 name_of NoSuchEndpoint = codes "NoSuchEndpoint"
@@ -87,8 +91,12 @@ name_of NoJob = codes "NoJob"
 name_of BadVerdict = codes "BadVerdict"
 name_of NumbersSpent = codes "NumbersSpent"
 name_of OutOfMemory = codes "OutOfMemory"
+name_of BadOrder = codes "BadOrder"
+name_of NotAligned = codes "NotAligned"
+name_of NothingMapped = codes "NothingMapped"
+name_of BadPasid = codes "BadPasid"
 
--- a refusal of the host's own calls, which the table of names has first
+-- a refusal of the host's own calls, of those on ranges and on the bearer of a PASID too
 abbrev pub is_of_call : Refusal → Bool
 is_of_call BadConfig = true
 is_of_call NoSuchEndpoint = true
@@ -107,15 +115,19 @@ is_of_call NotLive = true
 is_of_call NotYet = true
 is_of_call QueueFull = true
 is_of_call Resetting = true
+is_of_call BadOrder = true
+is_of_call NotAligned = true
+is_of_call NothingMapped = true
+is_of_call BadPasid = true
 is_of_call _ = false
 
 -- `refused N Name`
 abbrev pub refusal_text : Refusal → List ℕ
 refusal_text refusal = codes "refused " ++ decimal (number_of refusal) ++ codes " " ++ name_of refusal
 
--- the numbers are 1 to 39, and no two refusals have one number or one name
+-- the numbers are 1 to 43, and no two refusals have one number or one name
 pub record TellApart : Type 0 where
   pub from_one : (refusal : Refusal) → 1 ≤ number_of refusal
-  pub to_last : (refusal : Refusal) → number_of refusal ≤ 39
+  pub to_last : (refusal : Refusal) → number_of refusal ≤ 43
   pub numbers : (a b : Refusal) → number_of a ≡ number_of b → a ≡ b
   pub names : (a b : Refusal) → name_of a ≡ name_of b → a ≡ b

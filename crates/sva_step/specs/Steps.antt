@@ -1,7 +1,7 @@
 -- Which steps need a token in hand.
 use Rattle.std.specs.Prelude.{Bool, true, false}
 use Rattle.sva_step.specs.declared.steps.Step.{Step}
-use Rattle.sva_step.specs.declared.steps.Step.TheVariants.{Space, DropSpace, Map, Unmap, Bind, Unbind, Advance, Pump, Serve, Reset, Take, Reply, Ask, BeginUse, EndUse, Evict, Fault, Finish, Quit, Deliver, Look}
+use Rattle.sva_step.specs.declared.steps.Step.TheVariants.{Space, DropSpace, Map, Unmap, UnmapRange, Bind, Unbind, Advance, Pump, Serve, Reset, Take, Reply, Ask, BeginUse, EndUse, Evict, Fault, Finish, Quit, Deliver, Look, Bearer}
 
 -- a step that neither makes, moves nor spends a token: a binding that is held, a binding that is taken back, a use
 abbrev pub is_plain : Step → Bool
@@ -14,6 +14,7 @@ is_plain Space = true
 is_plain (DropSpace space) = true
 is_plain (Map space page write) = true
 is_plain (Unmap space page count) = true
+is_plain (UnmapRange space page order) = true
 is_plain (Pump endpoint) = true
 is_plain (Serve endpoint) = true
 is_plain (Reset endpoint) = true
@@ -26,3 +27,4 @@ is_plain (Finish endpoint vector count) = true
 is_plain (Quit endpoint pasid) = true
 is_plain (Deliver message) = true
 is_plain (Look frame) = true
+is_plain (Bearer pasid) = true

@@ -4,7 +4,7 @@ use Rattle.std.specs.Prelude.{◌≡◌, ◌≢◌, ℕ, ◌^◌, ◌<◌, Bool,
 use Rattle.sva_step.specs.Refusals.{refusal_text}
 use Rattle.sva_step.specs.declared.refusals.Refusal.{Refusal}
 use Rattle.sva_step.specs.declared.answers.Answer.{Answer}
-use Rattle.sva_step.specs.declared.answers.Answer.TheVariants.{Space, Gone, Frame, FreeFrames, WithheldFrames, Binding, Stopping, Draining, Invalidating, Quiet, Released, Idle, Itag, Blocked, WaitDone, Empty, Part, Job, Resetting, JobTaken, Success, Invalid, Failure, Dropped, Tag, Use, Ended, Dead, Evicted, Group, Sent, Marker, Free, Mapped, Withheld, Started, Reset, NoTranslation, Full, Held, Taken, Answered, Stale, Completion, Freed, Queued, Marked, ResetDone}
+use Rattle.sva_step.specs.declared.answers.Answer.TheVariants.{Space, Gone, Frame, FreeFrames, WithheldFrames, RangeFree, RangeWithheld, Binding, Stopping, Draining, Invalidating, Quiet, Released, Idle, Itag, Blocked, WaitDone, Empty, Part, Job, Resetting, JobTaken, Success, Invalid, Failure, Dropped, Tag, Use, Ended, Dead, Evicted, Group, Sent, Marker, Free, Mapped, Withheld, Started, Reset, NoTranslation, Full, Held, Taken, Answered, Stale, Completion, Freed, Queued, Marked, ResetDone, Bearer, NoBearer}
 
 -- the numbers of some frames, a space before each
 abbrev pub frames_text : List ℕ → List ℕ
@@ -14,13 +14,15 @@ frames_text frames = flat_map (λ frame. codes " " ++ decimal frame) frames
 abbrev pub BeginsWith : List ℕ → List ℕ → Type 0
 BeginsWith text start = take (length start) text ≡ start
 
--- the answers of the host and its service, and then those of the endpoints, of the link and of `look`
+-- the answers of the host and its service, and then those of the endpoints, of the link, of `look` and of `bearer`
 abbrev pub answer_text : Answer → List ℕ
 answer_text (Space space) = codes "space " ++ decimal space
 answer_text Gone = codes "gone"
 answer_text (Frame frame) = codes "frame " ++ decimal frame
 answer_text (FreeFrames frames) = codes "free" ++ frames_text frames
 answer_text (WithheldFrames frames) = codes "withheld" ++ frames_text frames
+answer_text (RangeFree frames) = codes "range free " ++ decimal frames
+answer_text (RangeWithheld frames) = codes "range withheld " ++ decimal frames
 answer_text (Binding binding pasid) = codes "binding " ++ decimal binding ++ codes " pasid " ++ decimal pasid
 answer_text Stopping = codes "stopping"
 answer_text Draining = codes "draining"
@@ -65,6 +67,8 @@ answer_text (Freed count) = codes "freed " ++ decimal count
 answer_text Queued = codes "queued"
 answer_text Marked = codes "marked"
 answer_text ResetDone = codes "reset done"
+answer_text (Bearer space bindings) = codes "bearer " ++ decimal space ++ codes " bindings " ++ decimal bindings
+answer_text NoBearer = codes "bearer none"
 
 -- an answer of the host or of its service, which the table has first
 abbrev pub is_of_host : Answer → Bool
@@ -73,6 +77,8 @@ is_of_host Gone = true
 is_of_host (Frame frame) = true
 is_of_host (FreeFrames frames) = true
 is_of_host (WithheldFrames frames) = true
+is_of_host (RangeFree frames) = true
+is_of_host (RangeWithheld frames) = true
 is_of_host (Binding binding pasid) = true
 is_of_host Stopping = true
 is_of_host Draining = true
@@ -100,6 +106,8 @@ InRange (Space space) = space < 2 ^ 64
 InRange (Frame frame) = frame < 2 ^ 64
 InRange (FreeFrames frames) = (0 < length frames) × All (λ frame. frame < 2 ^ 64) frames
 InRange (WithheldFrames frames) = (0 < length frames) × All (λ frame. frame < 2 ^ 64) frames
+InRange (RangeFree frames) = frames < 2 ^ 64
+InRange (RangeWithheld frames) = frames < 2 ^ 64
 InRange (Binding binding pasid) = (binding < 2 ^ 64) × (pasid < 2 ^ 64)
 InRange (Itag itag) = itag < 2 ^ 64
 InRange (JobTaken binding group pages) = (binding < 2 ^ 64) × (group < 2 ^ 64) × (pages < 2 ^ 64)
@@ -109,6 +117,7 @@ InRange (Use slot frame) = (slot < 2 ^ 64) × (frame < 2 ^ 64)
 InRange (Group group) = group < 2 ^ 64
 InRange (Sent count) = count < 2 ^ 64
 InRange (Freed count) = count < 2 ^ 64
+InRange (Bearer space bindings) = (space < 2 ^ 64) × (bindings < 2 ^ 64)
 InRange _ = Unit {0}
 
 -- a line of a report tells which answer it is, and that it is no refusal

@@ -30,6 +30,16 @@ pub enum Answer {
         /// The numbers of 1 to 48 frames, by page.
         frames: FrameList,
     },
+    /// `range free N`: the frames that were taken out are free.
+    RangeFree {
+        /// How many frames: 1 to 512, one for each mapped page of the range.
+        frames: u32,
+    },
+    /// `range withheld N`: the frames that were taken out wait for an endpoint.
+    RangeWithheld {
+        /// How many frames: 1 to 512, one for each mapped page of the range.
+        frames: u32,
+    },
     /// `binding B pasid P`: the new binding.
     Binding {
         /// The number of the binding, below 2^63.
@@ -151,6 +161,15 @@ pub enum Answer {
     Marked,
     /// `reset done`: the unit is open again.
     ResetDone,
+    /// `bearer S bindings N`: the space that bears the PASID.
+    Bearer {
+        /// The number of the space, below 2^63.
+        space: u64,
+        /// How many unreleased bindings it has, at all endpoints: 1 to 8.
+        bindings: u32,
+    },
+    /// `bearer none`: no space bears the PASID.
+    NoBearer,
 }
 
 impl Answer {
@@ -176,6 +195,12 @@ impl Answer {
             Answer::Frame { frame } => put_number(out, "frame ", u64::from(*frame)),
             Answer::FreeFrames { frames } => put_frames(out, "free", frames),
             Answer::WithheldFrames { frames } => put_frames(out, "withheld", frames),
+            Answer::RangeFree { frames } => put_number(out, "range free ", u64::from(*frames)),
+            Answer::RangeWithheld { frames } => put_number(
+                out,
+                "range withheld ",
+                u64::from(*frames),
+            ),
             Answer::Binding { binding, pasid } => {
                 put_number(out, "binding ", *binding)?;
                 put_number(out, " pasid ", u64::from(*pasid))
@@ -206,7 +231,7 @@ impl Answer {
         }
     }
 
-    // As `append`, for the answers of endpoints, of the link and of `look`.
+    // As `append`, for the answers of endpoints, of the link, of `look` and of `bearer`.
     fn append_endpoint(&self, out: &mut Vec<u8>) -> Result<(), AllocError>
         requires { is_of_host self.now ≡ false }
         ensures ok { OnOk result (out.new.items ≡ out.old.items ++ answer_text self.now) }
@@ -240,6 +265,11 @@ impl Answer {
             Answer::Queued => put(out, "queued"),
             Answer::Marked => put(out, "marked"),
             Answer::ResetDone => put(out, "reset done"),
+            Answer::Bearer { space, bindings } => {
+                put_number(out, "bearer ", *space)?;
+                put_number(out, " bindings ", u64::from(*bindings))
+            }
+            Answer::NoBearer => put(out, "bearer none"),
             _ => unreachable!(),
         }
     }

@@ -3,10 +3,8 @@ ghost use Rattle.std.specs.Cmp.{partial_equiv_from_equiv};
 ghost use Rattle.std.specs.Cmp.Lexicographic.{pointwise};
 ghost use Rattle.std.proofs.lemmas.Cmp.{nat_list_eq_equiv};
 
+use crate::limits::MOST_PAGES;
 use std::marker::Model;
-
-/// The most pages that one `Unmap` takes out of a space.
-pub const MOST_PAGES: usize = 48;
 
 /// The frames that an `Unmap` took out of a space, in the order of their pages: a fixed table of at most 48.
 #[derive(Clone, Copy, Debug)]

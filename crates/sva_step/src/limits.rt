@@ -1,11 +1,60 @@
+//! The limits of a world and of its tables. They are this project's own, but where a standard's section stands beside one.
 ghost use Rattle.std.specs.Prelude.{◌↔◌, IsTrue};
-ghost use Rattle.sva_step.specs.Limits.{Fits};
+ghost use Rattle.sva_step.specs.Limits.{AreLimits, Fits};
 
-/// Page numbers are below this (this project's own limit).
+/// The most endpoints of a world, each with a remapping unit of its own.
+pub const MOST_ENDPOINTS: u64 = 8;
+
+/// The most frames of a world.
+pub const MOST_FRAMES: u64 = 4096;
+
+/// The most workers of a world.
+pub const MOST_WORKERS: u64 = 4;
+
+/// Page numbers are below this; a page has 4096 bytes.
 pub const PAGES: u64 = 1 << 36;
 
-/// The numbers of spaces, bindings, messages and cookies are below this (this project's own limit).
+/// The numbers of spaces, bindings, messages and cookies are below this.
 pub const NUMBERS: u64 = 1 << 63;
+
+/// The most spaces that live at a time.
+pub const MOST_SPACES: usize = 64;
+
+/// The most pages that a space has mapped at a time.
+pub const MOST_MAPPED: usize = 1024;
+
+/// The most pages that one `Unmap` takes out of a space.
+pub const MOST_PAGES: usize = 48;
+
+/// The greatest order of a range, which has 2^order pages.
+pub const MOST_ORDER: u8 = 9;
+
+/// The PASIDs are 1 to this, of 20 bits (PCI Express Base 5.0, section 6.20).
+pub const PASIDS: u32 = 32;
+
+/// The places of a unit's invalidation queue (Intel VT-d, "Queued Invalidation Interface").
+pub const QUEUE_PLACES: usize = 64;
+
+/// The ITags are below this: five bits (PCI Express Base 5.0, section 10.3.1).
+pub const ITAGS: usize = 32;
+
+/// An invalidation is completed by at most so many completions (PCI Express Base 5.0, section 10.3.2).
+pub const MOST_COMPLETIONS: u64 = 8;
+
+/// The tags of translation requests are below this.
+pub const REQUEST_TAGS: usize = 32;
+
+/// The most translations that an endpoint keeps.
+pub const CACHED: usize = 64;
+
+/// The use slots of an endpoint are below this.
+pub const USE_SLOTS: usize = 16;
+
+/// The most page requests that are outstanding at an endpoint.
+pub const PAGE_REQUESTS: usize = 32;
+
+/// The Page Request Group Indexes in use are below this, of nine bits (PCI Express Base 5.0, section 10.4.1).
+pub const GROUPS: usize = 32;
 
 /// How large a world is, and where its numbers begin.
 #[derive(Clone, Copy, Debug, PartialEq, Eq)]
@@ -25,9 +74,14 @@ impl Config {
     pub fn fits(&self) -> bool
         ensures { IsTrue result ↔ Fits self.now }
     {
-        (1..=8).contains(&self.endpoints)
-            && (1..=4096).contains(&self.frames)
-            && (1..=4).contains(&self.workers)
+        (1..=MOST_ENDPOINTS).contains(&self.endpoints)
+            && (1..=MOST_FRAMES).contains(&self.frames)
+            && (1..=MOST_WORKERS).contains(&self.workers)
             && self.first <= NUMBERS
     }
 }
+
+/// The constants are the numbers that the definitions speak of.
+pub fn limits_stand()
+    ensures { AreLimits }
+{}

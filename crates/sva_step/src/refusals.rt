@@ -28,7 +28,7 @@ pub enum Refusal {
     SpaceFull,
     /// The space has an unreleased binding at this endpoint.
     AlreadyBound,
-    /// The 32 PASIDs of the endpoint are taken.
+    /// The space bears no PASID, and other spaces bear all 32.
     NoPasid,
     /// The space has an unreleased binding.
     StillBound,
@@ -86,10 +86,18 @@ pub enum Refusal {
     NumbersSpent,
     /// A growth of this step was refused.
     OutOfMemory,
+    /// The order of the range is above 9.
+    BadOrder,
+    /// The first page isn't a multiple of the range's size.
+    NotAligned,
+    /// No page of the range is mapped.
+    NothingMapped,
+    /// The PASID is not one of 1 to 32.
+    BadPasid,
 }
 
 impl Refusal {
-    /// The number that a report shows, 1 to 39.
+    /// The number that a report shows, 1 to 43.
     pub fn number(self) -> u8
         ensures { result ≡ number_of self }
     {
@@ -118,6 +126,10 @@ impl Refusal {
             Refusal::NotYet => "NotYet",
             Refusal::QueueFull => "QueueFull",
             Refusal::Resetting => "Resetting",
+            Refusal::BadOrder => "BadOrder",
+            Refusal::NotAligned => "NotAligned",
+            Refusal::NothingMapped => "NothingMapped",
+            Refusal::BadPasid => "BadPasid",
             _ => self.endpoint_name(),
         }
     }
@@ -176,7 +188,7 @@ impl Refusal {
     }
 }
 
-/// The numbers are 1 to 39, and no two refusals have one number or one name.
+/// The numbers are 1 to 43, and no two refusals have one number or one name.
 pub fn refusals_tell_apart()
     ensures { TellApart }
 {}

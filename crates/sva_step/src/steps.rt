@@ -41,7 +41,18 @@ pub enum Step {
         /// How many pages: 1 to 48 (a limit of this project).
         count: u64,
     },
-    /// Binds a space to an endpoint under its lowest free PASID, and sends Start.
+    /// Takes every mapped page of an aligned range out of a space.
+    UnmapRange {
+        /// The number of a live space, below 2^63.
+        space: u64,
+        /// The number of the first page, a multiple of 2^order; that of the last is below 2^36. A page has 4096 bytes.
+        page: u64,
+        /// The order: 0 to 9 for a range of 1 to 512 pages (a limit of this project; an Invalidate Request names a range
+        /// of 2^order aligned pages: PCI Express Base 5.0, section 10.3.1).
+        order: u64,
+    },
+    /// Binds a space to an endpoint under the PASID that it bears, or else the lowest that no space bears, and sends
+    /// Start. A space bears its PASID while it has an unreleased binding at any endpoint.
     Bind {
         /// The number of the endpoint, below the config's count (at most 8).
         endpoint: u64,
@@ -165,6 +176,11 @@ pub enum Step {
         /// The number of the frame, below the config's count (at most 4096).
         frame: u64,
     },
+    /// Tells which space bears a PASID.
+    Bearer {
+        /// The PASID: 1 to 32 of its 20 bits (PCI Express Base 5.0, section 6.20).
+        pasid: u64,
+    },
 }
 
 impl Step {
@@ -183,6 +199,7 @@ impl Step {
             | Step::DropSpace { .. }
             | Step::Map { .. }
             | Step::Unmap { .. }
+            | Step::UnmapRange { .. }
             | Step::Pump { .. }
             | Step::Serve { .. }
             | Step::Reset { .. }
@@ -194,7 +211,8 @@ impl Step {
             | Step::Finish { .. }
             | Step::Quit { .. }
             | Step::Deliver { .. }
-            | Step::Look { .. } => true,
+            | Step::Look { .. }
+            | Step::Bearer { .. } => true,
         }
     }
 }

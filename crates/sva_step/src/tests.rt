@@ -14,6 +14,8 @@ fn host_answers(rt: HostRuntime) -> Result<(), Fail> {
         (Answer::Frame { frame: 4095 }, "> frame 4095"),
         (Answer::FreeFrames { frames }, "> free 0 10 4095"),
         (Answer::WithheldFrames { frames }, "> withheld 0 10 4095"),
+        (Answer::RangeFree { frames: 512 }, "> range free 512"),
+        (Answer::RangeWithheld { frames: 2 }, "> range withheld 2"),
         (
             Answer::Binding {
                 binding: 9223372036854775807,
@@ -66,7 +68,7 @@ fn service_answers(rt: HostRuntime) -> Result<(), Fail> {
     Ok(())
 }
 
-// The texts that endpoints, the link and `look` print.
+// The texts that endpoints, the link, `look` and `bearer` print.
 #[test]
 fn endpoint_answers(rt: HostRuntime) -> Result<(), Fail> {
     for (answer, text) in [
@@ -94,6 +96,14 @@ fn endpoint_answers(rt: HostRuntime) -> Result<(), Fail> {
         (Answer::Queued, "> queued"),
         (Answer::Marked, "> marked"),
         (Answer::ResetDone, "> reset done"),
+        (
+            Answer::Bearer {
+                space: 0,
+                bindings: 2,
+            },
+            "> bearer 0 bindings 2",
+        ),
+        (Answer::NoBearer, "> bearer none"),
     ] {
         let mut line = Vec::from_slice(rt.alloc(), b"> ")?;
         answer.write(&mut line)?;
@@ -122,6 +132,10 @@ fn refusals_of_the_host(rt: HostRuntime) -> Result<(), Fail> {
         (Refusal::NotYet, 15, "> refused 15 NotYet"),
         (Refusal::QueueFull, 16, "> refused 16 QueueFull"),
         (Refusal::Resetting, 17, "> refused 17 Resetting"),
+        (Refusal::BadOrder, 40, "> refused 40 BadOrder"),
+        (Refusal::NotAligned, 41, "> refused 41 NotAligned"),
+        (Refusal::NothingMapped, 42, "> refused 42 NothingMapped"),
+        (Refusal::BadPasid, 43, "> refused 43 BadPasid"),
     ] {
         let mut line = Vec::from_slice(rt.alloc(), b"> ")?;
         refusal.write(&mut line)?;
@@ -242,12 +256,18 @@ fn steps_without_tokens(rt: HostRuntime) {
             page: 16,
             count: 1,
         },
+        Step::UnmapRange {
+            space: 0,
+            page: 64,
+            order: 3,
+        },
         Step::Reply {
             worker: 0,
             verdict: Verdict::Success,
         },
         Step::Deliver { message: 0 },
         Step::Look { frame: 0 },
+        Step::Bearer { pasid: 1 },
     ] {
         assert!(rt; step.is_plain(), "{step:?}");
     }

@@ -28,7 +28,7 @@ fn each_kind() -> [Kind; 12] {
         Kind::Invalidate {
             itag: 3,
             pasid: 1,
-            scope: Scope::Page(16),
+            scope: Scope::Code { page: 16, s: false },
         },
         Kind::Response {
             pasid: 1,

@@ -1,3 +1,7 @@
 pub mod IdleTags
-pub mod InOrder
+pub mod InTurn
 pub mod Waits
+pub mod Windows
+pub mod Cookies
+pub mod Kept
+pub mod Fronts

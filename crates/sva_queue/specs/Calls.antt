@@ -7,6 +7,7 @@ use Rattle.sva_queue.specs.declared.descriptors.Descriptor.{Descriptor}
 use Rattle.sva_queue.specs.declared.descriptors.Descriptor.TheVariants.{Wait}
 use Rattle.sva_queue.specs.declared.descriptors.Pumped.{Pumped}
 use Rattle.sva_queue.specs.declared.descriptors.Pumped.TheVariants.{Issued, Done, Blocked, Idle}
+use Rattle.sva_queue.specs.Cookies.{AreRising, number_after, HasNumber}
 use Rattle.sva_queue.specs.Queue.{Queue, empty, submitted, next_of, pumped, with_completion, reset_begun, reset_ended}
 
 -- `submit`, `pump`, `arrived`, `begin_reset` and `end_reset`; the other calls only read
@@ -31,14 +32,32 @@ after_all queue [] = queue
 after_all queue (call ∷ calls) = after_all (after queue call) calls
 
 -- a count of completions is 1 to 8
-abbrev pub IsPermitted : Call → Type 0
-IsPermitted (Arrived vector count) = (0 < count) × (count ≤ 8)
-IsPermitted _ = Unit {0}
+abbrev pub IsCounted : Call → Type 0
+IsCounted (Arrived vector count) = (0 < count) × (count ≤ 8)
+IsCounted _ = Unit {0}
+
+-- these descriptors may be submitted: the unit is open; their cookies are below 2^63, at least the front, above those that
+-- are queued, and rise
+pub record MaySubmit (queue : Queue) (descriptors : List Descriptor) : Type 0 where
+  pub opened : queue.is_open ≡ true
+  pub numbers : All HasNumber descriptors
+  pub rising : AreRising (number_after queue.front queue.descriptors) descriptors
+
+-- the call meets its condition
+abbrev pub IsPermitted : Queue → Call → Type 0
+IsPermitted queue (Submit descriptors) = MaySubmit queue descriptors
+IsPermitted queue (Arrived vector count) = (0 < count) × (count ≤ 8)
+IsPermitted queue _ = Unit {0}
+
+-- each call of a list meets its condition when its turn comes
+abbrev pub ArePermitted : Queue → List Call → Type 0
+ArePermitted queue [] = Unit {0}
+ArePermitted queue (call ∷ calls) = IsPermitted queue call × ArePermitted (after queue call) calls
 
 -- After every list of calls the queue has at most 64 descriptors and its tags are in order.
 abbrev pub AlwaysFits : Type 0
 AlwaysFits =
-    (calls : List Call) → All IsPermitted calls
+    (calls : List Call) → All IsCounted calls
     → (length (after_all empty calls).descriptors ≤ 64) × AreTags (after_all empty calls).tags
 
 -- ---- first in, first out

@@ -1,2 +1,5 @@
+pub mod Ring
+pub mod Cookies
 pub mod Queue
 pub mod Calls
+pub mod Fronts

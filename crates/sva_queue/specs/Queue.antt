@@ -1,6 +1,6 @@
 -- The invalidation queue of a remapping unit (Intel VT-d, "Queued Invalidation Interface"), with the tags of the
 -- Invalidate Requests that it sent.
-use Rattle.std.specs.Prelude.{ℕ, ◌+◌, ◌-◌, ◌&&◌, ◌||◌, not, Bool, true, false, Option, Some, None, List, [], ◌∷◌, ◌++◌, length, drop, is_none, nat_le, if◌then◌else◌}
+use Rattle.std.specs.Prelude.{◌≡◌, ℕ, ◌+◌, ◌-◌, ◌^◌, ◌≤◌, ◌&&◌, ◌||◌, not, Bool, true, false, Option, Some, None, List, [], ◌∷◌, ◌++◌, length, drop, is_none, nat_le, if◌then◌else◌}
 use Rattle.std.specs.List.{list_all}
 use Rattle.sva_itags.specs.Tags.{all_free, lowest_free, taken, completed}
 use Rattle.sva_itags.specs.declared.itags.Busy.{Busy}
@@ -8,26 +8,44 @@ use Rattle.sva_queue.specs.declared.descriptors.Descriptor.{Descriptor}
 use Rattle.sva_queue.specs.declared.descriptors.Descriptor.TheVariants.{Page, Pasid, Wait}
 use Rattle.sva_queue.specs.declared.descriptors.Pumped.{Pumped}
 use Rattle.sva_queue.specs.declared.descriptors.Pumped.TheVariants.{Issued, Done, Blocked, Idle}
+use Rattle.sva_queue.specs.Cookies.{AreRising, number_after}
 
--- the descriptors in order of submission, whether the unit is open (else it is in reset), and its tags
+-- The descriptors in order of submission; whether the unit is open (else it is in reset); its tags; the number after the
+-- greatest cookie that it has taken, 0 at first, which the end of a reset raises past the cookies that it made void; and the
+-- number after the greatest cookie that was submitted, 0 at first.
 pub record Queue : Type 0 where
   pub descriptors : List Descriptor
   pub is_open : Bool
   pub tags : List (Option Busy)
+  pub front : ℕ
+  pub back : ℕ
 
--- an open unit: an empty queue, and every tag is free
+-- an open unit: an empty queue, every tag is free, and no cookie was submitted
 abbrev pub empty : Queue
-empty = record { descriptors = []; is_open = true; tags = all_free }
+empty = record { descriptors = []; is_open = true; tags = all_free; front = 0; back = 0 }
+
+-- The cookies that are queued rise from the front on, up to the back: at an open unit the back is the number after the last
+-- of them, or the front where none is queued. A unit in reset has nothing queued.
+pub record InOrder (queue : Queue) : Type 0 where
+  pub rising : AreRising queue.front queue.descriptors
+  pub at_open : queue.is_open ≡ true → queue.back ≡ number_after queue.front queue.descriptors
+  pub in_reset : queue.is_open ≡ false → queue.descriptors ≡ []
+  pub reached : queue.front ≤ queue.back
+  pub limit : queue.back ≤ 2 ^ 63
 
 -- how many descriptors fit in beside those that are queued
 abbrev pub room_of : Queue → ℕ
 room_of queue = 64 - length queue.descriptors
 
--- the queue after a submission: all of it where it fits, else nothing
+-- the queue with more descriptors at its end
+abbrev pub with_more : List Descriptor → Queue → Queue
+with_more more queue =
+    record queue { descriptors = queue.descriptors ++ more; back = number_after queue.back more }
+
+-- the queue after a submission: with all of it where it fits, else the same
 abbrev pub submitted : List Descriptor → Queue → Queue
 submitted more queue =
-    if nat_le (length queue.descriptors + length more) 64 then record queue { descriptors = queue.descriptors ++ more }
-    else queue
+    if nat_le (length queue.descriptors + length more) 64 then with_more more queue else queue
 
 -- whether no tag is busy
 abbrev pub is_idle : List (Option Busy) → Bool
@@ -57,10 +75,11 @@ answer_at queue prq_empty (head ∷ rest) = answer_to queue prq_empty head
 abbrev pub next_of : Queue → Bool → Pumped
 next_of queue prq_empty = answer_at queue prq_empty queue.descriptors
 
--- the queue once `pump` has given this answer: the head is taken off, and an invalidation has the lowest free tag
+-- the queue once `pump` has given this answer: the head is taken off; an invalidation has the lowest free tag, and the front
+-- is the number after the cookie of a wait
 abbrev pub after_answer : Pumped → Queue → Queue
 after_answer (Issued tag) queue = record queue { descriptors = drop 1 queue.descriptors; tags = taken queue.tags }
-after_answer (Done cookie) queue = record queue { descriptors = drop 1 queue.descriptors }
+after_answer (Done cookie) queue = record queue { descriptors = drop 1 queue.descriptors; front = cookie + 1 }
 after_answer Blocked queue = queue
 after_answer Idle queue = queue
 
@@ -72,10 +91,11 @@ pumped prq_empty queue = after_answer (next_of queue prq_empty) queue
 abbrev pub with_completion : ℕ → ℕ → Queue → Queue
 with_completion vector count queue = record queue { tags = completed vector count queue.tags }
 
--- a reset begins: the queue is emptied, and the busy tags stay busy
+-- a reset begins: the queue is emptied, and its waits are void; the busy tags stay busy, and the front stays
 abbrev pub reset_begun : Queue → Queue
 reset_begun queue = record queue { descriptors = []; is_open = false }
 
--- a reset ends: every tag is free
+-- a reset ends: every tag is free, and the front is past all that was submitted; it stays where the unit is in no reset
 abbrev pub reset_ended : Queue → Queue
-reset_ended queue = record queue { is_open = true; tags = all_free }
+reset_ended queue =
+    record queue { is_open = true; tags = all_free; front = if queue.is_open then queue.front else queue.back }

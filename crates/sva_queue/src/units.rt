@@ -1,31 +1,58 @@
 //! A unit: its queue and its tags.
-ghost use Rattle.std.specs.Prelude.{◌≡◌, ℕ, ◌+◌, ◌≤◌, ◌↔◌, Bool, length, IsOk, OnOk, OnErr, slice_get, ◌++◌};
+ghost use Rattle.std.specs.Prelude.{◌≡◌, ℕ, ◌+◌, ◌≤◌, ◌↔◌, Bool, true, length, All, IsOk, OnOk, OnErr, slice_get, [], ◌∷◌};
 ghost use Rattle.sva_itags.specs.Tags.{busy_vector, freed_vector};
+ghost use Rattle.sva_queue.specs.Cookies.{AreRising, number_after, HasNumber};
 ghost use Rattle.sva_queue.specs.Calls.{AlwaysFits, FirstInFirstOut, DoneBehind, TagsByCalls};
+ghost use Rattle.sva_queue.specs.Fronts.{AlwaysInOrder, PendingFromFront, DoneBelowFront};
 
 use crate::descriptors::{Descriptor, Pumped, QueueFull};
-use arrayvec::ArrayVec;
+use crate::ring::Ring;
 use std::marker::Model;
 use sva_itags::{Count, Itags};
 
-/// How many descriptors a queue holds.
-const PLACES: usize = 64;
+/// The number after the cookie of a wait; `first` for an invalidation.
+fn number_after_one(first: u64, descriptor: Descriptor) -> u64
+    requires { HasNumber descriptor }
+    ensures { result ≡ number_after first (descriptor ∷ []) }
+{
+    match descriptor {
+        Descriptor::Wait { cookie, .. } => cookie + 1,
+        Descriptor::Page { .. } | Descriptor::Pasid { .. } => first,
+    }
+}
+
+/// The number after the cookie of the last wait; `first` where there is no wait.
+fn number_after(first: u64, descriptors: &[Descriptor]) -> u64
+    requires { All HasNumber descriptors.now }
+    ensures { result ≡ number_after first descriptors.now }
+{
+    let mut number = first;
+    for descriptor in descriptors {
+        number = number_after_one(number, *descriptor);
+    }
+    number
+}
 
 /// The invalidation queue of one remapping unit and the tags of the Invalidate Requests that it sent. Descriptors leave
-/// the queue in the order of their submission, and a wait only where no tag is busy. No call takes memory.
+/// the queue in the order of their submission, and a wait only where no tag is busy. By its front a submitter knows which of
+/// its waits are done. No call takes memory.
 #[derive(Debug, Drop)]
 pub struct Unit {
-    queue: ArrayVec<Descriptor, PLACES>,
+    queue: Ring,
     tags: Itags,
     is_open: bool,
+    front: u64,
+    back: u64,
 }
 
 impl Model for Unit {
-    ghost use Rattle.sva_queue.specs.Queue.{Queue};
+    ghost use Rattle.sva_queue.specs.Queue.{Queue, InOrder};
 
     ghost Value = { Queue };
 
-    ghost view = { λ u. record { descriptors = u.queue.items; is_open = u.is_open; tags = u.tags } };
+    ghost view = { λ u. record { descriptors = u.queue; is_open = u.is_open; tags = u.tags; front = u.front; back = u.back } };
+
+    ghost invariant = { λ u. InOrder (record { descriptors = u.queue; is_open = u.is_open; tags = u.tags; front = u.front; back = u.back }) };
 }
 
 impl Default for Unit {
@@ -39,7 +66,7 @@ impl Default for Unit {
 }
 
 impl Unit {
-    ghost use Rattle.sva_queue.specs.Queue.{empty, room_of, submitted, is_idle, is_complete, next_of, pumped, with_completion, reset_begun, reset_ended};
+    ghost use Rattle.sva_queue.specs.Queue.{InOrder, empty, room_of, with_more, submitted, is_idle, is_complete, next_of, pumped, with_completion, reset_begun, reset_ended};
     ghost use Rattle.sva_queue.specs.Calls.{IsWaitDone};
 
     /// An open unit with an empty queue; all its tags are free.
@@ -47,24 +74,32 @@ impl Unit {
         ensures { result ≡ empty }
     {
         Unit {
-            queue: ArrayVec::new(),
+            queue: Ring::new(),
             tags: Itags::new(),
             is_open: true,
+            front: 0,
+            back: 0,
         }
     }
 
     /// Puts all of the descriptors at the end of the queue, in their order; or none, where they don't fit into its 64
-    /// places.
+    /// places. Asks that the unit is open, and that the cookies are below 2^63, at least `front()`, above those that are
+    /// queued, and rise.
     pub fn submit(&mut self, descriptors: &[Descriptor]) -> Result<(), QueueFull>
+        requires opened { self.old.is_open ≡ true }
+        requires numbers { All HasNumber descriptors.now }
+        requires rising { AreRising (number_after self.old.front self.old.descriptors) descriptors.now }
         ensures fits { IsOk result ↔ (length self.old.descriptors + length descriptors.now ≤ 64) }
-        ensures ok { OnOk result (self.new ≡ record self.old { descriptors = self.old.descriptors ++ descriptors.now }) }
+        ensures ok { OnOk result (self.new ≡ with_more descriptors.now self.old) }
         ensures err { OnErr result (self.new ≡ self.old) }
         ensures queue { self.new ≡ submitted descriptors.now self.old }
     {
-        match self.queue.try_extend_from_slice(descriptors) {
-            Ok(()) => Ok(()),
-            Err(_) => Err(QueueFull),
+        if descriptors.len() > self.room() {
+            return Err(QueueFull);
         }
+        self.queue.extend(descriptors);
+        self.back = number_after(self.back, descriptors);
+        Ok(())
     }
 
     /// How many descriptors fit into the queue beside those that are in it, 0 to 64.
@@ -72,14 +107,24 @@ impl Unit {
         ensures room { result ≡ room_of self.now }
         ensures whole { result + length self.now.descriptors ≡ 64 }
     {
-        self.queue.remaining_capacity()
+        self.queue.room()
     }
 
     /// The descriptor that is next, if the queue isn't empty.
     pub fn head(&self) -> Option<Descriptor>
         ensures { result ≡ slice_get self.now.descriptors 0 }
     {
-        self.queue.first().copied()
+        self.queue.first()
+    }
+
+    /// The number after the greatest cookie that the unit has taken, 0 at first; the end of a reset, and not its beginning,
+    /// raises it past the cookies that the reset made void. So a submitted wait is queued, or void by a reset that hasn't
+    /// ended, exactly where its cookie is `front()` or more. At most 2^63.
+    pub fn front(&self) -> u64
+        ensures front { result ≡ self.now.front }
+        ensures order { InOrder self.now }
+    {
+        self.front
     }
 
     /// Whether the unit is open, and not in reset.
@@ -102,7 +147,8 @@ impl Unit {
         self.is_idle() && (!drain || prq_empty)
     }
 
-    /// What `pump` would answer; nothing changes.
+    /// What `pump` would answer; nothing changes. `prq_empty` is the caller's word that the unit's page request queue is
+    /// empty: the unit itself knows nothing of that queue.
     pub fn next(&self, prq_empty: bool) -> Pumped
         ensures { result ≡ next_of self.now prq_empty }
     {
@@ -125,7 +171,8 @@ impl Unit {
     }
 
     /// Takes the head off where it can go: an invalidation takes the lowest free tag, a wait goes where no tag is busy
-    /// and, with its drain flag, `prq_empty` says that the unit's page request queue is empty.
+    /// and, with its drain flag, `prq_empty` says that the unit's page request queue is empty. That is the caller's word: the
+    /// unit itself knows nothing of that queue.
     pub fn pump(&mut self, prq_empty: bool) -> Pumped
         ensures answer { result ≡ next_of self.old prq_empty }
         ensures done { (cookie : ℕ) → (result ≡ Pumped.Done cookie) ↔ IsWaitDone self.old prq_empty cookie }
@@ -134,11 +181,12 @@ impl Unit {
         let answer = self.next(prq_empty);
         match answer {
             Pumped::Issued(_) => {
-                let _invalidation = self.queue.pop_at(0);
+                self.queue.drop_first();
                 let _tag = self.tags.take();
             }
-            Pumped::Done(_) => {
-                let _wait = self.queue.pop_at(0);
+            Pumped::Done(cookie) => {
+                self.queue.drop_first();
+                self.front = cookie + 1;
             }
             Pumped::Blocked | Pumped::Idle => {}
         }
@@ -161,7 +209,8 @@ impl Unit {
         self.tags.busy()
     }
 
-    /// A reset of the function begins: the queue is emptied, and the busy tags stay busy.
+    /// A reset of the function begins: the queue is emptied, and its waits are void. The busy tags stay busy, and the front
+    /// stays.
     pub fn begin_reset(&mut self)
         ensures { self.new ≡ reset_begun self.old }
     {
@@ -169,23 +218,32 @@ impl Unit {
         self.is_open = false;
     }
 
-    /// The reset has ended: all tags are free, and the unit is open.
+    /// The reset has ended: all tags are free, the unit is open, and the front is past the cookies that the reset made void.
+    /// At a unit that is open already the front stays.
     pub fn end_reset(&mut self)
         ensures { self.new ≡ reset_ended self.old }
     {
         self.tags.clear();
+        if !self.is_open {
+            self.front = self.back;
+        }
         self.is_open = true;
     }
 }
 
 /// What holds after every list of calls: at most 64 descriptors are queued; they leave in the order of their submission;
-/// where a wait is done, each invalidation ahead of it was issued and its tag freed since, or a reset took it out; and
-/// nothing but completions and the end of a reset frees a tag.
+/// where a wait is done, each invalidation ahead of it was issued and its tag freed since, or a reset took it out;
+/// nothing but completions and the end of a reset frees a tag; the cookies that are queued rise from the front on; a wait
+/// that was submitted is queued, or void by a reset that hasn't ended, exactly where its cookie is the front or more; and one
+/// that no reset made void is done exactly where its cookie is below the front.
 pub fn laws()
     ensures fits { AlwaysFits }
     ensures order { FirstInFirstOut }
     ensures waits { DoneBehind }
     ensures tags { TagsByCalls }
+    ensures cookies { AlwaysInOrder }
+    ensures pending { PendingFromFront }
+    ensures done { DoneBelowFront }
 {}
 
 #[cfg(test)]
@@ -209,41 +267,38 @@ mod tests {
         assert_eq!(rt; unit.submit(&two[1..]), Ok(()));
     }
 
+    fn wait(cookie: u64, drain: bool) -> Descriptor
+        ensures { result ≡ Descriptor.Wait cookie drain }
+    {
+        Descriptor::Wait { cookie, drain }
+    }
+
     #[test]
     fn waits_for_tag_and_drain(rt: HostRuntime) -> Result<(), Fail> {
         let mut unit = Unit::default();
-        unit.submit(&[
-            Descriptor::Page { pasid: 1, page: 16 },
-            Descriptor::Wait {
-                cookie: 7,
-                drain: true,
-            },
-        ])?;
+        unit.submit(&[Descriptor::Page { pasid: 1, page: 16 }, wait(7, true)])?;
         assert_eq!(rt; unit.pump(false), Pumped::Issued(0));
         assert_eq!(rt; unit.pump(false), Pumped::Blocked);
         assert_eq!(rt; unit.arrived(1, Count::new(1)), 1);
         assert_eq!(rt; unit.pump(false), Pumped::Blocked);
+        assert_eq!(rt; unit.front(), 0);
         assert_eq!(rt; unit.pump(true), Pumped::Done(7));
+        assert_eq!(rt; unit.front(), 8);
         assert_eq!(rt; unit.pump(true), Pumped::Idle);
         let text = format!(in rt.alloc(); "{QueueFull}")?;
         assert_eq!(rt; text.as_str(), "the invalidation queue is full");
         Ok(())
     }
 
-    fn wait(cookie: u64, drain: bool) -> Descriptor {
-        Descriptor::Wait { cookie, drain }
-    }
-
     #[test]
     fn goes_in_order_until_a_reset(rt: HostRuntime) -> Result<(), Fail> {
         let mut unit = Unit::new();
         let plain = wait(0, false);
-        let draining = wait(1, true);
+        let draining = wait(4, true);
         let all = Descriptor::Pasid { pasid: 1 };
         let page = Descriptor::Page { pasid: 1, page: 16 };
         let other = Descriptor::Page { pasid: 1, page: 17 };
-        unit.submit(&[page, other, plain])?;
-        unit.submit(&[all, draining])?;
+        unit.submit(&[page, other, plain, all, draining])?;
         assert_eq!(rt; unit.next(false), Pumped::Issued(0));
         assert_eq!(rt; unit.pump(false), Pumped::Issued(0));
         assert_eq!(rt; unit.head(), Some(other));
@@ -255,7 +310,9 @@ mod tests {
         assert_eq!(rt; unit.busy(), 0b10);
         assert_eq!(rt; unit.pump(true), Pumped::Blocked);
         assert_eq!(rt; unit.arrived(0b10, Count::new(2)), 0b10);
+        assert_eq!(rt; unit.front(), 0);
         assert_eq!(rt; unit.pump(false), Pumped::Done(0));
+        assert_eq!(rt; unit.front(), 1);
         assert_eq!(rt; unit.pump(false), Pumped::Issued(0));
         assert_eq!(rt; unit.head(), Some(draining));
         assert_eq!(rt; unit.pump(true), Pumped::Blocked);
@@ -264,11 +321,12 @@ mod tests {
         assert_eq!(rt; unit.head(), None);
         assert_eq!(rt; unit.busy(), 0b01);
         assert_eq!(rt; unit.pump(true), Pumped::Idle);
+        // The wait with cookie 4 is void, and isn't told to be done while the unit is in reset.
+        assert_eq!(rt; unit.front(), 1);
         unit.end_reset();
         assert!(rt; unit.is_open());
         assert_eq!(rt; unit.busy(), 0);
-        unit.submit(&[plain])?;
-        assert_eq!(rt; unit.pump(false), Pumped::Done(0));
+        assert_eq!(rt; unit.front(), 5);
         assert_eq!(rt; unit.room(), 64);
         Ok(())
     }

@@ -12,12 +12,12 @@ use Rattle.sva_itags.specs.declared.itags.Busy.{Busy}
 use Rattle.sva_queue.specs.declared.descriptors.Descriptor.{Descriptor}
 use Rattle.sva_queue.specs.declared.descriptors.Pumped.{Pumped}
 use Rattle.sva_queue.specs.declared.descriptors.Pumped.TheVariants.{Issued, Done, Blocked, Idle}
-use Rattle.sva_queue.specs.Queue.{Queue, empty, next_of, after_answer}
-use Rattle.sva_queue.specs.Calls.{Call, after, after_all, IsPermitted, AlwaysFits, entering, taken_off, leaving, all_entering, all_leaving, FirstInFirstOut, tag_calls_by, tag_calls_of, all_tag_calls, TagsByCalls}
+use Rattle.sva_queue.specs.Queue.{Queue, empty, with_more, next_of, after_answer}
+use Rattle.sva_queue.specs.Calls.{Call, after, after_all, IsCounted, AlwaysFits, entering, taken_off, leaving, all_entering, all_leaving, FirstInFirstOut, tag_calls_by, tag_calls_of, all_tag_calls, TagsByCalls}
 use Rattle.sva_queue.specs.Calls.Call.{Submit, Pump, Arrived, BeginReset, EndReset}
 
 -- ---- one call
-submit_step : (queue : Queue) (more : List Descriptor) (b : Bool) → queue.descriptors ++ (if b then more else []) ≡ (if b then record queue { descriptors = queue.descriptors ++ more } else queue).descriptors
+submit_step : (queue : Queue) (more : List Descriptor) (b : Bool) → queue.descriptors ++ (if b then more else []) ≡ (if b then with_more more queue else queue).descriptors
 submit_step queue more true = refl
 submit_step queue more false = append-nil queue.descriptors
 
@@ -27,7 +27,7 @@ pump_step (Done cookie) queue = sym (take-append-drop 1 queue.descriptors)
 pump_step Blocked queue = refl
 pump_step Idle queue = refl
 
-one_step : (call : Call) (queue : Queue) → queue.descriptors ++ entering queue call ≡ leaving queue call ++ (after queue call).descriptors
+pub one_step : (call : Call) (queue : Queue) → queue.descriptors ++ entering queue call ≡ leaving queue call ++ (after queue call).descriptors
 one_step (Submit more) queue = submit_step queue more (nat_le (length queue.descriptors + length more) 64)
 one_step (Pump e) queue = append-nil queue.descriptors ∙ pump_step (next_of queue e) queue
 one_step (Arrived v n) queue = append-nil queue.descriptors
@@ -49,7 +49,7 @@ pub first_in_first_out : FirstInFirstOut
 first_in_first_out calls = in_order calls empty
 
 -- ---- the size of the queue, and its tags
-submit_fits : (queue : Queue) (more : List Descriptor) (b : Bool) → b ≡ nat_le (length queue.descriptors + length more) 64 → length queue.descriptors ≤ 64 → length (if b then record queue { descriptors = queue.descriptors ++ more } else queue).descriptors ≤ 64
+submit_fits : (queue : Queue) (more : List Descriptor) (b : Bool) → b ≡ nat_le (length queue.descriptors + length more) 64 → length queue.descriptors ≤ 64 → length (if b then with_more more queue else queue).descriptors ≤ 64
 submit_fits queue more true e h =
     let fits : length queue.descriptors + length more ≤ 64 = grind (arith, nat_tests) in
     omega (arith, length-append queue.descriptors more)
@@ -68,7 +68,7 @@ call_fits (Arrived v n) queue h = h
 call_fits BeginReset queue h = omega arith
 call_fits EndReset queue h = h
 
-submit_tags : (queue : Queue) (more : List Descriptor) (b : Bool) → AreTags queue.tags → AreTags (if b then record queue { descriptors = queue.descriptors ++ more } else queue).tags
+submit_tags : (queue : Queue) (more : List Descriptor) (b : Bool) → AreTags queue.tags → AreTags (if b then with_more more queue else queue).tags
 submit_tags queue more true h = h
 submit_tags queue more false h = h
 
@@ -78,27 +78,27 @@ pump_tags (Done cookie) queue h = h
 pump_tags Blocked queue h = h
 pump_tags Idle queue h = h
 
-call_tags : (call : Call) (queue : Queue) → IsPermitted call → AreTags queue.tags → AreTags (after queue call).tags
+call_tags : (call : Call) (queue : Queue) → IsCounted call → AreTags queue.tags → AreTags (after queue call).tags
 call_tags (Submit more) queue p h = submit_tags queue more (nat_le (length queue.descriptors + length more) 64) h
 call_tags (Pump e) queue p h = pump_tags (next_of queue e) queue h
 call_tags (Arrived v n) queue p h = after-tags (Arrived_tag v n) queue.tags p h
 call_tags BeginReset queue p h = h
 call_tags EndReset queue p h = (refl, All-replicate IsPlace 32 None tt)
 
-all_fit : (calls : List Call) (queue : Queue) → ByRecursion IsPermitted calls → length queue.descriptors ≤ 64 → AreTags queue.tags → (length (after_all queue calls).descriptors ≤ 64) × AreTags (after_all queue calls).tags
+all_fit : (calls : List Call) (queue : Queue) → ByRecursion IsCounted calls → length queue.descriptors ≤ 64 → AreTags queue.tags → (length (after_all queue calls).descriptors ≤ 64) × AreTags (after_all queue calls).tags
 all_fit [] queue p h t = (h, t)
 all_fit (call ∷ calls) queue p h t = all_fit calls (after queue call) p.1 (call_fits call queue h) (call_tags call queue p.0 t)
 
 pub always_fits : AlwaysFits
 always_fits calls p =
-    all_fit calls empty (recursion_from_All IsPermitted calls p) (omega arith) (refl, All-replicate IsPlace 32 None tt)
+    all_fit calls empty (recursion_from_All IsCounted calls p) (omega arith) (refl, All-replicate IsPlace 32 None tt)
 
 -- ---- what changes the tags
 tags_after-append : (xs ys : List TagCall) (tags : List (Option Busy)) → tags_after tags (xs ++ ys) ≡ tags_after (tags_after tags xs) ys
 tags_after-append [] ys tags = refl
 tags_after-append (x ∷ xs) ys tags = tags_after-append xs ys (tag_after tags x)
 
-submit_step_tags : (queue : Queue) (more : List Descriptor) (b : Bool) → (if b then record queue { descriptors = queue.descriptors ++ more } else queue).tags ≡ queue.tags
+submit_step_tags : (queue : Queue) (more : List Descriptor) (b : Bool) → (if b then with_more more queue else queue).tags ≡ queue.tags
 submit_step_tags queue more true = refl
 submit_step_tags queue more false = refl
 

@@ -1,0 +1,98 @@
+//! The places of a queue.
+ghost use Rattle.std.specs.Prelude.{◌≡◌, ◌+◌, ◌<◌, ◌≤◌, [], ◌∷◌, ◌++◌, length, drop, slice_get};
+
+use crate::descriptors::Descriptor;
+use arrayvec::ArrayVec;
+use std::marker::Model;
+
+/// How many descriptors a queue holds.
+const PLACES: usize = 64;
+
+/// Up to 64 descriptors, first in, first out. They lie in a table of 64 places, from the place `head` on and round the table's
+/// end; what is in it never moves.
+#[derive(Debug, Drop)]
+pub struct Ring {
+    places: ArrayVec<Descriptor, PLACES>,
+    head: usize,
+    len: usize,
+}
+
+impl Model for Ring {
+    ghost use Rattle.std.specs.Prelude.{◌≡◌, ◌<◌, ◌≤◌, List, length};
+    ghost use Rattle.sva_queue.specs.declared.descriptors.Descriptor.{Descriptor};
+    ghost use Rattle.sva_queue.specs.Ring.{window};
+
+    ghost Value = { List Descriptor };
+
+    ghost view = { λ r. window r.head r.len r.places.items };
+
+    ghost invariant = { λ r. (length r.places.items ≡ 64) × (r.head < 64) × (r.len ≤ 64) };
+}
+
+impl Ring {
+    /// An empty queue.
+    pub fn new() -> Self
+        ensures { result ≡ [] }
+    {
+        Ring {
+            places: ArrayVec::from([Descriptor::default(); PLACES]),
+            head: 0,
+            len: 0,
+        }
+    }
+
+    /// How many of the 64 places are free.
+    pub fn room(&self) -> usize
+        ensures { result + length self.now ≡ 64 }
+    {
+        PLACES - self.len
+    }
+
+    /// The first descriptor, if there is one.
+    pub fn first(&self) -> Option<Descriptor>
+        ensures { result ≡ slice_get self.now 0 }
+    {
+        if self.len == 0 {
+            None
+        } else {
+            Some(self.places[self.head])
+        }
+    }
+
+    /// Puts a descriptor behind the last one.
+    pub fn push(&mut self, descriptor: Descriptor)
+        requires { length self.old < 64 }
+        ensures { self.new ≡ self.old ++ descriptor ∷ [] }
+    {
+        let place = (self.head + self.len) % PLACES;
+        self.places[place] = descriptor;
+        self.len += 1;
+    }
+
+    /// Puts descriptors behind the last one, in their order.
+    pub fn extend(&mut self, descriptors: &[Descriptor])
+        requires { length self.old + length descriptors.now ≤ 64 }
+        ensures { self.new ≡ self.old ++ descriptors.now }
+    {
+        for descriptor in descriptors {
+            self.push(*descriptor);
+        }
+    }
+
+    /// Takes the first descriptor out; nothing where there is none.
+    pub fn drop_first(&mut self)
+        ensures { self.new ≡ drop 1 self.old }
+    {
+        if self.len > 0 {
+            self.head = (self.head + 1) % PLACES;
+            self.len -= 1;
+        }
+    }
+
+    /// Takes all descriptors out.
+    pub fn clear(&mut self)
+        ensures { self.new ≡ [] }
+    {
+        self.len = 0;
+    }
+}

@@ -55,19 +55,16 @@ pub(crate) fn lowered(bearer: Option<Bearer>) -> Option<Bearer>
     requires { IfSome bearer (λ before. 0 < before.bindings) }
     ensures { result ≡ lowered bearer }
 {
-    match bearer {
-        Some(
-            Bearer {
-                space: _,
-                bindings: 1,
-            },
-        )
-        | None => None,
-        Some(Bearer { space, bindings }) => Some(Bearer {
-            space,
-            bindings: bindings - 1,
-        }),
+    let Some(before) = bearer else {
+        return None;
+    };
+    if before.bindings == 1 {
+        return None;
     }
+    Some(Bearer {
+        space: before.space,
+        bindings: before.bindings - 1,
+    })
 }
 
 /// The PASID that the space bears.

@@ -1,18 +1,22 @@
 -- The laws of the calls of a table: what holds of the table and of what is in hand is kept by each call.
-use Rattle.std.proofs.Common.{◌≡◌, ◌≢◌, ℕ, Bool, true, false, cond, nat_eq, inl, inr, Option, Some, None, List, [], ◌∷◌, ◌++◌, refl, sym, ◌∙◌, ap, subst, arith, rules}
-use Rattle.std.specs.Prelude.{◌||◌, All, IfSome, IsSomeAnd, MatchOption, option_and_then, option_map}
+use Rattle.std.proofs.Common.{◌≡◌, ◌≢◌, ◌↔◌, ℕ, Bool, true, false, cond, nat_eq, inl, inr, Option, Some, None, List, [], ◌∷◌, ◌++◌, refl, sym, ◌∙◌, ap, subst, arith, rules}
+use Rattle.std.specs.Prelude.{All, IfSome, IsSomeAnd, option_and_then, option_map}
 use Rattle.std.proofs.lemmas.List.Elements.{All-nil, All-head, All-tail}
-use Rattle.std.proofs.lemmas.Bool.{cases_Bool, cases_eq, eq-eqb, ne_eqb, or_left, and_from, false≢true}
+use Rattle.std.proofs.lemmas.Bool.{cases_eq, eq-eqb, ne_eqb}
 use Rattle.sva_pasid.specs.States.{Numbers}
-use Rattle.sva_pasid.specs.Stages.{numbers_of}
-use Rattle.sva_pasid.specs.Moves.{Life, Move, after_move, numbers_of_life, MovesByTable}
+use Rattle.sva_pasid.specs.Stages.{numbers_of, reset_of, IsLive}
+use Rattle.sva_pasid.specs.Moves.{Life, Move, after_move, numbers_of_life, kind_of, MovesByTable}
 use Rattle.sva_pasid.specs.Moves.Life.{at, over}
-use Rattle.sva_pasid.specs.Places.{is_of, place_of, stage_of, with_stage, without, is_borne, bears, lowest, IsLowest, AllBorne, LowestIsLeast, begun, IsOwn, IsTable}
-use Rattle.sva_pasid.specs.Calls.{Holder, Call, opening, hand_with, after_begin, after_take, after_moving, after_put, after_end, after, after_all, IsPermitted, ArePermitted, life_in, life_of, IsLifeStep, AlwaysTable, AlwaysAwaited, KeptUntilEnd, LivesByTable}
-use Rattle.sva_pasid.specs.Calls.Call.{begin, take, move, put, end}
+use Rattle.sva_pasid.specs.Moves.Move.{reset}
+use Rattle.sva_pasid.specs.Moves.Kind.{live}
+use Rattle.sva_pasid.specs.Places.{is_of, place_of, stage_of, with_stage, without, lowest, IsLowest, begun, reset_at, after_reset, IsLiveIn, ShareAlike, IsOwn, IsTable}
+use Rattle.sva_pasid.specs.Calls.{Holder, Call, opening, hand_with, after_begin, after_take, after_moving, after_put, after_end, after, after_all, IsPermitted, ArePermitted, life_in, life_of, IsLifeStep, AlwaysTable, SharedBySpace, AlwaysAwaited, Spares, KeptUntilEnd, LivesByTable, TakenBack, ResetByMoves}
+use Rattle.sva_pasid.specs.Calls.Call.{begin, take, move, put, end, take_back, by_reset}
 use Rattle.sva_pasid.proofs.MoveLemmas.{move_keeps}
-use Rattle.sva_pasid.proofs.PlaceLemmas.{found_or, place_of-binding, place_of-with_same, place_of-with_other, place_of-without_same, place_of-without_other, place_of-push, with_stage-table, without-table, begun-table, found-own, is_lowest, all_borne, FitsPlace}
+use Rattle.sva_pasid.proofs.PlaceLemmas.{found_or, find_none, place_of-binding, place_of-with_same, place_of-with_other, place_of-without_same, place_of-without_other, place_of-push, place_of-reset, with_stage-table, without-table, without-absent, begun-table, reset-table, reset-numbers, reset-keeps, found-own, FitsPlace}
+use Rattle.sva_pasid.proofs.ShareLemmas.{is_lowest, lowest_alike, alike_found, kept_to_space}
 use Rattle.sva_pasid.specs.declared.stages.Stage.{Stage}
+use Rattle.sva_pasid.specs.declared.stages.Stage.TheVariants.{Live, Stopping, Draining, Invalidating, Quiet, Lost}
 use Rattle.sva_pasid.specs.declared.places.Place.{Place}
 
 moves_by_table : MovesByTable
@@ -183,29 +187,115 @@ none_else : (r : Option Place) → found_or r None ≡ r
 none_else None = refl
 none_else (Some p) = refl
 
-begin_pasid : (h : Holder) (e s b : ℕ) (pasid : Option ℕ) → IsHeld h → place_of b h.places ≡ None → lowest e h.places ≡ pasid → Goes h (after_begin e s b pasid h)
+begin_pasid : (h : Holder) (e s b : ℕ) (pasid : Option ℕ) → IsHeld h → place_of b h.places ≡ None → lowest s h.places ≡ pasid → Goes h (after_begin e s b pasid h)
 begin_pasid h e s b None i f l = nothing h i
 begin_pasid h e s b (Some q) i f l =
     let p : Place = begun e s b q in
     let is_here : is_of b p ≡ true = eq-eqb b b refl in
     let found : place_of b (h.places ++ p ∷ []) ≡ Some p = place_of-push b h.places p ∙ (rw (f, is_here)) in
     let hand : h.hand b ≡ None = no_hand (h.hand b) (subst (λ (x : Option Place). IsMatched x (h.hand b)) f (i.matched b)) in
-    goes_at h (after_begin e s b (Some q) h) b i (begun-table e s b q h.places i.table f (is_lowest e h.places q l))
+    goes_at h (after_begin e s b (Some q) h) b i (begun-table e s b q h.places i.table f (is_lowest s h.places q i.table l).from_one (is_lowest s h.places q i.table l).to_last (lowest_alike e s b q h.places i.table l))
     (kept_at (place_of b h.places) (place_of b (h.places ++ p ∷ [])) None (Some p) (h.hand b) (h.hand b) None None f found hand hand (kept_begin e s b q))
     (λ c n. let other : is_of c p ≡ false = ne_eqb b c n in place_of-push c h.places p ∙ (rw other (none_else (place_of c h.places)))) (λ c n. refl)
 
--- every permitted call
-goes : (h : Holder) (c : Call) → IsHeld h → IsPermitted h c → Goes h (after h c)
-goes h (begin e s b) i w = begin_pasid h e s b (lowest e h.places) i w.1 refl
-goes h (take b) i w = take_place h b (place_of b h.places) i refl
-goes h (move b m) i w = move_life h b m (h.hand b) i refl
-goes h (put b) i w = put_life h b (h.hand b) i refl
-goes h (end b) i w = end_life h b (h.hand b) i refl
+-- `by_reset`
+pub reset_by_moves : ResetByMoves
+reset_by_moves (Live n) = refl
+reset_by_moves (Stopping s) = refl
+reset_by_moves (Draining w) = refl
+reset_by_moves (Invalidating w) = refl
+reset_by_moves (Quiet n) = refl
+reset_by_moves (Lost n) = refl
 
-held_after : (h : Holder) (c : Call) → IsHeld h → IsPermitted h c → IsHeld (after h c)
-held_after h c i w =
-    let g : Goes h (after h c) = goes h c i w in
-    record { table = g.table; matched = λ b. (g.cell b).matched }
+reset_step : (stage : Stage) → IsLifeStep (Some (at stage)) (Some (at (reset_of stage)))
+reset_step stage =
+    subst (λ (life : Life). IsLifeStep (Some (at stage)) (Some life)) (sym (reset_by_moves stage)) (moves_by_table (at stage) reset, move_keeps (at stage) reset)
+
+reset_stage : (p : Place) (s : Option Stage) (life : Option Life) → p.stage ≡ s → IsInOne p s life → IsKept (Some p) (Some (record p { stage = option_map reset_of s })) life life
+reset_stage p None None e m = absurd m
+reset_stage p None (Some life) e m = record { matched = m; step = stays (Some life) }
+reset_stage p (Some stage) None e m = record {
+  matched = tt;
+  step = subst (λ (s : Option Stage). IsLifeStep (option_map (λ (k : Stage). at k) s) (Some (at (reset_of stage)))) (sym e) (reset_step stage);
+}
+reset_stage p (Some stage) (Some life) e m = absurd m
+
+reset_place : (e : ℕ) (place : Option Place) (life : Option Life) → IsMatched place life → IsKept place (option_map (reset_at e) place) life life
+reset_place e None life m = record { matched = m; step = stays (life_in None life) }
+reset_place e (Some p) life m = by_test (nat_eq p.endpoint e)
+  where
+    by_test : (t : Bool) → IsKept (Some p) (Some (cond t (record p { stage = option_map reset_of p.stage }) p)) life life
+    by_test true = reset_stage p p.stage life refl m
+    by_test false = record { matched = m; step = stays (life_in (Some p) life) }
+
+reset_goes : (h : Holder) (e : ℕ) → IsHeld h → Goes h (after h (by_reset e))
+reset_goes h e i = record {
+  table = reset-table e h.places i.table;
+  cell = λ c. subst (λ (x : Option Place). IsKept (place_of c h.places) x (h.hand c) (h.hand c)) (sym (place_of-reset e c h.places)) (reset_place e (place_of c h.places) (h.hand c) (i.matched c));
+}
+
+-- `take_back`: the place has a live stage, so nothing of the binding is in hand
+record IsLiveAt (place : Option Place) : Type 0 where
+  at : Place
+  found : place ≡ Some at
+  numbers : Numbers
+  stage : at.stage ≡ Some (Live numbers)
+
+live_at : (place : Option Place) → IsSomeAnd (option_and_then (λ (p : Place). p.stage) place) IsLive → IsLiveAt place
+live_at None w = absurd w
+live_at (Some p) w = by_stage p.stage refl w
+  where
+    by_live : (stage : Stage) → p.stage ≡ Some stage → IsLive stage → IsLiveAt (Some p)
+    by_live (Live n) e w = record { at = p; found = refl; numbers = n; stage = e }
+    by_live (Stopping _) e w = absurd w
+    by_live (Draining _) e w = absurd w
+    by_live (Invalidating _) e w = absurd w
+    by_live (Quiet _) e w = absurd w
+    by_live (Lost _) e w = absurd w
+
+    by_stage : (s : Option Stage) → p.stage ≡ s → IsSomeAnd s IsLive → IsLiveAt (Some p)
+    by_stage None e w = absurd w
+    by_stage (Some stage) e w = by_live stage e w
+
+none_in_hand : (h : Holder) (b : ℕ) → IsHeld h → IsLiveIn b h.places → h.hand b ≡ None
+none_in_hand h b i w =
+    let x : IsLiveAt (place_of b h.places) = live_at (place_of b h.places) w in
+    let here : IsInOne x.at x.at.stage (h.hand b) = subst (λ (p : Option Place). IsMatched p (h.hand b)) x.found (i.matched b) in
+    out_of_hand x.at (Live x.numbers) (h.hand b) (subst (λ (s : Option Stage). IsInOne x.at s (h.hand b)) x.stage here)
+
+back_other : (h : Holder) (b c : ℕ) → IsHeld h → b ≢ c → IsKept (place_of c h.places) (place_of c (without b h.places)) (h.hand c) (h.hand c)
+back_other h b c i n = same_cell (place_of c h.places) (place_of c (without b h.places)) (h.hand c) (h.hand c) (i.matched c) (place_of-without_other b c h.places n) refl
+
+held_back : (h : Holder) (b : ℕ) → IsHeld h → IsLiveIn b h.places → IsHeld (after h (take_back b))
+held_back h b i w = record {
+  table = without-table b h.places i.table;
+  matched = λ c. elim (cases_eq b c) [
+    | inl e ↦ subst (λ (x : ℕ). IsMatched (place_of x (without b h.places)) (h.hand x)) e (rw (place_of-without_same b h.places, none_in_hand h b i w) tt)
+    | inr n ↦ (back_other h b c i n).matched
+  ];
+}
+
+-- every permitted call: what it does to a binding that it doesn't take back, and what holds after it
+steps : (h : Holder) (call : Call) (c : ℕ) → IsHeld h → IsPermitted h call → call ≢ take_back c → IsLifeStep (life_of c h) (life_of c (after h call))
+steps h (begin e s b) c i w n = ((begin_pasid h e s b (lowest s h.places) i w.1 refl).cell c).step
+steps h (take b) c i w n = ((take_place h b (place_of b h.places) i refl).cell c).step
+steps h (move b m) c i w n = ((move_life h b m (h.hand b) i refl).cell c).step
+steps h (put b) c i w n = ((put_life h b (h.hand b) i refl).cell c).step
+steps h (end b) c i w n = ((end_life h b (h.hand b) i refl).cell c).step
+steps h (take_back b) c i w n = (back_other h b c i (λ e. n (ap (λ (x : ℕ). take_back x) e))).step
+steps h (by_reset e) c i w n = ((reset_goes h e i).cell c).step
+
+held_goes : (h h' : Holder) → Goes h h' → IsHeld h'
+held_goes h h' g = record { table = g.table; matched = λ b. (g.cell b).matched }
+
+held_after : (h : Holder) (call : Call) → IsHeld h → IsPermitted h call → IsHeld (after h call)
+held_after h (begin e s b) i w = held_goes h (after h (begin e s b)) (begin_pasid h e s b (lowest s h.places) i w.1 refl)
+held_after h (take b) i w = held_goes h (after h (take b)) (take_place h b (place_of b h.places) i refl)
+held_after h (move b m) i w = held_goes h (after h (move b m)) (move_life h b m (h.hand b) i refl)
+held_after h (put b) i w = held_goes h (after h (put b)) (put_life h b (h.hand b) i refl)
+held_after h (end b) i w = held_goes h (after h (end b)) (end_life h b (h.hand b) i refl)
+held_after h (take_back b) i w = held_back h b i w
+held_after h (by_reset e) i w = held_goes h (after h (by_reset e)) (reset_goes h e i)
 
 held_after_all : (h : Holder) (cs : List Call) → IsHeld h → ArePermitted h cs → IsHeld (after_all h cs)
 held_after_all h [] i w = i
@@ -235,91 +325,119 @@ after_all-append h [] ds = refl
 after_all-append h (c ∷ cs) ds = after_all-append (after h c) cs ds
 
 pub lives_by_table : LivesByTable
-lives_by_table calls c b w =
+lives_by_table calls c b n w =
     let parts = permitted_first opening calls (c ∷ []) w in
     let i : IsHeld (after_all opening calls) = held_after_all opening calls held_opening parts.0 in
-    let g : Goes (after_all opening calls) (after (after_all opening calls) c) = goes (after_all opening calls) c i parts.1.0 in
-    subst (λ (x : Holder). IsLifeStep (life_of b (after_all opening calls)) (life_of b x)) (sym (after_all-append opening calls (c ∷ []))) (g.cell b).step
+    subst (λ (x : Holder). IsLifeStep (life_of b (after_all opening calls)) (life_of b x)) (sym (after_all-append opening calls (c ∷ []))) (steps (after_all opening calls) c b i parts.1.0 n)
+
+pub shared_by_space : SharedBySpace
+shared_by_space calls b c p q w f g =
+    alike_found (is_of b) (is_of c) (after_all opening calls).places p q (held_after_all opening calls held_opening w).table.apart f g
+
+-- a binding that is taken back
+life_before : (h : Holder) (b : ℕ) → IsHeld h → IsLiveIn b h.places → IsSomeAnd (life_of b h) (λ life. kind_of life ≡ live)
+life_before h b i w =
+    let x : IsLiveAt (place_of b h.places) = live_at (place_of b h.places) w in
+    subst (λ (life : Option Life). IsSomeAnd (life_in (place_of b h.places) life) (λ k. kind_of k ≡ live)) (sym (none_in_hand h b i w))
+    (subst (λ (p : Option Place). IsSomeAnd (life_in p None) (λ k. kind_of k ≡ live)) (sym x.found)
+    (subst (λ (s : Option Stage). IsSomeAnd (option_map (λ (k : Stage). at k) s) (λ k. kind_of k ≡ live)) (sym x.stage) refl))
+
+life_behind : (h : Holder) (b : ℕ) → IsHeld h → IsLiveIn b h.places → life_of b (after h (take_back b)) ≡ None
+life_behind h b i w = rw (place_of-without_same b h.places, none_in_hand h b i w) refl
+
+without-push : (e s b q : ℕ) (ps : List Place) → place_of b ps ≡ None → without b (ps ++ begun e s b q ∷ []) ≡ ps
+without-push e s b q [] f = let here : is_of b (begun e s b q) ≡ true = eq-eqb b b refl in rw here refl
+without-push e s b q (p ∷ ps) f =
+    let a : (is_of b p ≡ false) × (place_of b ps ≡ None) = find_none (is_of b p) p (place_of b ps) f in
+    let other : is_of b p ≡ false = a.0 in
+    rw other (ap (λ (qs : List Place). p ∷ qs) (without-push e s b q ps a.1))
+
+begun_and_back : (h : Holder) (e s b : ℕ) (r : Option ℕ) → place_of b h.places ≡ None → without b (after_begin e s b r h).places ≡ h.places
+begun_and_back h e s b None f = without-absent b h.places f
+begun_and_back h e s b (Some q) f = without-push e s b q h.places f
+
+pub taken_back : TakenBack
+taken_back calls w =
+    let h : Holder = after_all opening calls in
+    let i : IsHeld h = held_after_all opening calls held_opening w in (
+      λ b live. (life_before h b i live, ap (λ (x : Holder). life_of b x) (after_all-append opening calls (take_back b ∷ [])) ∙ life_behind h b i live),
+      λ e s b free. ap (λ (x : Holder). x.places) (after_all-append opening calls (begin e s b ∷ take_back b ∷ [])) ∙ begun_and_back h e s b (lowest s h.places) free.1,
+    )
 
 -- A PASID is kept until the end of its binding.
 
--- the binding has a place at the endpoint, under the PASID
+-- the binding has a place, of the space and under the PASID
 abbrev Bears : ℕ → ℕ → Option Place → Type 0
-Bears e q place = IsSomeAnd place (λ p. (p.endpoint ≡ e) × (p.pasid ≡ q))
+Bears s q place = IsSomeAnd place (λ p. (p.space ≡ s) × (p.pasid ≡ q))
 
-bears_with : (b c e q : ℕ) (s : Option Stage) (ps : List Place) → Bears e q (place_of c ps) → Bears e q (place_of c (with_stage b s ps))
-bears_with b c e q s ps h = by_place (place_of c ps) b c e q s ps refl h
+bears_with : (b c s q : ℕ) (stage : Option Stage) (ps : List Place) → Bears s q (place_of c ps) → Bears s q (place_of c (with_stage b stage ps))
+bears_with b c s q stage ps h = by_place (place_of c ps) refl h
   where
-    by_place : (r : Option Place) (b c e q : ℕ) (s : Option Stage) (ps : List Place) → place_of c ps ≡ r → Bears e q r → Bears e q (place_of c (with_stage b s ps))
-    by_place None b c e q s ps f h = absurd h
-    by_place (Some p) b c e q s ps f h =
+    by_place : (r : Option Place) → place_of c ps ≡ r → Bears s q r → Bears s q (place_of c (with_stage b stage ps))
+    by_place None f h = absurd h
+    by_place (Some p) f h =
         elim (cases_eq b c) [
           | inl same ↦
               let here : place_of b ps ≡ Some p = ap (λ (k : ℕ). place_of k ps) same ∙ f in
-              let after : place_of c (with_stage b s ps) ≡ Some (record p { stage = s }) = ap (λ (k : ℕ). place_of k (with_stage b s ps)) (sym same) ∙ place_of-with_same b s ps p here in
+              let after : place_of c (with_stage b stage ps) ≡ Some (record p { stage = stage }) = ap (λ (k : ℕ). place_of k (with_stage b stage ps)) (sym same) ∙ place_of-with_same b stage ps p here in
               rw after h
-          | inr n ↦ rw (place_of-with_other b c s ps (Some p) n f) h
+          | inr n ↦ rw (place_of-with_other b c stage ps (Some p) n f) h
         ]
 
-bears_push : (c e q : ℕ) (ps : List Place) (p : Place) → Bears e q (place_of c ps) → Bears e q (place_of c (ps ++ p ∷ []))
-bears_push c e q ps p h = rw (place_of-push c ps p) (by_found (place_of c ps) (cond (is_of c p) (Some p) None) h)
+bears_push : (c s q : ℕ) (ps : List Place) (p : Place) → Bears s q (place_of c ps) → Bears s q (place_of c (ps ++ p ∷ []))
+bears_push c s q ps p h = rw (place_of-push c ps p) (by_found (place_of c ps) (cond (is_of c p) (Some p) None) h)
   where
-    by_found : (r o : Option Place) → Bears e q r → Bears e q (found_or r o)
+    by_found : (r o : Option Place) → Bears s q r → Bears s q (found_or r o)
     by_found None o h = absurd h
     by_found (Some p) o h = h
 
-bears_begin : (h : Holder) (c e q e' s' b' : ℕ) (pasid : Option ℕ) → Bears e q (place_of c h.places) → Bears e q (place_of c (after_begin e' s' b' pasid h).places)
-bears_begin h c e q e' s' b' None k = k
-bears_begin h c e q e' s' b' (Some q') k = bears_push c e q h.places (begun e' s' b' q') k
+bears_reset : (e c s q : ℕ) (ps : List Place) → Bears s q (place_of c ps) → Bears s q (place_of c (after_reset e ps))
+bears_reset e c s q ps h = rw (place_of-reset e c ps) (by_found (place_of c ps) h)
+  where
+    by_found : (r : Option Place) → Bears s q r → Bears s q (option_map (reset_at e) r)
+    by_found None h = absurd h
+    by_found (Some p) h = ((reset-keeps e p).1 ∙ h.0, (reset-keeps e p).0 ∙ h.1)
 
-bears_take : (h : Holder) (c e q b : ℕ) (s : Option Stage) → Bears e q (place_of c h.places) → Bears e q (place_of c (after_take b s h).places)
-bears_take h c e q b None k = k
-bears_take h c e q b (Some stage) k = bears_with b c e q None h.places k
+bears_begin : (h : Holder) (c s q e' s' b' : ℕ) (pasid : Option ℕ) → Bears s q (place_of c h.places) → Bears s q (place_of c (after_begin e' s' b' pasid h).places)
+bears_begin h c s q e' s' b' None k = k
+bears_begin h c s q e' s' b' (Some q') k = bears_push c s q h.places (begun e' s' b' q') k
 
-bears_move : (h : Holder) (c e q b : ℕ) (m : Move) (life : Option Life) → Bears e q (place_of c h.places) → Bears e q (place_of c (after_moving b m life h).places)
-bears_move h c e q b m None k = k
-bears_move h c e q b m (Some life) k = k
+bears_take : (h : Holder) (c s q b : ℕ) (stage : Option Stage) → Bears s q (place_of c h.places) → Bears s q (place_of c (after_take b stage h).places)
+bears_take h c s q b None k = k
+bears_take h c s q b (Some stage) k = bears_with b c s q None h.places k
 
-bears_put : (h : Holder) (c e q b : ℕ) (life : Option Life) → Bears e q (place_of c h.places) → Bears e q (place_of c (after_put b life h).places)
-bears_put h c e q b None k = k
-bears_put h c e q b (Some (over n)) k = k
-bears_put h c e q b (Some (at stage)) k = bears_with b c e q (Some stage) h.places k
+bears_move : (h : Holder) (c s q b : ℕ) (m : Move) (life : Option Life) → Bears s q (place_of c h.places) → Bears s q (place_of c (after_moving b m life h).places)
+bears_move h c s q b m None k = k
+bears_move h c s q b m (Some life) k = k
 
-bears_end : (h : Holder) (c e q b : ℕ) (life : Option Life) → IsHeld h → h.hand b ≡ life → b ≢ c → Bears e q (place_of c h.places) → Bears e q (place_of c (after_end b life h).places)
-bears_end h c e q b None i f n k = k
-bears_end h c e q b (Some (at stage)) i f n k = k
-bears_end h c e q b (Some (over m)) i f n k =
+bears_put : (h : Holder) (c s q b : ℕ) (life : Option Life) → Bears s q (place_of c h.places) → Bears s q (place_of c (after_put b life h).places)
+bears_put h c s q b None k = k
+bears_put h c s q b (Some (over n)) k = k
+bears_put h c s q b (Some (at stage)) k = bears_with b c s q (Some stage) h.places k
+
+bears_end : (h : Holder) (c s q b : ℕ) (life : Option Life) → IsHeld h → h.hand b ≡ life → b ≢ c → Bears s q (place_of c h.places) → Bears s q (place_of c (after_end b life h).places)
+bears_end h c s q b None i f n k = k
+bears_end h c s q b (Some (at stage)) i f n k = k
+bears_end h c s q b (Some (over m)) i f n k =
     let same : m.binding ≡ b = held_binding h b (over m) i f in
     rw (place_of-without_other m.binding c h.places (λ j. n (sym same ∙ j))) k
 
-bears_after : (h : Holder) (c e q : ℕ) (call : Call) → IsHeld h → call ≢ end c → Bears e q (place_of c h.places) → Bears e q (place_of c (after h call).places)
-bears_after h c e q (begin e' s' b') i n k = bears_begin h c e q e' s' b' (lowest e' h.places) k
-bears_after h c e q (take b) i n k = bears_take h c e q b (stage_of b h.places) k
-bears_after h c e q (move b m) i n k = bears_move h c e q b m (h.hand b) k
-bears_after h c e q (put b) i n k = bears_put h c e q b (h.hand b) k
-bears_after h c e q (end b) i n k = bears_end h c e q b (h.hand b) i refl (λ same. n (ap (λ (x : ℕ). end x) same)) k
+bears_after : (h : Holder) (c s q : ℕ) (call : Call) → IsHeld h → Spares c call → Bears s q (place_of c h.places) → Bears s q (place_of c (after h call).places)
+bears_after h c s q (begin e' s' b') i n k = bears_begin h c s q e' s' b' (lowest s' h.places) k
+bears_after h c s q (take b) i n k = bears_take h c s q b (stage_of b h.places) k
+bears_after h c s q (move b m) i n k = bears_move h c s q b m (h.hand b) k
+bears_after h c s q (put b) i n k = bears_put h c s q b (h.hand b) k
+bears_after h c s q (end b) i n k = bears_end h c s q b (h.hand b) i refl (λ same. n.0 (ap (λ (x : ℕ). end x) same)) k
+bears_after h c s q (take_back b) i n k = rw (place_of-without_other b c h.places (λ same. n.1 (ap (λ (x : ℕ). take_back x) same))) k
+bears_after h c s q (by_reset e) i n k = bears_reset e c s q h.places k
 
-bears_after_all : (h : Holder) (c e q : ℕ) (calls : List Call) → IsHeld h → ArePermitted h calls → All (λ (call : Call). call ≢ end c) calls → Bears e q (place_of c h.places) → Bears e q (place_of c (after_all h calls).places)
-bears_after_all h c e q [] i w a k = k
-bears_after_all h c e q (call ∷ calls) i w a k =
-    bears_after_all (after h call) c e q calls (held_after h call i w.0) w.1 (All-tail (λ (x : Call). x ≢ end c) call calls a)
-    (bears_after h c e q call i (All-head (λ (x : Call). x ≢ end c) call calls a) k)
+bears_after_all : (h : Holder) (c s q : ℕ) (calls : List Call) → IsHeld h → ArePermitted h calls → All (λ (call : Call). Spares c call) calls → Bears s q (place_of c h.places) → Bears s q (place_of c (after_all h calls).places)
+bears_after_all h c s q [] i w a k = k
+bears_after_all h c s q (call ∷ calls) i w a k =
+    bears_after_all (after h call) c s q calls (held_after h call i w.0) w.1 (All-tail (λ (x : Call). Spares c x) call calls a)
+    (bears_after h c s q call i (All-head (λ (x : Call). Spares c x) call calls a) k)
 
-or_second : (x y : Bool) → y ≡ true → (x || y) ≡ true
-or_second true y h = refl
-or_second false y h = h
-
-borne_by : (c e q : ℕ) (ps : List Place) → Bears e q (place_of c ps) → is_borne e q ps ≡ true
-borne_by c e q [] k = absurd k
-borne_by c e q (p ∷ ps) k =
-    elim (cases_Bool (is_of c p)) [
-      | inl t ↦
-          let here : (p.endpoint ≡ e) × (p.pasid ≡ q) = rw t at k in
-          or_left (bears e q p) (is_borne e q ps) (and_from (nat_eq p.endpoint e) (nat_eq p.pasid q) (eq-eqb p.endpoint e here.0) (eq-eqb p.pasid q here.1))
-      | inr f ↦ let there : Bears e q (place_of c ps) = rw f at k in or_second (bears e q p) (is_borne e q ps) (borne_by c e q ps there)
-    ]
-
-begun_bears : (h : Holder) (e s b q : ℕ) (pasid : Option ℕ) → place_of b h.places ≡ None → pasid ≡ Some q → Bears e q (place_of b (after_begin e s b pasid h).places)
+begun_bears : (h : Holder) (e s b q : ℕ) (pasid : Option ℕ) → place_of b h.places ≡ None → pasid ≡ Some q → Bears s q (place_of b (after_begin e s b pasid h).places)
 begun_bears h e s b q None f l = absurd (cc)
 begun_bears h e s b q (Some q') f l =
     let same : q' ≡ q = cc in
@@ -328,23 +446,21 @@ begun_bears h e s b q (Some q') f l =
     let found : place_of b (h.places ++ p ∷ []) ≡ Some p = place_of-push b h.places p ∙ (rw (f, is_here)) in
     rw found (refl, same)
 
+kept_at_place : (ps : List Place) (b s q other : ℕ) (r : Option Place) → IsTable ps → place_of b ps ≡ r → Bears s q r → (lowest other ps ≡ Some q) ↔ (other ≡ s)
+kept_at_place ps b s q other None t f k = absurd k
+kept_at_place ps b s q other (Some p) t f k =
+    subst (λ (x : ℕ). (lowest other ps ≡ Some q) ↔ (other ≡ x)) k.0
+    (subst (λ (x : ℕ). (lowest other ps ≡ Some x) ↔ (other ≡ p.space)) k.1 (kept_to_space (is_of b) ps p other t f))
+
 pub kept_until_end : KeptUntilEnd
-kept_until_end calls between e s b q w l a =
+kept_until_end calls between e s b q w l a other =
     let parts = permitted_first opening calls (begin e s b ∷ between) w in
     let h : Holder = after_all opening calls in
     let i : IsHeld h = held_after_all opening calls held_opening parts.0 in
     let j : IsHeld (after h (begin e s b)) = held_after h (begin e s b) i parts.1.0 in
-    let k : Bears e q (place_of b (after h (begin e s b)).places) = begun_bears h e s b q (lowest e h.places) parts.1.0.1 l in
+    let k : Bears s q (place_of b (after h (begin e s b)).places) = begun_bears h e s b q (lowest s h.places) parts.1.0.1 l in
     let last : Holder = after_all (after h (begin e s b)) between in
-    let borne : is_borne e q last.places ≡ true = borne_by b e q last.places (bears_after_all (after h (begin e s b)) b e q between j parts.1.1 a k) in
-    λ m.
-    let again : lowest e last.places ≡ Some q = subst (λ (x : Holder). lowest e x.places ≡ Some q) (after_all-append opening calls (begin e s b ∷ between)) m in
-    let free : is_borne e q last.places ≡ false = (is_lowest e last.places q again).free in
-    false≢true (sym free ∙ borne)
-
-pub lowest_is_least : LowestIsLeast
-lowest_is_least e ps = by_result (lowest e ps) e ps refl
-  where
-    by_result : (r : Option ℕ) (e : ℕ) (ps : List Place) → lowest e ps ≡ r → MatchOption r (AllBorne e ps) (λ pasid. IsLowest e ps pasid)
-    by_result None e ps h = all_borne e ps h
-    by_result (Some q) e ps h = is_lowest e ps q h
+    let borne : Bears s q (place_of b last.places) = bears_after_all (after h (begin e s b)) b s q between j parts.1.1 a k in
+    let held : IsHeld last = held_after_all (after h (begin e s b)) between j parts.1.1 in
+    subst (λ (x : Holder). (lowest other x.places ≡ Some q) ↔ (other ≡ s)) (sym (after_all-append opening calls (begin e s b ∷ between)))
+    (kept_at_place last.places b s q other (place_of b last.places) held.table refl borne)

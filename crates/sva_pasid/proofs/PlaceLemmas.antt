@@ -1,5 +1,5 @@
 -- Lists of places: what a write to one place and its removal are, and that every table keeps what holds of tables.
-use Rattle.std.proofs.Common.{◌≡◌, ◌≢◌, ℕ, zero, suc, ◌+◌, ◌<◌, ◌≤◌, Bool, true, false, cond, not, inl, inr, Option, Some, None, List, [], ◌∷◌, ◌++◌, length, map, refl, sym, ◌∙◌, ap, subst, arith, slice_index_or, slice_set}
+use Rattle.std.proofs.Common.{◌≡◌, ◌≢◌, ℕ, zero, suc, ◌+◌, ◌<◌, ◌≤◌, ◌==◌, Bool, true, false, cond, not, inl, inr, Option, Some, None, List, [], ◌∷◌, ◌++◌, length, map, refl, sym, ◌∙◌, ap, subst, arith, slice_index_or, slice_set}
 use Rattle.std.specs.Prelude.{All, AllPairs, find, filter, remove, position, IfSome, IfNone, option_map}
 use Rattle.std.specs.List.{range_with_len, position_from}
 use Rattle.std.proofs.lemmas.Iterator.Adapters.{position_from-zero}
@@ -8,12 +8,13 @@ use Rattle.std.proofs.lemmas.List.Quantifiers.{all_pairs_push, position-Some}
 use Rattle.std.proofs.lemmas.Bool.{cases_Bool, cases_eq, eqb-true, eqb-false, eq-eqb, ne_eqb, or_parts}
 use Rattle.std.proofs.lemmas.Bool.Decides.{nat_tests}
 use Rattle.sva_pasid.specs.States.{Numbers}
-use Rattle.sva_pasid.specs.Stages.{numbers_of}
-use Rattle.sva_pasid.specs.Places.{is_of, place_of, with_stage, without, bears, is_borne, lowest, IsLowest, AllBorne, begun, Awaits, IsApart, IsOwn, IsTable}
+use Rattle.sva_pasid.specs.Stages.{numbers_of, reset_of}
+use Rattle.sva_pasid.specs.Places.{is_of, place_of, with_stage, without, begun, reset_at, after_reset, Awaits, ShareAlike, IsApart, IsOwn, IsTable}
 use Rattle.sva_pasid.specs.Indexes.{IsIndexOf}
 use Rattle.sva_pasid.specs.declared.stages.Stage.{Stage}
+use Rattle.sva_pasid.specs.declared.stages.Stage.TheVariants.{Live, Stopping, Draining, Invalidating, Quiet, Lost}
 use Rattle.sva_pasid.specs.declared.places.Place.{Place}
-use Rattle.sva_pasid.specs.declared.places.TheConstants.{PASIDS}
+use Rattle.sva_pasid.specs.declared.bearers.TheConstants.{PASIDS}
 
 -- each pair of a list that has one element more at its head
 pub pairs-head : {X : Type 0} (R : X → X → Type 0) (x : X) (xs : List X) → AllPairs R (x ∷ xs) → All (R x) xs
@@ -34,7 +35,7 @@ found_or None r = r
 found_or (Some x) r = Some x
 
 -- a look-up that finds nothing, at the head and behind it
-find_none : {X : Type 0} (t : Bool) (x : X) (rest : Option X) → cond t (Some x) rest ≡ None → (t ≡ false) × (rest ≡ None)
+pub find_none : {X : Type 0} (t : Bool) (x : X) (rest : Option X) → cond t (Some x) rest ≡ None → (t ≡ false) × (rest ≡ None)
 find_none true x rest h = absurd (cc)
 find_none false x rest h = (refl, h)
 
@@ -117,7 +118,7 @@ index_at b ps i a l h = record {
 -- every table stays one
 
 -- the place with this stage or nothing, where it is that of the binding
-abbrev changed : ℕ → Option Stage → Place → Place
+abbrev pub changed : ℕ → Option Stage → Place → Place
 changed b s p = cond (is_of b p) (record p { stage = s }) p
 
 changed-apart : (b : ℕ) (s : Option Stage) (p q : Place) → IsApart p q → IsApart (changed b s p) (changed b s q)
@@ -138,12 +139,14 @@ all_map {X} P f (x ∷ xs) h =
 all_weaker : {X : Type 0} (P Q : X → Type 0) (xs : List X) → ((x : X) → P x → Q x) → All P xs → All Q xs
 all_weaker P Q xs f h k d l = f (slice_index_or xs k d) (h k d l)
 
+map-apart : (f : Place → Place) (ps : List Place) → ((p q : Place) → IsApart p q → IsApart (f p) (f q)) → AllPairs IsApart ps → AllPairs IsApart (map f ps)
+map-apart f [] k a = λ i j d l m. absurd (omega arith)
+map-apart f (p ∷ ps) k a =
+    pairs-cons IsApart (f p) (map f ps) (all_map (IsApart (f p)) f ps (all_weaker (IsApart p) (λ (q : Place). IsApart (f p) (f q)) ps (λ q h. k p q h) (pairs-head IsApart p ps a)))
+    (map-apart f ps k (pairs-tail IsApart p ps a))
+
 with_stage-apart : (b : ℕ) (s : Option Stage) (ps : List Place) → AllPairs IsApart ps → AllPairs IsApart (with_stage b s ps)
-with_stage-apart b s [] a = λ i j d l m. absurd (omega arith)
-with_stage-apart b s (p ∷ ps) a =
-    pairs-cons IsApart (changed b s p) (with_stage b s ps)
-    (all_map (IsApart (changed b s p)) (changed b s) ps (all_weaker (IsApart p) (λ (q : Place). IsApart (changed b s p) (changed b s q)) ps (λ q h. changed-apart b s p q h) (pairs-head IsApart p ps a)))
-    (with_stage-apart b s ps (pairs-tail IsApart p ps a))
+with_stage-apart b s ps a = map-apart (changed b s) ps (changed-apart b s) a
 
 -- what is put into the place of the binding, if anything, is of that place's binding and PASID
 abbrev pub FitsPlace : ℕ → Option Stage → List Place → Type 0
@@ -174,6 +177,74 @@ pub with_stage-table : (b : ℕ) (s : Option Stage) (ps : List Place) → IsTabl
 with_stage-table b s ps t f =
     record { apart = with_stage-apart b s ps t.apart; own = with_stage-own b s ps t.apart t.own f }
 
+pub find-map : {X : Type 0} (t : X → Bool) (f : X → X) (xs : List X) → ((x : X) → t (f x) ≡ t x) → find t (map f xs) ≡ option_map f (find t xs)
+find-map t f [] k = refl
+find-map t f (x ∷ xs) k =
+    let e : t (f x) ≡ t x = k x in
+    let rest : find t (map f xs) ≡ option_map f (find t xs) = find-map t f xs k in
+    rw (e, rest) (step f (t x) x (find t xs))
+  where
+    step : {X : Type 0} (f : X → X) (b : Bool) (x : X) (r : Option X) → cond b (Some (f x)) (option_map f r) ≡ option_map f (cond b (Some x) r)
+    step f true x r = refl
+    step f false x r = refl
+
+-- a reset leaves each place its numbers, and each stage the numbers of its place
+pub reset-keeps : (e : ℕ) (p : Place) → ((reset_at e p).pasid ≡ p.pasid) × ((reset_at e p).space ≡ p.space)
+reset-keeps e p = by_test (p.endpoint == e) p
+  where
+    by_test : (t : Bool) (p : Place) → ((cond t (record p { stage = option_map reset_of p.stage }) p).pasid ≡ p.pasid) × ((cond t (record p { stage = option_map reset_of p.stage }) p).space ≡ p.space)
+    by_test true p = (refl, refl)
+    by_test false p = (refl, refl)
+
+reset-apart : (e : ℕ) (p q : Place) → IsApart p q → IsApart (reset_at e p) (reset_at e q)
+reset-apart e p q a = by_tests (p.endpoint == e) (q.endpoint == e) p q a
+  where
+    by_tests : (t u : Bool) (p q : Place) → IsApart p q → IsApart (cond t (record p { stage = option_map reset_of p.stage }) p) (cond u (record q { stage = option_map reset_of q.stage }) q)
+    by_tests true true p q a = record { bindings = a.bindings; pasids = a.pasids }
+    by_tests true false p q a = record { bindings = a.bindings; pasids = a.pasids }
+    by_tests false true p q a = record { bindings = a.bindings; pasids = a.pasids }
+    by_tests false false p q a = a
+
+pub reset-numbers : (s : Stage) → numbers_of (reset_of s) ≡ numbers_of s
+reset-numbers (Live n) = refl
+reset-numbers (Stopping s) = refl
+reset-numbers (Draining w) = refl
+reset-numbers (Invalidating w) = refl
+reset-numbers (Quiet n) = refl
+reset-numbers (Lost n) = refl
+
+reset-own : (e : ℕ) (p : Place) → IsOwn p → IsOwn (reset_at e p)
+reset-own e p o = by_test (p.endpoint == e) p o
+  where
+    of_stage : (s : Option Stage) (n : Numbers) → IfSome s (λ k. numbers_of k ≡ n) → IfSome (option_map reset_of s) (λ k. numbers_of k ≡ n)
+    of_stage None n h = tt
+    of_stage (Some s) n h = reset-numbers s ∙ h
+
+    by_test : (t : Bool) (p : Place) → IsOwn p → IsOwn (cond t (record p { stage = option_map reset_of p.stage }) p)
+    by_test true p o = record { from_one = o.from_one; to_last = o.to_last; stage = of_stage p.stage (record { binding = p.binding; pasid = p.pasid }) o.stage }
+    by_test false p o = o
+
+pub reset-table : (e : ℕ) (ps : List Place) → IsTable ps → IsTable (after_reset e ps)
+reset-table e ps t = record {
+  apart = map-apart (reset_at e) ps (reset-apart e) t.apart;
+  own = all_map IsOwn (reset_at e) ps (all_weaker IsOwn (λ (p : Place). IsOwn (reset_at e p)) ps (λ p o. reset-own e p o) t.own);
+}
+
+pub place_of-reset : (e c : ℕ) (ps : List Place) → place_of c (after_reset e ps) ≡ option_map (reset_at e) (place_of c ps)
+place_of-reset e c ps = find-map (is_of c) (reset_at e) ps (λ p. by_test (p.endpoint == e) p)
+  where
+    by_test : (t : Bool) (p : Place) → is_of c (cond t (record p { stage = option_map reset_of p.stage }) p) ≡ is_of c p
+    by_test true p = refl
+    by_test false p = refl
+
+-- a write to a place's stage leaves each place its numbers
+pub changed-keeps : (b : ℕ) (s : Option Stage) (p : Place) → ((changed b s p).pasid ≡ p.pasid) × ((changed b s p).space ≡ p.space)
+changed-keeps b s p = by_test (is_of b p) p
+  where
+    by_test : (t : Bool) (p : Place) → ((cond t (record p { stage = s }) p).pasid ≡ p.pasid) × ((cond t (record p { stage = s }) p).space ≡ p.space)
+    by_test true p = (refl, refl)
+    by_test false p = (refl, refl)
+
 without-apart : (b : ℕ) (ps : List Place) → AllPairs IsApart ps → AllPairs IsApart (without b ps)
 without-apart b [] a = λ i j d l m. absurd (omega arith)
 without-apart b (p ∷ ps) a =
@@ -187,25 +258,18 @@ pub without-table : (b : ℕ) (ps : List Place) → IsTable ps → IsTable (with
 without-table b ps t =
     record { apart = without-apart b ps t.apart; own = All-filter (λ (q : Place). not (is_of b q)) IsOwn ps t.own }
 
--- no binding bears the PASID
-none_borne : (e q : ℕ) (ps : List Place) → is_borne e q ps ≡ false → All (λ (p : Place). bears e q p ≡ false) ps
-none_borne e q [] h = All-nil (λ (p : Place). bears e q p ≡ false)
-none_borne e q (p ∷ ps) h =
-    let parts = or_parts (bears e q p) (is_borne e q ps) h in
-    All-cons (λ (r : Place). bears e q r ≡ false) p ps parts.0 (none_borne e q ps parts.1)
+begun-apart : (e s b q : ℕ) (p : Place) → is_of b p ≡ false → ShareAlike p (begun e s b q) → IsApart p (begun e s b q)
+begun-apart e s b q p h g = record { bindings = eqb-false p.binding b h; pasids = g }
 
-begun-apart : (e s b q : ℕ) (p : Place) → is_of b p ≡ false → bears e q p ≡ false → IsApart p (begun e s b q)
-begun-apart e s b q p h g =
-    record { bindings = eqb-false p.binding b h; pasids = λ i j. grind (arith, nat_tests) }
-
-pub begun-table : (e s b q : ℕ) (ps : List Place) → IsTable ps → place_of b ps ≡ None → IsLowest e ps q → IsTable (ps ++ begun e s b q ∷ [])
-begun-table e s b q ps t absent l = record {
-  apart = all_pairs_push IsApart ps (begun e s b q) t.apart (λ k d h. begun-apart e s b q (slice_index_or ps k d) (all-from_absent b ps absent k d h) (none_borne e q ps l.free k d h));
-  own = All-push IsOwn ps (begun e s b q) t.own (record { from_one = l.from_one; to_last = l.to_last; stage = refl });
+-- a place of a new binding that shares its PASID with the places of its space alone
+pub begun-table : (e s b q : ℕ) (ps : List Place) → IsTable ps → place_of b ps ≡ None → 1 ≤ q → q ≤ PASIDS → All (λ (p : Place). ShareAlike p (begun e s b q)) ps → IsTable (ps ++ begun e s b q ∷ [])
+begun-table e s b q ps t absent l m alike = record {
+  apart = all_pairs_push IsApart ps (begun e s b q) t.apart (λ k d h. begun-apart e s b q (slice_index_or ps k d) (all-from_absent b ps absent k d h) (alike k d h));
+  own = All-push IsOwn ps (begun e s b q) t.own (record { from_one = l; to_last = m; stage = refl });
 }
 
 -- the first number of a range that passes a test
-find_range : (t : ℕ → Bool) (a n q : ℕ) → a ≤ q → q < a + n → t q ≡ true → ((k : ℕ) → a ≤ k → k < q → t k ≡ false) → find t (range_with_len a n) ≡ Some q
+pub find_range : (t : ℕ → Bool) (a n q : ℕ) → a ≤ q → q < a + n → t q ≡ true → ((k : ℕ) → a ≤ k → k < q → t k ≡ false) → find t (range_with_len a n) ≡ Some q
 find_range t a zero q l m h before = absurd (omega arith)
 find_range t a (suc n) q l m h before =
     elim (cases_eq a q) [
@@ -215,7 +279,7 @@ find_range t a (suc n) q l m h before =
           rw here (find_range t (a + 1) n q (omega arith) (omega arith) h (λ k g j. before k (omega arith) j))
     ]
 
-find_range_none : (t : ℕ → Bool) (a n : ℕ) → ((k : ℕ) → a ≤ k → k < a + n → t k ≡ false) → find t (range_with_len a n) ≡ None
+pub find_range_none : (t : ℕ → Bool) (a n : ℕ) → ((k : ℕ) → a ≤ k → k < a + n → t k ≡ false) → find t (range_with_len a n) ≡ None
 find_range_none t a zero h = refl
 find_range_none t a (suc n) h =
     let here : t a ≡ false = h a (omega arith) (omega arith) in
@@ -227,7 +291,7 @@ pub record IsFirst (t : ℕ → Bool) (a n q : ℕ) : Type 0 where
   pub passes : t q ≡ true
   pub before : (k : ℕ) → a ≤ k → k < q → t k ≡ false
 
-found_in_range : (t : ℕ → Bool) (a n q : ℕ) → find t (range_with_len a n) ≡ Some q → IsFirst t a n q
+pub found_in_range : (t : ℕ → Bool) (a n q : ℕ) → find t (range_with_len a n) ≡ Some q → IsFirst t a n q
 found_in_range t a zero q h = absurd (cc)
 found_in_range t a (suc n) q h =
     elim (cases_Bool (t a)) [
@@ -246,35 +310,15 @@ found_in_range t a (suc n) q h =
           }
     ]
 
-pub lowest-some : (e : ℕ) (ps : List Place) (q : ℕ) → IsLowest e ps q → lowest e ps ≡ Some q
-unfolding lowest
-lowest-some e ps q l =
-    find_range (λ k. not (is_borne e k ps)) 1 PASIDS q l.from_one (omega (arith, l.to_last)) (let f : is_borne e q ps ≡ false = l.free in rw f) (λ k g j. let f : is_borne e k ps ≡ true = l.lower k g j in rw f)
-
-pub lowest-none : (e : ℕ) (ps : List Place) → AllBorne e ps → lowest e ps ≡ None
-unfolding lowest
-lowest-none e ps h = find_range_none (λ k. not (is_borne e k ps)) 1 PASIDS (λ k g j. let f : is_borne e k ps ≡ true = h k g (omega arith) in rw f)
-
-not_false : (t : Bool) → not t ≡ true → t ≡ false
+pub not_false : (t : Bool) → not t ≡ true → t ≡ false
 not_false true h = absurd (cc)
 not_false false h = refl
 
-not_true : (t : Bool) → not t ≡ false → t ≡ true
+pub not_true : (t : Bool) → not t ≡ false → t ≡ true
 not_true true h = refl
 not_true false h = absurd (cc)
 
-pub is_lowest : (e : ℕ) (ps : List Place) (q : ℕ) → lowest e ps ≡ Some q → IsLowest e ps q
-unfolding lowest
-is_lowest e ps q h =
-    let f = found_in_range (λ k. not (is_borne e k ps)) 1 PASIDS q h in
-    record {
-      from_one = f.from;
-      to_last = omega (arith, f.below);
-      free = not_false (is_borne e q ps) f.passes;
-      lower = λ k g j. not_true (is_borne e k ps) (f.before k g j);
-    }
-
-none_in_range : (t : ℕ → Bool) (a n : ℕ) → find t (range_with_len a n) ≡ None → (k : ℕ) → a ≤ k → k < a + n → t k ≡ false
+pub none_in_range : (t : ℕ → Bool) (a n : ℕ) → find t (range_with_len a n) ≡ None → (k : ℕ) → a ≤ k → k < a + n → t k ≡ false
 none_in_range t a zero h k l m = absurd (omega arith)
 none_in_range t a (suc n) h k l m =
     let parts = find_none (t a) a (find t (range_with_len (a + 1) n)) h in
@@ -282,11 +326,6 @@ none_in_range t a (suc n) h k l m =
       | inl same ↦ subst (λ (x : ℕ). t x ≡ false) same parts.0
       | inr ne ↦ none_in_range t (a + 1) n parts.1 k (omega arith) (omega arith)
     ]
-
-pub all_borne : (e : ℕ) (ps : List Place) → lowest e ps ≡ None → AllBorne e ps
-unfolding lowest
-all_borne e ps h =
-    λ q l m. not_true (is_borne e q ps) (none_in_range (λ k. not (is_borne e k ps)) 1 PASIDS h q l (omega arith))
 
 -- where `position` finds the place of the binding, and that there is none where it finds nothing
 none_by_position : (b n : ℕ) (ps : List Place) → position_from (is_of b) n ps ≡ None → place_of b ps ≡ None
@@ -320,17 +359,6 @@ place_of-binding b (q ∷ ps) p h =
       | inr e ↦ let found : place_of b ps ≡ Some p = rw e at h in place_of-binding b ps p found
     ]
 
-find-map : {X : Type 0} (t : X → Bool) (f : X → X) (xs : List X) → ((x : X) → t (f x) ≡ t x) → find t (map f xs) ≡ option_map f (find t xs)
-find-map t f [] k = refl
-find-map t f (x ∷ xs) k =
-    let e : t (f x) ≡ t x = k x in
-    let rest : find t (map f xs) ≡ option_map f (find t xs) = find-map t f xs k in
-    rw (e, rest) (step f (t x) x (find t xs))
-  where
-    step : {X : Type 0} (f : X → X) (b : Bool) (x : X) (r : Option X) → cond b (Some (f x)) (option_map f r) ≡ option_map f (cond b (Some x) r)
-    step f true x r = refl
-    step f false x r = refl
-
 find-filter : {X : Type 0} (t u : X → Bool) (xs : List X) → ((x : X) → t x ≡ true → u x ≡ true) → find t (filter u xs) ≡ find t xs
 find-filter t u [] k = refl
 find-filter t u (x ∷ xs) k =
@@ -341,7 +369,7 @@ find-filter t u (x ∷ xs) k =
           elim (cases_Bool (u x)) [ inl kept ↦ rw (kept, e) rest | inr gone ↦ rw (gone, e) rest ]
     ]
 
-find-push : {X : Type 0} (t : X → Bool) (xs : List X) (y : X) → find t (xs ++ y ∷ []) ≡ found_or (find t xs) (cond (t y) (Some y) None)
+pub find-push : {X : Type 0} (t : X → Bool) (xs : List X) (y : X) → find t (xs ++ y ∷ []) ≡ found_or (find t xs) (cond (t y) (Some y) None)
 find-push t [] y = refl
 find-push t (x ∷ xs) y = elim (cases_Bool (t x)) [ inl e ↦ rw e | inr e ↦ rw e (find-push t xs y) ]
 

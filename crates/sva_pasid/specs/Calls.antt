@@ -1,10 +1,12 @@
 -- The calls of a table over time, with the moves of the stages that are in hand in between, and what holds after every
 -- list of them.
-use Rattle.std.specs.Prelude.{◌≡◌, ◌≢◌, ℕ, ◌==◌, if◌then◌else◌, Option, Some, None, option_map, IsSome, List, [], ◌∷◌, ◌++◌, All}
+use Rattle.std.specs.Prelude.{◌≡◌, ◌≢◌, ◌↔◌, ℕ, ◌==◌, if◌then◌else◌, Option, Some, None, option_map, IsSome, IsSomeAnd, List, [], ◌∷◌, ◌++◌, All}
 use Rattle.sva_pasid.specs.Moves.{Life, Move, after_move, numbers_of_life, kind_of, IsTableStep}
 use Rattle.sva_pasid.specs.Moves.Life.{at, over}
+use Rattle.sva_pasid.specs.Moves.Move.{reset}
 use Rattle.sva_pasid.specs.Moves.Kind.{live, released}
-use Rattle.sva_pasid.specs.Places.{place_of, stage_of, with_stage, without, lowest, begun, Awaits, IsTable}
+use Rattle.sva_pasid.specs.Stages.{reset_of}
+use Rattle.sva_pasid.specs.Places.{place_of, stage_of, with_stage, without, lowest, begun, after_reset, IsLiveIn, Awaits, ShareAlike, IsTable}
 use Rattle.sva_pasid.specs.declared.stages.Stage.{Stage}
 use Rattle.sva_pasid.specs.declared.places.Place.{Place}
 
@@ -16,13 +18,15 @@ pub record Holder : Type 0 where
 abbrev pub opening : Holder
 opening = record { places = []; hand = λ _. None }
 
--- the four calls that change a table, and a move of the stage that is in hand
+-- the six calls that change a table, and a move of the stage that is in hand
 pub data Call : Type 0 where
   begin : (endpoint space binding : ℕ) → Call
   take : (binding : ℕ) → Call
   move : (binding : ℕ) (by : Move) → Call
   put : (binding : ℕ) → Call
   end : (binding : ℕ) → Call
+  take_back : (binding : ℕ) → Call
+  by_reset : (endpoint : ℕ) → Call
 
 abbrev pub hand_with : ℕ → Option Life → (ℕ → Option Life) → ℕ → Option Life
 hand_with binding life hand b = if b == binding then life else hand b
@@ -51,19 +55,22 @@ after_end binding _ h = h
 
 -- a call that lacks its value in hand can't be written, and is here one that does nothing
 abbrev pub after : Holder → Call → Holder
-after h (begin endpoint space binding) = after_begin endpoint space binding (lowest endpoint h.places) h
+after h (begin endpoint space binding) = after_begin endpoint space binding (lowest space h.places) h
 after h (take binding) = after_take binding (stage_of binding h.places) h
 after h (move binding m) = after_moving binding m (h.hand binding) h
 after h (put binding) = after_put binding (h.hand binding) h
 after h (end binding) = after_end binding (h.hand binding) h
+after h (take_back binding) = record h { places = without binding h.places }
+after h (by_reset endpoint) = record h { places = after_reset endpoint h.places }
 
 abbrev pub after_all : Holder → List Call → Holder
 after_all h [] = h
 after_all h (c ∷ cs) = after_all (after h c) cs
 
--- the condition of `begin`; those of `put` and `end` are no premise, they are a law below
+-- the conditions of `begin` and of `take_back`; those of `put` and `end` are no premise, they are a law below
 abbrev pub IsPermitted : Holder → Call → Type 0
-IsPermitted h (begin endpoint space binding) = IsSome (lowest endpoint h.places) × (place_of binding h.places ≡ None)
+IsPermitted h (begin endpoint space binding) = IsSome (lowest space h.places) × (place_of binding h.places ≡ None)
+IsPermitted h (take_back binding) = IsLiveIn binding h.places
 IsPermitted h _ = Unit {0}
 
 abbrev pub ArePermitted : Holder → List Call → Type 0
@@ -87,21 +94,43 @@ IsLifeStep (Some life) None = kind_of life ≡ released
 IsLifeStep (Some before) (Some after) =
     IsTableStep (kind_of before) (kind_of after) × (numbers_of_life after ≡ numbers_of_life before)
 
--- two places are of two bindings, at one endpoint they bear two PASIDs of 1 to 32, and each stage is of its place
+-- two places are of two bindings, they bear the same PASID of 1 to 32 exactly where they are of the same space, and each
+-- stage is of its place
 abbrev pub AlwaysTable : Type 0
 AlwaysTable = (calls : List Call) → ArePermitted opening calls → IsTable (after_all opening calls).places
+
+-- two unreleased bindings have the same PASID exactly where they have the same space, whatever their endpoints
+abbrev pub SharedBySpace : Type 0
+SharedBySpace =
+    (calls : List Call) (binding other : ℕ) (p q : Place) → ArePermitted opening calls → place_of binding (after_all opening calls).places ≡ Some p → place_of other (after_all opening calls).places ≡ Some q → ShareAlike p q
 
 -- what is in hand can always be put back, or ended: its place is there, empty, and of its binding and PASID
 abbrev pub AlwaysAwaited : Type 0
 AlwaysAwaited =
     (calls : List Call) (binding : ℕ) (life : Life) → ArePermitted opening calls → (after_all opening calls).hand binding ≡ Some life → ((numbers_of_life life).binding ≡ binding) × Awaits (numbers_of_life life) (after_all opening calls).places
 
--- a PASID that was given to a binding isn't given out again at that endpoint before the binding's end
+-- the call doesn't end the binding
+abbrev pub Spares : ℕ → Call → Type 0
+Spares binding call = (call ≢ end binding) × (call ≢ take_back binding)
+
+-- as long as a binding has not ended, the PASID that it was given is that of each further binding of its space, and of no
+-- other space: so it goes to another one only after the end of the last binding that bore it
 abbrev pub KeptUntilEnd : Type 0
 KeptUntilEnd =
-    (calls between : List Call) (endpoint space binding pasid : ℕ) → ArePermitted opening (calls ++ begin endpoint space binding ∷ between) → lowest endpoint (after_all opening calls).places ≡ Some pasid → All (λ c. c ≢ end binding) between → lowest endpoint (after_all opening (calls ++ begin endpoint space binding ∷ between)).places ≢ Some pasid
+    (calls between : List Call) (endpoint space binding pasid : ℕ) → ArePermitted opening (calls ++ begin endpoint space binding ∷ between) → lowest space (after_all opening calls).places ≡ Some pasid → All (λ call. Spares binding call) between → (other : ℕ) → (lowest other (after_all opening (calls ++ begin endpoint space binding ∷ between)).places ≡ Some pasid) ↔ (other ≡ space)
 
--- over every list of calls each binding begins live, goes by the stage table alone, and ends released
+-- over every list of calls each binding begins live, goes by the stage table alone, and ends released, or is taken back
 abbrev pub LivesByTable : Type 0
 LivesByTable =
-    (calls : List Call) (c : Call) (binding : ℕ) → ArePermitted opening (calls ++ c ∷ []) → IsLifeStep (life_of binding (after_all opening calls)) (life_of binding (after_all opening (calls ++ c ∷ [])))
+    (calls : List Call) (call : Call) (binding : ℕ) → call ≢ take_back binding → ArePermitted opening (calls ++ call ∷ []) → IsLifeStep (life_of binding (after_all opening calls)) (life_of binding (after_all opening (calls ++ call ∷ [])))
+
+-- a binding that is taken back was live; and where it was the last that began, the table is as it was before
+abbrev pub TakenBack : Type 0
+TakenBack =
+    (calls : List Call) → ArePermitted opening calls
+    → ((binding : ℕ) → IsPermitted (after_all opening calls) (take_back binding) → IsSomeAnd (life_of binding (after_all opening calls)) (λ life. kind_of life ≡ live) × (life_of binding (after_all opening (calls ++ take_back binding ∷ [])) ≡ None))
+    × ((endpoint space binding : ℕ) → IsPermitted (after_all opening calls) (begin endpoint space binding) → (after_all opening (calls ++ begin endpoint space binding ∷ take_back binding ∷ [])).places ≡ (after_all opening calls).places)
+
+-- what a reset makes of a stage in its place is what the reset move makes of it
+abbrev pub ResetByMoves : Type 0
+ResetByMoves = (stage : Stage) → at (reset_of stage) ≡ after_move (at stage) reset

@@ -1,13 +1,16 @@
--- The table of PASIDs, seen as a list of places in the order in which the bindings began. PASIDs 1 to 32 are given out
--- for each endpoint apart, the lowest free one first (this project's own rule; PCI Express Base 5.0 has 20 bits).
-use Rattle.std.specs.Prelude.{◌≡◌, ◌≢◌, ℕ, ◌<◌, ◌≤◌, Bool, true, false, ◌==◌, ◌&&◌, not, if◌then◌else◌, Option, Some, None, option_and_then, IfSome, IsSomeAnd, MatchOption, List, map, filter, find, All, AllPairs}
+-- The table of bindings, seen as a list of places in the order in which the bindings began. A PASID is borne by a space,
+-- over all endpoints: 1 to 32 are given out, to a space that bears none the lowest free one (this project's own rule; PCI
+-- Express Base 5.0 has 20 bits, and leaves it to software which space a PASID names).
+use Rattle.std.specs.Prelude.{◌≡◌, ◌≢◌, ◌↔◌, ℕ, ◌<◌, ◌≤◌, Bool, true, false, ◌==◌, ◌&&◌, not, if◌then◌else◌, Option, Some, None, option_map, option_and_then, IfSome, IsSomeAnd, MatchOption, List, map, filter, find, count_by, All, AllPairs}
 use Rattle.std.specs.List.{list_any, range_with_len}
+use Rattle.std.specs.Option.{option_or}
 use Rattle.sva_pasid.specs.States.{Numbers}
-use Rattle.sva_pasid.specs.Stages.{numbers_of}
+use Rattle.sva_pasid.specs.Stages.{numbers_of, reset_of, IsLive}
 use Rattle.sva_pasid.specs.declared.stages.Stage.{Stage}
 use Rattle.sva_pasid.specs.declared.stages.Stage.TheVariants.{Live}
+use Rattle.sva_pasid.specs.declared.bearers.Bearer.{Bearer}
+use Rattle.sva_pasid.specs.declared.bearers.TheConstants.{PASIDS}
 use Rattle.sva_pasid.specs.declared.places.Place.{Place}
-use Rattle.sva_pasid.specs.declared.places.TheConstants.{PASIDS}
 
 abbrev pub is_of : ℕ → Place → Bool
 is_of binding place = place.binding == binding
@@ -28,46 +31,101 @@ with_stage binding stage places = map (λ (place : Place). if is_of binding plac
 abbrev pub without : ℕ → List Place → List Place
 without binding places = filter (λ place. not (is_of binding place)) places
 
--- whether a binding of the endpoint bears the PASID
-abbrev pub bears : ℕ → ℕ → Place → Bool
-bears endpoint pasid place = (place.endpoint == endpoint) && (place.pasid == pasid)
+-- the place is of a binding to this endpoint that bears the PASID
+abbrev pub is_under : ℕ → ℕ → Place → Bool
+is_under endpoint pasid place = (place.endpoint == endpoint) && (place.pasid == pasid)
 
-abbrev pub is_borne : ℕ → ℕ → List Place → Bool
-is_borne endpoint pasid places = list_any (bears endpoint pasid) places
+-- the first binding to the endpoint that bears the PASID
+abbrev pub place_under : ℕ → ℕ → List Place → Option Place
+place_under endpoint pasid places = find (is_under endpoint pasid) places
 
--- the lowest PASID from 1 to 32 that no binding of the endpoint bears
-unfoldable pub lowest : ℕ → List Place → Option ℕ
-lowest endpoint places = find (λ pasid. not (is_borne endpoint pasid places)) (range_with_len 1 PASIDS)
+-- the place is of a binding of the space to this endpoint
+abbrev pub joins : ℕ → ℕ → Place → Bool
+joins endpoint space place = (place.endpoint == endpoint) && (place.space == space)
 
--- the PASID is free at the endpoint, and each lower one is borne
-pub record IsLowest (endpoint : ℕ) (places : List Place) (pasid : ℕ) : Type 0 where
+-- the first binding of the space to the endpoint
+abbrev pub place_between : ℕ → ℕ → List Place → Option Place
+place_between endpoint space places = find (joins endpoint space) places
+
+-- the place is of a binding of the space
+abbrev pub is_in : ℕ → Place → Bool
+is_in space place = place.space == space
+
+-- whether the space has an unreleased binding, at any endpoint
+abbrev pub is_bound : ℕ → List Place → Bool
+is_bound space places = list_any (is_in space) places
+
+-- the PASID that the space bears: that of its unreleased bindings, if it has any
+abbrev pub borne_by : ℕ → List Place → Option ℕ
+borne_by space places = option_map (λ (place : Place). place.pasid) (find (is_in space) places)
+
+-- the place bears the PASID
+abbrev pub bears : ℕ → Place → Bool
+bears pasid place = place.pasid == pasid
+
+-- whether a space bears the PASID
+abbrev pub is_borne : ℕ → List Place → Bool
+is_borne pasid places = list_any (bears pasid) places
+
+-- how many bindings are under the PASID, over all endpoints
+abbrev pub count_under : ℕ → List Place → ℕ
+count_under pasid places = count_by (bears pasid) places
+
+-- the space that bears the PASID, and how many bindings are under it
+abbrev pub bearer_of : ℕ → List Place → Option Bearer
+bearer_of pasid places =
+    option_map (λ (place : Place). record { space = place.space; bindings = count_under pasid places }) (find (bears pasid) places)
+
+-- the lowest PASID from 1 to 32 that no space bears
+unfoldable pub lowest_free : List Place → Option ℕ
+lowest_free places = find (λ pasid. not (is_borne pasid places)) (range_with_len 1 PASIDS)
+
+-- the PASID of a binding of the space that begins: the one that the space bears, else the lowest that no space bears
+abbrev pub lowest : ℕ → List Place → Option ℕ
+lowest space places = option_or (borne_by space places) (lowest_free places)
+
+-- what `lowest` gives: a PASID that the space bears, or one that no space bears while each lower one is borne
+pub record IsLowest (space : ℕ) (places : List Place) (pasid : ℕ) : Type 0 where
   pub from_one : 1 ≤ pasid
   pub to_last : pasid ≤ PASIDS
-  pub free : is_borne endpoint pasid places ≡ false
-  pub lower : (q : ℕ) → 1 ≤ q → q < pasid → is_borne endpoint q places ≡ true
+  pub borne : IfSome (borne_by space places) (λ own. own ≡ pasid)
+  pub free : borne_by space places ≡ None → is_borne pasid places ≡ false
+  pub lower : borne_by space places ≡ None → (q : ℕ) → 1 ≤ q → q < pasid → is_borne q places ≡ true
 
--- all 32 are borne at the endpoint
-abbrev pub AllBorne : ℕ → List Place → Type 0
-AllBorne endpoint places = (q : ℕ) → 1 ≤ q → q ≤ PASIDS → is_borne endpoint q places ≡ true
-
--- `lowest` is the lowest PASID that is free, and None exactly where all 32 are borne
-abbrev pub LowestIsLeast : Type 0
-LowestIsLeast =
-    (endpoint : ℕ) (places : List Place) → MatchOption (lowest endpoint places) (AllBorne endpoint places) (λ pasid. IsLowest endpoint places pasid)
+-- the space bears no PASID, and all 32 are borne
+pub record IsOutOfPasids (space : ℕ) (places : List Place) : Type 0 where
+  pub none : borne_by space places ≡ None
+  pub all : (q : ℕ) → 1 ≤ q → q ≤ PASIDS → is_borne q places ≡ true
 
 -- the place of a binding that begins under the PASID
 abbrev pub begun : ℕ → ℕ → ℕ → ℕ → Place
 begun endpoint space binding pasid =
     record { endpoint = endpoint; space = space; binding = binding; pasid = pasid; stage = Some (Live (record { binding = binding; pasid = pasid })) }
 
+-- the place of the binding is there, with a stage that is live
+abbrev pub IsLiveIn : ℕ → List Place → Type 0
+IsLiveIn binding places = IsSomeAnd (stage_of binding places) IsLive
+
+-- a place after a reset of the endpoint: if it is of this endpoint, what a reset makes of the stage that is there
+abbrev pub reset_at : ℕ → Place → Place
+reset_at endpoint place = if place.endpoint == endpoint then record place { stage = option_map reset_of place.stage } else place
+
+-- the table after a reset of the endpoint
+abbrev pub after_reset : ℕ → List Place → List Place
+after_reset endpoint places = map (reset_at endpoint) places
+
 -- the place of the binding is there and empty, and bears the PASID
 abbrev pub Awaits : Numbers → List Place → Type 0
 Awaits n places = IsSomeAnd (place_of n.binding places) (λ place. (place.pasid ≡ n.pasid) × (place.stage ≡ None))
 
--- two bindings are apart, and at one endpoint they bear two PASIDs
+-- two places bear the same PASID exactly where they are of the same space
+abbrev pub ShareAlike : Place → Place → Type 0
+ShareAlike p q = (p.pasid ≡ q.pasid) ↔ (p.space ≡ q.space)
+
+-- two places are of two bindings, and have the same PASID exactly where they have the same space
 pub record IsApart (p q : Place) : Type 0 where
   pub bindings : p.binding ≢ q.binding
-  pub pasids : p.endpoint ≡ q.endpoint → p.pasid ≢ q.pasid
+  pub pasids : ShareAlike p q
 
 -- the PASID is one of those that are given out, and a stage in the place is of its binding and PASID
 pub record IsOwn (p : Place) : Type 0 where
@@ -79,3 +137,8 @@ pub record IsOwn (p : Place) : Type 0 where
 pub record IsTable (places : List Place) : Type 0 where
   pub apart : AllPairs IsApart places
   pub own : All IsOwn places
+
+-- `lowest` of a table is as above, and None exactly where the space bears none and all 32 are borne
+abbrev pub LowestIsLeast : Type 0
+LowestIsLeast =
+    (space : ℕ) (places : List Place) → IsTable places → MatchOption (lowest space places) (IsOutOfPasids space places) (λ pasid. IsLowest space places pasid)

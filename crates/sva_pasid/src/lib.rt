@@ -1,14 +1,16 @@
 //! Bindings of an address space to an endpoint as states that must be spent, and the table of the PASIDs that they bear.
 #![tactic(auto)]
 
+mod bearers;
 mod laws;
 mod places;
 mod stages;
 mod states;
 mod tables;
 
+pub use bearers::{Bearer, PASIDS};
 pub use laws::{laws_of_moves, laws_of_tables};
-pub use places::PASIDS;
+pub use places::Place;
 pub use stages::Stage;
 pub use states::{Draining, Invalidating, Live, Lost, Quiet, Released, Stopping};
 pub use tables::Table;

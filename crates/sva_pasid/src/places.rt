@@ -1,25 +1,42 @@
-//! The places of a table of PASIDs, and the searches in a list of them.
+//! The places of a table of bindings, and the searches in a list of them.
 
-ghost use Rattle.std.specs.Prelude.{◌≡◌, Some, None, IfSome, IfNone};
-ghost use Rattle.sva_pasid.specs.Places.{place_of, is_borne, lowest, IsLowest, AllBorne, IsTable};
+ghost use Rattle.std.specs.Prelude.{◌≡◌, None, IfSome, IfNone, map};
+ghost use Rattle.sva_pasid.specs.Places.{place_of, reset_at, IsTable};
 ghost use Rattle.sva_pasid.specs.Indexes.{IsIndexOf};
 
 use crate::stages::Stage;
 
-/// How many PASIDs are given out for each endpoint, 1 and up.
-pub const PASIDS: u32 = 32;
-
-/// The place of a binding. It is empty while the stage is in hand; the PASID is borne all the same.
+/// The place of a binding in the table.
 #[derive(Debug)]
 pub struct Place {
+    /// The endpoint's number.
     pub endpoint: u64,
+    /// The number of the space, which is the host's own.
     pub space: u64,
+    /// The number of the binding, which is the host's own.
     pub binding: u64,
+    /// The PASID that the binding bears, of 1 to 32.
     pub pasid: u32,
+    /// The stage of the binding; None while it is in hand. The PASID is borne all the same.
     pub stage: Option<Stage>,
 }
 
 impl Place {
+    // What a reset of the endpoint leaves of this place.
+    fn reset_at(&mut self, endpoint: u64)
+        ensures { self.new ≡ reset_at endpoint self.old }
+    {
+        if self.endpoint != endpoint {
+            return;
+        }
+        if let Some(stage) = self.stage.take() {
+            let empty = self.stage.replace(stage.by_reset());
+            let None = empty else {
+                unreachable!();
+            };
+        }
+    }
+
     pub(crate) fn abandon(self) {
         let Place {
             endpoint: _,
@@ -43,23 +60,11 @@ pub(crate) fn index_of(places: &[Place], binding: u64) -> Option<usize>
     places.iter().position(|place| place.binding == binding)
 }
 
-pub(crate) fn is_borne(places: &[Place], endpoint: u64, pasid: u32) -> bool
-    ensures { result ≡ is_borne endpoint pasid places.now }
+/// What a reset of the endpoint leaves of each of these.
+pub(crate) fn reset_each(places: &mut [Place], endpoint: u64)
+    ensures { places.new ≡ map (reset_at endpoint) places.old }
 {
-    places
-        .iter()
-        .any(|place| place.endpoint == endpoint && place.pasid == pasid)
-}
-
-pub(crate) fn lowest_free(places: &[Place], endpoint: u64) -> Option<u32>
-    ensures value { result ≡ lowest endpoint places.now }
-    ensures some { IfSome result (λ pasid. IsLowest endpoint places.now pasid) }
-    ensures none { IfNone result (AllBorne endpoint places.now) }
-{
-    for pasid in 1..=PASIDS {
-        if !is_borne(places, endpoint, pasid) {
-            return Some(pasid);
-        }
+    for place in places.iter_mut() {
+        place.reset_at(endpoint);
     }
-    None
 }

@@ -16,7 +16,7 @@ pub enum Stage {
 }
 
 impl Stage {
-    ghost use Rattle.sva_pasid.specs.Stages.{numbers_of};
+    ghost use Rattle.sva_pasid.specs.Stages.{numbers_of, reset_of};
 
     /// The number of the binding.
     pub fn binding(&self) -> u64
@@ -43,6 +43,20 @@ impl Stage {
             Stage::Invalidating(invalidating) => invalidating.pasid(),
             Stage::Quiet(quiet) => quiet.pasid(),
             Stage::Lost(lost) => lost.pasid(),
+        }
+    }
+
+    /// The stage after a function level reset of the endpoint.
+    pub(crate) fn by_reset(self) -> Stage
+        ensures { result ≡ reset_of self }
+    {
+        match self {
+            Stage::Live(live) => Stage::Lost(live.lost()),
+            Stage::Stopping(stopping) => Stage::Quiet(stopping.by_reset()),
+            Stage::Draining(draining) => Stage::Quiet(draining.by_reset()),
+            Stage::Invalidating(invalidating) => Stage::Quiet(invalidating.by_reset()),
+            Stage::Quiet(quiet) => Stage::Quiet(quiet),
+            Stage::Lost(lost) => Stage::Lost(lost),
         }
     }
 

@@ -1,35 +1,54 @@
 //! The table of the bindings that are not released, with the PASID that each bears.
 
-ghost use Rattle.std.specs.Prelude.{◌≡◌, Some, None, ◌↔◌, ◌++◌, ◌∷◌, [], length, slice_get, IsTrue, IsSome, IsSomeAnd, IfSome, IfNone, IfOk, OnErr};
+ghost use Rattle.std.specs.Prelude.{◌≡◌, Some, None, ◌↔◌, ◌++◌, ◌∷◌, [], ◌≤◌, length, slice_get, IsTrue, IsSome, IsSomeAnd, IfSome, IfNone, IfOk, OnErr};
+ghost use Rattle.std.specs.Option.{option_copied, option_or};
+ghost use Rattle.sva_pasid.specs.Bearers.{pasid_in, free_in};
 
-use crate::places::{Place, index_of, lowest_free};
+use crate::bearers::{Bearer, Bearers, bearer_in, first_free, lowered, pasid_of, raised};
+use crate::places::{Place, index_of, reset_each};
 use crate::stages::Stage;
 use crate::states::{Live, Released};
 use std::alloc::{AllocError, Global};
 use std::marker::Model;
 
-/// The bindings that are not released, in the order in which they began. A table must be spent, since it holds stages:
-/// see `close` and `abandon`.
+/// The bindings that are not released, in the order in which they began. A table that goes, at the end of the host itself,
+/// spends the stages that are in it: each ends as by a function level reset, over `Quiet` and `Released`.
 #[derive(Debug)]
 pub struct Table {
     places: Vec<Place>,
+    // What the places say of each PASID, so that a look-up by PASID goes through no binding.
+    bearers: Bearers,
+}
+
+impl Drop for Table {
+    fn drop(self) {
+        let Table {
+            mut places,
+            bearers: _,
+        } = self;
+        while let Some(place) = places.pop() {
+            place.abandon();
+        }
+        places.destroy_empty();
+    }
 }
 
 impl Model for Table {
     ghost use Rattle.std.specs.Prelude.{List};
     ghost use Rattle.sva_pasid.specs.declared.places.Place.{Place};
     ghost use Rattle.sva_pasid.specs.Places.{IsTable};
+    ghost use Rattle.sva_pasid.specs.Bearers.{AreBearers};
 
     ghost Value = { List Place };
 
     ghost view = { λ table. table.places.items };
 
-    ghost invariant = { λ table. IsTable table.places.items };
+    ghost invariant = { λ table. IsTable table.places.items × AreBearers table.places.items table.bearers };
 }
 
 impl Table {
     ghost use Rattle.sva_pasid.specs.Stages.{numbers_of};
-    ghost use Rattle.sva_pasid.specs.Places.{place_of, stage_of, with_stage, without, lowest, IsLowest, AllBorne, begun, Awaits, IsTable};
+    ghost use Rattle.sva_pasid.specs.Places.{place_of, place_under, place_between, is_bound, bearer_of, stage_of, with_stage, without, lowest, IsLowest, IsOutOfPasids, begun, after_reset, IsLiveIn, Awaits, IsTable};
 
     /// A table with no binding.
     pub fn new(alloc: Global) -> Table
@@ -37,6 +56,7 @@ impl Table {
     {
         Table {
             places: Vec::new(alloc),
+            bearers: [None; 33],
         }
     }
 
@@ -55,36 +75,73 @@ impl Table {
         self.places.is_empty()
     }
 
-    /// Whether the binding with this number has a place.
-    pub fn contains(&self, binding: u64) -> bool
-        ensures { IsTrue result ↔ IsSome (place_of binding self.now) }
+    /// The place of the binding; None where it was released or never began.
+    pub fn place(&self, binding: u64) -> Option<&Place>
+        ensures { option_copied result ≡ place_of binding self.now }
     {
-        index_of(self.places.as_slice(), binding).is_some()
+        self.places.iter().find(|place| place.binding == binding)
     }
 
-    /// The lowest PASID, of 1 to 32, that no binding of the endpoint bears; None exactly where all 32 are borne.
-    pub fn lowest(&self, endpoint: u64) -> Option<u32>
-        ensures value { result ≡ lowest endpoint self.now }
-        ensures some { IfSome result (λ pasid. IsLowest endpoint self.now pasid) }
-        ensures none { IfNone result (AllBorne endpoint self.now) }
+    /// The place of the first binding to the endpoint that bears the PASID. It is the only one where no space is bound
+    /// to the endpoint twice.
+    pub fn place_under(&self, endpoint: u64, pasid: u32) -> Option<&Place>
+        ensures { option_copied result ≡ place_under endpoint pasid self.now }
     {
-        lowest_free(self.places.as_slice(), endpoint)
+        self.places
+            .iter()
+            .find(|place| place.endpoint == endpoint && place.pasid == pasid)
     }
 
-    /// Begins a binding of the space to the endpoint, `Live` under the lowest PASID, and gives that PASID, of 1 to 32.
-    /// An Err changes nothing. Each of the three is named by a number of the host's own, of 64 bits; no binding in the
-    /// table has this one's.
+    /// The place of the first binding of the space to the endpoint.
+    pub fn place_between(&self, endpoint: u64, space: u64) -> Option<&Place>
+        ensures { option_copied result ≡ place_between endpoint space self.now }
+    {
+        self.places
+            .iter()
+            .find(|place| place.endpoint == endpoint && place.space == space)
+    }
+
+    /// Whether the space has an unreleased binding, at any endpoint.
+    pub fn is_bound(&self, space: u64) -> bool
+        ensures { result ≡ is_bound space self.now }
+    {
+        pasid_of(&self.bearers, space).is_some()
+    }
+
+    /// The space that bears the PASID, and how many bindings are under it; None where no space bears it, as 0 and each
+    /// above 32.
+    pub fn bearer(&self, pasid: u32) -> Option<Bearer>
+        ensures { result ≡ bearer_of pasid self.now }
+    {
+        bearer_in(&self.bearers, pasid)
+    }
+
+    /// The PASID of a binding of the space that begins, of 1 to 32: the one that the space bears while it has an
+    /// unreleased binding at any endpoint, else the lowest that no space bears. None exactly where the space bears none
+    /// and all 32 are borne.
+    pub fn lowest(&self, space: u64) -> Option<u32>
+        ensures value { result ≡ lowest space self.now }
+        ensures some { IfSome result (λ pasid. IsLowest space self.now pasid) }
+        ensures none { IfNone result (IsOutOfPasids space self.now) }
+    {
+        lowest_in(&self.bearers, space)
+    }
+
+    /// Begins a binding of the space to the endpoint, `Live` under the PASID that `lowest` tells, and gives that PASID. An
+    /// Err changes nothing. Each of the three is named by a number of the host's own, of 64 bits; no binding in the table
+    /// has this one's.
     pub fn begin(&mut self, endpoint: u64, space: u64, binding: u64) -> Result<u32, AllocError>
-        requires free { IsSome (lowest endpoint self.old) }
+        requires free { IsSome (lowest space self.old) }
         requires fresh { place_of binding self.old ≡ None }
-        ensures pasid { IfOk result (λ pasid. lowest endpoint self.old ≡ Some pasid) }
+        ensures pasid { IfOk result (λ pasid. lowest space self.old ≡ Some pasid) }
         ensures places { IfOk result (λ pasid. self.new ≡ self.old ++ begun endpoint space binding pasid ∷ []) }
         ensures err { OnErr result (self.new ≡ self.old) }
     {
         self.places.reserve(1)?;
-        let Some(pasid) = lowest_free(self.places.as_slice(), endpoint) else {
+        let Some(pasid) = lowest_in(&self.bearers, space) else {
             unreachable!();
         };
+        self.bearers[pasid as usize] = raised(self.bearers[pasid as usize], space);
         self.places.push_reserved(Place {
             endpoint,
             space,
@@ -93,6 +150,19 @@ impl Table {
             stage: Some(Stage::Live(Live::new(binding, pasid))),
         });
         Ok(pasid)
+    }
+
+    /// Takes back a binding that has begun and of which nothing was sent yet: it is `Live`, and in its place. Its place
+    /// goes, and its PASID is free if no other binding is under it. Where it was the last that began, the table is as it
+    /// was before.
+    pub fn take_back(&mut self, binding: u64)
+        requires { IsLiveIn binding self.old }
+        ensures { self.new ≡ without binding self.old }
+    {
+        match self.remove(binding) {
+            Some(Stage::Live(live)) => live.take_back(),
+            _other => unreachable!(),
+        }
     }
 
     /// The endpoint, the space and the stage of the place with this index, in order of binding.
@@ -138,42 +208,53 @@ impl Table {
         };
     }
 
-    /// Ends a binding: removes its place, which is there and empty, and so frees its PASID.
+    /// Ends a binding: removes its place, which is there and empty. Its PASID is free if no other binding is under it.
     pub fn end(&mut self, released: Released)
         requires { Awaits released self.old }
         ensures { self.new ≡ without released.binding self.old }
     {
-        let Some(index) = index_of(self.places.as_slice(), released.binding()) else {
+        let empty = self.remove(released.binding());
+        let None = empty else {
+            unreachable!();
+        };
+        released.spend();
+    }
+
+    // Removes the place of the binding, which is there, and gives the stage that is in it.
+    fn remove(&mut self, binding: u64) -> Option<Stage>
+        requires { IsSome (place_of binding self.old) }
+        ensures stage { result ≡ stage_of binding self.old }
+        ensures places { self.new ≡ without binding self.old }
+    {
+        let Some(index) = index_of(self.places.as_slice(), binding) else {
             unreachable!();
         };
         let Place {
             endpoint: _,
             space: _,
             binding: _,
-            pasid: _,
+            pasid,
             stage,
         } = self.places.remove(index);
-        let None = stage else {
-            unreachable!();
-        };
-        released.spend();
+        self.bearers[pasid as usize] = lowered(self.bearers[pasid as usize]);
+        stage
     }
 
-    /// Lets a table with no binding go.
-    pub fn close(self)
-        requires { self ≡ [] }
+    /// A function level reset has emptied the endpoint: each of its bindings that has its stage in its place is `Lost`
+    /// if it was `Live`, and `Quiet` if it was `Stopping`, `Draining` or `Invalidating`. All others stay.
+    pub fn by_reset(&mut self, endpoint: u64)
+        ensures { self.new ≡ after_reset endpoint self.old }
     {
-        let Table { places } = self;
-        places.destroy_empty();
+        reset_each(self.places.as_mut_slice(), endpoint);
     }
+}
 
-    /// Lets a table go with its bindings, at the end of the host itself: each that has its stage in the table ends as by
-    /// a function level reset, over `Quiet` and `Released`.
-    pub fn abandon(self) {
-        let Table { mut places } = self;
-        while let Some(place) = places.pop() {
-            place.abandon();
-        }
-        places.destroy_empty();
+/// The PASID of a binding of the space that begins.
+fn lowest_in(bearers: &Bearers, space: u64) -> Option<u32>
+    ensures { result ≡ option_or (pasid_in space bearers.now) (free_in bearers.now) }
+{
+    if let Some(pasid) = pasid_of(bearers, space) {
+        return Some(pasid);
     }
+    first_free(bearers)
 }

@@ -9,13 +9,13 @@ use std::process::Abort;
 fn begin<R: Abort>(rt: &R, table: &mut Table, endpoint: u64, space: u64, binding: u64) -> u32
     ensures { table.new ≡ table.old ++ begun endpoint space binding result ∷ [] }
 {
-    assert!(rt; table.lowest(endpoint).is_some());
-    assert!(rt; !table.contains(binding));
-    let (len, lowest) = (table.len(), table.lowest(endpoint));
+    assert!(rt; table.lowest(space).is_some());
+    assert!(rt; table.place(binding).is_none());
+    let (len, lowest) = (table.len(), table.lowest(space));
     match table.begin(endpoint, space, binding) {
         Ok(pasid) => pasid,
         Err(_refused) => {
-            assert_eq!(rt; (table.len(), table.lowest(endpoint)), (len, lowest));
+            assert_eq!(rt; (table.len(), table.lowest(space)), (len, lowest));
             table
                 .begin(endpoint, space, binding)
                 .expect(rt, "memory is refused once")
@@ -113,19 +113,132 @@ fn each_move_by_reset(rt: HostRuntime) {
     released.spend();
 }
 
-#[test]
-fn the_lowest_pasid_of_each_endpoint(rt: HostRuntime) {
-    let mut table = Table::new(rt.alloc());
-    for binding in 0..32 {
-        let pasid = begin(&rt, &mut table, 0, 5, binding);
-        assert_eq!(rt; u64::from(pasid), binding + 1);
+// The bearer of a PASID, as a pair.
+fn bearer(table: &Table, pasid: u32) -> Option<(u64, u64)> {
+    match table.bearer(pasid) {
+        Some(bearer) => Some((bearer.space, bearer.bindings)),
+        None => None,
     }
-    assert_eq!(rt; table.lowest(0), None);
-    assert_eq!(rt; begin(&rt, &mut table, 1, 5, 32), 1);
+}
+
+#[test]
+fn one_pasid_for_each_space(rt: HostRuntime) {
+    let mut table = Table::new(rt.alloc());
+    assert_eq!(rt; begin(&rt, &mut table, 0, 70, 0), 1);
+    assert_eq!(rt; begin(&rt, &mut table, 1, 71, 1), 2);
+    assert_eq!(rt; begin(&rt, &mut table, 1, 70, 2), 1);
+    assert_eq!(rt;
+        (bearer(&table, 1), bearer(&table, 2)),
+        (Some((70, 2)), Some((71, 1)))
+    );
+    assert_eq!(rt; (bearer(&table, 0), bearer(&table, 33)), (None, None));
+    end_by_reset(&rt, &mut table, 0);
+    assert_eq!(rt;
+        (bearer(&table, 1), table.lowest(70), table.lowest(72)),
+        (Some((70, 1)), Some(1), Some(3))
+    );
+    end_by_reset(&rt, &mut table, 2);
+    assert_eq!(rt;
+        (bearer(&table, 1), table.is_bound(70), table.lowest(72)),
+        (None, false, Some(1))
+    );
+    assert_eq!(rt; (table.is_bound(71), table.lowest(71)), (true, Some(2)));
+}
+
+#[test]
+fn all_pasids_are_borne(rt: HostRuntime) {
+    let mut table = Table::new(rt.alloc());
+    for space in 0..32 {
+        let pasid = begin(&rt, &mut table, space % 8, space, space);
+        assert_eq!(rt; u64::from(pasid), space + 1);
+    }
+    assert_eq!(rt; (table.lowest(32), table.lowest(31)), (None, Some(32)));
     end_by_reset(&rt, &mut table, 6);
-    assert_eq!(rt; table.len(), 32);
-    assert_eq!(rt; table.lowest(0), Some(7));
-    table.abandon();
+    assert_eq!(rt;
+        (table.len(), table.lowest(32), table.lowest(31)),
+        (31, Some(7), Some(32))
+    );
+}
+
+#[test]
+fn finds_places(rt: HostRuntime) {
+    let mut table = Table::new(rt.alloc());
+    let _pasid = begin(&rt, &mut table, 3, 70, 20);
+    let _pasid = begin(&rt, &mut table, 4, 70, 21);
+    let _pasid = begin(&rt, &mut table, 4, 71, 22);
+    assert_eq!(rt; number(table.place(21)), Some(21));
+    assert_eq!(rt; number(table.place(23)), None);
+    assert_eq!(rt;
+        (
+            number(table.place_under(4, 1)),
+            number(table.place_under(3, 2))
+        ),
+        (Some(21), None)
+    );
+    assert_eq!(rt;
+        (
+            number(table.place_between(4, 71)),
+            number(table.place_between(3, 71))
+        ),
+        (Some(22), None)
+    );
+}
+
+fn number(place: Option<&Place>) -> Option<u64> {
+    place.map(|place| place.binding)
+}
+
+#[test]
+fn a_binding_is_taken_back(rt: HostRuntime) {
+    let mut table = Table::new(rt.alloc());
+    let _pasid = begin(&rt, &mut table, 3, 70, 20);
+    let _pasid = begin(&rt, &mut table, 4, 70, 21);
+    table.take_back(21);
+    assert_eq!(rt; (bearer(&table, 1), table.len()), (Some((70, 1)), 1));
+    table.take_back(20);
+    assert!(rt; table.is_empty());
+    assert_eq!(rt; bearer(&table, 1), None);
+}
+
+// What the stage of a binding is called, by its place in the list of stages.
+fn stage(table: &Table, binding: u64) -> Option<u32> {
+    match table.place(binding) {
+        Some(
+            Place {
+                endpoint: _,
+                space: _,
+                binding: _,
+                pasid: _,
+                stage: Some(stage),
+            },
+        ) => Some(match stage {
+            Stage::Live(_) => 0,
+            Stage::Stopping(_) => 1,
+            Stage::Draining(_) => 2,
+            Stage::Invalidating(_) => 3,
+            Stage::Quiet(_) => 4,
+            Stage::Lost(_) => 5,
+        }),
+        _other => None,
+    }
+}
+
+#[test]
+fn a_reset_moves_the_bindings_of_its_endpoint(rt: HostRuntime) {
+    let mut table = Table::new(rt.alloc());
+    let _pasid = begin(&rt, &mut table, 3, 70, 20);
+    let _pasid = begin(&rt, &mut table, 4, 70, 21);
+    let _pasid = begin(&rt, &mut table, 3, 71, 22);
+    match table.take(22) {
+        Some(Stage::Live(live)) => table.put(22, Stage::Stopping(live.stop())),
+        _other => panic!(rt; "a binding begins live"),
+    }
+    table.by_reset(3);
+    assert_eq!(rt;
+        (stage(&table, 20), stage(&table, 21), stage(&table, 22)),
+        (Some(5), Some(0), Some(4))
+    );
+    assert_eq!(rt; table.len(), 3);
 }
 
 #[test]
@@ -142,7 +255,7 @@ fn a_place_stays_while_its_stage_is_in_hand(rt: HostRuntime) {
         _other => panic!(rt; "a binding begins live"),
     };
     assert_eq!(rt;
-        (table.len(), table.contains(20), table.lowest(3)),
+        (table.len(), table.place(20).is_some(), table.lowest(9)),
         (1, true, Some(2))
     );
     match table.take(20) {
@@ -151,5 +264,4 @@ fn a_place_stays_while_its_stage_is_in_hand(rt: HostRuntime) {
     }
     end_by_reset(&rt, &mut table, 20);
     assert!(rt; table.is_empty());
-    table.close();
 }

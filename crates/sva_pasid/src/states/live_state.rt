@@ -60,4 +60,12 @@ impl Live {
         let Live { binding, pasid } = self;
         Lost { binding, pasid }
     }
+
+    // The binding is as if it had not begun: nothing was sent of it.
+    pub(crate) fn take_back(self) {
+        let Live {
+            binding: _,
+            pasid: _,
+        } = self;
+    }
 }

@@ -1,0 +1,6 @@
+use Rattle.std.proofs.Common.{◌≡◌, ℕ, ◌<◌, ◌≤◌, false}
+use Rattle.sva_pasid.specs.Bearers.{slot, is_free}
+use Rattle.sva_pasid.proofs.bearers.first_free.Given as goal
+
+abbrev pub invariant-loop-pasid : goal.invariant-loop-pasid
+invariant-loop-pasid l = (q : ℕ) → 1 ≤ q → q < l.pasid → is_free (slot q l.bearers) ≡ false

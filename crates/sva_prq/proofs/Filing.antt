@@ -191,6 +191,7 @@ asks_look_back (DropUnit u ∷ earlier) unit binding index =
 pub jobs_hold_their_requests : JobsHoldTheirRequests
 jobs_hold_their_requests history unit binding request =
     λ j. cond request.last (Some (record {
+      unit = unit;
       binding = binding;
       index = request.index;
       asks = asks_look_back history unit binding request.index j ++ ask_of request ∷ [];

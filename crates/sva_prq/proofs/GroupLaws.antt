@@ -1,10 +1,8 @@
 -- What every history keeps of the open groups: how many requests they have, and which bindings are open.
-use Rattle.std.proofs.Common.{◌≡◌, ℕ, ◌+◌, ◌<◌, ◌≤◌, ◌^◌, Bool, true, false, ◌&&◌, ◌||◌, not, cond, eqb, List, [], ◌∷◌, ◌++◌, length, filter, All, Some, MatchOption, unwrap_or, refl, sym, ap, ◌∙◌, subst, arith, inl, inr, length-append}
-use Rattle.std.proofs.Math.Nat.{mod-eq_of_lt}
+use Rattle.std.proofs.Common.{◌≡◌, ℕ, ◌+◌, ◌<◌, ◌≤◌, Bool, true, false, ◌&&◌, ◌||◌, not, cond, eqb, List, [], ◌∷◌, ◌++◌, length, filter, All, Some, MatchOption, unwrap_or, refl, sym, ap, ◌∙◌, subst, arith, inl, inr, length-append}
 use Rattle.std.proofs.lemmas.Bool.{and_parts, and_from, or_parts, or_cases, or_left, or_right, eqb-true, eq-eqb, ne_eqb, not-true, not-false, true≢false, false≢true, false_from_ne_true}
 use Rattle.std.proofs.lemmas.List.Elements.{All-nil, All-cons}
 use Rattle.std.proofs.lemmas.Map.Views.{any-filter_same}
-use Rattle.std.specs.Hash.DefaultHasher.{wrapping_add}
 use Rattle.std.specs.List.{find, list_any}
 use Rattle.sva_msg.specs.declared.messages.PageRequest.{PageRequest}
 use Rattle.sva_prq.specs.Groups.{OpenGroup, is_unfinished, is_of_serial, is_of_binding, is_of_other_unit, has_job, new_group, with_request, filed_among, serial_for, answered_among}
@@ -293,7 +291,6 @@ open_groups_are_seen history serial unit binding h =
 
 -- serials rise, so each group has its own, and a whole group is a part no more
 record Kept (history : List GroupCall) : Type 0 where
-  young : (groups_after history).next ≤ length history
   fresh : (s : ℕ) → (groups_after history).next ≤ s → list_any (is_of_serial s) (groups_after history).groups ≡ false
   unfiled : (s : ℕ) → (groups_after history).next ≤ s → was_filed s history ≡ false
   unmade : (s : ℕ) → (groups_after history).next ≤ s → was_made s history ≡ false
@@ -303,7 +300,7 @@ record Kept (history : List GroupCall) : Type 0 where
 -- a group takes the request
 module _ (earlier : List GroupCall) (u b : ℕ) (request : PageRequest) (k : Kept earlier) (some : list_any (is_unfinished u b request.index) (groups_after earlier).groups ≡ true) where
   next_joined : (groups_after (File u b request ∷ earlier)).next ≡ (groups_after earlier).next
-  next_joined = ap (λ t. cond t (groups_after earlier).next (wrapping_add (groups_after earlier).next 1)) some
+  next_joined = ap (λ t. cond t (groups_after earlier).next ((groups_after earlier).next + 1)) some
 
   apart_joined : (s : ℕ) → (groups_after earlier).next ≤ s → eqb (serial_for (groups_after earlier) u b request.index) s ≡ false
   apart_joined s past =
@@ -331,9 +328,7 @@ module _ (earlier : List GroupCall) (u b : ℕ) (request : PageRequest) (k : Kep
   kept_joined =
       let n = (groups_after earlier).next in
       let gs = (groups_after earlier).groups in
-      let young = k.young in
       record {
-        young = omega (arith, next_joined, young);
         fresh = λ s past. joined_any n u b request s gs some ∙ k.fresh s (omega (arith, next_joined, past));
         unfiled = λ s past. unfiled_joined s (omega (arith, next_joined, past));
         unmade = λ s past. unmade_joined s (omega (arith, next_joined, past));
@@ -342,7 +337,7 @@ module _ (earlier : List GroupCall) (u b : ℕ) (request : PageRequest) (k : Kep
       }
 
 -- a group begins with the request
-module _ (earlier : List GroupCall) (u b : ℕ) (request : PageRequest) (k : Kept earlier) (short : length earlier + 1 < 2 ^ 64) (none : list_any (is_unfinished u b request.index) (groups_after earlier).groups ≡ false) where
+module _ (earlier : List GroupCall) (u b : ℕ) (request : PageRequest) (k : Kept earlier) (none : list_any (is_unfinished u b request.index) (groups_after earlier).groups ≡ false) where
   abbrev n : ℕ
   n = (groups_after earlier).next
 
@@ -353,9 +348,7 @@ module _ (earlier : List GroupCall) (u b : ℕ) (request : PageRequest) (k : Kep
   begun = with_request (new_group n u b request.index) request
 
   next_begun : (groups_after (File u b request ∷ earlier)).next ≡ n + 1
-  next_begun =
-      let young = k.young in
-      ap (λ t. cond t n (wrapping_add n 1)) none ∙ mod-eq_of_lt (omega (arith, young, short))
+  next_begun = ap (λ t. cond t n (n + 1)) none
 
   groups_begun : (groups_after (File u b request ∷ earlier)).groups ≡ gs ++ begun ∷ []
   groups_begun = filed_among-none n u b request gs none
@@ -395,9 +388,7 @@ module _ (earlier : List GroupCall) (u b : ℕ) (request : PageRequest) (k : Kep
 
   kept_begun : Kept (File u b request ∷ earlier)
   kept_begun =
-      let young = k.young in
       record {
-        young = omega (arith, next_begun, young);
         fresh = λ s past.
             let later : n + 1 ≤ s = omega (arith, next_begun, past) in
             ap (list_any (is_of_serial s)) groups_begun ∙ any_pushed (is_of_serial s) gs begun (k.fresh s (omega (arith, later))) (apart s later);
@@ -409,37 +400,32 @@ module _ (earlier : List GroupCall) (u b : ℕ) (request : PageRequest) (k : Kep
         whole = λ s made. ap (list_any (is_part s)) groups_begun ∙ whole_begun s made;
       }
 
-kept : (history : List GroupCall) → length history < 2 ^ 64 → Kept history
-kept [] short = record { young = omega arith; fresh = λ s past. refl; unfiled = λ s past. refl; unmade = λ s past. refl; single = λ s. tt; whole = λ s made. refl }
-kept (Reserve _ ∷ earlier) short =
-    let k = kept earlier (omega (arith, short)) in
-    let young = k.young in
-    record { young = omega (arith, young); fresh = k.fresh; unfiled = k.unfiled; unmade = k.unmade; single = k.single; whole = k.whole }
-kept (File u b request ∷ earlier) short =
-    let k = kept earlier (omega (arith, short)) in
+kept : (history : List GroupCall) → Kept history
+kept [] = record { fresh = λ s past. refl; unfiled = λ s past. refl; unmade = λ s past. refl; single = λ s. tt; whole = λ s made. refl }
+kept (Reserve _ ∷ earlier) =
+    let k = kept earlier in
+    record { fresh = k.fresh; unfiled = k.unfiled; unmade = k.unmade; single = k.single; whole = k.whole }
+kept (File u b request ∷ earlier) =
+    let k = kept earlier in
     (elim (list_any (is_unfinished u b request.index) (groups_after earlier).groups)
     as (λ t. list_any (is_unfinished u b request.index) (groups_after earlier).groups ≡ t → Kept (File u b request ∷ earlier)) [
       | true ↦ λ some. kept_joined earlier u b request k some
-      | false ↦ λ none. kept_begun earlier u b request k (omega (arith, short)) none
+      | false ↦ λ none. kept_begun earlier u b request k none
     ]) refl
-kept (Answered job ∷ earlier) short =
-    let k = kept earlier (omega (arith, short)) in
+kept (Answered job ∷ earlier) =
+    let k = kept earlier in
     let gs = (groups_after earlier).groups in
-    let young = k.young in
     record {
-      young = omega (arith, young);
       fresh = λ s past. answered_none (is_of_serial s) job.serial gs (k.fresh s past);
       unfiled = k.unfiled;
       unmade = k.unmade;
       single = λ s. AtMostOne-answered (is_of_serial s) job.serial gs (k.single s);
       whole = λ s made. answered_none (is_part s) job.serial gs (k.whole s made);
     }
-kept (DropUnit u ∷ earlier) short =
-    let k = kept earlier (omega (arith, short)) in
+kept (DropUnit u ∷ earlier) =
+    let k = kept earlier in
     let gs = (groups_after earlier).groups in
-    let young = k.young in
     record {
-      young = omega (arith, young);
       fresh = λ s past. filter_none (is_of_serial s) (is_of_other_unit u) gs (k.fresh s past);
       unfiled = k.unfiled;
       unmade = k.unmade;
@@ -448,14 +434,14 @@ kept (DropUnit u ∷ earlier) short =
     }
 
 pub serials_are_new : SerialsAreNew
-serials_are_new history unit binding index short none =
+serials_are_new history unit binding index none =
     let s = groups_after history in
     ap (λ o. was_filed (unwrap_or o (new_group s.next unit binding index)).serial history) (find-none (is_unfinished unit binding index) s.groups none)
-    ∙ (kept history short).unfiled s.next (omega arith)
+    ∙ (kept history).unfiled s.next (omega arith)
 
 pub serials_differ : SerialsDiffer
-serials_differ history serial short =
-    count-one (is_of_serial serial) (groups_after history).groups ((kept history short).single serial)
+serials_differ history serial =
+    count-one (is_of_serial serial) (groups_after history).groups ((kept history).single serial)
 
 -- the answer to the one group of a serial leaves none
 serial-answered : (s : ℕ) (gs : List OpenGroup) → list_any (is_part s) gs ≡ false → AtMostOne (is_of_serial s) gs → list_any (is_of_serial s) (answered_among s gs) ≡ false
@@ -474,33 +460,32 @@ serial-answered s (g ∷ gs) whole one =
     ]) refl
 
 -- so a group is open just where its request was filed and not ended
-pending_if_named : (history : List GroupCall) (serial unit binding : ℕ) → length history < 2 ^ 64 → list_any (is_of serial unit binding) (groups_after history).groups ≡ true → is_pending serial unit binding history ≡ true
-pending_if_named [] serial unit binding short h = h
-pending_if_named (Reserve _ ∷ earlier) serial unit binding short h =
-    pending_if_named earlier serial unit binding (omega (arith, short)) h
-pending_if_named (File u b request ∷ earlier) serial unit binding short h =
+pending_if_named : (history : List GroupCall) (serial unit binding : ℕ) → list_any (is_of serial unit binding) (groups_after history).groups ≡ true → is_pending serial unit binding history ≡ true
+pending_if_named [] serial unit binding h = h
+pending_if_named (Reserve _ ∷ earlier) serial unit binding h =
+    pending_if_named earlier serial unit binding h
+pending_if_named (File u b request ∷ earlier) serial unit binding h =
     let s = groups_after earlier in
     let same : Bool = eqb (serial_for s u b request.index) serial && eqb u unit && eqb b binding in
     elim (or_cases same (list_any (is_of serial unit binding) s.groups) (sym (filed_of s.next u b request serial unit binding s.groups) ∙ h)) [
       | inl here ↦ or_left same (is_pending serial unit binding earlier) here
-      | inr before ↦ or_right same (is_pending serial unit binding earlier) (pending_if_named earlier serial unit binding (omega (arith, short)) before)
+      | inr before ↦ or_right same (is_pending serial unit binding earlier) (pending_if_named earlier serial unit binding before)
     ]
-pending_if_named (Answered job ∷ earlier) serial unit binding short h =
+pending_if_named (Answered job ∷ earlier) serial unit binding h =
     let gs = (groups_after earlier).groups in
-    let below : length earlier < 2 ^ 64 = omega (arith, short) in
-    let before = pending_if_named earlier serial unit binding below (back_from _ _ (answered_none (is_of serial unit binding) job.serial gs) h) in
+    let before = pending_if_named earlier serial unit binding (back_from _ _ (answered_none (is_of serial unit binding) job.serial gs) h) in
     let other : (eqb job.serial serial && was_made serial earlier) ≡ false =
     false_from_ne_true _ (λ own.
     let both = and_parts _ _ own in
-    let k = kept earlier below in
+    let k = kept earlier in
     let left = any_more (is_of serial unit binding) (is_of_serial serial) (of_serial serial unit binding) (answered_among job.serial gs) h in
     let none = serial-answered serial gs (k.whole serial both.1) (k.single serial) in
     true≢false (sym left ∙ ap (λ n. list_any (is_of_serial serial) (answered_among n gs)) (eqb-true job.serial serial both.0) ∙ none)) in
     and_from _ _ (ap not other) before
-pending_if_named (DropUnit u ∷ earlier) serial unit binding short h =
+pending_if_named (DropUnit u ∷ earlier) serial unit binding h =
     let gs = (groups_after earlier).groups in
     let both = and_parts (not (eqb unit u)) (list_any (is_of serial unit binding) gs) (sym (dropped_of u serial unit binding gs) ∙ h) in
-    and_from (not (eqb unit u)) (is_pending serial unit binding earlier) both.0 (pending_if_named earlier serial unit binding (omega (arith, short)) both.1)
+    and_from (not (eqb unit u)) (is_pending serial unit binding earlier) both.0 (pending_if_named earlier serial unit binding both.1)
 
 -- an open binding has a group with a name
 name_of_open : (binding : ℕ) (gs : List OpenGroup) → list_any (is_of_binding binding) gs ≡ true → (serial : ℕ) × (unit : ℕ) × (list_any (is_of serial unit binding) gs ≡ true)
@@ -517,9 +502,9 @@ name_of_open binding (g ∷ gs) some =
     ]
 
 pub open_is_exact : OpenIsExact
-open_is_exact history binding short = (
+open_is_exact history binding = (
   λ open_now.
       let name = name_of_open binding (groups_after history).groups open_now in
-      (name.0, name.1, pending_if_named history name.0 name.1 binding short name.2),
+      (name.0, name.1, pending_if_named history name.0 name.1 binding name.2),
   λ filed. open_groups_are_seen history filed.0 filed.1 binding filed.2,
 )

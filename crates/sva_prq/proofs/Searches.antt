@@ -3,7 +3,6 @@ use Rattle.std.proofs.Common.{◌≡◌, ℕ, ◌+◌, ◌-◌, ◌<◌, unwrap_
 use Rattle.std.proofs.lemmas.Bool.{or_parts, or_right, and_parts, eqb-true}
 use Rattle.std.proofs.lemmas.List.{drop_more, set_at, length-append}
 use Rattle.std.proofs.lemmas.Option.{same_Some, slice_get_within, get_or_from_slice_get}
-use Rattle.std.specs.Hash.DefaultHasher.{wrapping_add}
 use Rattle.std.specs.List.{position_from, list_any, find}
 use Rattle.sva_msg.specs.declared.messages.PageRequest.{PageRequest}
 use Rattle.sva_prq.specs.Groups.{OpenGroup, Groups, is_unfinished, has_job, new_group, with_request, filed_among, answered_among, after_answer, filed, unfinished_asks, job_of, job_made}
@@ -198,11 +197,13 @@ job-unfinished unit binding request gs g found passes room next =
     let all = and_parts _ _ passes in
     let three = and_parts _ _ all.0 in
     let two = and_parts _ _ three.0 in
+    let same_unit : g.unit ≡ unit = eqb-true _ _ two.0 in
     let same_binding : g.binding ≡ binding = eqb-true _ _ two.1 in
     let same_index : g.index ≡ request.index = eqb-true _ _ three.1 in
     let same_asks : g.asks ≡ unfinished_asks unit binding request.index gs =
     ap (λ o. (unwrap_or o (new_group 0 unit binding request.index)).asks) (sym found) in
     λ i. cond request.last (Some (record {
+      unit = same_unit i;
       binding = same_binding i;
       index = same_index i;
       asks = same_asks i ++ ask_of request ∷ [];
@@ -228,13 +229,13 @@ filed-some s unit binding request place is =
       at = at;
       within = slice_get_within s.groups place f.group at;
       found = found;
-      groups = λ i. record { groups = written i; room = cond (sym any i) s.room (s.room - 1); next = cond (sym any i) s.next (wrapping_add s.next 1) };
+      groups = λ i. record { groups = written i; room = cond (sym any i) s.room (s.room - 1); next = cond (sym any i) s.next (s.next + 1) };
       job = job-unfinished unit binding request s.groups f.group found f.passes s.room s.next;
     }
 
 pub record FiledNew (s : Groups) (unit binding : ℕ) (request : PageRequest) : Type 0 where
   pub found : find (is_unfinished unit binding request.index) s.groups ≡ None
-  pub groups : record { groups = s.groups ++ with_request (new_group s.next unit binding request.index) request ∷ []; room = s.room - 1; next = wrapping_add s.next 1 } ≡ filed s unit binding request
+  pub groups : record { groups = s.groups ++ with_request (new_group s.next unit binding request.index) request ∷ []; room = s.room - 1; next = s.next + 1 } ≡ filed s unit binding request
   pub job : job_of (with_request (new_group s.next unit binding request.index) request) ≡ job_made s unit binding request
 
 pub filed-none : (s : Groups) (unit binding : ℕ) (request : PageRequest) → position_from (is_unfinished unit binding request.index) 0 s.groups ≡ None → FiledNew s unit binding request
@@ -247,9 +248,10 @@ filed-none s unit binding request is =
       groups = λ i. record {
         groups = sym (filed_among-none s.next unit binding request s.groups none) i;
         room = cond (sym none i) s.room (s.room - 1);
-        next = cond (sym none i) s.next (wrapping_add s.next 1);
+        next = cond (sym none i) s.next (s.next + 1);
       };
       job = λ i. cond request.last (Some (record {
+        unit = unit;
         binding = binding;
         index = request.index;
         asks = (unwrap_or (sym found i) (new_group 0 unit binding request.index)).asks ++ ask_of request ∷ [];

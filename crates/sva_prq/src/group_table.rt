@@ -1,6 +1,5 @@
-ghost use Rattle.std.specs.Prelude.{◌≡◌, Bool, ◌+◌, ◌-◌, ◌<◌, [], ◌∷◌, ◌++◌, ℕ, length, Some, IsOk, OnOk, OnErr, slice_get, slice_set, remove};
+ghost use Rattle.std.specs.Prelude.{◌≡◌, Bool, ◌+◌, ◌-◌, ◌^◌, ◌<◌, [], ◌∷◌, ◌++◌, ℕ, length, Some, IsOk, OnOk, OnErr, slice_get, slice_set, remove};
 ghost use Rattle.std.specs.List.{position_from};
-ghost use Rattle.std.specs.Hash.DefaultHasher.{wrapping_add};
 ghost use Rattle.sva_prq.specs.Slots.{IsTest};
 ghost use Rattle.sva_prq.specs.Groups.{OpenGroup, no_groups, is_unfinished, has_job, is_of_binding, is_of_unit, is_open, new_group, with_request, job_of, CanFile, filed, job_made, with_room, after_answer, without_unit};
 
@@ -96,6 +95,7 @@ impl Group {
             return None;
         }
         Some(Job {
+            unit: self.unit,
             binding: self.binding,
             index: self.index,
             asks: copied(&self.asks),
@@ -125,7 +125,7 @@ pub struct Groups {
     order: Vec<usize>,
     // How many groups more fit into `slots` and `order` as they are.
     room: usize,
-    // The serial of the next group that begins. 2^64 groups can't begin in any computer's life, so none is there twice.
+    // The serial of the next group that begins.
     next: u64,
 }
 
@@ -207,12 +207,13 @@ impl Groups {
 
     // Files a request in a new group.
     fn begin(&mut self, unit: u64, binding: u64, request: PageRequest) -> Option<Job>
-        requires { 0 < self.old.room }
+        requires room { 0 < self.old.room }
+        requires serial { self.old.next + 1 < 2 ^ 64 }
         ensures group { let group = with_request (new_group self.old.next unit binding request.index) request
             in self.new ≡ record {
               groups = self.old.groups ++ group ∷ [];
               room = self.old.room - 1;
-              next = wrapping_add self.old.next 1;
+              next = self.old.next + 1;
             } }
         ensures job { result ≡ job_of (with_request (new_group self.old.next unit binding request.index) request) }
     {
@@ -221,7 +222,7 @@ impl Groups {
         let key = self.slots.insert_reserved(group);
         self.order.push_reserved(key);
         self.room -= 1;
-        self.next = self.next.wrapping_add(1);
+        self.next += 1;
         job
     }
 

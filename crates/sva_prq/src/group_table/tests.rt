@@ -1,9 +1,16 @@
-ghost use Rattle.std.specs.Prelude.{IsTrue};
+ghost use Rattle.std.specs.Prelude.{◌+◌, ◌^◌, ◌<◌, IsTrue};
 ghost use Rattle.sva_prq.specs.Groups.{CanFile};
 
 use super::*;
 use std::process::Abort;
 use std::test::Fail;
+
+// Whether a group more may begin.
+fn can_begin(groups: &Groups) -> bool
+    ensures { IsTrue result → (0 < groups.now.room) × (groups.now.next + 1 < 2 ^ 64) }
+{
+    groups.room > 0 && groups.next < u64::MAX
+}
 
 // Whether a request of this unit, binding and index may be filed.
 fn can_file(groups: &Groups, unit: u64, binding: u64, index: u8) -> bool
@@ -11,7 +18,7 @@ fn can_file(groups: &Groups, unit: u64, binding: u64, index: u8) -> bool
 {
     match groups.unfinished_place(unit, binding, index) {
         Some(place) => groups.at(place).asks.len() < MOST_ASKS,
-        None => groups.room > 0,
+        None => can_begin(groups),
     }
 }
 
@@ -62,8 +69,9 @@ fn one_index_at_two_units(rt: HostRuntime) -> Result<(), Fail> {
     let old = filed(&rt, &mut groups, 0, 7, (3, 11, true));
     groups.reserve(1)?;
     let new = filed(&rt, &mut groups, 1, 8, (3, 21, true));
-    assert!(rt; is_job(&old, 7, 3, &[10, 11]));
-    assert!(rt; is_job(&new, 8, 3, &[20, 21]));
+    assert!(rt; is_job(&old, 7, 3, &[10, 11]) && is_job(&new, 8, 3, &[20, 21]));
+    assert_eq!(rt; old.map(|job| job.unit()), Some(0));
+    assert_eq!(rt; new.map(|job| job.unit()), Some(1));
     Ok(())
 }
 

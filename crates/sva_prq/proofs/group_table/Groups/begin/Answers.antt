@@ -1,5 +1,4 @@
-use Rattle.std.proofs.Common.{◌≡◌, ◌-◌, ◌++◌, ◌∷◌, [], sym, ap, ◌∙◌, subst, arith}
-use Rattle.std.specs.Hash.DefaultHasher.{wrapping_add}
+use Rattle.std.proofs.Common.{◌≡◌, ◌+◌, ◌-◌, ◌++◌, ◌∷◌, [], sym, ap, ◌∙◌, subst, arith}
 use Rattle.sva_prq.specs.Groups.{with_request, new_group}
 use Rattle.sva_prq.specs.Slots.{groups_under, AreSeated}
 use Rattle.sva_prq.proofs.Seats.{AreSeated-pushed, groups_under-pushed}
@@ -22,4 +21,4 @@ returns-clause-group c =
     ∙ groups_under-pushed _ _ c.self.inside.order.items c.insert_reserved-key.result _ c.self.invariant.0 c.insert_reserved-key.ensures.was_vacant updates.changed updates.others
     ∙ ap (λ s. s.groups ++ c.file-job.new.self ∷ []) c.self.view_is
     ∙ ap (λ g. c.args.self.now.groups ++ g ∷ []) group in
-    λ i. record { groups = groups i; room = (c.self.view_is i).room - 1; next = wrapping_add (c.self.view_is i).next 1 }
+    λ i. record { groups = groups i; room = (c.self.view_is i).room - 1; next = (c.self.view_is i).next + 1 }

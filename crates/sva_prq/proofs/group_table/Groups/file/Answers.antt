@@ -14,11 +14,17 @@ file_at-requires-clause-room c g is =
     let few : OpenGroup → Type 0 = λ h. length h.asks < 32 in
     subst few (same_Some _ _ (sym f.at ∙ is)) (MatchOption-at_some _ few f.group f.found c.requires)
 
-pub begin-requires : goal.begin-requires
-begin-requires c =
+pub begin-requires-clause-room : goal.begin-requires-clause-room
+begin-requires-clause-room c =
     let f = filed-none c.args.self.now c.args.unit c.args.binding c.args.request (sym c.unfinished_place.ensures ∙ c.in-None.is) in
     let few : OpenGroup → Type 0 = λ h. length h.asks < 32 in
-    MatchOption-at_none _ few f.found c.requires
+    (MatchOption-at_none _ few f.found c.requires).0
+
+pub begin-requires-clause-serial : goal.begin-requires-clause-serial
+begin-requires-clause-serial c =
+    let f = filed-none c.args.self.now c.args.unit c.args.binding c.args.request (sym c.unfinished_place.ensures ∙ c.in-None.is) in
+    let few : OpenGroup → Type 0 = λ h. length h.asks < 32 in
+    (MatchOption-at_none _ few f.found c.requires).1
 
 pub returns-in-Some-clause-groups : goal.returns-in-Some-clause-groups
 returns-in-Some-clause-groups c =

@@ -25,8 +25,9 @@ pub struct Job {
     pub(crate) binding: u64,
     pub(crate) index: u8,
     pub(crate) asks: ArrayVec<Ask, MOST_ASKS>,
-    // The serial of its group.
+    // The serial of its group, and the key under which the group is kept while it is open.
     pub(crate) serial: u64,
+    pub(crate) key: usize,
 }
 
 impl Model for Job {
@@ -72,5 +73,10 @@ impl Job {
         ensures { result ≡ self.now.serial }
     {
         self.serial
+    }
+
+    // The key under which its group is kept while it is open.
+    pub(crate) fn key(&self) -> usize {
+        self.key
     }
 }

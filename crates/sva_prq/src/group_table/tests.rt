@@ -1,5 +1,6 @@
-ghost use Rattle.std.specs.Prelude.{◌+◌, ◌^◌, ◌<◌, IsTrue};
-ghost use Rattle.sva_prq.specs.Groups.{CanFile};
+ghost use Rattle.std.specs.Prelude.{◌+◌, ◌^◌, ◌<◌, IsTrue, length};
+ghost use Rattle.sva_prq.specs.Groups.{OpenGroup, CanFile};
+ghost use Rattle.sva_prq.specs.Slots.{IsAt};
 
 use super::*;
 use std::process::Abort;
@@ -12,12 +13,23 @@ fn can_begin(groups: &Groups) -> bool
     groups.room > 0 && groups.next < u64::MAX
 }
 
+// Whether the group under a key may have a request more.
+fn has_space(slots: &Slab<Group>, key: usize) -> bool
+    ensures { IsTrue result → (g : OpenGroup) → IsAt slots.now.slots key g → length g.asks < 32 }
+{
+    match slots.get(key) {
+        Some(group) => group.asks.len() < MOST_ASKS,
+        None => false,
+    }
+}
+
 // Whether a request of this unit, binding and index may be filed.
 fn can_file(groups: &Groups, unit: u64, binding: u64, index: u8) -> bool
     ensures { IsTrue result → CanFile groups.now unit binding index }
 {
-    match groups.unfinished_place(unit, binding, index) {
-        Some(place) => groups.at(place).asks.len() < MOST_ASKS,
+    let place = cell_of(unit, index);
+    match unfinished_key(&groups.slots, groups.cells[place], unit, binding, index) {
+        Some(key) => has_space(&groups.slots, key),
         None => can_begin(groups),
     }
 }
@@ -132,6 +144,24 @@ fn a_late_answer_ends_no_other_group(rt: HostRuntime) -> Result<(), Fail> {
         groups.answered(job);
     }
     assert!(rt; !groups.open_of(7));
+    Ok(())
+}
+
+// Two bindings at one unit and index, and a unit and an index that are the same by the remainder.
+#[test]
+fn groups_that_share_a_cell(rt: HostRuntime) -> Result<(), Fail> {
+    let mut groups = Groups::new(rt.alloc());
+    for (unit, binding, index, page) in [(0, 7, 3, 10), (0, 8, 3, 20), (8, 9, 35, 30)] {
+        groups.reserve(unit)?;
+        let part = filed(&rt, &mut groups, unit, binding, (index, page, false));
+        assert!(rt; part.is_none());
+    }
+    let last = filed(&rt, &mut groups, 8, 9, (35, 31, true));
+    assert!(rt; is_job(&last, 9, 35, &[30, 31]));
+    let first = filed(&rt, &mut groups, 0, 7, (3, 11, true));
+    assert!(rt; is_job(&first, 7, 3, &[10, 11]));
+    let second = filed(&rt, &mut groups, 0, 8, (3, 21, true));
+    assert!(rt; is_job(&second, 8, 3, &[20, 21]));
     Ok(())
 }
 

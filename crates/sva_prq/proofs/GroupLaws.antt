@@ -16,7 +16,8 @@ abbrev AreSmall : List OpenGroup → Type 0
 AreSmall [] = Unit {0}
 AreSmall (g ∷ gs) = (length g.asks ≤ 32) × AreSmall gs
 
-AreSmall-filed : (n u b : ℕ) (request : PageRequest) (P : Type 0) (gs : List OpenGroup) → MatchOption (find (is_unfinished u b request.index) gs) P (λ g. length g.asks < 32) → AreSmall gs → AreSmall (filed_among n u b request gs)
+AreSmall-filed : (n u b : ℕ) (request : PageRequest) (P : Type 0) (gs : List OpenGroup)
+    → MatchOption (find (is_unfinished u b request.index) gs) P (λ g. length g.asks < 32) → AreSmall gs → AreSmall (filed_among n u b request gs)
 AreSmall-filed n u b request P [] room small = (omega arith, tt)
 AreSmall-filed n u b request P (g ∷ gs) room small =
     (elim (is_unfinished u b request.index g)
@@ -100,7 +101,9 @@ module _ (n u b : ℕ) (request : PageRequest) where
   abbrev serial_in : List OpenGroup → ℕ
   serial_in gs = (unwrap_or (find (is_unfinished u b request.index) gs) (new_group n u b request.index)).serial
 
-  filed_of : (serial unit binding : ℕ) (gs : List OpenGroup) → list_any (is_of serial unit binding) (filed_among n u b request gs) ≡ ((eqb (serial_in gs) serial && eqb u unit && eqb b binding) || list_any (is_of serial unit binding) gs)
+  filed_of : (serial unit binding : ℕ) (gs : List OpenGroup)
+      → list_any (is_of serial unit binding) (filed_among n u b request gs) ≡
+      ((eqb (serial_in gs) serial && eqb u unit && eqb b binding) || list_any (is_of serial unit binding) gs)
   filed_of serial unit binding [] = refl
   filed_of serial unit binding (g ∷ gs) =
       let p = is_unfinished u b request.index in
@@ -108,7 +111,8 @@ module _ (n u b : ℕ) (request : PageRequest) where
       (elim (p g)
       as (λ t. p g ≡ t
       → list_any q (cond t (with_request g request ∷ gs) (g ∷ filed_among n u b request gs))
-      ≡ ((eqb (unwrap_or (cond t (Some g) (find p gs)) (new_group n u b request.index)).serial serial && eqb u unit && eqb b binding) || (q g || list_any q gs))) [
+      ≡ ((eqb (unwrap_or (cond t (Some g) (find p gs)) (new_group n u b request.index)).serial serial && eqb u unit && eqb b binding) ||
+      (q g || list_any q gs))) [
         | true ↦ λ e.
             let name = unfinished_name u b request.index g e in
             or_twice (q g) (list_any q gs)
@@ -118,7 +122,8 @@ module _ (n u b : ℕ) (request : PageRequest) where
             ∙ or_swap (q g) (eqb (serial_in gs) serial && eqb u unit && eqb b binding) (list_any q gs)
       ]) refl
 
-  filed_whole : (serial : ℕ) (gs : List OpenGroup) → list_any (has_job serial) (filed_among n u b request gs) ≡ ((eqb (serial_in gs) serial && request.last) || list_any (has_job serial) gs)
+  filed_whole : (serial : ℕ) (gs : List OpenGroup)
+      → list_any (has_job serial) (filed_among n u b request gs) ≡ ((eqb (serial_in gs) serial && request.last) || list_any (has_job serial) gs)
   filed_whole serial [] = refl
   filed_whole serial (g ∷ gs) =
       let p = is_unfinished u b request.index in
@@ -136,17 +141,20 @@ module _ (n u b : ℕ) (request : PageRequest) where
       ]) refl
 
   -- where an unfinished group takes the request, each keeps its serial
-  joined_any : (s : ℕ) (gs : List OpenGroup) → list_any (is_unfinished u b request.index) gs ≡ true → list_any (is_of_serial s) (filed_among n u b request gs) ≡ list_any (is_of_serial s) gs
+  joined_any : (s : ℕ) (gs : List OpenGroup) → list_any (is_unfinished u b request.index) gs ≡ true
+      → list_any (is_of_serial s) (filed_among n u b request gs) ≡ list_any (is_of_serial s) gs
   joined_any s [] some = absurd (false≢true some)
   joined_any s (g ∷ gs) some =
       (elim (is_unfinished u b request.index g)
       as (λ t. (t || list_any (is_unfinished u b request.index) gs) ≡ true
-      → list_any (is_of_serial s) (cond t (with_request g request ∷ gs) (g ∷ filed_among n u b request gs)) ≡ (is_of_serial s g || list_any (is_of_serial s) gs)) [
+      → list_any (is_of_serial s) (cond t (with_request g request ∷ gs) (g ∷ filed_among n u b request gs)) ≡
+      (is_of_serial s g || list_any (is_of_serial s) gs)) [
         | true ↦ λ _. refl
         | false ↦ λ later. ap (λ t. is_of_serial s g || t) (joined_any s gs later)
       ]) some
 
-  joined_one : (s : ℕ) (gs : List OpenGroup) → list_any (is_unfinished u b request.index) gs ≡ true → AtMostOne (is_of_serial s) gs → AtMostOne (is_of_serial s) (filed_among n u b request gs)
+  joined_one : (s : ℕ) (gs : List OpenGroup) → list_any (is_unfinished u b request.index) gs ≡ true → AtMostOne (is_of_serial s) gs
+      → AtMostOne (is_of_serial s) (filed_among n u b request gs)
   joined_one s [] some one = absurd (false≢true some)
   joined_one s (g ∷ gs) some one =
       (elim (is_unfinished u b request.index g)
@@ -168,12 +176,14 @@ module _ (n u b : ℕ) (request : PageRequest) where
         | false ↦ λ later. or_right (eqb g.serial (serial_in gs)) _ (joined_serial gs later)
       ]) some
 
-  joined_with : (s : ℕ) (gs : List OpenGroup) → list_any (is_unfinished u b request.index) gs ≡ true → eqb (serial_in gs) s ≡ true → list_any (is_of_serial s) gs ≡ true
+  joined_with : (s : ℕ) (gs : List OpenGroup) → list_any (is_unfinished u b request.index) gs ≡ true → eqb (serial_in gs) s ≡ true
+      → list_any (is_of_serial s) gs ≡ true
   joined_with s gs some same =
       ap (λ k. list_any (is_of_serial k) gs) (sym (eqb-true (serial_in gs) s same)) ∙ joined_serial gs some
 
   -- the group that takes its last request is a part no more, and the others are what they were
-  joined_last : (s : ℕ) (gs : List OpenGroup) → list_any (is_unfinished u b request.index) gs ≡ true → AtMostOne (is_of_serial s) gs → eqb (serial_in gs) s ≡ true → request.last ≡ true → list_any (is_part s) (filed_among n u b request gs) ≡ false
+  joined_last : (s : ℕ) (gs : List OpenGroup) → list_any (is_unfinished u b request.index) gs ≡ true → AtMostOne (is_of_serial s) gs
+      → eqb (serial_in gs) s ≡ true → request.last ≡ true → list_any (is_part s) (filed_among n u b request gs) ≡ false
   joined_last s [] some one same last = absurd (false≢true some)
   joined_last s (g ∷ gs) some one same last =
       let p = is_unfinished u b request.index in
@@ -189,7 +199,8 @@ module _ (n u b : ℕ) (request : PageRequest) where
             ap (λ t. t || list_any (is_part s) (filed_among n u b request gs)) other ∙ joined_last s gs later one.1 mine last
       ]) some same
 
-  joined_part : (s : ℕ) (gs : List OpenGroup) → list_any (is_unfinished u b request.index) gs ≡ true → list_any (is_part s) gs ≡ false → list_any (is_part s) (filed_among n u b request gs) ≡ false
+  joined_part : (s : ℕ) (gs : List OpenGroup) → list_any (is_unfinished u b request.index) gs ≡ true → list_any (is_part s) gs ≡ false
+      → list_any (is_part s) (filed_among n u b request gs) ≡ false
   joined_part s [] some none = absurd (false≢true some)
   joined_part s (g ∷ gs) some none =
       let p = is_unfinished u b request.index in
@@ -199,7 +210,8 @@ module _ (n u b : ℕ) (request : PageRequest) where
       → list_any (is_part s) (cond t (with_request g request ∷ gs) (g ∷ filed_among n u b request gs)) ≡ false) [
         | true ↦ λ e _.
             let other : is_of_serial s g ≡ false =
-            false_from_ne_true _ (λ mine. true≢false (sym (and_from (is_of_serial s g) (not g.last) mine (ap not (unfinished_part u b request.index g e))) ∙ parts.0)) in
+            false_from_ne_true _ (λ mine. true≢false (sym (and_from (is_of_serial s g) (not g.last) mine
+            (ap not (unfinished_part u b request.index g e))) ∙ parts.0)) in
             ap (λ t. (t && not request.last) || list_any (is_part s) gs) other ∙ parts.1
         | false ↦ λ e later.
             ap (λ t. t || list_any (is_part s) (filed_among n u b request gs)) parts.0 ∙ joined_part s gs later parts.1
@@ -240,7 +252,8 @@ whole_made (DropUnit u ∷ earlier) serial h =
     whole_made earlier serial (back_from _ _ (filter_none (has_job serial) (is_of_other_unit u) gs) h)
 
 -- an answer to another group, and the drop of a unit
-answered_apart : (n serial unit binding : ℕ) → eqb n serial ≡ false → (gs : List OpenGroup) → list_any (is_of serial unit binding) (answered_among n gs) ≡ list_any (is_of serial unit binding) gs
+answered_apart : (n serial unit binding : ℕ) → eqb n serial ≡ false → (gs : List OpenGroup)
+    → list_any (is_of serial unit binding) (answered_among n gs) ≡ list_any (is_of serial unit binding) gs
 answered_apart n serial unit binding apart gs =
     answered_any (is_of serial unit binding) n
     (λ g whole. false_from_ne_true _ (λ mine.
@@ -248,13 +261,15 @@ answered_apart n serial unit binding apart gs =
     let is : g.serial ≡ serial = eqb-true g.serial serial (of_serial serial unit binding g mine) in
     true≢false (sym (eq-eqb n serial (sym has ∙ is)) ∙ apart))) gs
 
-dropped_of : (u serial unit binding : ℕ) (gs : List OpenGroup) → list_any (is_of serial unit binding) (filter (is_of_other_unit u) gs) ≡ (not (eqb unit u) && list_any (is_of serial unit binding) gs)
+dropped_of : (u serial unit binding : ℕ) (gs : List OpenGroup)
+    → list_any (is_of serial unit binding) (filter (is_of_other_unit u) gs) ≡ (not (eqb unit u) && list_any (is_of serial unit binding) gs)
 dropped_of u serial unit binding gs =
     any-filter_same (is_of serial unit binding) (is_of_other_unit u) (not (eqb unit u))
     (λ g h. ap (λ x. not (eqb x u)) (eqb-true g.unit unit (and_parts _ _ (and_parts _ _ h).0).1)) gs
 
 -- a request that was filed and not ended has its group
-named_if_pending : (history : List GroupCall) (serial unit binding : ℕ) → is_pending serial unit binding history ≡ true → list_any (is_of serial unit binding) (groups_after history).groups ≡ true
+named_if_pending : (history : List GroupCall) (serial unit binding : ℕ) → is_pending serial unit binding history ≡ true
+    → list_any (is_of serial unit binding) (groups_after history).groups ≡ true
 named_if_pending [] serial unit binding h = h
 named_if_pending (Reserve _ ∷ earlier) serial unit binding h = named_if_pending earlier serial unit binding h
 named_if_pending (File u b request ∷ earlier) serial unit binding h =
@@ -298,7 +313,8 @@ record Kept (history : List GroupCall) : Type 0 where
   whole : (s : ℕ) → was_made s history ≡ true → list_any (is_part s) (groups_after history).groups ≡ false
 
 -- a group takes the request
-module _ (earlier : List GroupCall) (u b : ℕ) (request : PageRequest) (k : Kept earlier) (some : list_any (is_unfinished u b request.index) (groups_after earlier).groups ≡ true) where
+module _ (earlier : List GroupCall) (u b : ℕ) (request : PageRequest) (k : Kept earlier)
+    (some : list_any (is_unfinished u b request.index) (groups_after earlier).groups ≡ true) where
   next_joined : (groups_after (File u b request ∷ earlier)).next ≡ (groups_after earlier).next
   next_joined = ap (λ t. cond t (groups_after earlier).next ((groups_after earlier).next + 1)) some
 
@@ -337,7 +353,8 @@ module _ (earlier : List GroupCall) (u b : ℕ) (request : PageRequest) (k : Kep
       }
 
 -- a group begins with the request
-module _ (earlier : List GroupCall) (u b : ℕ) (request : PageRequest) (k : Kept earlier) (none : list_any (is_unfinished u b request.index) (groups_after earlier).groups ≡ false) where
+module _ (earlier : List GroupCall) (u b : ℕ) (request : PageRequest) (k : Kept earlier)
+    (none : list_any (is_unfinished u b request.index) (groups_after earlier).groups ≡ false) where
   abbrev n : ℕ
   n = (groups_after earlier).next
 
@@ -444,7 +461,8 @@ serials_differ history serial =
     count-one (is_of_serial serial) (groups_after history).groups ((kept history).single serial)
 
 -- the answer to the one group of a serial leaves none
-serial-answered : (s : ℕ) (gs : List OpenGroup) → list_any (is_part s) gs ≡ false → AtMostOne (is_of_serial s) gs → list_any (is_of_serial s) (answered_among s gs) ≡ false
+serial-answered : (s : ℕ) (gs : List OpenGroup) → list_any (is_part s) gs ≡ false → AtMostOne (is_of_serial s) gs
+    → list_any (is_of_serial s) (answered_among s gs) ≡ false
 serial-answered s [] whole one = refl
 serial-answered s (g ∷ gs) whole one =
     let parts = or_parts (is_part s g) (list_any (is_part s) gs) whole in
@@ -460,7 +478,8 @@ serial-answered s (g ∷ gs) whole one =
     ]) refl
 
 -- so a group is open just where its request was filed and not ended
-pending_if_named : (history : List GroupCall) (serial unit binding : ℕ) → list_any (is_of serial unit binding) (groups_after history).groups ≡ true → is_pending serial unit binding history ≡ true
+pending_if_named : (history : List GroupCall) (serial unit binding : ℕ) → list_any (is_of serial unit binding) (groups_after history).groups ≡ true
+    → is_pending serial unit binding history ≡ true
 pending_if_named [] serial unit binding h = h
 pending_if_named (Reserve _ ∷ earlier) serial unit binding h =
     pending_if_named earlier serial unit binding h
@@ -488,7 +507,8 @@ pending_if_named (DropUnit u ∷ earlier) serial unit binding h =
     and_from (not (eqb unit u)) (is_pending serial unit binding earlier) both.0 (pending_if_named earlier serial unit binding both.1)
 
 -- an open binding has a group with a name
-name_of_open : (binding : ℕ) (gs : List OpenGroup) → list_any (is_of_binding binding) gs ≡ true → (serial : ℕ) × (unit : ℕ) × (list_any (is_of serial unit binding) gs ≡ true)
+name_of_open : (binding : ℕ) (gs : List OpenGroup) → list_any (is_of_binding binding) gs ≡ true
+    → (serial : ℕ) × (unit : ℕ) × (list_any (is_of serial unit binding) gs ≡ true)
 name_of_open binding [] none = absurd (true≢false (sym none))
 name_of_open binding (g ∷ gs) some =
     elim (or_cases _ _ some) [

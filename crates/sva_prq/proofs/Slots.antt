@@ -22,7 +22,8 @@ pub record Source (old : List (Option OpenGroup)) (key : ℕ) (h : OpenGroup) : 
   pub indexes : h.index ≡ group.index
   pub part : h.last ≡ false → group.last ≡ false
 
-pub kept-from : (old new : List (Option OpenGroup)) (cells : List (Option ℕ)) (next : ℕ) → ((key : ℕ) (h : OpenGroup) → IsAt new key h → Source old key h) → AreKept old cells next → AreKept new cells next
+pub kept-from : (old new : List (Option OpenGroup)) (cells : List (Option ℕ)) (next : ℕ)
+    → ((key : ℕ) (h : OpenGroup) → IsAt new key h → Source old key h) → AreKept old cells next → AreKept new cells next
 kept-from old new cells next source kept =
     record {
       given = λ key h at.
@@ -47,14 +48,18 @@ same_source old key h at =
     record { group = h; at = at; serials = refl; units = refl; bindings = refl; indexes = refl; part = λ e. e }
 
 -- an unfinished group is where its cell leads
-may_hold : (slots : List (Option OpenGroup)) (cells : List (Option ℕ)) (next : ℕ) → AreKept slots cells next → (k : ℕ) (g : OpenGroup) → IsAt slots k g → g.last ≡ false → MayHold (get_or cells (cell_of g.unit g.index) None) k
+may_hold : (slots : List (Option OpenGroup)) (cells : List (Option ℕ)) (next : ℕ) → AreKept slots cells next → (k : ℕ) (g : OpenGroup)
+    → IsAt slots k g → g.last ≡ false → MayHold (get_or cells (cell_of g.unit g.index) None) k
 may_hold slots cells next kept k g at part = go (get_or cells (cell_of g.unit g.index) None) refl
   where
     go : (cell : Option ℕ) → get_or cells (cell_of g.unit g.index) None ≡ cell → MayHold cell k
     go None e = tt
     go (Some only) e = kept.celled only k g at part e
 
-pub none_unfinished : (slots : List (Option OpenGroup)) (cells : List (Option ℕ)) (next unit binding index place : ℕ) → AreKept slots cells next → place ≡ cell_of unit index → ((k : ℕ) → MayHold (get_or cells place None) k → passes_at (is_unfinished unit binding index) (get_or slots k None) ≡ false) → (k : ℕ) (g : OpenGroup) → IsAt slots k g → is_unfinished unit binding index g ≡ false
+pub none_unfinished : (slots : List (Option OpenGroup)) (cells : List (Option ℕ)) (next unit binding index place : ℕ) → AreKept slots cells next
+    → place ≡ cell_of unit index
+    → ((k : ℕ) → MayHold (get_or cells place None) k → passes_at (is_unfinished unit binding index) (get_or slots k None) ≡ false)
+    → (k : ℕ) (g : OpenGroup) → IsAt slots k g → is_unfinished unit binding index g ≡ false
 none_unfinished slots cells next unit binding index place kept cell absent k g at =
     false_from_ne_true _ (λ passes.
     let name = unfinished_name unit binding index g passes in
@@ -63,7 +68,8 @@ none_unfinished slots cells next unit binding index place kept cell absent k g a
     true≢false (sym passes ∙ ap (passes_at (is_unfinished unit binding index)) (sym at) ∙ absent k here))
 
 -- a test that fails in all slots fails in all groups, and one that passes at a key passes there
-pub none_in : (p : OpenGroup → Bool) (slots : List (Option OpenGroup)) → ((k : ℕ) (g : OpenGroup) → IsAt slots k g → p g ≡ false) → list_any p (groups_in slots) ≡ false
+pub none_in : (p : OpenGroup → Bool) (slots : List (Option OpenGroup)) → ((k : ℕ) (g : OpenGroup) → IsAt slots k g → p g ≡ false)
+    → list_any p (groups_in slots) ≡ false
 none_in p slots fails =
     Seats.none_has p (groups_in slots) (λ g has. let there = Seats.of_groups slots g has in fails there.0 g there.1)
 
@@ -71,14 +77,17 @@ pub passing_at : (p : OpenGroup → Bool) (o : Option OpenGroup) → passes_at p
 passing_at p None passes = absurd (true≢false (sym passes))
 passing_at p (Some g) passes = (g, refl, passes)
 
-pub failing_at : (p : OpenGroup → Bool) (slots : List (Option OpenGroup)) → ((k : ℕ) → passes_at p (get_or slots k None) ≡ false) → (k : ℕ) (g : OpenGroup) → IsAt slots k g → p g ≡ false
+pub failing_at : (p : OpenGroup → Bool) (slots : List (Option OpenGroup)) → ((k : ℕ) → passes_at p (get_or slots k None) ≡ false)
+    → (k : ℕ) (g : OpenGroup) → IsAt slots k g → p g ≡ false
 failing_at p slots fails k g at = ap (passes_at p) (sym at) ∙ fails k
 
-pub any_at : (p : OpenGroup → Bool) (slots : List (Option OpenGroup)) (k : ℕ) (g : OpenGroup) → IsAt slots k g → p g ≡ true → list_any p (groups_in slots) ≡ true
+pub any_at : (p : OpenGroup → Bool) (slots : List (Option OpenGroup)) (k : ℕ) (g : OpenGroup) → IsAt slots k g → p g ≡ true
+    → list_any p (groups_in slots) ≡ true
 any_at p slots k g at passes = Seats.any_has p (groups_in slots) g (Seats.in_groups slots k g at) passes
 
 -- a group at a key, among the others
-module _ (old new : List (Option OpenGroup)) (cells : List (Option ℕ)) (next : ℕ) (kept : AreKept old cells next) (key : ℕ) (g : OpenGroup) (at : IsAt old key g) (others : (other : ℕ) → other ≢ key → get_or new other None ≡ get_or old other None) where
+module _ (old new : List (Option OpenGroup)) (cells : List (Option ℕ)) (next : ℕ) (kept : AreKept old cells next) (key : ℕ) (g : OpenGroup)
+    (at : IsAt old key g) (others : (other : ℕ) → other ≢ key → get_or new other None ≡ get_or old other None) where
   abbrev gs : List OpenGroup
   gs = groups_in old
 
@@ -230,7 +239,9 @@ module _ (old new : List (Option OpenGroup)) (cells : List (Option ℕ)) (next :
         ∙ ap (filed_among n unit binding request) (sym place.whole)
 
 -- a group begins at a vacant key
-module _ (old new : List (Option OpenGroup)) (cells : List (Option ℕ)) (next : ℕ) (kept : AreKept old cells next) (key : ℕ) (g : OpenGroup) (vacant : get_or old key None ≡ None) (is : IsAt new key g) (others : (other : ℕ) → other ≢ key → get_or new other None ≡ get_or old other None) (serial : g.serial ≡ next) where
+module _ (old new : List (Option OpenGroup)) (cells : List (Option ℕ)) (next : ℕ) (kept : AreKept old cells next) (key : ℕ) (g : OpenGroup)
+    (vacant : get_or old key None ≡ None) (is : IsAt new key g) (others : (other : ℕ) → other ≢ key → get_or new other None ≡ get_or old other None)
+    (serial : g.serial ≡ next) where
   -- a group at a key is the new one, or was there
   new_or_old : (k : ℕ) (h : OpenGroup) → IsAt new k h → ((k ≡ key) × (g ≡ h)) ⊎ IsAt old k h
   new_or_old k h here =
@@ -291,11 +302,15 @@ module _ (old new : List (Option OpenGroup)) (cells : List (Option ℕ)) (next :
       ])
 
   -- no other group of its name is unfinished, and its cell leads to it alone, or nowhere
-  module _ (cell : Option ℕ) (none : (k : ℕ) (h : OpenGroup) → IsAt old k h → is_unfinished g.unit g.binding g.index h ≡ false) (leads : (j : ℕ) → cell ≡ Some j → (j ≡ key) × ((k : ℕ) → MayHold (get_or cells (cell_of g.unit g.index) None) k → (h : OpenGroup) → IsAt old k h → h.last ≡ true)) where
+  module _ (cell : Option ℕ) (none : (k : ℕ) (h : OpenGroup) → IsAt old k h → is_unfinished g.unit g.binding g.index h ≡ false)
+      (leads : (j : ℕ) → cell ≡ Some j → (j ≡ key) × ((k : ℕ) → MayHold (get_or cells (cell_of g.unit g.index) None) k → (h : OpenGroup) → IsAt old k
+      h → h.last ≡ true)) where
     not_twin : (k : ℕ) (g' h : OpenGroup) → g ≡ g' → IsAt old k h → h.last ≡ false → h.unit ≡ g'.unit → h.binding ≡ g'.binding → h.index ≡ g'.index → ⊥
     not_twin k g' h same was part units bindings indexes =
         let unfinished : is_unfinished g.unit g.binding g.index h ≡ true =
-        and_from _ _ (and_from _ _ (and_from _ _ (eq-eqb _ _ (units ∙ ap (λ (x : OpenGroup). x.unit) (sym same))) (eq-eqb _ _ (bindings ∙ ap (λ (x : OpenGroup). x.binding) (sym same)))) (eq-eqb _ _ (indexes ∙ ap (λ (x : OpenGroup). x.index) (sym same)))) (ap not part) in
+        and_from _ _ (and_from _ _ (and_from _ _ (eq-eqb _ _ (units ∙ ap (λ (x : OpenGroup). x.unit) (sym same)))
+        (eq-eqb _ _ (bindings ∙ ap (λ (x : OpenGroup). x.binding) (sym same))))
+        (eq-eqb _ _ (indexes ∙ ap (λ (x : OpenGroup). x.index) (sym same)))) (ap not part) in
         true≢false (sym unfinished ∙ none k h was)
 
     -- what a cell reads once its own is written
@@ -309,7 +324,8 @@ module _ (old new : List (Option OpenGroup)) (cells : List (Option ℕ)) (next :
               absurd (cc (sym (get_or_past (set cells c cell) c None out) ∙ read))
         ]
 
-    celled_begun : (j k : ℕ) (h : OpenGroup) → IsAt new k h → h.last ≡ false → get_or (set cells (cell_of g.unit g.index) cell) (cell_of h.unit h.index) None ≡ Some j → j ≡ k
+    celled_begun : (j k : ℕ) (h : OpenGroup) → IsAt new k h → h.last ≡ false
+        → get_or (set cells (cell_of g.unit g.index) cell) (cell_of h.unit h.index) None ≡ Some j → j ≡ k
     celled_begun j k h here part read =
         elim (cases_eq (cell_of h.unit h.index) (cell_of g.unit g.index)) [
           | inl same ↦
@@ -349,7 +365,9 @@ module _ (old new : List (Option OpenGroup)) (cells : List (Option ℕ)) (next :
         }
 
 -- the groups of a unit are taken out
-module _ (old new : List (Option OpenGroup)) (cells : List (Option ℕ)) (next unit : ℕ) (kept : AreKept old cells next) (gone : (k : ℕ) → passes_at (is_of_unit unit) (get_or old k None) ≡ true → get_or new k None ≡ None) (stay : (k : ℕ) → passes_at (is_of_unit unit) (get_or old k None) ≡ false → get_or new k None ≡ get_or old k None) where
+module _ (old new : List (Option OpenGroup)) (cells : List (Option ℕ)) (next unit : ℕ) (kept : AreKept old cells next)
+    (gone : (k : ℕ) → passes_at (is_of_unit unit) (get_or old k None) ≡ true → get_or new k None ≡ None)
+    (stay : (k : ℕ) → passes_at (is_of_unit unit) (get_or old k None) ≡ false → get_or new k None ≡ get_or old k None) where
   stays : (k : ℕ) (h : OpenGroup) → IsAt new k h → IsAt old k h × (is_of_unit unit h ≡ false)
   stays k h here =
       let other : passes_at (is_of_unit unit) (get_or old k None) ≡ false =
@@ -382,24 +400,28 @@ count_dropped unit (g ∷ gs) =
     let cons = sum_by-cons (λ (h : OpenGroup). cond (is_of_unit unit h) 1 0) g gs in
     let rest = count_dropped unit gs in
     (elim (is_of_unit unit g)
-    as (λ t. is_of_unit unit g ≡ t → length (cond (not t) (g ∷ filter (is_of_other_unit unit) gs) (filter (is_of_other_unit unit) gs)) + count_by (is_of_unit unit) (g ∷ gs) ≡ length (g ∷ gs)) [
+    as (λ t. is_of_unit unit g ≡ t → length (cond (not t) (g ∷ filter (is_of_other_unit unit) gs) (filter (is_of_other_unit unit) gs)) + count_by
+    (is_of_unit unit) (g ∷ gs) ≡ length (g ∷ gs)) [
       | true ↦ λ e. let one : ◌≡◌ {A = ℕ} (cond (is_of_unit unit g) 1 0) 1 = ap (λ b. cond b 1 0) e in omega (arith, cons, one, rest)
       | false ↦ λ e. let zero : ◌≡◌ {A = ℕ} (cond (is_of_unit unit g) 1 0) 0 = ap (λ b. cond b 1 0) e in omega (arith, cons, zero, rest)
     ]) refl
 
-pub counted : (old new : List (Option OpenGroup)) (unit count : ℕ) → groups_in new ≡ filter (is_of_other_unit unit) (groups_in old) → count_by is_some new + count ≡ count_by is_some old → count ≡ count_by (is_of_unit unit) (groups_in old)
+pub counted : (old new : List (Option OpenGroup)) (unit count : ℕ) → groups_in new ≡ filter (is_of_other_unit unit) (groups_in old)
+    → count_by is_some new + count ≡ count_by is_some old → count ≡ count_by (is_of_unit unit) (groups_in old)
 counted old new unit count groups sums =
     let lost = count_dropped unit (groups_in old) in
     let left : length (groups_in new) ≡ length (filter (is_of_other_unit unit) (groups_in old)) = ap length groups in
     omega (arith, lost, left, Seats.length-groups old, Seats.length-groups new, sums)
 
 -- a search that ends tells whether any group passes
-pub searched : (p : OpenGroup → Bool) (slots : List (Option OpenGroup)) (key : Option ℕ) → IfSome key (λ k. passes_at p (get_or slots k None) ≡ true) → IfNone key ((k : ℕ) → passes_at p (get_or slots k None) ≡ false) → is_some key ≡ list_any p (groups_in slots)
+pub searched : (p : OpenGroup → Bool) (slots : List (Option OpenGroup)) (key : Option ℕ) → IfSome key (λ k. passes_at p (get_or slots k None) ≡ true)
+    → IfNone key ((k : ℕ) → passes_at p (get_or slots k None) ≡ false) → is_some key ≡ list_any p (groups_in slots)
 searched p slots None found absent = sym (none_in p slots (failing_at p slots absent))
 searched p slots (Some k) found absent =
     let there = passing_at p (get_or slots k None) found in sym (any_at p slots k there.0 there.1 there.2)
 
 -- what fails in all slots fails in some of them
-pub fewer : (key : Option ℕ) (may : ℕ → Type 0) (p : OpenGroup → Bool) (slots : List (Option OpenGroup)) → IfNone key ((k : ℕ) → passes_at p (get_or slots k None) ≡ false) → IfNone key ((k : ℕ) → may k → passes_at p (get_or slots k None) ≡ false)
+pub fewer : (key : Option ℕ) (may : ℕ → Type 0) (p : OpenGroup → Bool) (slots : List (Option OpenGroup))
+    → IfNone key ((k : ℕ) → passes_at p (get_or slots k None) ≡ false) → IfNone key ((k : ℕ) → may k → passes_at p (get_or slots k None) ≡ false)
 fewer None may p slots absent = λ k _. absent k
 fewer (Some k) may p slots absent = tt

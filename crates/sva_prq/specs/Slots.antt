@@ -29,7 +29,8 @@ pub record AreKept (slots : List (Option OpenGroup)) (cells : List (Option ℕ))
   pub given : (key : ℕ) (g : OpenGroup) → IsAt slots key g → g.serial < next
   pub apart : (j k : ℕ) (g h : OpenGroup) → IsAt slots j g → IsAt slots k h → g.serial ≡ h.serial → j ≡ k
   -- one unfinished group for each unit, binding and index
-  pub single : (j k : ℕ) (g h : OpenGroup) → IsAt slots j g → IsAt slots k h → g.last ≡ false → h.last ≡ false → g.unit ≡ h.unit → g.binding ≡ h.binding → g.index ≡ h.index → j ≡ k
+  pub single : (j k : ℕ) (g h : OpenGroup) → IsAt slots j g → IsAt slots k h → g.last ≡ false → h.last ≡ false → g.unit ≡ h.unit
+      → g.binding ≡ h.binding → g.index ≡ h.index → j ≡ k
   -- a cell with a key has all unfinished groups of the cell at that key
   pub celled : (j k : ℕ) (g : OpenGroup) → IsAt slots k g → g.last ≡ false → slice_index_or cells (cell_of g.unit g.index) None ≡ Some j → j ≡ k
 

@@ -24,7 +24,8 @@ pub returns : goal.returns
 returns c =
     let old = c.self.inside.slots.slots in
     let new = c.take_unit-gone.new.slots.slots in
-    let groups = groups-dropped old new c.self.inside.cells c.self.inside.next c.args.unit c.self.invariant.0 c.take_unit-gone.ensures.gone c.take_unit-gone.ensures.kept in
+    let groups = groups-dropped old new c.self.inside.cells c.self.inside.next c.args.unit c.self.invariant.0 c.take_unit-gone.ensures.gone
+    c.take_unit-gone.ensures.kept in
     let count = counted old new c.args.unit c.take_unit-gone.result groups c.take_unit-gone.ensures.count in
     (λ i. record { groups = groups i; room = (c.room_after-self-inside.ensures ∙ ap (λ n. c.self.inside.room + n) count) i; next = c.self.inside.next })
     ∙ ap (λ s. without_unit s c.args.unit) c.self.view_is

@@ -13,16 +13,19 @@ use Rattle.sva_prq.proofs.Tests.{is_same, Same, same_parts, same_self, unfinishe
 
 module _ (n u b : ℕ) (request : PageRequest) (unit binding index : ℕ) where
   -- a request of another name changes nothing of the unfinished group of this name
-  other_written : is_same u b request.index unit binding index ≡ false → (g : OpenGroup) → is_unfinished u b request.index g ≡ true → (is_unfinished unit binding index (with_request g request) ≡ false) × (is_unfinished unit binding index g ≡ false)
+  other_written : is_same u b request.index unit binding index ≡ false → (g : OpenGroup) → is_unfinished u b request.index g ≡ true
+      → (is_unfinished unit binding index (with_request g request) ≡ false) × (is_unfinished unit binding index g ≡ false)
   other_written apart g h =
       let fails = name_as u b request.index unit binding index g h ∙ apart in
       (ap (λ t. t && not request.last) fails, ap (λ t. t && not g.last) fails)
 
-  any-filed_other : is_same u b request.index unit binding index ≡ false → (gs : List OpenGroup) → list_any (is_unfinished unit binding index) (filed_among n u b request gs) ≡ list_any (is_unfinished unit binding index) gs
+  any-filed_other : is_same u b request.index unit binding index ≡ false → (gs : List OpenGroup)
+      → list_any (is_unfinished unit binding index) (filed_among n u b request gs) ≡ list_any (is_unfinished unit binding index) gs
   any-filed_other apart gs =
       filed_any (is_unfinished unit binding index) false n u b request (other_written apart) (ap (λ t. t && not request.last) apart) gs
 
-  find-filed_other : is_same u b request.index unit binding index ≡ false → (gs : List OpenGroup) → find (is_unfinished unit binding index) (filed_among n u b request gs) ≡ find (is_unfinished unit binding index) gs
+  find-filed_other : is_same u b request.index unit binding index ≡ false → (gs : List OpenGroup)
+      → find (is_unfinished unit binding index) (filed_among n u b request gs) ≡ find (is_unfinished unit binding index) gs
   find-filed_other apart [] =
       ap (λ t. cond (t && not request.last) (Some (with_request (new_group n u b request.index) request)) None) apart
   find-filed_other apart (g ∷ gs) =
@@ -43,7 +46,8 @@ module _ (n u b : ℕ) (request : PageRequest) (unit binding index : ℕ) where
       let name = same_parts u b request.index unit binding index h in
       λ j. is_unfinished (sym name.units j) (sym name.bindings j) (sym name.indexes j) g
 
-  AtMostOne-filed_other : is_same u b request.index unit binding index ≡ false → (gs : List OpenGroup) → AtMostOne (is_unfinished unit binding index) gs → AtMostOne (is_unfinished unit binding index) (filed_among n u b request gs)
+  AtMostOne-filed_other : is_same u b request.index unit binding index ≡ false → (gs : List OpenGroup)
+      → AtMostOne (is_unfinished unit binding index) gs → AtMostOne (is_unfinished unit binding index) (filed_among n u b request gs)
   AtMostOne-filed_other apart [] h = (λ _. refl, tt)
   AtMostOne-filed_other apart (g ∷ gs) h =
       let p = is_unfinished unit binding index in
@@ -54,7 +58,8 @@ module _ (n u b : ℕ) (request : PageRequest) (unit binding index : ℕ) where
         | false ↦ λ e. (λ passes. any-filed_other apart gs ∙ h.0 passes, AtMostOne-filed_other apart gs h.1)
       ]) refl
 
-  AtMostOne-filed_same : is_same u b request.index unit binding index ≡ true → (gs : List OpenGroup) → AtMostOne (is_unfinished unit binding index) gs → AtMostOne (is_unfinished unit binding index) (filed_among n u b request gs)
+  AtMostOne-filed_same : is_same u b request.index unit binding index ≡ true → (gs : List OpenGroup) → AtMostOne (is_unfinished unit binding index) gs
+      → AtMostOne (is_unfinished unit binding index) (filed_among n u b request gs)
   AtMostOne-filed_same h [] one = (λ _. refl, tt)
   AtMostOne-filed_same h (g ∷ gs) one =
       let p = is_unfinished unit binding index in
@@ -65,7 +70,8 @@ module _ (n u b : ℕ) (request : PageRequest) (unit binding index : ℕ) where
         | false ↦ λ e. (λ passes. absurd (true≢false (sym passes ∙ same_test h g ∙ e)), AtMostOne-filed_same h gs one.1)
       ]) refl
 
-  AtMostOne-filed : (gs : List OpenGroup) → AtMostOne (is_unfinished unit binding index) gs → AtMostOne (is_unfinished unit binding index) (filed_among n u b request gs)
+  AtMostOne-filed : (gs : List OpenGroup) → AtMostOne (is_unfinished unit binding index) gs
+      → AtMostOne (is_unfinished unit binding index) (filed_among n u b request gs)
   AtMostOne-filed gs one =
       (elim (is_same u b request.index unit binding index)
       as (λ t. is_same u b request.index unit binding index ≡ t → AtMostOne (is_unfinished unit binding index) (filed_among n u b request gs)) [
@@ -110,13 +116,16 @@ unfinished_groups_differ history unit binding index =
 
 -- the asks of the unfinished group of a name, once a request of that name is filed
 module _ (n u b : ℕ) (request : PageRequest) where
-  picked : (l : Bool) (w : OpenGroup) (rest : Option OpenGroup) (asks : List Ask) → w.asks ≡ asks → rest ≡ None → (unwrap_or (cond (true && not l) (Some w) rest) (new_group 0 u b request.index)).asks ≡ cond l [] asks
+  picked : (l : Bool) (w : OpenGroup) (rest : Option OpenGroup) (asks : List Ask) → w.asks ≡ asks → rest ≡ None
+      → (unwrap_or (cond (true && not l) (Some w) rest) (new_group 0 u b request.index)).asks ≡ cond l [] asks
   picked true w rest asks same none = ap (λ o. (unwrap_or o (new_group 0 u b request.index)).asks) none
   picked false w rest asks same none = same
 
-  asks-filed_same : (gs : List OpenGroup) → AtMostOne (is_unfinished u b request.index) gs → unfinished_asks u b request.index (filed_among n u b request gs) ≡ cond request.last [] (unfinished_asks u b request.index gs ++ ask_of request ∷ [])
+  asks-filed_same : (gs : List OpenGroup) → AtMostOne (is_unfinished u b request.index) gs
+      → unfinished_asks u b request.index (filed_among n u b request gs) ≡ cond request.last [] (unfinished_asks u b request.index gs ++ ask_of request ∷ [])
   asks-filed_same [] one =
-      ap (λ t. (unwrap_or (cond (t && not request.last) (Some (with_request (new_group n u b request.index) request)) None) (new_group 0 u b request.index)).asks) (same_self u b request.index)
+      ap (λ t. (unwrap_or (cond (t && not request.last) (Some (with_request (new_group n u b request.index) request)) None)
+      (new_group 0 u b request.index)).asks) (same_self u b request.index)
       ∙ picked request.last (with_request (new_group n u b request.index) request) None (ask_of request ∷ []) refl refl
   asks-filed_same (g ∷ gs) one =
       let p = is_unfinished u b request.index in
@@ -133,10 +142,14 @@ module _ (n u b : ℕ) (request : PageRequest) where
             ∙ asks-filed_same gs one.1
       ]) refl
 
-  asks-filed : (unit binding index : ℕ) (gs : List OpenGroup) → AtMostOne (is_unfinished u b request.index) gs → Same u b request.index unit binding index → unfinished_asks unit binding index (filed_among n u b request gs) ≡ cond request.last [] (unfinished_asks unit binding index gs ++ ask_of request ∷ [])
+  asks-filed : (unit binding index : ℕ) (gs : List OpenGroup) → AtMostOne (is_unfinished u b request.index) gs
+      → Same u b request.index unit binding index
+      → unfinished_asks unit binding index (filed_among n u b request gs) ≡ cond request.last [] (unfinished_asks unit binding index gs ++ ask_of request ∷ [])
   asks-filed unit binding index gs one name =
-      subst (λ x. unfinished_asks x binding index (filed_among n u b request gs) ≡ cond request.last [] (unfinished_asks x binding index gs ++ ask_of request ∷ [])) name.units
-      (subst (λ x. unfinished_asks u x index (filed_among n u b request gs) ≡ cond request.last [] (unfinished_asks u x index gs ++ ask_of request ∷ [])) name.bindings
+      subst (λ x. unfinished_asks x binding index (filed_among n u b request gs) ≡ cond request.last []
+      (unfinished_asks x binding index gs ++ ask_of request ∷ [])) name.units
+      (subst (λ x. unfinished_asks u x index (filed_among n u b request gs) ≡ cond request.last []
+      (unfinished_asks u x index gs ++ ask_of request ∷ [])) name.bindings
       (subst (λ x. unfinished_asks u b x (filed_among n u b request gs) ≡ cond request.last [] (unfinished_asks u b x gs ++ ask_of request ∷ [])) name.indexes
       (asks-filed_same gs one)))
 
@@ -154,7 +167,8 @@ whole_fails serial unit binding index g whole =
     false_from_ne_true _ (λ passes. true≢false (sym (and_parts _ _ whole).1 ∙ unfinished_part unit binding index g passes))
 
 -- looking back over the history gives the asks of the unfinished group
-pub asks_look_back : (history : List GroupCall) (unit binding index : ℕ) → unfinished_asks unit binding index (groups_after history).groups ≡ asks_filed unit binding index history
+pub asks_look_back : (history : List GroupCall) (unit binding index : ℕ)
+    → unfinished_asks unit binding index (groups_after history).groups ≡ asks_filed unit binding index history
 asks_look_back [] unit binding index = refl
 asks_look_back (Reserve _ ∷ earlier) unit binding index = asks_look_back earlier unit binding index
 asks_look_back (File u b request ∷ earlier) unit binding index =
@@ -191,6 +205,7 @@ asks_look_back (DropUnit u ∷ earlier) unit binding index =
 pub jobs_hold_their_requests : JobsHoldTheirRequests
 jobs_hold_their_requests history unit binding request =
     λ j. cond request.last (Some (record {
+      unit = unit;
       binding = binding;
       index = request.index;
       asks = asks_look_back history unit binding request.index j ++ ask_of request ∷ [];

@@ -1,10 +1,8 @@
 -- What every history keeps of the open groups: how many requests they have, and which bindings are open.
-use Rattle.std.proofs.Common.{◌≡◌, ℕ, ◌+◌, ◌<◌, ◌≤◌, ◌^◌, Bool, true, false, ◌&&◌, ◌||◌, not, cond, eqb, List, [], ◌∷◌, ◌++◌, length, filter, All, Some, MatchOption, unwrap_or, refl, sym, ap, ◌∙◌, subst, arith, inl, inr, length-append}
-use Rattle.std.proofs.Math.Nat.{mod-eq_of_lt}
+use Rattle.std.proofs.Common.{◌≡◌, ℕ, ◌+◌, ◌<◌, ◌≤◌, Bool, true, false, ◌&&◌, ◌||◌, not, cond, eqb, List, [], ◌∷◌, ◌++◌, length, filter, All, Some, MatchOption, unwrap_or, refl, sym, ap, ◌∙◌, subst, arith, inl, inr, length-append}
 use Rattle.std.proofs.lemmas.Bool.{and_parts, and_from, or_parts, or_cases, or_left, or_right, eqb-true, eq-eqb, ne_eqb, not-true, not-false, true≢false, false≢true, false_from_ne_true}
 use Rattle.std.proofs.lemmas.List.Elements.{All-nil, All-cons}
 use Rattle.std.proofs.lemmas.Map.Views.{any-filter_same}
-use Rattle.std.specs.Hash.DefaultHasher.{wrapping_add}
 use Rattle.std.specs.List.{find, list_any}
 use Rattle.sva_msg.specs.declared.messages.PageRequest.{PageRequest}
 use Rattle.sva_prq.specs.Groups.{OpenGroup, is_unfinished, is_of_serial, is_of_binding, is_of_other_unit, has_job, new_group, with_request, filed_among, serial_for, answered_among}
@@ -18,7 +16,8 @@ abbrev AreSmall : List OpenGroup → Type 0
 AreSmall [] = Unit {0}
 AreSmall (g ∷ gs) = (length g.asks ≤ 32) × AreSmall gs
 
-AreSmall-filed : (n u b : ℕ) (request : PageRequest) (P : Type 0) (gs : List OpenGroup) → MatchOption (find (is_unfinished u b request.index) gs) P (λ g. length g.asks < 32) → AreSmall gs → AreSmall (filed_among n u b request gs)
+AreSmall-filed : (n u b : ℕ) (request : PageRequest) (P : Type 0) (gs : List OpenGroup)
+    → MatchOption (find (is_unfinished u b request.index) gs) P (λ g. length g.asks < 32) → AreSmall gs → AreSmall (filed_among n u b request gs)
 AreSmall-filed n u b request P [] room small = (omega arith, tt)
 AreSmall-filed n u b request P (g ∷ gs) room small =
     (elim (is_unfinished u b request.index g)
@@ -102,7 +101,9 @@ module _ (n u b : ℕ) (request : PageRequest) where
   abbrev serial_in : List OpenGroup → ℕ
   serial_in gs = (unwrap_or (find (is_unfinished u b request.index) gs) (new_group n u b request.index)).serial
 
-  filed_of : (serial unit binding : ℕ) (gs : List OpenGroup) → list_any (is_of serial unit binding) (filed_among n u b request gs) ≡ ((eqb (serial_in gs) serial && eqb u unit && eqb b binding) || list_any (is_of serial unit binding) gs)
+  filed_of : (serial unit binding : ℕ) (gs : List OpenGroup)
+      → list_any (is_of serial unit binding) (filed_among n u b request gs) ≡
+      ((eqb (serial_in gs) serial && eqb u unit && eqb b binding) || list_any (is_of serial unit binding) gs)
   filed_of serial unit binding [] = refl
   filed_of serial unit binding (g ∷ gs) =
       let p = is_unfinished u b request.index in
@@ -110,7 +111,8 @@ module _ (n u b : ℕ) (request : PageRequest) where
       (elim (p g)
       as (λ t. p g ≡ t
       → list_any q (cond t (with_request g request ∷ gs) (g ∷ filed_among n u b request gs))
-      ≡ ((eqb (unwrap_or (cond t (Some g) (find p gs)) (new_group n u b request.index)).serial serial && eqb u unit && eqb b binding) || (q g || list_any q gs))) [
+      ≡ ((eqb (unwrap_or (cond t (Some g) (find p gs)) (new_group n u b request.index)).serial serial && eqb u unit && eqb b binding) ||
+      (q g || list_any q gs))) [
         | true ↦ λ e.
             let name = unfinished_name u b request.index g e in
             or_twice (q g) (list_any q gs)
@@ -120,7 +122,8 @@ module _ (n u b : ℕ) (request : PageRequest) where
             ∙ or_swap (q g) (eqb (serial_in gs) serial && eqb u unit && eqb b binding) (list_any q gs)
       ]) refl
 
-  filed_whole : (serial : ℕ) (gs : List OpenGroup) → list_any (has_job serial) (filed_among n u b request gs) ≡ ((eqb (serial_in gs) serial && request.last) || list_any (has_job serial) gs)
+  filed_whole : (serial : ℕ) (gs : List OpenGroup)
+      → list_any (has_job serial) (filed_among n u b request gs) ≡ ((eqb (serial_in gs) serial && request.last) || list_any (has_job serial) gs)
   filed_whole serial [] = refl
   filed_whole serial (g ∷ gs) =
       let p = is_unfinished u b request.index in
@@ -138,17 +141,20 @@ module _ (n u b : ℕ) (request : PageRequest) where
       ]) refl
 
   -- where an unfinished group takes the request, each keeps its serial
-  joined_any : (s : ℕ) (gs : List OpenGroup) → list_any (is_unfinished u b request.index) gs ≡ true → list_any (is_of_serial s) (filed_among n u b request gs) ≡ list_any (is_of_serial s) gs
+  joined_any : (s : ℕ) (gs : List OpenGroup) → list_any (is_unfinished u b request.index) gs ≡ true
+      → list_any (is_of_serial s) (filed_among n u b request gs) ≡ list_any (is_of_serial s) gs
   joined_any s [] some = absurd (false≢true some)
   joined_any s (g ∷ gs) some =
       (elim (is_unfinished u b request.index g)
       as (λ t. (t || list_any (is_unfinished u b request.index) gs) ≡ true
-      → list_any (is_of_serial s) (cond t (with_request g request ∷ gs) (g ∷ filed_among n u b request gs)) ≡ (is_of_serial s g || list_any (is_of_serial s) gs)) [
+      → list_any (is_of_serial s) (cond t (with_request g request ∷ gs) (g ∷ filed_among n u b request gs)) ≡
+      (is_of_serial s g || list_any (is_of_serial s) gs)) [
         | true ↦ λ _. refl
         | false ↦ λ later. ap (λ t. is_of_serial s g || t) (joined_any s gs later)
       ]) some
 
-  joined_one : (s : ℕ) (gs : List OpenGroup) → list_any (is_unfinished u b request.index) gs ≡ true → AtMostOne (is_of_serial s) gs → AtMostOne (is_of_serial s) (filed_among n u b request gs)
+  joined_one : (s : ℕ) (gs : List OpenGroup) → list_any (is_unfinished u b request.index) gs ≡ true → AtMostOne (is_of_serial s) gs
+      → AtMostOne (is_of_serial s) (filed_among n u b request gs)
   joined_one s [] some one = absurd (false≢true some)
   joined_one s (g ∷ gs) some one =
       (elim (is_unfinished u b request.index g)
@@ -170,12 +176,14 @@ module _ (n u b : ℕ) (request : PageRequest) where
         | false ↦ λ later. or_right (eqb g.serial (serial_in gs)) _ (joined_serial gs later)
       ]) some
 
-  joined_with : (s : ℕ) (gs : List OpenGroup) → list_any (is_unfinished u b request.index) gs ≡ true → eqb (serial_in gs) s ≡ true → list_any (is_of_serial s) gs ≡ true
+  joined_with : (s : ℕ) (gs : List OpenGroup) → list_any (is_unfinished u b request.index) gs ≡ true → eqb (serial_in gs) s ≡ true
+      → list_any (is_of_serial s) gs ≡ true
   joined_with s gs some same =
       ap (λ k. list_any (is_of_serial k) gs) (sym (eqb-true (serial_in gs) s same)) ∙ joined_serial gs some
 
   -- the group that takes its last request is a part no more, and the others are what they were
-  joined_last : (s : ℕ) (gs : List OpenGroup) → list_any (is_unfinished u b request.index) gs ≡ true → AtMostOne (is_of_serial s) gs → eqb (serial_in gs) s ≡ true → request.last ≡ true → list_any (is_part s) (filed_among n u b request gs) ≡ false
+  joined_last : (s : ℕ) (gs : List OpenGroup) → list_any (is_unfinished u b request.index) gs ≡ true → AtMostOne (is_of_serial s) gs
+      → eqb (serial_in gs) s ≡ true → request.last ≡ true → list_any (is_part s) (filed_among n u b request gs) ≡ false
   joined_last s [] some one same last = absurd (false≢true some)
   joined_last s (g ∷ gs) some one same last =
       let p = is_unfinished u b request.index in
@@ -191,7 +199,8 @@ module _ (n u b : ℕ) (request : PageRequest) where
             ap (λ t. t || list_any (is_part s) (filed_among n u b request gs)) other ∙ joined_last s gs later one.1 mine last
       ]) some same
 
-  joined_part : (s : ℕ) (gs : List OpenGroup) → list_any (is_unfinished u b request.index) gs ≡ true → list_any (is_part s) gs ≡ false → list_any (is_part s) (filed_among n u b request gs) ≡ false
+  joined_part : (s : ℕ) (gs : List OpenGroup) → list_any (is_unfinished u b request.index) gs ≡ true → list_any (is_part s) gs ≡ false
+      → list_any (is_part s) (filed_among n u b request gs) ≡ false
   joined_part s [] some none = absurd (false≢true some)
   joined_part s (g ∷ gs) some none =
       let p = is_unfinished u b request.index in
@@ -201,7 +210,8 @@ module _ (n u b : ℕ) (request : PageRequest) where
       → list_any (is_part s) (cond t (with_request g request ∷ gs) (g ∷ filed_among n u b request gs)) ≡ false) [
         | true ↦ λ e _.
             let other : is_of_serial s g ≡ false =
-            false_from_ne_true _ (λ mine. true≢false (sym (and_from (is_of_serial s g) (not g.last) mine (ap not (unfinished_part u b request.index g e))) ∙ parts.0)) in
+            false_from_ne_true _ (λ mine. true≢false (sym (and_from (is_of_serial s g) (not g.last) mine
+            (ap not (unfinished_part u b request.index g e))) ∙ parts.0)) in
             ap (λ t. (t && not request.last) || list_any (is_part s) gs) other ∙ parts.1
         | false ↦ λ e later.
             ap (λ t. t || list_any (is_part s) (filed_among n u b request gs)) parts.0 ∙ joined_part s gs later parts.1
@@ -242,7 +252,8 @@ whole_made (DropUnit u ∷ earlier) serial h =
     whole_made earlier serial (back_from _ _ (filter_none (has_job serial) (is_of_other_unit u) gs) h)
 
 -- an answer to another group, and the drop of a unit
-answered_apart : (n serial unit binding : ℕ) → eqb n serial ≡ false → (gs : List OpenGroup) → list_any (is_of serial unit binding) (answered_among n gs) ≡ list_any (is_of serial unit binding) gs
+answered_apart : (n serial unit binding : ℕ) → eqb n serial ≡ false → (gs : List OpenGroup)
+    → list_any (is_of serial unit binding) (answered_among n gs) ≡ list_any (is_of serial unit binding) gs
 answered_apart n serial unit binding apart gs =
     answered_any (is_of serial unit binding) n
     (λ g whole. false_from_ne_true _ (λ mine.
@@ -250,13 +261,15 @@ answered_apart n serial unit binding apart gs =
     let is : g.serial ≡ serial = eqb-true g.serial serial (of_serial serial unit binding g mine) in
     true≢false (sym (eq-eqb n serial (sym has ∙ is)) ∙ apart))) gs
 
-dropped_of : (u serial unit binding : ℕ) (gs : List OpenGroup) → list_any (is_of serial unit binding) (filter (is_of_other_unit u) gs) ≡ (not (eqb unit u) && list_any (is_of serial unit binding) gs)
+dropped_of : (u serial unit binding : ℕ) (gs : List OpenGroup)
+    → list_any (is_of serial unit binding) (filter (is_of_other_unit u) gs) ≡ (not (eqb unit u) && list_any (is_of serial unit binding) gs)
 dropped_of u serial unit binding gs =
     any-filter_same (is_of serial unit binding) (is_of_other_unit u) (not (eqb unit u))
     (λ g h. ap (λ x. not (eqb x u)) (eqb-true g.unit unit (and_parts _ _ (and_parts _ _ h).0).1)) gs
 
 -- a request that was filed and not ended has its group
-named_if_pending : (history : List GroupCall) (serial unit binding : ℕ) → is_pending serial unit binding history ≡ true → list_any (is_of serial unit binding) (groups_after history).groups ≡ true
+named_if_pending : (history : List GroupCall) (serial unit binding : ℕ) → is_pending serial unit binding history ≡ true
+    → list_any (is_of serial unit binding) (groups_after history).groups ≡ true
 named_if_pending [] serial unit binding h = h
 named_if_pending (Reserve _ ∷ earlier) serial unit binding h = named_if_pending earlier serial unit binding h
 named_if_pending (File u b request ∷ earlier) serial unit binding h =
@@ -293,7 +306,6 @@ open_groups_are_seen history serial unit binding h =
 
 -- serials rise, so each group has its own, and a whole group is a part no more
 record Kept (history : List GroupCall) : Type 0 where
-  young : (groups_after history).next ≤ length history
   fresh : (s : ℕ) → (groups_after history).next ≤ s → list_any (is_of_serial s) (groups_after history).groups ≡ false
   unfiled : (s : ℕ) → (groups_after history).next ≤ s → was_filed s history ≡ false
   unmade : (s : ℕ) → (groups_after history).next ≤ s → was_made s history ≡ false
@@ -301,9 +313,10 @@ record Kept (history : List GroupCall) : Type 0 where
   whole : (s : ℕ) → was_made s history ≡ true → list_any (is_part s) (groups_after history).groups ≡ false
 
 -- a group takes the request
-module _ (earlier : List GroupCall) (u b : ℕ) (request : PageRequest) (k : Kept earlier) (some : list_any (is_unfinished u b request.index) (groups_after earlier).groups ≡ true) where
+module _ (earlier : List GroupCall) (u b : ℕ) (request : PageRequest) (k : Kept earlier)
+    (some : list_any (is_unfinished u b request.index) (groups_after earlier).groups ≡ true) where
   next_joined : (groups_after (File u b request ∷ earlier)).next ≡ (groups_after earlier).next
-  next_joined = ap (λ t. cond t (groups_after earlier).next (wrapping_add (groups_after earlier).next 1)) some
+  next_joined = ap (λ t. cond t (groups_after earlier).next ((groups_after earlier).next + 1)) some
 
   apart_joined : (s : ℕ) → (groups_after earlier).next ≤ s → eqb (serial_for (groups_after earlier) u b request.index) s ≡ false
   apart_joined s past =
@@ -331,9 +344,7 @@ module _ (earlier : List GroupCall) (u b : ℕ) (request : PageRequest) (k : Kep
   kept_joined =
       let n = (groups_after earlier).next in
       let gs = (groups_after earlier).groups in
-      let young = k.young in
       record {
-        young = omega (arith, next_joined, young);
         fresh = λ s past. joined_any n u b request s gs some ∙ k.fresh s (omega (arith, next_joined, past));
         unfiled = λ s past. unfiled_joined s (omega (arith, next_joined, past));
         unmade = λ s past. unmade_joined s (omega (arith, next_joined, past));
@@ -342,7 +353,8 @@ module _ (earlier : List GroupCall) (u b : ℕ) (request : PageRequest) (k : Kep
       }
 
 -- a group begins with the request
-module _ (earlier : List GroupCall) (u b : ℕ) (request : PageRequest) (k : Kept earlier) (short : length earlier + 1 < 2 ^ 64) (none : list_any (is_unfinished u b request.index) (groups_after earlier).groups ≡ false) where
+module _ (earlier : List GroupCall) (u b : ℕ) (request : PageRequest) (k : Kept earlier)
+    (none : list_any (is_unfinished u b request.index) (groups_after earlier).groups ≡ false) where
   abbrev n : ℕ
   n = (groups_after earlier).next
 
@@ -353,9 +365,7 @@ module _ (earlier : List GroupCall) (u b : ℕ) (request : PageRequest) (k : Kep
   begun = with_request (new_group n u b request.index) request
 
   next_begun : (groups_after (File u b request ∷ earlier)).next ≡ n + 1
-  next_begun =
-      let young = k.young in
-      ap (λ t. cond t n (wrapping_add n 1)) none ∙ mod-eq_of_lt (omega (arith, young, short))
+  next_begun = ap (λ t. cond t n (n + 1)) none
 
   groups_begun : (groups_after (File u b request ∷ earlier)).groups ≡ gs ++ begun ∷ []
   groups_begun = filed_among-none n u b request gs none
@@ -395,9 +405,7 @@ module _ (earlier : List GroupCall) (u b : ℕ) (request : PageRequest) (k : Kep
 
   kept_begun : Kept (File u b request ∷ earlier)
   kept_begun =
-      let young = k.young in
       record {
-        young = omega (arith, next_begun, young);
         fresh = λ s past.
             let later : n + 1 ≤ s = omega (arith, next_begun, past) in
             ap (list_any (is_of_serial s)) groups_begun ∙ any_pushed (is_of_serial s) gs begun (k.fresh s (omega (arith, later))) (apart s later);
@@ -409,37 +417,32 @@ module _ (earlier : List GroupCall) (u b : ℕ) (request : PageRequest) (k : Kep
         whole = λ s made. ap (list_any (is_part s)) groups_begun ∙ whole_begun s made;
       }
 
-kept : (history : List GroupCall) → length history < 2 ^ 64 → Kept history
-kept [] short = record { young = omega arith; fresh = λ s past. refl; unfiled = λ s past. refl; unmade = λ s past. refl; single = λ s. tt; whole = λ s made. refl }
-kept (Reserve _ ∷ earlier) short =
-    let k = kept earlier (omega (arith, short)) in
-    let young = k.young in
-    record { young = omega (arith, young); fresh = k.fresh; unfiled = k.unfiled; unmade = k.unmade; single = k.single; whole = k.whole }
-kept (File u b request ∷ earlier) short =
-    let k = kept earlier (omega (arith, short)) in
+kept : (history : List GroupCall) → Kept history
+kept [] = record { fresh = λ s past. refl; unfiled = λ s past. refl; unmade = λ s past. refl; single = λ s. tt; whole = λ s made. refl }
+kept (Reserve _ ∷ earlier) =
+    let k = kept earlier in
+    record { fresh = k.fresh; unfiled = k.unfiled; unmade = k.unmade; single = k.single; whole = k.whole }
+kept (File u b request ∷ earlier) =
+    let k = kept earlier in
     (elim (list_any (is_unfinished u b request.index) (groups_after earlier).groups)
     as (λ t. list_any (is_unfinished u b request.index) (groups_after earlier).groups ≡ t → Kept (File u b request ∷ earlier)) [
       | true ↦ λ some. kept_joined earlier u b request k some
-      | false ↦ λ none. kept_begun earlier u b request k (omega (arith, short)) none
+      | false ↦ λ none. kept_begun earlier u b request k none
     ]) refl
-kept (Answered job ∷ earlier) short =
-    let k = kept earlier (omega (arith, short)) in
+kept (Answered job ∷ earlier) =
+    let k = kept earlier in
     let gs = (groups_after earlier).groups in
-    let young = k.young in
     record {
-      young = omega (arith, young);
       fresh = λ s past. answered_none (is_of_serial s) job.serial gs (k.fresh s past);
       unfiled = k.unfiled;
       unmade = k.unmade;
       single = λ s. AtMostOne-answered (is_of_serial s) job.serial gs (k.single s);
       whole = λ s made. answered_none (is_part s) job.serial gs (k.whole s made);
     }
-kept (DropUnit u ∷ earlier) short =
-    let k = kept earlier (omega (arith, short)) in
+kept (DropUnit u ∷ earlier) =
+    let k = kept earlier in
     let gs = (groups_after earlier).groups in
-    let young = k.young in
     record {
-      young = omega (arith, young);
       fresh = λ s past. filter_none (is_of_serial s) (is_of_other_unit u) gs (k.fresh s past);
       unfiled = k.unfiled;
       unmade = k.unmade;
@@ -448,17 +451,18 @@ kept (DropUnit u ∷ earlier) short =
     }
 
 pub serials_are_new : SerialsAreNew
-serials_are_new history unit binding index short none =
+serials_are_new history unit binding index none =
     let s = groups_after history in
     ap (λ o. was_filed (unwrap_or o (new_group s.next unit binding index)).serial history) (find-none (is_unfinished unit binding index) s.groups none)
-    ∙ (kept history short).unfiled s.next (omega arith)
+    ∙ (kept history).unfiled s.next (omega arith)
 
 pub serials_differ : SerialsDiffer
-serials_differ history serial short =
-    count-one (is_of_serial serial) (groups_after history).groups ((kept history short).single serial)
+serials_differ history serial =
+    count-one (is_of_serial serial) (groups_after history).groups ((kept history).single serial)
 
 -- the answer to the one group of a serial leaves none
-serial-answered : (s : ℕ) (gs : List OpenGroup) → list_any (is_part s) gs ≡ false → AtMostOne (is_of_serial s) gs → list_any (is_of_serial s) (answered_among s gs) ≡ false
+serial-answered : (s : ℕ) (gs : List OpenGroup) → list_any (is_part s) gs ≡ false → AtMostOne (is_of_serial s) gs
+    → list_any (is_of_serial s) (answered_among s gs) ≡ false
 serial-answered s [] whole one = refl
 serial-answered s (g ∷ gs) whole one =
     let parts = or_parts (is_part s g) (list_any (is_part s) gs) whole in
@@ -474,36 +478,37 @@ serial-answered s (g ∷ gs) whole one =
     ]) refl
 
 -- so a group is open just where its request was filed and not ended
-pending_if_named : (history : List GroupCall) (serial unit binding : ℕ) → length history < 2 ^ 64 → list_any (is_of serial unit binding) (groups_after history).groups ≡ true → is_pending serial unit binding history ≡ true
-pending_if_named [] serial unit binding short h = h
-pending_if_named (Reserve _ ∷ earlier) serial unit binding short h =
-    pending_if_named earlier serial unit binding (omega (arith, short)) h
-pending_if_named (File u b request ∷ earlier) serial unit binding short h =
+pending_if_named : (history : List GroupCall) (serial unit binding : ℕ) → list_any (is_of serial unit binding) (groups_after history).groups ≡ true
+    → is_pending serial unit binding history ≡ true
+pending_if_named [] serial unit binding h = h
+pending_if_named (Reserve _ ∷ earlier) serial unit binding h =
+    pending_if_named earlier serial unit binding h
+pending_if_named (File u b request ∷ earlier) serial unit binding h =
     let s = groups_after earlier in
     let same : Bool = eqb (serial_for s u b request.index) serial && eqb u unit && eqb b binding in
     elim (or_cases same (list_any (is_of serial unit binding) s.groups) (sym (filed_of s.next u b request serial unit binding s.groups) ∙ h)) [
       | inl here ↦ or_left same (is_pending serial unit binding earlier) here
-      | inr before ↦ or_right same (is_pending serial unit binding earlier) (pending_if_named earlier serial unit binding (omega (arith, short)) before)
+      | inr before ↦ or_right same (is_pending serial unit binding earlier) (pending_if_named earlier serial unit binding before)
     ]
-pending_if_named (Answered job ∷ earlier) serial unit binding short h =
+pending_if_named (Answered job ∷ earlier) serial unit binding h =
     let gs = (groups_after earlier).groups in
-    let below : length earlier < 2 ^ 64 = omega (arith, short) in
-    let before = pending_if_named earlier serial unit binding below (back_from _ _ (answered_none (is_of serial unit binding) job.serial gs) h) in
+    let before = pending_if_named earlier serial unit binding (back_from _ _ (answered_none (is_of serial unit binding) job.serial gs) h) in
     let other : (eqb job.serial serial && was_made serial earlier) ≡ false =
     false_from_ne_true _ (λ own.
     let both = and_parts _ _ own in
-    let k = kept earlier below in
+    let k = kept earlier in
     let left = any_more (is_of serial unit binding) (is_of_serial serial) (of_serial serial unit binding) (answered_among job.serial gs) h in
     let none = serial-answered serial gs (k.whole serial both.1) (k.single serial) in
     true≢false (sym left ∙ ap (λ n. list_any (is_of_serial serial) (answered_among n gs)) (eqb-true job.serial serial both.0) ∙ none)) in
     and_from _ _ (ap not other) before
-pending_if_named (DropUnit u ∷ earlier) serial unit binding short h =
+pending_if_named (DropUnit u ∷ earlier) serial unit binding h =
     let gs = (groups_after earlier).groups in
     let both = and_parts (not (eqb unit u)) (list_any (is_of serial unit binding) gs) (sym (dropped_of u serial unit binding gs) ∙ h) in
-    and_from (not (eqb unit u)) (is_pending serial unit binding earlier) both.0 (pending_if_named earlier serial unit binding (omega (arith, short)) both.1)
+    and_from (not (eqb unit u)) (is_pending serial unit binding earlier) both.0 (pending_if_named earlier serial unit binding both.1)
 
 -- an open binding has a group with a name
-name_of_open : (binding : ℕ) (gs : List OpenGroup) → list_any (is_of_binding binding) gs ≡ true → (serial : ℕ) × (unit : ℕ) × (list_any (is_of serial unit binding) gs ≡ true)
+name_of_open : (binding : ℕ) (gs : List OpenGroup) → list_any (is_of_binding binding) gs ≡ true
+    → (serial : ℕ) × (unit : ℕ) × (list_any (is_of serial unit binding) gs ≡ true)
 name_of_open binding [] none = absurd (true≢false (sym none))
 name_of_open binding (g ∷ gs) some =
     elim (or_cases _ _ some) [
@@ -517,9 +522,9 @@ name_of_open binding (g ∷ gs) some =
     ]
 
 pub open_is_exact : OpenIsExact
-open_is_exact history binding short = (
+open_is_exact history binding = (
   λ open_now.
       let name = name_of_open binding (groups_after history).groups open_now in
-      (name.0, name.1, pending_if_named history name.0 name.1 binding short name.2),
+      (name.0, name.1, pending_if_named history name.0 name.1 binding name.2),
   λ filed. open_groups_are_seen history filed.0 filed.1 binding filed.2,
 )

@@ -1,7 +1,6 @@
 pub mod Seats
-pub mod Places
 pub mod Searches
-pub mod Endings
+pub mod Slots
 pub mod QueueLaws
 pub mod Tests
 pub mod Filing

@@ -56,7 +56,9 @@ or_twice false a = refl
 
 -- a test that answers one thing at the groups that a request can go to
 module _ (p : OpenGroup → Bool) (s : Bool) (n u b : ℕ) (request : PageRequest) where
-  pub filed_any : ((g : OpenGroup) → is_unfinished u b request.index g ≡ true → (p (with_request g request) ≡ s) × (p g ≡ s)) → p (with_request (new_group n u b request.index) request) ≡ s → (gs : List OpenGroup) → list_any p (filed_among n u b request gs) ≡ (s || list_any p gs)
+  pub filed_any : ((g : OpenGroup) → is_unfinished u b request.index g ≡ true → (p (with_request g request) ≡ s) × (p g ≡ s))
+      → p (with_request (new_group n u b request.index) request) ≡ s → (gs : List OpenGroup)
+      → list_any p (filed_among n u b request gs) ≡ (s || list_any p gs)
   filed_any keeps new [] = ap (λ t. t || false) new
   filed_any keeps new (g ∷ gs) =
       (elim (is_unfinished u b request.index g)

@@ -1,5 +1,5 @@
 -- The open groups over every list of calls. A history is the list of the calls so far, the latest first.
-use Rattle.std.specs.Prelude.{◌≡◌, ℕ, ◌<◌, ◌≤◌, ◌^◌, ◌==◌, Bool, true, false, ◌&&◌, ◌||◌, not, if◌then◌else◌, List, [], ◌∷◌, ◌++◌, length, Some, None, All, count_by, ◌↔◌}
+use Rattle.std.specs.Prelude.{◌≡◌, ℕ, ◌≤◌, ◌==◌, Bool, true, false, ◌&&◌, ◌||◌, not, if◌then◌else◌, List, [], ◌∷◌, ◌++◌, length, Some, None, All, count_by, ◌↔◌}
 use Rattle.std.specs.List.{list_any}
 use Rattle.sva_msg.specs.declared.messages.PageRequest.{PageRequest}
 use Rattle.sva_prq.specs.declared.jobs.Ask.{Ask}
@@ -43,14 +43,16 @@ asks_filed unit binding index (File u b request ∷ earlier) =
 asks_filed unit binding index (DropUnit u ∷ earlier) = if unit == u then [] else asks_filed unit binding index earlier
 asks_filed unit binding index (_ ∷ earlier) = asks_filed unit binding index earlier
 
--- the last request of a group makes a job, and only that. The job names the binding and the index under which its
--- requests were filed, and has what they ask for, in order of filing, and the serial of the group to which they went
+-- the last request of a group makes a job, and only that. The job names the unit at which its requests came, the binding
+-- and the index under which they were filed, and has what they ask for, in order of filing, and the serial of the group to
+-- which they went
 abbrev pub JobsHoldTheirRequests : Type 0
 JobsHoldTheirRequests =
     (history : List GroupCall) (unit binding : ℕ) (request : PageRequest)
     → job_made (groups_after history) unit binding request
     ≡ (if request.last
     then Some (record {
+      unit = unit;
       binding = binding;
       index = request.index;
       asks = asks_filed unit binding request.index history ++ ask_of request ∷ [];
@@ -76,18 +78,17 @@ was_filed serial (File u b request ∷ earlier) =
     serial_for (groups_after earlier) u b request.index == serial || was_filed serial earlier
 was_filed serial (_ ∷ earlier) = was_filed serial earlier
 
--- a group that begins takes a serial under which no request was filed before, so no job of an earlier group ends it. A
--- history of 2^64 calls is longer than any that a computer can make
+-- a group that begins takes a serial under which no request was filed before, so no job of an earlier group ends it
 abbrev pub SerialsAreNew : Type 0
 SerialsAreNew =
-    (history : List GroupCall) (unit binding index : ℕ) → length history < 2 ^ 64
+    (history : List GroupCall) (unit binding index : ℕ)
     → list_any (is_unfinished unit binding index) (groups_after history).groups ≡ false
     → was_filed (serial_for (groups_after history) unit binding index) history ≡ false
 
 -- no two open groups share a serial, so the job of a group ends that group and no other
 abbrev pub SerialsDiffer : Type 0
 SerialsDiffer =
-    (history : List GroupCall) (serial : ℕ) → length history < 2 ^ 64
+    (history : List GroupCall) (serial : ℕ)
     → count_by (is_of_serial serial) (groups_after history).groups ≤ 1
 
 -- the last request of the group with this serial was filed, so its job was made
@@ -120,6 +121,6 @@ OpenGroupsAreSeen =
 -- unit, whatever the indexes of the requests
 abbrev pub OpenIsExact : Type 0
 OpenIsExact =
-    (history : List GroupCall) (binding : ℕ) → length history < 2 ^ 64
+    (history : List GroupCall) (binding : ℕ)
     → ((is_open binding (groups_after history) ≡ true)
     ↔ ((serial : ℕ) × (unit : ℕ) × (is_pending serial unit binding history ≡ true)))

@@ -1,6 +1,5 @@
 -- The page request groups that are open at the host: those that are filed in part or whole, and not answered.
-use Rattle.std.specs.Prelude.{ℕ, ◌+◌, ◌-◌, ◌<◌, ◌==◌, Bool, false, ◌&&◌, not, if◌then◌else◌, List, [], ◌∷◌, ◌++◌, length, max, Option, Some, None, MatchOption, unwrap_or, find, filter, count_by}
-use Rattle.std.specs.Hash.DefaultHasher.{wrapping_add}
+use Rattle.std.specs.Prelude.{ℕ, ◌+◌, ◌-◌, ◌^◌, ◌<◌, ◌==◌, Bool, false, ◌&&◌, not, if◌then◌else◌, List, [], ◌∷◌, ◌++◌, length, max, Option, Some, None, MatchOption, unwrap_or, find, filter, count_by}
 use Rattle.std.specs.List.{list_any}
 use Rattle.sva_msg.specs.declared.messages.PageRequest.{PageRequest}
 use Rattle.sva_prq.specs.declared.jobs.Ask.{Ask}
@@ -72,7 +71,7 @@ filed s unit binding request =
     record {
       groups = filed_among s.next unit binding request s.groups;
       room = if list_any (is_unfinished unit binding request.index) s.groups then s.room else s.room - 1;
-      next = if list_any (is_unfinished unit binding request.index) s.groups then s.next else wrapping_add s.next 1;
+      next = if list_any (is_unfinished unit binding request.index) s.groups then s.next else s.next + 1;
     }
 
 -- what the requests of the unfinished group of this unit, binding and index ask for
@@ -87,13 +86,14 @@ serial_for s unit binding index =
 
 -- the job of a group whose last request is filed
 abbrev pub job_of : OpenGroup → Option Job
-job_of g = if g.last then Some (record { binding = g.binding; index = g.index; asks = g.asks; serial = g.serial }) else None
+job_of g = if g.last then Some (record { unit = g.unit; binding = g.binding; index = g.index; asks = g.asks; serial = g.serial }) else None
 
 -- the job that the filing of a request makes, if that is the last of its group
 abbrev pub job_made : Groups → ℕ → ℕ → PageRequest → Option Job
 job_made s unit binding request =
     if request.last
     then Some (record {
+      unit = unit;
       binding = binding;
       index = request.index;
       asks = unfinished_asks unit binding request.index s.groups ++ ask_of request ∷ [];
@@ -101,10 +101,11 @@ job_made s unit binding request =
     })
     else None
 
--- a request may be filed: a new group has its room, and one that is there has fewer than 32 requests
+-- a request may be filed: a new group has its room, and the serial of the one after it is below 2^64; a group that is there
+-- has fewer than 32 requests
 abbrev pub CanFile : Groups → ℕ → ℕ → ℕ → Type 0
 CanFile s unit binding index =
-    MatchOption (find (is_unfinished unit binding index) s.groups) (0 < s.room) (λ g. length g.asks < 32)
+    MatchOption (find (is_unfinished unit binding index) s.groups) ((0 < s.room) × (s.next + 1 < 2 ^ 64)) (λ g. length g.asks < 32)
 
 -- room for at least one group more
 abbrev pub with_room : Groups → Groups

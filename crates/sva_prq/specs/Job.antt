@@ -7,9 +7,10 @@ use Rattle.sva_prq.specs.declared.jobs.Ask.{Ask}
 abbrev pub ask_of : PageRequest → Ask
 ask_of request = record { page = request.page; read = request.read; write = request.write }
 
--- the binding and the group index under which the requests were filed, what they ask for in order of filing, and the
--- serial of their group
+-- the unit at which the requests came, the binding and the group index under which they were filed, what they ask for in
+-- order of filing, and the serial of their group
 pub record Job : Type 0 where
+  pub unit : ℕ
   pub binding : ℕ
   pub index : ℕ
   pub asks : List Ask

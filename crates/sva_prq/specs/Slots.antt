@@ -1,20 +1,49 @@
 -- How the open groups lie in the slots of a slab, and tests of them. No public clause cites this module.
 use Rattle.std.specs.Borrow.{Bor}
-use Rattle.std.specs.Prelude.{◌≡◌, ℕ, ◌==◌, Bool, false, List, [], ◌∷◌, Option, None, IsSome, slice_index_or}
-use Rattle.std.specs.List.{cons_option, list_any}
+use Rattle.std.specs.Prelude.{◌≡◌, ℕ, ◌+◌, ◌*◌, ◌%◌, ◌<◌, Bool, false, nat_lt, if◌then◌else◌, List, [], ◌∷◌, Option, Some, None, slice_index_or}
 use Rattle.sva_prq.specs.Groups.{OpenGroup}
 
--- the groups under these keys, in the order of the keys
-abbrev pub groups_under : List (Option OpenGroup) → List ℕ → List OpenGroup
-groups_under slots [] = []
-groups_under slots (key ∷ keys) = cons_option (slice_index_or slots key None) (groups_under slots keys)
+-- the slot with this key has the group
+abbrev pub IsAt : List (Option OpenGroup) → ℕ → OpenGroup → Type 0
+IsAt slots key g = slice_index_or slots key None ≡ Some g
 
--- each key has a group, and no key is there twice
-abbrev pub AreSeated : List (Option OpenGroup) → List ℕ → Type 0
-AreSeated slots [] = Unit {0}
-AreSeated slots (key ∷ keys) =
-    IsSome (slice_index_or slots key None) × (list_any (λ k. key == k) keys ≡ false) × AreSeated slots keys
+-- a group among others that stand by rising serial
+abbrev pub placed : OpenGroup → List OpenGroup → List OpenGroup
+placed g [] = g ∷ []
+placed g (h ∷ hs) = if nat_lt g.serial h.serial then g ∷ h ∷ hs else h ∷ placed g hs
+
+-- the groups of these slots by rising serial, that is in the order in which they began
+abbrev pub groups_in : List (Option OpenGroup) → List OpenGroup
+groups_in [] = []
+groups_in (None ∷ slots) = groups_in slots
+groups_in (Some g ∷ slots) = placed g (groups_in slots)
+
+-- the cell of a unit and an index in the table of unfinished groups: 32 indexes for each of 8 units. Beyond these bounds
+-- several units or indexes share a cell
+abbrev pub cell_of : (unit index : ℕ) → ℕ
+cell_of unit index = unit % 8 * 32 + index % 32
+
+-- groups in slots, cells that lead to those that are unfinished, and the next serial
+pub record AreKept (slots : List (Option OpenGroup)) (cells : List (Option ℕ)) (next : ℕ) : Type 0 where
+  -- each serial was given, and none is there twice
+  pub given : (key : ℕ) (g : OpenGroup) → IsAt slots key g → g.serial < next
+  pub apart : (j k : ℕ) (g h : OpenGroup) → IsAt slots j g → IsAt slots k h → g.serial ≡ h.serial → j ≡ k
+  -- one unfinished group for each unit, binding and index
+  pub single : (j k : ℕ) (g h : OpenGroup) → IsAt slots j g → IsAt slots k h → g.last ≡ false → h.last ≡ false → g.unit ≡ h.unit
+      → g.binding ≡ h.binding → g.index ≡ h.index → j ≡ k
+  -- a cell with a key has all unfinished groups of the cell at that key
+  pub celled : (j k : ℕ) (g : OpenGroup) → IsAt slots k g → g.last ≡ false → slice_index_or cells (cell_of g.unit g.index) None ≡ Some j → j ≡ k
 
 -- what a call of the test says of a group is what `passes` is of it
 abbrev pub IsTest : (Bor OpenGroup → Bool → Type 0) → (OpenGroup → Bool) → Type 0
 IsTest post passes = (group : Bor OpenGroup) (answer : Bool) → post group answer → answer ≡ passes group.now
+
+-- the slot has a group that passes
+abbrev pub passes_at : (OpenGroup → Bool) → Option OpenGroup → Bool
+passes_at passes None = false
+passes_at passes (Some g) = passes g
+
+-- the slots that may have an unfinished group of a cell: the one with its key, or any where the cell has none
+abbrev pub MayHold : Option ℕ → ℕ → Type 0
+MayHold None key = Unit {0}
+MayHold (Some only) key = only ≡ key

@@ -1,7 +1,6 @@
-ghost use Rattle.std.specs.Prelude.{◌≡◌, Bool, ◌+◌, ◌-◌, ◌<◌, [], ◌∷◌, ◌++◌, ℕ, length, Some, IsOk, OnOk, OnErr, slice_get, slice_set, remove};
-ghost use Rattle.std.specs.List.{position_from};
-ghost use Rattle.std.specs.Hash.DefaultHasher.{wrapping_add};
-ghost use Rattle.sva_prq.specs.Slots.{IsTest};
+ghost use Rattle.std.specs.Prelude.{◌≡◌, Bool, ℕ, ◌+◌, ◌<◌, ◌≤◌, true, false, length, Some, None, IsOk, OnOk, OnErr, IfSome, IfNone, slice_index_or};
+ghost use Rattle.slab.specs.Slab.{get, slab_len, ContainsKey, Updates};
+ghost use Rattle.sva_prq.specs.Slots.{IsAt, IsTest, MayHold, passes_at, cell_of as cell_for};
 ghost use Rattle.sva_prq.specs.Groups.{OpenGroup, no_groups, is_unfinished, has_job, is_of_binding, is_of_unit, is_open, new_group, with_request, job_of, CanFile, filed, job_made, with_room, after_answer, without_unit};
 
 #[cfg(test)]
@@ -13,6 +12,9 @@ use slab::Slab;
 use std::alloc::{AllocError, Global};
 use std::marker::Model;
 use sva_msg::PageRequest;
+
+// The cells of the table of unfinished groups: 32 indexes for each of 8 units.
+const CELLS: usize = 256;
 
 // A page request group that is filed in part or whole and not answered.
 #[derive(Debug, Drop)]
@@ -80,8 +82,8 @@ impl Group {
         self.unit == unit
     }
 
-    // Files one request more, and makes the job if it is the last.
-    fn file(&mut self, request: PageRequest) -> Option<Job>
+    // Files one request more, and makes the job if it is the last. The group is kept under this key.
+    fn file(&mut self, request: PageRequest, key: usize) -> Option<Job>
         requires { length self.old.asks < 32 }
         ensures group { self.new ≡ with_request self.old request }
         ensures job { result ≡ job_of (with_request self.old request) }
@@ -96,10 +98,12 @@ impl Group {
             return None;
         }
         Some(Job {
+            unit: self.unit,
             binding: self.binding,
             index: self.index,
             asks: copied(&self.asks),
             serial: self.serial,
+            key,
         })
     }
 }
@@ -115,34 +119,154 @@ fn copied(asks: &ArrayVec<Ask, MOST_ASKS>) -> ArrayVec<Ask, MOST_ASKS>
     copy
 }
 
+// The cell of a unit and an index.
+fn cell_of(unit: u64, index: u8) -> usize
+    ensures cell { result ≡ cell_for unit index }
+    ensures within { result < 256 }
+{
+    (unit % 8) as usize * 32 + (index % 32) as usize
+}
+
+// The key of a group that passes the test, if there is one.
+fn key_where<F: Fn(&Group) -> bool>(slots: &Slab<Group>, test: F) -> Option<usize>
+    requires { F.IsAlwaysCallable test }
+    ensures found { (passes : OpenGroup → Bool) → IsTest (F.post test) passes
+        → IfSome result (λ key. passes_at passes (get slots.now key) ≡ true) }
+    ensures absent { (passes : OpenGroup → Bool) → IsTest (F.post test) passes
+        → IfNone result ((key : ℕ) → passes_at passes (get slots.now key) ≡ false) }
+{
+    for key in 0..slots.capacity() {
+        if let Some(group) = slots.get(key) {
+            if test(group) {
+                return Some(key);
+            }
+        }
+    }
+    None
+}
+
+// The key of the unfinished group of this unit, binding and index, if there is one among those to which its cell leads.
+fn unfinished_key(
+    slots: &Slab<Group>,
+    cell: Option<usize>,
+    unit: u64,
+    binding: u64,
+    index: u8,
+) -> Option<usize>
+    ensures found { IfSome result (λ key. passes_at (is_unfinished unit binding index) (get slots.now key) ≡ true) }
+    ensures absent { IfNone result ((key : ℕ) → MayHold cell key
+        → passes_at (is_unfinished unit binding index) (get slots.now key) ≡ false) }
+{
+    let Some(key) = cell else {
+        return key_where(slots, |group| group.is_unfinished(unit, binding, index));
+    };
+    match slots.get(key) {
+        Some(group) if group.is_unfinished(unit, binding, index) => Some(key),
+        _ => None,
+    }
+}
+
+// The key of the group with this serial whose job is made, if there is one. It is under the key at hand, unless the group
+// is at its end.
+fn job_key(slots: &Slab<Group>, key: usize, serial: u64) -> Option<usize>
+    ensures found { IfSome result (λ k. passes_at (has_job serial) (get slots.now k) ≡ true) }
+    ensures absent { IfNone result ((k : ℕ) → passes_at (has_job serial) (get slots.now k) ≡ false) }
+{
+    match slots.get(key) {
+        Some(group) if group.has_job(serial) => Some(key),
+        _ => key_where(slots, |group| group.has_job(serial)),
+    }
+}
+
+// What a cell has once a group begins under a key: the key, if no other group of the cell can be unfinished.
+fn next_cell(slots: &Slab<Group>, cell: Option<usize>, key: usize) -> Option<usize>
+    ensures { IfSome result (λ k. (k ≡ key)
+        × ((j : ℕ) → MayHold cell j → (g : OpenGroup) → IsAt slots.now.slots j g → g.last ≡ true)) }
+{
+    match slots.get(cell?) {
+        Some(group) if !group.last => None,
+        _ => Some(key),
+    }
+}
+
+// Files a request in the group under a key.
+fn join(slots: &mut Slab<Group>, key: usize, request: PageRequest) -> Option<Job>
+    requires there { ContainsKey slots.old key }
+    requires room { (g : OpenGroup) → IsAt slots.old.slots key g → length g.asks < 32 }
+    ensures group { (g : OpenGroup) → IsAt slots.old.slots key g
+        → Updates slots.old slots.new key (Some (with_request g request)) }
+    ensures job { (g : OpenGroup) → IsAt slots.old.slots key g → result ≡ job_of (with_request g request) }
+    ensures len { slab_len slots.new ≡ slab_len slots.old }
+    ensures capacity { slots.new.capacity ≡ slots.old.capacity }
+{
+    let Some(group) = slots.get_mut(key) else {
+        unreachable!()
+    };
+    group.file(request, key)
+}
+
+// Takes out all groups of a unit, and answers how many they were.
+fn take_unit(slots: &mut Slab<Group>, unit: u64) -> usize
+    ensures gone { (key : ℕ) → passes_at (is_of_unit unit) (get slots.old key) ≡ true → get slots.new key ≡ None }
+    ensures kept { (key : ℕ) → passes_at (is_of_unit unit) (get slots.old key) ≡ false
+        → get slots.new key ≡ get slots.old key }
+    ensures count { slab_len slots.new + result ≡ slab_len slots.old }
+    ensures capacity { slots.new.capacity ≡ slots.old.capacity }
+{
+    let mut count = 0;
+    for key in 0..slots.capacity() {
+        let is_of_unit = match slots.get(key) {
+            Some(group) => group.is_of_unit(unit),
+            None => false,
+        };
+        if is_of_unit {
+            slots.remove(key);
+            count += 1;
+        }
+    }
+    count
+}
+
+// The room once so many groups are gone from the slots.
+fn room_after(slots: &Slab<Group>, room: usize, gone: usize) -> usize
+    requires { slab_len slots.now + (room + gone) ≤ slots.now.capacity }
+    ensures { result ≡ room + gone }
+{
+    // The sum is at most this.
+    let _capacity = slots.capacity();
+    room + gone
+}
+
 /// The page request groups that are open at the host, of all units: those that are filed in part or whole and not
 /// answered. They are seen in the order in which they began, beside the number of groups that can begin without memory.
 /// Only `reserve` takes memory.
+///
+/// To file and to answer costs what the group costs, however many others are open, as long as units are below 8, indexes
+/// below 32, and a unit has no two unfinished groups of one index. `open_of` and `drop_unit` look at each open group once.
 #[derive(Debug, Drop)]
 pub struct Groups {
     slots: Slab<Group>,
-    // The keys of the groups, in the order in which they began.
-    order: Vec<usize>,
-    // How many groups more fit into `slots` and `order` as they are.
+    // By unit and index, the key that any unfinished group of the cell has. A cell in which a group began while another
+    // was unfinished has none: then a search goes over all groups.
+    cells: [Option<usize>; CELLS],
+    // How many groups more fit into `slots` as they are.
     room: usize,
-    // The serial of the next group that begins. 2^64 groups can't begin in any computer's life, so none is there twice.
+    // The serial of the next group that begins.
     next: u64,
 }
 
 impl Model for Groups {
-    ghost use Rattle.std.specs.Prelude.{◌+◌, ◌≤◌, vec_len, vec_capacity};
+    ghost use Rattle.std.specs.Prelude.{◌+◌, ◌≤◌};
     ghost use Rattle.slab.specs.Slab.{slab_len};
     ghost use Rattle.sva_prq.specs.Groups.{Groups as OpenGroups};
 
     ghost Value = { OpenGroups };
 
-    ghost use Rattle.sva_prq.specs.Slots.{groups_under, AreSeated};
+    ghost use Rattle.sva_prq.specs.Slots.{groups_in, AreKept};
 
-    ghost view = { λ g. record { groups = groups_under g.slots.slots g.order.items; room = g.room; next = g.next } };
+    ghost view = { λ g. record { groups = groups_in g.slots.slots; room = g.room; next = g.next } };
 
-    ghost invariant = { λ g. AreSeated g.slots.slots g.order.items
-        × (slab_len g.slots + g.room ≤ g.slots.capacity)
-        × (vec_len g.order + g.room ≤ vec_capacity g.order) };
+    ghost invariant = { λ g. AreKept g.slots.slots g.cells g.next × (slab_len g.slots + g.room ≤ g.slots.capacity) };
 }
 
 impl Groups {
@@ -152,7 +276,7 @@ impl Groups {
     {
         Groups {
             slots: Slab::new(alloc),
-            order: Vec::new(alloc),
+            cells: [Some(0); CELLS],
             room: 0,
             next: 0,
         }
@@ -166,101 +290,9 @@ impl Groups {
     {
         if self.room == 0 {
             self.slots.reserve(1)?;
-            self.order.reserve(1)?;
             self.room = 1;
         }
         Ok(())
-    }
-
-    // The group that began at this place.
-    fn at(&self, place: usize) -> &Group
-        requires { place < length self.now.groups }
-        ensures { slice_get self.now.groups place ≡ Some result.now }
-    {
-        let Some(group) = self.slots.get(self.order[place]) else {
-            unreachable!()
-        };
-        group
-    }
-
-    fn len(&self) -> usize
-        ensures { result ≡ length self.now.groups }
-    {
-        self.order.len()
-    }
-
-    // Files a request in the group at this place.
-    fn file_at(&mut self, place: usize, request: PageRequest) -> Option<Job>
-        requires within { place < length self.old.groups }
-        requires room { (g : OpenGroup) → slice_get self.old.groups place ≡ Some g
-            → length g.asks < 32 }
-        ensures group { (g : OpenGroup) → slice_get self.old.groups place ≡ Some g
-            → self.new ≡ record self.old { groups = slice_set self.old.groups place (with_request g request) } }
-        ensures job { (g : OpenGroup) → slice_get self.old.groups place ≡ Some g
-            → result ≡ job_of (with_request g request) }
-    {
-        let Some(group) = self.slots.get_mut(self.order[place]) else {
-            unreachable!()
-        };
-        group.file(request)
-    }
-
-    // Files a request in a new group.
-    fn begin(&mut self, unit: u64, binding: u64, request: PageRequest) -> Option<Job>
-        requires { 0 < self.old.room }
-        ensures group { let group = with_request (new_group self.old.next unit binding request.index) request
-            in self.new ≡ record {
-              groups = self.old.groups ++ group ∷ [];
-              room = self.old.room - 1;
-              next = wrapping_add self.old.next 1;
-            } }
-        ensures job { result ≡ job_of (with_request (new_group self.old.next unit binding request.index) request) }
-    {
-        let mut group = Group::new(self.next, unit, binding, request.index);
-        let job = group.file(request);
-        let key = self.slots.insert_reserved(group);
-        self.order.push_reserved(key);
-        self.room -= 1;
-        self.next = self.next.wrapping_add(1);
-        job
-    }
-
-    // Ends the group at this place.
-    fn end_at(&mut self, place: usize)
-        requires { place < length self.old.groups }
-        ensures { self.new ≡ record self.old { groups = remove self.old.groups place; room = self.old.room + 1 } }
-    {
-        let key = self.order.remove(place);
-        self.slots.remove(key);
-        self.room += 1;
-    }
-
-    // The place of the oldest group that passes the test.
-    fn first_place<F: Fn(&Group) -> bool>(&self, test: F) -> Option<usize>
-        requires { F.IsAlwaysCallable test }
-        ensures { (passes : OpenGroup → Bool) → IsTest (F.post test) passes
-            → result ≡ position_from passes 0 self.now.groups }
-    {
-        for place in 0..self.len() {
-            if test(self.at(place)) {
-                return Some(place);
-            }
-        }
-        None
-    }
-
-    // The place of the oldest unfinished group of this unit, binding and index.
-    fn unfinished_place(&self, unit: u64, binding: u64, index: u8) -> Option<usize>
-        ensures { result ≡ position_from (is_unfinished unit binding index) 0 self.now.groups }
-    {
-        self.first_place(|group| group.is_unfinished(unit, binding, index))
-    }
-
-    // The place of the group with this serial, if its job is made.
-    fn job_place(&self, serial: u64) -> Option<usize>
-        ensures { result ≡ position_from (has_job serial) 0 self.now.groups }
-    {
-        self.first_place(|group| group.has_job(serial))
     }
 
     /// Files a page request that came at this unit under a binding: in the unfinished group of this unit, binding and
@@ -270,9 +302,20 @@ impl Groups {
         ensures groups { self.new ≡ filed self.old unit binding request }
         ensures job { result ≡ job_made self.old unit binding request }
     {
-        match self.unfinished_place(unit, binding, request.index) {
-            Some(place) => self.file_at(place, request),
-            None => self.begin(unit, binding, request),
+        let place = cell_of(unit, request.index);
+        let cell = self.cells[place];
+        match unfinished_key(&self.slots, cell, unit, binding, request.index) {
+            Some(key) => join(&mut self.slots, key, request),
+            None => {
+                let mut group = Group::new(self.next, unit, binding, request.index);
+                let key = self.slots.vacant_key();
+                let job = group.file(request, key);
+                self.cells[place] = next_cell(&self.slots, cell, key);
+                self.slots.insert_reserved(group);
+                self.room -= 1;
+                self.next += 1;
+                job
+            }
         }
     }
 
@@ -281,8 +324,9 @@ impl Groups {
     pub fn answered(&mut self, job: &Job)
         ensures { self.new ≡ after_answer self.old job.now.serial }
     {
-        if let Some(place) = self.job_place(job.serial()) {
-            self.end_at(place);
+        if let Some(key) = job_key(&self.slots, job.key(), job.serial()) {
+            self.slots.remove(key);
+            self.room = room_after(&self.slots, self.room, 1);
         }
     }
 
@@ -291,18 +335,14 @@ impl Groups {
     pub fn open_of(&self, binding: u64) -> bool
         ensures { result ≡ is_open binding self.now }
     {
-        self.first_place(|group| group.is_of_binding(binding))
-            .is_some()
+        key_where(&self.slots, |group| group.is_of_binding(binding)).is_some()
     }
 
     /// Ends all groups of a unit, those in part and those whose jobs are made.
     pub fn drop_unit(&mut self, unit: u64)
         ensures { self.new ≡ without_unit self.old unit }
     {
-        for place in (0..self.len()).rev() {
-            if self.at(place).is_of_unit(unit) {
-                self.end_at(place);
-            }
-        }
+        let gone = take_unit(&mut self.slots, unit);
+        self.room = room_after(&self.slots, self.room, gone);
     }
 }

@@ -21,11 +21,13 @@ pub struct Ask {
 /// A whole page request group, to be answered by one response (PCI Express Base 5.0, section 10.4.2).
 #[derive(Debug, Drop)]
 pub struct Job {
+    pub(crate) unit: u64,
     pub(crate) binding: u64,
     pub(crate) index: u8,
     pub(crate) asks: ArrayVec<Ask, MOST_ASKS>,
-    // The serial of its group.
+    // The serial of its group, and the key under which the group is kept while it is open.
     pub(crate) serial: u64,
+    pub(crate) key: usize,
 }
 
 impl Model for Job {
@@ -33,10 +35,17 @@ impl Model for Job {
 
     ghost Value = { WholeGroup };
 
-    ghost view = { λ j. record { binding = j.binding; index = j.index; asks = j.asks.items; serial = j.serial } };
+    ghost view = { λ j. record { unit = j.unit; binding = j.binding; index = j.index; asks = j.asks.items; serial = j.serial } };
 }
 
 impl Job {
+    /// The number of the unit at which the requests came.
+    pub fn unit(&self) -> u64
+        ensures { result ≡ self.now.unit }
+    {
+        self.unit
+    }
+
     /// The number of the binding under which the requests were filed.
     pub fn binding(&self) -> u64
         ensures { result ≡ self.now.binding }
@@ -64,5 +73,10 @@ impl Job {
         ensures { result ≡ self.now.serial }
     {
         self.serial
+    }
+
+    // The key under which its group is kept while it is open.
+    pub(crate) fn key(&self) -> usize {
+        self.key
     }
 }

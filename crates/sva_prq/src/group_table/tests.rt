@@ -1,17 +1,36 @@
-ghost use Rattle.std.specs.Prelude.{IsTrue};
-ghost use Rattle.sva_prq.specs.Groups.{CanFile};
+ghost use Rattle.std.specs.Prelude.{◌+◌, ◌^◌, ◌<◌, IsTrue, length};
+ghost use Rattle.sva_prq.specs.Groups.{OpenGroup, CanFile};
+ghost use Rattle.sva_prq.specs.Slots.{IsAt};
 
 use super::*;
 use std::process::Abort;
 use std::test::Fail;
 
+// Whether a group more may begin.
+fn can_begin(groups: &Groups) -> bool
+    ensures { IsTrue result → (0 < groups.now.room) × (groups.now.next + 1 < 2 ^ 64) }
+{
+    groups.room > 0 && groups.next < u64::MAX
+}
+
+// Whether the group under a key may have a request more.
+fn has_space(slots: &Slab<Group>, key: usize) -> bool
+    ensures { IsTrue result → (g : OpenGroup) → IsAt slots.now.slots key g → length g.asks < 32 }
+{
+    match slots.get(key) {
+        Some(group) => group.asks.len() < MOST_ASKS,
+        None => false,
+    }
+}
+
 // Whether a request of this unit, binding and index may be filed.
 fn can_file(groups: &Groups, unit: u64, binding: u64, index: u8) -> bool
     ensures { IsTrue result → CanFile groups.now unit binding index }
 {
-    match groups.unfinished_place(unit, binding, index) {
-        Some(place) => groups.at(place).asks.len() < MOST_ASKS,
-        None => groups.room > 0,
+    let place = cell_of(unit, index);
+    match unfinished_key(&groups.slots, groups.cells[place], unit, binding, index) {
+        Some(key) => has_space(&groups.slots, key),
+        None => can_begin(groups),
     }
 }
 
@@ -62,8 +81,9 @@ fn one_index_at_two_units(rt: HostRuntime) -> Result<(), Fail> {
     let old = filed(&rt, &mut groups, 0, 7, (3, 11, true));
     groups.reserve(1)?;
     let new = filed(&rt, &mut groups, 1, 8, (3, 21, true));
-    assert!(rt; is_job(&old, 7, 3, &[10, 11]));
-    assert!(rt; is_job(&new, 8, 3, &[20, 21]));
+    assert!(rt; is_job(&old, 7, 3, &[10, 11]) && is_job(&new, 8, 3, &[20, 21]));
+    assert_eq!(rt; old.map(|job| job.unit()), Some(0));
+    assert_eq!(rt; new.map(|job| job.unit()), Some(1));
     Ok(())
 }
 
@@ -124,6 +144,24 @@ fn a_late_answer_ends_no_other_group(rt: HostRuntime) -> Result<(), Fail> {
         groups.answered(job);
     }
     assert!(rt; !groups.open_of(7));
+    Ok(())
+}
+
+// Two bindings at one unit and index, and a unit and an index that are the same by the remainder.
+#[test]
+fn groups_that_share_a_cell(rt: HostRuntime) -> Result<(), Fail> {
+    let mut groups = Groups::new(rt.alloc());
+    for (unit, binding, index, page) in [(0, 7, 3, 10), (0, 8, 3, 20), (8, 9, 35, 30)] {
+        groups.reserve(unit)?;
+        let part = filed(&rt, &mut groups, unit, binding, (index, page, false));
+        assert!(rt; part.is_none());
+    }
+    let last = filed(&rt, &mut groups, 8, 9, (35, 31, true));
+    assert!(rt; is_job(&last, 9, 35, &[30, 31]));
+    let first = filed(&rt, &mut groups, 0, 7, (3, 11, true));
+    assert!(rt; is_job(&first, 7, 3, &[10, 11]));
+    let second = filed(&rt, &mut groups, 0, 8, (3, 21, true));
+    assert!(rt; is_job(&second, 8, 3, &[20, 21]));
     Ok(())
 }
 

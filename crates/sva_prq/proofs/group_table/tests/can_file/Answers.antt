@@ -1,27 +1,34 @@
-use Rattle.std.proofs.Common.{◌≡◌, ◌<◌, length, MatchOption, sym, ap, ◌∙◌, subst, arith}
-use Rattle.std.proofs.lemmas.Bool.{ltb-true}
-use Rattle.sva_prq.specs.Groups.{OpenGroup, is_unfinished}
-use Rattle.sva_prq.proofs.Searches.{position-within, find-place, find-none, no_first}
+use Rattle.std.proofs.Common.{◌+◌, ◌^◌, ◌<◌, false, length, get_or, find, MatchOption, None, refl, sym, ap, ◌∙◌, subst}
+use Rattle.sva_msg.specs.declared.messages.PageRequest.{PageRequest}
+use Rattle.sva_prq.specs.Groups.{OpenGroup, Groups, is_unfinished}
+use Rattle.sva_prq.specs.Slots.{groups_in}
+use Rattle.sva_prq.proofs.Searches.{find-none}
+use Rattle.sva_prq.proofs.Slots.{passing_at, none_in, none_unfinished, found-joined}
 use Rattle.sva_prq.proofs.group_table.tests.can_file.Goals as goal
 
-pub at-requires : goal.at-requires
-at-requires c =
-    position-within (is_unfinished c.args.unit c.args.binding c.args.index) c.args.groups.now.groups c.in-Some.place (sym c.unfinished_place.ensures ∙ c.in-Some.is)
+abbrev Room : Groups → Type 0
+Room s = (0 < s.room) × (s.next + 1 < 2 ^ 64)
+
+abbrev few : OpenGroup → Type 0
+few g = length g.asks < 32
 
 pub returns-in-Some : goal.returns-in-Some
 returns-in-Some c fits =
     let p = is_unfinished c.args.unit c.args.binding c.args.index in
-    let few : OpenGroup → Type 0 = λ g. length g.asks < 32 in
-    let found = find-place p c.args.groups.now.groups c.in-Some.place (sym c.unfinished_place.ensures ∙ c.in-Some.is) c.at.result.now c.at.ensures in
-    let count : c.len.result ≡ length c.at.result.now.asks = c.len.ensures.value ∙ ap (λ g. length g.asks) c.behind-groups.view_is in
-    let below = ltb-true c.len.result 32 fits in
-    subst (λ o. MatchOption o (0 < c.args.groups.now.room) few) (sym found) (omega arith)
+    let old = c.groups.inside.slots.slots in
+    let request : PageRequest = record { pasid = 0; index = c.args.index; page = 0; read = false; write = false; last = false } in
+    let there = passing_at p (get_or old c.in-Some.key None) c.in-Some.ensures.found in
+    let found = found-joined old old c.groups.inside.cells c.groups.inside.next c.groups.invariant.0 c.in-Some.key there.0 there.1 (λ _ _. refl)
+    c.args.unit c.args.binding request there.2 in
+    subst (λ o. MatchOption o (Room c.args.groups.now) few) (sym (ap (λ (s : Groups). find p s.groups) (sym c.groups.view_is) ∙ found))
+    (c.has_space.ensures fits there.0 there.1)
 
 pub returns-in-None : goal.returns-in-None
 returns-in-None c fits =
     let p = is_unfinished c.args.unit c.args.binding c.args.index in
-    let few : OpenGroup → Type 0 = λ g. length g.asks < 32 in
-    let none = find-none p c.args.groups.now.groups (no_first p c.args.groups.now.groups 0 (sym c.unfinished_place.ensures ∙ c.in-None.is)) in
-    let room : c.groups.inside.room ≡ c.args.groups.now.room = ap (λ s. s.room) c.groups.view_is in
-    let below = ltb-true 0 c.groups.inside.room fits in
-    subst (λ o. MatchOption o (0 < c.args.groups.now.room) few) (sym none) (omega arith)
+    let old = c.groups.inside.slots.slots in
+    let none = none_unfinished old c.groups.inside.cells c.groups.inside.next c.args.unit c.args.binding c.args.index c.cell_of-place.result
+    c.groups.invariant.0 c.cell_of-place.ensures.cell c.in-None.ensures.absent in
+    subst (λ o. MatchOption o (Room c.args.groups.now) few) (sym
+    (ap (λ (s : Groups). find p s.groups) (sym c.groups.view_is) ∙ find-none p (groups_in old) (none_in p old none)))
+    (c.can_begin.ensures fits)

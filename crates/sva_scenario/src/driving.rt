@@ -11,7 +11,8 @@ use crate::faults::ParseFault;
 use crate::parsing::parse;
 use crate::reading::read_all;
 use crate::report::{write_counts, write_fault, write_reply};
-use crate::streams::{DriveFault, Outcome, Told};
+use crate::streams::{DriveFault, Outcome};
+use crate::told::Told;
 use std::alloc::Global;
 use std::io::{Read, Write};
 use sva_core::World;
@@ -115,7 +116,8 @@ fn report_steps<W: Write>(
         }
         write_reply(line, &reply, writer)?;
     }
-    write_counts(line, &world.counts(), writer)?;
+    let counts = world.counts();
+    write_counts(line, counts.free, counts.mapped, counts.withheld, writer)?;
     Ok(Outcome::Done)
 }
 

@@ -11,11 +11,11 @@ pub const ABOUT: &str = "Runs scenarios of a host for shared virtual addressing"
 pub const REPLAY: &str = "Runs the scenario on standard input, and prints its report";
 
 /// What `-h` says of `check`.
-pub const CHECK: &str =
-    "Reads the scenario on standard input, and prints how many steps it has";
+pub const CHECK: &str = "Reads the scenario on standard input, and prints how many steps it has";
 
 /// What is written where clap has no text for a command line.
-pub const NO_TEXT: &str = "svahost: nothing is known of this command line; docs/FORMAT.md describes the program\n";
+pub const NO_TEXT: &str =
+    "svahost: nothing is known of this command line; docs/FORMAT.md describes the program\n";
 
 /// What `--help` says.
 pub const HELP: &str =

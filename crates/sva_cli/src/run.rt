@@ -46,7 +46,8 @@ pub fn main_with<X: AllocGlobal, R: Read, W: Write, E: Write>(
         → AsksText (texts words.now) × (writer.new.failures ≡ 0) × (errors.new ≡ errors.old)
         × ((text : List ℕ) × (text ≢ []) × Appends (W.contents writer.old.inner) (W.contents writer.new.inner) text) }
     ensures fault { (AsksRun (texts words.now) → ⊥) → result ≡ FAULT
-        → (fault : DriveFault) × HasCause reader.new writer.new (Err fault) × ((fault ≡ DriveFault.Memory) → writer.new ≡ writer.old) × Says E.contents errors.old errors.new (fault_line fault) }
+        → (fault : DriveFault) × HasCause reader.new writer.new (Err fault) × ((fault ≡ DriveFault.Memory) → writer.new ≡ writer.old)
+        × Says E.contents errors.old errors.new (fault_line fault) }
     ensures silent { (AsksRun (texts words.now) → ⊥) → (AsksText (texts words.now) → ⊥) → writer.new ≡ writer.old }
     ensures mistake { result ≡ MISTAKE → IsMistaken (texts words.now) × (writer.new ≡ writer.old)
         × ((text : List ℕ) × (text ≢ []) × Says E.contents errors.old errors.new text) }
@@ -144,7 +145,9 @@ fn answer<T: Display, W: Write, E: Write>(
         → ((kind ≡ ErrorKind.DisplayHelp) ⊎ (kind ≡ ErrorKind.DisplayVersion)) × (writer.new.failures ≡ 0) × (errors.new ≡ errors.old)
         × ((text : List ℕ) × IsSaid (T.output error.now) text × Appends (W.contents writer.old.inner) (W.contents writer.new.inner) text) }
     ensures fault { result ≡ FAULT
-        → (fault : DriveFault) × (fault ≢ DriveFault.Read) × ((fault ≡ DriveFault.Write) → writer.new.failures ≡ 1) × ((fault ≡ DriveFault.Memory) → writer.new ≡ writer.old) × Says E.contents errors.old errors.new (fault_line fault) }
+        → (fault : DriveFault) × (fault ≢ DriveFault.Read) × ((fault ≡ DriveFault.Write) → writer.new.failures ≡ 1)
+        × ((fault ≡ DriveFault.Memory) → writer.new ≡ writer.old)
+        × Says E.contents errors.old errors.new (fault_line fault) }
     ensures silent { kind ≢ ErrorKind.DisplayHelp → kind ≢ ErrorKind.DisplayVersion → writer.new ≡ writer.old }
     ensures mistake { result ≡ MISTAKE
         → (kind ≢ ErrorKind.OutOfMemory) × (kind ≢ ErrorKind.DisplayHelp) × (kind ≢ ErrorKind.DisplayVersion) × (writer.new ≡ writer.old)

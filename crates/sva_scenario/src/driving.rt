@@ -28,7 +28,8 @@ pub fn drive<R: Read, W: Write>(
 ) -> Result<Outcome, DriveFault>
     requires reader { IsNew reader.old }
     requires writer { IsNew writer.old }
-    ensures report { IfSome (R.remaining reader.old.inner) (λ input. Writes (W.contents writer.old.inner) (W.contents writer.new.inner) (report_of input) result) }
+    ensures report { IfSome (R.remaining reader.old.inner)
+        (λ input. Writes (W.contents writer.old.inner) (W.contents writer.new.inner) (report_of input) result) }
     ensures outcome { IfOk result (λ outcome. IfSome (R.remaining reader.old.inner) (λ input. outcome ≡ outcome_of input)) }
     ensures end { OnOk result ((reader.new.failures ≡ 0) × IsAtEnd (R.remaining reader.new.inner) × (writer.new.failures ≡ 0)) }
     ensures read { result ≡ Err DriveFault.Read → (writer.new ≡ writer.old)

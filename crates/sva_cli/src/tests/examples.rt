@@ -127,7 +127,7 @@ free 0 mapped 2 withheld 0
 ";
 
 const UNMAP_MANY: &str =
-    "# Pages that aren't aligned to their count are unmapped at once: these go, and no others (docs/CASES.md, "Ranges").
+    "# Pages that aren't aligned to their count are unmapped at once: these go, and no others (docs/CASES.md, Ranges).
 config 1 8 1
 space
 

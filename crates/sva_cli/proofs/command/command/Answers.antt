@@ -12,5 +12,5 @@ returns c =
     let check_is : app_of c.long_about-check.result ≡ new_app (codes "check") = search rules in
     let top_is : app_of c.disable_help_subcommand.result ≡ top = search rules in
     let with_replay : app_of c.in_ok-subcommand.field-0 ≡ with_subcommand top (new_app (codes "replay")).top =
-        c.in_ok-subcommand.ensures.shape (search rules) ∙ ap₂ with_subcommand top_is (ap (λ (a : App). a.top) replay_is) in
+    c.in_ok-subcommand.ensures.shape (search rules) ∙ ap₂ with_subcommand top_is (ap (λ (a : App). a.top) replay_is) in
     IfOk-weaker c.subcommand-2.result _ _ (λ r added. added.shape (search rules) ∙ ap₂ with_subcommand with_replay (ap (λ (a : App). a.top) check_is)) c.subcommand-2.ensures

@@ -17,7 +17,7 @@ returns-in-Ok-Replay-clause-run g c asked asks =
       ran.result,
       c.finish.ensures.status,
       subst (λ a. Reports a (g.R.Read.remaining c.args.reader.now.inner) (g.W.Write.contents c.args.writer.now.inner) (g.W.Write.contents ran.new.writer.inner) ran.result) (sym alone)
-      (reported Replay _ _ _ ran.result ran.ensures.report ran.ensures.outcome (λ read. ap (λ told. g.W.Write.contents told.inner) (ran.ensures.read read).0)),
+          (reported Replay _ _ _ ran.result ran.ensures.report ran.ensures.outcome (λ read. ap (λ told. g.W.Write.contents told.inner) (ran.ensures.read read).0)),
       caused ran.new.reader ran.new.writer ran.result none (λ read. (ran.ensures.read read).1) ran.ensures.write ran.ensures.memory,
       c.finish.ensures.said,
       c.finish.ensures.silent,
@@ -34,7 +34,7 @@ returns-in-Ok-Check-clause-run g c asked asks =
       ran.result,
       c.finish-in-Ok-Check.ensures.status,
       subst (λ a. Reports a (g.R.Read.remaining c.args.reader.now.inner) (g.W.Write.contents c.args.writer.now.inner) (g.W.Write.contents ran.new.writer.inner) ran.result) (sym alone)
-      (reported Check _ _ _ ran.result ran.ensures.report ran.ensures.outcome (λ read. ap (λ told. g.W.Write.contents told.inner) (ran.ensures.read read).0)),
+          (reported Check _ _ _ ran.result ran.ensures.report ran.ensures.outcome (λ read. ap (λ told. g.W.Write.contents told.inner) (ran.ensures.read read).0)),
       caused ran.new.reader ran.new.writer ran.result none (λ read. (ran.ensures.read read).1) ran.ensures.write ran.ensures.memory,
       c.finish-in-Ok-Check.ensures.said,
       c.finish-in-Ok-Check.ensures.silent,

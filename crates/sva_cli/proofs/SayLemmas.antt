@@ -1,12 +1,11 @@
 -- A text is said: all of it where no call failed, and else a prefix of it.
 use Rattle.std.proofs.Common.{arith, append-nil, ◌≡◌, ◌+◌, ℕ, List, [], Option, Result, Ok, Err, OnOk, IfErr}
 use Rattle.std.specs.Io.KnownBytes.{Appends}
-use Rattle.sva_scenario.specs.Streams.{AppendsProperPrefix}
+use Rattle.sva_scenario.specs.Streams.{AppendsProperPrefix, Stream}
 use Rattle.sva_scenario.specs.declared.streams.DriveFault.{DriveFault}
-use Rattle.sva_scenario.specs.declared.streams.Told.{Told}
 use Rattle.sva_cli.specs.Run.{Says}
 
-pub says : {T : Type 0} (contents : T → Option (List ℕ)) (old new : Told T) (text : List ℕ) (r : Result (Unit {0}) DriveFault)
+pub says : {T : Type 0} (contents : T → Option (List ℕ)) (old new : Stream T) (text : List ℕ) (r : Result (Unit {0}) DriveFault)
     → OnOk r (Appends (contents old.inner) (contents new.inner) text)
     → OnOk r (new.failures ≡ old.failures)
     → IfErr r (λ fault. new.failures ≡ old.failures + 1)

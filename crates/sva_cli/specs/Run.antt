@@ -1,14 +1,15 @@
 -- How a run of svahost ends.
-use Rattle.std.specs.Prelude.{◌≡◌, ◌⊎◌, ◌≤◌, ℕ, ◌+◌, List, [], ◌∷◌, ◌++◌, codes, Option, IfSome, Result, Ok, Err}
+use Rattle.std.specs.Prelude.{◌≡◌, ◌≢◌, ◌⊎◌, ◌≤◌, ℕ, ◌+◌, List, [], ◌∷◌, ◌++◌, codes, Option, IfSome, Result, Ok, Err}
 use Rattle.std.specs.Io.KnownBytes.{Appends, Keeps}
-use Rattle.sva_scenario.specs.Report.{outcome_of, report_of}
-use Rattle.sva_scenario.specs.Streams.{AppendsPrefix}
+use Rattle.sva_scenario.specs.Report.{check_of, check_outcome_of, outcome_of, report_of}
+use Rattle.sva_scenario.specs.Streams.{AppendsPrefix, Stream}
 use Rattle.sva_scenario.specs.declared.reading.TheConstants.{MOST_TURNS}
 use Rattle.sva_scenario.specs.declared.streams.DriveFault.{DriveFault}
 use Rattle.sva_scenario.specs.declared.streams.DriveFault.TheVariants.{Read, Write, Memory}
 use Rattle.sva_scenario.specs.declared.streams.Outcome.{Outcome}
 use Rattle.sva_scenario.specs.declared.streams.Outcome.TheVariants.{Done, Faulted}
-use Rattle.sva_scenario.specs.declared.streams.Told.{Told}
+use Rattle.sva_cli.specs.declared.command.Asked.{Asked}
+use Rattle.sva_cli.specs.declared.command.Asked.TheVariants.{Replay, Check}
 
 -- the status: 0 where the steps were run, 1 for a line fault, a refused config and every fault of a stream or of memory
 abbrev pub status_of : Result Outcome DriveFault → ℕ
@@ -32,21 +33,34 @@ complaint (Ok outcome) = []
 complaint (Err fault) = fault_line fault
 
 -- a stream was given a text: all of it where no call failed, and else a prefix of it, up to the first failure
-abbrev pub Says : {T : Type 0} → (T → Option (List ℕ)) → Told T → Told T → List ℕ → Type 0
+abbrev pub Says : {T : Type 0} → (T → Option (List ℕ)) → Stream T → Stream T → List ℕ → Type 0
 Says contents old new text =
     AppendsPrefix (contents old.inner) (contents new.inner) text
     × (new.failures ≡ old.failures → Appends (contents old.inner) (contents new.inner) text)
     × (old.failures ≤ new.failures)
     × (new.failures ≤ old.failures + 1)
 
--- what a replay wrote, where the input is known: its report; after a fault a prefix of the report, and nothing after a read fault
-abbrev pub Reports : Option (List ℕ) → Option (List ℕ) → Option (List ℕ) → Result Outcome DriveFault → Type 0
-Reports input old new (Ok outcome) = IfSome input (λ text. (outcome ≡ outcome_of text) × Appends old new (report_of text))
-Reports input old new (Err Read) = Keeps old new
-Reports input old new (Err fault) = IfSome input (λ text. AppendsPrefix old new (report_of text))
+-- what a command makes of its input: the text that it prints, and how it ends
+abbrev pub printed_of : Asked → List ℕ → List ℕ
+printed_of Replay = report_of
+printed_of Check = check_of
+
+abbrev pub ended_of : Asked → List ℕ → Outcome
+ended_of Replay = outcome_of
+ended_of Check = check_outcome_of
+
+-- what a command wrote, where its input is known: its text; after a fault a prefix of that, and nothing after a read fault
+abbrev pub Reports : Asked → Option (List ℕ) → Option (List ℕ) → Option (List ℕ) → Result Outcome DriveFault → Type 0
+Reports asked input old new (Ok outcome) = IfSome input (λ text. (outcome ≡ ended_of asked text) × Appends old new (printed_of asked text))
+Reports asked input old new (Err Read) = Keeps old new
+Reports asked input old new (Err fault) = IfSome input (λ text. AppendsPrefix old new (printed_of asked text))
+
+-- a text for the user: something is said, and where the value's own text is known and isn't empty, it is that one
+abbrev pub IsSaid : Option (List ℕ) → List ℕ → Type 0
+IsSaid shown text = (text ≢ []) × IfSome shown (λ own. own ≢ [] → text ≡ own)
 
 -- a read fault comes where the reader failed or its turns were spent, a write fault where the writer failed, and else none of them failed
-abbrev pub HasCause : {R W : Type 0} → Told R → Told W → Result Outcome DriveFault → Type 0
+abbrev pub HasCause : {R W : Type 0} → Stream R → Stream W → Result Outcome DriveFault → Type 0
 HasCause reader writer (Err Read) = (reader.failures ≡ 1) ⊎ ((reader.failures ≡ 0) × (reader.calls ≡ MOST_TURNS))
 HasCause reader writer (Err Write) = (reader.failures ≡ 0) × (writer.failures ≡ 1)
 HasCause reader writer _ = (reader.failures ≡ 0) × (writer.failures ≡ 0)

@@ -1,17 +1,18 @@
-ghost use Rattle.std.specs.Prelude.{◌≡◌, ◌≢◌, ◌≤◌, ◌<◌, length, IfSome, OnOk, Result};
+ghost use Rattle.std.specs.Prelude.{◌≡◌, ◌≢◌, ◌≤◌, ◌<◌, ◌⊎◌, List, ℕ, [], length, OnOk, Result};
 ghost use Rattle.std.specs.Io.KnownBytes.{Appends};
 ghost use Rattle.std.specs.IoError.{error_kind};
-ghost use Rattle.sva_cli.specs.Command.{AsksHelp, AsksReplay, CallsHelp, IsMistaken, texts};
-ghost use Rattle.sva_cli.specs.Run.{HasCause, Reports, Says, complaint, fault_line, status_of, unread_line};
+ghost use Rattle.sva_cli.specs.Command.{Asks, AsksRun, AsksText, CallsHelp, CallsVersion, IsMistaken, texts};
+ghost use Rattle.sva_cli.specs.Run.{HasCause, IsSaid, Reports, Says, complaint, fault_line, status_of, unread_line};
 ghost use Rattle.sva_scenario.specs.Streams.{IsNew, Writes};
 
-use crate::command::parse;
+use crate::command::{Asked, parse};
+use crate::help::NO_TEXT;
 use clap::error::ErrorKind;
 use std::alloc::Global;
 use std::fmt::Display;
 use std::io;
 use std::io::{ErrorKind as IoErrorKind, Read, Write};
-use sva_scenario::{DriveFault, Outcome, Told, drive, write_all};
+use sva_scenario::{DriveFault, Outcome, Told, check, drive, write_all};
 
 /// The steps were run, or help was shown.
 const DONE: u8 = 0;
@@ -23,8 +24,8 @@ const FAULT: u8 = 1;
 const MISTAKE: u8 = 2;
 
 /// A whole run of svahost on its words, the program's name first: the status that it exits with. The command line is
-/// judged before anything is read. `replay` writes the report of all that the reader gives; what a fault is, `errors`
-/// is told in a line.
+/// judged before anything is read. `replay` and `check` write what they make of all that the reader gives; what a fault
+/// is, `errors` is told in a line. Help and the version go to the writer, what is wrong with the words to `errors`.
 pub fn main_with<X: AllocGlobal, R: Read, W: Write, E: Write>(
     rt: &X,
     words: &[String],
@@ -35,25 +36,33 @@ pub fn main_with<X: AllocGlobal, R: Read, W: Write, E: Write>(
     requires reader { IsNew reader.old }
     requires writer { IsNew writer.old }
     requires errors { IsNew errors.old }
-    ensures replay { AsksReplay (texts words.now) → (ended : Result Outcome DriveFault) × (result ≡ status_of ended)
-        × Reports (R.remaining reader.old.inner) (W.contents writer.old.inner) (W.contents writer.new.inner) ended
+    ensures run { (asked : Asked) → Asks asked (texts words.now) → (ended : Result Outcome DriveFault) × (result ≡ status_of ended)
+        × Reports asked (R.remaining reader.old.inner) (W.contents writer.old.inner) (W.contents writer.new.inner) ended
         × HasCause reader.new writer.new ended
         × Says E.contents errors.old errors.new (complaint ended)
         × OnOk ended (errors.new ≡ errors.old) }
-    ensures unread { (AsksReplay (texts words.now) → ⊥) → reader.new ≡ reader.old }
-    ensures help { (AsksReplay (texts words.now) → ⊥) → result ≡ DONE
-        → AsksHelp (texts words.now) × (writer.new.failures ≡ 0) × (errors.new ≡ errors.old) }
-    ensures fault { (AsksReplay (texts words.now) → ⊥) → result ≡ FAULT
-        → (fault : DriveFault) × HasCause reader.new writer.new (Err fault) × ((fault ≡ DriveFault.Memory) → writer.new ≡ writer.old) × Says E.contents errors.old errors.new (fault_line fault) }
-    ensures silent { (AsksReplay (texts words.now) → ⊥) → (AsksHelp (texts words.now) → ⊥) → writer.new ≡ writer.old }
-    ensures mistake { result ≡ MISTAKE → IsMistaken (texts words.now) × (writer.new ≡ writer.old) }
+    ensures unread { (AsksRun (texts words.now) → ⊥) → reader.new ≡ reader.old }
+    ensures help { (AsksRun (texts words.now) → ⊥) → result ≡ DONE
+        → AsksText (texts words.now) × (writer.new.failures ≡ 0) × (errors.new ≡ errors.old)
+        × ((text : List ℕ) × (text ≢ []) × Appends (W.contents writer.old.inner) (W.contents writer.new.inner) text) }
+    ensures fault { (AsksRun (texts words.now) → ⊥) → result ≡ FAULT
+        → (fault : DriveFault) × HasCause reader.new writer.new (Err fault) × ((fault ≡ DriveFault.Memory) → writer.new ≡ writer.old)
+        × Says E.contents errors.old errors.new (fault_line fault) }
+    ensures silent { (AsksRun (texts words.now) → ⊥) → (AsksText (texts words.now) → ⊥) → writer.new ≡ writer.old }
+    ensures mistake { result ≡ MISTAKE → IsMistaken (texts words.now) × (writer.new ≡ writer.old)
+        × ((text : List ℕ) × (text ≢ []) × Says E.contents errors.old errors.new text) }
     ensures calls_help { CallsHelp (texts words.now) → result ≢ MISTAKE }
+    ensures calls_version { CallsVersion (texts words.now) → result ≢ MISTAKE }
     ensures no_command { length words.now < 2 → result ≢ DONE }
     ensures status { result ≤ MISTAKE }
 {
     match parse(rt.alloc(), words) {
-        Ok(()) => {
+        Ok(Asked::Replay) => {
             let ended = drive(rt.alloc(), reader, writer);
+            finish(ended, errors)
+        }
+        Ok(Asked::Check) => {
+            let ended = check(rt.alloc(), reader, writer);
             finish(ended, errors)
         }
         Err(error) => answer(rt.alloc(), error.kind(), &error, writer, errors),
@@ -119,8 +128,8 @@ fn say<E: Write>(text: &str, errors: &mut Told<E>)
     let _ = write_all(errors, text.as_bytes());
 }
 
-/// Answers a command line that asks for no run, by the kind of its error and the error's text: help goes to the writer,
-/// what is wrong to `errors`.
+/// Answers a command line that asks for no run, by the kind of its error and the error's text: help and the version go
+/// to the writer, what is wrong to `errors`.
 fn answer<T: Display, W: Write, E: Write>(
     alloc: Global,
     kind: ErrorKind,
@@ -133,19 +142,21 @@ fn answer<T: Display, W: Write, E: Write>(
     ensures memory { kind ≡ ErrorKind.OutOfMemory
         → (result ≡ FAULT) × (writer.new ≡ writer.old) × Says E.contents errors.old errors.new (fault_line DriveFault.Memory) }
     ensures help { result ≡ DONE
-        → (kind ≡ ErrorKind.DisplayHelp) × (writer.new.failures ≡ 0) × (errors.new ≡ errors.old)
-        × IfSome (T.output error.now) (λ text. Appends (W.contents writer.old.inner) (W.contents writer.new.inner) text) }
+        → ((kind ≡ ErrorKind.DisplayHelp) ⊎ (kind ≡ ErrorKind.DisplayVersion)) × (writer.new.failures ≡ 0) × (errors.new ≡ errors.old)
+        × ((text : List ℕ) × IsSaid (T.output error.now) text × Appends (W.contents writer.old.inner) (W.contents writer.new.inner) text) }
     ensures fault { result ≡ FAULT
-        → (fault : DriveFault) × (fault ≢ DriveFault.Read) × ((fault ≡ DriveFault.Write) → writer.new.failures ≡ 1) × ((fault ≡ DriveFault.Memory) → writer.new ≡ writer.old) × Says E.contents errors.old errors.new (fault_line fault) }
-    ensures silent { kind ≢ ErrorKind.DisplayHelp → writer.new ≡ writer.old }
+        → (fault : DriveFault) × (fault ≢ DriveFault.Read) × ((fault ≡ DriveFault.Write) → writer.new.failures ≡ 1)
+        × ((fault ≡ DriveFault.Memory) → writer.new ≡ writer.old)
+        × Says E.contents errors.old errors.new (fault_line fault) }
+    ensures silent { kind ≢ ErrorKind.DisplayHelp → kind ≢ ErrorKind.DisplayVersion → writer.new ≡ writer.old }
     ensures mistake { result ≡ MISTAKE
-        → (kind ≢ ErrorKind.OutOfMemory) × (kind ≢ ErrorKind.DisplayHelp) × (writer.new ≡ writer.old)
-        × IfSome (T.output error.now) (λ text. Says E.contents errors.old errors.new text) }
+        → (kind ≢ ErrorKind.OutOfMemory) × (kind ≢ ErrorKind.DisplayHelp) × (kind ≢ ErrorKind.DisplayVersion) × (writer.new ≡ writer.old)
+        × ((text : List ℕ) × IsSaid (T.output error.now) text × Says E.contents errors.old errors.new text) }
     ensures status { result ≤ MISTAKE }
 {
     match kind {
         ErrorKind::OutOfMemory => finish(Err(DriveFault::Memory), errors),
-        ErrorKind::DisplayHelp => match show(alloc, error, writer) {
+        ErrorKind::DisplayHelp | ErrorKind::DisplayVersion => match show(alloc, error, writer) {
             Ok(()) => DONE,
             Err(fault) => finish(Err(fault), errors),
         },
@@ -156,21 +167,27 @@ fn answer<T: Display, W: Write, E: Write>(
     }
 }
 
-/// Writes the text of a value. Want of memory comes before anything is written.
+/// Writes the text of a value, or `NO_TEXT` where that is empty. Want of memory comes before anything is written.
 fn show<T: Display, W: Write>(
     alloc: Global,
     shown: &T,
     writer: &mut Told<W>,
 ) -> Result<(), DriveFault>
     requires { IsNew writer.old }
-    ensures text { IfSome (T.output shown.now) (λ text. Writes (W.contents writer.old.inner) (W.contents writer.new.inner) text result) }
+    ensures text { result ≢ Err DriveFault.Memory → (text : List ℕ) × IsSaid (T.output shown.now) text
+        × Says W.contents writer.old writer.new text × OnOk result (Appends (W.contents writer.old.inner) (W.contents writer.new.inner) text) }
     ensures ok { OnOk result (writer.new.failures ≡ 0) }
     ensures read { result ≢ Err DriveFault.Read }
     ensures write { result ≡ Err DriveFault.Write → writer.new.failures ≡ 1 }
     ensures memory { result ≡ Err DriveFault.Memory → writer.new ≡ writer.old }
 {
-    let Ok(text) = shown.to_string(alloc) else {
+    let Ok(own) = shown.to_string(alloc) else {
         return Err(DriveFault::Memory);
+    };
+    let text = if own.is_empty() {
+        NO_TEXT
+    } else {
+        own.as_str()
     };
     write_all(writer, text.as_bytes())
 }

@@ -41,9 +41,9 @@ fn run_on<R: AllocGlobal>(rt: &R, words: &[&str], input: &[u8]) -> Result<Ran, A
     let status = main_with(rt, words.as_slice(), &mut reader, &mut writer, &mut errors);
     Ok(Ran {
         status,
-        written: writer.inner,
-        said: errors.inner,
-        reads: reader.calls,
+        written: writer.into_inner(),
+        said: errors.into_inner(),
+        reads: reader.calls(),
     })
 }
 
@@ -75,20 +75,38 @@ fn replays_short_inputs(rt: HostRuntime) -> Result<(), Fail> {
 }
 
 #[test]
+fn checks_scenarios(rt: HostRuntime) -> Result<(), Fail> {
+    let first = std::str::from_utf8(SCENARIO)
+        .ok()
+        .ok_or("the scenario is text")?;
+    let runs = [
+        (first, "steps 4\n", 0),
+        ("", "line 1 NoConfig\n", 1),
+        ("# nothing\n\nconfig 1 4 1\n# nothing\n", "steps 0\n", 0),
+        ("config 1 4097 1\nspace\n", "steps 1\n", 0),
+        ("config 1 4 1\nspase", "line 2 UnknownStep\n", 1),
+    ];
+    for (scenario, report, status) in runs {
+        for words in [["check"].as_slice(), ["check", "--"].as_slice()] {
+            let ran = run_on(&rt, words, scenario.as_bytes())?;
+            assert!(rt; ran.written.as_slice() == report.as_bytes(), "{scenario}");
+            assert_eq!(rt; (ran.status, ran.said.len()), (status, 0), "{scenario}");
+        }
+    }
+    Ok(())
+}
+
+#[test]
 fn judges_the_command_line_first(rt: HostRuntime) -> Result<(), Fail> {
     let none: &[&str] = &[];
     let mistakes = [
         (
             none,
-            "error: 'svahost' requires a subcommand but one was not provided\n  [subcommands: replay]\n\nUsage: svahost <COMMAND>\n\nFor more information, try '--help'.\n",
+            "error: 'svahost' requires a subcommand but one was not provided\n  [subcommands: replay, check]\n\nUsage: svahost <COMMAND>\n\nFor more information, try '--help'.\n",
         ),
         (
             &["storm"],
             "error: unrecognized subcommand 'storm'\n\nUsage: svahost <COMMAND>\n\nFor more information, try '--help'.\n",
-        ),
-        (
-            &["--version"],
-            "error: unexpected argument '--version' found\n\nUsage: svahost <COMMAND>\n\nFor more information, try '--help'.\n",
         ),
         (
             &["replay", "first.sva"],
@@ -120,7 +138,7 @@ fn tells_of_a_command_line_that_is_not_read(rt: HostRuntime) -> Result<(), Fail>
     for (kind, text, status) in runs {
         let mut errors = Told::new(Vec::new(rt.alloc()));
         let found = unread(&io::Error::from(kind), &mut errors);
-        assert!(rt; errors.inner.as_slice() == text.as_bytes(), "{text}");
+        assert!(rt; errors.inner().as_slice() == text.as_bytes(), "{text}");
         assert_eq!(rt; found, status, "{text}");
     }
     Ok(())
@@ -129,11 +147,15 @@ fn tells_of_a_command_line_that_is_not_read(rt: HostRuntime) -> Result<(), Fail>
 #[test]
 fn shows_help(rt: HostRuntime) -> Result<(), Fail> {
     let short =
-        "Runs scenarios of a host for shared virtual addressing\n\nUsage: svahost <COMMAND>\n\nCommands:\n  replay  Runs the scenario on standard input, and prints its report\n\nOptions:\n  -h, --help  Print help (see more with '--help')\n";
+        "Runs scenarios of a host for shared virtual addressing\n\nUsage: svahost <COMMAND>\n\nCommands:\n  replay  Runs the scenario on standard input, and prints its report\n  check   Reads the scenario on standard input, and prints how many steps it has\n\nOptions:\n  -h, --help     Print help (see more with '--help')\n  -V, --version  Print version\n";
     let ran = run_on(&rt, &["-h"], SCENARIO)?;
     assert!(rt; ran.written.as_slice() == short.as_bytes());
     assert_eq!(rt; (ran.status, ran.said.len(), ran.reads), (0, 0, 0));
-    for words in [["--help"].as_slice(), ["replay", "--help"].as_slice()] {
+    for words in [
+        ["--help"].as_slice(),
+        ["replay", "--help"].as_slice(),
+        ["check", "--help"].as_slice(),
+    ] {
         let ran = run_on(&rt, words, SCENARIO)?;
         assert_eq!(rt; (ran.status, ran.said.len(), ran.reads), (0, 0, 0));
         let text = std::str::from_utf8(ran.written.as_slice())
@@ -143,10 +165,21 @@ fn shows_help(rt: HostRuntime) -> Result<(), Fail> {
             "A scenario is a text",
             "    map 0 16 w\n",
             "    free 3 mapped 1 withheld 0\n",
+            "    unmap S PAGE [COUNT]",
             "docs/FORMAT.md",
         ] {
             assert!(rt; text.contains(part), "{part}");
         }
+    }
+    Ok(())
+}
+
+#[test]
+fn shows_the_version(rt: HostRuntime) -> Result<(), Fail> {
+    for word in ["--version", "-V"] {
+        let ran = run_on(&rt, &[word], SCENARIO)?;
+        assert!(rt; ran.written.as_slice() == b"svahost 0.1.0\n".as_slice());
+        assert_eq!(rt; (ran.status, ran.said.len(), ran.reads), (0, 0, 0));
     }
     Ok(())
 }
@@ -200,8 +233,8 @@ fn tells_of_a_read_fault(rt: HostRuntime) -> Result<(), Fail> {
     let mut writer = Told::new(Vec::new(alloc));
     let mut errors = Told::new(Vec::new(alloc));
     let status = main_with(&rt, words.as_slice(), &mut reader, &mut writer, &mut errors);
-    assert_eq!(rt; (status, writer.inner.len()), (1, 0));
-    assert!(rt; errors.inner.as_slice() == b"svahost: read fault\n".as_slice());
+    assert_eq!(rt; (status, writer.inner().len()), (1, 0));
+    assert!(rt; errors.inner().as_slice() == b"svahost: read fault\n".as_slice());
     Ok(())
 }
 
@@ -219,12 +252,12 @@ fn ends_in_write_fault<R: AllocGlobal>(
     let mut writer = Told::new(BrokenWriter { taken, most });
     let mut errors = Told::new(Vec::new(rt.alloc()));
     let status = main_with(rt, words.as_slice(), &mut reader, &mut writer, &mut errors);
-    let taken = writer.inner.taken.as_slice();
+    let taken = writer.inner().taken.as_slice();
     Ok(
         status == 1
             && taken.len() == most
             && text.as_bytes().starts_with(taken)
-            && errors.inner.as_slice() == b"svahost: write fault\n".as_slice(),
+            && errors.inner().as_slice() == b"svahost: write fault\n".as_slice(),
     )
 }
 
@@ -237,6 +270,7 @@ fn tells_of_a_write_fault(rt: HostRuntime) -> Result<(), Fail> {
         );
     }
     assert!(rt; ends_in_write_fault(&rt, &["--help"], 4, "Runs")?);
+    assert!(rt; ends_in_write_fault(&rt, &["check"], 5, "steps 4\n")?);
     Ok(())
 }
 
@@ -251,7 +285,7 @@ fn keeps_the_status_where_errors_fail(rt: HostRuntime) -> Result<(), Fail> {
         let mut errors = Told::new(BrokenWriter { taken, most: 3 });
         let status = main_with(&rt, words.as_slice(), &mut reader, &mut writer, &mut errors);
         assert_eq!(rt;
-            (status, writer.inner.len(), errors.inner.taken.len()),
+            (status, writer.inner().len(), errors.inner().taken.len()),
             (want, 0, 3)
         );
     }

@@ -6,7 +6,6 @@ use Rattle.std.proofs.KnownBytes.{Appends-nil, Appends-trans}
 use Rattle.std.proofs.lemmas.List.{length-append}
 use Rattle.std.proofs.lemmas.List.Concat.{flat_map-cons}
 use Rattle.std.proofs.lemmas.Fmt.{length-decimal-le}
-use Rattle.sva_frames.specs.declared.pool.Counts.{Counts as FrameCounts}
 use Rattle.sva_step.specs.declared.limits.Config.{Config}
 use Rattle.sva_step.specs.declared.answers.Answer.{Answer}
 use Rattle.sva_step.specs.declared.answers.Answer.TheVariants as answer
@@ -20,7 +19,7 @@ use Rattle.sva_model.specs.State.{World}
 use Rattle.sva_model.specs.Claims.{Fits}
 use Rattle.sva_model.specs.Steps.{Counts, Reply, reply, replies, next, run, counts, world_after}
 use Rattle.sva_model.specs.Wire.{Wire, wire}
-use Rattle.sva_core.specs.Reached.{FollowsAt, Follows, CountsOf}
+use Rattle.sva_core.specs.Reached.{FollowsAt, Follows}
 use Rattle.sva_scenario.specs.declared.streams.DriveFault.{DriveFault}
 use Rattle.sva_scenario.specs.Report.{ended, reply_text, counts_text, steps_report}
 use Rattle.sva_scenario.specs.Streams.{AppendsPrefix, Writes}
@@ -107,22 +106,25 @@ pub reporting_stop : (config : Config) (seen : Wire) (left : List Step) (whole :
 reporting_stop config seen left whole old now r = (r.written, steps_report (world_after config r.taken) left, r.rest, r.appended)
 
 -- the counts as the definitions have them
-abbrev pub as_counts : FrameCounts → Counts
-as_counts found = record { free = found.free; mapped = found.mapped; withheld = found.withheld }
+-- the counts that were found are those of each world that is seen so
+abbrev pub Counted : Wire → Counts → Type 0
+Counted seen found = (config : Config) (taken : List Step) → Fits config → seen ≡ wire (world_after config taken)
+    → (found.free ≡ (counts (world_after config taken)).free) × (found.mapped ≡ (counts (world_after config taken)).mapped)
+    × (found.withheld ≡ (counts (world_after config taken)).withheld)
 
 writes_after : {A : Type 0} (old now new : Option (List ℕ)) (first more : List ℕ) (result : Result A DriveFault) → Appends old now first → Writes now new more result
     → Writes old new (first ++ more) result
 writes_after old now new first more (Ok x) p q = Appends-trans old now new first more p q
 writes_after old now new first more (Err fault) p q = AppendsPrefix-after old now new first more p q
 
-pub reporting_end : {A : Type 0} (config : Config) (seen : Wire) (whole : List ℕ) (old now new : Option (List ℕ)) (found : FrameCounts) (result : Result A DriveFault)
-    → Reporting config seen [] whole old now → CountsOf seen found → Writes now new (ended (counts_text (as_counts found))) result → Writes old new whole result
+pub reporting_end : {A : Type 0} (config : Config) (seen : Wire) (whole : List ℕ) (old now new : Option (List ℕ)) (found : Counts) (result : Result A DriveFault)
+    → Reporting config seen [] whole old now → Counted seen found → Writes now new (ended (counts_text found)) result → Writes old new whole result
 reporting_end config seen whole old now new found result r of line =
     let w = world_after config r.taken in
     let same = of config r.taken r.fits r.is_seen in
-    let counted : as_counts found ≡ counts w = λ i. record { free = same.0 i; mapped = same.1 i; withheld = same.2 i } in
+    let counted : found ≡ counts w = λ i. record { free = same.0 i; mapped = same.1 i; withheld = same.2 i } in
     let all = ap (λ c. r.written ++ ended (counts_text c)) counted ∙ ap (λ l. r.written ++ l) (sym (steps_report-end w)) ∙ r.rest in
-    subst (λ bytes. Writes old new bytes result) all (writes_after old now new r.written (ended (counts_text (as_counts found))) result r.appended line)
+    subst (λ bytes. Writes old new bytes result) all (writes_after old now new r.written (ended (counts_text found)) result r.appended line)
 
 -- ---- How long a line is
 

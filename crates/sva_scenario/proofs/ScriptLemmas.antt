@@ -20,7 +20,7 @@ use Rattle.sva_scenario.specs.declared.faults.LineFault.{LineFault}
 use Rattle.sva_scenario.specs.Faults.{line_fault_text}
 use Rattle.sva_scenario.specs.Grammar.{◌>>=◌, access, at_line, config_of, fault, has_words, has_words_or, is_skipped, is_too_large, lines_of, map_step, number, said_lines, Script, scenario_of, script_of, space_step, step_of, steps_of, unmap_step, word, words_of}
 use Rattle.sva_scenario.specs.Laws.{ConfigsAreTested}
-use Rattle.sva_scenario.specs.Report.{ended, is_fit, outcome_by, outcome_of, report_by, report_of, script_report, steps_report}
+use Rattle.sva_scenario.specs.Report.{ended, is_fit, report_by, report_of, script_report, steps_report}
 use Rattle.sva_scenario.specs.Streams.{AppendsPrefix, Writes}
 use Rattle.sva_scenario.specs.declared.streams.DriveFault.{DriveFault}
 use Rattle.sva_scenario.specs.declared.streams.Outcome.{Outcome}
@@ -229,17 +229,19 @@ fit_report config steps fits =
 
 -- ---- What was read is what counts
 
-pub kept_report : {A : Type 0} (known old new : Option (List ℕ)) (kept text : List ℕ) (result : Result A DriveFault) → text ≡ kept
-    → IfSome known (λ input. kept ≡ take 1048577 input) → Writes old new (report_of text) result → IfSome known (λ input. Writes old new (report_of input) result)
-kept_report None old new kept text result e h w = tt
-kept_report (Some input) old new kept text result e h w =
-    subst (λ read. Writes old new (report_by read) result) (ap scenario_of (e ∙ h) ∙ front_scenario input) w
+pub kept_report : {A : Type 0} (say : Result Script LineFault → List ℕ) (known old new : Option (List ℕ)) (kept text : List ℕ) (result : Result A DriveFault)
+    → text ≡ kept → IfSome known (λ input. kept ≡ take 1048577 input) → Writes old new (say (scenario_of text)) result
+    → IfSome known (λ input. Writes old new (say (scenario_of input)) result)
+kept_report say None old new kept text result e h w = tt
+kept_report say (Some input) old new kept text result e h w =
+    subst (λ read. Writes old new (say read) result) (ap scenario_of (e ∙ h) ∙ front_scenario input) w
 
-pub kept_outcome : (known : Option (List ℕ)) (kept text : List ℕ) (result : Result Outcome DriveFault) → text ≡ kept → IfSome known (λ input. kept ≡ take 1048577 input)
-    → IfOk result (λ outcome. outcome ≡ outcome_of text) → IfOk result (λ outcome. IfSome known (λ input. outcome ≡ outcome_of input))
-kept_outcome known kept text (Err fault) e h o = tt
-kept_outcome None kept text (Ok outcome) e h o = tt
-kept_outcome (Some input) kept text (Ok outcome) e h o = o ∙ ap outcome_by (ap scenario_of (e ∙ h) ∙ front_scenario input)
+pub kept_outcome : (end : Result Script LineFault → Outcome) (known : Option (List ℕ)) (kept text : List ℕ) (result : Result Outcome DriveFault)
+    → text ≡ kept → IfSome known (λ input. kept ≡ take 1048577 input)
+    → IfOk result (λ outcome. outcome ≡ end (scenario_of text)) → IfOk result (λ outcome. IfSome known (λ input. outcome ≡ end (scenario_of input)))
+kept_outcome end known kept text (Err fault) e h o = tt
+kept_outcome end None kept text (Ok outcome) e h o = tt
+kept_outcome end (Some input) kept text (Ok outcome) e h o = o ∙ ap end (ap scenario_of (e ∙ h) ∙ front_scenario input)
 
 -- a fault stands where a prefix was written
 pub writes_front : {A : Type 0} (old new : Option (List ℕ)) (bytes : List ℕ) (result : Result A DriveFault) → IsErr result → AppendsPrefix old new bytes → Writes old new bytes result

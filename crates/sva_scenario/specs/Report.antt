@@ -1,5 +1,5 @@
 -- The report of a whole text: what a run of its steps answers, a line for each, and how the run ended.
-use Rattle.std.specs.Prelude.{◌≡◌, ℕ, ◌^◌, ◌&&◌, nat_le, if◌then◌else◌, Bool, List, [], ◌∷◌, ◌++◌, codes, decimal, flat_map, Option, Result, Ok, Err}
+use Rattle.std.specs.Prelude.{◌≡◌, ℕ, ◌^◌, ◌&&◌, nat_le, if◌then◌else◌, Bool, List, [], ◌∷◌, ◌++◌, codes, decimal, flat_map, length, Option, Result, Ok, Err}
 use Rattle.sva_step.specs.declared.limits.Config.{Config}
 use Rattle.sva_step.specs.declared.refusals.Refusal.TheVariants.{BadConfig}
 use Rattle.sva_step.specs.declared.steps.Step.{Step}
@@ -64,6 +64,30 @@ outcome_by (Err fault) = Faulted
 
 abbrev pub outcome_of : List ℕ → Outcome
 outcome_of text = outcome_by (scenario_of text)
+
+-- ---- What `check` says
+
+-- `steps K`
+abbrev pub steps_text : ℕ → List ℕ
+steps_text count = codes "steps " ++ decimal count
+
+-- how many steps the scenario has, whether its config fits or not; or the line fault
+abbrev pub check_by : Result Script LineFault → List ℕ
+check_by (Ok script) = ended (steps_text (length script.steps))
+check_by (Err fault) = ended (line_fault_text fault)
+
+abbrev pub check_of : List ℕ → List ℕ
+check_of text = check_by (scenario_of text)
+
+-- a check ends as a fault exactly where there is a line fault
+abbrev pub check_outcome_by : Result Script LineFault → Outcome
+check_outcome_by (Ok script) = Done
+check_outcome_by (Err fault) = Faulted
+
+abbrev pub check_outcome_of : List ℕ → Outcome
+check_outcome_of text = check_outcome_by (scenario_of text)
+
+-- ---- What a run writes from a world on
 
 -- What was written is the report of some steps, as the definitions have it from each world after some list of steps that
 -- is seen so; a prefix of it where the result is a fault.

@@ -3,11 +3,16 @@ use Rattle.std.specs.Prelude.{◌≡◌, ℕ, ◌+◌, ◌<◌, List, length, �
 use Rattle.std.specs.Io.KnownBytes.{Appends}
 use Rattle.sva_scenario.specs.declared.streams.DriveFault.{DriveFault}
 use Rattle.sva_scenario.specs.declared.streams.DriveFault.TheVariants.{Read, Write, Memory}
-use Rattle.sva_scenario.specs.declared.streams.Told.{Told}
+
+-- A reader or a writer as contracts see it: what it is itself, how many calls of it were made, and how many of these failed.
+pub record Stream (T : Type 0) : Type 0 where
+  pub inner : T
+  pub calls : ℕ
+  pub failures : ℕ
 
 -- no call was made yet
-abbrev pub IsNew : {T : Type 0} → Told T → Type 0
-IsNew told = (told.calls ≡ 0) × (told.failures ≡ 0)
+abbrev pub IsNew : {T : Type 0} → Stream T → Type 0
+IsNew stream = (stream.calls ≡ 0) × (stream.failures ≡ 0)
 
 -- known bytes grow by a prefix of some bytes
 abbrev pub AppendsPrefix : Option (List ℕ) → Option (List ℕ) → List ℕ → Type 0
@@ -23,7 +28,7 @@ Writes old new bytes (Ok x) = Appends old new bytes
 Writes old new bytes (Err fault) = AppendsPrefix old new bytes
 
 -- the writer's failures are told: one more where the fault is `Write`, and none where there is no fault or memory lacks
-abbrev pub Tells : {A W : Type 0} → Told W → Told W → Result A DriveFault → Type 0
+abbrev pub Tells : {A W : Type 0} → Stream W → Stream W → Result A DriveFault → Type 0
 Tells old new (Ok x) = new.failures ≡ old.failures
 Tells old new (Err Read) = ⊥
 Tells old new (Err Write) = new.failures ≡ old.failures + 1

@@ -11,7 +11,8 @@ use crate::faults::ParseFault;
 use crate::parsing::parse;
 use crate::reading::read_all;
 use crate::report::{write_counts, write_fault, write_reply};
-use crate::streams::{DriveFault, Outcome, Told};
+use crate::streams::{DriveFault, Outcome};
+use crate::told::Told;
 use std::alloc::Global;
 use std::io::{Read, Write};
 use sva_core::World;
@@ -27,7 +28,8 @@ pub fn drive<R: Read, W: Write>(
 ) -> Result<Outcome, DriveFault>
     requires reader { IsNew reader.old }
     requires writer { IsNew writer.old }
-    ensures report { IfSome (R.remaining reader.old.inner) (λ input. Writes (W.contents writer.old.inner) (W.contents writer.new.inner) (report_of input) result) }
+    ensures report { IfSome (R.remaining reader.old.inner)
+        (λ input. Writes (W.contents writer.old.inner) (W.contents writer.new.inner) (report_of input) result) }
     ensures outcome { IfOk result (λ outcome. IfSome (R.remaining reader.old.inner) (λ input. outcome ≡ outcome_of input)) }
     ensures end { OnOk result ((reader.new.failures ≡ 0) × IsAtEnd (R.remaining reader.new.inner) × (writer.new.failures ≡ 0)) }
     ensures read { result ≡ Err DriveFault.Read → (writer.new ≡ writer.old)
@@ -115,7 +117,8 @@ fn report_steps<W: Write>(
         }
         write_reply(line, &reply, writer)?;
     }
-    write_counts(line, &world.counts(), writer)?;
+    let counts = world.counts();
+    write_counts(line, counts.free, counts.mapped, counts.withheld, writer)?;
     Ok(Outcome::Done)
 }
 

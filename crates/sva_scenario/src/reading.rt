@@ -2,7 +2,8 @@ ghost use Rattle.std.specs.Prelude.{◌≡◌, ◌<◌, ◌≤◌, ◌⊎◌, �
 ghost use Rattle.std.specs.Io.KnownBytes.{IsAtEnd};
 ghost use Rattle.sva_scenario.specs.Streams.{IsNew};
 
-use crate::streams::{DriveFault, Told};
+use crate::streams::DriveFault;
+use crate::told::Told;
 use std::alloc::Global;
 use std::io::Read;
 

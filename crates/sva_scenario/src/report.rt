@@ -1,15 +1,15 @@
 ghost use Rattle.std.specs.Prelude.{◌≡◌, ◌+◌, ◌^◌, ◌<◌, ◌≤◌, ◌++◌, length, decimal, Err, OnOk};
 ghost use Rattle.sva_scenario.specs.Faults.{line_fault_text};
-ghost use Rattle.sva_scenario.specs.Report.{ended, reply_text, counts_text};
+ghost use Rattle.sva_scenario.specs.Report.{ended, reply_text, counts_text, steps_text};
 ghost use Rattle.sva_scenario.specs.Streams.{Writes, Tells};
 
 use crate::faults::LineFault;
-use crate::streams::{DriveFault, Told};
+use crate::streams::DriveFault;
+use crate::told::Told;
 use crate::writing::write_all;
 use itoa::Buffer;
 use std::alloc::AllocError;
 use std::io::Write;
-use sva_frames::Counts;
 use sva_step::{Answer, Refusal};
 
 /// Writes the line of a step: its answer, or its refusal. What stands in `line` is lost. Want of memory comes before
@@ -21,7 +21,6 @@ pub fn write_reply<W: Write>(
 ) -> Result<(), DriveFault>
     requires short { length (reply_text reply.now) ≤ 1024 }
     requires calls { writer.old.calls + 1025 < 2 ^ 64 }
-    requires failures { writer.old.failures + 1 < 2 ^ 64 }
     ensures written { Writes (W.contents writer.old.inner) (W.contents writer.new.inner) (ended (reply_text reply.now)) result }
     ensures told { Tells writer.old writer.new result }
     ensures memory { result ≡ Err DriveFault.Memory → writer.new ≡ writer.old }
@@ -45,7 +44,6 @@ pub fn write_fault<W: Write>(
     writer: &mut Told<W>,
 ) -> Result<(), DriveFault>
     requires calls { writer.old.calls + 1025 < 2 ^ 64 }
-    requires failures { writer.old.failures + 1 < 2 ^ 64 }
     ensures written { Writes (W.contents writer.old.inner) (W.contents writer.new.inner) (ended (line_fault_text fault.now)) result }
     ensures told { Tells writer.old writer.new result }
     ensures memory { result ≡ Err DriveFault.Memory → writer.new ≡ writer.old }
@@ -58,40 +56,65 @@ pub fn write_fault<W: Write>(
     end_line(line, writer)
 }
 
-/// Writes the last line, that of the counts.
-pub fn write_counts<W: Write>(
+/// Writes the line of a check: `steps K`.
+pub fn write_steps<W: Write>(
     line: &mut Vec<u8>,
-    counts: &Counts,
+    count: usize,
     writer: &mut Told<W>,
 ) -> Result<(), DriveFault>
     requires calls { writer.old.calls + 1025 < 2 ^ 64 }
-    requires failures { writer.old.failures + 1 < 2 ^ 64 }
-    ensures written { Writes (W.contents writer.old.inner) (W.contents writer.new.inner)
-        (ended (counts_text (record { free = counts.now.free; mapped = counts.now.mapped; withheld = counts.now.withheld }))) result }
+    ensures written { Writes (W.contents writer.old.inner) (W.contents writer.new.inner) (ended (steps_text count)) result }
     ensures told { Tells writer.old writer.new result }
     ensures memory { result ≡ Err DriveFault.Memory → writer.new ≡ writer.old }
     ensures calls { writer.new.calls ≤ writer.old.calls + 1025 }
 {
     line.clear();
-    if put_counts(line, counts).is_err() {
+    if put_count(line, "steps ", count as u64).is_err() {
+        return Err(DriveFault::Memory);
+    }
+    end_line(line, writer)
+}
+
+/// Writes the last line, that of the counts.
+pub fn write_counts<W: Write>(
+    line: &mut Vec<u8>,
+    free: u32,
+    mapped: u32,
+    withheld: u32,
+    writer: &mut Told<W>,
+) -> Result<(), DriveFault>
+    requires calls { writer.old.calls + 1025 < 2 ^ 64 }
+    ensures written { Writes (W.contents writer.old.inner) (W.contents writer.new.inner)
+        (ended (counts_text (record { free = free; mapped = mapped; withheld = withheld }))) result }
+    ensures told { Tells writer.old writer.new result }
+    ensures memory { result ≡ Err DriveFault.Memory → writer.new ≡ writer.old }
+    ensures calls { writer.new.calls ≤ writer.old.calls + 1025 }
+{
+    line.clear();
+    if put_counts(line, free, mapped, withheld).is_err() {
         return Err(DriveFault::Memory);
     }
     end_line(line, writer)
 }
 
 /// Appends `free X mapped Y withheld Z`.
-fn put_counts(line: &mut Vec<u8>, counts: &Counts) -> Result<(), AllocError>
+fn put_counts(
+    line: &mut Vec<u8>,
+    free: u32,
+    mapped: u32,
+    withheld: u32,
+) -> Result<(), AllocError>
     ensures text { OnOk result (line.new.items ≡ line.old.items
-        ++ counts_text (record { free = counts.now.free; mapped = counts.now.mapped; withheld = counts.now.withheld })) }
+        ++ counts_text (record { free = free; mapped = mapped; withheld = withheld })) }
     ensures short { OnOk result (length line.new.items ≤ length line.old.items + 128) }
 {
-    put_count(line, "free ", counts.free)?;
-    put_count(line, " mapped ", counts.mapped)?;
-    put_count(line, " withheld ", counts.withheld)
+    put_count(line, "free ", free.into())?;
+    put_count(line, " mapped ", mapped.into())?;
+    put_count(line, " withheld ", withheld.into())
 }
 
 /// Appends some words and a number.
-fn put_count(line: &mut Vec<u8>, words: &str, count: u32) -> Result<(), AllocError>
+fn put_count(line: &mut Vec<u8>, words: &str, count: u64) -> Result<(), AllocError>
     ensures text { OnOk result (line.new.items ≡ line.old.items ++ (words.now ++ decimal count)) }
     ensures short { OnOk result (length line.new.items ≤ length line.old.items + length words.now + 20) }
 {
@@ -102,7 +125,6 @@ fn put_count(line: &mut Vec<u8>, words: &str, count: u32) -> Result<(), AllocErr
 /// Writes what stands in the line, and an LF behind it.
 fn end_line<W: Write>(line: &mut Vec<u8>, writer: &mut Told<W>) -> Result<(), DriveFault>
     requires calls { writer.old.calls + length line.old.items + 1 < 2 ^ 64 }
-    requires failures { writer.old.failures + 1 < 2 ^ 64 }
     ensures written { Writes (W.contents writer.old.inner) (W.contents writer.new.inner) (ended line.old.items) result }
     ensures told { Tells writer.old writer.new result }
     ensures memory { result ≡ Err DriveFault.Memory → writer.new ≡ writer.old }

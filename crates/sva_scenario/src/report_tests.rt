@@ -11,7 +11,7 @@ fn reports(alloc: Global, text: &[u8], want: &[u8], end: Outcome) -> Result<bool
     let mut reader = Told::new(text);
     let mut writer = Told::new(Vec::new(alloc));
     let outcome = drive(alloc, &mut reader, &mut writer)?;
-    Ok(outcome == end && writer.inner.as_slice() == want && reader.inner.is_empty())
+    Ok(outcome == end && writer.inner().as_slice() == want && reader.inner().is_empty())
 }
 
 /// Is this the report of a run to its end, with and without the last LF of the text?
@@ -27,6 +27,23 @@ fn runs(alloc: Global, text: &str, want: &str) -> Result<bool, DriveFault> {
 const FIRST: &str = "config 1 4 1\nspace\nmap 0 16 w\nunmap 0 16\nmap 0 16 r\n";
 
 const FIRST_REPORT: &str = "space 0\nframe 0\nfree 0\nframe 0\nfree 3 mapped 1 withheld 0\n";
+
+#[test]
+fn checks_texts(rt: HostRuntime) -> Result<(), Fail> {
+    let texts = [
+        (FIRST, "steps 4\n", Outcome::Done),
+        ("config 0 0 0\n#\nspace", "steps 1\n", Outcome::Done),
+        ("space\n", "line 1 NoConfig\n", Outcome::Faulted),
+    ];
+    for (text, want, end) in texts {
+        let mut reader = Told::new(text.as_bytes());
+        let mut writer = Told::new(Vec::new(rt.alloc()));
+        let outcome = check(rt.alloc(), &mut reader, &mut writer)?;
+        assert!(rt; outcome == end && reader.inner().is_empty(), "{text}");
+        assert!(rt; writer.inner().as_slice() == want.as_bytes(), "{text}");
+    }
+    Ok(())
+}
 
 #[test]
 fn reports_worked_runs(rt: HostRuntime) -> Result<(), Fail> {
@@ -150,9 +167,9 @@ fn stops_at_a_read_fault(rt: HostRuntime) {
         drive(alloc, &mut reader, &mut writer),
         Err(DriveFault::Read)
     );
-    assert_eq!(rt; (reader.calls, reader.failures), (6, 1));
+    assert_eq!(rt; (reader.calls(), reader.failures()), (6, 1));
     assert_eq!(rt;
-        (writer.calls, writer.failures, writer.inner.len),
+        (writer.calls(), writer.failures(), writer.inner().len),
         (0, 0, 0)
     );
 }
@@ -169,15 +186,15 @@ fn stops_at_a_write_fault(rt: HostRuntime) {
             drive(alloc, &mut reader, &mut writer),
             Err(DriveFault::Write)
         );
-        assert_eq!(rt; (writer.calls, writer.failures), (most as u64 + 1, 1));
-        assert_eq!(rt; writer.inner.len, most);
-        assert_eq!(rt; &writer.inner.taken[..most], &report[..most]);
+        assert_eq!(rt; (writer.calls(), writer.failures()), (most as u64 + 1, 1));
+        assert_eq!(rt; writer.inner().len, most);
+        assert_eq!(rt; &writer.inner().taken[..most], &report[..most]);
     }
     let mut reader = Told::new(FIRST.as_bytes());
     let mut writer = Told::new(Slow::new(58));
     assert_eq!(rt; drive(alloc, &mut reader, &mut writer), Ok(Outcome::Done));
-    assert_eq!(rt; (writer.calls, writer.failures), (58, 0));
-    assert_eq!(rt; &writer.inner.taken[..58], report);
+    assert_eq!(rt; (writer.calls(), writer.failures()), (58, 0));
+    assert_eq!(rt; &writer.inner().taken[..58], report);
 }
 
 /// Takes nothing.
@@ -202,7 +219,7 @@ fn stops_where_nothing_is_taken(rt: HostRuntime) {
         drive(rt.alloc(), &mut reader, &mut writer),
         Err(DriveFault::Write)
     );
-    assert_eq!(rt; (writer.calls, writer.failures), (1, 1));
+    assert_eq!(rt; (writer.calls(), writer.failures()), (1, 1));
 }
 
 /// With ample memory the report is whole. Where an allocation fails, a prefix of it is written, and nothing failed.
@@ -213,16 +230,16 @@ fn stops_where_memory_lacks(rt: HostRuntime) {
     let mut reader = Told::new(FIRST.as_bytes());
     let mut writer = Told::new(Slow::new(64));
     let outcome = drive(alloc, &mut reader, &mut writer);
-    let len = writer.inner.len;
+    let len = writer.inner().len;
     assert!(rt; len <= 58);
-    assert_eq!(rt; &writer.inner.taken[..len], &report[..len]);
-    assert_eq!(rt; (reader.failures, writer.failures), (0, 0));
+    assert_eq!(rt; &writer.inner().taken[..len], &report[..len]);
+    assert_eq!(rt; (reader.failures(), writer.failures()), (0, 0));
     if outcome == Err(DriveFault::Memory) {
         // No other allocation fails, so that a second run has ample memory.
         let mut again = Told::new(FIRST.as_bytes());
         let mut page = Told::new(Slow::new(64));
         assert_eq!(rt; drive(alloc, &mut again, &mut page), Ok(Outcome::Done));
-        assert_eq!(rt; &page.inner.taken[..58], report);
+        assert_eq!(rt; &page.inner().taken[..58], report);
     } else {
         assert_eq!(rt; outcome, Ok(Outcome::Done));
         assert_eq!(rt; len, 58);

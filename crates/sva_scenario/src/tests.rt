@@ -158,13 +158,13 @@ fn reads_to_the_end(rt: HostRuntime) -> Result<(), Fail> {
     let input = vec![in alloc; b'#'; 1_048_579]?;
     let mut reader = Told::new(input.as_slice());
     let kept = read_all(alloc, &mut reader)?;
-    assert_eq!(rt; (kept.len(), reader.inner.len()), (1_048_577, 0));
+    assert_eq!(rt; (kept.len(), reader.inner().len()), (1_048_577, 0));
     // 256 calls of 4096 bytes, one of 3, and the one that meets the end.
-    assert_eq!(rt; (reader.calls, reader.failures), (258, 0));
+    assert_eq!(rt; (reader.calls(), reader.failures()), (258, 0));
     for (left, calls, failures) in [(5, 6, 1), (u64::MAX, 2_097_152, 0)] {
         let mut broken = Told::new(Broken::new(left));
         assert_eq!(rt; read_all(alloc, &mut broken).err(), Some(DriveFault::Read));
-        assert_eq!(rt; (broken.calls, broken.failures), (calls, failures));
+        assert_eq!(rt; (broken.calls(), broken.failures()), (calls, failures));
     }
     Ok(())
 }
@@ -212,11 +212,11 @@ fn writes_a_front(rt: HostRuntime) {
     for most in 0..58 {
         let mut slow = Told::new(Slow::new(most));
         assert_eq!(rt; write_all(&mut slow, report), Err(DriveFault::Write));
-        assert_eq!(rt; (slow.calls, slow.failures), (most as u64 + 1, 1));
-        assert_eq!(rt; slow.inner.len, most);
-        assert_eq!(rt; &slow.inner.taken[..most], &report[..most]);
+        assert_eq!(rt; (slow.calls(), slow.failures()), (most as u64 + 1, 1));
+        assert_eq!(rt; slow.inner().len, most);
+        assert_eq!(rt; &slow.inner().taken[..most], &report[..most]);
     }
     let mut slow = Told::new(Slow::new(58));
     assert_eq!(rt; write_all(&mut slow, report), Ok(()));
-    assert_eq!(rt; &slow.inner.taken[..58], report);
+    assert_eq!(rt; &slow.inner().taken[..58], report);
 }

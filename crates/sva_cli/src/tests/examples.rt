@@ -1,10 +1,11 @@
 //! The scenarios of examples/ with their reports, as they stand there: `scripts/examples` compares them.
 
 /// Each scenario, its report, and the status of its run.
-pub const EXAMPLES: [(&str, &str, u8); 5] = [
+pub const EXAMPLES: [(&str, &str, u8); 6] = [
     (FIRST, FIRST_REPORT, 0),
     (PAGES, PAGES_REPORT, 0),
     (REFUSALS, REFUSALS_REPORT, 0),
+    (UNMAP_MANY, UNMAP_MANY_REPORT, 0),
     (TYPO, TYPO_REPORT, 1),
     (TOO_LARGE, TOO_LARGE_REPORT, 1),
 ];
@@ -123,6 +124,57 @@ refused 29 BadCount
 refused 5 PageRange
 refused 3 NoSuchSpace
 free 0 mapped 2 withheld 0
+";
+
+const UNMAP_MANY: &str =
+    "# Pages that aren't aligned to their count are unmapped at once: these go, and no others (docs/CASES.md, Ranges).
+config 1 8 1
+space
+
+# Six pages, from page 19 on, take the frames 0 to 5.
+map 0 19 w
+map 0 20 w
+map 0 21 w
+map 0 22 w
+map 0 23 w
+map 0 24 w
+
+# Four pages from page 20 on: 20 to 23. Rounded down to a multiple of four they would be the same, and from page 21 on
+# they would not be: see below.
+unmap 0 20 4
+
+# Page 19 and page 24 stay: they can't be mapped once more.
+map 0 19 r
+map 0 24 r
+
+# Frames 1 to 4 are free, the lowest comes first.
+map 0 21 w
+map 0 22 w
+map 0 23 w
+
+# Three pages from page 21 on: 21, 22 and 23. A range of four from page 20 on would have taken page 20 too.
+map 0 20 w
+unmap 0 21 3
+map 0 20 r
+";
+
+const UNMAP_MANY_REPORT: &str = "space 0
+frame 0
+frame 1
+frame 2
+frame 3
+frame 4
+frame 5
+free 1 2 3 4
+refused 6 Mapped
+refused 6 Mapped
+frame 1
+frame 2
+frame 3
+frame 4
+free 1 2 3
+refused 6 Mapped
+free 5 mapped 3 withheld 0
 ";
 
 const TYPO: &str =

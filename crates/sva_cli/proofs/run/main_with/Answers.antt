@@ -1,69 +1,94 @@
-use Rattle.std.proofs.Common.{rules, ap, Err, ◌∙◌, subst, sym}
+use Rattle.std.proofs.Common.{rules, ap, inl, inr, Err, ◌∙◌, subst, sym}
 use Rattle.std.proofs.lemmas.Result.{IfOk-weaker}
-use Rattle.clap.specs.Words.{HasKind, IsAmong, fault_of, kind_of}
+use Rattle.clap.specs.Words.{HasKind, fault_of, kind_of}
 use Rattle.sva_scenario.specs.declared.streams.DriveFault.TheVariants.{Memory}
-use Rattle.sva_cli.specs.Command.{svahost, texts}
-use Rattle.sva_cli.proofs.RunLemmas.{among_faults, caused, only_memory, reported, unwritten}
-use Rattle.sva_cli.proofs.LineLemmas.{asked_after_all, help_unmistaken, no_command_helps, takes_replay}
+use Rattle.sva_cli.specs.declared.command.Asked.TheVariants.{Replay, Check}
+use Rattle.sva_cli.specs.Command.{Asks, svahost, texts}
+use Rattle.sva_cli.specs.Run.{Reports}
+use Rattle.sva_cli.proofs.RunLemmas.{among_faults, asked_text, caused, only_memory, reported, unwritten}
+use Rattle.sva_cli.proofs.LineLemmas.{help_unmistaken, no_command_asks, no_command_taken, one_alone, takes, version_unmistaken}
 use Rattle.sva_cli.proofs.run.main_with.Goals as goal
 
-pub returns-in-Ok-clause-replay : goal.returns-in-Ok-clause-replay
-returns-in-Ok-clause-replay g c asks =
-    let drive = c.drive-ended in
-    let none = IfOk-weaker drive.result _ _ (λ _ e. (e.0, e.2)) drive.ensures.end in (
-      drive.result,
+pub returns-in-Ok-Replay-clause-run : goal.returns-in-Ok-Replay-clause-run
+returns-in-Ok-Replay-clause-run g c asked asks =
+    let ran = c.drive-ended in
+    let none = IfOk-weaker ran.result _ _ (λ _ e. (e.0, e.2)) ran.ensures.end in
+    let alone = one_alone asked Replay (texts c.args.words.now) asks (subst (λ a. Asks a (texts c.args.words.now)) c.in-Ok-Replay.field-0-is c.in-Ok-Replay.ensures.asked) in (
+      ran.result,
       c.finish.ensures.status,
-      reported _ _ _ drive.result drive.ensures.report drive.ensures.outcome (λ read. ap (λ told. g.W.Write.contents told.inner) (drive.ensures.read read).0),
-      caused drive.new.reader drive.new.writer drive.result none (λ read. (drive.ensures.read read).1) drive.ensures.write drive.ensures.memory,
+      subst (λ a. Reports a (g.R.Read.remaining c.args.reader.now.inner) (g.W.Write.contents c.args.writer.now.inner) (g.W.Write.contents ran.new.writer.inner) ran.result) (sym alone)
+          (reported Replay _ _ _ ran.result ran.ensures.report ran.ensures.outcome (λ read. ap (λ told. g.W.Write.contents told.inner) (ran.ensures.read read).0)),
+      caused ran.new.reader ran.new.writer ran.result none (λ read. (ran.ensures.read read).1) ran.ensures.write ran.ensures.memory,
       c.finish.ensures.said,
       c.finish.ensures.silent,
     )
 
-pub returns-in-Err-clause-replay : goal.returns-in-Err-clause-replay
-returns-in-Err-clause-replay g c asks =
+pub returns-in-Ok-Replay-clause-no_command : goal.returns-in-Ok-Replay-clause-no_command
+returns-in-Ok-Replay-clause-no_command g c few done = no_command_taken c.args.words.now few c.in-Ok-Replay.ensures.fails
+
+pub returns-in-Ok-Check-clause-run : goal.returns-in-Ok-Check-clause-run
+returns-in-Ok-Check-clause-run g c asked asks =
+    let ran = c.check-ended in
+    let none = IfOk-weaker ran.result _ _ (λ _ e. (e.0, e.2)) ran.ensures.end in
+    let alone = one_alone asked Check (texts c.args.words.now) asks (subst (λ a. Asks a (texts c.args.words.now)) c.in-Ok-Check.field-0-is c.in-Ok-Check.ensures.asked) in (
+      ran.result,
+      c.finish-in-Ok-Check.ensures.status,
+      subst (λ a. Reports a (g.R.Read.remaining c.args.reader.now.inner) (g.W.Write.contents c.args.writer.now.inner) (g.W.Write.contents ran.new.writer.inner) ran.result) (sym alone)
+          (reported Check _ _ _ ran.result ran.ensures.report ran.ensures.outcome (λ read. ap (λ told. g.W.Write.contents told.inner) (ran.ensures.read read).0)),
+      caused ran.new.reader ran.new.writer ran.result none (λ read. (ran.ensures.read read).1) ran.ensures.write ran.ensures.memory,
+      c.finish-in-Ok-Check.ensures.said,
+      c.finish-in-Ok-Check.ensures.silent,
+    )
+
+pub returns-in-Ok-Check-clause-no_command : goal.returns-in-Ok-Check-clause-no_command
+returns-in-Ok-Check-clause-no_command g c few done = no_command_taken c.args.words.now few c.in-Ok-Check.ensures.fails
+
+pub returns-in-Err-clause-run : goal.returns-in-Err-clause-run
+returns-in-Err-clause-run g c asked asks =
     let fails : HasKind (fault_of svahost (texts c.args.words.now)) c.in-Err.error = search rules in
-    let memory = c.answer.ensures.memory (c.kind.ensures ∙ only_memory _ c.in-Err.error (takes_replay _ asks) fails) in (
+    let memory = c.answer.ensures.memory (c.kind.ensures ∙ only_memory _ c.in-Err.error (takes asked _ asks) fails) in (
       Err Memory,
       memory.0,
-      unwritten _ _ _ (ap (λ told. g.W.Write.contents told.inner) memory.1),
+      unwritten asked _ _ _ (ap (λ told. g.W.Write.contents told.inner) memory.1),
       (c.requires.reader.1, ap (λ told. told.failures) memory.1 ∙ c.requires.writer.1),
       memory.2,
       tt,
     )
 
+pub returns-in-Err-clause-help : goal.returns-in-Err-clause-help
+returns-in-Err-clause-help g c other done =
+    let fails : HasKind (fault_of svahost (texts c.args.words.now)) c.in-Err.error = search rules in
+    let help = c.answer.ensures.help done in
+    (asked_text _ c.in-Err.error fails c.kind.result c.kind.ensures help.0, help.1, help.2, (help.3.0, help.3.1.0, help.3.2))
+
 pub returns-in-Err-clause-mistake : goal.returns-in-Err-clause-mistake
 returns-in-Err-clause-mistake g c two =
     let fails : HasKind (fault_of svahost (texts c.args.words.now)) c.in-Err.error = search rules in
-    let mistake = c.answer.ensures.mistake two in
-    ((kind_of c.in-Err.error, λ help. mistake.1 (c.kind.ensures ∙ help), among_faults _ c.in-Err.error fails (λ memory. mistake.0 (c.kind.ensures ∙ memory))), mistake.2)
-
-pub returns-in-Ok-clause-unread : goal.returns-in-Ok-clause-unread
-returns-in-Ok-clause-unread g c other = absurd (asked_after_all (texts c.args.words.now) other (search rules))
-
-pub returns-in-Ok-clause-help : goal.returns-in-Ok-clause-help
-returns-in-Ok-clause-help g c other = absurd (asked_after_all (texts c.args.words.now) other (search rules))
-
-pub returns-in-Ok-clause-fault : goal.returns-in-Ok-clause-fault
-returns-in-Ok-clause-fault g c other = absurd (asked_after_all (texts c.args.words.now) other (search rules))
-
-pub returns-in-Ok-clause-silent : goal.returns-in-Ok-clause-silent
-returns-in-Ok-clause-silent g c other = absurd (asked_after_all (texts c.args.words.now) other (search rules))
+    let mistake = c.answer.ensures.mistake two in (
+      (
+        kind_of c.in-Err.error,
+        λ help. mistake.1 (c.kind.ensures ∙ help),
+        λ version. mistake.2 (c.kind.ensures ∙ version),
+        among_faults _ c.in-Err.error fails (λ memory. mistake.0 (c.kind.ensures ∙ memory)),
+      ),
+      mistake.3,
+      (mistake.4.0, mistake.4.1.0, mistake.4.2),
+    )
 
 pub returns-in-Err-clause-silent : goal.returns-in-Err-clause-silent
 returns-in-Err-clause-silent g c other unasked =
     let fails : HasKind (fault_of svahost (texts c.args.words.now)) c.in-Err.error = search rules in
     c.answer.ensures.silent
-    (λ help.
-    let asked = sym c.kind.ensures ∙ help in
-    let among = among_faults _ c.in-Err.error fails (λ memory. cc (sym memory ∙ asked)) in
-    unasked (subst (λ kind. IsAmong kind (fault_of svahost (texts c.args.words.now))) asked among))
+    (λ help. unasked (asked_text _ c.in-Err.error fails c.kind.result c.kind.ensures (inl help)))
+    (λ version. unasked (asked_text _ c.in-Err.error fails c.kind.result c.kind.ensures (inr version)))
 
 pub returns-in-Err-clause-calls_help : goal.returns-in-Err-clause-calls_help
 returns-in-Err-clause-calls_help g c calls two = help_unmistaken _ calls (returns-in-Err-clause-mistake g c two).0
 
+pub returns-in-Err-clause-calls_version : goal.returns-in-Err-clause-calls_version
+returns-in-Err-clause-calls_version g c calls two = version_unmistaken _ calls (returns-in-Err-clause-mistake g c two).0
+
 pub returns-in-Err-clause-no_command : goal.returns-in-Err-clause-no_command
 returns-in-Err-clause-no_command g c few done =
     let fails : HasKind (fault_of svahost (texts c.args.words.now)) c.in-Err.error = search rules in
-    let asked = sym c.kind.ensures ∙ (c.answer.ensures.help done).0 in
-    let among = among_faults _ c.in-Err.error fails (λ memory. cc (sym memory ∙ asked)) in
-    no_command_helps c.args.words.now few (subst (λ kind. IsAmong kind (fault_of svahost (texts c.args.words.now))) asked among)
+    no_command_asks c.args.words.now few (asked_text _ c.in-Err.error fails c.kind.result c.kind.ensures (c.answer.ensures.help done).0)

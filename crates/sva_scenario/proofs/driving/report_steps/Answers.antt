@@ -52,11 +52,11 @@ returns-in_err-write_counts-clause-report g c = λ config taken fits seen.
     let whole = steps_report (world_after config taken) c.args.steps.now in
     let so_far = subst (λ (l : List Step). Reporting config c.loop-step.world l whole (g.W.Write.contents c.args.writer.now.inner) (g.W.Write.contents c.loop-step.writer.inner)) none (c.loop-step.invariant.reports config taken fits seen) in
     writes_front _ _ _ c.from_residual-in_err-write_counts.result c.from_residual-in_err-write_counts.ensures.0
-    (reporting_end {A = Unit {0}} config c.loop-step.world whole _ _ _ c.counts.result (Err c.in_err-write_counts.field-0.0) so_far c.counts.ensures.counts c.in_err-write_counts.ensures.written)
+    (reporting_end {A = Unit {0}} config c.loop-step.world whole _ _ _ (record { free = c.counts-counts.result.free; mapped = c.counts-counts.result.mapped; withheld = c.counts-counts.result.withheld }) (Err c.in_err-write_counts.field-0.0) so_far c.counts-counts.ensures.counts c.in_err-write_counts.ensures.written)
 
 pub returns-clause-report : goal.returns-clause-report
 returns-clause-report g c = λ config taken fits seen.
     let none = none_left c.args.steps.now c.loop-step.step-index c.loop-step-test.false in
     let whole = steps_report (world_after config taken) c.args.steps.now in
     let so_far = subst (λ (l : List Step). Reporting config c.loop-step.world l whole (g.W.Write.contents c.args.writer.now.inner) (g.W.Write.contents c.loop-step.writer.inner)) none (c.loop-step.invariant.reports config taken fits seen) in
-    reporting_end {A = Unit {0}} config c.loop-step.world whole _ _ _ c.counts.result (Ok tt) so_far c.counts.ensures.counts c.in_ok-write_counts.ensures.written
+    reporting_end {A = Unit {0}} config c.loop-step.world whole _ _ _ (record { free = c.counts-counts.result.free; mapped = c.counts-counts.result.mapped; withheld = c.counts-counts.result.withheld }) (Ok tt) so_far c.counts-counts.ensures.counts c.in_ok-write_counts.ensures.written

@@ -7,7 +7,7 @@ pub returns-then-count-eq0-clause-ok : goal.returns-then-count-eq0-clause-ok
 returns-then-count-eq0-clause-ok g c =
     let none : c.in-Some.count ≡ 0 = omega arith in
     KeepsFront-all 1048577 c.in-Some.count _ _ _ c.loop-turn.kept.items c.read_once.new.piece none c.loop-turn.invariant.kept c.in-Some.ensures.read.2
-    (c.in-Some.ensures.end (ap Some none) (omega arith))
+    (c.in-Some.ensures.end (ap Some none))
 
 pub returns-then-is_err-clause-memory : goal.returns-then-is_err-clause-memory
 returns-then-is_err-clause-memory g c _ = (

@@ -1,0 +1,65 @@
+// What the program says of itself. `svahost`, the script, reads its texts here as long as the program isn't built, so each
+// of them stands once: a new step is a line of `HELP`.
+
+/// The program's version.
+pub const VERSION: &str = "0.1.0";
+
+/// What `-h` says of the program.
+pub const ABOUT: &str = "Runs scenarios of a host for shared virtual addressing";
+
+/// What `-h` says of `replay`.
+pub const REPLAY: &str = "Runs the scenario on standard input, and prints its report";
+
+/// What `-h` says of `check`.
+pub const CHECK: &str = "Reads the scenario on standard input, and prints how many steps it has";
+
+/// What is written where clap has no text for a command line.
+pub const NO_TEXT: &str =
+    "svahost: nothing is known of this command line; docs/FORMAT.md describes the program\n";
+
+/// What `--help` says.
+pub const HELP: &str =
+    "Runs scenarios of a host for shared virtual addressing: PCI Express ATS, PRI and PASIDs,
+with the invalidations and page requests of Intel VT-d.
+
+A scenario is a text on standard input. Its first line is the config: how many endpoints, frames
+and workers there are. Each further line is a step. Lines that are empty or begin with # are
+skipped. A first scenario:
+
+    # one endpoint, four frames, one worker
+    config 1 4 1
+    # an address space, whose number is 0
+    space
+    # page 16 of space 0 leads to the lowest free frame, and may be read and written
+    map 0 16 w
+    # no endpoint is bound to the space, so the frame is free at once
+    unmap 0 16
+    # r: it may only be read
+    map 0 16 r
+
+`svahost replay` runs the steps and prints a report, a line for each step and last the counts:
+
+    space 0
+    frame 0
+    free 0
+    frame 0
+    free 3 mapped 1 withheld 0
+
+`svahost check` runs nothing and prints `steps 4`.
+
+The config, and the steps that are read so far. S is a space, and a word in brackets may be missing:
+
+    config E N W          1 to 8 endpoints, 1 to 4096 frames, 1 to 4 workers
+    space                 a new empty space; at most 64 live ones
+    map S PAGE r          the page leads to the lowest free frame, for reading
+    map S PAGE w          for writing and reading; at most 1024 pages a space, numbers below 2^36
+    unmap S PAGE [COUNT]  1 to 48 pages, 1 if missing, from PAGE on leave the space
+
+A step that isn't allowed is answered `refused N Name`, changes nothing, and the run goes on. Where
+a line can't be read nothing is run, and the report is that line's fault alone: `line 2 WordCount`.
+
+The status is 0 where the steps were run; 1 for a line that can't be read, for a config that is out
+of its limits, and for a fault of a stream or of memory, of which standard error tells; and 2 for a
+wrong command line.
+
+docs/FORMAT.md describes scenarios, steps, refusals and reports, and examples/ has more of them.";

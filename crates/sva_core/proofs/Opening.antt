@@ -4,6 +4,7 @@ use Rattle.std.proofs.lemmas.List.Sums.{sum_by-cons, sum_by_push}
 use Rattle.sva_step.specs.declared.limits.Config.{Config}
 use Rattle.sva_frames.specs.Frames.{Holding, Free, Mapped, Withheld, is_mapped, is_withheld}
 use Rattle.sva_frames.proofs.Pools.{map-replicate}
+use Rattle.sva_model.specs.State.PasidRule.{PerSpace}
 use Rattle.sva_model.specs.Words.{tabulate, count_below, all_below, the}
 use Rattle.sva_model.specs.State.{World, opened, MappingState, Owed}
 use Rattle.sva_model.specs.State.MappingState.{Present, Gone}
@@ -20,7 +21,7 @@ use Rattle.sva_core.specs.Pieces.{is_mapped_wire, is_withheld_wire}
 
 -- the world in which nothing has happened
 pub opened-seen : (config : Config) (lives : List Live) (frames : List Holding) → lives ≡ [] → frames ≡ replicate config.frames Free
-    → record (first_wire config) { spaces = spaces_seen lives; places = places_seen frames } ≡ wire (opened config)
+    → record (first_wire config) { spaces = spaces_seen lives; places = places_seen frames } ≡ wire (opened PerSpace config)
 opened-seen config lives frames none all =
     (λ i. record (first_wire config) {
       spaces = ap spaces_seen none i;
@@ -58,13 +59,13 @@ kind-is : (w : World) (f : ℕ) (o : Option ℕ) → w.mappings.latest f ≡ o �
 kind-is w f None latest = refl
 kind-is w f (Some m) latest = by_state (w.mappings.state m) refl
   where
-    of_gone : (owed : ℕ → Owed) (b : Bool) → withheld_wire w (w.mappings.state (the (w.mappings.latest f))) ≡ withheld_wire w (Gone owed) → kind (place_wire_by w f (place_of_gone b)) ≡ place_of_gone b
+    of_gone : (owed : ℕ → Owed) (b : Bool) → withheld_wire w.config.first w.config.endpoints w.part (w.mappings.state (the (w.mappings.latest f))) ≡ withheld_wire w.config.first w.config.endpoints w.part (Gone owed) → kind (place_wire_by w f (place_of_gone b)) ≡ place_of_gone b
     of_gone owed true is = refl
     of_gone owed false is = ap kind is
 
     by_state : (s : MappingState) → w.mappings.state m ≡ s → kind (place_wire_by w f (place_by w s)) ≡ place_by w s
     by_state Present is = refl
-    by_state (Gone owed) is = of_gone owed (all_below w.config.endpoints (λ e. answered (w.part e) (owed e))) (ap (λ (o : Option ℕ). withheld_wire w (w.mappings.state (the o))) latest ∙ ap (withheld_wire w) is)
+    by_state (Gone owed) is = of_gone owed (all_below w.config.endpoints (λ e. answered (w.part e) (owed e))) (ap (λ (o : Option ℕ). withheld_wire w.config.first w.config.endpoints w.part (w.mappings.state (the o))) latest ∙ ap (withheld_wire w.config.first w.config.endpoints w.part) is)
     by_state _ is = refl
 
 count-tabulate : (q : PlaceWire → Bool) (p : ℕ → Bool) (n : ℕ) (g : ℕ → PlaceWire) → ((f : ℕ) → q (g f) ≡ p f) → count_by q (tabulate n g) ≡ count_below n p

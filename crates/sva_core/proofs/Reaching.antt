@@ -5,6 +5,7 @@ use Rattle.sva_frames.specs.declared.pool.Counts.{Counts as FrameCounts}
 use Rattle.sva_step.specs.declared.limits.Config.{Config}
 use Rattle.sva_step.specs.declared.refusals.Refusal.TheVariants as refusal
 use Rattle.sva_step.specs.declared.steps.Step.{Step}
+use Rattle.sva_model.specs.State.PasidRule.{PerSpace}
 use Rattle.sva_model.specs.State.{World, opened}
 use Rattle.sva_model.specs.Claims.{Fits}
 use Rattle.sva_model.specs.Steps.{Reply, reply, next, world_after}
@@ -22,24 +23,24 @@ at_world w s result after replies nexts by = (by.0 ∙ sym replies, by.1 ∙ sym
 pub follows : NumbersAreNames → (before : Wire) (s : Step) (result : Reply) (after : Wire) → IsOfSpaces s → IsIdle before → ByNumbers before s result after → Follows before s result after
 follows law before s result after of_spaces idle by config steps fits is =
     let same = law config steps s fits of_spaces (subst (λ (b : Wire). IsIdle b) is idle) in
-    at_world (world_after config steps) s result after same.0 same.1 (subst (λ (b : Wire). ByNumbers b s result after) is by)
+    at_world (world_after PerSpace config steps) s result after same.0 same.1 (subst (λ (b : Wire). ByNumbers b s result after) is by)
 
 -- a world more
-reached_at : (config : Config) (steps : List Step) (s : Step) (result : Reply) (after : Wire) → Fits config → FollowsAt (world_after config steps) s result after → IsReached after
+reached_at : (config : Config) (steps : List Step) (s : Step) (result : Reply) (after : Wire) → Fits config → FollowsAt (world_after PerSpace config steps) s result after → IsReached after
 reached_at config steps s (Err refusal.OutOfMemory) after fits at = record { config = config; steps = steps; fits = fits; is_wire = at.1 }
-reached_at config steps s result after fits at = record { config = config; steps = steps ++ s ∷ []; fits = fits; is_wire = at.1 ∙ sym (ap wire (after_one config steps s)) }
+reached_at config steps s result after fits at = record { config = config; steps = steps ++ s ∷ []; fits = fits; is_wire = at.1 ∙ sym (ap wire (after_one PerSpace config steps s)) }
 
 pub reached : (before : Wire) (s : Step) (result : Reply) (after : Wire) → IsReached before → Follows before s result after → IsReached after
 reached before s result after was step = reached_at was.config was.steps s result after was.fits (step was.config was.steps was.fits was.is_wire)
 
-pub reached_opened : (config : Config) (seen : Wire) → Fits config → seen ≡ wire (opened config) → IsReached seen
+pub reached_opened : (config : Config) (seen : Wire) → Fits config → seen ≡ wire (opened PerSpace config) → IsReached seen
 reached_opened config seen fits is = record { config = config; steps = []; fits = fits; is_wire = is }
 
 pub counts_of : (seen : Wire) (found : FrameCounts) → Counted seen found → CountsOf seen found
 counts_of seen found counted config steps fits is = (
-  counted.0 ∙ ap (λ (w : Wire). count_by is_free_wire w.places) is ∙ free-counted (world_after config steps),
-  counted.1 ∙ ap (λ (w : Wire). count_by is_mapped_wire w.places) is ∙ mapped-counted (world_after config steps),
-  counted.2 ∙ ap (λ (w : Wire). count_by is_withheld_wire w.places) is ∙ withheld-counted (world_after config steps),
+  counted.0 ∙ ap (λ (w : Wire). count_by is_free_wire w.places) is ∙ free-counted (world_after PerSpace config steps),
+  counted.1 ∙ ap (λ (w : Wire). count_by is_mapped_wire w.places) is ∙ mapped-counted (world_after PerSpace config steps),
+  counted.2 ∙ ap (λ (w : Wire). count_by is_withheld_wire w.places) is ∙ withheld-counted (world_after PerSpace config steps),
 )
 
 -- Runs: one step more at the end.
@@ -48,15 +49,15 @@ one_step : (w : World) (s : Step) (r : Reply) (last : Wire) → FollowsAt w s r 
 one_step w s (Err refusal.OutOfMemory) last at memory = (at.0, λ none. memory none refl, at.1)
 one_step w s r last at memory = at
 
-pub ran-more : (config : Config) (before steps : List Step) (rs : List Reply) (s : Step) (r : Reply) (last after : Wire) → Fits config → Ran (world_after config before) steps rs last → Follows last s r after → (TakesNoMemory s → r ≢ Err refusal.OutOfMemory) → Ran (world_after config before) (steps ++ s ∷ []) (rs ++ r ∷ []) after
-ran-more config before [] [] s r last after fits ran step memory = one_step (world_after config before) s r after (step config before fits ran) memory
+pub ran-more : (config : Config) (before steps : List Step) (rs : List Reply) (s : Step) (r : Reply) (last after : Wire) → Fits config → Ran (world_after PerSpace config before) steps rs last → Follows last s r after → (TakesNoMemory s → r ≢ Err refusal.OutOfMemory) → Ran (world_after PerSpace config before) (steps ++ s ∷ []) (rs ++ r ∷ []) after
+ran-more config before [] [] s r last after fits ran step memory = one_step (world_after PerSpace config before) s r after (step config before fits ran) memory
 ran-more config before [] (r0 ∷ rs) s r last after fits ran step memory = absurd ran
 ran-more config before (s0 ∷ ss) [] s r last after fits ran step memory = absurd ran
 ran-more config before (s0 ∷ ss) (Err refusal.OutOfMemory ∷ rs) s r last after fits ran step memory = (ran.0, ran.1, ran-more config before ss rs s r last after fits ran.2 step memory)
 ran-more config before (s0 ∷ ss) (r0 ∷ rs) s r last after fits ran step memory = (
   ran.0,
-  subst (λ (w : World). Ran w (ss ++ s ∷ []) (rs ++ r ∷ []) after) (after_one config before s0)
-      (ran-more config (before ++ s0 ∷ []) ss rs s r last after fits (subst (λ (w : World). Ran w ss rs last) (sym (after_one config before s0)) ran.1) step memory),
+  subst (λ (w : World). Ran w (ss ++ s ∷ []) (rs ++ r ∷ []) after) (after_one PerSpace config before s0)
+      (ran-more config (before ++ s0 ∷ []) ss rs s r last after fits (subst (λ (w : World). Ran w ss rs last) (sym (after_one PerSpace config before s0)) ran.1) step memory),
 )
 
 pub follows_on : (before old : Wire) (s : Step) (result : Reply) (after : Wire) → before ≡ old → Follows before s result after → Follows old s result after
@@ -73,8 +74,8 @@ take_next (s ∷ ss) (suc i) other within =
     let same : suc i + 1 ≡ suc (i + 1) = omega arith in
     ap (λ (k : ℕ). take k (s ∷ ss)) same ∙ ap (λ ts. s ∷ ts) (take_next ss i other (omega arith))
 
-pub ran_next : (config : Config) (steps : List Step) (i : ℕ) (other : Step) (rs rs_after : List Reply) (r : Reply) (last after : Wire) → Fits config → i < length steps → Ran (opened config) (take i steps) rs last → Follows last (get_or steps i other) r after → (TakesNoMemory (get_or steps i other) → r ≢ Err refusal.OutOfMemory) → rs_after ≡ rs ++ r ∷ [] → Ran (opened config) (take (i + 1) steps) rs_after after
+pub ran_next : (config : Config) (steps : List Step) (i : ℕ) (other : Step) (rs rs_after : List Reply) (r : Reply) (last after : Wire) → Fits config → i < length steps → Ran (opened PerSpace config) (take i steps) rs last → Follows last (get_or steps i other) r after → (TakesNoMemory (get_or steps i other) → r ≢ Err refusal.OutOfMemory) → rs_after ≡ rs ++ r ∷ [] → Ran (opened PerSpace config) (take (i + 1) steps) rs_after after
 ran_next config steps i other rs rs_after r last after fits within ran step memory pushed =
-    subst (λ (qs : List Reply). Ran (opened config) (take (i + 1) steps) qs after) (sym pushed)
-    (subst (λ (ss : List Step). Ran (opened config) ss (rs ++ r ∷ []) after) (sym (take_next steps i other within))
+    subst (λ (qs : List Reply). Ran (opened PerSpace config) (take (i + 1) steps) qs after) (sym pushed)
+    (subst (λ (ss : List Step). Ran (opened PerSpace config) ss (rs ++ r ∷ []) after) (sym (take_next steps i other within))
     (ran-more config [] (take i steps) rs (get_or steps i other) r last after fits ran step memory))

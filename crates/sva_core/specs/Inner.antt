@@ -13,6 +13,7 @@ wire_of host =
     record {
       spaces = spaces_seen host.spaces.items;
       places = places_seen host.pool;
+      bindings = [];
       parts = replicate host.endpoints idle;
       jobs = [];
       hands = replicate host.workers None;

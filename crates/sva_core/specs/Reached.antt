@@ -6,6 +6,7 @@ use Rattle.sva_step.specs.declared.refusals.Refusal.{Refusal}
 use Rattle.sva_step.specs.declared.refusals.Refusal.TheVariants as refusal
 use Rattle.sva_step.specs.declared.steps.Step.{Step}
 use Rattle.sva_step.specs.declared.steps.Step.TheVariants as step
+use Rattle.sva_model.specs.State.PasidRule.{PerSpace}
 use Rattle.sva_model.specs.State.{World}
 use Rattle.sva_model.specs.Claims.{Fits}
 use Rattle.sva_model.specs.Steps.{Reply, reply, next, counts, world_after}
@@ -25,23 +26,23 @@ TakesNoMemory _ = ⊥
 -- a step from what the host keeps, as the definitions have it at each world after some list of steps that is seen so
 abbrev pub Follows : Wire → Step → Reply → Wire → Type 0
 Follows before s result after =
-    (config : Config) (steps : List Step) → Fits config → before ≡ wire (world_after config steps)
-    → FollowsAt (world_after config steps) s result after
+    (config : Config) (steps : List Step) → Fits config → before ≡ wire (world_after PerSpace config steps)
+    → FollowsAt (world_after PerSpace config steps) s result after
 
 -- some list of steps leads to a world that is seen so
 pub record IsReached (seen : Wire) : Type 0 where
   pub config : Config
   pub steps : List Step
   pub fits : Fits config
-  pub is_wire : seen ≡ wire (world_after config steps)
+  pub is_wire : seen ≡ wire (world_after PerSpace config steps)
 
 -- the counts of frames, as the definitions have them at each world after some list of steps that is seen so
 abbrev pub CountsOf : Wire → FrameCounts → Type 0
 CountsOf seen found =
-    (config : Config) (steps : List Step) → Fits config → seen ≡ wire (world_after config steps)
-    → (found.free ≡ (counts (world_after config steps)).free)
-    × (found.mapped ≡ (counts (world_after config steps)).mapped)
-    × (found.withheld ≡ (counts (world_after config steps)).withheld)
+    (config : Config) (steps : List Step) → Fits config → seen ≡ wire (world_after PerSpace config steps)
+    → (found.free ≡ (counts (world_after PerSpace config steps)).free)
+    × (found.mapped ≡ (counts (world_after PerSpace config steps)).mapped)
+    × (found.withheld ≡ (counts (world_after PerSpace config steps)).withheld)
 
 -- the answers to a list of steps, and what the last world is seen as; a step that had no memory is left out, and it is one
 -- that takes memory

@@ -4,6 +4,7 @@ ghost use Rattle.std.specs.Prelude.{◌≡◌, ◌≢◌, ◌≤◌, ◌^◌, Er
 ghost use Rattle.sva_step.specs.declared.limits.Config.{Config};
 ghost use Rattle.sva_step.specs.declared.refusals.Refusal.TheVariants as refusal;
 ghost use Rattle.sva_step.specs.declared.steps.Step.TheVariants as step;
+ghost use Rattle.sva_model.specs.State.PasidRule.{PerSpace};
 ghost use Rattle.sva_model.specs.State.{opened};
 ghost use Rattle.sva_model.specs.Wire.{wire};
 ghost use Rattle.sva_wire.specs.Host.{IsIdle, IsOfSpaces};
@@ -53,7 +54,7 @@ impl Host {
     pub fn open(alloc: Global, config: Config) -> Result<Host, AllocError>
         requires first { config.first ≤ 2 ^ 63 }
         requires frames { config.frames ≤ 4096 }
-        ensures { IfOk result (λ host. host ≡ wire (opened config)) }
+        ensures { IfOk result (λ host. host ≡ wire (opened PerSpace config)) }
     {
         Ok(Host {
             alloc,
@@ -94,7 +95,9 @@ impl Host {
             | Step::Finish { .. }
             | Step::Quit { .. }
             | Step::Deliver { .. }
-            | Step::Look { .. } => unreachable!(),
+            | Step::Look { .. }
+            | Step::UnmapRange { .. }
+            | Step::Bearer { .. } => unreachable!(),
         }
     }
 

@@ -3,6 +3,7 @@
 ghost use Rattle.std.specs.Prelude.{◌≡◌, ◌↔◌, All, IfOk, IfErr, Err};
 ghost use Rattle.sva_step.specs.declared.limits.Config.{Config};
 ghost use Rattle.sva_step.specs.declared.refusals.Refusal.TheVariants as refusal;
+ghost use Rattle.sva_model.specs.State.PasidRule.{PerSpace};
 ghost use Rattle.sva_model.specs.Claims.{Fits};
 ghost use Rattle.sva_model.specs.State.{opened};
 ghost use Rattle.sva_wire.specs.Host.{IsOfSpaces};
@@ -21,7 +22,7 @@ pub fn run(
     steps: &[Step],
 ) -> Result<(World, Vec<Result<Answer, Refusal>>), Refusal>
     requires { All IsOfSpaces steps.now }
-    ensures ok { IfOk result (λ ran. Ran (opened config) steps.now ran.1.items ran.0) }
+    ensures ok { IfOk result (λ ran. Ran (opened PerSpace config) steps.now ran.1.items ran.0) }
     ensures bad { (result ≡ Err refusal.BadConfig) ↔ (Fits config → ⊥) }
     ensures memory { IfErr result IsOpenRefusal }
 {

@@ -3,6 +3,7 @@
 ghost use Rattle.std.specs.Prelude.{◌≡◌, ◌≢◌, ◌↔◌, IfOk, IfErr, Err, IsTrue};
 ghost use Rattle.sva_step.specs.declared.limits.Config.{Config};
 ghost use Rattle.sva_step.specs.declared.refusals.Refusal.TheVariants as refusal;
+ghost use Rattle.sva_model.specs.State.PasidRule.{PerSpace};
 ghost use Rattle.sva_model.specs.Claims.{Fits};
 ghost use Rattle.sva_model.specs.State.{opened};
 ghost use Rattle.sva_model.specs.Wire.{wire};
@@ -36,7 +37,7 @@ impl World {
     /// The world of a config in which nothing has happened. A config out of its limits is `BadConfig`; the only other
     /// refusal is `OutOfMemory`.
     pub fn open(alloc: Global, config: Config) -> Result<World, Refusal>
-        ensures ok { IfOk result (λ world. (Fits config) × (world ≡ wire (opened config))) }
+        ensures ok { IfOk result (λ world. (Fits config) × (world ≡ wire (opened PerSpace config))) }
         ensures bad { (result ≡ Err refusal.BadConfig) ↔ (Fits config → ⊥) }
         ensures memory { IfErr result IsOpenRefusal }
     {

@@ -3,7 +3,7 @@
 use Rattle.std.specs.Prelude.{ℕ, zero, suc, ◌+◌, ◌-◌, ◌*◌, ◌^◌, Bool, true, false, ◌&&◌, ◌||◌, not, ◌==◌, nat_lt, nat_le, if◌then◌else◌, is_some, is_none, Option, Some, None, option_map, List, [], ◌∷◌, ◌++◌, map, filter, drop, length, replicate, slice_set, slice_index_or}
 use Rattle.std.specs.List.{list_all, enumerate_from}
 use Rattle.sva_model.specs.Words.{tabulate, count_below}
-use Rattle.sva_model.specs.Range.{Range, RangeCode, decode}
+use Rattle.sva_model.specs.Range.{Range, Code as RangeCode, decode}
 use Rattle.sva_model.specs.Message.{Code, Message, Scope}
 use Rattle.sva_model.specs.Message.Scope.{Coded, Everything}
 use Rattle.sva_model.specs.Message.Message.{StartMessage, StopMessage, ResetMessage, InvalidateMessage, ResponseMessage, RequestMessage, InvalidatedMessage, PageRequestMessage, MarkerMessage, ResetDoneMessage}

@@ -15,6 +15,7 @@ use Rattle.sva_step.specs.declared.steps.Step.{Step}
 use Rattle.sva_step.specs.Refusals.{name_of, number_of, refusal_text}
 use Rattle.sva_step.specs.Texts.{answer_text, frames_text}
 use Rattle.sva_step.proofs.RefusalLemmas.{number_of-le}
+use Rattle.sva_model.specs.State.PasidRule.{PerSpace}
 use Rattle.sva_model.specs.State.{World}
 use Rattle.sva_model.specs.Claims.{Fits}
 use Rattle.sva_model.specs.Steps.{Counts, Reply, reply, replies, next, run, counts, world_after}
@@ -53,13 +54,13 @@ followed w step (Err _) after ne h = h
 pub record Reporting (config : Config) (seen : Wire) (left : List Step) (whole : List ℕ) (old now : Option (List ℕ)) : Type 0 where
   pub fits : Fits config
   pub taken : List Step
-  pub is_seen : seen ≡ wire (world_after config taken)
+  pub is_seen : seen ≡ wire (world_after PerSpace config taken)
   pub written : List ℕ
   pub appended : Appends old now written
-  pub rest : written ++ steps_report (world_after config taken) left ≡ whole
+  pub rest : written ++ steps_report (world_after PerSpace config taken) left ≡ whole
 
-pub reporting_start : (config : Config) (taken steps : List Step) (seen : Wire) (known : Option (List ℕ)) → Fits config → seen ≡ wire (world_after config taken)
-    → Reporting config seen steps (steps_report (world_after config taken) steps) known known
+pub reporting_start : (config : Config) (taken steps : List Step) (seen : Wire) (known : Option (List ℕ)) → Fits config → seen ≡ wire (world_after PerSpace config taken)
+    → Reporting config seen steps (steps_report (world_after PerSpace config taken) steps) known known
 reporting_start config taken steps seen known f e =
     record { fits = f; taken = taken; is_seen = e; written = []; appended = Appends-nil known; rest = refl }
 
@@ -72,7 +73,7 @@ pub reporting_step : (config : Config) (before after : Wire) (step : Step) (left
     → Reporting config before (step ∷ left) whole old now → (result ≡ Err OutOfMemory → ⊥) → Follows before step result after
     → Appends now new (ended (reply_text result)) → Reporting config after left whole old new
 reporting_step config before after step left whole old now new result r ne follows appended =
-    let w = world_after config r.taken in
+    let w = world_after PerSpace config r.taken in
     let one = run_one _ r.taken step in
     let is = followed w step result after ne (follows config r.taken r.fits r.is_seen) in
     record {
@@ -93,7 +94,7 @@ pub reporting_cut : (config : Config) (before after : Wire) (step : Step) (left 
     → Reporting config before (step ∷ left) whole old now → (result ≡ Err OutOfMemory → ⊥) → Follows before step result after
     → AppendsPrefix now new (ended (reply_text result)) → AppendsPrefix old new whole
 reporting_cut config before after step left whole old now new result r ne follows front =
-    let w = world_after config r.taken in
+    let w = world_after PerSpace config r.taken in
     let is = followed w step result after ne (follows config r.taken r.fits r.is_seen) in
     let line = ended (reply_text result) in
     let all = append_assoc r.written line (steps_report (next w step) left) ∙ ap (λ l. r.written ++ l) (line_and_rest w step left result is.0) ∙ r.rest in
@@ -103,14 +104,14 @@ reporting_cut config before after step left whole old now new result r ne follow
 -- what is written is a prefix of the whole
 pub reporting_stop : (config : Config) (seen : Wire) (left : List Step) (whole : List ℕ) (old now : Option (List ℕ)) → Reporting config seen left whole old now
     → AppendsPrefix old now whole
-reporting_stop config seen left whole old now r = (r.written, steps_report (world_after config r.taken) left, r.rest, r.appended)
+reporting_stop config seen left whole old now r = (r.written, steps_report (world_after PerSpace config r.taken) left, r.rest, r.appended)
 
 -- the counts as the definitions have them
 -- the counts that were found are those of each world that is seen so
 abbrev pub Counted : Wire → Counts → Type 0
-Counted seen found = (config : Config) (taken : List Step) → Fits config → seen ≡ wire (world_after config taken)
-    → (found.free ≡ (counts (world_after config taken)).free) × (found.mapped ≡ (counts (world_after config taken)).mapped)
-    × (found.withheld ≡ (counts (world_after config taken)).withheld)
+Counted seen found = (config : Config) (taken : List Step) → Fits config → seen ≡ wire (world_after PerSpace config taken)
+    → (found.free ≡ (counts (world_after PerSpace config taken)).free) × (found.mapped ≡ (counts (world_after PerSpace config taken)).mapped)
+    × (found.withheld ≡ (counts (world_after PerSpace config taken)).withheld)
 
 writes_after : {A : Type 0} (old now new : Option (List ℕ)) (first more : List ℕ) (result : Result A DriveFault) → Appends old now first → Writes now new more result
     → Writes old new (first ++ more) result
@@ -120,7 +121,7 @@ writes_after old now new first more (Err fault) p q = AppendsPrefix-after old no
 pub reporting_end : {A : Type 0} (config : Config) (seen : Wire) (whole : List ℕ) (old now new : Option (List ℕ)) (found : Counts) (result : Result A DriveFault)
     → Reporting config seen [] whole old now → Counted seen found → Writes now new (ended (counts_text found)) result → Writes old new whole result
 reporting_end config seen whole old now new found result r of line =
-    let w = world_after config r.taken in
+    let w = world_after PerSpace config r.taken in
     let same = of config r.taken r.fits r.is_seen in
     let counted : found ≡ counts w = λ i. record { free = same.0 i; mapped = same.1 i; withheld = same.2 i } in
     let all = ap (λ c. r.written ++ ended (counts_text c)) counted ∙ ap (λ l. r.written ++ l) (sym (steps_report-end w)) ∙ r.rest in
@@ -157,6 +158,9 @@ pub record HasRanges (P : Answer → Type 0) : Type 0 where
   pub group : (n : ℕ) → P (answer.Group n) → n < 2 ^ 64
   pub sent : (n : ℕ) → P (answer.Sent n) → n < 2 ^ 64
   pub freed : (n : ℕ) → P (answer.Freed n) → n < 2 ^ 64
+  pub range_free : (n : ℕ) → P (answer.RangeFree n) → n < 2 ^ 64
+  pub range_withheld : (n : ℕ) → P (answer.RangeWithheld n) → n < 2 ^ 64
+  pub bearer : (n m : ℕ) → P (answer.Bearer n m) → (n < 2 ^ 64) × (m < 2 ^ 64)
 
 frames_short : (frames : List ℕ) → ((i : ℕ) → i < length frames → get_or frames i 0 < 2 ^ 64) → length (frames_text frames) ≤ 21 * length frames
 frames_short [] h = omega arith
@@ -189,6 +193,10 @@ answer_short P r (answer.Use n m) h =
 answer_short P r (answer.Group n) h = let d = decimal_short n (r.group n h) in simp length-append (omega arith)
 answer_short P r (answer.Sent n) h = let d = decimal_short n (r.sent n h) in simp length-append (omega arith)
 answer_short P r (answer.Freed n) h = let d = decimal_short n (r.freed n h) in simp length-append (omega arith)
+answer_short P r (answer.RangeFree n) h = let d = decimal_short n (r.range_free n h) in simp length-append (omega arith)
+answer_short P r (answer.RangeWithheld n) h = let d = decimal_short n (r.range_withheld n h) in simp length-append (omega arith)
+answer_short P r (answer.Bearer n m) h =
+    let f = r.bearer n m h in let d = decimal_short n f.0 in let e = decimal_short m f.1 in simp length-append (omega arith)
 answer_short P r _ h = omega arith
 
 pub reply_short : (P : Reply → Type 0) → HasRanges (λ a. P (Ok a)) → (result : Reply) → P result → length (reply_text result) ≤ 1024

@@ -11,6 +11,7 @@ use Rattle.sva_step.specs.declared.steps.Step.{Step}
 use Rattle.sva_step.specs.declared.steps.Step.TheVariants.{Space, Map, Unmap}
 use Rattle.sva_step.specs.declared.refusals.Refusal.TheVariants.{BadConfig}
 use Rattle.sva_step.specs.Refusals.{refusal_text}
+use Rattle.sva_model.specs.State.PasidRule.{PerSpace}
 use Rattle.sva_model.specs.State.{opened}
 use Rattle.sva_model.specs.Claims.{Fits}
 use Rattle.sva_wire.specs.Host.{IsOfSpaces}
@@ -218,14 +219,14 @@ pub unfit_report : (config : Config) (steps : List Step) → (Fits config → �
 unfolding script_report
 unfit_report config steps unfit =
     let is = unfit_from config unfit in
-    (ap (λ t. cond t (steps_report (opened config) steps) (ended (refusal_text BadConfig))) is, ap (λ t. cond t Done Faulted) is)
+    (ap (λ t. cond t (steps_report (opened PerSpace config) steps) (ended (refusal_text BadConfig))) is, ap (λ t. cond t Done Faulted) is)
 
 pub fit_report : (config : Config) (steps : List Step) → Fits config
-    → (script_report (record { config = config; steps = steps }) ≡ steps_report (opened config) steps) × (cond (is_fit config) Done Faulted ≡ Done)
+    → (script_report (record { config = config; steps = steps }) ≡ steps_report (opened PerSpace config) steps) × (cond (is_fit config) Done Faulted ≡ Done)
 unfolding script_report
 fit_report config steps fits =
     let is = fit_from config fits in
-    (ap (λ t. cond t (steps_report (opened config) steps) (ended (refusal_text BadConfig))) is, ap (λ t. cond t Done Faulted) is)
+    (ap (λ t. cond t (steps_report (opened PerSpace config) steps) (ended (refusal_text BadConfig))) is, ap (λ t. cond t Done Faulted) is)
 
 -- ---- What was read is what counts
 

@@ -5,6 +5,7 @@ use Rattle.sva_step.specs.declared.refusals.Refusal.TheVariants.{BadConfig}
 use Rattle.sva_step.specs.declared.steps.Step.{Step}
 use Rattle.sva_step.specs.Refusals.{refusal_text}
 use Rattle.sva_step.specs.Texts.{answer_text}
+use Rattle.sva_model.specs.State.PasidRule.{PerSpace}
 use Rattle.sva_model.specs.State.{World, opened}
 use Rattle.sva_model.specs.Claims.{Fits}
 use Rattle.sva_model.specs.Steps.{Counts, Reply, counts, replies, run, world_after}
@@ -47,7 +48,7 @@ is_fit config =
 
 -- a config that is out of its limits is refused, and no step is taken
 unfoldable pub script_report : Script → List ℕ
-script_report script = if is_fit script.config then steps_report (opened script.config) script.steps else ended (refusal_text BadConfig)
+script_report script = if is_fit script.config then steps_report (opened PerSpace script.config) script.steps else ended (refusal_text BadConfig)
 
 -- the report of what was read: a line fault stands alone
 abbrev pub report_by : Result Script LineFault → List ℕ
@@ -93,5 +94,5 @@ check_outcome_of text = check_outcome_by (scenario_of text)
 -- is seen so; a prefix of it where the result is a fault.
 abbrev pub ReportsFrom : {A : Type 0} → Wire → List Step → Option (List ℕ) → Option (List ℕ) → Result A DriveFault → Type 0
 ReportsFrom seen steps old new result =
-    (config : Config) (taken : List Step) → Fits config → seen ≡ wire (world_after config taken)
-    → Writes old new (steps_report (world_after config taken) steps) result
+    (config : Config) (taken : List Step) → Fits config → seen ≡ wire (world_after PerSpace config taken)
+    → Writes old new (steps_report (world_after PerSpace config taken) steps) result

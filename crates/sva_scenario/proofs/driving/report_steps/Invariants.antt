@@ -2,6 +2,7 @@ use Rattle.std.proofs.Common.{◌≡◌, ◌≤◌, ◌*◌, List, drop}
 use Rattle.std.specs.List.{AllByRecursion}
 use Rattle.sva_step.specs.declared.limits.Config.{Config}
 use Rattle.sva_step.specs.declared.steps.Step.{Step}
+use Rattle.sva_model.specs.State.PasidRule.{PerSpace}
 use Rattle.sva_model.specs.Claims.{Fits}
 use Rattle.sva_model.specs.Steps.{world_after}
 use Rattle.sva_model.specs.Wire.{wire}
@@ -13,8 +14,8 @@ use Rattle.sva_scenario.proofs.driving.report_steps.Given as goal
 -- the lines of the steps so far are written, by at most 1,025 calls each
 abbrev pub invariant-loop-step : goal.invariant-loop-step
 invariant-loop-step g l = record {
-  reports : (config : Config) (taken : List Step) → Fits config → l.fn.world ≡ wire (world_after config taken)
-      → Reporting config l.world (drop l.step-index l.steps) (steps_report (world_after config taken) l.steps) (g.W.Write.contents l.fn.writer.inner)
+  reports : (config : Config) (taken : List Step) → Fits config → l.fn.world ≡ wire (world_after PerSpace config taken)
+      → Reporting config l.world (drop l.step-index l.steps) (steps_report (world_after PerSpace config taken) l.steps) (g.W.Write.contents l.fn.writer.inner)
       (g.W.Write.contents l.writer.inner);
   built : AllByRecursion IsOfSpaces (drop l.step-index l.steps);
   calls : l.writer.calls ≤ 1025 * l.step-index;

@@ -32,5 +32,8 @@ returns-clause-short c =
       group = λ n h. omega arith;
       sent = λ n h. omega arith;
       freed = λ n h. omega arith;
+      range_free = λ n h. omega arith;
+      range_withheld = λ n h. omega arith;
+      bearer = λ n m h. (omega arith, omega arith);
     })
     c.apply.result c.apply.type_inv

@@ -81,6 +81,8 @@ stays_idle w s t h = go s t (reply_of w s)
     go (step.Unmap n q count) t (Ok (answer.FreeFrames fs)) = record { bindings = h.bindings; parts = h.parts; jobs = h.jobs; hands = h.hands; in_flight = h.in_flight; cookies = h.cookies }
     go (step.Unmap n q count) t (Ok _) = h
     go (step.Unmap n q count) t (Err r) = h
+    go (step.Look f) t r = h
+    go (step.Bearer t) u r = h
     go _ t r = absurd t
 
 -- a list of such steps, from a world where nothing is bound

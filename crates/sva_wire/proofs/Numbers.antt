@@ -1,6 +1,6 @@
 -- The law: while nothing is bound, a step of spaces and frames by numbers is the step by names.
-use Rattle.std.proofs.Common.{◌≡◌, ◌⊎◌, inl, inr, refl, ap, sym, ◌∙◌, ℕ, suc, ◌+◌, ◌*◌, ◌≤◌, ◌^◌, Bool, true, false, arith}
-use Rattle.std.specs.Prelude.{Option, Some, None, option_map, ◌&&◌, not, ◌==◌, nat_lt, nat_le, if◌then◌else◌, List, [], ◌∷◌, Ok, Err}
+use Rattle.std.proofs.Common.{◌≡◌, ◌⊎◌, inl, inr, refl, ap, sym, ◌∙◌, ℕ, suc, ◌+◌, ◌*◌, ◌<◌, ◌≤◌, ◌^◌, Bool, true, false, arith}
+use Rattle.std.specs.Prelude.{Option, Some, None, option_map, ◌&&◌, not, ◌==◌, nat_lt, nat_le, if◌then◌else◌, List, [], ◌∷◌, slice_index_or, Ok, Err}
 use Rattle.std.proofs.lemmas.Bool.Decides.{nat_tests}
 use Rattle.sva_step.specs.declared.answers.Answer.{Answer}
 use Rattle.sva_step.specs.declared.answers.Answer.TheVariants as answer
@@ -10,25 +10,29 @@ use Rattle.sva_step.specs.declared.steps.Step.{Step}
 use Rattle.sva_step.specs.declared.steps.Step.TheVariants as step
 use Rattle.sva_model.specs.State.PasidRule.{PerSpace}
 use Rattle.sva_model.specs.Words.{any_below, all_below, count_below, is_some, the}
-use Rattle.sva_model.specs.State.{World}
+use Rattle.sva_model.specs.State.{Owed, MappingState, World}
+use Rattle.sva_model.specs.State.MappingState.{Unmade, Present, Gone}
+use Rattle.sva_model.specs.States.{is_unreleased, answered, place, place_at, place_by, place_of_gone}
 use Rattle.sva_model.specs.Acts.{act, submits, waits}
 use Rattle.sva_model.specs.Acts.Act.{NewSpace, Map, Unmap}
 use Rattle.sva_model.specs.Refusals.{Cause, refusals, page_range, unmap_refusals, is_queue_short}
-use Rattle.sva_model.specs.Outcomes.{Outcome, outcome, frames_at, unmap_answer}
+use Rattle.sva_model.specs.Outcomes.{Outcome, outcome, frames_at, unmap_answer, look_answer as look_said, bearer_answer}
 use Rattle.sva_model.specs.Steps.{Reply, Decision, checked, after_acts, reply, next, world_after}
 use Rattle.sva_model.specs.Labels
-use Rattle.sva_model.specs.Wire.{PageWire, insert_by, is_lower_page, page_wire, pages_wire, spaces_wire, places_wire, wire}
+use Rattle.sva_model.specs.Wire.{PageWire, insert_by, is_lower_page, page_wire, pages_wire, spaces_wire, withheld_wire, place_wire_by, places_wire, wire}
+use Rattle.sva_model.specs.Wire.PlaceWire.{FreeWire}
 use Rattle.sva_laws.proofs.Words.{some_the, not_true, all_below-true}
 use Rattle.sva_laws.proofs.Counting.{count_zero}
+use Rattle.sva_laws.proofs.Found.{labelled}
 use Rattle.sva_laws.proofs.Invariant.{Invariant}
 use Rattle.sva_laws.proofs.Passed.{Passed}
 use Rattle.sva_laws.proofs.Runs.{always}
-use Rattle.sva_wire.specs.Host.{IsIdle, NumbersAreNames, IsOfSpaces, unless_refused, in_space, pages_of, page_at, is_mapped, frame_or_0, frames_of, without, map_reply, unmap_reply, reply_of, changed, next_of}
-use Rattle.sva_wire.proofs.Lists.{tabulate_same, all_same, none_below}
-use Rattle.sva_wire.proofs.Parts.{with_mappings, freely_without, wire_same, unmap_is, none_submits, none_waits}
+use Rattle.sva_wire.specs.Host.{IsIdle, NumbersAreNames, IsOfSpaces, unless_refused, in_space, pages_of, page_at, is_mapped, frame_or_0, frames_of, without, map_reply, unmap_reply, look_answer, reply_of, changed, next_of}
+use Rattle.sva_wire.proofs.Lists.{tabulate_same, tabulate_at, all_same, none_below}
+use Rattle.sva_wire.proofs.Parts.{with_mappings, freely_without, wire_same, unmap_is, none_unreleased, none_submits, none_waits}
 use Rattle.sva_wire.proofs.Pages.{page_at_is, pages_length, pages_mapped, pages_unmapped}
 use Rattle.sva_wire.proofs.Spaces.{space_is, space_found, space_missing, spaces_length, spaces_changed, spaces_more}
-use Rattle.sva_wire.proofs.Places.{lowest_is, places_length, places_mapped, places_unmapped}
+use Rattle.sva_wire.proofs.Places.{gone_seen, seen_by, seen_at, place_seen, lowest_is, places_length, places_mapped, places_unmapped}
 
 -- Causes, one after another.
 
@@ -197,6 +201,59 @@ unmap_leaves w n q count i h e m =
     same_count : count * 2 ^ 0 ≡ count
     same_count = omega arith
 
+-- Where a frame is.
+
+look_is : (w : World) (f : ℕ) → look_answer (place_wire_by w f (place w f)) ≡ look_said (place w f)
+look_is w f = ap look_answer (place_seen w w.mappings f) ∙ go (w.mappings.latest f)
+  where
+    by_answers : (b : Bool) (owed : ℕ → Owed) → look_answer (gone_seen b (withheld_wire w.config.first w.config.endpoints w.part (Gone owed))) ≡ look_said (place_of_gone b)
+    by_answers true owed = refl
+    by_answers false owed = refl
+
+    by_state : (s : MappingState) → look_answer (seen_by w s) ≡ look_said (place_by w s)
+    by_state Unmade = refl
+    by_state Present = refl
+    by_state (Gone owed) = by_answers (all_below w.config.endpoints (λ x. answered (w.part x) (owed x))) owed
+
+    go : (o : Option ℕ) → look_answer (seen_at w w.mappings.state o) ≡ look_said (place_at w o)
+    go None = refl
+    go (Some m) = by_state (w.mappings.state m)
+
+less_than : (a b : ℕ) → nat_lt a b ≡ true → a < b
+less_than a b h = grind (arith, nat_tests)
+
+look_answers : (w : World) (f : ℕ) → reply w (step.Look f) ≡ reply_of (wire w) (step.Look f)
+look_answers w f =
+    reply_checked (refusals w (step.Look f)) (outcome w (step.Look f))
+    ∙ same_answer ((not (nat_lt f w.config.frames), refusal.NoFrame) ∷ []) (look_said (place w f)) (look_answer (slice_index_or (places_wire w) f FreeWire))
+    (λ p. sym (ap look_answer (tabulate_at w.config.frames (λ k. place_wire_by w k (place w k)) f FreeWire (less_than f w.config.frames (not_true (nat_lt f w.config.frames) p.0))) ∙ look_is w f))
+    ∙ ap (λ n. unless_refused ((not (nat_lt f n), refusal.NoFrame) ∷ []) (look_answer (slice_index_or (places_wire w) f FreeWire))) (sym (places_length w))
+
+-- Which space bears a PASID: none does.
+
+none_bears : (w : World) (e t : ℕ) → Invariant w → IsIdle (wire w) → is_some ((w.part e).at_pasid t) ≡ false
+none_bears w e t i h = go ((w.part e).at_pasid t) refl
+  where
+    go : (o : Option ℕ) → (w.part e).at_pasid t ≡ o → is_some o ≡ false
+    go None k = refl
+    go (Some b) k =
+        let bears = ((labelled w e i).pasid t b).0 k in
+        let low : b < w.bindings = given b bears.0 (ℕ_order b w.bindings) in
+        absurd (cc (sym bears.0 ∙ none_unreleased w i h e b low))
+      where
+        given : (b : ℕ) → is_unreleased ((w.part e).stage b) ≡ true → (b < w.bindings) ⊎ (w.bindings ≤ b) → b < w.bindings
+        given b u (inl l) = l
+        given b u (inr l) = absurd (let s = (i.parts e).bounds.stage b l in cc (sym u ∙ ap is_unreleased s))
+
+        ℕ_order : (a b : ℕ) → (a < b) ⊎ (b ≤ a)
+        ℕ_order a b = grind arith
+
+bearer_answers : (w : World) (t : ℕ) → Invariant w → IsIdle (wire w) → reply w (step.Bearer t) ≡ reply_of (wire w) (step.Bearer t)
+bearer_answers w t i h =
+    reply_checked (refusals w (step.Bearer t)) (outcome w (step.Bearer t))
+    ∙ ap (λ b. unless_refused ((not (nat_le 1 t && nat_le t 32), refusal.BadPasid) ∷ []) (bearer_answer w t b))
+    (none_below w.config.endpoints (λ e. is_some ((w.part e).at_pasid t)) (λ e l. none_bears w e t i h))
+
 -- The law, at a world where the invariant holds.
 
 abbrev pub IsByNumbers : World → Step → Type 0
@@ -211,6 +268,8 @@ by_numbers w (step.Unmap n q count) i t h = (
   next_by w (step.Unmap n q count) (unmap_answers w n q count i h) (λ r. refl)
       (λ p. unmap_leaves w n q count i h (not_true (Labels.is_space w n) p.0) (not_true (all_below count (λ j. Labels.is_mapped w (Labels.name w n) (q + j))) p.1.1.1.0)),
 )
+by_numbers w (step.Look f) i t h = (look_answers w f, next_by w (step.Look f) (look_answers w f) (λ r. refl) (λ p. refl))
+by_numbers w (step.Bearer t) i u h = (bearer_answers w t i h, next_by w (step.Bearer t) (bearer_answers w t i h) (λ r. refl) (λ p. refl))
 by_numbers w _ i t h = absurd t
 
 pub numbers_are_names : NumbersAreNames

@@ -1,6 +1,6 @@
 -- The steps of spaces and frames by numbers: what a host answers to them, and what it keeps afterwards, read off what it
 -- keeps before, while no endpoint has anything and nothing is in flight. No name of a record stands in it.
-use Rattle.std.specs.Prelude.{◌≡◌, ◌≤◌, ℕ, ◌+◌, ◌^◌, Bool, true, false, ◌&&◌, not, ◌==◌, nat_lt, nat_le, if◌then◌else◌, is_some, Option, Some, None, List, [], ◌∷◌, ◌++◌, filter, length, replicate, slice_set, Ok, Err}
+use Rattle.std.specs.Prelude.{◌≡◌, ◌≤◌, ℕ, ◌+◌, ◌^◌, Bool, true, false, ◌&&◌, not, ◌==◌, nat_lt, nat_le, if◌then◌else◌, is_some, Option, Some, None, List, [], ◌∷◌, ◌++◌, filter, length, replicate, slice_set, slice_index_or, Ok, Err}
 use Rattle.std.specs.List.{AllByRecursion}
 use Rattle.sva_step.specs.declared.answers.Answer.{Answer}
 use Rattle.sva_step.specs.declared.answers.Answer.TheVariants as answer
@@ -17,7 +17,7 @@ use Rattle.sva_model.specs.State.{opened}
 use Rattle.sva_model.specs.Steps.{Reply, reply, replies, next, world_after}
 use Rattle.sva_model.specs.Claims.{Fits}
 use Rattle.sva_model.specs.Wire.{Wire, SpaceWire, PageWire, PlaceWire, PartWire, DeviceWire, UnitWire, insert_by, is_lower_page, wire}
-use Rattle.sva_model.specs.Wire.PlaceWire.{FreeWire, MappedWire}
+use Rattle.sva_model.specs.Wire.PlaceWire.{FreeWire, MappedWire, WithheldWire}
 
 -- what an endpoint and its unit have where nothing was ever sent, asked or submitted, or all of it is over
 abbrev pub idle_device : DeviceWire
@@ -131,11 +131,25 @@ unmap_reply q count pages =
     ∷ [])
     (answer.FreeFrames (frames_of pages q count))
 
--- the steps of spaces and frames
+abbrev pub look_answer : PlaceWire → Answer
+look_answer FreeWire = answer.Free
+look_answer MappedWire = answer.Mapped
+look_answer (WithheldWire targets) = answer.Withheld
+
+abbrev pub look_reply : List PlaceWire → (frame : ℕ) → Reply
+look_reply places f = unless_refused ((not (nat_lt f (length places)), refusal.NoFrame) ∷ []) (look_answer (slice_index_or places f FreeWire))
+
+-- nothing is bound, so no space bears a PASID
+abbrev pub bearer_reply : (pasid : ℕ) → Reply
+bearer_reply t = unless_refused ((not (nat_le 1 t && nat_le t 32), refusal.BadPasid) ∷ []) answer.NoBearer
+
+-- the steps of spaces and frames, and the question which space bears a PASID
 abbrev pub IsOfSpaces : Step → Type 0
 IsOfSpaces step.Space = Unit {0}
 IsOfSpaces (step.Map n q x) = Unit {0}
 IsOfSpaces (step.Unmap n q count) = Unit {0}
+IsOfSpaces (step.Look f) = Unit {0}
+IsOfSpaces (step.Bearer t) = Unit {0}
 IsOfSpaces _ = ⊥
 
 -- what is answered; the answer to a step of another kind isn't said here
@@ -143,6 +157,8 @@ abbrev pub reply_of : Wire → Step → Reply
 reply_of w step.Space = space_reply w
 reply_of w (step.Map n q x) = in_space (pages_of w.spaces n) (map_reply w.places q)
 reply_of w (step.Unmap n q count) = in_space (pages_of w.spaces n) (unmap_reply q count)
+reply_of w (step.Look f) = look_reply w.places f
+reply_of w (step.Bearer t) = bearer_reply t
 reply_of w _ = Err refusal.OutOfMemory
 
 -- what an accepted step changes, by its answer

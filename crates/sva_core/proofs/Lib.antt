@@ -8,3 +8,4 @@ pub mod HostSteps
 pub mod ChangedSpace
 pub mod Opening
 pub mod Reaching
+pub mod AskingLemmas

@@ -21,6 +21,8 @@ FollowsAt w s result after = (result ≡ reply w s) × (after ≡ wire (next w s
 -- the steps whose room was made before: they never want memory
 abbrev pub TakesNoMemory : Step → Type 0
 TakesNoMemory (step.Unmap n q count) = Unit {0}
+TakesNoMemory (step.Look f) = Unit {0}
+TakesNoMemory (step.Bearer t) = Unit {0}
 TakesNoMemory _ = ⊥
 
 -- a step from what the host keeps, as the definitions have it at each world after some list of steps that is seen so

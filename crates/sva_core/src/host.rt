@@ -11,6 +11,7 @@ ghost use Rattle.sva_wire.specs.Host.{IsIdle, IsOfSpaces};
 ghost use Rattle.sva_core.specs.Pieces.{ByNumbers, Counted};
 ghost use Rattle.sva_core.specs.Reached.{TakesNoMemory};
 
+use crate::asking;
 use crate::live::{Live, place_of};
 use crate::pages;
 use std::alloc::{AllocError, Global};
@@ -67,7 +68,7 @@ impl Host {
         })
     }
 
-    /// Takes a step of spaces and frames. A refused step changes nothing.
+    /// Takes a step of spaces and frames, or answers which space bears a PASID. A refused step changes nothing.
     pub fn apply(&mut self, step: &Step) -> Result<Answer, Refusal>
         requires { IsOfSpaces step.now }
         ensures step { ByNumbers self.old step.now result self.new }
@@ -78,6 +79,12 @@ impl Host {
             Step::Space => self.space_step(),
             Step::Map { space, page, write } => self.map_step(*space, *page, *write),
             Step::Unmap { space, page, count } => self.unmap_step(*space, *page, *count),
+            Step::Look { frame } => asking::look(&self.pool, *frame),
+            Step::Bearer { pasid } => {
+                // Nothing of the host is asked; it is read so that the contract knows that nothing is bound.
+                let _spaces = &self.spaces;
+                asking::bearer(*pasid)
+            }
             Step::DropSpace { .. }
             | Step::Bind { .. }
             | Step::Unbind { .. }
@@ -95,9 +102,7 @@ impl Host {
             | Step::Finish { .. }
             | Step::Quit { .. }
             | Step::Deliver { .. }
-            | Step::Look { .. }
-            | Step::UnmapRange { .. }
-            | Step::Bearer { .. } => unreachable!(),
+            | Step::UnmapRange { .. } => unreachable!(),
         }
     }
 

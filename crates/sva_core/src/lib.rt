@@ -1,6 +1,7 @@
 // The world: frames, spaces and counters put together, and one step of all of it by the definitions.
 #![tactic(auto)]
 
+mod asking;
 mod host;
 mod live;
 mod pages;

@@ -1,4 +1,4 @@
-ghost use Rattle.std.specs.Prelude.{◌≡◌, ◌<◌, ◌==◌, Some, IfOk, IfSome, slice_get, length, position, count_by, option_map};
+ghost use Rattle.std.specs.Prelude.{◌≡◌, ◌^◌, ◌<◌, ◌==◌, Some, IfOk, IfSome, slice_get, length, position, count_by, option_map};
 
 use crate::slots::{self, Slot};
 use crate::waits::Waits;
@@ -177,9 +177,10 @@ impl FramePool {
         counts
     }
 
-    /// How many frames there are.
+    /// How many frames there are: each has a number of 32 bits.
     pub fn len(&self) -> usize
-        ensures { result ≡ length self.now }
+        ensures len { result ≡ length self.now }
+        ensures few { length self.now < 2 ^ 32 }
     {
         self.slots.len()
     }

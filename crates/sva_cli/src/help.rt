@@ -54,6 +54,8 @@ The config, and the steps that are read so far. S is a space, and a word in brac
     map S PAGE r          the page leads to the lowest free frame, for reading
     map S PAGE w          for writing and reading; at most 1024 pages a space, numbers below 2^36
     unmap S PAGE [COUNT]  1 to 48 pages, 1 if missing, from PAGE on leave the space
+    look F                where frame F is: free, mapped or withheld
+    bearer P              which space bears PASID P, 1 to 32
 
 A step that isn't allowed is answered `refused N Name`, changes nothing, and the run goes on. Where
 a line can't be read nothing is run, and the report is that line's fault alone: `line 2 WordCount`.

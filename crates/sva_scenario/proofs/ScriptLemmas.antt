@@ -8,7 +8,7 @@ use Rattle.std.proofs.lemmas.Bool.{and_from, and_parts, le-leb, leb-true, lt-ltb
 use Rattle.std.proofs.lemmas.List.{length-take, take_all}
 use Rattle.sva_step.specs.declared.limits.Config.{Config}
 use Rattle.sva_step.specs.declared.steps.Step.{Step}
-use Rattle.sva_step.specs.declared.steps.Step.TheVariants.{Space, Map, Unmap}
+use Rattle.sva_step.specs.declared.steps.Step.TheVariants.{Space, Map, Unmap, Look, Bearer}
 use Rattle.sva_step.specs.declared.refusals.Refusal.TheVariants.{BadConfig}
 use Rattle.sva_step.specs.Refusals.{refusal_text}
 use Rattle.sva_model.specs.State.PasidRule.{PerSpace}
@@ -19,7 +19,7 @@ use Rattle.sva_scenario.specs.declared.faults.Cause.{Cause}
 use Rattle.sva_scenario.specs.declared.faults.Cause.TheVariants.{TooLarge, UnknownStep}
 use Rattle.sva_scenario.specs.declared.faults.LineFault.{LineFault}
 use Rattle.sva_scenario.specs.Faults.{line_fault_text}
-use Rattle.sva_scenario.specs.Grammar.{◌>>=◌, access, at_line, config_of, fault, has_words, has_words_or, is_skipped, is_too_large, lines_of, map_step, number, said_lines, Script, scenario_of, script_of, space_step, step_of, steps_of, unmap_step, word, words_of}
+use Rattle.sva_scenario.specs.Grammar.{◌>>=◌, access, at_line, config_of, fault, has_words, has_words_or, is_skipped, is_too_large, lines_of, map_step, number, said_lines, Script, scenario_of, script_of, space_step, step_of, steps_of, unmap_step, word, words_of, look_step, bearer_step}
 use Rattle.sva_scenario.specs.Laws.{ConfigsAreTested}
 use Rattle.sva_scenario.specs.Report.{ended, is_fit, report_by, report_of, script_report, steps_report}
 use Rattle.sva_scenario.specs.Streams.{AppendsPrefix, Writes}
@@ -55,16 +55,29 @@ unmap_built words =
     through (has_words_or 3 4 words) _
     (λ _. through (number (word 1 words)) _ (λ space. through (number (word 2 words)) _ (λ page. through _ (λ count. Ok (Unmap space page count)) (λ count. tt))))
 
-by_name : (space map unmap : Bool) (a b c : Result Step Cause) → AsBuilt a → AsBuilt b → AsBuilt c → AsBuilt (cond space a (cond map b (cond unmap c (Err UnknownStep))))
+look_built : (words : List (List ℕ)) → AsBuilt (look_step words)
+unfolding look_step AsBuilt
+look_built words = through (has_words 2 words) _ (λ _. through (number (word 1 words)) (λ frame. Ok (Look frame)) (λ frame. tt))
+
+bearer_built : (words : List (List ℕ)) → AsBuilt (bearer_step words)
+unfolding bearer_step AsBuilt
+bearer_built words = through (has_words 2 words) _ (λ _. through (number (word 1 words)) (λ pasid. Ok (Bearer pasid)) (λ pasid. tt))
+
+-- by the first of the names, or else a step that isn't known
+by_name : (named : Bool) (a b : Result Step Cause) → AsBuilt a → AsBuilt b → AsBuilt (cond named a b)
 unfolding AsBuilt
-by_name true map unmap a b c p q r = p
-by_name false true unmap a b c p q r = q
-by_name false false true a b c p q r = r
-by_name false false false a b c p q r = tt
+by_name true a b p q = p
+by_name false a b p q = q
+
+unknown_built : AsBuilt (Err UnknownStep)
+unfolding AsBuilt
+unknown_built = tt
 
 step_built : (words : List (List ℕ)) → AsBuilt (step_of words)
 unfolding step_of
-step_built words = by_name _ _ _ _ _ _ (space_built words) (map_built words) (unmap_built words)
+step_built words =
+    by_name _ _ _ (space_built words)
+    (by_name _ _ _ (map_built words) (by_name _ _ _ (unmap_built words) (by_name _ _ _ (look_built words) (by_name _ _ _ (bearer_built words) unknown_built))))
 
 -- the steps that were read are those of spaces, and so many
 StepsBuilt : (count : ℕ) → Result (List Step) LineFault → Type 0

@@ -5,7 +5,7 @@ use Rattle.std.specs.Str.{all_ascii_digits, bytes_eq}
 use Rattle.std.specs.Str.Parse.{digits_value}
 use Rattle.sva_step.specs.declared.limits.Config.{Config}
 use Rattle.sva_step.specs.declared.steps.Step.{Step}
-use Rattle.sva_step.specs.declared.steps.Step.TheVariants.{Space, Map, Unmap}
+use Rattle.sva_step.specs.declared.steps.Step.TheVariants.{Space, Map, Unmap, Look, Bearer}
 use Rattle.sva_scenario.specs.declared.faults.Cause.{Cause}
 use Rattle.sva_scenario.specs.declared.faults.Cause.TheVariants.{NoConfig, UnknownStep, WordCount, BadWord, TooLarge}
 use Rattle.sva_scenario.specs.declared.faults.LineFault.{LineFault}
@@ -108,12 +108,28 @@ unmap_step words = do
   count ← (if length words == 4 then number (word 3 words) else Ok 1)
   Ok (Unmap space page count)
 
+-- `look F`
+unfoldable pub look_step : List (List ℕ) → Result Step Cause
+look_step words = do
+  _ ← has_words 2 words
+  frame ← number (word 1 words)
+  Ok (Look frame)
+
+-- `bearer P`
+unfoldable pub bearer_step : List (List ℕ) → Result Step Cause
+bearer_step words = do
+  _ ← has_words 2 words
+  pasid ← number (word 1 words)
+  Ok (Bearer pasid)
+
 -- one row for each step
 unfoldable pub step_of : List (List ℕ) → Result Step Cause
 step_of words =
     if bytes_eq (word 0 words) (codes "space") then space_step words else
     if bytes_eq (word 0 words) (codes "map") then map_step words else
     if bytes_eq (word 0 words) (codes "unmap") then unmap_step words else
+    if bytes_eq (word 0 words) (codes "look") then look_step words else
+    if bytes_eq (word 0 words) (codes "bearer") then bearer_step words else
     Err UnknownStep
 
 -- ---- The whole text

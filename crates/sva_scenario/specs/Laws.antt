@@ -2,7 +2,7 @@
 use Rattle.std.specs.Prelude.{◌≡◌, ◌↔◌, ℕ, ◌+◌, ◌^◌, ◌<◌, ◌==◌, if◌then◌else◌, Bool, true, false, List, [], ◌∷◌, ◌++◌, length, count_by, codes, decimal, flat_map, map, Ok}
 use Rattle.std.specs.List.{AllByRecursion, join_with_byte}
 use Rattle.sva_step.specs.declared.steps.Step.{Step}
-use Rattle.sva_step.specs.declared.steps.Step.TheVariants.{Space, Map, Unmap}
+use Rattle.sva_step.specs.declared.steps.Step.TheVariants.{Space, Map, Unmap, Look, Bearer}
 use Rattle.sva_step.specs.declared.limits.Config.{Config}
 use Rattle.sva_model.specs.Claims.{Fits}
 use Rattle.sva_scenario.specs.Grammar.{Script, is_too_large, lines_of, number, scenario_of}
@@ -33,6 +33,8 @@ abbrev pub step_words : Step → List (List ℕ)
 step_words Space = codes "space" ∷ []
 step_words (Map space page write) = codes "map" ∷ decimal space ∷ decimal page ∷ (if write then codes "w" else codes "r") ∷ []
 step_words (Unmap space page count) = codes "unmap" ∷ decimal space ∷ decimal page ∷ decimal count ∷ []
+step_words (Look frame) = codes "look" ∷ decimal frame ∷ []
+step_words (Bearer pasid) = codes "bearer" ∷ decimal pasid ∷ []
 step_words _ = []
 
 -- a step that has a line, with numbers that fit 64 bits
@@ -40,6 +42,8 @@ abbrev pub HasLine : Step → Type 0
 HasLine Space = Unit {0}
 HasLine (Map space page write) = (space < 2 ^ 64) × (page < 2 ^ 64)
 HasLine (Unmap space page count) = (space < 2 ^ 64) × (page < 2 ^ 64) × (count < 2 ^ 64)
+HasLine (Look frame) = frame < 2 ^ 64
+HasLine (Bearer pasid) = pasid < 2 ^ 64
 HasLine _ = ⊥
 
 -- a config that has a line: its numbers fit 64 bits, and what it numbers begins at 0

@@ -1,5 +1,5 @@
 ghost use Rattle.std.specs.Prelude.{◌≡◌};
-ghost use Rattle.sva_scenario.specs.Grammar.{config_of, config_counts, step_of, space_step, map_step, unmap_step};
+ghost use Rattle.sva_scenario.specs.Grammar.{config_of, config_counts, step_of, space_step, map_step, unmap_step, look_step, bearer_step};
 
 use crate::faults::Cause;
 use crate::words::Words;
@@ -46,6 +46,10 @@ pub fn step_in(words: &Words<'_>) -> Result<Step, Cause>
         map_in(words)
     } else if words.begins_with(b"unmap") {
         unmap_in(words)
+    } else if words.begins_with(b"look") {
+        look_in(words)
+    } else if words.begins_with(b"bearer") {
+        bearer_in(words)
     } else {
         Err(Cause::UnknownStep)
     }
@@ -86,4 +90,24 @@ fn unmap_in(words: &Words<'_>) -> Result<Step, Cause>
         1
     };
     Ok(Step::Unmap { space, page, count })
+}
+
+/// `look F`.
+#[tactic(auto, unfolding(crate::specs::Grammar::look_step))]
+fn look_in(words: &Words<'_>) -> Result<Step, Cause>
+    ensures { result ≡ look_step words.now }
+{
+    words.exactly(2)?;
+    let frame = words.number(1)?;
+    Ok(Step::Look { frame })
+}
+
+/// `bearer P`.
+#[tactic(auto, unfolding(crate::specs::Grammar::bearer_step))]
+fn bearer_in(words: &Words<'_>) -> Result<Step, Cause>
+    ensures { result ≡ bearer_step words.now }
+{
+    words.exactly(2)?;
+    let pasid = words.number(1)?;
+    Ok(Step::Bearer { pasid })
 }

@@ -1,7 +1,7 @@
-use Rattle.std.proofs.Common.{◌≡◌, ◌∙◌, ap, sym, subst, refl, true, [], Ok}
-use Rattle.clap.specs.Words.{App, FailsBy, HasMatchesOf, app_of, fault_of}
+use Rattle.std.proofs.Common.{◌≡◌, ◌∙◌, ap, sym, subst, true, []}
+use Rattle.clap.specs.Words.{App, HasMatchesOf, fault_of}
 use Rattle.clap.specs.Faults.{is_simple_and_free}
-use Rattle.sva_cli.specs.Command.{Asks, asked_named, svahost, texts}
+use Rattle.sva_cli.specs.Command.{Asks, asked_named, texts}
 use Rattle.sva_cli.proofs.LineLemmas.{asks_named, is_free, named_so}
 use Rattle.sva_cli.proofs.command.parse.Goals as goal
 

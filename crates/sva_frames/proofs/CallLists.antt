@@ -67,7 +67,8 @@ withheld_mapped : (waits : List (Option Target)) → Withheld waits ≡ Mapped �
 withheld_mapped waits is = cc
 
 -- `take` writes one place, which was free
-pub after_take-other : (frames : List Holding) (n : ℕ) (h : Holding) → slice_get frames n ≡ Some h → is_free h ≡ false → slice_get (after frames Take) n ≡ Some h
+pub after_take-other :
+    (frames : List Holding) (n : ℕ) (h : Holding) → slice_get frames n ≡ Some h → is_free h ≡ false → slice_get (after frames Take) n ≡ Some h
 after_take-other frames n h here not_free = by_answer (position is_free frames) refl
   where
     by_answer : (o : Option ℕ) → position is_free frames ≡ o → slice_get (after_take frames o) n ≡ Some h
@@ -79,7 +80,9 @@ after_take-other frames n h here not_free = by_answer (position is_free frames) 
         (apart frames n m (get_or frames m Free) h here there (λ (same : h ≡ get_or frames m Free). let both : is_free h ≡ is_free (get_or frames m Free) = ap is_free same in cc))
         ∙ here
 
-pub withheld_step : (frames : List Holding) (n : ℕ) (waits : List (Option Target)) (call : Call) → slice_get frames n ≡ Some (Withheld waits) → has_target waits ≡ true → IsPermitted frames call → slice_get (after frames call) n ≡ Some (after_waits (unsettled (call ∷ []) 0 waits))
+pub withheld_step :
+    (frames : List Holding) (n : ℕ) (waits : List (Option Target)) (call : Call) → slice_get frames n ≡ Some (Withheld waits) → has_target waits ≡ true →
+    IsPermitted frames call → slice_get (after frames call) n ≡ Some (after_waits (unsettled (call ∷ []) 0 waits))
 withheld_step frames n waits Take here some permitted =
     after_take-other frames n (Withheld waits) here refl
     ∙ ap Some (sym (after_waits-some waits some) ∙ ap after_waits (sym (unsettled_same Take 0 waits (λ at target above. refl))))
@@ -96,7 +99,9 @@ withheld_step frames n waits (SettleAll unit) here some permitted =
     slice_get-map (settled unit past_reset) frames n ∙ ap (option_map (settled unit past_reset)) here
     ∙ ap (λ ws. Some (after_waits ws)) (unsettled-event (SettleAll unit) unit 0 unit past_reset waits (settle_all_event unit) (omega arith))
 
-pub mapped_step : (frames : List Holding) (n : ℕ) (call : Call) → slice_get frames n ≡ Some Mapped → spends n call ≡ false → slice_get (after frames call) n ≡ Some Mapped
+pub mapped_step :
+    (frames : List Holding) (n : ℕ) (call : Call) → slice_get frames n ≡ Some Mapped → spends n call ≡ false →
+    slice_get (after frames call) n ≡ Some Mapped
 mapped_step frames n Take here kept = after_take-other frames n Mapped here refl
 mapped_step frames n (Give m) here kept = slice_get-set_other frames m n Free (two n m kept) ∙ here
 mapped_step frames n (Withhold m new) here kept = slice_get-set_other frames m n (after_waits new) (two n m kept) ∙ here
@@ -105,13 +110,18 @@ mapped_step frames n (SettleAll unit) here kept = slice_get-map (settled unit pa
 
 -- ---- over a list of calls
 
-pub mapped_all : (frames : List Holding) (n : ℕ) (calls : List Call) → slice_get frames n ≡ Some Mapped → list_any (spends n) calls ≡ false → slice_get (after_all frames calls) n ≡ Some Mapped
+pub mapped_all :
+    (frames : List Holding) (n : ℕ) (calls : List Call) → slice_get frames n ≡ Some Mapped → list_any (spends n) calls ≡ false →
+    slice_get (after_all frames calls) n ≡ Some Mapped
 mapped_all frames n [] here kept = here
 mapped_all frames n (call ∷ calls) here kept =
     let each : (spends n call ≡ false) × (list_any (spends n) calls ≡ false) = or_parts (spends n call) (list_any (spends n) calls) kept in
     mapped_all (after frames call) n calls (mapped_step frames n call here each.0) each.1
 
-pub withheld_all : (frames : List Holding) (n : ℕ) (waits : List (Option Target)) (calls : List Call) → slice_get frames n ≡ Some (Withheld waits) → ArePermitted frames calls → has_target (unsettled calls 0 waits) ≡ true → slice_get (after_all frames calls) n ≡ Some (Withheld (unsettled calls 0 waits))
+pub withheld_all :
+    (frames : List Holding) (n : ℕ) (waits : List (Option Target)) (calls : List Call) → slice_get frames n ≡ Some (Withheld waits) →
+    ArePermitted frames calls → has_target (unsettled calls 0 waits) ≡ true →
+    slice_get (after_all frames calls) n ≡ Some (Withheld (unsettled calls 0 waits))
 withheld_all frames n waits [] here permitted some = here ∙ ap (λ ws. Some (Withheld ws)) (sym (unsettled-nil 0 waits))
 withheld_all frames n waits (call ∷ calls) here permitted some =
     let left : unsettled (call ∷ calls) 0 waits ≡ unsettled calls 0 (unsettled (call ∷ []) 0 waits) = unsettled-append (call ∷ []) calls 0 waits in
@@ -122,11 +132,16 @@ withheld_all frames n waits (call ∷ calls) here permitted some =
     withheld_all (after frames call) n (unsettled (call ∷ []) 0 waits) calls first permitted.1 later ∙ ap (λ ws. Some (Withheld ws)) (sym left)
 
 -- the pool just after `withhold`, where there is a target
-pub withheld_first : (frames : List Holding) (n : ℕ) (waits : List (Option Target)) → IsPermitted frames (Withhold n waits) → has_target waits ≡ true → slice_get (after frames (Withhold n waits)) n ≡ Some (Withheld waits)
+pub withheld_first :
+    (frames : List Holding) (n : ℕ) (waits : List (Option Target)) → IsPermitted frames (Withhold n waits) → has_target waits ≡ true →
+    slice_get (after frames (Withhold n waits)) n ≡ Some (Withheld waits)
 withheld_first frames n waits permitted some =
     slice_get-set_same frames n (after_waits waits) (slice_get_within frames n Mapped permitted.0) ∙ ap Some (after_waits-some waits some)
 
-pub withheld_until : (frames : List Holding) (before calls : List Call) (n : ℕ) (waits : List (Option Target)) → ArePermitted frames (before ++ Withhold n waits ∷ calls) → has_target (unsettled calls 0 waits) ≡ true → slice_get (after_all frames (before ++ Withhold n waits ∷ calls)) n ≡ Some (Withheld (unsettled calls 0 waits))
+pub withheld_until :
+    (frames : List Holding) (before calls : List Call) (n : ℕ) (waits : List (Option Target)) → ArePermitted frames (before ++ Withhold n waits ∷ calls) →
+    has_target (unsettled calls 0 waits) ≡ true →
+    slice_get (after_all frames (before ++ Withhold n waits ∷ calls)) n ≡ Some (Withheld (unsettled calls 0 waits))
 withheld_until frames before calls n waits permitted some =
     let rest : ArePermitted (after_all frames before) (Withhold n waits ∷ calls) = permitted_rest frames before (Withhold n waits ∷ calls) permitted in
     ap (λ fs. slice_get fs n) (after_all-append frames before (Withhold n waits ∷ calls))
@@ -163,7 +178,9 @@ mapped_in_hand count before calls n permitted answer kept =
 pub lowest_free : LowestFree
 lowest_free frames = by_answer (position is_free frames) refl
   where
-    by_answer : (o : Option ℕ) → position is_free frames ≡ o → MatchOption o ((n : ℕ) → slice_get frames n ≢ Some Free) (λ m. (slice_get frames m ≡ Some Free) × ((n : ℕ) → n < m → slice_get frames n ≢ Some Free))
+    by_answer :
+        (o : Option ℕ) → position is_free frames ≡ o →
+        MatchOption o ((n : ℕ) → slice_get frames n ≢ Some Free) (λ m. (slice_get frames m ≡ Some Free) × ((n : ℕ) → n < m → slice_get frames n ≢ Some Free))
     by_answer None is = λ n found. let within : n < length frames = slice_get_within frames n Free found in let none : true ≡ false = none_free_none frames is n Free within found in cc
     by_answer (Some m) is = (
       slice_get-get_or frames m Free (position-Some is_free frames m Free is).0 ∙ ap Some (free_is (get_or frames m Free) (position-Some is_free frames m Free is).1),
@@ -175,7 +192,9 @@ lowest_free frames = by_answer (position is_free frames) refl
 abbrev pub AllWait : List Holding → Type 0
 AllWait frames = (n : ℕ) (waits : List (Option Target)) → slice_get frames n ≡ Some (Withheld waits) → (length waits ≡ 8) × (has_target waits ≡ true)
 
-all_wait_set : (frames : List Holding) (m : ℕ) (h : Holding) → AllWait frames → m < length frames → ((waits : List (Option Target)) → h ≡ Withheld waits → (length waits ≡ 8) × (has_target waits ≡ true)) → AllWait (set frames m h)
+all_wait_set :
+    (frames : List Holding) (m : ℕ) (h : Holding) → AllWait frames → m < length frames →
+    ((waits : List (Option Target)) → h ≡ Withheld waits → (length waits ≡ 8) × (has_target waits ≡ true)) → AllWait (set frames m h)
 all_wait_set frames m h all within new n waits found =
     ⊎_elim
     (λ (same : n ≡ m). new waits (same_Some h (Withheld waits) (sym (slice_get-set_same frames m h within) ∙ ap (slice_get (set frames m h)) (sym same) ∙ found)))
@@ -185,7 +204,9 @@ all_wait_set frames m h all within new n waits found =
 all_wait_map : (frames : List Holding) (unit : ℕ) (left : Option Target → Option Target) → AllWait frames → AllWait (map (settled unit left) frames)
 all_wait_map frames unit left all n waits found = by_holding (slice_get frames n) refl (sym (slice_get-map (settled unit left) frames n) ∙ found)
   where
-    by_holding : (o : Option Holding) → slice_get frames n ≡ o → option_map (settled unit left) o ≡ Some (Withheld waits) → (length waits ≡ 8) × (has_target waits ≡ true)
+    by_holding :
+        (o : Option Holding) → slice_get frames n ≡ o → option_map (settled unit left) o ≡ Some (Withheld waits) →
+        (length waits ≡ 8) × (has_target waits ≡ true)
     by_holding None was is = absurd (cc)
     by_holding (Some Free) was is = absurd (cc)
     by_holding (Some Mapped) was is = absurd (cc)

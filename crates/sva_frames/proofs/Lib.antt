@@ -1,4 +1,11 @@
 pub mod Pools
 pub mod Waiting
-pub mod Pairs
 pub mod CallLists
+pub mod Ledgers
+pub mod Tables
+pub mod Chains
+pub mod Lanes
+pub mod Holdings
+pub mod Settling
+pub mod Entering
+pub mod Taking

@@ -34,13 +34,17 @@ or-false true = refl
 or-false false = refl
 
 -- a table of no targets stays so, whatever an event leaves of a target
-pub set_none : (waits : List (Option Target)) (unit : ℕ) (left : Option Target → Option Target) → left None ≡ None → has_target waits ≡ false → has_target (set waits unit (left (get_or waits unit None))) ≡ false
+pub set_none :
+    (waits : List (Option Target)) (unit : ℕ) (left : Option Target → Option Target) → left None ≡ None → has_target waits ≡ false →
+    has_target (set waits unit (left (get_or waits unit None))) ≡ false
 set_none [] unit left keeps none = refl
 set_none (None ∷ waits) zero left keeps none = ap (λ t. is_some t || has_target waits) keeps ∙ none
 set_none (Some target ∷ waits) unit left keeps none = absurd (cc)
 set_none (None ∷ waits) (suc unit) left keeps none = set_none waits unit left keeps none
 
-pub settled-after_waits : (unit : ℕ) (left : Option Target → Option Target) (waits : List (Option Target)) → left None ≡ None → settled unit left (after_waits waits) ≡ after_waits (set waits unit (left (get_or waits unit None)))
+pub settled-after_waits :
+    (unit : ℕ) (left : Option Target → Option Target) (waits : List (Option Target)) → left None ≡ None →
+    settled unit left (after_waits waits) ≡ after_waits (set waits unit (left (get_or waits unit None)))
 settled-after_waits unit left waits keeps = by_test (has_target waits) refl
   where
     by_test : (b : Bool) → has_target waits ≡ b → settled unit left (after_waits waits) ≡ after_waits (set waits unit (left (get_or waits unit None)))
@@ -62,25 +66,31 @@ list_any-append p (x ∷ xs) ys = ap (λ b. p x || b) (list_any-append p xs ys) 
     or_assoc false b c = refl
 
 -- what later calls leave of what earlier ones left
-pub unsettled-append : (xs ys : List Call) (unit : ℕ) (waits : List (Option Target)) → unsettled (xs ++ ys) unit waits ≡ unsettled ys unit (unsettled xs unit waits)
+pub unsettled-append :
+    (xs ys : List Call) (unit : ℕ) (waits : List (Option Target)) → unsettled (xs ++ ys) unit waits ≡ unsettled ys unit (unsettled xs unit waits)
 unsettled-append xs ys unit [] = refl
 unsettled-append xs ys unit (None ∷ waits) = ap (λ ws. None ∷ ws) (unsettled-append xs ys (unit + 1) waits)
 unsettled-append xs ys unit (Some target ∷ waits) =
     ap (λ b. (if b then None else Some target) ∷ unsettled (xs ++ ys) (unit + 1) waits) (list_any-append (settles unit target) xs ys)
     ∙ by_test (list_any (settles unit target) xs) (unsettled-append xs ys (unit + 1) waits)
   where
-    by_test : (b : Bool) → unsettled (xs ++ ys) (unit + 1) waits ≡ unsettled ys (unit + 1) (unsettled xs (unit + 1) waits) → ((if (b || list_any (settles unit target) ys) then None else Some target) ∷ unsettled (xs ++ ys) (unit + 1) waits) ≡ unsettled ys unit ((if b then None else Some target) ∷ unsettled xs (unit + 1) waits)
+    by_test :
+        (b : Bool) → unsettled (xs ++ ys) (unit + 1) waits ≡ unsettled ys (unit + 1) (unsettled xs (unit + 1) waits) →
+        ((if (b || list_any (settles unit target) ys) then None else Some target) ∷ unsettled (xs ++ ys) (unit + 1) waits) ≡ unsettled ys unit ((if b then None else Some target) ∷ unsettled xs (unit + 1) waits)
     by_test true rest = ap (λ ws. None ∷ ws) rest
     by_test false rest = ap (λ ws. (if list_any (settles unit target) ys then None else Some target) ∷ ws) rest
 
 -- what is left was there
-pub has_target-unsettled : (calls : List Call) (unit : ℕ) (waits : List (Option Target)) → has_target (unsettled calls unit waits) ≡ true → has_target waits ≡ true
+pub has_target-unsettled :
+    (calls : List Call) (unit : ℕ) (waits : List (Option Target)) → has_target (unsettled calls unit waits) ≡ true → has_target waits ≡ true
 has_target-unsettled calls unit [] some = some
 has_target-unsettled calls unit (None ∷ waits) some = has_target-unsettled calls (unit + 1) waits some
 has_target-unsettled calls unit (Some target ∷ waits) some = refl
 
 -- calls that settle nothing from a unit on leave the table
-pub unsettled_same : (call : Call) (unit : ℕ) (waits : List (Option Target)) → ((at : ℕ) (target : Target) → unit ≤ at → settles at target call ≡ false) → unsettled (call ∷ []) unit waits ≡ waits
+pub unsettled_same :
+    (call : Call) (unit : ℕ) (waits : List (Option Target)) → ((at : ℕ) (target : Target) → unit ≤ at → settles at target call ≡ false) →
+    unsettled (call ∷ []) unit waits ≡ waits
 unsettled_same call unit [] apart = refl
 unsettled_same call unit (None ∷ waits) apart =
     ap (λ ws. None ∷ ws) (unsettled_same call (unit + 1) waits (λ at target above. apart at target (omega arith)))
@@ -94,7 +104,9 @@ pub record IsEvent (call : Call) (unit : ℕ) (left : Option Target → Option T
   pub nothing : left None ≡ None
   pub here : (target : Target) → left (Some target) ≡ (if settles unit target call then None else Some target)
 
-pub unsettled-event : (call : Call) (unit first index : ℕ) (left : Option Target → Option Target) (waits : List (Option Target)) → IsEvent call unit left → unit ≡ first + index → set waits index (left (get_or waits index None)) ≡ unsettled (call ∷ []) first waits
+pub unsettled-event :
+    (call : Call) (unit first index : ℕ) (left : Option Target → Option Target) (waits : List (Option Target)) → IsEvent call unit left →
+    unit ≡ first + index → set waits index (left (get_or waits index None)) ≡ unsettled (call ∷ []) first waits
 unsettled-event call unit first index left [] is same = refl
 unsettled-event call unit first zero left (None ∷ waits) is same =
     ap (λ t. t ∷ waits) is.nothing ∙ ap (λ ws. None ∷ ws) (sym (unsettled_same call (first + 1) waits (λ at target above. is.elsewhere at target (λ e. omega arith))))

@@ -30,7 +30,8 @@ after frames (Withhold number waits) = slice_set frames number (after_waits wait
 after frames (Settle unit cookie) = map (settled unit (past_cookie cookie)) frames
 after frames (SettleAll unit) = map (settled unit past_reset) frames
 
--- the condition of a call: the frame is in hand, and waits are a table of the eight units
+-- The condition of a call: the frame is in hand, and waits are a table of the eight units. `withhold` also asks for room,
+-- by `HaveRoom`; the laws hold of lists of calls with or without it.
 abbrev pub IsPermitted : List Holding → Call → Type 0
 IsPermitted frames Take = ⊤
 IsPermitted frames (Give number) = slice_get frames number ≡ Some Mapped

@@ -28,7 +28,8 @@ LowestFree =
     ((number : ℕ) → slice_get frames number ≢ Some Free)
     (λ lowest. (slice_get frames lowest ≡ Some Free) × ((number : ℕ) → number < lowest → slice_get frames number ≢ Some Free))
 
--- A frame that was taken is mapped as long as no call gives it back or withholds it. So it isn't handed out twice.
+-- A frame that was taken is mapped as long as no call gives back or withholds one of its number. So its number isn't
+-- handed out twice. This is said of the numbers of one pool: a call takes a frame of another pool for its own of that number.
 abbrev pub MappedInHand : Type 0
 MappedInHand =
     (count : ℕ) (before calls : List Call) (number : ℕ) → ArePermitted (opened count) (before ++ Take ∷ calls) →

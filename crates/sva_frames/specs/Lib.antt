@@ -1,5 +1,8 @@
 pub mod Frames
-pub mod Slots
-pub mod Pairs
+pub mod Room
+pub mod Numbers
+pub mod Stages
+pub mod Chains
+pub mod Pool
 pub mod Calls
 pub mod Laws

@@ -2,14 +2,20 @@
 //! still hold translations to them have answered.
 #![tactic(auto)]
 
+mod bits;
+mod free;
+mod heads;
+mod lane;
 mod laws;
+mod ledger;
 mod pool;
-mod slots;
 mod waits;
 
 pub use laws::frame_laws;
 pub use pool::{Counts, Frame, FramePool, Place};
-pub use waits::{Target, UNITS, Waits};
+pub use waits::{PENDING, Target, UNITS, Waits};
 
+#[cfg(test)]
+mod plain;
 #[cfg(test)]
 mod tests;

@@ -1,7 +1,8 @@
-ghost use Rattle.std.specs.Prelude.{◌≡◌, ◌^◌, ◌<◌, ◌==◌, Some, IfOk, IfSome, slice_get, length, position, count_by, option_map};
+ghost use Rattle.std.specs.Prelude.{◌≡◌, ◌^◌, ◌↔◌, IsTrue, ◌<◌, ◌==◌, ℕ, true, List, Option, Some, None, IfOk, IfSome, IfNone, length, position, count_by, slice_get, slice_set, option_map};
 
-use crate::slots::{self, Slot};
-use crate::waits::Waits;
+use crate::lane::{Lane, enter_all};
+use crate::ledger::{Ledger, Stage};
+use crate::waits::{Target, UNITS, Waits};
 use std::alloc::{AllocError, Global};
 use std::marker::Model;
 
@@ -28,6 +29,9 @@ pub struct Counts {
 }
 
 /// A frame in hand, which contracts see by its number. It must be spent: given back to its pool, or withheld there.
+///
+/// A frame doesn't tell its pool: a pool accepts a frame of another one wherever its own frame of that number is mapped.
+/// So what a pool says of frames in hand it says of their numbers.
 #[derive(Debug)]
 pub struct Frame {
     number: u32,
@@ -53,40 +57,45 @@ impl Frame {
 /// The frames of a host, by their numbers from 0.
 ///
 /// Contracts see the list of holdings, one a frame: free, mapped, or withheld with the table of what it still waits
-/// for. Only `open` takes memory.
+/// for.
+///
+/// At each unit the frames that wait for the same stand in a chain, so a settlement goes to these and to no other frame.
+/// Only `open` takes memory: a cell for each frame and unit, and a place for each cookie that may be pending.
 #[derive(Debug, Drop)]
 pub struct FramePool {
-    slots: Vec<Slot>,
-
-    // No frame with a lower number is free, so that `take` seldom passes over many frames.
-    lowest: usize,
+    ledger: Ledger,
+    lanes: Vec<Lane>,
 }
 
 impl Model for FramePool {
-    ghost use Rattle.std.specs.Prelude.{List, map};
+    ghost use Rattle.std.specs.Prelude.{List};
     ghost use Rattle.sva_frames.specs.Frames.{Holding};
+    ghost use Rattle.sva_frames.specs.Pool.{holdings_from, IsPool};
 
     ghost Value = { List Holding };
 
-    ghost use Rattle.sva_frames.specs.Slots.{holding_of, IsPool};
+    ghost view = { λ p. holdings_from 0 p.ledger p.lanes.items };
 
-    ghost view = { λ p. map holding_of p.slots.items };
-
-    ghost invariant = { λ p. IsPool (map holding_of p.slots.items) p.lowest };
+    ghost invariant = { λ p. IsPool p.ledger p.lanes.items };
 }
 
 impl FramePool {
-    ghost use Rattle.sva_frames.specs.Frames.{Mapped, is_free, is_mapped, is_withheld, place_of};
+    ghost use Rattle.sva_frames.specs.declared.waits.Target.{Target};
+    ghost use Rattle.sva_frames.specs.Frames.{Mapped, Withheld, has_target, after_waits, is_free, is_mapped, is_withheld, place_of};
     ghost use Rattle.sva_frames.specs.Calls.{Give, Withhold, Settle, SettleAll, opened, after, after_take};
+    ghost use Rattle.sva_frames.specs.Chains.{IsWanted};
+    ghost use Rattle.sva_frames.specs.Room.{HaveRoom};
 
     /// The pool of `frames` free frames.
     pub fn open(alloc: Global, frames: u32) -> Result<FramePool, AllocError>
         ensures { IfOk result (λ pool. pool ≡ opened frames) }
     {
-        Ok(FramePool {
-            slots: vec![in alloc; Slot::Free; frames as usize]?,
-            lowest: 0,
-        })
+        let ledger = Ledger::open(alloc, frames)?;
+        let mut lanes = Vec::with_capacity(alloc, UNITS)?;
+        for unit in 0..UNITS {
+            lanes.push(Lane::open(alloc, frames)?)?;
+        }
+        Ok(FramePool { ledger, lanes })
     }
 
     /// Hands out the free frame of the lowest number, or `None` where none is free.
@@ -95,13 +104,8 @@ impl FramePool {
         ensures after { self.new ≡ after_take self.old result }
         ensures mapped { IfSome result (λ frame. slice_get self.new frame ≡ Some Mapped) }
     {
-        let FramePool { slots, lowest } = self;
-        let Some(number) = slots::first_free(slots, *lowest) else {
-            *lowest = slots.len();
-            return None;
-        };
-        slots[number] = Slot::Mapped;
-        *lowest = number + 1;
+        let number = self.ledger.first_free()?;
+        self.ledger.set(number, Stage::Mapped);
         Some(Frame {
             number: number as u32,
         })
@@ -113,39 +117,71 @@ impl FramePool {
         ensures { self.new ≡ after self.old (Give frame) }
     {
         let Frame { number } = frame;
-        let number = number as usize;
-        self.slots[number] = Slot::Free;
-        self.lowest = self.lowest.min(number);
+        let _lanes = &self.lanes;
+        self.ledger.set(number as usize, Stage::Free);
     }
 
     /// Takes a frame back that has left its space. It is free once each of its waits is settled, at once if there
-    /// are none.
+    /// are none. A cookie that no frame waits for yet at its unit must find fewer than 64 pending there, as `has_room`
+    /// tells.
     pub fn withhold(&mut self, frame: Frame, waits: Waits)
-        requires { slice_get self.old frame ≡ Some Mapped }
+        requires mapped { slice_get self.old frame ≡ Some Mapped }
+        requires room { HaveRoom self.old waits }
         ensures { self.new ≡ after self.old (Withhold frame waits) }
     {
         let Frame { number } = frame;
-        let number = number as usize;
-        self.slots[number] = Slot::after_waits(waits);
-        self.lowest = self.lowest.min(number);
+        let left = enter_all(&mut self.lanes, number, &waits.targets);
+        self.ledger.set(number as usize, Stage::of(left));
+    }
+
+    /// Whether each cookie of these waits is pending at its unit already or finds fewer than 64 pending there.
+    pub fn has_room(&self, waits: &Waits) -> bool
+        ensures { IsTrue result ↔ HaveRoom self.now waits.now }
+    {
+        let targets = &waits.targets;
+        let _ledger = &self.ledger;
+        for unit in 0..UNITS {
+            if !self.lanes[unit].has_room(targets[unit]) {
+                return false;
+            }
+        }
+        true
+    }
+
+    /// Settles the wanted target at a unit, or any, for one frame that waits for it, and tells which.
+    fn settle_one(&mut self, unit: usize, wanted: Option<Target>) -> Option<u32>
+        ensures kept { IfNone result (self.new ≡ self.old) }
+        ensures none { IfNone result ((frame : ℕ) (waits : List (Option Target)) → slice_get self.old frame ≡ Some (Withheld waits)
+            → (has_target waits ≡ true) × ((target : Target) → IsWanted wanted target → slice_get waits unit ≡ Some (Some target) → ⊥)) }
+        ensures some { IfSome result (λ frame. (waits : List (Option Target)) × (target : Target) × IsWanted wanted target
+            × (slice_get self.old frame ≡ Some (Withheld waits)) × (slice_get waits unit ≡ Some (Some target))
+            × (self.new ≡ slice_set self.old frame (after_waits (slice_set waits unit None)))) }
+    {
+        if unit >= self.lanes.len() {
+            return None;
+        }
+        let frame = self.lanes[unit].pop_wanted(wanted)?;
+        let stage = self.ledger.get(frame as usize);
+        self.ledger.set(frame as usize, stage.lowered());
+        Some(frame)
     }
 
     /// The wait descriptor with this cookie is done at the unit with this number, of 0 to 7: no frame waits for it any
-    /// more.
+    /// more. It walks the chain of the cookie, and no other frame.
     pub fn settle(&mut self, unit: u64, cookie: u64)
         ensures { self.new ≡ after self.old (Settle unit cookie) }
     {
-        slots::settle_cookie(&mut self.slots, unit, cookie);
-        self.lowest = 0;
+        let unit = unit as usize;
+        while let Some(_) = self.settle_one(unit, Some(Target::Cookie(cookie))) {}
     }
 
     /// The reset of the endpoint of the unit with this number, of 0 to 7, has ended: no frame waits for this
-    /// unit any more.
+    /// unit any more. It walks the chains of this unit, one after the other.
     pub fn settle_all(&mut self, unit: u64)
         ensures { self.new ≡ after self.old (SettleAll unit) }
     {
-        slots::settle_unit(&mut self.slots, unit);
-        self.lowest = 0;
+        let unit = unit as usize;
+        while let Some(_) = self.settle_one(unit, None) {}
     }
 
     /// Where the frame of this number is, which is below the number of frames.
@@ -153,7 +189,8 @@ impl FramePool {
         requires { number < length self.now }
         ensures { option_map place_of (slice_get self.now number) ≡ Some result }
     {
-        self.slots[number as usize].place()
+        let _lanes = &self.lanes;
+        self.ledger.get(number as usize).place()
     }
 
     /// How many frames are at each place.
@@ -162,19 +199,8 @@ impl FramePool {
         ensures mapped { result.mapped ≡ count_by is_mapped self.now }
         ensures withheld { result.withheld ≡ count_by is_withheld self.now }
     {
-        let mut counts = Counts {
-            free: 0,
-            mapped: 0,
-            withheld: 0,
-        };
-        for slot in &self.slots {
-            match slot {
-                Slot::Free => counts.free += 1,
-                Slot::Mapped => counts.mapped += 1,
-                Slot::Withheld(_) => counts.withheld += 1,
-            }
-        }
-        counts
+        let _lanes = &self.lanes;
+        self.ledger.counts()
     }
 
     /// How many frames there are: each has a number of 32 bits.
@@ -182,13 +208,14 @@ impl FramePool {
         ensures len { result ≡ length self.now }
         ensures few { length self.now < 2 ^ 32 }
     {
-        self.slots.len()
+        let _lanes = &self.lanes;
+        self.ledger.len()
     }
 
     /// Whether the pool was opened with no frame at all.
     pub fn is_empty(&self) -> bool
         ensures { result ≡ (length self.now == 0) }
     {
-        self.slots.is_empty()
+        self.len() == 0
     }
 }

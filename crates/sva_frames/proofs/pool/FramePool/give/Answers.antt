@@ -1,16 +1,19 @@
-use Rattle.std.proofs.Common.{◌∙◌}
-use Rattle.std.proofs.lemmas.List.{map-set}
-use Rattle.sva_frames.specs.declared.slots.Slot.TheVariants.{Free as FreeSlot}
-use Rattle.sva_frames.specs.Frames.{Mapped}
-use Rattle.sva_frames.specs.Slots.{holding_of}
-use Rattle.sva_frames.proofs.Pools.{slot_set, slot_within}
+use Rattle.std.proofs.Common.{set, ap, ◌∙◌}
+use Rattle.sva_frames.specs.Frames.{Free}
+use Rattle.sva_frames.specs.Pool.{holdings_from}
+use Rattle.sva_frames.proofs.Taking.{mapped_within, given-invariant, given-frames}
 use Rattle.sva_frames.proofs.pool.FramePool.give.Goals as goal
+
+pub set-requires : goal.set-requires
+set-requires c = mapped_within c.self.inside.ledger c.self.inside.lanes.items c.frame.inside.number (rw (c.self.view_is, c.frame.view_is) c.requires)
 
 pub invariant_of-self : goal.invariant_of-self
 invariant_of-self c =
-    slot_set c.self.inside.slots.items c.self.inside.lowest c.frame.inside.number FreeSlot c.min-self-inside.result c.self.invariant
-    (slot_within c.self.inside.slots.items c.args.self.now c.frame.inside.number c.args.frame Mapped c.self.view_is c.frame.view_is c.requires)
-    c.min-self-inside.ensures
+    rw c.set.ensures (given-invariant c.self.inside.ledger c.self.inside.lanes.items c.frame.inside.number c.self.invariant (rw (c.self.view_is, c.frame.view_is) c.requires))
 
 pub returns : goal.returns
-returns c = map-set holding_of c.self.inside.slots.items c.frame.inside.number FreeSlot ∙ cc
+returns c =
+    ap (λ ss. holdings_from 0 ss c.self.inside.lanes.items) c.set.ensures
+    ∙ given-frames c.self.inside.ledger c.self.inside.lanes.items c.frame.inside.number
+    ∙ ap (λ hs. set hs c.frame.inside.number Free) c.self.view_is
+    ∙ ap (λ n. set c.args.self.now n Free) c.frame.view_is

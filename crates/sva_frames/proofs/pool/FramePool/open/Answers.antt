@@ -1,16 +1,14 @@
-use Rattle.std.proofs.Common.{◌≡◌, ◌∙◌, ap, map, refl}
-use Rattle.sva_frames.specs.Slots.{holding_of}
-use Rattle.sva_frames.specs.declared.slots.Slot.{Slot}
-use Rattle.sva_frames.specs.declared.slots.Slot.TheVariants.{Free as FreeSlot, Mapped as MappedSlot, Withheld as WithheldSlot}
-use Rattle.sva_frames.specs.contracts.slots.SlotClone.TheImpl.{by_variants}
-use Rattle.sva_frames.proofs.Pools.{map-replicate}
+use Rattle.std.proofs.Common.{ap, ◌∙◌, ◌≡◌, arith, List, Option, None, replicate}
+use Rattle.sva_frames.specs.declared.waits.Target.{Target}
+use Rattle.sva_frames.specs.Pool.{holdings_from}
+use Rattle.sva_frames.proofs.Taking.{opened-frames, opened-invariant}
 use Rattle.sva_frames.proofs.pool.FramePool.open.Goals as goal
 
--- the clone of a free frame's slot is one
-free_clone : (y : Slot) → by_variants FreeSlot y → y ≡ FreeSlot
-free_clone FreeSlot same = refl
-free_clone MappedSlot same = absurd same
-free_clone (WithheldSlot waits) same = absurd same
+pub invariant_of-result : goal.invariant_of-result
+invariant_of-result c =
+    let all : c.loop-unit.unit ≡ 8 = omega arith in
+    let idle : List (Option Target) = replicate c.args.frames None in
+    opened-invariant c.args.frames c.in_ok-ledger.ledger c.loop-unit.lanes.items (omega arith) c.in_ok-ledger.ensures (c.loop-unit.invariant ∙ ap (λ k. replicate k idle) all)
 
 pub returns : goal.returns
-returns c = ap (map holding_of) (c.in_ok-vec.ensures.items_if_clones_equal free_clone) ∙ map-replicate holding_of c.args.frames FreeSlot
+returns c = ap (λ ss. holdings_from 0 ss c.loop-unit.lanes.items) c.in_ok-ledger.ensures ∙ opened-frames c.args.frames c.loop-unit.lanes.items

@@ -166,8 +166,8 @@ fn unfinished_key(
     }
 }
 
-// The key of the group with this serial whose job is made, if there is one. It is under the key at hand, unless the group
-// is at its end.
+// The key of the group with this serial whose job is made, if there is one. A job of these groups has the key of its own
+// group; where that is at its end, or the job is of other groups, none is known to be there before all have been seen.
 fn job_key(slots: &Slab<Group>, key: usize, serial: u64) -> Option<usize>
     ensures found { IfSome result (λ k. passes_at (has_job serial) (get slots.now k) ≡ true) }
     ensures absent { IfNone result ((k : ℕ) → passes_at (has_job serial) (get slots.now k) ≡ false) }
@@ -320,7 +320,7 @@ impl Groups {
     }
 
     /// A job is answered, or nobody waits for its answer: its group is at its end, if it is still there. No other group
-    /// is, even of the same binding and index.
+    /// is, even of the same binding and index. The job leads to its group; only where that is gone the search goes over all.
     pub fn answered(&mut self, job: &Job)
         ensures { self.new ≡ after_answer self.old job.now.serial }
     {

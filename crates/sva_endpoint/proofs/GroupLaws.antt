@@ -8,8 +8,8 @@ use Rattle.std.proofs.lemmas.List.{set_past, get_or_past}
 use Rattle.std.proofs.lemmas.List.Quantifiers.{position-Some}
 use Rattle.sva_msg.specs.declared.messages.Kind.{Kind}
 use Rattle.sva_msg.specs.declared.messages.Kind.TheVariants.{Reset, Response}
-use Rattle.sva_tables.specs.declared.group_table.GroupPlace.{GroupPlace}
-use Rattle.sva_tables.specs.declared.group_table.GroupPlace.TheVariants.{Free, Unfinished, Out, Stale}
+use Rattle.sva_tables.specs.declared.groups.GroupPlace.{GroupPlace}
+use Rattle.sva_tables.specs.declared.groups.GroupPlace.TheVariants.{Free, Unfinished, Out, Stale}
 use Rattle.sva_tables.specs.Groups.{group_at, is_free, is_unfinished, group_of, with_request, stale_of}
 use Rattle.sva_endpoint.specs.declared.permitted.Fault.{Fault}
 use Rattle.sva_endpoint.specs.Tables.{Tables}

@@ -1,5 +1,5 @@
 -- An invalidation waits for exactly the uses that ran and that it covered when it was taken, until each has ended.
-use Rattle.std.proofs.Common.{◌≡◌, ◌≢◌, ℕ, ◌<◌, List, [], ◌∷◌, length, get_or, set, Bool, true, false, cond, Option, Some, None, Result, Err, not, suc, refl, ap, sym, ◌∙◌, ◌&&◌, ◌||◌, eqb, inl, inr, arith, get_or-set_same, get_or-set_other, zero-add}
+use Rattle.std.proofs.Common.{◌≡◌, ◌≢◌, ℕ, ◌<◌, List, [], ◌∷◌, length, get_or, set, Bool, true, false, cond, Option, Some, None, Result, Err, not, suc, refl, ap, subst, ◌↔◌, sym, ◌∙◌, ◌&&◌, ◌||◌, eqb, inl, inr, arith, get_or-set_same, get_or-set_other, zero-add}
 use Rattle.std.specs.Prelude.{is_some}
 use Rattle.std.specs.List.{list_any, enumerate_from}
 use Rattle.std.proofs.Math.ListN.{get_or-map, length-set}
@@ -13,6 +13,7 @@ use Rattle.sva_step.specs.declared.refusals.Refusal.{Refusal}
 use Rattle.sva_step.specs.declared.refusals.Refusal.TheVariants.{NotPending, InUse, BadCount}
 use Rattle.sva_msg.specs.declared.messages.Kind.{Kind}
 use Rattle.sva_msg.specs.declared.messages.Kind.TheVariants.{Reset, Invalidate}
+use Rattle.sva_cache.specs.declared.coverage.Invalidation.{Invalidation}
 use Rattle.sva_tables.specs.declared.use_slots.UseSlot.TheVariants.{Free}
 use Rattle.sva_tables.specs.declared.taken_table.Taken.{Taken}
 use Rattle.sva_tables.specs.UseSlots.{slot_at, runs_covered}
@@ -20,10 +21,10 @@ use Rattle.sva_itags.specs.Vector.{is_named}
 use Rattle.sva_tables.specs.Taken.{waits, are_pending, is_one_waiting, without_note}
 use Rattle.sva_endpoint.specs.Tables.{Tables}
 use Rattle.sva_endpoint.specs.Steps.{unless, finishing}
-use Rattle.sva_endpoint.specs.Deliveries.{after_receive}
+use Rattle.sva_endpoint.specs.Deliveries.{after_receive, after_invalidate}
 use Rattle.sva_endpoint.specs.Calls.{Call, EndUse, Finish, Receive, after, run}
 use Rattle.sva_endpoint.specs.Laws.{takes_itag, is_noted, is_end_of_use, ends_taking, NotesExactly, NamesAlone, InUseExactly}
-use Rattle.sva_endpoint.proofs.TagLaws.{clash}
+use Rattle.sva_endpoint.proofs.TagLaws.{clash, told_is}
 use Rattle.sva_endpoint.proofs.WaitLaws.{notes-waits, one_waiting, within_table}
 use Rattle.sva_tables.proofs.TakenFacts.{get_or-without_named}
 
@@ -103,12 +104,17 @@ module _ (itag : ℕ) where
       let parts = or_parts (ends_taking itag call) (list_any (ends_taking itag) calls) none in
       some_run (after s call) calls parts.1 (some_step s call parts.0 is)
 
-pub notes_exactly : NotesExactly
-notes_exactly s itag slot invalidation calls within permitted none =
-    let told = after s (Receive (Invalidate itag invalidation.pasid invalidation.scope)) in
-    noted_run itag slot told calls none
+notes_after : (s : Tables) (itag slot : ℕ) (invalidation : Invalidation) (calls : List Call) → itag < length s.taken → list_any (ends_taking itag) calls ≡ false
+    → is_noted slot (place itag (run (after_invalidate s itag invalidation) calls))
+    ≡ (runs_covered invalidation (slot_at s.uses slot) && not (list_any (is_end_of_use slot) calls))
+notes_after s itag slot invalidation calls within none =
+    noted_run itag slot (after_invalidate s itag invalidation) calls none
     ∙ ap (λ place. is_noted slot place && not (list_any (is_end_of_use slot) calls)) (get_or-set_same s.taken itag _ None within)
     ∙ ap (λ b. b && not (list_any (is_end_of_use slot) calls)) (get_or-map (runs_covered invalidation) s.uses slot Free)
+
+pub notes_exactly : NotesExactly
+notes_exactly s itag slot scope invalidation calls names within permitted none =
+    ap (λ t. is_noted slot (place itag (run t calls))) (told_is s itag scope invalidation names) ∙ notes_after s itag slot invalidation calls within none
 
 -- ---- in use exactly while one of them runs
 
@@ -182,17 +188,22 @@ not_empty vector itag named true empty =
     clash (is_named vector itag) named (ap (λ v. is_named v itag) (eqb-true vector 0 empty) ∙ ap (λ n. eqb n 1) (bit_at-zero itag))
 not_empty vector itag named false empty = refl
 
-pub in_use_exactly : InUseExactly
-in_use_exactly s itag invalidation calls vector count within alone permitted none = (running, in_use)
+abbrev IsInUse : Tables → (s : Tables) → Invalidation → List Call → (vector count : ℕ) → Type 0
+IsInUse late s invalidation calls vector count =
+    (finishing late vector count ≡ Err InUse) ↔ ((slot : ℕ) × (runs_covered invalidation (slot_at s.uses slot) ≡ true) × (list_any (is_end_of_use slot) calls ≡ false))
+
+in_use_after : (s : Tables) (itag : ℕ) (invalidation : Invalidation) (calls : List Call) (vector count : ℕ) → itag < length s.taken → NamesAlone vector itag
+    → list_any (ends_taking itag) calls ≡ false → IsInUse (run (after_invalidate s itag invalidation) calls) s invalidation calls vector count
+in_use_after s itag invalidation calls vector count within alone none = (running, in_use)
   where
     told : Tables
-    told = after s (Receive (Invalidate itag invalidation.pasid invalidation.scope))
+    told = after_invalidate s itag invalidation
 
     late : Tables
     late = run told calls
 
     exactly : (slot : ℕ) → is_noted slot (get_or late.taken itag None) ≡ (runs_covered invalidation (slot_at s.uses slot) && not (list_any (is_end_of_use slot) calls))
-    exactly slot = notes_exactly s itag slot invalidation calls within permitted none
+    exactly slot = notes_after s itag slot invalidation calls within none
 
     running : finishing late vector count ≡ Err InUse → (slot : ℕ) × (runs_covered invalidation (slot_at s.uses slot) ≡ true) × (list_any (is_end_of_use slot) calls ≡ false)
     running refused =
@@ -212,3 +223,8 @@ in_use_exactly s itag invalidation calls vector count within alone permitted non
         first_of _ (is_one_waiting vector late.taken) _ _
         (or_from (eqb vector 0) (not (are_pending vector late.taken)) (not_empty vector itag alone.0 (eqb vector 0) refl) (ap not (pending vector itag late.taken alone there)))
         (one_waiting vector itag late.taken (within_table slot itag late.taken noted) alone.0 (notes-waits slot (get_or late.taken itag None) noted))
+
+pub in_use_exactly : InUseExactly
+in_use_exactly s itag scope invalidation calls vector count names within alone permitted none =
+    subst (λ t. IsInUse (run t calls) s invalidation calls vector count) (sym (told_is s itag scope invalidation names))
+    (in_use_after s itag invalidation calls vector count within alone none)

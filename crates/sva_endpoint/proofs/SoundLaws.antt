@@ -13,18 +13,18 @@ use Rattle.sva_msg.specs.declared.messages.Kind.{Kind}
 use Rattle.sva_msg.specs.declared.messages.Kind.TheVariants.{Start, Stop, Reset, Completion, Invalidate, Response}
 use Rattle.sva_tables.specs.declared.pasid_states.PasidState.{PasidState}
 use Rattle.sva_tables.specs.declared.pasid_states.PasidState.TheVariants.{Off, On, Stopping}
-use Rattle.sva_tables.specs.declared.coverage.Invalidation.{Invalidation}
-use Rattle.sva_tables.specs.declared.cached.Translation.{Translation}
+use Rattle.sva_cache.specs.declared.coverage.Invalidation.{Invalidation}
+use Rattle.sva_cache.specs.declared.cached.Translation.{Translation}
 use Rattle.sva_tables.specs.declared.request_tags.RequestTag.{RequestTag}
 use Rattle.sva_tables.specs.declared.request_tags.RequestTag.TheVariants.{Free, Out, Doomed}
 use Rattle.sva_tables.specs.declared.use_slots.UseSlot.{UseSlot}
 use Rattle.sva_tables.specs.declared.use_slots.UseSlot.TheVariants.{Free as FreeSlot, Running, Dead}
 use Rattle.sva_tables.specs.declared.taken_table.Taken.{Taken}
-use Rattle.sva_tables.specs.declared.group_table.GroupPlace.{GroupPlace}
-use Rattle.sva_tables.specs.declared.group_table.GroupPlace.TheVariants.{Free as NoGroup, Unfinished, Out as GroupOut, Stale}
+use Rattle.sva_tables.specs.declared.groups.GroupPlace.{GroupPlace}
+use Rattle.sva_tables.specs.declared.groups.GroupPlace.TheVariants.{Free as NoGroup, Unfinished, Out as GroupOut, Stale}
 use Rattle.sva_endpoint.specs.declared.permitted.Fault.{Fault}
-use Rattle.sva_tables.specs.Coverage.{covers}
-use Rattle.sva_tables.specs.Cache.{Key, Translations, key_cmp, key_cmp_total, has_room_for}
+use Rattle.sva_cache.specs.Coverage.{covers, extent_of}
+use Rattle.sva_cache.specs.Cache.{Key, Translations, key_cmp, key_cmp_total, has_room_for}
 use Rattle.sva_tables.specs.PasidStates.{state_of}
 use Rattle.sva_tables.specs.RequestTags.{request_at, doomed_by}
 use Rattle.sva_tables.specs.UseSlots.{slot_at, is_free as is_free_slot, runs_covered, cut_off}
@@ -33,10 +33,10 @@ use Rattle.sva_tables.specs.Taken.{without_note}
 use Rattle.sva_tables.specs.Groups.{is_free, group_at, group_of, with_request, requests_of, outstanding, stale_of, HaveRequests}
 use Rattle.sva_endpoint.specs.Tables.{Tables, fresh}
 use Rattle.sva_endpoint.specs.Steps.{lowest_slot, refusals_of_use, refusals_of_fault, index_for, group_after}
-use Rattle.sva_endpoint.specs.Deliveries.{after_receive, cache_after}
+use Rattle.sva_endpoint.specs.Deliveries.{after_invalidate, after_receive, cache_after}
 use Rattle.sva_endpoint.specs.Calls.{Call, Ask, BeginUse, EndUse, Evict, SendFault, Finish, Quit, Receive, is_permitted, after, run, ArePermitted}
 use Rattle.sva_endpoint.specs.Laws.{NotesRun, IsSound, AlwaysSound}
-use Rattle.sva_tables.proofs.CacheFacts.{len-retain_keys-le}
+use Rattle.sva_cache.proofs.Facts.{len-retain_keys-le}
 use Rattle.sva_tables.proofs.GroupFacts.{outstanding-stale_of, HaveRequests-replicate, HaveRequests-set, HaveRequests-at, HaveRequests-stale_of, requests_of-group_of, requests_of-with_request, index_with_credit}
 use Rattle.sva_tables.proofs.TakenFacts.{get_or-without_named}
 use Rattle.sva_endpoint.proofs.CallFacts.{are_clear, lowest}
@@ -61,7 +61,7 @@ pasids_after s _ h = h
 
 tags_received : (s : Tables) (kind : Kind) → length s.tags ≡ 32 → length (after_receive s kind).tags ≡ 32
 tags_received s (Completion tag frame read write) h = length-set s.tags tag Free ∙ h
-tags_received s (Invalidate itag pasid scope) h = length-map s.tags (doomed_by (record { pasid = pasid; scope = scope })) ∙ h
+tags_received s (Invalidate itag pasid scope) h = length-map s.tags (doomed_by (record { pasid = pasid; extent = extent_of scope })) ∙ h
 tags_received s Reset h = refl
 tags_received s _ h = h
 
@@ -149,7 +149,7 @@ completed cache frame read write (Doomed pasid page) h = h
 cached_received : (s : Tables) (kind : Kind) → finite.len s.cache ≤ 64 → finite.len (after_receive s kind).cache ≤ 64
 cached_received s (Completion tag frame read write) h = completed s.cache frame read write (request_at s.tags tag) h
 cached_received s (Invalidate itag pasid scope) h =
-    let few = len-retain_keys-le s.cache (λ key. not (covers (record { pasid = pasid; scope = scope }) key.0 key.1)) in
+    let few = len-retain_keys-le s.cache (λ key. not (covers (record { pasid = pasid; extent = extent_of scope }) key.0 key.1)) in
     omega arith
 cached_received s Reset h = let none = len-empty key_cmp Translation in omega arith
 cached_received s _ h = h
@@ -256,7 +256,7 @@ free_runs_nothing invalidation FreeSlot is = refl
 free_runs_nothing invalidation (Running running) is = absurd (cc)
 free_runs_nothing invalidation Dead is = refl
 
-notes_invalidate : (s : Tables) (itag : ℕ) (invalidation : Invalidation) → NotesRun s → NotesRun (after s (Receive (Invalidate itag invalidation.pasid invalidation.scope)))
+notes_invalidate : (s : Tables) (itag : ℕ) (invalidation : Invalidation) → NotesRun s → NotesRun (after_invalidate s itag invalidation)
 notes_invalidate s itag invalidation notes other slot taken is noted =
     elim (set_read s.taken itag (record { invalidation = invalidation; noted = map (runs_covered invalidation) s.uses }) other taken is) [
       | inl h ↦ subst (λ (t : Taken). get_or t.noted slot false ≡ true → runs_covered t.invalidation (slot_at s.uses slot) ≡ true) h.1
@@ -265,7 +265,7 @@ notes_invalidate s itag invalidation notes other slot taken is noted =
     ]
 
 notes_received : (s : Tables) (kind : Kind) → NotesRun s → NotesRun (after_receive s kind)
-notes_received s (Invalidate itag pasid scope) notes = notes_invalidate s itag (record { pasid = pasid; scope = scope }) notes
+notes_received s (Invalidate itag pasid scope) notes = notes_invalidate s itag (record { pasid = pasid; extent = extent_of scope }) notes
 notes_received s Reset notes = λ itag slot taken is noted. absurd (none_there (sym (get_or-none 32 itag) ∙ is))
   where
     none_there : {t : Taken} → ◌≡◌ {A = Option Taken} None (Some t) → ⊥

@@ -3,16 +3,19 @@ use Rattle.std.proofs.Common.{◌≡◌, ◌≢◌, ℕ, List, Bool, true, false
 use Rattle.std.specs.List.{list_any}
 use Rattle.std.proofs.Math.ListN.{get_or-map}
 use Rattle.std.proofs.lemmas.Bool.{eqb-false}
+use Rattle.sva_step.specs.declared.answers.Answer.TheVariants.{Dropped}
+use Rattle.sva_msg.specs.declared.messages.Scope.{Scope}
 use Rattle.sva_msg.specs.declared.messages.Kind.{Kind}
 use Rattle.sva_msg.specs.declared.messages.Kind.TheVariants.{Reset, Completion, Invalidate}
-use Rattle.sva_tables.specs.declared.coverage.Invalidation.{Invalidation}
+use Rattle.sva_cache.specs.declared.coverage.Invalidation.{Invalidation}
 use Rattle.sva_tables.specs.declared.request_tags.RequestTag.{RequestTag}
 use Rattle.sva_tables.specs.declared.request_tags.RequestTag.TheVariants.{Free, Out, Doomed}
-use Rattle.sva_tables.specs.Coverage.{covers}
+use Rattle.sva_cache.specs.declared.coverage.Extent.{Extent}
+use Rattle.sva_cache.specs.Coverage.{covers, extent_of}
 use Rattle.sva_tables.specs.RequestTags.{request_at, is_free, doomed_by}
 use Rattle.sva_endpoint.specs.Tables.{Tables}
 use Rattle.sva_endpoint.specs.Steps.{lowest_tag, refusals_of_ask}
-use Rattle.sva_endpoint.specs.Deliveries.{after_receive, answer_to_completion, cache_after}
+use Rattle.sva_endpoint.specs.Deliveries.{after_receive, after_invalidate, answer_to, answer_to_completion, cache_after}
 use Rattle.sva_endpoint.specs.Calls.{Call, Ask, Receive, is_permitted, after, run, ArePermitted}
 use Rattle.sva_endpoint.specs.Laws.{ends_request, is_end_of_request, asks_for, TagsStayTaken, DoomedNeverHeld}
 use Rattle.sva_endpoint.proofs.CallFacts.{are_clear, lowest, lasts}
@@ -29,7 +32,7 @@ module _ (tag : ℕ) (Q : RequestTag → Type 0) (taken : (place : RequestTag) �
       let apart : tag ≢ other = λ same. eqb-false other tag goes (sym same) in
       subst Q (sym (get_or-set_other s.tags other tag Free Free apart)) q
   received s (Invalidate itag pasid scope) goes q =
-      let invalidation : Invalidation = record { pasid = pasid; scope = scope } in
+      let invalidation : Invalidation = record { pasid = pasid; extent = extent_of scope } in
       subst Q (sym (get_or-map (doomed_by invalidation) s.tags tag Free)) (stays invalidation (request_at s.tags tag) q)
   received s _ goes q = q
 
@@ -69,11 +72,30 @@ doomed-taken pasid page place is = ap is_free is
 doomed-stays : (pasid page : ℕ) (invalidation : Invalidation) (place : RequestTag) → place ≡ Doomed pasid page → doomed_by invalidation place ≡ Doomed pasid page
 doomed-stays pasid page invalidation place is = ap (doomed_by invalidation) is
 
-pub doomed_never_held : DoomedNeverHeld
-doomed_never_held s itag tag pasid page invalidation calls frame read write out covered permitted none =
-    let start : request_at (after s (Receive (Invalidate itag invalidation.pasid invalidation.scope))).tags tag ≡ Doomed pasid page =
+-- what an Invalidate Request leaves, by the pages that it names
+pub told_is : (s : Tables) (itag : ℕ) (scope : Scope) (invalidation : Invalidation) → extent_of scope ≡ invalidation.extent
+    → after s (Receive (Invalidate itag invalidation.pasid scope)) ≡ after_invalidate s itag invalidation
+told_is s itag scope invalidation names =
+    ap (λ (e : Extent). after_invalidate s itag (record { pasid = invalidation.pasid; extent = e })) names
+
+abbrev IsThrownAway : Tables → (tag frame : ℕ) (read write : Bool) → Type 0
+IsThrownAway late tag frame read write =
+    (answer_to late (Completion tag frame read write) ≡ Dropped) × ((after late (Receive (Completion tag frame read write))).cache ≡ late.cache)
+
+doomed_after : (s : Tables) (itag tag pasid page : ℕ) (invalidation : Invalidation) (calls : List Call) (frame : ℕ) (read write : Bool)
+    → request_at s.tags tag ≡ Out pasid page → covers invalidation pasid page ≡ true
+    → ArePermitted (after_invalidate s itag invalidation) calls → list_any (is_end_of_request tag) calls ≡ false
+    → IsThrownAway (run (after_invalidate s itag invalidation) calls) tag frame read write
+doomed_after s itag tag pasid page invalidation calls frame read write out covered permitted none =
+    let told = after_invalidate s itag invalidation in
+    let start : request_at told.tags tag ≡ Doomed pasid page =
     get_or-map (doomed_by invalidation) s.tags tag Free ∙ ap (doomed_by invalidation) out ∙ ap (λ b. cond b (Doomed pasid page) (Out pasid page)) covered in
-    let end = tag_lasts tag (λ place. place ≡ Doomed pasid page) (doomed-taken pasid page) (doomed-stays pasid page)
-    (after s (Receive (Invalidate itag invalidation.pasid invalidation.scope))) calls permitted none start in
-    let late = run (after s (Receive (Invalidate itag invalidation.pasid invalidation.scope))) calls in
+    let end = tag_lasts tag (λ place. place ≡ Doomed pasid page) (doomed-taken pasid page) (doomed-stays pasid page) told calls permitted none start in
+    let late = run told calls in
     (ap (answer_to_completion late.cache read) end, ap (cache_after late.cache frame read write) end)
+
+pub doomed_never_held : DoomedNeverHeld
+doomed_never_held s itag tag pasid page scope invalidation calls frame read write names out covered permitted none =
+    let told = told_is s itag scope invalidation names in
+    subst (λ t. IsThrownAway (run t calls) tag frame read write) (sym told)
+    (doomed_after s itag tag pasid page invalidation calls frame read write out covered (subst (λ t. ArePermitted t calls) told permitted) none)

@@ -1,5 +1,5 @@
 -- An invalidation isn't completed while a use runs that it covered when it was taken.
-use Rattle.std.proofs.Common.{◌≡◌, ◌≢◌, ℕ, ◌+◌, ◌<◌, List, length, get_or, Bool, true, false, cond, refl, ap, sym, ◌∙◌, get_or-set_same, get_or-set_other, ◌&&◌, Option, Some, None, inl, inr, arith, zero-add}
+use Rattle.std.proofs.Common.{◌≡◌, ◌≢◌, ℕ, ◌+◌, ◌<◌, List, length, get_or, Bool, true, false, cond, refl, ap, subst, sym, ◌∙◌, get_or-set_same, get_or-set_other, ◌&&◌, Option, Some, None, inl, inr, arith, zero-add}
 use Rattle.std.specs.Prelude.{is_ok}
 use Rattle.std.specs.List.{list_any, enumerate_from}
 use Rattle.std.proofs.Math.ListN.{get_or-map}
@@ -9,6 +9,8 @@ use Rattle.std.proofs.lemmas.List.Folds.{list_any_at}
 use Rattle.std.proofs.lemmas.List.FromFn.{length-enumerate_from, get_or-enumerate_from}
 use Rattle.sva_msg.specs.declared.messages.Kind.{Kind}
 use Rattle.sva_msg.specs.declared.messages.Kind.TheVariants.{Reset, Invalidate}
+use Rattle.sva_cache.specs.declared.coverage.Invalidation.{Invalidation}
+use Rattle.sva_cache.specs.Coverage.{covers}
 use Rattle.sva_tables.specs.declared.use_slots.Use.{Use}
 use Rattle.sva_tables.specs.declared.use_slots.UseSlot.TheVariants.{Free, Running}
 use Rattle.sva_tables.specs.declared.taken_table.Taken.{Taken}
@@ -17,11 +19,11 @@ use Rattle.sva_itags.specs.Vector.{is_named}
 use Rattle.sva_tables.specs.Taken.{waits, is_one_waiting, without_note}
 use Rattle.sva_endpoint.specs.Tables.{Tables}
 use Rattle.sva_endpoint.specs.Steps.{lowest_slot, finishing, refusals_of_use, refusals_of_finish}
-use Rattle.sva_endpoint.specs.Deliveries.{after_receive}
-use Rattle.sva_endpoint.specs.Calls.{Call, BeginUse, EndUse, Finish, Receive, is_permitted, after, run}
+use Rattle.sva_endpoint.specs.Deliveries.{after_receive, after_invalidate}
+use Rattle.sva_endpoint.specs.Calls.{Call, BeginUse, EndUse, Finish, Receive, is_permitted, after, run, ArePermitted}
 use Rattle.sva_endpoint.specs.Laws.{is_noted, takes_itag, ends_wait, FinishWaits}
 use Rattle.sva_endpoint.proofs.CallFacts.{are_clear, lowest, lasts}
-use Rattle.sva_endpoint.proofs.TagLaws.{clash}
+use Rattle.sva_endpoint.proofs.TagLaws.{clash, told_is}
 use Rattle.sva_tables.proofs.TakenFacts.{get_or-without_named}
 
 some_noted : (noted : List Bool) (slot : ℕ) → get_or noted slot false ≡ true → list_any (λ b. b) noted ≡ true
@@ -94,11 +96,24 @@ refused s itag slot vector count noted named true may =
     clash (is_named vector itag) named (not_named vector itag slot s.taken clear.1.0 noted (is_named vector itag) refl)
 refused s itag slot vector count noted named false may = refl
 
-pub finish_waits : FinishWaits
-finish_waits s itag slot running invalidation calls vector count within runs covered permitted none =
-    let told = after s (Receive (Invalidate itag invalidation.pasid invalidation.scope)) in
+abbrev IsRefused : Tables → (itag slot : ℕ) → Use → (vector count : ℕ) → Type 0
+IsRefused late itag slot running vector count =
+    (slot_at late.uses slot ≡ Running running) × (is_named vector itag ≡ true → is_ok (finishing late vector count) ≡ false)
+
+waits_after : (s : Tables) (itag slot : ℕ) (running : Use) (invalidation : Invalidation) (calls : List Call) (vector count : ℕ)
+    → itag < length s.taken → slot_at s.uses slot ≡ Running running → covers invalidation running.pasid running.page ≡ true
+    → ArePermitted (after_invalidate s itag invalidation) calls → list_any (ends_wait itag slot) calls ≡ false
+    → IsRefused (run (after_invalidate s itag invalidation) calls) itag slot running vector count
+waits_after s itag slot running invalidation calls vector count within runs covered permitted none =
+    let told = after_invalidate s itag invalidation in
     let noted : is_noted slot (get_or told.taken itag None) ≡ true =
     ap (is_noted slot) (get_or-set_same s.taken itag _ None within)
     ∙ get_or-map (runs_covered invalidation) s.uses slot Free ∙ ap (runs_covered invalidation) runs ∙ covered in
     let end = lasts (Waits itag slot running) (ends_wait itag slot) (stepped itag slot running) told calls permitted none (runs, noted) in
     (end.0, λ named. refused (run told calls) itag slot vector count end.1 named (is_ok (finishing (run told calls) vector count)) refl)
+
+pub finish_waits : FinishWaits
+finish_waits s itag slot running scope invalidation calls vector count names within runs covered permitted none =
+    let told = told_is s itag scope invalidation names in
+    subst (λ t. IsRefused (run t calls) itag slot running vector count) (sym told)
+    (waits_after s itag slot running invalidation calls vector count within runs covered (subst (λ t. ArePermitted t calls) told permitted) none)

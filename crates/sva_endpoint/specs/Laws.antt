@@ -4,18 +4,19 @@ use Rattle.std.specs.List.{list_any}
 use Rattle.std.specs.FinMap.{len}
 use Rattle.sva_step.specs.declared.answers.Answer.TheVariants.{Dropped, Dead as EndedDead}
 use Rattle.sva_step.specs.declared.refusals.Refusal.TheVariants.{InUse}
+use Rattle.sva_msg.specs.declared.messages.Scope.{Scope}
 use Rattle.sva_msg.specs.declared.messages.Kind.{Kind}
 use Rattle.sva_msg.specs.declared.messages.Kind.TheVariants.{Reset, Completion, Invalidate, Response}
 use Rattle.sva_tables.specs.declared.pasid_states.PasidState.TheVariants.{Off}
-use Rattle.sva_tables.specs.declared.coverage.Invalidation.{Invalidation}
+use Rattle.sva_cache.specs.declared.coverage.Invalidation.{Invalidation}
 use Rattle.sva_tables.specs.declared.request_tags.RequestTag.{RequestTag}
 use Rattle.sva_tables.specs.declared.request_tags.RequestTag.TheVariants.{Free, Out, Doomed}
 use Rattle.sva_tables.specs.declared.use_slots.Use.{Use}
 use Rattle.sva_tables.specs.declared.use_slots.UseSlot.TheVariants.{Running, Dead as DeadUse}
 use Rattle.sva_tables.specs.declared.taken_table.Taken.{Taken}
-use Rattle.sva_tables.specs.declared.group_table.GroupPlace.{GroupPlace}
-use Rattle.sva_tables.specs.declared.group_table.GroupPlace.TheVariants.{Free as NoGroup, Unfinished, Out as GroupOut, Stale}
-use Rattle.sva_tables.specs.Coverage.{covers}
+use Rattle.sva_tables.specs.declared.groups.GroupPlace.{GroupPlace}
+use Rattle.sva_tables.specs.declared.groups.GroupPlace.TheVariants.{Free as NoGroup, Unfinished, Out as GroupOut, Stale}
+use Rattle.sva_cache.specs.Coverage.{covers, extent_of}
 use Rattle.sva_tables.specs.PasidStates.{state_of}
 use Rattle.sva_tables.specs.RequestTags.{request_at}
 use Rattle.sva_tables.specs.UseSlots.{slot_at, is_free as is_free_slot, runs_covered}
@@ -79,11 +80,11 @@ TagsStayTaken = (s : Tables) (tag pasid page : ℕ) (calls : List Call) → AreP
     → asks_for pasid page (request_at s.tags tag) ≡ true → asks_for pasid page (request_at (run s calls).tags tag) ≡ true
 
 -- once an invalidation is taken that covers a request that is out, the answer to that request is thrown away, however
--- late it comes
+-- late it comes; only a reset before it, or an earlier completion under the tag, ends the request
 abbrev pub DoomedNeverHeld : Type 0
-DoomedNeverHeld = (s : Tables) (itag tag pasid page : ℕ) (invalidation : Invalidation) (calls : List Call) (frame : ℕ) (read write : Bool)
-    → request_at s.tags tag ≡ Out pasid page → covers invalidation pasid page ≡ true
-    → let taken = after s (Receive (Invalidate itag invalidation.pasid invalidation.scope)) in
+DoomedNeverHeld = (s : Tables) (itag tag pasid page : ℕ) (scope : Scope) (invalidation : Invalidation) (calls : List Call) (frame : ℕ) (read write : Bool)
+    → extent_of scope ≡ invalidation.extent → request_at s.tags tag ≡ Out pasid page → covers invalidation pasid page ≡ true
+    → let taken = after s (Receive (Invalidate itag invalidation.pasid scope)) in
     ArePermitted taken calls → list_any (is_end_of_request tag) calls ≡ false
     → let late = run taken calls in
     (answer_to late (Completion tag frame read write) ≡ Dropped) × ((after late (Receive (Completion tag frame read write))).cache ≡ late.cache)
@@ -102,11 +103,12 @@ ends_wait itag slot (EndUse other) = other == slot
 ends_wait itag slot (Receive kind) = takes_itag itag kind
 ends_wait itag slot _ = false
 
--- while a use runs that an invalidation covered when it was taken, no completion may name that invalidation
+-- while a use runs that an invalidation covered when it was taken, no completion may name that invalidation; a reset, or
+-- another invalidation under the ITag, ends the waiting
 abbrev pub FinishWaits : Type 0
-FinishWaits = (s : Tables) (itag slot : ℕ) (running : Use) (invalidation : Invalidation) (calls : List Call) (vector count : ℕ)
-    → itag < length s.taken → slot_at s.uses slot ≡ Running running → covers invalidation running.pasid running.page ≡ true
-    → let taken = after s (Receive (Invalidate itag invalidation.pasid invalidation.scope)) in
+FinishWaits = (s : Tables) (itag slot : ℕ) (running : Use) (scope : Scope) (invalidation : Invalidation) (calls : List Call) (vector count : ℕ)
+    → extent_of scope ≡ invalidation.extent → itag < length s.taken → slot_at s.uses slot ≡ Running running → covers invalidation running.pasid running.page ≡ true
+    → let taken = after s (Receive (Invalidate itag invalidation.pasid scope)) in
     ArePermitted taken calls → list_any (ends_wait itag slot) calls ≡ false
     → let late = run taken calls in
     (slot_at late.uses slot ≡ Running running) × (is_named vector itag ≡ true → is_ok (finishing late vector count) ≡ false)
@@ -128,11 +130,12 @@ ends_taking itag (Receive kind) = takes_itag itag kind
 ends_taking itag _ = false
 
 -- until it is completed, an invalidation waits for exactly the uses that ran when it was taken, that it covers and that
--- haven't ended since: a use that begins later is none of them
+-- haven't ended since: a use that begins later is none of them. A reset, or another invalidation under the ITag, ends the
+-- waiting
 abbrev pub NotesExactly : Type 0
-NotesExactly = (s : Tables) (itag slot : ℕ) (invalidation : Invalidation) (calls : List Call)
-    → itag < length s.taken
-    → let taken = after s (Receive (Invalidate itag invalidation.pasid invalidation.scope)) in
+NotesExactly = (s : Tables) (itag slot : ℕ) (scope : Scope) (invalidation : Invalidation) (calls : List Call)
+    → extent_of scope ≡ invalidation.extent → itag < length s.taken
+    → let taken = after s (Receive (Invalidate itag invalidation.pasid scope)) in
     ArePermitted taken calls → list_any (ends_taking itag) calls ≡ false
     → is_noted slot (slice_index_or (run taken calls).taken itag None) ≡ (runs_covered invalidation (slot_at s.uses slot) && not (list_any (is_end_of_use slot) calls))
 
@@ -140,11 +143,12 @@ NotesExactly = (s : Tables) (itag slot : ℕ) (invalidation : Invalidation) (cal
 abbrev pub NamesAlone : ℕ → ℕ → Type 0
 NamesAlone vector itag = (is_named vector itag ≡ true) × ((other : ℕ) → other ≢ itag → is_named vector other ≡ false)
 
--- a completion is refused as in use exactly while one of those uses runs
+-- a completion is refused as in use exactly while one of those uses runs, until a reset or another invalidation under the
+-- ITag
 abbrev pub InUseExactly : Type 0
-InUseExactly = (s : Tables) (itag : ℕ) (invalidation : Invalidation) (calls : List Call) (vector count : ℕ)
-    → itag < length s.taken → NamesAlone vector itag
-    → let taken = after s (Receive (Invalidate itag invalidation.pasid invalidation.scope)) in
+InUseExactly = (s : Tables) (itag : ℕ) (scope : Scope) (invalidation : Invalidation) (calls : List Call) (vector count : ℕ)
+    → extent_of scope ≡ invalidation.extent → itag < length s.taken → NamesAlone vector itag
+    → let taken = after s (Receive (Invalidate itag invalidation.pasid scope)) in
     ArePermitted taken calls → list_any (ends_taking itag) calls ≡ false
     → (finishing (run taken calls) vector count ≡ Err InUse)
     ↔ ((slot : ℕ) × (runs_covered invalidation (slot_at s.uses slot) ≡ true) × (list_any (is_end_of_use slot) calls ≡ false))

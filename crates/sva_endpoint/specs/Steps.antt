@@ -11,11 +11,11 @@ use Rattle.sva_msg.specs.declared.messages.Kind.{Kind}
 use Rattle.sva_msg.specs.declared.messages.Kind.TheVariants.{Request, Invalidated, PageRequest, Marker}
 use Rattle.sva_tables.specs.declared.pasid_states.PasidState.{PasidState}
 use Rattle.sva_tables.specs.declared.pasid_states.PasidState.TheVariants.{Off}
-use Rattle.sva_tables.specs.declared.cached.Translation.{Translation}
+use Rattle.sva_cache.specs.declared.cached.Translation.{Translation}
 use Rattle.sva_tables.specs.declared.request_tags.RequestTag.TheVariants.{Out}
 use Rattle.sva_tables.specs.declared.use_slots.UseSlot.{UseSlot}
 use Rattle.sva_tables.specs.declared.use_slots.UseSlot.TheVariants.{Free as FreeSlot, Running, Dead as DeadUse}
-use Rattle.sva_tables.specs.declared.group_table.GroupPlace.{GroupPlace}
+use Rattle.sva_tables.specs.declared.groups.GroupPlace.{GroupPlace}
 use Rattle.sva_endpoint.specs.declared.permitted.Asking.{Asking}
 use Rattle.sva_endpoint.specs.declared.permitted.Using.{Using}
 use Rattle.sva_endpoint.specs.declared.permitted.Fault.{Fault}

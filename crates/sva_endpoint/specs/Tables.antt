@@ -5,8 +5,8 @@ use Rattle.sva_tables.specs.declared.pasid_states.PasidState.{PasidState}
 use Rattle.sva_tables.specs.declared.request_tags.RequestTag.{RequestTag}
 use Rattle.sva_tables.specs.declared.use_slots.UseSlot.{UseSlot}
 use Rattle.sva_tables.specs.declared.taken_table.Taken.{Taken}
-use Rattle.sva_tables.specs.declared.group_table.GroupPlace.{GroupPlace}
-use Rattle.sva_tables.specs.Cache.{Translations}
+use Rattle.sva_tables.specs.declared.groups.GroupPlace.{GroupPlace}
+use Rattle.sva_cache.specs.Cache.{Translations}
 use Rattle.sva_tables.specs.PasidStates.{all_off}
 use Rattle.sva_tables.specs.RequestTags.{no_requests}
 use Rattle.sva_tables.specs.UseSlots.{no_uses}

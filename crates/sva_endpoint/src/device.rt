@@ -7,12 +7,13 @@ ghost use Rattle.sva_tables.specs.Groups.{group_at};
 
 use crate::permitted::{Asking, Fault, Faulting, Finishing, Received, Using};
 use std::marker::Model;
+use sva_cache::{Cache, Extent, Invalidation, Translation};
 use sva_itags::Count;
 use sva_msg::{Code, CountField, Kind, Message};
 use sva_step::{Answer, PAGES, Refusal};
 use sva_tables::{
-    Cache, GroupPlace, GroupTable, Invalidation, PasidState, PasidStates, RequestTag, RequestTags,
-    Taken, TakenTable, Translation, Use, UseSlot, UseSlots,
+    GroupPlace, GroupTable, PasidState, PasidStates, RequestTag, RequestTags, Taken, TakenTable, Use,
+    UseSlot, UseSlots,
 };
 
 #[cfg(test)]
@@ -44,7 +45,7 @@ pub struct Endpoint {
 
 impl Model for Endpoint {
     ghost use Rattle.std.specs.Coded.{codes};
-    ghost use Rattle.sva_tables.specs.Cache.{translations_code};
+    ghost use Rattle.sva_cache.specs.Cache.{translations_code};
     ghost use Rattle.sva_endpoint.specs.Tables.{Tables};
 
     ghost Value = { Tables };
@@ -344,8 +345,10 @@ impl Endpoint {
     ///   doomed, since the answer to a doomed one is thrown away (this project's own rule); `NoTranslation` with R clear;
     ///   `Full` where 64 translations of other pages are cached, which stay, and the new one isn't kept (this project's
     ///   own rule); else the translation is cached in place of one of its page, `Held`.
-    /// - Invalidate (10.3.1): what it covers is no more cached; each request out that it covers is doomed; the uses
-    ///   running that it covers are noted, and it waits for these (this project's own rules). `Taken`.
+    /// - Invalidate (10.3.1): of its PASID it covers the range of its code, or all pages (for all, too, stands a code of no
+    ///   range, which this host never sends: this project's own rule). What it covers is no more cached; each request out
+    ///   that it covers is doomed; the uses running that it covers are noted, and it waits for these (this project's own
+    ///   rules). `Taken`.
     /// - Response (10.4.2): the group's index and its requests are free, `Answered`, or `Stale` for a stale group. A
     ///   response failure, 1111b, disables the page request interface until a reset.
     /// - Any other isn't sent to an endpoint and changes nothing. `Dropped`.
@@ -373,7 +376,10 @@ impl Endpoint {
             } => self.complete(tag, read, Translation { frame, write }),
             Kind::Invalidate { itag, pasid, scope } => self.invalidate(
                 itag,
-                Invalidation { pasid, scope },
+                Invalidation {
+                    pasid,
+                    extent: Extent::of(scope),
+                },
             ),
             Kind::Response { index, code, .. } => self.respond(index, code),
             Kind::Request { .. } => Answer::Dropped,

@@ -5,7 +5,8 @@ ghost use Rattle.sva_endpoint.specs.Laws.{AlwaysSound, TagsStayTaken, DoomedNeve
 /// invalidation while a use runs that it covered when it was taken; that an invalidation waits for exactly these uses, and
 /// a completion is refused as in use exactly while one of them runs; that a use that a reset ended keeps its slot, dead,
 /// until it is told of its end; and that a group, stale or not, keeps its index and its requests until its response or a
-/// reset comes.
+/// reset comes. A reset, or another invalidation under the ITag, ends what is said of an invalidation and of its waiting;
+/// the endpoint doesn't refuse the second, which a host that keeps an ITag until its completion never sends.
 pub fn endpoint_laws()
     ensures sound { AlwaysSound }
     ensures tags { TagsStayTaken }

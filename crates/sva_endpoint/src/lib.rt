@@ -9,6 +9,5 @@ mod permitted;
 pub use device::Endpoint;
 pub use laws::endpoint_laws;
 pub use permitted::{Asking, Fault, Faulting, Finishing, Received, Using};
-pub use sva_tables::{
-    GroupPlace, Invalidation, PasidState, RequestTag, Taken, Translation, Use, UseSlot,
-};
+pub use sva_cache::{Extent, Invalidation, Translation};
+pub use sva_tables::{GroupPlace, PasidState, RequestTag, Taken, Use, UseSlot};

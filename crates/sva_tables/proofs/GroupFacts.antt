@@ -8,8 +8,8 @@ use Rattle.std.proofs.lemmas.Bool.{ltb-false}
 use Rattle.std.proofs.Math.ListN.{length-set}
 use Rattle.arrayvec.specs.ArrayVec.{ArrayVec, with_items}
 use Rattle.arrayvec.proofs.ArrayVecLemmas.{items-with_items}
-use Rattle.sva_tables.specs.declared.group_table.GroupPlace.{GroupPlace}
-use Rattle.sva_tables.specs.declared.group_table.GroupPlace.TheVariants.{Free, Unfinished, Out, Stale}
+use Rattle.sva_tables.specs.declared.groups.GroupPlace.{GroupPlace}
+use Rattle.sva_tables.specs.declared.groups.GroupPlace.TheVariants.{Free, Unfinished, Out, Stale}
 use Rattle.sva_tables.specs.Groups.{is_free, requests_of, outstanding, stale_of, group_of, with_request, HaveRequests}
 
 requests_of-cond : (b : Bool) (pasid requests : ℕ) → requests_of (cond b (Stale pasid requests) (Out pasid requests)) ≡ requests

@@ -1,4 +1,3 @@
 pub mod Places
 pub mod GroupFacts
-pub mod CacheFacts
 pub mod TakenFacts

@@ -1,7 +1,7 @@
 -- The groups of page requests of an endpoint (PCI Express Base 5.0, section 10.4).
 use Rattle.std.specs.Prelude.{◌≡◌, ℕ, ◌+◌, ◌<◌, [], ◌∷◌, Bool, true, false, List, replicate, slice_index_or, sum_by, ◌==◌, if◌then◌else◌}
-use Rattle.sva_tables.specs.declared.group_table.GroupPlace.{GroupPlace}
-use Rattle.sva_tables.specs.declared.group_table.GroupPlace.TheVariants.{Free, Unfinished, Out, Stale}
+use Rattle.sva_tables.specs.declared.groups.GroupPlace.{GroupPlace}
+use Rattle.sva_tables.specs.declared.groups.GroupPlace.TheVariants.{Free, Unfinished, Out, Stale}
 
 abbrev pub no_groups : List GroupPlace
 no_groups = replicate 32 Free

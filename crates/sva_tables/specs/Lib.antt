@@ -1,6 +1,3 @@
-pub mod Cache
-pub mod Coverage
-pub mod Entries
 pub mod Groups
 pub mod PasidStates
 pub mod RequestTags

@@ -1,9 +1,9 @@
 -- The tags of translation requests (PCI Express Base 5.0, section 10.2).
 use Rattle.std.specs.Prelude.{ℕ, Bool, true, false, List, replicate, if◌then◌else◌, slice_index_or, ◌==◌}
-use Rattle.sva_tables.specs.declared.coverage.Invalidation.{Invalidation}
+use Rattle.sva_cache.specs.declared.coverage.Invalidation.{Invalidation}
 use Rattle.sva_tables.specs.declared.request_tags.RequestTag.{RequestTag}
 use Rattle.sva_tables.specs.declared.request_tags.RequestTag.TheVariants.{Free, Out, Doomed}
-use Rattle.sva_tables.specs.Coverage.{covers}
+use Rattle.sva_cache.specs.Coverage.{covers}
 
 -- a tag from 32 on is never taken
 abbrev pub request_at : List RequestTag → ℕ → RequestTag

@@ -1,9 +1,9 @@
 -- The slots of uses of cached translations.
 use Rattle.std.specs.Prelude.{ℕ, Bool, true, false, List, replicate, slice_index_or, ◌==◌}
-use Rattle.sva_tables.specs.declared.coverage.Invalidation.{Invalidation}
+use Rattle.sva_cache.specs.declared.coverage.Invalidation.{Invalidation}
 use Rattle.sva_tables.specs.declared.use_slots.UseSlot.{UseSlot}
 use Rattle.sva_tables.specs.declared.use_slots.UseSlot.TheVariants.{Free, Running, Dead}
-use Rattle.sva_tables.specs.Coverage.{covers}
+use Rattle.sva_cache.specs.Coverage.{covers}
 
 abbrev pub no_uses : List UseSlot
 no_uses = replicate 16 Free

@@ -1,20 +1,16 @@
-// The tables that an endpoint with address translation services, page requests and PASIDs keeps, each of a fixed size:
-// the states of its PASIDs, its cached translations, the translation requests that are out, its uses, the invalidations
-// that it has taken and its groups of page requests. No call takes memory.
+// The tables that an endpoint with address translation services, page requests and PASIDs keeps beside its cache, each of
+// a fixed size: the states of its PASIDs, the translation requests that are out, its uses, the invalidations that it has
+// taken and its groups of page requests. No call takes memory.
 #![tactic(auto)]
 
-mod cached;
-mod coverage;
-mod group_table;
+mod groups;
 mod limits;
 mod pasid_states;
 mod request_tags;
 mod taken_table;
 mod use_slots;
 
-pub use cached::{Cache, Translation};
-pub use coverage::Invalidation;
-pub use group_table::{GroupPlace, GroupTable};
+pub use groups::{GroupPlace, GroupTable};
 pub use pasid_states::{PasidState, PasidStates};
 pub use request_tags::{RequestTag, RequestTags};
 pub use taken_table::{Taken, TakenTable};

@@ -3,9 +3,6 @@
 /// The places of PASIDs: 1 to 32 of 2^20 (PCI Express Base 5.0, section 6.20), and 0, which stays off.
 pub const PASID_PLACES: usize = 33;
 
-/// The translations that a cache keeps.
-pub const CACHED: usize = 64;
-
 /// The tags of translation requests.
 pub const REQUEST_TAGS: usize = 32;
 

@@ -2,10 +2,10 @@ ghost use Rattle.std.specs.Prelude.{◌≡◌, ◌<◌, IfSome, List, map, posit
 ghost use Rattle.std.specs.List.{list_any};
 ghost use Rattle.sva_tables.specs.RequestTags.{doomed_by};
 
-use crate::coverage::Invalidation;
 use crate::limits::REQUEST_TAGS;
 use arrayvec::ArrayVec;
 use std::marker::Model;
+use sva_cache::Invalidation;
 
 /// The place of one tag of a translation request (PCI Express Base 5.0, section 10.2.2).
 #[derive(Clone, Copy, Debug, PartialEq, Eq)]

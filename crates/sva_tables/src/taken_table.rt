@@ -2,10 +2,10 @@ ghost use Rattle.std.specs.Prelude.{◌≡◌, ◌<◌, Some, None, if◌then◌
 ghost use Rattle.sva_itags.specs.Vector.{is_named};
 ghost use Rattle.sva_tables.specs.Taken.{without_note};
 
-use crate::coverage::Invalidation;
 use crate::limits::{ITAGS, USE_SLOTS};
 use arrayvec::ArrayVec;
 use std::marker::Model;
+use sva_cache::Invalidation;
 use sva_itags::is_tag_named;
 
 /// An invalidation that was taken and isn't completed yet (PCI Express Base 5.0, section 10.3).
@@ -54,7 +54,10 @@ fn without_named(place: Option<Taken>, vector: u32, itag: usize) -> Option<Taken
 fn without_note(place: Option<Taken>, slot: u64) -> Option<Taken>
     ensures { result ≡ without_note slot place }
 {
-    place.map(|taken| taken.without_note(slot))
+    match place {
+        Some(taken) => Some(taken.without_note(slot)),
+        None => None,
+    }
 }
 
 /// The invalidations that an endpoint has taken under the ITags 0 to 31 (PCI Express Base 5.0, section 10.3.1).

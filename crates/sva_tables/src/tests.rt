@@ -1,27 +1,12 @@
 use super::*;
-use sva_msg::Scope;
+use sva_cache::{Extent, Invalidation};
+use sva_msg::Range;
 
-fn one_page(pasid: u32, page: u64) -> Invalidation {
+fn in_range(range: Range) -> Invalidation {
     Invalidation {
-        pasid,
-        scope: Scope::Page(page),
+        pasid: 1,
+        extent: Extent::Pages(range),
     }
-}
-
-fn all_pages(pasid: u32) -> Invalidation {
-    Invalidation {
-        pasid,
-        scope: Scope::All,
-    }
-}
-
-#[test]
-fn an_invalidation_covers_its_pages(rt: HostRuntime) {
-    assert!(rt; one_page(1, 16).covers(1, 16));
-    assert!(rt; !one_page(1, 16).covers(1, 17));
-    assert!(rt; !one_page(1, 16).covers(2, 16));
-    assert!(rt; all_pages(1).covers(1, 17));
-    assert!(rt; !all_pages(1).covers(2, 17));
 }
 
 #[test]
@@ -49,43 +34,12 @@ fn pasids_are_1_to_32(rt: HostRuntime) {
 }
 
 #[test]
-fn a_full_cache_replaces_and_strikes(rt: HostRuntime) {
-    let mut cache = Cache::new();
-    let older = Translation {
-        frame: 3,
-        write: false,
-    };
-    let newer = Translation {
-        frame: 4,
-        write: true,
-    };
-    for page in 0..64 {
-        assert!(rt; cache.has_room_for(1, page));
-        cache.insert(1, page, older);
-    }
-    assert!(rt; !cache.has_room_for(1, 64));
-    assert!(rt; !cache.has_room_for(2, 5));
-    assert!(rt; cache.has_room_for(1, 5));
-    cache.insert(1, 5, newer);
-    assert_eq!(rt; cache.get(1, 5), Some(newer));
-    assert_eq!(rt; cache.get(2, 5), None);
-    cache.remove(1, 5);
-    assert_eq!(rt; cache.get(1, 5), None);
-    cache.remove_covered(&one_page(1, 6));
-    assert_eq!(rt; cache.get(1, 6), None);
-    cache.remove_covered(&all_pages(2));
-    assert_eq!(rt; cache.get(1, 7), Some(older));
-    cache.remove_covered(&all_pages(1));
-    assert_eq!(rt; cache.get(1, 7), None);
-}
-
-#[test]
 fn a_doomed_request_keeps_its_tag(rt: HostRuntime) {
     let mut tags = RequestTags::new();
     assert_eq!(rt; tags.lowest_free(), Some(0));
     tags.take(0, 1, 16);
     tags.take(1, 1, 17);
-    tags.doom(&one_page(1, 16));
+    tags.doom(&in_range(Range::new(16, 0)));
     assert_eq!(rt; tags.lowest_free(), Some(2));
     assert!(rt; tags.asks_under(1) && !tags.asks_under(2));
     for (tag, was) in [
@@ -113,7 +67,7 @@ fn a_use_that_is_cut_off_keeps_its_slot(rt: HostRuntime) {
     assert_eq!(rt; uses.lowest_free(), Some(0));
     uses.begin(0, begun);
     uses.begin(15, Use { page: 17, ..begun });
-    let covered = uses.covered(&one_page(1, 17));
+    let covered = uses.covered(&in_range(Range::new(17, 0)));
     for slot in 0..16 {
         assert_eq!(rt; covered[slot], slot == 15, "at {slot}");
     }
@@ -135,7 +89,7 @@ fn an_invalidation_waits_for_the_uses_it_noted(rt: HostRuntime) {
     let mut table = TakenTable::new();
     let mut noted = [false; 16];
     noted[3] = true;
-    let invalidation = one_page(1, 16);
+    let invalidation = in_range(Range::new(16, 0));
     table.take(
         31,
         Taken {

@@ -2,10 +2,10 @@ ghost use Rattle.std.specs.Prelude.{◌≡◌, ◌<◌, IfSome, map, position, s
 ghost use Rattle.std.specs.List.{list_any};
 ghost use Rattle.sva_tables.specs.UseSlots.{runs_covered, cut_off};
 
-use crate::coverage::Invalidation;
 use crate::limits::USE_SLOTS;
 use arrayvec::ArrayVec;
 use std::marker::Model;
+use sva_cache::Invalidation;
 
 /// A use of a cached translation: translated requests (AT field 10b; PCI Express Base 5.0, section 10.2.1) to one frame.
 #[derive(Clone, Copy, Debug, PartialEq, Eq)]

@@ -135,7 +135,7 @@ fn invalidate(itag: u8, page: u64) -> Kind {
     Kind::Invalidate {
         itag,
         pasid: 1,
-        scope: Scope::Page(page),
+        scope: Scope::Code { page, s: false },
     }
 }
 
@@ -360,6 +360,29 @@ fn one_vector_names_several(rt: HostRuntime) {
     );
     assert_eq!(rt; endpoint.may_evict(1, 17), Err(Refusal::NotHeld));
     finish(&rt, &mut endpoint, 0xc000_0000, 7, 7);
+}
+
+#[test]
+fn an_invalidation_covers_a_range(rt: HostRuntime) {
+    let mut endpoint = started();
+    hold(&rt, &mut endpoint, 70, 1);
+    hold(&rt, &mut endpoint, 72, 2);
+    // the code of the eight pages from 64 on
+    let scope = Scope::Code { page: 67, s: true };
+    tell(
+        &mut endpoint,
+        Kind::Invalidate {
+            itag: 0,
+            pasid: 1,
+            scope,
+        },
+    );
+    assert_eq!(rt; endpoint.may_begin_use(1, 70, false), Err(Refusal::NotHeld));
+    assert_eq!(rt;
+        use_page(&rt, &mut endpoint, 72, false),
+        Using { slot: 0, frame: 2 }
+    );
+    finish(&rt, &mut endpoint, 1, 1, 1);
 }
 
 #[test]

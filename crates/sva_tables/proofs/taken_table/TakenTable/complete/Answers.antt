@@ -1,5 +1,6 @@
 use Rattle.std.proofs.Common.{◌≡◌, ◌+◌, ◌∙◌, ap, subst, sym, length, set, ℕ, arith, get_or, cond, None}
 use Rattle.std.proofs.Math.ListN.{length-set}
+use Rattle.std.proofs.lemmas.List.{get_or_default}
 use Rattle.arrayvec.proofs.ArrayVecLemmas.{items-with_items}
 use Rattle.sva_tables.specs.Taken.{without_named}
 use Rattle.sva_itags.specs.Vector.{is_named}
@@ -13,9 +14,13 @@ loop-itag-preserved c =
     let long = length-set c.deref_mut.result.now c.loop-itag.itag c.without_named.result ∙ ap length c.deref_mut.ensures.value in
     let is =
     items-with_items places written long ∙ ap (λ xs. set xs c.loop-itag.itag c.without_named.result) c.deref_mut.ensures.value in
+    let count = ap length c.deref.ensures.0 in
+    let read : c.index-deref-itag.result ≡ get_or places.items c.loop-itag.itag None =
+    c.index-deref-itag.is ∙ get_or_default c.deref.result.now c.loop-itag.itag c.index-deref-itag.result None (omega arith)
+    ∙ ap (λ xs. get_or xs c.loop-itag.itag None) c.deref.ensures.0 in
     subst (IsCompletedBelow c.args.vector (c.loop-itag.itag + 1) c.self.inside.places.items) (sym is)
     (completed_more c.args.vector c.loop-itag.itag c.self.inside.places.items places.items c.without_named.result (omega arith) c.loop-itag.invariant
-    (c.without_named.ensures ∙ ap (λ xs. cond (is_named c.args.vector c.loop-itag.itag) None (get_or xs c.loop-itag.itag None)) c.deref.ensures.0))
+    (c.without_named.ensures ∙ ap (cond (is_named c.args.vector c.loop-itag.itag) None) read))
 
 pub returns : goal.returns
 returns c =

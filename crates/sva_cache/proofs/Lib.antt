@@ -1,0 +1,5 @@
+pub mod Places
+pub mod Search
+pub mod Edits
+pub mod Runs
+pub mod Facts

@@ -1,0 +1,80 @@
+use Rattle.std.proofs.Common.{◌≡◌, ◌+◌, ◌-◌, ◌/◌, ◌<◌, ◌≤◌, ◌^◌, ℕ, length, get_or, sym, ◌∙◌, ap, refl, subst, cond, arith}
+use Rattle.std.specs.Prelude.{T}
+use Rattle.std.specs.Option.{is_some}
+use Rattle.std.specs.FinMap.{find, is_sorted}
+use Rattle.sva_cache.specs.Cache.{key_cmp, key_cmp_total, smaller_first}
+use Rattle.sva_cache.proofs.Places.{place_le, at_most_length, less_at, greater_at, equal_at}
+use Rattle.sva_cache.proofs.Search.{halves, closed, found_at, not_found_at}
+use Rattle.sva_cache.proofs.cached.Cache.search.Goals as goal
+
+pub loop-low-init : goal.loop-low-init
+loop-low-init c =
+    let es = c.as_slice-entries.result.now in
+    let long : length es ≤ 64 = subst (λ xs. length xs ≤ 64) (sym c.as_slice-entries.ensures.value) c.self.invariant.1 in
+    let sorted : T (is_sorted key_cmp es) = subst (λ xs. T (is_sorted key_cmp xs)) (sym c.as_slice-entries.ensures.value) c.self.invariant.0 in
+    record {
+      from = omega arith;
+      to = at_most_length key_cmp_total c.args.key.now es sorted;
+      within = omega arith;
+      left = 7;
+      few = omega arith;
+      halved = omega arith;
+      spent = refl;
+    }
+
+pub loop-low-preserved-in-Less : goal.loop-low-preserved-in-Less
+loop-low-preserved-in-Less c =
+    let es = c.as_slice-entries.result.now in
+    let low = c.loop-low.low in
+    let high = c.loop-low.high in
+    let sorted : T (is_sorted key_cmp es) = subst (λ xs. T (is_sorted key_cmp xs)) (sym c.as_slice-entries.ensures.value) c.self.invariant.0 in
+    let half = halves (high - low) c.loop-low.invariant.left (omega arith) c.loop-low.invariant.halved in
+    let more = c.compare.ensures.counted in
+    record {
+      from = c.loop-low.invariant.from;
+      to = less_at key_cmp_total c.args.key.now es (low + (high - low) / 2) c.index-entries-middle.result sorted (omega arith) (sym c.in-Less.ensures.order);
+      within = omega arith;
+      left = half.0;
+      few = omega (arith, half.1);
+      halved = omega (arith, half.2);
+      spent = omega (arith, half.1, c.loop-low.invariant.spent);
+    }
+
+pub loop-low-preserved : goal.loop-low-preserved
+loop-low-preserved c =
+    let es = c.as_slice-entries.result.now in
+    let low = c.loop-low.low in
+    let high = c.loop-low.high in
+    let sorted : T (is_sorted key_cmp es) = subst (λ xs. T (is_sorted key_cmp xs)) (sym c.as_slice-entries.ensures.value) c.self.invariant.0 in
+    let half = halves (high - low) c.loop-low.invariant.left (omega arith) c.loop-low.invariant.halved in
+    let past = greater_at key_cmp_total c.args.key.now es (low + (high - low) / 2) c.index-entries-middle.result sorted (omega arith) (sym c.in-Greater.ensures.order) in
+    let more = c.compare.ensures.counted in
+    record {
+      from = omega (arith, past);
+      to = c.loop-low.invariant.to;
+      within = c.loop-low.invariant.within;
+      left = half.0;
+      few = omega (arith, half.1);
+      halved = omega (arith, half.2);
+      spent = omega (arith, half.1, c.loop-low.invariant.spent);
+    }
+
+pub returns-in-Equal-clause-place : goal.returns-in-Equal-clause-place
+returns-in-Equal-clause-place c =
+    let es = c.as_slice-entries.result.now in
+    let low = c.loop-low.low in
+    let high = c.loop-low.high in
+    let sorted : T (is_sorted key_cmp es) = subst (λ xs. T (is_sorted key_cmp xs)) (sym c.as_slice-entries.ensures.value) c.self.invariant.0 in
+    let at = equal_at key_cmp_total c.args.key.now es (low + (high - low) / 2) c.index-entries-middle.result sorted (omega arith) (sym c.in-Equal.ensures.order) in
+    let same = c.as_slice-entries.ensures.value in
+    found_at c.self.inside.entries.items c.args.self.now c.self.invariant.0 c.self.view_is c.args.key.now _
+    (ap (smaller_first key_cmp c.args.key.now) (sym same) ∙ at.0) (ap (λ xs. is_some (find key_cmp c.args.key.now xs)) (sym same) ∙ at.1)
+
+pub returns-clause-place : goal.returns-clause-place
+returns-clause-place c =
+    let es = c.as_slice-entries.result.now in
+    let end = closed (is_some (find key_cmp c.args.key.now es)) (smaller_first key_cmp c.args.key.now es) c.loop-low.low c.loop-low.high
+    c.loop-low.invariant.from c.loop-low.invariant.to (omega arith) in
+    let same = c.as_slice-entries.ensures.value in
+    not_found_at c.self.inside.entries.items c.args.self.now c.self.invariant.0 c.self.view_is c.args.key.now _
+    (ap (smaller_first key_cmp c.args.key.now) (sym same) ∙ end.0) (ap (λ xs. is_some (find key_cmp c.args.key.now xs)) (sym same) ∙ end.1)

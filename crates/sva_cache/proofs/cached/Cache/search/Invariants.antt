@@ -1,0 +1,21 @@
+use Rattle.std.proofs.Common.{◌≡◌, ◌+◌, ◌-◌, ◌<◌, ◌≤◌, ◌^◌, ℕ, length, cond}
+use Rattle.std.specs.Option.{is_some}
+use Rattle.std.specs.FinMap.{find}
+use Rattle.sva_cache.specs.Cache.{key_cmp, smaller_first}
+use Rattle.sva_cache.proofs.cached.Cache.search.Given as goal
+
+-- The key's place is from `low` on and not past `high`, and below `high` where it is there. Less than 2^left entries are left
+-- to be looked at, and as many comparisons as `left` at most will be made.
+abbrev pub invariant-loop-low : goal.invariant-loop-low
+invariant-loop-low l = record {
+  from : l.low ≤ smaller_first key_cmp l.key l.entries;
+  to : smaller_first key_cmp l.key l.entries + cond (is_some (find key_cmp l.key l.entries)) 1 0 ≤ l.high;
+  within : l.high ≤ length l.entries;
+  left : ℕ;
+  few : left ≤ 7;
+  halved : l.high - l.low < 2 ^ left;
+  spent : l.ticks + left ≡ l.initial.ticks + 7;
+}
+
+abbrev pub decreases-loop-low : goal.decreases-loop-low
+decreases-loop-low l = l.high - l.low

@@ -1,0 +1,48 @@
+-- An endpoint's translation cache: a finite map from (PASID, page) to a translation (PCI Express Base 5.0, section
+-- 10.2.2: the address translation cache of a function).
+use Rattle.std.specs.Prelude.{ℕ, zero, suc, Bool, ◌||◌, not, nat_lt, refl, List, [], ◌∷◌, if◌then◌else◌}
+use Rattle.std.specs.declared.cmp.Ordering.{Ordering}
+use Rattle.std.specs.Ordering.{nat_cmp, then_cmp, on, is_lt}
+use Rattle.std.specs.Cmp.{IsTotalOrder, then_total, on_total, nat_cmp_total}
+use Rattle.std.specs.Coded.{Coded, code_by, coded×, coded_ℕ, coded_bool}
+use Rattle.std.specs.FinMap as finite
+use Rattle.sva_cache.specs.declared.coverage.Invalidation.{Invalidation}
+use Rattle.sva_cache.specs.declared.cached.Translation.{Translation}
+use Rattle.sva_cache.specs.Coverage.{covers}
+
+-- (PASID, page)
+abbrev pub Key : Type 0
+Key = ℕ × ℕ
+
+-- by PASID, and then by page
+abbrev pub key_cmp : Key → Key → Ordering
+key_cmp = then_cmp (on (λ k. k.0) nat_cmp) (on (λ k. k.1) nat_cmp)
+
+pub key_cmp_total : IsTotalOrder key_cmp
+key_cmp_total = then_total (on_total (λ k. k.0) nat_cmp_total) (on_total (λ k. k.1) nat_cmp_total)
+
+abbrev pub Translations : Type 0
+Translations = finite.FinMap key_cmp Translation
+
+abbrev pub translation_code : Coded Translation
+translation_code = code_by (ℕ × Bool) (coded× coded_ℕ coded_bool) (λ t. (t.frame, t.write)) (λ p. record { frame = p.0; write = p.1 }) (λ _. refl)
+
+abbrev pub translations_code : Coded Translations
+translations_code = finite.code (coded× coded_ℕ coded_ℕ) translation_code
+
+-- how many entries, from the first on, have smaller keys than q
+abbrev pub smaller_first : {K X : Type 0} → (K → K → Ordering) → K → List (K × X) → ℕ
+smaller_first R q [] = zero
+smaller_first R q (e ∷ es) = if is_lt (R e.0 q) then suc (smaller_first R q es) else zero
+
+-- the place of a key in the order of the cached ones: so many of these are smaller
+abbrev pub place_of : Translations → Key → ℕ
+place_of cache key = smaller_first key_cmp key (finite.entries cache)
+
+-- the cache keeps 64 translations: is there a place for that of this page?
+abbrev pub has_room_for : Translations → Key → Bool
+has_room_for cache key = finite.contains_key cache key || nat_lt (finite.len cache) 64
+
+-- the cache after an invalidation
+abbrev pub without_covered : Invalidation → Translations → Translations
+without_covered invalidation cache = finite.retain_keys cache (λ key. not (covers invalidation key.0 key.1))

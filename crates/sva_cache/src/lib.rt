@@ -1,0 +1,16 @@
+// The translation cache of an endpoint, which it keeps in the order of its keys, and what an invalidation covers of it. No
+// call takes memory.
+#![tactic(auto)]
+
+mod cached;
+mod coverage;
+mod keys;
+
+#[cfg(test)]
+mod plain;
+#[cfg(test)]
+mod tests;
+
+pub use cached::{Cache, Translation};
+pub use coverage::{Extent, Invalidation};
+pub use keys::{CacheKey, Ticks};

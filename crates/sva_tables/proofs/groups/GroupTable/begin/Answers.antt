@@ -1,0 +1,14 @@
+use Rattle.std.proofs.Common.{arith}
+use Rattle.std.proofs.lemmas.Grind.{common_steps}
+use Rattle.sva_tables.proofs.GroupFacts.{HaveRequests-written, requests_of-group_of, requests_of-lowest}
+use Rattle.sva_tables.proofs.groups.GroupTable.begin.Goals as goal
+
+pub invariant_of-self : goal.invariant_of-self
+invariant_of-self c =
+    let one = requests_of-group_of c.args.pasid 1 c.args.last in
+    let none = requests_of-lowest c.self.inside.places.items c.args.index (rw c.self.view_is c.requires.lowest) in (
+      grind (arith, common_steps),
+      grind (arith, common_steps),
+      grind (arith, common_steps),
+      HaveRequests-written c.self.inside.places _ c.args.index c.group_of.result c.deref_mut.ensures.value c.self.invariant.3 (λ taken. rw (c.group_of.ensures, one) (omega arith)),
+    )

@@ -1,11 +1,11 @@
-use Rattle.std.proofs.Common.{◌≡◌, ◌≢◌, ℕ, ◌<◌, List, Option, Some, None, [], ◌∷◌, length, set, slice_get, refl, sym, ap, subst, ◌∙◌, ⊎_elim, arith, zero, suc}
+use Rattle.std.proofs.Common.{◌≡◌, ◌≢◌, ℕ, List, Option, Some, None, set, slice_get, sym, ap, subst, ◌∙◌, ⊎_elim, zero, suc}
 use Rattle.std.proofs.lemmas.Bool.{cases_eq}
 use Rattle.std.proofs.lemmas.List.{set_comm}
 use Rattle.std.proofs.lemmas.Option.{same_Some, slice_get_within}
 use Rattle.sva_frames.specs.declared.waits.Target.{Target}
 use Rattle.sva_frames.specs.declared.lane.Cell.{Cell}
 use Rattle.sva_frames.specs.Chains.{Chain, NoneWaits, unlinked}
-use Rattle.sva_frames.proofs.Pools.{slice_get-set_same, slice_get-set_other, set_again}
+use Rattle.sva_frames.proofs.Pools.{slice_get-set_same, slice_get-set_other}
 
 -- a change of a cell that is in no chain of a target, and is in none after it
 pub none_waits-set :

@@ -1,14 +1,14 @@
-use Rattle.std.proofs.Common.{◌≡◌, ◌≢◌, ℕ, ◌+◌, ◌<◌, ◌≤◌, Bool, true, false, cond, List, Option, Some, None, [], ◌∷◌, ◌++◌, length, get_or, set, take, map, slice_get, is_some, refl, sym, ap, subst, ◌∙◌, ⊎_elim, arith, zero, suc, count_by, ◌==◌, if◌then◌else◌, get_or-set_same, get_or-set_other, drop, drop_of_length-le, append-nil, take_all}
+use Rattle.std.proofs.Common.{◌≡◌, ◌≢◌, ℕ, ◌+◌, ◌<◌, ◌≤◌, Bool, true, false, cond, List, Option, Some, None, [], ◌∷◌, ◌++◌, length, get_or, set, take, map, slice_get, is_some, refl, sym, ap, subst, ◌∙◌, ⊎_elim, arith, zero, suc, count_by, ◌==◌, get_or-set_same, get_or-set_other, drop, drop_of_length-le, append-nil, take_all}
 use Rattle.std.specs.Option.{option_map, IfSome}
 use Rattle.std.proofs.lemmas.Bool.{cases_eq}
 use Rattle.std.proofs.lemmas.Bool.Decides.{nat_tests}
-use Rattle.std.proofs.lemmas.List.{length-set, length-map, take_more}
-use Rattle.std.proofs.lemmas.List.Sums.{sum_by-cons, sum_by_push}
+use Rattle.std.proofs.lemmas.List.{length-set, take_more}
+use Rattle.std.proofs.lemmas.List.Sums.{sum_by_push}
 use Rattle.std.proofs.lemmas.Option.{same_Some, slice_get_within, slice_get-map, get_or_from_slice_get, slice_get-get_or, slice_get_past}
 use Rattle.sva_frames.specs.declared.waits.Target.{Target}
 use Rattle.sva_frames.specs.declared.ledger.Stage.{Stage}
 use Rattle.sva_frames.specs.declared.ledger.Stage.TheVariants.{Free as FreeStage, Mapped as MappedStage, Withheld as WithheldStage}
-use Rattle.sva_frames.specs.Frames.{Holding, Free, Mapped, Withheld, has_target, after_waits}
+use Rattle.sva_frames.specs.Frames.{Holding, Mapped, after_waits}
 use Rattle.sva_frames.specs.Room.{HasRoom, HaveRoom, target_at}
 use Rattle.sva_frames.specs.Chains.{entered}
 use Rattle.sva_frames.specs.Pool.{row, holding, holdings_from, IsCounted, IsPool}

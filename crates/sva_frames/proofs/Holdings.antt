@@ -1,15 +1,15 @@
-use Rattle.std.proofs.Common.{◌≡◌, ◌≢◌, ℕ, ◌+◌, ◌-◌, ◌<◌, ◌≤◌, ◌==◌, Bool, true, false, cond, List, Option, Some, None, [], ◌∷◌, length, get_or, set, map, slice_get, is_some, refl, sym, ap, subst, ◌∙◌, ⊎_elim, arith, zero, suc, count_by, if◌then◌else◌}
+use Rattle.std.proofs.Common.{◌≡◌, ◌≢◌, ℕ, ◌+◌, ◌-◌, ◌<◌, ◌≤◌, Bool, true, false, cond, List, Option, Some, None, [], ◌∷◌, length, get_or, set, slice_get, is_some, refl, sym, ap, subst, ◌∙◌, ⊎_elim, arith, zero, suc, count_by}
 use Rattle.std.specs.Bool.{nat_le}
 use Rattle.std.specs.Option.{option_map}
 use Rattle.std.proofs.lemmas.Bool.{cases_eq}
 use Rattle.std.proofs.lemmas.Bool.Decides.{nat_tests}
 use Rattle.std.proofs.lemmas.List.{length-map, length-set, map-set, set-get_or, get_or-set_other, get_or-set_same}
 use Rattle.std.proofs.lemmas.List.Sums.{sum_by-set, sum_by-cons}
-use Rattle.std.proofs.lemmas.Option.{same_Some, slice_get_within, slice_get-map, get_or_from_slice_get, slice_get-get_or}
+use Rattle.std.proofs.lemmas.Option.{same_Some, slice_get_within, slice_get-map, get_or_from_slice_get}
 use Rattle.sva_frames.specs.declared.waits.Target.{Target}
 use Rattle.sva_frames.specs.declared.ledger.Stage.{Stage}
 use Rattle.sva_frames.specs.declared.ledger.Stage.TheVariants.{Free as FreeStage, Mapped as MappedStage, Withheld as WithheldStage}
-use Rattle.sva_frames.specs.Frames.{Holding, Free, Mapped, Withheld, has_target, after_waits}
+use Rattle.sva_frames.specs.Frames.{Holding, Withheld, has_target, after_waits}
 use Rattle.sva_frames.specs.Chains.{IsWanted}
 use Rattle.sva_frames.specs.Pool.{row, holding, holdings_from, IsCounted, IsPool}
 use Rattle.sva_frames.specs.Stages.{lowered}

@@ -1,12 +1,11 @@
-use Rattle.std.proofs.Common.{◌≡◌, ◌≢◌, ℕ, ◌<◌, ◌≤◌, ◌==◌, Bool, true, false, ◌||◌, List, Option, Some, None, [], ◌∷◌, length, set, map, slice_get, replicate, is_some, refl, sym, ap, subst, ◌∙◌, ◌⊎◌, inl, inr, ⊎_elim, arith, zero, suc, if◌then◌else◌}
-use Rattle.std.specs.List.{IsDistinct, AllByRecursion, list_any}
+use Rattle.std.proofs.Common.{◌≡◌, ◌≢◌, ℕ, ◌<◌, ◌==◌, Bool, true, false, ◌||◌, List, Option, Some, None, [], ◌∷◌, length, set, map, slice_get, is_some, refl, sym, ap, subst, ◌∙◌, ◌⊎◌, inl, inr, ⊎_elim, arith, zero, suc}
+use Rattle.std.specs.List.{IsDistinct, AllByRecursion}
 use Rattle.std.specs.Option.{option_map, IfNone, IfSome}
 use Rattle.std.specs.Set.{distinct_count, is_member}
 use Rattle.std.proofs.lemmas.Bool.{cases_eq}
 use Rattle.std.proofs.lemmas.Bool.Decides.{nat_tests}
 use Rattle.std.proofs.lemmas.Cmp.{nat_eq_equiv}
 use Rattle.std.proofs.lemmas.List.{length-map}
-use Rattle.std.proofs.lemmas.Map.Keys.{IsDistinct-cons}
 use Rattle.std.proofs.lemmas.Map.Made.{length-from_keys}
 use Rattle.std.proofs.lemmas.Option.{same_Some, slice_get_within, slice_get-map}
 use Rattle.sva_frames.specs.declared.heads.Pending.{Pending}
@@ -15,7 +14,7 @@ use Rattle.sva_frames.specs.declared.waits.Target.TheVariants.{Cookie, ResetEnd}
 use Rattle.sva_frames.specs.declared.lane.Cell.{Cell}
 use Rattle.sva_frames.specs.Room.{HasRoom, cookies}
 use Rattle.sva_frames.specs.Chains.{Firsts, first_of, AreApart, Chain, NoneWaits, IsLane, HasPlace, unlinked, first_at, target_of}
-use Rattle.sva_frames.proofs.Pools.{slice_get-set_same, slice_get-set_other, set_again}
+use Rattle.sva_frames.proofs.Pools.{slice_get-set_same, set_again}
 use Rattle.sva_frames.proofs.Tables.{first_here, first_later}
 use Rattle.sva_frames.proofs.Chains.{chain-set}
 

@@ -1,13 +1,13 @@
-use Rattle.std.proofs.Common.{◌≡◌, ◌≢◌, ℕ, ◌+◌, ◌*◌, ◌^◌, ◌<◌, ◌≤◌, Bool, true, false, cond, List, Option, Some, None, [], ◌∷◌, length, get_or, set, slice_get, refl, sym, ap, subst, ◌∙◌, ◌⊎◌, ⊎_elim, arith, zero, suc, count_by, replicate}
+use Rattle.std.proofs.Common.{◌≡◌, ◌≢◌, ℕ, ◌+◌, ◌*◌, ◌^◌, ◌<◌, ◌≤◌, Bool, true, false, cond, List, Option, Some, None, [], ◌∷◌, length, get_or, set, slice_get, refl, sym, ap, ◌∙◌, ◌⊎◌, ⊎_elim, arith, zero, suc, count_by, replicate}
 use Rattle.std.specs.List.{position, position_or_len}
-use Rattle.std.specs.Option.{MatchOption, IfNone, IfSome}
+use Rattle.std.specs.Option.{IfNone, IfSome}
 use Rattle.std.proofs.lemmas.Bool.{cases_eq}
 use Rattle.std.proofs.lemmas.Bool.Decides.{nat_tests}
 use Rattle.std.proofs.lemmas.List.{length-set, length-replicate}
 use Rattle.std.proofs.lemmas.List.Sums.{sum_by-set, sum_by-cons, count_by-le-length, position_or_len_is}
-use Rattle.std.proofs.lemmas.Option.{same_Some, slice_get_within, get_or_from_slice_get, slice_get-get_or}
+use Rattle.std.proofs.lemmas.Option.{same_Some, slice_get_within, slice_get-get_or}
 use Rattle.sva_frames.specs.declared.ledger.Stage.{Stage}
-use Rattle.sva_frames.specs.declared.ledger.Stage.TheVariants.{Free, Mapped, Withheld}
+use Rattle.sva_frames.specs.declared.ledger.Stage.TheVariants.{Free}
 use Rattle.sva_frames.specs.declared.pool.Counts.{Counts}
 use Rattle.sva_frames.specs.Numbers.{has}
 use Rattle.sva_frames.specs.Stages.{IsLedger, is_free_stage, is_mapped_stage, is_withheld_stage}

@@ -1,4 +1,4 @@
-use Rattle.std.proofs.Common.{◌≡◌, ◌≢◌, ℕ, ◌+◌, ◌<◌, ◌≤◌, ◌==◌, Bool, true, false, cond, List, Option, Some, None, [], ◌∷◌, ◌||◌, length, get_or, set, map, slice_get, is_some, refl, sym, ap, ◌∙◌, ⊎_elim, arith, zero, suc, count_by, if◌then◌else◌, get_or-set_same, get_or-set_other}
+use Rattle.std.proofs.Common.{◌≡◌, ◌≢◌, ℕ, ◌<◌, ◌==◌, true, List, Option, Some, None, [], ◌∷◌, get_or, set, map, slice_get, is_some, refl, sym, ap, ◌∙◌, ⊎_elim, arith, zero, suc, count_by, get_or-set_same}
 use Rattle.std.specs.List.{sum_by}
 use Rattle.std.specs.Option.{option_map}
 use Rattle.std.proofs.lemmas.Bool.{cases_eq}

@@ -1,10 +1,9 @@
-use Rattle.std.proofs.Common.{◌↔◌, IsTrue, is_some, ◌≤◌, ◌≡◌, ◌≢◌, ℕ, ◌+◌, ◌<◌, ◌==◌, Bool, true, false, List, Option, Some, None, [], ◌∷◌, ◌++◌, length, set, take, drop, slice_get, refl, sym, ap, subst, ◌∙◌, ◌⊎◌, inl, inr, arith, zero, suc, get_or, ⊎_elim, if◌then◌else◌}
+use Rattle.std.proofs.Common.{◌↔◌, IsTrue, is_some, ◌≤◌, ◌≡◌, ◌≢◌, ℕ, ◌<◌, ◌==◌, true, false, List, Option, Some, None, [], ◌∷◌, ◌++◌, length, slice_get, refl, sym, ap, subst, ◌∙◌, arith, zero, suc, get_or, ⊎_elim, if◌then◌else◌}
 use Rattle.std.specs.List.{remove}
 use Rattle.std.specs.Option.{IfNone, IfSome}
 use Rattle.std.proofs.lemmas.Bool.Decides.{nat_tests}
 use Rattle.std.proofs.lemmas.Bool.{cases_eq}
-use Rattle.std.proofs.lemmas.List.Quantifiers.{position-Some}
-use Rattle.std.proofs.lemmas.Option.{slice_get-get_or, same_Some, get_or_from_slice_get}
+use Rattle.std.proofs.lemmas.Option.{same_Some, get_or_from_slice_get}
 use Rattle.sva_frames.specs.declared.heads.Pending.{Pending}
 use Rattle.sva_frames.specs.Chains.{first_of, AreApart}
 use Rattle.sva_frames.proofs.Waiting.{if_true, if_false}

@@ -1,7 +1,6 @@
-use Rattle.std.proofs.Common.{◌≡◌, ◌≢◌, ℕ, ◌+◌, ◌^◌, ◌<◌, ◌≤◌, Bool, true, false, cond, List, Option, Some, None, [], ◌∷◌, length, get_or, set, slice_get, is_some, refl, sym, ap, subst, ◌∙◌, arith, zero, suc, count_by, replicate, map}
+use Rattle.std.proofs.Common.{◌≡◌, ℕ, ◌+◌, ◌^◌, ◌<◌, Bool, true, cond, List, Option, Some, None, [], ◌∷◌, length, get_or, set, slice_get, is_some, refl, sym, ap, subst, ◌∙◌, arith, zero, suc, count_by, replicate}
 use Rattle.std.specs.List.{position, position_or_len}
 use Rattle.std.specs.Option.{option_map}
-use Rattle.std.proofs.lemmas.Bool.Decides.{nat_tests}
 use Rattle.std.proofs.lemmas.List.{length-replicate}
 use Rattle.std.proofs.lemmas.List.Quantifiers.{position-Some}
 use Rattle.std.proofs.lemmas.List.Sums.{sum_by-cons}
@@ -10,7 +9,7 @@ use Rattle.sva_frames.specs.declared.waits.Target.{Target}
 use Rattle.sva_frames.specs.declared.pool.Place.{Place}
 use Rattle.sva_frames.specs.declared.ledger.Stage.{Stage}
 use Rattle.sva_frames.specs.declared.ledger.Stage.TheVariants.{Free as FreeStage, Mapped as MappedStage, Withheld as WithheldStage}
-use Rattle.sva_frames.specs.Frames.{Holding, Free, Mapped, Withheld, is_free, is_mapped, is_withheld, place_of}
+use Rattle.sva_frames.specs.Frames.{Holding, Free, Mapped, is_free, is_mapped, is_withheld, place_of}
 use Rattle.sva_frames.specs.Stages.{stage_place, is_free_stage, is_mapped_stage, is_withheld_stage}
 use Rattle.sva_frames.specs.Pool.{row, holding, holdings_from, IsCounted, IsPool}
 use Rattle.sva_frames.proofs.Pools.{slice_get-set_same}

@@ -1,4 +1,3 @@
-use Rattle.std.proofs.Common.{ap, cond, sym, ◌∙◌}
 use Rattle.std.specs.Int.{w64}
 use Rattle.std.proofs.lemmas.Nat.Bits.{bit_at_set_same, bit_at_set_other, bit_at_clear_same, bit_at_clear_other}
 use Rattle.sva_frames.proofs.bits.with_bit.Goals as goal

@@ -1,6 +1,4 @@
-use Rattle.std.proofs.Common.{◌≡◌, Some, None, sym, ap, ◌∙◌, slice_get}
-use Rattle.sva_frames.specs.declared.heads.Pending.{Pending}
-use Rattle.sva_frames.specs.Chains.{first_of}
+use Rattle.std.proofs.Common.{◌≡◌, Some, sym, ap, ◌∙◌, slice_get}
 use Rattle.sva_frames.proofs.Tables.{remove_apart, taken_out-none, taken_out-others}
 use Rattle.sva_frames.proofs.heads.take_out.Goals as goal
 

@@ -1,5 +1,4 @@
-use Rattle.std.proofs.Common.{◌≡◌, ◌<◌, List, Option, Some, None, set, length, get_or, ap, ◌∙◌, slice_get, arith}
-use Rattle.sva_frames.specs.declared.waits.Target.{Target}
+use Rattle.std.proofs.Common.{◌<◌, None, set, length, get_or, ap, ◌∙◌, arith}
 use Rattle.sva_frames.proofs.Entering.{lane_item, room_at, entered_more, count_more}
 use Rattle.sva_frames.proofs.lane.enter_all.Goals as goal
 

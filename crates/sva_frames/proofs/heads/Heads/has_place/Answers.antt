@@ -1,5 +1,4 @@
-use Rattle.std.proofs.Common.{◌≤◌, arith, ap, sym, subst, length}
-use Rattle.std.specs.Option.{IfNone, IfSome}
+use Rattle.std.proofs.Common.{◌≤◌, arith, ap, length}
 use Rattle.sva_frames.proofs.Tables.{place_if_found}
 use Rattle.sva_frames.proofs.heads.Heads.has_place.Goals as goal
 

@@ -1,4 +1,3 @@
-use Rattle.std.proofs.Common.{sym}
 use Rattle.sva_frames.proofs.Lanes.{has_place, has_room}
 use Rattle.sva_frames.proofs.lane.Lane.has_room.Goals as goal
 

@@ -4,7 +4,7 @@ use Rattle.std.proofs.lemmas.Option.{get_or_from_slice_get}
 use Rattle.sva_frames.specs.declared.waits.Target.{Target}
 use Rattle.sva_frames.specs.declared.lane.Cell.{Cell}
 use Rattle.sva_frames.specs.Chains.{target_of, unlinked, first_at}
-use Rattle.sva_frames.proofs.Lanes.{first_waits, none_at, has_place_taken, lane_pop, cell_target, first_within}
+use Rattle.sva_frames.proofs.Lanes.{first_waits, none_at, lane_pop, cell_target, first_within}
 use Rattle.sva_frames.proofs.lane.Lane.pop.Goals as goal
 
 pub returns-in_err-frame-clause-none : goal.returns-in_err-frame-clause-none

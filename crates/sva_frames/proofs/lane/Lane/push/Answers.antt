@@ -1,4 +1,4 @@
-use Rattle.std.proofs.Common.{ap, ◌∙◌, map, arith, None}
+use Rattle.std.proofs.Common.{◌∙◌, arith, None}
 use Rattle.std.proofs.lemmas.List.{map-set}
 use Rattle.std.proofs.lemmas.Option.{slice_get_within}
 use Rattle.sva_frames.specs.Chains.{target_of}

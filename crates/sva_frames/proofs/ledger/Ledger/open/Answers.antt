@@ -1,4 +1,4 @@
-use Rattle.std.proofs.Common.{replicate, arith}
+use Rattle.std.proofs.Common.{arith}
 use Rattle.sva_frames.proofs.Ledgers.{ledger_opened}
 use Rattle.sva_frames.proofs.ledger.Ledger.open.Goals as goal
 

@@ -1,4 +1,4 @@
-use Rattle.std.proofs.Common.{◌≡◌, true, refl, List, Option, Some, ap, sym, ◌∙◌, arith, slice_get}
+use Rattle.std.proofs.Common.{◌≡◌, true, refl, List, Option, Some, ap, sym, ◌∙◌, arith}
 use Rattle.std.proofs.lemmas.Option.{slice_get-get_or}
 use Rattle.sva_frames.specs.declared.waits.Target.{Target}
 use Rattle.sva_frames.proofs.Entering.{room_more, room_missing, room_everywhere}

@@ -1,4 +1,4 @@
-use Rattle.std.proofs.Common.{sym, ap, ◌∙◌, length, arith}
+use Rattle.std.proofs.Common.{ap, length, arith}
 use Rattle.sva_frames.proofs.Holdings.{length-holdings}
 use Rattle.sva_frames.proofs.Taking.{place_at}
 use Rattle.sva_frames.proofs.pool.FramePool.place.Goals as goal

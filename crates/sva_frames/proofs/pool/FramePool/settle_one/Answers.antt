@@ -1,9 +1,6 @@
-use Rattle.std.proofs.Common.{◌≡◌, ◌<◌, List, Option, Some, None, set, length, sym, ap, subst, ◌∙◌, slice_get, arith}
-use Rattle.std.proofs.lemmas.Option.{slice_get-get_or, slice_get_within}
+use Rattle.std.proofs.Common.{◌≡◌, List, Option, Some, sym, ap, ◌∙◌, slice_get, arith}
+use Rattle.std.proofs.lemmas.Option.{slice_get-get_or}
 use Rattle.sva_frames.specs.declared.waits.Target.{Target}
-use Rattle.sva_frames.specs.declared.ledger.Stage.{Stage}
-use Rattle.sva_frames.specs.Frames.{Withheld, after_waits}
-use Rattle.sva_frames.specs.Pool.{IsPool, holdings_from}
 use Rattle.sva_frames.proofs.Holdings.{settled-invariant, settled-frame, none_waits, none_past, stage_within}
 use Rattle.sva_frames.proofs.pool.FramePool.settle_one.Goals as goal
 

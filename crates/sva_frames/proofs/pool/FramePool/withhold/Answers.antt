@@ -1,6 +1,5 @@
-use Rattle.std.proofs.Common.{◌≡◌, ◌++◌, List, Option, Some, set, take, drop, length, refl, sym, ap, subst, ◌∙◌, map, slice_get, arith, vec_len}
+use Rattle.std.proofs.Common.{◌≡◌, ◌++◌, set, take, drop, length, sym, ap, subst, ◌∙◌, map, arith}
 use Rattle.std.proofs.lemmas.Option.{slice_get_within}
-use Rattle.sva_frames.specs.declared.waits.Target.{Target}
 use Rattle.sva_frames.specs.Room.{HasRoom, target_at}
 use Rattle.sva_frames.specs.Chains.{entered}
 use Rattle.sva_frames.specs.Frames.{Mapped, after_waits}

@@ -31,10 +31,13 @@ use Rattle.sva_laws.proofs.Submitted
 use Rattle.sva_laws.proofs.Shared.{Shared, IsOf, WasSo, IsNew, binds, bound_space, bound_pasid, own_from, submitted_from, shared_still, shared_more}
 use Rattle.sva_laws.proofs.Unmap as Unmapping
 
--- a space is bound while it is live; where PASIDs are one for each space, to one that is the space's
-abbrev pub BoundSpace : World → Own → Type 0
-BoundSpace w (Own.Bind b s t) = (w.is_live s ≡ true) × (w.rule ≡ PerSpace → IsOf w.part s t)
-BoundSpace w _ = Unit {0}
+-- a space is bound while it is live, where PASIDs are one for each space to one that is the space's; and a wait that an
+-- advance submits has the next cookie
+abbrev pub SuitsWorld : World → Own → Type 0
+SuitsWorld w (Own.Bind b s t) = (w.is_live s ≡ true) × (w.rule ≡ PerSpace → IsOf w.part s t)
+SuitsWorld w (Own.Drain b cookie) = cookie ≡ w.cookies
+SuitsWorld w (Own.Invalidate b cookie) = cookie ≡ w.cookies
+SuitsWorld w _ = Unit {0}
 
 -- a job is answered once it is out of the worker's hand
 abbrev pub LetsGo : World → (e : ℕ) → Own → Type 0
@@ -47,12 +50,12 @@ abbrev pub Legal : World → Act → Type 0
 Legal w NewSpace = Unit {0}
 Legal w (DropSpace s) = (e b : ℕ) → is_unreleased ((w.part e).stage b) ≡ true → (w.part e).space b ≢ s
 Legal w (Map s q f x) = (w.is_live s ≡ true) × (w.mappings.at s q ≡ None) × (is_free w f ≡ true) × (f < w.config.frames)
-Legal w (Unmap s q count order) = Unit {0}
+Legal w (Unmap s q count order) = 0 < count
 Legal w (NewBinding e) = Unit {0}
 Legal w (NewJob e g) = Unit {0}
 Legal w (Hold x j) = (j < w.jobs) × ((w.part (w.job j).endpoint).host_group (w.job j).group ≡ InHand x)
 Legal w (LetGo x) = Unit {0}
-Legal w (At e o) = (e < w.config.endpoints) × (LegalOwn w.mappings w.bindings (w.part e) o × BoundSpace w o) × LetsGo w e o
+Legal w (At e o) = (e < w.config.endpoints) × (LegalOwn w.mappings w.bindings (w.part e) o × SuitsWorld w o) × LetsGo w e o
 
 -- a table with one row replaced keeps what the old row and the new one have
 pub put_keeps : {A : Type 0} (P : ℕ → A → Type 0) (f : ℕ → A) (i : ℕ) (v : A) → P i v → ((k : ℕ) → P k (f k)) → (k : ℕ) → P k (put f i v k)
@@ -131,10 +134,10 @@ later ms x g h n m e p a b i =
       groups = i.groups;
     }
 
-bound_live_own : (w : World) (e : ℕ) (o : Own) → LegalOwn w.mappings w.bindings (w.part e) o → BoundSpace w o → (b : ℕ) → (is_unreleased ((w.part e).stage b) ≡ true → w.is_live ((w.part e).space b) ≡ true) → is_unreleased ((own (w.part e) w.messages o).stage b) ≡ true → w.is_live ((own (w.part e) w.messages o).space b) ≡ true
+bound_live_own : (w : World) (e : ℕ) (o : Own) → LegalOwn w.mappings w.bindings (w.part e) o → SuitsWorld w o → (b : ℕ) → (is_unreleased ((w.part e).stage b) ≡ true → w.is_live ((w.part e).space b) ≡ true) → is_unreleased ((own (w.part e) w.messages o).stage b) ≡ true → w.is_live ((own (w.part e) w.messages o).space b) ≡ true
 bound_live_own w e o l bs b old h = go o bs (own_from w.mappings w.bindings w.messages (w.part e) o l b h)
   where
-    go : (x : Own) → BoundSpace w x → WasSo (w.part e) (own (w.part e) w.messages o) b ⊎ IsNew x (own (w.part e) w.messages o) b → w.is_live ((own (w.part e) w.messages o).space b) ≡ true
+    go : (x : Own) → SuitsWorld w x → WasSo (w.part e) (own (w.part e) w.messages o) b ⊎ IsNew x (own (w.part e) w.messages o) b → w.is_live ((own (w.part e) w.messages o).space b) ≡ true
     go x bs (inl k) = ap w.is_live k.2 ∙ old k.0
     go (Own.Bind d s t) bs (inr k) = ap w.is_live k.2 ∙ bs.0
     go _ bs (inr k) = absurd (cc (k.0))
@@ -245,7 +248,7 @@ at_shared w e o l i rule =
     (λ x b h. inl (h, refl, refl)))
     (i.shared rule)
   where
-    its : (x : Own) → BoundSpace w x → binds x ≡ true → IsOf w.part (bound_space x) (bound_pasid x)
+    its : (x : Own) → SuitsWorld w x → binds x ≡ true → IsOf w.part (bound_space x) (bound_pasid x)
     its (Own.Bind b s t) bs h = bs.1 rule
     its _ bs h = absurd (cc (h))
 

@@ -25,7 +25,7 @@ use Rattle.sva_laws.proofs.StepKinds.Kind.{calm, single, unmapping}
 
 -- What is counted below a number that passes is less than what is counted below a higher one.
 
-count_up : (m n : ℕ) (f : ℕ → Bool) → n ≤ m → count_below n f ≤ count_below m f
+pub count_up : (m n : ℕ) (f : ℕ → Bool) → n ≤ m → count_below n f ≤ count_below m f
 count_up zero n f h =
     let none : n ≡ 0 = omega (arith, h) in
     subst (λ z. count_below z f ≤ count_below 0 f) (sym none) (omega arith)
@@ -39,13 +39,13 @@ bit_true : (b : Bool) → b ≡ true → bit b ≡ 1
 unfolding bit
 bit_true b h = grind arith
 
-count_strict : (n m : ℕ) (f : ℕ → Bool) → n < m → f n ≡ true → count_below n f < count_below m f
+pub count_strict : (n m : ℕ) (f : ℕ → Bool) → n < m → f n ≡ true → count_below n f < count_below m f
 count_strict n m f h t =
     let up = count_up m (suc n) f (omega (arith, h)) in
     let one = bit_true (f n) t in
     omega (arith, up, one, count_next n f)
 
-less_or_not : (a b : ℕ) → (a < b) ⊎ (b ≤ a)
+pub less_or_not : (a b : ℕ) → (a < b) ⊎ (b ≤ a)
 less_or_not a b = go (nat_lt a b) refl
   where
     less_is : nat_lt a b ≡ true → a < b
@@ -175,7 +175,7 @@ has_cookie w s e (Own.Drain b cookie) a by = by
 has_cookie w s e (Own.Invalidate b cookie) a by = by
 has_cookie w s e _ a by = tt
 
-own_old : (p : Part) (n : ℕ) (o : Own) (k : ℕ) → k < p.orders → (own p n o).order k ≡ p.order k
+pub own_old : (p : Part) (n : ℕ) (o : Own) (k : ℕ) → k < p.orders → (own p n o).order k ≡ p.order k
 own_old p n o k l = grind (arith, nat_tests)
 
 own_new : (cookies : ℕ) (p : Part) (n : ℕ) (o : Own) → HasCookie cookies o → (k c : ℕ) (x : Bool) → p.orders ≤ k → k < (own p n o).orders → (own p n o).order k ≡ Wait c x → (cookies_of o ≡ 1) × (c ≡ cookies)
@@ -217,7 +217,7 @@ submitted_waits true p (Some b) q count order cookie = record { old = old; new =
 submitted_waits true p None q count order cookie = same_waits (true ≡ true) cookie p p refl (λ k. refl)
 submitted_waits false p o q count order cookie = same_waits (false ≡ true) cookie p p refl (λ k. refl)
 
-submits_there : (w : World) (t e : ℕ) → Invariant w → submits w t e ≡ true → e < w.config.endpoints
+pub submits_there : (w : World) (t e : ℕ) → Invariant w → submits w t e ≡ true → e < w.config.endpoints
 submits_there w t e i h = go (bound w e t) refl h
   where
     go : (o : Option ℕ) → bound w e t ≡ o → submits_at (w.part e) o ≡ true → e < w.config.endpoints

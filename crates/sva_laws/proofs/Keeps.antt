@@ -32,11 +32,13 @@ use Rattle.sva_laws.proofs.Submitted
 use Rattle.sva_laws.proofs.Shared.{Shared, IsOf, WasSo, IsNew, binds, bound_space, bound_pasid, own_from, submitted_from, shared_still, shared_more}
 use Rattle.sva_laws.proofs.Unmap as Unmapping
 
--- a space is bound while it is live, at the binding's own endpoint; where PASIDs are one for each space, to one that is the
--- space's
-abbrev pub BoundSpace : World → (e : ℕ) → Own → Type 0
-BoundSpace w e (Own.Bind b s t) = (w.is_live s ≡ true) × (w.rule ≡ PerSpace → IsOf w.part s t) × (w.home b ≡ e)
-BoundSpace w e _ = Unit {0}
+-- a space is bound while it is live, at the binding's own endpoint, where PASIDs are one for each space under one that is
+-- the space's; and a wait that an advance submits has the next cookie
+abbrev pub SuitsWorld : World → (e : ℕ) → Own → Type 0
+SuitsWorld w e (Own.Bind b s t) = (w.is_live s ≡ true) × (w.rule ≡ PerSpace → IsOf w.part s t) × (w.home b ≡ e)
+SuitsWorld w e (Own.Drain b cookie) = cookie ≡ w.cookies
+SuitsWorld w e (Own.Invalidate b cookie) = cookie ≡ w.cookies
+SuitsWorld w e _ = Unit {0}
 
 -- a job is answered once it is out of the worker's hand
 abbrev pub LetsGo : World → (e : ℕ) → Own → Type 0
@@ -49,12 +51,12 @@ abbrev pub Legal : World → Act → Type 0
 Legal w NewSpace = Unit {0}
 Legal w (DropSpace s) = (e b : ℕ) → is_unreleased ((w.part e).stage b) ≡ true → (w.part e).space b ≢ s
 Legal w (Map s q f x) = (w.is_live s ≡ true) × (w.mappings.at s q ≡ None) × (is_free w f ≡ true) × (f < w.config.frames)
-Legal w (Unmap s q count order) = Unit {0}
+Legal w (Unmap s q count order) = 0 < count
 Legal w (NewBinding e) = Unit {0}
 Legal w (NewJob e g) = Unit {0}
 Legal w (Hold x j) = (j < w.jobs) × ((w.part (w.job j).endpoint).host_group (w.job j).group ≡ InHand x)
 Legal w (LetGo x) = Unit {0}
-Legal w (At e o) = (e < w.config.endpoints) × (LegalOwn w.mappings w.bindings (w.part e) o × BoundSpace w e o) × LetsGo w e o
+Legal w (At e o) = (e < w.config.endpoints) × (LegalOwn w.mappings w.bindings (w.part e) o × SuitsWorld w e o) × LetsGo w e o
 
 -- a table with one row replaced keeps what the old row and the new one have
 pub put_keeps : {A : Type 0} (P : ℕ → A → Type 0) (f : ℕ → A) (i : ℕ) (v : A) → P i v → ((k : ℕ) → P k (f k)) → (k : ℕ) → P k (put f i v k)
@@ -133,10 +135,10 @@ later ms x g h n m e p a b i =
       groups = i.groups;
     }
 
-bound_live_own : (w : World) (e : ℕ) (o : Own) → LegalOwn w.mappings w.bindings (w.part e) o → BoundSpace w e o → (b : ℕ) → (is_unreleased ((w.part e).stage b) ≡ true → w.is_live ((w.part e).space b) ≡ true) → is_unreleased ((own (w.part e) w.messages o).stage b) ≡ true → w.is_live ((own (w.part e) w.messages o).space b) ≡ true
+bound_live_own : (w : World) (e : ℕ) (o : Own) → LegalOwn w.mappings w.bindings (w.part e) o → SuitsWorld w e o → (b : ℕ) → (is_unreleased ((w.part e).stage b) ≡ true → w.is_live ((w.part e).space b) ≡ true) → is_unreleased ((own (w.part e) w.messages o).stage b) ≡ true → w.is_live ((own (w.part e) w.messages o).space b) ≡ true
 bound_live_own w e o l bs b old h = go o bs (own_from w.mappings w.bindings w.messages (w.part e) o l b h)
   where
-    go : (x : Own) → BoundSpace w e x → WasSo (w.part e) (own (w.part e) w.messages o) b ⊎ IsNew x (own (w.part e) w.messages o) b → w.is_live ((own (w.part e) w.messages o).space b) ≡ true
+    go : (x : Own) → SuitsWorld w e x → WasSo (w.part e) (own (w.part e) w.messages o) b ⊎ IsNew x (own (w.part e) w.messages o) b → w.is_live ((own (w.part e) w.messages o).space b) ≡ true
     go x bs (inl k) = ap w.is_live k.2 ∙ old k.0
     go (Own.Bind d s t) bs (inr k) = ap w.is_live k.2 ∙ bs.0
     go _ bs (inr k) = absurd (cc (k.0))
@@ -247,12 +249,12 @@ at_shared w e o l i rule =
     (λ x b h. inl (h, refl, refl)))
     (i.shared rule)
   where
-    its : (x : Own) → BoundSpace w e x → binds x ≡ true → IsOf w.part (bound_space x) (bound_pasid x)
+    its : (x : Own) → SuitsWorld w e x → binds x ≡ true → IsOf w.part (bound_space x) (bound_pasid x)
     its (Own.Bind b s t) bs h = bs.1 rule
     its _ bs h = absurd (cc (h))
 
 -- an act begins a binding only at the binding's own endpoint
-homed_own : (w : World) (e : ℕ) (o : Own) → LegalOwn w.mappings w.bindings (w.part e) o → BoundSpace w e o → (b : ℕ) → ((w.part e).stage b ≢ Unbound → w.home b ≡ e) → (own (w.part e) w.messages o).stage b ≢ Unbound → w.home b ≡ e
+homed_own : (w : World) (e : ℕ) (o : Own) → LegalOwn w.mappings w.bindings (w.part e) o → SuitsWorld w e o → (b : ℕ) → ((w.part e).stage b ≢ Unbound → w.home b ≡ e) → (own (w.part e) w.messages o).stage b ≢ Unbound → w.home b ≡ e
 homed_own w e o l bs b old h = grind (arith, nat_tests)
 
 at_homed : (w : World) (e : ℕ) (o : Own) → Legal w (At e o) → Invariant w → (x b : ℕ) → ((act w (At e o)).part x).stage b ≢ Unbound → w.home b ≡ x

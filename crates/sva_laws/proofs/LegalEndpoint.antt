@@ -35,11 +35,12 @@ ask w e t q i h =
     ((is_less e w.config.endpoints h.0, ((started_on p t (not_true (Labels.is_started p t) h.1.1.0), label_free 32 p.at_tag h.1.1.1.0, label_low 32 p.at_tag h.1.1.1.0), tt), tt), tt)
 
 -- what is cached for a PASID and page
-record Cached (p : Part) (t q : ℕ) : Type 0 where
-  held : p.held (Labels.cached p (Labels.bearer p t) q) ≡ Some (the (p.held (Labels.cached p (Labels.bearer p t) q)))
-  binding : p.request_binding (Labels.cached p (Labels.bearer p t) q) ≡ Labels.bearer p t
+pub record Cached (p : Part) (t q : ℕ) : Type 0 where
+  pub held : p.held (Labels.cached p (Labels.bearer p t) q) ≡ Some (the (p.held (Labels.cached p (Labels.bearer p t) q)))
+  pub binding : p.request_binding (Labels.cached p (Labels.bearer p t) q) ≡ Labels.bearer p t
+  pub page : p.request_page (Labels.cached p (Labels.bearer p t) q) ≡ q
 
-cached_is : (p : Part) (t q : ℕ) → Labels.is_cached p t q ≡ true → Cached p t q
+pub cached_is : (p : Part) (t q : ℕ) → Labels.is_cached p t q ≡ true → Cached p t q
 cached_is p t q h =
     let b = Labels.bearer p t in
     let some = any_below-true p.requests (Labels.is_held_at p b q) (bearer_of p t (λ d. any_below p.requests (Labels.is_held_at p d q)) h).1 in
@@ -48,6 +49,7 @@ cached_is p t q h =
     record {
       held = some_the (p.held r) (first (is_some (p.held r)) (p.request_binding r == b) (p.request_page r == q) low.1);
       binding = second (is_some (p.held r)) (p.request_binding r) b (p.request_page r == q) low.1;
+      page = third (is_some (p.held r)) (p.request_binding r == b) (p.request_page r) q low.1;
     }
   where
     first : (x y z : Bool) → (x && y && z) ≡ true → x ≡ true
@@ -55,6 +57,9 @@ cached_is p t q h =
 
     second : (x : Bool) (a b : ℕ) (z : Bool) → (x && a == b && z) ≡ true → a ≡ b
     second x a b z h = grind (arith, nat_tests)
+
+    third : (x y : Bool) (a b : ℕ) → (x && y && a == b) ≡ true → a ≡ b
+    third x y a b h = grind (arith, nat_tests)
 
 pub begin : (w : World) (e t q : ℕ) (x : Bool) → Invariant w → Passed (refusals w (step.BeginUse e t q x)) → LegalAll w (outcome w (step.BeginUse e t q x)).acts
 begin w e t q x i h =

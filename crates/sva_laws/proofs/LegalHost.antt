@@ -1,6 +1,6 @@
 -- What the host's steps have tested.
 use Rattle.std.proofs.Common.{◌≡◌, ◌≢◌, inl, inr, refl, ap, ◌∙◌, ℕ, suc, ◌<◌, Bool, true, false, arith}
-use Rattle.std.specs.Prelude.{◌&&◌, not, ◌==◌}
+use Rattle.std.specs.Prelude.{◌&&◌, not, ◌==◌, nat_le}
 use Rattle.std.proofs.lemmas.Bool.Decides.{nat_tests}
 use Rattle.sva_step.specs.declared.steps.Step.TheVariants as step
 use Rattle.sva_model.specs.Words.{is_some, the}
@@ -15,7 +15,7 @@ use Rattle.sva_laws.proofs.Words.{put-same, none_is, some_the, lowest_passes, an
 use Rattle.sva_laws.proofs.Bounds.{Bounds}
 use Rattle.sva_laws.proofs.Invariant.{Invariant}
 use Rattle.sva_laws.proofs.Pasids.{every_rule}
-use Rattle.sva_laws.proofs.Passed.{Passed, LegalAll, is_less, and_right, or_left, or_right, not_false, opened_is, unreleased_bound, not_bound_at, not_bound}
+use Rattle.sva_laws.proofs.Passed.{Passed, LegalAll, is_less, and_right, or_left, or_right, opened_is, unreleased_bound, not_bound_at, not_bound}
 
 pub drop : (w : World) (n : ℕ) → Invariant w → Passed (refusals w (step.DropSpace n)) → LegalAll w (outcome w (step.DropSpace n)).acts
 drop w n i h = (not_bound w (Labels.name w n) i h.1.0, tt)
@@ -106,11 +106,11 @@ advance_at : (w : World) (e b : ℕ) (s : Stage) → Invariant w → e < w.confi
 advance_at w e b Quiet i l f h = ((l, (f, tt), tt), tt)
 advance_at w e b (Stopping m) i l f h =
     let yes : m ≡ true = not_true m h.1.0 in
-    ((l, ((opened_is (w.part e) h.0, f ∙ ap (λ x. Stopping x) yes, short_one (w.part e) h.1.1.0), tt), tt), tt)
+    ((l, ((opened_is (w.part e) h.0, f ∙ ap (λ x. Stopping x) yes, short_one (w.part e) h.1.1.0), refl), tt), tt)
 advance_at w e b (Draining x) i l f h =
     let done : is_done ((w.part e).order_state x) ≡ true = not_true (is_done ((w.part e).order_state x)) (or_left (not (is_done ((w.part e).order_state x))) (Labels.has_open_group (w.part e) b) h.1.0) in
     let none = or_right (not (is_done ((w.part e).order_state x))) (Labels.has_open_group (w.part e) b) h.1.0 in
-    ((l, ((opened_is (w.part e) h.0, (x, f, done_is ((w.part e).order_state x) done), short_two (w.part e) h.1.1.0, no_open_group w.bindings (w.part e) b (i.parts e).bounds none), tt), tt), tt)
+    ((l, ((opened_is (w.part e) h.0, (x, f, done_is ((w.part e).order_state x) done), short_two (w.part e) h.1.1.0, no_open_group w.bindings (w.part e) b (i.parts e).bounds none), refl), tt), tt)
 advance_at w e b (Invalidating k x) i l f h =
     let done : is_done ((w.part e).order_state x) ≡ true = not_true (is_done ((w.part e).order_state x)) h.1.0 in
     ((l, (inr (k, x, opened_is (w.part e) h.0, f, done_is ((w.part e).order_state x) done), tt), tt), tt)
@@ -121,3 +121,10 @@ advance_at w e b Released i l f h = absurd (cc h.1.0)
 
 pub advance : (w : World) (n : ℕ) → Invariant w → Passed (refusals w (step.Advance n)) → LegalAll w (outcome w (step.Advance n)).acts
 advance w n i h = advance_at w (w.home (Labels.name w n)) (Labels.name w n) ((w.part (w.home (Labels.name w n))).stage (Labels.name w n)) i (home_there w n i h.0) refl h.1
+
+-- an unmapping takes out at least one page
+pub unmap : (w : World) (n q count : ℕ) → Passed (refusals w (step.Unmap n q count)) → LegalAll w (outcome w (step.Unmap n q count)).acts
+unmap w n q count h = (some_pages h.1.0, tt)
+  where
+    some_pages : not (nat_le 1 count && nat_le count 48) ≡ false → 0 < count
+    some_pages k = grind (arith, nat_tests)

@@ -46,3 +46,9 @@ pub mod StepKinds
 pub mod UnitSteps
 pub mod Voids
 pub mod Cookies
+pub mod Fronts
+pub mod Debts
+pub mod Targets
+pub mod OneEndpoint
+pub mod Journals
+pub mod Said

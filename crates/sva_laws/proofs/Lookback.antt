@@ -56,7 +56,7 @@ moves_adds w v a =
 gone_same : (t : Bool) (owed : ℕ → Owed) (z : MappingState) (o : ℕ → Owed) → z ≡ Gone o → gone_if t owed z ≡ Gone o
 gone_same t owed z o h = grind arith
 
-gone_from : (t : Bool) (owed : ℕ → Owed) (z : MappingState) (o : ℕ → Owed) → gone_if t owed z ≡ Gone o → (z ≡ Gone o) ⊎ ((z ≡ Present) × (t ≡ true) × (owed ≡ o))
+pub gone_from : (t : Bool) (owed : ℕ → Owed) (z : MappingState) (o : ℕ → Owed) → gone_if t owed z ≡ Gone o → (z ≡ Gone o) ⊎ ((z ≡ Present) × (t ≡ true) × (owed ≡ o))
 gone_from true owed Unmade o h = absurd (cc)
 gone_from true owed Present o h = inr (refl, refl, cc)
 gone_from true owed (Gone v) o h = inl h

@@ -21,8 +21,8 @@ outcome_legal : (w : World) (s : Step) → Invariant w → Passed (refusals w s)
 outcome_legal w step.Space i h = (tt, tt)
 outcome_legal w (step.DropSpace n) i h = Host.drop w n i h
 outcome_legal w (step.Map n q x) i h = Host.map_page w n q x i h
-outcome_legal w (step.Unmap n q count) i h = (tt, tt)
-outcome_legal w (step.UnmapRange n q order) i h = (tt, tt)
+outcome_legal w (step.Unmap n q count) i h = Host.unmap w n q count h
+outcome_legal w (step.UnmapRange n q order) i h = (omega arith, tt)
 outcome_legal w (step.Bind e n) i h = Host.bind w e n i h
 outcome_legal w (step.Unbind n) i h = Host.unbind w n i h
 outcome_legal w (step.Advance n) i h = Host.advance w n i h

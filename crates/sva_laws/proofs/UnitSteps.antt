@@ -282,7 +282,7 @@ changes w s e i = go (step_kind w s)
 
 -- And back: from what the step is to its act.
 
-delivered : (w : World) (s : Step) (e : ℕ) (about : About) → (d : Delivers w s e about) → (decide w s).acts ≡ (about_outcome w (w.part e) e (Labels.name w d.number) about).acts
+pub delivered : (w : World) (s : Step) (e : ℕ) (about : About) → (d : Delivers w s e about) → (decide w s).acts ≡ (about_outcome w (w.part e) e (Labels.name w d.number) about).acts
 delivered w s e about d =
     ap (λ z. (decide w z).acts) d.step_is
     ∙ (accepted (refusals w (step.Deliver d.number)) (outcome w (step.Deliver d.number)) d.answer (sym (ap (reply w) d.step_is) ∙ d.accepted)).2

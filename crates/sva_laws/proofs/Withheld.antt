@@ -191,6 +191,12 @@ rule_acts (a ∷ acts) w = rule_acts acts (act w a) ∙ rule_act w a
     rule_act : (w : World) (a : Act) → (act w a).rule ≡ w.rule
     rule_act w a = grind arith
 
+pub rule_next : (w : World) (s : Step) → (next w s).rule ≡ w.rule
+rule_next w s = rule_acts (decide w s).acts w
+
+pub config_next : (w : World) (s : Step) → (next w s).config ≡ w.config
+config_next w s = config_acts (decide w s).acts w
+
 rule_run : (ss : List Step) (w : World) → (run w ss).rule ≡ w.rule
 rule_run [] w = refl
 rule_run (s ∷ ss) w = rule_run ss (next w s) ∙ rule_acts (decide w s).acts w

@@ -1,2 +1,5 @@
 pub mod Laws
 pub mod UnitSteps
+pub mod Waits
+pub mod Runs
+pub mod Answers

@@ -3,6 +3,9 @@
 
 ghost use Rattle.sva_model.specs.Claims.{AlwaysAgrees};
 ghost use Rattle.sva_laws.specs.Laws.{AlwaysOwned, AlwaysPresentOrWithheld, AlwaysMatched, AlwaysHoldsJobs, AlwaysDivided, AlwaysAddsUp, AlwaysWithheldExactly, FreeByTheLastAnswer, AlwaysTold, AlwaysToldOfRange, AlwaysGiven, AlwaysLabelled, AlwaysFound, AlwaysCarried, AlwaysUnderWay, NeverOccurring, AlwaysLimited};
+ghost use Rattle.sva_laws.specs.Answers.{AlwaysFinishes, AlwaysUses, AlwaysLooks, AlwaysFrees};
+ghost use Rattle.sva_laws.specs.Runs.{AlwaysLegalInFront, AlwaysLegalByAnswer, SameForOneEndpoint};
+ghost use Rattle.sva_laws.specs.Waits.{AlwaysHasFront, AlwaysFitsDebts, AlwaysAwaitsTargets};
 ghost use Rattle.sva_laws.specs.UnitSteps.{AlwaysCountsResetDones, AlwaysChangesOrders, AlwaysVoidByReset, AlwaysNotesMarkers, AlwaysGivesCookies};
 
 /// The headline. After every list of steps, however late messages come in a permitted order: each translation that an
@@ -61,4 +64,31 @@ pub fn orders_and_resets()
     ensures void { AlwaysVoidByReset }
     ensures noted { AlwaysNotesMarkers }
     ensures cookies { AlwaysGivesCookies }
+{}
+
+/// Waits and the front of a unit: cookies rise in order of submission; a wait is done, unless a reset made it void, exactly
+/// where its cookie is below the front; what an endpoint owes for a mapping that was taken out fits the orders of its unit;
+/// and what it still waits for is a wait that is queued, or void by a reset that hasn't ended, or the end of that reset.
+pub fn waits_and_fronts()
+    ensures fronts { AlwaysHasFront }
+    ensures debts { AlwaysFitsDebts }
+    ensures targets { AlwaysAwaitsTargets }
+{}
+
+/// Journals and rules: what a legal journal begins with is legal, and one entry more is legal exactly where it says what its
+/// step answers. For one endpoint both rules of PASIDs give the same answers over every list of steps.
+pub fn journals_and_rules()
+    ensures fronts { AlwaysLegalInFront }
+    ensures entries { AlwaysLegalByAnswer }
+    ensures rules { SameForOneEndpoint }
+{}
+
+/// Answers: a finish of so many completions leaves each order that it names owed that many, and sends that many; a use
+/// answers the frame of the translation that is cached; a look answers the frame's place; and a completion that is counted
+/// answers how many orders the step makes done.
+pub fn what_answers_tell()
+    ensures finishes { AlwaysFinishes }
+    ensures uses { AlwaysUses }
+    ensures looks { AlwaysLooks }
+    ensures frees { AlwaysFrees }
 {}

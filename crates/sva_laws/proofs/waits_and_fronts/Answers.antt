@@ -1,0 +1,12 @@
+use Rattle.sva_laws.proofs.Debts.{always_debts}
+use Rattle.sva_laws.proofs.Targets.{always_front, always_awaits}
+use Rattle.sva_laws.proofs.waits_and_fronts.Goals as goal
+
+pub returns-clause-fronts : goal.returns-clause-fronts
+returns-clause-fronts c = λ rule config steps e fits. always_front rule config steps e
+
+pub returns-clause-debts : goal.returns-clause-debts
+returns-clause-debts c = λ rule config steps m e owed fits gone. always_debts rule config steps m e owed gone
+
+pub returns-clause-targets : goal.returns-clause-targets
+returns-clause-targets c = λ rule config steps m e owed fits gone silent. always_awaits rule config steps m e owed gone silent

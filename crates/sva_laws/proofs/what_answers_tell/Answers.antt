@@ -1,0 +1,14 @@
+use Rattle.sva_laws.proofs.Said.{always_finishes, always_uses, always_looks, always_frees}
+use Rattle.sva_laws.proofs.what_answers_tell.Goals as goal
+
+pub returns-clause-finishes : goal.returns-clause-finishes
+returns-clause-finishes c = λ rule config steps e vector count said fits accepted. always_finishes rule config steps e vector count said accepted
+
+pub returns-clause-uses : goal.returns-clause-uses
+returns-clause-uses c = λ rule config steps e pasid page write said fits accepted. always_uses rule config steps e pasid page write said accepted
+
+pub returns-clause-looks : goal.returns-clause-looks
+returns-clause-looks c = λ rule config steps frame said fits accepted. always_looks rule config steps frame said accepted
+
+pub returns-clause-frees : goal.returns-clause-frees
+returns-clause-frees c = λ rule config steps s e names fits opened delivers. always_frees rule config steps s e names opened delivers

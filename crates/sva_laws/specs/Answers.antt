@@ -1,0 +1,84 @@
+-- What answers tell of the step that gave them. (This project's own.)
+use Rattle.std.specs.Prelude.{◌≡◌, ◌↔◌, ℕ, ◌+◌, ◌<◌, Bool, true, false, ◌&&◌, not, Some, List, [], ◌∷◌, ◌++◌, Ok}
+use Rattle.sva_step.specs.declared.answers.Answer.{Answer}
+use Rattle.sva_step.specs.declared.answers.Answer.TheVariants as answer
+use Rattle.sva_step.specs.declared.limits.Config.{Config}
+use Rattle.sva_step.specs.declared.steps.Step.{Step}
+use Rattle.sva_step.specs.declared.steps.Step.TheVariants as step
+use Rattle.sva_model.specs.Words.{count_below}
+use Rattle.sva_model.specs.State.{PasidRule, Part, World}
+use Rattle.sva_model.specs.State.About.{InvalidatedOf}
+use Rattle.sva_model.specs.State.OrderState.{Owing}
+use Rattle.sva_model.specs.State.UseState.{Running}
+use Rattle.sva_model.specs.State.Phase.{Open}
+use Rattle.sva_model.specs.States.{is_done, place}
+use Rattle.sva_model.specs.States.Place.{Free, Mapped, Withheld}
+use Rattle.sva_model.specs.Labels.{bearer, is_named}
+use Rattle.sva_model.specs.Steps.{reply, world_after}
+use Rattle.sva_model.specs.Claims.{Fits}
+use Rattle.sva_laws.specs.UnitSteps.{Delivers}
+
+-- A finish of `count` completions: each order that the vector names is owed that many of that many; and as many completions
+-- that name these orders are in flight, as the newest messages of the endpoint. (PCI Express Base 5.0, section 10.3.3.)
+pub record Finishes (w v : World) (e vector count : ℕ) (said : Answer) : Type 0 where
+  pub answered : said ≡ answer.Sent count
+  pub owing : (k : ℕ) → is_named (w.part e) vector k ≡ true → (v.part e).order_state k ≡ Owing count count
+  pub others : (k : ℕ) → is_named (w.part e) vector k ≡ false → (v.part e).order_state k ≡ (w.part e).order_state k
+  pub messages : v.messages ≡ w.messages + count
+  pub sent : (j : ℕ) → j < count → ((v.part e).message (w.messages + j) ≡ Some (InvalidatedOf (is_named (w.part e) vector))) × (v.way (w.messages + j) ≡ e)
+
+abbrev pub AlwaysFinishes : Type 0
+AlwaysFinishes =
+    (rule : PasidRule) (config : Config) (steps : List Step) (e vector count : ℕ) (said : Answer)
+    → Fits config
+    → reply (world_after rule config steps) (step.Finish e vector count) ≡ Ok said
+    → Finishes (world_after rule config steps) (world_after rule config (steps ++ step.Finish e vector count ∷ [])) e vector count said
+
+-- A use: it begins in the slot that is answered, by the translation that is cached for the page under the bearer of the PASID,
+-- and the frame that is answered is that translation's.
+pub record Uses (w v : World) (e pasid page : ℕ) (said : Answer) : Type 0 where
+  pub slot : ℕ
+  pub low : slot < 16
+  pub request : ℕ
+  pub mapping : ℕ
+  pub held : (w.part e).held request ≡ Some mapping
+  pub of_bearer : (w.part e).request_binding request ≡ bearer (w.part e) pasid
+  pub of_page : (w.part e).request_page request ≡ page
+  pub answered : said ≡ answer.Use slot (w.mappings.frame mapping)
+  pub used : ℕ
+  pub in_slot : (v.part e).at_slot slot ≡ Some used
+  pub runs : (v.part e).use_state used ≡ Running
+  pub by : (v.part e).use_mapping used ≡ mapping
+
+abbrev pub AlwaysUses : Type 0
+AlwaysUses =
+    (rule : PasidRule) (config : Config) (steps : List Step) (e pasid page : ℕ) (write : Bool) (said : Answer)
+    → Fits config
+    → reply (world_after rule config steps) (step.BeginUse e pasid page write) ≡ Ok said
+    → Uses (world_after rule config steps) (world_after rule config (steps ++ step.BeginUse e pasid page write ∷ [])) e pasid page said
+
+-- A look answers the place of the frame.
+pub record Looks (w : World) (frame : ℕ) (said : Answer) : Type 0 where
+  pub free : (said ≡ answer.Free) ↔ (place w frame ≡ Free)
+  pub mapped : (said ≡ answer.Mapped) ↔ (place w frame ≡ Mapped)
+  pub withheld : (said ≡ answer.Withheld) ↔ (place w frame ≡ Withheld)
+
+abbrev pub AlwaysLooks : Type 0
+AlwaysLooks =
+    (rule : PasidRule) (config : Config) (steps : List Step) (frame : ℕ) (said : Answer)
+    → Fits config
+    → reply (world_after rule config steps) (step.Look frame) ≡ Ok said
+    → Looks (world_after rule config steps) frame said
+
+-- An invalidate completion that is counted at an open unit answers how many orders the step makes done.
+abbrev pub made_done : (was now : Part) → ℕ
+made_done was now = count_below was.orders (λ k. is_done (now.order_state k) && not (is_done (was.order_state k)))
+
+abbrev pub AlwaysFrees : Type 0
+AlwaysFrees =
+    (rule : PasidRule) (config : Config) (steps : List Step) (s : Step) (e : ℕ) (names : ℕ → Bool)
+    → Fits config
+    → ((world_after rule config steps).part e).phase ≡ Open
+    → Delivers (world_after rule config steps) s e (InvalidatedOf names)
+    → reply (world_after rule config steps) s
+    ≡ Ok (answer.Freed (made_done ((world_after rule config steps).part e) ((world_after rule config (steps ++ s ∷ [])).part e)))

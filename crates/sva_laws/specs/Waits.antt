@@ -1,0 +1,88 @@
+-- The waits of a unit, the front of its invalidation queue, and what an endpoint owes for a mapping that was taken out. (This
+-- project's own.)
+use Rattle.std.specs.Prelude.{◌≡◌, ◌≢◌, ◌⊎◌, ◌↔◌, ℕ, suc, ◌+◌, ◌<◌, ◌≤◌, Bool, true, false, List}
+use Rattle.sva_step.specs.declared.limits.Config.{Config}
+use Rattle.sva_step.specs.declared.steps.Step.{Step}
+use Rattle.sva_model.specs.State.{PasidRule, Owed, Part}
+use Rattle.sva_model.specs.State.Owed.{Nothing, Ranges, Pasid, AReset}
+use Rattle.sva_model.specs.State.MappingState.{Gone}
+use Rattle.sva_model.specs.State.Order.{Wait}
+use Rattle.sva_model.specs.State.OrderState.{Queued, Done, Void}
+use Rattle.sva_model.specs.State.Stage.{Draining, Invalidating}
+use Rattle.sva_model.specs.State.Phase.{Open}
+use Rattle.sva_model.specs.States.{is_wait, answered}
+use Rattle.sva_model.specs.Steps.{world_after}
+use Rattle.sva_model.specs.Claims.{Fits}
+
+-- The waits of a unit by their cookies.
+pub record HasFront (cookies : ℕ) (p : Part) : Type 0 where
+  -- cookies rise in order of submission
+  pub rise : (wait later c d : ℕ) (x y : Bool) → wait < later → later < p.orders → p.order wait ≡ Wait c x → p.order later ≡ Wait d y → c < d
+  -- their end is one more than the greatest one that was submitted, and 0 where none was; it was given out
+  pub below : (wait c : ℕ) (x : Bool) → wait < p.orders → p.order wait ≡ Wait c x → c < p.waits_end
+  pub greatest : (p.waits_end ≡ 0) ⊎ ((wait c : ℕ) × (x : Bool) × (wait < p.orders) × (p.order wait ≡ Wait c x) × (p.waits_end ≡ suc c))
+  pub given : p.waits_end ≤ cookies
+  pub front_low : p.front ≤ p.waits_end
+  -- a wait is at the front or behind it exactly where it is queued, or void by a reset that hasn't ended
+  pub at_front :
+      (wait c : ℕ) (x : Bool)
+      → wait < p.orders
+      → p.order wait ≡ Wait c x
+      → (p.front ≤ c) ↔ ((p.order_state wait ≡ Queued) ⊎ ((p.order_state wait ≡ Void) × (p.phase ≢ Open) × (p.front ≤ c)))
+  -- one that isn't void is done exactly where it is below the front
+  pub passed : (wait c : ℕ) (x : Bool) → wait < p.orders → p.order wait ≡ Wait c x → p.order_state wait ≢ Void → (p.order_state wait ≡ Done) ↔ (c < p.front)
+  -- and so is the wait that a Draining or Invalidating binding waits for, void or not
+  pub draining : (b wait c : ℕ) (x : Bool) → p.stage b ≡ Draining wait → p.order wait ≡ Wait c x → (p.order_state wait ≡ Done) ↔ (c < p.front)
+  pub invalidating : (b k wait c : ℕ) (x : Bool) → p.stage b ≡ Invalidating k wait → p.order wait ≡ Wait c x → (p.order_state wait ≡ Done) ↔ (c < p.front)
+
+abbrev pub AlwaysHasFront : Type 0
+AlwaysHasFront = (rule : PasidRule) (config : Config) (steps : List Step) (e : ℕ) → Fits config → HasFront (world_after rule config steps).cookies ((world_after rule config steps).part e)
+
+-- a wait stands behind its invalidations, the orders from `first` on; since so many reset-dones none of them is void at an
+-- open unit, they are done where it is, and it is void only by the reset that the unit is in
+pub record IsBehind (p : Part) (first wait resets : ℕ) : Type 0 where
+  pub low : first ≤ wait
+  pub made : wait < p.orders
+  pub is_a_wait : is_wait (p.order wait) ≡ true
+  pub ahead : (k : ℕ) → first ≤ k → k < wait → is_wait (p.order k) ≡ false
+  pub counted : resets ≤ p.resets
+  pub not_void : resets ≡ p.resets → p.phase ≡ Open → (k : ℕ) → first ≤ k → k ≤ wait → p.order_state k ≢ Void
+  pub done : resets ≡ p.resets → p.order_state wait ≡ Done → (k : ℕ) → first ≤ k → k ≤ wait → p.order_state k ≡ Done
+  pub void : resets ≡ p.resets → p.order_state wait ≡ Void → (c : ℕ) (x : Bool) → p.order wait ≡ Wait c x → p.front ≤ c
+
+-- What an endpoint owes fits the orders of its unit. What was written down in reset waits for the end of that reset.
+abbrev pub FitsDebt : Part → Owed → Type 0
+FitsDebt p Nothing = Unit {0}
+FitsDebt p (Ranges first count resets) = (0 < count) × IsBehind p first (first + count) resets
+FitsDebt p (Pasid invalidation wait resets in_reset) = (wait ≡ suc invalidation) × IsBehind p invalidation wait resets × (in_reset ≡ true → resets ≡ p.resets → p.phase ≢ Open)
+FitsDebt p (AReset resets) = (resets ≤ p.resets) × (resets ≡ p.resets → p.phase ≢ Open)
+
+abbrev pub AlwaysFitsDebts : Type 0
+AlwaysFitsDebts =
+    (rule : PasidRule) (config : Config) (steps : List Step) (m e : ℕ) (owed : ℕ → Owed)
+    → Fits config
+    → (world_after rule config steps).mappings.state m ≡ Gone owed
+    → FitsDebt ((world_after rule config steps).part e) (owed e)
+
+-- What an endpoint that hasn't answered waits for: a wait that is queued, or void by a reset that hasn't ended; or the end of
+-- the reset that its unit is in.
+abbrev pub IsAwaited : Part → (wait : ℕ) → Type 0
+IsAwaited p wait =
+    (wait < p.orders)
+    × (c : ℕ) × (x : Bool) × (p.order wait ≡ Wait c x) × (p.front ≤ c)
+    × ((p.order_state wait ≡ Queued) ⊎ ((p.order_state wait ≡ Void) × (p.phase ≢ Open)))
+
+abbrev pub AwaitsTarget : Part → Owed → Type 0
+AwaitsTarget p Nothing = ⊥
+AwaitsTarget p (Ranges first count resets) = IsAwaited p (first + count)
+AwaitsTarget p (Pasid invalidation wait resets false) = IsAwaited p wait
+AwaitsTarget p (Pasid invalidation wait resets true) = p.phase ≢ Open
+AwaitsTarget p (AReset resets) = p.phase ≢ Open
+
+abbrev pub AlwaysAwaitsTargets : Type 0
+AlwaysAwaitsTargets =
+    (rule : PasidRule) (config : Config) (steps : List Step) (m e : ℕ) (owed : ℕ → Owed)
+    → Fits config
+    → (world_after rule config steps).mappings.state m ≡ Gone owed
+    → answered ((world_after rule config steps).part e) (owed e) ≡ false
+    → AwaitsTarget ((world_after rule config steps).part e) (owed e)

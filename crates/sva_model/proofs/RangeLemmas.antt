@@ -98,7 +98,7 @@ pub by_code : (P : Code → Option Range → Type 0)
     → ((q : ℕ) (s : Bool) → 2 ^ 36 ≤ q → P (record { page = q; s = s }) None)
     → ((q : ℕ) → q < 2 ^ 36 → P (record { page = q; s = false }) (Some (record { base = q; order = 0 })))
     → ((q j : ℕ) → q < 2 ^ 36 → j < 9 → q % 2 ^ suc j ≡ 2 ^ j - 1
-       → P (record { page = q; s = true }) (Some (record { base = q - q % 2 ^ suc j; order = suc j })))
+    → P (record { page = q; s = true }) (Some (record { base = q - q % 2 ^ suc j; order = suc j })))
     → ((q : ℕ) → q < 2 ^ 36 → q % 2 ^ 9 ≡ 2 ^ 9 - 1 → P (record { page = q; s = true }) None)
     → (c : Code) → P c (decode c)
 by_code P high clear set full c = at c.page c.s (cases_lt c.page (2 ^ 36))
@@ -170,8 +170,8 @@ written_back =
     (λ q s high. tt)
     (λ q low. refl)
     (λ q j low few bits.
-      let same : q - q % 2 ^ suc j + (2 ^ j - 1) ≡ q = omega (arith, mod_le q (suc j)) in
-      ap (λ n. record { page = n; s = true }) same)
+    let same : q - q % 2 ^ suc j + (2 ^ j - 1) ≡ q = omega (arith, mod_le q (suc j)) in
+    ap (λ n. record { page = n; s = true }) same)
     (λ q low bits. tt)
 
 some_none : (r : Range) → Some r ≡ None → ⊥

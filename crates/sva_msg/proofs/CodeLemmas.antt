@@ -5,7 +5,7 @@ use Rattle.std.proofs.Common.{arith, sym, ◌∙◌, ap}
 use Rattle.std.proofs.lemmas.Nat.Bits.{bit_at_lowest, bit_at-suc, bit_at-trailing_ones}
 use Rattle.std.proofs.Math.Nat.{pow-le-pow_right}
 use Rattle.std.proofs.lemmas.Nat.{one_shl}
-use Rattle.sva_model.specs.Range.{Range, IsRange, ones, decode, range_about}
+use Rattle.sva_model.specs.Range.{IsRange, ones, decode, range_about}
 use Rattle.sva_model.proofs.RangeLemmas.{ones-even, ones-odd, decode-set, range_about-some, range_about-none, end-le, aligned_down}
 
 -- t ones below a zero

@@ -236,10 +236,10 @@ unmapped_fronts g n m true p (Some b) q count order cookie low more high bo or f
 unmapped_fronts g n m true p None q count order cookie low more high bo or f = more_cookies n m p more f
 unmapped_fronts g n m false p o q count order cookie low more high bo or f = more_cookies n m p more f
 
-suits_cookie : (w : World) (o : Own) → SuitsWorld w o → HasCookie w.cookies o
-suits_cookie w (Own.Drain b cookie) s = s
-suits_cookie w (Own.Invalidate b cookie) s = s
-suits_cookie w _ s = tt
+suits_cookie : (w : World) (e : ℕ) (o : Own) → SuitsWorld w e o → HasCookie w.cookies o
+suits_cookie w e (Own.Drain b cookie) s = s
+suits_cookie w e (Own.Invalidate b cookie) s = s
+suits_cookie w e _ s = tt
 
 pub act_fronts : (w : World) (a : Act) → Legal w a → Invariant w → AllFronts w → AllFronts (act w a)
 act_fronts w NewSpace l i h = h
@@ -257,7 +257,7 @@ act_fronts w (Hold x j) l i h = h
 act_fronts w (LetGo x) l i h = h
 act_fronts w (At e o) l i h =
     put_keeps (λ k p. Fronts (w.cookies + cookies_of o) p) w.part e (own (w.part e) w.messages o)
-    (every w.mappings w.bindings w.messages w.cookies (w.part e) o l.1.0 (suits_cookie w o l.1.1) (i.parts e).bounds (i.parts e).labels (i.parts e).orders (h e))
+    (every w.mappings w.bindings w.messages w.cookies (w.part e) o l.1.0 (suits_cookie w e o l.1.1) (i.parts e).bounds (i.parts e).labels (i.parts e).orders (h e))
     (λ d. more_cookies w.cookies (w.cookies + cookies_of o) (w.part d) (omega arith) (h d))
 
 pub acts_fronts : (acts : List Act) (w : World) → LegalAll w acts → Invariant w → AllFronts w → AllFronts (after_acts w acts)

@@ -6,7 +6,7 @@ use Rattle.std.proofs.lemmas.List.Elements.{Contains-append_left, Contains-appen
 use Rattle.std.proofs.lemmas.Bool.Decides.{nat_tests}
 use Rattle.sva_itags.specs.Tags.{lowest_free}
 use Rattle.sva_queue.specs.declared.descriptors.Descriptor.{Descriptor}
-use Rattle.sva_queue.specs.declared.descriptors.Descriptor.TheVariants.{Page, Pasid, Wait}
+use Rattle.sva_queue.specs.declared.descriptors.Descriptor.TheVariants.{Range, Pasid, Wait}
 use Rattle.sva_queue.specs.declared.descriptors.Pumped.{Pumped}
 use Rattle.sva_queue.specs.declared.descriptors.Pumped.TheVariants.{Issued, Done, Blocked, Idle}
 use Rattle.sva_queue.specs.Cookies.{cookies_of, AreRising, number_after}
@@ -163,11 +163,11 @@ later call calls queue cookie (Ended v h) = Ended (Contains-append_right (voided
 -- the cookies that a pump takes off are those that it answers
 cookies-taken_off : (answer : Pumped) (queue : Queue) (e : Bool) (ds : List Descriptor) → answer_at queue e ds ≡ answer → cookies_of (taken_off answer ds) ≡ cookie_done answer
 cookies-taken_off (Issued tag) queue e [] is = refl
-cookies-taken_off (Issued tag) queue e (Page pasid page ∷ ds) is = refl
+cookies-taken_off (Issued tag) queue e (Range pasid range ∷ ds) is = refl
 cookies-taken_off (Issued tag) queue e (Pasid pasid ∷ ds) is = refl
 cookies-taken_off (Issued tag) queue e (Wait c drain ∷ ds) is = absurd (wait_not_issued (is_complete queue e drain) c tag is)
 cookies-taken_off (Done cookie) queue e [] is = absurd (cc)
-cookies-taken_off (Done cookie) queue e (Page pasid page ∷ ds) is = absurd (issued_not_done (lowest_free queue.tags) cookie is)
+cookies-taken_off (Done cookie) queue e (Range pasid range ∷ ds) is = absurd (issued_not_done (lowest_free queue.tags) cookie is)
 cookies-taken_off (Done cookie) queue e (Pasid pasid ∷ ds) is = absurd (issued_not_done (lowest_free queue.tags) cookie is)
 cookies-taken_off (Done cookie) queue e (Wait c drain ∷ ds) is = ap (λ k. k ∷ []) (wait_done (is_complete queue e drain) c cookie is)
 cookies-taken_off Blocked queue e ds is = refl

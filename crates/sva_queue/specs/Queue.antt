@@ -5,7 +5,7 @@ use Rattle.std.specs.List.{list_all}
 use Rattle.sva_itags.specs.Tags.{all_free, lowest_free, taken, completed}
 use Rattle.sva_itags.specs.declared.itags.Busy.{Busy}
 use Rattle.sva_queue.specs.declared.descriptors.Descriptor.{Descriptor}
-use Rattle.sva_queue.specs.declared.descriptors.Descriptor.TheVariants.{Page, Pasid, Wait}
+use Rattle.sva_queue.specs.declared.descriptors.Descriptor.TheVariants.{Range, Pasid, Wait}
 use Rattle.sva_queue.specs.declared.descriptors.Pumped.{Pumped}
 use Rattle.sva_queue.specs.declared.descriptors.Pumped.TheVariants.{Issued, Done, Blocked, Idle}
 use Rattle.sva_queue.specs.Cookies.{AreRising, number_after}
@@ -62,7 +62,7 @@ issued None = Blocked
 
 -- what the unit answers to a descriptor at the head
 abbrev pub answer_to : Queue → Bool → Descriptor → Pumped
-answer_to queue prq_empty (Page pasid page) = issued (lowest_free queue.tags)
+answer_to queue prq_empty (Range pasid range) = issued (lowest_free queue.tags)
 answer_to queue prq_empty (Pasid pasid) = issued (lowest_free queue.tags)
 answer_to queue prq_empty (Wait cookie drain) = if is_complete queue prq_empty drain then Done cookie else Blocked
 

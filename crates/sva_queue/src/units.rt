@@ -17,7 +17,7 @@ fn number_after_one(first: u64, descriptor: Descriptor) -> u64
 {
     match descriptor {
         Descriptor::Wait { cookie, .. } => cookie + 1,
-        Descriptor::Page { .. } | Descriptor::Pasid { .. } => first,
+        Descriptor::Range { .. } | Descriptor::Pasid { .. } => first,
     }
 }
 
@@ -161,7 +161,7 @@ impl Unit {
                     Pumped::Blocked
                 }
             }
-            Some(Descriptor::Page { .. } | Descriptor::Pasid { .. }) => {
+            Some(Descriptor::Range { .. } | Descriptor::Pasid { .. }) => {
                 match self.tags.lowest_free() {
                     Some(tag) => Pumped::Issued(tag),
                     None => Pumped::Blocked,
@@ -250,19 +250,23 @@ pub fn laws()
 mod tests {
     use super::*;
     use std::test::Fail;
+    use sva_msg::Range;
 
     #[test]
     fn holds_64_descriptors(rt: HostRuntime) {
         let mut unit = Unit::new();
-        let pages = [Descriptor::Page { pasid: 1, page: 16 }; 63];
-        assert_eq!(rt; unit.submit(&pages), Ok(()));
+        let one = Descriptor::Range {
+            pasid: 1,
+            range: Range::new(16, 0),
+        };
+        assert_eq!(rt; unit.submit(&[one; 63]), Ok(()));
         let two = [Descriptor::Pasid { pasid: 1 }; 2];
         assert_eq!(rt; unit.submit(&two), Err(QueueFull));
         assert_eq!(rt; unit.room(), 1);
         assert_eq!(rt; unit.submit(&two[1..]), Ok(()));
         assert_eq!(rt; unit.submit(&two[1..]), Err(QueueFull));
         assert_eq!(rt; unit.room(), 0);
-        assert_eq!(rt; unit.head(), Some(pages[0]));
+        assert_eq!(rt; unit.head(), Some(one));
         assert_eq!(rt; unit.pump(true), Pumped::Issued(0));
         assert_eq!(rt; unit.submit(&two[1..]), Ok(()));
     }
@@ -276,7 +280,8 @@ mod tests {
     #[test]
     fn waits_for_tag_and_drain(rt: HostRuntime) -> Result<(), Fail> {
         let mut unit = Unit::default();
-        unit.submit(&[Descriptor::Page { pasid: 1, page: 16 }, wait(7, true)])?;
+        let range = Range::new(16, 2);
+        unit.submit(&[Descriptor::Range { pasid: 1, range }, wait(7, true)])?;
         assert_eq!(rt; unit.pump(false), Pumped::Issued(0));
         assert_eq!(rt; unit.pump(false), Pumped::Blocked);
         assert_eq!(rt; unit.arrived(1, Count::new(1)), 1);
@@ -296,8 +301,14 @@ mod tests {
         let plain = wait(0, false);
         let draining = wait(4, true);
         let all = Descriptor::Pasid { pasid: 1 };
-        let page = Descriptor::Page { pasid: 1, page: 16 };
-        let other = Descriptor::Page { pasid: 1, page: 17 };
+        let page = Descriptor::Range {
+            pasid: 1,
+            range: Range::new(17, 0),
+        };
+        let other = Descriptor::Range {
+            pasid: 1,
+            range: Range::new(32, 3),
+        };
         unit.submit(&[page, other, plain, all, draining])?;
         assert_eq!(rt; unit.next(false), Pumped::Issued(0));
         assert_eq!(rt; unit.pump(false), Pumped::Issued(0));

@@ -2,17 +2,10 @@
 use Rattle.std.specs.Prelude.{◌≡◌, ℕ, zero, suc, ◌+◌, ◌-◌, ◌*◌, ◌/◌, ◌%◌, ◌^◌, ◌<◌, ◌≤◌, Bool, true, false, ◌⊎◌, ◌↔◌, nat_lt, nat_le, IsTrue, Option, Some, None, IfSome, refl}
 use Rattle.std.proofs.Common.{arith, sym, ◌∙◌, ap, inl, inr}
 use Rattle.std.proofs.Math.Nat.{pow-suc, mul-le-mul_right, add-mul}
-use Rattle.std.proofs.lemmas.Bool.{cases_lt, and_parts, and_from, ltb-true, leb-true, lt-ltb, le-leb}
-use Rattle.std.proofs.lemmas.Bool.Decides.{nat_tests}
+use Rattle.std.proofs.lemmas.Bool.{cases_lt, and_parts, and_from, ltb-true, leb-true, lt-ltb, le-ltb, le-leb}
 use Rattle.std.proofs.lemmas.Nat.{pow_pos, pow-add, mod-pow-add, mod_below, shr_split, shr_below, mod_low}
 use Rattle.sva_model.specs.Range.{Range, IsRange, Code, pages_in, is_in, encode, encode_by, ones, range_about, decode, decode_by}
 use Rattle.sva_model.specs.Ranges.{IsNoCode, AreCodes}
-
-less : (a b : ℕ) → a < b → nat_lt a b ≡ true
-less a b h = grind (arith, nat_tests)
-
-not_less : (a b : ℕ) → b ≤ a → nat_lt a b ≡ false
-not_less a b h = grind (arith, nat_tests)
 
 -- Bits from bit 0 upwards.
 
@@ -86,19 +79,19 @@ all-ones (suc n) q e = by (λ same. all-ones n (q / 2) same) (cases_lt (q % 2) 1
 -- What a code is read as.
 
 pub decode-high : (q : ℕ) (s : Bool) → 2 ^ 36 ≤ q → decode (record { page = q; s = s }) ≡ None
-decode-high q s h = ap (λ t. decode_by t (record { page = q; s = s })) (not_less q (2 ^ 36) h)
+decode-high q s h = ap (λ t. decode_by t (record { page = q; s = s })) (le-ltb q (2 ^ 36) h)
 
 pub decode-clear : (q : ℕ) → q < 2 ^ 36 → decode (record { page = q; s = false }) ≡ Some (record { base = q; order = 0 })
-decode-clear q h = ap (λ t. decode_by t (record { page = q; s = false })) (less q (2 ^ 36) h)
+decode-clear q h = ap (λ t. decode_by t (record { page = q; s = false })) (lt-ltb q (2 ^ 36) h)
 
 pub decode-set : (q : ℕ) → q < 2 ^ 36 → decode (record { page = q; s = true }) ≡ range_about q (ones 9 q)
-decode-set q h = ap (λ t. decode_by t (record { page = q; s = true })) (less q (2 ^ 36) h)
+decode-set q h = ap (λ t. decode_by t (record { page = q; s = true })) (lt-ltb q (2 ^ 36) h)
 
 pub range_about-some : (q j : ℕ) → j < 9 → range_about q j ≡ Some (record { base = q - q % 2 ^ suc j; order = suc j })
-range_about-some q j h = rw (less j 9 h) refl
+range_about-some q j h = rw (lt-ltb j 9 h) refl
 
 pub range_about-none : (q j : ℕ) → 9 ≤ j → range_about q j ≡ None
-range_about-none q j h = rw (not_less j 9 h) refl
+range_about-none q j h = rw (le-ltb j 9 h) refl
 
 -- what holds of what each code is read as: no page number, s clear, and s set with j bits set, fewer than nine or all nine
 pub by_code : (P : Code → Option Range → Type 0)

@@ -46,6 +46,12 @@ number_after-append (Wait cookie drain ∷ xs) ys first = number_after-append xs
 pub number_after-more : (xs : List Descriptor) (i first : ℕ) (d : Descriptor) → i < length xs → number_after (number_after first (take i xs)) (get_or xs i d ∷ []) ≡ number_after first (take (i + 1) xs)
 number_after-more xs i first d lt = sym (number_after-append (take i xs) (get_or xs i d ∷ []) first) ∙ ap (number_after first) (sym (take_more xs i d lt))
 
+-- the same of an item that was read at this place
+pub number_after-item : (xs : List Descriptor) (i first : ℕ) (item : Descriptor) → i < length xs → item ≡ get_or xs i item
+    → number_after (number_after first (take i xs)) (item ∷ []) ≡ number_after first (take (i + 1) xs)
+number_after-item xs i first item lt read =
+    ap (λ (d : Descriptor). number_after (number_after first (take i xs)) (d ∷ [])) read ∙ number_after-more xs i first item lt
+
 -- ---- bounds
 pub rising-le : (xs : List Descriptor) (first : ℕ) → AreRising first xs → first ≤ number_after first xs
 rising-le [] first h = omega arith

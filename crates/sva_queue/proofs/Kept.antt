@@ -19,7 +19,7 @@ pub more-in_order : (queue : Queue) (more : List Descriptor) → MaySubmit queue
 more-in_order queue more may o =
     let back : queue.back ≡ number_after queue.front queue.descriptors = o.at_open may.opened in
     let same : number_after queue.back more ≡ number_after queue.front (queue.descriptors ++ more) =
-        ap (λ n. number_after n more) back ∙ sym (number_after-append queue.descriptors more queue.front) in
+    ap (λ n. number_after n more) back ∙ sym (number_after-append queue.descriptors more queue.front) in
     let rising : AreRising queue.front (queue.descriptors ++ more) = rising-append queue.descriptors more queue.front o.rising may.rising in
     record {
       rising = rising;

@@ -77,7 +77,7 @@ impl Twins {
             1 => self.submit(&[wait], cookie + 1),
             2 => self.submit(&[some, wait], cookie + 1),
             3 => self.submit(&[all, wait, some, second], cookie + 3),
-            4 => self.submit(&[some, some, some, some, some, some, some, wait], cookie + 1),
+            4 => self.submit(&[some; 8], cookie),
             _ => self.submit(&[], cookie),
         }
     }
@@ -100,7 +100,11 @@ impl Twins {
             24..=43 => self.unit.pump(flag) == self.plain.pump(flag),
             _ => {
                 let vector = (number >> 32) as u32;
-                let count = if flag { 1 } else { ((number >> 9) % 8 + 1) as u8 };
+                let count = if flag {
+                    1
+                } else {
+                    ((number >> 9) % 8 + 1) as u8
+                };
                 let count = Count::new(count);
                 self.unit.arrived(vector, count) == self.plain.arrived(vector, count)
             }

@@ -46,13 +46,13 @@ pub struct Unit {
 }
 
 impl Model for Unit {
-    ghost use Rattle.sva_queue.specs.Queue.{Queue, InOrder};
+    ghost use Rattle.sva_queue.specs.Queue.{Queue, InOrder, queue_of};
 
     ghost Value = { Queue };
 
-    ghost view = { λ u. record { descriptors = u.queue; is_open = u.is_open; tags = u.tags; front = u.front; back = u.back } };
+    ghost view = { λ u. queue_of u.queue u.tags u.is_open u.front u.back };
 
-    ghost invariant = { λ u. InOrder (record { descriptors = u.queue; is_open = u.is_open; tags = u.tags; front = u.front; back = u.back }) };
+    ghost invariant = { λ u. InOrder (queue_of u.queue u.tags u.is_open u.front u.back) };
 }
 
 impl Default for Unit {
@@ -255,20 +255,19 @@ mod tests {
     #[test]
     fn holds_64_descriptors(rt: HostRuntime) {
         let mut unit = Unit::new();
-        let one = Descriptor::Range {
-            pasid: 1,
-            range: Range::new(16, 0),
-        };
-        assert_eq!(rt; unit.submit(&[one; 63]), Ok(()));
+        let range = Range::new(16, 0);
+        let all = [Descriptor::Range { pasid: 1, range }; 64];
+        let one = [Descriptor::Pasid { pasid: 1 }];
         let two = [Descriptor::Pasid { pasid: 1 }; 2];
-        assert_eq!(rt; unit.submit(&two), Err(QueueFull));
-        assert_eq!(rt; unit.room(), 1);
-        assert_eq!(rt; unit.submit(&two[1..]), Ok(()));
-        assert_eq!(rt; unit.submit(&two[1..]), Err(QueueFull));
+        assert_eq!(rt; unit.submit(&all), Ok(()));
         assert_eq!(rt; unit.room(), 0);
-        assert_eq!(rt; unit.head(), Some(one));
+        assert_eq!(rt; unit.submit(&one), Err(QueueFull));
+        assert_eq!(rt; unit.submit(&two), Err(QueueFull));
+        assert_eq!(rt; unit.head(), all.first().copied());
         assert_eq!(rt; unit.pump(true), Pumped::Issued(0));
-        assert_eq!(rt; unit.submit(&two[1..]), Ok(()));
+        assert_eq!(rt; unit.room(), 1);
+        assert_eq!(rt; unit.submit(&two), Err(QueueFull));
+        assert_eq!(rt; unit.submit(&one), Ok(()));
     }
 
     fn wait(cookie: u64, drain: bool) -> Descriptor
@@ -309,10 +308,11 @@ mod tests {
             pasid: 1,
             range: Range::new(32, 3),
         };
-        unit.submit(&[page, other, plain, all, draining])?;
+        let descriptors = [page, other, plain, all, draining];
+        unit.submit(&descriptors)?;
         assert_eq!(rt; unit.next(false), Pumped::Issued(0));
         assert_eq!(rt; unit.pump(false), Pumped::Issued(0));
-        assert_eq!(rt; unit.head(), Some(other));
+        assert_eq!(rt; unit.head(), descriptors.get(1).copied());
         assert_eq!(rt; unit.pump(false), Pumped::Issued(1));
         assert_eq!(rt; unit.pump(true), Pumped::Blocked);
         // Both tags wait for two; tag 0 has its second, tag 1 its first.
@@ -325,7 +325,7 @@ mod tests {
         assert_eq!(rt; unit.pump(false), Pumped::Done(0));
         assert_eq!(rt; unit.front(), 1);
         assert_eq!(rt; unit.pump(false), Pumped::Issued(0));
-        assert_eq!(rt; unit.head(), Some(draining));
+        assert_eq!(rt; unit.head(), descriptors.last().copied());
         assert_eq!(rt; unit.pump(true), Pumped::Blocked);
         unit.begin_reset();
         assert!(rt; !unit.is_open());

@@ -6,7 +6,7 @@ use Rattle.std.proofs.lemmas.List.Elements.{Contains-append_left, Contains-appen
 use Rattle.std.proofs.lemmas.Bool.Decides.{nat_tests}
 use Rattle.sva_itags.specs.Tags.{lowest_free}
 use Rattle.sva_queue.specs.declared.descriptors.Descriptor.{Descriptor}
-use Rattle.sva_queue.specs.declared.descriptors.Descriptor.TheVariants.{Page, Pasid, Wait}
+use Rattle.sva_queue.specs.declared.descriptors.Descriptor.TheVariants.{Range, Pasid, Wait}
 use Rattle.sva_queue.specs.declared.descriptors.Pumped.{Pumped}
 use Rattle.sva_queue.specs.declared.descriptors.Pumped.TheVariants.{Issued, Done, Blocked, Idle}
 use Rattle.sva_queue.specs.Cookies.{cookies_of, AreRising, number_after}
@@ -57,7 +57,7 @@ below-back queue o cookie h = by queue.is_open refl
     by : (b : Bool) → b ≡ queue.is_open → cookie < queue.back
     by true opened =
         let within : (queue.front ≤ cookie) × (cookie < number_after queue.front queue.descriptors) =
-            rising-within queue.descriptors queue.front cookie o.rising h in
+        rising-within queue.descriptors queue.front cookie o.rising h in
         omega (arith, within.1, o.at_open (sym opened))
     by false closed = absurd (contains_none cookie (subst (λ ds. Contains (cookies_of ds) cookie) (o.in_reset (sym closed)) h))
 
@@ -85,7 +85,7 @@ in_reset (Arrived v n ∷ calls) queue p o closed = in_reset calls (after queue 
 in_reset (BeginReset ∷ calls) queue p o closed = in_reset calls (reset_begun queue) p.1 (call-in_order BeginReset queue p.0 o) refl
 in_reset (EndReset ∷ calls) queue p o closed =
     let later : (reset_ended queue).front ≤ (after_all (reset_ended queue) calls).front =
-        all-front calls (reset_ended queue) p.1 (call-in_order EndReset queue p.0 o) in
+    all-front calls (reset_ended queue) p.1 (call-in_order EndReset queue p.0 o) in
     let raised : (reset_ended queue).front ≡ queue.back = ap (λ (b : Bool). if b then queue.front else queue.back) closed in
     record { stays = λ k. absurd (cc); raised = λ _. omega (arith, later, raised) }
 
@@ -96,9 +96,9 @@ begun-from_front false calls queue is p o cookie rest h =
     elim (Contains-append_cases (cookies_of queue.descriptors) (void_in_reset (reset_begun queue) calls) cookie h) [
       | inl here ↦
           let stays : (after_all (reset_begun queue) calls).front ≡ queue.front =
-              (in_reset calls (reset_begun queue) p (call-in_order BeginReset queue tt o) refl).stays (sym is) in
+          (in_reset calls (reset_begun queue) p (call-in_order BeginReset queue tt o) refl).stays (sym is) in
           let within : (queue.front ≤ cookie) × (cookie < number_after queue.front queue.descriptors) =
-              rising-within queue.descriptors queue.front cookie o.rising here in
+          rising-within queue.descriptors queue.front cookie o.rising here in
           omega (arith, stays, within.0)
       | inr there ↦ rest there
     ]
@@ -163,11 +163,11 @@ later call calls queue cookie (Ended v h) = Ended (Contains-append_right (voided
 -- the cookies that a pump takes off are those that it answers
 cookies-taken_off : (answer : Pumped) (queue : Queue) (e : Bool) (ds : List Descriptor) → answer_at queue e ds ≡ answer → cookies_of (taken_off answer ds) ≡ cookie_done answer
 cookies-taken_off (Issued tag) queue e [] is = refl
-cookies-taken_off (Issued tag) queue e (Page pasid page ∷ ds) is = refl
+cookies-taken_off (Issued tag) queue e (Range pasid range ∷ ds) is = refl
 cookies-taken_off (Issued tag) queue e (Pasid pasid ∷ ds) is = refl
 cookies-taken_off (Issued tag) queue e (Wait c drain ∷ ds) is = absurd (wait_not_issued (is_complete queue e drain) c tag is)
 cookies-taken_off (Done cookie) queue e [] is = absurd (cc)
-cookies-taken_off (Done cookie) queue e (Page pasid page ∷ ds) is = absurd (issued_not_done (lowest_free queue.tags) cookie is)
+cookies-taken_off (Done cookie) queue e (Range pasid range ∷ ds) is = absurd (issued_not_done (lowest_free queue.tags) cookie is)
 cookies-taken_off (Done cookie) queue e (Pasid pasid ∷ ds) is = absurd (issued_not_done (lowest_free queue.tags) cookie is)
 cookies-taken_off (Done cookie) queue e (Wait c drain ∷ ds) is = ap (λ k. k ∷ []) (wait_done (is_complete queue e drain) c cookie is)
 cookies-taken_off Blocked queue e ds is = refl
@@ -176,7 +176,7 @@ cookies-taken_off Idle queue e ds is = refl
 begun-at : (ends : Bool) (calls : List Call) (queue : Queue) → ends ≡ list_any ends_reset calls → ArePermitted (reset_begun queue) calls → InOrder queue → (cookie : ℕ) → Contains (cookies_of queue.descriptors) cookie → IsAt queue (BeginReset ∷ calls) cookie
 begun-at true calls queue is p o cookie h =
     let raised : queue.back ≤ (after_all (reset_begun queue) calls).front =
-        (in_reset calls (reset_begun queue) p (call-in_order BeginReset queue tt o) refl).raised (sym is) in
+    (in_reset calls (reset_begun queue) p (call-in_order BeginReset queue tt o) refl).raised (sym is) in
     Ended (Contains-append_left (cookies_of queue.descriptors) (all_voided (reset_begun queue) calls) cookie h) (omega (arith, raised, below-back queue o cookie h))
 begun-at false calls queue is p o cookie h =
     Void (subst (λ b. Contains ((if b then [] else cookies_of queue.descriptors) ++ void_in_reset (reset_begun queue) calls) cookie) is (Contains-append_left (cookies_of queue.descriptors) (void_in_reset (reset_begun queue) calls) cookie h))
@@ -196,11 +196,11 @@ is_at [] queue p o cookie h = Queued (subst (λ ds. Contains (cookies_of ds) coo
 is_at (call ∷ calls) queue p o cookie h =
     let rest = all_entering (after queue call) calls in
     let split : queue.descriptors ++ (entering queue call ++ rest) ≡ leaving queue call ++ ((after queue call).descriptors ++ rest) =
-        sym (append_assoc queue.descriptors (entering queue call) rest)
-        ∙ ap (λ ds. ds ++ rest) (one_step call queue)
-        ∙ append_assoc (leaving queue call) (after queue call).descriptors rest in
+    sym (append_assoc queue.descriptors (entering queue call) rest)
+    ∙ ap (λ ds. ds ++ rest) (one_step call queue)
+    ∙ append_assoc (leaving queue call) (after queue call).descriptors rest in
     let parts : Contains (cookies_of (leaving queue call) ++ cookies_of ((after queue call).descriptors ++ rest)) cookie =
-        subst (λ ns. Contains ns cookie) (ap cookies_of split ∙ cookies-append (leaving queue call) ((after queue call).descriptors ++ rest)) h in
+    subst (λ ns. Contains ns cookie) (ap cookies_of split ∙ cookies-append (leaving queue call) ((after queue call).descriptors ++ rest)) h in
     elim (Contains-append_cases (cookies_of (leaving queue call)) (cookies_of ((after queue call).descriptors ++ rest)) cookie parts) [
       | inl here ↦ leaves call calls queue p o cookie here
       | inr there ↦ later call calls queue cookie (is_at calls (after queue call) p.1 (call-in_order call queue p.0 o) cookie there)

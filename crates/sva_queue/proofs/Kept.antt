@@ -5,7 +5,7 @@ use Rattle.std.specs.List.{AllByRecursion as ByRecursion}
 use Rattle.std.proofs.lemmas.List.Elements.{recursion_from_All}
 use Rattle.sva_itags.specs.Tags.{all_free, lowest_free}
 use Rattle.sva_queue.specs.declared.descriptors.Descriptor.{Descriptor}
-use Rattle.sva_queue.specs.declared.descriptors.Descriptor.TheVariants.{Page, Pasid, Wait}
+use Rattle.sva_queue.specs.declared.descriptors.Descriptor.TheVariants.{Range, Pasid, Wait}
 use Rattle.sva_queue.specs.declared.descriptors.Pumped.{Pumped}
 use Rattle.sva_queue.specs.declared.descriptors.Pumped.TheVariants.{Issued, Done, Blocked, Idle}
 use Rattle.sva_queue.specs.Cookies.{cookies_of, AreRising, number_after, HasNumber}
@@ -19,7 +19,7 @@ pub more-in_order : (queue : Queue) (more : List Descriptor) → MaySubmit queue
 more-in_order queue more may o =
     let back : queue.back ≡ number_after queue.front queue.descriptors = o.at_open may.opened in
     let same : number_after queue.back more ≡ number_after queue.front (queue.descriptors ++ more) =
-        ap (λ n. number_after n more) back ∙ sym (number_after-append queue.descriptors more queue.front) in
+    ap (λ n. number_after n more) back ∙ sym (number_after-append queue.descriptors more queue.front) in
     let rising : AreRising queue.front (queue.descriptors ++ more) = rising-append queue.descriptors more queue.front o.rising may.rising in
     record {
       rising = rising;
@@ -49,14 +49,14 @@ wait_done false c cookie h = absurd (cc)
 -- An invalidation at the head has no cookie.
 pub issued-cookies : (queue : Queue) (e : Bool) (tag first : ℕ) (ds : List Descriptor) → answer_at queue e ds ≡ Issued tag → (AreRising first ds → AreRising first (drop 1 ds)) × (number_after first (drop 1 ds) ≡ number_after first ds) × (cookies_of (drop 1 ds) ≡ cookies_of ds)
 issued-cookies queue e tag first [] h = absurd (cc)
-issued-cookies queue e tag first (Page pasid page ∷ ds) h = (λ r. r, refl, refl)
+issued-cookies queue e tag first (Range pasid range ∷ ds) h = (λ r. r, refl, refl)
 issued-cookies queue e tag first (Pasid pasid ∷ ds) h = (λ r. r, refl, refl)
 issued-cookies queue e tag first (Wait c drain ∷ ds) h = absurd (wait_not_issued (is_complete queue e drain) c tag h)
 
 -- The cookie of a wait that is done is the first of those that are queued.
 pub done-cookies : (queue : Queue) (e : Bool) (cookie first : ℕ) (ds : List Descriptor) → answer_at queue e ds ≡ Done cookie → (AreRising first ds → (first ≤ cookie) × AreRising (cookie + 1) (drop 1 ds)) × (number_after (cookie + 1) (drop 1 ds) ≡ number_after first ds) × (cookies_of ds ≡ cookie ∷ cookies_of (drop 1 ds))
 done-cookies queue e cookie first [] h = absurd (cc)
-done-cookies queue e cookie first (Page pasid page ∷ ds) h = absurd (issued_not_done (lowest_free queue.tags) cookie h)
+done-cookies queue e cookie first (Range pasid range ∷ ds) h = absurd (issued_not_done (lowest_free queue.tags) cookie h)
 done-cookies queue e cookie first (Pasid pasid ∷ ds) h = absurd (issued_not_done (lowest_free queue.tags) cookie h)
 done-cookies queue e cookie first (Wait c drain ∷ ds) h =
     let same : c ≡ cookie = wait_done (is_complete queue e drain) c cookie h in

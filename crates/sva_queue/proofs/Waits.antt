@@ -6,7 +6,7 @@ use Rattle.sva_itags.specs.declared.itags.Busy.{Busy}
 use Rattle.sva_itags.specs.declared.itags.Busy.TheVariants.{Fresh}
 use Rattle.sva_itags.proofs.CallerLemmas.{taken-get}
 use Rattle.sva_queue.specs.declared.descriptors.Descriptor.{Descriptor}
-use Rattle.sva_queue.specs.declared.descriptors.Descriptor.TheVariants.{Page, Pasid, Wait}
+use Rattle.sva_queue.specs.declared.descriptors.Descriptor.TheVariants.{Range, Pasid, Wait}
 use Rattle.sva_queue.specs.declared.descriptors.Pumped.{Pumped}
 use Rattle.sva_queue.specs.declared.descriptors.Pumped.TheVariants.{Issued, Done, Blocked, Idle}
 use Rattle.sva_queue.specs.Queue.{Queue, empty, is_idle, is_complete, issued, answer_at, next_of, after_answer}
@@ -27,7 +27,7 @@ issued_not_done (Some t) cookie = λ k. cc
 
 head_done : (queue : Queue) (e : Bool) (cookie : ℕ) (ds : List Descriptor) → answer_at queue e ds ≡ Done cookie → (drain : Bool) × (slice_get ds 0 ≡ Some (Wait cookie drain)) × (is_idle queue.tags ≡ true) × (drain ≡ true → e ≡ true)
 head_done queue e cookie [] h = absurd (cc)
-head_done queue e cookie (Page pasid page ∷ ds) h = absurd (issued_not_done (lowest_free queue.tags) cookie h)
+head_done queue e cookie (Range pasid range ∷ ds) h = absurd (issued_not_done (lowest_free queue.tags) cookie h)
 head_done queue e cookie (Pasid pasid ∷ ds) h = absurd (issued_not_done (lowest_free queue.tags) cookie h)
 head_done queue e cookie (Wait c drain ∷ ds) h =
     let (idle, same, drained) = done_by (is_idle queue.tags) e drain c cookie h in
@@ -83,7 +83,7 @@ issued_tag (Some t) tag h = ap Some (cc)
 
 issued_lowest : (queue : Queue) (e : Bool) (tag : ℕ) (ds : List Descriptor) → answer_at queue e ds ≡ Issued tag → lowest_free queue.tags ≡ Some tag
 issued_lowest queue e tag [] h = absurd (cc)
-issued_lowest queue e tag (Page pasid page ∷ ds) h = issued_tag (lowest_free queue.tags) tag h
+issued_lowest queue e tag (Range pasid range ∷ ds) h = issued_tag (lowest_free queue.tags) tag h
 issued_lowest queue e tag (Pasid pasid ∷ ds) h = issued_tag (lowest_free queue.tags) tag h
 issued_lowest queue e tag (Wait cookie drain ∷ ds) h = absurd (no_issue (is_complete queue e drain) cookie tag h)
   where

@@ -1,11 +1,12 @@
 -- The invalidation queue of a remapping unit (Intel VT-d, "Queued Invalidation Interface"), with the tags of the
 -- Invalidate Requests that it sent.
-use Rattle.std.specs.Prelude.{◌≡◌, ℕ, ◌+◌, ◌-◌, ◌^◌, ◌≤◌, ◌&&◌, ◌||◌, not, Bool, true, false, Option, Some, None, List, [], ◌∷◌, ◌++◌, length, drop, is_none, nat_le, if◌then◌else◌}
+use Rattle.std.specs.Prelude.{◌≡◌, ℕ, ◌+◌, ◌-◌, ◌^◌, ◌≤◌, ◌&&◌, ◌||◌, not, Bool, true, false, nat_le, if◌then◌else◌}
+use Rattle.std.specs.Prelude.{Option, Some, None, is_none, List, [], ◌∷◌, ◌++◌, length, drop}
 use Rattle.std.specs.List.{list_all}
 use Rattle.sva_itags.specs.Tags.{all_free, lowest_free, taken, completed}
 use Rattle.sva_itags.specs.declared.itags.Busy.{Busy}
 use Rattle.sva_queue.specs.declared.descriptors.Descriptor.{Descriptor}
-use Rattle.sva_queue.specs.declared.descriptors.Descriptor.TheVariants.{Page, Pasid, Wait}
+use Rattle.sva_queue.specs.declared.descriptors.Descriptor.TheVariants.{Range, Pasid, Wait}
 use Rattle.sva_queue.specs.declared.descriptors.Pumped.{Pumped}
 use Rattle.sva_queue.specs.declared.descriptors.Pumped.TheVariants.{Issued, Done, Blocked, Idle}
 use Rattle.sva_queue.specs.Cookies.{AreRising, number_after}
@@ -19,6 +20,11 @@ pub record Queue : Type 0 where
   pub tags : List (Option Busy)
   pub front : ℕ
   pub back : ℕ
+
+-- the queue of these descriptors, open or not, with these tags, front and back
+abbrev pub queue_of : List Descriptor → List (Option Busy) → Bool → ℕ → ℕ → Queue
+queue_of descriptors tags is_open front back =
+    record { descriptors = descriptors; is_open = is_open; tags = tags; front = front; back = back }
 
 -- an open unit: an empty queue, every tag is free, and no cookie was submitted
 abbrev pub empty : Queue
@@ -62,7 +68,7 @@ issued None = Blocked
 
 -- what the unit answers to a descriptor at the head
 abbrev pub answer_to : Queue → Bool → Descriptor → Pumped
-answer_to queue prq_empty (Page pasid page) = issued (lowest_free queue.tags)
+answer_to queue prq_empty (Range pasid range) = issued (lowest_free queue.tags)
 answer_to queue prq_empty (Pasid pasid) = issued (lowest_free queue.tags)
 answer_to queue prq_empty (Wait cookie drain) = if is_complete queue prq_empty drain then Done cookie else Blocked
 

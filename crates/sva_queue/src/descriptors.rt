@@ -2,16 +2,17 @@
 
 use std::error::Error;
 use std::fmt;
+use sva_msg::Range;
 
 /// What the host asks of a unit (Intel VT-d, "Queued Invalidation Interface").
 #[derive(Clone, Copy, Debug, PartialEq, Eq)]
 pub enum Descriptor {
-    /// Invalidate one page of a PASID.
-    Page {
+    /// Invalidate a range of pages of a PASID; one page is a range of order 0.
+    Range {
         /// The PASID: 1 to 32 of its 20 bits (PCI Express Base 5.0, section 6.20).
         pasid: u32,
-        /// The number of the page, below 2^36; a page has 4096 bytes.
-        page: u64,
+        /// The pages: 1 to 512 of them.
+        range: Range,
     },
     /// Invalidate all pages of a PASID.
     Pasid {

@@ -74,7 +74,7 @@ impl Unit {
                     Pumped::Blocked
                 }
             }
-            Some(Descriptor::Page { .. } | Descriptor::Pasid { .. }) => {
+            Some(Descriptor::Range { .. } | Descriptor::Pasid { .. }) => {
                 match self.tags.lowest_free() {
                     Some(tag) => Pumped::Issued(tag),
                     None => Pumped::Blocked,

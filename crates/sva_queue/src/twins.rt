@@ -5,6 +5,7 @@ ghost use Rattle.sva_queue.specs.Cookies.{AreRising, number_after, HasNumber};
 use crate::descriptors::Descriptor;
 use crate::{plain, units};
 use sva_itags::Count;
+use sva_msg::Range;
 
 /// Numbers that look random: xorshift with 64 bits (Marsaglia, "Xorshift RNGs", 13, 7, 17).
 #[derive(Drop)]
@@ -60,10 +61,10 @@ impl Twins {
             return false;
         }
         let pasid = ((number >> 8) % 32 + 1) as u32;
-        let page = Descriptor::Page {
-            pasid,
-            page: number >> 28,
+        let Some(range) = Range::decode(number >> 28, (number >> 20) & 1 == 1) else {
+            return true;
         };
+        let some = Descriptor::Range { pasid, range };
         let all = Descriptor::Pasid { pasid };
         let drain = (number >> 16) & 1 == 1;
         let wait = Descriptor::Wait { cookie, drain };
@@ -72,11 +73,11 @@ impl Twins {
             drain: !drain,
         };
         match (number >> 17) % 6 {
-            0 => self.submit(&[page], cookie),
+            0 => self.submit(&[some], cookie),
             1 => self.submit(&[wait], cookie + 1),
-            2 => self.submit(&[page, wait], cookie + 1),
-            3 => self.submit(&[all, wait, page, second], cookie + 3),
-            4 => self.submit(&[page, page, page, page, page, page, page, wait], cookie + 1),
+            2 => self.submit(&[some, wait], cookie + 1),
+            3 => self.submit(&[all, wait, some, second], cookie + 3),
+            4 => self.submit(&[some; 8], cookie),
             _ => self.submit(&[], cookie),
         }
     }
@@ -99,7 +100,11 @@ impl Twins {
             24..=43 => self.unit.pump(flag) == self.plain.pump(flag),
             _ => {
                 let vector = (number >> 32) as u32;
-                let count = if flag { 1 } else { ((number >> 9) % 8 + 1) as u8 };
+                let count = if flag {
+                    1
+                } else {
+                    ((number >> 9) % 8 + 1) as u8
+                };
                 let count = Count::new(count);
                 self.unit.arrived(vector, count) == self.plain.arrived(vector, count)
             }

@@ -17,7 +17,7 @@ fn number_after_one(first: u64, descriptor: Descriptor) -> u64
 {
     match descriptor {
         Descriptor::Wait { cookie, .. } => cookie + 1,
-        Descriptor::Page { .. } | Descriptor::Pasid { .. } => first,
+        Descriptor::Range { .. } | Descriptor::Pasid { .. } => first,
     }
 }
 
@@ -46,13 +46,13 @@ pub struct Unit {
 }
 
 impl Model for Unit {
-    ghost use Rattle.sva_queue.specs.Queue.{Queue, InOrder};
+    ghost use Rattle.sva_queue.specs.Queue.{Queue, InOrder, queue_of};
 
     ghost Value = { Queue };
 
-    ghost view = { λ u. record { descriptors = u.queue; is_open = u.is_open; tags = u.tags; front = u.front; back = u.back } };
+    ghost view = { λ u. queue_of u.queue u.tags u.is_open u.front u.back };
 
-    ghost invariant = { λ u. InOrder (record { descriptors = u.queue; is_open = u.is_open; tags = u.tags; front = u.front; back = u.back }) };
+    ghost invariant = { λ u. InOrder (queue_of u.queue u.tags u.is_open u.front u.back) };
 }
 
 impl Default for Unit {
@@ -161,7 +161,7 @@ impl Unit {
                     Pumped::Blocked
                 }
             }
-            Some(Descriptor::Page { .. } | Descriptor::Pasid { .. }) => {
+            Some(Descriptor::Range { .. } | Descriptor::Pasid { .. }) => {
                 match self.tags.lowest_free() {
                     Some(tag) => Pumped::Issued(tag),
                     None => Pumped::Blocked,
@@ -250,21 +250,24 @@ pub fn laws()
 mod tests {
     use super::*;
     use std::test::Fail;
+    use sva_msg::Range;
 
     #[test]
     fn holds_64_descriptors(rt: HostRuntime) {
         let mut unit = Unit::new();
-        let pages = [Descriptor::Page { pasid: 1, page: 16 }; 63];
-        assert_eq!(rt; unit.submit(&pages), Ok(()));
+        let range = Range::new(16, 0);
+        let all = [Descriptor::Range { pasid: 1, range }; 64];
+        let one = [Descriptor::Pasid { pasid: 1 }];
         let two = [Descriptor::Pasid { pasid: 1 }; 2];
-        assert_eq!(rt; unit.submit(&two), Err(QueueFull));
-        assert_eq!(rt; unit.room(), 1);
-        assert_eq!(rt; unit.submit(&two[1..]), Ok(()));
-        assert_eq!(rt; unit.submit(&two[1..]), Err(QueueFull));
+        assert_eq!(rt; unit.submit(&all), Ok(()));
         assert_eq!(rt; unit.room(), 0);
-        assert_eq!(rt; unit.head(), Some(pages[0]));
+        assert_eq!(rt; unit.submit(&one), Err(QueueFull));
+        assert_eq!(rt; unit.submit(&two), Err(QueueFull));
+        assert_eq!(rt; unit.head(), all.first().copied());
         assert_eq!(rt; unit.pump(true), Pumped::Issued(0));
-        assert_eq!(rt; unit.submit(&two[1..]), Ok(()));
+        assert_eq!(rt; unit.room(), 1);
+        assert_eq!(rt; unit.submit(&two), Err(QueueFull));
+        assert_eq!(rt; unit.submit(&one), Ok(()));
     }
 
     fn wait(cookie: u64, drain: bool) -> Descriptor
@@ -276,7 +279,8 @@ mod tests {
     #[test]
     fn waits_for_tag_and_drain(rt: HostRuntime) -> Result<(), Fail> {
         let mut unit = Unit::default();
-        unit.submit(&[Descriptor::Page { pasid: 1, page: 16 }, wait(7, true)])?;
+        let range = Range::new(16, 2);
+        unit.submit(&[Descriptor::Range { pasid: 1, range }, wait(7, true)])?;
         assert_eq!(rt; unit.pump(false), Pumped::Issued(0));
         assert_eq!(rt; unit.pump(false), Pumped::Blocked);
         assert_eq!(rt; unit.arrived(1, Count::new(1)), 1);
@@ -296,12 +300,19 @@ mod tests {
         let plain = wait(0, false);
         let draining = wait(4, true);
         let all = Descriptor::Pasid { pasid: 1 };
-        let page = Descriptor::Page { pasid: 1, page: 16 };
-        let other = Descriptor::Page { pasid: 1, page: 17 };
-        unit.submit(&[page, other, plain, all, draining])?;
+        let page = Descriptor::Range {
+            pasid: 1,
+            range: Range::new(17, 0),
+        };
+        let other = Descriptor::Range {
+            pasid: 1,
+            range: Range::new(32, 3),
+        };
+        let descriptors = [page, other, plain, all, draining];
+        unit.submit(&descriptors)?;
         assert_eq!(rt; unit.next(false), Pumped::Issued(0));
         assert_eq!(rt; unit.pump(false), Pumped::Issued(0));
-        assert_eq!(rt; unit.head(), Some(other));
+        assert_eq!(rt; unit.head(), descriptors.get(1).copied());
         assert_eq!(rt; unit.pump(false), Pumped::Issued(1));
         assert_eq!(rt; unit.pump(true), Pumped::Blocked);
         // Both tags wait for two; tag 0 has its second, tag 1 its first.
@@ -314,7 +325,7 @@ mod tests {
         assert_eq!(rt; unit.pump(false), Pumped::Done(0));
         assert_eq!(rt; unit.front(), 1);
         assert_eq!(rt; unit.pump(false), Pumped::Issued(0));
-        assert_eq!(rt; unit.head(), Some(draining));
+        assert_eq!(rt; unit.head(), descriptors.last().copied());
         assert_eq!(rt; unit.pump(true), Pumped::Blocked);
         unit.begin_reset();
         assert!(rt; !unit.is_open());

@@ -1,4 +1,4 @@
-use Rattle.std.proofs.Common.{◌≡◌, ◌<◌, false, List, drop, sym, ap, ◌∙◌, arith}
+use Rattle.std.proofs.Common.{false, List, drop, sym, ap, ◌∙◌}
 use Rattle.sva_queue.specs.declared.descriptors.Descriptor.{Descriptor}
 use Rattle.sva_queue.specs.declared.descriptors.Descriptor.TheVariants.{Wait}
 use Rattle.sva_queue.proofs.Windows.{window_before_pop}

@@ -20,5 +20,5 @@ invariant_of-self c =
     let more = c.args.descriptors.now in
     let queue = c.args.self.now.unit in
     let after : (submitted more queue).back ≤ c.args.next =
-        back-le queue more c.args.self.now.cookie c.args.next (nat_le (length queue.descriptors + length more) 64) c.args.self.now.above c.requires.rising c.requires.next in
+    back-le queue more c.args.self.now.cookie c.args.next (nat_le (length queue.descriptors + length more) 64) c.args.self.now.above c.requires.rising c.requires.next in
     record { above = subst (λ (q : Queue). q.back ≤ c.args.next) (sym c.submit.ensures.queue) after }

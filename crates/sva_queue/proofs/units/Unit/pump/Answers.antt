@@ -1,4 +1,4 @@
-use Rattle.std.proofs.Common.{◌≡◌, ◌↔◌, ◌+◌, ◌^◌, ◌≤◌, subst, sym, ◌∙◌, arith, ap}
+use Rattle.std.proofs.Common.{◌≡◌, ◌↔◌, subst, sym, ◌∙◌, arith, ap}
 use Rattle.sva_queue.specs.declared.descriptors.Pumped.{Pumped}
 use Rattle.sva_queue.specs.declared.descriptors.Pumped.TheVariants.{Done}
 use Rattle.sva_queue.specs.Queue.{Queue, InOrder, next_of}
@@ -17,7 +17,7 @@ invariant_of-self-in-Done c =
     let q = c.self.inside in
     let queue : Queue = record { descriptors = q.queue; is_open = q.is_open; tags = q.tags; front = q.front; back = q.back } in
     let is : next_of queue c.args.prq_empty ≡ Done c.in-Done.cookie =
-        ap (λ (k : Queue). next_of k c.args.prq_empty) c.self.view_is ∙ sym c.next-answer.ensures ∙ c.in-Done.is in
+    ap (λ (k : Queue). next_of k c.args.prq_empty) c.self.view_is ∙ sym c.next-answer.ensures ∙ c.in-Done.is in
     rw c.drop_first-in-Done.ensures (pump-in_order (Done c.in-Done.cookie) queue c.args.prq_empty is c.self.invariant)
 
 pub returns-in-Done-clause-done : goal.returns-in-Done-clause-done

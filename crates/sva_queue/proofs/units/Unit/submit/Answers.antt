@@ -1,4 +1,4 @@
-use Rattle.std.proofs.Common.{◌≡◌, sym, subst}
+use Rattle.std.proofs.Common.{sym, subst}
 use Rattle.sva_queue.specs.Queue.{Queue}
 use Rattle.sva_queue.specs.Calls.{MaySubmit}
 use Rattle.sva_queue.proofs.Kept.{more-in_order}

@@ -1,16 +1,16 @@
 -- What an edit of a cache's entries leaves of the finite map that they are.
-use Rattle.std.proofs.Common.{◌≡◌, ℕ, zero, suc, ◌+◌, ◌-◌, ◌<◌, ◌≤◌, List, length, get_or, set, sym, ◌∙◌, ap, refl, subst, cond, true, false, not, Bool, ◌||◌, Option, Some, None, Result, Ok, Err, arith}
+use Rattle.std.proofs.Common.{◌≡◌, ℕ, ◌<◌, ◌≤◌, List, length, get_or, set, sym, ◌∙◌, ap, refl, subst, cond, true, false, not, Bool, ◌||◌, Option, Some, None, Result, Ok, Err}
 use Rattle.std.specs.Prelude.{T, nat_lt}
 use Rattle.std.specs.Option.{is_some}
 use Rattle.std.specs.List.{insert, remove}
 use Rattle.std.specs.declared.cmp.Ordering.{Ordering}
 use Rattle.std.specs.declared.cmp.Ordering.TheVariants.{Less, Equal, Greater}
-use Rattle.std.specs.Ordering.{nat_cmp, is_eq, eq_by_cmp, ordering_then}
+use Rattle.std.specs.Ordering.{nat_cmp, eq_by_cmp, ordering_then}
 use Rattle.std.proofs.lemmas.Bool.{ltb-true}
 use Rattle.std.specs.Cmp.{eq_by_cmp_equiv}
 use Rattle.std.specs.FinMap as finite
-use Rattle.std.specs.FinMap.{IsAntisymmetric, nat_cmp-IsAntisymmetric, find, put, is_sorted, entries-from_sorted, get-from_sorted, entries-insert, get-entries, get-retain_keys, get-remove, len-entries, same_map, same_entries_map}
-use Rattle.std.specs.FinMap.Entries.{where_key, is_sorted-put, is_sorted-where_key, find-where_key, is_some-find}
+use Rattle.std.specs.FinMap.{IsAntisymmetric, nat_cmp-IsAntisymmetric, find, put, is_sorted, entries-from_sorted, get-from_sorted, entries-insert, get-retain_keys, get-remove, len-entries, same_map, same_entries_map}
+use Rattle.std.specs.FinMap.Entries.{where_key, is_sorted-put, is_sorted-where_key, find-where_key}
 use Rattle.sva_cache.specs.declared.cached.Translation.{Translation}
 use Rattle.sva_cache.specs.Cache.{Key, Translations, key_cmp, key_cmp_total, smaller_first, place_of, has_room_for}
 use Rattle.sva_cache.proofs.Places.{others, place_le, at_place, put_at, put_in_gap, remove_at, remove_absent}
@@ -70,10 +70,12 @@ module _ (items : List (Key × Translation)) (cache : Translations) (sorted : T 
       → T (is_sorted key_cmp new) × (finite.from_sorted new ≡ finite.retain_keys cache p)
   kept new p is =
       let up : T (is_sorted key_cmp new) = subst (λ es. T (is_sorted key_cmp es)) (sym is) (is_sorted-where_key key_cmp p items sorted) in
-      let alike = λ (q x : Key) (tie : key_cmp q x ≡ Equal). ap p (sym (key_cmp-IsAntisymmetric q x tie)) in
-      (up, same_map key_cmp_total key_cmp-IsAntisymmetric _ _ (λ q.
-        get-from_sorted key_cmp new q up ∙ ap (find key_cmp q) is ∙ find-where_key key_cmp p q (alike q) items
-        ∙ ap (λ o. cond (p q) o None) (sym (get_is items cache sorted seen q)) ∙ sym (get-retain_keys cache p q (alike q))))
+      let alike = λ (q x : Key) (tie : key_cmp q x ≡ Equal). ap p (sym (key_cmp-IsAntisymmetric q x tie)) in (
+        up,
+        same_map key_cmp_total key_cmp-IsAntisymmetric _ _ (λ q.
+            get-from_sorted key_cmp new q up ∙ ap (find key_cmp q) is ∙ find-where_key key_cmp p q (alike q) items
+            ∙ ap (λ o. cond (p q) o None) (sym (get_is items cache sorted seen q)) ∙ sym (get-retain_keys cache p q (alike q))),
+      )
 
   -- a search has found the key at a place: its entry is read, written over or taken out
   module _ (q : Key) (i : ℕ) (told : ◌≡◌ {A = Result ℕ ℕ} (Ok i) (cond (finite.contains_key cache q) (Ok (place_of cache q)) (Err (place_of cache q)))) where
@@ -132,9 +134,11 @@ module _ (items : List (Key × Translation)) (cache : Translations) (sorted : T 
   pub removed : (new : List (Key × Translation)) (q : Key) → new ≡ where_key key_cmp (others key_cmp q) items
       → T (is_sorted key_cmp new) × (finite.from_sorted new ≡ finite.remove cache q)
   removed new q is =
-      let retained = kept new (others key_cmp q) is in
-      (retained.0, retained.1 ∙ same_map key_cmp_total key_cmp-IsAntisymmetric _ _ (λ x.
-        get-retain_keys cache (others key_cmp q) x (λ y tie. ap (others key_cmp q) (sym (key_cmp-IsAntisymmetric x y tie)))
-        ∙ sym (turned_test (eq_by_cmp key_cmp q x) (finite.get cache x))
-        ∙ ap (λ b. cond b None (finite.get cache x)) ((eq_by_cmp_equiv key_cmp_total).symm q x)
-        ∙ sym (get-remove key_cmp_total cache q x)))
+      let retained = kept new (others key_cmp q) is in (
+        retained.0,
+        retained.1 ∙ same_map key_cmp_total key_cmp-IsAntisymmetric _ _ (λ x.
+            get-retain_keys cache (others key_cmp q) x (λ y tie. ap (others key_cmp q) (sym (key_cmp-IsAntisymmetric x y tie)))
+            ∙ sym (turned_test (eq_by_cmp key_cmp q x) (finite.get cache x))
+            ∙ ap (λ b. cond b None (finite.get cache x)) ((eq_by_cmp_equiv key_cmp_total).symm q x)
+            ∙ sym (get-remove key_cmp_total cache q x)),
+      )

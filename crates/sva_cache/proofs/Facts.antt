@@ -1,5 +1,5 @@
 -- Facts on the finite map of a cache's translations, for whoever keeps one.
-use Rattle.std.proofs.Common.{◌≡◌, ◌≤◌, ℕ, Bool, List, length, sym, ◌∙◌, ap, refl, subst, arith}
+use Rattle.std.proofs.Common.{◌≡◌, ◌≤◌, Bool, List, length, refl, arith}
 use Rattle.std.specs.FinMap as finite
 use Rattle.std.specs.FinMap.{entries-from_sorted, entries_sorted, len-entries, same_entries_map}
 use Rattle.std.specs.FinMap.Entries.{where_key}

@@ -1,12 +1,12 @@
 -- Where a key stands in a list of entries that rises by its keys, and what an edit at that place leaves.
-use Rattle.std.proofs.Common.{◌≡◌, ℕ, zero, suc, ◌+◌, ◌<◌, ◌≤◌, List, [], ◌∷◌, ◌++◌, length, take, drop, set, get_or, sym, ◌∙◌, ap, refl, subst, cond, true, false, not, Bool, ◌&&◌, Option, Some, None, arith}
+use Rattle.std.proofs.Common.{◌≡◌, ℕ, zero, suc, ◌+◌, ◌<◌, ◌≤◌, List, [], ◌∷◌, length, set, get_or, sym, ◌∙◌, ap, refl, subst, cond, true, false, not, Bool, ◌&&◌, Some, None, arith}
 use Rattle.std.specs.Prelude.{T}
 use Rattle.std.specs.Option.{is_some}
 use Rattle.std.specs.List.{insert, remove, remove_range}
 use Rattle.std.specs.declared.cmp.Ordering.{Ordering}
 use Rattle.std.specs.declared.cmp.Ordering.TheVariants.{Less, Equal, Greater}
 use Rattle.std.specs.Ordering.{is_eq, is_lt, ordering_reverse, eq_by_cmp}
-use Rattle.std.specs.Cmp.{IsTotalOrder, alike_right, tied_back}
+use Rattle.std.specs.Cmp.{IsTotalOrder, alike_right}
 use Rattle.std.specs.FinMap.{find, put, is_sorted}
 use Rattle.std.specs.FinMap.Entries.{below_all, by_order, where_key}
 use Rattle.sva_cache.specs.Cache.{smaller_first}
@@ -131,7 +131,7 @@ module _ {K X : Type 0} {R : K → K → Ordering} (o : IsTotalOrder R) where
 
       by : (r : Ordering) → R e.0 q ≡ r
           → (is_some (find R q es) ≡ true
-            → (find R q es ≡ Some (get_or es (smaller_first R q es) d).1) × (smaller_first R q es < length es) × (R q (get_or es (smaller_first R q es) d).0 ≡ Equal))
+          → (find R q es ≡ Some (get_or es (smaller_first R q es) d).1) × (smaller_first R q es < length es) × (R q (get_or es (smaller_first R q es) d).0 ≡ Equal))
           → (find R q (e ∷ es) ≡ Some (get_or (e ∷ es) (smaller_first R q (e ∷ es)) d).1) × (smaller_first R q (e ∷ es) < suc (length es))
           × (R q (get_or (e ∷ es) (smaller_first R q (e ∷ es)) d).0 ≡ Equal)
       by Less less later =

@@ -1,5 +1,5 @@
 -- The keys that an invalidation covers are a run in the order of keys.
-use Rattle.std.proofs.Common.{◌≡◌, ℕ, ◌+◌, ◌-◌, ◌*◌, ◌<◌, ◌≤◌, ◌^◌, List, [], ◌∷◌, length, suc, sym, ◌∙◌, ap, refl, subst, cond, true, false, not, Bool, ◌||◌, ◌&&◌, eqb, arith}
+use Rattle.std.proofs.Common.{◌≡◌, ℕ, ◌+◌, ◌<◌, ◌≤◌, List, [], ◌∷◌, length, suc, sym, ◌∙◌, ap, refl, subst, cond, true, false, not, Bool, ◌||◌, ◌&&◌, eqb, arith}
 use Rattle.std.specs.Prelude.{T, nat_lt, nat_le}
 use Rattle.std.proofs.Math.Path.{fun_ext}
 use Rattle.std.proofs.lemmas.Bool.Decides.{nat_tests}
@@ -7,7 +7,7 @@ use Rattle.std.proofs.lemmas.Nat.{pow_pos}
 use Rattle.sva_model.specs.Range.{pages_in}
 use Rattle.std.specs.declared.cmp.Ordering.{Ordering}
 use Rattle.std.specs.declared.cmp.Ordering.TheVariants.{Less, Equal, Greater}
-use Rattle.std.specs.Ordering.{nat_cmp, is_lt, ordering_then}
+use Rattle.std.specs.Ordering.{is_lt, ordering_then}
 use Rattle.std.specs.FinMap as finite
 use Rattle.std.specs.FinMap.{is_sorted}
 use Rattle.std.specs.FinMap.Entries.{where_key}
@@ -101,9 +101,9 @@ module _ (items : List (Key × Translation)) (cache : Translations) (sorted : T 
       let p = λ (key : Key). not (covers invalidation key.0 key.1) in
       let same : outside key_cmp (first_key invalidation) (end_key invalidation) ≡ p = fun_ext (λ k. ap not (in_run invalidation.pasid invalidation.extent k)) in
       let cut : new ≡ where_key key_cmp p items =
-        is ∙ ap (λ (n : ℕ). remove_range items n (place_of cache (end_key invalidation))) (place_is items cache sorted seen (first_key invalidation))
-        ∙ ap (remove_range items (smaller_first key_cmp (first_key invalidation) items)) (place_is items cache sorted seen (end_key invalidation))
-        ∙ cut_run key_cmp_total (first_key invalidation) (end_key invalidation) items (begins_first invalidation.pasid invalidation.extent) sorted
-        ∙ ap (λ t. where_key key_cmp t items) same in
+      is ∙ ap (λ (n : ℕ). remove_range items n (place_of cache (end_key invalidation))) (place_is items cache sorted seen (first_key invalidation))
+      ∙ ap (remove_range items (smaller_first key_cmp (first_key invalidation) items)) (place_is items cache sorted seen (end_key invalidation))
+      ∙ cut_run key_cmp_total (first_key invalidation) (end_key invalidation) items (begins_first invalidation.pasid invalidation.extent) sorted
+      ∙ ap (λ t. where_key key_cmp t items) same in
       let left = kept items cache sorted seen new p cut in
       (left.0, subst (λ es. length es ≤ length items) (sym cut) (length-where_key-le p items), left.1)

@@ -1,10 +1,8 @@
 -- A search among the entries of a cache, and what an edit at a place leaves of the finite map.
-use Rattle.std.proofs.Common.{◌≡◌, ℕ, zero, suc, ◌+◌, ◌-◌, ◌*◌, ◌/◌, ◌<◌, ◌≤◌, ◌^◌, List, length, get_or, sym, ◌∙◌, ap, refl, subst, cond, true, false, Bool, Some, None, Result, Ok, Err, arith}
+use Rattle.std.proofs.Common.{◌≡◌, ℕ, zero, suc, ◌+◌, ◌*◌, ◌/◌, ◌<◌, ◌≤◌, ◌^◌, List, sym, ◌∙◌, ap, refl, cond, true, false, Bool, Result, Ok, Err, arith}
 use Rattle.std.specs.Prelude.{T}
 use native.Mathlib.Numerals.{unary_clauses}
 use Rattle.std.specs.Option.{is_some}
-use Rattle.std.specs.declared.cmp.Ordering.{Ordering}
-use Rattle.std.specs.declared.cmp.Ordering.TheVariants.{Less, Equal, Greater}
 use Rattle.std.specs.FinMap as finite
 use Rattle.std.specs.FinMap.{find, is_sorted, entries-from_sorted, get-from_sorted}
 use Rattle.sva_cache.specs.declared.cached.Translation.{Translation}

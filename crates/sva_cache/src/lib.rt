@@ -5,7 +5,6 @@
 mod cached;
 mod coverage;
 mod keys;
-
 #[cfg(test)]
 mod plain;
 #[cfg(test)]

@@ -57,6 +57,7 @@ impl Scanned {
     }
 
     pub fn remove_covered(&mut self, invalidation: &Invalidation) {
-        self.entries.retain(|entry| !invalidation.covers(entry.pasid, entry.page));
+        self.entries
+            .retain(|entry| !invalidation.covers(entry.pasid, entry.page));
     }
 }

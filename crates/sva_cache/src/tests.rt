@@ -38,11 +38,23 @@ fn filled(rt: &impl Abort, count: u64) -> (Cache, Scanned) {
 fn compare(rt: &impl Abort, cache: &Cache, scanned: &Scanned) {
     for pasid in 1..5_u64 {
         for page in 0..100_u64 {
-            assert_eq!(rt; cache.get(pasid, page), scanned.get(pasid, page), "{pasid} {page}");
-            assert_eq!(rt; cache.has_room_for(pasid, page), scanned.has_room_for(pasid, page), "{pasid} {page}");
+            assert_eq!(rt;
+                cache.get(pasid, page),
+                scanned.get(pasid, page),
+                "{pasid} {page}"
+            );
+            assert_eq!(rt;
+                cache.has_room_for(pasid, page),
+                scanned.has_room_for(pasid, page),
+                "{pasid} {page}"
+            );
             let mut ticks = Ticks::new();
             let found = cache.search(&CacheKey::new(pasid, page), &mut ticks);
-            assert_eq!(rt; found.is_ok(), scanned.get(pasid, page).is_some(), "{pasid} {page}");
+            assert_eq!(rt;
+                found.is_ok(),
+                scanned.get(pasid, page).is_some(),
+                "{pasid} {page}"
+            );
             assert!(rt; ticks.count() <= 7, "{pasid} {page}");
         }
     }
@@ -138,11 +150,20 @@ fn sixty_four_are_cached(rt: HostRuntime) {
 #[test]
 fn an_invalidation_covers_its_pages(rt: HostRuntime) {
     let one = in_range(1, Range::new(16, 0));
-    assert!(rt; one.covers(1, 16) && !one.covers(1, 17) && !one.covers(1, 15) && !one.covers(2, 16));
+    assert!(rt;
+        one.covers(1, 16) && !one.covers(1, 17) && !one.covers(1, 15) && !one.covers(2, 16)
+    );
     let eight = in_range(1, Range::new(64, 3));
-    assert!(rt; eight.covers(1, 64) && eight.covers(1, 71) && !eight.covers(1, 72) && !eight.covers(1, 63));
+    assert!(rt;
+        eight.covers(1, 64) && eight.covers(1, 71) && !eight.covers(1, 72) && !eight.covers(1, 63)
+    );
     assert!(rt; all_pages(1).covers(1, 17) && !all_pages(1).covers(2, 17));
     assert!(rt; Extent::of(Scope::Code { page: 67, s: true }) == eight.extent);
-    assert!(rt; Extent::of(Scope::Code { page: 1023, s: true }) == Extent::All);
+    assert!(rt;
+        Extent::of(Scope::Code {
+            page: 1023,
+            s: true
+        }) == Extent::All
+    );
     assert!(rt; Extent::of(Scope::All) == Extent::All);
 }

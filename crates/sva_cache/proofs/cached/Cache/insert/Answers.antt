@@ -1,8 +1,8 @@
-use Rattle.std.proofs.Common.{rules, ◌≡◌, ◌<◌, ◌≤◌, ℕ, true, length, set, sym, ◌∙◌, ap, subst, arith}
+use Rattle.std.proofs.Common.{rules, ◌≡◌, ◌<◌, ◌≤◌, ℕ, length, set, sym, ◌∙◌, ap, subst, arith}
 use Rattle.std.proofs.Math.ListN.{length-set}
 use Rattle.std.specs.FinMap as finite
 use Rattle.arrayvec.proofs.ArrayVecLemmas.{items-with_items}
-use Rattle.sva_cache.specs.Cache.{Key, key_cmp, has_room_for}
+use Rattle.sva_cache.specs.Cache.{Key, has_room_for}
 use Rattle.sva_cache.proofs.Edits.{found_within, found_written, gap_within, gap_put, gap_room, inserted}
 use Rattle.sva_cache.proofs.cached.Cache.insert.Goals as goal
 
@@ -27,13 +27,12 @@ invariant_of-self c =
 
 pub insert-requires : goal.insert-requires
 insert-requires c =
-    let key : c.new-key.result ≡ (c.args.pasid, c.args.page) = c.new-key.ensures ∙ ap (λ (p : ℕ). (p, c.args.page)) c.from.ensures in
-    (
+    let key : c.new-key.result ≡ (c.args.pasid, c.args.page) = c.new-key.ensures ∙ ap (λ (p : ℕ). (p, c.args.page)) c.from.ensures in (
       search rules,
       (
         gap_within c.self.inside.entries.items c.args.self.now c.self.invariant.0 c.self.view_is c.new-key.result c.in-Err.place c.in-Err.ensures.place,
         gap_room c.self.inside.entries.items c.args.self.now c.self.invariant.0 c.self.view_is c.new-key.result c.in-Err.place c.in-Err.ensures.place
-        (ap (has_room_for c.args.self.now) key ∙ c.requires),
+            (ap (has_room_for c.args.self.now) key ∙ c.requires),
       ),
     )
 

@@ -1,7 +1,5 @@
-use Rattle.std.proofs.Common.{rules, ◌≡◌, ◌<◌, ◌≤◌, ℕ, length, sym, ◌∙◌, ap, subst, arith}
+use Rattle.std.proofs.Common.{rules, sym, ◌∙◌, ap, arith}
 use Rattle.std.specs.FinMap as finite
-use Rattle.std.specs.List.{remove}
-use Rattle.std.proofs.lemmas.List.Edits.{length-remove}
 use Rattle.sva_cache.proofs.Edits.{found_within, found_removed, gap_left, removed}
 use Rattle.sva_cache.proofs.cached.Cache.remove.Goals as goal
 

@@ -1,7 +1,6 @@
-use Rattle.std.proofs.Common.{rules, ◌≡◌, ◌<◌, ◌≤◌, ℕ, length, sym, ◌∙◌, ap, subst, arith}
-use Rattle.std.specs.FinMap as finite
+use Rattle.std.proofs.Common.{rules, ◌≡◌, ℕ, ◌∙◌, ap, arith}
 use Rattle.std.specs.List.{remove_range}
-use Rattle.sva_cache.specs.Cache.{Key, key_cmp, place_of}
+use Rattle.sva_cache.specs.Cache.{place_of}
 use Rattle.sva_cache.specs.Coverage.{first_key, end_key}
 use Rattle.sva_cache.proofs.Runs.{run_rises, run_within, run_cut}
 use Rattle.sva_cache.proofs.cached.Cache.remove_covered.Goals as goal

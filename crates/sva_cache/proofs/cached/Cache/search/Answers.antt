@@ -1,9 +1,9 @@
-use Rattle.std.proofs.Common.{◌≡◌, ◌+◌, ◌-◌, ◌/◌, ◌<◌, ◌≤◌, ◌^◌, ℕ, length, get_or, sym, ◌∙◌, ap, refl, subst, cond, arith}
+use Rattle.std.proofs.Common.{◌+◌, ◌-◌, ◌/◌, ◌≤◌, length, sym, ◌∙◌, ap, refl, subst, arith}
 use Rattle.std.specs.Prelude.{T}
 use Rattle.std.specs.Option.{is_some}
 use Rattle.std.specs.FinMap.{find, is_sorted}
 use Rattle.sva_cache.specs.Cache.{key_cmp, key_cmp_total, smaller_first}
-use Rattle.sva_cache.proofs.Places.{place_le, at_most_length, less_at, greater_at, equal_at}
+use Rattle.sva_cache.proofs.Places.{at_most_length, less_at, greater_at, equal_at}
 use Rattle.sva_cache.proofs.Search.{halves, closed, found_at, not_found_at}
 use Rattle.sva_cache.proofs.cached.Cache.search.Goals as goal
 

@@ -1,9 +1,10 @@
 //! The scenarios of examples/ with their reports, as they stand there: `scripts/examples` compares them.
 
 /// Each scenario, its report, and the status of its run.
-pub const EXAMPLES: [(&str, &str, u8); 6] = [
+pub const EXAMPLES: [(&str, &str, u8); 7] = [
     (FIRST, FIRST_REPORT, 0),
     (PAGES, PAGES_REPORT, 0),
+    (LOOK, LOOK_REPORT, 0),
     (REFUSALS, REFUSALS_REPORT, 0),
     (UNMAP_MANY, UNMAP_MANY_REPORT, 0),
     (TYPO, TYPO_REPORT, 1),
@@ -124,6 +125,43 @@ refused 29 BadCount
 refused 5 PageRange
 refused 3 NoSuchSpace
 free 0 mapped 2 withheld 0
+";
+
+const LOOK: &str = "# Where a frame is, and which space bears a PASID: steps that only ask.
+config 1 2 1
+
+# Nothing is mapped yet.
+look 0
+space
+map 0 16 w
+
+# Frame 0 is at a page now, and frame 1 is free.
+look 0
+look 1
+
+# No endpoint is bound to the space, so its frame is free with the unmapping and is never withheld.
+unmap 0 16
+look 0
+
+# The frames are 0 and 1.
+look 2
+
+# A space bears a PASID while it is bound to an endpoint; here none is. The PASIDs are 1 to 32.
+bearer 1
+bearer 0
+";
+
+const LOOK_REPORT: &str = "free
+space 0
+frame 0
+mapped
+free
+free 0
+free
+refused 8 NoFrame
+bearer none
+refused 43 BadPasid
+free 2 mapped 0 withheld 0
 ";
 
 const UNMAP_MANY: &str =

@@ -11,9 +11,8 @@ ghost use Rattle.sva_wire.specs.Host.{IsIdle, IsOfSpaces};
 ghost use Rattle.sva_core.specs.Pieces.{ByNumbers, Counted};
 ghost use Rattle.sva_core.specs.Reached.{TakesNoMemory};
 
-use crate::asking;
 use crate::live::{Live, place_of};
-use crate::pages;
+use crate::{asking, pages};
 use std::alloc::{AllocError, Global};
 use std::marker::Model;
 use sva_frames::{Counts, FramePool};

@@ -83,6 +83,10 @@ pub fn is_built(step: &Step) -> bool
 {
     matches!(
         step,
-        Step::Space | Step::Map { .. } | Step::Unmap { .. } | Step::Look { .. } | Step::Bearer { .. }
+        Step::Space
+            | Step::Map { .. }
+            | Step::Unmap { .. }
+            | Step::Look { .. }
+            | Step::Bearer { .. }
     )
 }

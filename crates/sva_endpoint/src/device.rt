@@ -12,8 +12,8 @@ use sva_itags::Count;
 use sva_msg::{Code, CountField, Kind, Message};
 use sva_step::{Answer, PAGES, Refusal};
 use sva_tables::{
-    GroupPlace, GroupTable, PasidState, PasidStates, RequestTag, RequestTags, Taken, TakenTable, Use,
-    UseSlot, UseSlots,
+    GroupPlace, GroupTable, PasidState, PasidStates, RequestTag, RequestTags, Taken, TakenTable,
+    Use, UseSlot, UseSlots,
 };
 
 #[cfg(test)]

@@ -4,4 +4,3 @@ pub mod Causes
 pub mod Moves
 pub mod Outcomes
 pub mod Host
-pub mod SideBySide

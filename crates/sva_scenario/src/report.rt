@@ -98,12 +98,7 @@ pub fn write_counts<W: Write>(
 }
 
 /// Appends `free X mapped Y withheld Z`.
-fn put_counts(
-    line: &mut Vec<u8>,
-    free: u32,
-    mapped: u32,
-    withheld: u32,
-) -> Result<(), AllocError>
+fn put_counts(line: &mut Vec<u8>, free: u32, mapped: u32, withheld: u32) -> Result<(), AllocError>
     ensures text { OnOk result (line.new.items ≡ line.old.items
         ++ counts_text (record { free = free; mapped = mapped; withheld = withheld })) }
     ensures short { OnOk result (length line.new.items ≤ length line.old.items + 128) }

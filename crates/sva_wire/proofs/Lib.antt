@@ -1,4 +1,3 @@
-
 pub mod Lists
 pub mod Parts
 pub mod Pages

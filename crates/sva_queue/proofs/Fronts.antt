@@ -1,20 +1,19 @@
 -- Which waits the front tells to be done.
-use Rattle.std.proofs.Common.{◌≡◌, ◌≢◌, ℕ, ◌+◌, ◌<◌, ◌≤◌, ◌↔◌, ◌⊎◌, inl, inr, Bool, true, false, ◌||◌, List, [], ◌∷◌, ◌++◌, length, drop, nat_le, if◌then◌else◌, refl, ap, sym, ◌∙◌, subst, append_assoc, append-nil, arith}
+use Rattle.std.proofs.Common.{◌≡◌, ℕ, ◌+◌, ◌<◌, ◌≤◌, ◌⊎◌, inl, inr, Bool, true, false, List, [], ◌∷◌, ◌++◌, length, nat_le, if◌then◌else◌, refl, ap, sym, ◌∙◌, subst, append_assoc, append-nil, arith}
 use Rattle.std.specs.Prelude.{Contains}
 use Rattle.std.specs.List.{list_any}
 use Rattle.std.proofs.lemmas.List.Elements.{Contains-append_left, Contains-append_right, Contains-append_cases}
-use Rattle.std.proofs.lemmas.Bool.Decides.{nat_tests}
 use Rattle.sva_itags.specs.Tags.{lowest_free}
 use Rattle.sva_queue.specs.declared.descriptors.Descriptor.{Descriptor}
 use Rattle.sva_queue.specs.declared.descriptors.Descriptor.TheVariants.{Range, Pasid, Wait}
 use Rattle.sva_queue.specs.declared.descriptors.Pumped.{Pumped}
 use Rattle.sva_queue.specs.declared.descriptors.Pumped.TheVariants.{Issued, Done, Blocked, Idle}
-use Rattle.sva_queue.specs.Cookies.{cookies_of, AreRising, number_after}
+use Rattle.sva_queue.specs.Cookies.{cookies_of, number_after}
 use Rattle.sva_queue.specs.Queue.{Queue, InOrder, empty, with_more, submitted, next_of, after_answer, answer_at, is_complete, reset_begun, reset_ended}
 use Rattle.sva_queue.specs.Calls.{Call, after, after_all, entering, all_entering, taken_off, leaving, ArePermitted}
 use Rattle.sva_queue.specs.Calls.Call.{Submit, Pump, Arrived, BeginReset, EndReset}
 use Rattle.sva_queue.specs.Fronts.{cookie_done, done_by, all_done, voided_by, all_voided, ends_reset, void_in_reset, PendingFromFront, DoneBelowFront, AlwaysInOrder}
-use Rattle.sva_queue.proofs.Cookies.{contains_none, contains_one, contains_cons, contains_here, cookies-append, rising-within}
+use Rattle.sva_queue.proofs.Cookies.{contains_none, contains_one, cookies-append, rising-within}
 use Rattle.sva_queue.proofs.InTurn.{one_step}
 use Rattle.sva_queue.proofs.Kept.{issued_not_done, wait_not_issued, wait_done, done-cookies, empty-idle, call-in_order, all-in_order, empty-in_order}
 

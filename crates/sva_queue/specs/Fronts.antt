@@ -1,5 +1,5 @@
 -- The front of a unit's cookies: which waits it tells to be done.
-use Rattle.std.specs.Prelude.{◌≡◌, ℕ, ◌<◌, ◌≤◌, ◌↔◌, ◌⊎◌, Bool, true, false, List, [], ◌∷◌, ◌++◌, Contains, if◌then◌else◌}
+use Rattle.std.specs.Prelude.{ℕ, ◌<◌, ◌≤◌, ◌↔◌, ◌⊎◌, Bool, true, false, List, [], ◌∷◌, ◌++◌, Contains, if◌then◌else◌}
 use Rattle.std.specs.List.{list_any}
 use Rattle.sva_queue.specs.declared.descriptors.Pumped.{Pumped}
 use Rattle.sva_queue.specs.declared.descriptors.Pumped.TheVariants.{Done}

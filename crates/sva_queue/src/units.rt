@@ -66,7 +66,8 @@ impl Default for Unit {
 }
 
 impl Unit {
-    ghost use Rattle.sva_queue.specs.Queue.{InOrder, empty, room_of, with_more, submitted, is_idle, is_complete, next_of, pumped, with_completion, reset_begun, reset_ended};
+    ghost use Rattle.sva_queue.specs.Queue.{InOrder, empty, room_of, with_more, submitted, is_idle, is_complete, next_of};
+    ghost use Rattle.sva_queue.specs.Queue.{pumped, with_completion, reset_begun, reset_ended};
     ghost use Rattle.sva_queue.specs.Calls.{IsWaitDone};
 
     /// An open unit with an empty queue; all its tags are free.

@@ -1,8 +1,7 @@
 -- The steps by numbers and labels: what a host answers, and what it keeps afterwards, read off what it keeps before. And the
 -- law that they are the steps by names.
-use Rattle.std.specs.Prelude.{◌≡◌, ℕ, List, [], ◌∷◌, if◌then◌else◌, None, Ok, Err}
+use Rattle.std.specs.Prelude.{◌≡◌, List, [], ◌∷◌, if◌then◌else◌, None, Ok, Err}
 use Rattle.sva_step.specs.declared.limits.Config.{Config}
-use Rattle.sva_step.specs.declared.refusals.Refusal.{Refusal}
 use Rattle.sva_step.specs.declared.steps.Step.{Step}
 use Rattle.sva_model.specs.Words.{tabulate}
 use Rattle.sva_model.specs.State.{opened}

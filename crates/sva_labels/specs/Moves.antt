@@ -1,27 +1,26 @@
 -- What a step changes of what a host keeps: a list of moves, one for each act of the definitions, by numbers and labels
 -- alone.
-use Rattle.std.specs.Prelude.{ℕ, zero, suc, ◌+◌, ◌-◌, ◌*◌, ◌^◌, Bool, true, false, ◌&&◌, ◌||◌, not, ◌==◌, nat_lt, nat_le, if◌then◌else◌, is_some, is_none, Option, Some, None, option_map, List, [], ◌∷◌, ◌++◌, map, filter, drop, length, replicate, slice_set, slice_index_or}
-use Rattle.std.specs.List.{list_all, enumerate_from}
+use Rattle.std.specs.Prelude.{ℕ, zero, suc, ◌+◌, ◌*◌, ◌^◌, Bool, true, false, ◌&&◌, ◌||◌, not, ◌==◌, nat_lt, if◌then◌else◌, is_none, Option, Some, None, List, [], ◌∷◌, ◌++◌, map, filter, drop, length, slice_set, slice_index_or}
+use Rattle.std.specs.List.{list_all}
 use Rattle.sva_model.specs.Words.{tabulate, count_below}
-use Rattle.sva_model.specs.Range.{Range, Code as RangeCode, decode}
+use Rattle.sva_model.specs.Range.{Range, decode}
 use Rattle.sva_model.specs.Message.{Code, Message, Scope}
 use Rattle.sva_model.specs.Message.Scope.{Coded, Everything}
 use Rattle.sva_model.specs.Message.Message.{StartMessage, StopMessage, ResetMessage, InvalidateMessage, ResponseMessage, RequestMessage, InvalidatedMessage, PageRequestMessage, MarkerMessage, ResetDoneMessage}
-use Rattle.sva_model.specs.State.{PasidState, GroupState}
+use Rattle.sva_model.specs.State.{PasidState}
 use Rattle.sva_model.specs.State.PasidState.{Off, On, Ending}
-use Rattle.sva_model.specs.State.GroupState.{Awaiting}
 use Rattle.sva_model.specs.States.{Extent}
 use Rattle.sva_model.specs.States.Extent.{Pages, AllPages}
 use Rattle.sva_model.specs.Acts.{in_range, range_at, disables, scope_of, stale_if, sent_as, count_field}
 use Rattle.sva_model.specs.Labels
-use Rattle.sva_model.specs.Wire.{Wire, SpaceWire, PageWire, PlaceWire, TargetWire, BindingWire, StageWire, PartWire, DeviceWire, UnitWire, RequestWire, TranslationWire, UseWire, TakenWire, GroupWire, BusyWire, Descriptor, AskWire, PageRequestWire, HostGroupWire, JobWire, FlightWire, insert_by, is_lower_page, is_before}
+use Rattle.sva_model.specs.Wire.{Wire, SpaceWire, PageWire, PlaceWire, TargetWire, BindingWire, StageWire, PartWire, DeviceWire, UnitWire, RequestWire, TranslationWire, UseWire, TakenWire, GroupWire, BusyWire, Descriptor, PageRequestWire, HostGroupWire, JobWire, insert_by, is_lower_page, is_before}
 use Rattle.sva_model.specs.Wire.PlaceWire.{FreeWire, MappedWire, WithheldWire}
 use Rattle.sva_model.specs.Wire.TargetWire.{Cookie, ResetEnd}
 use Rattle.sva_model.specs.Wire.StageWire.{LiveWire, StoppingWire, DrainingWire, InvalidatingWire, QuietWire, LostWire}
 use Rattle.sva_model.specs.Wire.UseWire.{RunningWire, DeadWire}
 use Rattle.sva_model.specs.Wire.BusyWire.{Fresh, Counting}
 use Rattle.sva_model.specs.Wire.Descriptor.{RangeDescriptor, PasidDescriptor, WaitDescriptor}
-use Rattle.sva_labels.specs.Finding.{pages_in, page_at, bound_at, is_before_invalidating, part_of, device_of, unit_of, is_wait_done, submits, is_at_page, tag_at, covers}
+use Rattle.sva_labels.specs.Finding.{pages_in, bound_at, part_of, device_of, unit_of, is_wait_done, submits, is_at_page, covers}
 
 pub data Move : Type 0 where
   -- spaces and frames

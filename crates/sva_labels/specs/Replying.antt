@@ -1,6 +1,6 @@
 -- What a worker's reply does, read off what a host keeps: it is decided by the binding that the job names, at the time of
 -- the reply (Page Request Group Response: PCI Express Base 5.0, section 10.4.2).
-use Rattle.std.specs.Prelude.{ℕ, Bool, true, false, ◌&&◌, not, ◌==◌, if◌then◌else◌, is_some, Option, Some, None, List, [], ◌∷◌, map}
+use Rattle.std.specs.Prelude.{ℕ, Bool, true, false, ◌&&◌, not, ◌==◌, is_some, Option, Some, None, List, map}
 use Rattle.std.specs.List.{list_any}
 use Rattle.sva_step.specs.declared.steps.Verdict.{Verdict}
 use Rattle.sva_step.specs.declared.steps.Verdict.TheVariants as verdict

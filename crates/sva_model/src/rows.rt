@@ -11,6 +11,23 @@ ghost use Rattle.sva_model.specs.RowsOfReadings.{LastRequestPastAMarker, MarkerP
 ghost use Rattle.sva_model.specs.RowsOfNames.{NumbersApart, NumbersApartAsSent, NumbersApartAsOrdered, OtherEndpointAsOrdered, CookiesOfTheFirst, CookiesOfTheOneInReset, CookiesOfTheLast, NoTranslationAsSent, FullQueueOfOneUnit, NumbersBelowTheFirst, JobsOfTwoEndpoints, QuitOfOneOfTwo, SecondJobOfAnEndpoint, FullQueueOfABinding, PastOlderMessages, NewerAnswerInPlace, SecondUnmap, TagsGivenBack, NumbersApartAsAsked};
 ghost use Rattle.sva_model.specs.RowsOfBoundaries.{MessagesSpentBeforeBindings, LastNumberOfAReset, LastNumberOfACompletion, LastCookieOfADrain, LastCookieOfAnInvalidation, NoCookieInReset, QuietNeedsNoRoom, FullSpaceAndAnother, LastPageAndLastFrame, GreatestPage, HeldBeforeWritable, LastSlotAndLastTag, StagesInReset, UnmapInEachStage, UnmapWhileStoppingInReset, WaitsAfterAnEarlyReset, CreditAfterAReset, OrdersOverAfterAReset, LabelsBackInReset};
 ghost use Rattle.sva_model.specs.RowsOfWrongRules.{NotFreeWhenSent, NotFreeWhenTaken, NotFreeAtTheReset, NotFreeWhenUnmappedInReset, NotFreedAtTheFirstOfTwo, NotNoneOfEight, DoomedAnswerNotKept, DoomedAnswerNotKeptLater, DoomedTagNotGivenBack, NotFinishedWhileAUseRuns, NoUseHeldAgainstAnother, NoDrainPastAPageRequest, NoResponseByAnUnbind, NoResponseInReset, NotWithheldPastTheLastWait, NoPageInvalidationWhileInvalidating, NotFreeWhileInvalidating, NoResetDonePastOlderMessages, NotReleasedWhileInvalidating, NotReleasedWhileQuiet, NoMarkerPastPageRequests, NoWaitPastABusyTag, NoUseLeftByAReset, NoIndexGivenBackByAQuit, NoQuitWhileAUseRuns, NoQuitWhileARequestIsOut, NoTranslationWhileStopping, NoTranslationOfAnotherSpace, NothingElseInvalidated, NothingOfAPasidLeft};
+ghost use Rattle.sva_model.specs.RowsOfFinalRules.{RangeOfEight, CausesOfUnmapRange, OnePasidForEachSpace};
+ghost use Rattle.sva_model.specs.RowsOfWire.{InvalidationsUnderWay, GroupsUnderWay, TwoTargets, Drained};
+
+/// What a host keeps after a run.
+pub fn kept()
+    ensures invalidations_under_way { InvalidationsUnderWay }
+    ensures groups_under_way { GroupsUnderWay }
+    ensures two_targets { TwoTargets }
+    ensures drained { Drained }
+{}
+
+/// Ranges of pages, and one PASID for each space.
+pub fn final_rules()
+    ensures range_of_eight { RangeOfEight }
+    ensures causes_of_unmap_range { CausesOfUnmapRange }
+    ensures one_pasid_for_each_space { OnePasidForEachSpace }
+{}
 
 /// Spaces, bindings, translations, and pages unmapped while they are in use.
 pub fn translations()

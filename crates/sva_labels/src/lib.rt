@@ -1,3 +1,3 @@
-//! Not finished, and no part of the gate yet: the definitions of every step by numbers and labels, as a host takes them that
+//! Not finished: the definitions of every step by numbers and labels, as a host takes them that
 //! keeps no names. That they are the steps by names is to be proved; docs/PROOF.md, section 8, says how.
 #![tactic(auto)]

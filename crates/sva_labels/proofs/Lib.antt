@@ -1,2 +1,3 @@
 pub mod Named
 pub mod Kept
+pub mod Alike

@@ -2,3 +2,4 @@ pub mod Named
 pub mod Kept
 pub mod Picked
 pub mod UnitSubmitted
+pub mod Alike

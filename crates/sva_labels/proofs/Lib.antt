@@ -5,3 +5,6 @@ pub mod SentTo
 pub mod Picked
 pub mod UnitSubmitted
 pub mod Alike
+pub mod EndpointViews
+pub mod Reached
+pub mod DeliverSays

@@ -1,2 +1,4 @@
 pub mod Named
 pub mod Kept
+pub mod SpaceLists
+pub mod PageLists

@@ -2,3 +2,5 @@ pub mod Named
 pub mod Kept
 pub mod SpaceLists
 pub mod PageLists
+pub mod PlacesOut
+pub mod SpaceActs

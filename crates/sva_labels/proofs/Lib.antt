@@ -1,3 +1,4 @@
 pub mod Named
 pub mod Kept
 pub mod Alike
+pub mod LookedLists

@@ -1,4 +1,12 @@
 pub mod Named
 pub mod Kept
+pub mod Lookups
+pub mod SentTo
+pub mod Picked
+pub mod UnitSubmitted
 pub mod Alike
 pub mod LookedLists
+pub mod DeviceRows
+pub mod DevicePasids
+pub mod DeviceTaken
+pub mod DeviceMappings

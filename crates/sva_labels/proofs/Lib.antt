@@ -1,3 +1,5 @@
 pub mod Named
 pub mod Kept
 pub mod Alike
+pub mod Selected
+pub mod Flights

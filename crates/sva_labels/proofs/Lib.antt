@@ -1,7 +1,13 @@
 pub mod Named
 pub mod Kept
+pub mod Lookups
+pub mod SentTo
 pub mod Picked
 pub mod UnitSubmitted
 pub mod Alike
 pub mod Selected
 pub mod Flights
+pub mod DeviceRows
+pub mod DevicePasids
+pub mod DeviceTaken
+pub mod DeviceMappings

@@ -6,6 +6,8 @@ pub mod Picked
 pub mod UnitSubmitted
 pub mod Alike
 pub mod LookedLists
+pub mod Selected
+pub mod Flights
 pub mod DeviceRows
 pub mod DevicePasids
 pub mod DeviceTaken

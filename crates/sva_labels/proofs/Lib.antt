@@ -4,3 +4,15 @@ pub mod SpaceLists
 pub mod PageLists
 pub mod PlacesOut
 pub mod SpaceActs
+pub mod Lookups
+pub mod SentTo
+pub mod Picked
+pub mod UnitSubmitted
+pub mod Alike
+pub mod LookedLists
+pub mod Selected
+pub mod Flights
+pub mod DeviceRows
+pub mod DevicePasids
+pub mod DeviceTaken
+pub mod DeviceMappings

@@ -1,5 +1,9 @@
 pub mod Named
 pub mod Kept
+pub mod SpaceLists
+pub mod PageLists
+pub mod PlacesOut
+pub mod SpaceActs
 pub mod Lookups
 pub mod SentTo
 pub mod Picked
@@ -8,3 +12,10 @@ pub mod Alike
 pub mod EndpointViews
 pub mod Reached
 pub mod DeliverSays
+pub mod LookedLists
+pub mod Selected
+pub mod Flights
+pub mod DeviceRows
+pub mod DevicePasids
+pub mod DeviceTaken
+pub mod DeviceMappings

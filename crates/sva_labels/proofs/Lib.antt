@@ -19,3 +19,5 @@ pub mod DeviceRows
 pub mod DevicePasids
 pub mod DeviceTaken
 pub mod DeviceMappings
+pub mod Bearers
+pub mod DeliverResults

@@ -10,6 +10,9 @@ pub mod SentTo
 pub mod Picked
 pub mod UnitSubmitted
 pub mod Alike
+pub mod EndpointViews
+pub mod Reached
+pub mod DeliverSays
 pub mod LookedLists
 pub mod Selected
 pub mod Flights

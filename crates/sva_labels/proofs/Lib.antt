@@ -5,6 +5,7 @@ pub mod PageLists
 pub mod PlacesOut
 pub mod SpaceActs
 pub mod Bound
+pub mod PlacesKept
 pub mod Lookups
 pub mod SentTo
 pub mod Picked

@@ -3,3 +3,7 @@ pub mod Kept
 pub mod Picked
 pub mod UnitSubmitted
 pub mod Alike
+pub mod UnitQueue
+pub mod UnitStates
+pub mod UnitCounts
+pub mod UnitActs

@@ -1,5 +1,11 @@
 pub mod Named
 pub mod Kept
+pub mod SpaceLists
+pub mod PageLists
+pub mod PlacesOut
+pub mod SpaceActs
+pub mod Lookups
+pub mod SentTo
 pub mod Picked
 pub mod UnitSubmitted
 pub mod Alike
@@ -7,3 +13,13 @@ pub mod UnitQueue
 pub mod UnitStates
 pub mod UnitCounts
 pub mod UnitActs
+pub mod EndpointViews
+pub mod Reached
+pub mod DeliverSays
+pub mod LookedLists
+pub mod Selected
+pub mod Flights
+pub mod DeviceRows
+pub mod DevicePasids
+pub mod DeviceTaken
+pub mod DeviceMappings

@@ -6,9 +6,11 @@ pub mod Picked
 pub mod UnitSubmitted
 pub mod Alike
 pub mod LookedLists
+pub mod LookedSpaces
 pub mod Selected
 pub mod Flights
 pub mod DeviceRows
 pub mod DevicePasids
 pub mod DeviceTaken
 pub mod DeviceMappings
+pub mod SaysSpaces

@@ -1,10 +1,17 @@
 pub mod Named
 pub mod Kept
+pub mod SpaceLists
+pub mod PageLists
+pub mod PlacesOut
+pub mod SpaceActs
 pub mod Lookups
 pub mod SentTo
 pub mod Picked
 pub mod UnitSubmitted
 pub mod Alike
+pub mod EndpointViews
+pub mod Reached
+pub mod DeliverSays
 pub mod LookedLists
 pub mod LookedSpaces
 pub mod Selected

@@ -4,6 +4,7 @@ pub mod SpaceLists
 pub mod PageLists
 pub mod PlacesOut
 pub mod SpaceActs
+pub mod Bound
 pub mod Lookups
 pub mod SentTo
 pub mod Picked

@@ -18,9 +18,11 @@ pub mod EndpointViews
 pub mod Reached
 pub mod DeliverSays
 pub mod LookedLists
+pub mod LookedSpaces
 pub mod Selected
 pub mod Flights
 pub mod DeviceRows
 pub mod DevicePasids
 pub mod DeviceTaken
 pub mod DeviceMappings
+pub mod SaysSpaces

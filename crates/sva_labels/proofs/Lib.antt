@@ -4,6 +4,7 @@ pub mod SpaceLists
 pub mod PageLists
 pub mod PlacesOut
 pub mod SpaceActs
+pub mod Bound
 pub mod Lookups
 pub mod SentTo
 pub mod Picked
@@ -13,6 +14,7 @@ pub mod EndpointViews
 pub mod Reached
 pub mod DeliverSays
 pub mod LookedLists
+pub mod LookedSpaces
 pub mod Selected
 pub mod Flights
 pub mod DeviceRows
@@ -20,3 +22,4 @@ pub mod DevicePasids
 pub mod DeviceTaken
 pub mod DeviceMappings
 pub mod Columns
+pub mod SaysSpaces

@@ -10,6 +10,10 @@ pub mod SentTo
 pub mod Picked
 pub mod UnitSubmitted
 pub mod Alike
+pub mod UnitQueue
+pub mod UnitStates
+pub mod UnitCounts
+pub mod UnitActs
 pub mod EndpointViews
 pub mod Reached
 pub mod DeliverSays

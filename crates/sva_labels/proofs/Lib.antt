@@ -26,4 +26,5 @@ pub mod DeviceRows
 pub mod DevicePasids
 pub mod DeviceTaken
 pub mod DeviceMappings
+pub mod Columns
 pub mod SaysSpaces

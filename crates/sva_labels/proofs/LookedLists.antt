@@ -1,16 +1,16 @@
 -- What a search finds in the list of the numbers that pass, each seen by a function, and in a table.
 use Rattle.std.proofs.Common.{◌≡◌, ◌⊎◌, inl, inr, refl, ap, ap₂, sym, ◌∙◌, ℕ, zero, suc, ◌+◌, ◌<◌, Bool, true, false, arith}
-use Rattle.std.specs.Prelude.{Option, Some, None, option_map, ◌&&◌, ◌||◌, ◌==◌, nat_lt, if◌then◌else◌, List, [], ◌∷◌, ◌++◌, map, length, position}
+use Rattle.std.specs.Prelude.{Option, Some, None, option_map, ◌&&◌, ◌==◌, nat_lt, if◌then◌else◌, List, [], ◌∷◌, ◌++◌, map, length}
 use Rattle.std.specs.Option.{option_or}
 use Rattle.std.specs.List as lists
-use Rattle.std.specs.List.{list_any, count_by, position_or_len}
+use Rattle.std.specs.List.{count_by}
 use Rattle.std.proofs.lemmas.List.{map-append, length-map}
-use Rattle.std.proofs.lemmas.List.Folds.{find-append, list_any-append, position_or_len_push}
+use Rattle.std.proofs.lemmas.List.Folds.{find-append}
 use Rattle.std.proofs.lemmas.List.Sums.{sum_by-append}
 use Rattle.std.proofs.lemmas.Bool.Decides.{nat_tests}
-use Rattle.sva_model.specs.Words.{find, if_found, lowest, step_lowest, any_below, count_below, select, tabulate}
+use Rattle.sva_model.specs.Words.{find, if_found, lowest, step_lowest, count_below, select}
 use Rattle.sva_laws.proofs.Words.{lowest_cases, find_some}
-use Rattle.sva_wire.proofs.Lists.{select_length, tabulate_length}
+use Rattle.sva_wire.proofs.Lists.{select_length}
 
 -- Searches by number.
 
@@ -122,30 +122,6 @@ find_seen {A = A} f test (suc n) p =
     go b c e None (Some a) h = absurd (cc (h))
     go b c e (Some k) None h = absurd (cc (h))
 
--- one passes a test where one of the numbers does
-pub any_seen : {A : Type 0} (f : ℕ → A) (test : A → Bool) (n : ℕ) (p : ℕ → Bool) → list_any test (map f (select n p)) ≡ any_below n (λ k. p k && test (f k))
-unfolding select any_below
-any_seen f test zero p = refl
-any_seen f test (suc n) p =
-    ap (list_any test) (seen_next f n p) ∙ list_any-append test (map f (select n p)) (if_passes (p n) (f n)) ∙ go (p n) (test (f n)) refl (any_below n (λ k. p k && test (f k))) (any_seen f test n p)
-  where
-    go : (b c : Bool) → test (f n) ≡ c → (r : Bool) → list_any test (map f (select n p)) ≡ r → (list_any test (map f (select n p)) || list_any test (if_passes b (f n))) ≡ (if b && c then true else r)
-    go true true e r h = ap₂ (λ x y. x || (y || false)) h e ∙ or_true r
-      where
-        or_true : (r : Bool) → (r || true) ≡ true
-        or_true true = refl
-        or_true false = refl
-    go true false e r h = ap₂ (λ x y. x || (y || false)) h e ∙ or_false r
-      where
-        or_false : (r : Bool) → (r || false) ≡ r
-        or_false true = refl
-        or_false false = refl
-    go false c e r h = ap (λ x. x || false) h ∙ or_false r
-      where
-        or_false : (r : Bool) → (r || false) ≡ r
-        or_false true = refl
-        or_false false = refl
-
 -- how many pass a test
 pub count_seen : {A : Type 0} (f : ℕ → A) (test : A → Bool) (n : ℕ) (p : ℕ → Bool) → count_by test (map f (select n p)) ≡ count_below n (λ k. p k && test (f k))
 unfolding select count_below
@@ -195,45 +171,3 @@ select_first (suc n) p l = go (p n) refl (lowest_cases n p) (select_first n p)
     go b e (inr x) rest =
         let r = rest x.0 in
         (r.0 ++ (if p n then n ∷ [] else []), ap (λ xs. xs ++ (if p n then n ∷ [] else [])) r.1 ∙ ap (λ k. k ∷ (r.0 ++ (if p n then n ∷ [] else []))) (stays (lowest n p) (p n) x.0))
-
--- Tables.
-
-pub any_table : {A : Type 0} (n : ℕ) (f : ℕ → A) (test : A → Bool) → list_any test (tabulate n f) ≡ any_below n (λ t. test (f t))
-unfolding tabulate any_below
-any_table zero f test = refl
-any_table (suc n) f test = list_any-append test (tabulate n f) (f n ∷ []) ∙ go (test (f n)) (any_table n f test)
-  where
-    or_true : (r : Bool) → (r || true) ≡ true
-    or_true true = refl
-    or_true false = refl
-
-    or_false : (r : Bool) → (r || false) ≡ r
-    or_false true = refl
-    or_false false = refl
-
-    go : (b : Bool) → list_any test (tabulate n f) ≡ any_below n (λ t. test (f t)) → (list_any test (tabulate n f) || (b || false)) ≡ (if b then true else any_below n (λ t. test (f t)))
-    go true h = or_true (list_any test (tabulate n f))
-    go false h = or_false (list_any test (tabulate n f)) ∙ h
-
--- the first place that passes
-or_len_table : {A : Type 0} (n : ℕ) (f : ℕ → A) (test : A → Bool) → position_or_len test (tabulate n f) ≡ lowest n (λ t. test (f t))
-unfolding tabulate lowest
-or_len_table zero f test = refl
-or_len_table (suc n) f test =
-    position_or_len_push test (tabulate n f) (f n)
-    ∙ ap₂ (λ z l. if z == l then l + (if test (f n) then 0 else 1) else z) (or_len_table n f test) (tabulate_length n f)
-    ∙ go (lowest n (λ t. test (f t)) == n) (test (f n))
-  where
-    go : (t b : Bool) → (if t then n + (if b then 0 else 1) else lowest n (λ t. test (f t))) ≡ step_lowest t (lowest n (λ t. test (f t))) n b
-    go false b = refl
-    go true true = omega arith
-    go true false = omega arith
-
-pub first_of_table : {A : Type 0} (n : ℕ) (f : ℕ → A) (test : A → Bool) → position test (tabulate n f) ≡ find n (λ t. test (f t))
-first_of_table n f test =
-    ap₂ (λ z l. if nat_lt z l then Some z else None) (or_len_table n f test) (tabulate_length n f)
-    ∙ go (nat_lt (lowest n (λ t. test (f t))) n)
-  where
-    go : (b : Bool) → (if b then Some (lowest n (λ t. test (f t))) else None) ≡ if_found b (lowest n (λ t. test (f t)))
-    go true = refl
-    go false = refl

@@ -22,6 +22,7 @@ use Rattle.sva_wire.proofs.Spaces.{spaces_more}
 use Rattle.sva_labels.specs.Finding.{pages_of, pages_in, or_no_pages}
 use Rattle.sva_labels.specs.Moves.{with_pages, without_space, placed, moved}
 use Rattle.sva_labels.proofs.Named.{act_move}
+use Rattle.sva_labels.proofs.DeviceMappings.{device_mapped, device_without}
 use Rattle.sva_labels.proofs.SpaceLists.{with_pages_is, without_space_is, pages_among, among_those}
 use Rattle.sva_labels.proofs.PageLists.{other_space}
 use Rattle.sva_labels.proofs.PlacesOut.{places_out}
@@ -44,13 +45,13 @@ new_space w i =
 
 -- A page more.
 
-pub map_page : (w : World) (s q f : ℕ) (x : Bool) → Invariant w → SameDevices w (act w (Map s q f x)).mappings → wire (act w (Map s q f x)) ≡ moved (wire w) (act_move w (Map s q f x))
-map_page w s q f x i h =
+pub map_page : (w : World) (s q f : ℕ) (x : Bool) → Invariant w → wire (act w (Map s q f x)) ≡ moved (wire w) (act_move w (Map s q f x))
+map_page w s q f x i =
     let v = act w (Map s q f x) in
     let change : List PageWire → List PageWire = insert_by is_lower_page (record { page = q; frame = f; write = x }) in
     let spaces = with_pages_is w.config.first s (pages_wire w.mappings) (pages_wire v.mappings) change (select w.spaces w.is_live) (pages_mapped w s q f x) in
     let places = places_mapped w s q f x i.mapped in
-    let parts = parts_same w v.mappings h in
+    let parts = parts_same w v.mappings (λ e l. device_mapped w s q f x (w.part e) (i.parts e).owners) in
     λ k. record (wire w) { spaces = spaces k; places = places k; parts = parts k }
 
 -- A space less.
@@ -86,11 +87,11 @@ all_kept : (xs : List PageWire) → filter (λ x. true) xs ≡ xs
 all_kept [] = refl
 all_kept (x ∷ xs) = ap (λ z. x ∷ z) (all_kept xs)
 
-pub drop_space : (w : World) (s : ℕ) → Invariant w → SameDevices w (act w (DropSpace s)).mappings → wire (act w (DropSpace s)) ≡ moved (wire w) (act_move w (DropSpace s))
-drop_space w s i h =
+pub drop_space : (w : World) (s : ℕ) → Invariant w → wire (act w (DropSpace s)) ≡ moved (wire w) (act_move w (DropSpace s))
+drop_space w s i =
     let v = act w (DropSpace s) in
     let spaces = without_space_is w.config.first s w.spaces w.is_live (pages_wire w.mappings) (pages_wire v.mappings) (λ t ne. other_space w s (λ q. true) (λ e. Nothing) t (λ e. ne (sym e))) in
-    let parts = parts_same w v.mappings h in
+    let parts = parts_same w v.mappings (λ e l. device_without w.mappings s (λ q. true) (λ e. Nothing) (w.part e)) in
     λ k. record (wire w) { spaces = spaces k; places = places k; parts = parts k }
   where
     all_answered : all_below w.config.endpoints (λ e. answered (w.part e) Nothing) ≡ true

@@ -30,3 +30,4 @@ pub mod Bearers
 pub mod DeliverResults
 pub mod Columns
 pub mod SaysSpaces
+pub mod EndpointLookups

@@ -31,3 +31,4 @@ pub mod DeliverResults
 pub mod Columns
 pub mod SaysSpaces
 pub mod EndpointLookups
+pub mod EndpointSays

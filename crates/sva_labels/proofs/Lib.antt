@@ -27,3 +27,4 @@ pub mod DeviceTaken
 pub mod DeviceMappings
 pub mod Columns
 pub mod SaysSpaces
+pub mod JobActs

@@ -5,11 +5,16 @@ pub mod PageLists
 pub mod PlacesOut
 pub mod SpaceActs
 pub mod Bound
+pub mod PlacesKept
 pub mod Lookups
 pub mod SentTo
 pub mod Picked
 pub mod UnitSubmitted
 pub mod Alike
+pub mod UnitQueue
+pub mod UnitStates
+pub mod UnitCounts
+pub mod UnitActs
 pub mod EndpointViews
 pub mod Reached
 pub mod DeliverSays
@@ -22,4 +27,7 @@ pub mod DeviceRows
 pub mod DevicePasids
 pub mod DeviceTaken
 pub mod DeviceMappings
+pub mod Bearers
+pub mod DeliverResults
+pub mod Columns
 pub mod SaysSpaces

@@ -26,3 +26,4 @@ pub mod DevicePasids
 pub mod DeviceTaken
 pub mod DeviceMappings
 pub mod SaysSpaces
+pub mod PageQueue

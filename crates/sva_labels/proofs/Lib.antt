@@ -5,6 +5,7 @@ pub mod PageLists
 pub mod PlacesOut
 pub mod SpaceActs
 pub mod Bound
+pub mod PlacesKept
 pub mod Lookups
 pub mod SentTo
 pub mod Picked
@@ -25,5 +26,8 @@ pub mod DeviceRows
 pub mod DevicePasids
 pub mod DeviceTaken
 pub mod DeviceMappings
+pub mod Bearers
+pub mod DeliverResults
+pub mod Columns
 pub mod SaysSpaces
 pub mod PageQueue

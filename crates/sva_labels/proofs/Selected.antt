@@ -65,3 +65,8 @@ select_less n p f h = ap (λ b. map f (select n p ++ (if b then n ∷ [] else []
 pub select_one : {B : Type 0} (n : ℕ) (p : ℕ → Bool) (f : ℕ → B) → p n ≡ true → map f (select (suc n) p) ≡ map f (select n p) ++ f n ∷ []
 unfolding select
 select_one n p f h = ap (λ b. map f (select n p ++ (if b then n ∷ [] else []))) h ∙ map-append f (select n p) (n ∷ [])
+
+-- each of them changed as it is seen
+pub map_twice : {A B C : Type 0} (g : B → C) (f : A → B) (xs : List A) → map g (map f xs) ≡ map (λ x. g (f x)) xs
+map_twice g f [] = refl
+map_twice g f (x ∷ xs) = ap (λ ys. g (f x) ∷ ys) (map_twice g f xs)

@@ -20,6 +20,7 @@ pub mod Reached
 pub mod DeliverSays
 pub mod LookedLists
 pub mod LookedSpaces
+pub mod LookedBindings
 pub mod Selected
 pub mod Flights
 pub mod DeviceRows

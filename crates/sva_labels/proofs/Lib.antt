@@ -32,3 +32,4 @@ pub mod DeliverResults
 pub mod Columns
 pub mod SaysSpaces
 pub mod PageQueue
+pub mod JobActs

@@ -33,4 +33,5 @@ pub mod Columns
 pub mod SaysSpaces
 pub mod EndpointLookups
 pub mod EndpointSays
+pub mod PageQueue
 pub mod JobActs

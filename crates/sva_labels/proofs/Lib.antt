@@ -6,6 +6,7 @@ pub mod PlacesOut
 pub mod SpaceActs
 pub mod Bound
 pub mod PlacesKept
+pub mod Withholding
 pub mod Lookups
 pub mod SentTo
 pub mod Picked

@@ -9,3 +9,4 @@ pub mod DeviceRows
 pub mod DevicePasids
 pub mod DeviceTaken
 pub mod DeviceMappings
+pub mod DeviceTags

@@ -10,3 +10,5 @@ pub mod DevicePasids
 pub mod DeviceTaken
 pub mod DeviceMappings
 pub mod DeviceTags
+pub mod DeviceSlots
+pub mod DeviceGroups

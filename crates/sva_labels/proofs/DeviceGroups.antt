@@ -1,17 +1,14 @@
 -- The groups of page requests of a device, by index: what each act that touches one leaves of them.
-use Rattle.std.proofs.Common.{◌≡◌, ◌≢◌, ◌⊎◌, inl, inr, refl, ap, ap₂, sym, ◌∙◌, ℕ, suc, ◌<◌, ◌≤◌, Bool, true, false, arith, get_or}
+use Rattle.std.proofs.Common.{◌≡◌, ◌≢◌, refl, ap, sym, ◌∙◌, ℕ, suc, ◌<◌, Bool, true, false, arith}
 use Rattle.std.specs.Prelude.{Option, Some, None, option_map, ◌==◌, if◌then◌else◌, List, map, slice_set, slice_index_or}
 use Rattle.std.proofs.lemmas.Bool.Decides.{nat_tests}
 use Rattle.sva_model.specs.Words.{put, tabulate, count_below}
 use Rattle.sva_model.specs.Message.{Code}
 use Rattle.sva_model.specs.State.{Mappings, GroupState, Part}
 use Rattle.sva_model.specs.State.GroupState.{Unfinished, Awaiting, Stale, Finished}
-use Rattle.sva_model.specs.State.PasidState.{Ending}
-use Rattle.sva_model.specs.State.Stage.{Unbound}
 use Rattle.sva_model.specs.States.{is_off, is_outstanding}
 use Rattle.sva_model.specs.Acts.{own, Own, sent_as, stale_if}
 use Rattle.sva_model.specs.Wire.{GroupWire, group_wire}
-use Rattle.sva_laws.specs.Laws.{is_answerable}
 use Rattle.sva_laws.proofs.Words.{put-same, put-other}
 use Rattle.sva_laws.proofs.Counting.{count_same, count_zero}
 use Rattle.sva_laws.proofs.Legal.{LegalOwn}

@@ -1,11 +1,9 @@
 -- The use slots of a device: what each act that touches one leaves of them.
-use Rattle.std.proofs.Common.{◌≡◌, ◌≢◌, ◌⊎◌, inl, inr, refl, ap, ap₂, sym, ◌∙◌, ℕ, ◌<◌, ◌≤◌, Bool, true, false, arith}
+use Rattle.std.proofs.Common.{◌≡◌, ◌≢◌, refl, ap, sym, ◌∙◌, ℕ, ◌<◌, true, arith}
 use Rattle.std.specs.Prelude.{Option, Some, None, option_map, if◌then◌else◌, List, map, slice_set}
-use Rattle.std.proofs.lemmas.Bool.Decides.{nat_tests}
 use Rattle.sva_model.specs.Words.{put, tabulate}
 use Rattle.sva_model.specs.State.{Mappings, Stage, UseState, Part}
 use Rattle.sva_model.specs.State.UseState.{Running, Dead, Ended}
-use Rattle.sva_model.specs.State.Stage.{Unbound}
 use Rattle.sva_model.specs.States.{is_unreleased, is_running}
 use Rattle.sva_model.specs.Acts
 use Rattle.sva_model.specs.Acts.{own, Own}

@@ -1,14 +1,12 @@
 -- The request tags of a device: what each act that touches one leaves of them.
-use Rattle.std.proofs.Common.{◌≡◌, ◌≢◌, ◌⊎◌, inl, inr, refl, ap, ap₂, sym, ◌∙◌, ℕ, ◌<◌, ◌≤◌, Bool, true, false, arith}
+use Rattle.std.proofs.Common.{◌≡◌, ◌≢◌, ◌⊎◌, inl, inr, refl, ap, sym, ◌∙◌, ℕ, ◌<◌, Bool, true, false, arith}
 use Rattle.std.specs.Prelude.{Option, Some, None, option_map, ◌&&◌, ◌||◌, ◌==◌, List, map, slice_set}
 use Rattle.std.proofs.lemmas.Bool.Decides.{nat_tests}
 use Rattle.sva_model.specs.Words.{put, tabulate}
 use Rattle.sva_model.specs.State.{Mappings, Stage, RequestState, Order, Part}
 use Rattle.sva_model.specs.State.RequestState.{Out, Doomed, Over}
 use Rattle.sva_model.specs.State.Order.{RangeOf, PasidOf, Wait}
-use Rattle.sva_model.specs.State.OrderState.{Sent}
-use Rattle.sva_model.specs.State.Stage.{Unbound}
-use Rattle.sva_model.specs.States.{Extent, is_unreleased, is_out, is_off, is_busy, is_wait, is_within, covers}
+use Rattle.sva_model.specs.States.{is_unreleased, is_out, is_busy, is_wait, is_within, covers}
 use Rattle.sva_model.specs.States.Extent.{Pages, AllPages}
 use Rattle.sva_model.specs.Acts.{own, Own, doom_if, binding_of, extent_of}
 use Rattle.sva_model.specs.Wire.{RequestWire, request_wire, is_doomed}

@@ -12,3 +12,4 @@ pub mod DeviceMappings
 pub mod DeviceTags
 pub mod DeviceSlots
 pub mod DeviceGroups
+pub mod DeviceOrders

@@ -1,25 +1,25 @@
 -- The invalidations in a device's hands: the acts that change them.
-use Rattle.std.proofs.Common.{◌≡◌, ◌≢◌, ◌⊎◌, inl, inr, refl, ap, ap₂, sym, ◌∙◌, ℕ, zero, suc, ◌<◌, ◌≤◌, Bool, true, false, arith, get_or}
-use Rattle.std.specs.Prelude.{Option, Some, None, option_map, ◌&&◌, nat_lt, if◌then◌else◌, List, map, slice_set, slice_index_or}
+use Rattle.std.proofs.Common.{◌≡◌, ◌≢◌, refl, ap, sym, ◌∙◌, ℕ, ◌<◌, Bool, true, false, arith}
+use Rattle.std.specs.Prelude.{Option, Some, None, option_map, ◌&&◌, nat_lt, if◌then◌else◌, map, slice_set, slice_index_or}
 use Rattle.std.proofs.lemmas.Bool.Decides.{nat_tests}
-use Rattle.sva_model.specs.Words.{put, tabulate, holds_of}
+use Rattle.sva_model.specs.Words.{tabulate, holds_of}
 use Rattle.sva_model.specs.State.{Mappings, OrderState, UseState, Part}
 use Rattle.sva_model.specs.State.OrderState.{Queued, Sent, Taken, Lapsed, Owing, Done, Void}
 use Rattle.sva_model.specs.State.UseState.{Running, Dead, Ended}
 use Rattle.sva_model.specs.States.{is_unreleased, is_busy, is_taken, is_running, covers}
 use Rattle.sva_model.specs.Labels
 use Rattle.sva_model.specs.Acts.{own, Own, binding_of, extent_of, owe_if, lapse}
-use Rattle.sva_model.specs.Wire.{TakenWire, chain, taken_by, is_noted, use_wire, translation_wire}
-use Rattle.sva_laws.proofs.Words.{put-same, put-other, ℕ_cases}
+use Rattle.sva_model.specs.Wire.{chain, taken_by, is_noted, use_wire, translation_wire}
+use Rattle.sva_laws.proofs.Words.{put-same, put-other}
 use Rattle.sva_laws.proofs.Legal.{LegalOwn}
 use Rattle.sva_laws.proofs.Bounds.{Bounds}
-use Rattle.sva_laws.proofs.Labels.{Labels, has_slot}
+use Rattle.sva_laws.proofs.Labels.{Labels}
 use Rattle.sva_laws.proofs.Orders.{Orders}
 use Rattle.sva_laws.proofs.Owners.{Owners}
 use Rattle.sva_labels.specs.Moves
 use Rattle.sva_labels.specs.Moves.{without_named, unnoted}
 use Rattle.sva_labels.proofs.DeviceRows.{tabulate_map}
-use Rattle.sva_labels.proofs.DeviceTaken.{SameTaken, notes, taken_seen, taken_wire, taken_by_same}
+use Rattle.sva_labels.proofs.DeviceTaken.{notes, taken_seen, taken_wire, taken_by_same}
 use Rattle.sva_labels.proofs.DeviceTags.{covers_same}
 use Rattle.sva_labels.proofs.DeviceSlots.{slots_wire, seen_use, slot_made, running_unreleased}
 use Rattle.sva_wire.proofs.Lists.{tabulate_same, tabulate_set, tabulate_at}

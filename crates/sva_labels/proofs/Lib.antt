@@ -20,6 +20,7 @@ pub mod Reached
 pub mod DeliverSays
 pub mod LookedLists
 pub mod LookedSpaces
+pub mod LookedBindings
 pub mod Selected
 pub mod Flights
 pub mod DeviceRows
@@ -35,3 +36,4 @@ pub mod DeliverResults
 pub mod Columns
 pub mod SaysSpaces
 pub mod DeviceFinished
+pub mod JobActs

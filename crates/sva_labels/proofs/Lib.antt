@@ -36,4 +36,5 @@ pub mod DeliverResults
 pub mod Columns
 pub mod SaysSpaces
 pub mod DeviceFinished
+pub mod PageQueue
 pub mod JobActs

@@ -36,5 +36,7 @@ pub mod DeliverResults
 pub mod Columns
 pub mod SaysSpaces
 pub mod DeviceFinished
+pub mod EndpointLookups
+pub mod EndpointSays
 pub mod PageQueue
 pub mod JobActs

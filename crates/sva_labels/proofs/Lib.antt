@@ -7,6 +7,7 @@ pub mod SpaceActs
 pub mod Bound
 pub mod PlacesKept
 pub mod Withholding
+pub mod Unmapping
 pub mod Lookups
 pub mod SentTo
 pub mod Picked

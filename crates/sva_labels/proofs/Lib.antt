@@ -33,3 +33,4 @@ pub mod Columns
 pub mod SaysSpaces
 pub mod PageQueue
 pub mod JobActs
+pub mod HostGroupsFiled

@@ -43,3 +43,4 @@ pub mod EndpointSays
 pub mod PageQueue
 pub mod JobActs
 pub mod DeliverTranslations
+pub mod HostGroupsFiled

@@ -44,3 +44,6 @@ pub mod PageQueue
 pub mod JobActs
 pub mod DeliverTranslations
 pub mod HostGroupsFiled
+pub mod OrderedRanges
+pub mod DeliverOrders
+pub mod DeliverAll

@@ -32,3 +32,5 @@ pub mod DeliverResults
 pub mod Columns
 pub mod SaysSpaces
 pub mod JobActs
+pub mod Frame
+pub mod Squares

@@ -6,6 +6,7 @@ pub mod PlacesOut
 pub mod SpaceActs
 pub mod Bound
 pub mod PlacesKept
+pub mod Withholding
 pub mod Lookups
 pub mod SentTo
 pub mod Picked
@@ -27,10 +28,18 @@ pub mod DeviceRows
 pub mod DevicePasids
 pub mod DeviceTaken
 pub mod DeviceMappings
+pub mod DeviceTags
+pub mod DeviceSlots
+pub mod DeviceGroups
+pub mod DeviceOrders
 pub mod Bearers
 pub mod DeliverResults
 pub mod Columns
 pub mod SaysSpaces
+pub mod DeviceFinished
+pub mod EndpointLookups
+pub mod EndpointSays
+pub mod PageQueue
 pub mod JobActs
 pub mod Frame
 pub mod Squares

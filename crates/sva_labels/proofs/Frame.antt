@@ -1,16 +1,16 @@
 -- What a move of one endpoint leaves of the whole, column by column: the endpoint's part, what is in flight, and the counters.
-use Rattle.std.proofs.Common.{◌≡◌, refl, ap, sym, ◌∙◌, ℕ, zero, suc, ◌+◌, Bool, true, false, arith}
-use Rattle.std.specs.Prelude.{Option, Some, None, List, [], ◌∷◌, ◌++◌, slice_set}
+use Rattle.std.proofs.Common.{◌≡◌, sym, ℕ, ◌+◌, true, arith}
+use Rattle.std.specs.Prelude.{List, [], ◌∷◌, ◌++◌, slice_set}
 use Rattle.std.proofs.lemmas.List.{append-nil, set-get_or}
 use Rattle.sva_model.specs.Words.{tabulate}
 use Rattle.sva_model.specs.Message.{Message}
-use Rattle.sva_model.specs.Message.Message.{StartMessage, StopMessage, ResetMessage, CompletionMessage, InvalidateMessage, ResponseMessage, RequestMessage, InvalidatedMessage, PageRequestMessage, MarkerMessage, ResetDoneMessage}
+use Rattle.sva_model.specs.Message.Message.{ResetMessage}
 use Rattle.sva_model.specs.State.{Mappings, Part}
 use Rattle.sva_model.specs.Acts.{Own, sends, cookies_of}
-use Rattle.sva_model.specs.Wire.{Wire, FlightWire, PartWire}
+use Rattle.sva_model.specs.Wire.{Wire, FlightWire}
 use Rattle.sva_labels.specs.Finding.{part_of, idle}
 use Rattle.sva_labels.specs.Moves.{moved}
-use Rattle.sva_labels.proofs.Named.{own_move, count_move}
+use Rattle.sva_labels.proofs.Named.{own_move}
 use Rattle.sva_labels.proofs.Kept.{part_moved}
 use Rattle.sva_labels.proofs.Flights.{delivers, said, still_flying, newly_sent}
 use Rattle.sva_labels.proofs.Columns.{keeps_bindings}

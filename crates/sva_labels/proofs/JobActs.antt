@@ -1,16 +1,16 @@
 -- Jobs and hands after an act of an endpoint. A job shows what is filed of its group, and nothing is filed any more of a group
 -- that is a job, or was one.
-use Rattle.std.proofs.Common.{◌≡◌, ◌≢◌, ◌⊎◌, inl, inr, refl, ap, sym, ◌∙◌, ℕ, suc, ◌<◌, ◌≤◌, Bool, true, false, arith}
-use Rattle.std.specs.Prelude.{Option, Some, None, option_map, ◌&&◌, not, ◌==◌, nat_lt, if◌then◌else◌, map, filter, drop}
+use Rattle.std.proofs.Common.{◌≡◌, ◌≢◌, ◌⊎◌, inl, inr, refl, ap, sym, ◌∙◌, ℕ, suc, ◌<◌, Bool, true, false, arith}
+use Rattle.std.specs.Prelude.{Option, Some, None, option_map, ◌&&◌, not, ◌==◌, map, filter, drop}
 use Rattle.std.proofs.lemmas.Bool.Decides.{nat_tests}
-use Rattle.sva_model.specs.Words.{put, select, tabulate}
+use Rattle.sva_model.specs.Words.{put, select}
 use Rattle.sva_model.specs.State.{HostGroupState, Mappings, Part, World}
-use Rattle.sva_model.specs.State.HostGroupState.{NotFiled, Job, InHand, InHandDiscarded}
+use Rattle.sva_model.specs.State.HostGroupState.{InHand}
 use Rattle.sva_model.specs.States.{is_job}
 use Rattle.sva_model.specs.Acts.{Own, own, act, discarded}
 use Rattle.sva_model.specs.Acts.Act.{At}
 use Rattle.sva_model.specs.Labels
-use Rattle.sva_model.specs.Wire.{AskWire, JobWire, number, ask_wire, asks_wire, group_job, job_wire, wire}
+use Rattle.sva_model.specs.Wire.{AskWire, number, ask_wire, asks_wire, group_job, job_wire, wire}
 use Rattle.sva_laws.proofs.Words.{put-same, put-other, ℕ_cases}
 use Rattle.sva_laws.proofs.Legal.{LegalOwn}
 use Rattle.sva_laws.proofs.Bounds.{Bounds}
@@ -19,7 +19,7 @@ use Rattle.sva_laws.proofs.Jobs.{is_past}
 use Rattle.sva_wire.proofs.Lists.{tabulate_same}
 use Rattle.sva_labels.proofs.Selected.{select_seen, select_filtered, select_less, map_twice}
 use Rattle.sva_labels.proofs.Picked.{picked_drop}
-use Rattle.sva_labels.proofs.Flights.{part_after, same_view}
+use Rattle.sva_labels.proofs.Flights.{part_after}
 
 -- what is filed is made
 abbrev pub FilesMade : Part → Type 0
@@ -187,30 +187,15 @@ pub record HandsFirst (w : World) (e g j : ℕ) : Type 0 where
 
 pub jobs_handed : (w : World) (e g x j : ℕ) → Invariant w → JobsPast w → FilesMade (w.part e) → HandsFirst w e g j → (wire (act w (At e (Own.Hand g x)))).jobs ≡ drop 1 (wire w).jobs
 jobs_handed w e g x j i past made f =
-    select_seen w.jobs after within (job_wire (act w (At e o))) (job_wire (act w (At e o))) (λ k l. sym (inside k l)) (λ k l t. refl)
-    ∙ picked_drop w.jobs j (job_wire w) (job_wire (act w (At e o))) (Labels.is_queued_job w) within f.made f.queued f.first (inside j f.made ∙ handed) (λ k ne. others k (ℕ_below k w.jobs) ne) (λ k l t. job_kept w e o k i made tt (past k l))
+    picked_drop w.jobs j (job_wire w) (job_wire (act w (At e o))) (Labels.is_queued_job w) after f.made f.queued f.first handed
+    (λ k l ne. stays k (ℕ_cases (w.job k).endpoint e) (λ h m. ne (f.once k l h m)))
+    (λ k l t. job_kept w e o k i made tt (past k l))
   where
     o : Own
     o = Own.Hand g x
 
     after : ℕ → Bool
     after = Labels.is_queued_job (act w (At e o))
-
-    -- as the names below the number of jobs alone matter
-    within : ℕ → Bool
-    within k = if nat_lt k w.jobs then after k else Labels.is_queued_job w k
-
-    is_below : (a b : ℕ) → a < b → nat_lt a b ≡ true
-    is_below a b l = grind (arith, nat_tests)
-
-    is_past_end : (a b : ℕ) → b ≤ a → nat_lt a b ≡ false
-    is_past_end a b l = grind (arith, nat_tests)
-
-    ℕ_below : (a b : ℕ) → (a < b) ⊎ (b ≤ a)
-    ℕ_below a b = grind arith
-
-    inside : (k : ℕ) → k < w.jobs → within k ≡ after k
-    inside k l = ap (λ t. if t then after k else Labels.is_queued_job w k) (is_below k w.jobs l)
 
     handed : after j ≡ false
     handed =
@@ -226,7 +211,3 @@ jobs_handed w e g x j i past made f =
         ∙ ap is_job (put-other (w.part e).host_group g (InHand x) (w.job k).group (ne h))
         ∙ sym (ap (λ z. is_job ((w.part z).host_group (w.job k).group)) h)
     stays k (inr h) ne = ap (λ p. is_job (p.host_group (w.job k).group)) (put-other w.part e (part_after w e o) (w.job k).endpoint h)
-
-    others : (k : ℕ) → (k < w.jobs) ⊎ (w.jobs ≤ k) → k ≢ j → within k ≡ Labels.is_queued_job w k
-    others k (inl l) ne = inside k l ∙ stays k (ℕ_cases (w.job k).endpoint e) (λ h m. ne (f.once k l h m))
-    others k (inr l) ne = ap (λ t. if t then after k else Labels.is_queued_job w k) (is_past_end k w.jobs l)

@@ -43,3 +43,4 @@ pub mod PageQueue
 pub mod JobActs
 pub mod Frame
 pub mod Squares
+pub mod WorldActs

@@ -1,11 +1,10 @@
 -- An act of one endpoint with its unit, as the whole host is seen, is the move that it is: where it is so for the endpoint's own
 -- part and for the places of frames. The other columns are here: bindings, jobs, hands, what is in flight, and the counters.
-use Rattle.std.proofs.Common.{◌≡◌, refl, ap, sym, subst, ◌∙◌, ℕ, suc, ◌+◌, ◌<◌, Bool, true, false, arith}
+use Rattle.std.proofs.Common.{◌≡◌, ap, sym, ◌∙◌, ℕ, suc, ◌+◌, true, arith}
 use Rattle.std.specs.Prelude.{Some, slice_set}
-use Rattle.std.proofs.lemmas.Bool.Decides.{nat_tests}
-use Rattle.sva_model.specs.Words.{tabulate, is_some}
+use Rattle.sva_model.specs.Words.{is_some}
 use Rattle.sva_model.specs.State.{Mappings, Part, World}
-use Rattle.sva_model.specs.Acts.{Own, own, act, sends, cookies_of}
+use Rattle.sva_model.specs.Acts.{Own, act, sends, cookies_of}
 use Rattle.sva_model.specs.Acts.Act.{At}
 use Rattle.sva_model.specs.Wire.{Wire, number, part_wire, wire}
 use Rattle.sva_laws.proofs.Words.{put-same, put-other}
@@ -18,7 +17,7 @@ use Rattle.sva_labels.proofs.Named.{own_move}
 use Rattle.sva_labels.proofs.Kept.{part_moved}
 use Rattle.sva_labels.proofs.EndpointViews.{part_seen}
 use Rattle.sva_labels.proofs.SentTo.{AreSentTo}
-use Rattle.sva_labels.proofs.Flights.{part_after, delivers, ComesTo, flights_after}
+use Rattle.sva_labels.proofs.Flights.{part_after, delivers, flights_after}
 use Rattle.sva_labels.proofs.Columns.{bindings_same, bindings_bound, bindings_released, bindings_cut, bindings_stopped, bindings_drained, bindings_invalidated, bindings_quieted, bindings_marked}
 use Rattle.sva_labels.proofs.JobActs.{FilesMade, FilesOpen, JobsPast, HandsFirst, hands_same, jobs_same, jobs_dropped, jobs_handed}
 use Rattle.sva_labels.proofs.Frame.{hands_left, spaces_left, bindings_left, jobs_left, cookies_left, messages_left, numbers_left, flights_left, parts_left}

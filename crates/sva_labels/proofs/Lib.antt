@@ -21,6 +21,7 @@ pub mod DeliverSays
 pub mod LookedLists
 pub mod LookedSpaces
 pub mod LookedBindings
+pub mod LookedUnits
 pub mod Selected
 pub mod Flights
 pub mod DeviceRows

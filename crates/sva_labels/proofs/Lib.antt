@@ -6,6 +6,8 @@ pub mod PlacesOut
 pub mod SpaceActs
 pub mod Bound
 pub mod PlacesKept
+pub mod Withholding
+pub mod Unmapping
 pub mod Lookups
 pub mod SentTo
 pub mod Picked
@@ -28,7 +30,17 @@ pub mod DeviceRows
 pub mod DevicePasids
 pub mod DeviceTaken
 pub mod DeviceMappings
+pub mod DeviceTags
+pub mod DeviceSlots
+pub mod DeviceGroups
+pub mod DeviceOrders
 pub mod Bearers
 pub mod DeliverResults
 pub mod Columns
 pub mod SaysSpaces
+pub mod DeviceFinished
+pub mod EndpointLookups
+pub mod EndpointSays
+pub mod PageQueue
+pub mod JobActs
+pub mod HostGroupsFiled

@@ -8,6 +8,7 @@ pub mod Bound
 pub mod PlacesKept
 pub mod Withholding
 pub mod Unmapping
+pub mod Settling
 pub mod Lookups
 pub mod SentTo
 pub mod Picked

@@ -43,3 +43,4 @@ pub mod EndpointLookups
 pub mod EndpointSays
 pub mod PageQueue
 pub mod JobActs
+pub mod HostGroupsFiled

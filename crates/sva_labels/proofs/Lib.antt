@@ -43,4 +43,5 @@ pub mod EndpointLookups
 pub mod EndpointSays
 pub mod PageQueue
 pub mod JobActs
+pub mod DeliverTranslations
 pub mod HostGroupsFiled

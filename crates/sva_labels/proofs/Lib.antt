@@ -8,6 +8,7 @@ pub mod Bound
 pub mod PlacesKept
 pub mod Withholding
 pub mod Unmapping
+pub mod Settling
 pub mod Lookups
 pub mod SentTo
 pub mod Picked
@@ -43,4 +44,5 @@ pub mod EndpointLookups
 pub mod EndpointSays
 pub mod PageQueue
 pub mod JobActs
+pub mod DeliverTranslations
 pub mod HostGroupsFiled

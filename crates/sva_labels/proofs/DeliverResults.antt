@@ -46,7 +46,7 @@ delivered_alike w n r h = record { alike = deliver_alike w n r; result = λ p. g
         ap (deliver_result (wire w)) (flight_seen w n f) ∙ h e c a ((r.invariant.parts e).near c (ap is_some m)) m refl refl
         ∙ sym (ap (λ o. result_by w (names.deliver_outcome w (w.part e) e c o)) m)
 
-abbrev by_message : World → (e c : ℕ) → Message → Result
+abbrev pub by_message : World → (e c : ℕ) → Message → Result
 by_message w e c m = message_result (wire w) e (number w.config.first c) m
 
 pub start_arrives : (w : World) (e c b : ℕ) → IsReached w → (w.part e).message c ≡ Some (StartOf b) → ArrivesAlike w e c (StartOf b)
@@ -62,7 +62,7 @@ pub reset_done_arrives : (w : World) (e c : ℕ) → IsReached w → (w.part e).
 reset_done_arrives w e c r m = ap (by_message w e c) ((r.carried e).reset_done c m)
 
 -- what depends on whether the unit is open
-open_seen : (w : World) (e : ℕ) → e < w.config.endpoints → (unit_of (wire w) e).is_open ≡ is_open (w.part e).phase
+pub open_seen : (w : World) (e : ℕ) → e < w.config.endpoints → (unit_of (wire w) e).is_open ≡ is_open (w.part e).phase
 open_seen w e l = ap (λ (u : UnitWire). u.is_open) (unit_seen w e l)
 
 pub page_request_arrives : (w : World) (e c x : ℕ) → IsReached w → e < w.config.endpoints → (w.part e).message c ≡ Some (PageRequestOf x) → ArrivesAlike w e c (PageRequestOf x)

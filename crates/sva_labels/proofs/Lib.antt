@@ -7,6 +7,8 @@ pub mod SpaceActs
 pub mod Bound
 pub mod PlacesKept
 pub mod Withholding
+pub mod Unmapping
+pub mod Settling
 pub mod Lookups
 pub mod SentTo
 pub mod Picked
@@ -22,6 +24,7 @@ pub mod DeliverSays
 pub mod LookedLists
 pub mod LookedSpaces
 pub mod LookedBindings
+pub mod LookedUnits
 pub mod Selected
 pub mod Flights
 pub mod DeviceRows
@@ -44,3 +47,5 @@ pub mod JobActs
 pub mod Frame
 pub mod Squares
 pub mod WorldActs
+pub mod DeliverTranslations
+pub mod HostGroupsFiled

@@ -25,6 +25,7 @@ pub mod DeliverSays
 pub mod LookedLists
 pub mod LookedSpaces
 pub mod LookedBindings
+pub mod LookedUnits
 pub mod Selected
 pub mod Flights
 pub mod DeviceRows
@@ -44,5 +45,8 @@ pub mod EndpointLookups
 pub mod EndpointSays
 pub mod PageQueue
 pub mod JobActs
+pub mod Frame
+pub mod Squares
+pub mod WorldActs
 pub mod DeliverTranslations
 pub mod HostGroupsFiled

@@ -40,3 +40,5 @@ pub mod EndpointLookups
 pub mod EndpointSays
 pub mod PageQueue
 pub mod JobActs
+pub mod DeviceSorted
+pub mod DeviceCache

@@ -6,6 +6,9 @@ pub mod PlacesOut
 pub mod SpaceActs
 pub mod Bound
 pub mod PlacesKept
+pub mod Withholding
+pub mod Unmapping
+pub mod Settling
 pub mod Lookups
 pub mod SentTo
 pub mod Picked
@@ -21,6 +24,7 @@ pub mod DeliverSays
 pub mod LookedLists
 pub mod LookedSpaces
 pub mod LookedBindings
+pub mod LookedUnits
 pub mod Selected
 pub mod Flights
 pub mod DeviceRows
@@ -42,3 +46,8 @@ pub mod PageQueue
 pub mod JobActs
 pub mod DeviceSorted
 pub mod DeviceCache
+pub mod Frame
+pub mod Squares
+pub mod WorldActs
+pub mod DeliverTranslations
+pub mod HostGroupsFiled

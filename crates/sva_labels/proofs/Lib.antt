@@ -45,6 +45,8 @@ pub mod EndpointLookups
 pub mod EndpointSays
 pub mod PageQueue
 pub mod JobActs
+pub mod DeviceSorted
+pub mod DeviceCache
 pub mod Frame
 pub mod Squares
 pub mod WorldActs

@@ -9,6 +9,7 @@ pub mod PlacesKept
 pub mod Withholding
 pub mod Unmapping
 pub mod Settling
+pub mod PlacesMoved
 pub mod Lookups
 pub mod SentTo
 pub mod Picked
@@ -44,6 +45,8 @@ pub mod EndpointLookups
 pub mod EndpointSays
 pub mod PageQueue
 pub mod JobActs
+pub mod DeviceSorted
+pub mod DeviceCache
 pub mod Frame
 pub mod Squares
 pub mod WorldActs

@@ -51,3 +51,4 @@ pub mod Squares
 pub mod WorldActs
 pub mod DeliverTranslations
 pub mod HostGroupsFiled
+pub mod Device

@@ -9,6 +9,7 @@ pub mod PlacesKept
 pub mod Withholding
 pub mod Unmapping
 pub mod Settling
+pub mod PlacesMoved
 pub mod Lookups
 pub mod SentTo
 pub mod Picked

@@ -52,3 +52,4 @@ pub mod Squares
 pub mod WorldActs
 pub mod DeliverTranslations
 pub mod HostGroupsFiled
+pub mod Device

@@ -1,21 +1,17 @@
 -- What a delivery by labels answers and moves, by the kind of the message: it is the outcome of the step by names.
-use Rattle.std.proofs.Common.{◌≡◌, ◌≢◌, refl, ap, ap₂, sym, subst, ◌∙◌, ℕ, ◌<◌, Bool, true, false, arith}
-use Rattle.std.specs.Prelude.{Option, Some, None, ◌&&◌, [], ◌∷◌}
-use Rattle.sva_step.specs.declared.answers.Answer.TheVariants as answer
+use Rattle.std.proofs.Common.{◌≡◌, refl, ap, ap₂, sym, subst, ◌∙◌, ℕ, ◌<◌, Bool, true, false, arith}
+use Rattle.std.specs.Prelude.{Option, Some, None, ◌&&◌}
 use Rattle.sva_step.specs.declared.steps.Step.TheVariants as step
 use Rattle.sva_model.specs.Words.{is_some}
 use Rattle.sva_model.specs.Message.{Message}
-use Rattle.sva_model.specs.State.{About, Part, World, Stage}
-use Rattle.sva_model.specs.State.Stage.{Stopping}
+use Rattle.sva_model.specs.State.{About, World}
 use Rattle.sva_model.specs.State.About.{StartOf, StopOf, ResetOrder, PageRequestOf, MarkerOf, ResetDone}
 use Rattle.sva_model.specs.States.{is_open, is_unreleased}
 use Rattle.sva_model.specs.Labels
-use Rattle.sva_model.specs.Refusals.{refusals}
 use Rattle.sva_model.specs.Outcomes as names
 use Rattle.sva_model.specs.Outcomes.{outcome}
-use Rattle.sva_model.specs.Wire.{UnitWire, number, page_request_wire, flight_wire, wire}
-use Rattle.sva_laws.proofs.Words.{not_true, some_the}
-use Rattle.sva_laws.proofs.Passed.{Passed}
+use Rattle.sva_model.specs.Wire.{UnitWire, number, page_request_wire, wire}
+use Rattle.sva_laws.proofs.Words.{not_true}
 use Rattle.sva_labels.specs.Finding.{unit_of}
 use Rattle.sva_labels.specs.Outcomes.{Result, result_of, deliver_result, message_result, page_request_result, marker_result, binding_or_0}
 use Rattle.sva_labels.proofs.EndpointViews.{unit_seen}

@@ -1,24 +1,22 @@
 -- Jobs and hands after an act of an endpoint. A job shows what is filed of its group, and nothing is filed any more of a group
 -- that is a job, or was one.
-use Rattle.std.proofs.Common.{◌≡◌, ◌≢◌, ◌⊎◌, inl, inr, refl, ap, sym, ◌∙◌, ℕ, suc, ◌<◌, ◌≤◌, Bool, true, false, arith}
-use Rattle.std.specs.Prelude.{Option, Some, None, option_map, ◌&&◌, not, ◌==◌, if◌then◌else◌, List, [], ◌++◌, map, filter, drop}
+use Rattle.std.proofs.Common.{◌≡◌, ◌≢◌, ◌⊎◌, inl, inr, refl, ap, sym, ◌∙◌, ℕ, suc, ◌<◌, Bool, true, false, arith}
+use Rattle.std.specs.Prelude.{Option, Some, None, option_map, ◌==◌, map}
 use Rattle.std.proofs.lemmas.Bool.Decides.{nat_tests}
-use Rattle.sva_model.specs.Words.{put, select, tabulate}
+use Rattle.sva_model.specs.Words.{put, select}
 use Rattle.sva_model.specs.State.{HostGroupState, Mappings, Part, World}
-use Rattle.sva_model.specs.State.HostGroupState.{NotFiled, Job, InHand, InHandDiscarded}
 use Rattle.sva_model.specs.States.{is_job}
 use Rattle.sva_model.specs.Acts.{Own, own, act}
 use Rattle.sva_model.specs.Acts.Act.{At}
-use Rattle.sva_model.specs.Labels
-use Rattle.sva_model.specs.Wire.{AskWire, JobWire, number, ask_wire, asks_wire, group_job, job_wire, wire}
+use Rattle.sva_model.specs.Wire.{AskWire, number, ask_wire, asks_wire, group_job, job_wire, wire}
 use Rattle.sva_laws.proofs.Words.{put-same, put-other, ℕ_cases}
 use Rattle.sva_laws.proofs.Legal.{LegalOwn}
 use Rattle.sva_laws.proofs.Bounds.{Bounds}
 use Rattle.sva_laws.proofs.Invariant.{Invariant, IsHeldBy}
 use Rattle.sva_laws.proofs.Jobs.{is_past}
 use Rattle.sva_wire.proofs.Lists.{tabulate_same}
-use Rattle.sva_labels.proofs.Selected.{select_seen, select_filtered, select_less, map_twice}
-use Rattle.sva_labels.proofs.Flights.{part_after, same_view}
+use Rattle.sva_labels.proofs.Selected.{select_seen, select_less, map_twice}
+use Rattle.sva_labels.proofs.Flights.{part_after}
 
 -- what is filed is made
 abbrev pub FilesMade : Part → Type 0

@@ -25,6 +25,8 @@ pub mod LookedLists
 pub mod LookedSpaces
 pub mod LookedBindings
 pub mod LookedUnits
+pub mod LookedPasids
+pub mod LookedGroups
 pub mod Selected
 pub mod Flights
 pub mod DeviceRows
@@ -46,3 +48,4 @@ pub mod PageQueue
 pub mod JobActs
 pub mod DeliverTranslations
 pub mod HostGroupsFiled
+pub mod SaysBindings

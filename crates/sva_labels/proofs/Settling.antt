@@ -1,7 +1,7 @@
 -- What frames wait for at a unit is settled by a wait that is done, which takes its own cookie away, and by a reset-done, which
 -- takes all away.
-use Rattle.std.proofs.Common.{◌≡◌, ◌≢◌, ◌⊎◌, inl, inr, refl, ap, ap₂, sym, subst, ◌∙◌, ℕ, zero, suc, ◌+◌, ◌<◌, ◌≤◌, Bool, true, false, arith}
-use Rattle.std.specs.Prelude.{Some, None, Option, is_none, ◌&&◌, ◌||◌, ◌==◌, nat_lt, if◌then◌else◌, List, [], ◌∷◌, map, slice_set, slice_index_or}
+use Rattle.std.proofs.Common.{◌≡◌, ◌≢◌, ◌⊎◌, inl, inr, refl, ap, sym, subst, ◌∙◌, ℕ, zero, suc, ◌+◌, ◌<◌, ◌≤◌, Bool, true, false, arith}
+use Rattle.std.specs.Prelude.{Some, None, Option, is_none, ◌&&◌, ◌||◌, ◌==◌, nat_lt, if◌then◌else◌, List, [], ◌∷◌, slice_set, slice_index_or}
 use Rattle.std.specs.List.{list_all}
 use Rattle.std.proofs.lemmas.Bool.Decides.{nat_tests}
 use Rattle.sva_model.specs.Words.{put, all_below, tabulate}
@@ -13,7 +13,7 @@ use Rattle.sva_model.specs.State.OrderState.{Done}
 use Rattle.sva_model.specs.States.{is_done, is_wait, answered}
 use Rattle.sva_model.specs.Acts.{own, Own, act}
 use Rattle.sva_model.specs.Acts.Act.{At}
-use Rattle.sva_model.specs.Wire.{TargetWire, PlaceWire, cookie_number, target_of, target_wire, places_wire}
+use Rattle.sva_model.specs.Wire.{TargetWire, cookie_number, target_of, target_wire, places_wire}
 use Rattle.sva_model.specs.Wire.PlaceWire.{FreeWire, WithheldWire}
 use Rattle.sva_model.specs.Wire.TargetWire.{Cookie, ResetEnd}
 use Rattle.sva_laws.specs.Waits.{FitsDebt}
@@ -31,7 +31,7 @@ use Rattle.sva_wire.proofs.Pages.{is_same, is_other}
 use Rattle.sva_wire.proofs.Places.{seen_by}
 use Rattle.sva_labels.specs.Moves.{place_for, settled, settled_at, settled_cookie}
 use Rattle.sva_labels.proofs.PlacesOut.{places_changed}
-use Rattle.sva_labels.proofs.PlacesKept.{done_answers, ranges_open, ranges_wait, pasid_open, pasid_waits, both_done, no_reset}
+use Rattle.sva_labels.proofs.PlacesKept.{done_answers, ranges_open, ranges_wait, pasid_open, pasid_waits, both_done}
 use Rattle.sva_labels.proofs.Withholding.{target_at, seen_targets}
 
 -- One unit's target is settled.

@@ -9,6 +9,7 @@ pub mod PlacesKept
 pub mod Withholding
 pub mod Unmapping
 pub mod Settling
+pub mod PlacesMoved
 pub mod Lookups
 pub mod SentTo
 pub mod Picked
@@ -46,6 +47,12 @@ pub mod EndpointLookups
 pub mod EndpointSays
 pub mod PageQueue
 pub mod JobActs
+pub mod DeviceSorted
+pub mod DeviceCache
+pub mod Frame
+pub mod Squares
+pub mod WorldActs
 pub mod DeliverTranslations
 pub mod HostGroupsFiled
 pub mod SaysBindings
+pub mod Device

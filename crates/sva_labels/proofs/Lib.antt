@@ -26,6 +26,8 @@ pub mod LookedLists
 pub mod LookedSpaces
 pub mod LookedBindings
 pub mod LookedUnits
+pub mod LookedPasids
+pub mod LookedGroups
 pub mod Selected
 pub mod Flights
 pub mod DeviceRows
@@ -55,4 +57,5 @@ pub mod HostGroupsFiled
 pub mod OrderedRanges
 pub mod DeliverOrders
 pub mod DeliverAll
+pub mod SaysBindings
 pub mod Device

@@ -43,3 +43,7 @@ pub mod EndpointSays
 pub mod PageQueue
 pub mod JobActs
 pub mod HostGroupsFiled
+pub mod HostGroupsLists
+pub mod HostGroupsAct
+pub mod HostGroupsFile
+pub mod HostGroups

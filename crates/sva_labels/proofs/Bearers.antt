@@ -1,8 +1,8 @@
 -- The binding that bears a PASID at an endpoint, found among the bindings that a host keeps.
-use Rattle.std.proofs.Common.{◌≡◌, ◌≢◌, ap, ap₂, sym, ◌∙◌, ℕ, ◌+◌, ◌<◌, Bool, true, false, arith}
-use Rattle.std.specs.Prelude.{Option, Some, ◌&&◌, ◌==◌}
+use Rattle.std.proofs.Common.{◌≡◌, ap, sym, ◌∙◌, ℕ, true, arith}
+use Rattle.std.specs.Prelude.{Some, ◌&&◌, ◌==◌}
 use Rattle.std.proofs.lemmas.Bool.Decides.{nat_tests}
-use Rattle.sva_model.specs.State.{Part, World}
+use Rattle.sva_model.specs.State.{World}
 use Rattle.sva_model.specs.States.{is_unreleased}
 use Rattle.sva_model.specs.Wire.{BindingWire, binding_wire, wire}
 use Rattle.sva_laws.proofs.Invariant.{Invariant}

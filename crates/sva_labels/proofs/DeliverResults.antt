@@ -1,21 +1,17 @@
 -- What a delivery by labels answers and moves, by the kind of the message: it is the outcome of the step by names.
-use Rattle.std.proofs.Common.{◌≡◌, ◌≢◌, refl, ap, ap₂, sym, subst, ◌∙◌, ℕ, ◌<◌, Bool, true, false, arith}
-use Rattle.std.specs.Prelude.{Option, Some, None, ◌&&◌, [], ◌∷◌}
-use Rattle.sva_step.specs.declared.answers.Answer.TheVariants as answer
+use Rattle.std.proofs.Common.{◌≡◌, refl, ap, ap₂, sym, subst, ◌∙◌, ℕ, ◌<◌, Bool, true, false, arith}
+use Rattle.std.specs.Prelude.{Option, Some, None, ◌&&◌}
 use Rattle.sva_step.specs.declared.steps.Step.TheVariants as step
 use Rattle.sva_model.specs.Words.{is_some}
 use Rattle.sva_model.specs.Message.{Message}
-use Rattle.sva_model.specs.State.{About, Part, World, Stage}
-use Rattle.sva_model.specs.State.Stage.{Stopping}
+use Rattle.sva_model.specs.State.{About, World}
 use Rattle.sva_model.specs.State.About.{StartOf, StopOf, ResetOrder, PageRequestOf, MarkerOf, ResetDone}
 use Rattle.sva_model.specs.States.{is_open, is_unreleased}
 use Rattle.sva_model.specs.Labels
-use Rattle.sva_model.specs.Refusals.{refusals}
 use Rattle.sva_model.specs.Outcomes as names
 use Rattle.sva_model.specs.Outcomes.{outcome}
-use Rattle.sva_model.specs.Wire.{UnitWire, number, page_request_wire, flight_wire, wire}
-use Rattle.sva_laws.proofs.Words.{not_true, some_the}
-use Rattle.sva_laws.proofs.Passed.{Passed}
+use Rattle.sva_model.specs.Wire.{UnitWire, number, page_request_wire, wire}
+use Rattle.sva_laws.proofs.Words.{not_true}
 use Rattle.sva_labels.specs.Finding.{unit_of}
 use Rattle.sva_labels.specs.Outcomes.{Result, result_of, deliver_result, message_result, page_request_result, marker_result, binding_or_0}
 use Rattle.sva_labels.proofs.EndpointViews.{unit_seen}
@@ -50,7 +46,7 @@ delivered_alike w n r h = record { alike = deliver_alike w n r; result = λ p. g
         ap (deliver_result (wire w)) (flight_seen w n f) ∙ h e c a ((r.invariant.parts e).near c (ap is_some m)) m refl refl
         ∙ sym (ap (λ o. result_by w (names.deliver_outcome w (w.part e) e c o)) m)
 
-abbrev by_message : World → (e c : ℕ) → Message → Result
+abbrev pub by_message : World → (e c : ℕ) → Message → Result
 by_message w e c m = message_result (wire w) e (number w.config.first c) m
 
 pub start_arrives : (w : World) (e c b : ℕ) → IsReached w → (w.part e).message c ≡ Some (StartOf b) → ArrivesAlike w e c (StartOf b)
@@ -66,7 +62,7 @@ pub reset_done_arrives : (w : World) (e c : ℕ) → IsReached w → (w.part e).
 reset_done_arrives w e c r m = ap (by_message w e c) ((r.carried e).reset_done c m)
 
 -- what depends on whether the unit is open
-open_seen : (w : World) (e : ℕ) → e < w.config.endpoints → (unit_of (wire w) e).is_open ≡ is_open (w.part e).phase
+pub open_seen : (w : World) (e : ℕ) → e < w.config.endpoints → (unit_of (wire w) e).is_open ≡ is_open (w.part e).phase
 open_seen w e l = ap (λ (u : UnitWire). u.is_open) (unit_seen w e l)
 
 pub page_request_arrives : (w : World) (e c x : ℕ) → IsReached w → e < w.config.endpoints → (w.part e).message c ≡ Some (PageRequestOf x) → ArrivesAlike w e c (PageRequestOf x)

@@ -1,16 +1,16 @@
 -- What the labels of an endpoint's step find in what its device keeps: they find the records that bear them.
-use Rattle.std.proofs.Common.{◌≡◌, ◌≢◌, ◌⊎◌, inl, inr, refl, ap, ap₂, sym, subst, ◌∙◌, ℕ, zero, suc, ◌+◌, ◌<◌, ◌≤◌, Bool, true, false, arith, get_or}
+use Rattle.std.proofs.Common.{◌≡◌, refl, ap, sym, ◌∙◌, ℕ, zero, suc, ◌<◌, ◌≤◌, Bool, true, false, arith, get_or}
 use Rattle.std.specs.Prelude.{Option, Some, None, option_map, ◌&&◌, not, ◌==◌, nat_lt, is_none, map}
 use Rattle.std.specs.List.{find}
 use Rattle.std.proofs.lemmas.Bool.Decides.{nat_tests}
 use Rattle.sva_model.specs.Words as words
 use Rattle.sva_model.specs.Words.{any_below, lowest, select, tabulate, holds_of, the}
-use Rattle.sva_model.specs.State.{Mappings, Part, World, PasidState}
-use Rattle.sva_model.specs.State.PasidState.{Off, On, Ending}
+use Rattle.sva_model.specs.State.{Mappings, Part}
+use Rattle.sva_model.specs.State.PasidState.{Off}
 use Rattle.sva_model.specs.States.{is_on, is_ending, is_unreleased}
 use Rattle.sva_model.specs.Labels
-use Rattle.sva_model.specs.Wire.{RequestWire, TranslationWire, UseWire, TakenWire, GroupWire, chain, is_before, state_of_pasid, request_wire, cached_wire, use_wire, taken_by, group_wire, device_wire}
-use Rattle.sva_laws.proofs.Words.{ℕ_cases, lowest_below, any_below-true, any_below-intro, any_below-false, some_the}
+use Rattle.sva_model.specs.Wire.{chain, is_before, state_of_pasid, request_wire, cached_wire, use_wire, taken_by, group_wire, device_wire}
+use Rattle.sva_laws.proofs.Words.{lowest_below, any_below-true, any_below-intro, some_the}
 use Rattle.sva_laws.proofs.Labels as Bears
 use Rattle.sva_laws.proofs.Invariant.{PartInvariant}
 use Rattle.sva_laws.proofs.Passed.{bearer_of}

@@ -1,33 +1,31 @@
 -- The endpoint's steps by labels refuse, answer and move as the steps by names: a translation that is asked for, used and
 -- given up.
-use Rattle.std.proofs.Common.{◌≡◌, ◌≢◌, refl, ap, ap₂, sym, ◌∙◌, ℕ, ◌<◌, Bool, true, false, arith}
+use Rattle.std.proofs.Common.{◌≡◌, refl, ap, ap₂, sym, ◌∙◌, ℕ, ◌<◌, Bool, true, false, arith}
 use Rattle.std.specs.Prelude.{Option, Some, None, ◌&&◌, not, ◌==◌, nat_lt, if◌then◌else◌, option_map, is_none, length}
 use Rattle.std.proofs.lemmas.Bool.Decides.{nat_tests}
-use Rattle.sva_step.specs.declared.answers.Answer.{Answer}
 use Rattle.sva_step.specs.declared.answers.Answer.TheVariants as answer
 use Rattle.sva_step.specs.declared.refusals.Refusal.TheVariants as refusal
 use Rattle.sva_step.specs.declared.steps.Step.TheVariants as step
 use Rattle.sva_model.specs.Words as words
 use Rattle.sva_model.specs.Words.{the}
-use Rattle.sva_model.specs.State.{Part, World, PasidState}
+use Rattle.sva_model.specs.State.{World}
 use Rattle.sva_model.specs.States.{is_on, is_running}
 use Rattle.sva_model.specs.Labels
 use Rattle.sva_model.specs.Refusals as names
 use Rattle.sva_model.specs.Refusals.{refusals}
-use Rattle.sva_model.specs.Outcomes.{outcome}
-use Rattle.sva_model.specs.Wire.{DeviceWire, TranslationWire, UseWire, translation_wire, cached_wire, request_wire, use_wire, device_wire, wire}
+use Rattle.sva_model.specs.Wire.{DeviceWire, UseWire, translation_wire, cached_wire, request_wire, use_wire, wire}
 use Rattle.sva_laws.proofs.Words.{not_true, some_the}
 use Rattle.sva_laws.proofs.Invariant.{Invariant}
-use Rattle.sva_laws.proofs.Passed.{Passed, is_less, and_right, bearer_of}
+use Rattle.sva_laws.proofs.Passed.{is_less, and_right, bearer_of}
 use Rattle.sva_laws.proofs.LegalEndpoint.{cached_is}
-use Rattle.sva_labels.specs.Finding.{device_of, lowest_label, pasid_state, cached, use_at}
-use Rattle.sva_labels.specs.Causes.{causes_of, no_such_endpoint, not_started, not_held, is_read_only}
+use Rattle.sva_labels.specs.Finding.{device_of, lowest_label, cached, use_at}
+use Rattle.sva_labels.specs.Causes.{causes_of, not_started, not_held, is_read_only}
 use Rattle.sva_labels.specs.Moves.{Move}
-use Rattle.sva_labels.specs.Outcomes.{result_of, by_one, label, begin_result, end_answer}
+use Rattle.sva_labels.specs.Outcomes.{by_one, label, begin_result, end_answer}
 use Rattle.sva_labels.proofs.Lookups.{no_label, label_is, seen_none}
-use Rattle.sva_labels.proofs.EndpointViews.{device_seen, endpoints_seen, endpoint_cause, AreSame, same_alike}
+use Rattle.sva_labels.proofs.EndpointViews.{device_seen, endpoints_seen, endpoint_cause, same_alike}
 use Rattle.sva_labels.proofs.EndpointLookups.{started_seen, use_seen, cached_seen, is_cached_seen}
-use Rattle.sva_labels.proofs.Alike.{IsAlike, SaysAlike, result_by}
+use Rattle.sva_labels.proofs.Alike.{SaysAlike}
 
 -- where the endpoint is there
 pub below_seen : (w : World) (e : ℕ) → not (nat_lt e (length (wire w).parts)) ≡ false → e < w.config.endpoints

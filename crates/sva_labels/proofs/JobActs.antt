@@ -1,16 +1,16 @@
 -- Jobs and hands after an act of an endpoint. A job shows what is filed of its group, and nothing is filed any more of a group
 -- that is a job, or was one.
-use Rattle.std.proofs.Common.{◌≡◌, ◌≢◌, ◌⊎◌, inl, inr, refl, ap, sym, ◌∙◌, ℕ, suc, ◌<◌, ◌≤◌, Bool, true, false, arith}
-use Rattle.std.specs.Prelude.{Option, Some, None, option_map, ◌&&◌, not, ◌==◌, if◌then◌else◌, List, [], ◌++◌, map, filter, drop}
+use Rattle.std.proofs.Common.{◌≡◌, ◌≢◌, ◌⊎◌, inl, inr, refl, ap, sym, ◌∙◌, ℕ, suc, ◌<◌, Bool, true, false, arith}
+use Rattle.std.specs.Prelude.{Option, Some, None, option_map, ◌&&◌, not, ◌==◌, map, filter, drop}
 use Rattle.std.proofs.lemmas.Bool.Decides.{nat_tests}
-use Rattle.sva_model.specs.Words.{put, select, tabulate}
+use Rattle.sva_model.specs.Words.{put, select}
 use Rattle.sva_model.specs.State.{HostGroupState, Mappings, Part, World}
-use Rattle.sva_model.specs.State.HostGroupState.{NotFiled, Job, InHand, InHandDiscarded}
+use Rattle.sva_model.specs.State.HostGroupState.{InHand}
 use Rattle.sva_model.specs.States.{is_job}
-use Rattle.sva_model.specs.Acts.{Own, own, act}
+use Rattle.sva_model.specs.Acts.{Own, own, act, discarded}
 use Rattle.sva_model.specs.Acts.Act.{At}
 use Rattle.sva_model.specs.Labels
-use Rattle.sva_model.specs.Wire.{AskWire, JobWire, number, ask_wire, asks_wire, group_job, job_wire, wire}
+use Rattle.sva_model.specs.Wire.{AskWire, number, ask_wire, asks_wire, group_job, job_wire, wire}
 use Rattle.sva_laws.proofs.Words.{put-same, put-other, ℕ_cases}
 use Rattle.sva_laws.proofs.Legal.{LegalOwn}
 use Rattle.sva_laws.proofs.Bounds.{Bounds}
@@ -18,7 +18,8 @@ use Rattle.sva_laws.proofs.Invariant.{Invariant, IsHeldBy}
 use Rattle.sva_laws.proofs.Jobs.{is_past}
 use Rattle.sva_wire.proofs.Lists.{tabulate_same}
 use Rattle.sva_labels.proofs.Selected.{select_seen, select_filtered, select_less, map_twice}
-use Rattle.sva_labels.proofs.Flights.{part_after, same_view}
+use Rattle.sva_labels.proofs.Picked.{picked_drop}
+use Rattle.sva_labels.proofs.Flights.{part_after}
 
 -- what is filed is made
 abbrev pub FilesMade : Part → Type 0
@@ -146,3 +147,67 @@ jobs_same w e o i legal past made f k =
         ∙ still_job w.mappings w.bindings (w.part e) w.messages o (w.job j).group legal f k (sym (ap (λ x. is_past ((w.part x).host_group (w.job j).group)) h) ∙ past j l)
         ∙ sym (ap (λ x. is_job ((w.part x).host_group (w.job j).group)) h)
     passes j l (inr ne) = ap (λ p. is_job (p.host_group (w.job j).group)) (put-other w.part e (part_after w e o) (w.job j).endpoint ne)
+
+-- A reset drops the jobs of its endpoint.
+pub jobs_dropped : (w : World) (e : ℕ) → Invariant w → FilesMade (w.part e) → (wire (act w (At e Own.Reset))).jobs ≡ filter (λ job. not (job.endpoint == e)) (wire w).jobs
+jobs_dropped w e i made =
+    select_seen w.jobs _ _ _ _ (λ j l. passes j (ℕ_cases (w.job j).endpoint e)) (λ j l t. job_kept w e Own.Reset j i made tt (past ((w.part (w.job j).endpoint).host_group (w.job j).group) ((w.job j).endpoint == e) t))
+    ∙ sym (select_filtered w.jobs (Labels.is_queued_job w) (job_wire w) (λ job. not (job.endpoint == e)))
+  where
+    past : (h : HostGroupState) (b : Bool) → (is_job h && not b) ≡ true → is_past h ≡ true
+    past h b k = grind arith
+
+    none : (h : HostGroupState) → is_job (discarded h) ≡ false
+    none h = grind arith
+
+    same : (a b : ℕ) → a ≡ b → (t : Bool) → false ≡ (t && not (a == b))
+    same a b h t = grind (arith, nat_tests)
+
+    other : (a b : ℕ) → a ≢ b → (t : Bool) → t ≡ (t && not (a == b))
+    other a b h t = grind (arith, nat_tests)
+
+    passes : (j : ℕ) → ((w.job j).endpoint ≡ e) ⊎ ((w.job j).endpoint ≢ e) → is_job ((put w.part e (part_after w e Own.Reset) (w.job j).endpoint).host_group (w.job j).group) ≡ (is_job ((w.part (w.job j).endpoint).host_group (w.job j).group) && not ((w.job j).endpoint == e))
+    passes j (inl h) =
+        ap (λ x. is_job ((put w.part e (part_after w e Own.Reset) x).host_group (w.job j).group)) h
+        ∙ ap (λ p. is_job (p.host_group (w.job j).group)) (put-same w.part e (part_after w e Own.Reset))
+        ∙ none ((w.part e).host_group (w.job j).group)
+        ∙ same (w.job j).endpoint e h (is_job ((w.part (w.job j).endpoint).host_group (w.job j).group))
+    passes j (inr ne) =
+        ap (λ p. is_job (p.host_group (w.job j).group)) (put-other w.part e (part_after w e Own.Reset) (w.job j).endpoint ne)
+        ∙ other (w.job j).endpoint e ne (is_job ((w.part (w.job j).endpoint).host_group (w.job j).group))
+
+-- The group that is handed out is that of the first job in the queue, and of no other.
+pub record HandsFirst (w : World) (e g j : ℕ) : Type 0 where
+  pub made : j < w.jobs
+  pub queued : Labels.is_queued_job w j ≡ true
+  pub first : (k : ℕ) → k < j → Labels.is_queued_job w k ≡ false
+  pub endpoint : (w.job j).endpoint ≡ e
+  pub group : (w.job j).group ≡ g
+  pub once : (k : ℕ) → k < w.jobs → (w.job k).endpoint ≡ e → (w.job k).group ≡ g → k ≡ j
+
+pub jobs_handed : (w : World) (e g x j : ℕ) → Invariant w → JobsPast w → FilesMade (w.part e) → HandsFirst w e g j → (wire (act w (At e (Own.Hand g x)))).jobs ≡ drop 1 (wire w).jobs
+jobs_handed w e g x j i past made f =
+    picked_drop w.jobs j (job_wire w) (job_wire (act w (At e o))) (Labels.is_queued_job w) after f.made f.queued f.first handed
+    (λ k l ne. stays k (ℕ_cases (w.job k).endpoint e) (λ h m. ne (f.once k l h m)))
+    (λ k l t. job_kept w e o k i made tt (past k l))
+  where
+    o : Own
+    o = Own.Hand g x
+
+    after : ℕ → Bool
+    after = Labels.is_queued_job (act w (At e o))
+
+    handed : after j ≡ false
+    handed =
+        ap (λ z. is_job ((put w.part e (part_after w e o) z).host_group (w.job j).group)) f.endpoint
+        ∙ ap (λ p. is_job (p.host_group (w.job j).group)) (put-same w.part e (part_after w e o))
+        ∙ ap (λ z. is_job (put (w.part e).host_group g (InHand x) z)) f.group
+        ∙ ap is_job (put-same (w.part e).host_group g (InHand x))
+
+    stays : (k : ℕ) → ((w.job k).endpoint ≡ e) ⊎ ((w.job k).endpoint ≢ e) → ((w.job k).endpoint ≡ e → (w.job k).group ≢ g) → after k ≡ Labels.is_queued_job w k
+    stays k (inl h) ne =
+        ap (λ z. is_job ((put w.part e (part_after w e o) z).host_group (w.job k).group)) h
+        ∙ ap (λ p. is_job (p.host_group (w.job k).group)) (put-same w.part e (part_after w e o))
+        ∙ ap is_job (put-other (w.part e).host_group g (InHand x) (w.job k).group (ne h))
+        ∙ sym (ap (λ z. is_job ((w.part z).host_group (w.job k).group)) h)
+    stays k (inr h) ne = ap (λ p. is_job (p.host_group (w.job k).group)) (put-other w.part e (part_after w e o) (w.job k).endpoint h)

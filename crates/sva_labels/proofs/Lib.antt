@@ -8,6 +8,8 @@ pub mod Bound
 pub mod PlacesKept
 pub mod Withholding
 pub mod Unmapping
+pub mod Settling
+pub mod PlacesMoved
 pub mod Lookups
 pub mod SentTo
 pub mod Picked
@@ -23,6 +25,7 @@ pub mod DeliverSays
 pub mod LookedLists
 pub mod LookedSpaces
 pub mod LookedBindings
+pub mod LookedUnits
 pub mod Selected
 pub mod Flights
 pub mod DeviceRows
@@ -42,8 +45,15 @@ pub mod EndpointLookups
 pub mod EndpointSays
 pub mod PageQueue
 pub mod JobActs
+pub mod DeviceSorted
+pub mod DeviceCache
+pub mod Frame
+pub mod Squares
+pub mod WorldActs
+pub mod DeliverTranslations
 pub mod HostGroupsFiled
 pub mod HostGroupsLists
 pub mod HostGroupsAct
 pub mod HostGroupsFile
 pub mod HostGroups
+pub mod Device

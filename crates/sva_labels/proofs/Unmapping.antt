@@ -1,18 +1,15 @@
 -- Pages taken out of a space, by numbers: the spaces, the places of frames, the units that get invalidations, and the
 -- cookies.
-use Rattle.std.proofs.Common.{◌≡◌, ◌≢◌, refl, ap, ap₂, sym, ◌∙◌, ℕ, suc, ◌+◌, ◌*◌, ◌^◌, ◌<◌, ◌≤◌, Bool, true, false, arith}
-use Rattle.std.specs.Prelude.{Some, None, Option, option_map, ◌&&◌, nat_lt, if◌then◌else◌, List, length, map, filter}
+use Rattle.std.proofs.Common.{◌≡◌, refl, ap, ap₂, sym, ◌∙◌, ℕ, ◌+◌, ◌*◌, ◌^◌, ◌<◌, ◌≤◌, Bool, true, false, arith}
+use Rattle.std.specs.Prelude.{Some, None, Option, option_map, ◌&&◌, nat_lt, if◌then◌else◌, length, map, filter}
 use Rattle.std.proofs.lemmas.Bool.Decides.{nat_tests}
 use Rattle.sva_model.specs.Words.{count_below, select, tabulate, is_some}
-use Rattle.sva_model.specs.Message.{Message}
-use Rattle.sva_model.specs.State.{Owed, Mappings, Part, World, Stage, About}
-use Rattle.sva_model.specs.State.MappingState.{Gone}
+use Rattle.sva_model.specs.State.{Owed, Mappings, Part, World, Stage}
 use Rattle.sva_model.specs.State.Stage.{Unbound, Live, Stopping, Draining, Invalidating, Quiet, Lost, Released}
 use Rattle.sva_model.specs.States.{is_open, is_unreleased, is_before_invalidating, is_job}
 use Rattle.sva_model.specs.Acts.{act, bound, submits, submits_at, cookie_of, owed_by, submitted, submitted_if, part_after_unmap, in_range, without_pages}
 use Rattle.sva_model.specs.Acts.Act.{Unmap}
-use Rattle.sva_model.specs.Labels
-use Rattle.sva_model.specs.Wire.{PlaceWire, BindingWire, PartWire, JobWire, FlightWire, StageWire, number, cookie_number, target_wire, stage_wire, binding_wire, bindings_wire, unit_wire, device_wire, part_wire, pages_wire, places_wire, group_job, job_wire, flight_wire, wire}
+use Rattle.sva_model.specs.Wire.{BindingWire, PartWire, StageWire, number, cookie_number, target_wire, stage_wire, binding_wire, bindings_wire, unit_wire, part_wire, pages_wire, places_wire, group_job, wire}
 use Rattle.sva_laws.proofs.Counting.{count_same}
 use Rattle.sva_laws.proofs.Bounds.{Bounds}
 use Rattle.sva_laws.proofs.Labels as labels
@@ -21,7 +18,6 @@ use Rattle.sva_laws.proofs.Fronts.{AllFronts}
 use Rattle.sva_laws.proofs.Debts.{AllDebts}
 use Rattle.sva_laws.proofs.Invariant.{Invariant}
 use Rattle.sva_wire.proofs.Lists.{tabulate_same, tabulate_length, tabulate_at}
-use Rattle.sva_wire.proofs.Places.{seen_by}
 use Rattle.sva_labels.specs.Finding as finding
 use Rattle.sva_labels.specs.Finding.{idle, part_of, unit_of, bound_at, submits_by, pages_in}
 use Rattle.sva_labels.specs.Moves as moves

@@ -1,5 +1,5 @@
 -- What the frames of pages that are taken out wait for, unit by unit; and that what was withheld before waits on.
-use Rattle.std.proofs.Common.{◌≡◌, ◌≢◌, ◌⊎◌, inl, inr, refl, ap, ap₂, sym, subst, ◌∙◌, ℕ, zero, suc, ◌+◌, ◌<◌, ◌≤◌, Bool, true, false, arith}
+use Rattle.std.proofs.Common.{◌≡◌, ◌≢◌, refl, ap, sym, ◌∙◌, ℕ, zero, suc, ◌+◌, ◌<◌, ◌≤◌, Bool, true, false, arith}
 use Rattle.std.specs.Prelude.{Some, None, Option, option_map, is_none, ◌&&◌, ◌||◌, not, nat_lt, if◌then◌else◌, List, [], ◌∷◌, ◌++◌}
 use Rattle.std.specs.List.{list_all}
 use Rattle.std.proofs.lemmas.Bool.Decides.{nat_tests}
@@ -9,10 +9,10 @@ use Rattle.sva_model.specs.State.Owed.{Nothing, Ranges, Pasid, AReset}
 use Rattle.sva_model.specs.State.MappingState.{Gone}
 use Rattle.sva_model.specs.State.Stage.{Unbound, Live, Stopping, Draining, Invalidating, Quiet, Lost, Released}
 use Rattle.sva_model.specs.State.Order.{RangeOf, PasidOf, Wait}
-use Rattle.sva_model.specs.State.OrderState.{Queued, Done}
+use Rattle.sva_model.specs.State.OrderState.{Done}
 use Rattle.sva_model.specs.States.{is_open, is_before_invalidating, is_done, is_wait, answered}
 use Rattle.sva_model.specs.Acts.{submits_at, owed_by, owed_by_stage, owed_by_unit, submitted, submitted_if, range_at}
-use Rattle.sva_model.specs.Wire.{PlaceWire, TargetWire, number, end_number, cookie_number, target_of, target_wire, stage_wire, binding_wire, unit_wire}
+use Rattle.sva_model.specs.Wire.{TargetWire, number, end_number, cookie_number, target_of, target_wire, stage_wire, binding_wire, unit_wire}
 use Rattle.sva_model.specs.Wire.PlaceWire.{FreeWire, WithheldWire}
 use Rattle.sva_model.specs.Wire.TargetWire.{Cookie, ResetEnd}
 use Rattle.sva_laws.specs.Waits.{FitsDebt}

@@ -26,6 +26,8 @@ pub mod LookedLists
 pub mod LookedSpaces
 pub mod LookedBindings
 pub mod LookedUnits
+pub mod LookedPasids
+pub mod LookedGroups
 pub mod Selected
 pub mod Flights
 pub mod DeviceRows
@@ -56,4 +58,5 @@ pub mod HostGroupsLists
 pub mod HostGroupsAct
 pub mod HostGroupsFile
 pub mod HostGroups
+pub mod SaysBindings
 pub mod Device

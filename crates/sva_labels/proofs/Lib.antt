@@ -57,5 +57,9 @@ pub mod HostGroupsFiled
 pub mod OrderedRanges
 pub mod DeliverOrders
 pub mod DeliverAll
+pub mod HostGroupsLists
+pub mod HostGroupsAct
+pub mod HostGroupsFile
+pub mod HostGroups
 pub mod SaysBindings
 pub mod Device

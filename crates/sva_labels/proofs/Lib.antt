@@ -64,3 +64,6 @@ pub mod HostGroups
 pub mod SaysBindings
 pub mod Device
 pub mod Granted
+pub mod SoundLists
+pub mod SoundNumbers
+pub mod Sounds

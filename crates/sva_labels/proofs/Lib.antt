@@ -56,3 +56,4 @@ pub mod DeliverTranslations
 pub mod HostGroupsFiled
 pub mod SaysBindings
 pub mod Device
+pub mod SaysUnits

@@ -54,6 +54,9 @@ pub mod Squares
 pub mod WorldActs
 pub mod DeliverTranslations
 pub mod HostGroupsFiled
+pub mod OrderedRanges
+pub mod DeliverOrders
+pub mod DeliverAll
 pub mod HostGroupsLists
 pub mod HostGroupsAct
 pub mod HostGroupsFile

@@ -53,3 +53,4 @@ pub mod WorldActs
 pub mod DeliverTranslations
 pub mod HostGroupsFiled
 pub mod Device
+pub mod Assembly

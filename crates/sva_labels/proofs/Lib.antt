@@ -26,6 +26,8 @@ pub mod LookedLists
 pub mod LookedSpaces
 pub mod LookedBindings
 pub mod LookedUnits
+pub mod LookedPasids
+pub mod LookedGroups
 pub mod Selected
 pub mod Flights
 pub mod DeviceRows
@@ -52,5 +54,13 @@ pub mod Squares
 pub mod WorldActs
 pub mod DeliverTranslations
 pub mod HostGroupsFiled
+pub mod OrderedRanges
+pub mod DeliverOrders
+pub mod DeliverAll
+pub mod HostGroupsLists
+pub mod HostGroupsAct
+pub mod HostGroupsFile
+pub mod HostGroups
+pub mod SaysBindings
 pub mod Device
 pub mod Assembly

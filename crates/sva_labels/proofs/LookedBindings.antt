@@ -29,7 +29,7 @@ both_ways false false h k = refl
 both_ways true false h k = sym (h refl)
 both_ways false true h k = k refl
 
-not_both : (b : Bool) → (b ≡ true → ⊥) → b ≡ false
+pub not_both : (b : Bool) → (b ≡ true → ⊥) → b ≡ false
 not_both false h = refl
 not_both true h = absurd (h refl)
 

@@ -63,3 +63,4 @@ pub mod HostGroupsFile
 pub mod HostGroups
 pub mod SaysBindings
 pub mod Device
+pub mod Assembly

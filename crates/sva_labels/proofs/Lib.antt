@@ -54,6 +54,14 @@ pub mod Squares
 pub mod WorldActs
 pub mod DeliverTranslations
 pub mod HostGroupsFiled
+pub mod OrderedRanges
+pub mod DeliverOrders
+pub mod DeliverAll
+pub mod HostGroupsLists
+pub mod HostGroupsAct
+pub mod HostGroupsFile
+pub mod HostGroups
 pub mod SaysBindings
 pub mod Device
 pub mod SaysUnits
+pub mod Assembly

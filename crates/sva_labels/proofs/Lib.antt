@@ -64,3 +64,5 @@ pub mod HostGroups
 pub mod SaysBindings
 pub mod Device
 pub mod EndpointQuits
+pub mod SaysUnits
+pub mod Assembly

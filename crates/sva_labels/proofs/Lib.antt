@@ -64,3 +64,4 @@ pub mod HostGroups
 pub mod SaysBindings
 pub mod Device
 pub mod Assembly
+pub mod Ready

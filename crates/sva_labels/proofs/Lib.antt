@@ -63,5 +63,6 @@ pub mod HostGroupsFile
 pub mod HostGroups
 pub mod SaysBindings
 pub mod Device
+pub mod SaysUnits
 pub mod Assembly
 pub mod Ready

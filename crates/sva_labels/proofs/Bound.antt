@@ -1,7 +1,6 @@
 -- The binding of a space at an endpoint, found by its numbers.
-use Rattle.std.proofs.Common.{◌≡◌, ◌≢◌, ◌⊎◌, inl, inr, refl, ap, ap₂, sym, ◌∙◌, ℕ, ◌+◌, ◌<◌, Bool, true, false, arith}
+use Rattle.std.proofs.Common.{◌≡◌, ◌≢◌, ◌⊎◌, inl, inr, refl, ap, ◌∙◌, ℕ, ◌+◌, Bool, true, false}
 use Rattle.std.specs.Prelude.{Some, None, Option, option_map, ◌&&◌, ◌==◌}
-use Rattle.sva_model.specs.Words.{find}
 use Rattle.sva_model.specs.State.{World}
 use Rattle.sva_model.specs.States.{is_unreleased}
 use Rattle.sva_model.specs.Acts.{bound}

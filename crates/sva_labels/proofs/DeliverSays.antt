@@ -1,25 +1,23 @@
 -- A delivery by labels: the message of a number, whether it may arrive now, and what it needs.
 use Rattle.std.proofs.Common.{◌≡◌, ◌≢◌, ◌⊎◌, inl, inr, refl, ap, ap₂, sym, subst, ◌∙◌, ℕ, zero, suc, ◌+◌, ◌-◌, ◌<◌, ◌≤◌, Bool, true, false, arith}
-use Rattle.std.specs.Prelude.{Option, Some, None, ◌&&◌, not, ◌==◌, nat_lt, nat_le, if◌then◌else◌, List, [], ◌∷◌}
+use Rattle.std.specs.Prelude.{Option, Some, None, ◌&&◌, not, ◌==◌, nat_lt, nat_le, if◌then◌else◌, []}
 use Rattle.std.proofs.lemmas.Bool.Decides.{nat_tests}
 use Rattle.sva_step.specs.declared.refusals.Refusal.TheVariants as refusal
 use Rattle.sva_step.specs.declared.steps.Step.TheVariants as step
 use Rattle.sva_model.specs.Words.{any_below, is_some}
-use Rattle.sva_model.specs.Order.{Sort, stays_behind}
+use Rattle.sva_model.specs.Order.{stays_behind}
 use Rattle.sva_model.specs.Message.{Message}
 use Rattle.sva_model.specs.State.{About, Mappings, Part, World}
 use Rattle.sva_model.specs.State.About.{StartOf, StopOf, ResetOrder, CompletionOf, InvalidateOf, ResponseOf, RequestOf, InvalidatedOf, PageRequestOf, MarkerOf, ResetDone}
-use Rattle.sva_model.specs.States.{is_open}
 use Rattle.sva_model.specs.Labels
 use Rattle.sva_model.specs.Refusals as names
 use Rattle.sva_model.specs.Refusals.{refusals}
-use Rattle.sva_model.specs.Wire.{Wire, UnitWire, FlightWire, flight_wire, wire}
+use Rattle.sva_model.specs.Wire.{UnitWire, FlightWire, flight_wire, wire}
 use Rattle.sva_laws.specs.Laws.{IsCarried}
-use Rattle.sva_laws.proofs.Words.{ℕ_cases, some_the}
+use Rattle.sva_laws.proofs.Words.{ℕ_cases}
 use Rattle.sva_labels.specs.Finding.{sort_of, flight_of, holds_back, may_deliver, unit_of}
-use Rattle.sva_labels.specs.Causes.{causes_of, deliver_causes, delivery_sends, lacks}
+use Rattle.sva_labels.specs.Causes.{causes_of, deliver_causes, delivery_sends}
 use Rattle.sva_labels.proofs.Lookups.{any_seen, any_same, find_one, find_none}
-use Rattle.sva_labels.proofs.SentTo.{AreSentTo}
 use Rattle.sva_labels.proofs.EndpointViews.{unit_seen, same_alike}
 use Rattle.sva_labels.proofs.Reached.{IsReached}
 use Rattle.sva_labels.proofs.Alike.{IsAlike, alike_held, alike_right}

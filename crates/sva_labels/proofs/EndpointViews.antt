@@ -1,5 +1,5 @@
 -- An endpoint of the config as a host keeps it: the views of its part. And causes that are the same one after another.
-use Rattle.std.proofs.Common.{◌≡◌, refl, ap, sym, ◌∙◌, ℕ, ◌<◌, Bool, false}
+use Rattle.std.proofs.Common.{◌≡◌, refl, ap, ℕ, ◌<◌, false}
 use Rattle.std.specs.Prelude.{List, [], ◌∷◌, length, not, nat_lt}
 use Rattle.sva_step.specs.declared.refusals.Refusal.TheVariants as refusal
 use Rattle.sva_model.specs.State.{World}

@@ -74,16 +74,16 @@ picked_first {A = A} (suc n) k f p l h none = go (ℕ_cases k n) (λ m. picked_f
     )
     go (inr ne) rest = let (zs, e) = rest (omega arith) in (zs ++ if_passes (p n) (f n), picked_next f n p ∙ ap (λ xs. xs ++ if_passes (p n) (f n)) e)
 
-pub picked_drop : {A : Type 0} (n k : ℕ) (f g : ℕ → A) (p q : ℕ → Bool) → k < n → p k ≡ true → ((j : ℕ) → j < k → p j ≡ false) → q k ≡ false → ((j : ℕ) → j ≢ k → q j ≡ p j) → ((j : ℕ) → j < n → q j ≡ true → g j ≡ f j) → map g (select n q) ≡ drop 1 (map f (select n p))
+pub picked_drop : {A : Type 0} (n k : ℕ) (f g : ℕ → A) (p q : ℕ → Bool) → k < n → p k ≡ true → ((j : ℕ) → j < k → p j ≡ false) → q k ≡ false → ((j : ℕ) → j < n → j ≢ k → q j ≡ p j) → ((j : ℕ) → j < n → q j ≡ true → g j ≡ f j) → map g (select n q) ≡ drop 1 (map f (select n p))
 picked_drop zero k f g p q l h none gone other seen = absurd (omega arith)
-picked_drop (suc n) k f g p q l h none gone other seen = go (ℕ_cases k n) (λ m. picked_drop n k f g p q m h none gone other (λ j i. seen j (omega arith)))
+picked_drop (suc n) k f g p q l h none gone other seen = go (ℕ_cases k n) (λ m. picked_drop n k f g p q m h none gone (λ j i. other j (omega arith)) (λ j i. seen j (omega arith)))
   where
     none_left : k ≡ n → (j : ℕ) → j < suc n → q j ≡ false
     none_left e j m = at (ℕ_cases j k)
       where
         at : (j ≡ k) ⊎ (j ≢ k) → q j ≡ false
         at (inl x) = ap q x ∙ gone
-        at (inr x) = other j x ∙ none j (omega (arith, m, e, x))
+        at (inr x) = other j m x ∙ none j (omega (arith, m, e, x))
 
     go : (k ≡ n) ⊎ (k ≢ n) → (k < n → map g (select n q) ≡ drop 1 (map f (select n p))) → map g (select (suc n) q) ≡ drop 1 (map f (select (suc n) p))
     go (inl e) rest =
@@ -92,7 +92,7 @@ picked_drop (suc n) k f g p q l h none gone other seen = go (ℕ_cases k n) (λ 
     go (inr ne) rest =
         let first = picked_first n k f p (omega arith) h none in
         picked_next g n q
-        ∙ ap₂ (λ xs ys. xs ++ ys) (rest (omega arith)) (same_passes (q n) (p n) (g n) (f n) (other n (λ e. ne (sym e))) (seen n (omega arith)))
+        ∙ ap₂ (λ xs ys. xs ++ ys) (rest (omega arith)) (same_passes (q n) (p n) (g n) (f n) (other n (omega arith) (λ e. ne (sym e))) (seen n (omega arith)))
         ∙ sym (drop_append (map f (select n p)) (if_passes (p n) (f n)) (f k) first.0 first.1)
         ∙ sym (ap (drop 1) (picked_next f n p))
 

@@ -1,6 +1,6 @@
 -- The acts of an endpoint that leave the places of frames as they are: all but a wait that is done and a reset-done.
-use Rattle.std.proofs.Common.{◌≡◌, ◌≢◌, ◌⊎◌, inl, inr, refl, ap, ap₂, sym, subst, ◌∙◌, ℕ, zero, suc, ◌+◌, ◌<◌, ◌≤◌, Bool, true, false, arith}
-use Rattle.std.specs.Prelude.{Some, None, Option, ◌&&◌, ◌||◌, nat_lt, if◌then◌else◌}
+use Rattle.std.proofs.Common.{◌≡◌, ◌≢◌, refl, ap, sym, ◌∙◌, ℕ, suc, ◌+◌, ◌<◌, ◌≤◌, Bool, true, false, arith}
+use Rattle.std.specs.Prelude.{Some, None, ◌&&◌, ◌||◌, nat_lt, if◌then◌else◌}
 use Rattle.std.proofs.lemmas.Bool.Decides.{nat_tests}
 use Rattle.sva_model.specs.Words.{all_below, tabulate}
 use Rattle.sva_model.specs.State.{Owed, Mappings, Part, World, OrderState}
@@ -10,11 +10,11 @@ use Rattle.sva_model.specs.State.OrderState.{Done}
 use Rattle.sva_model.specs.States.{is_done, is_wait, is_busy, answered}
 use Rattle.sva_model.specs.Acts.{own, Own, act}
 use Rattle.sva_model.specs.Acts.Act.{At}
-use Rattle.sva_model.specs.Wire.{PlaceWire, TargetWire, cookie_number, target_of, target_wire, places_wire}
+use Rattle.sva_model.specs.Wire.{PlaceWire, cookie_number, target_of, target_wire, places_wire}
 use Rattle.sva_model.specs.Wire.PlaceWire.{WithheldWire}
-use Rattle.sva_model.specs.Wire.TargetWire.{Cookie, ResetEnd}
+use Rattle.sva_model.specs.Wire.TargetWire.{Cookie}
 use Rattle.sva_laws.specs.Waits.{IsBehind, FitsDebt}
-use Rattle.sva_laws.proofs.Words.{all_below-true, all_below-false}
+use Rattle.sva_laws.proofs.Words.{all_below-false}
 use Rattle.sva_laws.proofs.Legal.{LegalOwn}
 use Rattle.sva_laws.proofs.Bounds.{Bounds}
 use Rattle.sva_laws.proofs.Orders.{Orders, SentOnly}

@@ -1,15 +1,14 @@
 -- The places of frames once pages of a space went, and after an act of one endpoint: by the latest mapping of each frame.
-use Rattle.std.proofs.Common.{◌≡◌, ◌≢◌, ◌⊎◌, inl, inr, refl, ap, ap₂, sym, subst, ◌∙◌, ℕ, zero, suc, ◌<◌, ◌≤◌, Bool, true, false, arith}
-use Rattle.std.specs.Prelude.{Some, None, Option, ◌&&◌, ◌||◌, not, ◌==◌, nat_lt, if◌then◌else◌, List, [], ◌∷◌, ◌++◌, map, filter}
+use Rattle.std.proofs.Common.{◌≡◌, refl, ap, ap₂, sym, ◌∙◌, ℕ, zero, suc, ◌<◌, Bool, true, false, arith}
+use Rattle.std.specs.Prelude.{Some, None, Option, ◌&&◌, ◌==◌, if◌then◌else◌, List, [], ◌∷◌, ◌++◌, map, filter}
 use Rattle.std.specs.List.{list_any}
 use Rattle.std.proofs.lemmas.List.{map-append}
-use Rattle.std.proofs.lemmas.Bool.Decides.{nat_tests}
 use Rattle.sva_model.specs.Words.{any_below, tabulate}
-use Rattle.sva_model.specs.State.{Owed, MappingState, Mappings, World}
+use Rattle.sva_model.specs.State.{Owed, MappingState, World}
 use Rattle.sva_model.specs.State.MappingState.{Unmade, Present, Gone}
 use Rattle.sva_model.specs.States.{is_present, place}
 use Rattle.sva_model.specs.Acts.{gone_if, without_pages}
-use Rattle.sva_model.specs.Wire.{PageWire, PlaceWire, is_page_of, page_wire, pages_wire, place_wire_by, places_wire}
+use Rattle.sva_model.specs.Wire.{PlaceWire, is_page_of, pages_wire, place_wire_by, places_wire}
 use Rattle.sva_model.specs.Wire.PlaceWire.{FreeWire, MappedWire}
 use Rattle.sva_laws.proofs.Words.{any_below-true, any_below-false}
 use Rattle.sva_laws.proofs.Invariant.{Mapped}

@@ -14,11 +14,13 @@ use Rattle.sva_laws.proofs.OnTheWay.{always_on_the_way}
 use Rattle.sva_laws.proofs.Completions.{always_owed}
 use Rattle.sva_laws.proofs.Carried.{always_carried}
 use Rattle.sva_labels.proofs.SentTo.{AreSentTo, always_sent}
+use Rattle.sva_labels.proofs.OrderedRanges.{HaveRanges, always_ranges}
 
 pub record IsReached (w : World) : Type 0 where
   pub invariant : Invariant w
   pub sent : AreSentTo w
   pub carried : (e : ℕ) → IsCarried w.mappings (w.part e)
+  pub ranges : HaveRanges w
   pub under_way : (e : ℕ) → IsUnderWay w.messages (w.part e)
 
 pub reached : (rule : PasidRule) (config : Config) (steps : List Step) → IsReached (world_after rule config steps)
@@ -27,6 +29,7 @@ reached rule config steps =
       invariant = always rule config steps;
       sent = always_sent rule config steps;
       carried = always_carried rule config steps;
+      ranges = always_ranges rule config steps;
       under_way =
           λ e.
           under_way (world_after rule config steps) e (always rule config steps) (always_ways rule config steps e) (always_on_the_way rule config steps e)

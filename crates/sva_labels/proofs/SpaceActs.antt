@@ -1,26 +1,24 @@
 -- A new space, a space dropped and a page mapped, by numbers.
-use Rattle.std.proofs.Common.{◌≡◌, refl, ap, ap₂, sym, ◌∙◌, ℕ, suc, ◌+◌, ◌<◌, Bool, true, false, arith}
-use Rattle.std.specs.Prelude.{Some, None, Option, ◌&&◌, not, ◌==◌, nat_lt, if◌then◌else◌, List, [], ◌∷◌, filter}
-use Rattle.std.specs.List.{list_any}
+use Rattle.std.proofs.Common.{◌≡◌, refl, ap, sym, ◌∙◌, ℕ, suc, ◌+◌, ◌<◌, Bool, true, false, arith}
+use Rattle.std.specs.Prelude.{Some, None, ◌&&◌, ◌==◌, nat_lt, if◌then◌else◌, List, [], ◌∷◌, filter}
 use Rattle.std.proofs.lemmas.Bool.Decides.{nat_tests}
-use Rattle.sva_model.specs.Words.{put, all_below, select, tabulate}
-use Rattle.sva_model.specs.State.{Owed, Mappings, World}
+use Rattle.sva_model.specs.Words.{all_below, select, tabulate}
+use Rattle.sva_model.specs.State.{Mappings, World}
 use Rattle.sva_model.specs.State.Owed.{Nothing}
 use Rattle.sva_model.specs.State.MappingState.{Gone}
 use Rattle.sva_model.specs.States.{is_present, answered}
-use Rattle.sva_model.specs.Acts.{act, without_pages}
+use Rattle.sva_model.specs.Acts.{act}
 use Rattle.sva_model.specs.Acts.Act.{NewSpace, DropSpace, Map}
-use Rattle.sva_model.specs.Wire.{PageWire, PlaceWire, number, insert_by, is_lower_page, is_page_of, pages_wire, spaces_wire, withheld_wire, places_wire, device_wire, part_wire, wire}
+use Rattle.sva_model.specs.Wire.{PageWire, number, insert_by, is_lower_page, is_page_of, pages_wire, withheld_wire, places_wire, device_wire, part_wire, wire}
 use Rattle.sva_model.specs.Wire.PlaceWire.{FreeWire}
 use Rattle.sva_laws.proofs.Invariant.{Invariant, Mapped}
 use Rattle.sva_laws.proofs.Passed.{and_left, and_right}
 use Rattle.sva_wire.proofs.Lists.{tabulate_same, each_below}
-use Rattle.sva_wire.proofs.Parts.{with_mappings}
 use Rattle.sva_wire.proofs.Pages.{pages_none, pages_mapped, present_is, same_is}
 use Rattle.sva_wire.proofs.Places.{gone_seen, places_mapped}
 use Rattle.sva_wire.proofs.Spaces.{spaces_more}
-use Rattle.sva_labels.specs.Finding.{pages_of, pages_in, or_no_pages}
-use Rattle.sva_labels.specs.Moves.{with_pages, without_space, placed, moved}
+use Rattle.sva_labels.specs.Finding.{pages_in, or_no_pages}
+use Rattle.sva_labels.specs.Moves.{placed, moved}
 use Rattle.sva_labels.proofs.Named.{act_move}
 use Rattle.sva_labels.proofs.DeviceMappings.{device_mapped, device_without}
 use Rattle.sva_labels.proofs.SpaceLists.{with_pages_is, without_space_is, pages_among, among_those}

@@ -41,7 +41,7 @@ units_same first p q queue busy front waits_end o h b f w =
 queued_apart : (s : OrderState) → is_queued s ≡ true → is_undone s ≡ true
 queued_apart s h = grind arith
 
-not_bound : (p : Part) (b d : ℕ) → p.stage b ≡ Unbound → is_active (p.stage d) ≡ true → d ≢ b
+pub not_bound : (p : Part) (b d : ℕ) → p.stage b ≡ Unbound → is_active (p.stage d) ≡ true → d ≢ b
 not_bound p b d u a e = absurd (cc (sym (ap (λ z. is_active (p.stage z)) e ∙ ap is_active u) ∙ a))
 
 bind_queue : (ms : Mappings) (g first n : ℕ) (p : Part) (b s t : ℕ) → LegalOwn ms g p (Own.Bind b s t) → Orders p → queue_of first (own p n (Own.Bind b s t)) ≡ queue_of first p
@@ -61,7 +61,7 @@ unit_bind ms g first n next e p b s t l or =
 
 -- A wait with drain is submitted.
 
-old_put : {A : Type 0} (f : ℕ → A) (i k : ℕ) (v : A) → k < i → put f i v k ≡ f k
+pub old_put : {A : Type 0} (f : ℕ → A) (i k : ℕ) (v : A) → k < i → put f i v k ≡ f k
 old_put f i k v l = put-other f i v k (λ e. absurd (omega (arith, l, e)))
 
 pub unit_drain : (ms : Mappings) (g first n next e : ℕ) (p : Part) (b cookie : ℕ) → Bounds g p → Labels p → next ≡ number first cookie → unit_wire first (own p n (Own.Drain b cookie)) ≡ unit_moved next (unit_wire first p) (own_move first e ms p (Own.Drain b cookie))
@@ -136,7 +136,7 @@ sent_queue g first p k s bo h i none =
     picked_drop p.orders k (λ j. descriptor first p (p.order j)) (λ j. descriptor first p (p.order j)) (λ j. is_queued (p.order_state j)) (λ j. is_queued (put p.order_state k s j))
     (made (bo.order_state k)) (ap is_queued h) (λ j l. not_queued (p.order_state j) (none j l))
     (ap is_queued (put-same p.order_state k s) ∙ i)
-    (λ j ne. ap is_queued (put-other p.order_state k s j ne))
+    (λ j l ne. ap is_queued (put-other p.order_state k s j ne))
     (λ j l x. refl)
   where
     made : (p.orders ≤ k → p.order_state k ≡ Void) → k < p.orders

@@ -66,3 +66,4 @@ pub mod Device
 pub mod EndpointQuits
 pub mod SaysUnits
 pub mod Assembly
+pub mod Ready

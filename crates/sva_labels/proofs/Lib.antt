@@ -67,3 +67,4 @@ pub mod EndpointQuits
 pub mod SaysUnits
 pub mod Assembly
 pub mod Ready
+pub mod EndpointFinishes

@@ -65,3 +65,5 @@ pub mod SaysBindings
 pub mod Device
 pub mod SaysUnits
 pub mod Assembly
+pub mod LookedFilings
+pub mod SaysServe

@@ -1,24 +1,23 @@
 -- What the host has filed of the group of a page request that has arrived, looked up in what it keeps.
-use Rattle.std.proofs.Common.{◌≡◌, ◌≢◌, ◌⊎◌, inl, inr, refl, ap, ap₂, sym, ◌∙◌, ℕ, ◌<◌, ◌≤◌, Bool, true, false, arith, append-nil}
-use Rattle.std.specs.Prelude.{Option, Some, None, option_map, ◌&&◌, not, ◌==◌, List, [], ◌∷◌, ◌++◌, map}
+use Rattle.std.proofs.Common.{◌≡◌, ◌⊎◌, inl, inr, refl, ap, sym, ◌∙◌, ℕ, ◌<◌, Bool, true, arith}
+use Rattle.std.specs.Prelude.{Option, Some, None, option_map, ◌&&◌, not, ◌==◌, [], ◌∷◌, ◌++◌}
 use Rattle.std.specs.List as lists
-use Rattle.std.proofs.lemmas.Bool.Decides.{nat_tests}
-use Rattle.sva_model.specs.Words.{find, select}
-use Rattle.sva_model.specs.State.{HostGroupState, Part}
+use Rattle.sva_model.specs.Words.{find}
+use Rattle.sva_model.specs.State.{Part}
 use Rattle.sva_model.specs.State.PageRequestState.{Arrived}
 use Rattle.sva_model.specs.State.HostGroupState.{NotFiled, PartFiled}
 use Rattle.sva_model.specs.State.Phase.{Open}
 use Rattle.sva_model.specs.States.{is_open_group, is_outstanding}
 use Rattle.sva_model.specs.Acts.{Own, own}
 use Rattle.sva_model.specs.State.{Mappings}
-use Rattle.sva_model.specs.Wire.{AskWire, number, ask_wire, asks_wire, begins_open, is_part, host_group_wire, host_groups_wire}
-use Rattle.sva_laws.proofs.Words.{ℕ_cases, put-same, find_passes, find_some}
+use Rattle.sva_model.specs.Wire.{number, ask_wire, asks_wire, begins_open, is_part, host_group_wire, host_groups_wire}
+use Rattle.sva_laws.proofs.Words.{find_passes, find_some}
 use Rattle.sva_laws.proofs.Groups.{is_filed_group}
 use Rattle.sva_laws.proofs.Invariant.{PartInvariant}
 use Rattle.sva_laws.proofs.OnTheWay.{OnTheWay}
 use Rattle.sva_laws.proofs.Passed.{and_left, and_right}
 use Rattle.sva_wire.proofs.Lists.{none_below}
-use Rattle.sva_wire.proofs.Pages.{and_both, same_is, is_same, is_other}
+use Rattle.sva_wire.proofs.Pages.{and_both, same_is, is_same}
 use Rattle.sva_labels.specs.Moves.{is_begun}
 use Rattle.sva_labels.specs.Outcomes.{asks_of}
 use Rattle.sva_labels.proofs.HostGroupsAct.{filed_group, asks_seen}

@@ -1,34 +1,31 @@
 -- The steps serve and take by labels: they refuse what the steps by names refuse, and answer and move what these do.
-use Rattle.std.proofs.Common.{◌≡◌, ◌≢◌, refl, ap, ap₂, sym, ◌∙◌, ℕ, ◌<◌, ◌≤◌, Bool, true, false, arith}
+use Rattle.std.proofs.Common.{◌≡◌, refl, ap, ap₂, sym, ◌∙◌, ℕ, ◌<◌, Bool, true, false, arith}
 use Rattle.std.specs.Prelude as prelude
 use Rattle.std.specs.Prelude.{Option, Some, None, option_map, not, ◌==◌, nat_lt, List, [], ◌∷◌, ◌++◌, map, length}
 use Rattle.std.proofs.lemmas.List.{length-map}
-use Rattle.std.proofs.lemmas.Bool.Decides.{nat_tests}
 use Rattle.sva_step.specs.declared.answers.Answer.TheVariants as answer
 use Rattle.sva_step.specs.declared.refusals.Refusal.TheVariants as refusal
 use Rattle.sva_step.specs.declared.steps.Step.TheVariants as step
-use Rattle.sva_model.specs.Words.{is_some, the, lowest, any_below, select}
-use Rattle.sva_model.specs.State.{PageRequestState, Stage, Part, World}
+use Rattle.sva_model.specs.Words.{is_some, lowest, any_below}
+use Rattle.sva_model.specs.State.{PageRequestState, Stage, World}
 use Rattle.sva_model.specs.State.PageRequestState.{Arrived}
 use Rattle.sva_model.specs.State.Phase.{Open}
 use Rattle.sva_model.specs.States.{is_arrived, is_unreleased, is_before_invalidating}
 use Rattle.sva_model.specs.Acts.{Act, Own, act, own}
 use Rattle.sva_model.specs.Refusals as names
 use Rattle.sva_model.specs.Refusals.{Cause, refusals}
-use Rattle.sva_model.specs.Outcomes as outcomes
-use Rattle.sva_model.specs.Outcomes.{outcome, file_outcome, serve_outcome, take_outcome}
+use Rattle.sva_model.specs.Outcomes.{file_outcome, serve_outcome, take_outcome}
 use Rattle.sva_model.specs.Labels
-use Rattle.sva_model.specs.Wire.{JobWire, PageRequestWire, number, ask_wire, asks_wire, page_request_wire, page_queue_wire, part_wire, group_job, job_wire, binding_wire, wire}
+use Rattle.sva_model.specs.Wire.{JobWire, number, ask_wire, page_request_wire, page_queue_wire, part_wire, group_job, job_wire, binding_wire, wire}
 use Rattle.sva_laws.proofs.Words.{put-same, not_true, lowest_below, any_below-true}
 use Rattle.sva_laws.proofs.Invariant.{Invariant}
 use Rattle.sva_laws.proofs.OnTheWay.{OnTheWay}
-use Rattle.sva_laws.proofs.Passed.{Passed, is_less, not_false, opened_is}
+use Rattle.sva_laws.proofs.Passed.{is_less, not_false, opened_is}
 use Rattle.sva_wire.proofs.Lists.{tabulate_at, tabulate_length}
-use Rattle.sva_labels.specs.Finding.{part_of, bearer, held_by}
+use Rattle.sva_labels.specs.Finding.{bearer, held_by}
 use Rattle.sva_labels.specs.Moves.{Move}
-use Rattle.sva_labels.specs.Causes.{causes_of, resetting, no_such_worker}
-use Rattle.sva_labels.specs.Outcomes as results
-use Rattle.sva_labels.specs.Outcomes.{Result, says, by_one, binding_or_0, job_of, file_result, serve_result, take_result}
+use Rattle.sva_labels.specs.Causes.{resetting, no_such_worker}
+use Rattle.sva_labels.specs.Outcomes.{says, binding_or_0, job_of, file_result, serve_result, take_result}
 use Rattle.sva_labels.proofs.Alike.{IsAlike, alike_same, alike_more, SaysAlike, result_by}
 use Rattle.sva_labels.proofs.EndpointViews.{part_seen}
 use Rattle.sva_labels.proofs.HostGroupsFiled.{Filings}

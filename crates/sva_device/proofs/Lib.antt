@@ -1,0 +1,4 @@
+pub mod Tables
+pub mod Pasids
+pub mod Requests
+pub mod Cached

@@ -55,7 +55,7 @@ before t q v e = (tells t q e.0.0 e.0.1).1
 
 -- A search.
 
-abbrev found_seen : (t q : ℕ) → Option Translation → Option TranslationWire
+abbrev pub found_seen : (t q : ℕ) → Option Translation → Option TranslationWire
 found_seen t q None = None
 found_seen t q (Some v) = Some (translation_seen ((t, q), v))
 

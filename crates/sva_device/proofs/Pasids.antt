@@ -12,14 +12,14 @@ use Rattle.sva_tables.specs.declared.pasid_states.PasidState.TheVariants.{Off, O
 use Rattle.sva_tables.specs.PasidStates.{state_of, with_state, is_on, is_off, is_stopping}
 use Rattle.sva_endpoint.specs.Tables.{Tables}
 use Rattle.sva_device.specs.Seen.{pasid_seen, device_seen}
-use Rattle.sva_device.specs.Laws.{IsWhole}
+use Rattle.sva_endpoint.specs.Laws.{IsSound}
 use Rattle.sva_device.proofs.Tables.{seen_at}
 
 state_below : (xs : List PasidState) (t : ℕ) → slice_index_or (map pasid_seen (drop 1 xs)) t DeviceState.Off ≡ pasid_seen (slice_index_or xs (suc t) Off)
 state_below [] t = refl
 state_below (x ∷ xs) t = seen_at pasid_seen xs t Off
 
-pub state_seen : (s : Tables) (t : ℕ) → IsWhole s → pasid_state (device_seen s) t ≡ pasid_seen (state_of s.pasids t)
+pub state_seen : (s : Tables) (t : ℕ) → IsSound s → pasid_state (device_seen s) t ≡ pasid_seen (state_of s.pasids t)
 state_seen s zero h = ap pasid_seen (sym h.no_zero)
 state_seen s (suc t) h = state_below s.pasids t
 
@@ -33,10 +33,10 @@ stopping_seen Off = refl
 stopping_seen On = refl
 stopping_seen Stopping = refl
 
-pub started_seen : (s : Tables) (t : ℕ) → IsWhole s → states.is_on (pasid_state (device_seen s) t) ≡ is_on (state_of s.pasids t)
+pub started_seen : (s : Tables) (t : ℕ) → IsSound s → states.is_on (pasid_state (device_seen s) t) ≡ is_on (state_of s.pasids t)
 started_seen s t h = ap states.is_on (state_seen s t h) ∙ on_seen (state_of s.pasids t)
 
-pub ending_seen : (s : Tables) (t : ℕ) → IsWhole s → states.is_ending (pasid_state (device_seen s) t) ≡ is_stopping (state_of s.pasids t)
+pub ending_seen : (s : Tables) (t : ℕ) → IsSound s → states.is_ending (pasid_state (device_seen s) t) ≡ is_stopping (state_of s.pasids t)
 ending_seen s t h = ap states.is_ending (state_seen s t h) ∙ stopping_seen (state_of s.pasids t)
 
 -- a PASID more is in a state

@@ -9,7 +9,8 @@ use Rattle.sva_tables.specs.RequestTags.{is_free}
 use Rattle.sva_endpoint.specs.Tables.{Tables}
 use Rattle.sva_endpoint.specs.Steps.{refusals_of_ask, lowest_tag, after_ask}
 use Rattle.sva_device.specs.Seen.{tag_seen, device_seen}
-use Rattle.sva_device.specs.Laws.{IsWhole, RequestIsSeen}
+use Rattle.sva_endpoint.specs.Laws.{IsSound}
+use Rattle.sva_device.specs.Laws.{RequestIsSeen}
 use Rattle.sva_device.proofs.Tables.{lowest_place, place_there}
 use Rattle.sva_device.proofs.Pasids.{started_seen, beyond}
 
@@ -18,7 +19,7 @@ free_seen Free = refl
 free_seen (Out t q) = refl
 free_seen (Doomed t q) = refl
 
-pub request_is_seen : (s : Tables) (t q : ℕ) → IsWhole s → RequestIsSeen s t q
+pub request_is_seen : (s : Tables) (t q : ℕ) → IsSound s → RequestIsSeen s t q
 request_is_seen s t q h =
     let lowest = lowest_place tag_seen is_free free_seen s.tags in
     let page = beyond (2 ^ 36) q in

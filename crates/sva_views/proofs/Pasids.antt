@@ -11,9 +11,9 @@ use Rattle.sva_tables.specs.declared.pasid_states.PasidState.{PasidState}
 use Rattle.sva_tables.specs.declared.pasid_states.PasidState.TheVariants.{Off, On, Stopping}
 use Rattle.sva_tables.specs.PasidStates.{state_of, with_state, is_on, is_off, is_stopping}
 use Rattle.sva_endpoint.specs.Tables.{Tables}
-use Rattle.sva_device.specs.Seen.{pasid_seen, device_seen}
+use Rattle.sva_views.specs.Device.{pasid_seen, device_seen}
 use Rattle.sva_endpoint.specs.Laws.{IsSound}
-use Rattle.sva_device.proofs.Tables.{seen_at}
+use Rattle.sva_views.proofs.Tables.{seen_at}
 
 state_below : (xs : List PasidState) (t : ℕ) → slice_index_or (map pasid_seen (drop 1 xs)) t DeviceState.Off ≡ pasid_seen (slice_index_or xs (suc t) Off)
 state_below [] t = refl

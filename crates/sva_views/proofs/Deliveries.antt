@@ -37,11 +37,11 @@ use Rattle.sva_tables.specs.Groups.{group_at}
 use Rattle.sva_endpoint.specs.Tables.{Tables, fresh}
 use Rattle.sva_endpoint.specs.Deliveries.{after_completion, answer_to_completion, cache_after, after_invalidate, after_response, answer_to_response, is_failure}
 use Rattle.sva_endpoint.specs.Laws.{IsSound}
-use Rattle.sva_device.specs.Seen.{pasid_seen, tag_seen, translation_seen, cache_seen, slot_seen, extent_seen, taken_seen, group_seen, device_seen}
-use Rattle.sva_device.specs.Laws.{CompletionIsSeen, ResponseIsSeen, completed, completed_by, kept_of, completion_said, said_by}
-use Rattle.sva_device.proofs.Tables.{seen_at, seen_each}
-use Rattle.sva_device.proofs.Pasids.{with_state_seen}
-use Rattle.sva_device.proofs.Cached.{inserted_is_seen, retained_is_seen, room_is_seen}
+use Rattle.sva_views.specs.Device.{pasid_seen, tag_seen, translation_seen, cache_seen, slot_seen, extent_seen, taken_seen, group_seen, device_seen}
+use Rattle.sva_views.specs.DeviceLaws.{CompletionIsSeen, ResponseIsSeen, completed, completed_by, kept_of, completion_said, said_by}
+use Rattle.sva_views.proofs.Tables.{seen_at, seen_each}
+use Rattle.sva_views.proofs.Pasids.{with_state_seen}
+use Rattle.sva_views.proofs.Cached.{inserted_is_seen, retained_is_seen, room_is_seen}
 
 pub start_is_seen : (s : Tables) (t : ℕ) → IsSound s → device_seen (record s { pasids = with_state s.pasids t On }) ≡ moves.with_pasid t DeviceState.On (device_seen s)
 start_is_seen s t h = with_state_seen s t On

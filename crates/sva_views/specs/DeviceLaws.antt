@@ -25,7 +25,7 @@ use Rattle.sva_endpoint.specs.Tables.{Tables}
 use Rattle.sva_endpoint.specs.Steps.{refusals_of_ask, lowest_tag, after_ask, refusals_of_use, lowest_slot, translation_at, after_begin_use, refusals_of_end, end_of, after_end_use, refusals_of_evict, after_evict, refusals_of_fault, index_for, after_fault, refusals_of_finish, after_finish, refusals_of_quit, after_quit}
 use Rattle.sva_endpoint.specs.Deliveries.{after_receive, answer_to, after_invalidate, is_failure}
 use Rattle.sva_endpoint.specs.Laws.{IsSound}
-use Rattle.sva_device.specs.Seen.{device_seen, extent_seen}
+use Rattle.sva_views.specs.Device.{device_seen, extent_seen}
 
 -- Translation requests.
 

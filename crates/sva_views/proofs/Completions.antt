@@ -18,9 +18,9 @@ use Rattle.sva_endpoint.specs.Tables.{Tables}
 use Rattle.sva_endpoint.specs.Laws.{IsSound}
 use Rattle.sva_laws.proofs.Words.{any_below-false}
 use Rattle.sva_wire.proofs.Lists.{tabulate_same}
-use Rattle.sva_device.specs.Seen.{taken_seen, device_seen}
-use Rattle.sva_device.specs.Laws.{FinishIsSeen}
-use Rattle.sva_device.proofs.Tables.{seen_at}
+use Rattle.sva_views.specs.Device.{taken_seen, device_seen}
+use Rattle.sva_views.specs.DeviceLaws.{FinishIsSeen}
+use Rattle.sva_views.proofs.Tables.{seen_at}
 
 -- Searches and tables from their first number on.
 

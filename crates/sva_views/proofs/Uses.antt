@@ -18,11 +18,11 @@ use Rattle.sva_tables.specs.Taken.{without_note}
 use Rattle.sva_endpoint.specs.Tables.{Tables}
 use Rattle.sva_endpoint.specs.Steps.{lowest_slot, translation_at, end_of}
 use Rattle.sva_endpoint.specs.Laws.{IsSound}
-use Rattle.sva_device.specs.Seen.{slot_seen, taken_seen, device_seen}
-use Rattle.sva_device.specs.Laws.{UseIsSeen, EndIsSeen, EvictIsSeen, found_at}
-use Rattle.sva_device.proofs.Tables.{lowest_place, place_there, seen_at, seen_each}
-use Rattle.sva_device.proofs.Pasids.{started_seen, beyond}
-use Rattle.sva_device.proofs.Cached.{found_seen, found_is_seen, removed_is_seen}
+use Rattle.sva_views.specs.Device.{slot_seen, taken_seen, device_seen}
+use Rattle.sva_views.specs.DeviceLaws.{UseIsSeen, EndIsSeen, EvictIsSeen, found_at}
+use Rattle.sva_views.proofs.Tables.{lowest_place, place_there, seen_at, seen_each}
+use Rattle.sva_views.proofs.Pasids.{started_seen, beyond}
+use Rattle.sva_views.proofs.Cached.{found_seen, found_is_seen, removed_is_seen}
 
 free_seen : (slot : UseSlot) → is_none (slot_seen slot) ≡ is_free slot
 free_seen Free = refl

@@ -1,9 +1,9 @@
-use Rattle.sva_device.proofs.Requests.{request_is_seen}
-use Rattle.sva_device.proofs.Uses.{use_is_seen, end_is_seen, evict_is_seen}
-use Rattle.sva_device.proofs.Groups.{fault_is_seen, quit_is_seen}
-use Rattle.sva_device.proofs.Completions.{finish_is_seen}
-use Rattle.sva_device.proofs.Deliveries.{start_is_seen, stop_is_seen, reset_is_seen, completion_is_seen, invalidation_is_seen, response_is_seen}
-use Rattle.sva_device.proofs.device_laws.Goals as goal
+use Rattle.sva_views.proofs.Requests.{request_is_seen}
+use Rattle.sva_views.proofs.Uses.{use_is_seen, end_is_seen, evict_is_seen}
+use Rattle.sva_views.proofs.Groups.{fault_is_seen, quit_is_seen}
+use Rattle.sva_views.proofs.Completions.{finish_is_seen}
+use Rattle.sva_views.proofs.Deliveries.{start_is_seen, stop_is_seen, reset_is_seen, completion_is_seen, invalidation_is_seen, response_is_seen}
+use Rattle.sva_views.proofs.device_laws.Goals as goal
 
 pub returns : goal.returns
 returns c =

@@ -21,7 +21,7 @@ use Rattle.sva_cache.specs.Cache.{Key, Translations, key_cmp, key_cmp_total, has
 use Rattle.sva_cache.proofs.Edits as edits
 use Rattle.sva_cache.proofs.Edits.{key_cmp-IsAntisymmetric}
 use Rattle.sva_cache.proofs.Facts.{of_entries}
-use Rattle.sva_device.specs.Seen.{translation_seen, cache_seen}
+use Rattle.sva_views.specs.Device.{translation_seen, cache_seen}
 
 abbrev Entry : Type 0
 Entry = Key × Translation

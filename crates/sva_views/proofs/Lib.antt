@@ -6,3 +6,4 @@ pub mod Uses
 pub mod Groups
 pub mod Deliveries
 pub mod Completions
+pub mod Bindings

@@ -8,11 +8,11 @@ use Rattle.sva_tables.specs.declared.request_tags.RequestTag.TheVariants.{Free, 
 use Rattle.sva_tables.specs.RequestTags.{is_free}
 use Rattle.sva_endpoint.specs.Tables.{Tables}
 use Rattle.sva_endpoint.specs.Steps.{refusals_of_ask, lowest_tag, after_ask}
-use Rattle.sva_device.specs.Seen.{tag_seen, device_seen}
+use Rattle.sva_views.specs.Device.{tag_seen, device_seen}
 use Rattle.sva_endpoint.specs.Laws.{IsSound}
-use Rattle.sva_device.specs.Laws.{RequestIsSeen}
-use Rattle.sva_device.proofs.Tables.{lowest_place, place_there}
-use Rattle.sva_device.proofs.Pasids.{started_seen, beyond}
+use Rattle.sva_views.specs.DeviceLaws.{RequestIsSeen}
+use Rattle.sva_views.proofs.Tables.{lowest_place, place_there}
+use Rattle.sva_views.proofs.Pasids.{started_seen, beyond}
 
 free_seen : (tag : RequestTag) → is_none (tag_seen tag) ≡ is_free tag
 free_seen Free = refl

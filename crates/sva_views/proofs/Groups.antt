@@ -29,10 +29,10 @@ use Rattle.sva_endpoint.specs.declared.permitted.Fault.{Fault}
 use Rattle.sva_endpoint.specs.Tables.{Tables}
 use Rattle.sva_endpoint.specs.Steps.{may_send, is_of_group, index_for, group_after, after_fault, is_busy}
 use Rattle.sva_endpoint.specs.Laws.{IsSound}
-use Rattle.sva_device.specs.Seen.{pasid_seen, tag_seen, slot_seen, group_seen, device_seen}
-use Rattle.sva_device.specs.Laws.{FaultIsSeen, QuitIsSeen, faulted}
-use Rattle.sva_device.proofs.Tables.{lowest_place, place_there, seen_at, seen_each, seen_any}
-use Rattle.sva_device.proofs.Pasids.{state_seen, started_seen, ending_seen, with_state_seen, beyond}
+use Rattle.sva_views.specs.Device.{pasid_seen, tag_seen, slot_seen, group_seen, device_seen}
+use Rattle.sva_views.specs.DeviceLaws.{FaultIsSeen, QuitIsSeen, faulted}
+use Rattle.sva_views.proofs.Tables.{lowest_place, place_there, seen_at, seen_each, seen_any}
+use Rattle.sva_views.proofs.Pasids.{state_seen, started_seen, ending_seen, with_state_seen, beyond}
 
 free_seen : (group : GroupPlace) → is_none (group_seen group) ≡ is_free group
 free_seen Free = refl

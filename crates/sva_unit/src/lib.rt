@@ -1,0 +1,10 @@
+//! One remapping unit of the host: its invalidation queue with the ITags, and its page request queue, as the definitions by
+//! labels see them.
+#![tactic(auto)]
+
+mod orders;
+mod pumping;
+mod units;
+
+pub use pumping::{Extent, Next, Sending};
+pub use units::Unit;

@@ -1,0 +1,247 @@
+//! A remapping unit.
+ghost use Rattle.std.specs.Prelude.{◌≡◌, ◌+◌, ◌*◌, ◌%◌, ◌^◌, ◌<◌, ◌≤◌, ◌++◌, [], ◌∷◌, suc, true, false, length, map, All};
+ghost use Rattle.sva_queue.specs.Cookies.{AreRising, HasNumber, number_after};
+ghost use Rattle.sva_model.specs.Wire.Descriptor.{PasidDescriptor, WaitDescriptor};
+ghost use Rattle.sva_labels.specs.Finding.{has_room, is_wait_done};
+ghost use Rattle.sva_labels.specs.Moves.{descriptors_for, with_descriptors};
+ghost use Rattle.sva_unit.specs.declared.pumping.Next.TheVariants as Next;
+ghost use Rattle.sva_unit.specs.Pumping.{is_invalidation, sending_of};
+
+use crate::orders::orders_for;
+use crate::pumping::{Extent, Next, Sending};
+use std::marker::Model;
+use sva_prq::PageQueue;
+use sva_queue::{Descriptor, Pumped};
+
+/// This invalidation under this ITag.
+fn sending_of(itag: u8, order: Descriptor) -> Sending
+    requires { is_invalidation order ≡ true }
+    ensures { result ≡ sending_of itag order }
+{
+    match order {
+        Descriptor::Range { pasid, range } => Sending {
+            itag,
+            pasid,
+            extent: Extent::Pages(range),
+        },
+        Descriptor::Pasid { pasid } => Sending {
+            itag,
+            pasid,
+            extent: Extent::All,
+        },
+        Descriptor::Wait { .. } => unreachable!(),
+    }
+}
+
+/// One remapping unit of the host: its invalidation queue, the ITags of the Invalidate Requests that it sent, and its page
+/// request queue (Intel VT-d, "Queued Invalidation Interface" and "Page Request Queue"). It is seen as the definitions by
+/// labels see it. No call takes memory.
+#[derive(Debug, Drop)]
+pub struct Unit {
+    queue: sva_queue::Unit,
+    requests: PageQueue,
+}
+
+impl Model for Unit {
+    ghost use Rattle.sva_unit.specs.Seen.{UnitSeen, seen};
+
+    ghost Value = { UnitSeen };
+
+    ghost view = { λ u. seen u.queue u.requests };
+}
+
+impl Default for Unit {
+    ghost use Rattle.sva_unit.specs.Seen.{idle};
+
+    ghost is_default = { λ unit. unit ≡ idle };
+
+    fn default() -> Self {
+        Unit::new()
+    }
+}
+
+impl Unit {
+    ghost use Rattle.sva_unit.specs.Seen.{descriptor_seen, idle, with_unit};
+    ghost use Rattle.sva_unit.specs.Pumping.{next_of, IsPump, unit_sent, unit_passed};
+
+    /// An open unit that nothing was asked of: its queues are empty, and all its ITags are free.
+    pub fn new() -> Self
+        ensures { result ≡ idle }
+    {
+        Unit {
+            queue: sva_queue::Unit::new(),
+            requests: PageQueue::new(),
+        }
+    }
+
+    /// Whether the unit is open, and not in reset.
+    pub fn is_open(&self) -> bool
+        ensures { result ≡ self.now.unit.is_open }
+    {
+        self.queue.is_open()
+    }
+
+    /// Whether so many descriptors fit into the 64 places of the invalidation queue beside those that are in it.
+    pub fn has_room(&self, descriptors: u64) -> bool
+        ensures { result ≡ has_room self.now.unit descriptors }
+    {
+        descriptors <= self.queue.room() as u64
+    }
+
+    /// Whether a wait that was submitted, with this cookie, is done: its cookie is below the front.
+    pub fn is_wait_done(&self, cookie: u64) -> bool
+        ensures { result ≡ is_wait_done self.now.unit cookie }
+    {
+        cookie < self.queue.front()
+    }
+
+    /// Puts these descriptors at the end of the queue.
+    fn submit(&mut self, descriptors: &[Descriptor])
+        requires opened { self.old.unit.is_open ≡ true }
+        requires room { length self.old.unit.queue + length descriptors.now ≤ 64 }
+        requires numbers { All HasNumber descriptors.now }
+        requires rising { AreRising self.old.unit.waits_end descriptors.now }
+        ensures { self.new ≡ with_unit self.old (record self.old.unit {
+          queue = self.old.unit.queue ++ map descriptor_seen descriptors.now;
+          waits_end = number_after self.old.unit.waits_end descriptors.now;
+        }) }
+    {
+        // That the cookies in the queue rise is known once the front has been read.
+        let _ = self.queue.front();
+        let Ok(()) = self.queue.submit(descriptors) else {
+            unreachable!()
+        };
+    }
+
+    /// What an unmapping asks of an open unit: invalidates `count` ranges of 2^order pages of a PASID, one behind another from
+    /// `page` on, and waits for them with this cookie. `has_room` tells whether they fit.
+    pub fn submit_ranges(&mut self, pasid: u32, page: u64, count: u64, order: u8, cookie: u64)
+        requires opened { self.old.unit.is_open ≡ true }
+        requires room { has_room self.old.unit (suc count) ≡ true }
+        requires small { order ≤ 9 }
+        requires aligned { page % 2 ^ order ≡ 0 }
+        requires low { page + count * 2 ^ order ≤ 2 ^ 36 }
+        requires later { self.old.unit.waits_end ≤ cookie }
+        requires number { cookie < 2 ^ 63 }
+        ensures { self.new ≡ with_unit self.old (with_descriptors self.old.unit (descriptors_for pasid page count order cookie) cookie) }
+    {
+        let orders = orders_for(pasid, page, count, order, cookie);
+        self.submit(&orders);
+    }
+
+    /// Asks an open unit for a drain of its page request queue: a wait with this cookie that is done only once that queue is
+    /// empty (Intel VT-d, "Page Request Drain"). `has_room` of 1 tells whether it fits.
+    pub fn submit_drain(&mut self, cookie: u64)
+        requires opened { self.old.unit.is_open ≡ true }
+        requires room { has_room self.old.unit 1 ≡ true }
+        requires later { self.old.unit.waits_end ≤ cookie }
+        requires number { cookie < 2 ^ 63 }
+        ensures { self.new ≡ with_unit self.old (with_descriptors self.old.unit (WaitDescriptor cookie true ∷ []) cookie) }
+    {
+        self.submit(&[Descriptor::Wait {
+            cookie,
+            drain: true,
+        }]);
+    }
+
+    /// Asks an open unit to invalidate all pages of a PASID, and to wait for that with this cookie. `has_room` of 2 tells
+    /// whether they fit.
+    pub fn submit_pasid(&mut self, pasid: u32, cookie: u64)
+        requires opened { self.old.unit.is_open ≡ true }
+        requires room { has_room self.old.unit 2 ≡ true }
+        requires later { self.old.unit.waits_end ≤ cookie }
+        requires number { cookie < 2 ^ 63 }
+        ensures { self.new ≡ with_unit self.old (with_descriptors self.old.unit (PasidDescriptor pasid ∷ WaitDescriptor cookie false ∷ []) cookie) }
+    {
+        self.submit(&[
+            Descriptor::Pasid { pasid },
+            Descriptor::Wait {
+                cookie,
+                drain: false,
+            },
+        ]);
+    }
+
+    /// What becomes of the head of the invalidation queue; nothing changes. An invalidation goes to the endpoint under the
+    /// lowest ITag that is free, and stays where none is. A wait is done where no ITag is busy and, with its drain flag, no page
+    /// request waits; else it stays.
+    pub fn next(&self) -> Next
+        ensures next { result ≡ next_of self.now }
+        ensures pump { IsPump self.now result }
+    {
+        match self.queue.next(self.requests.is_empty()) {
+            Pumped::Idle => Next::Idle,
+            Pumped::Blocked => Next::Blocked,
+            Pumped::Done(cookie) => Next::Pass(cookie),
+            Pumped::Issued(itag) => {
+                let Some(order) = self.queue.head() else {
+                    unreachable!()
+                };
+                Next::Send(sending_of(itag, order))
+            }
+        }
+    }
+
+    /// The invalidation at the head, which `next` gave, goes to the endpoint: it is taken off, and its ITag is busy.
+    pub fn send(&mut self, sending: Sending)
+        requires { next_of self.old ≡ Next.Send sending }
+        ensures { self.new ≡ with_unit self.old (unit_sent self.old.unit sending.itag) }
+    {
+        let _sent = self.queue.pump(self.requests.is_empty());
+    }
+
+    /// The wait at the head is done, with the cookie that `next` gave: it is taken off, and the front is behind it.
+    pub fn pass(&mut self, cookie: u64)
+        requires { next_of self.old ≡ Next.Pass cookie }
+        ensures { self.new ≡ with_unit self.old (unit_passed self.old.unit cookie) }
+    {
+        let _passed = self.queue.pump(self.requests.is_empty());
+    }
+}
+
+#[cfg(test)]
+mod tests {
+    use super::*;
+    use sva_msg::{Kind, Range, Scope};
+
+    #[test]
+    fn has_room_for_64_descriptors(rt: HostRuntime) {
+        let mut unit = Unit::default();
+        assert!(rt; unit.is_open());
+        assert!(rt; unit.has_room(64) && !unit.has_room(65));
+        unit.submit_ranges(1, 16, 32, 0, 5);
+        assert!(rt; unit.has_room(31) && !unit.has_room(32));
+        unit.submit_ranges(2, 512, 1, 9, 6);
+        assert!(rt; unit.has_room(29) && !unit.has_room(30));
+        unit.submit_drain(7);
+        unit.submit_pasid(3, 8);
+        assert!(rt; unit.has_room(26) && !unit.has_room(27));
+        assert!(rt; !unit.is_wait_done(5));
+    }
+
+    #[test]
+    fn sends_and_passes(rt: HostRuntime) {
+        let mut unit = Unit::new();
+        assert_eq!(rt; unit.next(), Next::Idle);
+        unit.submit_ranges(3, 64, 1, 2, 9);
+        let extent = Extent::Pages(Range::new(64, 2));
+        assert_eq!(rt; extent.scope(), Scope::Code { page: 65, s: true });
+        assert_eq!(rt; Extent::All.scope(), Scope::All);
+        let mut sent = None;
+        if let Next::Send(sending) = unit.next() {
+            sent = Some(sending.message());
+            unit.send(sending);
+        }
+        let scope = Scope::Code { page: 65, s: true };
+        assert_eq!(rt;
+            sent,
+            Some(Kind::Invalidate {
+                itag: 0,
+                pasid: 3,
+                scope
+            })
+        );
+        assert_eq!(rt; unit.next(), Next::Blocked);
+        assert!(rt; unit.has_room(63) && !unit.has_room(64));
+    }
+}

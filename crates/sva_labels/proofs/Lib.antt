@@ -66,5 +66,7 @@ pub mod Device
 pub mod EndpointQuits
 pub mod SaysUnits
 pub mod Assembly
+pub mod LookedFilings
+pub mod SaysServe
 pub mod Ready
 pub mod EndpointFinishes

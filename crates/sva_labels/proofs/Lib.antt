@@ -70,3 +70,4 @@ pub mod LookedFilings
 pub mod SaysServe
 pub mod Ready
 pub mod EndpointFinishes
+pub mod EndpointFaults

@@ -64,5 +64,6 @@ pub mod HostGroups
 pub mod SaysBindings
 pub mod Device
 pub mod SaysUnits
-pub mod Assembly
 pub mod Ready
+pub mod Assembly
+pub mod ByLabels

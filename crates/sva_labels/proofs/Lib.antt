@@ -63,7 +63,11 @@ pub mod HostGroupsFile
 pub mod HostGroups
 pub mod SaysBindings
 pub mod Device
+pub mod EndpointQuits
 pub mod SaysUnits
+pub mod Assembly
+pub mod LookedFilings
+pub mod SaysServe
 pub mod Ready
 pub mod Assembly
 pub mod ByLabels

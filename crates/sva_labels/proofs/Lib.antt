@@ -71,3 +71,4 @@ pub mod SaysServe
 pub mod Ready
 pub mod Assembly
 pub mod ByLabels
+pub mod EndpointFinishes

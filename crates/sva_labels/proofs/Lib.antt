@@ -69,6 +69,5 @@ pub mod Assembly
 pub mod LookedFilings
 pub mod SaysServe
 pub mod Ready
-pub mod Assembly
 pub mod ByLabels
 pub mod EndpointFinishes

@@ -69,5 +69,6 @@ pub mod Assembly
 pub mod LookedFilings
 pub mod SaysServe
 pub mod Ready
+pub mod ByLabels
 pub mod EndpointFinishes
 pub mod EndpointFaults

@@ -118,7 +118,7 @@ arrived_in ms x g n e p r i on ph a = go (p.host_group (p.group_of r)) refl
     go (InHandDiscarded w) h = absurd (cc (sym out ∙ i.groups.discarded_over (p.group_of r) w ph h))
 
 -- what is asked in a group once a request is filed
-asks_filed : (p : Part) (n r h : ℕ) → asks_wire (own p n (Own.File r)) h ≡ asks_wire p h ++ if_passes (p.group_of r == h) (ask_wire p r)
+pub asks_filed : (p : Part) (n r h : ℕ) → asks_wire (own p n (Own.File r)) h ≡ asks_wire p h ++ if_passes (p.group_of r == h) (ask_wire p r)
 asks_filed p n r h =
     asks_seen (own p n (Own.File r)) h
     ∙ picked_next (λ k. ask_wire p (put p.filing p.filings r k)) p.filings (λ k. p.group_of (put p.filing p.filings r k) == h)
@@ -303,9 +303,6 @@ module _ (ms : Mappings) (x g n e first : ℕ) (p : Part) (r : ℕ) (l : LegalOw
           not_first : (a b : Bool) → b ≡ true → (a && not b) ≡ false
           not_first a b s = grind arith
 
-  pub groups_file : OnTheWay p → host_groups_wire first (own p n (Own.File r)) ≡ filed (number first (p.asker (p.group_of r))) (page_request_wire p r) (host_groups_wire first p)
-  groups_file on = go (arrived_in ms x g n e p r i on l.0 l.1)
-    where
-      go : (p.host_group own_group ≡ NotFiled) ⊎ (p.host_group own_group ≡ PartFiled) → host_groups_wire first after ≡ filed bound (page_request_wire p r) (host_groups_wire first p)
-      go (inl h) = first_of h
-      go (inr h) = more_of h (fi.begun own_group (ap is_filed_group h))
+  pub groups_file : (p.host_group (p.group_of r) ≡ NotFiled) ⊎ (p.host_group (p.group_of r) ≡ PartFiled) → host_groups_wire first (own p n (Own.File r)) ≡ filed (number first (p.asker (p.group_of r))) (page_request_wire p r) (host_groups_wire first p)
+  groups_file (inl h) = first_of h
+  groups_file (inr h) = more_of h (fi.begun own_group (ap is_filed_group h))

@@ -67,3 +67,12 @@ pub mod Granted
 pub mod SoundLists
 pub mod SoundNumbers
 pub mod Sounds
+pub mod EndpointQuits
+pub mod SaysUnits
+pub mod Assembly
+pub mod LookedFilings
+pub mod SaysServe
+pub mod Ready
+pub mod ByLabels
+pub mod EndpointFinishes
+pub mod EndpointFaults

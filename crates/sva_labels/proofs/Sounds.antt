@@ -1,19 +1,19 @@
 -- What a host keeps is as the calls of the parts need it.
-use Rattle.std.proofs.Common.{◌≡◌, refl, ap, sym, subst, ◌∙◌, ℕ, ◌+◌, ◌<◌, ◌≤◌, Bool, true, arith}
-use Rattle.std.specs.Prelude.{Some, List, length, slice_get}
+use Rattle.std.proofs.Common.{◌≡◌, ap, sym, subst, ℕ, ◌+◌, ◌<◌, ◌≤◌, arith}
+use Rattle.std.specs.Prelude.{List}
 use Rattle.sva_step.specs.declared.limits.Config.{Config}
 use Rattle.sva_step.specs.declared.steps.Step.{Step}
 use Rattle.sva_model.specs.State.{World}
 use Rattle.sva_model.specs.State.PasidRule.{PerSpace}
 use Rattle.sva_model.specs.Steps.{world_after}
 use Rattle.sva_model.specs.Claims.{Fits}
-use Rattle.sva_model.specs.Wire.{SpaceWire, BindingWire, FlightWire, space_wire, flight_wire, wire}
+use Rattle.sva_model.specs.Wire.{flight_wire, wire}
 use Rattle.sva_laws.proofs.Withheld.{config_kept}
 use Rattle.sva_wire.proofs.Lists.{tabulate_length}
 use Rattle.sva_labels.specs.Sound.{IsSound}
 use Rattle.sva_labels.proofs.Bound.{binding_seen}
 use Rattle.sva_labels.proofs.EndpointViews.{endpoints_seen}
-use Rattle.sva_labels.proofs.SoundLists.{IsSeen, seen_get, seen_rises}
+use Rattle.sva_labels.proofs.SoundLists.{seen_get, seen_rises}
 use Rattle.sva_labels.proofs.SoundNumbers.{HasNumbers, always_numbers}
 
 -- a number is in the order of its name

@@ -72,3 +72,4 @@ pub mod Ready
 pub mod ByLabels
 pub mod EndpointFinishes
 pub mod EndpointFaults
+pub mod Said

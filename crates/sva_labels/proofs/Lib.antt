@@ -63,6 +63,12 @@ pub mod HostGroupsFile
 pub mod HostGroups
 pub mod SaysBindings
 pub mod Device
+pub mod EndpointQuits
 pub mod SaysUnits
 pub mod Assembly
+pub mod LookedFilings
+pub mod SaysServe
 pub mod Ready
+pub mod ByLabels
+pub mod EndpointFinishes
+pub mod EndpointFaults

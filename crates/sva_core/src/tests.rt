@@ -223,7 +223,7 @@ fn tells_the_steps_that_are_built(rt: HostRuntime) {
     assert!(rt; is_built(&unmap(0, 16, 1)));
     assert!(rt; is_built(&Step::Look { frame: 0 }));
     assert!(rt; is_built(&Step::Bearer { pasid: 1 }));
-    assert!(rt; !is_built(&Step::DropSpace { space: 0 }));
+    assert!(rt; !is_built(&Step::Unbind { binding: 0 }));
 }
 
 // Five spaces of twelve pages, for which each list and tree grows at least once.

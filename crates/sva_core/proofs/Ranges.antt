@@ -1,6 +1,6 @@
 -- Ranges: of pages in a row, those that are mapped are taken out one after another.
-use Rattle.std.proofs.Common.{◌≡◌, ◌≢◌, ℕ, suc, ◌+◌, ◌<◌, ◌≤◌, ◌==◌, Bool, true, false, cond, List, Option, Some, None, [], ◌∷◌, ◌++◌, length, set, slice_get, refl, sym, ap, subst, ◌∙◌, arith, add-one, if◌then◌else◌}
-use Rattle.std.specs.Prelude.{not, ◌&&◌, ◌||◌, nat_lt, nat_le, filter, is_some, option_map}
+use Rattle.std.proofs.Common.{◌≡◌, ◌≢◌, ℕ, zero, suc, ◌+◌, ◌*◌, ◌%◌, ◌^◌, ◌<◌, ◌≤◌, ◌==◌, Bool, true, false, cond, List, Option, Some, None, [], ◌∷◌, ◌++◌, length, set, slice_get, refl, sym, ap, subst, ◌∙◌, arith, add-one, if◌then◌else◌}
+use Rattle.std.specs.Prelude.{not, ◌&&◌, ◌||◌, nat_lt, nat_le, filter, is_some, option_map, Ok, Err}
 use Rattle.std.specs.declared.cmp.Ordering.{Ordering}
 use Rattle.std.specs.declared.cmp.Ordering.TheVariants.{Less, Equal, Greater}
 use Rattle.std.specs.Ordering.{nat_cmp, MatchOrdering}
@@ -8,14 +8,18 @@ use Rattle.std.specs.Cmp.{ranked}
 use Rattle.std.specs.BTreeMap.{is_at}
 use Rattle.std.specs.List.Sorted.{IsStrictlySortedBy}
 use Rattle.std.proofs.lemmas.Bool.Decides.{nat_tests}
+use Rattle.std.proofs.Math.Nat.{pow-le-pow_right}
+use Rattle.std.proofs.lemmas.Nat.{one_shl}
+use Rattle.sva_step.specs.declared.answers.Answer.TheVariants as answer
+use Rattle.sva_step.specs.declared.refusals.Refusal.TheVariants as refusal
 use Rattle.sva_space.specs.Pages.{IsRising, mapping_at, without_page}
 use Rattle.sva_space.proofs.Mappings.{AllAbove}
 use Rattle.sva_frames.specs.Frames.{Holding, Free, Mapped}
-use Rattle.sva_model.specs.Words.{count_below}
+use Rattle.sva_model.specs.Words.{any_below, count_below}
 use Rattle.sva_model.specs.Acts.{in_range}
 use Rattle.sva_model.specs.Wire.{PageWire, PlaceWire}
 use Rattle.sva_model.specs.Wire.PlaceWire.{FreeWire}
-use Rattle.sva_wire.specs.Host.{page_at, is_mapped, is_between, without, placed}
+use Rattle.sva_wire.specs.Host.{unless_refused, unmap_range_reply, page_at, is_mapped, is_between, without, placed}
 use Rattle.sva_core.specs.Seen.{page_seen, pages_seen, places_seen}
 use Rattle.sva_core.specs.Owned.{Owns, Balanced}
 use Rattle.sva_core.specs.Pieces.{count_mapped}
@@ -182,3 +186,66 @@ none_more_went old ms ms_after frames_old frames frames_after q j count count_af
     no_more : (es : List PageWire) → es ++ [] ≡ es
     no_more [] = refl
     no_more (e ∷ es) = ap (λ (fs : List PageWire). e ∷ fs) (no_more es)
+
+-- The answer to an unmapping of a range, by its tests.
+
+-- 2^order by a shift
+pub size : (k : ℕ) → k ≤ 9 → 1 * 2 ^ k % 2 ^ 64 ≡ 2 ^ k
+size k h = one_shl k 64 (omega arith)
+
+pub size-most : (k : ℕ) → k ≤ 9 → 1 * 2 ^ k % 2 ^ 64 ≤ 512
+size-most k h =
+    let two : 0 < 2 = omega arith in
+    rw (size k h) (pow-le-pow_right {n = 2} two h)
+
+-- some page is mapped where they aren't none
+some-counted : (n : ℕ) (p : ℕ → Bool) → any_below n p ≡ not (count_below n p == 0)
+unfolding any_below count_below
+some-counted zero p = refl
+some-counted (suc n) p = go (p n) (some-counted n p)
+  where
+    one_at_least : (k : ℕ) → true ≡ not (suc k == 0)
+    one_at_least k = grind (arith, nat_tests)
+
+    go : (b : Bool) → any_below n p ≡ not (count_below n p == 0) → (if b then true else any_below n p) ≡ not ((if b then suc (count_below n p) else count_below n p) == 0)
+    go true rest = one_at_least (count_below n p)
+    go false rest = rest
+
+count_mapped-is : (pages : List PageWire) (q n k : ℕ) → k ≡ count_mapped pages q n → count_below n (λ j. is_mapped pages (q + j)) ≡ k
+unfolding count_mapped
+count_mapped-is pages q n k is = sym is
+
+range_reply-is : (q order : ℕ) (pages : List PageWire) (a b c d : Bool) (k : ℕ) → nat_lt 9 order ≡ a → nat_lt (2 ^ 36) (q + 2 ^ order) ≡ b → (q % 2 ^ order == 0) ≡ c → any_below (2 ^ order) (λ j. is_mapped pages (q + j)) ≡ d → count_below (2 ^ order) (λ j. is_mapped pages (q + j)) ≡ k
+    → unmap_range_reply q order pages ≡ unless_refused ((a, refusal.BadOrder) ∷ (b, refusal.PageRange) ∷ (not c, refusal.NotAligned) ∷ (not d, refusal.NothingMapped) ∷ []) (answer.RangeFree k)
+range_reply-is q order pages a b c d k small past aligned some count = rw (small, past, aligned, some, count) refl
+
+-- the first three tests passed, and so many pages were mapped
+range_reply-by : (q order n k : ℕ) (pages : List PageWire) → order ≤ 9 → n ≡ 2 ^ order → q + n ≤ 2 ^ 36 → q % n ≡ 0 → k ≡ count_mapped pages q n
+    → unmap_range_reply q order pages ≡ unless_refused ((not (not (k == 0)), refusal.NothingMapped) ∷ []) (answer.RangeFree k)
+range_reply-by q order n k pages small is range aligned count =
+    let counted = count_mapped-is pages q (2 ^ order) k (count ∙ ap (count_mapped pages q) is) in
+    range_reply-is q order pages false false true (not (k == 0)) k (not_past order small) (within q n (2 ^ order) is range) (is_zero (q % 2 ^ order) (sym (ap (λ m. q % m) is) ∙ aligned))
+    (some-counted (2 ^ order) (λ j. is_mapped pages (q + j)) ∙ ap (λ m. not (m == 0)) counted) counted
+  where
+    not_past : (k : ℕ) → k ≤ 9 → nat_lt 9 k ≡ false
+    not_past k h = grind (arith, nat_tests)
+
+    within : (q n m : ℕ) → n ≡ m → q + n ≤ 2 ^ 36 → nat_lt (2 ^ 36) (q + m) ≡ false
+    within q n m e h = grind (arith, nat_tests)
+
+    is_zero : (k : ℕ) → k ≡ 0 → (k == 0) ≡ true
+    is_zero k e = grind (arith, nat_tests)
+
+pub nothing_reply : (q order n k : ℕ) (pages : List PageWire) → order ≤ 9 → n ≡ 2 ^ order → q + n ≤ 2 ^ 36 → q % n ≡ 0 → k ≡ count_mapped pages q n → k ≡ 0 → Err refusal.NothingMapped ≡ unmap_range_reply q order pages
+nothing_reply q order n k pages small is range aligned count none =
+    sym (range_reply-by q order n k pages small is range aligned count ∙ ap (λ b. unless_refused ((not (not b), refusal.NothingMapped) ∷ []) (answer.RangeFree k)) (is_zero k none))
+  where
+    is_zero : (k : ℕ) → k ≡ 0 → (k == 0) ≡ true
+    is_zero k e = grind (arith, nat_tests)
+
+pub range_reply : (q order n k : ℕ) (pages : List PageWire) → order ≤ 9 → n ≡ 2 ^ order → q + n ≤ 2 ^ 36 → q % n ≡ 0 → k ≡ count_mapped pages q n → k ≢ 0 → unmap_range_reply q order pages ≡ Ok (answer.RangeFree k)
+range_reply q order n k pages small is range aligned count some =
+    range_reply-by q order n k pages small is range aligned count ∙ ap (λ b. unless_refused ((not (not b), refusal.NothingMapped) ∷ []) (answer.RangeFree k)) (not_zero k some)
+  where
+    not_zero : (k : ℕ) → k ≢ 0 → (k == 0) ≡ false
+    not_zero k n = grind (arith, nat_tests)

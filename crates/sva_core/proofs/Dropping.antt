@@ -1,5 +1,5 @@
 -- A space that is dropped: it leaves the list of live spaces, and its frames are free.
-use Rattle.std.proofs.Common.{◌≡◌, ℕ, zero, suc, ◌+◌, ◌≤◌, ◌==◌, Bool, true, false, List, Some, None, [], ◌∷◌, slice_get, refl, sym, ap, subst, ◌∙◌, arith, if◌then◌else◌}
+use Rattle.std.proofs.Common.{◌≡◌, ℕ, zero, suc, ◌+◌, ◌≤◌, ◌==◌, Bool, true, false, List, Some, [], ◌∷◌, slice_get, refl, sym, ap, ◌∙◌, arith, if◌then◌else◌}
 use Rattle.std.specs.Prelude.{not, nat_lt}
 use Rattle.std.specs.List.{remove}
 use Rattle.std.proofs.lemmas.Bool.Decides.{nat_tests}
@@ -10,7 +10,7 @@ use Rattle.sva_model.specs.Wire.PlaceWire.{FreeWire}
 use Rattle.sva_wire.specs.Host.{without_space, freed, placed}
 use Rattle.sva_core.specs.declared.live.Live.{Live}
 use Rattle.sva_core.specs.Seen.{pages_seen, frames_in}
-use Rattle.sva_core.specs.Lives.{is_of, space_seen, spaces_seen, count_of, count_all, AreNumbered}
+use Rattle.sva_core.specs.Lives.{space_seen, spaces_seen, count_of, count_all, AreNumbered}
 use Rattle.sva_core.specs.Owned.{mapped_bit, Spent}
 use Rattle.sva_core.proofs.LiveLists.{counted, same_live}
 

@@ -1,6 +1,6 @@
 -- Ranges: of pages in a row, those that are mapped are taken out one after another.
-use Rattle.std.proofs.Common.{◌≡◌, ◌≢◌, ℕ, zero, suc, ◌+◌, ◌*◌, ◌%◌, ◌^◌, ◌<◌, ◌≤◌, ◌==◌, Bool, true, false, cond, List, Option, Some, None, [], ◌∷◌, ◌++◌, length, set, slice_get, refl, sym, ap, subst, ◌∙◌, arith, add-one, if◌then◌else◌}
-use Rattle.std.specs.Prelude.{not, ◌&&◌, ◌||◌, nat_lt, nat_le, filter, is_some, option_map, Ok, Err}
+use Rattle.std.proofs.Common.{◌≡◌, ◌≢◌, ℕ, zero, suc, ◌+◌, ◌*◌, ◌%◌, ◌^◌, ◌<◌, ◌≤◌, ◌==◌, Bool, true, false, cond, List, Option, Some, None, [], ◌∷◌, ◌++◌, set, slice_get, refl, sym, ap, subst, ◌∙◌, arith, add-one, if◌then◌else◌}
+use Rattle.std.specs.Prelude.{not, ◌||◌, nat_lt, filter, is_some, option_map, Ok, Err}
 use Rattle.std.specs.declared.cmp.Ordering.{Ordering}
 use Rattle.std.specs.declared.cmp.Ordering.TheVariants.{Less, Equal, Greater}
 use Rattle.std.specs.Ordering.{nat_cmp, MatchOrdering}
@@ -23,7 +23,7 @@ use Rattle.sva_wire.specs.Host.{unless_refused, unmap_range_reply, page_at, is_m
 use Rattle.sva_core.specs.Seen.{page_seen, pages_seen, places_seen}
 use Rattle.sva_core.specs.Owned.{Owns, Balanced}
 use Rattle.sva_core.specs.Pieces.{count_mapped}
-use Rattle.sva_core.proofs.PageLists.{page_at-seen, is_mapped-seen, without-none, without-more, page_at-without, pages_seen-remove}
+use Rattle.sva_core.proofs.PageLists.{page_at-seen, without-none, without-more, page_at-without, pages_seen-remove}
 use Rattle.sva_core.proofs.FrameLists.{places_seen-set}
 use Rattle.sva_core.proofs.Counting.{balanced-none, balanced-on, balanced-is, balanced-unmap, owns-on, owned-mapped}
 

@@ -14,7 +14,7 @@ give-requires c =
 pub loop-number-preserved : goal.loop-number-preserved
 loop-number-preserved c =
     elim c.match-unmap.branch [
-      in-Some w ↦
+      | in-Some w ↦
           one_more_went c.args.space.now c.loop-number.space c.unmap.new.self c.args.pool.now c.loop-number.pool c.match-unmap.pool c.args.page c.loop-number.number w.in-Some.freed c.loop-number.frames c.match-unmap.frames w.in-Some._write
           c.requires.rising c.requires.owned c.loop-number.invariant (sym w.in-Some.ensures.value) c.unmap.ensures.after c.unmap.ensures.rising (w.pool-is ∙ w.give.ensures) w.frames-is
       | in_default w ↦

@@ -1,9 +1,9 @@
 -- What a move leaves of one endpoint with its unit, keeper by keeper: the device, the unit, its page request queue and the
 -- groups that are open. It is what `moved` leaves at the endpoint of the move.
-use Rattle.std.specs.Prelude.{ℕ, suc, Bool, true, false, ◌&&◌, ◌||◌, not, ◌==◌, Option, Some, None, List, [], ◌∷◌, ◌++◌, map, filter, drop, slice_set, slice_index_or}
+use Rattle.std.specs.Prelude.{ℕ, suc, true, false, ◌||◌, not, Some, None, List, [], ◌∷◌, ◌++◌, map, filter, drop, slice_set}
 use Rattle.sva_model.specs.State.PasidState.{Off, On, Ending}
 use Rattle.sva_model.specs.Acts.{disables, sent_as}
-use Rattle.sva_model.specs.Wire.{PartWire, DeviceWire, UnitWire, BusyWire, Descriptor, PageRequestWire, HostGroupWire}
+use Rattle.sva_model.specs.Wire.{PartWire, DeviceWire, UnitWire, PageRequestWire, HostGroupWire}
 use Rattle.sva_model.specs.Wire.UseWire.{RunningWire}
 use Rattle.sva_model.specs.Wire.BusyWire.{Fresh}
 use Rattle.sva_model.specs.Wire.Descriptor.{PasidDescriptor, WaitDescriptor}

@@ -1,8 +1,8 @@
 -- The move that an act is, by the numbers and labels that its names bear where it is done.
-use Rattle.std.specs.Prelude.{ℕ, Option, Some, None, List, [], ◌∷◌}
+use Rattle.std.specs.Prelude.{ℕ, List, [], ◌∷◌}
 use Rattle.sva_model.specs.Message.{Message}
 use Rattle.sva_model.specs.Message.Message.{InvalidatedMessage}
-use Rattle.sva_model.specs.State.{Mappings, Order, Part, World}
+use Rattle.sva_model.specs.State.{Mappings, Part, World}
 use Rattle.sva_model.specs.Acts.{Act, Own, act, binding_of, extent_of}
 use Rattle.sva_model.specs.Wire.{number, cookie_number, translation_wire, page_request_wire, group_job, job_wire}
 use Rattle.sva_labels.specs.Moves.{Move}

@@ -134,7 +134,7 @@ pub data Kind (acts : List Act) : Type 0 where
   unmapping : (s q count order : ℕ) → acts ≡ Unmap s q count order ∷ [] → Kind acts
   dropping : (s : ℕ) → acts ≡ DropSpace s ∷ [] → Kind acts
 
-unbind_adds : (e b : ℕ) (s : Stage) → AreAdding (unbind_outcome e b s).acts
+pub unbind_adds : (e b : ℕ) (s : Stage) → AreAdding (unbind_outcome e b s).acts
 unbind_adds e b Lost = (tt, tt)
 unbind_adds e b Unbound = (tt, tt)
 unbind_adds e b Live = (tt, tt)
@@ -144,7 +144,7 @@ unbind_adds e b (Invalidating k x) = (tt, tt)
 unbind_adds e b Quiet = (tt, tt)
 unbind_adds e b Released = (tt, tt)
 
-advance_adds : (w : World) (e b : ℕ) (s : Stage) → AreAdding (advance_outcome w e b s).acts
+pub advance_adds : (w : World) (e b : ℕ) (s : Stage) → AreAdding (advance_outcome w e b s).acts
 advance_adds w e b Lost = (tt, tt)
 advance_adds w e b Unbound = (tt, tt)
 advance_adds w e b Live = (tt, tt)
@@ -167,7 +167,7 @@ head_adds p e k (Wait cookie drain) = wait_adds e k (may_pass p drain)
 head_adds p e k (RangeOf b q) = send_adds e k (Labels.lowest_label 32 p.at_itag) _
 head_adds p e k (PasidOf b) = send_adds e k (Labels.lowest_label 32 p.at_itag) _
 
-pump_adds : (p : Part) (e : ℕ) (b : Bool) → AreAdding (pump_outcome p e b).acts
+pub pump_adds : (p : Part) (e : ℕ) (b : Bool) → AreAdding (pump_outcome p e b).acts
 pump_adds p e true = tt
 pump_adds p e false = head_adds p e (Labels.head p) (p.order (Labels.head p))
 
@@ -175,7 +175,7 @@ file_adds : (e r g : ℕ) (b : Bool) → AreAdding (file_outcome e r g b).acts
 file_adds e r g true = (tt, (tt, tt))
 file_adds e r g false = (tt, tt)
 
-serve_adds : (p : Part) (e : ℕ) (b : Bool) → AreAdding (serve_outcome p e b).acts
+pub serve_adds : (p : Part) (e : ℕ) (b : Bool) → AreAdding (serve_outcome p e b).acts
 serve_adds p e true = tt
 serve_adds p e false = file_adds e (Labels.oldest_arrived p) (p.group_of (Labels.oldest_arrived p)) (p.is_last (Labels.oldest_arrived p))
 
@@ -184,7 +184,7 @@ maps_add s write [] fs rest r = r
 maps_add s write (q ∷ qs) [] rest r = r
 maps_add s write (q ∷ qs) (f ∷ fs) rest r = (tt, maps_add s write qs fs rest r)
 
-reply_adds : (w : World) (x j : ℕ) (v : Verdict) (o : Option Code) → AreAdding (reply_outcome w x j (reply_maps w j v) o).acts
+pub reply_adds : (w : World) (x j : ℕ) (v : Verdict) (o : Option Code) → AreAdding (reply_outcome w x j (reply_maps w j v) o).acts
 reply_adds w x j v None = (tt, (tt, tt))
 reply_adds w x j v (Some code) = go (replies_success w j v)
   where
@@ -192,7 +192,7 @@ reply_adds w x j v (Some code) = go (replies_success w j v)
     go true = maps_add (job_space w j) (is_write_asked w j) (newly_mapped w j) (free_list w) (LetGo x ∷ At (w.job j).endpoint (Own.Respond (w.job j).group code) ∷ []) (tt, (tt, tt))
     go false = (tt, (tt, tt))
 
-fault_adds : (p : Part) (e t q : ℕ) (r x l : Bool) (o : Option ℕ) → AreAdding (fault_outcome p e t q r x l o).acts
+pub fault_adds : (p : Part) (e t q : ℕ) (r x l : Bool) (o : Option ℕ) → AreAdding (fault_outcome p e t q r x l o).acts
 fault_adds p e t q r x l None = (tt, tt)
 fault_adds p e t q r x l (Some k) = (tt, tt)
 
@@ -237,7 +237,7 @@ about_adds w p e c (PageRequestOf r) = page_request_adds e c r (is_open p.phase)
 about_adds w p e c (MarkerOf b) = marker_adds e c b (is_open p.phase)
 about_adds w p e c ResetDone = (tt, tt)
 
-deliver_adds : (w : World) (p : Part) (e c : ℕ) (o : Option About) → AreAdding (deliver_outcome w p e c o).acts
+pub deliver_adds : (w : World) (p : Part) (e c : ℕ) (o : Option About) → AreAdding (deliver_outcome w p e c o).acts
 deliver_adds w p e c None = tt
 deliver_adds w p e c (Some a) = about_adds w p e c a
 

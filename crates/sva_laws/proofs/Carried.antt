@@ -152,7 +152,7 @@ mapped_completion p c r m made f x frame write lt old h = grind (arith, nat_test
 abbrev pub AllCarried : World → Type 0
 AllCarried w = (e : ℕ) → IsCarried w.mappings (w.part e)
 
-act_carried : (w : World) (a : Act) → Legal w a → Invariant w → AllOwed w → AllCarried w → AllCarried (act w a)
+pub act_carried : (w : World) (a : Act) → Legal w a → Invariant w → AllOwed w → AllCarried w → AllCarried (act w a)
 act_carried w NewSpace l i ow h = h
 act_carried w (DropSpace s) l i ow h = λ e. with_mappings w.mappings (act w (DropSpace s)).mappings (w.part e) (h e).completion (h e)
 act_carried w (Map s q f x) l i ow h =

@@ -122,7 +122,7 @@ others part e p g s i d f ne = go (ℕ_cases d e) ne
         ∙ sym (ap (λ z. (part z).host_group f) a)
 
 -- Serve. What has arrived is of a group that isn't whole at the host, and that no reset has dropped.
-not_past : (w : World) (e r : ℕ) → Invariant w → OnTheWay (w.part e) → (w.part e).phase ≡ Open → (w.part e).page_request r ≡ Arrived → is_past ((w.part e).host_group ((w.part e).group_of r)) ≡ false
+pub not_past : (w : World) (e r : ℕ) → Invariant w → OnTheWay (w.part e) → (w.part e).phase ≡ Open → (w.part e).page_request r ≡ Arrived → is_past ((w.part e).host_group ((w.part e).group_of r)) ≡ false
 not_past w e r i on ph a = go (p.host_group (p.group_of r)) refl
   where
     p : Part

@@ -255,7 +255,7 @@ pages_mapped w s q f x t =
 
 -- Pages less.
 
-gone_test : (g : Bool) (owed : ℕ → Owed) (s : MappingState) → is_present (gone_if g owed s) ≡ (is_present s && not g)
+pub gone_test : (g : Bool) (owed : ℕ → Owed) (s : MappingState) → is_present (gone_if g owed s) ≡ (is_present s && not g)
 gone_test true owed Unmade = refl
 gone_test true owed Present = refl
 gone_test true owed (Gone o) = refl
@@ -263,10 +263,10 @@ gone_test false owed Unmade = refl
 gone_test false owed Present = refl
 gone_test false owed (Gone o) = refl
 
-those_kept : (a b r : Bool) → ((a && not (b && r)) && b) ≡ ((a && b) && not r)
+pub those_kept : (a b r : Bool) → ((a && not (b && r)) && b) ≡ ((a && b) && not r)
 those_kept a b r = grind arith
 
-others_kept : (a b c r : Bool) → (b ≡ true → c ≡ true → ⊥) → ((a && not (b && r)) && c) ≡ (a && c)
+pub others_kept : (a b c r : Bool) → (b ≡ true → c ≡ true → ⊥) → ((a && not (b && r)) && c) ≡ (a && c)
 others_kept true true true r n = absurd (n refl refl)
 others_kept true true false true n = refl
 others_kept true true false false n = refl

@@ -1,0 +1,8 @@
+//! One remapping unit of the host: its invalidation queue with the ITags, and its page request queue, as the definitions by
+//! labels see them.
+#![tactic(auto)]
+
+mod orders;
+mod units;
+
+pub use units::Unit;

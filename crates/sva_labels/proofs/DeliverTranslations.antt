@@ -1,14 +1,14 @@
 -- The deliveries of a translation request and of its completion by labels are those by names.
-use Rattle.std.proofs.Common.{◌≡◌, ◌≢◌, ◌⊎◌, inl, inr, refl, ap, ap₂, sym, subst, ◌∙◌, ℕ, zero, suc, ◌+◌, ◌<◌, ◌≤◌, Bool, true, false, arith}
+use Rattle.std.proofs.Common.{◌≡◌, ◌≢◌, refl, ap, ap₂, sym, ◌∙◌, ℕ, ◌+◌, ◌<◌, Bool, true, false, arith}
 use Rattle.std.specs.Prelude.{Option, Some, None, option_map, ◌&&◌, not, ◌==◌, nat_le, if◌then◌else◌, List, [], ◌∷◌, map}
 use Rattle.std.specs.List.{count_by}
 use Rattle.std.proofs.lemmas.Bool.Decides.{nat_tests}
 use Rattle.std.proofs.lemmas.List.Sums.{sum_by-append}
 use Rattle.sva_step.specs.declared.answers.Answer.TheVariants as answer
-use Rattle.sva_model.specs.Words.{count_below, select, is_some, the}
+use Rattle.sva_model.specs.Words.{select, is_some, the}
 use Rattle.sva_model.specs.Message.{Message}
 use Rattle.sva_model.specs.Message.Message.{CompletionMessage}
-use Rattle.sva_model.specs.State.{About, Mappings, Part, World, Stage, RequestState, Phase}
+use Rattle.sva_model.specs.State.{Part, World, Stage, RequestState, Phase}
 use Rattle.sva_model.specs.State.Stage.{Unbound, Live, Stopping, Draining, Invalidating, Quiet, Lost, Released}
 use Rattle.sva_model.specs.State.RequestState.{Out, Doomed, Over}
 use Rattle.sva_model.specs.State.Phase.{Open, Ordered, Cleared}
@@ -16,15 +16,15 @@ use Rattle.sva_model.specs.State.About.{RequestOf, CompletionOf}
 use Rattle.sva_model.specs.States.{is_open, is_unreleased, is_live_stage, is_out}
 use Rattle.sva_model.specs.Acts.{is_replaced}
 use Rattle.sva_model.specs.Outcomes as names
-use Rattle.sva_model.specs.Wire.{PageWire, RequestWire, TranslationWire, DeviceWire, number, insert_by, sorted_by, is_before, is_doomed, stage_wire, binding_wire, page_wire, request_wire, cached_wire, device_wire, wire}
+use Rattle.sva_model.specs.Wire.{DeviceWire, number, insert_by, sorted_by, is_before, is_doomed, stage_wire, page_wire, request_wire, cached_wire, device_wire, wire}
 use Rattle.sva_laws.proofs.Words.{some_the}
 use Rattle.sva_laws.proofs.Counting.{count_same}
-use Rattle.sva_laws.proofs.Invariant.{Invariant, PartInvariant}
+use Rattle.sva_laws.proofs.Invariant.{Invariant}
 use Rattle.sva_laws.proofs.Found.{found}
 use Rattle.sva_laws.proofs.Unmap.{active_unreleased, open_is}
-use Rattle.sva_labels.specs.Finding.{is_live, bearer, pages_in, page_at, unit_of, device_of, tag_at}
+use Rattle.sva_labels.specs.Finding.{is_live, bearer, pages_in, page_at, device_of, tag_at}
 use Rattle.sva_labels.specs.Moves.{Move}
-use Rattle.sva_labels.specs.Outcomes.{Result, by_one, found_for, completion_of, request_result, completion_result, completion_by, keep_result, is_other, is_full}
+use Rattle.sva_labels.specs.Outcomes.{by_one, found_for, completion_of, request_result, completion_result, completion_by, keep_result, is_other, is_full}
 use Rattle.sva_labels.proofs.LookedLists.{count_seen}
 use Rattle.sva_labels.proofs.LookedSpaces.{pages_of_name, page_found}
 use Rattle.sva_labels.proofs.EndpointViews.{device_seen}

@@ -303,9 +303,6 @@ module _ (ms : Mappings) (x g n e first : ℕ) (p : Part) (r : ℕ) (l : LegalOw
           not_first : (a b : Bool) → b ≡ true → (a && not b) ≡ false
           not_first a b s = grind arith
 
-  pub groups_file : OnTheWay p → host_groups_wire first (own p n (Own.File r)) ≡ filed (number first (p.asker (p.group_of r))) (page_request_wire p r) (host_groups_wire first p)
-  groups_file on = go (arrived_in ms x g n e p r i on l.0 l.1)
-    where
-      go : (p.host_group own_group ≡ NotFiled) ⊎ (p.host_group own_group ≡ PartFiled) → host_groups_wire first after ≡ filed bound (page_request_wire p r) (host_groups_wire first p)
-      go (inl h) = first_of h
-      go (inr h) = more_of h (fi.begun own_group (ap is_filed_group h))
+  pub groups_file : (p.host_group (p.group_of r) ≡ NotFiled) ⊎ (p.host_group (p.group_of r) ≡ PartFiled) → host_groups_wire first (own p n (Own.File r)) ≡ filed (number first (p.asker (p.group_of r))) (page_request_wire p r) (host_groups_wire first p)
+  groups_file (inl h) = first_of h
+  groups_file (inr h) = more_of h (fi.begun own_group (ap is_filed_group h))

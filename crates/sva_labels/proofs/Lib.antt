@@ -63,3 +63,7 @@ pub mod HostGroupsFile
 pub mod HostGroups
 pub mod SaysBindings
 pub mod Device
+pub mod EndpointQuits
+pub mod SaysUnits
+pub mod Assembly
+pub mod Ready

@@ -40,7 +40,7 @@ pub record HasTables (w : World) : Type 0 where
 abbrev pub move_of : World → (e : ℕ) → Own → Wire
 move_of w e o = moved (wire w) (own_move w.config.first e w.mappings (w.part e) o)
 
-files_open : (w : World) (e : ℕ) (o : Own) → InTurn w e o → FilesOpen (w.part e) o
+pub files_open : (w : World) (e : ℕ) (o : Own) → InTurn w e o → FilesOpen (w.part e) o
 files_open w e (Own.File r) t = t
 files_open w e _ t = tt
 

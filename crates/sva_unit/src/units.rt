@@ -4,11 +4,34 @@ ghost use Rattle.sva_queue.specs.Cookies.{AreRising, HasNumber, number_after};
 ghost use Rattle.sva_model.specs.Wire.Descriptor.{PasidDescriptor, WaitDescriptor};
 ghost use Rattle.sva_labels.specs.Finding.{has_room, is_wait_done};
 ghost use Rattle.sva_labels.specs.Moves.{descriptors_for, with_descriptors};
+ghost use Rattle.sva_unit.specs.declared.pumping.Next.TheVariants as Next;
+ghost use Rattle.sva_unit.specs.Pumping.{is_invalidation, sending_of};
 
 use crate::orders::orders_for;
+use crate::pumping::{Extent, Next, Sending};
 use std::marker::Model;
 use sva_prq::PageQueue;
-use sva_queue::Descriptor;
+use sva_queue::{Descriptor, Pumped};
+
+/// This invalidation under this ITag.
+fn sending_of(itag: u8, order: Descriptor) -> Sending
+    requires { is_invalidation order ≡ true }
+    ensures { result ≡ sending_of itag order }
+{
+    match order {
+        Descriptor::Range { pasid, range } => Sending {
+            itag,
+            pasid,
+            extent: Extent::Pages(range),
+        },
+        Descriptor::Pasid { pasid } => Sending {
+            itag,
+            pasid,
+            extent: Extent::All,
+        },
+        Descriptor::Wait { .. } => unreachable!(),
+    }
+}
 
 /// One remapping unit of the host: its invalidation queue, the ITags of the Invalidate Requests that it sent, and its page
 /// request queue (Intel VT-d, "Queued Invalidation Interface" and "Page Request Queue"). It is seen as the definitions by
@@ -39,6 +62,7 @@ impl Default for Unit {
 
 impl Unit {
     ghost use Rattle.sva_unit.specs.Seen.{descriptor_seen, idle, with_unit};
+    ghost use Rattle.sva_unit.specs.Pumping.{next_of, IsPump, unit_sent, unit_passed};
 
     /// An open unit that nothing was asked of: its queues are empty, and all its ITags are free.
     pub fn new() -> Self
@@ -137,11 +161,48 @@ impl Unit {
             },
         ]);
     }
+
+    /// What becomes of the head of the invalidation queue; nothing changes. An invalidation goes to the endpoint under the
+    /// lowest ITag that is free, and stays where none is. A wait is done where no ITag is busy and, with its drain flag, no page
+    /// request waits; else it stays.
+    pub fn next(&self) -> Next
+        ensures next { result ≡ next_of self.now }
+        ensures pump { IsPump self.now result }
+    {
+        match self.queue.next(self.requests.is_empty()) {
+            Pumped::Idle => Next::Idle,
+            Pumped::Blocked => Next::Blocked,
+            Pumped::Done(cookie) => Next::Pass(cookie),
+            Pumped::Issued(itag) => {
+                let Some(order) = self.queue.head() else {
+                    unreachable!()
+                };
+                Next::Send(sending_of(itag, order))
+            }
+        }
+    }
+
+    /// The invalidation at the head, which `next` gave, goes to the endpoint: it is taken off, and its ITag is busy.
+    pub fn send(&mut self, sending: Sending)
+        requires { next_of self.old ≡ Next.Send sending }
+        ensures { self.new ≡ with_unit self.old (unit_sent self.old.unit sending.itag) }
+    {
+        let _sent = self.queue.pump(self.requests.is_empty());
+    }
+
+    /// The wait at the head is done, with the cookie that `next` gave: it is taken off, and the front is behind it.
+    pub fn pass(&mut self, cookie: u64)
+        requires { next_of self.old ≡ Next.Pass cookie }
+        ensures { self.new ≡ with_unit self.old (unit_passed self.old.unit cookie) }
+    {
+        let _passed = self.queue.pump(self.requests.is_empty());
+    }
 }
 
 #[cfg(test)]
 mod tests {
     use super::*;
+    use sva_msg::{Kind, Range, Scope};
 
     #[test]
     fn has_room_for_64_descriptors(rt: HostRuntime) {
@@ -156,5 +217,31 @@ mod tests {
         unit.submit_pasid(3, 8);
         assert!(rt; unit.has_room(26) && !unit.has_room(27));
         assert!(rt; !unit.is_wait_done(5));
+    }
+
+    #[test]
+    fn sends_and_passes(rt: HostRuntime) {
+        let mut unit = Unit::new();
+        assert_eq!(rt; unit.next(), Next::Idle);
+        unit.submit_ranges(3, 64, 1, 2, 9);
+        let extent = Extent::Pages(Range::new(64, 2));
+        assert_eq!(rt; extent.scope(), Scope::Code { page: 65, s: true });
+        assert_eq!(rt; Extent::All.scope(), Scope::All);
+        let mut sent = None;
+        if let Next::Send(sending) = unit.next() {
+            sent = Some(sending.message());
+            unit.send(sending);
+        }
+        let scope = Scope::Code { page: 65, s: true };
+        assert_eq!(rt;
+            sent,
+            Some(Kind::Invalidate {
+                itag: 0,
+                pasid: 3,
+                scope
+            })
+        );
+        assert_eq!(rt; unit.next(), Next::Blocked);
+        assert!(rt; unit.has_room(63) && !unit.has_room(64));
     }
 }

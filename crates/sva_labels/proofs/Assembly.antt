@@ -1,0 +1,204 @@
+-- Acts one after another, as the whole host is seen, are the moves that they are, one after another; and so a step by labels is the
+-- step by names, where its causes refuse alike and its result is the outcome's.
+use Rattle.std.proofs.Common.{◌≡◌, ◌≢◌, ◌⊎◌, inl, inr, refl, ap, sym, ◌∙◌, ℕ, suc, ◌<◌, ◌≤◌, Bool, true, false, arith}
+use Rattle.std.specs.Prelude.{Option, Some, None, if◌then◌else◌, List, [], ◌∷◌, Err}
+use Rattle.std.proofs.lemmas.Bool.Decides.{nat_tests}
+use Rattle.sva_step.specs.declared.steps.Step.{Step}
+use Rattle.sva_model.specs.Words.{put}
+use Rattle.sva_model.specs.State.{Part, JobName, World}
+use Rattle.sva_model.specs.State.HostGroupState.{Job}
+use Rattle.sva_model.specs.Acts.{Act, Own, own, act, submitted_if, submits, bound, cookie_of}
+use Rattle.sva_model.specs.Acts.Act.{NewSpace, DropSpace, Map, Unmap, NewBinding, NewJob, Hold, LetGo, At}
+use Rattle.sva_model.specs.Refusals.{Cause, refusals}
+use Rattle.sva_model.specs.Outcomes.{Outcome, outcome}
+use Rattle.sva_model.specs.Steps.{checked, decide, reply, next, after_acts}
+use Rattle.sva_model.specs.Wire.{device_wire, host_groups_wire, wire}
+use Rattle.sva_laws.proofs.Words.{put-same, put-other, ℕ_cases}
+use Rattle.sva_laws.proofs.Jobs.{is_past}
+use Rattle.sva_laws.proofs.Fronts.{AllFronts, act_fronts}
+use Rattle.sva_laws.proofs.Debts.{AllDebts, act_debts}
+use Rattle.sva_laws.proofs.Completions.{AllOwed, act_owed}
+use Rattle.sva_laws.proofs.Carried.{AllCarried, act_carried}
+use Rattle.sva_laws.proofs.Invariant.{Invariant}
+use Rattle.sva_laws.proofs.Keeps.{Legal, SuitsWorld, act_keeps, put_keeps}
+use Rattle.sva_laws.proofs.Cookies.{HasCookie}
+use Rattle.sva_laws.proofs.Passed.{Passed, LegalAll}
+use Rattle.sva_labels.specs.Moves.{moved, all_moved}
+use Rattle.sva_labels.specs.Host.{reply_of, next_of}
+use Rattle.sva_labels.proofs.Named.{own_move, act_move, act_moves}
+use Rattle.sva_labels.proofs.Kept.{device_moved, host_groups_moved}
+use Rattle.sva_labels.proofs.Alike.{SaysAlike, reply_alike, moves_alike}
+use Rattle.sva_labels.proofs.SentTo.{AreSentTo, act_sent}
+use Rattle.sva_labels.proofs.HostGroupsFiled.{AllFilings, filed_made, act_filings}
+use Rattle.sva_labels.proofs.SpaceActs.{new_space, map_page, drop_space}
+use Rattle.sva_labels.proofs.Unmapping.{unmap_pages}
+use Rattle.sva_labels.proofs.PlacesKept.{places_kept}
+use Rattle.sva_labels.proofs.Settling.{places_passed, places_reopened}
+use Rattle.sva_labels.proofs.UnitActs.{SendsFirst, unit_acts}
+use Rattle.sva_labels.proofs.PageQueue.{page_queue_acts}
+use Rattle.sva_labels.proofs.Flights.{part_after}
+use Rattle.sva_labels.proofs.Frame.{places_left}
+use Rattle.sva_labels.proofs.JobActs.{FilesOpen, JobsPast}
+use Rattle.sva_labels.proofs.Squares.{InTurn, HasTables, PartMoves, PlacesMove, files_open, square}
+use Rattle.sva_labels.proofs.WorldActs.{binding_named, job_named, job_held, job_let_go}
+
+-- What holds of a world between the acts of a step.
+pub record Stands (w : World) : Type 0 where
+  pub invariant : Invariant w
+  pub fronts : AllFronts w
+  pub debts : AllDebts w
+  pub owed : AllOwed w
+  pub carried : AllCarried w
+  pub sent : AreSentTo w
+  pub filings : AllFilings w
+  pub past : JobsPast w
+  pub few : w.config.endpoints ≤ 8
+
+-- What an act has beside what is legal: its turn.
+abbrev pub IsReady : World → Act → Type 0
+IsReady w (NewJob e g) = (w.part e).host_group g ≡ Job
+IsReady w (At e o) = InTurn w e o × SendsFirst (w.part e) o
+IsReady w _ = Unit {0}
+
+abbrev pub AreReady : World → List Act → Type 0
+AreReady w [] = Unit {0}
+AreReady w (a ∷ acts) = IsReady w a × AreReady (act w a) acts
+
+-- It stays so through each act.
+
+past_kept : (p : Part) (n : ℕ) (o : Own) (g : ℕ) → FilesOpen p o → is_past (p.host_group g) ≡ true → is_past ((own p n o).host_group g) ≡ true
+past_kept p n o g f h = grind (arith, nat_tests)
+
+submitted_past : (t : Bool) (p : Part) (o : Option ℕ) (q count order cookie g : ℕ) → is_past (p.host_group g) ≡ true → is_past ((submitted_if t p o q count order cookie).host_group g) ≡ true
+submitted_past true p (Some b) q count order cookie g h = h
+submitted_past true p None q count order cookie g h = h
+submitted_past false p o q count order cookie g h = h
+
+act_past : (w : World) (a : Act) → IsReady w a → JobsPast w → JobsPast (act w a)
+act_past w NewSpace r h = h
+act_past w (DropSpace s) r h = h
+act_past w (Map s q f x) r h = h
+act_past w (Unmap s q count order) r h =
+    λ j l.
+    submitted_past (submits w s (w.job j).endpoint) (w.part (w.job j).endpoint) (bound w (w.job j).endpoint s) q count order (cookie_of w s (w.job j).endpoint) (w.job j).group (h j l)
+act_past w (NewBinding e) r h = h
+act_past w (NewJob e g) r h = λ j l. go j l (ℕ_cases j w.jobs)
+  where
+    new : JobName
+    new = record { endpoint = e; group = g }
+
+    go : (j : ℕ) → j < suc w.jobs → (j ≡ w.jobs) ⊎ (j ≢ w.jobs) → is_past ((w.part (put w.job w.jobs new j).endpoint).host_group (put w.job w.jobs new j).group) ≡ true
+    go j l (inl k) = ap (λ x. is_past ((w.part x.endpoint).host_group x.group)) (ap (put w.job w.jobs new) k ∙ put-same w.job w.jobs new) ∙ ap is_past r
+    go j l (inr ne) = ap (λ x. is_past ((w.part x.endpoint).host_group x.group)) (put-other w.job w.jobs new j ne) ∙ h j (omega arith)
+act_past w (Hold x j) r h = h
+act_past w (LetGo x) r h = h
+act_past w (At e o) r h =
+    λ j l.
+    put_keeps (λ x p. is_past ((w.part x).host_group (w.job j).group) ≡ true → is_past (p.host_group (w.job j).group) ≡ true) w.part e (own (w.part e) w.messages o)
+    (past_kept (w.part e) w.messages o (w.job j).group (files_open w e o r.0))
+    (λ x k. k)
+    (w.job j).endpoint (h j l)
+
+act_few : (w : World) (a : Act) → w.config.endpoints ≤ 8 → (act w a).config.endpoints ≤ 8
+act_few w NewSpace h = h
+act_few w (DropSpace s) h = h
+act_few w (Map s q f x) h = h
+act_few w (Unmap s q count order) h = h
+act_few w (NewBinding e) h = h
+act_few w (NewJob e g) h = h
+act_few w (Hold x j) h = h
+act_few w (LetGo x) h = h
+act_few w (At e o) h = h
+
+pub act_stands : (w : World) (a : Act) → Legal w a → IsReady w a → Stands w → Stands (act w a)
+act_stands w a l r s =
+    record {
+      invariant = act_keeps w a l s.invariant;
+      fronts = act_fronts w a l s.invariant s.fronts;
+      debts = act_debts w a l s.invariant s.fronts s.debts;
+      owed = act_owed w a l s.invariant s.owed;
+      carried = act_carried w a l s.invariant s.owed s.carried;
+      sent = act_sent w a l s.invariant s.sent;
+      filings = act_filings w a l s.invariant s.filings;
+      past = act_past w a r s.past;
+      few = act_few w a s.few;
+    }
+
+-- The endpoint's part, keeper by keeper.
+
+abbrev pub DeviceMoves : World → (e : ℕ) → Own → Type 0
+DeviceMoves w e o = device_wire w.mappings (part_after w e o) ≡ device_moved (device_wire w.mappings (w.part e)) (own_move w.config.first e w.mappings (w.part e) o)
+
+abbrev pub GroupsMove : World → (e : ℕ) → Own → Type 0
+GroupsMove w e o = host_groups_wire w.config.first (part_after w e o) ≡ host_groups_moved (host_groups_wire w.config.first (w.part e)) (own_move w.config.first e w.mappings (w.part e) o)
+
+has_cookie : (w : World) (e : ℕ) (o : Own) → SuitsWorld w e o → HasCookie w.cookies o
+has_cookie w e (Own.Drain b cookie) s = s
+has_cookie w e (Own.Invalidate b cookie) s = s
+has_cookie w e _ s = tt
+
+pub part_moves : (w : World) (e : ℕ) (o : Own) → Stands w → Legal w (At e o) → SendsFirst (w.part e) o → DeviceMoves w e o → GroupsMove w e o → PartMoves w e o
+part_moves w e o s l f device groups =
+    let unit = unit_acts w.mappings w.config.endpoints w.bindings w.messages e w.config.first w.cookies (w.part e) o l.1.0 (has_cookie w e o l.1.1) f (s.invariant.parts e) (s.owed e) (s.carried e) in
+    let queue = page_queue_acts w.mappings w.config.endpoints w.bindings w.messages e w.config.first (w.part e) o l.1.0 (s.invariant.parts e) in
+    λ k. record { device = device k; unit = unit k; page_queue = queue k; host_groups = groups k }
+
+-- Places.
+
+places_move : (w : World) (e : ℕ) (o : Own) → Stands w → Legal w (At e o) → PlacesMove w e o
+places_move w e (Own.Pass k) s l = places_passed w e k l s.invariant s.fronts s.debts s.few
+places_move w e (Own.Reopen c) s l = places_reopened w e c l s.invariant s.debts s.few
+places_move w e o s l = places_kept w e o l s.invariant s.debts (grind arith) ∙ sym (places_left (wire w) w.config.first e w.mappings (w.part e) o (grind arith))
+
+-- Each act is its move, where the device and the open groups of its endpoint are as the move leaves them.
+
+abbrev pub KeepersMove : World → Act → Type 0
+KeepersMove w (At e o) = DeviceMoves w e o × GroupsMove w e o
+KeepersMove w _ = Unit {0}
+
+has_tables : (w : World) → Stands w → HasTables w
+has_tables w s = record { sent = s.sent; filed = λ e k l. filed_made w.bindings (w.part e) (s.invariant.parts e).bounds (s.filings e) k l; past = s.past }
+
+pub act_square : (w : World) (a : Act) → Stands w → Legal w a → IsReady w a → KeepersMove w a → wire (act w a) ≡ moved (wire w) (act_move w a)
+act_square w NewSpace s l r k = new_space w s.invariant
+act_square w (DropSpace x) s l r k = drop_space w x s.invariant
+act_square w (Map x q f b) s l r k = map_page w x q f b s.invariant
+act_square w (Unmap x q count order) s l r k = unmap_pages w x q count order s.invariant s.fronts s.debts s.few
+act_square w (NewBinding e) s l r k = binding_named w e s.invariant
+act_square w (NewJob e g) s l r k = job_named w e g s.invariant r
+act_square w (Hold x j) s l r k = job_held w x j
+act_square w (LetGo x) s l r k = job_let_go w x
+act_square w (At e o) s l r k = square w e o s.invariant (has_tables w s) l r.0 (part_moves w e o s l r.1 k.0 k.1) (places_move w e o s l)
+
+-- One after another.
+
+abbrev pub AllKeepersMove : World → List Act → Type 0
+AllKeepersMove w [] = Unit {0}
+AllKeepersMove w (a ∷ acts) = KeepersMove w a × AllKeepersMove (act w a) acts
+
+pub acts_square : (acts : List Act) (w : World) → Stands w → LegalAll w acts → AreReady w acts → AllKeepersMove w acts → wire (after_acts w acts) ≡ all_moved (wire w) (act_moves w acts)
+acts_square [] w s l r k = refl
+acts_square (a ∷ acts) w s l r k =
+    acts_square acts (act w a) (act_stands w a l.0 r.0 s) l.1 r.1 k.1 ∙ ap (λ x. all_moved x (act_moves (act w a) acts)) (act_square w a s l.0 r.0 k.0)
+
+-- A step by labels: the same answer, and what is left is the next world's.
+abbrev pub IsByLabels : World → Step → Type 0
+IsByLabels w s = (reply w s ≡ reply_of (wire w) s) × (wire (next w s) ≡ next_of (wire w) s)
+
+pub step_by_labels : (w : World) (s : Step) → Stands w → SaysAlike w s → LegalAll w (decide w s).acts → AreReady w (decide w s).acts → AllKeepersMove w (decide w s).acts → IsByLabels w s
+step_by_labels w s st says l r k = (
+  sym (reply_alike w s says),
+  acts_square (decide w s).acts w st l r k ∙ sym (ap (all_moved (wire w)) (moves_alike w s says)),
+)
+
+checked_has : (P : List Act → Type 0) (cs : List Cause) (o : Outcome) → P [] → (Passed cs → P o.acts) → P (checked cs o).acts
+checked_has P [] o none h = h tt
+checked_has P (c ∷ cs) o none h = go c.0 refl (λ e. checked_has P cs o none (λ k. h (e, k)))
+  where
+    go : (b : Bool) → c.0 ≡ b → (c.0 ≡ false → P (checked cs o).acts) → P (if b then record { reply = Err c.1; acts = [] } else checked cs o).acts
+    go true e rest = none
+    go false e rest = rest e
+
+-- what holds of the acts of an outcome holds of those that are done
+pub decided : (P : List Act → Type 0) (w : World) (s : Step) → P [] → (Passed (refusals w s) → P (outcome w s).acts) → P (decide w s).acts
+decided P w s none h = checked_has P (refusals w s) (outcome w s) none h

@@ -66,4 +66,9 @@ pub mod Device
 pub mod EndpointQuits
 pub mod SaysUnits
 pub mod Assembly
+pub mod LookedFilings
+pub mod SaysServe
 pub mod Ready
+pub mod ByLabels
+pub mod EndpointFinishes
+pub mod EndpointFaults

@@ -26,13 +26,13 @@ open_made : (g n : ℕ) (h : HostGroupState) → is_open_group h ≡ true → (n
 open_made g n h e k = grind (arith)
 
 -- the first filing of an open group
-record Begun (p : Part) (g : ℕ) : Type 0 where
-  filing : ℕ
-  made : filing < p.filings
-  its : p.group_of (p.filing filing) ≡ g
-  first : begins_open p filing ≡ true
+pub record Begun (p : Part) (g : ℕ) : Type 0 where
+  pub filing : ℕ
+  pub made : filing < p.filings
+  pub its : p.group_of (p.filing filing) ≡ g
+  pub first : begins_open p filing ≡ true
 
-begun : (p : Part) (g : ℕ) → Filings p → is_open_group (p.host_group g) ≡ true → Begun p g
+pub begun : (p : Part) (g : ℕ) → Filings p → is_open_group (p.host_group g) ≡ true → Begun p g
 begun p g fi h =
     let f = fi.begun g (open_filed (p.host_group g) h) in
     let low = lowest_below p.filings (λ k. p.group_of (p.filing k) == g) f.0 f.1 (is_same (p.group_of (p.filing f.0)) g f.2) in

@@ -69,3 +69,5 @@ pub mod Assembly
 pub mod LookedFilings
 pub mod SaysServe
 pub mod Ready
+pub mod LookedReplies
+pub mod SaysReply

@@ -1,31 +1,28 @@
 -- What a worker's reply does, read off what a host keeps: the response, the pages that a success maps, and the frames that
 -- are free. It is what the definitions say of the job in hand.
-use Rattle.std.proofs.Common.{◌≡◌, ◌≢◌, ◌⊎◌, inl, inr, refl, ap, ap₂, sym, ◌∙◌, ℕ, zero, suc, ◌+◌, ◌<◌, ◌≤◌, Bool, true, false, arith, length-append}
+use Rattle.std.proofs.Common.{◌≡◌, ◌≢◌, refl, ap, ap₂, sym, ◌∙◌, ℕ, zero, suc, ◌+◌, ◌<◌, ◌≤◌, Bool, true, false, arith}
 use Rattle.std.proofs.Math.Path.{fun_ext}
 use Rattle.std.specs.Prelude as prelude
 use Rattle.std.specs.Prelude.{Option, Some, None, option_map, ◌&&◌, ◌||◌, not, ◌==◌, nat_lt, if◌then◌else◌, List, [], ◌∷◌, ◌++◌, map, length}
 use Rattle.std.specs.List.{list_any}
-use Rattle.std.proofs.lemmas.Bool.Decides.{nat_tests}
 use Rattle.sva_step.specs.declared.steps.Verdict.{Verdict}
 use Rattle.sva_step.specs.declared.steps.Verdict.TheVariants as verdict
-use Rattle.sva_model.specs.Words.{is_some, holds_of, count_below, select, tabulate}
+use Rattle.sva_model.specs.Words.{is_some, holds_of, select, tabulate}
 use Rattle.sva_model.specs.Message.{Code}
 use Rattle.sva_model.specs.State.{Stage, HostGroupState, Part, World}
 use Rattle.sva_model.specs.State.Stage.{Unbound, Live, Stopping, Draining, Invalidating, Quiet, Lost, Released}
-use Rattle.sva_model.specs.State.HostGroupState.{NotFiled, InHand, InHandDiscarded}
+use Rattle.sva_model.specs.State.HostGroupState.{NotFiled}
 use Rattle.sva_model.specs.States.{is_open, is_unreleased, is_free_place, place}
 use Rattle.sva_model.specs.Replies as names
 use Rattle.sva_model.specs.Replies.{response, is_success, unseen, job_binding, job_space, job_asks}
 use Rattle.sva_model.specs.Labels
-use Rattle.sva_model.specs.Wire.{PageWire, PlaceWire, AskWire, BindingWire, number, stage_wire, binding_wire, ask_wire, page_wire, pages_wire, place_wire_by, places_wire, job_wire, wire}
-use Rattle.sva_laws.proofs.Words.{none_is}
+use Rattle.sva_model.specs.Wire.{PlaceWire, AskWire, number, stage_wire, binding_wire, ask_wire, page_wire, pages_wire, place_wire_by, places_wire, job_wire, wire}
 use Rattle.sva_laws.proofs.Groups.{is_filed_group}
 use Rattle.sva_laws.proofs.Invariant.{Invariant, IsHeldBy}
 use Rattle.sva_laws.proofs.LegalUnit.{group_there}
 use Rattle.sva_wire.proofs.Lists.{select_same, select_length, tabulate_length}
-use Rattle.sva_wire.proofs.Places.{seen_at, seen_by, gone_seen, place_seen}
-use Rattle.sva_labels.specs.Finding.{pages_in, page_at, is_mapped, is_free, free_from, binding_of, unit_of}
-use Rattle.sva_labels.specs.Replying.{response_by, response_for, response_to, responds, replies_success, space_by, space_of_job, pages_of_job, newly_mapped, is_write_asked, is_read_only_at, is_write_of_read_only}
+use Rattle.sva_labels.specs.Finding.{pages_in, page_at, is_mapped, is_free, free_from, binding_of}
+use Rattle.sva_labels.specs.Replying.{response_by, response_for, response_to, responds, replies_success, space_by, pages_of_job, newly_mapped, is_write_asked, is_read_only_at, is_write_of_read_only}
 use Rattle.sva_labels.proofs.EndpointViews.{unit_seen}
 use Rattle.sva_labels.proofs.LookedBindings.{binding_named, binding_released}
 use Rattle.sva_labels.proofs.LookedSpaces.{pages_of_name, page_found, mapped_there, frames_free}

@@ -1,9 +1,6 @@
 -- The step reply by labels: it refuses what the step by names refuses, and answers and moves what this does.
-use Rattle.std.proofs.Common.{◌≡◌, ◌≢◌, refl, ap, ap₂, sym, ◌∙◌, ℕ, suc, ◌+◌, ◌<◌, Bool, true, false, arith}
-use Rattle.std.specs.Prelude as prelude
-use Rattle.std.specs.Prelude.{Option, Some, None, option_map, ◌&&◌, not, ◌==◌, nat_lt, if◌then◌else◌, List, [], ◌∷◌, ◌++◌, map, length}
-use Rattle.std.proofs.lemmas.Bool.Decides.{nat_tests}
-use Rattle.sva_step.specs.declared.answers.Answer.TheVariants as answer
+use Rattle.std.proofs.Common.{◌≡◌, refl, ap, ap₂, ◌∙◌, ℕ, suc, ◌+◌, Bool, true, false}
+use Rattle.std.specs.Prelude.{Option, Some, None, option_map, ◌&&◌, not, nat_lt, if◌then◌else◌, List, [], ◌∷◌, ◌++◌, length}
 use Rattle.sva_step.specs.declared.refusals.Refusal.TheVariants as refusal
 use Rattle.sva_step.specs.declared.steps.Step.TheVariants as step
 use Rattle.sva_step.specs.declared.steps.Verdict.{Verdict}
@@ -14,21 +11,21 @@ use Rattle.sva_model.specs.States.{is_open}
 use Rattle.sva_model.specs.Acts.{Act, Own, act}
 use Rattle.sva_model.specs.Replies as names
 use Rattle.sva_model.specs.Replies.{response, job_binding, job_space, job_asks, free_list}
-use Rattle.sva_model.specs.Refusals.{Cause, refusals, reply_refusals, no_such_worker}
-use Rattle.sva_model.specs.Outcomes.{outcome, reply_outcome, code_answer}
+use Rattle.sva_model.specs.Refusals.{Cause, reply_refusals}
+use Rattle.sva_model.specs.Outcomes.{reply_outcome, code_answer}
 use Rattle.sva_model.specs.Labels
-use Rattle.sva_model.specs.Wire.{AskWire, JobWire, number, asks_wire, group_job, job_wire, binding_wire, pages_wire, places_wire, wire}
+use Rattle.sva_model.specs.Wire.{AskWire, number, job_wire, wire}
 use Rattle.sva_laws.proofs.Invariant.{Invariant}
-use Rattle.sva_laws.proofs.Passed.{Passed, is_less}
-use Rattle.sva_labels.specs.Finding.{pages_in, free_from, binding_of, held_by}
-use Rattle.sva_labels.specs.Replying.{response_to, responds, replies_success, space_by, space_of_job, newly_mapped, is_write_asked, is_write_of_read_only}
+use Rattle.sva_laws.proofs.Passed.{is_less}
+use Rattle.sva_labels.specs.Finding.{pages_in, free_from, held_by}
+use Rattle.sva_labels.specs.Replying.{responds, space_by, space_of_job, newly_mapped, is_write_asked, is_write_of_read_only}
 use Rattle.sva_labels.specs.Moves.{Move, pasid_or_0}
-use Rattle.sva_labels.specs.Causes.{causes_of, lacks, reply_causes}
-use Rattle.sva_labels.specs.Outcomes.{Result, says, maps_to, reply_maps, reply_by, reply_result}
+use Rattle.sva_labels.specs.Causes.{reply_causes}
+use Rattle.sva_labels.specs.Outcomes.{says, maps_to, reply_maps, reply_by, reply_result}
 use Rattle.sva_labels.proofs.Alike.{refused_by, IsAlike, alike_same, alike_held, alike_right, SaysAlike, result_by}
 use Rattle.sva_labels.proofs.Named.{act_moves}
 use Rattle.sva_labels.proofs.LookedBindings.{binding_named}
-use Rattle.sva_labels.proofs.LookedReplies.{InHandNow, response_there, responds_there, success_there, sent_unreleased, Succeeds, succeeds, writes_asked, newly_there, read_only_there, free_there, free_count}
+use Rattle.sva_labels.proofs.LookedReplies.{InHandNow, response_there, responds_there, success_there, sent_unreleased, succeeds, writes_asked, newly_there, read_only_there, free_there, free_count}
 use Rattle.sva_labels.proofs.LookedSpaces.{pages_count}
 use Rattle.sva_labels.proofs.SaysServe.{at_worker, held_there}
 

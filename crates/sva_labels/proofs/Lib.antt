@@ -71,3 +71,6 @@ pub mod SaysServe
 pub mod Ready
 pub mod LookedReplies
 pub mod SaysReply
+pub mod ByLabels
+pub mod EndpointFinishes
+pub mod EndpointFaults

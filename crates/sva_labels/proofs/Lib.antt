@@ -73,6 +73,9 @@ pub mod Assembly
 pub mod LookedFilings
 pub mod SaysServe
 pub mod Ready
+pub mod LookedReplies
+pub mod SaysReply
 pub mod ByLabels
 pub mod EndpointFinishes
 pub mod EndpointFaults
+pub mod Said

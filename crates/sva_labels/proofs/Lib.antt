@@ -79,3 +79,5 @@ pub mod ByLabels
 pub mod EndpointFinishes
 pub mod EndpointFaults
 pub mod Said
+pub mod SoundQueues
+pub mod SoundPasids

@@ -75,3 +75,4 @@ pub mod ByLabels
 pub mod EndpointFinishes
 pub mod EndpointFaults
 pub mod Said
+pub mod WholeLists

@@ -1,21 +1,21 @@
 -- Fault by labels is Fault by names: the page requests that are outstanding, and the group of an index.
-use Rattle.std.proofs.Common.{◌≡◌, ◌≢◌, ◌⊎◌, inl, inr, refl, ap, ap₂, sym, subst, ◌∙◌, ℕ, zero, suc, ◌+◌, ◌<◌, ◌≤◌, Bool, true, false, arith}
-use Rattle.std.specs.Prelude.{Option, Some, None, option_map, ◌&&◌, ◌||◌, not, ◌==◌, nat_le, if◌then◌else◌, is_none, List, [], ◌∷◌, ◌++◌}
+use Rattle.std.proofs.Common.{◌≡◌, ◌≢◌, ◌⊎◌, inl, inr, refl, ap, ap₂, sym, ◌∙◌, ℕ, zero, suc, ◌+◌, ◌<◌, Bool, true, false, arith}
+use Rattle.std.specs.Prelude.{Option, Some, None, option_map, ◌&&◌, ◌||◌, not, ◌==◌, nat_le, if◌then◌else◌, List, [], ◌∷◌, ◌++◌}
 use Rattle.std.proofs.lemmas.Bool.Decides.{nat_tests}
 use Rattle.sva_step.specs.declared.answers.Answer.TheVariants as answer
 use Rattle.sva_step.specs.declared.refusals.Refusal.TheVariants as refusal
 use Rattle.sva_step.specs.declared.steps.Step.TheVariants as step
 use Rattle.sva_model.specs.Words as words
 use Rattle.sva_model.specs.Words.{count_below, tabulate, holds_of, the}
-use Rattle.sva_model.specs.State.{Mappings, Part, World, GroupState}
+use Rattle.sva_model.specs.State.{Part, World, GroupState}
 use Rattle.sva_model.specs.State.GroupState.{Unfinished}
 use Rattle.sva_model.specs.States.{is_unfinished, is_outstanding}
 use Rattle.sva_model.specs.Labels
 use Rattle.sva_model.specs.Refusals as names
 use Rattle.sva_model.specs.Refusals.{refusals}
 use Rattle.sva_model.specs.Outcomes.{outcome}
-use Rattle.sva_model.specs.Wire.{DeviceWire, GroupWire, group_wire, device_wire, wire}
-use Rattle.sva_laws.proofs.Words.{ℕ_cases, not_true, some_the}
+use Rattle.sva_model.specs.Wire.{DeviceWire, GroupWire, group_wire, wire}
+use Rattle.sva_laws.proofs.Words.{ℕ_cases, not_true}
 use Rattle.sva_laws.proofs.Counting.{count_zero, count_off}
 use Rattle.sva_laws.proofs.Invariant.{Invariant}
 use Rattle.sva_laws.proofs.Found.{found}

@@ -1,6 +1,6 @@
 -- Finish by labels is Finish by names: the ITags that a vector names, and the uses that their invalidations noted.
-use Rattle.std.proofs.Common.{◌≡◌, ◌≢◌, refl, ap, ap₂, sym, subst, ◌∙◌, ℕ, ◌<◌, Bool, true, false, arith}
-use Rattle.std.specs.Prelude.{Option, Some, None, option_map, ◌&&◌, ◌||◌, not, ◌==◌, nat_lt, is_none}
+use Rattle.std.proofs.Common.{◌≡◌, refl, ap, sym, ◌∙◌, ℕ, ◌<◌, Bool, true, false, arith}
+use Rattle.std.specs.Prelude.{Option, Some, None, ◌&&◌, ◌||◌, not, nat_lt, is_none}
 use Rattle.std.specs.List.{list_any}
 use Rattle.std.proofs.lemmas.Bool.Decides.{nat_tests}
 use Rattle.sva_step.specs.declared.refusals.Refusal.TheVariants as refusal
@@ -11,8 +11,7 @@ use Rattle.sva_model.specs.State.OrderState.{Queued, Sent, Taken, Lapsed, Owing,
 use Rattle.sva_model.specs.States.{is_taken, is_busy, is_running, uses_noted, covers}
 use Rattle.sva_model.specs.Labels
 use Rattle.sva_model.specs.Refusals.{refusals}
-use Rattle.sva_model.specs.Wire.{TakenWire, chain, is_noted, taken_by, device_wire, wire}
-use Rattle.sva_laws.proofs.Words.{any_below-true, any_below-intro}
+use Rattle.sva_model.specs.Wire.{chain, is_noted, taken_by, wire}
 use Rattle.sva_laws.proofs.Labels.{has_slot}
 use Rattle.sva_laws.proofs.Invariant.{Invariant}
 use Rattle.sva_labels.specs.Finding.{device_of, taken_at, waits_for_use}

@@ -1,25 +1,25 @@
 -- Quit by labels is Quit by names: what is busy of a PASID is what is busy of its bearer.
-use Rattle.std.proofs.Common.{◌≡◌, ◌≢◌, ◌⊎◌, inl, inr, refl, ap, ap₂, sym, ◌∙◌, ℕ, ◌<◌, Bool, true, false, arith}
+use Rattle.std.proofs.Common.{◌≡◌, inl, refl, ap, sym, ◌∙◌, ℕ, ◌<◌, Bool, true, false, arith}
 use Rattle.std.specs.Prelude.{Option, Some, None, option_map, ◌&&◌, ◌||◌, not, ◌==◌, if◌then◌else◌}
 use Rattle.std.specs.List.{list_any}
 use Rattle.std.proofs.lemmas.Bool.Decides.{nat_tests}
 use Rattle.sva_step.specs.declared.answers.Answer.TheVariants as answer
 use Rattle.sva_step.specs.declared.refusals.Refusal.TheVariants as refusal
 use Rattle.sva_step.specs.declared.steps.Step.TheVariants as step
-use Rattle.sva_model.specs.Words.{any_below, the}
+use Rattle.sva_model.specs.Words.{any_below}
 use Rattle.sva_model.specs.State.{Mappings, Part, World, GroupState, UseState}
 use Rattle.sva_model.specs.State.GroupState.{Unfinished}
-use Rattle.sva_model.specs.State.UseState.{Running, Dead, Ended}
+use Rattle.sva_model.specs.State.UseState.{Running}
 use Rattle.sva_model.specs.States.{is_ending, is_out, is_running, is_unfinished, is_outstanding}
 use Rattle.sva_model.specs.Claims.{IsBearer}
 use Rattle.sva_model.specs.Labels
 use Rattle.sva_model.specs.Refusals.{refusals}
-use Rattle.sva_model.specs.Wire.{DeviceWire, UseWire, request_wire, use_wire, group_wire, translation_wire, device_wire, wire}
+use Rattle.sva_model.specs.Wire.{UseWire, request_wire, use_wire, group_wire, translation_wire, device_wire, wire}
 use Rattle.sva_laws.proofs.Words.{not_true, any_below-true, any_below-intro}
 use Rattle.sva_laws.proofs.Labels.{has_slot}
 use Rattle.sva_laws.proofs.Invariant.{Invariant}
 use Rattle.sva_laws.proofs.Found.{found}
-use Rattle.sva_laws.proofs.Passed.{is_less, bearer_of}
+use Rattle.sva_laws.proofs.Passed.{bearer_of}
 use Rattle.sva_labels.specs.Finding.{device_of, pasid_state, is_request_of, is_use_of, is_unfinished_of}
 use Rattle.sva_labels.specs.Causes.{causes_of, is_busy_pasid}
 use Rattle.sva_labels.specs.Moves.{Move}

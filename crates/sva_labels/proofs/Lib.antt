@@ -63,6 +63,10 @@ pub mod HostGroupsFile
 pub mod HostGroups
 pub mod SaysBindings
 pub mod Device
+pub mod Granted
+pub mod SoundLists
+pub mod SoundNumbers
+pub mod Sounds
 pub mod EndpointQuits
 pub mod SaysUnits
 pub mod Assembly
@@ -74,3 +78,5 @@ pub mod SaysReply
 pub mod ByLabels
 pub mod EndpointFinishes
 pub mod EndpointFaults
+pub mod Said
+pub mod WholeLists

@@ -81,3 +81,4 @@ pub mod EndpointFaults
 pub mod Said
 pub mod SoundQueues
 pub mod SoundPasids
+pub mod WholeLists

@@ -19,6 +19,7 @@ use Rattle.sva_wire.proofs.Spaces.{space_found, space_missing}
 use Rattle.sva_labels.specs.Finding.{pages_of, is_space, or_no_pages, pages_in, page_at, is_mapped, frame_or_0, frames_of, is_free, lowest_free}
 use Rattle.sva_model.specs.State.MappingState.{Unmade, Present, Gone}
 use Rattle.sva_model.specs.States.{place, is_free_place, place_at, place_by, place_of_gone, answered}
+use Rattle.sva_labels.proofs.Lookups.{seen_some}
 
 -- Both crates say these look-ups, in the same words.
 
@@ -55,9 +56,6 @@ pub pages_there : (w : World) (n : ℕ) → Labels.is_space w n ≡ true → pag
 pages_there w n e = ap or_no_pages (pages_same (wire w).spaces n ∙ space_found w n e)
 
 -- a number and its name
-pub number_of : (w : World) (n : ℕ) → w.config.first < suc n → number w.config.first (Labels.name w n) ≡ n
-number_of w n l = omega arith
-
 pub name_of : (w : World) (s : ℕ) → Labels.name w (number w.config.first s) ≡ s
 name_of w s = omega arith
 
@@ -81,12 +79,8 @@ pages_of_name w s ma l =
 pub page_found : (w : World) (s q : ℕ) → Mapped w → page_at (pages_wire w.mappings s) q ≡ option_map (page_wire w.mappings) (w.mappings.at s q)
 page_found w s q ma = page_same (pages_wire w.mappings s) q ∙ page_at_is w ma s q
 
-over_some : {A : Type 0} (f : ℕ → A) (o : Option ℕ) → is_some (option_map f o) ≡ words.is_some o
-over_some f None = refl
-over_some f (Some k) = refl
-
 pub mapped_there : (w : World) (s q : ℕ) → Mapped w → is_mapped (pages_wire w.mappings s) q ≡ Labels.is_mapped w s q
-mapped_there w s q ma = ap is_some (page_found w s q ma) ∙ over_some (page_wire w.mappings) (w.mappings.at s q)
+mapped_there w s q ma = ap is_some (page_found w s q ma) ∙ seen_some (page_wire w.mappings) (w.mappings.at s q)
 
 pub pages_count : (w : World) (s : ℕ) → length (pages_wire w.mappings s) ≡ Labels.pages_of w s
 pages_count w s = pages_length w s w.mappings.made

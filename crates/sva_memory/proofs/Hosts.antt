@@ -105,7 +105,6 @@ map_in places q pages = if not (is_some pages) then Err refusal.NoSuchSpace else
 pub no_space_map : (w : Wire) (n q : ℕ) (x : Bool) → pages_of w.spaces n ≡ None → ByLabels w (step.Map n q x) (Err refusal.NoSuchSpace) w
 no_space_map w n q x none = refused w (step.Map n q x) refusal.NoSuchSpace (ap (map_in w.places q) none) (λ h. absurd (cc))
 
-
 same_frame : (f g : ℕ) → answer.Frame f ≡ answer.Frame g → f ≡ g
 same_frame f g is = cc
 

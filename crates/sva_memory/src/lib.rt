@@ -6,3 +6,6 @@ mod memory;
 mod pages;
 
 pub use memory::Memory;
+
+#[cfg(test)]
+mod tests;

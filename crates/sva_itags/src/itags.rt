@@ -170,6 +170,7 @@ impl Itags {
     pub fn busy(&self) -> u32
         ensures vector { result ≡ busy_vector self.now }
         ensures exactly { (tag : ℕ) → IsTrue (is_named result tag) ↔ IsBusy self.now tag }
+        ensures tags { AreTags self.now }
     {
         let mut busy = 0;
         for (tag, place) in self.places.iter().enumerate() {

@@ -61,9 +61,6 @@ pasid_there w e s i r =
     ∙ go (find w.bindings (λ b. is_kept w b && w.config.first + (w.part (w.home b)).space b == w.config.first + s)) refl
     ∙ ap (λ z. Labels.pasid_by z w e s) (sym r)
   where
-    test : ℕ → Bool
-    test b = is_kept w b && w.config.first + (w.part (w.home b)).space b == w.config.first + s
-
     one_space : (a b : ℕ) → w.config.first + a ≡ w.config.first + b → a ≡ b
     one_space a b h = omega arith
 

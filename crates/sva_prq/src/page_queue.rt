@@ -83,6 +83,14 @@ impl PageQueue {
         self.waiting.remaining_capacity()
     }
 
+    /// The oldest request, if there is one.
+    pub fn head(&self) -> Option<PageRequest>
+        ensures { result ≡ slice_get self.now 0 }
+    {
+        let arrival = self.waiting.first()?;
+        Some(arrival.request)
+    }
+
     /// Takes out the oldest request, if there is one.
     pub fn serve(&mut self) -> Option<PageRequest>
         ensures oldest { result ≡ slice_get self.old 0 }
@@ -124,6 +132,7 @@ mod tests {
         }
         assert_eq!(rt; queue.room(), 0);
         for page in 0..3 {
+            assert_eq!(rt; queue.head().map(|request| request.page), Some(page));
             assert_eq!(rt; queue.serve().map(|request| request.page), Some(page));
         }
         assert!(rt; !queue.is_empty());

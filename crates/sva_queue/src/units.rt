@@ -1,6 +1,6 @@
 //! A unit: its queue and its tags.
 ghost use Rattle.std.specs.Prelude.{◌≡◌, ℕ, ◌+◌, ◌≤◌, ◌↔◌, Bool, true, length, All, IsOk, OnOk, OnErr, slice_get, [], ◌∷◌};
-ghost use Rattle.sva_itags.specs.Tags.{busy_vector, freed_vector};
+ghost use Rattle.sva_itags.specs.Tags.{AreTags, busy_vector, freed_vector};
 ghost use Rattle.sva_queue.specs.Cookies.{AreRising, number_after, HasNumber};
 ghost use Rattle.sva_queue.specs.Calls.{AlwaysFits, FirstInFirstOut, DoneBehind, TagsByCalls};
 ghost use Rattle.sva_queue.specs.Fronts.{AlwaysInOrder, PendingFromFront, DoneBelowFront};
@@ -205,7 +205,8 @@ impl Unit {
 
     /// The vector of the busy tags: bit T stands for tag T, 0 to 31.
     pub fn busy(&self) -> u32
-        ensures { result ≡ busy_vector self.now.tags }
+        ensures vector { result ≡ busy_vector self.now.tags }
+        ensures tags { AreTags self.now.tags }
     {
         self.tags.busy()
     }

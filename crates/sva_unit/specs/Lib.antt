@@ -1,1 +1,4 @@
 pub mod Seen
+pub mod Messages
+pub mod Pumping
+pub mod Changes

@@ -3,6 +3,8 @@
 #![tactic(auto)]
 
 mod orders;
+mod pumping;
 mod units;
 
+pub use pumping::{Extent, Next, Sending};
 pub use units::Unit;

@@ -1,0 +1,86 @@
+-- What a unit does with the head of its invalidation queue.
+use Rattle.std.specs.Prelude.{◌≡◌, ℕ, suc, Bool, true, false, ◌&&◌, ◌||◌, not, ◌==◌, Option, Some, None, List, [], ◌∷◌, drop, length, slice_set}
+use Rattle.sva_step.specs.declared.answers.Answer.TheVariants as answer
+use Rattle.sva_queue.specs.declared.descriptors.Descriptor.{Descriptor as Order}
+use Rattle.sva_queue.specs.declared.descriptors.Descriptor.TheVariants.{Range, Pasid, Wait}
+use Rattle.sva_unit.specs.declared.pumping.Extent.{Extent}
+use Rattle.sva_unit.specs.declared.pumping.Extent.TheVariants.{Pages, All}
+use Rattle.sva_model.specs.Wire.{PartWire, UnitWire, DeviceWire, HostGroupWire, Descriptor}
+use Rattle.sva_model.specs.Wire.BusyWire.{Fresh}
+use Rattle.sva_model.specs.Wire.Descriptor.{RangeDescriptor, PasidDescriptor, WaitDescriptor}
+use Rattle.sva_labels.specs.Finding.{lowest_label, is_some_busy}
+use Rattle.sva_labels.specs.Moves.{Move}
+use Rattle.sva_labels.specs.Outcomes.{Result, says, by_one, pump_result}
+use Rattle.sva_unit.specs.declared.pumping.Sending.{Sending}
+use Rattle.sva_unit.specs.declared.pumping.Next.{Next}
+use Rattle.sva_unit.specs.declared.pumping.Next.TheVariants.{Idle, Blocked, Send, Pass}
+use Rattle.sva_unit.specs.Messages.{extent_seen}
+use Rattle.sva_unit.specs.Seen.{UnitSeen}
+
+-- An invalidation of the queue under an ITag.
+
+abbrev pub is_invalidation : Order → Bool
+is_invalidation (Wait cookie drain) = false
+is_invalidation _ = true
+
+-- what an invalidation is of; a wait is of nothing
+abbrev pub extent_of : Order → Extent
+extent_of (Range pasid range) = Pages range
+extent_of _ = All
+
+abbrev pub pasid_of : Order → ℕ
+pasid_of (Range pasid range) = pasid
+pasid_of (Pasid pasid) = pasid
+pasid_of (Wait cookie drain) = 0
+
+abbrev pub sending_of : (itag : ℕ) → Order → Sending
+sending_of itag order = record { itag = itag; pasid = pasid_of order; extent = extent_of order }
+
+-- What becomes of the head.
+
+-- an invalidation is sent under the lowest ITag that is free
+abbrev pub send_next : (pasid : ℕ) → Extent → Option ℕ → Next
+send_next pasid extent None = Blocked
+send_next pasid extent (Some itag) = Send (record { itag = itag; pasid = pasid; extent = extent })
+
+-- a wait is passed where no ITag is busy and, if it drains, no page request waits
+abbrev pub pass_next : (cookie : ℕ) → Bool → Next
+pass_next cookie true = Pass cookie
+pass_next cookie false = Blocked
+
+abbrev pub may_pass : UnitSeen → (drain : Bool) → Bool
+may_pass s drain = not (is_some_busy s.unit) && (not drain || length s.page_queue == 0)
+
+abbrev pub next_at : UnitSeen → List Descriptor → Next
+next_at s [] = Idle
+next_at s (RangeDescriptor pasid range ∷ queue) = send_next pasid (Pages range) (lowest_label s.unit.busy)
+next_at s (PasidDescriptor pasid ∷ queue) = send_next pasid All (lowest_label s.unit.busy)
+next_at s (WaitDescriptor cookie drain ∷ queue) = pass_next cookie (may_pass s drain)
+
+-- what becomes of the head
+abbrev pub next_of : UnitSeen → Next
+next_of s = next_at s s.unit.queue
+
+-- what the definitions answer and move at that
+abbrev pub pumped : (endpoint : ℕ) → Next → Result
+pumped e Idle = says answer.Idle []
+pumped e Blocked = says answer.Blocked []
+pumped e (Send sending) = by_one (answer.Itag sending.itag) (Move.Send e sending.itag sending.pasid (extent_seen sending.extent))
+pumped e (Pass cookie) = by_one answer.WaitDone (Move.Pass e cookie)
+
+-- the unit at its endpoint, with whatever stands beside it there
+abbrev pub at_endpoint : UnitSeen → DeviceWire → List HostGroupWire → PartWire
+at_endpoint s device groups = record { device = device; unit = s.unit; page_queue = s.page_queue; host_groups = groups }
+
+-- it is what the definitions by labels do
+abbrev pub IsPump : UnitSeen → Next → Type 0
+IsPump s next =
+    (endpoint : ℕ) (device : DeviceWire) (groups : List HostGroupWire)
+    → pump_result (at_endpoint s device groups) endpoint s.unit.queue ≡ pumped endpoint next
+
+-- the unit once the invalidation at the head is sent under this ITag; once the wait at the head is passed
+abbrev pub unit_sent : UnitWire → (itag : ℕ) → UnitWire
+unit_sent unit itag = record unit { queue = drop 1 unit.queue; busy = slice_set unit.busy itag (Some Fresh) }
+
+abbrev pub unit_passed : UnitWire → (cookie : ℕ) → UnitWire
+unit_passed unit cookie = record unit { queue = drop 1 unit.queue; front = suc cookie }

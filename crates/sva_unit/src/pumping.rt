@@ -1,0 +1,71 @@
+//! What becomes of the head of an invalidation queue.
+ghost use Rattle.std.specs.Prelude.{◌≡◌};
+ghost use Rattle.sva_model.specs.Acts.{scope_of};
+ghost use Rattle.sva_model.specs.Message.Message.{InvalidateMessage};
+
+use sva_msg::{Kind, Range, Scope};
+
+/// What an invalidation is of.
+#[derive(Clone, Copy, Debug, PartialEq, Eq)]
+pub enum Extent {
+    /// A range of 1 to 512 aligned pages.
+    Pages(Range),
+    /// Every page of its PASID.
+    All,
+}
+
+impl Extent {
+    ghost use Rattle.sva_unit.specs.Messages.{extent_seen, scope_seen};
+
+    /// What an Invalidate Request names of it: a range by its code.
+    pub fn scope(self) -> Scope
+        ensures { scope_seen result ≡ scope_of (extent_seen self) }
+    {
+        match self {
+            Extent::Pages(range) => {
+                let (page, s) = range.encode();
+                Scope::Code { page, s }
+            }
+            Extent::All => Scope::All,
+        }
+    }
+}
+
+/// An invalidation that goes to the endpoint.
+#[derive(Clone, Copy, Debug, PartialEq, Eq)]
+pub struct Sending {
+    /// The ITag of its Invalidate Request, 0 to 31 (PCI Express Base 5.0, section 10.3.1).
+    pub itag: u8,
+    /// The PASID: 1 to 32 of its 20 bits (PCI Express Base 5.0, section 6.20).
+    pub pasid: u32,
+    /// What of it.
+    pub extent: Extent,
+}
+
+impl Sending {
+    ghost use Rattle.sva_unit.specs.Messages.{extent_seen, message_seen};
+
+    /// The Invalidate Request.
+    pub fn message(self) -> Kind
+        ensures { message_seen result ≡ InvalidateMessage self.itag self.pasid (scope_of (extent_seen self.extent)) }
+    {
+        Kind::Invalidate {
+            itag: self.itag,
+            pasid: self.pasid,
+            scope: self.extent.scope(),
+        }
+    }
+}
+
+/// What becomes of the head of an invalidation queue.
+#[derive(Clone, Copy, Debug, PartialEq, Eq)]
+pub enum Next {
+    /// The queue is empty.
+    Idle,
+    /// The head has to stay: no ITag is free for an invalidation, or a wait isn't done.
+    Blocked,
+    /// The invalidation at the head goes to the endpoint.
+    Send(Sending),
+    /// The wait at the head, with this cookie, below 2^63, is done.
+    Pass(u64),
+}

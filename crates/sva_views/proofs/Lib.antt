@@ -1,0 +1,10 @@
+pub mod Tables
+pub mod Pasids
+pub mod Requests
+pub mod Cached
+pub mod Uses
+pub mod Groups
+pub mod Deliveries
+pub mod Completions
+pub mod Bindings
+pub mod Flights

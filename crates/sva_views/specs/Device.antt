@@ -1,0 +1,67 @@
+-- How the tables of an endpoint are seen by the definitions by labels: place by place. PASID 0 isn't one of the 32.
+use Rattle.std.specs.Prelude.{ℕ, Bool, true, false, not, Option, Some, None, option_map, List, map, drop}
+use Rattle.std.specs.FinMap.{entries}
+use Rattle.sva_model.specs.State.{GroupState, PasidState as DeviceState}
+use Rattle.sva_model.specs.States.{Extent as DeviceExtent}
+use Rattle.sva_model.specs.Wire.{DeviceWire, RequestWire, TranslationWire, UseWire, TakenWire, GroupWire}
+use Rattle.sva_model.specs.Wire.UseWire.{RunningWire, DeadWire}
+use Rattle.sva_cache.specs.declared.coverage.Extent.{Extent}
+use Rattle.sva_cache.specs.declared.coverage.Extent.TheVariants.{Pages, All}
+use Rattle.sva_cache.specs.declared.cached.Translation.{Translation}
+use Rattle.sva_cache.specs.Cache.{Key, Translations}
+use Rattle.sva_tables.specs.declared.pasid_states.PasidState.{PasidState}
+use Rattle.sva_tables.specs.declared.pasid_states.PasidState.TheVariants.{Off, On, Stopping}
+use Rattle.sva_tables.specs.declared.request_tags.RequestTag.{RequestTag}
+use Rattle.sva_tables.specs.declared.request_tags.RequestTag.TheVariants.{Free as NoRequest, Out, Doomed}
+use Rattle.sva_tables.specs.declared.use_slots.UseSlot.{UseSlot}
+use Rattle.sva_tables.specs.declared.use_slots.UseSlot.TheVariants.{Free as NoUse, Running, Dead}
+use Rattle.sva_tables.specs.declared.taken_table.Taken.{Taken}
+use Rattle.sva_tables.specs.declared.groups.GroupPlace.{GroupPlace}
+use Rattle.sva_tables.specs.declared.groups.GroupPlace.TheVariants.{Free as NoGroup, Unfinished, Out as GroupOut, Stale}
+use Rattle.sva_endpoint.specs.Tables.{Tables}
+
+abbrev pub pasid_seen : PasidState → DeviceState
+pasid_seen Off = DeviceState.Off
+pasid_seen On = DeviceState.On
+pasid_seen Stopping = DeviceState.Ending
+
+abbrev pub tag_seen : RequestTag → Option RequestWire
+tag_seen NoRequest = None
+tag_seen (Out pasid page) = Some (record { pasid = pasid; page = page; is_doomed = false })
+tag_seen (Doomed pasid page) = Some (record { pasid = pasid; page = page; is_doomed = true })
+
+abbrev pub translation_seen : Key × Translation → TranslationWire
+translation_seen entry = record { pasid = entry.0.0; page = entry.0.1; frame = entry.1.frame; write = entry.1.write }
+
+abbrev pub cache_seen : Translations → List TranslationWire
+cache_seen cache = map translation_seen (entries cache)
+
+abbrev pub slot_seen : UseSlot → Option UseWire
+slot_seen NoUse = None
+slot_seen (Running u) = Some (RunningWire (record { pasid = u.pasid; page = u.page; frame = u.frame; write = u.write }))
+slot_seen Dead = Some DeadWire
+
+abbrev pub extent_seen : Extent → DeviceExtent
+extent_seen (Pages range) = DeviceExtent.Pages range
+extent_seen All = DeviceExtent.AllPages
+
+abbrev pub taken_seen : Taken → TakenWire
+taken_seen taken = record { pasid = taken.invalidation.pasid; extent = extent_seen taken.invalidation.extent; slots = taken.noted }
+
+abbrev pub group_seen : GroupPlace → Option GroupWire
+group_seen NoGroup = None
+group_seen (Unfinished pasid requests) = Some (record { pasid = pasid; state = GroupState.Unfinished; requests = requests })
+group_seen (GroupOut pasid requests) = Some (record { pasid = pasid; state = GroupState.Awaiting; requests = requests })
+group_seen (Stale pasid requests) = Some (record { pasid = pasid; state = GroupState.Stale; requests = requests })
+
+abbrev pub device_seen : Tables → DeviceWire
+device_seen s =
+    record {
+      pasids = map pasid_seen (drop 1 s.pasids);
+      tags = map tag_seen s.tags;
+      cache = cache_seen s.cache;
+      slots = map slot_seen s.uses;
+      taken = map (option_map taken_seen) s.taken;
+      groups = map group_seen s.groups;
+      is_disabled = not s.enabled;
+    }

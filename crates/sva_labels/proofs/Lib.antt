@@ -79,4 +79,6 @@ pub mod ByLabels
 pub mod EndpointFinishes
 pub mod EndpointFaults
 pub mod Said
+pub mod SoundQueues
+pub mod SoundPasids
 pub mod WholeLists

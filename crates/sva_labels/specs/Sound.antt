@@ -1,12 +1,13 @@
 -- What the calls of the parts need of what a host keeps, in its own words; and the law that each world which a list of steps
 -- leads to is seen so.
-use Rattle.std.specs.Prelude.{◌≡◌, ℕ, ◌^◌, ◌<◌, ◌≤◌, Some, List, length, slice_get}
+use Rattle.std.specs.Prelude.{◌≡◌, ◌↔◌, ℕ, ◌^◌, ◌<◌, ◌≤◌, Some, List, length, slice_get}
 use Rattle.sva_step.specs.declared.limits.Config.{Config}
 use Rattle.sva_step.specs.declared.steps.Step.{Step}
 use Rattle.sva_model.specs.State.PasidRule.{PerSpace}
 use Rattle.sva_model.specs.Steps.{world_after}
 use Rattle.sva_model.specs.Claims.{Fits}
 use Rattle.sva_model.specs.Wire.{Wire, SpaceWire, BindingWire, FlightWire, wire}
+use Rattle.sva_labels.specs.Finding.{unit_of}
 
 pub record IsSound (w : Wire) : Type 0 where
   -- numbers and cookies: a step counts on from one of these after its test that it is below 2^63 (a unit's `submit`)
@@ -25,6 +26,16 @@ pub record IsSound (w : Wire) : Type 0 where
   -- the tables of units and of hands are of these sizes at most (a lane for each unit, a place for each hand)
   pub few_parts : length w.parts ≤ 8
   pub few_hands : length w.hands ≤ 4
+  -- a unit's cookies: those that it was given are below the next one (`submit`, where cookies rise); its front is among them;
+  -- and its queue keeps to its 64 places (`submit`, `pump`)
+  pub waits_given : (e : ℕ) → e < length w.parts → (unit_of w e).waits_end ≤ w.next_cookie
+  pub front_low : (e : ℕ) → e < length w.parts → (unit_of w e).front ≤ (unit_of w e).waits_end
+  pub queue_fits : (e : ℕ) → e < length w.parts → length (unit_of w e).queue ≤ 64
+  -- PASIDs (`begin`, `lowest`, the bearers): 1 to 32, one for each space; a space has one binding at an endpoint
+  pub pasid_low : (k : ℕ) (b : BindingWire) → slice_get w.bindings k ≡ Some b → (0 < b.pasid) × (b.pasid ≤ 32)
+  pub pasids_shared : (j k : ℕ) (b d : BindingWire) → slice_get w.bindings j ≡ Some b → slice_get w.bindings k ≡ Some d → (b.pasid ≡ d.pasid) ↔ (b.space ≡ d.space)
+  pub endpoint_low : (k : ℕ) (b : BindingWire) → slice_get w.bindings k ≡ Some b → b.endpoint < length w.parts
+  pub one_each : (j k : ℕ) (b d : BindingWire) → slice_get w.bindings j ≡ Some b → slice_get w.bindings k ≡ Some d → b.endpoint ≡ d.endpoint → b.space ≡ d.space → j ≡ k
 
 -- what is kept at each world that some list of steps leads to
 abbrev pub AlwaysSound : Type 0

@@ -157,8 +157,11 @@ advance_stages w b i f fi h (Draining wait) e =
     let d = (i.parts (w.home b)).orders.draining b wait e in
     λ k.
     reset_cause w (w.home b) l k
-    ∷ (not ((ap (λ u. is_wait_done u (cookie_number w.config.first ((w.part (w.home b)).order wait))) (unit_seen w (w.home b) l) ∙ drained_there w.config.first w.cookies b wait (w.part (w.home b)) (f (w.home b)) (a_wait ((w.part (w.home b)).order wait) d.0) e) k)
-    || ((ap (λ p. has_open_group p (number w.config.first b)) (part_seen w (w.home b) l) ∙ open_there w.config.first w.bindings b w.mappings (w.part (w.home b)) (i.parts (w.home b)).bounds (fi (w.home b))) k), refusal.NotYet)
+    ∷ (
+      not ((ap (λ u. is_wait_done u (cookie_number w.config.first ((w.part (w.home b)).order wait))) (unit_seen w (w.home b) l) ∙ drained_there w.config.first w.cookies b wait (w.part (w.home b)) (f (w.home b)) (a_wait ((w.part (w.home b)).order wait) d.0) e) k)
+          || ((ap (λ p. has_open_group p (number w.config.first b)) (part_seen w (w.home b) l) ∙ open_there w.config.first w.bindings b w.mappings (w.part (w.home b)) (i.parts (w.home b)).bounds (fi (w.home b))) k),
+      refusal.NotYet,
+    )
     ∷ ((ap (λ u. not (has_room u 2)) (unit_seen w (w.home b) l) ∙ room_there w.config.first 2 (w.part (w.home b))) k, refusal.QueueFull)
     ∷ numbers_spent (wire w).next_cookie 1
     ∷ []

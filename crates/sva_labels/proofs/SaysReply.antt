@@ -60,9 +60,11 @@ tests_there w j v i h =
     (nat_lt 1024 (Labels.pages_of w (job_space w j) + length (names.newly_mapped w j)))
     (λ e.
     let s = succeeds w j v i e in
-    let newly = ap (λ (qs : List ℕ). length qs) (newly_there w j i s) in
-    (read_only_there w j i s, ap₂ nat_lt (free_count w) newly,
-    ap₂ (λ a b. nat_lt 1024 (a + b)) (ap (λ pages. length pages) s.pages ∙ pages_count w (job_space w j)) newly))
+    let newly = ap (λ (qs : List ℕ). length qs) (newly_there w j i s) in (
+      read_only_there w j i s,
+      ap₂ nat_lt (free_count w) newly,
+      ap₂ (λ a b. nat_lt 1024 (a + b)) (ap (λ pages. length pages) s.pages ∙ pages_count w (job_space w j)) newly,
+    ))
 
 reply_alike : (w : World) (v : Verdict) → Invariant w → (x : ℕ) (o : Option ℕ) → w.hand x ≡ o → IsAlike (reply_causes (wire w) v (option_map (job_wire w) o)) ((not (is_some o), refusal.NoJob) ∷ reply_refusals w (the o) v)
 reply_alike w v i x None h = alike_held (true, refusal.NoJob) (true, refusal.NoJob) [] (reply_refusals w 0 v) refl refl refl

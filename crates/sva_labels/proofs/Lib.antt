@@ -84,3 +84,5 @@ pub mod SoundPasids
 pub mod WholeLists
 pub mod SoundWaits
 pub mod SoundRoom
+pub mod SoundRequests
+pub mod SoundFlights

@@ -19,9 +19,8 @@ use Rattle.sva_unit.specs.declared.pumping.Extent.TheVariants as extent
 use Rattle.sva_unit.specs.declared.pumping.Sending.{Sending}
 use Rattle.sva_unit.specs.declared.pumping.Next.{Next}
 use Rattle.sva_unit.specs.declared.pumping.Next.TheVariants.{Idle, Blocked, Send, Pass}
-use Rattle.sva_unit.specs.Messages.{extent_seen}
 use Rattle.sva_unit.specs.Seen.{UnitSeen, descriptor_seen, request_seen, unit_seen, seen, with_unit}
-use Rattle.sva_unit.specs.Pumping.{sending_of, send_next, pass_next, may_pass, next_at, next_of, pumped, at_endpoint, IsPump, unit_sent, unit_passed}
+use Rattle.sva_unit.specs.Pumping.{extent_seen, sending_of, send_next, pass_next, may_pass, next_at, next_of, pumped, at_endpoint, IsPump, unit_sent, unit_passed}
 use Rattle.sva_unit.proofs.Places.{places_seen, lowest_seen, idle_seen, fresh_seen}
 
 -- It is what the definitions by labels do.

@@ -82,3 +82,4 @@ pub mod Said
 pub mod SoundQueues
 pub mod SoundPasids
 pub mod WholeLists
+pub mod RowsByNames

@@ -158,7 +158,7 @@ freed_seen w e c vector field names r l v owed =
         let nm = first (names k) (is_last_left (p.order_state k)) h in (
           low_of k nm,
           both (Labels.is_set vector (p.itag k)) (is_last_of count (busy_at (unit_of (wire w) e) (p.itag k))) (v.named k nm)
-          (alike k nm (low_of k nm) ∙ second (names k) (is_last_left (p.order_state k)) h),
+              (alike k nm (low_of k nm) ∙ second (names k) (is_last_left (p.order_state k)) h),
           ap the (bears k nm),
         )
 

@@ -213,17 +213,16 @@ other_seen w e t (Some x) i l =
 -- The step.
 
 fault_alike : (w : World) (e t : ℕ) (o : Option ℕ) → Invariant w → e < w.config.endpoints → AreSame (fault_causes (wire w) (device_of (wire w) e) t o) (names.fault_refusals w (w.part e) t o)
-fault_alike w e t o i l =
-    (
-      ap (λ b. (not b, refusal.NotStarted)) (may_seen w e t o i l),
-      λ f. (
-        ap (λ n. (nat_le 32 n, refusal.NoCredit)) (outstanding_seen w e i l),
-        λ f1. (
-          ap (λ b. (b, refusal.NoSuchGroup)) (other_seen w e t o i l),
-          λ f2. (ap (λ (d : DeviceWire). (d.is_disabled, refusal.PriDisabled)) (device_seen w e l), λ f3. (refl, λ f4. tt)),
-        ),
-      ),
-    )
+fault_alike w e t o i l = (
+  ap (λ b. (not b, refusal.NotStarted)) (may_seen w e t o i l),
+  λ f. (
+    ap (λ n. (nat_le 32 n, refusal.NoCredit)) (outstanding_seen w e i l),
+    λ f1. (
+      ap (λ b. (b, refusal.NoSuchGroup)) (other_seen w e t o i l),
+      λ f2. (ap (λ (d : DeviceWire). (d.is_disabled, refusal.PriDisabled)) (device_seen w e l), λ f3. (refl, λ f4. tt)),
+    ),
+  ),
+)
 
 index_is : (w : World) (e : ℕ) → e < w.config.endpoints → Labels.lowest_label 32 (w.part e).at_index < 32 → label (lowest_label (device_of (wire w) e).groups) ≡ Labels.lowest_label 32 (w.part e).at_index
 index_is w e l h =

@@ -120,8 +120,8 @@ in_use_seen w e vector i l =
           k,
           made k taken,
           both (Labels.is_named p vector k) (Labels.is_in_use w p k)
-          (both (is_taken (p.order_state k)) (Labels.is_set vector (p.itag k)) taken (ap (Labels.is_set vector) ((i.parts e).labels.itag_bears t k m).0 ∙ set))
-          (second (is_taken (p.order_state k)) (Labels.is_in_use w p k) waits),
+              (both (is_taken (p.order_state k)) (Labels.is_set vector (p.itag k)) taken (ap (Labels.is_set vector) ((i.parts e).labels.itag_bears t k m).0 ∙ set))
+              (second (is_taken (p.order_state k)) (Labels.is_in_use w p k) waits),
         )
 
     back : (k : ℕ) → k < p.orders → (Labels.is_named p vector k && Labels.is_in_use w p k) ≡ true → (t : ℕ) × (t < 32) × ((Labels.is_set vector t && waits_for_use (chain (λ k. taken_by w.mappings p k (p.order_state k)) (p.at_itag t))) ≡ true)
@@ -132,9 +132,9 @@ in_use_seen w e vector i l =
           p.itag k,
           (i.parts e).labels.itag_low (p.itag k) k there,
           ap (λ o. Labels.is_set vector (p.itag k) && waits_for_use (chain (λ k. taken_by w.mappings p k (p.order_state k)) o)) there
-          ∙ both (Labels.is_set vector (p.itag k)) (waits_for_use (taken_by w.mappings p k (p.order_state k)))
-          (second (is_taken (p.order_state k)) (Labels.is_set vector (p.itag k)) named)
-          (waits_seen w e k i (p.order_state k) ∙ both (is_taken (p.order_state k)) (Labels.is_in_use w p k) taken (second (Labels.is_named p vector k) (Labels.is_in_use w p k) h)),
+              ∙ both (Labels.is_set vector (p.itag k)) (waits_for_use (taken_by w.mappings p k (p.order_state k)))
+              (second (is_taken (p.order_state k)) (Labels.is_set vector (p.itag k)) named)
+              (waits_seen w e k i (p.order_state k) ∙ both (is_taken (p.order_state k)) (Labels.is_in_use w p k) taken (second (Labels.is_named p vector k) (Labels.is_in_use w p k) h)),
         )
 
 pub finish_says : (w : World) (e vector count : ℕ) → Invariant w → SaysAlike w (step.Finish e vector count)
@@ -145,8 +145,8 @@ finish_says w e vector count i =
             endpoint_cause w e,
             λ f. (
               ap (λ b. (Labels.names_none vector || b, refusal.NotPending))
-              (any_same 32 (λ t. Labels.is_set vector t && is_none (taken_at (device_of (wire w) e) t)) (λ t. Labels.is_set vector t && not (Labels.is_pending (w.part e) t))
-              (λ t m. ap (λ b. Labels.is_set vector t && b) (pending_seen w e t i (below_seen w e f)))),
+                  (any_same 32 (λ t. Labels.is_set vector t && is_none (taken_at (device_of (wire w) e) t)) (λ t. Labels.is_set vector t && not (Labels.is_pending (w.part e) t))
+                  (λ t m. ap (λ b. Labels.is_set vector t && b) (pending_seen w e t i (below_seen w e f)))),
               λ f1. (ap (λ b. (b, refusal.InUse)) (in_use_seen w e vector i (below_seen w e f)), λ f2. (refl, λ f3. (refl, λ f4. tt))),
             ),
           );

@@ -1,5 +1,5 @@
 -- The groups that the host has open, looked up in what it keeps: whether a binding has one.
-use Rattle.std.proofs.Common.{◌≡◌, ap, sym, ◌∙◌, ℕ, ◌+◌, ◌<◌, ◌≤◌, Bool, true, arith}
+use Rattle.std.proofs.Common.{◌≡◌, ap, sym, ◌∙◌, ℕ, ◌+◌, ◌<◌, ◌≤◌, true, arith}
 use Rattle.std.specs.Prelude.{◌&&◌, not, ◌==◌}
 use Rattle.sva_model.specs.Words.{lowest, any_below}
 use Rattle.sva_model.specs.State.{HostGroupState, Mappings, Part}
@@ -54,9 +54,6 @@ open_there first m b ms p bo fi =
     any_seen p.filings (begins_open p) (λ k. host_group_wire first p (p.group_of (p.filing k))) (λ g. g.binding == first + b)
     ∙ both_ways (any_below p.filings (λ k. begins_open p k && first + p.filed_under (p.group_of (p.filing k)) == first + b)) (Labels.has_open_group p b) forth back
   where
-    is_begin : ℕ → Bool
-    is_begin k = begins_open p k && first + p.filed_under (p.group_of (p.filing k)) == first + b
-
     forth : any_below p.filings (λ k. begins_open p k && first + p.filed_under (p.group_of (p.filing k)) == first + b) ≡ true → Labels.has_open_group p b ≡ true
     forth h =
         let x = any_below-true p.filings (λ k. begins_open p k && first + p.filed_under (p.group_of (p.filing k)) == first + b) h in

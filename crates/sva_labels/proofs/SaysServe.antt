@@ -32,6 +32,7 @@ use Rattle.sva_labels.proofs.HostGroupsFiled.{Filings}
 use Rattle.sva_labels.proofs.LookedBindings.{bearer_is}
 use Rattle.sva_labels.proofs.LookedFilings.{asks_then}
 use Rattle.sva_labels.proofs.LookedLists.{length_seen}
+use Rattle.sva_labels.proofs.Lookups.{seen_some}
 use Rattle.sva_labels.proofs.SaysBindings.{reset_cause}
 use Rattle.sva_labels.proofs.SaysUnits.{at_endpoint, none_picked, some_picked, count_is_none}
 
@@ -108,10 +109,6 @@ at_worker w x cs ds h =
     alike_more (no_such_worker (wire w) x) (names.no_such_worker w x) cs ds same
     (λ k. h (is_less x w.config.workers (sym (ap (λ c. c.0) same) ∙ k)))
 
-over_some : {A : Type 0} (f : ℕ → A) (o : Option ℕ) → prelude.is_some (option_map f o) ≡ is_some o
-over_some f None = refl
-over_some f (Some k) = refl
-
 taken_by : (w : World) (x j : ℕ) (rest : List JobWire) → take_result x (job_wire w j ∷ rest) ≡ result_by w (take_outcome w x j)
 taken_by w x j rest =
     ap₂ (λ n z. says (answer.JobTaken (number w.config.first ((w.part (w.job j).endpoint).filed_under (w.job j).group)) ((w.part (w.job j).endpoint).index (w.job j).group) n) (Move.Hand ∷ Move.Hold x z ∷ []))
@@ -123,7 +120,7 @@ take_says w x =
     record {
       alike = at_worker w x ((prelude.is_some (held_by (wire w) x), refusal.HandsFull) ∷ (length (wire w).jobs == 0, refusal.NoJob) ∷ []) ((is_some (w.hand x), refusal.HandsFull) ∷ (not (any_below w.jobs (Labels.is_queued_job w)), refusal.NoJob) ∷ [])
           (λ l. alike_same ((prelude.is_some (held_by (wire w) x), refusal.HandsFull) ∷ (length (wire w).jobs == 0, refusal.NoJob) ∷ []) ((is_some (w.hand x), refusal.HandsFull) ∷ (not (any_below w.jobs (Labels.is_queued_job w)), refusal.NoJob) ∷ [])
-          (λ k. ((ap prelude.is_some (held_there w x l) ∙ over_some (job_wire w) (w.hand x)) k, refusal.HandsFull) ∷ ((ap (λ n. n == 0) (length_seen (job_wire w) w.jobs (Labels.is_queued_job w)) ∙ count_is_none w.jobs (Labels.is_queued_job w)) k, refusal.NoJob) ∷ []));
+          (λ k. ((ap prelude.is_some (held_there w x l) ∙ seen_some (job_wire w) (w.hand x)) k, refusal.HandsFull) ∷ ((ap (λ n. n == 0) (length_seen (job_wire w) w.jobs (Labels.is_queued_job w)) ∙ count_is_none w.jobs (Labels.is_queued_job w)) k, refusal.NoJob) ∷ []));
       result = λ k.
           let some = some_picked (job_wire w) w.jobs (Labels.is_queued_job w) (not_true (any_below w.jobs (Labels.is_queued_job w)) k.1.1.0) in
           ap (take_result x) some.1 ∙ taken_by w x (lowest w.jobs (Labels.is_queued_job w)) some.0;

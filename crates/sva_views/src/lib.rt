@@ -2,6 +2,7 @@
 #![tactic(auto)]
 
 ghost use Rattle.sva_views.specs.Bindings.{BindingsAreSeen};
+ghost use Rattle.sva_views.specs.Flights.{FlightLaws};
 ghost use Rattle.sva_views.specs.DeviceLaws.{RequestsAreSeen, UsesAreSeen, GroupsAreSeen, CompletionsAreSeen, DeliveriesAreSeen};
 
 /// What an endpoint refuses, gives out, answers and keeps, by its tables, is what the definitions by labels say of its
@@ -18,4 +19,10 @@ pub fn device_laws()
 /// bindings of a host and what they change.
 pub fn binding_laws()
     ensures { BindingsAreSeen }
+{}
+
+/// What is looked up among the messages in flight, whether one may be delivered, what is sent and what is taken out, is what
+/// the definitions by labels say of them.
+pub fn flight_laws()
+    ensures { FlightLaws }
 {}

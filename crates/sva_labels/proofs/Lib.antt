@@ -82,3 +82,5 @@ pub mod Said
 pub mod SoundQueues
 pub mod SoundPasids
 pub mod WholeLists
+pub mod SoundWaits
+pub mod SoundRoom

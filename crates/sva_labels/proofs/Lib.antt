@@ -83,3 +83,5 @@ pub mod SoundQueues
 pub mod SoundPasids
 pub mod WholeLists
 pub mod RowsByNames
+pub mod SoundWaits
+pub mod SoundRoom

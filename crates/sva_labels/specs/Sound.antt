@@ -1,13 +1,37 @@
 -- What the calls of the parts need of what a host keeps, in its own words; and the law that each world which a list of steps
 -- leads to is seen so.
-use Rattle.std.specs.Prelude.{◌≡◌, ◌↔◌, ℕ, ◌^◌, ◌<◌, ◌≤◌, Some, List, length, slice_get}
+use Rattle.std.specs.Prelude.{◌≡◌, ◌↔◌, ℕ, ◌^◌, ◌<◌, ◌≤◌, Bool, true, false, Option, Some, None, List, [], ◌∷◌, map, length, slice_get, slice_index_or}
 use Rattle.sva_step.specs.declared.limits.Config.{Config}
 use Rattle.sva_step.specs.declared.steps.Step.{Step}
 use Rattle.sva_model.specs.State.PasidRule.{PerSpace}
 use Rattle.sva_model.specs.Steps.{world_after}
 use Rattle.sva_model.specs.Claims.{Fits}
-use Rattle.sva_model.specs.Wire.{Wire, SpaceWire, BindingWire, FlightWire, wire}
-use Rattle.sva_labels.specs.Finding.{unit_of}
+use Rattle.sva_model.specs.Wire.{Wire, SpaceWire, BindingWire, UnitWire, PlaceWire, TargetWire, FlightWire, wire}
+use Rattle.sva_model.specs.Wire.PlaceWire.{WithheldWire}
+use Rattle.sva_model.specs.Wire.TargetWire.{Cookie}
+use Rattle.sva_model.specs.Wire.StageWire.{InvalidatingWire}
+use Rattle.sva_model.specs.Wire.Descriptor.{WaitDescriptor}
+use Rattle.sva_labels.specs.Finding.{unit_of, is_wait_done}
+
+-- what a frame awaits at a unit, if anything; the cookies among such targets, as often as they stand there; and those that
+-- frames await at a unit
+abbrev pub target_there : (endpoint : ℕ) → PlaceWire → Option TargetWire
+target_there e (WithheldWire targets) = slice_index_or targets e None
+target_there e place = None
+
+abbrev pub cookies_in : List (Option TargetWire) → List ℕ
+cookies_in [] = []
+cookies_in (Some (Cookie cookie) ∷ targets) = cookie ∷ cookies_in targets
+cookies_in (_ ∷ targets) = cookies_in targets
+
+abbrev pub awaited_at : (endpoint : ℕ) → List PlaceWire → List ℕ
+awaited_at e places = cookies_in (map (target_there e) places)
+
+-- a wait with this cookie is in the unit's queue
+pub record HasWait (unit : UnitWire) (cookie : ℕ) : Type 0 where
+  pub place : ℕ
+  pub drain : Bool
+  pub stands : slice_get unit.queue place ≡ Some (WaitDescriptor cookie drain)
 
 pub record IsSound (w : Wire) : Type 0 where
   -- numbers and cookies: a step counts on from one of these after its test that it is below 2^63 (a unit's `submit`)
@@ -36,6 +60,22 @@ pub record IsSound (w : Wire) : Type 0 where
   pub pasids_shared : (j k : ℕ) (b d : BindingWire) → slice_get w.bindings j ≡ Some b → slice_get w.bindings k ≡ Some d → (b.pasid ≡ d.pasid) ↔ (b.space ≡ d.space)
   pub endpoint_low : (k : ℕ) (b : BindingWire) → slice_get w.bindings k ≡ Some b → b.endpoint < length w.parts
   pub one_each : (j k : ℕ) (b d : BindingWire) → slice_get w.bindings j ≡ Some b → slice_get w.bindings k ≡ Some d → b.endpoint ≡ d.endpoint → b.space ≡ d.space → j ≡ k
+  -- room for waits (`withhold` of the frames): at an open unit what a frame awaits is a wait in the queue; so is what a binding
+  -- awaits whose PASID is invalidated, unless it is done
+  pub awaited_queued :
+      (e f c : ℕ) (place : PlaceWire)
+      → e < length w.parts
+      → (unit_of w e).is_open ≡ true
+      → slice_get w.places f ≡ Some place
+      → target_there e place ≡ Some (Cookie c)
+      → HasWait (unit_of w e) c
+  pub invalidating_queued :
+      (k c : ℕ) (b : BindingWire)
+      → slice_get w.bindings k ≡ Some b
+      → b.stage ≡ InvalidatingWire c
+      → (unit_of w b.endpoint).is_open ≡ true
+      → is_wait_done (unit_of w b.endpoint) c ≡ false
+      → HasWait (unit_of w b.endpoint) c
 
 -- what is kept at each world that some list of steps leads to
 abbrev pub AlwaysSound : Type 0

@@ -19,6 +19,14 @@ use Rattle.sva_labels.proofs.EndpointViews.{endpoints_seen, unit_seen}
 use Rattle.sva_labels.proofs.SoundLists.{seen_get, seen_rises}
 use Rattle.sva_labels.proofs.SoundNumbers.{HasNumbers, always_numbers}
 use Rattle.sva_labels.proofs.SoundQueues.{always_short, queue_short, ends_rise, end_within}
+use Rattle.sva_laws.proofs.Debts.{AllDebts, always_debts}
+use Rattle.sva_labels.proofs.SoundWaits.{awaited_stands, invalidating_stands}
+use Rattle.sva_laws.proofs.Carried.{always_carried}
+use Rattle.sva_laws.proofs.Limits.{always_outstanding}
+use Rattle.sva_laws.proofs.OnTheWay.{always_on_the_way}
+use Rattle.sva_labels.proofs.HostGroupsFiled.{always_filings}
+use Rattle.sva_labels.proofs.SoundRequests.{always_once}
+use Rattle.sva_labels.proofs.SoundFlights.{flying_at, flight_near, flight_suited, waiting_found, filing_placed}
 use Rattle.sva_labels.proofs.SoundPasids.{kept_at, pasid_low, pasids_shared, endpoint_low, one_each}
 
 -- a number is in the order of its name
@@ -61,6 +69,15 @@ always_sound config steps fits =
       pasid_low = λ k b h. pasid_low w invariant k b (kept_at w k b h);
       pasids_shared = λ j k b d h i. pasids_shared w invariant (rule_kept PerSpace config steps) j k b d (kept_at w j b h) (kept_at w k d i);
       endpoint_low = λ k b h. endpoint_low w invariant k b (kept_at w k b h);
+      awaited_queued = λ e f c x l o h t. awaited_stands w fronts debts few_endpoints e f c x (there e l) o h t;
+      invalidating_queued = λ k c b h st o d. invalidating_stands w invariant fronts k c b (kept_at w k b h) st o d;
+      flight_endpoint = λ k f h. flight_near w invariant k f (flying_at w k f h);
+      flight_suits = λ k f h. flight_suited w invariant (always_carried PerSpace config steps) (always_outstanding PerSpace config steps) k f (flying_at w k f h);
+      waiting_borne = λ e k r l h. waiting_found w invariant e k r (there e l) h;
+      filing_fits =
+          λ e k r b l h f.
+          filing_placed w invariant (always_on_the_way PerSpace config steps) (always_filings PerSpace config steps) (always_once PerSpace config steps) (always_outstanding PerSpace config steps)
+          e k r b (there e l) h f;
       one_each = λ j k b d h i. one_each w invariant j k b d (kept_at w j b h) (kept_at w k d i);
     }
   where
@@ -75,6 +92,9 @@ always_sound config steps fits =
 
     fronts : AllFronts (world_after PerSpace config steps)
     fronts = always_fronts PerSpace config steps
+
+    debts : AllDebts (world_after PerSpace config steps)
+    debts = always_debts PerSpace config steps
 
     there : (e : ℕ) → e < length (wire (world_after PerSpace config steps)).parts → e < (world_after PerSpace config steps).config.endpoints
     there e l = subst (λ n. e < n) (endpoints_seen (world_after PerSpace config steps)) l

@@ -1,7 +1,7 @@
 -- The table of bindings, seen.
-use Rattle.std.proofs.Common.{◌≡◌, refl, ap, sym, ◌∙◌, ℕ, zero, suc, ◌+◌, Bool, true, false, arith}
+use Rattle.std.proofs.Common.{◌≡◌, ◌⊎◌, inl, inr, refl, ap, sym, ◌∙◌, ℕ, zero, suc, ◌+◌, ◌<◌, Bool, true, false, arith}
 use Rattle.std.proofs.Math.Path.{fun_ext}
-use Rattle.std.specs.Prelude.{cond, nat_lt, ◌==◌, ◌&&◌, ◌||◌, not, if◌then◌else◌, Option, Some, None, option_map, List, [], ◌∷◌, map, filter, find}
+use Rattle.std.specs.Prelude.{cond, nat_lt, ◌==◌, ◌&&◌, ◌||◌, not, if◌then◌else◌, Option, Some, None, option_map, List, [], ◌∷◌, ◌++◌, map, filter, find}
 use Rattle.std.specs.List.{count_by, list_any, range_with_len}
 use Rattle.std.specs.Option.{option_or}
 use Rattle.std.proofs.lemmas.List.{map-append}
@@ -9,7 +9,9 @@ use Rattle.std.proofs.lemmas.List.Sums.{sum_by-cons}
 use Rattle.std.proofs.lemmas.Bool.Decides.{nat_tests}
 use Rattle.sva_model.specs.Words as words
 use Rattle.sva_model.specs.Words.{lowest, step_lowest, if_found}
-use Rattle.sva_model.specs.Wire.{Wire, BindingWire}
+use Rattle.sva_model.specs.Labels as labels
+use Rattle.sva_model.specs.Wire.{Wire, BindingWire, StageWire}
+use Rattle.sva_model.specs.Wire.StageWire.{QuietWire}
 use Rattle.sva_labels.specs.Finding as finding
 use Rattle.sva_labels.specs.Moves as moves
 use Rattle.sva_pasid.specs.declared.places.Place.{Place}
@@ -18,7 +20,7 @@ use Rattle.sva_pasid.specs.declared.stages.Stage.{Stage}
 use Rattle.sva_pasid.specs.declared.stages.Stage.TheVariants.{Live, Stopping, Draining, Invalidating, Quiet, Lost}
 use Rattle.sva_pasid.specs.Stages.{reset_of}
 use Rattle.sva_pasid.specs.Places as places
-use Rattle.sva_views.specs.Bindings.{stage_seen, stage_or_quiet, binding_seen, bindings_seen, AreLookedUp, AreChanged, BindingsAreSeen}
+use Rattle.sva_views.specs.Bindings.{stage_seen, stage_or_quiet, binding_seen, bindings_seen, bearer_seen, AreLookedUp, AreChanged, BindingsAreSeen}
 
 -- A search, a test and a count among things that are seen.
 

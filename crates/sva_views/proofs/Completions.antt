@@ -1,5 +1,5 @@
 -- Completions of invalidations, seen: by the bits of an ITag Vector.
-use Rattle.std.proofs.Common.{◌≡◌, refl, ap, sym, ◌∙◌, ℕ, zero, suc, ◌+◌, ◌<◌, ◌^◌, Bool, true, false, arith}
+use Rattle.std.proofs.Common.{◌≡◌, ◌⊎◌, inl, inr, refl, ap, sym, ◌∙◌, ℕ, zero, suc, ◌+◌, ◌<◌, ◌^◌, Bool, true, false, arith}
 use Rattle.std.specs.Prelude.{◌&&◌, ◌||◌, not, ◌==◌, nat_lt, nat_le, if◌then◌else◌, is_some, is_none, Option, Some, None, option_map, List, [], ◌∷◌, ◌++◌, map, length, slice_index_or}
 use Rattle.std.specs.Int.{bit_at}
 use Rattle.std.specs.List.{list_any, list_all, enumerate_from}
@@ -8,6 +8,7 @@ use Rattle.std.proofs.lemmas.Nat.Bits.{bit_at-zero, bit_at-lt, same_from_bits_be
 use Rattle.sva_step.specs.declared.refusals.Refusal.TheVariants as refusal
 use Rattle.sva_model.specs.Words.{any_below, tabulate}
 use Rattle.sva_model.specs.Labels.{is_set, names_none}
+use Rattle.sva_model.specs.Wire.{TakenWire}
 use Rattle.sva_labels.specs.Finding.{taken_at, waits_for_use}
 use Rattle.sva_labels.specs.Moves as moves
 use Rattle.sva_itags.specs.Vector.{is_named}

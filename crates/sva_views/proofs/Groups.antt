@@ -1,6 +1,6 @@
 -- Page requests and the end of a PASID, seen.
 use Rattle.std.proofs.Common.{◌≡◌, refl, ap, sym, ◌∙◌, ℕ, suc, ◌+◌, ◌<◌, ◌^◌, Bool, true, false, arith}
-use Rattle.std.specs.Prelude.{◌||◌, not, ◌==◌, nat_lt, nat_le, if◌then◌else◌, is_none, IsSome, Option, Some, None, List, [], ◌∷◌, map, slice_set, position}
+use Rattle.std.specs.Prelude.{◌&&◌, ◌||◌, not, ◌==◌, nat_lt, nat_le, if◌then◌else◌, is_none, IsSome, Option, Some, None, List, [], ◌∷◌, map, slice_set, slice_index_or, position, sum_by}
 use Rattle.std.specs.List.{list_any}
 use Rattle.std.proofs.lemmas.List.{map-set}
 use Rattle.std.proofs.lemmas.List.Sums.{sum_by-cons}
@@ -21,13 +21,13 @@ use Rattle.sva_tables.specs.declared.use_slots.UseSlot.{UseSlot}
 use Rattle.sva_tables.specs.declared.use_slots.UseSlot.TheVariants as slots
 use Rattle.sva_tables.specs.declared.groups.GroupPlace.{GroupPlace}
 use Rattle.sva_tables.specs.declared.groups.GroupPlace.TheVariants.{Free, Unfinished, Out, Stale}
-use Rattle.sva_tables.specs.PasidStates.{state_of, is_off}
+use Rattle.sva_tables.specs.PasidStates.{state_of, is_on, is_off}
 use Rattle.sva_tables.specs.RequestTags.{asks_under}
 use Rattle.sva_tables.specs.UseSlots.{runs_under}
 use Rattle.sva_tables.specs.Groups.{is_free, is_unfinished, group_at, group_of, with_request, stale_of, requests_of, outstanding}
 use Rattle.sva_endpoint.specs.declared.permitted.Fault.{Fault}
 use Rattle.sva_endpoint.specs.Tables.{Tables}
-use Rattle.sva_endpoint.specs.Steps.{may_send, is_of_group, index_for, group_after, is_busy}
+use Rattle.sva_endpoint.specs.Steps.{may_send, is_of_group, index_for, group_after, after_fault, is_busy}
 use Rattle.sva_endpoint.specs.Laws.{IsSound}
 use Rattle.sva_views.specs.Device.{pasid_seen, tag_seen, slot_seen, group_seen, device_seen}
 use Rattle.sva_views.specs.DeviceLaws.{FaultIsSeen, QuitIsSeen, faulted}

@@ -1,6 +1,6 @@
 -- The states of PASIDs, seen.
-use Rattle.std.proofs.Common.{◌≡◌, refl, ap, sym, ◌∙◌, ℕ, zero, suc, ◌+◌, Bool, true, arith}
-use Rattle.std.specs.Prelude.{not, nat_lt, if◌then◌else◌, List, [], ◌∷◌, map, drop, slice_index_or, slice_set}
+use Rattle.std.proofs.Common.{◌≡◌, refl, ap, sym, ◌∙◌, ℕ, zero, suc, ◌+◌, ◌^◌, Bool, true, false, arith}
+use Rattle.std.specs.Prelude.{cond, ◌&&◌, ◌||◌, not, nat_lt, if◌then◌else◌, List, [], ◌∷◌, map, drop, slice_index_or, slice_set}
 use Rattle.std.proofs.lemmas.List.{map-set}
 use Rattle.std.proofs.lemmas.Bool.Decides.{nat_tests}
 use Rattle.sva_model.specs.State.{PasidState as DeviceState}
@@ -9,7 +9,7 @@ use Rattle.sva_labels.specs.Finding.{pasid_state}
 use Rattle.sva_labels.specs.Moves.{with_pasid}
 use Rattle.sva_tables.specs.declared.pasid_states.PasidState.{PasidState}
 use Rattle.sva_tables.specs.declared.pasid_states.PasidState.TheVariants.{Off, On, Stopping}
-use Rattle.sva_tables.specs.PasidStates.{state_of, with_state, is_on, is_stopping}
+use Rattle.sva_tables.specs.PasidStates.{state_of, with_state, is_on, is_off, is_stopping}
 use Rattle.sva_endpoint.specs.Tables.{Tables}
 use Rattle.sva_views.specs.Device.{pasid_seen, device_seen}
 use Rattle.sva_endpoint.specs.Laws.{IsSound}

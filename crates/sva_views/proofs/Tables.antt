@@ -1,8 +1,9 @@
 -- Tables of labels, seen place by place.
-use Rattle.std.proofs.Common.{◌≡◌, refl, ℕ, zero, suc, ◌+◌, Bool, true, false}
-use Rattle.std.specs.Prelude.{cond, ◌||◌, not, nat_lt, is_none, Option, Some, None, List, [], ◌∷◌, map, length, slice_index_or, position}
+use Rattle.std.proofs.Common.{◌≡◌, ◌≢◌, ◌⊎◌, inl, inr, refl, ap, ap₂, sym, ◌∙◌, ℕ, zero, suc, ◌+◌, ◌<◌, Bool, true, false, arith}
+use Rattle.std.specs.Prelude.{cond, ◌&&◌, ◌||◌, not, ◌==◌, nat_lt, nat_le, if◌then◌else◌, is_none, Option, Some, None, option_map, List, [], ◌∷◌, map, length, drop, slice_index_or, slice_set, position}
 use Rattle.std.specs.List.{position_or_len, list_any}
-use Rattle.std.proofs.lemmas.List.{length-map}
+use Rattle.std.proofs.lemmas.List.{map-set, length-map}
+use Rattle.std.proofs.lemmas.Bool.Decides.{nat_tests}
 
 -- the lowest free place
 pub first_place : {A B : Type 0} (see : A → Option B) (is_free : A → Bool) → ((a : A) → is_none (see a) ≡ is_free a) → (xs : List A) → position_or_len (λ b. is_none b) (map see xs) ≡ position_or_len is_free xs

@@ -85,3 +85,5 @@ pub mod WholeLists
 pub mod RowsByNames
 pub mod SoundWaits
 pub mod SoundRoom
+pub mod SoundRequests
+pub mod SoundFlights

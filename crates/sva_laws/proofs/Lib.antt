@@ -52,3 +52,4 @@ pub mod Targets
 pub mod OneEndpoint
 pub mod Journals
 pub mod Said
+pub mod Successes

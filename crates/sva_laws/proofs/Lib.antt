@@ -53,3 +53,4 @@ pub mod OneEndpoint
 pub mod Journals
 pub mod Said
 pub mod Successes
+pub mod OnePart

@@ -4,6 +4,7 @@
 ghost use Rattle.sva_model.specs.Claims.{AlwaysAgrees};
 ghost use Rattle.sva_laws.specs.Laws.{AlwaysOwned, AlwaysPresentOrWithheld, AlwaysMatched, AlwaysHoldsJobs, AlwaysDivided, AlwaysAddsUp, AlwaysWithheldExactly, FreeByTheLastAnswer, AlwaysTold, AlwaysToldOfRange, AlwaysGiven, AlwaysLabelled, AlwaysFound, AlwaysCarried, AlwaysUnderWay, NeverOccurring, AlwaysLimited};
 ghost use Rattle.sva_laws.specs.Answers.{AlwaysFinishes, AlwaysUses, AlwaysLooks, AlwaysFrees, AlwaysSucceeds};
+ghost use Rattle.sva_laws.specs.Steps.{AlwaysChangesOnePart, AlwaysDropsApart};
 ghost use Rattle.sva_laws.specs.Runs.{AlwaysLegalInFront, AlwaysLegalByAnswer, SameForOneEndpoint};
 ghost use Rattle.sva_laws.specs.Waits.{AlwaysHasFront, AlwaysFitsDebts, AlwaysAwaitsTargets};
 ghost use Rattle.sva_laws.specs.UnitSteps.{AlwaysCountsResetDones, AlwaysChangesOrders, AlwaysVoidByReset, AlwaysNotesMarkers, AlwaysGivesCookies};
@@ -92,4 +93,11 @@ pub fn what_answers_tell()
     ensures looks { AlwaysLooks }
     ensures frees { AlwaysFrees }
     ensures succeeds { AlwaysSucceeds }
+{}
+
+/// What one step changes: one endpoint with its unit at most, unless it takes pages out of a space; and the drop of a space
+/// changes none.
+pub fn what_steps_change()
+    ensures one_part { AlwaysChangesOnePart }
+    ensures apart { AlwaysDropsApart }
 {}

@@ -102,7 +102,9 @@ bindings_same w e o i h =
         })
 
 -- What is said of a binding at its endpoint, by whether that is the endpoint of the act.
-at_home : (w : World) (e : ℕ) (o : Own) (P : ℕ → Part → Type 0) (x : ℕ) → (x ≡ e → P e (part_after w e o)) → (x ≢ e → P x (w.part x)) → P x ((act w (At e o)).part x)
+at_home :
+    (w : World) (e : ℕ) (o : Own) (P : ℕ → Part → Type 0) (x : ℕ) → (x ≡ e → P e (part_after w e o)) → (x ≢ e → P x (w.part x))
+    → P x ((act w (At e o)).part x)
 at_home w e o P x here there = go (ℕ_cases x e)
   where
     go : (x ≡ e) ⊎ (x ≢ e) → P x (put w.part e (part_after w e o) x)
@@ -126,7 +128,9 @@ other_number first d b ne = grind (arith, nat_tests)
 own_number : (first d b : ℕ) → d ≡ b → (first + d == first + b) ≡ true
 own_number first d b h = grind (arith, nat_tests)
 
-pub bindings_staged : (w : World) (e : ℕ) (o : Own) (b : ℕ) (st : StageWire) → Invariant w → ComesToStage w.config.first (w.part e) (part_after w e o) b st → (wire (act w (At e o))).bindings ≡ with_stage (number w.config.first b) st (wire w).bindings
+pub bindings_staged :
+    (w : World) (e : ℕ) (o : Own) (b : ℕ) (st : StageWire) → Invariant w → ComesToStage w.config.first (w.part e) (part_after w e o) b st
+    → (wire (act w (At e o))).bindings ≡ with_stage (number w.config.first b) st (wire w).bindings
 bindings_staged w e o b st i k =
     select_seen w.bindings _ _ _ _
     (λ d l. at_home w e o (λ x q. is_unreleased (q.stage d) ≡ is_unreleased ((w.part x).stage d)) (w.home d) (λ h. passes d (ℕ_cases d b)) (λ ne. refl))
@@ -140,7 +144,8 @@ bindings_staged w e o b st i k =
     with_st x = if x.binding == number w.config.first b then record x { stage = st } else x
 
     away : (x d : ℕ) → d ≢ b → binding_wire w.config.first x (w.part x) d ≡ with_st (binding_wire w.config.first x (w.part x) d)
-    away x d ne = sym (ap (λ t. if t then record (binding_wire w.config.first x (w.part x) d) { stage = st } else binding_wire w.config.first x (w.part x) d) (other_number w.config.first d b ne))
+    away x d ne =
+        sym (ap (λ t. if t then record (binding_wire w.config.first x (w.part x) d) { stage = st } else binding_wire w.config.first x (w.part x) d) (other_number w.config.first d b ne))
 
     passes : (d : ℕ) → (d ≡ b) ⊎ (d ≢ b) → is_unreleased ((part_after w e o).stage d) ≡ is_unreleased ((w.part e).stage d)
     passes d (inl x) = ap (λ z. is_unreleased ((part_after w e o).stage z)) x ∙ k.now ∙ sym k.was ∙ ap (λ z. is_unreleased ((w.part e).stage z)) (sym x)
@@ -158,7 +163,9 @@ bindings_staged w e o b st i k =
     seen d (inr ne) = binding_kept w.config.first e (w.part e) (part_after w e o) d (k.others d ne) ∙ away e d ne
 
 -- A binding that is new stands last. Its name was the last that was given.
-pub bindings_bound : (w : World) (e b s t : ℕ) → Invariant w → LegalOwn w.mappings w.bindings (w.part e) (Own.Bind b s t) → suc b ≡ w.bindings → w.home b ≡ e → (wire (act w (At e (Own.Bind b s t)))).bindings ≡ (wire w).bindings ++ record { endpoint = e; space = number w.config.first s; binding = number w.config.first b; pasid = t; stage = LiveWire } ∷ []
+pub bindings_bound :
+    (w : World) (e b s t : ℕ) → Invariant w → LegalOwn w.mappings w.bindings (w.part e) (Own.Bind b s t) → suc b ≡ w.bindings → w.home b ≡ e
+    → (wire (act w (At e (Own.Bind b s t)))).bindings ≡ (wire w).bindings ++ record { endpoint = e; space = number w.config.first s; binding = number w.config.first b; pasid = t; stage = LiveWire } ∷ []
 bindings_bound w e b s t i legal last home =
     ap (λ n. map (λ d. binding_wire w.config.first (w.home d) ((act w (At e o)).part (w.home d)) d) (select n (λ d. is_unreleased (((act w (At e o)).part (w.home d)).stage d)))) (sym last)
     ∙ select_one b (λ d. is_unreleased (((act w (At e o)).part (w.home d)).stage d)) (λ d. binding_wire w.config.first (w.home d) ((act w (At e o)).part (w.home d)) d) (at_part (λ x q. is_unreleased (q.stage b) ≡ true) (ap is_unreleased (put-same (w.part e).stage b Live)))
@@ -209,7 +216,9 @@ bindings_bound w e b s t i legal last home =
         ∙ select_less b (λ d. is_unreleased ((w.part (w.home d)).stage d)) (λ d. binding_wire w.config.first (w.home d) (w.part (w.home d)) d) unbound
 
 -- One is released.
-pub bindings_released : (w : World) (e b : ℕ) → Invariant w → LegalOwn w.mappings w.bindings (w.part e) (Own.Release b) → (wire (act w (At e (Own.Release b)))).bindings ≡ without_binding (number w.config.first b) (wire w).bindings
+pub bindings_released :
+    (w : World) (e b : ℕ) → Invariant w → LegalOwn w.mappings w.bindings (w.part e) (Own.Release b)
+    → (wire (act w (At e (Own.Release b)))).bindings ≡ without_binding (number w.config.first b) (wire w).bindings
 bindings_released w e b i legal =
     select_seen w.bindings _ _ _ _
     (λ d l. at_home w e o (λ x q. is_unreleased (q.stage d) ≡ (is_unreleased ((w.part x).stage d) && not (number w.config.first d == number w.config.first b))) (w.home d) (λ h. here d (ℕ_cases d b)) (λ ne. left (is_unreleased ((w.part (w.home d)).stage d)) d (λ x. ne (ap w.home x ∙ home))))
@@ -233,15 +242,21 @@ bindings_released w e b i legal =
     none true = refl
     none false = refl
 
-    here : (d : ℕ) → (d ≡ b) ⊎ (d ≢ b) → is_unreleased ((part_after w e o).stage d) ≡ (is_unreleased ((w.part e).stage d) && not (number w.config.first d == number w.config.first b))
+    here :
+        (d : ℕ) → (d ≡ b) ⊎ (d ≢ b)
+        → is_unreleased ((part_after w e o).stage d) ≡ (is_unreleased ((w.part e).stage d) && not (number w.config.first d == number w.config.first b))
     here d (inl x) =
         ap (λ z. is_unreleased ((part_after w e o).stage z)) x
         ∙ ap is_unreleased (put-same (w.part e).stage b Released)
         ∙ sym (ap (λ t. is_unreleased ((w.part e).stage d) && not t) (own_number w.config.first d b x) ∙ none (is_unreleased ((w.part e).stage d)))
     here d (inr ne) = ap is_unreleased (put-other (w.part e).stage b Released d ne) ∙ left (is_unreleased ((w.part e).stage d)) d ne
 
-    seen : (d : ℕ) → (d ≡ b) ⊎ (d ≢ b) → (is_unreleased ((w.part e).stage d) && not (number w.config.first d == number w.config.first b)) ≡ true → binding_wire w.config.first e (part_after w e o) d ≡ binding_wire w.config.first e (w.part e) d
-    seen d (inl x) t = absurd (cc (sym (ap (λ z. is_unreleased ((w.part e).stage d) && not z) (own_number w.config.first d b x) ∙ none (is_unreleased ((w.part e).stage d))) ∙ t))
+    seen :
+        (d : ℕ) → (d ≡ b) ⊎ (d ≢ b)
+        → (is_unreleased ((w.part e).stage d) && not (number w.config.first d == number w.config.first b)) ≡ true
+        → binding_wire w.config.first e (part_after w e o) d ≡ binding_wire w.config.first e (w.part e) d
+    seen d (inl x) t =
+        absurd (cc (sym (ap (λ z. is_unreleased ((w.part e).stage d) && not z) (own_number w.config.first d b x) ∙ none (is_unreleased ((w.part e).stage d))) ∙ t))
     seen d (inr ne) t =
         binding_kept w.config.first e (w.part e) (part_after w e o) d
         (record { space = refl; pasid = refl; stage = put-other (w.part e).stage b Released d ne; order = keeps_order (w.part e) w.messages o d (i.parts e).orders })
@@ -287,7 +302,10 @@ bindings_cut w e c =
 
 -- The acts that bring a binding to another stage.
 
-put_stage : (p : Part) (n : ℕ) (o : Own) (b : ℕ) (s : Stage) (first : ℕ) (st : StageWire) → Orders p → (own p n o).stage ≡ put p.stage b s → (own p n o).space ≡ p.space → (own p n o).pasid ≡ p.pasid → is_unreleased (p.stage b) ≡ true → is_unreleased s ≡ true → stage_wire first (own p n o) s ≡ st → ComesToStage first p (own p n o) b st
+put_stage :
+    (p : Part) (n : ℕ) (o : Own) (b : ℕ) (s : Stage) (first : ℕ) (st : StageWire) → Orders p → (own p n o).stage ≡ put p.stage b s
+    → (own p n o).space ≡ p.space → (own p n o).pasid ≡ p.pasid → is_unreleased (p.stage b) ≡ true → is_unreleased s ≡ true
+    → stage_wire first (own p n o) s ≡ st → ComesToStage first p (own p n o) b st
 put_stage p n o b s first st od stage space pasid was now seen =
     record {
       was = was;
@@ -295,7 +313,8 @@ put_stage p n o b s first st od stage space pasid was now seen =
       stage = ap (stage_wire first (own p n o)) here ∙ seen;
       space = ap (λ f. f b) space;
       pasid = ap (λ f. f b) pasid;
-      others = λ d ne. record { space = ap (λ f. f d) space; pasid = ap (λ f. f d) pasid; stage = ap (λ f. f d) stage ∙ put-other p.stage b s d ne; order = keeps_order p n o d od };
+      others =
+          λ d ne. record { space = ap (λ f. f d) space; pasid = ap (λ f. f d) pasid; stage = ap (λ f. f d) stage ∙ put-other p.stage b s d ne; order = keeps_order p n o d od };
     }
   where
     here : (own p n o).stage b ≡ s
@@ -304,24 +323,32 @@ put_stage p n o b s first st od stage space pasid was now seen =
 unreleased_is : (p : Part) (b : ℕ) (s : Stage) → p.stage b ≡ s → is_unreleased s ≡ true → is_unreleased (p.stage b) ≡ true
 unreleased_is p b s h k = ap is_unreleased h ∙ k
 
-pub bindings_stopped : (w : World) (e b : ℕ) → Invariant w → LegalOwn w.mappings w.bindings (w.part e) (Own.Stop b) → (wire (act w (At e (Own.Stop b)))).bindings ≡ with_stage (number w.config.first b) (StoppingWire false) (wire w).bindings
+pub bindings_stopped :
+    (w : World) (e b : ℕ) → Invariant w → LegalOwn w.mappings w.bindings (w.part e) (Own.Stop b)
+    → (wire (act w (At e (Own.Stop b)))).bindings ≡ with_stage (number w.config.first b) (StoppingWire false) (wire w).bindings
 bindings_stopped w e b i l =
     bindings_staged w e (Own.Stop b) b (StoppingWire false) i
     (put_stage (w.part e) w.messages (Own.Stop b) b (Stopping false) w.config.first (StoppingWire false) (i.parts e).orders refl refl refl (unreleased_is (w.part e) b Live l.1 refl) refl refl)
 
-pub bindings_drained : (w : World) (e b : ℕ) → Invariant w → LegalOwn w.mappings w.bindings (w.part e) (Own.Drain b w.cookies) → (wire (act w (At e (Own.Drain b w.cookies)))).bindings ≡ with_stage (number w.config.first b) (DrainingWire (wire w).next_cookie) (wire w).bindings
+pub bindings_drained :
+    (w : World) (e b : ℕ) → Invariant w → LegalOwn w.mappings w.bindings (w.part e) (Own.Drain b w.cookies)
+    → (wire (act w (At e (Own.Drain b w.cookies)))).bindings ≡ with_stage (number w.config.first b) (DrainingWire (wire w).next_cookie) (wire w).bindings
 bindings_drained w e b i l =
     bindings_staged w e (Own.Drain b w.cookies) b (DrainingWire (wire w).next_cookie) i
     (put_stage (w.part e) w.messages (Own.Drain b w.cookies) b (Draining (w.part e).orders) w.config.first (DrainingWire (wire w).next_cookie) (i.parts e).orders refl refl refl (unreleased_is (w.part e) b (Stopping true) l.1 refl) refl
     (ap (λ o. DrainingWire (cookie_number w.config.first o)) (put-same (w.part e).order (w.part e).orders (Wait w.cookies true))))
 
-pub bindings_invalidated : (w : World) (e b : ℕ) → Invariant w → LegalOwn w.mappings w.bindings (w.part e) (Own.Invalidate b w.cookies) → (wire (act w (At e (Own.Invalidate b w.cookies)))).bindings ≡ with_stage (number w.config.first b) (InvalidatingWire (wire w).next_cookie) (wire w).bindings
+pub bindings_invalidated :
+    (w : World) (e b : ℕ) → Invariant w → LegalOwn w.mappings w.bindings (w.part e) (Own.Invalidate b w.cookies)
+    → (wire (act w (At e (Own.Invalidate b w.cookies)))).bindings ≡ with_stage (number w.config.first b) (InvalidatingWire (wire w).next_cookie) (wire w).bindings
 bindings_invalidated w e b i l =
     bindings_staged w e (Own.Invalidate b w.cookies) b (InvalidatingWire (wire w).next_cookie) i
     (put_stage (w.part e) w.messages (Own.Invalidate b w.cookies) b (Invalidating (w.part e).orders (suc (w.part e).orders)) w.config.first (InvalidatingWire (wire w).next_cookie) (i.parts e).orders refl refl refl (unreleased_is (w.part e) b (Draining l.1.0) l.1.1 refl) refl
     (ap (λ o. InvalidatingWire (cookie_number w.config.first o)) (put-same (put (w.part e).order (w.part e).orders (PasidOf b)) (suc (w.part e).orders) (Wait w.cookies false))))
 
-pub bindings_quieted : (w : World) (e b : ℕ) → Invariant w → LegalOwn w.mappings w.bindings (w.part e) (Own.Quieten b) → (wire (act w (At e (Own.Quieten b)))).bindings ≡ with_stage (number w.config.first b) QuietWire (wire w).bindings
+pub bindings_quieted :
+    (w : World) (e b : ℕ) → Invariant w → LegalOwn w.mappings w.bindings (w.part e) (Own.Quieten b)
+    → (wire (act w (At e (Own.Quieten b)))).bindings ≡ with_stage (number w.config.first b) QuietWire (wire w).bindings
 bindings_quieted w e b i l =
     bindings_staged w e (Own.Quieten b) b QuietWire i
     (put_stage (w.part e) w.messages (Own.Quieten b) b Quiet w.config.first QuietWire (i.parts e).orders refl refl refl (was l) refl refl)
@@ -330,7 +357,9 @@ bindings_quieted w e b i l =
     was (inl h) = unreleased_is (w.part e) b Lost h refl
     was (inr h) = unreleased_is (w.part e) b (Invalidating h.0 h.1) h.3 refl
 
-pub bindings_marked : (w : World) (e c b : ℕ) → Invariant w → LegalOwn w.mappings w.bindings (w.part e) (Own.Mark c b) → (wire (act w (At e (Own.Mark c b)))).bindings ≡ with_stage (number w.config.first b) (StoppingWire true) (wire w).bindings
+pub bindings_marked :
+    (w : World) (e c b : ℕ) → Invariant w → LegalOwn w.mappings w.bindings (w.part e) (Own.Mark c b)
+    → (wire (act w (At e (Own.Mark c b)))).bindings ≡ with_stage (number w.config.first b) (StoppingWire true) (wire w).bindings
 bindings_marked w e c b i l =
     let stage : (w.part e).stage b ≡ Stopping false = (i.parts e).bindings.marker_stage c b l.0 in
     bindings_staged w e (Own.Mark c b) b (StoppingWire true) i

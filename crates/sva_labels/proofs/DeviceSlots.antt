@@ -37,20 +37,27 @@ running_unreleased ms p u ow h = unreleased (p.stage (p.use_binding u)) (ow.runn
     unreleased s h = grind arith
 
 -- a new binding isn't that of a running use
-pub slots_bound : (ms : Mappings) (g n : ℕ) (p : Part) (b s t : ℕ) → LegalOwn ms g p (Own.Bind b s t) → Owners ms p → slots_wire ms (own p n (Own.Bind b s t)) ≡ slots_wire ms p
+pub slots_bound :
+    (ms : Mappings) (g n : ℕ) (p : Part) (b s t : ℕ) → LegalOwn ms g p (Own.Bind b s t) → Owners ms p
+    → slots_wire ms (own p n (Own.Bind b s t)) ≡ slots_wire ms p
 slots_bound ms g n p b s t l ow =
     row_same 16 p.at_slot (use_wire ms p) (use_wire ms (own p n (Own.Bind b s t))) (λ x u h. by_state u (p.use_state u) (λ e. other u (ow.running u e)))
   where
     other : (u : ℕ) → is_active (p.stage (p.use_binding u)) ≡ true → p.use_binding u ≢ b
     other u a e = absurd (cc (sym a ∙ ap (λ c. is_active (p.stage c)) e ∙ ap is_active l.2))
 
-    by_state : (u : ℕ) (state : UseState) → (state ≡ Running → p.use_binding u ≢ b) → seen_use state (translation_wire ms (own p n (Own.Bind b s t)) (p.use_binding u) (ms.page (p.use_mapping u)) (p.use_mapping u)) ≡ seen_use state (translation_wire ms p (p.use_binding u) (ms.page (p.use_mapping u)) (p.use_mapping u))
-    by_state u Running h = ap (λ x. RunningWire (record { pasid = x; page = ms.page (p.use_mapping u); frame = ms.frame (p.use_mapping u); write = ms.write (p.use_mapping u) })) (put-other p.pasid b t (p.use_binding u) (h refl))
+    by_state :
+        (u : ℕ) (state : UseState) → (state ≡ Running → p.use_binding u ≢ b)
+        → seen_use state (translation_wire ms (own p n (Own.Bind b s t)) (p.use_binding u) (ms.page (p.use_mapping u)) (p.use_mapping u)) ≡ seen_use state (translation_wire ms p (p.use_binding u) (ms.page (p.use_mapping u)) (p.use_mapping u))
+    by_state u Running h =
+        ap (λ x. RunningWire (record { pasid = x; page = ms.page (p.use_mapping u); frame = ms.frame (p.use_mapping u); write = ms.write (p.use_mapping u) })) (put-other p.pasid b t (p.use_binding u) (h refl))
     by_state u Dead h = refl
     by_state u Ended h = refl
 
 -- a use begins with the translation that the answer to a request left in the cache
-pub slots_begun : (ms : Mappings) (g n : ℕ) (p : Part) (r m t : ℕ) → LegalOwn ms g p (Own.Begin r m t) → Bounds g p → Labels p → Owners ms p → slots_wire ms (own p n (Own.Begin r m t)) ≡ slice_set (slots_wire ms p) t (Some (RunningWire (translation_wire ms p (p.request_binding r) (p.request_page r) m)))
+pub slots_begun :
+    (ms : Mappings) (g n : ℕ) (p : Part) (r m t : ℕ) → LegalOwn ms g p (Own.Begin r m t) → Bounds g p → Labels p → Owners ms p
+    → slots_wire ms (own p n (Own.Begin r m t)) ≡ slice_set (slots_wire ms p) t (Some (RunningWire (translation_wire ms p (p.request_binding r) (p.request_page r) m)))
 slots_begun ms g n p r m t l bo la ow =
     row_set 16 t p.at_slot (put p.at_slot t (Some p.uses)) (use_wire ms p) (use_wire ms (own p n (Own.Begin r m t))) (Some (RunningWire (translation_wire ms p (p.request_binding r) (p.request_page r) m)))
     (ap (option_map (use_wire ms (own p n (Own.Begin r m t)))) (put-same p.at_slot t (Some p.uses)) ∙ ap (λ x. Some x) fresh)

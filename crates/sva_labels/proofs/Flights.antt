@@ -91,7 +91,9 @@ old_flight w e o c l =
     ∙ ap (λ m. record { number = number w.config.first c; endpoint = w.way c; message = m })
     (same_view (λ p. p.carried c) w.part e (part_after w e o) (old_carried (w.part e) w.messages o c l) (w.way c))
 
-new_flight : (w : World) (e : ℕ) (o : Own) (j : ℕ) → j < sends o → flight_wire (act w (At e o)) (w.messages + j) ≡ record { number = number w.config.first w.messages + j; endpoint = e; message = said (w.part e) o }
+new_flight :
+    (w : World) (e : ℕ) (o : Own) (j : ℕ) → j < sends o
+    → flight_wire (act w (At e o)) (w.messages + j) ≡ record { number = number w.config.first w.messages + j; endpoint = e; message = said (w.part e) o }
 new_flight w e o j l =
     let later : w.config.first + (w.messages + j) ≡ w.config.first + w.messages + j = omega arith in
     ap (λ x. record { number = number w.config.first (w.messages + j); endpoint = x; message = (put w.part e (part_after w e o) x).carried (w.messages + j) }) (new_way w.way w.messages (sends o) e j l)
@@ -142,14 +144,17 @@ old_flies w e o c to l =
         differ : c ≢ d → b ≡ (b && not (c == d))
         differ ne = grind (arith, nat_tests)
 
-    go : (d : Option ℕ) → delivers o ≡ d → (w.way c ≡ e) ⊎ (w.way c ≢ e) → is_some ((put w.part e (part_after w e o) (w.way c)).message c) ≡ (is_some ((w.part (w.way c)).message c) && is_left d c)
+    go :
+        (d : Option ℕ) → delivers o ≡ d → (w.way c ≡ e) ⊎ (w.way c ≢ e)
+        → is_some ((put w.part e (part_after w e o) (w.way c)).message c) ≡ (is_some ((w.part (w.way c)).message c) && is_left d c)
     go d h (inl k) =
         ap (λ x. is_some ((put w.part e (part_after w e o) x).message c)) k
         ∙ ap (λ p. is_some (p.message c)) (put-same w.part e (part_after w e o))
         ∙ ap (λ x. is_some x) (old_message (w.part e) w.messages o c l)
         ∙ here d h k
         ∙ ap (λ x. is_some ((w.part x).message c) && is_left d c) (sym k)
-    go d h (inr ne) = ap (λ p. is_some (p.message c)) (put-other w.part e (part_after w e o) (w.way c) ne) ∙ there d h ne (is_some ((w.part (w.way c)).message c))
+    go d h (inr ne) =
+        ap (λ p. is_some (p.message c)) (put-other w.part e (part_after w e o) (w.way c) ne) ∙ there d h ne (is_some ((w.part (w.way c)).message c))
 
 -- those that are left, by their numbers
 abbrev pub still_flying : (first : ℕ) → Option ℕ → List FlightWire → List FlightWire
@@ -159,7 +164,9 @@ still_flying first (Some d) fs = filter (λ f. not (f.number == number first d))
 abbrev pub newly_sent : (next endpoint count : ℕ) → Message → List FlightWire
 newly_sent next e count m = tabulate count (λ j. record { number = next + j; endpoint = e; message = m })
 
-left_are : (w : World) (d : Option ℕ) → map (flight_wire w) (select w.messages (λ c. flies w c && is_left d c)) ≡ still_flying w.config.first d (wire w).in_flight
+left_are :
+    (w : World) (d : Option ℕ)
+    → map (flight_wire w) (select w.messages (λ c. flies w c && is_left d c)) ≡ still_flying w.config.first d (wire w).in_flight
 left_are w None =
     select_seen w.messages (λ c. flies w c && true) (flies w) (flight_wire w) (flight_wire w) (λ c l. all (flies w c)) (λ c l t. refl)
   where
@@ -173,7 +180,9 @@ left_are w (Some d) =
     same_number : (first c d : ℕ) → (c == d) ≡ (first + c == first + d)
     same_number first c d = grind (arith, nat_tests)
 
-pub flights_after : (w : World) (e : ℕ) (o : Own) → ComesTo w e o → (wire (act w (At e o))).in_flight ≡ still_flying w.config.first (delivers o) (wire w).in_flight ++ newly_sent (wire w).next_message e (sends o) (said (w.part e) o)
+pub flights_after :
+    (w : World) (e : ℕ) (o : Own) → ComesTo w e o
+    → (wire (act w (At e o))).in_flight ≡ still_flying w.config.first (delivers o) (wire w).in_flight ++ newly_sent (wire w).next_message e (sends o) (said (w.part e) o)
 flights_after w e o to =
     select_more w.messages (sends o) (flies (act w (At e o))) (flight_wire (act w (At e o))) (λ j l. new_flies w e o j l)
     ∙ ap₂ (λ xs ys. xs ++ ys)

@@ -62,7 +62,9 @@ pub ask_kept : (p : Part) (n : ℕ) (o : Own) (r : ℕ) → r < p.page_requests 
 ask_kept p n o r l = λ i. record { page = page_kept p n o r l i; read = read_kept p n o r l i; write = write_kept p n o r l i }
 
 -- nothing is filed, or one more, which is of another group
-filed_more : (p : Part) (n : ℕ) (o : Own) (g : ℕ) → FilesOpen p o → is_past (p.host_group g) ≡ true → ((own p n o).filings ≡ p.filings) ⊎ (((own p n o).filings ≡ suc p.filings) × (((own p n o).group_of ((own p n o).filing p.filings) == g) ≡ false))
+filed_more :
+    (p : Part) (n : ℕ) (o : Own) (g : ℕ) → FilesOpen p o → is_past (p.host_group g) ≡ true
+    → ((own p n o).filings ≡ p.filings) ⊎ (((own p n o).filings ≡ suc p.filings) × (((own p n o).group_of ((own p n o).filing p.filings) == g) ≡ false))
 filed_more p n (Own.File r) g f h =
     inr (refl, ap (λ x. p.group_of x == g) (put-same p.filing p.filings r) ∙ other)
   where
@@ -82,7 +84,9 @@ asks_kept p n o g made f h =
     entry : ℕ → AskWire
     entry k = ask_wire (own p n o) ((own p n o).filing k)
 
-    same_many : ((own p n o).filings ≡ p.filings) ⊎ (((own p n o).filings ≡ suc p.filings) × (((own p n o).group_of ((own p n o).filing p.filings) == g) ≡ false)) → map entry (select (own p n o).filings (λ k. (own p n o).group_of ((own p n o).filing k) == g)) ≡ map entry (select p.filings (λ k. (own p n o).group_of ((own p n o).filing k) == g))
+    same_many :
+        ((own p n o).filings ≡ p.filings) ⊎ (((own p n o).filings ≡ suc p.filings) × (((own p n o).group_of ((own p n o).filing p.filings) == g) ≡ false))
+        → map entry (select (own p n o).filings (λ k. (own p n o).group_of ((own p n o).filing k) == g)) ≡ map entry (select p.filings (λ k. (own p n o).group_of ((own p n o).filing k) == g))
     same_many (inl e) = ap (λ m. map entry (select m (λ k. (own p n o).group_of ((own p n o).filing k) == g))) e
     same_many (inr e) =
         ap (λ m. map entry (select m (λ k. (own p n o).group_of ((own p n o).filing k) == g))) e.0
@@ -91,7 +95,9 @@ asks_kept p n o g made f h =
 past_made : (g : ℕ) (p : Part) → Bounds g p → (x : ℕ) → is_past (p.host_group x) ≡ true → x < p.groups
 past_made g p bo x h = grind (arith, bo.host_group x)
 
-pub group_kept : (first e g : ℕ) (p : Part) (n : ℕ) (o : Own) (x : ℕ) → Bounds g p → FilesMade p → FilesOpen p o → is_past (p.host_group x) ≡ true → group_job first e (own p n o) x ≡ group_job first e p x
+pub group_kept :
+    (first e g : ℕ) (p : Part) (n : ℕ) (o : Own) (x : ℕ) → Bounds g p → FilesMade p → FilesOpen p o → is_past (p.host_group x) ≡ true
+    → group_job first e (own p n o) x ≡ group_job first e p x
 group_kept first e g p n o x bo made f h =
     λ i.
     record {
@@ -102,7 +108,9 @@ group_kept first e g p n o x bo made f h =
     }
 
 -- so what a job shows stays
-pub job_kept : (w : World) (e : ℕ) (o : Own) (j : ℕ) → Invariant w → FilesMade (w.part e) → FilesOpen (w.part e) o → is_past ((w.part (w.job j).endpoint).host_group (w.job j).group) ≡ true → job_wire (act w (At e o)) j ≡ job_wire w j
+pub job_kept :
+    (w : World) (e : ℕ) (o : Own) (j : ℕ) → Invariant w → FilesMade (w.part e) → FilesOpen (w.part e) o
+    → is_past ((w.part (w.job j).endpoint).host_group (w.job j).group) ≡ true → job_wire (act w (At e o)) j ≡ job_wire w j
 job_kept w e o j i made f h = go (ℕ_cases (w.job j).endpoint e)
   where
     go : ((w.job j).endpoint ≡ e) ⊎ ((w.job j).endpoint ≢ e) → job_wire (act w (At e o)) j ≡ job_wire w j
@@ -133,14 +141,20 @@ keeps_jobs (Own.Hand g x) = false
 keeps_jobs _ = true
 
 -- what is past stays a job, or isn't one
-still_job : (ms : Mappings) (b : ℕ) (p : Part) (n : ℕ) (o : Own) (g : ℕ) → LegalOwn ms b p o → FilesOpen p o → keeps_jobs o ≡ true → is_past (p.host_group g) ≡ true → is_job ((own p n o).host_group g) ≡ is_job (p.host_group g)
+still_job :
+    (ms : Mappings) (b : ℕ) (p : Part) (n : ℕ) (o : Own) (g : ℕ) → LegalOwn ms b p o → FilesOpen p o → keeps_jobs o ≡ true
+    → is_past (p.host_group g) ≡ true → is_job ((own p n o).host_group g) ≡ is_job (p.host_group g)
 still_job ms b p n o g l f k h = grind (arith, nat_tests)
 
-pub jobs_same : (w : World) (e : ℕ) (o : Own) → Invariant w → LegalOwn w.mappings w.bindings (w.part e) o → JobsPast w → FilesMade (w.part e) → FilesOpen (w.part e) o → keeps_jobs o ≡ true → (wire (act w (At e o))).jobs ≡ (wire w).jobs
+pub jobs_same :
+    (w : World) (e : ℕ) (o : Own) → Invariant w → LegalOwn w.mappings w.bindings (w.part e) o → JobsPast w → FilesMade (w.part e)
+    → FilesOpen (w.part e) o → keeps_jobs o ≡ true → (wire (act w (At e o))).jobs ≡ (wire w).jobs
 jobs_same w e o i legal past made f k =
     select_seen w.jobs _ _ _ _ (λ j l. passes j l (ℕ_cases (w.job j).endpoint e)) (λ j l t. job_kept w e o j i made f (past j l))
   where
-    passes : (j : ℕ) → j < w.jobs → ((w.job j).endpoint ≡ e) ⊎ ((w.job j).endpoint ≢ e) → is_job ((put w.part e (part_after w e o) (w.job j).endpoint).host_group (w.job j).group) ≡ is_job ((w.part (w.job j).endpoint).host_group (w.job j).group)
+    passes :
+        (j : ℕ) → j < w.jobs → ((w.job j).endpoint ≡ e) ⊎ ((w.job j).endpoint ≢ e)
+        → is_job ((put w.part e (part_after w e o) (w.job j).endpoint).host_group (w.job j).group) ≡ is_job ((w.part (w.job j).endpoint).host_group (w.job j).group)
     passes j l (inl h) =
         ap (λ x. is_job ((put w.part e (part_after w e o) x).host_group (w.job j).group)) h
         ∙ ap (λ p. is_job (p.host_group (w.job j).group)) (put-same w.part e (part_after w e o))
@@ -149,7 +163,9 @@ jobs_same w e o i legal past made f k =
     passes j l (inr ne) = ap (λ p. is_job (p.host_group (w.job j).group)) (put-other w.part e (part_after w e o) (w.job j).endpoint ne)
 
 -- A reset drops the jobs of its endpoint.
-pub jobs_dropped : (w : World) (e : ℕ) → Invariant w → FilesMade (w.part e) → (wire (act w (At e Own.Reset))).jobs ≡ filter (λ job. not (job.endpoint == e)) (wire w).jobs
+pub jobs_dropped :
+    (w : World) (e : ℕ) → Invariant w → FilesMade (w.part e)
+    → (wire (act w (At e Own.Reset))).jobs ≡ filter (λ job. not (job.endpoint == e)) (wire w).jobs
 jobs_dropped w e i made =
     select_seen w.jobs _ _ _ _ (λ j l. passes j (ℕ_cases (w.job j).endpoint e)) (λ j l t. job_kept w e Own.Reset j i made tt (past ((w.part (w.job j).endpoint).host_group (w.job j).group) ((w.job j).endpoint == e) t))
     ∙ sym (select_filtered w.jobs (Labels.is_queued_job w) (job_wire w) (λ job. not (job.endpoint == e)))
@@ -166,7 +182,9 @@ jobs_dropped w e i made =
     other : (a b : ℕ) → a ≢ b → (t : Bool) → t ≡ (t && not (a == b))
     other a b h t = grind (arith, nat_tests)
 
-    passes : (j : ℕ) → ((w.job j).endpoint ≡ e) ⊎ ((w.job j).endpoint ≢ e) → is_job ((put w.part e (part_after w e Own.Reset) (w.job j).endpoint).host_group (w.job j).group) ≡ (is_job ((w.part (w.job j).endpoint).host_group (w.job j).group) && not ((w.job j).endpoint == e))
+    passes :
+        (j : ℕ) → ((w.job j).endpoint ≡ e) ⊎ ((w.job j).endpoint ≢ e)
+        → is_job ((put w.part e (part_after w e Own.Reset) (w.job j).endpoint).host_group (w.job j).group) ≡ (is_job ((w.part (w.job j).endpoint).host_group (w.job j).group) && not ((w.job j).endpoint == e))
     passes j (inl h) =
         ap (λ x. is_job ((put w.part e (part_after w e Own.Reset) x).host_group (w.job j).group)) h
         ∙ ap (λ p. is_job (p.host_group (w.job j).group)) (put-same w.part e (part_after w e Own.Reset))
@@ -185,7 +203,9 @@ pub record HandsFirst (w : World) (e g j : ℕ) : Type 0 where
   pub group : (w.job j).group ≡ g
   pub once : (k : ℕ) → k < w.jobs → (w.job k).endpoint ≡ e → (w.job k).group ≡ g → k ≡ j
 
-pub jobs_handed : (w : World) (e g x j : ℕ) → Invariant w → JobsPast w → FilesMade (w.part e) → HandsFirst w e g j → (wire (act w (At e (Own.Hand g x)))).jobs ≡ drop 1 (wire w).jobs
+pub jobs_handed :
+    (w : World) (e g x j : ℕ) → Invariant w → JobsPast w → FilesMade (w.part e) → HandsFirst w e g j
+    → (wire (act w (At e (Own.Hand g x)))).jobs ≡ drop 1 (wire w).jobs
 jobs_handed w e g x j i past made f =
     picked_drop w.jobs j (job_wire w) (job_wire (act w (At e o))) (Labels.is_queued_job w) after f.made f.queued f.first handed
     (λ k l ne. stays k (ℕ_cases (w.job k).endpoint e) (λ h m. ne (f.once k l h m)))

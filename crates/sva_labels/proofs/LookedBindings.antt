@@ -81,7 +81,9 @@ binding_missing w n h =
         (ap (is_kept w) (named_back w.config.first n k e) ∙ and_left (is_kept w k) (w.config.first + k == n) t)
 
 -- an unreleased one by its name, as its endpoint shows it
-pub binding_named : (w : World) (e b : ℕ) → Invariant w → is_unreleased ((w.part e).stage b) ≡ true → binding_of (wire w) (number w.config.first b) ≡ Some (binding_wire w.config.first e (w.part e) b)
+pub binding_named :
+    (w : World) (e b : ℕ) → Invariant w → is_unreleased ((w.part e).stage b) ≡ true
+    → binding_of (wire w) (number w.config.first b) ≡ Some (binding_wire w.config.first e (w.part e) b)
 binding_named w e b i u =
     let home : w.home b ≡ e = i.homed e b (unreleased_bound (w.part e) b u) in
     let back : Labels.name w (number w.config.first b) ≡ b = omega arith in
@@ -94,7 +96,9 @@ binding_named w e b i u =
     ∙ ap (λ d. Some (binding_wire w.config.first d (w.part d) b)) home
 
 -- one that was bound at this endpoint, and is released since, isn't there
-pub binding_released : (w : World) (e b : ℕ) → Invariant w → (w.part e).stage b ≢ Unbound → is_unreleased ((w.part e).stage b) ≡ false → binding_of (wire w) (number w.config.first b) ≡ None
+pub binding_released :
+    (w : World) (e b : ℕ) → Invariant w → (w.part e).stage b ≢ Unbound → is_unreleased ((w.part e).stage b) ≡ false
+    → binding_of (wire w) (number w.config.first b) ≡ None
 binding_released w e b i ne u =
     let home : w.home b ≡ e = i.homed e b ne in
     let back : Labels.name w (number w.config.first b) ≡ b = omega arith in
@@ -121,8 +125,11 @@ bearer_is w e t i = find_seen (binding_seen w) (λ b. b.endpoint == e && b.pasid
     one : {a b : ℕ} → Some a ≡ Some b → a ≡ b
     one h = cc
 
-    go : (o : Option ℕ) → (w.part e).at_pasid t ≡ o → option_map (binding_seen w) (find w.bindings (λ b. is_kept w b && (w.home b == e && (w.part (w.home b)).pasid b == t))) ≡ option_map (binding_wire w.config.first e (w.part e)) o
-    go None h = ap (option_map (binding_seen w)) (find_none w.bindings (λ b. is_kept w b && (w.home b == e && (w.part (w.home b)).pasid b == t)) (λ b l. not_both _ (λ k. absurd (cc (sym (bears b k) ∙ h)))))
+    go :
+        (o : Option ℕ) → (w.part e).at_pasid t ≡ o
+        → option_map (binding_seen w) (find w.bindings (λ b. is_kept w b && (w.home b == e && (w.part (w.home b)).pasid b == t))) ≡ option_map (binding_wire w.config.first e (w.part e)) o
+    go None h =
+        ap (option_map (binding_seen w)) (find_none w.bindings (λ b. is_kept w b && (w.home b == e && (w.part (w.home b)).pasid b == t)) (λ b l. not_both _ (λ k. absurd (cc (sym (bears b k) ∙ h)))))
     go (Some b) h =
         let la = (i.parts e).labels.pasid_bears t b h in
         let home : w.home b ≡ e = i.homed e b (unreleased_bound (w.part e) b la.1) in
@@ -175,7 +182,9 @@ borne_there w t i =
         ((i.parts (w.home x.0)).there x.0 (unreleased_bound (w.part (w.home x.0)) x.0 kept))
         (ap is_some (subst (λ z. (w.part (w.home x.0)).at_pasid z ≡ Some x.0) pasid ((i.parts (w.home x.0)).labels.bears_pasid x.0 kept)))
 
-    by_bearer : (e : ℕ) (o : Option ℕ) → (w.part e).at_pasid t ≡ o → is_some o ≡ true → any_below w.bindings (λ b. is_kept w b && (w.part (w.home b)).pasid b == t) ≡ true
+    by_bearer :
+        (e : ℕ) (o : Option ℕ) → (w.part e).at_pasid t ≡ o → is_some o ≡ true
+        → any_below w.bindings (λ b. is_kept w b && (w.part (w.home b)).pasid b == t) ≡ true
     by_bearer e None h k = absurd (cc)
     by_bearer e (Some b) h k =
         let la = (i.parts e).labels.pasid_bears t b h in

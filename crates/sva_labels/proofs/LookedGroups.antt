@@ -49,7 +49,9 @@ begun p g fi h =
           (λ j l. ap (λ z. p.group_of (p.filing j) == z) its ∙ low.2 j l)));
     }
 
-pub open_there : (first m b : ℕ) (ms : Mappings) (p : Part) → Bounds m p → Filings p → has_open_group (part_wire first ms p) (number first b) ≡ Labels.has_open_group p b
+pub open_there :
+    (first m b : ℕ) (ms : Mappings) (p : Part) → Bounds m p → Filings p
+    → has_open_group (part_wire first ms p) (number first b) ≡ Labels.has_open_group p b
 open_there first m b ms p bo fi =
     any_seen p.filings (begins_open p) (λ k. host_group_wire first p (p.group_of (p.filing k))) (λ g. g.binding == first + b)
     ∙ both_ways (any_below p.filings (λ k. begins_open p k && first + p.filed_under (p.group_of (p.filing k)) == first + b)) (Labels.has_open_group p b) forth back

@@ -64,7 +64,9 @@ pasid_there w e s i r =
     one_space : (a b : ℕ) → w.config.first + a ≡ w.config.first + b → a ≡ b
     one_space a b h = omega arith
 
-    kept_at : (d b : ℕ) → is_unreleased ((w.part d).stage b) ≡ true → (w.part d).space b ≡ s → (b < w.bindings) × ((is_kept w b && w.config.first + (w.part (w.home b)).space b == w.config.first + s) ≡ true)
+    kept_at :
+        (d b : ℕ) → is_unreleased ((w.part d).stage b) ≡ true → (w.part d).space b ≡ s
+        → (b < w.bindings) × ((is_kept w b && w.config.first + (w.part (w.home b)).space b == w.config.first + s) ≡ true)
     kept_at d b u sp =
         let home : w.home b ≡ d = i.homed d b (unreleased_bound (w.part d) b u) in (
           unreleased_made w.bindings (w.part d) b (i.parts d).bounds.stage u,
@@ -72,14 +74,18 @@ pasid_there w e s i r =
               (is_same (w.config.first + (w.part (w.home b)).space b) (w.config.first + s) (ap (λ z. w.config.first + z) (ap (λ x. (w.part x).space b) home ∙ sp))),
         )
 
-    found_none : (t : ℕ) → find w.bindings (λ b. is_kept w b && w.config.first + (w.part (w.home b)).space b == w.config.first + s) ≡ None → Labels.is_borne_by w s t ≡ true → ⊥
+    found_none :
+        (t : ℕ) → find w.bindings (λ b. is_kept w b && w.config.first + (w.part (w.home b)).space b == w.config.first + s) ≡ None
+        → Labels.is_borne_by w s t ≡ true → ⊥
     found_none t h k =
         let y = borne_by w s t k in
         let la = (i.parts y.endpoint).labels.pasid_bears t y.binding y.bears in
         let z = kept_at y.endpoint y.binding la.1 y.its in
         absurd (cc (sym (find_some w.bindings (λ b. is_kept w b && w.config.first + (w.part (w.home b)).space b == w.config.first + s) y.binding z.0 z.1) ∙ h))
 
-    go : (o : Option ℕ) → find w.bindings (λ b. is_kept w b && w.config.first + (w.part (w.home b)).space b == w.config.first + s) ≡ o → pasid_by (wire w) (option_map (binding_seen w) o) ≡ Labels.or_else (Labels.lowest_pasid (Labels.is_borne_by w s)) (Labels.lowest_pasid (λ t. not (Labels.is_borne w t)))
+    go :
+        (o : Option ℕ) → find w.bindings (λ b. is_kept w b && w.config.first + (w.part (w.home b)).space b == w.config.first + s) ≡ o
+        → pasid_by (wire w) (option_map (binding_seen w) o) ≡ Labels.or_else (Labels.lowest_pasid (Labels.is_borne_by w s)) (Labels.lowest_pasid (λ t. not (Labels.is_borne w t)))
     go None h =
         lowest_same (λ t. not (is_borne (wire w) t)) (λ t. not (Labels.is_borne w t)) (λ t. ap not (borne_there w t i))
         ∙ sym (ap (λ o. Labels.or_else o (Labels.lowest_pasid (λ t. not (Labels.is_borne w t)))) (lowest_none (Labels.is_borne_by w s) (λ t. not_both (Labels.is_borne_by w s t) (found_none t h))))
@@ -106,7 +112,9 @@ pasid_there w e s i r =
 -- Which space bears a PASID.
 
 -- as many pass of the one as of the other, each at a place of its own
-count_within : (k n : ℕ) (q p : ℕ → Bool) (f : ℕ → ℕ) → ((i : ℕ) → i < k → q i ≡ true → (f i < n) × (p (f i) ≡ true)) → ((i j : ℕ) → i < k → j < k → q i ≡ true → q j ≡ true → f i ≡ f j → i ≡ j) → count_below k q ≤ count_below n p
+count_within :
+    (k n : ℕ) (q p : ℕ → Bool) (f : ℕ → ℕ) → ((i : ℕ) → i < k → q i ≡ true → (f i < n) × (p (f i) ≡ true))
+    → ((i j : ℕ) → i < k → j < k → q i ≡ true → q j ≡ true → f i ≡ f j → i ≡ j) → count_below k q ≤ count_below n p
 count_within k n q p f h one =
     count_placed k n q p (λ i. if q i then f i else n + i) (λ i l t. subst (λ b. (if b then f i else n + i) < n) (sym t) (h i l t).0)
     (λ i l t. ap (λ b. p (if b then f i else n + i)) t ∙ (h i l t).1)
@@ -129,17 +137,23 @@ bearers w t i =
         subst (λ z. (w.part (w.home b)).at_pasid z ≡ Some b) (same_is ((w.part (w.home b)).pasid b) t (and_right (is_kept w b) ((w.part (w.home b)).pasid b == t) h))
         ((i.parts (w.home b)).labels.bears_pasid b (and_left (is_kept w b) ((w.part (w.home b)).pasid b == t) h))
 
-    forth : (b : ℕ) → b < w.bindings → (is_kept w b && (w.part (w.home b)).pasid b == t) ≡ true → (w.home b < w.config.endpoints) × (Labels.is_borne_at (w.part (w.home b)) t ≡ true)
+    forth :
+        (b : ℕ) → b < w.bindings → (is_kept w b && (w.part (w.home b)).pasid b == t) ≡ true
+        → (w.home b < w.config.endpoints) × (Labels.is_borne_at (w.part (w.home b)) t ≡ true)
     forth b l h =
         ((i.parts (w.home b)).there b (unreleased_bound (w.part (w.home b)) b (and_left (is_kept w b) ((w.part (w.home b)).pasid b == t) h)), ap is_some (bears b h))
 
     one : {a b : ℕ} → Some a ≡ Some b → a ≡ b
     one h = cc
 
-    one_binding : (b c : ℕ) → (is_kept w b && (w.part (w.home b)).pasid b == t) ≡ true → (is_kept w c && (w.part (w.home c)).pasid c == t) ≡ true → w.home b ≡ w.home c → b ≡ c
+    one_binding :
+        (b c : ℕ) → (is_kept w b && (w.part (w.home b)).pasid b == t) ≡ true → (is_kept w c && (w.part (w.home c)).pasid c == t) ≡ true
+        → w.home b ≡ w.home c → b ≡ c
     one_binding b c u v e = one (sym (bears b u) ∙ ap (λ d. (w.part d).at_pasid t) e ∙ bears c v)
 
-    back : (e : ℕ) (o : Option ℕ) → (w.part e).at_pasid t ≡ o → is_some o ≡ true → (the o < w.bindings) × ((is_kept w (the o) && (w.part (w.home (the o))).pasid (the o) == t) ≡ true)
+    back :
+        (e : ℕ) (o : Option ℕ) → (w.part e).at_pasid t ≡ o → is_some o ≡ true
+        → (the o < w.bindings) × ((is_kept w (the o) && (w.part (w.home (the o))).pasid (the o) == t) ≡ true)
     back e None h k = absurd (cc (k))
     back e (Some b) h k =
         let la = (i.parts e).labels.pasid_bears t b h in
@@ -149,13 +163,19 @@ bearers w t i =
               (is_same ((w.part (w.home b)).pasid b) t (ap (λ d. (w.part d).pasid b) home ∙ la.0)),
         )
 
-    one_endpoint : (d e : ℕ) (o p : Option ℕ) → (w.part d).at_pasid t ≡ o → (w.part e).at_pasid t ≡ p → is_some o ≡ true → is_some p ≡ true → the o ≡ the p → d ≡ e
+    one_endpoint :
+        (d e : ℕ) (o p : Option ℕ) → (w.part d).at_pasid t ≡ o → (w.part e).at_pasid t ≡ p → is_some o ≡ true → is_some p ≡ true
+        → the o ≡ the p → d ≡ e
     one_endpoint d e None p h k u v same = absurd (cc (u))
     one_endpoint d e (Some b) None h k u v same = absurd (cc (v))
     one_endpoint d e (Some b) (Some c) h k u v same =
-        sym (i.homed d b (unreleased_bound (w.part d) b ((i.parts d).labels.pasid_bears t b h).1)) ∙ ap w.home same ∙ i.homed e c (unreleased_bound (w.part e) c ((i.parts e).labels.pasid_bears t c k).1)
+        sym (i.homed d b (unreleased_bound (w.part d) b ((i.parts d).labels.pasid_bears t b h).1))
+        ∙ ap w.home same
+        ∙ i.homed e c (unreleased_bound (w.part e) c ((i.parts e).labels.pasid_bears t c k).1)
 
-pub bearer_said : (w : World) (t : ℕ) → Invariant w → w.rule ≡ PerSpace → bearer_answer (wire w) t (lists.find (λ b. b.pasid == t) (wire w).bindings) ≡ names.bearer_answer w t (Labels.is_borne w t)
+pub bearer_said :
+    (w : World) (t : ℕ) → Invariant w → w.rule ≡ PerSpace
+    → bearer_answer (wire w) t (lists.find (λ b. b.pasid == t) (wire w).bindings) ≡ names.bearer_answer w t (Labels.is_borne w t)
 bearer_said w t i r =
     ap (bearer_answer (wire w) t) (find_seen (binding_seen w) (λ b. b.pasid == t) w.bindings (is_kept w))
     ∙ go (find w.bindings (λ b. is_kept w b && (w.part (w.home b)).pasid b == t)) refl
@@ -165,20 +185,27 @@ bearer_said w t i r =
         subst (λ z. (w.part (w.home b)).at_pasid z ≡ Some b) (same_is ((w.part (w.home b)).pasid b) t (and_right (is_kept w b) ((w.part (w.home b)).pasid b == t) h))
         ((i.parts (w.home b)).labels.bears_pasid b (and_left (is_kept w b) ((w.part (w.home b)).pasid b == t) h))
 
-    by_lowest : (d b : ℕ) → is_kept w b ≡ true → (w.part (w.home b)).pasid b ≡ t → (o : Option ℕ) → (w.part d).at_pasid t ≡ o → is_some o ≡ true → (w.part (w.home b)).space b ≡ (w.part d).space (the o)
+    by_lowest :
+        (d b : ℕ) → is_kept w b ≡ true → (w.part (w.home b)).pasid b ≡ t → (o : Option ℕ) → (w.part d).at_pasid t ≡ o → is_some o ≡ true
+        → (w.part (w.home b)).space b ≡ (w.part d).space (the o)
     by_lowest d b kept pasid None h k = absurd (cc (k))
     by_lowest d b kept pasid (Some c) h k =
         let la = (i.parts d).labels.pasid_bears t c h in
         (i.shared r).same_space (w.home b) d b c kept la.1 (pasid ∙ sym la.0)
 
-    its_space : (b : ℕ) → is_kept w b ≡ true → (w.part (w.home b)).pasid b ≡ t → ((lowest w.config.endpoints (λ e. Labels.is_borne_at (w.part e) t) ≡ w.config.endpoints) × ((j : ℕ) → j < w.config.endpoints → Labels.is_borne_at (w.part j) t ≡ false)) ⊎ ((lowest w.config.endpoints (λ e. Labels.is_borne_at (w.part e) t) < w.config.endpoints) × (Labels.is_borne_at (w.part (lowest w.config.endpoints (λ e. Labels.is_borne_at (w.part e) t))) t ≡ true) × ((j : ℕ) → j < lowest w.config.endpoints (λ e. Labels.is_borne_at (w.part e) t) → Labels.is_borne_at (w.part j) t ≡ false)) → (w.part (w.home b)).space b ≡ Labels.space_under w t
+    its_space :
+        (b : ℕ) → is_kept w b ≡ true → (w.part (w.home b)).pasid b ≡ t
+        → ((lowest w.config.endpoints (λ e. Labels.is_borne_at (w.part e) t) ≡ w.config.endpoints) × ((j : ℕ) → j < w.config.endpoints → Labels.is_borne_at (w.part j) t ≡ false)) ⊎ ((lowest w.config.endpoints (λ e. Labels.is_borne_at (w.part e) t) < w.config.endpoints) × (Labels.is_borne_at (w.part (lowest w.config.endpoints (λ e. Labels.is_borne_at (w.part e) t))) t ≡ true) × ((j : ℕ) → j < lowest w.config.endpoints (λ e. Labels.is_borne_at (w.part e) t) → Labels.is_borne_at (w.part j) t ≡ false))
+        → (w.part (w.home b)).space b ≡ Labels.space_under w t
     its_space b kept pasid (inl x) =
         absurd (cc (sym (x.1 (w.home b) ((i.parts (w.home b)).there b (unreleased_bound (w.part (w.home b)) b kept)))
         ∙ ap is_some (subst (λ z. (w.part (w.home b)).at_pasid z ≡ Some b) pasid ((i.parts (w.home b)).labels.bears_pasid b kept))))
     its_space b kept pasid (inr x) =
         by_lowest (lowest w.config.endpoints (λ e. Labels.is_borne_at (w.part e) t)) b kept pasid ((w.part (lowest w.config.endpoints (λ e. Labels.is_borne_at (w.part e) t))).at_pasid t) refl x.1
 
-    go : (o : Option ℕ) → find w.bindings (λ b. is_kept w b && (w.part (w.home b)).pasid b == t) ≡ o → bearer_answer (wire w) t (option_map (binding_seen w) o) ≡ names.bearer_answer w t (Labels.is_borne w t)
+    go :
+        (o : Option ℕ) → find w.bindings (λ b. is_kept w b && (w.part (w.home b)).pasid b == t) ≡ o
+        → bearer_answer (wire w) t (option_map (binding_seen w) o) ≡ names.bearer_answer w t (Labels.is_borne w t)
     go None h = sym (ap (names.bearer_answer w t) (not_both (Labels.is_borne w t) (λ k. unborne k)))
       where
         unborne : Labels.is_borne w t ≡ true → ⊥

@@ -35,9 +35,12 @@ pub record InHandNow (w : World) (j : ℕ) : Type 0 where
   pub held : w.hand worker ≡ Some j
 
 group_made : (w : World) (j : ℕ) → Invariant w → InHandNow w j → (w.job j).group < (w.part (w.job j).endpoint).groups
-group_made w j i h = made ((w.part (w.job j).endpoint).host_group (w.job j).group) (i.hands.held h.worker j h.held) ((i.parts (w.job j).endpoint).bounds.host_group (w.job j).group)
+group_made w j i h =
+    made ((w.part (w.job j).endpoint).host_group (w.job j).group) (i.hands.held h.worker j h.held) ((i.parts (w.job j).endpoint).bounds.host_group (w.job j).group)
   where
-    made : (s : HostGroupState) → IsHeldBy s h.worker → ((w.part (w.job j).endpoint).groups ≤ (w.job j).group → s ≡ NotFiled) → (w.job j).group < (w.part (w.job j).endpoint).groups
+    made :
+        (s : HostGroupState) → IsHeldBy s h.worker → ((w.part (w.job j).endpoint).groups ≤ (w.job j).group → s ≡ NotFiled)
+        → (w.job j).group < (w.part (w.job j).endpoint).groups
     made s k b = grind (arith)
 
 pub job_there : (w : World) (j : ℕ) → Invariant w → InHandNow w j → (w.job j).endpoint < w.config.endpoints
@@ -88,7 +91,9 @@ response_there w j v i h =
     ap (λ u. response_for u.is_open (binding_of (wire w) (number w.config.first (job_binding w j))) v) (unit_seen w (w.job j).endpoint (job_there w j i h))
     ∙ go (is_unreleased ((w.part (w.job j).endpoint).stage (job_binding w j))) refl
   where
-    go : (u : Bool) → is_unreleased ((w.part (w.job j).endpoint).stage (job_binding w j)) ≡ u → response_for (is_open (w.part (w.job j).endpoint).phase) (binding_of (wire w) (number w.config.first (job_binding w j))) v ≡ names.response_to w j v
+    go :
+        (u : Bool) → is_unreleased ((w.part (w.job j).endpoint).stage (job_binding w j)) ≡ u
+        → response_for (is_open (w.part (w.job j).endpoint).phase) (binding_of (wire w) (number w.config.first (job_binding w j))) v ≡ names.response_to w j v
     go true e =
         ap (λ o. response_for (is_open (w.part (w.job j).endpoint).phase) o v) (binding_named w (w.job j).endpoint (job_binding w j) i e)
         ∙ staged w.config.first (w.part (w.job j).endpoint) (is_open (w.part (w.job j).endpoint).phase) ((w.part (w.job j).endpoint).stage (job_binding w j)) v
@@ -132,7 +137,8 @@ succeeds w j v i s =
     let b = binding_named w (w.job j).endpoint (job_binding w j) i u in
     record {
       binding = b;
-      pages = ap (λ o. pages_in (wire w) (space_by o)) b ∙ pages_of_name w (job_space w j) i.mapped (i.mapped.bound_live (w.job j).endpoint (job_binding w j) u);
+      pages =
+          ap (λ o. pages_in (wire w) (space_by o)) b ∙ pages_of_name w (job_space w j) i.mapped (i.mapped.bound_live (w.job j).endpoint (job_binding w j) u);
     }
 
 -- what the requests ask
@@ -158,7 +164,9 @@ read_only_there w j i s =
     ap (λ pages. list_any (λ a. a.write && is_read_only_at (page_at pages a.page)) (map (ask_wire (w.part (w.job j).endpoint)) (job_asks w j))) s.pages
     ∙ each (job_asks w j)
   where
-    each : (rs : List ℕ) → list_any (λ a. a.write && is_read_only_at (page_at (pages_wire w.mappings (job_space w j)) a.page)) (map (ask_wire (w.part (w.job j).endpoint)) rs) ≡ list_any (λ r. (w.part (w.job j).endpoint).asks_write r && holds_of (λ m. not (w.mappings.write m)) (w.mappings.at (job_space w j) ((w.part (w.job j).endpoint).asked_page r))) rs
+    each :
+        (rs : List ℕ)
+        → list_any (λ a. a.write && is_read_only_at (page_at (pages_wire w.mappings (job_space w j)) a.page)) (map (ask_wire (w.part (w.job j).endpoint)) rs) ≡ list_any (λ r. (w.part (w.job j).endpoint).asks_write r && holds_of (λ m. not (w.mappings.write m)) (w.mappings.at (job_space w j) ((w.part (w.job j).endpoint).asked_page r))) rs
     each [] = refl
     each (r ∷ rs) =
         ap₂ (λ a b. ((w.part (w.job j).endpoint).asks_write r && a) || b)
@@ -177,7 +185,9 @@ free_push k (x ∷ xs) y = go (is_free x) (free_push (suc k) xs y ∙ ap (λ n. 
     next : (k n : ℕ) → suc k + n ≡ k + suc n
     next k n = omega arith
 
-    go : (b : Bool) → free_from (suc k) (xs ++ y ∷ []) ≡ free_from (suc k) xs ++ (if is_free y then (k + suc (length xs)) ∷ [] else []) → (if b then k ∷ free_from (suc k) (xs ++ y ∷ []) else free_from (suc k) (xs ++ y ∷ [])) ≡ (if b then k ∷ free_from (suc k) xs else free_from (suc k) xs) ++ (if is_free y then (k + suc (length xs)) ∷ [] else [])
+    go :
+        (b : Bool) → free_from (suc k) (xs ++ y ∷ []) ≡ free_from (suc k) xs ++ (if is_free y then (k + suc (length xs)) ∷ [] else [])
+        → (if b then k ∷ free_from (suc k) (xs ++ y ∷ []) else free_from (suc k) (xs ++ y ∷ [])) ≡ (if b then k ∷ free_from (suc k) xs else free_from (suc k) xs) ++ (if is_free y then (k + suc (length xs)) ∷ [] else [])
     go true h = ap (λ zs. k ∷ zs) h
     go false h = h
 

@@ -86,7 +86,9 @@ pub pages_count : (w : World) (s : ℕ) → length (pages_wire w.mappings s) ≡
 pages_count w s = pages_length w s w.mappings.made
 
 -- the frames of pages that are all mapped
-pub frames_there : (w : World) (s q count : ℕ) → Mapped w → all_below count (λ j. Labels.is_mapped w s (q + j)) ≡ true → frames_of (pages_wire w.mappings s) q count ≡ frames_at w s q count
+pub frames_there :
+    (w : World) (s q count : ℕ) → Mapped w → all_below count (λ j. Labels.is_mapped w s (q + j)) ≡ true
+    → frames_of (pages_wire w.mappings s) q count ≡ frames_at w s q count
 frames_there w s q count ma h =
     tabulate_same count (λ j. frame_or_0 (page_at (pages_wire w.mappings s) (q + j))) (λ j. w.mappings.frame (the (w.mappings.at s (q + j))))
     (λ j l. ap frame_or_0 (page_found w s (q + j) ma) ∙ go (w.mappings.at s (q + j)) (all_below-true count (λ j. Labels.is_mapped w s (q + j)) h j l))
@@ -104,7 +106,9 @@ lowest_there w = lowest_same (places_wire w) ∙ lowest_is w
 pub frames_free : (w : World) (f : ℕ) → is_free (place_wire_by w f (place w f)) ≡ is_free_place (place w f)
 frames_free w f = ap is_free (place_seen w w.mappings f) ∙ go (w.mappings.latest f)
   where
-    by_answers : (b : Bool) (owed : ℕ → Owed) → is_free (gone_seen b (withheld_wire w.config.first w.config.endpoints w.part (Gone owed))) ≡ is_free_place (place_of_gone b)
+    by_answers :
+        (b : Bool) (owed : ℕ → Owed)
+        → is_free (gone_seen b (withheld_wire w.config.first w.config.endpoints w.part (Gone owed))) ≡ is_free_place (place_of_gone b)
     by_answers true owed = refl
     by_answers false owed = refl
 

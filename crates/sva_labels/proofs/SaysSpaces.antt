@@ -41,7 +41,9 @@ space_says w =
     }
 
 -- a space that isn't there is refused first
-pub in_space : (w : World) (n : ℕ) (cs ds : List Cause) → (Labels.is_space w n ≡ true → IsAlike cs ds) → IsAlike (no_such_space (wire w) n ∷ cs) ((not (Labels.is_space w n), refusal.NoSuchSpace) ∷ ds)
+pub in_space :
+    (w : World) (n : ℕ) (cs ds : List Cause) → (Labels.is_space w n ≡ true → IsAlike cs ds)
+    → IsAlike (no_such_space (wire w) n ∷ cs) ((not (Labels.is_space w n), refusal.NoSuchSpace) ∷ ds)
 in_space w n cs ds h =
     alike_more (no_such_space (wire w) n) (not (Labels.is_space w n), refusal.NoSuchSpace) cs ds
     (ap (λ b. (not b, refusal.NoSuchSpace)) (space_there w n))
@@ -75,7 +77,9 @@ map_says w n q x i =
 look_seen : (w : World) (f : ℕ) → look_answer (place_wire_by w f (place w f)) ≡ look_said (place w f)
 look_seen w f = ap look_answer (place_seen w w.mappings f) ∙ go (w.mappings.latest f)
   where
-    by_answers : (b : Bool) (owed : ℕ → Owed) → look_answer (gone_seen b (withheld_wire w.config.first w.config.endpoints w.part (Gone owed))) ≡ look_said (place_of_gone b)
+    by_answers :
+        (b : Bool) (owed : ℕ → Owed)
+        → look_answer (gone_seen b (withheld_wire w.config.first w.config.endpoints w.part (Gone owed))) ≡ look_said (place_of_gone b)
     by_answers true owed = refl
     by_answers false owed = refl
 
@@ -117,7 +121,9 @@ unmap_alike w n q count i =
     ∷ (lacks (wire w).next_cookie (needed_there w (Labels.name w n) i k), refusal.NumbersSpent)
     ∷ [])))
 
-pub unmap_says : (w : World) (n q count : ℕ) → Invariant w → ((e : ℕ) → HasFront w.cookies (w.part e)) → w.config.endpoints ≤ 8 → SaysAlike w (step.Unmap n q count)
+pub unmap_says :
+    (w : World) (n q count : ℕ) → Invariant w → ((e : ℕ) → HasFront w.cookies (w.part e)) → w.config.endpoints ≤ 8
+    → SaysAlike w (step.Unmap n q count)
 unmap_says w n q count i f most =
     record {
       alike = unmap_alike w n q count i;
@@ -143,7 +149,9 @@ range_alike w n q order i =
     ∷ (lacks (wire w).next_cookie (needed_there w (Labels.name w n) i k), refusal.NumbersSpent)
     ∷ [])))
 
-pub range_says : (w : World) (n q order : ℕ) → Invariant w → ((e : ℕ) → HasFront w.cookies (w.part e)) → w.config.endpoints ≤ 8 → SaysAlike w (step.UnmapRange n q order)
+pub range_says :
+    (w : World) (n q order : ℕ) → Invariant w → ((e : ℕ) → HasFront w.cookies (w.part e)) → w.config.endpoints ≤ 8
+    → SaysAlike w (step.UnmapRange n q order)
 range_says w n q order i f most =
     record {
       alike = range_alike w n q order i;

@@ -29,7 +29,9 @@ use Rattle.sva_labels.proofs.PlacesOut.{places_out}
 abbrev pub SameDevices : World → Mappings → Type 0
 SameDevices w ms = (e : ℕ) → e < w.config.endpoints → device_wire ms (w.part e) ≡ device_wire w.mappings (w.part e)
 
-parts_same : (w : World) (ms : Mappings) → SameDevices w ms → tabulate w.config.endpoints (λ e. part_wire w.config.first ms (w.part e)) ≡ tabulate w.config.endpoints (λ e. part_wire w.config.first w.mappings (w.part e))
+parts_same :
+    (w : World) (ms : Mappings) → SameDevices w ms
+    → tabulate w.config.endpoints (λ e. part_wire w.config.first ms (w.part e)) ≡ tabulate w.config.endpoints (λ e. part_wire w.config.first w.mappings (w.part e))
 parts_same w ms h =
     tabulate_same w.config.endpoints (λ e. part_wire w.config.first ms (w.part e)) (λ e. part_wire w.config.first w.mappings (w.part e))
     (λ e l i. record (part_wire w.config.first w.mappings (w.part e)) { device = h e l i })

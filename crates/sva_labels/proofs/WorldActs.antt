@@ -61,7 +61,8 @@ job_named w e g i h = λ k. record (wire w) { jobs = jobs k; hands = hands k }
       where
         go : (x : ℕ) (o : Option ℕ) → w.hand x ≡ o → option_map (job_wire (act w (NewJob e g))) o ≡ option_map (job_wire w) o
         go x None k = refl
-        go x (Some j) k = ap (λ z. Some (group_job w.config.first z.endpoint (w.part z.endpoint) z.group)) (put-other w.job w.jobs new j (apart j w.jobs (i.hands.made x j k)))
+        go x (Some j) k =
+            ap (λ z. Some (group_job w.config.first z.endpoint (w.part z.endpoint) z.group)) (put-other w.job w.jobs new j (apart j w.jobs (i.hands.made x j k)))
 
 -- A worker takes a job into its hand, and lets it go.
 

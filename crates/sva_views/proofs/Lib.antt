@@ -10,3 +10,5 @@ pub mod Bindings
 pub mod Flights
 pub mod ServiceGroups
 pub mod ServiceJobs
+pub mod ServiceLists
+pub mod ServiceAnswers

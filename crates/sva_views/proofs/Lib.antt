@@ -12,3 +12,6 @@ pub mod ServiceGroups
 pub mod ServiceJobs
 pub mod ServiceLists
 pub mod ServiceAnswers
+pub mod ServiceFiled
+pub mod ServiceSound
+pub mod ServiceFiling

@@ -8,7 +8,7 @@ use Rattle.sva_msg.specs.declared.messages.PageRequest.{PageRequest}
 use Rattle.sva_prq.specs.Job.{Job}
 use Rattle.sva_prq.specs.Groups.{OpenGroup}
 use Rattle.sva_service.specs.Service.{Service, no_service, with_room, filed, hand, taken, after_answer, without_unit}
-use Rattle.sva_views.specs.Service.{ServiceIsSeen, groups_seen, job_seen, jobs_seen, hands_seen}
+use Rattle.sva_views.specs.Service.{groups_seen, job_seen, jobs_seen, hands_seen}
 
 -- among the things of a list
 abbrev pub IsIn : {A : Type 0} → A → List A → Type 0
@@ -99,8 +99,3 @@ pub record ServiceAnswers : Type 0 where
   pub jobs : (s : Service) (worker : ℕ) → jobs_seen (after_answer s worker) ≡ jobs_seen s
   pub hands :
       (workers : ℕ) (s : Service) (worker : ℕ) → hands_seen workers (after_answer s worker) ≡ slice_set (hands_seen workers s) worker None
-
-pub record ServiceLaws : Type 0 where
-  pub seen : ServiceIsSeen
-  pub answers : ServiceAnswers
-  pub sound : SoundIsKept

@@ -1,5 +1,5 @@
 -- A job is answered: the group that has its unit, binding and index is the group of its serial.
-use Rattle.std.proofs.Common.{◌≡◌, inl, inr, refl, ap, ap₂, sym, ◌∙◌, ℕ, Bool, true, false, arith}
+use Rattle.std.proofs.Common.{◌≡◌, inl, inr, refl, ap, ap₂, sym, ◌∙◌, ℕ, Bool, true, false}
 use Rattle.std.specs.Prelude.{cond, ◌==◌, ◌&&◌, not, Option, Some, None, List, [], ◌∷◌, map, filter, slice_set}
 use Rattle.std.specs.List.{list_any}
 use Rattle.std.proofs.lemmas.List.{set-get_or}

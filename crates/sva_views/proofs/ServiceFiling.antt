@@ -1,18 +1,18 @@
 -- The filing of a request keeps the service sound.
-use Rattle.std.proofs.Common.{◌≡◌, ◌⊎◌, inl, inr, refl, ap, sym, subst, ◌∙◌, ℕ, ◌+◌, ◌<◌, ◌≤◌, Bool, true, false, arith}
-use Rattle.std.specs.Prelude.{◌==◌, ◌&&◌, if◌then◌else◌, Option, Some, None, option_map, option_to_list, List, [], ◌∷◌, ◌++◌, map, filter}
+use Rattle.std.proofs.Common.{◌≡◌, ◌⊎◌, inl, inr, refl, ap, sym, subst, ◌∙◌, ℕ, ◌<◌, ◌≤◌, Bool, true, false, arith}
+use Rattle.std.specs.Prelude.{◌==◌, ◌&&◌, if◌then◌else◌, Some, None, option_map, option_to_list, List, [], ◌∷◌, ◌++◌}
 use Rattle.std.specs.List.{list_any}
 use Rattle.std.proofs.lemmas.Bool.Decides.{nat_tests}
 use Rattle.sva_msg.specs.declared.messages.PageRequest.{PageRequest}
 use Rattle.sva_prq.specs.Job.{Job, ask_of}
 use Rattle.sva_prq.specs.Groups.{OpenGroup, is_unfinished, new_group, with_request, filed_among, unfinished_asks, serial_for}
 use Rattle.sva_prq.proofs.Tests.{Same, unfinished_name, unfinished_part}
-use Rattle.sva_service.specs.Service.{Service, filed, hand}
-use Rattle.sva_views.specs.Service.{job_seen, jobs_seen, hands_seen}
+use Rattle.sva_service.specs.Service.{Service, filed}
+use Rattle.sva_views.specs.Service.{job_seen, jobs_seen}
 use Rattle.sva_views.specs.ServiceLaws.{IsIn, IsKept, AreRising, AreNamesakes, IsNamed, IsWhole, IsSound, is_job_of, HasNoJob, BeginsAnew, SoundIsKept}
 use Rattle.sva_views.proofs.ServiceJobs.{held_at}
 use Rattle.sva_views.proofs.ServiceLists.{in_append, left_in, right_in, in_any, mapped_in, rising_between, one_of_serial}
-use Rattle.sva_views.proofs.ServiceFiled.{FiledFrom, Old, Joined, Begun, unfinished_from, begun_seen, in_filed, chosen, chosen_filed, chosen_in, chosen_new, chosen_named, chosen_asks, next_after, next_more, rising_filed}
+use Rattle.sva_views.proofs.ServiceFiled.{FiledFrom, Old, Joined, Begun, unfinished_from, begun_seen, in_filed, chosen, chosen_filed, chosen_in, chosen_new, chosen_named, chosen_asks, next_more, rising_filed}
 use Rattle.sva_views.proofs.ServiceSound.{first_sound, reserved_sound, taken_sound, answered_sound, reset_sound}
 
 job_by : (x u y b z i : ℕ) → x ≡ u → y ≡ b → z ≡ i → ((x == u && y == b) && z == i) ≡ true

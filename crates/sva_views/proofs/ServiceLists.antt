@@ -3,7 +3,7 @@ use Rattle.std.proofs.Common.{◌≡◌, ◌≢◌, ◌⊎◌, inl, inr, refl, a
 use Rattle.std.specs.Prelude.{cond, ◌==◌, ◌&&◌, ◌||◌, not, Option, Some, None, List, [], ◌∷◌, ◌++◌, map, filter, drop, slice_get, slice_index_or, slice_set}
 use Rattle.std.specs.List.{list_any}
 use Rattle.std.proofs.lemmas.Bool.Decides.{nat_tests}
-use Rattle.sva_prq.specs.Groups.{OpenGroup, answered_among, has_job}
+use Rattle.sva_prq.specs.Groups.{OpenGroup, answered_among}
 use Rattle.sva_views.specs.ServiceLaws.{IsIn, AreRising}
 
 pub equals : (a b : ℕ) → a ≡ b → (a == b) ≡ true

@@ -1,13 +1,13 @@
 -- Each call of the service keeps it sound, but for the filing of a request.
-use Rattle.std.proofs.Common.{◌≡◌, ◌≢◌, ◌⊎◌, inl, inr, refl, ap, sym, subst, ◌∙◌, ℕ, zero, suc, ◌+◌, ◌<◌, ◌≤◌, Bool, true, false, arith}
-use Rattle.std.specs.Prelude.{◌==◌, not, Option, Some, None, List, [], ◌∷◌, filter, length, drop, slice_get, slice_index_or, slice_set}
+use Rattle.std.proofs.Common.{◌≡◌, ◌≢◌, ◌⊎◌, inl, inr, refl, ap, sym, subst, ◌∙◌, ℕ, zero, suc, ◌<◌, ◌≤◌, Bool, true, arith}
+use Rattle.std.specs.Prelude.{◌==◌, not, Option, Some, None, List, [], ◌∷◌, filter, length, drop, slice_get}
 use Rattle.std.proofs.lemmas.List.{get_or-set_same, get_or-set_other, length-set}
 use Rattle.sva_laws.proofs.Words.{ℕ_cases}
 use Rattle.sva_prq.specs.Job.{Job}
 use Rattle.sva_prq.specs.Groups.{OpenGroup, is_of_other_unit as is_of_other}
 use Rattle.sva_service.specs.Service.{Service, no_service, with_room, hand, taken, after_answer, after_answer_of, is_of_other_unit, without_unit}
 use Rattle.sva_views.specs.ServiceLaws.{IsIn, IsKept, AreRising, IsSound, IsWhole}
-use Rattle.sva_views.proofs.ServiceLists.{in_filter, kept_in, all_left, first_in, behind_in, emptied, equals, same_of, rising_left, is_other}
+use Rattle.sva_views.proofs.ServiceLists.{in_filter, kept_in, all_left, first_in, behind_in, emptied, equals, rising_left, is_other}
 use Rattle.sva_views.proofs.ServiceAnswers.{left_is}
 
 -- A service with fewer groups, of which each that is left has its job.

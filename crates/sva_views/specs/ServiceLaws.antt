@@ -1,6 +1,6 @@
 -- When the service of page requests is sound, that each of its calls keeps it so, and what an answered job leaves of the open
 -- groups, as the definitions by labels say it.
-use Rattle.std.specs.Prelude.{◌≡◌, ◌⊎◌, ℕ, ◌+◌, ◌<◌, ◌≤◌, Bool, true, false, ◌==◌, ◌&&◌, not, Option, Some, None, List, [], ◌∷◌, filter, length, slice_index_or, slice_set}
+use Rattle.std.specs.Prelude.{◌≡◌, ◌⊎◌, ℕ, ◌+◌, ◌<◌, ◌≤◌, Bool, true, false, ◌==◌, ◌&&◌, not, Some, None, List, [], ◌∷◌, filter, length, slice_index_or, slice_set}
 use Rattle.std.specs.List.{list_any}
 use Rattle.sva_model.specs.Wire.{JobWire}
 use Rattle.sva_labels.specs.Moves.{is_begun, is_of_job}

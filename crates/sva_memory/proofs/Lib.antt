@@ -9,5 +9,5 @@ pub mod ChangedSpace
 pub mod Waiting
 pub mod Rows
 pub mod Taking
-pub mod Tests
+pub mod Permits
 pub mod Unmapped

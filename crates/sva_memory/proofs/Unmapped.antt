@@ -18,7 +18,7 @@ use Rattle.sva_memory.specs.Inner.{memory_in}
 use Rattle.sva_memory.specs.Unmapping.{unmapped}
 use Rattle.sva_memory.proofs.Hosts.{OneChanged}
 use Rattle.sva_memory.proofs.ChangedSpace.{lacks_space}
-use Rattle.sva_memory.proofs.Tests.{in_space}
+use Rattle.sva_memory.proofs.Permits.{in_space}
 
 -- no space was asked for that isn't there
 pub is_there : (causes : List PageWire → List Cause) (memory : Inside) (number : ℕ) (lives : List Live) → IsOk (in_space causes (pages_of (memory_in memory).spaces number)) → None ≡ position (is_of number) lives → lives ≡ memory.spaces.items → ⊥

@@ -9,6 +9,7 @@ use Rattle.sva_model.specs.Wire.{PageWire, TargetWire}
 use Rattle.sva_labels.specs.Finding.{pages_of, or_no_pages, is_mapped}
 use Rattle.sva_labels.specs.Finding as finding
 use Rattle.sva_labels.specs.Moves.{with_pages, without_pages, is_between, placed, place_for}
+use Rattle.sva_labels.specs.Moves as labels
 use Rattle.sva_memory.specs.Seen.{MemorySeen}
 use Rattle.sva_memory.specs.Pieces.{verdict, unmap_causes, range_causes}
 use Rattle.sva_memory.specs.Steps.{has_space}
@@ -49,3 +50,7 @@ unmapped memory n q count targets =
       spaces = with_pages memory.spaces n (without_pages q count);
       places = placed (place_for targets) (filter (is_between q count) (pages_in memory n)) memory.places;
     }
+
+-- After a unit has passed a wait, or a reset has ended: what it has settled is waited for no more.
+abbrev pub settled : MemorySeen → (endpoint : ℕ) → (Option TargetWire → Option TargetWire) → MemorySeen
+settled memory e settle = record memory { places = labels.settled e settle memory.places }

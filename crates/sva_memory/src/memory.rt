@@ -1,12 +1,12 @@
 //! The frames and the live spaces of a host, put together.
 
-ghost use Rattle.std.specs.Prelude.{◌≡◌, ◌≢◌, ◌^◌, true, Err, IfOk, IsOk, length};
+ghost use Rattle.std.specs.Prelude.{◌≡◌, ◌≢◌, ◌^◌, ◌↔◌, true, None, Err, IfOk, IsOk, IsTrue, length};
 ghost use Rattle.sva_step.specs.declared.refusals.Refusal.TheVariants as refusal;
 ghost use Rattle.sva_step.specs.declared.steps.Step.TheVariants as step;
-ghost use Rattle.sva_labels.specs.Moves.{Move};
+ghost use Rattle.sva_labels.specs.Moves.{Move, settled_cookie};
 ghost use Rattle.sva_memory.specs.Seen.{targets_seen};
 ghost use Rattle.sva_memory.specs.Room.{HaveRoom};
-ghost use Rattle.sva_memory.specs.Unmapping.{may_unmap, may_unmap_range, frames_of, mapped_of, unmapped};
+ghost use Rattle.sva_memory.specs.Unmapping.{may_unmap, may_unmap_range, frames_of, mapped_of, unmapped, settled};
 ghost use Rattle.sva_memory.specs.Steps.{first_memory, Steps, Moves, has_space, Counted};
 
 use crate::live::{Live, place_of};
@@ -200,6 +200,28 @@ impl Memory {
             count,
             waits,
         )
+    }
+
+    /// Whether each cookie of these waits is pending at its unit already, or finds fewer than 64 pending there.
+    pub fn has_room(&self, waits: &Waits) -> bool
+        ensures { IsTrue result ↔ HaveRoom self.now.places (targets_seen waits.now) }
+    {
+        self.pool.has_room(waits)
+    }
+
+    /// The wait with this cookie is done at a unit, and no frame waits for it any more. A frame that waits for nothing else
+    /// is free.
+    pub fn settle(&mut self, unit: u64, cookie: u64)
+        ensures { self.new ≡ settled self.old unit (settled_cookie cookie) }
+    {
+        self.pool.settle(unit, cookie);
+    }
+
+    /// A reset has ended, and no frame waits for this unit any more.
+    pub fn settle_all(&mut self, unit: u64)
+        ensures { self.new ≡ settled self.old unit (λ target. None) }
+    {
+        self.pool.settle_all(unit);
     }
 
     /// How many frames are at each place.

@@ -164,8 +164,8 @@ pub fn take_mapped(
     let _pages = space.len();
     let mut frames = 0;
     for number in 0..count {
-        if let Some((taken, _write)) = space.unmap(page + number) {
-            pool.withhold(taken, waits.copied());
+        if let Some((frame, _write)) = space.unmap(page + number) {
+            pool.withhold(frame, waits.copied());
             frames += 1;
         }
     }

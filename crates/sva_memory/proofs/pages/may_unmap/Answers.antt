@@ -1,6 +1,6 @@
 use Rattle.std.proofs.Common.{◌+◌, ◌≤◌, ◌^◌, arith, sym}
 use Rattle.sva_memory.specs.Seen.{pages_seen}
-use Rattle.sva_memory.proofs.Tests.{some-unmapped, all-mapped}
+use Rattle.sva_memory.proofs.Permits.{some-unmapped, all-mapped}
 use Rattle.sva_memory.proofs.pages.may_unmap.Goals as goal
 
 pub returns-then-not-are_mapped : goal.returns-then-not-are_mapped

@@ -1,6 +1,6 @@
 use Rattle.std.proofs.Common.{◌+◌, ◌*◌, ◌%◌, ◌≤◌, ◌^◌, false, true, arith, sym}
 use Rattle.sva_memory.specs.Seen.{pages_seen}
-use Rattle.sva_memory.proofs.Tests.{size, size-most, range-tested}
+use Rattle.sva_memory.proofs.Permits.{size, size-most, range-tested}
 use Rattle.sva_memory.proofs.pages.may_unmap_range.Goals as goal
 
 pub is_some_mapped-requires : goal.is_some_mapped-requires

@@ -7,7 +7,7 @@ use Rattle.sva_memory.specs.Seen.{MemorySeen, pages_seen}
 use Rattle.sva_memory.specs.Inner.{memory_in}
 use Rattle.sva_memory.specs.Pieces.{range_causes}
 use Rattle.sva_memory.specs.Unmapping as unmapping
-use Rattle.sva_memory.proofs.Tests.{no_space, a_space}
+use Rattle.sva_memory.proofs.Permits.{no_space, a_space}
 use Rattle.sva_memory.proofs.LiveLists.{pages_of-at}
 use Rattle.sva_memory.proofs.ChangedSpace.{has_space, lacks_space}
 use Rattle.sva_memory.proofs.memory.Memory.may_unmap_range.Goals as goal

@@ -9,7 +9,7 @@ use Rattle.sva_memory.specs.Inner.{memory_in}
 use Rattle.sva_memory.specs.Pieces.{unmap_causes}
 use Rattle.sva_memory.specs.Unmapping.{may_unmap, frames_of, unmapped}
 use Rattle.sva_memory.specs.Room.{HaveRoom}
-use Rattle.sva_memory.proofs.Tests.{may_unmap-tests}
+use Rattle.sva_memory.proofs.Permits.{may_unmap-tests}
 use Rattle.sva_memory.proofs.Waiting.{room_of}
 use Rattle.sva_memory.proofs.LiveLists.{owns-at, pages_of-at}
 use Rattle.sva_memory.proofs.ChangedSpace.{has_space, one_changed, stays_memory}

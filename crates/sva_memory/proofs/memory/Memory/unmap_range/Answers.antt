@@ -9,7 +9,7 @@ use Rattle.sva_memory.specs.Inner.{memory_in}
 use Rattle.sva_memory.specs.Pieces.{range_causes}
 use Rattle.sva_memory.specs.Unmapping.{may_unmap_range, mapped_of, unmapped}
 use Rattle.sva_memory.specs.Room.{HaveRoom}
-use Rattle.sva_memory.proofs.Tests.{count_mapped-is, size, size-most, may_unmap_range-tests}
+use Rattle.sva_memory.proofs.Permits.{count_mapped-is, size, size-most, may_unmap_range-tests}
 use Rattle.sva_memory.proofs.Waiting.{room_of}
 use Rattle.sva_memory.proofs.LiveLists.{owns-at, pages_of-at}
 use Rattle.sva_memory.proofs.ChangedSpace.{has_space, one_changed, stays_memory}

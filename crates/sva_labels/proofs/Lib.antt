@@ -87,3 +87,5 @@ pub mod SoundWaits
 pub mod SoundRoom
 pub mod SoundRequests
 pub mod SoundFlights
+pub mod SoundTables
+pub mod SoundCache

@@ -1,6 +1,6 @@
 -- What a host keeps is as the calls of the parts need it.
-use Rattle.std.proofs.Common.{◌≡◌, ap, sym, subst, ℕ, ◌+◌, ◌<◌, ◌≤◌, arith}
-use Rattle.std.specs.Prelude.{length, List}
+use Rattle.std.proofs.Common.{◌∙◌, ◌≡◌, ap, sym, subst, ℕ, ◌+◌, ◌<◌, ◌≤◌, arith}
+use Rattle.std.specs.Prelude.{slice_get, length, List}
 use Rattle.sva_step.specs.declared.limits.Config.{Config}
 use Rattle.sva_step.specs.declared.steps.Step.{Step}
 use Rattle.sva_model.specs.State.{World}
@@ -13,9 +13,12 @@ use Rattle.sva_laws.proofs.Runs.{always}
 use Rattle.sva_laws.proofs.Invariant.{Invariant}
 use Rattle.sva_laws.proofs.Fronts.{AllFronts, always_fronts}
 use Rattle.sva_wire.proofs.Lists.{tabulate_length}
-use Rattle.sva_labels.specs.Sound.{IsSound}
+use Rattle.sva_labels.specs.Sound.{AreTables, IsSound}
 use Rattle.sva_labels.proofs.Bound.{binding_seen}
-use Rattle.sva_labels.proofs.EndpointViews.{endpoints_seen, unit_seen}
+use Rattle.sva_labels.proofs.EndpointViews.{endpoints_seen, device_seen, unit_seen}
+use Rattle.sva_labels.proofs.EndpointFaults.{outstanding_seen}
+use Rattle.sva_labels.proofs.SoundCache.{cache_rising}
+use Rattle.sva_labels.proofs.SoundTables.{always_cached, cache_short}
 use Rattle.sva_labels.proofs.SoundLists.{seen_get, seen_rises}
 use Rattle.sva_labels.proofs.SoundNumbers.{HasNumbers, always_numbers}
 use Rattle.sva_labels.proofs.SoundQueues.{always_short, queue_short, ends_rise, end_within}
@@ -78,6 +81,24 @@ always_sound config steps fits =
           λ e k r b l h f.
           filing_placed w invariant (always_on_the_way PerSpace config steps) (always_filings PerSpace config steps) (always_once PerSpace config steps) (always_outstanding PerSpace config steps)
           e k r b (there e l) h f;
+      tables =
+          λ e l.
+          subst AreTables (sym (device_seen w e (there e l)))
+          (record {
+            pasids = tabulate_length 32 _;
+            tags = tabulate_length 32 _;
+            slots = tabulate_length 16 _;
+            taken = tabulate_length 32 _;
+            groups = tabulate_length 32 _;
+          });
+      busy_size = λ e l. ap (λ u. length u.busy) (unit_seen w e (there e l)) ∙ tabulate_length 32 _;
+      few_outstanding = λ e l. subst (λ n. n ≤ 32) (sym (outstanding_seen w e invariant (there e l))) (always_outstanding PerSpace config steps e);
+      cache_fits = λ e l. subst (λ d. length d.cache ≤ 64) (sym (device_seen w e (there e l))) (cache_short w.mappings (w.part e) (always_cached PerSpace config steps e));
+      cache_rises =
+          λ e j k x y l o h m.
+          cache_rising w.mappings w.config.endpoints w.bindings w.messages e (w.part e) (invariant.parts e) j k x y o
+          (sym (ap (λ d. slice_get d.cache j) (device_seen w e (there e l))) ∙ h)
+          (sym (ap (λ d. slice_get d.cache k) (device_seen w e (there e l))) ∙ m);
       one_each = λ j k b d h i. one_each w invariant j k b d (kept_at w j b h) (kept_at w k d i);
     }
   where

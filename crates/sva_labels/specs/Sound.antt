@@ -9,12 +9,12 @@ use Rattle.sva_model.specs.Message.Message.{StartMessage, StopMessage, ResetMess
 use Rattle.sva_model.specs.State.PasidRule.{PerSpace}
 use Rattle.sva_model.specs.Steps.{world_after}
 use Rattle.sva_model.specs.Claims.{Fits}
-use Rattle.sva_model.specs.Wire.{Wire, SpaceWire, BindingWire, UnitWire, PlaceWire, TargetWire, PageRequestWire, FlightWire, wire}
+use Rattle.sva_model.specs.Wire.{Wire, SpaceWire, BindingWire, DeviceWire, TranslationWire, UnitWire, PlaceWire, TargetWire, PageRequestWire, FlightWire, is_before, wire}
 use Rattle.sva_model.specs.Wire.PlaceWire.{WithheldWire}
 use Rattle.sva_model.specs.Wire.TargetWire.{Cookie}
 use Rattle.sva_model.specs.Wire.StageWire.{StoppingWire, InvalidatingWire}
 use Rattle.sva_model.specs.Wire.Descriptor.{WaitDescriptor}
-use Rattle.sva_labels.specs.Finding.{part_of, unit_of, bearer, is_wait_done}
+use Rattle.sva_labels.specs.Finding.{part_of, device_of, unit_of, outstanding, bearer, is_wait_done}
 use Rattle.sva_labels.specs.Moves.{is_begun}
 use Rattle.sva_labels.specs.Outcomes.{asks_of}
 
@@ -65,6 +65,14 @@ Suits w e (PageRequestMessage t i q r x l) = (unit_of w e).is_open ≡ true → 
 Suits w e (MarkerMessage t) = (unit_of w e).is_open ≡ true → IsMarkable w e t
 Suits w e ResetDoneMessage = (unit_of w e).is_open ≡ false
 Suits w e _ = Unit {0}
+
+-- the tables of an endpoint have a place for each label
+pub record AreTables (d : DeviceWire) : Type 0 where
+  pub pasids : length d.pasids ≡ 32
+  pub tags : length d.tags ≡ 32
+  pub slots : length d.slots ≡ 16
+  pub taken : length d.taken ≡ 32
+  pub groups : length d.groups ≡ 32
 
 pub record IsSound (w : Wire) : Type 0 where
   -- numbers and cookies: a step counts on from one of these after its test that it is below 2^63 (a unit's `submit`)
@@ -120,6 +128,20 @@ pub record IsSound (w : Wire) : Type 0 where
       → slice_get (part_of w e).page_queue k ≡ Some r
       → bearer w e r.pasid ≡ Some b
       → length (asks_of (find (is_begun b.binding r.index) (part_of w e).host_groups)) < 32
+  -- an endpoint: its tables and its unit's have a place for each label (`give` of a label, `receive`); no more than 32 page
+  -- requests are outstanding (`fault`), and no more than 64 translations cached (`receive` of a completion)
+  pub tables : (e : ℕ) → e < length w.parts → AreTables (device_of w e)
+  pub busy_size : (e : ℕ) → e < length w.parts → length (unit_of w e).busy ≡ 32
+  pub few_outstanding : (e : ℕ) → e < length w.parts → outstanding (device_of w e).groups ≤ 32
+  pub cache_fits : (e : ℕ) → e < length w.parts → length (device_of w e).cache ≤ 64
+  -- one translation of each PASID and page is cached, in rising order (`insert` in the place of an older one)
+  pub cache_rises :
+      (e j k : ℕ) (x y : TranslationWire)
+      → e < length w.parts
+      → j < k
+      → slice_get (device_of w e).cache j ≡ Some x
+      → slice_get (device_of w e).cache k ≡ Some y
+      → is_before x y ≡ true
 
 -- what is kept at each world that some list of steps leads to
 abbrev pub AlwaysSound : Type 0

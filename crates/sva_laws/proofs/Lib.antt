@@ -54,3 +54,4 @@ pub mod Journals
 pub mod Said
 pub mod Successes
 pub mod OnePart
+pub mod Latest

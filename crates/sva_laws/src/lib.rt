@@ -2,7 +2,7 @@
 #![tactic(auto)]
 
 ghost use Rattle.sva_model.specs.Claims.{AlwaysAgrees};
-ghost use Rattle.sva_laws.specs.Laws.{AlwaysOwned, AlwaysPresentOrWithheld, AlwaysMatched, AlwaysHoldsJobs, AlwaysDivided, AlwaysAddsUp, AlwaysWithheldExactly, FreeByTheLastAnswer, AlwaysTold, AlwaysToldOfRange, AlwaysGiven, AlwaysLabelled, AlwaysFound, AlwaysCarried, AlwaysUnderWay, NeverOccurring, AlwaysLimited};
+ghost use Rattle.sva_laws.specs.Laws.{AlwaysOwned, AlwaysPresentOrWithheld, AlwaysMatched, AlwaysHoldsJobs, AlwaysDivided, AlwaysAddsUp, AlwaysWithheldExactly, FreeByTheLastAnswer, AlwaysTold, AlwaysToldOfRange, AlwaysGiven, AlwaysLabelled, AlwaysFound, AlwaysCarried, AlwaysUnderWay, NeverOccurring, AlwaysLimited, AlwaysFindsMappings};
 ghost use Rattle.sva_laws.specs.Answers.{AlwaysFinishes, AlwaysUses, AlwaysLooks, AlwaysFrees, AlwaysSucceeds};
 ghost use Rattle.sva_laws.specs.Steps.{AlwaysChangesOnePart, AlwaysDropsApart};
 ghost use Rattle.sva_laws.specs.Runs.{AlwaysLegalInFront, AlwaysLegalByAnswer, SameForOneEndpoint};
@@ -47,13 +47,15 @@ pub fn frames()
 
 /// Labels: each is borne by at most one record, and finds the record that a step or a message speaks of; a message in
 /// flight carries the labels of the records that it was sent for; what is awaited
-/// at an open unit is on its way, once; and what can't occur at a delivery doesn't.
+/// at an open unit is on its way, once; and what can't occur at a delivery doesn't. A space and a page find the mapping that is
+/// present there, and a frame the last mapping that led to it.
 pub fn labels_and_deliveries()
     ensures labelled { AlwaysLabelled }
     ensures found { AlwaysFound }
     ensures carried { AlwaysCarried }
     ensures under_way { AlwaysUnderWay }
     ensures never { NeverOccurring }
+    ensures mappings { AlwaysFindsMappings }
 {}
 
 /// One step at an endpoint with its unit: the counter of reset-dones rises by one exactly where it delivers one; an order

@@ -55,3 +55,5 @@ pub mod Said
 pub mod Successes
 pub mod OnePart
 pub mod Latest
+pub mod Turns
+pub mod ByUnit

@@ -88,3 +88,4 @@ pub mod SoundRoom
 pub mod SoundRequests
 pub mod SoundFlights
 pub mod SoundTables
+pub mod SoundCache

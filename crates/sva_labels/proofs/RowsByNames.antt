@@ -17,13 +17,16 @@ use Rattle.sva_labels.specs.RowsByLabels.{IsRowByLabels}
 use Rattle.sva_labels.proofs.Said.{every_list}
 
 pub one_endpoint : Fits (config 1 4 1 0)
-one_endpoint = record { some_endpoint = omega arith; most_endpoints = omega arith; some_frame = omega arith; most_frames = omega arith; some_worker = omega arith; most_workers = omega arith; first_number = omega arith }
+one_endpoint =
+    record { some_endpoint = omega arith; most_endpoints = omega arith; some_frame = omega arith; most_frames = omega arith; some_worker = omega arith; most_workers = omega arith; first_number = omega arith }
 
 pub one_with_eight_frames : Fits (config 1 8 1 0)
-one_with_eight_frames = record { some_endpoint = omega arith; most_endpoints = omega arith; some_frame = omega arith; most_frames = omega arith; some_worker = omega arith; most_workers = omega arith; first_number = omega arith }
+one_with_eight_frames =
+    record { some_endpoint = omega arith; most_endpoints = omega arith; some_frame = omega arith; most_frames = omega arith; some_worker = omega arith; most_workers = omega arith; first_number = omega arith }
 
 pub two_endpoints : Fits (config 2 4 1 0)
-two_endpoints = record { some_endpoint = omega arith; most_endpoints = omega arith; some_frame = omega arith; most_frames = omega arith; some_worker = omega arith; most_workers = omega arith; first_number = omega arith }
+two_endpoints =
+    record { some_endpoint = omega arith; most_endpoints = omega arith; some_frame = omega arith; most_frames = omega arith; some_worker = omega arith; most_workers = omega arith; first_number = omega arith }
 
 -- the answers by names
 abbrev pub IsRowByNames : Config → List Line → Type 0

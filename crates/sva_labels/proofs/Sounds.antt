@@ -1,6 +1,6 @@
 -- What a host keeps is as the calls of the parts need it.
 use Rattle.std.proofs.Common.{◌∙◌, ◌≡◌, ap, sym, subst, ℕ, ◌+◌, ◌<◌, ◌≤◌, arith}
-use Rattle.std.specs.Prelude.{length, List}
+use Rattle.std.specs.Prelude.{slice_get, length, List}
 use Rattle.sva_step.specs.declared.limits.Config.{Config}
 use Rattle.sva_step.specs.declared.steps.Step.{Step}
 use Rattle.sva_model.specs.State.{World}
@@ -17,6 +17,7 @@ use Rattle.sva_labels.specs.Sound.{AreTables, IsSound}
 use Rattle.sva_labels.proofs.Bound.{binding_seen}
 use Rattle.sva_labels.proofs.EndpointViews.{endpoints_seen, device_seen, unit_seen}
 use Rattle.sva_labels.proofs.EndpointFaults.{outstanding_seen}
+use Rattle.sva_labels.proofs.SoundCache.{cache_rising}
 use Rattle.sva_labels.proofs.SoundTables.{always_cached, cache_short}
 use Rattle.sva_labels.proofs.SoundLists.{seen_get, seen_rises}
 use Rattle.sva_labels.proofs.SoundNumbers.{HasNumbers, always_numbers}
@@ -93,6 +94,11 @@ always_sound config steps fits =
       busy_size = λ e l. ap (λ u. length u.busy) (unit_seen w e (there e l)) ∙ tabulate_length 32 _;
       few_outstanding = λ e l. subst (λ n. n ≤ 32) (sym (outstanding_seen w e invariant (there e l))) (always_outstanding PerSpace config steps e);
       cache_fits = λ e l. subst (λ d. length d.cache ≤ 64) (sym (device_seen w e (there e l))) (cache_short w.mappings (w.part e) (always_cached PerSpace config steps e));
+      cache_rises =
+          λ e j k x y l o h m.
+          cache_rising w.mappings w.config.endpoints w.bindings w.messages e (w.part e) (invariant.parts e) j k x y o
+          (sym (ap (λ d. slice_get d.cache j) (device_seen w e (there e l))) ∙ h)
+          (sym (ap (λ d. slice_get d.cache k) (device_seen w e (there e l))) ∙ m);
       one_each = λ j k b d h i. one_each w invariant j k b d (kept_at w j b h) (kept_at w k d i);
     }
   where

@@ -9,7 +9,7 @@ use Rattle.sva_model.specs.Message.Message.{StartMessage, StopMessage, ResetMess
 use Rattle.sva_model.specs.State.PasidRule.{PerSpace}
 use Rattle.sva_model.specs.Steps.{world_after}
 use Rattle.sva_model.specs.Claims.{Fits}
-use Rattle.sva_model.specs.Wire.{Wire, SpaceWire, BindingWire, DeviceWire, UnitWire, PlaceWire, TargetWire, PageRequestWire, FlightWire, wire}
+use Rattle.sva_model.specs.Wire.{Wire, SpaceWire, BindingWire, DeviceWire, TranslationWire, UnitWire, PlaceWire, TargetWire, PageRequestWire, FlightWire, is_before, wire}
 use Rattle.sva_model.specs.Wire.PlaceWire.{WithheldWire}
 use Rattle.sva_model.specs.Wire.TargetWire.{Cookie}
 use Rattle.sva_model.specs.Wire.StageWire.{StoppingWire, InvalidatingWire}
@@ -134,6 +134,14 @@ pub record IsSound (w : Wire) : Type 0 where
   pub busy_size : (e : ℕ) → e < length w.parts → length (unit_of w e).busy ≡ 32
   pub few_outstanding : (e : ℕ) → e < length w.parts → outstanding (device_of w e).groups ≤ 32
   pub cache_fits : (e : ℕ) → e < length w.parts → length (device_of w e).cache ≤ 64
+  -- one translation of each PASID and page is cached, in rising order (`insert` in the place of an older one)
+  pub cache_rises :
+      (e j k : ℕ) (x y : TranslationWire)
+      → e < length w.parts
+      → j < k
+      → slice_get (device_of w e).cache j ≡ Some x
+      → slice_get (device_of w e).cache k ≡ Some y
+      → is_before x y ≡ true
 
 -- what is kept at each world that some list of steps leads to
 abbrev pub AlwaysSound : Type 0

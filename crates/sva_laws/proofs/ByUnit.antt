@@ -1,5 +1,5 @@
 -- What was taken out is answered for, unit by unit, exactly where the look back over the list of steps says so.
-use Rattle.std.proofs.Common.{◌≡◌, refl, ap, sym, subst, ◌∙◌, ℕ, true, false}
+use Rattle.std.proofs.Common.{◌≡◌, refl, ap, sym, ◌∙◌, ℕ, true}
 use Rattle.std.specs.Prelude.{◌↔◌, Option, Some, None, ◌&&◌, ◌==◌, List, [], ◌∷◌, ◌++◌}
 use Rattle.std.proofs.lemmas.Bool.Decides.{nat_tests}
 use Rattle.std.proofs.Common.{arith}

@@ -1,13 +1,11 @@
 -- What is found at a space and a page is exactly the mapping that is present there; the latest mapping of a frame is exactly the
 -- last that led to it.
-use Rattle.std.proofs.Common.{◌≡◌, ◌≢◌, ◌⊎◌, inl, inr, ap, sym, subst, ◌∙◌, ℕ, suc, ◌<◌, ◌≤◌, Bool, arith}
-use Rattle.std.specs.Prelude.{◌↔◌, Option, Some, None, List, [], ◌∷◌}
-use Rattle.std.proofs.lemmas.Bool.Decides.{nat_tests}
+use Rattle.std.proofs.Common.{◌≡◌, ◌≢◌, ◌⊎◌, inl, inr, ap, sym, subst, ◌∙◌, ℕ, ◌<◌, ◌≤◌, Bool, arith}
+use Rattle.std.specs.Prelude.{Option, Some, List, [], ◌∷◌}
 use Rattle.sva_step.specs.declared.limits.Config.{Config}
 use Rattle.sva_step.specs.declared.steps.Step.{Step}
 use Rattle.sva_model.specs.Words.{put}
 use Rattle.sva_model.specs.State.{PasidRule, Mappings, World, opened}
-use Rattle.sva_model.specs.State.MappingState.{Present}
 use Rattle.sva_model.specs.Acts.{Act, act}
 use Rattle.sva_model.specs.Acts.Act.{NewSpace, DropSpace, Map, Unmap, NewBinding, NewJob, Hold, LetGo, At}
 use Rattle.sva_model.specs.Steps.{decide, next, run, after_acts, world_after}

@@ -1,5 +1,5 @@
 -- An endpoint has answered what it owes since a pump that passed the wait that it owed, or the delivery of its reset-done.
-use Rattle.std.proofs.Common.{◌≡◌, ◌≢◌, ◌⊎◌, inl, inr, refl, ap, sym, subst, ◌∙◌, ℕ, zero, suc, ◌+◌, ◌-◌, ◌<◌, ◌≤◌, Bool, true, false, arith}
+use Rattle.std.proofs.Common.{◌≡◌, ◌⊎◌, inl, inr, refl, ap, sym, subst, ◌∙◌, ℕ, suc, ◌+◌, ◌≤◌, Bool, true, false, arith}
 use Rattle.std.specs.Prelude.{Option, Some, None, ◌&&◌, ◌||◌, nat_lt, List, [], ◌∷◌, ◌++◌, Ok}
 use Rattle.std.proofs.lemmas.Bool.Decides.{nat_tests}
 use Rattle.sva_step.specs.declared.answers.Answer.{Answer}
@@ -11,11 +11,10 @@ use Rattle.sva_model.specs.State.About.{ResetDone}
 use Rattle.sva_model.specs.State.Owed.{Nothing, Ranges, Pasid, AReset}
 use Rattle.sva_model.specs.State.OrderState.{Owing, Done}
 use Rattle.sva_model.specs.State.MappingState.{Gone}
-use Rattle.sva_model.specs.States.{is_done, is_busy, is_wait, answered}
-use Rattle.sva_model.specs.Acts.{Own, act, own, submits, submitted_if, bound, cookie_of}
-use Rattle.sva_model.specs.Acts.Act.{At}
+use Rattle.sva_model.specs.States.{is_done, is_busy, answered}
+use Rattle.sva_model.specs.Acts.{Own, own, submits, submitted_if, bound, cookie_of}
 use Rattle.sva_model.specs.Steps.{reply, decide, next, after_acts, world_after}
-use Rattle.sva_laws.specs.UnitSteps.{Delivers, PassesWait, CompletesOrder, CountsResetDones}
+use Rattle.sva_laws.specs.UnitSteps.{Delivers, PassesWait, CompletesOrder}
 use Rattle.sva_laws.specs.Waits.{IsBehind, FitsDebt}
 use Rattle.sva_laws.specs.Steps.{wait_of, AnswersBy}
 use Rattle.sva_laws.proofs.Words.{all_below-true}
@@ -23,8 +22,8 @@ use Rattle.sva_laws.proofs.Answered.{all_below-intro}
 use Rattle.sva_laws.proofs.Legal.{LegalOwn}
 use Rattle.sva_laws.proofs.Orders.{Orders}
 use Rattle.sva_laws.proofs.Invariant.{Invariant}
-use Rattle.sva_laws.proofs.Keeps.{Legal, put_keeps}
-use Rattle.sva_laws.proofs.Passed.{LegalAll, is_at_most, or_left, or_right, and_left, and_right}
+use Rattle.sva_laws.proofs.Keeps.{put_keeps}
+use Rattle.sva_laws.proofs.Passed.{LegalAll, is_at_most, or_left, or_right, and_right}
 use Rattle.sva_laws.proofs.Runs.{always, step_legal}
 use Rattle.sva_laws.proofs.Lookback.{after_one, moves}
 use Rattle.sva_laws.proofs.StepKinds.{IsBy, Kind, step_kind}

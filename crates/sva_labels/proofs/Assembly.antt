@@ -80,7 +80,8 @@ act_past w (DropSpace s) r h = h
 act_past w (Map s q f x) r h = h
 act_past w (Unmap s q count order) r h =
     λ j l.
-    submitted_past (submits w s (w.job j).endpoint) (w.part (w.job j).endpoint) (bound w (w.job j).endpoint s) q count order (cookie_of w s (w.job j).endpoint) (w.job j).group (h j l)
+    submitted_past (submits w s (w.job j).endpoint) (w.part (w.job j).endpoint) (bound w (w.job j).endpoint s) q count order
+    (cookie_of w s (w.job j).endpoint) (w.job j).group (h j l)
 act_past w (NewBinding e) r h = h
 act_past w (NewJob e g) r h = λ j l. go j l (ℕ_cases j w.jobs)
   where
@@ -96,7 +97,8 @@ act_past w (Hold x j) r h = h
 act_past w (LetGo x) r h = h
 act_past w (At e o) r h =
     λ j l.
-    put_keeps (λ x p. is_past ((w.part x).host_group (w.job j).group) ≡ true → is_past (p.host_group (w.job j).group) ≡ true) w.part e (own (w.part e) w.messages o)
+    put_keeps (λ x p. is_past ((w.part x).host_group (w.job j).group) ≡ true → is_past (p.host_group (w.job j).group) ≡ true) w.part e
+    (own (w.part e) w.messages o)
     (past_kept (w.part e) w.messages o (w.job j).group (files_open w e o r.0))
     (λ x k. k)
     (w.job j).endpoint (h j l)
@@ -138,7 +140,9 @@ part_moves w e o s l r =
     let p = w.part e in
     let i = s.invariant.parts e in
     let device = device_square w.config.first w.mappings w.config.endpoints w.bindings w.messages e p o l.1.0 i in
-    let unit = unit_acts w.mappings w.config.endpoints w.bindings w.messages e w.config.first w.cookies p o l.1.0 (has_cookie w e o l.1.1) r.1 i (s.owed e) (s.carried e) in
+    let unit =
+    unit_acts w.mappings w.config.endpoints w.bindings w.messages e w.config.first w.cookies p o l.1.0 (has_cookie w e o l.1.1) r.1 i (s.owed e)
+    (s.carried e) in
     let queue = page_queue_acts w.mappings w.config.endpoints w.bindings w.messages e w.config.first p o l.1.0 i in
     let groups = host_groups_in_turn w.mappings w.config.endpoints w.bindings w.messages e w.config.first p o l.1.0 i (files_open w e o r.0) (s.filings e) in
     λ k. record { device = device k; unit = unit k; page_queue = queue k; host_groups = groups k }

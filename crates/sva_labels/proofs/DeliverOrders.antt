@@ -40,7 +40,8 @@ extent_read p h k (Wait cookie drain) e = refl
 pub invalidate_arrives : (w : World) (e c k : ℕ) → IsReached w → (w.part e).message c ≡ Some (InvalidateOf k) → ArrivesAlike w e c (InvalidateOf k)
 invalidate_arrives w e c k r m =
     ap (by_message w e c) ((r.carried e).invalidate c k m)
-    ∙ ap (λ x. by_one answer.Taken (Move.Take e (number w.config.first c) ((w.part e).itag k) ((w.part e).pasid (binding_of ((w.part e).order k))) x)) (extent_read (w.part e) (r.ranges e) k ((w.part e).order k) refl)
+    ∙ ap (λ x. by_one answer.Taken (Move.Take e (number w.config.first c) ((w.part e).itag k) ((w.part e).pasid (binding_of ((w.part e).order k))) x))
+    (extent_read (w.part e) (r.ranges e) k ((w.part e).order k) refl)
 
 -- A response finds its group by the index.
 
@@ -113,9 +114,11 @@ busy_seen w e t l m =
 freed_seen :
     (w : World) (e c vector field : ℕ) (names : ℕ → Bool) → IsReached w → e < w.config.endpoints → IsVectorOf (w.part e) names vector
     → ((k : ℕ) → names k ≡ true → (left : ℕ) × ((w.part e).order_state k ≡ Owing (count_read field) left))
-    → count_below 32 (λ t. Labels.is_set vector t && is_last_of (count_read field) (busy_at (unit_of (wire w) e) t)) ≡ count_below (w.part e).orders (λ k. names k && is_last_left ((w.part e).order_state k))
+    → count_below 32 (λ t. Labels.is_set vector t && is_last_of (count_read field) (busy_at (unit_of (wire w) e) t))
+    ≡ count_below (w.part e).orders (λ k. names k && is_last_left ((w.part e).order_state k))
 freed_seen w e c vector field names r l v owed =
-    count_paired 32 p.orders (λ t. Labels.is_set vector t && is_last_of count (busy_at (unit_of (wire w) e) t)) (λ k. names k && is_last_left (p.order_state k)) (λ t. the (p.at_itag t)) p.itag forth back
+    count_paired 32 p.orders (λ t. Labels.is_set vector t && is_last_of count (busy_at (unit_of (wire w) e) t))
+    (λ k. names k && is_last_left (p.order_state k)) (λ t. the (p.at_itag t)) p.itag forth back
   where
     p : Part
     p = w.part e
@@ -143,7 +146,8 @@ freed_seen w e c vector field names r l v owed =
     alike k nm low =
         let x = owed k nm in
         let y = (r.under_way e).owing k count x.0 x.1 in
-        ap (is_last_of count) (busy_seen w e (p.itag k) l low ∙ ap (option_map (λ j. busy_wire (p.order_state j))) (bears k nm) ∙ ap (λ s. Some (busy_wire s)) x.1)
+        ap (is_last_of count)
+        (busy_seen w e (p.itag k) l low ∙ ap (option_map (λ j. busy_wire (p.order_state j))) (bears k nm) ∙ ap (λ s. Some (busy_wire s)) x.1)
         ∙ last_seen count x.0 y.0 y.1
         ∙ sym (ap is_last_left x.1)
 
@@ -155,12 +159,14 @@ freed_seen w e c vector field names r l v owed =
 
     forth :
         (t : ℕ) → t < 32 → (Labels.is_set vector t && is_last_of count (busy_at (unit_of (wire w) e) t)) ≡ true
-        → (the (p.at_itag t) < p.orders) × ((names (the (p.at_itag t)) && is_last_left (p.order_state (the (p.at_itag t)))) ≡ true) × (p.itag (the (p.at_itag t)) ≡ t)
+        → (the (p.at_itag t) < p.orders) × ((names (the (p.at_itag t)) && is_last_left (p.order_state (the (p.at_itag t)))) ≡ true)
+        × (p.itag (the (p.at_itag t)) ≡ t)
     forth t m h = go (v.set t m (first (Labels.is_set vector t) (is_last_of count (busy_at (unit_of (wire w) e) t)) h))
       where
         go :
             (k : ℕ) × (names k ≡ true) × (p.itag k ≡ t)
-            → (the (p.at_itag t) < p.orders) × ((names (the (p.at_itag t)) && is_last_left (p.order_state (the (p.at_itag t)))) ≡ true) × (p.itag (the (p.at_itag t)) ≡ t)
+            → (the (p.at_itag t) < p.orders) × ((names (the (p.at_itag t)) && is_last_left (p.order_state (the (p.at_itag t)))) ≡ true)
+            × (p.itag (the (p.at_itag t)) ≡ t)
         go (k, nm, same) =
             let there : the (p.at_itag t) ≡ k = ap (λ z. the (p.at_itag z)) (sym same) ∙ ap the (bears k nm) in
             let last : is_last_left (p.order_state k) ≡ true = sym (alike k nm (low_of k nm)) ∙ ap (λ z. is_last_of count (busy_at (unit_of (wire w) e) z)) same ∙ second (Labels.is_set vector t) (is_last_of count (busy_at (unit_of (wire w) e) t)) h in
@@ -170,7 +176,8 @@ freed_seen w e c vector field names r l v owed =
 
     back :
         (k : ℕ) → k < p.orders → (names k && is_last_left (p.order_state k)) ≡ true
-        → (p.itag k < 32) × ((Labels.is_set vector (p.itag k) && is_last_of count (busy_at (unit_of (wire w) e) (p.itag k))) ≡ true) × (the (p.at_itag (p.itag k)) ≡ k)
+        → (p.itag k < 32) × ((Labels.is_set vector (p.itag k) && is_last_of count (busy_at (unit_of (wire w) e) (p.itag k))) ≡ true)
+        × (the (p.at_itag (p.itag k)) ≡ k)
     back k m h =
         let nm = first (names k) (is_last_left (p.order_state k)) h in (
           low_of k nm,
@@ -190,14 +197,16 @@ invalidated_arrives w e c names r l m = go ((r.carried e).invalidated c names m)
     -- what is moved where the unit is open
     by_open :
         (vector field : ℕ) → p.carried c ≡ InvalidatedMessage vector field → (b : Bool)
-        → count_below 32 (λ t. Labels.is_set vector t && is_last_of (count_read field) (busy_at (unit_of (wire w) e) t)) ≡ count_below p.orders (λ k. names k && is_last_left (p.order_state k))
+        → count_below 32 (λ t. Labels.is_set vector t && is_last_of (count_read field) (busy_at (unit_of (wire w) e) t))
+        ≡ count_below p.orders (λ k. names k && is_last_left (p.order_state k))
         → count_result (unit_of (wire w) e) e (number w.config.first c) vector (count_read field) b ≡ result_by w (outcomes.count_outcome p e c names b)
     by_open vector field h true same =
         ap₂ (λ n x. by_one (answer.Freed n) x) same (sym (ap (count_move w.config.first e c) h))
     by_open vector field h false same = refl
 
     go :
-        (vector field : ℕ) × (p.carried c ≡ InvalidatedMessage vector field) × (field < 8) × IsVectorOf p names vector × ((k : ℕ) → names k ≡ true → (left : ℕ) × (p.order_state k ≡ Owing (count_read field) left))
+        (vector field : ℕ) × (p.carried c ≡ InvalidatedMessage vector field) × (field < 8) × IsVectorOf p names vector
+        × ((k : ℕ) → names k ≡ true → (left : ℕ) × (p.order_state k ≡ Owing (count_read field) left))
         → ArrivesAlike w e c (InvalidatedOf names)
     go (vector, field, h, low, v, owed) =
         ap (by_message w e c) h

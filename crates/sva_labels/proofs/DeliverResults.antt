@@ -101,7 +101,8 @@ pub start_says :
     → SaysAlike w (step.Deliver n)
 start_says w n b r h =
     delivered_alike w n r
-    (λ e c a l m way name. is_start e c a m (subst (λ x. (w.part x).message c ≡ Some (StartOf b)) way (subst (λ x. (w.part (w.way x)).message x ≡ Some (StartOf b)) (sym name) h)))
+    (λ e c a l m way name. is_start e c a m
+    (subst (λ x. (w.part x).message c ≡ Some (StartOf b)) way (subst (λ x. (w.part (w.way x)).message x ≡ Some (StartOf b)) (sym name) h)))
   where
     is_start : (e c : ℕ) (a : About) → (w.part e).message c ≡ Some a → (w.part e).message c ≡ Some (StartOf b) → ArrivesAlike w e c a
     is_start e c a m k =

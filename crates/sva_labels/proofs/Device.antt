@@ -105,7 +105,8 @@ device_square first ms x g n e p (Finish names vector count) l i =
 device_square first ms x g n e p (Quit b) l i =
     let groups = groups_quit ms g n p b l i.bindings i.labels i.groups in
     (λ j. record (device_wire ms (own p n (Quit b))) { groups = groups j })
-    ∙ sym (pasids_put p b Off (record (device_wire ms p) { groups = map (stale_of (p.pasid b)) (device_wire ms p).groups }) i.labels (unreleased_unless p b i.bindings (ap is_off l.0)) refl)
+    ∙ sym (pasids_put p b Off (record (device_wire ms p) { groups = map (stale_of (p.pasid b)) (device_wire ms p).groups }) i.labels
+    (unreleased_unless p b i.bindings (ap is_off l.0)) refl)
 device_square first ms x g n e p (Start_arrives c b) l i =
     sym (pasids_put p b On (device_wire ms p) i.labels (unmarked_unreleased (p.stage b) (i.bindings.start_stage c b l.0)) refl)
 device_square first ms x g n e p (Stop_arrives c b) l i =

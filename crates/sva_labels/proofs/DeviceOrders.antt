@@ -41,7 +41,8 @@ orders_same ms p order state h =
       pasid = ap (λ x. p.pasid (binding_of x)) o;
       extent = ap extent_of o;
       slots =
-          λ y. ap (λ x. holds_of (λ u. nat_lt u uses && (is_running (p.use_state u) && covers x (p.use_binding u) (ms.page (p.use_mapping u)))) (p.at_slot y)) o;
+          λ y.
+          ap (λ x. holds_of (λ u. nat_lt u uses && (is_running (p.use_state u) && covers x (p.use_binding u) (ms.page (p.use_mapping u)))) (p.at_slot y)) o;
     })
 
 pub taken_bound :
@@ -64,7 +65,8 @@ pub taken_invalidated :
     (ms : Mappings) (g n : ℕ) (p : Part) (b cookie : ℕ) → Bounds g p → Labels p
     → taken_wire ms (own p n (Own.Invalidate b cookie)) ≡ taken_wire ms p
 taken_invalidated ms g n p b cookie bo la =
-    orders_same ms p (put (put p.order p.orders (Order.PasidOf b)) (suc p.orders) (Order.Wait cookie false)) (put (put p.order_state p.orders Queued) (suc p.orders) Queued)
+    orders_same ms p (put (put p.order p.orders (Order.PasidOf b)) (suc p.orders) (Order.Wait cookie false))
+    (put (put p.order_state p.orders Queued) (suc p.orders) Queued)
     (λ t k a. let l = busy_made p g k bo (la.itag_bears t k a).1 in (
       put-other (put p.order p.orders (Order.PasidOf b)) (suc p.orders) (Order.Wait cookie false) k (omega arith)
           ∙ put-other p.order p.orders (Order.PasidOf b) k (omega arith),
@@ -103,7 +105,8 @@ pub taken_sent :
     (ms : Mappings) (g n : ℕ) (p : Part) (k t : ℕ) → LegalOwn ms g p (Own.Send k t) → Labels p
     → taken_wire ms (own p n (Own.Send k t)) ≡ taken_wire ms p
 taken_sent ms g n p k t l la =
-    tabulate_same 32 (λ x. chain (taken_seen ms (own p n (Own.Send k t))) (put p.at_itag t (Some k) x)) (λ x. chain (taken_seen ms p) (p.at_itag x)) (λ x m. go x (ℕ_cases x t))
+    tabulate_same 32 (λ x. chain (taken_seen ms (own p n (Own.Send k t))) (put p.at_itag t (Some k) x)) (λ x. chain (taken_seen ms p) (p.at_itag x))
+    (λ x m. go x (ℕ_cases x t))
   where
     old : (x : ℕ) (o : Option ℕ) → p.at_itag x ≡ o → chain (taken_seen ms (own p n (Own.Send k t))) o ≡ chain (taken_seen ms p) o
     old x None h = refl
@@ -151,7 +154,8 @@ taken_begun ms g n p r m t l bo la =
 -- one completion more: an order that is owed none any more frees its ITag, and it wasn't in the endpoint's hands
 pub taken_counted : (ms : Mappings) (n : ℕ) (p : Part) (c : ℕ) (names : ℕ → Bool) → taken_wire ms (own p n (Own.Count c names)) ≡ taken_wire ms p
 taken_counted ms n p c names =
-    tabulate_same 32 (λ t. chain (taken_seen ms (own p n (Own.Count c names))) ((own p n (Own.Count c names)).at_itag t)) (λ t. chain (taken_seen ms p) (p.at_itag t)) (λ t m. go (p.at_itag t))
+    tabulate_same 32 (λ t. chain (taken_seen ms (own p n (Own.Count c names))) ((own p n (Own.Count c names)).at_itag t))
+    (λ t. chain (taken_seen ms p) (p.at_itag t)) (λ t m. go (p.at_itag t))
   where
     split : {B : Type 0} (f : ℕ → Option B) (b : Bool) (k : ℕ) → chain f (if b then None else Some k) ≡ (if b then None else f k)
     split f true k = refl

@@ -31,7 +31,8 @@ pub pasids_bound :
     (ms : Mappings) (g n : ℕ) (p : Part) (b s t : ℕ) → LegalOwn ms g p (Own.Bind b s t) → Bindings p
     → pasids_wire (own p n (Own.Bind b s t)) ≡ pasids_wire p
 pasids_bound ms g n p b s t l bi =
-    tabulate_same 32 (λ x. state_of_pasid (own p n (Own.Bind b s t)) (put p.at_pasid t (Some b) (suc x))) (λ x. state_of_pasid p (p.at_pasid (suc x))) (λ x m. go (suc x) (ℕ_cases (suc x) t))
+    tabulate_same 32 (λ x. state_of_pasid (own p n (Own.Bind b s t)) (put p.at_pasid t (Some b) (suc x))) (λ x. state_of_pasid p (p.at_pasid (suc x)))
+    (λ x m. go (suc x) (ℕ_cases (suc x) t))
   where
     go : (x : ℕ) → (x ≡ t) ⊎ (x ≢ t) → state_of_pasid p (put p.at_pasid t (Some b) x) ≡ state_of_pasid p (p.at_pasid x)
     go x (inl e) =
@@ -45,7 +46,8 @@ pub pasids_released :
     (ms : Mappings) (g n : ℕ) (p : Part) (b : ℕ) → LegalOwn ms g p (Own.Release b) → Bindings p → Labels p
     → pasids_wire (own p n (Own.Release b)) ≡ pasids_wire p
 pasids_released ms g n p b l bi la =
-    tabulate_same 32 (λ x. state_of_pasid (own p n (Own.Release b)) (put p.at_pasid (p.pasid b) None (suc x))) (λ x. state_of_pasid p (p.at_pasid (suc x))) (λ x m. go (suc x) (ℕ_cases (suc x) (p.pasid b)))
+    tabulate_same 32 (λ x. state_of_pasid (own p n (Own.Release b)) (put p.at_pasid (p.pasid b) None (suc x)))
+    (λ x. state_of_pasid p (p.at_pasid (suc x))) (λ x m. go (suc x) (ℕ_cases (suc x) (p.pasid b)))
   where
     go : (x : ℕ) → (x ≡ p.pasid b) ⊎ (x ≢ p.pasid b) → state_of_pasid p (put p.at_pasid (p.pasid b) None x) ≡ state_of_pasid p (p.at_pasid x)
     go x (inl e) =
@@ -77,7 +79,8 @@ pasids_put p b state d la un same = go (p.pasid b) (la.bears_pasid b un) (la.pas
     go (suc t) h l =
         ap (λ xs. record d { pasids = slice_set xs t state }) same
         ∙ sym (ap (λ xs. record d { pasids = xs })
-        (tabulate_set 32 (λ x. state_of_pasid p (p.at_pasid (suc x))) (λ x. state_of_pasid (record p { pasid_state = put p.pasid_state b state }) (p.at_pasid (suc x))) t state
+        (tabulate_set 32 (λ x. state_of_pasid p (p.at_pasid (suc x)))
+        (λ x. state_of_pasid (record p { pasid_state = put p.pasid_state b state }) (p.at_pasid (suc x))) t state
         (ap (state_of_pasid (record p { pasid_state = put p.pasid_state b state })) h ∙ put-same p.pasid_state b state)
         (λ x ne. other t x (p.at_pasid (suc x)) ne h refl)))
 

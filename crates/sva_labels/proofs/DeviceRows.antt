@@ -52,7 +52,8 @@ unfolding select
 select_seen zero p q f g h k = refl
 select_seen (suc n) p q f g h k =
     map-append g (select n q) (if q n then n ∷ [] else [])
-    ∙ ap₂ (λ xs ys. xs ++ ys) (select_seen n p q f g (λ j l. h j (omega arith)) (λ j l. k j (omega arith))) (ap (λ b. map g (if b then n ∷ [] else [])) (h n (omega arith)) ∙ last (p n) refl)
+    ∙ ap₂ (λ xs ys. xs ++ ys) (select_seen n p q f g (λ j l. h j (omega arith)) (λ j l. k j (omega arith)))
+    (ap (λ b. map g (if b then n ∷ [] else [])) (h n (omega arith)) ∙ last (p n) refl)
     ∙ sym (map-append f (select n p) (if p n then n ∷ [] else []))
   where
     last : (b : Bool) → p n ≡ b → map g (if b then n ∷ [] else []) ≡ map f (if b then n ∷ [] else [])

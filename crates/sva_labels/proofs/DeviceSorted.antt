@@ -125,7 +125,8 @@ sorted_more below or g (suc n) r p q ys l pr qr same apart =
 
     go :
         (r ≡ n) ⊎ (r ≢ n)
-        → (r < n → sorted_by below (map g (select n q) ++ (if p n then g n ∷ ys else ys)) ≡ insert_by below (g r) (sorted_by below (map g (select n p) ++ (if p n then g n ∷ ys else ys))))
+        → (r < n → sorted_by below (map g (select n q) ++ (if p n then g n ∷ ys else ys))
+        ≡ insert_by below (g r) (sorted_by below (map g (select n p) ++ (if p n then g n ∷ ys else ys))))
         → sorted_by below (map g (select (suc n) q) ++ ys) ≡ insert_by below (g r) (sorted_by below (map g (select (suc n) p) ++ ys))
     go (inl e) rest = alike (select_same n q p (λ k m. same k (omega arith) (less k m))) e
       where
@@ -200,7 +201,8 @@ filter_insert below or keeps a (x ∷ xs) h = go (below x a) refl (filter_insert
     behind :
         (k : Bool) → below x a ≡ true → (j : Bool)
         → filter keeps (insert_by below a xs) ≡ (if j then insert_by below a (filter keeps xs) else filter keeps xs)
-        → (if k then x ∷ filter keeps (insert_by below a xs) else filter keeps (insert_by below a xs)) ≡ (if j then insert_by below a (if k then x ∷ filter keeps xs else filter keeps xs) else (if k then x ∷ filter keeps xs else filter keeps xs))
+        → (if k then x ∷ filter keeps (insert_by below a xs) else filter keeps (insert_by below a xs))
+        ≡ (if j then insert_by below a (if k then x ∷ filter keeps xs else filter keeps xs) else (if k then x ∷ filter keeps xs else filter keeps xs))
     behind true e true rest = ap (λ z. x ∷ z) rest ∙ sym (insert_behind below a x (filter keeps xs) e)
     behind true e false rest = ap (λ z. x ∷ z) rest
     behind false e true rest = rest
@@ -215,7 +217,8 @@ filter_insert below or keeps a (x ∷ xs) h = go (below x a) refl (filter_insert
     go :
         (b : Bool) → below x a ≡ b
         → filter keeps (insert_by below a xs) ≡ (if keeps a then insert_by below a (filter keeps xs) else filter keeps xs)
-        → filter keeps (if b then x ∷ insert_by below a xs else a ∷ x ∷ xs) ≡ (if keeps a then insert_by below a (filter keeps (x ∷ xs)) else filter keeps (x ∷ xs))
+        → filter keeps (if b then x ∷ insert_by below a xs else a ∷ x ∷ xs)
+        ≡ (if keeps a then insert_by below a (filter keeps (x ∷ xs)) else filter keeps (x ∷ xs))
     go true e rest = behind (keeps x) e (keeps a) rest
     go false e rest = before (keeps a) e
 
@@ -228,7 +231,8 @@ filter_sorted below or keeps (x ∷ xs) =
   where
     go :
         (b : Bool) → filter keeps (sorted_by below xs) ≡ sorted_by below (filter keeps xs)
-        → (if b then insert_by below x (filter keeps (sorted_by below xs)) else filter keeps (sorted_by below xs)) ≡ sorted_by below (if b then x ∷ filter keeps xs else filter keeps xs)
+        → (if b then insert_by below x (filter keeps (sorted_by below xs)) else filter keeps (sorted_by below xs))
+        ≡ sorted_by below (if b then x ∷ filter keeps xs else filter keeps xs)
     go true rest = ap (insert_by below x) rest
     go false rest = rest
 

@@ -48,7 +48,8 @@ pub tags_asked :
     (n : ℕ) (p : Part) (g b q t : ℕ) → Bounds g p → Labels p
     → tags_wire (own p n (Own.Ask b q t)) ≡ slice_set (tags_wire p) t (Some (record { pasid = p.pasid b; page = q; is_doomed = false }))
 tags_asked n p g b q t bo la =
-    row_set 32 t p.at_tag (put p.at_tag t (Some p.requests)) (request_wire p) (request_wire (own p n (Own.Ask b q t))) (Some (record { pasid = p.pasid b; page = q; is_doomed = false }))
+    row_set 32 t p.at_tag (put p.at_tag t (Some p.requests)) (request_wire p) (request_wire (own p n (Own.Ask b q t)))
+    (Some (record { pasid = p.pasid b; page = q; is_doomed = false }))
     (ap (option_map (request_wire (own p n (Own.Ask b q t)))) (put-same p.at_tag t (Some p.requests)) ∙ ap (λ r. Some r) fresh)
     (λ x ne. put-other p.at_tag t (Some p.requests) x ne)
     (λ x r ne h. old r (out_made p g r bo (la.tag_bears x r h).1))
@@ -74,12 +75,15 @@ tags_asked n p g b q t bo la =
 -- the request of a tag is over
 tags_over :
     (p : Part) (r : ℕ) → Labels p → is_out (p.request r) ≡ true
-    → tabulate 32 (λ t. option_map (request_wire (record p { request = put p.request r Over })) (put p.at_tag (p.request_tag r) None t)) ≡ slice_set (tags_wire p) (p.request_tag r) None
+    → tabulate 32 (λ t. option_map (request_wire (record p { request = put p.request r Over })) (put p.at_tag (p.request_tag r) None t))
+    ≡ slice_set (tags_wire p) (p.request_tag r) None
 tags_over p r la h =
-    row_set 32 (p.request_tag r) p.at_tag (put p.at_tag (p.request_tag r) None) (request_wire p) (request_wire (record p { request = put p.request r Over })) None
+    row_set 32 (p.request_tag r) p.at_tag (put p.at_tag (p.request_tag r) None) (request_wire p)
+    (request_wire (record p { request = put p.request r Over })) None
     (ap (option_map (request_wire (record p { request = put p.request r Over }))) (put-same p.at_tag (p.request_tag r) None))
     (λ x ne. put-other p.at_tag (p.request_tag r) None x ne)
-    (λ x y ne k. ap (λ state. record { pasid = p.pasid (p.request_binding y); page = p.request_page y; is_doomed = is_doomed state }) (put-other p.request r Over y (other x y ne (la.tag_bears x y k).0)))
+    (λ x y ne k. ap (λ state. record { pasid = p.pasid (p.request_binding y); page = p.request_page y; is_doomed = is_doomed state })
+    (put-other p.request r Over y (other x y ne (la.tag_bears x y k).0)))
   where
     other : (x y : ℕ) → x ≢ p.request_tag r → p.request_tag y ≡ x → y ≢ r
     other x y ne e k = ne (sym e ∙ ap p.request_tag k)
@@ -153,7 +157,8 @@ tags_taken ms g n p c k l bi la ra or =
     (λ t r h.
     ap (λ d. Some (record { pasid = p.pasid (p.request_binding r); page = p.request_page r; is_doomed = d }))
     (by_state (p.request r) (la.tag_bears t r h).1 (covers (p.order k) (p.request_binding r) (p.request_page r))
-    ∙ sym (ap (λ x. is_doomed (p.request r) || x) (covers_same p k (p.request_binding r) (p.request_page r) la or (ap is_busy (la.sent c k l)) (out_unreleased p r bi ra (la.tag_bears t r h).1)))))
+    ∙ sym (ap (λ x. is_doomed (p.request r) || x)
+    (covers_same p k (p.request_binding r) (p.request_page r) la or (ap is_busy (la.sent c k l)) (out_unreleased p r bi ra (la.tag_bears t r h).1)))))
   where
     by_state : (s : RequestState) → is_out s ≡ true → (x : Bool) → is_doomed (doom_if x s) ≡ (is_doomed s || x)
     by_state Out h true = refl

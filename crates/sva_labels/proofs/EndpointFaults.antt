@@ -65,7 +65,8 @@ sum_more (suc n) f p = go (p n) (sum_more n f p)
   where
     go :
         (b : Bool) → sum_below n (λ i. if p i then suc (f i) else f i) ≡ count_below n p + sum_below n f
-        → sum_below n (λ i. if p i then suc (f i) else f i) + (if b then suc (f n) else f n) ≡ (if b then suc (count_below n p) else count_below n p) + (sum_below n f + f n)
+        → sum_below n (λ i. if p i then suc (f i) else f i) + (if b then suc (f n) else f n)
+        ≡ (if b then suc (count_below n p) else count_below n p) + (sum_below n f + f n)
     go true h = omega (arith, h)
     go false h = omega (arith, h)
 
@@ -123,7 +124,8 @@ sum_groups :
 unfolding count_below
 sum_groups group_of out at label_of bears there zero = sum_same 32 (λ i. of_group group_of 0 (at i)) (λ i. 0) (λ i l. none_yet group_of (at i)) ∙ sum_zero 32
 sum_groups group_of out at label_of bears there (suc n) =
-    sum_same 32 (λ i. of_group group_of (suc n) (at i)) (λ i. if is_one (group_of n) (at i) then suc (of_group group_of n (at i)) else of_group group_of n (at i)) (λ i l. next_of_group group_of n (at i))
+    sum_same 32 (λ i. of_group group_of (suc n) (at i))
+    (λ i. if is_one (group_of n) (at i) then suc (of_group group_of n (at i)) else of_group group_of n (at i)) (λ i l. next_of_group group_of n (at i))
     ∙ sum_more 32 (λ i. of_group group_of n (at i)) (λ i. is_one (group_of n) (at i))
     ∙ go (out (group_of n)) refl (sum_groups group_of out at label_of bears there n)
   where
@@ -143,11 +145,13 @@ sum_groups group_of out at label_of bears there (suc n) =
 
     go :
         (b : Bool) → out (group_of n) ≡ b → sum_below 32 (λ i. of_group group_of n (at i)) ≡ count_below n (λ r. out (group_of r))
-        → count_below 32 (λ i. is_one (group_of n) (at i)) + sum_below 32 (λ i. of_group group_of n (at i)) ≡ (if b then suc (count_below n (λ r. out (group_of r))) else count_below n (λ r. out (group_of r)))
+        → count_below 32 (λ i. is_one (group_of n) (at i)) + sum_below 32 (λ i. of_group group_of n (at i))
+        ≡ (if b then suc (count_below n (λ r. out (group_of r))) else count_below n (λ r. out (group_of r)))
     go true e rest =
         let x = there (group_of n) e in
         let one : count_below 32 (λ i. is_one (group_of n) (at i)) ≡ 1 =
-        count_once 32 (λ i. is_one (group_of n) (at i)) (label_of (group_of n)) x.1 (ap (is_one (group_of n)) x.0 ∙ itself (group_of n)) (λ j h. sym (bearer j (at j) refl h).0)
+        count_once 32 (λ i. is_one (group_of n) (at i)) (label_of (group_of n)) x.1 (ap (is_one (group_of n)) x.0 ∙ itself (group_of n))
+        (λ j h. sym (bearer j (at j) refl h).0)
         in
         omega (arith, one, rest)
     go false e rest =
@@ -158,7 +162,8 @@ pub outstanding_seen : (w : World) (e : ℕ) → Invariant w → e < w.config.en
 outstanding_seen w e i l =
     ap (λ (d : DeviceWire). outstanding d.groups) (device_seen w e l)
     ∙ outstanding_sum 32 (λ x. option_map (group_wire p) (p.at_index x))
-    ∙ sum_same 32 (λ x. requests_in (option_map (group_wire p) (p.at_index x))) (λ x. of_group p.group_of p.page_requests (p.at_index x)) (λ x m. counted (p.at_index x))
+    ∙ sum_same 32 (λ x. requests_in (option_map (group_wire p) (p.at_index x))) (λ x. of_group p.group_of p.page_requests (p.at_index x))
+    (λ x m. counted (p.at_index x))
     ∙ sum_groups p.group_of (λ g. is_outstanding (p.group g)) p.at_index p.index (i.parts e).groups.index_bears
     (λ g h. let x = (i.parts e).groups.bears_index g h in (x, (i.parts e).groups.index_low (p.index g) g x)) p.page_requests
   where
@@ -185,7 +190,8 @@ unfinished_is s h = grind arith
 -- an unfinished group is of the PASID exactly where its asker bears it
 group_of_pasid :
     (w : World) (e t g : ℕ) → Invariant w
-    → (is_unfinished ((w.part e).group g) && (w.part e).pasid ((w.part e).asker g) == t) ≡ (is_unfinished ((w.part e).group g) && words.is_some ((w.part e).at_pasid t) && (w.part e).asker g == Labels.bearer (w.part e) t)
+    → (is_unfinished ((w.part e).group g) && (w.part e).pasid ((w.part e).asker g) == t)
+    ≡ (is_unfinished ((w.part e).group g) && words.is_some ((w.part e).at_pasid t) && (w.part e).asker g == Labels.bearer (w.part e) t)
 group_of_pasid w e t g i = go (is_unfinished (p.group g)) refl
   where
     p : Part
@@ -229,7 +235,8 @@ other_seen w e t (Some x) i l =
   where
     go :
         (o : Option ℕ)
-        → is_unfinished_of t (option_map (group_wire (w.part e)) o) ≡ holds_of (λ g. is_unfinished ((w.part e).group g) && words.is_some ((w.part e).at_pasid t) && (w.part e).asker g == Labels.bearer (w.part e) t) o
+        → is_unfinished_of t (option_map (group_wire (w.part e)) o)
+        ≡ holds_of (λ g. is_unfinished ((w.part e).group g) && words.is_some ((w.part e).at_pasid t) && (w.part e).asker g == Labels.bearer (w.part e) t) o
     go None = refl
     go (Some g) = group_of_pasid w e t g i
 
@@ -254,7 +261,8 @@ index_is :
     → label (lowest_label (device_of (wire w) e).groups) ≡ Labels.lowest_label 32 (w.part e).at_index
 index_is w e l h =
     ap (λ (d : DeviceWire). label (lowest_label d.groups)) (device_seen w e l)
-    ∙ label_is 32 (w.part e).at_index (λ t. option_map (group_wire (w.part e)) ((w.part e).at_index t)) (λ t. seen_none (group_wire (w.part e)) ((w.part e).at_index t)) (isnt (Labels.lowest_label 32 (w.part e).at_index) h)
+    ∙ label_is 32 (w.part e).at_index (λ t. option_map (group_wire (w.part e)) ((w.part e).at_index t))
+    (λ t. seen_none (group_wire (w.part e)) ((w.part e).at_index t)) (isnt (Labels.lowest_label 32 (w.part e).at_index) h)
   where
     isnt : (k : ℕ) → k < 32 → (k == 32) ≡ false
     isnt k m = grind (arith, nat_tests)
@@ -280,10 +288,12 @@ fault_result_is w e t q r x l (Some k) i h = go ((w.part e).at_index k) refl (no
     go :
         (o : Option ℕ) → p.at_index k ≡ o
         → holds_of (λ g. is_unfinished (p.group g) && words.is_some (p.at_pasid t) && p.asker g == Labels.bearer p t) o ≡ true
-        → by_one (answer.Group k) (Move.Request e t k q r x l) ≡ by_one (answer.Group k) (Move.Request e (p.pasid (p.asker (the (p.at_index k)))) (p.index (the (p.at_index k))) q r x l)
+        → by_one (answer.Group k) (Move.Request e t k q r x l)
+        ≡ by_one (answer.Group k) (Move.Request e (p.pasid (p.asker (the (p.at_index k)))) (p.index (the (p.at_index k))) q r x l)
     go None m c = absurd (cc)
     go (Some g) m c =
-        ap₂ (λ u v. by_one (answer.Group k) (Move.Request e u v q r x l)) (sym (same (is_unfinished (p.group g)) (p.pasid (p.asker g)) t (group_of_pasid w e t g i ∙ c))) (sym ((i.parts e).groups.index_bears k g m).0)
+        ap₂ (λ u v. by_one (answer.Group k) (Move.Request e u v q r x l))
+        (sym (same (is_unfinished (p.group g)) (p.pasid (p.asker g)) t (group_of_pasid w e t g i ∙ c))) (sym ((i.parts e).groups.index_bears k g m).0)
         ∙ ap (λ z. by_one (answer.Group k) (Move.Request e (p.pasid (p.asker z)) (p.index z) q r x l)) (sym (ap the m))
 
 pub fault_says : (w : World) (e t q : ℕ) (r x : Bool) (o : Option ℕ) (l : Bool) → Invariant w → SaysAlike w (step.Fault e t q r x o l)

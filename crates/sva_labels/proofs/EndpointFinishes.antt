@@ -59,10 +59,12 @@ pending_seen w e t i l =
 -- what an invalidation waits for is a use that it noted and that runs
 noted_seen :
     (w : World) (e k uses : ℕ) → Invariant w
-    → list_any (λ b. b) (tabulate 16 (λ t. holds_of (is_noted w.mappings (w.part e) k uses) ((w.part e).at_slot t))) ≡ any_below uses (Labels.is_noted_running w.mappings (w.part e) k)
+    → list_any (λ b. b) (tabulate 16 (λ t. holds_of (is_noted w.mappings (w.part e) k uses) ((w.part e).at_slot t)))
+    ≡ any_below uses (Labels.is_noted_running w.mappings (w.part e) k)
 noted_seen w e k uses i =
     any_table 16 (λ t. holds_of (is_noted w.mappings p k uses) (p.at_slot t)) (λ b. b)
-    ∙ any_both 16 uses (λ t. holds_of (is_noted w.mappings p k uses) (p.at_slot t)) (Labels.is_noted_running w.mappings p k) (λ t l h. forth (p.at_slot t) h) back
+    ∙ any_both 16 uses (λ t. holds_of (is_noted w.mappings p k uses) (p.at_slot t)) (Labels.is_noted_running w.mappings p k)
+    (λ t l h. forth (p.at_slot t) h) back
   where
     p : Part
     p = w.part e
@@ -75,8 +77,12 @@ noted_seen w e k uses i =
 
     forth : (o : Option ℕ) → holds_of (is_noted w.mappings p k uses) o ≡ true → (u : ℕ) × (u < uses) × (Labels.is_noted_running w.mappings p k u ≡ true)
     forth None h = absurd (cc)
-    forth (Some u) h =
-        (u, less u uses (first (nat_lt u uses) (Labels.is_noted_running w.mappings p k u) h), second (nat_lt u uses) (Labels.is_noted_running w.mappings p k u) h)
+    forth (Some u) h = (
+      u,
+      less u uses (first (nat_lt u uses) (Labels.is_noted_running w.mappings p k u) h),
+      second (nat_lt u uses)
+          (Labels.is_noted_running w.mappings p k u) h,
+    )
 
     slot_of : (s : UseState) → is_running s ≡ true → has_slot s ≡ true
     slot_of s h = grind arith
@@ -105,11 +111,14 @@ waits_seen w e k i Void = refl
 
 pub in_use_seen :
     (w : World) (e vector : ℕ) → Invariant w → e < w.config.endpoints
-    → any_below 32 (λ t. Labels.is_set vector t && waits_for_use (taken_at (device_of (wire w) e) t)) ≡ any_below (w.part e).orders (λ k. Labels.is_named (w.part e) vector k && Labels.is_in_use w (w.part e) k)
+    → any_below 32 (λ t. Labels.is_set vector t && waits_for_use (taken_at (device_of (wire w) e) t))
+    ≡ any_below (w.part e).orders (λ k. Labels.is_named (w.part e) vector k && Labels.is_in_use w (w.part e) k)
 in_use_seen w e vector i l =
-    any_same 32 (λ t. Labels.is_set vector t && waits_for_use (taken_at (device_of (wire w) e) t)) (λ t. Labels.is_set vector t && waits_for_use (chain (λ k. taken_by w.mappings p k (p.order_state k)) (p.at_itag t)))
+    any_same 32 (λ t. Labels.is_set vector t && waits_for_use (taken_at (device_of (wire w) e) t))
+    (λ t. Labels.is_set vector t && waits_for_use (chain (λ k. taken_by w.mappings p k (p.order_state k)) (p.at_itag t)))
     (λ t m. ap (λ o. Labels.is_set vector t && waits_for_use o) (ap (λ d. taken_at d t) (device_seen w e l) ∙ taken_seen w.mappings p (i.parts e).labels t))
-    ∙ any_both 32 p.orders (λ t. Labels.is_set vector t && waits_for_use (chain (λ k. taken_by w.mappings p k (p.order_state k)) (p.at_itag t))) (λ k. Labels.is_named p vector k && Labels.is_in_use w p k)
+    ∙ any_both 32 p.orders (λ t. Labels.is_set vector t && waits_for_use (chain (λ k. taken_by w.mappings p k (p.order_state k)) (p.at_itag t)))
+    (λ k. Labels.is_named p vector k && Labels.is_in_use w p k)
     (λ t m h. forth t (p.at_itag t) refl h) back
   where
     p : Part
@@ -136,7 +145,8 @@ in_use_seen w e vector i l =
           k,
           made k taken,
           both (Labels.is_named p vector k) (Labels.is_in_use w p k)
-              (both (is_taken (p.order_state k)) (Labels.is_set vector (p.itag k)) taken (ap (Labels.is_set vector) ((i.parts e).labels.itag_bears t k m).0 ∙ set))
+              (both (is_taken (p.order_state k)) (Labels.is_set vector (p.itag k)) taken
+              (ap (Labels.is_set vector) ((i.parts e).labels.itag_bears t k m).0 ∙ set))
               (second (is_taken (p.order_state k)) (Labels.is_in_use w p k) waits),
         )
 
@@ -152,7 +162,8 @@ in_use_seen w e vector i l =
           ap (λ o. Labels.is_set vector (p.itag k) && waits_for_use (chain (λ k. taken_by w.mappings p k (p.order_state k)) o)) there
               ∙ both (Labels.is_set vector (p.itag k)) (waits_for_use (taken_by w.mappings p k (p.order_state k)))
               (second (is_taken (p.order_state k)) (Labels.is_set vector (p.itag k)) named)
-              (waits_seen w e k i (p.order_state k) ∙ both (is_taken (p.order_state k)) (Labels.is_in_use w p k) taken (second (Labels.is_named p vector k) (Labels.is_in_use w p k) h)),
+              (waits_seen w e k i (p.order_state k)
+              ∙ both (is_taken (p.order_state k)) (Labels.is_in_use w p k) taken (second (Labels.is_named p vector k) (Labels.is_in_use w p k) h)),
         )
 
 pub finish_says : (w : World) (e vector count : ℕ) → Invariant w → SaysAlike w (step.Finish e vector count)
@@ -163,7 +174,8 @@ finish_says w e vector count i =
             endpoint_cause w e,
             λ f. (
               ap (λ b. (Labels.names_none vector || b, refusal.NotPending))
-                  (any_same 32 (λ t. Labels.is_set vector t && is_none (taken_at (device_of (wire w) e) t)) (λ t. Labels.is_set vector t && not (Labels.is_pending (w.part e) t))
+                  (any_same 32 (λ t. Labels.is_set vector t && is_none (taken_at (device_of (wire w) e) t))
+                  (λ t. Labels.is_set vector t && not (Labels.is_pending (w.part e) t))
                   (λ t m. ap (λ b. Labels.is_set vector t && b) (pending_seen w e t i (below_seen w e f)))),
               λ f1. (ap (λ b. (b, refusal.InUse)) (in_use_seen w e vector i (below_seen w e f)), λ f2. (refl, λ f3. (refl, λ f4. tt))),
             ),

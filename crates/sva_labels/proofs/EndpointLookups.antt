@@ -173,7 +173,8 @@ none_cached ms x g n e p i t q h =
     other r l s true k =
         let y = holder ms x g n e p i t q r s k in
         let found : any_below p.requests (Labels.is_held_at p (p.request_binding r) q) ≡ true =
-        any_below-intro p.requests (Labels.is_held_at p (p.request_binding r) q) r l (all_three (words.is_some (p.held r)) (p.request_binding r) (p.request_binding r) (p.request_page r) q s refl y.1)
+        any_below-intro p.requests (Labels.is_held_at p (p.request_binding r) q) r l
+        (all_three (words.is_some (p.held r)) (p.request_binding r) (p.request_binding r) (p.request_page r) q s refl y.1)
         in
         absurd (cc (sym h ∙ ap (holds_of (λ d. any_below p.requests (Labels.is_held_at p d q))) y.0 ∙ found))
 

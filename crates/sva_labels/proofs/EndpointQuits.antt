@@ -78,7 +78,8 @@ pub groups_busy :
     → list_any (is_unfinished_of t) (device_wire w.mappings (w.part e)).groups ≡ Labels.is_unfinished_of (w.part e) b
 groups_busy w e t b i h =
     any_table 32 (λ x. option_map (group_wire p) (p.at_index x)) (is_unfinished_of t)
-    ∙ any_both 32 p.groups (λ x. is_unfinished_of t (option_map (group_wire p) (p.at_index x))) (λ g. is_unfinished (p.group g) && p.asker g == b) (λ x l k. forth (p.at_index x) k) back
+    ∙ any_both 32 p.groups (λ x. is_unfinished_of t (option_map (group_wire p) (p.at_index x))) (λ g. is_unfinished (p.group g) && p.asker g == b)
+    (λ x l k. forth (p.at_index x) k) back
   where
     p : Part
     p = w.part e
@@ -91,8 +92,12 @@ groups_busy w e t b i h =
         → (g : ℕ) × (g < p.groups) × ((is_unfinished (p.group g) && p.asker g == b) ≡ true)
     forth None k = absurd (cc)
     forth (Some g) k =
-        let x = parts (is_unfinished (p.group g)) (p.pasid (p.asker g)) t k in
-        (g, made g x.0, both (is_unfinished (p.group g)) (p.asker g) b x.0 (is_bearer p t b (p.asker g) h ((found w e i).asker g (inl (unfinished_is (p.group g) x.0))).0 x.1))
+        let x = parts (is_unfinished (p.group g)) (p.pasid (p.asker g)) t k in (
+          g,
+          made g x.0,
+          both (is_unfinished (p.group g)) (p.asker g) b x.0
+              (is_bearer p t b (p.asker g) h ((found w e i).asker g (inl (unfinished_is (p.group g) x.0))).0 x.1),
+        )
 
     back :
         (g : ℕ) → g < p.groups → (is_unfinished (p.group g) && p.asker g == b) ≡ true
@@ -111,7 +116,8 @@ pub tags_busy :
     → list_any (is_request_of t) (device_wire w.mappings (w.part e)).tags ≡ Labels.is_request_out_of (w.part e) b
 tags_busy w e t b i h =
     any_table 32 (λ x. option_map (request_wire p) (p.at_tag x)) (is_request_of t)
-    ∙ any_both 32 p.requests (λ x. is_request_of t (option_map (request_wire p) (p.at_tag x))) (λ r. is_out (p.request r) && p.request_binding r == b) (λ x l k. forth x (p.at_tag x) refl k) back
+    ∙ any_both 32 p.requests (λ x. is_request_of t (option_map (request_wire p) (p.at_tag x))) (λ r. is_out (p.request r) && p.request_binding r == b)
+    (λ x l k. forth x (p.at_tag x) refl k) back
   where
     p : Part
     p = w.part e
@@ -124,8 +130,12 @@ tags_busy w e t b i h =
         → (r : ℕ) × (r < p.requests) × ((is_out (p.request r) && p.request_binding r == b) ≡ true)
     forth x None m k = absurd (cc)
     forth x (Some r) m k =
-        let out = ((i.parts e).labels.tag_bears x r m).1 in
-        (r, made r out, both (is_out (p.request r)) (p.request_binding r) b out (is_bearer p t b (p.request_binding r) h ((found w e i).out r out).0 (alike (p.pasid (p.request_binding r)) t k)))
+        let out = ((i.parts e).labels.tag_bears x r m).1 in (
+          r,
+          made r out,
+          both (is_out (p.request r)) (p.request_binding r) b out
+              (is_bearer p t b (p.request_binding r) h ((found w e i).out r out).0 (alike (p.pasid (p.request_binding r)) t k)),
+        )
 
     back :
         (r : ℕ) → r < p.requests → (is_out (p.request r) && p.request_binding r == b) ≡ true
@@ -148,7 +158,9 @@ use_of t ms p u = go (is_running (p.use_state u))
   where
     go :
         (b : Bool)
-        → is_use_of t (Some (if b then UseWire.RunningWire (translation_wire ms p (p.use_binding u) (ms.page (p.use_mapping u)) (p.use_mapping u)) else UseWire.DeadWire)) ≡ (b && p.pasid (p.use_binding u) == t)
+        → is_use_of t
+        (Some (if b then UseWire.RunningWire (translation_wire ms p (p.use_binding u) (ms.page (p.use_mapping u)) (p.use_mapping u))
+        else UseWire.DeadWire)) ≡ (b && p.pasid (p.use_binding u) == t)
     go true = refl
     go false = refl
 
@@ -157,7 +169,8 @@ pub slots_busy :
     → list_any (is_use_of t) (device_wire w.mappings (w.part e)).slots ≡ Labels.is_use_of (w.part e) b
 slots_busy w e t b i h =
     any_table 16 (λ x. option_map (use_wire w.mappings p) (p.at_slot x)) (is_use_of t)
-    ∙ any_both 16 p.uses (λ x. is_use_of t (option_map (use_wire w.mappings p) (p.at_slot x))) (λ u. is_running (p.use_state u) && p.use_binding u == b) (λ x l k. forth (p.at_slot x) k) back
+    ∙ any_both 16 p.uses (λ x. is_use_of t (option_map (use_wire w.mappings p) (p.at_slot x)))
+    (λ u. is_running (p.use_state u) && p.use_binding u == b) (λ x l k. forth (p.at_slot x) k) back
   where
     p : Part
     p = w.part e
@@ -170,8 +183,12 @@ slots_busy w e t b i h =
         → (u : ℕ) × (u < p.uses) × ((is_running (p.use_state u) && p.use_binding u == b) ≡ true)
     forth None k = absurd (cc)
     forth (Some u) k =
-        let x = parts (is_running (p.use_state u)) (p.pasid (p.use_binding u)) t (sym (use_of t w.mappings p u) ∙ k) in
-        (u, made u x.0, both (is_running (p.use_state u)) (p.use_binding u) b x.0 (is_bearer p t b (p.use_binding u) h ((found w e i).in_use u (running_is (p.use_state u) x.0)) x.1))
+        let x = parts (is_running (p.use_state u)) (p.pasid (p.use_binding u)) t (sym (use_of t w.mappings p u) ∙ k) in (
+          u,
+          made u x.0,
+          both (is_running (p.use_state u)) (p.use_binding u) b x.0
+              (is_bearer p t b (p.use_binding u) h ((found w e i).in_use u (running_is (p.use_state u) x.0)) x.1),
+        )
 
     slot_of : (s : UseState) → is_running s ≡ true → has_slot s ≡ true
     slot_of s k = grind arith

@@ -53,14 +53,16 @@ bearer_pasid w e t i h =
 no_tag : (w : World) (e : ℕ) → e < w.config.endpoints → is_none (lowest_label (device_of (wire w) e).tags) ≡ (Labels.lowest_label 32 (w.part e).at_tag == 32)
 no_tag w e l =
     ap (λ (d : DeviceWire). is_none (lowest_label d.tags)) (device_seen w e l)
-    ∙ no_label 32 (w.part e).at_tag (λ t. option_map (request_wire (w.part e)) ((w.part e).at_tag t)) (λ t. seen_none (request_wire (w.part e)) ((w.part e).at_tag t))
+    ∙ no_label 32 (w.part e).at_tag (λ t. option_map (request_wire (w.part e)) ((w.part e).at_tag t))
+    (λ t. seen_none (request_wire (w.part e)) ((w.part e).at_tag t))
 
 tag_is :
     (w : World) (e : ℕ) → e < w.config.endpoints → (Labels.lowest_label 32 (w.part e).at_tag == 32) ≡ false
     → label (lowest_label (device_of (wire w) e).tags) ≡ Labels.lowest_label 32 (w.part e).at_tag
 tag_is w e l h =
     ap (λ (d : DeviceWire). label (lowest_label d.tags)) (device_seen w e l)
-    ∙ label_is 32 (w.part e).at_tag (λ t. option_map (request_wire (w.part e)) ((w.part e).at_tag t)) (λ t. seen_none (request_wire (w.part e)) ((w.part e).at_tag t)) h
+    ∙ label_is 32 (w.part e).at_tag (λ t. option_map (request_wire (w.part e)) ((w.part e).at_tag t))
+    (λ t. seen_none (request_wire (w.part e)) ((w.part e).at_tag t)) h
 
 pub ask_says : (w : World) (e t q : ℕ) → Invariant w → SaysAlike w (step.Ask e t q)
 ask_says w e t q i =
@@ -86,14 +88,16 @@ ask_says w e t q i =
 no_slot : (w : World) (e : ℕ) → e < w.config.endpoints → is_none (lowest_label (device_of (wire w) e).slots) ≡ (Labels.lowest_label 16 (w.part e).at_slot == 16)
 no_slot w e l =
     ap (λ (d : DeviceWire). is_none (lowest_label d.slots)) (device_seen w e l)
-    ∙ no_label 16 (w.part e).at_slot (λ t. option_map (use_wire w.mappings (w.part e)) ((w.part e).at_slot t)) (λ t. seen_none (use_wire w.mappings (w.part e)) ((w.part e).at_slot t))
+    ∙ no_label 16 (w.part e).at_slot (λ t. option_map (use_wire w.mappings (w.part e)) ((w.part e).at_slot t))
+    (λ t. seen_none (use_wire w.mappings (w.part e)) ((w.part e).at_slot t))
 
 slot_is :
     (w : World) (e : ℕ) → e < w.config.endpoints → (Labels.lowest_label 16 (w.part e).at_slot == 16) ≡ false
     → label (lowest_label (device_of (wire w) e).slots) ≡ Labels.lowest_label 16 (w.part e).at_slot
 slot_is w e l h =
     ap (λ (d : DeviceWire). label (lowest_label d.slots)) (device_seen w e l)
-    ∙ label_is 16 (w.part e).at_slot (λ t. option_map (use_wire w.mappings (w.part e)) ((w.part e).at_slot t)) (λ t. seen_none (use_wire w.mappings (w.part e)) ((w.part e).at_slot t)) h
+    ∙ label_is 16 (w.part e).at_slot (λ t. option_map (use_wire w.mappings (w.part e)) ((w.part e).at_slot t))
+    (λ t. seen_none (use_wire w.mappings (w.part e)) ((w.part e).at_slot t)) h
 
 held_seen :
     (w : World) (e t q : ℕ) → Invariant w → e < w.config.endpoints → Labels.is_cached (w.part e) t q ≡ true
@@ -161,7 +165,9 @@ end_says w e u i =
             λ f. (ap (λ b. (b, refusal.NoSuchUse)) (no_use w e u i (below_seen w e f)), λ f1. tt),
           );
       result = λ h.
-          let there = some_the ((w.part e).at_slot u) (and_right (nat_lt u 16) (words.is_some ((w.part e).at_slot u)) (not_true (nat_lt u 16 && words.is_some ((w.part e).at_slot u)) h.1.0)) in
+          let there =
+          some_the ((w.part e).at_slot u)
+          (and_right (nat_lt u 16) (words.is_some ((w.part e).at_slot u)) (not_true (nat_lt u 16 && words.is_some ((w.part e).at_slot u)) h.1.0)) in
           ap₂ (λ a v. by_one a (Move.End e v))
           (ap (λ d. end_answer (use_at d u)) (device_seen w e (is_less e w.config.endpoints h.0))
           ∙ ap end_answer (use_seen w.mappings (w.part e) (i.parts e).labels u)
@@ -172,7 +178,10 @@ end_says w e u i =
   where
     answered :
         (v : ℕ) (b : Bool)
-        → end_answer (Some (if b then UseWire.RunningWire (translation_wire w.mappings (w.part e) ((w.part e).use_binding v) (w.mappings.page ((w.part e).use_mapping v)) ((w.part e).use_mapping v)) else UseWire.DeadWire)) ≡ (if b then answer.Ended else answer.Dead)
+        → end_answer
+        (Some (if b then UseWire.RunningWire
+        (translation_wire w.mappings (w.part e) ((w.part e).use_binding v) (w.mappings.page ((w.part e).use_mapping v)) ((w.part e).use_mapping v))
+        else UseWire.DeadWire)) ≡ (if b then answer.Ended else answer.Dead)
     answered v true = refl
     answered v false = refl
 

@@ -87,7 +87,8 @@ flies w c = is_some ((w.part (w.way c)).message c)
 -- an older message is seen as before
 old_flight : (w : World) (e : ℕ) (o : Own) (c : ℕ) → c < w.messages → flight_wire (act w (At e o)) c ≡ flight_wire w c
 old_flight w e o c l =
-    ap (λ x. record { number = number w.config.first c; endpoint = x; message = (put w.part e (part_after w e o) x).carried c }) (old_way w.way w.messages (sends o) e c l)
+    ap (λ x. record { number = number w.config.first c; endpoint = x; message = (put w.part e (part_after w e o) x).carried c })
+    (old_way w.way w.messages (sends o) e c l)
     ∙ ap (λ m. record { number = number w.config.first c; endpoint = w.way c; message = m })
     (same_view (λ p. p.carried c) w.part e (part_after w e o) (old_carried (w.part e) w.messages o c l) (w.way c))
 
@@ -97,7 +98,8 @@ new_flight :
 new_flight w e o j l =
     let later : w.config.first + (w.messages + j) ≡ w.config.first + w.messages + j = omega arith in
     ap (λ x. record { number = number w.config.first (w.messages + j); endpoint = x; message = (put w.part e (part_after w e o) x).carried (w.messages + j) }) (new_way w.way w.messages (sends o) e j l)
-    ∙ ap (λ p. record { number = number w.config.first (w.messages + j); endpoint = e; message = p.carried (w.messages + j) }) (put-same w.part e (part_after w e o))
+    ∙ ap (λ p. record { number = number w.config.first (w.messages + j); endpoint = e; message = p.carried (w.messages + j) })
+    (put-same w.part e (part_after w e o))
     ∙ (λ i. record { number = later i; endpoint = e; message = new_carried (w.part e) w.messages o j l i })
 
 new_flies : (w : World) (e : ℕ) (o : Own) (j : ℕ) → j < sends o → flies (act w (At e o)) (w.messages + j) ≡ true
@@ -173,7 +175,8 @@ left_are w None =
     all : (b : Bool) → (b && true) ≡ b
     all b = grind arith
 left_are w (Some d) =
-    select_seen w.messages (λ c. flies w c && not (c == d)) (λ c. flies w c && not (number w.config.first c == number w.config.first d)) (flight_wire w) (flight_wire w)
+    select_seen w.messages (λ c. flies w c && not (c == d)) (λ c. flies w c && not (number w.config.first c == number w.config.first d))
+    (flight_wire w) (flight_wire w)
     (λ c l. ap (λ t. flies w c && not t) (same_number w.config.first c d)) (λ c l t. refl)
     ∙ sym (select_filtered w.messages (flies w) (flight_wire w) (λ f. not (f.number == number w.config.first d)))
   where
@@ -182,10 +185,13 @@ left_are w (Some d) =
 
 pub flights_after :
     (w : World) (e : ℕ) (o : Own) → ComesTo w e o
-    → (wire (act w (At e o))).in_flight ≡ still_flying w.config.first (delivers o) (wire w).in_flight ++ newly_sent (wire w).next_message e (sends o) (said (w.part e) o)
+    → (wire (act w (At e o))).in_flight
+    ≡ still_flying w.config.first (delivers o) (wire w).in_flight ++ newly_sent (wire w).next_message e (sends o) (said (w.part e) o)
 flights_after w e o to =
     select_more w.messages (sends o) (flies (act w (At e o))) (flight_wire (act w (At e o))) (λ j l. new_flies w e o j l)
     ∙ ap₂ (λ xs ys. xs ++ ys)
-    (select_seen w.messages (flies (act w (At e o))) (λ c. flies w c && is_left (delivers o) c) (flight_wire (act w (At e o))) (flight_wire w) (λ c l. old_flies w e o c to l) (λ c l t. old_flight w e o c l)
+    (select_seen w.messages (flies (act w (At e o))) (λ c. flies w c && is_left (delivers o) c) (flight_wire (act w (At e o))) (flight_wire w)
+    (λ c l. old_flies w e o c to l) (λ c l t. old_flight w e o c l)
     ∙ left_are w (delivers o))
-    (tabulate_same (sends o) (λ j. flight_wire (act w (At e o)) (w.messages + j)) (λ j. record { number = number w.config.first w.messages + j; endpoint = e; message = said (w.part e) o }) (λ j l. new_flight w e o j l))
+    (tabulate_same (sends o) (λ j. flight_wire (act w (At e o)) (w.messages + j))
+    (λ j. record { number = number w.config.first w.messages + j; endpoint = e; message = said (w.part e) o }) (λ j l. new_flight w e o j l))

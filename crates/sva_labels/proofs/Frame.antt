@@ -59,7 +59,15 @@ pub flights_left :
     (w : Wire) (first e : ℕ) (ms : Mappings) (p : Part) (o : Own)
     → (moved w (own_move first e ms p o)).in_flight ≡ still_flying first (delivers o) w.in_flight ++ newly_sent w.next_message e (sends o) (said p o)
 flights_left w first e ms p o =
-    grind (arith, none_sent w.in_flight w.next_message e ResetMessage, none_sent (still_flying first (delivers o) w.in_flight) w.next_message e ResetMessage, one_sent w.in_flight w.next_message e (said p o), one_sent (still_flying first (delivers o) w.in_flight) w.next_message e (said p o))
+    grind (
+      arith,
+      none_sent w.in_flight w.next_message e ResetMessage,
+      none_sent
+          (still_flying first (delivers o) w.in_flight) w.next_message e ResetMessage,
+      one_sent w.in_flight w.next_message e (said p o),
+      one_sent
+          (still_flying first (delivers o) w.in_flight) w.next_message e (said p o),
+    )
 
 -- The part of the endpoint.
 

@@ -199,7 +199,9 @@ reply_granted w x j v (Some code) e h = go (replies_success w j v)
 
     go :
         (b : Bool)
-        → AllGranted w ((if b then maps_to (job_space w j) (is_write_asked w j) (newly_mapped w j) (free_list w) else []) ++ LetGo x ∷ At (w.job j).endpoint (Own.Respond (w.job j).group code) ∷ [])
+        → AllGranted w
+        ((if b then maps_to (job_space w j) (is_write_asked w j) (newly_mapped w j) (free_list w) else []) ++ LetGo x ∷ At (w.job j).endpoint
+        (Own.Respond (w.job j).group code) ∷ [])
     go true = maps_granted x (w.job j).endpoint (w.job j).group code (job_space w j) (is_write_asked w j) (newly_mapped w j) (free_list w) w few
     go false = (tt, (sending (act w (LetGo x)) (w.job j).endpoint (Own.Respond (w.job j).group code) few refl tt, tt))
 
@@ -263,8 +265,10 @@ outcome_granted w (step.DropSpace n) h = (tt, tt)
 outcome_granted w (step.Map n q x) h = (tt, tt)
 outcome_granted w (step.Unmap n q count) h = unmap_granted w (Labels.name w n) q count 0 (count + 1) (omega arith) h.1.1.1.1.0 h.1.1.1.1.1.0
 outcome_granted w (step.UnmapRange n q order) h = unmap_granted w (Labels.name w n) q 1 order 2 (omega arith) h.1.1.1.1.1.0 h.1.1.1.1.1.1.0
-outcome_granted w (step.Bind e n) h =
-    (left w w.bindings 1 h.1.1.1.1.1.0, (sending (act w (NewBinding e)) e (Own.Bind w.bindings (Labels.name w n) (the (Labels.pasid_for w e (Labels.name w n)))) h.1.1.1.1.1.1.0 refl tt, tt))
+outcome_granted w (step.Bind e n) h = (
+  left w w.bindings 1 h.1.1.1.1.1.0,
+  (sending (act w (NewBinding e)) e (Own.Bind w.bindings (Labels.name w n) (the (Labels.pasid_for w e (Labels.name w n)))) h.1.1.1.1.1.1.0 refl tt, tt),
+)
 outcome_granted w (step.Unbind n) h =
     unbind_granted w (w.home (Labels.name w n)) (Labels.name w n) ((w.part (w.home (Labels.name w n))).stage (Labels.name w n)) h.1
 outcome_granted w (step.Advance n) h =

@@ -68,11 +68,13 @@ groups_alike first p q a =
     ap (λ z. map (λ k. host_group_wire first q (filed_group q k)) (select z (begins_open q))) a.filings
     ∙ picked_same p.filings (λ k. host_group_wire first q (filed_group q k)) (λ k. host_group_wire first p (filed_group p k)) (begins_open q) (begins_open p)
     (begins_alike p q a)
-    (λ k l h. ap (host_group_wire first q) (filed_group_same p q a k l) ∙ entry k l (opens_of (opens p (filed_group p k)) (not (any_below k (λ j. filed_group p j == filed_group p k))) (sym (begins_alike p q a k l) ∙ h)))
+    (λ k l h. ap (host_group_wire first q) (filed_group_same p q a k l)
+    ∙ entry k l (opens_of (opens p (filed_group p k)) (not (any_below k (λ j. filed_group p j == filed_group p k))) (sym (begins_alike p q a k l) ∙ h)))
   where
     entry : (k : ℕ) → k < p.filings → opens p (filed_group p k) ≡ true → host_group_wire first q (filed_group p k) ≡ host_group_wire first p (filed_group p k)
     entry k l h =
-        λ i. record { binding = number first (a.under k l h i); index = a.index k l h i; asks = asks_same p q a (filed_group p k) i; is_whole = not (a.part k l h i) }
+        λ i.
+        record { binding = number first (a.under k l h i); index = a.index k l h i; asks = asks_same p q a (filed_group p k) i; is_whole = not (a.part k l h i) }
 
 -- the endpoint makes a page request: of what is filed nothing changes
 
@@ -86,7 +88,9 @@ groups_group g first n p b i q r x l bo fi =
       filing = λ k m. refl;
       group_of = λ k m. old_put p.group_of p.page_requests (p.filing k) p.groups (made k m);
       ask =
-          λ k m. λ j. record { page = old_put p.asked_page p.page_requests (p.filing k) q (made k m) j; read = old_put p.asks_read p.page_requests (p.filing k) r (made k m) j; write = old_put p.asks_write p.page_requests (p.filing k) x (made k m) j };
+          λ k m.
+          λ j.
+          record { page = old_put p.asked_page p.page_requests (p.filing k) q (made k m) j; read = old_put p.asks_read p.page_requests (p.filing k) r (made k m) j; write = old_put p.asks_write p.page_requests (p.filing k) x (made k m) j };
       same_opens = λ k m. refl;
       under = λ k m h. refl;
       index = λ k m h. old_put p.index p.groups (filed_group p k) i (bo.group_of (p.filing k) (made k m));
@@ -106,7 +110,9 @@ groups_request g first n p w q r x l bo fi =
       filing = λ k m. refl;
       group_of = λ k m. old_put p.group_of p.page_requests (p.filing k) w (made k m);
       ask =
-          λ k m. λ j. record { page = old_put p.asked_page p.page_requests (p.filing k) q (made k m) j; read = old_put p.asks_read p.page_requests (p.filing k) r (made k m) j; write = old_put p.asks_write p.page_requests (p.filing k) x (made k m) j };
+          λ k m.
+          λ j.
+          record { page = old_put p.asked_page p.page_requests (p.filing k) q (made k m) j; read = old_put p.asks_read p.page_requests (p.filing k) r (made k m) j; write = old_put p.asks_write p.page_requests (p.filing k) x (made k m) j };
       same_opens = λ k m. refl;
       under = λ k m h. refl;
       index = λ k m h. refl;
@@ -186,4 +192,5 @@ shut_begins b c h = grind arith
 pub groups_reset : (first n : ℕ) (p : Part) → host_groups_wire first (own p n Own.Reset) ≡ []
 groups_reset first n p =
     picked_none p.filings (λ k. host_group_wire first (own p n Own.Reset) (filed_group p k)) (begins_open (own p n Own.Reset))
-    (λ k l. shut_begins (is_open_group (discarded (p.host_group (filed_group p k)))) (not (any_below k (λ j. filed_group p j == filed_group p k))) (dropped (p.host_group (filed_group p k))))
+    (λ k l. shut_begins (is_open_group (discarded (p.host_group (filed_group p k)))) (not (any_below k (λ j. filed_group p j == filed_group p k)))
+    (dropped (p.host_group (filed_group p k))))

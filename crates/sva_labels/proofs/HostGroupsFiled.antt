@@ -86,7 +86,8 @@ act_filings w (NewJob e g) l i h = h
 act_filings w (Hold x j) l i h = h
 act_filings w (LetGo x) l i h = h
 act_filings w (At e o) l i h =
-    put_keeps (λ k p. Filings p) w.part e (own (w.part e) w.messages o) (every w.mappings w.config.endpoints w.bindings w.messages e (w.part e) o l.1.0 (i.parts e) (h e)) h
+    put_keeps (λ k p. Filings p) w.part e (own (w.part e) w.messages o)
+    (every w.mappings w.config.endpoints w.bindings w.messages e (w.part e) o l.1.0 (i.parts e) (h e)) h
 
 pub acts_filings : (acts : List Act) (w : World) → LegalAll w acts → Invariant w → AllFilings w → AllFilings (after_acts w acts)
 acts_filings [] w l i h = h

@@ -102,4 +102,5 @@ pub begins_same :
     (opens others : ℕ → Bool) (of by : ℕ → ℕ) (k : ℕ) → ((j : ℕ) → j < suc k → by j ≡ of j) → others (of k) ≡ opens (of k)
     → begins others by k ≡ begins opens of k
 begins_same opens others of by k h o =
-    ap₂ (λ a b. a && not b) (ap others (h k (omega arith)) ∙ o) (any_same k (λ j. by j == by k) (λ j. of j == of k) (λ j l. ap₂ (λ a b. a == b) (h j (omega arith)) (h k (omega arith))))
+    ap₂ (λ a b. a && not b) (ap others (h k (omega arith)) ∙ o)
+    (any_same k (λ j. by j == by k) (λ j. of j == of k) (λ j l. ap₂ (λ a b. a == b) (h j (omega arith)) (h k (omega arith))))

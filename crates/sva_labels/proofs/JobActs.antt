@@ -76,7 +76,8 @@ asks_kept : (p : Part) (n : ℕ) (o : Own) (g : ℕ) → FilesMade p → FilesOp
 asks_kept p n o g made f h =
     map_twice (ask_wire (own p n o)) (own p n o).filing (select (own p n o).filings (λ k. (own p n o).group_of ((own p n o).filing k) == g))
     ∙ same_many (filed_more p n o g f h)
-    ∙ select_seen p.filings (λ k. (own p n o).group_of ((own p n o).filing k) == g) (λ k. p.group_of (p.filing k) == g) (λ k. ask_wire (own p n o) ((own p n o).filing k)) (λ k. ask_wire p (p.filing k))
+    ∙ select_seen p.filings (λ k. (own p n o).group_of ((own p n o).filing k) == g) (λ k. p.group_of (p.filing k) == g)
+    (λ k. ask_wire (own p n o) ((own p n o).filing k)) (λ k. ask_wire p (p.filing k))
     (λ k l. ap (λ r. (own p n o).group_of r == g) (filing_kept p n o k l) ∙ ap (λ x. x == g) (group_of_kept p n o (p.filing k) (made k l)))
     (λ k l t. ap (ask_wire (own p n o)) (filing_kept p n o k l) ∙ ask_kept p n o (p.filing k) (made k l))
     ∙ sym (map_twice (ask_wire p) p.filing (select p.filings (λ k. p.group_of (p.filing k) == g)))
@@ -86,7 +87,8 @@ asks_kept p n o g made f h =
 
     same_many :
         ((own p n o).filings ≡ p.filings) ⊎ (((own p n o).filings ≡ suc p.filings) × (((own p n o).group_of ((own p n o).filing p.filings) == g) ≡ false))
-        → map entry (select (own p n o).filings (λ k. (own p n o).group_of ((own p n o).filing k) == g)) ≡ map entry (select p.filings (λ k. (own p n o).group_of ((own p n o).filing k) == g))
+        → map entry (select (own p n o).filings (λ k. (own p n o).group_of ((own p n o).filing k) == g))
+        ≡ map entry (select p.filings (λ k. (own p n o).group_of ((own p n o).filing k) == g))
     same_many (inl e) = ap (λ m. map entry (select m (λ k. (own p n o).group_of ((own p n o).filing k) == g))) e
     same_many (inr e) =
         ap (λ m. map entry (select m (λ k. (own p n o).group_of ((own p n o).filing k) == g))) e.0
@@ -117,7 +119,8 @@ job_kept w e o j i made f h = go (ℕ_cases (w.job j).endpoint e)
     go (inl k) =
         (λ t. group_job w.config.first (k t) (put w.part e (part_after w e o) (k t)) (w.job j).group)
         ∙ ap (λ p. group_job w.config.first e p (w.job j).group) (put-same w.part e (part_after w e o))
-        ∙ group_kept w.config.first e w.bindings (w.part e) w.messages o (w.job j).group (i.parts e).bounds made f (sym (ap (λ x. is_past ((w.part x).host_group (w.job j).group)) k) ∙ h)
+        ∙ group_kept w.config.first e w.bindings (w.part e) w.messages o (w.job j).group (i.parts e).bounds made f
+        (sym (ap (λ x. is_past ((w.part x).host_group (w.job j).group)) k) ∙ h)
         ∙ sym (λ t. group_job w.config.first (k t) (w.part (k t)) (w.job j).group)
     go (inr ne) = ap (λ p. group_job w.config.first (w.job j).endpoint p (w.job j).group) (put-other w.part e (part_after w e o) (w.job j).endpoint ne)
 
@@ -154,11 +157,13 @@ jobs_same w e o i legal past made f k =
   where
     passes :
         (j : ℕ) → j < w.jobs → ((w.job j).endpoint ≡ e) ⊎ ((w.job j).endpoint ≢ e)
-        → is_job ((put w.part e (part_after w e o) (w.job j).endpoint).host_group (w.job j).group) ≡ is_job ((w.part (w.job j).endpoint).host_group (w.job j).group)
+        → is_job ((put w.part e (part_after w e o) (w.job j).endpoint).host_group (w.job j).group)
+        ≡ is_job ((w.part (w.job j).endpoint).host_group (w.job j).group)
     passes j l (inl h) =
         ap (λ x. is_job ((put w.part e (part_after w e o) x).host_group (w.job j).group)) h
         ∙ ap (λ p. is_job (p.host_group (w.job j).group)) (put-same w.part e (part_after w e o))
-        ∙ still_job w.mappings w.bindings (w.part e) w.messages o (w.job j).group legal f k (sym (ap (λ x. is_past ((w.part x).host_group (w.job j).group)) h) ∙ past j l)
+        ∙ still_job w.mappings w.bindings (w.part e) w.messages o (w.job j).group legal f k
+        (sym (ap (λ x. is_past ((w.part x).host_group (w.job j).group)) h) ∙ past j l)
         ∙ sym (ap (λ x. is_job ((w.part x).host_group (w.job j).group)) h)
     passes j l (inr ne) = ap (λ p. is_job (p.host_group (w.job j).group)) (put-other w.part e (part_after w e o) (w.job j).endpoint ne)
 
@@ -167,7 +172,8 @@ pub jobs_dropped :
     (w : World) (e : ℕ) → Invariant w → FilesMade (w.part e)
     → (wire (act w (At e Own.Reset))).jobs ≡ filter (λ job. not (job.endpoint == e)) (wire w).jobs
 jobs_dropped w e i made =
-    select_seen w.jobs _ _ _ _ (λ j l. passes j (ℕ_cases (w.job j).endpoint e)) (λ j l t. job_kept w e Own.Reset j i made tt (past ((w.part (w.job j).endpoint).host_group (w.job j).group) ((w.job j).endpoint == e) t))
+    select_seen w.jobs _ _ _ _ (λ j l. passes j (ℕ_cases (w.job j).endpoint e))
+    (λ j l t. job_kept w e Own.Reset j i made tt (past ((w.part (w.job j).endpoint).host_group (w.job j).group) ((w.job j).endpoint == e) t))
     ∙ sym (select_filtered w.jobs (Labels.is_queued_job w) (job_wire w) (λ job. not (job.endpoint == e)))
   where
     past : (h : HostGroupState) (b : Bool) → (is_job h && not b) ≡ true → is_past h ≡ true
@@ -184,7 +190,8 @@ jobs_dropped w e i made =
 
     passes :
         (j : ℕ) → ((w.job j).endpoint ≡ e) ⊎ ((w.job j).endpoint ≢ e)
-        → is_job ((put w.part e (part_after w e Own.Reset) (w.job j).endpoint).host_group (w.job j).group) ≡ (is_job ((w.part (w.job j).endpoint).host_group (w.job j).group) && not ((w.job j).endpoint == e))
+        → is_job ((put w.part e (part_after w e Own.Reset) (w.job j).endpoint).host_group (w.job j).group)
+        ≡ (is_job ((w.part (w.job j).endpoint).host_group (w.job j).group) && not ((w.job j).endpoint == e))
     passes j (inl h) =
         ap (λ x. is_job ((put w.part e (part_after w e Own.Reset) x).host_group (w.job j).group)) h
         ∙ ap (λ p. is_job (p.host_group (w.job j).group)) (put-same w.part e (part_after w e Own.Reset))

@@ -57,8 +57,11 @@ pub asks_there :
     → p.page_request r ≡ Arrived
     → asks_of (lists.find (is_begun (number first (p.asker (p.group_of r))) (p.index (p.group_of r))) (host_groups_wire first p)) ≡ asks_wire p (p.group_of r)
 asks_there ms x g n e first p r i on fi ph ar =
-    ap asks_of (find_seen (λ k. host_group_wire first p (filed_group p k)) (is_begun (number first (p.asker (p.group_of r))) (p.index (p.group_of r))) p.filings (begins_open p))
-    ∙ go (find p.filings (λ k. begins_open p k && is_begun (number first (p.asker (p.group_of r))) (p.index (p.group_of r)) (host_group_wire first p (filed_group p k)))) refl
+    ap asks_of
+    (find_seen (λ k. host_group_wire first p (filed_group p k)) (is_begun (number first (p.asker (p.group_of r))) (p.index (p.group_of r))) p.filings
+    (begins_open p))
+    ∙ go (find p.filings
+    (λ k. begins_open p k && is_begun (number first (p.asker (p.group_of r))) (p.index (p.group_of r)) (host_group_wire first p (filed_group p k)))) refl
   where
     out : is_outstanding (p.group (p.group_of r)) ≡ true
     out = i.lasts.out r ph (inr ar)
@@ -71,12 +74,16 @@ asks_there ms x g n e first p r i on fi ph ar =
 
     passes :
         (b : Begun p (p.group_of r)) → p.host_group (p.group_of r) ≡ PartFiled
-        → (begins_open p b.filing && is_begun (number first (p.asker (p.group_of r))) (p.index (p.group_of r)) (host_group_wire first p (filed_group p b.filing))) ≡ true
+        → (begins_open p b.filing && is_begun (number first (p.asker (p.group_of r))) (p.index (p.group_of r))
+        (host_group_wire first p (filed_group p b.filing))) ≡ true
     passes b h =
-        and_both (begins_open p b.filing) (is_begun (number first (p.asker (p.group_of r))) (p.index (p.group_of r)) (host_group_wire first p (filed_group p b.filing))) b.first
+        and_both (begins_open p b.filing)
+        (is_begun (number first (p.asker (p.group_of r))) (p.index (p.group_of r)) (host_group_wire first p (filed_group p b.filing))) b.first
         (ap (λ z. is_begun (number first (p.asker (p.group_of r))) (p.index (p.group_of r)) (host_group_wire first p z)) b.its
-        ∙ three (number first (p.filed_under (p.group_of r)) == number first (p.asker (p.group_of r))) (p.index (p.group_of r) == p.index (p.group_of r)) (is_part (p.host_group (p.group_of r)))
-        (is_same (number first (p.filed_under (p.group_of r))) (number first (p.asker (p.group_of r))) (ap (number first) (i.groups.under (p.group_of r) (ap is_filed_group h))))
+        ∙ three (number first (p.filed_under (p.group_of r)) == number first (p.asker (p.group_of r)))
+        (p.index (p.group_of r) == p.index (p.group_of r)) (is_part (p.host_group (p.group_of r)))
+        (is_same (number first (p.filed_under (p.group_of r))) (number first (p.asker (p.group_of r)))
+        (ap (number first) (i.groups.under (p.group_of r) (ap is_filed_group h))))
         (is_same (p.index (p.group_of r)) (p.index (p.group_of r)) refl)
         (ap is_part h))
       where
@@ -88,34 +95,51 @@ asks_there ms x g n e first p r i on fi ph ar =
         → (begins_open p k && is_begun (number first (p.asker (p.group_of r))) (p.index (p.group_of r)) (host_group_wire first p (filed_group p k))) ≡ true
         → filed_group p k ≡ p.group_of r
     its_group k h =
-        let opens = and_left (is_open_group (p.host_group (filed_group p k))) _ (and_left (begins_open p k) (is_begun (number first (p.asker (p.group_of r))) (p.index (p.group_of r)) (host_group_wire first p (filed_group p k))) h) in
-        let index = same_is (p.index (filed_group p k)) (p.index (p.group_of r)) (middle (number first (p.filed_under (filed_group p k)) == number first (p.asker (p.group_of r))) (p.index (filed_group p k) == p.index (p.group_of r)) (not (is_part (p.host_group (filed_group p k)))) (and_right (begins_open p k) (is_begun (number first (p.asker (p.group_of r))) (p.index (p.group_of r)) (host_group_wire first p (filed_group p k))) h)) in
+        let opens =
+        and_left (is_open_group (p.host_group (filed_group p k))) _
+        (and_left (begins_open p k)
+        (is_begun (number first (p.asker (p.group_of r))) (p.index (p.group_of r)) (host_group_wire first p (filed_group p k))) h) in
+        let index =
+        same_is (p.index (filed_group p k)) (p.index (p.group_of r))
+        (middle (number first (p.filed_under (filed_group p k)) == number first (p.asker (p.group_of r)))
+        (p.index (filed_group p k) == p.index (p.group_of r)) (not (is_part (p.host_group (filed_group p k))))
+        (and_right (begins_open p k)
+        (is_begun (number first (p.asker (p.group_of r))) (p.index (p.group_of r)) (host_group_wire first p (filed_group p k))) h)) in
         one_group ms x g n e p (p.group_of r) (filed_group p k) i ph out opens index
       where
         middle : (a b c : Bool) → (a && b && not c) ≡ true → b ≡ true
         middle a b c h = grind arith
 
     none_there :
-        find p.filings (λ k. begins_open p k && is_begun (number first (p.asker (p.group_of r))) (p.index (p.group_of r)) (host_group_wire first p (filed_group p k))) ≡ None
+        find p.filings
+        (λ k. begins_open p k && is_begun (number first (p.asker (p.group_of r))) (p.index (p.group_of r)) (host_group_wire first p (filed_group p k))) ≡ None
         → (p.host_group (p.group_of r) ≡ NotFiled) ⊎ (p.host_group (p.group_of r) ≡ PartFiled) → [] ≡ asks_wire p (p.group_of r)
     none_there h (inl c) = sym (none_filed p (p.group_of r) fi (λ z k d. not_filed c k) filed)
     none_there h (inr c) =
         let b = begun p (p.group_of r) fi (ap is_open_group c) in
-        absurd (cc (sym (find_some p.filings (λ k. begins_open p k && is_begun (number first (p.asker (p.group_of r))) (p.index (p.group_of r)) (host_group_wire first p (filed_group p k))) b.filing b.made (passes b c)) ∙ h))
+        absurd (cc
+        (sym (find_some p.filings
+        (λ k. begins_open p k && is_begun (number first (p.asker (p.group_of r))) (p.index (p.group_of r))
+        (host_group_wire first p (filed_group p k))) b.filing b.made (passes b c)) ∙ h))
 
     go :
         (o : Option ℕ)
-        → find p.filings (λ k. begins_open p k && is_begun (number first (p.asker (p.group_of r))) (p.index (p.group_of r)) (host_group_wire first p (filed_group p k))) ≡ o
+        → find p.filings
+        (λ k. begins_open p k && is_begun (number first (p.asker (p.group_of r))) (p.index (p.group_of r)) (host_group_wire first p (filed_group p k))) ≡ o
         → asks_of (option_map (λ k. host_group_wire first p (filed_group p k)) o) ≡ asks_wire p (p.group_of r)
     go None h = none_there h (arrived_in ms x g n e p r i on ph ar)
     go (Some k) h =
-        ap (asks_wire p) (its_group k (find_passes p.filings (λ k. begins_open p k && is_begun (number first (p.asker (p.group_of r))) (p.index (p.group_of r)) (host_group_wire first p (filed_group p k))) k h).1)
+        ap (asks_wire p)
+        (its_group k
+        (find_passes p.filings
+        (λ k. begins_open p k && is_begun (number first (p.asker (p.group_of r))) (p.index (p.group_of r)) (host_group_wire first p (filed_group p k))) k h).1)
 
 -- and with the request itself, which is filed last
 pub asks_then :
     (ms : Mappings) (x g n e first : ℕ) (p : Part) (r : ℕ) → PartInvariant ms x g n e p → OnTheWay p → Filings p → p.phase ≡ Open
     → p.page_request r ≡ Arrived
-    → asks_of (lists.find (is_begun (number first (p.asker (p.group_of r))) (p.index (p.group_of r))) (host_groups_wire first p)) ++ ask_wire p r ∷ [] ≡ asks_wire (own p n (Own.File r)) (p.group_of r)
+    → asks_of (lists.find (is_begun (number first (p.asker (p.group_of r))) (p.index (p.group_of r))) (host_groups_wire first p)) ++ ask_wire p r ∷ []
+    ≡ asks_wire (own p n (Own.File r)) (p.group_of r)
 asks_then ms x g n e first p r i on fi ph ar =
     ap (λ xs. xs ++ ask_wire p r ∷ []) (asks_there ms x g n e first p r i on fi ph ar)
     ∙ ap (λ b. asks_wire p (p.group_of r) ++ if_passes b (ask_wire p r)) (sym (is_same (p.group_of r) (p.group_of r) refl))

@@ -192,5 +192,8 @@ select_first (suc n) p l = go (p n) refl (lowest_cases n p) (select_first n p)
         ([], ap₂ (λ xs b. xs ++ (if b then n ∷ [] else [])) (select_none n p x.1) e ∙ ap (λ k. k ∷ []) (sym (first (lowest n p) x.0 (p n) e)))
     go false e (inl x) rest = absurd (let o : step_lowest (lowest n p == n) (lowest n p) n (p n) ≡ suc n = over (lowest n p) x.0 (p n) e in omega arith)
     go b e (inr x) rest =
-        let r = rest x.0 in
-        (r.0 ++ (if p n then n ∷ [] else []), ap (λ xs. xs ++ (if p n then n ∷ [] else [])) r.1 ∙ ap (λ k. k ∷ (r.0 ++ (if p n then n ∷ [] else []))) (stays (lowest n p) (p n) x.0))
+        let r = rest x.0 in (
+          r.0 ++ (if p n then n ∷ [] else []),
+          ap (λ xs. xs ++ (if p n then n ∷ [] else [])) r.1
+              ∙ ap (λ k. k ∷ (r.0 ++ (if p n then n ∷ [] else []))) (stays (lowest n p) (p n) x.0),
+        )

@@ -71,7 +71,8 @@ pasid_there w e s i r =
         let home : w.home b ≡ d = i.homed d b (unreleased_bound (w.part d) b u) in (
           unreleased_made w.bindings (w.part d) b (i.parts d).bounds.stage u,
           and_both (is_kept w b) (w.config.first + (w.part (w.home b)).space b == w.config.first + s) (ap (λ x. is_unreleased ((w.part x).stage b)) home ∙ u)
-              (is_same (w.config.first + (w.part (w.home b)).space b) (w.config.first + s) (ap (λ z. w.config.first + z) (ap (λ x. (w.part x).space b) home ∙ sp))),
+              (is_same (w.config.first + (w.part (w.home b)).space b) (w.config.first + s)
+              (ap (λ z. w.config.first + z) (ap (λ x. (w.part x).space b) home ∙ sp))),
         )
 
     found_none :
@@ -85,15 +86,19 @@ pasid_there w e s i r =
 
     go :
         (o : Option ℕ) → find w.bindings (λ b. is_kept w b && w.config.first + (w.part (w.home b)).space b == w.config.first + s) ≡ o
-        → pasid_by (wire w) (option_map (binding_seen w) o) ≡ Labels.or_else (Labels.lowest_pasid (Labels.is_borne_by w s)) (Labels.lowest_pasid (λ t. not (Labels.is_borne w t)))
+        → pasid_by (wire w) (option_map (binding_seen w) o)
+        ≡ Labels.or_else (Labels.lowest_pasid (Labels.is_borne_by w s)) (Labels.lowest_pasid (λ t. not (Labels.is_borne w t)))
     go None h =
         lowest_same (λ t. not (is_borne (wire w) t)) (λ t. not (Labels.is_borne w t)) (λ t. ap not (borne_there w t i))
-        ∙ sym (ap (λ o. Labels.or_else o (Labels.lowest_pasid (λ t. not (Labels.is_borne w t)))) (lowest_none (Labels.is_borne_by w s) (λ t. not_both (Labels.is_borne_by w s t) (found_none t h))))
+        ∙ sym (ap (λ o. Labels.or_else o (Labels.lowest_pasid (λ t. not (Labels.is_borne w t))))
+        (lowest_none (Labels.is_borne_by w s) (λ t. not_both (Labels.is_borne_by w s t) (found_none t h))))
     go (Some b) h =
         let x = find_passes w.bindings (λ b. is_kept w b && w.config.first + (w.part (w.home b)).space b == w.config.first + s) b h in
         let kept = and_left (is_kept w b) (w.config.first + (w.part (w.home b)).space b == w.config.first + s) x.1 in
         let space : (w.part (w.home b)).space b ≡ s =
-        one_space ((w.part (w.home b)).space b) s (same_is (w.config.first + (w.part (w.home b)).space b) (w.config.first + s) (and_right (is_kept w b) (w.config.first + (w.part (w.home b)).space b == w.config.first + s) x.1))
+        one_space ((w.part (w.home b)).space b) s
+        (same_is (w.config.first + (w.part (w.home b)).space b) (w.config.first + s)
+        (and_right (is_kept w b) (w.config.first + (w.part (w.home b)).space b == w.config.first + s) x.1))
         in
         let at = (i.parts (w.home b)).labels.bears_pasid b kept in
         let low = (i.parts (w.home b)).labels.pasid_low ((w.part (w.home b)).pasid b) b at in
@@ -128,20 +133,29 @@ count_within k n q p f h one =
 
 bearers : (w : World) (t : ℕ) → Invariant w → count_below w.bindings (λ b. is_kept w b && (w.part (w.home b)).pasid b == t) ≡ Labels.bindings_under w t
 bearers w t i =
-    let less = count_within w.bindings w.config.endpoints (λ b. is_kept w b && (w.part (w.home b)).pasid b == t) (λ e. Labels.is_borne_at (w.part e) t) w.home forth (λ b c l m u v e. one_binding b c u v e) in
-    let more = count_within w.config.endpoints w.bindings (λ e. Labels.is_borne_at (w.part e) t) (λ b. is_kept w b && (w.part (w.home b)).pasid b == t) (λ e. the ((w.part e).at_pasid t)) (λ e l h. back e ((w.part e).at_pasid t) refl h) (λ d e l m u v k. one_endpoint d e ((w.part d).at_pasid t) ((w.part e).at_pasid t) refl refl u v k) in
+    let less =
+    count_within w.bindings w.config.endpoints (λ b. is_kept w b && (w.part (w.home b)).pasid b == t)
+    (λ e. Labels.is_borne_at (w.part e) t) w.home forth (λ b c l m u v e. one_binding b c u v e) in
+    let more =
+    count_within w.config.endpoints w.bindings (λ e. Labels.is_borne_at (w.part e) t) (λ b. is_kept w b && (w.part (w.home b)).pasid b == t)
+    (λ e. the ((w.part e).at_pasid t)) (λ e l h. back e ((w.part e).at_pasid t) refl h)
+    (λ d e l m u v k. one_endpoint d e ((w.part d).at_pasid t) ((w.part e).at_pasid t) refl refl u v k) in
     omega (arith, less, more)
   where
     bears : (b : ℕ) → (is_kept w b && (w.part (w.home b)).pasid b == t) ≡ true → (w.part (w.home b)).at_pasid t ≡ Some b
     bears b h =
-        subst (λ z. (w.part (w.home b)).at_pasid z ≡ Some b) (same_is ((w.part (w.home b)).pasid b) t (and_right (is_kept w b) ((w.part (w.home b)).pasid b == t) h))
+        subst (λ z. (w.part (w.home b)).at_pasid z ≡ Some b)
+        (same_is ((w.part (w.home b)).pasid b) t (and_right (is_kept w b) ((w.part (w.home b)).pasid b == t) h))
         ((i.parts (w.home b)).labels.bears_pasid b (and_left (is_kept w b) ((w.part (w.home b)).pasid b == t) h))
 
     forth :
         (b : ℕ) → b < w.bindings → (is_kept w b && (w.part (w.home b)).pasid b == t) ≡ true
         → (w.home b < w.config.endpoints) × (Labels.is_borne_at (w.part (w.home b)) t ≡ true)
-    forth b l h =
-        ((i.parts (w.home b)).there b (unreleased_bound (w.part (w.home b)) b (and_left (is_kept w b) ((w.part (w.home b)).pasid b == t) h)), ap is_some (bears b h))
+    forth b l h = (
+      (i.parts (w.home b)).there b
+          (unreleased_bound (w.part (w.home b)) b (and_left (is_kept w b) ((w.part (w.home b)).pasid b == t) h)),
+      ap is_some (bears b h),
+    )
 
     one : {a b : ℕ} → Some a ≡ Some b → a ≡ b
     one h = cc
@@ -182,7 +196,8 @@ bearer_said w t i r =
   where
     bears : (b : ℕ) → (is_kept w b && (w.part (w.home b)).pasid b == t) ≡ true → (w.part (w.home b)).at_pasid t ≡ Some b
     bears b h =
-        subst (λ z. (w.part (w.home b)).at_pasid z ≡ Some b) (same_is ((w.part (w.home b)).pasid b) t (and_right (is_kept w b) ((w.part (w.home b)).pasid b == t) h))
+        subst (λ z. (w.part (w.home b)).at_pasid z ≡ Some b)
+        (same_is ((w.part (w.home b)).pasid b) t (and_right (is_kept w b) ((w.part (w.home b)).pasid b == t) h))
         ((i.parts (w.home b)).labels.bears_pasid b (and_left (is_kept w b) ((w.part (w.home b)).pasid b == t) h))
 
     by_lowest :
@@ -195,13 +210,18 @@ bearer_said w t i r =
 
     its_space :
         (b : ℕ) → is_kept w b ≡ true → (w.part (w.home b)).pasid b ≡ t
-        → ((lowest w.config.endpoints (λ e. Labels.is_borne_at (w.part e) t) ≡ w.config.endpoints) × ((j : ℕ) → j < w.config.endpoints → Labels.is_borne_at (w.part j) t ≡ false)) ⊎ ((lowest w.config.endpoints (λ e. Labels.is_borne_at (w.part e) t) < w.config.endpoints) × (Labels.is_borne_at (w.part (lowest w.config.endpoints (λ e. Labels.is_borne_at (w.part e) t))) t ≡ true) × ((j : ℕ) → j < lowest w.config.endpoints (λ e. Labels.is_borne_at (w.part e) t) → Labels.is_borne_at (w.part j) t ≡ false))
+        → ((lowest w.config.endpoints (λ e. Labels.is_borne_at (w.part e) t) ≡ w.config.endpoints)
+        × ((j : ℕ) → j < w.config.endpoints → Labels.is_borne_at (w.part j) t
+        ≡ false)) ⊎ ((lowest w.config.endpoints (λ e. Labels.is_borne_at (w.part e) t) < w.config.endpoints)
+        × (Labels.is_borne_at (w.part (lowest w.config.endpoints (λ e. Labels.is_borne_at (w.part e) t))) t ≡ true)
+        × ((j : ℕ) → j < lowest w.config.endpoints (λ e. Labels.is_borne_at (w.part e) t) → Labels.is_borne_at (w.part j) t ≡ false))
         → (w.part (w.home b)).space b ≡ Labels.space_under w t
     its_space b kept pasid (inl x) =
         absurd (cc (sym (x.1 (w.home b) ((i.parts (w.home b)).there b (unreleased_bound (w.part (w.home b)) b kept)))
         ∙ ap is_some (subst (λ z. (w.part (w.home b)).at_pasid z ≡ Some b) pasid ((i.parts (w.home b)).labels.bears_pasid b kept))))
     its_space b kept pasid (inr x) =
-        by_lowest (lowest w.config.endpoints (λ e. Labels.is_borne_at (w.part e) t)) b kept pasid ((w.part (lowest w.config.endpoints (λ e. Labels.is_borne_at (w.part e) t))).at_pasid t) refl x.1
+        by_lowest (lowest w.config.endpoints (λ e. Labels.is_borne_at (w.part e) t)) b kept pasid
+        ((w.part (lowest w.config.endpoints (λ e. Labels.is_borne_at (w.part e) t))).at_pasid t) refl x.1
 
     go :
         (o : Option ℕ) → find w.bindings (λ b. is_kept w b && (w.part (w.home b)).pasid b == t) ≡ o
@@ -218,7 +238,9 @@ bearer_said w t i r =
             by_one e (Some b) g z =
                 let la = (i.parts e).labels.pasid_bears t b g in
                 let home : w.home b ≡ e = i.homed e b (unreleased_bound (w.part e) b la.1) in
-                absurd (cc (sym (find_some w.bindings (λ b. is_kept w b && (w.part (w.home b)).pasid b == t) b (unreleased_made w.bindings (w.part e) b (i.parts e).bounds.stage la.1)
+                absurd (cc
+                (sym (find_some w.bindings (λ b. is_kept w b && (w.part (w.home b)).pasid b == t) b
+                (unreleased_made w.bindings (w.part e) b (i.parts e).bounds.stage la.1)
                 (and_both (is_kept w b) ((w.part (w.home b)).pasid b == t) (ap (λ d. is_unreleased ((w.part d).stage b)) home ∙ la.1)
                 (is_same ((w.part (w.home b)).pasid b) t (ap (λ d. (w.part d).pasid b) home ∙ la.0)))) ∙ h))
     go (Some b) h =
@@ -226,7 +248,8 @@ bearer_said w t i r =
         let kept = and_left (is_kept w b) ((w.part (w.home b)).pasid b == t) x.1 in
         let pasid = same_is ((w.part (w.home b)).pasid b) t (and_right (is_kept w b) ((w.part (w.home b)).pasid b == t) x.1) in
         let borne : Labels.is_borne w t ≡ true =
-        any_below-intro w.config.endpoints (λ e. Labels.is_borne_at (w.part e) t) (w.home b) ((i.parts (w.home b)).there b (unreleased_bound (w.part (w.home b)) b kept)) (ap is_some (bears b x.1))
+        any_below-intro w.config.endpoints (λ e. Labels.is_borne_at (w.part e) t) (w.home b)
+        ((i.parts (w.home b)).there b (unreleased_bound (w.part (w.home b)) b kept)) (ap is_some (bears b x.1))
         in
         ap₂ (λ s n. answer.Bearer (w.config.first + s) n) (its_space b kept pasid (lowest_cases w.config.endpoints (λ e. Labels.is_borne_at (w.part e) t)))
         (count_seen (binding_seen w) (λ x. x.pasid == t) w.bindings (is_kept w) ∙ bearers w t i)

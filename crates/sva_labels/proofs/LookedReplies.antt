@@ -36,7 +36,8 @@ pub record InHandNow (w : World) (j : ℕ) : Type 0 where
 
 group_made : (w : World) (j : ℕ) → Invariant w → InHandNow w j → (w.job j).group < (w.part (w.job j).endpoint).groups
 group_made w j i h =
-    made ((w.part (w.job j).endpoint).host_group (w.job j).group) (i.hands.held h.worker j h.held) ((i.parts (w.job j).endpoint).bounds.host_group (w.job j).group)
+    made ((w.part (w.job j).endpoint).host_group (w.job j).group) (i.hands.held h.worker j h.held)
+    ((i.parts (w.job j).endpoint).bounds.host_group (w.job j).group)
   where
     made :
         (s : HostGroupState) → IsHeldBy s h.worker → ((w.part (w.job j).endpoint).groups ≤ (w.job j).group → s ≡ NotFiled)
@@ -49,7 +50,9 @@ job_there w j i h = group_there w (w.job j).endpoint (w.job j).group i (group_ma
 filed_bound : (w : World) (j : ℕ) → Invariant w → InHandNow w j → (w.part (w.job j).endpoint).stage (job_binding w j) ≢ Unbound
 filed_bound w j i h e =
     (i.parts (w.job j).endpoint).groups.asker_bound (w.job j).group (group_made w j i h)
-    (ap (w.part (w.job j).endpoint).stage (sym ((i.parts (w.job j).endpoint).groups.under (w.job j).group (filed ((w.part (w.job j).endpoint).host_group (w.job j).group) (i.hands.held h.worker j h.held)))) ∙ e)
+    (ap (w.part (w.job j).endpoint).stage
+    (sym ((i.parts (w.job j).endpoint).groups.under (w.job j).group
+    (filed ((w.part (w.job j).endpoint).host_group (w.job j).group) (i.hands.held h.worker j h.held)))) ∙ e)
   where
     filed : (s : HostGroupState) → IsHeldBy s h.worker → is_filed_group s ≡ true
     filed s k = grind arith
@@ -98,7 +101,8 @@ response_there w j v i h =
         ap (λ o. response_for (is_open (w.part (w.job j).endpoint).phase) o v) (binding_named w (w.job j).endpoint (job_binding w j) i e)
         ∙ staged w.config.first (w.part (w.job j).endpoint) (is_open (w.part (w.job j).endpoint).phase) ((w.part (w.job j).endpoint).stage (job_binding w j)) v
     go false e =
-        ap (λ o. response_for (is_open (w.part (w.job j).endpoint).phase) o v) (binding_released w (w.job j).endpoint (job_binding w j) i (filed_bound w j i h) e)
+        ap (λ o. response_for (is_open (w.part (w.job j).endpoint).phase) o v)
+        (binding_released w (w.job j).endpoint (job_binding w j) i (filed_bound w j i h) e)
         ∙ sym (no_response (is_open (w.part (w.job j).endpoint).phase) ((w.part (w.job j).endpoint).stage (job_binding w j)) v e)
 
 some_same : {A : Type 0} (o : Option A) → prelude.is_some o ≡ is_some o
@@ -166,11 +170,16 @@ read_only_there w j i s =
   where
     each :
         (rs : List ℕ)
-        → list_any (λ a. a.write && is_read_only_at (page_at (pages_wire w.mappings (job_space w j)) a.page)) (map (ask_wire (w.part (w.job j).endpoint)) rs) ≡ list_any (λ r. (w.part (w.job j).endpoint).asks_write r && holds_of (λ m. not (w.mappings.write m)) (w.mappings.at (job_space w j) ((w.part (w.job j).endpoint).asked_page r))) rs
+        → list_any (λ a. a.write && is_read_only_at (page_at (pages_wire w.mappings (job_space w j)) a.page))
+        (map (ask_wire (w.part (w.job j).endpoint)) rs)
+        ≡ list_any
+        (λ r. (w.part (w.job j).endpoint).asks_write r && holds_of (λ m. not (w.mappings.write m))
+        (w.mappings.at (job_space w j) ((w.part (w.job j).endpoint).asked_page r))) rs
     each [] = refl
     each (r ∷ rs) =
         ap₂ (λ a b. ((w.part (w.job j).endpoint).asks_write r && a) || b)
-        (ap is_read_only_at (page_found w (job_space w j) ((w.part (w.job j).endpoint).asked_page r) i.mapped) ∙ read_only w (w.mappings.at (job_space w j) ((w.part (w.job j).endpoint).asked_page r)))
+        (ap is_read_only_at (page_found w (job_space w j) ((w.part (w.job j).endpoint).asked_page r) i.mapped)
+        ∙ read_only w (w.mappings.at (job_space w j) ((w.part (w.job j).endpoint).asked_page r)))
         (each rs)
 
 -- The free frames, lowest first.
@@ -187,7 +196,8 @@ free_push k (x ∷ xs) y = go (is_free x) (free_push (suc k) xs y ∙ ap (λ n. 
 
     go :
         (b : Bool) → free_from (suc k) (xs ++ y ∷ []) ≡ free_from (suc k) xs ++ (if is_free y then (k + suc (length xs)) ∷ [] else [])
-        → (if b then k ∷ free_from (suc k) (xs ++ y ∷ []) else free_from (suc k) (xs ++ y ∷ [])) ≡ (if b then k ∷ free_from (suc k) xs else free_from (suc k) xs) ++ (if is_free y then (k + suc (length xs)) ∷ [] else [])
+        → (if b then k ∷ free_from (suc k) (xs ++ y ∷ []) else free_from (suc k) (xs ++ y ∷ []))
+        ≡ (if b then k ∷ free_from (suc k) xs else free_from (suc k) xs) ++ (if is_free y then (k + suc (length xs)) ∷ [] else [])
     go true h = ap (λ zs. k ∷ zs) h
     go false h = h
 

@@ -68,7 +68,9 @@ number_given w count s l = go w.config.first (number w.config.first s) (Labels.n
 -- the pages of a live space, by its name
 pub pages_of_name : (w : World) (s : ℕ) → Mapped w → w.is_live s ≡ true → pages_in (wire w) (number w.config.first s) ≡ pages_wire w.mappings s
 pages_of_name w s ma l =
-    pages_there w (number w.config.first s) (there (Labels.is_number w w.spaces (number w.config.first s)) (w.is_live (Labels.name w (number w.config.first s))) (number_given w w.spaces s (ma.live s l)) (ap w.is_live (name_of w s) ∙ l))
+    pages_there w (number w.config.first s)
+    (there (Labels.is_number w w.spaces (number w.config.first s)) (w.is_live (Labels.name w (number w.config.first s)))
+    (number_given w w.spaces s (ma.live s l)) (ap w.is_live (name_of w s) ∙ l))
     ∙ ap (pages_wire w.mappings) (name_of w s)
   where
     there : (a b : Bool) → a ≡ true → b ≡ true → (a && b) ≡ true

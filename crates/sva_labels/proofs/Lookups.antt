@@ -69,7 +69,8 @@ pub no_label :
 no_label n at f h = ap is_none (label_seen n at f h) ∙ go (lowest_cases n (λ t. not (words.is_some (at t))))
   where
     go :
-        ((Labels.lowest_label n at ≡ n) × ((j : ℕ) → j < n → not (words.is_some (at j)) ≡ false)) ⊎ ((Labels.lowest_label n at < n) × (not (words.is_some (at (Labels.lowest_label n at))) ≡ true) × ((j : ℕ) → j < Labels.lowest_label n at → not (words.is_some (at j)) ≡ false))
+        ((Labels.lowest_label n at ≡ n) × ((j : ℕ) → j < n → not (words.is_some (at j)) ≡ false)) ⊎ ((Labels.lowest_label n at < n)
+        × (not (words.is_some (at (Labels.lowest_label n at))) ≡ true) × ((j : ℕ) → j < Labels.lowest_label n at → not (words.is_some (at j)) ≡ false))
         → is_none (words.if_found (nat_lt (Labels.lowest_label n at) n) (Labels.lowest_label n at)) ≡ (Labels.lowest_label n at == n)
     go (inl x) = ap is_none (none_from (Labels.lowest_label n at) n x.0) ∙ sym (is_at_end (Labels.lowest_label n at) n x.0)
     go (inr x) = ap is_none (found_below (Labels.lowest_label n at) n x.0) ∙ sym (isnt_at_end (Labels.lowest_label n at) n x.0)
@@ -80,7 +81,8 @@ pub label_is :
 label_is n at f h e = ap label (label_seen n at f h) ∙ go (lowest_cases n (λ t. not (words.is_some (at t))))
   where
     go :
-        ((Labels.lowest_label n at ≡ n) × ((j : ℕ) → j < n → not (words.is_some (at j)) ≡ false)) ⊎ ((Labels.lowest_label n at < n) × (not (words.is_some (at (Labels.lowest_label n at))) ≡ true) × ((j : ℕ) → j < Labels.lowest_label n at → not (words.is_some (at j)) ≡ false))
+        ((Labels.lowest_label n at ≡ n) × ((j : ℕ) → j < n → not (words.is_some (at j)) ≡ false)) ⊎ ((Labels.lowest_label n at < n)
+        × (not (words.is_some (at (Labels.lowest_label n at))) ≡ true) × ((j : ℕ) → j < Labels.lowest_label n at → not (words.is_some (at j)) ≡ false))
         → label (words.if_found (nat_lt (Labels.lowest_label n at) n) (Labels.lowest_label n at)) ≡ Labels.lowest_label n at
     go (inl x) = absurd (cc (sym e ∙ is_at_end (Labels.lowest_label n at) n x.0))
     go (inr x) = ap label (found_below (Labels.lowest_label n at) n x.0)
@@ -174,7 +176,8 @@ unfolding select
 find_none zero s f p h = refl
 find_none (suc n) s f p h =
     next_found n s f p
-    ∙ or_none (find p (map f (select n s))) (find p (map f (if s n then n ∷ [] else []))) (find_none n s f p (λ k l. h k (omega arith))) (none_last f p n (s n) (h n (omega arith)))
+    ∙ or_none (find p (map f (select n s))) (find p (map f (if s n then n ∷ [] else []))) (find_none n s f p (λ k l. h k (omega arith)))
+    (none_last f p n (s n) (h n (omega arith)))
 
 -- of the numbers that pass, the one whose value is asked for
 pub find_one :
@@ -216,7 +219,8 @@ alone_push {A = A} p (x ∷ xs) y a h = (head, alone_push p xs y a.1 (λ t. rest
     not_head : (b c : Bool) → p x ≡ b → b ≡ true → p y ≡ c → c ≡ false
     not_head b false e t g = refl
     not_head b true e t g =
-        absurd (let n : (if p x then Some x else find p xs) ≡ None = h g in let m : p x ≡ true = e ∙ t in cc (sym (ap (λ z. if z then Some x else find p xs) m) ∙ n))
+        absurd (let n : (if p x then Some x else find p xs) ≡ None = h g in let m : p x ≡ true = e
+        ∙ t in cc (sym (ap (λ z. if z then Some x else find p xs) m) ∙ n))
 
     head : p x ≡ true → find p (xs ++ y ∷ []) ≡ None
     head t =
@@ -229,7 +233,8 @@ pub alone_select :
 unfolding select
 alone_select zero s f p h = tt
 alone_select {A = A} (suc n) s f p h =
-    subst (IsAlone p) (sym (map-append f (select n s) (if s n then n ∷ [] else []))) (go (s n) refl (alone_select n s f p (λ j k l m. h j k (omega arith) (omega arith))))
+    subst (IsAlone p) (sym (map-append f (select n s) (if s n then n ∷ [] else [])))
+    (go (s n) refl (alone_select n s f p (λ j k l m. h j k (omega arith) (omega arith))))
   where
     nil : (xs : List A) → IsAlone p xs → IsAlone p (xs ++ [])
     nil xs a = subst (IsAlone p) (sym (append-nil xs)) a

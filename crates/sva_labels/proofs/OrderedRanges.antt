@@ -153,7 +153,9 @@ outcome_codes w (step.Fault e t q r x group l) h = adding_codes _ (fault_adds (w
 outcome_codes w (step.Finish e vector count) h = (tt, tt)
 outcome_codes w (step.Quit e t) h = (tt, tt)
 outcome_codes w (step.Deliver n) h =
-    adding_codes _ (deliver_adds w (w.part (w.way (Labels.name w n))) (w.way (Labels.name w n)) (Labels.name w n) ((w.part (w.way (Labels.name w n))).message (Labels.name w n)))
+    adding_codes _
+    (deliver_adds w (w.part (w.way (Labels.name w n))) (w.way (Labels.name w n)) (Labels.name w n)
+    ((w.part (w.way (Labels.name w n))).message (Labels.name w n)))
 outcome_codes w (step.Look f) h = tt
 outcome_codes w (step.Bearer t) h = tt
 

@@ -18,7 +18,8 @@ use Rattle.sva_labels.specs.Moves.{placed}
 -- is it a page of a space once pages went?
 left_test :
     (w : World) (s : ℕ) (pages : ℕ → Bool) (owed : ℕ → Owed) (t m : ℕ)
-    → is_page_of (without_pages w.mappings s pages owed) t m ≡ ((is_present (w.mappings.state m) && not (w.mappings.space m == s && pages (w.mappings.page m))) && w.mappings.space m == t)
+    → is_page_of (without_pages w.mappings s pages owed) t m
+    ≡ ((is_present (w.mappings.state m) && not (w.mappings.space m == s && pages (w.mappings.page m))) && w.mappings.space m == t)
 left_test w s pages owed t m =
     ap (λ b. b && w.mappings.space m == t) (gone_test (w.mappings.space m == s && pages (w.mappings.page m)) owed (w.mappings.state m))
 
@@ -27,7 +28,9 @@ pub other_space :
     → pages_wire (without_pages w.mappings s pages owed) t ≡ pages_wire w.mappings t
 other_space w s pages owed t ne =
     pages_same (with_mappings w (without_pages w.mappings s pages owed)) w t w.mappings.made
-    (λ m l. left_test w s pages owed t m ∙ others_kept (is_present (w.mappings.state m)) (w.mappings.space m == s) (w.mappings.space m == t) (pages (w.mappings.page m)) (λ a b. ne (sym (same_is (w.mappings.space m) s a) ∙ same_is (w.mappings.space m) t b)))
+    (λ m l. left_test w s pages owed t m
+    ∙ others_kept (is_present (w.mappings.state m)) (w.mappings.space m == s) (w.mappings.space m == t) (pages (w.mappings.page m))
+    (λ a b. ne (sym (same_is (w.mappings.space m) s a) ∙ same_is (w.mappings.space m) t b)))
     (λ m l. refl)
 
 same_space :
@@ -44,20 +47,27 @@ same_space w s pages owed (suc n) =
   where
     go :
         (b : Bool)
-        → (if b && not (pages (w.mappings.page n)) then insert_by is_lower_page (page_wire w.mappings n) (filter (λ entry. not (pages entry.page)) (pages_below w.mappings s n)) else filter (λ entry. not (pages entry.page)) (pages_below w.mappings s n)) ≡ filter (λ entry. not (pages entry.page)) (if b then insert_by is_lower_page (page_wire w.mappings n) (pages_below w.mappings s n) else pages_below w.mappings s n)
+        → (if b && not (pages (w.mappings.page n)) then insert_by is_lower_page (page_wire w.mappings n)
+        (filter (λ entry. not (pages entry.page)) (pages_below w.mappings s n)) else filter (λ entry. not (pages entry.page))
+        (pages_below w.mappings s n))
+        ≡ filter (λ entry. not (pages entry.page))
+        (if b then insert_by is_lower_page (page_wire w.mappings n) (pages_below w.mappings s n) else pages_below w.mappings s n)
     go true = sym (filter_insert (λ entry. not (pages entry.page)) (page_wire w.mappings n) (pages_below w.mappings s n) (pages_rising w s n))
     go false = refl
 
 pub pages_out :
     (w : World) (s : ℕ) (pages : ℕ → Bool) (owed : ℕ → Owed) (t : ℕ)
-    → pages_wire (without_pages w.mappings s pages owed) t ≡ (if s == t then filter (λ entry. not (pages entry.page)) (pages_wire w.mappings t) else pages_wire w.mappings t)
+    → pages_wire (without_pages w.mappings s pages owed) t
+    ≡ (if s == t then filter (λ entry. not (pages entry.page)) (pages_wire w.mappings t) else pages_wire w.mappings t)
 pages_out w s pages owed t = go (ℕ_cases s t)
   where
     go :
         (s ≡ t) ⊎ (s ≢ t)
-        → pages_wire (without_pages w.mappings s pages owed) t ≡ (if s == t then filter (λ entry. not (pages entry.page)) (pages_wire w.mappings t) else pages_wire w.mappings t)
+        → pages_wire (without_pages w.mappings s pages owed) t
+        ≡ (if s == t then filter (λ entry. not (pages entry.page)) (pages_wire w.mappings t) else pages_wire w.mappings t)
     go (inl e) =
-        subst (λ z. pages_wire (without_pages w.mappings s pages owed) z ≡ filter (λ entry. not (pages entry.page)) (pages_wire w.mappings z)) e (same_space w s pages owed w.mappings.made)
+        subst (λ z. pages_wire (without_pages w.mappings s pages owed) z ≡ filter (λ entry. not (pages entry.page)) (pages_wire w.mappings z)) e
+        (same_space w s pages owed w.mappings.made)
         ∙ sym (ap (λ b. if b then filter (λ entry. not (pages entry.page)) (pages_wire w.mappings t) else pages_wire w.mappings t) (is_same s t e))
     go (inr ne) =
         other_space w s pages owed t ne
@@ -99,7 +109,8 @@ any_page ms s p (suc n) = go (is_page_of ms s n) (any_page ms s p n)
 
     go :
         (b : Bool) → list_any p (pages_below ms s n) ≡ any_below n (λ m. is_page_of ms s m && p (page_wire ms m))
-        → list_any p (if b then insert_by is_lower_page (page_wire ms n) (pages_below ms s n) else pages_below ms s n) ≡ (if b && p (page_wire ms n) then true else any_below n (λ m. is_page_of ms s m && p (page_wire ms m)))
+        → list_any p (if b then insert_by is_lower_page (page_wire ms n) (pages_below ms s n) else pages_below ms s n)
+        ≡ (if b && p (page_wire ms n) then true else any_below n (λ m. is_page_of ms s m && p (page_wire ms m)))
     go true h =
         any_insert p (page_wire ms n) (pages_below ms s n)
         ∙ ap (λ b. p (page_wire ms n) || b) h
@@ -121,7 +132,8 @@ placed_is n g place [] = refl
 placed_is n g place (x ∷ pages) =
     ap (placed place pages) (sym (tabulate_set n g (put g x.frame place) x.frame place (put-same g x.frame place) (λ k ne. put-other g x.frame place k ne)))
     ∙ placed_is n (put g x.frame place) place pages
-    ∙ tabulate_same n (λ f. if list_any (λ x. x.frame == f) pages then place else put g x.frame place f) (λ f. if x.frame == f || list_any (λ x. x.frame == f) pages then place else g f)
+    ∙ tabulate_same n (λ f. if list_any (λ x. x.frame == f) pages then place else put g x.frame place f)
+    (λ f. if x.frame == f || list_any (λ x. x.frame == f) pages then place else g f)
     (λ f l. go f (list_any (λ x. x.frame == f) pages) (ℕ_cases f x.frame))
   where
     same : (b : Bool) → (if b then place else place) ≡ place

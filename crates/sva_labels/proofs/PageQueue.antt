@@ -55,7 +55,9 @@ queue_bind :
     → page_queue_wire (own p n (Own.Bind b s t)) ≡ page_queue_wire p
 queue_bind ms g n p b s t l gr =
     queue_same p (own p n (Own.Bind b s t)) refl (λ k m. refl) (λ k m. refl)
-    (λ k m a. ap (λ z. asked_of z (p.index (p.group_of (p.arrival k))) (p.asked_page (p.arrival k)) (p.asks_read (p.arrival k)) (p.asks_write (p.arrival k)) (p.is_last (p.arrival k))) (put-other p.pasid b t (p.asker (p.group_of (p.arrival k))) (apart (p.arrival k) (arrived_is (p.page_request (p.arrival k)) a))))
+    (λ k m a. ap
+    (λ z. asked_of z (p.index (p.group_of (p.arrival k))) (p.asked_page (p.arrival k)) (p.asks_read (p.arrival k)) (p.asks_write (p.arrival k))
+    (p.is_last (p.arrival k))) (put-other p.pasid b t (p.asker (p.group_of (p.arrival k))) (apart (p.arrival k) (arrived_is (p.page_request (p.arrival k)) a))))
   where
     apart : (r : ℕ) → p.page_request r ≡ Arrived → p.asker (p.group_of r) ≢ b
     apart r a e = before_bound (p.stage (p.asker (p.group_of r))) (gr.arrived_stage r a) (ap p.stage e ∙ l.2)
@@ -73,8 +75,11 @@ queue_group g n p b i q r x l bo qu =
 
     same : (y : ℕ) → y < p.page_requests → page_request_wire new y ≡ page_request_wire p y
     same y m =
-        ap (λ z. asked_of (p.pasid (new.asker z)) (new.index z) (new.asked_page y) (new.asks_read y) (new.asks_write y) (new.is_last y)) (old_put p.group_of p.page_requests y p.groups m)
-        ∙ (λ j. asked_of (p.pasid (old_put p.asker p.groups (p.group_of y) b (bo.group_of y m) j)) (old_put p.index p.groups (p.group_of y) i (bo.group_of y m) j) (old_put p.asked_page p.page_requests y q m j) (old_put p.asks_read p.page_requests y r m j) (old_put p.asks_write p.page_requests y x m j) (old_put p.is_last p.page_requests y l m j))
+        ap (λ z. asked_of (p.pasid (new.asker z)) (new.index z) (new.asked_page y) (new.asks_read y) (new.asks_write y) (new.is_last y))
+        (old_put p.group_of p.page_requests y p.groups m)
+        ∙ (λ j. asked_of (p.pasid (old_put p.asker p.groups (p.group_of y) b (bo.group_of y m) j))
+        (old_put p.index p.groups (p.group_of y) i (bo.group_of y m) j) (old_put p.asked_page p.page_requests y q m j)
+        (old_put p.asks_read p.page_requests y r m j) (old_put p.asks_write p.page_requests y x m j) (old_put p.is_last p.page_requests y l m j))
 
 queue_request : (g n : ℕ) (p : Part) (w q : ℕ) (r x l : Bool) → Queued p → page_queue_wire (own p n (Own.Request w q r x l)) ≡ page_queue_wire p
 queue_request g n p w q r x l qu =
@@ -87,7 +92,10 @@ queue_request g n p w q r x l qu =
 
     same : (y : ℕ) → y < p.page_requests → page_request_wire new y ≡ page_request_wire p y
     same y m =
-        λ j. asked_of (p.pasid (p.asker (old_put p.group_of p.page_requests y w m j))) (p.index (old_put p.group_of p.page_requests y w m j)) (old_put p.asked_page p.page_requests y q m j) (old_put p.asks_read p.page_requests y r m j) (old_put p.asks_write p.page_requests y x m j) (old_put p.is_last p.page_requests y l m j)
+        λ j.
+        asked_of (p.pasid (p.asker (old_put p.group_of p.page_requests y w m j))) (p.index (old_put p.group_of p.page_requests y w m j))
+        (old_put p.asked_page p.page_requests y q m j) (old_put p.asks_read p.page_requests y r m j) (old_put p.asks_write p.page_requests y x m j)
+        (old_put p.is_last p.page_requests y l m j)
 
 -- the oldest in the queue is filed
 
@@ -95,7 +103,8 @@ queue_file :
     (ms : Mappings) (g first n e : ℕ) (p : Part) (r : ℕ) → LegalOwn ms g p (Own.File r) → Queued p
     → page_queue_wire (own p n (Own.File r)) ≡ drop 1 (page_queue_wire p)
 queue_file ms g first n e p r l qu =
-    picked_drop p.arrivals (p.arrived_as r) (λ k. page_request_wire p (p.arrival k)) (λ k. page_request_wire p (p.arrival k)) (is_waiting p) (is_waiting (own p n (Own.File r)))
+    picked_drop p.arrivals (p.arrived_as r) (λ k. page_request_wire p (p.arrival k)) (λ k. page_request_wire p (p.arrival k)) (is_waiting p)
+    (is_waiting (own p n (Own.File r)))
     (qu.arrived r l.1).0
     (ap (λ z. is_arrived (p.page_request z)) (qu.arrived r l.1).1 ∙ ap is_arrived l.1)
     older
@@ -126,12 +135,15 @@ queue_arrive :
     (ms : Mappings) (g n : ℕ) (p : Part) (c r : ℕ) → LegalOwn ms g p (Own.Arrive c r) → Queued p
     → page_queue_wire (own p n (Own.Arrive c r)) ≡ page_queue_wire p ++ page_request_wire p r ∷ []
 queue_arrive ms g n p c r l qu =
-    picked_one_more p.arrivals (λ k. page_request_wire p (put p.arrival p.arrivals r k)) (λ k. is_arrived (put p.page_request r Arrived (put p.arrival p.arrivals r k)))
+    picked_one_more p.arrivals (λ k. page_request_wire p (put p.arrival p.arrivals r k))
+    (λ k. is_arrived (put p.page_request r Arrived (put p.arrival p.arrivals r k)))
     (ap (λ z. is_arrived (put p.page_request r Arrived z)) (put-same p.arrival p.arrivals r) ∙ ap is_arrived (put-same p.page_request r Arrived))
     ∙ ap₂ (λ xs x. xs ++ x ∷ [])
     (
-    picked_same p.arrivals (λ k. page_request_wire p (put p.arrival p.arrivals r k)) (λ k. page_request_wire p (p.arrival k)) (λ k. is_arrived (put p.page_request r Arrived (put p.arrival p.arrivals r k))) (is_waiting p)
-    (λ k m. ap (λ z. is_arrived (put p.page_request r Arrived z)) (old_put p.arrival p.arrivals k r m) ∙ ap is_arrived (put-other p.page_request r Arrived (p.arrival k) (landed c r p l.0 qu k m)))
+    picked_same p.arrivals (λ k. page_request_wire p (put p.arrival p.arrivals r k)) (λ k. page_request_wire p (p.arrival k))
+    (λ k. is_arrived (put p.page_request r Arrived (put p.arrival p.arrivals r k))) (is_waiting p)
+    (λ k m. ap (λ z. is_arrived (put p.page_request r Arrived z)) (old_put p.arrival p.arrivals k r m)
+    ∙ ap is_arrived (put-other p.page_request r Arrived (p.arrival k) (landed c r p l.0 qu k m)))
     (λ k m a. ap (page_request_wire p) (old_put p.arrival p.arrivals k r m))
     )
     (ap (page_request_wire p) (put-same p.arrival p.arrivals r))
@@ -143,7 +155,8 @@ dropped s = grind arith
 
 queue_reset : (n : ℕ) (p : Part) → page_queue_wire (own p n Own.Reset) ≡ []
 queue_reset n p =
-    picked_none p.arrivals (λ k. page_request_wire p (p.arrival k)) (λ k. is_arrived (dropped_arrived (p.page_request (p.arrival k)))) (λ k l. dropped (p.page_request (p.arrival k)))
+    picked_none p.arrivals (λ k. page_request_wire p (p.arrival k)) (λ k. is_arrived (dropped_arrived (p.page_request (p.arrival k))))
+    (λ k l. dropped (p.page_request (p.arrival k)))
 
 -- a completion of invalidations leaves it
 count_same : (first e c : ℕ) (m : Message) (queue : List PageRequestWire) → queue ≡ page_queue_moved queue (count_move first e c m)

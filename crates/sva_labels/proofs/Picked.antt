@@ -33,7 +33,8 @@ unfolding select
 picked_same zero f g p q h e = refl
 picked_same (suc n) f g p q h e =
     picked_next f n p
-    ∙ ap₂ (λ xs ys. xs ++ ys) (picked_same n f g p q (λ k l. h k (omega arith)) (λ k l. e k (omega arith))) (same_passes (p n) (q n) (f n) (g n) (h n (omega arith)) (e n (omega arith)))
+    ∙ ap₂ (λ xs ys. xs ++ ys) (picked_same n f g p q (λ k l. h k (omega arith)) (λ k l. e k (omega arith)))
+    (same_passes (p n) (q n) (f n) (g n) (h n (omega arith)) (e n (omega arith)))
     ∙ sym (picked_next g n q)
 
 pub picked_none : {A : Type 0} (n : ℕ) (f : ℕ → A) (p : ℕ → Bool) → ((k : ℕ) → k < n → p k ≡ false) → map f (select n p) ≡ []
@@ -97,7 +98,8 @@ picked_drop (suc n) k f g p q l h none gone other seen =
     go : (k ≡ n) ⊎ (k ≢ n) → (k < n → map g (select n q) ≡ drop 1 (map f (select n p))) → map g (select (suc n) q) ≡ drop 1 (map f (select (suc n) p))
     go (inl e) rest =
         picked_none (suc n) g q (none_left e)
-        ∙ sym (ap (drop 1) (picked_next f n p ∙ ap₂ (λ xs b. xs ++ if_passes b (f n)) (picked_none n f p (λ j m. none j (omega (arith, m, e)))) (ap p (sym e) ∙ h)))
+        ∙ sym (ap (drop 1)
+        (picked_next f n p ∙ ap₂ (λ xs b. xs ++ if_passes b (f n)) (picked_none n f p (λ j m. none j (omega (arith, m, e)))) (ap p (sym e) ∙ h)))
     go (inr ne) rest =
         let first = picked_first n k f p (omega arith) h none in
         picked_next g n q
@@ -138,6 +140,7 @@ unfolding select
 picked_filter zero f g p q c h i e = refl
 picked_filter (suc n) f g p q c h i e =
     picked_next g n q
-    ∙ ap₂ (λ xs ys. xs ++ ys) (picked_filter n f g p q c (λ k l. h k (omega arith)) (λ k l. i k (omega arith)) (λ k l. e k (omega arith))) (filter_passes c (p n) (q n) (f n) (g n) (h n (omega arith)) (i n (omega arith)) (e n (omega arith)))
+    ∙ ap₂ (λ xs ys. xs ++ ys) (picked_filter n f g p q c (λ k l. h k (omega arith)) (λ k l. i k (omega arith)) (λ k l. e k (omega arith)))
+    (filter_passes c (p n) (q n) (f n) (g n) (h n (omega arith)) (i n (omega arith)) (e n (omega arith)))
     ∙ sym (filter_append c (map f (select n p)) (if_passes (p n) (f n)))
     ∙ sym (ap (filter c) (picked_next f n p))

@@ -54,7 +54,8 @@ pub done_answers :
     (p : Part) (first count resets : ℕ) → IsBehind p first (first + count) resets → resets ≡ p.resets → p.order_state (first + count) ≡ Done
     → all_below (suc count) (λ j. is_done (p.order_state (first + j))) ≡ true
 done_answers p first count resets b same d =
-    all_below-intro (suc count) (λ j. is_done (p.order_state (first + j))) (λ j l. is_done_of (p.order_state (first + j)) (b.done same d (first + j) (omega arith) (omega (arith, l))))
+    all_below-intro (suc count) (λ j. is_done (p.order_state (first + j)))
+    (λ j l. is_done_of (p.order_state (first + j)) (b.done same d (first + j) (omega arith) (omega (arith, l))))
 
 pub ranges_open :
     (p : Part) (first count resets : ℕ) → IsBehind p first (first + count) resets → answered p (Ranges first count resets) ≡ false
@@ -120,7 +121,8 @@ silent_kept :
 silent_kept ms g n p o l sent or h Nothing d k = absurd (cc (k))
 silent_kept ms g n p o l sent or h (Ranges first count resets) d k =
     let z = ranges_open p first count resets d.1 k in
-    ranges_wait (own p n o) first count resets (z.0 ∙ sym (resets_kept p n o h)) (undone_kept ms g n p o l sent h (first + count) d.1.made d.1.is_a_wait (or.no_wait (first + count)) z.1)
+    ranges_wait (own p n o) first count resets (z.0 ∙ sym (resets_kept p n o h))
+    (undone_kept ms g n p o l sent h (first + count) d.1.made d.1.is_a_wait (or.no_wait (first + count)) z.1)
 silent_kept ms g n p o l sent or h (Pasid j x resets in_reset) d k =
     let z = pasid_open p j x resets in_reset d.1 k in
     pasid_waits (own p n o) j x resets in_reset (z.0 ∙ sym (resets_kept p n o h)) (undone_kept ms g n p o l sent h x d.1.made d.1.is_a_wait (or.no_wait x) z.1)
@@ -175,7 +177,8 @@ seen_same w v owed c h =
 
     same_targets : tabulate 8 (λ e. if nat_lt e w.config.endpoints then target_wire w.config.first (v.part e) (owed e) else None) ≡ tabulate 8 (λ e. if nat_lt e w.config.endpoints then target_wire w.config.first (w.part e) (owed e) else None)
     same_targets =
-        tabulate_same 8 (λ e. if nat_lt e w.config.endpoints then target_wire w.config.first (v.part e) (owed e) else None) (λ e. if nat_lt e w.config.endpoints then target_wire w.config.first (w.part e) (owed e) else None)
+        tabulate_same 8 (λ e. if nat_lt e w.config.endpoints then target_wire w.config.first (v.part e) (owed e) else None)
+        (λ e. if nat_lt e w.config.endpoints then target_wire w.config.first (w.part e) (owed e) else None)
         (λ e l. at e (nat_lt e w.config.endpoints) refl)
 
 pub places_kept : (w : World) (e : ℕ) (o : Own) → Legal w (At e o) → Invariant w → AllDebts w → settles o ≡ false → places_wire (act w (At e o)) ≡ places_wire w
@@ -185,7 +188,8 @@ places_kept w e o l i debts h =
     (λ x k. put_keeps (λ x q. IsSeenSame w.config.first (w.part x) q (owed x)) w.part e (own (w.part e) w.messages o)
     (record {
       answers =
-          answered_kept w.mappings w.bindings w.messages (w.part e) o l.1.0 (i.parts e).bounds (i.parts e).labels.sent (i.parts e).orders h (owed e) (debts m e owed gone);
+          answered_kept w.mappings w.bindings w.messages (w.part e) o l.1.0 (i.parts e).bounds (i.parts e).labels.sent (i.parts e).orders h (owed e)
+          (debts m e owed gone);
       target = target_kept w.config.first w.messages (w.part e) o (owed e) (debts m e owed gone);
     })
     (λ x. record { answers = refl; target = refl }) x))

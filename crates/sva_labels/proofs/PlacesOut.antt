@@ -33,7 +33,8 @@ pub places_changed :
 places_changed w v change c ms free mapped gone =
     ap (λ n. tabulate n (λ f. place_wire_by v f (place v f))) (ap (λ z. z.frames) c)
     ∙ tabulate_same w.config.frames (λ f. place_wire_by v f (place v f)) (λ f. change (place_wire_by w f (place w f)))
-    (λ f l. place_seen v v.mappings f ∙ (λ i. seen_at v (ms i).state ((ms i).latest f)) ∙ at (w.mappings.latest f) ∙ sym (ap change (place_seen w w.mappings f)))
+    (λ f l. place_seen v v.mappings f ∙ (λ i. seen_at v (ms i).state ((ms i).latest f)) ∙ at (w.mappings.latest f)
+    ∙ sym (ap change (place_seen w w.mappings f)))
     ∙ sym (map_tabulate change w.config.frames (λ f. place_wire_by w f (place w f)))
   where
     by_state : (m : ℕ) (s : MappingState) → w.mappings.state m ≡ s → seen_by v s ≡ change (seen_by w s)
@@ -68,8 +69,10 @@ pub places_out :
     → places_wire v ≡ placed there (filter (λ entry. pages entry.page) (pages_wire w.mappings s)) (places_wire w)
 places_out w v s pages owed there ma c ms here older =
     ap (λ n. tabulate n (λ f. place_wire_by v f (place v f))) (ap (λ z. z.frames) c)
-    ∙ tabulate_same w.config.frames (λ f. place_wire_by v f (place v f)) (λ f. if list_any (λ x. x.frame == f) (filter (λ entry. pages entry.page) (pages_wire w.mappings s)) then there else place_wire_by w f (place w f))
-    (λ f l. seen f ∙ sym (ap (λ b. if b then there else place_wire_by w f (place w f)) (any_among w.mappings s (λ x. x.frame == f) (λ entry. pages entry.page))))
+    ∙ tabulate_same w.config.frames (λ f. place_wire_by v f (place v f))
+    (λ f. if list_any (λ x. x.frame == f) (filter (λ entry. pages entry.page) (pages_wire w.mappings s)) then there else place_wire_by w f (place w f))
+    (λ f l. seen f
+    ∙ sym (ap (λ b. if b then there else place_wire_by w f (place w f)) (any_among w.mappings s (λ x. x.frame == f) (λ entry. pages entry.page))))
     ∙ sym (placed_is w.config.frames (λ f. place_wire_by w f (place w f)) there (filter (λ entry. pages entry.page) (pages_wire w.mappings s)))
   where
     after : ℕ → MappingState
@@ -114,7 +117,8 @@ places_out w v s pages owed there ma c ms here older =
     kept f m frame h (Gone old) e = ap (seen_by v) (gone_stays (w.mappings.space m == s && pages (w.mappings.page m)) old) ∙ older m old e
     kept f m frame h Present e =
         ap (λ b. seen_by v (gone_if b owed Present))
-        (untested (w.mappings.space m == s) (pages (w.mappings.page m)) (sym (λ i. (is_present (e i) && w.mappings.space m == s) && (pages (w.mappings.page m) && is_same (w.mappings.frame m) f frame i)) ∙ h))
+        (untested (w.mappings.space m == s) (pages (w.mappings.page m))
+        (sym (λ i. (is_present (e i) && w.mappings.space m == s) && (pages (w.mappings.page m) && is_same (w.mappings.frame m) f frame i)) ∙ h))
 
     still :
         (f : ℕ) → ((m : ℕ) → m < w.mappings.made → goes f m ≡ false) → (o : Option ℕ) → w.mappings.latest f ≡ o

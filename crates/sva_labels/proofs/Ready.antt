@@ -59,7 +59,8 @@ head_first p j l = go (lowest_cases p.orders (λ k. is_queued (p.order_state k))
     queued_is s k = grind arith
 
     go :
-        ((Labels.head p ≡ p.orders) × ((j : ℕ) → j < p.orders → is_queued (p.order_state j) ≡ false)) ⊎ ((Labels.head p < p.orders) × (is_queued (p.order_state (Labels.head p)) ≡ true) × ((j : ℕ) → j < Labels.head p → is_queued (p.order_state j) ≡ false))
+        ((Labels.head p ≡ p.orders) × ((j : ℕ) → j < p.orders → is_queued (p.order_state j) ≡ false)) ⊎ ((Labels.head p < p.orders)
+        × (is_queued (p.order_state (Labels.head p)) ≡ true) × ((j : ℕ) → j < Labels.head p → is_queued (p.order_state j) ≡ false))
         → p.order_state j ≢ Queued
     go (inl x) = queued_is (p.order_state j) (x.1 j (omega (arith, l, x.0)))
     go (inr x) = queued_is (p.order_state j) (x.2 j l)
@@ -109,7 +110,8 @@ serve_ready w e false i on l = file_ready w e (Labels.oldest_arrived (w.part e))
 
 first_job :
     (w : World) → JobsOf w → not (any_below w.jobs (Labels.is_queued_job w)) ≡ false
-    → HandsFirst w (w.job (lowest w.jobs (Labels.is_queued_job w))).endpoint (w.job (lowest w.jobs (Labels.is_queued_job w))).group (lowest w.jobs (Labels.is_queued_job w))
+    → HandsFirst w (w.job (lowest w.jobs (Labels.is_queued_job w))).endpoint (w.job (lowest w.jobs (Labels.is_queued_job w))).group
+    (lowest w.jobs (Labels.is_queued_job w))
 first_job w js h =
     let some = any_below-true w.jobs (Labels.is_queued_job w) (not_true (any_below w.jobs (Labels.is_queued_job w)) h) in
     let low = lowest_below w.jobs (Labels.is_queued_job w) some.0 some.1 some.2 in
@@ -140,7 +142,9 @@ reply_ready w x j v (Some code) = go (replies_success w j v)
   where
     go :
         (b : Bool)
-        → AreReady w ((if b then maps_to (job_space w j) (is_write_asked w j) (newly_mapped w j) (free_list w) else []) ++ LetGo x ∷ At (w.job j).endpoint (Own.Respond (w.job j).group code) ∷ [])
+        → AreReady w
+        ((if b then maps_to (job_space w j) (is_write_asked w j) (newly_mapped w j) (free_list w) else []) ++ LetGo x ∷ At (w.job j).endpoint
+        (Own.Respond (w.job j).group code) ∷ [])
     go true = maps_ready (job_space w j) (is_write_asked w j) (newly_mapped w j) (free_list w) w x (w.job j).endpoint (w.job j).group code
     go false = respond_ready w x (w.job j).endpoint (w.job j).group code
 
@@ -219,6 +223,7 @@ outcome_ready w (step.Fault e t q r x group l) i on js p = fault_ready w (w.part
 outcome_ready w (step.Finish e vector count) i on js p = ((tt, tt), tt)
 outcome_ready w (step.Quit e t) i on js p = ((tt, tt), tt)
 outcome_ready w (step.Deliver n) i on js p =
-    deliver_ready w (w.part (w.way (Labels.name w n))) (w.way (Labels.name w n)) (Labels.name w n) ((w.part (w.way (Labels.name w n))).message (Labels.name w n))
+    deliver_ready w (w.part (w.way (Labels.name w n))) (w.way (Labels.name w n)) (Labels.name w n)
+    ((w.part (w.way (Labels.name w n))).message (Labels.name w n))
 outcome_ready w (step.Look f) i on js p = tt
 outcome_ready w (step.Bearer t) i on js p = tt

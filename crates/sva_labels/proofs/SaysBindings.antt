@@ -65,7 +65,8 @@ label_same (Some k) = refl
 
 bind_alike : (w : World) (e n : ℕ) → Invariant w → w.rule ≡ PerSpace → IsAlike (causes_of (wire w) (step.Bind e n)) (refusals w (step.Bind e n))
 bind_alike w e n i r =
-    alike_more (no_such_endpoint (wire w) e) (names.no_such_endpoint w e) (no_such_space (wire w) n ∷ bind_causes (wire w) e n) (names.no_such_space w n ∷ names.bind_refusals w e (Labels.name w n))
+    alike_more (no_such_endpoint (wire w) e) (names.no_such_endpoint w e) (no_such_space (wire w) n ∷ bind_causes (wire w) e n)
+    (names.no_such_space w n ∷ names.bind_refusals w e (Labels.name w n))
     (endpoint_cause w e)
     (λ h.
     let l : e < w.config.endpoints = is_less e w.config.endpoints (sym (ap (λ c. c.0) (endpoint_cause w e)) ∙ h) in
@@ -86,7 +87,8 @@ bind_says w e n i r =
       alike = bind_alike w e n i r;
       result = λ k.
           let num = space_number w n (not_true (Labels.is_space w n) k.1.0) in
-          ap (λ t. bind_result (wire w) e n t) (ap label (ap (pasid_for (wire w)) (sym num) ∙ pasid_there w e (Labels.name w n) i r) ∙ label_same (Labels.pasid_for w e (Labels.name w n)))
+          ap (λ t. bind_result (wire w) e n t)
+          (ap label (ap (pasid_for (wire w)) (sym num) ∙ pasid_there w e (Labels.name w n) i r) ∙ label_same (Labels.pasid_for w e (Labels.name w n)))
           ∙ ap (λ m. bind_result (wire w) e m (the (Labels.pasid_for w e (Labels.name w n)))) (sym num);
     }
 
@@ -138,9 +140,11 @@ pub unbind_says : (w : World) (n : ℕ) → Invariant w → SaysAlike w (step.Un
 unbind_says w n i =
     record {
       alike =
-          of_number w n (unbind_causes (wire w)) (names.unbind_refusals w (w.home (Labels.name w n)) ((w.part (w.home (Labels.name w n))).stage (Labels.name w n))) refl
+          of_number w n (unbind_causes (wire w))
+          (names.unbind_refusals w (w.home (Labels.name w n)) ((w.part (w.home (Labels.name w n))).stage (Labels.name w n))) refl
           (λ e. let kept = (binding_is w n e).kept in
-          alike_same (unbind_causes (wire w) (Some (binding_seen w (Labels.name w n)))) (names.unbind_refusals w (w.home (Labels.name w n)) ((w.part (w.home (Labels.name w n))).stage (Labels.name w n)))
+          alike_same (unbind_causes (wire w) (Some (binding_seen w (Labels.name w n))))
+          (names.unbind_refusals w (w.home (Labels.name w n)) ((w.part (w.home (Labels.name w n))).stage (Labels.name w n)))
           (unbind_stages w (Labels.name w n) (home_there w (Labels.name w n) i kept) ((w.part (w.home (Labels.name w n))).stage (Labels.name w n))));
       result = λ k.
           ap (of_binding (λ b. results.unbind_by b b.stage)) (binding_found w n (not_true (Labels.is_binding w n) k.0))
@@ -172,8 +176,10 @@ advance_stages w b i f fi h (Draining wait) e =
     λ k.
     reset_cause w (w.home b) l k
     ∷ (
-      not ((ap (λ u. is_wait_done u (cookie_number w.config.first ((w.part (w.home b)).order wait))) (unit_seen w (w.home b) l) ∙ drained_there w.config.first w.cookies b wait (w.part (w.home b)) (f (w.home b)) (a_wait ((w.part (w.home b)).order wait) d.0) e) k)
-          || ((ap (λ p. has_open_group p (number w.config.first b)) (part_seen w (w.home b) l) ∙ open_there w.config.first w.bindings b w.mappings (w.part (w.home b)) (i.parts (w.home b)).bounds (fi (w.home b))) k),
+      not ((ap (λ u. is_wait_done u (cookie_number w.config.first ((w.part (w.home b)).order wait))) (unit_seen w (w.home b) l)
+          ∙ drained_there w.config.first w.cookies b wait (w.part (w.home b)) (f (w.home b)) (a_wait ((w.part (w.home b)).order wait) d.0) e) k)
+          || ((ap (λ p. has_open_group p (number w.config.first b)) (part_seen w (w.home b) l)
+          ∙ open_there w.config.first w.bindings b w.mappings (w.part (w.home b)) (i.parts (w.home b)).bounds (fi (w.home b))) k),
       refusal.NotYet,
     )
     ∷ ((ap (λ u. not (has_room u 2)) (unit_seen w (w.home b) l) ∙ room_there w.config.first 2 (w.part (w.home b))) k, refusal.QueueFull)
@@ -186,7 +192,12 @@ advance_stages w b i f fi h (Invalidating invalidation wait) e =
     let l = home_there w b i h in
     λ k.
     reset_cause w (w.home b) l k
-    ∷ (not ((ap (λ u. is_wait_done u (cookie_number w.config.first ((w.part (w.home b)).order wait))) (unit_seen w (w.home b) l) ∙ invalidated_there w.config.first w.cookies b invalidation wait (w.part (w.home b)) (f (w.home b)) ((i.parts (w.home b)).orders.invalidating b invalidation wait e).2 e) k), refusal.NotYet)
+    ∷ (
+      not ((ap (λ u. is_wait_done u (cookie_number w.config.first ((w.part (w.home b)).order wait))) (unit_seen w (w.home b) l)
+          ∙ invalidated_there w.config.first w.cookies b invalidation wait (w.part (w.home b)) (f (w.home b))
+          ((i.parts (w.home b)).orders.invalidating b invalidation wait e).2 e) k),
+      refusal.NotYet,
+    )
     ∷ []
 
 advanced_by :
@@ -205,9 +216,11 @@ pub advance_says : (w : World) (n : ℕ) → Invariant w → ((e : ℕ) → HasF
 advance_says w n i f fi =
     record {
       alike =
-          of_number w n (advance_causes (wire w)) (names.advance_refusals w (w.home (Labels.name w n)) (Labels.name w n) ((w.part (w.home (Labels.name w n))).stage (Labels.name w n))) refl
+          of_number w n (advance_causes (wire w))
+          (names.advance_refusals w (w.home (Labels.name w n)) (Labels.name w n) ((w.part (w.home (Labels.name w n))).stage (Labels.name w n))) refl
           (λ e.
-          alike_same (advance_causes (wire w) (Some (binding_seen w (Labels.name w n)))) (names.advance_refusals w (w.home (Labels.name w n)) (Labels.name w n) ((w.part (w.home (Labels.name w n))).stage (Labels.name w n)))
+          alike_same (advance_causes (wire w) (Some (binding_seen w (Labels.name w n))))
+          (names.advance_refusals w (w.home (Labels.name w n)) (Labels.name w n) ((w.part (w.home (Labels.name w n))).stage (Labels.name w n)))
           (advance_stages w (Labels.name w n) i f fi (binding_is w n e).kept ((w.part (w.home (Labels.name w n))).stage (Labels.name w n)) refl));
       result = λ k.
           ap (of_binding (λ b. results.advance_by b b.stage)) (binding_found w n (not_true (Labels.is_binding w n) k.0))

@@ -58,7 +58,8 @@ settled_place e settle targets h = go (list_all is_none targets) refl
         → settled_at e settle (if b then FreeWire else WithheldWire targets) ≡ place_for (slice_set targets e (settle (slice_index_or targets e None)))
     go false k = refl
     go true k =
-        sym (ap (λ b. if b then FreeWire else WithheldWire (slice_set targets e (settle (slice_index_or targets e None)))) (ap (λ t. list_all is_none (slice_set targets e t)) (ap settle (none_at targets e k) ∙ h) ∙ none_set targets e k))
+        sym (ap (λ b. if b then FreeWire else WithheldWire (slice_set targets e (settle (slice_index_or targets e None))))
+        (ap (λ t. list_all is_none (slice_set targets e t)) (ap settle (none_at targets e k) ∙ h) ∙ none_set targets e k))
 
 settled_seen :
     (w : World) (e : ℕ) (o : Own) (settle : Option TargetWire → Option TargetWire) (owed : ℕ → Owed) → settle None ≡ None
@@ -94,7 +95,8 @@ settled_seen w e o settle owed none l low h =
 pub settled_places :
     (w : World) (e : ℕ) (o : Own) (settle : Option TargetWire → Option TargetWire) → settle None ≡ None → e < w.config.endpoints
     → w.config.endpoints ≤ 8
-    → ((m : ℕ) (owed : ℕ → Owed) → w.mappings.state m ≡ Gone owed → target_wire w.config.first (own (w.part e) w.messages o) (owed e) ≡ settle (target_wire w.config.first (w.part e) (owed e)))
+    → ((m : ℕ) (owed : ℕ → Owed) → w.mappings.state m ≡ Gone owed → target_wire w.config.first (own (w.part e) w.messages o) (owed e)
+    ≡ settle (target_wire w.config.first (w.part e) (owed e)))
     → places_wire (act w (At e o)) ≡ settled e settle (places_wire w)
 settled_places w e o settle none l low h =
     places_changed w (act w (At e o)) (settled_at e settle) refl refl refl refl
@@ -137,7 +139,8 @@ pass_target ms g n cookies first p k v l bo sent f before after = go (answered p
 
     by_cookie :
         (x : ℕ) (b : Bool) → (cookie_number first (p.order x) == cookie_number first (p.order k)) ≡ b
-        → settled_cookie (cookie_number first (p.order k)) (Some (Cookie (cookie_number first (p.order x)))) ≡ (if b then None else Some (Cookie (cookie_number first (p.order x))))
+        → settled_cookie (cookie_number first (p.order k)) (Some (Cookie (cookie_number first (p.order x))))
+        ≡ (if b then None else Some (Cookie (cookie_number first (p.order x))))
     by_cookie x b h = ap (λ z. if z then None else Some (Cookie (cookie_number first (p.order x)))) h
 
     now_done : (x : ℕ) → x ≡ k → (own p n (Own.Pass k)).order_state x ≡ Done
@@ -154,11 +157,14 @@ pass_target ms g n cookies first p k v l bo sent f before after = go (answered p
       where
         which :
             (range + count ≡ k) ⊎ (range + count ≢ k) → (resets ≡ p.resets) × (p.order_state (range + count) ≢ Done)
-            → target_wire first (own p n (Own.Pass k)) (Ranges range count resets) ≡ settled_cookie (cookie_number first (p.order k)) (Some (Cookie (cookie_number first (p.order (range + count)))))
+            → target_wire first (own p n (Own.Pass k)) (Ranges range count resets)
+            ≡ settled_cookie (cookie_number first (p.order k)) (Some (Cookie (cookie_number first (p.order (range + count)))))
         which (inl e) z =
             ap (λ b. if b then None else Some (Cookie (cookie_number first (p.order (range + count)))))
-            (or_true (all_below (suc count) (λ j. is_done ((own p n (Own.Pass k)).order_state (range + j)))) (nat_lt resets p.resets) (done_answers (own p n (Own.Pass k)) range count resets a.1 z.0 (now_done (range + count) e)))
-            ∙ sym (by_cookie (range + count) true (is_same (cookie_number first (p.order (range + count))) (cookie_number first (p.order k)) (ap (λ y. cookie_number first (p.order y)) e)))
+            (or_true (all_below (suc count) (λ j. is_done ((own p n (Own.Pass k)).order_state (range + j)))) (nat_lt resets p.resets)
+            (done_answers (own p n (Own.Pass k)) range count resets a.1 z.0 (now_done (range + count) e)))
+            ∙ sym (by_cookie (range + count) true
+            (is_same (cookie_number first (p.order (range + count))) (cookie_number first (p.order k)) (ap (λ y. cookie_number first (p.order y)) e)))
         which (inr ne) z =
             ap (λ b. if b then None else Some (Cookie (cookie_number first (p.order (range + count)))))
             (ranges_wait (own p n (Own.Pass k)) range count resets z.0 (not_yet (range + count) ne z.1))
@@ -168,10 +174,13 @@ pass_target ms g n cookies first p k v l bo sent f before after = go (answered p
       where
         which :
             (x ≡ k) ⊎ (x ≢ k) → (resets ≡ p.resets) × (p.order_state x ≢ Done)
-            → target_wire first (own p n (Own.Pass k)) (Pasid j x resets false) ≡ settled_cookie (cookie_number first (p.order k)) (Some (Cookie (cookie_number first (p.order x))))
+            → target_wire first (own p n (Own.Pass k)) (Pasid j x resets false)
+            ≡ settled_cookie (cookie_number first (p.order k)) (Some (Cookie (cookie_number first (p.order x))))
         which (inl e) z =
             ap (λ b. if b then None else Some (Cookie (cookie_number first (p.order x))))
-            (or_true (is_done ((own p n (Own.Pass k)).order_state j) && is_done ((own p n (Own.Pass k)).order_state x)) (nat_lt resets p.resets) (both_done ((own p n (Own.Pass k)).order_state j) ((own p n (Own.Pass k)).order_state x) (a.1.done z.0 (now_done x e) j (omega arith) a.1.low) (now_done x e)))
+            (or_true (is_done ((own p n (Own.Pass k)).order_state j) && is_done ((own p n (Own.Pass k)).order_state x)) (nat_lt resets p.resets)
+            (both_done ((own p n (Own.Pass k)).order_state j) ((own p n (Own.Pass k)).order_state x)
+            (a.1.done z.0 (now_done x e) j (omega arith) a.1.low) (now_done x e)))
             ∙ sym (by_cookie x true (is_same (cookie_number first (p.order x)) (cookie_number first (p.order k)) (ap (λ y. cookie_number first (p.order y)) e)))
         which (inr ne) z =
             ap (λ b. if b then None else Some (Cookie (cookie_number first (p.order x))))
@@ -191,8 +200,10 @@ pub places_passed :
 places_passed w e k l i fronts debts low =
     settled_places w e (Own.Pass k) (settled_cookie (cookie_number w.config.first ((w.part e).order k))) refl l.0 low
     (λ m owed gone.
-    pass_target w.mappings w.bindings w.messages w.cookies w.config.first (w.part e) k (owed e) l.1.0 (i.parts e).bounds (i.parts e).labels.sent (fronts e) (debts m e owed gone)
-    (subst (λ p. FitsDebt p (owed e)) (put-same w.part e (own (w.part e) w.messages (Own.Pass k))) (act_debts w (At e (Own.Pass k)) l i fronts debts m e owed gone)))
+    pass_target w.mappings w.bindings w.messages w.cookies w.config.first (w.part e) k (owed e) l.1.0 (i.parts e).bounds (i.parts e).labels.sent
+    (fronts e) (debts m e owed gone)
+    (subst (λ p. FitsDebt p (owed e)) (put-same w.part e (own (w.part e) w.messages (Own.Pass k)))
+    (act_debts w (At e (Own.Pass k)) l i fronts debts m e owed gone)))
 
 -- A reset-done.
 
@@ -205,9 +216,11 @@ right_true a b h = grind arith
 reopen_answers : (n : ℕ) (p : Part) (c : ℕ) (v : Owed) → FitsDebt p v → answered (own p n (Own.Reopen c)) v ≡ true
 reopen_answers n p c Nothing d = refl
 reopen_answers n p c (Ranges range count resets) d =
-    right_true (all_below (suc count) (λ j. is_done ((own p n (Own.Reopen c)).order_state (range + j)))) (nat_lt resets (suc p.resets)) (later resets p.resets d.1.counted)
+    right_true (all_below (suc count) (λ j. is_done ((own p n (Own.Reopen c)).order_state (range + j)))) (nat_lt resets (suc p.resets))
+    (later resets p.resets d.1.counted)
 reopen_answers n p c (Pasid k x resets in_reset) d =
-    right_true (is_done ((own p n (Own.Reopen c)).order_state k) && is_done ((own p n (Own.Reopen c)).order_state x)) (nat_lt resets (suc p.resets)) (later resets p.resets d.1.counted)
+    right_true (is_done ((own p n (Own.Reopen c)).order_state k) && is_done ((own p n (Own.Reopen c)).order_state x)) (nat_lt resets (suc p.resets))
+    (later resets p.resets d.1.counted)
 reopen_answers n p c (AReset resets) d = later resets p.resets d.0
 
 pub places_reopened :
@@ -215,4 +228,5 @@ pub places_reopened :
     → places_wire (act w (At e (Own.Reopen c))) ≡ settled e (λ target. None) (places_wire w)
 places_reopened w e c l i debts low =
     settled_places w e (Own.Reopen c) (λ target. None) refl l.0 low
-    (λ m owed gone. ap (λ b. if b then None else Some (target_of w.config.first (own (w.part e) w.messages (Own.Reopen c)) (owed e))) (reopen_answers w.messages (w.part e) c (owed e) (debts m e owed gone)))
+    (λ m owed gone. ap (λ b. if b then None else Some (target_of w.config.first (own (w.part e) w.messages (Own.Reopen c)) (owed e)))
+    (reopen_answers w.messages (w.part e) c (owed e) (debts m e owed gone)))

@@ -33,7 +33,8 @@ pages_among first pages (t ∷ ss) s =
     go :
         (b : Bool) → (t == s) ≡ b
         → pages_of (map (space_by first pages) ss) (first + s) ≡ (if list_any (λ t. t == s) ss then Some (pages s) else None)
-        → (if b then Some (pages t) else pages_of (map (space_by first pages) ss) (first + s)) ≡ (if b || list_any (λ t. t == s) ss then Some (pages s) else None)
+        → (if b then Some (pages t) else pages_of (map (space_by first pages) ss) (first + s))
+        ≡ (if b || list_any (λ t. t == s) ss then Some (pages s) else None)
     go true e rest = ap (λ z. Some (pages z)) (same_is t s e)
     go false e rest = rest
 
@@ -119,7 +120,8 @@ with_pages_is first s pages others change (t ∷ ss) h =
 
     go :
         (a b : Bool) → a ≡ b
-        → space_by first (λ k. if a then change (pages t) else pages t) t ≡ (if b then record (space_by first pages t) { pages = change (pages t) } else space_by first pages t)
+        → space_by first (λ k. if a then change (pages t) else pages t) t
+        ≡ (if b then record (space_by first pages t) { pages = change (pages t) } else space_by first pages t)
     go true true e = refl
     go false false e = refl
     go true false e = absurd (cc (e))
@@ -137,7 +139,8 @@ without_is first s pages (t ∷ ss) =
   where
     go :
         (b : Bool)
-        → (if not b then space_by first pages t ∷ map (space_by first pages) (filter (λ t. not (t == s)) ss) else map (space_by first pages) (filter (λ t. not (t == s)) ss)) ≡ map (space_by first pages) (if not b then t ∷ filter (λ t. not (t == s)) ss else filter (λ t. not (t == s)) ss)
+        → (if not b then space_by first pages t ∷ map (space_by first pages) (filter (λ t. not (t == s)) ss) else map (space_by first pages)
+        (filter (λ t. not (t == s)) ss)) ≡ map (space_by first pages) (if not b then t ∷ filter (λ t. not (t == s)) ss else filter (λ t. not (t == s)) ss)
     go true = refl
     go false = refl
 
@@ -182,7 +185,8 @@ same_but first s pages others (t ∷ ss) h = go (ℕ_cases t s) (same_but first 
     go :
         (t ≡ s) ⊎ (t ≢ s)
         → map (space_by first others) (filter (λ t. not (t == s)) ss) ≡ map (space_by first pages) (filter (λ t. not (t == s)) ss)
-        → map (space_by first others) (if not (t == s) then t ∷ filter (λ t. not (t == s)) ss else filter (λ t. not (t == s)) ss) ≡ map (space_by first pages) (if not (t == s) then t ∷ filter (λ t. not (t == s)) ss else filter (λ t. not (t == s)) ss)
+        → map (space_by first others) (if not (t == s) then t ∷ filter (λ t. not (t == s)) ss else filter (λ t. not (t == s)) ss)
+        ≡ map (space_by first pages) (if not (t == s) then t ∷ filter (λ t. not (t == s)) ss else filter (λ t. not (t == s)) ss)
     go (inl e) k =
         ap (λ b. map (space_by first others) (if not b then t ∷ filter (λ t. not (t == s)) ss else filter (λ t. not (t == s)) ss)) (is_same t s e)
         ∙ k

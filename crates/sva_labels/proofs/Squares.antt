@@ -75,14 +75,16 @@ parts_after :
     (w : World) (e : ℕ) (o : Own)
     → (wire (act w (At e o))).parts ≡ slice_set (wire w).parts e (part_wire w.config.first w.mappings (part_after w e o))
 parts_after w e o =
-    tabulate_set w.config.endpoints (λ x. part_wire w.config.first w.mappings (w.part x)) (λ x. part_wire w.config.first w.mappings ((act w (At e o)).part x)) e (part_wire w.config.first w.mappings (part_after w e o))
+    tabulate_set w.config.endpoints (λ x. part_wire w.config.first w.mappings (w.part x))
+    (λ x. part_wire w.config.first w.mappings ((act w (At e o)).part x)) e (part_wire w.config.first w.mappings (part_after w e o))
     (ap (part_wire w.config.first w.mappings) (put-same w.part e (part_after w e o)))
     (λ x ne. ap (part_wire w.config.first w.mappings) (put-other w.part e (part_after w e o) x ne))
 
 -- the endpoint's part by its keepers
 abbrev pub PartMoves : World → (e : ℕ) → Own → Type 0
 PartMoves w e o =
-    part_wire w.config.first w.mappings (part_after w e o) ≡ part_moved (number w.config.first w.cookies) (part_wire w.config.first w.mappings (w.part e)) (own_move w.config.first e w.mappings (w.part e) o)
+    part_wire w.config.first w.mappings (part_after w e o)
+    ≡ part_moved (number w.config.first w.cookies) (part_wire w.config.first w.mappings (w.part e)) (own_move w.config.first e w.mappings (w.part e) o)
 
 abbrev pub PlacesMove : World → (e : ℕ) → Own → Type 0
 PlacesMove w e o = (wire (act w (At e o))).places ≡ (move_of w e o).places
@@ -109,7 +111,8 @@ square w e o i h l t pm places =
     parts : (wire (act w (At e o))).parts ≡ (move_of w e o).parts
     parts =
         parts_after w e o
-        ∙ ap (slice_set (wire w).parts e) (pm ∙ ap (λ p. part_moved (number w.config.first w.cookies) p (own_move w.config.first e w.mappings (w.part e) o)) (sym (part_seen w e l.0)))
+        ∙ ap (slice_set (wire w).parts e)
+        (pm ∙ ap (λ p. part_moved (number w.config.first w.cookies) p (own_move w.config.first e w.mappings (w.part e) o)) (sym (part_seen w e l.0)))
         ∙ sym (parts_left (wire w) w.config.first e w.mappings (w.part e) o)
 
     hands : (wire (act w (At e o))).hands ≡ (move_of w e o).hands

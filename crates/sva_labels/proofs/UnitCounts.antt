@@ -109,7 +109,8 @@ unit_count ms g first n next e p c names l la are owing = go (are c names l.0)
     go (vector, field, carried, low, bits, owed) =
         units_same first p q (queue_of first p) (completed vector (count_read field) (busy_of p)) (end_number first p.front) (end_number first p.waits_end) refl
         (states_queue first p q.order_state (λ k. queued k (names k) refl))
-        (tabulate_same 32 (λ t. option_map (λ k. busy_wire (q.order_state k)) (q.at_itag t)) (λ t. if is_set vector t then one_more (count_read field) (slice_index_or (busy_of p) t None) else slice_index_or (busy_of p) t None) (λ t m. at t m))
+        (tabulate_same 32 (λ t. option_map (λ k. busy_wire (q.order_state k)) (q.at_itag t))
+        (λ t. if is_set vector t then one_more (count_read field) (slice_index_or (busy_of p) t None) else slice_index_or (busy_of p) t None) (λ t m. at t m))
         refl
         refl
         ∙ ap (λ z. record (unit_wire first p) { busy = completed vector z (busy_of p) }) (sym (same_read field))
@@ -143,7 +144,8 @@ unit_count ms g first n next e p c names l la are owing = go (are c names l.0)
 
         by_name :
             (t k : ℕ) (b : Bool) → names k ≡ b → is_set vector t ≡ b
-            → option_map (λ j. busy_wire (q.order_state j)) (if names k && is_last_left (p.order_state k) then None else Some k) ≡ (if is_set vector t then one_more (count_read field) (Some (busy_wire (p.order_state k))) else Some (busy_wire (p.order_state k)))
+            → option_map (λ j. busy_wire (q.order_state j)) (if names k && is_last_left (p.order_state k) then None else Some k)
+            ≡ (if is_set vector t then one_more (count_read field) (Some (busy_wire (p.order_state k))) else Some (busy_wire (p.order_state k)))
         by_name t k b h i =
             outside (names k && is_last_left (p.order_state k))
             ∙ ap (λ z. counted_at z (p.order_state k)) h
@@ -152,13 +154,15 @@ unit_count ms g first n next e p c names l la are owing = go (are c names l.0)
           where
             outside :
                 (z : Bool)
-                → option_map (λ j. busy_wire (q.order_state j)) (if z then None else Some k) ≡ (if z then None else Some (busy_wire (counted_if (names k) (p.order_state k))))
+                → option_map (λ j. busy_wire (q.order_state j)) (if z then None else Some k)
+                ≡ (if z then None else Some (busy_wire (counted_if (names k) (p.order_state k))))
             outside true = refl
             outside false = refl
 
             inside :
                 (z : Bool) → names k ≡ z
-                → counted_at z (p.order_state k) ≡ (if z then one_more (count_read field) (Some (busy_wire (p.order_state k))) else Some (busy_wire (p.order_state k)))
+                → counted_at z (p.order_state k)
+                ≡ (if z then one_more (count_read field) (Some (busy_wire (p.order_state k))) else Some (busy_wire (p.order_state k)))
             inside false x = refl
             inside true x =
                 let (left, s) = owed k x in
@@ -167,7 +171,9 @@ unit_count ms g first n next e p c names l la are owing = go (are c names l.0)
 
         both :
             (t : ℕ) → t < 32 → (o : Option ℕ) → p.at_itag t ≡ o
-            → option_map (λ j. busy_wire (q.order_state j)) (unless (λ k. names k && is_last_left (p.order_state k)) o) ≡ (if is_set vector t then one_more (count_read field) (option_map (λ k. busy_wire (p.order_state k)) o) else option_map (λ k. busy_wire (p.order_state k)) o)
+            → option_map (λ j. busy_wire (q.order_state j)) (unless (λ k. names k && is_last_left (p.order_state k)) o)
+            ≡ (if is_set vector t then one_more (count_read field) (option_map (λ k. busy_wire (p.order_state k)) o) else option_map
+            (λ k. busy_wire (p.order_state k)) o)
         both t m None h = none (is_set vector t)
           where
             none : (z : Bool) → None ≡ (if z then one_more (count_read field) None else None)
@@ -177,7 +183,9 @@ unit_count ms g first n next e p c names l la are owing = go (are c names l.0)
 
         at :
             (t : ℕ) → t < 32
-            → option_map (λ k. busy_wire (q.order_state k)) (q.at_itag t) ≡ (if is_set vector t then one_more (count_read field) (slice_index_or (busy_of p) t None) else slice_index_or (busy_of p) t None)
+            → option_map (λ k. busy_wire (q.order_state k)) (q.at_itag t)
+            ≡ (if is_set vector t then one_more (count_read field) (slice_index_or (busy_of p) t None) else slice_index_or (busy_of p) t None)
         at t m =
             both t m (p.at_itag t) refl
-            ∙ ap (λ z. if is_set vector t then one_more (count_read field) z else z) (sym (tabulate_at 32 (λ t. option_map (λ k. busy_wire (p.order_state k)) (p.at_itag t)) t None m))
+            ∙ ap (λ z. if is_set vector t then one_more (count_read field) z else z)
+            (sym (tabulate_at 32 (λ t. option_map (λ k. busy_wire (p.order_state k)) (p.at_itag t)) t None m))

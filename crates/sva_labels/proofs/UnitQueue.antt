@@ -51,7 +51,8 @@ bind_queue :
     (ms : Mappings) (g first n : ℕ) (p : Part) (b s t : ℕ) → LegalOwn ms g p (Own.Bind b s t) → Orders p
     → queue_of first (own p n (Own.Bind b s t)) ≡ queue_of first p
 bind_queue ms g first n p b s t l or =
-    picked_same p.orders (λ k. descriptor first (own p n (Own.Bind b s t)) (p.order k)) (λ k. descriptor first p (p.order k)) (λ k. is_queued (p.order_state k)) (λ k. is_queued (p.order_state k))
+    picked_same p.orders (λ k. descriptor first (own p n (Own.Bind b s t)) (p.order k)) (λ k. descriptor first p (p.order k))
+    (λ k. is_queued (p.order_state k)) (λ k. is_queued (p.order_state k))
     (λ k m. refl)
     (λ k m q. go (p.order k) (or.undone_stage k (queued_apart (p.order_state k) q)))
   where
@@ -64,7 +65,8 @@ pub unit_bind :
     (ms : Mappings) (g first n next e : ℕ) (p : Part) (b s t : ℕ) → LegalOwn ms g p (Own.Bind b s t) → Orders p
     → unit_wire first (own p n (Own.Bind b s t)) ≡ unit_moved next (unit_wire first p) (own_move first e ms p (Own.Bind b s t))
 unit_bind ms g first n next e p b s t l or =
-    units_same first p (own p n (Own.Bind b s t)) (queue_of first p) (busy_of p) (end_number first p.front) (end_number first p.waits_end) refl (bind_queue ms g first n p b s t l or) refl refl refl
+    units_same first p (own p n (Own.Bind b s t)) (queue_of first p) (busy_of p) (end_number first p.front) (end_number first p.waits_end) refl
+    (bind_queue ms g first n p b s t l or) refl refl refl
 
 -- A wait with drain is submitted.
 
@@ -75,18 +77,21 @@ pub unit_drain :
     (ms : Mappings) (g first n next e : ℕ) (p : Part) (b cookie : ℕ) → Bounds g p → Labels p → next ≡ number first cookie
     → unit_wire first (own p n (Own.Drain b cookie)) ≡ unit_moved next (unit_wire first p) (own_move first e ms p (Own.Drain b cookie))
 unit_drain ms g first n next e p b cookie bo la h =
-    units_same first p q (queue_of first p ++ WaitDescriptor (number first cookie) true ∷ []) (busy_of p) (end_number first p.front) (suc (number first cookie)) refl
+    units_same first p q (queue_of first p ++ WaitDescriptor (number first cookie) true ∷ []) (busy_of p) (end_number first p.front)
+    (suc (number first cookie)) refl
     (
     picked_one_more p.orders (λ k. descriptor first q (q.order k)) (λ k. is_queued (q.order_state k)) (ap is_queued (put-same p.order_state p.orders Queued))
     ∙ ap₂ (λ xs x. xs ++ x ∷ [])
     (
-    picked_same p.orders (λ k. descriptor first q (q.order k)) (λ k. descriptor first p (p.order k)) (λ k. is_queued (q.order_state k)) (λ k. is_queued (p.order_state k))
+    picked_same p.orders (λ k. descriptor first q (q.order k)) (λ k. descriptor first p (p.order k)) (λ k. is_queued (q.order_state k))
+    (λ k. is_queued (p.order_state k))
     (λ k l. ap is_queued (old_put p.order_state p.orders k Queued l))
     (λ k l x. ap (descriptor first p) (old_put p.order p.orders k (Wait cookie true) l))
     )
     (ap (descriptor first p) (put-same p.order p.orders (Wait cookie true)))
     )
-    (borne_same 32 p.at_itag (λ k. busy_wire (q.order_state k)) (λ k. busy_wire (p.order_state k)) (λ t k m. ap busy_wire (old_put p.order_state p.orders k Queued (borne_made g p bo la t k m))))
+    (borne_same 32 p.at_itag (λ k. busy_wire (q.order_state k)) (λ k. busy_wire (p.order_state k))
+    (λ t k m. ap busy_wire (old_put p.order_state p.orders k Queued (borne_made g p bo la t k m))))
     refl
     (cookie_end first cookie)
     ∙ ap (λ z. unit_moved z (unit_wire first p) (own_move first e ms p (Own.Drain b cookie))) (sym h)
@@ -100,15 +105,18 @@ pub unit_invalidate :
     (ms : Mappings) (g first n next e : ℕ) (p : Part) (b cookie : ℕ) → Bounds g p → Labels p → next ≡ number first cookie
     → unit_wire first (own p n (Own.Invalidate b cookie)) ≡ unit_moved next (unit_wire first p) (own_move first e ms p (Own.Invalidate b cookie))
 unit_invalidate ms g first n next e p b cookie bo la h =
-    units_same first p q (queue_of first p ++ PasidDescriptor (p.pasid b) ∷ WaitDescriptor (number first cookie) false ∷ []) (busy_of p) (end_number first p.front) (suc (number first cookie)) refl
+    units_same first p q (queue_of first p ++ PasidDescriptor (p.pasid b) ∷ WaitDescriptor (number first cookie) false ∷ []) (busy_of p)
+    (end_number first p.front) (suc (number first cookie)) refl
     (
-    picked_one_more (suc p.orders) (λ k. descriptor first q (q.order k)) (λ k. is_queued (q.order_state k)) (ap is_queued (put-same (put p.order_state p.orders Queued) (suc p.orders) Queued))
+    picked_one_more (suc p.orders) (λ k. descriptor first q (q.order k)) (λ k. is_queued (q.order_state k))
+    (ap is_queued (put-same (put p.order_state p.orders Queued) (suc p.orders) Queued))
     ∙ ap₂ (λ xs x. xs ++ x ∷ [])
     (
     picked_one_more p.orders (λ k. descriptor first q (q.order k)) (λ k. is_queued (q.order_state k)) (ap is_queued (new_state refl))
     ∙ ap₂ (λ xs x. xs ++ x ∷ [])
     (
-    picked_same p.orders (λ k. descriptor first q (q.order k)) (λ k. descriptor first p (p.order k)) (λ k. is_queued (q.order_state k)) (λ k. is_queued (p.order_state k))
+    picked_same p.orders (λ k. descriptor first q (q.order k)) (λ k. descriptor first p (p.order k)) (λ k. is_queued (q.order_state k))
+    (λ k. is_queued (p.order_state k))
     (λ k l. ap is_queued (old_state k l))
     (λ k l x. ap (descriptor first p) (old_order k l))
     )
@@ -117,7 +125,8 @@ unit_invalidate ms g first n next e p b cookie bo la h =
     (ap (descriptor first p) (put-same (put p.order p.orders (PasidOf b)) (suc p.orders) (Wait cookie false)))
     ∙ two (queue_of first p) (PasidDescriptor (p.pasid b)) (WaitDescriptor (number first cookie) false)
     )
-    (borne_same 32 p.at_itag (λ k. busy_wire (q.order_state k)) (λ k. busy_wire (p.order_state k)) (λ t k m. ap busy_wire (old_state k (borne_made g p bo la t k m))))
+    (borne_same 32 p.at_itag (λ k. busy_wire (q.order_state k)) (λ k. busy_wire (p.order_state k))
+    (λ t k m. ap busy_wire (old_state k (borne_made g p bo la t k m))))
     refl
     (cookie_end first cookie)
     ∙ ap (λ z. unit_moved z (unit_wire first p) (own_move first e ms p (Own.Invalidate b cookie))) (sym h)
@@ -148,7 +157,8 @@ sent_queue :
     → ((j : ℕ) → j < k → p.order_state j ≢ Queued)
     → map (λ j. descriptor first p (p.order j)) (select p.orders (λ j. is_queued (put p.order_state k s j))) ≡ drop 1 (queue_of first p)
 sent_queue g first p k s bo h i none =
-    picked_drop p.orders k (λ j. descriptor first p (p.order j)) (λ j. descriptor first p (p.order j)) (λ j. is_queued (p.order_state j)) (λ j. is_queued (put p.order_state k s j))
+    picked_drop p.orders k (λ j. descriptor first p (p.order j)) (λ j. descriptor first p (p.order j)) (λ j. is_queued (p.order_state j))
+    (λ j. is_queued (put p.order_state k s j))
     (made (bo.order_state k)) (ap is_queued h) (λ j l. not_queued (p.order_state j) (none j l))
     (ap is_queued (put-same p.order_state k s) ∙ i)
     (λ j l ne. ap is_queued (put-other p.order_state k s j ne))
@@ -169,7 +179,8 @@ pub unit_send :
 unit_send ms g first n next e p k t l none bo la =
     units_same first p q (drop 1 (queue_of first p)) (slice_set (busy_of p) t (Some Fresh)) (end_number first p.front) (end_number first p.waits_end) refl
     (sent_queue g first p k Sent bo l.1 refl none)
-    (tabulate_set 32 (λ z. option_map (λ j. busy_wire (p.order_state j)) (p.at_itag z)) (λ z. option_map (λ j. busy_wire (q.order_state j)) (q.at_itag z)) t (Some Fresh) here other)
+    (tabulate_set 32 (λ z. option_map (λ j. busy_wire (p.order_state j)) (p.at_itag z))
+    (λ z. option_map (λ j. busy_wire (q.order_state j)) (q.at_itag z)) t (Some Fresh) here other)
     refl
     refl
   where

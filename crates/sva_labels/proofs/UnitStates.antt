@@ -26,7 +26,8 @@ pub states_queue :
     (first : ℕ) (p : Part) (s : ℕ → OrderState) → ((k : ℕ) → is_queued (s k) ≡ is_queued (p.order_state k))
     → map (λ k. descriptor first p (p.order k)) (select p.orders (λ k. is_queued (s k))) ≡ queue_of first p
 states_queue first p s h =
-    picked_same p.orders (λ k. descriptor first p (p.order k)) (λ k. descriptor first p (p.order k)) (λ k. is_queued (s k)) (λ k. is_queued (p.order_state k)) (λ k l. h k) (λ k l x. refl)
+    picked_same p.orders (λ k. descriptor first p (p.order k)) (λ k. descriptor first p (p.order k)) (λ k. is_queued (s k))
+    (λ k. is_queued (p.order_state k)) (λ k l. h k) (λ k l x. refl)
 
 pub states_busy :
     (p : Part) (s : ℕ → OrderState) → ((k : ℕ) → busy_wire (s k) ≡ busy_wire (p.order_state k))

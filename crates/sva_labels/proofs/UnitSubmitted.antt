@@ -77,7 +77,10 @@ new_wait p b q count order cookie = put-same (put_range p.order p.orders count (
 
 queue_submitted :
     (first : ℕ) (p : Part) (b q count order cookie : ℕ)
-    → map (λ k. descriptor first (submitted p b q count order cookie) ((submitted p b q count order cookie).order k)) (select (p.orders + suc count) (λ k. is_queued ((submitted p b q count order cookie).order_state k))) ≡ map (λ k. descriptor first p (p.order k)) (select p.orders (λ k. is_queued (p.order_state k))) ++ descriptors_for (p.pasid b) q count order (number first cookie)
+    → map (λ k. descriptor first (submitted p b q count order cookie) ((submitted p b q count order cookie).order k))
+    (select (p.orders + suc count) (λ k. is_queued ((submitted p b q count order cookie).order_state k)))
+    ≡ map (λ k. descriptor first p (p.order k)) (select p.orders (λ k. is_queued (p.order_state k))) ++ descriptors_for (p.pasid b) q count order
+    (number first cookie)
 unfolding tabulate
 queue_submitted first p b q count order cookie =
     picked_more p.orders (suc count) (λ k. descriptor first (submitted p b q count order cookie) ((submitted p b q count order cookie).order k))
@@ -108,11 +111,14 @@ cookie_end first cookie = omega arith
 
 pub unit_submitted :
     (g first : ℕ) (p : Part) (b q count order cookie : ℕ) → Bounds g p → Labels p
-    → unit_wire first (submitted p b q count order cookie) ≡ with_descriptors (unit_wire first p) (descriptors_for (p.pasid b) q count order (number first cookie)) (number first cookie)
+    → unit_wire first (submitted p b q count order cookie)
+    ≡ with_descriptors (unit_wire first p) (descriptors_for (p.pasid b) q count order (number first cookie)) (number first cookie)
 unit_submitted g first p b q count order cookie bo la =
     unit_same (is_open p.phase)
-    (map (λ k. descriptor first (submitted p b q count order cookie) ((submitted p b q count order cookie).order k)) (select (p.orders + suc count) (λ k. is_queued ((submitted p b q count order cookie).order_state k))))
-    (map (λ k. descriptor first p (p.order k)) (select p.orders (λ k. is_queued (p.order_state k))) ++ descriptors_for (p.pasid b) q count order (number first cookie))
+    (map (λ k. descriptor first (submitted p b q count order cookie) ((submitted p b q count order cookie).order k))
+    (select (p.orders + suc count) (λ k. is_queued ((submitted p b q count order cookie).order_state k))))
+    (map (λ k. descriptor first p (p.order k)) (select p.orders (λ k. is_queued (p.order_state k))) ++ descriptors_for (p.pasid b) q count order
+    (number first cookie))
     (tabulate 32 (λ t. option_map (λ k. busy_wire ((submitted p b q count order cookie).order_state k)) (p.at_itag t)))
     (tabulate 32 (λ t. option_map (λ k. busy_wire (p.order_state k)) (p.at_itag t)))
     (end_number first p.front)
@@ -136,7 +142,8 @@ taken_as ms p o uses =
       pasid = p.pasid (binding_of o);
       extent = extent_of o;
       slots =
-          tabulate 16 (λ t. holds_of (λ u. nat_lt u uses && (is_running (p.use_state u) && covers o (p.use_binding u) (ms.page (p.use_mapping u)))) (p.at_slot t));
+          tabulate 16
+          (λ t. holds_of (λ u. nat_lt u uses && (is_running (p.use_state u) && covers o (p.use_binding u) (ms.page (p.use_mapping u)))) (p.at_slot t));
     })
 
 pub device_submitted :

@@ -96,7 +96,8 @@ seen_targets w owed low =
 
     go :
         (b : Bool)
-        → gone_seen b (WithheldWire (tabulate 8 (target_at w.config.first w.config.endpoints w.part owed))) ≡ (if b then FreeWire else WithheldWire (tabulate 8 (target_at w.config.first w.config.endpoints w.part owed)))
+        → gone_seen b (WithheldWire (tabulate 8 (target_at w.config.first w.config.endpoints w.part owed)))
+        ≡ (if b then FreeWire else WithheldWire (tabulate 8 (target_at w.config.first w.config.endpoints w.part owed)))
     go true = refl
     go false = refl
 
@@ -135,7 +136,8 @@ invalidating_done cookies first p b k w or f st = go (p.order w) refl (or.invali
     front : (c : ℕ) (x : Bool) → p.order w ≡ Wait c x → nat_lt c p.front ≡ is_done (p.order_state w)
     front c x h =
         let d = (has_front cookies p or f).invalidating b k w c x st h in
-        same_both (nat_lt c p.front) (is_done (p.order_state w)) (λ l. ap is_done (d.1 (less_is c p.front l))) (λ z. is_less c p.front (d.0 (done_is (p.order_state w) z)))
+        same_both (nat_lt c p.front) (is_done (p.order_state w)) (λ l. ap is_done (d.1 (less_is c p.front l)))
+        (λ z. is_less c p.front (d.0 (done_is (p.order_state w) z)))
 
     go : (o : Order) → p.order w ≡ o → is_wait o ≡ true → nat_lt (cookie_number first o) (end_number first p.front) ≡ is_done (p.order_state w)
     go (Wait c x) h t = below_front first c p.front ∙ front c x h
@@ -154,15 +156,19 @@ ranges_wait_now p b q count order cookie h = grind (arith, nat_tests)
 
 unit_target :
     (first : ℕ) (p : Part) (b q count order cookie : ℕ) (o : Bool)
-    → target_wire first (submitted_if (o && true) p (Some b) q count order cookie) (owed_by_unit p count o) ≡ Some (if o then Cookie (number first cookie) else ResetEnd)
+    → target_wire first (submitted_if (o && true) p (Some b) q count order cookie) (owed_by_unit p count o)
+    ≡ Some (if o then Cookie (number first cookie) else ResetEnd)
 unit_target first p b q count order cookie true =
-    ap (λ z. if z then None else Some (target_of first (submitted p b q count order cookie) (Ranges p.orders count p.resets))) (ranges_wait (submitted p b q count order cookie) p.orders count p.resets refl (ranges_wait_now p b q count order cookie))
-    ∙ ap (λ z. Some (Cookie (cookie_number first z))) (put-same (put_range p.order p.orders count (λ j. RangeOf b (range_at q order j))) (p.orders + count) (Wait cookie false))
+    ap (λ z. if z then None else Some (target_of first (submitted p b q count order cookie) (Ranges p.orders count p.resets)))
+    (ranges_wait (submitted p b q count order cookie) p.orders count p.resets refl (ranges_wait_now p b q count order cookie))
+    ∙ ap (λ z. Some (Cookie (cookie_number first z)))
+    (put-same (put_range p.order p.orders count (λ j. RangeOf b (range_at q order j))) (p.orders + count) (Wait cookie false))
 unit_target first p b q count order cookie false = ap (λ z. if z then None else Some ResetEnd) (not_itself p.resets)
 
 stage_target :
     (cookies first : ℕ) (p : Part) (b q count order cookie : ℕ) → Orders p → Fronts cookies p → (s : Stage) → p.stage b ≡ s
-    → target_wire first (submitted_if (is_open p.phase && is_before_invalidating s) p (Some b) q count order cookie) (owed_by_stage p count s) ≡ target_by_stage (unit_wire first p) (number first cookie) (stage_wire first p s)
+    → target_wire first (submitted_if (is_open p.phase && is_before_invalidating s) p (Some b) q count order cookie) (owed_by_stage p count s)
+    ≡ target_by_stage (unit_wire first p) (number first cookie) (stage_wire first p s)
 stage_target cookies first p b q count order cookie or f Live st = unit_target first p b q count order cookie (is_open p.phase)
 stage_target cookies first p b q count order cookie or f (Stopping marked) st = unit_target first p b q count order cookie (is_open p.phase)
 stage_target cookies first p b q count order cookie or f (Draining wait) st = unit_target first p b q count order cookie (is_open p.phase)
@@ -193,7 +199,8 @@ stage_target cookies first p b q count order cookie or f Released st = refl
 
 pub target_new :
     (cookies first e : ℕ) (p : Part) (o : Option ℕ) (q count order cookie : ℕ) → Orders p → Fronts cookies p
-    → target_wire first (submitted_if (submits_at p o) p o q count order cookie) (owed_by p count o) ≡ target_by (unit_wire first p) (number first cookie) (option_map (binding_wire first e p) o)
+    → target_wire first (submitted_if (submits_at p o) p o q count order cookie) (owed_by p count o)
+    ≡ target_by (unit_wire first p) (number first cookie) (option_map (binding_wire first e p) o)
 target_new cookies first e p None q count order cookie or f = refl
 target_new cookies first e p (Some b) q count order cookie or f = stage_target cookies first p b q count order cookie or f (p.stage b) refl
 

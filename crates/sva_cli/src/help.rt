@@ -51,9 +51,11 @@ The config, and the steps that are read so far. S is a space, and a word in brac
 
     config E N W          1 to 8 endpoints, 1 to 4096 frames, 1 to 4 workers
     space                 a new empty space; at most 64 live ones
+    drop S                the space goes, and its frames are free
     map S PAGE r          the page leads to the lowest free frame, for reading
     map S PAGE w          for writing and reading; at most 1024 pages a space, numbers below 2^36
     unmap S PAGE [COUNT]  1 to 48 pages, 1 if missing, from PAGE on leave the space
+    unmapr S PAGE K       those of the 2^K pages from PAGE on, K 0 to 9, PAGE a multiple of 2^K
     look F                where frame F is: free, mapped or withheld
     bearer P              which space bears PASID P, 1 to 32
 

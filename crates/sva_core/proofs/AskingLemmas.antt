@@ -1,6 +1,6 @@
 -- The steps that only ask: their answers, and that nothing changes.
-use Rattle.std.proofs.Common.{◌≡◌, ◌≢◌, ℕ, ◌<◌, ◌≤◌, Bool, true, false, List, [], ◌∷◌, Option, Some, None, length, refl, sym, ap, ◌∙◌, zero, suc, arith}
-use Rattle.std.specs.Prelude.{nat_lt, nat_le, not, ◌&&◌, map, option_map, slice_get, slice_index_or, if◌then◌else◌, Ok, Err}
+use Rattle.std.proofs.Common.{◌≡◌, ◌≢◌, ℕ, ◌<◌, ◌≤◌, Bool, true, false, List, [], ◌∷◌, Some, length, refl, sym, ap, ◌∙◌, zero, suc, arith}
+use Rattle.std.specs.Prelude.{nat_lt, nat_le, not, ◌&&◌, option_map, slice_get, slice_index_or, Ok, Err}
 use Rattle.std.proofs.lemmas.Bool.Decides.{nat_tests}
 use Rattle.std.proofs.lemmas.List.{length-map}
 use Rattle.sva_frames.specs.declared.pool.Place.{Place}

@@ -3,7 +3,9 @@ pub mod FrameLists
 pub mod Counting
 pub mod Replies
 pub mod Taking
+pub mod Ranges
 pub mod LiveLists
+pub mod Dropping
 pub mod HostSteps
 pub mod ChangedSpace
 pub mod Opening

@@ -49,14 +49,14 @@ not_found lives n none = unmatched lives n (λ k other within. fails_before_firs
     below : (k p l : ℕ) → k < l → None ≡ cond (nat_lt p l) (Some p) None → k < p
     below k p l h none = grind (arith, nat_tests)
 
-same_live : (l live : Live) → Some l ≡ Some live → l ≡ live
+pub same_live : (l live : Live) → Some l ≡ Some live → l ≡ live
 same_live l live e = cc
 
 same_number : (a b : ℕ) → a ≡ b → (a == b) ≡ true
 same_number a b e = grind (arith, nat_tests)
 
 -- a space that is there is counted
-counted : (lives : List Live) (n i : ℕ) (live : Live) → slice_get lives i ≡ Some live → live.number ≡ n → 1 ≤ count_of n lives
+pub counted : (lives : List Live) (n i : ℕ) (live : Live) → slice_get lives i ≡ Some live → live.number ≡ n → 1 ≤ count_of n lives
 counted [] n i live there is = absurd (cc)
 counted (l ∷ ls) n zero live there is = by_test (l.number == n) (same l.number n (ap_number there))
   where

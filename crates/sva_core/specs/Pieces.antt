@@ -1,14 +1,14 @@
 -- What each piece of a step does, by numbers.
-use Rattle.std.specs.Prelude.{◌≡◌, ℕ, ◌+◌, Bool, true, false, List, Ok, Err, IsOk, slice_set, count_by}
+use Rattle.std.specs.Prelude.{◌≡◌, ℕ, ◌+◌, ◌^◌, Bool, true, false, List, Ok, Err, IsOk, filter, slice_set, count_by}
 use Rattle.sva_frames.specs.declared.pool.Counts.{Counts}
 use Rattle.sva_step.specs.declared.answers.Answer.TheVariants as answer
 use Rattle.sva_step.specs.declared.refusals.Refusal.TheVariants as refusal
 use Rattle.sva_step.specs.declared.steps.Step.{Step}
-use Rattle.sva_model.specs.Words.{all_below}
+use Rattle.sva_model.specs.Words.{all_below, count_below}
 use Rattle.sva_model.specs.Steps.{Reply}
 use Rattle.sva_model.specs.Wire.{Wire, PageWire, PlaceWire, insert_by, is_lower_page}
-use Rattle.sva_model.specs.Wire.PlaceWire.{MappedWire, WithheldWire}
-use Rattle.sva_wire.specs.Host.{reply_of, next_of, map_reply, unmap_reply, is_mapped, without, freed, is_free}
+use Rattle.sva_model.specs.Wire.PlaceWire.{FreeWire, MappedWire, WithheldWire}
+use Rattle.sva_wire.specs.Host.{reply_of, next_of, map_reply, unmap_reply, unmap_range_reply, is_mapped, is_between, without, freed, placed, is_free}
 
 -- the step by numbers; want of memory changes nothing, and comes only where the step would have been accepted
 abbrev pub ByNumbers : Wire → Step → Reply → Wire → Type 0
@@ -18,6 +18,10 @@ ByNumbers before step result after = (result ≡ reply_of before step) × (after
 -- each of `count` pages in a row is mapped
 unfoldable pub are_mapped : List PageWire → (page count : ℕ) → Bool
 are_mapped pages q count = all_below count (λ j. is_mapped pages (q + j))
+
+-- how many of `count` pages in a row are mapped
+unfoldable pub count_mapped : List PageWire → (page count : ℕ) → ℕ
+count_mapped pages q count = count_below count (λ j. is_mapped pages (q + j))
 
 -- the pages and the places after a page was mapped, by the answer
 abbrev pub PageMapped : List PageWire → List PlaceWire → (page : ℕ) (write : Bool) → Reply → List PageWire → List PlaceWire → Type 0
@@ -39,6 +43,16 @@ UnmapsPages pages places q count (Ok _) pages_after places_after = ⊥
 UnmapsPages pages places q count (Err refusal.OutOfMemory) pages_after places_after = ⊥
 UnmapsPages pages places q count result pages_after places_after =
     (result ≡ unmap_reply q count pages) × (pages_after ≡ pages) × (places_after ≡ places)
+
+-- and after a range was unmapped
+abbrev pub UnmapsRange : List PageWire → List PlaceWire → (page order : ℕ) → Reply → List PageWire → List PlaceWire → Type 0
+UnmapsRange pages places q order (Ok a) pages_after places_after =
+    (unmap_range_reply q order pages ≡ Ok a)
+    × (pages_after ≡ without q (2 ^ order) pages)
+    × (places_after ≡ placed FreeWire (filter (is_between q (2 ^ order)) pages) places)
+UnmapsRange pages places q order (Err refusal.OutOfMemory) pages_after places_after = ⊥
+UnmapsRange pages places q order result pages_after places_after =
+    (result ≡ unmap_range_reply q order pages) × (pages_after ≡ pages) × (places_after ≡ places)
 
 abbrev pub is_mapped_wire : PlaceWire → Bool
 is_mapped_wire MappedWire = true

@@ -20,7 +20,9 @@ FollowsAt w s result after = (result ≡ reply w s) × (after ≡ wire (next w s
 
 -- the steps whose room was made before: they never want memory
 abbrev pub TakesNoMemory : Step → Type 0
+TakesNoMemory (step.DropSpace n) = Unit {0}
 TakesNoMemory (step.Unmap n q count) = Unit {0}
+TakesNoMemory (step.UnmapRange n q order) = Unit {0}
 TakesNoMemory (step.Look f) = Unit {0}
 TakesNoMemory (step.Bearer t) = Unit {0}
 TakesNoMemory _ = ⊥

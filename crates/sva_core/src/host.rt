@@ -76,16 +76,17 @@ impl Host {
     {
         match step {
             Step::Space => self.space_step(),
+            Step::DropSpace { space } => self.drop_step(*space),
             Step::Map { space, page, write } => self.map_step(*space, *page, *write),
             Step::Unmap { space, page, count } => self.unmap_step(*space, *page, *count),
+            Step::UnmapRange { space, page, order } => self.range_step(*space, *page, *order),
             Step::Look { frame } => asking::look(&self.pool, *frame),
             Step::Bearer { pasid } => {
                 // Nothing of the host is asked; it is read so that the contract knows that nothing is bound.
                 let _spaces = &self.spaces;
                 asking::bearer(*pasid)
             }
-            Step::DropSpace { .. }
-            | Step::Bind { .. }
+            Step::Bind { .. }
             | Step::Unbind { .. }
             | Step::Advance { .. }
             | Step::Pump { .. }
@@ -100,8 +101,7 @@ impl Host {
             | Step::Fault { .. }
             | Step::Finish { .. }
             | Step::Quit { .. }
-            | Step::Deliver { .. }
-            | Step::UnmapRange { .. } => unreachable!(),
+            | Step::Deliver { .. } => unreachable!(),
         }
     }
 
@@ -127,6 +127,19 @@ impl Host {
         Ok(Answer::Space { space: number })
     }
 
+    fn drop_step(&mut self, space: u64) -> Result<Answer, Refusal>
+        ensures step { ByNumbers self.old (step.DropSpace space) result self.new }
+        ensures idle { IsIdle self.old }
+        ensures memory { result ≢ Err refusal.OutOfMemory }
+    {
+        let Some(place) = place_of(&self.spaces, space) else {
+            return Err(Refusal::NoSuchSpace);
+        };
+        let Live { number: _, space } = self.spaces.remove(place);
+        pages::give_all(space, &mut self.pool);
+        Ok(Answer::Gone)
+    }
+
     fn map_step(&mut self, space: u64, page: u64, write: bool) -> Result<Answer, Refusal>
         ensures step { ByNumbers self.old (step.Map space page write) result self.new }
         ensures idle { IsIdle self.old }
@@ -146,6 +159,17 @@ impl Host {
             return Err(Refusal::NoSuchSpace);
         };
         pages::unmap_pages(&mut self.spaces[place].space, &mut self.pool, page, count)
+    }
+
+    fn range_step(&mut self, space: u64, page: u64, order: u64) -> Result<Answer, Refusal>
+        ensures step { ByNumbers self.old (step.UnmapRange space page order) result self.new }
+        ensures idle { IsIdle self.old }
+        ensures memory { result ≢ Err refusal.OutOfMemory }
+    {
+        let Some(place) = place_of(&self.spaces, space) else {
+            return Err(Refusal::NoSuchSpace);
+        };
+        pages::unmap_range(&mut self.spaces[place].space, &mut self.pool, page, order)
     }
 
     /// How many frames are at each place.

@@ -1,16 +1,17 @@
 //! Pages and frames: what a step does to one space and to the pool.
 
-ghost use Rattle.std.specs.Prelude.{◌≡◌, ◌≢◌, ◌<◌, ◌≤◌, ◌+◌, ◌^◌, true, Err};
+ghost use Rattle.std.specs.Prelude.{◌≡◌, ◌≢◌, ◌<◌, ◌≤◌, ◌+◌, ◌^◌, true, Err, filter};
 ghost use Rattle.sva_step.specs.declared.refusals.Refusal.TheVariants as refusal;
 ghost use Rattle.sva_space.specs.Pages.{IsRising};
-ghost use Rattle.sva_wire.specs.Host.{frames_of, freed, without};
+ghost use Rattle.sva_wire.specs.Host.{frames_of, freed, is_between, placed, without};
+ghost use Rattle.sva_model.specs.Wire.PlaceWire.{FreeWire};
 ghost use Rattle.sva_core.specs.Seen.{frames_in, pages_seen, places_seen};
 ghost use Rattle.sva_core.specs.Owned.{Owns, Balanced, Spent};
-ghost use Rattle.sva_core.specs.Pieces.{are_mapped, MapsPage, UnmapsPages};
+ghost use Rattle.sva_core.specs.Pieces.{are_mapped, count_mapped, MapsPage, UnmapsPages, UnmapsRange};
 
 use sva_frames::FramePool;
 use sva_space::Space;
-use sva_step::{Answer, FrameList, MOST_PAGES, PAGES, Refusal};
+use sva_step::{Answer, FrameList, MOST_ORDER, MOST_PAGES, PAGES, Refusal};
 
 /// How many pages a space has at most.
 const MOST_MAPPED: usize = 1024;
@@ -105,6 +106,60 @@ fn take_out(space: &mut Space, pool: &mut FramePool, page: u64, count: u64) -> F
         };
         frames.push(taken.number());
         pool.give(taken);
+    }
+    frames
+}
+
+/// Takes a range of 2^`order` pages out of a space, those of them that are mapped, and gives their frames back.
+pub fn unmap_range(
+    space: &mut Space,
+    pool: &mut FramePool,
+    page: u64,
+    order: u64,
+) -> Result<Answer, Refusal>
+    requires { Owns space.old pool.old }
+    ensures step { UnmapsRange (pages_seen space.old) (places_seen pool.old) page order result (pages_seen space.new) (places_seen pool.new) }
+    ensures memory { result ≢ Err refusal.OutOfMemory }
+    ensures balanced { Balanced space.old pool.old space.new pool.new }
+{
+    if order > u64::from(MOST_ORDER) {
+        return Err(Refusal::BadOrder);
+    }
+    let count = 1u64 << order;
+    if page > PAGES - count {
+        return Err(Refusal::PageRange);
+    }
+    if page % count != 0 {
+        return Err(Refusal::NotAligned);
+    }
+    // How many pages the space has doesn't matter; it is read so that the contract knows that they rise.
+    let _pages = space.len();
+    let frames = take_mapped(space, pool, page, count);
+    if frames == 0 {
+        return Err(Refusal::NothingMapped);
+    }
+    Ok(Answer::RangeFree { frames })
+}
+
+/// Takes those of `count` pages in a row that are mapped out of a space, gives their frames back, and answers how many they
+/// are.
+fn take_mapped(space: &mut Space, pool: &mut FramePool, page: u64, count: u64) -> u32
+    requires range { page + count ≤ 2 ^ 36 }
+    requires few { count ≤ 512 }
+    requires rising { IsRising space.old }
+    requires owned { Owns space.old pool.old }
+    ensures frames { result ≡ count_mapped (pages_seen space.old) page count }
+    ensures none { result ≡ 0 → (space.new ≡ space.old) × (pool.new ≡ pool.old) }
+    ensures pages { pages_seen space.new ≡ without page count (pages_seen space.old) }
+    ensures places { places_seen pool.new ≡ placed FreeWire (filter (is_between page count) (pages_seen space.old)) (places_seen pool.old) }
+    ensures balanced { Balanced space.old pool.old space.new pool.new }
+{
+    let mut frames = 0;
+    for number in 0..count {
+        if let Some((freed, _write)) = space.unmap(page + number) {
+            pool.give(freed);
+            frames += 1;
+        }
     }
     frames
 }

@@ -27,6 +27,12 @@ fn unmap(space: u64, page: u64, count: u64) -> Step
     Step::Unmap { space, page, count }
 }
 
+fn range(space: u64, page: u64, order: u64) -> Step
+    ensures { IsOfSpaces result }
+{
+    Step::UnmapRange { space, page, order }
+}
+
 fn counts(free: u32, mapped: u32, withheld: u32) -> Counts {
     Counts {
         free,
@@ -146,6 +152,85 @@ fn refuses_what_is_mapped_or_not(rt: HostRuntime) {
 }
 
 #[test]
+fn drops_a_space_with_its_frames(rt: HostRuntime) {
+    let steps = [
+        Step::Space,
+        Step::Space,
+        map(0, 16, true),
+        map(1, 16, false),
+        map(0, 17, false),
+        Step::DropSpace { space: 0 },
+        Step::DropSpace { space: 0 },
+        map(0, 16, false),
+        map(1, 17, false),
+        Step::Space,
+    ];
+    let answers = [
+        Ok(Answer::Space { space: 0 }),
+        Ok(Answer::Space { space: 1 }),
+        Ok(Answer::Frame { frame: 0 }),
+        Ok(Answer::Frame { frame: 1 }),
+        Ok(Answer::Frame { frame: 2 }),
+        Ok(Answer::Gone),
+        Err(Refusal::NoSuchSpace),
+        Err(Refusal::NoSuchSpace),
+        Ok(Answer::Frame { frame: 0 }),
+        Ok(Answer::Space { space: 2 }),
+    ];
+    expect(&rt, rt.alloc(), &steps, &answers, counts(2, 2, 0));
+}
+
+#[test]
+fn takes_a_range_out(rt: HostRuntime) {
+    let steps = [
+        Step::Space,
+        map(0, 512, true),
+        map(0, 1023, false),
+        map(0, 1024, false),
+        range(0, 512, 9),
+        range(0, 512, 9),
+        map(0, 1024, false),
+        map(0, 512, false),
+    ];
+    let answers = [
+        Ok(Answer::Space { space: 0 }),
+        Ok(Answer::Frame { frame: 0 }),
+        Ok(Answer::Frame { frame: 1 }),
+        Ok(Answer::Frame { frame: 2 }),
+        Ok(Answer::RangeFree { frames: 2 }),
+        Err(Refusal::NothingMapped),
+        Err(Refusal::Mapped),
+        Ok(Answer::Frame { frame: 0 }),
+    ];
+    expect(&rt, rt.alloc(), &steps, &answers, counts(2, 2, 0));
+}
+
+#[test]
+fn refuses_ranges_in_order(rt: HostRuntime) {
+    let steps = [
+        range(0, 68719476735, 10),
+        Step::Space,
+        range(0, 68719476735, 10),
+        range(0, 68719476735, 1),
+        range(0, 17, 1),
+        range(0, 16, 1),
+        map(0, 68719476735, false),
+        range(0, 68719476734, 1),
+    ];
+    let answers = [
+        Err(Refusal::NoSuchSpace),
+        Ok(Answer::Space { space: 0 }),
+        Err(Refusal::BadOrder),
+        Err(Refusal::PageRange),
+        Err(Refusal::NotAligned),
+        Err(Refusal::NothingMapped),
+        Ok(Answer::Frame { frame: 0 }),
+        Ok(Answer::RangeFree { frames: 1 }),
+    ];
+    expect(&rt, rt.alloc(), &steps, &answers, counts(4, 0, 0));
+}
+
+#[test]
 fn refuses_4097_frames(rt: HostRuntime) {
     let config = Config {
         endpoints: 1,
@@ -221,9 +306,11 @@ fn tells_the_steps_that_are_built(rt: HostRuntime) {
     assert!(rt; is_built(&Step::Space));
     assert!(rt; is_built(&map(0, 16, true)));
     assert!(rt; is_built(&unmap(0, 16, 1)));
+    assert!(rt; is_built(&Step::DropSpace { space: 0 }));
+    assert!(rt; is_built(&range(0, 16, 1)));
     assert!(rt; is_built(&Step::Look { frame: 0 }));
     assert!(rt; is_built(&Step::Bearer { pasid: 1 }));
-    assert!(rt; !is_built(&Step::DropSpace { space: 0 }));
+    assert!(rt; !is_built(&Step::Unbind { binding: 0 }));
 }
 
 // Five spaces of twelve pages, for which each list and tree grows at least once.
@@ -253,5 +340,15 @@ fn goes_on_where_memory_was_refused(rt: HostRuntime) {
         Ok(freed_two(58, 59))
     );
     assert_eq!(rt; world.counts(), counts(6, 58, 0));
+    assert_eq!(rt;
+        apply(&rt, &mut world, range(3, 0, 4)),
+        Ok(Answer::RangeFree { frames: 12 })
+    );
+    assert_eq!(rt; world.counts(), counts(18, 46, 0));
+    assert_eq!(rt;
+        apply(&rt, &mut world, Step::DropSpace { space: 2 }),
+        Ok(Answer::Gone)
+    );
+    assert_eq!(rt; world.counts(), counts(30, 34, 0));
     world.close();
 }

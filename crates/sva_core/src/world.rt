@@ -52,7 +52,7 @@ impl World {
 
     /// Takes one step, of the kinds that `is_built` tells. A refused step changes nothing. `OutOfMemory` is answered where
     /// a growth is refused; the contract says that the definitions accept the step then and that nothing changes, and
-    /// that an unmap, a look and a bearer, which take no memory, never answer so.
+    /// that each step but a space and a map, which alone take memory, never answers so.
     pub fn apply(&mut self, step: &Step) -> Result<Answer, Refusal>
         requires { IsOfSpaces step.now }
         ensures step { Follows self.old step.now result self.new }
@@ -77,15 +77,18 @@ impl World {
     }
 }
 
-/// Tells that `apply` takes the step: one of `Space`, `Map`, `Unmap`, `Look` and `Bearer`.
+/// Tells that `apply` takes the step: one of `Space`, `DropSpace`, `Map`, `Unmap`, `UnmapRange`, `Look` and
+/// `Bearer`.
 pub fn is_built(step: &Step) -> bool
     ensures { IsTrue result ↔ IsOfSpaces step.now }
 {
     matches!(
         step,
         Step::Space
+            | Step::DropSpace { .. }
             | Step::Map { .. }
             | Step::Unmap { .. }
+            | Step::UnmapRange { .. }
             | Step::Look { .. }
             | Step::Bearer { .. }
     )

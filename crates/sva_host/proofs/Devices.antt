@@ -19,8 +19,8 @@ use Rattle.sva_msg.specs.declared.messages.Kind.{Kind}
 use Rattle.sva_msg.specs.Bag.{InFlight, with_sent}
 use Rattle.sva_endpoint.specs.Tables.{Tables}
 use Rattle.sva_endpoint.specs.Laws.{IsSound}
-use Rattle.sva_unit.specs.Messages.{message_seen}
 use Rattle.sva_views.specs.Device.{device_seen}
+use Rattle.sva_views.specs.Flights.{kind_seen}
 use Rattle.sva_host.specs.declared.host.Host.TheInside.{Inside}
 use Rattle.sva_host.specs.declared.host.Port.{Port}
 use Rattle.sva_host.specs.Inner.{part_seen, wire_of}
@@ -70,7 +70,7 @@ pub sent_done : (host : Inside) (s : Step) (e : ℕ) (port : Port) (tables : Tab
     → IsPort host e port
     → decide_of (wire_of host) s ≡ checked (numbers_spent host.in_flight.next 1 ∷ []) (by_one a m)
     → Sends host.in_flight e kind 1 (Ok tt) bag
-    → moved (wire_of host) m ≡ sent e (message_seen kind) (with_device (wire_of host) e d)
+    → moved (wire_of host) m ≡ sent e (kind_seen kind) (with_device (wire_of host) e d)
     → device_seen tables ≡ d
     → ByLabels (wire_of host) s (Ok a) (wire_of (record (with_tables host e port tables) { in_flight = bag }))
 sent_done host s e port tables kind bag a m d is decided sends moves same =
@@ -78,7 +78,7 @@ sent_done host s e port tables kind bag a m d is decided sends moves same =
     (sym (decided ∙ sent_decided host.in_flight bag e kind 1 (by_one a m) sends))
     (refl, after ∙ sym moves)
   where
-    after : wire_of (record (with_tables host e port tables) { in_flight = bag }) ≡ sent e (message_seen kind) (with_device (wire_of host) e d)
+    after : wire_of (record (with_tables host e port tables) { in_flight = bag }) ≡ sent e (kind_seen kind) (with_device (wire_of host) e d)
     after =
         ap (λ (b : InFlight). wire_of (record (with_tables host e port tables) { in_flight = b })) sends.1
         ∙ (λ i. record (with_tables_seen host e port tables d is same i) { in_flight = sent_seen host.in_flight (record { endpoint = e; kind = kind }) i; next_message = host.in_flight.next + 1 })

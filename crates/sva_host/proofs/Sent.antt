@@ -8,16 +8,15 @@ use Rattle.sva_model.specs.Wire.{Wire}
 use Rattle.sva_msg.specs.declared.messages.Kind.{Kind}
 use Rattle.sva_msg.specs.declared.messages.Message.{Message}
 use Rattle.sva_msg.specs.Bag.{InFlight, with_sent, copies_of}
-use Rattle.sva_unit.specs.Messages.{message_seen}
 use Rattle.sva_labels.specs.Causes.{lacks, numbers_spent}
 use Rattle.sva_labels.specs.Host.{Decision, checked}
 use Rattle.sva_labels.specs.Outcomes as outcomes
 use Rattle.sva_host.specs.Steps.{Does, Sends}
-use Rattle.sva_host.specs.Inner.{flight_seen, flights_seen}
+use Rattle.sva_views.specs.Flights.{flight_seen, flights_seen}
 
 -- one message more
 pub sent_seen : (bag : InFlight) (message : Message)
-    → flights_seen (with_sent bag message 1).messages ≡ flights_seen bag.messages ++ flight_seen (bag.next, message) ∷ []
+    → flights_seen (with_sent bag message 1) ≡ flights_seen bag ++ flight_seen (bag.next, message) ∷ []
 sent_seen bag message = map-append flight_seen bag.messages (copies_of message bag.next 1)
 
 -- what wasn't sent changed nothing

@@ -3,6 +3,7 @@
 use arrayvec::ArrayVec;
 use std::marker::Model;
 use sva_endpoint::Endpoint;
+use sva_memory::Memory;
 use sva_msg::Bag;
 use sva_pasid::Table;
 use sva_unit::Unit;
@@ -20,6 +21,7 @@ pub struct Port {
 /// A host with its endpoints and the link between them. Contracts see what all of it keeps by numbers and labels.
 #[derive(Drop)]
 pub struct Host {
+    pub(crate) memory: Memory,
     pub(crate) bindings: Table,
     pub(crate) ports: ArrayVec<Port, MOST_ENDPOINTS>,
     pub(crate) in_flight: Bag,

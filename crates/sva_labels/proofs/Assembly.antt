@@ -12,7 +12,7 @@ use Rattle.sva_model.specs.Acts.Act.{NewSpace, DropSpace, Map, Unmap, NewBinding
 use Rattle.sva_model.specs.Refusals.{Cause, refusals}
 use Rattle.sva_model.specs.Outcomes.{Outcome, outcome}
 use Rattle.sva_model.specs.Steps.{checked, decide, reply, next, after_acts}
-use Rattle.sva_model.specs.Wire.{device_wire, host_groups_wire, wire}
+use Rattle.sva_model.specs.Wire.{wire}
 use Rattle.sva_laws.proofs.Words.{put-same, put-other, ℕ_cases}
 use Rattle.sva_laws.proofs.Jobs.{is_past}
 use Rattle.sva_laws.proofs.Fronts.{AllFronts, act_fronts}
@@ -25,21 +25,19 @@ use Rattle.sva_laws.proofs.Cookies.{HasCookie}
 use Rattle.sva_laws.proofs.Passed.{Passed, LegalAll}
 use Rattle.sva_labels.specs.Moves.{moved, all_moved}
 use Rattle.sva_labels.specs.Host.{reply_of, next_of}
-use Rattle.sva_labels.proofs.Named.{own_move, act_move, act_moves}
-use Rattle.sva_labels.proofs.Kept.{device_moved, host_groups_moved}
+use Rattle.sva_labels.proofs.Named.{act_move, act_moves}
+use Rattle.sva_labels.proofs.Device.{device_square}
+use Rattle.sva_labels.proofs.HostGroups.{host_groups_in_turn}
+use Rattle.sva_labels.proofs.PlacesMoved.{places_moved}
 use Rattle.sva_labels.proofs.Alike.{SaysAlike, reply_alike, moves_alike}
 use Rattle.sva_labels.proofs.SentTo.{AreSentTo, act_sent}
 use Rattle.sva_labels.proofs.HostGroupsFiled.{AllFilings, filed_made, act_filings}
 use Rattle.sva_labels.proofs.SpaceActs.{new_space, map_page, drop_space}
 use Rattle.sva_labels.proofs.Unmapping.{unmap_pages}
-use Rattle.sva_labels.proofs.PlacesKept.{places_kept}
-use Rattle.sva_labels.proofs.Settling.{places_passed, places_reopened}
 use Rattle.sva_labels.proofs.UnitActs.{SendsFirst, unit_acts}
 use Rattle.sva_labels.proofs.PageQueue.{page_queue_acts}
-use Rattle.sva_labels.proofs.Flights.{part_after}
-use Rattle.sva_labels.proofs.Frame.{places_left}
 use Rattle.sva_labels.proofs.JobActs.{FilesOpen, JobsPast}
-use Rattle.sva_labels.proofs.Squares.{InTurn, HasTables, PartMoves, PlacesMove, files_open, square}
+use Rattle.sva_labels.proofs.Squares.{InTurn, HasTables, PartMoves, files_open, square}
 use Rattle.sva_labels.proofs.WorldActs.{binding_named, job_named, job_held, job_let_go}
 
 -- What holds of a world between the acts of a step.
@@ -126,69 +124,51 @@ act_stands w a l r s =
 
 -- The endpoint's part, keeper by keeper.
 
-abbrev pub DeviceMoves : World → (e : ℕ) → Own → Type 0
-DeviceMoves w e o = device_wire w.mappings (part_after w e o) ≡ device_moved (device_wire w.mappings (w.part e)) (own_move w.config.first e w.mappings (w.part e) o)
-
-abbrev pub GroupsMove : World → (e : ℕ) → Own → Type 0
-GroupsMove w e o = host_groups_wire w.config.first (part_after w e o) ≡ host_groups_moved (host_groups_wire w.config.first (w.part e)) (own_move w.config.first e w.mappings (w.part e) o)
-
 has_cookie : (w : World) (e : ℕ) (o : Own) → SuitsWorld w e o → HasCookie w.cookies o
 has_cookie w e (Own.Drain b cookie) s = s
 has_cookie w e (Own.Invalidate b cookie) s = s
 has_cookie w e _ s = tt
 
-pub part_moves : (w : World) (e : ℕ) (o : Own) → Stands w → Legal w (At e o) → SendsFirst (w.part e) o → DeviceMoves w e o → GroupsMove w e o → PartMoves w e o
-part_moves w e o s l f device groups =
-    let unit = unit_acts w.mappings w.config.endpoints w.bindings w.messages e w.config.first w.cookies (w.part e) o l.1.0 (has_cookie w e o l.1.1) f (s.invariant.parts e) (s.owed e) (s.carried e) in
-    let queue = page_queue_acts w.mappings w.config.endpoints w.bindings w.messages e w.config.first (w.part e) o l.1.0 (s.invariant.parts e) in
+pub part_moves : (w : World) (e : ℕ) (o : Own) → Stands w → Legal w (At e o) → IsReady w (At e o) → PartMoves w e o
+part_moves w e o s l r =
+    let p = w.part e in
+    let i = s.invariant.parts e in
+    let device = device_square w.config.first w.mappings w.config.endpoints w.bindings w.messages e p o l.1.0 i in
+    let unit = unit_acts w.mappings w.config.endpoints w.bindings w.messages e w.config.first w.cookies p o l.1.0 (has_cookie w e o l.1.1) r.1 i (s.owed e) (s.carried e) in
+    let queue = page_queue_acts w.mappings w.config.endpoints w.bindings w.messages e w.config.first p o l.1.0 i in
+    let groups = host_groups_in_turn w.mappings w.config.endpoints w.bindings w.messages e w.config.first p o l.1.0 i (files_open w e o r.0) (s.filings e) in
     λ k. record { device = device k; unit = unit k; page_queue = queue k; host_groups = groups k }
 
--- Places.
-
-places_move : (w : World) (e : ℕ) (o : Own) → Stands w → Legal w (At e o) → PlacesMove w e o
-places_move w e (Own.Pass k) s l = places_passed w e k l s.invariant s.fronts s.debts s.few
-places_move w e (Own.Reopen c) s l = places_reopened w e c l s.invariant s.debts s.few
-places_move w e o s l = places_kept w e o l s.invariant s.debts (grind arith) ∙ sym (places_left (wire w) w.config.first e w.mappings (w.part e) o (grind arith))
-
--- Each act is its move, where the device and the open groups of its endpoint are as the move leaves them.
-
-abbrev pub KeepersMove : World → Act → Type 0
-KeepersMove w (At e o) = DeviceMoves w e o × GroupsMove w e o
-KeepersMove w _ = Unit {0}
+-- Each act is its move.
 
 has_tables : (w : World) → Stands w → HasTables w
 has_tables w s = record { sent = s.sent; filed = λ e k l. filed_made w.bindings (w.part e) (s.invariant.parts e).bounds (s.filings e) k l; past = s.past }
 
-pub act_square : (w : World) (a : Act) → Stands w → Legal w a → IsReady w a → KeepersMove w a → wire (act w a) ≡ moved (wire w) (act_move w a)
-act_square w NewSpace s l r k = new_space w s.invariant
-act_square w (DropSpace x) s l r k = drop_space w x s.invariant
-act_square w (Map x q f b) s l r k = map_page w x q f b s.invariant
-act_square w (Unmap x q count order) s l r k = unmap_pages w x q count order s.invariant s.fronts s.debts s.few
-act_square w (NewBinding e) s l r k = binding_named w e s.invariant
-act_square w (NewJob e g) s l r k = job_named w e g s.invariant r
-act_square w (Hold x j) s l r k = job_held w x j
-act_square w (LetGo x) s l r k = job_let_go w x
-act_square w (At e o) s l r k = square w e o s.invariant (has_tables w s) l r.0 (part_moves w e o s l r.1 k.0 k.1) (places_move w e o s l)
+pub act_square : (w : World) (a : Act) → Stands w → Legal w a → IsReady w a → wire (act w a) ≡ moved (wire w) (act_move w a)
+act_square w NewSpace s l r = new_space w s.invariant
+act_square w (DropSpace x) s l r = drop_space w x s.invariant
+act_square w (Map x q f b) s l r = map_page w x q f b s.invariant
+act_square w (Unmap x q count order) s l r = unmap_pages w x q count order s.invariant s.fronts s.debts s.few
+act_square w (NewBinding e) s l r = binding_named w e s.invariant
+act_square w (NewJob e g) s l r = job_named w e g s.invariant r
+act_square w (Hold x j) s l r = job_held w x j
+act_square w (LetGo x) s l r = job_let_go w x
+act_square w (At e o) s l r = square w e o s.invariant (has_tables w s) l r.0 (part_moves w e o s l r) (places_moved w e o l s.invariant s.fronts s.debts s.few)
 
 -- One after another.
-
-abbrev pub AllKeepersMove : World → List Act → Type 0
-AllKeepersMove w [] = Unit {0}
-AllKeepersMove w (a ∷ acts) = KeepersMove w a × AllKeepersMove (act w a) acts
-
-pub acts_square : (acts : List Act) (w : World) → Stands w → LegalAll w acts → AreReady w acts → AllKeepersMove w acts → wire (after_acts w acts) ≡ all_moved (wire w) (act_moves w acts)
-acts_square [] w s l r k = refl
-acts_square (a ∷ acts) w s l r k =
-    acts_square acts (act w a) (act_stands w a l.0 r.0 s) l.1 r.1 k.1 ∙ ap (λ x. all_moved x (act_moves (act w a) acts)) (act_square w a s l.0 r.0 k.0)
+pub acts_square : (acts : List Act) (w : World) → Stands w → LegalAll w acts → AreReady w acts → wire (after_acts w acts) ≡ all_moved (wire w) (act_moves w acts)
+acts_square [] w s l r = refl
+acts_square (a ∷ acts) w s l r =
+    acts_square acts (act w a) (act_stands w a l.0 r.0 s) l.1 r.1 ∙ ap (λ x. all_moved x (act_moves (act w a) acts)) (act_square w a s l.0 r.0)
 
 -- A step by labels: the same answer, and what is left is the next world's.
 abbrev pub IsByLabels : World → Step → Type 0
 IsByLabels w s = (reply w s ≡ reply_of (wire w) s) × (wire (next w s) ≡ next_of (wire w) s)
 
-pub step_by_labels : (w : World) (s : Step) → Stands w → SaysAlike w s → LegalAll w (decide w s).acts → AreReady w (decide w s).acts → AllKeepersMove w (decide w s).acts → IsByLabels w s
-step_by_labels w s st says l r k = (
+pub step_by_labels : (w : World) (s : Step) → Stands w → SaysAlike w s → LegalAll w (decide w s).acts → AreReady w (decide w s).acts → IsByLabels w s
+step_by_labels w s st says l r = (
   sym (reply_alike w s says),
-  acts_square (decide w s).acts w st l r k ∙ sym (ap (all_moved (wire w)) (moves_alike w s says)),
+  acts_square (decide w s).acts w st l r ∙ sym (ap (all_moved (wire w)) (moves_alike w s says)),
 )
 
 checked_has : (P : List Act → Type 0) (cs : List Cause) (o : Outcome) → P [] → (Passed cs → P o.acts) → P (checked cs o).acts

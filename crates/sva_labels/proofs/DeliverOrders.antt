@@ -1,14 +1,13 @@
 -- The deliveries of an invalidation, of its completions and of a response by labels are those by names.
-use Rattle.std.proofs.Common.{◌≡◌, ◌≢◌, ◌⊎◌, inl, inr, refl, ap, ap₂, sym, subst, ◌∙◌, ℕ, zero, suc, ◌+◌, ◌-◌, ◌<◌, ◌≤◌, Bool, true, false, arith}
-use Rattle.std.specs.Prelude.{Option, Some, None, option_map, ◌&&◌, not, ◌==◌, if◌then◌else◌}
+use Rattle.std.proofs.Common.{◌≡◌, refl, ap, ap₂, sym, subst, ◌∙◌, ℕ, suc, ◌+◌, ◌-◌, ◌<◌, ◌≤◌, Bool, true, false, arith}
+use Rattle.std.specs.Prelude.{Some, None, option_map, ◌&&◌, ◌==◌, if◌then◌else◌}
 use Rattle.std.proofs.lemmas.Bool.Decides.{nat_tests}
 use Rattle.sva_step.specs.declared.answers.Answer.TheVariants as answer
 use Rattle.sva_model.specs.Words.{count_below, the}
-use Rattle.sva_model.specs.Range.{Range, IsRange, decode, encode}
 use Rattle.sva_model.proofs.RangeLemmas.{decode-encode}
-use Rattle.sva_model.specs.Message.{Code, Message}
+use Rattle.sva_model.specs.Message.{Code}
 use Rattle.sva_model.specs.Message.Message.{InvalidatedMessage}
-use Rattle.sva_model.specs.State.{About, Mappings, Part, World, Order, OrderState, GroupState}
+use Rattle.sva_model.specs.State.{Part, World, Order, GroupState}
 use Rattle.sva_model.specs.State.Order.{RangeOf, PasidOf, Wait}
 use Rattle.sva_model.specs.State.OrderState.{Owing}
 use Rattle.sva_model.specs.State.About.{InvalidateOf, InvalidatedOf, ResponseOf}
@@ -16,16 +15,13 @@ use Rattle.sva_model.specs.States.{is_open, is_busy, is_outstanding}
 use Rattle.sva_model.specs.Acts.{extent_of, scope_of, binding_of, is_last_left}
 use Rattle.sva_model.specs.Labels
 use Rattle.sva_model.specs.Outcomes as outcomes
-use Rattle.sva_model.specs.Wire.{UnitWire, BusyWire, number, group_wire, busy_wire, unit_wire, wire}
+use Rattle.sva_model.specs.Wire.{BusyWire, number, group_wire, busy_wire, wire}
 use Rattle.sva_laws.specs.Laws.{IsVectorOf, is_answerable}
-use Rattle.sva_laws.proofs.Words.{ℕ_cases}
 use Rattle.sva_laws.proofs.Counting.{count_placed}
-use Rattle.sva_laws.proofs.Invariant.{Invariant}
-use Rattle.sva_laws.proofs.Unmap.{open_is}
 use Rattle.sva_wire.proofs.Lists.{tabulate_at}
-use Rattle.sva_labels.specs.Finding.{device_of, unit_of, group_at, busy_at}
+use Rattle.sva_labels.specs.Finding.{unit_of, group_at, busy_at}
 use Rattle.sva_labels.specs.Moves.{Move, extent_in, extent_or_all}
-use Rattle.sva_labels.specs.Outcomes.{Result, by_one, response_said, count_result, count_read, is_last_of}
+use Rattle.sva_labels.specs.Outcomes.{by_one, response_said, count_result, count_read, is_last_of}
 use Rattle.sva_labels.proofs.Named.{count_move}
 use Rattle.sva_labels.proofs.EndpointViews.{device_seen, unit_seen}
 use Rattle.sva_labels.proofs.EndpointLookups.{group_seen}
@@ -162,7 +158,7 @@ freed_seen w e c vector field names r l v owed =
         let nm = first (names k) (is_last_left (p.order_state k)) h in (
           low_of k nm,
           both (Labels.is_set vector (p.itag k)) (is_last_of count (busy_at (unit_of (wire w) e) (p.itag k))) (v.named k nm)
-          (alike k nm (low_of k nm) ∙ second (names k) (is_last_left (p.order_state k)) h),
+              (alike k nm (low_of k nm) ∙ second (names k) (is_last_left (p.order_state k)) h),
           ap the (bears k nm),
         )
 

@@ -169,7 +169,7 @@ flying_alike w c (Some a) r l h s =
       ap (λ b. (not b, refusal.Overtakes)) (permitted_seen w c a r l h ∙ sym (ap (Labels.is_permitted_now (w.part (w.way c)) c) h)),
       λ f. (
         ap (λ b. (b && Labels.lacks w w.messages 1, refusal.NumbersSpent))
-        (sends_seen w (w.way c) c a r ((r.invariant.parts (w.way c)).near c (ap is_some h)) h ∙ sym (ap (names.delivery_sends (w.part (w.way c))) h)),
+            (sends_seen w (w.way c) c a r ((r.invariant.parts (w.way c)).near c (ap is_some h)) h ∙ sym (ap (names.delivery_sends (w.part (w.way c))) h)),
         λ g. tt,
       ),
     )

@@ -57,18 +57,20 @@ taken_drained ms g n p b cookie bo la =
 pub taken_invalidated : (ms : Mappings) (g n : ℕ) (p : Part) (b cookie : ℕ) → Bounds g p → Labels p → taken_wire ms (own p n (Own.Invalidate b cookie)) ≡ taken_wire ms p
 taken_invalidated ms g n p b cookie bo la =
     orders_same ms p (put (put p.order p.orders (Order.PasidOf b)) (suc p.orders) (Order.Wait cookie false)) (put (put p.order_state p.orders Queued) (suc p.orders) Queued)
-    (λ t k a. let l = busy_made p g k bo (la.itag_bears t k a).1 in
-    ( put-other (put p.order p.orders (Order.PasidOf b)) (suc p.orders) (Order.Wait cookie false) k (omega arith) ∙ put-other p.order p.orders (Order.PasidOf b) k (omega arith),
-      put-other (put p.order_state p.orders Queued) (suc p.orders) Queued k (omega arith) ∙ put-other p.order_state p.orders Queued k (omega arith)))
+    (λ t k a. let l = busy_made p g k bo (la.itag_bears t k a).1 in (
+      put-other (put p.order p.orders (Order.PasidOf b)) (suc p.orders) (Order.Wait cookie false) k (omega arith) ∙ put-other p.order p.orders (Order.PasidOf b) k (omega arith),
+      put-other (put p.order_state p.orders Queued) (suc p.orders) Queued k (omega arith) ∙ put-other p.order_state p.orders Queued k (omega arith),
+    ))
 
 -- invalidations of ranges with the wait behind them, as an unmapping submits them
 pub taken_submitted : (ms : Mappings) (g : ℕ) (p : Part) (b q count order cookie : ℕ) → Bounds g p → Labels p → taken_wire ms (submitted p b q count order cookie) ≡ taken_wire ms p
 taken_submitted ms g p b q count order cookie bo la =
     orders_same ms p (submitted p b q count order cookie).order (submitted p b q count order cookie).order_state
-    (λ t k a. let l = busy_made p g k bo (la.itag_bears t k a).1 in
-    ( put-other (put_range p.order p.orders count (λ j. Order.RangeOf b (range_at q order j))) (p.orders + count) (Order.Wait cookie false) k (omega arith)
-      ∙ older p.order count (λ j. Order.RangeOf b (range_at q order j)) k l,
-      older p.order_state (suc count) (λ j. Queued) k l))
+    (λ t k a. let l = busy_made p g k bo (la.itag_bears t k a).1 in (
+      put-other (put_range p.order p.orders count (λ j. Order.RangeOf b (range_at q order j))) (p.orders + count) (Order.Wait cookie false) k (omega arith)
+          ∙ older p.order count (λ j. Order.RangeOf b (range_at q order j)) k l,
+      older p.order_state (suc count) (λ j. Queued) k l,
+    ))
   where
     older : {A : Type 0} (f : ℕ → A) (many : ℕ) (new : ℕ → A) (k : ℕ) → k < p.orders → put_range f p.orders many new k ≡ f k
     older f many new k l = grind (arith, nat_tests)

@@ -1,25 +1,25 @@
 -- Quit by labels is Quit by names: what is busy of a PASID is what is busy of its bearer.
-use Rattle.std.proofs.Common.{◌≡◌, ◌≢◌, ◌⊎◌, inl, inr, refl, ap, ap₂, sym, ◌∙◌, ℕ, ◌<◌, Bool, true, false, arith}
+use Rattle.std.proofs.Common.{◌≡◌, inl, refl, ap, sym, ◌∙◌, ℕ, ◌<◌, Bool, true, false, arith}
 use Rattle.std.specs.Prelude.{Option, Some, None, option_map, ◌&&◌, ◌||◌, not, ◌==◌, if◌then◌else◌}
 use Rattle.std.specs.List.{list_any}
 use Rattle.std.proofs.lemmas.Bool.Decides.{nat_tests}
 use Rattle.sva_step.specs.declared.answers.Answer.TheVariants as answer
 use Rattle.sva_step.specs.declared.refusals.Refusal.TheVariants as refusal
 use Rattle.sva_step.specs.declared.steps.Step.TheVariants as step
-use Rattle.sva_model.specs.Words.{any_below, the}
+use Rattle.sva_model.specs.Words.{any_below}
 use Rattle.sva_model.specs.State.{Mappings, Part, World, GroupState, UseState}
 use Rattle.sva_model.specs.State.GroupState.{Unfinished}
-use Rattle.sva_model.specs.State.UseState.{Running, Dead, Ended}
+use Rattle.sva_model.specs.State.UseState.{Running}
 use Rattle.sva_model.specs.States.{is_ending, is_out, is_running, is_unfinished, is_outstanding}
 use Rattle.sva_model.specs.Claims.{IsBearer}
 use Rattle.sva_model.specs.Labels
 use Rattle.sva_model.specs.Refusals.{refusals}
-use Rattle.sva_model.specs.Wire.{DeviceWire, UseWire, request_wire, use_wire, group_wire, translation_wire, device_wire, wire}
+use Rattle.sva_model.specs.Wire.{UseWire, request_wire, use_wire, group_wire, translation_wire, device_wire, wire}
 use Rattle.sva_laws.proofs.Words.{not_true, any_below-true, any_below-intro}
 use Rattle.sva_laws.proofs.Labels.{has_slot}
 use Rattle.sva_laws.proofs.Invariant.{Invariant}
 use Rattle.sva_laws.proofs.Found.{found}
-use Rattle.sva_laws.proofs.Passed.{is_less, bearer_of}
+use Rattle.sva_laws.proofs.Passed.{bearer_of}
 use Rattle.sva_labels.specs.Finding.{device_of, pasid_state, is_request_of, is_use_of, is_unfinished_of}
 use Rattle.sva_labels.specs.Causes.{causes_of, is_busy_pasid}
 use Rattle.sva_labels.specs.Moves.{Move}
@@ -95,7 +95,7 @@ groups_busy w e t b i h =
           p.index g,
           (i.parts e).groups.index_low (p.index g) g there,
           ap (λ o. is_unfinished_of t (option_map (group_wire p) o)) there
-          ∙ both (is_unfinished (p.group g)) (p.pasid (p.asker g)) t x.0 (ap p.pasid x.1 ∙ ((i.parts e).labels.pasid_bears t b h).0),
+              ∙ both (is_unfinished (p.group g)) (p.pasid (p.asker g)) t x.0 (ap p.pasid x.1 ∙ ((i.parts e).labels.pasid_bears t b h).0),
         )
 
 pub tags_busy : (w : World) (e t b : ℕ) → Invariant w → (w.part e).at_pasid t ≡ Some b → list_any (is_request_of t) (device_wire w.mappings (w.part e)).tags ≡ Labels.is_request_out_of (w.part e) b
@@ -122,7 +122,7 @@ tags_busy w e t b i h =
           p.request_tag r,
           (i.parts e).labels.tag_low (p.request_tag r) r there,
           ap (λ o. is_request_of t (option_map (request_wire p) o)) there
-          ∙ itself (p.pasid (p.request_binding r)) t (ap p.pasid x.1 ∙ ((i.parts e).labels.pasid_bears t b h).0),
+              ∙ itself (p.pasid (p.request_binding r)) t (ap p.pasid x.1 ∙ ((i.parts e).labels.pasid_bears t b h).0),
         )
 
 running_is : (s : UseState) → is_running s ≡ true → s ≡ Running
@@ -163,8 +163,8 @@ slots_busy w e t b i h =
           p.use_slot u,
           (i.parts e).labels.slot_low (p.use_slot u) u there,
           ap (λ o. is_use_of t (option_map (use_wire w.mappings p) o)) there
-          ∙ use_of t w.mappings p u
-          ∙ both (is_running (p.use_state u)) (p.pasid (p.use_binding u)) t x.0 (ap p.pasid x.1 ∙ ((i.parts e).labels.pasid_bears t b h).0),
+              ∙ use_of t w.mappings p u
+              ∙ both (is_running (p.use_state u)) (p.pasid (p.use_binding u)) t x.0 (ap p.pasid x.1 ∙ ((i.parts e).labels.pasid_bears t b h).0),
         )
 
 stopping_cause : (w : World) (e t : ℕ) → Invariant w → e < w.config.endpoints → is_ending (pasid_state (device_of (wire w) e) t) ≡ Labels.is_told_to_stop (w.part e) t
@@ -189,8 +189,8 @@ quit_says w e t i =
               ap (λ b. (not b, refusal.NotStopping)) (stopping_cause w e t i (below_seen w e f)),
               λ f1. (
                 ap (λ b. (b, refusal.Busy))
-                (busy_cause w e t (Labels.bearer (w.part e) t) i (below_seen w e f)
-                (ending_bearer w e t (sym (stopping_cause w e t i (below_seen w e f)) ∙ not_true (is_ending (pasid_state (device_of (wire w) e) t)) f1))),
+                    (busy_cause w e t (Labels.bearer (w.part e) t) i (below_seen w e f)
+                    (ending_bearer w e t (sym (stopping_cause w e t i (below_seen w e f)) ∙ not_true (is_ending (pasid_state (device_of (wire w) e) t)) f1))),
                 λ f2. (refl, λ f3. tt),
               ),
             ),

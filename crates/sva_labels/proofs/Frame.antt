@@ -1,5 +1,5 @@
 -- What a move of one endpoint leaves of the whole, column by column: the endpoint's part, what is in flight, and the counters.
-use Rattle.std.proofs.Common.{◌≡◌, sym, ℕ, ◌+◌, true, false, arith}
+use Rattle.std.proofs.Common.{◌≡◌, sym, ℕ, ◌+◌, true, arith}
 use Rattle.std.specs.Prelude.{List, [], ◌∷◌, ◌++◌, slice_set}
 use Rattle.std.proofs.lemmas.List.{append-nil, set-get_or}
 use Rattle.sva_model.specs.Words.{tabulate}
@@ -15,7 +15,6 @@ use Rattle.sva_labels.proofs.Kept.{part_moved}
 use Rattle.sva_labels.proofs.Flights.{delivers, said, still_flying, newly_sent}
 use Rattle.sva_labels.proofs.Columns.{keeps_bindings}
 use Rattle.sva_labels.proofs.JobActs.{keeps_jobs}
-use Rattle.sva_labels.proofs.PlacesKept.{settles}
 
 pub hands_left : (w : Wire) (first e : ℕ) (ms : Mappings) (p : Part) (o : Own) → (moved w (own_move first e ms p o)).hands ≡ w.hands
 hands_left w first e ms p o = grind arith
@@ -60,7 +59,3 @@ unset w e = sym (set-get_or w.parts e idle)
 
 pub parts_left : (w : Wire) (first e : ℕ) (ms : Mappings) (p : Part) (o : Own) → (moved w (own_move first e ms p o)).parts ≡ slice_set w.parts e (part_moved w.next_cookie (part_of w e) (own_move first e ms p o))
 parts_left w first e ms p o = grind (arith, unset w e)
-
--- Places change where a wait is done and where a reset-done comes.
-pub places_left : (w : Wire) (first e : ℕ) (ms : Mappings) (p : Part) (o : Own) → settles o ≡ false → (moved w (own_move first e ms p o)).places ≡ w.places
-places_left w first e ms p o h = grind arith

@@ -118,7 +118,7 @@ arrived_in ms x g n e p r i on ph a = go (p.host_group (p.group_of r)) refl
     go (InHandDiscarded w) h = absurd (cc (sym out ∙ i.groups.discarded_over (p.group_of r) w ph h))
 
 -- what is asked in a group once a request is filed
-asks_filed : (p : Part) (n r h : ℕ) → asks_wire (own p n (Own.File r)) h ≡ asks_wire p h ++ if_passes (p.group_of r == h) (ask_wire p r)
+pub asks_filed : (p : Part) (n r h : ℕ) → asks_wire (own p n (Own.File r)) h ≡ asks_wire p h ++ if_passes (p.group_of r == h) (ask_wire p r)
 asks_filed p n r h =
     asks_seen (own p n (Own.File r)) h
     ∙ picked_next (λ k. ask_wire p (put p.filing p.filings r k)) p.filings (λ k. p.group_of (put p.filing p.filings r k) == h)

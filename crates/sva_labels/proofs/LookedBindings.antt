@@ -110,9 +110,6 @@ binding_released w e b i ne u =
 pub bearer_is : (w : World) (e t : ℕ) → Invariant w → bearer (wire w) e t ≡ option_map (binding_wire w.config.first e (w.part e)) ((w.part e).at_pasid t)
 bearer_is w e t i = find_seen (binding_seen w) (λ b. b.endpoint == e && b.pasid == t) w.bindings (is_kept w) ∙ go ((w.part e).at_pasid t) refl
   where
-    passes : (b : ℕ) → Bool
-    passes b = is_kept w b && (w.home b == e && (w.part (w.home b)).pasid b == t)
-
     bears : (b : ℕ) → (is_kept w b && (w.home b == e && (w.part (w.home b)).pasid b == t)) ≡ true → (w.part e).at_pasid t ≡ Some b
     bears b h =
         let rest = and_right (is_kept w b) (w.home b == e && (w.part (w.home b)).pasid b == t) h in

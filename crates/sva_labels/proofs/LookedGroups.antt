@@ -1,5 +1,5 @@
 -- The groups that the host has open, looked up in what it keeps: whether a binding has one.
-use Rattle.std.proofs.Common.{◌≡◌, ap, sym, ◌∙◌, ℕ, ◌+◌, ◌<◌, ◌≤◌, Bool, true, arith}
+use Rattle.std.proofs.Common.{◌≡◌, ap, sym, ◌∙◌, ℕ, ◌+◌, ◌<◌, ◌≤◌, true, arith}
 use Rattle.std.specs.Prelude.{◌&&◌, not, ◌==◌}
 use Rattle.sva_model.specs.Words.{lowest, any_below}
 use Rattle.sva_model.specs.State.{HostGroupState, Mappings, Part}
@@ -26,13 +26,13 @@ open_made : (g n : ℕ) (h : HostGroupState) → is_open_group h ≡ true → (n
 open_made g n h e k = grind (arith)
 
 -- the first filing of an open group
-record Begun (p : Part) (g : ℕ) : Type 0 where
-  filing : ℕ
-  made : filing < p.filings
-  its : p.group_of (p.filing filing) ≡ g
-  first : begins_open p filing ≡ true
+pub record Begun (p : Part) (g : ℕ) : Type 0 where
+  pub filing : ℕ
+  pub made : filing < p.filings
+  pub its : p.group_of (p.filing filing) ≡ g
+  pub first : begins_open p filing ≡ true
 
-begun : (p : Part) (g : ℕ) → Filings p → is_open_group (p.host_group g) ≡ true → Begun p g
+pub begun : (p : Part) (g : ℕ) → Filings p → is_open_group (p.host_group g) ≡ true → Begun p g
 begun p g fi h =
     let f = fi.begun g (open_filed (p.host_group g) h) in
     let low = lowest_below p.filings (λ k. p.group_of (p.filing k) == g) f.0 f.1 (is_same (p.group_of (p.filing f.0)) g f.2) in
@@ -54,9 +54,6 @@ open_there first m b ms p bo fi =
     any_seen p.filings (begins_open p) (λ k. host_group_wire first p (p.group_of (p.filing k))) (λ g. g.binding == first + b)
     ∙ both_ways (any_below p.filings (λ k. begins_open p k && first + p.filed_under (p.group_of (p.filing k)) == first + b)) (Labels.has_open_group p b) forth back
   where
-    is_begin : ℕ → Bool
-    is_begin k = begins_open p k && first + p.filed_under (p.group_of (p.filing k)) == first + b
-
     forth : any_below p.filings (λ k. begins_open p k && first + p.filed_under (p.group_of (p.filing k)) == first + b) ≡ true → Labels.has_open_group p b ≡ true
     forth h =
         let x = any_below-true p.filings (λ k. begins_open p k && first + p.filed_under (p.group_of (p.filing k)) == first + b) h in

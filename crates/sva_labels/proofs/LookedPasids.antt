@@ -61,18 +61,16 @@ pasid_there w e s i r =
     ∙ go (find w.bindings (λ b. is_kept w b && w.config.first + (w.part (w.home b)).space b == w.config.first + s)) refl
     ∙ ap (λ z. Labels.pasid_by z w e s) (sym r)
   where
-    test : ℕ → Bool
-    test b = is_kept w b && w.config.first + (w.part (w.home b)).space b == w.config.first + s
-
     one_space : (a b : ℕ) → w.config.first + a ≡ w.config.first + b → a ≡ b
     one_space a b h = omega arith
 
     kept_at : (d b : ℕ) → is_unreleased ((w.part d).stage b) ≡ true → (w.part d).space b ≡ s → (b < w.bindings) × ((is_kept w b && w.config.first + (w.part (w.home b)).space b == w.config.first + s) ≡ true)
     kept_at d b u sp =
-        let home : w.home b ≡ d = i.homed d b (unreleased_bound (w.part d) b u) in
-        (unreleased_made w.bindings (w.part d) b (i.parts d).bounds.stage u,
-        and_both (is_kept w b) (w.config.first + (w.part (w.home b)).space b == w.config.first + s) (ap (λ x. is_unreleased ((w.part x).stage b)) home ∙ u)
-        (is_same (w.config.first + (w.part (w.home b)).space b) (w.config.first + s) (ap (λ z. w.config.first + z) (ap (λ x. (w.part x).space b) home ∙ sp))))
+        let home : w.home b ≡ d = i.homed d b (unreleased_bound (w.part d) b u) in (
+          unreleased_made w.bindings (w.part d) b (i.parts d).bounds.stage u,
+          and_both (is_kept w b) (w.config.first + (w.part (w.home b)).space b == w.config.first + s) (ap (λ x. is_unreleased ((w.part x).stage b)) home ∙ u)
+              (is_same (w.config.first + (w.part (w.home b)).space b) (w.config.first + s) (ap (λ z. w.config.first + z) (ap (λ x. (w.part x).space b) home ∙ sp))),
+        )
 
     found_none : (t : ℕ) → find w.bindings (λ b. is_kept w b && w.config.first + (w.part (w.home b)).space b == w.config.first + s) ≡ None → Labels.is_borne_by w s t ≡ true → ⊥
     found_none t h k =
@@ -145,10 +143,11 @@ bearers w t i =
     back e None h k = absurd (cc (k))
     back e (Some b) h k =
         let la = (i.parts e).labels.pasid_bears t b h in
-        let home : w.home b ≡ e = i.homed e b (unreleased_bound (w.part e) b la.1) in
-        (unreleased_made w.bindings (w.part e) b (i.parts e).bounds.stage la.1,
-        and_both (is_kept w b) ((w.part (w.home b)).pasid b == t) (ap (λ d. is_unreleased ((w.part d).stage b)) home ∙ la.1)
-        (is_same ((w.part (w.home b)).pasid b) t (ap (λ d. (w.part d).pasid b) home ∙ la.0)))
+        let home : w.home b ≡ e = i.homed e b (unreleased_bound (w.part e) b la.1) in (
+          unreleased_made w.bindings (w.part e) b (i.parts e).bounds.stage la.1,
+          and_both (is_kept w b) ((w.part (w.home b)).pasid b == t) (ap (λ d. is_unreleased ((w.part d).stage b)) home ∙ la.1)
+              (is_same ((w.part (w.home b)).pasid b) t (ap (λ d. (w.part d).pasid b) home ∙ la.0)),
+        )
 
     one_endpoint : (d e : ℕ) (o p : Option ℕ) → (w.part d).at_pasid t ≡ o → (w.part e).at_pasid t ≡ p → is_some o ≡ true → is_some p ≡ true → the o ≡ the p → d ≡ e
     one_endpoint d e None p h k u v same = absurd (cc (u))

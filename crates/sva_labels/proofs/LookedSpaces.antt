@@ -4,19 +4,22 @@ use Rattle.std.specs.Prelude.{Option, Some, None, option_map, ◌&&◌, ◌==◌
 use Rattle.std.proofs.lemmas.Bool.Decides.{nat_tests}
 use Rattle.sva_model.specs.Words as words
 use Rattle.sva_model.specs.Words.{the, all_below, count_below, select, tabulate}
-use Rattle.sva_model.specs.State.{World}
+use Rattle.sva_model.specs.State.{World, Owed, MappingState}
 use Rattle.sva_model.specs.Outcomes.{frames_at}
 use Rattle.sva_model.specs.Labels
-use Rattle.sva_model.specs.Wire.{PageWire, SpaceWire, PlaceWire, number, page_wire, pages_wire, places_wire, wire}
+use Rattle.sva_model.specs.Wire.{PageWire, SpaceWire, PlaceWire, number, page_wire, pages_wire, places_wire, wire, withheld_wire, place_wire_by}
 use Rattle.sva_model.specs.Wire.PlaceWire.{FreeWire, MappedWire, WithheldWire}
 use Rattle.sva_laws.proofs.Words.{all_below-true}
 use Rattle.sva_laws.proofs.Invariant.{Mapped}
 use Rattle.sva_wire.specs.Host as numbers
 use Rattle.sva_wire.proofs.Lists.{tabulate_same}
 use Rattle.sva_wire.proofs.Pages.{page_at_is, pages_length}
-use Rattle.sva_wire.proofs.Places.{lowest_is}
+use Rattle.sva_wire.proofs.Places.{lowest_is, gone_seen, seen_by, seen_at, place_seen}
 use Rattle.sva_wire.proofs.Spaces.{space_found, space_missing}
 use Rattle.sva_labels.specs.Finding.{pages_of, is_space, or_no_pages, pages_in, page_at, is_mapped, frame_or_0, frames_of, is_free, lowest_free}
+use Rattle.sva_model.specs.State.MappingState.{Unmade, Present, Gone}
+use Rattle.sva_model.specs.States.{place, is_free_place, place_at, place_by, place_of_gone, answered}
+use Rattle.sva_labels.proofs.Lookups.{seen_some}
 
 -- Both crates say these look-ups, in the same words.
 
@@ -53,9 +56,6 @@ pub pages_there : (w : World) (n : ℕ) → Labels.is_space w n ≡ true → pag
 pages_there w n e = ap or_no_pages (pages_same (wire w).spaces n ∙ space_found w n e)
 
 -- a number and its name
-pub number_of : (w : World) (n : ℕ) → w.config.first < suc n → number w.config.first (Labels.name w n) ≡ n
-number_of w n l = omega arith
-
 pub name_of : (w : World) (s : ℕ) → Labels.name w (number w.config.first s) ≡ s
 name_of w s = omega arith
 
@@ -79,12 +79,8 @@ pages_of_name w s ma l =
 pub page_found : (w : World) (s q : ℕ) → Mapped w → page_at (pages_wire w.mappings s) q ≡ option_map (page_wire w.mappings) (w.mappings.at s q)
 page_found w s q ma = page_same (pages_wire w.mappings s) q ∙ page_at_is w ma s q
 
-over_some : {A : Type 0} (f : ℕ → A) (o : Option ℕ) → is_some (option_map f o) ≡ words.is_some o
-over_some f None = refl
-over_some f (Some k) = refl
-
 pub mapped_there : (w : World) (s q : ℕ) → Mapped w → is_mapped (pages_wire w.mappings s) q ≡ Labels.is_mapped w s q
-mapped_there w s q ma = ap is_some (page_found w s q ma) ∙ over_some (page_wire w.mappings) (w.mappings.at s q)
+mapped_there w s q ma = ap is_some (page_found w s q ma) ∙ seen_some (page_wire w.mappings) (w.mappings.at s q)
 
 pub pages_count : (w : World) (s : ℕ) → length (pages_wire w.mappings s) ≡ Labels.pages_of w s
 pages_count w s = pages_length w s w.mappings.made
@@ -103,3 +99,20 @@ frames_there w s q count ma h =
 
 pub lowest_there : (w : World) → lowest_free (places_wire w) ≡ Labels.lowest_frame w
 lowest_there w = lowest_same (places_wire w) ∙ lowest_is w
+
+-- is a frame free?
+pub frames_free : (w : World) (f : ℕ) → is_free (place_wire_by w f (place w f)) ≡ is_free_place (place w f)
+frames_free w f = ap is_free (place_seen w w.mappings f) ∙ go (w.mappings.latest f)
+  where
+    by_answers : (b : Bool) (owed : ℕ → Owed) → is_free (gone_seen b (withheld_wire w.config.first w.config.endpoints w.part (Gone owed))) ≡ is_free_place (place_of_gone b)
+    by_answers true owed = refl
+    by_answers false owed = refl
+
+    by_state : (s : MappingState) → is_free (seen_by w s) ≡ is_free_place (place_by w s)
+    by_state Unmade = refl
+    by_state Present = refl
+    by_state (Gone owed) = by_answers (all_below w.config.endpoints (λ x. answered (w.part x) (owed x))) owed
+
+    go : (o : Option ℕ) → is_free (seen_at w w.mappings.state o) ≡ is_free_place (place_at w o)
+    go None = refl
+    go (Some m) = by_state (w.mappings.state m)

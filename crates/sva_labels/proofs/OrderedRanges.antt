@@ -1,15 +1,15 @@
 -- Each range that is ordered of a unit is one that can be coded: of 1 to 512 pages, aligned, of page numbers below 2^36. An
 -- unmapping orders such ranges, by what its step has tested, and no other act orders a range.
-use Rattle.std.proofs.Common.{◌≡◌, ◌≢◌, ◌⊎◌, inl, inr, refl, ap, sym, subst, ◌∙◌, ℕ, zero, suc, ◌+◌, ◌-◌, ◌*◌, ◌%◌, ◌^◌, ◌<◌, ◌≤◌, Bool, true, false, arith}
-use Rattle.std.specs.Prelude.{Option, Some, None, ◌&&◌, not, ◌==◌, nat_lt, nat_le, if◌then◌else◌, List, [], ◌∷◌, Err}
+use Rattle.std.proofs.Common.{◌≡◌, ◌⊎◌, inl, inr, refl, subst, ℕ, ◌+◌, ◌-◌, ◌*◌, ◌%◌, ◌^◌, ◌<◌, ◌≤◌, Bool, true, false, arith}
+use Rattle.std.specs.Prelude.{Option, Some, None, not, ◌==◌, nat_lt, if◌then◌else◌, List, [], ◌∷◌, Err}
 use Rattle.std.proofs.lemmas.Bool.Decides.{nat_tests}
 use Rattle.std.proofs.lemmas.Nat.{pow_pos}
 use Rattle.sva_step.specs.declared.limits.Config.{Config}
 use Rattle.sva_step.specs.declared.steps.Step.{Step}
 use Rattle.sva_step.specs.declared.steps.Step.TheVariants as step
-use Rattle.sva_model.specs.Range.{Range, IsRange, pages_in}
-use Rattle.sva_model.specs.State.{PasidRule, Mappings, Order, Part, World, opened}
-use Rattle.sva_model.specs.State.Order.{RangeOf, PasidOf, Wait}
+use Rattle.sva_model.specs.Range.{Range, IsRange}
+use Rattle.sva_model.specs.State.{PasidRule, Part, World, opened}
+use Rattle.sva_model.specs.State.Order.{RangeOf}
 use Rattle.sva_model.specs.Acts.{Act, Own, act, own, range_at, submitted, submitted_if, submits, bound, cookie_of}
 use Rattle.sva_model.specs.Acts.Act.{NewSpace, DropSpace, Map, Unmap, NewBinding, NewJob, Hold, LetGo, At}
 use Rattle.sva_model.specs.Labels

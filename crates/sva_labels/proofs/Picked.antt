@@ -69,8 +69,8 @@ picked_first {A = A} (suc n) k f p l h none = go (ℕ_cases k n) (λ m. picked_f
     go (inl e) rest = (
       [],
       picked_next f n p
-      ∙ ap₂ (λ xs b. xs ++ if_passes b (f n)) (picked_none n f p (λ j m. none j (omega (arith, m, e)))) (ap p (sym e) ∙ h)
-      ∙ ap (λ z. f z ∷ []) (sym e),
+          ∙ ap₂ (λ xs b. xs ++ if_passes b (f n)) (picked_none n f p (λ j m. none j (omega (arith, m, e)))) (ap p (sym e) ∙ h)
+          ∙ ap (λ z. f z ∷ []) (sym e),
     )
     go (inr ne) rest = let (zs, e) = rest (omega arith) in (zs ++ if_passes (p n) (f n), picked_next f n p ∙ ap (λ xs. xs ++ if_passes (p n) (f n)) e)
 

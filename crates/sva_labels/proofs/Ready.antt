@@ -1,8 +1,7 @@
 -- The acts of each step come in their turn: a binding begins under the name that was just given, an order is sent from the head of
 -- the queue, a request is filed in a group that is open to it, and the first job is handed out.
-use Rattle.std.proofs.Common.{◌≡◌, ◌≢◌, ◌⊎◌, inl, inr, refl, ap, sym, ◌∙◌, ℕ, suc, ◌<◌, ◌≤◌, Bool, true, false, arith}
-use Rattle.std.specs.Prelude.{Option, Some, None, not, ◌==◌, if◌then◌else◌, List, [], ◌∷◌, ◌++◌}
-use Rattle.std.proofs.lemmas.Bool.Decides.{nat_tests}
+use Rattle.std.proofs.Common.{◌≡◌, ◌≢◌, ◌⊎◌, inl, inr, refl, ap, ◌∙◌, ℕ, ◌<◌, Bool, true, false, arith}
+use Rattle.std.specs.Prelude.{Option, Some, None, not, if◌then◌else◌, List, [], ◌∷◌, ◌++◌}
 use Rattle.sva_step.specs.declared.steps.Step.{Step}
 use Rattle.sva_step.specs.declared.steps.Step.TheVariants as step
 use Rattle.sva_step.specs.declared.steps.Verdict.{Verdict}
@@ -16,8 +15,8 @@ use Rattle.sva_model.specs.State.Order.{RangeOf, PasidOf, Wait}
 use Rattle.sva_model.specs.State.RequestState.{Out, Doomed, Over}
 use Rattle.sva_model.specs.State.About.{StartOf, StopOf, ResetOrder, CompletionOf, InvalidateOf, ResponseOf, RequestOf, InvalidatedOf, PageRequestOf, MarkerOf, ResetDone}
 use Rattle.sva_model.specs.States.{is_open, is_queued}
-use Rattle.sva_model.specs.Acts.{Act, Own, act, own, filed_as}
-use Rattle.sva_model.specs.Acts.Act.{NewSpace, DropSpace, Map, Unmap, NewBinding, NewJob, Hold, LetGo, At}
+use Rattle.sva_model.specs.Acts.{Own, act, own, filed_as}
+use Rattle.sva_model.specs.Acts.Act.{Map, LetGo, At}
 use Rattle.sva_model.specs.Labels
 use Rattle.sva_model.specs.Refusals.{refusals}
 use Rattle.sva_model.specs.Replies.{maps_to, reply_maps, replies_success, newly_mapped, free_list, is_write_asked, job_space, response_to}
@@ -27,11 +26,9 @@ use Rattle.sva_laws.proofs.Invariant.{Invariant}
 use Rattle.sva_laws.proofs.OnTheWay.{AllOn}
 use Rattle.sva_laws.proofs.JobSteps.{JobsOf, not_past}
 use Rattle.sva_laws.proofs.LegalUnit as unit_steps
-use Rattle.sva_laws.proofs.Passed.{Passed, LegalAll, not_false}
-use Rattle.sva_labels.proofs.UnitActs.{SendsFirst}
+use Rattle.sva_laws.proofs.Passed.{Passed, LegalAll}
 use Rattle.sva_labels.proofs.JobActs.{HandsFirst}
-use Rattle.sva_labels.proofs.Squares.{InTurn}
-use Rattle.sva_labels.proofs.Assembly.{IsReady, AreReady}
+use Rattle.sva_labels.proofs.Assembly.{AreReady}
 
 unbind_ready : (w : World) (e b : ℕ) (s : Stage) → AreReady w (unbind_outcome e b s).acts
 unbind_ready w e b Lost = ((tt, tt), tt)

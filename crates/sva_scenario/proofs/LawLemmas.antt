@@ -9,13 +9,13 @@ use Rattle.std.proofs.lemmas.Bool.{and_from, and_parts, lt-ltb, ltb-true, ltb-fa
 use Rattle.std.proofs.lemmas.Bool.Decides.{nat_tests}
 use Rattle.std.proofs.lemmas.List.Sums.{sum_by-cons}
 use Rattle.std.proofs.lemmas.Fmt.{decimal-digits_value, decimal_digit, decimal_nonempty, digits_decimal, digits_value-decimal, first_decimal}
-use Rattle.sva_scenario.specs.Grammar.{access, begins_number, config_counts, config_of, fault, is_skipped, is_too_large, lines_of, map_step, number, said_lines, scenario_of, script_of, space_step, step_of, steps_of, unmap_step, words_of, look_step, bearer_step}
+use Rattle.sva_scenario.specs.Grammar.{access, begins_number, config_counts, config_of, fault, is_skipped, is_too_large, lines_of, map_step, number, said_lines, scenario_of, script_of, space_step, step_of, steps_of, unmap_step, words_of, look_step, bearer_step, drop_step, unmapr_step}
 use Rattle.sva_scenario.specs.Laws.{config_words, HasConfigLine, HasLine, LinesAreCounted, NumbersAreDecimal, script_text, ScriptsAreRead, step_words, text_of}
 use Rattle.sva_scenario.proofs.WordLemmas.{number-is, number-not, own, some_byte}
 use Rattle.sva_scenario.specs.declared.faults.Cause.TheVariants.{TooLarge}
 use Rattle.sva_step.specs.declared.limits.Config.{Config}
 use Rattle.sva_step.specs.declared.steps.Step.{Step}
-use Rattle.sva_step.specs.declared.steps.Step.TheVariants.{Space, Map, Unmap, Look, Bearer}
+use Rattle.sva_step.specs.declared.steps.Step.TheVariants.{Space, DropSpace, Map, Unmap, UnmapRange, Look, Bearer}
 
 -- ---- Numbers
 
@@ -203,20 +203,25 @@ config_read config h =
 step_line : (step : Step) → HasLine step → IsLine (step_words step)
 unfolding AreWords lacks
 step_line Space h = line_from _ _ ((refl, refl), tt) refl
+step_line (DropSpace space) h = line_from _ _ ((refl, refl), (word_of_number space h, tt)) refl
 step_line (Map space page true) h = line_from _ _ ((refl, refl), (word_of_number space h.0, (word_of_number page h.1, ((refl, refl), tt)))) refl
 step_line (Map space page false) h = line_from _ _ ((refl, refl), (word_of_number space h.0, (word_of_number page h.1, ((refl, refl), tt)))) refl
 step_line (Unmap space page count) h =
     line_from _ _ ((refl, refl), (word_of_number space h.0, (word_of_number page h.1, (word_of_number count h.2, tt)))) refl
+step_line (UnmapRange space page order) h =
+    line_from _ _ ((refl, refl), (word_of_number space h.0, (word_of_number page h.1, (word_of_number order h.2, tt)))) refl
 step_line (Look frame) h = line_from _ _ ((refl, refl), (word_of_number frame h, tt)) refl
 step_line (Bearer pasid) h = line_from _ _ ((refl, refl), (word_of_number pasid h, tt)) refl
 step_line _ h = absurd h
 
 step_read : (step : Step) → HasLine step → step_of (step_words step) ≡ Ok step
-unfolding step_of space_step map_step unmap_step look_step bearer_step access
+unfolding step_of space_step drop_step map_step unmap_step unmapr_step look_step bearer_step access
 step_read Space h = refl
+step_read (DropSpace space) h = rw (number_decimal space h) refl
 step_read (Map space page true) h = rw (number_decimal space h.0, number_decimal page h.1) refl
 step_read (Map space page false) h = rw (number_decimal space h.0, number_decimal page h.1) refl
 step_read (Unmap space page count) h = rw (number_decimal space h.0, number_decimal page h.1, number_decimal count h.2) refl
+step_read (UnmapRange space page order) h = rw (number_decimal space h.0, number_decimal page h.1, number_decimal order h.2) refl
 step_read (Look frame) h = rw (number_decimal frame h) refl
 step_read (Bearer pasid) h = rw (number_decimal pasid h) refl
 step_read _ h = absurd h

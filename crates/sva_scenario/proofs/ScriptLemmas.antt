@@ -8,7 +8,7 @@ use Rattle.std.proofs.lemmas.Bool.{and_from, and_parts, le-leb, leb-true, lt-ltb
 use Rattle.std.proofs.lemmas.List.{length-take, take_all}
 use Rattle.sva_step.specs.declared.limits.Config.{Config}
 use Rattle.sva_step.specs.declared.steps.Step.{Step}
-use Rattle.sva_step.specs.declared.steps.Step.TheVariants.{Space, Map, Unmap, Look, Bearer}
+use Rattle.sva_step.specs.declared.steps.Step.TheVariants.{Space, DropSpace, Map, Unmap, UnmapRange, Look, Bearer}
 use Rattle.sva_step.specs.declared.refusals.Refusal.TheVariants.{BadConfig}
 use Rattle.sva_step.specs.Refusals.{refusal_text}
 use Rattle.sva_model.specs.State.PasidRule.{PerSpace}
@@ -19,7 +19,7 @@ use Rattle.sva_scenario.specs.declared.faults.Cause.{Cause}
 use Rattle.sva_scenario.specs.declared.faults.Cause.TheVariants.{TooLarge, UnknownStep}
 use Rattle.sva_scenario.specs.declared.faults.LineFault.{LineFault}
 use Rattle.sva_scenario.specs.Faults.{line_fault_text}
-use Rattle.sva_scenario.specs.Grammar.{◌>>=◌, access, at_line, config_of, fault, has_words, has_words_or, is_skipped, is_too_large, lines_of, map_step, number, said_lines, Script, scenario_of, script_of, space_step, step_of, steps_of, unmap_step, word, words_of, look_step, bearer_step}
+use Rattle.sva_scenario.specs.Grammar.{◌>>=◌, access, at_line, config_of, fault, has_words, has_words_or, is_skipped, is_too_large, lines_of, map_step, number, said_lines, Script, scenario_of, script_of, space_step, step_of, steps_of, unmap_step, word, words_of, look_step, bearer_step, drop_step, unmapr_step}
 use Rattle.sva_scenario.specs.Laws.{ConfigsAreTested}
 use Rattle.sva_scenario.specs.Report.{ended, is_fit, report_by, report_of, script_report, steps_report}
 use Rattle.sva_scenario.specs.Streams.{AppendsPrefix, Writes}
@@ -43,6 +43,10 @@ space_built : (words : List (List ℕ)) → AsBuilt (space_step words)
 unfolding space_step AsBuilt
 space_built words = through (has_words 1 words) (λ _. Ok Space) (λ _. tt)
 
+drop_built : (words : List (List ℕ)) → AsBuilt (drop_step words)
+unfolding drop_step AsBuilt
+drop_built words = through (has_words 2 words) _ (λ _. through (number (word 1 words)) (λ space. Ok (DropSpace space)) (λ space. tt))
+
 map_built : (words : List (List ℕ)) → AsBuilt (map_step words)
 unfolding map_step AsBuilt
 map_built words =
@@ -54,6 +58,12 @@ unfolding unmap_step AsBuilt
 unmap_built words =
     through (has_words_or 3 4 words) _
     (λ _. through (number (word 1 words)) _ (λ space. through (number (word 2 words)) _ (λ page. through _ (λ count. Ok (Unmap space page count)) (λ count. tt))))
+
+unmapr_built : (words : List (List ℕ)) → AsBuilt (unmapr_step words)
+unfolding unmapr_step AsBuilt
+unmapr_built words =
+    through (has_words 4 words) _
+    (λ _. through (number (word 1 words)) _ (λ space. through (number (word 2 words)) _ (λ page. through (number (word 3 words)) (λ order. Ok (UnmapRange space page order)) (λ order. tt))))
 
 look_built : (words : List (List ℕ)) → AsBuilt (look_step words)
 unfolding look_step AsBuilt
@@ -77,7 +87,10 @@ step_built : (words : List (List ℕ)) → AsBuilt (step_of words)
 unfolding step_of
 step_built words =
     by_name _ _ _ (space_built words)
-    (by_name _ _ _ (map_built words) (by_name _ _ _ (unmap_built words) (by_name _ _ _ (look_built words) (by_name _ _ _ (bearer_built words) unknown_built))))
+    (by_name _ _ _ (drop_built words)
+    (by_name _ _ _ (map_built words)
+    (by_name _ _ _ (unmap_built words)
+    (by_name _ _ _ (unmapr_built words) (by_name _ _ _ (look_built words) (by_name _ _ _ (bearer_built words) unknown_built))))))
 
 -- the steps that were read are those of spaces, and so many
 StepsBuilt : (count : ℕ) → Result (List Step) LineFault → Type 0

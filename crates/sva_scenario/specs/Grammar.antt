@@ -5,7 +5,7 @@ use Rattle.std.specs.Str.{all_ascii_digits, bytes_eq}
 use Rattle.std.specs.Str.Parse.{digits_value}
 use Rattle.sva_step.specs.declared.limits.Config.{Config}
 use Rattle.sva_step.specs.declared.steps.Step.{Step}
-use Rattle.sva_step.specs.declared.steps.Step.TheVariants.{Space, Map, Unmap, Look, Bearer}
+use Rattle.sva_step.specs.declared.steps.Step.TheVariants.{Space, DropSpace, Map, Unmap, UnmapRange, Look, Bearer}
 use Rattle.sva_scenario.specs.declared.faults.Cause.{Cause}
 use Rattle.sva_scenario.specs.declared.faults.Cause.TheVariants.{NoConfig, UnknownStep, WordCount, BadWord, TooLarge}
 use Rattle.sva_scenario.specs.declared.faults.LineFault.{LineFault}
@@ -90,6 +90,13 @@ space_step words = do
   _ ← has_words 1 words
   Ok Space
 
+-- `drop S`
+unfoldable pub drop_step : List (List ℕ) → Result Step Cause
+drop_step words = do
+  _ ← has_words 2 words
+  space ← number (word 1 words)
+  Ok (DropSpace space)
+
 -- `map S PAGE r` or `map S PAGE w`
 unfoldable pub map_step : List (List ℕ) → Result Step Cause
 map_step words = do
@@ -107,6 +114,15 @@ unmap_step words = do
   page ← number (word 2 words)
   count ← (if length words == 4 then number (word 3 words) else Ok 1)
   Ok (Unmap space page count)
+
+-- `unmapr S PAGE K`
+unfoldable pub unmapr_step : List (List ℕ) → Result Step Cause
+unmapr_step words = do
+  _ ← has_words 4 words
+  space ← number (word 1 words)
+  page ← number (word 2 words)
+  order ← number (word 3 words)
+  Ok (UnmapRange space page order)
 
 -- `look F`
 unfoldable pub look_step : List (List ℕ) → Result Step Cause
@@ -126,8 +142,10 @@ bearer_step words = do
 unfoldable pub step_of : List (List ℕ) → Result Step Cause
 step_of words =
     if bytes_eq (word 0 words) (codes "space") then space_step words else
+    if bytes_eq (word 0 words) (codes "drop") then drop_step words else
     if bytes_eq (word 0 words) (codes "map") then map_step words else
     if bytes_eq (word 0 words) (codes "unmap") then unmap_step words else
+    if bytes_eq (word 0 words) (codes "unmapr") then unmapr_step words else
     if bytes_eq (word 0 words) (codes "look") then look_step words else
     if bytes_eq (word 0 words) (codes "bearer") then bearer_step words else
     Err UnknownStep

@@ -2,7 +2,7 @@
 use Rattle.std.specs.Prelude.{◌≡◌, ◌↔◌, ℕ, ◌+◌, ◌^◌, ◌<◌, ◌==◌, if◌then◌else◌, Bool, true, false, List, [], ◌∷◌, ◌++◌, length, count_by, codes, decimal, flat_map, map, Ok}
 use Rattle.std.specs.List.{AllByRecursion, join_with_byte}
 use Rattle.sva_step.specs.declared.steps.Step.{Step}
-use Rattle.sva_step.specs.declared.steps.Step.TheVariants.{Space, Map, Unmap, Look, Bearer}
+use Rattle.sva_step.specs.declared.steps.Step.TheVariants.{Space, DropSpace, Map, Unmap, UnmapRange, Look, Bearer}
 use Rattle.sva_step.specs.declared.limits.Config.{Config}
 use Rattle.sva_model.specs.Claims.{Fits}
 use Rattle.sva_scenario.specs.Grammar.{Script, is_too_large, lines_of, number, scenario_of}
@@ -31,8 +31,10 @@ config_words config = codes "config" ∷ decimal config.endpoints ∷ decimal co
 -- the words of a step's line, for those that have one
 abbrev pub step_words : Step → List (List ℕ)
 step_words Space = codes "space" ∷ []
+step_words (DropSpace space) = codes "drop" ∷ decimal space ∷ []
 step_words (Map space page write) = codes "map" ∷ decimal space ∷ decimal page ∷ (if write then codes "w" else codes "r") ∷ []
 step_words (Unmap space page count) = codes "unmap" ∷ decimal space ∷ decimal page ∷ decimal count ∷ []
+step_words (UnmapRange space page order) = codes "unmapr" ∷ decimal space ∷ decimal page ∷ decimal order ∷ []
 step_words (Look frame) = codes "look" ∷ decimal frame ∷ []
 step_words (Bearer pasid) = codes "bearer" ∷ decimal pasid ∷ []
 step_words _ = []
@@ -40,8 +42,10 @@ step_words _ = []
 -- a step that has a line, with numbers that fit 64 bits
 abbrev pub HasLine : Step → Type 0
 HasLine Space = Unit {0}
+HasLine (DropSpace space) = space < 2 ^ 64
 HasLine (Map space page write) = (space < 2 ^ 64) × (page < 2 ^ 64)
 HasLine (Unmap space page count) = (space < 2 ^ 64) × (page < 2 ^ 64) × (count < 2 ^ 64)
+HasLine (UnmapRange space page order) = (space < 2 ^ 64) × (page < 2 ^ 64) × (order < 2 ^ 64)
 HasLine (Look frame) = frame < 2 ^ 64
 HasLine (Bearer pasid) = pasid < 2 ^ 64
 HasLine _ = ⊥

@@ -1,5 +1,5 @@
 ghost use Rattle.std.specs.Prelude.{◌≡◌};
-ghost use Rattle.sva_scenario.specs.Grammar.{config_of, config_counts, step_of, space_step, map_step, unmap_step, look_step, bearer_step};
+ghost use Rattle.sva_scenario.specs.Grammar.{config_of, config_counts, step_of, space_step, drop_step, map_step, unmap_step, unmapr_step, look_step, bearer_step};
 
 use crate::faults::Cause;
 use crate::words::Words;
@@ -42,10 +42,14 @@ pub fn step_in(words: &Words<'_>) -> Result<Step, Cause>
 {
     if words.begins_with(b"space") {
         space_in(words)
+    } else if words.begins_with(b"drop") {
+        drop_in(words)
     } else if words.begins_with(b"map") {
         map_in(words)
     } else if words.begins_with(b"unmap") {
         unmap_in(words)
+    } else if words.begins_with(b"unmapr") {
+        unmapr_in(words)
     } else if words.begins_with(b"look") {
         look_in(words)
     } else if words.begins_with(b"bearer") {
@@ -62,6 +66,16 @@ fn space_in(words: &Words<'_>) -> Result<Step, Cause>
 {
     words.exactly(1)?;
     Ok(Step::Space)
+}
+
+/// `drop S`.
+#[tactic(auto, unfolding(crate::specs::Grammar::drop_step))]
+fn drop_in(words: &Words<'_>) -> Result<Step, Cause>
+    ensures { result ≡ drop_step words.now }
+{
+    words.exactly(2)?;
+    let space = words.number(1)?;
+    Ok(Step::DropSpace { space })
 }
 
 /// `map S PAGE r` or `map S PAGE w`.
@@ -90,6 +104,18 @@ fn unmap_in(words: &Words<'_>) -> Result<Step, Cause>
         1
     };
     Ok(Step::Unmap { space, page, count })
+}
+
+/// `unmapr S PAGE K`.
+#[tactic(auto, unfolding(crate::specs::Grammar::unmapr_step))]
+fn unmapr_in(words: &Words<'_>) -> Result<Step, Cause>
+    ensures { result ≡ unmapr_step words.now }
+{
+    words.exactly(4)?;
+    let space = words.number(1)?;
+    let page = words.number(2)?;
+    let order = words.number(3)?;
+    Ok(Step::UnmapRange { space, page, order })
 }
 
 /// `look F`.

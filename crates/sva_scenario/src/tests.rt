@@ -52,6 +52,10 @@ fn tells_the_first_fault(rt: HostRuntime) -> Result<(), Fail> {
             "line 2 BadWord",
         ),
         ("config 1 4 1\nunmap 0  16", "line 2 BadWord"),
+        ("config 1 4 1\ndrop", "line 2 WordCount"),
+        ("config 1 4 1\ndrop x", "line 2 BadWord"),
+        ("config 1 4 1\nunmapr 0 64", "line 2 WordCount"),
+        ("config 1 4 1\nunmapr 0 64 +1", "line 2 BadWord"),
         ("#\n\nconfig 1 4 1\n# a\nspace 1\nspase", "line 5 WordCount"),
     ];
     for (text, want) in faults {
@@ -91,7 +95,7 @@ fn tells_a_large_text(rt: HostRuntime) -> Result<(), Fail> {
 #[test]
 fn reads_the_steps(rt: HostRuntime) -> Result<(), Fail> {
     let text =
-        b"# first\nconfig 2 4096 1\nspace\nmap 0 16 w\nmap 0 17 r\n\nunmap 0 16\nunmap 0 16 2";
+        b"# first\nconfig 2 4096 1\nspace\nmap 0 16 w\nmap 0 17 r\n\nunmap 0 16\nunmap 0 16 2\nunmapr 1 32 4\ndrop 5";
     let Scenario { config, steps } = parse(rt.alloc(), text).ok().ok_or("no scenario")?;
     assert_eq!(rt;
         (
@@ -124,6 +128,12 @@ fn reads_the_steps(rt: HostRuntime) -> Result<(), Fail> {
             page: 16,
             count: 2,
         },
+        Step::UnmapRange {
+            space: 1,
+            page: 32,
+            order: 4,
+        },
+        Step::DropSpace { space: 5 },
     ];
     assert_eq!(rt; steps.as_slice(), want.as_slice());
     Ok(())

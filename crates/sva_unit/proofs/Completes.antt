@@ -6,7 +6,7 @@ use Rattle.std.proofs.lemmas.Simd.{ones-mask_l_cons}
 use Rattle.std.proofs.lemmas.Nat.{ones_le_self}
 use lib.Lanes.{mask_l}
 use Rattle.sva_itags.specs.Vector.{vector_of}
-use Rattle.sva_itags.specs.Tags.{all_free, counted, after_completion, completed_from, is_freed, freed_places}
+use Rattle.sva_itags.specs.Tags.{all_free, counted, after_completion, completed as tags_completed, completed_from, is_freed, freed_places, freed_vector}
 use Rattle.sva_itags.specs.declared.itags.Busy.{Busy}
 use Rattle.sva_itags.specs.declared.itags.Busy.TheVariants as place
 use Rattle.sva_model.specs.Words.{tabulate, count_below}
@@ -14,9 +14,12 @@ use Rattle.sva_model.specs.Labels.{is_set}
 use Rattle.sva_model.specs.Wire.{BusyWire}
 use Rattle.sva_laws.proofs.Counting.{count_same}
 use Rattle.sva_wire.proofs.Lists.{tabulate_same}
-use Rattle.sva_labels.specs.Moves.{counting, one_more}
+use Rattle.sva_labels.specs.Moves.{completed, counting, one_more}
 use Rattle.sva_labels.specs.Outcomes.{is_last_of}
-use Rattle.sva_unit.specs.Seen.{busy_seen}
+use Rattle.sva_msg.specs.declared.messages.PageRequest.{PageRequest}
+use Rattle.sva_queue.specs.Queue.{Queue, reset_ended}
+use Rattle.sva_unit.specs.Seen.{busy_seen, descriptor_seen, request_seen, unit_seen, seen, with_unit}
+use Rattle.sva_unit.specs.Changes.{unit_reopened}
 use Rattle.sva_unit.proofs.Places.{places_seen, places_length}
 
 -- Tables from their first entry on.
@@ -143,3 +146,29 @@ all_free_seen (x ∷ busy) = ap (λ xs. None ∷ xs) (all_free_seen busy)
 
 pub free_seen : (tags : List (Option Busy)) → length tags ≡ 32 → places_seen all_free ≡ map to_free (places_seen tags)
 free_seen tags len = sym (all_free_seen (places_seen tags) ∙ ap (λ n. replicate n None) (places_length tags ∙ len))
+
+-- What is left of a unit.
+
+pub completed_is : (v c : ℕ) (tags : List (Option Busy)) → length tags ≡ 32 → places_seen (tags_completed v c tags) ≡ completed v c (places_seen tags)
+completed_is v c tags len =
+    let busy = places_seen tags in
+    completed_seen 0 v c tags 32 len
+    ∙ tabulate_same 32 (completed_at 0 v c busy) (λ t. if is_set v t then one_more c (slice_index_or busy t None) else slice_index_or busy t None)
+    (λ t l. let same : 0 + t ≡ t = omega arith in
+    ap (λ j. if is_set v j then one_more c (slice_index_or busy t None) else slice_index_or busy t None) same)
+
+pub freed_is : (v c : ℕ) (tags : List (Option Busy)) → length tags ≡ 32 → count_ones (freed_vector v c tags) ≡ count_below 32 (λ t. is_set v t && is_last_of c (slice_index_or (places_seen tags) t None))
+freed_is v c tags len =
+    let busy = places_seen tags in
+    freed_seen 0 v c tags 32 len
+    ∙ count_same 32 (freed_at 0 v c busy) (λ t. is_set v t && is_last_of c (slice_index_or busy t None))
+    (λ t l. let same : 0 + t ≡ t = omega arith in ap (λ j. is_set v j && is_last_of c (slice_index_or busy t None)) same)
+
+pub reopened_is : (q : Queue) (requests : List PageRequest) → length q.tags ≡ 32 → q.is_open ≡ false → seen (reset_ended q) requests ≡ with_unit (seen q requests) (unit_reopened (unit_seen q))
+reopened_is q requests len closed =
+    let busy = free_seen q.tags len in
+    let front : (if q.is_open then q.front else q.back) ≡ q.back = ap (λ b. if b then q.front else q.back) closed in
+    λ i. record {
+      unit = record { is_open = true; queue = map descriptor_seen q.descriptors; busy = busy i; front = front i; waits_end = q.back };
+      page_queue = map request_seen requests;
+    }

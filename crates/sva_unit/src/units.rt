@@ -1,5 +1,5 @@
 //! A remapping unit.
-ghost use Rattle.std.specs.Prelude.{◌≡◌, ◌+◌, ◌*◌, ◌%◌, ◌^◌, ◌<◌, ◌≤◌, ◌++◌, [], ◌∷◌, suc, true, false, length, map, All};
+ghost use Rattle.std.specs.Prelude.{◌≡◌, ◌+◌, ◌*◌, ◌%◌, ◌^◌, ◌<◌, ◌≤◌, ◌++◌, [], ◌∷◌, suc, true, false, not, ◌==◌, length, map, drop, slice_get, option_map, All};
 ghost use Rattle.sva_queue.specs.Cookies.{AreRising, HasNumber, number_after};
 ghost use Rattle.sva_model.specs.Wire.Descriptor.{PasidDescriptor, WaitDescriptor};
 ghost use Rattle.sva_labels.specs.Finding.{has_room, is_wait_done};
@@ -10,6 +10,8 @@ ghost use Rattle.sva_unit.specs.Pumping.{is_invalidation, sending_of};
 use crate::orders::orders_for;
 use crate::pumping::{Extent, Next, Sending};
 use std::marker::Model;
+use sva_itags::Count;
+use sva_msg::PageRequest;
 use sva_prq::PageQueue;
 use sva_queue::{Descriptor, Pumped};
 
@@ -61,8 +63,9 @@ impl Default for Unit {
 }
 
 impl Unit {
-    ghost use Rattle.sva_unit.specs.Seen.{descriptor_seen, idle, with_unit};
+    ghost use Rattle.sva_unit.specs.Seen.{descriptor_seen, request_seen, idle, with_unit};
     ghost use Rattle.sva_unit.specs.Pumping.{next_of, IsPump, unit_sent, unit_passed};
+    ghost use Rattle.sva_unit.specs.Changes.{freed_by, unit_completed, with_requests, reset_begun, unit_reopened};
 
     /// An open unit that nothing was asked of: its queues are empty, and all its ITags are free.
     pub fn new() -> Self
@@ -197,6 +200,68 @@ impl Unit {
     {
         let _passed = self.queue.pump(self.requests.is_empty());
     }
+
+    /// Completions have arrived that name the ITags of `vector` (bit T stands for ITag T, 0 to 31) and bear `count`. Gives how
+    /// many of the ITags are free by it, 0 to 32. An ITag that isn't busy is ignored, and the first completion of an ITag fixes
+    /// its count (PCI Express Base 5.0, section 10.3.2).
+    pub fn complete(&mut self, vector: u32, count: Count) -> u32
+        ensures freed { result ≡ freed_by self.old.unit vector count }
+        ensures unit { self.new ≡ with_unit self.old (unit_completed self.old.unit vector count) }
+    {
+        // That there are 32 ITags is known once the busy ones have been read.
+        let _ = self.queue.busy();
+        self.queue.arrived(vector, count).count_ones()
+    }
+
+    /// A page request arrives, behind those that wait. At most 31 may wait (the 32 places of the queue are this project's own
+    /// choice).
+    pub fn arrive(&mut self, request: PageRequest)
+        requires { length self.old.page_queue < 32 }
+        ensures { self.new ≡ with_requests self.old (self.old.page_queue ++ request_seen request ∷ []) }
+    {
+        self.requests.arrive(request);
+    }
+
+    /// Whether a page request waits.
+    pub fn has_request(&self) -> bool
+        ensures { result ≡ not (length self.now.page_queue == 0) }
+    {
+        !self.requests.is_empty()
+    }
+
+    /// The oldest page request that waits, if one does.
+    pub fn first_request(&self) -> Option<PageRequest>
+        ensures { option_map request_seen result ≡ slice_get self.now.page_queue 0 }
+    {
+        self.requests.head()
+    }
+
+    /// Takes out the oldest page request that waits, if one does.
+    pub fn take_request(&mut self) -> Option<PageRequest>
+        ensures first { option_map request_seen result ≡ slice_get self.old.page_queue 0 }
+        ensures rest { self.new ≡ with_requests self.old (drop 1 self.old.page_queue) }
+    {
+        self.requests.serve()
+    }
+
+    /// A reset of the endpoint begins: both queues are emptied, and the unit isn't open. The busy ITags stay busy, and the
+    /// front stays.
+    pub fn reset(&mut self)
+        ensures { self.new ≡ reset_begun self.old }
+    {
+        self.queue.begin_reset();
+        self.requests.clear();
+    }
+
+    /// The reset has ended: the unit is open, all its ITags are free, and the front is past all waits that were submitted.
+    pub fn reopen(&mut self)
+        requires { self.old.unit.is_open ≡ false }
+        ensures { self.new ≡ with_unit self.old (unit_reopened self.old.unit) }
+    {
+        // That there are 32 ITags is known once the busy ones have been read.
+        let _ = self.queue.busy();
+        self.queue.end_reset();
+    }
 }
 
 #[cfg(test)]
@@ -243,5 +308,69 @@ mod tests {
         );
         assert_eq!(rt; unit.next(), Next::Blocked);
         assert!(rt; unit.has_room(63) && !unit.has_room(64));
+    }
+
+    #[test]
+    fn counts_completions(rt: HostRuntime) {
+        let mut unit = Unit::new();
+        unit.submit_pasid(3, 9);
+        assert_eq!(rt; unit.complete(0b1, Count::new(1)), 0);
+        if let Next::Send(sending) = unit.next() {
+            unit.send(sending);
+        }
+        assert_eq!(rt; unit.complete(0b11, Count::new(2)), 0);
+        assert_eq!(rt; unit.next(), Next::Blocked);
+        assert_eq!(rt; unit.complete(0b11, Count::new(2)), 1);
+        assert_eq!(rt; unit.next(), Next::Pass(9));
+        if let Next::Pass(cookie) = unit.next() {
+            unit.pass(cookie);
+        }
+        assert!(rt; unit.is_wait_done(9) && !unit.is_wait_done(10));
+        assert_eq!(rt; unit.next(), Next::Idle);
+    }
+
+    fn page_request(page: u64) -> PageRequest {
+        PageRequest {
+            pasid: 4,
+            index: 1,
+            page,
+            read: true,
+            write: false,
+            last: true,
+        }
+    }
+
+    #[test]
+    fn drains_page_requests(rt: HostRuntime) {
+        let mut unit = Unit::new();
+        unit.submit_drain(2);
+        assert!(rt; !unit.has_request() && unit.first_request().is_none());
+        unit.arrive(page_request(70));
+        unit.arrive(page_request(71));
+        assert!(rt; unit.has_request());
+        assert_eq!(rt; unit.next(), Next::Blocked);
+        assert_eq!(rt; unit.first_request(), Some(page_request(70)));
+        assert_eq!(rt; unit.take_request(), Some(page_request(70)));
+        assert_eq!(rt; unit.take_request(), Some(page_request(71)));
+        assert_eq!(rt; unit.take_request(), None);
+        assert_eq!(rt; unit.next(), Next::Pass(2));
+    }
+
+    #[test]
+    fn is_emptied_by_a_reset(rt: HostRuntime) {
+        let mut unit = Unit::new();
+        unit.submit_ranges(3, 64, 2, 1, 9);
+        if let Next::Send(sending) = unit.next() {
+            unit.send(sending);
+        }
+        unit.arrive(page_request(70));
+        unit.reset();
+        assert!(rt; !unit.is_open() && !unit.has_request() && unit.has_room(64));
+        assert_eq!(rt; unit.next(), Next::Idle);
+        assert!(rt; !unit.is_wait_done(9));
+        unit.reopen();
+        assert!(rt; unit.is_open() && unit.is_wait_done(9) && !unit.is_wait_done(10));
+        unit.submit_drain(10);
+        assert_eq!(rt; unit.next(), Next::Pass(10));
     }
 }

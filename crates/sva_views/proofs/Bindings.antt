@@ -1,6 +1,7 @@
 -- The table of bindings, seen.
 use Rattle.std.proofs.Common.{◌≡◌, ◌⊎◌, inl, inr, refl, ap, sym, ◌∙◌, ℕ, zero, suc, ◌+◌, ◌<◌, Bool, true, false, arith}
-use Rattle.std.specs.Prelude.{cond, ◌==◌, ◌&&◌, ◌||◌, not, if◌then◌else◌, Option, Some, None, option_map, List, [], ◌∷◌, ◌++◌, map, filter, find}
+use Rattle.std.proofs.Math.Path.{fun_ext}
+use Rattle.std.specs.Prelude.{cond, nat_lt, ◌==◌, ◌&&◌, ◌||◌, not, if◌then◌else◌, Option, Some, None, option_map, List, [], ◌∷◌, ◌++◌, map, filter, find}
 use Rattle.std.specs.List.{count_by, list_any, range_with_len}
 use Rattle.std.specs.Option.{option_or}
 use Rattle.std.proofs.lemmas.List.{map-append}
@@ -14,6 +15,7 @@ use Rattle.sva_model.specs.Wire.StageWire.{QuietWire}
 use Rattle.sva_labels.specs.Finding as finding
 use Rattle.sva_labels.specs.Moves as moves
 use Rattle.sva_pasid.specs.declared.places.Place.{Place}
+use Rattle.sva_pasid.specs.declared.bearers.Bearer.{Bearer}
 use Rattle.sva_pasid.specs.declared.stages.Stage.{Stage}
 use Rattle.sva_pasid.specs.declared.stages.Stage.TheVariants.{Live, Stopping, Draining, Invalidating, Quiet, Lost}
 use Rattle.sva_pasid.specs.Stages.{reset_of}
@@ -86,3 +88,145 @@ lowest_front (suc n) p = ap (λ l. step_lowest (l == suc n) l (suc n) (p (suc n)
         zero_is false k = refl
         zero_is true k = absurd (cc (k))
     go false l = next l (p (suc n))
+
+-- the first of a row of numbers is the lowest of a table, shifted
+abbrev shifted : (first : ℕ) → Option ℕ → Option ℕ
+shifted first None = None
+shifted first (Some k) = Some (first + k)
+
+found_front : (n : ℕ) (p : ℕ → Bool) → words.find (suc n) p ≡ (if p 0 then Some 0 else shifted 1 (words.find n (λ k. p (suc k))))
+found_front n p = ap (λ l. if_found (nat_lt l (suc n)) l) (lowest_front n p) ∙ go (p 0) (lowest n (λ k. p (suc k)))
+  where
+    next : (l : ℕ) (s t : Bool) → t ≡ s → if_found t (suc l) ≡ shifted 1 (if_found s l)
+    next l true true k = ap Some (one l)
+      where
+        one : (l : ℕ) → suc l ≡ 1 + l
+        one l = omega arith
+    next l false false k = refl
+    next l true false k = absurd (cc (k))
+    next l false true k = absurd (cc (k))
+
+    go : (b : Bool) (l : ℕ) → if_found (nat_lt (front b l) (suc n)) (front b l) ≡ (if b then Some 0 else shifted 1 (if_found (nat_lt l n) l))
+    go true l = zero_is (nat_lt 0 (suc n)) (grind (arith, nat_tests))
+      where
+        zero_is : (t : Bool) → t ≡ true → if_found t 0 ≡ Some 0
+        zero_is true k = refl
+        zero_is false k = absurd (cc (k))
+    go false l = next l (nat_lt l n) (nat_lt (suc l) (suc n)) (grind (arith, nat_tests))
+
+shift_more : (first : ℕ) (o : Option ℕ) → shifted (first + 1) o ≡ shifted first (shifted 1 o)
+shift_more first None = refl
+shift_more first (Some k) = ap Some (sums first k)
+  where
+    sums : (a k : ℕ) → a + 1 + k ≡ a + (1 + k)
+    sums a k = omega arith
+
+found_same : (n : ℕ) (p q : ℕ → Bool) → ((k : ℕ) → p k ≡ q k) → words.find n p ≡ words.find n q
+found_same n p q h = ap (words.find n) (fun_ext h)
+
+row_found : (n first : ℕ) (p : ℕ → Bool) → find p (range_with_len first n) ≡ shifted first (words.find n (λ k. p (first + k)))
+unfolding lowest
+row_found zero first p = refl
+row_found (suc n) first p =
+    let zero_more : first + 0 ≡ first = omega arith in
+    ap (λ r. if p first then Some first else r) (row_found n (first + 1) p ∙ shift_more first (words.find n (λ k. p (first + 1 + k))))
+    ∙ ap (λ f. if p first then Some first else shifted first (shifted 1 (words.find n f))) (fun_ext (λ k. ap p (sums first k)))
+    ∙ go (p first)
+    ∙ ap (λ z. shifted first (if p z then Some 0 else shifted 1 (words.find n (λ k. p (first + suc k))))) (sym zero_more)
+    ∙ ap (shifted first) (sym (found_front n (λ k. p (first + k))))
+  where
+    sums : (a k : ℕ) → a + 1 + k ≡ a + suc k
+    sums a k = omega arith
+
+    go : (b : Bool) → (if b then Some first else shifted first (shifted 1 (words.find n (λ k. p (first + suc k))))) ≡ shifted first (if b then Some 0 else shifted 1 (words.find n (λ k. p (first + suc k))))
+    go true = ap Some (zero_is first)
+      where
+        zero_is : (a : ℕ) → a ≡ a + 0
+        zero_is a = omega arith
+    go false = refl
+
+-- What is looked up.
+
+at_bindings : (table : List Place) (w : Wire) → w.bindings ≡ bindings_seen table → (q : BindingWire → Bool) (p : Place → Bool) → ((a : Place) → q (binding_seen a) ≡ p a) → option_map binding_seen (find p table) ≡ find q w.bindings
+at_bindings table w h q p same = sym (seen_found binding_seen p q same table) ∙ ap (find q) (sym h)
+
+borne_seen : (table : List Place) (w : Wire) → w.bindings ≡ bindings_seen table → (t : ℕ) → places.is_borne t table ≡ finding.is_borne w t
+borne_seen table w h t = sym (seen_some binding_seen (places.bears t) (λ b. b.pasid == t) (λ a. refl) table) ∙ ap (list_any (λ b. b.pasid == t)) (sym h)
+
+lowest_by : (table : List Place) (w : Wire) → w.bindings ≡ bindings_seen table → (o : Option Place) → option_or (option_map (λ (place : Place). place.pasid) o) (places.lowest_free table) ≡ finding.pasid_by w (option_map binding_seen o)
+unfolding places.lowest_free
+lowest_by table w h None =
+    row_found 32 1 (λ t. not (places.is_borne t table))
+    ∙ ap (λ p. shifted 1 (words.find 32 p)) (fun_ext (λ k. ap (λ (b : Bool). not b) (borne_seen table w h (1 + k)) ∙ ap (λ t. not (finding.is_borne w t)) (one_more k)))
+    ∙ as_label (words.find 32 (λ k. not (finding.is_borne w (suc k))))
+  where
+    one_more : (k : ℕ) → 1 + k ≡ suc k
+    one_more k = omega arith
+
+    as_label : (o : Option ℕ) → shifted 1 o ≡ option_map suc o
+    as_label None = refl
+    as_label (Some k) = ap Some (one_more k)
+lowest_by table w h (Some place) = refl
+
+abbrev bearer_in : (n : ℕ) → Place → Bearer
+bearer_in n place = record { space = place.space; bindings = n }
+
+abbrev bearer_among : (n : ℕ) → BindingWire → Bearer
+bearer_among n b = record { space = b.space; bindings = n }
+
+bearer_by : (n m : ℕ) → n ≡ m → (o : Option Place) → option_map (bearer_in n) o ≡ option_map (bearer_among m) (option_map binding_seen o)
+bearer_by n m h None = refl
+bearer_by n m h (Some place) = ap (λ k. Some (bearer_in k place)) h
+
+looked_up : (table : List Place) (w : Wire) → w.bindings ≡ bindings_seen table → AreLookedUp table w
+looked_up table w h =
+    record {
+      by_number = λ n. at_bindings table w h (λ b. b.binding == n) (places.is_of n) (λ a. refl);
+      by_pasid = λ e t. at_bindings table w h (λ b. b.endpoint == e && b.pasid == t) (places.is_under e t) (λ a. refl);
+      by_space = λ e n. at_bindings table w h (λ b. b.endpoint == e && b.space == n) (places.joins e n) (λ a. refl);
+      bound = λ n. sym (seen_some binding_seen (places.is_in n) (λ b. b.space == n) (λ a. refl) table) ∙ ap (list_any (λ b. b.space == n)) (sym h);
+      lowest = λ n. lowest_by table w h (find (places.is_in n) table) ∙ ap (finding.pasid_by w) (at_bindings table w h (λ b. b.space == n) (places.is_in n) (λ a. refl));
+      bearer = λ t.
+          bearer_by (places.count_under t table) (count_by (λ b. b.pasid == t) w.bindings)
+          (sym (seen_counted binding_seen (places.bears t) (λ b. b.pasid == t) (λ a. refl) table) ∙ ap (count_by (λ b. b.pasid == t)) (sym h))
+          (find (places.bears t) table)
+          ∙ ap (option_map (bearer_among (count_by (λ b. b.pasid == t) w.bindings))) (at_bindings table w h (λ b. b.pasid == t) (places.bears t) (λ a. refl));
+    }
+
+-- What is changed.
+
+each_seen : (f : Place → Place) (g : BindingWire → BindingWire) → ((a : Place) → binding_seen (f a) ≡ g (binding_seen a)) → (table : List Place) → bindings_seen (map f table) ≡ map g (bindings_seen table)
+each_seen f g h [] = refl
+each_seen f g h (a ∷ table) = λ i. h a i ∷ each_seen f g h table i
+
+staged_at : (stage : Stage) (a : Place) (here : Bool) → binding_seen (if here then record a { stage = Some stage } else a) ≡ (if here then record (binding_seen a) { stage = stage_seen stage } else binding_seen a)
+staged_at stage a true = refl
+staged_at stage a false = refl
+
+reset_stage : (o : Option Stage) → stage_or_quiet (option_map reset_of o) ≡ moves.cut_off (stage_or_quiet o)
+reset_stage None = refl
+reset_stage (Some (Live n)) = refl
+reset_stage (Some (Stopping s)) = refl
+reset_stage (Some (Draining w)) = refl
+reset_stage (Some (Invalidating w)) = refl
+reset_stage (Some (Quiet n)) = refl
+reset_stage (Some (Lost n)) = refl
+
+reset_at : (a : Place) (here : Bool) → binding_seen (if here then record a { stage = option_map reset_of a.stage } else a) ≡ (if here then record (binding_seen a) { stage = moves.cut_off (binding_seen a).stage } else binding_seen a)
+reset_at a true = ap (λ x. record (binding_seen a) { stage = x }) (reset_stage a.stage)
+reset_at a false = refl
+
+changed : (table : List Place) → AreChanged table
+changed table =
+    record {
+      begun = λ e n b t. map-append binding_seen table (places.begun e n b t ∷ []);
+      staged = λ b stage.
+          each_seen (λ (a : Place). if places.is_of b a then record a { stage = Some stage } else a)
+          (λ (x : BindingWire). if x.binding == b then record x { stage = stage_seen stage } else x) (λ a. staged_at stage a (places.is_of b a)) table;
+      released = λ b. seen_left binding_seen (λ place. not (places.is_of b place)) (λ x. not (x.binding == b)) (λ a. refl) table;
+      reset = λ e.
+          each_seen (places.reset_at e) (λ (x : BindingWire). if x.endpoint == e then record x { stage = moves.cut_off x.stage } else x) (λ a. reset_at a (a.endpoint == e)) table;
+    }
+
+pub bindings_are_seen : BindingsAreSeen
+bindings_are_seen table = (looked_up table, changed table)

@@ -43,7 +43,7 @@ unfolding any_below
 any_same zero p q h = refl
 any_same (suc n) p q h = λ i. if h n i then true else any_same n p q h i
 
-tabulate_front : {A : Type 0} (n : ℕ) (f : ℕ → A) → tabulate (suc n) f ≡ f 0 ∷ tabulate n (λ k. f (suc k))
+pub tabulate_front : {A : Type 0} (n : ℕ) (f : ℕ → A) → tabulate (suc n) f ≡ f 0 ∷ tabulate n (λ k. f (suc k))
 unfolding tabulate
 tabulate_front zero f = refl
 tabulate_front (suc n) f = ap (λ xs. xs ++ f (suc n) ∷ []) (tabulate_front n f)

@@ -7,3 +7,4 @@ pub mod Groups
 pub mod Deliveries
 pub mod Completions
 pub mod Bindings
+pub mod Flights

@@ -1,3 +1,4 @@
 pub mod Device
 pub mod DeviceLaws
 pub mod Bindings
+pub mod Flights

@@ -1,6 +1,8 @@
-//! An endpoint's tables, seen as the definitions by labels see a device.
+//! What the parts of a host keep, seen as the definitions by labels see it.
 #![tactic(auto)]
 
+ghost use Rattle.sva_views.specs.Bindings.{BindingsAreSeen};
+ghost use Rattle.sva_views.specs.Flights.{FlightLaws};
 ghost use Rattle.sva_views.specs.DeviceLaws.{RequestsAreSeen, UsesAreSeen, GroupsAreSeen, CompletionsAreSeen, DeliveriesAreSeen};
 
 /// What an endpoint refuses, gives out, answers and keeps, by its tables, is what the definitions by labels say of its
@@ -11,4 +13,16 @@ pub fn device_laws()
     ensures groups { GroupsAreSeen }
     ensures completions { CompletionsAreSeen }
     ensures deliveries { DeliveriesAreSeen }
+{}
+
+/// What is looked up in a table of bindings and what is changed there, is what the definitions by labels look up among the
+/// bindings of a host and what they change.
+pub fn binding_laws()
+    ensures { BindingsAreSeen }
+{}
+
+/// What is looked up among the messages in flight, whether one may be delivered, what is sent and what is taken out, is what
+/// the definitions by labels say of them.
+pub fn flight_laws()
+    ensures { FlightLaws }
 {}

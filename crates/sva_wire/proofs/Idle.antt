@@ -75,12 +75,16 @@ stays_idle w s t h = go s t (reply_of w s)
     go : (s : Step) → IsOfSpaces s → (r : Reply) → IsIdle (changed w s r)
     go step.Space t (Ok a) = record { bindings = h.bindings; parts = h.parts; jobs = h.jobs; hands = h.hands; in_flight = h.in_flight; cookies = h.cookies }
     go step.Space t (Err r) = h
+    go (step.DropSpace n) t (Ok a) = record { bindings = h.bindings; parts = h.parts; jobs = h.jobs; hands = h.hands; in_flight = h.in_flight; cookies = h.cookies }
+    go (step.DropSpace n) t (Err r) = h
     go (step.Map n q x) t (Ok (answer.Frame f)) = record { bindings = h.bindings; parts = h.parts; jobs = h.jobs; hands = h.hands; in_flight = h.in_flight; cookies = h.cookies }
     go (step.Map n q x) t (Ok _) = h
     go (step.Map n q x) t (Err r) = h
     go (step.Unmap n q count) t (Ok (answer.FreeFrames fs)) = record { bindings = h.bindings; parts = h.parts; jobs = h.jobs; hands = h.hands; in_flight = h.in_flight; cookies = h.cookies }
     go (step.Unmap n q count) t (Ok _) = h
     go (step.Unmap n q count) t (Err r) = h
+    go (step.UnmapRange n q order) t (Ok a) = record { bindings = h.bindings; parts = h.parts; jobs = h.jobs; hands = h.hands; in_flight = h.in_flight; cookies = h.cookies }
+    go (step.UnmapRange n q order) t (Err r) = h
     go (step.Look f) t r = h
     go (step.Bearer t) u r = h
     go _ t r = absurd t

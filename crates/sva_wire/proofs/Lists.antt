@@ -110,6 +110,11 @@ unfolding all_below
 all_same zero p q h = refl
 all_same (suc n) p q h = ap₂ (λ b c. if c then b else false) (all_same n p q (λ k l. h k (omega arith))) (h n (omega arith))
 
+pub any_same : (n : ℕ) (p q : ℕ → Bool) → ((k : ℕ) → k < n → p k ≡ q k) → any_below n p ≡ any_below n q
+unfolding any_below
+any_same zero p q h = refl
+any_same (suc n) p q h = ap₂ (λ b c. if c then true else b) (any_same n p q (λ k l. h k (omega arith))) (h n (omega arith))
+
 pub none_below : (n : ℕ) (p : ℕ → Bool) → ((k : ℕ) → k < n → p k ≡ false) → any_below n p ≡ false
 unfolding any_below
 none_below zero p h = refl

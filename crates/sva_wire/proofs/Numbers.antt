@@ -1,6 +1,6 @@
 -- The law: while nothing is bound, a step of spaces and frames by numbers is the step by names.
 use Rattle.std.proofs.Common.{◌≡◌, ◌⊎◌, inl, inr, refl, ap, sym, ◌∙◌, ℕ, suc, ◌+◌, ◌*◌, ◌<◌, ◌≤◌, ◌^◌, Bool, true, false, arith}
-use Rattle.std.specs.Prelude.{Option, Some, None, option_map, ◌&&◌, not, ◌==◌, nat_lt, nat_le, if◌then◌else◌, List, [], ◌∷◌, slice_index_or, Ok, Err}
+use Rattle.std.specs.Prelude.{Option, Some, None, option_map, ◌&&◌, ◌%◌, not, ◌==◌, nat_lt, nat_le, if◌then◌else◌, List, [], ◌∷◌, filter, slice_index_or, Ok, Err}
 use Rattle.std.proofs.lemmas.Bool.Decides.{nat_tests}
 use Rattle.sva_step.specs.declared.answers.Answer.{Answer}
 use Rattle.sva_step.specs.declared.answers.Answer.TheVariants as answer
@@ -9,29 +9,30 @@ use Rattle.sva_step.specs.declared.refusals.Refusal.TheVariants as refusal
 use Rattle.sva_step.specs.declared.steps.Step.{Step}
 use Rattle.sva_step.specs.declared.steps.Step.TheVariants as step
 use Rattle.sva_model.specs.State.PasidRule.{PerSpace}
-use Rattle.sva_model.specs.Words.{any_below, all_below, count_below, is_some, the}
+use Rattle.sva_model.specs.Words.{put, any_below, all_below, count_below, is_some, the}
 use Rattle.sva_model.specs.State.{Owed, MappingState, World}
 use Rattle.sva_model.specs.State.MappingState.{Unmade, Present, Gone}
 use Rattle.sva_model.specs.States.{is_unreleased, answered, place, place_at, place_by, place_of_gone}
-use Rattle.sva_model.specs.Acts.{act, submits, waits}
-use Rattle.sva_model.specs.Acts.Act.{NewSpace, Map, Unmap}
-use Rattle.sva_model.specs.Refusals.{Cause, refusals, page_range, unmap_refusals, is_queue_short}
-use Rattle.sva_model.specs.Outcomes.{Outcome, outcome, frames_at, unmap_answer, look_answer as look_said, bearer_answer}
+use Rattle.sva_model.specs.Acts.{act, submits, waits, in_range}
+use Rattle.sva_model.specs.Acts.Act.{NewSpace, DropSpace, Map, Unmap}
+use Rattle.sva_model.specs.Refusals.{Cause, refusals, page_range, unmap_refusals, unmap_range_refusals, is_queue_short}
+use Rattle.sva_model.specs.Outcomes.{Outcome, outcome, frames_at, mapped_in, unmap_answer, unmap_range_answer, look_answer as look_said, bearer_answer}
 use Rattle.sva_model.specs.Steps.{Reply, Decision, checked, after_acts, reply, next, world_after}
 use Rattle.sva_model.specs.Labels
 use Rattle.sva_model.specs.Wire.{PageWire, insert_by, is_lower_page, page_wire, pages_wire, spaces_wire, withheld_wire, place_wire_by, places_wire, wire}
 use Rattle.sva_model.specs.Wire.PlaceWire.{FreeWire}
 use Rattle.sva_laws.proofs.Words.{some_the, not_true, all_below-true}
-use Rattle.sva_laws.proofs.Counting.{count_zero}
+use Rattle.sva_laws.proofs.Counting.{count_zero, count_same}
 use Rattle.sva_laws.proofs.Found.{labelled}
 use Rattle.sva_laws.proofs.Invariant.{Invariant}
 use Rattle.sva_laws.proofs.Passed.{Passed}
 use Rattle.sva_laws.proofs.Runs.{always}
-use Rattle.sva_wire.specs.Host.{IsIdle, NumbersAreNames, IsOfSpaces, unless_refused, in_space, pages_of, page_at, is_mapped, frame_or_0, frames_of, without, map_reply, unmap_reply, look_answer, reply_of, changed, next_of}
-use Rattle.sva_wire.proofs.Lists.{tabulate_same, tabulate_at, all_same, none_below}
-use Rattle.sva_wire.proofs.Parts.{with_mappings, freely_without, wire_same, unmap_is, none_unreleased, none_submits, none_waits}
-use Rattle.sva_wire.proofs.Pages.{page_at_is, pages_length, pages_mapped, pages_unmapped}
-use Rattle.sva_wire.proofs.Spaces.{space_is, space_found, space_missing, spaces_length, spaces_changed, spaces_more}
+use Rattle.sva_wire.specs.Host.{IsIdle, NumbersAreNames, IsOfSpaces, unless_refused, in_space, pages_of, or_no_pages, with_pages, without_space, page_at, is_mapped, frame_or_0, frames_of, is_between, without, placed, map_reply, unmap_reply, unmap_range_reply, look_answer, reply_of, changed, next_of}
+use Rattle.sva_wire.proofs.Lists.{tabulate_same, tabulate_at, all_same, any_same, none_below}
+use Rattle.sva_wire.proofs.Parts.{with_mappings, freely_left, freely_without, wire_same, unmap_is, none_unreleased, none_submits, none_waits, none_is_bound}
+use Rattle.sva_wire.proofs.Pages.{page_at_is, pages_length, pages_mapped, other_space, pages_unmapped}
+use Rattle.sva_wire.proofs.Spaces.{space_is, space_found, space_missing, spaces_length, spaces_changed, spaces_more, spaces_dropped}
+use Rattle.sva_wire.proofs.Freed.{places_left}
 use Rattle.sva_wire.proofs.Places.{gone_seen, seen_by, seen_at, place_seen, lowest_is, places_length, places_mapped, places_unmapped}
 
 -- Causes, one after another.
@@ -95,6 +96,34 @@ space_leaves w i =
     let one : w.config.first + suc w.spaces ≡ w.config.first + w.spaces + 1 = omega arith in
     λ k. record (wire w) { spaces = spaces_more w i.mapped k; next_space = one k }
 
+-- A space less.
+
+drop_answers : (w : World) (n : ℕ) → Invariant w → IsIdle (wire w) → reply w (step.DropSpace n) ≡ reply_of (wire w) (step.DropSpace n)
+drop_answers w n i h = reply_checked (refusals w (step.DropSpace n)) (outcome w (step.DropSpace n)) ∙ go (Labels.is_space w n) refl
+  where
+    go : (b : Bool) → Labels.is_space w n ≡ b → (if not b then Err refusal.NoSuchSpace else (if Labels.is_bound w (Labels.name w n) then Err refusal.StillBound else Ok answer.Gone)) ≡ in_space (pages_of ((spaces_wire w.config.first w.spaces w.is_live w.mappings)) n) (λ pages. Ok answer.Gone)
+    go false e = sym (ap (λ o. in_space o (λ pages. Ok answer.Gone)) (space_missing w n e))
+    go true e =
+        ap (λ b. if b then Err refusal.StillBound else Ok answer.Gone) (none_is_bound w (Labels.name w n) i h)
+        ∙ sym (ap (λ o. in_space o (λ pages. Ok answer.Gone)) (space_found w n e))
+
+all_kept : (pages : List PageWire) → filter (λ entry. true) pages ≡ pages
+all_kept [] = refl
+all_kept (entry ∷ pages) = ap (λ ps. entry ∷ ps) (all_kept pages)
+
+drop_leaves : (w : World) (n : ℕ) → Invariant w → IsIdle (wire w) → Labels.is_space w n ≡ true → wire (act w (DropSpace (Labels.name w n))) ≡ changed (wire w) (step.DropSpace n) (Ok answer.Gone)
+drop_leaves w n i h e =
+    let s = space_is w n e in
+    let v : World = record w { is_live = put w.is_live (Labels.name w n) false } in
+    let ms = freely_left w.mappings (Labels.name w n) (λ q. true) in
+    let idle : IsIdle (wire v) = record { bindings = h.bindings; parts = h.parts; jobs = h.jobs; hands = h.hands; in_flight = h.in_flight; cookies = h.cookies } in
+    let spaces = spaces_dropped w (with_mappings v ms) n s.from refl refl refl (λ t ne. other_space w (Labels.name w n) (λ q. true) t ne) in
+    let places = places_left w i.mapped (Labels.name w n) (λ q. true) in
+    wire_same v ms idle
+    ∙ (λ k. record (wire w) { spaces = spaces k; places = places k })
+    ∙ (λ k. record (wire w) { spaces = without_space n (wire w).spaces; places = placed FreeWire (all_kept (pages_wire w.mappings (Labels.name w n)) k) (wire w).places })
+    ∙ sym (λ k. record (wire w) { spaces = without_space n (wire w).spaces; places = placed FreeWire (or_no_pages (space_found w n e k)) (wire w).places })
+
 -- A page more.
 
 abbrev map_answers_by : (page : ℕ) → Bool → (pages lowest frames : ℕ) → Reply
@@ -145,10 +174,10 @@ unmap_answers_by q count mapped full spent a =
     ∷ [])
     a
 
-not_full : (w : World) (s count : ℕ) → Invariant w → IsIdle (wire w) → any_below w.config.endpoints (λ e. submits w s e && is_queue_short (w.part e) (count + 1)) ≡ false
-not_full w s count i h =
-    none_below w.config.endpoints (λ e. submits w s e && is_queue_short (w.part e) (count + 1))
-    (λ e l. ap (λ b. b && is_queue_short (w.part e) (count + 1)) (none_submits w s e i h))
+not_full : (w : World) (s descriptors : ℕ) → Invariant w → IsIdle (wire w) → any_below w.config.endpoints (λ e. submits w s e && is_queue_short (w.part e) descriptors) ≡ false
+not_full w s k i h =
+    none_below w.config.endpoints (λ e. submits w s e && is_queue_short (w.part e) k)
+    (λ e l. ap (λ b. b && is_queue_short (w.part e) k) (none_submits w s e i h))
 
 not_spent : (w : World) (s : ℕ) → Invariant w → IsIdle (wire w) → Labels.lacks w w.cookies (count_below w.config.endpoints (submits w s)) ≡ false
 not_spent w s i h = enough (w.config.first + w.cookies) (count_below w.config.endpoints (submits w s)) h.cookies (count_zero w.config.endpoints (submits w s) (λ e l. none_submits w s e i h))
@@ -174,7 +203,7 @@ unmap_answers w n q count i h = reply_checked (refusals w (step.Unmap n q count)
 
     tests : unless_refused (unmap_refusals w (Labels.name w n) q count) (unmap_answer (any_below w.config.endpoints (waits w (Labels.name w n))) (frames_at w (Labels.name w n) q count)) ≡ unmap_answers_by q count (all_below count (λ j. is_mapped (pages_wire w.mappings (Labels.name w n)) (q + j))) false false (answer.FreeFrames (frames_at w (Labels.name w n) q count))
     tests =
-        λ k. unmap_answers_by q count (all_mapped k) (not_full w (Labels.name w n) count i h k) (not_spent w (Labels.name w n) i h k) (unmap_answer (none_waits w (Labels.name w n) i h k) (frames_at w (Labels.name w n) q count))
+        λ k. unmap_answers_by q count (all_mapped k) (not_full w (Labels.name w n) (count + 1) i h k) (not_spent w (Labels.name w n) i h k) (unmap_answer (none_waits w (Labels.name w n) i h k) (frames_at w (Labels.name w n) q count))
 
     frames : unless_refused ((not (nat_le 1 count && nat_le count 48), refusal.BadCount) ∷ page_range q count ∷ (not (all_below count (λ j. is_mapped (pages_wire w.mappings (Labels.name w n)) (q + j))), refusal.NotMapped) ∷ []) (answer.FreeFrames (frames_at w (Labels.name w n) q count)) ≡ unmap_reply q count (pages_wire w.mappings (Labels.name w n))
     frames =
@@ -190,7 +219,7 @@ unmap_leaves : (w : World) (n q count : ℕ) → Invariant w → IsIdle (wire w)
 unmap_leaves w n q count i h e m =
     let s = space_is w n e in
     let ms = freely_without w.mappings (Labels.name w n) q count in
-    let spaces = spaces_changed w (with_mappings w ms) n (without q count) s.from refl refl refl (λ t. pages_unmapped w (Labels.name w n) q count t) in
+    let spaces = spaces_changed w (with_mappings w ms) n (without q count) s.from refl refl refl (λ t. pages_unmapped w (Labels.name w n) (in_range q count) t) in
     let places = places_unmapped w i.mapped (Labels.name w n) q count (λ j l. some_the (w.mappings.at (Labels.name w n) (q + j)) (all_below-true count (λ j. Labels.is_mapped w (Labels.name w n) (q + j)) m j l)) in
     ap wire (unmap_is w (Labels.name w n) q count 0 i h)
     ∙ ap (λ k. wire (with_mappings w (freely_without w.mappings (Labels.name w n) q k))) same_count
@@ -200,6 +229,54 @@ unmap_leaves w n q count i h e m =
   where
     same_count : count * 2 ^ 0 ≡ count
     same_count = omega arith
+
+-- A range less.
+
+abbrev range_answers_by : (page order : ℕ) → (some full spent : Bool) → Answer → Reply
+range_answers_by q order some full spent a =
+    unless_refused
+    ((nat_lt 9 order, refusal.BadOrder)
+    ∷ page_range q (2 ^ order)
+    ∷ (not (q % 2 ^ order == 0), refusal.NotAligned)
+    ∷ (not some, refusal.NothingMapped)
+    ∷ (full, refusal.QueueFull)
+    ∷ (spent, refusal.NumbersSpent)
+    ∷ [])
+    a
+
+range_answers : (w : World) (n q order : ℕ) → Invariant w → IsIdle (wire w) → reply w (step.UnmapRange n q order) ≡ reply_of (wire w) (step.UnmapRange n q order)
+range_answers w n q order i h = reply_checked (refusals w (step.UnmapRange n q order)) (outcome w (step.UnmapRange n q order)) ∙ go (Labels.is_space w n) refl
+  where
+    some_mapped : any_below (2 ^ order) (λ j. Labels.is_mapped w (Labels.name w n) (q + j)) ≡ any_below (2 ^ order) (λ j. is_mapped (pages_wire w.mappings (Labels.name w n)) (q + j))
+    some_mapped = any_same (2 ^ order) (λ j. Labels.is_mapped w (Labels.name w n) (q + j)) (λ j. is_mapped (pages_wire w.mappings (Labels.name w n)) (q + j)) (λ j l. sym (mapped_is w i (Labels.name w n) (q + j)))
+
+    so_many : mapped_in w (Labels.name w n) q order ≡ count_below (2 ^ order) (λ j. is_mapped (pages_wire w.mappings (Labels.name w n)) (q + j))
+    so_many = count_same (2 ^ order) (λ j. Labels.is_mapped w (Labels.name w n) (q + j)) (λ j. is_mapped (pages_wire w.mappings (Labels.name w n)) (q + j)) (λ j l. sym (mapped_is w i (Labels.name w n) (q + j)))
+
+    tests : unless_refused (unmap_range_refusals w (Labels.name w n) q order) (unmap_range_answer (any_below w.config.endpoints (waits w (Labels.name w n))) (mapped_in w (Labels.name w n) q order)) ≡ unmap_range_reply q order (pages_wire w.mappings (Labels.name w n))
+    tests =
+        λ k.
+        range_answers_by q order (some_mapped k) (not_full w (Labels.name w n) 2 i h k) (not_spent w (Labels.name w n) i h k)
+        (unmap_range_answer (none_waits w (Labels.name w n) i h k) (so_many k))
+
+    go : (b : Bool) → Labels.is_space w n ≡ b → (if not b then Err refusal.NoSuchSpace else unless_refused (unmap_range_refusals w (Labels.name w n) q order) (unmap_range_answer (any_below w.config.endpoints (waits w (Labels.name w n))) (mapped_in w (Labels.name w n) q order))) ≡ in_space (pages_of ((spaces_wire w.config.first w.spaces w.is_live w.mappings)) n) (unmap_range_reply q order)
+    go false e = sym (ap (λ o. in_space o (unmap_range_reply q order)) (space_missing w n e))
+    go true e = tests ∙ sym (ap (λ o. in_space o (unmap_range_reply q order)) (space_found w n e))
+
+range_leaves : (w : World) (n q order : ℕ) → Invariant w → IsIdle (wire w) → Labels.is_space w n ≡ true → (a : Answer) → wire (act w (Unmap (Labels.name w n) q 1 order)) ≡ changed (wire w) (step.UnmapRange n q order) (Ok a)
+range_leaves w n q order i h e a =
+    let s = space_is w n e in
+    let ms = freely_without w.mappings (Labels.name w n) q (2 ^ order) in
+    let spaces = spaces_changed w (with_mappings w ms) n (without q (2 ^ order)) s.from refl refl refl (λ t. pages_unmapped w (Labels.name w n) (in_range q (2 ^ order)) t) in
+    let places = places_left w i.mapped (Labels.name w n) (in_range q (2 ^ order)) in
+    ap wire (unmap_is w (Labels.name w n) q 1 order i h)
+    ∙ ap (λ k. wire (with_mappings w (freely_without w.mappings (Labels.name w n) q k))) (one_range (2 ^ order))
+    ∙ wire_same w ms h
+    ∙ (λ k. record (wire w) { spaces = spaces k; places = places k })
+    ∙ sym (λ k. record (wire w) { spaces = with_pages (wire w).spaces n (without q (2 ^ order)); places = placed FreeWire (filter (is_between q (2 ^ order)) (or_no_pages (space_found w n e k))) (wire w).places })
+  where
+    one_range : (n : ℕ) → 1 * n ≡ n
+    one_range n = omega arith
 
 -- Where a frame is.
 
@@ -261,12 +338,19 @@ IsByNumbers w s = (reply w s ≡ reply_of (wire w) s) × (wire (next w s) ≡ ne
 
 pub by_numbers : (w : World) (s : Step) → Invariant w → IsOfSpaces s → IsIdle (wire w) → IsByNumbers w s
 by_numbers w step.Space i t h = (space_answers w, next_by w step.Space (space_answers w) (λ r. refl) (λ p. space_leaves w i))
+by_numbers w (step.DropSpace n) i t h =
+    (drop_answers w n i h, next_by w (step.DropSpace n) (drop_answers w n i h) (λ r. refl) (λ p. drop_leaves w n i h (not_true (Labels.is_space w n) p.0)))
 by_numbers w (step.Map n q x) i t h =
     (map_answers w n q x i, next_by w (step.Map n q x) (map_answers w n q x i) (λ r. refl) (λ p. map_leaves w n q x i h (not_true (Labels.is_space w n) p.0)))
 by_numbers w (step.Unmap n q count) i t h = (
   unmap_answers w n q count i h,
   next_by w (step.Unmap n q count) (unmap_answers w n q count i h) (λ r. refl)
       (λ p. unmap_leaves w n q count i h (not_true (Labels.is_space w n) p.0) (not_true (all_below count (λ j. Labels.is_mapped w (Labels.name w n) (q + j))) p.1.1.1.0)),
+)
+by_numbers w (step.UnmapRange n q order) i t h = (
+  range_answers w n q order i h,
+  next_by w (step.UnmapRange n q order) (range_answers w n q order i h) (λ r. refl)
+      (λ p. range_leaves w n q order i h (not_true (Labels.is_space w n) p.0) (outcome w (step.UnmapRange n q order)).answer),
 )
 by_numbers w (step.Look f) i t h = (look_answers w f, next_by w (step.Look f) (look_answers w f) (λ r. refl) (λ p. refl))
 by_numbers w (step.Bearer t) i u h = (bearer_answers w t i h, next_by w (step.Bearer t) (bearer_answers w t i h) (λ r. refl) (λ p. refl))

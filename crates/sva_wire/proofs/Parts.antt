@@ -9,6 +9,7 @@ use Rattle.sva_model.specs.State.Owed.{Nothing}
 use Rattle.sva_model.specs.States.{is_unreleased}
 use Rattle.sva_model.specs.Acts.{act, bound, submits_at, submits, waits_at, waits, owed_by, submitted_if, in_range, without_pages}
 use Rattle.sva_model.specs.Acts.Act.{Unmap}
+use Rattle.sva_model.specs.Labels
 use Rattle.sva_model.specs.Wire.{chain, sorted_by, insert_by, is_before, binding_wire, translation_wire, cache_wire, use_wire, taken_by, device_wire, part_wire, spaces_wire, places_wire, busy_wire, wire}
 use Rattle.sva_laws.proofs.Words.{lowest_cases}
 use Rattle.sva_laws.proofs.Counting.{count_zero}
@@ -127,9 +128,12 @@ unmapped_by w s q count order bound_at =
       part = λ e. submitted_if (submits_at (w.part e) (bound_at e)) (w.part e) (bound_at e) q count order (w.cookies + count_below e (λ x. submits_at (w.part x) (bound_at x)));
     }
 
--- the mappings without a row of pages, for which nothing is owed
+-- the mappings without the pages of a space that pass, or without a row of pages: nothing is owed for them
+abbrev pub freely_left : Mappings → (space : ℕ) → (ℕ → Bool) → Mappings
+freely_left ms s goes = without_pages ms s goes (λ e. Nothing)
+
 abbrev pub freely_without : Mappings → (space page count : ℕ) → Mappings
-freely_without ms s q count = without_pages ms s (in_range q count) (λ e. Nothing)
+freely_without ms s q count = freely_left ms s (in_range q count)
 
 pub unmap_is : (w : World) (s q count order : ℕ) → Invariant w → IsIdle (wire w) → act w (Unmap s q count order) ≡ with_mappings w (freely_without w.mappings s q (count * 2 ^ order))
 unmap_is w s q count order i h = ap (unmapped_by w s q count order) (fun_ext (λ e. none_bound w e s i h)) ∙ none_asked
@@ -147,3 +151,10 @@ none_submits w s e i h = ap (submits_at (w.part e)) (none_bound w e s i h)
 
 pub none_waits : (w : World) (s : ℕ) → Invariant w → IsIdle (wire w) → any_below w.config.endpoints (waits w s) ≡ false
 none_waits w s i h = none_below w.config.endpoints (waits w s) (λ e l. ap (waits_at (w.part e)) (none_bound w e s i h))
+
+-- nor does a drop find a binding of the space
+pub none_is_bound : (w : World) (s : ℕ) → Invariant w → IsIdle (wire w) → Labels.is_bound w s ≡ false
+none_is_bound w s i h =
+    none_below w.config.endpoints (Labels.is_bound_at w s)
+    (λ e l. none_below w.bindings (λ b. is_unreleased ((w.part e).stage b) && (w.part e).space b == s)
+    (λ b k. and_false (is_unreleased ((w.part e).stage b)) ((w.part e).space b == s) (none_unreleased w i h e b k)))

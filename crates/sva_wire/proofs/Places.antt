@@ -111,11 +111,11 @@ freed_push places (g ∷ fs) f = freed_push (slice_set places g FreeWire) fs f
 abbrev pub state_without : World → (space page count mapping : ℕ) → MappingState
 state_without w s q count m = gone_if (w.mappings.space m == s && in_range q count (w.mappings.page m)) (λ e. Nothing) (w.mappings.state m)
 
-unmade_stays : (b : Bool) (owed : ℕ → Owed) → gone_if b owed Unmade ≡ Unmade
+pub unmade_stays : (b : Bool) (owed : ℕ → Owed) → gone_if b owed Unmade ≡ Unmade
 unmade_stays true owed = refl
 unmade_stays false owed = refl
 
-gone_stays : (b : Bool) (owed others : ℕ → Owed) → gone_if b owed (Gone others) ≡ Gone others
+pub gone_stays : (b : Bool) (owed others : ℕ → Owed) → gone_if b owed (Gone others) ≡ Gone others
 gone_stays true owed others = refl
 gone_stays false owed others = refl
 

@@ -1,6 +1,6 @@
 -- The steps of spaces and frames by numbers: what a host answers to them, and what it keeps afterwards, read off what it
 -- keeps before, while no endpoint has anything and nothing is in flight. No name of a record stands in it.
-use Rattle.std.specs.Prelude.{◌≡◌, ◌≤◌, ℕ, ◌+◌, ◌^◌, Bool, true, false, ◌&&◌, not, ◌==◌, nat_lt, nat_le, if◌then◌else◌, is_some, Option, Some, None, List, [], ◌∷◌, ◌++◌, filter, length, replicate, slice_set, slice_index_or, Ok, Err}
+use Rattle.std.specs.Prelude.{◌≡◌, ◌≤◌, ℕ, ◌+◌, ◌%◌, ◌^◌, Bool, true, false, ◌&&◌, not, ◌==◌, nat_lt, nat_le, if◌then◌else◌, is_some, Option, Some, None, List, [], ◌∷◌, ◌++◌, filter, length, replicate, slice_set, slice_index_or, Ok, Err}
 use Rattle.std.specs.List.{AllByRecursion}
 use Rattle.sva_step.specs.declared.answers.Answer.{Answer}
 use Rattle.sva_step.specs.declared.answers.Answer.TheVariants as answer
@@ -9,7 +9,7 @@ use Rattle.sva_step.specs.declared.refusals.Refusal.TheVariants as refusal
 use Rattle.sva_step.specs.declared.steps.Step.{Step}
 use Rattle.sva_step.specs.declared.steps.Step.TheVariants as step
 use Rattle.sva_model.specs.State.PasidRule.{PerSpace}
-use Rattle.sva_model.specs.Words.{tabulate, all_below}
+use Rattle.sva_model.specs.Words.{tabulate, any_below, all_below, count_below}
 use Rattle.sva_model.specs.State.PasidState.{Off}
 use Rattle.sva_model.specs.Acts.{in_range}
 use Rattle.sva_model.specs.Refusals.{Cause, page_range}
@@ -59,6 +59,17 @@ with_pages [] n change = []
 with_pages (space ∷ spaces) n change =
     (if space.number == n then record space { pages = change space.pages } else space) ∷ with_pages spaces n change
 
+-- the same, and no pages where there is no such space
+abbrev pub or_no_pages : Option (List PageWire) → List PageWire
+or_no_pages None = []
+or_no_pages (Some pages) = pages
+
+abbrev pub pages_in : Wire → (number : ℕ) → List PageWire
+pages_in w n = or_no_pages (pages_of w.spaces n)
+
+abbrev pub without_space : (number : ℕ) → List SpaceWire → List SpaceWire
+without_space n spaces = filter (λ space. not (space.number == n)) spaces
+
 -- what stands at a page of a space, if anything does
 abbrev pub page_at : List PageWire → (page : ℕ) → Option PageWire
 page_at [] q = None
@@ -75,6 +86,10 @@ frame_or_0 (Some entry) = entry.frame
 -- the frames of pages in a row, in page order
 abbrev pub frames_of : List PageWire → (page count : ℕ) → List ℕ
 frames_of pages q count = tabulate count (λ j. frame_or_0 (page_at pages (q + j)))
+
+-- is it one of the pages in a row?
+abbrev pub is_between : (page count : ℕ) → PageWire → Bool
+is_between q count entry = in_range q count entry.page
 
 -- the pages but for those in a row
 abbrev pub without : (page count : ℕ) → List PageWire → List PageWire
@@ -94,6 +109,11 @@ abbrev pub freed : List PlaceWire → List ℕ → List PlaceWire
 freed places [] = places
 freed places (frame ∷ frames) = freed (slice_set places frame FreeWire) frames
 
+-- the places of frames once these are somewhere else
+abbrev pub placed : PlaceWire → List PageWire → List PlaceWire → List PlaceWire
+placed place [] places = places
+placed place (entry ∷ pages) places = placed place pages (slice_set places entry.frame place)
+
 -- the first cause that holds is answered, else the answer is
 abbrev pub unless_refused : List Cause → Answer → Reply
 unless_refused [] a = Ok a
@@ -104,7 +124,8 @@ abbrev pub in_space : Option (List PageWire) → (List PageWire → Reply) → R
 in_space None answers = Err refusal.NoSuchSpace
 in_space (Some pages) answers = answers pages
 
--- The answers: to a new space, and to a page mapped and pages unmapped among the pages of their space.
+-- The answers: to a new space, and to a page mapped and pages or a range unmapped among the pages of their space. Nothing
+-- is bound, so a space that is dropped isn't.
 
 abbrev pub space_reply : Wire → Reply
 space_reply w =
@@ -131,6 +152,17 @@ unmap_reply q count pages =
     ∷ [])
     (answer.FreeFrames (frames_of pages q count))
 
+-- a range that is taken out: of 1 to 512 pages, aligned to its size, with a page that is mapped
+abbrev pub unmap_range_reply : (page order : ℕ) → List PageWire → Reply
+unmap_range_reply q order pages =
+    unless_refused
+    ((nat_lt 9 order, refusal.BadOrder)
+    ∷ page_range q (2 ^ order)
+    ∷ (not (q % 2 ^ order == 0), refusal.NotAligned)
+    ∷ (not (any_below (2 ^ order) (λ j. is_mapped pages (q + j))), refusal.NothingMapped)
+    ∷ [])
+    (answer.RangeFree (count_below (2 ^ order) (λ j. is_mapped pages (q + j))))
+
 abbrev pub look_answer : PlaceWire → Answer
 look_answer FreeWire = answer.Free
 look_answer MappedWire = answer.Mapped
@@ -146,8 +178,10 @@ bearer_reply t = unless_refused ((not (nat_le 1 t && nat_le t 32), refusal.BadPa
 -- the steps of spaces and frames, and the question which space bears a PASID
 abbrev pub IsOfSpaces : Step → Type 0
 IsOfSpaces step.Space = Unit {0}
+IsOfSpaces (step.DropSpace n) = Unit {0}
 IsOfSpaces (step.Map n q x) = Unit {0}
 IsOfSpaces (step.Unmap n q count) = Unit {0}
+IsOfSpaces (step.UnmapRange n q order) = Unit {0}
 IsOfSpaces (step.Look f) = Unit {0}
 IsOfSpaces (step.Bearer t) = Unit {0}
 IsOfSpaces _ = ⊥
@@ -155,8 +189,10 @@ IsOfSpaces _ = ⊥
 -- what is answered; the answer to a step of another kind isn't said here
 abbrev pub reply_of : Wire → Step → Reply
 reply_of w step.Space = space_reply w
+reply_of w (step.DropSpace n) = in_space (pages_of w.spaces n) (λ pages. Ok answer.Gone)
 reply_of w (step.Map n q x) = in_space (pages_of w.spaces n) (map_reply w.places q)
 reply_of w (step.Unmap n q count) = in_space (pages_of w.spaces n) (unmap_reply q count)
+reply_of w (step.UnmapRange n q order) = in_space (pages_of w.spaces n) (unmap_range_reply q order)
 reply_of w (step.Look f) = look_reply w.places f
 reply_of w (step.Bearer t) = bearer_reply t
 reply_of w _ = Err refusal.OutOfMemory
@@ -164,6 +200,7 @@ reply_of w _ = Err refusal.OutOfMemory
 -- what an accepted step changes, by its answer
 abbrev pub changed : Wire → Step → Reply → Wire
 changed w step.Space (Ok a) = record w { spaces = w.spaces ++ record { number = w.next_space; pages = [] } ∷ []; next_space = w.next_space + 1 }
+changed w (step.DropSpace n) (Ok a) = record w { spaces = without_space n w.spaces; places = placed FreeWire (pages_in w n) w.places }
 changed w (step.Map n q x) (Ok (answer.Frame f)) =
     record w {
       spaces = with_pages w.spaces n (insert_by is_lower_page (record { page = q; frame = f; write = x }));
@@ -171,6 +208,11 @@ changed w (step.Map n q x) (Ok (answer.Frame f)) =
     }
 changed w (step.Unmap n q count) (Ok (answer.FreeFrames frames)) =
     record w { spaces = with_pages w.spaces n (without q count); places = freed w.places frames }
+changed w (step.UnmapRange n q order) (Ok a) =
+    record w {
+      spaces = with_pages w.spaces n (without q (2 ^ order));
+      places = placed FreeWire (filter (is_between q (2 ^ order)) (pages_in w n)) w.places;
+    }
 changed w _ _ = w
 
 -- what is kept after a step

@@ -1,10 +1,12 @@
 //! The scenarios of examples/ with their reports, as they stand there: `scripts/examples` compares them.
 
 /// Each scenario, its report, and the status of its run.
-pub const EXAMPLES: [(&str, &str, u8); 7] = [
+pub const EXAMPLES: [(&str, &str, u8); 9] = [
     (FIRST, FIRST_REPORT, 0),
     (PAGES, PAGES_REPORT, 0),
     (LOOK, LOOK_REPORT, 0),
+    (EXIT, EXIT_REPORT, 0),
+    (HUGE_PAGE, HUGE_PAGE_REPORT, 0),
     (REFUSALS, REFUSALS_REPORT, 0),
     (UNMAP_MANY, UNMAP_MANY_REPORT, 0),
     (TYPO, TYPO_REPORT, 1),
@@ -162,6 +164,124 @@ refused 8 NoFrame
 bearer none
 refused 43 BadPasid
 free 2 mapped 0 withheld 0
+";
+
+const EXIT: &str =
+    "# A process exits: its space goes at once, with all that was mapped, and its frames are free.
+config 1 8 1
+
+# Two processes, each with an address space of its own.
+space
+space
+map 0 16 w
+map 1 16 r
+map 0 17 w
+map 0 4096 r
+
+# Process 0 exits. No endpoint is bound to its space, so the frames 0, 2 and 3 wait for none.
+drop 0
+look 0
+look 2
+look 3
+
+# Frame 1 is the other process's.
+look 1
+
+# The space is no more.
+map 0 16 w
+unmap 0 16
+drop 0
+
+# Its number isn't given again, and the lowest free frame is 0.
+space
+map 2 16 w
+";
+
+const EXIT_REPORT: &str = "space 0
+space 1
+frame 0
+frame 1
+frame 2
+frame 3
+gone
+free
+free
+free
+mapped
+refused 3 NoSuchSpace
+refused 3 NoSuchSpace
+refused 3 NoSuchSpace
+space 2
+frame 0
+free 6 mapped 2 withheld 0
+";
+
+const HUGE_PAGE: &str =
+    "# A huge page, the 512 pages from page 512 on, is taken out at once, whichever of its pages are mapped.
+config 1 8 1
+space
+space
+
+# Three of its pages, the first and the last among them; its neighbours; and the first in another space.
+map 0 512 w
+map 0 600 w
+map 0 1023 r
+map 0 511 w
+map 0 1024 w
+map 1 512 r
+
+# 2^9 pages are 512. Three were mapped.
+unmapr 0 512 9
+
+# The neighbours and the other space keep their pages, and nothing is left to take out.
+map 0 511 r
+map 0 1024 r
+map 1 512 r
+unmapr 0 512 9
+
+# The frames 0, 1 and 2 are free.
+map 0 600 r
+
+# A range has 2^0 to 2^9 pages.
+unmapr 0 0 10
+unmapr 0 600 0
+
+# Page numbers are below 2^36, which is 68719476736; a range isn't cut there, and that is asked before it is aligned.
+map 0 68719476735 r
+unmapr 0 68719476735 1
+unmapr 0 68719476734 1
+
+# It begins at a multiple of its size.
+unmapr 0 511 1
+unmapr 0 510 1
+
+# The first cause that holds is answered: there is no space 2, and the order is too large.
+unmapr 2 0 10
+";
+
+const HUGE_PAGE_REPORT: &str = "space 0
+space 1
+frame 0
+frame 1
+frame 2
+frame 3
+frame 4
+frame 5
+range free 3
+refused 6 Mapped
+refused 6 Mapped
+refused 6 Mapped
+refused 42 NothingMapped
+frame 0
+refused 40 BadOrder
+range free 1
+frame 0
+refused 5 PageRange
+range free 1
+refused 41 NotAligned
+range free 1
+refused 3 NoSuchSpace
+free 6 mapped 2 withheld 0
 ";
 
 const UNMAP_MANY: &str =

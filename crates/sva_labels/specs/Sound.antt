@@ -1,0 +1,82 @@
+-- What the calls of the parts need of what a host keeps, in its own words; and the law that each world which a list of steps
+-- leads to is seen so.
+use Rattle.std.specs.Prelude.{◌≡◌, ◌↔◌, ℕ, ◌^◌, ◌<◌, ◌≤◌, Bool, true, false, Option, Some, None, List, [], ◌∷◌, map, length, slice_get, slice_index_or}
+use Rattle.sva_step.specs.declared.limits.Config.{Config}
+use Rattle.sva_step.specs.declared.steps.Step.{Step}
+use Rattle.sva_model.specs.State.PasidRule.{PerSpace}
+use Rattle.sva_model.specs.Steps.{world_after}
+use Rattle.sva_model.specs.Claims.{Fits}
+use Rattle.sva_model.specs.Wire.{Wire, SpaceWire, BindingWire, UnitWire, PlaceWire, TargetWire, FlightWire, wire}
+use Rattle.sva_model.specs.Wire.PlaceWire.{WithheldWire}
+use Rattle.sva_model.specs.Wire.TargetWire.{Cookie}
+use Rattle.sva_model.specs.Wire.StageWire.{InvalidatingWire}
+use Rattle.sva_model.specs.Wire.Descriptor.{WaitDescriptor}
+use Rattle.sva_labels.specs.Finding.{unit_of, is_wait_done}
+
+-- what a frame awaits at a unit, if anything; the cookies among such targets, as often as they stand there; and those that
+-- frames await at a unit
+abbrev pub target_there : (endpoint : ℕ) → PlaceWire → Option TargetWire
+target_there e (WithheldWire targets) = slice_index_or targets e None
+target_there e place = None
+
+abbrev pub cookies_in : List (Option TargetWire) → List ℕ
+cookies_in [] = []
+cookies_in (Some (Cookie cookie) ∷ targets) = cookie ∷ cookies_in targets
+cookies_in (_ ∷ targets) = cookies_in targets
+
+abbrev pub awaited_at : (endpoint : ℕ) → List PlaceWire → List ℕ
+awaited_at e places = cookies_in (map (target_there e) places)
+
+-- a wait with this cookie is in the unit's queue
+pub record HasWait (unit : UnitWire) (cookie : ℕ) : Type 0 where
+  pub place : ℕ
+  pub drain : Bool
+  pub stands : slice_get unit.queue place ≡ Some (WaitDescriptor cookie drain)
+
+pub record IsSound (w : Wire) : Type 0 where
+  -- numbers and cookies: a step counts on from one of these after its test that it is below 2^63 (a unit's `submit`)
+  pub spaces_end : w.next_space ≤ 2 ^ 63
+  pub bindings_end : w.next_binding ≤ 2 ^ 63
+  pub messages_end : w.next_message ≤ 2 ^ 63
+  pub cookies_end : w.next_cookie ≤ 2 ^ 63
+  -- the next number is new: of a space (`Space`), of a binding (`begin` of the PASIDs), of a message (each send)
+  pub space_low : (k : ℕ) (s : SpaceWire) → slice_get w.spaces k ≡ Some s → s.number < w.next_space
+  pub binding_low : (k : ℕ) (b : BindingWire) → slice_get w.bindings k ≡ Some b → b.binding < w.next_binding
+  pub message_low : (k : ℕ) (f : FlightWire) → slice_get w.in_flight k ≡ Some f → f.number < w.next_message
+  -- no two have one number, and what is put behind the others stays in order (searches by number, `begin`, each send)
+  pub spaces_rise : (j k : ℕ) (s t : SpaceWire) → j < k → slice_get w.spaces j ≡ Some s → slice_get w.spaces k ≡ Some t → s.number < t.number
+  pub bindings_rise : (j k : ℕ) (b d : BindingWire) → j < k → slice_get w.bindings j ≡ Some b → slice_get w.bindings k ≡ Some d → b.binding < d.binding
+  pub messages_rise : (j k : ℕ) (f g : FlightWire) → j < k → slice_get w.in_flight j ≡ Some f → slice_get w.in_flight k ≡ Some g → f.number < g.number
+  -- the tables of units and of hands are of these sizes at most (a lane for each unit, a place for each hand)
+  pub few_parts : length w.parts ≤ 8
+  pub few_hands : length w.hands ≤ 4
+  -- a unit's cookies: those that it was given are below the next one (`submit`, where cookies rise); its front is among them;
+  -- and its queue keeps to its 64 places (`submit`, `pump`)
+  pub waits_given : (e : ℕ) → e < length w.parts → (unit_of w e).waits_end ≤ w.next_cookie
+  pub front_low : (e : ℕ) → e < length w.parts → (unit_of w e).front ≤ (unit_of w e).waits_end
+  pub queue_fits : (e : ℕ) → e < length w.parts → length (unit_of w e).queue ≤ 64
+  -- PASIDs (`begin`, `lowest`, the bearers): 1 to 32, one for each space; a space has one binding at an endpoint
+  pub pasid_low : (k : ℕ) (b : BindingWire) → slice_get w.bindings k ≡ Some b → (0 < b.pasid) × (b.pasid ≤ 32)
+  pub pasids_shared : (j k : ℕ) (b d : BindingWire) → slice_get w.bindings j ≡ Some b → slice_get w.bindings k ≡ Some d → (b.pasid ≡ d.pasid) ↔ (b.space ≡ d.space)
+  pub endpoint_low : (k : ℕ) (b : BindingWire) → slice_get w.bindings k ≡ Some b → b.endpoint < length w.parts
+  pub one_each : (j k : ℕ) (b d : BindingWire) → slice_get w.bindings j ≡ Some b → slice_get w.bindings k ≡ Some d → b.endpoint ≡ d.endpoint → b.space ≡ d.space → j ≡ k
+  -- room for waits (`withhold` of the frames): at an open unit what a frame awaits is a wait in the queue; so is what a binding
+  -- awaits whose PASID is invalidated, unless it is done
+  pub awaited_queued :
+      (e f c : ℕ) (place : PlaceWire)
+      → e < length w.parts
+      → (unit_of w e).is_open ≡ true
+      → slice_get w.places f ≡ Some place
+      → target_there e place ≡ Some (Cookie c)
+      → HasWait (unit_of w e) c
+  pub invalidating_queued :
+      (k c : ℕ) (b : BindingWire)
+      → slice_get w.bindings k ≡ Some b
+      → b.stage ≡ InvalidatingWire c
+      → (unit_of w b.endpoint).is_open ≡ true
+      → is_wait_done (unit_of w b.endpoint) c ≡ false
+      → HasWait (unit_of w b.endpoint) c
+
+-- what is kept at each world that some list of steps leads to
+abbrev pub AlwaysSound : Type 0
+AlwaysSound = (config : Config) (steps : List Step) → Fits config → IsSound (wire (world_after PerSpace config steps))

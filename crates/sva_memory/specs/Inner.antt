@@ -1,0 +1,14 @@
+-- What the fields of a memory are seen as, and what holds of them.
+use Rattle.std.specs.Prelude.{◌≤◌, ℕ}
+use Rattle.sva_memory.specs.declared.memory.Memory.TheInside.{Inside}
+use Rattle.sva_memory.specs.Seen.{MemorySeen, places_seen}
+use Rattle.sva_memory.specs.Lives.{spaces_seen, count_all, AreNumbered}
+use Rattle.sva_memory.specs.Owned.{mapped_bit}
+
+abbrev pub memory_in : Inside → MemorySeen
+memory_in memory = record { spaces = spaces_seen memory.spaces.items; places = places_seen memory.pool; next_space = memory.next_space }
+
+-- no two spaces have one number, the next number is new, and no frame is at two pages, nor at one if it isn't mapped
+pub record IsMemory (memory : Inside) : Type 0 where
+  pub numbered : AreNumbered memory.spaces.items memory.next_space
+  pub owned : (frame : ℕ) → count_all frame memory.spaces.items ≤ mapped_bit frame memory.pool

@@ -1,0 +1,6 @@
+pub mod Seen
+pub mod Lives
+pub mod Owned
+pub mod Pieces
+pub mod Inner
+pub mod Steps

@@ -1,0 +1,48 @@
+-- What each piece of a step does to the pages of one space and to the places of frames.
+use Rattle.std.specs.Prelude.{◌≡◌, ℕ, ◌+◌, ◌==◌, nat_le, if◌then◌else◌, Bool, List, [], ◌∷◌, Result, Ok, Err, IsOk, length, slice_set}
+use Rattle.sva_step.specs.declared.answers.Answer.TheVariants as answer
+use Rattle.sva_step.specs.declared.refusals.Refusal.{Refusal}
+use Rattle.sva_step.specs.declared.refusals.Refusal.TheVariants as refusal
+use Rattle.sva_model.specs.Words.{all_below, count_below}
+use Rattle.sva_model.specs.Refusals.{Cause, page_range}
+use Rattle.sva_model.specs.Steps.{Reply}
+use Rattle.sva_model.specs.Wire.{PageWire, PlaceWire, insert_by, is_lower_page}
+use Rattle.sva_model.specs.Wire.PlaceWire.{FreeWire, MappedWire}
+use Rattle.sva_labels.specs.Finding.{is_mapped, lowest_free}
+
+-- the first cause that holds refuses, else this is answered
+abbrev pub unless_refused : {A : Type 0} → List Cause → A → Result A Refusal
+unless_refused [] a = Ok a
+unless_refused (cause ∷ causes) a = if cause.0 then Err cause.1 else unless_refused causes a
+
+-- the answer to a page that is mapped among the pages of its space
+abbrev pub map_reply : List PlaceWire → (page : ℕ) → List PageWire → Reply
+map_reply places q pages =
+    unless_refused
+    (page_range q 1
+    ∷ (is_mapped pages q, refusal.Mapped)
+    ∷ (nat_le 1024 (length pages), refusal.SpaceFull)
+    ∷ (lowest_free places == length places, refusal.NoFrame)
+    ∷ [])
+    (answer.Frame (lowest_free places))
+
+-- the pages and the places after a page was mapped, by the answer
+abbrev pub PageMapped : List PageWire → List PlaceWire → (page : ℕ) (write : Bool) → Reply → List PageWire → List PlaceWire → Type 0
+PageMapped pages places q x (Ok (answer.Frame f)) pages_after places_after =
+    (pages_after ≡ insert_by is_lower_page (record { page = q; frame = f; write = x }) pages) × (places_after ≡ slice_set places f MappedWire)
+PageMapped pages places q x (Ok _) pages_after places_after = ⊥
+PageMapped pages places q x _ pages_after places_after = (pages_after ≡ pages) × (places_after ≡ places)
+
+abbrev pub MapsPage : List PageWire → List PlaceWire → (page : ℕ) (write : Bool) → Reply → List PageWire → List PlaceWire → Type 0
+MapsPage pages places q x (Err refusal.OutOfMemory) pages_after places_after =
+    IsOk (map_reply places q pages) × (pages_after ≡ pages) × (places_after ≡ places)
+MapsPage pages places q x result pages_after places_after =
+    (result ≡ map_reply places q pages) × PageMapped pages places q x result pages_after places_after
+
+-- each of `count` pages in a row is mapped
+unfoldable pub are_mapped : List PageWire → (page count : ℕ) → Bool
+are_mapped pages q count = all_below count (λ j. is_mapped pages (q + j))
+
+-- how many of `count` pages in a row are mapped
+unfoldable pub count_mapped : List PageWire → (page count : ℕ) → ℕ
+count_mapped pages q count = count_below count (λ j. is_mapped pages (q + j))

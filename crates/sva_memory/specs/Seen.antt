@@ -1,0 +1,41 @@
+-- How what the parts keep is seen by the definitions.
+use Rattle.std.specs.Prelude.{ℕ, Bool, List, map, option_map}
+use Rattle.sva_frames.specs.declared.waits.Target.{Target}
+use Rattle.sva_frames.specs.declared.waits.Target.TheVariants.{Cookie as CookieTarget, ResetEnd as ResetTarget}
+use Rattle.sva_frames.specs.Frames.{Holding, Free, Mapped, Withheld}
+use Rattle.sva_model.specs.Wire.{Wire, SpaceWire, PageWire, PlaceWire, TargetWire}
+use Rattle.sva_model.specs.Wire.TargetWire.{Cookie, ResetEnd}
+use Rattle.sva_model.specs.Wire.PlaceWire.{FreeWire, MappedWire, WithheldWire}
+
+-- a page of a space, with its frame and its write flag
+abbrev pub page_seen : ℕ × (ℕ × Bool) → PageWire
+page_seen mapping = record { page = mapping.0; frame = mapping.1.0; write = mapping.1.1 }
+
+abbrev pub pages_seen : List (ℕ × (ℕ × Bool)) → List PageWire
+pages_seen mappings = map page_seen mappings
+
+abbrev pub target_seen : Target → TargetWire
+target_seen (CookieTarget cookie) = Cookie cookie
+target_seen ResetTarget = ResetEnd
+
+-- where a frame is
+abbrev pub place_seen : Holding → PlaceWire
+place_seen Free = FreeWire
+place_seen Mapped = MappedWire
+place_seen (Withheld targets) = WithheldWire (map (option_map target_seen) targets)
+
+abbrev pub places_seen : List Holding → List PlaceWire
+places_seen frames = map place_seen frames
+
+-- What a host keeps of its spaces and frames.
+pub record MemorySeen : Type 0 where
+  pub spaces : List SpaceWire
+  pub places : List PlaceWire
+  pub next_space : ℕ
+
+abbrev pub memory_of : Wire → MemorySeen
+memory_of w = record { spaces = w.spaces; places = w.places; next_space = w.next_space }
+
+-- the host that keeps this, and all else as before
+abbrev pub with_memory : Wire → MemorySeen → Wire
+with_memory w memory = record w { spaces = memory.spaces; places = memory.places; next_space = memory.next_space }

@@ -1,0 +1,48 @@
+-- What a memory does, in the words of the steps by labels.
+use Rattle.std.specs.Prelude.{◌≡◌, ℕ, Bool, true, false, List, [], Err, IsOk, is_some, count_by}
+use Rattle.sva_frames.specs.declared.pool.Counts.{Counts}
+use Rattle.sva_step.specs.declared.refusals.Refusal.TheVariants as refusal
+use Rattle.sva_step.specs.declared.steps.Step.{Step}
+use Rattle.sva_model.specs.Words.{tabulate}
+use Rattle.sva_model.specs.Steps.{Reply}
+use Rattle.sva_model.specs.Wire.{Wire, PlaceWire}
+use Rattle.sva_model.specs.Wire.PlaceWire.{FreeWire, MappedWire, WithheldWire}
+use Rattle.sva_labels.specs.Finding.{pages_of, is_free}
+use Rattle.sva_labels.specs.Moves.{Move, moved}
+use Rattle.sva_labels.specs.Host.{reply_of, next_of}
+use Rattle.sva_memory.specs.Seen.{MemorySeen, memory_of, with_memory}
+
+-- before the first step
+abbrev pub first_memory : (frames first : ℕ) → MemorySeen
+first_memory frames first = record { spaces = []; places = tabulate frames (λ f. FreeWire); next_space = first }
+
+-- the step by labels; want of memory changes nothing, and comes only where the step would have been accepted
+abbrev pub ByLabels : Wire → Step → Reply → Wire → Type 0
+ByLabels w step (Err refusal.OutOfMemory) after = IsOk (reply_of w step) × (after ≡ w)
+ByLabels w step result after = (result ≡ reply_of w step) × (after ≡ next_of w step)
+
+-- a step that the spaces and frames alone decide, at each host that keeps them so
+abbrev pub Steps : Step → MemorySeen → Reply → MemorySeen → Type 0
+Steps step before result after = (w : Wire) → memory_of w ≡ before → ByLabels w step result (with_memory w after)
+
+-- a move that changes spaces and frames alone, at each host that keeps them so
+abbrev pub Moves : Move → MemorySeen → MemorySeen → Type 0
+Moves move before after = (w : Wire) → memory_of w ≡ before → with_memory w after ≡ moved w move
+
+-- is there a space of this number?
+abbrev pub has_space : MemorySeen → (number : ℕ) → Bool
+has_space memory n = is_some (pages_of memory.spaces n)
+
+abbrev pub is_mapped_place : PlaceWire → Bool
+is_mapped_place MappedWire = true
+is_mapped_place _ = false
+
+abbrev pub is_withheld_place : PlaceWire → Bool
+is_withheld_place (WithheldWire targets) = true
+is_withheld_place _ = false
+
+-- how many frames are at each place
+pub record Counted (places : List PlaceWire) (counts : Counts) : Type 0 where
+  pub free : counts.free ≡ count_by is_free places
+  pub mapped : counts.mapped ≡ count_by is_mapped_place places
+  pub withheld : counts.withheld ≡ count_by is_withheld_place places

@@ -1,0 +1,19 @@
+//! The live spaces, by their numbers.
+
+ghost use Rattle.std.specs.Prelude.{◌≡◌, position};
+ghost use Rattle.sva_memory.specs.Lives.{is_of};
+
+use sva_space::Space;
+
+/// A live space with its number.
+pub struct Live {
+    pub number: u64,
+    pub space: Space,
+}
+
+/// Where the space of this number stands.
+pub fn place_of(lives: &[Live], number: u64) -> Option<usize>
+    ensures { result ≡ position (is_of number) lives.now }
+{
+    lives.iter().position(|live| live.number == number)
+}

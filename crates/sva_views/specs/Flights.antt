@@ -1,0 +1,68 @@
+-- How the messages in flight are seen by the definitions by labels, and what is looked up and changed there.
+use Rattle.std.specs.Prelude.{◌≡◌, ◌↔◌, ℕ, ◌+◌, Bool, true, false, ◌==◌, not, Option, Some, None, List, [], ◌∷◌, ◌++◌, map, filter, find}
+use Rattle.std.specs.List.{list_any}
+use Rattle.sva_model.specs.Words.{tabulate}
+use Rattle.sva_model.specs.Message.{Message, Scope as MessageScope, Code as MessageCode}
+use Rattle.sva_model.specs.Message.Message.{StartMessage, StopMessage, ResetMessage, CompletionMessage, InvalidateMessage, ResponseMessage, RequestMessage, InvalidatedMessage, PageRequestMessage, MarkerMessage, ResetDoneMessage}
+use Rattle.sva_model.specs.Message.Scope.{Coded, Everything}
+use Rattle.sva_model.specs.Message.Code.{SuccessCode, InvalidCode, FailureCode}
+use Rattle.sva_model.specs.Wire.{FlightWire}
+use Rattle.sva_labels.specs.Finding.{holds_back}
+use Rattle.sva_msg.specs.declared.messages.Message.{Message as Sent}
+use Rattle.sva_msg.specs.declared.messages.Scope.{Scope}
+use Rattle.sva_msg.specs.declared.messages.Scope.TheVariants as scope
+use Rattle.sva_msg.specs.declared.messages.Code.{Code}
+use Rattle.sva_msg.specs.declared.messages.Code.TheVariants.{Success, InvalidRequest, ResponseFailure}
+use Rattle.sva_msg.specs.declared.messages.Kind.{Kind}
+use Rattle.sva_msg.specs.declared.messages.Kind.TheVariants.{Start, Stop, Reset, Completion, Invalidate, Response, Request, Invalidated, PageRequest, Marker, ResetDone}
+use Rattle.sva_msg.specs.Bag.{InFlight, IsNumbered, MayDeliver, message_at, with_sent, without}
+
+abbrev pub scope_seen : Scope → MessageScope
+scope_seen scope.All = Everything
+scope_seen (scope.Code page s) = Coded (record { page = page; s = s })
+
+abbrev pub code_seen : Code → MessageCode
+code_seen Success = SuccessCode
+code_seen InvalidRequest = InvalidCode
+code_seen ResponseFailure = FailureCode
+
+abbrev pub kind_seen : Kind → Message
+kind_seen (Start pasid) = StartMessage pasid
+kind_seen (Stop pasid) = StopMessage pasid
+kind_seen Reset = ResetMessage
+kind_seen (Completion tag frame read write) = CompletionMessage tag frame read write
+kind_seen (Invalidate itag pasid scope) = InvalidateMessage itag pasid (scope_seen scope)
+kind_seen (Response pasid index code) = ResponseMessage pasid index (code_seen code)
+kind_seen (Request tag pasid page) = RequestMessage tag pasid page
+kind_seen (Invalidated vector count) = InvalidatedMessage vector count
+kind_seen (PageRequest r) = PageRequestMessage r.pasid r.index r.page r.read r.write r.last
+kind_seen (Marker pasid) = MarkerMessage pasid
+kind_seen ResetDone = ResetDoneMessage
+
+abbrev pub flight_seen : ℕ × Sent → FlightWire
+flight_seen entry = record { number = entry.0; endpoint = entry.1.endpoint; message = kind_seen entry.1.kind }
+
+abbrev pub flights_seen : InFlight → List FlightWire
+flights_seen bag = map flight_seen bag.messages
+
+-- the message of a number, if it is in flight
+abbrev pub flight_at : (number : ℕ) → Option Sent → Option FlightWire
+flight_at n None = None
+flight_at n (Some sent) = Some (flight_seen (n, sent))
+
+-- of a bag in which numbers rise
+pub record FlightsAreSeen (bag : InFlight) : Type 0 where
+  pub by_number : (n : ℕ) → find (λ f. f.number == n) (flights_seen bag) ≡ flight_at n (message_at bag n)
+  pub may_deliver :
+      (n : ℕ) (sent : Sent) → message_at bag n ≡ Some sent
+      → (list_any (holds_back (flight_seen (n, sent))) (flights_seen bag) ≡ false) ↔ MayDeliver bag n
+  pub one_sent :
+      (sent : Sent) → flights_seen (with_sent bag sent 1)
+      ≡ flights_seen bag ++ record { number = bag.next; endpoint = sent.endpoint; message = kind_seen sent.kind } ∷ []
+  pub copies_sent :
+      (sent : Sent) (copies : ℕ) → flights_seen (with_sent bag sent copies)
+      ≡ flights_seen bag ++ tabulate copies (λ j. record { number = bag.next + j; endpoint = sent.endpoint; message = kind_seen sent.kind })
+  pub delivered : (n : ℕ) → flights_seen (without bag n) ≡ filter (λ f. not (f.number == n)) (flights_seen bag)
+
+abbrev pub FlightLaws : Type 0
+FlightLaws = (bag : InFlight) → IsNumbered bag → FlightsAreSeen bag

@@ -82,3 +82,14 @@ sent_done host s e port tables kind bag a m d is decided sends moves same =
     after =
         ap (λ (b : InFlight). wire_of (record (with_tables host e port tables) { in_flight = b })) sends.1
         ∙ (λ i. record (with_tables_seen host e port tables d is same i) { in_flight = sent_seen host.in_flight (record { endpoint = e; kind = kind }) i; next_message = host.in_flight.next + 1 })
+
+-- a step that changes the device, and sends nothing
+pub device_done : (host : Inside) (s : Step) (e : ℕ) (port : Port) (tables : Tables) (a : Answer) (m : Move) (d : DeviceWire)
+    → IsPort host e port
+    → decide_of (wire_of host) s ≡ checked [] (by_one a m)
+    → moved (wire_of host) m ≡ with_device (wire_of host) e d
+    → device_seen tables ≡ d
+    → ByLabels (wire_of host) s (Ok a) (wire_of (with_tables host e port tables))
+device_done host s e port tables a m d is decided moves same =
+    subst (λ (c : Decision). Does c (wire_of host) (Ok a) (wire_of (with_tables host e port tables))) (sym decided)
+    (refl, with_tables_seen host e port tables d is same ∙ sym moves)

@@ -3,3 +3,8 @@ pub mod Ports
 pub mod Sent
 pub mod Devices
 pub mod Asks
+pub mod Uses
+pub mod SpaceSteps
+pub mod Faults
+pub mod Quits
+pub mod Finishes

@@ -4,5 +4,6 @@
 mod endpoints;
 mod host;
 mod sending;
+mod spaces;
 
 pub use host::Host;

@@ -1,6 +1,7 @@
 //! The sending of messages.
 
 ghost use Rattle.std.specs.Prelude.{◌≤◌};
+ghost use Rattle.sva_msg.specs.Bag.{IsNumbered};
 ghost use Rattle.sva_host.specs.Steps.{Sends};
 
 use sva_msg::{Bag, Kind, Message};
@@ -11,7 +12,8 @@ use sva_step::Refusal;
 pub fn send(bag: &mut Bag, endpoint: u64, kind: Kind, copies: u64) -> Result<(), Refusal>
     requires at_least_one { 1 ≤ copies }
     requires at_most_eight { copies ≤ 8 }
-    ensures { Sends bag.old endpoint kind copies result bag.new }
+    ensures sends { Sends bag.old endpoint kind copies result bag.new }
+    ensures numbered { IsNumbered bag.old }
 {
     if bag.left() < copies {
         return Err(Refusal::NumbersSpent);

@@ -1,12 +1,12 @@
-use Rattle.std.proofs.Common.{sym, ap, ◌∙◌, subst}
-use Rattle.std.specs.Prelude.{Ok, is_ok, slice_index_or}
+use Rattle.std.proofs.Common.{sym, ap, refl, ◌∙◌}
+use Rattle.std.specs.Prelude.{is_ok, slice_index_or}
 use Rattle.sva_step.specs.declared.answers.Answer.TheVariants as answer
 use Rattle.sva_step.specs.declared.steps.Step.TheVariants as step
+use Rattle.sva_endpoint.specs.Calls as call
 use Rattle.sva_endpoint.specs.Tables.{Tables}
 use Rattle.sva_endpoint.specs.Steps.{lowest_tag, after_ask}
-use Rattle.sva_host.specs.declared.host.Port.{Port}
-use Rattle.sva_endpoint.specs.Calls as call
 use Rattle.sva_endpoint.proofs.SoundLaws.{sound_after}
+use Rattle.sva_host.specs.declared.host.Port.{Port}
 use Rattle.sva_host.specs.Inner.{wire_of}
 use Rattle.sva_host.proofs.Ports.{port_found, same_port, rewritten, with_tables_host}
 use Rattle.sva_host.proofs.Devices.{kept, went, ended}
@@ -21,7 +21,8 @@ returns-in_err-asking c =
 pub returns-in_err-send : goal.returns-in_err-send
 returns-in_err-send c =
     let is = port_found c.self.inside _ c.args.endpoint c.in_ok-at.at _ c.index-deref-at.result c.self.invariant c.self.view_is c.in_ok-at.ensures c.deref.ensures.0 in
-    went _ _ (wire_of (record c.self.inside { in_flight = c.send.new.bag })) (step.Ask c.args.endpoint c.args.pasid c.args.page) _ _ c.self.view_is c.from_residual-in_err-send.ensures (ask_unsent c.self.inside c.args.endpoint c.args.pasid c.args.page _ c.in_ok-asking.asking _ _ is c.in_ok-asking.ensures c.in_err-send.ensures)
+    went _ _ (wire_of (record c.self.inside { in_flight = c.send.new.bag })) (step.Ask c.args.endpoint c.args.pasid c.args.page) _ _ c.self.view_is c.from_residual-in_err-send.ensures
+    (ask_unsent c.self.inside c.args.endpoint c.args.pasid c.args.page _ c.in_ok-asking.asking _ _ is c.in_ok-asking.ensures c.in_err-send.ensures.sends)
 
 pub invariant_of-self-2 : goal.invariant_of-self-2
 invariant_of-self-2 c =
@@ -38,4 +39,4 @@ returns c =
     ended c.self.inside _ (step.Ask c.args.endpoint c.args.pasid c.args.page) (answer.Tag c.ask-tag.result) _ _ _ c.send.new.bag c.self.view_is
     (rewritten c.self.inside _ c.args.endpoint c.in_ok-at.at _ _ c.index-deref-at.result c.index-deref_mut-at.result c.ask-tag.new.self tables c.self.view_is c.in_ok-at.ensures c.deref.ensures.0 c.deref_mut.ensures.value c.ask-tag.ensures.after)
     (ap answer.Tag (c.ask-tag.ensures.tag ∙ ap (λ (p : Port). lowest_tag p.device) (same_port c.self.inside _ c.args.endpoint c.in_ok-at.at _ _ c.index-deref-at.result c.index-deref_mut-at.result c.self.view_is c.in_ok-at.ensures c.deref.ensures.0 c.deref_mut.ensures.value)))
-    (ask_done c.self.inside c.args.endpoint c.args.pasid c.args.page _ c.in_ok-asking.asking c.send.new.bag is c.in_ok-asking.ensures c.in_ok-send.ensures)
+    (ask_done c.self.inside c.args.endpoint c.args.pasid c.args.page _ c.in_ok-asking.asking c.send.new.bag is c.in_ok-asking.ensures c.in_ok-send.ensures.sends)

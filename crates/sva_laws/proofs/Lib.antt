@@ -52,3 +52,8 @@ pub mod Targets
 pub mod OneEndpoint
 pub mod Journals
 pub mod Said
+pub mod Successes
+pub mod OnePart
+pub mod Latest
+pub mod Turns
+pub mod ByUnit

@@ -2,3 +2,5 @@ pub mod Device
 pub mod DeviceLaws
 pub mod Bindings
 pub mod Flights
+pub mod Service
+pub mod ServiceLaws

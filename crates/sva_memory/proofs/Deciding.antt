@@ -1,7 +1,7 @@
 -- For who puts a memory together with the units: what the memory decides of an unmapping by labels, and what moves that
 -- others make leave of it.
 use Rattle.std.proofs.Common.{◌≡◌, ℕ, ◌+◌, ◌*◌, ◌^◌, Bool, true, false, List, [], ◌∷◌, ◌++◌, refl, ap, arith, if◌then◌else◌}
-use Rattle.std.specs.Prelude.{Result, Ok, Err, IsOk, None}
+use Rattle.std.specs.Prelude.{Err, IsOk, None}
 use Rattle.sva_step.specs.declared.refusals.Refusal.{Refusal}
 use Rattle.sva_step.specs.declared.steps.Step.TheVariants as step
 use Rattle.sva_model.specs.Refusals.{Cause}
@@ -9,7 +9,7 @@ use Rattle.sva_model.specs.Wire.{Wire}
 use Rattle.sva_labels.specs.Causes.{causes_of, queue_full, numbers_spent, waits_needed}
 use Rattle.sva_labels.specs.Moves.{Move, moved, targets_of, settled_cookie}
 use Rattle.sva_labels.specs.Outcomes as outcomes
-use Rattle.sva_labels.specs.Host.{Decision, checked}
+use Rattle.sva_labels.specs.Host.{checked}
 use Rattle.sva_memory.specs.Seen.{memory_of}
 use Rattle.sva_memory.specs.Pieces.{verdict}
 use Rattle.sva_memory.specs.Unmapping.{unmap_causes_of, range_causes_of, unmapped, settled}

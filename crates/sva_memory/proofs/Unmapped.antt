@@ -1,10 +1,7 @@
 -- A memory where pages of one space were taken out.
-use Rattle.std.proofs.Common.{◌≡◌, ℕ, Bool, List, Option, Some, None, set, refl, sym, ap, subst, ◌∙◌}
-use Rattle.std.specs.Prelude.{filter, IsOk, Result, Err}
+use Rattle.std.proofs.Common.{◌≡◌, ℕ, List, Option, Some, None, sym, ap, subst, ◌∙◌}
+use Rattle.std.specs.Prelude.{filter, IsOk}
 use Rattle.std.specs.List.{position}
-use Rattle.sva_step.specs.declared.refusals.Refusal.{Refusal}
-use Rattle.sva_step.specs.declared.refusals.Refusal.TheVariants as refusal
-use Rattle.sva_frames.specs.Frames.{Holding}
 use Rattle.sva_model.specs.Refusals.{Cause}
 use Rattle.sva_model.specs.Wire.{PageWire, SpaceWire, PlaceWire, TargetWire}
 use Rattle.sva_labels.specs.Finding.{pages_of, or_no_pages}
@@ -12,8 +9,8 @@ use Rattle.sva_labels.specs.Moves.{is_between, placed, place_for, without_pages}
 use Rattle.sva_labels.specs.Moves as labels
 use Rattle.sva_memory.specs.declared.memory.Memory.TheInside.{Inside}
 use Rattle.sva_memory.specs.declared.live.Live.{Live}
-use Rattle.sva_memory.specs.Seen.{MemorySeen, pages_seen, places_seen}
-use Rattle.sva_memory.specs.Lives.{is_of, spaces_seen}
+use Rattle.sva_memory.specs.Seen.{MemorySeen}
+use Rattle.sva_memory.specs.Lives.{is_of}
 use Rattle.sva_memory.specs.Inner.{memory_in}
 use Rattle.sva_memory.specs.Unmapping.{unmapped}
 use Rattle.sva_memory.proofs.Hosts.{OneChanged}

@@ -89,3 +89,5 @@ pub mod SoundRequests
 pub mod SoundFlights
 pub mod SoundTables
 pub mod SoundCache
+pub mod TalliedSteps
+pub mod TalliedWorlds

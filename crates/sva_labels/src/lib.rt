@@ -4,6 +4,7 @@
 ghost use Rattle.sva_labels.specs.Host.{LabelsAreNames, RunsByLabels};
 ghost use Rattle.sva_labels.specs.RowsByLabels.{TwoBindings, Translations, HeldBackByAUse, CountOfEight, UnbindStageByStage, RangeOfEight, TwoEndpointsOneSilent, PageRequestGroup, StaleGroup, OnePasidForEachSpace};
 ghost use Rattle.sva_labels.specs.Sound.{AlwaysSound};
+ghost use Rattle.sva_labels.specs.Tallies.{AlwaysTallied};
 
 /// By the rule of one PASID for each space: at each world that a list of steps leads to, each step by labels answers what the
 /// step by names answers, and leaves what the next world is seen as. So a list of steps by labels, from what a host keeps
@@ -16,6 +17,12 @@ pub fn steps_by_labels()
 /// What a host keeps, at each world that a list of steps leads to, is as the calls of the parts need it.
 pub fn always_sound()
     ensures { AlwaysSound }
+{}
+
+/// How many bindings are unreleased, and how many use slots are taken: a step changes these by what its answer says, and by
+/// no more.
+pub fn always_tallied()
+    ensures { AlwaysTallied }
 {}
 
 /// Runs that are worked out: the steps by labels, one after another from what a host keeps before the first step, give the

@@ -54,3 +54,6 @@ pub mod Journals
 pub mod Said
 pub mod Successes
 pub mod OnePart
+pub mod Latest
+pub mod Turns
+pub mod ByUnit

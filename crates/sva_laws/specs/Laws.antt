@@ -11,6 +11,7 @@ use Rattle.sva_model.specs.Message.{Code}
 use Rattle.sva_model.specs.Message.Message.{StartMessage, StopMessage, ResetMessage, CompletionMessage, InvalidateMessage, ResponseMessage, RequestMessage, InvalidatedMessage, PageRequestMessage, MarkerMessage, ResetDoneMessage}
 use Rattle.sva_model.specs.State.{About, GroupState, Mappings, OrderState, Part, World}
 use Rattle.sva_model.specs.State.About.{StartOf, StopOf, ResetOrder, CompletionOf, InvalidateOf, ResponseOf, RequestOf, InvalidatedOf, PageRequestOf, MarkerOf, ResetDone}
+use Rattle.sva_model.specs.State.MappingState.{Present}
 use Rattle.sva_model.specs.State.Phase.{Open, Cleared}
 use Rattle.sva_model.specs.State.Stage.{Stopping, Invalidating}
 use Rattle.sva_model.specs.State.OrderState.{Sent, Lapsed, Owing, Done, Void}
@@ -363,3 +364,12 @@ pub record HoldsJobs (w : World) : Type 0 where
 
 abbrev pub AlwaysHoldsJobs : Type 0
 AlwaysHoldsJobs = (rule : PasidRule) (config : Config) (steps : List Step) → Fits config → HoldsJobs (world_after rule config steps)
+
+-- The look-up columns of the mappings: at a space and a page is found exactly the mapping that is present there; and of a frame
+-- exactly the last mapping that led to it.
+pub record FindsMappings (ms : Mappings) : Type 0 where
+  pub at : (space page m : ℕ) → (ms.at space page ≡ Some m) ↔ ((ms.state m ≡ Present) × (ms.space m ≡ space) × (ms.page m ≡ page))
+  pub latest : (frame m : ℕ) → (ms.latest frame ≡ Some m) ↔ ((m < ms.made) × (ms.frame m ≡ frame) × ((k : ℕ) → k < ms.made → ms.frame k ≡ frame → k ≤ m))
+
+abbrev pub AlwaysFindsMappings : Type 0
+AlwaysFindsMappings = (rule : PasidRule) (config : Config) (steps : List Step) → Fits config → FindsMappings (world_after rule config steps).mappings

@@ -1,11 +1,16 @@
 -- What one step changes. (This project's own.)
-use Rattle.std.specs.Prelude.{◌≡◌, ◌≢◌, ◌⊎◌, ◌↔◌, ℕ, suc, ◌+◌, ◌<◌, ◌≤◌, Bool, true, false, Some, List, [], ◌∷◌, ◌++◌, Ok}
+use Rattle.std.specs.Prelude.{◌≡◌, ◌≢◌, ◌⊎◌, ℕ, ◌+◌, Bool, true, false, List, [], ◌∷◌, ◌++◌}
 use Rattle.sva_step.specs.declared.limits.Config.{Config}
 use Rattle.sva_step.specs.declared.steps.Step.{Step}
 use Rattle.sva_step.specs.declared.steps.Step.TheVariants as step
-use Rattle.sva_model.specs.State.{PasidRule, World}
+use Rattle.sva_model.specs.State.{PasidRule, Owed, World}
+use Rattle.sva_model.specs.State.About.{ResetDone}
+use Rattle.sva_model.specs.State.Owed.{Ranges, Pasid}
+use Rattle.sva_model.specs.State.MappingState.{Gone}
+use Rattle.sva_model.specs.States.{answered}
 use Rattle.sva_model.specs.Steps.{world_after}
 use Rattle.sva_model.specs.Claims.{Fits}
+use Rattle.sva_laws.specs.UnitSteps.{Delivers, PassesWait}
 
 -- does the step take pages out of a space, at whatever endpoints it is bound?
 abbrev pub takes_out : Step → Bool
@@ -30,3 +35,22 @@ AlwaysDropsApart =
     (rule : PasidRule) (config : Config) (steps : List Step) (n e : ℕ)
     → Fits config
     → (world_after rule config (steps ++ step.DropSpace n ∷ [])).part e ≡ (world_after rule config steps).part e
+
+-- What a frame waits for at an endpoint is fixed when its mapping is taken out: a wait, or the end of a reset. It changes since
+-- then only by becoming answered: at a pump that passes that very wait, or at the delivery of the endpoint's reset-done.
+abbrev pub wait_of : Owed → ℕ
+wait_of (Ranges first count resets) = first + count
+wait_of (Pasid invalidation wait resets in_reset) = wait
+wait_of _ = 0
+
+pub record AnswersBy (w v : World) (s : Step) (m e : ℕ) (owed : ℕ → Owed) : Type 0 where
+  pub still : v.mappings.state m ≡ Gone owed
+  pub stays : answered (w.part e) (owed e) ≡ true → answered (v.part e) (owed e) ≡ true
+  pub turns : answered (w.part e) (owed e) ≡ false → answered (v.part e) (owed e) ≡ true → PassesWait w s e (wait_of (owed e)) ⊎ Delivers w s e ResetDone
+
+abbrev pub AlwaysAnswersBy : Type 0
+AlwaysAnswersBy =
+    (rule : PasidRule) (config : Config) (steps : List Step) (s : Step) (m e : ℕ) (owed : ℕ → Owed)
+    → Fits config
+    → (world_after rule config steps).mappings.state m ≡ Gone owed
+    → AnswersBy (world_after rule config steps) (world_after rule config (steps ++ s ∷ [])) s m e owed

@@ -1,4 +1,5 @@
 use Rattle.sva_laws.proofs.OnePart.{always_one_part, always_dropped}
+use Rattle.sva_laws.proofs.Turns.{always_answers}
 use Rattle.sva_laws.proofs.what_steps_change.Goals as goal
 
 pub returns-clause-one_part : goal.returns-clause-one_part
@@ -6,3 +7,6 @@ returns-clause-one_part c = λ rule config steps s fits stays. always_one_part r
 
 pub returns-clause-apart : goal.returns-clause-apart
 returns-clause-apart c = λ rule config steps n e fits. always_dropped rule config steps n e
+
+pub returns-clause-answers : goal.returns-clause-answers
+returns-clause-answers c = λ rule config steps s m e owed fits gone. always_answers rule config steps s m e owed gone

@@ -63,10 +63,10 @@ open_is_seen s p unit binding h alone = go s.groups alone ∙ ap (list_any (of_b
 -- A page request is filed.
 
 -- a group of the unit is begun under the binding and index
-begun_here : (unit binding index : ℕ) (g : OpenGroup) → (g.unit == unit) ≡ true → moves.is_begun binding index (group_seen g) ≡ is_unfinished unit binding index g
+pub begun_here : (unit binding index : ℕ) (g : OpenGroup) → (g.unit == unit) ≡ true → moves.is_begun binding index (group_seen g) ≡ is_unfinished unit binding index g
 begun_here unit binding index g h = sym (ap (λ t. ((t && g.binding == binding) && g.index == index) && not g.last) h)
 
-not_begun : (unit binding index : ℕ) (g : OpenGroup) → (g.unit == unit) ≡ false → is_unfinished unit binding index g ≡ false
+pub not_begun : (unit binding index : ℕ) (g : OpenGroup) → (g.unit == unit) ≡ false → is_unfinished unit binding index g ≡ false
 not_begun unit binding index g h = ap (λ t. ((t && g.binding == binding) && g.index == index) && not g.last) h
 
 with_seen : (g : OpenGroup) (request : PageRequest) → group_seen (with_request g request) ≡ record (group_seen g) { asks = (group_seen g).asks ++ (page_request_seen request).ask ∷ []; is_whole = request.last }

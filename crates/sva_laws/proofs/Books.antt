@@ -1,8 +1,7 @@
 -- How many bindings are unreleased, and how many use slots of an endpoint are taken; and what each step changes of it.
-use Rattle.std.proofs.Common.{◌≡◌, ◌≢◌, ◌⊎◌, inl, inr, refl, ap, sym, subst, ◌∙◌, ℕ, zero, suc, ◌+◌, ◌<◌, ◌≤◌, Bool, true, false, arith}
+use Rattle.std.proofs.Common.{◌≡◌, ◌≢◌, ◌⊎◌, inl, inr, refl, ap, sym, subst, ◌∙◌, ℕ, suc, ◌+◌, ◌<◌, Bool, true, false, arith}
 use Rattle.std.specs.Prelude.{Option, Some, None, if◌then◌else◌, ◌==◌, List, [], ◌∷◌, ◌++◌, Ok, Err}
 use Rattle.std.proofs.lemmas.Bool.Decides.{nat_tests}
-use Rattle.sva_step.specs.declared.answers.Answer.{Answer}
 use Rattle.sva_step.specs.declared.answers.Answer.TheVariants as answer
 use Rattle.sva_step.specs.declared.limits.Config.{Config}
 use Rattle.sva_step.specs.declared.refusals.Refusal.{Refusal}
@@ -11,7 +10,7 @@ use Rattle.sva_step.specs.declared.steps.Step.TheVariants as step
 use Rattle.sva_model.specs.Words.{put, count_below, is_some, the}
 use Rattle.sva_model.specs.State.{PasidRule, Mappings, Part, World, Stage}
 use Rattle.sva_model.specs.State.Stage.{Unbound, Live, Stopping, Draining, Invalidating, Quiet, Lost, Released}
-use Rattle.sva_model.specs.States.{is_unreleased, is_running}
+use Rattle.sva_model.specs.States.{is_unreleased}
 use Rattle.sva_model.specs.Acts.{Act, Own, act, own, submitted_if, submits, bound, cookie_of}
 use Rattle.sva_model.specs.Acts.Act.{NewSpace, DropSpace, Map, Unmap, NewBinding, NewJob, Hold, LetGo, At}
 use Rattle.sva_model.specs.Labels
@@ -24,10 +23,10 @@ use Rattle.sva_laws.proofs.Counting.{bit, count_next, count_same, count_off}
 use Rattle.sva_laws.proofs.Legal.{LegalOwn}
 use Rattle.sva_laws.proofs.Invariant.{Invariant}
 use Rattle.sva_laws.proofs.Keeps.{Legal, act_keeps, put_keeps}
-use Rattle.sva_laws.proofs.Passed.{LegalAll, label_low, label_free}
+use Rattle.sva_laws.proofs.Passed.{LegalAll}
 use Rattle.sva_laws.proofs.Runs.{always, step_legal}
 use Rattle.sva_laws.proofs.Lookback.{after_one}
-use Rattle.sva_laws.proofs.StepActs.{may, may_own, AllMay, step_may, is_binding, is_advancing, is_beginning, is_ending}
+use Rattle.sva_laws.proofs.StepActs.{may, AllMay, step_may, is_binding, is_advancing, is_beginning, is_ending}
 
 -- Acts that begin and release no binding.
 

@@ -59,3 +59,5 @@ pub mod Turns
 pub mod ByUnit
 pub mod StepActs
 pub mod Books
+pub mod Filed
+pub mod Rooms

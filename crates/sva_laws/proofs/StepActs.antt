@@ -9,14 +9,14 @@ use Rattle.sva_model.specs.State.Stage.{Unbound, Live, Stopping, Draining, Inval
 use Rattle.sva_model.specs.State.Order.{RangeOf, PasidOf, Wait}
 use Rattle.sva_model.specs.State.RequestState.{Out, Doomed, Over}
 use Rattle.sva_model.specs.State.About.{StartOf, StopOf, ResetOrder, CompletionOf, InvalidateOf, ResponseOf, RequestOf, InvalidatedOf, PageRequestOf, MarkerOf, ResetDone}
-use Rattle.sva_model.specs.Acts.{Act, Own, act, own}
-use Rattle.sva_model.specs.Acts.Act.{NewSpace, DropSpace, Map, Unmap, NewBinding, NewJob, Hold, LetGo, At}
+use Rattle.sva_model.specs.Acts.{Act, Own}
+use Rattle.sva_model.specs.Acts.Act.{NewSpace, Map, Unmap, LetGo, At}
 use Rattle.sva_model.specs.Labels
 use Rattle.sva_model.specs.Refusals.{Cause, refusals}
 use Rattle.sva_model.specs.Replies.{maps_to, reply_maps, replies_success, newly_mapped, free_list, is_write_asked, job_space, response_to}
 use Rattle.sva_model.specs.Outcomes.{Outcome, outcome, unbind_outcome, advance_outcome, pump_outcome, head_outcome, wait_outcome, send_outcome, may_pass, serve_outcome, file_outcome, reply_outcome, fault_outcome, about_outcome, deliver_outcome, completion_outcome, keep_outcome, is_full, request_outcome, count_outcome, page_request_outcome, marker_outcome}
 use Rattle.sva_model.specs.States.{is_open}
-use Rattle.sva_model.specs.Words.{lowest, the}
+use Rattle.sva_model.specs.Words.{the}
 use Rattle.sva_model.specs.State.{Part, World, Stage, Order, About, RequestState}
 use Rattle.sva_model.specs.Steps.{checked, decide}
 use Rattle.sva_laws.specs.Steps.{takes_out}

@@ -2,7 +2,7 @@
 #![tactic(auto)]
 
 ghost use Rattle.sva_model.specs.Claims.{AlwaysAgrees};
-ghost use Rattle.sva_laws.specs.Laws.{AlwaysOwned, AlwaysPresentOrWithheld, AlwaysMatched, AlwaysHoldsJobs, AlwaysDivided, AlwaysAddsUp, AlwaysWithheldExactly, FreeByTheLastAnswer, AlwaysTold, AlwaysToldOfRange, AlwaysGiven, AlwaysLabelled, AlwaysFound, AlwaysCarried, AlwaysUnderWay, NeverOccurring, AlwaysLimited, AlwaysFindsMappings};
+ghost use Rattle.sva_laws.specs.Laws.{AlwaysOwned, AlwaysPresentOrWithheld, AlwaysMatched, AlwaysHoldsJobs, AlwaysDivided, AlwaysAddsUp, AlwaysWithheldExactly, FreeByTheLastAnswer, AlwaysTold, AlwaysToldOfRange, AlwaysGiven, AlwaysLabelled, AlwaysFound, AlwaysCarried, AlwaysUnderWay, NeverOccurring, AlwaysLimited, AlwaysKeepsLimits, AlwaysFindsMappings};
 ghost use Rattle.sva_laws.specs.Answers.{AlwaysFinishes, AlwaysUses, AlwaysLooks, AlwaysFrees, AlwaysSucceeds};
 ghost use Rattle.sva_laws.specs.Steps.{AlwaysChangesOnePart, AlwaysDropsApart, AlwaysAnswersBy, AlwaysKeepsBooks};
 ghost use Rattle.sva_laws.specs.Runs.{AlwaysLegalInFront, AlwaysLegalByAnswer, SameForOneEndpoint};
@@ -25,11 +25,12 @@ pub fn translations()
 {}
 
 /// Page requests, groups, jobs, markers and responses stand under the binding that asked; hands, groups and the job table
-/// agree.
+/// agree; and what a host keeps stays within its limits.
 pub fn page_requests()
     ensures matched { AlwaysMatched }
     ensures hands { AlwaysHoldsJobs }
     ensures limited { AlwaysLimited }
+    ensures limits { AlwaysKeepsLimits }
 {}
 
 /// Frames: in exactly one place; withheld exactly as long as an endpoint owes an answer, and free after the very step that

@@ -82,7 +82,7 @@ pub mod Said
 pub mod SoundQueues
 pub mod SoundPasids
 pub mod WholeLists
-pub mod RowsByNames
+pub mod RowsComputed
 pub mod SoundWaits
 pub mod SoundRoom
 pub mod SoundRequests

@@ -1,7 +1,7 @@
 -- The filing of a request keeps the service sound.
-use Rattle.std.proofs.Common.{◌≡◌, ◌⊎◌, inl, inr, refl, ap, sym, subst, ◌∙◌, ℕ, ◌<◌, ◌≤◌, Bool, true, false, arith}
+use Rattle.std.proofs.Common.{◌≡◌, ◌⊎◌, inl, inr, refl, ap, sym, subst, ◌∙◌, ℕ, ◌+◌, ◌<◌, ◌≤◌, Bool, true, false, arith}
 use Rattle.std.specs.Prelude.{◌==◌, ◌&&◌, if◌then◌else◌, Some, None, option_map, option_to_list, List, [], ◌∷◌, ◌++◌}
-use Rattle.std.specs.List.{list_any}
+use Rattle.std.specs.List.{count_by, list_any}
 use Rattle.std.proofs.lemmas.Bool.Decides.{nat_tests}
 use Rattle.sva_msg.specs.declared.messages.PageRequest.{PageRequest}
 use Rattle.sva_prq.specs.Job.{Job, ask_of}
@@ -9,9 +9,10 @@ use Rattle.sva_prq.specs.Groups.{OpenGroup, is_unfinished, new_group, with_reque
 use Rattle.sva_prq.proofs.Tests.{Same, unfinished_name, unfinished_part}
 use Rattle.sva_service.specs.Service.{Service, filed}
 use Rattle.sva_views.specs.Service.{job_seen, jobs_seen}
-use Rattle.sva_views.specs.ServiceLaws.{IsIn, IsKept, AreRising, AreNamesakes, IsNamed, IsWhole, IsSound, is_job_of, HasNoJob, BeginsAnew, SoundIsKept}
+use Rattle.sva_views.specs.ServiceLaws.{IsIn, IsKept, AreRising, AreNamesakes, IsNamed, IsWhole, IsSound, is_with, holds, jobs_with, is_job_of, HasNoJob, BeginsAnew, SoundIsKept}
 use Rattle.sva_views.proofs.ServiceJobs.{held_at}
-use Rattle.sva_views.proofs.ServiceLists.{in_append, left_in, right_in, in_any, mapped_in, rising_between, one_of_serial}
+use Rattle.sva_views.proofs.ServiceCounts.{count_append, count_cons, count_none, held_none}
+use Rattle.sva_views.proofs.ServiceLists.{same_of, differs, in_append, left_in, right_in, in_any, mapped_in, rising_between, one_of_serial}
 use Rattle.sva_views.proofs.ServiceFiled.{FiledFrom, Old, Joined, Begun, unfinished_from, begun_seen, in_filed, chosen, chosen_filed, chosen_in, chosen_new, chosen_named, chosen_asks, next_more, rising_filed}
 use Rattle.sva_views.proofs.ServiceSound.{first_sound, reserved_sound, taken_sound, answered_sound, reset_sound}
 
@@ -227,6 +228,34 @@ module _ (workers : ℕ) (s : Service) (u b : ℕ) (request : PageRequest) (k : 
           subst (λ (j : Job). j.serial < t.groups.next) is
           (rising_between 0 t.groups.next after rising_after (with_request taker request) (chosen_filed next u b request gs)).1
 
+  -- no job has the serial of the group that takes the request
+  apart : (job : Job) → IsKept s job → job.serial ≡ taker.serial → ⊥
+  apart job kept e = go (list_any unfinished gs) refl
+    where
+      go : (any : Bool) → list_any unfinished gs ≡ any → ⊥
+      go true h = let c = chosen_in next u b request gs h in not_yet job kept taker c.0 c.1 (sym e)
+      go false h = let given = k.given job kept in let new = new_taker h in absurd (omega (arith, given, new, e))
+
+  once_after : (n : ℕ) → jobs_with n t ≤ 1
+  once_after n = go request.last (taker.serial == n) refl
+    where
+      go : (last mine : Bool) → (taker.serial == n) ≡ mine → count_by (is_with n) (s.jobs ++ option_to_list (if last then Some made else None)) + count_by (holds n) s.hands ≤ 1
+      go false mine h = let more = count_append (is_with n) s.jobs [] in let one = k.once n in omega (arith, more, one)
+      go true false h =
+          let more = count_append (is_with n) s.jobs (made ∷ []) in
+          let own = count_cons (is_with n) made [] in
+          let other : ◌≡◌ {A = ℕ} (if is_with n made then 1 else 0) 0 = ap (λ t. if t then 1 else 0) h in
+          let one = k.once n in
+          omega (arith, more, own, other, one)
+      go true true h =
+          let more = count_append (is_with n) s.jobs (made ∷ []) in
+          let own = count_cons (is_with n) made [] in
+          let here : ◌≡◌ {A = ℕ} (if is_with n made then 1 else 0) 1 = ap (λ t. if t then 1 else 0) h in
+          let is : taker.serial ≡ n = same_of taker.serial n h in
+          let queued = count_none (is_with n) s.jobs (λ j m. differs j.serial n (λ e. apart j (inl m) (e ∙ sym is))) in
+          let held = held_none n s.hands (λ x j e. differs j.serial n (λ c. apart j (inr (x, e)) (c ∙ sym is))) in
+          omega (arith, more, own, here, queued, held)
+
   -- an unfinished group after, as it was before
   record WasPart (g h : OpenGroup) : Type 0 where
     there : IsIn h gs
@@ -292,6 +321,7 @@ module _ (workers : ℕ) (s : Service) (u b : ℕ) (request : PageRequest) (k : 
         jobs = jobs_after;
         own = own_after;
         made = made_after;
+        once = once_after;
         given = given_after;
         four = k.four;
         hands = k.hands;

@@ -98,7 +98,8 @@ module _ (workers : ℕ) (s : Service) (u b : ℕ) (request : PageRequest) (k : 
       mine = job_by job.unit u job.binding b job.index request.index h l m
 
       go : IsKept s job → HasNoJob workers s u b request.index → ⊥
-      go (inl n) none_is = absurd (cc (sym (in_any (is_job_of u b request.index) (job_seen job) (jobs_seen s) (mapped_in job_seen job s.jobs n) mine) ∙ none_is.0))
+      go (inl n) none_is =
+          absurd (cc (sym (in_any (is_job_of u b request.index) (job_seen job) (jobs_seen s) (mapped_in job_seen job s.jobs n) mine) ∙ none_is.0))
       go (inr (x, e)) none_is = at (few_or_more x workers)
         where
           at : (x < workers) ⊎ (workers ≤ x) → ⊥
@@ -150,7 +151,8 @@ module _ (workers : ℕ) (s : Service) (u b : ℕ) (request : PageRequest) (k : 
       go (inl j) = old j (from g m)
       go (inr (last, is)) =
           let same : g.serial ≡ (with_request taker request).serial = e ∙ sym (ap (λ (j : Job). j.serial) is) in
-          let one : g ≡ with_request taker request = one_of_serial 0 t.groups.next after rising_after g (with_request taker request) m (chosen_filed next u b request gs) same in
+          let one : g ≡ with_request taker request =
+          one_of_serial 0 t.groups.next after rising_after g (with_request taker request) m (chosen_filed next u b request gs) same in
           subst (λ j. IsWhole g j) is (subst (λ x. IsWhole x made) (sym one) (taker_whole last))
 
   own_after : (job : Job) (g : OpenGroup) → IsKept t job → IsIn g after → IsNamed g job → g.serial ≡ job.serial
@@ -202,7 +204,11 @@ module _ (workers : ℕ) (s : Service) (u b : ℕ) (request : PageRequest) (k : 
       go : IsKept s job ⊎ ((request.last ≡ true) × (made ≡ job)) → g.serial ≡ job.serial
       go (inl j) = old j (from g m)
       go (inr (last, is)) =
-          new (n.units ∙ sym (ap (λ (j : Job). j.unit) is)) (n.bindings ∙ sym (ap (λ (j : Job). j.binding) is)) (n.indexes ∙ sym (ap (λ (j : Job). j.index) is)) (from g m)
+          new
+          (n.units ∙ sym (ap (λ (j : Job). j.unit) is))
+          (n.bindings ∙ sym (ap (λ (j : Job). j.binding) is))
+          (n.indexes ∙ sym (ap (λ (j : Job). j.index) is))
+          (from g m)
           ∙ ap (λ (j : Job). j.serial) is
 
   made_after : (g : OpenGroup) → IsIn g after → g.last ≡ true → (job : Job) × IsKept t job × (job.serial ≡ g.serial)
@@ -239,7 +245,8 @@ module _ (workers : ℕ) (s : Service) (u b : ℕ) (request : PageRequest) (k : 
   once_after : (n : ℕ) → jobs_with n t ≤ 1
   once_after n = go request.last (taker.serial == n) refl
     where
-      go : (last mine : Bool) → (taker.serial == n) ≡ mine → count_by (is_with n) (s.jobs ++ option_to_list (if last then Some made else None)) + count_by (holds n) s.hands ≤ 1
+      go : (last mine : Bool) → (taker.serial == n) ≡ mine
+          → count_by (is_with n) (s.jobs ++ option_to_list (if last then Some made else None)) + count_by (holds n) s.hands ≤ 1
       go false mine h = let more = count_append (is_with n) s.jobs [] in let one = k.once n in omega (arith, more, one)
       go true false h =
           let more = count_append (is_with n) s.jobs (made ∷ []) in
@@ -263,7 +270,8 @@ module _ (workers : ℕ) (s : Service) (u b : ℕ) (request : PageRequest) (k : 
     names : AreNamesakes g h
     serials : g.serial ≡ h.serial
 
-  was_part : (g : OpenGroup) → From g → g.last ≡ false → ((h : OpenGroup) × WasPart g h) ⊎ ((list_any unfinished gs ≡ false) × (g ≡ with_request (new_group next u b request.index) request))
+  was_part : (g : OpenGroup) → From g → g.last ≡ false
+      → ((h : OpenGroup) × WasPart g h) ⊎ ((list_any unfinished gs ≡ false) × (g ≡ with_request (new_group next u b request.index) request))
   was_part g (Old m) part = inl (g, record { there = m; part = part; names = record { units = refl; bindings = refl; indexes = refl }; serials = refl })
   was_part g (Joined h m c is) part =
       inl (
@@ -309,7 +317,8 @@ module _ (workers : ℕ) (s : Service) (u b : ℕ) (request : PageRequest) (k : 
             indexes = sym v.names.indexes ∙ n.indexes ∙ w.names.indexes;
           })
           ∙ sym w.serials
-      go (inl (x, v)) (inr (none, is)) = absurd (no_namesake h g x none is (record { units = sym n.units; bindings = sym n.bindings; indexes = sym n.indexes }) v)
+      go (inl (x, v)) (inr (none, is)) =
+          absurd (no_namesake h g x none is (record { units = sym n.units; bindings = sym n.bindings; indexes = sym n.indexes }) v)
       go (inr (none, is)) (inl (y, w)) = absurd (no_namesake g h y none is n w)
       go (inr (none, is)) (inr (none_too, is_too)) = serial_as g new_one is ∙ sym (serial_as h new_one is_too)
 

@@ -316,7 +316,7 @@ notes_after s _ may notes = notes
 
 -- ---- together
 
-sound_after : (s : Tables) (call : Call) → is_permitted s call ≡ true → IsSound s → IsSound (after s call)
+pub sound_after : (s : Tables) (call : Call) → is_permitted s call ≡ true → IsSound s → IsSound (after s call)
 sound_after s call may h =
     let long = groups_after s call h.groups in
     let have = requests_after s call h.requests in
@@ -334,7 +334,7 @@ sound_after s call may h =
       notes = notes_after s call may h.notes;
     }
 
-sound_fresh : IsSound fresh
+pub sound_fresh : IsSound fresh
 sound_fresh = record {
   pasids = refl;
   tags = refl;

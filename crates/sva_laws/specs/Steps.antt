@@ -1,5 +1,6 @@
 -- What one step changes. (This project's own.)
-use Rattle.std.specs.Prelude.{◌≡◌, ◌≢◌, ◌⊎◌, ℕ, ◌+◌, Bool, true, false, List, [], ◌∷◌, ◌++◌}
+use Rattle.std.specs.Prelude.{◌≡◌, ◌≢◌, ◌⊎◌, ℕ, ◌+◌, Bool, true, false, ◌==◌, if◌then◌else◌, List, [], ◌∷◌, ◌++◌, Ok}
+use Rattle.sva_step.specs.declared.answers.Answer.TheVariants as answer
 use Rattle.sva_step.specs.declared.limits.Config.{Config}
 use Rattle.sva_step.specs.declared.steps.Step.{Step}
 use Rattle.sva_step.specs.declared.steps.Step.TheVariants as step
@@ -7,8 +8,9 @@ use Rattle.sva_model.specs.State.{PasidRule, Owed, World}
 use Rattle.sva_model.specs.State.About.{ResetDone}
 use Rattle.sva_model.specs.State.Owed.{Ranges, Pasid}
 use Rattle.sva_model.specs.State.MappingState.{Gone}
-use Rattle.sva_model.specs.States.{answered}
-use Rattle.sva_model.specs.Steps.{world_after}
+use Rattle.sva_model.specs.Words.{count_below, is_some}
+use Rattle.sva_model.specs.States.{is_unreleased, answered}
+use Rattle.sva_model.specs.Steps.{Reply, reply, world_after}
 use Rattle.sva_model.specs.Claims.{Fits}
 use Rattle.sva_laws.specs.UnitSteps.{Delivers, PassesWait}
 
@@ -54,3 +56,38 @@ AlwaysAnswersBy =
     → Fits config
     → (world_after rule config steps).mappings.state m ≡ Gone owed
     → AnswersBy (world_after rule config steps) (world_after rule config (steps ++ s ∷ [])) s m e owed
+
+-- How many bindings are unreleased, and how many use slots of an endpoint are taken.
+abbrev pub unreleased : World → ℕ
+unreleased w = count_below w.bindings (λ b. is_unreleased ((w.part (w.home b)).stage b))
+
+abbrev pub slots : World → (endpoint : ℕ) → ℕ
+slots w e = count_below 16 (λ t. is_some ((w.part e).at_slot t))
+
+-- By how many they change: a binding begins where a bind is accepted, and is released where an advance answers so; a slot of an
+-- endpoint is taken where a use begins there, and is free again where one ends.
+abbrev pub bound_by : Step → Reply → ℕ
+bound_by (step.Bind e n) (Ok said) = 1
+bound_by _ _ = 0
+
+abbrev pub released_by : Step → Reply → ℕ
+released_by (step.Advance n) (Ok answer.Released) = 1
+released_by _ _ = 0
+
+abbrev pub begun_by : (endpoint : ℕ) → Step → Reply → ℕ
+begun_by e (step.BeginUse d pasid page write) (Ok said) = if d == e then 1 else 0
+begun_by e _ _ = 0
+
+abbrev pub ended_by : (endpoint : ℕ) → Step → Reply → ℕ
+ended_by e (step.EndUse d used) (Ok said) = if d == e then 1 else 0
+ended_by e _ _ = 0
+
+pub record KeepsBooks (w v : World) (s : Step) : Type 0 where
+  pub bindings : unreleased v + released_by s (reply w s) ≡ unreleased w + bound_by s (reply w s)
+  pub uses : (e : ℕ) → slots v e + ended_by e s (reply w s) ≡ slots w e + begun_by e s (reply w s)
+
+abbrev pub AlwaysKeepsBooks : Type 0
+AlwaysKeepsBooks =
+    (rule : PasidRule) (config : Config) (steps : List Step) (s : Step)
+    → Fits config
+    → KeepsBooks (world_after rule config steps) (world_after rule config (steps ++ s ∷ [])) s

@@ -1,0 +1,10 @@
+pub mod Deciding
+pub mod Ports
+pub mod Sent
+pub mod Devices
+pub mod Asks
+pub mod Uses
+pub mod SpaceSteps
+pub mod Faults
+pub mod Quits
+pub mod Finishes

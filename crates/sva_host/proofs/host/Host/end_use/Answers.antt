@@ -1,0 +1,33 @@
+use Rattle.std.proofs.Common.{sym, ap, refl}
+use Rattle.std.specs.Prelude.{is_ok, slice_index_or}
+use Rattle.sva_step.specs.declared.steps.Step.TheVariants as step
+use Rattle.sva_endpoint.specs.Calls as call
+use Rattle.sva_endpoint.specs.Tables.{Tables}
+use Rattle.sva_endpoint.specs.Steps.{after_end_use}
+use Rattle.sva_endpoint.proofs.SoundLaws.{sound_after}
+use Rattle.sva_host.proofs.Ports.{port_found, rewritten, with_tables_host}
+use Rattle.sva_host.proofs.Devices.{kept, ended}
+use Rattle.sva_host.proofs.Uses.{end_refused, end_done}
+use Rattle.sva_host.proofs.host.Host.end_use.Goals as goal
+
+pub returns-in_err-answer : goal.returns-in_err-answer
+returns-in_err-answer c =
+    let is = port_found c.self.inside _ c.args.endpoint c.in_ok-at.at _ c.index-deref-at.result c.self.invariant c.self.view_is c.in_ok-at.ensures c.deref.ensures.0 in
+    kept _ _ (step.EndUse c.args.endpoint c.args.slot) _ _ c.self.view_is c.from_residual-in_err-answer.ensures (end_refused c.self.inside c.args.endpoint c.args.slot _ _ is c.in_err-answer.ensures)
+
+pub invariant_of-self : goal.invariant_of-self
+invariant_of-self c =
+    let is = port_found c.self.inside _ c.args.endpoint c.in_ok-at.at _ c.index-deref-at.result c.self.invariant c.self.view_is c.in_ok-at.ensures c.deref.ensures.0 in
+    let tables = λ (s : Tables). after_end_use s c.args.slot in
+    with_tables_host c.self.inside c.args.endpoint (slice_index_or c.deref.result.now c.in_ok-at.at c.index-deref-at.result) _ c.self.inside.in_flight _ c.self.invariant
+    (sound_after _ (call.EndUse c.args.slot) (ap is_ok (sym c.in_ok-answer.ensures)) is.sound)
+    (rewritten c.self.inside _ c.args.endpoint c.in_ok-at.at _ _ c.index-deref-at.result c.index-deref_mut-at.result c.end_use.new.self tables c.self.view_is c.in_ok-at.ensures c.deref.ensures.0 c.deref_mut.ensures.value c.end_use.ensures)
+
+pub returns : goal.returns
+returns c =
+    let is = port_found c.self.inside _ c.args.endpoint c.in_ok-at.at _ c.index-deref-at.result c.self.invariant c.self.view_is c.in_ok-at.ensures c.deref.ensures.0 in
+    let tables = λ (s : Tables). after_end_use s c.args.slot in
+    ended c.self.inside _ (step.EndUse c.args.endpoint c.args.slot) (c.in_ok-answer.answer) _ _ _ c.self.inside.in_flight c.self.view_is
+    (rewritten c.self.inside _ c.args.endpoint c.in_ok-at.at _ _ c.index-deref-at.result c.index-deref_mut-at.result c.end_use.new.self tables c.self.view_is c.in_ok-at.ensures c.deref.ensures.0 c.deref_mut.ensures.value c.end_use.ensures)
+    (refl)
+    (end_done c.self.inside c.args.endpoint c.args.slot _ c.in_ok-answer.answer is c.in_ok-answer.ensures)

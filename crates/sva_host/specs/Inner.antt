@@ -1,0 +1,33 @@
+-- What the parts of a host are seen as, and what holds of them.
+use Rattle.std.specs.Prelude.{None, [], map, replicate, All}
+use Rattle.sva_model.specs.Wire.{Wire, PartWire}
+use Rattle.sva_endpoint.specs.Laws.{IsSound}
+use Rattle.sva_views.specs.Device.{device_seen}
+use Rattle.sva_views.specs.Bindings.{bindings_seen}
+use Rattle.sva_views.specs.Flights.{flights_seen}
+use Rattle.sva_host.specs.declared.host.Port.{Port}
+use Rattle.sva_host.specs.declared.host.Host.TheInside.{Inside}
+
+-- no group of page requests is filed yet
+abbrev pub part_seen : Port → PartWire
+part_seen port = record { device = device_seen port.device; unit = port.unit.unit; page_queue = port.unit.page_queue; host_groups = [] }
+
+-- no worker holds a job yet
+abbrev pub wire_of : Inside → Wire
+wire_of host =
+    record {
+      spaces = host.memory.spaces;
+      places = host.memory.places;
+      bindings = bindings_seen host.bindings;
+      parts = map part_seen host.ports.items;
+      jobs = [];
+      hands = replicate host.workers None;
+      in_flight = flights_seen host.in_flight;
+      next_space = host.memory.next_space;
+      next_binding = host.next_binding;
+      next_message = host.in_flight.next;
+      next_cookie = host.next_cookie;
+    }
+
+pub record IsHost (host : Inside) : Type 0 where
+  pub sound : All (λ (port : Port). IsSound port.device) host.ports.items

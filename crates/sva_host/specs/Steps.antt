@@ -1,0 +1,35 @@
+-- What a step does, by labels.
+use Rattle.std.specs.Prelude.{◌≡◌, ℕ, true, false, nat_lt, length, Result, Ok, Err, IsOk}
+use Rattle.sva_step.specs.declared.refusals.Refusal.{Refusal}
+use Rattle.sva_step.specs.declared.refusals.Refusal.TheVariants as refusal
+use Rattle.sva_step.specs.declared.steps.Step.{Step}
+use Rattle.sva_model.specs.Steps.{Reply}
+use Rattle.sva_model.specs.Wire.{Wire}
+use Rattle.sva_labels.specs.Causes.{lacks}
+use Rattle.sva_labels.specs.Host.{Decision, decide_of}
+use Rattle.sva_labels.specs.Moves.{all_moved}
+use Rattle.sva_msg.specs.declared.messages.Kind.{Kind}
+use Rattle.sva_msg.specs.Bag.{InFlight, with_sent}
+
+-- what was decided is answered and done; want of memory changes nothing, and comes only where the step would have been
+-- accepted
+abbrev pub Does : Decision → Wire → Reply → Wire → Type 0
+Does decision before (Err refusal.OutOfMemory) after = IsOk decision.reply × (after ≡ before)
+Does decision before result after = (result ≡ decision.reply) × (after ≡ all_moved before decision.moves)
+
+-- the step by labels
+abbrev pub ByLabels : Wire → Step → Reply → Wire → Type 0
+ByLabels before s result after = Does (decide_of before s) before result after
+
+-- the endpoint of a number stands at it
+abbrev pub PortFor : Wire → (endpoint : ℕ) → Result ℕ Refusal → Type 0
+PortFor w e (Ok at) = (at ≡ e) × (nat_lt e (length w.parts) ≡ true)
+PortFor w e (Err refusal.NoSuchEndpoint) = nat_lt e (length w.parts) ≡ false
+PortFor w e _ = ⊥
+
+-- so many copies of a message are sent
+abbrev pub Sends : InFlight → (endpoint : ℕ) → Kind → (copies : ℕ) → Result (Unit {0}) Refusal → InFlight → Type 0
+Sends bag e kind copies (Ok _) after = (lacks bag.next copies ≡ false) × (after ≡ with_sent bag (record { endpoint = e; kind = kind }) copies)
+Sends bag e kind copies (Err refusal.NumbersSpent) after = (lacks bag.next copies ≡ true) × (after ≡ bag)
+Sends bag e kind copies (Err refusal.OutOfMemory) after = (lacks bag.next copies ≡ false) × (after ≡ bag)
+Sends bag e kind copies _ after = ⊥

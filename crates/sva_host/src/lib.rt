@@ -1,0 +1,9 @@
+//! A host with its endpoints and the link between them, put together of its parts. Each step is the step by labels.
+#![tactic(auto)]
+
+mod endpoints;
+mod host;
+mod sending;
+mod spaces;
+
+pub use host::Host;

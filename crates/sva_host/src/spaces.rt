@@ -1,0 +1,44 @@
+//! The steps of spaces and frames.
+
+ghost use Rattle.sva_step.specs.declared.steps.Step.TheVariants as step;
+ghost use Rattle.sva_host.specs.Steps.{ByLabels};
+
+use crate::host::Host;
+use sva_step::{Answer, Refusal};
+
+impl Host {
+    /// Begins a space, with the next number.
+    pub fn space(&mut self) -> Result<Answer, Refusal>
+        ensures { ByLabels self.old step.Space result self.new }
+    {
+        self.memory.space()
+    }
+
+    /// Ends a space that is bound nowhere: its frames are free.
+    pub fn drop_space(&mut self, space: u64) -> Result<Answer, Refusal>
+        ensures { ByLabels self.old (step.DropSpace space) result self.new }
+    {
+        if !self.memory.has_space(space) {
+            return Err(Refusal::NoSuchSpace);
+        }
+        if self.bindings.is_bound(space) {
+            return Err(Refusal::StillBound);
+        }
+        self.memory.drop_space(space);
+        Ok(Answer::Gone)
+    }
+
+    /// Maps a page of a space to the lowest free frame.
+    pub fn map(&mut self, space: u64, page: u64, write: bool) -> Result<Answer, Refusal>
+        ensures { ByLabels self.old (step.Map space page write) result self.new }
+    {
+        self.memory.map(space, page, write)
+    }
+
+    /// Where a frame is.
+    pub fn look(&self, frame: u64) -> Result<Answer, Refusal>
+        ensures { ByLabels self.now (step.Look frame) result self.now }
+    {
+        self.memory.look(frame)
+    }
+}

@@ -11,3 +11,4 @@ pub mod Rows
 pub mod Taking
 pub mod Permits
 pub mod Unmapped
+pub mod Deciding

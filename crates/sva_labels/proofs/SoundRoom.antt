@@ -5,6 +5,7 @@ use Rattle.std.specs.Prelude.{Option, Some, None, ◌&&◌, ◌||◌, ◌==◌, 
 use Rattle.std.specs.List.{find}
 use Rattle.std.specs.Set.{distinct_count, is_member, remove_key, unique_keys}
 use Rattle.std.proofs.lemmas.Map.Made.{length-remove_key}
+use Rattle.std.proofs.lemmas.Option.{get_or_from_slice_get}
 use Rattle.std.proofs.lemmas.Bool.Decides.{nat_tests}
 use Rattle.sva_model.specs.Wire.{Wire, BindingWire, StageWire, PlaceWire, TargetWire, Descriptor, UnitWire}
 use Rattle.sva_model.specs.Wire.TargetWire.{Cookie, ResetEnd}
@@ -265,3 +266,14 @@ room_for_waits w s n room e c h new = by_table (low_or_not e)
     by_table : (e < 8) ⊎ (8 ≤ e) → distinct_count (◌==◌) (awaited_at e w.places) < 64
     by_table (inl l) = by_part (nat_lt e (length w.parts)) refl (sym (tabulate_at 8 target e None l) ∙ h)
     by_table (inr l) = absurd (cc (sym (tabulate_past 8 target e None l) ∙ h))
+
+-- the same, where the target is read from its place
+pub room_for_each :
+    (w : Wire) → IsSound w
+    → (n : ℕ)
+    → ((e : ℕ) → e < length w.parts → submits w n e ≡ true → has_room (unit_of w e) 2 ≡ true)
+    → (e c : ℕ)
+    → slice_get (targets_of w n) e ≡ Some (Some (Cookie c))
+    → is_member (◌==◌) (cookies_in (map (target_there e) w.places)) c ≡ false
+    → distinct_count (◌==◌) (cookies_in (map (target_there e) w.places)) < 64
+room_for_each w s n room e c h = room_for_waits w s n room e c (get_or_from_slice_get (targets_of w n) e (Some (Cookie c)) None h)

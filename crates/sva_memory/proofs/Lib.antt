@@ -12,3 +12,4 @@ pub mod Taking
 pub mod Permits
 pub mod Unmapped
 pub mod Deciding
+pub mod Pending

@@ -1,6 +1,6 @@
 -- A request may be filed, by what the definitions by labels say of its group.
-use Rattle.std.proofs.Common.{◌≡◌, ap, sym, ◌∙◌, ℕ, ◌+◌, ◌<◌, ◌^◌, arith}
-use Rattle.std.specs.Prelude.{MatchOption, unwrap_or, Option, Some, None, List, length, map, find}
+use Rattle.std.proofs.Common.{◌≡◌, ap, sym, ◌∙◌, ◌+◌, ◌<◌, ◌^◌, arith}
+use Rattle.std.specs.Prelude.{MatchOption, unwrap_or, Option, Some, None, length, find}
 use Rattle.std.proofs.lemmas.List.{length-map}
 use Rattle.sva_labels.specs.Moves.{is_begun}
 use Rattle.sva_labels.specs.Outcomes.{asks_of}

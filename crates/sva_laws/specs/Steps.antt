@@ -9,7 +9,8 @@ use Rattle.sva_model.specs.State.About.{ResetDone}
 use Rattle.sva_model.specs.State.Owed.{Ranges, Pasid}
 use Rattle.sva_model.specs.State.MappingState.{Gone}
 use Rattle.sva_model.specs.Words.{count_below, is_some}
-use Rattle.sva_model.specs.States.{is_unreleased, answered}
+use Rattle.sva_model.specs.States.{is_unreleased, answered, place}
+use Rattle.sva_model.specs.States.Place.{Withheld}
 use Rattle.sva_model.specs.Steps.{Reply, reply, world_after}
 use Rattle.sva_model.specs.Claims.{Fits}
 use Rattle.sva_laws.specs.UnitSteps.{Delivers, PassesWait}
@@ -38,8 +39,8 @@ AlwaysDropsApart =
     → Fits config
     → (world_after rule config (steps ++ step.DropSpace n ∷ [])).part e ≡ (world_after rule config steps).part e
 
--- What a frame waits for at an endpoint is fixed when its mapping is taken out: a wait, or the end of a reset. It changes since
--- then only by becoming answered: at a pump that passes that very wait, or at the delivery of the endpoint's reset-done.
+-- What a frame waits for at an endpoint is fixed when its mapping is taken out: a wait, or the end of a reset. After
+-- that it changes only by becoming answered: at a pump that passes that very wait, or at the delivery of the endpoint's reset-done.
 abbrev pub wait_of : Owed → ℕ
 wait_of (Ranges first count resets) = first + count
 wait_of (Pasid invalidation wait resets in_reset) = wait
@@ -56,6 +57,14 @@ AlwaysAnswersBy =
     → Fits config
     → (world_after rule config steps).mappings.state m ≡ Gone owed
     → AnswersBy (world_after rule config steps) (world_after rule config (steps ++ s ∷ [])) s m e owed
+
+-- and the mapping that a withheld frame was last at stays its last: no step maps it
+abbrev pub AlwaysKeepsLatest : Type 0
+AlwaysKeepsLatest =
+    (rule : PasidRule) (config : Config) (steps : List Step) (s : Step) (frame : ℕ)
+    → Fits config
+    → place (world_after rule config steps) frame ≡ Withheld
+    → (world_after rule config (steps ++ s ∷ [])).mappings.latest frame ≡ (world_after rule config steps).mappings.latest frame
 
 -- How many bindings are unreleased, and how many use slots of an endpoint are taken.
 abbrev pub unreleased : World → ℕ

@@ -1,5 +1,5 @@
 use Rattle.sva_laws.proofs.OnePart.{always_one_part, always_dropped}
-use Rattle.sva_laws.proofs.Turns.{always_answers}
+use Rattle.sva_laws.proofs.Turns.{always_answers, always_latest}
 use Rattle.sva_laws.proofs.Books.{always_books}
 use Rattle.sva_laws.proofs.what_steps_change.Goals as goal
 
@@ -14,3 +14,6 @@ returns-clause-answers c = λ rule config steps s m e owed fits gone. always_ans
 
 pub returns-clause-books : goal.returns-clause-books
 returns-clause-books c = λ rule config steps s fits. always_books rule config steps s
+
+pub returns-clause-latest : goal.returns-clause-latest
+returns-clause-latest c = λ rule config steps s frame fits withheld. always_latest rule config steps s frame withheld

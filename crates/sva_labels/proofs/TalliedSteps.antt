@@ -51,7 +51,10 @@ pub record AreTallied (d : Decision) : Type 0 where
   pub begun : total begun_by d.acts ≡ begins d.reply
   pub ended : total ended_by d.acts ≡ ends d.reply
 
-tallied : (d : Decision) → total bound_by d.acts ≡ binds d.reply → total released_by d.acts ≡ releases d.reply → total begun_by d.acts ≡ begins d.reply → total ended_by d.acts ≡ ends d.reply → AreTallied d
+tallied :
+    (d : Decision) → total bound_by d.acts ≡ binds d.reply → total released_by d.acts ≡ releases d.reply → total begun_by d.acts ≡ begins d.reply
+    → total ended_by d.acts ≡ ends d.reply
+    → AreTallied d
 tallied d b r x y = record { bound = b; released = r; begun = x; ended = y }
 
 -- what is done where no cause refuses
@@ -112,7 +115,9 @@ serve_tallied p e true = tallied _ refl refl refl refl
 serve_tallied p e false = file_tallied e (Labels.oldest_arrived p) (p.group_of (Labels.oldest_arrived p)) (p.is_last (Labels.oldest_arrived p))
 
 -- pages that are mapped count for nothing
-maps_total : (f : Act → ℕ) → ((s q g : ℕ) (x : Bool) → f (Act.Map s q g x) ≡ 0) → (t : ℕ) (write : ℕ → Bool) (qs fs : List ℕ) (rest : List Act) → total f (maps_to t write qs fs ++ rest) ≡ total f rest
+maps_total :
+    (f : Act → ℕ) → ((s q g : ℕ) (x : Bool) → f (Act.Map s q g x) ≡ 0) → (t : ℕ) (write : ℕ → Bool) (qs fs : List ℕ) (rest : List Act)
+    → total f (maps_to t write qs fs ++ rest) ≡ total f rest
 maps_total f h t write [] fs rest = refl
 maps_total f h t write (q ∷ qs) [] rest = refl
 maps_total f h t write (q ∷ qs) (g ∷ fs) rest =
@@ -120,7 +125,9 @@ maps_total f h t write (q ∷ qs) (g ∷ fs) rest =
     let others = maps_total f h t write qs fs rest in
     omega (arith, none, others)
 
-code_tallied : (n : ℕ) (code : Code) (acts : List Act) → total bound_by acts ≡ 0 → total released_by acts ≡ 0 → total begun_by acts ≡ 0 → total ended_by acts ≡ 0 → AreTallied (plain (says (code_answer n code) acts))
+code_tallied :
+    (n : ℕ) (code : Code) (acts : List Act) → total bound_by acts ≡ 0 → total released_by acts ≡ 0 → total begun_by acts ≡ 0 → total ended_by acts ≡ 0
+    → AreTallied (plain (says (code_answer n code) acts))
 code_tallied n SuccessCode acts b r x y = tallied _ b r x y
 code_tallied n InvalidCode acts b r x y = tallied _ b r x y
 code_tallied n FailureCode acts b r x y = tallied _ b r x y
@@ -137,7 +144,9 @@ reply_tallied w x j v (Some code) =
     last : List Act
     last = LetGo x ∷ At (w.job j).endpoint (Own.Respond (w.job j).group code) ∷ []
 
-    none : (f : Act → ℕ) → ((s q g : ℕ) (z : Bool) → f (Act.Map s q g z) ≡ 0) → (b : Bool) → total f ((if b then maps_to (job_space w j) (is_write_asked w j) (newly_mapped w j) (free_list w) else []) ++ last) ≡ total f last
+    none :
+        (f : Act → ℕ) → ((s q g : ℕ) (z : Bool) → f (Act.Map s q g z) ≡ 0) → (b : Bool)
+        → total f ((if b then maps_to (job_space w j) (is_write_asked w j) (newly_mapped w j) (free_list w) else []) ++ last) ≡ total f last
     none f h true = maps_total f h (job_space w j) (is_write_asked w j) (newly_mapped w j) (free_list w) last
     none f h false = refl
 

@@ -50,7 +50,9 @@ sum_same (suc n) f g h =
     omega (arith, a, b)
 
 -- one of them changes
-sum_changed : (n e : ℕ) (f g : ℕ → ℕ) (less more : ℕ) → e < n → ((k : ℕ) → k ≢ e → f k ≡ g k) → f e + less ≡ g e + more → sum_to n f + less ≡ sum_to n g + more
+sum_changed :
+    (n e : ℕ) (f g : ℕ → ℕ) (less more : ℕ) → e < n → ((k : ℕ) → k ≢ e → f k ≡ g k) → f e + less ≡ g e + more
+    → sum_to n f + less ≡ sum_to n g + more
 unfolding sum_to
 sum_changed zero e f g less more l h c = absurd (omega (arith, l))
 sum_changed (suc n) e f g less more l h c = go (ℕ_cases n e) (λ m. sum_changed n e f g less more m h c)
@@ -70,7 +72,9 @@ sum_changed (suc n) e f g less more l h c = go (ℕ_cases n e) (λ m. sum_change
 abbrev kept_count : World → ℕ
 kept_count w = count_below w.bindings (is_kept w)
 
-kept_by : (w : World) (e : ℕ) (q : Part) (k : ℕ) → (w.home k ≡ e → is_unreleased (q.stage k) ≡ is_unreleased ((w.part e).stage k)) → is_unreleased ((put w.part e q (w.home k)).stage k) ≡ is_kept w k
+kept_by :
+    (w : World) (e : ℕ) (q : Part) (k : ℕ) → (w.home k ≡ e → is_unreleased (q.stage k) ≡ is_unreleased ((w.part e).stage k))
+    → is_unreleased ((put w.part e q (w.home k)).stage k) ≡ is_kept w k
 kept_by w e q k h = go (ℕ_cases (w.home k) e)
   where
     go : (w.home k ≡ e) ⊎ (w.home k ≢ e) → is_unreleased ((put w.part e q (w.home k)).stage k) ≡ is_kept w k
@@ -87,13 +91,17 @@ binds_or_releases (Own.Bind b s t) = true
 binds_or_releases (Own.Release b) = true
 binds_or_releases _ = false
 
-stage_same : (ms : Mappings) (g n : ℕ) (p : Part) (o : Own) → LegalOwn ms g p o → binds_or_releases o ≡ false → (b : ℕ) → is_unreleased ((own p n o).stage b) ≡ is_unreleased (p.stage b)
+stage_same :
+    (ms : Mappings) (g n : ℕ) (p : Part) (o : Own) → LegalOwn ms g p o → binds_or_releases o ≡ false → (b : ℕ)
+    → is_unreleased ((own p n o).stage b) ≡ is_unreleased (p.stage b)
 stage_same ms g n p o l k b = grind (arith, nat_tests)
 
 none_bound : (e : ℕ) (o : Own) → binds_or_releases o ≡ false → bound_by (At e o) ≡ released_by (At e o)
 none_bound e o h = grind arith
 
-at_bindings : (w : World) (e : ℕ) (o : Own) (z : Bool) → binds_or_releases o ≡ z → Legal w (At e o) → Invariant w → kept_count (act w (At e o)) + released_by (At e o) ≡ kept_count w + bound_by (At e o)
+at_bindings :
+    (w : World) (e : ℕ) (o : Own) (z : Bool) → binds_or_releases o ≡ z → Legal w (At e o) → Invariant w
+    → kept_count (act w (At e o)) + released_by (At e o) ≡ kept_count w + bound_by (At e o)
 at_bindings w e o false z l i =
     let same = count_same w.bindings (is_kept (act w (At e o))) (is_kept w) (λ k m. kept_by w e (own (w.part e) w.messages o) k (λ s. stage_same w.mappings w.bindings w.messages (w.part e) o l.1.0 z k)) in
     let none = none_bound e o z in
@@ -189,7 +197,9 @@ slot_same p n o k t = grind arith
 none_begun : (e : ℕ) (o : Own) → begins_or_ends o ≡ false → begun_by (At e o) ≡ ended_by (At e o)
 none_begun e o h = grind arith
 
-own_slots : (ms : Mappings) (g n e : ℕ) (p : Part) (o : Own) (z : Bool) → begins_or_ends o ≡ z → LegalOwn ms g p o → Labels p → taken_at (own p n o) + ended_by (At e o) ≡ taken_at p + begun_by (At e o)
+own_slots :
+    (ms : Mappings) (g n e : ℕ) (p : Part) (o : Own) (z : Bool) → begins_or_ends o ≡ z → LegalOwn ms g p o → Labels p
+    → taken_at (own p n o) + ended_by (At e o) ≡ taken_at p + begun_by (At e o)
 own_slots ms g n e p o false z l la =
     let same = count_same 16 (λ t. is_some ((own p n o).at_slot t)) (λ t. is_some (p.at_slot t)) (λ t m. ap is_some (slot_same p n o z t)) in
     let none = none_begun e o z in
@@ -235,14 +245,18 @@ act_slots w (LetGo x) l i = refl
 
 -- The acts of a step.
 
-acts_bindings : (acts : List Act) (w : World) → LegalAll w acts → Invariant w → kept_count (after_acts w acts) + total released_by acts ≡ kept_count w + total bound_by acts
+acts_bindings :
+    (acts : List Act) (w : World) → LegalAll w acts → Invariant w
+    → kept_count (after_acts w acts) + total released_by acts ≡ kept_count w + total bound_by acts
 acts_bindings [] w l i = refl
 acts_bindings (a ∷ acts) w l i =
     let here = act_bindings w a l.0 i in
     let rest = acts_bindings acts (act w a) l.1 (act_keeps w a l.0 i) in
     omega (arith, here, rest)
 
-acts_slots : (acts : List Act) (w : World) → LegalAll w acts → Invariant w → taken_count (after_acts w acts) + total ended_by acts ≡ taken_count w + total begun_by acts
+acts_slots :
+    (acts : List Act) (w : World) → LegalAll w acts → Invariant w
+    → taken_count (after_acts w acts) + total ended_by acts ≡ taken_count w + total begun_by acts
 acts_slots [] w l i = refl
 acts_slots (a ∷ acts) w l i =
     let here = act_slots w a l.0 i in
@@ -260,7 +274,9 @@ taken_push [] (Some u) = refl
 taken_push (None ∷ xs) x = taken_push xs x
 taken_push (Some u ∷ xs) x = let r = taken_push xs x in go x r
   where
-    go : (y : Option UseWire) → taken_in (xs ++ y ∷ []) ≡ taken_in (y ∷ []) + taken_in xs → suc (taken_in (xs ++ y ∷ [])) ≡ taken_in (y ∷ []) + suc (taken_in xs)
+    go :
+        (y : Option UseWire) → taken_in (xs ++ y ∷ []) ≡ taken_in (y ∷ []) + taken_in xs
+        → suc (taken_in (xs ++ y ∷ [])) ≡ taken_in (y ∷ []) + suc (taken_in xs)
     go None r = omega (arith, r)
     go (Some v) r = omega (arith, r)
 
@@ -269,7 +285,9 @@ unfolding tabulate count_below
 taken_table zero f at = refl
 taken_table (suc n) f at = taken_push (tabulate n (λ t. option_map f (at t))) (option_map f (at n)) ∙ go (at n) (taken_table n f at)
   where
-    go : (o : Option ℕ) → taken_in (tabulate n (λ t. option_map f (at t))) ≡ count_below n (λ t. is_some (at t)) → taken_in (option_map f o ∷ []) + taken_in (tabulate n (λ t. option_map f (at t))) ≡ (if is_some o then suc (count_below n (λ t. is_some (at t))) else count_below n (λ t. is_some (at t)))
+    go :
+        (o : Option ℕ) → taken_in (tabulate n (λ t. option_map f (at t))) ≡ count_below n (λ t. is_some (at t))
+        → taken_in (option_map f o ∷ []) + taken_in (tabulate n (λ t. option_map f (at t))) ≡ (if is_some o then suc (count_below n (λ t. is_some (at t))) else count_below n (λ t. is_some (at t)))
     go None r = omega (arith, r)
     go (Some k) r = omega (arith, r)
 
@@ -289,7 +307,10 @@ taken_seen : (w : World) → slots_in (wire w).parts ≡ taken_count w
 taken_seen w = slots_table w.config.endpoints (λ e. part_wire w.config.first w.mappings (w.part e)) (λ e. taken_at (w.part e)) (λ e. taken_table 16 (use_wire w.mappings (w.part e)) (w.part e).at_slot)
 
 -- a step changes them as its answer says
-after_step : (after before less more minus plus seen_after seen_before : ℕ) → after + less ≡ before + more → less ≡ minus → more ≡ plus → seen_after ≡ after → seen_before ≡ before → seen_after + minus ≡ seen_before + plus
+after_step :
+    (after before less more minus plus seen_after seen_before : ℕ) → after + less ≡ before + more → less ≡ minus → more ≡ plus → seen_after ≡ after
+    → seen_before ≡ before
+    → seen_after + minus ≡ seen_before + plus
 after_step after before less more minus plus seen_after seen_before h l m a b = omega (arith, h, l, m, a, b)
 
 pub step_counts : (w : World) (s : Step) → Invariant w → IsTallied (wire w) (wire (next w s)) (reply w s)
@@ -300,5 +321,7 @@ step_counts w s i =
       slots = after_step _ _ _ _ _ _ _ _ (acts_slots (decide w s).acts w (step_legal w s i) i) t.ended t.begun (taken_seen (next w s)) (taken_seen w);
     }
 
-pub always_tallied : (rule : PasidRule) (config : Config) (steps : List Step) (s : Step) → IsTallied (wire (world_after rule config steps)) (wire (next (world_after rule config steps) s)) (reply (world_after rule config steps) s)
+pub always_tallied :
+    (rule : PasidRule) (config : Config) (steps : List Step) (s : Step)
+    → IsTallied (wire (world_after rule config steps)) (wire (next (world_after rule config steps) s)) (reply (world_after rule config steps) s)
 always_tallied rule config steps s = step_counts (world_after rule config steps) s (always rule config steps)

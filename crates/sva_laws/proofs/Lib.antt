@@ -57,3 +57,7 @@ pub mod OnePart
 pub mod Latest
 pub mod Turns
 pub mod ByUnit
+pub mod StepActs
+pub mod Books
+pub mod Filed
+pub mod Rooms

@@ -45,7 +45,7 @@ page_counted w s q f x =
     same : (m : ℕ) → m ≢ w.mappings.made → (is_present (put w.mappings.state w.mappings.made Present m) && put w.mappings.space w.mappings.made s m == s) ≡ (is_present (w.mappings.state m) && w.mappings.space m == s)
     same m ne = grind (arith, nat_tests)
 
-one_page : (w : World) (s q f : ℕ) (x : Bool) → w.mappings.at s q ≡ None → MapsPages w (act w (Map s q f x)) s 1
+pub one_page : (w : World) (s q f : ℕ) (x : Bool) → w.mappings.at s q ≡ None → MapsPages w (act w (Map s q f x)) s 1
 one_page w s q f x un =
     record {
       pages = page_counted w s q f x;
@@ -99,7 +99,7 @@ more_pages u v w s n a b =
 
 -- The pages of a reply, and then the response.
 
-all_pages : (s : ℕ) (write : ℕ → Bool) (qs fs : List ℕ) (x e : ℕ) (o : Own) (w : World) → LegalAll w (maps_to s write qs fs ++ LetGo x ∷ At e o ∷ []) → MapsPages w (after_acts w (maps_to s write qs fs ++ LetGo x ∷ At e o ∷ [])) s (length (maps_to s write qs fs))
+pub all_pages : (s : ℕ) (write : ℕ → Bool) (qs fs : List ℕ) (x e : ℕ) (o : Own) (w : World) → LegalAll w (maps_to s write qs fs ++ LetGo x ∷ At e o ∷ []) → MapsPages w (after_acts w (maps_to s write qs fs ++ LetGo x ∷ At e o ∷ [])) s (length (maps_to s write qs fs))
 all_pages s write [] fs x e o w l = no_page w x e o s
 all_pages s write (q ∷ qs) [] x e o w l = no_page w x e o s
 all_pages s write (q ∷ qs) (f ∷ fs) x e o w l =

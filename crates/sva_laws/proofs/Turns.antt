@@ -10,8 +10,9 @@ use Rattle.sva_model.specs.State.{PasidRule, Owed, OrderState, Part, World}
 use Rattle.sva_model.specs.State.About.{ResetDone}
 use Rattle.sva_model.specs.State.Owed.{Nothing, Ranges, Pasid, AReset}
 use Rattle.sva_model.specs.State.OrderState.{Owing, Done}
-use Rattle.sva_model.specs.State.MappingState.{Gone}
-use Rattle.sva_model.specs.States.{is_done, is_busy, answered}
+use Rattle.sva_model.specs.State.MappingState.{Present, Gone}
+use Rattle.sva_model.specs.States.{Place, is_done, is_busy, answered, place, place_at, place_by}
+use Rattle.sva_model.specs.States.Place.{Free, Mapped, Withheld}
 use Rattle.sva_model.specs.Acts.{Own, own, submits, submitted_if, bound, cookie_of}
 use Rattle.sva_model.specs.Steps.{reply, decide, next, after_acts, world_after}
 use Rattle.sva_laws.specs.UnitSteps.{Delivers, PassesWait, CompletesOrder}
@@ -30,6 +31,7 @@ use Rattle.sva_laws.proofs.StepKinds.{IsBy, Kind, step_kind}
 use Rattle.sva_laws.proofs.StepKinds.Kind.{calm, single, unmapping}
 use Rattle.sva_laws.proofs.UnitSteps.{Changes, changes, delivers, same_acts, always_counts}
 use Rattle.sva_laws.proofs.Debts.{always_debts}
+use Rattle.sva_laws.proofs.Freed.{next_place}
 
 -- the counter of reset-dones stays, or a reset-done is delivered
 own_counts : (w : World) (s : Step) (e : ℕ) (a : Answer) (o : Own) → reply w s ≡ Ok a → IsBy w s e o a → LegalOwn w.mappings w.bindings (w.part e) o → ((own (w.part e) w.messages o).resets ≡ (w.part e).resets) ⊎ Delivers w s e ResetDone
@@ -175,3 +177,18 @@ always_answers rule config steps s m e owed g =
       stays = stays (w.part e) ((next w s).part e) (owed e) c.done_on (never_falls (w.part e) ((next w s).part e) (Delivers w s e ResetDone) r rises);
       turns = turns w s e ((next w s).part e) (owed e) (always_debts rule config steps m e owed g) (i.parts e).orders c r;
     })
+
+-- while a frame is withheld, no step maps it
+next_latest : (w : World) (s : Step) (f : ℕ) → Invariant w → place w f ≡ Withheld → (next w s).mappings.latest f ≡ w.mappings.latest f
+next_latest w s f i h = go ((moves w s i).latest_new f)
+  where
+    not_mapped : (x : Place) → (x ≡ Free) ⊎ (x ≡ Withheld) → x ≡ Mapped → ⊥
+    not_mapped x (inl a) b = absurd (cc)
+    not_mapped x (inr a) b = absurd (cc)
+
+    go : ((next w s).mappings.latest f ≡ w.mappings.latest f) ⊎ ((z : ℕ) × ((next w s).mappings.latest f ≡ Some z) × ((next w s).mappings.state z ≡ Present)) → (next w s).mappings.latest f ≡ w.mappings.latest f
+    go (inl x) = x
+    go (inr x) = absurd (not_mapped (place (next w s) f) (next_place w s f i h) (ap (place_at (next w s)) x.1 ∙ ap (place_by (next w s)) x.2))
+
+pub always_latest : (rule : PasidRule) (config : Config) (steps : List Step) (s : Step) (f : ℕ) → place (world_after rule config steps) f ≡ Withheld → (world_after rule config (steps ++ s ∷ [])).mappings.latest f ≡ (world_after rule config steps).mappings.latest f
+always_latest rule config steps s f h = ap (λ v. v.mappings.latest f) (after_one rule config steps s) ∙ next_latest (world_after rule config steps) s f (always rule config steps) h

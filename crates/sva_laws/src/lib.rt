@@ -2,9 +2,9 @@
 #![tactic(auto)]
 
 ghost use Rattle.sva_model.specs.Claims.{AlwaysAgrees};
-ghost use Rattle.sva_laws.specs.Laws.{AlwaysOwned, AlwaysPresentOrWithheld, AlwaysMatched, AlwaysHoldsJobs, AlwaysDivided, AlwaysAddsUp, AlwaysWithheldExactly, FreeByTheLastAnswer, AlwaysTold, AlwaysToldOfRange, AlwaysGiven, AlwaysLabelled, AlwaysFound, AlwaysCarried, AlwaysUnderWay, NeverOccurring, AlwaysLimited, AlwaysFindsMappings};
+ghost use Rattle.sva_laws.specs.Laws.{AlwaysOwned, AlwaysPresentOrWithheld, AlwaysMatched, AlwaysHoldsJobs, AlwaysDivided, AlwaysAddsUp, AlwaysWithheldExactly, FreeByTheLastAnswer, AlwaysTold, AlwaysToldOfRange, AlwaysGiven, AlwaysLabelled, AlwaysFound, AlwaysCarried, AlwaysUnderWay, NeverOccurring, AlwaysLimited, AlwaysKeepsLimits, AlwaysFindsMappings};
 ghost use Rattle.sva_laws.specs.Answers.{AlwaysFinishes, AlwaysUses, AlwaysLooks, AlwaysFrees, AlwaysSucceeds};
-ghost use Rattle.sva_laws.specs.Steps.{AlwaysChangesOnePart, AlwaysDropsApart, AlwaysAnswersBy};
+ghost use Rattle.sva_laws.specs.Steps.{AlwaysChangesOnePart, AlwaysDropsApart, AlwaysAnswersBy, AlwaysKeepsLatest, AlwaysKeepsBooks};
 ghost use Rattle.sva_laws.specs.Runs.{AlwaysLegalInFront, AlwaysLegalByAnswer, SameForOneEndpoint};
 ghost use Rattle.sva_laws.specs.Waits.{AlwaysHasFront, AlwaysFitsDebts, AlwaysAwaitsTargets, AlwaysAnswersByUnit};
 ghost use Rattle.sva_laws.specs.UnitSteps.{AlwaysCountsResetDones, AlwaysChangesOrders, AlwaysVoidByReset, AlwaysNotesMarkers, AlwaysGivesCookies};
@@ -25,11 +25,12 @@ pub fn translations()
 {}
 
 /// Page requests, groups, jobs, markers and responses stand under the binding that asked; hands, groups and the job table
-/// agree.
+/// agree; and what a host keeps stays within its limits.
 pub fn page_requests()
     ensures matched { AlwaysMatched }
     ensures hands { AlwaysHoldsJobs }
     ensures limited { AlwaysLimited }
+    ensures limits { AlwaysKeepsLimits }
 {}
 
 /// Frames: in exactly one place; withheld exactly as long as an endpoint owes an answer, and free after the very step that
@@ -101,9 +102,11 @@ pub fn what_answers_tell()
 
 /// What one step changes: one endpoint with its unit at most, unless it takes pages out of a space; and the drop of a space
 /// changes none. What a frame waits for at an endpoint changes only at a pump that passes that wait, or at the delivery of the
-/// endpoint's reset-done.
+/// endpoint's reset-done. How many bindings are unreleased, and how many use slots are taken, is told by the steps and answers.
 pub fn what_steps_change()
     ensures one_part { AlwaysChangesOnePart }
     ensures apart { AlwaysDropsApart }
     ensures answers { AlwaysAnswersBy }
+    ensures latest { AlwaysKeepsLatest }
+    ensures books { AlwaysKeepsBooks }
 {}

@@ -11,6 +11,7 @@ pub mod Flights
 pub mod ServiceGroups
 pub mod ServiceJobs
 pub mod ServiceLists
+pub mod ServiceCounts
 pub mod ServiceAnswers
 pub mod ServiceFiled
 pub mod ServiceSound

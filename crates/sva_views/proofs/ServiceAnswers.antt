@@ -20,7 +20,8 @@ seen_left_by : (u : ℕ) (p : OpenGroup → Bool) (q : HostGroupWire → Bool) (
 seen_left_by u p q [] h = refl
 seen_left_by u p q (g ∷ gs) h = go (g.unit == u) (p g) refl refl (seen_left_by u p q gs (λ x m. h x (inr m)))
   where
-    here : (b : Bool) → q (group_seen g) ≡ b → cond b (group_seen g ∷ filter q (of_unit u gs)) (filter q (of_unit u gs)) ≡ filter q (group_seen g ∷ of_unit u gs)
+    here : (b : Bool) → q (group_seen g) ≡ b
+        → cond b (group_seen g ∷ filter q (of_unit u gs)) (filter q (of_unit u gs)) ≡ filter q (group_seen g ∷ of_unit u gs)
     here b k = ap (λ t. cond t (group_seen g ∷ filter q (of_unit u gs)) (filter q (of_unit u gs))) (sym k)
 
     go : (a b : Bool) → (g.unit == u) ≡ a → p g ≡ b → of_unit u (filter p gs) ≡ filter q (of_unit u gs)
@@ -53,7 +54,8 @@ module _ (workers : ℕ) (s : Service) (worker : ℕ) (job : Job) (k : IsSound w
       same_tests (is_of_job (job_seen job) (group_seen g)) (g.serial == job.serial)
       (λ h.
       let b = both_of (g.binding == job.binding) (g.index == job.index) h in
-      equals g.serial job.serial (k.own job g (inr (worker, held)) m (record { units = same_of g.unit job.unit u; bindings = same_of g.binding job.binding b.0; indexes = same_of g.index job.index b.1 })))
+      let named : IsNamed g job = record { units = same_of g.unit job.unit u; bindings = same_of g.binding job.binding b.0; indexes = same_of g.index job.index b.1 } in
+      equals g.serial job.serial (k.own job g (inr (worker, held)) m named))
       (λ h.
       let n : IsNamed g job = (kept_job g m (same_of g.serial job.serial h)).named in
       ap₂ (λ a b. a && b) (equals g.binding job.binding n.bindings) (equals g.index job.index n.indexes))
@@ -75,7 +77,8 @@ module _ (workers : ℕ) (s : Service) (worker : ℕ) (job : Job) (k : IsSound w
           let n : IsNamed g job = (kept_job g m (same_of g.serial job.serial h)).named in
           absurd (cc (sym (equals e job.unit (sym (same_of g.unit e u) ∙ n.units)) ∙ apart))
 
-  answered_dropped : list_any (is_of_job (job_seen job)) (groups_seen job.unit s.groups) ≡ false → (e : ℕ) → groups_seen e (after_answer s worker).groups ≡ groups_seen e s.groups
+  answered_dropped : list_any (is_of_job (job_seen job)) (groups_seen job.unit s.groups) ≡ false → (e : ℕ)
+      → groups_seen e (after_answer s worker).groups ≡ groups_seen e s.groups
   answered_dropped none e = go (e == job.unit) refl
     where
       go : (b : Bool) → (e == job.unit) ≡ b → groups_seen e (after_answer s worker).groups ≡ groups_seen e s.groups
@@ -90,7 +93,8 @@ module _ (workers : ℕ) (s : Service) (worker : ℕ) (job : Job) (k : IsSound w
   answer_is_seen : AnswerIsSeen s worker job
   answer_is_seen = record { answered = answered_here; others = answered_apart; dropped = answered_dropped }
 
-hands_answered : (workers : ℕ) (s : Service) (worker : ℕ) (o : Option Job) → hand s worker ≡ o → hands_seen workers (after_answer_of s worker o) ≡ slice_set (hands_seen workers s) worker None
+hands_answered : (workers : ℕ) (s : Service) (worker : ℕ) (o : Option Job) → hand s worker ≡ o
+    → hands_seen workers (after_answer_of s worker o) ≡ slice_set (hands_seen workers s) worker None
 hands_answered workers s worker None h =
     ap (λ l. hands_seen workers (record s { hands = l })) (sym (set-get_or s.hands worker None) ∙ ap (slice_set s.hands worker) h)
     ∙ hand_set workers worker None s.hands

@@ -25,7 +25,8 @@ begun_seen u b i [] = refl
 begun_seen u b i (g ∷ gs) = go (g.unit == u) refl (begun_seen u b i gs)
   where
     go : (t : Bool) → (g.unit == u) ≡ t → list_any (is_begun b i) (of_unit u gs) ≡ list_any (is_unfinished u b i) gs
-        → list_any (is_begun b i) (map group_seen (cond t (g ∷ filter (is_of_unit u) gs) (filter (is_of_unit u) gs))) ≡ (is_unfinished u b i g || list_any (is_unfinished u b i) gs)
+        → list_any (is_begun b i) (map group_seen (cond t (g ∷ filter (is_of_unit u) gs) (filter (is_of_unit u) gs)))
+        ≡ (is_unfinished u b i g || list_any (is_unfinished u b i) gs)
     go true h rest = λ j. begun_here u b i g h j || rest j
     go false h rest = rest ∙ ap (λ t. t || list_any (is_unfinished u b i) gs) (sym (not_begun u b i g h))
 
@@ -59,7 +60,8 @@ module _ (next u b : ℕ) (request : PageRequest) where
       behind k (Joined x n c e) = Joined x (inr n) c e
       behind k (Begun none e) = Begun (ap (λ t. t || list_any unfinished gs) k ∙ none) e
 
-      go : (t : Bool) → unfinished g ≡ t → IsIn h (cond t (with_request g request ∷ gs) (g ∷ by_parts gs)) → (IsIn h (by_parts gs) → FiledFrom gs h) → FiledFrom (g ∷ gs) h
+      go : (t : Bool) → unfinished g ≡ t → IsIn h (cond t (with_request g request ∷ gs) (g ∷ by_parts gs)) → (IsIn h (by_parts gs) → FiledFrom gs h)
+          → FiledFrom (g ∷ gs) h
       go true k (inl e) rest = Joined g (inl refl) k (sym e)
       go true k (inr n) rest = Old (inr n)
       go false k (inl e) rest = Old (inl e)
@@ -78,7 +80,8 @@ module _ (next u b : ℕ) (request : PageRequest) where
   chosen_in [] h = absurd (cc (h))
   chosen_in (g ∷ gs) h = go (unfinished g) refl h (chosen_in gs)
     where
-      go : (t : Bool) → unfinished g ≡ t → (t || list_any unfinished gs) ≡ true → (list_any unfinished gs ≡ true → IsIn (chosen gs) gs × (unfinished (chosen gs) ≡ true))
+      go : (t : Bool) → unfinished g ≡ t → (t || list_any unfinished gs) ≡ true
+          → (list_any unfinished gs ≡ true → IsIn (chosen gs) gs × (unfinished (chosen gs) ≡ true))
           → IsIn (unwrap_or (cond t (Some g) (find unfinished gs)) new) (g ∷ gs) × (unfinished (unwrap_or (cond t (Some g) (find unfinished gs)) new) ≡ true)
       go true k any rest = (inl refl, k)
       go false k any rest = let r = rest any in (inr r.0, r.1)

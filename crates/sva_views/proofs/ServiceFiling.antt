@@ -1,7 +1,7 @@
 -- The filing of a request keeps the service sound.
-use Rattle.std.proofs.Common.{◌≡◌, ◌⊎◌, inl, inr, refl, ap, sym, subst, ◌∙◌, ℕ, ◌<◌, ◌≤◌, Bool, true, false, arith}
+use Rattle.std.proofs.Common.{◌≡◌, ◌⊎◌, inl, inr, refl, ap, sym, subst, ◌∙◌, ℕ, ◌+◌, ◌<◌, ◌≤◌, Bool, true, false, arith}
 use Rattle.std.specs.Prelude.{◌==◌, ◌&&◌, if◌then◌else◌, Some, None, option_map, option_to_list, List, [], ◌∷◌, ◌++◌}
-use Rattle.std.specs.List.{list_any}
+use Rattle.std.specs.List.{count_by, list_any}
 use Rattle.std.proofs.lemmas.Bool.Decides.{nat_tests}
 use Rattle.sva_msg.specs.declared.messages.PageRequest.{PageRequest}
 use Rattle.sva_prq.specs.Job.{Job, ask_of}
@@ -9,9 +9,10 @@ use Rattle.sva_prq.specs.Groups.{OpenGroup, is_unfinished, new_group, with_reque
 use Rattle.sva_prq.proofs.Tests.{Same, unfinished_name, unfinished_part}
 use Rattle.sva_service.specs.Service.{Service, filed}
 use Rattle.sva_views.specs.Service.{job_seen, jobs_seen}
-use Rattle.sva_views.specs.ServiceLaws.{IsIn, IsKept, AreRising, AreNamesakes, IsNamed, IsWhole, IsSound, is_job_of, HasNoJob, BeginsAnew, SoundIsKept}
+use Rattle.sva_views.specs.ServiceLaws.{IsIn, IsKept, AreRising, AreNamesakes, IsNamed, IsWhole, IsSound, is_with, holds, jobs_with, is_job_of, HasNoJob, BeginsAnew, SoundIsKept}
 use Rattle.sva_views.proofs.ServiceJobs.{held_at}
-use Rattle.sva_views.proofs.ServiceLists.{in_append, left_in, right_in, in_any, mapped_in, rising_between, one_of_serial}
+use Rattle.sva_views.proofs.ServiceCounts.{count_append, count_cons, count_none, held_none}
+use Rattle.sva_views.proofs.ServiceLists.{same_of, differs, in_append, left_in, right_in, in_any, mapped_in, rising_between, one_of_serial}
 use Rattle.sva_views.proofs.ServiceFiled.{FiledFrom, Old, Joined, Begun, unfinished_from, begun_seen, in_filed, chosen, chosen_filed, chosen_in, chosen_new, chosen_named, chosen_asks, next_more, rising_filed}
 use Rattle.sva_views.proofs.ServiceSound.{first_sound, reserved_sound, taken_sound, answered_sound, reset_sound}
 
@@ -97,7 +98,8 @@ module _ (workers : ℕ) (s : Service) (u b : ℕ) (request : PageRequest) (k : 
       mine = job_by job.unit u job.binding b job.index request.index h l m
 
       go : IsKept s job → HasNoJob workers s u b request.index → ⊥
-      go (inl n) none_is = absurd (cc (sym (in_any (is_job_of u b request.index) (job_seen job) (jobs_seen s) (mapped_in job_seen job s.jobs n) mine) ∙ none_is.0))
+      go (inl n) none_is =
+          absurd (cc (sym (in_any (is_job_of u b request.index) (job_seen job) (jobs_seen s) (mapped_in job_seen job s.jobs n) mine) ∙ none_is.0))
       go (inr (x, e)) none_is = at (few_or_more x workers)
         where
           at : (x < workers) ⊎ (workers ≤ x) → ⊥
@@ -149,7 +151,8 @@ module _ (workers : ℕ) (s : Service) (u b : ℕ) (request : PageRequest) (k : 
       go (inl j) = old j (from g m)
       go (inr (last, is)) =
           let same : g.serial ≡ (with_request taker request).serial = e ∙ sym (ap (λ (j : Job). j.serial) is) in
-          let one : g ≡ with_request taker request = one_of_serial 0 t.groups.next after rising_after g (with_request taker request) m (chosen_filed next u b request gs) same in
+          let one : g ≡ with_request taker request =
+          one_of_serial 0 t.groups.next after rising_after g (with_request taker request) m (chosen_filed next u b request gs) same in
           subst (λ j. IsWhole g j) is (subst (λ x. IsWhole x made) (sym one) (taker_whole last))
 
   own_after : (job : Job) (g : OpenGroup) → IsKept t job → IsIn g after → IsNamed g job → g.serial ≡ job.serial
@@ -201,7 +204,11 @@ module _ (workers : ℕ) (s : Service) (u b : ℕ) (request : PageRequest) (k : 
       go : IsKept s job ⊎ ((request.last ≡ true) × (made ≡ job)) → g.serial ≡ job.serial
       go (inl j) = old j (from g m)
       go (inr (last, is)) =
-          new (n.units ∙ sym (ap (λ (j : Job). j.unit) is)) (n.bindings ∙ sym (ap (λ (j : Job). j.binding) is)) (n.indexes ∙ sym (ap (λ (j : Job). j.index) is)) (from g m)
+          new
+          (n.units ∙ sym (ap (λ (j : Job). j.unit) is))
+          (n.bindings ∙ sym (ap (λ (j : Job). j.binding) is))
+          (n.indexes ∙ sym (ap (λ (j : Job). j.index) is))
+          (from g m)
           ∙ ap (λ (j : Job). j.serial) is
 
   made_after : (g : OpenGroup) → IsIn g after → g.last ≡ true → (job : Job) × IsKept t job × (job.serial ≡ g.serial)
@@ -227,6 +234,35 @@ module _ (workers : ℕ) (s : Service) (u b : ℕ) (request : PageRequest) (k : 
           subst (λ (j : Job). j.serial < t.groups.next) is
           (rising_between 0 t.groups.next after rising_after (with_request taker request) (chosen_filed next u b request gs)).1
 
+  -- no job has the serial of the group that takes the request
+  apart : (job : Job) → IsKept s job → job.serial ≡ taker.serial → ⊥
+  apart job kept e = go (list_any unfinished gs) refl
+    where
+      go : (any : Bool) → list_any unfinished gs ≡ any → ⊥
+      go true h = let c = chosen_in next u b request gs h in not_yet job kept taker c.0 c.1 (sym e)
+      go false h = let given = k.given job kept in let new = new_taker h in absurd (omega (arith, given, new, e))
+
+  once_after : (n : ℕ) → jobs_with n t ≤ 1
+  once_after n = go request.last (taker.serial == n) refl
+    where
+      go : (last mine : Bool) → (taker.serial == n) ≡ mine
+          → count_by (is_with n) (s.jobs ++ option_to_list (if last then Some made else None)) + count_by (holds n) s.hands ≤ 1
+      go false mine h = let more = count_append (is_with n) s.jobs [] in let one = k.once n in omega (arith, more, one)
+      go true false h =
+          let more = count_append (is_with n) s.jobs (made ∷ []) in
+          let own = count_cons (is_with n) made [] in
+          let other : ◌≡◌ {A = ℕ} (if is_with n made then 1 else 0) 0 = ap (λ t. if t then 1 else 0) h in
+          let one = k.once n in
+          omega (arith, more, own, other, one)
+      go true true h =
+          let more = count_append (is_with n) s.jobs (made ∷ []) in
+          let own = count_cons (is_with n) made [] in
+          let here : ◌≡◌ {A = ℕ} (if is_with n made then 1 else 0) 1 = ap (λ t. if t then 1 else 0) h in
+          let is : taker.serial ≡ n = same_of taker.serial n h in
+          let queued = count_none (is_with n) s.jobs (λ j m. differs j.serial n (λ e. apart j (inl m) (e ∙ sym is))) in
+          let held = held_none n s.hands (λ x j e. differs j.serial n (λ c. apart j (inr (x, e)) (c ∙ sym is))) in
+          omega (arith, more, own, here, queued, held)
+
   -- an unfinished group after, as it was before
   record WasPart (g h : OpenGroup) : Type 0 where
     there : IsIn h gs
@@ -234,7 +270,8 @@ module _ (workers : ℕ) (s : Service) (u b : ℕ) (request : PageRequest) (k : 
     names : AreNamesakes g h
     serials : g.serial ≡ h.serial
 
-  was_part : (g : OpenGroup) → From g → g.last ≡ false → ((h : OpenGroup) × WasPart g h) ⊎ ((list_any unfinished gs ≡ false) × (g ≡ with_request (new_group next u b request.index) request))
+  was_part : (g : OpenGroup) → From g → g.last ≡ false
+      → ((h : OpenGroup) × WasPart g h) ⊎ ((list_any unfinished gs ≡ false) × (g ≡ with_request (new_group next u b request.index) request))
   was_part g (Old m) part = inl (g, record { there = m; part = part; names = record { units = refl; bindings = refl; indexes = refl }; serials = refl })
   was_part g (Joined h m c is) part =
       inl (
@@ -280,7 +317,8 @@ module _ (workers : ℕ) (s : Service) (u b : ℕ) (request : PageRequest) (k : 
             indexes = sym v.names.indexes ∙ n.indexes ∙ w.names.indexes;
           })
           ∙ sym w.serials
-      go (inl (x, v)) (inr (none, is)) = absurd (no_namesake h g x none is (record { units = sym n.units; bindings = sym n.bindings; indexes = sym n.indexes }) v)
+      go (inl (x, v)) (inr (none, is)) =
+          absurd (no_namesake h g x none is (record { units = sym n.units; bindings = sym n.bindings; indexes = sym n.indexes }) v)
       go (inr (none, is)) (inl (y, w)) = absurd (no_namesake g h y none is n w)
       go (inr (none, is)) (inr (none_too, is_too)) = serial_as g new_one is ∙ sym (serial_as h new_one is_too)
 
@@ -292,6 +330,7 @@ module _ (workers : ℕ) (s : Service) (u b : ℕ) (request : PageRequest) (k : 
         jobs = jobs_after;
         own = own_after;
         made = made_after;
+        once = once_after;
         given = given_after;
         four = k.four;
         hands = k.hands;

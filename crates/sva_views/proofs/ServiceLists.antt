@@ -29,7 +29,8 @@ module _ {A : Type 0} where
   in_filter p a [] h = absurd h
   in_filter p a (x ∷ xs) h = go (p x) refl h (in_filter p a xs)
     where
-      go : (b : Bool) → p x ≡ b → IsIn a (cond b (x ∷ filter p xs) (filter p xs)) → (IsIn a (filter p xs) → IsIn a xs × (p a ≡ true)) → ((x ≡ a) ⊎ IsIn a xs) × (p a ≡ true)
+      go : (b : Bool) → p x ≡ b → IsIn a (cond b (x ∷ filter p xs) (filter p xs)) → (IsIn a (filter p xs) → IsIn a xs × (p a ≡ true))
+          → ((x ≡ a) ⊎ IsIn a xs) × (p a ≡ true)
       go true k (inl e) rest = (inl e, sym (ap p e) ∙ k)
       go true k (inr m) rest = let r = rest m in (inr r.0, r.1)
       go false k m rest = let r = rest m in (inr r.0, r.1)
@@ -82,7 +83,8 @@ module _ {A : Type 0} where
   none_left_out p [] h = refl
   none_left_out p (x ∷ xs) h = go (p x) h (none_left_out p xs)
     where
-      go : (b : Bool) → (b || list_any p xs) ≡ false → (list_any p xs ≡ false → filter (λ x. not (p x)) xs ≡ xs) → cond (not b) (x ∷ filter (λ x. not (p x)) xs) (filter (λ x. not (p x)) xs) ≡ x ∷ xs
+      go : (b : Bool) → (b || list_any p xs) ≡ false → (list_any p xs ≡ false → filter (λ x. not (p x)) xs ≡ xs)
+          → cond (not b) (x ∷ filter (λ x. not (p x)) xs) (filter (λ x. not (p x)) xs) ≡ x ∷ xs
       go true k rest = absurd (cc (k))
       go false k rest = ap (λ l. x ∷ l) (rest k)
 
@@ -166,7 +168,8 @@ none_past n low next (g ∷ gs) l h =
     ap (λ b. cond (not b) (g ∷ filter (is_other n) gs) (filter (is_other n) gs)) past
     ∙ ap (λ l. g ∷ l) (none_past n (g.serial + 1) next gs (omega (arith, l, h.0)) h.1)
 
-pub answered_is : (n low next : ℕ) (gs : List OpenGroup) → AreRising low next gs → ((g : OpenGroup) → IsIn g gs → g.serial ≡ n → g.last ≡ true) → answered_among n gs ≡ filter (is_other n) gs
+pub answered_is : (n low next : ℕ) (gs : List OpenGroup) → AreRising low next gs → ((g : OpenGroup) → IsIn g gs → g.serial ≡ n → g.last ≡ true)
+    → answered_among n gs ≡ filter (is_other n) gs
 answered_is n low next [] h whole = refl
 answered_is n low next (g ∷ gs) h whole = go (g.serial == n) g.last refl refl (answered_is n (g.serial + 1) next gs h.1 (λ x m. whole x (inr m)))
   where

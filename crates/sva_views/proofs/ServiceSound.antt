@@ -6,8 +6,9 @@ use Rattle.sva_laws.proofs.Words.{ℕ_cases}
 use Rattle.sva_prq.specs.Job.{Job}
 use Rattle.sva_prq.specs.Groups.{OpenGroup, is_of_other_unit as is_of_other}
 use Rattle.sva_service.specs.Service.{Service, no_service, with_room, hand, taken, after_answer, after_answer_of, is_of_other_unit, without_unit}
-use Rattle.sva_views.specs.ServiceLaws.{IsIn, IsKept, AreRising, IsSound, IsWhole}
+use Rattle.sva_views.specs.ServiceLaws.{IsIn, IsKept, AreRising, IsSound, IsWhole, is_with, jobs_with}
 use Rattle.sva_views.proofs.ServiceLists.{in_filter, kept_in, all_left, first_in, behind_in, emptied, equals, rising_left, is_other}
+use Rattle.sva_views.proofs.ServiceCounts.{count_left, count_set, count_let_go, count_first}
 use Rattle.sva_views.proofs.ServiceAnswers.{left_is}
 
 -- A service with fewer groups, of which each that is left has its job.
@@ -17,6 +18,7 @@ record HasLess (p : OpenGroup → Bool) (workers : ℕ) (s t : Service) : Type 0
   next : t.groups.next ≡ s.groups.next
   from : (job : Job) → IsKept t job → IsKept s job
   still : (g : OpenGroup) (job : Job) → IsIn g s.groups.groups → p g ≡ true → job.serial ≡ g.serial → IsKept s job → IsKept t job
+  fewer : (n : ℕ) → jobs_with n t ≤ jobs_with n s
   four : length t.hands ≡ 4
   hands : (worker : ℕ) → workers ≤ worker → hand t worker ≡ None
 
@@ -32,6 +34,7 @@ sound_less p workers s t k l =
       made = λ g m last.
           let (job, j, e) = k.made g (old g m).0 last in
           (job, l.still g job (old g m).0 (old g m).1 e j, e);
+      once = λ n. let fewer = l.fewer n in let one = k.once n in omega (arith, fewer, one);
       given = λ job j. subst (λ n. job.serial < n) (sym l.next) (k.given job (l.from job j));
       four = l.four;
       hands = l.hands;
@@ -57,6 +60,7 @@ first_sound workers =
       jobs = λ job g j m. absurd m;
       own = λ job g j m. absurd m;
       made = λ g m. absurd m;
+      once = λ n. omega arith;
       given = none;
       four = refl;
       hands = λ x l. none_held x;
@@ -68,7 +72,7 @@ first_sound workers =
 
 pub reserved_sound : (workers : ℕ) (s : Service) → IsSound workers s → IsSound workers (with_room s)
 reserved_sound workers s k =
-    record { rising = k.rising; single = k.single; jobs = k.jobs; own = k.own; made = k.made; given = k.given; four = k.four; hands = k.hands }
+    record { rising = k.rising; single = k.single; jobs = k.jobs; own = k.own; made = k.made; once = k.once; given = k.given; four = k.four; hands = k.hands }
 
 -- The oldest job goes to a hand.
 
@@ -104,6 +108,12 @@ module _ (workers : ℕ) (s : Service) (worker : ℕ) (k : IsSound workers s) (l
       go (inl h) = absurd (cc (sym empty ∙ sym (ap (hand s) h) ∙ e))
       go (inr h) = inr (x, other_hand x h ∙ e)
 
+  fewer : (n : ℕ) → jobs_with n (taken s worker) ≤ jobs_with n s
+  fewer n =
+      let moved = count_first n s.jobs in
+      let held = count_set n (slice_get s.jobs 0) worker s.hands (omega (arith, k.four, of_four)) empty in
+      omega (arith, moved, held)
+
   pub taken_sound : IsSound workers (taken s worker)
   taken_sound =
       sound_less (λ g. true) workers s (taken s worker) k
@@ -112,6 +122,7 @@ module _ (workers : ℕ) (s : Service) (worker : ℕ) (k : IsSound workers s) (l
         next = refl;
         from = taken_from;
         still = λ g job m p e. taken_still job;
+        fewer = fewer;
         four = length-set s.hands worker (slice_get s.jobs 0) ∙ k.four;
         hands = λ x l. other_hand x (λ e. absurd (omega (arith, l, low, e))) ∙ k.hands x l;
       })
@@ -127,6 +138,7 @@ answered_by workers s worker (Some job) h k =
       next = refl;
       from = from;
       still = still;
+      fewer = λ n. let fewer = count_let_go n worker s.hands in omega (arith, fewer);
       four = length-set s.hands worker None ∙ k.four;
       hands = λ x l. past x l (ℕ_cases x worker);
     })
@@ -172,7 +184,15 @@ answered_sound workers s worker k = answered_by workers s worker (hand s worker)
 pub reset_sound : (workers : ℕ) (s : Service) (unit : ℕ) → IsSound workers s → IsSound workers (without_unit s unit)
 reset_sound workers s unit k =
     sound_less (is_of_other unit) workers s (without_unit s unit) k
-    (record { groups = refl; next = refl; from = from; still = still; four = k.four; hands = k.hands })
+    (record {
+      groups = refl;
+      next = refl;
+      from = from;
+      still = still;
+      fewer = λ n. let fewer = count_left (is_with n) (is_of_other_unit unit) s.jobs in omega (arith, fewer);
+      four = k.four;
+      hands = k.hands;
+    })
   where
     from : (j : Job) → IsKept (without_unit s unit) j → IsKept s j
     from j (inl m) = inl (in_filter (is_of_other_unit unit) j s.jobs m).0

@@ -1,7 +1,7 @@
 -- When the service of page requests is sound, that each of its calls keeps it so, and what an answered job leaves of the open
 -- groups, as the definitions by labels say it.
-use Rattle.std.specs.Prelude.{◌≡◌, ◌⊎◌, ℕ, ◌+◌, ◌<◌, ◌≤◌, Bool, true, false, ◌==◌, ◌&&◌, not, Some, None, List, [], ◌∷◌, filter, length, slice_index_or, slice_set}
-use Rattle.std.specs.List.{list_any}
+use Rattle.std.specs.Prelude.{◌≡◌, ◌⊎◌, ℕ, ◌+◌, ◌<◌, ◌≤◌, Bool, true, false, ◌==◌, ◌&&◌, not, Option, Some, None, List, [], ◌∷◌, filter, length, slice_index_or, slice_set}
+use Rattle.std.specs.List.{count_by, list_any}
 use Rattle.sva_model.specs.Wire.{JobWire}
 use Rattle.sva_labels.specs.Moves.{is_begun, is_of_job}
 use Rattle.sva_msg.specs.declared.messages.PageRequest.{PageRequest}
@@ -42,6 +42,17 @@ pub record AreNamesakes (g h : OpenGroup) : Type 0 where
   pub bindings : g.binding ≡ h.binding
   pub indexes : g.index ≡ h.index
 
+-- how many jobs are kept with this serial
+abbrev pub is_with : (serial : ℕ) → Job → Bool
+is_with n job = job.serial == n
+
+abbrev pub holds : (serial : ℕ) → Option Job → Bool
+holds n None = false
+holds n (Some job) = is_with n job
+
+abbrev pub jobs_with : (serial : ℕ) → Service → ℕ
+jobs_with n s = count_by (is_with n) s.jobs + count_by (holds n) s.hands
+
 pub record IsSound (workers : ℕ) (s : Service) : Type 0 where
   pub rising : AreRising 0 s.groups.next s.groups.groups
   -- no two unfinished groups share a unit, a binding and an index
@@ -52,8 +63,9 @@ pub record IsSound (workers : ℕ) (s : Service) : Type 0 where
   pub jobs : (job : Job) (g : OpenGroup) → IsKept s job → IsIn g s.groups.groups → g.serial ≡ job.serial → IsWhole g job
   -- and no other open group has its unit, binding and index
   pub own : (job : Job) (g : OpenGroup) → IsKept s job → IsIn g s.groups.groups → IsNamed g job → g.serial ≡ job.serial
-  -- a whole group has a job
+  -- a whole group has a job, and no two jobs share a serial
   pub made : (g : OpenGroup) → IsIn g s.groups.groups → g.last ≡ true → (job : Job) × IsKept s job × (job.serial ≡ g.serial)
+  pub once : (serial : ℕ) → jobs_with serial s ≤ 1
   pub given : (job : Job) → IsKept s job → job.serial < s.groups.next
   -- four hands, of which only those of the workers that there are have jobs
   pub four : length s.hands ≡ 4

@@ -8,3 +8,5 @@ pub mod SpaceSteps
 pub mod Faults
 pub mod Quits
 pub mod Finishes
+pub mod Arrivals
+pub mod Openings

@@ -1,6 +1,7 @@
 //! A host with its endpoints and the link between them, put together of its parts. Each step is the step by labels.
 #![tactic(auto)]
 
+mod deliveries;
 mod endpoints;
 mod host;
 mod sending;

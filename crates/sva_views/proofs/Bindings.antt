@@ -20,6 +20,7 @@ use Rattle.sva_pasid.specs.declared.stages.Stage.{Stage}
 use Rattle.sva_pasid.specs.declared.stages.Stage.TheVariants.{Live, Stopping, Draining, Invalidating, Quiet, Lost}
 use Rattle.sva_pasid.specs.Stages.{reset_of}
 use Rattle.sva_pasid.specs.Places as places
+use Rattle.sva_views.proofs.Tables.{count_first}
 use Rattle.sva_views.specs.Bindings.{stage_seen, stage_or_quiet, binding_seen, bindings_seen, bearer_seen, AreLookedUp, AreChanged, BindingsAreSeen}
 
 -- A search, a test and a count among things that are seen.
@@ -38,13 +39,10 @@ pub seen_some : {A B : Type 0} (see : A → B) (p : A → Bool) (q : B → Bool)
 seen_some see p q h [] = refl
 seen_some see p q h (x ∷ xs) = λ i. h x i || seen_some see p q h xs i
 
-count_cons : {A : Type 0} (p : A → Bool) (x : A) (xs : List A) → count_by p (x ∷ xs) ≡ (if p x then 1 else 0) + count_by p xs
-count_cons p x xs = sum_by-cons (λ y. cond (p y) 1 0) x xs
-
 pub seen_counted : {A B : Type 0} (see : A → B) (p : A → Bool) (q : B → Bool) → ((a : A) → q (see a) ≡ p a) → (xs : List A) → count_by q (map see xs) ≡ count_by p xs
 seen_counted see p q h [] = refl
 seen_counted see p q h (x ∷ xs) =
-    count_cons q (see x) (map see xs) ∙ (λ i. (if h x i then 1 else 0) + seen_counted see p q h xs i) ∙ sym (count_cons p x xs)
+    count_first q (see x) (map see xs) ∙ (λ i. (if h x i then 1 else 0) + seen_counted see p q h xs i) ∙ sym (count_first p x xs)
 
 pub seen_left : {A B : Type 0} (see : A → B) (p : A → Bool) (q : B → Bool) → ((a : A) → q (see a) ≡ p a) → (xs : List A) → map see (filter p xs) ≡ filter q (map see xs)
 seen_left see p q h [] = refl

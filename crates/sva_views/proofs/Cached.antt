@@ -21,6 +21,7 @@ use Rattle.sva_cache.specs.Cache.{Key, Translations, key_cmp, key_cmp_total, has
 use Rattle.sva_cache.proofs.Edits as edits
 use Rattle.sva_cache.proofs.Edits.{key_cmp-IsAntisymmetric}
 use Rattle.sva_cache.proofs.Facts.{of_entries}
+use Rattle.sva_views.proofs.Tables.{count_first}
 use Rattle.sva_views.specs.Device.{translation_seen, cache_seen}
 
 abbrev Entry : Type 0
@@ -187,9 +188,6 @@ inserted_is_seen cache t q v = ap seen (entries-insert key_cmp_total cache (t, q
 abbrev one_if : Bool → ℕ
 one_if true = 1
 one_if false = 0
-
-count_first : {A : Type 0} (p : A → Bool) (x : A) (xs : List A) → count_by p (x ∷ xs) ≡ (if p x then 1 else 0) + count_by p xs
-count_first p x xs = sum_by-cons (λ y. cond (p y) 1 0) x xs
 
 all_others : (t q : ℕ) (es : List Entry) → T (below_all key_cmp (t, q) es) → count_by (is_other t q) (seen es) ≡ length es
 all_others t q [] h = refl

@@ -20,7 +20,7 @@ use Rattle.sva_laws.proofs.Words.{any_below-false}
 use Rattle.sva_wire.proofs.Lists.{tabulate_same}
 use Rattle.sva_views.specs.Device.{taken_seen, device_seen}
 use Rattle.sva_views.specs.DeviceLaws.{FinishIsSeen}
-use Rattle.sva_views.proofs.Tables.{seen_at}
+use Rattle.sva_views.proofs.Tables.{seen_at, map_twice}
 
 -- Searches and tables from their first number on.
 
@@ -159,13 +159,9 @@ unnamed_seen : (b : Bool) (o : Option Taken) → option_map taken_seen (if b the
 unnamed_seen true o = refl
 unnamed_seen false o = refl
 
-map_map : {A B C : Type 0} (f : A → B) (g : B → C) (xs : List A) → map g (map f xs) ≡ map (λ a. g (f a)) xs
-map_map f g [] = refl
-map_map f g (x ∷ xs) = ap (λ l. g (f x) ∷ l) (map_map f g xs)
-
 left_seen : (s : Tables) (v : ℕ) → length s.taken ≡ 32 → map (option_map taken_seen) (without_named v s.taken) ≡ moves.without_named v (device_seen s).taken
 left_seen s v h =
-    map_map (λ place. if is_named v place.0 then None else place.1) (option_map taken_seen) (enumerate_from 0 s.taken)
+    map_twice (λ place. if is_named v place.0 then None else place.1) (option_map taken_seen) (enumerate_from 0 s.taken)
     ∙ map_at (λ t o. option_map taken_seen (if is_named v t then None else o)) s.taken
     ∙ ap (λ n. tabulate n (λ t. option_map taken_seen (if is_named v t then None else slice_index_or s.taken t None))) h
     ∙ tabulate_same 32 (λ t. option_map taken_seen (if is_named v t then None else slice_index_or s.taken t None)) (λ t. if is_set v t then None else taken_at (device_seen s) t)

@@ -18,6 +18,7 @@ use Rattle.sva_msg.proofs.Deliverable.{any_older, may_deliver-is}
 use Rattle.sva_wire.proofs.Lists.{tabulate_same}
 use Rattle.sva_views.specs.Flights.{kind_seen, flight_seen, flights_seen, flight_at, FlightsAreSeen, FlightLaws}
 use Rattle.sva_views.proofs.Completions.{tabulate_front}
+use Rattle.sva_views.proofs.Tables.{map_twice}
 
 abbrev Entry : Type 0
 Entry = ℕ × Message
@@ -89,10 +90,6 @@ row_mapped f first (suc n) =
   where
     sums : (a j : ℕ) → a + 1 + j ≡ a + suc j
     sums a j = omega arith
-
-map_twice : {A B C : Type 0} (f : A → B) (g : B → C) (xs : List A) → map g (map f xs) ≡ map (λ a. g (f a)) xs
-map_twice f g [] = refl
-map_twice f g (x ∷ xs) = ap (λ l. g (f x) ∷ l) (map_twice f g xs)
 
 -- A message that is delivered.
 

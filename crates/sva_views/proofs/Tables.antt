@@ -1,8 +1,9 @@
 -- Tables of labels, seen place by place.
 use Rattle.std.proofs.Common.{◌≡◌, ◌≢◌, ◌⊎◌, inl, inr, refl, ap, ap₂, sym, ◌∙◌, ℕ, zero, suc, ◌+◌, ◌<◌, Bool, true, false, arith}
 use Rattle.std.specs.Prelude.{cond, ◌&&◌, ◌||◌, not, ◌==◌, nat_lt, nat_le, if◌then◌else◌, is_none, Option, Some, None, option_map, List, [], ◌∷◌, map, length, drop, slice_index_or, slice_set, position}
-use Rattle.std.specs.List.{position_or_len, list_any}
+use Rattle.std.specs.List.{position_or_len, list_any, count_by}
 use Rattle.std.proofs.lemmas.List.{map-set, length-map}
+use Rattle.std.proofs.lemmas.List.Sums.{sum_by-cons}
 use Rattle.std.proofs.lemmas.Bool.Decides.{nat_tests}
 
 -- the lowest free place
@@ -42,3 +43,12 @@ seen_any see p q h (x ∷ xs) = λ i. h x i || seen_any see p q h xs i
 pub seen_any_at : {A : Type 0} (p q : A → Bool) → ((a : A) → p a ≡ q a) → (xs : List A) → list_any p xs ≡ list_any q xs
 seen_any_at p q h [] = refl
 seen_any_at p q h (x ∷ xs) = λ i. h x i || seen_any_at p q h xs i
+
+-- what is seen of what is seen
+pub map_twice : {A B C : Type 0} (f : A → B) (g : B → C) (xs : List A) → map g (map f xs) ≡ map (λ a. g (f a)) xs
+map_twice f g [] = refl
+map_twice f g (x ∷ xs) = ap (λ l. g (f x) ∷ l) (map_twice f g xs)
+
+-- a count, from its first entry on
+pub count_first : {A : Type 0} (p : A → Bool) (x : A) (xs : List A) → count_by p (x ∷ xs) ≡ (if p x then 1 else 0) + count_by p xs
+count_first p x xs = sum_by-cons (λ y. cond (p y) 1 0) x xs

@@ -1,6 +1,6 @@
 -- Messages in flight, seen.
-use Rattle.std.proofs.Common.{◌≡◌, ◌↔◌, refl, ap, sym, ◌∙◌, ℕ, zero, suc, ◌+◌, ◌<◌, ◌≤◌, Bool, true, false, arith}
-use Rattle.std.specs.Prelude.{cond, IsTrue, nat_eq, nat_lt, ◌==◌, ◌&&◌, ◌||◌, not, if◌then◌else◌, Option, Some, None, List, [], ◌∷◌, ◌++◌, map, filter, find}
+use Rattle.std.proofs.Common.{◌≡◌, ◌↔◌, refl, ap, sym, ◌∙◌, ℕ, zero, suc, ◌+◌, ◌<◌, Bool, true, false, arith}
+use Rattle.std.specs.Prelude.{cond, IsTrue, nat_eq, nat_lt, ◌==◌, ◌&&◌, ◌||◌, not, Some, List, [], ◌∷◌, ◌++◌, map, filter, find}
 use Rattle.std.specs.List.{list_any, range_with_len}
 use Rattle.std.specs.Map.{lookup, remove_entry}
 use Rattle.std.proofs.lemmas.List.{map-append}
@@ -13,10 +13,10 @@ use Rattle.sva_msg.specs.declared.messages.Message.{Message}
 use Rattle.sva_msg.specs.declared.messages.Kind.{Kind}
 use Rattle.sva_msg.specs.declared.messages.Kind.TheVariants.{Start, Stop, Reset, Completion, Invalidate, Response, Request, Invalidated, PageRequest, Marker, ResetDone}
 use Rattle.sva_msg.specs.Kind.{sort_of}
-use Rattle.sva_msg.specs.Bag.{InFlight, AreNumbered, IsNumbered, MayDeliver, message_at, copies_of, with_sent, without, must_follow}
+use Rattle.sva_msg.specs.Bag.{InFlight, AreNumbered, MayDeliver, copies_of, must_follow}
 use Rattle.sva_msg.proofs.Deliverable.{any_older, may_deliver-is}
 use Rattle.sva_wire.proofs.Lists.{tabulate_same}
-use Rattle.sva_views.specs.Flights.{kind_seen, flight_seen, flights_seen, flight_at, FlightsAreSeen, FlightLaws}
+use Rattle.sva_views.specs.Flights.{kind_seen, flight_seen, flights_seen, flight_at, FlightLaws}
 use Rattle.sva_views.proofs.Completions.{tabulate_front}
 use Rattle.sva_views.proofs.Tables.{map_twice}
 

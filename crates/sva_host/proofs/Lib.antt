@@ -11,3 +11,4 @@ pub mod Finishes
 pub mod Arrivals
 pub mod Openings
 pub mod Binds
+pub mod Bearing

@@ -1,5 +1,6 @@
 //! The steps of bindings.
 
+ghost use Rattle.std.specs.Prelude.{◌<◌, ◌^◌, ◌==◌, count_by};
 ghost use Rattle.sva_step.specs.declared.steps.Step.TheVariants as step;
 ghost use Rattle.sva_labels.specs.Sound.{IsSound};
 ghost use Rattle.sva_host.specs.Steps.{ByLabels, MayStep};
@@ -7,7 +8,7 @@ ghost use Rattle.sva_host.specs.Steps.{ByLabels, MayStep};
 use crate::host::Host;
 use crate::sending::send;
 use sva_msg::Kind;
-use sva_step::{Answer, NUMBERS, Refusal};
+use sva_step::{Answer, NUMBERS, PASIDS, Refusal};
 
 impl Host {
     // What refuses a binding of the space to the endpoint: the first cause that holds, if one does.
@@ -53,5 +54,25 @@ impl Host {
         }
         self.next_binding += 1;
         Ok(Answer::Binding { binding, pasid })
+    }
+
+    /// Which space bears a PASID, and how many bindings are under it. `BadPasid` where it is not 1 to 32.
+    pub fn bearer(&self, pasid: u64) -> Result<Answer, Refusal>
+        requires few { count_by (λ b. b.pasid == pasid) self.now.bindings < 2 ^ 32 }
+        ensures { ByLabels self.now (step.Bearer pasid) result self.now }
+    {
+        if pasid == 0 {
+            return Err(Refusal::BadPasid);
+        }
+        if pasid > u64::from(PASIDS) {
+            return Err(Refusal::BadPasid);
+        }
+        match self.bindings.bearer(pasid as u32) {
+            None => Ok(Answer::NoBearer),
+            Some(bearer) => Ok(Answer::Bearer {
+                space: bearer.space,
+                bindings: bearer.bindings as u32,
+            }),
+        }
     }
 }

@@ -10,3 +10,5 @@ pub mod Quits
 pub mod Finishes
 pub mod Arrivals
 pub mod Openings
+pub mod Binds
+pub mod Bearing

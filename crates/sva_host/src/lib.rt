@@ -1,6 +1,7 @@
 //! A host with its endpoints and the link between them, put together of its parts. Each step is the step by labels.
 #![tactic(auto)]
 
+mod bindings;
 mod deliveries;
 mod endpoints;
 mod host;
@@ -8,3 +9,6 @@ mod sending;
 mod spaces;
 
 pub use host::Host;
+
+#[cfg(test)]
+mod tests;

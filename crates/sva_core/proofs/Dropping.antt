@@ -5,19 +5,11 @@ use Rattle.std.specs.List.{remove}
 use Rattle.std.proofs.lemmas.Bool.Decides.{nat_tests}
 use Rattle.sva_frames.specs.Frames.{Holding}
 use Rattle.sva_space.specs.Calls.{count_in}
-use Rattle.sva_model.specs.Wire.{PlaceWire}
-use Rattle.sva_model.specs.Wire.PlaceWire.{FreeWire}
-use Rattle.sva_wire.specs.Host.{without_space, freed, placed}
+use Rattle.sva_wire.specs.Host.{without_space}
 use Rattle.sva_core.specs.declared.live.Live.{Live}
-use Rattle.sva_core.specs.Seen.{pages_seen, frames_in}
 use Rattle.sva_core.specs.Lives.{space_seen, spaces_seen, count_of, count_all, AreNumbered}
 use Rattle.sva_core.specs.Owned.{mapped_bit, Spent}
 use Rattle.sva_core.proofs.LiveLists.{counted, same_live}
-
--- the frames given back one after another are those of the pages
-pub freed-pages : (ms : List (ℕ × (ℕ × Bool))) (places : List PlaceWire) → freed places (frames_in ms) ≡ placed FreeWire (pages_seen ms) places
-freed-pages [] places = refl
-freed-pages (m ∷ ms) places = freed-pages ms _
 
 is_number : (a b : ℕ) → a ≡ b → (a == b) ≡ true
 is_number a b e = grind (arith, nat_tests)

@@ -1,5 +1,5 @@
 -- The frames, as they are seen.
-use Rattle.std.proofs.Common.{◌≡◌, ◌≢◌, ℕ, zero, suc, ◌+◌, ◌<◌, ◌≤◌, ◌==◌, Bool, true, false, cond, List, Option, Some, None, [], ◌∷◌, ◌++◌, length, set, get_or, slice_get, refl, sym, ap, ◌∙◌, arith, if◌then◌else◌}
+use Rattle.std.proofs.Common.{◌≡◌, ◌≢◌, ℕ, zero, suc, ◌+◌, ◌<◌, ◌≤◌, ◌==◌, Bool, true, false, cond, List, Option, Some, None, [], ◌∷◌, length, set, get_or, slice_get, refl, sym, ap, ◌∙◌, arith, if◌then◌else◌}
 use Rattle.std.specs.Prelude.{nat_lt}
 use Rattle.std.specs.List.{position, position_or_len}
 use Rattle.std.proofs.lemmas.Bool.Decides.{nat_tests}
@@ -9,10 +9,9 @@ use Rattle.std.proofs.lemmas.List.Recursion.{is_position_or_len}
 use Rattle.std.proofs.lemmas.Option.{slice_get-get_or}
 use Rattle.sva_frames.specs.Frames.{Holding, Free, Mapped, Withheld, is_free}
 use Rattle.sva_frames.proofs.Pools.{slice_get-set_same, slice_get-set_other}
-use Rattle.sva_model.specs.Wire.{PlaceWire}
 use Rattle.sva_model.specs.Wire.PlaceWire.{FreeWire}
-use Rattle.sva_wire.specs.Host.{lowest_free, freed, is_free as is_free_wire}
-use Rattle.sva_core.specs.Seen.{frames_in, place_seen, places_seen}
+use Rattle.sva_wire.specs.Host.{lowest_free, placed, is_free as is_free_wire}
+use Rattle.sva_core.specs.Seen.{pages_seen, place_seen, places_seen}
 use Rattle.sva_core.specs.Owned.{one_if_mapped, mapped_bit}
 
 pub length-seen : (frames : List Holding) → length (places_seen frames) ≡ length frames
@@ -86,16 +85,11 @@ first-free frames n first =
     free Mapped is = absurd (cc)
     free (Withheld targets) is = absurd (cc)
 
--- frames given back one after another
-pub freed-more : (places : List PlaceWire) (fs : List ℕ) (f : ℕ) → freed places (fs ++ f ∷ []) ≡ set (freed places fs) f FreeWire
-freed-more places [] f = refl
-freed-more places (g ∷ fs) f = freed-more (set places g FreeWire) fs f
-
 -- the first frame of a space given back, and the others later
-pub first-freed : (space rest : List (ℕ × (ℕ × Bool))) (frames frames_after : List Holding) (first : ℕ × (ℕ × Bool)) → space ≡ first ∷ rest → frames_after ≡ set frames first.1.0 Free → freed (places_seen frames_after) (frames_in rest) ≡ freed (places_seen frames) (frames_in space)
+pub first-freed : (space rest : List (ℕ × (ℕ × Bool))) (frames frames_after : List Holding) (first : ℕ × (ℕ × Bool)) → space ≡ first ∷ rest → frames_after ≡ set frames first.1.0 Free → placed FreeWire (pages_seen rest) (places_seen frames_after) ≡ placed FreeWire (pages_seen space) (places_seen frames)
 first-freed space rest frames frames_after first is gave =
-    ap (λ (ps : List PlaceWire). freed ps (frames_in rest)) (ap places_seen gave ∙ places_seen-set frames first.1.0 Free)
-    ∙ sym (ap (λ (ms : List (ℕ × (ℕ × Bool))). freed (places_seen frames) (frames_in ms)) is)
+    ap (placed FreeWire (pages_seen rest)) (ap places_seen gave ∙ places_seen-set frames first.1.0 Free)
+    ∙ sym (ap (λ (ms : List (ℕ × (ℕ × Bool))). placed FreeWire (pages_seen ms) (places_seen frames)) is)
 
 -- whether a frame is mapped in the pool, after a place changed
 pub mapped_bit-set : (frames : List Holding) (n : ℕ) (h : Holding) (f : ℕ) → n < length frames → mapped_bit f (set frames n h) ≡ (if n == f then one_if_mapped (Some h) else mapped_bit f frames)

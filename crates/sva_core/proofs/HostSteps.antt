@@ -7,7 +7,7 @@ use Rattle.sva_step.specs.declared.steps.Step.TheVariants as step
 use Rattle.sva_model.specs.Steps.{Reply}
 use Rattle.sva_model.specs.Wire.{Wire, PageWire, SpaceWire, PlaceWire, insert_by, is_lower_page}
 use Rattle.sva_model.specs.Wire.PlaceWire.{FreeWire, MappedWire}
-use Rattle.sva_wire.specs.Host.{reply_of, changed, in_space, map_reply, unmap_reply, unmap_range_reply, pages_of, pages_in, or_no_pages, with_pages, without_space, is_between, without, freed, placed}
+use Rattle.sva_wire.specs.Host.{reply_of, changed, in_space, map_reply, unmap_reply, unmap_range_reply, pages_of, pages_in, or_no_pages, with_pages, without_space, is_between, without, placed}
 use Rattle.sva_core.specs.Pieces.{ByNumbers, MapsPage, UnmapsPages, UnmapsRange}
 
 -- the wire with other spaces and places
@@ -73,7 +73,8 @@ pub by_unmap : (w : Wire) (n q count : ℕ) (result : Reply) (pages pages_after 
 by_unmap w n q count (Ok (answer.FreeFrames frames)) pages pages_after spaces_after places_after one unmaps =
     let is : reply_of w (step.Unmap n q count) ≡ Ok (answer.FreeFrames frames) = ap (λ o. in_space o (unmap_reply q count)) one.found ∙ unmaps.0 in (
       sym is,
-      both w spaces_after (with_pages w.spaces n (without q count)) places_after (freed w.places frames) (one.put (without q count) unmaps.1) unmaps.2
+      both w spaces_after (with_pages w.spaces n (without q count)) places_after (placed FreeWire (filter (is_between q count) (pages_in w n)) w.places) (one.put (without q count) unmaps.1)
+          (unmaps.2 ∙ sym (ap (λ o. placed FreeWire (filter (is_between q count) (or_no_pages o)) w.places) one.found))
           ∙ sym (ap (changed w (step.Unmap n q count)) is),
     )
 by_unmap w n q count (Ok _) pages pages_after spaces_after places_after one unmaps = absurd unmaps

@@ -87,7 +87,7 @@ between-more q j (m ∷ ms) rising = by_tests (in_range q j m.0) (m.0 == q + j) 
         ∙ sym (ap (λ ps. ps ++ page_seen m ∷ []) (between-above q j m.0 ms rising.0 (omega (arith, here)))))
     by_tests false false is at rest = rw (one_of q j m.0 false false is at, is, at) rest
 
-placed-more : (x : PlaceWire) (es : List PageWire) (entry : PageWire) (places : List PlaceWire) → placed x (es ++ entry ∷ []) places ≡ set (placed x es places) entry.frame x
+pub placed-more : (x : PlaceWire) (es : List PageWire) (entry : PageWire) (places : List PlaceWire) → placed x (es ++ entry ∷ []) places ≡ set (placed x es places) entry.frame x
 placed-more x [] entry places = refl
 placed-more x (e ∷ es) entry places = placed-more x es entry (set places e.frame x)
 

@@ -1,6 +1,6 @@
 -- Pages that are taken out in a row, one after another.
 use Rattle.std.proofs.Common.{◌≡◌, ◌≢◌, ℕ, ◌+◌, ◌<◌, ◌≤◌, ◌^◌, Bool, true, false, List, Some, None, [], ◌∷◌, ◌++◌, length, set, slice_get, refl, sym, ap, ◌∙◌, arith}
-use Rattle.std.specs.Prelude.{not, ◌&&◌, nat_lt, nat_le, Ok, Err, is_some, option_map}
+use Rattle.std.specs.Prelude.{not, ◌&&◌, nat_lt, nat_le, Ok, Err, filter, is_some, Option, option_map}
 use Rattle.std.proofs.lemmas.Bool.Decides.{nat_tests}
 use Rattle.std.proofs.lemmas.List.{length-append}
 use Rattle.sva_step.specs.declared.answers.Answer.TheVariants as answer
@@ -10,12 +10,13 @@ use Rattle.sva_frames.specs.Frames.{Holding, Free, Mapped}
 use Rattle.sva_model.specs.Words.{all_below}
 use Rattle.sva_model.specs.Wire.{PageWire, PlaceWire}
 use Rattle.sva_model.specs.Wire.PlaceWire.{FreeWire}
-use Rattle.sva_wire.specs.Host.{unless_refused, unmap_reply, is_mapped, page_at, frame_or_0, frames_of, freed, without}
+use Rattle.sva_wire.specs.Host.{unless_refused, unmap_reply, is_mapped, page_at, frame_or_0, frames_of, is_between, without, placed}
 use Rattle.sva_core.specs.Seen.{page_seen, pages_seen, places_seen}
 use Rattle.sva_core.specs.Owned.{Owns, Balanced}
 use Rattle.sva_core.specs.Pieces.{are_mapped}
 use Rattle.sva_core.proofs.PageLists.{page_at-seen, is_mapped-seen, without-none, without-more, page_at-without, pages_seen-remove, frames_of-none, frames_of-more, are_mapped-at}
-use Rattle.sva_core.proofs.FrameLists.{places_seen-set, freed-more}
+use Rattle.sva_core.proofs.FrameLists.{places_seen-set}
+use Rattle.sva_core.proofs.Ranges.{listed, between-none, between-more, placed-more}
 use Rattle.sva_core.proofs.Counting.{balanced-none, balanced-on, balanced-is, balanced-unmap, owns-on, owned-mapped}
 
 -- of the pages from one on, so many are out of the space, and their frames are free
@@ -23,7 +24,7 @@ pub record Out (old : List (ℕ × (ℕ × Bool))) (frames_old : List Holding) (
   pub taken_is : taken ≡ frames_of (pages_seen old) page number
   pub count : length taken ≡ number
   pub pages : pages_seen ms ≡ without page number (pages_seen old)
-  pub places : places_seen frames ≡ freed (places_seen frames_old) taken
+  pub places : places_seen frames ≡ placed FreeWire (filter (is_between page number) (pages_seen old)) (places_seen frames_old)
   pub rising : IsRising ms
   pub balanced : Balanced old frames_old ms frames
 
@@ -32,7 +33,7 @@ none_out ms frames q taken none rising = record {
   taken_is = none ∙ sym (frames_of-none (pages_seen ms) q);
   count = ap length none;
   pages = sym (without-none q (pages_seen ms));
-  places = sym (ap (freed (places_seen frames)) none);
+  places = sym (ap (λ (es : List PageWire). placed FreeWire es (places_seen frames)) (between-none q (pages_seen ms)));
   rising = rising;
   balanced = balanced-none ms frames;
 }
@@ -47,12 +48,15 @@ never_missing old ms q j n is all within none =
     let missing : is_mapped (pages_seen ms) (q + j) ≡ false = is_mapped-seen ms (q + j) ∙ ap is_some none in
     cc (sym there ∙ missing)
 
+taken-page : (old ms : List (ℕ × (ℕ × Bool))) (q j f : ℕ) (x : Bool) → pages_seen ms ≡ without q j (pages_seen old) → mapping_at ms (q + j) ≡ Some (f, x) → page_at (pages_seen old) (q + j) ≡ Some (page_seen (q + j, (f, x)))
+taken-page old ms q j f x is there = sym (next_page old ms q j is) ∙ page_at-seen ms (q + j) ∙ ap (option_map (λ (m : ℕ × Bool). page_seen (q + j, m))) there
+
 taken-frame : (old ms : List (ℕ × (ℕ × Bool))) (q j f : ℕ) (x : Bool) → pages_seen ms ≡ without q j (pages_seen old) → mapping_at ms (q + j) ≡ Some (f, x) → frame_or_0 (page_at (pages_seen old) (q + j)) ≡ f
 taken-frame old ms q j f x is there =
-    ap frame_or_0 (sym (next_page old ms q j is) ∙ page_at-seen ms (q + j) ∙ ap (option_map (λ (m : ℕ × Bool). page_seen (q + j, m))) there)
+    ap frame_or_0 (taken-page old ms q j f x is there)
 
-pub one_more_out : (old ms ms_after : List (ℕ × (ℕ × Bool))) (frames_old frames frames_after : List Holding) (q j f number : ℕ) (x : Bool) (taken taken_after : List ℕ) → Owns old frames_old → Out old frames_old q j ms frames taken → mapping_at ms (q + j) ≡ Some (f, x) → number ≡ f → taken_after ≡ taken ++ number ∷ [] → ms_after ≡ without_page ms (q + j) → IsRising ms_after → frames_after ≡ set frames f Free → Out old frames_old q (j + 1) ms_after frames_after taken_after
-one_more_out old ms ms_after frames_old frames frames_after q j f number x taken taken_after owned out there is_number pushed removed rising gave = record {
+pub one_more_out : (old ms ms_after : List (ℕ × (ℕ × Bool))) (frames_old frames frames_after : List Holding) (q j f number : ℕ) (x : Bool) (taken taken_after : List ℕ) → IsRising old → Owns old frames_old → Out old frames_old q j ms frames taken → mapping_at ms (q + j) ≡ Some (f, x) → number ≡ f → taken_after ≡ taken ++ number ∷ [] → ms_after ≡ without_page ms (q + j) → IsRising ms_after → frames_after ≡ set frames f Free → Out old frames_old q (j + 1) ms_after frames_after taken_after
+one_more_out old ms ms_after frames_old frames frames_after q j f number x taken taken_after old_rising owned out there is_number pushed removed rising gave = record {
   taken_is =
       pushed ∙ ap (λ (fs : List ℕ). fs ++ number ∷ []) out.taken_is
       ∙ ap (λ (g : ℕ). frames_of (pages_seen old) q j ++ g ∷ []) (is_number ∙ sym (taken-frame old ms q j f x out.pages there))
@@ -63,8 +67,8 @@ one_more_out old ms ms_after frames_old frames frames_after q j f number x taken
       ∙ sym (without-more q j (pages_seen old));
   places =
       ap places_seen gave ∙ places_seen-set frames f Free ∙ ap (λ (ps : List PlaceWire). set ps f FreeWire) out.places
-      ∙ sym (freed-more (places_seen frames_old) taken f)
-      ∙ sym (ap (freed (places_seen frames_old)) (pushed ∙ ap (λ (g : ℕ). taken ++ g ∷ []) is_number));
+      ∙ sym (placed-more FreeWire (filter (is_between q j) (pages_seen old)) (page_seen (q + j, (f, x))) (places_seen frames_old))
+      ∙ sym (ap (λ (es : List PageWire). placed FreeWire es (places_seen frames_old)) (between-more q j old old_rising ∙ ap (λ (o : Option PageWire). filter (is_between q j) (pages_seen old) ++ listed o) (taken-page old ms q j f x out.pages there)));
   rising = rising;
   balanced =
       balanced-on old ms ms_after frames_old frames frames_after out.balanced

@@ -8,7 +8,7 @@ use Rattle.sva_model.specs.Words.{all_below, count_below}
 use Rattle.sva_model.specs.Steps.{Reply}
 use Rattle.sva_model.specs.Wire.{Wire, PageWire, PlaceWire, insert_by, is_lower_page}
 use Rattle.sva_model.specs.Wire.PlaceWire.{FreeWire, MappedWire, WithheldWire}
-use Rattle.sva_wire.specs.Host.{reply_of, next_of, map_reply, unmap_reply, unmap_range_reply, is_mapped, is_between, without, freed, placed, is_free}
+use Rattle.sva_wire.specs.Host.{reply_of, next_of, map_reply, unmap_reply, unmap_range_reply, is_mapped, is_between, without, placed, is_free}
 
 -- the step by numbers; want of memory changes nothing, and comes only where the step would have been accepted
 abbrev pub ByNumbers : Wire → Step → Reply → Wire → Type 0
@@ -38,7 +38,9 @@ MapsPage pages places q x result pages_after places_after =
 -- the pages and the places after pages were unmapped, by the answer
 abbrev pub UnmapsPages : List PageWire → List PlaceWire → (page count : ℕ) → Reply → List PageWire → List PlaceWire → Type 0
 UnmapsPages pages places q count (Ok (answer.FreeFrames frames)) pages_after places_after =
-    (unmap_reply q count pages ≡ Ok (answer.FreeFrames frames)) × (pages_after ≡ without q count pages) × (places_after ≡ freed places frames)
+    (unmap_reply q count pages ≡ Ok (answer.FreeFrames frames))
+    × (pages_after ≡ without q count pages)
+    × (places_after ≡ placed FreeWire (filter (is_between q count) pages) places)
 UnmapsPages pages places q count (Ok _) pages_after places_after = ⊥
 UnmapsPages pages places q count (Err refusal.OutOfMemory) pages_after places_after = ⊥
 UnmapsPages pages places q count result pages_after places_after =

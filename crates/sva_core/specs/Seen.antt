@@ -14,10 +14,6 @@ page_seen mapping = record { page = mapping.0; frame = mapping.1.0; write = mapp
 abbrev pub pages_seen : List (ℕ × (ℕ × Bool)) → List PageWire
 pages_seen mappings = map page_seen mappings
 
--- the frames of a space, in page order
-abbrev pub frames_in : List (ℕ × (ℕ × Bool)) → List ℕ
-frames_in mappings = map (λ mapping. mapping.1.0) mappings
-
 abbrev pub target_seen : Target → TargetWire
 target_seen (CookieTarget cookie) = Cookie cookie
 target_seen ResetTarget = ResetEnd

@@ -3,9 +3,9 @@
 ghost use Rattle.std.specs.Prelude.{◌≡◌, ◌≢◌, ◌<◌, ◌≤◌, ◌+◌, ◌^◌, true, Err, filter};
 ghost use Rattle.sva_step.specs.declared.refusals.Refusal.TheVariants as refusal;
 ghost use Rattle.sva_space.specs.Pages.{IsRising};
-ghost use Rattle.sva_wire.specs.Host.{frames_of, freed, is_between, placed, without};
+ghost use Rattle.sva_wire.specs.Host.{frames_of, is_between, placed, without};
 ghost use Rattle.sva_model.specs.Wire.PlaceWire.{FreeWire};
-ghost use Rattle.sva_core.specs.Seen.{frames_in, pages_seen, places_seen};
+ghost use Rattle.sva_core.specs.Seen.{pages_seen, places_seen};
 ghost use Rattle.sva_core.specs.Owned.{Owns, Balanced, Spent};
 ghost use Rattle.sva_core.specs.Pieces.{are_mapped, count_mapped, MapsPage, UnmapsPages, UnmapsRange};
 
@@ -96,7 +96,7 @@ fn take_out(space: &mut Space, pool: &mut FramePool, page: u64, count: u64) -> F
     requires owned { Owns space.old pool.old }
     ensures frames { result ≡ frames_of (pages_seen space.old) page count }
     ensures pages { pages_seen space.new ≡ without page count (pages_seen space.old) }
-    ensures places { places_seen pool.new ≡ freed (places_seen pool.old) result }
+    ensures places { places_seen pool.new ≡ placed FreeWire (filter (is_between page count) (pages_seen space.old)) (places_seen pool.old) }
     ensures balanced { Balanced space.old pool.old space.new pool.new }
 {
     let mut frames = FrameList::new();
@@ -167,7 +167,7 @@ fn take_mapped(space: &mut Space, pool: &mut FramePool, page: u64, count: u64) -
 /// Ends a space: its frames are given back, and are free.
 pub fn give_all(mut space: Space, pool: &mut FramePool)
     requires { Owns space pool.old }
-    ensures places { places_seen pool.new ≡ freed (places_seen pool.old) (frames_in space) }
+    ensures places { places_seen pool.new ≡ placed FreeWire (pages_seen space) (places_seen pool.old) }
     ensures spent { Spent space pool.old pool.new }
 {
     while let Some((_page, frame, _write)) = space.pop_first() {

@@ -79,7 +79,9 @@ label_checked : (cs : List Cause) (r : Result) → labels.checked cs r ≡ by_la
 label_checked [] r = refl
 label_checked (c ∷ cs) r = go c.0 (label_checked cs r)
   where
-    go : (b : Bool) → labels.checked cs r ≡ by_label (refused_by cs) r → (if b then record { reply = Err c.1; moves = [] } else labels.checked cs r) ≡ by_label (if b then Some c.1 else refused_by cs) r
+    go :
+        (b : Bool) → labels.checked cs r ≡ by_label (refused_by cs) r
+        → (if b then record { reply = Err c.1; moves = [] } else labels.checked cs r) ≡ by_label (if b then Some c.1 else refused_by cs) r
     go true rest = refl
     go false rest = rest
 
@@ -87,7 +89,9 @@ name_checked : (cs : List Cause) (o : Outcome) → names.checked cs o ≡ by_nam
 name_checked [] o = refl
 name_checked (c ∷ cs) o = go c.0 (name_checked cs o)
   where
-    go : (b : Bool) → names.checked cs o ≡ by_name (refused_by cs) o → (if b then record { reply = Err c.1; acts = [] } else names.checked cs o) ≡ by_name (if b then Some c.1 else refused_by cs) o
+    go :
+        (b : Bool) → names.checked cs o ≡ by_name (refused_by cs) o
+        → (if b then record { reply = Err c.1; acts = [] } else names.checked cs o) ≡ by_name (if b then Some c.1 else refused_by cs) o
     go true rest = refl
     go false rest = rest
 
@@ -100,7 +104,9 @@ abbrev pub decision_by : World → names.Decision → labels.Decision
 decision_by w d = record { reply = d.reply; moves = act_moves w d.acts }
 
 -- causes that refuse alike, and one result where none holds: one decision
-pub one_decision : (w : World) (cs ds : List Cause) (r : Result) (o : Outcome) → IsAlike cs ds → (Passed ds → r ≡ result_by w o) → labels.checked cs r ≡ decision_by w (names.checked ds o)
+pub one_decision :
+    (w : World) (cs ds : List Cause) (r : Result) (o : Outcome) → IsAlike cs ds → (Passed ds → r ≡ result_by w o)
+    → labels.checked cs r ≡ decision_by w (names.checked ds o)
 one_decision w cs ds r o a h =
     label_checked cs r ∙ ap (λ x. by_label x r) a ∙ go (refused_by ds) (λ e. h (none_refuses ds e)) ∙ ap (decision_by w) (sym (name_checked ds o))
   where

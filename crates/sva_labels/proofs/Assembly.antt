@@ -67,7 +67,9 @@ AreReady w (a ∷ acts) = IsReady w a × AreReady (act w a) acts
 past_kept : (p : Part) (n : ℕ) (o : Own) (g : ℕ) → FilesOpen p o → is_past (p.host_group g) ≡ true → is_past ((own p n o).host_group g) ≡ true
 past_kept p n o g f h = grind (arith, nat_tests)
 
-submitted_past : (t : Bool) (p : Part) (o : Option ℕ) (q count order cookie g : ℕ) → is_past (p.host_group g) ≡ true → is_past ((submitted_if t p o q count order cookie).host_group g) ≡ true
+submitted_past :
+    (t : Bool) (p : Part) (o : Option ℕ) (q count order cookie g : ℕ) → is_past (p.host_group g) ≡ true
+    → is_past ((submitted_if t p o q count order cookie).host_group g) ≡ true
 submitted_past true p (Some b) q count order cookie g h = h
 submitted_past true p None q count order cookie g h = h
 submitted_past false p o q count order cookie g h = h
@@ -78,21 +80,25 @@ act_past w (DropSpace s) r h = h
 act_past w (Map s q f x) r h = h
 act_past w (Unmap s q count order) r h =
     λ j l.
-    submitted_past (submits w s (w.job j).endpoint) (w.part (w.job j).endpoint) (bound w (w.job j).endpoint s) q count order (cookie_of w s (w.job j).endpoint) (w.job j).group (h j l)
+    submitted_past (submits w s (w.job j).endpoint) (w.part (w.job j).endpoint) (bound w (w.job j).endpoint s) q count order
+    (cookie_of w s (w.job j).endpoint) (w.job j).group (h j l)
 act_past w (NewBinding e) r h = h
 act_past w (NewJob e g) r h = λ j l. go j l (ℕ_cases j w.jobs)
   where
     new : JobName
     new = record { endpoint = e; group = g }
 
-    go : (j : ℕ) → j < suc w.jobs → (j ≡ w.jobs) ⊎ (j ≢ w.jobs) → is_past ((w.part (put w.job w.jobs new j).endpoint).host_group (put w.job w.jobs new j).group) ≡ true
+    go :
+        (j : ℕ) → j < suc w.jobs → (j ≡ w.jobs) ⊎ (j ≢ w.jobs)
+        → is_past ((w.part (put w.job w.jobs new j).endpoint).host_group (put w.job w.jobs new j).group) ≡ true
     go j l (inl k) = ap (λ x. is_past ((w.part x.endpoint).host_group x.group)) (ap (put w.job w.jobs new) k ∙ put-same w.job w.jobs new) ∙ ap is_past r
     go j l (inr ne) = ap (λ x. is_past ((w.part x.endpoint).host_group x.group)) (put-other w.job w.jobs new j ne) ∙ h j (omega arith)
 act_past w (Hold x j) r h = h
 act_past w (LetGo x) r h = h
 act_past w (At e o) r h =
     λ j l.
-    put_keeps (λ x p. is_past ((w.part x).host_group (w.job j).group) ≡ true → is_past (p.host_group (w.job j).group) ≡ true) w.part e (own (w.part e) w.messages o)
+    put_keeps (λ x p. is_past ((w.part x).host_group (w.job j).group) ≡ true → is_past (p.host_group (w.job j).group) ≡ true) w.part e
+    (own (w.part e) w.messages o)
     (past_kept (w.part e) w.messages o (w.job j).group (files_open w e o r.0))
     (λ x k. k)
     (w.job j).endpoint (h j l)
@@ -134,7 +140,9 @@ part_moves w e o s l r =
     let p = w.part e in
     let i = s.invariant.parts e in
     let device = device_square w.config.first w.mappings w.config.endpoints w.bindings w.messages e p o l.1.0 i in
-    let unit = unit_acts w.mappings w.config.endpoints w.bindings w.messages e w.config.first w.cookies p o l.1.0 (has_cookie w e o l.1.1) r.1 i (s.owed e) (s.carried e) in
+    let unit =
+    unit_acts w.mappings w.config.endpoints w.bindings w.messages e w.config.first w.cookies p o l.1.0 (has_cookie w e o l.1.1) r.1 i (s.owed e)
+    (s.carried e) in
     let queue = page_queue_acts w.mappings w.config.endpoints w.bindings w.messages e w.config.first p o l.1.0 i in
     let groups = host_groups_in_turn w.mappings w.config.endpoints w.bindings w.messages e w.config.first p o l.1.0 i (files_open w e o r.0) (s.filings e) in
     λ k. record { device = device k; unit = unit k; page_queue = queue k; host_groups = groups k }
@@ -156,7 +164,9 @@ act_square w (LetGo x) s l r = job_let_go w x
 act_square w (At e o) s l r = square w e o s.invariant (has_tables w s) l r.0 (part_moves w e o s l r) (places_moved w e o l s.invariant s.fronts s.debts s.few)
 
 -- One after another.
-pub acts_square : (acts : List Act) (w : World) → Stands w → LegalAll w acts → AreReady w acts → wire (after_acts w acts) ≡ all_moved (wire w) (act_moves w acts)
+pub acts_square :
+    (acts : List Act) (w : World) → Stands w → LegalAll w acts → AreReady w acts
+    → wire (after_acts w acts) ≡ all_moved (wire w) (act_moves w acts)
 acts_square [] w s l r = refl
 acts_square (a ∷ acts) w s l r =
     acts_square acts (act w a) (act_stands w a l.0 r.0 s) l.1 r.1 ∙ ap (λ x. all_moved x (act_moves (act w a) acts)) (act_square w a s l.0 r.0)

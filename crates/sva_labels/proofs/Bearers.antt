@@ -10,7 +10,9 @@ use Rattle.sva_laws.proofs.Passed.{unreleased_made, unreleased_bound}
 use Rattle.sva_labels.specs.Finding.{bearer}
 use Rattle.sva_labels.proofs.Lookups.{find_one}
 
-pub bearer_seen : (w : World) (e b : ℕ) → Invariant w → is_unreleased ((w.part e).stage b) ≡ true → bearer (wire w) e ((w.part e).pasid b) ≡ Some (binding_wire w.config.first e (w.part e) b)
+pub bearer_seen :
+    (w : World) (e b : ℕ) → Invariant w → is_unreleased ((w.part e).stage b) ≡ true
+    → bearer (wire w) e ((w.part e).pasid b) ≡ Some (binding_wire w.config.first e (w.part e) b)
 bearer_seen w e b i u =
     find_one w.bindings (λ d. is_unreleased ((w.part (w.home d)).stage d)) (λ d. binding_wire w.config.first (w.home d) (w.part (w.home d)) d)
     (λ (x : BindingWire). x.endpoint == e && x.pasid == (w.part e).pasid b) b

@@ -17,10 +17,15 @@ use Rattle.sva_labels.proofs.SpaceLists.{same_number}
 abbrev pub binding_seen : World → (binding : ℕ) → BindingWire
 binding_seen w b = binding_wire w.config.first (w.home b) (w.part (w.home b)) b
 
-pub bound_is : (w : World) (e s : ℕ) → Invariant w → bound_at (wire w) e (number w.config.first s) ≡ option_map (binding_wire w.config.first e (w.part e)) (bound w e s)
+pub bound_is :
+    (w : World) (e s : ℕ) → Invariant w
+    → bound_at (wire w) e (number w.config.first s) ≡ option_map (binding_wire w.config.first e (w.part e)) (bound w e s)
 bound_is w e s i =
     find_seen (binding_seen w) (λ b. b.endpoint == e && b.space == w.config.first + s) w.bindings (λ b. is_unreleased ((w.part (w.home b)).stage b))
-    ∙ ap (option_map (binding_seen w)) (find_same w.bindings (λ b. is_unreleased ((w.part (w.home b)).stage b) && (w.home b == e && w.config.first + (w.part (w.home b)).space b == w.config.first + s)) (λ b. is_unreleased ((w.part e).stage b) && (w.part e).space b == s) (λ b l. same b (ℕ_cases (w.home b) e)))
+    ∙ ap (option_map (binding_seen w))
+    (find_same w.bindings
+    (λ b. is_unreleased ((w.part (w.home b)).stage b) && (w.home b == e && w.config.first + (w.part (w.home b)).space b == w.config.first + s))
+    (λ b. is_unreleased ((w.part e).stage b) && (w.part e).space b == s) (λ b l. same b (ℕ_cases (w.home b) e)))
     ∙ go (bound w e s) refl
   where
     at : (b d : ℕ) → Bool
@@ -40,7 +45,8 @@ bound_is w e s i =
         ∙ ap (λ z. is_unreleased ((w.part e).stage b) && (z && w.config.first + (w.part e).space b == w.config.first + s)) (is_same e e refl)
         ∙ ap (λ z. is_unreleased ((w.part e).stage b) && z) (same_number w.config.first ((w.part e).space b) s)
     same b (inr ne) =
-        ap (λ z. is_unreleased ((w.part (w.home b)).stage b) && (z && w.config.first + (w.part (w.home b)).space b == w.config.first + s)) (is_other (w.home b) e ne)
+        ap (λ z. is_unreleased ((w.part (w.home b)).stage b) && (z && w.config.first + (w.part (w.home b)).space b == w.config.first + s))
+        (is_other (w.home b) e ne)
         ∙ nothing (is_unreleased ((w.part (w.home b)).stage b)) (w.config.first + (w.part (w.home b)).space b == w.config.first + s)
         ∙ no_other b ne (is_unreleased ((w.part e).stage b)) refl
 

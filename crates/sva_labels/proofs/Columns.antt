@@ -102,7 +102,9 @@ bindings_same w e o i h =
         })
 
 -- What is said of a binding at its endpoint, by whether that is the endpoint of the act.
-at_home : (w : World) (e : ℕ) (o : Own) (P : ℕ → Part → Type 0) (x : ℕ) → (x ≡ e → P e (part_after w e o)) → (x ≢ e → P x (w.part x)) → P x ((act w (At e o)).part x)
+at_home :
+    (w : World) (e : ℕ) (o : Own) (P : ℕ → Part → Type 0) (x : ℕ) → (x ≡ e → P e (part_after w e o)) → (x ≢ e → P x (w.part x))
+    → P x ((act w (At e o)).part x)
 at_home w e o P x here there = go (ℕ_cases x e)
   where
     go : (x ≡ e) ⊎ (x ≢ e) → P x (put w.part e (part_after w e o) x)
@@ -126,11 +128,14 @@ other_number first d b ne = grind (arith, nat_tests)
 own_number : (first d b : ℕ) → d ≡ b → (first + d == first + b) ≡ true
 own_number first d b h = grind (arith, nat_tests)
 
-pub bindings_staged : (w : World) (e : ℕ) (o : Own) (b : ℕ) (st : StageWire) → Invariant w → ComesToStage w.config.first (w.part e) (part_after w e o) b st → (wire (act w (At e o))).bindings ≡ with_stage (number w.config.first b) st (wire w).bindings
+pub bindings_staged :
+    (w : World) (e : ℕ) (o : Own) (b : ℕ) (st : StageWire) → Invariant w → ComesToStage w.config.first (w.part e) (part_after w e o) b st
+    → (wire (act w (At e o))).bindings ≡ with_stage (number w.config.first b) st (wire w).bindings
 bindings_staged w e o b st i k =
     select_seen w.bindings _ _ _ _
     (λ d l. at_home w e o (λ x q. is_unreleased (q.stage d) ≡ is_unreleased ((w.part x).stage d)) (w.home d) (λ h. passes d (ℕ_cases d b)) (λ ne. refl))
-    (λ d l t. at_home w e o (λ x q. binding_wire w.config.first x q d ≡ with_st (binding_wire w.config.first x (w.part x) d)) (w.home d) (λ h. seen d (ℕ_cases d b)) (λ ne. away (w.home d) d (λ x. ne (ap w.home x ∙ home))))
+    (λ d l t. at_home w e o (λ x q. binding_wire w.config.first x q d ≡ with_st (binding_wire w.config.first x (w.part x) d)) (w.home d)
+    (λ h. seen d (ℕ_cases d b)) (λ ne. away (w.home d) d (λ x. ne (ap w.home x ∙ home))))
     ∙ sym (map_twice with_st _ (select w.bindings _))
   where
     home : w.home b ≡ e
@@ -140,7 +145,9 @@ bindings_staged w e o b st i k =
     with_st x = if x.binding == number w.config.first b then record x { stage = st } else x
 
     away : (x d : ℕ) → d ≢ b → binding_wire w.config.first x (w.part x) d ≡ with_st (binding_wire w.config.first x (w.part x) d)
-    away x d ne = sym (ap (λ t. if t then record (binding_wire w.config.first x (w.part x) d) { stage = st } else binding_wire w.config.first x (w.part x) d) (other_number w.config.first d b ne))
+    away x d ne =
+        sym (ap (λ t. if t then record (binding_wire w.config.first x (w.part x) d) { stage = st } else binding_wire w.config.first x (w.part x) d)
+        (other_number w.config.first d b ne))
 
     passes : (d : ℕ) → (d ≡ b) ⊎ (d ≢ b) → is_unreleased ((part_after w e o).stage d) ≡ is_unreleased ((w.part e).stage d)
     passes d (inl x) = ap (λ z. is_unreleased ((part_after w e o).stage z)) x ∙ k.now ∙ sym k.was ∙ ap (λ z. is_unreleased ((w.part e).stage z)) (sym x)
@@ -154,16 +161,28 @@ bindings_staged w e o b st i k =
         ap (binding_wire w.config.first e (part_after w e o)) x
         ∙ at_b
         ∙ ap (λ z. record (binding_wire w.config.first e (w.part e) z) { stage = st }) (sym x)
-        ∙ sym (ap (λ t. if t then record (binding_wire w.config.first e (w.part e) d) { stage = st } else binding_wire w.config.first e (w.part e) d) (own_number w.config.first d b x))
+        ∙ sym (ap (λ t. if t then record (binding_wire w.config.first e (w.part e) d) { stage = st } else binding_wire w.config.first e (w.part e) d)
+        (own_number w.config.first d b x))
     seen d (inr ne) = binding_kept w.config.first e (w.part e) (part_after w e o) d (k.others d ne) ∙ away e d ne
 
 -- A binding that is new stands last. Its name was the last that was given.
-pub bindings_bound : (w : World) (e b s t : ℕ) → Invariant w → LegalOwn w.mappings w.bindings (w.part e) (Own.Bind b s t) → suc b ≡ w.bindings → w.home b ≡ e → (wire (act w (At e (Own.Bind b s t)))).bindings ≡ (wire w).bindings ++ record { endpoint = e; space = number w.config.first s; binding = number w.config.first b; pasid = t; stage = LiveWire } ∷ []
+pub bindings_bound :
+    (w : World) (e b s t : ℕ) → Invariant w → LegalOwn w.mappings w.bindings (w.part e) (Own.Bind b s t) → suc b ≡ w.bindings → w.home b ≡ e
+    → (wire (act w (At e (Own.Bind b s t)))).bindings
+    ≡ (wire w).bindings ++ record { endpoint = e; space = number w.config.first s; binding = number w.config.first b; pasid = t; stage = LiveWire } ∷ []
 bindings_bound w e b s t i legal last home =
-    ap (λ n. map (λ d. binding_wire w.config.first (w.home d) ((act w (At e o)).part (w.home d)) d) (select n (λ d. is_unreleased (((act w (At e o)).part (w.home d)).stage d)))) (sym last)
-    ∙ select_one b (λ d. is_unreleased (((act w (At e o)).part (w.home d)).stage d)) (λ d. binding_wire w.config.first (w.home d) ((act w (At e o)).part (w.home d)) d) (at_part (λ x q. is_unreleased (q.stage b) ≡ true) (ap is_unreleased (put-same (w.part e).stage b Live)))
-    ∙ ap (λ x. map (λ d. binding_wire w.config.first (w.home d) ((act w (At e o)).part (w.home d)) d) (select b (λ d. is_unreleased (((act w (At e o)).part (w.home d)).stage d))) ++ x ∷ []) (at_part (λ x q. binding_wire w.config.first x q b ≡ record { endpoint = e; space = number w.config.first s; binding = number w.config.first b; pasid = t; stage = LiveWire }) new)
-    ∙ ap (λ xs. xs ++ record { endpoint = e; space = number w.config.first s; binding = number w.config.first b; pasid = t; stage = LiveWire } ∷ []) (older ∙ sym before)
+    ap (λ n. map (λ d. binding_wire w.config.first (w.home d) ((act w (At e o)).part (w.home d)) d)
+    (select n (λ d. is_unreleased (((act w (At e o)).part (w.home d)).stage d)))) (sym last)
+    ∙ select_one b (λ d. is_unreleased (((act w (At e o)).part (w.home d)).stage d))
+    (λ d. binding_wire w.config.first (w.home d) ((act w (At e o)).part (w.home d)) d)
+    (at_part (λ x q. is_unreleased (q.stage b) ≡ true) (ap is_unreleased (put-same (w.part e).stage b Live)))
+    ∙ ap (λ x. map (λ d. binding_wire w.config.first (w.home d) ((act w (At e o)).part (w.home d)) d)
+    (select b (λ d. is_unreleased (((act w (At e o)).part (w.home d)).stage d))) ++ x ∷ [])
+    (at_part
+    (λ x q. binding_wire w.config.first x q b
+    ≡ record { endpoint = e; space = number w.config.first s; binding = number w.config.first b; pasid = t; stage = LiveWire }) new)
+    ∙ ap (λ xs. xs ++ record { endpoint = e; space = number w.config.first s; binding = number w.config.first b; pasid = t; stage = LiveWire } ∷ [])
+    (older ∙ sym before)
   where
     o : Own
     o = Own.Bind b s t
@@ -198,22 +217,30 @@ bindings_bound w e b s t i legal last home =
     older =
         select_seen b _ _ _ _
         (λ d l. same_view (λ p. is_unreleased (p.stage d)) w.part e (part_after w e o) (ap is_unreleased (kept d (apart d l)).stage) (w.home d))
-        (λ d l k. same_view (λ p. binding_wire w.config.first (w.home d) p d) w.part e (part_after w e o) (binding_kept w.config.first (w.home d) (w.part e) (part_after w e o) d (kept d (apart d l))) (w.home d))
+        (λ d l k. same_view (λ p. binding_wire w.config.first (w.home d) p d) w.part e (part_after w e o)
+        (binding_kept w.config.first (w.home d) (w.part e) (part_after w e o) d (kept d (apart d l))) (w.home d))
 
     unbound : is_unreleased ((w.part (w.home b)).stage b) ≡ false
     unbound = ap (λ x. is_unreleased ((w.part x).stage b)) home ∙ ap is_unreleased legal.2
 
     before : (wire w).bindings ≡ map (λ d. binding_wire w.config.first (w.home d) (w.part (w.home d)) d) (select b (λ d. is_unreleased ((w.part (w.home d)).stage d)))
     before =
-        ap (λ n. map (λ d. binding_wire w.config.first (w.home d) (w.part (w.home d)) d) (select n (λ d. is_unreleased ((w.part (w.home d)).stage d)))) (sym last)
+        ap (λ n. map (λ d. binding_wire w.config.first (w.home d) (w.part (w.home d)) d)
+        (select n (λ d. is_unreleased ((w.part (w.home d)).stage d)))) (sym last)
         ∙ select_less b (λ d. is_unreleased ((w.part (w.home d)).stage d)) (λ d. binding_wire w.config.first (w.home d) (w.part (w.home d)) d) unbound
 
 -- One is released.
-pub bindings_released : (w : World) (e b : ℕ) → Invariant w → LegalOwn w.mappings w.bindings (w.part e) (Own.Release b) → (wire (act w (At e (Own.Release b)))).bindings ≡ without_binding (number w.config.first b) (wire w).bindings
+pub bindings_released :
+    (w : World) (e b : ℕ) → Invariant w → LegalOwn w.mappings w.bindings (w.part e) (Own.Release b)
+    → (wire (act w (At e (Own.Release b)))).bindings ≡ without_binding (number w.config.first b) (wire w).bindings
 bindings_released w e b i legal =
     select_seen w.bindings _ _ _ _
-    (λ d l. at_home w e o (λ x q. is_unreleased (q.stage d) ≡ (is_unreleased ((w.part x).stage d) && not (number w.config.first d == number w.config.first b))) (w.home d) (λ h. here d (ℕ_cases d b)) (λ ne. left (is_unreleased ((w.part (w.home d)).stage d)) d (λ x. ne (ap w.home x ∙ home))))
-    (λ d l t. at_home w e o (λ x q. binding_wire w.config.first x q d ≡ binding_wire w.config.first x (w.part x) d) (w.home d) (λ h. seen d (ℕ_cases d b) (sym (ap (λ x. is_unreleased ((w.part x).stage d) && not (number w.config.first d == number w.config.first b)) h) ∙ t)) (λ ne. refl))
+    (λ d l. at_home w e o
+    (λ x q. is_unreleased (q.stage d) ≡ (is_unreleased ((w.part x).stage d) && not (number w.config.first d == number w.config.first b))) (w.home d)
+    (λ h. here d (ℕ_cases d b)) (λ ne. left (is_unreleased ((w.part (w.home d)).stage d)) d (λ x. ne (ap w.home x ∙ home))))
+    (λ d l t. at_home w e o (λ x q. binding_wire w.config.first x q d ≡ binding_wire w.config.first x (w.part x) d) (w.home d)
+    (λ h. seen d (ℕ_cases d b) (sym (ap (λ x. is_unreleased ((w.part x).stage d) && not (number w.config.first d == number w.config.first b)) h) ∙ t))
+    (λ ne. refl))
     ∙ sym (select_filtered w.bindings _ _ (λ x. not (x.binding == number w.config.first b)))
   where
     o : Own
@@ -233,15 +260,22 @@ bindings_released w e b i legal =
     none true = refl
     none false = refl
 
-    here : (d : ℕ) → (d ≡ b) ⊎ (d ≢ b) → is_unreleased ((part_after w e o).stage d) ≡ (is_unreleased ((w.part e).stage d) && not (number w.config.first d == number w.config.first b))
+    here :
+        (d : ℕ) → (d ≡ b) ⊎ (d ≢ b)
+        → is_unreleased ((part_after w e o).stage d) ≡ (is_unreleased ((w.part e).stage d) && not (number w.config.first d == number w.config.first b))
     here d (inl x) =
         ap (λ z. is_unreleased ((part_after w e o).stage z)) x
         ∙ ap is_unreleased (put-same (w.part e).stage b Released)
         ∙ sym (ap (λ t. is_unreleased ((w.part e).stage d) && not t) (own_number w.config.first d b x) ∙ none (is_unreleased ((w.part e).stage d)))
     here d (inr ne) = ap is_unreleased (put-other (w.part e).stage b Released d ne) ∙ left (is_unreleased ((w.part e).stage d)) d ne
 
-    seen : (d : ℕ) → (d ≡ b) ⊎ (d ≢ b) → (is_unreleased ((w.part e).stage d) && not (number w.config.first d == number w.config.first b)) ≡ true → binding_wire w.config.first e (part_after w e o) d ≡ binding_wire w.config.first e (w.part e) d
-    seen d (inl x) t = absurd (cc (sym (ap (λ z. is_unreleased ((w.part e).stage d) && not z) (own_number w.config.first d b x) ∙ none (is_unreleased ((w.part e).stage d))) ∙ t))
+    seen :
+        (d : ℕ) → (d ≡ b) ⊎ (d ≢ b)
+        → (is_unreleased ((w.part e).stage d) && not (number w.config.first d == number w.config.first b)) ≡ true
+        → binding_wire w.config.first e (part_after w e o) d ≡ binding_wire w.config.first e (w.part e) d
+    seen d (inl x) t =
+        absurd (cc
+        (sym (ap (λ z. is_unreleased ((w.part e).stage d) && not z) (own_number w.config.first d b x) ∙ none (is_unreleased ((w.part e).stage d))) ∙ t))
     seen d (inr ne) t =
         binding_kept w.config.first e (w.part e) (part_after w e o) d
         (record { space = refl; pasid = refl; stage = put-other (w.part e).stage b Released d ne; order = keeps_order (w.part e) w.messages o d (i.parts e).orders })
@@ -264,8 +298,14 @@ cut_unreleased s = grind arith
 pub bindings_cut : (w : World) (e c : ℕ) → (wire (act w (At e (Own.Reopen c)))).bindings ≡ cut_off_at e (wire w).bindings
 bindings_cut w e c =
     select_seen w.bindings _ _ _ _
-    (λ d l. at_home w e o (λ x q. is_unreleased (q.stage d) ≡ is_unreleased ((w.part x).stage d)) (w.home d) (λ h. cut_unreleased ((w.part e).stage d)) (λ ne. refl))
-    (λ d l t. at_home w e o (λ x q. binding_wire w.config.first x q d ≡ cut (binding_wire w.config.first x (w.part x) d)) (w.home d) (λ h. here d) (λ ne. sym (ap (λ z. if z then record (binding_wire w.config.first (w.home d) (w.part (w.home d)) d) { stage = cut_off (stage_wire w.config.first (w.part (w.home d)) ((w.part (w.home d)).stage d)) } else binding_wire w.config.first (w.home d) (w.part (w.home d)) d) (other (w.home d) e ne))))
+    (λ d l. at_home w e o (λ x q. is_unreleased (q.stage d) ≡ is_unreleased ((w.part x).stage d)) (w.home d)
+    (λ h. cut_unreleased ((w.part e).stage d)) (λ ne. refl))
+    (λ d l t. at_home w e o (λ x q. binding_wire w.config.first x q d ≡ cut (binding_wire w.config.first x (w.part x) d)) (w.home d) (λ h. here d)
+    (λ ne. sym
+    (ap (λ z. if z
+    then record (binding_wire w.config.first (w.home d)
+    (w.part (w.home d)) d) { stage = cut_off (stage_wire w.config.first (w.part (w.home d)) ((w.part (w.home d)).stage d)) }
+    else binding_wire w.config.first (w.home d) (w.part (w.home d)) d) (other (w.home d) e ne))))
     ∙ sym (map_twice cut _ (select w.bindings _))
   where
     o : Own
@@ -283,11 +323,17 @@ bindings_cut w e c =
     here : (d : ℕ) → binding_wire w.config.first e (part_after w e o) d ≡ cut (binding_wire w.config.first e (w.part e) d)
     here d =
         (λ j. record (binding_wire w.config.first e (w.part e) d) { stage = cut_seen w.config.first (w.part e) (part_after w e o) ((w.part e).stage d) j })
-        ∙ sym (ap (λ z. if z then record (binding_wire w.config.first e (w.part e) d) { stage = cut_off (stage_wire w.config.first (w.part e) ((w.part e).stage d)) } else binding_wire w.config.first e (w.part e) d) (same e))
+        ∙ sym (ap
+        (λ z. if z
+        then record (binding_wire w.config.first e (w.part e) d) { stage = cut_off (stage_wire w.config.first (w.part e) ((w.part e).stage d)) }
+        else binding_wire w.config.first e (w.part e) d) (same e))
 
 -- The acts that bring a binding to another stage.
 
-put_stage : (p : Part) (n : ℕ) (o : Own) (b : ℕ) (s : Stage) (first : ℕ) (st : StageWire) → Orders p → (own p n o).stage ≡ put p.stage b s → (own p n o).space ≡ p.space → (own p n o).pasid ≡ p.pasid → is_unreleased (p.stage b) ≡ true → is_unreleased s ≡ true → stage_wire first (own p n o) s ≡ st → ComesToStage first p (own p n o) b st
+put_stage :
+    (p : Part) (n : ℕ) (o : Own) (b : ℕ) (s : Stage) (first : ℕ) (st : StageWire) → Orders p → (own p n o).stage ≡ put p.stage b s
+    → (own p n o).space ≡ p.space → (own p n o).pasid ≡ p.pasid → is_unreleased (p.stage b) ≡ true → is_unreleased s ≡ true
+    → stage_wire first (own p n o) s ≡ st → ComesToStage first p (own p n o) b st
 put_stage p n o b s first st od stage space pasid was now seen =
     record {
       was = was;
@@ -295,7 +341,9 @@ put_stage p n o b s first st od stage space pasid was now seen =
       stage = ap (stage_wire first (own p n o)) here ∙ seen;
       space = ap (λ f. f b) space;
       pasid = ap (λ f. f b) pasid;
-      others = λ d ne. record { space = ap (λ f. f d) space; pasid = ap (λ f. f d) pasid; stage = ap (λ f. f d) stage ∙ put-other p.stage b s d ne; order = keeps_order p n o d od };
+      others =
+          λ d ne.
+          record { space = ap (λ f. f d) space; pasid = ap (λ f. f d) pasid; stage = ap (λ f. f d) stage ∙ put-other p.stage b s d ne; order = keeps_order p n o d od };
     }
   where
     here : (own p n o).stage b ≡ s
@@ -304,24 +352,37 @@ put_stage p n o b s first st od stage space pasid was now seen =
 unreleased_is : (p : Part) (b : ℕ) (s : Stage) → p.stage b ≡ s → is_unreleased s ≡ true → is_unreleased (p.stage b) ≡ true
 unreleased_is p b s h k = ap is_unreleased h ∙ k
 
-pub bindings_stopped : (w : World) (e b : ℕ) → Invariant w → LegalOwn w.mappings w.bindings (w.part e) (Own.Stop b) → (wire (act w (At e (Own.Stop b)))).bindings ≡ with_stage (number w.config.first b) (StoppingWire false) (wire w).bindings
+pub bindings_stopped :
+    (w : World) (e b : ℕ) → Invariant w → LegalOwn w.mappings w.bindings (w.part e) (Own.Stop b)
+    → (wire (act w (At e (Own.Stop b)))).bindings ≡ with_stage (number w.config.first b) (StoppingWire false) (wire w).bindings
 bindings_stopped w e b i l =
     bindings_staged w e (Own.Stop b) b (StoppingWire false) i
-    (put_stage (w.part e) w.messages (Own.Stop b) b (Stopping false) w.config.first (StoppingWire false) (i.parts e).orders refl refl refl (unreleased_is (w.part e) b Live l.1 refl) refl refl)
+    (put_stage (w.part e) w.messages (Own.Stop b) b (Stopping false) w.config.first (StoppingWire false) (i.parts e).orders refl refl refl
+    (unreleased_is (w.part e) b Live l.1 refl) refl refl)
 
-pub bindings_drained : (w : World) (e b : ℕ) → Invariant w → LegalOwn w.mappings w.bindings (w.part e) (Own.Drain b w.cookies) → (wire (act w (At e (Own.Drain b w.cookies)))).bindings ≡ with_stage (number w.config.first b) (DrainingWire (wire w).next_cookie) (wire w).bindings
+pub bindings_drained :
+    (w : World) (e b : ℕ) → Invariant w → LegalOwn w.mappings w.bindings (w.part e) (Own.Drain b w.cookies)
+    → (wire (act w (At e (Own.Drain b w.cookies)))).bindings ≡ with_stage (number w.config.first b) (DrainingWire (wire w).next_cookie) (wire w).bindings
 bindings_drained w e b i l =
     bindings_staged w e (Own.Drain b w.cookies) b (DrainingWire (wire w).next_cookie) i
-    (put_stage (w.part e) w.messages (Own.Drain b w.cookies) b (Draining (w.part e).orders) w.config.first (DrainingWire (wire w).next_cookie) (i.parts e).orders refl refl refl (unreleased_is (w.part e) b (Stopping true) l.1 refl) refl
+    (put_stage (w.part e) w.messages (Own.Drain b w.cookies) b (Draining (w.part e).orders) w.config.first (DrainingWire (wire w).next_cookie)
+    (i.parts e).orders refl refl refl (unreleased_is (w.part e) b (Stopping true) l.1 refl) refl
     (ap (λ o. DrainingWire (cookie_number w.config.first o)) (put-same (w.part e).order (w.part e).orders (Wait w.cookies true))))
 
-pub bindings_invalidated : (w : World) (e b : ℕ) → Invariant w → LegalOwn w.mappings w.bindings (w.part e) (Own.Invalidate b w.cookies) → (wire (act w (At e (Own.Invalidate b w.cookies)))).bindings ≡ with_stage (number w.config.first b) (InvalidatingWire (wire w).next_cookie) (wire w).bindings
+pub bindings_invalidated :
+    (w : World) (e b : ℕ) → Invariant w → LegalOwn w.mappings w.bindings (w.part e) (Own.Invalidate b w.cookies)
+    → (wire (act w (At e (Own.Invalidate b w.cookies)))).bindings
+    ≡ with_stage (number w.config.first b) (InvalidatingWire (wire w).next_cookie) (wire w).bindings
 bindings_invalidated w e b i l =
     bindings_staged w e (Own.Invalidate b w.cookies) b (InvalidatingWire (wire w).next_cookie) i
-    (put_stage (w.part e) w.messages (Own.Invalidate b w.cookies) b (Invalidating (w.part e).orders (suc (w.part e).orders)) w.config.first (InvalidatingWire (wire w).next_cookie) (i.parts e).orders refl refl refl (unreleased_is (w.part e) b (Draining l.1.0) l.1.1 refl) refl
-    (ap (λ o. InvalidatingWire (cookie_number w.config.first o)) (put-same (put (w.part e).order (w.part e).orders (PasidOf b)) (suc (w.part e).orders) (Wait w.cookies false))))
+    (put_stage (w.part e) w.messages (Own.Invalidate b w.cookies) b (Invalidating (w.part e).orders (suc (w.part e).orders)) w.config.first
+    (InvalidatingWire (wire w).next_cookie) (i.parts e).orders refl refl refl (unreleased_is (w.part e) b (Draining l.1.0) l.1.1 refl) refl
+    (ap (λ o. InvalidatingWire (cookie_number w.config.first o))
+    (put-same (put (w.part e).order (w.part e).orders (PasidOf b)) (suc (w.part e).orders) (Wait w.cookies false))))
 
-pub bindings_quieted : (w : World) (e b : ℕ) → Invariant w → LegalOwn w.mappings w.bindings (w.part e) (Own.Quieten b) → (wire (act w (At e (Own.Quieten b)))).bindings ≡ with_stage (number w.config.first b) QuietWire (wire w).bindings
+pub bindings_quieted :
+    (w : World) (e b : ℕ) → Invariant w → LegalOwn w.mappings w.bindings (w.part e) (Own.Quieten b)
+    → (wire (act w (At e (Own.Quieten b)))).bindings ≡ with_stage (number w.config.first b) QuietWire (wire w).bindings
 bindings_quieted w e b i l =
     bindings_staged w e (Own.Quieten b) b QuietWire i
     (put_stage (w.part e) w.messages (Own.Quieten b) b Quiet w.config.first QuietWire (i.parts e).orders refl refl refl (was l) refl refl)
@@ -330,8 +391,11 @@ bindings_quieted w e b i l =
     was (inl h) = unreleased_is (w.part e) b Lost h refl
     was (inr h) = unreleased_is (w.part e) b (Invalidating h.0 h.1) h.3 refl
 
-pub bindings_marked : (w : World) (e c b : ℕ) → Invariant w → LegalOwn w.mappings w.bindings (w.part e) (Own.Mark c b) → (wire (act w (At e (Own.Mark c b)))).bindings ≡ with_stage (number w.config.first b) (StoppingWire true) (wire w).bindings
+pub bindings_marked :
+    (w : World) (e c b : ℕ) → Invariant w → LegalOwn w.mappings w.bindings (w.part e) (Own.Mark c b)
+    → (wire (act w (At e (Own.Mark c b)))).bindings ≡ with_stage (number w.config.first b) (StoppingWire true) (wire w).bindings
 bindings_marked w e c b i l =
     let stage : (w.part e).stage b ≡ Stopping false = (i.parts e).bindings.marker_stage c b l.0 in
     bindings_staged w e (Own.Mark c b) b (StoppingWire true) i
-    (put_stage (w.part e) w.messages (Own.Mark c b) b (Stopping true) w.config.first (StoppingWire true) (i.parts e).orders (ap (λ s. put (w.part e).stage b (marked s)) stage) refl refl (unreleased_is (w.part e) b (Stopping false) stage refl) refl refl)
+    (put_stage (w.part e) w.messages (Own.Mark c b) b (Stopping true) w.config.first (StoppingWire true) (i.parts e).orders
+    (ap (λ s. put (w.part e).stage b (marked s)) stage) refl refl (unreleased_is (w.part e) b (Stopping false) stage refl) refl refl)

@@ -40,14 +40,17 @@ extent_read p h k (Wait cookie drain) e = refl
 pub invalidate_arrives : (w : World) (e c k : ℕ) → IsReached w → (w.part e).message c ≡ Some (InvalidateOf k) → ArrivesAlike w e c (InvalidateOf k)
 invalidate_arrives w e c k r m =
     ap (by_message w e c) ((r.carried e).invalidate c k m)
-    ∙ ap (λ x. by_one answer.Taken (Move.Take e (number w.config.first c) ((w.part e).itag k) ((w.part e).pasid (binding_of ((w.part e).order k))) x)) (extent_read (w.part e) (r.ranges e) k ((w.part e).order k) refl)
+    ∙ ap (λ x. by_one answer.Taken (Move.Take e (number w.config.first c) ((w.part e).itag k) ((w.part e).pasid (binding_of ((w.part e).order k))) x))
+    (extent_read (w.part e) (r.ranges e) k ((w.part e).order k) refl)
 
 -- A response finds its group by the index.
 
 waits_on : (s : GroupState) → is_answerable s ≡ true → is_outstanding s ≡ true
 waits_on s h = grind arith
 
-pub response_arrives : (w : World) (e c g : ℕ) (code : Code) → IsReached w → e < w.config.endpoints → (w.part e).message c ≡ Some (ResponseOf g code) → ArrivesAlike w e c (ResponseOf g code)
+pub response_arrives :
+    (w : World) (e c g : ℕ) (code : Code) → IsReached w → e < w.config.endpoints → (w.part e).message c ≡ Some (ResponseOf g code)
+    → ArrivesAlike w e c (ResponseOf g code)
 response_arrives w e c g code r l m =
     ap (by_message w e c) ((r.carried e).response c g code m)
     ∙ ap (λ o. by_one (response_said o) (Move.Answered e (number w.config.first c) (p.index g) code))
@@ -78,13 +81,17 @@ last_seen count left low high = go (left == count) refl ∙ sym (by_left left)
     go false h = counted left count low high h
 
 -- two searches that pair off what they find find as many
-pub count_paired : (n m : ℕ) (p q : ℕ → Bool) (f g : ℕ → ℕ) → ((i : ℕ) → i < n → p i ≡ true → (f i < m) × (q (f i) ≡ true) × (g (f i) ≡ i)) → ((j : ℕ) → j < m → q j ≡ true → (g j < n) × (p (g j) ≡ true) × (f (g j) ≡ j)) → count_below n p ≡ count_below m q
+pub count_paired :
+    (n m : ℕ) (p q : ℕ → Bool) (f g : ℕ → ℕ) → ((i : ℕ) → i < n → p i ≡ true → (f i < m) × (q (f i) ≡ true) × (g (f i) ≡ i))
+    → ((j : ℕ) → j < m → q j ≡ true → (g j < n) × (p (g j) ≡ true) × (f (g j) ≡ j)) → count_below n p ≡ count_below m q
 count_paired n m p q f g h k =
     let one = fewer n m p q f g h in
     let two = fewer m n q p g f k in
     omega (arith, one, two)
   where
-    fewer : (n m : ℕ) (p q : ℕ → Bool) (f g : ℕ → ℕ) → ((i : ℕ) → i < n → p i ≡ true → (f i < m) × (q (f i) ≡ true) × (g (f i) ≡ i)) → count_below n p ≤ count_below m q
+    fewer :
+        (n m : ℕ) (p q : ℕ → Bool) (f g : ℕ → ℕ) → ((i : ℕ) → i < n → p i ≡ true → (f i < m) × (q (f i) ≡ true) × (g (f i) ≡ i))
+        → count_below n p ≤ count_below m q
     fewer n m p q f g h =
         count_placed n m p q (λ i. if p i then f i else m + i)
         (λ i l t. subst (λ b. (if b then f i else m + i) < m) (sym t) (h i l t).0)
@@ -97,14 +104,21 @@ count_paired n m p q f g h k =
         one i j l s false true x y e = absurd (let low = (h j s y).0 in omega (arith, low, e))
         one i j l s false false x y e = omega (arith, e)
 
-busy_seen : (w : World) (e t : ℕ) → e < w.config.endpoints → t < 32 → busy_at (unit_of (wire w) e) t ≡ option_map (λ k. busy_wire ((w.part e).order_state k)) ((w.part e).at_itag t)
+busy_seen :
+    (w : World) (e t : ℕ) → e < w.config.endpoints → t < 32
+    → busy_at (unit_of (wire w) e) t ≡ option_map (λ k. busy_wire ((w.part e).order_state k)) ((w.part e).at_itag t)
 busy_seen w e t l m =
     ap (λ u. busy_at u t) (unit_seen w e l)
     ∙ tabulate_at 32 (λ t. option_map (λ k. busy_wire ((w.part e).order_state k)) ((w.part e).at_itag t)) t None m
 
-freed_seen : (w : World) (e c vector field : ℕ) (names : ℕ → Bool) → IsReached w → e < w.config.endpoints → IsVectorOf (w.part e) names vector → ((k : ℕ) → names k ≡ true → (left : ℕ) × ((w.part e).order_state k ≡ Owing (count_read field) left)) → count_below 32 (λ t. Labels.is_set vector t && is_last_of (count_read field) (busy_at (unit_of (wire w) e) t)) ≡ count_below (w.part e).orders (λ k. names k && is_last_left ((w.part e).order_state k))
+freed_seen :
+    (w : World) (e c vector field : ℕ) (names : ℕ → Bool) → IsReached w → e < w.config.endpoints → IsVectorOf (w.part e) names vector
+    → ((k : ℕ) → names k ≡ true → (left : ℕ) × ((w.part e).order_state k ≡ Owing (count_read field) left))
+    → count_below 32 (λ t. Labels.is_set vector t && is_last_of (count_read field) (busy_at (unit_of (wire w) e) t))
+    ≡ count_below (w.part e).orders (λ k. names k && is_last_left ((w.part e).order_state k))
 freed_seen w e c vector field names r l v owed =
-    count_paired 32 p.orders (λ t. Labels.is_set vector t && is_last_of count (busy_at (unit_of (wire w) e) t)) (λ k. names k && is_last_left (p.order_state k)) (λ t. the (p.at_itag t)) p.itag forth back
+    count_paired 32 p.orders (λ t. Labels.is_set vector t && is_last_of count (busy_at (unit_of (wire w) e) t))
+    (λ k. names k && is_last_left (p.order_state k)) (λ t. the (p.at_itag t)) p.itag forth back
   where
     p : Part
     p = w.part e
@@ -132,7 +146,8 @@ freed_seen w e c vector field names r l v owed =
     alike k nm low =
         let x = owed k nm in
         let y = (r.under_way e).owing k count x.0 x.1 in
-        ap (is_last_of count) (busy_seen w e (p.itag k) l low ∙ ap (option_map (λ j. busy_wire (p.order_state j))) (bears k nm) ∙ ap (λ s. Some (busy_wire s)) x.1)
+        ap (is_last_of count)
+        (busy_seen w e (p.itag k) l low ∙ ap (option_map (λ j. busy_wire (p.order_state j))) (bears k nm) ∙ ap (λ s. Some (busy_wire s)) x.1)
         ∙ last_seen count x.0 y.0 y.1
         ∙ sym (ap is_last_left x.1)
 
@@ -142,10 +157,16 @@ freed_seen w e c vector field names r l v owed =
     low_of : (k : ℕ) → names k ≡ true → p.itag k < 32
     low_of k nm = (r.invariant.parts e).labels.itag_low (p.itag k) k (bears k nm)
 
-    forth : (t : ℕ) → t < 32 → (Labels.is_set vector t && is_last_of count (busy_at (unit_of (wire w) e) t)) ≡ true → (the (p.at_itag t) < p.orders) × ((names (the (p.at_itag t)) && is_last_left (p.order_state (the (p.at_itag t)))) ≡ true) × (p.itag (the (p.at_itag t)) ≡ t)
+    forth :
+        (t : ℕ) → t < 32 → (Labels.is_set vector t && is_last_of count (busy_at (unit_of (wire w) e) t)) ≡ true
+        → (the (p.at_itag t) < p.orders) × ((names (the (p.at_itag t)) && is_last_left (p.order_state (the (p.at_itag t)))) ≡ true)
+        × (p.itag (the (p.at_itag t)) ≡ t)
     forth t m h = go (v.set t m (first (Labels.is_set vector t) (is_last_of count (busy_at (unit_of (wire w) e) t)) h))
       where
-        go : (k : ℕ) × (names k ≡ true) × (p.itag k ≡ t) → (the (p.at_itag t) < p.orders) × ((names (the (p.at_itag t)) && is_last_left (p.order_state (the (p.at_itag t)))) ≡ true) × (p.itag (the (p.at_itag t)) ≡ t)
+        go :
+            (k : ℕ) × (names k ≡ true) × (p.itag k ≡ t)
+            → (the (p.at_itag t) < p.orders) × ((names (the (p.at_itag t)) && is_last_left (p.order_state (the (p.at_itag t)))) ≡ true)
+            × (p.itag (the (p.at_itag t)) ≡ t)
         go (k, nm, same) =
             let there : the (p.at_itag t) ≡ k = ap (λ z. the (p.at_itag z)) (sym same) ∙ ap the (bears k nm) in
             let last : is_last_left (p.order_state k) ≡ true = sym (alike k nm (low_of k nm)) ∙ ap (λ z. is_last_of count (busy_at (unit_of (wire w) e) z)) same ∙ second (Labels.is_set vector t) (is_last_of count (busy_at (unit_of (wire w) e) t)) h in
@@ -153,7 +174,10 @@ freed_seen w e c vector field names r l v owed =
             subst (λ z. (z < p.orders) × ((names z && is_last_left (p.order_state z)) ≡ true) × (p.itag z ≡ t)) (sym there)
             (made k (busy k x.0 x.1), both (names k) (is_last_left (p.order_state k)) nm last, same)
 
-    back : (k : ℕ) → k < p.orders → (names k && is_last_left (p.order_state k)) ≡ true → (p.itag k < 32) × ((Labels.is_set vector (p.itag k) && is_last_of count (busy_at (unit_of (wire w) e) (p.itag k))) ≡ true) × (the (p.at_itag (p.itag k)) ≡ k)
+    back :
+        (k : ℕ) → k < p.orders → (names k && is_last_left (p.order_state k)) ≡ true
+        → (p.itag k < 32) × ((Labels.is_set vector (p.itag k) && is_last_of count (busy_at (unit_of (wire w) e) (p.itag k))) ≡ true)
+        × (the (p.at_itag (p.itag k)) ≡ k)
     back k m h =
         let nm = first (names k) (is_last_left (p.order_state k)) h in (
           low_of k nm,
@@ -162,19 +186,28 @@ freed_seen w e c vector field names r l v owed =
           ap the (bears k nm),
         )
 
-pub invalidated_arrives : (w : World) (e c : ℕ) (names : ℕ → Bool) → IsReached w → e < w.config.endpoints → (w.part e).message c ≡ Some (InvalidatedOf names) → ArrivesAlike w e c (InvalidatedOf names)
+pub invalidated_arrives :
+    (w : World) (e c : ℕ) (names : ℕ → Bool) → IsReached w → e < w.config.endpoints → (w.part e).message c ≡ Some (InvalidatedOf names)
+    → ArrivesAlike w e c (InvalidatedOf names)
 invalidated_arrives w e c names r l m = go ((r.carried e).invalidated c names m)
   where
     p : Part
     p = w.part e
 
     -- what is moved where the unit is open
-    by_open : (vector field : ℕ) → p.carried c ≡ InvalidatedMessage vector field → (b : Bool) → count_below 32 (λ t. Labels.is_set vector t && is_last_of (count_read field) (busy_at (unit_of (wire w) e) t)) ≡ count_below p.orders (λ k. names k && is_last_left (p.order_state k)) → count_result (unit_of (wire w) e) e (number w.config.first c) vector (count_read field) b ≡ result_by w (outcomes.count_outcome p e c names b)
+    by_open :
+        (vector field : ℕ) → p.carried c ≡ InvalidatedMessage vector field → (b : Bool)
+        → count_below 32 (λ t. Labels.is_set vector t && is_last_of (count_read field) (busy_at (unit_of (wire w) e) t))
+        ≡ count_below p.orders (λ k. names k && is_last_left (p.order_state k))
+        → count_result (unit_of (wire w) e) e (number w.config.first c) vector (count_read field) b ≡ result_by w (outcomes.count_outcome p e c names b)
     by_open vector field h true same =
         ap₂ (λ n x. by_one (answer.Freed n) x) same (sym (ap (count_move w.config.first e c) h))
     by_open vector field h false same = refl
 
-    go : (vector field : ℕ) × (p.carried c ≡ InvalidatedMessage vector field) × (field < 8) × IsVectorOf p names vector × ((k : ℕ) → names k ≡ true → (left : ℕ) × (p.order_state k ≡ Owing (count_read field) left)) → ArrivesAlike w e c (InvalidatedOf names)
+    go :
+        (vector field : ℕ) × (p.carried c ≡ InvalidatedMessage vector field) × (field < 8) × IsVectorOf p names vector
+        × ((k : ℕ) → names k ≡ true → (left : ℕ) × (p.order_state k ≡ Owing (count_read field) left))
+        → ArrivesAlike w e c (InvalidatedOf names)
     go (vector, field, h, low, v, owed) =
         ap (by_message w e c) h
         ∙ ap (count_result (unit_of (wire w) e) e (number w.config.first c) vector (count_read field)) (open_seen w e l)

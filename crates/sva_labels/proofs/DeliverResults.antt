@@ -25,7 +25,10 @@ abbrev pub ArrivesAlike : World → (e c : ℕ) → About → Type 0
 ArrivesAlike w e c a = message_result (wire w) e (number w.config.first c) ((w.part e).carried c) ≡ result_by w (names.about_outcome w (w.part e) e c a)
 
 -- a delivery is alike where the message in flight is
-pub delivered_alike : (w : World) (n : ℕ) → IsReached w → ((e c : ℕ) (a : About) → e < w.config.endpoints → (w.part e).message c ≡ Some a → w.way c ≡ e → c ≡ Labels.name w n → ArrivesAlike w e c a) → SaysAlike w (step.Deliver n)
+pub delivered_alike :
+    (w : World) (n : ℕ) → IsReached w
+    → ((e c : ℕ) (a : About) → e < w.config.endpoints → (w.part e).message c ≡ Some a → w.way c ≡ e → c ≡ Labels.name w n → ArrivesAlike w e c a)
+    → SaysAlike w (step.Deliver n)
 delivered_alike w n r h = record { alike = deliver_alike w n r; result = λ p. go (not_true (Labels.is_in_flight w n) p.0) ((w.part e).message c) refl }
   where
     c : ℕ
@@ -34,7 +37,9 @@ delivered_alike w n r h = record { alike = deliver_alike w n r; result = λ p. g
     e : ℕ
     e = w.way c
 
-    go : Labels.is_in_flight w n ≡ true → (o : Option About) → (w.part e).message c ≡ o → result_of (wire w) (step.Deliver n) ≡ result_by w (outcome w (step.Deliver n))
+    go :
+        Labels.is_in_flight w n ≡ true → (o : Option About) → (w.part e).message c ≡ o
+        → result_of (wire w) (step.Deliver n) ≡ result_by w (outcome w (step.Deliver n))
     go f None m = absurd (nothing f m)
       where
         last : (a b : Bool) → (a && b) ≡ true → b ≡ true
@@ -65,7 +70,9 @@ reset_done_arrives w e c r m = ap (by_message w e c) ((r.carried e).reset_done c
 pub open_seen : (w : World) (e : ℕ) → e < w.config.endpoints → (unit_of (wire w) e).is_open ≡ is_open (w.part e).phase
 open_seen w e l = ap (λ (u : UnitWire). u.is_open) (unit_seen w e l)
 
-pub page_request_arrives : (w : World) (e c x : ℕ) → IsReached w → e < w.config.endpoints → (w.part e).message c ≡ Some (PageRequestOf x) → ArrivesAlike w e c (PageRequestOf x)
+pub page_request_arrives :
+    (w : World) (e c x : ℕ) → IsReached w → e < w.config.endpoints → (w.part e).message c ≡ Some (PageRequestOf x)
+    → ArrivesAlike w e c (PageRequestOf x)
 page_request_arrives w e c x r l m =
     ap (by_message w e c) ((r.carried e).page_request c x m)
     ∙ ap (page_request_result e (number w.config.first c) (page_request_wire (w.part e) x)) (open_seen w e l)
@@ -89,10 +96,13 @@ marker_arrives w e c b r l m =
     go false = refl
 
 -- the delivery of a Start
-pub start_says : (w : World) (n b : ℕ) → IsReached w → (w.part (w.way (Labels.name w n))).message (Labels.name w n) ≡ Some (StartOf b) → SaysAlike w (step.Deliver n)
+pub start_says :
+    (w : World) (n b : ℕ) → IsReached w → (w.part (w.way (Labels.name w n))).message (Labels.name w n) ≡ Some (StartOf b)
+    → SaysAlike w (step.Deliver n)
 start_says w n b r h =
     delivered_alike w n r
-    (λ e c a l m way name. is_start e c a m (subst (λ x. (w.part x).message c ≡ Some (StartOf b)) way (subst (λ x. (w.part (w.way x)).message x ≡ Some (StartOf b)) (sym name) h)))
+    (λ e c a l m way name. is_start e c a m
+    (subst (λ x. (w.part x).message c ≡ Some (StartOf b)) way (subst (λ x. (w.part (w.way x)).message x ≡ Some (StartOf b)) (sym name) h)))
   where
     is_start : (e c : ℕ) (a : About) → (w.part e).message c ≡ Some a → (w.part e).message c ≡ Some (StartOf b) → ArrivesAlike w e c a
     is_start e c a m k =

@@ -30,7 +30,8 @@ number_parts first n count b h = grind (arith, nat_tests)
 pub flight_seen : (w : World) (n : ℕ) → Labels.is_in_flight w n ≡ true → flight_of (wire w) n ≡ Some (flight_wire w (Labels.name w n))
 flight_seen w n h =
     let x = number_parts w.config.first n w.messages (is_some ((w.part (w.way (Labels.name w n))).message (Labels.name w n))) h in
-    find_one w.messages (λ c. is_some ((w.part (w.way c)).message c)) (flight_wire w) (λ (f : FlightWire). f.number == n) (Labels.name w n) x.1 x.2 (itself w.config.first n x.0)
+    find_one w.messages (λ c. is_some ((w.part (w.way c)).message c)) (flight_wire w) (λ (f : FlightWire). f.number == n) (Labels.name w n) x.1 x.2
+    (itself w.config.first n x.0)
     (λ j l s e. one w.config.first n j e)
   where
     itself : (first n : ℕ) → first ≤ n → (first + (n - first) == n) ≡ true
@@ -53,7 +54,9 @@ no_flight w n h =
     other : (c : ℕ) → c < w.messages → is_some ((w.part (w.way c)).message c) ≡ true → (b : Bool) → (w.config.first + c == n) ≡ b → b ≡ false
     other c l s false e = refl
     other c l s true e =
-        absurd (cc (sym (in_flight w.config.first n c w.messages (is_some ((w.part (w.way (Labels.name w n))).message (Labels.name w n))) e l (ap (λ d. is_some ((w.part (w.way d)).message d)) (name_of w.config.first n c e) ∙ s)) ∙ h))
+        absurd (cc
+        (sym (in_flight w.config.first n c w.messages (is_some ((w.part (w.way (Labels.name w n))).message (Labels.name w n))) e l
+        (ap (λ d. is_some ((w.part (w.way d)).message d)) (name_of w.config.first n c e) ∙ s)) ∙ h))
 
 -- A message is of the sort of what it speaks of.
 
@@ -88,13 +91,17 @@ any_narrow (suc n) c p q l h k = go (ℕ_cases c (suc n)) (λ m. any_narrow n c 
     go (inl e) rest = any_same (suc n) p q (λ d m. h d (omega arith)) ∙ ap (λ m. any_below m q) (sym e)
     go (inr ne) rest = ap (λ b. if b then true else any_below n p) (k n (below c n l ne)) ∙ rest (below c n l ne)
 
-pub permitted_seen : (w : World) (c : ℕ) (a : About) → IsReached w → c < w.messages → (w.part (w.way c)).message c ≡ Some a → may_deliver (wire w) (flight_wire w c) ≡ Labels.is_permitted (w.part (w.way c)) c a
+pub permitted_seen :
+    (w : World) (c : ℕ) (a : About) → IsReached w → c < w.messages → (w.part (w.way c)).message c ≡ Some a
+    → may_deliver (wire w) (flight_wire w c) ≡ Labels.is_permitted (w.part (w.way c)) c a
 permitted_seen w c a r l h =
     ap not
     (any_seen w.messages (λ d. is_some ((w.part (w.way d)).message d)) (flight_wire w) (holds_back (flight_wire w c))
-    ∙ any_narrow w.messages c (λ d. is_some ((w.part (w.way d)).message d) && holds_back (flight_wire w c) (flight_wire w d)) (λ d. Labels.holds_back p (Labels.sort_of p a) (p.message d)) (omega arith)
+    ∙ any_narrow w.messages c (λ d. is_some ((w.part (w.way d)).message d) && holds_back (flight_wire w c) (flight_wire w d))
+    (λ d. Labels.holds_back p (Labels.sort_of p a) (p.message d)) (omega arith)
     (λ d m. older d m (ℕ_cases (w.way d) e))
-    (λ d m. newer (is_some ((w.part (w.way d)).message d)) w.config.first d c (w.way d == e) (stays_behind (sort_of (p.carried c)) (sort_of ((w.part (w.way d)).carried d))) m))
+    (λ d m. newer (is_some ((w.part (w.way d)).message d)) w.config.first d c (w.way d == e)
+    (stays_behind (sort_of (p.carried c)) (sort_of ((w.part (w.way d)).carried d))) m))
   where
     e : ℕ
     e = w.way c
@@ -115,7 +122,10 @@ permitted_seen w c a r l h =
     itself x = grind (arith, nat_tests)
 
     -- of the same endpoint
-    here : (d : ℕ) → d < c → (o : Option About) → p.message d ≡ o → (is_some o && (nat_lt (w.config.first + d) (w.config.first + c) && e == e && stays_behind (sort_of (p.carried c)) (sort_of (p.carried d)))) ≡ Labels.holds_back p (Labels.sort_of p a) o
+    here :
+        (d : ℕ) → d < c → (o : Option About) → p.message d ≡ o
+        → (is_some o && (nat_lt (w.config.first + d) (w.config.first + c) && e == e && stays_behind (sort_of (p.carried c)) (sort_of (p.carried d))))
+        ≡ Labels.holds_back p (Labels.sort_of p a) o
     here d m None k = refl
     here d m (Some o) k =
         ap₂ (λ x y. x && y && stays_behind (sort_of (p.carried c)) (sort_of (p.carried d))) (lower w.config.first d c m) (itself e)
@@ -125,17 +135,24 @@ permitted_seen w c a r l h =
     none_here d ne None k = refl
     none_here d ne (Some o) k = absurd (ne (r.sent e d (ap is_some k)))
 
-    older : (d : ℕ) → d < c → (w.way d ≡ e) ⊎ (w.way d ≢ e) → (is_some ((w.part (w.way d)).message d) && holds_back (flight_wire w c) (flight_wire w d)) ≡ Labels.holds_back p (Labels.sort_of p a) (p.message d)
+    older :
+        (d : ℕ) → d < c → (w.way d ≡ e) ⊎ (w.way d ≢ e)
+        → (is_some ((w.part (w.way d)).message d) && holds_back (flight_wire w c) (flight_wire w d)) ≡ Labels.holds_back p (Labels.sort_of p a) (p.message d)
     older d m (inl same) =
-        ap (λ x. is_some ((w.part x).message d) && (nat_lt (w.config.first + d) (w.config.first + c) && x == e && stays_behind (sort_of (p.carried c)) (sort_of ((w.part x).carried d)))) same
+        ap (λ x. is_some
+        ((w.part x).message d) && (nat_lt (w.config.first + d) (w.config.first + c) && x == e && stays_behind (sort_of (p.carried c))
+        (sort_of ((w.part x).carried d)))) same
         ∙ here d m (p.message d) refl
     older d m (inr ne) =
-        elsewhere (is_some ((w.part (w.way d)).message d)) (w.way d) e (stays_behind (sort_of (p.carried c)) (sort_of ((w.part (w.way d)).carried d))) (nat_lt (w.config.first + d) (w.config.first + c)) ne
+        elsewhere (is_some ((w.part (w.way d)).message d)) (w.way d) e (stays_behind (sort_of (p.carried c)) (sort_of ((w.part (w.way d)).carried d)))
+        (nat_lt (w.config.first + d) (w.config.first + c)) ne
         ∙ sym (none_here d ne (p.message d) refl)
 
 -- What a delivery sends.
 
-pub sends_seen : (w : World) (e c : ℕ) (a : About) → IsReached w → e < w.config.endpoints → (w.part e).message c ≡ Some a → delivery_sends (unit_of (wire w) e) ((w.part e).carried c) ≡ names.delivery_sends (w.part e) (Some a)
+pub sends_seen :
+    (w : World) (e c : ℕ) (a : About) → IsReached w → e < w.config.endpoints → (w.part e).message c ≡ Some a
+    → delivery_sends (unit_of (wire w) e) ((w.part e).carried c) ≡ names.delivery_sends (w.part e) (Some a)
 sends_seen w e c a r l h = go a h
   where
     by : Message → Bool
@@ -157,12 +174,16 @@ sends_seen w e c a r l h = go a h
 
 -- The causes.
 
-there : (w : World) (n : ℕ) → Labels.is_in_flight w n ≡ true → (Labels.name w n < w.messages) × (is_some ((w.part (w.way (Labels.name w n))).message (Labels.name w n)) ≡ true)
+there :
+    (w : World) (n : ℕ) → Labels.is_in_flight w n ≡ true
+    → (Labels.name w n < w.messages) × (is_some ((w.part (w.way (Labels.name w n))).message (Labels.name w n)) ≡ true)
 there w n h =
     let x = number_parts w.config.first n w.messages (is_some ((w.part (w.way (Labels.name w n))).message (Labels.name w n))) h in
     (x.1, x.2)
 
-flying_alike : (w : World) (c : ℕ) (o : Option About) → IsReached w → c < w.messages → (w.part (w.way c)).message c ≡ o → is_some o ≡ true → IsAlike (deliver_causes (wire w) (Some (flight_wire w c))) (names.deliver_refusals w c (w.part (w.way c)))
+flying_alike :
+    (w : World) (c : ℕ) (o : Option About) → IsReached w → c < w.messages → (w.part (w.way c)).message c ≡ o → is_some o ≡ true
+    → IsAlike (deliver_causes (wire w) (Some (flight_wire w c))) (names.deliver_refusals w c (w.part (w.way c)))
 flying_alike w c None r l h s = absurd (cc)
 flying_alike w c (Some a) r l h s =
     same_alike (deliver_causes (wire w) (Some (flight_wire w c))) (names.deliver_refusals w c (w.part (w.way c))) (
@@ -180,8 +201,11 @@ deliver_alike w n r = go (Labels.is_in_flight w n) refl
     go : (b : Bool) → Labels.is_in_flight w n ≡ b → IsAlike (causes_of (wire w) (step.Deliver n)) (refusals w (step.Deliver n))
     go false h =
         subst (λ o. IsAlike (deliver_causes (wire w) o) (refusals w (step.Deliver n))) (sym (no_flight w n h))
-        (alike_held (true, refusal.NoSuchMessage) (not (Labels.is_in_flight w n), refusal.NoSuchMessage) [] (names.deliver_refusals w (Labels.name w n) (w.part (w.way (Labels.name w n)))) refl (ap not h) refl)
+        (alike_held (true, refusal.NoSuchMessage) (not (Labels.is_in_flight w n), refusal.NoSuchMessage) []
+        (names.deliver_refusals w (Labels.name w n) (w.part (w.way (Labels.name w n)))) refl (ap not h) refl)
     go true h =
         let x = there w n h in
         subst (λ o. IsAlike (deliver_causes (wire w) o) (refusals w (step.Deliver n))) (sym (flight_seen w n h))
-        (alike_right (not (Labels.is_in_flight w n), refusal.NoSuchMessage) (deliver_causes (wire w) (Some (flight_wire w (Labels.name w n)))) (names.deliver_refusals w (Labels.name w n) (w.part (w.way (Labels.name w n)))) (ap not h) (flying_alike w (Labels.name w n) ((w.part (w.way (Labels.name w n))).message (Labels.name w n)) r x.0 refl x.1))
+        (alike_right (not (Labels.is_in_flight w n), refusal.NoSuchMessage) (deliver_causes (wire w) (Some (flight_wire w (Labels.name w n))))
+        (names.deliver_refusals w (Labels.name w n) (w.part (w.way (Labels.name w n)))) (ap not h)
+        (flying_alike w (Labels.name w n) ((w.part (w.way (Labels.name w n))).message (Labels.name w n)) r x.0 refl x.1))

@@ -47,7 +47,11 @@ live_seen first p Lost = refl
 live_seen first p Released = refl
 
 -- what is found for the request is said as its mapping says it
-pub found_seen : (w : World) (e r : ℕ) → Invariant w → is_unreleased ((w.part e).stage ((w.part e).request_binding r)) ≡ true → completion_of ((w.part e).request_tag r) (found_for (wire w) ((w.part e).request_page r) (bearer (wire w) e ((w.part e).pasid ((w.part e).request_binding r)))) ≡ names.completion_message w ((w.part e).request_tag r) (names.found_for w (w.part e) r)
+pub found_seen :
+    (w : World) (e r : ℕ) → Invariant w → is_unreleased ((w.part e).stage ((w.part e).request_binding r)) ≡ true
+    → completion_of ((w.part e).request_tag r)
+    (found_for (wire w) ((w.part e).request_page r) (bearer (wire w) e ((w.part e).pasid ((w.part e).request_binding r))))
+    ≡ names.completion_message w ((w.part e).request_tag r) (names.found_for w (w.part e) r)
 found_seen w e r i u =
     ap (λ o. completion_of (p.request_tag r) (found_for (wire w) (p.request_page r) o)) (bearer_seen w e b i u)
     ∙ ap₂ (λ t o. completion_of (p.request_tag r) (if t then o else None)) (live_seen w.config.first p (p.stage b)) there
@@ -68,11 +72,16 @@ found_seen w e r i u =
     said None = refl
     said (Some m) = refl
 
-    go : (t : Bool) → completion_of (p.request_tag r) (if t then option_map (page_wire w.mappings) (w.mappings.at (p.space b) (p.request_page r)) else None) ≡ names.completion_message w (p.request_tag r) (if t then w.mappings.at (p.space b) (p.request_page r) else None)
+    go :
+        (t : Bool)
+        → completion_of (p.request_tag r) (if t then option_map (page_wire w.mappings) (w.mappings.at (p.space b) (p.request_page r)) else None)
+        ≡ names.completion_message w (p.request_tag r) (if t then w.mappings.at (p.space b) (p.request_page r) else None)
     go true = said (w.mappings.at (p.space b) (p.request_page r))
     go false = refl
 
-pub request_arrives : (w : World) (e c r : ℕ) → IsReached w → e < w.config.endpoints → (w.part e).message c ≡ Some (RequestOf r) → ArrivesAlike w e c (RequestOf r)
+pub request_arrives :
+    (w : World) (e c r : ℕ) → IsReached w → e < w.config.endpoints → (w.part e).message c ≡ Some (RequestOf r)
+    → ArrivesAlike w e c (RequestOf r)
 request_arrives w e c r re l m =
     ap (by_message w e c) ((re.carried e).request c r m)
     ∙ ap (request_result (wire w) e (number w.config.first c) (p.request_tag r) (p.pasid (p.request_binding r)) (p.request_page r)) (open_seen w e l)
@@ -81,7 +90,10 @@ request_arrives w e c r re l m =
     p : Part
     p = w.part e
 
-    go : (b : Bool) → is_open p.phase ≡ b → request_result (wire w) e (number w.config.first c) (p.request_tag r) (p.pasid (p.request_binding r)) (p.request_page r) b ≡ result_by w (names.request_outcome w p e c r b)
+    go :
+        (b : Bool) → is_open p.phase ≡ b
+        → request_result (wire w) e (number w.config.first c) (p.request_tag r) (p.pasid (p.request_binding r)) (p.request_page r) b
+        ≡ result_by w (names.request_outcome w p e c r b)
     go true o =
         ap (λ x. by_one answer.Completion (Move.Complete e (number w.config.first c) x))
         (found_seen w e r re.invariant ((found w e re.invariant).request c r (open_is p o) m).0.unreleased)
@@ -102,7 +114,9 @@ count_insert {A = A} below test a (x ∷ xs) = go (below x a) (count_insert belo
     swap : (y z n : ℕ) → y + (z + n) ≡ z + (y + n)
     swap y z n = omega arith
 
-    go : (b : Bool) → count_by test (insert_by below a xs) ≡ count_by test (a ∷ xs) → count_by test (if b then x ∷ insert_by below a xs else a ∷ x ∷ xs) ≡ count_by test (a ∷ x ∷ xs)
+    go :
+        (b : Bool) → count_by test (insert_by below a xs) ≡ count_by test (a ∷ xs)
+        → count_by test (if b then x ∷ insert_by below a xs else a ∷ x ∷ xs) ≡ count_by test (a ∷ x ∷ xs)
     go true rest =
         more x (insert_by below a xs)
         ∙ ap (λ n. (if test x then 1 else 0) + n) (rest ∙ more a xs)
@@ -112,7 +126,11 @@ count_insert {A = A} below test a (x ∷ xs) = go (below x a) (count_insert belo
 
 pub count_sorted : {A : Type 0} (below : A → A → Bool) (test : A → Bool) (xs : List A) → count_by test (sorted_by below xs) ≡ count_by test xs
 count_sorted below test [] = refl
-count_sorted {A = A} below test (x ∷ xs) = count_insert below test x (sorted_by below xs) ∙ more (sorted_by below xs) ∙ ap (λ n. (if test x then 1 else 0) + n) (count_sorted below test xs) ∙ sym (more xs)
+count_sorted {A = A} below test (x ∷ xs) =
+    count_insert below test x (sorted_by below xs)
+    ∙ more (sorted_by below xs)
+    ∙ ap (λ n. (if test x then 1 else 0) + n) (count_sorted below test xs)
+    ∙ sym (more xs)
   where
     more : (ys : List A) → count_by test (x ∷ ys) ≡ (if test x then 1 else 0) + count_by test ys
     more ys = sum_by-append (λ x. if test x then 1 else 0) (x ∷ []) ys ∙ ap (λ n. n + count_by test ys) (zero_plus (if test x then 1 else 0))
@@ -121,12 +139,16 @@ count_sorted {A = A} below test (x ∷ xs) = count_insert below test x (sorted_b
         zero_plus a = omega arith
 
 -- the cache is full by labels exactly where it is by names
-pub full_seen : (w : World) (e r : ℕ) → Invariant w → is_unreleased ((w.part e).stage ((w.part e).request_binding r)) ≡ true → is_full (device_wire w.mappings (w.part e)).cache ((w.part e).pasid ((w.part e).request_binding r)) ((w.part e).request_page r) ≡ names.is_full (w.part e) r
+pub full_seen :
+    (w : World) (e r : ℕ) → Invariant w → is_unreleased ((w.part e).stage ((w.part e).request_binding r)) ≡ true
+    → is_full (device_wire w.mappings (w.part e)).cache ((w.part e).pasid ((w.part e).request_binding r)) ((w.part e).request_page r)
+    ≡ names.is_full (w.part e) r
 full_seen w e r i u =
     ap (nat_le 64)
     (count_sorted is_before (is_other (p.pasid b) (p.request_page r)) (map (cached_wire w.mappings p) (select p.requests (λ x. is_some (p.held x))))
     ∙ count_seen (cached_wire w.mappings p) (is_other (p.pasid b) (p.request_page r)) p.requests (λ x. is_some (p.held x))
-    ∙ count_same p.requests (λ x. is_some (p.held x) && is_other (p.pasid b) (p.request_page r) (cached_wire w.mappings p x)) (λ x. is_some (p.held x) && not (is_replaced p r x)) (λ x l. go x (is_some (p.held x)) refl))
+    ∙ count_same p.requests (λ x. is_some (p.held x) && is_other (p.pasid b) (p.request_page r) (cached_wire w.mappings p x))
+    (λ x. is_some (p.held x) && not (is_replaced p r x)) (λ x l. go x (is_some (p.held x)) refl))
   where
     p : Part
     p = w.part e
@@ -144,14 +166,19 @@ full_seen w e r i u =
         let row : p.at_pasid (p.pasid x) ≡ p.at_pasid (p.pasid b) = ap p.at_pasid h in
         cc
 
-    go : (x : ℕ) (t : Bool) → is_some (p.held x) ≡ t → (t && is_other (p.pasid b) (p.request_page r) (cached_wire w.mappings p x)) ≡ (t && not (is_replaced p r x))
+    go :
+        (x : ℕ) (t : Bool) → is_some (p.held x) ≡ t
+        → (t && is_other (p.pasid b) (p.request_page r) (cached_wire w.mappings p x)) ≡ (t && not (is_replaced p r x))
     go x false h = refl
     go x true h =
         let v : is_unreleased (p.stage (p.request_binding x)) ≡ true = active_unreleased (p.stage (p.request_binding x)) ((i.parts e).owners.held x (the (p.held x)) (some_the (p.held x) h)) in
-        same (p.pasid (p.request_binding x)) (p.pasid b) (p.request_binding x) b (p.request_page x == p.request_page r) (one (p.request_binding x) v) (ap p.pasid)
+        same (p.pasid (p.request_binding x)) (p.pasid b) (p.request_binding x) b (p.request_page x == p.request_page r) (one (p.request_binding x) v)
+        (ap p.pasid)
 
 -- what a completion finds by its tag
-tag_found : (w : World) (e r : ℕ) → Invariant w → e < w.config.endpoints → (w.part e).at_tag ((w.part e).request_tag r) ≡ Some r → tag_at (device_of (wire w) e) ((w.part e).request_tag r) ≡ Some (request_wire (w.part e) r)
+tag_found :
+    (w : World) (e r : ℕ) → Invariant w → e < w.config.endpoints → (w.part e).at_tag ((w.part e).request_tag r) ≡ Some r
+    → tag_at (device_of (wire w) e) ((w.part e).request_tag r) ≡ Some (request_wire (w.part e) r)
 tag_found w e r i l h =
     ap (λ d. tag_at d ((w.part e).request_tag r)) (device_seen w e l)
     ∙ tag_seen w.mappings (w.part e) (i.parts e).labels ((w.part e).request_tag r)
@@ -169,7 +196,10 @@ tag_missing w e c t i l ph =
     none (Some r) h = absurd (cc (sym ((i.parts e).labels.tag_bears t r h).1 ∙ (i.parts e).resets.over c r ph))
 
 -- what is answered where the request is out
-kept_arrives : (w : World) (e c r m : ℕ) (t : Bool) → keep_result e (number w.config.first c) ((w.part e).request_tag r) (record { pasid = (w.part e).pasid ((w.part e).request_binding r); page = (w.part e).request_page r; frame = w.mappings.frame m; write = w.mappings.write m }) t ≡ result_by w (names.keep_outcome e c r m t)
+kept_arrives :
+    (w : World) (e c r m : ℕ) (t : Bool)
+    → keep_result e (number w.config.first c) ((w.part e).request_tag r)
+    (record { pasid = (w.part e).pasid ((w.part e).request_binding r); page = (w.part e).request_page r; frame = w.mappings.frame m; write = w.mappings.write m }) t ≡ result_by w (names.keep_outcome e c r m t)
 kept_arrives w e c r m true = refl
 kept_arrives w e c r m false = refl
 
@@ -183,11 +213,18 @@ abbrev carried_by : World → (e r : ℕ) → Option ℕ → Message
 carried_by w e r None = CompletionMessage ((w.part e).request_tag r) 0 false false
 carried_by w e r (Some m) = CompletionMessage ((w.part e).request_tag r) (w.mappings.frame m) true (w.mappings.write m)
 
-out_arrives : (w : World) (e c r : ℕ) (o : Option ℕ) → Invariant w → e < w.config.endpoints → is_unreleased ((w.part e).stage ((w.part e).request_binding r)) ≡ true → (w.part e).at_tag ((w.part e).request_tag r) ≡ Some r → (s : RequestState) → (w.part e).request r ≡ s → is_out s ≡ true → by_message w e c (carried_by w e r o) ≡ result_by w (names.completion_outcome (w.part e) e c r o s)
+out_arrives :
+    (w : World) (e c r : ℕ) (o : Option ℕ) → Invariant w → e < w.config.endpoints
+    → is_unreleased ((w.part e).stage ((w.part e).request_binding r)) ≡ true → (w.part e).at_tag ((w.part e).request_tag r) ≡ Some r
+    → (s : RequestState) → (w.part e).request r ≡ s → is_out s ≡ true
+    → by_message w e c (carried_by w e r o) ≡ result_by w (names.completion_outcome (w.part e) e c r o s)
 out_arrives w e c r (Some m) i l u tag Out h out =
-    ap (completion_result (device_of (wire w) e) e (number w.config.first c) (p.request_tag r) (w.mappings.frame m) true (w.mappings.write m)) (tag_found w e r i l tag)
-    ∙ ap (λ x. completion_by (device_of (wire w) e) e (number w.config.first c) (p.request_tag r) (w.mappings.frame m) true (w.mappings.write m) (is_doomed x) (request_wire p r)) h
-    ∙ ap (keep_result e (number w.config.first c) (p.request_tag r) (record { pasid = p.pasid (p.request_binding r); page = p.request_page r; frame = w.mappings.frame m; write = w.mappings.write m }))
+    ap (completion_result (device_of (wire w) e) e (number w.config.first c) (p.request_tag r) (w.mappings.frame m) true (w.mappings.write m))
+    (tag_found w e r i l tag)
+    ∙ ap (λ x. completion_by (device_of (wire w) e) e (number w.config.first c) (p.request_tag r) (w.mappings.frame m) true (w.mappings.write m)
+    (is_doomed x) (request_wire p r)) h
+    ∙ ap (keep_result e (number w.config.first c) (p.request_tag r)
+    (record { pasid = p.pasid (p.request_binding r); page = p.request_page r; frame = w.mappings.frame m; write = w.mappings.write m }))
     (ap (λ (d : DeviceWire). is_full d.cache (p.pasid (p.request_binding r)) (p.request_page r)) (device_seen w e l) ∙ full_seen w e r i u)
     ∙ kept_arrives w e c r m (names.is_full p r)
   where
@@ -195,22 +232,32 @@ out_arrives w e c r (Some m) i l u tag Out h out =
     p = w.part e
 out_arrives w e c r None i l u tag Out h out =
     ap (completion_result (device_of (wire w) e) e (number w.config.first c) ((w.part e).request_tag r) 0 false false) (tag_found w e r i l tag)
-    ∙ ap (λ x. completion_by (device_of (wire w) e) e (number w.config.first c) ((w.part e).request_tag r) 0 false false (is_doomed x) (request_wire (w.part e) r)) h
+    ∙ ap (λ x. completion_by (device_of (wire w) e) e (number w.config.first c) ((w.part e).request_tag r) 0 false false (is_doomed x)
+    (request_wire (w.part e) r)) h
 out_arrives w e c r (Some m) i l u tag Doomed h out =
-    ap (completion_result (device_of (wire w) e) e (number w.config.first c) ((w.part e).request_tag r) (w.mappings.frame m) true (w.mappings.write m)) (tag_found w e r i l tag)
-    ∙ ap (λ x. completion_by (device_of (wire w) e) e (number w.config.first c) ((w.part e).request_tag r) (w.mappings.frame m) true (w.mappings.write m) (is_doomed x) (request_wire (w.part e) r)) h
+    ap (completion_result (device_of (wire w) e) e (number w.config.first c) ((w.part e).request_tag r) (w.mappings.frame m) true
+    (w.mappings.write m)) (tag_found w e r i l tag)
+    ∙ ap (λ x. completion_by (device_of (wire w) e) e (number w.config.first c) ((w.part e).request_tag r) (w.mappings.frame m) true
+    (w.mappings.write m) (is_doomed x) (request_wire (w.part e) r)) h
 out_arrives w e c r None i l u tag Doomed h out =
     ap (completion_result (device_of (wire w) e) e (number w.config.first c) ((w.part e).request_tag r) 0 false false) (tag_found w e r i l tag)
-    ∙ ap (λ x. completion_by (device_of (wire w) e) e (number w.config.first c) ((w.part e).request_tag r) 0 false false (is_doomed x) (request_wire (w.part e) r)) h
+    ∙ ap (λ x. completion_by (device_of (wire w) e) e (number w.config.first c) ((w.part e).request_tag r) 0 false false (is_doomed x)
+    (request_wire (w.part e) r)) h
 out_arrives w e c r o i l u tag Over h out = absurd (cc)
 
-over_arrives : (w : World) (e c d r : ℕ) (o : Option ℕ) → Invariant w → e < w.config.endpoints → (w.part e).phase ≡ Cleared d → by_message w e c (carried_by w e r o) ≡ result_by w (names.completion_outcome (w.part e) e c r o Over)
+over_arrives :
+    (w : World) (e c d r : ℕ) (o : Option ℕ) → Invariant w → e < w.config.endpoints → (w.part e).phase ≡ Cleared d
+    → by_message w e c (carried_by w e r o) ≡ result_by w (names.completion_outcome (w.part e) e c r o Over)
 over_arrives w e c d r None i l ph =
-    ap (completion_result (device_of (wire w) e) e (number w.config.first c) ((w.part e).request_tag r) 0 false false) (tag_missing w e d ((w.part e).request_tag r) i l ph)
+    ap (completion_result (device_of (wire w) e) e (number w.config.first c) ((w.part e).request_tag r) 0 false false)
+    (tag_missing w e d ((w.part e).request_tag r) i l ph)
 over_arrives w e c d r (Some m) i l ph =
-    ap (completion_result (device_of (wire w) e) e (number w.config.first c) ((w.part e).request_tag r) (w.mappings.frame m) true (w.mappings.write m)) (tag_missing w e d ((w.part e).request_tag r) i l ph)
+    ap (completion_result (device_of (wire w) e) e (number w.config.first c) ((w.part e).request_tag r) (w.mappings.frame m) true
+    (w.mappings.write m)) (tag_missing w e d ((w.part e).request_tag r) i l ph)
 
-pub completion_arrives : (w : World) (e c r : ℕ) (o : Option ℕ) → IsReached w → e < w.config.endpoints → (w.part e).message c ≡ Some (CompletionOf r o) → ArrivesAlike w e c (CompletionOf r o)
+pub completion_arrives :
+    (w : World) (e c r : ℕ) (o : Option ℕ) → IsReached w → e < w.config.endpoints → (w.part e).message c ≡ Some (CompletionOf r o)
+    → ArrivesAlike w e c (CompletionOf r o)
 completion_arrives w e c r o re l m = ap (by_message w e c) (carried o m) ∙ go p.phase refl
   where
     p : Part

@@ -43,7 +43,9 @@ count_leaves first e c d ResetDoneMessage = refl
 unmarked_unreleased : (s : Stage) → is_unmarked s ≡ true → is_unreleased s ≡ true
 unmarked_unreleased s h = grind arith
 
-pub device_square : (first : ℕ) (ms : Mappings) (x g n e : ℕ) (p : Part) (o : Own) → LegalOwn ms g p o → PartInvariant ms x g n e p → device_wire ms (own p n o) ≡ device_moved (device_wire ms p) (own_move first e ms p o)
+pub device_square :
+    (first : ℕ) (ms : Mappings) (x g n e : ℕ) (p : Part) (o : Own) → LegalOwn ms g p o → PartInvariant ms x g n e p
+    → device_wire ms (own p n o) ≡ device_moved (device_wire ms p) (own_move first e ms p o)
 device_square first ms x g n e p (Bind b s t) l i =
     let pasids = pasids_bound ms g n p b s t l i.bindings in
     let tags = tags_bound ms g n p b s t l i.bounds i.labels i.requests in
@@ -103,7 +105,8 @@ device_square first ms x g n e p (Finish names vector count) l i =
 device_square first ms x g n e p (Quit b) l i =
     let groups = groups_quit ms g n p b l i.bindings i.labels i.groups in
     (λ j. record (device_wire ms (own p n (Quit b))) { groups = groups j })
-    ∙ sym (pasids_put p b Off (record (device_wire ms p) { groups = map (stale_of (p.pasid b)) (device_wire ms p).groups }) i.labels (unreleased_unless p b i.bindings (ap is_off l.0)) refl)
+    ∙ sym (pasids_put p b Off (record (device_wire ms p) { groups = map (stale_of (p.pasid b)) (device_wire ms p).groups }) i.labels
+    (unreleased_unless p b i.bindings (ap is_off l.0)) refl)
 device_square first ms x g n e p (Start_arrives c b) l i =
     sym (pasids_put p b On (device_wire ms p) i.labels (unmarked_unreleased (p.stage b) (i.bindings.start_stage c b l.0)) refl)
 device_square first ms x g n e p (Stop_arrives c b) l i =
@@ -144,17 +147,23 @@ device_square first ms x g n e p (Reopen c) l i =
     λ j. record (device_wire ms p) { taken = taken j }
 
 -- Invalidations of ranges with the wait behind them, as an unmapping submits them, leave the device as it is.
-pub device_submitted : (ms : Mappings) (g : ℕ) (p : Part) (b q count order cookie : ℕ) → Bounds g p → Labels p → device_wire ms (submitted p b q count order cookie) ≡ device_wire ms p
+pub device_submitted :
+    (ms : Mappings) (g : ℕ) (p : Part) (b q count order cookie : ℕ) → Bounds g p → Labels p
+    → device_wire ms (submitted p b q count order cookie) ≡ device_wire ms p
 device_submitted ms g p b q count order cookie bo la =
     let taken = taken_submitted ms g p b q count order cookie bo la in
     λ j. record (device_wire ms p) { taken = taken j }
 
-pub device_submitted_if : (t : Bool) (ms : Mappings) (g : ℕ) (p : Part) (o : Option ℕ) (q count order cookie : ℕ) → Bounds g p → Labels p → device_wire ms (submitted_if t p o q count order cookie) ≡ device_wire ms p
+pub device_submitted_if :
+    (t : Bool) (ms : Mappings) (g : ℕ) (p : Part) (o : Option ℕ) (q count order cookie : ℕ) → Bounds g p → Labels p
+    → device_wire ms (submitted_if t p o q count order cookie) ≡ device_wire ms p
 device_submitted_if true ms g p (Some b) q count order cookie bo la = device_submitted ms g p b q count order cookie bo la
 device_submitted_if true ms g p None q count order cookie bo la = refl
 device_submitted_if false ms g p o q count order cookie bo la = refl
 
 -- so an unmapping leaves every device as it is
-pub device_unmapped : (w : World) (s q count order e : ℕ) → Bounds w.bindings (w.part e) → Labels (w.part e) → device_wire (act w (Act.Unmap s q count order)).mappings ((act w (Act.Unmap s q count order)).part e) ≡ device_wire w.mappings (w.part e)
+pub device_unmapped :
+    (w : World) (s q count order e : ℕ) → Bounds w.bindings (w.part e) → Labels (w.part e)
+    → device_wire (act w (Act.Unmap s q count order)).mappings ((act w (Act.Unmap s q count order)).part e) ≡ device_wire w.mappings (w.part e)
 device_unmapped w s q count order e bo la =
     device_submitted_if (submits w s e) w.mappings w.bindings (w.part e) (bound w e s) q count order (w.cookies + count_below e (submits w s)) bo la

@@ -55,11 +55,14 @@ held_made : (p : Part) (g r m : ℕ) → Bounds g p → p.held r ≡ Some m → 
 held_made p g r m bo h = grind (arith, bo.held r)
 
 -- a new binding isn't that of a request
-pub cache_bound : (ms : Mappings) (g n : ℕ) (p : Part) (b s t : ℕ) → LegalOwn ms g p (Own.Bind b s t) → Requests p → cache_wire ms (own p n (Own.Bind b s t)) ≡ cache_wire ms p
+pub cache_bound :
+    (ms : Mappings) (g n : ℕ) (p : Part) (b s t : ℕ) → LegalOwn ms g p (Own.Bind b s t) → Requests p
+    → cache_wire ms (own p n (Own.Bind b s t)) ≡ cache_wire ms p
 cache_bound ms g n p b s t l ra =
     ap (sorted_by is_before)
     (select_seen p.requests (λ r. is_some (p.held r)) (λ r. is_some (p.held r)) (cached_wire ms p) (cached_wire ms (own p n (Own.Bind b s t))) (λ r m. refl)
-    (λ r m h. ap (λ x. record { pasid = x; page = p.request_page r; frame = ms.frame (the (p.held r)); write = ms.write (the (p.held r)) }) (put-other p.pasid b t (p.request_binding r) (other r m))))
+    (λ r m h. ap (λ x. record { pasid = x; page = p.request_page r; frame = ms.frame (the (p.held r)); write = ms.write (the (p.held r)) })
+    (put-other p.pasid b t (p.request_binding r) (other r m))))
   where
     other : (r : ℕ) → r < p.requests → p.request_binding r ≢ b
     other r m e = ra.bound r m (ap p.stage e ∙ l.2)
@@ -68,25 +71,36 @@ cache_bound ms g n p b s t l ra =
 pub cache_asked : (ms : Mappings) (g n : ℕ) (p : Part) (b q t : ℕ) → Bounds g p → cache_wire ms (own p n (Own.Ask b q t)) ≡ cache_wire ms p
 unfolding select
 cache_asked ms g n p b q t bo =
-    ap (λ o. sorted_by is_before (map (cached_wire ms (own p n (Own.Ask b q t))) (select p.requests (λ r. is_some (p.held r)) ++ (if is_some o then p.requests ∷ [] else [])))) (bo.held p.requests (omega arith))
+    ap (λ o. sorted_by is_before
+    (map (cached_wire ms (own p n (Own.Ask b q t))) (select p.requests (λ r. is_some (p.held r)) ++ (if is_some o then p.requests ∷ [] else []))))
+    (bo.held p.requests (omega arith))
     ∙ ap (λ xs. sorted_by is_before (map (cached_wire ms (own p n (Own.Ask b q t))) xs)) (append-nil (select p.requests (λ r. is_some (p.held r))))
     ∙ ap (sorted_by is_before)
     (select_seen p.requests (λ r. is_some (p.held r)) (λ r. is_some (p.held r)) (cached_wire ms p) (cached_wire ms (own p n (Own.Ask b q t))) (λ r l. refl)
-    (λ r l h. ap₂ (λ x y. translation_wire ms p x y (the (p.held r))) (put-other p.request_binding p.requests b r (omega arith)) (put-other p.request_page p.requests q r (omega arith))))
+    (λ r l h. ap₂ (λ x y. translation_wire ms p x y (the (p.held r))) (put-other p.request_binding p.requests b r (omega arith))
+    (put-other p.request_page p.requests q r (omega arith))))
 
 -- Translations that go.
 
 -- the answers that are kept where those go that don't pass
-pub cache_filtered : (ms : Mappings) (p : Part) (held : ℕ → Option ℕ) (keeps : TranslationWire → Bool) → ((r : ℕ) → r < p.requests → p.held r ≡ None → held r ≡ None) → ((r m : ℕ) → r < p.requests → p.held r ≡ Some m → held r ≡ (if keeps (cached_wire ms p r) then Some m else None)) → cache_wire ms (record p { held = held }) ≡ filter keeps (cache_wire ms p)
+pub cache_filtered :
+    (ms : Mappings) (p : Part) (held : ℕ → Option ℕ) (keeps : TranslationWire → Bool)
+    → ((r : ℕ) → r < p.requests → p.held r ≡ None → held r ≡ None)
+    → ((r m : ℕ) → r < p.requests → p.held r ≡ Some m → held r ≡ (if keeps (cached_wire ms p r) then Some m else None))
+    → cache_wire ms (record p { held = held }) ≡ filter keeps (cache_wire ms p)
 cache_filtered ms p held keeps none some =
     ap (sorted_by is_before)
-    (select_seen p.requests (λ r. is_some (p.held r) && keeps (cached_wire ms p r)) (λ r. is_some (held r)) (cached_wire ms p) (cached_wire ms (record p { held = held }))
+    (select_seen p.requests (λ r. is_some (p.held r) && keeps (cached_wire ms p r)) (λ r. is_some (held r)) (cached_wire ms p)
+    (cached_wire ms (record p { held = held }))
     (λ r l. passes r (p.held r) (held r) (keeps (cached_wire ms p r)) (none r l) (λ m. some r m l))
-    (λ r l h. ap (λ m. translation_wire ms p (p.request_binding r) (p.request_page r) m) (same r (p.held r) (held r) (keeps (cached_wire ms p r)) (λ m. some r m l) h)))
+    (λ r l h. ap (λ m. translation_wire ms p (p.request_binding r) (p.request_page r) m)
+    (same r (p.held r) (held r) (keeps (cached_wire ms p r)) (λ m. some r m l) h)))
     ∙ sym (ap (sorted_by is_before) (filter_select keeps (cached_wire ms p) p.requests (λ r. is_some (p.held r))))
     ∙ sym (filter_sorted is_before is_order keeps (map (cached_wire ms p) (select p.requests (λ r. is_some (p.held r)))))
   where
-    passes : (r : ℕ) (o new : Option ℕ) (b : Bool) → (o ≡ None → new ≡ None) → ((m : ℕ) → o ≡ Some m → new ≡ (if b then Some m else None)) → is_some new ≡ (is_some o && b)
+    passes :
+        (r : ℕ) (o new : Option ℕ) (b : Bool) → (o ≡ None → new ≡ None) → ((m : ℕ) → o ≡ Some m → new ≡ (if b then Some m else None))
+        → is_some new ≡ (is_some o && b)
     passes r None new b h i = ap (λ x. is_some x) (h refl)
     passes r (Some m) new true h i = ap (λ x. is_some x) (i m refl)
     passes r (Some m) new false h i = ap (λ x. is_some x) (i m refl)
@@ -97,12 +111,17 @@ cache_filtered ms p held keeps none some =
     same r (Some m) new false i h = absurd (cc)
 
 -- a translation is of the PASID and page of another where it is of that binding and page
-at_page_same : (ms : Mappings) (p : Part) (b q r m : ℕ) → Labels p → Owners ms p → is_unreleased (p.stage b) ≡ true → p.held r ≡ Some m → is_at_page (p.pasid b) q (cached_wire ms p r) ≡ (p.request_binding r == b && p.request_page r == q)
+at_page_same :
+    (ms : Mappings) (p : Part) (b q r m : ℕ) → Labels p → Owners ms p → is_unreleased (p.stage b) ≡ true → p.held r ≡ Some m
+    → is_at_page (p.pasid b) q (cached_wire ms p r) ≡ (p.request_binding r == b && p.request_page r == q)
 at_page_same ms p b q r m la ow un h = ap (λ x. x && p.request_page r == q) (pasids_differ p b (p.request_binding r) la un (held_unreleased ms p r m ow h))
 
-pub cache_evicted : (ms : Mappings) (g n : ℕ) (p : Part) (r : ℕ) → LegalOwn ms g p (Own.Evict r) → Labels p → Requests p → Owners ms p → cache_wire ms (own p n (Own.Evict r)) ≡ filter (λ x. not (is_at_page (p.pasid (p.request_binding r)) (p.request_page r) x)) (cache_wire ms p)
+pub cache_evicted :
+    (ms : Mappings) (g n : ℕ) (p : Part) (r : ℕ) → LegalOwn ms g p (Own.Evict r) → Labels p → Requests p → Owners ms p
+    → cache_wire ms (own p n (Own.Evict r)) ≡ filter (λ x. not (is_at_page (p.pasid (p.request_binding r)) (p.request_page r) x)) (cache_wire ms p)
 cache_evicted ms g n p r l la ra ow =
-    cache_filtered ms p (put p.held r None) (λ x. not (is_at_page (p.pasid (p.request_binding r)) (p.request_page r) x)) (λ k lt h. none k h (ℕ_cases k r)) (λ k m lt h. some k m h (ℕ_cases k r))
+    cache_filtered ms p (put p.held r None) (λ x. not (is_at_page (p.pasid (p.request_binding r)) (p.request_page r) x))
+    (λ k lt h. none k h (ℕ_cases k r)) (λ k m lt h. some k m h (ℕ_cases k r))
   where
     none : (k : ℕ) → p.held k ≡ None → (k ≡ r) ⊎ (k ≢ r) → put p.held r None k ≡ None
     none k h (inl e) = ap (put p.held r None) e ∙ put-same p.held r None
@@ -117,24 +136,37 @@ cache_evicted ms g n p r l la ra ow =
         differ : (b c q s : ℕ) → (b ≡ c → q ≡ s → ⊥) → (b == c && q == s) ≡ false
         differ b c q s h = grind (arith, nat_tests)
 
-    at_page : (k m : ℕ) → p.held k ≡ Some m → is_at_page (p.pasid (p.request_binding r)) (p.request_page r) (cached_wire ms p k) ≡ (p.request_binding k == p.request_binding r && p.request_page k == p.request_page r)
+    at_page :
+        (k m : ℕ) → p.held k ≡ Some m
+        → is_at_page (p.pasid (p.request_binding r)) (p.request_page r) (cached_wire ms p k)
+        ≡ (p.request_binding k == p.request_binding r && p.request_page k == p.request_page r)
     at_page k m h = at_page_same ms p (p.request_binding r) (p.request_page r) k m la ow (held_unreleased ms p r l.0 ow l.1) h
 
-    some : (k m : ℕ) → p.held k ≡ Some m → (k ≡ r) ⊎ (k ≢ r) → put p.held r None k ≡ (if not (is_at_page (p.pasid (p.request_binding r)) (p.request_page r) (cached_wire ms p k)) then Some m else None)
+    some :
+        (k m : ℕ) → p.held k ≡ Some m → (k ≡ r) ⊎ (k ≢ r)
+        → put p.held r None k ≡ (if not (is_at_page (p.pasid (p.request_binding r)) (p.request_page r) (cached_wire ms p k)) then Some m else None)
     some k m h (inl e) =
         ap (put p.held r None) e ∙ put-same p.held r None
-        ∙ sym (ap (λ b. if not b then Some m else None) (at_page k m h ∙ ap (λ z. p.request_binding z == p.request_binding r && p.request_page z == p.request_page r) e ∙ self (p.request_binding r) (p.request_page r)))
+        ∙ sym (ap (λ b. if not b then Some m else None)
+        (at_page k m h ∙ ap (λ z. p.request_binding z == p.request_binding r && p.request_page z == p.request_page r) e
+        ∙ self (p.request_binding r) (p.request_page r)))
     some k m h (inr ne) =
         put-other p.held r None k ne ∙ h ∙ sym (ap (λ b. if not b then Some m else None) (at_page k m h ∙ apart k m h ne))
 
 -- what an invalidation covers goes as it is taken
-pub cache_taken : (ms : Mappings) (g n : ℕ) (p : Part) (c k : ℕ) → LegalOwn ms g p (Own.Take c k) → Labels p → Orders p → Owners ms p → cache_wire ms (own p n (Own.Take c k)) ≡ filter (λ x. not (Finding.covers (p.pasid (binding_of (p.order k))) (extent_of (p.order k)) x.pasid x.page)) (cache_wire ms p)
+pub cache_taken :
+    (ms : Mappings) (g n : ℕ) (p : Part) (c k : ℕ) → LegalOwn ms g p (Own.Take c k) → Labels p → Orders p → Owners ms p
+    → cache_wire ms (own p n (Own.Take c k))
+    ≡ filter (λ x. not (Finding.covers (p.pasid (binding_of (p.order k))) (extent_of (p.order k)) x.pasid x.page)) (cache_wire ms p)
 cache_taken ms g n p c k l la or ow =
-    cache_filtered ms p (λ r. none_if (covers (p.order k) (p.request_binding r) (p.request_page r)) (p.held r)) (λ x. not (Finding.covers (p.pasid (binding_of (p.order k))) (extent_of (p.order k)) x.pasid x.page))
-    (λ r lt h. ap (none_if (covers (p.order k) (p.request_binding r) (p.request_page r))) h ∙ nothing (covers (p.order k) (p.request_binding r) (p.request_page r)))
+    cache_filtered ms p (λ r. none_if (covers (p.order k) (p.request_binding r) (p.request_page r)) (p.held r))
+    (λ x. not (Finding.covers (p.pasid (binding_of (p.order k))) (extent_of (p.order k)) x.pasid x.page))
+    (λ r lt h. ap (none_if (covers (p.order k) (p.request_binding r) (p.request_page r))) h
+    ∙ nothing (covers (p.order k) (p.request_binding r) (p.request_page r)))
     (λ r m lt h.
     ap (none_if (covers (p.order k) (p.request_binding r) (p.request_page r))) h ∙ either m (covers (p.order k) (p.request_binding r) (p.request_page r))
-    ∙ sym (ap (λ b. if not b then Some m else None) (covers_same p k (p.request_binding r) (p.request_page r) la or (ap is_busy (la.sent c k l)) (held_unreleased ms p r m ow h))))
+    ∙ sym (ap (λ b. if not b then Some m else None)
+    (covers_same p k (p.request_binding r) (p.request_page r) la or (ap is_busy (la.sent c k l)) (held_unreleased ms p r m ow h))))
   where
     nothing : (b : Bool) → none_if b None ≡ None
     nothing true = refl
@@ -151,14 +183,18 @@ cache_cleared ms n p c = ap (λ xs. sorted_by is_before (map (cached_wire ms (ow
     nothing k = none_selected k (λ r. false) (λ r l. refl)
 
 -- A translation in place of an older one.
-pub cache_kept : (ms : Mappings) (g n : ℕ) (p : Part) (c r m : ℕ) → LegalOwn ms g p (Own.Keep c r m) → Bounds g p → Bindings p → Labels p → Requests p → Owners ms p → cache_wire ms (own p n (Own.Keep c r m)) ≡ kept (translation_wire ms p (p.request_binding r) (p.request_page r) m) (cache_wire ms p)
+pub cache_kept :
+    (ms : Mappings) (g n : ℕ) (p : Part) (c r m : ℕ) → LegalOwn ms g p (Own.Keep c r m) → Bounds g p → Bindings p → Labels p → Requests p
+    → Owners ms p
+    → cache_wire ms (own p n (Own.Keep c r m)) ≡ kept (translation_wire ms p (p.request_binding r) (p.request_page r) m) (cache_wire ms p)
 cache_kept ms g n p c r m l bo bi la ra ow =
     sorted_with is_before is_order (cached_wire ms (own p n (Own.Keep c r m))) p.requests r (λ k. is_some (rest k)) (λ k. is_some (put rest r (Some m) k)) made
     (ap (λ b. is_some (none_if b (p.held r))) self ∙ gone (p.held r))
     (ap (λ o. is_some o) (put-same rest r (Some m)))
     (λ k lt ne. ap (λ o. is_some o) (put-other rest r (Some m) k ne))
     (λ k lt h. apart k h)
-    ∙ ap₂ (λ x xs. insert_by is_before x xs) new (ap (sorted_by is_before) others ∙ cache_filtered ms p rest (λ x. not (is_at_page (p.pasid (p.request_binding r)) (p.request_page r) x)) none some)
+    ∙ ap₂ (λ x xs. insert_by is_before x xs) new
+    (ap (sorted_by is_before) others ∙ cache_filtered ms p rest (λ x. not (is_at_page (p.pasid (p.request_binding r)) (p.request_page r) x)) none some)
   where
     rest : ℕ → Option ℕ
     rest k = none_if (is_replaced p r k) (p.held k)
@@ -180,7 +216,8 @@ cache_kept ms g n p c r m l bo bi la ra ow =
 
     others : map (cached_wire ms (own p n (Own.Keep c r m))) (select p.requests (λ k. is_some (rest k))) ≡ map (cached_wire ms (record p { held = rest })) (select p.requests (λ k. is_some (rest k)))
     others =
-        select_seen p.requests (λ k. is_some (rest k)) (λ k. is_some (rest k)) (cached_wire ms (record p { held = rest })) (cached_wire ms (own p n (Own.Keep c r m))) (λ k lt. refl)
+        select_seen p.requests (λ k. is_some (rest k)) (λ k. is_some (rest k)) (cached_wire ms (record p { held = rest }))
+        (cached_wire ms (own p n (Own.Keep c r m))) (λ k lt. refl)
         (λ k lt h. ap (λ o. translation_wire ms p (p.request_binding k) (p.request_page k) (the o)) (put-other rest r (Some m) k (differ k h)))
       where
         differ : (k : ℕ) → is_some (rest k) ≡ true → k ≢ r
@@ -196,7 +233,9 @@ cache_kept ms g n p c r m l bo bi la ra ow =
         either true = refl
         either false = refl
 
-    some : (k j : ℕ) → k < p.requests → p.held k ≡ Some j → rest k ≡ (if not (is_at_page (p.pasid (p.request_binding r)) (p.request_page r) (cached_wire ms p k)) then Some j else None)
+    some :
+        (k j : ℕ) → k < p.requests → p.held k ≡ Some j
+        → rest k ≡ (if not (is_at_page (p.pasid (p.request_binding r)) (p.request_page r) (cached_wire ms p k)) then Some j else None)
     some k j lt h = ap (none_if (is_replaced p r k)) h ∙ either (is_replaced p r k) ∙ sym (ap (λ b. if not b then Some j else None) (at_page k j h))
       where
         either : (b : Bool) → none_if b (Some j) ≡ (if not b then Some j else None)
@@ -204,9 +243,13 @@ cache_kept ms g n p c r m l bo bi la ra ow =
         either false = refl
 
     apart : (k : ℕ) → is_some (rest k) ≡ true → AreApart is_before (cached_wire ms (own p n (Own.Keep c r m)) r) (cached_wire ms (own p n (Own.Keep c r m)) k)
-    apart k h = comes_apart (p.pasid (p.request_binding r)) (p.request_page r) (p.pasid (p.request_binding k)) (p.request_page k) (by_held (p.held k) refl (is_replaced p r k) refl h)
+    apart k h =
+        comes_apart (p.pasid (p.request_binding r)) (p.request_page r) (p.pasid (p.request_binding k)) (p.request_page k)
+        (by_held (p.held k) refl (is_replaced p r k) refl h)
       where
-        by_held : (o : Option ℕ) → p.held k ≡ o → (b : Bool) → is_replaced p r k ≡ b → is_some (none_if b o) ≡ true → is_at_page (p.pasid (p.request_binding r)) (p.request_page r) (cached_wire ms p k) ≡ false
+        by_held :
+            (o : Option ℕ) → p.held k ≡ o → (b : Bool) → is_replaced p r k ≡ b → is_some (none_if b o) ≡ true
+            → is_at_page (p.pasid (p.request_binding r)) (p.request_page r) (cached_wire ms p k) ≡ false
         by_held None e true f i = absurd (cc)
         by_held None e false f i = absurd (cc)
         by_held (Some j) e true f i = absurd (cc)

@@ -30,7 +30,9 @@ group_made : (p : Part) (g x : ℕ) → Bounds g p → is_outstanding (p.group x
 group_made p g x bo h = grind (arith, bo.group x)
 
 -- a new binding isn't the asker of a group
-pub groups_bound : (ms : Mappings) (g n : ℕ) (p : Part) (b s t : ℕ) → LegalOwn ms g p (Own.Bind b s t) → Bounds g p → Groups p → groups_wire (own p n (Own.Bind b s t)) ≡ groups_wire p
+pub groups_bound :
+    (ms : Mappings) (g n : ℕ) (p : Part) (b s t : ℕ) → LegalOwn ms g p (Own.Bind b s t) → Bounds g p → Groups p
+    → groups_wire (own p n (Own.Bind b s t)) ≡ groups_wire p
 groups_bound ms g n p b s t l bo gr =
     row_same 32 p.at_index (group_wire p) (group_wire (own p n (Own.Bind b s t)))
     (λ i x h. ap (λ y. record { pasid = y; state = p.group x; requests = count_below p.page_requests (λ r. p.group_of r == x) })
@@ -47,11 +49,15 @@ same_name x y e = grind (arith, nat_tests)
 other_name : (x y : ℕ) → x ≢ y → (x == y) ≡ false
 other_name x y e = grind (arith, nat_tests)
 
-pub count_more : (p : Part) (y x : ℕ) → count_below (suc p.page_requests) (λ r. put p.group_of p.page_requests y r == x) ≡ (if y == x then suc (count_below p.page_requests (λ r. p.group_of r == x)) else count_below p.page_requests (λ r. p.group_of r == x))
+pub count_more :
+    (p : Part) (y x : ℕ)
+    → count_below (suc p.page_requests) (λ r. put p.group_of p.page_requests y r == x)
+    ≡ (if y == x then suc (count_below p.page_requests (λ r. p.group_of r == x)) else count_below p.page_requests (λ r. p.group_of r == x))
 unfolding count_below
 count_more p y x =
     let rest : count_below p.page_requests (λ r. put p.group_of p.page_requests y r == x) ≡ count_below p.page_requests (λ r. p.group_of r == x) =
-    count_same p.page_requests (λ r. put p.group_of p.page_requests y r == x) (λ r. p.group_of r == x) (λ r l. ap (λ z. z == x) (put-other p.group_of p.page_requests y r (omega arith)))
+    count_same p.page_requests (λ r. put p.group_of p.page_requests y r == x) (λ r. p.group_of r == x)
+    (λ r l. ap (λ z. z == x) (put-other p.group_of p.page_requests y r (omega arith)))
     in
     let last = put-same p.group_of p.page_requests y in
     λ i. if last i == x then suc (rest i) else rest i
@@ -60,21 +66,29 @@ count_more p y x =
 count_first : (p : Part) (g : ℕ) → Bounds g p → count_below (suc p.page_requests) (λ r. put p.group_of p.page_requests p.groups r == p.groups) ≡ 1
 count_first p g bo =
     count_more p p.groups p.groups
-    ∙ ap (λ b. if b then suc (count_below p.page_requests (λ r. p.group_of r == p.groups)) else count_below p.page_requests (λ r. p.group_of r == p.groups)) (same_name p.groups p.groups refl)
-    ∙ ap (λ k. suc k) (count_zero p.page_requests (λ r. p.group_of r == p.groups) (λ r l. other_name (p.group_of r) p.groups (less (p.group_of r) p.groups (bo.group_of r l))))
+    ∙ ap (λ b. if b then suc (count_below p.page_requests (λ r. p.group_of r == p.groups)) else count_below p.page_requests
+    (λ r. p.group_of r == p.groups)) (same_name p.groups p.groups refl)
+    ∙ ap (λ k. suc k)
+    (count_zero p.page_requests (λ r. p.group_of r == p.groups) (λ r l. other_name (p.group_of r) p.groups (less (p.group_of r) p.groups (bo.group_of r l))))
   where
     less : (x y : ℕ) → x < y → x ≢ y
     less x y l = omega arith
 
 -- the requests of another group are as many
-count_other : (p : Part) (y x : ℕ) → x ≢ y → count_below (suc p.page_requests) (λ r. put p.group_of p.page_requests y r == x) ≡ count_below p.page_requests (λ r. p.group_of r == x)
+count_other :
+    (p : Part) (y x : ℕ) → x ≢ y
+    → count_below (suc p.page_requests) (λ r. put p.group_of p.page_requests y r == x) ≡ count_below p.page_requests (λ r. p.group_of r == x)
 count_other p y x ne =
     count_more p y x
-    ∙ ap (λ b. if b then suc (count_below p.page_requests (λ r. p.group_of r == x)) else count_below p.page_requests (λ r. p.group_of r == x)) (other_name y x (λ e. ne (sym e)))
+    ∙ ap (λ b. if b then suc (count_below p.page_requests (λ r. p.group_of r == x)) else count_below p.page_requests (λ r. p.group_of r == x))
+    (other_name y x (λ e. ne (sym e)))
 
-pub groups_opened : (ms : Mappings) (g n : ℕ) (p : Part) (b i q : ℕ) (r x l : Bool) → Bounds g p → Groups p → groups_wire (own p n (Own.Group b i q r x l)) ≡ slice_set (groups_wire p) i (Some (record { pasid = p.pasid b; state = sent_as l; requests = 1 }))
+pub groups_opened :
+    (ms : Mappings) (g n : ℕ) (p : Part) (b i q : ℕ) (r x l : Bool) → Bounds g p → Groups p
+    → groups_wire (own p n (Own.Group b i q r x l)) ≡ slice_set (groups_wire p) i (Some (record { pasid = p.pasid b; state = sent_as l; requests = 1 }))
 groups_opened ms g n p b i q r x l bo gr =
-    row_set 32 i p.at_index (put p.at_index i (Some p.groups)) (group_wire p) (group_wire (own p n (Own.Group b i q r x l))) (Some (record { pasid = p.pasid b; state = sent_as l; requests = 1 }))
+    row_set 32 i p.at_index (put p.at_index i (Some p.groups)) (group_wire p) (group_wire (own p n (Own.Group b i q r x l)))
+    (Some (record { pasid = p.pasid b; state = sent_as l; requests = 1 }))
     (ap (option_map (group_wire (own p n (Own.Group b i q r x l)))) (put-same p.at_index i (Some p.groups)) ∙ ap (λ z. Some z) fresh)
     (λ j ne. put-other p.at_index i (Some p.groups) j ne)
     (λ j y ne h. old y (group_made p g y bo (gr.index_bears j y h).1))
@@ -93,9 +107,12 @@ groups_opened ms g n p b i q r x l bo gr =
         let count = count_other p p.groups y (omega arith) in
         λ j. record { pasid = p.pasid (asker j); state = state j; requests = count j }
 
-pub groups_requested : (ms : Mappings) (g n : ℕ) (p : Part) (y q : ℕ) (r x l : Bool) → LegalOwn ms g p (Own.Request y q r x l) → Groups p → groups_wire (own p n (Own.Request y q r x l)) ≡ slice_set (groups_wire p) (p.index y) (with_request l (slice_index_or (groups_wire p) (p.index y) None))
+pub groups_requested :
+    (ms : Mappings) (g n : ℕ) (p : Part) (y q : ℕ) (r x l : Bool) → LegalOwn ms g p (Own.Request y q r x l) → Groups p
+    → groups_wire (own p n (Own.Request y q r x l)) ≡ slice_set (groups_wire p) (p.index y) (with_request l (slice_index_or (groups_wire p) (p.index y) None))
 groups_requested ms g n p y q r x l le gr =
-    row_set 32 (p.index y) p.at_index p.at_index (group_wire p) (group_wire (own p n (Own.Request y q r x l))) (with_request l (slice_index_or (groups_wire p) (p.index y) None))
+    row_set 32 (p.index y) p.at_index p.at_index (group_wire p) (group_wire (own p n (Own.Request y q r x l)))
+    (with_request l (slice_index_or (groups_wire p) (p.index y) None))
     (ap (option_map (group_wire (own p n (Own.Request y q r x l)))) there ∙ ap (λ z. Some z) changed ∙ sym (ap (with_request l) found))
     (λ j ne. refl)
     (λ j z ne h. old z (other j z ne (gr.index_bears j z h).0))
@@ -104,12 +121,17 @@ groups_requested ms g n p y q r x l le gr =
     there = gr.bears_index y (ap is_outstanding le.0)
 
     found : slice_index_or (groups_wire p) (p.index y) None ≡ Some (group_wire p y)
-    found = tabulate_at 32 (λ i. option_map (group_wire p) (p.at_index i)) (p.index y) None (gr.index_low (p.index y) y there) ∙ ap (option_map (group_wire p)) there
+    found =
+        tabulate_at 32 (λ i. option_map (group_wire p) (p.at_index i)) (p.index y) None (gr.index_low (p.index y) y there)
+        ∙ ap (option_map (group_wire p)) there
 
     changed : group_wire (own p n (Own.Request y q r x l)) y ≡ record { pasid = p.pasid (p.asker y); state = sent_as l; requests = suc (count_below p.page_requests (λ k. p.group_of k == y)) }
     changed =
         let state = put-same p.group y (sent_as l) in
-        let count = count_more p y y ∙ ap (λ b. if b then suc (count_below p.page_requests (λ k. p.group_of k == y)) else count_below p.page_requests (λ k. p.group_of k == y)) (same_name y y refl) in
+        let count =
+        count_more p y y
+        ∙ ap (λ b. if b then suc (count_below p.page_requests (λ k. p.group_of k == y)) else count_below p.page_requests (λ k. p.group_of k == y))
+        (same_name y y refl) in
         λ j. record { pasid = p.pasid (p.asker y); state = state j; requests = count j }
 
     other : (j z : ℕ) → j ≢ p.index y → p.index z ≡ j → z ≢ y
@@ -122,14 +144,20 @@ groups_requested ms g n p y q r x l le gr =
         λ j. record { pasid = p.pasid (p.asker z); state = state j; requests = count j }
 
 -- where a PASID is quit, its groups that await their response are stale
-pub groups_quit : (ms : Mappings) (g n : ℕ) (p : Part) (b : ℕ) → LegalOwn ms g p (Own.Quit b) → Bindings p → Labels p → Groups p → groups_wire (own p n (Own.Quit b)) ≡ map (stale_of (p.pasid b)) (groups_wire p)
+pub groups_quit :
+    (ms : Mappings) (g n : ℕ) (p : Part) (b : ℕ) → LegalOwn ms g p (Own.Quit b) → Bindings p → Labels p → Groups p
+    → groups_wire (own p n (Own.Quit b)) ≡ map (stale_of (p.pasid b)) (groups_wire p)
 groups_quit ms g n p b l bi la gr =
     row_map 32 p.at_index (group_wire p) (group_wire (own p n (Own.Quit b))) (stale_of (p.pasid b)) refl
-    (λ i x h. ap (λ s. Some (record { pasid = p.pasid (p.asker x); state = s; requests = count_below p.page_requests (λ r. p.group_of r == x) })) (by_state x (p.group x) (gr.alive x)))
+    (λ i x h. ap (λ s. Some (record { pasid = p.pasid (p.asker x); state = s; requests = count_below p.page_requests (λ r. p.group_of r == x) }))
+    (by_state x (p.group x) (gr.alive x)))
   where
-    by_state : (x : ℕ) (s : GroupState) → (is_alive_group s ≡ true → is_off (p.pasid_state (p.asker x)) ≡ false) → stale_if (p.asker x == b) s ≡ stale_if (p.pasid (p.asker x) == p.pasid b) s
+    by_state :
+        (x : ℕ) (s : GroupState) → (is_alive_group s ≡ true → is_off (p.pasid_state (p.asker x)) ≡ false)
+        → stale_if (p.asker x == b) s ≡ stale_if (p.pasid (p.asker x) == p.pasid b) s
     by_state x Awaiting h =
-        ap (λ t. stale_if t Awaiting) (sym (pasids_differ p b (p.asker x) la (unreleased_unless p b bi (ap is_off l.0)) (unreleased_unless p (p.asker x) bi (h refl))))
+        ap (λ t. stale_if t Awaiting)
+        (sym (pasids_differ p b (p.asker x) la (unreleased_unless p b bi (ap is_off l.0)) (unreleased_unless p (p.asker x) bi (h refl))))
     by_state x Unfinished h = none (p.asker x == b) (p.pasid (p.asker x) == p.pasid b)
       where
         none : (t u : Bool) → stale_if t Unfinished ≡ stale_if u Unfinished
@@ -152,13 +180,16 @@ groups_quit ms g n p b l bi la gr =
         none false true = refl
         none false false = refl
 
-pub groups_answered : (n : ℕ) (p : Part) (c x : ℕ) (code : Code) → Groups p → groups_wire (own p n (Own.Answered c x code)) ≡ slice_set (groups_wire p) (p.index x) None
+pub groups_answered :
+    (n : ℕ) (p : Part) (c x : ℕ) (code : Code) → Groups p
+    → groups_wire (own p n (Own.Answered c x code)) ≡ slice_set (groups_wire p) (p.index x) None
 groups_answered n p c x code gr =
     row_set 32 (p.index x) p.at_index (put p.at_index (p.index x) None) (group_wire p) (group_wire (own p n (Own.Answered c x code))) None
     (ap (option_map (group_wire (own p n (Own.Answered c x code)))) (put-same p.at_index (p.index x) None))
     (λ j ne. put-other p.at_index (p.index x) None j ne)
     (λ j z ne h.
-    ap (λ s. record { pasid = p.pasid (p.asker z); state = s; requests = count_below p.page_requests (λ r. p.group_of r == z) }) (put-other p.group x Finished z (other j z ne (gr.index_bears j z h).0)))
+    ap (λ s. record { pasid = p.pasid (p.asker z); state = s; requests = count_below p.page_requests (λ r. p.group_of r == z) })
+    (put-other p.group x Finished z (other j z ne (gr.index_bears j z h).0)))
   where
     other : (j z : ℕ) → j ≢ p.index x → p.index z ≡ j → z ≢ x
     other j z ne e k = ne (sym e ∙ ap p.index k)

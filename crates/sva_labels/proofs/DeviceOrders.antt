@@ -29,7 +29,10 @@ pub not_busy : (p : Part) (t j k : ℕ) (s : OrderState) → Labels p → p.orde
 not_busy p t j k s la h un a e = absurd (cc (sym (la.itag_bears t j a).1 ∙ ap (λ x. is_busy (p.order_state x)) e ∙ ap is_busy h ∙ un))
 
 -- no order that bears an ITag changes
-pub orders_same : (ms : Mappings) (p : Part) (order : ℕ → Order) (state : ℕ → OrderState) → ((t k : ℕ) → p.at_itag t ≡ Some k → (order k ≡ p.order k) × (state k ≡ p.order_state k)) → taken_wire ms (record p { order = order; order_state = state }) ≡ taken_wire ms p
+pub orders_same :
+    (ms : Mappings) (p : Part) (order : ℕ → Order) (state : ℕ → OrderState)
+    → ((t k : ℕ) → p.at_itag t ≡ Some k → (order k ≡ p.order k) × (state k ≡ p.order_state k))
+    → taken_wire ms (record p { order = order; order_state = state }) ≡ taken_wire ms p
 orders_same ms p order state h =
     taken_same ms ms p (record p { order = order; order_state = state }) (λ t. refl) (λ t k a. (h t k a).1)
     (λ t k uses a e.
@@ -37,10 +40,14 @@ orders_same ms p order state h =
     record {
       pasid = ap (λ x. p.pasid (binding_of x)) o;
       extent = ap extent_of o;
-      slots = λ y. ap (λ x. holds_of (λ u. nat_lt u uses && (is_running (p.use_state u) && covers x (p.use_binding u) (ms.page (p.use_mapping u)))) (p.at_slot y)) o;
+      slots =
+          λ y.
+          ap (λ x. holds_of (λ u. nat_lt u uses && (is_running (p.use_state u) && covers x (p.use_binding u) (ms.page (p.use_mapping u)))) (p.at_slot y)) o;
     })
 
-pub taken_bound : (ms : Mappings) (g n : ℕ) (p : Part) (b s t : ℕ) → LegalOwn ms g p (Own.Bind b s t) → Orders p → taken_wire ms (own p n (Own.Bind b s t)) ≡ taken_wire ms p
+pub taken_bound :
+    (ms : Mappings) (g n : ℕ) (p : Part) (b s t : ℕ) → LegalOwn ms g p (Own.Bind b s t) → Orders p
+    → taken_wire ms (own p n (Own.Bind b s t)) ≡ taken_wire ms p
 taken_bound ms g n p b s t l or =
     taken_same ms ms p (own p n (Own.Bind b s t)) (λ x. refl) (λ x k a. refl)
     (λ x k uses a e. record { pasid = put-other p.pasid b t (binding_of (p.order k)) (other k (busy_unreleased p k or (ap is_busy e))); extent = refl; slots = λ y. refl })
@@ -54,16 +61,22 @@ taken_drained ms g n p b cookie bo la =
     (λ t k a. let l = busy_made p g k bo (la.itag_bears t k a).1 in
     (put-other p.order p.orders (Order.Wait cookie true) k (omega arith), put-other p.order_state p.orders Queued k (omega arith)))
 
-pub taken_invalidated : (ms : Mappings) (g n : ℕ) (p : Part) (b cookie : ℕ) → Bounds g p → Labels p → taken_wire ms (own p n (Own.Invalidate b cookie)) ≡ taken_wire ms p
+pub taken_invalidated :
+    (ms : Mappings) (g n : ℕ) (p : Part) (b cookie : ℕ) → Bounds g p → Labels p
+    → taken_wire ms (own p n (Own.Invalidate b cookie)) ≡ taken_wire ms p
 taken_invalidated ms g n p b cookie bo la =
-    orders_same ms p (put (put p.order p.orders (Order.PasidOf b)) (suc p.orders) (Order.Wait cookie false)) (put (put p.order_state p.orders Queued) (suc p.orders) Queued)
+    orders_same ms p (put (put p.order p.orders (Order.PasidOf b)) (suc p.orders) (Order.Wait cookie false))
+    (put (put p.order_state p.orders Queued) (suc p.orders) Queued)
     (λ t k a. let l = busy_made p g k bo (la.itag_bears t k a).1 in (
-      put-other (put p.order p.orders (Order.PasidOf b)) (suc p.orders) (Order.Wait cookie false) k (omega arith) ∙ put-other p.order p.orders (Order.PasidOf b) k (omega arith),
+      put-other (put p.order p.orders (Order.PasidOf b)) (suc p.orders) (Order.Wait cookie false) k (omega arith)
+          ∙ put-other p.order p.orders (Order.PasidOf b) k (omega arith),
       put-other (put p.order_state p.orders Queued) (suc p.orders) Queued k (omega arith) ∙ put-other p.order_state p.orders Queued k (omega arith),
     ))
 
 -- invalidations of ranges with the wait behind them, as an unmapping submits them
-pub taken_submitted : (ms : Mappings) (g : ℕ) (p : Part) (b q count order cookie : ℕ) → Bounds g p → Labels p → taken_wire ms (submitted p b q count order cookie) ≡ taken_wire ms p
+pub taken_submitted :
+    (ms : Mappings) (g : ℕ) (p : Part) (b q count order cookie : ℕ) → Bounds g p → Labels p
+    → taken_wire ms (submitted p b q count order cookie) ≡ taken_wire ms p
 taken_submitted ms g p b q count order cookie bo la =
     orders_same ms p (submitted p b q count order cookie).order (submitted p b q count order cookie).order_state
     (λ t k a. let l = busy_made p g k bo (la.itag_bears t k a).1 in (
@@ -75,7 +88,9 @@ taken_submitted ms g p b q count order cookie bo la =
     older : {A : Type 0} (f : ℕ → A) (many : ℕ) (new : ℕ → A) (k : ℕ) → k < p.orders → put_range f p.orders many new k ≡ f k
     older f many new k l = grind (arith, nat_tests)
 
-pub taken_passed : (ms : Mappings) (g n : ℕ) (p : Part) (k : ℕ) → LegalOwn ms g p (Own.Pass k) → Labels p → taken_wire ms (own p n (Own.Pass k)) ≡ taken_wire ms p
+pub taken_passed :
+    (ms : Mappings) (g n : ℕ) (p : Part) (k : ℕ) → LegalOwn ms g p (Own.Pass k) → Labels p
+    → taken_wire ms (own p n (Own.Pass k)) ≡ taken_wire ms p
 taken_passed ms g n p k l la =
     orders_same ms p p.order (put p.order_state k Done) (λ t j a. (refl, put-other p.order_state k Done j (not_busy p t j k Queued la l.1 refl a)))
 
@@ -86,9 +101,12 @@ taken_reset ms n p la = orders_same ms p p.order (λ k. void_queued (p.order_sta
     busy_stays s h = grind arith
 
 -- an order that is sent gets an ITag that was free, and isn't taken yet
-pub taken_sent : (ms : Mappings) (g n : ℕ) (p : Part) (k t : ℕ) → LegalOwn ms g p (Own.Send k t) → Labels p → taken_wire ms (own p n (Own.Send k t)) ≡ taken_wire ms p
+pub taken_sent :
+    (ms : Mappings) (g n : ℕ) (p : Part) (k t : ℕ) → LegalOwn ms g p (Own.Send k t) → Labels p
+    → taken_wire ms (own p n (Own.Send k t)) ≡ taken_wire ms p
 taken_sent ms g n p k t l la =
-    tabulate_same 32 (λ x. chain (taken_seen ms (own p n (Own.Send k t))) (put p.at_itag t (Some k) x)) (λ x. chain (taken_seen ms p) (p.at_itag x)) (λ x m. go x (ℕ_cases x t))
+    tabulate_same 32 (λ x. chain (taken_seen ms (own p n (Own.Send k t))) (put p.at_itag t (Some k) x)) (λ x. chain (taken_seen ms p) (p.at_itag x))
+    (λ x m. go x (ℕ_cases x t))
   where
     old : (x : ℕ) (o : Option ℕ) → p.at_itag x ≡ o → chain (taken_seen ms (own p n (Own.Send k t))) o ≡ chain (taken_seen ms p) o
     old x None h = refl
@@ -105,7 +123,9 @@ taken_sent ms g n p k t l la =
     go x (inr ne) = ap (chain (taken_seen ms (own p n (Own.Send k t)))) (put-other p.at_itag t (Some k) x ne) ∙ old x (p.at_itag x) refl
 
 -- a use that begins isn't noted
-pub taken_begun : (ms : Mappings) (g n : ℕ) (p : Part) (r m t : ℕ) → LegalOwn ms g p (Own.Begin r m t) → Bounds g p → Labels p → taken_wire ms (own p n (Own.Begin r m t)) ≡ taken_wire ms p
+pub taken_begun :
+    (ms : Mappings) (g n : ℕ) (p : Part) (r m t : ℕ) → LegalOwn ms g p (Own.Begin r m t) → Bounds g p → Labels p
+    → taken_wire ms (own p n (Own.Begin r m t)) ≡ taken_wire ms p
 taken_begun ms g n p r m t l bo la =
     taken_same ms ms p (own p n (Own.Begin r m t)) (λ x. refl) (λ x k a. refl)
     (λ x k uses a e. record { pasid = refl; extent = refl; slots = λ y. slot k uses y (bo.noted k uses e) (ℕ_cases y t) })
@@ -128,18 +148,22 @@ taken_begun ms g n p r m t l bo la =
         ∙ ap (holds_of (is_noted ms (own p n (Own.Begin r m t)) k uses)) (put-same p.at_slot t (Some p.uses))
         ∙ late uses (Labels.is_noted_running ms (own p n (Own.Begin r m t)) k p.uses) low
         ∙ sym (ap (holds_of (is_noted ms p k uses)) l.2) ∙ sym (ap (λ z. notes ms p k uses z) e)
-    slot k uses y low (inr ne) = ap (holds_of (is_noted ms (own p n (Own.Begin r m t)) k uses)) (put-other p.at_slot t (Some p.uses) y ne) ∙ old k uses y (p.at_slot y) refl
+    slot k uses y low (inr ne) =
+        ap (holds_of (is_noted ms (own p n (Own.Begin r m t)) k uses)) (put-other p.at_slot t (Some p.uses) y ne) ∙ old k uses y (p.at_slot y) refl
 
 -- one completion more: an order that is owed none any more frees its ITag, and it wasn't in the endpoint's hands
 pub taken_counted : (ms : Mappings) (n : ℕ) (p : Part) (c : ℕ) (names : ℕ → Bool) → taken_wire ms (own p n (Own.Count c names)) ≡ taken_wire ms p
 taken_counted ms n p c names =
-    tabulate_same 32 (λ t. chain (taken_seen ms (own p n (Own.Count c names))) ((own p n (Own.Count c names)).at_itag t)) (λ t. chain (taken_seen ms p) (p.at_itag t)) (λ t m. go (p.at_itag t))
+    tabulate_same 32 (λ t. chain (taken_seen ms (own p n (Own.Count c names))) ((own p n (Own.Count c names)).at_itag t))
+    (λ t. chain (taken_seen ms p) (p.at_itag t)) (λ t m. go (p.at_itag t))
   where
     split : {B : Type 0} (f : ℕ → Option B) (b : Bool) (k : ℕ) → chain f (if b then None else Some k) ≡ (if b then None else f k)
     split f true k = refl
     split f false k = refl
 
-    by_state : (k : ℕ) (b : Bool) (s : OrderState) → (if b && is_last_left s then None else taken_by ms (own p n (Own.Count c names)) k (counted_if b s)) ≡ taken_by ms p k s
+    by_state :
+        (k : ℕ) (b : Bool) (s : OrderState)
+        → (if b && is_last_left s then None else taken_by ms (own p n (Own.Count c names)) k (counted_if b s)) ≡ taken_by ms p k s
     by_state k true Queued = refl
     by_state k true Sent = refl
     by_state k true (Taken uses) = refl
@@ -151,7 +175,9 @@ taken_counted ms n p c names =
     by_state k true Void = refl
     by_state k false s = taken_by_same ms ms p (own p n (Own.Count c names)) k s (λ uses e. record { pasid = refl; extent = refl; slots = λ y. refl })
 
-    go : (o : Option ℕ) → chain (taken_seen ms (own p n (Own.Count c names))) (unless (λ k. names k && is_last_left (p.order_state k)) o) ≡ chain (taken_seen ms p) o
+    go :
+        (o : Option ℕ)
+        → chain (taken_seen ms (own p n (Own.Count c names))) (unless (λ k. names k && is_last_left (p.order_state k)) o) ≡ chain (taken_seen ms p) o
     go None = refl
     go (Some k) =
         split (taken_seen ms (own p n (Own.Count c names))) (names k && is_last_left (p.order_state k)) k ∙ by_state k (names k) (p.order_state k)
@@ -166,7 +192,9 @@ not_taken ms p k (Owing count left) h = refl
 not_taken ms p k Done h = refl
 not_taken ms p k Void h = refl
 
-pub taken_reopened : (ms : Mappings) (g n : ℕ) (p : Part) (c : ℕ) → LegalOwn ms g p (Own.Reopen c) → Resets n p → taken_wire ms (own p n (Own.Reopen c)) ≡ taken_wire ms p
+pub taken_reopened :
+    (ms : Mappings) (g n : ℕ) (p : Part) (c : ℕ) → LegalOwn ms g p (Own.Reopen c) → Resets n p
+    → taken_wire ms (own p n (Own.Reopen c)) ≡ taken_wire ms p
 taken_reopened ms g n p c l re =
     tabulate_same 32 (λ t. None) (λ t. chain (taken_seen ms p) (p.at_itag t)) (λ t m. go (p.at_itag t))
   where

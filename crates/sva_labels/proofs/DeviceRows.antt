@@ -16,17 +16,25 @@ pub option_same : {A : Type 0} (o : Option ℕ) (f g : ℕ → A) → ((k : ℕ)
 option_same None f g h = refl
 option_same (Some k) f g h = ap (λ x. Some x) (h k refl)
 
-pub row_same : {A : Type 0} (n : ℕ) (row : ℕ → Option ℕ) (f g : ℕ → A) → ((t k : ℕ) → row t ≡ Some k → g k ≡ f k) → tabulate n (λ t. option_map g (row t)) ≡ tabulate n (λ t. option_map f (row t))
+pub row_same :
+    {A : Type 0} (n : ℕ) (row : ℕ → Option ℕ) (f g : ℕ → A) → ((t k : ℕ) → row t ≡ Some k → g k ≡ f k)
+    → tabulate n (λ t. option_map g (row t)) ≡ tabulate n (λ t. option_map f (row t))
 row_same n row f g h = tabulate_same n (λ t. option_map g (row t)) (λ t. option_map f (row t)) (λ t l. option_same (row t) f g (h t))
 
 -- one label names another record, or none
-pub row_set : {A : Type 0} (n i : ℕ) (old new : ℕ → Option ℕ) (f g : ℕ → A) (v : Option A) → option_map g (new i) ≡ v → ((t : ℕ) → t ≢ i → new t ≡ old t) → ((t k : ℕ) → t ≢ i → old t ≡ Some k → g k ≡ f k) → tabulate n (λ t. option_map g (new t)) ≡ slice_set (tabulate n (λ t. option_map f (old t))) i v
+pub row_set :
+    {A : Type 0} (n i : ℕ) (old new : ℕ → Option ℕ) (f g : ℕ → A) (v : Option A) → option_map g (new i) ≡ v
+    → ((t : ℕ) → t ≢ i → new t ≡ old t) → ((t k : ℕ) → t ≢ i → old t ≡ Some k → g k ≡ f k)
+    → tabulate n (λ t. option_map g (new t)) ≡ slice_set (tabulate n (λ t. option_map f (old t))) i v
 row_set n i old new f g v here other same =
     tabulate_set n (λ t. option_map f (old t)) (λ t. option_map g (new t)) i v here
     (λ t ne. ap (λ o. option_map g o) (other t ne) ∙ option_same (old t) f g (λ k h. same t k ne h))
 
 -- what is seen of each record that a label names changes alike
-pub row_map : {A : Type 0} (n : ℕ) (row : ℕ → Option ℕ) (f g : ℕ → A) (change : Option A → Option A) → change None ≡ None → ((t k : ℕ) → row t ≡ Some k → Some (g k) ≡ change (Some (f k))) → tabulate n (λ t. option_map g (row t)) ≡ map change (tabulate n (λ t. option_map f (row t)))
+pub row_map :
+    {A : Type 0} (n : ℕ) (row : ℕ → Option ℕ) (f g : ℕ → A) (change : Option A → Option A) → change None ≡ None
+    → ((t k : ℕ) → row t ≡ Some k → Some (g k) ≡ change (Some (f k)))
+    → tabulate n (λ t. option_map g (row t)) ≡ map change (tabulate n (λ t. option_map f (row t)))
 row_map n row f g change none same =
     tabulate_same n (λ t. option_map g (row t)) (λ t. change (option_map f (row t))) (λ t l. go (row t) (same t))
     ∙ sym (tabulate_map change n (λ t. option_map f (row t)))
@@ -37,12 +45,15 @@ row_map n row f g change none same =
 
 -- The numbers that pass, each seen.
 
-pub select_seen : {B : Type 0} (n : ℕ) (p q : ℕ → Bool) (f g : ℕ → B) → ((k : ℕ) → k < n → q k ≡ p k) → ((k : ℕ) → k < n → p k ≡ true → g k ≡ f k) → map g (select n q) ≡ map f (select n p)
+pub select_seen :
+    {B : Type 0} (n : ℕ) (p q : ℕ → Bool) (f g : ℕ → B) → ((k : ℕ) → k < n → q k ≡ p k) → ((k : ℕ) → k < n → p k ≡ true → g k ≡ f k)
+    → map g (select n q) ≡ map f (select n p)
 unfolding select
 select_seen zero p q f g h k = refl
 select_seen (suc n) p q f g h k =
     map-append g (select n q) (if q n then n ∷ [] else [])
-    ∙ ap₂ (λ xs ys. xs ++ ys) (select_seen n p q f g (λ j l. h j (omega arith)) (λ j l. k j (omega arith))) (ap (λ b. map g (if b then n ∷ [] else [])) (h n (omega arith)) ∙ last (p n) refl)
+    ∙ ap₂ (λ xs ys. xs ++ ys) (select_seen n p q f g (λ j l. h j (omega arith)) (λ j l. k j (omega arith)))
+    (ap (λ b. map g (if b then n ∷ [] else [])) (h n (omega arith)) ∙ last (p n) refl)
     ∙ sym (map-append f (select n p) (if p n then n ∷ [] else []))
   where
     last : (b : Bool) → p n ≡ b → map g (if b then n ∷ [] else []) ≡ map f (if b then n ∷ [] else [])

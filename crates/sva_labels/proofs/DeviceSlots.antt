@@ -37,22 +37,34 @@ running_unreleased ms p u ow h = unreleased (p.stage (p.use_binding u)) (ow.runn
     unreleased s h = grind arith
 
 -- a new binding isn't that of a running use
-pub slots_bound : (ms : Mappings) (g n : ℕ) (p : Part) (b s t : ℕ) → LegalOwn ms g p (Own.Bind b s t) → Owners ms p → slots_wire ms (own p n (Own.Bind b s t)) ≡ slots_wire ms p
+pub slots_bound :
+    (ms : Mappings) (g n : ℕ) (p : Part) (b s t : ℕ) → LegalOwn ms g p (Own.Bind b s t) → Owners ms p
+    → slots_wire ms (own p n (Own.Bind b s t)) ≡ slots_wire ms p
 slots_bound ms g n p b s t l ow =
     row_same 16 p.at_slot (use_wire ms p) (use_wire ms (own p n (Own.Bind b s t))) (λ x u h. by_state u (p.use_state u) (λ e. other u (ow.running u e)))
   where
     other : (u : ℕ) → is_active (p.stage (p.use_binding u)) ≡ true → p.use_binding u ≢ b
     other u a e = absurd (cc (sym a ∙ ap (λ c. is_active (p.stage c)) e ∙ ap is_active l.2))
 
-    by_state : (u : ℕ) (state : UseState) → (state ≡ Running → p.use_binding u ≢ b) → seen_use state (translation_wire ms (own p n (Own.Bind b s t)) (p.use_binding u) (ms.page (p.use_mapping u)) (p.use_mapping u)) ≡ seen_use state (translation_wire ms p (p.use_binding u) (ms.page (p.use_mapping u)) (p.use_mapping u))
-    by_state u Running h = ap (λ x. RunningWire (record { pasid = x; page = ms.page (p.use_mapping u); frame = ms.frame (p.use_mapping u); write = ms.write (p.use_mapping u) })) (put-other p.pasid b t (p.use_binding u) (h refl))
+    by_state :
+        (u : ℕ) (state : UseState) → (state ≡ Running → p.use_binding u ≢ b)
+        → seen_use state (translation_wire ms (own p n (Own.Bind b s t)) (p.use_binding u) (ms.page (p.use_mapping u)) (p.use_mapping u))
+        ≡ seen_use state (translation_wire ms p (p.use_binding u) (ms.page (p.use_mapping u)) (p.use_mapping u))
+    by_state u Running h =
+        ap (λ x. RunningWire
+        (record { pasid = x; page = ms.page (p.use_mapping u); frame = ms.frame (p.use_mapping u); write = ms.write (p.use_mapping u) }))
+        (put-other p.pasid b t (p.use_binding u) (h refl))
     by_state u Dead h = refl
     by_state u Ended h = refl
 
 -- a use begins with the translation that the answer to a request left in the cache
-pub slots_begun : (ms : Mappings) (g n : ℕ) (p : Part) (r m t : ℕ) → LegalOwn ms g p (Own.Begin r m t) → Bounds g p → Labels p → Owners ms p → slots_wire ms (own p n (Own.Begin r m t)) ≡ slice_set (slots_wire ms p) t (Some (RunningWire (translation_wire ms p (p.request_binding r) (p.request_page r) m)))
+pub slots_begun :
+    (ms : Mappings) (g n : ℕ) (p : Part) (r m t : ℕ) → LegalOwn ms g p (Own.Begin r m t) → Bounds g p → Labels p → Owners ms p
+    → slots_wire ms (own p n (Own.Begin r m t))
+    ≡ slice_set (slots_wire ms p) t (Some (RunningWire (translation_wire ms p (p.request_binding r) (p.request_page r) m)))
 slots_begun ms g n p r m t l bo la ow =
-    row_set 16 t p.at_slot (put p.at_slot t (Some p.uses)) (use_wire ms p) (use_wire ms (own p n (Own.Begin r m t))) (Some (RunningWire (translation_wire ms p (p.request_binding r) (p.request_page r) m)))
+    row_set 16 t p.at_slot (put p.at_slot t (Some p.uses)) (use_wire ms p) (use_wire ms (own p n (Own.Begin r m t)))
+    (Some (RunningWire (translation_wire ms p (p.request_binding r) (p.request_page r) m)))
     (ap (option_map (use_wire ms (own p n (Own.Begin r m t)))) (put-same p.at_slot t (Some p.uses)) ∙ ap (λ x. Some x) fresh)
     (λ x ne. put-other p.at_slot t (Some p.uses) x ne)
     (λ x u ne h. old u (slot_made p g u bo (la.slot_bears x u h).1))
@@ -78,7 +90,8 @@ slots_ended ms n p u la =
     (ap (option_map (use_wire ms (own p n (Own.End u)))) (put-same p.at_slot (p.use_slot u) None))
     (λ x ne. put-other p.at_slot (p.use_slot u) None x ne)
     (λ x y ne h.
-    ap (λ s. seen_use s (translation_wire ms p (p.use_binding y) (ms.page (p.use_mapping y)) (p.use_mapping y))) (put-other p.use_state u Ended y (other x y ne (la.slot_bears x y h).0)))
+    ap (λ s. seen_use s (translation_wire ms p (p.use_binding y) (ms.page (p.use_mapping y)) (p.use_mapping y)))
+    (put-other p.use_state u Ended y (other x y ne (la.slot_bears x y h).0)))
   where
     other : (x y : ℕ) → x ≢ p.use_slot u → p.use_slot y ≡ x → y ≢ u
     other x y ne e k = ne (sym e ∙ ap p.use_slot k)

@@ -32,7 +32,9 @@ must below or x a b h k = go (below b a) refl
     go true e = e
     go false e = absurd (cc (sym h ∙ or.between x b a k e))
 
-insert_swap : {A : Type 0} (below : A → A → Bool) → IsOrder below → (a b : A) → AreApart below a b → (xs : List A) → insert_by below a (insert_by below b xs) ≡ insert_by below b (insert_by below a xs)
+insert_swap :
+    {A : Type 0} (below : A → A → Bool) → IsOrder below → (a b : A) → AreApart below a b → (xs : List A)
+    → insert_by below a (insert_by below b xs) ≡ insert_by below b (insert_by below a xs)
 insert_swap below or a b ab [] = go (below b a) refl
   where
     go : (t : Bool) → below b a ≡ t → insert_by below a (b ∷ []) ≡ insert_by below b (a ∷ [])
@@ -41,10 +43,15 @@ insert_swap below or a b ab [] = go (below b a) refl
 insert_swap below or a b ab (x ∷ xs) = go (below x a) (below x b) refl refl (insert_swap below or a b ab xs)
   where
     both : (t : Bool) → below b a ≡ t → below x a ≡ false → below x b ≡ false → insert_by below a (b ∷ x ∷ xs) ≡ insert_by below b (a ∷ x ∷ xs)
-    both true e ea eb = insert_behind below a b (x ∷ xs) e ∙ ap (λ ys. b ∷ ys) (insert_here below a x xs ea) ∙ sym (insert_here below b a (x ∷ xs) (ab ∙ ap not e))
-    both false e ea eb = insert_here below a b (x ∷ xs) e ∙ sym (insert_behind below b a (x ∷ xs) (ab ∙ ap not e) ∙ ap (λ ys. a ∷ ys) (insert_here below b x xs eb))
+    both true e ea eb =
+        insert_behind below a b (x ∷ xs) e ∙ ap (λ ys. b ∷ ys) (insert_here below a x xs ea) ∙ sym (insert_here below b a (x ∷ xs) (ab ∙ ap not e))
+    both false e ea eb =
+        insert_here below a b (x ∷ xs) e ∙ sym (insert_behind below b a (x ∷ xs) (ab ∙ ap not e) ∙ ap (λ ys. a ∷ ys) (insert_here below b x xs eb))
 
-    go : (xa xb : Bool) → below x a ≡ xa → below x b ≡ xb → insert_by below a (insert_by below b xs) ≡ insert_by below b (insert_by below a xs) → insert_by below a (if xb then x ∷ insert_by below b xs else b ∷ x ∷ xs) ≡ insert_by below b (if xa then x ∷ insert_by below a xs else a ∷ x ∷ xs)
+    go :
+        (xa xb : Bool) → below x a ≡ xa → below x b ≡ xb
+        → insert_by below a (insert_by below b xs) ≡ insert_by below b (insert_by below a xs)
+        → insert_by below a (if xb then x ∷ insert_by below b xs else b ∷ x ∷ xs) ≡ insert_by below b (if xa then x ∷ insert_by below a xs else a ∷ x ∷ xs)
     go true true ea eb rest =
         insert_behind below a x (insert_by below b xs) ea ∙ ap (λ ys. x ∷ ys) rest ∙ sym (insert_behind below b x (insert_by below a xs) eb)
     go true false ea eb rest =
@@ -61,14 +68,18 @@ AllApart below a [] = Unit {0}
 AllApart below a (x ∷ xs) = AreApart below a x × AllApart below a xs
 
 -- an element in the middle is inserted like one in front
-sorted_middle : {A : Type 0} (below : A → A → Bool) → IsOrder below → (a : A) (xs ys : List A) → AllApart below a xs → sorted_by below (xs ++ a ∷ ys) ≡ insert_by below a (sorted_by below (xs ++ ys))
+sorted_middle :
+    {A : Type 0} (below : A → A → Bool) → IsOrder below → (a : A) (xs ys : List A) → AllApart below a xs
+    → sorted_by below (xs ++ a ∷ ys) ≡ insert_by below a (sorted_by below (xs ++ ys))
 sorted_middle below or a [] ys h = refl
 sorted_middle below or a (x ∷ xs) ys h =
     ap (insert_by below x) (sorted_middle below or a xs ys h.1) ∙ sym (insert_swap below or a x h.0 (sorted_by below (xs ++ ys)))
 
 -- Numbers that pass, each seen, and sorted: one more passes.
 
-apart_select : {A : Type 0} (below : A → A → Bool) (a : A) (g : ℕ → A) (n : ℕ) (p : ℕ → Bool) → ((k : ℕ) → k < n → p k ≡ true → AreApart below a (g k)) → AllApart below a (map g (select n p))
+apart_select :
+    {A : Type 0} (below : A → A → Bool) (a : A) (g : ℕ → A) (n : ℕ) (p : ℕ → Bool) → ((k : ℕ) → k < n → p k ≡ true → AreApart below a (g k))
+    → AllApart below a (map g (select n p))
 unfolding select
 apart_select below a g zero p h = tt
 apart_select below a g (suc n) p h = go (p n) refl (map g (select n p)) (apart_select below a g n p (λ k l. h k (omega arith)))
@@ -78,30 +89,45 @@ apart_select below a g (suc n) p h = go (p n) refl (map g (select n p)) (apart_s
     both [] ys i j = j
     both (x ∷ xs) ys i j = (i.0, both xs ys i.1 j)
 
-    go : (b : Bool) → p n ≡ b → (xs : List _) → AllApart below a xs → ((ys : List ℕ) → map g (select n p ++ ys) ≡ xs ++ map g ys) → AllApart below a (map g (select n p ++ (if b then n ∷ [] else [])))
+    go :
+        (b : Bool) → p n ≡ b → (xs : List _) → AllApart below a xs → ((ys : List ℕ) → map g (select n p ++ ys) ≡ xs ++ map g ys)
+        → AllApart below a (map g (select n p ++ (if b then n ∷ [] else [])))
     go true e xs i m = subst (λ ys. AllApart below a ys) (sym (m (n ∷ []))) (both xs (g n ∷ []) i (h n (omega arith) e, tt))
     go false e xs i m = subst (λ ys. AllApart below a ys) (sym (m [])) (both xs [] i tt)
 
 -- the last number, in front of what follows
-last_seen : {A : Type 0} (g : ℕ → A) (n : ℕ) (p : ℕ → Bool) (b : Bool) (ys : List A) → p n ≡ b → map g (select (suc n) p) ++ ys ≡ map g (select n p) ++ (if b then g n ∷ ys else ys)
+last_seen :
+    {A : Type 0} (g : ℕ → A) (n : ℕ) (p : ℕ → Bool) (b : Bool) (ys : List A) → p n ≡ b
+    → map g (select (suc n) p) ++ ys ≡ map g (select n p) ++ (if b then g n ∷ ys else ys)
 unfolding select
 last_seen g n p true ys e =
-    ap (λ t. map g (select n p ++ (if t then n ∷ [] else [])) ++ ys) e ∙ ap (λ xs. xs ++ ys) (map-append g (select n p) (n ∷ [])) ∙ append_assoc (map g (select n p)) (g n ∷ []) ys
+    ap (λ t. map g (select n p ++ (if t then n ∷ [] else [])) ++ ys) e
+    ∙ ap (λ xs. xs ++ ys) (map-append g (select n p) (n ∷ []))
+    ∙ append_assoc (map g (select n p)) (g n ∷ []) ys
 last_seen g n p false ys e =
     ap (λ t. map g (select n p ++ (if t then n ∷ [] else [])) ++ ys) e ∙ ap (λ xs. map g xs ++ ys) (append-nil (select n p))
 
-sorted_more : {A : Type 0} (below : A → A → Bool) → IsOrder below → (g : ℕ → A) (n r : ℕ) (p q : ℕ → Bool) (ys : List A) → r < n → p r ≡ false → q r ≡ true → ((k : ℕ) → k < n → k ≢ r → q k ≡ p k) → ((k : ℕ) → k < n → p k ≡ true → AreApart below (g r) (g k)) → sorted_by below (map g (select n q) ++ ys) ≡ insert_by below (g r) (sorted_by below (map g (select n p) ++ ys))
+sorted_more :
+    {A : Type 0} (below : A → A → Bool) → IsOrder below → (g : ℕ → A) (n r : ℕ) (p q : ℕ → Bool) (ys : List A) → r < n → p r ≡ false
+    → q r ≡ true → ((k : ℕ) → k < n → k ≢ r → q k ≡ p k) → ((k : ℕ) → k < n → p k ≡ true → AreApart below (g r) (g k))
+    → sorted_by below (map g (select n q) ++ ys) ≡ insert_by below (g r) (sorted_by below (map g (select n p) ++ ys))
 sorted_more below or g zero r p q ys l pr qr same apart = absurd (omega arith)
 sorted_more below or g (suc n) r p q ys l pr qr same apart =
     go (ℕ_cases r n) (λ m. sorted_more below or g n r p q (if p n then g n ∷ ys else ys) m pr qr (λ k m. same k (omega arith)) (λ k m. apart k (omega arith)))
   where
-    alike : select n q ≡ select n p → r ≡ n → sorted_by below (map g (select (suc n) q) ++ ys) ≡ insert_by below (g r) (sorted_by below (map g (select (suc n) p) ++ ys))
+    alike :
+        select n q ≡ select n p → r ≡ n
+        → sorted_by below (map g (select (suc n) q) ++ ys) ≡ insert_by below (g r) (sorted_by below (map g (select (suc n) p) ++ ys))
     alike s e =
         ap (sorted_by below) (last_seen g n q true ys (sym (ap q e) ∙ qr) ∙ ap₂ (λ ks x. map g ks ++ x ∷ ys) s (sym (ap g e)))
         ∙ sorted_middle below or (g r) (map g (select n p)) ys (apart_select below (g r) g n p (λ k m. apart k (omega arith)))
         ∙ sym (ap (λ xs. insert_by below (g r) (sorted_by below xs)) (last_seen g n p false ys (sym (ap p e) ∙ pr)))
 
-    go : (r ≡ n) ⊎ (r ≢ n) → (r < n → sorted_by below (map g (select n q) ++ (if p n then g n ∷ ys else ys)) ≡ insert_by below (g r) (sorted_by below (map g (select n p) ++ (if p n then g n ∷ ys else ys)))) → sorted_by below (map g (select (suc n) q) ++ ys) ≡ insert_by below (g r) (sorted_by below (map g (select (suc n) p) ++ ys))
+    go :
+        (r ≡ n) ⊎ (r ≢ n)
+        → (r < n → sorted_by below (map g (select n q) ++ (if p n then g n ∷ ys else ys))
+        ≡ insert_by below (g r) (sorted_by below (map g (select n p) ++ (if p n then g n ∷ ys else ys))))
+        → sorted_by below (map g (select (suc n) q) ++ ys) ≡ insert_by below (g r) (sorted_by below (map g (select (suc n) p) ++ ys))
     go (inl e) rest = alike (select_same n q p (λ k m. same k (omega arith) (less k m))) e
       where
         less : (k : ℕ) → k < n → k ≢ r
@@ -111,7 +137,10 @@ sorted_more below or g (suc n) r p q ys l pr qr same apart =
         ∙ rest (omega arith)
         ∙ sym (ap (λ xs. insert_by below (g r) (sorted_by below xs)) (last_seen g n p (p n) ys refl))
 
-pub sorted_with : {A : Type 0} (below : A → A → Bool) → IsOrder below → (g : ℕ → A) (n r : ℕ) (p q : ℕ → Bool) → r < n → p r ≡ false → q r ≡ true → ((k : ℕ) → k < n → k ≢ r → q k ≡ p k) → ((k : ℕ) → k < n → p k ≡ true → AreApart below (g r) (g k)) → sorted_by below (map g (select n q)) ≡ insert_by below (g r) (sorted_by below (map g (select n p)))
+pub sorted_with :
+    {A : Type 0} (below : A → A → Bool) → IsOrder below → (g : ℕ → A) (n r : ℕ) (p q : ℕ → Bool) → r < n → p r ≡ false → q r ≡ true
+    → ((k : ℕ) → k < n → k ≢ r → q k ≡ p k) → ((k : ℕ) → k < n → p k ≡ true → AreApart below (g r) (g k))
+    → sorted_by below (map g (select n q)) ≡ insert_by below (g r) (sorted_by below (map g (select n p)))
 sorted_with below or g n r p q l pr qr same apart =
     sym (ap (sorted_by below) (append-nil (map g (select n q))))
     ∙ sorted_more below or g n r p q [] l pr qr same apart
@@ -163,35 +192,54 @@ insert_first : {A : Type 0} (below : A → A → Bool) (a : A) (xs : List A) →
 insert_first below a [] h = refl
 insert_first below a (x ∷ xs) h = insert_here below a x xs h.0
 
-filter_insert : {A : Type 0} (below : A → A → Bool) → IsOrder below → (keeps : A → Bool) (a : A) (xs : List A) → Rises below xs → filter keeps (insert_by below a xs) ≡ (if keeps a then insert_by below a (filter keeps xs) else filter keeps xs)
+filter_insert :
+    {A : Type 0} (below : A → A → Bool) → IsOrder below → (keeps : A → Bool) (a : A) (xs : List A) → Rises below xs
+    → filter keeps (insert_by below a xs) ≡ (if keeps a then insert_by below a (filter keeps xs) else filter keeps xs)
 filter_insert below or keeps a [] h = refl
 filter_insert below or keeps a (x ∷ xs) h = go (below x a) refl (filter_insert below or keeps a xs h.1)
   where
-    behind : (k : Bool) → below x a ≡ true → (j : Bool) → filter keeps (insert_by below a xs) ≡ (if j then insert_by below a (filter keeps xs) else filter keeps xs) → (if k then x ∷ filter keeps (insert_by below a xs) else filter keeps (insert_by below a xs)) ≡ (if j then insert_by below a (if k then x ∷ filter keeps xs else filter keeps xs) else (if k then x ∷ filter keeps xs else filter keeps xs))
+    behind :
+        (k : Bool) → below x a ≡ true → (j : Bool)
+        → filter keeps (insert_by below a xs) ≡ (if j then insert_by below a (filter keeps xs) else filter keeps xs)
+        → (if k then x ∷ filter keeps (insert_by below a xs) else filter keeps (insert_by below a xs))
+        ≡ (if j then insert_by below a (if k then x ∷ filter keeps xs else filter keeps xs) else (if k then x ∷ filter keeps xs else filter keeps xs))
     behind true e true rest = ap (λ z. x ∷ z) rest ∙ sym (insert_behind below a x (filter keeps xs) e)
     behind true e false rest = ap (λ z. x ∷ z) rest
     behind false e true rest = rest
     behind false e false rest = rest
 
-    before : (j : Bool) → below x a ≡ false → (if j then a ∷ filter keeps (x ∷ xs) else filter keeps (x ∷ xs)) ≡ (if j then insert_by below a (filter keeps (x ∷ xs)) else filter keeps (x ∷ xs))
+    before :
+        (j : Bool) → below x a ≡ false
+        → (if j then a ∷ filter keeps (x ∷ xs) else filter keeps (x ∷ xs)) ≡ (if j then insert_by below a (filter keeps (x ∷ xs)) else filter keeps (x ∷ xs))
     before true e = sym (insert_first below a (filter keeps (x ∷ xs)) (none_filter below a keeps (x ∷ xs) (e, none_higher below or x a xs e h.0)))
     before false e = refl
 
-    go : (b : Bool) → below x a ≡ b → filter keeps (insert_by below a xs) ≡ (if keeps a then insert_by below a (filter keeps xs) else filter keeps xs) → filter keeps (if b then x ∷ insert_by below a xs else a ∷ x ∷ xs) ≡ (if keeps a then insert_by below a (filter keeps (x ∷ xs)) else filter keeps (x ∷ xs))
+    go :
+        (b : Bool) → below x a ≡ b
+        → filter keeps (insert_by below a xs) ≡ (if keeps a then insert_by below a (filter keeps xs) else filter keeps xs)
+        → filter keeps (if b then x ∷ insert_by below a xs else a ∷ x ∷ xs)
+        ≡ (if keeps a then insert_by below a (filter keeps (x ∷ xs)) else filter keeps (x ∷ xs))
     go true e rest = behind (keeps x) e (keeps a) rest
     go false e rest = before (keeps a) e
 
-pub filter_sorted : {A : Type 0} (below : A → A → Bool) → IsOrder below → (keeps : A → Bool) (xs : List A) → filter keeps (sorted_by below xs) ≡ sorted_by below (filter keeps xs)
+pub filter_sorted :
+    {A : Type 0} (below : A → A → Bool) → IsOrder below → (keeps : A → Bool) (xs : List A)
+    → filter keeps (sorted_by below xs) ≡ sorted_by below (filter keeps xs)
 filter_sorted below or keeps [] = refl
 filter_sorted below or keeps (x ∷ xs) =
     filter_insert below or keeps x (sorted_by below xs) (rises_sorted below or xs) ∙ go (keeps x) (filter_sorted below or keeps xs)
   where
-    go : (b : Bool) → filter keeps (sorted_by below xs) ≡ sorted_by below (filter keeps xs) → (if b then insert_by below x (filter keeps (sorted_by below xs)) else filter keeps (sorted_by below xs)) ≡ sorted_by below (if b then x ∷ filter keeps xs else filter keeps xs)
+    go :
+        (b : Bool) → filter keeps (sorted_by below xs) ≡ sorted_by below (filter keeps xs)
+        → (if b then insert_by below x (filter keeps (sorted_by below xs)) else filter keeps (sorted_by below xs))
+        ≡ sorted_by below (if b then x ∷ filter keeps xs else filter keeps xs)
     go true rest = ap (insert_by below x) rest
     go false rest = rest
 
 -- what a filter leaves of the numbers that pass
-pub filter_select : {A : Type 0} (keeps : A → Bool) (f : ℕ → A) (n : ℕ) (p : ℕ → Bool) → filter keeps (map f (select n p)) ≡ map f (select n (λ k. p k && keeps (f k)))
+pub filter_select :
+    {A : Type 0} (keeps : A → Bool) (f : ℕ → A) (n : ℕ) (p : ℕ → Bool)
+    → filter keeps (map f (select n p)) ≡ map f (select n (λ k. p k && keeps (f k)))
 unfolding select
 filter_select keeps f zero p = refl
 filter_select keeps f (suc n) p =

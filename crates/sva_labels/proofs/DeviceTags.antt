@@ -33,7 +33,9 @@ pub out_unreleased : (p : Part) (r : ℕ) → Bindings p → Requests p → is_o
 out_unreleased p r bi ra h = unreleased_unless p (p.request_binding r) bi (ra.alive r h)
 
 -- a new binding isn't that of a request
-pub tags_bound : (ms : Mappings) (g n : ℕ) (p : Part) (b s t : ℕ) → LegalOwn ms g p (Own.Bind b s t) → Bounds g p → Labels p → Requests p → tags_wire (own p n (Own.Bind b s t)) ≡ tags_wire p
+pub tags_bound :
+    (ms : Mappings) (g n : ℕ) (p : Part) (b s t : ℕ) → LegalOwn ms g p (Own.Bind b s t) → Bounds g p → Labels p → Requests p
+    → tags_wire (own p n (Own.Bind b s t)) ≡ tags_wire p
 tags_bound ms g n p b s t l bo la ra =
     row_same 32 p.at_tag (request_wire p) (request_wire (own p n (Own.Bind b s t)))
     (λ x r h. let pasid = put-other p.pasid b t (p.request_binding r) (other r (out_made p g r bo (la.tag_bears x r h).1)) in
@@ -42,9 +44,12 @@ tags_bound ms g n p b s t l bo la ra =
     other : (r : ℕ) → r < p.requests → p.request_binding r ≢ b
     other r m e = ra.bound r m (ap p.stage e ∙ l.2)
 
-pub tags_asked : (n : ℕ) (p : Part) (g b q t : ℕ) → Bounds g p → Labels p → tags_wire (own p n (Own.Ask b q t)) ≡ slice_set (tags_wire p) t (Some (record { pasid = p.pasid b; page = q; is_doomed = false }))
+pub tags_asked :
+    (n : ℕ) (p : Part) (g b q t : ℕ) → Bounds g p → Labels p
+    → tags_wire (own p n (Own.Ask b q t)) ≡ slice_set (tags_wire p) t (Some (record { pasid = p.pasid b; page = q; is_doomed = false }))
 tags_asked n p g b q t bo la =
-    row_set 32 t p.at_tag (put p.at_tag t (Some p.requests)) (request_wire p) (request_wire (own p n (Own.Ask b q t))) (Some (record { pasid = p.pasid b; page = q; is_doomed = false }))
+    row_set 32 t p.at_tag (put p.at_tag t (Some p.requests)) (request_wire p) (request_wire (own p n (Own.Ask b q t)))
+    (Some (record { pasid = p.pasid b; page = q; is_doomed = false }))
     (ap (option_map (request_wire (own p n (Own.Ask b q t)))) (put-same p.at_tag t (Some p.requests)) ∙ ap (λ r. Some r) fresh)
     (λ x ne. put-other p.at_tag t (Some p.requests) x ne)
     (λ x r ne h. old r (out_made p g r bo (la.tag_bears x r h).1))
@@ -68,20 +73,29 @@ tags_asked n p g b q t bo la =
         }
 
 -- the request of a tag is over
-tags_over : (p : Part) (r : ℕ) → Labels p → is_out (p.request r) ≡ true → tabulate 32 (λ t. option_map (request_wire (record p { request = put p.request r Over })) (put p.at_tag (p.request_tag r) None t)) ≡ slice_set (tags_wire p) (p.request_tag r) None
+tags_over :
+    (p : Part) (r : ℕ) → Labels p → is_out (p.request r) ≡ true
+    → tabulate 32 (λ t. option_map (request_wire (record p { request = put p.request r Over })) (put p.at_tag (p.request_tag r) None t))
+    ≡ slice_set (tags_wire p) (p.request_tag r) None
 tags_over p r la h =
-    row_set 32 (p.request_tag r) p.at_tag (put p.at_tag (p.request_tag r) None) (request_wire p) (request_wire (record p { request = put p.request r Over })) None
+    row_set 32 (p.request_tag r) p.at_tag (put p.at_tag (p.request_tag r) None) (request_wire p)
+    (request_wire (record p { request = put p.request r Over })) None
     (ap (option_map (request_wire (record p { request = put p.request r Over }))) (put-same p.at_tag (p.request_tag r) None))
     (λ x ne. put-other p.at_tag (p.request_tag r) None x ne)
-    (λ x y ne k. ap (λ state. record { pasid = p.pasid (p.request_binding y); page = p.request_page y; is_doomed = is_doomed state }) (put-other p.request r Over y (other x y ne (la.tag_bears x y k).0)))
+    (λ x y ne k. ap (λ state. record { pasid = p.pasid (p.request_binding y); page = p.request_page y; is_doomed = is_doomed state })
+    (put-other p.request r Over y (other x y ne (la.tag_bears x y k).0)))
   where
     other : (x y : ℕ) → x ≢ p.request_tag r → p.request_tag y ≡ x → y ≢ r
     other x y ne e k = ne (sym e ∙ ap p.request_tag k)
 
-pub tags_kept : (ms : Mappings) (g n : ℕ) (p : Part) (c r m : ℕ) → LegalOwn ms g p (Own.Keep c r m) → Labels p → tags_wire (own p n (Own.Keep c r m)) ≡ slice_set (tags_wire p) (p.request_tag r) None
+pub tags_kept :
+    (ms : Mappings) (g n : ℕ) (p : Part) (c r m : ℕ) → LegalOwn ms g p (Own.Keep c r m) → Labels p
+    → tags_wire (own p n (Own.Keep c r m)) ≡ slice_set (tags_wire p) (p.request_tag r) None
 tags_kept ms g n p c r m l la = tags_over p r la (ap is_out l.1)
 
-pub tags_forgotten : (ms : Mappings) (g n : ℕ) (p : Part) (c r : ℕ) → LegalOwn ms g p (Own.Forget c r) → Labels p → tags_wire (own p n (Own.Forget c r)) ≡ slice_set (tags_wire p) (p.request_tag r) None
+pub tags_forgotten :
+    (ms : Mappings) (g n : ℕ) (p : Part) (c r : ℕ) → LegalOwn ms g p (Own.Forget c r) → Labels p
+    → tags_wire (own p n (Own.Forget c r)) ≡ slice_set (tags_wire p) (p.request_tag r) None
 tags_forgotten ms g n p c r l la = tags_over p r la l.2
 
 pub tags_cleared : (n : ℕ) (p : Part) (c : ℕ) → tags_wire (own p n (Own.Reset_arrives c)) ≡ map (λ tag. None) (tags_wire p)
@@ -119,9 +133,12 @@ pasids_differ p b d la h k = go (ℕ_cases d b)
     go (inl e) = same (p.pasid d) (p.pasid b) (ap p.pasid e) ∙ sym (same d b e)
     go (inr ne) = other (p.pasid d) (p.pasid b) (λ e. ne (one e)) ∙ sym (other d b ne)
 
-pub covers_same : (p : Part) (k b q : ℕ) → Labels p → Orders p → is_busy (p.order_state k) ≡ true → is_unreleased (p.stage b) ≡ true → Finding.covers (p.pasid (binding_of (p.order k))) (extent_of (p.order k)) (p.pasid b) q ≡ covers (p.order k) b q
+pub covers_same :
+    (p : Part) (k b q : ℕ) → Labels p → Orders p → is_busy (p.order_state k) ≡ true → is_unreleased (p.stage b) ≡ true
+    → Finding.covers (p.pasid (binding_of (p.order k))) (extent_of (p.order k)) (p.pasid b) q ≡ covers (p.order k) b q
 covers_same p k b q la or h un =
-    ap (λ x. x && is_within (extent_of (p.order k)) q) (pasids_differ p (binding_of (p.order k)) b la (busy_unreleased p k or h) un) ∙ by_order (p.order k) (or.no_wait k h)
+    ap (λ x. x && is_within (extent_of (p.order k)) q) (pasids_differ p (binding_of (p.order k)) b la (busy_unreleased p k or h) un)
+    ∙ by_order (p.order k) (or.no_wait k h)
   where
     turn : (x y : ℕ) → (x == y) ≡ (y == x)
     turn x y = grind (arith, nat_tests)
@@ -132,13 +149,16 @@ covers_same p k b q la or h un =
     by_order (Wait c d) h = absurd (cc)
 
 -- an invalidation that is taken dooms the requests that it covers
-pub tags_taken : (ms : Mappings) (g n : ℕ) (p : Part) (c k : ℕ) → LegalOwn ms g p (Own.Take c k) → Bindings p → Labels p → Requests p → Orders p → tags_wire (own p n (Own.Take c k)) ≡ map (doomed (p.pasid (binding_of (p.order k))) (extent_of (p.order k))) (tags_wire p)
+pub tags_taken :
+    (ms : Mappings) (g n : ℕ) (p : Part) (c k : ℕ) → LegalOwn ms g p (Own.Take c k) → Bindings p → Labels p → Requests p → Orders p
+    → tags_wire (own p n (Own.Take c k)) ≡ map (doomed (p.pasid (binding_of (p.order k))) (extent_of (p.order k))) (tags_wire p)
 tags_taken ms g n p c k l bi la ra or =
     row_map 32 p.at_tag (request_wire p) (request_wire (own p n (Own.Take c k))) (doomed (p.pasid (binding_of (p.order k))) (extent_of (p.order k))) refl
     (λ t r h.
     ap (λ d. Some (record { pasid = p.pasid (p.request_binding r); page = p.request_page r; is_doomed = d }))
     (by_state (p.request r) (la.tag_bears t r h).1 (covers (p.order k) (p.request_binding r) (p.request_page r))
-    ∙ sym (ap (λ x. is_doomed (p.request r) || x) (covers_same p k (p.request_binding r) (p.request_page r) la or (ap is_busy (la.sent c k l)) (out_unreleased p r bi ra (la.tag_bears t r h).1)))))
+    ∙ sym (ap (λ x. is_doomed (p.request r) || x)
+    (covers_same p k (p.request_binding r) (p.request_page r) la or (ap is_busy (la.sent c k l)) (out_unreleased p r bi ra (la.tag_bears t r h).1)))))
   where
     by_state : (s : RequestState) → is_out s ≡ true → (x : Bool) → is_doomed (doom_if x s) ≡ (is_doomed s || x)
     by_state Out h true = refl

@@ -25,7 +25,9 @@ pub record SameTaken (ms other : Mappings) (p q : Part) (k uses : ℕ) : Type 0 
   pub extent : extent_of (q.order k) ≡ extent_of (p.order k)
   pub slots : (t : ℕ) → notes other q k uses t ≡ notes ms p k uses t
 
-pub taken_by_same : (ms other : Mappings) (p q : Part) (k : ℕ) (s : OrderState) → ((uses : ℕ) → s ≡ Taken uses → SameTaken ms other p q k uses) → taken_by other q k s ≡ taken_by ms p k s
+pub taken_by_same :
+    (ms other : Mappings) (p q : Part) (k : ℕ) (s : OrderState) → ((uses : ℕ) → s ≡ Taken uses → SameTaken ms other p q k uses)
+    → taken_by other q k s ≡ taken_by ms p k s
 taken_by_same ms other p q k Queued h = refl
 taken_by_same ms other p q k Sent h = refl
 taken_by_same ms other p q k (Taken uses) h =
@@ -38,11 +40,18 @@ taken_by_same ms other p q k Done h = refl
 taken_by_same ms other p q k Void h = refl
 
 -- so the table is, where ITags and the orders that bear one stay as they are
-pub taken_same : (ms other : Mappings) (p q : Part) → ((t : ℕ) → q.at_itag t ≡ p.at_itag t) → ((t k : ℕ) → p.at_itag t ≡ Some k → q.order_state k ≡ p.order_state k) → ((t k uses : ℕ) → p.at_itag t ≡ Some k → p.order_state k ≡ Taken uses → SameTaken ms other p q k uses) → taken_wire other q ≡ taken_wire ms p
+pub taken_same :
+    (ms other : Mappings) (p q : Part) → ((t : ℕ) → q.at_itag t ≡ p.at_itag t)
+    → ((t k : ℕ) → p.at_itag t ≡ Some k → q.order_state k ≡ p.order_state k)
+    → ((t k uses : ℕ) → p.at_itag t ≡ Some k → p.order_state k ≡ Taken uses → SameTaken ms other p q k uses)
+    → taken_wire other q ≡ taken_wire ms p
 taken_same ms other p q itags states same =
     tabulate_same 32 (λ t. chain (taken_seen other q) (q.at_itag t)) (λ t. chain (taken_seen ms p) (p.at_itag t))
     (λ t l. ap (λ o. chain (taken_seen other q) o) (itags t) ∙ go (p.at_itag t) (states t) (λ k uses. same t k uses))
   where
-    go : (o : Option ℕ) → ((k : ℕ) → o ≡ Some k → q.order_state k ≡ p.order_state k) → ((k uses : ℕ) → o ≡ Some k → p.order_state k ≡ Taken uses → SameTaken ms other p q k uses) → chain (taken_seen other q) o ≡ chain (taken_seen ms p) o
+    go :
+        (o : Option ℕ) → ((k : ℕ) → o ≡ Some k → q.order_state k ≡ p.order_state k)
+        → ((k uses : ℕ) → o ≡ Some k → p.order_state k ≡ Taken uses → SameTaken ms other p q k uses)
+        → chain (taken_seen other q) o ≡ chain (taken_seen ms p) o
     go None s h = refl
     go (Some k) s h = ap (taken_by other q k) (s k refl) ∙ taken_by_same ms other p q k (p.order_state k) (λ uses e. h k uses refl e)

@@ -63,7 +63,10 @@ unfolding sum_below count_below
 sum_more zero f p = omega arith
 sum_more (suc n) f p = go (p n) (sum_more n f p)
   where
-    go : (b : Bool) → sum_below n (λ i. if p i then suc (f i) else f i) ≡ count_below n p + sum_below n f → sum_below n (λ i. if p i then suc (f i) else f i) + (if b then suc (f n) else f n) ≡ (if b then suc (count_below n p) else count_below n p) + (sum_below n f + f n)
+    go :
+        (b : Bool) → sum_below n (λ i. if p i then suc (f i) else f i) ≡ count_below n p + sum_below n f
+        → sum_below n (λ i. if p i then suc (f i) else f i) + (if b then suc (f n) else f n)
+        ≡ (if b then suc (count_below n p) else count_below n p) + (sum_below n f + f n)
     go true h = omega (arith, h)
     go false h = omega (arith, h)
 
@@ -75,7 +78,9 @@ of_group group_of n (Some g) = count_below n (λ r. group_of r == g)
 abbrev is_one : (x : ℕ) → Option ℕ → Bool
 is_one x o = holds_of (λ g. x == g) o
 
-next_of_group : (group_of : ℕ → ℕ) (n : ℕ) (o : Option ℕ) → of_group group_of (suc n) o ≡ (if is_one (group_of n) o then suc (of_group group_of n o) else of_group group_of n o)
+next_of_group :
+    (group_of : ℕ → ℕ) (n : ℕ) (o : Option ℕ)
+    → of_group group_of (suc n) o ≡ (if is_one (group_of n) o then suc (of_group group_of n o) else of_group group_of n o)
 unfolding count_below
 next_of_group group_of n None = refl
 next_of_group group_of n (Some g) = refl
@@ -87,7 +92,9 @@ none_yet group_of (Some g) = refl
 
 -- one place alone has it
 count_once : (n : ℕ) (p : ℕ → Bool) (k : ℕ) → k < n → p k ≡ true → ((j : ℕ) → p j ≡ true → j ≡ k) → count_below n p ≡ 1
-count_once n p k l h one = count_off n p (λ j. (p j && not (j == k))) k l h (here (p k)) (λ j ne. other j (p j) (j == k) refl ne) ∙ ap suc (count_zero n (λ j. p j && not (j == k)) (λ j m. none j (p j) refl))
+count_once n p k l h one =
+    count_off n p (λ j. (p j && not (j == k))) k l h (here (p k)) (λ j ne. other j (p j) (j == k) refl ne)
+    ∙ ap suc (count_zero n (λ j. p j && not (j == k)) (λ j m. none j (p j) refl))
   where
     here : (b : Bool) → (b && not (k == k)) ≡ false
     here b = grind (arith, nat_tests)
@@ -109,11 +116,16 @@ count_once n p k l h one = count_off n p (λ j. (p j && not (j == k))) k l h (he
     none j true e = ap not (itself j (one j e))
 
 -- over a table of labels that names each outstanding group once
-sum_groups : (group_of : ℕ → ℕ) (out : ℕ → Bool) (at : ℕ → Option ℕ) (label_of : ℕ → ℕ) → ((i g : ℕ) → at i ≡ Some g → (label_of g ≡ i) × (out g ≡ true)) → ((g : ℕ) → out g ≡ true → (at (label_of g) ≡ Some g) × (label_of g < 32)) → (n : ℕ) → sum_below 32 (λ i. of_group group_of n (at i)) ≡ count_below n (λ r. out (group_of r))
+sum_groups :
+    (group_of : ℕ → ℕ) (out : ℕ → Bool) (at : ℕ → Option ℕ) (label_of : ℕ → ℕ)
+    → ((i g : ℕ) → at i ≡ Some g → (label_of g ≡ i) × (out g ≡ true))
+    → ((g : ℕ) → out g ≡ true → (at (label_of g) ≡ Some g) × (label_of g < 32)) → (n : ℕ)
+    → sum_below 32 (λ i. of_group group_of n (at i)) ≡ count_below n (λ r. out (group_of r))
 unfolding count_below
 sum_groups group_of out at label_of bears there zero = sum_same 32 (λ i. of_group group_of 0 (at i)) (λ i. 0) (λ i l. none_yet group_of (at i)) ∙ sum_zero 32
 sum_groups group_of out at label_of bears there (suc n) =
-    sum_same 32 (λ i. of_group group_of (suc n) (at i)) (λ i. if is_one (group_of n) (at i) then suc (of_group group_of n (at i)) else of_group group_of n (at i)) (λ i l. next_of_group group_of n (at i))
+    sum_same 32 (λ i. of_group group_of (suc n) (at i))
+    (λ i. if is_one (group_of n) (at i) then suc (of_group group_of n (at i)) else of_group group_of n (at i)) (λ i l. next_of_group group_of n (at i))
     ∙ sum_more 32 (λ i. of_group group_of n (at i)) (λ i. is_one (group_of n) (at i))
     ∙ go (out (group_of n)) refl (sum_groups group_of out at label_of bears there n)
   where
@@ -131,11 +143,15 @@ sum_groups group_of out at label_of bears there (suc n) =
     none e i false h = refl
     none e i true h = absurd (cc (sym e ∙ (bearer i (at i) refl h).1))
 
-    go : (b : Bool) → out (group_of n) ≡ b → sum_below 32 (λ i. of_group group_of n (at i)) ≡ count_below n (λ r. out (group_of r)) → count_below 32 (λ i. is_one (group_of n) (at i)) + sum_below 32 (λ i. of_group group_of n (at i)) ≡ (if b then suc (count_below n (λ r. out (group_of r))) else count_below n (λ r. out (group_of r)))
+    go :
+        (b : Bool) → out (group_of n) ≡ b → sum_below 32 (λ i. of_group group_of n (at i)) ≡ count_below n (λ r. out (group_of r))
+        → count_below 32 (λ i. is_one (group_of n) (at i)) + sum_below 32 (λ i. of_group group_of n (at i))
+        ≡ (if b then suc (count_below n (λ r. out (group_of r))) else count_below n (λ r. out (group_of r)))
     go true e rest =
         let x = there (group_of n) e in
         let one : count_below 32 (λ i. is_one (group_of n) (at i)) ≡ 1 =
-        count_once 32 (λ i. is_one (group_of n) (at i)) (label_of (group_of n)) x.1 (ap (is_one (group_of n)) x.0 ∙ itself (group_of n)) (λ j h. sym (bearer j (at j) refl h).0)
+        count_once 32 (λ i. is_one (group_of n) (at i)) (label_of (group_of n)) x.1 (ap (is_one (group_of n)) x.0 ∙ itself (group_of n))
+        (λ j h. sym (bearer j (at j) refl h).0)
         in
         omega (arith, one, rest)
     go false e rest =
@@ -146,7 +162,8 @@ pub outstanding_seen : (w : World) (e : ℕ) → Invariant w → e < w.config.en
 outstanding_seen w e i l =
     ap (λ (d : DeviceWire). outstanding d.groups) (device_seen w e l)
     ∙ outstanding_sum 32 (λ x. option_map (group_wire p) (p.at_index x))
-    ∙ sum_same 32 (λ x. requests_in (option_map (group_wire p) (p.at_index x))) (λ x. of_group p.group_of p.page_requests (p.at_index x)) (λ x m. counted (p.at_index x))
+    ∙ sum_same 32 (λ x. requests_in (option_map (group_wire p) (p.at_index x))) (λ x. of_group p.group_of p.page_requests (p.at_index x))
+    (λ x m. counted (p.at_index x))
     ∙ sum_groups p.group_of (λ g. is_outstanding (p.group g)) p.at_index p.index (i.parts e).groups.index_bears
     (λ g h. let x = (i.parts e).groups.bears_index g h in (x, (i.parts e).groups.index_low (p.index g) g x)) p.page_requests
   where
@@ -159,7 +176,9 @@ outstanding_seen w e i l =
 
 -- What is asked of the PASID, and of the group of an index.
 
-may_seen : (w : World) (e t : ℕ) (o : Option ℕ) → Invariant w → e < w.config.endpoints → may_request (device_of (wire w) e) t o ≡ names.may_request (w.part e) t o
+may_seen :
+    (w : World) (e t : ℕ) (o : Option ℕ) → Invariant w → e < w.config.endpoints
+    → may_request (device_of (wire w) e) t o ≡ names.may_request (w.part e) t o
 may_seen w e t None i l = ap (λ d. may_request d t None) (device_seen w e l) ∙ started_seen w.mappings (w.part e) (i.parts e).labels t
 may_seen w e t (Some x) i l =
     ap (λ d. may_request d t (Some x)) (device_seen w e l)
@@ -169,7 +188,10 @@ unfinished_is : (s : GroupState) → is_unfinished s ≡ true → s ≡ Unfinish
 unfinished_is s h = grind arith
 
 -- an unfinished group is of the PASID exactly where its asker bears it
-group_of_pasid : (w : World) (e t g : ℕ) → Invariant w → (is_unfinished ((w.part e).group g) && (w.part e).pasid ((w.part e).asker g) == t) ≡ (is_unfinished ((w.part e).group g) && words.is_some ((w.part e).at_pasid t) && (w.part e).asker g == Labels.bearer (w.part e) t)
+group_of_pasid :
+    (w : World) (e t g : ℕ) → Invariant w
+    → (is_unfinished ((w.part e).group g) && (w.part e).pasid ((w.part e).asker g) == t)
+    ≡ (is_unfinished ((w.part e).group g) && words.is_some ((w.part e).at_pasid t) && (w.part e).asker g == Labels.bearer (w.part e) t)
 group_of_pasid w e t g i = go (is_unfinished (p.group g)) refl
   where
     p : Part
@@ -184,7 +206,9 @@ group_of_pasid w e t g i = go (is_unfinished (p.group g)) refl
     nothing : (x y : ℕ) → (true && false && x == y) ≡ false
     nothing x y = refl
 
-    by : is_unfinished (p.group g) ≡ true → (o : Option ℕ) → p.at_pasid t ≡ o → (p.pasid (p.asker g) ≡ t) ⊎ (p.pasid (p.asker g) ≢ t) → (p.pasid (p.asker g) == t) ≡ (words.is_some o && p.asker g == the o)
+    by :
+        is_unfinished (p.group g) ≡ true → (o : Option ℕ) → p.at_pasid t ≡ o → (p.pasid (p.asker g) ≡ t) ⊎ (p.pasid (p.asker g) ≢ t)
+        → (p.pasid (p.asker g) == t) ≡ (words.is_some o && p.asker g == the o)
     by u None h (inl same) = absurd (cc (sym ((found w e i).asker g (inl (unfinished_is (p.group g) u))).0.bears ∙ ap p.at_pasid same ∙ h))
     by u None h (inr ne) = differ (p.pasid (p.asker g)) t ne
     by u (Some b) h (inl same) =
@@ -193,26 +217,34 @@ group_of_pasid w e t g i = go (is_unfinished (p.group g)) refl
       where
         one : {x y : ℕ} → Some x ≡ Some y → x ≡ y
         one h = cc
-    by u (Some b) h (inr ne) = differ (p.pasid (p.asker g)) t ne ∙ sym (differ (p.asker g) b (λ is. ne (ap p.pasid is ∙ ((i.parts e).labels.pasid_bears t b h).0)))
+    by u (Some b) h (inr ne) =
+        differ (p.pasid (p.asker g)) t ne ∙ sym (differ (p.asker g) b (λ is. ne (ap p.pasid is ∙ ((i.parts e).labels.pasid_bears t b h).0)))
 
     go : (b : Bool) → is_unfinished (p.group g) ≡ b → (b && p.pasid (p.asker g) == t) ≡ (b && words.is_some (p.at_pasid t) && p.asker g == Labels.bearer p t)
     go false h = refl
     go true h = by h (p.at_pasid t) refl (ℕ_cases (p.pasid (p.asker g)) t)
 
-other_seen : (w : World) (e t : ℕ) (o : Option ℕ) → Invariant w → e < w.config.endpoints → is_other_group (device_of (wire w) e) t o ≡ names.is_other_group (w.part e) t o
+other_seen :
+    (w : World) (e t : ℕ) (o : Option ℕ) → Invariant w → e < w.config.endpoints
+    → is_other_group (device_of (wire w) e) t o ≡ names.is_other_group (w.part e) t o
 other_seen w e t None i l = refl
 other_seen w e t (Some x) i l =
     ap (λ d. not (is_unfinished_of t (group_at d x))) (device_seen w e l)
     ∙ ap (λ g. not (is_unfinished_of t g)) (group_seen w.mappings (w.part e) (i.parts e).groups.index_low x)
     ∙ ap not (go ((w.part e).at_index x))
   where
-    go : (o : Option ℕ) → is_unfinished_of t (option_map (group_wire (w.part e)) o) ≡ holds_of (λ g. is_unfinished ((w.part e).group g) && words.is_some ((w.part e).at_pasid t) && (w.part e).asker g == Labels.bearer (w.part e) t) o
+    go :
+        (o : Option ℕ)
+        → is_unfinished_of t (option_map (group_wire (w.part e)) o)
+        ≡ holds_of (λ g. is_unfinished ((w.part e).group g) && words.is_some ((w.part e).at_pasid t) && (w.part e).asker g == Labels.bearer (w.part e) t) o
     go None = refl
     go (Some g) = group_of_pasid w e t g i
 
 -- The step.
 
-fault_alike : (w : World) (e t : ℕ) (o : Option ℕ) → Invariant w → e < w.config.endpoints → AreSame (fault_causes (wire w) (device_of (wire w) e) t o) (names.fault_refusals w (w.part e) t o)
+fault_alike :
+    (w : World) (e t : ℕ) (o : Option ℕ) → Invariant w → e < w.config.endpoints
+    → AreSame (fault_causes (wire w) (device_of (wire w) e) t o) (names.fault_refusals w (w.part e) t o)
 fault_alike w e t o i l = (
   ap (λ b. (not b, refusal.NotStarted)) (may_seen w e t o i l),
   λ f. (
@@ -224,15 +256,20 @@ fault_alike w e t o i l = (
   ),
 )
 
-index_is : (w : World) (e : ℕ) → e < w.config.endpoints → Labels.lowest_label 32 (w.part e).at_index < 32 → label (lowest_label (device_of (wire w) e).groups) ≡ Labels.lowest_label 32 (w.part e).at_index
+index_is :
+    (w : World) (e : ℕ) → e < w.config.endpoints → Labels.lowest_label 32 (w.part e).at_index < 32
+    → label (lowest_label (device_of (wire w) e).groups) ≡ Labels.lowest_label 32 (w.part e).at_index
 index_is w e l h =
     ap (λ (d : DeviceWire). label (lowest_label d.groups)) (device_seen w e l)
-    ∙ label_is 32 (w.part e).at_index (λ t. option_map (group_wire (w.part e)) ((w.part e).at_index t)) (λ t. seen_none (group_wire (w.part e)) ((w.part e).at_index t)) (isnt (Labels.lowest_label 32 (w.part e).at_index) h)
+    ∙ label_is 32 (w.part e).at_index (λ t. option_map (group_wire (w.part e)) ((w.part e).at_index t))
+    (λ t. seen_none (group_wire (w.part e)) ((w.part e).at_index t)) (isnt (Labels.lowest_label 32 (w.part e).at_index) h)
   where
     isnt : (k : ℕ) → k < 32 → (k == 32) ≡ false
     isnt k m = grind (arith, nat_tests)
 
-fault_result_is : (w : World) (e t q : ℕ) (r x l : Bool) (o : Option ℕ) → Invariant w → Passed (refusals w (step.Fault e t q r x o l)) → result_of (wire w) (step.Fault e t q r x o l) ≡ result_by w (outcome w (step.Fault e t q r x o l))
+fault_result_is :
+    (w : World) (e t q : ℕ) (r x l : Bool) (o : Option ℕ) → Invariant w → Passed (refusals w (step.Fault e t q r x o l))
+    → result_of (wire w) (step.Fault e t q r x o l) ≡ result_by w (outcome w (step.Fault e t q r x o l))
 fault_result_is w e t q r x l None i h =
     let legal = (Legally.fault w e t q r x None l i h).0.1.0 in
     ap₂ (λ k u. by_one (answer.Group k) (Move.Group e u k q r x l)) (index_is w e (is_less e w.config.endpoints h.0) legal.2)
@@ -248,10 +285,15 @@ fault_result_is w e t q r x l (Some k) i h = go ((w.part e).at_index k) refl (no
     same : (a : Bool) (x y : ℕ) → (a && x == y) ≡ true → x ≡ y
     same a x y h = grind (arith, nat_tests)
 
-    go : (o : Option ℕ) → p.at_index k ≡ o → holds_of (λ g. is_unfinished (p.group g) && words.is_some (p.at_pasid t) && p.asker g == Labels.bearer p t) o ≡ true → by_one (answer.Group k) (Move.Request e t k q r x l) ≡ by_one (answer.Group k) (Move.Request e (p.pasid (p.asker (the (p.at_index k)))) (p.index (the (p.at_index k))) q r x l)
+    go :
+        (o : Option ℕ) → p.at_index k ≡ o
+        → holds_of (λ g. is_unfinished (p.group g) && words.is_some (p.at_pasid t) && p.asker g == Labels.bearer p t) o ≡ true
+        → by_one (answer.Group k) (Move.Request e t k q r x l)
+        ≡ by_one (answer.Group k) (Move.Request e (p.pasid (p.asker (the (p.at_index k)))) (p.index (the (p.at_index k))) q r x l)
     go None m c = absurd (cc)
     go (Some g) m c =
-        ap₂ (λ u v. by_one (answer.Group k) (Move.Request e u v q r x l)) (sym (same (is_unfinished (p.group g)) (p.pasid (p.asker g)) t (group_of_pasid w e t g i ∙ c))) (sym ((i.parts e).groups.index_bears k g m).0)
+        ap₂ (λ u v. by_one (answer.Group k) (Move.Request e u v q r x l))
+        (sym (same (is_unfinished (p.group g)) (p.pasid (p.asker g)) t (group_of_pasid w e t g i ∙ c))) (sym ((i.parts e).groups.index_bears k g m).0)
         ∙ ap (λ z. by_one (answer.Group k) (Move.Request e (p.pasid (p.asker z)) (p.index z) q r x l)) (sym (ap the m))
 
 pub fault_says : (w : World) (e t q : ℕ) (r x : Bool) (o : Option ℕ) (l : Bool) → Invariant w → SaysAlike w (step.Fault e t q r x o l)

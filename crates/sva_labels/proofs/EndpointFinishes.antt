@@ -33,7 +33,9 @@ both : (a b : Bool) → a ≡ true → b ≡ true → (a && b) ≡ true
 both a b h k = grind arith
 
 -- an ITag has an invalidation in the endpoint's hands where its order is taken
-none_taken : (ms : Mappings) (p : Part) (o : Option ℕ) → is_none (chain (λ k. taken_by ms p k (p.order_state k)) o) ≡ not (holds_of (λ k. is_taken (p.order_state k)) o)
+none_taken :
+    (ms : Mappings) (p : Part) (o : Option ℕ)
+    → is_none (chain (λ k. taken_by ms p k (p.order_state k)) o) ≡ not (holds_of (λ k. is_taken (p.order_state k)) o)
 none_taken ms p None = refl
 none_taken ms p (Some k) = go (p.order_state k)
   where
@@ -46,17 +48,23 @@ none_taken ms p (Some k) = go (p.order_state k)
     go Done = refl
     go Void = refl
 
-pub pending_seen : (w : World) (e t : ℕ) → Invariant w → e < w.config.endpoints → is_none (taken_at (device_of (wire w) e) t) ≡ not (Labels.is_pending (w.part e) t)
+pub pending_seen :
+    (w : World) (e t : ℕ) → Invariant w → e < w.config.endpoints
+    → is_none (taken_at (device_of (wire w) e) t) ≡ not (Labels.is_pending (w.part e) t)
 pending_seen w e t i l =
     ap (λ d. is_none (taken_at d t)) (device_seen w e l)
     ∙ ap is_none (taken_seen w.mappings (w.part e) (i.parts e).labels t)
     ∙ none_taken w.mappings (w.part e) ((w.part e).at_itag t)
 
 -- what an invalidation waits for is a use that it noted and that runs
-noted_seen : (w : World) (e k uses : ℕ) → Invariant w → list_any (λ b. b) (tabulate 16 (λ t. holds_of (is_noted w.mappings (w.part e) k uses) ((w.part e).at_slot t))) ≡ any_below uses (Labels.is_noted_running w.mappings (w.part e) k)
+noted_seen :
+    (w : World) (e k uses : ℕ) → Invariant w
+    → list_any (λ b. b) (tabulate 16 (λ t. holds_of (is_noted w.mappings (w.part e) k uses) ((w.part e).at_slot t)))
+    ≡ any_below uses (Labels.is_noted_running w.mappings (w.part e) k)
 noted_seen w e k uses i =
     any_table 16 (λ t. holds_of (is_noted w.mappings p k uses) (p.at_slot t)) (λ b. b)
-    ∙ any_both 16 uses (λ t. holds_of (is_noted w.mappings p k uses) (p.at_slot t)) (Labels.is_noted_running w.mappings p k) (λ t l h. forth (p.at_slot t) h) back
+    ∙ any_both 16 uses (λ t. holds_of (is_noted w.mappings p k uses) (p.at_slot t)) (Labels.is_noted_running w.mappings p k)
+    (λ t l h. forth (p.at_slot t) h) back
   where
     p : Part
     p = w.part e
@@ -69,12 +77,19 @@ noted_seen w e k uses i =
 
     forth : (o : Option ℕ) → holds_of (is_noted w.mappings p k uses) o ≡ true → (u : ℕ) × (u < uses) × (Labels.is_noted_running w.mappings p k u ≡ true)
     forth None h = absurd (cc)
-    forth (Some u) h = (u, less u uses (first (nat_lt u uses) (Labels.is_noted_running w.mappings p k u) h), second (nat_lt u uses) (Labels.is_noted_running w.mappings p k u) h)
+    forth (Some u) h = (
+      u,
+      less u uses (first (nat_lt u uses) (Labels.is_noted_running w.mappings p k u) h),
+      second (nat_lt u uses)
+          (Labels.is_noted_running w.mappings p k u) h,
+    )
 
     slot_of : (s : UseState) → is_running s ≡ true → has_slot s ≡ true
     slot_of s h = grind arith
 
-    back : (u : ℕ) → u < uses → Labels.is_noted_running w.mappings p k u ≡ true → (t : ℕ) × (t < 16) × (holds_of (is_noted w.mappings p k uses) (p.at_slot t) ≡ true)
+    back :
+        (u : ℕ) → u < uses → Labels.is_noted_running w.mappings p k u ≡ true
+        → (t : ℕ) × (t < 16) × (holds_of (is_noted w.mappings p k uses) (p.at_slot t) ≡ true)
     back u l h =
         let there : p.at_slot (p.use_slot u) ≡ Some u = (i.parts e).labels.bears_slot u (slot_of (p.use_state u) (first (is_running (p.use_state u)) (covers (p.order k) (p.use_binding u) (w.mappings.page (p.use_mapping u))) h)) in (
           p.use_slot u,
@@ -83,7 +98,9 @@ noted_seen w e k uses i =
         )
 
 -- by the state of the order
-waits_seen : (w : World) (e k : ℕ) → Invariant w → (s : OrderState) → waits_for_use (taken_by w.mappings (w.part e) k s) ≡ (is_taken s && any_below (uses_noted s) (Labels.is_noted_running w.mappings (w.part e) k))
+waits_seen :
+    (w : World) (e k : ℕ) → Invariant w → (s : OrderState)
+    → waits_for_use (taken_by w.mappings (w.part e) k s) ≡ (is_taken s && any_below (uses_noted s) (Labels.is_noted_running w.mappings (w.part e) k))
 waits_seen w e k i Queued = refl
 waits_seen w e k i Sent = refl
 waits_seen w e k i (Taken uses) = noted_seen w e k uses i
@@ -92,11 +109,16 @@ waits_seen w e k i (Owing count left) = refl
 waits_seen w e k i Done = refl
 waits_seen w e k i Void = refl
 
-pub in_use_seen : (w : World) (e vector : ℕ) → Invariant w → e < w.config.endpoints → any_below 32 (λ t. Labels.is_set vector t && waits_for_use (taken_at (device_of (wire w) e) t)) ≡ any_below (w.part e).orders (λ k. Labels.is_named (w.part e) vector k && Labels.is_in_use w (w.part e) k)
+pub in_use_seen :
+    (w : World) (e vector : ℕ) → Invariant w → e < w.config.endpoints
+    → any_below 32 (λ t. Labels.is_set vector t && waits_for_use (taken_at (device_of (wire w) e) t))
+    ≡ any_below (w.part e).orders (λ k. Labels.is_named (w.part e) vector k && Labels.is_in_use w (w.part e) k)
 in_use_seen w e vector i l =
-    any_same 32 (λ t. Labels.is_set vector t && waits_for_use (taken_at (device_of (wire w) e) t)) (λ t. Labels.is_set vector t && waits_for_use (chain (λ k. taken_by w.mappings p k (p.order_state k)) (p.at_itag t)))
+    any_same 32 (λ t. Labels.is_set vector t && waits_for_use (taken_at (device_of (wire w) e) t))
+    (λ t. Labels.is_set vector t && waits_for_use (chain (λ k. taken_by w.mappings p k (p.order_state k)) (p.at_itag t)))
     (λ t m. ap (λ o. Labels.is_set vector t && waits_for_use o) (ap (λ d. taken_at d t) (device_seen w e l) ∙ taken_seen w.mappings p (i.parts e).labels t))
-    ∙ any_both 32 p.orders (λ t. Labels.is_set vector t && waits_for_use (chain (λ k. taken_by w.mappings p k (p.order_state k)) (p.at_itag t))) (λ k. Labels.is_named p vector k && Labels.is_in_use w p k)
+    ∙ any_both 32 p.orders (λ t. Labels.is_set vector t && waits_for_use (chain (λ k. taken_by w.mappings p k (p.order_state k)) (p.at_itag t)))
+    (λ k. Labels.is_named p vector k && Labels.is_in_use w p k)
     (λ t m h. forth t (p.at_itag t) refl h) back
   where
     p : Part
@@ -108,7 +130,10 @@ in_use_seen w e vector i l =
     busy : (s : OrderState) → is_taken s ≡ true → is_busy s ≡ true
     busy s h = grind arith
 
-    forth : (t : ℕ) (o : Option ℕ) → p.at_itag t ≡ o → (Labels.is_set vector t && waits_for_use (chain (λ k. taken_by w.mappings p k (p.order_state k)) o)) ≡ true → (k : ℕ) × (k < p.orders) × ((Labels.is_named p vector k && Labels.is_in_use w p k) ≡ true)
+    forth :
+        (t : ℕ) (o : Option ℕ) → p.at_itag t ≡ o
+        → (Labels.is_set vector t && waits_for_use (chain (λ k. taken_by w.mappings p k (p.order_state k)) o)) ≡ true
+        → (k : ℕ) × (k < p.orders) × ((Labels.is_named p vector k && Labels.is_in_use w p k) ≡ true)
     forth t None m h = absurd (nothing (Labels.is_set vector t) h)
       where
         nothing : (a : Bool) → (a && false) ≡ true → ⊥
@@ -120,11 +145,14 @@ in_use_seen w e vector i l =
           k,
           made k taken,
           both (Labels.is_named p vector k) (Labels.is_in_use w p k)
-              (both (is_taken (p.order_state k)) (Labels.is_set vector (p.itag k)) taken (ap (Labels.is_set vector) ((i.parts e).labels.itag_bears t k m).0 ∙ set))
+              (both (is_taken (p.order_state k)) (Labels.is_set vector (p.itag k)) taken
+              (ap (Labels.is_set vector) ((i.parts e).labels.itag_bears t k m).0 ∙ set))
               (second (is_taken (p.order_state k)) (Labels.is_in_use w p k) waits),
         )
 
-    back : (k : ℕ) → k < p.orders → (Labels.is_named p vector k && Labels.is_in_use w p k) ≡ true → (t : ℕ) × (t < 32) × ((Labels.is_set vector t && waits_for_use (chain (λ k. taken_by w.mappings p k (p.order_state k)) (p.at_itag t))) ≡ true)
+    back :
+        (k : ℕ) → k < p.orders → (Labels.is_named p vector k && Labels.is_in_use w p k) ≡ true
+        → (t : ℕ) × (t < 32) × ((Labels.is_set vector t && waits_for_use (chain (λ k. taken_by w.mappings p k (p.order_state k)) (p.at_itag t))) ≡ true)
     back k m h =
         let named = first (Labels.is_named p vector k) (Labels.is_in_use w p k) h in
         let taken = first (is_taken (p.order_state k)) (Labels.is_set vector (p.itag k)) named in
@@ -134,7 +162,8 @@ in_use_seen w e vector i l =
           ap (λ o. Labels.is_set vector (p.itag k) && waits_for_use (chain (λ k. taken_by w.mappings p k (p.order_state k)) o)) there
               ∙ both (Labels.is_set vector (p.itag k)) (waits_for_use (taken_by w.mappings p k (p.order_state k)))
               (second (is_taken (p.order_state k)) (Labels.is_set vector (p.itag k)) named)
-              (waits_seen w e k i (p.order_state k) ∙ both (is_taken (p.order_state k)) (Labels.is_in_use w p k) taken (second (Labels.is_named p vector k) (Labels.is_in_use w p k) h)),
+              (waits_seen w e k i (p.order_state k)
+              ∙ both (is_taken (p.order_state k)) (Labels.is_in_use w p k) taken (second (Labels.is_named p vector k) (Labels.is_in_use w p k) h)),
         )
 
 pub finish_says : (w : World) (e vector count : ℕ) → Invariant w → SaysAlike w (step.Finish e vector count)
@@ -145,7 +174,8 @@ finish_says w e vector count i =
             endpoint_cause w e,
             λ f. (
               ap (λ b. (Labels.names_none vector || b, refusal.NotPending))
-                  (any_same 32 (λ t. Labels.is_set vector t && is_none (taken_at (device_of (wire w) e) t)) (λ t. Labels.is_set vector t && not (Labels.is_pending (w.part e) t))
+                  (any_same 32 (λ t. Labels.is_set vector t && is_none (taken_at (device_of (wire w) e) t))
+                  (λ t. Labels.is_set vector t && not (Labels.is_pending (w.part e) t))
                   (λ t m. ap (λ b. Labels.is_set vector t && b) (pending_seen w e t i (below_seen w e f)))),
               λ f1. (ap (λ b. (b, refusal.InUse)) (in_use_seen w e vector i (below_seen w e f)), λ f2. (refl, λ f3. (refl, λ f4. tt))),
             ),

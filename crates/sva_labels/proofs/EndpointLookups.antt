@@ -68,7 +68,9 @@ ending_seen ms p la t = ap is_ending (pasid_seen ms p la t) ∙ ending_by p (p.a
 
 -- A table of labels that ends where no label is borne.
 
-table_seen : {A : Type 0} (n : ℕ) (at : ℕ → Option ℕ) (f : Option ℕ → Option A) → f None ≡ None → ((t k : ℕ) → at t ≡ Some k → t < n) → (t : ℕ) → get_or (tabulate n (λ x. f (at x))) t None ≡ f (at t)
+table_seen :
+    {A : Type 0} (n : ℕ) (at : ℕ → Option ℕ) (f : Option ℕ → Option A) → f None ≡ None → ((t k : ℕ) → at t ≡ Some k → t < n) → (t : ℕ)
+    → get_or (tabulate n (λ x. f (at x))) t None ≡ f (at t)
 table_seen {A = A} n at f none low t = go (nat_lt t n) refl
   where
     less : (a b : ℕ) → nat_lt a b ≡ true → a < b
@@ -91,10 +93,14 @@ tag_seen ms p la t = table_seen 32 p.at_tag (option_map (request_wire p)) refl l
 pub use_seen : (ms : Mappings) (p : Part) → Bears.Labels p → (t : ℕ) → use_at (device_wire ms p) t ≡ option_map (use_wire ms p) (p.at_slot t)
 use_seen ms p la t = table_seen 16 p.at_slot (option_map (use_wire ms p)) refl la.slot_low t
 
-pub taken_seen : (ms : Mappings) (p : Part) → Bears.Labels p → (t : ℕ) → taken_at (device_wire ms p) t ≡ chain (λ k. taken_by ms p k (p.order_state k)) (p.at_itag t)
+pub taken_seen :
+    (ms : Mappings) (p : Part) → Bears.Labels p → (t : ℕ)
+    → taken_at (device_wire ms p) t ≡ chain (λ k. taken_by ms p k (p.order_state k)) (p.at_itag t)
 taken_seen ms p la t = table_seen 32 p.at_itag (chain (λ k. taken_by ms p k (p.order_state k))) refl la.itag_low t
 
-pub group_seen : (ms : Mappings) (p : Part) → ((t g : ℕ) → p.at_index t ≡ Some g → t < 32) → (t : ℕ) → group_at (device_wire ms p) t ≡ option_map (group_wire p) (p.at_index t)
+pub group_seen :
+    (ms : Mappings) (p : Part) → ((t g : ℕ) → p.at_index t ≡ Some g → t < 32) → (t : ℕ)
+    → group_at (device_wire ms p) t ≡ option_map (group_wire p) (p.at_index t)
 group_seen ms p low t = table_seen 32 p.at_index (option_map (group_wire p)) refl low t
 
 -- The translation that is cached for a page of a PASID.
@@ -112,13 +118,17 @@ all_two : (a b c d : ℕ) → a ≡ b → c ≡ d → (a == b && c == d) ≡ tru
 all_two a b c d h k = grind (arith, nat_tests)
 
 -- a request whose answer is cached at a page of a PASID is one of the bearer's
-holder : (ms : Mappings) (x g n e : ℕ) (p : Part) → PartInvariant ms x g n e p → (t q r : ℕ) → words.is_some (p.held r) ≡ true → is_at_page t q (cached_wire ms p r) ≡ true → (p.at_pasid t ≡ Some (p.request_binding r)) × (p.request_page r ≡ q)
+holder :
+    (ms : Mappings) (x g n e : ℕ) (p : Part) → PartInvariant ms x g n e p → (t q r : ℕ) → words.is_some (p.held r) ≡ true
+    → is_at_page t q (cached_wire ms p r) ≡ true → (p.at_pasid t ≡ Some (p.request_binding r)) × (p.request_page r ≡ q)
 holder ms x g n e p i t q r s h =
     let same = and_two (p.pasid (p.request_binding r)) t (p.request_page r) q h in
     let u : is_unreleased (p.stage (p.request_binding r)) ≡ true = active_unreleased (p.stage (p.request_binding r)) (i.owners.held r (the (p.held r)) (some_the (p.held r) s)) in
     (sym (ap p.at_pasid same.0) ∙ i.labels.bears_pasid (p.request_binding r) u, same.1)
 
-pub one_holder : (ms : Mappings) (x g n e : ℕ) (p : Part) → PartInvariant ms x g n e p → (t q r s : ℕ) → words.is_some (p.held r) ≡ true → words.is_some (p.held s) ≡ true → is_at_page t q (cached_wire ms p r) ≡ true → is_at_page t q (cached_wire ms p s) ≡ true → r ≡ s
+pub one_holder :
+    (ms : Mappings) (x g n e : ℕ) (p : Part) → PartInvariant ms x g n e p → (t q r s : ℕ) → words.is_some (p.held r) ≡ true
+    → words.is_some (p.held s) ≡ true → is_at_page t q (cached_wire ms p r) ≡ true → is_at_page t q (cached_wire ms p s) ≡ true → r ≡ s
 one_holder ms x g n e p i t q r s a b h k =
     let one = holder ms x g n e p i t q r a h in
     let two = holder ms x g n e p i t q s b k in
@@ -128,13 +138,17 @@ one_holder ms x g n e p i t q r s a b h k =
     some_same : {y z : ℕ} → Some y ≡ Some z → y ≡ z
     some_same h = cc
 
-cache_find : (ms : Mappings) (x g n e : ℕ) (p : Part) → PartInvariant ms x g n e p → (t q : ℕ) → cached (device_wire ms p) t q ≡ find (is_at_page t q) (map (cached_wire ms p) (select p.requests (λ r. words.is_some (p.held r))))
+cache_find :
+    (ms : Mappings) (x g n e : ℕ) (p : Part) → PartInvariant ms x g n e p → (t q : ℕ)
+    → cached (device_wire ms p) t q ≡ find (is_at_page t q) (map (cached_wire ms p) (select p.requests (λ r. words.is_some (p.held r))))
 cache_find ms x g n e p i t q =
     find_sorted is_before (is_at_page t q) (map (cached_wire ms p) (select p.requests (λ r. words.is_some (p.held r))))
     (alone_select p.requests (λ r. words.is_some (p.held r)) (cached_wire ms p) (is_at_page t q) (λ j k l m a b h f. one_holder ms x g n e p i t q j k a b h f))
 
 -- where something is cached, it is the one request's answer
-pub cached_seen : (ms : Mappings) (x g n e : ℕ) (p : Part) → PartInvariant ms x g n e p → (t q : ℕ) → Labels.is_cached p t q ≡ true → cached (device_wire ms p) t q ≡ Some (cached_wire ms p (Labels.cached p (Labels.bearer p t) q))
+pub cached_seen :
+    (ms : Mappings) (x g n e : ℕ) (p : Part) → PartInvariant ms x g n e p → (t q : ℕ) → Labels.is_cached p t q ≡ true
+    → cached (device_wire ms p) t q ≡ Some (cached_wire ms p (Labels.cached p (Labels.bearer p t) q))
 cached_seen ms x g n e p i t q h =
     let b = Labels.bearer p t in
     let bears = bearer_of p t (λ d. any_below p.requests (Labels.is_held_at p d q)) h in
@@ -147,7 +161,9 @@ cached_seen ms x g n e p i t q h =
     ∙ find_one p.requests (λ r. words.is_some (p.held r)) (cached_wire ms p) (is_at_page t q) r low.0 three.0 passes
     (λ j l s k. one_holder ms x g n e p i t q j r s three.0 k passes)
 
-pub none_cached : (ms : Mappings) (x g n e : ℕ) (p : Part) → PartInvariant ms x g n e p → (t q : ℕ) → Labels.is_cached p t q ≡ false → cached (device_wire ms p) t q ≡ None
+pub none_cached :
+    (ms : Mappings) (x g n e : ℕ) (p : Part) → PartInvariant ms x g n e p → (t q : ℕ) → Labels.is_cached p t q ≡ false
+    → cached (device_wire ms p) t q ≡ None
 none_cached ms x g n e p i t q h =
     cache_find ms x g n e p i t q
     ∙ find_none p.requests (λ r. words.is_some (p.held r)) (cached_wire ms p) (is_at_page t q) (λ r l s. other r l s (is_at_page t q (cached_wire ms p r)) refl)
@@ -157,11 +173,14 @@ none_cached ms x g n e p i t q h =
     other r l s true k =
         let y = holder ms x g n e p i t q r s k in
         let found : any_below p.requests (Labels.is_held_at p (p.request_binding r) q) ≡ true =
-        any_below-intro p.requests (Labels.is_held_at p (p.request_binding r) q) r l (all_three (words.is_some (p.held r)) (p.request_binding r) (p.request_binding r) (p.request_page r) q s refl y.1)
+        any_below-intro p.requests (Labels.is_held_at p (p.request_binding r) q) r l
+        (all_three (words.is_some (p.held r)) (p.request_binding r) (p.request_binding r) (p.request_page r) q s refl y.1)
         in
         absurd (cc (sym h ∙ ap (holds_of (λ d. any_below p.requests (Labels.is_held_at p d q))) y.0 ∙ found))
 
-pub is_cached_seen : (ms : Mappings) (x g n e : ℕ) (p : Part) → PartInvariant ms x g n e p → (t q : ℕ) → is_none (cached (device_wire ms p) t q) ≡ not (Labels.is_cached p t q)
+pub is_cached_seen :
+    (ms : Mappings) (x g n e : ℕ) (p : Part) → PartInvariant ms x g n e p → (t q : ℕ)
+    → is_none (cached (device_wire ms p) t q) ≡ not (Labels.is_cached p t q)
 is_cached_seen ms x g n e p i t q = go (Labels.is_cached p t q) refl
   where
     go : (b : Bool) → Labels.is_cached p t q ≡ b → is_none (cached (device_wire ms p) t q) ≡ not b

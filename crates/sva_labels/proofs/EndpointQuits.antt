@@ -31,7 +31,9 @@ use Rattle.sva_labels.proofs.EndpointSays.{below_seen}
 use Rattle.sva_labels.proofs.Alike.{SaysAlike}
 
 -- two searches each of which finds where the other does
-pub any_both : (n m : ℕ) (p q : ℕ → Bool) → ((i : ℕ) → i < n → p i ≡ true → (j : ℕ) × (j < m) × (q j ≡ true)) → ((j : ℕ) → j < m → q j ≡ true → (i : ℕ) × (i < n) × (p i ≡ true)) → any_below n p ≡ any_below m q
+pub any_both :
+    (n m : ℕ) (p q : ℕ → Bool) → ((i : ℕ) → i < n → p i ≡ true → (j : ℕ) × (j < m) × (q j ≡ true))
+    → ((j : ℕ) → j < m → q j ≡ true → (i : ℕ) × (i < n) × (p i ≡ true)) → any_below n p ≡ any_below m q
 any_both n m p q f g = go (any_below n p) (any_below m q) refl refl
   where
     go : (b c : Bool) → any_below n p ≡ b → any_below m q ≡ c → b ≡ c
@@ -71,10 +73,13 @@ unfinished_is s h = grind arith
 unfinished_out : (s : GroupState) → is_unfinished s ≡ true → is_outstanding s ≡ true
 unfinished_out s h = grind arith
 
-pub groups_busy : (w : World) (e t b : ℕ) → Invariant w → (w.part e).at_pasid t ≡ Some b → list_any (is_unfinished_of t) (device_wire w.mappings (w.part e)).groups ≡ Labels.is_unfinished_of (w.part e) b
+pub groups_busy :
+    (w : World) (e t b : ℕ) → Invariant w → (w.part e).at_pasid t ≡ Some b
+    → list_any (is_unfinished_of t) (device_wire w.mappings (w.part e)).groups ≡ Labels.is_unfinished_of (w.part e) b
 groups_busy w e t b i h =
     any_table 32 (λ x. option_map (group_wire p) (p.at_index x)) (is_unfinished_of t)
-    ∙ any_both 32 p.groups (λ x. is_unfinished_of t (option_map (group_wire p) (p.at_index x))) (λ g. is_unfinished (p.group g) && p.asker g == b) (λ x l k. forth (p.at_index x) k) back
+    ∙ any_both 32 p.groups (λ x. is_unfinished_of t (option_map (group_wire p) (p.at_index x))) (λ g. is_unfinished (p.group g) && p.asker g == b)
+    (λ x l k. forth (p.at_index x) k) back
   where
     p : Part
     p = w.part e
@@ -82,13 +87,21 @@ groups_busy w e t b i h =
     made : (g : ℕ) → is_unfinished (p.group g) ≡ true → g < p.groups
     made g k = grind (arith, (i.parts e).bounds.group g)
 
-    forth : (o : Option ℕ) → is_unfinished_of t (option_map (group_wire p) o) ≡ true → (g : ℕ) × (g < p.groups) × ((is_unfinished (p.group g) && p.asker g == b) ≡ true)
+    forth :
+        (o : Option ℕ) → is_unfinished_of t (option_map (group_wire p) o) ≡ true
+        → (g : ℕ) × (g < p.groups) × ((is_unfinished (p.group g) && p.asker g == b) ≡ true)
     forth None k = absurd (cc)
     forth (Some g) k =
-        let x = parts (is_unfinished (p.group g)) (p.pasid (p.asker g)) t k in
-        (g, made g x.0, both (is_unfinished (p.group g)) (p.asker g) b x.0 (is_bearer p t b (p.asker g) h ((found w e i).asker g (inl (unfinished_is (p.group g) x.0))).0 x.1))
+        let x = parts (is_unfinished (p.group g)) (p.pasid (p.asker g)) t k in (
+          g,
+          made g x.0,
+          both (is_unfinished (p.group g)) (p.asker g) b x.0
+              (is_bearer p t b (p.asker g) h ((found w e i).asker g (inl (unfinished_is (p.group g) x.0))).0 x.1),
+        )
 
-    back : (g : ℕ) → g < p.groups → (is_unfinished (p.group g) && p.asker g == b) ≡ true → (x : ℕ) × (x < 32) × (is_unfinished_of t (option_map (group_wire p) (p.at_index x)) ≡ true)
+    back :
+        (g : ℕ) → g < p.groups → (is_unfinished (p.group g) && p.asker g == b) ≡ true
+        → (x : ℕ) × (x < 32) × (is_unfinished_of t (option_map (group_wire p) (p.at_index x)) ≡ true)
     back g l k =
         let x = parts (is_unfinished (p.group g)) (p.asker g) b k in
         let there : p.at_index (p.index g) ≡ Some g = (i.parts e).groups.bears_index g (unfinished_out (p.group g) x.0) in (
@@ -98,10 +111,13 @@ groups_busy w e t b i h =
               ∙ both (is_unfinished (p.group g)) (p.pasid (p.asker g)) t x.0 (ap p.pasid x.1 ∙ ((i.parts e).labels.pasid_bears t b h).0),
         )
 
-pub tags_busy : (w : World) (e t b : ℕ) → Invariant w → (w.part e).at_pasid t ≡ Some b → list_any (is_request_of t) (device_wire w.mappings (w.part e)).tags ≡ Labels.is_request_out_of (w.part e) b
+pub tags_busy :
+    (w : World) (e t b : ℕ) → Invariant w → (w.part e).at_pasid t ≡ Some b
+    → list_any (is_request_of t) (device_wire w.mappings (w.part e)).tags ≡ Labels.is_request_out_of (w.part e) b
 tags_busy w e t b i h =
     any_table 32 (λ x. option_map (request_wire p) (p.at_tag x)) (is_request_of t)
-    ∙ any_both 32 p.requests (λ x. is_request_of t (option_map (request_wire p) (p.at_tag x))) (λ r. is_out (p.request r) && p.request_binding r == b) (λ x l k. forth x (p.at_tag x) refl k) back
+    ∙ any_both 32 p.requests (λ x. is_request_of t (option_map (request_wire p) (p.at_tag x))) (λ r. is_out (p.request r) && p.request_binding r == b)
+    (λ x l k. forth x (p.at_tag x) refl k) back
   where
     p : Part
     p = w.part e
@@ -109,13 +125,21 @@ tags_busy w e t b i h =
     made : (r : ℕ) → is_out (p.request r) ≡ true → r < p.requests
     made r k = grind (arith, (i.parts e).bounds.request r)
 
-    forth : (x : ℕ) (o : Option ℕ) → p.at_tag x ≡ o → is_request_of t (option_map (request_wire p) o) ≡ true → (r : ℕ) × (r < p.requests) × ((is_out (p.request r) && p.request_binding r == b) ≡ true)
+    forth :
+        (x : ℕ) (o : Option ℕ) → p.at_tag x ≡ o → is_request_of t (option_map (request_wire p) o) ≡ true
+        → (r : ℕ) × (r < p.requests) × ((is_out (p.request r) && p.request_binding r == b) ≡ true)
     forth x None m k = absurd (cc)
     forth x (Some r) m k =
-        let out = ((i.parts e).labels.tag_bears x r m).1 in
-        (r, made r out, both (is_out (p.request r)) (p.request_binding r) b out (is_bearer p t b (p.request_binding r) h ((found w e i).out r out).0 (alike (p.pasid (p.request_binding r)) t k)))
+        let out = ((i.parts e).labels.tag_bears x r m).1 in (
+          r,
+          made r out,
+          both (is_out (p.request r)) (p.request_binding r) b out
+              (is_bearer p t b (p.request_binding r) h ((found w e i).out r out).0 (alike (p.pasid (p.request_binding r)) t k)),
+        )
 
-    back : (r : ℕ) → r < p.requests → (is_out (p.request r) && p.request_binding r == b) ≡ true → (x : ℕ) × (x < 32) × (is_request_of t (option_map (request_wire p) (p.at_tag x)) ≡ true)
+    back :
+        (r : ℕ) → r < p.requests → (is_out (p.request r) && p.request_binding r == b) ≡ true
+        → (x : ℕ) × (x < 32) × (is_request_of t (option_map (request_wire p) (p.at_tag x)) ≡ true)
     back r l k =
         let x = parts (is_out (p.request r)) (p.request_binding r) b k in
         let there : p.at_tag (p.request_tag r) ≡ Some r = (i.parts e).labels.bears_tag r x.0 in (
@@ -132,14 +156,21 @@ running_is s h = grind arith
 use_of : (t : ℕ) (ms : Mappings) (p : Part) (u : ℕ) → is_use_of t (Some (use_wire ms p u)) ≡ (is_running (p.use_state u) && p.pasid (p.use_binding u) == t)
 use_of t ms p u = go (is_running (p.use_state u))
   where
-    go : (b : Bool) → is_use_of t (Some (if b then UseWire.RunningWire (translation_wire ms p (p.use_binding u) (ms.page (p.use_mapping u)) (p.use_mapping u)) else UseWire.DeadWire)) ≡ (b && p.pasid (p.use_binding u) == t)
+    go :
+        (b : Bool)
+        → is_use_of t
+        (Some (if b then UseWire.RunningWire (translation_wire ms p (p.use_binding u) (ms.page (p.use_mapping u)) (p.use_mapping u))
+        else UseWire.DeadWire)) ≡ (b && p.pasid (p.use_binding u) == t)
     go true = refl
     go false = refl
 
-pub slots_busy : (w : World) (e t b : ℕ) → Invariant w → (w.part e).at_pasid t ≡ Some b → list_any (is_use_of t) (device_wire w.mappings (w.part e)).slots ≡ Labels.is_use_of (w.part e) b
+pub slots_busy :
+    (w : World) (e t b : ℕ) → Invariant w → (w.part e).at_pasid t ≡ Some b
+    → list_any (is_use_of t) (device_wire w.mappings (w.part e)).slots ≡ Labels.is_use_of (w.part e) b
 slots_busy w e t b i h =
     any_table 16 (λ x. option_map (use_wire w.mappings p) (p.at_slot x)) (is_use_of t)
-    ∙ any_both 16 p.uses (λ x. is_use_of t (option_map (use_wire w.mappings p) (p.at_slot x))) (λ u. is_running (p.use_state u) && p.use_binding u == b) (λ x l k. forth (p.at_slot x) k) back
+    ∙ any_both 16 p.uses (λ x. is_use_of t (option_map (use_wire w.mappings p) (p.at_slot x)))
+    (λ u. is_running (p.use_state u) && p.use_binding u == b) (λ x l k. forth (p.at_slot x) k) back
   where
     p : Part
     p = w.part e
@@ -147,16 +178,24 @@ slots_busy w e t b i h =
     made : (u : ℕ) → is_running (p.use_state u) ≡ true → u < p.uses
     made u k = grind (arith, (i.parts e).bounds.use_state u)
 
-    forth : (o : Option ℕ) → is_use_of t (option_map (use_wire w.mappings p) o) ≡ true → (u : ℕ) × (u < p.uses) × ((is_running (p.use_state u) && p.use_binding u == b) ≡ true)
+    forth :
+        (o : Option ℕ) → is_use_of t (option_map (use_wire w.mappings p) o) ≡ true
+        → (u : ℕ) × (u < p.uses) × ((is_running (p.use_state u) && p.use_binding u == b) ≡ true)
     forth None k = absurd (cc)
     forth (Some u) k =
-        let x = parts (is_running (p.use_state u)) (p.pasid (p.use_binding u)) t (sym (use_of t w.mappings p u) ∙ k) in
-        (u, made u x.0, both (is_running (p.use_state u)) (p.use_binding u) b x.0 (is_bearer p t b (p.use_binding u) h ((found w e i).in_use u (running_is (p.use_state u) x.0)) x.1))
+        let x = parts (is_running (p.use_state u)) (p.pasid (p.use_binding u)) t (sym (use_of t w.mappings p u) ∙ k) in (
+          u,
+          made u x.0,
+          both (is_running (p.use_state u)) (p.use_binding u) b x.0
+              (is_bearer p t b (p.use_binding u) h ((found w e i).in_use u (running_is (p.use_state u) x.0)) x.1),
+        )
 
     slot_of : (s : UseState) → is_running s ≡ true → has_slot s ≡ true
     slot_of s k = grind arith
 
-    back : (u : ℕ) → u < p.uses → (is_running (p.use_state u) && p.use_binding u == b) ≡ true → (x : ℕ) × (x < 16) × (is_use_of t (option_map (use_wire w.mappings p) (p.at_slot x)) ≡ true)
+    back :
+        (u : ℕ) → u < p.uses → (is_running (p.use_state u) && p.use_binding u == b) ≡ true
+        → (x : ℕ) × (x < 16) × (is_use_of t (option_map (use_wire w.mappings p) (p.at_slot x)) ≡ true)
     back u l k =
         let x = parts (is_running (p.use_state u)) (p.use_binding u) b k in
         let there : p.at_slot (p.use_slot u) ≡ Some u = (i.parts e).labels.bears_slot u (slot_of (p.use_state u) x.0) in (
@@ -167,10 +206,14 @@ slots_busy w e t b i h =
               ∙ both (is_running (p.use_state u)) (p.pasid (p.use_binding u)) t x.0 (ap p.pasid x.1 ∙ ((i.parts e).labels.pasid_bears t b h).0),
         )
 
-stopping_cause : (w : World) (e t : ℕ) → Invariant w → e < w.config.endpoints → is_ending (pasid_state (device_of (wire w) e) t) ≡ Labels.is_told_to_stop (w.part e) t
+stopping_cause :
+    (w : World) (e t : ℕ) → Invariant w → e < w.config.endpoints
+    → is_ending (pasid_state (device_of (wire w) e) t) ≡ Labels.is_told_to_stop (w.part e) t
 stopping_cause w e t i l = ap (λ d. is_ending (pasid_state d t)) (device_seen w e l) ∙ ending_seen w.mappings (w.part e) (i.parts e).labels t
 
-busy_cause : (w : World) (e t b : ℕ) → Invariant w → e < w.config.endpoints → (w.part e).at_pasid t ≡ Some b → is_busy_pasid (device_of (wire w) e) t ≡ (Labels.is_unfinished_of (w.part e) b || Labels.is_request_out_of (w.part e) b || Labels.is_use_of (w.part e) b)
+busy_cause :
+    (w : World) (e t b : ℕ) → Invariant w → e < w.config.endpoints → (w.part e).at_pasid t ≡ Some b
+    → is_busy_pasid (device_of (wire w) e) t ≡ (Labels.is_unfinished_of (w.part e) b || Labels.is_request_out_of (w.part e) b || Labels.is_use_of (w.part e) b)
 busy_cause w e t b i l h =
     ap (λ d. is_busy_pasid d t) (device_seen w e l)
     ∙ (λ j. (groups_busy w e t b i h j || tags_busy w e t b i h j || slots_busy w e t b i h j))

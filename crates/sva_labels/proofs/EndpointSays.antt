@@ -31,7 +31,9 @@ use Rattle.sva_labels.proofs.Alike.{SaysAlike}
 pub below_seen : (w : World) (e : ℕ) → not (nat_lt e (length (wire w).parts)) ≡ false → e < w.config.endpoints
 below_seen w e f = is_less e w.config.endpoints (sym (ap (λ n. not (nat_lt e n)) (endpoints_seen w)) ∙ f)
 
-pub not_started_cause : (w : World) (e t : ℕ) → Invariant w → e < w.config.endpoints → not_started (device_of (wire w) e) t ≡ (not (Labels.is_started (w.part e) t), refusal.NotStarted)
+pub not_started_cause :
+    (w : World) (e t : ℕ) → Invariant w → e < w.config.endpoints
+    → not_started (device_of (wire w) e) t ≡ (not (Labels.is_started (w.part e) t), refusal.NotStarted)
 not_started_cause w e t i l =
     ap (λ d. not_started d t) (device_seen w e l)
     ∙ ap (λ b. (not b, refusal.NotStarted)) (started_seen w.mappings (w.part e) (i.parts e).labels t)
@@ -51,12 +53,16 @@ bearer_pasid w e t i h =
 no_tag : (w : World) (e : ℕ) → e < w.config.endpoints → is_none (lowest_label (device_of (wire w) e).tags) ≡ (Labels.lowest_label 32 (w.part e).at_tag == 32)
 no_tag w e l =
     ap (λ (d : DeviceWire). is_none (lowest_label d.tags)) (device_seen w e l)
-    ∙ no_label 32 (w.part e).at_tag (λ t. option_map (request_wire (w.part e)) ((w.part e).at_tag t)) (λ t. seen_none (request_wire (w.part e)) ((w.part e).at_tag t))
+    ∙ no_label 32 (w.part e).at_tag (λ t. option_map (request_wire (w.part e)) ((w.part e).at_tag t))
+    (λ t. seen_none (request_wire (w.part e)) ((w.part e).at_tag t))
 
-tag_is : (w : World) (e : ℕ) → e < w.config.endpoints → (Labels.lowest_label 32 (w.part e).at_tag == 32) ≡ false → label (lowest_label (device_of (wire w) e).tags) ≡ Labels.lowest_label 32 (w.part e).at_tag
+tag_is :
+    (w : World) (e : ℕ) → e < w.config.endpoints → (Labels.lowest_label 32 (w.part e).at_tag == 32) ≡ false
+    → label (lowest_label (device_of (wire w) e).tags) ≡ Labels.lowest_label 32 (w.part e).at_tag
 tag_is w e l h =
     ap (λ (d : DeviceWire). label (lowest_label d.tags)) (device_seen w e l)
-    ∙ label_is 32 (w.part e).at_tag (λ t. option_map (request_wire (w.part e)) ((w.part e).at_tag t)) (λ t. seen_none (request_wire (w.part e)) ((w.part e).at_tag t)) h
+    ∙ label_is 32 (w.part e).at_tag (λ t. option_map (request_wire (w.part e)) ((w.part e).at_tag t))
+    (λ t. seen_none (request_wire (w.part e)) ((w.part e).at_tag t)) h
 
 pub ask_says : (w : World) (e t q : ℕ) → Invariant w → SaysAlike w (step.Ask e t q)
 ask_says w e t q i =
@@ -82,19 +88,27 @@ ask_says w e t q i =
 no_slot : (w : World) (e : ℕ) → e < w.config.endpoints → is_none (lowest_label (device_of (wire w) e).slots) ≡ (Labels.lowest_label 16 (w.part e).at_slot == 16)
 no_slot w e l =
     ap (λ (d : DeviceWire). is_none (lowest_label d.slots)) (device_seen w e l)
-    ∙ no_label 16 (w.part e).at_slot (λ t. option_map (use_wire w.mappings (w.part e)) ((w.part e).at_slot t)) (λ t. seen_none (use_wire w.mappings (w.part e)) ((w.part e).at_slot t))
+    ∙ no_label 16 (w.part e).at_slot (λ t. option_map (use_wire w.mappings (w.part e)) ((w.part e).at_slot t))
+    (λ t. seen_none (use_wire w.mappings (w.part e)) ((w.part e).at_slot t))
 
-slot_is : (w : World) (e : ℕ) → e < w.config.endpoints → (Labels.lowest_label 16 (w.part e).at_slot == 16) ≡ false → label (lowest_label (device_of (wire w) e).slots) ≡ Labels.lowest_label 16 (w.part e).at_slot
+slot_is :
+    (w : World) (e : ℕ) → e < w.config.endpoints → (Labels.lowest_label 16 (w.part e).at_slot == 16) ≡ false
+    → label (lowest_label (device_of (wire w) e).slots) ≡ Labels.lowest_label 16 (w.part e).at_slot
 slot_is w e l h =
     ap (λ (d : DeviceWire). label (lowest_label d.slots)) (device_seen w e l)
-    ∙ label_is 16 (w.part e).at_slot (λ t. option_map (use_wire w.mappings (w.part e)) ((w.part e).at_slot t)) (λ t. seen_none (use_wire w.mappings (w.part e)) ((w.part e).at_slot t)) h
+    ∙ label_is 16 (w.part e).at_slot (λ t. option_map (use_wire w.mappings (w.part e)) ((w.part e).at_slot t))
+    (λ t. seen_none (use_wire w.mappings (w.part e)) ((w.part e).at_slot t)) h
 
-held_seen : (w : World) (e t q : ℕ) → Invariant w → e < w.config.endpoints → Labels.is_cached (w.part e) t q ≡ true → cached (device_of (wire w) e) t q ≡ Some (cached_wire w.mappings (w.part e) (Labels.cached (w.part e) (Labels.bearer (w.part e) t) q))
+held_seen :
+    (w : World) (e t q : ℕ) → Invariant w → e < w.config.endpoints → Labels.is_cached (w.part e) t q ≡ true
+    → cached (device_of (wire w) e) t q ≡ Some (cached_wire w.mappings (w.part e) (Labels.cached (w.part e) (Labels.bearer (w.part e) t) q))
 held_seen w e t q i l h =
     ap (λ d. cached d t q) (device_seen w e l) ∙ cached_seen w.mappings w.config.endpoints w.bindings w.messages e (w.part e) (i.parts e) t q h
 
 -- what passes the test of what isn't held is cached
-passed_held : (w : World) (e t q : ℕ) → Invariant w → e < w.config.endpoints → is_none (cached (device_of (wire w) e) t q) ≡ false → Labels.is_cached (w.part e) t q ≡ true
+passed_held :
+    (w : World) (e t q : ℕ) → Invariant w → e < w.config.endpoints → is_none (cached (device_of (wire w) e) t q) ≡ false
+    → Labels.is_cached (w.part e) t q ≡ true
 passed_held w e t q i l f = not_true (Labels.is_cached (w.part e) t q) (sym (ap (λ c. c.0) (not_held_cause w e t q i l)) ∙ f)
 
 pub begin_says : (w : World) (e t q : ℕ) (x : Bool) → Invariant w → SaysAlike w (step.BeginUse e t q x)
@@ -124,7 +138,9 @@ begin_says w e t q x i =
 
 -- EndUse.
 
-no_use : (w : World) (e u : ℕ) → Invariant w → e < w.config.endpoints → is_none (use_at (device_of (wire w) e) u) ≡ not (nat_lt u 16 && words.is_some ((w.part e).at_slot u))
+no_use :
+    (w : World) (e u : ℕ) → Invariant w → e < w.config.endpoints
+    → is_none (use_at (device_of (wire w) e) u) ≡ not (nat_lt u 16 && words.is_some ((w.part e).at_slot u))
 no_use w e u i l =
     ap (λ d. is_none (use_at d u)) (device_seen w e l)
     ∙ ap is_none (use_seen w.mappings (w.part e) (i.parts e).labels u)
@@ -149,7 +165,9 @@ end_says w e u i =
             λ f. (ap (λ b. (b, refusal.NoSuchUse)) (no_use w e u i (below_seen w e f)), λ f1. tt),
           );
       result = λ h.
-          let there = some_the ((w.part e).at_slot u) (and_right (nat_lt u 16) (words.is_some ((w.part e).at_slot u)) (not_true (nat_lt u 16 && words.is_some ((w.part e).at_slot u)) h.1.0)) in
+          let there =
+          some_the ((w.part e).at_slot u)
+          (and_right (nat_lt u 16) (words.is_some ((w.part e).at_slot u)) (not_true (nat_lt u 16 && words.is_some ((w.part e).at_slot u)) h.1.0)) in
           ap₂ (λ a v. by_one a (Move.End e v))
           (ap (λ d. end_answer (use_at d u)) (device_seen w e (is_less e w.config.endpoints h.0))
           ∙ ap end_answer (use_seen w.mappings (w.part e) (i.parts e).labels u)
@@ -158,7 +176,12 @@ end_says w e u i =
           (sym ((i.parts e).labels.slot_bears u (the ((w.part e).at_slot u)) there).0);
     }
   where
-    answered : (v : ℕ) (b : Bool) → end_answer (Some (if b then UseWire.RunningWire (translation_wire w.mappings (w.part e) ((w.part e).use_binding v) (w.mappings.page ((w.part e).use_mapping v)) ((w.part e).use_mapping v)) else UseWire.DeadWire)) ≡ (if b then answer.Ended else answer.Dead)
+    answered :
+        (v : ℕ) (b : Bool)
+        → end_answer
+        (Some (if b then UseWire.RunningWire
+        (translation_wire w.mappings (w.part e) ((w.part e).use_binding v) (w.mappings.page ((w.part e).use_mapping v)) ((w.part e).use_mapping v))
+        else UseWire.DeadWire)) ≡ (if b then answer.Ended else answer.Dead)
     answered v true = refl
     answered v false = refl
 

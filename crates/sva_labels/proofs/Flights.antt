@@ -87,15 +87,19 @@ flies w c = is_some ((w.part (w.way c)).message c)
 -- an older message is seen as before
 old_flight : (w : World) (e : ℕ) (o : Own) (c : ℕ) → c < w.messages → flight_wire (act w (At e o)) c ≡ flight_wire w c
 old_flight w e o c l =
-    ap (λ x. record { number = number w.config.first c; endpoint = x; message = (put w.part e (part_after w e o) x).carried c }) (old_way w.way w.messages (sends o) e c l)
+    ap (λ x. record { number = number w.config.first c; endpoint = x; message = (put w.part e (part_after w e o) x).carried c })
+    (old_way w.way w.messages (sends o) e c l)
     ∙ ap (λ m. record { number = number w.config.first c; endpoint = w.way c; message = m })
     (same_view (λ p. p.carried c) w.part e (part_after w e o) (old_carried (w.part e) w.messages o c l) (w.way c))
 
-new_flight : (w : World) (e : ℕ) (o : Own) (j : ℕ) → j < sends o → flight_wire (act w (At e o)) (w.messages + j) ≡ record { number = number w.config.first w.messages + j; endpoint = e; message = said (w.part e) o }
+new_flight :
+    (w : World) (e : ℕ) (o : Own) (j : ℕ) → j < sends o
+    → flight_wire (act w (At e o)) (w.messages + j) ≡ record { number = number w.config.first w.messages + j; endpoint = e; message = said (w.part e) o }
 new_flight w e o j l =
     let later : w.config.first + (w.messages + j) ≡ w.config.first + w.messages + j = omega arith in
     ap (λ x. record { number = number w.config.first (w.messages + j); endpoint = x; message = (put w.part e (part_after w e o) x).carried (w.messages + j) }) (new_way w.way w.messages (sends o) e j l)
-    ∙ ap (λ p. record { number = number w.config.first (w.messages + j); endpoint = e; message = p.carried (w.messages + j) }) (put-same w.part e (part_after w e o))
+    ∙ ap (λ p. record { number = number w.config.first (w.messages + j); endpoint = e; message = p.carried (w.messages + j) })
+    (put-same w.part e (part_after w e o))
     ∙ (λ i. record { number = later i; endpoint = e; message = new_carried (w.part e) w.messages o j l i })
 
 new_flies : (w : World) (e : ℕ) (o : Own) (j : ℕ) → j < sends o → flies (act w (At e o)) (w.messages + j) ≡ true
@@ -142,14 +146,17 @@ old_flies w e o c to l =
         differ : c ≢ d → b ≡ (b && not (c == d))
         differ ne = grind (arith, nat_tests)
 
-    go : (d : Option ℕ) → delivers o ≡ d → (w.way c ≡ e) ⊎ (w.way c ≢ e) → is_some ((put w.part e (part_after w e o) (w.way c)).message c) ≡ (is_some ((w.part (w.way c)).message c) && is_left d c)
+    go :
+        (d : Option ℕ) → delivers o ≡ d → (w.way c ≡ e) ⊎ (w.way c ≢ e)
+        → is_some ((put w.part e (part_after w e o) (w.way c)).message c) ≡ (is_some ((w.part (w.way c)).message c) && is_left d c)
     go d h (inl k) =
         ap (λ x. is_some ((put w.part e (part_after w e o) x).message c)) k
         ∙ ap (λ p. is_some (p.message c)) (put-same w.part e (part_after w e o))
         ∙ ap (λ x. is_some x) (old_message (w.part e) w.messages o c l)
         ∙ here d h k
         ∙ ap (λ x. is_some ((w.part x).message c) && is_left d c) (sym k)
-    go d h (inr ne) = ap (λ p. is_some (p.message c)) (put-other w.part e (part_after w e o) (w.way c) ne) ∙ there d h ne (is_some ((w.part (w.way c)).message c))
+    go d h (inr ne) =
+        ap (λ p. is_some (p.message c)) (put-other w.part e (part_after w e o) (w.way c) ne) ∙ there d h ne (is_some ((w.part (w.way c)).message c))
 
 -- those that are left, by their numbers
 abbrev pub still_flying : (first : ℕ) → Option ℕ → List FlightWire → List FlightWire
@@ -159,24 +166,32 @@ still_flying first (Some d) fs = filter (λ f. not (f.number == number first d))
 abbrev pub newly_sent : (next endpoint count : ℕ) → Message → List FlightWire
 newly_sent next e count m = tabulate count (λ j. record { number = next + j; endpoint = e; message = m })
 
-left_are : (w : World) (d : Option ℕ) → map (flight_wire w) (select w.messages (λ c. flies w c && is_left d c)) ≡ still_flying w.config.first d (wire w).in_flight
+left_are :
+    (w : World) (d : Option ℕ)
+    → map (flight_wire w) (select w.messages (λ c. flies w c && is_left d c)) ≡ still_flying w.config.first d (wire w).in_flight
 left_are w None =
     select_seen w.messages (λ c. flies w c && true) (flies w) (flight_wire w) (flight_wire w) (λ c l. all (flies w c)) (λ c l t. refl)
   where
     all : (b : Bool) → (b && true) ≡ b
     all b = grind arith
 left_are w (Some d) =
-    select_seen w.messages (λ c. flies w c && not (c == d)) (λ c. flies w c && not (number w.config.first c == number w.config.first d)) (flight_wire w) (flight_wire w)
+    select_seen w.messages (λ c. flies w c && not (c == d)) (λ c. flies w c && not (number w.config.first c == number w.config.first d))
+    (flight_wire w) (flight_wire w)
     (λ c l. ap (λ t. flies w c && not t) (same_number w.config.first c d)) (λ c l t. refl)
     ∙ sym (select_filtered w.messages (flies w) (flight_wire w) (λ f. not (f.number == number w.config.first d)))
   where
     same_number : (first c d : ℕ) → (c == d) ≡ (first + c == first + d)
     same_number first c d = grind (arith, nat_tests)
 
-pub flights_after : (w : World) (e : ℕ) (o : Own) → ComesTo w e o → (wire (act w (At e o))).in_flight ≡ still_flying w.config.first (delivers o) (wire w).in_flight ++ newly_sent (wire w).next_message e (sends o) (said (w.part e) o)
+pub flights_after :
+    (w : World) (e : ℕ) (o : Own) → ComesTo w e o
+    → (wire (act w (At e o))).in_flight
+    ≡ still_flying w.config.first (delivers o) (wire w).in_flight ++ newly_sent (wire w).next_message e (sends o) (said (w.part e) o)
 flights_after w e o to =
     select_more w.messages (sends o) (flies (act w (At e o))) (flight_wire (act w (At e o))) (λ j l. new_flies w e o j l)
     ∙ ap₂ (λ xs ys. xs ++ ys)
-    (select_seen w.messages (flies (act w (At e o))) (λ c. flies w c && is_left (delivers o) c) (flight_wire (act w (At e o))) (flight_wire w) (λ c l. old_flies w e o c to l) (λ c l t. old_flight w e o c l)
+    (select_seen w.messages (flies (act w (At e o))) (λ c. flies w c && is_left (delivers o) c) (flight_wire (act w (At e o))) (flight_wire w)
+    (λ c l. old_flies w e o c to l) (λ c l t. old_flight w e o c l)
     ∙ left_are w (delivers o))
-    (tabulate_same (sends o) (λ j. flight_wire (act w (At e o)) (w.messages + j)) (λ j. record { number = number w.config.first w.messages + j; endpoint = e; message = said (w.part e) o }) (λ j l. new_flight w e o j l))
+    (tabulate_same (sends o) (λ j. flight_wire (act w (At e o)) (w.messages + j))
+    (λ j. record { number = number w.config.first w.messages + j; endpoint = e; message = said (w.part e) o }) (λ j l. new_flight w e o j l))

@@ -22,19 +22,25 @@ hands_left w first e ms p o = grind arith
 pub spaces_left : (w : Wire) (first e : ℕ) (ms : Mappings) (p : Part) (o : Own) → (moved w (own_move first e ms p o)).spaces ≡ w.spaces
 spaces_left w first e ms p o = grind arith
 
-pub bindings_left : (w : Wire) (first e : ℕ) (ms : Mappings) (p : Part) (o : Own) → keeps_bindings o ≡ true → (moved w (own_move first e ms p o)).bindings ≡ w.bindings
+pub bindings_left :
+    (w : Wire) (first e : ℕ) (ms : Mappings) (p : Part) (o : Own) → keeps_bindings o ≡ true
+    → (moved w (own_move first e ms p o)).bindings ≡ w.bindings
 bindings_left w first e ms p o h = grind arith
 
 pub jobs_left : (w : Wire) (first e : ℕ) (ms : Mappings) (p : Part) (o : Own) → keeps_jobs o ≡ true → (moved w (own_move first e ms p o)).jobs ≡ w.jobs
 jobs_left w first e ms p o h = grind arith
 
-pub cookies_left : (w : Wire) (first e : ℕ) (ms : Mappings) (p : Part) (o : Own) → (moved w (own_move first e ms p o)).next_cookie ≡ w.next_cookie + cookies_of o
+pub cookies_left :
+    (w : Wire) (first e : ℕ) (ms : Mappings) (p : Part) (o : Own)
+    → (moved w (own_move first e ms p o)).next_cookie ≡ w.next_cookie + cookies_of o
 cookies_left w first e ms p o = grind arith
 
 pub messages_left : (w : Wire) (first e : ℕ) (ms : Mappings) (p : Part) (o : Own) → (moved w (own_move first e ms p o)).next_message ≡ w.next_message + sends o
 messages_left w first e ms p o = grind arith
 
-pub numbers_left : (w : Wire) (first e : ℕ) (ms : Mappings) (p : Part) (o : Own) → ((moved w (own_move first e ms p o)).next_space ≡ w.next_space) × ((moved w (own_move first e ms p o)).next_binding ≡ w.next_binding)
+pub numbers_left :
+    (w : Wire) (first e : ℕ) (ms : Mappings) (p : Part) (o : Own)
+    → ((moved w (own_move first e ms p o)).next_space ≡ w.next_space) × ((moved w (own_move first e ms p o)).next_binding ≡ w.next_binding)
 numbers_left w first e ms p o = (grind arith, grind arith)
 
 -- What is in flight.
@@ -49,13 +55,26 @@ one_sent xs next e m =
     let same : next ≡ next + 0 = omega arith in
     λ i. xs ++ record { number = same i; endpoint = e; message = m } ∷ []
 
-pub flights_left : (w : Wire) (first e : ℕ) (ms : Mappings) (p : Part) (o : Own) → (moved w (own_move first e ms p o)).in_flight ≡ still_flying first (delivers o) w.in_flight ++ newly_sent w.next_message e (sends o) (said p o)
-flights_left w first e ms p o = grind (arith, none_sent w.in_flight w.next_message e ResetMessage, none_sent (still_flying first (delivers o) w.in_flight) w.next_message e ResetMessage, one_sent w.in_flight w.next_message e (said p o), one_sent (still_flying first (delivers o) w.in_flight) w.next_message e (said p o))
+pub flights_left :
+    (w : Wire) (first e : ℕ) (ms : Mappings) (p : Part) (o : Own)
+    → (moved w (own_move first e ms p o)).in_flight ≡ still_flying first (delivers o) w.in_flight ++ newly_sent w.next_message e (sends o) (said p o)
+flights_left w first e ms p o =
+    grind (
+      arith,
+      none_sent w.in_flight w.next_message e ResetMessage,
+      none_sent
+          (still_flying first (delivers o) w.in_flight) w.next_message e ResetMessage,
+      one_sent w.in_flight w.next_message e (said p o),
+      one_sent
+          (still_flying first (delivers o) w.in_flight) w.next_message e (said p o),
+    )
 
 -- The part of the endpoint.
 
 unset : (w : Wire) (e : ℕ) → w.parts ≡ slice_set w.parts e (part_of w e)
 unset w e = sym (set-get_or w.parts e idle)
 
-pub parts_left : (w : Wire) (first e : ℕ) (ms : Mappings) (p : Part) (o : Own) → (moved w (own_move first e ms p o)).parts ≡ slice_set w.parts e (part_moved w.next_cookie (part_of w e) (own_move first e ms p o))
+pub parts_left :
+    (w : Wire) (first e : ℕ) (ms : Mappings) (p : Part) (o : Own)
+    → (moved w (own_move first e ms p o)).parts ≡ slice_set w.parts e (part_moved w.next_cookie (part_of w e) (own_move first e ms p o))
 parts_left w first e ms p o = grind (arith, unset w e)

@@ -56,7 +56,9 @@ checked_granted : (w : World) (cs : List Cause) (o : Outcome) → (Passed cs →
 checked_granted w [] o f = f tt
 checked_granted w (c ∷ cs) o f = go (λ e. checked_granted w cs o (λ k. f (e, k))) c.0 refl
   where
-    go : (c.0 ≡ false → AllGranted w (checked cs o).acts) → (b : Bool) → c.0 ≡ b → AllGranted w (if b then record { reply = Err c.1; acts = [] } else checked cs o).acts
+    go :
+        (c.0 ≡ false → AllGranted w (checked cs o).acts) → (b : Bool) → c.0 ≡ b
+        → AllGranted w (if b then record { reply = Err c.1; acts = [] } else checked cs o).acts
     go rest true e = tt
     go rest false e = rest e
 
@@ -82,7 +84,10 @@ both_false : (a b : Bool) → (a && b) ≡ false → a ≡ true → b ≡ false
 both_false true b h e = h
 both_false false b h e = absurd (cc (e))
 
-unmap_granted : (w : World) (s q count order n : ℕ) → n ≡ suc count → any_below w.config.endpoints (λ e. submits w s e && is_queue_short (w.part e) n) ≡ false → Labels.lacks w w.cookies (count_below w.config.endpoints (submits w s)) ≡ false → AllGranted w (Unmap s q count order ∷ [])
+unmap_granted :
+    (w : World) (s q count order n : ℕ) → n ≡ suc count
+    → any_below w.config.endpoints (λ e. submits w s e && is_queue_short (w.part e) n) ≡ false
+    → Labels.lacks w w.cookies (count_below w.config.endpoints (submits w s)) ≡ false → AllGranted w (Unmap s q count order ∷ [])
 unmap_granted w s q count order n same full spent =
     (((λ e l t. room e l t), left w w.cookies (count_below w.config.endpoints (submits w s)) spent), tt)
   where
@@ -124,8 +129,11 @@ send_granted : (w : World) (e k t : ℕ) (b : Bool) → (b ≡ true → Labels.l
 send_granted w e k t true h = (sending w e (Own.Send k t) (h refl) refl tt, tt)
 send_granted w e k t false h = tt
 
-is_sent : (p : Part) → (o : Order) → p.order (Labels.head p) ≡ o → is_wait o ≡ false → Labels.is_queue_empty p ≡ false → not (Labels.lowest_label 32 p.at_itag == 32) ≡ true → sends_invalidate p ≡ true
-is_sent p o h nw ne free = go (Labels.is_queue_empty p) (is_wait (p.order (Labels.head p))) (not (Labels.lowest_label 32 p.at_itag == 32)) ne (ap is_wait h ∙ nw) free
+is_sent :
+    (p : Part) → (o : Order) → p.order (Labels.head p) ≡ o → is_wait o ≡ false → Labels.is_queue_empty p ≡ false
+    → not (Labels.lowest_label 32 p.at_itag == 32) ≡ true → sends_invalidate p ≡ true
+is_sent p o h nw ne free =
+    go (Labels.is_queue_empty p) (is_wait (p.order (Labels.head p))) (not (Labels.lowest_label 32 p.at_itag == 32)) ne (ap is_wait h ∙ nw) free
   where
     go : (a b c : Bool) → a ≡ false → b ≡ false → c ≡ true → (not a && not b && c) ≡ true
     go false false true x y z = refl
@@ -133,7 +141,10 @@ is_sent p o h nw ne free = go (Labels.is_queue_empty p) (is_wait (p.order (Label
     go false true c x y z = absurd (cc (y))
     go false false false x y z = absurd (cc (z))
 
-head_granted : (w : World) (e : ℕ) (o : Order) → (w.part e).order (Labels.head (w.part e)) ≡ o → Labels.is_queue_empty (w.part e) ≡ false → (sends_invalidate (w.part e) && Labels.lacks w w.messages 1) ≡ false → AllGranted w (head_outcome (w.part e) e (Labels.head (w.part e)) o).acts
+head_granted :
+    (w : World) (e : ℕ) (o : Order) → (w.part e).order (Labels.head (w.part e)) ≡ o → Labels.is_queue_empty (w.part e) ≡ false
+    → (sends_invalidate (w.part e) && Labels.lacks w w.messages 1) ≡ false
+    → AllGranted w (head_outcome (w.part e) e (Labels.head (w.part e)) o).acts
 head_granted w e (Wait cookie drain) h ne s = wait_granted w e (Labels.head (w.part e)) (may_pass (w.part e) drain)
 head_granted w e (RangeOf b range) h ne s =
     send_granted w e (Labels.head (w.part e)) (Labels.lowest_label 32 (w.part e).at_itag) (not (Labels.lowest_label 32 (w.part e).at_itag == 32))
@@ -142,7 +153,9 @@ head_granted w e (PasidOf b) h ne s =
     send_granted w e (Labels.head (w.part e)) (Labels.lowest_label 32 (w.part e).at_itag) (not (Labels.lowest_label 32 (w.part e).at_itag == 32))
     (λ t. both_false (sends_invalidate (w.part e)) (Labels.lacks w w.messages 1) s (is_sent (w.part e) (PasidOf b) h refl ne t))
 
-pump_granted : (w : World) (e : ℕ) (b : Bool) → Labels.is_queue_empty (w.part e) ≡ b → (sends_invalidate (w.part e) && Labels.lacks w w.messages 1) ≡ false → AllGranted w (pump_outcome (w.part e) e b).acts
+pump_granted :
+    (w : World) (e : ℕ) (b : Bool) → Labels.is_queue_empty (w.part e) ≡ b
+    → (sends_invalidate (w.part e) && Labels.lacks w w.messages 1) ≡ false → AllGranted w (pump_outcome (w.part e) e b).acts
 pump_granted w e true h s = tt
 pump_granted w e false h s = head_granted w e ((w.part e).order (Labels.head (w.part e))) refl h s
 
@@ -167,23 +180,34 @@ responding true Lost v code h = absurd (cc (h))
 responding true Released v code h = absurd (cc (h))
 responding false s v code h = absurd (cc (h))
 
-maps_granted : (x e g : ℕ) (code : Code) (s : ℕ) (write : ℕ → Bool) (qs fs : List ℕ) (w : World) → Labels.lacks w w.messages 1 ≡ false → AllGranted w (maps_to s write qs fs ++ LetGo x ∷ At e (Own.Respond g code) ∷ [])
+maps_granted :
+    (x e g : ℕ) (code : Code) (s : ℕ) (write : ℕ → Bool) (qs fs : List ℕ) (w : World) → Labels.lacks w w.messages 1 ≡ false
+    → AllGranted w (maps_to s write qs fs ++ LetGo x ∷ At e (Own.Respond g code) ∷ [])
 maps_granted x e g code s write [] fs w h = (tt, (sending (act w (LetGo x)) e (Own.Respond g code) h refl tt, tt))
 maps_granted x e g code s write (q ∷ qs) [] w h = (tt, (sending (act w (LetGo x)) e (Own.Respond g code) h refl tt, tt))
 maps_granted x e g code s write (q ∷ qs) (f ∷ fs) w h = (tt, maps_granted x e g code s write qs fs (act w (Map s q f (write q))) h)
 
-reply_granted : (w : World) (x j : ℕ) (v : Verdict) (o : Option Code) → response_to w j v ≡ o → (responds w j && Labels.lacks w w.messages 1) ≡ false → AllGranted w (reply_outcome w x j (reply_maps w j v) o).acts
+reply_granted :
+    (w : World) (x j : ℕ) (v : Verdict) (o : Option Code) → response_to w j v ≡ o → (responds w j && Labels.lacks w w.messages 1) ≡ false
+    → AllGranted w (reply_outcome w x j (reply_maps w j v) o).acts
 reply_granted w x j v None e h = (tt, (free_of (act w (LetGo x)) (w.job j).endpoint (Own.Discard (w.job j).group) refl refl tt, tt))
 reply_granted w x j v (Some code) e h = go (replies_success w j v)
   where
     few : Labels.lacks w w.messages 1 ≡ false
-    few = both_false (responds w j) (Labels.lacks w w.messages 1) h (responding (is_open (job_part w j).phase) ((job_part w j).stage (job_binding w j)) v code e)
+    few =
+        both_false (responds w j) (Labels.lacks w w.messages 1) h (responding (is_open (job_part w j).phase) ((job_part w j).stage (job_binding w j)) v code e)
 
-    go : (b : Bool) → AllGranted w ((if b then maps_to (job_space w j) (is_write_asked w j) (newly_mapped w j) (free_list w) else []) ++ LetGo x ∷ At (w.job j).endpoint (Own.Respond (w.job j).group code) ∷ [])
+    go :
+        (b : Bool)
+        → AllGranted w
+        ((if b then maps_to (job_space w j) (is_write_asked w j) (newly_mapped w j) (free_list w) else []) ++ LetGo x ∷ At (w.job j).endpoint
+        (Own.Respond (w.job j).group code) ∷ [])
     go true = maps_granted x (w.job j).endpoint (w.job j).group code (job_space w j) (is_write_asked w j) (newly_mapped w j) (free_list w) w few
     go false = (tt, (sending (act w (LetGo x)) (w.job j).endpoint (Own.Respond (w.job j).group code) few refl tt, tt))
 
-fault_granted : (w : World) (e t q : ℕ) (r x l : Bool) (o : Option ℕ) → Labels.lacks w w.messages 1 ≡ false → AllGranted w (fault_outcome (w.part e) e t q r x l o).acts
+fault_granted :
+    (w : World) (e t q : ℕ) (r x l : Bool) (o : Option ℕ) → Labels.lacks w w.messages 1 ≡ false
+    → AllGranted w (fault_outcome (w.part e) e t q r x l o).acts
 fault_granted w e t q r x l None h = (sending w e (Own.Group (Labels.bearer (w.part e) t) (Labels.lowest_label 32 (w.part e).at_index) q r x l) h refl tt, tt)
 fault_granted w e t q r x l (Some i) h = (sending w e (Own.Request (the ((w.part e).at_index i)) q r x l) h refl tt, tt)
 
@@ -217,7 +241,9 @@ marker_granted : (w : World) (e c b : ℕ) (t : Bool) → AllGranted w (marker_o
 marker_granted w e c b true = (free_of w e (Own.Mark c b) refl refl tt, tt)
 marker_granted w e c b false = (free_of w e (Own.Ignore c) refl refl tt, tt)
 
-deliver_granted : (w : World) (e c : ℕ) (o : Option About) → (delivery_sends (w.part e) o && Labels.lacks w w.messages 1) ≡ false → AllGranted w (deliver_outcome w (w.part e) e c o).acts
+deliver_granted :
+    (w : World) (e c : ℕ) (o : Option About) → (delivery_sends (w.part e) o && Labels.lacks w w.messages 1) ≡ false
+    → AllGranted w (deliver_outcome w (w.part e) e c o).acts
 deliver_granted w e c None h = tt
 deliver_granted w e c (Some (StartOf b)) h = (free_of w e (Own.Start_arrives c b) refl refl tt, tt)
 deliver_granted w e c (Some (StopOf b)) h = (free_of w e (Own.Stop_arrives c b) refl refl tt, tt)
@@ -239,10 +265,14 @@ outcome_granted w (step.DropSpace n) h = (tt, tt)
 outcome_granted w (step.Map n q x) h = (tt, tt)
 outcome_granted w (step.Unmap n q count) h = unmap_granted w (Labels.name w n) q count 0 (count + 1) (omega arith) h.1.1.1.1.0 h.1.1.1.1.1.0
 outcome_granted w (step.UnmapRange n q order) h = unmap_granted w (Labels.name w n) q 1 order 2 (omega arith) h.1.1.1.1.1.0 h.1.1.1.1.1.1.0
-outcome_granted w (step.Bind e n) h =
-    (left w w.bindings 1 h.1.1.1.1.1.0, (sending (act w (NewBinding e)) e (Own.Bind w.bindings (Labels.name w n) (the (Labels.pasid_for w e (Labels.name w n)))) h.1.1.1.1.1.1.0 refl tt, tt))
-outcome_granted w (step.Unbind n) h = unbind_granted w (w.home (Labels.name w n)) (Labels.name w n) ((w.part (w.home (Labels.name w n))).stage (Labels.name w n)) h.1
-outcome_granted w (step.Advance n) h = advance_granted w (w.home (Labels.name w n)) (Labels.name w n) ((w.part (w.home (Labels.name w n))).stage (Labels.name w n)) h.1
+outcome_granted w (step.Bind e n) h = (
+  left w w.bindings 1 h.1.1.1.1.1.0,
+  (sending (act w (NewBinding e)) e (Own.Bind w.bindings (Labels.name w n) (the (Labels.pasid_for w e (Labels.name w n)))) h.1.1.1.1.1.1.0 refl tt, tt),
+)
+outcome_granted w (step.Unbind n) h =
+    unbind_granted w (w.home (Labels.name w n)) (Labels.name w n) ((w.part (w.home (Labels.name w n))).stage (Labels.name w n)) h.1
+outcome_granted w (step.Advance n) h =
+    advance_granted w (w.home (Labels.name w n)) (Labels.name w n) ((w.part (w.home (Labels.name w n))).stage (Labels.name w n)) h.1
 outcome_granted w (step.Pump e) h = pump_granted w e (Labels.is_queue_empty (w.part e)) refl h.1.1.0
 outcome_granted w (step.Serve e) h = serve_granted w e (w.part e) (Labels.is_page_queue_empty (w.part e))
 outcome_granted w (step.Reset e) h = (sending w e Own.Reset h.1.1.0 refl tt, tt)
@@ -255,7 +285,8 @@ outcome_granted w (step.Evict e t q) h = (free_of w e (Own.Evict _) refl refl tt
 outcome_granted w (step.Fault e t q r x group l) h = fault_granted w e t q r x l group h.1.1.1.1.1.1.0
 outcome_granted w (step.Finish e vector count) h = (sending w e (Own.Finish (Labels.is_named (w.part e) vector) vector count) h.1.1.1.1.0 refl tt, tt)
 outcome_granted w (step.Quit e t) h = (sending w e (Own.Quit (Labels.bearer (w.part e) t)) h.1.1.1.0 refl tt, tt)
-outcome_granted w (step.Deliver n) h = deliver_granted w (w.way (Labels.name w n)) (Labels.name w n) ((w.part (w.way (Labels.name w n))).message (Labels.name w n)) h.1.1.0
+outcome_granted w (step.Deliver n) h =
+    deliver_granted w (w.way (Labels.name w n)) (Labels.name w n) ((w.part (w.way (Labels.name w n))).message (Labels.name w n)) h.1.1.0
 outcome_granted w (step.Look f) h = tt
 outcome_granted w (step.Bearer t) h = tt
 
@@ -275,5 +306,7 @@ run_has : (P : World → Type 0) → IsKept P → (ss : List Step) (w : World) �
 run_has P k [] w i h = h
 run_has P k (s ∷ ss) w i h = run_has P k ss (next w s) (next_keeps w s i) (acts_have P k (decide w s).acts w (step_legal w s i) (step_granted w s) i h)
 
-pub always_has : (P : World → Type 0) → IsKept P → (rule : PasidRule) (config : Config) (steps : List Step) → P (opened rule config) → P (world_after rule config steps)
+pub always_has :
+    (P : World → Type 0) → IsKept P → (rule : PasidRule) (config : Config) (steps : List Step) → P (opened rule config)
+    → P (world_after rule config steps)
 always_has P k rule config steps h = run_has P k steps (opened rule config) (opened_invariant rule config) h

@@ -27,7 +27,9 @@ begun_or_not : (s : HostGroupState) → is_past s ≡ false → (s ≡ NotFiled)
 begun_or_not s h = grind arith
 
 -- where a request is filed in a group that isn't a job yet, and that no reset has dropped
-pub host_groups_in_turn : (ms : Mappings) (x g n e first : ℕ) (p : Part) (o : Own) → LegalOwn ms g p o → PartInvariant ms x g n e p → FilesOpen p o → Filings p → host_groups_wire first (own p n o) ≡ host_groups_moved (host_groups_wire first p) (own_move first e ms p o)
+pub host_groups_in_turn :
+    (ms : Mappings) (x g n e first : ℕ) (p : Part) (o : Own) → LegalOwn ms g p o → PartInvariant ms x g n e p → FilesOpen p o → Filings p
+    → host_groups_wire first (own p n o) ≡ host_groups_moved (host_groups_wire first p) (own_move first e ms p o)
 host_groups_in_turn ms x g n e first p (Own.Bind b s t) l i turn fi = refl
 host_groups_in_turn ms x g n e first p (Own.Stop b) l i turn fi = refl
 host_groups_in_turn ms x g n e first p (Own.Drain b cookie) l i turn fi = refl
@@ -73,5 +75,7 @@ files_open ms x g n e p (Own.File r) l i on = go (p.host_group (p.group_of r)) (
     go s (inr h) = ap is_past h
 files_open ms x g n e p _ l i on = tt
 
-pub host_groups_acts : (ms : Mappings) (x g n e first : ℕ) (p : Part) (o : Own) → LegalOwn ms g p o → PartInvariant ms x g n e p → OnTheWay p → Filings p → host_groups_wire first (own p n o) ≡ host_groups_moved (host_groups_wire first p) (own_move first e ms p o)
+pub host_groups_acts :
+    (ms : Mappings) (x g n e first : ℕ) (p : Part) (o : Own) → LegalOwn ms g p o → PartInvariant ms x g n e p → OnTheWay p → Filings p
+    → host_groups_wire first (own p n o) ≡ host_groups_moved (host_groups_wire first p) (own_move first e ms p o)
 host_groups_acts ms x g n e first p o l i on fi = host_groups_in_turn ms x g n e first p o l i (files_open ms x g n e p o l i on) fi

@@ -54,7 +54,8 @@ asks_same p q a g =
     ∙ sym (asks_seen p g)
 
 begins_alike : (p q : Part) → FiledAlike p q → (k : ℕ) → k < p.filings → begins_open q k ≡ begins_open p k
-begins_alike p q a k l = begins_same (opens p) (opens q) (filed_group p) (filed_group q) k (λ j m. filed_group_same p q a j (omega (arith, l, m))) (a.same_opens k l)
+begins_alike p q a k l =
+    begins_same (opens p) (opens q) (filed_group p) (filed_group q) k (λ j m. filed_group_same p q a j (omega (arith, l, m))) (a.same_opens k l)
 
 pub opens_of : (b c : Bool) → (b && c) ≡ true → b ≡ true
 opens_of b c h = grind arith
@@ -67,21 +68,29 @@ groups_alike first p q a =
     ap (λ z. map (λ k. host_group_wire first q (filed_group q k)) (select z (begins_open q))) a.filings
     ∙ picked_same p.filings (λ k. host_group_wire first q (filed_group q k)) (λ k. host_group_wire first p (filed_group p k)) (begins_open q) (begins_open p)
     (begins_alike p q a)
-    (λ k l h. ap (host_group_wire first q) (filed_group_same p q a k l) ∙ entry k l (opens_of (opens p (filed_group p k)) (not (any_below k (λ j. filed_group p j == filed_group p k))) (sym (begins_alike p q a k l) ∙ h)))
+    (λ k l h. ap (host_group_wire first q) (filed_group_same p q a k l)
+    ∙ entry k l (opens_of (opens p (filed_group p k)) (not (any_below k (λ j. filed_group p j == filed_group p k))) (sym (begins_alike p q a k l) ∙ h)))
   where
     entry : (k : ℕ) → k < p.filings → opens p (filed_group p k) ≡ true → host_group_wire first q (filed_group p k) ≡ host_group_wire first p (filed_group p k)
-    entry k l h = λ i. record { binding = number first (a.under k l h i); index = a.index k l h i; asks = asks_same p q a (filed_group p k) i; is_whole = not (a.part k l h i) }
+    entry k l h =
+        λ i.
+        record { binding = number first (a.under k l h i); index = a.index k l h i; asks = asks_same p q a (filed_group p k) i; is_whole = not (a.part k l h i) }
 
 -- the endpoint makes a page request: of what is filed nothing changes
 
-pub groups_group : (g first n : ℕ) (p : Part) (b i q : ℕ) (r x l : Bool) → Bounds g p → Filings p → host_groups_wire first (own p n (Own.Group b i q r x l)) ≡ host_groups_wire first p
+pub groups_group :
+    (g first n : ℕ) (p : Part) (b i q : ℕ) (r x l : Bool) → Bounds g p → Filings p
+    → host_groups_wire first (own p n (Own.Group b i q r x l)) ≡ host_groups_wire first p
 groups_group g first n p b i q r x l bo fi =
     groups_alike first p (own p n (Own.Group b i q r x l))
     (record {
       filings = refl;
       filing = λ k m. refl;
       group_of = λ k m. old_put p.group_of p.page_requests (p.filing k) p.groups (made k m);
-      ask = λ k m. λ j. record { page = old_put p.asked_page p.page_requests (p.filing k) q (made k m) j; read = old_put p.asks_read p.page_requests (p.filing k) r (made k m) j; write = old_put p.asks_write p.page_requests (p.filing k) x (made k m) j };
+      ask =
+          λ k m.
+          λ j.
+          record { page = old_put p.asked_page p.page_requests (p.filing k) q (made k m) j; read = old_put p.asks_read p.page_requests (p.filing k) r (made k m) j; write = old_put p.asks_write p.page_requests (p.filing k) x (made k m) j };
       same_opens = λ k m. refl;
       under = λ k m h. refl;
       index = λ k m h. old_put p.index p.groups (filed_group p k) i (bo.group_of (p.filing k) (made k m));
@@ -91,14 +100,19 @@ groups_group g first n p b i q r x l bo fi =
     made : (k : ℕ) → k < p.filings → p.filing k < p.page_requests
     made = filed_made g p bo fi
 
-pub groups_request : (g first n : ℕ) (p : Part) (w q : ℕ) (r x l : Bool) → Bounds g p → Filings p → host_groups_wire first (own p n (Own.Request w q r x l)) ≡ host_groups_wire first p
+pub groups_request :
+    (g first n : ℕ) (p : Part) (w q : ℕ) (r x l : Bool) → Bounds g p → Filings p
+    → host_groups_wire first (own p n (Own.Request w q r x l)) ≡ host_groups_wire first p
 groups_request g first n p w q r x l bo fi =
     groups_alike first p (own p n (Own.Request w q r x l))
     (record {
       filings = refl;
       filing = λ k m. refl;
       group_of = λ k m. old_put p.group_of p.page_requests (p.filing k) w (made k m);
-      ask = λ k m. λ j. record { page = old_put p.asked_page p.page_requests (p.filing k) q (made k m) j; read = old_put p.asks_read p.page_requests (p.filing k) r (made k m) j; write = old_put p.asks_write p.page_requests (p.filing k) x (made k m) j };
+      ask =
+          λ k m.
+          λ j.
+          record { page = old_put p.asked_page p.page_requests (p.filing k) q (made k m) j; read = old_put p.asks_read p.page_requests (p.filing k) r (made k m) j; write = old_put p.asks_write p.page_requests (p.filing k) x (made k m) j };
       same_opens = λ k m. refl;
       under = λ k m h. refl;
       index = λ k m h. refl;
@@ -110,7 +124,10 @@ groups_request g first n p w q r x l bo fi =
 
 -- another state of one group, by which it is open as before, and whole as before
 
-pub groups_state : (first : ℕ) (p : Part) (g : ℕ) (s : HostGroupState) → is_open_group s ≡ is_open_group (p.host_group g) → (is_open_group (p.host_group g) ≡ true → is_part s ≡ is_part (p.host_group g)) → host_groups_wire first (record p { host_group = put p.host_group g s }) ≡ host_groups_wire first p
+pub groups_state :
+    (first : ℕ) (p : Part) (g : ℕ) (s : HostGroupState) → is_open_group s ≡ is_open_group (p.host_group g)
+    → (is_open_group (p.host_group g) ≡ true → is_part s ≡ is_part (p.host_group g))
+    → host_groups_wire first (record p { host_group = put p.host_group g s }) ≡ host_groups_wire first p
 groups_state first p g s o w =
     groups_alike first p (record p { host_group = put p.host_group g s })
     (record {
@@ -125,21 +142,30 @@ groups_state first p g s o w =
     })
   where
     same : (x : ℕ) → (x ≡ g) ⊎ (x ≢ g) → is_open_group (put p.host_group g s x) ≡ is_open_group (p.host_group x)
-    same x (inl e) = ap (λ z. is_open_group (put p.host_group g s z)) e ∙ ap is_open_group (put-same p.host_group g s) ∙ o ∙ ap (λ z. is_open_group (p.host_group z)) (sym e)
+    same x (inl e) =
+        ap (λ z. is_open_group (put p.host_group g s z)) e ∙ ap is_open_group (put-same p.host_group g s) ∙ o ∙ ap (λ z. is_open_group (p.host_group z)) (sym e)
     same x (inr ne) = ap is_open_group (put-other p.host_group g s x ne)
 
     whole : (x : ℕ) → is_open_group (p.host_group x) ≡ true → (x ≡ g) ⊎ (x ≢ g) → is_part (put p.host_group g s x) ≡ is_part (p.host_group x)
-    whole x h (inl e) = ap (λ z. is_part (put p.host_group g s z)) e ∙ ap is_part (put-same p.host_group g s) ∙ w (sym (ap (λ z. is_open_group (p.host_group z)) e) ∙ h) ∙ ap (λ z. is_part (p.host_group z)) (sym e)
+    whole x h (inl e) =
+        ap (λ z. is_part (put p.host_group g s z)) e
+        ∙ ap is_part (put-same p.host_group g s)
+        ∙ w (sym (ap (λ z. is_open_group (p.host_group z)) e) ∙ h)
+        ∙ ap (λ z. is_part (p.host_group z)) (sym e)
     whole x h (inr ne) = ap is_part (put-other p.host_group g s x ne)
 
 -- a job goes to a worker
 
-pub groups_hand : (ms : Mappings) (g first n : ℕ) (p : Part) (x w : ℕ) → LegalOwn ms g p (Own.Hand x w) → host_groups_wire first (own p n (Own.Hand x w)) ≡ host_groups_wire first p
+pub groups_hand :
+    (ms : Mappings) (g first n : ℕ) (p : Part) (x w : ℕ) → LegalOwn ms g p (Own.Hand x w)
+    → host_groups_wire first (own p n (Own.Hand x w)) ≡ host_groups_wire first p
 groups_hand ms g first n p x w l = groups_state first p x (InHand w) (sym (ap is_open_group l)) (λ h. sym (ap is_part l))
 
 -- a worker's answer goes nowhere: the group isn't open
 
-pub groups_discard : (ms : Mappings) (y g first n e : ℕ) (p : Part) (x : ℕ) → LegalOwn ms g p (Own.Discard x) → PartInvariant ms y g n e p → host_groups_wire first (own p n (Own.Discard x)) ≡ host_groups_wire first p
+pub groups_discard :
+    (ms : Mappings) (y g first n e : ℕ) (p : Part) (x : ℕ) → LegalOwn ms g p (Own.Discard x) → PartInvariant ms y g n e p
+    → host_groups_wire first (own p n (Own.Discard x)) ≡ host_groups_wire first p
 groups_discard ms y g first n e p x l i = go l.0
   where
     shut : (b : Bool) → is_open p.phase ≡ b → (w : ℕ) → p.host_group x ≢ InHand w
@@ -149,7 +175,9 @@ groups_discard ms y g first n e p x l i = go l.0
         is_opened : is_open p.phase ≡ true → p.phase ≡ Open
         is_opened c = grind arith
 
-    go : (w : ℕ) × ((p.host_group x ≡ InHand w) ⊎ (p.host_group x ≡ InHandDiscarded w)) → host_groups_wire first (own p n (Own.Discard x)) ≡ host_groups_wire first p
+    go :
+        (w : ℕ) × ((p.host_group x ≡ InHand w) ⊎ (p.host_group x ≡ InHandDiscarded w))
+        → host_groups_wire first (own p n (Own.Discard x)) ≡ host_groups_wire first p
     go (w, inl h) = absurd (shut (is_open p.phase) refl w h)
     go (w, inr h) = groups_state first p x Discarded (sym (ap is_open_group h)) (λ o. sym (ap is_part h))
 
@@ -164,4 +192,5 @@ shut_begins b c h = grind arith
 pub groups_reset : (first n : ℕ) (p : Part) → host_groups_wire first (own p n Own.Reset) ≡ []
 groups_reset first n p =
     picked_none p.filings (λ k. host_group_wire first (own p n Own.Reset) (filed_group p k)) (begins_open (own p n Own.Reset))
-    (λ k l. shut_begins (is_open_group (discarded (p.host_group (filed_group p k)))) (not (any_below k (λ j. filed_group p j == filed_group p k))) (dropped (p.host_group (filed_group p k))))
+    (λ k l. shut_begins (is_open_group (discarded (p.host_group (filed_group p k)))) (not (any_below k (λ j. filed_group p j == filed_group p k)))
+    (dropped (p.host_group (filed_group p k))))

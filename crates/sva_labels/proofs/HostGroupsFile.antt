@@ -49,16 +49,21 @@ none_of a b h = grind arith
 one_of : (a b : Bool) → a ≡ true → b ≡ true → not (a && b) ≡ false
 one_of a b h i = grind arith
 
-in_hand_of : (s : HostGroupState) (t : Stage) → (w : ℕ) × ((s ≡ InHand w) ⊎ (s ≡ InHandDiscarded w)) → ((w : ℕ) → s ≡ InHandDiscarded w → is_active t ≡ false) → is_before_invalidating t ≡ true → is_open_group s ≡ true
+in_hand_of :
+    (s : HostGroupState) (t : Stage) → (w : ℕ) × ((s ≡ InHand w) ⊎ (s ≡ InHandDiscarded w))
+    → ((w : ℕ) → s ≡ InHandDiscarded w → is_active t ≡ false) → is_before_invalidating t ≡ true → is_open_group s ≡ true
 in_hand_of s t (w, inl h) d b = ap is_open_group h
 in_hand_of s t (w, inr h) d b = absurd (inactive t (d w h) b)
   where
     inactive : (t : Stage) → is_active t ≡ false → is_before_invalidating t ≢ true
     inactive t h b = grind arith
 
-pub groups_respond : (ms : Mappings) (y g first n e : ℕ) (p : Part) (x : ℕ) (code : Code) → LegalOwn ms g p (Own.Respond x code) → PartInvariant ms y g n e p → host_groups_wire first (own p n (Own.Respond x code)) ≡ filter (λ z. not (is_of_job (group_job first e p x) z)) (host_groups_wire first p)
+pub groups_respond :
+    (ms : Mappings) (y g first n e : ℕ) (p : Part) (x : ℕ) (code : Code) → LegalOwn ms g p (Own.Respond x code) → PartInvariant ms y g n e p
+    → host_groups_wire first (own p n (Own.Respond x code)) ≡ filter (λ z. not (is_of_job (group_job first e p x) z)) (host_groups_wire first p)
 groups_respond ms y g first n e p x code l i =
-    picked_filter p.filings (λ k. host_group_wire first p (filed_group p k)) (λ k. host_group_wire first q (filed_group p k)) (begins_open p) (begins_open q) (λ z. not (is_of_job (group_job first e p x) z))
+    picked_filter p.filings (λ k. host_group_wire first p (filed_group p k)) (λ k. host_group_wire first q (filed_group p k)) (begins_open p)
+    (begins_open q) (λ z. not (is_of_job (group_job first e p x) z))
     (λ k m b. passes k b (ℕ_cases (filed_group p k) x))
     (λ k m b. fails k b (ℕ_cases (filed_group p k) x))
     (λ k m b. entry k b (ℕ_cases (filed_group p k) x))
@@ -78,25 +83,37 @@ groups_respond ms y g first n e p x code l i =
     stays : (k : ℕ) → filed_group p k ≢ x → begins_open q k ≡ begins_open p k
     stays k ne = ap (λ z. is_open_group z && older k) (put-other p.host_group x Replied (filed_group p k) ne)
 
-    passes : (k : ℕ) → begins_open p k ≡ true → (filed_group p k ≡ x) ⊎ (filed_group p k ≢ x) → begins_open q k ≡ not (is_of_job (group_job first e p x) (host_group_wire first p (filed_group p k)))
+    passes :
+        (k : ℕ) → begins_open p k ≡ true → (filed_group p k ≡ x) ⊎ (filed_group p k ≢ x)
+        → begins_open q k ≡ not (is_of_job (group_job first e p x) (host_group_wire first p (filed_group p k)))
     passes k b (inl c) =
         shut_begins (is_open_group (put p.host_group x Replied (filed_group p k))) (older k) (gone k c)
-        ∙ sym (one_of (number first (p.filed_under (filed_group p k)) == number first (p.filed_under x)) (p.index (filed_group p k) == p.index x) (equals (number first (p.filed_under (filed_group p k))) (number first (p.filed_under x)) (ap (λ z. number first (p.filed_under z)) c)) (equals (p.index (filed_group p k)) (p.index x) (ap p.index c)))
+        ∙ sym (one_of (number first (p.filed_under (filed_group p k)) == number first (p.filed_under x)) (p.index (filed_group p k) == p.index x)
+        (equals (number first (p.filed_under (filed_group p k))) (number first (p.filed_under x)) (ap (λ z. number first (p.filed_under z)) c))
+        (equals (p.index (filed_group p k)) (p.index x) (ap p.index c)))
     passes k b (inr ne) =
         stays k ne ∙ b
-        ∙ sym (none_of (number first (p.filed_under (filed_group p k)) == number first (p.filed_under x)) (p.index (filed_group p k) == p.index x) (differs (p.index (filed_group p k)) (p.index x) (λ s. ne (same_index p i.groups l.0 x (filed_group p k) out (opens_of (opens p (filed_group p k)) (older k) b) s))))
+        ∙ sym (none_of (number first (p.filed_under (filed_group p k)) == number first (p.filed_under x)) (p.index (filed_group p k) == p.index x)
+        (differs (p.index (filed_group p k)) (p.index x)
+        (λ s. ne (same_index p i.groups l.0 x (filed_group p k) out (opens_of (opens p (filed_group p k)) (older k) b) s))))
 
     fails : (k : ℕ) → begins_open p k ≡ false → (filed_group p k ≡ x) ⊎ (filed_group p k ≢ x) → begins_open q k ≡ false
     fails k b (inl c) = shut_begins (is_open_group (put p.host_group x Replied (filed_group p k))) (older k) (gone k c)
     fails k b (inr ne) = stays k ne ∙ b
 
-    entry : (k : ℕ) → begins_open q k ≡ true → (filed_group p k ≡ x) ⊎ (filed_group p k ≢ x) → host_group_wire first q (filed_group p k) ≡ host_group_wire first p (filed_group p k)
+    entry :
+        (k : ℕ) → begins_open q k ≡ true → (filed_group p k ≡ x) ⊎ (filed_group p k ≢ x)
+        → host_group_wire first q (filed_group p k) ≡ host_group_wire first p (filed_group p k)
     entry k b (inl c) = absurd (cc (sym (shut_begins (is_open_group (put p.host_group x Replied (filed_group p k))) (older k) (gone k c)) ∙ b))
-    entry k b (inr ne) = ap (λ (s : HostGroupState). record (host_group_wire first p (filed_group p k)) { is_whole = not (is_part s) }) (put-other p.host_group x Replied (filed_group p k) ne)
+    entry k b (inr ne) =
+        ap (λ (s : HostGroupState). record (host_group_wire first p (filed_group p k)) { is_whole = not (is_part s) })
+        (put-other p.host_group x Replied (filed_group p k) ne)
 
 -- A page request is filed. At an open unit its group isn't whole, and no reset has dropped it.
 
-pub arrived_in : (ms : Mappings) (x g n e : ℕ) (p : Part) (r : ℕ) → PartInvariant ms x g n e p → OnTheWay p → p.phase ≡ Open → p.page_request r ≡ Arrived → (p.host_group (p.group_of r) ≡ NotFiled) ⊎ (p.host_group (p.group_of r) ≡ PartFiled)
+pub arrived_in :
+    (ms : Mappings) (x g n e : ℕ) (p : Part) (r : ℕ) → PartInvariant ms x g n e p → OnTheWay p → p.phase ≡ Open → p.page_request r ≡ Arrived
+    → (p.host_group (p.group_of r) ≡ NotFiled) ⊎ (p.host_group (p.group_of r) ≡ PartFiled)
 arrived_in ms x g n e p r i on ph a = go (p.host_group (p.group_of r)) refl
   where
     made : (p.page_requests ≤ r → p.page_request r ≡ Dropped) → r < p.page_requests
@@ -124,7 +141,8 @@ asks_filed p n r h =
     ∙ picked_next (λ k. ask_wire p (put p.filing p.filings r k)) p.filings (λ k. p.group_of (put p.filing p.filings r k) == h)
     ∙ ap₂ (λ xs ys. xs ++ ys)
     (
-    picked_same p.filings (λ k. ask_wire p (put p.filing p.filings r k)) (λ k. ask_wire p (p.filing k)) (λ k. p.group_of (put p.filing p.filings r k) == h) (λ k. filed_group p k == h)
+    picked_same p.filings (λ k. ask_wire p (put p.filing p.filings r k)) (λ k. ask_wire p (p.filing k))
+    (λ k. p.group_of (put p.filing p.filings r k) == h) (λ k. filed_group p k == h)
     (λ k l. ap (λ z. p.group_of z == h) (old_put p.filing p.filings k r l))
     (λ k l t. ap (ask_wire p) (old_put p.filing p.filings k r l))
     ∙ sym (asks_seen p h)
@@ -175,7 +193,8 @@ module _ (ms : Mappings) (x g n e first : ℕ) (p : Part) (r : ℕ) (l : LegalOw
       record {
         binding = number first (put-other p.filed_under own_group (p.asker own_group) h ne j);
         index = p.index h;
-        asks = (asks_filed p n r h ∙ ap (λ z. asks_wire p h ++ if_passes z (ask_wire p r)) (differs own_group h (λ s. ne (sym s))) ∙ append-nil (asks_wire p h)) j;
+        asks =
+            (asks_filed p n r h ∙ ap (λ z. asks_wire p h ++ if_passes z (ask_wire p r)) (differs own_group h (λ s. ne (sym s))) ∙ append-nil (asks_wire p h)) j;
         is_whole = not (is_part (put-other p.host_group own_group (filed_as (p.is_last r)) h ne j));
       }
 
@@ -198,10 +217,14 @@ module _ (ms : Mappings) (x g n e first : ℕ) (p : Part) (r : ℕ) (l : LegalOw
 
   -- an open group that isn't its own isn't the one that is begun
   not_begun : (h : ℕ) → opens p h ≡ true → h ≢ own_group → is_begun bound (p.index own_group) (host_group_wire first p h) ≡ false
-  not_begun h o ne = begun_not (number first (p.filed_under h) == bound) (p.index h == p.index own_group) (not (not (is_part (p.host_group h)))) (differs (p.index h) (p.index own_group) (λ s. ne (same_index p i.groups l.0 own_group h out o s)))
+  not_begun h o ne =
+      begun_not (number first (p.filed_under h) == bound) (p.index h == p.index own_group) (not (not (is_part (p.host_group h))))
+      (differs (p.index h) (p.index own_group) (λ s. ne (same_index p i.groups l.0 own_group h out o s)))
 
   begins_old : (k : ℕ) → k < p.filings → ((filed_group p k ≡ own_group) → opens p own_group ≡ true) → begins_open after k ≡ begins_open p k
-  begins_old k m o = begins_same (opens p) (opens after) (filed_group p) (filed_group after) k (λ j t. old_group j (omega (arith, m, t))) (go (ℕ_cases (filed_group p k) own_group))
+  begins_old k m o =
+      begins_same (opens p) (opens after) (filed_group p) (filed_group after) k (λ j t. old_group j (omega (arith, m, t)))
+      (go (ℕ_cases (filed_group p k) own_group))
     where
       go : (filed_group p k ≡ own_group) ⊎ (filed_group p k ≢ own_group) → opens after (filed_group p k) ≡ opens p (filed_group p k)
       go (inl c) = ap (opens after) c ∙ own_opens ∙ sym (ap (opens p) c ∙ o c)
@@ -213,36 +236,48 @@ module _ (ms : Mappings) (x g n e first : ℕ) (p : Part) (r : ℕ) (l : LegalOw
       picked_next (λ k. host_group_wire first after (filed_group after k)) p.filings (begins_open after)
       ∙ ap₂ (λ xs ys. xs ++ ys)
       (
-      picked_same p.filings (λ k. host_group_wire first after (filed_group after k)) (λ k. host_group_wire first p (filed_group p k)) (begins_open after) (begins_open p)
+      picked_same p.filings (λ k. host_group_wire first after (filed_group after k)) (λ k. host_group_wire first p (filed_group p k))
+      (begins_open after) (begins_open p)
       (λ k m. begins_old k m (λ c. absurd (apart k m c)))
       (λ k m b. ap (host_group_wire first after) (old_group k m) ∙ other_entry (filed_group p k) (apart k m))
       )
-      (ap₂ (λ b z. if_passes b z) begins_new (ap (host_group_wire first after) new_group ∙ own_entry ∙ ap (λ (xs : List AskWire). record (begun_by bound (page_request_wire p r)) { asks = xs ++ ask_wire p r ∷ [] }) none_asked))
-      ∙ sym (filed_new bound (page_request_wire p r) p.filings (λ k. host_group_wire first p (filed_group p k)) (begins_open p) (λ k m b. not_begun (filed_group p k) (opens_of (opens p (filed_group p k)) (not (any_below k (λ j. filed_group p j == filed_group p k))) b) (apart k m)))
+      (ap₂ (λ b z. if_passes b z) begins_new
+      (ap (host_group_wire first after) new_group ∙ own_entry
+      ∙ ap (λ (xs : List AskWire). record (begun_by bound (page_request_wire p r)) { asks = xs ++ ask_wire p r ∷ [] }) none_asked))
+      ∙ sym (filed_new bound (page_request_wire p r) p.filings (λ k. host_group_wire first p (filed_group p k)) (begins_open p)
+      (λ k m b. not_begun (filed_group p k) (opens_of (opens p (filed_group p k)) (not (any_below k (λ j. filed_group p j == filed_group p k))) b) (apart k m)))
     where
       apart : (k : ℕ) → k < p.filings → filed_group p k ≢ own_group
       apart k m c = absurd (cc (sym (ap is_filed_group (ap p.host_group c ∙ h)) ∙ (i.groups.filed (p.filing k) (fi.filed k m)).0))
 
       begins_new : begins_open after p.filings ≡ true
       begins_new =
-          both_begin (opens after (filed_group after p.filings)) (any_below p.filings (λ j. filed_group after j == filed_group after p.filings)) (ap (opens after) new_group ∙ own_opens)
-          (none_below p.filings (λ j. filed_group after j == filed_group after p.filings) (λ j m. ap₂ (λ a b. a == b) (old_group j m) new_group ∙ differs (filed_group p j) own_group (apart j m)))
+          both_begin (opens after (filed_group after p.filings)) (any_below p.filings (λ j. filed_group after j == filed_group after p.filings))
+          (ap (opens after) new_group ∙ own_opens)
+          (none_below p.filings (λ j. filed_group after j == filed_group after p.filings)
+          (λ j m. ap₂ (λ a b. a == b) (old_group j m) new_group ∙ differs (filed_group p j) own_group (apart j m)))
 
       none_asked : asks_wire p own_group ≡ []
-      none_asked = asks_seen p own_group ∙ picked_none p.filings (λ k. ask_wire p (p.filing k)) (λ k. filed_group p k == own_group) (λ k m. differs (filed_group p k) own_group (apart k m))
+      none_asked =
+          asks_seen p own_group
+          ∙ picked_none p.filings (λ k. ask_wire p (p.filing k)) (λ k. filed_group p k == own_group) (λ k m. differs (filed_group p k) own_group (apart k m))
 
   -- some of its group was filed: it is added to that
-  more_of : p.host_group own_group ≡ PartFiled → (k : ℕ) × (k < p.filings) × (filed_group p k ≡ own_group) → host_groups_wire first after ≡ filed bound (page_request_wire p r) (host_groups_wire first p)
+  more_of :
+      p.host_group own_group ≡ PartFiled → (k : ℕ) × (k < p.filings) × (filed_group p k ≡ own_group)
+      → host_groups_wire first after ≡ filed bound (page_request_wire p r) (host_groups_wire first p)
   more_of h (j, m, c) =
       picked_next (λ k. host_group_wire first after (filed_group after k)) p.filings (begins_open after)
       ∙ ap₂ (λ xs ys. xs ++ ys)
       (
-      picked_same p.filings (λ k. host_group_wire first after (filed_group after k)) (λ k. host_group_wire first after (filed_group p k)) (begins_open after) (begins_open p)
+      picked_same p.filings (λ k. host_group_wire first after (filed_group after k)) (λ k. host_group_wire first after (filed_group p k))
+      (begins_open after) (begins_open p)
       (λ k t. begins_old k t (λ s. ap is_open_group h))
       (λ k t b. ap (host_group_wire first after) (old_group k t))
       )
       (ap (λ b. if_passes b (host_group_wire first after (filed_group after p.filings))) begins_no_new)
-      ∙ filed_into bound (page_request_wire p r) p.filings least (λ k. host_group_wire first p (filed_group p k)) (λ k. host_group_wire first after (filed_group p k)) (begins_open p) [] least_low begins_least begun_least least_entry others
+      ∙ filed_into bound (page_request_wire p r) p.filings least (λ k. host_group_wire first p (filed_group p k))
+      (λ k. host_group_wire first after (filed_group p k)) (begins_open p) [] least_low begins_least begun_least least_entry others
       ∙ ap (filed bound (page_request_wire p r)) (append-nil (host_groups_wire first p))
     where
       least : ℕ
@@ -262,7 +297,8 @@ module _ (ms : Mappings) (x g n e first : ℕ) (p : Part) (r : ℕ) (l : LegalOw
 
       begins_least : begins_open p least ≡ true
       begins_least =
-          both_begin (opens p (filed_group p least)) (any_below least (λ k. filed_group p k == filed_group p least)) (ap (opens p) least_group ∙ ap is_open_group h)
+          both_begin (opens p (filed_group p least)) (any_below least (λ k. filed_group p k == filed_group p least))
+          (ap (opens p) least_group ∙ ap is_open_group h)
           (none_below least (λ k. filed_group p k == filed_group p least) (λ k t. ap (λ z. filed_group p k == z) least_group ∙ at_least.2 k t))
 
       under : p.filed_under own_group ≡ p.asker own_group
@@ -274,7 +310,8 @@ module _ (ms : Mappings) (x g n e first : ℕ) (p : Part) (r : ℕ) (l : LegalOw
       begun_least : is_begun bound (p.index own_group) (host_group_wire first p (filed_group p least)) ≡ true
       begun_least =
           ap (λ z. is_begun bound (p.index own_group) (host_group_wire first p z)) least_group
-          ∙ all_three (number first (p.filed_under own_group) == bound) (p.index own_group == p.index own_group) (is_part (p.host_group own_group)) (equals (number first (p.filed_under own_group)) bound (ap (number first) under)) (equals (p.index own_group) (p.index own_group) refl) (ap is_part h)
+          ∙ all_three (number first (p.filed_under own_group) == bound) (p.index own_group == p.index own_group) (is_part (p.host_group own_group))
+          (equals (number first (p.filed_under own_group)) bound (ap (number first) under)) (equals (p.index own_group) (p.index own_group) refl) (ap is_part h)
 
       least_entry : host_group_wire first after (filed_group p least) ≡ added_to (page_request_wire p r) (host_group_wire first p (filed_group p least))
       least_entry =
@@ -284,8 +321,15 @@ module _ (ms : Mappings) (x g n e first : ℕ) (p : Part) (r : ℕ) (l : LegalOw
           ∙ sym (ap (λ z. added_to (page_request_wire p r) (host_group_wire first p z)) least_group)
 
       -- only the oldest filing of the group begins it
-      others : (k : ℕ) → k < p.filings → k ≢ least → begins_open p k ≡ true → (is_begun bound (p.index own_group) (host_group_wire first p (filed_group p k)) ≡ false) × (host_group_wire first after (filed_group p k) ≡ host_group_wire first p (filed_group p k))
-      others k t ne b = (not_begun (filed_group p k) (opens_of (opens p (filed_group p k)) (not (any_below k (λ z. filed_group p z == filed_group p k))) b) apart, other_entry (filed_group p k) apart)
+      others :
+          (k : ℕ) → k < p.filings → k ≢ least → begins_open p k ≡ true
+          → (is_begun bound (p.index own_group) (host_group_wire first p (filed_group p k)) ≡ false)
+          × (host_group_wire first after (filed_group p k) ≡ host_group_wire first p (filed_group p k))
+      others k t ne b = (
+        not_begun (filed_group p k)
+            (opens_of (opens p (filed_group p k)) (not (any_below k (λ z. filed_group p z == filed_group p k))) b) apart,
+        other_entry (filed_group p k) apart,
+      )
         where
           apart : filed_group p k ≢ own_group
           apart s = below (k_or_least k least)
@@ -295,14 +339,23 @@ module _ (ms : Mappings) (x g n e first : ℕ) (p : Part) (r : ℕ) (l : LegalOw
 
               below : (k < least) ⊎ (least ≤ k) → ⊥
               below (inl u) = absurd (cc (sym (at_least.2 k u) ∙ equals (filed_group p k) own_group s))
-              below (inr u) = absurd (cc (sym (any_below-false k (λ z. filed_group p z == filed_group p k) (rest_of (opens p (filed_group p k)) (any_below k (λ z. filed_group p z == filed_group p k)) b) least (omega (arith, u, ne))) ∙ equals (filed_group p least) (filed_group p k) (least_group ∙ sym s)))
+              below (inr u) =
+                  absurd (cc
+                  (sym (any_below-false k (λ z. filed_group p z == filed_group p k)
+                  (rest_of (opens p (filed_group p k)) (any_below k (λ z. filed_group p z == filed_group p k)) b) least (omega (arith, u, ne)))
+                  ∙ equals (filed_group p least) (filed_group p k) (least_group ∙ sym s)))
 
       begins_no_new : begins_open after p.filings ≡ false
-      begins_no_new = not_first (opens after (filed_group after p.filings)) (any_below p.filings (λ k. filed_group after k == filed_group after p.filings)) (any_below-intro p.filings (λ k. filed_group after k == filed_group after p.filings) least least_low (equals (filed_group after least) (filed_group after p.filings) (old_group least least_low ∙ least_group ∙ sym new_group)))
+      begins_no_new =
+          not_first (opens after (filed_group after p.filings)) (any_below p.filings (λ k. filed_group after k == filed_group after p.filings))
+          (any_below-intro p.filings (λ k. filed_group after k == filed_group after p.filings) least least_low
+          (equals (filed_group after least) (filed_group after p.filings) (old_group least least_low ∙ least_group ∙ sym new_group)))
         where
           not_first : (a b : Bool) → b ≡ true → (a && not b) ≡ false
           not_first a b s = grind arith
 
-  pub groups_file : (p.host_group (p.group_of r) ≡ NotFiled) ⊎ (p.host_group (p.group_of r) ≡ PartFiled) → host_groups_wire first (own p n (Own.File r)) ≡ filed (number first (p.asker (p.group_of r))) (page_request_wire p r) (host_groups_wire first p)
+  pub groups_file :
+      (p.host_group (p.group_of r) ≡ NotFiled) ⊎ (p.host_group (p.group_of r) ≡ PartFiled)
+      → host_groups_wire first (own p n (Own.File r)) ≡ filed (number first (p.asker (p.group_of r))) (page_request_wire p r) (host_groups_wire first p)
   groups_file (inl h) = first_of h
   groups_file (inr h) = more_of h (fi.begun own_group (ap is_filed_group h))

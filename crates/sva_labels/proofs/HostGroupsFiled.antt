@@ -39,10 +39,16 @@ group_of_same p n o r l = grind (arith, nat_tests)
 more_filings : (p : Part) (n : ℕ) (o : Own) → p.filings ≤ (own p n o).filings
 more_filings p n o = grind (arith, nat_tests)
 
-filed_kept : (ms : Mappings) (g n : ℕ) (p : Part) (o : Own) → LegalOwn ms g p o → Queued p → (p.page_requests ≤ p.page_requests → p.page_request p.page_requests ≡ Dropped) → (k : ℕ) → (k < p.filings → p.page_request (p.filing k) ≡ Filed) → k < (own p n o).filings → (own p n o).page_request ((own p n o).filing k) ≡ Filed
+filed_kept :
+    (ms : Mappings) (g n : ℕ) (p : Part) (o : Own) → LegalOwn ms g p o → Queued p
+    → (p.page_requests ≤ p.page_requests → p.page_request p.page_requests ≡ Dropped) → (k : ℕ)
+    → (k < p.filings → p.page_request (p.filing k) ≡ Filed) → k < (own p n o).filings
+    → (own p n o).page_request ((own p n o).filing k) ≡ Filed
 filed_kept ms g n p o l qu un k old h = grind (arith, nat_tests, qu.in_flight)
 
-begun_from : (ms : Mappings) (g n : ℕ) (p : Part) (o : Own) → LegalOwn ms g p o → (x : ℕ) → is_filed_group ((own p n o).host_group x) ≡ true → (is_filed_group (p.host_group x) ≡ true) ⊎ ((p.filings < (own p n o).filings) × ((own p n o).group_of ((own p n o).filing p.filings) ≡ x))
+begun_from :
+    (ms : Mappings) (g n : ℕ) (p : Part) (o : Own) → LegalOwn ms g p o → (x : ℕ) → is_filed_group ((own p n o).host_group x) ≡ true
+    → (is_filed_group (p.host_group x) ≡ true) ⊎ ((p.filings < (own p n o).filings) × ((own p n o).group_of ((own p n o).filing p.filings) ≡ x))
 begun_from ms g n p o l x h = grind (arith, nat_tests)
 
 pub every : (ms : Mappings) (x g n e : ℕ) (p : Part) (o : Own) → LegalOwn ms g p o → PartInvariant ms x g n e p → Filings p → Filings (own p n o)
@@ -52,7 +58,10 @@ every ms x g n e p o l i fi =
       begun = λ y h. go y (begun_from ms g n p o l y h);
     }
   where
-    go : (y : ℕ) → (is_filed_group (p.host_group y) ≡ true) ⊎ ((p.filings < (own p n o).filings) × ((own p n o).group_of ((own p n o).filing p.filings) ≡ y)) → (k : ℕ) × (k < (own p n o).filings) × ((own p n o).group_of ((own p n o).filing k) ≡ y)
+    go :
+        (y : ℕ)
+        → (is_filed_group (p.host_group y) ≡ true) ⊎ ((p.filings < (own p n o).filings) × ((own p n o).group_of ((own p n o).filing p.filings) ≡ y))
+        → (k : ℕ) × (k < (own p n o).filings) × ((own p n o).group_of ((own p n o).filing k) ≡ y)
     go y (inl h) =
         let (k, l, e) = fi.begun y h in
         let more = more_filings p n o in
@@ -76,7 +85,9 @@ act_filings w (NewBinding e) l i h = h
 act_filings w (NewJob e g) l i h = h
 act_filings w (Hold x j) l i h = h
 act_filings w (LetGo x) l i h = h
-act_filings w (At e o) l i h = put_keeps (λ k p. Filings p) w.part e (own (w.part e) w.messages o) (every w.mappings w.config.endpoints w.bindings w.messages e (w.part e) o l.1.0 (i.parts e) (h e)) h
+act_filings w (At e o) l i h =
+    put_keeps (λ k p. Filings p) w.part e (own (w.part e) w.messages o)
+    (every w.mappings w.config.endpoints w.bindings w.messages e (w.part e) o l.1.0 (i.parts e) (h e)) h
 
 pub acts_filings : (acts : List Act) (w : World) → LegalAll w acts → Invariant w → AllFilings w → AllFilings (after_acts w acts)
 acts_filings [] w l i h = h

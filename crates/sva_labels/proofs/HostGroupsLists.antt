@@ -19,7 +19,10 @@ filed_head : (b : ℕ) (r : PageRequestWire) (x : HostGroupWire) (xs : List Host
 filed_head b r x xs h = ap (λ z. if z then added_to r x ∷ xs else x ∷ filed b r xs) h
 
 -- it passes by the groups that aren't begun
-pub filed_past : (b : ℕ) (r : PageRequestWire) (n : ℕ) (f : ℕ → HostGroupWire) (p : ℕ → Bool) (ys : List HostGroupWire) → ((k : ℕ) → k < n → p k ≡ true → is_begun b r.index (f k) ≡ false) → filed b r (map f (select n p) ++ ys) ≡ map f (select n p) ++ filed b r ys
+pub filed_past :
+    (b : ℕ) (r : PageRequestWire) (n : ℕ) (f : ℕ → HostGroupWire) (p : ℕ → Bool) (ys : List HostGroupWire)
+    → ((k : ℕ) → k < n → p k ≡ true → is_begun b r.index (f k) ≡ false)
+    → filed b r (map f (select n p) ++ ys) ≡ map f (select n p) ++ filed b r ys
 unfolding select
 filed_past b r zero f p ys h = refl
 filed_past b r (suc n) f p ys h =
@@ -34,13 +37,21 @@ filed_past b r (suc n) f p ys h =
     go true k = filed_head b r (f n) ys (k refl)
     go false k = refl
 
-pub filed_new : (b : ℕ) (r : PageRequestWire) (n : ℕ) (f : ℕ → HostGroupWire) (p : ℕ → Bool) → ((k : ℕ) → k < n → p k ≡ true → is_begun b r.index (f k) ≡ false) → filed b r (map f (select n p)) ≡ map f (select n p) ++ begun_by b r ∷ []
+pub filed_new :
+    (b : ℕ) (r : PageRequestWire) (n : ℕ) (f : ℕ → HostGroupWire) (p : ℕ → Bool)
+    → ((k : ℕ) → k < n → p k ≡ true → is_begun b r.index (f k) ≡ false)
+    → filed b r (map f (select n p)) ≡ map f (select n p) ++ begun_by b r ∷ []
 filed_new b r n f p h = ap (filed b r) (sym (append-nil (map f (select n p)))) ∙ filed_past b r n f p [] h
 
 -- it is added to the one that is begun
-pub filed_into : (b : ℕ) (r : PageRequestWire) (n m : ℕ) (f g : ℕ → HostGroupWire) (p : ℕ → Bool) (ys : List HostGroupWire) → m < n → p m ≡ true → is_begun b r.index (f m) ≡ true → g m ≡ added_to r (f m) → ((k : ℕ) → k < n → k ≢ m → p k ≡ true → (is_begun b r.index (f k) ≡ false) × (g k ≡ f k)) → map g (select n p) ++ ys ≡ filed b r (map f (select n p) ++ ys)
+pub filed_into :
+    (b : ℕ) (r : PageRequestWire) (n m : ℕ) (f g : ℕ → HostGroupWire) (p : ℕ → Bool) (ys : List HostGroupWire) → m < n → p m ≡ true
+    → is_begun b r.index (f m) ≡ true → g m ≡ added_to r (f m)
+    → ((k : ℕ) → k < n → k ≢ m → p k ≡ true → (is_begun b r.index (f k) ≡ false) × (g k ≡ f k))
+    → map g (select n p) ++ ys ≡ filed b r (map f (select n p) ++ ys)
 filed_into b r zero m f g p ys l t begun here other = absurd (omega arith)
-filed_into b r (suc n) m f g p ys l t begun here other = go (ℕ_cases m n) (λ k. filed_into b r n m f g p (if_passes (p n) (f n) ++ ys) k t begun here (λ j i. other j (omega arith)))
+filed_into b r (suc n) m f g p ys l t begun here other =
+    go (ℕ_cases m n) (λ k. filed_into b r n m f g p (if_passes (p n) (f n) ++ ys) k t begun here (λ j i. other j (omega arith)))
   where
     whole : filed b r (map f (select (suc n) p) ++ ys) ≡ filed b r (map f (select n p) ++ (if_passes (p n) (f n) ++ ys))
     whole = ap (λ xs. filed b r (xs ++ ys)) (picked_next f n p) ∙ ap (filed b r) (append_assoc (map f (select n p)) (if_passes (p n) (f n)) ys)
@@ -49,7 +60,10 @@ filed_into b r (suc n) m f g p ys l t begun here other = go (ℕ_cases m n) (λ 
     last true ne h = ap (λ x. x ∷ []) (other n (omega arith) ne h).1
     last false ne h = refl
 
-    go : (m ≡ n) ⊎ (m ≢ n) → (m < n → map g (select n p) ++ (if_passes (p n) (f n) ++ ys) ≡ filed b r (map f (select n p) ++ (if_passes (p n) (f n) ++ ys))) → map g (select (suc n) p) ++ ys ≡ filed b r (map f (select (suc n) p) ++ ys)
+    go :
+        (m ≡ n) ⊎ (m ≢ n)
+        → (m < n → map g (select n p) ++ (if_passes (p n) (f n) ++ ys) ≡ filed b r (map f (select n p) ++ (if_passes (p n) (f n) ++ ys)))
+        → map g (select (suc n) p) ++ ys ≡ filed b r (map f (select (suc n) p) ++ ys)
     go (inl e) rest =
         ap (λ xs. xs ++ ys) (picked_next g n p)
         ∙ append_assoc (map g (select n p)) (if_passes (p n) (g n)) ys
@@ -63,7 +77,9 @@ filed_into b r (suc n) m f g p ys l t begun here other = go (ℕ_cases m n) (λ 
         passes = ap p (sym e) ∙ t
 
         added : filed b r (if_passes (p n) (f n) ++ ys) ≡ added_to r (f n) ∷ ys
-        added = ap (λ z. filed b r (if_passes z (f n) ++ ys)) passes ∙ ap (λ z. if z then added_to r (f n) ∷ ys else f n ∷ filed b r ys) (ap (λ k. is_begun b r.index (f k)) (sym e) ∙ begun)
+        added =
+            ap (λ z. filed b r (if_passes z (f n) ++ ys)) passes
+            ∙ ap (λ z. if z then added_to r (f n) ∷ ys else f n ∷ filed b r ys) (ap (λ k. is_begun b r.index (f k)) (sym e) ∙ begun)
     go (inr ne) rest =
         ap (λ xs. xs ++ ys) (picked_next g n p)
         ∙ append_assoc (map g (select n p)) (if_passes (p n) (g n)) ys
@@ -82,6 +98,9 @@ any_same (suc n) p q h = ap₂ (λ b c. if c then true else b) (any_same n p q (
 abbrev pub begins : (opens : ℕ → Bool) → (of : ℕ → ℕ) → (filing : ℕ) → Bool
 begins opens of k = opens (of k) && not (any_below k (λ j. of j == of k))
 
-pub begins_same : (opens others : ℕ → Bool) (of by : ℕ → ℕ) (k : ℕ) → ((j : ℕ) → j < suc k → by j ≡ of j) → others (of k) ≡ opens (of k) → begins others by k ≡ begins opens of k
+pub begins_same :
+    (opens others : ℕ → Bool) (of by : ℕ → ℕ) (k : ℕ) → ((j : ℕ) → j < suc k → by j ≡ of j) → others (of k) ≡ opens (of k)
+    → begins others by k ≡ begins opens of k
 begins_same opens others of by k h o =
-    ap₂ (λ a b. a && not b) (ap others (h k (omega arith)) ∙ o) (any_same k (λ j. by j == by k) (λ j. of j == of k) (λ j l. ap₂ (λ a b. a == b) (h j (omega arith)) (h k (omega arith))))
+    ap₂ (λ a b. a && not b) (ap others (h k (omega arith)) ∙ o)
+    (any_same k (λ j. by j == by k) (λ j. of j == of k) (λ j l. ap₂ (λ a b. a == b) (h j (omega arith)) (h k (omega arith))))

@@ -62,7 +62,9 @@ pub ask_kept : (p : Part) (n : ℕ) (o : Own) (r : ℕ) → r < p.page_requests 
 ask_kept p n o r l = λ i. record { page = page_kept p n o r l i; read = read_kept p n o r l i; write = write_kept p n o r l i }
 
 -- nothing is filed, or one more, which is of another group
-filed_more : (p : Part) (n : ℕ) (o : Own) (g : ℕ) → FilesOpen p o → is_past (p.host_group g) ≡ true → ((own p n o).filings ≡ p.filings) ⊎ (((own p n o).filings ≡ suc p.filings) × (((own p n o).group_of ((own p n o).filing p.filings) == g) ≡ false))
+filed_more :
+    (p : Part) (n : ℕ) (o : Own) (g : ℕ) → FilesOpen p o → is_past (p.host_group g) ≡ true
+    → ((own p n o).filings ≡ p.filings) ⊎ (((own p n o).filings ≡ suc p.filings) × (((own p n o).group_of ((own p n o).filing p.filings) == g) ≡ false))
 filed_more p n (Own.File r) g f h =
     inr (refl, ap (λ x. p.group_of x == g) (put-same p.filing p.filings r) ∙ other)
   where
@@ -74,7 +76,8 @@ asks_kept : (p : Part) (n : ℕ) (o : Own) (g : ℕ) → FilesMade p → FilesOp
 asks_kept p n o g made f h =
     map_twice (ask_wire (own p n o)) (own p n o).filing (select (own p n o).filings (λ k. (own p n o).group_of ((own p n o).filing k) == g))
     ∙ same_many (filed_more p n o g f h)
-    ∙ select_seen p.filings (λ k. (own p n o).group_of ((own p n o).filing k) == g) (λ k. p.group_of (p.filing k) == g) (λ k. ask_wire (own p n o) ((own p n o).filing k)) (λ k. ask_wire p (p.filing k))
+    ∙ select_seen p.filings (λ k. (own p n o).group_of ((own p n o).filing k) == g) (λ k. p.group_of (p.filing k) == g)
+    (λ k. ask_wire (own p n o) ((own p n o).filing k)) (λ k. ask_wire p (p.filing k))
     (λ k l. ap (λ r. (own p n o).group_of r == g) (filing_kept p n o k l) ∙ ap (λ x. x == g) (group_of_kept p n o (p.filing k) (made k l)))
     (λ k l t. ap (ask_wire (own p n o)) (filing_kept p n o k l) ∙ ask_kept p n o (p.filing k) (made k l))
     ∙ sym (map_twice (ask_wire p) p.filing (select p.filings (λ k. p.group_of (p.filing k) == g)))
@@ -82,7 +85,10 @@ asks_kept p n o g made f h =
     entry : ℕ → AskWire
     entry k = ask_wire (own p n o) ((own p n o).filing k)
 
-    same_many : ((own p n o).filings ≡ p.filings) ⊎ (((own p n o).filings ≡ suc p.filings) × (((own p n o).group_of ((own p n o).filing p.filings) == g) ≡ false)) → map entry (select (own p n o).filings (λ k. (own p n o).group_of ((own p n o).filing k) == g)) ≡ map entry (select p.filings (λ k. (own p n o).group_of ((own p n o).filing k) == g))
+    same_many :
+        ((own p n o).filings ≡ p.filings) ⊎ (((own p n o).filings ≡ suc p.filings) × (((own p n o).group_of ((own p n o).filing p.filings) == g) ≡ false))
+        → map entry (select (own p n o).filings (λ k. (own p n o).group_of ((own p n o).filing k) == g))
+        ≡ map entry (select p.filings (λ k. (own p n o).group_of ((own p n o).filing k) == g))
     same_many (inl e) = ap (λ m. map entry (select m (λ k. (own p n o).group_of ((own p n o).filing k) == g))) e
     same_many (inr e) =
         ap (λ m. map entry (select m (λ k. (own p n o).group_of ((own p n o).filing k) == g))) e.0
@@ -91,7 +97,9 @@ asks_kept p n o g made f h =
 past_made : (g : ℕ) (p : Part) → Bounds g p → (x : ℕ) → is_past (p.host_group x) ≡ true → x < p.groups
 past_made g p bo x h = grind (arith, bo.host_group x)
 
-pub group_kept : (first e g : ℕ) (p : Part) (n : ℕ) (o : Own) (x : ℕ) → Bounds g p → FilesMade p → FilesOpen p o → is_past (p.host_group x) ≡ true → group_job first e (own p n o) x ≡ group_job first e p x
+pub group_kept :
+    (first e g : ℕ) (p : Part) (n : ℕ) (o : Own) (x : ℕ) → Bounds g p → FilesMade p → FilesOpen p o → is_past (p.host_group x) ≡ true
+    → group_job first e (own p n o) x ≡ group_job first e p x
 group_kept first e g p n o x bo made f h =
     λ i.
     record {
@@ -102,14 +110,17 @@ group_kept first e g p n o x bo made f h =
     }
 
 -- so what a job shows stays
-pub job_kept : (w : World) (e : ℕ) (o : Own) (j : ℕ) → Invariant w → FilesMade (w.part e) → FilesOpen (w.part e) o → is_past ((w.part (w.job j).endpoint).host_group (w.job j).group) ≡ true → job_wire (act w (At e o)) j ≡ job_wire w j
+pub job_kept :
+    (w : World) (e : ℕ) (o : Own) (j : ℕ) → Invariant w → FilesMade (w.part e) → FilesOpen (w.part e) o
+    → is_past ((w.part (w.job j).endpoint).host_group (w.job j).group) ≡ true → job_wire (act w (At e o)) j ≡ job_wire w j
 job_kept w e o j i made f h = go (ℕ_cases (w.job j).endpoint e)
   where
     go : ((w.job j).endpoint ≡ e) ⊎ ((w.job j).endpoint ≢ e) → job_wire (act w (At e o)) j ≡ job_wire w j
     go (inl k) =
         (λ t. group_job w.config.first (k t) (put w.part e (part_after w e o) (k t)) (w.job j).group)
         ∙ ap (λ p. group_job w.config.first e p (w.job j).group) (put-same w.part e (part_after w e o))
-        ∙ group_kept w.config.first e w.bindings (w.part e) w.messages o (w.job j).group (i.parts e).bounds made f (sym (ap (λ x. is_past ((w.part x).host_group (w.job j).group)) k) ∙ h)
+        ∙ group_kept w.config.first e w.bindings (w.part e) w.messages o (w.job j).group (i.parts e).bounds made f
+        (sym (ap (λ x. is_past ((w.part x).host_group (w.job j).group)) k) ∙ h)
         ∙ sym (λ t. group_job w.config.first (k t) (w.part (k t)) (w.job j).group)
     go (inr ne) = ap (λ p. group_job w.config.first (w.job j).endpoint p (w.job j).group) (put-other w.part e (part_after w e o) (w.job j).endpoint ne)
 
@@ -133,25 +144,36 @@ keeps_jobs (Own.Hand g x) = false
 keeps_jobs _ = true
 
 -- what is past stays a job, or isn't one
-still_job : (ms : Mappings) (b : ℕ) (p : Part) (n : ℕ) (o : Own) (g : ℕ) → LegalOwn ms b p o → FilesOpen p o → keeps_jobs o ≡ true → is_past (p.host_group g) ≡ true → is_job ((own p n o).host_group g) ≡ is_job (p.host_group g)
+still_job :
+    (ms : Mappings) (b : ℕ) (p : Part) (n : ℕ) (o : Own) (g : ℕ) → LegalOwn ms b p o → FilesOpen p o → keeps_jobs o ≡ true
+    → is_past (p.host_group g) ≡ true → is_job ((own p n o).host_group g) ≡ is_job (p.host_group g)
 still_job ms b p n o g l f k h = grind (arith, nat_tests)
 
-pub jobs_same : (w : World) (e : ℕ) (o : Own) → Invariant w → LegalOwn w.mappings w.bindings (w.part e) o → JobsPast w → FilesMade (w.part e) → FilesOpen (w.part e) o → keeps_jobs o ≡ true → (wire (act w (At e o))).jobs ≡ (wire w).jobs
+pub jobs_same :
+    (w : World) (e : ℕ) (o : Own) → Invariant w → LegalOwn w.mappings w.bindings (w.part e) o → JobsPast w → FilesMade (w.part e)
+    → FilesOpen (w.part e) o → keeps_jobs o ≡ true → (wire (act w (At e o))).jobs ≡ (wire w).jobs
 jobs_same w e o i legal past made f k =
     select_seen w.jobs _ _ _ _ (λ j l. passes j l (ℕ_cases (w.job j).endpoint e)) (λ j l t. job_kept w e o j i made f (past j l))
   where
-    passes : (j : ℕ) → j < w.jobs → ((w.job j).endpoint ≡ e) ⊎ ((w.job j).endpoint ≢ e) → is_job ((put w.part e (part_after w e o) (w.job j).endpoint).host_group (w.job j).group) ≡ is_job ((w.part (w.job j).endpoint).host_group (w.job j).group)
+    passes :
+        (j : ℕ) → j < w.jobs → ((w.job j).endpoint ≡ e) ⊎ ((w.job j).endpoint ≢ e)
+        → is_job ((put w.part e (part_after w e o) (w.job j).endpoint).host_group (w.job j).group)
+        ≡ is_job ((w.part (w.job j).endpoint).host_group (w.job j).group)
     passes j l (inl h) =
         ap (λ x. is_job ((put w.part e (part_after w e o) x).host_group (w.job j).group)) h
         ∙ ap (λ p. is_job (p.host_group (w.job j).group)) (put-same w.part e (part_after w e o))
-        ∙ still_job w.mappings w.bindings (w.part e) w.messages o (w.job j).group legal f k (sym (ap (λ x. is_past ((w.part x).host_group (w.job j).group)) h) ∙ past j l)
+        ∙ still_job w.mappings w.bindings (w.part e) w.messages o (w.job j).group legal f k
+        (sym (ap (λ x. is_past ((w.part x).host_group (w.job j).group)) h) ∙ past j l)
         ∙ sym (ap (λ x. is_job ((w.part x).host_group (w.job j).group)) h)
     passes j l (inr ne) = ap (λ p. is_job (p.host_group (w.job j).group)) (put-other w.part e (part_after w e o) (w.job j).endpoint ne)
 
 -- A reset drops the jobs of its endpoint.
-pub jobs_dropped : (w : World) (e : ℕ) → Invariant w → FilesMade (w.part e) → (wire (act w (At e Own.Reset))).jobs ≡ filter (λ job. not (job.endpoint == e)) (wire w).jobs
+pub jobs_dropped :
+    (w : World) (e : ℕ) → Invariant w → FilesMade (w.part e)
+    → (wire (act w (At e Own.Reset))).jobs ≡ filter (λ job. not (job.endpoint == e)) (wire w).jobs
 jobs_dropped w e i made =
-    select_seen w.jobs _ _ _ _ (λ j l. passes j (ℕ_cases (w.job j).endpoint e)) (λ j l t. job_kept w e Own.Reset j i made tt (past ((w.part (w.job j).endpoint).host_group (w.job j).group) ((w.job j).endpoint == e) t))
+    select_seen w.jobs _ _ _ _ (λ j l. passes j (ℕ_cases (w.job j).endpoint e))
+    (λ j l t. job_kept w e Own.Reset j i made tt (past ((w.part (w.job j).endpoint).host_group (w.job j).group) ((w.job j).endpoint == e) t))
     ∙ sym (select_filtered w.jobs (Labels.is_queued_job w) (job_wire w) (λ job. not (job.endpoint == e)))
   where
     past : (h : HostGroupState) (b : Bool) → (is_job h && not b) ≡ true → is_past h ≡ true
@@ -166,7 +188,10 @@ jobs_dropped w e i made =
     other : (a b : ℕ) → a ≢ b → (t : Bool) → t ≡ (t && not (a == b))
     other a b h t = grind (arith, nat_tests)
 
-    passes : (j : ℕ) → ((w.job j).endpoint ≡ e) ⊎ ((w.job j).endpoint ≢ e) → is_job ((put w.part e (part_after w e Own.Reset) (w.job j).endpoint).host_group (w.job j).group) ≡ (is_job ((w.part (w.job j).endpoint).host_group (w.job j).group) && not ((w.job j).endpoint == e))
+    passes :
+        (j : ℕ) → ((w.job j).endpoint ≡ e) ⊎ ((w.job j).endpoint ≢ e)
+        → is_job ((put w.part e (part_after w e Own.Reset) (w.job j).endpoint).host_group (w.job j).group)
+        ≡ (is_job ((w.part (w.job j).endpoint).host_group (w.job j).group) && not ((w.job j).endpoint == e))
     passes j (inl h) =
         ap (λ x. is_job ((put w.part e (part_after w e Own.Reset) x).host_group (w.job j).group)) h
         ∙ ap (λ p. is_job (p.host_group (w.job j).group)) (put-same w.part e (part_after w e Own.Reset))
@@ -185,7 +210,9 @@ pub record HandsFirst (w : World) (e g j : ℕ) : Type 0 where
   pub group : (w.job j).group ≡ g
   pub once : (k : ℕ) → k < w.jobs → (w.job k).endpoint ≡ e → (w.job k).group ≡ g → k ≡ j
 
-pub jobs_handed : (w : World) (e g x j : ℕ) → Invariant w → JobsPast w → FilesMade (w.part e) → HandsFirst w e g j → (wire (act w (At e (Own.Hand g x)))).jobs ≡ drop 1 (wire w).jobs
+pub jobs_handed :
+    (w : World) (e g x j : ℕ) → Invariant w → JobsPast w → FilesMade (w.part e) → HandsFirst w e g j
+    → (wire (act w (At e (Own.Hand g x)))).jobs ≡ drop 1 (wire w).jobs
 jobs_handed w e g x j i past made f =
     picked_drop w.jobs j (job_wire w) (job_wire (act w (At e o))) (Labels.is_queued_job w) after f.made f.queued f.first handed
     (λ k l ne. stays k (ℕ_cases (w.job k).endpoint e) (λ h m. ne (f.once k l h m)))

@@ -82,5 +82,10 @@ pub mod Said
 pub mod SoundQueues
 pub mod SoundPasids
 pub mod WholeLists
+pub mod RowsByNames
 pub mod SoundWaits
 pub mod SoundRoom
+pub mod SoundRequests
+pub mod SoundFlights
+pub mod SoundTables
+pub mod SoundCache

@@ -72,7 +72,9 @@ binding_found w n h =
 pub binding_missing : (w : World) (n : ℕ) → Labels.is_binding w n ≡ false → binding_of (wire w) n ≡ None
 binding_missing w n h =
     find_seen (binding_seen w) (λ b. b.binding == n) w.bindings (is_kept w)
-    ∙ ap (option_map (binding_seen w)) (find_none w.bindings (λ b. is_kept w b && w.config.first + b == n) (λ k l. not_both (is_kept w k && w.config.first + k == n) (λ t. absurd (cc (sym (there k l t) ∙ h)))))
+    ∙ ap (option_map (binding_seen w))
+    (find_none w.bindings (λ b. is_kept w b && w.config.first + b == n)
+    (λ k l. not_both (is_kept w k && w.config.first + k == n) (λ t. absurd (cc (sym (there k l t) ∙ h)))))
   where
     there : (k : ℕ) → k < w.bindings → (is_kept w k && w.config.first + k == n) ≡ true → Labels.is_binding w n ≡ true
     there k l t =
@@ -81,7 +83,9 @@ binding_missing w n h =
         (ap (is_kept w) (named_back w.config.first n k e) ∙ and_left (is_kept w k) (w.config.first + k == n) t)
 
 -- an unreleased one by its name, as its endpoint shows it
-pub binding_named : (w : World) (e b : ℕ) → Invariant w → is_unreleased ((w.part e).stage b) ≡ true → binding_of (wire w) (number w.config.first b) ≡ Some (binding_wire w.config.first e (w.part e) b)
+pub binding_named :
+    (w : World) (e b : ℕ) → Invariant w → is_unreleased ((w.part e).stage b) ≡ true
+    → binding_of (wire w) (number w.config.first b) ≡ Some (binding_wire w.config.first e (w.part e) b)
 binding_named w e b i u =
     let home : w.home b ≡ e = i.homed e b (unreleased_bound (w.part e) b u) in
     let back : Labels.name w (number w.config.first b) ≡ b = omega arith in
@@ -94,7 +98,9 @@ binding_named w e b i u =
     ∙ ap (λ d. Some (binding_wire w.config.first d (w.part d) b)) home
 
 -- one that was bound at this endpoint, and is released since, isn't there
-pub binding_released : (w : World) (e b : ℕ) → Invariant w → (w.part e).stage b ≢ Unbound → is_unreleased ((w.part e).stage b) ≡ false → binding_of (wire w) (number w.config.first b) ≡ None
+pub binding_released :
+    (w : World) (e b : ℕ) → Invariant w → (w.part e).stage b ≢ Unbound → is_unreleased ((w.part e).stage b) ≡ false
+    → binding_of (wire w) (number w.config.first b) ≡ None
 binding_released w e b i ne u =
     let home : w.home b ≡ e = i.homed e b ne in
     let back : Labels.name w (number w.config.first b) ≡ b = omega arith in
@@ -116,20 +122,29 @@ bearer_is w e t i = find_seen (binding_seen w) (λ b. b.endpoint == e && b.pasid
         let home : w.home b ≡ e = same_is (w.home b) e (and_left (w.home b == e) ((w.part (w.home b)).pasid b == t) rest) in
         let pasid : (w.part (w.home b)).pasid b ≡ t = same_is ((w.part (w.home b)).pasid b) t (and_right (w.home b == e) ((w.part (w.home b)).pasid b == t) rest) in
         subst (λ z. (w.part e).at_pasid z ≡ Some b) (ap (λ d. (w.part d).pasid b) (sym home) ∙ pasid)
-        ((i.parts e).labels.bears_pasid b (ap (λ d. is_unreleased ((w.part d).stage b)) (sym home) ∙ and_left (is_kept w b) (w.home b == e && (w.part (w.home b)).pasid b == t) h))
+        ((i.parts e).labels.bears_pasid b
+        (ap (λ d. is_unreleased ((w.part d).stage b)) (sym home) ∙ and_left (is_kept w b) (w.home b == e && (w.part (w.home b)).pasid b == t) h))
 
     one : {a b : ℕ} → Some a ≡ Some b → a ≡ b
     one h = cc
 
-    go : (o : Option ℕ) → (w.part e).at_pasid t ≡ o → option_map (binding_seen w) (find w.bindings (λ b. is_kept w b && (w.home b == e && (w.part (w.home b)).pasid b == t))) ≡ option_map (binding_wire w.config.first e (w.part e)) o
-    go None h = ap (option_map (binding_seen w)) (find_none w.bindings (λ b. is_kept w b && (w.home b == e && (w.part (w.home b)).pasid b == t)) (λ b l. not_both _ (λ k. absurd (cc (sym (bears b k) ∙ h)))))
+    go :
+        (o : Option ℕ) → (w.part e).at_pasid t ≡ o
+        → option_map (binding_seen w) (find w.bindings (λ b. is_kept w b && (w.home b == e && (w.part (w.home b)).pasid b == t)))
+        ≡ option_map (binding_wire w.config.first e (w.part e)) o
+    go None h =
+        ap (option_map (binding_seen w))
+        (find_none w.bindings (λ b. is_kept w b && (w.home b == e && (w.part (w.home b)).pasid b == t))
+        (λ b l. not_both _ (λ k. absurd (cc (sym (bears b k) ∙ h)))))
     go (Some b) h =
         let la = (i.parts e).labels.pasid_bears t b h in
         let home : w.home b ≡ e = i.homed e b (unreleased_bound (w.part e) b la.1) in
         ap (option_map (binding_seen w))
-        (find_only w.bindings (λ b. is_kept w b && (w.home b == e && (w.part (w.home b)).pasid b == t)) b (unreleased_made w.bindings (w.part e) b (i.parts e).bounds.stage la.1)
+        (find_only w.bindings (λ b. is_kept w b && (w.home b == e && (w.part (w.home b)).pasid b == t)) b
+        (unreleased_made w.bindings (w.part e) b (i.parts e).bounds.stage la.1)
         (and_both (is_kept w b) (w.home b == e && (w.part (w.home b)).pasid b == t) (ap (λ d. is_unreleased ((w.part d).stage b)) home ∙ la.1)
-        (and_both (w.home b == e) ((w.part (w.home b)).pasid b == t) (is_same (w.home b) e home) (is_same ((w.part (w.home b)).pasid b) t (ap (λ d. (w.part d).pasid b) home ∙ la.0))))
+        (and_both (w.home b == e) ((w.part (w.home b)).pasid b == t) (is_same (w.home b) e home)
+        (is_same ((w.part (w.home b)).pasid b) t (ap (λ d. (w.part d).pasid b) home ∙ la.0))))
         (λ j l k. one (sym (bears j k) ∙ h)))
         ∙ ap (λ d. Some (binding_wire w.config.first d (w.part d) b)) home
 
@@ -148,7 +163,8 @@ bound_there w n i num =
         any_below-intro w.config.endpoints (Labels.is_bound_at w (Labels.name w n)) (w.home x.0)
         ((i.parts (w.home x.0)).there x.0 (unreleased_bound (w.part (w.home x.0)) x.0 kept))
         (any_below-intro w.bindings (λ b. is_unreleased ((w.part (w.home x.0)).stage b) && (w.part (w.home x.0)).space b == Labels.name w n) x.0 x.1
-        (and_both (is_kept w x.0) ((w.part (w.home x.0)).space x.0 == Labels.name w n) kept (is_same ((w.part (w.home x.0)).space x.0) (Labels.name w n) (sym (named_back w.config.first n ((w.part (w.home x.0)).space x.0) space)))))
+        (and_both (is_kept w x.0) ((w.part (w.home x.0)).space x.0 == Labels.name w n) kept
+        (is_same ((w.part (w.home x.0)).space x.0) (Labels.name w n) (sym (named_back w.config.first n ((w.part (w.home x.0)).space x.0) space)))))
 
     back : Labels.is_bound w (Labels.name w n) ≡ true → any_below w.bindings (λ b. is_kept w b && w.config.first + (w.part (w.home b)).space b == n) ≡ true
     back h =
@@ -159,7 +175,8 @@ bound_there w n i num =
         let home : w.home y.0 ≡ x.0 = i.homed x.0 y.0 (unreleased_bound (w.part x.0) y.0 kept) in
         any_below-intro w.bindings (λ b. is_kept w b && w.config.first + (w.part (w.home b)).space b == n) y.0 y.1
         (and_both (is_kept w y.0) (w.config.first + (w.part (w.home y.0)).space y.0 == n) (ap (λ d. is_unreleased ((w.part d).stage y.0)) home ∙ kept)
-        (is_same (w.config.first + (w.part (w.home y.0)).space y.0) n (ap (λ d. w.config.first + (w.part d).space y.0) home ∙ ap (λ z. w.config.first + z) space ∙ num)))
+        (is_same (w.config.first + (w.part (w.home y.0)).space y.0) n
+        (ap (λ d. w.config.first + (w.part d).space y.0) home ∙ ap (λ z. w.config.first + z) space ∙ num)))
 
 pub borne_there : (w : World) (t : ℕ) → Invariant w → is_borne (wire w) t ≡ Labels.is_borne w t
 borne_there w t i =
@@ -175,12 +192,15 @@ borne_there w t i =
         ((i.parts (w.home x.0)).there x.0 (unreleased_bound (w.part (w.home x.0)) x.0 kept))
         (ap is_some (subst (λ z. (w.part (w.home x.0)).at_pasid z ≡ Some x.0) pasid ((i.parts (w.home x.0)).labels.bears_pasid x.0 kept)))
 
-    by_bearer : (e : ℕ) (o : Option ℕ) → (w.part e).at_pasid t ≡ o → is_some o ≡ true → any_below w.bindings (λ b. is_kept w b && (w.part (w.home b)).pasid b == t) ≡ true
+    by_bearer :
+        (e : ℕ) (o : Option ℕ) → (w.part e).at_pasid t ≡ o → is_some o ≡ true
+        → any_below w.bindings (λ b. is_kept w b && (w.part (w.home b)).pasid b == t) ≡ true
     by_bearer e None h k = absurd (cc)
     by_bearer e (Some b) h k =
         let la = (i.parts e).labels.pasid_bears t b h in
         let home : w.home b ≡ e = i.homed e b (unreleased_bound (w.part e) b la.1) in
-        any_below-intro w.bindings (λ b. is_kept w b && (w.part (w.home b)).pasid b == t) b (unreleased_made w.bindings (w.part e) b (i.parts e).bounds.stage la.1)
+        any_below-intro w.bindings (λ b. is_kept w b && (w.part (w.home b)).pasid b == t) b
+        (unreleased_made w.bindings (w.part e) b (i.parts e).bounds.stage la.1)
         (and_both (is_kept w b) ((w.part (w.home b)).pasid b == t) (ap (λ d. is_unreleased ((w.part d).stage b)) home ∙ la.1)
         (is_same ((w.part (w.home b)).pasid b) t (ap (λ d. (w.part d).pasid b) home ∙ la.0)))
 

@@ -30,7 +30,9 @@ use Rattle.sva_labels.proofs.Picked.{if_passes}
 use Rattle.sva_labels.proofs.SaysUnits.{none_picked}
 
 -- nothing stands filed of a group of which nothing is filed
-none_filed : (p : Part) (g : ℕ) → Filings p → ((r : ℕ) → is_filed_group (p.host_group g) ≡ true → p.group_of r ≡ g → ⊥) → ((k : ℕ) → k < p.filings → p.group_of (p.filing k) ≡ g → is_filed_group (p.host_group g) ≡ true) → asks_wire p g ≡ []
+none_filed :
+    (p : Part) (g : ℕ) → Filings p → ((r : ℕ) → is_filed_group (p.host_group g) ≡ true → p.group_of r ≡ g → ⊥)
+    → ((k : ℕ) → k < p.filings → p.group_of (p.filing k) ≡ g → is_filed_group (p.host_group g) ≡ true) → asks_wire p g ≡ []
 none_filed p g fi never filed =
     asks_seen p g
     ∙ none_picked (λ k. ask_wire p (p.filing k)) p.filings (λ k. filed_group p k == g)
@@ -38,7 +40,9 @@ none_filed p g fi never filed =
     (λ k l. not_both (filed_group p k == g) (λ t. let e = same_is (filed_group p k) g t in never (p.filing k) (filed k l e) e)))
 
 -- an open group of the same index is this one
-one_group : (ms : Mappings) (x g n e : ℕ) (p : Part) (y z : ℕ) → PartInvariant ms x g n e p → p.phase ≡ Open → is_outstanding (p.group y) ≡ true → is_open_group (p.host_group z) ≡ true → p.index z ≡ p.index y → z ≡ y
+one_group :
+    (ms : Mappings) (x g n e : ℕ) (p : Part) (y z : ℕ) → PartInvariant ms x g n e p → p.phase ≡ Open → is_outstanding (p.group y) ≡ true
+    → is_open_group (p.host_group z) ≡ true → p.index z ≡ p.index y → z ≡ y
 one_group ms x g n e p y z i ph out op h =
     let a : p.at_index (p.index y) ≡ Some y = i.groups.bears_index y out in
     let b : p.at_index (p.index z) ≡ Some z = i.groups.bears_index z (i.groups.open_group z ph op).0 in
@@ -48,10 +52,16 @@ one_group ms x g n e p y z i ph out op h =
     one : {a b : ℕ} → Some a ≡ Some b → a ≡ b
     one h = cc
 
-pub asks_there : (ms : Mappings) (x g n e first : ℕ) (p : Part) (r : ℕ) → PartInvariant ms x g n e p → OnTheWay p → Filings p → p.phase ≡ Open → p.page_request r ≡ Arrived → asks_of (lists.find (is_begun (number first (p.asker (p.group_of r))) (p.index (p.group_of r))) (host_groups_wire first p)) ≡ asks_wire p (p.group_of r)
+pub asks_there :
+    (ms : Mappings) (x g n e first : ℕ) (p : Part) (r : ℕ) → PartInvariant ms x g n e p → OnTheWay p → Filings p → p.phase ≡ Open
+    → p.page_request r ≡ Arrived
+    → asks_of (lists.find (is_begun (number first (p.asker (p.group_of r))) (p.index (p.group_of r))) (host_groups_wire first p)) ≡ asks_wire p (p.group_of r)
 asks_there ms x g n e first p r i on fi ph ar =
-    ap asks_of (find_seen (λ k. host_group_wire first p (filed_group p k)) (is_begun (number first (p.asker (p.group_of r))) (p.index (p.group_of r))) p.filings (begins_open p))
-    ∙ go (find p.filings (λ k. begins_open p k && is_begun (number first (p.asker (p.group_of r))) (p.index (p.group_of r)) (host_group_wire first p (filed_group p k)))) refl
+    ap asks_of
+    (find_seen (λ k. host_group_wire first p (filed_group p k)) (is_begun (number first (p.asker (p.group_of r))) (p.index (p.group_of r))) p.filings
+    (begins_open p))
+    ∙ go (find p.filings
+    (λ k. begins_open p k && is_begun (number first (p.asker (p.group_of r))) (p.index (p.group_of r)) (host_group_wire first p (filed_group p k)))) refl
   where
     out : is_outstanding (p.group (p.group_of r)) ≡ true
     out = i.lasts.out r ph (inr ar)
@@ -62,40 +72,74 @@ asks_there ms x g n e first p r i on fi ph ar =
     filed : (k : ℕ) → k < p.filings → p.group_of (p.filing k) ≡ p.group_of r → is_filed_group (p.host_group (p.group_of r)) ≡ true
     filed k l c = ap (λ z. is_filed_group (p.host_group z)) (sym c) ∙ (i.groups.filed (p.filing k) (fi.filed k l)).0
 
-    passes : (b : Begun p (p.group_of r)) → p.host_group (p.group_of r) ≡ PartFiled → (begins_open p b.filing && is_begun (number first (p.asker (p.group_of r))) (p.index (p.group_of r)) (host_group_wire first p (filed_group p b.filing))) ≡ true
+    passes :
+        (b : Begun p (p.group_of r)) → p.host_group (p.group_of r) ≡ PartFiled
+        → (begins_open p b.filing && is_begun (number first (p.asker (p.group_of r))) (p.index (p.group_of r))
+        (host_group_wire first p (filed_group p b.filing))) ≡ true
     passes b h =
-        and_both (begins_open p b.filing) (is_begun (number first (p.asker (p.group_of r))) (p.index (p.group_of r)) (host_group_wire first p (filed_group p b.filing))) b.first
+        and_both (begins_open p b.filing)
+        (is_begun (number first (p.asker (p.group_of r))) (p.index (p.group_of r)) (host_group_wire first p (filed_group p b.filing))) b.first
         (ap (λ z. is_begun (number first (p.asker (p.group_of r))) (p.index (p.group_of r)) (host_group_wire first p z)) b.its
-        ∙ three (number first (p.filed_under (p.group_of r)) == number first (p.asker (p.group_of r))) (p.index (p.group_of r) == p.index (p.group_of r)) (is_part (p.host_group (p.group_of r)))
-        (is_same (number first (p.filed_under (p.group_of r))) (number first (p.asker (p.group_of r))) (ap (number first) (i.groups.under (p.group_of r) (ap is_filed_group h))))
+        ∙ three (number first (p.filed_under (p.group_of r)) == number first (p.asker (p.group_of r)))
+        (p.index (p.group_of r) == p.index (p.group_of r)) (is_part (p.host_group (p.group_of r)))
+        (is_same (number first (p.filed_under (p.group_of r))) (number first (p.asker (p.group_of r)))
+        (ap (number first) (i.groups.under (p.group_of r) (ap is_filed_group h))))
         (is_same (p.index (p.group_of r)) (p.index (p.group_of r)) refl)
         (ap is_part h))
       where
         three : (a b c : Bool) → a ≡ true → b ≡ true → c ≡ true → (a && b && not (not c)) ≡ true
         three a b c h k l = grind arith
 
-    its_group : (k : ℕ) → (begins_open p k && is_begun (number first (p.asker (p.group_of r))) (p.index (p.group_of r)) (host_group_wire first p (filed_group p k))) ≡ true → filed_group p k ≡ p.group_of r
+    its_group :
+        (k : ℕ)
+        → (begins_open p k && is_begun (number first (p.asker (p.group_of r))) (p.index (p.group_of r)) (host_group_wire first p (filed_group p k))) ≡ true
+        → filed_group p k ≡ p.group_of r
     its_group k h =
-        let opens = and_left (is_open_group (p.host_group (filed_group p k))) _ (and_left (begins_open p k) (is_begun (number first (p.asker (p.group_of r))) (p.index (p.group_of r)) (host_group_wire first p (filed_group p k))) h) in
-        let index = same_is (p.index (filed_group p k)) (p.index (p.group_of r)) (middle (number first (p.filed_under (filed_group p k)) == number first (p.asker (p.group_of r))) (p.index (filed_group p k) == p.index (p.group_of r)) (not (is_part (p.host_group (filed_group p k)))) (and_right (begins_open p k) (is_begun (number first (p.asker (p.group_of r))) (p.index (p.group_of r)) (host_group_wire first p (filed_group p k))) h)) in
+        let opens =
+        and_left (is_open_group (p.host_group (filed_group p k))) _
+        (and_left (begins_open p k)
+        (is_begun (number first (p.asker (p.group_of r))) (p.index (p.group_of r)) (host_group_wire first p (filed_group p k))) h) in
+        let index =
+        same_is (p.index (filed_group p k)) (p.index (p.group_of r))
+        (middle (number first (p.filed_under (filed_group p k)) == number first (p.asker (p.group_of r)))
+        (p.index (filed_group p k) == p.index (p.group_of r)) (not (is_part (p.host_group (filed_group p k))))
+        (and_right (begins_open p k)
+        (is_begun (number first (p.asker (p.group_of r))) (p.index (p.group_of r)) (host_group_wire first p (filed_group p k))) h)) in
         one_group ms x g n e p (p.group_of r) (filed_group p k) i ph out opens index
       where
         middle : (a b c : Bool) → (a && b && not c) ≡ true → b ≡ true
         middle a b c h = grind arith
 
-    none_there : find p.filings (λ k. begins_open p k && is_begun (number first (p.asker (p.group_of r))) (p.index (p.group_of r)) (host_group_wire first p (filed_group p k))) ≡ None → (p.host_group (p.group_of r) ≡ NotFiled) ⊎ (p.host_group (p.group_of r) ≡ PartFiled) → [] ≡ asks_wire p (p.group_of r)
+    none_there :
+        find p.filings
+        (λ k. begins_open p k && is_begun (number first (p.asker (p.group_of r))) (p.index (p.group_of r)) (host_group_wire first p (filed_group p k))) ≡ None
+        → (p.host_group (p.group_of r) ≡ NotFiled) ⊎ (p.host_group (p.group_of r) ≡ PartFiled) → [] ≡ asks_wire p (p.group_of r)
     none_there h (inl c) = sym (none_filed p (p.group_of r) fi (λ z k d. not_filed c k) filed)
     none_there h (inr c) =
         let b = begun p (p.group_of r) fi (ap is_open_group c) in
-        absurd (cc (sym (find_some p.filings (λ k. begins_open p k && is_begun (number first (p.asker (p.group_of r))) (p.index (p.group_of r)) (host_group_wire first p (filed_group p k))) b.filing b.made (passes b c)) ∙ h))
+        absurd (cc
+        (sym (find_some p.filings
+        (λ k. begins_open p k && is_begun (number first (p.asker (p.group_of r))) (p.index (p.group_of r))
+        (host_group_wire first p (filed_group p k))) b.filing b.made (passes b c)) ∙ h))
 
-    go : (o : Option ℕ) → find p.filings (λ k. begins_open p k && is_begun (number first (p.asker (p.group_of r))) (p.index (p.group_of r)) (host_group_wire first p (filed_group p k))) ≡ o → asks_of (option_map (λ k. host_group_wire first p (filed_group p k)) o) ≡ asks_wire p (p.group_of r)
+    go :
+        (o : Option ℕ)
+        → find p.filings
+        (λ k. begins_open p k && is_begun (number first (p.asker (p.group_of r))) (p.index (p.group_of r)) (host_group_wire first p (filed_group p k))) ≡ o
+        → asks_of (option_map (λ k. host_group_wire first p (filed_group p k)) o) ≡ asks_wire p (p.group_of r)
     go None h = none_there h (arrived_in ms x g n e p r i on ph ar)
     go (Some k) h =
-        ap (asks_wire p) (its_group k (find_passes p.filings (λ k. begins_open p k && is_begun (number first (p.asker (p.group_of r))) (p.index (p.group_of r)) (host_group_wire first p (filed_group p k))) k h).1)
+        ap (asks_wire p)
+        (its_group k
+        (find_passes p.filings
+        (λ k. begins_open p k && is_begun (number first (p.asker (p.group_of r))) (p.index (p.group_of r)) (host_group_wire first p (filed_group p k))) k h).1)
 
 -- and with the request itself, which is filed last
-pub asks_then : (ms : Mappings) (x g n e first : ℕ) (p : Part) (r : ℕ) → PartInvariant ms x g n e p → OnTheWay p → Filings p → p.phase ≡ Open → p.page_request r ≡ Arrived → asks_of (lists.find (is_begun (number first (p.asker (p.group_of r))) (p.index (p.group_of r))) (host_groups_wire first p)) ++ ask_wire p r ∷ [] ≡ asks_wire (own p n (Own.File r)) (p.group_of r)
+pub asks_then :
+    (ms : Mappings) (x g n e first : ℕ) (p : Part) (r : ℕ) → PartInvariant ms x g n e p → OnTheWay p → Filings p → p.phase ≡ Open
+    → p.page_request r ≡ Arrived
+    → asks_of (lists.find (is_begun (number first (p.asker (p.group_of r))) (p.index (p.group_of r))) (host_groups_wire first p)) ++ ask_wire p r ∷ []
+    ≡ asks_wire (own p n (Own.File r)) (p.group_of r)
 asks_then ms x g n e first p r i on fi ph ar =
     ap (λ xs. xs ++ ask_wire p r ∷ []) (asks_there ms x g n e first p r i on fi ph ar)
     ∙ ap (λ b. asks_wire p (p.group_of r) ++ if_passes b (ask_wire p r)) (sym (is_same (p.group_of r) (p.group_of r) refl))

@@ -43,25 +43,34 @@ begun p g fi h =
       its = its;
       first = and_both
           (is_open_group (p.host_group (p.group_of (p.filing (lowest p.filings (λ k. p.group_of (p.filing k) == g))))))
-          (not (any_below (lowest p.filings (λ k. p.group_of (p.filing k) == g)) (λ j. p.group_of (p.filing j) == p.group_of (p.filing (lowest p.filings (λ k. p.group_of (p.filing k) == g))))))
+          (not (any_below (lowest p.filings (λ k. p.group_of (p.filing k) == g))
+          (λ j. p.group_of (p.filing j) == p.group_of (p.filing (lowest p.filings (λ k. p.group_of (p.filing k) == g))))))
           (ap (λ z. is_open_group (p.host_group z)) its ∙ h)
-          (ap not (none_below (lowest p.filings (λ k. p.group_of (p.filing k) == g)) (λ j. p.group_of (p.filing j) == p.group_of (p.filing (lowest p.filings (λ k. p.group_of (p.filing k) == g))))
+          (ap not (none_below (lowest p.filings (λ k. p.group_of (p.filing k) == g))
+          (λ j. p.group_of (p.filing j) == p.group_of (p.filing (lowest p.filings (λ k. p.group_of (p.filing k) == g))))
           (λ j l. ap (λ z. p.group_of (p.filing j) == z) its ∙ low.2 j l)));
     }
 
-pub open_there : (first m b : ℕ) (ms : Mappings) (p : Part) → Bounds m p → Filings p → has_open_group (part_wire first ms p) (number first b) ≡ Labels.has_open_group p b
+pub open_there :
+    (first m b : ℕ) (ms : Mappings) (p : Part) → Bounds m p → Filings p
+    → has_open_group (part_wire first ms p) (number first b) ≡ Labels.has_open_group p b
 open_there first m b ms p bo fi =
     any_seen p.filings (begins_open p) (λ k. host_group_wire first p (p.group_of (p.filing k))) (λ g. g.binding == first + b)
-    ∙ both_ways (any_below p.filings (λ k. begins_open p k && first + p.filed_under (p.group_of (p.filing k)) == first + b)) (Labels.has_open_group p b) forth back
+    ∙ both_ways (any_below p.filings (λ k. begins_open p k && first + p.filed_under (p.group_of (p.filing k)) == first + b))
+    (Labels.has_open_group p b) forth back
   where
     forth : any_below p.filings (λ k. begins_open p k && first + p.filed_under (p.group_of (p.filing k)) == first + b) ≡ true → Labels.has_open_group p b ≡ true
     forth h =
         let x = any_below-true p.filings (λ k. begins_open p k && first + p.filed_under (p.group_of (p.filing k)) == first + b) h in
-        let is_open = and_left (is_open_group (p.host_group (p.group_of (p.filing x.0)))) (not (any_below x.0 (λ j. p.group_of (p.filing j) == p.group_of (p.filing x.0)))) (and_left (begins_open p x.0) (first + p.filed_under (p.group_of (p.filing x.0)) == first + b) x.2) in
+        let is_open =
+        and_left (is_open_group (p.host_group (p.group_of (p.filing x.0))))
+        (not (any_below x.0 (λ j. p.group_of (p.filing j) == p.group_of (p.filing x.0))))
+        (and_left (begins_open p x.0) (first + p.filed_under (p.group_of (p.filing x.0)) == first + b) x.2) in
         any_below-intro p.groups (λ g. is_open_group (p.host_group g) && p.filed_under g == b) (p.group_of (p.filing x.0))
         (open_made (p.group_of (p.filing x.0)) p.groups (p.host_group (p.group_of (p.filing x.0))) is_open (bo.host_group (p.group_of (p.filing x.0))))
         (and_both (is_open_group (p.host_group (p.group_of (p.filing x.0)))) (p.filed_under (p.group_of (p.filing x.0)) == b) is_open
-        (sym (same_number first (p.filed_under (p.group_of (p.filing x.0))) b) ∙ and_right (begins_open p x.0) (first + p.filed_under (p.group_of (p.filing x.0)) == first + b) x.2))
+        (sym (same_number first (p.filed_under (p.group_of (p.filing x.0))) b)
+        ∙ and_right (begins_open p x.0) (first + p.filed_under (p.group_of (p.filing x.0)) == first + b) x.2))
 
     back : Labels.has_open_group p b ≡ true → any_below p.filings (λ k. begins_open p k && first + p.filed_under (p.group_of (p.filing k)) == first + b) ≡ true
     back h =
@@ -69,4 +78,5 @@ open_there first m b ms p bo fi =
         let f = begun p x.0 fi (and_left (is_open_group (p.host_group x.0)) (p.filed_under x.0 == b) x.2) in
         any_below-intro p.filings (λ k. begins_open p k && first + p.filed_under (p.group_of (p.filing k)) == first + b) f.filing f.made
         (and_both (begins_open p f.filing) (first + p.filed_under (p.group_of (p.filing f.filing)) == first + b) f.first
-        (same_number first (p.filed_under (p.group_of (p.filing f.filing))) b ∙ ap (λ z. p.filed_under z == b) f.its ∙ and_right (is_open_group (p.host_group x.0)) (p.filed_under x.0 == b) x.2))
+        (same_number first (p.filed_under (p.group_of (p.filing f.filing))) b ∙ ap (λ z. p.filed_under z == b) f.its
+        ∙ and_right (is_open_group (p.host_group x.0)) (p.filed_under x.0 == b) x.2))

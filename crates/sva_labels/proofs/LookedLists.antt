@@ -19,7 +19,9 @@ abbrev pub or_first : (a : Option ℕ) (n : ℕ) (b : Bool) → Option ℕ
 or_first None n b = if_found b n
 or_first (Some k) n b = Some k
 
-find_step : (z n : ℕ) (b : Bool) → (z ≡ n) ⊎ (z < n) → if_found (nat_lt (step_lowest (z == n) z n b) (suc n)) (step_lowest (z == n) z n b) ≡ or_first (if_found (nat_lt z n) z) n b
+find_step :
+    (z n : ℕ) (b : Bool) → (z ≡ n) ⊎ (z < n)
+    → if_found (nat_lt (step_lowest (z == n) z n b) (suc n)) (step_lowest (z == n) z n b) ≡ or_first (if_found (nat_lt z n) z) n b
 find_step z n b (inl e) = here (z == n) (nat_lt z n) (same_test z n e) (not_less z n e) b
   where
     same_test : (z n : ℕ) → z ≡ n → (z == n) ≡ true
@@ -34,7 +36,9 @@ find_step z n b (inl e) = here (z == n) (nat_lt z n) (same_test z n e) (not_less
     past : nat_lt (suc n) (suc n) ≡ false
     past = grind (arith, nat_tests)
 
-    here : (t u : Bool) → t ≡ true → u ≡ false → (b : Bool) → if_found (nat_lt (step_lowest t z n b) (suc n)) (step_lowest t z n b) ≡ or_first (if_found u z) n b
+    here :
+        (t u : Bool) → t ≡ true → u ≡ false → (b : Bool)
+        → if_found (nat_lt (step_lowest t z n b) (suc n)) (step_lowest t z n b) ≡ or_first (if_found u z) n b
     here true false h k true = ap (λ x. if_found x n) now
     here true false h k false = ap (λ x. if_found x (suc n)) past
     here false u h k b = absurd (cc (h))
@@ -59,7 +63,9 @@ pub find_next : (n : ℕ) (p : ℕ → Bool) → find (suc n) p ≡ or_first (fi
 unfolding lowest
 find_next n p = find_step (lowest n p) n (p n) (go (lowest_cases n p))
   where
-    go : ((lowest n p ≡ n) × ((j : ℕ) → j < n → p j ≡ false)) ⊎ ((lowest n p < n) × (p (lowest n p) ≡ true) × ((j : ℕ) → j < lowest n p → p j ≡ false)) → (lowest n p ≡ n) ⊎ (lowest n p < n)
+    go :
+        ((lowest n p ≡ n) × ((j : ℕ) → j < n → p j ≡ false)) ⊎ ((lowest n p < n) × (p (lowest n p) ≡ true) × ((j : ℕ) → j < lowest n p → p j ≡ false))
+        → (lowest n p ≡ n) ⊎ (lowest n p < n)
     go (inl x) = inl x.0
     go (inr x) = inr x.0
 
@@ -74,7 +80,9 @@ find_none n p h = go (lowest_cases n p)
     none : (z : ℕ) → z ≡ n → if_found (nat_lt z n) z ≡ None
     none z e = grind (arith, nat_tests)
 
-    go : ((lowest n p ≡ n) × ((j : ℕ) → j < n → p j ≡ false)) ⊎ ((lowest n p < n) × (p (lowest n p) ≡ true) × ((j : ℕ) → j < lowest n p → p j ≡ false)) → find n p ≡ None
+    go :
+        ((lowest n p ≡ n) × ((j : ℕ) → j < n → p j ≡ false)) ⊎ ((lowest n p < n) × (p (lowest n p) ≡ true) × ((j : ℕ) → j < lowest n p → p j ≡ false))
+        → find n p ≡ None
     go (inl x) = none (lowest n p) x.0
     go (inr x) = absurd (let f = h (lowest n p) x.0 in cc (sym f ∙ x.1))
 
@@ -82,7 +90,9 @@ find_none n p h = go (lowest_cases n p)
 pub find_only : (n : ℕ) (p : ℕ → Bool) (k : ℕ) → k < n → p k ≡ true → ((j : ℕ) → j < n → p j ≡ true → j ≡ k) → find n p ≡ Some k
 find_only n p k l t one = go (lowest_cases n p)
   where
-    go : ((lowest n p ≡ n) × ((j : ℕ) → j < n → p j ≡ false)) ⊎ ((lowest n p < n) × (p (lowest n p) ≡ true) × ((j : ℕ) → j < lowest n p → p j ≡ false)) → find n p ≡ Some k
+    go :
+        ((lowest n p ≡ n) × ((j : ℕ) → j < n → p j ≡ false)) ⊎ ((lowest n p < n) × (p (lowest n p) ≡ true) × ((j : ℕ) → j < lowest n p → p j ≡ false))
+        → find n p ≡ Some k
     go (inl x) = absurd (let f = x.1 k l in cc (sym f ∙ t))
     go (inr x) = find_some n p k l t ∙ ap (λ z. Some z) (one (lowest n p) x.0 x.1)
 
@@ -102,7 +112,9 @@ seen_next f n p = map-append f (select n p) (if p n then n ∷ [] else []) ∙ a
     go false = refl
 
 -- the first that passes a test is that of the lowest number
-pub find_seen : {A : Type 0} (f : ℕ → A) (test : A → Bool) (n : ℕ) (p : ℕ → Bool) → lists.find test (map f (select n p)) ≡ option_map f (find n (λ k. p k && test (f k)))
+pub find_seen :
+    {A : Type 0} (f : ℕ → A) (test : A → Bool) (n : ℕ) (p : ℕ → Bool)
+    → lists.find test (map f (select n p)) ≡ option_map f (find n (λ k. p k && test (f k)))
 unfolding select lowest
 find_seen f test zero p = refl
 find_seen {A = A} f test (suc n) p =
@@ -116,7 +128,9 @@ find_seen {A = A} f test (suc n) p =
     last true false e = ap (λ t. if t then Some (f n) else None) e
     last false c e = refl
 
-    go : (b c : Bool) → test (f n) ≡ c → (o : Option ℕ) (r : Option A) → r ≡ option_map f o → option_or r (lists.find test (if_passes b (f n))) ≡ option_map f (or_first o n (b && c))
+    go :
+        (b c : Bool) → test (f n) ≡ c → (o : Option ℕ) (r : Option A) → r ≡ option_map f o
+        → option_or r (lists.find test (if_passes b (f n))) ≡ option_map f (or_first o n (b && c))
     go b c e None None h = last b c e
     go b c e (Some k) (Some a) h = h
     go b c e None (Some a) h = absurd (cc (h))
@@ -127,7 +141,9 @@ pub count_seen : {A : Type 0} (f : ℕ → A) (test : A → Bool) (n : ℕ) (p :
 unfolding select count_below
 count_seen f test zero p = refl
 count_seen f test (suc n) p =
-    ap (count_by test) (seen_next f n p) ∙ sum_by-append (λ x. if test x then 1 else 0) (map f (select n p)) (if_passes (p n) (f n)) ∙ go (p n) (test (f n)) refl (count_below n (λ k. p k && test (f k))) (count_seen f test n p)
+    ap (count_by test) (seen_next f n p)
+    ∙ sum_by-append (λ x. if test x then 1 else 0) (map f (select n p)) (if_passes (p n) (f n))
+    ∙ go (p n) (test (f n)) refl (count_below n (λ k. p k && test (f k))) (count_seen f test n p)
   where
     one : count_by test (f n ∷ []) ≡ (if test (f n) then 1 else 0)
     one = zero_plus (if test (f n) then 1 else 0)
@@ -135,7 +151,9 @@ count_seen f test (suc n) p =
         zero_plus : (a : ℕ) → 0 + a ≡ a
         zero_plus a = omega arith
 
-    go : (b c : Bool) → test (f n) ≡ c → (r : ℕ) → count_by test (map f (select n p)) ≡ r → count_by test (map f (select n p)) + count_by test (if_passes b (f n)) ≡ (if b && c then suc r else r)
+    go :
+        (b c : Bool) → test (f n) ≡ c → (r : ℕ) → count_by test (map f (select n p)) ≡ r
+        → count_by test (map f (select n p)) + count_by test (if_passes b (f n)) ≡ (if b && c then suc r else r)
     go true true e r h = ap₂ (λ x y. x + y) h (one ∙ ap (λ t. if t then 1 else 0) e) ∙ omega arith
     go true false e r h = ap₂ (λ x y. x + y) h (one ∙ ap (λ t. if t then 1 else 0) e) ∙ omega arith
     go false c e r h = omega (arith, h)
@@ -165,9 +183,17 @@ select_first (suc n) p l = go (p n) refl (lowest_cases n p) (select_first n p)
     stays : (z : ℕ) (b : Bool) → z < n → z ≡ step_lowest (z == n) z n b
     stays z b l = grind (arith, nat_tests)
 
-    go : (b : Bool) → p n ≡ b → ((lowest n p ≡ n) × ((j : ℕ) → j < n → p j ≡ false)) ⊎ ((lowest n p < n) × (p (lowest n p) ≡ true) × ((j : ℕ) → j < lowest n p → p j ≡ false)) → (lowest n p < n → (rest : List ℕ) × (select n p ≡ lowest n p ∷ rest)) → (rest : List ℕ) × (select n p ++ (if p n then n ∷ [] else []) ≡ step_lowest (lowest n p == n) (lowest n p) n (p n) ∷ rest)
-    go true e (inl x) rest = ([], ap₂ (λ xs b. xs ++ (if b then n ∷ [] else [])) (select_none n p x.1) e ∙ ap (λ k. k ∷ []) (sym (first (lowest n p) x.0 (p n) e)))
+    go :
+        (b : Bool) → p n ≡ b
+        → ((lowest n p ≡ n) × ((j : ℕ) → j < n → p j ≡ false)) ⊎ ((lowest n p < n) × (p (lowest n p) ≡ true) × ((j : ℕ) → j < lowest n p → p j ≡ false))
+        → (lowest n p < n → (rest : List ℕ) × (select n p ≡ lowest n p ∷ rest))
+        → (rest : List ℕ) × (select n p ++ (if p n then n ∷ [] else []) ≡ step_lowest (lowest n p == n) (lowest n p) n (p n) ∷ rest)
+    go true e (inl x) rest =
+        ([], ap₂ (λ xs b. xs ++ (if b then n ∷ [] else [])) (select_none n p x.1) e ∙ ap (λ k. k ∷ []) (sym (first (lowest n p) x.0 (p n) e)))
     go false e (inl x) rest = absurd (let o : step_lowest (lowest n p == n) (lowest n p) n (p n) ≡ suc n = over (lowest n p) x.0 (p n) e in omega arith)
     go b e (inr x) rest =
-        let r = rest x.0 in
-        (r.0 ++ (if p n then n ∷ [] else []), ap (λ xs. xs ++ (if p n then n ∷ [] else [])) r.1 ∙ ap (λ k. k ∷ (r.0 ++ (if p n then n ∷ [] else []))) (stays (lowest n p) (p n) x.0))
+        let r = rest x.0 in (
+          r.0 ++ (if p n then n ∷ [] else []),
+          ap (λ xs. xs ++ (if p n then n ∷ [] else [])) r.1
+              ∙ ap (λ k. k ∷ (r.0 ++ (if p n then n ∷ [] else []))) (stays (lowest n p) (p n) x.0),
+        )

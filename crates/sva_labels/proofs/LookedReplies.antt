@@ -35,9 +35,13 @@ pub record InHandNow (w : World) (j : ℕ) : Type 0 where
   pub held : w.hand worker ≡ Some j
 
 group_made : (w : World) (j : ℕ) → Invariant w → InHandNow w j → (w.job j).group < (w.part (w.job j).endpoint).groups
-group_made w j i h = made ((w.part (w.job j).endpoint).host_group (w.job j).group) (i.hands.held h.worker j h.held) ((i.parts (w.job j).endpoint).bounds.host_group (w.job j).group)
+group_made w j i h =
+    made ((w.part (w.job j).endpoint).host_group (w.job j).group) (i.hands.held h.worker j h.held)
+    ((i.parts (w.job j).endpoint).bounds.host_group (w.job j).group)
   where
-    made : (s : HostGroupState) → IsHeldBy s h.worker → ((w.part (w.job j).endpoint).groups ≤ (w.job j).group → s ≡ NotFiled) → (w.job j).group < (w.part (w.job j).endpoint).groups
+    made :
+        (s : HostGroupState) → IsHeldBy s h.worker → ((w.part (w.job j).endpoint).groups ≤ (w.job j).group → s ≡ NotFiled)
+        → (w.job j).group < (w.part (w.job j).endpoint).groups
     made s k b = grind (arith)
 
 pub job_there : (w : World) (j : ℕ) → Invariant w → InHandNow w j → (w.job j).endpoint < w.config.endpoints
@@ -46,7 +50,9 @@ job_there w j i h = group_there w (w.job j).endpoint (w.job j).group i (group_ma
 filed_bound : (w : World) (j : ℕ) → Invariant w → InHandNow w j → (w.part (w.job j).endpoint).stage (job_binding w j) ≢ Unbound
 filed_bound w j i h e =
     (i.parts (w.job j).endpoint).groups.asker_bound (w.job j).group (group_made w j i h)
-    (ap (w.part (w.job j).endpoint).stage (sym ((i.parts (w.job j).endpoint).groups.under (w.job j).group (filed ((w.part (w.job j).endpoint).host_group (w.job j).group) (i.hands.held h.worker j h.held)))) ∙ e)
+    (ap (w.part (w.job j).endpoint).stage
+    (sym ((i.parts (w.job j).endpoint).groups.under (w.job j).group
+    (filed ((w.part (w.job j).endpoint).host_group (w.job j).group) (i.hands.held h.worker j h.held)))) ∙ e)
   where
     filed : (s : HostGroupState) → IsHeldBy s h.worker → is_filed_group s ≡ true
     filed s k = grind arith
@@ -88,12 +94,15 @@ response_there w j v i h =
     ap (λ u. response_for u.is_open (binding_of (wire w) (number w.config.first (job_binding w j))) v) (unit_seen w (w.job j).endpoint (job_there w j i h))
     ∙ go (is_unreleased ((w.part (w.job j).endpoint).stage (job_binding w j))) refl
   where
-    go : (u : Bool) → is_unreleased ((w.part (w.job j).endpoint).stage (job_binding w j)) ≡ u → response_for (is_open (w.part (w.job j).endpoint).phase) (binding_of (wire w) (number w.config.first (job_binding w j))) v ≡ names.response_to w j v
+    go :
+        (u : Bool) → is_unreleased ((w.part (w.job j).endpoint).stage (job_binding w j)) ≡ u
+        → response_for (is_open (w.part (w.job j).endpoint).phase) (binding_of (wire w) (number w.config.first (job_binding w j))) v ≡ names.response_to w j v
     go true e =
         ap (λ o. response_for (is_open (w.part (w.job j).endpoint).phase) o v) (binding_named w (w.job j).endpoint (job_binding w j) i e)
         ∙ staged w.config.first (w.part (w.job j).endpoint) (is_open (w.part (w.job j).endpoint).phase) ((w.part (w.job j).endpoint).stage (job_binding w j)) v
     go false e =
-        ap (λ o. response_for (is_open (w.part (w.job j).endpoint).phase) o v) (binding_released w (w.job j).endpoint (job_binding w j) i (filed_bound w j i h) e)
+        ap (λ o. response_for (is_open (w.part (w.job j).endpoint).phase) o v)
+        (binding_released w (w.job j).endpoint (job_binding w j) i (filed_bound w j i h) e)
         ∙ sym (no_response (is_open (w.part (w.job j).endpoint).phase) ((w.part (w.job j).endpoint).stage (job_binding w j)) v e)
 
 some_same : {A : Type 0} (o : Option A) → prelude.is_some o ≡ is_some o
@@ -132,7 +141,8 @@ succeeds w j v i s =
     let b = binding_named w (w.job j).endpoint (job_binding w j) i u in
     record {
       binding = b;
-      pages = ap (λ o. pages_in (wire w) (space_by o)) b ∙ pages_of_name w (job_space w j) i.mapped (i.mapped.bound_live (w.job j).endpoint (job_binding w j) u);
+      pages =
+          ap (λ o. pages_in (wire w) (space_by o)) b ∙ pages_of_name w (job_space w j) i.mapped (i.mapped.bound_live (w.job j).endpoint (job_binding w j) u);
     }
 
 -- what the requests ask
@@ -158,11 +168,18 @@ read_only_there w j i s =
     ap (λ pages. list_any (λ a. a.write && is_read_only_at (page_at pages a.page)) (map (ask_wire (w.part (w.job j).endpoint)) (job_asks w j))) s.pages
     ∙ each (job_asks w j)
   where
-    each : (rs : List ℕ) → list_any (λ a. a.write && is_read_only_at (page_at (pages_wire w.mappings (job_space w j)) a.page)) (map (ask_wire (w.part (w.job j).endpoint)) rs) ≡ list_any (λ r. (w.part (w.job j).endpoint).asks_write r && holds_of (λ m. not (w.mappings.write m)) (w.mappings.at (job_space w j) ((w.part (w.job j).endpoint).asked_page r))) rs
+    each :
+        (rs : List ℕ)
+        → list_any (λ a. a.write && is_read_only_at (page_at (pages_wire w.mappings (job_space w j)) a.page))
+        (map (ask_wire (w.part (w.job j).endpoint)) rs)
+        ≡ list_any
+        (λ r. (w.part (w.job j).endpoint).asks_write r && holds_of (λ m. not (w.mappings.write m))
+        (w.mappings.at (job_space w j) ((w.part (w.job j).endpoint).asked_page r))) rs
     each [] = refl
     each (r ∷ rs) =
         ap₂ (λ a b. ((w.part (w.job j).endpoint).asks_write r && a) || b)
-        (ap is_read_only_at (page_found w (job_space w j) ((w.part (w.job j).endpoint).asked_page r) i.mapped) ∙ read_only w (w.mappings.at (job_space w j) ((w.part (w.job j).endpoint).asked_page r)))
+        (ap is_read_only_at (page_found w (job_space w j) ((w.part (w.job j).endpoint).asked_page r) i.mapped)
+        ∙ read_only w (w.mappings.at (job_space w j) ((w.part (w.job j).endpoint).asked_page r)))
         (each rs)
 
 -- The free frames, lowest first.
@@ -177,7 +194,10 @@ free_push k (x ∷ xs) y = go (is_free x) (free_push (suc k) xs y ∙ ap (λ n. 
     next : (k n : ℕ) → suc k + n ≡ k + suc n
     next k n = omega arith
 
-    go : (b : Bool) → free_from (suc k) (xs ++ y ∷ []) ≡ free_from (suc k) xs ++ (if is_free y then (k + suc (length xs)) ∷ [] else []) → (if b then k ∷ free_from (suc k) (xs ++ y ∷ []) else free_from (suc k) (xs ++ y ∷ [])) ≡ (if b then k ∷ free_from (suc k) xs else free_from (suc k) xs) ++ (if is_free y then (k + suc (length xs)) ∷ [] else [])
+    go :
+        (b : Bool) → free_from (suc k) (xs ++ y ∷ []) ≡ free_from (suc k) xs ++ (if is_free y then (k + suc (length xs)) ∷ [] else [])
+        → (if b then k ∷ free_from (suc k) (xs ++ y ∷ []) else free_from (suc k) (xs ++ y ∷ []))
+        ≡ (if b then k ∷ free_from (suc k) xs else free_from (suc k) xs) ++ (if is_free y then (k + suc (length xs)) ∷ [] else [])
     go true h = ap (λ zs. k ∷ zs) h
     go false h = h
 

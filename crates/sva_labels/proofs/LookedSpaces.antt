@@ -68,7 +68,9 @@ number_given w count s l = go w.config.first (number w.config.first s) (Labels.n
 -- the pages of a live space, by its name
 pub pages_of_name : (w : World) (s : ℕ) → Mapped w → w.is_live s ≡ true → pages_in (wire w) (number w.config.first s) ≡ pages_wire w.mappings s
 pages_of_name w s ma l =
-    pages_there w (number w.config.first s) (there (Labels.is_number w w.spaces (number w.config.first s)) (w.is_live (Labels.name w (number w.config.first s))) (number_given w w.spaces s (ma.live s l)) (ap w.is_live (name_of w s) ∙ l))
+    pages_there w (number w.config.first s)
+    (there (Labels.is_number w w.spaces (number w.config.first s)) (w.is_live (Labels.name w (number w.config.first s)))
+    (number_given w w.spaces s (ma.live s l)) (ap w.is_live (name_of w s) ∙ l))
     ∙ ap (pages_wire w.mappings) (name_of w s)
   where
     there : (a b : Bool) → a ≡ true → b ≡ true → (a && b) ≡ true
@@ -86,7 +88,9 @@ pub pages_count : (w : World) (s : ℕ) → length (pages_wire w.mappings s) ≡
 pages_count w s = pages_length w s w.mappings.made
 
 -- the frames of pages that are all mapped
-pub frames_there : (w : World) (s q count : ℕ) → Mapped w → all_below count (λ j. Labels.is_mapped w s (q + j)) ≡ true → frames_of (pages_wire w.mappings s) q count ≡ frames_at w s q count
+pub frames_there :
+    (w : World) (s q count : ℕ) → Mapped w → all_below count (λ j. Labels.is_mapped w s (q + j)) ≡ true
+    → frames_of (pages_wire w.mappings s) q count ≡ frames_at w s q count
 frames_there w s q count ma h =
     tabulate_same count (λ j. frame_or_0 (page_at (pages_wire w.mappings s) (q + j))) (λ j. w.mappings.frame (the (w.mappings.at s (q + j))))
     (λ j l. ap frame_or_0 (page_found w s (q + j) ma) ∙ go (w.mappings.at s (q + j)) (all_below-true count (λ j. Labels.is_mapped w s (q + j)) h j l))
@@ -104,7 +108,9 @@ lowest_there w = lowest_same (places_wire w) ∙ lowest_is w
 pub frames_free : (w : World) (f : ℕ) → is_free (place_wire_by w f (place w f)) ≡ is_free_place (place w f)
 frames_free w f = ap is_free (place_seen w w.mappings f) ∙ go (w.mappings.latest f)
   where
-    by_answers : (b : Bool) (owed : ℕ → Owed) → is_free (gone_seen b (withheld_wire w.config.first w.config.endpoints w.part (Gone owed))) ≡ is_free_place (place_of_gone b)
+    by_answers :
+        (b : Bool) (owed : ℕ → Owed)
+        → is_free (gone_seen b (withheld_wire w.config.first w.config.endpoints w.part (Gone owed))) ≡ is_free_place (place_of_gone b)
     by_answers true owed = refl
     by_answers false owed = refl
 

@@ -48,7 +48,10 @@ below_end : (first c n : ℕ) → nat_lt (first + c) (end_number first n) ≡ na
 below_end first c zero = both_ways (nat_lt (first + c) 0) (nat_lt c 0) (λ h. grind (arith, nat_tests)) (λ h. grind (arith, nat_tests))
 below_end first c (suc n) = both_ways (nat_lt (first + c) (first + suc n)) (nat_lt c (suc n)) (λ h. grind (arith, nat_tests)) (λ h. grind (arith, nat_tests))
 
-pub wait_there : (first : ℕ) (p : Part) (k : ℕ) → is_wait (p.order k) ≡ true → ((c : ℕ) (x : Bool) → p.order k ≡ Wait c x → (p.order_state k ≡ Done) ↔ (c < p.front)) → is_wait_done (unit_wire first p) (cookie_number first (p.order k)) ≡ is_done (p.order_state k)
+pub wait_there :
+    (first : ℕ) (p : Part) (k : ℕ) → is_wait (p.order k) ≡ true
+    → ((c : ℕ) (x : Bool) → p.order k ≡ Wait c x → (p.order_state k ≡ Done) ↔ (c < p.front))
+    → is_wait_done (unit_wire first p) (cookie_number first (p.order k)) ≡ is_done (p.order_state k)
 wait_there first p k wt h = go (p.order k) refl wt
   where
     state_done : (z : OrderState) → is_done z ≡ true → z ≡ Done
@@ -69,15 +72,20 @@ wait_there first p k wt h = go (p.order k) refl wt
     go : (o : Order) → p.order k ≡ o → is_wait o ≡ true → nat_lt (cookie_number first o) (end_number first p.front) ≡ is_done (p.order_state k)
     go (Wait c x) e t =
         below_end first c p.front
-        ∙ both_ways (nat_lt c p.front) (is_done (p.order_state k)) (λ l. ap is_done ((h c x e).1 (less c p.front l))) (λ d. is_less c p.front ((h c x e).0 (state_done (p.order_state k) d)))
+        ∙ both_ways (nat_lt c p.front) (is_done (p.order_state k)) (λ l. ap is_done ((h c x e).1 (less c p.front l)))
+        (λ d. is_less c p.front ((h c x e).0 (state_done (p.order_state k) d)))
     go (RangeOf b r) e t = absurd (cc (t))
     go (PasidOf b) e t = absurd (cc (t))
 
 -- the wait of a binding that drains, and of one whose PASID is invalidated
-pub drained_there : (first n b k : ℕ) (p : Part) → HasFront n p → is_wait (p.order k) ≡ true → p.stage b ≡ Draining k → is_wait_done (unit_wire first p) (cookie_number first (p.order k)) ≡ is_done (p.order_state k)
+pub drained_there :
+    (first n b k : ℕ) (p : Part) → HasFront n p → is_wait (p.order k) ≡ true → p.stage b ≡ Draining k
+    → is_wait_done (unit_wire first p) (cookie_number first (p.order k)) ≡ is_done (p.order_state k)
 drained_there first n b k p f wt h = wait_there first p k wt (λ c x e. f.draining b k c x h e)
 
-pub invalidated_there : (first n b j k : ℕ) (p : Part) → HasFront n p → is_wait (p.order k) ≡ true → p.stage b ≡ Invalidating j k → is_wait_done (unit_wire first p) (cookie_number first (p.order k)) ≡ is_done (p.order_state k)
+pub invalidated_there :
+    (first n b j k : ℕ) (p : Part) → HasFront n p → is_wait (p.order k) ≡ true → p.stage b ≡ Invalidating j k
+    → is_wait_done (unit_wire first p) (cookie_number first (p.order k)) ≡ is_done (p.order_state k)
 invalidated_there first n b j k p f wt h = wait_there first p k wt (λ c x e. f.invalidating b j k c x h e)
 
 -- Where pages of a space are taken out.
@@ -104,31 +112,43 @@ needed_there w s i =
     ap (λ n. count_below n (submits (wire w) (number w.config.first s))) (endpoints_seen w)
     ∙ count_same w.config.endpoints (submits (wire w) (number w.config.first s)) (acts.submits w s) (λ e l. submits_there w s e i l)
 
-pub full_there : (w : World) (s k : ℕ) → Invariant w → any_below (length (wire w).parts) (λ e. submits (wire w) (number w.config.first s) e && not (has_room (unit_of (wire w) e) k)) ≡ any_below w.config.endpoints (λ e. acts.submits w s e && is_queue_short (w.part e) k)
+pub full_there :
+    (w : World) (s k : ℕ) → Invariant w
+    → any_below (length (wire w).parts) (λ e. submits (wire w) (number w.config.first s) e && not (has_room (unit_of (wire w) e) k))
+    ≡ any_below w.config.endpoints (λ e. acts.submits w s e && is_queue_short (w.part e) k)
 full_there w s k i =
     ap (λ n. any_below n (λ e. submits (wire w) (number w.config.first s) e && not (has_room (unit_of (wire w) e) k))) (endpoints_seen w)
-    ∙ any_same w.config.endpoints (λ e. submits (wire w) (number w.config.first s) e && not (has_room (unit_of (wire w) e) k)) (λ e. acts.submits w s e && is_queue_short (w.part e) k)
+    ∙ any_same w.config.endpoints (λ e. submits (wire w) (number w.config.first s) e && not (has_room (unit_of (wire w) e) k))
+    (λ e. acts.submits w s e && is_queue_short (w.part e) k)
     (λ e l. ap₂ (λ a b. a && b) (submits_there w s e i l) (ap (λ u. not (has_room u k)) (unit_seen w e l) ∙ room_there w.config.first k (w.part e)))
 
 -- Is there something to wait for?
 
-target_seen : (first n cookie b : ℕ) (p : Part) → HasFront n p → ((j k : ℕ) → p.stage b ≡ Invalidating j k → is_wait (p.order k) ≡ true) → (s : Stage) → p.stage b ≡ s → is_some (target_by_stage (unit_wire first p) cookie (stage_wire first p s)) ≡ waits_by_stage p s
+target_seen :
+    (first n cookie b : ℕ) (p : Part) → HasFront n p → ((j k : ℕ) → p.stage b ≡ Invalidating j k → is_wait (p.order k) ≡ true) → (s : Stage)
+    → p.stage b ≡ s → is_some (target_by_stage (unit_wire first p) cookie (stage_wire first p s)) ≡ waits_by_stage p s
 target_seen first n cookie b p f wt Unbound h = refl
 target_seen first n cookie b p f wt Live h = refl
 target_seen first n cookie b p f wt (Stopping marked) h = refl
 target_seen first n cookie b p f wt (Draining k) h = refl
 target_seen first n cookie b p f wt (Invalidating j k) h =
-    ap (λ d. is_some (if d then None else Some (if is_open p.phase then TargetWire.Cookie (cookie_number first (p.order k)) else TargetWire.ResetEnd))) (invalidated_there first n b j k p f (wt j k h) h)
+    ap (λ d. is_some
+    (if d then None else Some (if is_open p.phase then TargetWire.Cookie (cookie_number first (p.order k)) else TargetWire.ResetEnd)))
+    (invalidated_there first n b j k p f (wt j k h) h)
     ∙ go (is_done (p.order_state k))
   where
-    go : (d : Bool) → is_some (if d then None else Some (if is_open p.phase then TargetWire.Cookie (cookie_number first (p.order k)) else TargetWire.ResetEnd)) ≡ not d
+    go :
+        (d : Bool)
+        → is_some (if d then None else Some (if is_open p.phase then TargetWire.Cookie (cookie_number first (p.order k)) else TargetWire.ResetEnd)) ≡ not d
     go true = refl
     go false = refl
 target_seen first n cookie b p f wt Quiet h = refl
 target_seen first n cookie b p f wt Lost h = refl
 target_seen first n cookie b p f wt Released h = refl
 
-waits_seen : (first n cookie e : ℕ) (p : Part) → HasFront n p → ((b j k : ℕ) → p.stage b ≡ Invalidating j k → is_wait (p.order k) ≡ true) → (o : Option ℕ) → is_some (target_by (unit_wire first p) cookie (option_map (binding_wire first e p) o)) ≡ waits_at p o
+waits_seen :
+    (first n cookie e : ℕ) (p : Part) → HasFront n p → ((b j k : ℕ) → p.stage b ≡ Invalidating j k → is_wait (p.order k) ≡ true)
+    → (o : Option ℕ) → is_some (target_by (unit_wire first p) cookie (option_map (binding_wire first e p) o)) ≡ waits_at p o
 waits_seen first n cookie e p f wt None = refl
 waits_seen first n cookie e p f wt (Some b) = target_seen first n cookie b p f (wt b) (p.stage b) refl
 
@@ -152,21 +172,33 @@ within n m p l = both_ways (any_below m (λ e. nat_lt e n && p e)) (any_below n 
         let x = any_below-true n p h in
         any_below-intro m (λ e. nat_lt e n && p e) x.0 (omega (arith, x.1, l)) (and_both (nat_lt x.0 n) (p x.0) (is_less x.0 n x.1) x.2)
 
-pub waits_there : (w : World) (s : ℕ) → Invariant w → ((e : ℕ) → HasFront w.cookies (w.part e)) → w.config.endpoints ≤ 8 → waits (wire w) (number w.config.first s) ≡ any_below w.config.endpoints (acts.waits w s)
+pub waits_there :
+    (w : World) (s : ℕ) → Invariant w → ((e : ℕ) → HasFront w.cookies (w.part e)) → w.config.endpoints ≤ 8
+    → waits (wire w) (number w.config.first s) ≡ any_below w.config.endpoints (acts.waits w s)
 waits_there w s i f most =
     any_same 8 (λ e. is_some (slice_index_or (targets_of (wire w) (number w.config.first s)) e None)) (λ e. nat_lt e w.config.endpoints && acts.waits w s e)
-    (λ e l. ap is_some (tabulate_at 8 target e None l) ∙ ap (λ n. is_some (if nat_lt e n then target_by (unit_of (wire w) e) (cookie_at (wire w) (number w.config.first s) e) (bound_at (wire w) e (number w.config.first s)) else None)) (endpoints_seen w) ∙ go e (nat_lt e w.config.endpoints) refl)
+    (λ e l. ap is_some (tabulate_at 8 target e None l)
+    ∙ ap (λ n. is_some
+    (if nat_lt e n then target_by (unit_of (wire w) e) (cookie_at (wire w) (number w.config.first s) e)
+    (bound_at (wire w) e (number w.config.first s)) else None)) (endpoints_seen w) ∙ go e (nat_lt e w.config.endpoints) refl)
     ∙ within w.config.endpoints 8 (acts.waits w s) most
   where
     target : ℕ → Option TargetWire
-    target e = if nat_lt e (length (wire w).parts) then target_by (unit_of (wire w) e) (cookie_at (wire w) (number w.config.first s) e) (bound_at (wire w) e (number w.config.first s)) else None
+    target e =
+        if nat_lt e (length (wire w).parts) then target_by (unit_of (wire w) e) (cookie_at (wire w) (number w.config.first s) e)
+        (bound_at (wire w) e (number w.config.first s)) else None
 
     less : (a b : ℕ) → nat_lt a b ≡ true → a < b
     less a b e = grind (arith, nat_tests)
 
-    go : (e : ℕ) (b : Bool) → nat_lt e w.config.endpoints ≡ b → is_some (if b then target_by (unit_of (wire w) e) (cookie_at (wire w) (number w.config.first s) e) (bound_at (wire w) e (number w.config.first s)) else None) ≡ (b && acts.waits w s e)
+    go :
+        (e : ℕ) (b : Bool) → nat_lt e w.config.endpoints ≡ b
+        → is_some
+        (if b then target_by (unit_of (wire w) e) (cookie_at (wire w) (number w.config.first s) e) (bound_at (wire w) e (number w.config.first s))
+        else None) ≡ (b && acts.waits w s e)
     go e false h = refl
     go e true h =
         let l : e < w.config.endpoints = less e w.config.endpoints h in
         ap₂ (λ u o. is_some (target_by u (cookie_at (wire w) (number w.config.first s) e) o)) (unit_seen w e l) (bound_is w e s i)
-        ∙ waits_seen w.config.first w.cookies (cookie_at (wire w) (number w.config.first s) e) e (w.part e) (f e) (λ b j k st. ((i.parts e).orders.invalidating b j k st).2) (bound w e s)
+        ∙ waits_seen w.config.first w.cookies (cookie_at (wire w) (number w.config.first s) e) e (w.part e) (f e)
+        (λ b j k st. ((i.parts e).orders.invalidating b j k st).2) (bound w e s)

@@ -37,7 +37,9 @@ position_is (suc n) f p =
     go false b = refl
 
 -- the lowest label that is free, by a table that has an entry where a label is taken
-pub label_seen : {A : Type 0} (n : ℕ) (at : ℕ → Option ℕ) (f : ℕ → Option A) → ((t : ℕ) → is_none (f t) ≡ not (words.is_some (at t))) → lowest_label (tabulate n f) ≡ words.if_found (nat_lt (Labels.lowest_label n at) n) (Labels.lowest_label n at)
+pub label_seen :
+    {A : Type 0} (n : ℕ) (at : ℕ → Option ℕ) (f : ℕ → Option A) → ((t : ℕ) → is_none (f t) ≡ not (words.is_some (at t)))
+    → lowest_label (tabulate n f) ≡ words.if_found (nat_lt (Labels.lowest_label n at) n) (Labels.lowest_label n at)
 label_seen n at f h =
     ap₂ (λ k len. if nat_lt k len then Some k else None)
     (position_is n f is_none ∙ lowest_same n (λ t. is_none (f t)) (λ t. not (words.is_some (at t))) (λ t l. h t))
@@ -61,17 +63,27 @@ isnt_at_end : (k n : ℕ) → k < n → (k == n) ≡ false
 isnt_at_end k n l = grind (arith, nat_tests)
 
 -- none is free exactly where the search ends past the table
-pub no_label : {A : Type 0} (n : ℕ) (at : ℕ → Option ℕ) (f : ℕ → Option A) → ((t : ℕ) → is_none (f t) ≡ not (words.is_some (at t))) → is_none (lowest_label (tabulate n f)) ≡ (Labels.lowest_label n at == n)
+pub no_label :
+    {A : Type 0} (n : ℕ) (at : ℕ → Option ℕ) (f : ℕ → Option A) → ((t : ℕ) → is_none (f t) ≡ not (words.is_some (at t)))
+    → is_none (lowest_label (tabulate n f)) ≡ (Labels.lowest_label n at == n)
 no_label n at f h = ap is_none (label_seen n at f h) ∙ go (lowest_cases n (λ t. not (words.is_some (at t))))
   where
-    go : ((Labels.lowest_label n at ≡ n) × ((j : ℕ) → j < n → not (words.is_some (at j)) ≡ false)) ⊎ ((Labels.lowest_label n at < n) × (not (words.is_some (at (Labels.lowest_label n at))) ≡ true) × ((j : ℕ) → j < Labels.lowest_label n at → not (words.is_some (at j)) ≡ false)) → is_none (words.if_found (nat_lt (Labels.lowest_label n at) n) (Labels.lowest_label n at)) ≡ (Labels.lowest_label n at == n)
+    go :
+        ((Labels.lowest_label n at ≡ n) × ((j : ℕ) → j < n → not (words.is_some (at j)) ≡ false)) ⊎ ((Labels.lowest_label n at < n)
+        × (not (words.is_some (at (Labels.lowest_label n at))) ≡ true) × ((j : ℕ) → j < Labels.lowest_label n at → not (words.is_some (at j)) ≡ false))
+        → is_none (words.if_found (nat_lt (Labels.lowest_label n at) n) (Labels.lowest_label n at)) ≡ (Labels.lowest_label n at == n)
     go (inl x) = ap is_none (none_from (Labels.lowest_label n at) n x.0) ∙ sym (is_at_end (Labels.lowest_label n at) n x.0)
     go (inr x) = ap is_none (found_below (Labels.lowest_label n at) n x.0) ∙ sym (isnt_at_end (Labels.lowest_label n at) n x.0)
 
-pub label_is : {A : Type 0} (n : ℕ) (at : ℕ → Option ℕ) (f : ℕ → Option A) → ((t : ℕ) → is_none (f t) ≡ not (words.is_some (at t))) → (Labels.lowest_label n at == n) ≡ false → label (lowest_label (tabulate n f)) ≡ Labels.lowest_label n at
+pub label_is :
+    {A : Type 0} (n : ℕ) (at : ℕ → Option ℕ) (f : ℕ → Option A) → ((t : ℕ) → is_none (f t) ≡ not (words.is_some (at t)))
+    → (Labels.lowest_label n at == n) ≡ false → label (lowest_label (tabulate n f)) ≡ Labels.lowest_label n at
 label_is n at f h e = ap label (label_seen n at f h) ∙ go (lowest_cases n (λ t. not (words.is_some (at t))))
   where
-    go : ((Labels.lowest_label n at ≡ n) × ((j : ℕ) → j < n → not (words.is_some (at j)) ≡ false)) ⊎ ((Labels.lowest_label n at < n) × (not (words.is_some (at (Labels.lowest_label n at))) ≡ true) × ((j : ℕ) → j < Labels.lowest_label n at → not (words.is_some (at j)) ≡ false)) → label (words.if_found (nat_lt (Labels.lowest_label n at) n) (Labels.lowest_label n at)) ≡ Labels.lowest_label n at
+    go :
+        ((Labels.lowest_label n at ≡ n) × ((j : ℕ) → j < n → not (words.is_some (at j)) ≡ false)) ⊎ ((Labels.lowest_label n at < n)
+        × (not (words.is_some (at (Labels.lowest_label n at))) ≡ true) × ((j : ℕ) → j < Labels.lowest_label n at → not (words.is_some (at j)) ≡ false))
+        → label (words.if_found (nat_lt (Labels.lowest_label n at) n) (Labels.lowest_label n at)) ≡ Labels.lowest_label n at
     go (inl x) = absurd (cc (sym e ∙ is_at_end (Labels.lowest_label n at) n x.0))
     go (inr x) = ap label (found_below (Labels.lowest_label n at) n x.0)
 
@@ -150,20 +162,27 @@ one_last : {A : Type 0} (f : ℕ → A) (p : A → Bool) (n : ℕ) (b : Bool) �
 one_last f p n true h e = ap (λ c. if c then Some (f n) else None) e
 one_last f p n false h e = absurd (cc)
 
-next_found : {A : Type 0} (n : ℕ) (s : ℕ → Bool) (f : ℕ → A) (p : A → Bool) → find p (map f (select n s ++ (if s n then n ∷ [] else []))) ≡ option_or (find p (map f (select n s))) (find p (map f (if s n then n ∷ [] else [])))
+next_found :
+    {A : Type 0} (n : ℕ) (s : ℕ → Bool) (f : ℕ → A) (p : A → Bool)
+    → find p (map f (select n s ++ (if s n then n ∷ [] else []))) ≡ option_or (find p (map f (select n s))) (find p (map f (if s n then n ∷ [] else [])))
 next_found n s f p =
     ap (find p) (map-append f (select n s) (if s n then n ∷ [] else []))
     ∙ find-append p (map f (select n s)) (map f (if s n then n ∷ [] else []))
 
-pub find_none : {A : Type 0} (n : ℕ) (s : ℕ → Bool) (f : ℕ → A) (p : A → Bool) → ((k : ℕ) → k < n → s k ≡ true → p (f k) ≡ false) → find p (map f (select n s)) ≡ None
+pub find_none :
+    {A : Type 0} (n : ℕ) (s : ℕ → Bool) (f : ℕ → A) (p : A → Bool) → ((k : ℕ) → k < n → s k ≡ true → p (f k) ≡ false)
+    → find p (map f (select n s)) ≡ None
 unfolding select
 find_none zero s f p h = refl
 find_none (suc n) s f p h =
     next_found n s f p
-    ∙ or_none (find p (map f (select n s))) (find p (map f (if s n then n ∷ [] else []))) (find_none n s f p (λ k l. h k (omega arith))) (none_last f p n (s n) (h n (omega arith)))
+    ∙ or_none (find p (map f (select n s))) (find p (map f (if s n then n ∷ [] else []))) (find_none n s f p (λ k l. h k (omega arith)))
+    (none_last f p n (s n) (h n (omega arith)))
 
 -- of the numbers that pass, the one whose value is asked for
-pub find_one : {A : Type 0} (n : ℕ) (s : ℕ → Bool) (f : ℕ → A) (p : A → Bool) (k : ℕ) → k < n → s k ≡ true → p (f k) ≡ true → ((j : ℕ) → j < n → s j ≡ true → p (f j) ≡ true → j ≡ k) → find p (map f (select n s)) ≡ Some (f k)
+pub find_one :
+    {A : Type 0} (n : ℕ) (s : ℕ → Bool) (f : ℕ → A) (p : A → Bool) (k : ℕ) → k < n → s k ≡ true → p (f k) ≡ true
+    → ((j : ℕ) → j < n → s j ≡ true → p (f j) ≡ true → j ≡ k) → find p (map f (select n s)) ≡ Some (f k)
 unfolding select
 find_one zero s f p k l here passes one = absurd (omega arith)
 find_one (suc n) s f p k l here passes one = next_found n s f p ∙ go (ℕ_cases k n) (find_one n s f p k)
@@ -174,7 +193,10 @@ find_one (suc n) s f p k l here passes one = next_found n s f p ∙ go (ℕ_case
         let same : j ≡ k = one j (omega arith) t h in
         absurd (omega arith)
 
-    go : (k ≡ n) ⊎ (k ≢ n) → (k < n → s k ≡ true → p (f k) ≡ true → ((j : ℕ) → j < n → s j ≡ true → p (f j) ≡ true → j ≡ k) → find p (map f (select n s)) ≡ Some (f k)) → option_or (find p (map f (select n s))) (find p (map f (if s n then n ∷ [] else []))) ≡ Some (f k)
+    go :
+        (k ≡ n) ⊎ (k ≢ n)
+        → (k < n → s k ≡ true → p (f k) ≡ true → ((j : ℕ) → j < n → s j ≡ true → p (f j) ≡ true → j ≡ k) → find p (map f (select n s)) ≡ Some (f k))
+        → option_or (find p (map f (select n s))) (find p (map f (if s n then n ∷ [] else []))) ≡ Some (f k)
     go (inl e) rest =
         or_second (find p (map f (select n s))) (find p (map f (if s n then n ∷ [] else []))) (f n)
         (find_none n s f p (λ j m t. fails j e m t (p (f j)) refl))
@@ -196,17 +218,23 @@ alone_push {A = A} p (x ∷ xs) y a h = (head, alone_push p xs y a.1 (λ t. rest
 
     not_head : (b c : Bool) → p x ≡ b → b ≡ true → p y ≡ c → c ≡ false
     not_head b false e t g = refl
-    not_head b true e t g = absurd (let n : (if p x then Some x else find p xs) ≡ None = h g in let m : p x ≡ true = e ∙ t in cc (sym (ap (λ z. if z then Some x else find p xs) m) ∙ n))
+    not_head b true e t g =
+        absurd (let n : (if p x then Some x else find p xs) ≡ None = h g in let m : p x ≡ true = e
+        ∙ t in cc (sym (ap (λ z. if z then Some x else find p xs) m) ∙ n))
 
     head : p x ≡ true → find p (xs ++ y ∷ []) ≡ None
     head t =
         find-append p xs (y ∷ [])
         ∙ or_none (find p xs) (find p (y ∷ [])) (a.0 t) (ap (λ c. if c then Some y else None) (not_head (p x) (p y) refl t refl))
 
-pub alone_select : {A : Type 0} (n : ℕ) (s : ℕ → Bool) (f : ℕ → A) (p : A → Bool) → ((j k : ℕ) → j < n → k < n → s j ≡ true → s k ≡ true → p (f j) ≡ true → p (f k) ≡ true → j ≡ k) → IsAlone p (map f (select n s))
+pub alone_select :
+    {A : Type 0} (n : ℕ) (s : ℕ → Bool) (f : ℕ → A) (p : A → Bool)
+    → ((j k : ℕ) → j < n → k < n → s j ≡ true → s k ≡ true → p (f j) ≡ true → p (f k) ≡ true → j ≡ k) → IsAlone p (map f (select n s))
 unfolding select
 alone_select zero s f p h = tt
-alone_select {A = A} (suc n) s f p h = subst (IsAlone p) (sym (map-append f (select n s) (if s n then n ∷ [] else []))) (go (s n) refl (alone_select n s f p (λ j k l m. h j k (omega arith) (omega arith))))
+alone_select {A = A} (suc n) s f p h =
+    subst (IsAlone p) (sym (map-append f (select n s) (if s n then n ∷ [] else [])))
+    (go (s n) refl (alone_select n s f p (λ j k l m. h j k (omega arith) (omega arith))))
   where
     nil : (xs : List A) → IsAlone p xs → IsAlone p (xs ++ [])
     nil xs a = subst (IsAlone p) (sym (append-nil xs)) a
@@ -221,7 +249,9 @@ alone_select {A = A} (suc n) s f p h = subst (IsAlone p) (sym (map-append f (sel
     go true e a = alone_push p (map f (select n s)) (f n) a (λ t. find_none n s f p (λ j l sj. fails j l e t sj (p (f j)) refl))
     go false e a = nil (map f (select n s)) a
 
-find_insert : {A : Type 0} (below : A → A → Bool) (p : A → Bool) (a : A) (xs : List A) → (p a ≡ true → find p xs ≡ None) → find p (insert_by below a xs) ≡ find p (a ∷ xs)
+find_insert :
+    {A : Type 0} (below : A → A → Bool) (p : A → Bool) (a : A) (xs : List A) → (p a ≡ true → find p xs ≡ None)
+    → find p (insert_by below a xs) ≡ find p (a ∷ xs)
 find_insert below p a [] h = refl
 find_insert {A = A} below p a (x ∷ xs) h = go (below x a) (find_insert below p a xs)
   where
@@ -229,13 +259,17 @@ find_insert {A = A} below p a (x ∷ xs) h = go (below x a) (find_insert below p
     rest true e = absurd (cc)
     rest false e = e
 
-    swap : (b c : Bool) → p a ≡ b → p x ≡ c → (if c then Some x else (if b then Some a else find p xs)) ≡ (if b then Some a else (if c then Some x else find p xs))
+    swap :
+        (b c : Bool) → p a ≡ b → p x ≡ c
+        → (if c then Some x else (if b then Some a else find p xs)) ≡ (if b then Some a else (if c then Some x else find p xs))
     swap true true e g = absurd (cc (sym (ap (λ z. if z then Some x else find p xs) g) ∙ h e))
     swap true false e g = refl
     swap false true e g = refl
     swap false false e g = refl
 
-    go : (b : Bool) → ((p a ≡ true → find p xs ≡ None) → find p (insert_by below a xs) ≡ find p (a ∷ xs)) → find p (if b then x ∷ insert_by below a xs else a ∷ x ∷ xs) ≡ find p (a ∷ x ∷ xs)
+    go :
+        (b : Bool) → ((p a ≡ true → find p xs ≡ None) → find p (insert_by below a xs) ≡ find p (a ∷ xs))
+        → find p (if b then x ∷ insert_by below a xs else a ∷ x ∷ xs) ≡ find p (a ∷ x ∷ xs)
     go true more = ap (λ z. if p x then Some x else z) (more (λ t. rest (p x) (h t))) ∙ swap (p a) (p x) refl refl
     go false more = refl
 

@@ -41,13 +41,20 @@ own_order : (p : Part) (n : ℕ) (o : Own) (k b : ℕ) (range : Range) → (own 
 own_order p n o k b range h = grind (arith, nat_tests)
 
 -- an order after a submission was there, or is of one of the ranges
-submitted_order : (p : Part) (d q count order cookie k b : ℕ) (range : Range) → (submitted p d q count order cookie).order k ≡ RangeOf b range → (p.order k ≡ RangeOf b range) ⊎ ((p.orders ≤ k) × (k < p.orders + count) × (range_at q order (k - p.orders) ≡ range))
+submitted_order :
+    (p : Part) (d q count order cookie k b : ℕ) (range : Range) → (submitted p d q count order cookie).order k ≡ RangeOf b range
+    → (p.order k ≡ RangeOf b range) ⊎ ((p.orders ≤ k) × (k < p.orders + count) × (range_at q order (k - p.orders) ≡ range))
 submitted_order p d q count order cookie k b range h = grind (arith, nat_tests)
 
-submitted_ranges : (t : Bool) (p : Part) (o : Option ℕ) (q count order cookie : ℕ) → ((j : ℕ) → j < count → IsRange (range_at q order j)) → HasRanges p → HasRanges (submitted_if t p o q count order cookie)
+submitted_ranges :
+    (t : Bool) (p : Part) (o : Option ℕ) (q count order cookie : ℕ) → ((j : ℕ) → j < count → IsRange (range_at q order j)) → HasRanges p
+    → HasRanges (submitted_if t p o q count order cookie)
 submitted_ranges true p (Some d) q count order cookie fit h = λ k b range e. go k b range (submitted_order p d q count order cookie k b range e)
   where
-    go : (k b : ℕ) (range : Range) → (p.order k ≡ RangeOf b range) ⊎ ((p.orders ≤ k) × (k < p.orders + count) × (range_at q order (k - p.orders) ≡ range)) → IsRange range
+    go :
+        (k b : ℕ) (range : Range)
+        → (p.order k ≡ RangeOf b range) ⊎ ((p.orders ≤ k) × (k < p.orders + count) × (range_at q order (k - p.orders) ≡ range))
+        → IsRange range
     go k b range (inl old) = h k b range old
     go k b range (inr new) = subst IsRange new.2 (fit (k - p.orders) (omega (arith, new.0, new.1)))
 submitted_ranges true p None q count order cookie fit h = h
@@ -62,7 +69,8 @@ act_ranges w (NewBinding e) c h = h
 act_ranges w (NewJob e g) c h = h
 act_ranges w (Hold x j) c h = h
 act_ranges w (LetGo x) c h = h
-act_ranges w (At e o) c h = put_keeps (λ x p. HasRanges p) w.part e (own (w.part e) w.messages o) (λ k b range i. h e k b range (own_order (w.part e) w.messages o k b range i)) h
+act_ranges w (At e o) c h =
+    put_keeps (λ x p. HasRanges p) w.part e (own (w.part e) w.messages o) (λ k b range i. h e k b range (own_order (w.part e) w.messages o k b range i)) h
 
 acts_ranges : (acts : List Act) (w : World) → AllCanCode acts → HaveRanges w → HaveRanges (after_acts w acts)
 acts_ranges [] w c h = h
@@ -92,8 +100,11 @@ pages_codes q count h j l =
     record { small = omega arith; low = omega (arith, high, l); aligned = omega arith }
 
 -- a range that is taken out
-range_codes : (q order : ℕ) → nat_lt 9 order ≡ false → nat_lt (2 ^ 36) (q + 2 ^ order) ≡ false → not (q % 2 ^ order == 0) ≡ false → (j : ℕ) → j < 1 → IsRange (range_at q order j)
-range_codes q order small high aligned j l = subst (λ z. IsRange (range_at q order z)) (zero_is j l) (subst (λ base. IsRange (record { base = base; order = order })) base first)
+range_codes :
+    (q order : ℕ) → nat_lt 9 order ≡ false → nat_lt (2 ^ 36) (q + 2 ^ order) ≡ false → not (q % 2 ^ order == 0) ≡ false → (j : ℕ) → j < 1
+    → IsRange (range_at q order j)
+range_codes q order small high aligned j l =
+    subst (λ z. IsRange (range_at q order z)) (zero_is j l) (subst (λ base. IsRange (record { base = base; order = order })) base first)
   where
     zero_is : (j : ℕ) → j < 1 → 0 ≡ j
     zero_is j l = omega arith
@@ -125,8 +136,10 @@ outcome_codes w (step.Map n q x) h = (tt, tt)
 outcome_codes w (step.Unmap n q count) h = (pages_codes q count h.1.1.0, tt)
 outcome_codes w (step.UnmapRange n q order) h = (range_codes q order h.1.0 h.1.1.0 h.1.1.1.0, tt)
 outcome_codes w (step.Bind e n) h = (tt, (tt, tt))
-outcome_codes w (step.Unbind n) h = adding_codes _ (unbind_adds (w.home (Labels.name w n)) (Labels.name w n) ((w.part (w.home (Labels.name w n))).stage (Labels.name w n)))
-outcome_codes w (step.Advance n) h = adding_codes _ (advance_adds w (w.home (Labels.name w n)) (Labels.name w n) ((w.part (w.home (Labels.name w n))).stage (Labels.name w n)))
+outcome_codes w (step.Unbind n) h =
+    adding_codes _ (unbind_adds (w.home (Labels.name w n)) (Labels.name w n) ((w.part (w.home (Labels.name w n))).stage (Labels.name w n)))
+outcome_codes w (step.Advance n) h =
+    adding_codes _ (advance_adds w (w.home (Labels.name w n)) (Labels.name w n) ((w.part (w.home (Labels.name w n))).stage (Labels.name w n)))
 outcome_codes w (step.Pump e) h = adding_codes _ (pump_adds (w.part e) e (Labels.is_queue_empty (w.part e)))
 outcome_codes w (step.Serve e) h = adding_codes _ (serve_adds (w.part e) e (Labels.is_page_queue_empty (w.part e)))
 outcome_codes w (step.Reset e) h = (tt, tt)
@@ -140,7 +153,9 @@ outcome_codes w (step.Fault e t q r x group l) h = adding_codes _ (fault_adds (w
 outcome_codes w (step.Finish e vector count) h = (tt, tt)
 outcome_codes w (step.Quit e t) h = (tt, tt)
 outcome_codes w (step.Deliver n) h =
-    adding_codes _ (deliver_adds w (w.part (w.way (Labels.name w n))) (w.way (Labels.name w n)) (Labels.name w n) ((w.part (w.way (Labels.name w n))).message (Labels.name w n)))
+    adding_codes _
+    (deliver_adds w (w.part (w.way (Labels.name w n))) (w.way (Labels.name w n)) (Labels.name w n)
+    ((w.part (w.way (Labels.name w n))).message (Labels.name w n)))
 outcome_codes w (step.Look f) h = tt
 outcome_codes w (step.Bearer t) h = tt
 
@@ -148,7 +163,9 @@ checked_codes : (cs : List Cause) (o : Outcome) → (Passed cs → AllCanCode o.
 checked_codes [] o f = f tt
 checked_codes (c ∷ cs) o f = go (λ e. checked_codes cs o (λ k. f (e, k))) c.0 refl
   where
-    go : (c.0 ≡ false → AllCanCode (checked cs o).acts) → (b : Bool) → c.0 ≡ b → AllCanCode (if b then record { reply = Err c.1; acts = [] } else checked cs o).acts
+    go :
+        (c.0 ≡ false → AllCanCode (checked cs o).acts) → (b : Bool) → c.0 ≡ b
+        → AllCanCode (if b then record { reply = Err c.1; acts = [] } else checked cs o).acts
     go rest true e = tt
     go rest false e = rest e
 

@@ -28,7 +28,11 @@ abbrev pub asked_of : (pasid index page : ℕ) → (read write last : Bool) → 
 asked_of t i q r x l = record { pasid = t; index = i; ask = record { page = q; read = r; write = x }; last = l }
 
 -- the queue of a part is that of another, where the same wait and look the same
-pub queue_same : (p q : Part) → q.arrivals ≡ p.arrivals → ((k : ℕ) → k < p.arrivals → q.arrival k ≡ p.arrival k) → ((k : ℕ) → k < p.arrivals → is_arrived (q.page_request (p.arrival k)) ≡ is_arrived (p.page_request (p.arrival k))) → ((k : ℕ) → k < p.arrivals → is_arrived (p.page_request (p.arrival k)) ≡ true → page_request_wire q (p.arrival k) ≡ page_request_wire p (p.arrival k)) → page_queue_wire q ≡ page_queue_wire p
+pub queue_same :
+    (p q : Part) → q.arrivals ≡ p.arrivals → ((k : ℕ) → k < p.arrivals → q.arrival k ≡ p.arrival k)
+    → ((k : ℕ) → k < p.arrivals → is_arrived (q.page_request (p.arrival k)) ≡ is_arrived (p.page_request (p.arrival k)))
+    → ((k : ℕ) → k < p.arrivals → is_arrived (p.page_request (p.arrival k)) ≡ true → page_request_wire q (p.arrival k) ≡ page_request_wire p (p.arrival k))
+    → page_queue_wire q ≡ page_queue_wire p
 queue_same p q n h s w =
     ap (λ z. map (λ k. page_request_wire q (q.arrival k)) (select z (is_waiting q))) n
     ∙ picked_same p.arrivals (λ k. page_request_wire q (q.arrival k)) (λ k. page_request_wire p (p.arrival k)) (is_waiting q) (is_waiting p)
@@ -46,10 +50,14 @@ not_arrived s h = grind arith
 before_bound : (s : Stage) → is_before_invalidating s ≡ true → s ≢ Unbound
 before_bound s h e = absurd (cc (sym (ap is_before_invalidating e) ∙ h))
 
-queue_bind : (ms : Mappings) (g n : ℕ) (p : Part) (b s t : ℕ) → LegalOwn ms g p (Own.Bind b s t) → Groups p → page_queue_wire (own p n (Own.Bind b s t)) ≡ page_queue_wire p
+queue_bind :
+    (ms : Mappings) (g n : ℕ) (p : Part) (b s t : ℕ) → LegalOwn ms g p (Own.Bind b s t) → Groups p
+    → page_queue_wire (own p n (Own.Bind b s t)) ≡ page_queue_wire p
 queue_bind ms g n p b s t l gr =
     queue_same p (own p n (Own.Bind b s t)) refl (λ k m. refl) (λ k m. refl)
-    (λ k m a. ap (λ z. asked_of z (p.index (p.group_of (p.arrival k))) (p.asked_page (p.arrival k)) (p.asks_read (p.arrival k)) (p.asks_write (p.arrival k)) (p.is_last (p.arrival k))) (put-other p.pasid b t (p.asker (p.group_of (p.arrival k))) (apart (p.arrival k) (arrived_is (p.page_request (p.arrival k)) a))))
+    (λ k m a. ap
+    (λ z. asked_of z (p.index (p.group_of (p.arrival k))) (p.asked_page (p.arrival k)) (p.asks_read (p.arrival k)) (p.asks_write (p.arrival k))
+    (p.is_last (p.arrival k))) (put-other p.pasid b t (p.asker (p.group_of (p.arrival k))) (apart (p.arrival k) (arrived_is (p.page_request (p.arrival k)) a))))
   where
     apart : (r : ℕ) → p.page_request r ≡ Arrived → p.asker (p.group_of r) ≢ b
     apart r a e = before_bound (p.stage (p.asker (p.group_of r))) (gr.arrived_stage r a) (ap p.stage e ∙ l.2)
@@ -67,8 +75,11 @@ queue_group g n p b i q r x l bo qu =
 
     same : (y : ℕ) → y < p.page_requests → page_request_wire new y ≡ page_request_wire p y
     same y m =
-        ap (λ z. asked_of (p.pasid (new.asker z)) (new.index z) (new.asked_page y) (new.asks_read y) (new.asks_write y) (new.is_last y)) (old_put p.group_of p.page_requests y p.groups m)
-        ∙ (λ j. asked_of (p.pasid (old_put p.asker p.groups (p.group_of y) b (bo.group_of y m) j)) (old_put p.index p.groups (p.group_of y) i (bo.group_of y m) j) (old_put p.asked_page p.page_requests y q m j) (old_put p.asks_read p.page_requests y r m j) (old_put p.asks_write p.page_requests y x m j) (old_put p.is_last p.page_requests y l m j))
+        ap (λ z. asked_of (p.pasid (new.asker z)) (new.index z) (new.asked_page y) (new.asks_read y) (new.asks_write y) (new.is_last y))
+        (old_put p.group_of p.page_requests y p.groups m)
+        ∙ (λ j. asked_of (p.pasid (old_put p.asker p.groups (p.group_of y) b (bo.group_of y m) j))
+        (old_put p.index p.groups (p.group_of y) i (bo.group_of y m) j) (old_put p.asked_page p.page_requests y q m j)
+        (old_put p.asks_read p.page_requests y r m j) (old_put p.asks_write p.page_requests y x m j) (old_put p.is_last p.page_requests y l m j))
 
 queue_request : (g n : ℕ) (p : Part) (w q : ℕ) (r x l : Bool) → Queued p → page_queue_wire (own p n (Own.Request w q r x l)) ≡ page_queue_wire p
 queue_request g n p w q r x l qu =
@@ -80,13 +91,20 @@ queue_request g n p w q r x l qu =
     new = own p n (Own.Request w q r x l)
 
     same : (y : ℕ) → y < p.page_requests → page_request_wire new y ≡ page_request_wire p y
-    same y m = λ j. asked_of (p.pasid (p.asker (old_put p.group_of p.page_requests y w m j))) (p.index (old_put p.group_of p.page_requests y w m j)) (old_put p.asked_page p.page_requests y q m j) (old_put p.asks_read p.page_requests y r m j) (old_put p.asks_write p.page_requests y x m j) (old_put p.is_last p.page_requests y l m j)
+    same y m =
+        λ j.
+        asked_of (p.pasid (p.asker (old_put p.group_of p.page_requests y w m j))) (p.index (old_put p.group_of p.page_requests y w m j))
+        (old_put p.asked_page p.page_requests y q m j) (old_put p.asks_read p.page_requests y r m j) (old_put p.asks_write p.page_requests y x m j)
+        (old_put p.is_last p.page_requests y l m j)
 
 -- the oldest in the queue is filed
 
-queue_file : (ms : Mappings) (g first n e : ℕ) (p : Part) (r : ℕ) → LegalOwn ms g p (Own.File r) → Queued p → page_queue_wire (own p n (Own.File r)) ≡ drop 1 (page_queue_wire p)
+queue_file :
+    (ms : Mappings) (g first n e : ℕ) (p : Part) (r : ℕ) → LegalOwn ms g p (Own.File r) → Queued p
+    → page_queue_wire (own p n (Own.File r)) ≡ drop 1 (page_queue_wire p)
 queue_file ms g first n e p r l qu =
-    picked_drop p.arrivals (p.arrived_as r) (λ k. page_request_wire p (p.arrival k)) (λ k. page_request_wire p (p.arrival k)) (is_waiting p) (is_waiting (own p n (Own.File r)))
+    picked_drop p.arrivals (p.arrived_as r) (λ k. page_request_wire p (p.arrival k)) (λ k. page_request_wire p (p.arrival k)) (is_waiting p)
+    (is_waiting (own p n (Own.File r)))
     (qu.arrived r l.1).0
     (ap (λ z. is_arrived (p.page_request z)) (qu.arrived r l.1).1 ∙ ap is_arrived l.1)
     older
@@ -105,20 +123,27 @@ queue_file ms g first n e p r l qu =
 landed : (c r : ℕ) (p : Part) → p.message c ≡ Some (PageRequestOf r) → Queued p → (k : ℕ) → k < p.arrivals → p.arrival k ≢ r
 landed c r p h qu k l e = qu.landed k l (ap p.page_request e ∙ (qu.in_flight c r h).0)
 
-queue_miss : (ms : Mappings) (g n : ℕ) (p : Part) (c r : ℕ) → LegalOwn ms g p (Own.Miss c r) → Queued p → page_queue_wire (own p n (Own.Miss c r)) ≡ page_queue_wire p
+queue_miss :
+    (ms : Mappings) (g n : ℕ) (p : Part) (c r : ℕ) → LegalOwn ms g p (Own.Miss c r) → Queued p
+    → page_queue_wire (own p n (Own.Miss c r)) ≡ page_queue_wire p
 queue_miss ms g n p c r l qu =
     queue_same p (own p n (Own.Miss c r)) refl (λ k m. refl)
     (λ k m. ap is_arrived (put-other p.page_request r Dropped (p.arrival k) (landed c r p l.0 qu k m)))
     (λ k m a. refl)
 
-queue_arrive : (ms : Mappings) (g n : ℕ) (p : Part) (c r : ℕ) → LegalOwn ms g p (Own.Arrive c r) → Queued p → page_queue_wire (own p n (Own.Arrive c r)) ≡ page_queue_wire p ++ page_request_wire p r ∷ []
+queue_arrive :
+    (ms : Mappings) (g n : ℕ) (p : Part) (c r : ℕ) → LegalOwn ms g p (Own.Arrive c r) → Queued p
+    → page_queue_wire (own p n (Own.Arrive c r)) ≡ page_queue_wire p ++ page_request_wire p r ∷ []
 queue_arrive ms g n p c r l qu =
-    picked_one_more p.arrivals (λ k. page_request_wire p (put p.arrival p.arrivals r k)) (λ k. is_arrived (put p.page_request r Arrived (put p.arrival p.arrivals r k)))
+    picked_one_more p.arrivals (λ k. page_request_wire p (put p.arrival p.arrivals r k))
+    (λ k. is_arrived (put p.page_request r Arrived (put p.arrival p.arrivals r k)))
     (ap (λ z. is_arrived (put p.page_request r Arrived z)) (put-same p.arrival p.arrivals r) ∙ ap is_arrived (put-same p.page_request r Arrived))
     ∙ ap₂ (λ xs x. xs ++ x ∷ [])
     (
-    picked_same p.arrivals (λ k. page_request_wire p (put p.arrival p.arrivals r k)) (λ k. page_request_wire p (p.arrival k)) (λ k. is_arrived (put p.page_request r Arrived (put p.arrival p.arrivals r k))) (is_waiting p)
-    (λ k m. ap (λ z. is_arrived (put p.page_request r Arrived z)) (old_put p.arrival p.arrivals k r m) ∙ ap is_arrived (put-other p.page_request r Arrived (p.arrival k) (landed c r p l.0 qu k m)))
+    picked_same p.arrivals (λ k. page_request_wire p (put p.arrival p.arrivals r k)) (λ k. page_request_wire p (p.arrival k))
+    (λ k. is_arrived (put p.page_request r Arrived (put p.arrival p.arrivals r k))) (is_waiting p)
+    (λ k m. ap (λ z. is_arrived (put p.page_request r Arrived z)) (old_put p.arrival p.arrivals k r m)
+    ∙ ap is_arrived (put-other p.page_request r Arrived (p.arrival k) (landed c r p l.0 qu k m)))
     (λ k m a. ap (page_request_wire p) (old_put p.arrival p.arrivals k r m))
     )
     (ap (page_request_wire p) (put-same p.arrival p.arrivals r))
@@ -129,14 +154,18 @@ dropped : (s : PageRequestState) → is_arrived (dropped_arrived s) ≡ false
 dropped s = grind arith
 
 queue_reset : (n : ℕ) (p : Part) → page_queue_wire (own p n Own.Reset) ≡ []
-queue_reset n p = picked_none p.arrivals (λ k. page_request_wire p (p.arrival k)) (λ k. is_arrived (dropped_arrived (p.page_request (p.arrival k)))) (λ k l. dropped (p.page_request (p.arrival k)))
+queue_reset n p =
+    picked_none p.arrivals (λ k. page_request_wire p (p.arrival k)) (λ k. is_arrived (dropped_arrived (p.page_request (p.arrival k))))
+    (λ k l. dropped (p.page_request (p.arrival k)))
 
 -- a completion of invalidations leaves it
 count_same : (first e c : ℕ) (m : Message) (queue : List PageRequestWire) → queue ≡ page_queue_moved queue (count_move first e c m)
 count_same first e c (InvalidatedMessage v f) queue = refl
 count_same first e c _ queue = refl
 
-pub page_queue_acts : (ms : Mappings) (x g n e first : ℕ) (p : Part) (o : Own) → LegalOwn ms g p o → PartInvariant ms x g n e p → page_queue_wire (own p n o) ≡ page_queue_moved (page_queue_wire p) (own_move first e ms p o)
+pub page_queue_acts :
+    (ms : Mappings) (x g n e first : ℕ) (p : Part) (o : Own) → LegalOwn ms g p o → PartInvariant ms x g n e p
+    → page_queue_wire (own p n o) ≡ page_queue_moved (page_queue_wire p) (own_move first e ms p o)
 page_queue_acts ms x g n e first p (Own.Bind b s t) l i = queue_bind ms g n p b s t l i.groups
 page_queue_acts ms x g n e first p (Own.Stop b) l i = refl
 page_queue_acts ms x g n e first p (Own.Drain b cookie) l i = refl

@@ -50,17 +50,24 @@ pub both_done : (a b : OrderState) → a ≡ Done → b ≡ Done → (is_done a 
 both_done a b h k = grind arith
 
 -- where the wait of a debt is done, the debt is answered
-pub done_answers : (p : Part) (first count resets : ℕ) → IsBehind p first (first + count) resets → resets ≡ p.resets → p.order_state (first + count) ≡ Done → all_below (suc count) (λ j. is_done (p.order_state (first + j))) ≡ true
+pub done_answers :
+    (p : Part) (first count resets : ℕ) → IsBehind p first (first + count) resets → resets ≡ p.resets → p.order_state (first + count) ≡ Done
+    → all_below (suc count) (λ j. is_done (p.order_state (first + j))) ≡ true
 done_answers p first count resets b same d =
-    all_below-intro (suc count) (λ j. is_done (p.order_state (first + j))) (λ j l. is_done_of (p.order_state (first + j)) (b.done same d (first + j) (omega arith) (omega (arith, l))))
+    all_below-intro (suc count) (λ j. is_done (p.order_state (first + j)))
+    (λ j l. is_done_of (p.order_state (first + j)) (b.done same d (first + j) (omega arith) (omega (arith, l))))
 
-pub ranges_open : (p : Part) (first count resets : ℕ) → IsBehind p first (first + count) resets → answered p (Ranges first count resets) ≡ false → (resets ≡ p.resets) × (p.order_state (first + count) ≢ Done)
+pub ranges_open :
+    (p : Part) (first count resets : ℕ) → IsBehind p first (first + count) resets → answered p (Ranges first count resets) ≡ false
+    → (resets ≡ p.resets) × (p.order_state (first + count) ≢ Done)
 ranges_open p first count resets b h =
     let same = no_reset p resets b.counted (or_right (all_below (suc count) (λ j. is_done (p.order_state (first + j)))) (nat_lt resets p.resets) h) in
     let left = or_left (all_below (suc count) (λ j. is_done (p.order_state (first + j)))) (nat_lt resets p.resets) h in
     (same, λ d. absurd (cc (sym left ∙ done_answers p first count resets b same d)))
 
-pub pasid_open : (p : Part) (k x resets : ℕ) (in_reset : Bool) → IsBehind p k x resets → answered p (Pasid k x resets in_reset) ≡ false → (resets ≡ p.resets) × (p.order_state x ≢ Done)
+pub pasid_open :
+    (p : Part) (k x resets : ℕ) (in_reset : Bool) → IsBehind p k x resets → answered p (Pasid k x resets in_reset) ≡ false
+    → (resets ≡ p.resets) × (p.order_state x ≢ Done)
 pasid_open p k x resets in_reset b h =
     let same = no_reset p resets b.counted (or_right (is_done (p.order_state k) && is_done (p.order_state x)) (nat_lt resets p.resets) h) in
     let left = or_left (is_done (p.order_state k) && is_done (p.order_state x)) (nat_lt resets p.resets) h in
@@ -76,7 +83,9 @@ right_false : (a b : Bool) → b ≡ false → (a && b) ≡ false
 right_false a b h = grind arith
 
 -- and where its wait isn't done and no reset-done came since, it isn't
-pub ranges_wait : (p : Part) (first count resets : ℕ) → resets ≡ p.resets → p.order_state (first + count) ≢ Done → answered p (Ranges first count resets) ≡ false
+pub ranges_wait :
+    (p : Part) (first count resets : ℕ) → resets ≡ p.resets → p.order_state (first + count) ≢ Done
+    → answered p (Ranges first count resets) ≡ false
 ranges_wait p first count resets same ne =
     both_false (all_below (suc count) (λ j. is_done (p.order_state (first + j)))) (nat_lt resets p.resets)
     (all_below-false (suc count) (λ j. is_done (p.order_state (first + j))) count (omega arith) (isnt_done (p.order_state (first + count)) ne))
@@ -100,20 +109,28 @@ resets_kept : (p : Part) (n : ℕ) (o : Own) → settles o ≡ false → (own p 
 resets_kept p n o h = grind arith
 
 -- no other act makes a wait done
-undone_kept : (ms : Mappings) (g n : ℕ) (p : Part) (o : Own) → LegalOwn ms g p o → SentOnly p → settles o ≡ false → (x : ℕ) → x < p.orders → is_wait (p.order x) ≡ true → (is_busy (p.order_state x) ≡ true → is_wait (p.order x) ≡ false) → p.order_state x ≢ Done → (own p n o).order_state x ≢ Done
+undone_kept :
+    (ms : Mappings) (g n : ℕ) (p : Part) (o : Own) → LegalOwn ms g p o → SentOnly p → settles o ≡ false → (x : ℕ) → x < p.orders
+    → is_wait (p.order x) ≡ true → (is_busy (p.order_state x) ≡ true → is_wait (p.order x) ≡ false) → p.order_state x ≢ Done
+    → (own p n o).order_state x ≢ Done
 undone_kept ms g n p o l sent h x made w nw nd d = grind (arith, nat_tests)
 
-silent_kept : (ms : Mappings) (g n : ℕ) (p : Part) (o : Own) → LegalOwn ms g p o → SentOnly p → Orders p → settles o ≡ false → (v : Owed) → FitsDebt p v → answered p v ≡ false → answered (own p n o) v ≡ false
+silent_kept :
+    (ms : Mappings) (g n : ℕ) (p : Part) (o : Own) → LegalOwn ms g p o → SentOnly p → Orders p → settles o ≡ false → (v : Owed)
+    → FitsDebt p v → answered p v ≡ false → answered (own p n o) v ≡ false
 silent_kept ms g n p o l sent or h Nothing d k = absurd (cc (k))
 silent_kept ms g n p o l sent or h (Ranges first count resets) d k =
     let z = ranges_open p first count resets d.1 k in
-    ranges_wait (own p n o) first count resets (z.0 ∙ sym (resets_kept p n o h)) (undone_kept ms g n p o l sent h (first + count) d.1.made d.1.is_a_wait (or.no_wait (first + count)) z.1)
+    ranges_wait (own p n o) first count resets (z.0 ∙ sym (resets_kept p n o h))
+    (undone_kept ms g n p o l sent h (first + count) d.1.made d.1.is_a_wait (or.no_wait (first + count)) z.1)
 silent_kept ms g n p o l sent or h (Pasid j x resets in_reset) d k =
     let z = pasid_open p j x resets in_reset d.1 k in
     pasid_waits (own p n o) j x resets in_reset (z.0 ∙ sym (resets_kept p n o h)) (undone_kept ms g n p o l sent h x d.1.made d.1.is_a_wait (or.no_wait x) z.1)
 silent_kept ms g n p o l sent or h (AReset resets) d k = ap (nat_lt resets) (resets_kept p n o h) ∙ k
 
-pub answered_kept : (ms : Mappings) (g n : ℕ) (p : Part) (o : Own) → LegalOwn ms g p o → Bounds g p → SentOnly p → Orders p → settles o ≡ false → (v : Owed) → FitsDebt p v → answered (own p n o) v ≡ answered p v
+pub answered_kept :
+    (ms : Mappings) (g n : ℕ) (p : Part) (o : Own) → LegalOwn ms g p o → Bounds g p → SentOnly p → Orders p → settles o ≡ false → (v : Owed)
+    → FitsDebt p v → answered (own p n o) v ≡ answered p v
 answered_kept ms g n p o l bo sent or h v d = go (answered p v) refl
   where
     go : (b : Bool) → answered p v ≡ b → answered (own p n o) v ≡ answered p v
@@ -133,7 +150,10 @@ pub record IsSeenSame (first : ℕ) (p q : Part) (v : Owed) : Type 0 where
   pub answers : answered q v ≡ answered p v
   pub target : target_of first q v ≡ target_of first p v
 
-pub seen_same : (w v : World) (owed : ℕ → Owed) → v.config ≡ w.config → ((x : ℕ) → x < w.config.endpoints → IsSeenSame w.config.first (w.part x) (v.part x) (owed x)) → seen_by v (Gone owed) ≡ seen_by w (Gone owed)
+pub seen_same :
+    (w v : World) (owed : ℕ → Owed) → v.config ≡ w.config
+    → ((x : ℕ) → x < w.config.endpoints → IsSeenSame w.config.first (w.part x) (v.part x) (owed x))
+    → seen_by v (Gone owed) ≡ seen_by w (Gone owed)
 seen_same w v owed c h =
     (λ i. by (c i).first (c i).endpoints v.part)
     ∙ (λ i. gone_seen (same_answers i) (WithheldWire (same_targets i)))
@@ -149,13 +169,16 @@ seen_same w v owed c h =
     less : (a b : ℕ) → nat_lt a b ≡ true → a < b
     less a b k = grind (arith, nat_tests)
 
-    at : (e : ℕ) (b : Bool) → nat_lt e w.config.endpoints ≡ b → (if b then target_wire w.config.first (v.part e) (owed e) else None) ≡ (if b then target_wire w.config.first (w.part e) (owed e) else None)
+    at :
+        (e : ℕ) (b : Bool) → nat_lt e w.config.endpoints ≡ b
+        → (if b then target_wire w.config.first (v.part e) (owed e) else None) ≡ (if b then target_wire w.config.first (w.part e) (owed e) else None)
     at e false k = refl
     at e true k = let z = h e (less e w.config.endpoints k) in λ i. if z.answers i then None else Some (z.target i)
 
     same_targets : tabulate 8 (λ e. if nat_lt e w.config.endpoints then target_wire w.config.first (v.part e) (owed e) else None) ≡ tabulate 8 (λ e. if nat_lt e w.config.endpoints then target_wire w.config.first (w.part e) (owed e) else None)
     same_targets =
-        tabulate_same 8 (λ e. if nat_lt e w.config.endpoints then target_wire w.config.first (v.part e) (owed e) else None) (λ e. if nat_lt e w.config.endpoints then target_wire w.config.first (w.part e) (owed e) else None)
+        tabulate_same 8 (λ e. if nat_lt e w.config.endpoints then target_wire w.config.first (v.part e) (owed e) else None)
+        (λ e. if nat_lt e w.config.endpoints then target_wire w.config.first (w.part e) (owed e) else None)
         (λ e l. at e (nat_lt e w.config.endpoints) refl)
 
 pub places_kept : (w : World) (e : ℕ) (o : Own) → Legal w (At e o) → Invariant w → AllDebts w → settles o ≡ false → places_wire (act w (At e o)) ≡ places_wire w
@@ -164,7 +187,9 @@ places_kept w e o l i debts h =
     (λ m owed gone. seen_same w (act w (At e o)) owed refl
     (λ x k. put_keeps (λ x q. IsSeenSame w.config.first (w.part x) q (owed x)) w.part e (own (w.part e) w.messages o)
     (record {
-      answers = answered_kept w.mappings w.bindings w.messages (w.part e) o l.1.0 (i.parts e).bounds (i.parts e).labels.sent (i.parts e).orders h (owed e) (debts m e owed gone);
+      answers =
+          answered_kept w.mappings w.bindings w.messages (w.part e) o l.1.0 (i.parts e).bounds (i.parts e).labels.sent (i.parts e).orders h (owed e)
+          (debts m e owed gone);
       target = target_kept w.config.first w.messages (w.part e) o (owed e) (debts m e owed gone);
     })
     (λ x. record { answers = refl; target = refl }) x))

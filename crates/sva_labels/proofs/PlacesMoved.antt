@@ -16,7 +16,9 @@ use Rattle.sva_labels.proofs.Settling.{places_passed, places_reopened}
 places_left : (w : Wire) (first e : ℕ) (ms : Mappings) (p : Part) (o : Own) → settles o ≡ false → (moved w (own_move first e ms p o)).places ≡ w.places
 places_left w first e ms p o h = grind arith
 
-pub places_moved : (w : World) (e : ℕ) (o : Own) → Legal w (At e o) → Invariant w → AllFronts w → AllDebts w → w.config.endpoints ≤ 8 → places_wire (act w (At e o)) ≡ (moved (wire w) (own_move w.config.first e w.mappings (w.part e) o)).places
+pub places_moved :
+    (w : World) (e : ℕ) (o : Own) → Legal w (At e o) → Invariant w → AllFronts w → AllDebts w → w.config.endpoints ≤ 8
+    → places_wire (act w (At e o)) ≡ (moved (wire w) (own_move w.config.first e w.mappings (w.part e) o)).places
 places_moved w e (Own.Pass k) l i f d low = places_passed w e k l i f d low
 places_moved w e (Own.Reopen c) l i f d low = places_reopened w e c l i d low
 places_moved w e o l i f d low = places_kept w e o l i d (grind arith) ∙ sym (places_left (wire w) w.config.first e w.mappings (w.part e) o (grind arith))

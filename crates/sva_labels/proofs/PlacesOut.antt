@@ -25,11 +25,16 @@ map_tabulate f zero g = refl
 map_tabulate f (suc n) g = map-append f (tabulate n g) (g n ∷ []) ∙ ap (λ xs. xs ++ f (g n) ∷ []) (map_tabulate f n g)
 
 -- a world that has the same mappings, where what is withheld has changed
-pub places_changed : (w v : World) (change : PlaceWire → PlaceWire) → v.config ≡ w.config → v.mappings ≡ w.mappings → change FreeWire ≡ FreeWire → change MappedWire ≡ MappedWire → ((m : ℕ) (owed : ℕ → Owed) → w.mappings.state m ≡ Gone owed → seen_by v (Gone owed) ≡ change (seen_by w (Gone owed))) → places_wire v ≡ map change (places_wire w)
+pub places_changed :
+    (w v : World) (change : PlaceWire → PlaceWire) → v.config ≡ w.config → v.mappings ≡ w.mappings → change FreeWire ≡ FreeWire
+    → change MappedWire ≡ MappedWire
+    → ((m : ℕ) (owed : ℕ → Owed) → w.mappings.state m ≡ Gone owed → seen_by v (Gone owed) ≡ change (seen_by w (Gone owed)))
+    → places_wire v ≡ map change (places_wire w)
 places_changed w v change c ms free mapped gone =
     ap (λ n. tabulate n (λ f. place_wire_by v f (place v f))) (ap (λ z. z.frames) c)
     ∙ tabulate_same w.config.frames (λ f. place_wire_by v f (place v f)) (λ f. change (place_wire_by w f (place w f)))
-    (λ f l. place_seen v v.mappings f ∙ (λ i. seen_at v (ms i).state ((ms i).latest f)) ∙ at (w.mappings.latest f) ∙ sym (ap change (place_seen w w.mappings f)))
+    (λ f l. place_seen v v.mappings f ∙ (λ i. seen_at v (ms i).state ((ms i).latest f)) ∙ at (w.mappings.latest f)
+    ∙ sym (ap change (place_seen w w.mappings f)))
     ∙ sym (map_tabulate change w.config.frames (λ f. place_wire_by w f (place w f)))
   where
     by_state : (m : ℕ) (s : MappingState) → w.mappings.state m ≡ s → seen_by v s ≡ change (seen_by w s)
@@ -46,7 +51,10 @@ map_same f h [] = refl
 map_same f h (x ∷ xs) = ap₂ (λ y ys. y ∷ ys) (h x) (map_same f h xs)
 
 -- and where nothing has
-pub places_same : (w v : World) → v.config ≡ w.config → v.mappings ≡ w.mappings → ((m : ℕ) (owed : ℕ → Owed) → w.mappings.state m ≡ Gone owed → seen_by v (Gone owed) ≡ seen_by w (Gone owed)) → places_wire v ≡ places_wire w
+pub places_same :
+    (w v : World) → v.config ≡ w.config → v.mappings ≡ w.mappings
+    → ((m : ℕ) (owed : ℕ → Owed) → w.mappings.state m ≡ Gone owed → seen_by v (Gone owed) ≡ seen_by w (Gone owed))
+    → places_wire v ≡ places_wire w
 places_same w v c ms gone = places_changed w v (λ p. p) c ms refl refl gone ∙ map_same (λ p. p) (λ p. refl) (places_wire w)
 
 -- Pages that went: the frames of those that pass the test are at one place, and all others are where they were.
@@ -54,11 +62,17 @@ places_same w v c ms gone = places_changed w v (λ p. p) c ms refl refl gone ∙
 one : {a b : ℕ} → Some a ≡ Some b → a ≡ b
 one h = cc
 
-pub places_out : (w v : World) (s : ℕ) (pages : ℕ → Bool) (owed : ℕ → Owed) (there : PlaceWire) → Mapped w → v.config ≡ w.config → v.mappings ≡ without_pages w.mappings s pages owed → seen_by v (Gone owed) ≡ there → ((m : ℕ) (old : ℕ → Owed) → w.mappings.state m ≡ Gone old → seen_by v (Gone old) ≡ seen_by w (Gone old)) → places_wire v ≡ placed there (filter (λ entry. pages entry.page) (pages_wire w.mappings s)) (places_wire w)
+pub places_out :
+    (w v : World) (s : ℕ) (pages : ℕ → Bool) (owed : ℕ → Owed) (there : PlaceWire) → Mapped w → v.config ≡ w.config
+    → v.mappings ≡ without_pages w.mappings s pages owed → seen_by v (Gone owed) ≡ there
+    → ((m : ℕ) (old : ℕ → Owed) → w.mappings.state m ≡ Gone old → seen_by v (Gone old) ≡ seen_by w (Gone old))
+    → places_wire v ≡ placed there (filter (λ entry. pages entry.page) (pages_wire w.mappings s)) (places_wire w)
 places_out w v s pages owed there ma c ms here older =
     ap (λ n. tabulate n (λ f. place_wire_by v f (place v f))) (ap (λ z. z.frames) c)
-    ∙ tabulate_same w.config.frames (λ f. place_wire_by v f (place v f)) (λ f. if list_any (λ x. x.frame == f) (filter (λ entry. pages entry.page) (pages_wire w.mappings s)) then there else place_wire_by w f (place w f))
-    (λ f l. seen f ∙ sym (ap (λ b. if b then there else place_wire_by w f (place w f)) (any_among w.mappings s (λ x. x.frame == f) (λ entry. pages entry.page))))
+    ∙ tabulate_same w.config.frames (λ f. place_wire_by v f (place v f))
+    (λ f. if list_any (λ x. x.frame == f) (filter (λ entry. pages entry.page) (pages_wire w.mappings s)) then there else place_wire_by w f (place w f))
+    (λ f l. seen f
+    ∙ sym (ap (λ b. if b then there else place_wire_by w f (place w f)) (any_among w.mappings s (λ x. x.frame == f) (λ entry. pages entry.page))))
     ∙ sym (placed_is w.config.frames (λ f. place_wire_by w f (place w f)) there (filter (λ entry. pages entry.page) (pages_wire w.mappings s)))
   where
     after : ℕ → MappingState
@@ -96,18 +110,25 @@ places_out w v s pages owed there ma c ms here older =
     untested a b h = grind arith
 
     -- one whose latest mapping isn't of those
-    kept : (f m : ℕ) → w.mappings.frame m ≡ f → goes f m ≡ false → (z : MappingState) → w.mappings.state m ≡ z → seen_by v (gone_if (w.mappings.space m == s && pages (w.mappings.page m)) owed z) ≡ seen_by w z
+    kept :
+        (f m : ℕ) → w.mappings.frame m ≡ f → goes f m ≡ false → (z : MappingState) → w.mappings.state m ≡ z
+        → seen_by v (gone_if (w.mappings.space m == s && pages (w.mappings.page m)) owed z) ≡ seen_by w z
     kept f m frame h Unmade e = ap (seen_by v) (unmade_stays (w.mappings.space m == s && pages (w.mappings.page m)))
     kept f m frame h (Gone old) e = ap (seen_by v) (gone_stays (w.mappings.space m == s && pages (w.mappings.page m)) old) ∙ older m old e
     kept f m frame h Present e =
         ap (λ b. seen_by v (gone_if b owed Present))
-        (untested (w.mappings.space m == s) (pages (w.mappings.page m)) (sym (λ i. (is_present (e i) && w.mappings.space m == s) && (pages (w.mappings.page m) && is_same (w.mappings.frame m) f frame i)) ∙ h))
+        (untested (w.mappings.space m == s) (pages (w.mappings.page m))
+        (sym (λ i. (is_present (e i) && w.mappings.space m == s) && (pages (w.mappings.page m) && is_same (w.mappings.frame m) f frame i)) ∙ h))
 
-    still : (f : ℕ) → ((m : ℕ) → m < w.mappings.made → goes f m ≡ false) → (o : Option ℕ) → w.mappings.latest f ≡ o → seen_at v after o ≡ seen_at w w.mappings.state o
+    still :
+        (f : ℕ) → ((m : ℕ) → m < w.mappings.made → goes f m ≡ false) → (o : Option ℕ) → w.mappings.latest f ≡ o
+        → seen_at v after o ≡ seen_at w w.mappings.state o
     still f none None e = refl
     still f none (Some m) e = let n = ma.named f m e in kept f m n.0 (none m n.1) (w.mappings.state m) refl
 
-    by_test : (f : ℕ) (b : Bool) → any_below w.mappings.made (goes f) ≡ b → seen_at v after (w.mappings.latest f) ≡ (if b then there else seen_at w w.mappings.state (w.mappings.latest f))
+    by_test :
+        (f : ℕ) (b : Bool) → any_below w.mappings.made (goes f) ≡ b
+        → seen_at v after (w.mappings.latest f) ≡ (if b then there else seen_at w w.mappings.state (w.mappings.latest f))
     by_test f true e = let m = any_below-true w.mappings.made (goes f) e in taken f m.0 m.2
     by_test f false e = still f (any_below-false w.mappings.made (goes f) e) (w.mappings.latest f) refl
 

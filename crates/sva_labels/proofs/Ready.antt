@@ -58,11 +58,16 @@ head_first p j l = go (lowest_cases p.orders (λ k. is_queued (p.order_state k))
     queued_is : (s : OrderState) → is_queued s ≡ false → s ≢ Queued
     queued_is s k = grind arith
 
-    go : ((Labels.head p ≡ p.orders) × ((j : ℕ) → j < p.orders → is_queued (p.order_state j) ≡ false)) ⊎ ((Labels.head p < p.orders) × (is_queued (p.order_state (Labels.head p)) ≡ true) × ((j : ℕ) → j < Labels.head p → is_queued (p.order_state j) ≡ false)) → p.order_state j ≢ Queued
+    go :
+        ((Labels.head p ≡ p.orders) × ((j : ℕ) → j < p.orders → is_queued (p.order_state j) ≡ false)) ⊎ ((Labels.head p < p.orders)
+        × (is_queued (p.order_state (Labels.head p)) ≡ true) × ((j : ℕ) → j < Labels.head p → is_queued (p.order_state j) ≡ false))
+        → p.order_state j ≢ Queued
     go (inl x) = queued_is (p.order_state j) (x.1 j (omega (arith, l, x.0)))
     go (inr x) = queued_is (p.order_state j) (x.2 j l)
 
-send_ready : (w : World) (e t : ℕ) (b : Bool) → ((j : ℕ) → j < Labels.head (w.part e) → (w.part e).order_state j ≢ Queued) → AreReady w (send_outcome e (Labels.head (w.part e)) t b).acts
+send_ready :
+    (w : World) (e t : ℕ) (b : Bool) → ((j : ℕ) → j < Labels.head (w.part e) → (w.part e).order_state j ≢ Queued)
+    → AreReady w (send_outcome e (Labels.head (w.part e)) t b).acts
 send_ready w e t true h = ((tt, h), tt)
 send_ready w e t false h = tt
 
@@ -70,7 +75,9 @@ wait_ready : (w : World) (e k : ℕ) (b : Bool) → AreReady w (wait_outcome e k
 wait_ready w e k true = ((tt, tt), tt)
 wait_ready w e k false = tt
 
-head_ready : (w : World) (e : ℕ) (o : Order) → ((j : ℕ) → j < Labels.head (w.part e) → (w.part e).order_state j ≢ Queued) → AreReady w (head_outcome (w.part e) e (Labels.head (w.part e)) o).acts
+head_ready :
+    (w : World) (e : ℕ) (o : Order) → ((j : ℕ) → j < Labels.head (w.part e) → (w.part e).order_state j ≢ Queued)
+    → AreReady w (head_outcome (w.part e) e (Labels.head (w.part e)) o).acts
 head_ready w e (Wait cookie drain) h = wait_ready w e (Labels.head (w.part e)) (may_pass (w.part e) drain)
 head_ready w e (RangeOf b q) h = send_ready w e (Labels.lowest_label 32 (w.part e).at_itag) _ h
 head_ready w e (PasidOf b) h = send_ready w e (Labels.lowest_label 32 (w.part e).at_itag) _ h
@@ -81,7 +88,9 @@ pump_ready w e false = head_ready w e ((w.part e).order (Labels.head (w.part e))
 
 -- Serve: what has arrived is of a group that is open to it.
 
-file_ready : (w : World) (e r : ℕ) (b : Bool) → (w.part e).is_last r ≡ b → Invariant w → AllOn w → LegalAll w (file_outcome e r ((w.part e).group_of r) b).acts → AreReady w (file_outcome e r ((w.part e).group_of r) b).acts
+file_ready :
+    (w : World) (e r : ℕ) (b : Bool) → (w.part e).is_last r ≡ b → Invariant w → AllOn w
+    → LegalAll w (file_outcome e r ((w.part e).group_of r) b).acts → AreReady w (file_outcome e r ((w.part e).group_of r) b).acts
 file_ready w e r false h i on l = ((not_past w e r i (on e) l.0.1.0.0 l.0.1.0.1, tt), tt)
 file_ready w e r true h i on l = ((not_past w e r i (on e) l.0.1.0.0 l.0.1.0.1, tt), (job, tt))
   where
@@ -91,13 +100,18 @@ file_ready w e r true h i on l = ((not_past w e r i (on e) l.0.1.0.0 l.0.1.0.1, 
         ∙ put-same (w.part e).host_group ((w.part e).group_of r) (filed_as ((w.part e).is_last r))
         ∙ ap filed_as h
 
-serve_ready : (w : World) (e : ℕ) (b : Bool) → Invariant w → AllOn w → LegalAll w (serve_outcome (w.part e) e b).acts → AreReady w (serve_outcome (w.part e) e b).acts
+serve_ready :
+    (w : World) (e : ℕ) (b : Bool) → Invariant w → AllOn w → LegalAll w (serve_outcome (w.part e) e b).acts
+    → AreReady w (serve_outcome (w.part e) e b).acts
 serve_ready w e true i on l = tt
 serve_ready w e false i on l = file_ready w e (Labels.oldest_arrived (w.part e)) ((w.part e).is_last (Labels.oldest_arrived (w.part e))) refl i on l
 
 -- Take: the first job is handed out, and no other is of its group.
 
-first_job : (w : World) → JobsOf w → not (any_below w.jobs (Labels.is_queued_job w)) ≡ false → HandsFirst w (w.job (lowest w.jobs (Labels.is_queued_job w))).endpoint (w.job (lowest w.jobs (Labels.is_queued_job w))).group (lowest w.jobs (Labels.is_queued_job w))
+first_job :
+    (w : World) → JobsOf w → not (any_below w.jobs (Labels.is_queued_job w)) ≡ false
+    → HandsFirst w (w.job (lowest w.jobs (Labels.is_queued_job w))).endpoint (w.job (lowest w.jobs (Labels.is_queued_job w))).group
+    (lowest w.jobs (Labels.is_queued_job w))
 first_job w js h =
     let some = any_below-true w.jobs (Labels.is_queued_job w) (not_true (any_below w.jobs (Labels.is_queued_job w)) h) in
     let low = lowest_below w.jobs (Labels.is_queued_job w) some.0 some.1 some.2 in
@@ -115,7 +129,9 @@ first_job w js h =
 respond_ready : (w : World) (x e g : ℕ) (code : Code) → AreReady w (LetGo x ∷ At e (Own.Respond g code) ∷ [])
 respond_ready w x e g code = (tt, ((tt, tt), tt))
 
-maps_ready : (s : ℕ) (write : ℕ → Bool) (qs fs : List ℕ) (w : World) (x e g : ℕ) (code : Code) → AreReady w (maps_to s write qs fs ++ LetGo x ∷ At e (Own.Respond g code) ∷ [])
+maps_ready :
+    (s : ℕ) (write : ℕ → Bool) (qs fs : List ℕ) (w : World) (x e g : ℕ) (code : Code)
+    → AreReady w (maps_to s write qs fs ++ LetGo x ∷ At e (Own.Respond g code) ∷ [])
 maps_ready s write [] fs w x e g code = respond_ready w x e g code
 maps_ready s write (q ∷ qs) [] w x e g code = respond_ready w x e g code
 maps_ready s write (q ∷ qs) (f ∷ fs) w x e g code = (tt, maps_ready s write qs fs (act w (Map s q f (write q))) x e g code)
@@ -124,7 +140,11 @@ reply_ready : (w : World) (x j : ℕ) (v : Verdict) (o : Option Code) → AreRea
 reply_ready w x j v None = (tt, ((tt, tt), tt))
 reply_ready w x j v (Some code) = go (replies_success w j v)
   where
-    go : (b : Bool) → AreReady w ((if b then maps_to (job_space w j) (is_write_asked w j) (newly_mapped w j) (free_list w) else []) ++ LetGo x ∷ At (w.job j).endpoint (Own.Respond (w.job j).group code) ∷ [])
+    go :
+        (b : Bool)
+        → AreReady w
+        ((if b then maps_to (job_space w j) (is_write_asked w j) (newly_mapped w j) (free_list w) else []) ++ LetGo x ∷ At (w.job j).endpoint
+        (Own.Respond (w.job j).group code) ∷ [])
     go true = maps_ready (job_space w j) (is_write_asked w j) (newly_mapped w j) (free_list w) w x (w.job j).endpoint (w.job j).group code
     go false = respond_ready w x (w.job j).endpoint (w.job j).group code
 
@@ -186,8 +206,10 @@ outcome_ready w (step.Map n q x) i on js p = (tt, tt)
 outcome_ready w (step.Unmap n q count) i on js p = (tt, tt)
 outcome_ready w (step.UnmapRange n q order) i on js p = (tt, tt)
 outcome_ready w (step.Bind e n) i on js p = (tt, ((refl, tt), tt))
-outcome_ready w (step.Unbind n) i on js p = unbind_ready w (w.home (Labels.name w n)) (Labels.name w n) ((w.part (w.home (Labels.name w n))).stage (Labels.name w n))
-outcome_ready w (step.Advance n) i on js p = advance_ready w (w.home (Labels.name w n)) (Labels.name w n) ((w.part (w.home (Labels.name w n))).stage (Labels.name w n))
+outcome_ready w (step.Unbind n) i on js p =
+    unbind_ready w (w.home (Labels.name w n)) (Labels.name w n) ((w.part (w.home (Labels.name w n))).stage (Labels.name w n))
+outcome_ready w (step.Advance n) i on js p =
+    advance_ready w (w.home (Labels.name w n)) (Labels.name w n) ((w.part (w.home (Labels.name w n))).stage (Labels.name w n))
 outcome_ready w (step.Pump e) i on js p = pump_ready w e (Labels.is_queue_empty (w.part e))
 outcome_ready w (step.Serve e) i on js p = serve_ready w e (Labels.is_page_queue_empty (w.part e)) i on (unit_steps.serve w e i p)
 outcome_ready w (step.Reset e) i on js p = ((tt, tt), tt)
@@ -200,6 +222,8 @@ outcome_ready w (step.Evict e t q) i on js p = ((tt, tt), tt)
 outcome_ready w (step.Fault e t q r x group l) i on js p = fault_ready w (w.part e) e t q r x l group
 outcome_ready w (step.Finish e vector count) i on js p = ((tt, tt), tt)
 outcome_ready w (step.Quit e t) i on js p = ((tt, tt), tt)
-outcome_ready w (step.Deliver n) i on js p = deliver_ready w (w.part (w.way (Labels.name w n))) (w.way (Labels.name w n)) (Labels.name w n) ((w.part (w.way (Labels.name w n))).message (Labels.name w n))
+outcome_ready w (step.Deliver n) i on js p =
+    deliver_ready w (w.part (w.way (Labels.name w n))) (w.way (Labels.name w n)) (Labels.name w n)
+    ((w.part (w.way (Labels.name w n))).message (Labels.name w n))
 outcome_ready w (step.Look f) i on js p = tt
 outcome_ready w (step.Bearer t) i on js p = tt

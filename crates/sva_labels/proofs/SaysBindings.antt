@@ -43,7 +43,8 @@ pub reset_cause : (w : World) (e : ℕ) → e < w.config.endpoints → resetting
 reset_cause w e l = ap (λ u. (not u.is_open, refusal.Resetting)) (unit_seen w e l)
 
 found_any : (n : ℕ) (p : ℕ → Bool) → is_some (find n p) ≡ any_below n p
-found_any n p = both_ways (is_some (find n p)) (any_below n p) (λ h. forth (find n p) refl h) (λ h. let x = any_below-true n p h in ap is_some (find_some n p x.0 x.1 x.2))
+found_any n p =
+    both_ways (is_some (find n p)) (any_below n p) (λ h. forth (find n p) refl h) (λ h. let x = any_below-true n p h in ap is_some (find_some n p x.0 x.1 x.2))
   where
     forth : (o : Option ℕ) → find n p ≡ o → is_some o ≡ true → any_below n p ≡ true
     forth None e h = absurd (cc (h))
@@ -64,7 +65,8 @@ label_same (Some k) = refl
 
 bind_alike : (w : World) (e n : ℕ) → Invariant w → w.rule ≡ PerSpace → IsAlike (causes_of (wire w) (step.Bind e n)) (refusals w (step.Bind e n))
 bind_alike w e n i r =
-    alike_more (no_such_endpoint (wire w) e) (names.no_such_endpoint w e) (no_such_space (wire w) n ∷ bind_causes (wire w) e n) (names.no_such_space w n ∷ names.bind_refusals w e (Labels.name w n))
+    alike_more (no_such_endpoint (wire w) e) (names.no_such_endpoint w e) (no_such_space (wire w) n ∷ bind_causes (wire w) e n)
+    (names.no_such_space w n ∷ names.bind_refusals w e (Labels.name w n))
     (endpoint_cause w e)
     (λ h.
     let l : e < w.config.endpoints = is_less e w.config.endpoints (sym (ap (λ c. c.0) (endpoint_cause w e)) ∙ h) in
@@ -85,7 +87,8 @@ bind_says w e n i r =
       alike = bind_alike w e n i r;
       result = λ k.
           let num = space_number w n (not_true (Labels.is_space w n) k.1.0) in
-          ap (λ t. bind_result (wire w) e n t) (ap label (ap (pasid_for (wire w)) (sym num) ∙ pasid_there w e (Labels.name w n) i r) ∙ label_same (Labels.pasid_for w e (Labels.name w n)))
+          ap (λ t. bind_result (wire w) e n t)
+          (ap label (ap (pasid_for (wire w)) (sym num) ∙ pasid_there w e (Labels.name w n) i r) ∙ label_same (Labels.pasid_for w e (Labels.name w n)))
           ∙ ap (λ m. bind_result (wire w) e m (the (Labels.pasid_for w e (Labels.name w n)))) (sym num);
     }
 
@@ -95,16 +98,23 @@ home_there : (w : World) (b : ℕ) → Invariant w → is_kept w b ≡ true → 
 home_there w b i h = (i.parts (w.home b)).there b (unreleased_bound (w.part (w.home b)) b h)
 
 -- a binding that isn't there is refused first
-of_number : (w : World) (n : ℕ) (cs : Option BindingWire → List Cause) (ds : List Cause) → cs None ≡ (true, refusal.NoSuchBinding) ∷ [] → (Labels.is_binding w n ≡ true → IsAlike (cs (Some (binding_seen w (Labels.name w n)))) ds) → IsAlike (cs (binding_of (wire w) n)) (names.no_such_binding w n ∷ ds)
+of_number :
+    (w : World) (n : ℕ) (cs : Option BindingWire → List Cause) (ds : List Cause) → cs None ≡ (true, refusal.NoSuchBinding) ∷ []
+    → (Labels.is_binding w n ≡ true → IsAlike (cs (Some (binding_seen w (Labels.name w n)))) ds)
+    → IsAlike (cs (binding_of (wire w) n)) (names.no_such_binding w n ∷ ds)
 of_number w n cs ds none h = go (Labels.is_binding w n) refl
   where
     go : (b : Bool) → Labels.is_binding w n ≡ b → IsAlike (cs (binding_of (wire w) n)) (names.no_such_binding w n ∷ ds)
     go false e =
         ap (λ o. refused_by (cs o)) (binding_missing w n e) ∙ ap refused_by none
         ∙ alike_held (true, refusal.NoSuchBinding) (names.no_such_binding w n) [] ds refl (ap not e) refl
-    go true e = ap (λ o. refused_by (cs o)) (binding_found w n e) ∙ alike_right (names.no_such_binding w n) (cs (Some (binding_seen w (Labels.name w n)))) ds (ap not e) (h e)
+    go true e =
+        ap (λ o. refused_by (cs o)) (binding_found w n e)
+        ∙ alike_right (names.no_such_binding w n) (cs (Some (binding_seen w (Labels.name w n)))) ds (ap not e) (h e)
 
-unbind_stages : (w : World) (b : ℕ) → w.home b < w.config.endpoints → (s : Stage) → unbind_by (wire w) (binding_seen w b) (stage_wire w.config.first (w.part (w.home b)) s) ≡ names.unbind_refusals w (w.home b) s
+unbind_stages :
+    (w : World) (b : ℕ) → w.home b < w.config.endpoints → (s : Stage)
+    → unbind_by (wire w) (binding_seen w b) (stage_wire w.config.first (w.part (w.home b)) s) ≡ names.unbind_refusals w (w.home b) s
 unbind_stages w b l Lost = refl
 unbind_stages w b l Unbound = ap (λ c. (true, refusal.NotLive) ∷ c ∷ numbers_spent (wire w).next_message 1 ∷ []) (reset_cause w (w.home b) l)
 unbind_stages w b l Live = ap (λ c. (false, refusal.NotLive) ∷ c ∷ numbers_spent (wire w).next_message 1 ∷ []) (reset_cause w (w.home b) l)
@@ -114,7 +124,9 @@ unbind_stages w b l (Invalidating j k) = ap (λ c. (true, refusal.NotLive) ∷ c
 unbind_stages w b l Quiet = ap (λ c. (true, refusal.NotLive) ∷ c ∷ numbers_spent (wire w).next_message 1 ∷ []) (reset_cause w (w.home b) l)
 unbind_stages w b l Released = ap (λ c. (true, refusal.NotLive) ∷ c ∷ numbers_spent (wire w).next_message 1 ∷ []) (reset_cause w (w.home b) l)
 
-unbound_by : (w : World) (b : ℕ) (s : Stage) → results.unbind_by (binding_seen w b) (stage_wire w.config.first (w.part (w.home b)) s) ≡ result_by w (unbind_outcome (w.home b) b s)
+unbound_by :
+    (w : World) (b : ℕ) (s : Stage)
+    → results.unbind_by (binding_seen w b) (stage_wire w.config.first (w.part (w.home b)) s) ≡ result_by w (unbind_outcome (w.home b) b s)
 unbound_by w b Lost = refl
 unbound_by w b Unbound = refl
 unbound_by w b Live = refl
@@ -127,9 +139,12 @@ unbound_by w b Released = refl
 pub unbind_says : (w : World) (n : ℕ) → Invariant w → SaysAlike w (step.Unbind n)
 unbind_says w n i =
     record {
-      alike = of_number w n (unbind_causes (wire w)) (names.unbind_refusals w (w.home (Labels.name w n)) ((w.part (w.home (Labels.name w n))).stage (Labels.name w n))) refl
+      alike =
+          of_number w n (unbind_causes (wire w))
+          (names.unbind_refusals w (w.home (Labels.name w n)) ((w.part (w.home (Labels.name w n))).stage (Labels.name w n))) refl
           (λ e. let kept = (binding_is w n e).kept in
-          alike_same (unbind_causes (wire w) (Some (binding_seen w (Labels.name w n)))) (names.unbind_refusals w (w.home (Labels.name w n)) ((w.part (w.home (Labels.name w n))).stage (Labels.name w n)))
+          alike_same (unbind_causes (wire w) (Some (binding_seen w (Labels.name w n))))
+          (names.unbind_refusals w (w.home (Labels.name w n)) ((w.part (w.home (Labels.name w n))).stage (Labels.name w n)))
           (unbind_stages w (Labels.name w n) (home_there w (Labels.name w n) i kept) ((w.part (w.home (Labels.name w n))).stage (Labels.name w n))));
       result = λ k.
           ap (of_binding (λ b. results.unbind_by b b.stage)) (binding_found w n (not_true (Labels.is_binding w n) k.0))
@@ -138,7 +153,10 @@ unbind_says w n i =
 
 -- Going on with one.
 
-advance_stages : (w : World) (b : ℕ) → Invariant w → ((e : ℕ) → HasFront w.cookies (w.part e)) → ((e : ℕ) → Filings (w.part e)) → is_kept w b ≡ true → (s : Stage) → (w.part (w.home b)).stage b ≡ s → advance_by (wire w) (binding_seen w b) (stage_wire w.config.first (w.part (w.home b)) s) ≡ names.advance_refusals w (w.home b) b s
+advance_stages :
+    (w : World) (b : ℕ) → Invariant w → ((e : ℕ) → HasFront w.cookies (w.part e)) → ((e : ℕ) → Filings (w.part e)) → is_kept w b ≡ true
+    → (s : Stage) → (w.part (w.home b)).stage b ≡ s
+    → advance_by (wire w) (binding_seen w b) (stage_wire w.config.first (w.part (w.home b)) s) ≡ names.advance_refusals w (w.home b) b s
 advance_stages w b i f fi h Unbound e = absurd (cc (sym (ap is_unreleased e) ∙ h))
 advance_stages w b i f fi h Released e = absurd (cc (sym (ap is_unreleased e) ∙ h))
 advance_stages w b i f fi h Quiet e = refl
@@ -158,8 +176,10 @@ advance_stages w b i f fi h (Draining wait) e =
     λ k.
     reset_cause w (w.home b) l k
     ∷ (
-      not ((ap (λ u. is_wait_done u (cookie_number w.config.first ((w.part (w.home b)).order wait))) (unit_seen w (w.home b) l) ∙ drained_there w.config.first w.cookies b wait (w.part (w.home b)) (f (w.home b)) (a_wait ((w.part (w.home b)).order wait) d.0) e) k)
-          || ((ap (λ p. has_open_group p (number w.config.first b)) (part_seen w (w.home b) l) ∙ open_there w.config.first w.bindings b w.mappings (w.part (w.home b)) (i.parts (w.home b)).bounds (fi (w.home b))) k),
+      not ((ap (λ u. is_wait_done u (cookie_number w.config.first ((w.part (w.home b)).order wait))) (unit_seen w (w.home b) l)
+          ∙ drained_there w.config.first w.cookies b wait (w.part (w.home b)) (f (w.home b)) (a_wait ((w.part (w.home b)).order wait) d.0) e) k)
+          || ((ap (λ p. has_open_group p (number w.config.first b)) (part_seen w (w.home b) l)
+          ∙ open_there w.config.first w.bindings b w.mappings (w.part (w.home b)) (i.parts (w.home b)).bounds (fi (w.home b))) k),
       refusal.NotYet,
     )
     ∷ ((ap (λ u. not (has_room u 2)) (unit_seen w (w.home b) l) ∙ room_there w.config.first 2 (w.part (w.home b))) k, refusal.QueueFull)
@@ -172,10 +192,17 @@ advance_stages w b i f fi h (Invalidating invalidation wait) e =
     let l = home_there w b i h in
     λ k.
     reset_cause w (w.home b) l k
-    ∷ (not ((ap (λ u. is_wait_done u (cookie_number w.config.first ((w.part (w.home b)).order wait))) (unit_seen w (w.home b) l) ∙ invalidated_there w.config.first w.cookies b invalidation wait (w.part (w.home b)) (f (w.home b)) ((i.parts (w.home b)).orders.invalidating b invalidation wait e).2 e) k), refusal.NotYet)
+    ∷ (
+      not ((ap (λ u. is_wait_done u (cookie_number w.config.first ((w.part (w.home b)).order wait))) (unit_seen w (w.home b) l)
+          ∙ invalidated_there w.config.first w.cookies b invalidation wait (w.part (w.home b)) (f (w.home b))
+          ((i.parts (w.home b)).orders.invalidating b invalidation wait e).2 e) k),
+      refusal.NotYet,
+    )
     ∷ []
 
-advanced_by : (w : World) (b : ℕ) (s : Stage) → results.advance_by (binding_seen w b) (stage_wire w.config.first (w.part (w.home b)) s) ≡ result_by w (advance_outcome w (w.home b) b s)
+advanced_by :
+    (w : World) (b : ℕ) (s : Stage)
+    → results.advance_by (binding_seen w b) (stage_wire w.config.first (w.part (w.home b)) s) ≡ result_by w (advance_outcome w (w.home b) b s)
 advanced_by w b Lost = refl
 advanced_by w b Unbound = refl
 advanced_by w b Live = refl
@@ -188,9 +215,12 @@ advanced_by w b Released = refl
 pub advance_says : (w : World) (n : ℕ) → Invariant w → ((e : ℕ) → HasFront w.cookies (w.part e)) → ((e : ℕ) → Filings (w.part e)) → SaysAlike w (step.Advance n)
 advance_says w n i f fi =
     record {
-      alike = of_number w n (advance_causes (wire w)) (names.advance_refusals w (w.home (Labels.name w n)) (Labels.name w n) ((w.part (w.home (Labels.name w n))).stage (Labels.name w n))) refl
+      alike =
+          of_number w n (advance_causes (wire w))
+          (names.advance_refusals w (w.home (Labels.name w n)) (Labels.name w n) ((w.part (w.home (Labels.name w n))).stage (Labels.name w n))) refl
           (λ e.
-          alike_same (advance_causes (wire w) (Some (binding_seen w (Labels.name w n)))) (names.advance_refusals w (w.home (Labels.name w n)) (Labels.name w n) ((w.part (w.home (Labels.name w n))).stage (Labels.name w n)))
+          alike_same (advance_causes (wire w) (Some (binding_seen w (Labels.name w n))))
+          (names.advance_refusals w (w.home (Labels.name w n)) (Labels.name w n) ((w.part (w.home (Labels.name w n))).stage (Labels.name w n)))
           (advance_stages w (Labels.name w n) i f fi (binding_is w n e).kept ((w.part (w.home (Labels.name w n))).stage (Labels.name w n)) refl));
       result = λ k.
           ap (of_binding (λ b. results.advance_by b b.stage)) (binding_found w n (not_true (Labels.is_binding w n) k.0))

@@ -40,7 +40,9 @@ by_tests w success read_only short full responds =
     ∷ []
 
 -- what is tested of a success matters only there
-same_tests : (w : World) (success read_only short full responds a b c : Bool) → (success ≡ true → (read_only ≡ a) × (short ≡ b) × (full ≡ c)) → by_tests w success read_only short full responds ≡ by_tests w success a b c responds
+same_tests :
+    (w : World) (success read_only short full responds a b c : Bool) → (success ≡ true → (read_only ≡ a) × (short ≡ b) × (full ≡ c))
+    → by_tests w success read_only short full responds ≡ by_tests w success a b c responds
 same_tests w false read_only short full responds a b c h = refl
 same_tests w true read_only short full responds a b c h = let e = h refl in λ k. by_tests w true (e.0 k) (e.1 k) (e.2 k) responds
 
@@ -66,7 +68,9 @@ tests_there w j v i h =
       ap₂ (λ a b. nat_lt 1024 (a + b)) (ap (λ pages. length pages) s.pages ∙ pages_count w (job_space w j)) newly,
     ))
 
-reply_alike : (w : World) (v : Verdict) → Invariant w → (x : ℕ) (o : Option ℕ) → w.hand x ≡ o → IsAlike (reply_causes (wire w) v (option_map (job_wire w) o)) ((not (is_some o), refusal.NoJob) ∷ reply_refusals w (the o) v)
+reply_alike :
+    (w : World) (v : Verdict) → Invariant w → (x : ℕ) (o : Option ℕ) → w.hand x ≡ o
+    → IsAlike (reply_causes (wire w) v (option_map (job_wire w) o)) ((not (is_some o), refusal.NoJob) ∷ reply_refusals w (the o) v)
 reply_alike w v i x None h = alike_held (true, refusal.NoJob) (true, refusal.NoJob) [] (reply_refusals w 0 v) refl refl refl
 reply_alike w v i x (Some j) h =
     alike_right (false, refusal.NoJob) (reply_causes (wire w) v (Some (job_wire w j))) (reply_refusals w j v) refl
@@ -78,7 +82,10 @@ reply_alike w v i x (Some j) h =
 abbrev then_acts : (worker endpoint group : ℕ) → Code → List Act
 then_acts x e g code = Act.LetGo x ∷ Act.At e (Own.Respond g code) ∷ []
 
-maps_moves : (x e g s : ℕ) (code : Code) (write : ℕ → Bool) (asks : List AskWire) → ((q : ℕ) → is_write_asked asks q ≡ write q) → (qs fs : List ℕ) (w : World) → maps_to (number w.config.first s) asks qs fs ++ act_moves w (then_acts x e g code) ≡ act_moves w (names.maps_to s write qs fs ++ then_acts x e g code)
+maps_moves :
+    (x e g s : ℕ) (code : Code) (write : ℕ → Bool) (asks : List AskWire) → ((q : ℕ) → is_write_asked asks q ≡ write q)
+    → (qs fs : List ℕ) (w : World)
+    → maps_to (number w.config.first s) asks qs fs ++ act_moves w (then_acts x e g code) ≡ act_moves w (names.maps_to s write qs fs ++ then_acts x e g code)
 maps_moves x e g s code write asks h [] fs w = refl
 maps_moves x e g s code write asks h (q ∷ qs) [] w = refl
 maps_moves x e g s code write asks h (q ∷ qs) (f ∷ fs) w =
@@ -90,32 +97,58 @@ maps_length n s write asks (q ∷ qs) [] = refl
 maps_length n s write asks (q ∷ qs) (f ∷ fs) = ap (λ k. suc k) (maps_length n s write asks qs fs)
 
 -- the pages that are mapped, if it is a success
-maps_there : (w : World) (j : ℕ) (v : Verdict) → Invariant w → InHandNow w j → reply_maps (wire w) (job_wire w j) v ≡ (if names.replies_success w j v then maps_to (number w.config.first (job_space w j)) (job_wire w j).asks (names.newly_mapped w j) (free_list w) else [])
+maps_there :
+    (w : World) (j : ℕ) (v : Verdict) → Invariant w → InHandNow w j
+    → reply_maps (wire w) (job_wire w j) v
+    ≡ (if names.replies_success w j v then maps_to (number w.config.first (job_space w j)) (job_wire w j).asks (names.newly_mapped w j) (free_list w) else [])
 maps_there w j v i h =
-    ap (λ b. if b then maps_to (space_of_job (wire w) (job_wire w j)) (job_wire w j).asks (newly_mapped (wire w) (job_wire w j)) (free_from 0 (wire w).places) else []) (success_there w j v i h)
+    ap (λ b. if b then maps_to (space_of_job (wire w) (job_wire w j)) (job_wire w j).asks (newly_mapped (wire w) (job_wire w j))
+    (free_from 0 (wire w).places) else []) (success_there w j v i h)
     ∙ go (names.replies_success w j v) refl
   where
-    go : (b : Bool) → names.replies_success w j v ≡ b → (if b then maps_to (space_of_job (wire w) (job_wire w j)) (job_wire w j).asks (newly_mapped (wire w) (job_wire w j)) (free_from 0 (wire w).places) else []) ≡ (if b then maps_to (number w.config.first (job_space w j)) (job_wire w j).asks (names.newly_mapped w j) (free_list w) else [])
+    go :
+        (b : Bool) → names.replies_success w j v ≡ b
+        → (if b then maps_to (space_of_job (wire w) (job_wire w j)) (job_wire w j).asks (newly_mapped (wire w) (job_wire w j))
+        (free_from 0 (wire w).places) else [])
+        ≡ (if b then maps_to (number w.config.first (job_space w j)) (job_wire w j).asks (names.newly_mapped w j) (free_list w) else [])
     go false e = refl
     go true e =
         let s = succeeds w j v i e in
         λ k. maps_to (ap space_by s.binding k) (job_wire w j).asks (newly_there w j i s k) (free_there w k)
 
-replied_by : (w : World) (x j : ℕ) (v : Verdict) → Invariant w → InHandNow w j → (o : Option Code) → names.response_to w j v ≡ o → reply_by (wire w) x (job_wire w j) (reply_maps (wire w) (job_wire w j) v) o ≡ result_by w (reply_outcome w x j (names.reply_maps w j v) o)
+replied_by :
+    (w : World) (x j : ℕ) (v : Verdict) → Invariant w → InHandNow w j → (o : Option Code) → names.response_to w j v ≡ o
+    → reply_by (wire w) x (job_wire w j) (reply_maps (wire w) (job_wire w j) v) o ≡ result_by w (reply_outcome w x j (names.reply_maps w j v) o)
 replied_by w x j v i h None e = refl
 replied_by w x j v i h (Some code) e =
     let u = sent_unreleased (is_open (w.part (w.job j).endpoint).phase) ((w.part (w.job j).endpoint).stage (job_binding w j)) v code e in
-    ap₂ (λ ms b. says (code_answer (length ms) code) (ms ++ Move.LetGo x ∷ Move.Respond (job_wire w j) (pasid_or_0 b) code ∷ [])) (maps_there w j v i h) (binding_named w (w.job j).endpoint (job_binding w j) i u)
+    ap₂ (λ ms b. says (code_answer (length ms) code) (ms ++ Move.LetGo x ∷ Move.Respond (job_wire w j) (pasid_or_0 b) code ∷ []))
+    (maps_there w j v i h) (binding_named w (w.job j).endpoint (job_binding w j) i u)
     ∙ go (names.replies_success w j v)
   where
-    go : (b : Bool) → says (code_answer (length (if b then maps_to (number w.config.first (job_space w j)) (job_wire w j).asks (names.newly_mapped w j) (free_list w) else [])) code) ((if b then maps_to (number w.config.first (job_space w j)) (job_wire w j).asks (names.newly_mapped w j) (free_list w) else []) ++ act_moves w (then_acts x (w.job j).endpoint (w.job j).group code)) ≡ says (code_answer (length (if b then names.maps_to (job_space w j) (names.is_write_asked w j) (names.newly_mapped w j) (free_list w) else [])) code) (act_moves w ((if b then names.maps_to (job_space w j) (names.is_write_asked w j) (names.newly_mapped w j) (free_list w) else []) ++ then_acts x (w.job j).endpoint (w.job j).group code))
+    go :
+        (b : Bool)
+        → says (code_answer
+        (length (if b then maps_to (number w.config.first (job_space w j)) (job_wire w j).asks (names.newly_mapped w j) (free_list w) else [])) code)
+        ((if b then maps_to (number w.config.first (job_space w j)) (job_wire w j).asks (names.newly_mapped w j) (free_list w) else []) ++ act_moves w
+        (then_acts x (w.job j).endpoint (w.job j).group code))
+        ≡ says (code_answer
+        (length (if b then names.maps_to (job_space w j) (names.is_write_asked w j) (names.newly_mapped w j) (free_list w) else [])) code)
+        (act_moves w
+        ((if b then names.maps_to (job_space w j) (names.is_write_asked w j) (names.newly_mapped w j) (free_list w) else []) ++ then_acts x
+        (w.job j).endpoint (w.job j).group code))
     go false = refl
     go true =
         ap₂ (λ n ms. says (code_answer n code) ms)
-        (maps_length (number w.config.first (job_space w j)) (job_space w j) (names.is_write_asked w j) (job_wire w j).asks (names.newly_mapped w j) (free_list w))
-        (maps_moves x (w.job j).endpoint (w.job j).group (job_space w j) code (names.is_write_asked w j) (job_wire w j).asks (λ q. writes_asked (w.part (w.job j).endpoint) q (job_asks w j)) (names.newly_mapped w j) (free_list w) w)
+        (maps_length (number w.config.first (job_space w j)) (job_space w j) (names.is_write_asked w j) (job_wire w j).asks (names.newly_mapped w j)
+        (free_list w))
+        (maps_moves x (w.job j).endpoint (w.job j).group (job_space w j) code (names.is_write_asked w j) (job_wire w j).asks
+        (λ q. writes_asked (w.part (w.job j).endpoint) q (job_asks w j)) (names.newly_mapped w j) (free_list w) w)
 
-result_there : (w : World) (v : Verdict) → Invariant w → (x : ℕ) (o : Option ℕ) → w.hand x ≡ o → not (is_some o) ≡ false → reply_result (wire w) x v (option_map (job_wire w) o) ≡ result_by w (reply_outcome w x (the o) (names.reply_maps w (the o) v) (names.response_to w (the o) v))
+result_there :
+    (w : World) (v : Verdict) → Invariant w → (x : ℕ) (o : Option ℕ) → w.hand x ≡ o → not (is_some o) ≡ false
+    → reply_result (wire w) x v (option_map (job_wire w) o)
+    ≡ result_by w (reply_outcome w x (the o) (names.reply_maps w (the o) v) (names.response_to w (the o) v))
 result_there w v i x None h k = absurd (cc (k))
 result_there w v i x (Some j) h k =
     let held : InHandNow w j = record { worker = x; held = h } in

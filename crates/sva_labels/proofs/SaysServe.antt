@@ -42,14 +42,22 @@ unreleased_of : (s : Stage) → is_before_invalidating s ≡ true → is_unrelea
 unreleased_of s h = grind arith
 
 -- the binding under which a page request that has arrived is filed
-asker_there : (w : World) (e r : ℕ) → Invariant w → (w.part e).page_request r ≡ Arrived → binding_or_0 (bearer (wire w) e ((w.part e).pasid ((w.part e).asker ((w.part e).group_of r)))) ≡ number w.config.first ((w.part e).asker ((w.part e).group_of r))
+asker_there :
+    (w : World) (e r : ℕ) → Invariant w → (w.part e).page_request r ≡ Arrived
+    → binding_or_0 (bearer (wire w) e ((w.part e).pasid ((w.part e).asker ((w.part e).group_of r))))
+    ≡ number w.config.first ((w.part e).asker ((w.part e).group_of r))
 asker_there w e r i h =
     let b = (w.part e).asker ((w.part e).group_of r) in
     ap binding_or_0 (bearer_is w e ((w.part e).pasid b) i)
-    ∙ ap (λ o. binding_or_0 (option_map (binding_wire w.config.first e (w.part e)) o)) ((i.parts e).labels.bears_pasid b (unreleased_of ((w.part e).stage b) ((i.parts e).groups.arrived_stage r h)))
+    ∙ ap (λ o. binding_or_0 (option_map (binding_wire w.config.first e (w.part e)) o))
+    ((i.parts e).labels.bears_pasid b (unreleased_of ((w.part e).stage b) ((i.parts e).groups.arrived_stage r h)))
 
 -- the job that the last request of a group makes
-job_there : (w : World) (e r : ℕ) → Invariant w → OnTheWay (w.part e) → Filings (w.part e) → (w.part e).phase ≡ Open → (w.part e).page_request r ≡ Arrived → job_of (part_wire w.config.first w.mappings (w.part e)) e (number w.config.first ((w.part e).asker ((w.part e).group_of r))) (page_request_wire (w.part e) r) ≡ group_job w.config.first e ((act w (Act.At e (Own.File r))).part e) ((w.part e).group_of r)
+job_there :
+    (w : World) (e r : ℕ) → Invariant w → OnTheWay (w.part e) → Filings (w.part e) → (w.part e).phase ≡ Open
+    → (w.part e).page_request r ≡ Arrived
+    → job_of (part_wire w.config.first w.mappings (w.part e)) e (number w.config.first ((w.part e).asker ((w.part e).group_of r)))
+    (page_request_wire (w.part e) r) ≡ group_job w.config.first e ((act w (Act.At e (Own.File r))).part e) ((w.part e).group_of r)
 job_there w e r i on fi ph h =
     (λ k.
     record {
@@ -60,15 +68,25 @@ job_there w e r i on fi ph h =
     })
     ∙ ap (λ p. group_job w.config.first e p ((w.part e).group_of r)) (sym (put-same w.part e (own (w.part e) w.messages (Own.File r))))
 
-filed_by : (w : World) (e r : ℕ) → Invariant w → OnTheWay (w.part e) → Filings (w.part e) → (w.part e).phase ≡ Open → (w.part e).page_request r ≡ Arrived → (l : Bool) → file_result (part_wire w.config.first w.mappings (w.part e)) e (number w.config.first ((w.part e).asker ((w.part e).group_of r))) (page_request_wire (w.part e) r) l ≡ result_by w (file_outcome e r ((w.part e).group_of r) l)
+filed_by :
+    (w : World) (e r : ℕ) → Invariant w → OnTheWay (w.part e) → Filings (w.part e) → (w.part e).phase ≡ Open
+    → (w.part e).page_request r ≡ Arrived → (l : Bool)
+    → file_result (part_wire w.config.first w.mappings (w.part e)) e (number w.config.first ((w.part e).asker ((w.part e).group_of r)))
+    (page_request_wire (w.part e) r) l ≡ result_by w (file_outcome e r ((w.part e).group_of r) l)
 filed_by w e r i on fi ph h true =
-    ap (λ j. says answer.Job (Move.File e (number w.config.first ((w.part e).asker ((w.part e).group_of r))) (page_request_wire (w.part e) r) ∷ Move.NewJob j ∷ [])) (job_there w e r i on fi ph h)
+    ap (λ j. says answer.Job
+    (Move.File e (number w.config.first ((w.part e).asker ((w.part e).group_of r))) (page_request_wire (w.part e) r) ∷ Move.NewJob j ∷ []))
+    (job_there w e r i on fi ph h)
 filed_by w e r i on fi ph h false = refl
 
-served_by : (w : World) (e : ℕ) → Invariant w → OnTheWay (w.part e) → Filings (w.part e) → (w.part e).phase ≡ Open → (b : Bool) → Labels.is_page_queue_empty (w.part e) ≡ b → serve_result (wire w) (part_wire w.config.first w.mappings (w.part e)) e (page_queue_wire (w.part e)) ≡ result_by w (serve_outcome (w.part e) e b)
+served_by :
+    (w : World) (e : ℕ) → Invariant w → OnTheWay (w.part e) → Filings (w.part e) → (w.part e).phase ≡ Open → (b : Bool)
+    → Labels.is_page_queue_empty (w.part e) ≡ b
+    → serve_result (wire w) (part_wire w.config.first w.mappings (w.part e)) e (page_queue_wire (w.part e)) ≡ result_by w (serve_outcome (w.part e) e b)
 served_by w e i on fi ph true h =
     ap (serve_result (wire w) (part_wire w.config.first w.mappings (w.part e)) e)
-    (none_picked (λ k. page_request_wire (w.part e) ((w.part e).arrival k)) (w.part e).arrivals (Labels.is_waiting (w.part e)) (not_false (any_below (w.part e).arrivals (Labels.is_waiting (w.part e))) h))
+    (none_picked (λ k. page_request_wire (w.part e) ((w.part e).arrival k)) (w.part e).arrivals (Labels.is_waiting (w.part e))
+    (not_false (any_below (w.part e).arrivals (Labels.is_waiting (w.part e))) h))
 served_by w e i on fi ph false h =
     let some = not_true (any_below (w.part e).arrivals (Labels.is_waiting (w.part e))) h in
     let x = any_below-true (w.part e).arrivals (Labels.is_waiting (w.part e)) some in
@@ -77,7 +95,8 @@ served_by w e i on fi ph false h =
     let r = Labels.oldest_arrived (w.part e) in
     ap (serve_result (wire w) (part_wire w.config.first w.mappings (w.part e)) e)
     (some_picked (λ k. page_request_wire (w.part e) ((w.part e).arrival k)) (w.part e).arrivals (Labels.is_waiting (w.part e)) some).1
-    ∙ ap (λ b. file_result (part_wire w.config.first w.mappings (w.part e)) e b (page_request_wire (w.part e) r) ((w.part e).is_last r)) (asker_there w e r i arrived)
+    ∙ ap (λ b. file_result (part_wire w.config.first w.mappings (w.part e)) e b (page_request_wire (w.part e) r) ((w.part e).is_last r))
+    (asker_there w e r i arrived)
     ∙ filed_by w e r i on fi ph arrived ((w.part e).is_last r)
   where
     arrived_is : (s : PageRequestState) → is_arrived s ≡ true → s ≡ Arrived
@@ -103,7 +122,9 @@ pub held_there : (w : World) (x : ℕ) → x < w.config.workers → held_by (wir
 held_there w x l = tabulate_at w.config.workers (λ y. option_map (job_wire w) (w.hand y)) x None l
 
 -- a worker that isn't there is refused first
-pub at_worker : (w : World) (x : ℕ) (cs ds : List Cause) → (x < w.config.workers → IsAlike cs ds) → IsAlike (no_such_worker (wire w) x ∷ cs) (names.no_such_worker w x ∷ ds)
+pub at_worker :
+    (w : World) (x : ℕ) (cs ds : List Cause) → (x < w.config.workers → IsAlike cs ds)
+    → IsAlike (no_such_worker (wire w) x ∷ cs) (names.no_such_worker w x ∷ ds)
 at_worker w x cs ds h =
     let same : no_such_worker (wire w) x ≡ names.no_such_worker w x = ap (λ n. (not (nat_lt x n), refusal.NoSuchWorker)) (workers_there w) in
     alike_more (no_such_worker (wire w) x) (names.no_such_worker w x) cs ds same
@@ -111,16 +132,30 @@ at_worker w x cs ds h =
 
 taken_by : (w : World) (x j : ℕ) (rest : List JobWire) → take_result x (job_wire w j ∷ rest) ≡ result_by w (take_outcome w x j)
 taken_by w x j rest =
-    ap₂ (λ n z. says (answer.JobTaken (number w.config.first ((w.part (w.job j).endpoint).filed_under (w.job j).group)) ((w.part (w.job j).endpoint).index (w.job j).group) n) (Move.Hand ∷ Move.Hold x z ∷ []))
+    ap₂ (λ n z. says
+    (answer.JobTaken (number w.config.first ((w.part (w.job j).endpoint).filed_under (w.job j).group))
+    ((w.part (w.job j).endpoint).index (w.job j).group) n) (Move.Hand ∷ Move.Hold x z ∷ []))
     (length-map (Labels.asks (w.part (w.job j).endpoint) (w.job j).group) (ask_wire (w.part (w.job j).endpoint)))
-    (ap (λ p. group_job w.config.first (w.job j).endpoint p (w.job j).group) (sym (put-same w.part (w.job j).endpoint (own (w.part (w.job j).endpoint) w.messages (Own.Hand (w.job j).group x)))))
+    (ap (λ p. group_job w.config.first (w.job j).endpoint p (w.job j).group)
+    (sym (put-same w.part (w.job j).endpoint (own (w.part (w.job j).endpoint) w.messages (Own.Hand (w.job j).group x)))))
 
 pub take_says : (w : World) (x : ℕ) → SaysAlike w (step.Take x)
 take_says w x =
     record {
-      alike = at_worker w x ((prelude.is_some (held_by (wire w) x), refusal.HandsFull) ∷ (length (wire w).jobs == 0, refusal.NoJob) ∷ []) ((is_some (w.hand x), refusal.HandsFull) ∷ (not (any_below w.jobs (Labels.is_queued_job w)), refusal.NoJob) ∷ [])
-          (λ l. alike_same ((prelude.is_some (held_by (wire w) x), refusal.HandsFull) ∷ (length (wire w).jobs == 0, refusal.NoJob) ∷ []) ((is_some (w.hand x), refusal.HandsFull) ∷ (not (any_below w.jobs (Labels.is_queued_job w)), refusal.NoJob) ∷ [])
-          (λ k. ((ap prelude.is_some (held_there w x l) ∙ seen_some (job_wire w) (w.hand x)) k, refusal.HandsFull) ∷ ((ap (λ n. n == 0) (length_seen (job_wire w) w.jobs (Labels.is_queued_job w)) ∙ count_is_none w.jobs (Labels.is_queued_job w)) k, refusal.NoJob) ∷ []));
+      alike =
+          at_worker w x ((prelude.is_some (held_by (wire w) x), refusal.HandsFull) ∷ (length (wire w).jobs == 0, refusal.NoJob) ∷ [])
+          ((is_some (w.hand x), refusal.HandsFull) ∷ (not (any_below w.jobs (Labels.is_queued_job w)), refusal.NoJob) ∷ [])
+          (λ l. alike_same ((prelude.is_some (held_by (wire w) x), refusal.HandsFull) ∷ (length (wire w).jobs == 0, refusal.NoJob) ∷ [])
+          ((is_some (w.hand x), refusal.HandsFull) ∷ (not (any_below w.jobs (Labels.is_queued_job w)), refusal.NoJob) ∷ [])
+          (λ k. (
+            (ap prelude.is_some (held_there w x l)
+                ∙ seen_some (job_wire w) (w.hand x)) k,
+            refusal.HandsFull,
+          ) ∷ (
+            (ap (λ n. n == 0) (length_seen (job_wire w) w.jobs (Labels.is_queued_job w))
+                ∙ count_is_none w.jobs (Labels.is_queued_job w)) k,
+            refusal.NoJob,
+          ) ∷ []));
       result = λ k.
           let some = some_picked (job_wire w) w.jobs (Labels.is_queued_job w) (not_true (any_below w.jobs (Labels.is_queued_job w)) k.1.1.0) in
           ap (take_result x) some.1 ∙ taken_by w x (lowest w.jobs (Labels.is_queued_job w)) some.0;

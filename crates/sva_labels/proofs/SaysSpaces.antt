@@ -41,7 +41,9 @@ space_says w =
     }
 
 -- a space that isn't there is refused first
-pub in_space : (w : World) (n : ℕ) (cs ds : List Cause) → (Labels.is_space w n ≡ true → IsAlike cs ds) → IsAlike (no_such_space (wire w) n ∷ cs) ((not (Labels.is_space w n), refusal.NoSuchSpace) ∷ ds)
+pub in_space :
+    (w : World) (n : ℕ) (cs ds : List Cause) → (Labels.is_space w n ≡ true → IsAlike cs ds)
+    → IsAlike (no_such_space (wire w) n ∷ cs) ((not (Labels.is_space w n), refusal.NoSuchSpace) ∷ ds)
 in_space w n cs ds h =
     alike_more (no_such_space (wire w) n) (not (Labels.is_space w n), refusal.NoSuchSpace) cs ds
     (ap (λ b. (not b, refusal.NoSuchSpace)) (space_there w n))
@@ -50,11 +52,23 @@ in_space w n cs ds h =
 map_alike : (w : World) (n q : ℕ) (x : Bool) → Invariant w → IsAlike (causes_of (wire w) (step.Map n q x)) (refusals w (step.Map n q x))
 map_alike w n q x i =
     in_space w n (map_causes (wire w) (pages_in (wire w) n) q)
-    (page_range q 1 ∷ (Labels.is_mapped w (Labels.name w n) q, refusal.Mapped) ∷ (nat_le 1024 (Labels.pages_of w (Labels.name w n)), refusal.SpaceFull) ∷ (Labels.lowest_frame w == w.config.frames, refusal.NoFrame) ∷ [])
+    (page_range q 1 ∷ (Labels.is_mapped w (Labels.name w n) q, refusal.Mapped) ∷ (
+      nat_le 1024
+          (Labels.pages_of w (Labels.name w n)),
+      refusal.SpaceFull,
+    ) ∷ (Labels.lowest_frame w == w.config.frames, refusal.NoFrame) ∷ [])
     (λ e. alike_same (map_causes (wire w) (pages_in (wire w) n) q)
-    (page_range q 1 ∷ (Labels.is_mapped w (Labels.name w n) q, refusal.Mapped) ∷ (nat_le 1024 (Labels.pages_of w (Labels.name w n)), refusal.SpaceFull) ∷ (Labels.lowest_frame w == w.config.frames, refusal.NoFrame) ∷ [])
+    (page_range q 1 ∷ (Labels.is_mapped w (Labels.name w n) q, refusal.Mapped) ∷ (
+      nat_le 1024
+          (Labels.pages_of w (Labels.name w n)),
+      refusal.SpaceFull,
+    ) ∷ (Labels.lowest_frame w == w.config.frames, refusal.NoFrame) ∷ [])
     (ap (λ pages. map_causes (wire w) pages q) (pages_there w n e)
-    ∙ (λ k. page_range q 1 ∷ (mapped_there w (Labels.name w n) q i.mapped k, refusal.Mapped) ∷ (nat_le 1024 (pages_count w (Labels.name w n) k), refusal.SpaceFull) ∷ (lowest_there w k == places_length w k, refusal.NoFrame) ∷ [])))
+    ∙ (λ k. page_range q 1 ∷ (mapped_there w (Labels.name w n) q i.mapped k, refusal.Mapped) ∷ (
+      nat_le 1024
+          (pages_count w (Labels.name w n) k),
+      refusal.SpaceFull,
+    ) ∷ (lowest_there w k == places_length w k, refusal.NoFrame) ∷ [])))
 
 -- the number of a space that is there is that of its name
 pub space_number : (w : World) (n : ℕ) → Labels.is_space w n ≡ true → number w.config.first (Labels.name w n) ≡ n
@@ -69,13 +83,16 @@ map_says w n q x i =
       alike = map_alike w n q x i;
       result = λ k.
           ap (λ f. by_one (answer.Frame f) (Move.Map n q f x)) (lowest_there w)
-          ∙ ap (λ m. by_one (answer.Frame (Labels.lowest_frame w)) (Move.Map m q (Labels.lowest_frame w) x)) (sym (space_number w n (not_true (Labels.is_space w n) k.0)));
+          ∙ ap (λ m. by_one (answer.Frame (Labels.lowest_frame w)) (Move.Map m q (Labels.lowest_frame w) x))
+          (sym (space_number w n (not_true (Labels.is_space w n) k.0)));
     }
 
 look_seen : (w : World) (f : ℕ) → look_answer (place_wire_by w f (place w f)) ≡ look_said (place w f)
 look_seen w f = ap look_answer (place_seen w w.mappings f) ∙ go (w.mappings.latest f)
   where
-    by_answers : (b : Bool) (owed : ℕ → Owed) → look_answer (gone_seen b (withheld_wire w.config.first w.config.endpoints w.part (Gone owed))) ≡ look_said (place_of_gone b)
+    by_answers :
+        (b : Bool) (owed : ℕ → Owed)
+        → look_answer (gone_seen b (withheld_wire w.config.first w.config.endpoints w.part (Gone owed))) ≡ look_said (place_of_gone b)
     by_answers true owed = refl
     by_answers false owed = refl
 
@@ -100,7 +117,8 @@ pub drop_says : (w : World) (n : ℕ) → Invariant w → SaysAlike w (step.Drop
 drop_says w n i =
     record {
       alike = in_space w n ((is_bound (wire w) n, refusal.StillBound) ∷ []) ((Labels.is_bound w (Labels.name w n), refusal.StillBound) ∷ [])
-          (λ e. alike_same ((is_bound (wire w) n, refusal.StillBound) ∷ []) ((Labels.is_bound w (Labels.name w n), refusal.StillBound) ∷ []) (ap (λ b. (b, refusal.StillBound) ∷ []) (bound_there w n i (space_number w n e))));
+          (λ e. alike_same ((is_bound (wire w) n, refusal.StillBound) ∷ []) ((Labels.is_bound w (Labels.name w n), refusal.StillBound) ∷ [])
+          (ap (λ b. (b, refusal.StillBound) ∷ []) (bound_there w n i (space_number w n e))));
       result = λ k. ap (λ m. by_one answer.Gone (Move.DropSpace m)) (sym (space_number w n (not_true (Labels.is_space w n) k.0)));
     }
 
@@ -112,12 +130,18 @@ unmap_alike w n q count i =
     ∙ (λ k.
     (not (nat_le 1 count && nat_le count 48), refusal.BadCount)
     ∷ page_range q count
-    ∷ (not (all_same count (λ j. is_mapped (pages_wire w.mappings (Labels.name w n)) (q + j)) (λ j. Labels.is_mapped w (Labels.name w n) (q + j)) (λ j l. mapped_there w (Labels.name w n) (q + j) i.mapped) k), refusal.NotMapped)
+    ∷ (
+      not (all_same count (λ j. is_mapped (pages_wire w.mappings (Labels.name w n)) (q + j)) (λ j. Labels.is_mapped w (Labels.name w n) (q + j))
+          (λ j l. mapped_there w (Labels.name w n) (q + j) i.mapped) k),
+      refusal.NotMapped,
+    )
     ∷ (full_there w (Labels.name w n) (count + 1) i k, refusal.QueueFull)
     ∷ (lacks (wire w).next_cookie (needed_there w (Labels.name w n) i k), refusal.NumbersSpent)
     ∷ [])))
 
-pub unmap_says : (w : World) (n q count : ℕ) → Invariant w → ((e : ℕ) → HasFront w.cookies (w.part e)) → w.config.endpoints ≤ 8 → SaysAlike w (step.Unmap n q count)
+pub unmap_says :
+    (w : World) (n q count : ℕ) → Invariant w → ((e : ℕ) → HasFront w.cookies (w.part e)) → w.config.endpoints ≤ 8
+    → SaysAlike w (step.Unmap n q count)
 unmap_says w n q count i f most =
     record {
       alike = unmap_alike w n q count i;
@@ -126,7 +150,8 @@ unmap_says w n q count i f most =
           let num = space_number w n e in
           ap₂ (λ b fs. by_one (unmap_answer b fs) (Move.Unmap n q count 0)) (ap (waits (wire w)) (sym num) ∙ waits_there w (Labels.name w n) i f most)
           (ap (λ pages. frames_of pages q count) (pages_there w n e) ∙ frames_there w (Labels.name w n) q count i.mapped (not_true _ k.1.1.1.0))
-          ∙ ap (λ m. by_one (unmap_answer (any_below w.config.endpoints (acts.waits w (Labels.name w n))) (frames_at w (Labels.name w n) q count)) (Move.Unmap m q count 0)) (sym num);
+          ∙ ap (λ m. by_one (unmap_answer (any_below w.config.endpoints (acts.waits w (Labels.name w n))) (frames_at w (Labels.name w n) q count))
+          (Move.Unmap m q count 0)) (sym num);
     }
 
 range_alike : (w : World) (n q order : ℕ) → Invariant w → IsAlike (causes_of (wire w) (step.UnmapRange n q order)) (refusals w (step.UnmapRange n q order))
@@ -138,12 +163,18 @@ range_alike w n q order i =
     (nat_lt 9 order, refusal.BadOrder)
     ∷ page_range q (2 ^ order)
     ∷ (not (q % 2 ^ order == 0), refusal.NotAligned)
-    ∷ (not (any_same (2 ^ order) (λ j. is_mapped (pages_wire w.mappings (Labels.name w n)) (q + j)) (λ j. Labels.is_mapped w (Labels.name w n) (q + j)) (λ j l. mapped_there w (Labels.name w n) (q + j) i.mapped) k), refusal.NothingMapped)
+    ∷ (
+      not (any_same (2 ^ order) (λ j. is_mapped (pages_wire w.mappings (Labels.name w n)) (q + j))
+          (λ j. Labels.is_mapped w (Labels.name w n) (q + j)) (λ j l. mapped_there w (Labels.name w n) (q + j) i.mapped) k),
+      refusal.NothingMapped,
+    )
     ∷ (full_there w (Labels.name w n) 2 i k, refusal.QueueFull)
     ∷ (lacks (wire w).next_cookie (needed_there w (Labels.name w n) i k), refusal.NumbersSpent)
     ∷ [])))
 
-pub range_says : (w : World) (n q order : ℕ) → Invariant w → ((e : ℕ) → HasFront w.cookies (w.part e)) → w.config.endpoints ≤ 8 → SaysAlike w (step.UnmapRange n q order)
+pub range_says :
+    (w : World) (n q order : ℕ) → Invariant w → ((e : ℕ) → HasFront w.cookies (w.part e)) → w.config.endpoints ≤ 8
+    → SaysAlike w (step.UnmapRange n q order)
 range_says w n q order i f most =
     record {
       alike = range_alike w n q order i;
@@ -152,6 +183,9 @@ range_says w n q order i f most =
           let num = space_number w n e in
           ap₂ (λ b c. by_one (unmap_range_answer b c) (Move.Unmap n q 1 order)) (ap (waits (wire w)) (sym num) ∙ waits_there w (Labels.name w n) i f most)
           (ap (λ pages. count_below (2 ^ order) (λ j. is_mapped pages (q + j))) (pages_there w n e)
-          ∙ count_same (2 ^ order) (λ j. is_mapped (pages_wire w.mappings (Labels.name w n)) (q + j)) (λ j. Labels.is_mapped w (Labels.name w n) (q + j)) (λ j l. mapped_there w (Labels.name w n) (q + j) i.mapped))
-          ∙ ap (λ m. by_one (unmap_range_answer (any_below w.config.endpoints (acts.waits w (Labels.name w n))) (mapped_in w (Labels.name w n) q order)) (Move.Unmap m q 1 order)) (sym num);
+          ∙ count_same (2 ^ order) (λ j. is_mapped (pages_wire w.mappings (Labels.name w n)) (q + j))
+          (λ j. Labels.is_mapped w (Labels.name w n) (q + j)) (λ j l. mapped_there w (Labels.name w n) (q + j) i.mapped))
+          ∙ ap (λ m. by_one
+          (unmap_range_answer (any_below w.config.endpoints (acts.waits w (Labels.name w n))) (mapped_in w (Labels.name w n) q order))
+          (Move.Unmap m q 1 order)) (sym num);
     }

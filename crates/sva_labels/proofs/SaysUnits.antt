@@ -39,7 +39,9 @@ use Rattle.sva_labels.proofs.Lookups.{any_table, any_same, label_seen, no_label,
 use Rattle.sva_labels.proofs.SaysBindings.{reset_cause}
 
 -- an endpoint that isn't there is refused first
-pub at_endpoint : (w : World) (e : ℕ) (cs ds : List Cause) → (e < w.config.endpoints → IsAlike cs ds) → IsAlike (no_such_endpoint (wire w) e ∷ cs) (names.no_such_endpoint w e ∷ ds)
+pub at_endpoint :
+    (w : World) (e : ℕ) (cs ds : List Cause) → (e < w.config.endpoints → IsAlike cs ds)
+    → IsAlike (no_such_endpoint (wire w) e ∷ cs) (names.no_such_endpoint w e ∷ ds)
 at_endpoint w e cs ds h =
     alike_more (no_such_endpoint (wire w) e) (names.no_such_endpoint w e) cs ds (endpoint_cause w e)
     (λ k. h (is_less e w.config.endpoints (sym (ap (λ c. c.0) (endpoint_cause w e)) ∙ k)))
@@ -48,7 +50,8 @@ pub reset_says : (w : World) (e : ℕ) → SaysAlike w (step.Reset e)
 reset_says w e =
     record {
       alike = at_endpoint w e (resetting (wire w) e ∷ names.messages_spent w 1 ∷ []) (names.resetting w e ∷ names.messages_spent w 1 ∷ [])
-          (λ l. alike_same (resetting (wire w) e ∷ names.messages_spent w 1 ∷ []) (names.resetting w e ∷ names.messages_spent w 1 ∷ []) (ap (λ c. c ∷ names.messages_spent w 1 ∷ []) (reset_cause w e l)));
+          (λ l. alike_same (resetting (wire w) e ∷ names.messages_spent w 1 ∷ []) (names.resetting w e ∷ names.messages_spent w 1 ∷ [])
+          (ap (λ c. c ∷ names.messages_spent w 1 ∷ []) (reset_cause w e l)));
       result = λ k. refl;
     }
 
@@ -83,10 +86,16 @@ count_is_none n p = go (any_below n p) refl
 -- Pump.
 
 queue_none : (first : ℕ) (p : Part) → Labels.is_queue_empty p ≡ true → (unit_wire first p).queue ≡ []
-queue_none first p h = none_picked (λ k. descriptor first p (p.order k)) p.orders (λ k. is_queued (p.order_state k)) (not_false (any_below p.orders (λ k. is_queued (p.order_state k))) h)
+queue_none first p h =
+    none_picked (λ k. descriptor first p (p.order k)) p.orders (λ k. is_queued (p.order_state k))
+    (not_false (any_below p.orders (λ k. is_queued (p.order_state k))) h)
 
-queue_head : (first : ℕ) (p : Part) → Labels.is_queue_empty p ≡ false → (rest : List Descriptor) × ((unit_wire first p).queue ≡ descriptor first p (p.order (Labels.head p)) ∷ rest)
-queue_head first p h = some_picked (λ k. descriptor first p (p.order k)) p.orders (λ k. is_queued (p.order_state k)) (not_true (any_below p.orders (λ k. is_queued (p.order_state k))) h)
+queue_head :
+    (first : ℕ) (p : Part) → Labels.is_queue_empty p ≡ false
+    → (rest : List Descriptor) × ((unit_wire first p).queue ≡ descriptor first p (p.order (Labels.head p)) ∷ rest)
+queue_head first p h =
+    some_picked (λ k. descriptor first p (p.order k)) p.orders (λ k. is_queued (p.order_state k))
+    (not_true (any_below p.orders (λ k. is_queued (p.order_state k))) h)
 
 head_kind : (first : ℕ) (p : Part) (o : Order) (rest : List Descriptor) → is_invalidation (descriptor first p o ∷ rest) ≡ not (is_wait o)
 head_kind first p (RangeOf b r) rest = refl
@@ -100,21 +109,26 @@ some_label (Some a) = refl
 label_there : (first : ℕ) (p : Part) → prelude.is_some (lowest_label (unit_wire first p).busy) ≡ not (Labels.lowest_label 32 p.at_itag == 32)
 label_there first p =
     some_label (lowest_label (unit_wire first p).busy)
-    ∙ ap not (no_label 32 p.at_itag (λ t. option_map (λ k. busy_wire (p.order_state k)) (p.at_itag t)) (λ t. seen_none (λ k. busy_wire (p.order_state k)) (p.at_itag t)))
+    ∙ ap not
+    (no_label 32 p.at_itag (λ t. option_map (λ k. busy_wire (p.order_state k)) (p.at_itag t)) (λ t. seen_none (λ k. busy_wire (p.order_state k)) (p.at_itag t)))
 
 sends_there : (first : ℕ) (p : Part) → sends_invalidate (unit_wire first p) ≡ names.sends_invalidate p
 sends_there first p = go (Labels.is_queue_empty p) refl
   where
-    go : (b : Bool) → Labels.is_queue_empty p ≡ b → sends_invalidate (unit_wire first p) ≡ (not b && not (is_wait (p.order (Labels.head p))) && not (Labels.lowest_label 32 p.at_itag == 32))
+    go :
+        (b : Bool) → Labels.is_queue_empty p ≡ b
+        → sends_invalidate (unit_wire first p) ≡ (not b && not (is_wait (p.order (Labels.head p))) && not (Labels.lowest_label 32 p.at_itag == 32))
     go true h = ap (λ q. is_invalidation q && prelude.is_some (lowest_label (unit_wire first p).busy)) (queue_none first p h)
     go false h =
-        ap₂ (λ a b. a && b) (ap is_invalidation (queue_head first p h).1 ∙ head_kind first p (p.order (Labels.head p)) (queue_head first p h).0) (label_there first p)
+        ap₂ (λ a b. a && b) (ap is_invalidation (queue_head first p h).1 ∙ head_kind first p (p.order (Labels.head p)) (queue_head first p h).0)
+        (label_there first p)
 
 -- is an ITag busy?
 busy_there : (first m : ℕ) (p : Part) → Bounds m p → labels.Labels p → is_some_busy (unit_wire first p) ≡ Labels.is_some_busy p
 busy_there first m p bo la =
     any_table 32 (λ t. option_map (λ k. busy_wire (p.order_state k)) (p.at_itag t)) prelude.is_some
-    ∙ any_same 32 (λ t. prelude.is_some (option_map (λ k. busy_wire (p.order_state k)) (p.at_itag t))) (λ t. is_some (p.at_itag t)) (λ t l. seen_some (λ k. busy_wire (p.order_state k)) (p.at_itag t))
+    ∙ any_same 32 (λ t. prelude.is_some (option_map (λ k. busy_wire (p.order_state k)) (p.at_itag t))) (λ t. is_some (p.at_itag t))
+    (λ t l. seen_some (λ k. busy_wire (p.order_state k)) (p.at_itag t))
     ∙ both_ways (any_below 32 (λ t. is_some (p.at_itag t))) (Labels.is_some_busy p) forth back
   where
     made : (k : ℕ) → is_busy (p.order_state k) ≡ true → (p.orders ≤ k → p.order_state k ≡ Void) → k < p.orders
@@ -139,11 +153,18 @@ pub page_queue_empty_there : (p : Part) → (length (page_queue_wire p) == 0) �
 page_queue_empty_there p =
     ap (λ n. n == 0) (length_seen (λ k. page_request_wire p (p.arrival k)) p.arrivals (Labels.is_waiting p)) ∙ count_is_none p.arrivals (Labels.is_waiting p)
 
-pass_there : (w : World) (e : ℕ) (drain : Bool) → Invariant w → may_pass (part_wire w.config.first w.mappings (w.part e)) drain ≡ outcomes.may_pass (w.part e) drain
+pass_there :
+    (w : World) (e : ℕ) (drain : Bool) → Invariant w
+    → may_pass (part_wire w.config.first w.mappings (w.part e)) drain ≡ outcomes.may_pass (w.part e) drain
 pass_there w e drain i =
-    ap₂ (λ a b. not a && (not drain || b)) (busy_there w.config.first w.bindings (w.part e) (i.parts e).bounds (i.parts e).labels) (page_queue_empty_there (w.part e))
+    ap₂ (λ a b. not a && (not drain || b)) (busy_there w.config.first w.bindings (w.part e) (i.parts e).bounds (i.parts e).labels)
+    (page_queue_empty_there (w.part e))
 
-send_same : (w : World) (e pasid : ℕ) (extent : Extent) (z : ℕ) (b t : Bool) → b ≡ not t → (w.part e).pasid (binding_of ((w.part e).order (Labels.head (w.part e)))) ≡ pasid → extent_of ((w.part e).order (Labels.head (w.part e))) ≡ extent → send_result e pasid extent (if_found b z) ≡ result_by w (send_outcome e (Labels.head (w.part e)) z (not t))
+send_same :
+    (w : World) (e pasid : ℕ) (extent : Extent) (z : ℕ) (b t : Bool) → b ≡ not t
+    → (w.part e).pasid (binding_of ((w.part e).order (Labels.head (w.part e)))) ≡ pasid
+    → extent_of ((w.part e).order (Labels.head (w.part e))) ≡ extent
+    → send_result e pasid extent (if_found b z) ≡ result_by w (send_outcome e (Labels.head (w.part e)) z (not t))
 send_same w e pasid extent z true false h p x = ap₂ (λ a b. by_one (answer.Itag z) (Move.Send e z a b)) (sym p) (sym x)
 send_same w e pasid extent z false true h p x = refl
 send_same w e pasid extent z true true h p x = absurd (cc (h))
@@ -156,26 +177,44 @@ low_or_end n at = go (Labels.lowest_label n at) (lowest_cases n (λ t. not (is_s
     by_number z (inl e) = both_ways (nat_lt z n) (not (z == n)) (λ h. grind (arith, nat_tests)) (λ h. grind (arith, nat_tests))
     by_number z (inr l) = both_ways (nat_lt z n) (not (z == n)) (λ h. grind (arith, nat_tests)) (λ h. grind (arith, nat_tests))
 
-    go : (z : ℕ) → ((Labels.lowest_label n at ≡ n) × ((j : ℕ) → j < n → not (is_some (at j)) ≡ false)) ⊎ ((Labels.lowest_label n at < n) × (not (is_some (at (Labels.lowest_label n at))) ≡ true) × ((j : ℕ) → j < Labels.lowest_label n at → not (is_some (at j)) ≡ false)) → nat_lt (Labels.lowest_label n at) n ≡ not (Labels.lowest_label n at == n)
+    go :
+        (z : ℕ)
+        → ((Labels.lowest_label n at ≡ n) × ((j : ℕ) → j < n → not (is_some (at j)) ≡ false)) ⊎ ((Labels.lowest_label n at < n)
+        × (not (is_some (at (Labels.lowest_label n at))) ≡ true) × ((j : ℕ) → j < Labels.lowest_label n at → not (is_some (at j)) ≡ false))
+        → nat_lt (Labels.lowest_label n at) n ≡ not (Labels.lowest_label n at == n)
     go z (inl x) = by_number (Labels.lowest_label n at) (inl x.0)
     go z (inr x) = by_number (Labels.lowest_label n at) (inr x.0)
 
-sent_by : (w : World) (e pasid : ℕ) (extent : Extent) → (w.part e).pasid (binding_of ((w.part e).order (Labels.head (w.part e)))) ≡ pasid → extent_of ((w.part e).order (Labels.head (w.part e))) ≡ extent → send_result e pasid extent (lowest_label (unit_wire w.config.first (w.part e)).busy) ≡ result_by w (send_outcome e (Labels.head (w.part e)) (Labels.lowest_label 32 (w.part e).at_itag) (not (Labels.lowest_label 32 (w.part e).at_itag == 32)))
+sent_by :
+    (w : World) (e pasid : ℕ) (extent : Extent) → (w.part e).pasid (binding_of ((w.part e).order (Labels.head (w.part e)))) ≡ pasid
+    → extent_of ((w.part e).order (Labels.head (w.part e))) ≡ extent
+    → send_result e pasid extent (lowest_label (unit_wire w.config.first (w.part e)).busy)
+    ≡ result_by w (send_outcome e (Labels.head (w.part e)) (Labels.lowest_label 32 (w.part e).at_itag) (not (Labels.lowest_label 32 (w.part e).at_itag == 32)))
 sent_by w e pasid extent p x =
-    ap (send_result e pasid extent) (label_seen 32 (w.part e).at_itag (λ t. option_map (λ k. busy_wire ((w.part e).order_state k)) ((w.part e).at_itag t)) (λ t. seen_none (λ k. busy_wire ((w.part e).order_state k)) ((w.part e).at_itag t)))
-    ∙ send_same w e pasid extent (Labels.lowest_label 32 (w.part e).at_itag) (nat_lt (Labels.lowest_label 32 (w.part e).at_itag) 32) (Labels.lowest_label 32 (w.part e).at_itag == 32) (low_or_end 32 (w.part e).at_itag) p x
+    ap (send_result e pasid extent)
+    (label_seen 32 (w.part e).at_itag (λ t. option_map (λ k. busy_wire ((w.part e).order_state k)) ((w.part e).at_itag t))
+    (λ t. seen_none (λ k. busy_wire ((w.part e).order_state k)) ((w.part e).at_itag t)))
+    ∙ send_same w e pasid extent (Labels.lowest_label 32 (w.part e).at_itag) (nat_lt (Labels.lowest_label 32 (w.part e).at_itag) 32)
+    (Labels.lowest_label 32 (w.part e).at_itag == 32) (low_or_end 32 (w.part e).at_itag) p x
 
-passed_by : (w : World) (e c : ℕ) (drain : Bool) → (w.part e).order (Labels.head (w.part e)) ≡ Wait c drain → (b : Bool) → wait_result e (number w.config.first c) b ≡ result_by w (outcomes.wait_outcome e (Labels.head (w.part e)) b)
+passed_by :
+    (w : World) (e c : ℕ) (drain : Bool) → (w.part e).order (Labels.head (w.part e)) ≡ Wait c drain → (b : Bool)
+    → wait_result e (number w.config.first c) b ≡ result_by w (outcomes.wait_outcome e (Labels.head (w.part e)) b)
 passed_by w e c drain h true = ap (λ o. by_one answer.WaitDone (Move.Pass e (cookie_number w.config.first o))) (sym h)
 passed_by w e c drain h false = refl
 
-head_by : (w : World) (e : ℕ) → Invariant w → (o : Order) → (w.part e).order (Labels.head (w.part e)) ≡ o → (rest : List Descriptor) → pump_result (part_wire w.config.first w.mappings (w.part e)) e (descriptor w.config.first (w.part e) o ∷ rest) ≡ result_by w (head_outcome (w.part e) e (Labels.head (w.part e)) o)
+head_by :
+    (w : World) (e : ℕ) → Invariant w → (o : Order) → (w.part e).order (Labels.head (w.part e)) ≡ o → (rest : List Descriptor)
+    → pump_result (part_wire w.config.first w.mappings (w.part e)) e (descriptor w.config.first (w.part e) o ∷ rest)
+    ≡ result_by w (head_outcome (w.part e) e (Labels.head (w.part e)) o)
 head_by w e i (RangeOf b r) h rest = sent_by w e ((w.part e).pasid b) (Pages r) (ap (λ o. (w.part e).pasid (binding_of o)) h) (ap extent_of h)
 head_by w e i (PasidOf b) h rest = sent_by w e ((w.part e).pasid b) AllPages (ap (λ o. (w.part e).pasid (binding_of o)) h) (ap extent_of h)
 head_by w e i (Wait c drain) h rest =
     ap (wait_result e (number w.config.first c)) (pass_there w e drain i) ∙ passed_by w e c drain h (outcomes.may_pass (w.part e) drain)
 
-pumped_by : (w : World) (e : ℕ) → Invariant w → (b : Bool) → Labels.is_queue_empty (w.part e) ≡ b → pump_result (part_wire w.config.first w.mappings (w.part e)) e (unit_wire w.config.first (w.part e)).queue ≡ result_by w (pump_outcome (w.part e) e b)
+pumped_by :
+    (w : World) (e : ℕ) → Invariant w → (b : Bool) → Labels.is_queue_empty (w.part e) ≡ b
+    → pump_result (part_wire w.config.first w.mappings (w.part e)) e (unit_wire w.config.first (w.part e)).queue ≡ result_by w (pump_outcome (w.part e) e b)
 pumped_by w e i true h = ap (pump_result (part_wire w.config.first w.mappings (w.part e)) e) (queue_none w.config.first (w.part e) h)
 pumped_by w e i false h =
     let q = queue_head w.config.first (w.part e) h in
@@ -184,9 +223,17 @@ pumped_by w e i false h =
 pub pump_says : (w : World) (e : ℕ) → Invariant w → SaysAlike w (step.Pump e)
 pump_says w e i =
     record {
-      alike = at_endpoint w e (resetting (wire w) e ∷ (sends_invalidate (unit_of (wire w) e) && lacks (wire w).next_message 1, refusal.NumbersSpent) ∷ []) (names.resetting w e ∷ (names.sends_invalidate (w.part e) && Labels.lacks w w.messages 1, refusal.NumbersSpent) ∷ [])
-          (λ l. alike_same (resetting (wire w) e ∷ (sends_invalidate (unit_of (wire w) e) && lacks (wire w).next_message 1, refusal.NumbersSpent) ∷ []) (names.resetting w e ∷ (names.sends_invalidate (w.part e) && Labels.lacks w w.messages 1, refusal.NumbersSpent) ∷ [])
-          (λ k. reset_cause w e l k ∷ (((ap sends_invalidate (unit_seen w e l)) ∙ sends_there w.config.first (w.part e)) k && Labels.lacks w w.messages 1, refusal.NumbersSpent) ∷ []));
+      alike =
+          at_endpoint w e (resetting (wire w) e ∷ (sends_invalidate (unit_of (wire w) e) && lacks (wire w).next_message 1, refusal.NumbersSpent) ∷ [])
+          (names.resetting w e ∷ (names.sends_invalidate (w.part e) && Labels.lacks w w.messages 1, refusal.NumbersSpent) ∷ [])
+          (λ l. alike_same
+          (resetting (wire w) e ∷ (sends_invalidate (unit_of (wire w) e) && lacks (wire w).next_message 1, refusal.NumbersSpent) ∷ [])
+          (names.resetting w e ∷ (names.sends_invalidate (w.part e) && Labels.lacks w w.messages 1, refusal.NumbersSpent) ∷ [])
+          (λ k. reset_cause w e l k ∷ (
+            ((ap sends_invalidate (unit_seen w e l))
+                ∙ sends_there w.config.first (w.part e)) k && Labels.lacks w w.messages 1,
+            refusal.NumbersSpent,
+          ) ∷ []));
       result = λ k.
           let l = is_less e w.config.endpoints k.0 in
           ap₂ (λ p q. pump_result p e q) (part_seen w e l) (ap (λ u. u.queue) (unit_seen w e l)) ∙ pumped_by w e i (Labels.is_queue_empty (w.part e)) refl;

@@ -5,7 +5,9 @@ use Rattle.std.proofs.lemmas.List.{map-append, append-nil, append_assoc}
 use Rattle.sva_model.specs.Words.{select, tabulate}
 
 -- the numbers that pass, each seen; only those below n that pass matter
-pub select_seen : {B : Type 0} (n : ℕ) (p q : ℕ → Bool) (f g : ℕ → B) → ((k : ℕ) → k < n → p k ≡ q k) → ((k : ℕ) → k < n → q k ≡ true → f k ≡ g k) → map f (select n p) ≡ map g (select n q)
+pub select_seen :
+    {B : Type 0} (n : ℕ) (p q : ℕ → Bool) (f g : ℕ → B) → ((k : ℕ) → k < n → p k ≡ q k) → ((k : ℕ) → k < n → q k ≡ true → f k ≡ g k)
+    → map f (select n p) ≡ map g (select n q)
 unfolding select
 select_seen zero p q f g h k = refl
 select_seen (suc n) p q f g h k =
@@ -23,7 +25,9 @@ pub filter-append : {A : Type 0} (t : A → Bool) (xs ys : List A) → filter t 
 filter-append t [] ys = refl
 filter-append t (x ∷ xs) ys = go (t x) (filter-append t xs ys)
   where
-    go : (b : Bool) → filter t (xs ++ ys) ≡ filter t xs ++ filter t ys → cond b (x ∷ filter t (xs ++ ys)) (filter t (xs ++ ys)) ≡ cond b (x ∷ filter t xs) (filter t xs) ++ filter t ys
+    go :
+        (b : Bool) → filter t (xs ++ ys) ≡ filter t xs ++ filter t ys
+        → cond b (x ∷ filter t (xs ++ ys)) (filter t (xs ++ ys)) ≡ cond b (x ∷ filter t xs) (filter t xs) ++ filter t ys
     go true h = ap (λ zs. x ∷ zs) h
     go false h = h
 
@@ -43,7 +47,9 @@ select_filtered (suc n) p f t =
     last false c h = refl
 
 -- more numbers, all of which pass
-pub select_more : {B : Type 0} (n m : ℕ) (p : ℕ → Bool) (f : ℕ → B) → ((j : ℕ) → j < m → p (n + j) ≡ true) → map f (select (n + m) p) ≡ map f (select n p) ++ tabulate m (λ j. f (n + j))
+pub select_more :
+    {B : Type 0} (n m : ℕ) (p : ℕ → Bool) (f : ℕ → B) → ((j : ℕ) → j < m → p (n + j) ≡ true)
+    → map f (select (n + m) p) ≡ map f (select n p) ++ tabulate m (λ j. f (n + j))
 unfolding select tabulate
 select_more n zero p f h =
     let none : n + zero ≡ n = omega arith in

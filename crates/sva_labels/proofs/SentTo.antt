@@ -21,7 +21,9 @@ abbrev pub AreSentTo : World → Type 0
 AreSentTo w = (e c : ℕ) → is_some ((w.part e).message c) ≡ true → w.way c ≡ e
 
 -- a message that is in flight after an act was in flight before, or is one that the act sends
-message_from : (ms : Mappings) (g n : ℕ) (p : Part) (o : Own) → LegalOwn ms g p o → (c : ℕ) → is_some ((own p n o).message c) ≡ true → (is_some (p.message c) ≡ true) ⊎ ((n ≤ c) × (c < n + sends o))
+message_from :
+    (ms : Mappings) (g n : ℕ) (p : Part) (o : Own) → LegalOwn ms g p o → (c : ℕ) → is_some ((own p n o).message c) ≡ true
+    → (is_some (p.message c) ≡ true) ⊎ ((n ≤ c) × (c < n + sends o))
 message_from ms g n p o l c h = grind (arith, nat_tests)
 
 -- one that was in flight has a number that was given
@@ -49,7 +51,8 @@ at_sent w e o l i h x c k = go (ℕ_cases x e)
     go (inl same) = here (message_from w.mappings w.bindings w.messages (w.part e) o l c there) ∙ sym same
       where
         there : is_some ((own (w.part e) w.messages o).message c) ≡ true
-        there = subst (λ p. is_some (p.message c) ≡ true) (ap (put w.part e (own (w.part e) w.messages o)) same ∙ put-same w.part e (own (w.part e) w.messages o)) k
+        there =
+            subst (λ p. is_some (p.message c) ≡ true) (ap (put w.part e (own (w.part e) w.messages o)) same ∙ put-same w.part e (own (w.part e) w.messages o)) k
 
         here : (is_some ((w.part e).message c) ≡ true) ⊎ ((w.messages ≤ c) × (c < w.messages + sends o)) → put_range w.way w.messages (sends o) (λ j. e) c ≡ e
         here (inl old) = old_way w.way w.messages (sends o) e c (was_sent w.messages (w.part e) (i.parts e).resets c old) ∙ h e c old

@@ -48,15 +48,24 @@ none_set (None ∷ xs) zero h = h
 none_set (None ∷ xs) (suc i) h = none_set xs i h
 none_set (Some t ∷ xs) i h = absurd (cc (h))
 
-settled_place : (e : ℕ) (settle : Option TargetWire → Option TargetWire) (targets : List (Option TargetWire)) → settle None ≡ None → settled_at e settle (place_for targets) ≡ place_for (slice_set targets e (settle (slice_index_or targets e None)))
+settled_place :
+    (e : ℕ) (settle : Option TargetWire → Option TargetWire) (targets : List (Option TargetWire)) → settle None ≡ None
+    → settled_at e settle (place_for targets) ≡ place_for (slice_set targets e (settle (slice_index_or targets e None)))
 settled_place e settle targets h = go (list_all is_none targets) refl
   where
-    go : (b : Bool) → list_all is_none targets ≡ b → settled_at e settle (if b then FreeWire else WithheldWire targets) ≡ place_for (slice_set targets e (settle (slice_index_or targets e None)))
+    go :
+        (b : Bool) → list_all is_none targets ≡ b
+        → settled_at e settle (if b then FreeWire else WithheldWire targets) ≡ place_for (slice_set targets e (settle (slice_index_or targets e None)))
     go false k = refl
     go true k =
-        sym (ap (λ b. if b then FreeWire else WithheldWire (slice_set targets e (settle (slice_index_or targets e None)))) (ap (λ t. list_all is_none (slice_set targets e t)) (ap settle (none_at targets e k) ∙ h) ∙ none_set targets e k))
+        sym (ap (λ b. if b then FreeWire else WithheldWire (slice_set targets e (settle (slice_index_or targets e None))))
+        (ap (λ t. list_all is_none (slice_set targets e t)) (ap settle (none_at targets e k) ∙ h) ∙ none_set targets e k))
 
-settled_seen : (w : World) (e : ℕ) (o : Own) (settle : Option TargetWire → Option TargetWire) (owed : ℕ → Owed) → settle None ≡ None → e < w.config.endpoints → w.config.endpoints ≤ 8 → target_wire w.config.first (own (w.part e) w.messages o) (owed e) ≡ settle (target_wire w.config.first (w.part e) (owed e)) → seen_by (act w (At e o)) (Gone owed) ≡ settled_at e settle (seen_by w (Gone owed))
+settled_seen :
+    (w : World) (e : ℕ) (o : Own) (settle : Option TargetWire → Option TargetWire) (owed : ℕ → Owed) → settle None ≡ None
+    → e < w.config.endpoints → w.config.endpoints ≤ 8
+    → target_wire w.config.first (own (w.part e) w.messages o) (owed e) ≡ settle (target_wire w.config.first (w.part e) (owed e))
+    → seen_by (act w (At e o)) (Gone owed) ≡ settled_at e settle (seen_by w (Gone owed))
 settled_seen w e o settle owed none l low h =
     seen_targets (act w (At e o)) owed low
     ∙ ap place_for (tabulate_set 8 before after e (settle (before e)) here others)
@@ -80,9 +89,15 @@ settled_seen w e o settle owed none l low h =
         ∙ sym (ap (λ b. settle (if b then target_wire w.config.first (w.part e) (owed e) else None)) (less e w.config.endpoints l))
 
     others : (x : ℕ) → x ≢ e → after x ≡ before x
-    others x ne = ap (λ p. if nat_lt x w.config.endpoints then target_wire w.config.first p (owed x) else None) (put-other w.part e (own (w.part e) w.messages o) x ne)
+    others x ne =
+        ap (λ p. if nat_lt x w.config.endpoints then target_wire w.config.first p (owed x) else None) (put-other w.part e (own (w.part e) w.messages o) x ne)
 
-pub settled_places : (w : World) (e : ℕ) (o : Own) (settle : Option TargetWire → Option TargetWire) → settle None ≡ None → e < w.config.endpoints → w.config.endpoints ≤ 8 → ((m : ℕ) (owed : ℕ → Owed) → w.mappings.state m ≡ Gone owed → target_wire w.config.first (own (w.part e) w.messages o) (owed e) ≡ settle (target_wire w.config.first (w.part e) (owed e))) → places_wire (act w (At e o)) ≡ settled e settle (places_wire w)
+pub settled_places :
+    (w : World) (e : ℕ) (o : Own) (settle : Option TargetWire → Option TargetWire) → settle None ≡ None → e < w.config.endpoints
+    → w.config.endpoints ≤ 8
+    → ((m : ℕ) (owed : ℕ → Owed) → w.mappings.state m ≡ Gone owed → target_wire w.config.first (own (w.part e) w.messages o) (owed e)
+    ≡ settle (target_wire w.config.first (w.part e) (owed e)))
+    → places_wire (act w (At e o)) ≡ settled e settle (places_wire w)
 settled_places w e o settle none l low h =
     places_changed w (act w (At e o)) (settled_at e settle) refl refl refl refl
     (λ m owed gone. settled_seen w e o settle owed none l low (h m owed gone))
@@ -93,7 +108,9 @@ or_true : (a b : Bool) → a ≡ true → (a || b) ≡ true
 or_true a b h = grind arith
 
 -- the wait of another cookie
-other_cookie : (cookies first : ℕ) (p : Part) (x k : ℕ) → Fronts cookies p → x < p.orders → k < p.orders → is_wait (p.order x) ≡ true → is_wait (p.order k) ≡ true → x ≢ k → (cookie_number first (p.order x) == cookie_number first (p.order k)) ≡ false
+other_cookie :
+    (cookies first : ℕ) (p : Part) (x k : ℕ) → Fronts cookies p → x < p.orders → k < p.orders → is_wait (p.order x) ≡ true
+    → is_wait (p.order k) ≡ true → x ≢ k → (cookie_number first (p.order x) == cookie_number first (p.order k)) ≡ false
 other_cookie cookies first p x k f mx mk wx wk ne = go (p.order x) (p.order k) refl refl wx wk
   where
     differ : (c d : ℕ) → (x < k) ⊎ (k ≤ x) → (x < k → c < d) → (k < x → d < c) → first + c ≢ first + d
@@ -104,19 +121,26 @@ other_cookie cookies first p x k f mx mk wx wk ne = go (p.order x) (p.order k) r
     order a b = grind arith
 
     go : (a b : Order) → p.order x ≡ a → p.order k ≡ b → is_wait a ≡ true → is_wait b ≡ true → (cookie_number first a == cookie_number first b) ≡ false
-    go (Wait c y) (Wait d z) h i t u = is_other (first + c) (first + d) (differ c d (order x k) (λ l. f.rise x k c d y z l mk h i) (λ l. f.rise k x d c z y l mx i h))
+    go (Wait c y) (Wait d z) h i t u =
+        is_other (first + c) (first + d) (differ c d (order x k) (λ l. f.rise x k c d y z l mk h i) (λ l. f.rise k x d c z y l mx i h))
     go (Wait c y) (RangeOf b r) h i t u = absurd (cc (u))
     go (Wait c y) (PasidOf b) h i t u = absurd (cc (u))
     go (RangeOf b r) z h i t u = absurd (cc (t))
     go (PasidOf b) z h i t u = absurd (cc (t))
 
-pub pass_target : (ms : Mappings) (g n cookies first : ℕ) (p : Part) (k : ℕ) (v : Owed) → LegalOwn ms g p (Own.Pass k) → Bounds g p → SentOnly p → Fronts cookies p → FitsDebt p v → FitsDebt (own p n (Own.Pass k)) v → target_wire first (own p n (Own.Pass k)) v ≡ settled_cookie (cookie_number first (p.order k)) (target_wire first p v)
+pub pass_target :
+    (ms : Mappings) (g n cookies first : ℕ) (p : Part) (k : ℕ) (v : Owed) → LegalOwn ms g p (Own.Pass k) → Bounds g p → SentOnly p
+    → Fronts cookies p → FitsDebt p v → FitsDebt (own p n (Own.Pass k)) v
+    → target_wire first (own p n (Own.Pass k)) v ≡ settled_cookie (cookie_number first (p.order k)) (target_wire first p v)
 pass_target ms g n cookies first p k v l bo sent f before after = go (answered p v) refl
   where
     made : k < p.orders
     made = grind (arith, l.1, bo.order_state k)
 
-    by_cookie : (x : ℕ) (b : Bool) → (cookie_number first (p.order x) == cookie_number first (p.order k)) ≡ b → settled_cookie (cookie_number first (p.order k)) (Some (Cookie (cookie_number first (p.order x)))) ≡ (if b then None else Some (Cookie (cookie_number first (p.order x))))
+    by_cookie :
+        (x : ℕ) (b : Bool) → (cookie_number first (p.order x) == cookie_number first (p.order k)) ≡ b
+        → settled_cookie (cookie_number first (p.order k)) (Some (Cookie (cookie_number first (p.order x))))
+        ≡ (if b then None else Some (Cookie (cookie_number first (p.order x))))
     by_cookie x b h = ap (λ z. if z then None else Some (Cookie (cookie_number first (p.order x)))) h
 
     now_done : (x : ℕ) → x ≡ k → (own p n (Own.Pass k)).order_state x ≡ Done
@@ -125,15 +149,22 @@ pass_target ms g n cookies first p k v l bo sent f before after = go (answered p
     not_yet : (x : ℕ) → x ≢ k → p.order_state x ≢ Done → (own p n (Own.Pass k)).order_state x ≢ Done
     not_yet x ne nd h = nd (sym (put-other p.order_state k Done x ne) ∙ h)
 
-    silent : (v : Owed) → FitsDebt p v → FitsDebt (own p n (Own.Pass k)) v → answered p v ≡ false → target_wire first (own p n (Own.Pass k)) v ≡ settled_cookie (cookie_number first (p.order k)) (Some (target_of first p v))
+    silent :
+        (v : Owed) → FitsDebt p v → FitsDebt (own p n (Own.Pass k)) v → answered p v ≡ false
+        → target_wire first (own p n (Own.Pass k)) v ≡ settled_cookie (cookie_number first (p.order k)) (Some (target_of first p v))
     silent Nothing d a h = absurd (cc (h))
     silent (Ranges range count resets) d a h = which (ℕ_cases (range + count) k) (ranges_open p range count resets d.1 h)
       where
-        which : (range + count ≡ k) ⊎ (range + count ≢ k) → (resets ≡ p.resets) × (p.order_state (range + count) ≢ Done) → target_wire first (own p n (Own.Pass k)) (Ranges range count resets) ≡ settled_cookie (cookie_number first (p.order k)) (Some (Cookie (cookie_number first (p.order (range + count)))))
+        which :
+            (range + count ≡ k) ⊎ (range + count ≢ k) → (resets ≡ p.resets) × (p.order_state (range + count) ≢ Done)
+            → target_wire first (own p n (Own.Pass k)) (Ranges range count resets)
+            ≡ settled_cookie (cookie_number first (p.order k)) (Some (Cookie (cookie_number first (p.order (range + count)))))
         which (inl e) z =
             ap (λ b. if b then None else Some (Cookie (cookie_number first (p.order (range + count)))))
-            (or_true (all_below (suc count) (λ j. is_done ((own p n (Own.Pass k)).order_state (range + j)))) (nat_lt resets p.resets) (done_answers (own p n (Own.Pass k)) range count resets a.1 z.0 (now_done (range + count) e)))
-            ∙ sym (by_cookie (range + count) true (is_same (cookie_number first (p.order (range + count))) (cookie_number first (p.order k)) (ap (λ y. cookie_number first (p.order y)) e)))
+            (or_true (all_below (suc count) (λ j. is_done ((own p n (Own.Pass k)).order_state (range + j)))) (nat_lt resets p.resets)
+            (done_answers (own p n (Own.Pass k)) range count resets a.1 z.0 (now_done (range + count) e)))
+            ∙ sym (by_cookie (range + count) true
+            (is_same (cookie_number first (p.order (range + count))) (cookie_number first (p.order k)) (ap (λ y. cookie_number first (p.order y)) e)))
         which (inr ne) z =
             ap (λ b. if b then None else Some (Cookie (cookie_number first (p.order (range + count)))))
             (ranges_wait (own p n (Own.Pass k)) range count resets z.0 (not_yet (range + count) ne z.1))
@@ -141,10 +172,15 @@ pass_target ms g n cookies first p k v l bo sent f before after = go (answered p
     silent (Pasid j x resets true) d a h = absurd (d.2 refl (pasid_open p j x resets true d.1 h).0 l.0)
     silent (Pasid j x resets false) d a h = which (ℕ_cases x k) (pasid_open p j x resets false d.1 h)
       where
-        which : (x ≡ k) ⊎ (x ≢ k) → (resets ≡ p.resets) × (p.order_state x ≢ Done) → target_wire first (own p n (Own.Pass k)) (Pasid j x resets false) ≡ settled_cookie (cookie_number first (p.order k)) (Some (Cookie (cookie_number first (p.order x))))
+        which :
+            (x ≡ k) ⊎ (x ≢ k) → (resets ≡ p.resets) × (p.order_state x ≢ Done)
+            → target_wire first (own p n (Own.Pass k)) (Pasid j x resets false)
+            ≡ settled_cookie (cookie_number first (p.order k)) (Some (Cookie (cookie_number first (p.order x))))
         which (inl e) z =
             ap (λ b. if b then None else Some (Cookie (cookie_number first (p.order x))))
-            (or_true (is_done ((own p n (Own.Pass k)).order_state j) && is_done ((own p n (Own.Pass k)).order_state x)) (nat_lt resets p.resets) (both_done ((own p n (Own.Pass k)).order_state j) ((own p n (Own.Pass k)).order_state x) (a.1.done z.0 (now_done x e) j (omega arith) a.1.low) (now_done x e)))
+            (or_true (is_done ((own p n (Own.Pass k)).order_state j) && is_done ((own p n (Own.Pass k)).order_state x)) (nat_lt resets p.resets)
+            (both_done ((own p n (Own.Pass k)).order_state j) ((own p n (Own.Pass k)).order_state x)
+            (a.1.done z.0 (now_done x e) j (omega arith) a.1.low) (now_done x e)))
             ∙ sym (by_cookie x true (is_same (cookie_number first (p.order x)) (cookie_number first (p.order k)) (ap (λ y. cookie_number first (p.order y)) e)))
         which (inr ne) z =
             ap (λ b. if b then None else Some (Cookie (cookie_number first (p.order x))))
@@ -152,16 +188,22 @@ pass_target ms g n cookies first p k v l bo sent f before after = go (answered p
             ∙ sym (by_cookie x false (other_cookie cookies first p x k f d.1.made made d.1.is_a_wait l.2 ne))
     silent (AReset resets) d a h = ap (λ b. if b then None else Some ResetEnd) h
 
-    go : (b : Bool) → answered p v ≡ b → target_wire first (own p n (Own.Pass k)) v ≡ settled_cookie (cookie_number first (p.order k)) (if b then None else Some (target_of first p v))
+    go :
+        (b : Bool) → answered p v ≡ b
+        → target_wire first (own p n (Own.Pass k)) v ≡ settled_cookie (cookie_number first (p.order k)) (if b then None else Some (target_of first p v))
     go true h = ap (λ b. if b then None else Some (target_of first (own p n (Own.Pass k)) v)) (answered_own ms g n p (Own.Pass k) l sent bo v h)
     go false h = silent v before after h
 
-pub places_passed : (w : World) (e k : ℕ) → Legal w (At e (Own.Pass k)) → Invariant w → AllFronts w → AllDebts w → w.config.endpoints ≤ 8 → places_wire (act w (At e (Own.Pass k))) ≡ settled e (settled_cookie (cookie_number w.config.first ((w.part e).order k))) (places_wire w)
+pub places_passed :
+    (w : World) (e k : ℕ) → Legal w (At e (Own.Pass k)) → Invariant w → AllFronts w → AllDebts w → w.config.endpoints ≤ 8
+    → places_wire (act w (At e (Own.Pass k))) ≡ settled e (settled_cookie (cookie_number w.config.first ((w.part e).order k))) (places_wire w)
 places_passed w e k l i fronts debts low =
     settled_places w e (Own.Pass k) (settled_cookie (cookie_number w.config.first ((w.part e).order k))) refl l.0 low
     (λ m owed gone.
-    pass_target w.mappings w.bindings w.messages w.cookies w.config.first (w.part e) k (owed e) l.1.0 (i.parts e).bounds (i.parts e).labels.sent (fronts e) (debts m e owed gone)
-    (subst (λ p. FitsDebt p (owed e)) (put-same w.part e (own (w.part e) w.messages (Own.Pass k))) (act_debts w (At e (Own.Pass k)) l i fronts debts m e owed gone)))
+    pass_target w.mappings w.bindings w.messages w.cookies w.config.first (w.part e) k (owed e) l.1.0 (i.parts e).bounds (i.parts e).labels.sent
+    (fronts e) (debts m e owed gone)
+    (subst (λ p. FitsDebt p (owed e)) (put-same w.part e (own (w.part e) w.messages (Own.Pass k)))
+    (act_debts w (At e (Own.Pass k)) l i fronts debts m e owed gone)))
 
 -- A reset-done.
 
@@ -174,12 +216,17 @@ right_true a b h = grind arith
 reopen_answers : (n : ℕ) (p : Part) (c : ℕ) (v : Owed) → FitsDebt p v → answered (own p n (Own.Reopen c)) v ≡ true
 reopen_answers n p c Nothing d = refl
 reopen_answers n p c (Ranges range count resets) d =
-    right_true (all_below (suc count) (λ j. is_done ((own p n (Own.Reopen c)).order_state (range + j)))) (nat_lt resets (suc p.resets)) (later resets p.resets d.1.counted)
+    right_true (all_below (suc count) (λ j. is_done ((own p n (Own.Reopen c)).order_state (range + j)))) (nat_lt resets (suc p.resets))
+    (later resets p.resets d.1.counted)
 reopen_answers n p c (Pasid k x resets in_reset) d =
-    right_true (is_done ((own p n (Own.Reopen c)).order_state k) && is_done ((own p n (Own.Reopen c)).order_state x)) (nat_lt resets (suc p.resets)) (later resets p.resets d.1.counted)
+    right_true (is_done ((own p n (Own.Reopen c)).order_state k) && is_done ((own p n (Own.Reopen c)).order_state x)) (nat_lt resets (suc p.resets))
+    (later resets p.resets d.1.counted)
 reopen_answers n p c (AReset resets) d = later resets p.resets d.0
 
-pub places_reopened : (w : World) (e c : ℕ) → Legal w (At e (Own.Reopen c)) → Invariant w → AllDebts w → w.config.endpoints ≤ 8 → places_wire (act w (At e (Own.Reopen c))) ≡ settled e (λ target. None) (places_wire w)
+pub places_reopened :
+    (w : World) (e c : ℕ) → Legal w (At e (Own.Reopen c)) → Invariant w → AllDebts w → w.config.endpoints ≤ 8
+    → places_wire (act w (At e (Own.Reopen c))) ≡ settled e (λ target. None) (places_wire w)
 places_reopened w e c l i debts low =
     settled_places w e (Own.Reopen c) (λ target. None) refl l.0 low
-    (λ m owed gone. ap (λ b. if b then None else Some (target_of w.config.first (own (w.part e) w.messages (Own.Reopen c)) (owed e))) (reopen_answers w.messages (w.part e) c (owed e) (debts m e owed gone)))
+    (λ m owed gone. ap (λ b. if b then None else Some (target_of w.config.first (own (w.part e) w.messages (Own.Reopen c)) (owed e)))
+    (reopen_answers w.messages (w.part e) c (owed e) (debts m e owed gone)))

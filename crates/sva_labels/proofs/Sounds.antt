@@ -1,6 +1,6 @@
 -- What a host keeps is as the calls of the parts need it.
-use Rattle.std.proofs.Common.{◌≡◌, ap, sym, subst, ℕ, ◌+◌, ◌<◌, ◌≤◌, arith}
-use Rattle.std.specs.Prelude.{length, List}
+use Rattle.std.proofs.Common.{◌∙◌, ◌≡◌, ap, sym, subst, ℕ, ◌+◌, ◌<◌, ◌≤◌, arith}
+use Rattle.std.specs.Prelude.{slice_get, length, List}
 use Rattle.sva_step.specs.declared.limits.Config.{Config}
 use Rattle.sva_step.specs.declared.steps.Step.{Step}
 use Rattle.sva_model.specs.State.{World}
@@ -13,14 +13,23 @@ use Rattle.sva_laws.proofs.Runs.{always}
 use Rattle.sva_laws.proofs.Invariant.{Invariant}
 use Rattle.sva_laws.proofs.Fronts.{AllFronts, always_fronts}
 use Rattle.sva_wire.proofs.Lists.{tabulate_length}
-use Rattle.sva_labels.specs.Sound.{IsSound}
+use Rattle.sva_labels.specs.Sound.{AreTables, IsSound}
 use Rattle.sva_labels.proofs.Bound.{binding_seen}
-use Rattle.sva_labels.proofs.EndpointViews.{endpoints_seen, unit_seen}
+use Rattle.sva_labels.proofs.EndpointViews.{endpoints_seen, device_seen, unit_seen}
+use Rattle.sva_labels.proofs.EndpointFaults.{outstanding_seen}
+use Rattle.sva_labels.proofs.SoundCache.{cache_rising}
+use Rattle.sva_labels.proofs.SoundTables.{always_cached, cache_short}
 use Rattle.sva_labels.proofs.SoundLists.{seen_get, seen_rises}
 use Rattle.sva_labels.proofs.SoundNumbers.{HasNumbers, always_numbers}
 use Rattle.sva_labels.proofs.SoundQueues.{always_short, queue_short, ends_rise, end_within}
 use Rattle.sva_laws.proofs.Debts.{AllDebts, always_debts}
 use Rattle.sva_labels.proofs.SoundWaits.{awaited_stands, invalidating_stands}
+use Rattle.sva_laws.proofs.Carried.{always_carried}
+use Rattle.sva_laws.proofs.Limits.{always_outstanding}
+use Rattle.sva_laws.proofs.OnTheWay.{always_on_the_way}
+use Rattle.sva_labels.proofs.HostGroupsFiled.{always_filings}
+use Rattle.sva_labels.proofs.SoundRequests.{always_once}
+use Rattle.sva_labels.proofs.SoundFlights.{flying_at, flight_near, flight_suited, waiting_found, filing_placed}
 use Rattle.sva_labels.proofs.SoundPasids.{kept_at, pasid_low, pasids_shared, endpoint_low, one_each}
 
 -- a number is in the order of its name
@@ -65,6 +74,31 @@ always_sound config steps fits =
       endpoint_low = λ k b h. endpoint_low w invariant k b (kept_at w k b h);
       awaited_queued = λ e f c x l o h t. awaited_stands w fronts debts few_endpoints e f c x (there e l) o h t;
       invalidating_queued = λ k c b h st o d. invalidating_stands w invariant fronts k c b (kept_at w k b h) st o d;
+      flight_endpoint = λ k f h. flight_near w invariant k f (flying_at w k f h);
+      flight_suits = λ k f h. flight_suited w invariant (always_carried PerSpace config steps) (always_outstanding PerSpace config steps) k f (flying_at w k f h);
+      waiting_borne = λ e k r l h. waiting_found w invariant e k r (there e l) h;
+      filing_fits =
+          λ e k r b l h f.
+          filing_placed w invariant (always_on_the_way PerSpace config steps) (always_filings PerSpace config steps) (always_once PerSpace config steps) (always_outstanding PerSpace config steps)
+          e k r b (there e l) h f;
+      tables =
+          λ e l.
+          subst AreTables (sym (device_seen w e (there e l)))
+          (record {
+            pasids = tabulate_length 32 _;
+            tags = tabulate_length 32 _;
+            slots = tabulate_length 16 _;
+            taken = tabulate_length 32 _;
+            groups = tabulate_length 32 _;
+          });
+      busy_size = λ e l. ap (λ u. length u.busy) (unit_seen w e (there e l)) ∙ tabulate_length 32 _;
+      few_outstanding = λ e l. subst (λ n. n ≤ 32) (sym (outstanding_seen w e invariant (there e l))) (always_outstanding PerSpace config steps e);
+      cache_fits = λ e l. subst (λ d. length d.cache ≤ 64) (sym (device_seen w e (there e l))) (cache_short w.mappings (w.part e) (always_cached PerSpace config steps e));
+      cache_rises =
+          λ e j k x y l o h m.
+          cache_rising w.mappings w.config.endpoints w.bindings w.messages e (w.part e) (invariant.parts e) j k x y o
+          (sym (ap (λ d. slice_get d.cache j) (device_seen w e (there e l))) ∙ h)
+          (sym (ap (λ d. slice_get d.cache k) (device_seen w e (there e l))) ∙ m);
       one_each = λ j k b d h i. one_each w invariant j k b d (kept_at w j b h) (kept_at w k d i);
     }
   where

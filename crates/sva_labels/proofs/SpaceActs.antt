@@ -29,7 +29,10 @@ use Rattle.sva_labels.proofs.PlacesOut.{places_out}
 abbrev pub SameDevices : World → Mappings → Type 0
 SameDevices w ms = (e : ℕ) → e < w.config.endpoints → device_wire ms (w.part e) ≡ device_wire w.mappings (w.part e)
 
-parts_same : (w : World) (ms : Mappings) → SameDevices w ms → tabulate w.config.endpoints (λ e. part_wire w.config.first ms (w.part e)) ≡ tabulate w.config.endpoints (λ e. part_wire w.config.first w.mappings (w.part e))
+parts_same :
+    (w : World) (ms : Mappings) → SameDevices w ms
+    → tabulate w.config.endpoints (λ e. part_wire w.config.first ms (w.part e))
+    ≡ tabulate w.config.endpoints (λ e. part_wire w.config.first w.mappings (w.part e))
 parts_same w ms h =
     tabulate_same w.config.endpoints (λ e. part_wire w.config.first ms (w.part e)) (λ e. part_wire w.config.first w.mappings (w.part e))
     (λ e l i. record (part_wire w.config.first w.mappings (w.part e)) { device = h e l i })
@@ -88,7 +91,9 @@ all_kept (x ∷ xs) = ap (λ z. x ∷ z) (all_kept xs)
 pub drop_space : (w : World) (s : ℕ) → Invariant w → wire (act w (DropSpace s)) ≡ moved (wire w) (act_move w (DropSpace s))
 drop_space w s i =
     let v = act w (DropSpace s) in
-    let spaces = without_space_is w.config.first s w.spaces w.is_live (pages_wire w.mappings) (pages_wire v.mappings) (λ t ne. other_space w s (λ q. true) (λ e. Nothing) t (λ e. ne (sym e))) in
+    let spaces =
+    without_space_is w.config.first s w.spaces w.is_live (pages_wire w.mappings) (pages_wire v.mappings)
+    (λ t ne. other_space w s (λ q. true) (λ e. Nothing) t (λ e. ne (sym e))) in
     let parts = parts_same w v.mappings (λ e l. device_without w.mappings s (λ q. true) (λ e. Nothing) (w.part e)) in
     λ k. record (wire w) { spaces = spaces k; places = places k; parts = parts k }
   where

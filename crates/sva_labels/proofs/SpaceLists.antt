@@ -22,13 +22,19 @@ same_number first a b = go (ℕ_cases a b)
         is_other (first + a) (first + b) other ∙ sym (is_other a b ne)
 
 -- the pages of a number are those of its space
-pub pages_among : (first : ℕ) (pages : ℕ → List PageWire) (ss : List ℕ) (s : ℕ) → pages_of (map (space_by first pages) ss) (first + s) ≡ (if list_any (λ t. t == s) ss then Some (pages s) else None)
+pub pages_among :
+    (first : ℕ) (pages : ℕ → List PageWire) (ss : List ℕ) (s : ℕ)
+    → pages_of (map (space_by first pages) ss) (first + s) ≡ (if list_any (λ t. t == s) ss then Some (pages s) else None)
 pages_among first pages [] s = refl
 pages_among first pages (t ∷ ss) s =
     ap (λ b. if b then Some (pages t) else pages_of (map (space_by first pages) ss) (first + s)) (same_number first t s)
     ∙ go (t == s) refl (pages_among first pages ss s)
   where
-    go : (b : Bool) → (t == s) ≡ b → pages_of (map (space_by first pages) ss) (first + s) ≡ (if list_any (λ t. t == s) ss then Some (pages s) else None) → (if b then Some (pages t) else pages_of (map (space_by first pages) ss) (first + s)) ≡ (if b || list_any (λ t. t == s) ss then Some (pages s) else None)
+    go :
+        (b : Bool) → (t == s) ≡ b
+        → pages_of (map (space_by first pages) ss) (first + s) ≡ (if list_any (λ t. t == s) ss then Some (pages s) else None)
+        → (if b then Some (pages t) else pages_of (map (space_by first pages) ss) (first + s))
+        ≡ (if b || list_any (λ t. t == s) ss then Some (pages s) else None)
     go true e rest = ap (λ z. Some (pages z)) (same_is t s e)
     go false e rest = rest
 
@@ -95,7 +101,10 @@ among_those (suc n) p s =
     go (inr ne) = there true (p s) (p n) (below ne) (is_other n s ne)
 
 -- other pages in the space of a number
-pub with_pages_is : (first s : ℕ) (pages others : ℕ → List PageWire) (change : List PageWire → List PageWire) (ss : List ℕ) → ((t : ℕ) → others t ≡ (if s == t then change (pages t) else pages t)) → map (space_by first others) ss ≡ with_pages (map (space_by first pages) ss) (first + s) change
+pub with_pages_is :
+    (first s : ℕ) (pages others : ℕ → List PageWire) (change : List PageWire → List PageWire) (ss : List ℕ)
+    → ((t : ℕ) → others t ≡ (if s == t then change (pages t) else pages t))
+    → map (space_by first others) ss ≡ with_pages (map (space_by first pages) ss) (first + s) change
 with_pages_is first s pages others change [] h = refl
 with_pages_is first s pages others change (t ∷ ss) h =
     ap₂ (λ x xs. x ∷ xs)
@@ -109,7 +118,10 @@ with_pages_is first s pages others change (t ∷ ss) h =
         by (inl e) = is_same s t e ∙ sym (is_same t s (sym e))
         by (inr ne) = is_other s t ne ∙ sym (is_other t s (λ e. ne (sym e)))
 
-    go : (a b : Bool) → a ≡ b → space_by first (λ k. if a then change (pages t) else pages t) t ≡ (if b then record (space_by first pages t) { pages = change (pages t) } else space_by first pages t)
+    go :
+        (a b : Bool) → a ≡ b
+        → space_by first (λ k. if a then change (pages t) else pages t) t
+        ≡ (if b then record (space_by first pages t) { pages = change (pages t) } else space_by first pages t)
     go true true e = refl
     go false false e = refl
     go true false e = absurd (cc (e))
@@ -117,13 +129,18 @@ with_pages_is first s pages others change (t ∷ ss) h =
 
 -- The spaces without one.
 
-without_is : (first s : ℕ) (pages : ℕ → List PageWire) (ss : List ℕ) → without_space (first + s) (map (space_by first pages) ss) ≡ map (space_by first pages) (filter (λ t. not (t == s)) ss)
+without_is :
+    (first s : ℕ) (pages : ℕ → List PageWire) (ss : List ℕ)
+    → without_space (first + s) (map (space_by first pages) ss) ≡ map (space_by first pages) (filter (λ t. not (t == s)) ss)
 without_is first s pages [] = refl
 without_is first s pages (t ∷ ss) =
     ap₂ (λ b xs. if not b then space_by first pages t ∷ xs else xs) (same_number first t s) (without_is first s pages ss)
     ∙ go (t == s)
   where
-    go : (b : Bool) → (if not b then space_by first pages t ∷ map (space_by first pages) (filter (λ t. not (t == s)) ss) else map (space_by first pages) (filter (λ t. not (t == s)) ss)) ≡ map (space_by first pages) (if not b then t ∷ filter (λ t. not (t == s)) ss else filter (λ t. not (t == s)) ss)
+    go :
+        (b : Bool)
+        → (if not b then space_by first pages t ∷ map (space_by first pages) (filter (λ t. not (t == s)) ss) else map (space_by first pages)
+        (filter (λ t. not (t == s)) ss)) ≡ map (space_by first pages) (if not b then t ∷ filter (λ t. not (t == s)) ss else filter (λ t. not (t == s)) ss)
     go true = refl
     go false = refl
 
@@ -131,7 +148,9 @@ pub filter_append : {A : Type 0} (p : A → Bool) (xs ys : List A) → filter p 
 filter_append p [] ys = refl
 filter_append p (x ∷ xs) ys = go (p x) (filter_append p xs ys)
   where
-    go : (b : Bool) → filter p (xs ++ ys) ≡ filter p xs ++ filter p ys → (if b then x ∷ filter p (xs ++ ys) else filter p (xs ++ ys)) ≡ (if b then x ∷ filter p xs else filter p xs) ++ filter p ys
+    go :
+        (b : Bool) → filter p (xs ++ ys) ≡ filter p xs ++ filter p ys
+        → (if b then x ∷ filter p (xs ++ ys) else filter p (xs ++ ys)) ≡ (if b then x ∷ filter p xs else filter p xs) ++ filter p ys
     go true h = ap (λ z. x ∷ z) h
     go false h = h
 
@@ -157,11 +176,17 @@ select_without (suc n) p s =
     go (inr ne) = ap (λ b. if b then n ∷ [] else []) (put-other p s false n ne) ∙ stays (p n) (is_other n s ne)
 
 -- spaces whose pages are the same, but for one that isn't there
-same_but : (first s : ℕ) (pages others : ℕ → List PageWire) (ss : List ℕ) → ((t : ℕ) → t ≢ s → others t ≡ pages t) → map (space_by first others) (filter (λ t. not (t == s)) ss) ≡ map (space_by first pages) (filter (λ t. not (t == s)) ss)
+same_but :
+    (first s : ℕ) (pages others : ℕ → List PageWire) (ss : List ℕ) → ((t : ℕ) → t ≢ s → others t ≡ pages t)
+    → map (space_by first others) (filter (λ t. not (t == s)) ss) ≡ map (space_by first pages) (filter (λ t. not (t == s)) ss)
 same_but first s pages others [] h = refl
 same_but first s pages others (t ∷ ss) h = go (ℕ_cases t s) (same_but first s pages others ss h)
   where
-    go : (t ≡ s) ⊎ (t ≢ s) → map (space_by first others) (filter (λ t. not (t == s)) ss) ≡ map (space_by first pages) (filter (λ t. not (t == s)) ss) → map (space_by first others) (if not (t == s) then t ∷ filter (λ t. not (t == s)) ss else filter (λ t. not (t == s)) ss) ≡ map (space_by first pages) (if not (t == s) then t ∷ filter (λ t. not (t == s)) ss else filter (λ t. not (t == s)) ss)
+    go :
+        (t ≡ s) ⊎ (t ≢ s)
+        → map (space_by first others) (filter (λ t. not (t == s)) ss) ≡ map (space_by first pages) (filter (λ t. not (t == s)) ss)
+        → map (space_by first others) (if not (t == s) then t ∷ filter (λ t. not (t == s)) ss else filter (λ t. not (t == s)) ss)
+        ≡ map (space_by first pages) (if not (t == s) then t ∷ filter (λ t. not (t == s)) ss else filter (λ t. not (t == s)) ss)
     go (inl e) k =
         ap (λ b. map (space_by first others) (if not b then t ∷ filter (λ t. not (t == s)) ss else filter (λ t. not (t == s)) ss)) (is_same t s e)
         ∙ k
@@ -171,7 +196,9 @@ same_but first s pages others (t ∷ ss) h = go (ℕ_cases t s) (same_but first 
         ∙ ap₂ (λ x xs. x ∷ xs) (ap (λ z. space_by first (λ k. z) t) (h t ne)) k
         ∙ sym (ap (λ b. map (space_by first pages) (if not b then t ∷ filter (λ t. not (t == s)) ss else filter (λ t. not (t == s)) ss)) (is_other t s ne))
 
-pub without_space_is : (first s n : ℕ) (p : ℕ → Bool) (pages others : ℕ → List PageWire) → ((t : ℕ) → t ≢ s → others t ≡ pages t) → map (space_by first others) (select n (put p s false)) ≡ without_space (first + s) (map (space_by first pages) (select n p))
+pub without_space_is :
+    (first s n : ℕ) (p : ℕ → Bool) (pages others : ℕ → List PageWire) → ((t : ℕ) → t ≢ s → others t ≡ pages t)
+    → map (space_by first others) (select n (put p s false)) ≡ without_space (first + s) (map (space_by first pages) (select n p))
 without_space_is first s n p pages others h =
     ap (map (space_by first others)) (select_without n p s)
     ∙ same_but first s pages others (select n p) h

@@ -44,7 +44,9 @@ pub files_open : (w : World) (e : ℕ) (o : Own) → InTurn w e o → FilesOpen 
 files_open w e (Own.File r) t = t
 files_open w e _ t = tt
 
-bindings_moved : (w : World) (e : ℕ) (o : Own) → Invariant w → LegalOwn w.mappings w.bindings (w.part e) o → SuitsWorld w e o → InTurn w e o → (wire (act w (At e o))).bindings ≡ (move_of w e o).bindings
+bindings_moved :
+    (w : World) (e : ℕ) (o : Own) → Invariant w → LegalOwn w.mappings w.bindings (w.part e) o → SuitsWorld w e o → InTurn w e o
+    → (wire (act w (At e o))).bindings ≡ (move_of w e o).bindings
 bindings_moved w e (Own.Bind b s t) i l k n = bindings_bound w e b s t i l n k.2
 bindings_moved w e (Own.Stop b) i l s t = bindings_stopped w e b i l
 bindings_moved w e (Own.Drain b cookie) i l s t =
@@ -57,29 +59,39 @@ bindings_moved w e (Own.Mark c b) i l s t = bindings_marked w e c b i l
 bindings_moved w e (Own.Reopen c) i l s t = bindings_cut w e c
 bindings_moved w e o i l s t = bindings_same w e o i (grind arith) ∙ sym (bindings_left (wire w) w.config.first e w.mappings (w.part e) o (grind arith))
 
-jobs_moved : (w : World) (e : ℕ) (o : Own) → Invariant w → HasTables w → LegalOwn w.mappings w.bindings (w.part e) o → InTurn w e o → (wire (act w (At e o))).jobs ≡ (move_of w e o).jobs
+jobs_moved :
+    (w : World) (e : ℕ) (o : Own) → Invariant w → HasTables w → LegalOwn w.mappings w.bindings (w.part e) o → InTurn w e o
+    → (wire (act w (At e o))).jobs ≡ (move_of w e o).jobs
 jobs_moved w e Own.Reset i h l t = jobs_dropped w e i (h.filed e)
 jobs_moved w e (Own.Hand g x) i h l t = jobs_handed w e g x t.0 i h.past (h.filed e) t.1
-jobs_moved w e o i h l t = jobs_same w e o i l h.past (h.filed e) (files_open w e o t) (grind arith) ∙ sym (jobs_left (wire w) w.config.first e w.mappings (w.part e) o (grind arith))
+jobs_moved w e o i h l t =
+    jobs_same w e o i l h.past (h.filed e) (files_open w e o t) (grind arith) ∙ sym (jobs_left (wire w) w.config.first e w.mappings (w.part e) o (grind arith))
 
 -- what is delivered was in flight there
 delivered_there : (ms : Mappings) (g : ℕ) (p : Part) (o : Own) (c : ℕ) → LegalOwn ms g p o → delivers o ≡ Some c → is_some (p.message c) ≡ true
 delivered_there ms g p o c l h = grind (arith)
 
-parts_after : (w : World) (e : ℕ) (o : Own) → (wire (act w (At e o))).parts ≡ slice_set (wire w).parts e (part_wire w.config.first w.mappings (part_after w e o))
+parts_after :
+    (w : World) (e : ℕ) (o : Own)
+    → (wire (act w (At e o))).parts ≡ slice_set (wire w).parts e (part_wire w.config.first w.mappings (part_after w e o))
 parts_after w e o =
-    tabulate_set w.config.endpoints (λ x. part_wire w.config.first w.mappings (w.part x)) (λ x. part_wire w.config.first w.mappings ((act w (At e o)).part x)) e (part_wire w.config.first w.mappings (part_after w e o))
+    tabulate_set w.config.endpoints (λ x. part_wire w.config.first w.mappings (w.part x))
+    (λ x. part_wire w.config.first w.mappings ((act w (At e o)).part x)) e (part_wire w.config.first w.mappings (part_after w e o))
     (ap (part_wire w.config.first w.mappings) (put-same w.part e (part_after w e o)))
     (λ x ne. ap (part_wire w.config.first w.mappings) (put-other w.part e (part_after w e o) x ne))
 
 -- the endpoint's part by its keepers
 abbrev pub PartMoves : World → (e : ℕ) → Own → Type 0
-PartMoves w e o = part_wire w.config.first w.mappings (part_after w e o) ≡ part_moved (number w.config.first w.cookies) (part_wire w.config.first w.mappings (w.part e)) (own_move w.config.first e w.mappings (w.part e) o)
+PartMoves w e o =
+    part_wire w.config.first w.mappings (part_after w e o)
+    ≡ part_moved (number w.config.first w.cookies) (part_wire w.config.first w.mappings (w.part e)) (own_move w.config.first e w.mappings (w.part e) o)
 
 abbrev pub PlacesMove : World → (e : ℕ) → Own → Type 0
 PlacesMove w e o = (wire (act w (At e o))).places ≡ (move_of w e o).places
 
-pub square : (w : World) (e : ℕ) (o : Own) → Invariant w → HasTables w → Legal w (At e o) → InTurn w e o → PartMoves w e o → PlacesMove w e o → wire (act w (At e o)) ≡ move_of w e o
+pub square :
+    (w : World) (e : ℕ) (o : Own) → Invariant w → HasTables w → Legal w (At e o) → InTurn w e o → PartMoves w e o → PlacesMove w e o
+    → wire (act w (At e o)) ≡ move_of w e o
 square w e o i h l t pm places =
     λ k.
     record {
@@ -99,7 +111,8 @@ square w e o i h l t pm places =
     parts : (wire (act w (At e o))).parts ≡ (move_of w e o).parts
     parts =
         parts_after w e o
-        ∙ ap (slice_set (wire w).parts e) (pm ∙ ap (λ p. part_moved (number w.config.first w.cookies) p (own_move w.config.first e w.mappings (w.part e) o)) (sym (part_seen w e l.0)))
+        ∙ ap (slice_set (wire w).parts e)
+        (pm ∙ ap (λ p. part_moved (number w.config.first w.cookies) p (own_move w.config.first e w.mappings (w.part e) o)) (sym (part_seen w e l.0)))
         ∙ sym (parts_left (wire w) w.config.first e w.mappings (w.part e) o)
 
     hands : (wire (act w (At e o))).hands ≡ (move_of w e o).hands

@@ -20,11 +20,16 @@ abbrev pub SendsFirst : Part → Own → Type 0
 SendsFirst p (Own.Send k t) = (j : ℕ) → j < k → p.order_state j ≢ Queued
 SendsFirst p _ = Unit {0}
 
-pub unit_acts : (ms : Mappings) (x g n e first cookies : ℕ) (p : Part) (o : Own) → LegalOwn ms g p o → HasCookie cookies o → SendsFirst p o → PartInvariant ms x g n e p → Owed n p → IsCarried ms p → unit_wire first (own p n o) ≡ unit_moved (number first cookies) (unit_wire first p) (own_move first e ms p o)
+pub unit_acts :
+    (ms : Mappings) (x g n e first cookies : ℕ) (p : Part) (o : Own) → LegalOwn ms g p o → HasCookie cookies o → SendsFirst p o
+    → PartInvariant ms x g n e p → Owed n p → IsCarried ms p
+    → unit_wire first (own p n o) ≡ unit_moved (number first cookies) (unit_wire first p) (own_move first e ms p o)
 unit_acts ms x g n e first cookies p (Own.Bind b s t) l c f i ow ca = unit_bind ms g first n (number first cookies) e p b s t l i.orders
 unit_acts ms x g n e first cookies p (Own.Stop b) l c f i ow ca = refl
-unit_acts ms x g n e first cookies p (Own.Drain b cookie) l c f i ow ca = unit_drain ms g first n (number first cookies) e p b cookie i.bounds i.labels (ap (number first) (sym c))
-unit_acts ms x g n e first cookies p (Own.Invalidate b cookie) l c f i ow ca = unit_invalidate ms g first n (number first cookies) e p b cookie i.bounds i.labels (ap (number first) (sym c))
+unit_acts ms x g n e first cookies p (Own.Drain b cookie) l c f i ow ca =
+    unit_drain ms g first n (number first cookies) e p b cookie i.bounds i.labels (ap (number first) (sym c))
+unit_acts ms x g n e first cookies p (Own.Invalidate b cookie) l c f i ow ca =
+    unit_invalidate ms g first n (number first cookies) e p b cookie i.bounds i.labels (ap (number first) (sym c))
 unit_acts ms x g n e first cookies p (Own.Quieten b) l c f i ow ca = refl
 unit_acts ms x g n e first cookies p (Own.Release b) l c f i ow ca = refl
 unit_acts ms x g n e first cookies p (Own.Send k t) l c f i ow ca = unit_send ms g first n (number first cookies) e p k t l f i.bounds i.labels
@@ -50,7 +55,8 @@ unit_acts ms x g n e first cookies p (Own.Forget m r) l c f i ow ca = refl
 unit_acts ms x g n e first cookies p (Own.Take m k) l c f i ow ca = unit_take ms g first n (number first cookies) e p m k l i.labels
 unit_acts ms x g n e first cookies p (Own.Answered m y code) l c f i ow ca = refl
 unit_acts ms x g n e first cookies p (Own.Complete m r found answer) l c f i ow ca = refl
-unit_acts ms x g n e first cookies p (Own.Count m names) l c f i ow ca = unit_count ms g first n (number first cookies) e p m names l i.labels ca.invalidated ow.owing
+unit_acts ms x g n e first cookies p (Own.Count m names) l c f i ow ca =
+    unit_count ms g first n (number first cookies) e p m names l i.labels ca.invalidated ow.owing
 unit_acts ms x g n e first cookies p (Own.Arrive m r) l c f i ow ca = refl
 unit_acts ms x g n e first cookies p (Own.Miss m r) l c f i ow ca = refl
 unit_acts ms x g n e first cookies p (Own.Mark m b) l c f i ow ca = refl

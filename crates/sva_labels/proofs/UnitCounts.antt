@@ -58,13 +58,17 @@ last_comes count l = go (equal_or_not 1 count)
     go (inl e) = ap (λ b. one_more count (Some b)) (fresh_wire count 1 e) ∙ counting_last count 1 e
     go (inr ne) = ap (λ b. one_more count (Some b)) (owing_wire count 1 ne) ∙ counting_last count (suc (count - 1)) (omega (arith, l))
 
-more_come : (count left : ℕ) → suc (suc left) ≤ count → one_more count (Some (busy_wire (Owing count (suc (suc left))))) ≡ Some (busy_wire (Owing count (suc left)))
+more_come :
+    (count left : ℕ) → suc (suc left) ≤ count
+    → one_more count (Some (busy_wire (Owing count (suc (suc left))))) ≡ Some (busy_wire (Owing count (suc left)))
 more_come count left l = go (equal_or_not (suc (suc left)) count)
   where
     after : busy_wire (Owing count (suc left)) ≡ Counting count (count - suc left)
     after = owing_wire count (suc left) (λ e. absurd (omega (arith, l, e)))
 
-    go : (suc (suc left) ≡ count) ⊎ (suc (suc left) ≢ count) → one_more count (Some (busy_wire (Owing count (suc (suc left))))) ≡ Some (busy_wire (Owing count (suc left)))
+    go :
+        (suc (suc left) ≡ count) ⊎ (suc (suc left) ≢ count)
+        → one_more count (Some (busy_wire (Owing count (suc (suc left))))) ≡ Some (busy_wire (Owing count (suc left)))
     go (inl e) =
         let one : 1 ≡ count - suc left = omega (arith, e) in
         ap (λ b. one_more count (Some b)) (fresh_wire count (suc (suc left)) e)
@@ -92,7 +96,10 @@ same_read : (field : ℕ) → labels.count_read field ≡ count_read field
 same_read zero = refl
 same_read (suc n) = refl
 
-pub unit_count : (ms : Mappings) (g first n next e : ℕ) (p : Part) (c : ℕ) (names : ℕ → Bool) → LegalOwn ms g p (Own.Count c names) → Labels p → AreOwed p → IsOwing p → unit_wire first (own p n (Own.Count c names)) ≡ unit_moved next (unit_wire first p) (own_move first e ms p (Own.Count c names))
+pub unit_count :
+    (ms : Mappings) (g first n next e : ℕ) (p : Part) (c : ℕ) (names : ℕ → Bool) → LegalOwn ms g p (Own.Count c names) → Labels p
+    → AreOwed p → IsOwing p
+    → unit_wire first (own p n (Own.Count c names)) ≡ unit_moved next (unit_wire first p) (own_move first e ms p (Own.Count c names))
 unit_count ms g first n next e p c names l la are owing = go (are c names l.0)
   where
     q : Part
@@ -102,7 +109,8 @@ unit_count ms g first n next e p c names l la are owing = go (are c names l.0)
     go (vector, field, carried, low, bits, owed) =
         units_same first p q (queue_of first p) (completed vector (count_read field) (busy_of p)) (end_number first p.front) (end_number first p.waits_end) refl
         (states_queue first p q.order_state (λ k. queued k (names k) refl))
-        (tabulate_same 32 (λ t. option_map (λ k. busy_wire (q.order_state k)) (q.at_itag t)) (λ t. if is_set vector t then one_more (count_read field) (slice_index_or (busy_of p) t None) else slice_index_or (busy_of p) t None) (λ t m. at t m))
+        (tabulate_same 32 (λ t. option_map (λ k. busy_wire (q.order_state k)) (q.at_itag t))
+        (λ t. if is_set vector t then one_more (count_read field) (slice_index_or (busy_of p) t None) else slice_index_or (busy_of p) t None) (λ t m. at t m))
         refl
         refl
         ∙ ap (λ z. record (unit_wire first p) { busy = completed vector z (busy_of p) }) (sym (same_read field))
@@ -134,25 +142,38 @@ unit_count ms g first n next e p c names l la are owing = go (are c names l.0)
                 let same : Some k ≡ Some j = sym h ∙ ap p.at_itag (sym tj) ∙ la.bears_itag j busy in
                 absurd (grind (arith))
 
-        by_name : (t k : ℕ) (b : Bool) → names k ≡ b → is_set vector t ≡ b → option_map (λ j. busy_wire (q.order_state j)) (if names k && is_last_left (p.order_state k) then None else Some k) ≡ (if is_set vector t then one_more (count_read field) (Some (busy_wire (p.order_state k))) else Some (busy_wire (p.order_state k)))
+        by_name :
+            (t k : ℕ) (b : Bool) → names k ≡ b → is_set vector t ≡ b
+            → option_map (λ j. busy_wire (q.order_state j)) (if names k && is_last_left (p.order_state k) then None else Some k)
+            ≡ (if is_set vector t then one_more (count_read field) (Some (busy_wire (p.order_state k))) else Some (busy_wire (p.order_state k)))
         by_name t k b h i =
             outside (names k && is_last_left (p.order_state k))
             ∙ ap (λ z. counted_at z (p.order_state k)) h
             ∙ inside b h
             ∙ sym (ap (λ z. if z then one_more (count_read field) (Some (busy_wire (p.order_state k))) else Some (busy_wire (p.order_state k))) i)
           where
-            outside : (z : Bool) → option_map (λ j. busy_wire (q.order_state j)) (if z then None else Some k) ≡ (if z then None else Some (busy_wire (counted_if (names k) (p.order_state k))))
+            outside :
+                (z : Bool)
+                → option_map (λ j. busy_wire (q.order_state j)) (if z then None else Some k)
+                ≡ (if z then None else Some (busy_wire (counted_if (names k) (p.order_state k))))
             outside true = refl
             outside false = refl
 
-            inside : (z : Bool) → names k ≡ z → counted_at z (p.order_state k) ≡ (if z then one_more (count_read field) (Some (busy_wire (p.order_state k))) else Some (busy_wire (p.order_state k)))
+            inside :
+                (z : Bool) → names k ≡ z
+                → counted_at z (p.order_state k)
+                ≡ (if z then one_more (count_read field) (Some (busy_wire (p.order_state k))) else Some (busy_wire (p.order_state k)))
             inside false x = refl
             inside true x =
                 let (left, s) = owed k x in
                 let low = owing k (count_read field) left s in
                 ap (counted_at true) s ∙ counted_named (count_read field) left low.0 low.1 ∙ sym (ap (λ z. one_more (count_read field) (Some (busy_wire z))) s)
 
-        both : (t : ℕ) → t < 32 → (o : Option ℕ) → p.at_itag t ≡ o → option_map (λ j. busy_wire (q.order_state j)) (unless (λ k. names k && is_last_left (p.order_state k)) o) ≡ (if is_set vector t then one_more (count_read field) (option_map (λ k. busy_wire (p.order_state k)) o) else option_map (λ k. busy_wire (p.order_state k)) o)
+        both :
+            (t : ℕ) → t < 32 → (o : Option ℕ) → p.at_itag t ≡ o
+            → option_map (λ j. busy_wire (q.order_state j)) (unless (λ k. names k && is_last_left (p.order_state k)) o)
+            ≡ (if is_set vector t then one_more (count_read field) (option_map (λ k. busy_wire (p.order_state k)) o) else option_map
+            (λ k. busy_wire (p.order_state k)) o)
         both t m None h = none (is_set vector t)
           where
             none : (z : Bool) → None ≡ (if z then one_more (count_read field) None else None)
@@ -160,7 +181,11 @@ unit_count ms g first n next e p c names l la are owing = go (are c names l.0)
             none false = refl
         both t m (Some k) h = by_name t k (names k) refl (bit t k m h)
 
-        at : (t : ℕ) → t < 32 → option_map (λ k. busy_wire (q.order_state k)) (q.at_itag t) ≡ (if is_set vector t then one_more (count_read field) (slice_index_or (busy_of p) t None) else slice_index_or (busy_of p) t None)
+        at :
+            (t : ℕ) → t < 32
+            → option_map (λ k. busy_wire (q.order_state k)) (q.at_itag t)
+            ≡ (if is_set vector t then one_more (count_read field) (slice_index_or (busy_of p) t None) else slice_index_or (busy_of p) t None)
         at t m =
             both t m (p.at_itag t) refl
-            ∙ ap (λ z. if is_set vector t then one_more (count_read field) z else z) (sym (tabulate_at 32 (λ t. option_map (λ k. busy_wire (p.order_state k)) (p.at_itag t)) t None m))
+            ∙ ap (λ z. if is_set vector t then one_more (count_read field) z else z)
+            (sym (tabulate_at 32 (λ t. option_map (λ k. busy_wire (p.order_state k)) (p.at_itag t)) t None m))

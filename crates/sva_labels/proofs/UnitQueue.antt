@@ -31,7 +31,10 @@ abbrev pub busy_of : Part → List (Option BusyWire)
 busy_of p = tabulate 32 (λ t. option_map (λ k. busy_wire (p.order_state k)) (p.at_itag t))
 
 -- what two parts with the same phase have at their units
-pub units_same : (first : ℕ) (p q : Part) (queue : List Descriptor) (busy : List (Option BusyWire)) (front waits_end : ℕ) → is_open q.phase ≡ is_open p.phase → queue_of first q ≡ queue → busy_of q ≡ busy → end_number first q.front ≡ front → end_number first q.waits_end ≡ waits_end → unit_wire first q ≡ unit_of (is_open p.phase) queue busy front waits_end
+pub units_same :
+    (first : ℕ) (p q : Part) (queue : List Descriptor) (busy : List (Option BusyWire)) (front waits_end : ℕ)
+    → is_open q.phase ≡ is_open p.phase → queue_of first q ≡ queue → busy_of q ≡ busy → end_number first q.front ≡ front
+    → end_number first q.waits_end ≡ waits_end → unit_wire first q ≡ unit_of (is_open p.phase) queue busy front waits_end
 units_same first p q queue busy front waits_end o h b f w =
     ap (λ z. unit_of z (queue_of first q) (busy_of q) (end_number first q.front) (end_number first q.waits_end)) o
     ∙ unit_same (is_open p.phase) (queue_of first q) queue (busy_of q) busy (end_number first q.front) front (end_number first q.waits_end) waits_end h b f w
@@ -44,9 +47,12 @@ queued_apart s h = grind arith
 pub not_bound : (p : Part) (b d : ℕ) → p.stage b ≡ Unbound → is_active (p.stage d) ≡ true → d ≢ b
 not_bound p b d u a e = absurd (cc (sym (ap (λ z. is_active (p.stage z)) e ∙ ap is_active u) ∙ a))
 
-bind_queue : (ms : Mappings) (g first n : ℕ) (p : Part) (b s t : ℕ) → LegalOwn ms g p (Own.Bind b s t) → Orders p → queue_of first (own p n (Own.Bind b s t)) ≡ queue_of first p
+bind_queue :
+    (ms : Mappings) (g first n : ℕ) (p : Part) (b s t : ℕ) → LegalOwn ms g p (Own.Bind b s t) → Orders p
+    → queue_of first (own p n (Own.Bind b s t)) ≡ queue_of first p
 bind_queue ms g first n p b s t l or =
-    picked_same p.orders (λ k. descriptor first (own p n (Own.Bind b s t)) (p.order k)) (λ k. descriptor first p (p.order k)) (λ k. is_queued (p.order_state k)) (λ k. is_queued (p.order_state k))
+    picked_same p.orders (λ k. descriptor first (own p n (Own.Bind b s t)) (p.order k)) (λ k. descriptor first p (p.order k))
+    (λ k. is_queued (p.order_state k)) (λ k. is_queued (p.order_state k))
     (λ k m. refl)
     (λ k m q. go (p.order k) (or.undone_stage k (queued_apart (p.order_state k) q)))
   where
@@ -55,29 +61,37 @@ bind_queue ms g first n p b s t l or =
     go (PasidOf d) a = ap (λ z. PasidDescriptor z) (put-other p.pasid b t d (not_bound p b d l.2 (a refl)))
     go (Wait c x) a = refl
 
-pub unit_bind : (ms : Mappings) (g first n next e : ℕ) (p : Part) (b s t : ℕ) → LegalOwn ms g p (Own.Bind b s t) → Orders p → unit_wire first (own p n (Own.Bind b s t)) ≡ unit_moved next (unit_wire first p) (own_move first e ms p (Own.Bind b s t))
+pub unit_bind :
+    (ms : Mappings) (g first n next e : ℕ) (p : Part) (b s t : ℕ) → LegalOwn ms g p (Own.Bind b s t) → Orders p
+    → unit_wire first (own p n (Own.Bind b s t)) ≡ unit_moved next (unit_wire first p) (own_move first e ms p (Own.Bind b s t))
 unit_bind ms g first n next e p b s t l or =
-    units_same first p (own p n (Own.Bind b s t)) (queue_of first p) (busy_of p) (end_number first p.front) (end_number first p.waits_end) refl (bind_queue ms g first n p b s t l or) refl refl refl
+    units_same first p (own p n (Own.Bind b s t)) (queue_of first p) (busy_of p) (end_number first p.front) (end_number first p.waits_end) refl
+    (bind_queue ms g first n p b s t l or) refl refl refl
 
 -- A wait with drain is submitted.
 
 pub old_put : {A : Type 0} (f : ℕ → A) (i k : ℕ) (v : A) → k < i → put f i v k ≡ f k
 old_put f i k v l = put-other f i v k (λ e. absurd (omega (arith, l, e)))
 
-pub unit_drain : (ms : Mappings) (g first n next e : ℕ) (p : Part) (b cookie : ℕ) → Bounds g p → Labels p → next ≡ number first cookie → unit_wire first (own p n (Own.Drain b cookie)) ≡ unit_moved next (unit_wire first p) (own_move first e ms p (Own.Drain b cookie))
+pub unit_drain :
+    (ms : Mappings) (g first n next e : ℕ) (p : Part) (b cookie : ℕ) → Bounds g p → Labels p → next ≡ number first cookie
+    → unit_wire first (own p n (Own.Drain b cookie)) ≡ unit_moved next (unit_wire first p) (own_move first e ms p (Own.Drain b cookie))
 unit_drain ms g first n next e p b cookie bo la h =
-    units_same first p q (queue_of first p ++ WaitDescriptor (number first cookie) true ∷ []) (busy_of p) (end_number first p.front) (suc (number first cookie)) refl
+    units_same first p q (queue_of first p ++ WaitDescriptor (number first cookie) true ∷ []) (busy_of p) (end_number first p.front)
+    (suc (number first cookie)) refl
     (
     picked_one_more p.orders (λ k. descriptor first q (q.order k)) (λ k. is_queued (q.order_state k)) (ap is_queued (put-same p.order_state p.orders Queued))
     ∙ ap₂ (λ xs x. xs ++ x ∷ [])
     (
-    picked_same p.orders (λ k. descriptor first q (q.order k)) (λ k. descriptor first p (p.order k)) (λ k. is_queued (q.order_state k)) (λ k. is_queued (p.order_state k))
+    picked_same p.orders (λ k. descriptor first q (q.order k)) (λ k. descriptor first p (p.order k)) (λ k. is_queued (q.order_state k))
+    (λ k. is_queued (p.order_state k))
     (λ k l. ap is_queued (old_put p.order_state p.orders k Queued l))
     (λ k l x. ap (descriptor first p) (old_put p.order p.orders k (Wait cookie true) l))
     )
     (ap (descriptor first p) (put-same p.order p.orders (Wait cookie true)))
     )
-    (borne_same 32 p.at_itag (λ k. busy_wire (q.order_state k)) (λ k. busy_wire (p.order_state k)) (λ t k m. ap busy_wire (old_put p.order_state p.orders k Queued (borne_made g p bo la t k m))))
+    (borne_same 32 p.at_itag (λ k. busy_wire (q.order_state k)) (λ k. busy_wire (p.order_state k))
+    (λ t k m. ap busy_wire (old_put p.order_state p.orders k Queued (borne_made g p bo la t k m))))
     refl
     (cookie_end first cookie)
     ∙ ap (λ z. unit_moved z (unit_wire first p) (own_move first e ms p (Own.Drain b cookie))) (sym h)
@@ -87,17 +101,22 @@ unit_drain ms g first n next e p b cookie bo la h =
 
 -- The invalidation of all pages is submitted, and a wait.
 
-pub unit_invalidate : (ms : Mappings) (g first n next e : ℕ) (p : Part) (b cookie : ℕ) → Bounds g p → Labels p → next ≡ number first cookie → unit_wire first (own p n (Own.Invalidate b cookie)) ≡ unit_moved next (unit_wire first p) (own_move first e ms p (Own.Invalidate b cookie))
+pub unit_invalidate :
+    (ms : Mappings) (g first n next e : ℕ) (p : Part) (b cookie : ℕ) → Bounds g p → Labels p → next ≡ number first cookie
+    → unit_wire first (own p n (Own.Invalidate b cookie)) ≡ unit_moved next (unit_wire first p) (own_move first e ms p (Own.Invalidate b cookie))
 unit_invalidate ms g first n next e p b cookie bo la h =
-    units_same first p q (queue_of first p ++ PasidDescriptor (p.pasid b) ∷ WaitDescriptor (number first cookie) false ∷ []) (busy_of p) (end_number first p.front) (suc (number first cookie)) refl
+    units_same first p q (queue_of first p ++ PasidDescriptor (p.pasid b) ∷ WaitDescriptor (number first cookie) false ∷ []) (busy_of p)
+    (end_number first p.front) (suc (number first cookie)) refl
     (
-    picked_one_more (suc p.orders) (λ k. descriptor first q (q.order k)) (λ k. is_queued (q.order_state k)) (ap is_queued (put-same (put p.order_state p.orders Queued) (suc p.orders) Queued))
+    picked_one_more (suc p.orders) (λ k. descriptor first q (q.order k)) (λ k. is_queued (q.order_state k))
+    (ap is_queued (put-same (put p.order_state p.orders Queued) (suc p.orders) Queued))
     ∙ ap₂ (λ xs x. xs ++ x ∷ [])
     (
     picked_one_more p.orders (λ k. descriptor first q (q.order k)) (λ k. is_queued (q.order_state k)) (ap is_queued (new_state refl))
     ∙ ap₂ (λ xs x. xs ++ x ∷ [])
     (
-    picked_same p.orders (λ k. descriptor first q (q.order k)) (λ k. descriptor first p (p.order k)) (λ k. is_queued (q.order_state k)) (λ k. is_queued (p.order_state k))
+    picked_same p.orders (λ k. descriptor first q (q.order k)) (λ k. descriptor first p (p.order k)) (λ k. is_queued (q.order_state k))
+    (λ k. is_queued (p.order_state k))
     (λ k l. ap is_queued (old_state k l))
     (λ k l x. ap (descriptor first p) (old_order k l))
     )
@@ -106,7 +125,8 @@ unit_invalidate ms g first n next e p b cookie bo la h =
     (ap (descriptor first p) (put-same (put p.order p.orders (PasidOf b)) (suc p.orders) (Wait cookie false)))
     ∙ two (queue_of first p) (PasidDescriptor (p.pasid b)) (WaitDescriptor (number first cookie) false)
     )
-    (borne_same 32 p.at_itag (λ k. busy_wire (q.order_state k)) (λ k. busy_wire (p.order_state k)) (λ t k m. ap busy_wire (old_state k (borne_made g p bo la t k m))))
+    (borne_same 32 p.at_itag (λ k. busy_wire (q.order_state k)) (λ k. busy_wire (p.order_state k))
+    (λ t k m. ap busy_wire (old_state k (borne_made g p bo la t k m))))
     refl
     (cookie_end first cookie)
     ∙ ap (λ z. unit_moved z (unit_wire first p) (own_move first e ms p (Own.Invalidate b cookie))) (sym h)
@@ -118,7 +138,8 @@ unit_invalidate ms g first n next e p b cookie bo la h =
     old_state k l = old_put (put p.order_state p.orders Queued) (suc p.orders) k Queued (omega (arith, l)) ∙ old_put p.order_state p.orders k Queued l
 
     old_order : (k : ℕ) → k < p.orders → put (put p.order p.orders (PasidOf b)) (suc p.orders) (Wait cookie false) k ≡ p.order k
-    old_order k l = old_put (put p.order p.orders (PasidOf b)) (suc p.orders) k (Wait cookie false) (omega (arith, l)) ∙ old_put p.order p.orders k (PasidOf b) l
+    old_order k l =
+        old_put (put p.order p.orders (PasidOf b)) (suc p.orders) k (Wait cookie false) (omega (arith, l)) ∙ old_put p.order p.orders k (PasidOf b) l
 
     new_state : {k : ℕ} → k ≡ p.orders → put (put p.order_state p.orders Queued) (suc p.orders) Queued p.orders ≡ Queued
     new_state h = old_put (put p.order_state p.orders Queued) (suc p.orders) p.orders Queued (omega arith) ∙ put-same p.order_state p.orders Queued
@@ -131,9 +152,13 @@ unit_invalidate ms g first n next e p b cookie bo la h =
     two (z ∷ xs) x y = ap (λ zs. z ∷ zs) (two xs x y)
 
 -- the first order of the queue is queued no more
-sent_queue : (g first : ℕ) (p : Part) (k : ℕ) (s : OrderState) → Bounds g p → p.order_state k ≡ Queued → is_queued s ≡ false → ((j : ℕ) → j < k → p.order_state j ≢ Queued) → map (λ j. descriptor first p (p.order j)) (select p.orders (λ j. is_queued (put p.order_state k s j))) ≡ drop 1 (queue_of first p)
+sent_queue :
+    (g first : ℕ) (p : Part) (k : ℕ) (s : OrderState) → Bounds g p → p.order_state k ≡ Queued → is_queued s ≡ false
+    → ((j : ℕ) → j < k → p.order_state j ≢ Queued)
+    → map (λ j. descriptor first p (p.order j)) (select p.orders (λ j. is_queued (put p.order_state k s j))) ≡ drop 1 (queue_of first p)
 sent_queue g first p k s bo h i none =
-    picked_drop p.orders k (λ j. descriptor first p (p.order j)) (λ j. descriptor first p (p.order j)) (λ j. is_queued (p.order_state j)) (λ j. is_queued (put p.order_state k s j))
+    picked_drop p.orders k (λ j. descriptor first p (p.order j)) (λ j. descriptor first p (p.order j)) (λ j. is_queued (p.order_state j))
+    (λ j. is_queued (put p.order_state k s j))
     (made (bo.order_state k)) (ap is_queued h) (λ j l. not_queued (p.order_state j) (none j l))
     (ap is_queued (put-same p.order_state k s) ∙ i)
     (λ j l ne. ap is_queued (put-other p.order_state k s j ne))
@@ -147,11 +172,15 @@ sent_queue g first p k s bo h i none =
 
 -- An order is sent: it is the first in the queue, and its ITag waits for completions.
 
-pub unit_send : (ms : Mappings) (g first n next e : ℕ) (p : Part) (k t : ℕ) → LegalOwn ms g p (Own.Send k t) → ((j : ℕ) → j < k → p.order_state j ≢ Queued) → Bounds g p → Labels p → unit_wire first (own p n (Own.Send k t)) ≡ unit_moved next (unit_wire first p) (own_move first e ms p (Own.Send k t))
+pub unit_send :
+    (ms : Mappings) (g first n next e : ℕ) (p : Part) (k t : ℕ) → LegalOwn ms g p (Own.Send k t)
+    → ((j : ℕ) → j < k → p.order_state j ≢ Queued) → Bounds g p → Labels p
+    → unit_wire first (own p n (Own.Send k t)) ≡ unit_moved next (unit_wire first p) (own_move first e ms p (Own.Send k t))
 unit_send ms g first n next e p k t l none bo la =
     units_same first p q (drop 1 (queue_of first p)) (slice_set (busy_of p) t (Some Fresh)) (end_number first p.front) (end_number first p.waits_end) refl
     (sent_queue g first p k Sent bo l.1 refl none)
-    (tabulate_set 32 (λ z. option_map (λ j. busy_wire (p.order_state j)) (p.at_itag z)) (λ z. option_map (λ j. busy_wire (q.order_state j)) (q.at_itag z)) t (Some Fresh) here other)
+    (tabulate_set 32 (λ z. option_map (λ j. busy_wire (p.order_state j)) (p.at_itag z))
+    (λ z. option_map (λ j. busy_wire (q.order_state j)) (q.at_itag z)) t (Some Fresh) here other)
     refl
     refl
   where
@@ -173,7 +202,9 @@ unit_send ms g first n next e p k t l none bo la =
 
 -- A wait is passed: it is the first in the queue, and it is below the front then.
 
-pub unit_pass : (ms : Mappings) (g first n next e : ℕ) (p : Part) (k : ℕ) → LegalOwn ms g p (Own.Pass k) → Bounds g p → unit_wire first (own p n (Own.Pass k)) ≡ unit_moved next (unit_wire first p) (own_move first e ms p (Own.Pass k))
+pub unit_pass :
+    (ms : Mappings) (g first n next e : ℕ) (p : Part) (k : ℕ) → LegalOwn ms g p (Own.Pass k) → Bounds g p
+    → unit_wire first (own p n (Own.Pass k)) ≡ unit_moved next (unit_wire first p) (own_move first e ms p (Own.Pass k))
 unit_pass ms g first n next e p k l bo =
     units_same first p q (drop 1 (queue_of first p)) (busy_of p) (suc (cookie_number first (p.order k))) (end_number first p.waits_end) refl
     (sent_queue g first p k Done bo l.1 refl l.3)
@@ -188,7 +219,10 @@ unit_pass ms g first n next e p k l bo =
     state j = go (ℕ_cases j k)
       where
         go : (j ≡ k) ⊎ (j ≢ k) → busy_wire (put p.order_state k Done j) ≡ busy_wire (p.order_state j)
-        go (inl x) = ap (λ z. busy_wire (put p.order_state k Done z)) x ∙ ap busy_wire (put-same p.order_state k Done) ∙ sym (ap (λ z. busy_wire (p.order_state z)) x ∙ ap busy_wire l.1)
+        go (inl x) =
+            ap (λ z. busy_wire (put p.order_state k Done z)) x
+            ∙ ap busy_wire (put-same p.order_state k Done)
+            ∙ sym (ap (λ z. busy_wire (p.order_state z)) x ∙ ap busy_wire l.1)
         go (inr ne) = ap busy_wire (put-other p.order_state k Done j ne)
 
     front : (o : Order) → is_wait o ≡ true → end_number first (end_of o) ≡ suc (cookie_number first o)

@@ -22,13 +22,21 @@ use Rattle.sva_labels.proofs.UnitSubmitted.{unit_same, borne_same}
 use Rattle.sva_labels.proofs.UnitQueue.{queue_of, busy_of, units_same}
 
 -- other states, by which the same orders are queued and the same ITags are as busy
-pub states_queue : (first : ℕ) (p : Part) (s : ℕ → OrderState) → ((k : ℕ) → is_queued (s k) ≡ is_queued (p.order_state k)) → map (λ k. descriptor first p (p.order k)) (select p.orders (λ k. is_queued (s k))) ≡ queue_of first p
-states_queue first p s h = picked_same p.orders (λ k. descriptor first p (p.order k)) (λ k. descriptor first p (p.order k)) (λ k. is_queued (s k)) (λ k. is_queued (p.order_state k)) (λ k l. h k) (λ k l x. refl)
+pub states_queue :
+    (first : ℕ) (p : Part) (s : ℕ → OrderState) → ((k : ℕ) → is_queued (s k) ≡ is_queued (p.order_state k))
+    → map (λ k. descriptor first p (p.order k)) (select p.orders (λ k. is_queued (s k))) ≡ queue_of first p
+states_queue first p s h =
+    picked_same p.orders (λ k. descriptor first p (p.order k)) (λ k. descriptor first p (p.order k)) (λ k. is_queued (s k))
+    (λ k. is_queued (p.order_state k)) (λ k l. h k) (λ k l x. refl)
 
-pub states_busy : (p : Part) (s : ℕ → OrderState) → ((k : ℕ) → busy_wire (s k) ≡ busy_wire (p.order_state k)) → tabulate 32 (λ t. option_map (λ k. busy_wire (s k)) (p.at_itag t)) ≡ busy_of p
+pub states_busy :
+    (p : Part) (s : ℕ → OrderState) → ((k : ℕ) → busy_wire (s k) ≡ busy_wire (p.order_state k))
+    → tabulate 32 (λ t. option_map (λ k. busy_wire (s k)) (p.at_itag t)) ≡ busy_of p
 states_busy p s h = borne_same 32 p.at_itag (λ k. busy_wire (s k)) (λ k. busy_wire (p.order_state k)) (λ t k m. h k)
 
-no_queue : (first : ℕ) (p : Part) (s : ℕ → OrderState) → ((k : ℕ) → is_queued (s k) ≡ false) → map (λ k. descriptor first p (p.order k)) (select p.orders (λ k. is_queued (s k))) ≡ []
+no_queue :
+    (first : ℕ) (p : Part) (s : ℕ → OrderState) → ((k : ℕ) → is_queued (s k) ≡ false)
+    → map (λ k. descriptor first p (p.order k)) (select p.orders (λ k. is_queued (s k))) ≡ []
 no_queue first p s h = picked_none p.orders (λ k. descriptor first p (p.order k)) (λ k. is_queued (s k)) (λ k l. h k)
 
 -- a reset begins
@@ -45,7 +53,9 @@ void_busy (Owing c l) = refl
 void_busy Done = refl
 void_busy Void = refl
 
-pub unit_reset : (ms : Mappings) (first n next e : ℕ) (p : Part) → unit_wire first (own p n Own.Reset) ≡ unit_moved next (unit_wire first p) (own_move first e ms p Own.Reset)
+pub unit_reset :
+    (ms : Mappings) (first n next e : ℕ) (p : Part)
+    → unit_wire first (own p n Own.Reset) ≡ unit_moved next (unit_wire first p) (own_move first e ms p Own.Reset)
 unit_reset ms first n next e p =
     unit_same false (map (λ k. descriptor first p (p.order k)) (select p.orders (λ k. is_queued (void_queued (p.order_state k))))) []
     (tabulate 32 (λ t. option_map (λ k. busy_wire (void_queued (p.order_state k))) (p.at_itag t)))
@@ -73,7 +83,9 @@ lapse_busy (Owing c l) = refl
 lapse_busy Done = refl
 lapse_busy Void = refl
 
-pub unit_reset_arrives : (ms : Mappings) (g first n next e : ℕ) (p : Part) (c : ℕ) → LegalOwn ms g p (Own.Reset_arrives c) → Resets n p → unit_wire first (own p n (Own.Reset_arrives c)) ≡ unit_moved next (unit_wire first p) (own_move first e ms p (Own.Reset_arrives c))
+pub unit_reset_arrives :
+    (ms : Mappings) (g first n next e : ℕ) (p : Part) (c : ℕ) → LegalOwn ms g p (Own.Reset_arrives c) → Resets n p
+    → unit_wire first (own p n (Own.Reset_arrives c)) ≡ unit_moved next (unit_wire first p) (own_move first e ms p (Own.Reset_arrives c))
 unit_reset_arrives ms g first n next e p c l re =
     units_same first p (own p n (Own.Reset_arrives c)) (queue_of first p) (busy_of p) (end_number first p.front) (end_number first p.waits_end)
     (sym (ap is_open (re.down c l.0)))
@@ -98,7 +110,9 @@ put_busy f i k s h = go (ℕ_cases k i)
     go (inl e) = ap (λ z. busy_wire (put f i s z)) e ∙ ap busy_wire (put-same f i s) ∙ sym h ∙ sym (ap (λ z. busy_wire (f z)) e)
     go (inr ne) = ap busy_wire (put-other f i s k ne)
 
-pub unit_take : (ms : Mappings) (g first n next e : ℕ) (p : Part) (c k : ℕ) → LegalOwn ms g p (Own.Take c k) → Labels p → unit_wire first (own p n (Own.Take c k)) ≡ unit_moved next (unit_wire first p) (own_move first e ms p (Own.Take c k))
+pub unit_take :
+    (ms : Mappings) (g first n next e : ℕ) (p : Part) (c k : ℕ) → LegalOwn ms g p (Own.Take c k) → Labels p
+    → unit_wire first (own p n (Own.Take c k)) ≡ unit_moved next (unit_wire first p) (own_move first e ms p (Own.Take c k))
 unit_take ms g first n next e p c k l la =
     units_same first p (own p n (Own.Take c k)) (queue_of first p) (busy_of p) (end_number first p.front) (end_number first p.waits_end) refl
     (states_queue first p (put p.order_state k (Taken p.uses)) (λ j. put_queued p.order_state k j (Taken p.uses) (ap is_queued (la.sent c k l))))
@@ -124,7 +138,10 @@ owe_busy true count (Owing c l) h = absurd (let z = h refl in cc)
 owe_busy true count Done h = absurd (let z = h refl in cc)
 owe_busy true count Void h = absurd (let z = h refl in cc)
 
-pub unit_finish : (ms : Mappings) (g first n next e : ℕ) (p : Part) (names : ℕ → Bool) (vector count : ℕ) → LegalOwn ms g p (Own.Finish names vector count) → unit_wire first (own p n (Own.Finish names vector count)) ≡ unit_moved next (unit_wire first p) (own_move first e ms p (Own.Finish names vector count))
+pub unit_finish :
+    (ms : Mappings) (g first n next e : ℕ) (p : Part) (names : ℕ → Bool) (vector count : ℕ)
+    → LegalOwn ms g p (Own.Finish names vector count)
+    → unit_wire first (own p n (Own.Finish names vector count)) ≡ unit_moved next (unit_wire first p) (own_move first e ms p (Own.Finish names vector count))
 unit_finish ms g first n next e p names vector count l =
     units_same first p (own p n (Own.Finish names vector count)) (queue_of first p) (busy_of p) (end_number first p.front) (end_number first p.waits_end) refl
     (states_queue first p (λ k. owe_if (names k) count (p.order_state k)) (λ k. owe_queued (names k) count (p.order_state k) (l.1 k)))
@@ -145,7 +162,9 @@ unfolding tabulate
 map_tabulate zero f h = refl
 map_tabulate (suc n) f h = map-append h (tabulate n f) (f n ∷ []) ∙ ap (λ xs. xs ++ h (f n) ∷ []) (map_tabulate n f h)
 
-pub unit_reopen : (ms : Mappings) (g first n next e : ℕ) (p : Part) (c : ℕ) → LegalOwn ms g p (Own.Reopen c) → Resets n p → unit_wire first (own p n (Own.Reopen c)) ≡ unit_moved next (unit_wire first p) (own_move first e ms p (Own.Reopen c))
+pub unit_reopen :
+    (ms : Mappings) (g first n next e : ℕ) (p : Part) (c : ℕ) → LegalOwn ms g p (Own.Reopen c) → Resets n p
+    → unit_wire first (own p n (Own.Reopen c)) ≡ unit_moved next (unit_wire first p) (own_move first e ms p (Own.Reopen c))
 unit_reopen ms g first n next e p c l re =
     unit_same true (map (λ k. descriptor first p (p.order k)) (select p.orders (λ k. is_queued (void_undone (p.order_state k))))) (queue_of first p)
     (tabulate 32 (λ t. option_map (λ k. busy_wire (void_undone (p.order_state k))) None))

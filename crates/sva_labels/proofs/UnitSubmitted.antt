@@ -22,7 +22,9 @@ use Rattle.sva_labels.proofs.Picked.{picked_same, picked_more}
 abbrev pub unit_of : Bool → List Descriptor → List (Option BusyWire) → ℕ → ℕ → UnitWire
 unit_of o q b f w = record { is_open = o; queue = q; busy = b; front = f; waits_end = w }
 
-pub unit_same : (o : Bool) (q q' : List Descriptor) (b b' : List (Option BusyWire)) (f f' w w' : ℕ) → q ≡ q' → b ≡ b' → f ≡ f' → w ≡ w' → unit_of o q b f w ≡ unit_of o q' b' f' w'
+pub unit_same :
+    (o : Bool) (q q' : List Descriptor) (b b' : List (Option BusyWire)) (f f' w w' : ℕ) → q ≡ q' → b ≡ b' → f ≡ f' → w ≡ w'
+    → unit_of o q b f w ≡ unit_of o q' b' f' w'
 unit_same o q q' b b' f f' w w' hq hb hf hw = λ i. unit_of o (hq i) (hb i) (hf i) (hw i)
 
 -- an order that bears an ITag is made
@@ -33,14 +35,18 @@ borne_made g p bo la t k h = let b = la.itag_bears t k h in made (bo.order_state
     made v b = grind (arith)
 
 -- what a table of labels leads to is the same where it is the same for each record that bears one
-pub borne_same : {A : Type 0} (n : ℕ) (at : ℕ → Option ℕ) (f g : ℕ → A) → ((t k : ℕ) → at t ≡ Some k → f k ≡ g k) → tabulate n (λ t. option_map f (at t)) ≡ tabulate n (λ t. option_map g (at t))
+pub borne_same :
+    {A : Type 0} (n : ℕ) (at : ℕ → Option ℕ) (f g : ℕ → A) → ((t k : ℕ) → at t ≡ Some k → f k ≡ g k)
+    → tabulate n (λ t. option_map f (at t)) ≡ tabulate n (λ t. option_map g (at t))
 borne_same {A = A} n at f g h = tabulate_same n (λ t. option_map f (at t)) (λ t. option_map g (at t)) (λ t l. go (at t) (h t))
   where
     go : (o : Option ℕ) → ((k : ℕ) → o ≡ Some k → f k ≡ g k) → option_map f o ≡ option_map g o
     go None e = refl
     go (Some k) e = ap (λ z. Some z) (e k refl)
 
-pub chained_same : {A : Type 0} (n : ℕ) (at : ℕ → Option ℕ) (f g : ℕ → Option A) → ((t k : ℕ) → at t ≡ Some k → f k ≡ g k) → tabulate n (λ t. chain f (at t)) ≡ tabulate n (λ t. chain g (at t))
+pub chained_same :
+    {A : Type 0} (n : ℕ) (at : ℕ → Option ℕ) (f g : ℕ → Option A) → ((t k : ℕ) → at t ≡ Some k → f k ≡ g k)
+    → tabulate n (λ t. chain f (at t)) ≡ tabulate n (λ t. chain g (at t))
 chained_same {A = A} n at f g h = tabulate_same n (λ t. chain f (at t)) (λ t. chain g (at t)) (λ t l. go (at t) (h t))
   where
     go : (o : Option ℕ) → ((k : ℕ) → o ≡ Some k → f k ≡ g k) → chain f o ≡ chain g o
@@ -69,7 +75,12 @@ new_range p b q count order cookie j l =
 new_wait : (p : Part) (b q count order cookie : ℕ) → (submitted p b q count order cookie).order (p.orders + count) ≡ Wait cookie false
 new_wait p b q count order cookie = put-same (put_range p.order p.orders count (λ j. RangeOf b (range_at q order j))) (p.orders + count) (Wait cookie false)
 
-queue_submitted : (first : ℕ) (p : Part) (b q count order cookie : ℕ) → map (λ k. descriptor first (submitted p b q count order cookie) ((submitted p b q count order cookie).order k)) (select (p.orders + suc count) (λ k. is_queued ((submitted p b q count order cookie).order_state k))) ≡ map (λ k. descriptor first p (p.order k)) (select p.orders (λ k. is_queued (p.order_state k))) ++ descriptors_for (p.pasid b) q count order (number first cookie)
+queue_submitted :
+    (first : ℕ) (p : Part) (b q count order cookie : ℕ)
+    → map (λ k. descriptor first (submitted p b q count order cookie) ((submitted p b q count order cookie).order k))
+    (select (p.orders + suc count) (λ k. is_queued ((submitted p b q count order cookie).order_state k)))
+    ≡ map (λ k. descriptor first p (p.order k)) (select p.orders (λ k. is_queued (p.order_state k))) ++ descriptors_for (p.pasid b) q count order
+    (number first cookie)
 unfolding tabulate
 queue_submitted first p b q count order cookie =
     picked_more p.orders (suc count) (λ k. descriptor first (submitted p b q count order cookie) ((submitted p b q count order cookie).order k))
@@ -98,11 +109,16 @@ queue_submitted first p b q count order cookie =
 pub cookie_end : (first cookie : ℕ) → end_number first (suc cookie) ≡ suc (number first cookie)
 cookie_end first cookie = omega arith
 
-pub unit_submitted : (g first : ℕ) (p : Part) (b q count order cookie : ℕ) → Bounds g p → Labels p → unit_wire first (submitted p b q count order cookie) ≡ with_descriptors (unit_wire first p) (descriptors_for (p.pasid b) q count order (number first cookie)) (number first cookie)
+pub unit_submitted :
+    (g first : ℕ) (p : Part) (b q count order cookie : ℕ) → Bounds g p → Labels p
+    → unit_wire first (submitted p b q count order cookie)
+    ≡ with_descriptors (unit_wire first p) (descriptors_for (p.pasid b) q count order (number first cookie)) (number first cookie)
 unit_submitted g first p b q count order cookie bo la =
     unit_same (is_open p.phase)
-    (map (λ k. descriptor first (submitted p b q count order cookie) ((submitted p b q count order cookie).order k)) (select (p.orders + suc count) (λ k. is_queued ((submitted p b q count order cookie).order_state k))))
-    (map (λ k. descriptor first p (p.order k)) (select p.orders (λ k. is_queued (p.order_state k))) ++ descriptors_for (p.pasid b) q count order (number first cookie))
+    (map (λ k. descriptor first (submitted p b q count order cookie) ((submitted p b q count order cookie).order k))
+    (select (p.orders + suc count) (λ k. is_queued ((submitted p b q count order cookie).order_state k))))
+    (map (λ k. descriptor first p (p.order k)) (select p.orders (λ k. is_queued (p.order_state k))) ++ descriptors_for (p.pasid b) q count order
+    (number first cookie))
     (tabulate 32 (λ t. option_map (λ k. busy_wire ((submitted p b q count order cookie).order_state k)) (p.at_itag t)))
     (tabulate 32 (λ t. option_map (λ k. busy_wire (p.order_state k)) (p.at_itag t)))
     (end_number first p.front)
@@ -125,10 +141,14 @@ taken_as ms p o uses =
     Some (record {
       pasid = p.pasid (binding_of o);
       extent = extent_of o;
-      slots = tabulate 16 (λ t. holds_of (λ u. nat_lt u uses && (is_running (p.use_state u) && covers o (p.use_binding u) (ms.page (p.use_mapping u)))) (p.at_slot t));
+      slots =
+          tabulate 16
+          (λ t. holds_of (λ u. nat_lt u uses && (is_running (p.use_state u) && covers o (p.use_binding u) (ms.page (p.use_mapping u)))) (p.at_slot t));
     })
 
-pub device_submitted : (g : ℕ) (ms : Mappings) (p : Part) (b q count order cookie : ℕ) → Bounds g p → Labels p → device_wire ms (submitted p b q count order cookie) ≡ device_wire ms p
+pub device_submitted :
+    (g : ℕ) (ms : Mappings) (p : Part) (b q count order cookie : ℕ) → Bounds g p → Labels p
+    → device_wire ms (submitted p b q count order cookie) ≡ device_wire ms p
 device_submitted g ms p b q count order cookie bo la =
     ap (λ (taken : List (Option TakenWire)). record (device_wire ms p) { taken = taken })
     (
@@ -138,7 +158,9 @@ device_submitted g ms p b q count order cookie bo la =
     (λ t k h. same k (borne_made g p bo la t k h))
     )
   where
-    by_state : (k : ℕ) (s : OrderState) → (submitted p b q count order cookie).order k ≡ p.order k → taken_by ms (submitted p b q count order cookie) k s ≡ taken_by ms p k s
+    by_state :
+        (k : ℕ) (s : OrderState) → (submitted p b q count order cookie).order k ≡ p.order k
+        → taken_by ms (submitted p b q count order cookie) k s ≡ taken_by ms p k s
     by_state k (Taken uses) h = ap (λ o. taken_as ms p o uses) h
     by_state k Queued h = refl
     by_state k Sent h = refl
@@ -147,11 +169,17 @@ device_submitted g ms p b q count order cookie bo la =
     by_state k Done h = refl
     by_state k Void h = refl
 
-    same : (k : ℕ) → k < p.orders → taken_by ms (submitted p b q count order cookie) k ((submitted p b q count order cookie).order_state k) ≡ taken_by ms p k (p.order_state k)
-    same k l = by_state k ((submitted p b q count order cookie).order_state k) (old_order p b q count order cookie k l) ∙ ap (taken_by ms p k) (old_state p b q count order cookie k l)
+    same :
+        (k : ℕ) → k < p.orders
+        → taken_by ms (submitted p b q count order cookie) k ((submitted p b q count order cookie).order_state k) ≡ taken_by ms p k (p.order_state k)
+    same k l =
+        by_state k ((submitted p b q count order cookie).order_state k) (old_order p b q count order cookie k l)
+        ∙ ap (taken_by ms p k) (old_state p b q count order cookie k l)
 
 pub page_queue_submitted : (p : Part) (b q count order cookie : ℕ) → page_queue_wire (submitted p b q count order cookie) ≡ page_queue_wire p
 page_queue_submitted p b q count order cookie = refl
 
-pub host_groups_submitted : (first : ℕ) (p : Part) (b q count order cookie : ℕ) → host_groups_wire first (submitted p b q count order cookie) ≡ host_groups_wire first p
+pub host_groups_submitted :
+    (first : ℕ) (p : Part) (b q count order cookie : ℕ)
+    → host_groups_wire first (submitted p b q count order cookie) ≡ host_groups_wire first p
 host_groups_submitted first p b q count order cookie = refl

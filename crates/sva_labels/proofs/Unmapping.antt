@@ -43,7 +43,9 @@ stage_same false p o q count order cookie b = refl
 old_order : (p : Part) (b q count order cookie k : ℕ) → k < p.orders → (submitted p b q count order cookie).order k ≡ p.order k
 old_order p b q count order cookie k l = grind (arith, nat_tests)
 
-binding_same : (first e : ℕ) (t : Bool) (p : Part) (o : Option ℕ) (q count order cookie b : ℕ) → Orders p → binding_wire first e (submitted_if t p o q count order cookie) b ≡ binding_wire first e p b
+binding_same :
+    (first e : ℕ) (t : Bool) (p : Part) (o : Option ℕ) (q count order cookie b : ℕ) → Orders p
+    → binding_wire first e (submitted_if t p o q count order cookie) b ≡ binding_wire first e p b
 binding_same first e true p (Some d) q count order cookie b or = ap (λ z. record (binding_wire first e p b) { stage = z }) (go (p.stage b) refl)
   where
     go : (s : Stage) → p.stage b ≡ s → stage_wire first (submitted p d q count order cookie) s ≡ stage_wire first p s
@@ -58,12 +60,16 @@ binding_same first e true p (Some d) q count order cookie b or = ap (λ z. recor
 binding_same first e true p None q count order cookie b or = refl
 binding_same first e false p o q count order cookie b or = refl
 
-job_same : (first e : ℕ) (t : Bool) (p : Part) (o : Option ℕ) (q count order cookie g : ℕ) → group_job first e (submitted_if t p o q count order cookie) g ≡ group_job first e p g
+job_same :
+    (first e : ℕ) (t : Bool) (p : Part) (o : Option ℕ) (q count order cookie g : ℕ)
+    → group_job first e (submitted_if t p o q count order cookie) g ≡ group_job first e p g
 job_same first e true p (Some d) q count order cookie g = refl
 job_same first e true p None q count order cookie g = refl
 job_same first e false p o q count order cookie g = refl
 
-queued_same : (t : Bool) (p : Part) (o : Option ℕ) (q count order cookie g : ℕ) → is_job ((submitted_if t p o q count order cookie).host_group g) ≡ is_job (p.host_group g)
+queued_same :
+    (t : Bool) (p : Part) (o : Option ℕ) (q count order cookie g : ℕ)
+    → is_job ((submitted_if t p o q count order cookie).host_group g) ≡ is_job (p.host_group g)
 queued_same true p (Some d) q count order cookie g = refl
 queued_same true p None q count order cookie g = refl
 queued_same false p o q count order cookie g = refl
@@ -103,9 +109,12 @@ submits_is w s e i l =
     ap₂ (λ p b. submits_by p.unit b) (part_is w e l) (bound_is w e s i)
     ∙ submits_seen w.config.first e (w.part e) (bound w e s)
 
-pub cookie_is : (w : World) (s e : ℕ) → Invariant w → e ≤ w.config.endpoints → cookie_at (wire w) (number w.config.first s) e ≡ number w.config.first (cookie_of w s e)
+pub cookie_is :
+    (w : World) (s e : ℕ) → Invariant w → e ≤ w.config.endpoints
+    → cookie_at (wire w) (number w.config.first s) e ≡ number w.config.first (cookie_of w s e)
 cookie_is w s e i l =
-    ap (λ n. w.config.first + w.cookies + n) (count_same e (finding.submits (wire w) (number w.config.first s)) (submits w s) (λ x m. submits_is w s x i (omega (arith, m, l))))
+    ap (λ n. w.config.first + w.cookies + n)
+    (count_same e (finding.submits (wire w) (number w.config.first s)) (submits w s) (λ x m. submits_is w s x i (omega (arith, m, l))))
     ∙ omega arith
 
 -- The units.
@@ -114,11 +123,18 @@ abbrev pub unmapped_by : Bool → PartWire → Option BindingWire → (page coun
 unmapped_by true p b q count order cookie = record p { unit = with_descriptors p.unit (descriptors_for (pasid_or_0 b) q count order cookie) cookie }
 unmapped_by false p b q count order cookie = p
 
-part_split : (t : Bool) (p : PartWire) (b : Option BindingWire) (q count order cookie : ℕ) → (if t then record p { unit = with_descriptors p.unit (descriptors_for (pasid_or_0 b) q count order cookie) cookie } else p) ≡ unmapped_by t p b q count order cookie
+part_split :
+    (t : Bool) (p : PartWire) (b : Option BindingWire) (q count order cookie : ℕ)
+    → (if t then record p { unit = with_descriptors p.unit (descriptors_for (pasid_or_0 b) q count order cookie) cookie } else p)
+    ≡ unmapped_by t p b q count order cookie
 part_split true p b q count order cookie = refl
 part_split false p b q count order cookie = refl
 
-part_submitted : (g first e : ℕ) (ms : Mappings) (s : ℕ) (pages : ℕ → Bool) (owed : ℕ → Owed) (t : Bool) (p : Part) (o : Option ℕ) (q count order cookie : ℕ) → Bounds g p → labels.Labels p → submits_at p o ≡ t → part_wire first (without_pages ms s pages owed) (submitted_if t p o q count order cookie) ≡ unmapped_by t (part_wire first ms p) (option_map (binding_wire first e p) o) q count order (number first cookie)
+part_submitted :
+    (g first e : ℕ) (ms : Mappings) (s : ℕ) (pages : ℕ → Bool) (owed : ℕ → Owed) (t : Bool) (p : Part) (o : Option ℕ) (q count order cookie : ℕ)
+    → Bounds g p → labels.Labels p → submits_at p o ≡ t
+    → part_wire first (without_pages ms s pages owed) (submitted_if t p o q count order cookie)
+    ≡ unmapped_by t (part_wire first ms p) (option_map (binding_wire first e p) o) q count order (number first cookie)
 part_submitted g first e ms s pages owed true p (Some b) q count order cookie bo la h =
     let device = device_without ms s pages owed (submitted p b q count order cookie) ∙ device_submitted g ms p b q count order cookie bo la in
     let unit = unit_submitted g first p b q count order cookie bo la in
@@ -128,39 +144,60 @@ part_submitted g first e ms s pages owed false p o q count order cookie bo la h 
     let device = device_without ms s pages owed p in
     λ k. record (part_wire first ms p) { device = device k }
 
-part_left : (w : World) (s q count order e : ℕ) → Invariant w → e < w.config.endpoints → part_wire w.config.first (act w (Unmap s q count order)).mappings (part_after_unmap w s q count order e) ≡ part_unmapped (wire w) (number w.config.first s) q count order e
+part_left :
+    (w : World) (s q count order e : ℕ) → Invariant w → e < w.config.endpoints
+    → part_wire w.config.first (act w (Unmap s q count order)).mappings (part_after_unmap w s q count order e)
+    ≡ part_unmapped (wire w) (number w.config.first s) q count order e
 part_left w s q count order e i l =
-    part_submitted w.bindings w.config.first e w.mappings s (in_range q (count * 2 ^ order)) (λ e. owed_by (w.part e) count (bound w e s)) (submits w s e) (w.part e) (bound w e s) q count order (cookie_of w s e)
+    part_submitted w.bindings w.config.first e w.mappings s (in_range q (count * 2 ^ order)) (λ e. owed_by (w.part e) count (bound w e s))
+    (submits w s e) (w.part e) (bound w e s) q count order (cookie_of w s e)
     (i.parts e).bounds (i.parts e).labels refl
     ∙ sym (λ k. unmapped_by (submits_is w s e i l k) (part_is w e l k) (bound_is w e s i k) q count order (cookie_is w s e i (omega (arith, l)) k))
-    ∙ sym (part_split (finding.submits (wire w) (number w.config.first s) e) (part_of (wire w) e) (bound_at (wire w) e (number w.config.first s)) q count order (cookie_at (wire w) (number w.config.first s) e))
+    ∙ sym (part_split (finding.submits (wire w) (number w.config.first s) e) (part_of (wire w) e)
+    (bound_at (wire w) e (number w.config.first s)) q count order (cookie_at (wire w) (number w.config.first s) e))
 
 -- The places.
 
-targets_are : (w : World) (s q count order : ℕ) → Invariant w → AllFronts w → tabulate 8 (target_at w.config.first w.config.endpoints (part_after_unmap w s q count order) (λ e. owed_by (w.part e) count (bound w e s))) ≡ targets_of (wire w) (number w.config.first s)
+targets_are :
+    (w : World) (s q count order : ℕ) → Invariant w → AllFronts w
+    → tabulate 8 (target_at w.config.first w.config.endpoints (part_after_unmap w s q count order) (λ e. owed_by (w.part e) count (bound w e s)))
+    ≡ targets_of (wire w) (number w.config.first s)
 targets_are w s q count order i fronts =
     tabulate_same 8 (target_at w.config.first w.config.endpoints (part_after_unmap w s q count order) (λ e. owed_by (w.part e) count (bound w e s)))
-    (λ e. if nat_lt e w.config.endpoints then target_by (unit_of (wire w) e) (cookie_at (wire w) (number w.config.first s) e) (bound_at (wire w) e (number w.config.first s)) else None)
+    (λ e. if nat_lt e w.config.endpoints then target_by (unit_of (wire w) e) (cookie_at (wire w) (number w.config.first s) e)
+    (bound_at (wire w) e (number w.config.first s)) else None)
     (λ e l. at e (nat_lt e w.config.endpoints) refl)
-    ∙ sym (ap (λ n. tabulate 8 (λ e. if nat_lt e n then target_by (unit_of (wire w) e) (cookie_at (wire w) (number w.config.first s) e) (bound_at (wire w) e (number w.config.first s)) else None)) (tabulate_length w.config.endpoints (λ x. part_wire w.config.first w.mappings (w.part x))))
+    ∙ sym (ap
+    (λ n. tabulate 8
+    (λ e. if nat_lt e n then target_by (unit_of (wire w) e) (cookie_at (wire w) (number w.config.first s) e)
+    (bound_at (wire w) e (number w.config.first s)) else None)) (tabulate_length w.config.endpoints (λ x. part_wire w.config.first w.mappings (w.part x))))
   where
     less : (a b : ℕ) → nat_lt a b ≡ true → a < b
     less a b k = grind (arith, nat_tests)
 
-    at : (e : ℕ) (b : Bool) → nat_lt e w.config.endpoints ≡ b → (if b then target_wire w.config.first (part_after_unmap w s q count order e) (owed_by (w.part e) count (bound w e s)) else None) ≡ (if b then target_by (unit_of (wire w) e) (cookie_at (wire w) (number w.config.first s) e) (bound_at (wire w) e (number w.config.first s)) else None)
+    at :
+        (e : ℕ) (b : Bool) → nat_lt e w.config.endpoints ≡ b
+        → (if b then target_wire w.config.first (part_after_unmap w s q count order e) (owed_by (w.part e) count (bound w e s)) else None)
+        ≡ (if b then target_by (unit_of (wire w) e) (cookie_at (wire w) (number w.config.first s) e) (bound_at (wire w) e (number w.config.first s)) else None)
     at e false k = refl
     at e true k =
         let l = less e w.config.endpoints k in
         target_new w.cookies w.config.first e (w.part e) (bound w e s) q count order (cookie_of w s e) (i.parts e).orders (fronts e)
         ∙ sym (λ k. target_by (part_is w e l k).unit (cookie_is w s e i (omega (arith, l)) k) (bound_is w e s i k))
 
-places_left : (w : World) (s q count order : ℕ) → Invariant w → AllFronts w → AllDebts w → w.config.endpoints ≤ 8 → places_wire (act w (Unmap s q count order)) ≡ (moved (wire w) (act_move w (Unmap s q count order))).places
+places_left :
+    (w : World) (s q count order : ℕ) → Invariant w → AllFronts w → AllDebts w → w.config.endpoints ≤ 8
+    → places_wire (act w (Unmap s q count order)) ≡ (moved (wire w) (act_move w (Unmap s q count order))).places
 places_left w s q count order i fronts debts low =
     let v = act w (Unmap s q count order) in
-    places_out w v s (in_range q (count * 2 ^ order)) (λ e. owed_by (w.part e) count (bound w e s)) (place_for (targets_of (wire w) (number w.config.first s))) i.mapped refl refl
+    places_out w v s (in_range q (count * 2 ^ order)) (λ e. owed_by (w.part e) count (bound w e s))
+    (place_for (targets_of (wire w) (number w.config.first s))) i.mapped refl refl
     (seen_targets v (λ e. owed_by (w.part e) count (bound w e s)) low ∙ ap place_for (targets_are w s q count order i fronts))
-    (λ m old gone. seen_same w v old refl (λ e l. seen_still w.bindings w.config.first (submits w s e) (w.part e) (bound w e s) q count order (cookie_of w s e) (old e) (i.parts e).bounds (debts m e old gone)))
-    ∙ ap (λ ps. placed (place_for (targets_of (wire w) (number w.config.first s))) (filter (λ entry. in_range q (count * 2 ^ order) entry.page) ps) (places_wire w)) (sym (pages_are w s i.mapped))
+    (λ m old gone. seen_same w v old refl
+    (λ e l. seen_still w.bindings w.config.first (submits w s e) (w.part e) (bound w e s) q count order (cookie_of w s e) (old e) (i.parts e).bounds
+    (debts m e old gone)))
+    ∙ ap (λ ps. placed (place_for (targets_of (wire w) (number w.config.first s))) (filter (λ entry. in_range q (count * 2 ^ order) entry.page) ps)
+    (places_wire w)) (sym (pages_are w s i.mapped))
 
 -- All of it. The premises beside the invariant are laws of each list of steps, and the config fits.
 
@@ -168,7 +205,9 @@ places_left w s q count order i fronts debts low =
 abbrev pub left_by : (w : World) (space page count order endpoint : ℕ) → Part
 left_by w s q count order e = submitted_if (submits w s e) (w.part e) (bound w e s) q count order (cookie_of w s e)
 
-pub unmap_pages : (w : World) (s q count order : ℕ) → Invariant w → AllFronts w → AllDebts w → w.config.endpoints ≤ 8 → wire (act w (Unmap s q count order)) ≡ moved (wire w) (act_move w (Unmap s q count order))
+pub unmap_pages :
+    (w : World) (s q count order : ℕ) → Invariant w → AllFronts w → AllDebts w → w.config.endpoints ≤ 8
+    → wire (act w (Unmap s q count order)) ≡ moved (wire w) (act_move w (Unmap s q count order))
 unmap_pages w s q count order i fronts debts low =
     λ k.
     record (wire w) {
@@ -207,7 +246,8 @@ unmap_pages w s q count order i fronts debts low =
 
     spaces : (wire (act w (Unmap s q count order))).spaces ≡ (moved (wire w) (act_move w (Unmap s q count order))).spaces
     spaces =
-        with_pages_is w.config.first s (pages_wire w.mappings) (pages_wire (act w (Unmap s q count order)).mappings) (moves.without_pages q (count * 2 ^ order)) (select w.spaces w.is_live)
+        with_pages_is w.config.first s (pages_wire w.mappings) (pages_wire (act w (Unmap s q count order)).mappings)
+        (moves.without_pages q (count * 2 ^ order)) (select w.spaces w.is_live)
         (pages_out w s (in_range q (count * 2 ^ order)) (λ e. owed_by (w.part e) count (bound w e s)))
 
     count_parts : length (wire w).parts ≡ w.config.endpoints
@@ -222,4 +262,6 @@ unmap_pages w s q count order i fronts debts low =
         ∙ sym (ap (λ n. tabulate n (part_unmapped (wire w) (number w.config.first s) q count order)) count_parts)
 
     next : (wire (act w (Unmap s q count order))).next_cookie ≡ (moved (wire w) (act_move w (Unmap s q count order))).next_cookie
-    next = sym (cookie_is w s w.config.endpoints i (omega arith)) ∙ sym (ap (λ n. w.config.first + w.cookies + count_below n (finding.submits (wire w) (number w.config.first s))) count_parts)
+    next =
+        sym (cookie_is w s w.config.endpoints i (omega arith))
+        ∙ sym (ap (λ n. w.config.first + w.cookies + count_below n (finding.submits (wire w) (number w.config.first s))) count_parts)

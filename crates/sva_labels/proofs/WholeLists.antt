@@ -21,7 +21,9 @@ opened_is config =
     λ i. record (first_wire config) { next_space = none i; next_binding = none i; next_message = none i; next_cookie = none i }
 
 -- a list of steps, from the world that another leads to
-run_by_labels : LabelsAreNames → (config : Config) → Fits config → (ss before : List Step) (w : World) → w ≡ world_after PerSpace config before → (replies w ss ≡ replies_of (wire w) ss) × (wire (run w ss) ≡ run_of (wire w) ss)
+run_by_labels :
+    LabelsAreNames → (config : Config) → Fits config → (ss before : List Step) (w : World) → w ≡ world_after PerSpace config before
+    → (replies w ss ≡ replies_of (wire w) ss) × (wire (run w ss) ≡ run_of (wire w) ss)
 unfolding replies replies_of
 run_by_labels law config fits [] before w e = (refl, refl)
 run_by_labels law config fits (s ∷ ss) before w e =

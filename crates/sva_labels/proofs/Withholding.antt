@@ -53,7 +53,9 @@ same_both a b f g = grind arith
 abbrev pub target_at : (first endpoints : ℕ) → (ℕ → Part) → (ℕ → Owed) → ℕ → Option TargetWire
 target_at first endpoints part owed e = if nat_lt e endpoints then target_wire first (part e) (owed e) else None
 
-pub seen_targets : (w : World) (owed : ℕ → Owed) → w.config.endpoints ≤ 8 → seen_by w (Gone owed) ≡ place_for (tabulate 8 (target_at w.config.first w.config.endpoints w.part owed))
+pub seen_targets :
+    (w : World) (owed : ℕ → Owed) → w.config.endpoints ≤ 8
+    → seen_by w (Gone owed) ≡ place_for (tabulate 8 (target_at w.config.first w.config.endpoints w.part owed))
 seen_targets w owed low =
     ap (λ b. gone_seen b (WithheldWire (tabulate 8 (target_at w.config.first w.config.endpoints w.part owed)))) none_left
     ∙ go (list_all is_none (tabulate 8 (target_at w.config.first w.config.endpoints w.part owed)))
@@ -71,9 +73,13 @@ seen_targets w owed low =
     none_answers true t = refl
     none_answers false t = refl
 
-    forth : all_below w.config.endpoints (λ e. answered (w.part e) (owed e)) ≡ true → (e : ℕ) (b : Bool) → nat_lt e w.config.endpoints ≡ b → is_none (if b then target_wire w.config.first (w.part e) (owed e) else None) ≡ true
+    forth :
+        all_below w.config.endpoints (λ e. answered (w.part e) (owed e)) ≡ true → (e : ℕ) (b : Bool) → nat_lt e w.config.endpoints ≡ b
+        → is_none (if b then target_wire w.config.first (w.part e) (owed e) else None) ≡ true
     forth h e false k = refl
-    forth h e true k = none_answers (answered (w.part e) (owed e)) (target_of w.config.first (w.part e) (owed e)) ∙ all_below-true w.config.endpoints (λ e. answered (w.part e) (owed e)) h e (less_back e w.config.endpoints k)
+    forth h e true k =
+        none_answers (answered (w.part e) (owed e)) (target_of w.config.first (w.part e) (owed e))
+        ∙ all_below-true w.config.endpoints (λ e. answered (w.part e) (owed e)) h e (less_back e w.config.endpoints k)
 
     back : all_below 8 (λ e. is_none (at e)) ≡ true → (e : ℕ) → e < w.config.endpoints → answered (w.part e) (owed e) ≡ true
     back h e l =
@@ -88,7 +94,10 @@ seen_targets w owed low =
         (λ h. all_below-intro w.config.endpoints (λ e. answered (w.part e) (owed e)) (back h))
         ∙ sym (all_table is_none 8 at)
 
-    go : (b : Bool) → gone_seen b (WithheldWire (tabulate 8 (target_at w.config.first w.config.endpoints w.part owed))) ≡ (if b then FreeWire else WithheldWire (tabulate 8 (target_at w.config.first w.config.endpoints w.part owed)))
+    go :
+        (b : Bool)
+        → gone_seen b (WithheldWire (tabulate 8 (target_at w.config.first w.config.endpoints w.part owed)))
+        ≡ (if b then FreeWire else WithheldWire (tabulate 8 (target_at w.config.first w.config.endpoints w.part owed)))
     go true = refl
     go false = refl
 
@@ -119,13 +128,16 @@ is_less a b h = grind (arith, nat_tests)
 done_is : (z : OrderState) → is_done z ≡ true → z ≡ Done
 done_is z h = grind arith
 
-pub invalidating_done : (cookies first : ℕ) (p : Part) (b k w : ℕ) → Orders p → Fronts cookies p → p.stage b ≡ Invalidating k w → nat_lt (cookie_number first (p.order w)) (end_number first p.front) ≡ is_done (p.order_state w)
+pub invalidating_done :
+    (cookies first : ℕ) (p : Part) (b k w : ℕ) → Orders p → Fronts cookies p → p.stage b ≡ Invalidating k w
+    → nat_lt (cookie_number first (p.order w)) (end_number first p.front) ≡ is_done (p.order_state w)
 invalidating_done cookies first p b k w or f st = go (p.order w) refl (or.invalidating b k w st).2
   where
     front : (c : ℕ) (x : Bool) → p.order w ≡ Wait c x → nat_lt c p.front ≡ is_done (p.order_state w)
     front c x h =
         let d = (has_front cookies p or f).invalidating b k w c x st h in
-        same_both (nat_lt c p.front) (is_done (p.order_state w)) (λ l. ap is_done (d.1 (less_is c p.front l))) (λ z. is_less c p.front (d.0 (done_is (p.order_state w) z)))
+        same_both (nat_lt c p.front) (is_done (p.order_state w)) (λ l. ap is_done (d.1 (less_is c p.front l)))
+        (λ z. is_less c p.front (d.0 (done_is (p.order_state w) z)))
 
     go : (o : Order) → p.order w ≡ o → is_wait o ≡ true → nat_lt (cookie_number first o) (end_number first p.front) ≡ is_done (p.order_state w)
     go (Wait c x) h t = below_front first c p.front ∙ front c x h
@@ -142,13 +154,21 @@ both_or a b h = grind arith
 ranges_wait_now : (p : Part) (b q count order cookie : ℕ) → (submitted p b q count order cookie).order_state (p.orders + count) ≢ Done
 ranges_wait_now p b q count order cookie h = grind (arith, nat_tests)
 
-unit_target : (first : ℕ) (p : Part) (b q count order cookie : ℕ) (o : Bool) → target_wire first (submitted_if (o && true) p (Some b) q count order cookie) (owed_by_unit p count o) ≡ Some (if o then Cookie (number first cookie) else ResetEnd)
+unit_target :
+    (first : ℕ) (p : Part) (b q count order cookie : ℕ) (o : Bool)
+    → target_wire first (submitted_if (o && true) p (Some b) q count order cookie) (owed_by_unit p count o)
+    ≡ Some (if o then Cookie (number first cookie) else ResetEnd)
 unit_target first p b q count order cookie true =
-    ap (λ z. if z then None else Some (target_of first (submitted p b q count order cookie) (Ranges p.orders count p.resets))) (ranges_wait (submitted p b q count order cookie) p.orders count p.resets refl (ranges_wait_now p b q count order cookie))
-    ∙ ap (λ z. Some (Cookie (cookie_number first z))) (put-same (put_range p.order p.orders count (λ j. RangeOf b (range_at q order j))) (p.orders + count) (Wait cookie false))
+    ap (λ z. if z then None else Some (target_of first (submitted p b q count order cookie) (Ranges p.orders count p.resets)))
+    (ranges_wait (submitted p b q count order cookie) p.orders count p.resets refl (ranges_wait_now p b q count order cookie))
+    ∙ ap (λ z. Some (Cookie (cookie_number first z)))
+    (put-same (put_range p.order p.orders count (λ j. RangeOf b (range_at q order j))) (p.orders + count) (Wait cookie false))
 unit_target first p b q count order cookie false = ap (λ z. if z then None else Some ResetEnd) (not_itself p.resets)
 
-stage_target : (cookies first : ℕ) (p : Part) (b q count order cookie : ℕ) → Orders p → Fronts cookies p → (s : Stage) → p.stage b ≡ s → target_wire first (submitted_if (is_open p.phase && is_before_invalidating s) p (Some b) q count order cookie) (owed_by_stage p count s) ≡ target_by_stage (unit_wire first p) (number first cookie) (stage_wire first p s)
+stage_target :
+    (cookies first : ℕ) (p : Part) (b q count order cookie : ℕ) → Orders p → Fronts cookies p → (s : Stage) → p.stage b ≡ s
+    → target_wire first (submitted_if (is_open p.phase && is_before_invalidating s) p (Some b) q count order cookie) (owed_by_stage p count s)
+    ≡ target_by_stage (unit_wire first p) (number first cookie) (stage_wire first p s)
 stage_target cookies first p b q count order cookie or f Live st = unit_target first p b q count order cookie (is_open p.phase)
 stage_target cookies first p b q count order cookie or f (Stopping marked) st = unit_target first p b q count order cookie (is_open p.phase)
 stage_target cookies first p b q count order cookie or f (Draining wait) st = unit_target first p b q count order cookie (is_open p.phase)
@@ -167,7 +187,9 @@ stage_target cookies first p b q count order cookie or f (Invalidating k w) st =
         ∙ both_or (is_done (p.order_state k)) (is_done (p.order_state w)) (λ h. ap is_done (or.invalidation_done b k w st (done_is (p.order_state w) h)))
         ∙ sym (invalidating_done cookies first p b k w or f st)
 
-    turned : (o : Bool) → (if not o then ResetEnd else Cookie (cookie_number first (p.order w))) ≡ (if o then Cookie (cookie_number first (p.order w)) else ResetEnd)
+    turned :
+        (o : Bool)
+        → (if not o then ResetEnd else Cookie (cookie_number first (p.order w))) ≡ (if o then Cookie (cookie_number first (p.order w)) else ResetEnd)
     turned true = refl
     turned false = refl
 stage_target cookies first p b q count order cookie or f Unbound st = refl
@@ -175,7 +197,10 @@ stage_target cookies first p b q count order cookie or f Quiet st = refl
 stage_target cookies first p b q count order cookie or f Lost st = refl
 stage_target cookies first p b q count order cookie or f Released st = refl
 
-pub target_new : (cookies first e : ℕ) (p : Part) (o : Option ℕ) (q count order cookie : ℕ) → Orders p → Fronts cookies p → target_wire first (submitted_if (submits_at p o) p o q count order cookie) (owed_by p count o) ≡ target_by (unit_wire first p) (number first cookie) (option_map (binding_wire first e p) o)
+pub target_new :
+    (cookies first e : ℕ) (p : Part) (o : Option ℕ) (q count order cookie : ℕ) → Orders p → Fronts cookies p
+    → target_wire first (submitted_if (submits_at p o) p o q count order cookie) (owed_by p count o)
+    ≡ target_by (unit_wire first p) (number first cookie) (option_map (binding_wire first e p) o)
 target_new cookies first e p None q count order cookie or f = refl
 target_new cookies first e p (Some b) q count order cookie or f = stage_target cookies first p b q count order cookie or f (p.stage b) refl
 
@@ -187,7 +212,9 @@ old_state p b q count order cookie k l = grind (arith, nat_tests)
 old_order : (p : Part) (b q count order cookie k : ℕ) → k < p.orders → (submitted p b q count order cookie).order k ≡ p.order k
 old_order p b q count order cookie k l = grind (arith, nat_tests)
 
-silent_still : (p : Part) (b q count order cookie : ℕ) (v : Owed) → FitsDebt p v → answered p v ≡ false → answered (submitted p b q count order cookie) v ≡ false
+silent_still :
+    (p : Part) (b q count order cookie : ℕ) (v : Owed) → FitsDebt p v → answered p v ≡ false
+    → answered (submitted p b q count order cookie) v ≡ false
 silent_still p b q count order cookie Nothing d h = absurd (cc (h))
 silent_still p b q count order cookie (Ranges first n resets) d h =
     let z = ranges_open p first n resets d.1 h in
@@ -197,15 +224,22 @@ silent_still p b q count order cookie (Pasid j x resets in_reset) d h =
     pasid_waits (submitted p b q count order cookie) j x resets in_reset z.0 (λ k. z.1 (sym (old_state p b q count order cookie x d.1.made) ∙ k))
 silent_still p b q count order cookie (AReset resets) d h = h
 
-target_still : (first : ℕ) (p : Part) (b q count order cookie : ℕ) (v : Owed) → FitsDebt p v → target_of first (submitted p b q count order cookie) v ≡ target_of first p v
+target_still :
+    (first : ℕ) (p : Part) (b q count order cookie : ℕ) (v : Owed) → FitsDebt p v
+    → target_of first (submitted p b q count order cookie) v ≡ target_of first p v
 target_still first p b q count order cookie Nothing d = refl
-target_still first p b q count order cookie (Ranges range n resets) d = ap (λ z. Cookie (cookie_number first z)) (old_order p b q count order cookie (range + n) d.1.made)
+target_still first p b q count order cookie (Ranges range n resets) d =
+    ap (λ z. Cookie (cookie_number first z)) (old_order p b q count order cookie (range + n) d.1.made)
 target_still first p b q count order cookie (Pasid k x resets true) d = refl
-target_still first p b q count order cookie (Pasid k x resets false) d = ap (λ z. Cookie (cookie_number first z)) (old_order p b q count order cookie x d.1.made)
+target_still first p b q count order cookie (Pasid k x resets false) d =
+    ap (λ z. Cookie (cookie_number first z)) (old_order p b q count order cookie x d.1.made)
 target_still first p b q count order cookie (AReset resets) d = refl
 
-pub seen_still : (g first : ℕ) (t : Bool) (p : Part) (o : Option ℕ) (q count order cookie : ℕ) (v : Owed) → Bounds g p → FitsDebt p v → IsSeenSame first p (submitted_if t p o q count order cookie) v
-seen_still g first true p (Some b) q count order cookie v bo d = record { answers = go (answered p v) refl; target = target_still first p b q count order cookie v d }
+pub seen_still :
+    (g first : ℕ) (t : Bool) (p : Part) (o : Option ℕ) (q count order cookie : ℕ) (v : Owed) → Bounds g p → FitsDebt p v
+    → IsSeenSame first p (submitted_if t p o q count order cookie) v
+seen_still g first true p (Some b) q count order cookie v bo d =
+    record { answers = go (answered p v) refl; target = target_still first p b q count order cookie v d }
   where
     go : (z : Bool) → answered p v ≡ z → answered (submitted p b q count order cookie) v ≡ answered p v
     go true h = answered_submitted g true p (Some b) q count order cookie bo v h ∙ sym h

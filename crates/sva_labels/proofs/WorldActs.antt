@@ -31,7 +31,8 @@ binding_named w e i =
 
     bindings : (wire (act w (NewBinding e))).bindings ≡ (wire w).bindings
     bindings =
-        select_less w.bindings (λ b. is_unreleased ((w.part (put w.home w.bindings e b)).stage b)) (λ b. binding_wire w.config.first (put w.home w.bindings e b) (w.part (put w.home w.bindings e b)) b) (unbound w.bindings)
+        select_less w.bindings (λ b. is_unreleased ((w.part (put w.home w.bindings e b)).stage b))
+        (λ b. binding_wire w.config.first (put w.home w.bindings e b) (w.part (put w.home w.bindings e b)) b) (unbound w.bindings)
         ∙ select_seen w.bindings _ _ _ _
         (λ b l. ap (λ x. is_unreleased ((w.part x).stage b)) (put-other w.home w.bindings e b (apart b w.bindings l)))
         (λ b l t. ap (λ x. binding_wire w.config.first x (w.part x) b) (put-other w.home w.bindings e b (apart b w.bindings l)))
@@ -50,7 +51,9 @@ job_named w e g i h = λ k. record (wire w) { jobs = jobs k; hands = hands k }
     jobs : (wire (act w (NewJob e g))).jobs ≡ (wire w).jobs ++ group_job w.config.first e (w.part e) g ∷ []
     jobs =
         select_one w.jobs (Labels.is_queued_job (act w (NewJob e g))) (job_wire (act w (NewJob e g))) (ap shown (put-same w.job w.jobs new) ∙ ap is_job h)
-        ∙ ap (λ x. map (job_wire (act w (NewJob e g))) (select w.jobs (Labels.is_queued_job (act w (NewJob e g)))) ++ group_job w.config.first x.endpoint (w.part x.endpoint) x.group ∷ []) (put-same w.job w.jobs new)
+        ∙ ap (λ x. map (job_wire (act w (NewJob e g)))
+        (select w.jobs (Labels.is_queued_job (act w (NewJob e g)))) ++ group_job w.config.first x.endpoint (w.part x.endpoint) x.group ∷ [])
+        (put-same w.job w.jobs new)
         ∙ ap (λ xs. xs ++ group_job w.config.first e (w.part e) g ∷ [])
         (select_seen w.jobs _ _ _ _
         (λ j l. ap shown (put-other w.job w.jobs new j (apart j w.jobs l)))
@@ -61,16 +64,23 @@ job_named w e g i h = λ k. record (wire w) { jobs = jobs k; hands = hands k }
       where
         go : (x : ℕ) (o : Option ℕ) → w.hand x ≡ o → option_map (job_wire (act w (NewJob e g))) o ≡ option_map (job_wire w) o
         go x None k = refl
-        go x (Some j) k = ap (λ z. Some (group_job w.config.first z.endpoint (w.part z.endpoint) z.group)) (put-other w.job w.jobs new j (apart j w.jobs (i.hands.made x j k)))
+        go x (Some j) k =
+            ap (λ z. Some (group_job w.config.first z.endpoint (w.part z.endpoint) z.group))
+            (put-other w.job w.jobs new j (apart j w.jobs (i.hands.made x j k)))
 
 -- A worker takes a job into its hand, and lets it go.
 
 pub job_held : (w : World) (x j : ℕ) → wire (act w (Hold x j)) ≡ moved (wire w) (act_move w (Hold x j))
 job_held w x j =
-    let hands = tabulate_set w.config.workers (λ y. option_map (job_wire w) (w.hand y)) (λ y. option_map (job_wire w) (put w.hand x (Some j) y)) x (Some (job_wire w j)) (ap (option_map (job_wire w)) (put-same w.hand x (Some j))) (λ y ne. ap (option_map (job_wire w)) (put-other w.hand x (Some j) y ne)) in
+    let hands =
+    tabulate_set w.config.workers (λ y. option_map (job_wire w) (w.hand y)) (λ y. option_map (job_wire w) (put w.hand x (Some j) y)) x
+    (Some (job_wire w j)) (ap (option_map (job_wire w)) (put-same w.hand x (Some j)))
+    (λ y ne. ap (option_map (job_wire w)) (put-other w.hand x (Some j) y ne)) in
     λ k. record (wire w) { hands = hands k }
 
 pub job_let_go : (w : World) (x : ℕ) → wire (act w (LetGo x)) ≡ moved (wire w) (act_move w (LetGo x))
 job_let_go w x =
-    let hands = tabulate_set w.config.workers (λ y. option_map (job_wire w) (w.hand y)) (λ y. option_map (job_wire w) (put w.hand x None y)) x None (ap (option_map (job_wire w)) (put-same w.hand x None)) (λ y ne. ap (option_map (job_wire w)) (put-other w.hand x None y ne)) in
+    let hands =
+    tabulate_set w.config.workers (λ y. option_map (job_wire w) (w.hand y)) (λ y. option_map (job_wire w) (put w.hand x None y)) x None
+    (ap (option_map (job_wire w)) (put-same w.hand x None)) (λ y ne. ap (option_map (job_wire w)) (put-other w.hand x None y ne)) in
     λ k. record (wire w) { hands = hands k }

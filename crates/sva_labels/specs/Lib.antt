@@ -5,3 +5,4 @@ pub mod Moves
 pub mod Outcomes
 pub mod Host
 pub mod Sound
+pub mod RowsByLabels

@@ -1,17 +1,22 @@
 -- What the calls of the parts need of what a host keeps, in its own words; and the law that each world which a list of steps
 -- leads to is seen so.
-use Rattle.std.specs.Prelude.{◌≡◌, ◌↔◌, ℕ, ◌^◌, ◌<◌, ◌≤◌, Bool, true, false, Option, Some, None, List, [], ◌∷◌, map, length, slice_get, slice_index_or}
+use Rattle.std.specs.Prelude.{◌≡◌, ◌↔◌, ℕ, ◌^◌, ◌<◌, ◌≤◌, Bool, true, false, Option, Some, None, is_some, List, [], ◌∷◌, map, length, slice_get, slice_index_or}
+use Rattle.std.specs.List.{find}
 use Rattle.sva_step.specs.declared.limits.Config.{Config}
 use Rattle.sva_step.specs.declared.steps.Step.{Step}
+use Rattle.sva_model.specs.Message.{Message}
+use Rattle.sva_model.specs.Message.Message.{StartMessage, StopMessage, ResetMessage, InvalidateMessage, ResponseMessage, RequestMessage, InvalidatedMessage, PageRequestMessage, MarkerMessage, ResetDoneMessage}
 use Rattle.sva_model.specs.State.PasidRule.{PerSpace}
 use Rattle.sva_model.specs.Steps.{world_after}
 use Rattle.sva_model.specs.Claims.{Fits}
-use Rattle.sva_model.specs.Wire.{Wire, SpaceWire, BindingWire, UnitWire, PlaceWire, TargetWire, FlightWire, wire}
+use Rattle.sva_model.specs.Wire.{Wire, SpaceWire, BindingWire, DeviceWire, TranslationWire, UnitWire, PlaceWire, TargetWire, PageRequestWire, FlightWire, is_before, wire}
 use Rattle.sva_model.specs.Wire.PlaceWire.{WithheldWire}
 use Rattle.sva_model.specs.Wire.TargetWire.{Cookie}
-use Rattle.sva_model.specs.Wire.StageWire.{InvalidatingWire}
+use Rattle.sva_model.specs.Wire.StageWire.{StoppingWire, InvalidatingWire}
 use Rattle.sva_model.specs.Wire.Descriptor.{WaitDescriptor}
-use Rattle.sva_labels.specs.Finding.{unit_of, is_wait_done}
+use Rattle.sva_labels.specs.Finding.{part_of, device_of, unit_of, outstanding, bearer, is_wait_done}
+use Rattle.sva_labels.specs.Moves.{is_begun}
+use Rattle.sva_labels.specs.Outcomes.{asks_of}
 
 -- what a frame awaits at a unit, if anything; the cookies among such targets, as often as they stand there; and those that
 -- frames await at a unit
@@ -32,6 +37,42 @@ pub record HasWait (unit : UnitWire) (cookie : ℕ) : Type 0 where
   pub place : ℕ
   pub drain : Bool
   pub stands : slice_get unit.queue place ≡ Some (WaitDescriptor cookie drain)
+
+-- a PASID finds its bearer at an endpoint
+abbrev pub IsBorne : Wire → (endpoint pasid : ℕ) → Type 0
+IsBorne w e t = is_some (bearer w e t) ≡ true
+
+-- and that is stopping, and its Stop Marker isn't noted yet
+pub record IsMarkable (w : Wire) (endpoint pasid : ℕ) : Type 0 where
+  pub binding : BindingWire
+  pub found : bearer w endpoint pasid ≡ Some binding
+  pub stopping : binding.stage ≡ StoppingWire false
+
+-- What a message in flight finds: a Start, a Stop and an Invalidate the bearer of its PASID (`receive` of the endpoint); an
+-- Invalidate, a Response, and at an open unit a Request a label within its table; a Reset and a ResetDone a unit in reset
+-- (`reopen`); a Completion of invalidations carries a field of three bits (`complete`); at an open unit a page request finds
+-- a place in the queue (`arrive`) and its bearer, a Request its bearer, and a Stop Marker a binding that waits for it
+-- (`note`). A translation completion needs nothing.
+abbrev pub Suits : Wire → (endpoint : ℕ) → Message → Type 0
+Suits w e (StartMessage t) = IsBorne w e t
+Suits w e (StopMessage t) = IsBorne w e t
+Suits w e ResetMessage = (unit_of w e).is_open ≡ false
+Suits w e (InvalidateMessage itag t scope) = (itag < 32) × IsBorne w e t
+Suits w e (ResponseMessage t i code) = i < 32
+Suits w e (RequestMessage tag t q) = (unit_of w e).is_open ≡ true → (tag < 32) × IsBorne w e t
+Suits w e (InvalidatedMessage vector field) = field < 8
+Suits w e (PageRequestMessage t i q r x l) = (unit_of w e).is_open ≡ true → (length (part_of w e).page_queue < 32) × IsBorne w e t
+Suits w e (MarkerMessage t) = (unit_of w e).is_open ≡ true → IsMarkable w e t
+Suits w e ResetDoneMessage = (unit_of w e).is_open ≡ false
+Suits w e _ = Unit {0}
+
+-- the tables of an endpoint have a place for each label
+pub record AreTables (d : DeviceWire) : Type 0 where
+  pub pasids : length d.pasids ≡ 32
+  pub tags : length d.tags ≡ 32
+  pub slots : length d.slots ≡ 16
+  pub taken : length d.taken ≡ 32
+  pub groups : length d.groups ≡ 32
 
 pub record IsSound (w : Wire) : Type 0 where
   -- numbers and cookies: a step counts on from one of these after its test that it is below 2^63 (a unit's `submit`)
@@ -76,6 +117,31 @@ pub record IsSound (w : Wire) : Type 0 where
       → (unit_of w b.endpoint).is_open ≡ true
       → is_wait_done (unit_of w b.endpoint) c ≡ false
       → HasWait (unit_of w b.endpoint) c
+  -- messages: each is on the way of an endpoint, and finds there what it needs (deliveries)
+  pub flight_endpoint : (k : ℕ) (f : FlightWire) → slice_get w.in_flight k ≡ Some f → f.endpoint < length w.parts
+  pub flight_suits : (k : ℕ) (f : FlightWire) → slice_get w.in_flight k ≡ Some f → Suits w f.endpoint f.message
+  -- page requests that wait to be filed (`file`): the bearer is there, and what is filed of the group has a place left
+  pub waiting_borne : (e k : ℕ) (r : PageRequestWire) → e < length w.parts → slice_get (part_of w e).page_queue k ≡ Some r → IsBorne w e r.pasid
+  pub filing_fits :
+      (e k : ℕ) (r : PageRequestWire) (b : BindingWire)
+      → e < length w.parts
+      → slice_get (part_of w e).page_queue k ≡ Some r
+      → bearer w e r.pasid ≡ Some b
+      → length (asks_of (find (is_begun b.binding r.index) (part_of w e).host_groups)) < 32
+  -- an endpoint: its tables and its unit's have a place for each label (`give` of a label, `receive`); no more than 32 page
+  -- requests are outstanding (`fault`), and no more than 64 translations cached (`receive` of a completion)
+  pub tables : (e : ℕ) → e < length w.parts → AreTables (device_of w e)
+  pub busy_size : (e : ℕ) → e < length w.parts → length (unit_of w e).busy ≡ 32
+  pub few_outstanding : (e : ℕ) → e < length w.parts → outstanding (device_of w e).groups ≤ 32
+  pub cache_fits : (e : ℕ) → e < length w.parts → length (device_of w e).cache ≤ 64
+  -- one translation of each PASID and page is cached, in rising order (`insert` in the place of an older one)
+  pub cache_rises :
+      (e j k : ℕ) (x y : TranslationWire)
+      → e < length w.parts
+      → j < k
+      → slice_get (device_of w e).cache j ≡ Some x
+      → slice_get (device_of w e).cache k ≡ Some y
+      → is_before x y ≡ true
 
 -- what is kept at each world that some list of steps leads to
 abbrev pub AlwaysSound : Type 0

@@ -52,3 +52,5 @@ pub mod Targets
 pub mod OneEndpoint
 pub mod Journals
 pub mod Said
+pub mod Successes
+pub mod OnePart

@@ -1,19 +1,22 @@
 -- What answers tell of the step that gave them. (This project's own.)
-use Rattle.std.specs.Prelude.{◌≡◌, ◌↔◌, ℕ, ◌+◌, ◌<◌, Bool, true, false, ◌&&◌, not, Some, List, [], ◌∷◌, ◌++◌, Ok}
+use Rattle.std.specs.Prelude.{◌≡◌, ◌↔◌, ℕ, ◌+◌, ◌<◌, ◌≤◌, Bool, true, false, ◌&&◌, not, Some, None, List, [], ◌∷◌, ◌++◌, Ok}
 use Rattle.sva_step.specs.declared.answers.Answer.{Answer}
 use Rattle.sva_step.specs.declared.answers.Answer.TheVariants as answer
 use Rattle.sva_step.specs.declared.limits.Config.{Config}
 use Rattle.sva_step.specs.declared.steps.Step.{Step}
 use Rattle.sva_step.specs.declared.steps.Step.TheVariants as step
+use Rattle.sva_step.specs.declared.steps.Verdict.{Verdict}
 use Rattle.sva_model.specs.Words.{count_below}
 use Rattle.sva_model.specs.State.{PasidRule, Part, World}
 use Rattle.sva_model.specs.State.About.{InvalidatedOf}
+use Rattle.sva_model.specs.State.MappingState.{Present}
 use Rattle.sva_model.specs.State.OrderState.{Owing}
 use Rattle.sva_model.specs.State.UseState.{Running}
 use Rattle.sva_model.specs.State.Phase.{Open}
 use Rattle.sva_model.specs.States.{is_done, place}
 use Rattle.sva_model.specs.States.Place.{Free, Mapped, Withheld}
-use Rattle.sva_model.specs.Labels.{bearer, is_named}
+use Rattle.sva_model.specs.Labels.{bearer, is_named, pages_of}
+use Rattle.sva_model.specs.Replies.{job_space}
 use Rattle.sva_model.specs.Steps.{reply, world_after}
 use Rattle.sva_model.specs.Claims.{Fits}
 use Rattle.sva_laws.specs.UnitSteps.{Delivers}
@@ -82,3 +85,32 @@ AlwaysFrees =
     → Delivers (world_after rule config steps) s e (InvalidatedOf names)
     → reply (world_after rule config steps) s
     ≡ Ok (answer.Freed (made_done ((world_after rule config steps).part e) ((world_after rule config (steps ++ s ∷ [])).part e)))
+
+-- From one world to the next `count` pages of a space are mapped that weren't, and so many more it has; each by a new mapping,
+-- while the old ones stay, and no page is taken out.
+pub record MapsPages (w v : World) (space count : ℕ) : Type 0 where
+  pub pages : pages_of v space ≡ pages_of w space + count
+  pub made : v.mappings.made ≡ w.mappings.made + count
+  pub fresh :
+      (m : ℕ)
+      → w.mappings.made ≤ m
+      → m < v.mappings.made
+      → (v.mappings.state m ≡ Present) × (v.mappings.space m ≡ space) × (w.mappings.at space (v.mappings.page m) ≡ None)
+  pub kept :
+      (m : ℕ)
+      → m < w.mappings.made
+      → (v.mappings.state m ≡ w.mappings.state m) × (v.mappings.space m ≡ w.mappings.space m) × (v.mappings.page m ≡ w.mappings.page m)
+  pub mapped : (page : ℕ) → v.mappings.at space page ≡ None → w.mappings.at space page ≡ None
+
+-- A worker's success answers how many pages of the space of its job's binding it maps.
+pub record Succeeds (w v : World) (worker count : ℕ) : Type 0 where
+  pub job : ℕ
+  pub in_hand : w.hand worker ≡ Some job
+  pub maps : MapsPages w v (job_space w job) count
+
+abbrev pub AlwaysSucceeds : Type 0
+AlwaysSucceeds =
+    (rule : PasidRule) (config : Config) (steps : List Step) (worker : ℕ) (verdict : Verdict) (count : ℕ)
+    → Fits config
+    → reply (world_after rule config steps) (step.Reply worker verdict) ≡ Ok (answer.Success count)
+    → Succeeds (world_after rule config steps) (world_after rule config (steps ++ step.Reply worker verdict ∷ [])) worker count

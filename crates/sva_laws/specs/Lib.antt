@@ -3,3 +3,4 @@ pub mod UnitSteps
 pub mod Waits
 pub mod Runs
 pub mod Answers
+pub mod Steps

@@ -3,7 +3,8 @@
 
 ghost use Rattle.sva_model.specs.Claims.{AlwaysAgrees};
 ghost use Rattle.sva_laws.specs.Laws.{AlwaysOwned, AlwaysPresentOrWithheld, AlwaysMatched, AlwaysHoldsJobs, AlwaysDivided, AlwaysAddsUp, AlwaysWithheldExactly, FreeByTheLastAnswer, AlwaysTold, AlwaysToldOfRange, AlwaysGiven, AlwaysLabelled, AlwaysFound, AlwaysCarried, AlwaysUnderWay, NeverOccurring, AlwaysLimited};
-ghost use Rattle.sva_laws.specs.Answers.{AlwaysFinishes, AlwaysUses, AlwaysLooks, AlwaysFrees};
+ghost use Rattle.sva_laws.specs.Answers.{AlwaysFinishes, AlwaysUses, AlwaysLooks, AlwaysFrees, AlwaysSucceeds};
+ghost use Rattle.sva_laws.specs.Steps.{AlwaysChangesOnePart, AlwaysDropsApart};
 ghost use Rattle.sva_laws.specs.Runs.{AlwaysLegalInFront, AlwaysLegalByAnswer, SameForOneEndpoint};
 ghost use Rattle.sva_laws.specs.Waits.{AlwaysHasFront, AlwaysFitsDebts, AlwaysAwaitsTargets};
 ghost use Rattle.sva_laws.specs.UnitSteps.{AlwaysCountsResetDones, AlwaysChangesOrders, AlwaysVoidByReset, AlwaysNotesMarkers, AlwaysGivesCookies};
@@ -84,11 +85,19 @@ pub fn journals_and_rules()
 {}
 
 /// Answers: a finish of so many completions leaves each order that it names owed that many, and sends that many; a use
-/// answers the frame of the translation that is cached; a look answers the frame's place; and a completion that is counted
-/// answers how many orders the step makes done.
+/// answers the frame of the translation that is cached; a look answers the frame's place; a completion that is counted
+/// answers how many orders the step makes done; and a worker's success answers how many pages it maps.
 pub fn what_answers_tell()
     ensures finishes { AlwaysFinishes }
     ensures uses { AlwaysUses }
     ensures looks { AlwaysLooks }
     ensures frees { AlwaysFrees }
+    ensures succeeds { AlwaysSucceeds }
+{}
+
+/// What one step changes: one endpoint with its unit at most, unless it takes pages out of a space; and the drop of a space
+/// changes none.
+pub fn what_steps_change()
+    ensures one_part { AlwaysChangesOnePart }
+    ensures apart { AlwaysDropsApart }
 {}

@@ -66,11 +66,12 @@ balanced-map ms frames q n x rising none first f =
     one_more (n == f) _ _ _ _ (count_in-insert f q n x ms rising none) (mapped_bit-set frames n Mapped f (some-within frames n first))
     (λ is. ap (λ (k : ℕ). mapped_bit k frames) (sym (same_frame n f is)) ∙ ap one_if_mapped (first-free frames n first))
 
--- the frame of a page is given back
-pub balanced-unmap : (ms : List (ℕ × (ℕ × Bool))) (frames : List Holding) (q : ℕ) (mapping : ℕ × Bool) → Owns ms frames → mapping_at ms q ≡ Some mapping → Balanced ms frames (without_page ms q) (set frames mapping.0 Free)
-balanced-unmap ms frames q mapping owned there f =
+-- the frame of a page goes elsewhere
+pub balanced-unmap : (ms : List (ℕ × (ℕ × Bool))) (frames : List Holding) (q : ℕ) (mapping : ℕ × Bool) (h : Holding) → one_if_mapped (Some h) ≡ 0 → Owns ms frames → mapping_at ms q ≡ Some mapping → Balanced ms frames (without_page ms q) (set frames mapping.0 h)
+balanced-unmap ms frames q mapping h none owned there f =
     let mapped : slice_get frames mapping.0 ≡ Some Mapped = owned-mapped ms frames q mapping owned there in
-    one_less (mapping.0 == f) _ _ _ _ (count_in-remove f q mapping ms there) (mapped_bit-set frames mapping.0 Free f (slice_get_within frames mapping.0 Mapped mapped))
+    one_less (mapping.0 == f) _ _ _ _ (count_in-remove f q mapping ms there)
+    (mapped_bit-set frames mapping.0 h f (slice_get_within frames mapping.0 Mapped mapped) ∙ ap (λ (k : ℕ). if mapping.0 == f then k else mapped_bit f frames) none)
     (λ is. ap (λ (k : ℕ). mapped_bit k frames) (sym (same_frame mapping.0 f is)) ∙ ap one_if_mapped mapped)
 
 -- the same of the first page

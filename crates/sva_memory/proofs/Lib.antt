@@ -6,3 +6,8 @@ pub mod LiveLists
 pub mod Dropping
 pub mod Hosts
 pub mod ChangedSpace
+pub mod Waiting
+pub mod Rows
+pub mod Taking
+pub mod Permits
+pub mod Unmapped

@@ -4,3 +4,5 @@ pub mod Owned
 pub mod Pieces
 pub mod Inner
 pub mod Steps
+pub mod Room
+pub mod Unmapping

@@ -1,9 +1,9 @@
 -- What each piece of a step does to the pages of one space and to the places of frames.
-use Rattle.std.specs.Prelude.{◌≡◌, ℕ, ◌+◌, ◌==◌, nat_le, if◌then◌else◌, Bool, List, [], ◌∷◌, Result, Ok, Err, IsOk, length, slice_set}
+use Rattle.std.specs.Prelude.{◌≡◌, ℕ, ◌+◌, ◌%◌, ◌^◌, ◌==◌, ◌&&◌, not, nat_lt, nat_le, if◌then◌else◌, Bool, List, [], ◌∷◌, Result, Ok, Err, IsOk, length, slice_set}
 use Rattle.sva_step.specs.declared.answers.Answer.TheVariants as answer
 use Rattle.sva_step.specs.declared.refusals.Refusal.{Refusal}
 use Rattle.sva_step.specs.declared.refusals.Refusal.TheVariants as refusal
-use Rattle.sva_model.specs.Words.{all_below, count_below}
+use Rattle.sva_model.specs.Words.{any_below, all_below, count_below}
 use Rattle.sva_model.specs.Refusals.{Cause, page_range}
 use Rattle.sva_model.specs.Steps.{Reply}
 use Rattle.sva_model.specs.Wire.{PageWire, PlaceWire, insert_by, is_lower_page}
@@ -14,6 +14,10 @@ use Rattle.sva_labels.specs.Finding.{is_mapped, lowest_free}
 abbrev pub unless_refused : {A : Type 0} → List Cause → A → Result A Refusal
 unless_refused [] a = Ok a
 unless_refused (cause ∷ causes) a = if cause.0 then Err cause.1 else unless_refused causes a
+
+-- the same where there is nothing to answer
+abbrev pub verdict : List Cause → Result (Unit {0}) Refusal
+verdict causes = unless_refused causes tt
 
 -- the answer to a page that is mapped among the pages of its space
 abbrev pub map_reply : List PlaceWire → (page : ℕ) → List PageWire → Reply
@@ -39,9 +43,30 @@ MapsPage pages places q x (Err refusal.OutOfMemory) pages_after places_after =
 MapsPage pages places q x result pages_after places_after =
     (result ≡ map_reply places q pages) × PageMapped pages places q x result pages_after places_after
 
+-- what refuses an unmapping among the pages of their space
+abbrev pub unmap_causes : List PageWire → (page count : ℕ) → List Cause
+unmap_causes pages q count =
+    (not (nat_le 1 count && nat_le count 48), refusal.BadCount)
+    ∷ page_range q count
+    ∷ (not (all_below count (λ j. is_mapped pages (q + j))), refusal.NotMapped)
+    ∷ []
+
+-- and one of a range
+abbrev pub range_causes : List PageWire → (page order : ℕ) → List Cause
+range_causes pages q order =
+    (nat_lt 9 order, refusal.BadOrder)
+    ∷ page_range q (2 ^ order)
+    ∷ (not (q % 2 ^ order == 0), refusal.NotAligned)
+    ∷ (not (any_below (2 ^ order) (λ j. is_mapped pages (q + j))), refusal.NothingMapped)
+    ∷ []
+
 -- each of `count` pages in a row is mapped
 unfoldable pub are_mapped : List PageWire → (page count : ℕ) → Bool
 are_mapped pages q count = all_below count (λ j. is_mapped pages (q + j))
+
+-- some of them is
+unfoldable pub is_some_mapped : List PageWire → (page count : ℕ) → Bool
+is_some_mapped pages q count = any_below count (λ j. is_mapped pages (q + j))
 
 -- how many of `count` pages in a row are mapped
 unfoldable pub count_mapped : List PageWire → (page count : ℕ) → ℕ

@@ -1,5 +1,5 @@
 -- How what the parts keep is seen by the definitions.
-use Rattle.std.specs.Prelude.{ℕ, Bool, List, map, option_map}
+use Rattle.std.specs.Prelude.{ℕ, Bool, Option, List, map, option_map}
 use Rattle.sva_frames.specs.declared.waits.Target.{Target}
 use Rattle.sva_frames.specs.declared.waits.Target.TheVariants.{Cookie as CookieTarget, ResetEnd as ResetTarget}
 use Rattle.sva_frames.specs.Frames.{Holding, Free, Mapped, Withheld}
@@ -18,11 +18,14 @@ abbrev pub target_seen : Target → TargetWire
 target_seen (CookieTarget cookie) = Cookie cookie
 target_seen ResetTarget = ResetEnd
 
+abbrev pub targets_seen : List (Option Target) → List (Option TargetWire)
+targets_seen targets = map (option_map target_seen) targets
+
 -- where a frame is
 abbrev pub place_seen : Holding → PlaceWire
 place_seen Free = FreeWire
 place_seen Mapped = MappedWire
-place_seen (Withheld targets) = WithheldWire (map (option_map target_seen) targets)
+place_seen (Withheld targets) = WithheldWire (targets_seen targets)
 
 abbrev pub places_seen : List Holding → List PlaceWire
 places_seen frames = map place_seen frames

@@ -1,18 +1,21 @@
 //! The frames and the live spaces of a host, put together.
 
-ghost use Rattle.std.specs.Prelude.{◌≡◌, ◌≢◌, true, Err, IfOk, length};
+ghost use Rattle.std.specs.Prelude.{◌≡◌, ◌≢◌, ◌^◌, ◌↔◌, true, None, Err, IfOk, IsOk, IsTrue, length};
 ghost use Rattle.sva_step.specs.declared.refusals.Refusal.TheVariants as refusal;
 ghost use Rattle.sva_step.specs.declared.steps.Step.TheVariants as step;
-ghost use Rattle.sva_labels.specs.Moves.{Move};
+ghost use Rattle.sva_labels.specs.Moves.{Move, settled_cookie};
+ghost use Rattle.sva_memory.specs.Seen.{targets_seen};
+ghost use Rattle.sva_memory.specs.Room.{HaveRoom};
+ghost use Rattle.sva_memory.specs.Unmapping.{may_unmap, may_unmap_range, frames_of, mapped_of, unmapped, settled};
 ghost use Rattle.sva_memory.specs.Steps.{first_memory, Steps, Moves, has_space, Counted};
 
 use crate::live::{Live, place_of};
 use crate::pages;
 use std::alloc::{AllocError, Global};
 use std::marker::Model;
-use sva_frames::{Counts, FramePool, Place};
+use sva_frames::{Counts, FramePool, Place, Waits};
 use sva_space::Space;
-use sva_step::{Answer, NUMBERS, Refusal};
+use sva_step::{Answer, FrameList, NUMBERS, Refusal};
 
 /// How many spaces live at most.
 const MOST_SPACES: usize = 64;
@@ -134,6 +137,91 @@ impl Memory {
         };
         let Live { number: _, space } = self.spaces.remove(place);
         pages::give_all(space, &mut self.pool);
+    }
+
+    /// Whether `count` pages of a space in a row may be taken out: the first of `NoSuchSpace`, `BadCount`, `PageRange` and
+    /// `NotMapped` that refuses it.
+    pub fn may_unmap(&self, space: u64, page: u64, count: u64) -> Result<(), Refusal>
+        ensures { result ≡ may_unmap self.now space page count }
+    {
+        let Some(place) = place_of(&self.spaces, space) else {
+            return Err(Refusal::NoSuchSpace);
+        };
+        pages::may_unmap(&self.spaces[place].space, page, count)
+    }
+
+    /// Takes pages of a space in a row out, and answers their frames. Each of these is withheld for the waits, and free where
+    /// there are none. A cookie that no frame waits for yet at its unit must find fewer than 64 pending there.
+    pub fn unmap(&mut self, space: u64, page: u64, count: u64, waits: &Waits) -> FrameList
+        requires may { IsOk (may_unmap self.old space page count) }
+        requires room { HaveRoom self.old.places (targets_seen waits.now) }
+        ensures frames { result ≡ frames_of self.old space page count }
+        ensures after { self.new ≡ unmapped self.old space page count (targets_seen waits.now) }
+    {
+        let Some(place) = place_of(&self.spaces, space) else {
+            unreachable!();
+        };
+        pages::take_out(
+            &mut self.spaces[place].space,
+            &mut self.pool,
+            page,
+            count,
+            waits,
+        )
+    }
+
+    /// Whether a range of 2^`order` pages of a space may be taken out: the first of `NoSuchSpace`, `BadOrder`, `PageRange`,
+    /// `NotAligned` and `NothingMapped` that refuses it.
+    pub fn may_unmap_range(&self, space: u64, page: u64, order: u64) -> Result<(), Refusal>
+        ensures { result ≡ may_unmap_range self.now space page order }
+    {
+        let Some(place) = place_of(&self.spaces, space) else {
+            return Err(Refusal::NoSuchSpace);
+        };
+        pages::may_unmap_range(&self.spaces[place].space, page, order)
+    }
+
+    /// Takes the pages of a range out, those of them that are mapped, and answers how many they are. Their frames are
+    /// withheld as by `unmap`.
+    pub fn unmap_range(&mut self, space: u64, page: u64, order: u64, waits: &Waits) -> u32
+        requires may { IsOk (may_unmap_range self.old space page order) }
+        requires room { HaveRoom self.old.places (targets_seen waits.now) }
+        ensures frames { result ≡ mapped_of self.old space page (2 ^ order) }
+        ensures after { self.new ≡ unmapped self.old space page (2 ^ order) (targets_seen waits.now) }
+    {
+        let Some(place) = place_of(&self.spaces, space) else {
+            unreachable!();
+        };
+        let count = 1u64 << order;
+        pages::take_mapped(
+            &mut self.spaces[place].space,
+            &mut self.pool,
+            page,
+            count,
+            waits,
+        )
+    }
+
+    /// Whether each cookie of these waits is pending at its unit already, or finds fewer than 64 pending there.
+    pub fn has_room(&self, waits: &Waits) -> bool
+        ensures { IsTrue result ↔ HaveRoom self.now.places (targets_seen waits.now) }
+    {
+        self.pool.has_room(waits)
+    }
+
+    /// The wait with this cookie is done at a unit, and no frame waits for it any more. A frame that waits for nothing else
+    /// is free.
+    pub fn settle(&mut self, unit: u64, cookie: u64)
+        ensures { self.new ≡ settled self.old unit (settled_cookie cookie) }
+    {
+        self.pool.settle(unit, cookie);
+    }
+
+    /// A reset has ended, and no frame waits for this unit any more.
+    pub fn settle_all(&mut self, unit: u64)
+        ensures { self.new ≡ settled self.old unit (λ target. None) }
+    {
+        self.pool.settle_all(unit);
     }
 
     /// How many frames are at each place.

@@ -1,15 +1,17 @@
 //! Pages and frames: what a step does to one space and to the pool.
 
-ghost use Rattle.std.specs.Prelude.{◌≡◌};
-ghost use Rattle.sva_labels.specs.Moves.{placed};
+ghost use Rattle.std.specs.Prelude.{◌≡◌, ◌≤◌, ◌+◌, ◌^◌, true, filter};
+ghost use Rattle.sva_frames.specs.Room.{HaveRoom};
+ghost use Rattle.sva_labels.specs.Finding.{frames_of};
+ghost use Rattle.sva_labels.specs.Moves.{is_between, placed, place_for, without_pages};
 ghost use Rattle.sva_model.specs.Wire.PlaceWire.{FreeWire};
-ghost use Rattle.sva_memory.specs.Seen.{pages_seen, places_seen};
+ghost use Rattle.sva_memory.specs.Seen.{pages_seen, places_seen, targets_seen};
 ghost use Rattle.sva_memory.specs.Owned.{Owns, Balanced, Spent};
-ghost use Rattle.sva_memory.specs.Pieces.{MapsPage};
+ghost use Rattle.sva_memory.specs.Pieces.{MapsPage, verdict, unmap_causes, range_causes, are_mapped, is_some_mapped, count_mapped};
 
-use sva_frames::FramePool;
+use sva_frames::{FramePool, Waits};
 use sva_space::Space;
-use sva_step::{Answer, PAGES, Refusal};
+use sva_step::{Answer, FrameList, MOST_ORDER, MOST_PAGES, PAGES, Refusal};
 
 /// How many pages a space has at most.
 const MOST_MAPPED: usize = 1024;
@@ -44,6 +46,130 @@ pub fn map_page(
             Err(Refusal::OutOfMemory)
         }
     }
+}
+
+/// Whether `count` pages in a row may be taken out of a space.
+pub fn may_unmap(space: &Space, page: u64, count: u64) -> Result<(), Refusal>
+    ensures { result ≡ verdict (unmap_causes (pages_seen space.now) page count) }
+{
+    if count < 1 || count > MOST_PAGES as u64 {
+        return Err(Refusal::BadCount);
+    }
+    if page > PAGES - count {
+        return Err(Refusal::PageRange);
+    }
+    if !are_mapped(space, page, count) {
+        return Err(Refusal::NotMapped);
+    }
+    Ok(())
+}
+
+/// Whether each of `count` pages in a row is mapped.
+fn are_mapped(space: &Space, page: u64, count: u64) -> bool
+    requires { page + count ≤ 2 ^ 36 }
+    ensures { result ≡ are_mapped (pages_seen space.now) page count }
+{
+    for number in 0..count {
+        if space.find(page + number).is_none() {
+            return false;
+        }
+    }
+    true
+}
+
+/// Takes `count` pages in a row out of a space where each of them is mapped. Their frames are withheld for these waits, and
+/// free where there are none.
+pub fn take_out(
+    space: &mut Space,
+    pool: &mut FramePool,
+    page: u64,
+    count: u64,
+    waits: &Waits,
+) -> FrameList
+    requires range { page + count ≤ 2 ^ 36 }
+    requires few { count ≤ 48 }
+    requires mapped { are_mapped (pages_seen space.old) page count ≡ true }
+    requires owned { Owns space.old pool.old }
+    requires room { HaveRoom pool.old waits.now }
+    ensures frames { result ≡ frames_of (pages_seen space.old) page count }
+    ensures pages { pages_seen space.new ≡ without_pages page count (pages_seen space.old) }
+    ensures places { places_seen pool.new ≡ placed (place_for (targets_seen waits.now)) (filter (is_between page count) (pages_seen space.old)) (places_seen pool.old) }
+    ensures balanced { Balanced space.old pool.old space.new pool.new }
+{
+    // How many pages the space has doesn't matter; it is read so that the contract knows that they rise.
+    let _pages = space.len();
+    let mut frames = FrameList::new();
+    for number in 0..count {
+        let Some((taken, _write)) = space.unmap(page + number) else {
+            unreachable!();
+        };
+        frames.push(taken.number());
+        pool.withhold(taken, waits.copied());
+    }
+    frames
+}
+
+/// Whether a range of 2^`order` pages may be taken out of a space, those of them that are mapped.
+pub fn may_unmap_range(space: &Space, page: u64, order: u64) -> Result<(), Refusal>
+    ensures { result ≡ verdict (range_causes (pages_seen space.now) page order) }
+{
+    if order > u64::from(MOST_ORDER) {
+        return Err(Refusal::BadOrder);
+    }
+    let count = 1u64 << order;
+    if page > PAGES - count {
+        return Err(Refusal::PageRange);
+    }
+    if page % count != 0 {
+        return Err(Refusal::NotAligned);
+    }
+    if !is_some_mapped(space, page, count) {
+        return Err(Refusal::NothingMapped);
+    }
+    Ok(())
+}
+
+/// Whether some of `count` pages in a row is mapped.
+fn is_some_mapped(space: &Space, page: u64, count: u64) -> bool
+    requires { page + count ≤ 2 ^ 36 }
+    ensures { result ≡ is_some_mapped (pages_seen space.now) page count }
+{
+    for number in 0..count {
+        if space.find(page + number).is_some() {
+            return true;
+        }
+    }
+    false
+}
+
+/// Takes those of `count` pages in a row that are mapped out of a space, and answers how many they are. Their frames are
+/// withheld for these waits, and free where there are none.
+pub fn take_mapped(
+    space: &mut Space,
+    pool: &mut FramePool,
+    page: u64,
+    count: u64,
+    waits: &Waits,
+) -> u32
+    requires range { page + count ≤ 2 ^ 36 }
+    requires few { count ≤ 512 }
+    requires owned { Owns space.old pool.old }
+    requires room { HaveRoom pool.old waits.now }
+    ensures frames { result ≡ count_mapped (pages_seen space.old) page count }
+    ensures pages { pages_seen space.new ≡ without_pages page count (pages_seen space.old) }
+    ensures places { places_seen pool.new ≡ placed (place_for (targets_seen waits.now)) (filter (is_between page count) (pages_seen space.old)) (places_seen pool.old) }
+    ensures balanced { Balanced space.old pool.old space.new pool.new }
+{
+    // Read for the same reason.
+    let _pages = space.len();
+    let mut frames = 0;
+    for number in 0..count {
+        if let Some((frame, _write)) = space.unmap(page + number) {
+            pool.withhold(frame, waits.copied());
+            frames += 1;
+        }
+    }
+    frames
 }
 
 /// Ends a space: its frames are given back, and are free.

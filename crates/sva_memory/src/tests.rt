@@ -1,8 +1,8 @@
 use crate::Memory;
 use std::alloc::Global;
 use std::process::Abort;
-use sva_frames::Counts;
-use sva_step::{Answer, Refusal};
+use sva_frames::{Counts, Target, Waits};
+use sva_step::{Answer, FrameList, Refusal};
 
 fn counts(free: u32, mapped: u32, withheld: u32) -> Counts {
     Counts {
@@ -49,6 +49,161 @@ fn map<R: Abort>(
     }
     assert_eq!(rt; memory.counts(), before);
     memory.map(space, page, write)
+}
+
+// Takes pages out where that is permitted and there is room for the waits.
+fn unmap<R: Abort>(
+    rt: &R,
+    memory: &mut Memory,
+    space: u64,
+    page: u64,
+    count: u64,
+    waits: &Waits,
+) -> FrameList {
+    assert!(rt; memory.may_unmap(space, page, count).is_ok());
+    assert!(rt; memory.has_room(waits));
+    memory.unmap(space, page, count, waits)
+}
+
+// Takes a range out, in the same way.
+fn unmap_range<R: Abort>(
+    rt: &R,
+    memory: &mut Memory,
+    space: u64,
+    page: u64,
+    order: u64,
+    waits: &Waits,
+) -> u32 {
+    assert!(rt; memory.may_unmap_range(space, page, order).is_ok());
+    assert!(rt; memory.has_room(waits));
+    memory.unmap_range(space, page, order, waits)
+}
+
+fn two(first: u32, second: u32) -> FrameList {
+    let mut frames = FrameList::new();
+    frames.push(first);
+    frames.push(second);
+    frames
+}
+
+// A memory of four frames with one space, whose pages 16, 17 and 20 are mapped to frames 0, 1 and 2.
+fn three_mapped<R: Abort>(rt: &R, alloc: Global) -> Memory {
+    let mut memory = open(rt, alloc, 4, 0);
+    assert_eq!(rt; space(rt, &mut memory), Ok(Answer::Space { space: 0 }));
+    assert_eq!(rt;
+        map(rt, &mut memory, 0, 16, true),
+        Ok(Answer::Frame { frame: 0 })
+    );
+    assert_eq!(rt;
+        map(rt, &mut memory, 0, 17, true),
+        Ok(Answer::Frame { frame: 1 })
+    );
+    assert_eq!(rt;
+        map(rt, &mut memory, 0, 20, true),
+        Ok(Answer::Frame { frame: 2 })
+    );
+    memory
+}
+
+#[test]
+fn frees_what_nobody_waits_for(rt: HostRuntime) {
+    let mut memory = three_mapped(&rt, rt.alloc());
+    let none = Waits::new();
+    assert_eq!(rt; unmap(&rt, &mut memory, 0, 16, 2, &none), two(0, 1));
+    assert_eq!(rt; memory.counts(), counts(3, 1, 0));
+    assert_eq!(rt; memory.may_unmap(0, 16, 2), Err(Refusal::NotMapped));
+    assert_eq!(rt; unmap_range(&rt, &mut memory, 0, 16, 4, &none), 1);
+    assert_eq!(rt; memory.counts(), counts(4, 0, 0));
+}
+
+#[test]
+fn withholds_until_all_is_settled(rt: HostRuntime) {
+    let mut memory = three_mapped(&rt, rt.alloc());
+    let mut waits = Waits::new();
+    waits.push(1, Target::Cookie(5));
+    waits.push(2, Target::ResetEnd);
+    assert_eq!(rt; unmap(&rt, &mut memory, 0, 16, 2, &waits), two(0, 1));
+    assert_eq!(rt; memory.counts(), counts(1, 1, 2));
+    assert_eq!(rt; memory.look(0), Ok(Answer::Withheld));
+    memory.settle(1, 4);
+    memory.settle(2, 5);
+    memory.settle_all(2);
+    assert_eq!(rt; memory.counts(), counts(1, 1, 2));
+    memory.settle(1, 5);
+    assert_eq!(rt; memory.counts(), counts(3, 1, 0));
+}
+
+#[test]
+fn withholds_a_range(rt: HostRuntime) {
+    let mut memory = three_mapped(&rt, rt.alloc());
+    let mut waits = Waits::new();
+    waits.push(7, Target::Cookie(9));
+    assert_eq!(rt; unmap_range(&rt, &mut memory, 0, 16, 2, &waits), 2);
+    assert_eq!(rt; memory.counts(), counts(1, 1, 2));
+    assert_eq!(rt;
+        memory.may_unmap_range(0, 16, 2),
+        Err(Refusal::NothingMapped)
+    );
+    memory.settle(7, 9);
+    assert_eq!(rt; memory.counts(), counts(3, 1, 0));
+}
+
+#[test]
+fn refuses_an_unmapping_in_order(rt: HostRuntime) {
+    let memory = three_mapped(&rt, rt.alloc());
+    assert_eq!(rt; memory.may_unmap(1, 16, 0), Err(Refusal::NoSuchSpace));
+    assert_eq!(rt; memory.may_unmap(0, 68719476736, 0), Err(Refusal::BadCount));
+    assert_eq!(rt; memory.may_unmap(0, 16, 49), Err(Refusal::BadCount));
+    assert_eq!(rt;
+        memory.may_unmap(0, 68719476735, 2),
+        Err(Refusal::PageRange)
+    );
+    assert_eq!(rt; memory.may_unmap(0, 16, 3), Err(Refusal::NotMapped));
+    assert_eq!(rt; memory.may_unmap(0, 16, 2), Ok(()));
+    assert_eq!(rt;
+        memory.may_unmap_range(1, 16, 10),
+        Err(Refusal::NoSuchSpace)
+    );
+    assert_eq!(rt; memory.may_unmap_range(0, 17, 10), Err(Refusal::BadOrder));
+    assert_eq!(rt;
+        memory.may_unmap_range(0, 68719476735, 1),
+        Err(Refusal::PageRange)
+    );
+    assert_eq!(rt; memory.may_unmap_range(0, 17, 1), Err(Refusal::NotAligned));
+    assert_eq!(rt;
+        memory.may_unmap_range(0, 18, 1),
+        Err(Refusal::NothingMapped)
+    );
+    assert_eq!(rt; memory.may_unmap_range(0, 16, 1), Ok(()));
+}
+
+#[test]
+fn has_room_for_64_cookies_at_a_unit(rt: HostRuntime) {
+    let mut memory = open(&rt, rt.alloc(), 65, 0);
+    assert_eq!(rt; space(&rt, &mut memory), Ok(Answer::Space { space: 0 }));
+    for page in 0..64 {
+        let frame = page as u32;
+        assert_eq!(rt;
+            map(&rt, &mut memory, 0, page, true),
+            Ok(Answer::Frame { frame })
+        );
+    }
+    for page in 0..64 {
+        let mut waits = Waits::new();
+        waits.push(0, Target::Cookie(page));
+        let frames = unmap(&rt, &mut memory, 0, page, 1, &waits);
+        assert_eq!(rt; frames.len(), 1);
+    }
+    assert_eq!(rt; memory.counts(), counts(1, 0, 64));
+    let mut again = Waits::new();
+    again.push(0, Target::Cookie(63));
+    assert!(rt; memory.has_room(&again));
+    let mut new = Waits::new();
+    new.push(0, Target::Cookie(64));
+    assert!(rt; !memory.has_room(&new));
+    let mut elsewhere = Waits::new();
+    elsewhere.push(1, Target::Cookie(64));
+    assert!(rt; memory.has_room(&elsewhere));
 }
 
 #[test]

@@ -47,7 +47,7 @@ is_greater a b is = elim_rank (nat_cmp a b) is (ranked a b (nat_cmp a b) refl)
     elim_rank Greater is h = h
 
 -- a look-up compares the page asked for with the page there
-at_page : (page there : ℕ) → is_at (nat_cmp page) there ≡ (there == page)
+pub at_page : (page there : ℕ) → is_at (nat_cmp page) there ≡ (there == page)
 at_page page there = unsigned_tied page there ∙ flipped page there
   where
     flipped : (a b : ℕ) → (a == b) ≡ (b == a)
@@ -168,7 +168,7 @@ pub rising_after_all : (mappings : List (ℕ × (ℕ × Bool))) (calls : List Ca
 rising_after_all mappings [] is_rising = is_rising
 rising_after_all mappings (call ∷ calls) is_rising = rising_after_all (after mappings call) calls (rising_after mappings call is_rising)
 
-none_rising : IsRising []
+pub none_rising : IsRising []
 unfolding IsStrictlySortedBy
 none_rising = tt
 
@@ -204,7 +204,7 @@ owned calls frame permitted = zero-add-back (owned_from frame [] calls none_risi
     zero-add-back : {a b : ℕ} → 0 + a ≡ b → a ≡ b
     zero-add-back h = omega arith
 
-above_others : (page : ℕ) (mappings : List (ℕ × (ℕ × Bool))) → AllAbove page mappings → (other : ℕ) (mapping : ℕ × Bool) → mapping_at mappings other ≡ Some mapping → page < other
+pub above_others : (page : ℕ) (mappings : List (ℕ × (ℕ × Bool))) → AllAbove page mappings → (other : ℕ) (mapping : ℕ × Bool) → mapping_at mappings other ≡ Some mapping → page < other
 above_others page [] all other mapping found = absurd (cc)
 above_others page (m ∷ mappings) all other mapping found = by_test (is_at (nat_cmp other) m.0) refl found (above_others page mappings all.1 other mapping)
   where
@@ -212,11 +212,18 @@ above_others page (m ∷ mappings) all other mapping found = by_test (is_at (nat
     by_test true is found rest = let equal : (m.0 == other) ≡ true = sym (at_page other m.0) ∙ is in let below : page < m.0 = is_less page m.0 all.0 in grind (arith, nat_tests)
     by_test false is found rest = rest found
 
-at_itself : (page : ℕ) → is_at (nat_cmp page) page ≡ true
+pub at_itself : (page : ℕ) → is_at (nat_cmp page) page ≡ true
 at_itself page = at_page page page ∙ itself page
   where
     itself : (n : ℕ) → (n == n) ≡ true
     itself n = grind (arith, nat_tests)
+
+pub rising_head : (m : ℕ × (ℕ × Bool)) (mappings : List (ℕ × (ℕ × Bool))) → IsRising (m ∷ mappings) → AllAbove m.0 mappings
+rising_head m mappings is_rising = sorted_head nat_cmp m.0 (keys_of mappings) is_rising
+
+pub rising_tail : (m : ℕ × (ℕ × Bool)) (mappings : List (ℕ × (ℕ × Bool))) → IsRising (m ∷ mappings) → IsRising mappings
+unfolding IsStrictlySortedBy
+rising_tail m mappings is_rising = is_rising.1
 
 pub lowest_first : LowestFirst
 lowest_first page frame write rest is_rising = (

@@ -3,7 +3,7 @@ use Rattle.std.specs.Map.{values_of}
 use Rattle.sva_space.specs.Pages.{mapping_at, with_page, without_page}
 
 -- a call that may change a space: a page mapped to a frame with its write flag, a page unmapped. Taking the first
--- page out is an unmapping of the lowest page.
+-- page out, of all or of a range, is an unmapping of the lowest page there.
 pub data Call : Type 0 where
   Map : ℕ → ℕ → Bool → Call
   Unmap : ℕ → Call

@@ -1,4 +1,4 @@
-use Rattle.std.specs.Prelude.{ℕ, Bool, List, Option}
+use Rattle.std.specs.Prelude.{ℕ, ◌<◌, ◌≤◌, Bool, not, ◌&&◌, nat_lt, List, filter, Option, IsSome}
 use Rattle.std.specs.BTreeMap.{is_at, insert_entry}
 use Rattle.std.specs.Map.{lookup, remove_entry, keys_of}
 use Rattle.std.specs.Ordering.{nat_cmp}
@@ -19,3 +19,15 @@ with_page mappings page frame write = insert_entry nat_cmp mappings page (frame,
 -- without a page
 abbrev pub without_page : List (ℕ × (ℕ × Bool)) → ℕ → List (ℕ × (ℕ × Bool))
 without_page mappings page = remove_entry (is_at (nat_cmp page)) mappings
+
+-- the page is one from `first` on and below `end`
+abbrev pub is_between : ℕ → ℕ → (ℕ × (ℕ × Bool)) → Bool
+is_between first end mapping = not (nat_lt mapping.0 first) && nat_lt mapping.0 end
+
+-- the mappings of these pages, in rising order
+abbrev pub mappings_between : ℕ → ℕ → List (ℕ × (ℕ × Bool)) → List (ℕ × (ℕ × Bool))
+mappings_between first end mappings = filter (is_between first end) mappings
+
+-- each of these pages is mapped
+abbrev pub AllMapped : ℕ → ℕ → List (ℕ × (ℕ × Bool)) → Type 0
+AllMapped first end mappings = (page : ℕ) → first ≤ page → page < end → IsSome (mapping_at mappings page)

@@ -1,4 +1,4 @@
-ghost use Rattle.sva_space.specs.Laws.{Rising, FiniteMap, Owned, LowestFirst};
+ghost use Rattle.sva_space.specs.Laws.{Rising, FiniteMap, Owned, LowestFirst, LowestBetween};
 
 /// What holds of a space after every list of permitted calls.
 pub fn space_laws()
@@ -6,4 +6,5 @@ pub fn space_laws()
     ensures finite_map { FiniteMap }
     ensures owned { Owned }
     ensures lowest_first { LowestFirst }
+    ensures lowest_between { LowestBetween }
 {}

@@ -1,4 +1,4 @@
-ghost use Rattle.std.specs.Prelude.{◌≡◌, ◌↔◌, [], ◌∷◌, IfSome, IfNone, IfErr, IsTrue, OnOk, None, length};
+ghost use Rattle.std.specs.Prelude.{◌≡◌, ◌↔◌, ◌<◌, ◌≤◌, ℕ, [], ◌∷◌, IfSome, IfNone, IfErr, IsSome, IsTrue, OnOk, Some, None, find, length, option_map};
 
 use std::alloc::{AllocError, Global};
 use std::collections::BTreeMap;
@@ -25,7 +25,7 @@ impl Model for Space {
 }
 
 impl Space {
-    ghost use Rattle.sva_space.specs.Pages.{IsRising, mapping_at};
+    ghost use Rattle.sva_space.specs.Pages.{IsRising, mapping_at, is_between, mappings_between, AllMapped};
     ghost use Rattle.sva_space.specs.Calls.{Map, Unmap, after};
 
     /// A space without pages.
@@ -100,6 +100,53 @@ impl Space {
     {
         let (page, (frame, write)) = self.pages.pop_first()?;
         Some((page, frame, write))
+    }
+
+    /// The lowest mapped page of those from `first` on and below `end`.
+    pub fn first_between(&self, first: u64, end: u64) -> Option<u64>
+        ensures { result ≡ option_map (λ mapping. mapping.0) (find (is_between first end) self.now) }
+    {
+        if first > end {
+            return None;
+        }
+        match self.pages.range(first..end).next() {
+            Some((page, _)) => Some(*page),
+            None => None,
+        }
+    }
+
+    /// How many pages from `first` on and below `end` are mapped.
+    pub fn count_between(&self, first: u64, end: u64) -> usize
+        ensures { result ≡ length (mappings_between first end self.now) }
+    {
+        if first > end {
+            return 0;
+        }
+        self.pages.range(first..end).count()
+    }
+
+    /// Whether each page from `first` on and below `end` is mapped.
+    pub fn are_mapped(&self, first: u64, end: u64) -> bool
+        ensures { IsTrue result ↔ AllMapped first end self.now }
+    {
+        // The pages rise, which is read of the map itself.
+        let _pages = &self.pages;
+        self.count_between(first, end) as u64 == end.saturating_sub(first)
+    }
+
+    /// Takes the lowest mapped page out of those from `first` on and below `end`, and answers it with its frame and
+    /// whether it could be written. None, with nothing changed, where none of them is mapped.
+    pub fn unmap_first(&mut self, first: u64, end: u64) -> Option<(u64, Frame, bool)>
+        ensures some { IfSome result (λ taken. find (is_between first end) self.old ≡ Some (taken.0, (taken.1, taken.2))) }
+        ensures after { IfSome result (λ taken. self.new ≡ after self.old (Unmap taken.0)) }
+        ensures none { IfNone result ((find (is_between first end) self.old ≡ None) × (self.new ≡ self.old)) }
+        ensures rising { IsRising self.new }
+    {
+        // The pages rise, which is read of the map itself.
+        let _pages = &self.pages;
+        let lowest = self.first_between(first, end)?;
+        let (frame, write) = self.unmap(lowest)?;
+        Some((lowest, frame, write))
     }
 
     /// Ends a space without pages.

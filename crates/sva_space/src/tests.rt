@@ -34,19 +34,35 @@ fn maps_and_unmaps(rt: HostRuntime) -> Result<(), Fail> {
     }
     assert_eq!(rt; space.find(16), Some((0, false)));
     assert_eq!(rt; space.len(), 2);
+    looks_at_ranges(&rt, &space);
     pops_and_unmaps(&rt, space, first, second);
     Ok(())
 }
 
-/// Takes page 16 out as the lowest one, and then page 17 by its number.
+/// Pages 16 and 17 are mapped, and no other.
+fn looks_at_ranges<R: Abort>(rt: &R, space: &Space) {
+    assert_eq!(rt; space.first_between(0, 32), Some(16));
+    assert_eq!(rt; space.first_between(17, 32), Some(17));
+    assert_eq!(rt; space.first_between(18, 32), None);
+    assert_eq!(rt; space.count_between(0, 17), 1);
+    assert_eq!(rt; space.count_between(16, 18), 2);
+    assert!(rt; space.are_mapped(16, 18));
+    assert!(rt; !space.are_mapped(16, 19));
+    assert!(rt; space.are_mapped(20, 20));
+}
+
+/// Takes page 16 out as the lowest one of a range, and then page 17 by its number.
 fn pops_and_unmaps<R: Abort>(
     rt: &R,
     mut space: Space,
     mut first: FramePool,
     mut second: FramePool,
 ) {
-    let Some((page, frame, write)) = space.pop_first() else {
-        panic!(rt; "the space is empty");
+    if let Some((_page, frame, _write)) = space.unmap_first(18, 32) {
+        panic!(rt; "no page of the range is mapped: frame {}", frame.number());
+    }
+    let Some((page, frame, write)) = space.unmap_first(0, 32) else {
+        panic!(rt; "no page of the range is mapped");
     };
     assert_eq!(rt; (page, write), (16, false));
     give(rt, &mut second, frame);

@@ -52,7 +52,8 @@ count_cons (suc n) p = one_and (p (suc n)) (cond (p 0) 1 0) (count_below (suc n)
 
 -- One ITag.
 
-counted_seen : (b : Bool) (c a : ℕ) → option_map busy_seen (if b then None else Some (place.Counting c a)) ≡ (if b then None else Some (BusyWire.Counting c a))
+counted_seen : (b : Bool) (c a : ℕ)
+    → option_map busy_seen (if b then None else Some (place.Counting c a)) ≡ (if b then None else Some (BusyWire.Counting c a))
 counted_seen true c a = refl
 counted_seen false c a = refl
 
@@ -61,7 +62,8 @@ next_seen c a =
     let next : a + 1 ≡ suc a = omega arith in
     ap (λ n. option_map busy_seen (counted c n)) next ∙ counted_seen (suc a == c) c (suc a)
 
-one_seen : (named : Bool) (c : ℕ) (tag : Option Busy) → option_map busy_seen (after_completion named c tag) ≡ (if named then one_more c (option_map busy_seen tag) else option_map busy_seen tag)
+one_seen : (named : Bool) (c : ℕ) (tag : Option Busy)
+    → option_map busy_seen (after_completion named c tag) ≡ (if named then one_more c (option_map busy_seen tag) else option_map busy_seen tag)
 one_seen true c None = refl
 one_seen false c None = refl
 one_seen false c (Some b) = refl
@@ -75,7 +77,8 @@ is_counted false c a = refl
 turned : (c : ℕ) → (1 == c) ≡ (c == 1)
 turned c = grind (arith, nat_tests)
 
-freed_one : (named : Bool) (c : ℕ) (tag : Option Busy) → is_freed tag (after_completion named c tag) ≡ (named && is_last_of c (option_map busy_seen tag))
+freed_one : (named : Bool) (c : ℕ) (tag : Option Busy)
+    → is_freed tag (after_completion named c tag) ≡ (named && is_last_of c (option_map busy_seen tag))
 freed_one true c None = refl
 freed_one false c None = refl
 freed_one false c (Some b) = refl
@@ -92,7 +95,8 @@ completed_at tag v c busy t = if is_set v (tag + t) then one_more c (slice_index
 abbrev freed_at : (tag vector count : ℕ) → List (Option BusyWire) → ℕ → Bool
 freed_at tag v c busy t = is_set v (tag + t) && is_last_of c (slice_index_or busy t None)
 
-pub completed_seen : (tag v c : ℕ) (tags : List (Option Busy)) (n : ℕ) → length tags ≡ n → places_seen (completed_from tag v c tags) ≡ tabulate n (completed_at tag v c (places_seen tags))
+pub completed_seen : (tag v c : ℕ) (tags : List (Option Busy)) (n : ℕ) → length tags ≡ n
+    → places_seen (completed_from tag v c tags) ≡ tabulate n (completed_at tag v c (places_seen tags))
 completed_seen tag v c [] zero len = sym (tabulate_none (completed_at tag v c []))
 completed_seen tag v c [] (suc n) len = absurd (omega (arith, len))
 completed_seen tag v c (x ∷ tags) zero len = absurd (omega (arith, len))
@@ -119,7 +123,8 @@ ones_cons b bs =
 none_set : count_ones 0 ≡ 0
 none_set = omega (arith, ones_le_self 0)
 
-pub freed_seen : (tag v c : ℕ) (tags : List (Option Busy)) (n : ℕ) → length tags ≡ n → count_ones (vector_of (freed_places tags (completed_from tag v c tags))) ≡ count_below n (freed_at tag v c (places_seen tags))
+pub freed_seen : (tag v c : ℕ) (tags : List (Option Busy)) (n : ℕ) → length tags ≡ n
+    → count_ones (vector_of (freed_places tags (completed_from tag v c tags))) ≡ count_below n (freed_at tag v c (places_seen tags))
 freed_seen tag v c [] zero len = none_set ∙ sym (count_none (freed_at tag v c []))
 freed_seen tag v c [] (suc n) len = absurd (omega (arith, len))
 freed_seen tag v c (x ∷ tags) zero len = absurd (omega (arith, len))
@@ -157,14 +162,16 @@ completed_is v c tags len =
     (λ t l. let same : 0 + t ≡ t = omega arith in
     ap (λ j. if is_set v j then one_more c (slice_index_or busy t None) else slice_index_or busy t None) same)
 
-pub freed_is : (v c : ℕ) (tags : List (Option Busy)) → length tags ≡ 32 → count_ones (freed_vector v c tags) ≡ count_below 32 (λ t. is_set v t && is_last_of c (slice_index_or (places_seen tags) t None))
+pub freed_is : (v c : ℕ) (tags : List (Option Busy)) → length tags ≡ 32
+    → count_ones (freed_vector v c tags) ≡ count_below 32 (λ t. is_set v t && is_last_of c (slice_index_or (places_seen tags) t None))
 freed_is v c tags len =
     let busy = places_seen tags in
     freed_seen 0 v c tags 32 len
     ∙ count_same 32 (freed_at 0 v c busy) (λ t. is_set v t && is_last_of c (slice_index_or busy t None))
     (λ t l. let same : 0 + t ≡ t = omega arith in ap (λ j. is_set v j && is_last_of c (slice_index_or busy t None)) same)
 
-pub reopened_is : (q : Queue) (requests : List PageRequest) → length q.tags ≡ 32 → q.is_open ≡ false → seen (reset_ended q) requests ≡ with_unit (seen q requests) (unit_reopened (unit_seen q))
+pub reopened_is : (q : Queue) (requests : List PageRequest) → length q.tags ≡ 32 → q.is_open ≡ false
+    → seen (reset_ended q) requests ≡ with_unit (seen q requests) (unit_reopened (unit_seen q))
 reopened_is q requests len closed =
     let busy = free_seen q.tags len in
     let front : (if q.is_open then q.front else q.back) ≡ q.back = ap (λ b. if b then q.front else q.back) closed in

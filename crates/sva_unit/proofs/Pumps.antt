@@ -19,9 +19,8 @@ use Rattle.sva_unit.specs.declared.pumping.Extent.TheVariants as extent
 use Rattle.sva_unit.specs.declared.pumping.Sending.{Sending}
 use Rattle.sva_unit.specs.declared.pumping.Next.{Next}
 use Rattle.sva_unit.specs.declared.pumping.Next.TheVariants.{Idle, Blocked, Send, Pass}
-use Rattle.sva_unit.specs.Messages.{extent_seen}
 use Rattle.sva_unit.specs.Seen.{UnitSeen, descriptor_seen, request_seen, unit_seen, seen, with_unit}
-use Rattle.sva_unit.specs.Pumping.{sending_of, send_next, pass_next, may_pass, next_at, next_of, pumped, at_endpoint, IsPump, unit_sent, unit_passed}
+use Rattle.sva_unit.specs.Pumping.{extent_seen, sending_of, send_next, pass_next, may_pass, next_at, next_of, pumped, at_endpoint, IsPump, unit_sent, unit_passed}
 use Rattle.sva_unit.proofs.Places.{places_seen, lowest_seen, idle_seen, fresh_seen}
 
 -- It is what the definitions by labels do.
@@ -34,7 +33,8 @@ wait_is : (e cookie : ℕ) (b : Bool) → wait_result e cookie b ≡ pumped e (p
 wait_is e cookie true = refl
 wait_is e cookie false = refl
 
-pump_at : (s : UnitSeen) (queue : List DescriptorWire) (e : ℕ) (device : DeviceWire) (groups : List HostGroupWire) → pump_result (at_endpoint s device groups) e queue ≡ pumped e (next_at s queue)
+pump_at : (s : UnitSeen) (queue : List DescriptorWire) (e : ℕ) (device : DeviceWire) (groups : List HostGroupWire)
+    → pump_result (at_endpoint s device groups) e queue ≡ pumped e (next_at s queue)
 pump_at s [] e device groups = refl
 pump_at s (RangeDescriptor t range ∷ queue) e device groups = send_is e t (extent.Pages range) _
 pump_at s (PasidDescriptor t ∷ queue) e device groups = send_is e t extent.All _
@@ -60,7 +60,9 @@ next_by (was.Done cookie) head = Pass cookie
 next_by (was.Issued itag) None = Blocked
 next_by (was.Issued itag) (Some order) = Send (sending_of itag order)
 
-range_by : (t : ℕ) (extent : Extent) (order : Descriptor) (o : Option ℕ) → ((itag : ℕ) → sending_of itag order ≡ record { itag = itag; pasid = t; extent = extent }) → send_next t extent o ≡ next_by (issued o) (Some order)
+range_by : (t : ℕ) (extent : Extent) (order : Descriptor) (o : Option ℕ)
+    → ((itag : ℕ) → sending_of itag order ≡ record { itag = itag; pasid = t; extent = extent })
+    → send_next t extent o ≡ next_by (issued o) (Some order)
 range_by t extent order None same = refl
 range_by t extent order (Some itag) same = ap (λ (s : Sending). Send s) (sym (same itag))
 
@@ -68,7 +70,8 @@ wait_by : (cookie : ℕ) (head : Option Descriptor) (b : Bool) → pass_next coo
 wait_by cookie head true = refl
 wait_by cookie head false = refl
 
-heads_at : (q : Queue) (requests : List PageRequest) (e : Bool) (ds : List Descriptor) → e ≡ (length (map request_seen requests) == 0) → next_at (seen q requests) (map descriptor_seen ds) ≡ next_by (answer_at q e ds) (slice_get ds 0)
+heads_at : (q : Queue) (requests : List PageRequest) (e : Bool) (ds : List Descriptor) → e ≡ (length (map request_seen requests) == 0)
+    → next_at (seen q requests) (map descriptor_seen ds) ≡ next_by (answer_at q e ds) (slice_get ds 0)
 heads_at q requests e [] empty = refl
 heads_at q requests e (Range t range ∷ ds) empty =
     ap (send_next t (extent.Pages range)) (lowest_seen q.tags) ∙ range_by t (extent.Pages range) (Range t range) (lowest_free q.tags) (λ itag. refl)
@@ -78,7 +81,8 @@ heads_at q requests e (Wait cookie drain ∷ ds) empty =
     ap (pass_next cookie) (ap₂ (λ idle none. idle && (not drain || none)) (idle_seen q.tags) (sym empty))
     ∙ wait_by cookie (Some (Wait cookie drain)) (is_complete q e drain)
 
-pub heads : (q : Queue) (requests : List PageRequest) (e : Bool) → e ≡ (length (map request_seen requests) == 0) → next_of (seen q requests) ≡ next_by (answer_of q e) (slice_get q.descriptors 0)
+pub heads : (q : Queue) (requests : List PageRequest) (e : Bool) → e ≡ (length (map request_seen requests) == 0)
+    → next_of (seen q requests) ≡ next_by (answer_of q e) (slice_get q.descriptors 0)
 heads q requests e empty = heads_at q requests e q.descriptors empty
 
 -- What is left of it.
@@ -94,14 +98,16 @@ tag_at q e (Pasid pasid ∷ ds) t h = issued_tag (lowest_free q.tags) t h
 tag_at q e (Wait cookie drain ∷ ds) t h = absurd (wait_not_issued (is_complete q e drain) cookie t h)
 
 -- the queue once its head is sent
-after_issue : (q : Queue) (requests : List PageRequest) (t : ℕ) → lowest_free q.tags ≡ Some t → seen (after_answer (was.Issued t) q) requests ≡ with_unit (seen q requests) (unit_sent (unit_seen q) t)
+after_issue : (q : Queue) (requests : List PageRequest) (t : ℕ) → lowest_free q.tags ≡ Some t
+    → seen (after_answer (was.Issued t) q) requests ≡ with_unit (seen q requests) (unit_sent (unit_seen q) t)
 after_issue q requests t lowest =
     let taken : places_seen (with_fresh (lowest_free q.tags) q.tags) ≡ slice_set (places_seen q.tags) t _ =
     ap (λ o. places_seen (with_fresh o q.tags)) lowest ∙ fresh_seen q.tags t in
     let rest = sym (drop-map descriptor_seen 1 q.descriptors) in
     λ i. record { unit = record { is_open = q.is_open; queue = rest i; busy = taken i; front = q.front; waits_end = q.back }; page_queue = map request_seen requests }
 
-after_pass : (q : Queue) (requests : List PageRequest) (cookie : ℕ) → seen (after_answer (was.Done cookie) q) requests ≡ with_unit (seen q requests) (unit_passed (unit_seen q) cookie)
+after_pass : (q : Queue) (requests : List PageRequest) (cookie : ℕ)
+    → seen (after_answer (was.Done cookie) q) requests ≡ with_unit (seen q requests) (unit_passed (unit_seen q) cookie)
 after_pass q requests cookie =
     let next : cookie + 1 ≡ suc cookie = omega arith in
     let rest = sym (drop-map descriptor_seen 1 q.descriptors) in
@@ -112,10 +118,12 @@ abbrev itag_in : Next → ℕ
 itag_in (Send s) = s.itag
 itag_in _ = 0
 
-pub sent : (q : Queue) (requests : List PageRequest) (e : Bool) (s : Sending) → e ≡ (length (map request_seen requests) == 0) → next_of (seen q requests) ≡ Send s → seen (queue_pumped e q) requests ≡ with_unit (seen q requests) (unit_sent (unit_seen q) s.itag)
+pub sent : (q : Queue) (requests : List PageRequest) (e : Bool) (s : Sending) → e ≡ (length (map request_seen requests) == 0)
+    → next_of (seen q requests) ≡ Send s → seen (queue_pumped e q) requests ≡ with_unit (seen q requests) (unit_sent (unit_seen q) s.itag)
 sent q requests e s empty is = go (answer_of q e) (slice_get q.descriptors 0) refl (sym (heads q requests e empty) ∙ is)
   where
-    go : (answer : Pumped) (head : Option Descriptor) → answer_of q e ≡ answer → next_by answer head ≡ Send s → seen (queue_pumped e q) requests ≡ with_unit (seen q requests) (unit_sent (unit_seen q) s.itag)
+    go : (answer : Pumped) (head : Option Descriptor) → answer_of q e ≡ answer → next_by answer head ≡ Send s
+        → seen (queue_pumped e q) requests ≡ with_unit (seen q requests) (unit_sent (unit_seen q) s.itag)
     go was.Idle head same h = absurd (cc)
     go was.Blocked head same h = absurd (cc)
     go (was.Done cookie) head same h = absurd (cc)
@@ -126,10 +134,12 @@ sent q requests e s empty is = go (answer_of q e) (slice_get q.descriptors 0) re
         ∙ after_issue q requests t (tag_at q e q.descriptors t same)
         ∙ ap (λ n. with_unit (seen q requests) (unit_sent (unit_seen q) n)) tag
 
-pub passed : (q : Queue) (requests : List PageRequest) (e : Bool) (cookie : ℕ) → e ≡ (length (map request_seen requests) == 0) → next_of (seen q requests) ≡ Pass cookie → seen (queue_pumped e q) requests ≡ with_unit (seen q requests) (unit_passed (unit_seen q) cookie)
+pub passed : (q : Queue) (requests : List PageRequest) (e : Bool) (cookie : ℕ) → e ≡ (length (map request_seen requests) == 0)
+    → next_of (seen q requests) ≡ Pass cookie → seen (queue_pumped e q) requests ≡ with_unit (seen q requests) (unit_passed (unit_seen q) cookie)
 passed q requests e cookie empty is = go (answer_of q e) (slice_get q.descriptors 0) refl (sym (heads q requests e empty) ∙ is)
   where
-    go : (answer : Pumped) (head : Option Descriptor) → answer_of q e ≡ answer → next_by answer head ≡ Pass cookie → seen (queue_pumped e q) requests ≡ with_unit (seen q requests) (unit_passed (unit_seen q) cookie)
+    go : (answer : Pumped) (head : Option Descriptor) → answer_of q e ≡ answer → next_by answer head ≡ Pass cookie
+        → seen (queue_pumped e q) requests ≡ with_unit (seen q requests) (unit_passed (unit_seen q) cookie)
     go was.Idle head same h = absurd (cc)
     go was.Blocked head same h = absurd (cc)
     go (was.Issued t) None same h = absurd (cc)

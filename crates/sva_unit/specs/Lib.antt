@@ -1,4 +1,3 @@
 pub mod Seen
-pub mod Messages
 pub mod Pumping
 pub mod Changes

@@ -5,6 +5,10 @@ use Rattle.sva_queue.specs.declared.descriptors.Descriptor.{Descriptor as Order}
 use Rattle.sva_queue.specs.declared.descriptors.Descriptor.TheVariants.{Range, Pasid, Wait}
 use Rattle.sva_unit.specs.declared.pumping.Extent.{Extent}
 use Rattle.sva_unit.specs.declared.pumping.Extent.TheVariants.{Pages, All}
+use Rattle.sva_msg.specs.declared.messages.Scope.{Scope}
+use Rattle.sva_msg.specs.declared.messages.Scope.TheVariants as scope
+use Rattle.sva_model.specs.Range.{encode}
+use Rattle.sva_model.specs.States.{Extent as ExtentSeen}
 use Rattle.sva_model.specs.Wire.{PartWire, UnitWire, DeviceWire, HostGroupWire, Descriptor}
 use Rattle.sva_model.specs.Wire.BusyWire.{Fresh}
 use Rattle.sva_model.specs.Wire.Descriptor.{RangeDescriptor, PasidDescriptor, WaitDescriptor}
@@ -14,8 +18,17 @@ use Rattle.sva_labels.specs.Outcomes.{Result, says, by_one, pump_result}
 use Rattle.sva_unit.specs.declared.pumping.Sending.{Sending}
 use Rattle.sva_unit.specs.declared.pumping.Next.{Next}
 use Rattle.sva_unit.specs.declared.pumping.Next.TheVariants.{Idle, Blocked, Send, Pass}
-use Rattle.sva_unit.specs.Messages.{extent_seen}
 use Rattle.sva_unit.specs.Seen.{UnitSeen}
+
+-- What an invalidation is of: as the definitions see it, and as an Invalidate Request names it.
+
+abbrev pub extent_seen : Extent → ExtentSeen
+extent_seen (Pages range) = ExtentSeen.Pages range
+extent_seen All = ExtentSeen.AllPages
+
+abbrev pub scope_sent : Extent → Scope
+scope_sent (Pages range) = scope.Code (encode range).page (encode range).s
+scope_sent All = scope.All
 
 -- An invalidation of the queue under an ITag.
 

@@ -1,7 +1,5 @@
 //! What becomes of the head of an invalidation queue.
 ghost use Rattle.std.specs.Prelude.{◌≡◌};
-ghost use Rattle.sva_model.specs.Acts.{scope_of};
-ghost use Rattle.sva_model.specs.Message.Message.{InvalidateMessage};
 
 use sva_msg::{Kind, Range, Scope};
 
@@ -15,11 +13,11 @@ pub enum Extent {
 }
 
 impl Extent {
-    ghost use Rattle.sva_unit.specs.Messages.{extent_seen, scope_seen};
+    ghost use Rattle.sva_unit.specs.Pumping.{scope_sent};
 
     /// What an Invalidate Request names of it: a range by its code.
     pub fn scope(self) -> Scope
-        ensures { scope_seen result ≡ scope_of (extent_seen self) }
+        ensures { result ≡ scope_sent self }
     {
         match self {
             Extent::Pages(range) => {
@@ -38,16 +36,16 @@ pub struct Sending {
     pub itag: u8,
     /// The PASID: 1 to 32 of its 20 bits (PCI Express Base 5.0, section 6.20).
     pub pasid: u32,
-    /// What of it.
+    /// Which of its pages.
     pub extent: Extent,
 }
 
 impl Sending {
-    ghost use Rattle.sva_unit.specs.Messages.{extent_seen, message_seen};
+    ghost use Rattle.sva_unit.specs.Pumping.{scope_sent};
 
     /// The Invalidate Request.
     pub fn message(self) -> Kind
-        ensures { message_seen result ≡ InvalidateMessage self.itag self.pasid (scope_of (extent_seen self.extent)) }
+        ensures { result ≡ Kind.Invalidate self.itag self.pasid (scope_sent self.extent) }
     {
         Kind::Invalidate {
             itag: self.itag,

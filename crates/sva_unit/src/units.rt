@@ -1,5 +1,6 @@
 //! A remapping unit.
-ghost use Rattle.std.specs.Prelude.{◌≡◌, ◌+◌, ◌*◌, ◌%◌, ◌^◌, ◌<◌, ◌≤◌, ◌++◌, [], ◌∷◌, suc, true, false, not, ◌==◌, length, map, drop, slice_get, option_map, All};
+ghost use Rattle.std.specs.Prelude.{◌≡◌, ◌+◌, ◌*◌, ◌%◌, ◌^◌, ◌<◌, ◌≤◌, ◌==◌, suc, true, false, not, option_map};
+ghost use Rattle.std.specs.Prelude.{◌++◌, [], ◌∷◌, length, map, drop, slice_get, All};
 ghost use Rattle.sva_queue.specs.Cookies.{AreRising, HasNumber, number_after};
 ghost use Rattle.sva_model.specs.Wire.Descriptor.{PasidDescriptor, WaitDescriptor};
 ghost use Rattle.sva_labels.specs.Finding.{has_room, is_wait_done};

@@ -8,3 +8,5 @@ pub mod Deliveries
 pub mod Completions
 pub mod Bindings
 pub mod Flights
+pub mod ServiceGroups
+pub mod ServiceJobs

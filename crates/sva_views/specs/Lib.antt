@@ -2,3 +2,4 @@ pub mod Device
 pub mod DeviceLaws
 pub mod Bindings
 pub mod Flights
+pub mod Service

@@ -2,7 +2,7 @@
 use Rattle.std.proofs.Common.{◌≡◌, ◌≢◌, refl, ap, ap₂, sym, ◌∙◌, ℕ, zero, suc, Bool, true, false, arith}
 use Rattle.std.specs.Prelude.{Option, Some, None, ◌&&◌, ◌==◌, if◌then◌else◌, List, [], ◌∷◌, filter}
 use Rattle.sva_model.specs.Words.{tabulate, any_below, all_below}
-use Rattle.sva_model.specs.State.{MappingState, World}
+use Rattle.sva_model.specs.State.{Owed, MappingState, World}
 use Rattle.sva_model.specs.State.Owed.{Nothing}
 use Rattle.sva_model.specs.State.MappingState.{Unmade, Present, Gone}
 use Rattle.sva_model.specs.States.{is_present, answered, place}
@@ -16,7 +16,15 @@ use Rattle.sva_wire.specs.Host.{placed}
 use Rattle.sva_wire.proofs.Lists.{tabulate_same, tabulate_set, each_below}
 use Rattle.sva_wire.proofs.Parts.{with_mappings, freely_left}
 use Rattle.sva_wire.proofs.Pages.{same_is, is_same, is_other, present_is, filter_insert, pages_rising}
-use Rattle.sva_wire.proofs.Places.{gone_seen, seen_by, seen_at, place_seen, unmade_stays, gone_stays}
+use Rattle.sva_wire.proofs.Places.{gone_seen, seen_by, seen_at, place_seen}
+
+unmade_stays : (b : Bool) (owed : ℕ → Owed) → gone_if b owed Unmade ≡ Unmade
+unmade_stays true owed = refl
+unmade_stays false owed = refl
+
+gone_stays : (b : Bool) (owed others : ℕ → Owed) → gone_if b owed (Gone others) ≡ Gone others
+gone_stays true owed others = refl
+gone_stays false owed others = refl
 
 -- does one of the pages lead to the frame?
 abbrev some_leads : (frame : ℕ) → List PageWire → Bool

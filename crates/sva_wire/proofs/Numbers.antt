@@ -21,19 +21,19 @@ use Rattle.sva_model.specs.Steps.{Reply, Decision, checked, after_acts, reply, n
 use Rattle.sva_model.specs.Labels
 use Rattle.sva_model.specs.Wire.{PageWire, insert_by, is_lower_page, page_wire, pages_wire, spaces_wire, withheld_wire, place_wire_by, places_wire, wire}
 use Rattle.sva_model.specs.Wire.PlaceWire.{FreeWire}
-use Rattle.sva_laws.proofs.Words.{some_the, not_true, all_below-true}
+use Rattle.sva_laws.proofs.Words.{not_true, all_below-true}
 use Rattle.sva_laws.proofs.Counting.{count_zero, count_same}
 use Rattle.sva_laws.proofs.Found.{labelled}
 use Rattle.sva_laws.proofs.Invariant.{Invariant}
 use Rattle.sva_laws.proofs.Passed.{Passed}
 use Rattle.sva_laws.proofs.Runs.{always}
-use Rattle.sva_wire.specs.Host.{IsIdle, NumbersAreNames, IsOfSpaces, unless_refused, in_space, pages_of, or_no_pages, with_pages, without_space, page_at, is_mapped, frame_or_0, frames_of, is_between, without, placed, map_reply, unmap_reply, unmap_range_reply, look_answer, reply_of, changed, next_of}
+use Rattle.sva_wire.specs.Host.{IsIdle, NumbersAreNames, IsOfSpaces, unless_refused, in_space, pages_of, pages_in, or_no_pages, with_pages, without_space, page_at, is_mapped, frame_or_0, frames_of, is_between, without, placed, map_reply, unmap_reply, unmap_range_reply, look_answer, reply_of, changed, next_of}
 use Rattle.sva_wire.proofs.Lists.{tabulate_same, tabulate_at, all_same, any_same, none_below}
 use Rattle.sva_wire.proofs.Parts.{with_mappings, freely_left, freely_without, wire_same, unmap_is, none_unreleased, none_submits, none_waits, none_is_bound}
 use Rattle.sva_wire.proofs.Pages.{page_at_is, pages_length, pages_mapped, other_space, pages_unmapped}
 use Rattle.sva_wire.proofs.Spaces.{space_is, space_found, space_missing, spaces_length, spaces_changed, spaces_more, spaces_dropped}
 use Rattle.sva_wire.proofs.Freed.{places_left}
-use Rattle.sva_wire.proofs.Places.{gone_seen, seen_by, seen_at, place_seen, lowest_is, places_length, places_mapped, places_unmapped}
+use Rattle.sva_wire.proofs.Places.{gone_seen, seen_by, seen_at, place_seen, lowest_is, places_length, places_mapped}
 
 -- Causes, one after another.
 
@@ -215,20 +215,23 @@ unmap_answers w n q count i h = reply_checked (refusals w (step.Unmap n q count)
     go false e = sym (ap (λ o. in_space o (unmap_reply q count)) (space_missing w n e))
     go true e = tests ∙ frames ∙ sym (ap (λ o. in_space o (unmap_reply q count)) (space_found w n e))
 
-unmap_leaves : (w : World) (n q count : ℕ) → Invariant w → IsIdle (wire w) → Labels.is_space w n ≡ true → all_below count (λ j. Labels.is_mapped w (Labels.name w n) (q + j)) ≡ true → wire (act w (Unmap (Labels.name w n) q count 0)) ≡ changed (wire w) (step.Unmap n q count) (Ok (unmap_answer (any_below w.config.endpoints (waits w (Labels.name w n))) (frames_at w (Labels.name w n) q count)))
-unmap_leaves w n q count i h e m =
+-- what is left once ranges of so many pages in all are taken out of a space
+pages_out : (w : World) (n q count order all : ℕ) → Invariant w → IsIdle (wire w) → Labels.is_space w n ≡ true → count * 2 ^ order ≡ all → wire (act w (Unmap (Labels.name w n) q count order)) ≡ record (wire w) { spaces = with_pages (wire w).spaces n (without q all); places = placed FreeWire (filter (is_between q all) (pages_in (wire w) n)) (wire w).places }
+pages_out w n q count order all i h e size =
     let s = space_is w n e in
-    let ms = freely_without w.mappings (Labels.name w n) q count in
-    let spaces = spaces_changed w (with_mappings w ms) n (without q count) s.from refl refl refl (λ t. pages_unmapped w (Labels.name w n) (in_range q count) t) in
-    let places = places_unmapped w i.mapped (Labels.name w n) q count (λ j l. some_the (w.mappings.at (Labels.name w n) (q + j)) (all_below-true count (λ j. Labels.is_mapped w (Labels.name w n) (q + j)) m j l)) in
-    ap wire (unmap_is w (Labels.name w n) q count 0 i h)
-    ∙ ap (λ k. wire (with_mappings w (freely_without w.mappings (Labels.name w n) q k))) same_count
+    let ms = freely_without w.mappings (Labels.name w n) q all in
+    let spaces = spaces_changed w (with_mappings w ms) n (without q all) s.from refl refl refl (λ t. pages_unmapped w (Labels.name w n) (in_range q all) t) in
+    let places = places_left w i.mapped (Labels.name w n) (in_range q all) in
+    ap wire (unmap_is w (Labels.name w n) q count order i h)
+    ∙ ap (λ k. wire (with_mappings w (freely_without w.mappings (Labels.name w n) q k))) size
     ∙ wire_same w ms h
     ∙ (λ k. record (wire w) { spaces = spaces k; places = places k })
+    ∙ sym (λ k. record (wire w) { spaces = with_pages (wire w).spaces n (without q all); places = placed FreeWire (filter (is_between q all) (or_no_pages (space_found w n e k))) (wire w).places })
+
+unmap_leaves : (w : World) (n q count : ℕ) → Invariant w → IsIdle (wire w) → Labels.is_space w n ≡ true → wire (act w (Unmap (Labels.name w n) q count 0)) ≡ changed (wire w) (step.Unmap n q count) (Ok (unmap_answer (any_below w.config.endpoints (waits w (Labels.name w n))) (frames_at w (Labels.name w n) q count)))
+unmap_leaves w n q count i h e =
+    pages_out w n q count 0 count i h e (omega arith)
     ∙ sym (ap (λ b. changed (wire w) (step.Unmap n q count) (Ok (unmap_answer b (frames_at w (Labels.name w n) q count)))) (none_waits w (Labels.name w n) i h))
-  where
-    same_count : count * 2 ^ 0 ≡ count
-    same_count = omega arith
 
 -- A range less.
 
@@ -264,16 +267,7 @@ range_answers w n q order i h = reply_checked (refusals w (step.UnmapRange n q o
     go true e = tests ∙ sym (ap (λ o. in_space o (unmap_range_reply q order)) (space_found w n e))
 
 range_leaves : (w : World) (n q order : ℕ) → Invariant w → IsIdle (wire w) → Labels.is_space w n ≡ true → (a : Answer) → wire (act w (Unmap (Labels.name w n) q 1 order)) ≡ changed (wire w) (step.UnmapRange n q order) (Ok a)
-range_leaves w n q order i h e a =
-    let s = space_is w n e in
-    let ms = freely_without w.mappings (Labels.name w n) q (2 ^ order) in
-    let spaces = spaces_changed w (with_mappings w ms) n (without q (2 ^ order)) s.from refl refl refl (λ t. pages_unmapped w (Labels.name w n) (in_range q (2 ^ order)) t) in
-    let places = places_left w i.mapped (Labels.name w n) (in_range q (2 ^ order)) in
-    ap wire (unmap_is w (Labels.name w n) q 1 order i h)
-    ∙ ap (λ k. wire (with_mappings w (freely_without w.mappings (Labels.name w n) q k))) (one_range (2 ^ order))
-    ∙ wire_same w ms h
-    ∙ (λ k. record (wire w) { spaces = spaces k; places = places k })
-    ∙ sym (λ k. record (wire w) { spaces = with_pages (wire w).spaces n (without q (2 ^ order)); places = placed FreeWire (filter (is_between q (2 ^ order)) (or_no_pages (space_found w n e k))) (wire w).places })
+range_leaves w n q order i h e a = pages_out w n q 1 order (2 ^ order) i h e (one_range (2 ^ order))
   where
     one_range : (n : ℕ) → 1 * n ≡ n
     one_range n = omega arith
@@ -345,7 +339,7 @@ by_numbers w (step.Map n q x) i t h =
 by_numbers w (step.Unmap n q count) i t h = (
   unmap_answers w n q count i h,
   next_by w (step.Unmap n q count) (unmap_answers w n q count i h) (λ r. refl)
-      (λ p. unmap_leaves w n q count i h (not_true (Labels.is_space w n) p.0) (not_true (all_below count (λ j. Labels.is_mapped w (Labels.name w n) (q + j))) p.1.1.1.0)),
+      (λ p. unmap_leaves w n q count i h (not_true (Labels.is_space w n) p.0)),
 )
 by_numbers w (step.UnmapRange n q order) i t h = (
   range_answers w n q order i h,

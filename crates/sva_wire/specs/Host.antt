@@ -104,11 +104,6 @@ abbrev pub lowest_free : List PlaceWire → ℕ
 lowest_free [] = 0
 lowest_free (place ∷ places) = if is_free place then 0 else 1 + lowest_free places
 
--- the places where frames are free again, one after another
-abbrev pub freed : List PlaceWire → List ℕ → List PlaceWire
-freed places [] = places
-freed places (frame ∷ frames) = freed (slice_set places frame FreeWire) frames
-
 -- the places of frames once these are somewhere else
 abbrev pub placed : PlaceWire → List PageWire → List PlaceWire → List PlaceWire
 placed place [] places = places
@@ -207,7 +202,7 @@ changed w (step.Map n q x) (Ok (answer.Frame f)) =
       places = slice_set w.places f MappedWire;
     }
 changed w (step.Unmap n q count) (Ok (answer.FreeFrames frames)) =
-    record w { spaces = with_pages w.spaces n (without q count); places = freed w.places frames }
+    record w { spaces = with_pages w.spaces n (without q count); places = placed FreeWire (filter (is_between q count) (pages_in w n)) w.places }
 changed w (step.UnmapRange n q order) (Ok a) =
     record w {
       spaces = with_pages w.spaces n (without q (2 ^ order));

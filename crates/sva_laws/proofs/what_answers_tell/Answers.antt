@@ -1,4 +1,5 @@
 use Rattle.sva_laws.proofs.Said.{always_finishes, always_uses, always_looks, always_frees}
+use Rattle.sva_laws.proofs.Successes.{always_succeeds}
 use Rattle.sva_laws.proofs.what_answers_tell.Goals as goal
 
 pub returns-clause-finishes : goal.returns-clause-finishes
@@ -12,3 +13,6 @@ returns-clause-looks c = λ rule config steps frame said fits accepted. always_l
 
 pub returns-clause-frees : goal.returns-clause-frees
 returns-clause-frees c = λ rule config steps s e names fits opened delivers. always_frees rule config steps s e names opened delivers
+
+pub returns-clause-succeeds : goal.returns-clause-succeeds
+returns-clause-succeeds c = λ rule config steps worker verdict count fits accepted. always_succeeds rule config steps worker verdict count accepted

@@ -1,6 +1,7 @@
 use Rattle.std.proofs.Common.{refl, sym, ap, ◌∙◌}
-use Rattle.sva_wire.specs.Host.{freed}
-use Rattle.sva_core.specs.Seen.{frames_in, places_seen}
+use Rattle.sva_model.specs.Wire.PlaceWire.{FreeWire}
+use Rattle.sva_wire.specs.Host.{placed}
+use Rattle.sva_core.specs.Seen.{pages_seen, places_seen}
 use Rattle.sva_core.proofs.FrameLists.{first-freed}
 use Rattle.sva_core.proofs.Counting.{balanced-none, balanced-on, owns-on, first-mapped, first-balanced, spent}
 use Rattle.sva_core.proofs.pages.give_all.Goals as goal
@@ -22,7 +23,7 @@ loop-page-preserved c = (
 )
 
 pub returns-clause-places : goal.returns-clause-places
-returns-clause-places c = ap (λ left. freed (places_seen c.loop-page.pool) (frames_in left)) (sym c.in_default.ensures.none.0) ∙ c.loop-page.invariant.1
+returns-clause-places c = ap (λ left. placed FreeWire (pages_seen left) (places_seen c.loop-page.pool)) (sym c.in_default.ensures.none.0) ∙ c.loop-page.invariant.1
 
 pub returns-clause-spent : goal.returns-clause-spent
 returns-clause-spent c = spent c.args.space c.loop-page.space c.args.pool.now c.loop-page.pool c.in_default.ensures.none.0 c.loop-page.invariant.0

@@ -16,4 +16,4 @@ give-requires c =
 pub loop-number-preserved : goal.loop-number-preserved
 loop-number-preserved c =
     one_more_out c.args.space.now c.loop-number.space c.unmap.new.self c.args.pool.now c.loop-number.pool c.give.new.self c.args.page c.loop-number.number c.in-Some.taken c.number.result c.in-Some._write c.loop-number.frames c.push.new.self
-    c.requires.owned c.loop-number.invariant (sym c.in-Some.ensures.value) c.number.ensures c.push.ensures c.unmap.ensures.after c.unmap.ensures.rising c.give.ensures
+    c.requires.rising c.requires.owned c.loop-number.invariant (sym c.in-Some.ensures.value) c.number.ensures c.push.ensures c.unmap.ensures.after c.unmap.ensures.rising c.give.ensures

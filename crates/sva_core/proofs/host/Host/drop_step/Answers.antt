@@ -10,7 +10,7 @@ use Rattle.sva_core.specs.Inner.{wire_of}
 use Rattle.sva_core.specs.Pieces.{ByNumbers}
 use Rattle.sva_core.proofs.HostSteps.{no_space_drop, by_drop, with_spaces}
 use Rattle.sva_core.proofs.LiveLists.{owns-at, pages_of-at}
-use Rattle.sva_core.proofs.Dropping.{freed-pages, spaces-removed, numbered-dropped, owned-dropped}
+use Rattle.sva_core.proofs.Dropping.{spaces-removed, numbered-dropped, owned-dropped}
 use Rattle.sva_core.proofs.ChangedSpace.{has_space, lacks_space}
 use Rattle.sva_core.proofs.host.Host.drop_step.Goals as goal
 
@@ -41,4 +41,4 @@ returns-clause-step c =
     (by_drop (wire_of c.self.inside) c.args.space (pages_seen live.space) (spaces_seen c.remove-space.new.self.items) (places_seen c.give_all.new.pool)
     (pages_of-at c.self.inside.spaces.items c.args.space c.in-Some.place live at.there at.is_number at.once)
     (ap spaces_seen c.remove-space.ensures.items ∙ spaces-removed c.self.inside.spaces.items c.args.space c.in-Some.place live at.there at.is_number at.once)
-    (c.give_all.ensures.places ∙ freed-pages live.space (places_seen c.self.inside.pool)))
+    c.give_all.ensures.places)

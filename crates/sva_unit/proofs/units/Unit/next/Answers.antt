@@ -27,7 +27,8 @@ pub returns-in-Some-clause-next : goal.returns-in-Some-clause-next
 returns-in-Some-clause-next c =
     let q = c.self.inside.queue in
     let head = heads q c.self.inside.requests c.is_empty.result (empty_seen c.is_empty.result c.self.inside.requests c.is_empty.ensures) in
-    sym (ap next_of (sym c.self.view_is) ∙ head ∙ ap₂ next_by (sym c.next.ensures ∙ c.in-Issued.is) (sym c.head.ensures ∙ c.in-Some.is) ∙ ap Send (sym c.sending_of.ensures))
+    let answered = ap₂ next_by (sym c.next.ensures ∙ c.in-Issued.is) (sym c.head.ensures ∙ c.in-Some.is) in
+    sym (ap next_of (sym c.self.view_is) ∙ head ∙ answered ∙ ap Send (sym c.sending_of.ensures))
 
 pub returns-in-Some-clause-pump : goal.returns-in-Some-clause-pump
 returns-in-Some-clause-pump c = subst (IsPump c.args.self.now) (sym (returns-in-Some-clause-next c)) (pump_is c.args.self.now)

@@ -25,6 +25,10 @@ submit-requires-clause-rising c =
 
 pub returns : goal.returns
 returns c =
-    let same : c.deref.result.now ≡ orders_for c.args.pasid c.args.page c.args.count c.args.order c.args.cookie = c.deref.ensures.0 ∙ c.orders_for-orders.ensures in
-    rw (c.submit.ensures, same, orders_seen c.args.pasid c.args.page c.args.count c.args.order c.args.cookie, orders_after c.args.pasid c.args.page c.args.count c.args.order c.args.cookie c.args.self.now.unit.waits_end)
-    refl
+    let t = c.args.pasid in
+    let q = c.args.page in
+    let n = c.args.count in
+    let order = c.args.order in
+    let cookie = c.args.cookie in
+    let same : c.deref.result.now ≡ orders_for t q n order cookie = c.deref.ensures.0 ∙ c.orders_for-orders.ensures in
+    rw (c.submit.ensures, same, orders_seen t q n order cookie, orders_after t q n order cookie c.args.self.now.unit.waits_end) refl

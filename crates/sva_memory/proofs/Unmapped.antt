@@ -1,0 +1,40 @@
+-- A memory where pages of one space were taken out.
+use Rattle.std.proofs.Common.{◌≡◌, ℕ, ◌*◌, ◌^◌, Bool, List, Option, Some, None, set, refl, sym, ap, subst, ◌∙◌}
+use Rattle.std.specs.Prelude.{filter, IsOk, Result, Err}
+use Rattle.std.specs.List.{position}
+use Rattle.sva_step.specs.declared.refusals.Refusal.{Refusal}
+use Rattle.sva_step.specs.declared.refusals.Refusal.TheVariants as refusal
+use Rattle.sva_frames.specs.Frames.{Holding}
+use Rattle.sva_model.specs.Refusals.{Cause}
+use Rattle.sva_model.specs.Wire.{Wire, PageWire, SpaceWire, PlaceWire, TargetWire}
+use Rattle.sva_labels.specs.Finding.{pages_of, or_no_pages}
+use Rattle.sva_labels.specs.Moves.{is_between, placed, place_for, without_pages, targets_of}
+use Rattle.sva_labels.specs.Moves as labels
+use Rattle.sva_memory.specs.declared.memory.Memory.TheInside.{Inside}
+use Rattle.sva_memory.specs.declared.live.Live.{Live}
+use Rattle.sva_memory.specs.Seen.{MemorySeen, memory_of, pages_seen, places_seen}
+use Rattle.sva_memory.specs.Lives.{is_of, spaces_seen}
+use Rattle.sva_memory.specs.Inner.{memory_in}
+use Rattle.sva_memory.specs.Unmapping.{unmapped}
+use Rattle.sva_memory.proofs.Hosts.{OneChanged}
+use Rattle.sva_memory.proofs.ChangedSpace.{lacks_space}
+use Rattle.sva_memory.proofs.Permits.{in_space}
+
+-- no space was asked for that isn't there
+pub is_there : (causes : List PageWire → List Cause) (memory : Inside) (number : ℕ) (lives : List Live) → IsOk (in_space causes (pages_of (memory_in memory).spaces number)) → None ≡ position (is_of number) lives → lives ≡ memory.spaces.items → ⊥
+is_there causes memory number lives may none is = cc (subst (λ (o : Option (List PageWire)). IsOk (in_space causes o)) (lacks_space memory number lives none is) may)
+
+-- the test of the space is that of its pages
+pub tested : (causes : List PageWire → List Cause) (found : Option (List PageWire)) (pages : List PageWire) → found ≡ Some pages → IsOk (in_space causes found) → IsOk (in_space causes (Some pages))
+tested causes found pages there may = subst (λ (o : Option (List PageWire)). IsOk (in_space causes o)) there may
+
+-- what is left
+pub taken_out : (m : MemorySeen) (n q count : ℕ) (targets : List (Option TargetWire)) (pages pages_after : List PageWire) (spaces_after : List SpaceWire) (places_after : List PlaceWire) → OneChanged m.spaces n pages pages_after spaces_after → pages_after ≡ without_pages q count pages
+    → places_after ≡ placed (place_for targets) (filter (is_between q count) pages) m.places → record m { spaces = spaces_after; places = places_after } ≡ unmapped m n q count targets
+taken_out m n q count targets pages pages_after spaces_after places_after one gone placed_after =
+    (λ i. record m { spaces = one.put (without_pages q count) gone i; places = placed_after i })
+    ∙ ap (λ o. record m { spaces = labels.with_pages m.spaces n (without_pages q count); places = placed (place_for targets) (filter (is_between q count) (or_no_pages o)) m.places }) (sym one.found)
+
+-- it is what the move by labels leaves of the memory, where the frames wait for the targets of the space
+pub unmapped_is : (w : Wire) (n q count order : ℕ) → memory_of (labels.unmapped w n q count order) ≡ unmapped (memory_of w) n q (count * 2 ^ order) (targets_of w n)
+unmapped_is w n q count order = refl

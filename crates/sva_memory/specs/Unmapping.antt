@@ -1,0 +1,56 @@
+-- What an unmapping asks of the spaces, and what it leaves of spaces and frames. What the units are asked, and what they get,
+-- is another part's.
+use Rattle.std.specs.Prelude.{ℕ, ◌+◌, ◌%◌, ◌^◌, ◌==◌, ◌&&◌, not, nat_lt, nat_le, Option, List, [], ◌∷◌, Result, filter}
+use Rattle.sva_step.specs.declared.refusals.Refusal.{Refusal}
+use Rattle.sva_step.specs.declared.refusals.Refusal.TheVariants as refusal
+use Rattle.sva_model.specs.Words.{any_below, all_below, count_below}
+use Rattle.sva_model.specs.Refusals.{Cause, page_range}
+use Rattle.sva_model.specs.Wire.{PageWire, TargetWire}
+use Rattle.sva_labels.specs.Finding.{pages_of, or_no_pages, is_mapped}
+use Rattle.sva_labels.specs.Finding as finding
+use Rattle.sva_labels.specs.Moves.{with_pages, without_pages, is_between, placed, place_for}
+use Rattle.sva_labels.specs.Moves as labels
+use Rattle.sva_memory.specs.Seen.{MemorySeen}
+use Rattle.sva_memory.specs.Pieces.{verdict, unmap_causes, range_causes}
+use Rattle.sva_memory.specs.Steps.{has_space}
+
+-- the pages of the space of a number; none where there is no such space
+abbrev pub pages_in : MemorySeen → (number : ℕ) → List PageWire
+pages_in memory n = or_no_pages (pages_of memory.spaces n)
+
+-- the causes of the steps by labels that the spaces decide, in their order
+abbrev pub no_such_space : MemorySeen → (number : ℕ) → Cause
+no_such_space memory n = (not (has_space memory n), refusal.NoSuchSpace)
+
+abbrev pub unmap_causes_of : MemorySeen → (space page count : ℕ) → List Cause
+unmap_causes_of memory n q count = no_such_space memory n ∷ unmap_causes (pages_in memory n) q count
+
+abbrev pub range_causes_of : MemorySeen → (space page order : ℕ) → List Cause
+range_causes_of memory n q order = no_such_space memory n ∷ range_causes (pages_in memory n) q order
+
+-- the first of them that holds
+abbrev pub may_unmap : MemorySeen → (space page count : ℕ) → Result (Unit {0}) Refusal
+may_unmap memory n q count = verdict (unmap_causes_of memory n q count)
+
+abbrev pub may_unmap_range : MemorySeen → (space page order : ℕ) → Result (Unit {0}) Refusal
+may_unmap_range memory n q order = verdict (range_causes_of memory n q order)
+
+-- the frames of pages in a row
+abbrev pub frames_of : MemorySeen → (space page count : ℕ) → List ℕ
+frames_of memory n q count = finding.frames_of (pages_in memory n) q count
+
+-- how many of pages in a row are mapped
+abbrev pub mapped_of : MemorySeen → (space page count : ℕ) → ℕ
+mapped_of memory n q count = count_below count (λ j. is_mapped (pages_in memory n) (q + j))
+
+-- without those of `count` pages in a row that are mapped, where their frames wait for these targets
+abbrev pub unmapped : MemorySeen → (space page count : ℕ) → List (Option TargetWire) → MemorySeen
+unmapped memory n q count targets =
+    record memory {
+      spaces = with_pages memory.spaces n (without_pages q count);
+      places = placed (place_for targets) (filter (is_between q count) (pages_in memory n)) memory.places;
+    }
+
+-- After a unit has passed a wait, or a reset has ended: what it has settled is waited for no more.
+abbrev pub settled : MemorySeen → (endpoint : ℕ) → (Option TargetWire → Option TargetWire) → MemorySeen
+settled memory e settle = record memory { places = labels.settled e settle memory.places }

@@ -5,5 +5,6 @@ mod endpoints;
 mod host;
 mod sending;
 mod spaces;
+mod unmapping;
 
 pub use host::Host;

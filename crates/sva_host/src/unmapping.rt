@@ -1,0 +1,141 @@
+//! Pages that are taken out of a space: what the units are asked, what they get, and what the frames wait for.
+
+ghost use Rattle.std.specs.Prelude.{◌≡◌, if◌then◌else◌, ◌+◌, ◌≤◌, ◌<◌, ◌*◌, ◌%◌, ◌^◌, true, length, option_map, suc};
+ghost use Rattle.std.specs.Option.{option_copied};
+ghost use Rattle.sva_model.specs.Words.{count_below};
+ghost use Rattle.sva_labels.specs.Finding.{is_before_invalidating, submits_by, submits as asked};
+ghost use Rattle.sva_labels.specs.Causes.{waits_needed};
+ghost use Rattle.sva_labels.specs.Moves.{target_by_stage, target_by, targets_of};
+ghost use Rattle.sva_model.specs.Wire.TargetWire.{Cookie as CookieTarget, ResetEnd as ResetTarget};
+ghost use Rattle.sva_memory.specs.Seen.{target_seen, targets_seen};
+ghost use Rattle.sva_views.specs.Bindings.{binding_seen, stage_or_quiet};
+ghost use Rattle.sva_host.specs.Unmapping.{have_room, submitted};
+
+use crate::host::Host;
+use sva_frames::{Target, Waits};
+use sva_pasid::{Place, Stage};
+use sva_unit::Unit;
+
+// Whether the binding is in use yet, is being stopped or is being drained.
+fn is_before_invalidating(stage: &Option<Stage>) -> bool
+    ensures { result ≡ is_before_invalidating (stage_or_quiet stage.now) }
+{
+    match stage {
+        Some(Stage::Live(_)) => true,
+        Some(Stage::Stopping(_)) => true,
+        Some(Stage::Draining(_)) => true,
+        Some(Stage::Invalidating(_)) => false,
+        Some(Stage::Quiet(_)) => false,
+        Some(Stage::Lost(_)) => false,
+        None => false,
+    }
+}
+
+// Whether a unit gets descriptors for the binding of the space there, if there is one.
+fn submits(unit: &Unit, place: Option<&Place>) -> bool
+    ensures { result ≡ submits_by unit.now.unit (option_map binding_seen (option_copied place.entry)) }
+{
+    match place {
+        Some(place) => unit.is_open() && is_before_invalidating(&place.stage),
+        None => false,
+    }
+}
+
+// What a frame waits for at a unit: this wait, or the end of the reset that the unit is in.
+fn awaited(unit: &Unit, cookie: u64) -> Target
+    ensures { target_seen result ≡ (if unit.now.unit.is_open then CookieTarget cookie else ResetTarget) }
+{
+    if unit.is_open() {
+        Target::Cookie(cookie)
+    } else {
+        Target::ResetEnd
+    }
+}
+
+// What the frames of pages that are taken out wait for at a unit, by the stage of the binding of their space there. `cookie`
+// is that of the wait which the unit gets.
+fn target_of(unit: &Unit, stage: &Option<Stage>, cookie: u64) -> Option<Target>
+    ensures { option_map target_seen result ≡ target_by_stage unit.now.unit cookie (stage_or_quiet stage.now) }
+{
+    match stage {
+        Some(Stage::Live(_)) => Some(awaited(unit, cookie)),
+        Some(Stage::Stopping(_)) => Some(awaited(unit, cookie)),
+        Some(Stage::Draining(_)) => Some(awaited(unit, cookie)),
+        Some(Stage::Invalidating(invalidating)) => {
+            if unit.is_wait_done(invalidating.cookie()) {
+                None
+            } else {
+                Some(awaited(unit, invalidating.cookie()))
+            }
+        }
+        Some(Stage::Quiet(_)) => None,
+        Some(Stage::Lost(_)) => None,
+        None => None,
+    }
+}
+
+// The same, by the place of that binding, if there is one.
+fn target(unit: &Unit, place: Option<&Place>, cookie: u64) -> Option<Target>
+    ensures { option_map target_seen result ≡ target_by unit.now.unit cookie (option_map binding_seen (option_copied place.entry)) }
+{
+    match place {
+        Some(place) => target_of(unit, &place.stage, cookie),
+        None => None,
+    }
+}
+
+impl Host {
+    // Whether the unit of this endpoint, which is there, gets descriptors where pages of the space are taken out.
+    fn submits(&self, endpoint: usize, space: u64) -> bool
+        requires { endpoint < length self.now.parts }
+        ensures { result ≡ asked self.now space endpoint }
+    {
+        let place = self.bindings.place_between(endpoint as u64, space);
+        submits(&self.ports[endpoint].unit, place)
+    }
+
+    // Whether each unit that gets descriptors has room for so many.
+    fn have_room(&self, space: u64, descriptors: u64) -> bool
+        ensures { result ≡ have_room self.now space descriptors }
+    {
+        for endpoint in 0..self.ports.len() {
+            let lacks = !self.ports[endpoint].unit.has_room(descriptors);
+            if self.submits(endpoint, space) && lacks {
+                return false;
+            }
+        }
+        true
+    }
+
+    // How many units get descriptors.
+    fn waits_needed(&self, space: u64) -> u64
+        ensures { result ≡ waits_needed self.now space }
+    {
+        let mut needed = 0;
+        for endpoint in 0..self.ports.len() {
+            if self.submits(endpoint, space) {
+                needed += 1;
+            }
+        }
+        needed
+    }
+
+    // What the frames of pages that are taken out of the space wait for. The cookies are given out in rising order of units.
+    fn targets(&self, space: u64) -> Waits
+        requires cookies { self.now.next_cookie ≤ 2 ^ 63 }
+        ensures { targets_seen result ≡ targets_of self.now space }
+    {
+        let mut waits = Waits::new();
+        let mut cookie = self.next_cookie;
+        for endpoint in 0..self.ports.len() {
+            let place = self.bindings.place_between(endpoint as u64, space);
+            if let Some(target) = target(&self.ports[endpoint].unit, place, cookie) {
+                waits.push(endpoint as u64, target);
+            }
+            if self.submits(endpoint, space) {
+                cookie += 1;
+            }
+        }
+        waits
+    }
+}

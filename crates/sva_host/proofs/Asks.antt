@@ -1,24 +1,22 @@
 -- An endpoint asks for a translation, by labels.
-use Rattle.std.proofs.Common.{◌≡◌, refl, ap, sym, ◌∙◌, subst, ℕ, Bool, true, false}
-use Rattle.std.specs.Prelude.{is_none, Result, Ok, Err, Some, None, List, [], ◌∷◌, ◌++◌, length, slice_set}
+use Rattle.std.proofs.Common.{◌≡◌, refl, ap, sym, ◌∙◌, subst, ℕ, false}
+use Rattle.std.specs.Prelude.{is_none, Ok, Err, Some, List, [], ◌∷◌, ◌++◌, slice_set}
 use Rattle.sva_step.specs.declared.answers.Answer.TheVariants as answer
 use Rattle.sva_step.specs.declared.refusals.Refusal.{Refusal}
 use Rattle.sva_step.specs.declared.refusals.Refusal.TheVariants as refusal
 use Rattle.sva_step.specs.declared.steps.Step.TheVariants as step
 use Rattle.sva_model.specs.Refusals.{Cause, page_range}
-use Rattle.sva_model.specs.Wire.{Wire, DeviceWire}
+use Rattle.sva_model.specs.Wire.{DeviceWire}
 use Rattle.sva_labels.specs.Finding.{device_of, lowest_label}
 use Rattle.sva_labels.specs.Causes.{numbers_spent, not_started}
 use Rattle.sva_labels.specs.Host.{Decision, checked, decide_of}
 use Rattle.sva_labels.specs.Moves.{Move}
-use Rattle.sva_labels.specs.Outcomes as outcomes
 use Rattle.sva_labels.specs.Outcomes.{by_one, label, result_of}
 use Rattle.sva_msg.specs.declared.messages.Kind.{Kind}
 use Rattle.sva_msg.specs.declared.messages.Kind.TheVariants.{Request}
 use Rattle.sva_msg.specs.Bag.{InFlight}
 use Rattle.sva_endpoint.specs.declared.permitted.Asking.{Asking}
 use Rattle.sva_endpoint.specs.Steps.{unless, refusals_of_ask, asking, lowest_tag, after_ask}
-use Rattle.sva_views.specs.Device.{device_seen}
 use Rattle.sva_views.proofs.Requests.{request_is_seen}
 use Rattle.sva_host.specs.declared.host.Host.TheInside.{Inside}
 use Rattle.sva_host.specs.declared.host.Port.{Port}

@@ -1,12 +1,12 @@
 -- What is decided by the first cause that holds.
-use Rattle.std.proofs.Common.{◌≡◌, refl, ap, sym, ◌∙◌, subst, ℕ, Bool, true, false}
+use Rattle.std.proofs.Common.{◌≡◌, refl, ap, ◌∙◌, subst, ℕ, Bool, true, false}
 use Rattle.std.specs.Prelude.{not, nat_lt, Result, Ok, Err, List, [], ◌∷◌, ◌++◌, length, if◌then◌else◌}
 use Rattle.sva_step.specs.declared.refusals.Refusal.{Refusal}
 use Rattle.sva_step.specs.declared.refusals.Refusal.TheVariants as refusal
 use Rattle.sva_model.specs.Refusals.{Cause}
 use Rattle.sva_model.specs.Wire.{Wire}
 use Rattle.sva_labels.specs.Causes.{no_such_endpoint}
-use Rattle.sva_labels.specs.Host.{Decision, checked}
+use Rattle.sva_labels.specs.Host.{checked}
 use Rattle.sva_labels.specs.Outcomes as outcomes
 use Rattle.sva_endpoint.specs.Steps.{unless}
 use Rattle.sva_host.specs.Steps.{Does}

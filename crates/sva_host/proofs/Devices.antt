@@ -1,30 +1,26 @@
 -- The steps of an endpoint's device, by labels.
-use Rattle.std.proofs.Common.{◌≡◌, refl, ap, sym, ◌∙◌, subst, ℕ, ◌+◌, Bool, true, false}
-use Rattle.std.specs.Prelude.{Result, Ok, Err, IsErr, IsErrAnd, Some, None, List, [], ◌∷◌, ◌++◌, length, slice_set}
+use Rattle.std.proofs.Common.{◌≡◌, refl, ap, sym, ◌∙◌, subst, ℕ, ◌+◌}
+use Rattle.std.specs.Prelude.{Ok, Err, IsErr, IsErrAnd, List, [], ◌∷◌}
 use Rattle.sva_step.specs.declared.answers.Answer.{Answer}
-use Rattle.sva_step.specs.declared.answers.Answer.TheVariants as answer
 use Rattle.sva_step.specs.declared.refusals.Refusal.{Refusal}
 use Rattle.sva_step.specs.declared.steps.Step.{Step}
-use Rattle.sva_step.specs.declared.steps.Step.TheVariants as step
-use Rattle.sva_model.specs.Message.{Message}
 use Rattle.sva_model.specs.Steps.{Reply}
 use Rattle.sva_model.specs.Wire.{Wire, DeviceWire}
-use Rattle.sva_labels.specs.Finding.{device_of, part_of, lowest_label}
+use Rattle.sva_labels.specs.Finding.{device_of}
 use Rattle.sva_labels.specs.Causes.{numbers_spent}
 use Rattle.sva_labels.specs.Host.{Decision, checked, decide_of}
 use Rattle.sva_labels.specs.Moves.{Move, moved, sent, with_device}
 use Rattle.sva_labels.specs.Outcomes as outcomes
 use Rattle.sva_labels.specs.Outcomes.{by_one, label, result_of}
 use Rattle.sva_msg.specs.declared.messages.Kind.{Kind}
-use Rattle.sva_msg.specs.Bag.{InFlight, with_sent}
+use Rattle.sva_msg.specs.Bag.{InFlight}
 use Rattle.sva_endpoint.specs.Tables.{Tables}
-use Rattle.sva_endpoint.specs.Laws.{IsSound}
 use Rattle.sva_views.specs.Device.{device_seen}
 use Rattle.sva_views.specs.Flights.{kind_seen}
 use Rattle.sva_host.specs.declared.host.Host.TheInside.{Inside}
 use Rattle.sva_host.specs.declared.host.Port.{Port}
-use Rattle.sva_host.specs.Inner.{part_seen, wire_of}
-use Rattle.sva_host.specs.Steps.{Does, ByLabels, Sends, PortFor}
+use Rattle.sva_host.specs.Inner.{wire_of}
+use Rattle.sva_host.specs.Steps.{Does, ByLabels, Sends}
 use Rattle.sva_host.proofs.Ports.{IsPort, with_tables, with_tables_seen}
 use Rattle.sva_host.proofs.Sent.{sent_seen, unsent_same, unsent, sent_decided}
 

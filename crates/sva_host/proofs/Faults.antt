@@ -1,6 +1,6 @@
 -- Page requests, by labels.
-use Rattle.std.proofs.Common.{◌≡◌, refl, ap, sym, ◌∙◌, subst, ℕ, ◌<◌, Bool, true, false, arith}
-use Rattle.std.specs.Prelude.{not, nat_le, Result, Ok, Err, Option, Some, None, List, [], ◌∷◌, ◌++◌, slice_set}
+use Rattle.std.proofs.Common.{◌≡◌, refl, ap, sym, ◌∙◌, subst, ℕ, ◌<◌, false, arith}
+use Rattle.std.specs.Prelude.{not, nat_le, Ok, Err, Option, Some, None, List, [], ◌∷◌, ◌++◌}
 use Rattle.std.proofs.lemmas.Bool.Decides.{nat_tests}
 use Rattle.sva_step.specs.declared.answers.Answer.TheVariants as answer
 use Rattle.sva_step.specs.declared.refusals.Refusal.{Refusal}
@@ -8,19 +8,18 @@ use Rattle.sva_step.specs.declared.refusals.Refusal.TheVariants as refusal
 use Rattle.sva_step.specs.declared.steps.Step.{Step}
 use Rattle.sva_step.specs.declared.steps.Step.TheVariants as step
 use Rattle.sva_model.specs.Refusals.{Cause, page_range}
-use Rattle.sva_model.specs.Wire.{Wire, DeviceWire}
+use Rattle.sva_model.specs.Wire.{DeviceWire}
 use Rattle.sva_labels.specs.Finding.{device_of, lowest_label, outstanding}
 use Rattle.sva_labels.specs.Causes.{numbers_spent, may_request, is_other_group}
 use Rattle.sva_labels.specs.Host.{Decision, checked, decide_of}
 use Rattle.sva_model.specs.Message.Message.{PageRequestMessage}
 use Rattle.sva_labels.specs.Moves.{Move, moved, sent, with_device}
-use Rattle.sva_labels.specs.Outcomes.{Result as Outcome, by_one, label, fault_result, result_of}
+use Rattle.sva_labels.specs.Outcomes.{by_one, label, fault_result, result_of}
 use Rattle.sva_msg.specs.declared.messages.Kind.{Kind}
 use Rattle.sva_msg.specs.declared.messages.Kind.TheVariants.{PageRequest}
 use Rattle.sva_msg.specs.Bag.{InFlight}
 use Rattle.sva_endpoint.specs.declared.permitted.Fault.{Fault}
 use Rattle.sva_endpoint.specs.declared.permitted.Faulting.{Faulting}
-use Rattle.sva_endpoint.specs.Tables.{Tables}
 use Rattle.sva_endpoint.specs.Steps.{unless, refusals_of_fault, faulting, index_for, after_fault}
 use Rattle.sva_views.specs.Device.{device_seen}
 use Rattle.sva_views.specs.DeviceLaws.{faulted}
@@ -29,7 +28,7 @@ use Rattle.sva_host.specs.declared.host.Host.TheInside.{Inside}
 use Rattle.sva_host.specs.declared.host.Port.{Port}
 use Rattle.sva_host.specs.Inner.{wire_of}
 use Rattle.sva_host.specs.Steps.{Does, ByLabels, Sends}
-use Rattle.sva_host.proofs.Deciding.{AreClear, refused_by, passed, given, all_clear, at_endpoint}
+use Rattle.sva_host.proofs.Deciding.{refused_by, passed, given, all_clear, at_endpoint}
 use Rattle.sva_host.proofs.Ports.{IsPort, with_tables}
 use Rattle.sva_host.proofs.Devices.{device_there, unsent_done, sent_done}
 

@@ -1,6 +1,6 @@
 -- Completions of invalidations, by labels.
-use Rattle.std.proofs.Common.{◌≡◌, refl, ap, sym, ◌∙◌, subst, ℕ, ◌+◌, ◌<◌, ◌^◌, Bool, true, false}
-use Rattle.std.specs.Prelude.{◌&&◌, ◌||◌, not, nat_le, is_none, Result, Ok, Err, List, [], ◌∷◌, ◌++◌}
+use Rattle.std.proofs.Common.{◌≡◌, refl, ap, sym, ◌∙◌, subst, ℕ, ◌+◌, ◌<◌, ◌^◌}
+use Rattle.std.specs.Prelude.{◌&&◌, ◌||◌, not, nat_le, is_none, Ok, Err, List, [], ◌∷◌, ◌++◌}
 use Rattle.sva_step.specs.declared.answers.Answer.TheVariants as answer
 use Rattle.sva_step.specs.declared.refusals.Refusal.{Refusal}
 use Rattle.sva_step.specs.declared.refusals.Refusal.TheVariants as refusal
@@ -10,17 +10,16 @@ use Rattle.sva_model.specs.Acts.{count_field}
 use Rattle.sva_model.specs.Labels.{is_set, names_none}
 use Rattle.sva_model.specs.Message.Message.{InvalidatedMessage}
 use Rattle.sva_model.specs.Refusals.{Cause}
-use Rattle.sva_model.specs.Wire.{Wire, DeviceWire}
+use Rattle.sva_model.specs.Wire.{DeviceWire}
 use Rattle.sva_labels.specs.Finding.{device_of, taken_at, waits_for_use}
 use Rattle.sva_labels.specs.Causes.{numbers_spent}
 use Rattle.sva_labels.specs.Host.{Decision, checked, decide_of}
 use Rattle.sva_labels.specs.Moves.{Move, sent_copies, with_device, without_named}
 use Rattle.sva_labels.specs.Outcomes.{by_one, result_of}
-use Rattle.sva_msg.specs.declared.messages.Kind.{Kind}
 use Rattle.sva_msg.specs.declared.messages.Kind.TheVariants.{Invalidated}
 use Rattle.sva_msg.specs.Bag.{InFlight}
 use Rattle.sva_endpoint.specs.declared.permitted.Finishing.{Finishing}
-use Rattle.sva_endpoint.specs.Steps.{unless, refusals_of_finish, finishing, after_finish}
+use Rattle.sva_endpoint.specs.Steps.{refusals_of_finish, finishing, after_finish}
 use Rattle.sva_views.specs.Device.{device_seen}
 use Rattle.sva_views.specs.Flights.{FlightsAreSeen}
 use Rattle.sva_views.proofs.Completions.{finish_is_seen}

@@ -1,5 +1,5 @@
 -- The ports of a host, seen.
-use Rattle.std.proofs.Common.{◌≡◌, refl, ap, sym, ◌∙◌, subst, ℕ, zero, suc, ◌<◌, Bool, true, false, arith}
+use Rattle.std.proofs.Common.{◌≡◌, refl, ap, sym, ◌∙◌, subst, ℕ, zero, suc, ◌<◌, true, arith}
 use Rattle.std.specs.Prelude.{nat_lt, Ok, List, [], ◌∷◌, map, length, slice_set, slice_index_or, All}
 use Rattle.std.specs.List.{refill}
 use Rattle.std.proofs.lemmas.List.{map-set, length-map}

@@ -1,6 +1,6 @@
 -- The end of an endpoint's use of a PASID, by labels.
-use Rattle.std.proofs.Common.{◌≡◌, refl, ap, sym, ◌∙◌, subst, ℕ, Bool, true, false}
-use Rattle.std.specs.Prelude.{not, Result, Ok, Err, List, [], ◌∷◌, ◌++◌, map}
+use Rattle.std.proofs.Common.{◌≡◌, refl, ap, sym, ◌∙◌, subst, ℕ}
+use Rattle.std.specs.Prelude.{not, Ok, Err, List, [], ◌∷◌, ◌++◌, map}
 use Rattle.sva_step.specs.declared.answers.Answer.TheVariants as answer
 use Rattle.sva_step.specs.declared.refusals.Refusal.{Refusal}
 use Rattle.sva_step.specs.declared.refusals.Refusal.TheVariants as refusal
@@ -8,7 +8,7 @@ use Rattle.sva_step.specs.declared.steps.Step.TheVariants as step
 use Rattle.sva_model.specs.State.{PasidState as DeviceState}
 use Rattle.sva_model.specs.States.{is_ending}
 use Rattle.sva_model.specs.Refusals.{Cause}
-use Rattle.sva_model.specs.Wire.{Wire, DeviceWire}
+use Rattle.sva_model.specs.Wire.{DeviceWire}
 use Rattle.sva_labels.specs.Finding.{device_of, pasid_state}
 use Rattle.sva_labels.specs.Causes.{numbers_spent, is_busy_pasid}
 use Rattle.sva_labels.specs.Host.{Decision, checked, decide_of}
@@ -17,8 +17,7 @@ use Rattle.sva_labels.specs.Outcomes.{by_one, result_of}
 use Rattle.sva_msg.specs.declared.messages.Kind.{Kind}
 use Rattle.sva_msg.specs.declared.messages.Kind.TheVariants.{Marker}
 use Rattle.sva_msg.specs.Bag.{InFlight}
-use Rattle.sva_endpoint.specs.Steps.{unless, refusals_of_quit, quitting, after_quit}
-use Rattle.sva_views.specs.Device.{device_seen}
+use Rattle.sva_endpoint.specs.Steps.{refusals_of_quit, quitting, after_quit}
 use Rattle.sva_views.proofs.Groups.{quit_is_seen}
 use Rattle.sva_host.specs.declared.host.Host.TheInside.{Inside}
 use Rattle.sva_host.specs.declared.host.Port.{Port}

@@ -1,6 +1,6 @@
 -- The sending of messages, seen.
-use Rattle.std.proofs.Common.{◌≡◌, refl, ap, sym, ◌∙◌, subst, ℕ, zero, suc, ◌+◌, Bool, true, false}
-use Rattle.std.specs.Prelude.{Result, Ok, Err, List, [], ◌∷◌, ◌++◌, map, if◌then◌else◌}
+use Rattle.std.proofs.Common.{◌≡◌, refl, ap, sym, subst, ℕ, Bool}
+use Rattle.std.specs.Prelude.{Ok, Err, [], ◌∷◌, ◌++◌, if◌then◌else◌}
 use Rattle.std.proofs.lemmas.List.{map-append}
 use Rattle.sva_step.specs.declared.refusals.Refusal.{Refusal}
 use Rattle.sva_step.specs.declared.refusals.Refusal.TheVariants as refusal
@@ -8,8 +8,8 @@ use Rattle.sva_model.specs.Wire.{Wire}
 use Rattle.sva_msg.specs.declared.messages.Kind.{Kind}
 use Rattle.sva_msg.specs.declared.messages.Message.{Message}
 use Rattle.sva_msg.specs.Bag.{InFlight, with_sent, copies_of}
-use Rattle.sva_labels.specs.Causes.{lacks, numbers_spent}
-use Rattle.sva_labels.specs.Host.{Decision, checked}
+use Rattle.sva_labels.specs.Causes.{numbers_spent}
+use Rattle.sva_labels.specs.Host.{checked}
 use Rattle.sva_labels.specs.Outcomes as outcomes
 use Rattle.sva_host.specs.Steps.{Does, Sends}
 use Rattle.sva_views.specs.Flights.{flight_seen, flights_seen}

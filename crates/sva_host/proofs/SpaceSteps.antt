@@ -1,8 +1,7 @@
 -- The steps of spaces and frames, by labels.
-use Rattle.std.proofs.Common.{◌≡◌, refl, ap, sym, ◌∙◌, subst, ℕ, Bool, true, false}
-use Rattle.std.specs.Prelude.{not, Result, Ok, Err, List, [], ◌∷◌, if◌then◌else◌}
+use Rattle.std.proofs.Common.{◌≡◌, refl, sym, ◌∙◌, subst, ℕ, Bool, true, false}
+use Rattle.std.specs.Prelude.{not, Ok, Err, [], ◌∷◌}
 use Rattle.sva_step.specs.declared.answers.Answer.TheVariants as answer
-use Rattle.sva_step.specs.declared.refusals.Refusal.{Refusal}
 use Rattle.sva_step.specs.declared.refusals.Refusal.TheVariants as refusal
 use Rattle.sva_step.specs.declared.steps.Step.{Step}
 use Rattle.sva_step.specs.declared.steps.Step.TheVariants as step
@@ -11,9 +10,8 @@ use Rattle.sva_model.specs.Wire.{Wire}
 use Rattle.sva_labels.specs.Finding.{is_space, is_bound}
 use Rattle.sva_labels.specs.Host.{Decision, checked}
 use Rattle.sva_labels.specs.Moves.{Move}
-use Rattle.sva_labels.specs.Outcomes as outcomes
 use Rattle.sva_labels.specs.Outcomes.{by_one}
-use Rattle.sva_memory.specs.Seen.{MemorySeen, with_memory}
+use Rattle.sva_memory.specs.Seen.{MemorySeen}
 use Rattle.sva_memory.specs.Steps as memory
 use Rattle.sva_pasid.specs.Places as places
 use Rattle.sva_views.proofs.Bindings.{bindings_are_seen}

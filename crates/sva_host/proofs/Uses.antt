@@ -1,25 +1,23 @@
 -- Uses of translations that an endpoint holds, by labels.
-use Rattle.std.proofs.Common.{◌≡◌, refl, ap, sym, ◌∙◌, subst, ℕ, Bool, true, false}
-use Rattle.std.specs.Prelude.{◌&&◌, is_none, Result, Ok, Err, Option, Some, None, List, [], ◌∷◌, ◌++◌, filter, not, slice_set}
+use Rattle.std.proofs.Common.{◌≡◌, refl, ap, sym, ◌∙◌, subst, ℕ, Bool}
+use Rattle.std.specs.Prelude.{◌&&◌, is_none, Ok, Err, Some, List, [], ◌∷◌, ◌++◌, filter, not, slice_set}
 use Rattle.sva_step.specs.declared.answers.Answer.{Answer}
 use Rattle.sva_step.specs.declared.answers.Answer.TheVariants as answer
 use Rattle.sva_step.specs.declared.refusals.Refusal.{Refusal}
 use Rattle.sva_step.specs.declared.refusals.Refusal.TheVariants as refusal
 use Rattle.sva_step.specs.declared.steps.Step.TheVariants as step
 use Rattle.sva_model.specs.Refusals.{Cause, page_range}
-use Rattle.sva_model.specs.Wire.{Wire, DeviceWire, TranslationWire}
+use Rattle.sva_model.specs.Wire.{DeviceWire}
 use Rattle.sva_model.specs.Wire.UseWire.{RunningWire}
 use Rattle.sva_labels.specs.Finding.{device_of, lowest_label, cached, use_at, is_at_page}
 use Rattle.sva_labels.specs.Causes.{not_started, not_held, is_read_only}
 use Rattle.sva_labels.specs.Host.{Decision, checked, decide_of}
 use Rattle.sva_labels.specs.Moves as moves
 use Rattle.sva_labels.specs.Moves.{Move}
-use Rattle.sva_labels.specs.Outcomes as outcomes
 use Rattle.sva_labels.specs.Outcomes.{by_one, label, begin_result, end_answer, result_of}
 use Rattle.sva_tables.specs.UseSlots.{slot_at}
 use Rattle.sva_endpoint.specs.declared.permitted.Using.{Using}
 use Rattle.sva_endpoint.specs.Steps.{unless, refusals_of_use, using, lowest_slot, translation_at, after_begin_use, refusals_of_end, end_of, ending, after_end_use, refusals_of_evict, evicting, after_evict}
-use Rattle.sva_views.specs.Device.{device_seen}
 use Rattle.sva_views.specs.DeviceLaws.{found_at}
 use Rattle.sva_views.proofs.Uses.{use_is_seen, end_is_seen, evict_is_seen}
 use Rattle.sva_host.specs.declared.host.Host.TheInside.{Inside}

@@ -1,5 +1,5 @@
 -- What the parts of a host are seen as, and what holds of them.
-use Rattle.std.specs.Prelude.{ℕ, None, List, [], map, replicate, All}
+use Rattle.std.specs.Prelude.{None, [], map, replicate, All}
 use Rattle.sva_model.specs.Wire.{Wire, PartWire}
 use Rattle.sva_endpoint.specs.Laws.{IsSound}
 use Rattle.sva_views.specs.Device.{device_seen}

@@ -1,5 +1,5 @@
 -- What a step does, by labels.
-use Rattle.std.specs.Prelude.{◌≡◌, ℕ, true, false, nat_lt, length, Result, Ok, Err, IsOk, if◌then◌else◌}
+use Rattle.std.specs.Prelude.{◌≡◌, ℕ, true, false, nat_lt, length, Result, Ok, Err, IsOk}
 use Rattle.sva_step.specs.declared.refusals.Refusal.{Refusal}
 use Rattle.sva_step.specs.declared.refusals.Refusal.TheVariants as refusal
 use Rattle.sva_step.specs.declared.steps.Step.{Step}

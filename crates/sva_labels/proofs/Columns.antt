@@ -190,7 +190,9 @@ bindings_bound w e b s t i legal last home =
     at_part : (P : ℕ → Part → Type 0) → P e (part_after w e o) → P (w.home b) ((act w (At e o)).part (w.home b))
     at_part P h = at_home w e o P (w.home b) (λ k. h) (λ ne. absurd (ne home))
 
-    new : binding_wire w.config.first e (part_after w e o) b ≡ record { endpoint = e; space = number w.config.first s; binding = number w.config.first b; pasid = t; stage = LiveWire }
+    new :
+        binding_wire w.config.first e (part_after w e o) b
+        ≡ record { endpoint = e; space = number w.config.first s; binding = number w.config.first b; pasid = t; stage = LiveWire }
     new =
         λ j.
         record {
@@ -213,7 +215,10 @@ bindings_bound w e b s t i legal last home =
           order = keeps_order (w.part e) w.messages o d (i.parts e).orders;
         }
 
-    older : map (λ d. binding_wire w.config.first (w.home d) ((act w (At e o)).part (w.home d)) d) (select b (λ d. is_unreleased (((act w (At e o)).part (w.home d)).stage d))) ≡ map (λ d. binding_wire w.config.first (w.home d) (w.part (w.home d)) d) (select b (λ d. is_unreleased ((w.part (w.home d)).stage d)))
+    older :
+        map (λ d. binding_wire w.config.first (w.home d) ((act w (At e o)).part (w.home d)) d)
+        (select b (λ d. is_unreleased (((act w (At e o)).part (w.home d)).stage d)))
+        ≡ map (λ d. binding_wire w.config.first (w.home d) (w.part (w.home d)) d) (select b (λ d. is_unreleased ((w.part (w.home d)).stage d)))
     older =
         select_seen b _ _ _ _
         (λ d l. same_view (λ p. is_unreleased (p.stage d)) w.part e (part_after w e o) (ap is_unreleased (kept d (apart d l)).stage) (w.home d))
@@ -223,7 +228,9 @@ bindings_bound w e b s t i legal last home =
     unbound : is_unreleased ((w.part (w.home b)).stage b) ≡ false
     unbound = ap (λ x. is_unreleased ((w.part x).stage b)) home ∙ ap is_unreleased legal.2
 
-    before : (wire w).bindings ≡ map (λ d. binding_wire w.config.first (w.home d) (w.part (w.home d)) d) (select b (λ d. is_unreleased ((w.part (w.home d)).stage d)))
+    before :
+        (wire w).bindings
+        ≡ map (λ d. binding_wire w.config.first (w.home d) (w.part (w.home d)) d) (select b (λ d. is_unreleased ((w.part (w.home d)).stage d)))
     before =
         ap (λ n. map (λ d. binding_wire w.config.first (w.home d) (w.part (w.home d)) d)
         (select n (λ d. is_unreleased ((w.part (w.home d)).stage d)))) (sym last)

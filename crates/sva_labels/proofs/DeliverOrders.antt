@@ -169,7 +169,9 @@ freed_seen w e c vector field names r l v owed =
             × (p.itag (the (p.at_itag t)) ≡ t)
         go (k, nm, same) =
             let there : the (p.at_itag t) ≡ k = ap (λ z. the (p.at_itag z)) (sym same) ∙ ap the (bears k nm) in
-            let last : is_last_left (p.order_state k) ≡ true = sym (alike k nm (low_of k nm)) ∙ ap (λ z. is_last_of count (busy_at (unit_of (wire w) e) z)) same ∙ second (Labels.is_set vector t) (is_last_of count (busy_at (unit_of (wire w) e) t)) h in
+            let last : is_last_left (p.order_state k) ≡ true =
+            sym (alike k nm (low_of k nm)) ∙ ap (λ z. is_last_of count (busy_at (unit_of (wire w) e) z)) same
+            ∙ second (Labels.is_set vector t) (is_last_of count (busy_at (unit_of (wire w) e) t)) h in
             let x = owed k nm in
             subst (λ z. (z < p.orders) × ((names z && is_last_left (p.order_state z)) ≡ true) × (p.itag z ≡ t)) (sym there)
             (made k (busy k x.0 x.1), both (names k) (is_last_left (p.order_state k)) nm last, same)

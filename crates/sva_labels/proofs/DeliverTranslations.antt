@@ -63,7 +63,9 @@ found_seen w e r i u =
     b : ℕ
     b = p.request_binding r
 
-    there : page_at (pages_in (wire w) (number w.config.first (p.space b))) (p.request_page r) ≡ option_map (page_wire w.mappings) (w.mappings.at (p.space b) (p.request_page r))
+    there :
+        page_at (pages_in (wire w) (number w.config.first (p.space b))) (p.request_page r)
+        ≡ option_map (page_wire w.mappings) (w.mappings.at (p.space b) (p.request_page r))
     there =
         ap (λ pages. page_at pages (p.request_page r)) (pages_of_name w (p.space b) i.mapped (i.mapped.bound_live e b u))
         ∙ page_found w (p.space b) (p.request_page r) i.mapped
@@ -171,7 +173,8 @@ full_seen w e r i u =
         → (t && is_other (p.pasid b) (p.request_page r) (cached_wire w.mappings p x)) ≡ (t && not (is_replaced p r x))
     go x false h = refl
     go x true h =
-        let v : is_unreleased (p.stage (p.request_binding x)) ≡ true = active_unreleased (p.stage (p.request_binding x)) ((i.parts e).owners.held x (the (p.held x)) (some_the (p.held x) h)) in
+        let v : is_unreleased (p.stage (p.request_binding x)) ≡ true =
+        active_unreleased (p.stage (p.request_binding x)) ((i.parts e).owners.held x (the (p.held x)) (some_the (p.held x) h)) in
         same (p.pasid (p.request_binding x)) (p.pasid b) (p.request_binding x) b (p.request_page x == p.request_page r) (one (p.request_binding x) v)
         (ap p.pasid)
 

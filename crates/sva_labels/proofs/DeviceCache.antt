@@ -214,7 +214,9 @@ cache_kept ms g n p c r m l bo bi la ra ow =
     new : cached_wire ms (own p n (Own.Keep c r m)) r ≡ translation_wire ms p (p.request_binding r) (p.request_page r) m
     new = ap (λ o. translation_wire ms p (p.request_binding r) (p.request_page r) (the o)) (put-same rest r (Some m))
 
-    others : map (cached_wire ms (own p n (Own.Keep c r m))) (select p.requests (λ k. is_some (rest k))) ≡ map (cached_wire ms (record p { held = rest })) (select p.requests (λ k. is_some (rest k)))
+    others :
+        map (cached_wire ms (own p n (Own.Keep c r m))) (select p.requests (λ k. is_some (rest k)))
+        ≡ map (cached_wire ms (record p { held = rest })) (select p.requests (λ k. is_some (rest k)))
     others =
         select_seen p.requests (λ k. is_some (rest k)) (λ k. is_some (rest k)) (cached_wire ms (record p { held = rest }))
         (cached_wire ms (own p n (Own.Keep c r m))) (λ k lt. refl)

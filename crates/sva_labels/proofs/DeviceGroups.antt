@@ -125,7 +125,9 @@ groups_requested ms g n p y q r x l le gr =
         tabulate_at 32 (λ i. option_map (group_wire p) (p.at_index i)) (p.index y) None (gr.index_low (p.index y) y there)
         ∙ ap (option_map (group_wire p)) there
 
-    changed : group_wire (own p n (Own.Request y q r x l)) y ≡ record { pasid = p.pasid (p.asker y); state = sent_as l; requests = suc (count_below p.page_requests (λ k. p.group_of k == y)) }
+    changed :
+        group_wire (own p n (Own.Request y q r x l)) y
+        ≡ record { pasid = p.pasid (p.asker y); state = sent_as l; requests = suc (count_below p.page_requests (λ k. p.group_of k == y)) }
     changed =
         let state = put-same p.group y (sent_as l) in
         let count =

@@ -32,7 +32,8 @@ taken_by_same ms other p q k Queued h = refl
 taken_by_same ms other p q k Sent h = refl
 taken_by_same ms other p q k (Taken uses) h =
     let same = h uses refl in
-    let slots : tabulate 16 (notes other q k uses) ≡ tabulate 16 (notes ms p k uses) = tabulate_same 16 (notes other q k uses) (notes ms p k uses) (λ t l. same.slots t) in
+    let slots : tabulate 16 (notes other q k uses) ≡ tabulate 16 (notes ms p k uses) =
+    tabulate_same 16 (notes other q k uses) (notes ms p k uses) (λ t l. same.slots t) in
     λ i. Some (record { pasid = same.pasid i; extent = same.extent i; slots = slots i })
 taken_by_same ms other p q k Lapsed h = refl
 taken_by_same ms other p q k (Owing count left) h = refl

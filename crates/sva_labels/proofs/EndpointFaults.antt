@@ -155,7 +155,8 @@ sum_groups group_of out at label_of bears there (suc n) =
         in
         omega (arith, one, rest)
     go false e rest =
-        let zero : count_below 32 (λ i. is_one (group_of n) (at i)) ≡ 0 = count_zero 32 (λ i. is_one (group_of n) (at i)) (λ i l. none e i (is_one (group_of n) (at i)) refl) in
+        let zero : count_below 32 (λ i. is_one (group_of n) (at i)) ≡ 0 =
+        count_zero 32 (λ i. is_one (group_of n) (at i)) (λ i l. none e i (is_one (group_of n) (at i)) refl) in
         omega (arith, zero, rest)
 
 pub outstanding_seen : (w : World) (e : ℕ) → Invariant w → e < w.config.endpoints → outstanding (device_of (wire w) e).groups ≡ Labels.outstanding (w.part e)

@@ -91,7 +91,9 @@ noted_seen w e k uses i =
         (u : ℕ) → u < uses → Labels.is_noted_running w.mappings p k u ≡ true
         → (t : ℕ) × (t < 16) × (holds_of (is_noted w.mappings p k uses) (p.at_slot t) ≡ true)
     back u l h =
-        let there : p.at_slot (p.use_slot u) ≡ Some u = (i.parts e).labels.bears_slot u (slot_of (p.use_state u) (first (is_running (p.use_state u)) (covers (p.order k) (p.use_binding u) (w.mappings.page (p.use_mapping u))) h)) in (
+        let there : p.at_slot (p.use_slot u) ≡ Some u =
+        (i.parts e).labels.bears_slot u
+        (slot_of (p.use_state u) (first (is_running (p.use_state u)) (covers (p.order k) (p.use_binding u) (w.mappings.page (p.use_mapping u))) h)) in (
           p.use_slot u,
           (i.parts e).labels.slot_low (p.use_slot u) u there,
           ap (holds_of (is_noted w.mappings p k uses)) there ∙ both (nat_lt u uses) (Labels.is_noted_running w.mappings p k u) (lower u uses l) h,
@@ -140,7 +142,8 @@ in_use_seen w e vector i l =
         nothing a h = grind arith
     forth t (Some k) m h =
         let set : Labels.is_set vector t ≡ true = first (Labels.is_set vector t) (waits_for_use (taken_by w.mappings p k (p.order_state k))) h in
-        let waits : (is_taken (p.order_state k) && Labels.is_in_use w p k) ≡ true = sym (waits_seen w e k i (p.order_state k)) ∙ second (Labels.is_set vector t) (waits_for_use (taken_by w.mappings p k (p.order_state k))) h in
+        let waits : (is_taken (p.order_state k) && Labels.is_in_use w p k) ≡ true =
+        sym (waits_seen w e k i (p.order_state k)) ∙ second (Labels.is_set vector t) (waits_for_use (taken_by w.mappings p k (p.order_state k))) h in
         let taken = first (is_taken (p.order_state k)) (Labels.is_in_use w p k) waits in (
           k,
           made k taken,

@@ -123,7 +123,8 @@ holder :
     → is_at_page t q (cached_wire ms p r) ≡ true → (p.at_pasid t ≡ Some (p.request_binding r)) × (p.request_page r ≡ q)
 holder ms x g n e p i t q r s h =
     let same = and_two (p.pasid (p.request_binding r)) t (p.request_page r) q h in
-    let u : is_unreleased (p.stage (p.request_binding r)) ≡ true = active_unreleased (p.stage (p.request_binding r)) (i.owners.held r (the (p.held r)) (some_the (p.held r) s)) in
+    let u : is_unreleased (p.stage (p.request_binding r)) ≡ true =
+    active_unreleased (p.stage (p.request_binding r)) (i.owners.held r (the (p.held r)) (some_the (p.held r) s)) in
     (sym (ap p.at_pasid same.0) ∙ i.labels.bears_pasid (p.request_binding r) u, same.1)
 
 pub one_holder :
@@ -156,7 +157,8 @@ cached_seen ms x g n e p i t q h =
     let low = lowest_below p.requests (Labels.is_held_at p b q) some.0 some.1 some.2 in
     let r = Labels.cached p b q in
     let three = and_three (words.is_some (p.held r)) (p.request_binding r) b (p.request_page r) q low.1 in
-    let passes : is_at_page t q (cached_wire ms p r) ≡ true = all_two (p.pasid (p.request_binding r)) t (p.request_page r) q (ap p.pasid three.1 ∙ (i.labels.pasid_bears t b bears.0).0) three.2 in
+    let passes : is_at_page t q (cached_wire ms p r) ≡ true =
+    all_two (p.pasid (p.request_binding r)) t (p.request_page r) q (ap p.pasid three.1 ∙ (i.labels.pasid_bears t b bears.0).0) three.2 in
     cache_find ms x g n e p i t q
     ∙ find_one p.requests (λ r. words.is_some (p.held r)) (cached_wire ms p) (is_at_page t q) r low.0 three.0 passes
     (λ j l s k. one_holder ms x g n e p i t q j r s three.0 k passes)

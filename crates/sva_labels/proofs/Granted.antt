@@ -93,7 +93,8 @@ unmap_granted w s q count order n same full spent =
   where
     room : (e : ℕ) → e < w.config.endpoints → submits w s e ≡ true → Labels.queue_length (w.part e) + suc count ≤ 64
     room e l t =
-        let f : (submits w s e && is_queue_short (w.part e) n) ≡ false = any_below-false w.config.endpoints (λ x. submits w s x && is_queue_short (w.part x) n) full e l in
+        let f : (submits w s e && is_queue_short (w.part e) n) ≡ false =
+        any_below-false w.config.endpoints (λ x. submits w s x && is_queue_short (w.part x) n) full e l in
         let k : Labels.queue_length (w.part e) + n ≤ 64 = no_room_short (w.part e) n (both_false (submits w s e) (is_queue_short (w.part e) n) f t) in
         omega (arith, k, same)
 

@@ -82,10 +82,12 @@ pub mod Said
 pub mod SoundQueues
 pub mod SoundPasids
 pub mod WholeLists
-pub mod RowsByNames
+pub mod RowsComputed
 pub mod SoundWaits
 pub mod SoundRoom
 pub mod SoundRequests
 pub mod SoundFlights
 pub mod SoundTables
 pub mod SoundCache
+pub mod TalliedSteps
+pub mod TalliedWorlds

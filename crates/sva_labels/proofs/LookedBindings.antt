@@ -54,7 +54,8 @@ pub record IsBinding (w : World) (n : ℕ) : Type 0 where
 
 pub binding_is : (w : World) (n : ℕ) → Labels.is_binding w n ≡ true → IsBinding w n
 binding_is w n h =
-    let number : (nat_le w.config.first n && nat_lt (Labels.name w n) w.bindings) ≡ true = and_left (nat_le w.config.first n && nat_lt (Labels.name w n) w.bindings) (is_kept w (Labels.name w n)) h in
+    let number : (nat_le w.config.first n && nat_lt (Labels.name w n) w.bindings) ≡ true =
+    and_left (nat_le w.config.first n && nat_lt (Labels.name w n) w.bindings) (is_kept w (Labels.name w n)) h in
     record {
       number = first_at w.config.first n (and_left (nat_le w.config.first n) (nat_lt (Labels.name w n) w.bindings) number);
       given = below_of (Labels.name w n) w.bindings (and_right (nat_le w.config.first n) (nat_lt (Labels.name w n) w.bindings) number);
@@ -120,7 +121,8 @@ bearer_is w e t i = find_seen (binding_seen w) (λ b. b.endpoint == e && b.pasid
     bears b h =
         let rest = and_right (is_kept w b) (w.home b == e && (w.part (w.home b)).pasid b == t) h in
         let home : w.home b ≡ e = same_is (w.home b) e (and_left (w.home b == e) ((w.part (w.home b)).pasid b == t) rest) in
-        let pasid : (w.part (w.home b)).pasid b ≡ t = same_is ((w.part (w.home b)).pasid b) t (and_right (w.home b == e) ((w.part (w.home b)).pasid b == t) rest) in
+        let pasid : (w.part (w.home b)).pasid b ≡ t =
+        same_is ((w.part (w.home b)).pasid b) t (and_right (w.home b == e) ((w.part (w.home b)).pasid b == t) rest) in
         subst (λ z. (w.part e).at_pasid z ≡ Some b) (ap (λ d. (w.part d).pasid b) (sym home) ∙ pasid)
         ((i.parts e).labels.bears_pasid b
         (ap (λ d. is_unreleased ((w.part d).stage b)) (sym home) ∙ and_left (is_kept w b) (w.home b == e && (w.part (w.home b)).pasid b == t) h))
@@ -159,7 +161,9 @@ bound_there w n i num =
     forth h =
         let x = any_below-true w.bindings (λ b. is_kept w b && w.config.first + (w.part (w.home b)).space b == n) h in
         let kept = and_left (is_kept w x.0) (w.config.first + (w.part (w.home x.0)).space x.0 == n) x.2 in
-        let space : w.config.first + (w.part (w.home x.0)).space x.0 ≡ n = same_is (w.config.first + (w.part (w.home x.0)).space x.0) n (and_right (is_kept w x.0) (w.config.first + (w.part (w.home x.0)).space x.0 == n) x.2) in
+        let space : w.config.first + (w.part (w.home x.0)).space x.0 ≡ n =
+        same_is (w.config.first + (w.part (w.home x.0)).space x.0) n
+        (and_right (is_kept w x.0) (w.config.first + (w.part (w.home x.0)).space x.0 == n) x.2) in
         any_below-intro w.config.endpoints (Labels.is_bound_at w (Labels.name w n)) (w.home x.0)
         ((i.parts (w.home x.0)).there x.0 (unreleased_bound (w.part (w.home x.0)) x.0 kept))
         (any_below-intro w.bindings (λ b. is_unreleased ((w.part (w.home x.0)).stage b) && (w.part (w.home x.0)).space b == Labels.name w n) x.0 x.1
@@ -171,7 +175,9 @@ bound_there w n i num =
         let x = any_below-true w.config.endpoints (Labels.is_bound_at w (Labels.name w n)) h in
         let y = any_below-true w.bindings (λ b. is_unreleased ((w.part x.0).stage b) && (w.part x.0).space b == Labels.name w n) x.2 in
         let kept = and_left (is_unreleased ((w.part x.0).stage y.0)) ((w.part x.0).space y.0 == Labels.name w n) y.2 in
-        let space : (w.part x.0).space y.0 ≡ Labels.name w n = same_is ((w.part x.0).space y.0) (Labels.name w n) (and_right (is_unreleased ((w.part x.0).stage y.0)) ((w.part x.0).space y.0 == Labels.name w n) y.2) in
+        let space : (w.part x.0).space y.0 ≡ Labels.name w n =
+        same_is ((w.part x.0).space y.0) (Labels.name w n)
+        (and_right (is_unreleased ((w.part x.0).stage y.0)) ((w.part x.0).space y.0 == Labels.name w n) y.2) in
         let home : w.home y.0 ≡ x.0 = i.homed x.0 y.0 (unreleased_bound (w.part x.0) y.0 kept) in
         any_below-intro w.bindings (λ b. is_kept w b && w.config.first + (w.part (w.home b)).space b == n) y.0 y.1
         (and_both (is_kept w y.0) (w.config.first + (w.part (w.home y.0)).space y.0 == n) (ap (λ d. is_unreleased ((w.part d).stage y.0)) home ∙ kept)
@@ -187,7 +193,8 @@ borne_there w t i =
     forth h =
         let x = any_below-true w.bindings (λ b. is_kept w b && (w.part (w.home b)).pasid b == t) h in
         let kept = and_left (is_kept w x.0) ((w.part (w.home x.0)).pasid x.0 == t) x.2 in
-        let pasid : (w.part (w.home x.0)).pasid x.0 ≡ t = same_is ((w.part (w.home x.0)).pasid x.0) t (and_right (is_kept w x.0) ((w.part (w.home x.0)).pasid x.0 == t) x.2) in
+        let pasid : (w.part (w.home x.0)).pasid x.0 ≡ t =
+        same_is ((w.part (w.home x.0)).pasid x.0) t (and_right (is_kept w x.0) ((w.part (w.home x.0)).pasid x.0 == t) x.2) in
         any_below-intro w.config.endpoints (λ e. Labels.is_borne_at (w.part e) t) (w.home x.0)
         ((i.parts (w.home x.0)).there x.0 (unreleased_bound (w.part (w.home x.0)) x.0 kept))
         (ap is_some (subst (λ z. (w.part (w.home x.0)).at_pasid z ≡ Some x.0) pasid ((i.parts (w.home x.0)).labels.bears_pasid x.0 kept)))

@@ -131,7 +131,9 @@ success_sent (Some code) h = (code, refl)
 
 -- the binding that the job names is there
 pub record Succeeds (w : World) (j : ℕ) : Type 0 where
-  pub binding : binding_of (wire w) (number w.config.first (job_binding w j)) ≡ Some (binding_wire w.config.first (w.job j).endpoint (w.part (w.job j).endpoint) (job_binding w j))
+  pub binding :
+      binding_of (wire w) (number w.config.first (job_binding w j))
+      ≡ Some (binding_wire w.config.first (w.job j).endpoint (w.part (w.job j).endpoint) (job_binding w j))
   pub pages : pages_of_job (wire w) (job_wire w j) ≡ pages_wire w.mappings (job_space w j)
 
 pub succeeds : (w : World) (j : ℕ) (v : Verdict) → Invariant w → names.replies_success w j v ≡ true → Succeeds w j

@@ -42,7 +42,8 @@ same_space w s pages owed (suc n) =
     let test : is_page_of (without_pages w.mappings s pages owed) s n ≡ (is_page_of w.mappings s n && not (pages (w.mappings.page n))) =
     left_test w s pages owed s n ∙ those_kept (is_present (w.mappings.state n)) (w.mappings.space n == s) (pages (w.mappings.page n))
     in
-    let rest : pages_below (without_pages w.mappings s pages owed) s n ≡ filter (λ entry. not (pages entry.page)) (pages_below w.mappings s n) = same_space w s pages owed n in
+    let rest : pages_below (without_pages w.mappings s pages owed) s n ≡ filter (λ entry. not (pages entry.page)) (pages_below w.mappings s n) =
+    same_space w s pages owed n in
     (λ i. if test i then insert_by is_lower_page (page_wire w.mappings n) (rest i) else rest i) ∙ go (is_page_of w.mappings s n)
   where
     go :

@@ -175,7 +175,9 @@ seen_same w v owed c h =
     at e false k = refl
     at e true k = let z = h e (less e w.config.endpoints k) in λ i. if z.answers i then None else Some (z.target i)
 
-    same_targets : tabulate 8 (λ e. if nat_lt e w.config.endpoints then target_wire w.config.first (v.part e) (owed e) else None) ≡ tabulate 8 (λ e. if nat_lt e w.config.endpoints then target_wire w.config.first (w.part e) (owed e) else None)
+    same_targets :
+        tabulate 8 (λ e. if nat_lt e w.config.endpoints then target_wire w.config.first (v.part e) (owed e) else None)
+        ≡ tabulate 8 (λ e. if nat_lt e w.config.endpoints then target_wire w.config.first (w.part e) (owed e) else None)
     same_targets =
         tabulate_same 8 (λ e. if nat_lt e w.config.endpoints then target_wire w.config.first (v.part e) (owed e) else None)
         (λ e. if nat_lt e w.config.endpoints then target_wire w.config.first (w.part e) (owed e) else None)

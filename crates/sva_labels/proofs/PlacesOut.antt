@@ -91,9 +91,11 @@ places_out w v s pages owed there ma c ms here older =
     taken : (f m : ℕ) → goes f m ≡ true → seen_at v after (w.mappings.latest f) ≡ there
     taken f m h =
         let page : is_page_of w.mappings s m ≡ true = and_left (is_page_of w.mappings s m) (pages (w.mappings.page m) && w.mappings.frame m == f) h in
-        let rest : (pages (w.mappings.page m) && w.mappings.frame m == f) ≡ true = and_right (is_page_of w.mappings s m) (pages (w.mappings.page m) && w.mappings.frame m == f) h in
+        let rest : (pages (w.mappings.page m) && w.mappings.frame m == f) ≡ true =
+        and_right (is_page_of w.mappings s m) (pages (w.mappings.page m) && w.mappings.frame m == f) h in
         let frame : w.mappings.frame m ≡ f = same_is (w.mappings.frame m) f (and_right (pages (w.mappings.page m)) (w.mappings.frame m == f) rest) in
-        let present : w.mappings.state m ≡ Present = present_is (w.mappings.state m) (and_left (is_present (w.mappings.state m)) (w.mappings.space m == s) page) in
+        let present : w.mappings.state m ≡ Present =
+        present_is (w.mappings.state m) (and_left (is_present (w.mappings.state m)) (w.mappings.space m == s) page) in
         ap (seen_at v after) (sym (ap w.mappings.latest frame) ∙ ma.latest m present)
         ∙ ap (seen_by v) (out m page (and_left (pages (w.mappings.page m)) (w.mappings.frame m == f) rest))
         ∙ here

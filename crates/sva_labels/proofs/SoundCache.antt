@@ -52,13 +52,17 @@ abbrev Rise : List TranslationWire → Type 0
 Rise [] = Unit {0}
 Rise (x ∷ xs) = AllOf (λ y. is_before x y ≡ true) xs × Rise xs
 
-comes_on : (t q u r v s : ℕ) → (nat_lt t u || (t == u && nat_lt q r)) ≡ true → (nat_lt u v || (u == v && nat_lt r s)) ≡ true → (nat_lt t v || (t == v && nat_lt q s)) ≡ true
+comes_on :
+    (t q u r v s : ℕ) → (nat_lt t u || (t == u && nat_lt q r)) ≡ true → (nat_lt u v || (u == v && nat_lt r s)) ≡ true
+    → (nat_lt t v || (t == v && nat_lt q s)) ≡ true
 comes_on t q u r v s h k = grind (arith, nat_tests)
 
 before_on : (x y z : TranslationWire) → is_before x y ≡ true → is_before y z ≡ true → is_before x z ≡ true
 before_on x y z h k = comes_on x.pasid x.page y.pasid y.page z.pasid z.page h k
 
-all_before : (a x : TranslationWire) (xs : List TranslationWire) → is_before a x ≡ true → AllOf (λ y. is_before x y ≡ true) xs → AllOf (λ y. is_before a y ≡ true) xs
+all_before :
+    (a x : TranslationWire) (xs : List TranslationWire) → is_before a x ≡ true → AllOf (λ y. is_before x y ≡ true) xs
+    → AllOf (λ y. is_before a y ≡ true) xs
 all_before a x [] h k = tt
 all_before a x (y ∷ ys) h k = (before_on a x y h k.0, all_before a x ys h k.1)
 
@@ -86,7 +90,9 @@ rise_sorted : (xs : List TranslationWire) → PairsApart xs → Rise (sorted_by 
 rise_sorted [] h = tt
 rise_sorted (x ∷ xs) h = rise_insert x (sorted_by is_before xs) (rise_sorted xs h.1) (all_sorted (AreApart x) xs h.0)
 
-rise_get : (xs : List TranslationWire) (j k : ℕ) (x y : TranslationWire) → Rise xs → j < k → slice_get xs j ≡ Some x → slice_get xs k ≡ Some y → is_before x y ≡ true
+rise_get :
+    (xs : List TranslationWire) (j k : ℕ) (x y : TranslationWire) → Rise xs → j < k → slice_get xs j ≡ Some x → slice_get xs k ≡ Some y
+    → is_before x y ≡ true
 rise_get [] j k x y h l a b = absurd (cc (a))
 rise_get (z ∷ zs) j zero x y h l a b = absurd (omega (arith, l))
 rise_get (z ∷ zs) zero (suc k) x y h l a b = all_get (λ v. is_before x v ≡ true) zs k y (subst (λ u. AllOf (λ v. is_before u v ≡ true) zs) (same_Some z x a) h.0) b
@@ -96,7 +102,9 @@ pairs_push : (xs : List TranslationWire) (y : TranslationWire) → PairsApart xs
 pairs_push [] y h k = (tt, tt)
 pairs_push (x ∷ xs) y h k = (all_push (AreApart x) xs y h.0 k.0, pairs_push xs y h.1 k.1)
 
-pairs_select : (n : ℕ) (q : ℕ → Bool) (f : ℕ → TranslationWire) → ((j k : ℕ) → j < k → k < n → q j ≡ true → q k ≡ true → AreApart (f j) (f k)) → PairsApart (map f (select n q))
+pairs_select :
+    (n : ℕ) (q : ℕ → Bool) (f : ℕ → TranslationWire) → ((j k : ℕ) → j < k → k < n → q j ≡ true → q k ≡ true → AreApart (f j) (f k))
+    → PairsApart (map f (select n q))
 unfolding select
 pairs_select zero q f h = tt
 pairs_select (suc n) q f h = go (q n) refl (pairs_select n q f (λ j k l m s t. h j k l (omega (arith, m)) s t))
@@ -118,7 +126,9 @@ active_unreleased s h = grind arith
 one_bearer : (p : Part) (b d : ℕ) → p.at_pasid (p.pasid b) ≡ Some b → p.at_pasid (p.pasid d) ≡ Some d → p.pasid b ≡ p.pasid d → b ≡ d
 one_bearer p b d h k e = let z : p.at_pasid (p.pasid b) ≡ p.at_pasid (p.pasid d) = ap p.at_pasid e in cc
 
-cached_apart : (ms : Mappings) (x g n e : ℕ) (p : Part) (j k : ℕ) → PartInvariant ms x g n e p → j < k → is_some (p.held j) ≡ true → is_some (p.held k) ≡ true → AreApart (cached_wire ms p j) (cached_wire ms p k)
+cached_apart :
+    (ms : Mappings) (x g n e : ℕ) (p : Part) (j k : ℕ) → PartInvariant ms x g n e p → j < k → is_some (p.held j) ≡ true → is_some (p.held k) ≡ true
+    → AreApart (cached_wire ms p j) (cached_wire ms p k)
 cached_apart ms x g n e p j k i l s t = keys_apart (p.pasid (p.request_binding j)) (p.request_page j) (p.pasid (p.request_binding k)) (p.request_page k) (λ a b. absurd (apart a b))
   where
     bears : (r : ℕ) → is_some (p.held r) ≡ true → p.at_pasid (p.pasid (p.request_binding r)) ≡ Some (p.request_binding r)
@@ -129,7 +139,10 @@ cached_apart ms x g n e p j k i l s t = keys_apart (p.pasid (p.request_binding j
         let same = i.requests.one_held j k (the (p.held j)) (the (p.held k)) (some_the (p.held j) s) (some_the (p.held k) t) (one_bearer p (p.request_binding j) (p.request_binding k) (bears j s) (bears k t) a) b in
         absurd (omega (arith, l, same))
 
-pub cache_rising : (ms : Mappings) (x g n e : ℕ) (p : Part) → PartInvariant ms x g n e p → (j k : ℕ) (a b : TranslationWire) → j < k → slice_get (cache_wire ms p) j ≡ Some a → slice_get (cache_wire ms p) k ≡ Some b → is_before a b ≡ true
+pub cache_rising :
+    (ms : Mappings) (x g n e : ℕ) (p : Part) → PartInvariant ms x g n e p → (j k : ℕ) (a b : TranslationWire) → j < k
+    → slice_get (cache_wire ms p) j ≡ Some a → slice_get (cache_wire ms p) k ≡ Some b
+    → is_before a b ≡ true
 cache_rising ms x g n e p i j k a b l h m =
     rise_get (cache_wire ms p) j k a b
     (rise_sorted (map (cached_wire ms p) (select p.requests (λ r. is_some (p.held r)))) (pairs_select p.requests (λ r. is_some (p.held r)) (cached_wire ms p) (λ c d o q s t. cached_apart ms x g n e p c d i o s t)))

@@ -29,7 +29,9 @@ use Rattle.sva_labels.proofs.SoundLists.{IsSeen, seen_get}
 use Rattle.sva_labels.proofs.SoundRequests.{FiledOnce, arrival_short, filing_short}
 
 -- an unreleased binding is found by its PASID
-bearer_found : (w : World) (e b : ℕ) → Invariant w → is_unreleased ((w.part e).stage b) ≡ true → bearer (wire w) e ((w.part e).pasid b) ≡ Some (binding_wire w.config.first e (w.part e) b)
+bearer_found :
+    (w : World) (e b : ℕ) → Invariant w → is_unreleased ((w.part e).stage b) ≡ true
+    → bearer (wire w) e ((w.part e).pasid b) ≡ Some (binding_wire w.config.first e (w.part e) b)
 bearer_found w e b i u = bearer_is w e ((w.part e).pasid b) i ∙ ap (option_map (binding_wire w.config.first e (w.part e))) ((i.parts e).labels.bears_pasid b u)
 
 borne : (w : World) (e b : ℕ) → Invariant w → is_unreleased ((w.part e).stage b) ≡ true → IsBorne (wire w) e ((w.part e).pasid b)
@@ -55,7 +57,10 @@ shut_here w e l h = ap (λ u. u.is_open) (unit_seen w e l) ∙ h
 answerable_out : (s : GroupState) → is_answerable s ≡ true → is_outstanding s ≡ true
 answerable_out s h = grind arith
 
-suits : (w : World) (e c : ℕ) → Invariant w → IsCarried w.mappings (w.part e) → outstanding (w.part e) ≤ 32 → e < w.config.endpoints → (a : About) → (w.part e).message c ≡ Some a → Suits (wire w) e ((w.part e).carried c)
+suits :
+    (w : World) (e c : ℕ) → Invariant w → IsCarried w.mappings (w.part e) → outstanding (w.part e) ≤ 32 → e < w.config.endpoints → (a : About)
+    → (w.part e).message c ≡ Some a
+    → Suits (wire w) e ((w.part e).carried c)
 suits w e c i ca most l (StartOf b) h = subst (Suits (wire w) e) (sym (ca.start c b h)) (borne w e b i (unmarked_unreleased ((w.part e).stage b) ((i.parts e).bindings.start_stage c b h)))
 suits w e c i ca most l (StopOf b) h = subst (Suits (wire w) e) (sym (ca.stop c b h)) (borne w e b i (ap is_unreleased ((i.parts e).bindings.stop_stage c b h)))
 suits w e c i ca most l ResetOrder h = subst (Suits (wire w) e) (sym (ca.reset c h)) (shut_here w e l (ap is_open ((i.parts e).resets.down c h)))
@@ -103,7 +108,10 @@ flight_near w i k f x =
     let l : w.way x.of < w.config.endpoints = (i.parts (w.way x.of)).near x.of x.passes in
     subst (λ n. f.endpoint < n) (sym (endpoints_seen w)) (subst (λ e. e < w.config.endpoints) (sym (ap (λ z. z.endpoint) x.seen)) l)
 
-pub flight_suited : (w : World) → Invariant w → ((e : ℕ) → IsCarried w.mappings (w.part e)) → ((e : ℕ) → outstanding (w.part e) ≤ 32) → (k : ℕ) (f : FlightWire) → IsFlyingAt w k f → Suits (wire w) f.endpoint f.message
+pub flight_suited :
+    (w : World) → Invariant w → ((e : ℕ) → IsCarried w.mappings (w.part e)) → ((e : ℕ) → outstanding (w.part e) ≤ 32) → (k : ℕ) (f : FlightWire)
+    → IsFlyingAt w k f
+    → Suits (wire w) f.endpoint f.message
 flight_suited w i ca most k f x =
     subst (λ z. Suits (wire w) z.endpoint z.message) (sym x.seen) (go ((w.part e).message x.of) refl x.passes)
   where
@@ -133,7 +141,9 @@ open_or_not Open = inr refl
 open_or_not (Ordered c) = inl refl
 open_or_not (Cleared c) = inl refl
 
-pub waiting_found : (w : World) → Invariant w → (e k : ℕ) (r : PageRequestWire) → e < w.config.endpoints → slice_get (part_of (wire w) e).page_queue k ≡ Some r → IsBorne (wire w) e r.pasid
+pub waiting_found :
+    (w : World) → Invariant w → (e k : ℕ) (r : PageRequestWire) → e < w.config.endpoints → slice_get (part_of (wire w) e).page_queue k ≡ Some r
+    → IsBorne (wire w) e r.pasid
 waiting_found w i e k r l h =
     let x = waiting_at w e k r l h in
     let y = (w.part e).arrival x.of in
@@ -177,7 +187,9 @@ filing_placed w i on fi once most e k r b l h f = go (open_or_not (w.part e).pha
     same : asks_of (find (is_begun b.binding r.index) (part_of (wire w) e).host_groups) ≡ asks_of (find (is_begun (number w.config.first d) ((w.part e).index ((w.part e).group_of y))) (host_groups_wire w.config.first (w.part e)))
     same = λ j. asks_of (find (is_begun (its j) (index j)) (part_seen w e l j).host_groups)
 
-    go : (is_open (w.part e).phase ≡ false) ⊎ ((w.part e).phase ≡ Open) → length (asks_of (find (is_begun b.binding r.index) (part_of (wire w) e).host_groups)) < 32
+    go :
+        (is_open (w.part e).phase ≡ false) ⊎ ((w.part e).phase ≡ Open)
+        → length (asks_of (find (is_begun b.binding r.index) (part_of (wire w) e).host_groups)) < 32
     go (inl shut) = absurd ((i.parts e).resets.unarrived y shut arrived)
     go (inr ph) =
         subst (λ xs. length xs < 32)

@@ -36,7 +36,10 @@ unfolding tabulate
 table_get zero f k x h = absurd (cc (h))
 table_get (suc n) f k x h = go (λ e. table_get n f k x e) (push_get (tabulate n f) (f n) x k h)
   where
-    go : (slice_get (tabulate n f) k ≡ Some x → (k < n) × (x ≡ f k)) → (slice_get (tabulate n f) k ≡ Some x) ⊎ ((k ≡ length (tabulate n f)) × (x ≡ f n)) → (k < suc n) × (x ≡ f k)
+    go :
+        (slice_get (tabulate n f) k ≡ Some x → (k < n) × (x ≡ f k))
+        → (slice_get (tabulate n f) k ≡ Some x) ⊎ ((k ≡ length (tabulate n f)) × (x ≡ f n))
+        → (k < suc n) × (x ≡ f k)
     go rest (inl e) = let r = rest e in (omega (arith, r), r.1)
     go rest (inr e) =
         let same : k ≡ n = e.0 ∙ tabulate_length n f in
@@ -48,11 +51,17 @@ unfolding select
 select_get zero p k x h = absurd (cc (h))
 select_get (suc n) p k x h = go (λ e. let r = select_get n p k x e in (omega (arith, r), r.1)) (p n) refl h
   where
-    new : (slice_get (select n p) k ≡ Some x → (x < suc n) × (p x ≡ true)) → p n ≡ true → (slice_get (select n p) k ≡ Some x) ⊎ ((k ≡ length (select n p)) × (x ≡ n)) → (x < suc n) × (p x ≡ true)
+    new :
+        (slice_get (select n p) k ≡ Some x → (x < suc n) × (p x ≡ true)) → p n ≡ true
+        → (slice_get (select n p) k ≡ Some x) ⊎ ((k ≡ length (select n p)) × (x ≡ n))
+        → (x < suc n) × (p x ≡ true)
     new old t (inl e) = old e
     new old t (inr e) = let same = e.1 in (omega (arith, same), ap p e.1 ∙ t)
 
-    go : (slice_get (select n p) k ≡ Some x → (x < suc n) × (p x ≡ true)) → (b : Bool) → p n ≡ b → slice_get (select n p ++ (if b then n ∷ [] else [])) k ≡ Some x → (x < suc n) × (p x ≡ true)
+    go :
+        (slice_get (select n p) k ≡ Some x → (x < suc n) × (p x ≡ true)) → (b : Bool) → p n ≡ b
+        → slice_get (select n p ++ (if b then n ∷ [] else [])) k ≡ Some x
+        → (x < suc n) × (p x ≡ true)
     go old true t e = new old t (push_get (select n p) n x k e)
     go old false t e = old (subst (λ xs. slice_get xs k ≡ Some x) (append_none (select n p)) e)
 
@@ -61,13 +70,20 @@ unfolding select
 select_rises zero p j k x y l h i = absurd (cc (h))
 select_rises (suc n) p j k x y l h i = go (λ a b. select_rises n p j k x y l a b) (p n) h i
   where
-    both : (slice_get (select n p) j ≡ Some x → slice_get (select n p) k ≡ Some y → x < y) → (slice_get (select n p) j ≡ Some x) ⊎ ((j ≡ length (select n p)) × (x ≡ n)) → (slice_get (select n p) k ≡ Some y) ⊎ ((k ≡ length (select n p)) × (y ≡ n)) → x < y
+    both :
+        (slice_get (select n p) j ≡ Some x → slice_get (select n p) k ≡ Some y → x < y)
+        → (slice_get (select n p) j ≡ Some x) ⊎ ((j ≡ length (select n p)) × (x ≡ n))
+        → (slice_get (select n p) k ≡ Some y) ⊎ ((k ≡ length (select n p)) × (y ≡ n))
+        → x < y
     both rest (inl a) (inl b) = rest a b
     both rest (inl a) (inr b) = let r = select_get n p j x a in let same = b.1 in omega (arith, r, same)
     both rest (inr a) (inl b) = let r = slice_get_within (select n p) k y b in let same = a.0 in absurd (omega (arith, r, same, l))
     both rest (inr a) (inr b) = let s = a.0 in let t = b.0 in absurd (omega (arith, s, t, l))
 
-    go : (slice_get (select n p) j ≡ Some x → slice_get (select n p) k ≡ Some y → x < y) → (b : Bool) → slice_get (select n p ++ (if b then n ∷ [] else [])) j ≡ Some x → slice_get (select n p ++ (if b then n ∷ [] else [])) k ≡ Some y → x < y
+    go :
+        (slice_get (select n p) j ≡ Some x → slice_get (select n p) k ≡ Some y → x < y) → (b : Bool)
+        → slice_get (select n p ++ (if b then n ∷ [] else [])) j ≡ Some x → slice_get (select n p ++ (if b then n ∷ [] else [])) k ≡ Some y
+        → x < y
     go rest true a b = both rest (push_get (select n p) n x j a) (push_get (select n p) n y k b)
     go rest false a b =
         rest
@@ -84,7 +100,9 @@ select_there (suc n) p x l t = go (λ m. select_there n p x m t) (p n) refl (ℕ
     more true k e = old_get (select n p) n x k e
     more false k e = subst (λ xs. slice_get xs k ≡ Some x) (sym (append_none (select n p))) e
 
-    go : (x < n → (k : ℕ) × (slice_get (select n p) k ≡ Some x)) → (b : Bool) → p n ≡ b → (x ≡ n) ⊎ (x ≢ n) → (k : ℕ) × (slice_get (select n p ++ (if b then n ∷ [] else [])) k ≡ Some x)
+    go :
+        (x < n → (k : ℕ) × (slice_get (select n p) k ≡ Some x)) → (b : Bool) → p n ≡ b → (x ≡ n) ⊎ (x ≢ n)
+        → (k : ℕ) × (slice_get (select n p ++ (if b then n ∷ [] else [])) k ≡ Some x)
     go rest true e (inl s) = (length (select n p), end_get (select n p) n ∙ ap Some (sym s))
     go rest false e (inl s) = absurd (cc (sym t ∙ ap p s ∙ e))
     go rest b e (inr ne) = let r = rest (omega (arith, l, ne)) in (r.0, more b r.0 r.1)

@@ -32,7 +32,9 @@ endpoint_low w i k b x =
 first_off : (first a b : ℕ) → first + a ≡ first + b → a ≡ b
 first_off first a b h = omega (arith, h)
 
-pub pasids_shared : (w : World) → Invariant w → w.rule ≡ PerSpace → (j k : ℕ) (b d : BindingWire) → IsKeptAt w j b → IsKeptAt w k d → (b.pasid ≡ d.pasid) ↔ (b.space ≡ d.space)
+pub pasids_shared :
+    (w : World) → Invariant w → w.rule ≡ PerSpace → (j k : ℕ) (b d : BindingWire) → IsKeptAt w j b → IsKeptAt w k d
+    → (b.pasid ≡ d.pasid) ↔ (b.space ≡ d.space)
 pasids_shared w i r j k b d x y = ((λ h. forth h), (λ h. back h))
   where
     pasid_b : b.pasid ≡ (w.part (w.home x.of)).pasid x.of
@@ -62,7 +64,9 @@ pasids_shared w i r j k b d x y = ((λ h. forth h), (λ h. back h))
 three_ways : (j k : ℕ) → (j ≡ k) ⊎ ((j < k) ⊎ (k < j))
 three_ways j k = grind arith
 
-pub one_each : (w : World) → Invariant w → (j k : ℕ) (b d : BindingWire) → IsKeptAt w j b → IsKeptAt w k d → b.endpoint ≡ d.endpoint → b.space ≡ d.space → j ≡ k
+pub one_each :
+    (w : World) → Invariant w → (j k : ℕ) (b d : BindingWire) → IsKeptAt w j b → IsKeptAt w k d → b.endpoint ≡ d.endpoint → b.space ≡ d.space
+    → j ≡ k
 one_each w i j k b d x y he hs = go (three_ways j k)
   where
     home : w.home x.of ≡ w.home y.of

@@ -39,7 +39,9 @@ added (Own.Drain b cookie) = 1
 added (Own.Invalidate b cookie) = 2
 added _ = 0
 
-queued_before : (ms : Mappings) (g n : ℕ) (p : Part) (o : Own) → LegalOwn ms g p o → (k : ℕ) → k < p.orders → is_queued ((own p n o).order_state k) ≡ true → is_queued (p.order_state k) ≡ true
+queued_before :
+    (ms : Mappings) (g n : ℕ) (p : Part) (o : Own) → LegalOwn ms g p o → (k : ℕ) → k < p.orders → is_queued ((own p n o).order_state k) ≡ true
+    → is_queued (p.order_state k) ≡ true
 queued_before ms g n p o l k lt h = grind (arith, nat_tests)
 
 orders_after : (p : Part) (n : ℕ) (o : Own) → (own p n o).orders ≡ p.orders + added o
@@ -59,10 +61,14 @@ own_short ms g n p o l h =
     let r = has_place ms g p o l h in
     omega (arith, m, r))
 
-submitted_before : (p : Part) (b q count order cookie k : ℕ) → k < p.orders → is_queued ((submitted p b q count order cookie).order_state k) ≡ true → is_queued (p.order_state k) ≡ true
+submitted_before :
+    (p : Part) (b q count order cookie k : ℕ) → k < p.orders → is_queued ((submitted p b q count order cookie).order_state k) ≡ true
+    → is_queued (p.order_state k) ≡ true
 submitted_before p b q count order cookie k lt h = grind (arith, nat_tests)
 
-submitted_short : (t : Bool) (p : Part) (o : Option ℕ) (q count order cookie : ℕ) → (t ≡ true → queue_length p + suc count ≤ 64) → queue_length p ≤ 64 → queue_length (submitted_if t p o q count order cookie) ≤ 64
+submitted_short :
+    (t : Bool) (p : Part) (o : Option ℕ) (q count order cookie : ℕ) → (t ≡ true → queue_length p + suc count ≤ 64) → queue_length p ≤ 64
+    → queue_length (submitted_if t p o q count order cookie) ≤ 64
 submitted_short true p (Some b) q count order cookie room h =
     let m = count_added p.orders (suc count) (λ j. is_queued ((submitted p b q count order cookie).order_state j)) (λ j. is_queued (p.order_state j)) (λ k lt t. submitted_before p b q count order cookie k lt t) in
     let r = room refl in

@@ -32,10 +32,18 @@ pub record FiledOnce (p : Part) : Type 0 where
   pub filed : (k : ℕ) → k < p.filings → p.page_request (p.filing k) ≡ Filed
   pub once : (j k : ℕ) → j < p.filings → k < p.filings → p.filing j ≡ p.filing k → j ≡ k
 
-filed_kept : (ms : Mappings) (g n : ℕ) (p : Part) (o : Own) → LegalOwn ms g p o → Queued p → (p.page_requests ≤ p.page_requests → p.page_request p.page_requests ≡ Dropped) → (k : ℕ) → (k < p.filings → p.page_request (p.filing k) ≡ Filed) → k < (own p n o).filings → (own p n o).page_request ((own p n o).filing k) ≡ Filed
+filed_kept :
+    (ms : Mappings) (g n : ℕ) (p : Part) (o : Own) → LegalOwn ms g p o → Queued p
+    → (p.page_requests ≤ p.page_requests → p.page_request p.page_requests ≡ Dropped) → (k : ℕ) → (k < p.filings → p.page_request (p.filing k) ≡ Filed)
+    → k < (own p n o).filings
+    → (own p n o).page_request ((own p n o).filing k) ≡ Filed
 filed_kept ms g n p o l qu un k old h = grind (arith, nat_tests, qu.in_flight)
 
-once_kept : (ms : Mappings) (g n : ℕ) (p : Part) (o : Own) → LegalOwn ms g p o → (j k : ℕ) → (j < p.filings → p.page_request (p.filing j) ≡ Filed) → (k < p.filings → p.page_request (p.filing k) ≡ Filed) → (j < p.filings → k < p.filings → p.filing j ≡ p.filing k → j ≡ k) → j < (own p n o).filings → k < (own p n o).filings → (own p n o).filing j ≡ (own p n o).filing k → j ≡ k
+once_kept :
+    (ms : Mappings) (g n : ℕ) (p : Part) (o : Own) → LegalOwn ms g p o → (j k : ℕ) → (j < p.filings → p.page_request (p.filing j) ≡ Filed)
+    → (k < p.filings → p.page_request (p.filing k) ≡ Filed) → (j < p.filings → k < p.filings → p.filing j ≡ p.filing k → j ≡ k)
+    → j < (own p n o).filings → k < (own p n o).filings → (own p n o).filing j ≡ (own p n o).filing k
+    → j ≡ k
 once_kept ms g n p o l j k fj fk old hj hk e = grind (arith, nat_tests)
 
 own_once : (ms : Mappings) (x g n e : ℕ) (p : Part) (o : Own) → LegalOwn ms g p o → PartInvariant ms x g n e p → FiledOnce p → FiledOnce (own p n o)
@@ -105,7 +113,10 @@ filed_apart : (s : PageRequestState) → s ≡ Filed → s ≡ Arrived → ⊥
 filed_apart s h k = absurd (cc (sym h ∙ k))
 
 -- one that is to arrive
-pub arrival_short : (ms : Mappings) (x g n e : ℕ) (p : Part) (c r : ℕ) → PartInvariant ms x g n e p → outstanding p ≤ 32 → p.phase ≡ Open → p.message c ≡ Some (PageRequestOf r) → length (page_queue_wire p) < 32
+pub arrival_short :
+    (ms : Mappings) (x g n e : ℕ) (p : Part) (c r : ℕ) → PartInvariant ms x g n e p → outstanding p ≤ 32 → p.phase ≡ Open
+    → p.message c ≡ Some (PageRequestOf r)
+    → length (page_queue_wire p) < 32
 arrival_short ms x g n e p c r i most ph h =
     subst (λ k. k < 32) (sym (length_seen (λ k. page_request_wire p (p.arrival k)) p.arrivals (is_waiting p)))
     (let few = fewer p r (i.queued.made r flying) (i.lasts.out r ph (inl flying)) most in omega (arith, placed, few))
@@ -126,7 +137,10 @@ arrival_short ms x g n e p c r i most ph h =
         same
 
 -- one that is to be filed
-pub filing_short : (ms : Mappings) (x g n e : ℕ) (p : Part) (r : ℕ) → PartInvariant ms x g n e p → FiledOnce p → outstanding p ≤ 32 → p.phase ≡ Open → p.page_request r ≡ Arrived → length (asks_wire p (p.group_of r)) < 32
+pub filing_short :
+    (ms : Mappings) (x g n e : ℕ) (p : Part) (r : ℕ) → PartInvariant ms x g n e p → FiledOnce p → outstanding p ≤ 32 → p.phase ≡ Open
+    → p.page_request r ≡ Arrived
+    → length (asks_wire p (p.group_of r)) < 32
 filing_short ms x g n e p r i fi most ph ar =
     subst (λ k. k < 32) (sym (ap length (asks_seen p (p.group_of r)) ∙ length_seen (λ k. ask_wire p (p.filing k)) p.filings (λ k. filed_group p k == p.group_of r)))
     (let few = fewer p r made out most in omega (arith, placed, few))

@@ -5,6 +5,7 @@ use Rattle.std.specs.Prelude.{Option, Some, None, ◌&&◌, ◌||◌, ◌==◌, 
 use Rattle.std.specs.List.{find}
 use Rattle.std.specs.Set.{distinct_count, is_member, remove_key, unique_keys}
 use Rattle.std.proofs.lemmas.Map.Made.{length-remove_key}
+use Rattle.std.proofs.lemmas.Option.{get_or_from_slice_get}
 use Rattle.std.proofs.lemmas.Bool.Decides.{nat_tests}
 use Rattle.sva_model.specs.Wire.{Wire, BindingWire, StageWire, PlaceWire, TargetWire, Descriptor, UnitWire}
 use Rattle.sva_model.specs.Wire.TargetWire.{Cookie, ResetEnd}
@@ -27,7 +28,10 @@ still_there x q (y ∷ ys) ne h = go (x == y) refl (q == y) refl h (still_there 
     both : (a b y : ℕ) → (a == y) ≡ true → (b == y) ≡ true → b ≡ a
     both a b y h k = grind (arith, nat_tests)
 
-    go : (b : Bool) → (x == y) ≡ b → (c : Bool) → (q == y) ≡ c → (c || is_member (◌==◌) ys q) ≡ true → (is_member (◌==◌) ys q ≡ true → is_member (◌==◌) (remove_key (λ z. x == z) ys) q ≡ true) → is_member (◌==◌) (if b then ys else y ∷ remove_key (λ z. x == z) ys) q ≡ true
+    go :
+        (b : Bool) → (x == y) ≡ b → (c : Bool) → (q == y) ≡ c → (c || is_member (◌==◌) ys q) ≡ true
+        → (is_member (◌==◌) ys q ≡ true → is_member (◌==◌) (remove_key (λ z. x == z) ys) q ≡ true)
+        → is_member (◌==◌) (if b then ys else y ∷ remove_key (λ z. x == z) ys) q ≡ true
     go true s true t k rest = absurd (ne (both x q y s t))
     go true s false t k rest = k
     go false s true t k rest = ap (λ c. c || is_member (◌==◌) (remove_key (λ z. x == z) ys) q) t
@@ -49,7 +53,10 @@ distinct_within (x ∷ xs) ys h =
     go (is_member (◌==◌) xs x) refl (distinct_within xs ys (λ q m. h q (or_right (q == x) (is_member (◌==◌) xs q) m)))
     (λ n. distinct_within xs (remove_key (λ y. x == y) ys) (λ q m. still_there x q ys (λ e. absurd (cc (sym m ∙ ap (is_member (◌==◌) xs) e ∙ n))) (h q (or_right (q == x) (is_member (◌==◌) xs q) m))))
   where
-    go : (b : Bool) → is_member (◌==◌) xs x ≡ b → distinct_count (◌==◌) xs ≤ length ys → (is_member (◌==◌) xs x ≡ false → distinct_count (◌==◌) xs ≤ length (remove_key (λ y. x == y) ys)) → length (if b then unique_keys (◌==◌) xs else x ∷ unique_keys (◌==◌) xs) ≤ length ys
+    go :
+        (b : Bool) → is_member (◌==◌) xs x ≡ b → distinct_count (◌==◌) xs ≤ length ys
+        → (is_member (◌==◌) xs x ≡ false → distinct_count (◌==◌) xs ≤ length (remove_key (λ y. x == y) ys))
+        → length (if b then unique_keys (◌==◌) xs else x ∷ unique_keys (◌==◌) xs) ≤ length ys
     go true m r s = r
     go false m r s =
         let less = s m in
@@ -97,16 +104,24 @@ awaited_by e (x ∷ places) c h = go (target_there e x) refl h (awaited_by e pla
     later : IsAwaitedBy e places c → IsAwaitedBy e (x ∷ places) c
     later a = record { frame = suc a.frame; place = a.place; stands = a.stands; awaits = a.awaits }
 
-    here : (d : ℕ) → target_there e x ≡ Some (Cookie d) → (b : Bool) → (c == d) ≡ b → (b || is_member (◌==◌) (awaited_at e places) c) ≡ true → (is_member (◌==◌) (awaited_at e places) c ≡ true → IsAwaitedBy e places c) → IsAwaitedBy e (x ∷ places) c
+    here :
+        (d : ℕ) → target_there e x ≡ Some (Cookie d) → (b : Bool) → (c == d) ≡ b → (b || is_member (◌==◌) (awaited_at e places) c) ≡ true
+        → (is_member (◌==◌) (awaited_at e places) c ≡ true → IsAwaitedBy e places c)
+        → IsAwaitedBy e (x ∷ places) c
     here d t true s k rest = record { frame = 0; place = x; stands = refl; awaits = t ∙ ap (λ z. Some (Cookie z)) (sym (same_is c d s)) }
     here d t false s k rest = later (rest k)
 
-    go : (t : Option TargetWire) → target_there e x ≡ t → is_member (◌==◌) (cookies_in (t ∷ map (target_there e) places)) c ≡ true → (is_member (◌==◌) (awaited_at e places) c ≡ true → IsAwaitedBy e places c) → IsAwaitedBy e (x ∷ places) c
+    go :
+        (t : Option TargetWire) → target_there e x ≡ t → is_member (◌==◌) (cookies_in (t ∷ map (target_there e) places)) c ≡ true
+        → (is_member (◌==◌) (awaited_at e places) c ≡ true → IsAwaitedBy e places c)
+        → IsAwaitedBy e (x ∷ places) c
     go None t k rest = later (rest k)
     go (Some ResetEnd) t k rest = later (rest k)
     go (Some (Cookie d)) t k rest = here d t (c == d) refl k rest
 
-queued_all : (w : Wire) → IsSound w → (e : ℕ) → e < length w.parts → (unit_of w e).is_open ≡ true → (q : ℕ) → is_member (◌==◌) (awaited_at e w.places) q ≡ true → is_member (◌==◌) (waits_in (unit_of w e).queue) q ≡ true
+queued_all :
+    (w : Wire) → IsSound w → (e : ℕ) → e < length w.parts → (unit_of w e).is_open ≡ true → (q : ℕ) → is_member (◌==◌) (awaited_at e w.places) q ≡ true
+    → is_member (◌==◌) (waits_in (unit_of w e).queue) q ≡ true
 queued_all w s e l op q m =
     let a = awaited_by e w.places q m in
     let h = s.awaited_queued e a.frame q a.place l op a.stands a.awaits in
@@ -119,11 +134,16 @@ record IsFoundAt (e n : ℕ) (bindings : List BindingWire) (b : BindingWire) : T
   stands : slice_get bindings place ≡ Some b
   endpoint : b.endpoint ≡ e
 
-found_at : (e n : ℕ) (bindings : List BindingWire) (b : BindingWire) → find (λ x. x.endpoint == e && x.space == n) bindings ≡ Some b → IsFoundAt e n bindings b
+found_at :
+    (e n : ℕ) (bindings : List BindingWire) (b : BindingWire) → find (λ x. x.endpoint == e && x.space == n) bindings ≡ Some b
+    → IsFoundAt e n bindings b
 found_at e n [] b h = absurd (cc (h))
 found_at e n (x ∷ bindings) b h = go (x.endpoint == e && x.space == n) refl h (found_at e n bindings b)
   where
-    go : (t : Bool) → (x.endpoint == e && x.space == n) ≡ t → (if t then Some x else find (λ x. x.endpoint == e && x.space == n) bindings) ≡ Some b → (find (λ x. x.endpoint == e && x.space == n) bindings ≡ Some b → IsFoundAt e n bindings b) → IsFoundAt e n (x ∷ bindings) b
+    go :
+        (t : Bool) → (x.endpoint == e && x.space == n) ≡ t → (if t then Some x else find (λ x. x.endpoint == e && x.space == n) bindings) ≡ Some b
+        → (find (λ x. x.endpoint == e && x.space == n) bindings ≡ Some b → IsFoundAt e n bindings b)
+        → IsFoundAt e n (x ∷ bindings) b
     go true t k rest = record { place = 0; stands = k; endpoint = ap (λ o. the_endpoint o) (sym k) ∙ same_is x.endpoint e (and_left (x.endpoint == e) (x.space == n) t) }
       where
         the_endpoint : Option BindingWire → ℕ
@@ -140,7 +160,9 @@ same_cookie : (c d : ℕ) → Some (Cookie c) ≡ Some (Cookie d) → c ≡ d
 same_cookie c d h = cc
 
 -- where the unit submits
-few_by_room : (w : Wire) → IsSound w → (e : ℕ) → e < length w.parts → (unit_of w e).is_open ≡ true → has_room (unit_of w e) 2 ≡ true → distinct_count (◌==◌) (awaited_at e w.places) < 64
+few_by_room :
+    (w : Wire) → IsSound w → (e : ℕ) → e < length w.parts → (unit_of w e).is_open ≡ true → has_room (unit_of w e) 2 ≡ true
+    → distinct_count (◌==◌) (awaited_at e w.places) < 64
 few_by_room w s e l op r =
     let d = distinct_within (awaited_at e w.places) (waits_in (unit_of w e).queue) (queued_all w s e l op) in
     let k = waits_length (unit_of w e).queue in
@@ -148,7 +170,10 @@ few_by_room w s e l op r =
     omega (arith, d, k, m)
 
 -- where it is a wait that is in the queue
-few_by_wait : (w : Wire) → IsSound w → (e c : ℕ) → e < length w.parts → (unit_of w e).is_open ≡ true → HasWait (unit_of w e) c → is_member (◌==◌) (awaited_at e w.places) c ≡ false → distinct_count (◌==◌) (awaited_at e w.places) < 64
+few_by_wait :
+    (w : Wire) → IsSound w → (e c : ℕ) → e < length w.parts → (unit_of w e).is_open ≡ true → HasWait (unit_of w e) c
+    → is_member (◌==◌) (awaited_at e w.places) c ≡ false
+    → distinct_count (◌==◌) (awaited_at e w.places) < 64
 few_by_wait w s e c l op h n =
     let d = distinct_within (c ∷ awaited_at e w.places) (waits_in (unit_of w e).queue) (λ q m. either q (q == c) refl m) in
     let k = waits_length (unit_of w e).queue in
@@ -156,11 +181,15 @@ few_by_wait w s e c l op h n =
     let o = one_more c (awaited_at e w.places) n in
     omega (arith, d, k, f, o)
   where
-    either : (q : ℕ) (b : Bool) → (q == c) ≡ b → (b || is_member (◌==◌) (awaited_at e w.places) q) ≡ true → is_member (◌==◌) (waits_in (unit_of w e).queue) q ≡ true
+    either :
+        (q : ℕ) (b : Bool) → (q == c) ≡ b → (b || is_member (◌==◌) (awaited_at e w.places) q) ≡ true
+        → is_member (◌==◌) (waits_in (unit_of w e).queue) q ≡ true
     either q true t m = ap (is_member (◌==◌) (waits_in (unit_of w e).queue)) (same_is q c t) ∙ wait_in (unit_of w e).queue h.place c h.drain h.stands
     either q false t m = queued_all w s e l op q m
 
-submits_so : (w : Wire) (e n : ℕ) (b : BindingWire) → bound_at w e n ≡ Some b → is_before_invalidating b.stage ≡ true → (unit_of w e).is_open ≡ true → submits w n e ≡ true
+submits_so :
+    (w : Wire) (e n : ℕ) (b : BindingWire) → bound_at w e n ≡ Some b → is_before_invalidating b.stage ≡ true → (unit_of w e).is_open ≡ true
+    → submits w n e ≡ true
 submits_so w e n b f st op = ap (submits_by (unit_of w e)) f ∙ and_both (unit_of w e).is_open (is_before_invalidating b.stage) op st
 
 pub room_for_waits :
@@ -182,14 +211,23 @@ room_for_waits w s n room e c h new = by_table (low_or_not e)
     less : (a b : ℕ) → nat_lt a b ≡ true → a < b
     less a b t = grind (arith, nat_tests)
 
-    by_submission : (b : BindingWire) → e < length w.parts → submits w n e ≡ true → (unit_of w e).is_open ≡ true → distinct_count (◌==◌) (awaited_at e w.places) < 64
+    by_submission :
+        (b : BindingWire) → e < length w.parts → submits w n e ≡ true → (unit_of w e).is_open ≡ true
+        → distinct_count (◌==◌) (awaited_at e w.places) < 64
     by_submission b l t op = few_by_room w s e l op (room e l t)
 
-    before : (b : BindingWire) → e < length w.parts → (z : Bool) → (unit_of w e).is_open ≡ z → ((unit_of w e).is_open ≡ true → submits w n e ≡ true) → Some (if z then Cookie (cookie_at w n e) else ResetEnd) ≡ Some (Cookie c) → distinct_count (◌==◌) (awaited_at e w.places) < 64
+    before :
+        (b : BindingWire) → e < length w.parts → (z : Bool) → (unit_of w e).is_open ≡ z → ((unit_of w e).is_open ≡ true → submits w n e ≡ true)
+        → Some (if z then Cookie (cookie_at w n e) else ResetEnd) ≡ Some (Cookie c)
+        → distinct_count (◌==◌) (awaited_at e w.places) < 64
     before b l true op t k = by_submission b l (t op) op
     before b l false op t k = absurd (cc (k))
 
-    invalidating : (b : BindingWire) (own : ℕ) → e < length w.parts → bound_at w e n ≡ Some b → b.stage ≡ InvalidatingWire own → (d z : Bool) → is_wait_done (unit_of w e) own ≡ d → (unit_of w e).is_open ≡ z → (if d then None else Some (if z then Cookie own else ResetEnd)) ≡ Some (Cookie c) → distinct_count (◌==◌) (awaited_at e w.places) < 64
+    invalidating :
+        (b : BindingWire) (own : ℕ) → e < length w.parts → bound_at w e n ≡ Some b → b.stage ≡ InvalidatingWire own → (d z : Bool)
+        → is_wait_done (unit_of w e) own ≡ d → (unit_of w e).is_open ≡ z
+        → (if d then None else Some (if z then Cookie own else ResetEnd)) ≡ Some (Cookie c)
+        → distinct_count (◌==◌) (awaited_at e w.places) < 64
     invalidating b own l f st true z nd op k = absurd (cc (k))
     invalidating b own l f st false false nd op k = absurd (cc (k))
     invalidating b own l f st false true nd op k =
@@ -201,7 +239,10 @@ room_for_waits w s n room e c h new = by_table (low_or_not e)
           (ap (λ x. is_wait_done (unit_of w x) own) is.endpoint ∙ nd)) in
         few_by_wait w s e c l op (subst (λ x. HasWait (unit_of w e) x) (same_cookie own c k) wait) new
 
-    by_stage : (b : BindingWire) → e < length w.parts → bound_at w e n ≡ Some b → (st : StageWire) → b.stage ≡ st → target_by_stage (unit_of w e) (cookie_at w n e) st ≡ Some (Cookie c) → distinct_count (◌==◌) (awaited_at e w.places) < 64
+    by_stage :
+        (b : BindingWire) → e < length w.parts → bound_at w e n ≡ Some b → (st : StageWire) → b.stage ≡ st
+        → target_by_stage (unit_of w e) (cookie_at w n e) st ≡ Some (Cookie c)
+        → distinct_count (◌==◌) (awaited_at e w.places) < 64
     by_stage b l f LiveWire st k = before b l (unit_of w e).is_open refl (λ op. submits_so w e n b f (ap is_before_invalidating st) op) k
     by_stage b l f (StoppingWire m) st k = before b l (unit_of w e).is_open refl (λ op. submits_so w e n b f (ap is_before_invalidating st) op) k
     by_stage b l f (DrainingWire own) st k = before b l (unit_of w e).is_open refl (λ op. submits_so w e n b f (ap is_before_invalidating st) op) k
@@ -209,14 +250,30 @@ room_for_waits w s n room e c h new = by_table (low_or_not e)
     by_stage b l f QuietWire st k = absurd (cc (k))
     by_stage b l f LostWire st k = absurd (cc (k))
 
-    by_binding : e < length w.parts → (o : Option BindingWire) → bound_at w e n ≡ o → target_by (unit_of w e) (cookie_at w n e) o ≡ Some (Cookie c) → distinct_count (◌==◌) (awaited_at e w.places) < 64
+    by_binding :
+        e < length w.parts → (o : Option BindingWire) → bound_at w e n ≡ o → target_by (unit_of w e) (cookie_at w n e) o ≡ Some (Cookie c)
+        → distinct_count (◌==◌) (awaited_at e w.places) < 64
     by_binding l None f k = absurd (cc (k))
     by_binding l (Some b) f k = by_stage b l f b.stage refl k
 
-    by_part : (z : Bool) → nat_lt e (length w.parts) ≡ z → (if z then target_by (unit_of w e) (cookie_at w n e) (bound_at w e n) else None) ≡ Some (Cookie c) → distinct_count (◌==◌) (awaited_at e w.places) < 64
+    by_part :
+        (z : Bool) → nat_lt e (length w.parts) ≡ z
+        → (if z then target_by (unit_of w e) (cookie_at w n e) (bound_at w e n) else None) ≡ Some (Cookie c)
+        → distinct_count (◌==◌) (awaited_at e w.places) < 64
     by_part false t k = absurd (cc (k))
     by_part true t k = by_binding (less e (length w.parts) t) (bound_at w e n) refl k
 
     by_table : (e < 8) ⊎ (8 ≤ e) → distinct_count (◌==◌) (awaited_at e w.places) < 64
     by_table (inl l) = by_part (nat_lt e (length w.parts)) refl (sym (tabulate_at 8 target e None l) ∙ h)
     by_table (inr l) = absurd (cc (sym (tabulate_past 8 target e None l) ∙ h))
+
+-- the same, where the target is read from its place
+pub room_for_each :
+    (w : Wire) → IsSound w
+    → (n : ℕ)
+    → ((e : ℕ) → e < length w.parts → submits w n e ≡ true → has_room (unit_of w e) 2 ≡ true)
+    → (e c : ℕ)
+    → slice_get (targets_of w n) e ≡ Some (Some (Cookie c))
+    → is_member (◌==◌) (cookies_in (map (target_there e) w.places)) c ≡ false
+    → distinct_count (◌==◌) (cookies_in (map (target_there e) w.places)) < 64
+room_for_each w s n room e c h = room_for_waits w s n room e c (get_or_from_slice_get (targets_of w n) e (Some (Cookie c)) None h)

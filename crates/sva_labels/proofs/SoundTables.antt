@@ -70,7 +70,9 @@ unmade_none o h = ap is_some h
 not_full : (p : Part) (r : ℕ) → is_full p r ≡ false → count_below p.requests (λ x. is_some (p.held x) && not (is_replaced p r x)) < 64
 not_full p r h = grind (arith, nat_tests)
 
-kept_before : (p : Part) (r m x : ℕ) → x ≢ r → is_some (put (λ y. none_if (is_replaced p r y) (p.held y)) r (Some m) x) ≡ true → (is_some (p.held x) && not (is_replaced p r x)) ≡ true
+kept_before :
+    (p : Part) (r m x : ℕ) → x ≢ r → is_some (put (λ y. none_if (is_replaced p r y) (p.held y)) r (Some m) x) ≡ true
+    → (is_some (p.held x) && not (is_replaced p r x)) ≡ true
 kept_before p r m x ne h = go (is_replaced p r x) (p.held x) (sym (ap is_some (put-other (λ y. none_if (is_replaced p r y) (p.held y)) r (Some m) x ne)) ∙ h)
   where
     go : (b : Bool) (o : Option ℕ) → is_some (none_if b o) ≡ true → (is_some o && not b) ≡ true
@@ -90,7 +92,9 @@ own_cached g n p o false k room bo h =
     let same = count_more p.requests (asked o) (λ r. is_some (p.held r)) (λ r l m. unmade_none (p.held r) (bo.held r l)) in
     omega (arith, less, same, h))
 
-submitted_cached : (t : Bool) (p : Part) (o : Option ℕ) (q count order cookie : ℕ) → cached_count p ≤ 64 → cached_count (submitted_if t p o q count order cookie) ≤ 64
+submitted_cached :
+    (t : Bool) (p : Part) (o : Option ℕ) (q count order cookie : ℕ) → cached_count p ≤ 64
+    → cached_count (submitted_if t p o q count order cookie) ≤ 64
 submitted_cached true p (Some b) q count order cookie h = h
 submitted_cached true p None q count order cookie h = h
 submitted_cached false p o q count order cookie h = h

@@ -34,7 +34,9 @@ use Rattle.sva_labels.proofs.SoundPasids.{IsKeptAt}
 use Rattle.sva_labels.proofs.Withholding.{target_at}
 
 -- a wait that is queued stands in the queue
-wait_stands : (first : ℕ) (p : Part) (k c : ℕ) (x : Bool) → k < p.orders → p.order k ≡ Wait c x → p.order_state k ≡ Queued → HasWait (unit_wire first p) (number first c)
+wait_stands :
+    (first : ℕ) (p : Part) (k c : ℕ) (x : Bool) → k < p.orders → p.order k ≡ Wait c x → p.order_state k ≡ Queued
+    → HasWait (unit_wire first p) (number first c)
 wait_stands first p k c x l o q =
     let r = seen_there p.orders (λ j. is_queued (p.order_state j)) (λ j. descriptor first p (p.order j)) k l (ap is_queued q) in
     record { place = r.0; drain = x; stands = r.1 ∙ ap (λ z. Some (descriptor first p z)) o }
@@ -53,14 +55,18 @@ queued_there first p k c ph (l, d, x, o, f, s) e = go s
 same_cookie : (c d : ℕ) → Some (Cookie c) ≡ Some (Cookie d) → c ≡ d
 same_cookie c d h = cc
 
-owed_stands : (first : ℕ) (p : Part) (v : Owed) (c : ℕ) → p.phase ≡ Open → AwaitsTarget p v → Some (target_of first p v) ≡ Some (Cookie c) → HasWait (unit_wire first p) c
+owed_stands :
+    (first : ℕ) (p : Part) (v : Owed) (c : ℕ) → p.phase ≡ Open → AwaitsTarget p v → Some (target_of first p v) ≡ Some (Cookie c)
+    → HasWait (unit_wire first p) c
 owed_stands first p Nothing c ph a h = absurd a
 owed_stands first p (Ranges k count resets) c ph a h = queued_there first p (k + count) c ph a (sym (same_cookie (cookie_number first (p.order (k + count))) c h))
 owed_stands first p (Pasid k x resets false) c ph a h = queued_there first p x c ph a (sym (same_cookie (cookie_number first (p.order x)) c h))
 owed_stands first p (Pasid k x resets true) c ph a h = absurd (a ph)
 owed_stands first p (AReset resets) c ph a h = absurd (a ph)
 
-target_stands : (first n : ℕ) (p : Part) (v : Owed) (c : ℕ) → p.phase ≡ Open → (answered p v ≡ false → AwaitsTarget p v) → target_wire first p v ≡ Some (Cookie c) → HasWait (unit_wire first p) c
+target_stands :
+    (first n : ℕ) (p : Part) (v : Owed) (c : ℕ) → p.phase ≡ Open → (answered p v ≡ false → AwaitsTarget p v) → target_wire first p v ≡ Some (Cookie c)
+    → HasWait (unit_wire first p) c
 target_stands first n p v c ph a h = go (answered p v) refl h
   where
     go : (b : Bool) → answered p v ≡ b → (if b then None else Some (target_of first p v)) ≡ Some (Cookie c) → HasWait (unit_wire first p) c
@@ -71,18 +77,27 @@ less_of : (a b : ℕ) → a < b → nat_lt a b ≡ true
 less_of a b l = grind (arith, nat_tests)
 
 -- by the latest mapping of a frame
-awaited_of : (w : World) → AllFronts w → AllDebts w → w.config.endpoints ≤ 8 → (e c : ℕ) → e < w.config.endpoints → (w.part e).phase ≡ Open → (o : Option ℕ) → target_there e (seen_at w w.mappings.state o) ≡ Some (Cookie c) → HasWait (unit_wire w.config.first (w.part e)) c
+awaited_of :
+    (w : World) → AllFronts w → AllDebts w → w.config.endpoints ≤ 8 → (e c : ℕ) → e < w.config.endpoints → (w.part e).phase ≡ Open → (o : Option ℕ)
+    → target_there e (seen_at w w.mappings.state o) ≡ Some (Cookie c)
+    → HasWait (unit_wire w.config.first (w.part e)) c
 awaited_of w fs ds most e c l ph None h = absurd (cc (h))
 awaited_of w fs ds most e c l ph (Some m) h = by_state (w.mappings.state m) refl h
   where
-    at_unit : (owed : ℕ → Owed) → w.mappings.state m ≡ Gone owed → slice_index_or (tabulate 8 (target_at w.config.first w.config.endpoints w.part owed)) e None ≡ Some (Cookie c) → HasWait (unit_wire w.config.first (w.part e)) c
+    at_unit :
+        (owed : ℕ → Owed) → w.mappings.state m ≡ Gone owed
+        → slice_index_or (tabulate 8 (target_at w.config.first w.config.endpoints w.part owed)) e None ≡ Some (Cookie c)
+        → HasWait (unit_wire w.config.first (w.part e)) c
     at_unit owed g k =
         target_stands w.config.first w.cookies (w.part e) (owed e) c ph (λ a. awaits w.cookies (w.part e) (owed e) (fs e) (ds m e owed g) a)
         (ap (λ b. if b then target_wire w.config.first (w.part e) (owed e) else None) (sym (less_of e w.config.endpoints l))
         ∙ sym (tabulate_at 8 (target_at w.config.first w.config.endpoints w.part owed) e None (omega (arith, l, most)))
         ∙ k)
 
-    by_answers : (owed : ℕ → Owed) → w.mappings.state m ≡ Gone owed → (b : Bool) → target_there e (gone_seen b (WithheldWire (tabulate 8 (target_at w.config.first w.config.endpoints w.part owed)))) ≡ Some (Cookie c) → HasWait (unit_wire w.config.first (w.part e)) c
+    by_answers :
+        (owed : ℕ → Owed) → w.mappings.state m ≡ Gone owed → (b : Bool)
+        → target_there e (gone_seen b (WithheldWire (tabulate 8 (target_at w.config.first w.config.endpoints w.part owed)))) ≡ Some (Cookie c)
+        → HasWait (unit_wire w.config.first (w.part e)) c
     by_answers owed g true k = absurd (cc (k))
     by_answers owed g false k = at_unit owed g k
 
@@ -112,7 +127,10 @@ awaited_stands w fs ds most e f c x l op h t =
 queued_or_done : (z : OrderState) → is_queued_or_done z ≡ true → is_done z ≡ false → z ≡ Queued
 queued_or_done z h i = grind arith
 
-invalidating_waits : (first n : ℕ) (p : Part) (b j k c : ℕ) → Orders p → Fronts n p → p.phase ≡ Open → p.stage b ≡ Invalidating j k → c ≡ cookie_number first (p.order k) → is_wait_done (unit_wire first p) c ≡ false → HasWait (unit_wire first p) c
+invalidating_waits :
+    (first n : ℕ) (p : Part) (b j k c : ℕ) → Orders p → Fronts n p → p.phase ≡ Open → p.stage b ≡ Invalidating j k
+    → c ≡ cookie_number first (p.order k) → is_wait_done (unit_wire first p) c ≡ false
+    → HasWait (unit_wire first p) c
 invalidating_waits first n p b j k c or f ph st e h = go (p.order k) refl (or.invalidating b j k st).2
   where
     isnt_done : is_done (p.order_state k) ≡ false
@@ -128,7 +146,10 @@ invalidating_waits first n p b j k c or f ph st e h = go (p.order k) refl (or.in
         subst (λ z. HasWait (unit_wire first p) z) (sym (e ∙ ap (cookie_number first) o)) (wait_stands first p k d x (or.invalidating b j k st).3 o queued)
 
 -- by its stage as a host keeps it
-stage_waits : (first n : ℕ) (p : Part) (b c : ℕ) → Orders p → Fronts n p → p.phase ≡ Open → (s : Stage) → p.stage b ≡ s → stage_wire first p s ≡ InvalidatingWire c → is_wait_done (unit_wire first p) c ≡ false → HasWait (unit_wire first p) c
+stage_waits :
+    (first n : ℕ) (p : Part) (b c : ℕ) → Orders p → Fronts n p → p.phase ≡ Open → (s : Stage) → p.stage b ≡ s
+    → stage_wire first p s ≡ InvalidatingWire c → is_wait_done (unit_wire first p) c ≡ false
+    → HasWait (unit_wire first p) c
 stage_waits first n p b c or f ph (Invalidating j k) st h d = invalidating_waits first n p b j k c or f ph st (same_wait (cookie_number first (p.order k)) c h) d
   where
     same_wait : (x y : ℕ) → InvalidatingWire x ≡ InvalidatingWire y → y ≡ x

@@ -87,7 +87,9 @@ seen_targets w owed low =
         ∙ sym (ap (λ b. is_none (if b then target_wire w.config.first (w.part e) (owed e) else None)) (less e w.config.endpoints l))
         ∙ all_below-true 8 (λ e. is_none (at e)) h e (omega (arith, l, low))
 
-    none_left : all_below w.config.endpoints (λ e. answered (w.part e) (owed e)) ≡ list_all is_none (tabulate 8 (target_at w.config.first w.config.endpoints w.part owed))
+    none_left :
+        all_below w.config.endpoints (λ e. answered (w.part e) (owed e))
+        ≡ list_all is_none (tabulate 8 (target_at w.config.first w.config.endpoints w.part owed))
     none_left =
         same_both (all_below w.config.endpoints (λ e. answered (w.part e) (owed e))) (all_below 8 (λ e. is_none (at e)))
         (λ h. all_below-intro 8 (λ e. is_none (at e)) (λ e l. forth h e (nat_lt e w.config.endpoints) refl))
@@ -181,7 +183,9 @@ stage_target cookies first p b q count order cookie or f (Invalidating k w) st =
     none_submitted true = refl
     none_submitted false = refl
 
-    answers : ((is_done (p.order_state k) && is_done (p.order_state w)) || nat_lt p.resets p.resets) ≡ nat_lt (cookie_number first (p.order w)) (end_number first p.front)
+    answers :
+        ((is_done (p.order_state k) && is_done (p.order_state w)) || nat_lt p.resets p.resets)
+        ≡ nat_lt (cookie_number first (p.order w)) (end_number first p.front)
     answers =
         ap (λ z. (is_done (p.order_state k) && is_done (p.order_state w)) || z) (not_itself p.resets)
         ∙ both_or (is_done (p.order_state k)) (is_done (p.order_state w)) (λ h. ap is_done (or.invalidation_done b k w st (done_is (p.order_state w) h)))

@@ -6,3 +6,4 @@ pub mod Outcomes
 pub mod Host
 pub mod Sound
 pub mod RowsByLabels
+pub mod Tallies

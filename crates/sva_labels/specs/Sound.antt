@@ -98,9 +98,13 @@ pub record IsSound (w : Wire) : Type 0 where
   pub queue_fits : (e : ℕ) → e < length w.parts → length (unit_of w e).queue ≤ 64
   -- PASIDs (`begin`, `lowest`, the bearers): 1 to 32, one for each space; a space has one binding at an endpoint
   pub pasid_low : (k : ℕ) (b : BindingWire) → slice_get w.bindings k ≡ Some b → (0 < b.pasid) × (b.pasid ≤ 32)
-  pub pasids_shared : (j k : ℕ) (b d : BindingWire) → slice_get w.bindings j ≡ Some b → slice_get w.bindings k ≡ Some d → (b.pasid ≡ d.pasid) ↔ (b.space ≡ d.space)
+  pub pasids_shared :
+      (j k : ℕ) (b d : BindingWire) → slice_get w.bindings j ≡ Some b → slice_get w.bindings k ≡ Some d
+      → (b.pasid ≡ d.pasid) ↔ (b.space ≡ d.space)
   pub endpoint_low : (k : ℕ) (b : BindingWire) → slice_get w.bindings k ≡ Some b → b.endpoint < length w.parts
-  pub one_each : (j k : ℕ) (b d : BindingWire) → slice_get w.bindings j ≡ Some b → slice_get w.bindings k ≡ Some d → b.endpoint ≡ d.endpoint → b.space ≡ d.space → j ≡ k
+  pub one_each :
+      (j k : ℕ) (b d : BindingWire) → slice_get w.bindings j ≡ Some b → slice_get w.bindings k ≡ Some d → b.endpoint ≡ d.endpoint → b.space ≡ d.space
+      → j ≡ k
   -- room for waits (`withhold` of the frames): at an open unit what a frame awaits is a wait in the queue; so is what a binding
   -- awaits whose PASID is invalidated, unless it is done
   pub awaited_queued :

@@ -2,8 +2,9 @@
 #![tactic(auto)]
 
 ghost use Rattle.sva_labels.specs.Host.{LabelsAreNames, RunsByLabels};
-ghost use Rattle.sva_labels.specs.RowsByLabels.{TwoBindings, Translations, HeldBackByAUse, CountOfEight, UnbindStageByStage, RangeOfEight, TwoEndpointsOneSilent, PageRequestGroup, StaleGroup, OnePasidForEachSpace};
+ghost use Rattle.sva_labels.specs.RowsByLabels.{TranslationsByLabels, InvalidationsByLabels, ResetsByLabels, PageRequestsByLabels, FinalRulesByLabels, DeliveriesByLabels, RefusalsByLabels, ReadingsByLabels, LimitsByLabels, BoundariesByLabels, NamesByLabels, WrongRulesByLabels};
 ghost use Rattle.sva_labels.specs.Sound.{AlwaysSound};
+ghost use Rattle.sva_labels.specs.Tallies.{AlwaysTallied};
 
 /// By the rule of one PASID for each space: at each world that a list of steps leads to, each step by labels answers what the
 /// step by names answers, and leaves what the next world is seen as. So a list of steps by labels, from what a host keeps
@@ -18,17 +19,25 @@ pub fn always_sound()
     ensures { AlwaysSound }
 {}
 
+/// How many bindings are unreleased, and how many use slots are taken: a step changes these by what its answer says, and by
+/// no more.
+pub fn always_tallied()
+    ensures { AlwaysTallied }
+{}
+
 /// Runs that are worked out: the steps by labels, one after another from what a host keeps before the first step, give the
 /// answers that stand in the rows.
 pub fn rows_by_labels()
-    ensures two_bindings { TwoBindings }
-    ensures translations { Translations }
-    ensures held_back_by_a_use { HeldBackByAUse }
-    ensures count_of_eight { CountOfEight }
-    ensures unbind_stage_by_stage { UnbindStageByStage }
-    ensures range_of_eight { RangeOfEight }
-    ensures two_endpoints_one_silent { TwoEndpointsOneSilent }
-    ensures page_request_group { PageRequestGroup }
-    ensures stale_group { StaleGroup }
-    ensures one_pasid_for_each_space { OnePasidForEachSpace }
+    ensures translations { TranslationsByLabels }
+    ensures invalidations { InvalidationsByLabels }
+    ensures resets { ResetsByLabels }
+    ensures page_requests { PageRequestsByLabels }
+    ensures final_rules { FinalRulesByLabels }
+    ensures deliveries { DeliveriesByLabels }
+    ensures refusals { RefusalsByLabels }
+    ensures readings { ReadingsByLabels }
+    ensures limits { LimitsByLabels }
+    ensures boundaries { BoundariesByLabels }
+    ensures names { NamesByLabels }
+    ensures wrong_rules { WrongRulesByLabels }
 {}

@@ -276,7 +276,7 @@ withheld_gone w f h = go (w.mappings.latest f) refl h
         by Present g h = absurd (cc)
         by (Gone owed) g h = (m, owed, e, g)
 
-next_place : (w : World) (s : Step) (f : ℕ) → Invariant w → place w f ≡ Withheld → (place (next w s) f ≡ Free) ⊎ (place (next w s) f ≡ Withheld)
+pub next_place : (w : World) (s : Step) (f : ℕ) → Invariant w → place w f ≡ Withheld → (place (next w s) f ≡ Free) ⊎ (place (next w s) f ≡ Withheld)
 next_place w s f i h = go (step_free w s f i) (withheld_gone w f h)
   where
     go : ((next w s).mappings.latest f ≡ w.mappings.latest f) ⊎ (place w f ≡ Free) → (m : ℕ) × (owed : ℕ → Owed) × (w.mappings.latest f ≡ Some m) × (w.mappings.state m ≡ Gone owed) → (place (next w s) f ≡ Free) ⊎ (place (next w s) f ≡ Withheld)

@@ -54,3 +54,10 @@ pub mod Journals
 pub mod Said
 pub mod Successes
 pub mod OnePart
+pub mod Latest
+pub mod Turns
+pub mod ByUnit
+pub mod StepActs
+pub mod Books
+pub mod Filed
+pub mod Rooms

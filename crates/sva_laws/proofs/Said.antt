@@ -7,7 +7,7 @@ use Rattle.sva_step.specs.declared.answers.Answer.TheVariants as answer
 use Rattle.sva_step.specs.declared.limits.Config.{Config}
 use Rattle.sva_step.specs.declared.steps.Step.{Step}
 use Rattle.sva_step.specs.declared.steps.Step.TheVariants as step
-use Rattle.sva_model.specs.Words.{put, put_range, count_below, the}
+use Rattle.sva_model.specs.Words.{put_range, count_below, the}
 use Rattle.sva_model.specs.State.{PasidRule, OrderState, World}
 use Rattle.sva_model.specs.State.About.{InvalidatedOf}
 use Rattle.sva_model.specs.State.OrderState.{Queued, Sent, Taken, Lapsed, Owing, Done, Void}

@@ -1,8 +1,7 @@
 -- A success of a worker's reply answers how many pages it maps: by so many the space of the job's binding has more.
-use Rattle.std.proofs.Common.{◌≡◌, ◌≢◌, ◌⊎◌, inl, inr, refl, ap, sym, subst, ◌∙◌, ℕ, zero, suc, ◌+◌, ◌<◌, ◌≤◌, Bool, true, false, arith}
+use Rattle.std.proofs.Common.{◌≡◌, ◌≢◌, ◌⊎◌, inl, inr, refl, ap, sym, subst, ◌∙◌, ℕ, suc, ◌+◌, ◌<◌, ◌≤◌, Bool, true, false, arith}
 use Rattle.std.specs.Prelude.{Option, Some, None, ◌&&◌, ◌==◌, List, [], ◌∷◌, ◌++◌, length, if◌then◌else◌, Ok}
 use Rattle.std.proofs.lemmas.Bool.Decides.{nat_tests}
-use Rattle.sva_step.specs.declared.answers.Answer.{Answer}
 use Rattle.sva_step.specs.declared.answers.Answer.TheVariants as answer
 use Rattle.sva_step.specs.declared.limits.Config.{Config}
 use Rattle.sva_step.specs.declared.steps.Step.{Step}
@@ -19,7 +18,7 @@ use Rattle.sva_model.specs.Acts.Act.{Map, LetGo, At}
 use Rattle.sva_model.specs.Labels.{pages_of}
 use Rattle.sva_model.specs.Refusals.{refusals}
 use Rattle.sva_model.specs.Replies.{maps_to, reply_maps, replies_success, newly_mapped, free_list, is_write_asked, job_space, response_to}
-use Rattle.sva_model.specs.Outcomes.{outcome, reply_outcome, code_answer}
+use Rattle.sva_model.specs.Outcomes.{outcome, reply_outcome}
 use Rattle.sva_model.specs.Steps.{reply, after_acts, world_after}
 use Rattle.sva_laws.specs.Answers.{MapsPages, Succeeds}
 use Rattle.sva_laws.proofs.Words.{put-same, put-other, ℕ_cases, some_the, not_true}
@@ -46,7 +45,7 @@ page_counted w s q f x =
     same : (m : ℕ) → m ≢ w.mappings.made → (is_present (put w.mappings.state w.mappings.made Present m) && put w.mappings.space w.mappings.made s m == s) ≡ (is_present (w.mappings.state m) && w.mappings.space m == s)
     same m ne = grind (arith, nat_tests)
 
-one_page : (w : World) (s q f : ℕ) (x : Bool) → w.mappings.at s q ≡ None → MapsPages w (act w (Map s q f x)) s 1
+pub one_page : (w : World) (s q f : ℕ) (x : Bool) → w.mappings.at s q ≡ None → MapsPages w (act w (Map s q f x)) s 1
 one_page w s q f x un =
     record {
       pages = page_counted w s q f x;
@@ -100,7 +99,7 @@ more_pages u v w s n a b =
 
 -- The pages of a reply, and then the response.
 
-all_pages : (s : ℕ) (write : ℕ → Bool) (qs fs : List ℕ) (x e : ℕ) (o : Own) (w : World) → LegalAll w (maps_to s write qs fs ++ LetGo x ∷ At e o ∷ []) → MapsPages w (after_acts w (maps_to s write qs fs ++ LetGo x ∷ At e o ∷ [])) s (length (maps_to s write qs fs))
+pub all_pages : (s : ℕ) (write : ℕ → Bool) (qs fs : List ℕ) (x e : ℕ) (o : Own) (w : World) → LegalAll w (maps_to s write qs fs ++ LetGo x ∷ At e o ∷ []) → MapsPages w (after_acts w (maps_to s write qs fs ++ LetGo x ∷ At e o ∷ [])) s (length (maps_to s write qs fs))
 all_pages s write [] fs x e o w l = no_page w x e o s
 all_pages s write (q ∷ qs) [] x e o w l = no_page w x e o s
 all_pages s write (q ∷ qs) (f ∷ fs) x e o w l =

@@ -81,7 +81,7 @@ same_act w (Hold x j) h e = same_part (w.part e)
 same_act w (LetGo x) h e = same_part (w.part e)
 same_act w (At d o) h e = put_keeps (λ x q. Same (w.part x) q) w.part d (own (w.part d) w.messages o) (same_own (w.part d) w.messages o h) (λ x. same_part (w.part x)) e
 
-same_acts : (acts : List Act) (w : World) → are_calm acts ≡ true → (e : ℕ) → Same (w.part e) ((after_acts w acts).part e)
+pub same_acts : (acts : List Act) (w : World) → are_calm acts ≡ true → (e : ℕ) → Same (w.part e) ((after_acts w acts).part e)
 same_acts [] w h e = same_part (w.part e)
 same_acts (a ∷ acts) w h e = go (is_calm a) refl h (λ k. same_acts acts (act w a) k e)
   where
@@ -134,7 +134,7 @@ submitted_changes w s e g false p o q count order cookie bo = changes_nothing w 
 -- One act of an endpoint.
 
 -- what the step delivers, by the message that the act takes
-delivers : (w : World) (s : Step) (e c : ℕ) (a : Answer) (about : About) → reply w s ≡ Ok a → IsDelivery w s e c → (w.part e).message c ≡ Some about → Delivers w s e about
+pub delivers : (w : World) (s : Step) (e c : ℕ) (a : Answer) (about : About) → reply w s ≡ Ok a → IsDelivery w s e c → (w.part e).message c ≡ Some about → Delivers w s e about
 delivers w s e c a about h d m =
     record { number = d.number; step_is = d.step_is; answer = a; accepted = h; way_is = ap w.way d.name_is ∙ d.way_is; speaks = ap (w.part e).message d.name_is ∙ m }
 

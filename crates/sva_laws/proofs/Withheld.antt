@@ -248,7 +248,7 @@ not_between w u v f m owed i a b la g lv is =
     apart : Present ≡ Gone owed → ⊥
     apart h = absurd (cc)
 
-then_part : (rule : PasidRule) (c : Config) (before : List Step) (step : Step) (e s q count order b : ℕ) → next (world_after rule c before) step ≡ act (world_after rule c before) (Unmap s q count order) → bound (world_after rule c before) e s ≡ Some b → ((world_after rule c (before ++ step ∷ [])).part e) ≡ submitted_if (submits_at ((world_after rule c before).part e) (Some b)) ((world_after rule c before).part e) (Some b) q count order (cookie_of (world_after rule c before) s e)
+pub then_part : (rule : PasidRule) (c : Config) (before : List Step) (step : Step) (e s q count order b : ℕ) → next (world_after rule c before) step ≡ act (world_after rule c before) (Unmap s q count order) → bound (world_after rule c before) e s ≡ Some b → ((world_after rule c (before ++ step ∷ [])).part e) ≡ submitted_if (submits_at ((world_after rule c before).part e) (Some b)) ((world_after rule c before).part e) (Some b) q count order (cookie_of (world_after rule c before) s e)
 then_part rule c before step e s q count order b nx bo =
     ap (λ w. w.part e) (after_one rule c before step ∙ nx) ∙ ap (λ o. submitted_if (submits_at ((world_after rule c before).part e) o) ((world_after rule c before).part e) o q count order (cookie_of (world_after rule c before) s e)) bo
 

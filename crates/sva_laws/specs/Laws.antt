@@ -11,6 +11,7 @@ use Rattle.sva_model.specs.Message.{Code}
 use Rattle.sva_model.specs.Message.Message.{StartMessage, StopMessage, ResetMessage, CompletionMessage, InvalidateMessage, ResponseMessage, RequestMessage, InvalidatedMessage, PageRequestMessage, MarkerMessage, ResetDoneMessage}
 use Rattle.sva_model.specs.State.{About, GroupState, Mappings, OrderState, Part, World}
 use Rattle.sva_model.specs.State.About.{StartOf, StopOf, ResetOrder, CompletionOf, InvalidateOf, ResponseOf, RequestOf, InvalidatedOf, PageRequestOf, MarkerOf, ResetDone}
+use Rattle.sva_model.specs.State.MappingState.{Present}
 use Rattle.sva_model.specs.State.Phase.{Open, Cleared}
 use Rattle.sva_model.specs.State.Stage.{Stopping, Invalidating}
 use Rattle.sva_model.specs.State.OrderState.{Sent, Lapsed, Owing, Done, Void}
@@ -22,7 +23,7 @@ use Rattle.sva_model.specs.State.PageRequestState.{InFlight, Arrived}
 use Rattle.sva_model.specs.States.{is_unreleased, is_out, is_busy, is_outstanding, is_open_group, is_arrived, is_before_invalidating, is_wait, place}
 use Rattle.sva_model.specs.States.Place.{Free, Withheld}
 use Rattle.sva_model.specs.Acts.{binding_of, extent_of, scope_of}
-use Rattle.sva_model.specs.Labels.{number, is_mapped, outstanding, is_waiting, is_set}
+use Rattle.sva_model.specs.Labels.{number, is_mapped, outstanding, is_waiting, is_set, live_spaces, pages_of, asks}
 use Rattle.sva_model.specs.Steps.{reply, counts, world_after}
 use Rattle.sva_model.specs.Claims.{Fits, Usable, IsPresent, IsAt, IsWithheld, IsDivided, IsMatched, IsBearer}
 
@@ -363,3 +364,22 @@ pub record HoldsJobs (w : World) : Type 0 where
 
 abbrev pub AlwaysHoldsJobs : Type 0
 AlwaysHoldsJobs = (rule : PasidRule) (config : Config) (steps : List Step) → Fits config → HoldsJobs (world_after rule config steps)
+
+-- The look-up columns of the mappings: at a space and a page is found exactly the mapping that is present there; and of a frame
+-- exactly the last mapping that led to it.
+pub record FindsMappings (ms : Mappings) : Type 0 where
+  pub at : (space page m : ℕ) → (ms.at space page ≡ Some m) ↔ ((ms.state m ≡ Present) × (ms.space m ≡ space) × (ms.page m ≡ page))
+  pub latest : (frame m : ℕ) → (ms.latest frame ≡ Some m) ↔ ((m < ms.made) × (ms.frame m ≡ frame) × ((k : ℕ) → k < ms.made → ms.frame k ≡ frame → k ≤ m))
+
+abbrev pub AlwaysFindsMappings : Type 0
+AlwaysFindsMappings = (rule : PasidRule) (config : Config) (steps : List Step) → Fits config → FindsMappings (world_after rule config steps).mappings
+
+-- Limits of the host: live spaces, pages of a space, and page requests that are filed of a group which is open. (Those of a
+-- unit's queue and of an endpoint's cache are claimed in `sva_labels`.)
+pub record KeepsLimits (w : World) : Type 0 where
+  pub spaces : live_spaces w ≤ 64
+  pub pages : (space : ℕ) → pages_of w space ≤ 1024
+  pub requests : (e group : ℕ) → is_open_group ((w.part e).host_group group) ≡ true → length (asks (w.part e) group) ≤ 32
+
+abbrev pub AlwaysKeepsLimits : Type 0
+AlwaysKeepsLimits = (rule : PasidRule) (config : Config) (steps : List Step) → Fits config → KeepsLimits (world_after rule config steps)

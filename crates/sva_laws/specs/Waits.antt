@@ -1,18 +1,18 @@
 -- The waits of a unit, the front of its invalidation queue, and what an endpoint owes for a mapping that was taken out. (This
 -- project's own.)
-use Rattle.std.specs.Prelude.{◌≡◌, ◌≢◌, ◌⊎◌, ◌↔◌, ℕ, suc, ◌+◌, ◌<◌, ◌≤◌, Bool, true, false, List}
+use Rattle.std.specs.Prelude.{◌≡◌, ◌≢◌, ◌⊎◌, ◌↔◌, ℕ, suc, ◌+◌, ◌<◌, ◌≤◌, Bool, true, false, List, [], ◌∷◌, ◌++◌}
 use Rattle.sva_step.specs.declared.limits.Config.{Config}
 use Rattle.sva_step.specs.declared.steps.Step.{Step}
 use Rattle.sva_model.specs.State.{PasidRule, Owed, Part}
 use Rattle.sva_model.specs.State.Owed.{Nothing, Ranges, Pasid, AReset}
-use Rattle.sva_model.specs.State.MappingState.{Gone}
+use Rattle.sva_model.specs.State.MappingState.{Present, Gone}
 use Rattle.sva_model.specs.State.Order.{Wait}
 use Rattle.sva_model.specs.State.OrderState.{Queued, Done, Void}
 use Rattle.sva_model.specs.State.Stage.{Draining, Invalidating}
 use Rattle.sva_model.specs.State.Phase.{Open}
-use Rattle.sva_model.specs.States.{is_wait, answered}
+use Rattle.sva_model.specs.States.{is_unreleased, is_wait, answered}
 use Rattle.sva_model.specs.Steps.{world_after}
-use Rattle.sva_model.specs.Claims.{Fits}
+use Rattle.sva_model.specs.Claims.{Fits, HasAnswered}
 
 -- The waits of a unit by their cookies.
 pub record HasFront (cookies : ℕ) (p : Part) : Type 0 where
@@ -86,3 +86,32 @@ AlwaysAwaitsTargets =
     → (world_after rule config steps).mappings.state m ≡ Gone owed
     → answered ((world_after rule config steps).part e) (owed e) ≡ false
     → AwaitsTarget ((world_after rule config steps).part e) (owed e)
+
+-- Unit by unit, by looking back over the list: what was taken out at one step of it is answered for by now at an endpoint
+-- exactly where each unreleased binding of the space that it had just before that step has answered; so where it had none.
+pub record AnswersByUnit (rule : PasidRule) (config : Config) (steps : List Step) (m : ℕ) (owed : ℕ → Owed) : Type 0 where
+  pub before : List Step
+  pub step : Step
+  pub since : List Step
+  pub steps_are : steps ≡ before ++ step ∷ since
+  pub present : (world_after rule config before).mappings.state m ≡ Present
+  pub gone : (world_after rule config (before ++ step ∷ [])).mappings.state m ≡ Gone owed
+  pub answers :
+      (e : ℕ)
+      → (answered ((world_after rule config steps).part e) (owed e) ≡ true)
+      ↔ ((b : ℕ)
+      → is_unreleased (((world_after rule config before).part e).stage b) ≡ true
+      → ((world_after rule config before).part e).space b ≡ (world_after rule config before).mappings.space m
+      → HasAnswered
+      ((world_after rule config before).part e)
+      ((world_after rule config (before ++ step ∷ [])).part e)
+      ((world_after rule config steps).part e)
+      b
+      ((world_after rule config before).mappings.page m))
+
+abbrev pub AlwaysAnswersByUnit : Type 0
+AlwaysAnswersByUnit =
+    (rule : PasidRule) (config : Config) (steps : List Step) (m : ℕ) (owed : ℕ → Owed)
+    → Fits config
+    → (world_after rule config steps).mappings.state m ≡ Gone owed
+    → AnswersByUnit rule config steps m owed

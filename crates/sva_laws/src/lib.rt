@@ -2,11 +2,11 @@
 #![tactic(auto)]
 
 ghost use Rattle.sva_model.specs.Claims.{AlwaysAgrees};
-ghost use Rattle.sva_laws.specs.Laws.{AlwaysOwned, AlwaysPresentOrWithheld, AlwaysMatched, AlwaysHoldsJobs, AlwaysDivided, AlwaysAddsUp, AlwaysWithheldExactly, FreeByTheLastAnswer, AlwaysTold, AlwaysToldOfRange, AlwaysGiven, AlwaysLabelled, AlwaysFound, AlwaysCarried, AlwaysUnderWay, NeverOccurring, AlwaysLimited};
+ghost use Rattle.sva_laws.specs.Laws.{AlwaysOwned, AlwaysPresentOrWithheld, AlwaysMatched, AlwaysHoldsJobs, AlwaysDivided, AlwaysAddsUp, AlwaysWithheldExactly, FreeByTheLastAnswer, AlwaysTold, AlwaysToldOfRange, AlwaysGiven, AlwaysLabelled, AlwaysFound, AlwaysCarried, AlwaysUnderWay, NeverOccurring, AlwaysLimited, AlwaysKeepsLimits, AlwaysFindsMappings};
 ghost use Rattle.sva_laws.specs.Answers.{AlwaysFinishes, AlwaysUses, AlwaysLooks, AlwaysFrees, AlwaysSucceeds};
-ghost use Rattle.sva_laws.specs.Steps.{AlwaysChangesOnePart, AlwaysDropsApart};
+ghost use Rattle.sva_laws.specs.Steps.{AlwaysChangesOnePart, AlwaysDropsApart, AlwaysAnswersBy, AlwaysKeepsLatest, AlwaysKeepsBooks};
 ghost use Rattle.sva_laws.specs.Runs.{AlwaysLegalInFront, AlwaysLegalByAnswer, SameForOneEndpoint};
-ghost use Rattle.sva_laws.specs.Waits.{AlwaysHasFront, AlwaysFitsDebts, AlwaysAwaitsTargets};
+ghost use Rattle.sva_laws.specs.Waits.{AlwaysHasFront, AlwaysFitsDebts, AlwaysAwaitsTargets, AlwaysAnswersByUnit};
 ghost use Rattle.sva_laws.specs.UnitSteps.{AlwaysCountsResetDones, AlwaysChangesOrders, AlwaysVoidByReset, AlwaysNotesMarkers, AlwaysGivesCookies};
 
 /// The headline. After every list of steps, however late messages come in a permitted order: each translation that an
@@ -25,11 +25,12 @@ pub fn translations()
 {}
 
 /// Page requests, groups, jobs, markers and responses stand under the binding that asked; hands, groups and the job table
-/// agree.
+/// agree; and what a host keeps stays within its limits.
 pub fn page_requests()
     ensures matched { AlwaysMatched }
     ensures hands { AlwaysHoldsJobs }
     ensures limited { AlwaysLimited }
+    ensures limits { AlwaysKeepsLimits }
 {}
 
 /// Frames: in exactly one place; withheld exactly as long as an endpoint owes an answer, and free after the very step that
@@ -47,13 +48,15 @@ pub fn frames()
 
 /// Labels: each is borne by at most one record, and finds the record that a step or a message speaks of; a message in
 /// flight carries the labels of the records that it was sent for; what is awaited
-/// at an open unit is on its way, once; and what can't occur at a delivery doesn't.
+/// at an open unit is on its way, once; and what can't occur at a delivery doesn't. A space and a page find the mapping that is
+/// present there, and a frame the last mapping that led to it.
 pub fn labels_and_deliveries()
     ensures labelled { AlwaysLabelled }
     ensures found { AlwaysFound }
     ensures carried { AlwaysCarried }
     ensures under_way { AlwaysUnderWay }
     ensures never { NeverOccurring }
+    ensures mappings { AlwaysFindsMappings }
 {}
 
 /// One step at an endpoint with its unit: the counter of reset-dones rises by one exactly where it delivers one; an order
@@ -69,11 +72,13 @@ pub fn orders_and_resets()
 
 /// Waits and the front of a unit: cookies rise in order of submission; a wait is done, unless a reset made it void, exactly
 /// where its cookie is below the front; what an endpoint owes for a mapping that was taken out fits the orders of its unit;
-/// and what it still waits for is a wait that is queued, or void by a reset that hasn't ended, or the end of that reset.
+/// what it still waits for is a wait that is queued, or void by a reset that hasn't ended, or the end of that reset; and it has
+/// answered exactly where the look back over the list says so.
 pub fn waits_and_fronts()
     ensures fronts { AlwaysHasFront }
     ensures debts { AlwaysFitsDebts }
     ensures targets { AlwaysAwaitsTargets }
+    ensures by_unit { AlwaysAnswersByUnit }
 {}
 
 /// Journals and rules: what a legal journal begins with is legal, and one entry more is legal exactly where it says what its
@@ -96,8 +101,12 @@ pub fn what_answers_tell()
 {}
 
 /// What one step changes: one endpoint with its unit at most, unless it takes pages out of a space; and the drop of a space
-/// changes none.
+/// changes none. What a frame waits for at an endpoint changes only at a pump that passes that wait, or at the delivery of the
+/// endpoint's reset-done. How many bindings are unreleased, and how many use slots are taken, is told by the steps and answers.
 pub fn what_steps_change()
     ensures one_part { AlwaysChangesOnePart }
     ensures apart { AlwaysDropsApart }
+    ensures answers { AlwaysAnswersBy }
+    ensures latest { AlwaysKeepsLatest }
+    ensures books { AlwaysKeepsBooks }
 {}

@@ -1,6 +1,5 @@
 -- A memory where one space and the frames changed.
-use Rattle.std.proofs.Common.{◌≡◌, ℕ, Bool, List, Some, None, true, false, cond, set, get_or, ap, sym, ◌∙◌}
-use Rattle.std.specs.Prelude.{is_some}
+use Rattle.std.proofs.Common.{◌≡◌, ℕ, Bool, List, Some, None, set, get_or, ap, ◌∙◌}
 use Rattle.std.specs.List.{position}
 use Rattle.std.specs.Vec.{with_item}
 use Rattle.sva_frames.specs.Frames.{Holding}

@@ -5,11 +5,8 @@ use Rattle.std.specs.List.{remove}
 use Rattle.std.proofs.lemmas.Bool.Decides.{nat_tests}
 use Rattle.sva_frames.specs.Frames.{Holding}
 use Rattle.sva_space.specs.Calls.{count_in}
-use Rattle.sva_model.specs.Wire.{PlaceWire}
-use Rattle.sva_model.specs.Wire.PlaceWire.{FreeWire}
 use Rattle.sva_labels.specs.Moves.{without_space}
 use Rattle.sva_memory.specs.declared.live.Live.{Live}
-use Rattle.sva_memory.specs.Seen.{pages_seen}
 use Rattle.sva_memory.specs.Lives.{space_seen, spaces_seen, count_of, count_all, AreNumbered}
 use Rattle.sva_memory.specs.Owned.{mapped_bit, Spent}
 use Rattle.sva_memory.proofs.LiveLists.{counted, same_live}

@@ -1,7 +1,6 @@
 -- From what a memory does to the steps by labels of each host that keeps it.
-use Rattle.std.proofs.Common.{◌≡◌, ◌≢◌, ℕ, ◌+◌, ◌<◌, ◌≤◌, ◌^◌, Bool, true, false, List, Option, Some, None, [], ◌∷◌, ◌++◌, length, refl, sym, ap, subst, ◌∙◌, arith, if◌then◌else◌}
-use Rattle.std.specs.Prelude.{Ok, Err, is_ok, is_some, not, nat_lt, nat_le, slice_set}
-use Rattle.std.proofs.lemmas.Bool.Decides.{nat_tests}
+use Rattle.std.proofs.Common.{◌≡◌, ◌≢◌, ℕ, Bool, true, false, List, Option, Some, None, [], ◌∷◌, refl, sym, ap, subst, ◌∙◌, if◌then◌else◌}
+use Rattle.std.specs.Prelude.{Ok, Err, is_ok, is_some, not}
 use Rattle.sva_step.specs.declared.answers.Answer.{Answer}
 use Rattle.sva_step.specs.declared.answers.Answer.TheVariants as answer
 use Rattle.sva_step.specs.declared.refusals.Refusal.{Refusal}
@@ -11,13 +10,13 @@ use Rattle.sva_step.specs.declared.steps.Step.TheVariants as step
 use Rattle.sva_model.specs.Refusals.{Cause}
 use Rattle.sva_model.specs.Steps.{Reply}
 use Rattle.sva_model.specs.Wire.{Wire, PageWire, SpaceWire, PlaceWire, insert_by, is_lower_page}
-use Rattle.sva_model.specs.Wire.PlaceWire.{FreeWire, MappedWire}
+use Rattle.sva_model.specs.Wire.PlaceWire.{FreeWire}
 use Rattle.sva_labels.specs.Finding.{pages_of, or_no_pages, lowest_free}
 use Rattle.sva_labels.specs.Causes.{causes_of}
 use Rattle.sva_labels.specs.Moves.{Move, moved, all_moved, with_pages, without_space, placed}
 use Rattle.sva_labels.specs.Outcomes.{result_of}
 use Rattle.sva_labels.specs.Outcomes as outcomes
-use Rattle.sva_labels.specs.Host.{Decision, checked, reply_of, next_of}
+use Rattle.sva_labels.specs.Host.{checked}
 use Rattle.sva_memory.specs.Seen.{MemorySeen, memory_of, with_memory}
 use Rattle.sva_memory.specs.Pieces.{unless_refused, map_reply, MapsPage}
 use Rattle.sva_memory.specs.Steps.{ByLabels, Steps, Moves}

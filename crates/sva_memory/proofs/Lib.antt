@@ -11,3 +11,5 @@ pub mod Rows
 pub mod Taking
 pub mod Permits
 pub mod Unmapped
+pub mod Deciding
+pub mod Pending

@@ -10,10 +10,10 @@ use Rattle.sva_frames.specs.Room.{HaveRoom}
 use Rattle.sva_model.specs.Wire.{PageWire, PlaceWire}
 use Rattle.sva_labels.specs.Finding.{is_mapped, page_at, frame_or_0, frames_of}
 use Rattle.sva_labels.specs.Moves.{is_between, placed, place_for, without_pages}
-use Rattle.sva_memory.specs.Seen.{page_seen, pages_seen, place_seen, places_seen, targets_seen}
+use Rattle.sva_memory.specs.Seen.{page_seen, pages_seen, places_seen, targets_seen}
 use Rattle.sva_memory.specs.Owned.{Owns, Balanced}
 use Rattle.sva_memory.specs.Pieces.{are_mapped, count_mapped}
-use Rattle.sva_memory.proofs.PageLists.{page_at-seen, is_mapped-seen, without-none, without-more, page_at-without, pages_seen-remove, frames_of-none, frames_of-more, are_mapped-at}
+use Rattle.sva_memory.proofs.PageLists.{page_at-seen, without-none, without-more, page_at-without, pages_seen-remove, frames_of-none, frames_of-more, are_mapped-at}
 use Rattle.sva_memory.proofs.FrameLists.{places_seen-set}
 use Rattle.sva_memory.proofs.Counting.{balanced-none, balanced-on, balanced-is, balanced-unmap, owns-on, owned-mapped}
 use Rattle.sva_memory.proofs.Rows.{listed, between-none, between-more, placed-more, without-missing, count_mapped-none, count_mapped-more}

@@ -1,19 +1,16 @@
 -- A memory where pages of one space were taken out.
-use Rattle.std.proofs.Common.{◌≡◌, ℕ, ◌*◌, ◌^◌, Bool, List, Option, Some, None, set, refl, sym, ap, subst, ◌∙◌}
-use Rattle.std.specs.Prelude.{filter, IsOk, Result, Err}
+use Rattle.std.proofs.Common.{◌≡◌, ℕ, List, Option, Some, None, sym, ap, subst, ◌∙◌}
+use Rattle.std.specs.Prelude.{filter, IsOk}
 use Rattle.std.specs.List.{position}
-use Rattle.sva_step.specs.declared.refusals.Refusal.{Refusal}
-use Rattle.sva_step.specs.declared.refusals.Refusal.TheVariants as refusal
-use Rattle.sva_frames.specs.Frames.{Holding}
 use Rattle.sva_model.specs.Refusals.{Cause}
-use Rattle.sva_model.specs.Wire.{Wire, PageWire, SpaceWire, PlaceWire, TargetWire}
+use Rattle.sva_model.specs.Wire.{PageWire, SpaceWire, PlaceWire, TargetWire}
 use Rattle.sva_labels.specs.Finding.{pages_of, or_no_pages}
-use Rattle.sva_labels.specs.Moves.{is_between, placed, place_for, without_pages, targets_of}
+use Rattle.sva_labels.specs.Moves.{is_between, placed, place_for, without_pages}
 use Rattle.sva_labels.specs.Moves as labels
 use Rattle.sva_memory.specs.declared.memory.Memory.TheInside.{Inside}
 use Rattle.sva_memory.specs.declared.live.Live.{Live}
-use Rattle.sva_memory.specs.Seen.{MemorySeen, memory_of, pages_seen, places_seen}
-use Rattle.sva_memory.specs.Lives.{is_of, spaces_seen}
+use Rattle.sva_memory.specs.Seen.{MemorySeen}
+use Rattle.sva_memory.specs.Lives.{is_of}
 use Rattle.sva_memory.specs.Inner.{memory_in}
 use Rattle.sva_memory.specs.Unmapping.{unmapped}
 use Rattle.sva_memory.proofs.Hosts.{OneChanged}
@@ -34,7 +31,3 @@ pub taken_out : (m : MemorySeen) (n q count : ℕ) (targets : List (Option Targe
 taken_out m n q count targets pages pages_after spaces_after places_after one gone placed_after =
     (λ i. record m { spaces = one.put (without_pages q count) gone i; places = placed_after i })
     ∙ ap (λ o. record m { spaces = labels.with_pages m.spaces n (without_pages q count); places = placed (place_for targets) (filter (is_between q count) (or_no_pages o)) m.places }) (sym one.found)
-
--- it is what the move by labels leaves of the memory, where the frames wait for the targets of the space
-pub unmapped_is : (w : Wire) (n q count order : ℕ) → memory_of (labels.unmapped w n q count order) ≡ unmapped (memory_of w) n q (count * 2 ^ order) (targets_of w n)
-unmapped_is w n q count order = refl

@@ -9,7 +9,7 @@ use Rattle.sva_frames.specs.declared.waits.Target.{Target}
 use Rattle.sva_frames.specs.declared.waits.Target.TheVariants.{Cookie as CookieTarget, ResetEnd as ResetTarget}
 use Rattle.sva_frames.specs.Frames.{Holding, Free, Mapped, Withheld, after_waits, past_cookie, past_reset, settled}
 use Rattle.sva_frames.specs.Room.{target_at, cookies, HaveRoom}
-use Rattle.sva_model.specs.Wire.{PlaceWire, TargetWire}
+use Rattle.sva_model.specs.Wire.{TargetWire}
 use Rattle.sva_model.specs.Wire.PlaceWire.{FreeWire, WithheldWire}
 use Rattle.sva_labels.specs.Moves.{place_for, settled_cookie, settled_at}
 use Rattle.sva_labels.specs.Moves as labels

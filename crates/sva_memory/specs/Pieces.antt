@@ -7,7 +7,7 @@ use Rattle.sva_model.specs.Words.{any_below, all_below, count_below}
 use Rattle.sva_model.specs.Refusals.{Cause, page_range}
 use Rattle.sva_model.specs.Steps.{Reply}
 use Rattle.sva_model.specs.Wire.{PageWire, PlaceWire, insert_by, is_lower_page}
-use Rattle.sva_model.specs.Wire.PlaceWire.{FreeWire, MappedWire}
+use Rattle.sva_model.specs.Wire.PlaceWire.{MappedWire}
 use Rattle.sva_labels.specs.Finding.{is_mapped, lowest_free}
 
 -- the first cause that holds refuses, else this is answered

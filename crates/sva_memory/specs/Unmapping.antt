@@ -1,10 +1,10 @@
 -- What an unmapping asks of the spaces, and what it leaves of spaces and frames. What the units are asked, and what they get,
 -- is another part's.
-use Rattle.std.specs.Prelude.{ℕ, ◌+◌, ◌%◌, ◌^◌, ◌==◌, ◌&&◌, not, nat_lt, nat_le, Option, List, [], ◌∷◌, Result, filter}
+use Rattle.std.specs.Prelude.{ℕ, ◌+◌, not, Option, List, ◌∷◌, Result, filter}
 use Rattle.sva_step.specs.declared.refusals.Refusal.{Refusal}
 use Rattle.sva_step.specs.declared.refusals.Refusal.TheVariants as refusal
-use Rattle.sva_model.specs.Words.{any_below, all_below, count_below}
-use Rattle.sva_model.specs.Refusals.{Cause, page_range}
+use Rattle.sva_model.specs.Words.{count_below}
+use Rattle.sva_model.specs.Refusals.{Cause}
 use Rattle.sva_model.specs.Wire.{PageWire, TargetWire}
 use Rattle.sva_labels.specs.Finding.{pages_of, or_no_pages, is_mapped}
 use Rattle.sva_labels.specs.Finding as finding

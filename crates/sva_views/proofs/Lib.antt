@@ -10,3 +10,9 @@ pub mod Bindings
 pub mod Flights
 pub mod ServiceGroups
 pub mod ServiceJobs
+pub mod ServiceLists
+pub mod ServiceCounts
+pub mod ServiceAnswers
+pub mod ServiceFiled
+pub mod ServiceSound
+pub mod ServiceFiling

@@ -39,12 +39,14 @@ open_is_seen s p unit binding h alone = go s.groups alone ∙ ap (list_any (of_b
     rest_of : (a b : Bool) → (a || b) ≡ false → b ≡ false
     rest_of a b h = grind arith
 
-    rest : (g : OpenGroup) (gs : List OpenGroup) (e : ℕ) (b : Bool) → list_any (of_binding binding) (map group_seen (cond b (g ∷ filter (is_of_unit e) gs) (filter (is_of_unit e) gs))) ≡ false
+    rest : (g : OpenGroup) (gs : List OpenGroup) (e : ℕ) (b : Bool)
+        → list_any (of_binding binding) (map group_seen (cond b (g ∷ filter (is_of_unit e) gs) (filter (is_of_unit e) gs))) ≡ false
         → list_any (of_binding binding) (of_unit e gs) ≡ false
     rest g gs e true h = rest_of (g.binding == binding) (list_any (of_binding binding) (of_unit e gs)) h
     rest g gs e false h = h
 
-    here : (g : OpenGroup) (gs : List OpenGroup) (b : Bool) → b ≡ true → list_any (of_binding binding) (map group_seen (cond b (g ∷ filter (is_of_unit g.unit) gs) (filter (is_of_unit g.unit) gs))) ≡ false
+    here : (g : OpenGroup) (gs : List OpenGroup) (b : Bool) → b ≡ true
+        → list_any (of_binding binding) (map group_seen (cond b (g ∷ filter (is_of_unit g.unit) gs) (filter (is_of_unit g.unit) gs))) ≡ false
         → (g.binding == binding) ≡ false
     here g gs true k h = first_of (g.binding == binding) (list_any (of_binding binding) (of_unit g.unit gs)) h
     here g gs false k h = absurd (cc (k))
@@ -63,13 +65,16 @@ open_is_seen s p unit binding h alone = go s.groups alone ∙ ap (list_any (of_b
 -- A page request is filed.
 
 -- a group of the unit is begun under the binding and index
-begun_here : (unit binding index : ℕ) (g : OpenGroup) → (g.unit == unit) ≡ true → moves.is_begun binding index (group_seen g) ≡ is_unfinished unit binding index g
+pub begun_here : (unit binding index : ℕ) (g : OpenGroup) → (g.unit == unit) ≡ true
+    → moves.is_begun binding index (group_seen g) ≡ is_unfinished unit binding index g
 begun_here unit binding index g h = sym (ap (λ t. ((t && g.binding == binding) && g.index == index) && not g.last) h)
 
-not_begun : (unit binding index : ℕ) (g : OpenGroup) → (g.unit == unit) ≡ false → is_unfinished unit binding index g ≡ false
+pub not_begun : (unit binding index : ℕ) (g : OpenGroup) → (g.unit == unit) ≡ false → is_unfinished unit binding index g ≡ false
 not_begun unit binding index g h = ap (λ t. ((t && g.binding == binding) && g.index == index) && not g.last) h
 
-with_seen : (g : OpenGroup) (request : PageRequest) → group_seen (with_request g request) ≡ record (group_seen g) { asks = (group_seen g).asks ++ (page_request_seen request).ask ∷ []; is_whole = request.last }
+with_seen : (g : OpenGroup) (request : PageRequest)
+    → group_seen (with_request g request)
+    ≡ record (group_seen g) { asks = (group_seen g).asks ++ (page_request_seen request).ask ∷ []; is_whole = request.last }
 with_seen g request = λ i. record (group_seen g) { asks = map-append ask_seen g.asks (ask_of request ∷ []) i; is_whole = request.last }
 
 module _ (next unit binding : ℕ) (request : PageRequest) where
@@ -99,10 +104,14 @@ module _ (next unit binding : ℕ) (request : PageRequest) where
     where
       taken_by : (b : Bool) → b ≡ begun (group_seen g)
           → of_unit unit (by_parts gs) ≡ by_labels (of_unit unit gs)
-          → cond b (group_seen (with_request g request) ∷ of_unit unit gs) (group_seen g ∷ of_unit unit (by_parts gs)) ≡ by_labels (group_seen g ∷ of_unit unit gs)
+          → cond b (group_seen (with_request g request) ∷ of_unit unit gs) (group_seen g ∷ of_unit unit (by_parts gs))
+          ≡ by_labels (group_seen g ∷ of_unit unit gs)
       taken_by b k later =
           (λ i. cond b (with_seen g request i ∷ of_unit unit gs) (group_seen g ∷ later i))
-          ∙ ap (λ t. cond t (record (group_seen g) { asks = (group_seen g).asks ++ (page_request_seen request).ask ∷ []; is_whole = request.last } ∷ of_unit unit gs) (group_seen g ∷ by_labels (of_unit unit gs))) k
+          ∙ ap
+          (λ t.
+          cond t (record (group_seen g) { asks = (group_seen g).asks ++ (page_request_seen request).ask ∷ []; is_whole = request.last } ∷ of_unit unit gs)
+          (group_seen g ∷ by_labels (of_unit unit gs))) k
 
       go : (u b : Bool) → (g.unit == unit) ≡ u → unfinished g ≡ b → of_unit unit (by_parts gs) ≡ by_labels (of_unit unit gs)
           → of_unit unit (cond b (with_request g request ∷ gs) (g ∷ by_parts gs)) ≡ by_labels (seen_if u g gs)
@@ -123,15 +132,22 @@ module _ (next unit binding : ℕ) (request : PageRequest) where
       at_unit : (a b c d : Bool) → (((a && b) && c) && not d) ≡ true → a ≡ true
       at_unit a b c d h = grind arith
 
-      skipped : (k : OpenGroup) → unfinished g ≡ true → (t : Bool) → (g.unit == e) ≡ t → map group_seen (cond t (k ∷ filter (is_of_unit e) gs) (filter (is_of_unit e) gs)) ≡ map group_seen (cond t (g ∷ filter (is_of_unit e) gs) (filter (is_of_unit e) gs))
-      skipped k u true m = absurd (cc (sym (equal e unit (sym (same_unit g.unit e m) ∙ same_unit g.unit unit (at_unit (g.unit == unit) (g.binding == binding) (g.index == request.index) g.last u))) ∙ h))
+      skipped : (k : OpenGroup) → unfinished g ≡ true → (t : Bool) → (g.unit == e) ≡ t
+          → map group_seen (cond t (k ∷ filter (is_of_unit e) gs) (filter (is_of_unit e) gs))
+          ≡ map group_seen (cond t (g ∷ filter (is_of_unit e) gs) (filter (is_of_unit e) gs))
+      skipped k u true m =
+          let here = at_unit (g.unit == unit) (g.binding == binding) (g.index == request.index) g.last u in
+          absurd (cc (sym (equal e unit (sym (same_unit g.unit e m) ∙ same_unit g.unit unit here)) ∙ h))
       skipped k u false m = refl
 
-      go : (b : Bool) → unfinished g ≡ b → of_unit e (by_parts gs) ≡ of_unit e gs → of_unit e (cond b (with_request g request ∷ gs) (g ∷ by_parts gs)) ≡ of_unit e (g ∷ gs)
+      go : (b : Bool) → unfinished g ≡ b → of_unit e (by_parts gs) ≡ of_unit e gs
+          → of_unit e (cond b (with_request g request ∷ gs) (g ∷ by_parts gs)) ≡ of_unit e (g ∷ gs)
       go true k later = skipped (with_request g request) k (g.unit == e) refl
       go false k later = one (g.unit == e)
         where
-          one : (t : Bool) → map group_seen (cond t (g ∷ filter (is_of_unit e) (by_parts gs)) (filter (is_of_unit e) (by_parts gs))) ≡ map group_seen (cond t (g ∷ filter (is_of_unit e) gs) (filter (is_of_unit e) gs))
+          one : (t : Bool)
+              → map group_seen (cond t (g ∷ filter (is_of_unit e) (by_parts gs)) (filter (is_of_unit e) (by_parts gs)))
+              ≡ map group_seen (cond t (g ∷ filter (is_of_unit e) gs) (filter (is_of_unit e) gs))
           one true = ap (λ l. group_seen g ∷ l) later
           one false = later
 
@@ -141,12 +157,15 @@ module _ (next unit binding : ℕ) (request : PageRequest) where
   asks_seen (g ∷ gs) = go (g.unit == unit) (unfinished g) refl refl (asks_seen gs)
     where
       found_by : (b : Bool) → b ≡ begun (group_seen g) → map ask_seen (unfinished_asks unit binding request.index gs) ≡ asks_of (find begun (of_unit unit gs))
-          → map ask_seen (unwrap_or (cond b (Some g) (find unfinished gs)) (new_group 0 unit binding request.index)).asks ≡ asks_of (find begun (group_seen g ∷ of_unit unit gs))
+          → map ask_seen (unwrap_or (cond b (Some g) (find unfinished gs)) (new_group 0 unit binding request.index)).asks
+          ≡ asks_of (find begun (group_seen g ∷ of_unit unit gs))
       found_by true k later = ap (λ t. asks_of (cond t (Some (group_seen g)) (find begun (of_unit unit gs)))) k
       found_by false k later = later ∙ ap (λ t. asks_of (cond t (Some (group_seen g)) (find begun (of_unit unit gs)))) k
 
-      go : (u b : Bool) → (g.unit == unit) ≡ u → unfinished g ≡ b → map ask_seen (unfinished_asks unit binding request.index gs) ≡ asks_of (find begun (of_unit unit gs))
-          → map ask_seen (unwrap_or (cond b (Some g) (find unfinished gs)) (new_group 0 unit binding request.index)).asks ≡ asks_of (find begun (seen_if u g gs))
+      go : (u b : Bool) → (g.unit == unit) ≡ u → unfinished g ≡ b
+          → map ask_seen (unfinished_asks unit binding request.index gs) ≡ asks_of (find begun (of_unit unit gs))
+          → map ask_seen (unwrap_or (cond b (Some g) (find unfinished gs)) (new_group 0 unit binding request.index)).asks
+          ≡ asks_of (find begun (seen_if u g gs))
       go true b h k later = found_by b (sym k ∙ sym (begun_here unit binding request.index g h)) later
       go false true h k later = absurd (cc (sym (not_begun unit binding request.index g h) ∙ k))
       go false false h k later = later
@@ -157,9 +176,12 @@ pub none_of_unit : (u : ℕ) (gs : List OpenGroup) → of_unit u (filter (is_of_
 none_of_unit u [] = refl
 none_of_unit u (g ∷ gs) = go (g.unit == u) refl (none_of_unit u gs)
   where
-    go : (b : Bool) → (g.unit == u) ≡ b → of_unit u (filter (is_of_other_unit u) gs) ≡ [] → of_unit u (cond (not b) (g ∷ filter (is_of_other_unit u) gs) (filter (is_of_other_unit u) gs)) ≡ []
+    go : (b : Bool) → (g.unit == u) ≡ b → of_unit u (filter (is_of_other_unit u) gs) ≡ []
+        → of_unit u (cond (not b) (g ∷ filter (is_of_other_unit u) gs) (filter (is_of_other_unit u) gs)) ≡ []
     go true k later = later
-    go false k later = ap (λ t. map group_seen (cond t (g ∷ filter (is_of_unit u) (filter (is_of_other_unit u) gs)) (filter (is_of_unit u) (filter (is_of_other_unit u) gs)))) k ∙ later
+    go false k later =
+        ap (λ t. map group_seen (cond t (g ∷ filter (is_of_unit u) (filter (is_of_other_unit u) gs)) (filter (is_of_unit u) (filter (is_of_other_unit u) gs)))) k
+        ∙ later
 
 pub others_of_unit : (u e : ℕ) → (e == u) ≡ false → (gs : List OpenGroup) → of_unit e (filter (is_of_other_unit u) gs) ≡ of_unit e gs
 others_of_unit u e h [] = refl
@@ -172,5 +194,6 @@ others_of_unit u e h (g ∷ gs) = go (g.unit == u) (g.unit == e) refl refl (othe
         → of_unit e (cond (not a) (g ∷ others) others) ≡ map group_seen (cond b (g ∷ filter (is_of_unit e) gs) (filter (is_of_unit e) gs))
     go true true k l later = absurd (cc (sym (equal e u (sym (same_unit g.unit e l) ∙ same_unit g.unit u k)) ∙ h))
     go true false k l later = later
-    go false true k l later = ap (λ t. map group_seen (cond t (g ∷ filter (is_of_unit e) others) (filter (is_of_unit e) others))) l ∙ ap (λ l. group_seen g ∷ l) later
+    go false true k l later =
+        ap (λ t. map group_seen (cond t (g ∷ filter (is_of_unit e) others) (filter (is_of_unit e) others))) l ∙ ap (λ l. group_seen g ∷ l) later
     go false false k l later = ap (λ t. map group_seen (cond t (g ∷ filter (is_of_unit e) others) (filter (is_of_unit e) others))) l ∙ later

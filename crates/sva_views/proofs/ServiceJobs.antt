@@ -35,10 +35,12 @@ first_dropped f [] = refl
 first_dropped f (x ∷ xs) = refl
 
 -- A hand with another thing in it.
-pub hand_set : (n k : ℕ) (o : Option Job) (hands : List (Option Job)) → take n (map (option_map job_seen) (slice_set hands k o)) ≡ slice_set (take n (map (option_map job_seen) hands)) k (option_map job_seen o)
+pub hand_set : (n k : ℕ) (o : Option Job) (hands : List (Option Job))
+    → take n (map (option_map job_seen) (slice_set hands k o)) ≡ slice_set (take n (map (option_map job_seen) hands)) k (option_map job_seen o)
 hand_set n k o hands = ap (take n) (map-set (option_map job_seen) hands k o) ∙ taken_set n k (option_map job_seen o) (map (option_map job_seen) hands)
 
-pub held_at : (n k : ℕ) (hands : List (Option Job)) → k < n → slice_index_or (take n (map (option_map job_seen) hands)) k None ≡ option_map job_seen (slice_index_or hands k None)
+pub held_at : (n k : ℕ) (hands : List (Option Job)) → k < n
+    → slice_index_or (take n (map (option_map job_seen) hands)) k None ≡ option_map job_seen (slice_index_or hands k None)
 held_at n k hands l = taken_at n k None (map (option_map job_seen) hands) l ∙ seen_at (option_map job_seen) hands k None
 
 -- A page request is filed.
@@ -47,7 +49,8 @@ job_is_seen : (s : Groups) (p : PartWire) (unit binding : ℕ) (request : PageRe
     → map ask_seen (unfinished_asks unit binding request.index s.groups ++ ask_of request ∷ []) ≡ (job_of p unit binding (page_request_seen request)).asks
 job_is_seen s p unit binding request h =
     map-append ask_seen (unfinished_asks unit binding request.index s.groups) (ask_of request ∷ [])
-    ∙ ap (λ l. l ++ ask_seen (ask_of request) ∷ []) (asks_seen s.next unit binding request s.groups ∙ ap (λ l. asks_of (find (is_begun binding request.index) l)) (sym h))
+    ∙ ap (λ l. l ++ ask_seen (ask_of request) ∷ [])
+    (asks_seen s.next unit binding request s.groups ∙ ap (λ l. asks_of (find (is_begun binding request.index) l)) (sym h))
 
 made_by : (job : Job) (seen : JobWire) (jobs : List Job) (last : Bool) → job_seen job ≡ seen
     → map job_seen (jobs ++ option_to_list (if last then Some job else None)) ≡ (if last then map job_seen jobs ++ seen ∷ [] else map job_seen jobs)

@@ -3,3 +3,4 @@ pub mod DeviceLaws
 pub mod Bindings
 pub mod Flights
 pub mod Service
+pub mod ServiceLaws

@@ -4,6 +4,7 @@
 ghost use Rattle.sva_views.specs.Bindings.{BindingsAreSeen};
 ghost use Rattle.sva_views.specs.Flights.{FlightLaws};
 ghost use Rattle.sva_views.specs.Service.{ServiceIsSeen};
+ghost use Rattle.sva_views.specs.ServiceLaws.{ServiceAnswers, SoundIsKept};
 ghost use Rattle.sva_views.specs.DeviceLaws.{RequestsAreSeen, UsesAreSeen, GroupsAreSeen, CompletionsAreSeen, DeliveriesAreSeen};
 
 /// What an endpoint refuses, gives out, answers and keeps, by its tables, is what the definitions by labels say of its
@@ -28,8 +29,11 @@ pub fn flight_laws()
     ensures { FlightLaws }
 {}
 
-/// What the service of page requests keeps, and what is changed there where a request is filed, a job taken or a unit reset, is
-/// what the definitions by labels say of the open groups of each endpoint, of the jobs and of the hands.
+/// What the service of page requests keeps, and what is changed there where a request is filed, a job taken or answered, or a
+/// unit reset, is what the definitions by labels say of the open groups of each endpoint, of the jobs and of the hands; and each
+/// call keeps the service sound.
 pub fn service_laws()
-    ensures { ServiceIsSeen }
+    ensures seen { ServiceIsSeen }
+    ensures answers { ServiceAnswers }
+    ensures sound { SoundIsKept }
 {}

@@ -5,6 +5,7 @@ use Rattle.sva_laws.proofs.Ways.{always_ways}
 use Rattle.sva_laws.proofs.OnTheWay.{always_on_the_way}
 use Rattle.sva_laws.proofs.Completions.{always_owed}
 use Rattle.sva_laws.proofs.Carried.{always_carried}
+use Rattle.sva_laws.proofs.Latest.{always_finds}
 use Rattle.sva_laws.proofs.labels_and_deliveries.Goals as goal
 
 pub returns-clause-labelled : goal.returns-clause-labelled
@@ -21,3 +22,6 @@ returns-clause-under_way c = λ rule config steps e fits. under_way (world_after
 
 pub returns-clause-carried : goal.returns-clause-carried
 returns-clause-carried c = λ rule config steps e fits. always_carried rule config steps e
+
+pub returns-clause-mappings : goal.returns-clause-mappings
+returns-clause-mappings c = λ rule config steps fits. always_finds rule config steps

@@ -1,5 +1,6 @@
 use Rattle.sva_laws.proofs.Debts.{always_debts}
 use Rattle.sva_laws.proofs.Targets.{always_front, always_awaits}
+use Rattle.sva_laws.proofs.ByUnit.{always_by_unit}
 use Rattle.sva_laws.proofs.waits_and_fronts.Goals as goal
 
 pub returns-clause-fronts : goal.returns-clause-fronts
@@ -10,3 +11,6 @@ returns-clause-debts c = λ rule config steps m e owed fits gone. always_debts r
 
 pub returns-clause-targets : goal.returns-clause-targets
 returns-clause-targets c = λ rule config steps m e owed fits gone silent. always_awaits rule config steps m e owed gone silent
+
+pub returns-clause-by_unit : goal.returns-clause-by_unit
+returns-clause-by_unit c = λ rule config steps m owed fits gone. always_by_unit rule config steps m owed gone

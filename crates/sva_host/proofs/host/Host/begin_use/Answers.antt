@@ -7,9 +7,8 @@ use Rattle.sva_endpoint.specs.Tables.{Tables}
 use Rattle.sva_endpoint.specs.Steps.{using, after_begin_use}
 use Rattle.sva_endpoint.proofs.SoundLaws.{sound_after}
 use Rattle.sva_host.specs.declared.host.Port.{Port}
-use Rattle.sva_host.specs.Inner.{wire_of}
 use Rattle.sva_host.proofs.Ports.{port_found, same_port, rewritten, with_tables_host}
-use Rattle.sva_host.proofs.Devices.{kept, went, ended}
+use Rattle.sva_host.proofs.Devices.{kept, ended}
 use Rattle.sva_host.proofs.Uses.{use_refused, use_done}
 use Rattle.sva_host.proofs.host.Host.begin_use.Goals as goal
 

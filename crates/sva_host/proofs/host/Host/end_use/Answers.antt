@@ -1,15 +1,12 @@
-use Rattle.std.proofs.Common.{sym, ap, refl, ◌∙◌}
+use Rattle.std.proofs.Common.{sym, ap, refl}
 use Rattle.std.specs.Prelude.{is_ok, slice_index_or}
-use Rattle.sva_step.specs.declared.answers.Answer.TheVariants as answer
 use Rattle.sva_step.specs.declared.steps.Step.TheVariants as step
 use Rattle.sva_endpoint.specs.Calls as call
 use Rattle.sva_endpoint.specs.Tables.{Tables}
 use Rattle.sva_endpoint.specs.Steps.{after_end_use}
 use Rattle.sva_endpoint.proofs.SoundLaws.{sound_after}
-use Rattle.sva_host.specs.declared.host.Port.{Port}
-use Rattle.sva_host.specs.Inner.{wire_of}
-use Rattle.sva_host.proofs.Ports.{port_found, same_port, rewritten, with_tables_host}
-use Rattle.sva_host.proofs.Devices.{kept, went, ended}
+use Rattle.sva_host.proofs.Ports.{port_found, rewritten, with_tables_host}
+use Rattle.sva_host.proofs.Devices.{kept, ended}
 use Rattle.sva_host.proofs.Uses.{end_refused, end_done}
 use Rattle.sva_host.proofs.host.Host.end_use.Goals as goal
 

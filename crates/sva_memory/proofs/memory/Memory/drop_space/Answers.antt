@@ -1,13 +1,12 @@
-use Rattle.std.proofs.Common.{◌≡◌, true, ap, ◌∙◌, sym, subst}
+use Rattle.std.proofs.Common.{ap, ◌∙◌, sym, subst}
 use Rattle.std.specs.Prelude.{is_some}
-use Rattle.sva_labels.specs.Finding.{pages_of, or_no_pages}
 use Rattle.sva_labels.specs.Moves.{Move}
 use Rattle.sva_memory.specs.Seen.{MemorySeen, pages_seen, places_seen, with_memory}
 use Rattle.sva_memory.specs.Lives.{spaces_seen}
 use Rattle.sva_memory.specs.Inner.{memory_in}
 use Rattle.sva_memory.specs.Steps.{Moves}
 use Rattle.sva_memory.specs.Steps as steps
-use Rattle.sva_memory.proofs.Hosts.{moves_each, by_drop, with_spaces}
+use Rattle.sva_memory.proofs.Hosts.{moves_each, by_drop}
 use Rattle.sva_memory.proofs.LiveLists.{owns-at, pages_of-at}
 use Rattle.sva_memory.proofs.Dropping.{spaces-removed, numbered-dropped, owned-dropped}
 use Rattle.sva_memory.proofs.ChangedSpace.{has_space, lacks_space}

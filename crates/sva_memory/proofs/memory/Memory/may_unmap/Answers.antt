@@ -1,7 +1,4 @@
-use Rattle.std.proofs.Common.{ap, ◌∙◌, subst}
-use Rattle.std.specs.Prelude.{Result, Err}
-use Rattle.sva_step.specs.declared.refusals.Refusal.{Refusal}
-use Rattle.sva_step.specs.declared.refusals.Refusal.TheVariants as refusal
+use Rattle.std.proofs.Common.{ap, ◌∙◌}
 use Rattle.sva_labels.specs.Finding.{pages_of}
 use Rattle.sva_memory.specs.Seen.{MemorySeen, pages_seen}
 use Rattle.sva_memory.specs.Inner.{memory_in}

@@ -1,4 +1,4 @@
-use Rattle.std.proofs.Common.{◌≡◌, ap, ◌∙◌, List}
+use Rattle.std.proofs.Common.{ap, ◌∙◌, List}
 use Rattle.sva_frames.specs.Frames.{past_cookie}
 use Rattle.sva_labels.specs.Moves.{settled_cookie}
 use Rattle.sva_model.specs.Wire.{PlaceWire}

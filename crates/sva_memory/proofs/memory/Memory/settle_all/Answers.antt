@@ -1,4 +1,4 @@
-use Rattle.std.proofs.Common.{◌≡◌, ap, ◌∙◌, List, None}
+use Rattle.std.proofs.Common.{ap, ◌∙◌, List, None}
 use Rattle.sva_frames.specs.Frames.{past_reset}
 use Rattle.sva_model.specs.Wire.{PlaceWire}
 use Rattle.sva_memory.specs.Seen.{MemorySeen}

@@ -1,9 +1,8 @@
 use Rattle.std.proofs.Common.{sym, ap, ◌∙◌, subst}
 use Rattle.std.specs.Prelude.{Option, List, IsOk}
-use Rattle.sva_model.specs.Wire.{PageWire, PlaceWire}
+use Rattle.sva_model.specs.Wire.{PageWire}
 use Rattle.sva_labels.specs.Finding.{pages_of, or_no_pages}
 use Rattle.sva_labels.specs.Finding as finding
-use Rattle.sva_labels.specs.Moves.{is_between, placed, place_for, without_pages}
 use Rattle.sva_memory.specs.Seen.{MemorySeen, pages_seen, places_seen, targets_seen}
 use Rattle.sva_memory.specs.Inner.{memory_in}
 use Rattle.sva_memory.specs.Pieces.{unmap_causes}

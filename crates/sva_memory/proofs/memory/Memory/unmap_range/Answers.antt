@@ -1,6 +1,6 @@
-use Rattle.std.proofs.Common.{◌≡◌, ◌≤◌, ◌*◌, ◌^◌, ◌%◌, sym, ap, ◌∙◌, subst}
+use Rattle.std.proofs.Common.{◌^◌, sym, ap, ◌∙◌, subst}
 use Rattle.std.specs.Prelude.{Option, List, IsOk, ◌+◌, filter}
-use Rattle.sva_model.specs.Wire.{PageWire, PlaceWire}
+use Rattle.sva_model.specs.Wire.{PageWire}
 use Rattle.sva_model.specs.Words.{count_below}
 use Rattle.sva_labels.specs.Finding.{pages_of, or_no_pages, is_mapped}
 use Rattle.sva_labels.specs.Moves.{is_between, placed, place_for, without_pages}

@@ -1,0 +1,54 @@
+-- How many bindings are unreleased, and how many use slots are taken; and that a step changes these as its answer says.
+use Rattle.std.specs.Prelude.{◌≡◌, ℕ, suc, ◌+◌, Option, Some, None, List, [], ◌∷◌, length, Ok}
+use Rattle.sva_step.specs.declared.answers.Answer.TheVariants as answer
+use Rattle.sva_step.specs.declared.limits.Config.{Config}
+use Rattle.sva_step.specs.declared.steps.Step.{Step}
+use Rattle.sva_model.specs.State.{PasidRule}
+use Rattle.sva_model.specs.Steps.{Reply, reply, next, world_after}
+use Rattle.sva_model.specs.Claims.{Fits}
+use Rattle.sva_model.specs.Wire.{Wire, PartWire, UseWire, wire}
+
+abbrev pub unreleased : Wire → ℕ
+unreleased w = length w.bindings
+
+abbrev pub taken_in : List (Option UseWire) → ℕ
+taken_in [] = 0
+taken_in (None ∷ slots) = taken_in slots
+taken_in (Some u ∷ slots) = suc (taken_in slots)
+
+abbrev pub slots_in : List PartWire → ℕ
+slots_in [] = 0
+slots_in (p ∷ parts) = taken_in p.device.slots + slots_in parts
+
+-- of all endpoints
+abbrev pub slots_taken : Wire → ℕ
+slots_taken w = slots_in w.parts
+
+-- how many bindings begin by a step with this reply, and how many are released; and how many slots are given out, and given
+-- back, that of a use which a reset ended among them
+abbrev pub binds : Reply → ℕ
+binds (Ok (answer.Binding binding pasid)) = 1
+binds _ = 0
+
+abbrev pub releases : Reply → ℕ
+releases (Ok answer.Released) = 1
+releases _ = 0
+
+abbrev pub begins : Reply → ℕ
+begins (Ok (answer.Use slot frame)) = 1
+begins _ = 0
+
+abbrev pub ends : Reply → ℕ
+ends (Ok answer.Ended) = 1
+ends (Ok answer.Dead) = 1
+ends _ = 0
+
+pub record IsTallied (before after : Wire) (r : Reply) : Type 0 where
+  pub bindings : unreleased after + releases r ≡ unreleased before + binds r
+  pub slots : slots_taken after + ends r ≡ slots_taken before + begins r
+
+abbrev pub AlwaysTallied : Type 0
+AlwaysTallied =
+    (rule : PasidRule) (config : Config) (steps : List Step) (s : Step)
+    → Fits config
+    → IsTallied (wire (world_after rule config steps)) (wire (next (world_after rule config steps) s)) (reply (world_after rule config steps) s)

@@ -8,3 +8,4 @@ pub mod SpaceSteps
 pub mod Faults
 pub mod Quits
 pub mod Finishes
+pub mod TakenOut

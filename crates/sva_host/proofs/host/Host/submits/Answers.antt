@@ -1,17 +1,8 @@
-use Rattle.std.proofs.Common.{rules, ◌≡◌, if◌then◌else◌, ◌+◌, ◌≤◌, ◌<◌, ◌*◌, ◌%◌, ◌^◌, true, length, option_map, suc, ℕ, ◌-◌, ◌/◌, Bool, false, nat_eq, nat_lt, List, [], ◌∷◌, ◌++◌, slice_index_or, slice_set, bit_and, bit_or, Fits, w8, w32, w64, Bor, MutBor}
-use Rattle.std.specs.Option.{option_copied}
-use Rattle.sva_model.specs.Words.{count_below}
-use Rattle.sva_labels.specs.Finding.{is_before_invalidating, submits_by}
-use Rattle.sva_labels.specs.Finding.{submits as asked}
-use Rattle.sva_labels.specs.Causes.{waits_needed}
-use Rattle.sva_labels.specs.Moves.{target_by_stage, target_by, targets_of}
-use Rattle.sva_model.specs.Wire.TargetWire.{Cookie as CookieTarget}
-use Rattle.sva_model.specs.Wire.TargetWire.{ResetEnd as ResetTarget}
-use Rattle.sva_memory.specs.Seen.{target_seen, targets_seen}
-use Rattle.sva_views.specs.Bindings.{binding_seen, stage_or_quiet}
-use Rattle.sva_host.specs.Unmapping.{have_room, submitted}
+use Rattle.std.proofs.Common.{◌∙◌}
+use Rattle.sva_host.proofs.TakenOut.{submits_there}
 use Rattle.sva_host.proofs.host.Host.submits.Goals as goal
 
--- src/unmapping.rt:89:5
 pub returns : goal.returns
-returns c = ?
+returns c =
+    c.submits.ensures
+    ∙ submits_there c.self.inside _ c.args.endpoint c.args.space c.deref.result.now c.index-deref-endpoint.result _ c.self.view_is c.requires c.deref.ensures.0 c.place_between-place.ensures

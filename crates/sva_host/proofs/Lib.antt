@@ -9,3 +9,4 @@ pub mod Faults
 pub mod Quits
 pub mod Finishes
 pub mod TakenOut
+pub mod Awaited

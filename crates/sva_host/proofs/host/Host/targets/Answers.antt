@@ -1,29 +1,41 @@
-use Rattle.std.proofs.Common.{rules, ◌≡◌, if◌then◌else◌, ◌+◌, ◌≤◌, ◌<◌, ◌*◌, ◌%◌, ◌^◌, true, length, option_map, suc, ℕ, ◌-◌, ◌/◌, Bool, false, nat_eq, nat_lt, List, [], ◌∷◌, ◌++◌, slice_index_or, slice_set, bit_and, bit_or, Fits, w8, w32, w64, Bor, MutBor}
-use Rattle.std.specs.Option.{option_copied}
-use Rattle.sva_model.specs.Words.{count_below}
-use Rattle.sva_labels.specs.Finding.{is_before_invalidating, submits_by}
-use Rattle.sva_labels.specs.Finding.{submits as asked}
-use Rattle.sva_labels.specs.Causes.{waits_needed}
-use Rattle.sva_labels.specs.Moves.{target_by_stage, target_by, targets_of}
-use Rattle.sva_model.specs.Wire.TargetWire.{Cookie as CookieTarget}
-use Rattle.sva_model.specs.Wire.TargetWire.{ResetEnd as ResetTarget}
+use Rattle.std.proofs.Common.{◌≡◌, ◌∙◌, ap, sym, ◌≤◌, ◌<◌, ◌+◌, arith}
+use Rattle.std.specs.Prelude.{length, option_map}
+use Rattle.sva_labels.specs.Finding.{submits}
+use Rattle.sva_model.specs.Wire.{Wire}
 use Rattle.sva_memory.specs.Seen.{target_seen, targets_seen}
-use Rattle.sva_views.specs.Bindings.{binding_seen, stage_or_quiet}
-use Rattle.sva_host.specs.Unmapping.{have_room, submitted}
+use Rattle.sva_labels.specs.Moves.{cookie_at}
+use Rattle.sva_host.specs.Unmapping.{target_so_far}
+use Rattle.sva_host.proofs.Awaited.{nothing_awaited, first_cookie, cookie_most, next_cookie_there, next_cookie_off, target_is, not_yet, nothing_yet, one_more, no_more}
 use Rattle.sva_host.proofs.host.Host.targets.Goals as goal
+use Rattle.sva_host.proofs.host.Host.targets.Goals.{then-submits, else-submits, in-Some, in_default}
 
--- src/unmapping.rt:130:9
 pub loop-endpoint-init : goal.loop-endpoint-init
-loop-endpoint-init c = ?
+loop-endpoint-init c = (ap targets_seen c.new-waits.ensures ∙ nothing_awaited c.args.self.now c.args.space, ap (λ (w : Wire). w.next_cookie) c.self.view_is ∙ first_cookie c.args.self.now c.args.space)
 
--- src/unmapping.rt:133:17
 pub push-requires : goal.push-requires
-push-requires c = ?
+push-requires c =
+    let most = c.len-endpoint-end.ensures.fits in
+    nothing_yet c.loop-endpoint.waits (target_so_far c.args.self.now c.args.space c.loop-endpoint.endpoint) c.loop-endpoint.endpoint c.loop-endpoint.invariant.0 (omega arith) (not_yet c.args.self.now c.args.space c.loop-endpoint.endpoint)
 
--- src/unmapping.rt:136:17
 pub overflow_add-cookie : goal.overflow_add-cookie
-overflow_add-cookie c = ?
+overflow_add-cookie c =
+    let most = c.len-endpoint-end.ensures.fits in
+    let is = c.loop-endpoint.invariant.1 in
+    let few = cookie_most c.args.self.now c.args.space c.loop-endpoint.endpoint in
+    let low = c.requires.cookies in
+    omega arith
 
--- src/unmapping.rt:130:9
 pub loop-endpoint-preserved : goal.loop-endpoint-preserved
-loop-endpoint-preserved c = ?
+loop-endpoint-preserved c =
+    let within : c.loop-endpoint.endpoint < length c.self.inside.ports.items = omega arith in
+    let seen = c.target.ensures ∙ target_is c.self.inside _ c.loop-endpoint.endpoint c.args.space c.loop-endpoint.cookie c.deref.result.now c.index-deref-endpoint.result _ c.self.view_is within c.deref.ensures.0 c.place_between-place.ensures c.loop-endpoint.invariant.1 in
+    (elim c.match-target.branch [
+      in-Some w ↦ one_more c.args.self.now c.args.space c.loop-endpoint.endpoint c.loop-endpoint.waits c.match-target.waits w.in-Some.target c.loop-endpoint.invariant.0
+      (sym (ap (option_map target_seen) w.in-Some.is) ∙ seen) (w.waits-is ∙ w.push.ensures)
+    | in_default w ↦ ap targets_seen w.waits-is
+      ∙ no_more c.args.self.now c.args.space c.loop-endpoint.endpoint c.loop-endpoint.waits c.loop-endpoint.invariant.0 (sym (ap (option_map target_seen) w.in_default.is) ∙ seen)
+    ],
+    elim c.if-submits.branch [
+      then-submits w ↦ w.cookie-is ∙ ap (λ n. n + 1) c.loop-endpoint.invariant.1 ∙ sym (next_cookie_there c.args.self.now c.args.space c.loop-endpoint.endpoint (sym c.submits.ensures ∙ w.if-submits.true))
+    | else-submits w ↦ w.cookie-is ∙ c.loop-endpoint.invariant.1 ∙ sym (next_cookie_off c.args.self.now c.args.space c.loop-endpoint.endpoint (sym c.submits.ensures ∙ w.if-submits.false))
+    ])

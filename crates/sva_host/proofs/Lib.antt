@@ -10,3 +10,4 @@ pub mod Quits
 pub mod Finishes
 pub mod TakenOut
 pub mod Awaited
+pub mod Submitting

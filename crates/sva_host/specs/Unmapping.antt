@@ -57,3 +57,10 @@ wire_with ports bindings cookie =
 
 abbrev pub devices_of : List Port → List Tables
 devices_of ports = map (λ (port : Port). port.device) ports
+
+-- Ports of which the first so many units have got their descriptors: they are seen so, their devices are as they were, and the
+-- next cookie is known.
+pub record IsSubmitting (ports : List Port) (bindings : List Place) (first space page count order units : ℕ) (now : List Port) (next : ℕ) : Type 0 where
+  pub parts : map part_seen now ≡ tabulate (length ports) (part_so_far (wire_with ports bindings first) space page count order units)
+  pub devices : devices_of now ≡ devices_of ports
+  pub cookie : next ≡ cookie_at (wire_with ports bindings first) space units

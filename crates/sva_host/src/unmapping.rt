@@ -1,19 +1,21 @@
 //! Pages that are taken out of a space: what the units are asked, what they get, and what the frames wait for.
 
-ghost use Rattle.std.specs.Prelude.{◌≡◌, if◌then◌else◌, ◌+◌, ◌≤◌, ◌<◌, ◌*◌, ◌%◌, ◌^◌, true, length, option_map, suc};
+ghost use Rattle.std.specs.Prelude.{◌≡◌, if◌then◌else◌, ◌+◌, ◌≤◌, ◌<◌, ◌*◌, ◌%◌, ◌^◌, true, length, option_map, map, suc};
 ghost use Rattle.std.specs.Option.{option_copied};
-ghost use Rattle.sva_model.specs.Words.{count_below};
+ghost use Rattle.sva_model.specs.Words.{count_below, tabulate};
 ghost use Rattle.sva_labels.specs.Finding.{is_before_invalidating, submits_by, submits as asked};
 ghost use Rattle.sva_labels.specs.Causes.{waits_needed};
 ghost use Rattle.sva_labels.specs.Moves.{target_by_stage, target_by, targets_of};
 ghost use Rattle.sva_model.specs.Wire.TargetWire.{Cookie as CookieTarget, ResetEnd as ResetTarget};
 ghost use Rattle.sva_memory.specs.Seen.{target_seen, targets_seen};
 ghost use Rattle.sva_views.specs.Bindings.{binding_seen, stage_or_quiet};
-ghost use Rattle.sva_host.specs.Unmapping.{have_room, submitted};
+ghost use Rattle.sva_labels.specs.Moves.{part_unmapped};
+ghost use Rattle.sva_host.specs.Inner.{part_seen};
+ghost use Rattle.sva_host.specs.Unmapping.{have_room, submitted, pasid_asked, AreGiven, wire_with, devices_of};
 
-use crate::host::Host;
+use crate::host::{Host, Port};
 use sva_frames::{Target, Waits};
-use sva_pasid::{Place, Stage};
+use sva_pasid::{Place, Stage, Table};
 use sva_unit::Unit;
 
 // Whether the binding is in use yet, is being stopped or is being drained.
@@ -84,6 +86,56 @@ fn target(unit: &Unit, place: Option<&Place>, cookie: u64) -> Option<Target>
     }
 }
 
+// The PASID of the binding for which a unit gets descriptors, if it gets some.
+fn pasid_asked(unit: &Unit, place: Option<&Place>) -> Option<u32>
+    ensures { result ≡ pasid_asked unit.now.unit (option_map binding_seen (option_copied place.entry)) }
+{
+    match place {
+        Some(place) => {
+            if unit.is_open() && is_before_invalidating(&place.stage) {
+                Some(place.pasid)
+            } else {
+                None
+            }
+        }
+        None => None,
+    }
+}
+
+// Each unit that gets descriptors for the space gets them, with the next cookie for its wait. Gives the cookie after these.
+fn submit_all(
+    ports: &mut [Port],
+    bindings: &Table,
+    space: u64,
+    page: u64,
+    count: u64,
+    order: u8,
+    first: u64,
+) -> u64
+    requires few { length ports.old ≤ 8 }
+    requires room { have_room (wire_with ports.old bindings.now first) space (suc count) ≡ true }
+    requires given { AreGiven (wire_with ports.old bindings.now first) }
+    requires cookies { first + waits_needed (wire_with ports.old bindings.now first) space ≤ 2 ^ 63 }
+    requires small { order ≤ 9 }
+    requires aligned { page % 2 ^ order ≡ 0 }
+    requires low { page + count * 2 ^ order ≤ 2 ^ 36 }
+    ensures parts { map part_seen ports.new ≡ tabulate (length ports.old) (part_unmapped (wire_with ports.old bindings.now first) space page count order) }
+    ensures devices { devices_of ports.new ≡ devices_of ports.old }
+    ensures next { result ≡ first + waits_needed (wire_with ports.old bindings.now first) space }
+{
+    let mut cookie = first;
+    for endpoint in 0..ports.len() {
+        let place = bindings.place_between(endpoint as u64, space);
+        if let Some(pasid) = pasid_asked(&ports[endpoint].unit, place) {
+            ports[endpoint]
+                .unit
+                .submit_ranges(pasid, page, count, order, cookie);
+            cookie += 1;
+        }
+    }
+    cookie
+}
+
 impl Host {
     // Whether the unit of this endpoint, which is there, gets descriptors where pages of the space are taken out.
     fn submits(&self, endpoint: usize, space: u64) -> bool
@@ -137,5 +189,27 @@ impl Host {
             }
         }
         waits
+    }
+
+    // Each unit that gets descriptors for the space gets them.
+    fn submit(&mut self, space: u64, page: u64, count: u64, order: u8)
+        requires room { have_room self.old space (suc count) ≡ true }
+        requires given { AreGiven self.old }
+        requires cookies { self.old.next_cookie + waits_needed self.old space ≤ 2 ^ 63 }
+        requires small { order ≤ 9 }
+        requires aligned { page % 2 ^ order ≡ 0 }
+        requires low { page + count * 2 ^ order ≤ 2 ^ 36 }
+        ensures { self.new ≡ submitted self.old space page count order }
+    {
+        let first = self.next_cookie;
+        self.next_cookie = submit_all(
+            &mut self.ports,
+            &self.bindings,
+            space,
+            page,
+            count,
+            order,
+            first,
+        );
     }
 }

@@ -1,10 +1,11 @@
 //! Pages that are taken out of a space: what the units are asked, what they get, and what the frames wait for.
 
-ghost use Rattle.std.specs.Prelude.{◌≡◌, if◌then◌else◌, ◌+◌, ◌≤◌, ◌<◌, ◌*◌, ◌%◌, ◌^◌, true, length, option_map, map, suc};
+ghost use Rattle.std.specs.Prelude.{◌≡◌, if◌then◌else◌, ◌+◌, ◌≤◌, ◌<◌, ◌*◌, ◌%◌, ◌^◌, true, length, option_map, map, suc, [], ◌∷◌};
 ghost use Rattle.std.specs.Option.{option_copied};
 ghost use Rattle.sva_model.specs.Words.{count_below, tabulate};
 ghost use Rattle.sva_labels.specs.Finding.{is_before_invalidating, submits_by, submits as asked};
-ghost use Rattle.sva_labels.specs.Causes.{waits_needed};
+ghost use Rattle.sva_labels.specs.Causes.{waits_needed, queue_full, numbers_spent};
+ghost use Rattle.sva_memory.specs.Pieces.{verdict};
 ghost use Rattle.sva_labels.specs.Moves.{target_by_stage, target_by, targets_of};
 ghost use Rattle.sva_model.specs.Wire.TargetWire.{Cookie as CookieTarget, ResetEnd as ResetTarget};
 ghost use Rattle.sva_memory.specs.Seen.{target_seen, targets_seen};
@@ -16,6 +17,7 @@ ghost use Rattle.sva_host.specs.Unmapping.{have_room, submitted, pasid_asked, Ar
 use crate::host::{Host, Port};
 use sva_frames::{Target, Waits};
 use sva_pasid::{Place, Stage, Table};
+use sva_step::{NUMBERS, Refusal};
 use sva_unit::Unit;
 
 // Whether the binding is in use yet, is being stopped or is being drained.
@@ -211,5 +213,19 @@ impl Host {
             order,
             first,
         );
+    }
+
+    // Whether the units have room for so many descriptors each, and cookies are left for their waits.
+    fn may_submit(&self, space: u64, descriptors: u64) -> Result<(), Refusal>
+        requires cookies { self.now.next_cookie ≤ 2 ^ 63 }
+        ensures { result ≡ verdict (queue_full self.now space descriptors ∷ numbers_spent self.now.next_cookie (waits_needed self.now space) ∷ []) }
+    {
+        if !self.have_room(space, descriptors) {
+            return Err(Refusal::QueueFull);
+        }
+        if NUMBERS - self.next_cookie < self.waits_needed(space) {
+            return Err(Refusal::NumbersSpent);
+        }
+        Ok(())
     }
 }

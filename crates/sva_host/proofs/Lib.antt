@@ -11,3 +11,7 @@ pub mod Finishes
 pub mod TakenOut
 pub mod Awaited
 pub mod Submitting
+pub mod Arrivals
+pub mod Openings
+pub mod Binds
+pub mod Bearing

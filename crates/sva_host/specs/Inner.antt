@@ -1,12 +1,18 @@
 -- What the parts of a host are seen as, and what holds of them.
 use Rattle.std.specs.Prelude.{None, [], map, replicate, All}
 use Rattle.sva_model.specs.Wire.{Wire, PartWire}
+use Rattle.sva_endpoint.specs.Tables.{fresh}
 use Rattle.sva_endpoint.specs.Laws.{IsSound}
+use Rattle.sva_unit.specs.Seen.{idle}
 use Rattle.sva_views.specs.Device.{device_seen}
 use Rattle.sva_views.specs.Bindings.{bindings_seen}
 use Rattle.sva_views.specs.Flights.{flights_seen}
 use Rattle.sva_host.specs.declared.host.Port.{Port}
 use Rattle.sva_host.specs.declared.host.Host.TheInside.{Inside}
+
+-- an endpoint that does nothing yet, with a unit of which nothing was asked
+abbrev pub new_port : Port
+new_port = record { device = fresh; unit = idle }
 
 -- no group of page requests is filed yet
 abbrev pub part_seen : Port → PartWire

@@ -1,15 +1,18 @@
 -- What a step does, by labels.
-use Rattle.std.specs.Prelude.{◌≡◌, ℕ, true, false, nat_lt, length, Result, Ok, Err, IsOk}
+use Rattle.std.specs.Prelude.{◌≡◌, ℕ, ◌<◌, true, false, nat_lt, length, Option, Some, None, Result, Ok, Err, IsOk}
 use Rattle.sva_step.specs.declared.refusals.Refusal.{Refusal}
 use Rattle.sva_step.specs.declared.refusals.Refusal.TheVariants as refusal
 use Rattle.sva_step.specs.declared.steps.Step.{Step}
 use Rattle.sva_model.specs.Steps.{Reply}
-use Rattle.sva_model.specs.Wire.{Wire}
-use Rattle.sva_labels.specs.Causes.{lacks}
+use Rattle.sva_model.specs.Message.{Message}
+use Rattle.sva_model.specs.Message.Message.{StartMessage, StopMessage, CompletionMessage, InvalidateMessage, ResponseMessage}
+use Rattle.sva_model.specs.Wire.{Wire, FlightWire}
+use Rattle.sva_labels.specs.Causes.{lacks, causes_of}
 use Rattle.sva_labels.specs.Host.{Decision, decide_of}
 use Rattle.sva_labels.specs.Moves.{all_moved}
 use Rattle.sva_msg.specs.declared.messages.Kind.{Kind}
 use Rattle.sva_msg.specs.Bag.{InFlight, with_sent}
+use Rattle.sva_endpoint.specs.Steps.{unless}
 
 -- what was decided is answered and done; want of memory changes nothing, and comes only where the step would have been
 -- accepted
@@ -20,6 +23,10 @@ Does decision before result after = (result ≡ decision.reply) × (after ≡ al
 -- the step by labels
 abbrev pub ByLabels : Wire → Step → Reply → Wire → Type 0
 ByLabels before s result after = Does (decide_of before s) before result after
+
+-- what refuses a step: the first of its causes that holds, if one does
+abbrev pub MayStep : Wire → Step → Result (Unit {0}) Refusal → Type 0
+MayStep w s result = result ≡ unless (causes_of w s) tt
 
 -- the endpoint of a number stands at it
 abbrev pub PortFor : Wire → (endpoint : ℕ) → Result ℕ Refusal → Type 0
@@ -33,3 +40,17 @@ Sends bag e kind copies (Ok _) after = (lacks bag.next copies ≡ false) × (aft
 Sends bag e kind copies (Err refusal.NumbersSpent) after = (lacks bag.next copies ≡ true) × (after ≡ bag)
 Sends bag e kind copies (Err refusal.OutOfMemory) after = (lacks bag.next copies ≡ false) × (after ≡ bag)
 Sends bag e kind copies _ after = ⊥
+
+-- is it a message of a host to its endpoint, and no reset?
+abbrev pub IsDown : Message → Type 0
+IsDown (StartMessage pasid) = Unit {0}
+IsDown (StopMessage pasid) = Unit {0}
+IsDown (CompletionMessage tag frame read write) = Unit {0}
+IsDown (InvalidateMessage itag pasid scope) = Unit {0}
+IsDown (ResponseMessage pasid index code) = Unit {0}
+IsDown _ = ⊥
+
+-- what is in flight under a number, if anything is, goes to an endpoint that is there
+abbrev pub GoesDown : Wire → Option FlightWire → Type 0
+GoesDown w None = Unit {0}
+GoesDown w (Some f) = (f.endpoint < length w.parts) × IsDown f.message

@@ -1,6 +1,8 @@
 //! A host with its endpoints and the link between them, put together of its parts. Each step is the step by labels.
 #![tactic(auto)]
 
+mod bindings;
+mod deliveries;
 mod endpoints;
 mod host;
 mod sending;
@@ -8,3 +10,6 @@ mod spaces;
 mod unmapping;
 
 pub use host::Host;
+
+#[cfg(test)]
+mod tests;

@@ -1,9 +1,11 @@
 //! The steps of spaces and frames.
 
 ghost use Rattle.sva_step.specs.declared.steps.Step.TheVariants as step;
+ghost use Rattle.sva_memory.specs.Steps.{Counted};
 ghost use Rattle.sva_host.specs.Steps.{ByLabels};
 
 use crate::host::Host;
+use sva_frames::Counts;
 use sva_step::{Answer, Refusal};
 
 impl Host {
@@ -40,5 +42,12 @@ impl Host {
         ensures { ByLabels self.now (step.Look frame) result self.now }
     {
         self.memory.look(frame)
+    }
+
+    /// How many frames are at each place.
+    pub fn counts(&self) -> Counts
+        ensures { Counted self.now.places result }
+    {
+        self.memory.counts()
     }
 }

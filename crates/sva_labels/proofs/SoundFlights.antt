@@ -81,8 +81,7 @@ suits w e c i ca most l (InvalidatedOf names) h = let x = ca.invalidated c names
 suits w e c i ca most l (PageRequestOf r) h =
     subst (Suits (wire w) e) (sym (ca.page_request c r h))
     (λ op.
-    let ph = open_here w e l op in
-    (
+    let ph = open_here w e l op in (
       subst (λ p. length p.page_queue < 32) (sym (part_seen w e l)) (arrival_short w.mappings w.config.endpoints w.bindings w.messages e (w.part e) c r (i.parts e) most ph h),
       borne w e ((w.part e).asker ((w.part e).group_of r)) i (unmarked_unreleased ((w.part e).stage ((w.part e).asker ((w.part e).group_of r))) ((i.parts e).groups.flight_stage c r ph h)),
     ))

@@ -87,7 +87,7 @@ others_out p r x = is_out p x && not (x == r)
 fewer : (p : Part) (r : ℕ) → r < p.page_requests → is_out p r ≡ true → outstanding p ≤ 32 → count_below p.page_requests (others_out p r) < 32
 fewer p r l out most =
     let off : outstanding p ≡ suc (count_below p.page_requests (others_out p r)) =
-      count_off p.page_requests (is_out p) (others_out p r) r l out (itself (is_out p r) (r == r) (is_same r r refl)) (λ d ne. other (is_out p d) (d == r) (is_other d r ne)) in
+    count_off p.page_requests (is_out p) (others_out p r) r l out (itself (is_out p r) (r == r) (is_same r r refl)) (λ d ne. other (is_out p d) (d == r) (is_other d r ne)) in
     omega (arith, off, most)
   where
     itself : (a b : Bool) → b ≡ true → (a && not b) ≡ false

@@ -233,10 +233,10 @@ room_for_waits w s n room e c h new = by_table (low_or_not e)
     invalidating b own l f st false true nd op k =
         let is = found_at e n w.bindings b f in
         let wait : HasWait (unit_of w e) own =
-          subst (λ x. HasWait (unit_of w x) own) is.endpoint
-          (s.invalidating_queued is.place own b is.stands st
-          (ap (λ x. (unit_of w x).is_open) is.endpoint ∙ op)
-          (ap (λ x. is_wait_done (unit_of w x) own) is.endpoint ∙ nd)) in
+        subst (λ x. HasWait (unit_of w x) own) is.endpoint
+        (s.invalidating_queued is.place own b is.stands st
+        (ap (λ x. (unit_of w x).is_open) is.endpoint ∙ op)
+        (ap (λ x. is_wait_done (unit_of w x) own) is.endpoint ∙ nd)) in
         few_by_wait w s e c l op (subst (λ x. HasWait (unit_of w e) x) (same_cookie own c k) wait) new
 
     by_stage :

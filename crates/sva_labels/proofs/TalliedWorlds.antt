@@ -206,14 +206,14 @@ own_slots ms g n e p o false z l la =
     omega (arith, same, none)
 own_slots ms g n e p (Own.Begin r m t) true z l la =
     let one =
-      count_off 16 (λ x. is_some (put p.at_slot t (Some p.uses) x)) (λ x. is_some (p.at_slot x)) t l.3 (ap is_some (put-same p.at_slot t (Some p.uses))) (ap is_some l.2)
-      (λ d ne. ap is_some (put-other p.at_slot t (Some p.uses) d ne))
+    count_off 16 (λ x. is_some (put p.at_slot t (Some p.uses) x)) (λ x. is_some (p.at_slot x)) t l.3 (ap is_some (put-same p.at_slot t (Some p.uses))) (ap is_some l.2)
+    (λ d ne. ap is_some (put-other p.at_slot t (Some p.uses) d ne))
     in
     omega (arith, one)
 own_slots ms g n e p (Own.End u) true z l la =
     let one =
-      count_off 16 (λ x. is_some (p.at_slot x)) (λ x. is_some (put p.at_slot (p.use_slot u) None x)) (p.use_slot u) (la.slot_low (p.use_slot u) u l) (ap is_some l)
-      (ap is_some (put-same p.at_slot (p.use_slot u) None)) (λ d ne. ap is_some (sym (put-other p.at_slot (p.use_slot u) None d ne)))
+    count_off 16 (λ x. is_some (p.at_slot x)) (λ x. is_some (put p.at_slot (p.use_slot u) None x)) (p.use_slot u) (la.slot_low (p.use_slot u) u l) (ap is_some l)
+    (ap is_some (put-same p.at_slot (p.use_slot u) None)) (λ d ne. ap is_some (sym (put-other p.at_slot (p.use_slot u) None d ne)))
     in
     omega (arith, one)
 own_slots ms g n e p o true z l la = absurd (grind arith)

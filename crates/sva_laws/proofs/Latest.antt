@@ -67,7 +67,7 @@ finds w i h =
     record {
       at = λ s q m. (
         (λ e. let x = i.mapped.at_present s q m e in (x.0, x.1, x.2)),
-        (λ x. sym (ap (λ z. w.mappings.at z q) x.1 ) ∙ ap (λ z. w.mappings.at (w.mappings.space m) z) (sym x.2) ∙ i.mapped.present_at m x.0),
+        (λ x. sym (ap (λ z. w.mappings.at z q) x.1) ∙ ap (λ z. w.mappings.at (w.mappings.space m) z) (sym x.2) ∙ i.mapped.present_at m x.0),
       );
       latest = λ f m. (
         (λ e. let x = i.mapped.named f m e in (x.1, x.0, λ k lt g. last f m k e g (h k lt))),

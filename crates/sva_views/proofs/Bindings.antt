@@ -1,17 +1,14 @@
 -- The table of bindings, seen.
-use Rattle.std.proofs.Common.{◌≡◌, ◌⊎◌, inl, inr, refl, ap, sym, ◌∙◌, ℕ, zero, suc, ◌+◌, ◌<◌, Bool, true, false, arith}
+use Rattle.std.proofs.Common.{◌≡◌, refl, ap, sym, ◌∙◌, ℕ, zero, suc, ◌+◌, Bool, true, false, arith}
 use Rattle.std.proofs.Math.Path.{fun_ext}
-use Rattle.std.specs.Prelude.{cond, nat_lt, ◌==◌, ◌&&◌, ◌||◌, not, if◌then◌else◌, Option, Some, None, option_map, List, [], ◌∷◌, ◌++◌, map, filter, find}
+use Rattle.std.specs.Prelude.{cond, nat_lt, ◌==◌, ◌&&◌, ◌||◌, not, if◌then◌else◌, Option, Some, None, option_map, List, [], ◌∷◌, map, filter, find}
 use Rattle.std.specs.List.{count_by, list_any, range_with_len}
 use Rattle.std.specs.Option.{option_or}
 use Rattle.std.proofs.lemmas.List.{map-append}
-use Rattle.std.proofs.lemmas.List.Sums.{sum_by-cons}
 use Rattle.std.proofs.lemmas.Bool.Decides.{nat_tests}
 use Rattle.sva_model.specs.Words as words
 use Rattle.sva_model.specs.Words.{lowest, step_lowest, if_found}
-use Rattle.sva_model.specs.Labels as labels
-use Rattle.sva_model.specs.Wire.{Wire, BindingWire, StageWire}
-use Rattle.sva_model.specs.Wire.StageWire.{QuietWire}
+use Rattle.sva_model.specs.Wire.{Wire, BindingWire}
 use Rattle.sva_labels.specs.Finding as finding
 use Rattle.sva_labels.specs.Moves as moves
 use Rattle.sva_pasid.specs.declared.places.Place.{Place}
@@ -20,11 +17,13 @@ use Rattle.sva_pasid.specs.declared.stages.Stage.{Stage}
 use Rattle.sva_pasid.specs.declared.stages.Stage.TheVariants.{Live, Stopping, Draining, Invalidating, Quiet, Lost}
 use Rattle.sva_pasid.specs.Stages.{reset_of}
 use Rattle.sva_pasid.specs.Places as places
-use Rattle.sva_views.specs.Bindings.{stage_seen, stage_or_quiet, binding_seen, bindings_seen, bearer_seen, AreLookedUp, AreChanged, BindingsAreSeen}
+use Rattle.sva_views.proofs.Tables.{count_first}
+use Rattle.sva_views.specs.Bindings.{stage_seen, stage_or_quiet, binding_seen, bindings_seen, AreLookedUp, AreChanged, BindingsAreSeen}
 
 -- A search, a test and a count among things that are seen.
 
-pub seen_found : {A B : Type 0} (see : A → B) (p : A → Bool) (q : B → Bool) → ((a : A) → q (see a) ≡ p a) → (xs : List A) → find q (map see xs) ≡ option_map see (find p xs)
+pub seen_found : {A B : Type 0} (see : A → B) (p : A → Bool) (q : B → Bool) → ((a : A) → q (see a) ≡ p a) → (xs : List A)
+    → find q (map see xs) ≡ option_map see (find p xs)
 seen_found see p q h [] = refl
 seen_found see p q h (x ∷ xs) = go (q (see x)) (p x) (h x) (seen_found see p q h xs)
   where
@@ -34,19 +33,19 @@ seen_found see p q h (x ∷ xs) = go (q (see x)) (p x) (h x) (seen_found see p q
     go true false k rest = absurd (cc (k))
     go false true k rest = absurd (cc (k))
 
-pub seen_some : {A B : Type 0} (see : A → B) (p : A → Bool) (q : B → Bool) → ((a : A) → q (see a) ≡ p a) → (xs : List A) → list_any q (map see xs) ≡ list_any p xs
+pub seen_some : {A B : Type 0} (see : A → B) (p : A → Bool) (q : B → Bool) → ((a : A) → q (see a) ≡ p a) → (xs : List A)
+    → list_any q (map see xs) ≡ list_any p xs
 seen_some see p q h [] = refl
 seen_some see p q h (x ∷ xs) = λ i. h x i || seen_some see p q h xs i
 
-count_cons : {A : Type 0} (p : A → Bool) (x : A) (xs : List A) → count_by p (x ∷ xs) ≡ (if p x then 1 else 0) + count_by p xs
-count_cons p x xs = sum_by-cons (λ y. cond (p y) 1 0) x xs
-
-pub seen_counted : {A B : Type 0} (see : A → B) (p : A → Bool) (q : B → Bool) → ((a : A) → q (see a) ≡ p a) → (xs : List A) → count_by q (map see xs) ≡ count_by p xs
+pub seen_counted : {A B : Type 0} (see : A → B) (p : A → Bool) (q : B → Bool) → ((a : A) → q (see a) ≡ p a) → (xs : List A)
+    → count_by q (map see xs) ≡ count_by p xs
 seen_counted see p q h [] = refl
 seen_counted see p q h (x ∷ xs) =
-    count_cons q (see x) (map see xs) ∙ (λ i. (if h x i then 1 else 0) + seen_counted see p q h xs i) ∙ sym (count_cons p x xs)
+    count_first q (see x) (map see xs) ∙ (λ i. (if h x i then 1 else 0) + seen_counted see p q h xs i) ∙ sym (count_first p x xs)
 
-pub seen_left : {A B : Type 0} (see : A → B) (p : A → Bool) (q : B → Bool) → ((a : A) → q (see a) ≡ p a) → (xs : List A) → map see (filter p xs) ≡ filter q (map see xs)
+pub seen_left : {A B : Type 0} (see : A → B) (p : A → Bool) (q : B → Bool) → ((a : A) → q (see a) ≡ p a) → (xs : List A)
+    → map see (filter p xs) ≡ filter q (map see xs)
 seen_left see p q h [] = refl
 seen_left see p q h (x ∷ xs) = go (q (see x)) (p x) (h x) (seen_left see p q h xs)
   where
@@ -147,13 +146,15 @@ row_found (suc n) first p =
 
 -- What is looked up.
 
-at_bindings : (table : List Place) (w : Wire) → w.bindings ≡ bindings_seen table → (q : BindingWire → Bool) (p : Place → Bool) → ((a : Place) → q (binding_seen a) ≡ p a) → option_map binding_seen (find p table) ≡ find q w.bindings
+at_bindings : (table : List Place) (w : Wire) → w.bindings ≡ bindings_seen table → (q : BindingWire → Bool) (p : Place → Bool)
+    → ((a : Place) → q (binding_seen a) ≡ p a) → option_map binding_seen (find p table) ≡ find q w.bindings
 at_bindings table w h q p same = sym (seen_found binding_seen p q same table) ∙ ap (find q) (sym h)
 
 borne_seen : (table : List Place) (w : Wire) → w.bindings ≡ bindings_seen table → (t : ℕ) → places.is_borne t table ≡ finding.is_borne w t
 borne_seen table w h t = sym (seen_some binding_seen (places.bears t) (λ b. b.pasid == t) (λ a. refl) table) ∙ ap (list_any (λ b. b.pasid == t)) (sym h)
 
-lowest_by : (table : List Place) (w : Wire) → w.bindings ≡ bindings_seen table → (o : Option Place) → option_or (option_map (λ (place : Place). place.pasid) o) (places.lowest_free table) ≡ finding.pasid_by w (option_map binding_seen o)
+lowest_by : (table : List Place) (w : Wire) → w.bindings ≡ bindings_seen table → (o : Option Place)
+    → option_or (option_map (λ (place : Place). place.pasid) o) (places.lowest_free table) ≡ finding.pasid_by w (option_map binding_seen o)
 unfolding places.lowest_free
 lowest_by table w h None =
     row_found 32 1 (λ t. not (places.is_borne t table))
@@ -195,11 +196,13 @@ looked_up table w h =
 
 -- What is changed.
 
-each_seen : (f : Place → Place) (g : BindingWire → BindingWire) → ((a : Place) → binding_seen (f a) ≡ g (binding_seen a)) → (table : List Place) → bindings_seen (map f table) ≡ map g (bindings_seen table)
+each_seen : (f : Place → Place) (g : BindingWire → BindingWire) → ((a : Place) → binding_seen (f a) ≡ g (binding_seen a)) → (table : List Place)
+    → bindings_seen (map f table) ≡ map g (bindings_seen table)
 each_seen f g h [] = refl
 each_seen f g h (a ∷ table) = λ i. h a i ∷ each_seen f g h table i
 
-staged_at : (stage : Stage) (a : Place) (here : Bool) → binding_seen (if here then record a { stage = Some stage } else a) ≡ (if here then record (binding_seen a) { stage = stage_seen stage } else binding_seen a)
+staged_at : (stage : Stage) (a : Place) (here : Bool)
+    → binding_seen (if here then record a { stage = Some stage } else a) ≡ (if here then record (binding_seen a) { stage = stage_seen stage } else binding_seen a)
 staged_at stage a true = refl
 staged_at stage a false = refl
 
@@ -212,7 +215,8 @@ reset_stage (Some (Invalidating w)) = refl
 reset_stage (Some (Quiet n)) = refl
 reset_stage (Some (Lost n)) = refl
 
-reset_at : (a : Place) (here : Bool) → binding_seen (if here then record a { stage = option_map reset_of a.stage } else a) ≡ (if here then record (binding_seen a) { stage = moves.cut_off (binding_seen a).stage } else binding_seen a)
+reset_at : (a : Place) (here : Bool)
+    → binding_seen (if here then record a { stage = option_map reset_of a.stage } else a) ≡ (if here then record (binding_seen a) { stage = moves.cut_off (binding_seen a).stage } else binding_seen a)
 reset_at a true = ap (λ x. record (binding_seen a) { stage = x }) (reset_stage a.stage)
 reset_at a false = refl
 

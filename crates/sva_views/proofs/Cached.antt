@@ -1,6 +1,6 @@
 -- Cached translations, seen: a search by PASID and page, and what a change leaves of them.
-use Rattle.std.proofs.Common.{◌≡◌, ◌⊎◌, inl, inr, refl, ap, sym, subst, ◌∙◌, ℕ, zero, suc, ◌+◌, ◌<◌, ◌≤◌, Bool, true, false, arith}
-use Rattle.std.specs.Prelude.{T, cond, ◌&&◌, ◌||◌, not, ◌==◌, nat_lt, nat_le, if◌then◌else◌, is_some, is_none, Option, Some, None, option_map, List, [], ◌∷◌, map, filter, length}
+use Rattle.std.proofs.Common.{◌≡◌, refl, ap, sym, subst, ◌∙◌, ℕ, suc, ◌+◌, ◌<◌, ◌≤◌, Bool, true, false, arith}
+use Rattle.std.specs.Prelude.{T, cond, ◌&&◌, ◌||◌, not, ◌==◌, nat_lt, nat_le, if◌then◌else◌, is_some, Option, Some, None, List, [], ◌∷◌, map, filter, length}
 use Rattle.std.specs.List.{count_by, find as find_by}
 use Rattle.std.specs.declared.cmp.Ordering.{Ordering}
 use Rattle.std.specs.declared.cmp.Ordering.TheVariants.{Less, Equal, Greater}
@@ -10,7 +10,6 @@ use Rattle.std.specs.Ordering.{MatchOrdering}
 use Rattle.std.specs.FinMap as finite
 use Rattle.std.specs.FinMap.{find, put, is_sorted, entries_sorted, entries-from_sorted, entries-insert}
 use Rattle.std.specs.FinMap.Entries.{where_key, below_all, by_order}
-use Rattle.std.proofs.lemmas.List.Sums.{sum_by-cons}
 use Rattle.std.proofs.lemmas.Bool.Decides.{nat_tests}
 use Rattle.sva_model.specs.Wire.{TranslationWire, insert_by, is_before}
 use Rattle.sva_labels.specs.Finding.{is_at_page}
@@ -21,6 +20,7 @@ use Rattle.sva_cache.specs.Cache.{Key, Translations, key_cmp, key_cmp_total, has
 use Rattle.sva_cache.proofs.Edits as edits
 use Rattle.sva_cache.proofs.Edits.{key_cmp-IsAntisymmetric}
 use Rattle.sva_cache.proofs.Facts.{of_entries}
+use Rattle.sva_views.proofs.Tables.{count_first}
 use Rattle.sva_views.specs.Device.{translation_seen, cache_seen}
 
 abbrev Entry : Type 0
@@ -39,7 +39,8 @@ tells_pages t q r Less h = (grind (arith, nat_tests), grind (arith, nat_tests))
 tells_pages t q r Equal h = (grind (arith, nat_tests), grind (arith, nat_tests))
 tells_pages t q r Greater h = (grind (arith, nat_tests), grind (arith, nat_tests))
 
-tells_by : (t q u r : ℕ) (a b : Ordering) → MatchOrdering a (t < u) (t ≡ u) (u < t) → MatchOrdering b (q < r) (q ≡ r) (r < q) → Tells t q u r (ordering_then a b)
+tells_by : (t q u r : ℕ) (a b : Ordering) → MatchOrdering a (t < u) (t ≡ u) (u < t) → MatchOrdering b (q < r) (q ≡ r) (r < q)
+    → Tells t q u r (ordering_then a b)
 tells_by t q u r Less b h k = (grind (arith, nat_tests), grind (arith, nat_tests))
 tells_by t q u r Equal b h k = subst (λ z. Tells t q z r b) h (tells_pages t q r b k)
 tells_by t q u r Greater b h k = (grind (arith, nat_tests), grind (arith, nat_tests))
@@ -81,7 +82,8 @@ found_is_seen cache t q = found_in t q (finite.entries cache) ∙ ap (found_seen
 
 -- A translation goes, and those that a test of keys doesn't pass.
 
-kept_where : (p : Key → Bool) (r : TranslationWire → Bool) → ((e : Entry) → r (translation_seen e) ≡ p e.0) → (es : List Entry) → filter r (seen es) ≡ seen (where_key key_cmp p es)
+kept_where : (p : Key → Bool) (r : TranslationWire → Bool) → ((e : Entry) → r (translation_seen e) ≡ p e.0) → (es : List Entry)
+    → filter r (seen es) ≡ seen (where_key key_cmp p es)
 kept_where p r h [] = refl
 kept_where p r h (e ∷ es) = go (r (translation_seen e)) (p e.0) (h e) (kept_where p r h es)
   where
@@ -91,7 +93,8 @@ kept_where p r h (e ∷ es) = go (r (translation_seen e)) (p e.0) (h e) (kept_wh
     go true false k rest = absurd (cc (k))
     go false true k rest = absurd (cc (k))
 
-pub retained_is_seen : (cache : Translations) (p : Key → Bool) (r : TranslationWire → Bool) → ((e : Entry) → r (translation_seen e) ≡ p e.0) → cache_seen (finite.retain_keys cache p) ≡ filter r (cache_seen cache)
+pub retained_is_seen : (cache : Translations) (p : Key → Bool) (r : TranslationWire → Bool) → ((e : Entry) → r (translation_seen e) ≡ p e.0)
+    → cache_seen (finite.retain_keys cache p) ≡ filter r (cache_seen cache)
 retained_is_seen cache p r h =
     let new = where_key key_cmp p (finite.entries cache) in
     let left = edits.kept (finite.entries cache) cache (entries_sorted cache) (of_entries cache) new p refl in
@@ -135,7 +138,8 @@ none_there t q (e ∷ es) h =
     ap (λ (b : Bool). cond (not b) (translation_seen e ∷ filter (elsewhere t q) (seen es)) (filter (elsewhere t q) (seen es))) here
     ∙ ap (λ l. translation_seen e ∷ l) (none_there t q es both.1)
 
-first_of : (t q : ℕ) (v : Translation) (es : List Entry) → T (below_all key_cmp (t, q) es) → insert_by is_before (translation_seen ((t, q), v)) (seen es) ≡ translation_seen ((t, q), v) ∷ seen es
+first_of : (t q : ℕ) (v : Translation) (es : List Entry) → T (below_all key_cmp (t, q) es)
+    → insert_by is_before (translation_seen ((t, q), v)) (seen es) ≡ translation_seen ((t, q), v) ∷ seen es
 first_of t q v [] h = refl
 first_of t q v (e ∷ es) h =
     let both = less_both (is_lt (key_cmp (t, q) e.0)) (below_all key_cmp (t, q) es) h in
@@ -151,7 +155,8 @@ abbrev PutFirst : (t q : ℕ) → Translation → Entry → List Entry → Order
 PutFirst t q v e es o =
     seen (by_order o (((t, q), v) ∷ e ∷ es) ((e.0, v) ∷ es) (e ∷ put key_cmp (t, q) v es)) ≡ kept (translation_seen ((t, q), v)) (translation_seen e ∷ seen es)
 
-put_first : (t q : ℕ) (v : Translation) (e : Entry) (es : List Entry) → T (below_all key_cmp e.0 es) → (o : Ordering) → key_cmp (t, q) e.0 ≡ o → seen (put key_cmp (t, q) v es) ≡ kept (translation_seen ((t, q), v)) (seen es) → PutFirst t q v e es o
+put_first : (t q : ℕ) (v : Translation) (e : Entry) (es : List Entry) → T (below_all key_cmp e.0 es) → (o : Ordering) → key_cmp (t, q) e.0 ≡ o
+    → seen (put key_cmp (t, q) v es) ≡ kept (translation_seen ((t, q), v)) (seen es) → PutFirst t q v e es o
 put_first t q v e es above Less h rest =
     let below : T (below_all key_cmp (t, q) (e ∷ es)) = subst (λ o. T (is_lt o && below_all key_cmp (t, q) es)) (sym h) (all_above (t, q) e.0 h es above) in
     sym (ap (insert_by is_before (translation_seen ((t, q), v))) (none_there t q (e ∷ es) below) ∙ first_of t q v (e ∷ es) below)
@@ -173,13 +178,15 @@ put_first t q v e es above Greater h rest =
     ∙ ap (λ (b : Bool). cond b (translation_seen e ∷ kept x (seen es)) (x ∷ translation_seen e ∷ filter (elsewhere t q) (seen es))) later
     ∙ ap (λ l. translation_seen e ∷ l) (sym rest))
 
-put_seen : (t q : ℕ) (v : Translation) (es : List Entry) → T (is_sorted key_cmp es) → seen (put key_cmp (t, q) v es) ≡ kept (translation_seen ((t, q), v)) (seen es)
+put_seen : (t q : ℕ) (v : Translation) (es : List Entry) → T (is_sorted key_cmp es)
+    → seen (put key_cmp (t, q) v es) ≡ kept (translation_seen ((t, q), v)) (seen es)
 put_seen t q v [] sorted = refl
 put_seen t q v (e ∷ es) sorted =
     let both = and_both (below_all key_cmp e.0 es) (is_sorted key_cmp es) sorted in
     put_first t q v e es both.0 (key_cmp (t, q) e.0) refl (put_seen t q v es both.1)
 
-pub inserted_is_seen : (cache : Translations) (t q : ℕ) (v : Translation) → cache_seen (finite.insert cache (t, q) v) ≡ kept (translation_seen ((t, q), v)) (cache_seen cache)
+pub inserted_is_seen : (cache : Translations) (t q : ℕ) (v : Translation)
+    → cache_seen (finite.insert cache (t, q) v) ≡ kept (translation_seen ((t, q), v)) (cache_seen cache)
 inserted_is_seen cache t q v = ap seen (entries-insert key_cmp_total cache (t, q) v) ∙ put_seen t q v (finite.entries cache) (entries_sorted cache)
 
 -- Is there a place for a page's translation?
@@ -187,9 +194,6 @@ inserted_is_seen cache t q v = ap seen (entries-insert key_cmp_total cache (t, q
 abbrev one_if : Bool → ℕ
 one_if true = 1
 one_if false = 0
-
-count_first : {A : Type 0} (p : A → Bool) (x : A) (xs : List A) → count_by p (x ∷ xs) ≡ (if p x then 1 else 0) + count_by p xs
-count_first p x xs = sum_by-cons (λ y. cond (p y) 1 0) x xs
 
 all_others : (t q : ℕ) (es : List Entry) → T (below_all key_cmp (t, q) es) → count_by (is_other t q) (seen es) ≡ length es
 all_others t q [] h = refl
@@ -209,14 +213,16 @@ abbrev Counted : (t q : ℕ) → Entry → List Entry → Ordering → Type 0
 Counted t q e es o =
     (if not (is_eq o) then 1 else 0) + count_by (is_other t q) (seen es) + one_if (is_some (cond (is_eq o) (Some e.1) (find key_cmp (t, q) es))) ≡ length (e ∷ es)
 
-counted_at : (t q : ℕ) (e : Entry) (es : List Entry) (o : Ordering) → key_cmp (t, q) e.0 ≡ o → Counted t q e es o → count_by (is_other t q) (seen (e ∷ es)) + one_if (is_some (find key_cmp (t, q) (e ∷ es))) ≡ length (e ∷ es)
+counted_at : (t q : ℕ) (e : Entry) (es : List Entry) (o : Ordering) → key_cmp (t, q) e.0 ≡ o → Counted t q e es o
+    → count_by (is_other t q) (seen (e ∷ es)) + one_if (is_some (find key_cmp (t, q) (e ∷ es))) ≡ length (e ∷ es)
 counted_at t q e es o h k =
     ap (λ n. n + one_if (is_some (find key_cmp (t, q) (e ∷ es)))) (count_first (is_other t q) (translation_seen e) (seen es))
     ∙ ap (λ (b : Bool). (if not b then 1 else 0) + count_by (is_other t q) (seen es) + one_if (is_some (find key_cmp (t, q) (e ∷ es)))) (at_page t q e ∙ ap is_eq h)
     ∙ ap (λ r. (if not (is_eq o) then 1 else 0) + count_by (is_other t q) (seen es) + one_if (is_some (cond (is_eq r) (Some e.1) (find key_cmp (t, q) es)))) h
     ∙ k
 
-others_by : (t q : ℕ) (e : Entry) (es : List Entry) (o : Ordering) → key_cmp (t, q) e.0 ≡ o → T (below_all key_cmp e.0 es) → count_by (is_other t q) (seen es) + one_if (is_some (find key_cmp (t, q) es)) ≡ length es → Counted t q e es o
+others_by : (t q : ℕ) (e : Entry) (es : List Entry) (o : Ordering) → key_cmp (t, q) e.0 ≡ o → T (below_all key_cmp e.0 es)
+    → count_by (is_other t q) (seen es) + one_if (is_some (find key_cmp (t, q) es)) ≡ length es → Counted t q e es o
 others_by t q e es Less h above rest = omega (arith, rest)
 others_by t q e es Equal h above rest =
     let same : (t, q) ≡ e.0 = key_cmp-IsAntisymmetric (t, q) e.0 h in

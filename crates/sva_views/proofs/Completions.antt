@@ -1,5 +1,5 @@
 -- Completions of invalidations, seen: by the bits of an ITag Vector.
-use Rattle.std.proofs.Common.{◌≡◌, ◌⊎◌, inl, inr, refl, ap, sym, ◌∙◌, ℕ, zero, suc, ◌+◌, ◌<◌, ◌^◌, Bool, true, false, arith}
+use Rattle.std.proofs.Common.{◌≡◌, refl, ap, sym, ◌∙◌, ℕ, zero, suc, ◌+◌, ◌<◌, ◌^◌, Bool, true, false, arith}
 use Rattle.std.specs.Prelude.{◌&&◌, ◌||◌, not, ◌==◌, nat_lt, nat_le, if◌then◌else◌, is_some, is_none, Option, Some, None, option_map, List, [], ◌∷◌, ◌++◌, map, length, slice_index_or}
 use Rattle.std.specs.Int.{bit_at}
 use Rattle.std.specs.List.{list_any, list_all, enumerate_from}
@@ -8,7 +8,6 @@ use Rattle.std.proofs.lemmas.Nat.Bits.{bit_at-zero, bit_at-lt, same_from_bits_be
 use Rattle.sva_step.specs.declared.refusals.Refusal.TheVariants as refusal
 use Rattle.sva_model.specs.Words.{any_below, tabulate}
 use Rattle.sva_model.specs.Labels.{is_set, names_none}
-use Rattle.sva_model.specs.Wire.{TakenWire}
 use Rattle.sva_labels.specs.Finding.{taken_at, waits_for_use}
 use Rattle.sva_labels.specs.Moves as moves
 use Rattle.sva_itags.specs.Vector.{is_named}
@@ -20,7 +19,7 @@ use Rattle.sva_laws.proofs.Words.{any_below-false}
 use Rattle.sva_wire.proofs.Lists.{tabulate_same}
 use Rattle.sva_views.specs.Device.{taken_seen, device_seen}
 use Rattle.sva_views.specs.DeviceLaws.{FinishIsSeen}
-use Rattle.sva_views.proofs.Tables.{seen_at}
+use Rattle.sva_views.proofs.Tables.{seen_at, map_twice}
 
 -- Searches and tables from their first number on.
 
@@ -51,7 +50,8 @@ tabulate_front (suc n) f = ap (λ xs. xs ++ f (suc n) ∷ []) (tabulate_front n 
 shifted : (n k : ℕ) → n + 1 + k ≡ n + suc k
 shifted n k = omega arith
 
-any_numbered : {A : Type 0} (p : ℕ → Option A → Bool) (n : ℕ) (xs : List (Option A)) → list_any (λ place. p place.0 place.1) (enumerate_from n xs) ≡ any_below (length xs) (λ k. p (n + k) (slice_index_or xs k None))
+any_numbered : {A : Type 0} (p : ℕ → Option A → Bool) (n : ℕ) (xs : List (Option A))
+    → list_any (λ place. p place.0 place.1) (enumerate_from n xs) ≡ any_below (length xs) (λ k. p (n + k) (slice_index_or xs k None))
 unfolding any_below
 any_numbered p n [] = refl
 any_numbered p n (x ∷ xs) =
@@ -60,7 +60,8 @@ any_numbered p n (x ∷ xs) =
     ∙ ap (λ (b : Bool). p (n + 0) x || b) (any_same (length xs) (λ k. p (n + 1 + k) (slice_index_or xs k None)) (λ k. p (n + suc k) (slice_index_or xs k None)) (λ k. ap (λ m. p m (slice_index_or xs k None)) (shifted n k)))
     ∙ sym (any_front (length xs) (λ k. p (n + k) (slice_index_or (x ∷ xs) k None)))
 
-map_numbered : {A B : Type 0} (f : ℕ → Option A → B) (n : ℕ) (xs : List (Option A)) → map (λ place. f place.0 place.1) (enumerate_from n xs) ≡ tabulate (length xs) (λ k. f (n + k) (slice_index_or xs k None))
+map_numbered : {A B : Type 0} (f : ℕ → Option A → B) (n : ℕ) (xs : List (Option A))
+    → map (λ place. f place.0 place.1) (enumerate_from n xs) ≡ tabulate (length xs) (λ k. f (n + k) (slice_index_or xs k None))
 unfolding tabulate
 map_numbered f n [] = refl
 map_numbered f n (x ∷ xs) =
@@ -72,12 +73,14 @@ map_numbered f n (x ∷ xs) =
 none_before : (k : ℕ) → 0 + k ≡ k
 none_before k = omega arith
 
-any_at : {A : Type 0} (p : ℕ → Option A → Bool) (xs : List (Option A)) → list_any (λ place. p place.0 place.1) (enumerate_from 0 xs) ≡ any_below (length xs) (λ k. p k (slice_index_or xs k None))
+any_at : {A : Type 0} (p : ℕ → Option A → Bool) (xs : List (Option A))
+    → list_any (λ place. p place.0 place.1) (enumerate_from 0 xs) ≡ any_below (length xs) (λ k. p k (slice_index_or xs k None))
 any_at p xs =
     any_numbered p 0 xs
     ∙ any_same (length xs) (λ k. p (0 + k) (slice_index_or xs k None)) (λ k. p k (slice_index_or xs k None)) (λ k. ap (λ m. p m (slice_index_or xs k None)) (none_before k))
 
-map_at : {A B : Type 0} (f : ℕ → Option A → B) (xs : List (Option A)) → map (λ place. f place.0 place.1) (enumerate_from 0 xs) ≡ tabulate (length xs) (λ k. f k (slice_index_or xs k None))
+map_at : {A B : Type 0} (f : ℕ → Option A → B) (xs : List (Option A))
+    → map (λ place. f place.0 place.1) (enumerate_from 0 xs) ≡ tabulate (length xs) (λ k. f k (slice_index_or xs k None))
 map_at f xs =
     map_numbered f 0 xs
     ∙ tabulate_same (length xs) (λ k. f (0 + k) (slice_index_or xs k None)) (λ k. f k (slice_index_or xs k None)) (λ k l. ap (λ m. f m (slice_index_or xs k None)) (none_before k))
@@ -145,7 +148,8 @@ pending_seen s v h =
     ∙ any_same 32 (λ t. is_named v t && is_none (slice_index_or s.taken t None)) (λ t. is_set v t && is_none (taken_at (device_seen s) t))
     (λ t. ap (λ (b : Bool). is_set v t && b) (none_taken_seen (slice_index_or s.taken t None) ∙ ap is_none (sym (at_itag s t))))
 
-waiting_seen : (s : Tables) (v : ℕ) → length s.taken ≡ 32 → is_one_waiting v s.taken ≡ any_below 32 (λ t. is_set v t && waits_for_use (taken_at (device_seen s) t))
+waiting_seen : (s : Tables) (v : ℕ) → length s.taken ≡ 32
+    → is_one_waiting v s.taken ≡ any_below 32 (λ t. is_set v t && waits_for_use (taken_at (device_seen s) t))
 waiting_seen s v h =
     any_at (λ t o. is_named v t && waits o) s.taken
     ∙ ap (λ n. any_below n (λ t. is_named v t && waits (slice_index_or s.taken t None))) h
@@ -159,13 +163,9 @@ unnamed_seen : (b : Bool) (o : Option Taken) → option_map taken_seen (if b the
 unnamed_seen true o = refl
 unnamed_seen false o = refl
 
-map_map : {A B C : Type 0} (f : A → B) (g : B → C) (xs : List A) → map g (map f xs) ≡ map (λ a. g (f a)) xs
-map_map f g [] = refl
-map_map f g (x ∷ xs) = ap (λ l. g (f x) ∷ l) (map_map f g xs)
-
 left_seen : (s : Tables) (v : ℕ) → length s.taken ≡ 32 → map (option_map taken_seen) (without_named v s.taken) ≡ moves.without_named v (device_seen s).taken
 left_seen s v h =
-    map_map (λ place. if is_named v place.0 then None else place.1) (option_map taken_seen) (enumerate_from 0 s.taken)
+    map_twice (λ place. if is_named v place.0 then None else place.1) (option_map taken_seen) (enumerate_from 0 s.taken)
     ∙ map_at (λ t o. option_map taken_seen (if is_named v t then None else o)) s.taken
     ∙ ap (λ n. tabulate n (λ t. option_map taken_seen (if is_named v t then None else slice_index_or s.taken t None))) h
     ∙ tabulate_same 32 (λ t. option_map taken_seen (if is_named v t then None else slice_index_or s.taken t None)) (λ t. if is_set v t then None else taken_at (device_seen s) t)

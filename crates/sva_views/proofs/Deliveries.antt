@@ -1,16 +1,13 @@
 -- Messages from the host, seen.
-use Rattle.std.proofs.Common.{◌≡◌, refl, ap, sym, ◌∙◌, ℕ, zero, suc, ◌+◌, ◌<◌, ◌≤◌, Bool, true, false, arith}
-use Rattle.std.specs.Prelude.{◌&&◌, ◌||◌, not, ◌==◌, if◌then◌else◌, is_none, Option, Some, None, option_map, List, [], ◌∷◌, map, drop, length, replicate, slice_set, slice_index_or}
-use Rattle.std.specs.FinMap as finite
+use Rattle.std.proofs.Common.{◌≡◌, refl, ap, sym, ◌∙◌, ℕ, zero, suc, Bool, true, false, arith}
+use Rattle.std.specs.Prelude.{◌&&◌, ◌||◌, not, ◌==◌, if◌then◌else◌, Some, None, option_map, List, [], ◌∷◌, map, drop, length, replicate, slice_set}
 use Rattle.std.specs.FinMap.{insert, entries, empty, from_sorted, empty_of_len, len-entries, entries-from_sorted}
 use Rattle.std.proofs.lemmas.List.{map-set, set-get_or}
 use Rattle.std.proofs.lemmas.Bool.Decides.{nat_tests}
-use Rattle.sva_step.specs.declared.answers.Answer.{Answer}
 use Rattle.sva_step.specs.declared.answers.Answer.TheVariants as answer
 use Rattle.sva_model.specs.State.{PasidState as DeviceState}
 use Rattle.sva_model.specs.States.{Extent as DeviceExtent}
 use Rattle.sva_model.specs.States as states
-use Rattle.sva_model.specs.Wire.{RequestWire, TranslationWire, UseWire, TakenWire, GroupWire}
 use Rattle.sva_labels.specs.Finding as finding
 use Rattle.sva_labels.specs.Moves as moves
 use Rattle.sva_labels.specs.Outcomes.{is_full, response_said}
@@ -20,14 +17,12 @@ use Rattle.sva_cache.specs.declared.coverage.Extent.TheVariants.{Pages, All}
 use Rattle.sva_cache.specs.declared.coverage.Invalidation.{Invalidation}
 use Rattle.sva_cache.specs.Coverage.{covers, is_within}
 use Rattle.sva_cache.specs.declared.cached.Translation.{Translation}
-use Rattle.sva_cache.specs.Cache.{Key, Translations, key_cmp, has_room_for, without_covered}
-use Rattle.sva_tables.specs.declared.pasid_states.PasidState.{PasidState}
+use Rattle.sva_cache.specs.Cache.{Key, Translations, key_cmp, has_room_for}
 use Rattle.sva_tables.specs.declared.pasid_states.PasidState.TheVariants.{Off, On, Stopping}
 use Rattle.sva_tables.specs.declared.request_tags.RequestTag.{RequestTag}
 use Rattle.sva_tables.specs.declared.request_tags.RequestTag.TheVariants.{Free, Out, Doomed}
 use Rattle.sva_tables.specs.declared.use_slots.UseSlot.{UseSlot}
 use Rattle.sva_tables.specs.declared.use_slots.UseSlot.TheVariants as slots
-use Rattle.sva_tables.specs.declared.taken_table.Taken.{Taken}
 use Rattle.sva_tables.specs.declared.groups.GroupPlace.{GroupPlace}
 use Rattle.sva_tables.specs.declared.groups.GroupPlace.TheVariants as groups
 use Rattle.sva_tables.specs.PasidStates.{with_state}
@@ -35,18 +30,20 @@ use Rattle.sva_tables.specs.RequestTags.{request_at, doomed_by}
 use Rattle.sva_tables.specs.UseSlots.{runs_covered, cut_off}
 use Rattle.sva_tables.specs.Groups.{group_at}
 use Rattle.sva_endpoint.specs.Tables.{Tables, fresh}
-use Rattle.sva_endpoint.specs.Deliveries.{after_completion, answer_to_completion, cache_after, after_invalidate, after_response, answer_to_response, is_failure}
+use Rattle.sva_endpoint.specs.Deliveries.{answer_to_completion, cache_after, after_invalidate, answer_to_response, is_failure}
 use Rattle.sva_endpoint.specs.Laws.{IsSound}
-use Rattle.sva_views.specs.Device.{pasid_seen, tag_seen, translation_seen, cache_seen, slot_seen, extent_seen, taken_seen, group_seen, device_seen}
-use Rattle.sva_views.specs.DeviceLaws.{CompletionIsSeen, ResponseIsSeen, completed, completed_by, kept_of, completion_said, said_by}
+use Rattle.sva_views.specs.Device.{pasid_seen, tag_seen, translation_seen, slot_seen, extent_seen, taken_seen, group_seen, device_seen}
+use Rattle.sva_views.specs.DeviceLaws.{CompletionIsSeen, ResponseIsSeen, completed, kept_of, completion_said}
 use Rattle.sva_views.proofs.Tables.{seen_at, seen_each}
 use Rattle.sva_views.proofs.Pasids.{with_state_seen}
 use Rattle.sva_views.proofs.Cached.{inserted_is_seen, retained_is_seen, room_is_seen}
 
-pub start_is_seen : (s : Tables) (t : ℕ) → IsSound s → device_seen (record s { pasids = with_state s.pasids t On }) ≡ moves.with_pasid t DeviceState.On (device_seen s)
+pub start_is_seen : (s : Tables) (t : ℕ) → IsSound s
+    → device_seen (record s { pasids = with_state s.pasids t On }) ≡ moves.with_pasid t DeviceState.On (device_seen s)
 start_is_seen s t h = with_state_seen s t On
 
-pub stop_is_seen : (s : Tables) (t : ℕ) → IsSound s → device_seen (record s { pasids = with_state s.pasids t Stopping }) ≡ moves.with_pasid t DeviceState.Ending (device_seen s)
+pub stop_is_seen : (s : Tables) (t : ℕ) → IsSound s
+    → device_seen (record s { pasids = with_state s.pasids t Stopping }) ≡ moves.with_pasid t DeviceState.Ending (device_seen s)
 stop_is_seen s t h = with_state_seen s t Stopping
 
 -- A reset.
@@ -173,15 +170,16 @@ doomed_seen n Free = refl
 doomed_seen n (Out t q) = doomed_by_test (covers n t q) t q ∙ ap (λ b. Some (record { pasid = t; page = q; is_doomed = b })) (covers_seen n t q)
 doomed_seen n (Doomed t q) = refl
 
-pub invalidation_is_seen : (s : Tables) (itag : ℕ) (n : Invalidation) → IsSound s → device_seen (after_invalidate s itag n) ≡ moves.taking itag n.pasid (extent_seen n.extent) (device_seen s)
+pub invalidation_is_seen : (s : Tables) (itag : ℕ) (n : Invalidation) → IsSound s
+    → device_seen (after_invalidate s itag n) ≡ moves.taking itag n.pasid (extent_seen n.extent) (device_seen s)
 invalidation_is_seen s itag n h =
     let noted : map (runs_covered n) s.uses ≡ map (moves.is_noted n.pasid (extent_seen n.extent)) (device_seen s).slots = noted_each n s.uses in
     let taken =
-        map-set (option_map taken_seen) s.taken itag (Some (record { invalidation = n; noted = map (runs_covered n) s.uses }))
-        ∙ ap (λ slots. slice_set (device_seen s).taken itag (Some (record { pasid = n.pasid; extent = extent_seen n.extent; slots = slots }))) noted in
+    map-set (option_map taken_seen) s.taken itag (Some (record { invalidation = n; noted = map (runs_covered n) s.uses }))
+    ∙ ap (λ slots. slice_set (device_seen s).taken itag (Some (record { pasid = n.pasid; extent = extent_seen n.extent; slots = slots }))) noted in
     let cache =
-        retained_is_seen s.cache (λ key. not (covers n key.0 key.1)) (λ x. not (finding.covers n.pasid (extent_seen n.extent) x.pasid x.page))
-        (λ e. ap (λ (b : Bool). not b) (sym (covers_seen n e.0.0 e.0.1))) in
+    retained_is_seen s.cache (λ key. not (covers n key.0 key.1)) (λ x. not (finding.covers n.pasid (extent_seen n.extent) x.pasid x.page))
+    (λ e. ap (λ (b : Bool). not b) (sym (covers_seen n e.0.0 e.0.1))) in
     λ i.
     record (device_seen s) {
       taken = taken i;

@@ -1,6 +1,6 @@
 -- Messages in flight, seen.
-use Rattle.std.proofs.Common.{◌≡◌, ◌↔◌, refl, ap, sym, ◌∙◌, ℕ, zero, suc, ◌+◌, ◌<◌, ◌≤◌, Bool, true, false, arith}
-use Rattle.std.specs.Prelude.{cond, IsTrue, nat_eq, nat_lt, ◌==◌, ◌&&◌, ◌||◌, not, if◌then◌else◌, Option, Some, None, List, [], ◌∷◌, ◌++◌, map, filter, find}
+use Rattle.std.proofs.Common.{◌≡◌, ◌↔◌, refl, ap, sym, ◌∙◌, ℕ, zero, suc, ◌+◌, ◌<◌, Bool, true, false, arith}
+use Rattle.std.specs.Prelude.{cond, IsTrue, nat_eq, nat_lt, ◌==◌, ◌&&◌, ◌||◌, not, Some, List, [], ◌∷◌, ◌++◌, map, filter, find}
 use Rattle.std.specs.List.{list_any, range_with_len}
 use Rattle.std.specs.Map.{lookup, remove_entry}
 use Rattle.std.proofs.lemmas.List.{map-append}
@@ -13,11 +13,12 @@ use Rattle.sva_msg.specs.declared.messages.Message.{Message}
 use Rattle.sva_msg.specs.declared.messages.Kind.{Kind}
 use Rattle.sva_msg.specs.declared.messages.Kind.TheVariants.{Start, Stop, Reset, Completion, Invalidate, Response, Request, Invalidated, PageRequest, Marker, ResetDone}
 use Rattle.sva_msg.specs.Kind.{sort_of}
-use Rattle.sva_msg.specs.Bag.{InFlight, AreNumbered, IsNumbered, MayDeliver, message_at, copies_of, with_sent, without, must_follow}
+use Rattle.sva_msg.specs.Bag.{InFlight, AreNumbered, MayDeliver, copies_of, must_follow}
 use Rattle.sva_msg.proofs.Deliverable.{any_older, may_deliver-is}
 use Rattle.sva_wire.proofs.Lists.{tabulate_same}
-use Rattle.sva_views.specs.Flights.{kind_seen, flight_seen, flights_seen, flight_at, FlightsAreSeen, FlightLaws}
+use Rattle.sva_views.specs.Flights.{kind_seen, flight_seen, flights_seen, flight_at, FlightLaws}
 use Rattle.sva_views.proofs.Completions.{tabulate_front}
+use Rattle.sva_views.proofs.Tables.{map_twice}
 
 abbrev Entry : Type 0
 Entry = ℕ × Message
@@ -89,10 +90,6 @@ row_mapped f first (suc n) =
   where
     sums : (a j : ℕ) → a + 1 + j ≡ a + suc j
     sums a j = omega arith
-
-map_twice : {A B C : Type 0} (f : A → B) (g : B → C) (xs : List A) → map g (map f xs) ≡ map (λ a. g (f a)) xs
-map_twice f g [] = refl
-map_twice f g (x ∷ xs) = ap (λ l. g (f x) ∷ l) (map_twice f g xs)
 
 -- A message that is delivered.
 

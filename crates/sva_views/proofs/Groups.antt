@@ -1,6 +1,6 @@
 -- Page requests and the end of a PASID, seen.
 use Rattle.std.proofs.Common.{◌≡◌, refl, ap, sym, ◌∙◌, ℕ, suc, ◌+◌, ◌<◌, ◌^◌, Bool, true, false, arith}
-use Rattle.std.specs.Prelude.{◌&&◌, ◌||◌, not, ◌==◌, nat_lt, nat_le, if◌then◌else◌, is_none, IsSome, Option, Some, None, List, [], ◌∷◌, map, slice_set, slice_index_or, position, sum_by}
+use Rattle.std.specs.Prelude.{◌||◌, not, ◌==◌, nat_lt, nat_le, if◌then◌else◌, is_none, IsSome, Option, Some, None, List, [], ◌∷◌, map, slice_set, position}
 use Rattle.std.specs.List.{list_any}
 use Rattle.std.proofs.lemmas.List.{map-set}
 use Rattle.std.proofs.lemmas.List.Sums.{sum_by-cons}
@@ -21,13 +21,13 @@ use Rattle.sva_tables.specs.declared.use_slots.UseSlot.{UseSlot}
 use Rattle.sva_tables.specs.declared.use_slots.UseSlot.TheVariants as slots
 use Rattle.sva_tables.specs.declared.groups.GroupPlace.{GroupPlace}
 use Rattle.sva_tables.specs.declared.groups.GroupPlace.TheVariants.{Free, Unfinished, Out, Stale}
-use Rattle.sva_tables.specs.PasidStates.{state_of, is_on, is_off}
+use Rattle.sva_tables.specs.PasidStates.{state_of, is_off}
 use Rattle.sva_tables.specs.RequestTags.{asks_under}
 use Rattle.sva_tables.specs.UseSlots.{runs_under}
 use Rattle.sva_tables.specs.Groups.{is_free, is_unfinished, group_at, group_of, with_request, stale_of, requests_of, outstanding}
 use Rattle.sva_endpoint.specs.declared.permitted.Fault.{Fault}
 use Rattle.sva_endpoint.specs.Tables.{Tables}
-use Rattle.sva_endpoint.specs.Steps.{may_send, is_of_group, index_for, group_after, after_fault, is_busy}
+use Rattle.sva_endpoint.specs.Steps.{may_send, is_of_group, index_for, group_after, is_busy}
 use Rattle.sva_endpoint.specs.Laws.{IsSound}
 use Rattle.sva_views.specs.Device.{pasid_seen, tag_seen, slot_seen, group_seen, device_seen}
 use Rattle.sva_views.specs.DeviceLaws.{FaultIsSeen, QuitIsSeen, faulted}
@@ -101,7 +101,8 @@ more_by t n false = ap (λ m. Some (record { pasid = t; state = GroupState.Unfin
     one_more : (n : ℕ) → n + 1 ≡ suc n
     one_more n = omega arith
 
-more_seen : (t : ℕ) (last : Bool) (group : GroupPlace) → not (is_unfinished t group) ≡ false → group_seen (with_request last group) ≡ moves.with_request last (group_seen group)
+more_seen : (t : ℕ) (last : Bool) (group : GroupPlace) → not (is_unfinished t group) ≡ false
+    → group_seen (with_request last group) ≡ moves.with_request last (group_seen group)
 more_seen t last Free h = absurd (cc (h))
 more_seen t last (Unfinished u n) h = more_by u n last
 more_seen t last (Out u n) h = absurd (cc (h))
@@ -115,7 +116,7 @@ faulted_seen s fault None h =
 faulted_seen s fault (Some i) h =
     let own = group_at s.groups i in
     let more : group_seen (with_request fault.last own) ≡ moves.with_request fault.last (finding.group_at (device_seen s) i) =
-        more_seen fault.pasid fault.last own (other_seen s fault.pasid (Some i) ∙ h) ∙ ap (moves.with_request fault.last) (sym (at_index s i)) in
+    more_seen fault.pasid fault.last own (other_seen s fault.pasid (Some i) ∙ h) ∙ ap (moves.with_request fault.last) (sym (at_index s i)) in
     λ k. record (device_seen s) { groups = (map-set group_seen s.groups i (with_request fault.last own) ∙ ap (slice_set (map group_seen s.groups) i) more) k }
 
 pub fault_is_seen : (s : Tables) (fault : Fault) → IsSound s → FaultIsSeen s fault
@@ -169,7 +170,8 @@ busy_seen s t =
     in_turn true b c = refl
     in_turn false b c = refl
 
-stale_by : (b : Bool) (u n : ℕ) → group_seen (if b then Stale u n else Out u n) ≡ Some (record { pasid = u; state = stale_if b GroupState.Awaiting; requests = n })
+stale_by : (b : Bool) (u n : ℕ)
+    → group_seen (if b then Stale u n else Out u n) ≡ Some (record { pasid = u; state = stale_if b GroupState.Awaiting; requests = n })
 stale_by true u n = refl
 stale_by false u n = refl
 

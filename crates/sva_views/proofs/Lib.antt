@@ -16,3 +16,4 @@ pub mod ServiceAnswers
 pub mod ServiceFiled
 pub mod ServiceSound
 pub mod ServiceFiling
+pub mod ServicePermits

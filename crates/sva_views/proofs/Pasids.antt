@@ -1,6 +1,6 @@
 -- The states of PASIDs, seen.
-use Rattle.std.proofs.Common.{◌≡◌, refl, ap, sym, ◌∙◌, ℕ, zero, suc, ◌+◌, ◌^◌, Bool, true, false, arith}
-use Rattle.std.specs.Prelude.{cond, ◌&&◌, ◌||◌, not, nat_lt, if◌then◌else◌, List, [], ◌∷◌, map, drop, slice_index_or, slice_set}
+use Rattle.std.proofs.Common.{◌≡◌, refl, ap, sym, ◌∙◌, ℕ, zero, suc, ◌+◌, Bool, true, arith}
+use Rattle.std.specs.Prelude.{not, nat_lt, if◌then◌else◌, List, [], ◌∷◌, map, drop, slice_index_or, slice_set}
 use Rattle.std.proofs.lemmas.List.{map-set}
 use Rattle.std.proofs.lemmas.Bool.Decides.{nat_tests}
 use Rattle.sva_model.specs.State.{PasidState as DeviceState}
@@ -9,7 +9,7 @@ use Rattle.sva_labels.specs.Finding.{pasid_state}
 use Rattle.sva_labels.specs.Moves.{with_pasid}
 use Rattle.sva_tables.specs.declared.pasid_states.PasidState.{PasidState}
 use Rattle.sva_tables.specs.declared.pasid_states.PasidState.TheVariants.{Off, On, Stopping}
-use Rattle.sva_tables.specs.PasidStates.{state_of, with_state, is_on, is_off, is_stopping}
+use Rattle.sva_tables.specs.PasidStates.{state_of, with_state, is_on, is_stopping}
 use Rattle.sva_endpoint.specs.Tables.{Tables}
 use Rattle.sva_views.specs.Device.{pasid_seen, device_seen}
 use Rattle.sva_endpoint.specs.Laws.{IsSound}
@@ -40,11 +40,13 @@ pub ending_seen : (s : Tables) (t : ℕ) → IsSound s → states.is_ending (pas
 ending_seen s t h = ap states.is_ending (state_seen s t h) ∙ stopping_seen (state_of s.pasids t)
 
 -- a PASID more is in a state
-set_below : (xs : List PasidState) (t : ℕ) (x : PasidState) → map pasid_seen (drop 1 (slice_set xs (suc t) x)) ≡ slice_set (map pasid_seen (drop 1 xs)) t (pasid_seen x)
+set_below : (xs : List PasidState) (t : ℕ) (x : PasidState)
+    → map pasid_seen (drop 1 (slice_set xs (suc t) x)) ≡ slice_set (map pasid_seen (drop 1 xs)) t (pasid_seen x)
 set_below [] t x = refl
 set_below (y ∷ xs) t x = map-set pasid_seen xs t x
 
-pub with_state_seen : (s : Tables) (t : ℕ) (x : PasidState) → device_seen (record s { pasids = with_state s.pasids t x }) ≡ with_pasid t (pasid_seen x) (device_seen s)
+pub with_state_seen : (s : Tables) (t : ℕ) (x : PasidState)
+    → device_seen (record s { pasids = with_state s.pasids t x }) ≡ with_pasid t (pasid_seen x) (device_seen s)
 with_state_seen s zero x = refl
 with_state_seen s (suc t) x =
     let above : nat_lt 0 (suc t) ≡ true = grind (arith, nat_tests) in

@@ -1,13 +1,13 @@
 -- Translation requests, seen.
-use Rattle.std.proofs.Common.{◌≡◌, refl, ap, sym, ◌∙◌, ℕ, ◌+◌, ◌^◌, Bool, true, false}
-use Rattle.std.specs.Prelude.{not, nat_lt, is_none, Option, Some, None, List, [], ◌∷◌, map, slice_set, slice_index_or, position}
+use Rattle.std.proofs.Common.{◌≡◌, refl, ap, sym, ◌∙◌, ℕ, ◌^◌}
+use Rattle.std.specs.Prelude.{not, is_none, [], ◌∷◌}
 use Rattle.std.proofs.lemmas.List.{map-set}
 use Rattle.sva_step.specs.declared.refusals.Refusal.TheVariants as refusal
 use Rattle.sva_tables.specs.declared.request_tags.RequestTag.{RequestTag}
 use Rattle.sva_tables.specs.declared.request_tags.RequestTag.TheVariants.{Free, Out, Doomed}
 use Rattle.sva_tables.specs.RequestTags.{is_free}
 use Rattle.sva_endpoint.specs.Tables.{Tables}
-use Rattle.sva_endpoint.specs.Steps.{refusals_of_ask, lowest_tag, after_ask}
+use Rattle.sva_endpoint.specs.Steps.{lowest_tag}
 use Rattle.sva_views.specs.Device.{tag_seen, device_seen}
 use Rattle.sva_endpoint.specs.Laws.{IsSound}
 use Rattle.sva_views.specs.DeviceLaws.{RequestIsSeen}

@@ -218,12 +218,11 @@ module _ (workers : ℕ) (s : Service) (u b : ℕ) (request : PageRequest) (k : 
       go (Old n) = let (job, j, e) = k.made g n last in (job, still_kept job j, e)
       go (Joined h n c is) =
           (made, made_kept (sym (ap (λ (x : OpenGroup). x.last) is) ∙ last), sym (is_taker h n c) ∙ sym (serial_as g (with_request h request) is))
-      go (Begun none is) =
-          (
-          made,
-          made_kept (sym (ap (λ (x : OpenGroup). x.last) is) ∙ last),
-          new_taker none ∙ sym (serial_as g (with_request (new_group next u b request.index) request) is)
-          )
+      go (Begun none is) = (
+        made,
+        made_kept (sym (ap (λ (x : OpenGroup). x.last) is) ∙ last),
+        new_taker none ∙ sym (serial_as g (with_request (new_group next u b request.index) request) is),
+      )
 
   given_after : (job : Job) → IsKept t job → job.serial < t.groups.next
   given_after job kept = go (kept_from job kept)
@@ -275,18 +274,18 @@ module _ (workers : ℕ) (s : Service) (u b : ℕ) (request : PageRequest) (k : 
   was_part g (Old m) part = inl (g, record { there = m; part = part; names = record { units = refl; bindings = refl; indexes = refl }; serials = refl })
   was_part g (Joined h m c is) part =
       inl (
-      h,
-      record {
-        there = m;
-        part = unfinished_part u b request.index h c;
-        names =
-            record {
-              units = ap (λ (x : OpenGroup). x.unit) is;
-              bindings = ap (λ (x : OpenGroup). x.binding) is;
-              indexes = ap (λ (x : OpenGroup). x.index) is;
-            };
-        serials = serial_as g (with_request h request) is;
-      }
+        h,
+        record {
+          there = m;
+          part = unfinished_part u b request.index h c;
+          names =
+              record {
+                units = ap (λ (x : OpenGroup). x.unit) is;
+                bindings = ap (λ (x : OpenGroup). x.binding) is;
+                indexes = ap (λ (x : OpenGroup). x.index) is;
+              };
+          serials = serial_as g (with_request h request) is;
+        },
       )
   was_part g (Begun none is) part = inr (none, is)
 

@@ -1,13 +1,12 @@
 -- Uses of cached translations, seen; and translations that are let go.
-use Rattle.std.proofs.Common.{◌≡◌, refl, ap, sym, ◌∙◌, ℕ, ◌+◌, ◌^◌, Bool, true, false}
-use Rattle.std.specs.Prelude.{◌&&◌, not, ◌==◌, nat_lt, is_none, Option, Some, None, option_map, List, [], ◌∷◌, map, slice_set, slice_index_or, unwrap_or}
+use Rattle.std.proofs.Common.{◌≡◌, refl, ap, sym, ◌∙◌, ℕ, ◌^◌, Bool, false}
+use Rattle.std.specs.Prelude.{◌&&◌, not, is_none, Option, Some, None, option_map, [], ◌∷◌, unwrap_or}
 use Rattle.std.specs.FinMap as finite
 use Rattle.std.proofs.lemmas.List.{map-set}
 use Rattle.sva_step.specs.declared.refusals.Refusal.TheVariants as refusal
-use Rattle.sva_model.specs.Wire.{TranslationWire, TakenWire}
-use Rattle.sva_labels.specs.Finding.{cached, use_at, is_at_page}
+use Rattle.sva_labels.specs.Finding.{cached, use_at}
 use Rattle.sva_labels.specs.Causes.{is_read_only}
-use Rattle.sva_labels.specs.Moves.{unnoted, ended}
+use Rattle.sva_labels.specs.Moves.{unnoted}
 use Rattle.sva_labels.specs.Outcomes.{end_answer}
 use Rattle.sva_cache.specs.declared.cached.Translation.{Translation}
 use Rattle.sva_tables.specs.declared.use_slots.UseSlot.{UseSlot}
@@ -19,7 +18,7 @@ use Rattle.sva_endpoint.specs.Tables.{Tables}
 use Rattle.sva_endpoint.specs.Steps.{lowest_slot, translation_at, end_of}
 use Rattle.sva_endpoint.specs.Laws.{IsSound}
 use Rattle.sva_views.specs.Device.{slot_seen, taken_seen, device_seen}
-use Rattle.sva_views.specs.DeviceLaws.{UseIsSeen, EndIsSeen, EvictIsSeen, found_at}
+use Rattle.sva_views.specs.DeviceLaws.{UseIsSeen, EndIsSeen, EvictIsSeen}
 use Rattle.sva_views.proofs.Tables.{lowest_place, place_there, seen_at, seen_each}
 use Rattle.sva_views.proofs.Pasids.{started_seen, beyond}
 use Rattle.sva_views.proofs.Cached.{found_seen, found_is_seen, removed_is_seen}

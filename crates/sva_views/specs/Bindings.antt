@@ -1,6 +1,6 @@
 -- How the table of bindings is seen by the definitions by labels, and what its look-ups and changes are there.
-use Rattle.std.specs.Prelude.{◌≡◌, ℕ, ◌==◌, ◌&&◌, Option, Some, None, option_map, List, [], ◌∷◌, ◌++◌, map, find}
-use Rattle.std.specs.List.{count_by, list_any}
+use Rattle.std.specs.Prelude.{◌≡◌, ℕ, ◌==◌, Option, Some, None, option_map, List, [], ◌∷◌, ◌++◌, map, find}
+use Rattle.std.specs.List.{count_by}
 use Rattle.sva_model.specs.Wire.{Wire, BindingWire, StageWire}
 use Rattle.sva_model.specs.Wire.StageWire.{LiveWire, StoppingWire, DrainingWire, InvalidatingWire, QuietWire, LostWire}
 use Rattle.sva_labels.specs.Finding as finding

@@ -1,5 +1,5 @@
 -- How the tables of an endpoint are seen by the definitions by labels: place by place. PASID 0 isn't one of the 32.
-use Rattle.std.specs.Prelude.{ℕ, Bool, true, false, not, Option, Some, None, option_map, List, map, drop}
+use Rattle.std.specs.Prelude.{true, false, not, Option, Some, None, option_map, List, map, drop}
 use Rattle.std.specs.FinMap.{entries}
 use Rattle.sva_model.specs.State.{GroupState, PasidState as DeviceState}
 use Rattle.sva_model.specs.States.{Extent as DeviceExtent}

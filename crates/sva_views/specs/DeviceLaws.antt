@@ -1,6 +1,6 @@
 -- What an endpoint refuses, gives out and keeps is what the definitions by labels say of its device. `IsSound` holds of an
 -- endpoint after every list of permitted calls.
-use Rattle.std.specs.Prelude.{◌≡◌, ℕ, ◌<◌, ◌^◌, Bool, true, false, ◌&&◌, ◌||◌, not, ◌==◌, nat_le, if◌then◌else◌, is_none, Option, Some, None, List, [], ◌∷◌, map, filter, slice_set}
+use Rattle.std.specs.Prelude.{◌≡◌, ℕ, ◌<◌, ◌^◌, Bool, true, false, ◌&&◌, ◌||◌, not, nat_le, if◌then◌else◌, is_none, Option, Some, None, [], ◌∷◌, map, filter, slice_set}
 use Rattle.sva_step.specs.declared.answers.Answer.{Answer}
 use Rattle.sva_step.specs.declared.answers.Answer.TheVariants as answer
 use Rattle.sva_step.specs.declared.refusals.Refusal.TheVariants as refusal

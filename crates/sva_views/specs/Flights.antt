@@ -1,5 +1,5 @@
 -- How the messages in flight are seen by the definitions by labels, and what is looked up and changed there.
-use Rattle.std.specs.Prelude.{◌≡◌, ◌↔◌, ℕ, ◌+◌, Bool, true, false, ◌==◌, not, Option, Some, None, List, [], ◌∷◌, ◌++◌, map, filter, find}
+use Rattle.std.specs.Prelude.{◌≡◌, ◌↔◌, ℕ, ◌+◌, false, ◌==◌, not, Option, Some, None, List, [], ◌∷◌, ◌++◌, map, filter, find}
 use Rattle.std.specs.List.{list_any}
 use Rattle.sva_model.specs.Words.{tabulate}
 use Rattle.sva_model.specs.Message.{Message, Scope as MessageScope, Code as MessageCode}

@@ -1,13 +1,14 @@
 -- When the service of page requests is sound, that each of its calls keeps it so, and what an answered job leaves of the open
 -- groups, as the definitions by labels say it.
-use Rattle.std.specs.Prelude.{◌≡◌, ◌⊎◌, ℕ, ◌+◌, ◌<◌, ◌≤◌, Bool, true, false, ◌==◌, ◌&&◌, not, Option, Some, None, List, [], ◌∷◌, filter, length, slice_index_or, slice_set}
+use Rattle.std.specs.Prelude.{◌≡◌, ◌⊎◌, ℕ, ◌+◌, ◌<◌, ◌≤◌, Bool, true, false, ◌==◌, ◌&&◌, not, Option, Some, None, List, [], ◌∷◌, ◌^◌, filter, find, length, slice_index_or, slice_set}
 use Rattle.std.specs.List.{count_by, list_any}
-use Rattle.sva_model.specs.Wire.{JobWire}
+use Rattle.sva_model.specs.Wire.{PartWire, JobWire}
 use Rattle.sva_labels.specs.Moves.{is_begun, is_of_job}
+use Rattle.sva_labels.specs.Outcomes.{asks_of}
 use Rattle.sva_msg.specs.declared.messages.PageRequest.{PageRequest}
 use Rattle.sva_prq.specs.Job.{Job}
 use Rattle.sva_prq.specs.Groups.{OpenGroup}
-use Rattle.sva_service.specs.Service.{Service, no_service, with_room, filed, hand, taken, after_answer, without_unit}
+use Rattle.sva_service.specs.Service.{Service, CanFile, no_service, with_room, filed, hand, taken, after_answer, without_unit}
 use Rattle.sva_views.specs.Service.{groups_seen, job_seen, jobs_seen, hands_seen}
 
 -- among the things of a list
@@ -84,6 +85,13 @@ HasNoJob workers s unit binding index =
 abbrev pub BeginsAnew : (workers : ℕ) → Service → (unit binding index : ℕ) → Type 0
 BeginsAnew workers s unit binding index =
     list_any (is_begun binding index) (groups_seen unit s.groups) ≡ false → HasNoJob workers s unit binding index
+
+-- a request may be filed where there is room, a serial is left, and its group by labels has fewer than 32 requests
+abbrev pub FilingIsPermitted : Type 0
+FilingIsPermitted =
+    (s : Service) (p : PartWire) (unit binding : ℕ) (request : PageRequest) → p.host_groups ≡ groups_seen unit s.groups
+    → 0 < s.room → 0 < s.groups.room → s.groups.next + 1 < 2 ^ 64
+    → length (asks_of (find (is_begun binding request.index) p.host_groups)) < 32 → CanFile s unit binding request
 
 pub record SoundIsKept : Type 0 where
   pub first : (workers : ℕ) → IsSound workers no_service

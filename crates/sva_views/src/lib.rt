@@ -4,7 +4,7 @@
 ghost use Rattle.sva_views.specs.Bindings.{BindingsAreSeen};
 ghost use Rattle.sva_views.specs.Flights.{FlightLaws};
 ghost use Rattle.sva_views.specs.Service.{ServiceIsSeen};
-ghost use Rattle.sva_views.specs.ServiceLaws.{ServiceAnswers, SoundIsKept};
+ghost use Rattle.sva_views.specs.ServiceLaws.{FilingIsPermitted, ServiceAnswers, SoundIsKept};
 ghost use Rattle.sva_views.specs.DeviceLaws.{RequestsAreSeen, UsesAreSeen, GroupsAreSeen, CompletionsAreSeen, DeliveriesAreSeen};
 
 /// What an endpoint refuses, gives out, answers and keeps, by its tables, is what the definitions by labels say of its
@@ -30,10 +30,11 @@ pub fn flight_laws()
 {}
 
 /// What the service of page requests keeps, and what is changed there where a request is filed, a job taken or answered, or a
-/// unit reset, is what the definitions by labels say of the open groups of each endpoint, of the jobs and of the hands; and each
-/// call keeps the service sound.
+/// unit reset, is what the definitions by labels say of the open groups of each endpoint, of the jobs and of the hands; they say
+/// when a request may be filed; and each call keeps the service sound.
 pub fn service_laws()
     ensures seen { ServiceIsSeen }
+    ensures permits { FilingIsPermitted }
     ensures answers { ServiceAnswers }
     ensures sound { SoundIsKept }
 {}

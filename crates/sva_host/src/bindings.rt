@@ -1,0 +1,78 @@
+//! The steps of bindings.
+
+ghost use Rattle.std.specs.Prelude.{◌<◌, ◌^◌, ◌==◌, count_by};
+ghost use Rattle.sva_step.specs.declared.steps.Step.TheVariants as step;
+ghost use Rattle.sva_labels.specs.Sound.{IsSound};
+ghost use Rattle.sva_host.specs.Steps.{ByLabels, MayStep};
+
+use crate::host::Host;
+use crate::sending::send;
+use sva_msg::Kind;
+use sva_step::{Answer, NUMBERS, PASIDS, Refusal};
+
+impl Host {
+    // What refuses a binding of the space to the endpoint: the first cause that holds, if one does.
+    fn may_bind(&self, endpoint: u64, space: u64) -> Result<(), Refusal>
+        ensures { MayStep self.now (step.Bind endpoint space) result }
+    {
+        let at = self.port(endpoint)?;
+        if !self.memory.has_space(space) {
+            return Err(Refusal::NoSuchSpace);
+        }
+        if !self.ports[at].unit.is_open() {
+            return Err(Refusal::Resetting);
+        }
+        if self.bindings.place_between(endpoint, space).is_some() {
+            return Err(Refusal::AlreadyBound);
+        }
+        if self.bindings.lowest(space).is_none() {
+            return Err(Refusal::NoPasid);
+        }
+        if self.next_binding >= NUMBERS {
+            return Err(Refusal::NumbersSpent);
+        }
+        if self.in_flight.left() == 0 {
+            return Err(Refusal::NumbersSpent);
+        }
+        Ok(())
+    }
+
+    /// Binds a space to an endpoint, under the PASID that it bears or the lowest that is free, and tells the endpoint to
+    /// start it.
+    pub fn bind(&mut self, endpoint: u64, space: u64) -> Result<Answer, Refusal>
+        requires { IsSound self.old }
+        ensures { ByLabels self.old (step.Bind endpoint space) result self.new }
+    {
+        self.may_bind(endpoint, space)?;
+        let binding = self.next_binding;
+        let Ok(pasid) = self.bindings.begin(endpoint, space, binding) else {
+            return Err(Refusal::OutOfMemory);
+        };
+        if send(&mut self.in_flight, endpoint, Kind::Start { pasid }, 1).is_err() {
+            self.bindings.take_back(binding);
+            return Err(Refusal::OutOfMemory);
+        }
+        self.next_binding += 1;
+        Ok(Answer::Binding { binding, pasid })
+    }
+
+    /// Which space bears a PASID, and how many bindings are under it. `BadPasid` where it is not 1 to 32.
+    pub fn bearer(&self, pasid: u64) -> Result<Answer, Refusal>
+        requires few { count_by (λ b. b.pasid == pasid) self.now.bindings < 2 ^ 32 }
+        ensures { ByLabels self.now (step.Bearer pasid) result self.now }
+    {
+        if pasid == 0 {
+            return Err(Refusal::BadPasid);
+        }
+        if pasid > u64::from(PASIDS) {
+            return Err(Refusal::BadPasid);
+        }
+        match self.bindings.bearer(pasid as u32) {
+            None => Ok(Answer::NoBearer),
+            Some(bearer) => Ok(Answer::Bearer {
+                space: bearer.space,
+                bindings: bearer.bindings as u32,
+            }),
+        }
+    }
+}

@@ -11,6 +11,7 @@ pub mod Finishes
 pub mod TakenOut
 pub mod Awaited
 pub mod Submitting
+pub mod PagesOut
 pub mod Arrivals
 pub mod Openings
 pub mod Binds

@@ -5,7 +5,10 @@ ghost use Rattle.std.specs.Option.{option_copied};
 ghost use Rattle.sva_model.specs.Words.{count_below, tabulate};
 ghost use Rattle.sva_labels.specs.Finding.{is_before_invalidating, submits_by, submits as asked};
 ghost use Rattle.sva_labels.specs.Causes.{waits_needed, queue_full, numbers_spent};
+ghost use Rattle.sva_labels.specs.Sound.{IsSound};
+ghost use Rattle.sva_step.specs.declared.steps.Step.TheVariants as step;
 ghost use Rattle.sva_memory.specs.Pieces.{verdict};
+ghost use Rattle.sva_host.specs.Steps.{ByLabels};
 ghost use Rattle.sva_labels.specs.Moves.{target_by_stage, target_by, targets_of};
 ghost use Rattle.sva_model.specs.Wire.TargetWire.{Cookie as CookieTarget, ResetEnd as ResetTarget};
 ghost use Rattle.sva_memory.specs.Seen.{target_seen, targets_seen};
@@ -17,7 +20,7 @@ ghost use Rattle.sva_host.specs.Unmapping.{have_room, submitted, pasid_asked, Ar
 use crate::host::{Host, Port};
 use sva_frames::{Target, Waits};
 use sva_pasid::{Place, Stage, Table};
-use sva_step::{NUMBERS, Refusal};
+use sva_step::{Answer, NUMBERS, Refusal};
 use sva_unit::Unit;
 
 // Whether the binding is in use yet, is being stopped or is being drained.
@@ -227,5 +230,23 @@ impl Host {
             return Err(Refusal::NumbersSpent);
         }
         Ok(())
+    }
+
+    /// Takes pages of a space in a row out: the units are asked to invalidate them, and their frames are free once every
+    /// endpoint that may use them has answered.
+    pub fn unmap(&mut self, space: u64, page: u64, count: u64) -> Result<Answer, Refusal>
+        requires { IsSound self.old }
+        ensures { ByLabels self.old (step.Unmap space page count) result self.new }
+    {
+        self.memory.may_unmap(space, page, count)?;
+        self.may_submit(space, count + 1)?;
+        let waits = self.targets(space);
+        self.submit(space, page, count, 0);
+        let frames = self.memory.unmap(space, page, count, &waits);
+        if waits.is_empty() {
+            Ok(Answer::FreeFrames { frames })
+        } else {
+            Ok(Answer::WithheldFrames { frames })
+        }
     }
 }

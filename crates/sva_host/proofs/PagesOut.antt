@@ -10,14 +10,14 @@ use Rattle.sva_step.specs.declared.refusals.Refusal.{Refusal}
 use Rattle.sva_step.specs.declared.steps.Step.TheVariants as step
 use Rattle.sva_frames.specs.declared.waits.Target.{Target}
 use Rattle.sva_frames.specs.Frames.{has_target}
-use Rattle.sva_model.specs.Words.{tabulate, any_below}
-use Rattle.sva_model.specs.Outcomes.{unmap_answer}
+use Rattle.sva_model.specs.Words.{tabulate, any_below, count_below}
+use Rattle.sva_model.specs.Outcomes.{unmap_answer, unmap_range_answer}
 use Rattle.sva_model.specs.Refusals.{Cause}
 use Rattle.sva_model.specs.Steps.{Reply}
 use Rattle.sva_model.specs.Wire.{Wire, PlaceWire, TargetWire}
 use Rattle.sva_model.specs.Wire.PlaceWire.{FreeWire, MappedWire, WithheldWire}
 use Rattle.sva_model.specs.Wire.TargetWire.{Cookie, ResetEnd}
-use Rattle.sva_labels.specs.Finding.{submits, has_room, unit_of, bound_at, pages_in, frames_of}
+use Rattle.sva_labels.specs.Finding.{submits, has_room, unit_of, bound_at, pages_in, frames_of, is_mapped}
 use Rattle.sva_labels.specs.Causes.{queue_full, numbers_spent, waits_needed}
 use Rattle.sva_labels.specs.Host.{Decision, checked, decide_of}
 use Rattle.sva_labels.specs.Moves.{Move, moved, targets_of, target_by, cookie_at, with_pages, without_pages, is_between, placed, place_for}
@@ -31,7 +31,7 @@ use Rattle.sva_memory.specs.Room as room
 use Rattle.sva_memory.specs.Room.{HaveRoom}
 use Rattle.sva_memory.specs.Seen.{MemorySeen, target_seen, targets_seen}
 use Rattle.sva_memory.specs.Pieces.{verdict}
-use Rattle.sva_memory.specs.Unmapping.{may_unmap, unmap_causes_of, unmapped}
+use Rattle.sva_memory.specs.Unmapping.{may_unmap, may_unmap_range, unmap_causes_of, range_causes_of, unmapped}
 use Rattle.sva_views.proofs.Bindings.{seen_some}
 use Rattle.sva_host.specs.declared.host.Host.TheInside.{Inside}
 use Rattle.sva_host.specs.Inner.{wire_of}
@@ -176,6 +176,63 @@ pub unmap_ends :
 unmap_ends host now v n q count ts memory r view allows fits seen targets after answers =
     subst (λ (x : Reply). ByLabels v (step.Unmap n q count) x (wire_of (record now { memory = memory }))) (sym answers)
     (unmap_done host now v n q count ts memory (unmap_answer (has_target ts) (frames_of (pages_in v n) q count)) view allows fits seen targets after refl)
+
+-- The same of a range.
+
+pub range_refused : (host : Inside) (n q order : ℕ) (x : Refusal) → Err x ≡ may_unmap_range host.memory n q order → ByLabels (wire_of host) (step.UnmapRange n q order) (Err x) (wire_of host)
+range_refused host n q order x is =
+    refused_by tt (range_causes_of host.memory n q order) (unit_causes (wire_of host) n 2) (result_of (wire_of host) (step.UnmapRange n q order)) (wire_of host) x (tt, (tt, (tt, (tt, (tt, tt))))) (sym is)
+
+range_decide : (host : Inside) (n q order : ℕ) → Ok tt ≡ may_unmap_range host.memory n q order
+    → decide_of (wire_of host) (step.UnmapRange n q order) ≡ checked (unit_causes (wire_of host) n 2) (result_of (wire_of host) (step.UnmapRange n q order))
+range_decide host n q order is =
+    passed tt tt (range_causes_of host.memory n q order) (unit_causes (wire_of host) n 2) (result_of (wire_of host) (step.UnmapRange n q order)) (sym is)
+
+pub range_refuse : (host : Inside) (v : Wire) (n q order : ℕ) (x : Refusal) → wire_of host ≡ v → Ok tt ≡ may_unmap_range host.memory n q order → Err x ≡ verdict (unit_causes v n 2)
+    → ByLabels (wire_of host) (step.UnmapRange n q order) (Err x) (wire_of host)
+range_refuse host v n q order x view allows is =
+    subst (λ (d : Decision). Does d (wire_of host) (Err x) (wire_of host)) (sym (range_decide host n q order allows))
+    (refused_by tt (unit_causes (wire_of host) n 2) [] (result_of (wire_of host) (step.UnmapRange n q order)) (wire_of host) x (tt, (tt, tt))
+    (sym (is ∙ ap (λ (w : Wire). verdict (unit_causes w n 2)) (sym view))))
+
+pub range_done :
+    (host now : Inside) (v : Wire) (n q order : ℕ) (ts : List (Option Target)) (memory : MemorySeen) (a : Answer)
+    → wire_of host ≡ v
+    → Ok tt ≡ may_unmap_range host.memory n q order
+    → Ok tt ≡ verdict (unit_causes v n 2)
+    → wire_of now ≡ submitted v n q 1 order
+    → targets_seen ts ≡ targets_of v n
+    → memory ≡ unmapped now.memory n q (2 ^ order) (targets_seen ts)
+    → a ≡ unmap_range_answer (has_target ts) (count_below (2 ^ order) (λ j. is_mapped (pages_in v n) (q + j)))
+    → ByLabels v (step.UnmapRange n q order) (Ok a) (wire_of (record now { memory = memory }))
+range_done host now v n q order ts memory a view allows fits seen targets after answers =
+    subst (λ (d : Decision). Does d v (Ok a) (wire_of (record now { memory = memory }))) (sym decided)
+    (ap Ok (answers ∙ ap (λ (b : Bool). unmap_range_answer b (count_below (2 ^ order) (λ j. is_mapped (pages_in v n) (q + j)))) (waits_seen v n ts targets)),
+    ap (λ (m : MemorySeen). wire_of (record now { memory = m })) after ∙ (λ i. taken_out n q (seen i) (targets i) (once (2 ^ order) i)))
+  where
+    once : (k : ℕ) → k ≡ 1 * k
+    once k = omega arith
+
+    decided : decide_of v (step.UnmapRange n q order) ≡ checked [] (result_of v (step.UnmapRange n q order))
+    decided =
+        ap (λ (u : Wire). decide_of u (step.UnmapRange n q order)) (sym view)
+        ∙ range_decide host n q order allows
+        ∙ ap (λ (u : Wire). checked (unit_causes u n 2) (result_of u (step.UnmapRange n q order))) view
+        ∙ passed tt tt (unit_causes v n 2) [] (result_of v (step.UnmapRange n q order)) (sym fits)
+
+pub range_ends :
+    (host now : Inside) (v : Wire) (n q order : ℕ) (ts : List (Option Target)) (memory : MemorySeen) (r : Reply)
+    → wire_of host ≡ v
+    → Ok tt ≡ may_unmap_range host.memory n q order
+    → Ok tt ≡ verdict (unit_causes v n 2)
+    → wire_of now ≡ submitted v n q 1 order
+    → targets_seen ts ≡ targets_of v n
+    → memory ≡ unmapped now.memory n q (2 ^ order) (targets_seen ts)
+    → r ≡ Ok (unmap_range_answer (has_target ts) (count_below (2 ^ order) (λ j. is_mapped (pages_in v n) (q + j))))
+    → ByLabels v (step.UnmapRange n q order) r (wire_of (record now { memory = memory }))
+range_ends host now v n q order ts memory r view allows fits seen targets after answers =
+    subst (λ (x : Reply). ByLabels v (step.UnmapRange n q order) x (wire_of (record now { memory = memory }))) (sym answers)
+    (range_done host now v n q order ts memory (unmap_range_answer (has_target ts) (count_below (2 ^ order) (λ j. is_mapped (pages_in v n) (q + j)))) view allows fits seen targets after refl)
 
 -- what tells that nothing is awaited
 pub empty_if : (r b : Bool) → IsTrue r ↔ (b ≡ false) → r ≡ true → b ≡ false

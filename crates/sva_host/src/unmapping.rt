@@ -249,4 +249,26 @@ impl Host {
             Ok(Answer::WithheldFrames { frames })
         }
     }
+
+    /// Takes the pages of a range out, those of its 2^`order` pages that are mapped. Their frames are free as after `unmap`.
+    pub fn unmap_range(
+        &mut self,
+        space: u64,
+        page: u64,
+        order: u64,
+    ) -> Result<Answer, Refusal>
+        requires { IsSound self.old }
+        ensures { ByLabels self.old (step.UnmapRange space page order) result self.new }
+    {
+        self.memory.may_unmap_range(space, page, order)?;
+        self.may_submit(space, 2)?;
+        let waits = self.targets(space);
+        self.submit(space, page, 1, order as u8);
+        let frames = self.memory.unmap_range(space, page, order, &waits);
+        if waits.is_empty() {
+            Ok(Answer::RangeFree { frames })
+        } else {
+            Ok(Answer::RangeWithheld { frames })
+        }
+    }
 }

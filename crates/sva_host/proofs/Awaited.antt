@@ -1,5 +1,5 @@
 -- What the frames of pages that are taken out wait for, unit by unit.
-use Rattle.std.proofs.Common.{◌≡◌, ◌≢◌, ◌⊎◌, inl, inr, refl, ap, sym, ◌∙◌, ℕ, zero, suc, ◌+◌, ◌<◌, ◌≤◌, Bool, true, false, arith}
+use Rattle.std.proofs.Common.{◌≡◌, ◌≢◌, ◌⊎◌, inl, inr, refl, ap, sym, ◌∙◌, ℕ, ◌+◌, ◌<◌, ◌≤◌, Bool, true, false, arith}
 use Rattle.std.specs.Prelude.{if◌then◌else◌, nat_lt, Option, Some, None, option_map, List, [], ◌∷◌, length, slice_get, slice_set, slice_index_or}
 use Rattle.std.proofs.lemmas.List.{length-map, map-set}
 use Rattle.std.proofs.lemmas.Option.{slice_get-get_or}
@@ -7,7 +7,7 @@ use Rattle.std.proofs.Math.ListN.{get_or-map}
 use Rattle.std.proofs.lemmas.Bool.Decides.{nat_tests}
 use Rattle.sva_frames.specs.declared.waits.Target.{Target}
 use Rattle.sva_model.specs.Words.{tabulate, count_below}
-use Rattle.sva_model.specs.Wire.{Wire, UnitWire, BindingWire, TargetWire}
+use Rattle.sva_model.specs.Wire.{Wire, TargetWire}
 use Rattle.sva_labels.specs.Finding.{submits, unit_of, bound_at}
 use Rattle.sva_labels.specs.Moves.{target_by, cookie_at}
 use Rattle.sva_laws.proofs.Words.{ℕ_cases}

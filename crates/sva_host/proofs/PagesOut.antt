@@ -1,6 +1,6 @@
 -- Pages of a space in a row are taken out, by labels.
 use Rattle.std.proofs.Common.{◌≡◌, refl, ap, sym, ◌∙◌, subst, ℕ, zero, suc, ◌+◌, ◌*◌, ◌^◌, ◌<◌, ◌≤◌, Bool, true, false, arith}
-use Rattle.std.specs.Prelude.{◌&&◌, ◌||◌, not, nat_le, if◌then◌else◌, Option, Some, None, is_some, option_map, nat_lt, ◌==◌, slice_get, IsTrue, ◌↔◌, Ok, Err, List, [], ◌∷◌, ◌++◌, map, filter, length, slice_index_or}
+use Rattle.std.specs.Prelude.{◌&&◌, ◌||◌, not, nat_le, if◌then◌else◌, Option, Some, None, is_some, option_map, nat_lt, ◌==◌, slice_get, IsTrue, ◌↔◌, Ok, Err, List, [], ◌∷◌, map, filter, length, slice_index_or}
 use Rattle.std.specs.List.{list_any}
 use Rattle.std.specs.Set.{distinct_count, is_member}
 use Rattle.std.proofs.lemmas.List.Folds.{list_any-append}
@@ -17,12 +17,11 @@ use Rattle.sva_model.specs.Steps.{Reply}
 use Rattle.sva_model.specs.Wire.{Wire, PlaceWire, TargetWire}
 use Rattle.sva_model.specs.Wire.PlaceWire.{FreeWire, MappedWire, WithheldWire}
 use Rattle.sva_model.specs.Wire.TargetWire.{Cookie, ResetEnd}
-use Rattle.sva_labels.specs.Finding.{submits, has_room, unit_of, bound_at, pages_in, frames_of, is_mapped}
+use Rattle.sva_labels.specs.Finding.{unit_of, bound_at, pages_in, frames_of, is_mapped}
 use Rattle.sva_labels.specs.Causes.{queue_full, numbers_spent, waits_needed}
 use Rattle.sva_labels.specs.Host.{Decision, checked, decide_of}
-use Rattle.sva_labels.specs.Moves.{Move, moved, targets_of, target_by, cookie_at, with_pages, without_pages, is_between, placed, place_for}
-use Rattle.sva_labels.specs.Moves as moves
-use Rattle.sva_labels.specs.Outcomes.{waits, result_of, by_one}
+use Rattle.sva_labels.specs.Moves.{targets_of, target_by, cookie_at, with_pages, without_pages, is_between, placed, place_for}
+use Rattle.sva_labels.specs.Outcomes.{waits, result_of}
 use Rattle.sva_labels.specs.Sound as sound
 use Rattle.sva_labels.specs.Sound.{IsSound}
 use Rattle.sva_labels.proofs.SoundRoom.{room_for_each}
@@ -149,9 +148,10 @@ pub unmap_done :
     → a ≡ unmap_answer (has_target ts) (frames_of (pages_in v n) q count)
     → ByLabels v (step.Unmap n q count) (Ok a) (wire_of (record now { memory = memory }))
 unmap_done host now v n q count ts memory a view allows fits seen targets after answers =
-    subst (λ (d : Decision). Does d v (Ok a) (wire_of (record now { memory = memory }))) (sym decided)
-    (ap Ok (answers ∙ ap (λ (b : Bool). unmap_answer b (frames_of (pages_in v n) q count)) (waits_seen v n ts targets)),
-    ap (λ (m : MemorySeen). wire_of (record now { memory = m })) after ∙ (λ i. taken_out n q (seen i) (targets i) (once i)))
+    subst (λ (d : Decision). Does d v (Ok a) (wire_of (record now { memory = memory }))) (sym decided) (
+      ap Ok (answers ∙ ap (λ (b : Bool). unmap_answer b (frames_of (pages_in v n) q count)) (waits_seen v n ts targets)),
+      ap (λ (m : MemorySeen). wire_of (record now { memory = m })) after ∙ (λ i. taken_out n q (seen i) (targets i) (once i)),
+    )
   where
     once : count ≡ count * 2 ^ 0
     once = omega arith
@@ -206,9 +206,10 @@ pub range_done :
     → a ≡ unmap_range_answer (has_target ts) (count_below (2 ^ order) (λ j. is_mapped (pages_in v n) (q + j)))
     → ByLabels v (step.UnmapRange n q order) (Ok a) (wire_of (record now { memory = memory }))
 range_done host now v n q order ts memory a view allows fits seen targets after answers =
-    subst (λ (d : Decision). Does d v (Ok a) (wire_of (record now { memory = memory }))) (sym decided)
-    (ap Ok (answers ∙ ap (λ (b : Bool). unmap_range_answer b (count_below (2 ^ order) (λ j. is_mapped (pages_in v n) (q + j)))) (waits_seen v n ts targets)),
-    ap (λ (m : MemorySeen). wire_of (record now { memory = m })) after ∙ (λ i. taken_out n q (seen i) (targets i) (once (2 ^ order) i)))
+    subst (λ (d : Decision). Does d v (Ok a) (wire_of (record now { memory = memory }))) (sym decided) (
+      ap Ok (answers ∙ ap (λ (b : Bool). unmap_range_answer b (count_below (2 ^ order) (λ j. is_mapped (pages_in v n) (q + j)))) (waits_seen v n ts targets)),
+      ap (λ (m : MemorySeen). wire_of (record now { memory = m })) after ∙ (λ i. taken_out n q (seen i) (targets i) (once (2 ^ order) i)),
+    )
   where
     once : (k : ℕ) → k ≡ 1 * k
     once k = omega arith

@@ -1,5 +1,5 @@
 -- The units get their descriptors, one after another.
-use Rattle.std.proofs.Common.{◌≡◌, ◌≢◌, ◌⊎◌, inl, inr, refl, ap, ap₂, sym, subst, ◌∙◌, ℕ, zero, suc, ◌+◌, ◌<◌, ◌≤◌, ◌^◌, Bool, true, false, arith}
+use Rattle.std.proofs.Common.{◌≡◌, ◌≢◌, ◌⊎◌, inl, inr, refl, ap, sym, subst, ◌∙◌, ℕ, zero, suc, ◌+◌, ◌<◌, ◌≤◌, Bool, true, false, arith}
 use Rattle.std.specs.Prelude.{if◌then◌else◌, ◌&&◌, not, nat_lt, Option, Some, None, option_map, List, [], ◌∷◌, ◌++◌, map, length, slice_set, slice_index_or}
 use Rattle.std.specs.List.{refill}
 use Rattle.std.proofs.lemmas.List.{length-map, map-set}
@@ -12,7 +12,7 @@ use Rattle.sva_labels.specs.Finding.{submits, submits_by, has_room, unit_of, par
 use Rattle.sva_labels.specs.Moves.{part_unmapped, cookie_at, pasid_or_0, descriptors_for, with_descriptors}
 use Rattle.sva_labels.specs.Causes.{waits_needed}
 use Rattle.sva_laws.proofs.Words.{ℕ_cases, any_below-false}
-use Rattle.sva_laws.proofs.Cookies.{count_up, count_strict}
+use Rattle.sva_laws.proofs.Cookies.{count_strict}
 use Rattle.sva_wire.proofs.Lists.{tabulate_same, tabulate_length, tabulate_at, tabulate_set}
 use Rattle.sva_pasid.specs.declared.places.Place.{Place}
 use Rattle.sva_pasid.specs.Places.{place_between}
@@ -146,10 +146,10 @@ asks ports bindings first n q count order e now after cookie next t d u is there
     let port = slice_index_or now e d in
     let part = part_now ports bindings first n q count order e now cookie d is there in
     let seen : part_seen (record port { unit = u }) ≡ part_so_far w n q count order (e + 1) e =
-      ap (λ (v : UnitSeen). part_seen (record port { unit = v })) unit
-      ∙ (λ i. record (part i) { unit = with_descriptors (part i).unit (descriptors_for (bearer i) q count order (is.cookie i)) (is.cookie i) })
-      ∙ sym (ap (λ (b : Bool). if b then record (part_of w e) { unit = with_descriptors (unit_of w e) (descriptors_for (pasid_or_0 (bound_at w e n)) q count order (cookie_at w n e)) (cookie_at w n e) } else part_of w e) yes_asks)
-      ∙ sym (done_at w n q count order (e + 1) e (omega arith)) in
+    ap (λ (v : UnitSeen). part_seen (record port { unit = v })) unit
+    ∙ (λ i. record (part i) { unit = with_descriptors (part i).unit (descriptors_for (bearer i) q count order (is.cookie i)) (is.cookie i) })
+    ∙ sym (ap (λ (b : Bool). if b then record (part_of w e) { unit = with_descriptors (unit_of w e) (descriptors_for (pasid_or_0 (bound_at w e n)) q count order (cookie_at w n e)) (cookie_at w n e) } else part_of w e) yes_asks)
+    ∙ sym (done_at w n q count order (e + 1) e (omega arith)) in
     record {
       parts =
           ap (map part_seen) changed
@@ -206,9 +206,10 @@ pub ends :
     → (map part_seen now ≡ tabulate (length ports) (part_unmapped (wire_with ports bindings first) n q count order))
     × (cookie ≡ first + waits_needed (wire_with ports bindings first) n)
 ends ports bindings first n q count order e now cookie is all =
-    let w = wire_with ports bindings first in
-    (is.parts ∙ tabulate_same (length ports) (part_so_far w n q count order e) (part_unmapped w n q count order) (λ k l. done_at w n q count order e k (omega arith)),
-    is.cookie ∙ ap (cookie_at w n) (all ∙ sym (length-map ports part_seen)))
+    let w = wire_with ports bindings first in (
+      is.parts ∙ tabulate_same (length ports) (part_so_far w n q count order e) (part_unmapped w n q count order) (λ k l. done_at w n q count order e k (omega arith)),
+      is.cookie ∙ ap (cookie_at w n) (all ∙ sym (length-map ports part_seen)),
+    )
 
 -- The host once they have.
 

@@ -1,9 +1,9 @@
 -- Which units get descriptors where pages of a space are taken out, as the ports and the bindings of a host tell it.
-use Rattle.std.proofs.Common.{◌≡◌, ◌⊎◌, inl, inr, refl, ap, sym, ◌∙◌, ℕ, zero, suc, ◌+◌, ◌<◌, ◌≤◌, Bool, true, false, arith}
-use Rattle.std.specs.Prelude.{◌&&◌, not, if◌then◌else◌, Option, option_map, List, map, length, slice_index_or}
+use Rattle.std.proofs.Common.{◌≡◌, ◌⊎◌, inl, inr, refl, ap, sym, ◌∙◌, ℕ, suc, ◌+◌, ◌<◌, Bool, true, false, arith}
+use Rattle.std.specs.Prelude.{◌&&◌, not, if◌then◌else◌, Option, option_map, List, length, slice_index_or}
 use Rattle.std.proofs.lemmas.List.{length-map}
 use Rattle.sva_model.specs.Words.{any_below, count_below}
-use Rattle.sva_model.specs.Wire.{Wire, UnitWire}
+use Rattle.sva_model.specs.Wire.{Wire}
 use Rattle.sva_labels.specs.Finding.{submits_by, submits, has_room, unit_of, bound_at}
 use Rattle.sva_laws.proofs.Words.{any_below-intro}
 use Rattle.sva_pasid.specs.declared.places.Place.{Place}

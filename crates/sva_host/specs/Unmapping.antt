@@ -1,5 +1,5 @@
 -- What an unmapping asks of the units, and what they get.
-use Rattle.std.specs.Prelude.{◌≡◌, ℕ, suc, ◌+◌, ◌<◌, ◌≤◌, Bool, true, ◌&&◌, not, nat_lt, if◌then◌else◌, Option, Some, None, List, [], map, length}
+use Rattle.std.specs.Prelude.{◌≡◌, ℕ, ◌+◌, ◌<◌, ◌≤◌, Bool, ◌&&◌, not, nat_lt, if◌then◌else◌, Option, Some, None, List, [], map, length}
 use Rattle.sva_model.specs.Words.{any_below, count_below, tabulate}
 use Rattle.sva_model.specs.Wire.{Wire, PartWire, TargetWire, UnitWire, BindingWire}
 use Rattle.sva_labels.specs.Finding.{submits, submits_by, has_room, unit_of, part_of, bound_at}

@@ -251,12 +251,7 @@ impl Host {
     }
 
     /// Takes the pages of a range out, those of its 2^`order` pages that are mapped. Their frames are free as after `unmap`.
-    pub fn unmap_range(
-        &mut self,
-        space: u64,
-        page: u64,
-        order: u64,
-    ) -> Result<Answer, Refusal>
+    pub fn unmap_range(&mut self, space: u64, page: u64, order: u64) -> Result<Answer, Refusal>
         requires { IsSound self.old }
         ensures { ByLabels self.old (step.UnmapRange space page order) result self.new }
     {

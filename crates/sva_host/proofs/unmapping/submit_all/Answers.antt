@@ -1,5 +1,5 @@
-use Rattle.std.proofs.Common.{◌≡◌, ◌∙◌, ap, sym, subst, ℕ, ◌≤◌, ◌<◌, ◌+◌, ◌^◌, arith, true}
-use Rattle.std.specs.Prelude.{length, slice_index_or, suc}
+use Rattle.std.proofs.Common.{◌≡◌, ◌∙◌, ap, sym, ◌^◌, arith}
+use Rattle.std.specs.Prelude.{length, suc}
 use Rattle.std.proofs.lemmas.List.{length-map}
 use Rattle.sva_labels.specs.Finding.{has_room, unit_of, bound_at}
 use Rattle.sva_model.specs.Wire.{PartWire}
@@ -57,9 +57,9 @@ loop-endpoint-preserved c =
     let e = c.loop-endpoint.endpoint in
     let seen = c.pasid_asked.ensures ∙ asks_there _ _ _ _ _ _ _ e _ _ c.index-ports-endpoint.result _ c.loop-endpoint.invariant c.loop-endpoint-test.true c.place_between-place.ensures in
     elim c.match-pasid_asked.branch [
-      in-Some w ↦ let asked = asked_some (unit_of v e) (bound_at v e c.args.space) w.in-Some.pasid (sym w.in-Some.is ∙ seen) in
-      asks _ _ _ _ _ _ _ e _ _ _ _ _ w.index-ports-endpoint-in-Some.result w.submit_ranges.new.self c.loop-endpoint.invariant c.loop-endpoint-test.true asked.0 asked.1 w.submit_ranges.ensures w.ports-is w.cookie-is
-    | in_default w ↦ asks_not _ _ _ _ _ _ _ e _ _ _ _ c.loop-endpoint.invariant (asked_none (unit_of v e) (bound_at v e c.args.space) (sym w.in_default.is ∙ seen)) w.ports-is w.cookie-is
+      | in-Some w ↦ let asked = asked_some (unit_of v e) (bound_at v e c.args.space) w.in-Some.pasid (sym w.in-Some.is ∙ seen) in
+          asks _ _ _ _ _ _ _ e _ _ _ _ _ w.index-ports-endpoint-in-Some.result w.submit_ranges.new.self c.loop-endpoint.invariant c.loop-endpoint-test.true asked.0 asked.1 w.submit_ranges.ensures w.ports-is w.cookie-is
+      | in_default w ↦ asks_not _ _ _ _ _ _ _ e _ _ _ _ c.loop-endpoint.invariant (asked_none (unit_of v e) (bound_at v e c.args.space) (sym w.in_default.is ∙ seen)) w.ports-is w.cookie-is
     ]
 
 pub returns-clause-parts : goal.returns-clause-parts

@@ -1,4 +1,4 @@
-use Rattle.std.proofs.Common.{◌≡◌, ◌∙◌, ap, sym, ◌<◌, arith}
+use Rattle.std.proofs.Common.{◌∙◌, ap, sym, ◌<◌, arith}
 use Rattle.std.specs.Prelude.{◌&&◌, not, length}
 use Rattle.sva_labels.specs.Finding.{submits, has_room, unit_of}
 use Rattle.sva_host.proofs.TakenOut.{parts_seen, unit_there, any_none, any_next, lacks_none, no_room}

@@ -1,4 +1,4 @@
-use Rattle.std.proofs.Common.{◌≡◌, ◌∙◌, ap, sym, true, false}
+use Rattle.std.proofs.Common.{◌∙◌, ap, sym}
 use Rattle.sva_step.specs.declared.steps.Step.TheVariants as step
 use Rattle.std.specs.Prelude.{Ok}
 use Rattle.sva_model.specs.Wire.{Wire}
@@ -31,6 +31,6 @@ returns c =
     unmap_ends c.self.inside c.self-2.inside c.args.self.now c.args.space c.args.page c.args.count c.targets-waits.result c.unmap-frames.new.self c.if-is_empty.result
     c.self.view_is c.in_ok-may_unmap.ensures c.in_ok-may_submit.ensures seen c.targets-waits.ensures c.unmap-frames.ensures.after
     (elim c.if-is_empty.branch [
-      then-is_empty w ↦ w.result-is ∙ (λ i. Ok (unmap_answer (sym (empty_if c.is_empty.result _ c.is_empty.ensures w.if-is_empty.true) i) (frames i)))
-    | else-is_empty w ↦ w.result-is ∙ (λ i. Ok (unmap_answer (sym (awaited_if c.is_empty.result _ c.is_empty.ensures w.if-is_empty.false) i) (frames i)))
+      | then-is_empty w ↦ w.result-is ∙ (λ i. Ok (unmap_answer (sym (empty_if c.is_empty.result _ c.is_empty.ensures w.if-is_empty.true) i) (frames i)))
+      | else-is_empty w ↦ w.result-is ∙ (λ i. Ok (unmap_answer (sym (awaited_if c.is_empty.result _ c.is_empty.ensures w.if-is_empty.false) i) (frames i)))
     ])

@@ -1,4 +1,4 @@
-use Rattle.std.proofs.Common.{◌≡◌, ◌∙◌, ap, sym, true, false, ◌+◌, ◌^◌, arith}
+use Rattle.std.proofs.Common.{◌∙◌, ap, sym, ◌+◌, ◌^◌, arith}
 use Rattle.sva_step.specs.declared.steps.Step.TheVariants as step
 use Rattle.std.specs.Prelude.{Ok}
 use Rattle.sva_model.specs.Wire.{Wire}
@@ -27,6 +27,6 @@ returns c =
     range_ends c.self.inside c.self-2.inside c.args.self.now c.args.space c.args.page c.args.order c.targets-waits.result c.unmap_range-frames.new.self c.if-is_empty.result
     c.self.view_is c.in_ok-may_unmap_range.ensures c.in_ok-may_submit.ensures seen c.targets-waits.ensures c.unmap_range-frames.ensures.after
     (elim c.if-is_empty.branch [
-      then-is_empty w ↦ w.result-is ∙ (λ i. Ok (unmap_range_answer (sym (empty_if c.is_empty.result _ c.is_empty.ensures w.if-is_empty.true) i) (frames i)))
-    | else-is_empty w ↦ w.result-is ∙ (λ i. Ok (unmap_range_answer (sym (awaited_if c.is_empty.result _ c.is_empty.ensures w.if-is_empty.false) i) (frames i)))
+      | then-is_empty w ↦ w.result-is ∙ (λ i. Ok (unmap_range_answer (sym (empty_if c.is_empty.result _ c.is_empty.ensures w.if-is_empty.true) i) (frames i)))
+      | else-is_empty w ↦ w.result-is ∙ (λ i. Ok (unmap_range_answer (sym (awaited_if c.is_empty.result _ c.is_empty.ensures w.if-is_empty.false) i) (frames i)))
     ])

@@ -8,6 +8,10 @@ pub mod SpaceSteps
 pub mod Faults
 pub mod Quits
 pub mod Finishes
+pub mod TakenOut
+pub mod Awaited
+pub mod Submitting
+pub mod PagesOut
 pub mod Arrivals
 pub mod Openings
 pub mod Binds

@@ -7,6 +7,7 @@ mod endpoints;
 mod host;
 mod sending;
 mod spaces;
+mod unmapping;
 
 pub use host::Host;
 

@@ -47,17 +47,41 @@ skipped. A first scenario:
 
 `svahost check` runs nothing and prints `steps 4`.
 
-The config, and the steps that are read so far. S is a space, and a word in brackets may be missing:
+The config, and the steps. E is an endpoint, S a space, B a binding, M a message, X a worker, and a
+word in brackets may be missing:
 
-    config E N W          1 to 8 endpoints, 1 to 4096 frames, 1 to 4 workers
-    space                 a new empty space; at most 64 live ones
-    drop S                the space goes, and its frames are free
-    map S PAGE r          the page leads to the lowest free frame, for reading
-    map S PAGE w          for writing and reading; at most 1024 pages a space, numbers below 2^36
-    unmap S PAGE [COUNT]  1 to 48 pages, 1 if missing, from PAGE on leave the space
-    unmapr S PAGE K       those of the 2^K pages from PAGE on, K 0 to 9, PAGE a multiple of 2^K
-    look F                where frame F is: free, mapped or withheld
-    bearer P              which space bears PASID P, 1 to 32
+    config E N W           1 to 8 endpoints, 1 to 4096 frames, 1 to 4 workers
+    space                  a new empty space; at most 64 live ones
+    drop S                 the space goes, and its frames are free
+    map S PAGE r           the page leads to the lowest free frame, for reading
+    map S PAGE w           for writing and reading; at most 1024 pages a space, below page 2^36
+    unmap S PAGE [COUNT]   1 to 48 pages, 1 if missing, from PAGE on leave the space
+    unmapr S PAGE K        those of the 2^K pages from PAGE on, K 0 to 9, PAGE a multiple of 2^K
+    look F                 where frame F is: free, mapped or withheld
+    bearer P               which space bears PASID P, 1 to 32
+    bind E S               space S is at endpoint E, under the PASID that it bears or a new one
+    unbind B               binding B is to end: its endpoint is told to stop
+    advance B              it goes on to its next stage, and at last it is released
+    reset E                endpoint E is to be reset, and its unit closed
+    pump E                 the head of endpoint E's invalidation queue is sent, or a wait is over
+    serve E                the oldest page request of endpoint E is filed; a whole group is a job
+    take X                 worker X, numbered from 0, takes the oldest job in its hand
+    answer X success       it answers the job: its pages are mapped; or `invalid`, or `failure`
+    deliver M              message M arrives; messages are numbered from 0 as they are sent
+
+An endpoint's steps, under a PASID P:
+
+    ask E P PAGE           a translation of the page is asked for
+    use E P PAGE r         a use of the translation that is held begins: it reads
+    use E P PAGE w         it writes
+    end E U                the use in slot U, 0 to 15, ends
+    evict E P PAGE         the translation that is held goes
+    fault E P PAGE A G L   a page request; A is r, w or rw, G new or a group, L more or last
+    finish E VECTOR COUNT  invalidations are answered, those of the bits of VECTOR, as 0000000b
+    quit E P               the PASID isn't used any more
+
+A frame whose page is unmapped is free at once where no endpoint can hold its translation, and else
+withheld until each has answered an invalidation.
 
 A step that isn't allowed is answered `refused N Name`, changes nothing, and the run goes on. Where
 a line can't be read nothing is run, and the report is that line's fault alone: `line 2 WordCount`.

@@ -1,6 +1,8 @@
+mod bound_examples;
 mod examples;
 
 use crate::run::{main_with, unread};
+use bound_examples::BOUND_EXAMPLES;
 use examples::EXAMPLES;
 use std::alloc::AllocError;
 use std::io;
@@ -50,6 +52,16 @@ fn run_on<R: AllocGlobal>(rt: &R, words: &[&str], input: &[u8]) -> Result<Ran, A
 #[test]
 fn replays_the_examples(rt: HostRuntime) -> Result<(), Fail> {
     for (scenario, report, status) in EXAMPLES {
+        let ran = run_on(&rt, &["replay"], scenario.as_bytes())?;
+        assert!(rt; ran.written.as_slice() == report.as_bytes(), "{scenario}");
+        assert_eq!(rt; (ran.status, ran.said.len()), (status, 0), "{scenario}");
+    }
+    Ok(())
+}
+
+#[test]
+fn replays_the_examples_of_bindings(rt: HostRuntime) -> Result<(), Fail> {
+    for (scenario, report, status) in BOUND_EXAMPLES {
         let ran = run_on(&rt, &["replay"], scenario.as_bytes())?;
         assert!(rt; ran.written.as_slice() == report.as_bytes(), "{scenario}");
         assert_eq!(rt; (ran.status, ran.said.len()), (status, 0), "{scenario}");

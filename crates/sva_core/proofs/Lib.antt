@@ -1,13 +1,2 @@
-pub mod PageLists
-pub mod FrameLists
-pub mod Counting
-pub mod Replies
-pub mod Taking
-pub mod Ranges
-pub mod LiveLists
-pub mod Dropping
-pub mod HostSteps
-pub mod ChangedSpace
-pub mod Opening
+pub mod FrameCounts
 pub mod Reaching
-pub mod AskingLemmas

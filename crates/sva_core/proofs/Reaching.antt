@@ -1,4 +1,4 @@
--- From the step by numbers to the definitions' step.
+-- From the step by labels to the definitions' step.
 use Rattle.std.proofs.Common.{◌≡◌, ◌≢◌, ℕ, zero, suc, ◌+◌, ◌<◌, List, [], ◌∷◌, ◌++◌, length, take, get_or, arith, refl, sym, ap, subst, ◌∙◌, count_by}
 use Rattle.std.specs.Prelude.{Err, is_ok}
 use Rattle.sva_frames.specs.declared.pool.Counts.{Counts as FrameCounts}
@@ -11,19 +11,27 @@ use Rattle.sva_model.specs.Claims.{Fits}
 use Rattle.sva_model.specs.Steps.{Reply, reply, next, world_after}
 use Rattle.sva_model.specs.Wire.{Wire, wire}
 use Rattle.sva_laws.proofs.Lookback.{after_one}
-use Rattle.sva_wire.specs.Host.{IsIdle, IsOfSpaces, reply_of, next_of, NumbersAreNames, is_free as is_free_wire}
-use Rattle.sva_core.specs.Pieces.{ByNumbers, Counted, is_mapped_wire, is_withheld_wire}
-use Rattle.sva_core.specs.Reached.{FollowsAt, Follows, IsReached, CountsOf, Ran, TakesNoMemory}
-use Rattle.sva_core.proofs.Opening.{free-counted, mapped-counted, withheld-counted}
+use Rattle.sva_labels.specs.Finding.{is_free}
+use Rattle.sva_labels.specs.Host.{LabelsAreNames, first_wire, reply_of, next_of}
+use Rattle.sva_labels.specs.Sound.{IsSound}
+use Rattle.sva_labels.specs.Spaces.{HaveSpaces}
+use Rattle.sva_labels.proofs.BoundSpaces.{always_have_spaces}
+use Rattle.sva_labels.proofs.Sounds.{always_sound}
+use Rattle.sva_labels.proofs.WholeLists.{opened_is}
+use Rattle.sva_memory.specs.Steps.{Counted, is_mapped_place, is_withheld_place}
+use Rattle.sva_host.specs.Steps.{ByLabels}
+use Rattle.sva_served.specs.Applied.{TakesNoMemory}
+use Rattle.sva_core.specs.Reached.{FollowsAt, Follows, IsReached, CountsOf, Ran}
+use Rattle.sva_core.proofs.FrameCounts.{free-counted, mapped-counted, withheld-counted}
 
-at_world : (w : World) (s : Step) (result : Reply) (after : Wire) → reply w s ≡ reply_of (wire w) s → wire (next w s) ≡ next_of (wire w) s → ByNumbers (wire w) s result after → FollowsAt w s result after
+at_world : (w : World) (s : Step) (result : Reply) (after : Wire) → reply w s ≡ reply_of (wire w) s → wire (next w s) ≡ next_of (wire w) s → ByLabels (wire w) s result after → FollowsAt w s result after
 at_world w s (Err refusal.OutOfMemory) after replies nexts by = (ap is_ok replies ∙ by.0, by.1)
 at_world w s result after replies nexts by = (by.0 ∙ sym replies, by.1 ∙ sym nexts)
 
-pub follows : NumbersAreNames → (before : Wire) (s : Step) (result : Reply) (after : Wire) → IsOfSpaces s → IsIdle before → ByNumbers before s result after → Follows before s result after
-follows law before s result after of_spaces idle by config steps fits is =
-    let same = law config steps s fits of_spaces (subst (λ (b : Wire). IsIdle b) is idle) in
-    at_world (world_after PerSpace config steps) s result after same.0 same.1 (subst (λ (b : Wire). ByNumbers b s result after) is by)
+pub follows : LabelsAreNames → (before : Wire) (s : Step) (result : Reply) (after : Wire) → ByLabels before s result after → Follows before s result after
+follows law before s result after by config steps fits is =
+    let same = law config steps s fits in
+    at_world (world_after PerSpace config steps) s result after same.0 same.1 (subst (λ (b : Wire). ByLabels b s result after) is by)
 
 -- a world more
 reached_at : (config : Config) (steps : List Step) (s : Step) (result : Reply) (after : Wire) → Fits config → FollowsAt (world_after PerSpace config steps) s result after → IsReached after
@@ -33,24 +41,38 @@ reached_at config steps s result after fits at = record { config = config; steps
 pub reached : (before : Wire) (s : Step) (result : Reply) (after : Wire) → IsReached before → Follows before s result after → IsReached after
 reached before s result after was step = reached_at was.config was.steps s result after was.fits (step was.config was.steps was.fits was.is_wire)
 
-pub reached_opened : (config : Config) (seen : Wire) → Fits config → seen ≡ wire (opened PerSpace config) → IsReached seen
-reached_opened config seen fits is = record { config = config; steps = []; fits = fits; is_wire = is }
+-- the first world, and that what is kept is sound
+pub opened_seen : (config : Config) (seen : Wire) → seen ≡ first_wire config → seen ≡ wire (opened PerSpace config)
+opened_seen config seen is = is ∙ sym (opened_is config)
 
-pub counts_of : (seen : Wire) (found : FrameCounts) → Counted seen found → CountsOf seen found
+pub reached_opened : (config : Config) (seen : Wire) → Fits config → seen ≡ first_wire config → IsReached seen
+reached_opened config seen fits is = record { config = config; steps = []; fits = fits; is_wire = opened_seen config seen is }
+
+pub sound_reached : (seen : Wire) → IsReached seen → IsSound seen
+sound_reached seen was = subst IsSound (sym was.is_wire) (always_sound was.config was.steps was.fits)
+
+pub spaces_reached : (seen : Wire) → IsReached seen → HaveSpaces seen
+spaces_reached seen was = subst HaveSpaces (sym was.is_wire) (always_have_spaces was.config was.steps was.fits)
+
+pub counts_of : (seen : Wire) (found : FrameCounts) → Counted seen.places found → CountsOf seen found
 counts_of seen found counted config steps fits is = (
-  counted.0 ∙ ap (λ (w : Wire). count_by is_free_wire w.places) is ∙ free-counted (world_after PerSpace config steps),
-  counted.1 ∙ ap (λ (w : Wire). count_by is_mapped_wire w.places) is ∙ mapped-counted (world_after PerSpace config steps),
-  counted.2 ∙ ap (λ (w : Wire). count_by is_withheld_wire w.places) is ∙ withheld-counted (world_after PerSpace config steps),
+  counted.free ∙ ap (λ (w : Wire). count_by is_free w.places) is ∙ free-counted (world_after PerSpace config steps),
+  counted.mapped ∙ ap (λ (w : Wire). count_by is_mapped_place w.places) is ∙ mapped-counted (world_after PerSpace config steps),
+  counted.withheld ∙ ap (λ (w : Wire). count_by is_withheld_place w.places) is ∙ withheld-counted (world_after PerSpace config steps),
 )
 
 -- Runs: one step more at the end.
 
-one_step : (w : World) (s : Step) (r : Reply) (last : Wire) → FollowsAt w s r last → (TakesNoMemory s → r ≢ Err refusal.OutOfMemory) → Ran w (s ∷ []) (r ∷ []) last
+one_step : (w : World) (s : Step) (r : Reply) (last : Wire) → FollowsAt w s r last → (TakesNoMemory (wire w) s → r ≢ Err refusal.OutOfMemory) → Ran w (s ∷ []) (r ∷ []) last
 one_step w s (Err refusal.OutOfMemory) last at memory = (at.0, λ none. memory none refl, at.1)
 one_step w s r last at memory = at
 
-pub ran-more : (config : Config) (before steps : List Step) (rs : List Reply) (s : Step) (r : Reply) (last after : Wire) → Fits config → Ran (world_after PerSpace config before) steps rs last → Follows last s r after → (TakesNoMemory s → r ≢ Err refusal.OutOfMemory) → Ran (world_after PerSpace config before) (steps ++ s ∷ []) (rs ++ r ∷ []) after
-ran-more config before [] [] s r last after fits ran step memory = one_step (world_after PerSpace config before) s r after (step config before fits ran) memory
+pub memory_on : (before old : Wire) (s : Step) (r : Reply) → before ≡ old → (TakesNoMemory before s → r ≢ Err refusal.OutOfMemory) → TakesNoMemory old s → r ≢ Err refusal.OutOfMemory
+memory_on before old s r same memory takes = memory (subst (λ (w : Wire). TakesNoMemory w s) (sym same) takes)
+
+pub ran-more : (config : Config) (before steps : List Step) (rs : List Reply) (s : Step) (r : Reply) (last after : Wire) → Fits config → Ran (world_after PerSpace config before) steps rs last → Follows last s r after → (TakesNoMemory last s → r ≢ Err refusal.OutOfMemory) → Ran (world_after PerSpace config before) (steps ++ s ∷ []) (rs ++ r ∷ []) after
+ran-more config before [] [] s r last after fits ran step memory =
+    one_step (world_after PerSpace config before) s r after (step config before fits ran) (memory_on last (wire (world_after PerSpace config before)) s r ran memory)
 ran-more config before [] (r0 ∷ rs) s r last after fits ran step memory = absurd ran
 ran-more config before (s0 ∷ ss) [] s r last after fits ran step memory = absurd ran
 ran-more config before (s0 ∷ ss) (Err refusal.OutOfMemory ∷ rs) s r last after fits ran step memory = (ran.0, ran.1, ran-more config before ss rs s r last after fits ran.2 step memory)
@@ -74,7 +96,7 @@ take_next (s ∷ ss) (suc i) other within =
     let same : suc i + 1 ≡ suc (i + 1) = omega arith in
     ap (λ (k : ℕ). take k (s ∷ ss)) same ∙ ap (λ ts. s ∷ ts) (take_next ss i other (omega arith))
 
-pub ran_next : (config : Config) (steps : List Step) (i : ℕ) (other : Step) (rs rs_after : List Reply) (r : Reply) (last after : Wire) → Fits config → i < length steps → Ran (opened PerSpace config) (take i steps) rs last → Follows last (get_or steps i other) r after → (TakesNoMemory (get_or steps i other) → r ≢ Err refusal.OutOfMemory) → rs_after ≡ rs ++ r ∷ [] → Ran (opened PerSpace config) (take (i + 1) steps) rs_after after
+pub ran_next : (config : Config) (steps : List Step) (i : ℕ) (other : Step) (rs rs_after : List Reply) (r : Reply) (last after : Wire) → Fits config → i < length steps → Ran (opened PerSpace config) (take i steps) rs last → Follows last (get_or steps i other) r after → (TakesNoMemory last (get_or steps i other) → r ≢ Err refusal.OutOfMemory) → rs_after ≡ rs ++ r ∷ [] → Ran (opened PerSpace config) (take (i + 1) steps) rs_after after
 ran_next config steps i other rs rs_after r last after fits within ran step memory pushed =
     subst (λ (qs : List Reply). Ran (opened PerSpace config) (take (i + 1) steps) qs after) (sym pushed)
     (subst (λ (ss : List Step). Ran (opened PerSpace config) ss (rs ++ r ∷ []) after) (sym (take_next steps i other within))

@@ -1,6 +1,1 @@
-pub mod Seen
-pub mod Lives
-pub mod Owned
-pub mod Pieces
-pub mod Inner
 pub mod Reached

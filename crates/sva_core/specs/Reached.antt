@@ -5,27 +5,18 @@ use Rattle.sva_step.specs.declared.limits.Config.{Config}
 use Rattle.sva_step.specs.declared.refusals.Refusal.{Refusal}
 use Rattle.sva_step.specs.declared.refusals.Refusal.TheVariants as refusal
 use Rattle.sva_step.specs.declared.steps.Step.{Step}
-use Rattle.sva_step.specs.declared.steps.Step.TheVariants as step
 use Rattle.sva_model.specs.State.PasidRule.{PerSpace}
 use Rattle.sva_model.specs.State.{World}
 use Rattle.sva_model.specs.Claims.{Fits}
 use Rattle.sva_model.specs.Steps.{Reply, reply, next, counts, world_after}
 use Rattle.sva_model.specs.Wire.{Wire, wire}
+use Rattle.sva_served.specs.Applied.{TakesNoMemory}
 
 -- what the definitions say of a step at one of their worlds; want of memory changes nothing, and comes only where they
 -- would have accepted the step
 abbrev pub FollowsAt : World → Step → Reply → Wire → Type 0
 FollowsAt w s (Err refusal.OutOfMemory) after = IsOk (reply w s) × (after ≡ wire w)
 FollowsAt w s result after = (result ≡ reply w s) × (after ≡ wire (next w s))
-
--- the steps whose room was made before: they never want memory
-abbrev pub TakesNoMemory : Step → Type 0
-TakesNoMemory (step.DropSpace n) = Unit {0}
-TakesNoMemory (step.Unmap n q count) = Unit {0}
-TakesNoMemory (step.UnmapRange n q order) = Unit {0}
-TakesNoMemory (step.Look f) = Unit {0}
-TakesNoMemory (step.Bearer t) = Unit {0}
-TakesNoMemory _ = ⊥
 
 -- a step from what the host keeps, as the definitions have it at each world after some list of steps that is seen so
 abbrev pub Follows : Wire → Step → Reply → Wire → Type 0
@@ -52,7 +43,7 @@ CountsOf seen found =
 -- that takes memory
 abbrev pub Ran : World → List Step → List Reply → Wire → Type 0
 Ran w [] [] last = last ≡ wire w
-Ran w (s ∷ steps) (Err refusal.OutOfMemory ∷ results) last = IsOk (reply w s) × (TakesNoMemory s → ⊥) × Ran w steps results last
+Ran w (s ∷ steps) (Err refusal.OutOfMemory ∷ results) last = IsOk (reply w s) × (TakesNoMemory (wire w) s → ⊥) × Ran w steps results last
 Ran w (s ∷ steps) (result ∷ results) last = (result ≡ reply w s) × Ran (next w s) steps results last
 Ran w _ _ last = ⊥
 

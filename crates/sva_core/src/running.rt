@@ -1,12 +1,11 @@
 //! A world taken through a list of steps.
 
-ghost use Rattle.std.specs.Prelude.{◌≡◌, ◌↔◌, All, IfOk, IfErr, Err};
+ghost use Rattle.std.specs.Prelude.{◌≡◌, ◌↔◌, IfOk, IfErr, Err};
 ghost use Rattle.sva_step.specs.declared.limits.Config.{Config};
 ghost use Rattle.sva_step.specs.declared.refusals.Refusal.TheVariants as refusal;
 ghost use Rattle.sva_model.specs.State.PasidRule.{PerSpace};
 ghost use Rattle.sva_model.specs.Claims.{Fits};
 ghost use Rattle.sva_model.specs.State.{opened};
-ghost use Rattle.sva_wire.specs.Host.{IsOfSpaces};
 ghost use Rattle.sva_core.specs.Reached.{Ran, IsOpenRefusal};
 
 use crate::world::World;
@@ -14,14 +13,13 @@ use std::alloc::Global;
 use sva_step::{Answer, Config, Refusal, Step};
 
 /// Opens a world and takes the steps one after another: the world at the end, and an answer for each step. A step that
-/// was answered `OutOfMemory` changed nothing, and is no unmap. The fault is `BadConfig` where the config is out of its
-/// limits; else `OutOfMemory` where there is no memory for the world or for the list of answers.
+/// was answered `OutOfMemory` changed nothing, and is one that takes memory. The fault is `BadConfig` where the config is
+/// out of its limits; else `OutOfMemory` where there is no memory for the world or for the list of answers.
 pub fn run(
     alloc: Global,
     config: Config,
     steps: &[Step],
 ) -> Result<(World, Vec<Result<Answer, Refusal>>), Refusal>
-    requires { All IsOfSpaces steps.now }
     ensures ok { IfOk result (λ ran. Ran (opened PerSpace config) steps.now ran.1.items ran.0) }
     ensures bad { (result ≡ Err refusal.BadConfig) ↔ (Fits config → ⊥) }
     ensures memory { IfErr result IsOpenRefusal }
@@ -29,7 +27,6 @@ pub fn run(
     let mut world = World::open(alloc, config)?;
     let mut answers = Vec::new(alloc);
     if answers.reserve(steps.len()).is_err() {
-        world.close();
         return Err(Refusal::OutOfMemory);
     }
     for step in steps {

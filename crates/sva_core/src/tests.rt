@@ -1,7 +1,8 @@
 ghost use Rattle.std.specs.Prelude.{All};
-ghost use Rattle.sva_wire.specs.Host.{IsOfSpaces};
 
-use crate::{World, is_built, run};
+mod rows;
+
+use crate::{World, run};
 use std::alloc::Global;
 use std::process::Abort;
 use sva_frames::Counts;
@@ -15,22 +16,65 @@ const SMALL: Config = Config {
     first: 0,
 };
 
+// Two endpoints, four frames and one worker.
+const TWO: Config = Config {
+    endpoints: 2,
+    frames: 4,
+    workers: 1,
+    first: 0,
+};
+
 fn map(space: u64, page: u64, write: bool) -> Step
-    ensures { IsOfSpaces result }
 {
     Step::Map { space, page, write }
 }
 
 fn unmap(space: u64, page: u64, count: u64) -> Step
-    ensures { IsOfSpaces result }
 {
     Step::Unmap { space, page, count }
 }
 
 fn range(space: u64, page: u64, order: u64) -> Step
-    ensures { IsOfSpaces result }
 {
     Step::UnmapRange { space, page, order }
+}
+
+fn bind(endpoint: u64, space: u64) -> Step
+{
+    Step::Bind { endpoint, space }
+}
+
+fn ask(endpoint: u64, page: u64) -> Step
+{
+    Step::Ask {
+        endpoint,
+        pasid: 1,
+        page,
+    }
+}
+
+fn begin_use(page: u64, write: bool) -> Step
+{
+    Step::BeginUse {
+        endpoint: 0,
+        pasid: 1,
+        page,
+        write,
+    }
+}
+
+fn evict(page: u64) -> Step
+{
+    Step::Evict {
+        endpoint: 0,
+        pasid: 1,
+        page,
+    }
+}
+
+fn bearer(pasid: u64) -> Step
+{
+    Step::Bearer { pasid }
 }
 
 fn counts(free: u32, mapped: u32, withheld: u32) -> Counts {
@@ -56,6 +100,16 @@ fn freed_two(first: u32, second: u32) -> Answer {
     Answer::FreeFrames { frames }
 }
 
+// The frames of these numbers, the last one left out.
+fn frames_between<R: Abort>(rt: &R, first: u32, last: u32) -> FrameList {
+    let mut frames = FrameList::new();
+    for frame in first..last {
+        assert!(rt; frames.len() < 48);
+        frames.push(frame);
+    }
+    frames
+}
+
 // Opens a world. Where memory is refused once, the same call again opens it.
 fn open<R: Abort>(rt: &R, alloc: Global, config: Config) -> World {
     match World::open(alloc, config) {
@@ -72,7 +126,6 @@ fn open<R: Abort>(rt: &R, alloc: Global, config: Config) -> World {
 
 // Takes a step. Where memory is refused once, the counts are as they were, and the same step again is answered.
 fn apply<R: Abort>(rt: &R, world: &mut World, step: Step) -> Result<Answer, Refusal>
-    requires { IsOfSpaces step }
 {
     let before = world.counts();
     let result = world.apply(&step);
@@ -87,21 +140,18 @@ fn apply<R: Abort>(rt: &R, world: &mut World, step: Step) -> Result<Answer, Refu
 fn expect<R: Abort>(
     rt: &R,
     alloc: Global,
+    config: Config,
     steps: &[Step],
     answers: &[Result<Answer, Refusal>],
     last: Counts,
 )
-    requires { All IsOfSpaces steps.now }
 {
     for _turn in 0..2 {
-        if let Ok((world, found)) = run(alloc, SMALL, steps) {
+        if let Ok((world, found)) = run(alloc, config, steps) {
             let is_whole = !found.contains(&Err(Refusal::OutOfMemory));
             if is_whole {
                 assert_eq!(rt; found.as_slice(), answers);
                 assert_eq!(rt; world.counts(), last);
-            }
-            world.close();
-            if is_whole {
                 return;
             }
         }
@@ -123,7 +173,7 @@ fn maps_unmaps_and_maps(rt: HostRuntime) {
         Ok(freed_one(0)),
         Ok(Answer::Frame { frame: 0 }),
     ];
-    expect(&rt, rt.alloc(), &steps, &answers, counts(3, 1, 0));
+    expect(&rt, rt.alloc(), SMALL, &steps, &answers, counts(3, 1, 0));
 }
 
 #[test]
@@ -148,7 +198,7 @@ fn refuses_what_is_mapped_or_not(rt: HostRuntime) {
         Err(Refusal::NoSuchSpace),
         Ok(Answer::Frame { frame: 0 }),
     ];
-    expect(&rt, rt.alloc(), &steps, &answers, counts(3, 1, 0));
+    expect(&rt, rt.alloc(), SMALL, &steps, &answers, counts(3, 1, 0));
 }
 
 #[test]
@@ -177,7 +227,7 @@ fn drops_a_space_with_its_frames(rt: HostRuntime) {
         Ok(Answer::Frame { frame: 0 }),
         Ok(Answer::Space { space: 2 }),
     ];
-    expect(&rt, rt.alloc(), &steps, &answers, counts(2, 2, 0));
+    expect(&rt, rt.alloc(), SMALL, &steps, &answers, counts(2, 2, 0));
 }
 
 #[test]
@@ -202,7 +252,7 @@ fn takes_a_range_out(rt: HostRuntime) {
         Err(Refusal::Mapped),
         Ok(Answer::Frame { frame: 0 }),
     ];
-    expect(&rt, rt.alloc(), &steps, &answers, counts(2, 2, 0));
+    expect(&rt, rt.alloc(), SMALL, &steps, &answers, counts(2, 2, 0));
 }
 
 #[test]
@@ -227,7 +277,7 @@ fn refuses_ranges_in_order(rt: HostRuntime) {
         Ok(Answer::Frame { frame: 0 }),
         Ok(Answer::RangeFree { frames: 1 }),
     ];
-    expect(&rt, rt.alloc(), &steps, &answers, counts(4, 0, 0));
+    expect(&rt, rt.alloc(), SMALL, &steps, &answers, counts(4, 0, 0));
 }
 
 #[test]
@@ -239,10 +289,7 @@ fn refuses_4097_frames(rt: HostRuntime) {
         first: 0,
     };
     match World::open(rt.alloc(), config) {
-        Ok(world) => {
-            world.close();
-            panic!(rt; "4097 frames are too many");
-        }
+        Ok(_) => panic!(rt; "4097 frames are too many"),
         Err(refusal) => assert_eq!(rt; refusal, Refusal::BadConfig),
     }
 }
@@ -276,7 +323,6 @@ fn refuses_pages_and_spaces_past_their_limits(rt: HostRuntime) {
         apply(&rt, &mut world, Step::Space),
         Err(Refusal::TooManySpaces)
     );
-    world.close();
 }
 
 #[test]
@@ -298,19 +344,6 @@ fn spends_the_last_number(rt: HostRuntime) {
         apply(&rt, &mut world, Step::Space),
         Err(Refusal::NumbersSpent)
     );
-    world.close();
-}
-
-#[test]
-fn tells_the_steps_that_are_built(rt: HostRuntime) {
-    assert!(rt; is_built(&Step::Space));
-    assert!(rt; is_built(&map(0, 16, true)));
-    assert!(rt; is_built(&unmap(0, 16, 1)));
-    assert!(rt; is_built(&Step::DropSpace { space: 0 }));
-    assert!(rt; is_built(&range(0, 16, 1)));
-    assert!(rt; is_built(&Step::Look { frame: 0 }));
-    assert!(rt; is_built(&Step::Bearer { pasid: 1 }));
-    assert!(rt; !is_built(&Step::Unbind { binding: 0 }));
 }
 
 // Five spaces of twelve pages, for which each list and tree grows at least once.
@@ -350,5 +383,159 @@ fn goes_on_where_memory_was_refused(rt: HostRuntime) {
         Ok(Answer::Gone)
     );
     assert_eq!(rt; world.counts(), counts(30, 34, 0));
-    world.close();
+}
+
+// A space bears one PASID over both endpoints.
+#[test]
+fn bears_one_pasid_at_both_endpoints(rt: HostRuntime) {
+    let steps = [
+        Step::Space,
+        Step::Space,
+        bind(0, 0),
+        bind(1, 1),
+        bind(1, 0),
+        bearer(1),
+        bearer(4),
+        bearer(0),
+    ];
+    let answers = [
+        Ok(Answer::Space { space: 0 }),
+        Ok(Answer::Space { space: 1 }),
+        Ok(Answer::Binding {
+            binding: 0,
+            pasid: 1,
+        }),
+        Ok(Answer::Binding {
+            binding: 1,
+            pasid: 2,
+        }),
+        Ok(Answer::Binding {
+            binding: 2,
+            pasid: 1,
+        }),
+        Ok(Answer::Bearer {
+            space: 0,
+            bindings: 2,
+        }),
+        Ok(Answer::NoBearer),
+        Err(Refusal::BadPasid),
+    ];
+    expect(&rt, rt.alloc(), TWO, &steps, &answers, counts(4, 0, 0));
+}
+
+// The endpoint has no PASID left for a thirty-third space.
+#[test]
+fn binds_thirty_two_spaces(rt: HostRuntime) {
+    let mut world = open(&rt, rt.alloc(), SMALL);
+    for space in 0..33 {
+        assert_eq!(rt;
+            apply(&rt, &mut world, Step::Space),
+            Ok(Answer::Space { space })
+        );
+    }
+    for space in 0..32 {
+        let pasid = space as u32 + 1;
+        assert_eq!(rt;
+            apply(&rt, &mut world, bind(0, space)),
+            Ok(Answer::Binding {
+                binding: space,
+                pasid
+            })
+        );
+    }
+    assert_eq!(rt; apply(&rt, &mut world, bind(0, 32)), Err(Refusal::NoPasid));
+    assert_eq!(rt; world.counts(), counts(4, 0, 0));
+}
+
+// The unit of a space that is bound gets a descriptor for each page and a wait behind them, in a queue of 64 places.
+#[test]
+fn withholds_frames_until_the_queue_is_full(rt: HostRuntime) {
+    let config = Config {
+        endpoints: 1,
+        frames: 63,
+        workers: 1,
+        first: 0,
+    };
+    let mut world = open(&rt, rt.alloc(), config);
+    assert_eq!(rt;
+        apply(&rt, &mut world, Step::Space),
+        Ok(Answer::Space { space: 0 })
+    );
+    for frame in 0..63u32 {
+        assert_eq!(rt;
+            apply(&rt, &mut world, map(0, u64::from(frame) + 16, false)),
+            Ok(Answer::Frame { frame })
+        );
+    }
+    assert_eq!(rt;
+        apply(&rt, &mut world, bind(0, 0)),
+        Ok(Answer::Binding {
+            binding: 0,
+            pasid: 1
+        })
+    );
+    assert_eq!(rt;
+        apply(&rt, &mut world, unmap(0, 16, 48)),
+        Ok(Answer::WithheldFrames {
+            frames: frames_between(&rt, 0, 48)
+        })
+    );
+    assert_eq!(rt;
+        apply(&rt, &mut world, unmap(0, 64, 14)),
+        Ok(Answer::WithheldFrames {
+            frames: frames_between(&rt, 48, 62)
+        })
+    );
+    assert_eq!(rt;
+        apply(&rt, &mut world, unmap(0, 78, 1)),
+        Err(Refusal::QueueFull)
+    );
+    assert_eq!(rt; world.counts(), counts(0, 1, 62));
+}
+
+// Nothing has started, nothing is held, and there is no second endpoint.
+#[test]
+fn refuses_the_steps_of_an_endpoint_that_has_not_started(rt: HostRuntime) {
+    let fault = Step::Fault {
+        endpoint: 0,
+        pasid: 1,
+        page: 16,
+        read: true,
+        write: false,
+        group: None,
+        last: true,
+    };
+    let steps = [
+        ask(1, 68719476736),
+        ask(0, 68719476736),
+        ask(0, 16),
+        begin_use(16, false),
+        Step::EndUse {
+            endpoint: 0,
+            slot: 16,
+        },
+        evict(16),
+        fault,
+        Step::Finish {
+            endpoint: 0,
+            vector: 0,
+            count: 9,
+        },
+        Step::Quit {
+            endpoint: 0,
+            pasid: 1,
+        },
+    ];
+    let answers = [
+        Err(Refusal::NoSuchEndpoint),
+        Err(Refusal::PageRange),
+        Err(Refusal::NotStarted),
+        Err(Refusal::NotStarted),
+        Err(Refusal::NoSuchUse),
+        Err(Refusal::NotHeld),
+        Err(Refusal::NotStarted),
+        Err(Refusal::NotPending),
+        Err(Refusal::NotStopping),
+    ];
+    expect(&rt, rt.alloc(), SMALL, &steps, &answers, counts(4, 0, 0));
 }

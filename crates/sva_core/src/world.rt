@@ -1,25 +1,26 @@
 //! The world, and one step of it.
 
-ghost use Rattle.std.specs.Prelude.{◌≡◌, ◌≢◌, ◌↔◌, IfOk, IfErr, Err, IsTrue};
+ghost use Rattle.std.specs.Prelude.{◌≡◌, ◌≢◌, ◌↔◌, IfOk, IfErr, Err};
 ghost use Rattle.sva_step.specs.declared.limits.Config.{Config};
 ghost use Rattle.sva_step.specs.declared.refusals.Refusal.TheVariants as refusal;
 ghost use Rattle.sva_model.specs.State.PasidRule.{PerSpace};
 ghost use Rattle.sva_model.specs.Claims.{Fits};
 ghost use Rattle.sva_model.specs.State.{opened};
 ghost use Rattle.sva_model.specs.Wire.{wire};
-ghost use Rattle.sva_wire.specs.Host.{IsOfSpaces};
-ghost use Rattle.sva_core.specs.Reached.{Follows, IsReached, TakesNoMemory, IsOpenRefusal, CountsOf};
+ghost use Rattle.sva_core.specs.Reached.{Follows, IsReached, IsOpenRefusal, CountsOf};
+ghost use Rattle.sva_served.specs.Applied.{TakesNoMemory};
 
-use crate::host::Host;
 use std::alloc::Global;
 use std::marker::Model;
 use sva_frames::Counts;
+use sva_served::Served;
 use sva_step::{Answer, Config, Refusal, Step};
 
-/// The frames, the live spaces and the counters of a host. No step reaches its endpoints, its workers or the link yet:
-/// they are as they were at first. Contracts see what all of it keeps of the records. A world must be spent: see `close`.
+/// A host with its endpoints and the link between them. Contracts see what all of it keeps of the records, and that some
+/// list of steps leads there.
+#[derive(Drop)]
 pub struct World {
-    host: Host,
+    host: Served,
 }
 
 impl Model for World {
@@ -44,20 +45,19 @@ impl World {
         if !config.fits() {
             return Err(Refusal::BadConfig);
         }
-        match Host::open(alloc, config) {
+        match Served::open(alloc, config) {
             Ok(host) => Ok(World { host }),
             Err(_) => Err(Refusal::OutOfMemory),
         }
     }
 
-    /// Takes one step, of the kinds that `is_built` tells. A refused step changes nothing. `OutOfMemory` is answered where
+    /// Takes one step. A refused step changes nothing. `OutOfMemory` is answered where
     /// a growth is refused; the contract says that the definitions accept the step then and that nothing changes, and
-    /// that each step but a space and a map, which alone take memory, never answers so.
+    /// that a step whose room was made before never answers so.
     pub fn apply(&mut self, step: &Step) -> Result<Answer, Refusal>
-        requires { IsOfSpaces step.now }
         ensures step { Follows self.old step.now result self.new }
         ensures reached { IsReached self.new }
-        ensures memory { TakesNoMemory step.now → result ≢ Err refusal.OutOfMemory }
+        ensures memory { TakesNoMemory self.old step.now → result ≢ Err refusal.OutOfMemory }
     {
         self.host.apply(step)
     }
@@ -69,27 +69,4 @@ impl World {
     {
         self.host.counts()
     }
-
-    /// Takes a world apart: its spaces and frames are spent.
-    pub fn close(self) {
-        let World { host } = self;
-        host.close();
-    }
-}
-
-/// Tells that `apply` takes the step: one of `Space`, `DropSpace`, `Map`, `Unmap`, `UnmapRange`, `Look` and
-/// `Bearer`.
-pub fn is_built(step: &Step) -> bool
-    ensures { IsTrue result ↔ IsOfSpaces step.now }
-{
-    matches!(
-        step,
-        Step::Space
-            | Step::DropSpace { .. }
-            | Step::Map { .. }
-            | Step::Unmap { .. }
-            | Step::UnmapRange { .. }
-            | Step::Look { .. }
-            | Step::Bearer { .. }
-    )
 }

@@ -35,8 +35,9 @@ use Rattle.sva_views.proofs.Deliveries.{start_is_seen, stop_is_seen, completion_
 use Rattle.sva_host.specs.declared.host.Host.TheInside.{Inside}
 use Rattle.sva_host.specs.declared.host.Port.{Port}
 use Rattle.sva_host.specs.Inner.{wire_of}
-use Rattle.sva_host.specs.Steps.{Does, ByLabels, IsDown, GoesDown, PortFor}
-use Rattle.sva_host.proofs.Ports.{IsPort, with_tables, with_tables_seen, below}
+use Rattle.sva_host.specs.Arriving.{IsArriving, answers}
+use Rattle.sva_host.specs.Steps.{Does, ByLabels, IsDown}
+use Rattle.sva_host.proofs.Ports.{IsPort, with_tables, with_tables_seen}
 use Rattle.sva_host.proofs.Devices.{device_there}
 
 -- What is found.
@@ -238,19 +239,19 @@ deliver_done host e n (PageRequest r) port numbered is found may down = absurd d
 deliver_done host e n (Marker t) port numbered is found may down = absurd down
 deliver_done host e n ResetDone port numbered is found may down = absurd down
 
--- a message that goes down goes to a port that is there
-pub goes : (host : Inside) (v : Wire) (n : ℕ) (sent : Sent) → wire_of host ≡ v → IsNumbered host.in_flight → message_at host.in_flight n ≡ Some sent → GoesDown v (flight_of v n)
-    → GoesDown (wire_of host) (Some (flight_seen (n, sent)))
-goes host v n sent view numbered found down =
-    subst (λ (o : Option FlightWire). GoesDown (wire_of host) o) (flight_found host n sent numbered (sym found)) (subst (λ (w : Wire). GoesDown w (flight_of w n)) (sym view) down)
+-- the message that was found arrives
+pub arrives : (host : Inside) (v : Wire) (n : ℕ) (sent : Sent) (kind : Kind) (may : Bool) → wire_of host ≡ v → IsNumbered host.in_flight → Some sent ≡ message_at host.in_flight n
+    → (IsTrue may → MayDeliver host.in_flight n) → may ≡ true → sent.kind ≡ kind → IsArriving v n sent.endpoint kind
+arrives host v n sent kind may view numbered found tells is same =
+    subst (λ (k : Kind). IsArriving v n sent.endpoint k) same
+    (record {
+      found = ap (λ (w : Wire). flight_of w n) (sym view) ∙ flight_found host n sent numbered found;
+      free = ap (λ (w : Wire). may_deliver w (flight_seen (n, sent))) (sym view) ∙ may_be host n sent may numbered found tells is;
+    })
 
-below_true : (a b : ℕ) → a < b → nat_lt a b ≡ true
-below_true a b h = grind (arith, nat_tests)
+-- what arrives is a Reset, or a translation request
+pub reset_answers : (w : Wire) (n e : ℕ) → IsArriving w n e Reset → answers w (flight_of w n) ≡ false → ⊥
+reset_answers w n e arriving none = never (sym none ∙ ap (answers w) arriving.found)
 
-pub port_for : (host : Inside) (v : Wire) (n : ℕ) (sent : Sent) → wire_of host ≡ v → GoesDown (wire_of host) (Some (flight_seen (n, sent))) → PortFor v sent.endpoint (Ok sent.endpoint)
-port_for host v n sent view down = (refl, ap (λ (w : Wire). nat_lt sent.endpoint (length w.parts)) (sym view) ∙ below_true sent.endpoint (length (wire_of host).parts) down.0)
-
-pub within_ports : (host : Inside) (n : ℕ) (sent : Sent) (slice : List Port) → slice ≡ host.ports.items → GoesDown (wire_of host) (Some (flight_seen (n, sent))) → sent.endpoint < length slice
-within_ports host n sent slice same down =
-    subst (λ (ports : List Port). sent.endpoint < length ports) (sym same)
-    (below host.ports.items sent.endpoint (below_true sent.endpoint (length (wire_of host).parts) down.0))
+pub request_answers : (w : Wire) (n e tag t q : ℕ) → IsArriving w n e (Request tag t q) → answers w (flight_of w n) ≡ false → (unit_of w e).is_open ≡ false
+request_answers w n e tag t q arriving none = sym (ap (answers w) arriving.found) ∙ none

@@ -1,4 +1,4 @@
--- Which space bears a PASID, by labels.
+-- Which space bears a PASID, and how many bindings are under it, by labels.
 use Rattle.std.proofs.Common.{◌≡◌, refl, ap, sym, ◌∙◌, subst, ℕ, ◌<◌, ◌≤◌, Bool, false, arith}
 use Rattle.std.specs.Prelude.{◌==◌, ◌&&◌, not, nat_le, if◌then◌else◌, Option, Some, None, Ok, Err, [], option_map, find}
 use Rattle.std.specs.List.{count_by}
@@ -8,6 +8,7 @@ use Rattle.sva_step.specs.declared.answers.Answer.TheVariants as answer
 use Rattle.sva_step.specs.declared.refusals.Refusal.TheVariants as refusal
 use Rattle.sva_step.specs.declared.steps.Step.TheVariants as step
 use Rattle.sva_model.specs.Wire.{Wire, BindingWire}
+use Rattle.sva_labels.specs.Sound.{IsSound}
 use Rattle.sva_labels.specs.Host.{Decision, decide_of}
 use Rattle.sva_labels.specs.Outcomes.{bearer_answer}
 use Rattle.sva_pasid.specs.Places as places
@@ -16,6 +17,7 @@ use Rattle.sva_views.proofs.Bindings.{bindings_are_seen}
 use Rattle.sva_host.specs.declared.host.Host.TheInside.{Inside}
 use Rattle.sva_host.specs.Inner.{wire_of}
 use Rattle.sva_host.specs.Steps.{Does, ByLabels}
+use Rattle.sva_host.proofs.FewBound.{few_under}
 
 within : (t : ℕ) → 0 < t → t ≤ 32 → not (nat_le 1 t && nat_le t 32) ≡ false
 within t l h = grind (arith, nat_tests)
@@ -42,3 +44,19 @@ borne host v t o view low high is =
         ∙ ap (λ (a : Answer). record { reply = Ok a; moves = [] })
         (said_by (wire_of host) t (find (λ b. b.pasid == t) (wire_of host).bindings)
         ∙ ap said (sym (((bindings_are_seen host.bindings).0 (wire_of host) refl).bearer t) ∙ sym is))
+
+-- what is found under a PASID counts the bindings under it
+counted_by : (t : ℕ) (w : Wire) (b : Bearer) (f : Option BindingWire)
+    → Some b ≡ option_map (λ (x : BindingWire). record { space = x.space; bindings = count_by (λ y. y.pasid == t) w.bindings }) f
+    → b.bindings ≡ count_by (λ (y : BindingWire). y.pasid == t) w.bindings
+counted_by t w b None is = absurd (cc (is))
+counted_by t w b (Some x) is = by (record { space = x.space; bindings = count_by (λ (y : BindingWire). y.pasid == t) w.bindings }) is
+  where
+    by : (d : Bearer) → Some b ≡ Some d → b.bindings ≡ d.bindings
+    by d same = let one : b ≡ d = cc in ap (λ (x : Bearer). x.bindings) one
+
+pub few_borne : (host : Inside) (v : Wire) (t : ℕ) (b : Bearer) → wire_of host ≡ v → IsSound v → Some b ≡ places.bearer_of t host.bindings → b.bindings ≤ 8
+few_borne host v t b view s is =
+    subst (λ n. n ≤ 8)
+    (sym (counted_by t (wire_of host) b (find (λ b. b.pasid == t) (wire_of host).bindings) (is ∙ ((bindings_are_seen host.bindings).0 (wire_of host) refl).bearer t)))
+    (few_under (wire_of host) t (subst IsSound (sym view) s))

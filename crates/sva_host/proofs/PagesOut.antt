@@ -36,7 +36,8 @@ use Rattle.sva_host.specs.declared.host.Host.TheInside.{Inside}
 use Rattle.sva_host.specs.Inner.{wire_of}
 use Rattle.sva_host.specs.Steps.{Does, ByLabels}
 use Rattle.sva_host.specs.Unmapping.{have_room, submitted}
-use Rattle.sva_host.proofs.Deciding.{refused_by, passed, all_clear}
+use Rattle.sva_host.proofs.Deciding.{IsOther, refused_by, passed, all_clear}
+use Rattle.sva_host.proofs.Refusing.{is_other}
 use Rattle.sva_host.proofs.Submitting.{room_there}
 
 abbrev pub unit_causes : Wire → (space descriptors : ℕ) → List Cause
@@ -242,3 +243,14 @@ empty_if r b h is = h.0 is
 pub awaited_if : (r b : Bool) → IsTrue r ↔ (b ≡ false) → r ≡ false → b ≡ true
 awaited_if r true h is = refl
 awaited_if r false h is = let full : r ≡ true = h.1 refl in absurd (cc (full, is))
+
+-- None of the causes is want of memory.
+
+pub unmap_other : (memory : MemorySeen) (n q count : ℕ) (x : Refusal) → Err x ≡ may_unmap memory n q count → IsOther x
+unmap_other memory n q count x is = is_other tt (unmap_causes_of memory n q count) x (tt, (tt, (tt, (tt, tt)))) is
+
+pub range_other : (memory : MemorySeen) (n q order : ℕ) (x : Refusal) → Err x ≡ may_unmap_range memory n q order → IsOther x
+range_other memory n q order x is = is_other tt (range_causes_of memory n q order) x (tt, (tt, (tt, (tt, (tt, tt))))) is
+
+pub units_other : (v : Wire) (n k : ℕ) (x : Refusal) → Err x ≡ verdict (unit_causes v n k) → IsOther x
+units_other v n k x is = is_other tt (unit_causes v n k) x (tt, (tt, tt)) is

@@ -102,4 +102,4 @@ with_tables_seen host e port tables d is same = λ i. record (wire_of host) { pa
 pub with_tables_host : (host : Inside) (e : ℕ) (port : Port) (tables : Tables) (bag : InFlight) (items : List Port) → IsHost host → IsSound tables
     → items ≡ slice_set host.ports.items e (record port { device = tables }) → IsHost (record host { ports = record { items = items }; in_flight = bag })
 with_tables_host host e port tables bag items h sound same =
-    record { sound = subst AllSound (sym same) (sound_set host.ports.items e (record port { device = tables }) sound h.sound) }
+    record { sound = subst AllSound (sym same) (sound_set host.ports.items e (record port { device = tables }) sound h.sound); staged = h.staged }

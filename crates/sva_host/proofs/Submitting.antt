@@ -232,6 +232,7 @@ submit_host host slice after next h same devices =
       sound =
           subst AllSound (sym (whole host.ports.items slice after same devices))
           (all_sound host.ports.items after (devices ∙ ap devices_of same) h.sound);
+      staged = h.staged;
     }
 
 pub submit_seen :

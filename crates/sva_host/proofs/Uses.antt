@@ -17,6 +17,7 @@ use Rattle.sva_labels.specs.Moves.{Move}
 use Rattle.sva_labels.specs.Outcomes.{by_one, label, begin_result, end_answer, result_of}
 use Rattle.sva_tables.specs.UseSlots.{slot_at}
 use Rattle.sva_endpoint.specs.declared.permitted.Using.{Using}
+use Rattle.sva_endpoint.specs.Tables.{Tables}
 use Rattle.sva_endpoint.specs.Steps.{unless, refusals_of_use, using, lowest_slot, translation_at, after_begin_use, refusals_of_end, end_of, ending, after_end_use, refusals_of_evict, evicting, after_evict}
 use Rattle.sva_views.specs.DeviceLaws.{found_at}
 use Rattle.sva_views.proofs.Uses.{use_is_seen, end_is_seen, evict_is_seen}
@@ -24,7 +25,8 @@ use Rattle.sva_host.specs.declared.host.Host.TheInside.{Inside}
 use Rattle.sva_host.specs.declared.host.Port.{Port}
 use Rattle.sva_host.specs.Inner.{wire_of}
 use Rattle.sva_host.specs.Steps.{Does, ByLabels}
-use Rattle.sva_host.proofs.Deciding.{refused_by, passed, given, all_clear, at_endpoint}
+use Rattle.sva_host.proofs.Deciding.{IsOther, refused_by, passed, given, all_clear, at_endpoint}
+use Rattle.sva_host.proofs.Refusing.{is_other}
 use Rattle.sva_host.proofs.Ports.{IsPort, with_tables}
 use Rattle.sva_host.proofs.Devices.{device_there, device_done}
 
@@ -149,3 +151,15 @@ evict_done host e t q port is allows =
     ∙ passed tt tt (refusals_of_evict port.device t q) [] (result_of (wire_of host) (step.Evict e t q)) (sym allows))
     refl
     (seen.after ∙ ap (λ (d : DeviceWire). record d { cache = filter (λ x. not (is_at_page t q x)) d.cache }) (sym device))
+
+-- None of the causes is want of memory.
+
+pub use_other : (s : Tables) (t q : ℕ) (x : Bool) (r : Refusal) → Err r ≡ using s t q x → IsOther r
+use_other s t q x r refuses =
+    is_other (record { slot = lowest_slot s; frame = (translation_at s t q).frame }) (refusals_of_use s t q x) r (tt, (tt, (tt, (tt, (tt, tt))))) refuses
+
+pub end_other : (s : Tables) (slot : ℕ) (r : Refusal) → Err r ≡ ending s slot → IsOther r
+end_other s slot r refuses = is_other (end_of (slot_at s.uses slot)) (refusals_of_end s slot) r (tt, tt) refuses
+
+pub evict_other : (s : Tables) (t q : ℕ) (r : Refusal) → Err r ≡ evicting s t q → IsOther r
+evict_other s t q r refuses = is_other tt (refusals_of_evict s t q) r (tt, (tt, tt)) refuses

@@ -1,8 +1,9 @@
 -- What the parts of a host are seen as, and what holds of them.
-use Rattle.std.specs.Prelude.{None, [], map, replicate, All}
+use Rattle.std.specs.Prelude.{None, IsSome, List, [], map, replicate, All}
 use Rattle.sva_model.specs.Wire.{Wire, PartWire}
 use Rattle.sva_endpoint.specs.Tables.{fresh}
 use Rattle.sva_endpoint.specs.Laws.{IsSound}
+use Rattle.sva_pasid.specs.declared.places.Place.{Place}
 use Rattle.sva_unit.specs.Seen.{idle}
 use Rattle.sva_views.specs.Device.{device_seen}
 use Rattle.sva_views.specs.Bindings.{bindings_seen}
@@ -35,5 +36,10 @@ wire_of host =
       next_cookie = host.next_cookie;
     }
 
+-- between two steps no stage of a binding is in hand: each stands in its place
+abbrev pub AreStaged : List Place → Type 0
+AreStaged places = All (λ (place : Place). IsSome place.stage) places
+
 pub record IsHost (host : Inside) : Type 0 where
   pub sound : All (λ (port : Port). IsSound port.device) host.ports.items
+  pub staged : AreStaged host.bindings

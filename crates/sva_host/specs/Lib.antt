@@ -1,3 +1,10 @@
 pub mod Steps
 pub mod Inner
 pub mod Unmapping
+pub mod Arriving
+pub mod Heads
+pub mod Stages
+pub mod Unbinding
+pub mod Replying
+pub mod Advancing
+pub mod StageReading

@@ -1,12 +1,12 @@
 -- What a step does, by labels.
-use Rattle.std.specs.Prelude.{◌≡◌, ℕ, ◌<◌, true, false, nat_lt, length, Option, Some, None, Result, Ok, Err, IsOk}
+use Rattle.std.specs.Prelude.{◌≡◌, ℕ, true, false, nat_lt, length, Result, Ok, Err, IsOk}
 use Rattle.sva_step.specs.declared.refusals.Refusal.{Refusal}
 use Rattle.sva_step.specs.declared.refusals.Refusal.TheVariants as refusal
 use Rattle.sva_step.specs.declared.steps.Step.{Step}
 use Rattle.sva_model.specs.Steps.{Reply}
 use Rattle.sva_model.specs.Message.{Message}
 use Rattle.sva_model.specs.Message.Message.{StartMessage, StopMessage, CompletionMessage, InvalidateMessage, ResponseMessage}
-use Rattle.sva_model.specs.Wire.{Wire, FlightWire}
+use Rattle.sva_model.specs.Wire.{Wire}
 use Rattle.sva_labels.specs.Causes.{lacks, causes_of}
 use Rattle.sva_labels.specs.Host.{Decision, decide_of}
 use Rattle.sva_labels.specs.Moves.{all_moved}
@@ -49,8 +49,3 @@ IsDown (CompletionMessage tag frame read write) = Unit {0}
 IsDown (InvalidateMessage itag pasid scope) = Unit {0}
 IsDown (ResponseMessage pasid index code) = Unit {0}
 IsDown _ = ⊥
-
--- what is in flight under a number, if anything is, goes to an endpoint that is there
-abbrev pub GoesDown : Wire → Option FlightWire → Type 0
-GoesDown w None = Unit {0}
-GoesDown w (Some f) = (f.endpoint < length w.parts) × IsDown f.message

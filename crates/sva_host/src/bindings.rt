@@ -1,6 +1,7 @@
 //! The steps of bindings.
 
-ghost use Rattle.std.specs.Prelude.{◌<◌, ◌^◌, ◌==◌, count_by};
+ghost use Rattle.std.specs.Prelude.{◌≢◌, Err};
+ghost use Rattle.sva_step.specs.declared.refusals.Refusal.TheVariants as refusal;
 ghost use Rattle.sva_step.specs.declared.steps.Step.TheVariants as step;
 ghost use Rattle.sva_labels.specs.Sound.{IsSound};
 ghost use Rattle.sva_host.specs.Steps.{ByLabels, MayStep};
@@ -58,8 +59,9 @@ impl Host {
 
     /// Which space bears a PASID, and how many bindings are under it. `BadPasid` where it is not 1 to 32.
     pub fn bearer(&self, pasid: u64) -> Result<Answer, Refusal>
-        requires few { count_by (λ b. b.pasid == pasid) self.now.bindings < 2 ^ 32 }
-        ensures { ByLabels self.now (step.Bearer pasid) result self.now }
+        requires { IsSound self.now }
+        ensures step { ByLabels self.now (step.Bearer pasid) result self.now }
+        ensures memory { result ≢ Err refusal.OutOfMemory }
     {
         if pasid == 0 {
             return Err(Refusal::BadPasid);

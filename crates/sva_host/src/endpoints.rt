@@ -1,5 +1,7 @@
 //! The steps of an endpoint.
 
+ghost use Rattle.std.specs.Prelude.{◌≢◌, Err};
+ghost use Rattle.sva_step.specs.declared.refusals.Refusal.TheVariants as refusal;
 ghost use Rattle.sva_step.specs.declared.steps.Step.TheVariants as step;
 ghost use Rattle.sva_host.specs.Steps.{ByLabels, PortFor};
 
@@ -38,7 +40,8 @@ impl Host {
         page: u64,
         write: bool,
     ) -> Result<Answer, Refusal>
-        ensures { ByLabels self.old (step.BeginUse endpoint pasid page write) result self.new }
+        ensures step { ByLabels self.old (step.BeginUse endpoint pasid page write) result self.new }
+        ensures memory { result ≢ Err refusal.OutOfMemory }
     {
         let at = self.port(endpoint)?;
         let _may = self.ports[at].device.may_begin_use(pasid, page, write)?;
@@ -51,7 +54,8 @@ impl Host {
 
     /// An endpoint ends the use in this slot, or is told that a reset ended it.
     pub fn end_use(&mut self, endpoint: u64, slot: u64) -> Result<Answer, Refusal>
-        ensures { ByLabels self.old (step.EndUse endpoint slot) result self.new }
+        ensures step { ByLabels self.old (step.EndUse endpoint slot) result self.new }
+        ensures memory { result ≢ Err refusal.OutOfMemory }
     {
         let at = self.port(endpoint)?;
         let answer = self.ports[at].device.may_end_use(slot)?;
@@ -61,7 +65,8 @@ impl Host {
 
     /// An endpoint lets go of the translation of this page that it holds.
     pub fn evict(&mut self, endpoint: u64, pasid: u64, page: u64) -> Result<Answer, Refusal>
-        ensures { ByLabels self.old (step.Evict endpoint pasid page) result self.new }
+        ensures step { ByLabels self.old (step.Evict endpoint pasid page) result self.new }
+        ensures memory { result ≢ Err refusal.OutOfMemory }
     {
         let at = self.port(endpoint)?;
         self.ports[at].device.may_evict(pasid, page)?;

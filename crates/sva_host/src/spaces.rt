@@ -1,5 +1,7 @@
 //! The steps of spaces and frames.
 
+ghost use Rattle.std.specs.Prelude.{◌≢◌, Err};
+ghost use Rattle.sva_step.specs.declared.refusals.Refusal.TheVariants as refusal;
 ghost use Rattle.sva_step.specs.declared.steps.Step.TheVariants as step;
 ghost use Rattle.sva_memory.specs.Steps.{Counted};
 ghost use Rattle.sva_host.specs.Steps.{ByLabels};
@@ -18,7 +20,8 @@ impl Host {
 
     /// Ends a space that is bound nowhere: its frames are free.
     pub fn drop_space(&mut self, space: u64) -> Result<Answer, Refusal>
-        ensures { ByLabels self.old (step.DropSpace space) result self.new }
+        ensures step { ByLabels self.old (step.DropSpace space) result self.new }
+        ensures memory { result ≢ Err refusal.OutOfMemory }
     {
         if !self.memory.has_space(space) {
             return Err(Refusal::NoSuchSpace);
@@ -39,7 +42,8 @@ impl Host {
 
     /// Where a frame is.
     pub fn look(&self, frame: u64) -> Result<Answer, Refusal>
-        ensures { ByLabels self.now (step.Look frame) result self.now }
+        ensures step { ByLabels self.now (step.Look frame) result self.now }
+        ensures memory { result ≢ Err refusal.OutOfMemory }
     {
         self.memory.look(frame)
     }

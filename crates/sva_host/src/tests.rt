@@ -74,3 +74,21 @@ fn asks_nothing_of_an_endpoint_that_is_off(rt: HostRuntime) {
     assert_eq!(rt; host.finish(1, 1, 1), Err(Refusal::NotPending));
     assert_eq!(rt; host.quit(1, 1), Err(Refusal::NotStopping));
 }
+
+// Begins a reset, in the same way.
+fn reset(host: &mut Host, endpoint: u64) -> Result<Answer, Refusal> {
+    let result = host.reset(endpoint);
+    if result != Err(Refusal::OutOfMemory) {
+        return result;
+    }
+    host.reset(endpoint)
+}
+
+#[test]
+fn begins_a_reset_once(rt: HostRuntime) {
+    let mut host = open(&rt, rt.alloc());
+    assert_eq!(rt; reset(&mut host, 2), Err(Refusal::NoSuchEndpoint));
+    assert_eq!(rt; reset(&mut host, 1), Ok(Answer::Resetting));
+    assert_eq!(rt; reset(&mut host, 1), Err(Refusal::Resetting));
+    assert_eq!(rt; reset(&mut host, 0), Ok(Answer::Resetting));
+}

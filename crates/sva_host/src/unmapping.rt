@@ -1,11 +1,12 @@
 //! Pages that are taken out of a space: what the units are asked, what they get, and what the frames wait for.
 
-ghost use Rattle.std.specs.Prelude.{◌≡◌, if◌then◌else◌, ◌+◌, ◌≤◌, ◌<◌, ◌*◌, ◌%◌, ◌^◌, true, length, option_map, map, suc, [], ◌∷◌};
+ghost use Rattle.std.specs.Prelude.{◌≡◌, ◌≢◌, Err, if◌then◌else◌, ◌+◌, ◌≤◌, ◌<◌, ◌*◌, ◌%◌, ◌^◌, true, length, option_map, map, suc, [], ◌∷◌};
 ghost use Rattle.std.specs.Option.{option_copied};
 ghost use Rattle.sva_model.specs.Words.{count_below, tabulate};
 ghost use Rattle.sva_labels.specs.Finding.{is_before_invalidating, submits_by, submits as asked};
 ghost use Rattle.sva_labels.specs.Causes.{waits_needed, queue_full, numbers_spent};
 ghost use Rattle.sva_labels.specs.Sound.{IsSound};
+ghost use Rattle.sva_step.specs.declared.refusals.Refusal.TheVariants as refusal;
 ghost use Rattle.sva_step.specs.declared.steps.Step.TheVariants as step;
 ghost use Rattle.sva_memory.specs.Pieces.{verdict};
 ghost use Rattle.sva_host.specs.Steps.{ByLabels};
@@ -236,7 +237,8 @@ impl Host {
     /// endpoint that may use them has answered.
     pub fn unmap(&mut self, space: u64, page: u64, count: u64) -> Result<Answer, Refusal>
         requires { IsSound self.old }
-        ensures { ByLabels self.old (step.Unmap space page count) result self.new }
+        ensures step { ByLabels self.old (step.Unmap space page count) result self.new }
+        ensures memory { result ≢ Err refusal.OutOfMemory }
     {
         self.memory.may_unmap(space, page, count)?;
         self.may_submit(space, count + 1)?;
@@ -253,7 +255,8 @@ impl Host {
     /// Takes the pages of a range out, those of its 2^`order` pages that are mapped. Their frames are free as after `unmap`.
     pub fn unmap_range(&mut self, space: u64, page: u64, order: u64) -> Result<Answer, Refusal>
         requires { IsSound self.old }
-        ensures { ByLabels self.old (step.UnmapRange space page order) result self.new }
+        ensures step { ByLabels self.old (step.UnmapRange space page order) result self.new }
+        ensures memory { result ≢ Err refusal.OutOfMemory }
     {
         self.memory.may_unmap_range(space, page, order)?;
         self.may_submit(space, 2)?;

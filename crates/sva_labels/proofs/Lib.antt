@@ -87,7 +87,12 @@ pub mod SoundWaits
 pub mod SoundRoom
 pub mod SoundRequests
 pub mod SoundFlights
+pub mod SoundSizes
+pub mod SoundJobs
+pub mod Waiting
+pub mod WaitingSteps
 pub mod SoundTables
 pub mod SoundCache
 pub mod TalliedSteps
 pub mod TalliedWorlds
+pub mod BoundSpaces

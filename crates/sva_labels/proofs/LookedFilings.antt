@@ -40,7 +40,7 @@ none_filed p g fi never filed =
     (λ k l. not_both (filed_group p k == g) (λ t. let e = same_is (filed_group p k) g t in never (p.filing k) (filed k l e) e)))
 
 -- an open group of the same index is this one
-one_group :
+pub one_group :
     (ms : Mappings) (x g n e : ℕ) (p : Part) (y z : ℕ) → PartInvariant ms x g n e p → p.phase ≡ Open → is_outstanding (p.group y) ≡ true
     → is_open_group (p.host_group z) ≡ true → p.index z ≡ p.index y → z ≡ y
 one_group ms x g n e p y z i ph out op h =

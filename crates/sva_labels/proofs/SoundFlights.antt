@@ -29,7 +29,7 @@ use Rattle.sva_labels.proofs.SoundLists.{IsSeen, seen_get}
 use Rattle.sva_labels.proofs.SoundRequests.{FiledOnce, arrival_short, filing_short}
 
 -- an unreleased binding is found by its PASID
-bearer_found :
+pub bearer_found :
     (w : World) (e b : ℕ) → Invariant w → is_unreleased ((w.part e).stage b) ≡ true
     → bearer (wire w) e ((w.part e).pasid b) ≡ Some (binding_wire w.config.first e (w.part e) b)
 bearer_found w e b i u = bearer_is w e ((w.part e).pasid b) i ∙ ap (option_map (binding_wire w.config.first e (w.part e))) ((i.parts e).labels.bears_pasid b u)
@@ -123,10 +123,10 @@ flight_suited w i ca most k f x =
 
 -- What waits to be filed.
 
-abbrev IsWaitingAt : World → (e k : ℕ) → PageRequestWire → Type 0
+abbrev pub IsWaitingAt : World → (e k : ℕ) → PageRequestWire → Type 0
 IsWaitingAt w e k r = IsSeen (w.part e).arrivals (is_waiting (w.part e)) (λ j. page_request_wire (w.part e) ((w.part e).arrival j)) k r
 
-waiting_at : (w : World) (e k : ℕ) (r : PageRequestWire) → e < w.config.endpoints → slice_get (part_of (wire w) e).page_queue k ≡ Some r → IsWaitingAt w e k r
+pub waiting_at : (w : World) (e k : ℕ) (r : PageRequestWire) → e < w.config.endpoints → slice_get (part_of (wire w) e).page_queue k ≡ Some r → IsWaitingAt w e k r
 waiting_at w e k r l h =
     seen_get (w.part e).arrivals (is_waiting (w.part e)) (λ j. page_request_wire (w.part e) ((w.part e).arrival j)) k r
     (sym (ap (λ p. slice_get p.page_queue k) (part_seen w e l)) ∙ h)

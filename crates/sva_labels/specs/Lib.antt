@@ -7,3 +7,5 @@ pub mod Host
 pub mod Sound
 pub mod RowsByLabels
 pub mod Tallies
+pub mod Waiting
+pub mod Spaces

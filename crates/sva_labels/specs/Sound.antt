@@ -1,7 +1,7 @@
 -- What the calls of the parts need of what a host keeps, in its own words; and the law that each world which a list of steps
 -- leads to is seen so.
-use Rattle.std.specs.Prelude.{◌≡◌, ◌↔◌, ℕ, ◌^◌, ◌<◌, ◌≤◌, Bool, true, false, Option, Some, None, is_some, List, [], ◌∷◌, map, length, slice_get, slice_index_or}
-use Rattle.std.specs.List.{find}
+use Rattle.std.specs.Prelude.{◌≡◌, ◌↔◌, ℕ, ◌^◌, ◌<◌, ◌≤◌, Bool, true, false, ◌&&◌, ◌==◌, Option, Some, None, is_some, List, [], ◌∷◌, map, length, slice_get, slice_index_or}
+use Rattle.std.specs.List.{find, list_any}
 use Rattle.sva_step.specs.declared.limits.Config.{Config}
 use Rattle.sva_step.specs.declared.steps.Step.{Step}
 use Rattle.sva_model.specs.Message.{Message}
@@ -9,14 +9,15 @@ use Rattle.sva_model.specs.Message.Message.{StartMessage, StopMessage, ResetMess
 use Rattle.sva_model.specs.State.PasidRule.{PerSpace}
 use Rattle.sva_model.specs.Steps.{world_after}
 use Rattle.sva_model.specs.Claims.{Fits}
-use Rattle.sva_model.specs.Wire.{Wire, SpaceWire, BindingWire, DeviceWire, TranslationWire, UnitWire, PlaceWire, TargetWire, PageRequestWire, FlightWire, is_before, wire}
+use Rattle.sva_model.specs.Wire.{Wire, SpaceWire, BindingWire, DeviceWire, TranslationWire, UnitWire, PlaceWire, TargetWire, PageRequestWire, JobWire, FlightWire, is_before, wire}
 use Rattle.sva_model.specs.Wire.PlaceWire.{WithheldWire}
 use Rattle.sva_model.specs.Wire.TargetWire.{Cookie}
 use Rattle.sva_model.specs.Wire.StageWire.{StoppingWire, InvalidatingWire}
 use Rattle.sva_model.specs.Wire.Descriptor.{WaitDescriptor}
-use Rattle.sva_labels.specs.Finding.{part_of, device_of, unit_of, outstanding, bearer, is_wait_done}
-use Rattle.sva_labels.specs.Moves.{is_begun}
+use Rattle.sva_labels.specs.Finding.{part_of, device_of, unit_of, outstanding, binding_of, bearer, held_by, has_open_group, is_wait_done}
+use Rattle.sva_labels.specs.Moves.{is_begun, is_of_job}
 use Rattle.sva_labels.specs.Outcomes.{asks_of}
+use Rattle.sva_labels.specs.Replying.{responds}
 
 -- what a frame awaits at a unit, if anything; the cookies among such targets, as often as they stand there; and those that
 -- frames await at a unit
@@ -73,6 +74,24 @@ pub record AreTables (d : DeviceWire) : Type 0 where
   pub slots : length d.slots ≡ 16
   pub taken : length d.taken ≡ 32
   pub groups : length d.groups ≡ 32
+
+-- a job of this endpoint, binding and index
+abbrev pub is_job_of : (endpoint binding index : ℕ) → JobWire → Bool
+is_job_of e n i job = job.endpoint == e && job.binding == n && job.index == i
+
+-- none is, queued or in a hand
+pub record HasNoJob (w : Wire) (endpoint binding index : ℕ) : Type 0 where
+  pub queued : list_any (is_job_of endpoint binding index) w.jobs ≡ false
+  pub held : (worker : ℕ) (job : JobWire) → held_by w worker ≡ Some job → is_job_of endpoint binding index job ≡ false
+
+-- a job: its endpoint is there, its index has a place in the table, it asks for 1 to 32 pages, and its binding, if that isn't
+-- released, is at its endpoint
+pub record IsJob (w : Wire) (job : JobWire) : Type 0 where
+  pub endpoint_low : job.endpoint < length w.parts
+  pub index_low : job.index < 32
+  pub asks_some : 0 < length job.asks
+  pub asks_few : length job.asks ≤ 32
+  pub at_home : (b : BindingWire) → binding_of w job.binding ≡ Some b → b.endpoint ≡ job.endpoint
 
 pub record IsSound (w : Wire) : Type 0 where
   -- numbers and cookies: a step counts on from one of these after its test that it is below 2^63 (a unit's `submit`)
@@ -132,6 +151,27 @@ pub record IsSound (w : Wire) : Type 0 where
       → slice_get (part_of w e).page_queue k ≡ Some r
       → bearer w e r.pasid ≡ Some b
       → length (asks_of (find (is_begun b.binding r.index) (part_of w e).host_groups)) < 32
+  -- and no job has its binding and index: an index is given anew only once its group is answered (`file`)
+  pub filing_anew :
+      (e k : ℕ) (r : PageRequestWire) (b : BindingWire)
+      → e < length w.parts
+      → slice_get (part_of w e).page_queue k ≡ Some r
+      → bearer w e r.pasid ≡ Some b
+      → HasNoJob w e b.binding r.index
+  -- the open groups of a binding are at its endpoint alone (`is_open`)
+  pub groups_at_home :
+      (k e : ℕ) (b : BindingWire)
+      → slice_get w.bindings k ≡ Some b
+      → (e == b.endpoint) ≡ false
+      → has_open_group (part_of w e) b.binding ≡ false
+  -- jobs (`take`, `answer`); where a held one isn't responded to, no open group is of it
+  pub jobs_queued : (k : ℕ) (job : JobWire) → slice_get w.jobs k ≡ Some job → IsJob w job
+  pub jobs_held : (worker : ℕ) (job : JobWire) → held_by w worker ≡ Some job → IsJob w job
+  pub dropped_closed :
+      (worker : ℕ) (job : JobWire)
+      → held_by w worker ≡ Some job
+      → responds w job ≡ false
+      → list_any (is_of_job job) (part_of w job.endpoint).host_groups ≡ false
   -- an endpoint: its tables and its unit's have a place for each label (`give` of a label, `receive`); no more than 32 page
   -- requests are outstanding (`fault`), and no more than 64 translations cached (`receive` of a completion)
   pub tables : (e : ℕ) → e < length w.parts → AreTables (device_of w e)

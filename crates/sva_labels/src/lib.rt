@@ -4,7 +4,9 @@
 ghost use Rattle.sva_labels.specs.Host.{LabelsAreNames, RunsByLabels};
 ghost use Rattle.sva_labels.specs.RowsByLabels.{TranslationsByLabels, InvalidationsByLabels, ResetsByLabels, PageRequestsByLabels, FinalRulesByLabels, DeliveriesByLabels, RefusalsByLabels, ReadingsByLabels, LimitsByLabels, BoundariesByLabels, NamesByLabels, WrongRulesByLabels};
 ghost use Rattle.sva_labels.specs.Sound.{AlwaysSound};
+ghost use Rattle.sva_labels.specs.Spaces.{AlwaysHaveSpaces};
 ghost use Rattle.sva_labels.specs.Tallies.{AlwaysTallied};
+ghost use Rattle.sva_labels.specs.Waiting.{FiledInTurn};
 
 /// By the rule of one PASID for each space: at each world that a list of steps leads to, each step by labels answers what the
 /// step by names answers, and leaves what the next world is seen as. So a list of steps by labels, from what a host keeps
@@ -19,10 +21,22 @@ pub fn always_sound()
     ensures { AlwaysSound }
 {}
 
+/// The space of each binding is there, at each world that a list of steps leads to: a space that is bound isn't dropped.
+pub fn bindings_have_spaces()
+    ensures { AlwaysHaveSpaces }
+{}
+
 /// How many bindings are unreleased, and how many use slots are taken: a step changes these by what its answer says, and by
 /// no more.
 pub fn always_tallied()
     ensures { AlwaysTallied }
+{}
+
+/// Of every host, whether some list of steps leads to it or not: each page request that a step files waited before, in flight or
+/// in a page request queue, and each that waits anew took the number of a message. So no more are ever filed than messages are
+/// numbered.
+pub fn filed_in_turn()
+    ensures { FiledInTurn }
 {}
 
 /// Runs that are worked out: the steps by labels, one after another from what a host keeps before the first step, give the

@@ -13,3 +13,9 @@ pub mod Permits
 pub mod Unmapped
 pub mod Deciding
 pub mod Pending
+pub mod NewPages
+pub mod FreeFrames
+pub mod MappedInTurn
+pub mod JobPages
+pub mod Mapping
+pub mod Success

@@ -6,3 +6,4 @@ pub mod Inner
 pub mod Steps
 pub mod Room
 pub mod Unmapping
+pub mod Asked

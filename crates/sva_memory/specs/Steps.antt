@@ -8,7 +8,7 @@ use Rattle.sva_model.specs.Steps.{Reply}
 use Rattle.sva_model.specs.Wire.{Wire, PlaceWire}
 use Rattle.sva_model.specs.Wire.PlaceWire.{FreeWire, MappedWire, WithheldWire}
 use Rattle.sva_labels.specs.Finding.{pages_of, is_free}
-use Rattle.sva_labels.specs.Moves.{Move, moved}
+use Rattle.sva_labels.specs.Moves.{Move, moved, all_moved}
 use Rattle.sva_labels.specs.Host.{reply_of, next_of}
 use Rattle.sva_memory.specs.Seen.{MemorySeen, memory_of, with_memory}
 
@@ -28,6 +28,10 @@ Steps step before result after = (w : Wire) → memory_of w ≡ before → ByLab
 -- a move that changes spaces and frames alone, at each host that keeps them so
 abbrev pub Moves : Move → MemorySeen → MemorySeen → Type 0
 Moves move before after = (w : Wire) → memory_of w ≡ before → with_memory w after ≡ moved w move
+
+-- several such moves, one after another
+abbrev pub AllMoves : List Move → MemorySeen → MemorySeen → Type 0
+AllMoves moves before after = (w : Wire) → memory_of w ≡ before → with_memory w after ≡ all_moved w moves
 
 -- is there a space of this number?
 abbrev pub has_space : MemorySeen → (number : ℕ) → Bool

@@ -1,19 +1,24 @@
 //! The frames and the live spaces of a host, put together.
 
-ghost use Rattle.std.specs.Prelude.{◌≡◌, ◌≢◌, ◌^◌, ◌↔◌, true, None, Err, IfOk, IsOk, IsTrue, length};
+ghost use Rattle.std.specs.Prelude.{◌≡◌, ◌≢◌, ◌≤◌, ◌^◌, ◌↔◌, true, None, Err, IfOk, OnOk, OnErr, IsOk, IsTrue, length, option_map};
 ghost use Rattle.sva_step.specs.declared.refusals.Refusal.TheVariants as refusal;
 ghost use Rattle.sva_step.specs.declared.steps.Step.TheVariants as step;
 ghost use Rattle.sva_labels.specs.Moves.{Move, settled_cookie};
-ghost use Rattle.sva_memory.specs.Seen.{targets_seen};
+ghost use Rattle.sva_labels.specs.Finding.{page_at, pages_of, or_no_pages};
+ghost use Rattle.sva_memory.specs.Seen.{page_seen, targets_seen};
 ghost use Rattle.sva_memory.specs.Room.{HaveRoom};
 ghost use Rattle.sva_memory.specs.Unmapping.{may_unmap, may_unmap_range, frames_of, mapped_of, unmapped, settled};
-ghost use Rattle.sva_memory.specs.Steps.{first_memory, Steps, Moves, has_space, Counted};
+ghost use Rattle.sva_memory.specs.Asked.{asks_seen, new_pages, may_map_all, maps_of, taken_back};
+ghost use Rattle.sva_memory.specs.Steps.{first_memory, Steps, Moves, AllMoves, has_space, Counted};
 
+use crate::asked::{self, MOST_ASKED};
 use crate::live::{Live, place_of};
 use crate::pages;
+use arrayvec::ArrayVec;
 use std::alloc::{AllocError, Global};
 use std::marker::Model;
 use sva_frames::{Counts, FramePool, Place, Waits};
+use sva_prq::Ask;
 use sva_space::Space;
 use sva_step::{Answer, FrameList, NUMBERS, Refusal};
 
@@ -127,6 +132,17 @@ impl Memory {
         place_of(&self.spaces, number).is_some()
     }
 
+    /// The frame at a page of a space, and whether it may be written; `None` where there is no such space, or the page isn't
+    /// mapped.
+    pub fn find(&self, space: u64, page: u64) -> Option<(u32, bool)>
+        ensures { option_map (λ found. page_seen (page, found)) result ≡ page_at (or_no_pages (pages_of self.now.spaces space)) page }
+    {
+        let Some(place) = place_of(&self.spaces, space) else {
+            return None;
+        };
+        self.spaces[place].space.find(page)
+    }
+
     /// Ends a space: its frames are free.
     pub fn drop_space(&mut self, number: u64)
         requires { has_space self.old number ≡ true }
@@ -200,6 +216,51 @@ impl Memory {
             count,
             waits,
         )
+    }
+
+    /// Whether the pages that the requests of a job ask for may be mapped, at most 32 requests: the first of `BadVerdict`,
+    /// `NoFrame` and `SpaceFull` that refuses it.
+    pub fn may_map_all(&self, space: u64, asks: &[Ask]) -> Result<(), Refusal>
+        requires there { has_space self.now space ≡ true }
+        requires few { length asks.now ≤ 32 }
+        ensures { result ≡ may_map_all self.now space (asks_seen asks.now) }
+    {
+        let Some(place) = place_of(&self.spaces, space) else {
+            unreachable!();
+        };
+        asked::may_map_all(&self.spaces[place].space, &self.pool, asks)
+    }
+
+    /// Maps the pages that the requests of a job ask for and that aren't mapped, in order of first filing, to the lowest free
+    /// frames in turn, each to be written if a request asks for that. Gives these pages. Where there is no memory for one of
+    /// them, nothing changes.
+    pub fn map_all(
+        &mut self,
+        space: u64,
+        asks: &[Ask],
+    ) -> Result<ArrayVec<u64, MOST_ASKED>, AllocError>
+        requires there { has_space self.old space ≡ true }
+        requires few { length asks.now ≤ 32 }
+        requires may { IsOk (may_map_all self.old space (asks_seen asks.now)) }
+        ensures pages { IfOk result (λ pages. pages.items ≡ new_pages self.old space (asks_seen asks.now)) }
+        ensures after { OnOk result (AllMoves (maps_of self.old space (asks_seen asks.now)) self.old self.new) }
+        ensures back { IfOk result (λ pages. taken_back self.new space pages.items ≡ self.old) }
+        ensures err { OnErr result (self.new ≡ self.old) }
+    {
+        let Some(place) = place_of(&self.spaces, space) else {
+            unreachable!();
+        };
+        asked::map_all(&mut self.spaces[place].space, &mut self.pool, asks)
+    }
+
+    /// Takes pages of a space out again, the last first, those of them that are mapped: their frames are free.
+    pub fn take_back(&mut self, space: u64, pages: &[u64])
+        ensures { self.new ≡ taken_back self.old space pages.now }
+    {
+        let Some(place) = place_of(&self.spaces, space) else {
+            return;
+        };
+        asked::take_back(&mut self.spaces[place].space, &mut self.pool, pages);
     }
 
     /// Whether each cookie of these waits is pending at its unit already, or finds fewer than 64 pending there.

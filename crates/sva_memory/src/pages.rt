@@ -14,7 +14,7 @@ use sva_space::Space;
 use sva_step::{Answer, FrameList, MOST_ORDER, MOST_PAGES, PAGES, Refusal};
 
 /// How many pages a space has at most.
-const MOST_MAPPED: usize = 1024;
+pub const MOST_MAPPED: usize = 1024;
 
 /// Maps a page to the lowest free frame.
 pub fn map_page(

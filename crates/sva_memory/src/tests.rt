@@ -1,7 +1,9 @@
-use crate::Memory;
+use crate::{MOST_ASKED, Memory};
+use arrayvec::ArrayVec;
 use std::alloc::Global;
 use std::process::Abort;
 use sva_frames::{Counts, Target, Waits};
+use sva_prq::Ask;
 use sva_step::{Answer, FrameList, Refusal};
 
 fn counts(free: u32, mapped: u32, withheld: u32) -> Counts {
@@ -323,4 +325,66 @@ fn goes_on_where_memory_was_refused(rt: HostRuntime) {
     assert!(rt; memory.has_space(2));
     memory.drop_space(2);
     assert_eq!(rt; memory.counts(), counts(16, 48, 0));
+}
+
+fn ask(page: u64, write: bool) -> Ask {
+    Ask {
+        page,
+        read: true,
+        write,
+    }
+}
+
+// Maps what a job asks for where that is permitted. Where memory is refused once, nothing has changed, and the same call
+// again maps it.
+fn map_all<R: Abort>(
+    rt: &R,
+    memory: &mut Memory,
+    space: u64,
+    asks: &[Ask],
+) -> ArrayVec<u64, MOST_ASKED> {
+    let before = memory.counts();
+    assert!(rt; memory.has_space(space) && asks.len() <= MOST_ASKED);
+    assert!(rt; memory.may_map_all(space, asks).is_ok());
+    if let Ok(pages) = memory.map_all(space, asks) {
+        return pages;
+    }
+    assert_eq!(rt; memory.counts(), before);
+    match memory.map_all(space, asks) {
+        Ok(pages) => pages,
+        Err(_) => panic!(rt; "memory is refused once"),
+    }
+}
+
+// Page 17 is mapped, and frame 1 is its own. A job asks for pages 30, 17 and 21, and for page 30 once more, to be written:
+// pages 30 and 21 get frames 0 and 2, and page 21 isn't to be written.
+#[test]
+fn maps_what_a_job_asks_for(rt: HostRuntime) {
+    let mut memory = three_mapped(&rt, rt.alloc());
+    let none = Waits::new();
+    assert_eq!(rt; unmap(&rt, &mut memory, 0, 16, 1, &none).len(), 1);
+    assert_eq!(rt; unmap(&rt, &mut memory, 0, 20, 1, &none).len(), 1);
+    let asks = [
+        ask(30, false),
+        ask(17, false),
+        ask(21, false),
+        ask(30, true),
+    ];
+    let pages = map_all(&rt, &mut memory, 0, &asks);
+    assert_eq!(rt; pages.as_slice(), [30, 21].as_slice());
+    assert_eq!(rt; memory.counts(), counts(1, 3, 0));
+    assert!(rt; memory.has_space(0));
+    assert_eq!(rt; memory.may_map_all(0, &[ask(30, true)]), Ok(()));
+    assert_eq!(rt;
+        memory.may_map_all(0, &[ask(21, true)]),
+        Err(Refusal::BadVerdict)
+    );
+    assert_eq!(rt;
+        memory.may_map_all(0, &[ask(40, true), ask(41, true), ask(21, false)]),
+        Err(Refusal::NoFrame)
+    );
+    memory.take_back(0, &[21, 50]);
+    assert_eq!(rt; memory.look(2), Ok(Answer::Free));
+    assert_eq!(rt; unmap(&rt, &mut memory, 0, 30, 1, &none).len(), 1);
+    assert_eq!(rt; memory.counts(), counts(3, 1, 0));
 }

@@ -1,5 +1,5 @@
 -- The report of a whole text: what a run of its steps answers, a line for each, and how the run ended.
-use Rattle.std.specs.Prelude.{◌≡◌, ℕ, ◌^◌, ◌&&◌, nat_le, if◌then◌else◌, Bool, List, [], ◌∷◌, ◌++◌, codes, decimal, flat_map, length, Option, Result, Ok, Err}
+use Rattle.std.specs.Prelude.{◌≡◌, ◌↔◌, ℕ, ◌^◌, ◌&&◌, nat_le, if◌then◌else◌, Bool, true, List, [], ◌∷◌, ◌++◌, codes, decimal, flat_map, length, Option, Result, Ok, Err}
 use Rattle.sva_step.specs.declared.limits.Config.{Config}
 use Rattle.sva_step.specs.declared.refusals.Refusal.TheVariants.{BadConfig}
 use Rattle.sva_step.specs.declared.steps.Step.{Step}
@@ -10,12 +10,12 @@ use Rattle.sva_model.specs.State.{World, opened}
 use Rattle.sva_model.specs.Claims.{Fits}
 use Rattle.sva_model.specs.Steps.{Counts, Reply, counts, replies, run, world_after}
 use Rattle.sva_model.specs.Wire.{Wire, wire}
-use Rattle.sva_scenario.specs.declared.faults.LineFault.{LineFault}
+use Rattle.sva_grammar.specs.declared.faults.LineFault.{LineFault}
 use Rattle.sva_scenario.specs.declared.streams.DriveFault.{DriveFault}
 use Rattle.sva_scenario.specs.declared.streams.Outcome.{Outcome}
 use Rattle.sva_scenario.specs.declared.streams.Outcome.TheVariants.{Done, Faulted}
-use Rattle.sva_scenario.specs.Faults.{line_fault_text}
-use Rattle.sva_scenario.specs.Grammar.{Script, scenario_of}
+use Rattle.sva_grammar.specs.Faults.{line_fault_text}
+use Rattle.sva_grammar.specs.Grammar.{Script, scenario_of}
 use Rattle.sva_scenario.specs.Streams.{Writes}
 
 -- a line is ended by LF
@@ -45,6 +45,10 @@ is_fit config =
     && nat_le 1 config.workers
     && nat_le config.workers 4
     && nat_le config.first (2 ^ 63)
+
+-- the test passes exactly those that are within their limits
+abbrev pub ConfigsAreTested : Type 0
+ConfigsAreTested = (config : Config) → (is_fit config ≡ true) ↔ Fits config
 
 -- a config that is out of its limits is refused, and no step is taken
 unfoldable pub script_report : Script → List ℕ

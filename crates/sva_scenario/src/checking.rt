@@ -4,14 +4,13 @@ ghost use Rattle.sva_scenario.specs.declared.reading.TheConstants.{MOST_TURNS};
 ghost use Rattle.sva_scenario.specs.Report.{check_of, check_outcome_of};
 ghost use Rattle.sva_scenario.specs.Streams.{IsNew, Tells, Writes};
 
-use crate::faults::ParseFault;
-use crate::parsing::parse;
 use crate::reading::read_all;
 use crate::report::{write_fault, write_steps};
 use crate::streams::{DriveFault, Outcome};
 use crate::told::Told;
 use std::alloc::Global;
 use std::io::{Read, Write};
+use sva_grammar::{ParseFault, parse};
 
 /// Reads a scenario to its end, and writes how many steps it has, `steps K`, or its line fault. No step is run, and the
 /// limits of the config aren't asked. `Faulted` tells that there is a line fault. After `Write` or `Memory` a prefix of

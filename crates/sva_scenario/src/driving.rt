@@ -1,14 +1,10 @@
 ghost use Rattle.std.specs.Prelude.{◌≡◌, ◌↔◌, ◌⊎◌, ◌≤◌, length, IsTrue, IfOk, IfErr, IfSome, OnOk, if◌then◌else◌};
 ghost use Rattle.std.specs.Io.KnownBytes.{Appends, IsAtEnd};
-ghost use Rattle.std.specs.List.{AllByRecursion};
-ghost use Rattle.sva_wire.specs.Host.{IsOfSpaces};
 ghost use Rattle.sva_core.specs.Reached.{Follows};
 ghost use Rattle.sva_scenario.specs.declared.reading.TheConstants.{MOST_TURNS};
 ghost use Rattle.sva_scenario.specs.Report.{is_fit, outcome_of, reply_text, report_of, script_report, ReportsFrom};
 ghost use Rattle.sva_scenario.specs.Streams.{AppendsPrefix, IsNew, Tells, Writes};
 
-use crate::faults::ParseFault;
-use crate::parsing::parse;
 use crate::reading::read_all;
 use crate::report::{write_counts, write_fault, write_reply};
 use crate::streams::{DriveFault, Outcome};
@@ -16,6 +12,7 @@ use crate::told::Told;
 use std::alloc::Global;
 use std::io::{Read, Write};
 use sva_core::World;
+use sva_grammar::{ParseFault, parse};
 use sva_step::{Answer, Config, Refusal, Step};
 
 /// Reads a scenario to its end, runs its steps, and writes its report line by line. `Faulted` tells that the report is a
@@ -76,18 +73,13 @@ fn report_script<W: Write>(
     writer: &mut Told<W>,
 ) -> Result<Outcome, DriveFault>
     requires new { IsNew writer.old }
-    requires built { AllByRecursion IsOfSpaces steps.now }
     requires few { length steps.now ≤ 65536 }
     ensures report { Writes (W.contents writer.old.inner) (W.contents writer.new.inner) (script_report (record { config = config; steps = steps.now })) result }
     ensures outcome { IfOk result (λ outcome. outcome ≡ (if is_fit config then Outcome.Done else Outcome.Faulted)) }
     ensures told { Tells writer.old writer.new result }
 {
     match World::open(alloc, config) {
-        Ok(mut world) => {
-            let outcome = report_steps(line, &mut world, steps, writer);
-            world.close();
-            outcome
-        }
+        Ok(mut world) => report_steps(line, &mut world, steps, writer),
         Err(Refusal::BadConfig) => {
             write_reply(line, &Err(Refusal::BadConfig), writer)?;
             Ok(Outcome::Faulted)
@@ -104,7 +96,6 @@ fn report_steps<W: Write>(
     writer: &mut Told<W>,
 ) -> Result<Outcome, DriveFault>
     requires new { IsNew writer.old }
-    requires built { AllByRecursion IsOfSpaces steps.now }
     requires few { length steps.now ≤ 65536 }
     ensures report { ReportsFrom world.old steps.now (W.contents writer.old.inner) (W.contents writer.new.inner) result }
     ensures outcome { IfOk result (λ outcome. outcome ≡ Outcome.Done) }
@@ -124,7 +115,6 @@ fn report_steps<W: Write>(
 
 /// Takes a step. What is answered has a short text.
 fn take_step(world: &mut World, step: &Step) -> Result<Answer, Refusal>
-    requires { IsOfSpaces step.now }
     ensures step { Follows world.old step.now result world.new }
     ensures short { length (reply_text result) ≤ 1024 }
 {

@@ -1,31 +1,27 @@
-// Scenarios: the grammar of their text, the reader that it comes from, and the loop that writes a report.
+// Scenarios: the reader that their text comes from, and the loop that writes a report. The grammar is that of `sva_grammar`.
 #![tactic(auto)]
 
 mod checking;
+mod configs;
 mod driving;
-mod faults;
-mod forms;
-mod grammar;
-mod lines;
-mod parsing;
 mod reading;
 mod report;
 mod streams;
 mod told;
-mod words;
 mod writing;
 
 pub use checking::check;
+pub use configs::laws;
 pub use driving::drive;
-pub use faults::{Cause, LineFault, ParseFault};
-pub use grammar::laws;
-pub use parsing::{Scenario, parse};
 pub use reading::{MOST_KEPT, MOST_TURNS, read_all};
 pub use streams::{DriveFault, Outcome};
+pub use sva_grammar::{Cause, LineFault, ParseFault, Scenario, parse};
 pub use told::Told;
 pub use writing::write_all;
 
 #[cfg(test)]
 mod report_tests;
+#[cfg(test)]
+mod row_tests;
 #[cfg(test)]
 mod tests;

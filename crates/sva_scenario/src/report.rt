@@ -1,15 +1,15 @@
 ghost use Rattle.std.specs.Prelude.{◌≡◌, ◌+◌, ◌^◌, ◌<◌, ◌≤◌, ◌++◌, length, decimal, Err, OnOk};
-ghost use Rattle.sva_scenario.specs.Faults.{line_fault_text};
+ghost use Rattle.sva_grammar.specs.Faults.{line_fault_text};
 ghost use Rattle.sva_scenario.specs.Report.{ended, reply_text, counts_text, steps_text};
 ghost use Rattle.sva_scenario.specs.Streams.{Writes, Tells};
 
-use crate::faults::LineFault;
 use crate::streams::DriveFault;
 use crate::told::Told;
 use crate::writing::write_all;
 use itoa::Buffer;
 use std::alloc::AllocError;
 use std::io::Write;
+use sva_grammar::LineFault;
 use sva_step::{Answer, Refusal};
 
 /// Writes the line of a step: its answer, or its refusal. What stands in `line` is lost. Want of memory comes before

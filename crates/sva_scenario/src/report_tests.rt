@@ -1,13 +1,19 @@
 // Whole reports: texts and reports of worked runs, of inputs that are no scenario, and where a reader, a writer or memory fails.
 use super::*;
 use crate::tests::{Broken, Slow, long_text};
-use std::alloc::Global;
+use std::alloc::{AllocError, Global};
 use std::io;
 use std::io::Write;
+use std::ops::Range;
 use std::test::Fail;
 
 /// Is this the report of a text, and does the run end so?
-fn reports(alloc: Global, text: &[u8], want: &[u8], end: Outcome) -> Result<bool, DriveFault> {
+pub(crate) fn reports(
+    alloc: Global,
+    text: &[u8],
+    want: &[u8],
+    end: Outcome,
+) -> Result<bool, DriveFault> {
     let mut reader = Told::new(text);
     let mut writer = Told::new(Vec::new(alloc));
     let outcome = drive(alloc, &mut reader, &mut writer)?;
@@ -77,6 +83,75 @@ fn refuses_the_65th_space(rt: HostRuntime) -> Result<(), Fail> {
     Ok(())
 }
 
+/// Appends `map 0 PAGE r` for pages in a row.
+fn put_maps(text: &mut Vec<u8>, alloc: Global, pages: Range<u64>) -> Result<(), AllocError> {
+    for page in pages {
+        text.extend_from_slice(format!(in alloc; "map 0 {page} r\n")?.as_bytes())?;
+    }
+    Ok(())
+}
+
+#[test]
+fn gives_each_space_a_pasid(rt: HostRuntime) -> Result<(), Fail> {
+    let alloc = rt.alloc();
+    let mut text = long_text(alloc, 33, b"space\n")?;
+    let mut want = Vec::new(alloc);
+    for space in 0..33 {
+        text.extend_from_slice(format!(in alloc; "bind 0 {space}\n")?.as_bytes())?;
+        want.extend_from_slice(format!(in alloc; "space {space}\n")?.as_bytes())?;
+    }
+    for space in 0..32 {
+        let pasid = space + 1;
+        want.extend_from_slice(format!(in alloc; "binding {space} pasid {pasid}\n")?.as_bytes())?;
+    }
+    want.extend_from_slice(b"refused 11 NoPasid\nfree 4 mapped 0 withheld 0\n")?;
+    assert!(rt; reports(alloc, text.as_slice(), want.as_slice(), Outcome::Done)?);
+    Ok(())
+}
+
+#[test]
+fn refuses_a_full_queue(rt: HostRuntime) -> Result<(), Fail> {
+    let alloc = rt.alloc();
+    let mut text = Vec::from_slice(alloc, b"config 1 63 1\nspace\n")?;
+    put_maps(&mut text, alloc, 16..79)?;
+    text.extend_from_slice(b"bind 0 0\nunmap 0 16 48\nunmap 0 64 14\nunmap 0 78\n")?;
+    let mut want = Vec::from_slice(alloc, b"space 0\n")?;
+    for frame in 0..63 {
+        want.extend_from_slice(format!(in alloc; "frame {frame}\n")?.as_bytes())?;
+    }
+    want.extend_from_slice(b"binding 0 pasid 1")?;
+    for frame in 0..62 {
+        if frame == 0 || frame == 48 {
+            want.extend_from_slice(b"\nwithheld")?;
+        }
+        want.extend_from_slice(format!(in alloc; " {frame}")?.as_bytes())?;
+    }
+    want.extend_from_slice(b"\nrefused 16 QueueFull\nfree 0 mapped 1 withheld 62\n")?;
+    assert!(rt; reports(alloc, text.as_slice(), want.as_slice(), Outcome::Done)?);
+    Ok(())
+}
+
+#[test]
+fn reports_two_endpoints(rt: HostRuntime) -> Result<(), Fail> {
+    let text =
+        "config 2 4 1\nspace\nspace\nbind 0 0\nbind 1 1\nbind 1 0\nbearer 1\nbind 1 0\ndrop 0\nbearer 4\nbearer 0\n";
+    let want =
+        "space 0\nspace 1\nbinding 0 pasid 1\nbinding 1 pasid 2\nbinding 2 pasid 1\nbearer 0 bindings 2\nrefused 10 AlreadyBound\nrefused 12 StillBound\nbearer none\nrefused 43 BadPasid\nfree 4 mapped 0 withheld 0\n";
+    assert!(rt; runs(rt.alloc(), text, want)?);
+    Ok(())
+}
+
+/// Before a start has arrived an endpoint's steps are refused, each by its first cause.
+#[test]
+fn refuses_what_has_not_started(rt: HostRuntime) -> Result<(), Fail> {
+    let text =
+        "config 1 4 1\nspace\nmap 0 16 w\nbind 0 0\nask 0 1 16\nask 1 1 16\nask 0 1 68719476736\nuse 0 1 16 w\nend 0 0\nevict 0 1 16\nfault 0 1 16 rw new last\nfault 0 1 16 r 0 more\nfinish 0 00000001 1\nfinish 0 00000000 9\nquit 0 1\nunmap 0 16\nlook 0\n";
+    let want =
+        "space 0\nframe 0\nbinding 0 pasid 1\nrefused 18 NotStarted\nrefused 2 NoSuchEndpoint\nrefused 5 PageRange\nrefused 18 NotStarted\nrefused 23 NoSuchUse\nrefused 20 NotHeld\nrefused 18 NotStarted\nrefused 18 NotStarted\nrefused 27 NotPending\nrefused 27 NotPending\nrefused 30 NotStopping\nwithheld 0\nwithheld\nfree 3 mapped 0 withheld 1\n";
+    assert!(rt; runs(rt.alloc(), text, want)?);
+    Ok(())
+}
+
 #[test]
 fn reports_faults(rt: HostRuntime) -> Result<(), Fail> {
     let alloc = rt.alloc();
@@ -107,6 +182,7 @@ fn reports_faults(rt: HostRuntime) -> Result<(), Fail> {
             "config 1 4 1\nspace\nmap 0 16 w\nmap 0 16",
             "line 4 WordCount\n",
         ),
+        ("config 1 4 1\nfinish 0 0000000B 1", "line 2 BadWord\n"),
     ];
     for (text, want) in faults {
         let text = text.as_bytes();

@@ -1,7 +1,7 @@
 -- Tables as lists, and the numbers that pass: what is read back from them, and what a change of one entry does.
 use Rattle.std.proofs.Common.{◌≡◌, ◌≢◌, ◌⊎◌, inl, inr, refl, ap, ap₂, sym, ◌∙◌, ℕ, zero, suc, ◌+◌, ◌<◌, Bool, true, false, arith, length-append, get_or}
-use Rattle.std.specs.Prelude.{if◌then◌else◌, ◌==◌, List, [], ◌∷◌, ◌++◌, map, length, replicate, slice_set}
-use Rattle.std.proofs.lemmas.List.{set-append_left, set_at, set_past, get_or_at, get_or_append_left, get_or-replicate, replicate_more}
+use Rattle.std.specs.Prelude.{if◌then◌else◌, ◌==◌, List, [], ◌∷◌, ◌++◌, length, replicate, slice_set}
+use Rattle.std.proofs.lemmas.List.{set-append_left, set_at, set_past, get_or_at, get_or_append_left, replicate_more}
 use Rattle.std.proofs.lemmas.Bool.Decides.{nat_tests}
 use Rattle.sva_model.specs.Words.{step_lowest, lowest, any_below, all_below, count_below, select, tabulate}
 use Rattle.sva_model.specs.Wire.{PlaceWire}
@@ -33,9 +33,6 @@ tabulate_at (suc n) f k d l = go (ℕ_cases k n) (λ m. tabulate_at n f k d m)
     go (inr ne) rest =
         let len : length (tabulate n f) ≡ n = tabulate_length n f in
         get_or_append_left (tabulate n f) (f n ∷ []) d k (omega arith) ∙ rest (omega arith)
-
-pub tabulate_all : {A : Type 0} (n : ℕ) (f : ℕ → A) (x : A) → tabulate n f ≡ replicate n x → (k : ℕ) → k < n → f k ≡ x
-tabulate_all n f x h k l = sym (tabulate_at n f k x l) ∙ ap (λ xs. get_or xs k x) h ∙ get_or-replicate n k x x l
 
 -- the same at each number
 pub tabulate_one : {A : Type 0} (n : ℕ) (x : A) → tabulate n (λ k. x) ≡ replicate n x
@@ -81,24 +78,6 @@ select_length (suc n) p = go (p n) (select_length n p)
     go : (b : Bool) → length (select n p) ≡ count_below n p → length (select n p ++ (if b then n ∷ [] else [])) ≡ (if b then suc (count_below n p) else count_below n p)
     go true h = length-append (select n p) (n ∷ []) ∙ omega (arith, h)
     go false h = length-append (select n p) [] ∙ omega (arith, h)
-
-both_empty : {A : Type 0} (xs ys : List A) → xs ++ ys ≡ [] → (xs ≡ []) × (ys ≡ [])
-both_empty [] ys h = (refl, h)
-both_empty (x ∷ xs) ys h = absurd (cc)
-
-pub map_empty : {A B : Type 0} (f : A → B) (xs : List A) → map f xs ≡ [] → xs ≡ []
-map_empty f [] h = refl
-map_empty f (x ∷ xs) h = absurd (cc)
-
-pub select_empty : (n : ℕ) (p : ℕ → Bool) → select n p ≡ [] → (k : ℕ) → k < n → p k ≡ false
-unfolding select
-select_empty zero p h k l = absurd (omega arith)
-select_empty (suc n) p h k l = go (p n) refl (both_empty (select n p) (if p n then n ∷ [] else []) h) (ℕ_cases k n) (λ e. select_empty n p e k)
-  where
-    go : (b : Bool) → p n ≡ b → (select n p ≡ []) × ((if b then n ∷ [] else []) ≡ []) → (k ≡ n) ⊎ (k ≢ n) → (select n p ≡ [] → k < n → p k ≡ false) → p k ≡ false
-    go true e x c rest = absurd (cc (x.1))
-    go false e x (inl c) rest = ap p c ∙ e
-    go false e x (inr ne) rest = rest x.0 (omega arith)
 
 pub lowest_same : (n : ℕ) (p q : ℕ → Bool) → ((k : ℕ) → k < n → p k ≡ q k) → lowest n p ≡ lowest n q
 unfolding lowest

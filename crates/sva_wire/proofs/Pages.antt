@@ -14,7 +14,6 @@ use Rattle.sva_laws.proofs.Words.{put-same, put-other, ℕ_cases}
 use Rattle.sva_laws.proofs.Invariant.{Mapped}
 use Rattle.sva_laws.proofs.Passed.{and_left, and_right}
 use Rattle.sva_wire.specs.Host.{page_at}
-use Rattle.sva_wire.proofs.Parts.{with_mappings, freely_left}
 
 -- Lists of pages.
 
@@ -272,40 +271,3 @@ others_kept true true false true n = refl
 others_kept true true false false n = refl
 others_kept true false c r n = refl
 others_kept false b c r n = refl
-
--- is it a page of a space once pages that pass went?
-left_test : (w : World) (s : ℕ) (goes : ℕ → Bool) (t m : ℕ) → is_page_of (with_mappings w (freely_left w.mappings s goes)).mappings t m ≡ ((is_present (w.mappings.state m) && not (w.mappings.space m == s && goes (w.mappings.page m))) && w.mappings.space m == t)
-left_test w s goes t m = ap (λ b. b && w.mappings.space m == t) (gone_test (w.mappings.space m == s && goes (w.mappings.page m)) (λ e. Owed.Nothing) (w.mappings.state m))
-
-pub other_space : (w : World) (s : ℕ) (goes : ℕ → Bool) (t : ℕ) → s ≢ t → pages_wire (with_mappings w (freely_left w.mappings s goes)).mappings t ≡ pages_wire w.mappings t
-other_space w s goes t ne =
-    pages_same (with_mappings w (freely_left w.mappings s goes)) w t w.mappings.made
-    (λ m l. left_test w s goes t m ∙ others_kept (is_present (w.mappings.state m)) (w.mappings.space m == s) (w.mappings.space m == t) (goes (w.mappings.page m)) (λ a b. ne (sym (same_is (w.mappings.space m) s a) ∙ same_is (w.mappings.space m) t b)))
-    (λ m l. refl)
-
--- the pages that don't pass
-abbrev pub left : (ℕ → Bool) → List PageWire → List PageWire
-left goes pages = filter (λ entry. not (goes entry.page)) pages
-
-same_space : (w : World) (s : ℕ) (goes : ℕ → Bool) (n : ℕ) → pages_below (with_mappings w (freely_left w.mappings s goes)).mappings s n ≡ left goes (pages_below w.mappings s n)
-unfolding pages_below
-same_space w s goes zero = refl
-same_space w s goes (suc n) =
-    let test : is_page_of (with_mappings w (freely_left w.mappings s goes)).mappings s n ≡ (is_page_of w.mappings s n && not (goes (w.mappings.page n))) =
-    left_test w s goes s n ∙ those_kept (is_present (w.mappings.state n)) (w.mappings.space n == s) (goes (w.mappings.page n))
-    in
-    let rest : pages_below (with_mappings w (freely_left w.mappings s goes)).mappings s n ≡ left goes (pages_below w.mappings s n) = same_space w s goes n in
-    (λ i. if test i then insert_by is_lower_page (page_wire w.mappings n) (rest i) else rest i) ∙ go (is_page_of w.mappings s n)
-  where
-    go : (b : Bool) → (if b && not (goes (w.mappings.page n)) then insert_by is_lower_page (page_wire w.mappings n) (left goes (pages_below w.mappings s n)) else left goes (pages_below w.mappings s n)) ≡ left goes (if b then insert_by is_lower_page (page_wire w.mappings n) (pages_below w.mappings s n) else pages_below w.mappings s n)
-    go true = sym (filter_insert (λ entry. not (goes entry.page)) (page_wire w.mappings n) (pages_below w.mappings s n) (pages_rising w s n))
-    go false = refl
-
-pub pages_unmapped : (w : World) (s : ℕ) (goes : ℕ → Bool) (t : ℕ) → pages_wire (with_mappings w (freely_left w.mappings s goes)).mappings t ≡ (if s == t then left goes (pages_wire w.mappings t) else pages_wire w.mappings t)
-pages_unmapped w s goes t = go (ℕ_cases s t)
-  where
-    go : (s ≡ t) ⊎ (s ≢ t) → pages_wire (with_mappings w (freely_left w.mappings s goes)).mappings t ≡ (if s == t then left goes (pages_wire w.mappings t) else pages_wire w.mappings t)
-    go (inl e) =
-        subst (λ z. pages_wire (with_mappings w (freely_left w.mappings s goes)).mappings z ≡ left goes (pages_wire w.mappings z)) e (same_space w s goes w.mappings.made)
-        ∙ sym (ap (λ b. if b then left goes (pages_wire w.mappings t) else pages_wire w.mappings t) (is_same s t e))
-    go (inr ne) = other_space w s goes t ne ∙ sym (ap (λ b. if b then left goes (pages_wire w.mappings t) else pages_wire w.mappings t) (is_other s t ne))

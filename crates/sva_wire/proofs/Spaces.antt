@@ -1,6 +1,6 @@
--- Spaces by their numbers: which pages a number has, and the spaces with other pages in one of them.
+-- Spaces by their numbers: which pages a number has, and a space more.
 use Rattle.std.proofs.Common.{◌≡◌, ◌≢◌, ◌⊎◌, inl, inr, refl, ap, ap₂, sym, ◌∙◌, ℕ, zero, suc, ◌+◌, ◌-◌, ◌<◌, ◌≤◌, Bool, true, false, arith}
-use Rattle.std.specs.Prelude.{Some, None, ◌&&◌, not, ◌==◌, nat_lt, nat_le, if◌then◌else◌, List, [], ◌∷◌, ◌++◌, map, length}
+use Rattle.std.specs.Prelude.{Some, None, ◌&&◌, ◌==◌, nat_lt, nat_le, if◌then◌else◌, List, [], ◌∷◌, ◌++◌, map, length}
 use Rattle.std.proofs.lemmas.List.{map-append, length-map}
 use Rattle.std.proofs.lemmas.Bool.Decides.{nat_tests}
 use Rattle.sva_model.specs.Words.{put, select}
@@ -13,7 +13,7 @@ use Rattle.sva_model.specs.Wire.{PageWire, SpaceWire, is_page_of, pages_wire, sp
 use Rattle.sva_laws.proofs.Words.{put-same, put-other, ℕ_cases}
 use Rattle.sva_laws.proofs.Invariant.{Mapped}
 use Rattle.sva_laws.proofs.Passed.{and_left, and_right}
-use Rattle.sva_wire.specs.Host.{pages_of, with_pages, without_space}
+use Rattle.sva_wire.specs.Host.{pages_of}
 use Rattle.sva_wire.proofs.Lists.{select_same, select_length}
 use Rattle.sva_wire.proofs.Pages.{pages_same, pages_none, and_both, same_is, is_same, is_other, present_is}
 
@@ -74,16 +74,6 @@ one_has first n pages (suc k) p s l t e = go (ℕ_cases s k) (λ m. one_has firs
         ap (λ xs. pages_of xs n) (map-append (space_by first pages) (select k p) (if p k then k ∷ [] else []))
         ∙ found_left (map (space_by first pages) (select k p)) (map (space_by first pages) (if p k then k ∷ [] else [])) n (pages s) (rest (omega arith))
 
--- other pages in the space of a number
-with_pages_is : (first n : ℕ) (pages others : ℕ → List PageWire) (change : List PageWire → List PageWire) (ss : List ℕ) → ((s : ℕ) → others s ≡ (if first + s == n then change (pages s) else pages s)) → map (space_by first others) ss ≡ with_pages (map (space_by first pages) ss) n change
-with_pages_is first n pages others change [] h = refl
-with_pages_is first n pages others change (s ∷ ss) h =
-    ap₂ (λ x xs. x ∷ xs) (ap (λ z. space_by first (λ t. z) s) (h s) ∙ go (first + s == n)) (with_pages_is first n pages others change ss h)
-  where
-    go : (b : Bool) → space_by first (λ t. if b then change (pages s) else pages s) s ≡ (if b then record (space_by first pages s) { pages = change (pages s) } else space_by first pages s)
-    go true = refl
-    go false = refl
-
 -- The spaces of a world.
 
 pub spaces_length : (w : World) → length ((spaces_wire w.config.first w.spaces w.is_live w.mappings)) ≡ Labels.live_spaces w
@@ -136,21 +126,16 @@ space_missing w n h = none_has w.config.first n (pages_wire w.mappings) w.spaces
         (and_both (nat_le w.config.first n) (nat_lt (Labels.name w n) w.spaces) (is_from_first w.config.first n (omega arith)) (ap (λ z. nat_lt z w.spaces) same ∙ is_below s w.spaces l))
         (ap w.is_live same ∙ t)
 
-number_test : (first n t : ℕ) → first ≤ n → (n - first == t) ≡ (first + t == n)
-number_test first n t l = go (ℕ_cases (n - first) t)
+-- a number has the pages of its space, where that is live
+pub space_of :
+    (w : World) (n : ℕ)
+    → pages_of (spaces_wire w.config.first w.spaces w.is_live w.mappings) n ≡ (if Labels.is_space w n then Some (pages_wire w.mappings (Labels.name w n)) else None)
+space_of w n = go (Labels.is_space w n) refl
   where
-    go : (n - first ≡ t) ⊎ (n - first ≢ t) → (n - first == t) ≡ (first + t == n)
-    go (inl e) = is_same (n - first) t e ∙ sym (is_same (first + t) n (omega arith))
-    go (inr ne) =
-        let other : first + t ≢ n = λ e. ne (named_back first n t e) in
-        is_other (n - first) t ne ∙ sym (is_other (first + t) n other)
-
--- a world whose spaces are the same, but for the pages of one
-pub spaces_changed : (w v : World) (n : ℕ) (change : List PageWire → List PageWire) → w.config.first ≤ n → v.config ≡ w.config → v.spaces ≡ w.spaces → v.is_live ≡ w.is_live → ((t : ℕ) → pages_wire v.mappings t ≡ (if Labels.name w n == t then change (pages_wire w.mappings t) else pages_wire w.mappings t)) → (spaces_wire v.config.first v.spaces v.is_live v.mappings) ≡ with_pages ((spaces_wire w.config.first w.spaces w.is_live w.mappings)) n change
-spaces_changed w v n change from c sp li h =
-    (λ i. map (space_by (c i).first (pages_wire v.mappings)) (select (sp i) (li i)))
-    ∙ with_pages_is w.config.first n (pages_wire w.mappings) (pages_wire v.mappings) change (select w.spaces w.is_live)
-    (λ t. h t ∙ ap (λ b. if b then change (pages_wire w.mappings t) else pages_wire w.mappings t) (number_test w.config.first n t from))
+    go : (b : Bool) → Labels.is_space w n ≡ b
+        → pages_of (spaces_wire w.config.first w.spaces w.is_live w.mappings) n ≡ (if b then Some (pages_wire w.mappings (Labels.name w n)) else None)
+    go true is = space_found w n is
+    go false is = space_missing w n is
 
 -- a space more
 pub spaces_more : (w : World) → Mapped w → (spaces_wire (act w NewSpace).config.first (act w NewSpace).spaces (act w NewSpace).is_live (act w NewSpace).mappings) ≡ (spaces_wire w.config.first w.spaces w.is_live w.mappings) ++ record { number = Labels.number w w.spaces; pages = [] } ∷ []
@@ -177,46 +162,3 @@ spaces_more w ma =
 
     no_page : pages_wire (act w NewSpace).mappings w.spaces ≡ []
     no_page = pages_none (act w NewSpace) w.spaces w.mappings.made (λ m l. unmapped m (is_page_of w.mappings w.spaces m) refl)
-
--- A space less.
-
-without_append : (n : ℕ) (xs ys : List SpaceWire) → without_space n (xs ++ ys) ≡ without_space n xs ++ without_space n ys
-without_append n [] ys = refl
-without_append n (x ∷ xs) ys = go (x.number == n) (without_append n xs ys)
-  where
-    go : (b : Bool) → without_space n (xs ++ ys) ≡ without_space n xs ++ without_space n ys → (if not b then x ∷ without_space n (xs ++ ys) else without_space n (xs ++ ys)) ≡ (if not b then x ∷ without_space n xs else without_space n xs) ++ without_space n ys
-    go true rest = rest
-    go false rest = ap (λ zs. x ∷ zs) rest
-
--- the spaces that are left, where the others have their pages still
-select_dropped : (first n : ℕ) (pages others : ℕ → List PageWire) (p : ℕ → Bool) (s : ℕ) → first + s ≡ n → ((t : ℕ) → s ≢ t → others t ≡ pages t) → (k : ℕ) → map (space_by first others) (select k (put p s false)) ≡ without_space n (map (space_by first pages) (select k p))
-unfolding select
-select_dropped first n pages others p s e same zero = refl
-select_dropped first n pages others p s e same (suc k) =
-    map-append (space_by first others) (select k (put p s false)) (if put p s false k then k ∷ [] else [])
-    ∙ ap₂ (λ xs ys. xs ++ ys) (select_dropped first n pages others p s e same k) (last (ℕ_cases s k))
-    ∙ sym (without_append n (map (space_by first pages) (select k p)) (map (space_by first pages) (if p k then k ∷ [] else [])))
-    ∙ sym (ap (without_space n) (map-append (space_by first pages) (select k p) (if p k then k ∷ [] else [])))
-  where
-    goes : (b : Bool) → first + k ≡ n → [] ≡ without_space n (map (space_by first pages) (if b then k ∷ [] else []))
-    goes true here = sym (ap (λ t. if not t then space_by first pages k ∷ [] else []) (is_same (first + k) n here))
-    goes false here = refl
-
-    stays : (b : Bool) → s ≢ k → first + k ≢ n → map (space_by first others) (if b then k ∷ [] else []) ≡ without_space n (map (space_by first pages) (if b then k ∷ [] else []))
-    stays true ne other =
-        ap (λ z. space_by first (λ t. z) k ∷ []) (same k ne)
-        ∙ sym (ap (λ t. if not t then space_by first pages k ∷ [] else []) (is_other (first + k) n other))
-    stays false ne other = refl
-
-    last : (s ≡ k) ⊎ (s ≢ k) → map (space_by first others) (if put p s false k then k ∷ [] else []) ≡ without_space n (map (space_by first pages) (if p k then k ∷ [] else []))
-    last (inl c) =
-        ap (λ b. map (space_by first others) (if b then k ∷ [] else [])) (ap (λ z. put p z false k) c ∙ put-same p k false)
-        ∙ goes (p k) (ap (λ z. first + z) (sym c) ∙ e)
-    last (inr ne) =
-        ap (λ b. map (space_by first others) (if b then k ∷ [] else [])) (put-other p s false k (λ c. ne (sym c)))
-        ∙ stays (p k) ne (λ c. ne (omega arith))
-
-pub spaces_dropped : (w v : World) (n : ℕ) → w.config.first ≤ n → v.config ≡ w.config → v.spaces ≡ w.spaces → v.is_live ≡ put w.is_live (Labels.name w n) false → ((t : ℕ) → Labels.name w n ≢ t → pages_wire v.mappings t ≡ pages_wire w.mappings t) → (spaces_wire v.config.first v.spaces v.is_live v.mappings) ≡ without_space n ((spaces_wire w.config.first w.spaces w.is_live w.mappings))
-spaces_dropped w v n from c sp li h =
-    (λ i. map (space_by (c i).first (pages_wire v.mappings)) (select (sp i) (li i)))
-    ∙ select_dropped w.config.first n (pages_wire w.mappings) (pages_wire v.mappings) w.is_live (Labels.name w n) (named_forth w.config.first n from) h w.spaces

@@ -1,12 +1,12 @@
-//! What a host keeps by numbers and labels, tied to the definitions by names.
+//! What a host keeps of spaces, pages and frames, tied to the definitions by names.
 #![tactic(auto)]
 
-ghost use Rattle.sva_wire.specs.Host.{NumbersAreNames, RunsByNumbers};
+ghost use Rattle.sva_wire.specs.Host.{SpacesFound, PagesFound, FramesFound};
 
-/// While nothing is bound: a step of spaces and frames by numbers, as a host that keeps no names must do it, answers what
-/// the definitions answer, and leaves what they leave, at each world that a list of steps leads to. A list of such steps
-/// alone binds nothing, and so goes by numbers from the first step to the last.
-pub fn spaces_and_frames()
-    ensures by_numbers { NumbersAreNames }
-    ensures runs { RunsByNumbers }
+/// What a host keeps, looked up by number, is what the definitions find, at each world that a list of steps leads to: the
+/// pages of a live space, what stands at one of its pages, and the lowest frame that is free.
+pub fn found_by_number()
+    ensures spaces { SpacesFound }
+    ensures pages { PagesFound }
+    ensures frames { FramesFound }
 {}

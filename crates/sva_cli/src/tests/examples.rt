@@ -1,4 +1,5 @@
-//! The scenarios of examples/ with their reports, as they stand there: `scripts/examples` compares them.
+//! The scenarios of examples/ with their reports, as they stand there: `scripts/examples` compares them. Those in which a
+//! space is bound are in `bound_examples`.
 
 /// Each scenario, its report, and the status of its run.
 pub const EXAMPLES: [(&str, &str, u8); 9] = [

@@ -25,9 +25,9 @@ returns-in_ok-write_reply-in-Err-BadConfig g c =
 pub returns-in-Ok-clause-report : goal.returns-in-Ok-clause-report
 returns-in-Ok-clause-report g c =
     let fit = fit_report c.args.config c.args.steps.now c.in-Ok.ensures.ok.0 in
-    writes_as _ _ _ _ c.report_steps-outcome.result fit.0 (c.report_steps-outcome.ensures.report c.args.config [] c.in-Ok.ensures.ok.0 c.in-Ok.ensures.ok.1)
+    writes_as _ _ _ _ c.report_steps.result fit.0 (c.report_steps.ensures.report c.args.config [] c.in-Ok.ensures.ok.0 c.in-Ok.ensures.ok.1)
 
 pub returns-in-Ok-clause-outcome : goal.returns-in-Ok-clause-outcome
 returns-in-Ok-clause-outcome g c =
     let fit = fit_report c.args.config c.args.steps.now c.in-Ok.ensures.ok.0 in
-    ends_as c.report_steps-outcome.result Done _ fit.1 c.report_steps-outcome.ensures.outcome
+    ends_as c.report_steps.result Done _ fit.1 c.report_steps.ensures.outcome

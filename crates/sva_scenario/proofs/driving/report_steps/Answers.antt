@@ -5,19 +5,15 @@ use Rattle.sva_model.specs.State.PasidRule.{PerSpace}
 use Rattle.sva_model.specs.Steps.{world_after}
 use Rattle.sva_scenario.specs.Report.{steps_report}
 use Rattle.sva_scenario.proofs.ReportLemmas.{not_so, Reporting, reporting_start, reporting_step, reporting_cut, reporting_stop, reporting_end}
-use Rattle.sva_scenario.proofs.ScriptLemmas.{next_built, next_left, none_left, writes_front}
+use Rattle.sva_scenario.proofs.ScriptLemmas.{next_left, none_left, writes_front}
 use Rattle.sva_scenario.proofs.driving.report_steps.Goals as goal
 
 pub loop-step-init : goal.loop-step-init
 loop-step-init g c = record {
   reports = λ config taken fits seen. reporting_start config taken c.args.steps.now c.args.world.now (g.W.Write.contents c.args.writer.now.inner) fits seen;
-  built = c.requires.built;
   calls = omega arith;
   failures = c.requires.new.1;
 }
-
-pub take_step-reply-requires : goal.take_step-reply-requires
-take_step-reply-requires g c = (next_built c.args.steps.now c.loop-step.step-index c.loop-step-test.true c.loop-step.invariant.built).0
 
 pub returns-then-lacks_memory-clause-report : goal.returns-then-lacks_memory-clause-report
 returns-then-lacks_memory-clause-report g c = λ config taken fits seen.
@@ -42,7 +38,6 @@ loop-step-preserved g c = record {
       reporting_step config c.loop-step.world c.take_step-reply.new.world _ _ _ _ _ _ c.take_step-reply.result so_far
       (not_so c.lacks_memory.result (c.take_step-reply.result ≡ Err OutOfMemory) c.lacks_memory.ensures.1 c.if-lacks_memory.false) c.take_step-reply.ensures.step
       c.in_ok-write_reply.ensures.written;
-  built = (next_built c.args.steps.now c.loop-step.step-index c.loop-step-test.true c.loop-step.invariant.built).1;
   calls = omega (arith, c.write_reply.ensures.calls, c.loop-step.invariant.calls);
   failures = c.in_ok-write_reply.ensures.told ∙ c.loop-step.invariant.failures;
 }

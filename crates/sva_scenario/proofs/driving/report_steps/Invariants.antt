@@ -1,12 +1,10 @@
 use Rattle.std.proofs.Common.{◌≡◌, ◌≤◌, ◌*◌, List, drop}
-use Rattle.std.specs.List.{AllByRecursion}
 use Rattle.sva_step.specs.declared.limits.Config.{Config}
 use Rattle.sva_step.specs.declared.steps.Step.{Step}
 use Rattle.sva_model.specs.State.PasidRule.{PerSpace}
 use Rattle.sva_model.specs.Claims.{Fits}
 use Rattle.sva_model.specs.Steps.{world_after}
 use Rattle.sva_model.specs.Wire.{wire}
-use Rattle.sva_wire.specs.Host.{IsOfSpaces}
 use Rattle.sva_scenario.specs.Report.{steps_report}
 use Rattle.sva_scenario.proofs.ReportLemmas.{Reporting}
 use Rattle.sva_scenario.proofs.driving.report_steps.Given as goal
@@ -17,7 +15,6 @@ invariant-loop-step g l = record {
   reports : (config : Config) (taken : List Step) → Fits config → l.fn.world ≡ wire (world_after PerSpace config taken)
       → Reporting config l.world (drop l.step-index l.steps) (steps_report (world_after PerSpace config taken) l.steps) (g.W.Write.contents l.fn.writer.inner)
       (g.W.Write.contents l.writer.inner);
-  built : AllByRecursion IsOfSpaces (drop l.step-index l.steps);
   calls : l.writer.calls ≤ 1025 * l.step-index;
   failures : l.writer.failures ≡ 0;
 }

@@ -1,24 +1,16 @@
-use Rattle.std.proofs.Common.{◌∙◌, ap, sym, subst, arith, length, List}
-use Rattle.std.specs.List.{AllByRecursion}
-use Rattle.sva_step.specs.declared.steps.Step.{Step}
-use Rattle.sva_wire.specs.Host.{IsOfSpaces}
-use Rattle.sva_scenario.specs.declared.faults.LineFault.{LineFault}
-use Rattle.sva_scenario.specs.Faults.{line_fault_text}
+use Rattle.std.proofs.Common.{◌∙◌, ap, sym, arith, length}
+use Rattle.sva_grammar.specs.declared.faults.LineFault.{LineFault}
+use Rattle.sva_grammar.specs.Faults.{line_fault_text}
 use Rattle.sva_scenario.specs.Report.{ended}
-use Rattle.sva_scenario.proofs.ScriptLemmas.{read_built, read_fault, writes_as, writes_front}
+use Rattle.sva_grammar.proofs.KnownLemmas.{read_known}
+use Rattle.sva_scenario.proofs.ScriptLemmas.{read_fault, writes_as, writes_front}
 use Rattle.sva_scenario.proofs.driving.report_text.Goals as goal
-
-pub report_script-requires-clause-built : goal.report_script-requires-clause-built
-report_script-requires-clause-built g c =
-    let built = read_built c.args.text.now c.in-Ok.scenario c.in-Ok.ensures.read in
-    let same = c.as_slice-steps.ensures.value ∙ ap (λ s. s.steps) c.scenario.view_is in
-    subst (λ (steps : List Step). AllByRecursion IsOfSpaces steps) (sym same) built.0
 
 pub report_script-requires-clause-few : goal.report_script-requires-clause-few
 report_script-requires-clause-few g c =
-    let built = read_built c.args.text.now c.in-Ok.scenario c.in-Ok.ensures.read in
+    let known = read_known c.args.text.now c.in-Ok.scenario c.in-Ok.ensures.read in
     let same = c.as_slice-steps.ensures.value ∙ ap (λ s. s.steps) c.scenario.view_is in
-    omega (arith, built.1, ap length same)
+    omega (arith, known.1, ap length same)
 
 pub returns-in_err-write_fault-in-Err-Line-clause-report : goal.returns-in_err-write_fault-in-Err-Line-clause-report
 returns-in_err-write_fault-in-Err-Line-clause-report g c =

@@ -1,14 +1,23 @@
-use Rattle.sva_wire.proofs.Numbers.{numbers_are_names}
-use Rattle.sva_core.proofs.Reaching.{follows, reached, follows_on}
+use Rattle.sva_labels.proofs.Said.{every_step}
+use Rattle.sva_core.proofs.Reaching.{follows, reached, follows_on, memory_on, sound_reached, spaces_reached}
 use Rattle.sva_core.proofs.world.World.apply.Goals as goal
 
+pub apply-requires-clause-sound : goal.apply-requires-clause-sound
+apply-requires-clause-sound c = sound_reached c.self.inside.host c.self.invariant
+
+pub apply-requires-clause-spaces : goal.apply-requires-clause-spaces
+apply-requires-clause-spaces c = spaces_reached c.self.inside.host c.self.invariant
+
 pub returns-clause-step : goal.returns-clause-step
-returns-clause-step c = follows_on c.self.inside.host c.args.self.now c.args.step.now c.apply.result c.apply.new.self c.self.view_is (follows numbers_are_names c.self.inside.host c.args.step.now c.apply.result c.apply.new.self c.requires c.apply.ensures.idle c.apply.ensures.step)
+returns-clause-step c = follows_on c.self.inside.host c.args.self.now c.args.step.now c.apply.result c.apply.new.self c.self.view_is (follows every_step c.self.inside.host c.args.step.now c.apply.result c.apply.new.self c.apply.ensures.step)
 
 pub invariant_of-self : goal.invariant_of-self
 invariant_of-self c =
-    reached c.self.inside.host c.args.step.now c.apply.result c.apply.new.self c.self.invariant (follows numbers_are_names c.self.inside.host c.args.step.now c.apply.result c.apply.new.self c.requires c.apply.ensures.idle c.apply.ensures.step)
+    reached c.self.inside.host c.args.step.now c.apply.result c.apply.new.self c.self.invariant (follows every_step c.self.inside.host c.args.step.now c.apply.result c.apply.new.self c.apply.ensures.step)
 
 pub returns-clause-reached : goal.returns-clause-reached
 returns-clause-reached c =
-    reached c.self.inside.host c.args.step.now c.apply.result c.apply.new.self c.self.invariant (follows numbers_are_names c.self.inside.host c.args.step.now c.apply.result c.apply.new.self c.requires c.apply.ensures.idle c.apply.ensures.step)
+    reached c.self.inside.host c.args.step.now c.apply.result c.apply.new.self c.self.invariant (follows every_step c.self.inside.host c.args.step.now c.apply.result c.apply.new.self c.apply.ensures.step)
+
+pub returns-clause-memory : goal.returns-clause-memory
+returns-clause-memory c = memory_on c.self.inside.host c.args.self.now c.args.step.now c.apply.result c.self.view_is c.apply.ensures.memory

@@ -3,6 +3,7 @@ use Rattle.sva_step.specs.declared.steps.Step.TheVariants as step
 use Rattle.sva_msg.specs.declared.messages.Kind.TheVariants.{Start}
 use Rattle.sva_host.proofs.Devices.{kept}
 use Rattle.sva_host.proofs.Binds.{bind_refused, has_pasid, fresh_binding, is_live, bind_unsent, bind_done}
+use Rattle.sva_host.proofs.Staged.{back_staged}
 use Rattle.sva_host.proofs.host.Host.bind.Goals as goal
 
 pub returns-in_err-may_bind : goal.returns-in_err-may_bind
@@ -23,6 +24,12 @@ pub returns-then-is_err : goal.returns-then-is_err
 returns-then-is_err c =
     bind_unsent c.self.inside c.args.self.now c.args.endpoint c.args.space c.in-Ok.pasid (Start c.in-Ok.pasid) c.begin.new.self c.take_back.new.self c.send.new.bag c.send.result
     c.self.view_is c.in_ok-may_bind.ensures (fresh_binding c.self.inside _ c.self.view_is c.requires) c.in-Ok.ensures.places c.take_back.ensures c.send.ensures.sends (sym c.is_err.ensures.value ∙ c.if-is_err.true)
+
+pub invariant_of-self-then-is_err : goal.invariant_of-self-then-is_err
+invariant_of-self-then-is_err c = record {
+  sound = c.self.invariant.sound;
+  staged = back_staged c.self.inside.bindings c.begin.new.self c.take_back.new.self c.args.endpoint c.args.space c.self.inside.next_binding c.in-Ok.pasid c.in-Ok.ensures.places c.take_back.ensures c.self.invariant.staged;
+}
 
 pub returns : goal.returns
 returns c =

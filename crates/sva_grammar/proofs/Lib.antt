@@ -1,0 +1,6 @@
+pub mod LineLemmas
+pub mod WordLemmas
+pub mod StepLemmas
+pub mod VectorLemmas
+pub mod LawLemmas
+pub mod KnownLemmas

@@ -1,0 +1,18 @@
+//! The grammar of scenarios: what config and which steps a text writes, or the first line that can't be read.
+#![tactic(auto)]
+
+mod faults;
+mod forms;
+mod grammar;
+mod lines;
+mod parsing;
+mod words;
+
+pub use faults::{Cause, LineFault, ParseFault};
+pub use grammar::laws;
+pub use parsing::{Scenario, parse};
+
+#[cfg(test)]
+mod line_tests;
+#[cfg(test)]
+mod tests;

@@ -1,0 +1,337 @@
+// Each form of a step's line, and lines that miss it by a word.
+use crate::faults::Cause;
+use crate::forms::known_step_in;
+use crate::words::Words;
+use sva_step::{Step, Verdict};
+
+/// The step that a line writes, or why it can't be read, whether the step is built or not.
+fn read(line: &str) -> Result<Step, Cause> {
+    known_step_in(&Words::new(line.as_bytes()))
+}
+
+#[test]
+fn reads_each_line(rt: HostRuntime) {
+    let (endpoint, space, binding, worker, pasid, page) = (1, 2, 3, 0, 32, 16);
+    let lines = [
+        ("space", Step::Space),
+        ("drop 2", Step::DropSpace { space }),
+        (
+            "map 2 16 w",
+            Step::Map {
+                space,
+                page,
+                write: true,
+            },
+        ),
+        (
+            "map 2 16 r",
+            Step::Map {
+                space,
+                page,
+                write: false,
+            },
+        ),
+        (
+            "unmap 2 16",
+            Step::Unmap {
+                space,
+                page,
+                count: 1,
+            },
+        ),
+        (
+            "unmap 2 16 48",
+            Step::Unmap {
+                space,
+                page,
+                count: 48,
+            },
+        ),
+        (
+            "unmapr 2 16 4",
+            Step::UnmapRange {
+                space,
+                page,
+                order: 4,
+            },
+        ),
+        ("look 5", Step::Look { frame: 5 }),
+        ("bearer 32", Step::Bearer { pasid }),
+        ("bind 1 2", Step::Bind { endpoint, space }),
+        ("unbind 3", Step::Unbind { binding }),
+        ("advance 3", Step::Advance { binding }),
+        ("pump 1", Step::Pump { endpoint }),
+        ("serve 1", Step::Serve { endpoint }),
+        ("reset 1", Step::Reset { endpoint }),
+        ("take 0", Step::Take { worker }),
+        (
+            "ask 1 32 16",
+            Step::Ask {
+                endpoint,
+                pasid,
+                page,
+            },
+        ),
+        (
+            "use 1 32 16 r",
+            Step::BeginUse {
+                endpoint,
+                pasid,
+                page,
+                write: false,
+            },
+        ),
+        (
+            "use 1 32 16 w",
+            Step::BeginUse {
+                endpoint,
+                pasid,
+                page,
+                write: true,
+            },
+        ),
+        ("end 1 15", Step::EndUse { endpoint, slot: 15 }),
+        (
+            "evict 1 32 16",
+            Step::Evict {
+                endpoint,
+                pasid,
+                page,
+            },
+        ),
+        ("quit 1 32", Step::Quit { endpoint, pasid }),
+        (
+            "deliver 18446744073709551615",
+            Step::Deliver { message: u64::MAX },
+        ),
+    ];
+    for (line, step) in lines {
+        assert_eq!(rt; read(line), Ok(step), "{line}");
+    }
+}
+
+#[test]
+fn reads_replies(rt: HostRuntime) {
+    let verdicts = [
+        ("answer 3 success", Verdict::Success),
+        ("answer 3 invalid", Verdict::Invalid),
+        ("answer 3 failure", Verdict::Failure),
+    ];
+    for (line, verdict) in verdicts {
+        assert_eq!(rt;
+            read(line),
+            Ok(Step::Reply { worker: 3, verdict }),
+            "{line}"
+        );
+    }
+}
+
+#[test]
+fn reads_page_requests(rt: HostRuntime) {
+    let lines = [
+        ("fault 1 32 16 r new more", (true, false, None, false)),
+        ("fault 1 32 16 w new last", (false, true, None, true)),
+        ("fault 1 32 16 rw 0 more", (true, true, Some(0), false)),
+        ("fault 1 32 16 r 31 last", (true, false, Some(31), true)),
+    ];
+    for (line, (read_flag, write, group, last)) in lines {
+        let step = Step::Fault {
+            endpoint: 1,
+            pasid: 32,
+            page: 16,
+            read: read_flag,
+            write,
+            group,
+            last,
+        };
+        assert_eq!(rt; read(line), Ok(step), "{line}");
+    }
+}
+
+/// Bit T stands for ITag T: the ITags 0, 1 and 3 are written `0000000b`.
+#[test]
+fn reads_vectors(rt: HostRuntime) {
+    let lines = [
+        ("finish 1 0000000b 2", 0b1011),
+        ("finish 1 00000000 2", 0),
+        ("finish 1 00000001 2", 1),
+        ("finish 1 80000000 2", 0x8000_0000),
+        ("finish 1 0123abcd 2", 0x0123_abcd),
+        ("finish 1 ffffffff 2", u32::MAX),
+    ];
+    for (line, vector) in lines {
+        let step = Step::Finish {
+            endpoint: 1,
+            vector,
+            count: 2,
+        };
+        assert_eq!(rt; read(line), Ok(step), "{line}");
+    }
+}
+
+/// A line with a word too few or too many. What its words are, is asked later.
+#[test]
+fn tells_wrong_counts(rt: HostRuntime) {
+    let lines = [
+        "space 0",
+        "space ",
+        "drop",
+        "drop 0 0",
+        "map 0 16",
+        "map 0 16 w w",
+        "unmap 0",
+        "unmap 0 16 1 1",
+        "unmapr 0 16",
+        "unmapr 0 16 0 0",
+        "look",
+        "look 0 ",
+        "bearer",
+        "bearer 1 1",
+        "bind 0",
+        "bind 0 0 0",
+        "bind 0  0",
+        "unbind",
+        "unbind 0 0",
+        "advance",
+        "advance 0 0",
+        "pump",
+        "pump 0 ",
+        "serve",
+        "serve x x",
+        "reset",
+        "reset 0 0",
+        "take",
+        "take 0 0",
+        "answer 0",
+        "answer x",
+        "answer 0 success 0",
+        "ask 0 1",
+        "ask 0 1 16 r",
+        "use 0 1 16",
+        "use 0 1 16 r r",
+        "end 0",
+        "end 0 0 0",
+        "evict 0 1",
+        "evict 0 1 16 16",
+        "fault 0 1 16 r new",
+        "fault 0 1 16 r last",
+        "fault 0 1 16 r w new last",
+        "finish 0 00000001",
+        "finish 0 00000001 1 1",
+        "finish 0 0000 0001 1",
+        "quit 0",
+        "quit 0 1 ",
+        "deliver",
+        "deliver 0 1",
+    ];
+    for line in lines {
+        assert_eq!(rt; read(line), Err(Cause::WordCount), "{line}");
+    }
+}
+
+/// A line with a number in each place that is none.
+#[test]
+fn tells_bad_numbers(rt: HostRuntime) {
+    let lines = [
+        "drop x",
+        "map x 16 w",
+        "map 0 +16 w",
+        "unmap 0  16",
+        "unmap 0 16 01",
+        "unmapr 0 16 18446744073709551616",
+        "look 18446744073709551616",
+        "bearer 0x1",
+        "bind x 0",
+        "bind 0 x",
+        "bind 0 ",
+        "bind  0",
+        "unbind -1",
+        "advance 00",
+        "pump 18446744073709551616",
+        "serve 0.",
+        "reset ",
+        "take one",
+        "answer 00 success",
+        "ask x 1 16",
+        "ask 0 x 16",
+        "ask 0 1 x",
+        "use x 1 16 r",
+        "use 0 x 16 r",
+        "use 0 1 x r",
+        "end x 0",
+        "end 0 x",
+        "evict x 1 16",
+        "evict 0 01 16",
+        "evict 0 1 1e1",
+        "fault x 1 16 r new last",
+        "fault 0 x 16 r new last",
+        "fault 0 1 x r new last",
+        "finish x 00000001 1",
+        "finish 0 00000001 x",
+        "quit x 1",
+        "quit 0 x",
+        "deliver 0\r",
+        "deliver ",
+    ];
+    for line in lines {
+        assert_eq!(rt; read(line), Err(Cause::BadWord), "{line}");
+    }
+}
+
+/// A line with another word in the place of an access, a verdict, flags, a group, its last request or a vector.
+#[test]
+fn tells_bad_words(rt: HostRuntime) {
+    let lines = [
+        "map 0 16 rw",
+        "map 0 16 W",
+        "answer 0 maybe",
+        "answer 0 Success",
+        "answer 0 ",
+        "answer success 0",
+        "use 0 1 16 rw",
+        "use 0 1 16 x",
+        "use 0 1 16 ",
+        "fault 0 1 16 wr new last",
+        "fault 0 1 16 x new last",
+        "fault 0 1 16  new last",
+        "fault 0 1 16 r old last",
+        "fault 0 1 16 r New last",
+        "fault 0 1 16 r 01 last",
+        "fault 0 1 16 r  last",
+        "fault 0 1 16 r new first",
+        "fault 0 1 16 r new ",
+        "fault 0 1 16 r last new",
+        "finish 0 0000000B 1",
+        "finish 0 1 1",
+        "finish 0 0000001 1",
+        "finish 0 000000001 1",
+        "finish 0 0000000g 1",
+        "finish 0 +0000001 1",
+        "finish 0 0x000001 1",
+        "finish 0  1",
+        "finish 0 0000000` 1",
+        "finish 0 0000000: 1",
+    ];
+    for line in lines {
+        assert_eq!(rt; read(line), Err(Cause::BadWord), "{line}");
+    }
+}
+
+#[test]
+fn tells_unknown_steps(rt: HostRuntime) {
+    let lines = [
+        "",
+        " ",
+        "config 1 4 1",
+        "Bind 0 0",
+        "bindr 0 0",
+        "reply 0 success",
+        "begin 0 1 16 r",
+        "unmap\r 0 16",
+        " deliver 0",
+        "deliver\t0",
+    ];
+    for line in lines {
+        assert_eq!(rt; read(line), Err(Cause::UnknownStep), "{line}");
+    }
+}

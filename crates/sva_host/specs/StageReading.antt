@@ -1,0 +1,14 @@
+-- What another may read of the stage of a binding.
+use Rattle.std.specs.Prelude.{Bool, true, false, if◌then◌else◌, Option, Some, None}
+use Rattle.sva_model.specs.Wire.{Wire, BindingWire, StageWire}
+use Rattle.sva_model.specs.Wire.StageWire.{DrainingWire}
+use Rattle.sva_labels.specs.Finding.{unit_of}
+
+abbrev pub is_draining : StageWire → Bool
+is_draining (DrainingWire cookie) = true
+is_draining _ = false
+
+-- is the unit open that drains the page requests of a binding? None where nothing is drained for it
+abbrev pub open_drain : Wire → Option BindingWire → Option Bool
+open_drain w None = None
+open_drain w (Some b) = if is_draining b.stage then Some (unit_of w b.endpoint).is_open else None

@@ -1,0 +1,41 @@
+//! Completions of invalidations, as they arrive (PCI Express Base 5.0, section 10.3.2).
+
+ghost use Rattle.std.specs.Prelude.{◌≡◌, ◌≢◌, Err};
+ghost use Rattle.sva_step.specs.declared.refusals.Refusal.TheVariants as refusal;
+ghost use Rattle.sva_step.specs.declared.steps.Step.TheVariants as step;
+ghost use Rattle.sva_labels.specs.Sound.{IsSound};
+ghost use Rattle.sva_msg.specs.declared.messages.Kind.TheVariants as kind;
+ghost use Rattle.sva_host.specs.Arriving.{IsArriving};
+ghost use Rattle.sva_host.specs.Steps.{ByLabels};
+
+use crate::host::Host;
+use sva_itags::Count;
+use sva_msg::CountField;
+use sva_step::{Answer, Refusal};
+
+impl Host {
+    /// Completions arrive of the invalidations that this vector names, bit T for ITag T, and are counted at the unit of their
+    /// endpoint; at a unit in reset they are dropped.
+    pub(crate) fn invalidated_arrives(
+        &mut self,
+        message: u64,
+        endpoint: u64,
+        vector: u32,
+        count: CountField,
+    ) -> Result<Answer, Refusal>
+        requires sound { IsSound self.old }
+        requires arriving { IsArriving self.old message endpoint (kind.Invalidated vector count) }
+        ensures step { ByLabels self.old (step.Deliver message) result self.new }
+        ensures memory { result ≢ Err refusal.OutOfMemory }
+    {
+        let _taken = self.in_flight.deliver(message);
+        let at = endpoint as usize;
+        if !self.ports[at].unit.is_open() {
+            return Ok(Answer::Dropped);
+        }
+        let freed = self.ports[at]
+            .unit
+            .complete(vector, Count::from_field(count.get()));
+        Ok(Answer::Freed { count: freed as u8 })
+    }
+}

@@ -1,0 +1,105 @@
+//! Translation requests, as they arrive (PCI Express Base 5.0, sections 10.2.2 and 10.2.3).
+
+ghost use Rattle.std.specs.Prelude.{◌≡◌, ◌≢◌, false, Err, option_map};
+ghost use Rattle.sva_step.specs.declared.refusals.Refusal.TheVariants as refusal;
+ghost use Rattle.sva_step.specs.declared.steps.Step.TheVariants as step;
+ghost use Rattle.sva_labels.specs.Finding.{bearer, unit_of, is_live as is_in_use};
+ghost use Rattle.sva_labels.specs.Outcomes.{completion_of, found_for};
+ghost use Rattle.sva_labels.specs.Sound.{IsSound};
+ghost use Rattle.sva_msg.specs.declared.messages.Kind.TheVariants as kind;
+ghost use Rattle.sva_memory.specs.Seen.{page_seen};
+ghost use Rattle.sva_views.specs.Bindings.{stage_or_quiet};
+ghost use Rattle.sva_views.specs.Flights.{kind_seen};
+ghost use Rattle.sva_host.specs.Arriving.{IsArriving};
+ghost use Rattle.sva_host.specs.Steps.{ByLabels};
+
+use crate::host::Host;
+use crate::sending::send;
+use sva_msg::Kind;
+use sva_pasid::Stage;
+use sva_step::{Answer, Refusal};
+
+// Whether the binding is in use, and isn't being taken back.
+fn is_live(stage: &Option<Stage>) -> bool
+    ensures { result ≡ is_in_use (stage_or_quiet stage.now) }
+{
+    match stage {
+        Some(Stage::Live(_)) => true,
+        Some(Stage::Stopping(_)) => false,
+        Some(Stage::Draining(_)) => false,
+        Some(Stage::Invalidating(_)) => false,
+        Some(Stage::Quiet(_)) => false,
+        Some(Stage::Lost(_)) => false,
+        None => false,
+    }
+}
+
+// The Translation Completion for this tag that tells what was found at the page, if anything was.
+fn completion(tag: u8, page: u64, found: Option<(u32, bool)>) -> Kind
+    ensures { kind_seen result ≡ completion_of tag (option_map (λ at. page_seen (page, at)) found) }
+{
+    // The page isn't told; it is handed in so that the contract can say what was found there.
+    let _page = page;
+    match found {
+        Some((frame, write)) => Kind::Completion {
+            tag,
+            frame,
+            read: true,
+            write,
+        },
+        None => Kind::Completion {
+            tag,
+            frame: 0,
+            read: false,
+            write: false,
+        },
+    }
+}
+
+impl Host {
+    // What the binding that bears a PASID at an endpoint has at a page: its frame, and whether it may be written. Nothing where
+    // there is none, it isn't Live, or its space doesn't map the page.
+    fn translation(&self, endpoint: u64, pasid: u32, page: u64) -> Option<(u32, bool)>
+        ensures { option_map (λ at. page_seen (page, at)) result ≡ found_for self.now page (bearer self.now endpoint pasid) }
+    {
+        let Some(place) = self.bindings.place_under(endpoint, pasid) else {
+            return None;
+        };
+        if !is_live(&place.stage) {
+            return None;
+        }
+        self.memory.find(place.space, page)
+    }
+
+    /// A Translation Request arrives, and is answered from the space of the binding that bears its PASID at the endpoint; at a
+    /// unit in reset it is dropped. `NumbersSpent` where no number is left for the completion, and `OutOfMemory` where a growth
+    /// is refused: then the request stays in flight.
+    pub(crate) fn request_arrives(
+        &mut self,
+        message: u64,
+        endpoint: u64,
+        tag: u8,
+        pasid: u32,
+        page: u64,
+    ) -> Result<Answer, Refusal>
+        requires sound { IsSound self.old }
+        requires arriving { IsArriving self.old message endpoint (kind.Request tag pasid page) }
+        ensures step { ByLabels self.old (step.Deliver message) result self.new }
+        ensures memory { (unit_of self.old endpoint).is_open ≡ false → result ≢ Err refusal.OutOfMemory }
+    {
+        let at = endpoint as usize;
+        if !self.ports[at].unit.is_open() {
+            let _taken = self.in_flight.deliver(message);
+            return Ok(Answer::Dropped);
+        }
+        let found = self.translation(endpoint, pasid, page);
+        send(
+            &mut self.in_flight,
+            endpoint,
+            completion(tag, page, found),
+            1,
+        )?;
+        let _taken = self.in_flight.deliver(message);
+        Ok(Answer::Completion)
+    }
+}

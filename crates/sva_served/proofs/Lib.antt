@@ -1,0 +1,13 @@
+pub mod Parts
+pub mod Changes
+pub mod Decisions
+pub mod Housed
+pub mod Hosting
+pub mod Sounds
+pub mod Openings
+pub mod Takes
+pub mod Resetting
+pub mod Advances
+pub mod Filing
+pub mod Answered
+pub mod Replies

@@ -1,0 +1,26 @@
+-- What a host and its service of page requests are seen as together, and what holds of them.
+use Rattle.std.specs.Prelude.{◌≡◌, ℕ, ◌+◌, ◌≤◌, [], length}
+use Rattle.sva_model.specs.Wire.{Wire}
+use Rattle.sva_labels.specs.Waiting.{waiting}
+use Rattle.sva_service.specs.Service.{Service, no_service}
+use Rattle.sva_views.specs.Service.{groups_seen}
+use Rattle.sva_views.specs.ServiceLaws.{IsSound}
+use Rattle.sva_served.specs.Seen.{with_service}
+use Rattle.sva_served.specs.declared.served.Served.TheInside.{Inside}
+
+abbrev pub wire_of : Inside → Wire
+wire_of served = with_service served.workers served.service served.host
+
+-- no group is open at a unit that isn't there
+abbrev pub AreHoused : Wire → Service → Type 0
+AreHoused w s = (e : ℕ) → length w.parts ≤ e → groups_seen e s.groups ≡ []
+
+pub record IsServed (served : Inside) : Type 0 where
+  -- the host alone keeps no group, no job and no hand
+  pub apart : served.host ≡ with_service served.workers no_service served.host
+  pub few : served.workers ≤ 4
+  pub sound : IsSound served.workers served.service
+  -- a group takes a serial where its first request is filed, and each request that waits has taken the number of a message: so
+  -- no more serials are taken than numbers
+  pub serials : served.service.groups.next + waiting served.host ≤ served.host.next_message
+  pub housed : AreHoused served.host served.service

@@ -1,0 +1,4 @@
+pub mod Seen
+pub mod Inner
+pub mod Applied
+pub mod Advancing

@@ -1,0 +1,39 @@
+//! Page requests (PCI Express Base 5.0, section 10.4.1) that are filed.
+
+ghost use Rattle.std.specs.Prelude.{◌≡◌, ◌≢◌, Err, []};
+ghost use Rattle.sva_step.specs.declared.refusals.Refusal.TheVariants as refusal;
+ghost use Rattle.sva_step.specs.declared.steps.Step.TheVariants as step;
+ghost use Rattle.sva_labels.specs.Finding.{part_of};
+ghost use Rattle.sva_labels.specs.Sound.{IsSound};
+ghost use Rattle.sva_host.specs.Steps.{ByLabels};
+
+use crate::served::Served;
+use sva_step::{Answer, Refusal};
+
+impl Served {
+    /// Files the oldest page request that waits at the unit of an endpoint, under the binding that bears its PASID; with the last
+    /// one of its group a job is made, behind all others. `NoSuchEndpoint` where the endpoint isn't there, `Resetting` where its
+    /// unit is in reset, and `OutOfMemory` where a growth is refused; none is asked for where no page request waits.
+    pub fn serve(&mut self, endpoint: u64) -> Result<Answer, Refusal>
+        requires { IsSound self.old }
+        ensures step { ByLabels self.old (step.Serve endpoint) result self.new }
+        ensures memory { (part_of self.old endpoint).page_queue ≡ [] → result ≢ Err refusal.OutOfMemory }
+    {
+        self.host.may_serve(endpoint)?;
+        let Some(request) = self.host.first_request(endpoint) else {
+            return Ok(Answer::Empty);
+        };
+        let Some(binding) = self.host.bearer_at(endpoint, request.pasid) else {
+            unreachable!()
+        };
+        if self.service.reserve(endpoint).is_err() {
+            return Err(Refusal::OutOfMemory);
+        }
+        self.host.take_request(endpoint);
+        if self.service.file(endpoint, binding, request) {
+            Ok(Answer::Job)
+        } else {
+            Ok(Answer::Part)
+        }
+    }
+}

@@ -24,28 +24,23 @@ const TWO: Config = Config {
     first: 0,
 };
 
-fn map(space: u64, page: u64, write: bool) -> Step
-{
+fn map(space: u64, page: u64, write: bool) -> Step {
     Step::Map { space, page, write }
 }
 
-fn unmap(space: u64, page: u64, count: u64) -> Step
-{
+fn unmap(space: u64, page: u64, count: u64) -> Step {
     Step::Unmap { space, page, count }
 }
 
-fn range(space: u64, page: u64, order: u64) -> Step
-{
+fn range(space: u64, page: u64, order: u64) -> Step {
     Step::UnmapRange { space, page, order }
 }
 
-fn bind(endpoint: u64, space: u64) -> Step
-{
+fn bind(endpoint: u64, space: u64) -> Step {
     Step::Bind { endpoint, space }
 }
 
-fn ask(endpoint: u64, page: u64) -> Step
-{
+fn ask(endpoint: u64, page: u64) -> Step {
     Step::Ask {
         endpoint,
         pasid: 1,
@@ -53,8 +48,7 @@ fn ask(endpoint: u64, page: u64) -> Step
     }
 }
 
-fn begin_use(page: u64, write: bool) -> Step
-{
+fn begin_use(page: u64, write: bool) -> Step {
     Step::BeginUse {
         endpoint: 0,
         pasid: 1,
@@ -63,8 +57,7 @@ fn begin_use(page: u64, write: bool) -> Step
     }
 }
 
-fn evict(page: u64) -> Step
-{
+fn evict(page: u64) -> Step {
     Step::Evict {
         endpoint: 0,
         pasid: 1,
@@ -72,8 +65,7 @@ fn evict(page: u64) -> Step
     }
 }
 
-fn bearer(pasid: u64) -> Step
-{
+fn bearer(pasid: u64) -> Step {
     Step::Bearer { pasid }
 }
 
@@ -125,8 +117,7 @@ fn open<R: Abort>(rt: &R, alloc: Global, config: Config) -> World {
 }
 
 // Takes a step. Where memory is refused once, the counts are as they were, and the same step again is answered.
-fn apply<R: Abort>(rt: &R, world: &mut World, step: Step) -> Result<Answer, Refusal>
-{
+fn apply<R: Abort>(rt: &R, world: &mut World, step: Step) -> Result<Answer, Refusal> {
     let before = world.counts();
     let result = world.apply(&step);
     if result != Err(Refusal::OutOfMemory) {
@@ -144,8 +135,7 @@ fn expect<R: Abort>(
     steps: &[Step],
     answers: &[Result<Answer, Refusal>],
     last: Counts,
-)
-{
+) {
     for _turn in 0..2 {
         if let Ok((world, found)) = run(alloc, config, steps) {
             let is_whole = !found.contains(&Err(Refusal::OutOfMemory));

@@ -5,13 +5,11 @@ use crate::World;
 use std::process::Abort;
 use sva_step::{Answer, FrameList, Refusal, Step};
 
-fn end_use(slot: u64) -> Step
-{
+fn end_use(slot: u64) -> Step {
     Step::EndUse { endpoint: 0, slot }
 }
 
-fn finish(vector: u32, count: u64) -> Step
-{
+fn finish(vector: u32, count: u64) -> Step {
     Step::Finish {
         endpoint: 0,
         vector,
@@ -19,8 +17,7 @@ fn finish(vector: u32, count: u64) -> Step
     }
 }
 
-fn quit() -> Step
-{
+fn quit() -> Step {
     Step::Quit {
         endpoint: 0,
         pasid: 1,
@@ -40,8 +37,7 @@ fn used(slot: u8, frame: u32) -> Result<Answer, Refusal> {
 }
 
 // Takes the steps, again where memory is refused once, and compares the answers.
-fn go_on<R: Abort>(rt: &R, world: &mut World, steps: &[Step], answers: &[Result<Answer, Refusal>])
-{
+fn go_on<R: Abort>(rt: &R, world: &mut World, steps: &[Step], answers: &[Result<Answer, Refusal>]) {
     assert_eq!(rt; steps.len(), answers.len());
     for place in 0..steps.len() {
         assert_eq!(rt; apply(rt, world, steps[place]), answers[place]);

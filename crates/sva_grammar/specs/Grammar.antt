@@ -329,9 +329,9 @@ host_step words =
     if bytes_eq (word 0 words) (codes "answer") then answer_step words else
     endpoint_step words
 
--- those of spaces, frames and PASIDs, and else one of the above
-unfoldable pub known_step : List (List ℕ) → Result Step Cause
-known_step words =
+-- the step of a line: one of spaces, frames and PASIDs, and else one of the above; a line of another name is of no step
+unfoldable pub step_of : List (List ℕ) → Result Step Cause
+step_of words =
     if bytes_eq (word 0 words) (codes "space") then space_step words else
     if bytes_eq (word 0 words) (codes "drop") then drop_step words else
     if bytes_eq (word 0 words) (codes "map") then map_step words else
@@ -340,38 +340,6 @@ known_step words =
     if bytes_eq (word 0 words) (codes "look") then look_step words else
     if bytes_eq (word 0 words) (codes "bearer") then bearer_step words else
     host_step words
-
--- Is the step of this name built? A line of another is answered as that of no step. Once each is built this goes, and
--- `known_step` takes the place of `step_of`.
-abbrev pub is_built_word : List ℕ → Bool
-is_built_word name =
-    bytes_eq name (codes "space")
-    || bytes_eq name (codes "drop")
-    || bytes_eq name (codes "map")
-    || bytes_eq name (codes "unmap")
-    || bytes_eq name (codes "unmapr")
-    || bytes_eq name (codes "look")
-    || bytes_eq name (codes "bearer")
-    || bytes_eq name (codes "bind")
-    || bytes_eq name (codes "unbind")
-    || bytes_eq name (codes "advance")
-    || bytes_eq name (codes "pump")
-    || bytes_eq name (codes "serve")
-    || bytes_eq name (codes "reset")
-    || bytes_eq name (codes "take")
-    || bytes_eq name (codes "answer")
-    || bytes_eq name (codes "ask")
-    || bytes_eq name (codes "use")
-    || bytes_eq name (codes "end")
-    || bytes_eq name (codes "evict")
-    || bytes_eq name (codes "fault")
-    || bytes_eq name (codes "finish")
-    || bytes_eq name (codes "quit")
-    || bytes_eq name (codes "deliver")
-
--- the step of a line
-unfoldable pub step_of : List (List ℕ) → Result Step Cause
-step_of words = if is_built_word (word 0 words) then known_step words else Err UnknownStep
 
 -- ---- The whole text
 

@@ -1,12 +1,12 @@
 // Each form of a step's line, and lines that miss it by a word.
 use crate::faults::Cause;
-use crate::forms::known_step_in;
+use crate::forms::step_in;
 use crate::words::Words;
 use sva_step::{Step, Verdict};
 
-/// The step that a line writes, or why it can't be read, whether the step is built or not.
+/// The step that a line writes, or why it can't be read.
 fn read(line: &str) -> Result<Step, Cause> {
-    known_step_in(&Words::new(line.as_bytes()))
+    step_in(&Words::new(line.as_bytes()))
 }
 
 #[test]

@@ -167,7 +167,8 @@ unfolding deliver_step Bears
 deliver_bears words = through _ (one_number words) (λ message. Ok (Deliver message)) (λ message. refl)
 
 -- by the first of the names, or else another line
-by_test : (named : Bool) (name first : List ℕ) (a b : Result Step Cause) → bytes_eq first name ≡ named → Bears name a → Bears first b → Bears first (cond named a b)
+by_test : (named : Bool) (name first : List ℕ) (a b : Result Step Cause) → bytes_eq first name ≡ named → Bears name a → Bears first b
+    → Bears first (cond named a b)
 by_test true name first a b e p q = subst (λ w. Bears w a) (sym ((bytes_eq-Decides first name).0 e)) p
 by_test false name first a b e p q = q
 

@@ -15,5 +15,6 @@ report_script-requires-clause-few g c =
 pub returns-in_err-write_fault-in-Err-Line-clause-report : goal.returns-in_err-write_fault-in-Err-Line-clause-report
 returns-in_err-write_fault-in-Err-Line-clause-report g c =
     let told = rw c.in-Err-Line.field-0-is at c.in-Err-Line.ensures.read in
-    writes_as _ _ _ _ c.from_residual.result (read_fault c.args.text.now c.in-Err-Line.fault told ∙ ap (λ (f : LineFault). ended (line_fault_text f)) (sym c.in-Err-Line.fault-is))
+    let text = read_fault c.args.text.now c.in-Err-Line.fault told ∙ ap (λ (f : LineFault). ended (line_fault_text f)) (sym c.in-Err-Line.fault-is) in
+    writes_as _ _ _ _ c.from_residual.result text
     (writes_front _ _ _ c.from_residual.result c.from_residual.ensures.0 c.in_err-write_fault-in-Err-Line.ensures.written)

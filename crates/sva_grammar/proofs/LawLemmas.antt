@@ -1,6 +1,6 @@
 -- The laws of the grammar.
 use Rattle.std.proofs.Common.{◌≡◌, ◌<◌, ◌≤◌, ◌+◌, ◌/◌, ◌%◌, ◌^◌, ◌∙◌, ap, sym, subst, arith, ℕ, zero, suc, List, [], ◌∷◌, ◌++◌, append_assoc, Bool, true}
-use Rattle.std.proofs.Common.{false, not, ◌&&◌, ◌||◌, cond, eqb, ltb, eq-eqb, length, get_or, refl, Option, Some, None, IfSome, Ok, Err, map}
+use Rattle.std.proofs.Common.{false, not, ◌&&◌, ◌||◌, cond, eqb, ltb, eq-eqb, length, get_or, refl, Option, Some, None, IfSome, Ok, map}
 use Rattle.std.specs.Prelude.{codes, decimal}
 use Rattle.std.specs.List.{AllByRecursion, enumerate_from, onto_first, join_with_byte}
 use Rattle.std.specs.Char.{digit_char, is_ascii_digit}

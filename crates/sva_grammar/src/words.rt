@@ -1,4 +1,4 @@
-ghost use Rattle.std.specs.Prelude.{◌≡◌, ℕ, ◌+◌, ◌-◌, ◌<◌, ◌≤◌, List, [], ◌∷◌, ◌++◌, length, take, map};
+ghost use Rattle.std.specs.Prelude.{◌≡◌, length};
 ghost use Rattle.sva_grammar.specs.Grammar.{access, begins_number, flags, group, is_last, is_vector, is_vector_digit, number, one_number, vector};
 ghost use Rattle.sva_grammar.specs.Grammar.{verdict, word, has_words, has_words_or};
 ghost use Rattle.std.specs.Str.{bytes_eq};

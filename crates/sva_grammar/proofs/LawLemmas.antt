@@ -321,7 +321,8 @@ step_line (EndUse endpoint slot) h = line_from _ _ ((refl, refl), (word_of_numbe
 step_line (Evict endpoint pasid page) h =
     line_from _ _ ((refl, refl), (word_of_number endpoint h.0, (word_of_number pasid h.1, (word_of_number page h.2, tt)))) refl
 step_line (Fault endpoint pasid page read write group last) h =
-    let bits = (word_of_flags read write, (word_of_group group h.4, (word_of_last last, tt))) in
+    let bits : AreWords (flags_word read write ∷ group_word group ∷ last_word last ∷ []) =
+    (word_of_flags read write, (word_of_group group h.4, (word_of_last last, tt))) in
     line_from _ _ ((refl, refl), (word_of_number endpoint h.0, (word_of_number pasid h.1, (word_of_number page h.2, bits)))) refl
 step_line (Finish endpoint vector count) h =
     line_from _ _ ((refl, refl), (word_of_number endpoint h.0, (word_of_vector vector, (word_of_number count h.2, tt)))) refl

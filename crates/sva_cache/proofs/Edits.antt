@@ -1,5 +1,6 @@
 -- What an edit of a cache's entries leaves of the finite map that they are.
-use Rattle.std.proofs.Common.{◌≡◌, ℕ, ◌<◌, ◌≤◌, List, length, get_or, set, sym, ◌∙◌, ap, refl, subst, cond, true, false, not, Bool, ◌||◌, Option, Some, None, Result, Ok, Err}
+use Rattle.std.proofs.Common.{◌≡◌, ℕ, ◌<◌, ◌≤◌, List, length, get_or, set, sym, ◌∙◌, ap, refl, subst, cond, true, false, not, Bool, ◌||◌, Option, Some}
+use Rattle.std.proofs.Common.{None, Result, Ok, Err}
 use Rattle.std.specs.Prelude.{T, nat_lt}
 use Rattle.std.specs.Option.{is_some}
 use Rattle.std.specs.List.{insert, remove}
@@ -9,7 +10,8 @@ use Rattle.std.specs.Ordering.{nat_cmp, eq_by_cmp, ordering_then}
 use Rattle.std.proofs.lemmas.Bool.{ltb-true}
 use Rattle.std.specs.Cmp.{eq_by_cmp_equiv}
 use Rattle.std.specs.FinMap as finite
-use Rattle.std.specs.FinMap.{IsAntisymmetric, nat_cmp-IsAntisymmetric, find, put, is_sorted, entries-from_sorted, get-from_sorted, entries-insert, get-retain_keys, get-remove, len-entries, same_map, same_entries_map}
+use Rattle.std.specs.FinMap.{IsAntisymmetric, nat_cmp-IsAntisymmetric, find, put, is_sorted, entries-from_sorted, get-from_sorted, entries-insert}
+use Rattle.std.specs.FinMap.{get-retain_keys, get-remove, len-entries, same_map, same_entries_map}
 use Rattle.std.specs.FinMap.Entries.{where_key, is_sorted-put, is_sorted-where_key, find-where_key}
 use Rattle.sva_cache.specs.declared.cached.Translation.{Translation}
 use Rattle.sva_cache.specs.Cache.{Key, Translations, key_cmp, key_cmp_total, smaller_first, place_of, has_room_for}
@@ -62,8 +64,11 @@ module _ (items : List (Key × Translation)) (cache : Translations) (sorted : T 
   pub inserted : (new : List (Key × Translation)) (q : Key) (t : Translation) → new ≡ put key_cmp q t items
       → T (is_sorted key_cmp new) × (finite.from_sorted new ≡ finite.insert cache q t)
   inserted new q t is =
-      let up : T (is_sorted key_cmp new) = subst (λ es. T (is_sorted key_cmp es)) (sym is) (is_sorted-put key_cmp key_cmp_total q t items sorted) in
-      (up, same_entries_map _ _ (entries-from_sorted key_cmp new up ∙ is ∙ ap (put key_cmp q t) (sym (entries_are items cache sorted seen)) ∙ sym (entries-insert key_cmp_total cache q t)))
+      let up : T (is_sorted key_cmp new) = subst (λ es. T (is_sorted key_cmp es)) (sym is) (is_sorted-put key_cmp key_cmp_total q t items sorted) in (
+        up,
+        same_entries_map _ _ (entries-from_sorted key_cmp new up ∙ is ∙ ap (put key_cmp q t) (sym (entries_are items cache sorted seen))
+            ∙ sym (entries-insert key_cmp_total cache q t)),
+      )
 
   -- a list of the entries whose keys pass a test is the map of these
   pub kept : (new : List (Key × Translation)) (p : Key → Bool) → new ≡ where_key key_cmp p items

@@ -1,5 +1,6 @@
 -- Where a key stands in a list of entries that rises by its keys, and what an edit at that place leaves.
-use Rattle.std.proofs.Common.{◌≡◌, ℕ, zero, suc, ◌+◌, ◌<◌, ◌≤◌, List, [], ◌∷◌, length, set, get_or, sym, ◌∙◌, ap, refl, subst, cond, true, false, not, Bool, ◌&&◌, Some, None, arith}
+use Rattle.std.proofs.Common.{◌≡◌, ℕ, zero, suc, ◌+◌, ◌<◌, ◌≤◌, List, [], ◌∷◌, length, set, get_or, sym, ◌∙◌, ap, refl, subst, cond, true, false, not}
+use Rattle.std.proofs.Common.{Bool, ◌&&◌, Some, None, arith}
 use Rattle.std.specs.Prelude.{T}
 use Rattle.std.specs.Option.{is_some}
 use Rattle.std.specs.List.{insert, remove, remove_range}
@@ -122,7 +123,8 @@ module _ {K X : Type 0} {R : K → K → Ordering} (o : IsTotalOrder R) where
 
   -- a key that is found is found at its place
   pub at_place : (q : K) (es : List (K × X)) (d : K × X) → T (is_sorted R es) → is_some (find R q es) ≡ true
-      → (find R q es ≡ Some (get_or es (smaller_first R q es) d).1) × (smaller_first R q es < length es) × (R q (get_or es (smaller_first R q es) d).0 ≡ Equal)
+      → (find R q es ≡ Some (get_or es (smaller_first R q es) d).1) × (smaller_first R q es < length es)
+      × (R q (get_or es (smaller_first R q es) d).0 ≡ Equal)
   at_place q [] d sorted is = absurd (cc)
   at_place q (e ∷ es) d sorted is = by (R e.0 q) refl (at_place q es d (parts (below_all R e.0 es) (is_sorted R es) sorted).1)
     where
@@ -131,7 +133,8 @@ module _ {K X : Type 0} {R : K → K → Ordering} (o : IsTotalOrder R) where
 
       by : (r : Ordering) → R e.0 q ≡ r
           → (is_some (find R q es) ≡ true
-          → (find R q es ≡ Some (get_or es (smaller_first R q es) d).1) × (smaller_first R q es < length es) × (R q (get_or es (smaller_first R q es) d).0 ≡ Equal))
+          → (find R q es ≡ Some (get_or es (smaller_first R q es) d).1) × (smaller_first R q es < length es)
+          × (R q (get_or es (smaller_first R q es) d).0 ≡ Equal))
           → (find R q (e ∷ es) ≡ Some (get_or (e ∷ es) (smaller_first R q (e ∷ es)) d).1) × (smaller_first R q (e ∷ es) < suc (length es))
           × (R q (get_or (e ∷ es) (smaller_first R q (e ∷ es)) d).0 ≡ Equal)
       by Less less later =
@@ -225,7 +228,8 @@ module _ {K X : Type 0} {R : K → K → Ordering} (o : IsTotalOrder R) where
       let high : is_lt (R e.0 b) ≡ false = ap is_lt (turned o b e.0 Less (less_of _ p.0)) in
       by (is_lt (R e.0 a)) (is_lt (R e.0 b)) refl refl high (all_outside a b es p.1)
     where
-      by : (s t : Bool) → is_lt (R e.0 a) ≡ s → is_lt (R e.0 b) ≡ t → t ≡ false → where_key R (outside R a b) es ≡ es → where_key R (outside R a b) (e ∷ es) ≡ e ∷ es
+      by : (s t : Bool) → is_lt (R e.0 a) ≡ s → is_lt (R e.0 b) ≡ t → t ≡ false → where_key R (outside R a b) es ≡ es
+          → where_key R (outside R a b) (e ∷ es) ≡ e ∷ es
       by s true low high fails rest = absurd (cc)
       by true false low high fails rest = kept_by a b e es true false low high ∙ ap (λ l. e ∷ l) rest
       by false false low high fails rest = kept_by a b e es false false low high ∙ ap (λ l. e ∷ l) rest
@@ -251,7 +255,15 @@ module _ {K X : Type 0} {R : K → K → Ordering} (o : IsTotalOrder R) where
           → remove_range (e ∷ es) (smaller_first R a (e ∷ es)) (smaller_first R b (e ∷ es)) ≡ where_key R (outside R a b) (e ∷ es)
       beyond r s low high no_lower no_less =
           let all = all_outside a b es (none_below b e es s high no_less p.0) in
-          rw (place_by a e es r low, no_lower, place_by b e es s high, no_less, kept_by a b e es (is_lt r) (is_lt s) (ap is_lt low) (ap is_lt high), no_lower, no_less)
+          rw (
+            place_by a e es r low,
+            no_lower,
+            place_by b e es s high,
+            no_less,
+            kept_by a b e es (is_lt r) (is_lt s) (ap is_lt low) (ap is_lt high),
+            no_lower,
+            no_less,
+          )
           (ap (λ l. e ∷ l) (sym all))
 
       within : (r : Ordering) → R e.0 a ≡ r → is_lt r ≡ false → R e.0 b ≡ Less
@@ -285,7 +297,8 @@ module _ {K X : Type 0} {R : K → K → Ordering} (o : IsTotalOrder R) where
   remove_absent q [] none = refl
   remove_absent q (e ∷ es) none = by (eq_by_cmp R q e.0) refl (remove_absent q es)
     where
-      by : (b : Bool) → eq_by_cmp R q e.0 ≡ b → (is_some (find R q es) ≡ false → where_key R (others R q) es ≡ es) → where_key R (others R q) (e ∷ es) ≡ e ∷ es
+      by : (b : Bool) → eq_by_cmp R q e.0 ≡ b → (is_some (find R q es) ≡ false → where_key R (others R q) es ≡ es)
+          → where_key R (others R q) (e ∷ es) ≡ e ∷ es
       by true tie rest = let fails : true ≡ false = sym (ap (λ s. is_some (cond s (Some e.1) (find R q es))) tie) ∙ none in absurd (cc)
       by false tie rest =
           let later : is_some (find R q es) ≡ false = sym (ap (λ s. is_some (cond s (Some e.1) (find R q es))) tie) ∙ none in

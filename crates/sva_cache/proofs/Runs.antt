@@ -1,5 +1,6 @@
 -- The keys that an invalidation covers are a run in the order of keys.
-use Rattle.std.proofs.Common.{◌≡◌, ℕ, ◌+◌, ◌<◌, ◌≤◌, List, [], ◌∷◌, length, suc, sym, ◌∙◌, ap, refl, subst, cond, true, false, not, Bool, ◌||◌, ◌&&◌, eqb, arith}
+use Rattle.std.proofs.Common.{◌≡◌, ℕ, ◌+◌, ◌<◌, ◌≤◌, List, [], ◌∷◌, length, suc, sym, ◌∙◌, ap, refl, subst, cond, true, false, not, Bool, ◌||◌, ◌&&◌, eqb}
+use Rattle.std.proofs.Common.{arith}
 use Rattle.std.specs.Prelude.{T, nat_lt, nat_le}
 use Rattle.std.proofs.Math.Path.{fun_ext}
 use Rattle.std.proofs.lemmas.Bool.Decides.{nat_tests}
@@ -34,14 +35,16 @@ smaller : (k m : Key) → is_lt (key_cmp k m) ≡ (nat_lt k.0 m.0 || (eqb k.0 m.
 smaller k m = smaller_by (nat_lt k.0 m.0) (eqb k.0 m.0) (nat_lt k.1 m.1) (eqb k.1 m.1)
 
 pages_run : (p q pasid base end : ℕ)
-    → (not (nat_lt p pasid || (eqb p pasid && nat_lt q base)) && (nat_lt p pasid || (eqb p pasid && nat_lt q end))) ≡ (eqb pasid p && (nat_le base q && nat_lt q end))
+    → (not (nat_lt p pasid || (eqb p pasid && nat_lt q base)) && (nat_lt p pasid || (eqb p pasid && nat_lt q end)))
+    ≡ (eqb pasid p && (nat_le base q && nat_lt q end))
 pages_run p q pasid base end = grind (arith, nat_tests)
 
 all_run : (p q pasid : ℕ)
     → (not (nat_lt p pasid || (eqb p pasid && nat_lt q 0)) && (nat_lt p (pasid + 1) || (eqb p (pasid + 1) && nat_lt q 0))) ≡ (eqb pasid p && true)
 all_run p q pasid = grind (arith, nat_tests)
 
-in_run : (pasid : ℕ) (extent : Extent) (k : Key) → is_in_run key_cmp (first_key_of pasid extent) (end_key_of pasid extent) k ≡ (eqb pasid k.0 && is_within extent k.1)
+in_run : (pasid : ℕ) (extent : Extent) (k : Key) → is_in_run key_cmp (first_key_of pasid extent) (end_key_of pasid extent) k
+    ≡ (eqb pasid k.0 && is_within extent k.1)
 in_run pasid (Pages range) k =
     let a : Key = (pasid, range.base) in
     let b : Key = (pasid, range.base + pages_in range) in
@@ -99,7 +102,8 @@ module _ (items : List (Key × Translation)) (cache : Translations) (sorted : T 
       → T (is_sorted key_cmp new) × (length new ≤ length items) × (finite.from_sorted new ≡ without_covered invalidation cache)
   run_cut new is =
       let p = λ (key : Key). not (covers invalidation key.0 key.1) in
-      let same : outside key_cmp (first_key invalidation) (end_key invalidation) ≡ p = fun_ext (λ k. ap not (in_run invalidation.pasid invalidation.extent k)) in
+      let same : outside key_cmp (first_key invalidation) (end_key invalidation) ≡ p =
+      fun_ext (λ k. ap not (in_run invalidation.pasid invalidation.extent k)) in
       let cut : new ≡ where_key key_cmp p items =
       is ∙ ap (λ (n : ℕ). remove_range items n (place_of cache (end_key invalidation))) (place_is items cache sorted seen (first_key invalidation))
       ∙ ap (remove_range items (smaller_first key_cmp (first_key invalidation) items)) (place_is items cache sorted seen (end_key invalidation))

@@ -35,16 +35,19 @@ chosen b n is = ap (λ t. cond t (Ok n) (Err n)) (sym is)
 missed : (b : Bool) (n : ℕ) → b ≡ false → ◌≡◌ {A = Result ℕ ℕ} (Err n) (cond b (Ok n) (Err n))
 missed b n is = ap (λ t. cond t (Ok n) (Err n)) (sym is)
 
-module _ (items : List (Key × Translation)) (cache : Translations) (sorted : T (is_sorted key_cmp items)) (seen : finite.from_sorted items ≡ cache) (q : Key) where
+module _ (items : List (Key × Translation)) (cache : Translations) (sorted : T (is_sorted key_cmp items)) (seen : finite.from_sorted items ≡ cache)
+    (q : Key) where
   pub found_at : (i : ℕ) → smaller_first key_cmp q items ≡ i → is_some (find key_cmp q items) ≡ true
       → ◌≡◌ {A = Result ℕ ℕ} (Ok i) (cond (finite.contains_key cache q) (Ok (place_of cache q)) (Err (place_of cache q)))
   found_at i place there =
-      ap Ok (sym place ∙ sym (place_is items cache sorted seen q)) ∙ chosen (finite.contains_key cache q) (place_of cache q) (found_is items cache sorted seen q ∙ there)
+      ap Ok (sym place ∙ sym (place_is items cache sorted seen q))
+      ∙ chosen (finite.contains_key cache q) (place_of cache q) (found_is items cache sorted seen q ∙ there)
 
   pub not_found_at : (i : ℕ) → smaller_first key_cmp q items ≡ i → is_some (find key_cmp q items) ≡ false
       → ◌≡◌ {A = Result ℕ ℕ} (Err i) (cond (finite.contains_key cache q) (Ok (place_of cache q)) (Err (place_of cache q)))
   not_found_at i place absent =
-      ap Err (sym place ∙ sym (place_is items cache sorted seen q)) ∙ missed (finite.contains_key cache q) (place_of cache q) (found_is items cache sorted seen q ∙ absent)
+      ap Err (sym place ∙ sym (place_is items cache sorted seen q))
+      ∙ missed (finite.contains_key cache q) (place_of cache q) (found_is items cache sorted seen q ∙ absent)
 
 -- where nothing is left to be looked at, the key is absent and its place is there
 pub closed : (b : Bool) (place low high : ℕ) → low ≤ place → place + cond b 1 0 ≤ high → high ≤ low → (place ≡ low) × (b ≡ false)

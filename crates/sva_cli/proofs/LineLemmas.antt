@@ -1,5 +1,6 @@
 -- clap takes `replay` and `check` alone, and with `--` behind: each other list of words has a fault.
-use Rattle.std.proofs.Common.{◌≡◌, ◌⊎◌, inl, inr, refl, sym, subst, ap, ◌∙◌, ℕ, Bool, true, false, List, [], ◌∷◌, ◌++◌, Option, Some, None, codes, String, if◌then◌else◌, length, slice_get, cond, chars, option_map, fold, ◌||◌, ◌<◌, append-nil, append_assoc, arith}
+use Rattle.std.proofs.Common.{◌≡◌, ◌⊎◌, inl, inr, refl, sym, subst, ap, ◌∙◌, ℕ, Bool, true, false, List, [], ◌∷◌, ◌++◌, Option, Some, None, codes, String}
+use Rattle.std.proofs.Common.{if◌then◌else◌, length, slice_get, cond, chars, option_map, fold, ◌||◌, ◌<◌, append-nil, append_assoc, arith}
 use Rattle.std.specs.Str.{bytes_eq}
 use Rattle.std.specs.Option.{option_map_or}
 use Rattle.std.proofs.lemmas.Slice.Eq.{bytes_eq-Decides}
@@ -14,14 +15,18 @@ use Rattle.clap.specs.declared.parser.matches.ArgMatches.TheViews.{out-ArgMatche
 use Rattle.clap.specs.declared.parser.matches.SubCommand.{SubCommand}
 use Rattle.clap.specs.Faults.{is_simple_and_free}
 use Rattle.clap.specs.Lexer.{long_of, short_of}
-use Rattle.clap.specs.Walk.{Row, arg_by_long, arg_by_short, Held, Names, Walk, after_flag, answers_to, bundle_step, has_long, has_short, idle, long_or_other, nothing_held, Outcome, plain, short_or_plain, short_word, subcommand_or_other, trailing, value, walk_from, walked}
-use Rattle.clap.specs.Faults.{bundle_fault, bundle_step_fault, entered_fault, flag_word_fault, level_fault, long_fault, other_fault, short_fault, step_fault, turn_fault, walk_fault}
+use Rattle.clap.specs.Walk.{Row, arg_by_long, arg_by_short, Held, Names, Walk, after_flag, answers_to, bundle_step, has_long, has_short, idle}
+use Rattle.clap.specs.Walk.{long_or_other, nothing_held, Outcome, plain, short_or_plain, short_word, subcommand_or_other, trailing, value, walk_from}
+use Rattle.clap.specs.Walk.{walked}
+use Rattle.clap.specs.Faults.{bundle_fault, bundle_step_fault, entered_fault, flag_word_fault, level_fault, long_fault, other_fault, short_fault}
+use Rattle.clap.specs.Faults.{step_fault, turn_fault, walk_fault}
 use Rattle.clap.proofs.OnLiterals.{clap_on_literals}
 use Rattle.clap.specs.declared.error.kind.ErrorKind.{ErrorKind}
 use Rattle.clap.specs.declared.error.kind.ErrorKind.TheVariants.{DisplayHelp, DisplayVersion, MissingSubcommand}
 use Rattle.sva_cli.specs.declared.command.Asked.{Asked}
 use Rattle.sva_cli.specs.declared.command.Asked.TheVariants.{Replay, Check}
-use Rattle.sva_cli.specs.Command.{Asks, AsksRun, AsksText, CallsHelp, CallsVersion, IsCommand, IsMistaken, asked_named, behind_check, behind_replay, by_long, by_long_version, by_short, by_short_version, svahost, texts}
+use Rattle.sva_cli.specs.Command.{Asks, AsksRun, AsksText, CallsHelp, CallsVersion, IsCommand, IsMistaken, asked_named, behind_check, behind_replay}
+use Rattle.sva_cli.specs.Command.{by_long, by_long_version, by_short, by_short_version, svahost, texts}
 
 abbrev top : Shape
 top = (built svahost).top
@@ -77,7 +82,8 @@ help = first_rule tops
 abbrev version : Rule
 version = second_rule tops
 
-long_never : (rules : List Rule) (a b : Bool) (v : Option Text) → long_fault rules false (cond a (Some help) (cond b (Some version) None)) v nothing_held ≡ [] → ⊥
+long_never : (rules : List Rule) (a b : Bool) (v : Option Text)
+    → long_fault rules false (cond a (Some help) (cond b (Some version) None)) v nothing_held ≡ [] → ⊥
 long_never rules true b None e = cc e
 long_never rules true b (Some v) e = cc e
 long_never rules false true None e = cc e
@@ -106,7 +112,8 @@ tops_ask = record {
 
 -- ---- a word that has no fault of its own is `--`, or stands where a value would
 
-is_value_after : (rules : List Rule) → OnlyAsk rules → (x : Option ℕ) (word flags : Text) (fault : Text → ℕ → Held → Kinds) (met : Text → ℕ → Outcome → Held → Held × Outcome)
+is_value_after : (rules : List Rule) → OnlyAsk rules
+    → (x : Option ℕ) (word flags : Text) (fault : Text → ℕ → Held → Kinds) (met : Text → ℕ → Outcome → Held → Held × Outcome)
     → bundle_step_fault rules false x flags 0 nothing_held fault ≡ []
     → (after_flag rules idle word (bundle_step rules x flags 0 plain nothing_held met).0 (bundle_step rules x flags 0 plain nothing_held met).1).1 ≡ value
 is_value_after rules ask None word flags fault met e = refl
@@ -118,7 +125,8 @@ unfolding clap_on_literals
 is_value_bundle rules ask [] word e = refl
 is_value_bundle rules ask (f ∷ fs) word e = is_value_after rules ask (slice_get (chars (f ∷ fs)) 0) word (f ∷ fs) _ _ e
 
-is_value_short : (rules : List Rule) → OnlyAsk rules → (s : Option Text) (word : Text) → option_map_or (λ flags. bundle_fault rules false flags nothing_held) s [] ≡ []
+is_value_short : (rules : List Rule) → OnlyAsk rules → (s : Option Text) (word : Text)
+    → option_map_or (λ flags. bundle_fault rules false flags nothing_held) s [] ≡ []
     → (short_or_plain rules idle word s nothing_held).1 ≡ value
 is_value_short rules ask None word e = refl
 is_value_short rules ask (Some flags) word e = is_value_bundle rules ask flags word e
@@ -137,7 +145,8 @@ dashes : (rules : List Rule) → OnlyAsk rules → (s : Shape) (b : Bool) (word 
 dashes rules ask s true word e = refl
 dashes rules ask s false word e =
     let held = (long_or_other rules idle word (long_of word) nothing_held).0 in
-    absurd (ask.stray s held (subst (λ step. step_fault (given rules s) 1 held step ≡ []) (is_value rules ask (long_of word) word (left _ _ e)) (right _ _ e)))
+    absurd (ask.stray s held
+    (subst (λ step. step_fault (given rules s) 1 held step ≡ []) (is_value rules ask (long_of word) word (left _ _ e)) (right _ _ e)))
 
 is_word : (xs ys : Text) → bytes_eq xs ys ≡ true → xs ≡ ys
 is_word xs ys e = (bytes_eq-Decides xs ys).0 e
@@ -158,7 +167,8 @@ unfolding clap_on_literals
 leaf_words [] e = inl refl
 leaf_words (word ∷ rest) e =
     let first = leaf_dashes word (left _ _ (left _ _ e)) in
-    let behind = none_behind rest (subst (λ w. walk_fault leaf [] (walked leaf.rules [] (walk_from nothing_held) w) rest ≡ []) first (right _ _ (left _ _ e))) in
+    let behind = none_behind rest
+    (subst (λ w. walk_fault leaf [] (walked leaf.rules [] (walk_from nothing_held) w) rest ≡ []) first (right _ _ (left _ _ e))) in
     inr (ap (λ w. w ∷ rest) first ∙ ap (λ r. codes "--" ∷ r) behind)
 
 -- ---- the words of the program
@@ -231,7 +241,11 @@ first_words name word rest e = elim (top_first word (left _ _ (left _ _ e))) [
   | inl met ↦ inl met
   | inr (inl met) ↦ inr (inl met)
   | inr (inr alone) ↦
-      inr (inr (alone, none_behind_top rest (subst (λ w. walk_fault top names (walked top.rules names (walk_from nothing_held) w) rest ≡ []) alone (right _ _ (left _ _ e)))))
+      inr (inr (
+        alone,
+        none_behind_top rest
+            (subst (λ w. walk_fault top names (walked top.rules names (walk_from nothing_held) w) rest ≡ []) alone (right _ _ (left _ _ e))),
+      ))
 ]
 
 no_words : (words : List Text) → length words < 2 → fault_of svahost words ≡ [] → ⊥
@@ -303,7 +317,8 @@ enters_check_dashes : (name : Text) → entered_name (name ∷ check ∷ codes "
 unfolding clap_on_literals
 enters_check_dashes name = refl
 
-enters : (words : List Text) → AsksRun words → (Asks Replay words × (entered_name words ≡ Some replay)) ⊎ (Asks Check words × (entered_name words ≡ Some check))
+enters : (words : List Text) → AsksRun words → (Asks Replay words × (entered_name words ≡ Some replay))
+    ⊎ (Asks Check words × (entered_name words ≡ Some check))
 enters words (inl (name, inl e)) = inl ((name, inl e), ap entered_name e ∙ enters_replay name)
 enters words (inl (name, inr e)) = inl ((name, inr e), ap entered_name e ∙ enters_replay_dashes name)
 enters words (inr (name, inl e)) = inr ((name, inl e), ap entered_name e ∙ enters_check name)
@@ -318,7 +333,8 @@ asks_entered words (inr (asks, e)) = subst (λ name. Asks (asked_named name) wor
 pub asks_named : (words : List Text) → fault_of svahost words ≡ [] → Asks (asked_named (entered_name words)) words
 asks_named words none = asks_entered words (enters words (asks_run words none))
 
-name_of_rows : {Z : Type 0} (b : Option (Box SubCommand Z)) → option_map (λ b. (out-SubCommand (box_value b)).name.now) b ≡ option_map {T = Text × List Row} (λ p. p.0) (subcommand_rows b)
+name_of_rows : {Z : Type 0} (b : Option (Box SubCommand Z)) → option_map (λ b. (out-SubCommand (box_value b)).name.now) b
+    ≡ option_map {T = Text × List Row} (λ p. p.0) (subcommand_rows b)
 name_of_rows None = refl
 name_of_rows (Some b) = refl
 

@@ -1,5 +1,6 @@
 -- How a run of `replay` ends, from what `drive` says, and from a command line that couldn't be read for want of memory.
-use Rattle.std.proofs.Common.{◌≡◌, ◌⊎◌, inl, inr, sym, ◌∙◌, subst, append-nil, refl, ℕ, List, [], ◌∷◌, Option, Some, None, IfSome, Result, Ok, Err, OnOk, IfOk}
+use Rattle.std.proofs.Common.{◌≡◌, ◌⊎◌, inl, inr, sym, ◌∙◌, subst, append-nil, refl, ℕ, List, [], ◌∷◌, Option, Some, None, IfSome, Result, Ok, Err, OnOk}
+use Rattle.std.proofs.Common.{IfOk}
 use Rattle.std.specs.Io.KnownBytes.{Appends, Keeps}
 use Rattle.clap.specs.Words.{HasKind, IsAmong, Kinds, kind_of}
 use Rattle.clap.specs.declared.error.Error.{Error}
@@ -65,7 +66,8 @@ among_faults kinds error (inl memory) other = absurd (other memory)
 among_faults kinds error (inr among) other = among
 
 -- what shows a text was asked for it
-pub asked_text : (kinds : Kinds) (error : Error) → HasKind kinds error → (kind : ErrorKind) → kind ≡ kind_of error → (kind ≡ DisplayHelp) ⊎ (kind ≡ DisplayVersion)
+pub asked_text : (kinds : Kinds) (error : Error) → HasKind kinds error → (kind : ErrorKind) → kind ≡ kind_of error → (kind ≡ DisplayHelp)
+    ⊎ (kind ≡ DisplayVersion)
     → IsAmong DisplayHelp kinds ⊎ IsAmong DisplayVersion kinds
 asked_text kinds error has kind is (inl help) =
     inl (subst (λ kind. IsAmong kind kinds) (sym is ∙ help) (among_faults kinds error has (λ memory. cc (sym help ∙ is ∙ memory))))

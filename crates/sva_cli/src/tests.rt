@@ -1,16 +1,14 @@
-mod bound_examples;
-mod examples;
+//! What `scripts/runs` can't try by the program: the texts of help and mistakes, and streams that fail. That tries all scenarios
+//! of examples/ and runs/; the first of them is tried here too.
 
 use crate::run::{main_with, unread};
-use bound_examples::BOUND_EXAMPLES;
-use examples::EXAMPLES;
 use std::alloc::AllocError;
 use std::io;
 use std::io::{ErrorKind, Read, Write};
 use std::test::Fail;
 use sva_scenario::Told;
 
-/// The report of the first example, and a scenario for it.
+/// The steps of the first example, and its report.
 const SCENARIO: &[u8] = b"config 1 4 1\nspace\nmap 0 16 w\nunmap 0 16\nmap 0 16 r\n";
 
 const REPORT: &str = "space 0\nframe 0\nfree 0\nframe 0\nfree 3 mapped 1 withheld 0\n";
@@ -50,60 +48,17 @@ fn run_on<R: AllocGlobal>(rt: &R, words: &[&str], input: &[u8]) -> Result<Ran, A
 }
 
 #[test]
-fn replays_the_examples(rt: HostRuntime) -> Result<(), Fail> {
-    for (scenario, report, status) in EXAMPLES {
-        let ran = run_on(&rt, &["replay"], scenario.as_bytes())?;
-        assert!(rt; ran.written.as_slice() == report.as_bytes(), "{scenario}");
-        assert_eq!(rt; (ran.status, ran.said.len()), (status, 0), "{scenario}");
-    }
-    Ok(())
-}
-
-#[test]
-fn replays_the_examples_of_bindings(rt: HostRuntime) -> Result<(), Fail> {
-    for (scenario, report, status) in BOUND_EXAMPLES {
-        let ran = run_on(&rt, &["replay"], scenario.as_bytes())?;
-        assert!(rt; ran.written.as_slice() == report.as_bytes(), "{scenario}");
-        assert_eq!(rt; (ran.status, ran.said.len()), (status, 0), "{scenario}");
-    }
-    Ok(())
-}
-
-#[test]
-fn replays_short_inputs(rt: HostRuntime) -> Result<(), Fail> {
+fn runs_the_first_example(rt: HostRuntime) -> Result<(), Fail> {
     let runs = [
-        ("", "line 1 NoConfig\n", 1),
-        ("config 2 5 1", "free 5 mapped 0 withheld 0\n", 0),
-        ("config 1 4 1\nmap 0 x w", "line 2 BadWord\n", 1),
-        ("config 1 4 1\nspase", "line 2 UnknownStep\n", 1),
-        ("config 1 4097 1", "refused 1 BadConfig\n", 1),
+        (["replay"].as_slice(), REPORT),
+        (["replay", "--"].as_slice(), REPORT),
+        (["check"].as_slice(), "steps 4\n"),
+        (["check", "--"].as_slice(), "steps 4\n"),
     ];
-    for (scenario, report, status) in runs {
-        let ran = run_on(&rt, &["replay"], scenario.as_bytes())?;
-        assert!(rt; ran.written.as_slice() == report.as_bytes(), "{scenario}");
-        assert_eq!(rt; (ran.status, ran.said.len()), (status, 0), "{scenario}");
-    }
-    Ok(())
-}
-
-#[test]
-fn checks_scenarios(rt: HostRuntime) -> Result<(), Fail> {
-    let first = std::str::from_utf8(SCENARIO)
-        .ok()
-        .ok_or("the scenario is text")?;
-    let runs = [
-        (first, "steps 4\n", 0),
-        ("", "line 1 NoConfig\n", 1),
-        ("# nothing\n\nconfig 1 4 1\n# nothing\n", "steps 0\n", 0),
-        ("config 1 4097 1\nspace\n", "steps 1\n", 0),
-        ("config 1 4 1\nspase", "line 2 UnknownStep\n", 1),
-    ];
-    for (scenario, report, status) in runs {
-        for words in [["check"].as_slice(), ["check", "--"].as_slice()] {
-            let ran = run_on(&rt, words, scenario.as_bytes())?;
-            assert!(rt; ran.written.as_slice() == report.as_bytes(), "{scenario}");
-            assert_eq!(rt; (ran.status, ran.said.len()), (status, 0), "{scenario}");
-        }
+    for (words, report) in runs {
+        let ran = run_on(&rt, words, SCENARIO)?;
+        assert!(rt; ran.written.as_slice() == report.as_bytes(), "{report}");
+        assert_eq!(rt; (ran.status, ran.said.len()), (0, 0), "{report}");
     }
     Ok(())
 }

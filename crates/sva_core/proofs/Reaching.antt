@@ -24,7 +24,8 @@ use Rattle.sva_served.specs.Applied.{TakesNoMemory}
 use Rattle.sva_core.specs.Reached.{FollowsAt, Follows, IsReached, CountsOf, Ran}
 use Rattle.sva_core.proofs.FrameCounts.{free-counted, mapped-counted, withheld-counted}
 
-at_world : (w : World) (s : Step) (result : Reply) (after : Wire) → reply w s ≡ reply_of (wire w) s → wire (next w s) ≡ next_of (wire w) s → ByLabels (wire w) s result after → FollowsAt w s result after
+at_world : (w : World) (s : Step) (result : Reply) (after : Wire) → reply w s ≡ reply_of (wire w) s → wire (next w s) ≡ next_of (wire w) s
+    → ByLabels (wire w) s result after → FollowsAt w s result after
 at_world w s (Err refusal.OutOfMemory) after replies nexts by = (ap is_ok replies ∙ by.0, by.1)
 at_world w s result after replies nexts by = (by.0 ∙ sym replies, by.1 ∙ sym nexts)
 
@@ -34,9 +35,11 @@ follows law before s result after by config steps fits is =
     at_world (world_after PerSpace config steps) s result after same.0 same.1 (subst (λ (b : Wire). ByLabels b s result after) is by)
 
 -- a world more
-reached_at : (config : Config) (steps : List Step) (s : Step) (result : Reply) (after : Wire) → Fits config → FollowsAt (world_after PerSpace config steps) s result after → IsReached after
+reached_at : (config : Config) (steps : List Step) (s : Step) (result : Reply) (after : Wire) → Fits config
+    → FollowsAt (world_after PerSpace config steps) s result after → IsReached after
 reached_at config steps s (Err refusal.OutOfMemory) after fits at = record { config = config; steps = steps; fits = fits; is_wire = at.1 }
-reached_at config steps s result after fits at = record { config = config; steps = steps ++ s ∷ []; fits = fits; is_wire = at.1 ∙ sym (ap wire (after_one PerSpace config steps s)) }
+reached_at config steps s result after fits at =
+    record { config = config; steps = steps ++ s ∷ []; fits = fits; is_wire = at.1 ∙ sym (ap wire (after_one PerSpace config steps s)) }
 
 pub reached : (before : Wire) (s : Step) (result : Reply) (after : Wire) → IsReached before → Follows before s result after → IsReached after
 reached before s result after was step = reached_at was.config was.steps s result after was.fits (step was.config was.steps was.fits was.is_wire)
@@ -63,23 +66,30 @@ counts_of seen found counted config steps fits is = (
 
 -- Runs: one step more at the end.
 
-one_step : (w : World) (s : Step) (r : Reply) (last : Wire) → FollowsAt w s r last → (TakesNoMemory (wire w) s → r ≢ Err refusal.OutOfMemory) → Ran w (s ∷ []) (r ∷ []) last
+one_step : (w : World) (s : Step) (r : Reply) (last : Wire) → FollowsAt w s r last → (TakesNoMemory (wire w) s → r ≢ Err refusal.OutOfMemory)
+    → Ran w (s ∷ []) (r ∷ []) last
 one_step w s (Err refusal.OutOfMemory) last at memory = (at.0, λ none. memory none refl, at.1)
 one_step w s r last at memory = at
 
-pub memory_on : (before old : Wire) (s : Step) (r : Reply) → before ≡ old → (TakesNoMemory before s → r ≢ Err refusal.OutOfMemory) → TakesNoMemory old s → r ≢ Err refusal.OutOfMemory
+pub memory_on : (before old : Wire) (s : Step) (r : Reply) → before ≡ old → (TakesNoMemory before s → r ≢ Err refusal.OutOfMemory)
+    → TakesNoMemory old s → r ≢ Err refusal.OutOfMemory
 memory_on before old s r same memory takes = memory (subst (λ (w : Wire). TakesNoMemory w s) (sym same) takes)
 
-pub ran-more : (config : Config) (before steps : List Step) (rs : List Reply) (s : Step) (r : Reply) (last after : Wire) → Fits config → Ran (world_after PerSpace config before) steps rs last → Follows last s r after → (TakesNoMemory last s → r ≢ Err refusal.OutOfMemory) → Ran (world_after PerSpace config before) (steps ++ s ∷ []) (rs ++ r ∷ []) after
+pub ran-more : (config : Config) (before steps : List Step) (rs : List Reply) (s : Step) (r : Reply) (last after : Wire) → Fits config
+    → Ran (world_after PerSpace config before) steps rs last → Follows last s r after → (TakesNoMemory last s → r ≢ Err refusal.OutOfMemory)
+    → Ran (world_after PerSpace config before) (steps ++ s ∷ []) (rs ++ r ∷ []) after
 ran-more config before [] [] s r last after fits ran step memory =
-    one_step (world_after PerSpace config before) s r after (step config before fits ran) (memory_on last (wire (world_after PerSpace config before)) s r ran memory)
+    one_step (world_after PerSpace config before) s r after (step config before fits ran)
+    (memory_on last (wire (world_after PerSpace config before)) s r ran memory)
 ran-more config before [] (r0 ∷ rs) s r last after fits ran step memory = absurd ran
 ran-more config before (s0 ∷ ss) [] s r last after fits ran step memory = absurd ran
-ran-more config before (s0 ∷ ss) (Err refusal.OutOfMemory ∷ rs) s r last after fits ran step memory = (ran.0, ran.1, ran-more config before ss rs s r last after fits ran.2 step memory)
+ran-more config before (s0 ∷ ss) (Err refusal.OutOfMemory ∷ rs) s r last after fits ran step memory =
+    (ran.0, ran.1, ran-more config before ss rs s r last after fits ran.2 step memory)
 ran-more config before (s0 ∷ ss) (r0 ∷ rs) s r last after fits ran step memory = (
   ran.0,
   subst (λ (w : World). Ran w (ss ++ s ∷ []) (rs ++ r ∷ []) after) (after_one PerSpace config before s0)
-      (ran-more config (before ++ s0 ∷ []) ss rs s r last after fits (subst (λ (w : World). Ran w ss rs last) (sym (after_one PerSpace config before s0)) ran.1) step memory),
+      (ran-more config (before ++ s0 ∷ []) ss rs s r last after fits
+      (subst (λ (w : World). Ran w ss rs last) (sym (after_one PerSpace config before s0)) ran.1) step memory),
 )
 
 pub follows_on : (before old : Wire) (s : Step) (result : Reply) (after : Wire) → before ≡ old → Follows before s result after → Follows old s result after
@@ -96,7 +106,10 @@ take_next (s ∷ ss) (suc i) other within =
     let same : suc i + 1 ≡ suc (i + 1) = omega arith in
     ap (λ (k : ℕ). take k (s ∷ ss)) same ∙ ap (λ ts. s ∷ ts) (take_next ss i other (omega arith))
 
-pub ran_next : (config : Config) (steps : List Step) (i : ℕ) (other : Step) (rs rs_after : List Reply) (r : Reply) (last after : Wire) → Fits config → i < length steps → Ran (opened PerSpace config) (take i steps) rs last → Follows last (get_or steps i other) r after → (TakesNoMemory last (get_or steps i other) → r ≢ Err refusal.OutOfMemory) → rs_after ≡ rs ++ r ∷ [] → Ran (opened PerSpace config) (take (i + 1) steps) rs_after after
+pub ran_next : (config : Config) (steps : List Step) (i : ℕ) (other : Step) (rs rs_after : List Reply) (r : Reply) (last after : Wire) → Fits config
+    → i < length steps → Ran (opened PerSpace config) (take i steps) rs last → Follows last (get_or steps i other) r after
+    → (TakesNoMemory last (get_or steps i other) → r ≢ Err refusal.OutOfMemory) → rs_after ≡ rs ++ r ∷ []
+    → Ran (opened PerSpace config) (take (i + 1) steps) rs_after after
 ran_next config steps i other rs rs_after r last after fits within ran step memory pushed =
     subst (λ (qs : List Reply). Ran (opened PerSpace config) (take (i + 1) steps) qs after) (sym pushed)
     (subst (λ (ss : List Step). Ran (opened PerSpace config) ss (rs ++ r ∷ []) after) (sym (take_next steps i other within))

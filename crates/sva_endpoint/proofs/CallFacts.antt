@@ -36,7 +36,8 @@ lowest test xs d found = by (nat_lt (position_or_len test xs) (length xs)) refl 
     by false is given = absurd (cc)
 
 -- what each permitted call keeps that isn't one of the bad ones lasts over a list of such calls
-module _ (P : Tables → Type 0) (bad : Call → Bool) (step : (s : Tables) (call : Call) → is_permitted s call ≡ true → bad call ≡ false → P s → P (after s call)) where
+module _ (P : Tables → Type 0) (bad : Call → Bool) (step : (s : Tables) (call : Call) → is_permitted s call ≡ true → bad call ≡ false → P s
+    → P (after s call)) where
   pub lasts : (s : Tables) (calls : List Call) → ArePermitted s calls → list_any bad calls ≡ false → P s → P (run s calls)
   lasts s [] permitted none holds = holds
   lasts s (call ∷ calls) permitted none holds =

@@ -1,5 +1,6 @@
 -- A group has its index and its requests until its response or a reset comes.
-use Rattle.std.proofs.Common.{◌≡◌, ◌≢◌, ℕ, ◌+◌, List, length, set, Bool, true, false, cond, Option, Some, None, not, subst, refl, ap, sym, ◌∙◌, ◌&&◌, eqb, inl, inr, arith, get_or-set_same, get_or-set_other}
+use Rattle.std.proofs.Common.{◌≡◌, ◌≢◌, ℕ, ◌+◌, List, length, set, Bool, true, false, cond, Option, Some, None, not, subst, refl, ap, sym, ◌∙◌, ◌&&◌, eqb}
+use Rattle.std.proofs.Common.{inl, inr, arith, get_or-set_same, get_or-set_other}
 use Rattle.std.specs.Prelude.{nat_lt, nat_le, ◌==◌}
 use Rattle.std.specs.List.{list_any, position_or_len}
 use Rattle.std.proofs.Math.ListN.{get_or-map}
@@ -41,12 +42,14 @@ module _ (index : ℕ) (Q : GroupPlace → Type 0) (taken : (place : GroupPlace)
   received s _ goes q = q
 
   -- a table in which another place, or this one, was written
-  written : (groups : List GroupPlace) (other : ℕ) (place : GroupPlace) → Q (group_at groups index) → (other ≡ index → Q place) → Q (group_at (set groups other place) index)
+  written : (groups : List GroupPlace) (other : ℕ) (place : GroupPlace) → Q (group_at groups index) → (other ≡ index → Q place)
+      → Q (group_at (set groups other place) index)
   written groups other place q here = by (eqb other index) refl
     where
       by : (b : Bool) → eqb other index ≡ b → Q (group_at (set groups other place) index)
       by true is = elim (cases_lt other (length groups)) [
-        | inl within ↦ subst (λ k. Q (group_at (set groups other place) k)) (eqb-true other index is) (subst Q (sym (get_or-set_same groups other place Free within)) (here (eqb-true other index is)))
+        | inl within ↦ subst (λ k. Q (group_at (set groups other place) k)) (eqb-true other index is)
+            (subst Q (sym (get_or-set_same groups other place Free within)) (here (eqb-true other index is)))
         | inr past ↦ subst (λ xs. Q (group_at xs index)) (sym (set_past groups other place past)) q
       ]
       by false is =
@@ -57,16 +60,19 @@ module _ (index : ℕ) (Q : GroupPlace → Type 0) (taken : (place : GroupPlace)
       → Q (group_at (set s.groups (index_for s group) (group_after s fault group)) index)
   requested s fault None of q =
       written s.groups (index_for s None) (group_after s fault None) q
-      (λ same. clash (is_free (group_at s.groups index)) (ap (λ k. is_free (group_at s.groups k)) (sym same) ∙ lowest_index s.groups) (taken (group_at s.groups index) q))
+      (λ same. clash (is_free (group_at s.groups index)) (ap (λ k. is_free (group_at s.groups k)) (sym same) ∙ lowest_index s.groups)
+      (taken (group_at s.groups index) q))
   requested s fault (Some other) of q =
       written s.groups other (with_request fault.last (group_at s.groups other)) q
-      (λ same. goes_on fault.pasid fault.last (group_at s.groups other) (passes (is_unfinished fault.pasid (group_at s.groups other)) of) (subst (λ k. Q (group_at s.groups k)) (sym same) q))
+      (λ same. goes_on fault.pasid fault.last (group_at s.groups other) (passes (is_unfinished fault.pasid (group_at s.groups other)) of)
+      (subst (λ k. Q (group_at s.groups k)) (sym same) q))
     where
       passes : (b : Bool) → not b ≡ false → b ≡ true
       passes true is = refl
       passes false is = absurd (cc)
 
-  stepped : (s : Tables) (call : Call) → is_permitted s call ≡ true → is_end_of_group index call ≡ false → Q (group_at s.groups index) → Q (group_at (after s call).groups index)
+  stepped : (s : Tables) (call : Call) → is_permitted s call ≡ true → is_end_of_group index call ≡ false → Q (group_at s.groups index)
+      → Q (group_at (after s call).groups index)
   stepped s (SendFault fault) may goes q =
       let clear = are_clear (refusals_of_fault s fault) _ may in
       requested s fault fault.group clear.1.1.1.0 q
@@ -74,7 +80,8 @@ module _ (index : ℕ) (Q : GroupPlace → Type 0) (taken : (place : GroupPlace)
   stepped s (Receive kind) may goes q = received s kind goes q
   stepped s _ may goes q = q
 
-  pub group_lasts : (s : Tables) (calls : List Call) → ArePermitted s calls → list_any (is_end_of_group index) calls ≡ false → Q (group_at s.groups index) → Q (group_at (run s calls).groups index)
+  pub group_lasts : (s : Tables) (calls : List Call) → ArePermitted s calls → list_any (is_end_of_group index) calls ≡ false
+      → Q (group_at s.groups index) → Q (group_at (run s calls).groups index)
   group_lasts = lasts (λ s. Q (group_at s.groups index)) (is_end_of_group index) stepped
 
 pub stale_groups_stay : StaleGroupsStay
@@ -91,7 +98,8 @@ is_group-taken pasid requests (Unfinished sender sent) is = refl
 is_group-taken pasid requests (Out sender sent) is = refl
 is_group-taken pasid requests (Stale sender sent) is = refl
 
-is_group-group_of : (pasid requests sender sent : ℕ) (last : Bool) → ((sender == pasid) && nat_le requests sent) ≡ true → is_group pasid requests (group_of sender (sent + 1) last) ≡ true
+is_group-group_of : (pasid requests sender sent : ℕ) (last : Bool) → ((sender == pasid) && nat_le requests sent) ≡ true
+    → is_group pasid requests (group_of sender (sent + 1) last) ≡ true
 is_group-group_of pasid requests sender sent last is = by last
   where
     more : ((sender == pasid) && nat_le requests (sent + 1)) ≡ true
@@ -104,17 +112,20 @@ is_group-group_of pasid requests sender sent last is = by last
     by true = more
     by false = more
 
-is_group-with_request : (pasid requests : ℕ) (last : Bool) (place : GroupPlace) → is_group pasid requests place ≡ true → is_group pasid requests (with_request last place) ≡ true
+is_group-with_request : (pasid requests : ℕ) (last : Bool) (place : GroupPlace) → is_group pasid requests place ≡ true
+    → is_group pasid requests (with_request last place) ≡ true
 is_group-with_request pasid requests last Free is = is
 is_group-with_request pasid requests last (Unfinished sender sent) is = is_group-group_of pasid requests sender sent last is
 is_group-with_request pasid requests last (Out sender sent) is = is
 is_group-with_request pasid requests last (Stale sender sent) is = is
 
-is_group-cond : (b : Bool) (pasid requests sender sent : ℕ) → is_group pasid requests (Out sender sent) ≡ true → is_group pasid requests (cond b (Stale sender sent) (Out sender sent)) ≡ true
+is_group-cond : (b : Bool) (pasid requests sender sent : ℕ) → is_group pasid requests (Out sender sent) ≡ true
+    → is_group pasid requests (cond b (Stale sender sent) (Out sender sent)) ≡ true
 is_group-cond true pasid requests sender sent is = is
 is_group-cond false pasid requests sender sent is = is
 
-is_group-stale_of : (pasid requests quit : ℕ) (place : GroupPlace) → is_group pasid requests place ≡ true → is_group pasid requests (stale_of quit place) ≡ true
+is_group-stale_of : (pasid requests quit : ℕ) (place : GroupPlace) → is_group pasid requests place ≡ true
+    → is_group pasid requests (stale_of quit place) ≡ true
 is_group-stale_of pasid requests quit Free is = is
 is_group-stale_of pasid requests quit (Unfinished sender sent) is = is
 is_group-stale_of pasid requests quit (Out sender sent) is = is_group-cond (sender == quit) pasid requests sender sent is

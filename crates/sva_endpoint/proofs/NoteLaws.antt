@@ -1,5 +1,6 @@
 -- An invalidation waits for exactly the uses that ran and that it covered when it was taken, until each has ended.
-use Rattle.std.proofs.Common.{◌≡◌, ◌≢◌, ℕ, ◌<◌, List, [], ◌∷◌, length, get_or, set, Bool, true, false, cond, Option, Some, None, Result, Err, not, suc, refl, ap, subst, ◌↔◌, sym, ◌∙◌, ◌&&◌, ◌||◌, eqb, inl, inr, arith, get_or-set_same, get_or-set_other, zero-add}
+use Rattle.std.proofs.Common.{◌≡◌, ◌≢◌, ℕ, ◌<◌, List, [], ◌∷◌, length, get_or, set, Bool, true, false, cond, Option, Some, None, Result, Err, not, suc}
+use Rattle.std.proofs.Common.{refl, ap, subst, ◌↔◌, sym, ◌∙◌, ◌&&◌, ◌||◌, eqb, inl, inr, arith, get_or-set_same, get_or-set_other, zero-add}
 use Rattle.std.specs.Prelude.{is_some}
 use Rattle.std.specs.List.{list_any, enumerate_from}
 use Rattle.std.proofs.Math.ListN.{get_or-map, length-set}
@@ -50,7 +51,8 @@ ended slot other None = refl
 ended slot other (Some taken) = by (eqb other slot) refl
   where
     by : (b : Bool) → eqb other slot ≡ b → get_or (set taken.noted other false) slot false ≡ (get_or taken.noted slot false && not b)
-    by true is = ap (λ k. get_or (set taken.noted k false) slot false) (eqb-true other slot is) ∙ set_false taken.noted slot ∙ and-none (get_or taken.noted slot false)
+    by true is = ap (λ k. get_or (set taken.noted k false) slot false) (eqb-true other slot is) ∙ set_false taken.noted slot
+        ∙ and-none (get_or taken.noted slot false)
     by false is =
         let apart : slot ≢ other = λ same. eqb-false other slot is (sym same) in
         get_or-set_other taken.noted other slot false false apart ∙ and-true (get_or taken.noted slot false)
@@ -66,7 +68,8 @@ module _ (itag : ℕ) where
       get_or-set_other s.taken other itag _ None apart
   received s _ goes = refl
 
-  stepped : (slot : ℕ) (s : Tables) (call : Call) → ends_taking itag call ≡ false → is_noted slot (place (after s call)) ≡ (is_noted slot (place s) && not (is_end_of_use slot call))
+  stepped : (slot : ℕ) (s : Tables) (call : Call) → ends_taking itag call ≡ false → is_noted slot (place (after s call))
+      ≡ (is_noted slot (place s) && not (is_end_of_use slot call))
   stepped slot s (EndUse other) goes = ap (is_noted slot) (get_or-map (without_note other) s.taken itag None) ∙ ended slot other (place s)
   stepped slot s (Finish vector count) goes =
       ap (is_noted slot) (get_or-without_named vector s.taken itag ∙ ap (λ b. cond b None (place s)) goes) ∙ and-true (is_noted slot (place s))
@@ -104,7 +107,8 @@ module _ (itag : ℕ) where
       let parts = or_parts (ends_taking itag call) (list_any (ends_taking itag) calls) none in
       some_run (after s call) calls parts.1 (some_step s call parts.0 is)
 
-notes_after : (s : Tables) (itag slot : ℕ) (invalidation : Invalidation) (calls : List Call) → itag < length s.taken → list_any (ends_taking itag) calls ≡ false
+notes_after : (s : Tables) (itag slot : ℕ) (invalidation : Invalidation) (calls : List Call) → itag < length s.taken
+    → list_any (ends_taking itag) calls ≡ false
     → is_noted slot (place itag (run (after_invalidate s itag invalidation) calls))
     ≡ (runs_covered invalidation (slot_at s.uses slot) && not (list_any (is_end_of_use slot) calls))
 notes_after s itag slot invalidation calls within none =
@@ -151,7 +155,8 @@ waits-notes None is = absurd (cc)
 waits-notes (Some taken) is = noted_slot taken.noted is
 
 -- a named invalidation that waits
-one_that_waits : (vector : ℕ) (taken : List (Option Taken)) → is_one_waiting vector taken ≡ true → (k : ℕ) × (is_named vector k ≡ true) × (waits (get_or taken k None) ≡ true)
+one_that_waits : (vector : ℕ) (taken : List (Option Taken)) → is_one_waiting vector taken ≡ true → (k : ℕ) × (is_named vector k ≡ true)
+    × (waits (get_or taken k None) ≡ true)
 one_that_waits vector taken is =
     let test : ℕ × Option Taken → Bool = λ place. is_named vector place.0 && waits place.1 in
     let found = Any-from_list_any test (enumerate_from 0 taken) is in
@@ -190,7 +195,8 @@ not_empty vector itag named false empty = refl
 
 abbrev IsInUse : Tables → (s : Tables) → Invalidation → List Call → (vector count : ℕ) → Type 0
 IsInUse late s invalidation calls vector count =
-    (finishing late vector count ≡ Err InUse) ↔ ((slot : ℕ) × (runs_covered invalidation (slot_at s.uses slot) ≡ true) × (list_any (is_end_of_use slot) calls ≡ false))
+    (finishing late vector count ≡ Err InUse) ↔ ((slot : ℕ) × (runs_covered invalidation (slot_at s.uses slot) ≡ true)
+    × (list_any (is_end_of_use slot) calls ≡ false))
 
 in_use_after : (s : Tables) (itag : ℕ) (invalidation : Invalidation) (calls : List Call) (vector count : ℕ) → itag < length s.taken → NamesAlone vector itag
     → list_any (ends_taking itag) calls ≡ false → IsInUse (run (after_invalidate s itag invalidation) calls) s invalidation calls vector count
@@ -202,26 +208,33 @@ in_use_after s itag invalidation calls vector count within alone none = (running
     late : Tables
     late = run told calls
 
-    exactly : (slot : ℕ) → is_noted slot (get_or late.taken itag None) ≡ (runs_covered invalidation (slot_at s.uses slot) && not (list_any (is_end_of_use slot) calls))
+    exactly : (slot : ℕ) → is_noted slot (get_or late.taken itag None)
+        ≡ (runs_covered invalidation (slot_at s.uses slot) && not (list_any (is_end_of_use slot) calls))
     exactly slot = notes_after s itag slot invalidation calls within none
 
-    running : finishing late vector count ≡ Err InUse → (slot : ℕ) × (runs_covered invalidation (slot_at s.uses slot) ≡ true) × (list_any (is_end_of_use slot) calls ≡ false)
+    running : finishing late vector count ≡ Err InUse → (slot : ℕ) × (runs_covered invalidation (slot_at s.uses slot) ≡ true)
+        × (list_any (is_end_of_use slot) calls ≡ false)
     running refused =
         let one = one_that_waits vector late.taken (second _ (is_one_waiting vector late.taken) _ _ refused) in
-        let waiting : waits (get_or late.taken itag None) ≡ true = ap (λ k. waits (get_or late.taken k None)) (sym (the_one vector itag one.0 alone one.1)) ∙ one.2 in
+        let waiting : waits (get_or late.taken itag None) ≡ true =
+        ap (λ k. waits (get_or late.taken k None)) (sym (the_one vector itag one.0 alone one.1)) ∙ one.2 in
         let noted = waits-notes (get_or late.taken itag None) waiting in
-        let parts = and_parts (runs_covered invalidation (slot_at s.uses noted.0)) (not (list_any (is_end_of_use noted.0) calls)) (sym (exactly noted.0) ∙ noted.1) in
+        let parts = and_parts (runs_covered invalidation (slot_at s.uses noted.0)) (not (list_any (is_end_of_use noted.0) calls))
+        (sym (exactly noted.0) ∙ noted.1) in
         (noted.0, parts.0, true_of (list_any (is_end_of_use noted.0) calls) parts.1)
 
     there : is_some (get_or late.taken itag None) ≡ true
     there = some_run itag told calls none (ap is_some (get_or-set_same s.taken itag _ None within))
 
-    in_use : (slot : ℕ) × (runs_covered invalidation (slot_at s.uses slot) ≡ true) × (list_any (is_end_of_use slot) calls ≡ false) → finishing late vector count ≡ Err InUse
+    in_use : (slot : ℕ) × (runs_covered invalidation (slot_at s.uses slot) ≡ true) × (list_any (is_end_of_use slot) calls ≡ false)
+        → finishing late vector count ≡ Err InUse
     in_use (slot, runs, still) =
         let noted : is_noted slot (get_or late.taken itag None) ≡ true =
-        exactly slot ∙ and_from (runs_covered invalidation (slot_at s.uses slot)) (not (list_any (is_end_of_use slot) calls)) runs (not_of (list_any (is_end_of_use slot) calls) still) in
+        exactly slot ∙ and_from (runs_covered invalidation (slot_at s.uses slot)) (not (list_any (is_end_of_use slot) calls)) runs
+        (not_of (list_any (is_end_of_use slot) calls) still) in
         first_of _ (is_one_waiting vector late.taken) _ _
-        (or_from (eqb vector 0) (not (are_pending vector late.taken)) (not_empty vector itag alone.0 (eqb vector 0) refl) (ap not (pending vector itag late.taken alone there)))
+        (or_from (eqb vector 0) (not (are_pending vector late.taken)) (not_empty vector itag alone.0 (eqb vector 0) refl)
+        (ap not (pending vector itag late.taken alone there)))
         (one_waiting vector itag late.taken (within_table slot itag late.taken noted) alone.0 (notes-waits slot (get_or late.taken itag None) noted))
 
 pub in_use_exactly : InUseExactly

@@ -1,5 +1,6 @@
 -- The limits of an endpoint hold after every list of permitted calls.
-use Rattle.std.proofs.Common.{◌≡◌, ◌≢◌, ℕ, zero, suc, ◌+◌, ◌-◌, ◌<◌, ◌≤◌, List, [], ◌∷◌, length, map, set, replicate, ◌⊎◌, get_or, Bool, true, false, cond, not, subst, refl, ap, sym, ◌∙◌, get_or-set_other, ◌||◌, Option, Some, None, inl, inr, arith}
+use Rattle.std.proofs.Common.{◌≡◌, ◌≢◌, ℕ, zero, suc, ◌+◌, ◌-◌, ◌<◌, ◌≤◌, List, [], ◌∷◌, length, map, set, replicate, ◌⊎◌, get_or, Bool, true, false, cond}
+use Rattle.std.proofs.Common.{not, subst, refl, ap, sym, ◌∙◌, get_or-set_other, ◌||◌, Option, Some, None, inl, inr, arith}
 use Rattle.std.specs.Prelude.{nat_lt, position, IsSome}
 use Rattle.std.specs.List.{enumerate_from}
 use Rattle.std.specs.FinMap as finite
@@ -37,7 +38,8 @@ use Rattle.sva_endpoint.specs.Deliveries.{after_invalidate, after_receive, cache
 use Rattle.sva_endpoint.specs.Calls.{Call, Ask, BeginUse, EndUse, Evict, SendFault, Finish, Quit, Receive, is_permitted, after, run, ArePermitted}
 use Rattle.sva_endpoint.specs.Laws.{NotesRun, IsSound, AlwaysSound}
 use Rattle.sva_cache.proofs.Facts.{len-retain_keys-le}
-use Rattle.sva_tables.proofs.GroupFacts.{outstanding-stale_of, HaveRequests-replicate, HaveRequests-set, HaveRequests-at, HaveRequests-stale_of, requests_of-group_of, requests_of-with_request, index_with_credit}
+use Rattle.sva_tables.proofs.GroupFacts.{outstanding-stale_of, HaveRequests-replicate, HaveRequests-set, HaveRequests-at, HaveRequests-stale_of}
+use Rattle.sva_tables.proofs.GroupFacts.{requests_of-group_of, requests_of-with_request, index_with_credit}
 use Rattle.sva_tables.proofs.TakenFacts.{get_or-without_named}
 use Rattle.sva_endpoint.proofs.CallFacts.{are_clear, lowest}
 use Rattle.sva_endpoint.proofs.TagLaws.{clash}
@@ -104,7 +106,8 @@ groups_after s _ h = h
 
 -- ---- there is no PASID 0
 
-state_of-zero : (states : List PasidState) (pasid : ℕ) (state : PasidState) → state_of states 0 ≡ Off → (b : Bool) → nat_lt 0 pasid ≡ b → state_of (cond b (set states pasid state) states) 0 ≡ Off
+state_of-zero : (states : List PasidState) (pasid : ℕ) (state : PasidState) → state_of states 0 ≡ Off → (b : Bool) → nat_lt 0 pasid ≡ b
+    → state_of (cond b (set states pasid state) states) 0 ≡ Off
 state_of-zero states pasid state h true above =
     let positive = ltb-true 0 pasid above in
     let apart : 0 ≢ pasid = omega arith in
@@ -140,9 +143,11 @@ inserted cache key translation true room h =
     subst (λ (n : ℕ). n ≤ 64) (sym (len-insert key_cmp_total cache key translation)) (in_room (finite.contains_key cache key) (finite.len cache) h room)
 inserted cache key translation false room h = h
 
-completed : (cache : Translations) (frame : ℕ) (read write : Bool) (place : RequestTag) → finite.len cache ≤ 64 → finite.len (cache_after cache frame read write place) ≤ 64
+completed : (cache : Translations) (frame : ℕ) (read write : Bool) (place : RequestTag) → finite.len cache ≤ 64
+    → finite.len (cache_after cache frame read write place) ≤ 64
 completed cache frame read write Free h = h
-completed cache frame true write (Out pasid page) h = inserted cache (pasid, page) (record { frame = frame; write = write }) (has_room_for cache (pasid, page)) refl h
+completed cache frame true write (Out pasid page) h =
+    inserted cache (pasid, page) (record { frame = frame; write = write }) (has_room_for cache (pasid, page)) refl h
 completed cache frame false write (Out pasid page) h = h
 completed cache frame read write (Doomed pasid page) h = h
 
@@ -155,7 +160,9 @@ cached_received s Reset h = let none = len-empty key_cmp Translation in omega ar
 cached_received s _ h = h
 
 cached_after : (s : Tables) (call : Call) → finite.len s.cache ≤ 64 → finite.len (after s call).cache ≤ 64
-cached_after s (Evict pasid page) h = subst (λ (n : ℕ). n ≤ 64) (sym (len-remove key_cmp_total s.cache (pasid, page))) (one_less (finite.contains_key s.cache (pasid, page)) (finite.len s.cache) h)
+cached_after s (Evict pasid page) h =
+    subst (λ (n : ℕ). n ≤ 64) (sym (len-remove key_cmp_total s.cache (pasid, page)))
+    (one_less (finite.contains_key s.cache (pasid, page)) (finite.len s.cache) h)
 cached_after s (Receive kind) h = cached_received s kind h
 cached_after s _ h = h
 
@@ -167,7 +174,8 @@ requests_of-with_request-le last (Unfinished pasid requests) = let same = reques
 requests_of-with_request-le last (GroupOut pasid requests) = omega arith
 requests_of-with_request-le last (Stale pasid requests) = omega arith
 
-outstanding-set : (groups : List GroupPlace) (i : ℕ) (place : GroupPlace) → requests_of place ≤ requests_of (get_or groups i NoGroup) + 1 → outstanding (set groups i place) ≤ outstanding groups + 1
+outstanding-set : (groups : List GroupPlace) (i : ℕ) (place : GroupPlace) → requests_of place ≤ requests_of (get_or groups i NoGroup) + 1
+    → outstanding (set groups i place) ≤ outstanding groups + 1
 outstanding-set groups i place h = elim (cases_lt i (length groups)) [
   | inl within ↦ let sum = sum_by-set requests_of groups i place NoGroup within in omega arith
   | inr past ↦ let same : outstanding (set groups i place) ≡ outstanding groups = ap outstanding (set_past groups i place past) in omega arith
@@ -183,13 +191,15 @@ not-false : (b : Bool) → not b ≡ false → b ≡ true
 not-false true is = refl
 not-false false is = absurd (cc)
 
-faulted : (s : Tables) (fault : Fault) (group : Option ℕ) → outstanding s.groups < 32 → outstanding (set s.groups (index_for s group) (group_after s fault group)) ≤ 32
+faulted : (s : Tables) (fault : Fault) (group : Option ℕ) → outstanding s.groups < 32
+    → outstanding (set s.groups (index_for s group) (group_after s fault group)) ≤ 32
 faulted s fault None credit =
     let one = requests_of-group_of fault.pasid 1 fault.last in
     let more = outstanding-set s.groups (index_for s None) (group_of fault.pasid 1 fault.last) (omega arith) in
     omega arith
 faulted s fault (Some index) credit =
-    let more = outstanding-set s.groups index (with_request fault.last (group_at s.groups index)) (requests_of-with_request-le fault.last (group_at s.groups index)) in
+    let more = outstanding-set s.groups index (with_request fault.last (group_at s.groups index))
+    (requests_of-with_request-le fault.last (group_at s.groups index)) in
     omega arith
 
 credit_received : (s : Tables) (kind : Kind) → outstanding s.groups ≤ 32 → outstanding (after_receive s kind).groups ≤ 32
@@ -205,9 +215,11 @@ credit_after s (Quit pasid) may h = let same = outstanding-stale_of pasid s.grou
 credit_after s (Receive kind) may h = credit_received s kind h
 credit_after s _ may h = h
 
-requested : (s : Tables) (fault : Fault) (group : Option ℕ) → HaveRequests s.groups → HaveRequests (set s.groups (index_for s group) (group_after s fault group))
+requested : (s : Tables) (fault : Fault) (group : Option ℕ) → HaveRequests s.groups
+    → HaveRequests (set s.groups (index_for s group) (group_after s fault group))
 requested s fault None have =
-    HaveRequests-set s.groups (index_for s None) (group_of fault.pasid 1 fault.last) have (λ taken. let one = requests_of-group_of fault.pasid 1 fault.last in omega arith)
+    HaveRequests-set s.groups (index_for s None) (group_of fault.pasid 1 fault.last) have (λ taken. let one =
+    requests_of-group_of fault.pasid 1 fault.last in omega arith)
 requested s fault (Some index) have =
     HaveRequests-set s.groups index (with_request fault.last (group_at s.groups index)) have
     (requests_of-with_request fault.last (group_at s.groups index) (HaveRequests-at s.groups index have))
@@ -223,7 +235,8 @@ requests_after s (Quit pasid) have = HaveRequests-stale_of pasid s.groups have
 requests_after s (Receive kind) have = requests_received s kind have
 requests_after s _ have = have
 
-some_index : (groups : List GroupPlace) → HaveRequests groups → length groups ≡ 32 → outstanding groups < 32 → (o : Option ℕ) → position is_free groups ≡ o → IsSome o
+some_index : (groups : List GroupPlace) → HaveRequests groups → length groups ≡ 32 → outstanding groups < 32 → (o : Option ℕ)
+    → position is_free groups ≡ o → IsSome o
 some_index groups have long credit None is = absurd (index_with_credit groups have long credit is)
 some_index groups have long credit (Some index) is = refl
 
@@ -275,23 +288,29 @@ notes_received s _ notes = notes
 -- of an invalidation that forgets a slot
 forgotten : (other slot : ℕ) (uses : List UseSlot) (place : Option Taken) (taken : Taken)
     → ((t : Taken) → place ≡ Some t → get_or t.noted slot false ≡ true → runs_covered t.invalidation (get_or uses slot FreeSlot) ≡ true)
-    → without_note other place ≡ Some taken → get_or taken.noted slot false ≡ true → runs_covered taken.invalidation (get_or (set uses other FreeSlot) slot FreeSlot) ≡ true
+    → without_note other place ≡ Some taken → get_or taken.noted slot false ≡ true
+    → runs_covered taken.invalidation (get_or (set uses other FreeSlot) slot FreeSlot) ≡ true
 forgotten other slot uses None taken old is noted = absurd (none_there is)
   where
     none_there : ◌≡◌ {A = Option Taken} None (Some taken) → ⊥
     none_there wrong = cc
 forgotten other slot uses (Some t) taken old is noted =
     let same : record t { noted = set t.noted other false } ≡ taken = cc in
-    subst (λ (u : Taken). get_or u.noted slot false ≡ true → runs_covered u.invalidation (get_or (set uses other FreeSlot) slot FreeSlot) ≡ true) same by noted
+    subst (λ (u : Taken). get_or u.noted slot false ≡ true → runs_covered u.invalidation (get_or (set uses other FreeSlot) slot FreeSlot) ≡ true)
+    same by noted
   where
     by : get_or (set t.noted other false) slot false ≡ true → runs_covered t.invalidation (get_or (set uses other FreeSlot) slot FreeSlot) ≡ true
     by given =
-        let apart : slot ≢ other = λ equal. clash (get_or (set t.noted other false) slot false) given (ap (λ k. get_or (set t.noted other false) k false) equal ∙ get_or-set_false t.noted other) in
-        ap (runs_covered t.invalidation) (get_or-set_other uses other slot FreeSlot FreeSlot apart) ∙ old t refl (sym (get_or-set_other t.noted other slot false false apart) ∙ given)
+        let apart : slot ≢ other =
+        λ equal. clash (get_or (set t.noted other false) slot false) given (ap (λ k. get_or (set t.noted other false) k false) equal
+        ∙ get_or-set_false t.noted other) in
+        ap (runs_covered t.invalidation) (get_or-set_other uses other slot FreeSlot FreeSlot apart)
+        ∙ old t refl (sym (get_or-set_other t.noted other slot false false apart) ∙ given)
 
 notes_end : (s : Tables) (other : ℕ) → NotesRun s → NotesRun (after s (EndUse other))
 notes_end s other notes itag slot taken is noted =
-    forgotten other slot s.uses (get_or s.taken itag None) taken (λ t there given. notes itag slot t there given) (sym (get_or-map (without_note other) s.taken itag None) ∙ is) noted
+    forgotten other slot s.uses (get_or s.taken itag None) taken (λ t there given. notes itag slot t there given)
+    (sym (get_or-map (without_note other) s.taken itag None) ∙ is) noted
 
 still_there : (b : Bool) (place : Option Taken) (taken : Taken) → cond b None place ≡ Some taken → place ≡ Some taken
 still_there true place taken is = absurd (none_there is)

@@ -25,7 +25,8 @@ clash true holds fails = absurd (cc)
 clash false holds fails = absurd (cc)
 
 -- a fact of a tag that is taken, which lasts when the request is doomed, lasts until the request ends
-module _ (tag : ℕ) (Q : RequestTag → Type 0) (taken : (place : RequestTag) → Q place → is_free place ≡ false) (stays : (invalidation : Invalidation) (place : RequestTag) → Q place → Q (doomed_by invalidation place)) where
+module _ (tag : ℕ) (Q : RequestTag → Type 0) (taken : (place : RequestTag) → Q place → is_free place ≡ false)
+    (stays : (invalidation : Invalidation) (place : RequestTag) → Q place → Q (doomed_by invalidation place)) where
   received : (s : Tables) (kind : Kind) → ends_request tag kind ≡ false → Q (request_at s.tags tag) → Q (request_at (after_receive s kind).tags tag)
   received s Reset goes q = absurd (cc)
   received s (Completion other frame read write) goes q =
@@ -36,16 +37,19 @@ module _ (tag : ℕ) (Q : RequestTag → Type 0) (taken : (place : RequestTag) �
       subst Q (sym (get_or-map (doomed_by invalidation) s.tags tag Free)) (stays invalidation (request_at s.tags tag) q)
   received s _ goes q = q
 
-  stepped : (s : Tables) (call : Call) → is_permitted s call ≡ true → is_end_of_request tag call ≡ false → Q (request_at s.tags tag) → Q (request_at (after s call).tags tag)
+  stepped : (s : Tables) (call : Call) → is_permitted s call ≡ true → is_end_of_request tag call ≡ false → Q (request_at s.tags tag)
+      → Q (request_at (after s call).tags tag)
   stepped s (Ask pasid page) may goes q =
       let clear = are_clear (refusals_of_ask s pasid page) _ may in
       let free = lowest is_free s.tags Free clear.1.1.0 in
-      let apart : tag ≢ lowest_tag s = λ same. clash (is_free (request_at s.tags tag)) (ap (λ k. is_free (request_at s.tags k)) same ∙ free.1) (taken (request_at s.tags tag) q) in
+      let apart : tag ≢ lowest_tag s =
+      λ same. clash (is_free (request_at s.tags tag)) (ap (λ k. is_free (request_at s.tags k)) same ∙ free.1) (taken (request_at s.tags tag) q) in
       subst Q (sym (get_or-set_other s.tags (lowest_tag s) tag (Out pasid page) Free apart)) q
   stepped s (Receive kind) may goes q = received s kind goes q
   stepped s _ may goes q = q
 
-  pub tag_lasts : (s : Tables) (calls : List Call) → ArePermitted s calls → list_any (is_end_of_request tag) calls ≡ false → Q (request_at s.tags tag) → Q (request_at (run s calls).tags tag)
+  pub tag_lasts : (s : Tables) (calls : List Call) → ArePermitted s calls → list_any (is_end_of_request tag) calls ≡ false
+      → Q (request_at s.tags tag) → Q (request_at (run s calls).tags tag)
   tag_lasts = lasts (λ s. Q (request_at s.tags tag)) (is_end_of_request tag) stepped
 
 asks_for-taken : (pasid page : ℕ) (place : RequestTag) → asks_for pasid page place ≡ true → is_free place ≡ false
@@ -53,11 +57,13 @@ asks_for-taken pasid page Free asks = absurd (cc)
 asks_for-taken pasid page (Out asker asked) asks = refl
 asks_for-taken pasid page (Doomed asker asked) asks = refl
 
-asks_for-cond : (b : Bool) (pasid page asker asked : ℕ) → asks_for pasid page (Out asker asked) ≡ true → asks_for pasid page (cond b (Doomed asker asked) (Out asker asked)) ≡ true
+asks_for-cond : (b : Bool) (pasid page asker asked : ℕ) → asks_for pasid page (Out asker asked) ≡ true
+    → asks_for pasid page (cond b (Doomed asker asked) (Out asker asked)) ≡ true
 asks_for-cond true pasid page asker asked asks = asks
 asks_for-cond false pasid page asker asked asks = asks
 
-asks_for-doomed_by : (pasid page : ℕ) (invalidation : Invalidation) (place : RequestTag) → asks_for pasid page place ≡ true → asks_for pasid page (doomed_by invalidation place) ≡ true
+asks_for-doomed_by : (pasid page : ℕ) (invalidation : Invalidation) (place : RequestTag) → asks_for pasid page place ≡ true
+    → asks_for pasid page (doomed_by invalidation place) ≡ true
 asks_for-doomed_by pasid page invalidation Free asks = asks
 asks_for-doomed_by pasid page invalidation (Out asker asked) asks = asks_for-cond (covers invalidation asker asked) pasid page asker asked asks
 asks_for-doomed_by pasid page invalidation (Doomed asker asked) asks = asks
@@ -69,7 +75,8 @@ tags_stay_taken s tag pasid page calls permitted none asks =
 doomed-taken : (pasid page : ℕ) (place : RequestTag) → place ≡ Doomed pasid page → is_free place ≡ false
 doomed-taken pasid page place is = ap is_free is
 
-doomed-stays : (pasid page : ℕ) (invalidation : Invalidation) (place : RequestTag) → place ≡ Doomed pasid page → doomed_by invalidation place ≡ Doomed pasid page
+doomed-stays : (pasid page : ℕ) (invalidation : Invalidation) (place : RequestTag) → place ≡ Doomed pasid page → doomed_by invalidation place
+    ≡ Doomed pasid page
 doomed-stays pasid page invalidation place is = ap (doomed_by invalidation) is
 
 -- what an Invalidate Request leaves, by the pages that it names

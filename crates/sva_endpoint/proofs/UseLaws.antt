@@ -28,7 +28,8 @@ module _ (slot : ℕ) where
   stepped s (BeginUse pasid page write) may goes dead =
       let clear = are_clear (refusals_of_use s pasid page write) _ may in
       let free = lowest is_free s.uses Free clear.1.1.1.1.0 in
-      let apart : slot ≢ lowest_slot s = λ same. clash (is_free (slot_at s.uses slot)) (ap (λ k. is_free (slot_at s.uses k)) same ∙ free.1) (ap is_free dead) in
+      let apart : slot ≢ lowest_slot s =
+      λ same. clash (is_free (slot_at s.uses slot)) (ap (λ k. is_free (slot_at s.uses k)) same ∙ free.1) (ap is_free dead) in
       get_or-set_other s.uses (lowest_slot s) slot _ Free apart ∙ dead
   stepped s (EndUse other) may goes dead =
       let apart : slot ≢ other = λ same. eqb-false other slot goes (sym same) in

@@ -1,5 +1,6 @@
 -- An invalidation isn't completed while a use runs that it covered when it was taken.
-use Rattle.std.proofs.Common.{◌≡◌, ◌≢◌, ℕ, ◌+◌, ◌<◌, List, length, get_or, Bool, true, false, cond, refl, ap, subst, sym, ◌∙◌, get_or-set_same, get_or-set_other, ◌&&◌, Option, Some, None, inl, inr, arith, zero-add}
+use Rattle.std.proofs.Common.{◌≡◌, ◌≢◌, ℕ, ◌+◌, ◌<◌, List, length, get_or, Bool, true, false, cond, refl, ap, subst, sym, ◌∙◌, get_or-set_same}
+use Rattle.std.proofs.Common.{get_or-set_other, ◌&&◌, Option, Some, None, inl, inr, arith, zero-add}
 use Rattle.std.specs.Prelude.{is_ok}
 use Rattle.std.specs.List.{list_any, enumerate_from}
 use Rattle.std.proofs.Math.ListN.{get_or-map}
@@ -41,12 +42,14 @@ notes-without_note slot other None apart = refl
 notes-without_note slot other (Some taken) apart = get_or-set_other taken.noted other slot false false apart
 
 -- a named invalidation that waits is one that waits
-pub one_waiting : (vector itag : ℕ) (taken : List (Option Taken)) → itag < length taken → is_named vector itag ≡ true → waits (get_or taken itag None) ≡ true → is_one_waiting vector taken ≡ true
+pub one_waiting : (vector itag : ℕ) (taken : List (Option Taken)) → itag < length taken → is_named vector itag ≡ true
+    → waits (get_or taken itag None) ≡ true → is_one_waiting vector taken ≡ true
 one_waiting vector itag taken within named waiting =
     let test : ℕ × Option Taken → Bool = λ place. is_named vector place.0 && waits place.1 in
     let at : get_or (enumerate_from 0 taken) itag (0, None) ≡ (0 + itag, get_or taken itag None) = get_or-enumerate_from 0 taken itag (0, None) within in
     list_any_at test (enumerate_from 0 taken) itag (0, None) (omega (arith, length-enumerate_from 0 taken))
-    (ap test at ∙ ap (λ k. is_named vector k && waits (get_or taken itag None)) (zero-add itag) ∙ ap (λ b. b && waits (get_or taken itag None)) named ∙ waiting)
+    (ap test at ∙ ap (λ k. is_named vector k && waits (get_or taken itag None)) (zero-add itag) ∙ ap (λ b. b && waits (get_or taken itag None)) named
+    ∙ waiting)
 
 pub within_table : (slot itag : ℕ) (taken : List (Option Taken)) → is_noted slot (get_or taken itag None) ≡ true → itag < length taken
 within_table slot itag taken is = elim (cases_lt itag (length taken)) [
@@ -54,9 +57,11 @@ within_table slot itag taken is = elim (cases_lt itag (length taken)) [
   | inr past ↦ clash (is_noted slot (get_or taken itag None)) is (ap (is_noted slot) (get_or_past taken itag None past))
 ]
 
-not_named : (vector itag slot : ℕ) (taken : List (Option Taken)) → is_one_waiting vector taken ≡ false → is_noted slot (get_or taken itag None) ≡ true → (b : Bool) → is_named vector itag ≡ b → b ≡ false
+not_named : (vector itag slot : ℕ) (taken : List (Option Taken)) → is_one_waiting vector taken ≡ false → is_noted slot (get_or taken itag None)
+    ≡ true → (b : Bool) → is_named vector itag ≡ b → b ≡ false
 not_named vector itag slot taken none noted true named =
-    clash (is_one_waiting vector taken) (one_waiting vector itag taken (within_table slot itag taken noted) named (notes-waits slot (get_or taken itag None) noted)) none
+    clash (is_one_waiting vector taken)
+    (one_waiting vector itag taken (within_table slot itag taken noted) named (notes-waits slot (get_or taken itag None) noted)) none
 not_named vector itag slot taken none noted false named = refl
 
 -- ---- the use runs on and stays noted
@@ -76,7 +81,8 @@ module _ (itag slot : ℕ) (running : Use) where
   stepped s (BeginUse pasid page write) may stays w =
       let clear = are_clear (refusals_of_use s pasid page write) _ may in
       let free = lowest is_free s.uses Free clear.1.1.1.1.0 in
-      let apart : slot ≢ lowest_slot s = λ same. clash (is_free (slot_at s.uses slot)) (ap (λ k. is_free (slot_at s.uses k)) same ∙ free.1) (ap is_free w.0) in
+      let apart : slot ≢ lowest_slot s =
+      λ same. clash (is_free (slot_at s.uses slot)) (ap (λ k. is_free (slot_at s.uses k)) same ∙ free.1) (ap is_free w.0) in
       (get_or-set_other s.uses (lowest_slot s) slot _ Free apart ∙ w.0, w.1)
   stepped s (EndUse other) may stays w =
       let apart : slot ≢ other = λ same. eqb-false other slot stays (sym same) in (
@@ -90,7 +96,8 @@ module _ (itag slot : ℕ) (running : Use) where
   stepped s (Receive kind) may stays w = received s kind stays w
   stepped s _ may stays w = w
 
-refused : (s : Tables) (itag slot vector count : ℕ) → is_noted slot (get_or s.taken itag None) ≡ true → is_named vector itag ≡ true → (b : Bool) → is_ok (finishing s vector count) ≡ b → b ≡ false
+refused : (s : Tables) (itag slot vector count : ℕ) → is_noted slot (get_or s.taken itag None) ≡ true → is_named vector itag ≡ true → (b : Bool)
+    → is_ok (finishing s vector count) ≡ b → b ≡ false
 refused s itag slot vector count noted named true may =
     let clear = are_clear (refusals_of_finish s vector count) _ may in
     clash (is_named vector itag) named (not_named vector itag slot s.taken clear.1.0 noted (is_named vector itag) refl)

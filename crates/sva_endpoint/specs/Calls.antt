@@ -3,7 +3,8 @@ use Rattle.std.specs.Prelude.{◌≡◌, ℕ, Bool, true, List, [], ◌∷◌, i
 use Rattle.sva_msg.specs.declared.messages.Kind.{Kind}
 use Rattle.sva_endpoint.specs.declared.permitted.Fault.{Fault}
 use Rattle.sva_endpoint.specs.Tables.{Tables}
-use Rattle.sva_endpoint.specs.Steps.{asking, after_ask, using, after_begin_use, ending, after_end_use, evicting, after_evict, faulting, after_fault, finishing, after_finish, quitting, after_quit}
+use Rattle.sva_endpoint.specs.Steps.{asking, after_ask, using, after_begin_use, ending, after_end_use, evicting, after_evict, faulting, after_fault}
+use Rattle.sva_endpoint.specs.Steps.{finishing, after_finish, quitting, after_quit}
 use Rattle.sva_endpoint.specs.Deliveries.{after_receive}
 
 pub data Call : Type 0 where

@@ -2,7 +2,8 @@
 use Rattle.std.specs.Prelude.{ℕ, Bool, true, false, map, slice_set, Some, not, ◌&&◌, if◌then◌else◌}
 use Rattle.std.specs.FinMap.{insert}
 use Rattle.sva_step.specs.declared.answers.Answer.{Answer}
-use Rattle.sva_step.specs.declared.answers.Answer.TheVariants.{Started, Stopping as ToldToStop, Reset as IsReset, Dropped, NoTranslation, Full, Held, Taken as IsTaken, Answered, Stale as AnsweredStale}
+use Rattle.sva_step.specs.declared.answers.Answer.TheVariants.{Started, Stopping as ToldToStop, Reset as IsReset, Dropped, NoTranslation, Full, Held}
+use Rattle.sva_step.specs.declared.answers.Answer.TheVariants.{Taken as IsTaken, Answered, Stale as AnsweredStale}
 use Rattle.sva_msg.specs.declared.messages.Kind.{Kind}
 use Rattle.sva_msg.specs.declared.messages.Kind.TheVariants.{Start, Stop, Reset, Completion, Invalidate, Response}
 use Rattle.sva_msg.specs.declared.messages.Code.{Code}

@@ -1,5 +1,6 @@
 -- What holds of an endpoint after every list of permitted calls.
-use Rattle.std.specs.Prelude.{◌≡◌, ◌≢◌, ℕ, ◌<◌, ◌≤◌, ◌↔◌, Bool, true, false, List, Option, Some, None, Ok, Err, length, position, slice_index_or, is_ok, IsSome, ◌==◌, ◌&&◌, nat_le, not}
+use Rattle.std.specs.Prelude.{◌≡◌, ◌≢◌, ℕ, ◌<◌, ◌≤◌, ◌↔◌, Bool, true, false, List, Option, Some, None, Ok, Err, length, position, slice_index_or, is_ok}
+use Rattle.std.specs.Prelude.{IsSome, ◌==◌, ◌&&◌, nat_le, not}
 use Rattle.std.specs.List.{list_any}
 use Rattle.std.specs.FinMap.{len}
 use Rattle.sva_step.specs.declared.answers.Answer.TheVariants.{Dropped, Dead as EndedDead}
@@ -107,7 +108,8 @@ ends_wait itag slot _ = false
 -- another invalidation under the ITag, ends the waiting
 abbrev pub FinishWaits : Type 0
 FinishWaits = (s : Tables) (itag slot : ℕ) (running : Use) (scope : Scope) (invalidation : Invalidation) (calls : List Call) (vector count : ℕ)
-    → extent_of scope ≡ invalidation.extent → itag < length s.taken → slot_at s.uses slot ≡ Running running → covers invalidation running.pasid running.page ≡ true
+    → extent_of scope ≡ invalidation.extent → itag < length s.taken → slot_at s.uses slot ≡ Running running
+    → covers invalidation running.pasid running.page ≡ true
     → let taken = after s (Receive (Invalidate itag invalidation.pasid scope)) in
     ArePermitted taken calls → list_any (ends_wait itag slot) calls ≡ false
     → let late = run taken calls in
@@ -137,7 +139,8 @@ NotesExactly = (s : Tables) (itag slot : ℕ) (scope : Scope) (invalidation : In
     → extent_of scope ≡ invalidation.extent → itag < length s.taken
     → let taken = after s (Receive (Invalidate itag invalidation.pasid scope)) in
     ArePermitted taken calls → list_any (ends_taking itag) calls ≡ false
-    → is_noted slot (slice_index_or (run taken calls).taken itag None) ≡ (runs_covered invalidation (slot_at s.uses slot) && not (list_any (is_end_of_use slot) calls))
+    → is_noted slot (slice_index_or (run taken calls).taken itag None)
+    ≡ (runs_covered invalidation (slot_at s.uses slot) && not (list_any (is_end_of_use slot) calls))
 
 -- the vector names this ITag and no other
 abbrev pub NamesAlone : ℕ → ℕ → Type 0

@@ -1,9 +1,11 @@
 -- What an endpoint may do, and what each step changes. A step is refused by the first cause in its list that holds.
-use Rattle.std.specs.Prelude.{ℕ, ◌^◌, Bool, true, false, List, [], ◌∷◌, map, position, slice_set, Option, Some, None, Result, Ok, Err, is_none, unwrap_or, ◌==◌, ◌&&◌, ◌||◌, not, nat_lt, if◌then◌else◌}
+use Rattle.std.specs.Prelude.{ℕ, ◌^◌, Bool, true, false, List, [], ◌∷◌, map, position, slice_set, Option, Some, None, Result, Ok, Err, is_none, unwrap_or}
+use Rattle.std.specs.Prelude.{◌==◌, ◌&&◌, ◌||◌, not, nat_lt, if◌then◌else◌}
 use Rattle.std.specs.List.{list_any, position_or_len}
 use Rattle.std.specs.FinMap.{get, remove}
 use Rattle.sva_step.specs.declared.refusals.Refusal.{Refusal}
-use Rattle.sva_step.specs.declared.refusals.Refusal.TheVariants.{PageRange, NotStarted, NoTag, NotHeld, ReadOnly, NoUseSlot, NoSuchUse, NoCredit, NoSuchGroup, PriDisabled, NotPending, InUse, BadCount, NotStopping, Busy}
+use Rattle.sva_step.specs.declared.refusals.Refusal.TheVariants.{PageRange, NotStarted, NoTag, NotHeld, ReadOnly, NoUseSlot, NoSuchUse, NoCredit}
+use Rattle.sva_step.specs.declared.refusals.Refusal.TheVariants.{NoSuchGroup, PriDisabled, NotPending, InUse, BadCount, NotStopping, Busy}
 use Rattle.sva_step.specs.declared.answers.Answer.{Answer}
 use Rattle.sva_step.specs.declared.answers.Answer.TheVariants.{Ended, Dead}
 use Rattle.sva_model.specs.Acts.{count_field}
@@ -77,7 +79,10 @@ using s pasid page write =
 abbrev pub after_begin_use : Tables → ℕ → ℕ → Tables
 after_begin_use s pasid page =
     let translation = translation_at s pasid page in
-    record s { uses = slice_set s.uses (lowest_slot s) (Running (record { pasid = pasid; page = page; frame = translation.frame; write = translation.write })) }
+    record s {
+      uses = slice_set s.uses (lowest_slot s)
+          (Running (record { pasid = pasid; page = page; frame = translation.frame; write = translation.write }));
+    }
 
 abbrev pub end_of : UseSlot → Answer
 end_of FreeSlot = Ended
@@ -130,7 +135,15 @@ faulting s fault =
     unless (refusals_of_fault s fault)
     (record {
       index = index_for s fault.group;
-      kind = PageRequest (record { pasid = fault.pasid; index = index_for s fault.group; page = fault.page; read = fault.read; write = fault.write; last = fault.last });
+      kind = PageRequest (record {
+        pasid = fault.pasid;
+        index = index_for s fault.group;
+        page = fault.page;
+        read = fault.read;
+        write =
+            fault.write;
+        last = fault.last;
+      });
     })
 
 abbrev pub group_after : Tables → Fault → Option ℕ → GroupPlace

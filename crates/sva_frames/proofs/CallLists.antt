@@ -1,4 +1,5 @@
-use Rattle.std.proofs.Common.{◌≡◌, ◌≢◌, ℕ, ◌<◌, ◌==◌, true, false, List, Option, Some, None, [], ◌∷◌, ◌++◌, length, get_or, set, map, slice_get, refl, sym, ap, subst, ◌∙◌, ⊎_elim, arith}
+use Rattle.std.proofs.Common.{◌≡◌, ◌≢◌, ℕ, ◌<◌, ◌==◌, true, false, List, Option, Some, None, [], ◌∷◌, ◌++◌, length, get_or, set, map, slice_get, refl, sym}
+use Rattle.std.proofs.Common.{ap, subst, ◌∙◌, ⊎_elim, arith}
 use Rattle.std.specs.List.{list_any, position}
 use Rattle.std.specs.Option.{option_map, MatchOption}
 use Rattle.std.proofs.lemmas.Bool.{cases_eq, or_parts}
@@ -8,10 +9,12 @@ use Rattle.std.proofs.lemmas.List.Quantifiers.{position-Some}
 use Rattle.std.proofs.lemmas.Option.{slice_get-map, slice_get-get_or, get_or_from_slice_get, slice_get_within, same_Some}
 use Rattle.sva_frames.specs.declared.waits.Target.{Target}
 use Rattle.sva_frames.specs.Frames.{Holding, Free, Mapped, Withheld, is_free, has_target, after_waits, past_cookie, past_reset, settled}
-use Rattle.sva_frames.specs.Calls.{Call, Take, Give, Withhold, Settle, SettleAll, opened, after, after_all, after_take, IsPermitted, ArePermitted, unsettled, spends}
+use Rattle.sva_frames.specs.Calls.{Call, Take, Give, Withhold, Settle, SettleAll, opened, after, after_all, after_take, IsPermitted, ArePermitted}
+use Rattle.sva_frames.specs.Calls.{unsettled, spends}
 use Rattle.sva_frames.specs.Laws.{Divided, WithheldWaits, LowestFree, MappedInHand, FreeAtOnce, WithheldUntilSettled, FreeWhenSettled, SettlesWaits}
 use Rattle.sva_frames.proofs.Pools.{slice_get-set_same, slice_get-set_other, count_by-divided, none_free_first, none_free_none}
-use Rattle.sva_frames.proofs.Waiting.{after_waits-some, after_waits-none, unsettled-nil, unsettled-append, unsettled_same, unsettled-event, has_target-unsettled, settle_event, settle_all_event, settled-after_waits, withheld-after_waits}
+use Rattle.sva_frames.proofs.Waiting.{after_waits-some, after_waits-none, unsettled-nil, unsettled-append, unsettled_same, unsettled-event}
+use Rattle.sva_frames.proofs.Waiting.{has_target-unsettled, settle_event, settle_all_event, settled-after_waits, withheld-after_waits}
 
 -- ---- lists of calls
 
@@ -77,7 +80,8 @@ after_take-other frames n h here not_free = by_answer (position is_free frames) 
         let first : is_free (get_or frames m Free) ≡ true = (position-Some is_free frames m Free is).1 in
         let there : slice_get frames m ≡ Some (get_or frames m Free) = slice_get-get_or frames m Free (position-Some is_free frames m Free is).0 in
         slice_get-set_other frames m n Mapped
-        (apart frames n m (get_or frames m Free) h here there (λ (same : h ≡ get_or frames m Free). let both : is_free h ≡ is_free (get_or frames m Free) = ap is_free same in cc))
+        (apart frames n m (get_or frames m Free) h here there (λ (same : h ≡ get_or frames m Free). let both : is_free h
+        ≡ is_free (get_or frames m Free) = ap is_free same in cc))
         ∙ here
 
 pub withheld_step :
@@ -105,7 +109,8 @@ pub mapped_step :
 mapped_step frames n Take here kept = after_take-other frames n Mapped here refl
 mapped_step frames n (Give m) here kept = slice_get-set_other frames m n Free (two n m kept) ∙ here
 mapped_step frames n (Withhold m new) here kept = slice_get-set_other frames m n (after_waits new) (two n m kept) ∙ here
-mapped_step frames n (Settle unit cookie) here kept = slice_get-map (settled unit (past_cookie cookie)) frames n ∙ ap (option_map (settled unit (past_cookie cookie))) here
+mapped_step frames n (Settle unit cookie) here kept = slice_get-map (settled unit (past_cookie cookie)) frames n
+    ∙ ap (option_map (settled unit (past_cookie cookie))) here
 mapped_step frames n (SettleAll unit) here kept = slice_get-map (settled unit past_reset) frames n ∙ ap (option_map (settled unit past_reset)) here
 
 -- ---- over a list of calls
@@ -128,7 +133,8 @@ withheld_all frames n waits (call ∷ calls) here permitted some =
     let later : has_target (unsettled calls 0 (unsettled (call ∷ []) 0 waits)) ≡ true = ap has_target (sym left) ∙ some in
     let now : has_target (unsettled (call ∷ []) 0 waits) ≡ true = has_target-unsettled calls 0 (unsettled (call ∷ []) 0 waits) later in
     let first : slice_get (after frames call) n ≡ Some (Withheld (unsettled (call ∷ []) 0 waits)) =
-    withheld_step frames n waits call here (has_target-unsettled (call ∷ []) 0 waits now) permitted.0 ∙ ap Some (after_waits-some (unsettled (call ∷ []) 0 waits) now) in
+    withheld_step frames n waits call here (has_target-unsettled (call ∷ []) 0 waits now) permitted.0
+    ∙ ap Some (after_waits-some (unsettled (call ∷ []) 0 waits) now) in
     withheld_all (after frames call) n (unsettled (call ∷ []) 0 waits) calls first permitted.1 later ∙ ap (λ ws. Some (Withheld ws)) (sym left)
 
 -- the pool just after `withhold`, where there is a target
@@ -145,7 +151,8 @@ pub withheld_until :
 withheld_until frames before calls n waits permitted some =
     let rest : ArePermitted (after_all frames before) (Withhold n waits ∷ calls) = permitted_rest frames before (Withhold n waits ∷ calls) permitted in
     ap (λ fs. slice_get fs n) (after_all-append frames before (Withhold n waits ∷ calls))
-    ∙ withheld_all (after (after_all frames before) (Withhold n waits)) n waits calls (withheld_first (after_all frames before) n waits rest.0 (has_target-unsettled calls 0 waits some)) rest.1 some
+    ∙ withheld_all (after (after_all frames before) (Withhold n waits)) n waits calls
+    (withheld_first (after_all frames before) n waits rest.0 (has_target-unsettled calls 0 waits some)) rest.1 some
 
 -- ---- the laws
 
@@ -154,11 +161,14 @@ withheld_until_settled count before calls n waits permitted some = withheld_unti
 
 pub free_when_settled : FreeWhenSettled
 free_when_settled count before calls last n waits permitted some none =
-    let rest : ArePermitted (after_all (opened count) before) (Withhold n waits ∷ (calls ++ last ∷ [])) = permitted_rest (opened count) before (Withhold n waits ∷ (calls ++ last ∷ [])) permitted in
+    let rest : ArePermitted (after_all (opened count) before) (Withhold n waits ∷ (calls ++ last ∷ [])) =
+    permitted_rest (opened count) before (Withhold n waits ∷ (calls ++ last ∷ [])) permitted in
     let start : List Holding = after (after_all (opened count) before) (Withhold n waits) in
     let here : slice_get (after_all start calls) n ≡ Some (Withheld (unsettled calls 0 waits)) =
-    withheld_all start n waits calls (withheld_first (after_all (opened count) before) n waits rest.0 (has_target-unsettled calls 0 waits some)) (permitted_first start calls (last ∷ []) rest.1) some in
-    let left : has_target (unsettled (last ∷ []) 0 (unsettled calls 0 waits)) ≡ false = ap has_target (sym (unsettled-append calls (last ∷ []) 0 waits)) ∙ none in
+    withheld_all start n waits calls (withheld_first (after_all (opened count) before) n waits rest.0 (has_target-unsettled calls 0 waits some))
+    (permitted_first start calls (last ∷ []) rest.1) some in
+    let left : has_target (unsettled (last ∷ []) 0 (unsettled calls 0 waits)) ≡ false =
+    ap has_target (sym (unsettled-append calls (last ∷ []) 0 waits)) ∙ none in
     ap (λ fs. slice_get fs n) (after_all-append (opened count) before (Withhold n waits ∷ (calls ++ last ∷ [])) ∙ after_all-append start calls (last ∷ []))
     ∙ withheld_step (after_all start calls) n (unsettled calls 0 waits) last here some (permitted_rest start calls (last ∷ []) rest.1).0
     ∙ ap Some (after_waits-none (unsettled (last ∷ []) 0 (unsettled calls 0 waits)) left)
@@ -181,9 +191,11 @@ lowest_free frames = by_answer (position is_free frames) refl
     by_answer :
         (o : Option ℕ) → position is_free frames ≡ o →
         MatchOption o ((n : ℕ) → slice_get frames n ≢ Some Free) (λ m. (slice_get frames m ≡ Some Free) × ((n : ℕ) → n < m → slice_get frames n ≢ Some Free))
-    by_answer None is = λ n found. let within : n < length frames = slice_get_within frames n Free found in let none : true ≡ false = none_free_none frames is n Free within found in cc
+    by_answer None is = λ n found. let within : n < length frames = slice_get_within frames n Free found in let none : true ≡ false =
+        none_free_none frames is n Free within found in cc
     by_answer (Some m) is = (
-      slice_get-get_or frames m Free (position-Some is_free frames m Free is).0 ∙ ap Some (free_is (get_or frames m Free) (position-Some is_free frames m Free is).1),
+      slice_get-get_or frames m Free (position-Some is_free frames m Free is).0
+          ∙ ap Some (free_is (get_or frames m Free) (position-Some is_free frames m Free is).1),
       λ n below found. let none : true ≡ false = none_free_first frames m is n Free below found in cc,
     )
 
@@ -197,7 +209,8 @@ all_wait_set :
     ((waits : List (Option Target)) → h ≡ Withheld waits → (length waits ≡ 8) × (has_target waits ≡ true)) → AllWait (set frames m h)
 all_wait_set frames m h all within new n waits found =
     ⊎_elim
-    (λ (same : n ≡ m). new waits (same_Some h (Withheld waits) (sym (slice_get-set_same frames m h within) ∙ ap (slice_get (set frames m h)) (sym same) ∙ found)))
+    (λ (same : n ≡ m). new waits
+    (same_Some h (Withheld waits) (sym (slice_get-set_same frames m h within) ∙ ap (slice_get (set frames m h)) (sym same) ∙ found)))
     (λ (other : n ≢ m). all n waits (sym (slice_get-set_other frames m n h other) ∙ found))
     (cases_eq n m)
 
@@ -227,7 +240,8 @@ all_wait_step frames Take all permitted = by_answer (position is_free frames) re
 all_wait_step frames (Give m) all permitted = all_wait_set frames m Free all (slice_get_within frames m Mapped permitted) (λ waits other. absurd (cc))
 all_wait_step frames (Withhold m new) all permitted =
     all_wait_set frames m (after_waits new) all (slice_get_within frames m Mapped permitted.0)
-    (λ waits is. let parts : (new ≡ waits) × (has_target new ≡ true) = withheld-after_waits new waits is in (sym (ap length parts.0) ∙ permitted.1, sym (ap has_target parts.0) ∙ parts.1))
+    (λ waits is. let parts : (new ≡ waits) × (has_target new ≡ true) =
+    withheld-after_waits new waits is in (sym (ap length parts.0) ∙ permitted.1, sym (ap has_target parts.0) ∙ parts.1))
 all_wait_step frames (Settle unit cookie) all permitted = all_wait_map frames unit (past_cookie cookie) all
 all_wait_step frames (SettleAll unit) all permitted = all_wait_map frames unit past_reset all
 
@@ -241,7 +255,8 @@ withheld_waits count calls permitted = all_wait_all (opened count) calls none pe
     none : AllWait (opened count)
     none n waits found =
         let within : n < count = subst (λ (k : ℕ). n < k) (length-replicate count Free) (slice_get_within (opened count) n (Withheld waits) found) in
-        let free : Free ≡ Withheld waits = sym (get_or-replicate count n Free Free within) ∙ get_or_from_slice_get (opened count) n (Withheld waits) Free found in
+        let free : Free ≡ Withheld waits = sym (get_or-replicate count n Free Free within)
+        ∙ get_or_from_slice_get (opened count) n (Withheld waits) Free found in
         absurd (cc)
 
 pub settles_waits : SettlesWaits

@@ -13,7 +13,10 @@ pub none_waits-set :
     NoneWaits t (set cells n new)
 none_waits-set t cells n old new here other none m cell there =
     ⊎_elim
-    (λ (same : m ≡ n). λ is. other (ap (λ (x : Cell). x.target) (same_Some new cell (sym (slice_get-set_same cells n new (slice_get_within cells n old here)) ∙ ap (slice_get (set cells n new)) (sym same) ∙ there)) ∙ is))
+    (λ (same : m ≡ n). λ is. other
+    (ap (λ (x : Cell). x.target)
+    (same_Some new cell (sym (slice_get-set_same cells n new (slice_get_within cells n old here)) ∙ ap (slice_get (set cells n new)) (sym same)
+    ∙ there)) ∙ is))
     (λ (apart : m ≢ n). none m cell (sym (slice_get-set_other cells n m new apart) ∙ there))
     (cases_eq m n)
 
@@ -24,10 +27,12 @@ chain-set t zero cells None n old new here was is chain = none_waits-set t cells
 chain-set t zero cells (Some m) n old new here was is chain = absurd chain
 chain-set t (suc k) cells None n old new here was is chain = absurd chain
 chain-set t (suc k) cells (Some m) n old new here was is chain =
-    let apart : m ≢ n = λ same. was (ap (λ (x : Cell). x.target) (same_Some old chain.0 (sym here ∙ ap (slice_get cells) (sym same) ∙ chain.1)) ∙ chain.2) in (
+    let apart : m ≢ n = λ same. was (ap (λ (x : Cell). x.target) (same_Some old chain.0 (sym here ∙ ap (slice_get cells) (sym same) ∙ chain.1))
+    ∙ chain.2) in (
       chain.0,
       slice_get-set_other cells n m new apart ∙ chain.1,
       chain.2,
       subst (λ cs. Chain t k cs chain.0.next) (set_comm cells m n unlinked new apart)
-          (chain-set t k (set cells m unlinked) chain.0.next n old new (slice_get-set_other cells m n unlinked (λ same. apart (sym same)) ∙ here) was is chain.3),
+          (chain-set t k (set cells m unlinked) chain.0.next n old new (slice_get-set_other cells m n unlinked (λ same. apart (sym same)) ∙ here) was
+          is chain.3),
     )

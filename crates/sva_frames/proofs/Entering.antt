@@ -1,4 +1,6 @@
-use Rattle.std.proofs.Common.{◌≡◌, ◌≢◌, ℕ, ◌+◌, ◌<◌, ◌≤◌, Bool, true, false, cond, List, Option, Some, None, [], ◌∷◌, ◌++◌, length, get_or, set, take, map, slice_get, is_some, refl, sym, ap, subst, ◌∙◌, ⊎_elim, arith, zero, suc, count_by, ◌==◌, get_or-set_same, get_or-set_other, drop, drop_of_length-le, append-nil, take_all}
+use Rattle.std.proofs.Common.{◌≡◌, ◌≢◌, ℕ, ◌+◌, ◌<◌, ◌≤◌, Bool, true, false, cond, List, Option, Some, None, [], ◌∷◌, ◌++◌, length, get_or, set, take, map}
+use Rattle.std.proofs.Common.{slice_get, is_some, refl, sym, ap, subst, ◌∙◌, ⊎_elim, arith, zero, suc, count_by, ◌==◌, get_or-set_same, get_or-set_other}
+use Rattle.std.proofs.Common.{drop, drop_of_length-le, append-nil, take_all}
 use Rattle.std.specs.Option.{option_map, IfSome}
 use Rattle.std.proofs.lemmas.Bool.{cases_eq}
 use Rattle.std.proofs.lemmas.Bool.Decides.{nat_tests}
@@ -56,7 +58,8 @@ pub count_more :
 count_more ws u left one within so_far is =
     let sums : count_by is_some (take u ws ++ get_or ws u None ∷ []) ≡ count_by is_some (take u ws) + cond (is_some (get_or ws u None)) 1 0 =
     sum_by_push (λ (o : Option Target). cond (is_some o) 1 0) (take u ws) (get_or ws u None) in
-    let more : count_by is_some (take (u + 1) ws) ≡ count_by is_some (take u ws ++ get_or ws u None ∷ []) = ap (count_by is_some) (take_more ws u None within) in
+    let more : count_by is_some (take (u + 1) ws) ≡ count_by is_some (take u ws ++ get_or ws u None ∷ []) =
+    ap (count_by is_some) (take_more ws u None within) in
     omega (arith, sums, more)
 
 -- ---- all lanes
@@ -78,7 +81,8 @@ even-entered n k (w ∷ ws) (x ∷ xs) even (suc u) l there = even-entered n k w
 row-entered_other : (n m : ℕ) (ws : List (Option Target)) (ls : List (List (Option Target))) → m ≢ n → row (entered n ws ls) m ≡ row ls m
 row-entered_other n m [] ls other = refl
 row-entered_other n m (w ∷ ws) [] other = refl
-row-entered_other n m (w ∷ ws) (l ∷ ls) other = ap (λ o. o ∷ row (entered n ws ls) m) (get_or-set_other l n m w None other) ∙ ap (λ r. get_or l m None ∷ r) (row-entered_other n m ws ls other)
+row-entered_other n m (w ∷ ws) (l ∷ ls) other = ap (λ o. o ∷ row (entered n ws ls) m) (get_or-set_other l n m w None other)
+    ∙ ap (λ r. get_or l m None ∷ r) (row-entered_other n m ws ls other)
 
 row-entered_same :
     (n k : ℕ) (ws : List (Option Target)) (ls : List (List (Option Target))) → length ls ≡ length ws →
@@ -88,7 +92,8 @@ row-entered_same n k [] (l ∷ ls) units even within = absurd (omega arith)
 row-entered_same n k (w ∷ ws) [] units even within = absurd (omega arith)
 row-entered_same n k (w ∷ ws) (l ∷ ls) units even within =
     let here : n < length l = omega (arith, even 0 l refl) in
-    ap (λ o. o ∷ row (entered n ws ls) n) (get_or-set_same l n w None here) ∙ ap (λ r. w ∷ r) (row-entered_same n k ws ls (omega arith) (λ u. even (suc u)) within)
+    ap (λ o. o ∷ row (entered n ws ls) n) (get_or-set_same l n w None here)
+    ∙ ap (λ r. w ∷ r) (row-entered_same n k ws ls (omega arith) (λ u. even (suc u)) within)
 
 -- ---- the stage of a frame with so many targets
 
@@ -136,15 +141,19 @@ target_is (WithheldStage left) ws u o counted here = get_or_from_slice_get ws u 
 pub lane_is :
     (ss : List Stage) (lanes : List (List (Option Target))) (u : ℕ) (lane : List (Option Target)) → IsPool ss lanes → slice_get lanes u ≡ Some lane →
     map (target_at u) (holdings_from 0 ss lanes) ≡ lane
-lane_is ss lanes u lane is at = list_ext (map (target_at u) (holdings_from 0 ss lanes)) lane (λ n. slice_get-map (target_at u) (holdings_from 0 ss lanes) n ∙ by_stage n (slice_get ss n) refl)
+lane_is ss lanes u lane is at =
+    list_ext (map (target_at u) (holdings_from 0 ss lanes)) lane (λ n. slice_get-map (target_at u) (holdings_from 0 ss lanes) n
+    ∙ by_stage n (slice_get ss n) refl)
   where
     by_stage : (n : ℕ) (o : Option Stage) → slice_get ss n ≡ o → option_map (target_at u) (slice_get (holdings_from 0 ss lanes) n) ≡ slice_get lane n
-    by_stage n None none = ap (option_map (target_at u)) (holdings_at 0 ss lanes n ∙ ap (option_map (λ s. holding s (row lanes (0 + n)))) none) ∙ sym (slice_get_past lane n (let past = past_end ss n none in omega (arith, past, is.even u lane at)))
+    by_stage n None none = ap (option_map (target_at u)) (holdings_at 0 ss lanes n ∙ ap (option_map (λ s. holding s (row lanes (0 + n)))) none)
+        ∙ sym (slice_get_past lane n (let past = past_end ss n none in omega (arith, past, is.even u lane at)))
     by_stage n (Some s) here =
         let within : n < length lane = omega (arith, slice_get_within ss n s here, is.even u lane at) in
         let found : slice_get lane n ≡ Some (get_or lane n None) = slice_get-get_or lane n None within in
         ap (option_map (target_at u)) (holding_at ss lanes n s here)
-        ∙ ap (λ (o : Option Target). Some o) (target_is s (row lanes n) u (get_or lane n None) (is.counted n s here) (row_at lanes u n lane (get_or lane n None) at found))
+        ∙ ap (λ (o : Option Target). Some o)
+        (target_is s (row lanes n) u (get_or lane n None) (is.counted n s here) (row_at lanes u n lane (get_or lane n None) at found))
         ∙ sym found
 
 -- ---- as the code needs them
@@ -153,7 +162,8 @@ pub mapped_free :
     (ss : List Stage) (lanes : List (List (Option Target))) (n : ℕ) → IsPool ss lanes → slice_get (holdings_from 0 ss lanes) n ≡ Some Mapped →
     (u : ℕ) (lane : List (Option Target)) → slice_get lanes u ≡ Some lane → slice_get lane n ≡ Some None
 mapped_free ss lanes n is mapped u lane at =
-    ap (λ l. slice_get l n) (sym (lane_is ss lanes u lane is at)) ∙ slice_get-map (target_at u) (holdings_from 0 ss lanes) n ∙ ap (option_map (target_at u)) mapped
+    ap (λ l. slice_get l n) (sym (lane_is ss lanes u lane is at)) ∙ slice_get-map (target_at u) (holdings_from 0 ss lanes) n
+    ∙ ap (option_map (target_at u)) mapped
 
 pub withheld-invariant :
     (ss : List Stage) (lanes : List (List (Option Target))) (n left : ℕ) (ws : List (Option Target)) → IsPool ss lanes →
@@ -161,7 +171,8 @@ pub withheld-invariant :
     IsPool (set ss n (stage_of left)) (entered n ws lanes)
 withheld-invariant ss lanes n left ws is mapped units count =
     let within : n < length ss = omega (arith, slice_get_within (holdings_from 0 ss lanes) n Mapped mapped, length-holdings 0 ss lanes) in
-    pool_set ss lanes (entered n ws lanes) n (stage_of left) is (λ m other. row-entered_other n m ws lanes other) (length-entered n ws lanes) (even-entered n (length ss) ws lanes is.even)
+    pool_set ss lanes (entered n ws lanes) n (stage_of left) is (λ m other. row-entered_other n m ws lanes other) (length-entered n ws lanes)
+    (even-entered n (length ss) ws lanes is.even)
     (subst (IsCounted (stage_of left)) (sym (row-entered_same n (length ss) ws lanes units is.even within)) (stage_of_is ws left count).1)
 
 pub withheld-frames :
@@ -185,7 +196,8 @@ written_back len new old same all =
 
 -- the rooms that were looked at so far, by units
 abbrev pub HaveRoomBelow : ℕ → List Holding → List (Option Target) → Type 0
-HaveRoomBelow bound frames waits = (unit : ℕ) (target : Target) → unit < bound → slice_get waits unit ≡ Some (Some target) → HasRoom (map (target_at unit) frames) target
+HaveRoomBelow bound frames waits = (unit : ℕ) (target : Target) → unit < bound → slice_get waits unit ≡ Some (Some target)
+    → HasRoom (map (target_at unit) frames) target
 
 pub room_more :
     (ss : List Stage) (lanes : List (List (Option Target))) (ws : List (Option Target)) (u : ℕ) (lane : List (Option Target)) → IsPool ss lanes →

@@ -1,4 +1,5 @@
-use Rattle.std.proofs.Common.{◌≡◌, ◌≢◌, ℕ, ◌+◌, ◌-◌, ◌<◌, ◌≤◌, Bool, true, false, cond, List, Option, Some, None, [], ◌∷◌, length, get_or, set, slice_get, is_some, refl, sym, ap, subst, ◌∙◌, ⊎_elim, arith, zero, suc, count_by}
+use Rattle.std.proofs.Common.{◌≡◌, ◌≢◌, ℕ, ◌+◌, ◌-◌, ◌<◌, ◌≤◌, Bool, true, false, cond, List, Option, Some, None, [], ◌∷◌, length, get_or, set, slice_get}
+use Rattle.std.proofs.Common.{is_some, refl, sym, ap, subst, ◌∙◌, ⊎_elim, arith, zero, suc, count_by}
 use Rattle.std.specs.Bool.{nat_le}
 use Rattle.std.specs.Option.{option_map}
 use Rattle.std.proofs.lemmas.Bool.{cases_eq}
@@ -73,7 +74,8 @@ pub stage_at :
 stage_at ss lanes n h there = by_stage (slice_get ss n) refl
   where
     by_stage : (o : Option Stage) → slice_get ss n ≡ o → (s : Stage) × (slice_get ss n ≡ Some s) × (h ≡ holding s (row lanes n))
-    by_stage None is = let none : slice_get (holdings_from 0 ss lanes) n ≡ None = holdings_at 0 ss lanes n ∙ ap (option_map (λ s. holding s (row lanes (0 + n)))) is in absurd (cc)
+    by_stage None is = let none : slice_get (holdings_from 0 ss lanes) n ≡ None =
+        holdings_at 0 ss lanes n ∙ ap (option_map (λ s. holding s (row lanes (0 + n)))) is in absurd (cc)
     by_stage (Some s) is = (s, is, same_Some h (holding s (row lanes n)) (sym there ∙ holding_at ss lanes n s is))
 
 pub length-holdings : (k : ℕ) (ss : List Stage) (lanes : List (List (Option Target))) → length (holdings_from k ss lanes) ≡ length ss
@@ -111,7 +113,9 @@ even-set :
     (v : ℕ) (l : List (Option Target)) → slice_get (set lanes u lane') v ≡ Some l → length l ≡ length ss
 even-set ss lanes u lane lane' even at same v l there =
     ⊎_elim
-    (λ (here : v ≡ u). let found : lane' ≡ l = same_Some lane' l (sym (slice_get-set_same lanes u lane' (slice_get_within lanes u lane at)) ∙ ap (slice_get (set lanes u lane')) (sym here) ∙ there) in ap length (sym found) ∙ same ∙ even u lane at)
+    (λ (here : v ≡ u). let found : lane' ≡ l =
+    same_Some lane' l (sym (slice_get-set_same lanes u lane' (slice_get_within lanes u lane at)) ∙ ap (slice_get (set lanes u lane')) (sym here)
+    ∙ there) in ap length (sym found) ∙ same ∙ even u lane at)
     (λ (other : v ≢ u). even v l (sym (slice_get-set_other lanes u v lane' other) ∙ there))
     (cases_eq v u)
 
@@ -128,7 +132,8 @@ pool_set ss lanes lanes' n s' is same units even here = record {
       (λ (at : m ≡ n).
       let found : slice_get (set ss n s') n ≡ Some s = ap (slice_get (set ss n s')) (sym at) ∙ there in
       let within : n < length ss = omega (arith, slice_get_within (set ss n s') n s found, length-set ss n s') in
-      subst (λ k. IsCounted s (row lanes' k)) (sym at) (subst (λ t. IsCounted t (row lanes' n)) (same_Some s' s (sym (slice_get-set_same ss n s' within) ∙ found)) here))
+      subst (λ k. IsCounted s (row lanes' k)) (sym at)
+      (subst (λ t. IsCounted t (row lanes' n)) (same_Some s' s (sym (slice_get-set_same ss n s' within) ∙ found)) here))
       (λ (other : m ≢ n). subst (IsCounted s) (sym (same m other)) (is.counted m s (sym (slice_get-set_other ss n m s' other) ∙ there)))
       (cases_eq m n);
 }
@@ -153,7 +158,8 @@ pub count_taken :
 count_taken ws u t here =
     let sums = sum_by-set (λ (o : Option Target). cond (is_some o) 1 0) ws u None None (slice_get_within ws u (Some t) here) in
     let one : ℕ = 1 in
-    let was : cond (is_some (get_or ws u None)) 1 0 ≡ one = ap (λ (o : Option Target). cond (is_some o) 1 0) (get_or_from_slice_get ws u (Some t) None here) in
+    let was : cond (is_some (get_or ws u None)) 1 0 ≡ one =
+    ap (λ (o : Option Target). cond (is_some o) 1 0) (get_or_from_slice_get ws u (Some t) None here) in
     omega (arith, sums, was)
 
 -- what a stage is after one wait is settled
@@ -171,7 +177,8 @@ lowered_is (WithheldStage left) ws u t counted here = by_last (nat_le left 1) re
     Lowered s = (Withheld ws ≡ Withheld ws) × (holding s (set ws u None) ≡ after_waits (set ws u None)) × IsCounted s (set ws u None)
 
     last : left ≤ 1 → Lowered FreeStage
-    last few = let zero_left : count_by is_some (set ws u None) ≡ 0 = omega (arith, one_less, counted.0, counted.1) in (refl, sym (after_waits-none (set ws u None) (count_none (set ws u None) zero_left)), zero_left)
+    last few = let zero_left : count_by is_some (set ws u None) ≡ 0 =
+        omega (arith, one_less, counted.0, counted.1) in (refl, sym (after_waits-none (set ws u None) (count_none (set ws u None) zero_left)), zero_left)
 
     more : 1 < left → Lowered (WithheldStage (left - 1))
     more many =
@@ -201,7 +208,8 @@ settled-invariant ss lanes u n lane t s is at waits here =
 pub settled-frame :
     (ss : List Stage) (lanes : List (List (Option Target))) (u n : ℕ) (lane : List (Option Target)) (t : Target) (s : Stage) → IsPool ss lanes →
     slice_get lanes u ≡ Some lane → slice_get lane n ≡ Some (Some t) → slice_get ss n ≡ Some s →
-    (waits : List (Option Target)) × (slice_get (holdings_from 0 ss lanes) n ≡ Some (Withheld waits)) × (slice_get waits u ≡ Some (Some t)) × (holdings_from 0 (set ss n (lowered s)) (set lanes u (set lane n None)) ≡ set (holdings_from 0 ss lanes) n (after_waits (set waits u None)))
+    (waits : List (Option Target)) × (slice_get (holdings_from 0 ss lanes) n ≡ Some (Withheld waits)) × (slice_get waits u ≡ Some (Some t))
+    × (holdings_from 0 (set ss n (lowered s)) (set lanes u (set lane n None)) ≡ set (holdings_from 0 ss lanes) n (after_waits (set waits u None)))
 settled-frame ss lanes u n lane t s is at waits here =
     let within : n < length lane = slice_get_within lane n (Some t) waits in
     let rows : row (set lanes u (set lane n None)) n ≡ set (row lanes n) u None = row_same lanes u n lane None within in
@@ -246,7 +254,8 @@ none_waits ss lanes u lane wanted is at none n waits there =
     let rows = withheld_row ss lanes n waits is there in (
       rows.1,
       λ t want found.
-          let g : slice_get (row lanes n) u ≡ Some (get_or lane n None) = slice_get-map (λ (l : List (Option Target)). get_or l n None) lanes u ∙ ap (option_map (λ (l : List (Option Target)). get_or l n None)) at in
+          let g : slice_get (row lanes n) u ≡ Some (get_or lane n None) = slice_get-map (λ (l : List (Option Target)). get_or l n None) lanes u
+          ∙ ap (option_map (λ (l : List (Option Target)). get_or l n None)) at in
           none n t want (some_at lane n t (same_Some (get_or lane n None) (Some t) (sym g ∙ ap (λ r. slice_get r u) (sym rows.0) ∙ found))),
     )
 

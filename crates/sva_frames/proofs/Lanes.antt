@@ -1,4 +1,5 @@
-use Rattle.std.proofs.Common.{◌≡◌, ◌≢◌, ℕ, ◌<◌, ◌==◌, Bool, true, false, ◌||◌, List, Option, Some, None, [], ◌∷◌, length, set, map, slice_get, is_some, refl, sym, ap, subst, ◌∙◌, ◌⊎◌, inl, inr, ⊎_elim, arith, zero, suc}
+use Rattle.std.proofs.Common.{◌≡◌, ◌≢◌, ℕ, ◌<◌, ◌==◌, Bool, true, false, ◌||◌, List, Option, Some, None, [], ◌∷◌, length, set, map, slice_get, is_some}
+use Rattle.std.proofs.Common.{refl, sym, ap, subst, ◌∙◌, ◌⊎◌, inl, inr, ⊎_elim, arith, zero, suc}
 use Rattle.std.specs.List.{IsDistinct, AllByRecursion}
 use Rattle.std.specs.Option.{option_map, IfNone, IfSome}
 use Rattle.std.specs.Set.{distinct_count, is_member}
@@ -51,14 +52,17 @@ other_target t u o is other same = other (same_Some u t (sym same ∙ is))
 
 -- ---- a frame more at the head of a chain
 
-pub lane_push : (cells : List Cell) (before after : Firsts) (t : Target) (n : ℕ) (next : Option ℕ) → IsLane cells before → slice_get (map target_of cells) n ≡ Some None → next ≡ first_at before t → first_at after t ≡ Some n → ((u : Target) → u ≢ t → first_at after u ≡ first_at before u) → IsLane (set cells n (record { target = Some t; next = next })) after
+pub lane_push : (cells : List Cell) (before after : Firsts) (t : Target) (n : ℕ) (next : Option ℕ) → IsLane cells before
+    → slice_get (map target_of cells) n ≡ Some None → next ≡ first_at before t → first_at after t ≡ Some n
+    → ((u : Target) → u ≢ t → first_at after u ≡ first_at before u) → IsLane (set cells n (record { target = Some t; next = next })) after
 lane_push cells before after t n next is free links here others = record {
   chains = λ u. ⊎_elim
       (λ (same : u ≡ t). subst (λ v. Chains v) (sym same) pushed)
       (λ (other : u ≢ t). (
         (is.chains u).0,
         subst (Chain u (is.chains u).0 (set cells n new)) (sym (others u other))
-            (chain-set u (is.chains u).0 cells (first_at before u) n old.0 new old.1 (λ w. some_none u (sym w ∙ old.2)) (λ w. other (sym (same_Some t u w))) (is.chains u).1),
+            (chain-set u (is.chains u).0 cells (first_at before u) n old.0 new old.1 (λ w. some_none u (sym w ∙ old.2))
+            (λ w. other (sym (same_Some t u w))) (is.chains u).1),
       ))
       (cases_target u t);
 }
@@ -81,7 +85,8 @@ lane_push cells before after t n next is free links here others = record {
         refl,
         subst (λ cs. Chain t (is.chains t).0 cs next) (sym (set_again cells n new unlinked))
             (subst (Chain t (is.chains t).0 (set cells n unlinked)) (sym links)
-            (chain-set t (is.chains t).0 cells (first_at before t) n old.0 unlinked old.1 (λ w. some_none t (sym w ∙ old.2)) (λ w. some_none t (sym w)) (is.chains t).1)),
+            (chain-set t (is.chains t).0 cells (first_at before t) n old.0 unlinked old.1 (λ w. some_none t (sym w ∙ old.2))
+            (λ w. some_none t (sym w)) (is.chains t).1)),
       ),
     )
 
@@ -125,7 +130,8 @@ lane_pop cells before after t n next is here links set_to others = record {
       (λ (other : u ≢ t). (
         (is.chains u).0,
         subst (Chain u (is.chains u).0 (set cells n unlinked)) (sym (others u other))
-            (chain-set u (is.chains u).0 cells (first_at before u) n first.0 unlinked first.1 (λ w. other (sym (same_Some t u (sym first.2 ∙ w)))) (λ w. some_none u (sym w)) (is.chains u).1),
+            (chain-set u (is.chains u).0 cells (first_at before u) n first.0 unlinked first.1 (λ w. other (sym (same_Some t u (sym first.2 ∙ w))))
+            (λ w. some_none u (sym w)) (is.chains u).1),
       ))
       (cases_target u t);
 }
@@ -146,8 +152,11 @@ member_pending : (ps : List Pending) (q : ℕ) → is_member (◌==◌) (map (λ
 member_pending [] q = refl
 member_pending (p ∷ ps) q =
     ⊎_elim
-    (λ (same : p.cookie ≡ q). let yes : (q == p.cookie) ≡ true = grind (arith, nat_tests) in ap (λ b. b || is_member (◌==◌) (map (λ (p : Pending). p.cookie) ps) q) yes ∙ sym (ap is_some (first_here p ps q same)))
-    (λ (other : p.cookie ≢ q). let no : (q == p.cookie) ≡ false = grind (arith, nat_tests) in ap (λ b. b || is_member (◌==◌) (map (λ (p : Pending). p.cookie) ps) q) no ∙ member_pending ps q ∙ sym (ap is_some (first_later p ps q other)))
+    (λ (same : p.cookie ≡ q). let yes : (q == p.cookie) ≡ true =
+    grind (arith, nat_tests) in ap (λ b. b || is_member (◌==◌) (map (λ (p : Pending). p.cookie) ps) q) yes ∙ sym (ap is_some (first_here p ps q same)))
+    (λ (other : p.cookie ≢ q). let no : (q == p.cookie) ≡ false =
+    grind (arith, nat_tests) in ap (λ b. b || is_member (◌==◌) (map (λ (p : Pending). p.cookie) ps) q) no ∙ member_pending ps q
+    ∙ sym (ap is_some (first_later p ps q other)))
     (cases_eq p.cookie q)
 
 all_apart : (ps : List Pending) (c : ℕ) → first_of ps c ≡ None → AllByRecursion (λ y. (c == y) ≡ false) (map (λ p. p.cookie) ps)
@@ -167,7 +176,8 @@ member_some : (ts : List (Option Target)) (n c : ℕ) → slice_get ts n ≡ Som
 member_some [] n c there = absurd (cc)
 member_some (None ∷ ts) zero c there = absurd (cc)
 member_some (Some ResetEnd ∷ ts) zero c there = absurd (cc)
-member_some (Some (Cookie d) ∷ ts) zero c there = let same : d ≡ c = cc in let yes : (c == d) ≡ true = grind (arith, nat_tests) in ap (λ b. b || is_member (◌==◌) (cookies ts) c) yes
+member_some (Some (Cookie d) ∷ ts) zero c there = let same : d ≡ c = cc in let yes : (c == d) ≡ true =
+    grind (arith, nat_tests) in ap (λ b. b || is_member (◌==◌) (cookies ts) c) yes
 member_some (None ∷ ts) (suc n) c there = member_some ts n c there
 member_some (Some ResetEnd ∷ ts) (suc n) c there = member_some ts n c there
 member_some (Some (Cookie d) ∷ ts) (suc n) c there = ap (λ b. (c == d) || b) (member_some ts n c there) ∙ or_true (c == d)
@@ -196,7 +206,8 @@ pending_count :
     (cells : List Cell) (firsts : Firsts) → IsLane cells firsts → AreApart firsts.pending →
     length (map (λ (p : Pending). p.cookie) firsts.pending) ≡ distinct_count (◌==◌) (cookies (map target_of cells))
 pending_count cells firsts is all =
-    length-from_keys nat_eq_equiv (map (λ (p : Pending). p.cookie) firsts.pending) (cookies (map target_of cells)) (distinct firsts.pending all) (λ q. member_pending firsts.pending q ∙ sym (member_is cells firsts q is))
+    length-from_keys nat_eq_equiv (map (λ (p : Pending). p.cookie) firsts.pending) (cookies (map target_of cells)) (distinct firsts.pending all)
+    (λ q. member_pending firsts.pending q ∙ sym (member_is cells firsts q is))
 
 pub has_place :
     (cells : List Cell) (firsts : Firsts) (t : Target) → IsLane cells firsts → AreApart firsts.pending → HasRoom (map target_of cells) t →

@@ -1,4 +1,5 @@
-use Rattle.std.proofs.Common.{◌≡◌, ◌≢◌, ℕ, ◌+◌, ◌*◌, ◌^◌, ◌<◌, ◌≤◌, Bool, true, false, cond, List, Option, Some, None, [], ◌∷◌, length, get_or, set, slice_get, refl, sym, ap, ◌∙◌, ◌⊎◌, ⊎_elim, arith, zero, suc, count_by, replicate}
+use Rattle.std.proofs.Common.{◌≡◌, ◌≢◌, ℕ, ◌+◌, ◌*◌, ◌^◌, ◌<◌, ◌≤◌, Bool, true, false, cond, List, Option, Some, None, [], ◌∷◌, length, get_or, set}
+use Rattle.std.proofs.Common.{slice_get, refl, sym, ap, ◌∙◌, ◌⊎◌, ⊎_elim, arith, zero, suc, count_by, replicate}
 use Rattle.std.specs.List.{position, position_or_len}
 use Rattle.std.specs.Option.{IfNone, IfSome}
 use Rattle.std.proofs.lemmas.Bool.{cases_eq}
@@ -24,7 +25,8 @@ pub count_moved :
     old ≡ get_or ss n old → was ≡ p old → now ≡ p new → moved + cond was 1 0 ≡ count + cond now 1 0 → moved ≡ count_by p (set ss n new)
 count_moved p ss n old new was now count moved within so_far read before after step =
     let sums = sum_by-set (λ (x : Stage). cond (p x) 1 0) ss n new old within in
-    let old_is : ◌≡◌ {A = ℕ} (cond was 1 0) (cond (p (get_or ss n old)) 1 0) = ap (λ (b : Bool). let one : ℕ = 1 in cond b one 0) before ∙ ap (λ (x : Stage). cond (p x) 1 0) read in
+    let old_is : ◌≡◌ {A = ℕ} (cond was 1 0) (cond (p (get_or ss n old)) 1 0) = ap (λ (b : Bool). let one : ℕ = 1 in cond b one 0) before
+    ∙ ap (λ (x : Stage). cond (p x) 1 0) read in
     let new_is : ◌≡◌ {A = ℕ} (cond now 1 0) (cond (p new) 1 0) = ap (λ (b : Bool). let one : ℕ = 1 in cond b one 0) after in
     omega (arith, sums, so_far, step, old_is, new_is)
 
@@ -34,7 +36,8 @@ pub count_fits :
     count ≡ count_by p ss → old ≡ get_or ss n old → was ≡ p old → now ≡ p new → count + cond now 1 0 < 2 ^ 32 + cond was 1 0
 count_fits p ss n old new was now count within few so_far read before after =
     let sums = sum_by-set (λ (x : Stage). cond (p x) 1 0) ss n new old within in
-    let old_is : ◌≡◌ {A = ℕ} (cond was 1 0) (cond (p (get_or ss n old)) 1 0) = ap (λ (b : Bool). let one : ℕ = 1 in cond b one 0) before ∙ ap (λ (x : Stage). cond (p x) 1 0) read in
+    let old_is : ◌≡◌ {A = ℕ} (cond was 1 0) (cond (p (get_or ss n old)) 1 0) = ap (λ (b : Bool). let one : ℕ = 1 in cond b one 0) before
+    ∙ ap (λ (x : Stage). cond (p x) 1 0) read in
     let new_is : ◌≡◌ {A = ℕ} (cond now 1 0) (cond (p new) 1 0) = ap (λ (b : Bool). let one : ℕ = 1 in cond b one 0) after in
     omega (arith, sums, so_far, old_is, new_is, few, count_by-le-length p (set ss n new), length-set ss n new)
 
@@ -47,7 +50,9 @@ ledger_set ss words words' counts counts' n new is within room here others free 
   few = simp length-set is.few;
   enough = omega (arith, is.enough, room, length-set ss n new);
   marked = λ m s there. ⊎_elim
-      (λ (at : m ≡ n). ap (has words') at ∙ here ∙ ap (λ (t : Stage). cond (is_free_stage t) 1 0) (same_Some new s (sym (slice_get-set_same ss n new within) ∙ ap (slice_get (set ss n new)) (sym at) ∙ there)))
+      (λ (at : m ≡ n). ap (has words') at ∙ here
+      ∙ ap (λ (t : Stage). cond (is_free_stage t) 1 0)
+      (same_Some new s (sym (slice_get-set_same ss n new within) ∙ ap (slice_get (set ss n new)) (sym at) ∙ there)))
       (λ (other : m ≢ n). others m other ∙ is.marked m s (sym (slice_get-set_other ss n m new other) ∙ there))
       (cases_eq m n);
   beyond = λ m past.
@@ -76,11 +81,14 @@ first_free_is ss words counts None is none some =
     (λ (less : length ss < length ss). absurd (omega arith)) in
     rw first (grind (arith, nat_tests))
 first_free_is ss words counts (Some m) is none some =
-    let within : m < length ss = ⊎_elim (λ (yes : m < length ss). yes) (λ (no : length ss ≤ m). absurd (omega (arith, some.0, is.beyond m no))) (cases_below m (length ss)) in
+    let within : m < length ss =
+    ⊎_elim (λ (yes : m < length ss). yes) (λ (no : length ss ≤ m). absurd (omega (arith, some.0, is.beyond m no))) (cases_below m (length ss)) in
     let first : position_or_len is_free_stage ss ≡ m =
     position_or_len_is is_free_stage ss m Free (omega arith)
-    (λ k below. bit_taken (is_free_stage (get_or ss k Free)) (sym (is.marked k (get_or ss k Free) (slice_get-get_or ss k Free (omega arith))) ∙ some.1 k below))
-    (λ (less : m < length ss). bit_free (is_free_stage (get_or ss m Free)) (sym (is.marked m (get_or ss m Free) (slice_get-get_or ss m Free less)) ∙ some.0)) in
+    (λ k below. bit_taken (is_free_stage (get_or ss k Free)) (sym (is.marked k (get_or ss k Free) (slice_get-get_or ss k Free (omega arith)))
+    ∙ some.1 k below))
+    (λ (less : m < length ss). bit_free (is_free_stage (get_or ss m Free)) (sym (is.marked m (get_or ss m Free) (slice_get-get_or ss m Free less))
+    ∙ some.0)) in
     rw first (grind (arith, nat_tests))
   where
     cases_below : (a b : ℕ) → (a < b) ⊎ (b ≤ a)
@@ -105,7 +113,8 @@ count-none p (suc k) s fails =
     let none : ◌≡◌ {A = ℕ} (cond (p s) 1 0) 0 = ap (λ (b : Bool). let one : ℕ = 1 in cond b one 0) fails in
     omega (arith, sum_by-cons (λ (x : Stage). cond (p x) 1 0) s (replicate k s), none, count-none p k s fails)
 
-pub ledger_opened : (frames : ℕ) (words : List ℕ) → frames < 2 ^ 32 → frames ≤ 64 * length words → ((n : ℕ) → n < frames → has words n ≡ 1) → ((n : ℕ) → frames ≤ n → has words n ≡ 0) → IsLedger (replicate frames Free) words (record { free = frames; mapped = 0; withheld = 0 })
+pub ledger_opened : (frames : ℕ) (words : List ℕ) → frames < 2 ^ 32 → frames ≤ 64 * length words → ((n : ℕ) → n < frames → has words n ≡ 1)
+    → ((n : ℕ) → frames ≤ n → has words n ≡ 0) → IsLedger (replicate frames Free) words (record { free = frames; mapped = 0; withheld = 0 })
 ledger_opened frames words few room below above = record {
   few = simp length-replicate few;
   enough = omega (arith, room, length-replicate frames Free);

@@ -1,4 +1,5 @@
-use Rattle.std.proofs.Common.{◌≡◌, ◌≢◌, ℕ, ◌+◌, ◌<◌, ◌≤◌, Bool, false, cond, List, Some, None, [], ◌∷◌, length, get_or, set, map, slice_get, refl, sym, ap, ◌∙◌, arith, zero, suc, replicate, count_by}
+use Rattle.std.proofs.Common.{◌≡◌, ◌≢◌, ℕ, ◌+◌, ◌<◌, ◌≤◌, Bool, false, cond, List, Some, None, [], ◌∷◌, length, get_or, set, map, slice_get, refl, sym, ap}
+use Rattle.std.proofs.Common.{◌∙◌, arith, zero, suc, replicate, count_by}
 use Rattle.std.specs.List.{position, position_or_len}
 use Rattle.std.proofs.lemmas.Bool.Decides.{nat_tests}
 use Rattle.std.proofs.lemmas.List.Sums.{fails_before_first, sum_by-cons}

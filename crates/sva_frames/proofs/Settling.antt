@@ -1,4 +1,5 @@
-use Rattle.std.proofs.Common.{◌≡◌, ◌≢◌, ℕ, ◌<◌, ◌==◌, true, List, Option, Some, None, [], ◌∷◌, get_or, set, map, slice_get, is_some, refl, sym, ap, ◌∙◌, ⊎_elim, arith, zero, suc, count_by, get_or-set_same}
+use Rattle.std.proofs.Common.{◌≡◌, ◌≢◌, ℕ, ◌<◌, ◌==◌, true, List, Option, Some, None, [], ◌∷◌, get_or, set, map, slice_get, is_some, refl, sym, ap, ◌∙◌}
+use Rattle.std.proofs.Common.{⊎_elim, arith, zero, suc, count_by, get_or-set_same}
 use Rattle.std.specs.List.{sum_by}
 use Rattle.std.specs.Option.{option_map}
 use Rattle.std.proofs.lemmas.Bool.{cases_eq}
@@ -59,7 +60,8 @@ settle_kept hs n u waits t left keeps takes here there =
 
     before : get_or (map (settled u left) hs) n Free ≡ after_waits (set waits u None)
     before =
-        get_or_from_slice_get (map (settled u left) hs) n (settled u left (Withheld waits)) Free (slice_get-map (settled u left) hs n ∙ ap (option_map (settled u left)) here)
+        get_or_from_slice_get (map (settled u left) hs) n (settled u left (Withheld waits)) Free (slice_get-map (settled u left) hs n
+        ∙ ap (option_map (settled u left)) here)
         ∙ ap (λ o. after_waits (set waits u (left o))) (get_or_from_slice_get waits u (Some t) None there)
         ∙ ap (λ o. after_waits (set waits u o)) takes
 
@@ -82,7 +84,8 @@ past_other c (Some (Cookie d)) other =
 
 pub settle_done :
     (hs : List Holding) (u : ℕ) (left : Option Target → Option Target) →
-    ((n : ℕ) (waits : List (Option Target)) → slice_get hs n ≡ Some (Withheld waits) → (has_target waits ≡ true) × (left (get_or waits u None) ≡ get_or waits u None)) →
+    ((n : ℕ) (waits : List (Option Target)) → slice_get hs n ≡ Some (Withheld waits) → (has_target waits ≡ true)
+    × (left (get_or waits u None) ≡ get_or waits u None)) →
     map (settled u left) hs ≡ hs
 settle_done [] u left done = refl
 settle_done (Free ∷ hs) u left done = ap (λ rest. Free ∷ rest) (settle_done hs u left (λ n. done (suc n)))
@@ -97,7 +100,8 @@ settle_done (Withheld waits ∷ hs) u left done =
 
 -- what `settle_one` says where it finds no frame
 abbrev pub NoneLeft : List Holding → ℕ → Option Target → Type 0
-NoneLeft hs u wanted = (n : ℕ) (waits : List (Option Target)) → slice_get hs n ≡ Some (Withheld waits) → (has_target waits ≡ true) × ((t : Target) → IsWanted wanted t → slice_get waits u ≡ Some (Some t) → ⊥)
+NoneLeft hs u wanted = (n : ℕ) (waits : List (Option Target)) → slice_get hs n ≡ Some (Withheld waits) → (has_target waits ≡ true)
+    × ((t : Target) → IsWanted wanted t → slice_get waits u ≡ Some (Some t) → ⊥)
 
 pub cookie_done : (hs : List Holding) (u c : ℕ) → NoneLeft hs u (Some (Cookie c)) → map (settled u (past_cookie c)) hs ≡ hs
 cookie_done hs u c none = settle_done hs u (past_cookie c) (λ n waits there.

@@ -1,4 +1,5 @@
-use Rattle.std.proofs.Common.{◌↔◌, IsTrue, is_some, ◌≤◌, ◌≡◌, ◌≢◌, ℕ, ◌<◌, ◌==◌, true, false, List, Option, Some, None, [], ◌∷◌, ◌++◌, length, slice_get, refl, sym, ap, subst, ◌∙◌, arith, zero, suc, get_or, ⊎_elim, if◌then◌else◌}
+use Rattle.std.proofs.Common.{◌↔◌, IsTrue, is_some, ◌≤◌, ◌≡◌, ◌≢◌, ℕ, ◌<◌, ◌==◌, true, false, List, Option, Some, None, [], ◌∷◌, ◌++◌, length, slice_get}
+use Rattle.std.proofs.Common.{refl, sym, ap, subst, ◌∙◌, arith, zero, suc, get_or, ⊎_elim, if◌then◌else◌}
 use Rattle.std.specs.List.{remove}
 use Rattle.std.specs.Option.{IfNone, IfSome}
 use Rattle.std.proofs.lemmas.Bool.Decides.{nat_tests}
@@ -28,7 +29,8 @@ pub by_head :
     (P : Option ℕ → Type 0) (e : Pending) (es : List Pending) (c : ℕ) → (e.cookie ≡ c → P (Some e.first)) → (e.cookie ≢ c → P (first_of es c)) →
     P (first_of (e ∷ es) c)
 by_head P e es c here later =
-    ⊎_elim (λ (same : e.cookie ≡ c). subst P (sym (first_here e es c same)) (here same)) (λ (other : e.cookie ≢ c). subst P (sym (first_later e es c other)) (later other)) (cases_eq e.cookie c)
+    ⊎_elim (λ (same : e.cookie ≡ c). subst P (sym (first_here e es c same)) (here same))
+    (λ (other : e.cookie ≢ c). subst P (sym (first_later e es c other)) (later other)) (cases_eq e.cookie c)
 
 -- no entry has the cookie
 pub not_found : (es : List Pending) (c : ℕ) → ((i : ℕ) (e : Pending) → slice_get es i ≡ Some e → e.cookie ≢ c) → first_of es c ≡ None
@@ -41,7 +43,8 @@ apart es a b n none some same = let both : first_of es a ≡ first_of es b = ap 
 
 pub first_at_place : (es : List Pending) (i : ℕ) (e : Pending) → AreApart es → slice_get es i ≡ Some e → first_of es e.cookie ≡ Some e.first
 first_at_place [] i e apart_all here = absurd (cc)
-first_at_place (x ∷ xs) zero e apart_all here = let same : x ≡ e = same_Some x e here in first_here x xs e.cookie (ap (λ (p : Pending). p.cookie) same) ∙ ap (λ (p : Pending). Some p.first) same
+first_at_place (x ∷ xs) zero e apart_all here = let same : x ≡ e =
+    same_Some x e here in first_here x xs e.cookie (ap (λ (p : Pending). p.cookie) same) ∙ ap (λ (p : Pending). Some p.first) same
 first_at_place (x ∷ xs) (suc i) e apart_all here =
     let later : first_of xs e.cookie ≡ Some e.first = first_at_place xs i e apart_all.1 here in
     first_later x xs e.cookie (apart xs x.cookie e.cookie e.first apart_all.0 later) ∙ later

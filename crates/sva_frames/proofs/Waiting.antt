@@ -1,4 +1,5 @@
-use Rattle.std.proofs.Common.{◌≡◌, ℕ, ◌+◌, ◌≤◌, ◌==◌, Bool, true, false, ◌||◌, ◌&&◌, List, Option, Some, None, [], ◌∷◌, ◌++◌, get_or, set, is_some, refl, sym, ap, ◌∙◌, arith, zero, suc, if◌then◌else◌}
+use Rattle.std.proofs.Common.{◌≡◌, ℕ, ◌+◌, ◌≤◌, ◌==◌, Bool, true, false, ◌||◌, ◌&&◌, List, Option, Some, None, [], ◌∷◌, ◌++◌, get_or, set, is_some, refl}
+use Rattle.std.proofs.Common.{sym, ap, ◌∙◌, arith, zero, suc, if◌then◌else◌}
 use Rattle.std.specs.List.{list_any}
 use Rattle.std.proofs.lemmas.Bool.Decides.{nat_tests}
 use Rattle.sva_frames.specs.declared.waits.Target.{Target}
@@ -49,7 +50,8 @@ settled-after_waits unit left waits keeps = by_test (has_target waits) refl
   where
     by_test : (b : Bool) → has_target waits ≡ b → settled unit left (after_waits waits) ≡ after_waits (set waits unit (left (get_or waits unit None)))
     by_test true some = ap (settled unit left) (after_waits-some waits some)
-    by_test false none = ap (settled unit left) (after_waits-none waits none) ∙ sym (after_waits-none (set waits unit (left (get_or waits unit None))) (set_none waits unit left keeps none))
+    by_test false none = ap (settled unit left) (after_waits-none waits none)
+        ∙ sym (after_waits-none (set waits unit (left (get_or waits unit None))) (set_none waits unit left keeps none))
 
 -- with no calls nothing is settled
 pub unsettled-nil : (unit : ℕ) (waits : List (Option Target)) → unsettled [] unit waits ≡ waits
@@ -76,7 +78,8 @@ unsettled-append xs ys unit (Some target ∷ waits) =
   where
     by_test :
         (b : Bool) → unsettled (xs ++ ys) (unit + 1) waits ≡ unsettled ys (unit + 1) (unsettled xs (unit + 1) waits) →
-        ((if (b || list_any (settles unit target) ys) then None else Some target) ∷ unsettled (xs ++ ys) (unit + 1) waits) ≡ unsettled ys unit ((if b then None else Some target) ∷ unsettled xs (unit + 1) waits)
+        ((if (b || list_any (settles unit target) ys) then None else Some target) ∷ unsettled (xs ++ ys) (unit + 1) waits)
+        ≡ unsettled ys unit ((if b then None else Some target) ∷ unsettled xs (unit + 1) waits)
     by_test true rest = ap (λ ws. None ∷ ws) rest
     by_test false rest = ap (λ ws. (if list_any (settles unit target) ys then None else Some target) ∷ ws) rest
 
@@ -109,17 +112,21 @@ pub unsettled-event :
     unit ≡ first + index → set waits index (left (get_or waits index None)) ≡ unsettled (call ∷ []) first waits
 unsettled-event call unit first index left [] is same = refl
 unsettled-event call unit first zero left (None ∷ waits) is same =
-    ap (λ t. t ∷ waits) is.nothing ∙ ap (λ ws. None ∷ ws) (sym (unsettled_same call (first + 1) waits (λ at target above. is.elsewhere at target (λ e. omega arith))))
+    ap (λ t. t ∷ waits) is.nothing
+    ∙ ap (λ ws. None ∷ ws) (sym (unsettled_same call (first + 1) waits (λ at target above. is.elsewhere at target (λ e. omega arith))))
 unsettled-event call unit first zero left (Some target ∷ waits) is same =
     let at_first : unit ≡ first = omega arith in
-    ap (λ t. t ∷ waits) (is.here target ∙ ap (λ u. if settles u target call then None else Some target) at_first ∙ ap (λ b. if b then None else Some target) (sym (or-false (settles first target call))))
+    ap (λ t. t ∷ waits) (is.here target ∙ ap (λ u. if settles u target call then None else Some target) at_first
+    ∙ ap (λ b. if b then None else Some target) (sym (or-false (settles first target call))))
     ∙ ap (λ ws. (if (settles first target call || false) then None else Some target) ∷ ws)
     (sym (unsettled_same call (first + 1) waits (λ at target above. is.elsewhere at target (λ e. omega arith))))
 unsettled-event call unit first (suc index) left (None ∷ waits) is same =
     ap (λ ws. None ∷ ws) (unsettled-event call unit (first + 1) index left waits is (omega arith))
 unsettled-event call unit first (suc index) left (Some target ∷ waits) is same =
-    ap (λ b. (if (b || false) then None else Some target) ∷ set waits index (left (get_or waits index None))) (sym (is.elsewhere first target (λ e. omega arith)))
-    ∙ ap (λ ws. (if (settles first target call || false) then None else Some target) ∷ ws) (unsettled-event call unit (first + 1) index left waits is (omega arith))
+    ap (λ b. (if (b || false) then None else Some target) ∷ set waits index (left (get_or waits index None)))
+    (sym (is.elsewhere first target (λ e. omega arith)))
+    ∙ ap (λ ws. (if (settles first target call || false) then None else Some target) ∷ ws)
+    (unsettled-event call unit (first + 1) index left waits is (omega arith))
 
 yes_same : (n : ℕ) → true ≡ (n == n)
 yes_same n = grind (arith, nat_tests)

@@ -1,4 +1,5 @@
-use Rattle.std.specs.Prelude.{◌≡◌, ℕ, ◌+◌, ◌==◌, Bool, false, ◌&&◌, ⊤, List, [], ◌∷◌, Option, Some, None, length, map, replicate, slice_get, slice_set, position, if◌then◌else◌}
+use Rattle.std.specs.Prelude.{◌≡◌, ℕ, ◌+◌, ◌==◌, Bool, false, ◌&&◌, ⊤, List, [], ◌∷◌, Option, Some, None, length, map, replicate, slice_get, slice_set}
+use Rattle.std.specs.Prelude.{position, if◌then◌else◌}
 use Rattle.std.specs.List.{list_any}
 use Rattle.sva_frames.specs.declared.waits.Target.{Target}
 use Rattle.sva_frames.specs.declared.waits.Target.TheVariants.{Cookie, ResetEnd}

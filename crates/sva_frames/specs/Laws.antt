@@ -1,4 +1,5 @@
-use Rattle.std.specs.Prelude.{◌≡◌, ◌≢◌, ℕ, ◌+◌, ◌<◌, true, false, List, [], ◌∷◌, ◌++◌, Option, Some, None, length, slice_get, slice_set, slice_index_or, position, count_by, MatchOption}
+use Rattle.std.specs.Prelude.{◌≡◌, ◌≢◌, ℕ, ◌+◌, ◌<◌, true, false, List, [], ◌∷◌, ◌++◌, Option, Some, None, length, slice_get, slice_set, slice_index_or}
+use Rattle.std.specs.Prelude.{position, count_by, MatchOption}
 use Rattle.std.specs.List.{list_any}
 use Rattle.sva_frames.specs.declared.waits.Target.{Target}
 use Rattle.sva_frames.specs.declared.waits.TheConstants.{UNITS}

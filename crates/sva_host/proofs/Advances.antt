@@ -124,7 +124,8 @@ pub settles_next : (v : Wire) (n : ℕ) (b : BindingWire) → binding_of v n ≡
     → is_due (unit_of v b.endpoint) b.stage ≡ true → descriptors_of b.stage ≡ 0 → MayAdvance v n (Ok (course_by b b.stage))
 settles_next v n b found stays is_open due none = sym (opened v n b found stays is_open ∙ go b.stage stays due none)
   where
-    go : (s : StageWire) → is_quiet s ≡ false → is_due (unit_of v b.endpoint) s ≡ true → descriptors_of s ≡ 0 → unless (opened_causes v b s) (course_by b s) ≡ Ok (course_by b s)
+    go : (s : StageWire) → is_quiet s ≡ false → is_due (unit_of v b.endpoint) s ≡ true → descriptors_of s ≡ 0
+        → unless (opened_causes v b s) (course_by b s) ≡ Ok (course_by b s)
     go LiveWire stays is none = absurd (cc (is))
     go (StoppingWire marked) stays is none = absurd (omega (arith, none))
     go (DrainingWire cookie) stays is none = absurd (omega (arith, none))
@@ -157,7 +158,10 @@ pub queue_full : (v : Wire) (n : ℕ) (b : BindingWire) → binding_of v n ≡ S
 queue_full v n b found stays is_open due some closed full =
     sym
     (submits_next v n b found stays is_open due some closed
-    ∙ refuses (course_by b b.stage) [] (numbers_spent v.next_cookie 1 ∷ []) (not (has_room (unit_of v b.endpoint) (descriptors_of b.stage)), refusal.QueueFull) tt (ap not full))
+    ∙ refuses (course_by b b.stage) [] (numbers_spent v.next_cookie 1 ∷ []) (
+      not (has_room (unit_of v b.endpoint) (descriptors_of b.stage)),
+      refusal.QueueFull,
+    ) tt (ap not full))
 
 pub cookies_spent : (v : Wire) (n : ℕ) (b : BindingWire) → binding_of v n ≡ Some b → is_quiet b.stage ≡ false → (unit_of v b.endpoint).is_open ≡ true
     → is_due (unit_of v b.endpoint) b.stage ≡ true → (descriptors_of b.stage ≡ 0 → ⊥) → has_open_group (part_of v b.endpoint) b.binding ≡ false
@@ -165,7 +169,8 @@ pub cookies_spent : (v : Wire) (n : ℕ) (b : BindingWire) → binding_of v n �
 cookies_spent v n b found stays is_open due some closed room over =
     sym
     (submits_next v n b found stays is_open due some closed
-    ∙ refuses (course_by b b.stage) ((not (has_room (unit_of v b.endpoint) (descriptors_of b.stage)), refusal.QueueFull) ∷ []) [] (numbers_spent v.next_cookie 1) (ap not room, tt)
+    ∙ refuses (course_by b b.stage) ((not (has_room (unit_of v b.endpoint) (descriptors_of b.stage)), refusal.QueueFull) ∷ []) []
+    (numbers_spent v.next_cookie 1) (ap not room, tt)
     (spent (2 ^ 63) v.next_cookie over))
 
 pub goes_on : (v : Wire) (n : ℕ) (b : BindingWire) → binding_of v n ≡ Some b → is_quiet b.stage ≡ false → (unit_of v b.endpoint).is_open ≡ true
@@ -206,7 +211,8 @@ drain_stage b (InvalidatingWire cookie) e is = absurd (cc (is))
 drain_stage b QuietWire e is = absurd (cc (is))
 drain_stage b LostWire e is = absurd (cc (is))
 
-invalidate_stage : (b : BindingWire) (s : StageWire) (e t : ℕ) → course_by b s ≡ Invalidate e t → (c : ℕ) × (s ≡ DrainingWire c) × (b.endpoint ≡ e) × (b.pasid ≡ t)
+invalidate_stage : (b : BindingWire) (s : StageWire) (e t : ℕ) → course_by b s ≡ Invalidate e t → (c : ℕ) × (s ≡ DrainingWire c) × (b.endpoint ≡ e)
+    × (b.pasid ≡ t)
 invalidate_stage b LiveWire e t is = absurd (cc (is))
 invalidate_stage b (StoppingWire m) e t is = absurd (cc (is))
 invalidate_stage b (DrainingWire cookie) e t is = let home : b.endpoint ≡ e = cc in let pasid : b.pasid ≡ t = cc in (cookie, refl, home, pasid)
@@ -289,10 +295,12 @@ drains v n e may =
       is_open = ap (λ x. (unit_of v x).is_open) (sym home) ∙ not_false (unit_of v b.endpoint).is_open clear.0;
       room = ap (λ x. has_room (unit_of v x) 1) (sym home) ∙ not_false (has_room (unit_of v b.endpoint) 1) clear.1.1.0;
       cookies = not_spent (2 ^ 63) v.next_cookie clear.1.1.1.0;
-      decides = decided v n b (StoppingWire m) goes.found at goes.clear ∙ (λ i. record { reply = Ok answer.Draining; moves = Move.Drain (home i) (number_is v n b goes.found i) ∷ [] });
+      decides = decided v n b (StoppingWire m) goes.found at goes.clear
+          ∙ (λ i. record { reply = Ok answer.Draining; moves = Move.Drain (home i) (number_is v n b goes.found i) ∷ [] });
     }
 
-pub invalidates : (v : Wire) (n e t : ℕ) → MayAdvance v n (Ok (Invalidate e t)) → (c : ℕ) × Submits v n e 2 (DrainingWire c) answer.Invalidating (Move.Invalidate e n t)
+pub invalidates : (v : Wire) (n e t : ℕ) → MayAdvance v n (Ok (Invalidate e t)) → (c : ℕ)
+    × Submits v n e 2 (DrainingWire c) answer.Invalidating (Move.Invalidate e n t)
 invalidates v n e t may =
     let goes = is_going v n (Invalidate e t) may in
     let b = goes.binding in
@@ -307,7 +315,8 @@ invalidates v n e t may =
         is_open = ap (λ x. (unit_of v x).is_open) (sym home) ∙ not_false (unit_of v b.endpoint).is_open clear.0;
         room = ap (λ x. has_room (unit_of v x) 2) (sym home) ∙ not_false (has_room (unit_of v b.endpoint) 2) clear.1.1.0;
         cookies = not_spent (2 ^ 63) v.next_cookie clear.1.1.1.0;
-        decides = decided v n b (DrainingWire c) goes.found at goes.clear ∙ (λ i. record { reply = Ok answer.Invalidating; moves = Move.Invalidate (home i) (number_is v n b goes.found i) (pasid i) ∷ [] });
+        decides = decided v n b (DrainingWire c) goes.found at goes.clear
+            ∙ (λ i. record { reply = Ok answer.Invalidating; moves = Move.Invalidate (home i) (number_is v n b goes.found i) (pasid i) ∷ [] });
       },
     )
 
@@ -322,22 +331,32 @@ pub port_for : (v : Wire) (n e k : ℕ) (stage : StageWire) (a : Answer) (m : Mo
 port_for v n e k stage a m sound is = (refl, less_true e (length v.parts) (home_is v n e k stage a m sound is))
 
 -- its stage stands in its place
-pub seen_there : (host : Inside) (v : Wire) (n e k : ℕ) (stage : StageWire) (a : Answer) (m : Move) → IsHost host → wire_of host ≡ v → Submits v n e k stage a m → IsSeenIn stage n host.bindings
+pub seen_there : (host : Inside) (v : Wire) (n e k : ℕ) (stage : StageWire) (a : Answer) (m : Move) → IsHost host → wire_of host ≡ v
+    → Submits v n e k stage a m → IsSeenIn stage n host.bindings
 seen_there host v n e k stage a m h view is =
     subst (λ (s : StageWire). IsSeenIn s n host.bindings) is.at (stage_there host v n is.binding h view is.found)
 
 -- and both have changed
 pub submitted :
-    (host : Inside) (v : Wire) (n e k : ℕ) (stage : StageWire) (a : Answer) (m : Move) (ds : ℕ → List Descriptor) (next : ℕ → StageWire) (port : Port) (items : List Port) (after : List Place)
+    (host : Inside) (v : Wire) (n e k : ℕ) (stage : StageWire) (a : Answer) (m : Move) (ds : ℕ → List Descriptor) (next : ℕ → StageWire)
+    (port : Port) (items : List Port) (after : List Place)
     → wire_of host ≡ v
     → Submits v n e k stage a m
     → IsPort host e port
-    → items ≡ slice_set host.ports.items e (record port { unit = seen.with_unit port.unit (with_descriptors port.unit.unit (ds host.next_cookie) host.next_cookie) })
+    → items ≡ slice_set host.ports.items e (record port {
+      unit =
+          seen.with_unit port.unit (with_descriptors port.unit.unit (ds host.next_cookie) host.next_cookie);
+    })
     → MovesTo (next host.next_cookie) n host.bindings after
-    → ((w : Wire) → moved w m ≡ record (with_unit w e (with_descriptors (unit_of w e) (ds w.next_cookie) w.next_cookie)) { bindings = with_stage n (next w.next_cookie) w.bindings; next_cookie = w.next_cookie + 1 })
+    → ((w : Wire) → moved w m ≡ record (with_unit w e (with_descriptors (unit_of w e) (ds w.next_cookie) w.next_cookie)) {
+      bindings =
+          with_stage n (next w.next_cookie) w.bindings;
+      next_cookie = w.next_cookie + 1;
+    })
     → ByLabels v (step.Advance n) (Ok a) (wire_of (record host { ports = record { items = items }; bindings = after; next_cookie = host.next_cookie + 1 }))
 submitted host v n e k stage a m ds next port items after view is there written moves by =
-    subst (λ (d : Decision). Does d v (Ok a) (wire_of (record host { ports = record { items = items }; bindings = after; next_cookie = host.next_cookie + 1 }))) (sym is.decides)
+    subst (λ (d : Decision). Does d v (Ok a)
+    (wire_of (record host { ports = record { items = items }; bindings = after; next_cookie = host.next_cookie + 1 }))) (sym is.decides)
     (refl, done ∙ ap (λ (w : Wire). all_moved w (m ∷ [])) view)
   where
     done : wire_of (record host { ports = record { items = items }; bindings = after; next_cookie = host.next_cookie + 1 }) ≡ moved (wire_of host) m
@@ -368,7 +387,8 @@ settles v n course may is =
       found = goes.found;
       cookie = c;
       at = at;
-      decides = decided v n b (InvalidatingWire c) goes.found at goes.clear ∙ (λ i. record { reply = Ok answer.Quiet; moves = Move.Quieten (number_is v n b goes.found i) ∷ [] });
+      decides = decided v n b (InvalidatingWire c) goes.found at goes.clear
+          ∙ (λ i. record { reply = Ok answer.Quiet; moves = Move.Quieten (number_is v n b goes.found i) ∷ [] });
     }
 
 pub record Releases (v : Wire) (n : ℕ) : Type 0 where
@@ -386,7 +406,8 @@ releases v n course may is =
       binding = b;
       found = goes.found;
       at = at;
-      decides = decided v n b QuietWire goes.found at goes.clear ∙ (λ i. record { reply = Ok answer.Released; moves = Move.Release (number_is v n b goes.found i) ∷ [] });
+      decides = decided v n b QuietWire goes.found at goes.clear
+          ∙ (λ i. record { reply = Ok answer.Released; moves = Move.Release (number_is v n b goes.found i) ∷ [] });
     }
 
 pub invalidating_there : (host : Inside) (v : Wire) (n : ℕ) → IsHost host → wire_of host ≡ v → Settles v n → IsIn Kind.invalidating n host.bindings
@@ -426,7 +447,8 @@ not_draining v n b found other = sym (ap (held_up v) found ∙ go b.stage other)
     go QuietWire is = refl
     go LostWire is = refl
 
-pub is_held : (v : Wire) (n : ℕ) (b : BindingWire) (is_open : Bool) → binding_of v n ≡ Some b → is_draining b.stage ≡ true → (unit_of v b.endpoint).is_open ≡ is_open
+pub is_held : (v : Wire) (n : ℕ) (b : BindingWire) (is_open : Bool) → binding_of v n ≡ Some b → is_draining b.stage ≡ true
+    → (unit_of v b.endpoint).is_open ≡ is_open
     → Some (if is_open then refusal.NotYet else refusal.Resetting) ≡ held_up v (binding_of v n)
 is_held v n b is_open found draining opened =
     sym (ap (held_up v) found ∙ go b.stage draining ∙ ap (λ (o : Bool). Some (if o then refusal.NotYet else refusal.Resetting)) opened)

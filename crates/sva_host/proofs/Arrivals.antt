@@ -15,13 +15,15 @@ use Rattle.sva_labels.specs.Finding.{device_of, unit_of, flight_of, may_deliver,
 use Rattle.sva_labels.specs.Causes.{lacks, delivery_sends, deliver_causes}
 use Rattle.sva_labels.specs.Host.{Decision, checked, decide_of}
 use Rattle.sva_labels.specs.Moves.{Move, moved, delivered, with_device, with_pasid, taking, extent_in, extent_or_all}
-use Rattle.sva_labels.specs.Outcomes.{Result as Outcome, by_one, message_result, deliver_result, completion_result, completion_by, keep_result, is_full, response_said}
+use Rattle.sva_labels.specs.Outcomes.{Result as Outcome, by_one, message_result, deliver_result, completion_result, completion_by, keep_result, is_full}
+use Rattle.sva_labels.specs.Outcomes.{response_said}
 use Rattle.sva_msg.specs.declared.messages.Code.{Code}
 use Rattle.sva_msg.specs.declared.messages.Code.TheVariants.{Success, InvalidRequest, ResponseFailure}
 use Rattle.sva_msg.specs.declared.messages.Scope.{Scope}
 use Rattle.sva_msg.specs.declared.messages.Scope.TheVariants as scope
 use Rattle.sva_msg.specs.declared.messages.Kind.{Kind}
-use Rattle.sva_msg.specs.declared.messages.Kind.TheVariants.{Start, Stop, Reset, Completion, Invalidate, Response, Request, Invalidated, PageRequest, Marker, ResetDone}
+use Rattle.sva_msg.specs.declared.messages.Kind.TheVariants.{Start, Stop, Reset, Completion, Invalidate, Response, Request, Invalidated, PageRequest}
+use Rattle.sva_msg.specs.declared.messages.Kind.TheVariants.{Marker, ResetDone}
 use Rattle.sva_msg.specs.declared.messages.Message.{Message as Sent}
 use Rattle.sva_msg.specs.Bag.{IsNumbered, MayDeliver, message_at, without}
 use Rattle.sva_cache.specs.Coverage.{extent_of, pages_of}
@@ -42,7 +44,8 @@ use Rattle.sva_host.proofs.Devices.{device_there}
 
 -- What is found.
 
-pub flight_found : (host : Inside) (n : ℕ) (sent : Sent) → IsNumbered host.in_flight → Some sent ≡ message_at host.in_flight n → flight_of (wire_of host) n ≡ Some (flight_seen (n, sent))
+pub flight_found : (host : Inside) (n : ℕ) (sent : Sent) → IsNumbered host.in_flight → Some sent ≡ message_at host.in_flight n
+    → flight_of (wire_of host) n ≡ Some (flight_seen (n, sent))
 flight_found host n sent numbered found = (flight_laws host.in_flight numbered).by_number n ∙ ap (flight_at n) (sym found)
 
 decided : (host : Inside) (n : ℕ) (o : Option FlightWire) → flight_of (wire_of host) n ≡ o
@@ -65,7 +68,8 @@ is_not_false false h = absurd (h refl)
 never : false ≡ true → ⊥
 never h = cc
 
-pub overtakes : (host : Inside) (v : Wire) (n : ℕ) (sent : Sent) (may : Bool) → wire_of host ≡ v → IsNumbered host.in_flight → Some sent ≡ message_at host.in_flight n
+pub overtakes : (host : Inside) (v : Wire) (n : ℕ) (sent : Sent) (may : Bool) → wire_of host ≡ v → IsNumbered host.in_flight → Some sent
+    ≡ message_at host.in_flight n
     → (MayDeliver host.in_flight n → IsTrue may) → may ≡ false
     → ByLabels v (step.Deliver n) (Err refusal.Overtakes) v
 overtakes host v n sent may view numbered found tells not_may =
@@ -103,7 +107,8 @@ arrived : (host : Inside) (e n : ℕ) (port : Port) (tables : Tables) (a : Answe
     → device_seen tables ≡ d
     → ByLabels (wire_of host) (step.Deliver n) (Ok a) (wire_of (record (with_tables host e port tables) { in_flight = without host.in_flight n }))
 arrived host e n port tables a m d numbered is decides moves same =
-    subst (λ (c : Decision). Does c (wire_of host) (Ok a) (wire_of (record (with_tables host e port tables) { in_flight = without host.in_flight n }))) (sym decides)
+    subst (λ (c : Decision). Does c (wire_of host) (Ok a)
+    (wire_of (record (with_tables host e port tables) { in_flight = without host.in_flight n }))) (sym decides)
     (refl, after ∙ sym moves)
   where
     after : wire_of (record (with_tables host e port tables) { in_flight = without host.in_flight n }) ≡ delivered n (with_device (wire_of host) e d)
@@ -116,12 +121,19 @@ accepted : (host : Inside) (e n : ℕ) (kind : Kind) → flight_of (wire_of host
     → (r : Outcome) → message_result (wire_of host) e n (kind_seen kind) ≡ r
     → decide_of (wire_of host) (step.Deliver n) ≡ record { reply = Ok r.answer; moves = r.moves }
 accepted host e n kind found may quiet r result =
-    decided host n _ found ∙ go (may_deliver (wire_of host) (flight_seen (n, record { endpoint = e; kind = kind }))) (delivery_sends (unit_of (wire_of host) e) (kind_seen kind)) may quiet
+    decided host n _ found
+    ∙ go (may_deliver (wire_of host) (flight_seen (n, record { endpoint = e; kind = kind })))
+    (delivery_sends (unit_of (wire_of host) e) (kind_seen kind)) may quiet
     ∙ ap (λ (s : Outcome). record { reply = Ok s.answer; moves = s.moves }) result
   where
     go : (b c : Bool) → b ≡ true → c ≡ false
-        → checked ((not b, refusal.Overtakes) ∷ (c && lacks (wire_of host).next_message 1, refusal.NumbersSpent) ∷ []) (message_result (wire_of host) e n (kind_seen kind))
-        ≡ record { reply = Ok (message_result (wire_of host) e n (kind_seen kind)).answer; moves = (message_result (wire_of host) e n (kind_seen kind)).moves }
+        → checked ((not b, refusal.Overtakes) ∷ (c && lacks (wire_of host).next_message 1, refusal.NumbersSpent) ∷ [])
+        (message_result (wire_of host) e n (kind_seen kind))
+        ≡ record {
+          reply = Ok (message_result (wire_of host) e n (kind_seen kind)).answer;
+          moves =
+              (message_result (wire_of host) e n (kind_seen kind)).moves;
+        }
     go true false b c = refl
     go true true b c = absurd (never (sym c))
     go false c b _ = absurd (never b)
@@ -160,7 +172,8 @@ completion_move d e n tag f read x None = Move.Ignore n
 completion_move d e n tag f read x (Some r) = move_by d e n tag f read x r.is_doomed r
 
 kept_result : (e n tag f : ℕ) (x : Bool) (r : RequestWire) (full : Bool)
-    → keep_result e n tag (record { pasid = r.pasid; page = r.page; frame = f; write = x }) full ≡ by_one (if full then answer.Full else answer.Held) (keep_move e n tag f x r full)
+    → keep_result e n tag (record { pasid = r.pasid; page = r.page; frame = f; write = x }) full
+    ≡ by_one (if full then answer.Full else answer.Held) (keep_move e n tag f x r full)
 kept_result e n tag f x r true = refl
 kept_result e n tag f x r false = refl
 
@@ -199,11 +212,13 @@ pub deliver_done : (host : Inside) (e n : ℕ) (kind : Kind) (port : Port) → I
     → ByLabels (wire_of host) (step.Deliver n) (Ok (answer_to port.device kind))
     (wire_of (record (with_tables host e port (after_receive port.device kind)) { in_flight = without host.in_flight n }))
 deliver_done host e n (Start t) port numbered is found may down =
-    arrived host e n port (after_receive port.device (Start t)) answer.Started (Move.StartArrives e n t) (with_pasid t DeviceState.On (device_of (wire_of host) e)) numbered is
+    arrived host e n port (after_receive port.device (Start t)) answer.Started (Move.StartArrives e n t)
+    (with_pasid t DeviceState.On (device_of (wire_of host) e)) numbered is
     (accepted host e n (Start t) found may refl _ refl) refl
     (start_is_seen port.device t is.sound ∙ ap (with_pasid t DeviceState.On) (sym (device_there host e port is)))
 deliver_done host e n (Stop t) port numbered is found may down =
-    arrived host e n port (after_receive port.device (Stop t)) answer.Stopping (Move.StopArrives e n t) (with_pasid t DeviceState.Ending (device_of (wire_of host) e)) numbered is
+    arrived host e n port (after_receive port.device (Stop t)) answer.Stopping (Move.StopArrives e n t)
+    (with_pasid t DeviceState.Ending (device_of (wire_of host) e)) numbered is
     (accepted host e n (Stop t) found may refl _ refl) refl
     (stop_is_seen port.device t is.sound ∙ ap (with_pasid t DeviceState.Ending) (sym (device_there host e port is)))
 deliver_done host e n (Completion tag f read x) port numbered is found may down =
@@ -226,12 +241,17 @@ deliver_done host e n (Invalidate itag t s) port numbered is found may down =
 deliver_done host e n (Response t k code) port numbered is found may down =
     let device = device_there host e port is in
     let seen = response_is_seen port.device t k code is.sound in
-    arrived host e n port (after_receive port.device (Response t k code)) (answer_to port.device (Response t k code)) (Move.Answered e n k (code_seen code)) _ numbered is
+    arrived host e n port (after_receive port.device (Response t k code)) (answer_to port.device (Response t k code))
+    (Move.Answered e n k (code_seen code)) _ numbered is
     (accepted host e n (Response t k code) found may refl _ refl
     ∙ ap (λ (a : Answer). record { reply = Ok a; moves = Move.Answered e n k (code_seen code) ∷ [] })
     (ap (λ (c : DeviceWire). response_said (group_at c k)) device ∙ sym seen.said))
     refl
-    (seen.after ∙ (λ i. record (sym device i) { groups = slice_set (sym device i).groups k None; is_disabled = (sym device i).is_disabled || failure_same code i }))
+    (seen.after ∙ (λ i. record (sym device i) {
+      groups = slice_set (sym device i).groups k None;
+      is_disabled =
+          (sym device i).is_disabled || failure_same code i;
+    }))
 deliver_done host e n Reset port numbered is found may down = absurd down
 deliver_done host e n (Request tag t q) port numbered is found may down = absurd down
 deliver_done host e n (Invalidated v c) port numbered is found may down = absurd down
@@ -240,7 +260,8 @@ deliver_done host e n (Marker t) port numbered is found may down = absurd down
 deliver_done host e n ResetDone port numbered is found may down = absurd down
 
 -- the message that was found arrives
-pub arrives : (host : Inside) (v : Wire) (n : ℕ) (sent : Sent) (kind : Kind) (may : Bool) → wire_of host ≡ v → IsNumbered host.in_flight → Some sent ≡ message_at host.in_flight n
+pub arrives : (host : Inside) (v : Wire) (n : ℕ) (sent : Sent) (kind : Kind) (may : Bool) → wire_of host ≡ v → IsNumbered host.in_flight → Some sent
+    ≡ message_at host.in_flight n
     → (IsTrue may → MayDeliver host.in_flight n) → may ≡ true → sent.kind ≡ kind → IsArriving v n sent.endpoint kind
 arrives host v n sent kind may view numbered found tells is same =
     subst (λ (k : Kind). IsArriving v n sent.endpoint k) same

@@ -30,7 +30,8 @@ stands n (g ∷ fs) f is = go (g.number == n) is (stands n fs f)
     go false same rest = let (k, there) = rest same in (suc k, there)
 
 -- it may be taken out of the bag
-pub may_take : (host : Inside) (v : Wire) (n e : ℕ) (kind : Kind) → wire_of host ≡ v → IsNumbered host.in_flight → IsArriving v n e kind → MayDeliver host.in_flight n
+pub may_take : (host : Inside) (v : Wire) (n e : ℕ) (kind : Kind) → wire_of host ≡ v → IsNumbered host.in_flight → IsArriving v n e kind
+    → MayDeliver host.in_flight n
 may_take host v n e kind view numbered arriving = go (message_at host.in_flight n) refl
   where
     is_false : (b : Bool) → not b ≡ true → b ≡ false

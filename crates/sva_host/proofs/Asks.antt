@@ -46,11 +46,14 @@ pub ask_refused : (host : Inside) (e t q : ℕ) (port : Port) (x : Refusal) → 
     → ByLabels (wire_of host) (step.Ask e t q) (Err x) (wire_of host)
 ask_refused host e t q port x is refuses =
     subst (λ (d : Decision). Does d (wire_of host) (Err x) (wire_of host)) (sym (decided host e t q port is))
-    (refused_by _ (refusals_of_ask port.device t q) (numbers_spent host.in_flight.next 1 ∷ []) (result_of (wire_of host) (step.Ask e t q)) (wire_of host) x (tt, (tt, (tt, tt))) (sym refuses))
+    (refused_by _ (refusals_of_ask port.device t q) (numbers_spent host.in_flight.next 1 ∷ []) (result_of (wire_of host) (step.Ask e t q))
+    (wire_of host) x (tt, (tt, (tt, tt))) (sym refuses))
 
 may : (host : Inside) (e t q : ℕ) (port : Port) (a : Asking) → IsPort host e port → Ok a ≡ asking port.device t q
     → decide_of (wire_of host) (step.Ask e t q) ≡ checked (numbers_spent host.in_flight.next 1 ∷ []) (result_of (wire_of host) (step.Ask e t q))
-may host e t q port a is allows = decided host e t q port is ∙ passed _ a (refusals_of_ask port.device t q) (numbers_spent host.in_flight.next 1 ∷ []) (result_of (wire_of host) (step.Ask e t q)) (sym allows)
+may host e t q port a is allows =
+    decided host e t q port is
+    ∙ passed _ a (refusals_of_ask port.device t q) (numbers_spent host.in_flight.next 1 ∷ []) (result_of (wire_of host) (step.Ask e t q)) (sym allows)
 
 pub ask_unsent : (host : Inside) (e t q : ℕ) (port : Port) (a : Asking) (bag : InFlight) (x : Refusal) → IsPort host e port → Ok a ≡ asking port.device t q
     → Sends host.in_flight e a.kind 1 (Err x) bag
@@ -67,11 +70,16 @@ ask_done host e t q port a bag is allows sends =
     let device = device_there host e port is in
     let seen = request_is_seen port.device t q is.sound in
     let same = given _ a (refusals_of_ask port.device t q) (sym allows) in
-    let clear = all_clear (record { tag = lowest_tag port.device; kind = Request (lowest_tag port.device) t q }) a (listed (device_of (wire_of host) e) t q) (ap (λ (cs : List Cause). unless cs (record { tag = lowest_tag port.device; kind = Request (lowest_tag port.device) t q })) (causes_seen host e t q port is) ∙ sym allows) in
-    let tag = ap (λ (d : DeviceWire). lowest_label d.tags) device ∙ seen.tag (ap (λ (d : DeviceWire). is_none (lowest_label d.tags)) (sym device) ∙ clear.1.1.0) in
+    let clear = all_clear (record { tag = lowest_tag port.device; kind = Request (lowest_tag port.device) t q }) a
+    (listed (device_of (wire_of host) e) t q) (ap
+    (λ (cs : List Cause). unless cs (record { tag = lowest_tag port.device; kind = Request (lowest_tag port.device) t q }))
+    (causes_seen host e t q port is) ∙ sym allows) in
+    let tag = ap (λ (d : DeviceWire). lowest_label d.tags) device
+    ∙ seen.tag (ap (λ (d : DeviceWire). is_none (lowest_label d.tags)) (sym device) ∙ clear.1.1.0) in
     let n = lowest_tag port.device in
     sent_done host (step.Ask e t q) e port (after_ask port.device t q) (Request n t q) bag (answer.Tag n) (Move.Ask e t q n) _ is
-    (may host e t q port a is allows ∙ ap (λ l. checked (numbers_spent host.in_flight.next 1 ∷ []) (by_one (answer.Tag (label l)) (Move.Ask e t q (label l)))) tag)
+    (may host e t q port a is allows
+    ∙ ap (λ l. checked (numbers_spent host.in_flight.next 1 ∷ []) (by_one (answer.Tag (label l)) (Move.Ask e t q (label l)))) tag)
     (subst (λ (k : Kind). Sends host.in_flight e k 1 (Ok tt) bag) (sym (ap (λ (b : Asking). b.kind) same)) sends)
     refl
     (seen.after ∙ ap (λ (d : DeviceWire). record d { tags = slice_set d.tags n (Some (record { pasid = t; page = q; is_doomed = false })) }) (sym device))

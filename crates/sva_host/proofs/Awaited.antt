@@ -27,8 +27,10 @@ use Rattle.sva_host.proofs.TakenOut.{unit_there, bound_there, counted_there, cou
 abbrev pub target_at : Wire → (space endpoint : ℕ) → Option TargetWire
 target_at w n e = target_by (unit_of w e) (cookie_at w n e) (bound_at w e n)
 
-pub target_is : (host : Inside) (v : Wire) (e n cookie : ℕ) (slice : List Port) (d : Port) (o : Option Place) → wire_of host ≡ v → e < length host.ports.items → slice ≡ host.ports.items
-    → o ≡ place_between e n host.bindings → cookie ≡ cookie_at v n e → target_by (slice_index_or slice e d).unit.unit cookie (option_map binding_seen o) ≡ target_at v n e
+pub target_is : (host : Inside) (v : Wire) (e n cookie : ℕ) (slice : List Port) (d : Port) (o : Option Place) → wire_of host ≡ v → e
+    < length host.ports.items → slice ≡ host.ports.items
+    → o ≡ place_between e n host.bindings → cookie ≡ cookie_at v n e
+    → target_by (slice_index_or slice e d).unit.unit cookie (option_map binding_seen o) ≡ target_at v n e
 target_is host v e n cookie slice d o view there same found given =
     λ i. target_by (unit_there host v e slice d view there same i) (given i) (bound_there host v e n o view found i)
 
@@ -63,11 +65,13 @@ not_yet w n e = ap (λ (b : Bool). if b then target_at w n e else None) (itself 
     itself : (e : ℕ) → nat_lt e e ≡ false
     itself e = grind (arith, nat_tests)
 
-pub nothing_yet : (waits : List (Option Target)) (f : ℕ → Option TargetWire) (e : ℕ) → targets_seen waits ≡ tabulate 8 f → e < 8 → f e ≡ None → slice_get waits e ≡ Some None
+pub nothing_yet : (waits : List (Option Target)) (f : ℕ → Option TargetWire) (e : ℕ) → targets_seen waits ≡ tabulate 8 f → e < 8 → f e ≡ None
+    → slice_get waits e ≡ Some None
 nothing_yet waits f e is low none =
     let len : length waits ≡ 8 = sym (length-map waits (option_map target_seen)) ∙ ap length is ∙ tabulate_length 8 f in
     slice_get-get_or waits e None (omega arith)
-    ∙ ap Some (empty (slice_index_or waits e None) (sym (get_or-map (option_map target_seen) waits e None) ∙ ap (λ (l : List (Option TargetWire)). slice_index_or l e None) is ∙ tabulate_at 8 f e None low ∙ none))
+    ∙ ap Some (empty (slice_index_or waits e None) (sym (get_or-map (option_map target_seen) waits e None)
+    ∙ ap (λ (l : List (Option TargetWire)). slice_index_or l e None) is ∙ tabulate_at 8 f e None low ∙ none))
   where
     empty : (o : Option Target) → option_map target_seen o ≡ None → o ≡ None
     empty None is = refl
@@ -85,7 +89,8 @@ this_unit w n e = ap (λ (b : Bool). if b then target_at w n e else None) (there
     there : (e : ℕ) → nat_lt e (e + 1) ≡ true
     there e = grind (arith, nat_tests)
 
-pub one_more : (w : Wire) (n e : ℕ) (waits after : List (Option Target)) (t : Target) → targets_seen waits ≡ tabulate 8 (target_so_far w n e) → Some (target_seen t) ≡ target_at w n e
+pub one_more : (w : Wire) (n e : ℕ) (waits after : List (Option Target)) (t : Target) → targets_seen waits ≡ tabulate 8 (target_so_far w n e)
+    → Some (target_seen t) ≡ target_at w n e
     → after ≡ slice_set waits e (Some t) → targets_seen after ≡ tabulate 8 (target_so_far w n (e + 1))
 one_more w n e waits after t before is changed =
     ap targets_seen changed

@@ -39,7 +39,8 @@ borne host v t o view low high is =
   where
     decides : decide_of (wire_of host) (step.Bearer t) ≡ record { reply = Ok (said o); moves = [] }
     decides =
-        ap (λ (b : Bool). if b then record { reply = Err refusal.BadPasid; moves = [] } else record { reply = Ok (bearer_answer (wire_of host) t (find (λ b. b.pasid == t) (wire_of host).bindings)); moves = [] })
+        ap (λ (b : Bool). if b then record { reply = Err refusal.BadPasid; moves = [] }
+        else record { reply = Ok (bearer_answer (wire_of host) t (find (λ b. b.pasid == t) (wire_of host).bindings)); moves = [] })
         (within t low high)
         ∙ ap (λ (a : Answer). record { reply = Ok a; moves = [] })
         (said_by (wire_of host) t (find (λ b. b.pasid == t) (wire_of host).bindings)
@@ -58,5 +59,6 @@ counted_by t w b (Some x) is = by (record { space = x.space; bindings = count_by
 pub few_borne : (host : Inside) (v : Wire) (t : ℕ) (b : Bearer) → wire_of host ≡ v → IsSound v → Some b ≡ places.bearer_of t host.bindings → b.bindings ≤ 8
 few_borne host v t b view s is =
     subst (λ n. n ≤ 8)
-    (sym (counted_by t (wire_of host) b (find (λ b. b.pasid == t) (wire_of host).bindings) (is ∙ ((bindings_are_seen host.bindings).0 (wire_of host) refl).bearer t)))
+    (sym (counted_by t (wire_of host) b (find (λ b. b.pasid == t) (wire_of host).bindings)
+    (is ∙ ((bindings_are_seen host.bindings).0 (wire_of host) refl).bearer t)))
     (few_under (wire_of host) t (subst IsSound (sym view) s))

@@ -1,6 +1,7 @@
 -- A space is bound, by labels.
 use Rattle.std.proofs.Common.{◌≡◌, refl, ap, sym, ◌∙◌, subst, ℕ, suc, ◌+◌, ◌<◌, ◌≤◌, ◌^◌, Bool, true, false, arith}
-use Rattle.std.specs.Prelude.{cond, ◌==◌, not, nat_lt, is_some, is_none, is_err, IsSome, IsSomeAnd, if◌then◌else◌, Result, Ok, Err, Option, Some, None, option_map, option_and_then, List, [], ◌∷◌, ◌++◌, length, slice_get, slice_index_or}
+use Rattle.std.specs.Prelude.{cond, ◌==◌, not, nat_lt, is_some, is_none, is_err, IsSome, IsSomeAnd, if◌then◌else◌, Result, Ok, Err, Option, Some, None}
+use Rattle.std.specs.Prelude.{option_map, option_and_then, List, [], ◌∷◌, ◌++◌, length, slice_get, slice_index_or}
 use Rattle.std.proofs.lemmas.Bool.Decides.{nat_tests}
 use Rattle.sva_step.specs.declared.answers.Answer.TheVariants as answer
 use Rattle.sva_step.specs.declared.refusals.Refusal.{Refusal}
@@ -51,7 +52,8 @@ pub record CanBind (host : Inside) (e n : ℕ) : Type 0 where
   pub space : not (is_space (wire_of host) n) ≡ false
   pub is_open : not (unit_of (wire_of host) e).is_open ≡ false
 
-pub can_bind : (host : Inside) (v : Wire) (e n at : ℕ) (slice : List Port) (d : Port) (b c : Bool) → IsHost host → wire_of host ≡ v → PortFor v e (Ok at) → slice ≡ host.ports.items
+pub can_bind : (host : Inside) (v : Wire) (e n at : ℕ) (slice : List Port) (d : Port) (b c : Bool) → IsHost host → wire_of host ≡ v
+    → PortFor v e (Ok at) → slice ≡ host.ports.items
     → b ≡ memory.has_space host.memory n → b ≡ true → c ≡ (slice_index_or slice at d).unit.unit.is_open → c ≡ true → CanBind host e n
 can_bind host v e n at slice d b c h view for same has is_there tells is_open =
     let port = port_found host v e at slice d h view for same in
@@ -66,7 +68,8 @@ some_mapped f None = refl
 some_mapped f (Some a) = refl
 
 bound_seen : (host : Inside) (e n : ℕ) → is_some (bound_at (wire_of host) e n) ≡ is_some (places.place_between e n host.bindings)
-bound_seen host e n = ap is_some (sym (((bindings_are_seen host.bindings).0 (wire_of host) refl).by_space e n)) ∙ some_mapped binding_seen (places.place_between e n host.bindings)
+bound_seen host e n = ap is_some (sym (((bindings_are_seen host.bindings).0 (wire_of host) refl).by_space e n))
+    ∙ some_mapped binding_seen (places.place_between e n host.bindings)
 
 pasid_seen : (host : Inside) (n : ℕ) → pasid_for (wire_of host) n ≡ places.lowest n host.bindings
 pasid_seen host n = sym (((bindings_are_seen host.bindings).0 (wire_of host) refl).lowest n)
@@ -89,7 +92,8 @@ already_bound host v e n view can is =
     let w = wire_of host in
     subst (λ (u : Wire). MayStep u (step.Bind e n) (Err refusal.AlreadyBound)) view
     (sym
-    (stopped (no_such_endpoint w e ∷ no_such_space w n ∷ resetting w e ∷ []) (no_pasid w n ∷ numbers_spent w.next_binding 1 ∷ numbers_spent w.next_message 1 ∷ [])
+    (stopped (no_such_endpoint w e ∷ no_such_space w n ∷ resetting w e ∷ []) (no_pasid w n ∷ numbers_spent w.next_binding 1
+    ∷ numbers_spent w.next_message 1 ∷ [])
     (bound w e n) (can.there, (can.space, (can.is_open, tt))) (bound_seen host e n ∙ is)))
 
 pub out_of_pasids : (host : Inside) (v : Wire) (e n : ℕ) → wire_of host ≡ v → CanBind host e n → is_some (places.place_between e n host.bindings) ≡ false
@@ -98,7 +102,8 @@ out_of_pasids host v e n view can is none =
     let w = wire_of host in
     subst (λ (u : Wire). MayStep u (step.Bind e n) (Err refusal.NoPasid)) view
     (sym
-    (stopped (no_such_endpoint w e ∷ no_such_space w n ∷ resetting w e ∷ bound w e n ∷ []) (numbers_spent w.next_binding 1 ∷ numbers_spent w.next_message 1 ∷ [])
+    (stopped (no_such_endpoint w e ∷ no_such_space w n ∷ resetting w e ∷ bound w e n ∷ []) (numbers_spent w.next_binding 1
+    ∷ numbers_spent w.next_message 1 ∷ [])
     (no_pasid w n) (can.there, (can.space, (can.is_open, (bound_seen host e n ∙ is, tt)))) (ap is_none (pasid_seen host n) ∙ none)))
 
 pub bindings_spent : (host : Inside) (v : Wire) (e n : ℕ) → wire_of host ≡ v → CanBind host e n → is_some (places.place_between e n host.bindings) ≡ false
@@ -112,14 +117,20 @@ bindings_spent host v e n view can is some over =
     (can.there, (can.space, (can.is_open, (bound_seen host e n ∙ is, (ap is_none (pasid_seen host n) ∙ some, tt))))) (spent (2 ^ 63) host.next_binding over)))
 
 pub messages_spent : (host : Inside) (v : Wire) (e n : ℕ) → wire_of host ≡ v → CanBind host e n → is_some (places.place_between e n host.bindings) ≡ false
-    → is_none (places.lowest n host.bindings) ≡ false → host.next_binding < 2 ^ 63 → 2 ^ 63 ≤ host.in_flight.next → MayStep v (step.Bind e n) (Err refusal.NumbersSpent)
+    → is_none (places.lowest n host.bindings) ≡ false → host.next_binding < 2 ^ 63 → 2 ^ 63 ≤ host.in_flight.next
+    → MayStep v (step.Bind e n) (Err refusal.NumbersSpent)
 messages_spent host v e n view can is some under over =
     let w = wire_of host in
     subst (λ (u : Wire). MayStep u (step.Bind e n) (Err refusal.NumbersSpent)) view
     (sym
     (stopped (no_such_endpoint w e ∷ no_such_space w n ∷ resetting w e ∷ bound w e n ∷ no_pasid w n ∷ numbers_spent w.next_binding 1 ∷ []) []
-    (numbers_spent w.next_message 1)
-    (can.there, (can.space, (can.is_open, (bound_seen host e n ∙ is, (ap is_none (pasid_seen host n) ∙ some, (left_over (2 ^ 63) host.next_binding under, tt))))))
+    (numbers_spent w.next_message 1) (
+      can.there,
+      (
+        can.space,
+        (can.is_open, (bound_seen host e n ∙ is, (ap is_none (pasid_seen host n) ∙ some, (left_over (2 ^ 63) host.next_binding under, tt)))),
+      ),
+    )
     (spent (2 ^ 63) host.in_flight.next over)))
 
 pub binds : (host : Inside) (v : Wire) (e n : ℕ) → wire_of host ≡ v → CanBind host e n → is_some (places.place_between e n host.bindings) ≡ false
@@ -133,7 +144,11 @@ binds host v e n view can is some under less =
         can.space,
         (
           can.is_open,
-          (bound_seen host e n ∙ is, (ap is_none (pasid_seen host n) ∙ some, (left_over (2 ^ 63) host.next_binding under, (left_over (2 ^ 63) host.in_flight.next less, tt)))),
+          (
+            bound_seen host e n
+                ∙ is,
+            (ap is_none (pasid_seen host n) ∙ some, (left_over (2 ^ 63) host.next_binding under, (left_over (2 ^ 63) host.in_flight.next less, tt))),
+          ),
         ),
       ),
     )))
@@ -151,7 +166,8 @@ some_there (Some a) h = refl
 clear : (v : Wire) (e n : ℕ) → Ok tt ≡ unless (causes_of v (step.Bind e n)) (tt {0}) → AreClear (causes_of v (step.Bind e n))
 clear v e n allows = all_clear (tt {0}) (tt {0}) (causes_of v (step.Bind e n)) (sym allows)
 
-pub has_pasid : (host : Inside) (v : Wire) (e n : ℕ) → wire_of host ≡ v → Ok tt ≡ unless (causes_of v (step.Bind e n)) (tt {0}) → IsSome (places.lowest n host.bindings)
+pub has_pasid : (host : Inside) (v : Wire) (e n : ℕ) → wire_of host ≡ v → Ok tt ≡ unless (causes_of v (step.Bind e n)) (tt {0})
+    → IsSome (places.lowest n host.bindings)
 has_pasid host v e n view allows =
     some_there (places.lowest n host.bindings)
     (ap is_none (sym (pasid_seen host n)) ∙ ap (λ (u : Wire). is_none (pasid_for u n)) view ∙ (clear v e n allows).1.1.1.1.0)
@@ -160,7 +176,8 @@ other_number : (m n : ℕ) → m < n → (m == n) ≡ false
 other_number m n h = grind (arith, nat_tests)
 
 -- no binding has the next number
-pub is_fresh : (bindings : List Place) (next : ℕ) → ((k : ℕ) (b : BindingWire) → slice_get (bindings_seen bindings) k ≡ Some b → b.binding < next) → places.place_of next bindings ≡ None
+pub is_fresh : (bindings : List Place) (next : ℕ) → ((k : ℕ) (b : BindingWire) → slice_get (bindings_seen bindings) k ≡ Some b → b.binding < next)
+    → places.place_of next bindings ≡ None
 is_fresh [] next low = refl
 is_fresh (p ∷ bindings) next low =
     ap (λ (b : Bool). cond b (Some p) (places.place_of next bindings)) (other_number p.binding next (low 0 (binding_seen p) refl))
@@ -175,7 +192,8 @@ same_number : (n : ℕ) → (n == n) ≡ true
 same_number n = grind (arith, nat_tests)
 
 -- the binding that began last, found by its number
-last_found : (bindings : List Place) (e n b t : ℕ) → places.place_of b bindings ≡ None → places.place_of b (bindings ++ begun e n b t ∷ []) ≡ Some (begun e n b t)
+last_found : (bindings : List Place) (e n b t : ℕ) → places.place_of b bindings ≡ None → places.place_of b (bindings ++ begun e n b t ∷ [])
+    ≡ Some (begun e n b t)
 last_found [] e n b t none = ap (λ (c : Bool). cond c (Some (begun e n b t)) None) (same_number b)
 last_found (p ∷ bindings) e n b t none = go (last_found bindings e n b t) (p.binding == b) none
   where
@@ -187,7 +205,8 @@ last_found (p ∷ bindings) e n b t none = go (last_found bindings e n b t) (p.b
         some wrong = cc
     go rest false is = rest is
 
-pub is_live : (bindings after : List Place) (e n b t : ℕ) → places.place_of b bindings ≡ None → after ≡ bindings ++ begun e n b t ∷ [] → places.IsLiveIn b after
+pub is_live : (bindings after : List Place) (e n b t : ℕ) → places.place_of b bindings ≡ None → after ≡ bindings ++ begun e n b t ∷ []
+    → places.IsLiveIn b after
 is_live bindings after e n b t none is =
     subst (λ (ps : List Place). places.IsLiveIn b ps) (sym is)
     (subst (λ (o : Option Place). IsSomeAnd (option_and_then (λ (p : Place). p.stage) o) IsLive) (sym (last_found bindings e n b t none)) tt)
@@ -210,7 +229,8 @@ unsent_any : (bag after : InFlight) (e : ℕ) (kind : Kind) (r : Result (Unit {0
 unsent_any bag after e kind (Ok a) sends is = absurd (cc (is))
 unsent_any bag after e kind (Err x) sends is = unsent_same bag after e kind 1 x sends
 
-sent_any : (bag after : InFlight) (e : ℕ) (kind : Kind) (r : Result (Unit {0}) Refusal) → Sends bag e kind 1 r after → is_err r ≡ false → after ≡ with_sent bag (record { endpoint = e; kind = kind }) 1
+sent_any : (bag after : InFlight) (e : ℕ) (kind : Kind) (r : Result (Unit {0}) Refusal) → Sends bag e kind 1 r after → is_err r ≡ false → after
+    ≡ with_sent bag (record { endpoint = e; kind = kind }) 1
 sent_any bag after e kind (Ok a) sends is = sends.1
 sent_any bag after e kind (Err x) sends is = absurd (cc (is))
 
@@ -218,7 +238,8 @@ decided : (v : Wire) (e n : ℕ) → Ok tt ≡ unless (causes_of v (step.Bind e 
     → decide_of v (step.Bind e n) ≡ record { reply = Ok (result_of v (step.Bind e n)).answer; moves = (result_of v (step.Bind e n)).moves }
 decided v e n allows = passed (tt {0}) (tt {0}) (causes_of v (step.Bind e n)) [] (result_of v (step.Bind e n)) (sym allows)
 
-pub bind_unsent : (host : Inside) (v : Wire) (e n t : ℕ) (kind : Kind) (after left : List Place) (bag : InFlight) (r : Result (Unit {0}) Refusal) → wire_of host ≡ v
+pub bind_unsent : (host : Inside) (v : Wire) (e n t : ℕ) (kind : Kind) (after left : List Place) (bag : InFlight) (r : Result (Unit {0}) Refusal)
+    → wire_of host ≡ v
     → Ok tt ≡ unless (causes_of v (step.Bind e n)) (tt {0})
     → places.place_of host.next_binding host.bindings ≡ None
     → after ≡ host.bindings ++ begun e n host.next_binding t ∷ [] → left ≡ places.without host.next_binding after
@@ -239,22 +260,30 @@ pub bind_done : (host : Inside) (v : Wire) (e n t : ℕ) (after : List Place) (b
     → places.lowest n host.bindings ≡ Some t
     → after ≡ host.bindings ++ begun e n host.next_binding t ∷ []
     → Sends host.in_flight e (Start t) 1 r bag → is_err r ≡ false
-    → ByLabels v (step.Bind e n) (Ok (answer.Binding host.next_binding t)) (wire_of (record host { bindings = after; in_flight = bag; next_binding = host.next_binding + 1 }))
+    → ByLabels v (step.Bind e n) (Ok (answer.Binding host.next_binding t)) (wire_of
+    (record host { bindings = after; in_flight = bag; next_binding = host.next_binding + 1 }))
 bind_done host v e n t after bag r view allows pasid begins sends worked =
-    subst (λ (u : Wire). ByLabels u (step.Bind e n) (Ok (answer.Binding host.next_binding t)) (wire_of (record host { bindings = after; in_flight = bag; next_binding = host.next_binding + 1 }))) view
-    (subst (λ (d : Decision). Does d (wire_of host) (Ok (answer.Binding host.next_binding t)) (wire_of (record host { bindings = after; in_flight = bag; next_binding = host.next_binding + 1 })))
+    subst (λ (u : Wire). ByLabels u (step.Bind e n) (Ok (answer.Binding host.next_binding t))
+    (wire_of (record host { bindings = after; in_flight = bag; next_binding = host.next_binding + 1 }))) view
+    (subst (λ (d : Decision). Does d (wire_of host) (Ok (answer.Binding host.next_binding t))
+    (wire_of (record host { bindings = after; in_flight = bag; next_binding = host.next_binding + 1 })))
     (sym decides) (refl, same))
   where
     decides : decide_of (wire_of host) (step.Bind e n)
         ≡ record { reply = Ok (answer.Binding host.next_binding t); moves = Move.NewBinding ∷ Move.Bind e n host.next_binding t ∷ [] }
     decides =
         decided (wire_of host) e n (subst (λ (u : Wire). Ok tt ≡ unless (causes_of u (step.Bind e n)) (tt {0})) (sym view) allows)
-        ∙ ap (λ (o : Option ℕ). record { reply = Ok (bind_result (wire_of host) e n (label o)).answer; moves = (bind_result (wire_of host) e n (label o)).moves }) (pasid_seen host n ∙ pasid)
+        ∙ ap (λ (o : Option ℕ). record {
+          reply = Ok (bind_result (wire_of host) e n (label o)).answer;
+          moves =
+              (bind_result (wire_of host) e n (label o)).moves;
+        }) (pasid_seen host n ∙ pasid)
 
     same : wire_of (record host { bindings = after; in_flight = bag; next_binding = host.next_binding + 1 })
         ≡ all_moved (wire_of host) (Move.NewBinding ∷ Move.Bind e n host.next_binding t ∷ [])
     same =
-        ap (λ (b : InFlight). wire_of (record host { bindings = after; in_flight = b; next_binding = host.next_binding + 1 })) (sent_any host.in_flight bag e (Start t) r sends worked)
+        ap (λ (b : InFlight). wire_of (record host { bindings = after; in_flight = b; next_binding = host.next_binding + 1 }))
+        (sent_any host.in_flight bag e (Start t) r sends worked)
         ∙ (λ i. record (wire_of host) {
           bindings = (ap bindings_seen begins ∙ (bindings_are_seen host.bindings).1.begun e n host.next_binding t) i;
           in_flight = sent_seen host.in_flight (record { endpoint = e; kind = Start t }) i;

@@ -57,22 +57,27 @@ home_there w n b sound found =
     let at = is_found (λ (x : BindingWire). x.binding == n) w.bindings b found in
     sound.endpoint_low at.place b at.stands
 
-pub home_within : (host : Inside) (v : Wire) (n : ℕ) (b : BindingWire) → wire_of host ≡ v → IsSound v → binding_of v n ≡ Some b → b.endpoint < length host.ports.items
+pub home_within : (host : Inside) (v : Wire) (n : ℕ) (b : BindingWire) → wire_of host ≡ v → IsSound v → binding_of v n ≡ Some b → b.endpoint
+    < length host.ports.items
 home_within host v n b view sound found =
     let there = home_there v n b sound found in
     let long = parts_seen host v view in
     omega (arith, there, long)
 
 -- by its place in the table
-pub binding_at : (host : Inside) (v : Wire) (n : ℕ) (o : Option Place) → wire_of host ≡ v → o ≡ place_of n host.bindings → binding_of v n ≡ option_map binding_seen o
+pub binding_at : (host : Inside) (v : Wire) (n : ℕ) (o : Option Place) → wire_of host ≡ v → o ≡ place_of n host.bindings → binding_of v n
+    ≡ option_map binding_seen o
 binding_at host v n o view found =
-    ap (λ (w : Wire). binding_of w n) (sym view) ∙ sym (((bindings_are_seen host.bindings).0 (wire_of host) refl).by_number n) ∙ ap (option_map binding_seen) (sym found)
+    ap (λ (w : Wire). binding_of w n) (sym view) ∙ sym (((bindings_are_seen host.bindings).0 (wire_of host) refl).by_number n)
+    ∙ ap (option_map binding_seen) (sym found)
 
 -- its stage stands in its place
-pub stage_there : (host : Inside) (v : Wire) (n : ℕ) (b : BindingWire) → IsHost host → wire_of host ≡ v → binding_of v n ≡ Some b → IsSeenIn b.stage n host.bindings
+pub stage_there : (host : Inside) (v : Wire) (n : ℕ) (b : BindingWire) → IsHost host → wire_of host ≡ v → binding_of v n ≡ Some b
+    → IsSeenIn b.stage n host.bindings
 stage_there host v n b h view found = go (place_of n host.bindings) refl
   where
-    by_stage : (p : Place) (stage : Option Stage) → p.stage ≡ stage → IsSome stage → binding_seen p ≡ b → IsSomeAnd stage (λ (s : Stage). stage_seen s ≡ b.stage)
+    by_stage : (p : Place) (stage : Option Stage) → p.stage ≡ stage → IsSome stage → binding_seen p ≡ b
+        → IsSomeAnd stage (λ (s : Stage). stage_seen s ≡ b.stage)
     by_stage p None at is same = absurd (cc (is))
     by_stage p (Some s) at is same = ap stage_or_quiet (sym at) ∙ ap (λ (x : BindingWire). x.stage) same
 

@@ -54,28 +54,39 @@ decided w n e vector field b arriving is_open =
 unit_at : (host : Inside) (e : ℕ) (port : Port) → IsPort host e port → unit_of (wire_of host) e ≡ port.unit.unit
 unit_at host e port is = ap (λ (p : PartWire). p.unit) is.part
 
-pub uncounted : (host : Inside) (v : Wire) (n e vector field : ℕ) (port : Port) (bag : InFlight) → wire_of host ≡ v → IsNumbered host.in_flight → IsPort host e port
+pub uncounted : (host : Inside) (v : Wire) (n e vector field : ℕ) (port : Port) (bag : InFlight) → wire_of host ≡ v → IsNumbered host.in_flight
+    → IsPort host e port
     → IsArriving v n e (kind.Invalidated vector field) → port.unit.unit.is_open ≡ false → bag ≡ without host.in_flight n
     → ByLabels v (step.Deliver n) (Ok answer.Dropped) (wire_of (record host { in_flight = bag }))
 uncounted host v n e vector field port bag view numbered is arriving shut taken =
     subst (λ (u : Wire). ByLabels u (step.Deliver n) (Ok answer.Dropped) (wire_of (record host { in_flight = bag }))) view
     (subst (λ (d : Decision). Does d (wire_of host) (Ok answer.Dropped) (wire_of (record host { in_flight = bag })))
-    (sym (decided (wire_of host) n e vector field false (here host v n e (kind.Invalidated vector field) view arriving) (ap (λ (u : UnitWire). u.is_open) (unit_at host e port is) ∙ shut)))
-    (refl, ap (λ (b : InFlight). wire_of (record host { in_flight = b })) taken ∙ (λ i. record (wire_of host) { in_flight = (flight_laws host.in_flight numbered).delivered n i })))
+    (sym (decided (wire_of host) n e vector field false (here host v n e (kind.Invalidated vector field) view arriving)
+    (ap (λ (u : UnitWire). u.is_open) (unit_at host e port is) ∙ shut))) (
+      refl,
+      ap (λ (b : InFlight). wire_of (record host { in_flight = b })) taken
+          ∙ (λ i. record (wire_of host) { in_flight = (flight_laws host.in_flight numbered).delivered n i }),
+    ))
 
 pub counted : (host : Inside) (n e vector field count : ℕ) (port : Port) (bag : InFlight) → IsNumbered host.in_flight → IsPort host e port
-    → IsArriving (wire_of host) n e (kind.Invalidated vector field) → port.unit.unit.is_open ≡ true → count ≡ count_read field → bag ≡ without host.in_flight n
+    → IsArriving (wire_of host) n e (kind.Invalidated vector field) → port.unit.unit.is_open ≡ true → count ≡ count_read field → bag
+    ≡ without host.in_flight n
     → ByLabels (wire_of host) (step.Deliver n) (Ok (answer.Freed (freed_by port.unit.unit vector count)))
     (wire_of (record (with_unit_in host e port (with_counted vector count port.unit)) { in_flight = bag }))
 counted host n e vector field count port bag numbered is arriving is_open reads taken =
-    subst (λ (d : Decision). Does d (wire_of host) (Ok (answer.Freed (freed_by port.unit.unit vector count))) (wire_of (record (with_unit_in host e port (with_counted vector count port.unit)) { in_flight = bag })))
+    subst (λ (d : Decision). Does d (wire_of host) (Ok (answer.Freed (freed_by port.unit.unit vector count)))
+    (wire_of (record (with_unit_in host e port (with_counted vector count port.unit)) { in_flight = bag })))
     (sym (decided (wire_of host) n e vector field true arriving (ap (λ (u : UnitWire). u.is_open) (unit_at host e port is) ∙ is_open)))
     ((λ i. Ok (answer.Freed (freed_by (sym (unit_at host e port is) i) vector (reads i)))), after)
   where
-    after : wire_of (record (with_unit_in host e port (with_counted vector count port.unit)) { in_flight = bag }) ≡ moved (wire_of host) (Move.Count e n vector (count_read field))
+    after : wire_of (record (with_unit_in host e port (with_counted vector count port.unit)) { in_flight = bag })
+        ≡ moved (wire_of host) (Move.Count e n vector (count_read field))
     after =
         (λ i. wire_of (record (with_unit_in host e port (with_counted vector (reads i) port.unit)) { in_flight = taken i }))
-        ∙ (λ i. record (with_unit_seen host e port (λ u. unit_completed u vector (count_read field)) is i) { in_flight = (flight_laws host.in_flight numbered).delivered n i })
+        ∙ (λ i. record (with_unit_seen host e port (λ u. unit_completed u vector (count_read field)) is i) {
+          in_flight =
+              (flight_laws host.in_flight numbered).delivered n i;
+        })
 
 -- one completion frees 32 ITags at most
 pub few_freed : (unit : UnitWire) (vector count freed : ℕ) → freed ≡ freed_by unit vector count → freed ≤ 32

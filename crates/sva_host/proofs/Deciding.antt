@@ -79,7 +79,8 @@ pub all_clear : {A : Type 0} (a b : A) (causes : List Cause) → unless causes a
 all_clear a b [] is = tt
 all_clear {A = A} a b (cause ∷ causes) is = go (all_clear a b causes) cause.0 refl is
   where
-    go : (unless causes a ≡ Ok b → AreClear causes) → (c : Bool) → cause.0 ≡ c → (if c then Err cause.1 else unless causes a) ≡ Ok b → (cause.0 ≡ false) × AreClear causes
+    go : (unless causes a ≡ Ok b → AreClear causes) → (c : Bool) → cause.0 ≡ c → (if c then Err cause.1 else unless causes a) ≡ Ok b
+        → (cause.0 ≡ false) × AreClear causes
     go rest true which is = absurd (none is)
       where
         none : ◌≡◌ {A = Result A Refusal} (Err cause.1) (Ok b) → ⊥

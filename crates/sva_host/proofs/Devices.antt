@@ -34,7 +34,8 @@ pub kept : (w v : Wire) (s : Step) (r : Reply) (x : Refusal) → w ≡ v → IsE
 kept w v s r x same answered is =
     subst (λ (u : Wire). ByLabels u s r u) same (subst (λ (a : Reply). ByLabels w s a w) (sym (is_err r x answered)) is)
 
-pub went : (w v after : Wire) (s : Step) (r : Reply) (x : Refusal) → w ≡ v → IsErr r × IsErrAnd r (λ y. y ≡ x) → ByLabels w s (Err x) after → ByLabels v s r after
+pub went : (w v after : Wire) (s : Step) (r : Reply) (x : Refusal) → w ≡ v → IsErr r × IsErrAnd r (λ y. y ≡ x) → ByLabels w s (Err x) after
+    → ByLabels v s r after
 went w v after s r x same answered is =
     subst (λ (u : Wire). ByLabels u s r after) same (subst (λ (a : Reply). ByLabels w s a after) (sym (is_err r x answered)) is)
 
@@ -58,7 +59,8 @@ pub unsent_done : (host : Inside) (s : Step) (e : ℕ) (kind : Kind) (copies : �
     → Sends host.in_flight e kind copies (Err x) bag
     → ByLabels (wire_of host) s (Err x) (wire_of (record host { in_flight = bag }))
 unsent_done host s e kind copies bag x r decided sends =
-    subst (λ (w : Wire). ByLabels (wire_of host) s (Err x) w) (ap (λ (b : InFlight). wire_of (record host { in_flight = b })) (sym (unsent_same host.in_flight bag e kind copies x sends)))
+    subst (λ (w : Wire). ByLabels (wire_of host) s (Err x) w) (ap (λ (b : InFlight). wire_of (record host { in_flight = b }))
+    (sym (unsent_same host.in_flight bag e kind copies x sends)))
     (subst (λ (d : Decision). Does d (wire_of host) (Err x) (wire_of host)) (sym decided) (unsent host.in_flight bag e kind copies x (wire_of host) r sends))
 
 -- a step that changes the device and sends one message
@@ -77,7 +79,11 @@ sent_done host s e port tables kind bag a m d is decided sends moves same =
     after : wire_of (record (with_tables host e port tables) { in_flight = bag }) ≡ sent e (kind_seen kind) (with_device (wire_of host) e d)
     after =
         ap (λ (b : InFlight). wire_of (record (with_tables host e port tables) { in_flight = b })) sends.1
-        ∙ (λ i. record (with_tables_seen host e port tables d is same i) { in_flight = sent_seen host.in_flight (record { endpoint = e; kind = kind }) i; next_message = host.in_flight.next + 1 })
+        ∙ (λ i. record (with_tables_seen host e port tables d is same i) {
+          in_flight =
+              sent_seen host.in_flight (record { endpoint = e; kind = kind }) i;
+          next_message = host.in_flight.next + 1;
+        })
 
 -- a step that changes the device, and sends nothing
 pub device_done : (host : Inside) (s : Step) (e : ℕ) (port : Port) (tables : Tables) (a : Answer) (m : Move) (d : DeviceWire)

@@ -44,9 +44,11 @@ listed d fault =
     ∷ (d.is_disabled, refusal.PriDisabled)
     ∷ []
 
-causes_seen : (host : Inside) (e : ℕ) (fault : Fault) (port : Port) → IsPort host e port → listed (device_of (wire_of host) e) fault ≡ refusals_of_fault port.device fault
+causes_seen : (host : Inside) (e : ℕ) (fault : Fault) (port : Port) → IsPort host e port → listed (device_of (wire_of host) e) fault
+    ≡ refusals_of_fault port.device fault
 unfolding listed
-causes_seen host e fault port is = ap (λ (d : DeviceWire). listed d fault) (device_there host e port is) ∙ sym (fault_is_seen port.device fault is.sound).refusals
+causes_seen host e fault port is = ap (λ (d : DeviceWire). listed d fault) (device_there host e port is)
+    ∙ sym (fault_is_seen port.device fault is.sound).refusals
 
 decided : (host : Inside) (e : ℕ) (fault : Fault) (port : Port) → IsPort host e port
     → decide_of (wire_of host) (step_of e fault)
@@ -60,7 +62,8 @@ pub fault_refused : (host : Inside) (e : ℕ) (fault : Fault) (port : Port) (x :
     → ByLabels (wire_of host) (step_of e fault) (Err x) (wire_of host)
 fault_refused host e fault port x is refuses =
     subst (λ (d : Decision). Does d (wire_of host) (Err x) (wire_of host)) (sym (decided host e fault port is))
-    (refused_by _ (refusals_of_fault port.device fault) (numbers_spent host.in_flight.next 1 ∷ []) (result_of (wire_of host) (step_of e fault)) (wire_of host) x (tt, (tt, (tt, (tt, (tt, tt))))) (sym refuses))
+    (refused_by _ (refusals_of_fault port.device fault) (numbers_spent host.in_flight.next 1 ∷ []) (result_of (wire_of host) (step_of e fault))
+    (wire_of host) x (tt, (tt, (tt, (tt, (tt, tt))))) (sym refuses))
 
 may : (host : Inside) (e : ℕ) (fault : Fault) (port : Port) (a : Faulting) → IsPort host e port → Ok a ≡ faulting port.device fault
     → decide_of (wire_of host) (step_of e fault) ≡ checked (numbers_spent host.in_flight.next 1 ∷ []) (result_of (wire_of host) (step_of e fault))
@@ -68,7 +71,8 @@ may host e fault port a is allows =
     decided host e fault port is
     ∙ passed _ a (refusals_of_fault port.device fault) (numbers_spent host.in_flight.next 1 ∷ []) (result_of (wire_of host) (step_of e fault)) (sym allows)
 
-pub fault_unsent : (host : Inside) (e : ℕ) (fault : Fault) (port : Port) (a : Faulting) (bag : InFlight) (x : Refusal) → IsPort host e port → Ok a ≡ faulting port.device fault
+pub fault_unsent : (host : Inside) (e : ℕ) (fault : Fault) (port : Port) (a : Faulting) (bag : InFlight) (x : Refusal) → IsPort host e port → Ok a
+    ≡ faulting port.device fault
     → Sends host.in_flight e a.kind 1 (Err x) bag
     → ByLabels (wire_of host) (step_of e fault) (Err x) (wire_of (record host { in_flight = bag }))
 fault_unsent host e fault port a bag x is allows sends =
@@ -82,7 +86,8 @@ abbrev moves : (e : ℕ) → Fault → (index : ℕ) → Option ℕ → Move
 moves e fault i None = Move.Group e fault.pasid i fault.page fault.read fault.write fault.last
 moves e fault i (Some own) = Move.Request e fault.pasid i fault.page fault.read fault.write fault.last
 
-pub fault_done : (host : Inside) (e : ℕ) (fault : Fault) (port : Port) (a : Faulting) (bag : InFlight) → IsPort host e port → Ok a ≡ faulting port.device fault
+pub fault_done : (host : Inside) (e : ℕ) (fault : Fault) (port : Port) (a : Faulting) (bag : InFlight) → IsPort host e port → Ok a
+    ≡ faulting port.device fault
     → Sends host.in_flight e a.kind 1 (Ok tt) bag
     → ByLabels (wire_of host) (step_of e fault) (Ok (answer.Group (index_for port.device fault.group)))
     (wire_of (record (with_tables host e port (after_fault port.device fault)) { in_flight = bag }))
@@ -97,7 +102,8 @@ fault_done host e fault port a bag is allows sends =
       kind = PageRequest (record { pasid = fault.pasid; index = i; page = fault.page; read = fault.read; write = fault.write; last = fault.last });
     } in
     let same : sending ≡ a = given sending a (refusals_of_fault port.device fault) (sym allows) in
-    let clear = all_clear sending a (listed (device_of (wire_of host) e) fault) (ap (λ (cs : List Cause). unless cs sending) (causes_seen host e fault port is) ∙ sym allows) in
+    let clear = all_clear sending a (listed (device_of (wire_of host) e) fault)
+    (ap (λ (cs : List Cause). unless cs sending) (causes_seen host e fault port is) ∙ sym allows) in
     let credit = ap (λ (d : DeviceWire). nat_le 32 (outstanding d.groups)) (sym device) ∙ clear.1.1.0 in
     let other = ap (λ (d : DeviceWire). is_other_group d fault.pasid fault.group) (sym device) ∙ clear.1.1.1.0 in
     let index = ap (λ (d : DeviceWire). lowest_label d.groups) device ∙ seen.index (fewer (outstanding (device_seen port.device).groups) credit) in
@@ -117,6 +123,7 @@ fault_done host e fault port a bag is allows sends =
 
     moved_by : (group : Option ℕ) (i : ℕ)
         → moved (wire_of host) (moves e fault i group)
-        ≡ sent e (PageRequestMessage fault.pasid i fault.page fault.read fault.write fault.last) (with_device (wire_of host) e (faulted (device_of (wire_of host) e) fault group i))
+        ≡ sent e (PageRequestMessage fault.pasid i fault.page fault.read fault.write fault.last)
+        (with_device (wire_of host) e (faulted (device_of (wire_of host) e) fault group i))
     moved_by None i = refl
     moved_by (Some own) i = refl

@@ -61,18 +61,21 @@ distinct t (b ∷ bs) apart =
     never : (k : ℕ) → zero ≡ suc k → ⊥
     never k is = omega (arith, is)
 
-    go : (c : Bool) → (b.pasid == t) ≡ c → IsDistinct (◌==◌) (endpoints_under t bs) → IsDistinct (◌==◌) (if c then b.endpoint ∷ endpoints_under t bs else endpoints_under t bs)
+    go : (c : Bool) → (b.pasid == t) ≡ c → IsDistinct (◌==◌) (endpoints_under t bs)
+        → IsDistinct (◌==◌) (if c then b.endpoint ∷ endpoints_under t bs else endpoints_under t bs)
     go true is rest =
         IsDistinct-cons (◌==◌) b.endpoint (endpoints_under t bs)
         (others t b.endpoint bs (λ k d h p s. never k (apart zero (suc k) b d refl h (equal b.pasid t is) p s)))
         rest
     go false is rest = rest
 
-below : (t n q : ℕ) (bs : List BindingWire) → ((k : ℕ) (b : BindingWire) → slice_get bs k ≡ Some b → b.endpoint < n) → list_any (λ y. q == y) (endpoints_under t bs) ≡ true → q < n
+below : (t n q : ℕ) (bs : List BindingWire) → ((k : ℕ) (b : BindingWire) → slice_get bs k ≡ Some b → b.endpoint < n)
+    → list_any (λ y. q == y) (endpoints_under t bs) ≡ true → q < n
 below t n q [] low is = absurd (cc (is))
 below t n q (b ∷ bs) low is = go (b.pasid == t) is (below t n q bs (λ k d h. low (suc k) d h))
   where
-    one : (c : Bool) → (q == b.endpoint) ≡ c → (c || list_any (λ y. q == y) (endpoints_under t bs)) ≡ true → (list_any (λ y. q == y) (endpoints_under t bs) ≡ true → q < n) → q < n
+    one : (c : Bool) → (q == b.endpoint) ≡ c → (c || list_any (λ y. q == y) (endpoints_under t bs)) ≡ true
+        → (list_any (λ y. q == y) (endpoints_under t bs) ≡ true → q < n) → q < n
     one true same is rest = subst (λ x. x < n) (sym (equal q b.endpoint same)) (low 0 b refl)
     one false same is rest = rest is
 
@@ -83,8 +86,10 @@ below t n q (b ∷ bs) low is = go (b.pasid == t) is (below t n q bs (λ k d h. 
 
 pub few_under : (w : Wire) (t : ℕ) → IsSound w → count_by (λ (b : BindingWire). b.pasid == t) w.bindings ≤ 8
 few_under w t s =
-    let short = length-le_from_distinct_below (endpoints_under t w.bindings) (length w.parts) (distinct t w.bindings apart) (λ q is. below t (length w.parts) q w.bindings s.endpoint_low is) in
+    let short = length-le_from_distinct_below (endpoints_under t w.bindings) (length w.parts) (distinct t w.bindings apart)
+    (λ q is. below t (length w.parts) q w.bindings s.endpoint_low is) in
     omega (arith, counted t w.bindings, short, s.few_parts)
   where
-    apart : (j k : ℕ) (b d : BindingWire) → slice_get w.bindings j ≡ Some b → slice_get w.bindings k ≡ Some d → b.pasid ≡ t → d.pasid ≡ t → b.endpoint ≡ d.endpoint → j ≡ k
+    apart : (j k : ℕ) (b d : BindingWire) → slice_get w.bindings j ≡ Some b → slice_get w.bindings k ≡ Some d → b.pasid ≡ t → d.pasid ≡ t
+        → b.endpoint ≡ d.endpoint → j ≡ k
     apart j k b d h i p q e = s.one_each j k b d h i e ((s.pasids_shared j k b d h i).0 (p ∙ sym q))

@@ -39,7 +39,8 @@ listed d v n =
     ∷ (not (nat_le 1 n && nat_le n 8), refusal.BadCount)
     ∷ []
 
-causes_seen : (host : Inside) (e v n : ℕ) (port : Port) → v < 2 ^ 32 → IsPort host e port → listed (device_of (wire_of host) e) v n ≡ refusals_of_finish port.device v n
+causes_seen : (host : Inside) (e v n : ℕ) (port : Port) → v < 2 ^ 32 → IsPort host e port → listed (device_of (wire_of host) e) v n
+    ≡ refusals_of_finish port.device v n
 unfolding listed
 causes_seen host e v n port fits is =
     ap (λ (d : DeviceWire). listed d v n) (device_there host e port is) ∙ sym (finish_is_seen port.device v n fits is.sound).refusals
@@ -56,7 +57,8 @@ pub finish_refused : (host : Inside) (e v n : ℕ) (port : Port) (x : Refusal) �
     → ByLabels (wire_of host) (step.Finish e v n) (Err x) (wire_of host)
 finish_refused host e v n port x fits is refuses =
     subst (λ (d : Decision). Does d (wire_of host) (Err x) (wire_of host)) (sym (decided host e v n port fits is))
-    (refused_by _ (refusals_of_finish port.device v n) (numbers_spent host.in_flight.next n ∷ []) (by_one (answer.Sent n) (Move.Finish e v n)) (wire_of host) x (tt, (tt, (tt, tt))) (sym refuses))
+    (refused_by _ (refusals_of_finish port.device v n) (numbers_spent host.in_flight.next n ∷ []) (by_one (answer.Sent n) (Move.Finish e v n))
+    (wire_of host) x (tt, (tt, (tt, tt))) (sym refuses))
 
 may : (host : Inside) (e v n : ℕ) (port : Port) (a : Finishing) → v < 2 ^ 32 → IsPort host e port → Ok a ≡ finishing port.device v n
     → decide_of (wire_of host) (step.Finish e v n) ≡ checked (numbers_spent host.in_flight.next n ∷ []) (by_one (answer.Sent n) (Move.Finish e v n))
@@ -69,26 +71,32 @@ pub sending : (host : Inside) (v n : ℕ) (port : Port) (a : Finishing) → Ok a
     → record { count = n; kind = Invalidated v (count_field n) } ≡ a
 sending host v n port a allows = given _ a (refusals_of_finish port.device v n) (sym allows)
 
-pub finish_unsent : (host : Inside) (e v n : ℕ) (port : Port) (a : Finishing) (bag : InFlight) (x : Refusal) (m : ℕ) → m ≡ a.count → v < 2 ^ 32 → IsPort host e port → Ok a ≡ finishing port.device v n
+pub finish_unsent : (host : Inside) (e v n : ℕ) (port : Port) (a : Finishing) (bag : InFlight) (x : Refusal) (m : ℕ) → m ≡ a.count → v < 2 ^ 32
+    → IsPort host e port → Ok a ≡ finishing port.device v n
     → Sends host.in_flight e a.kind m (Err x) bag
     → ByLabels (wire_of host) (step.Finish e v n) (Err x) (wire_of (record host { in_flight = bag }))
 finish_unsent host e v n port a bag x m many fits is allows sends =
     unsent_done host (step.Finish e v n) e a.kind n bag x _ (may host e v n port a fits is allows)
     (subst (λ (k : ℕ). Sends host.in_flight e a.kind k (Err x) bag) (many ∙ sym (ap (λ (f : Finishing). f.count) (sending host v n port a allows))) sends)
 
-pub finish_done : (host : Inside) (e v n : ℕ) (port : Port) (a : Finishing) (bag : InFlight) (m : ℕ) → m ≡ a.count → v < 2 ^ 32 → FlightsAreSeen host.in_flight → IsPort host e port
+pub finish_done : (host : Inside) (e v n : ℕ) (port : Port) (a : Finishing) (bag : InFlight) (m : ℕ) → m ≡ a.count → v < 2 ^ 32
+    → FlightsAreSeen host.in_flight → IsPort host e port
     → Ok a ≡ finishing port.device v n → Sends host.in_flight e a.kind m (Ok tt) bag
     → ByLabels (wire_of host) (step.Finish e v n) (Ok (answer.Sent a.count))
     (wire_of (record (with_tables host e port (after_finish port.device v)) { in_flight = bag }))
 finish_done host e v n port a bag m many fits flights is allows sends =
-    subst (λ (f : Finishing). ByLabels (wire_of host) (step.Finish e v n) (Ok (answer.Sent f.count)) (wire_of (record (with_tables host e port (after_finish port.device v)) { in_flight = bag })))
+    subst (λ (f : Finishing). ByLabels (wire_of host) (step.Finish e v n) (Ok (answer.Sent f.count))
+    (wire_of (record (with_tables host e port (after_finish port.device v)) { in_flight = bag })))
     (sending host v n port a allows)
-    (subst (λ (c : Decision). Does c (wire_of host) (Ok (answer.Sent n)) (wire_of (record (with_tables host e port (after_finish port.device v)) { in_flight = bag })))
-    (sym (may host e v n port a fits is allows ∙ sent_decided host.in_flight bag e (Invalidated v (count_field n)) n (by_one (answer.Sent n) (Move.Finish e v n)) sent))
+    (subst (λ (c : Decision). Does c (wire_of host) (Ok (answer.Sent n))
+    (wire_of (record (with_tables host e port (after_finish port.device v)) { in_flight = bag })))
+    (sym (may host e v n port a fits is allows
+    ∙ sent_decided host.in_flight bag e (Invalidated v (count_field n)) n (by_one (answer.Sent n) (Move.Finish e v n)) sent))
     (refl, after))
   where
     sent : Sends host.in_flight e (Invalidated v (count_field n)) n (Ok tt) bag
-    sent = subst (λ (f : Finishing). Sends host.in_flight e f.kind f.count (Ok tt) bag) (sym (sending host v n port a allows)) (subst (λ (k : ℕ). Sends host.in_flight e a.kind k (Ok tt) bag) many sends)
+    sent = subst (λ (f : Finishing). Sends host.in_flight e f.kind f.count (Ok tt) bag) (sym (sending host v n port a allows))
+        (subst (λ (k : ℕ). Sends host.in_flight e a.kind k (Ok tt) bag) many sends)
 
     left : DeviceWire
     left = record (device_of (wire_of host) e) { taken = without_named v (device_of (wire_of host) e).taken }

@@ -157,7 +157,8 @@ after_send s u = with_own u (unit_sent u.unit s.itag)
 pub pump_sent : (host : Inside) (v : Wire) (e : ℕ) (port : Port) (s : Sending) (kind : Kind) (bag : InFlight) → wire_of host ≡ v → IsPort host e port
     → IsHead v e (Send s)
     → kind ≡ request_of s → Sends host.in_flight e kind 1 (Ok tt) bag
-    → ByLabels (wire_of host) (step.Pump e) (Ok (answer.Itag s.itag)) (wire_of (record (with_unit_in host e port (after_send s port.unit)) { in_flight = bag }))
+    → ByLabels (wire_of host) (step.Pump e) (Ok (answer.Itag s.itag)) (wire_of
+    (record (with_unit_in host e port (after_send s port.unit)) { in_flight = bag }))
 pump_sent host v e port s kind bag view is head same sends =
     unit_sent_done host (step.Pump e) e port (after_send s) (request_of s) bag (answer.Itag s.itag) (Move.Send e s.itag s.pasid (extent_seen s.extent)) is
     (decided (wire_of host) e (Send s) (head_seen host v e (Send s) view head))
@@ -173,7 +174,8 @@ after_pass cookie u = with_own u (unit_passed u.unit cookie)
 pub pump_passed : (host : Inside) (v : Wire) (e : ℕ) (port : Port) (cookie : ℕ) (after : MemorySeen) → wire_of host ≡ v → IsPort host e port
     → IsHead v e (Pass cookie)
     → after ≡ settled host.memory e (settled_cookie cookie)
-    → ByLabels (wire_of host) (step.Pump e) (Ok answer.WaitDone) (wire_of (record (with_unit_in host e port (after_pass cookie port.unit)) { memory = after }))
+    → ByLabels (wire_of host) (step.Pump e) (Ok answer.WaitDone) (wire_of
+    (record (with_unit_in host e port (after_pass cookie port.unit)) { memory = after }))
 pump_passed host v e port cookie after view is head settles =
     subst (λ (d : Decision). Does d (wire_of host) (Ok answer.WaitDone)
     (wire_of (record (with_unit_in host e port (after_pass cookie port.unit)) { memory = after })))

@@ -34,11 +34,19 @@ use Rattle.sva_host.proofs.Bound.{is_found, stage_there, kind_in}
 
 decides : (v : Wire) (n e t : ℕ) (is_open : Bool) → IsArriving v n e (Marker t) → (unit_of v e).is_open ≡ is_open
     → decide_of v (step.Deliver n)
-    ≡ record { reply = Ok (marker_result e n (binding_or_0 (bearer v e t)) is_open).answer; moves = (marker_result e n (binding_or_0 (bearer v e t)) is_open).moves }
+    ≡ record {
+      reply = Ok (marker_result e n (binding_or_0 (bearer v e t)) is_open).answer;
+      moves =
+          (marker_result e n (binding_or_0 (bearer v e t)) is_open).moves;
+    }
 decides v n e t is_open arriving opened =
     ap (λ (o : Option FlightWire). checked (deliver_causes v o) (deliver_result v o)) arriving.found
     ∙ go (may_deliver v (flight_seen (n, record { endpoint = e; kind = Marker t }))) arriving.free
-    ∙ ap (λ (b : Bool). record { reply = Ok (marker_result e n (binding_or_0 (bearer v e t)) b).answer; moves = (marker_result e n (binding_or_0 (bearer v e t)) b).moves }) opened
+    ∙ ap (λ (b : Bool). record {
+      reply = Ok (marker_result e n (binding_or_0 (bearer v e t)) b).answer;
+      moves =
+          (marker_result e n (binding_or_0 (bearer v e t)) b).moves;
+    }) opened
   where
     go : (free : Bool) → free ≡ true
         → checked ((not free, refusal.Overtakes) ∷ (false, refusal.NumbersSpent) ∷ []) (marker_result e n (binding_or_0 (bearer v e t)) (unit_of v e).is_open)
@@ -56,9 +64,11 @@ markable v n e t sound arriving is_open =
     let (k, there) = stands n v.in_flight (flight_seen (n, record { endpoint = e; kind = Marker t })) arriving.found in
     sound.flight_suits k (flight_seen (n, record { endpoint = e; kind = Marker t })) there is_open
 
-pub bearer_there : (host : Inside) (v : Wire) (e t : ℕ) (o : Option Place) → wire_of host ≡ v → o ≡ place_under e t host.bindings → bearer v e t ≡ option_map binding_seen o
+pub bearer_there : (host : Inside) (v : Wire) (e t : ℕ) (o : Option Place) → wire_of host ≡ v → o ≡ place_under e t host.bindings → bearer v e t
+    ≡ option_map binding_seen o
 bearer_there host v e t o view found =
-    ap (λ (w : Wire). bearer w e t) (sym view) ∙ sym (((bindings_are_seen host.bindings).0 (wire_of host) refl).by_pasid e t) ∙ ap (option_map binding_seen) (sym found)
+    ap (λ (w : Wire). bearer w e t) (sym view) ∙ sym (((bindings_are_seen host.bindings).0 (wire_of host) refl).by_pasid e t)
+    ∙ ap (option_map binding_seen) (sym found)
 
 pub none_borne : (v : Wire) (e t : ℕ) → IsMarkable v e t → bearer v e t ≡ None → ⊥
 none_borne v e t is none = both (sym none ∙ is.found)
@@ -81,10 +91,12 @@ found_alone :
 found_alone [] k b is low = absurd (cc (is))
 found_alone (x ∷ bindings) zero b is low =
     let same : x ≡ b = cc in
-    ap (λ (c : Bool). cond c (Some x) (find (λ (y : BindingWire). y.binding == b.binding) bindings)) (ap (λ (y : BindingWire). y.binding == b.binding) same ∙ same_number b.binding)
+    ap (λ (c : Bool). cond c (Some x) (find (λ (y : BindingWire). y.binding == b.binding) bindings))
+    (ap (λ (y : BindingWire). y.binding == b.binding) same ∙ same_number b.binding)
     ∙ is
 found_alone (x ∷ bindings) (suc k) b is low =
-    ap (λ (c : Bool). cond c (Some x) (find (λ (y : BindingWire). y.binding == b.binding) bindings)) (below_number x.binding b.binding (low 0 x (omega arith) refl))
+    ap (λ (c : Bool). cond c (Some x) (find (λ (y : BindingWire). y.binding == b.binding) bindings))
+    (below_number x.binding b.binding (low 0 x (omega arith) refl))
     ∙ found_alone bindings k b is (λ j d l at. low (suc j) d (omega arith) at)
 
 pub by_own_number : (v : Wire) (e t : ℕ) (b : BindingWire) → IsSound v → bearer v e t ≡ Some b → binding_of v b.binding ≡ Some b
@@ -92,11 +104,13 @@ by_own_number v e t b sound found =
     let at = is_found (λ (x : BindingWire). x.endpoint == e && x.pasid == t) v.bindings b found in
     found_alone v.bindings at.place b at.stands (λ j d l is. sound.bindings_rise j at.place d b l is at.stands)
 
-pub stopping_there : (host : Inside) (v : Wire) (e t : ℕ) (p : Place) → IsHost host → wire_of host ≡ v → IsSound v → IsMarkable v e t → Some p ≡ place_under e t host.bindings
+pub stopping_there : (host : Inside) (v : Wire) (e t : ℕ) (p : Place) → IsHost host → wire_of host ≡ v → IsSound v → IsMarkable v e t → Some p
+    ≡ place_under e t host.bindings
     → IsIn Kind.stopping p.binding host.bindings
 stopping_there host v e t p h view sound is found =
     kind_in (StoppingWire false) p.binding host.bindings
-    (subst (λ (s : StageWire). IsSeenIn s p.binding host.bindings) stage (stage_there host v p.binding (binding_seen p) h view (by_own_number v e t (binding_seen p) sound borne)))
+    (subst (λ (s : StageWire). IsSeenIn s p.binding host.bindings) stage
+    (stage_there host v p.binding (binding_seen p) h view (by_own_number v e t (binding_seen p) sound borne)))
   where
     borne : bearer v e t ≡ Some (binding_seen p)
     borne = bearer_there host v e t (Some p) view found
@@ -117,9 +131,11 @@ dropped host v n e t bag view numbered arriving closed taken =
     (refl, done ∙ ap (λ (w : Wire). all_moved w (Move.Ignore n ∷ [])) view)
   where
     done : wire_of (record host { in_flight = bag }) ≡ all_moved (wire_of host) (Move.Ignore n ∷ [])
-    done = ap (λ (b : InFlight). wire_of (record host { in_flight = b })) taken ∙ (λ i. record (wire_of host) { in_flight = (flight_laws host.in_flight numbered).delivered n i })
+    done = ap (λ (b : InFlight). wire_of (record host { in_flight = b })) taken
+        ∙ (λ i. record (wire_of host) { in_flight = (flight_laws host.in_flight numbered).delivered n i })
 
-pub marked : (host : Inside) (v : Wire) (n e t : ℕ) (p : Place) (bag : InFlight) (after : List Place) → wire_of host ≡ v → IsNumbered host.in_flight → IsArriving v n e (Marker t)
+pub marked : (host : Inside) (v : Wire) (n e t : ℕ) (p : Place) (bag : InFlight) (after : List Place) → wire_of host ≡ v → IsNumbered host.in_flight
+    → IsArriving v n e (Marker t)
     → (unit_of v e).is_open ≡ true → Some p ≡ place_under e t host.bindings → bag ≡ without host.in_flight n
     → MovesTo (StoppingWire true) p.binding host.bindings after
     → ByLabels v (step.Deliver n) (Ok answer.Marked) (wire_of (record host { in_flight = bag; bindings = after }))
@@ -130,7 +146,8 @@ marked host v n e t p bag after view numbered arriving is_open found taken moves
     decided : decide_of v (step.Deliver n) ≡ record { reply = Ok answer.Marked; moves = Move.Mark e n p.binding ∷ [] }
     decided =
         decides v n e t true arriving is_open
-        ∙ ap (λ (o : Option BindingWire). record { reply = Ok answer.Marked; moves = Move.Mark e n (binding_or_0 o) ∷ [] }) (bearer_there host v e t (Some p) view found)
+        ∙ ap (λ (o : Option BindingWire). record { reply = Ok answer.Marked; moves = Move.Mark e n (binding_or_0 o) ∷ [] })
+        (bearer_there host v e t (Some p) view found)
 
     done : wire_of (record host { in_flight = bag; bindings = after }) ≡ all_moved (wire_of host) (Move.Mark e n p.binding ∷ [])
     done =

@@ -15,7 +15,9 @@ put_over : (b : ℕ) (stage : Option Stage) (places : List Place) → with_stage
 put_over b stage [] = refl
 put_over b stage (p ∷ places) = λ i. go (is_of b p) refl i ∷ put_over b stage places i
   where
-    go : (here : Bool) → is_of b p ≡ here → cond (is_of b (cond here (record p { stage = None }) p)) (record (cond here (record p { stage = None }) p) { stage = stage }) (cond here (record p { stage = None }) p)
+    go : (here : Bool) → is_of b p ≡ here
+        → cond (is_of b (cond here (record p { stage = None }) p)) (record (cond here (record p { stage = None }) p) { stage = stage })
+        (cond here (record p { stage = None }) p)
         ≡ cond here (record p { stage = stage }) p
     go true is = ap (λ (t : Bool). cond t (record p { stage = stage }) (record p { stage = None })) is
     go false is = ap (λ (t : Bool). cond t (record p { stage = stage }) p) is
@@ -25,10 +27,13 @@ gone_over b [] = refl
 gone_over b (p ∷ places) = go (is_of b p) refl (gone_over b places)
   where
     go : (here : Bool) → is_of b p ≡ here → without b (with_stage b None places) ≡ without b places
-        → cond (not (is_of b (cond here (record p { stage = None }) p))) (cond here (record p { stage = None }) p ∷ without b (with_stage b None places)) (without b (with_stage b None places))
+        → cond (not (is_of b (cond here (record p { stage = None }) p))) (cond here (record p { stage = None }) p
+        ∷ without b (with_stage b None places)) (without b (with_stage b None places))
         ≡ cond (not here) (p ∷ without b places) (without b places)
-    go true is rest = ap (λ (t : Bool). cond (not t) (record p { stage = None } ∷ without b (with_stage b None places)) (without b (with_stage b None places))) is ∙ rest
-    go false is rest = ap (λ (t : Bool). cond (not t) (p ∷ without b (with_stage b None places)) (without b (with_stage b None places))) is ∙ ap (λ ps. p ∷ ps) rest
+    go true is rest = ap
+        (λ (t : Bool). cond (not t) (record p { stage = None } ∷ without b (with_stage b None places)) (without b (with_stage b None places))) is ∙ rest
+    go false is rest = ap (λ (t : Bool). cond (not t) (p ∷ without b (with_stage b None places)) (without b (with_stage b None places))) is
+        ∙ ap (λ ps. p ∷ ps) rest
 
 pub moves_to : (b : ℕ) (places hand after : List Place) (stage : Stage) → hand ≡ with_stage b None places → after ≡ with_stage b (Some stage) hand
     → MovesTo (stage_seen stage) b places after

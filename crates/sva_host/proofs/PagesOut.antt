@@ -1,6 +1,7 @@
 -- Pages of a space in a row are taken out, by labels.
 use Rattle.std.proofs.Common.{◌≡◌, refl, ap, sym, ◌∙◌, subst, ℕ, zero, suc, ◌+◌, ◌*◌, ◌^◌, ◌<◌, ◌≤◌, Bool, true, false, arith}
-use Rattle.std.specs.Prelude.{◌&&◌, ◌||◌, not, nat_le, if◌then◌else◌, Option, Some, None, is_some, option_map, nat_lt, ◌==◌, slice_get, IsTrue, ◌↔◌, Ok, Err, List, [], ◌∷◌, map, filter, length, slice_index_or}
+use Rattle.std.specs.Prelude.{◌&&◌, ◌||◌, not, nat_le, if◌then◌else◌, Option, Some, None, is_some, option_map, nat_lt, ◌==◌, slice_get, IsTrue, ◌↔◌, Ok}
+use Rattle.std.specs.Prelude.{Err, List, [], ◌∷◌, map, filter, length, slice_index_or}
 use Rattle.std.specs.List.{list_any}
 use Rattle.std.specs.Set.{distinct_count, is_member}
 use Rattle.std.proofs.lemmas.List.Folds.{list_any-append}
@@ -43,16 +44,19 @@ use Rattle.sva_host.proofs.Submitting.{room_there}
 abbrev pub unit_causes : Wire → (space descriptors : ℕ) → List Cause
 unit_causes w n k = queue_full w n k ∷ numbers_spent w.next_cookie (waits_needed w n) ∷ []
 
-pub unmap_refused : (host : Inside) (n q count : ℕ) (x : Refusal) → Err x ≡ may_unmap host.memory n q count → ByLabels (wire_of host) (step.Unmap n q count) (Err x) (wire_of host)
+pub unmap_refused : (host : Inside) (n q count : ℕ) (x : Refusal) → Err x ≡ may_unmap host.memory n q count
+    → ByLabels (wire_of host) (step.Unmap n q count) (Err x) (wire_of host)
 unmap_refused host n q count x is =
-    refused_by tt (unmap_causes_of host.memory n q count) (unit_causes (wire_of host) n (count + 1)) (result_of (wire_of host) (step.Unmap n q count)) (wire_of host) x (tt, (tt, (tt, (tt, tt)))) (sym is)
+    refused_by tt (unmap_causes_of host.memory n q count) (unit_causes (wire_of host) n (count + 1))
+    (result_of (wire_of host) (step.Unmap n q count)) (wire_of host) x (tt, (tt, (tt, (tt, tt)))) (sym is)
 
 units_decide : (host : Inside) (n q count : ℕ) → Ok tt ≡ may_unmap host.memory n q count
     → decide_of (wire_of host) (step.Unmap n q count) ≡ checked (unit_causes (wire_of host) n (count + 1)) (result_of (wire_of host) (step.Unmap n q count))
 units_decide host n q count is =
     passed tt tt (unmap_causes_of host.memory n q count) (unit_causes (wire_of host) n (count + 1)) (result_of (wire_of host) (step.Unmap n q count)) (sym is)
 
-pub units_refuse : (host : Inside) (v : Wire) (n q count : ℕ) (x : Refusal) → wire_of host ≡ v → Ok tt ≡ may_unmap host.memory n q count → Err x ≡ verdict (unit_causes v n (count + 1))
+pub units_refuse : (host : Inside) (v : Wire) (n q count : ℕ) (x : Refusal) → wire_of host ≡ v → Ok tt ≡ may_unmap host.memory n q count → Err x
+    ≡ verdict (unit_causes v n (count + 1))
     → ByLabels (wire_of host) (step.Unmap n q count) (Err x) (wire_of host)
 units_refuse host v n q count x view allows is =
     subst (λ (d : Decision). Does d (wire_of host) (Err x) (wire_of host)) (sym (units_decide host n q count allows))
@@ -88,7 +92,8 @@ at_least_one memory n q count allows = one count (all_clear tt tt (unmap_causes_
     one : (c : ℕ) → not (nat_le 1 c && nat_le c 48) ≡ false → 1 ≤ c
     one c is = grind (arith, nat_tests)
 
-pub room_for : (v : Wire) (n count : ℕ) (places : List PlaceWire) (targets : List (Option TargetWire)) → IsSound v → 1 ≤ count → have_room v n (count + 1) ≡ true
+pub room_for : (v : Wire) (n count : ℕ) (places : List PlaceWire) (targets : List (Option TargetWire)) → IsSound v → 1 ≤ count
+    → have_room v n (count + 1) ≡ true
     → places ≡ v.places → targets ≡ targets_of v n → HaveRoom places targets
 room_for v n count places targets s more free same is = λ e target h. go e target h
   where
@@ -109,7 +114,8 @@ room_for v n count places targets s more free same is = λ e target h. go e targ
 any_of : {A : Type 0} (n : ℕ) (f : ℕ → Option A) → list_any is_some (tabulate n f) ≡ any_below n (λ k. is_some (f k))
 unfolding tabulate any_below
 any_of zero f = refl
-any_of (suc n) f = list_any-append is_some (tabulate n f) (f n ∷ []) ∙ ap (λ (b : Bool). b || (is_some (f n) || false)) (any_of n f) ∙ go (any_below n (λ k. is_some (f k))) (is_some (f n))
+any_of (suc n) f = list_any-append is_some (tabulate n f) (f n ∷ []) ∙ ap (λ (b : Bool). b || (is_some (f n) || false)) (any_of n f)
+    ∙ go (any_below n (λ k. is_some (f k))) (is_some (f n))
   where
     go : (a b : Bool) → (a || (b || false)) ≡ (if b then true else a)
     go true true = refl
@@ -180,16 +186,19 @@ unmap_ends host now v n q count ts memory r view allows fits seen targets after 
 
 -- The same of a range.
 
-pub range_refused : (host : Inside) (n q order : ℕ) (x : Refusal) → Err x ≡ may_unmap_range host.memory n q order → ByLabels (wire_of host) (step.UnmapRange n q order) (Err x) (wire_of host)
+pub range_refused : (host : Inside) (n q order : ℕ) (x : Refusal) → Err x ≡ may_unmap_range host.memory n q order
+    → ByLabels (wire_of host) (step.UnmapRange n q order) (Err x) (wire_of host)
 range_refused host n q order x is =
-    refused_by tt (range_causes_of host.memory n q order) (unit_causes (wire_of host) n 2) (result_of (wire_of host) (step.UnmapRange n q order)) (wire_of host) x (tt, (tt, (tt, (tt, (tt, tt))))) (sym is)
+    refused_by tt (range_causes_of host.memory n q order) (unit_causes (wire_of host) n 2) (result_of (wire_of host) (step.UnmapRange n q order))
+    (wire_of host) x (tt, (tt, (tt, (tt, (tt, tt))))) (sym is)
 
 range_decide : (host : Inside) (n q order : ℕ) → Ok tt ≡ may_unmap_range host.memory n q order
     → decide_of (wire_of host) (step.UnmapRange n q order) ≡ checked (unit_causes (wire_of host) n 2) (result_of (wire_of host) (step.UnmapRange n q order))
 range_decide host n q order is =
     passed tt tt (range_causes_of host.memory n q order) (unit_causes (wire_of host) n 2) (result_of (wire_of host) (step.UnmapRange n q order)) (sym is)
 
-pub range_refuse : (host : Inside) (v : Wire) (n q order : ℕ) (x : Refusal) → wire_of host ≡ v → Ok tt ≡ may_unmap_range host.memory n q order → Err x ≡ verdict (unit_causes v n 2)
+pub range_refuse : (host : Inside) (v : Wire) (n q order : ℕ) (x : Refusal) → wire_of host ≡ v → Ok tt ≡ may_unmap_range host.memory n q order
+    → Err x ≡ verdict (unit_causes v n 2)
     → ByLabels (wire_of host) (step.UnmapRange n q order) (Err x) (wire_of host)
 range_refuse host v n q order x view allows is =
     subst (λ (d : Decision). Does d (wire_of host) (Err x) (wire_of host)) (sym (range_decide host n q order allows))
@@ -234,7 +243,8 @@ pub range_ends :
     → ByLabels v (step.UnmapRange n q order) r (wire_of (record now { memory = memory }))
 range_ends host now v n q order ts memory r view allows fits seen targets after answers =
     subst (λ (x : Reply). ByLabels v (step.UnmapRange n q order) x (wire_of (record now { memory = memory }))) (sym answers)
-    (range_done host now v n q order ts memory (unmap_range_answer (has_target ts) (count_below (2 ^ order) (λ j. is_mapped (pages_in v n) (q + j)))) view allows fits seen targets after refl)
+    (range_done host now v n q order ts memory (unmap_range_answer (has_target ts) (count_below (2 ^ order) (λ j. is_mapped (pages_in v n) (q + j))))
+    view allows fits seen targets after refl)
 
 -- what tells that nothing is awaited
 pub empty_if : (r b : Bool) → IsTrue r ↔ (b ≡ false) → r ≡ true → b ≡ false

@@ -31,7 +31,8 @@ pub below : (ports : List Port) (e : ℕ) → nat_lt e (length (map part_seen po
 below ports e there = ltb-true e (length ports) (ap (nat_lt e) (sym (length-map ports part_seen)) ∙ there)
 
 -- the part at an endpoint is that of its port
-pub part_there : (ports : List Port) (e : ℕ) (port : Port) → e < length ports → slice_index_or (map part_seen ports) e idle ≡ part_seen (slice_index_or ports e port)
+pub part_there : (ports : List Port) (e : ℕ) (port : Port) → e < length ports → slice_index_or (map part_seen ports) e idle
+    ≡ part_seen (slice_index_or ports e port)
 part_there [] e port there = absurd (omega arith)
 part_there (p ∷ ports) zero port there = refl
 part_there (p ∷ ports) (suc e) port there = part_there ports e port (omega arith)
@@ -74,7 +75,8 @@ same_port host w e at read slice d f view for same other =
     (λ i. slice_index_or (other i) (for.0 i) f) ∙ same_there host.ports.items e f d within ∙ (λ i. slice_index_or (sym same i) (sym for.0 i) d)
 
 -- a port whose device was changed through a slice
-pub rewritten : (host : Inside) (w : Wire) (e at : ℕ) (read slice : List Port) (d f : Port) (tables : Tables) (after : Tables → Tables) → wire_of host ≡ w → PortFor w e (Ok at)
+pub rewritten : (host : Inside) (w : Wire) (e at : ℕ) (read slice : List Port) (d f : Port) (tables : Tables) (after : Tables → Tables)
+    → wire_of host ≡ w → PortFor w e (Ok at)
     → read ≡ host.ports.items → slice ≡ host.ports.items → tables ≡ after (slice_index_or slice at f).device
     → refill (length host.ports.items) host.ports.items (slice_set slice at (record { device = tables; unit = (slice_index_or slice at f).unit }))
     ≡ slice_set host.ports.items e (record (slice_index_or read at d) { device = after (slice_index_or read at d).device })
@@ -93,7 +95,8 @@ pub with_tables_seen : (host : Inside) (e : ℕ) (port : Port) (tables : Tables)
     → wire_of (with_tables host e port tables) ≡ with_device (wire_of host) e d
 with_tables_seen host e port tables d is same = λ i. record (wire_of host) { parts = parts i }
   where
-    parts : map part_seen (slice_set host.ports.items e (record port { device = tables })) ≡ slice_set (map part_seen host.ports.items) e (record (part_of (wire_of host) e) { device = d })
+    parts : map part_seen (slice_set host.ports.items e (record port { device = tables }))
+        ≡ slice_set (map part_seen host.ports.items) e (record (part_of (wire_of host) e) { device = d })
     parts =
         map-set part_seen host.ports.items e (record port { device = tables })
         ∙ (λ i. slice_set (map part_seen host.ports.items) e (record (sym is.part i) { device = same i }))

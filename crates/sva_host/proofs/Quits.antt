@@ -46,12 +46,14 @@ pub quit_refused : (host : Inside) (e t : ℕ) (port : Port) (x : Refusal) → I
     → ByLabels (wire_of host) (step.Quit e t) (Err x) (wire_of host)
 quit_refused host e t port x is refuses =
     subst (λ (d : Decision). Does d (wire_of host) (Err x) (wire_of host)) (sym (decided host e t port is))
-    (refused_by _ (refusals_of_quit port.device t) (numbers_spent host.in_flight.next 1 ∷ []) (result_of (wire_of host) (step.Quit e t)) (wire_of host) x (tt, (tt, tt)) (sym refuses))
+    (refused_by _ (refusals_of_quit port.device t) (numbers_spent host.in_flight.next 1 ∷ []) (result_of (wire_of host) (step.Quit e t))
+    (wire_of host) x (tt, (tt, tt)) (sym refuses))
 
 may : (host : Inside) (e t : ℕ) (port : Port) (a : Kind) → IsPort host e port → Ok a ≡ quitting port.device t
     → decide_of (wire_of host) (step.Quit e t) ≡ checked (numbers_spent host.in_flight.next 1 ∷ []) (by_one answer.Marker (Move.Quit e t))
 may host e t port a is allows =
-    decided host e t port is ∙ passed _ a (refusals_of_quit port.device t) (numbers_spent host.in_flight.next 1 ∷ []) (result_of (wire_of host) (step.Quit e t)) (sym allows)
+    decided host e t port is
+    ∙ passed _ a (refusals_of_quit port.device t) (numbers_spent host.in_flight.next 1 ∷ []) (result_of (wire_of host) (step.Quit e t)) (sym allows)
 
 pub quit_unsent : (host : Inside) (e t : ℕ) (port : Port) (a : Kind) (bag : InFlight) (x : Refusal) → IsPort host e port → Ok a ≡ quitting port.device t
     → Sends host.in_flight e a 1 (Err x) bag

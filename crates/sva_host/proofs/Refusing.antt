@@ -10,7 +10,8 @@ use Rattle.sva_endpoint.specs.Steps.{unless}
 use Rattle.sva_host.proofs.Deciding.{AreClear, AreOther, IsOther}
 
 -- the first causes don't hold, and the next one does; or none does
-pub refuses : {A : Type 0} (a : A) (front rest : List Cause) (cause : Cause) → AreClear front → cause.0 ≡ true → unless (front ++ cause ∷ rest) a ≡ Err cause.1
+pub refuses : {A : Type 0} (a : A) (front rest : List Cause) (cause : Cause) → AreClear front → cause.0 ≡ true → unless (front ++ cause ∷ rest) a
+    ≡ Err cause.1
 refuses a [] rest cause clear holds = ap (λ (b : Bool). if b then Err cause.1 else unless rest a) holds
 refuses a (c ∷ front) rest cause clear holds =
     ap (λ (b : Bool). if b then Err c.1 else unless (front ++ cause ∷ rest) a) clear.0 ∙ refuses a front rest cause clear.1 holds

@@ -35,9 +35,11 @@ use Rattle.sva_host.proofs.Sent.{sent_decided}
 
 -- What is found.
 
-pub bearer_is : (host : Inside) (v : Wire) (e t : ℕ) (o : Option Place) → wire_of host ≡ v → o ≡ place_under e t host.bindings → bearer v e t ≡ option_map binding_seen o
+pub bearer_is : (host : Inside) (v : Wire) (e t : ℕ) (o : Option Place) → wire_of host ≡ v → o ≡ place_under e t host.bindings → bearer v e t
+    ≡ option_map binding_seen o
 bearer_is host v e t o view is =
-    ap (λ (w : Wire). bearer w e t) (sym view) ∙ sym (((bindings_are_seen host.bindings).0 (wire_of host) refl).by_pasid e t) ∙ ap (option_map binding_seen) (sym is)
+    ap (λ (w : Wire). bearer w e t) (sym view) ∙ sym (((bindings_are_seen host.bindings).0 (wire_of host) refl).by_pasid e t)
+    ∙ ap (option_map binding_seen) (sym is)
 
 pub found_by : (host : Inside) (v : Wire) (e t q : ℕ) (o : Option Place) → wire_of host ≡ v → o ≡ place_under e t host.bindings
     → found_for v q (option_map binding_seen o) ≡ found_for v q (bearer v e t)
@@ -66,22 +68,28 @@ pub unasked : (host : Inside) (v : Wire) (n e tag t q : ℕ) (port : Port) (bag 
 unasked host v n e tag t q port bag view numbered is arriving shut taken =
     subst (λ (u : Wire). ByLabels u (step.Deliver n) (Ok answer.Dropped) (wire_of (record host { in_flight = bag }))) view
     (subst (λ (d : Decision). Does d (wire_of host) (Ok answer.Dropped) (wire_of (record host { in_flight = bag })))
-    (sym (decided (wire_of host) n e tag t q false (here host v n e (Request tag t q) view arriving) (open_at host e port false is shut)))
-    (refl, ap (λ (b : InFlight). wire_of (record host { in_flight = b })) taken ∙ (λ i. record (wire_of host) { in_flight = (flight_laws host.in_flight numbered).delivered n i })))
+    (sym (decided (wire_of host) n e tag t q false (here host v n e (Request tag t q) view arriving) (open_at host e port false is shut))) (
+      refl,
+      ap (λ (b : InFlight). wire_of (record host { in_flight = b })) taken
+          ∙ (λ i. record (wire_of host) { in_flight = (flight_laws host.in_flight numbered).delivered n i }),
+    ))
 
 -- at an open unit
 may : (host : Inside) (n e tag t q : ℕ) (port : Port) → IsPort host e port → IsArriving (wire_of host) n e (Request tag t q) → port.unit.unit.is_open ≡ true
     → decide_of (wire_of host) (step.Deliver n)
-    ≡ checked (numbers_spent host.in_flight.next 1 ∷ []) (by_one answer.Completion (Move.Complete e n (completion_of tag (found_for (wire_of host) q (bearer (wire_of host) e t)))))
+    ≡ checked (numbers_spent host.in_flight.next 1 ∷ [])
+    (by_one answer.Completion (Move.Complete e n (completion_of tag (found_for (wire_of host) q (bearer (wire_of host) e t)))))
 may host n e tag t q port is arriving is_open = decided (wire_of host) n e tag t q true arriving (open_at host e port true is is_open)
 
-pub answer_unsent : (host : Inside) (v : Wire) (n e tag t q : ℕ) (port : Port) (kind : Kind) (bag : InFlight) (x : Refusal) → wire_of host ≡ v → IsPort host e port
+pub answer_unsent : (host : Inside) (v : Wire) (n e tag t q : ℕ) (port : Port) (kind : Kind) (bag : InFlight) (x : Refusal) → wire_of host ≡ v
+    → IsPort host e port
     → IsArriving v n e (Request tag t q) → port.unit.unit.is_open ≡ true → Sends host.in_flight e kind 1 (Err x) bag
     → ByLabels (wire_of host) (step.Deliver n) (Err x) (wire_of (record host { in_flight = bag }))
 answer_unsent host v n e tag t q port kind bag x view is arriving is_open sends =
     unsent_done host (step.Deliver n) e kind 1 bag x _ (may host n e tag t q port is (here host v n e (Request tag t q) view arriving) is_open) sends
 
-pub answered : (host : Inside) (v : Wire) (n e tag t q : ℕ) (port : Port) (kind : Kind) (bag left : InFlight) → wire_of host ≡ v → IsNumbered host.in_flight → MayDeliver host.in_flight n → IsPort host e port
+pub answered : (host : Inside) (v : Wire) (n e tag t q : ℕ) (port : Port) (kind : Kind) (bag left : InFlight) → wire_of host ≡ v
+    → IsNumbered host.in_flight → MayDeliver host.in_flight n → IsPort host e port
     → IsArriving v n e (Request tag t q) → port.unit.unit.is_open ≡ true → kind_seen kind ≡ completion_of tag (found_for v q (bearer v e t))
     → Sends host.in_flight e kind 1 (Ok tt) bag → left ≡ without bag n
     → ByLabels v (step.Deliver n) (Ok answer.Completion) (wire_of (record host { in_flight = left }))
@@ -100,7 +108,8 @@ answered host v n e tag t q port kind bag left view numbered free is arriving is
     all : left ≡ without (with_sent host.in_flight message 1) n
     all = taken ∙ ap (λ (b : InFlight). without b n) sends.1
 
-    after : wire_of (record host { in_flight = left }) ≡ moved (wire_of host) (Move.Complete e n (completion_of tag (found_for (wire_of host) q (bearer (wire_of host) e t))))
+    after : wire_of (record host { in_flight = left })
+        ≡ moved (wire_of host) (Move.Complete e n (completion_of tag (found_for (wire_of host) q (bearer (wire_of host) e t))))
     after =
         ap (λ (b : InFlight). wire_of (record host { in_flight = b })) all
         ∙ (λ i. record (wire_of host) {

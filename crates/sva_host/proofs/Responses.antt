@@ -1,6 +1,7 @@
 -- What is answered to a job, by labels.
 use Rattle.std.proofs.Common.{◌≡◌, refl, ap, sym, ◌∙◌, subst, ℕ, zero, suc, ◌+◌, ◌<◌, ◌≤◌, ◌^◌, Bool, true, false, arith}
-use Rattle.std.specs.Prelude.{◌&&◌, not, nat_lt, if◌then◌else◌, is_some, is_err, Result, Ok, Err, IsOk, IsErr, IsErrAnd, Option, Some, None, List, [], ◌∷◌, ◌++◌, map, filter, length, slice_set, slice_index_or}
+use Rattle.std.specs.Prelude.{◌&&◌, not, nat_lt, if◌then◌else◌, is_some, is_err, Result, Ok, Err, IsOk, IsErr, IsErrAnd, Option, Some, None, List, [], ◌∷◌}
+use Rattle.std.specs.Prelude.{◌++◌, map, filter, length, slice_set, slice_index_or}
 use Rattle.std.proofs.lemmas.List.{set-get_or}
 use Rattle.sva_step.specs.declared.answers.Answer.TheVariants as answer
 use Rattle.sva_step.specs.declared.refusals.Refusal.{Refusal}
@@ -16,7 +17,8 @@ use Rattle.sva_model.specs.Replies.{is_success}
 use Rattle.sva_model.specs.Wire.{Wire, BindingWire, StageWire, PartWire, HostGroupWire, AskWire, JobWire}
 use Rattle.sva_model.specs.Wire.StageWire.{LiveWire, StoppingWire, DrainingWire, InvalidatingWire, QuietWire, LostWire}
 use Rattle.sva_labels.specs.Finding.{idle, is_space, pages_in, free_from, binding_of, unit_of}
-use Rattle.sva_labels.specs.Replying.{response_by, response_for, response_to, responds, replies_success, space_by, space_of_job, newly_mapped, is_write_of_read_only}
+use Rattle.sva_labels.specs.Replying.{response_by, response_for, response_to, responds, replies_success, space_by, space_of_job, newly_mapped}
+use Rattle.sva_labels.specs.Replying.{is_write_of_read_only}
 use Rattle.sva_labels.specs.Causes.{lacks, numbers_spent}
 use Rattle.sva_labels.specs.Host.{Decision, checked}
 use Rattle.sva_labels.specs.Moves.{Move, moved, all_moved, is_of_job, sent, pasid_or_0}
@@ -96,7 +98,8 @@ decided_by w job s r c =
     ∷ [])
     (responded_by w job (if s then maps_to (space_of_job w job) job.asks (newly_mapped w job) (free_from 0 w.places) else []) c)
 
-is_decided : (w : Wire) (job : JobWire) (v : Verdict) → responded_of w job v ≡ decided_by w job (replies_success w job v) (responds w job) (response_to w job v)
+is_decided : (w : Wire) (job : JobWire) (v : Verdict) → responded_of w job v
+    ≡ decided_by w job (replies_success w job v) (responds w job) (response_to w job v)
 is_decided w job v = refl
 
 pub dropped : (w : Wire) (job : JobWire) (v : Verdict) → response_to w job v ≡ None → Does (responded_of w job v) w (Ok answer.Dropped) w
@@ -173,7 +176,8 @@ pub unsent_down : (host : Inside) (v : Wire) (job : Job) (t : ℕ) (c : SentCode
     → Does (turned_down v (job_seen job) t (code_seen c)) v (Err x) (wire_of (record host { in_flight = bag }))
 unsent_down host v job t c bag x view sends =
     subst (λ (w : Wire). Does (turned_down w (job_seen job) t (code_seen c)) w (Err x) (wire_of (record host { in_flight = bag }))) view
-    (subst (λ (b : InFlight). Does (turned_down (wire_of host) (job_seen job) t (code_seen c)) (wire_of host) (Err x) (wire_of (record host { in_flight = b })))
+    (subst (λ (b : InFlight). Does (turned_down (wire_of host) (job_seen job) t (code_seen c)) (wire_of host) (Err x)
+    (wire_of (record host { in_flight = b })))
     (sym (unsent_same host.in_flight bag job.unit (Response t job.index c) 1 x sends))
     (unsent host.in_flight bag job.unit (Response t job.index c) 1 x (wire_of host) _ sends))
 
@@ -296,7 +300,8 @@ all_moved_last w (a ∷ ms) m = all_moved_last (moved w a) ms m
 
 pub success_done : (host : Inside) (v : Wire) (job : Job) (n t k : ℕ) (pages : List ℕ) (after : MemorySeen) (bag : InFlight) (r : Result (Unit {0}) Refusal)
     → wire_of host ≡ v
-    → Ok tt ≡ may_map_all host.memory n (asks_of_job job) → host.in_flight.next < 2 ^ 63 → pages ≡ new_pages host.memory n (asks_of_job job) → k ≡ length pages
+    → Ok tt ≡ may_map_all host.memory n (asks_of_job job) → host.in_flight.next < 2 ^ 63 → pages ≡ new_pages host.memory n (asks_of_job job) → k
+    ≡ length pages
     → AllMoves (maps_of host.memory n (asks_of_job job)) host.memory after
     → Sends host.in_flight job.unit (Response t job.index code.Success) 1 r bag → is_err r ≡ false
     → Does (succeeded v (job_seen job) n t) v (Ok (answer.Success k)) (wire_of (record host { memory = after; in_flight = bag }))

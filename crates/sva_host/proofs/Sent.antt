@@ -29,10 +29,18 @@ unsent_same bag after e kind copies _ is = absurd is
 pub unsent : (bag after : InFlight) (e : ℕ) (kind : Kind) (copies : ℕ) (x : Refusal) (w : Wire) (r : outcomes.Result) → Sends bag e kind copies (Err x) after
     → Does (checked (numbers_spent bag.next copies ∷ []) r) w (Err x) w
 unsent bag after e kind copies refusal.NumbersSpent w r is =
-    subst (λ (b : Bool). Does (if b then record { reply = Err refusal.NumbersSpent; moves = [] } else record { reply = Ok r.answer; moves = r.moves }) w (Err refusal.NumbersSpent) w)
+    subst (λ (b : Bool). Does (if b then record { reply = Err refusal.NumbersSpent; moves = [] } else record {
+      reply = Ok r.answer;
+      moves =
+          r.moves;
+    }) w (Err refusal.NumbersSpent) w)
     (sym is.0) (refl, refl)
 unsent bag after e kind copies refusal.OutOfMemory w r is =
-    subst (λ (b : Bool). Does (if b then record { reply = Err refusal.NumbersSpent; moves = [] } else record { reply = Ok r.answer; moves = r.moves }) w (Err refusal.OutOfMemory) w)
+    subst (λ (b : Bool). Does (if b then record { reply = Err refusal.NumbersSpent; moves = [] } else record {
+      reply = Ok r.answer;
+      moves =
+          r.moves;
+    }) w (Err refusal.OutOfMemory) w)
     (sym is.0) (refl, refl)
 unsent bag after e kind copies _ w r is = absurd is
 

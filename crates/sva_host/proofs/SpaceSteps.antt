@@ -46,12 +46,14 @@ still_bound host v n view there bound =
     (go (is_space (wire_of host) n) (is_bound (wire_of host) n) there (bound_seen host n ∙ bound))
   where
     go : (b c : Bool) → b ≡ true → c ≡ true
-        → Does (checked ((not b, refusal.NoSuchSpace) ∷ (c, refusal.StillBound) ∷ []) (by_one answer.Gone (Move.DropSpace n))) (wire_of host) (Err refusal.StillBound) (wire_of host)
+        → Does (checked ((not b, refusal.NoSuchSpace) ∷ (c, refusal.StillBound) ∷ []) (by_one answer.Gone (Move.DropSpace n))) (wire_of host)
+        (Err refusal.StillBound) (wire_of host)
     go true true _ _ = (refl, refl)
     go true false _ is = absurd (cc (is))
     go false c is _ = absurd (cc (is))
 
-pub dropped : (host : Inside) (v : Wire) (n : ℕ) (after : MemorySeen) → wire_of host ≡ v → memory.has_space host.memory n ≡ true → places.is_bound n host.bindings ≡ false
+pub dropped : (host : Inside) (v : Wire) (n : ℕ) (after : MemorySeen) → wire_of host ≡ v → memory.has_space host.memory n ≡ true
+    → places.is_bound n host.bindings ≡ false
     → memory.Moves (Move.DropSpace n) host.memory after
     → ByLabels v (step.DropSpace n) (Ok answer.Gone) (wire_of (record host { memory = after }))
 dropped host v n after view there free moves =

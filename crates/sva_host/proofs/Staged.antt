@@ -44,5 +44,6 @@ reset_staged places e staged = All-map IsStaged (reset_at e) places
     go false place is = is
 
 -- a binding that began, and was taken back
-pub back_staged : (places after left : List Place) (e n b t : ℕ) → after ≡ places ++ begun e n b t ∷ [] → left ≡ without b after → AreStaged places → AreStaged left
+pub back_staged : (places after left : List Place) (e n b t : ℕ) → after ≡ places ++ begun e n b t ∷ [] → left ≡ without b after → AreStaged places
+    → AreStaged left
 back_staged places after left e n b t begins back staged = subst AreStaged (sym back) (left_staged after b (begun_staged places after e n b t begins staged))

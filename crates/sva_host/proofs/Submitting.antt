@@ -33,7 +33,8 @@ use Rattle.sva_host.proofs.Awaited.{first_cookie, next_cookie_there, next_cookie
 pub room_there : (w : Wire) (n k e : ℕ) → have_room w n k ≡ true → e < length w.parts → submits w n e ≡ true → has_room (unit_of w e) k ≡ true
 room_there w n k e room there asks =
     both (submits w n e) (has_room (unit_of w e) k) asks
-    (any_below-false (length w.parts) (λ e. submits w n e && not (has_room (unit_of w e) k)) (none (any_below (length w.parts) (λ e. submits w n e && not (has_room (unit_of w e) k))) room) e there)
+    (any_below-false (length w.parts) (λ e. submits w n e && not (has_room (unit_of w e) k))
+    (none (any_below (length w.parts) (λ e. submits w n e && not (has_room (unit_of w e) k))) room) e there)
   where
     none : (b : Bool) → not b ≡ true → b ≡ false
     none false is = refl
@@ -120,13 +121,15 @@ pub part_now :
     → part_seen (slice_index_or now e d) ≡ part_of (wire_with ports bindings first) e
 part_now ports bindings first n q count order e now cookie d is there =
     let w = wire_with ports bindings first in
-    let long : length now ≡ length ports = sym (length-map now part_seen) ∙ ap length is.parts ∙ tabulate_length (length ports) (part_so_far w n q count order e) in
+    let long : length now ≡ length ports = sym (length-map now part_seen) ∙ ap length is.parts
+    ∙ tabulate_length (length ports) (part_so_far w n q count order e) in
     sym (part_there now e d (omega arith))
     ∙ ap (λ (l : List PartWire). slice_index_or l e idle) is.parts
     ∙ tabulate_at (length ports) (part_so_far w n q count order e) e idle there
     ∙ left_at w n q count order e e (omega arith)
 
-same_devices : (now : List Port) (e : ℕ) (d : Port) (u : UnitSeen) → devices_of (slice_set now e (record (slice_index_or now e d) { unit = u })) ≡ devices_of now
+same_devices : (now : List Port) (e : ℕ) (d : Port) (u : UnitSeen) → devices_of (slice_set now e (record (slice_index_or now e d) { unit = u }))
+    ≡ devices_of now
 same_devices [] e d u = refl
 same_devices (p ∷ now) zero d u = refl
 same_devices (p ∷ now) (suc e) d u = ap (λ l. p.device ∷ l) (same_devices now e d u)
@@ -148,14 +151,19 @@ asks ports bindings first n q count order e now after cookie next t d u is there
     let seen : part_seen (record port { unit = u }) ≡ part_so_far w n q count order (e + 1) e =
     ap (λ (v : UnitSeen). part_seen (record port { unit = v })) unit
     ∙ (λ i. record (part i) { unit = with_descriptors (part i).unit (descriptors_for (bearer i) q count order (is.cookie i)) (is.cookie i) })
-    ∙ sym (ap (λ (b : Bool). if b then record (part_of w e) { unit = with_descriptors (unit_of w e) (descriptors_for (pasid_or_0 (bound_at w e n)) q count order (cookie_at w n e)) (cookie_at w n e) } else part_of w e) yes_asks)
+    ∙ sym (ap (λ (b : Bool). if b then record (part_of w e) {
+      unit =
+          with_descriptors (unit_of w e) (descriptors_for (pasid_or_0 (bound_at w e n)) q count order (cookie_at w n e)) (cookie_at w n e);
+    }
+    else part_of w e) yes_asks)
     ∙ sym (done_at w n q count order (e + 1) e (omega arith)) in
     record {
       parts =
           ap (map part_seen) changed
           ∙ map-set part_seen now e (record port { unit = u })
           ∙ (λ i. slice_set (is.parts i) e (seen i))
-          ∙ sym (tabulate_set (length ports) (part_so_far w n q count order e) (part_so_far w n q count order (e + 1)) e _ refl (other_parts w n q count order e));
+          ∙ sym (tabulate_set (length ports) (part_so_far w n q count order e) (part_so_far w n q count order (e + 1)) e _ refl
+          (other_parts w n q count order e));
       devices = ap devices_of changed ∙ same_devices now e d u ∙ is.devices;
       cookie = counted ∙ ap (λ k. k + 1) is.cookie ∙ sym (next_cookie_there w n e yes_asks);
     }
@@ -170,7 +178,8 @@ pub asks_not :
 asks_not ports bindings first n q count order e now after cookie next is no_asks changed counted =
     let w = wire_with ports bindings first in
     record {
-      parts = ap (map part_seen) changed ∙ is.parts ∙ tabulate_same (length ports) (part_so_far w n q count order e) (part_so_far w n q count order (e + 1)) (λ k l. go k (ℕ_cases k e));
+      parts = ap (map part_seen) changed ∙ is.parts
+          ∙ tabulate_same (length ports) (part_so_far w n q count order e) (part_so_far w n q count order (e + 1)) (λ k l. go k (ℕ_cases k e));
       devices = ap devices_of changed ∙ is.devices;
       cookie = counted ∙ is.cookie ∙ sym (next_cookie_off w n e no_asks);
     }
@@ -179,11 +188,17 @@ asks_not ports bindings first n q count order e now after cookie next is no_asks
     here =
         let w = wire_with ports bindings first in
         left_at w n q count order e e (omega arith)
-        ∙ sym (ap (λ (b : Bool). if b then record (part_of w e) { unit = with_descriptors (unit_of w e) (descriptors_for (pasid_or_0 (bound_at w e n)) q count order (cookie_at w n e)) (cookie_at w n e) } else part_of w e) no_asks)
+        ∙ sym (ap (λ (b : Bool). if b then record (part_of w e) {
+          unit =
+              with_descriptors (unit_of w e) (descriptors_for (pasid_or_0 (bound_at w e n)) q count order (cookie_at w n e)) (cookie_at w n e);
+        }
+        else part_of w e) no_asks)
         ∙ sym (done_at w n q count order (e + 1) e (omega arith))
 
-    go : (k : ℕ) → (k ≡ e) ⊎ (k ≢ e) → part_so_far (wire_with ports bindings first) n q count order e k ≡ part_so_far (wire_with ports bindings first) n q count order (e + 1) k
-    go k (inl at) = ap (part_so_far (wire_with ports bindings first) n q count order e) at ∙ here ∙ ap (part_so_far (wire_with ports bindings first) n q count order (e + 1)) (sym at)
+    go : (k : ℕ) → (k ≡ e) ⊎ (k ≢ e) → part_so_far (wire_with ports bindings first) n q count order e k
+        ≡ part_so_far (wire_with ports bindings first) n q count order (e + 1) k
+    go k (inl at) = ap (part_so_far (wire_with ports bindings first) n q count order e) at ∙ here
+        ∙ ap (part_so_far (wire_with ports bindings first) n q count order (e + 1)) (sym at)
     go k (inr apart) = sym (other_parts (wire_with ports bindings first) n q count order e k apart)
 
 -- whether it does, as it is asked on the way
@@ -192,7 +207,8 @@ pub asks_there :
     → IsSubmitting ports bindings first n q count order e now cookie
     → e < length ports
     → o ≡ place_between e n bindings
-    → pasid_asked (slice_index_or now e d).unit.unit (option_map binding_seen o) ≡ pasid_asked (unit_of (wire_with ports bindings first) e) (bound_at (wire_with ports bindings first) e n)
+    → pasid_asked (slice_index_or now e d).unit.unit (option_map binding_seen o)
+    ≡ pasid_asked (unit_of (wire_with ports bindings first) e) (bound_at (wire_with ports bindings first) e n)
 asks_there ports bindings first n q count order e now cookie d o is there found =
     let w = wire_with ports bindings first in
     let part = part_now ports bindings first n q count order e now cookie d is there in
@@ -207,7 +223,8 @@ pub ends :
     × (cookie ≡ first + waits_needed (wire_with ports bindings first) n)
 ends ports bindings first n q count order e now cookie is all =
     let w = wire_with ports bindings first in (
-      is.parts ∙ tabulate_same (length ports) (part_so_far w n q count order e) (part_unmapped w n q count order) (λ k l. done_at w n q count order e k (omega arith)),
+      is.parts ∙ tabulate_same (length ports) (part_so_far w n q count order e) (part_unmapped w n q count order)
+          (λ k l. done_at w n q count order e k (omega arith)),
       is.cookie ∙ ap (cookie_at w n) (all ∙ sym (length-map ports part_seen)),
     )
 
@@ -217,13 +234,15 @@ all_sound : (ports after : List Port) → devices_of after ≡ devices_of ports 
 all_sound ports after same all k d l =
     let of_device = λ (port : Port). port.device in
     let long : length after ≡ length ports = sym (length-map after of_device) ∙ ap length same ∙ length-map ports of_device in
-    let is = sym (get_or-map of_device ports k d) ∙ ap (λ (tables : List Tables). slice_index_or tables k d.device) (sym same) ∙ get_or-map of_device after k d in
+    let is = sym (get_or-map of_device ports k d) ∙ ap (λ (tables : List Tables). slice_index_or tables k d.device) (sym same)
+    ∙ get_or-map of_device after k d in
     subst IsSound is (all k d (omega arith))
 
 pub whole : (items slice after : List Port) → slice ≡ items → devices_of after ≡ devices_of slice → refill (length items) items after ≡ after
 whole items slice after same devices =
     let of_device = λ (port : Port). port.device in
-    refill_whole items after (sym (length-map after of_device) ∙ ap length devices ∙ ap (λ (l : List Port). length (devices_of l)) same ∙ length-map items of_device)
+    refill_whole items after (sym (length-map after of_device) ∙ ap length devices ∙ ap (λ (l : List Port). length (devices_of l)) same
+    ∙ length-map items of_device)
 
 pub submit_host : (host : Inside) (slice after : List Port) (next : ℕ) → IsHost host → slice ≡ host.ports.items → devices_of after ≡ devices_of slice
     → IsHost (record host { ports = record { items = refill (length host.ports.items) host.ports.items after }; next_cookie = next })
@@ -242,11 +261,13 @@ pub submit_seen :
     → map part_seen after ≡ tabulate (length slice) (part_unmapped (wire_with slice host.bindings host.next_cookie) n q count order)
     → devices_of after ≡ devices_of slice
     → next ≡ host.next_cookie + waits_needed (wire_with slice host.bindings host.next_cookie) n
-    → wire_of (record host { ports = record { items = refill (length host.ports.items) host.ports.items after }; next_cookie = next }) ≡ submitted v n q count order
+    → wire_of (record host { ports = record { items = refill (length host.ports.items) host.ports.items after }; next_cookie = next })
+    ≡ submitted v n q count order
 submit_seen host v slice after n q count order next view same parts devices given =
     (λ i. record (wire_of host) { parts = all i; next_cookie = last i }) ∙ ap (λ (u : Wire). submitted u n q count order) view
   where
-    all : map part_seen (refill (length host.ports.items) host.ports.items after) ≡ tabulate (length (map part_seen host.ports.items)) (part_unmapped (wire_of host) n q count order)
+    all : map part_seen (refill (length host.ports.items) host.ports.items after)
+        ≡ tabulate (length (map part_seen host.ports.items)) (part_unmapped (wire_of host) n q count order)
     all =
         ap (map part_seen) (whole host.ports.items slice after same devices)
         ∙ parts

@@ -27,11 +27,13 @@ unit_there host v e slice d view there same =
     ∙ sym (ap (λ p. p.unit) (part_there host.ports.items e d there))
     ∙ ap (λ (u : Wire). unit_of u e) view
 
-pub bound_there : (host : Inside) (v : Wire) (e n : ℕ) (o : Option Place) → wire_of host ≡ v → o ≡ place_between e n host.bindings → option_map binding_seen o ≡ bound_at v e n
+pub bound_there : (host : Inside) (v : Wire) (e n : ℕ) (o : Option Place) → wire_of host ≡ v → o ≡ place_between e n host.bindings
+    → option_map binding_seen o ≡ bound_at v e n
 bound_there host v e n o view found =
     ap (option_map binding_seen) found ∙ ((bindings_are_seen host.bindings).0 (wire_of host) refl).by_space e n ∙ ap (λ (u : Wire). bound_at u e n) view
 
-pub submits_there : (host : Inside) (v : Wire) (e n : ℕ) (slice : List Port) (d : Port) (o : Option Place) → wire_of host ≡ v → e < length v.parts → slice ≡ host.ports.items
+pub submits_there : (host : Inside) (v : Wire) (e n : ℕ) (slice : List Port) (d : Port) (o : Option Place) → wire_of host ≡ v → e < length v.parts
+    → slice ≡ host.ports.items
     → o ≡ place_between e n host.bindings → submits_by (slice_index_or slice e d).unit.unit (option_map binding_seen o) ≡ submits v n e
 submits_there host v e n slice d o view there same found =
     let length_is = parts_seen host v view in
@@ -80,4 +82,5 @@ lacks_none a b true false asks lacks (inr is) = absurd (cc (is, asks))
 
 pub no_room : (w : Wire) (n k e : ℕ) → e < length w.parts → submits w n e ≡ true → has_room (unit_of w e) k ≡ false → false ≡ have_room w n k
 no_room w n k e there asks lacks =
-    ap (λ (b : Bool). not b) (sym (any_below-intro (length w.parts) (λ e. submits w n e && not (has_room (unit_of w e) k)) e there (lacks_there _ _ asks lacks)))
+    ap (λ (b : Bool). not b)
+    (sym (any_below-intro (length w.parts) (λ e. submits w n e && not (has_room (unit_of w e) k)) e there (lacks_there _ _ asks lacks)))

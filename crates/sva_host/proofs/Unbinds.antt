@@ -71,18 +71,21 @@ lost_ends v n b found lost = sym (of_binding_there v n b found ∙ go b.stage lo
     go (InvalidatingWire cookie) is = absurd (cc (is))
     go QuietWire is = absurd (cc (is))
 
-pub not_live : (v : Wire) (n : ℕ) (b : BindingWire) → binding_of v n ≡ Some b → is_lost b.stage ≡ false → is_live b.stage ≡ false → MayUnbind v n (Err refusal.NotLive)
+pub not_live : (v : Wire) (n : ℕ) (b : BindingWire) → binding_of v n ≡ Some b → is_lost b.stage ≡ false → is_live b.stage ≡ false
+    → MayUnbind v n (Err refusal.NotLive)
 not_live v n b found stays live =
     sym
     (by_stop v n b found stays
-    ∙ refuses (ByStop b.endpoint b.pasid) [] (resetting v b.endpoint ∷ numbers_spent v.next_message 1 ∷ []) (not (is_live b.stage), refusal.NotLive) tt (ap not live))
+    ∙ refuses (ByStop b.endpoint b.pasid) [] (resetting v b.endpoint ∷ numbers_spent v.next_message 1 ∷ []) (not (is_live b.stage), refusal.NotLive)
+    tt (ap not live))
 
 pub in_reset : (v : Wire) (n : ℕ) (b : BindingWire) → binding_of v n ≡ Some b → is_lost b.stage ≡ false → is_live b.stage ≡ true
     → (unit_of v b.endpoint).is_open ≡ false → MayUnbind v n (Err refusal.Resetting)
 in_reset v n b found stays live closed =
     sym
     (by_stop v n b found stays
-    ∙ refuses (ByStop b.endpoint b.pasid) ((not (is_live b.stage), refusal.NotLive) ∷ []) (numbers_spent v.next_message 1 ∷ []) (resetting v b.endpoint) (ap not live, tt)
+    ∙ refuses (ByStop b.endpoint b.pasid) ((not (is_live b.stage), refusal.NotLive) ∷ []) (numbers_spent v.next_message 1 ∷ [])
+    (resetting v b.endpoint) (ap not live, tt)
     (ap not closed))
 
 pub messages_spent : (v : Wire) (n : ℕ) (b : BindingWire) → binding_of v n ≡ Some b → is_lost b.stage ≡ false → is_live b.stage ≡ true
@@ -144,8 +147,10 @@ ends_at_once v n ending may is = go (binding_of v n) refl (subst (λ (f : Ending
         by_stage : (s : StageWire) → b.stage ≡ s → Ok AtOnce ≡ unless (causes.unbind_by v b s) (ending_by b s) → EndsAtOnce v n
         by_stage LostWire at may = record { binding = b; found = is; lost = at }
         by_stage LiveWire at may = absurd (not_this b (given (ByStop b.endpoint b.pasid) AtOnce (causes.unbind_by v b LiveWire) (sym may)))
-        by_stage (StoppingWire marked) at may = absurd (not_this b (given (ByStop b.endpoint b.pasid) AtOnce (causes.unbind_by v b (StoppingWire marked)) (sym may)))
-        by_stage (DrainingWire cookie) at may = absurd (not_this b (given (ByStop b.endpoint b.pasid) AtOnce (causes.unbind_by v b (DrainingWire cookie)) (sym may)))
+        by_stage (StoppingWire marked) at may =
+            absurd (not_this b (given (ByStop b.endpoint b.pasid) AtOnce (causes.unbind_by v b (StoppingWire marked)) (sym may)))
+        by_stage (DrainingWire cookie) at may =
+            absurd (not_this b (given (ByStop b.endpoint b.pasid) AtOnce (causes.unbind_by v b (DrainingWire cookie)) (sym may)))
         by_stage (InvalidatingWire cookie) at may =
             absurd (not_this b (given (ByStop b.endpoint b.pasid) AtOnce (causes.unbind_by v b (InvalidatingWire cookie)) (sym may)))
         by_stage QuietWire at may = absurd (not_this b (given (ByStop b.endpoint b.pasid) AtOnce (causes.unbind_by v b QuietWire) (sym may)))
@@ -167,7 +172,10 @@ ended host v n after view ends moves =
         ∙ ap (λ (s : StageWire). checked (causes.unbind_by v ends.binding s) (outcomes.unbind_by ends.binding s)) ends.lost
 
     done : wire_of (record host { bindings = after }) ≡ record (wire_of host) { bindings = with_stage ends.binding.binding QuietWire (wire_of host).bindings }
-    done = λ i. record (wire_of host) { bindings = (moves.seen ∙ ap (λ m. with_stage m QuietWire (bindings_seen host.bindings)) (sym (number_is v n ends.binding ends.found))) i }
+    done = λ i. record (wire_of host) {
+      bindings =
+          (moves.seen ∙ ap (λ m. with_stage m QuietWire (bindings_seen host.bindings)) (sym (number_is v n ends.binding ends.found))) i;
+    }
 
 -- A binding that is Live.
 
@@ -220,7 +228,8 @@ live_there host v n e t h view ends =
     (subst (λ (s : StageWire). IsSeenIn s n host.bindings) ends.live (stage_there host v n ends.binding h view ends.found))
 
 -- no number for the stop is left, which isn't so; or no memory for it
-pub unsent : (host : Inside) (v : Wire) (n e t : ℕ) (bag : InFlight) (x : Refusal) → wire_of host ≡ v → EndsByStop v n e t → Sends host.in_flight e (Stop t) 1 (Err x) bag
+pub unsent : (host : Inside) (v : Wire) (n e t : ℕ) (bag : InFlight) (x : Refusal) → wire_of host ≡ v → EndsByStop v n e t
+    → Sends host.in_flight e (Stop t) 1 (Err x) bag
     → ByLabels v (step.Unbind n) (Err x) (wire_of (record host { in_flight = bag }))
 unsent host v n e t bag x view ends sends =
     subst (λ (d : Decision). Does d v (Err x) (wire_of (record host { in_flight = bag }))) (sym ends.decides) (go x sends)

@@ -90,7 +90,8 @@ pub unit_sent_done : (host : Inside) (s : Step) (e : ℕ) (port : Port) (change 
     → IsPort host e port
     → decide_of (wire_of host) s ≡ checked (numbers_spent host.in_flight.next 1 ∷ []) (by_one a m)
     → Sends host.in_flight e kind 1 (Ok tt) bag
-    → moved (wire_of host) m ≡ sent e (kind_seen kind) (with_part (wire_of host) e (part_with (part_of (wire_of host) e) (change (unit_in (part_of (wire_of host) e)))))
+    → moved (wire_of host) m
+    ≡ sent e (kind_seen kind) (with_part (wire_of host) e (part_with (part_of (wire_of host) e) (change (unit_in (part_of (wire_of host) e)))))
     → ByLabels (wire_of host) s (Ok a) (wire_of (record (with_unit_in host e port (change port.unit)) { in_flight = bag }))
 unit_sent_done host s e port change kind bag a m is decided sends moves =
     subst (λ (c : Decision). Does c (wire_of host) (Ok a) (wire_of (record (with_unit_in host e port (change port.unit)) { in_flight = bag })))

@@ -18,7 +18,8 @@ use Rattle.sva_labels.specs.Outcomes.{by_one, label, begin_result, end_answer, r
 use Rattle.sva_tables.specs.UseSlots.{slot_at}
 use Rattle.sva_endpoint.specs.declared.permitted.Using.{Using}
 use Rattle.sva_endpoint.specs.Tables.{Tables}
-use Rattle.sva_endpoint.specs.Steps.{unless, refusals_of_use, using, lowest_slot, translation_at, after_begin_use, refusals_of_end, end_of, ending, after_end_use, refusals_of_evict, evicting, after_evict}
+use Rattle.sva_endpoint.specs.Steps.{unless, refusals_of_use, using, lowest_slot, translation_at, after_begin_use, refusals_of_end, end_of, ending}
+use Rattle.sva_endpoint.specs.Steps.{after_end_use, refusals_of_evict, evicting, after_evict}
 use Rattle.sva_views.specs.DeviceLaws.{found_at}
 use Rattle.sva_views.proofs.Uses.{use_is_seen, end_is_seen, evict_is_seen}
 use Rattle.sva_host.specs.declared.host.Host.TheInside.{Inside}
@@ -41,7 +42,8 @@ uses d t q x =
     ∷ (is_none (lowest_label d.slots), refusal.NoUseSlot)
     ∷ []
 
-uses_seen : (host : Inside) (e t q : ℕ) (x : Bool) (port : Port) → IsPort host e port → uses (device_of (wire_of host) e) t q x ≡ refusals_of_use port.device t q x
+uses_seen : (host : Inside) (e t q : ℕ) (x : Bool) (port : Port) → IsPort host e port → uses (device_of (wire_of host) e) t q x
+    ≡ refusals_of_use port.device t q x
 unfolding uses
 uses_seen host e t q x port is = ap (λ (d : DeviceWire). uses d t q x) (device_there host e port is) ∙ sym (use_is_seen port.device t q x is.sound).refusals
 
@@ -56,7 +58,8 @@ pub use_refused : (host : Inside) (e t q : ℕ) (x : Bool) (port : Port) (r : Re
     → ByLabels (wire_of host) (step.BeginUse e t q x) (Err r) (wire_of host)
 use_refused host e t q x port r is refuses =
     subst (λ (d : Decision). Does d (wire_of host) (Err r) (wire_of host)) (sym (use_decided host e t q x port is))
-    (refused_by _ (refusals_of_use port.device t q x) [] (result_of (wire_of host) (step.BeginUse e t q x)) (wire_of host) r (tt, (tt, (tt, (tt, (tt, tt))))) (sym refuses))
+    (refused_by _ (refusals_of_use port.device t q x) [] (result_of (wire_of host) (step.BeginUse e t q x)) (wire_of host) r
+    (tt, (tt, (tt, (tt, (tt, tt))))) (sym refuses))
 
 pub use_done : (host : Inside) (e t q : ℕ) (x : Bool) (port : Port) (a : Using) → IsPort host e port → Ok a ≡ using port.device t q x
     → ByLabels (wire_of host) (step.BeginUse e t q x) (Ok (answer.Use a.slot a.frame))
@@ -67,12 +70,15 @@ use_done host e t q x port a is allows =
     let seen = use_is_seen port.device t q x is.sound in
     let begun : Using = record { slot = lowest_slot port.device; frame = (translation_at port.device t q).frame } in
     let same : begun ≡ a = given begun a (refusals_of_use port.device t q x) (sym allows) in
-    let clear = all_clear begun a (uses (device_of (wire_of host) e) t q x) (ap (λ (cs : List Cause). unless cs begun) (uses_seen host e t q x port is) ∙ sym allows) in
-    let slot = ap (λ (d : DeviceWire). lowest_label d.slots) device ∙ seen.slot (ap (λ (d : DeviceWire). is_none (lowest_label d.slots)) (sym device) ∙ clear.1.1.1.1.0) in
+    let clear = all_clear begun a (uses (device_of (wire_of host) e) t q x)
+    (ap (λ (cs : List Cause). unless cs begun) (uses_seen host e t q x port is) ∙ sym allows) in
+    let slot = ap (λ (d : DeviceWire). lowest_label d.slots) device
+    ∙ seen.slot (ap (λ (d : DeviceWire). is_none (lowest_label d.slots)) (sym device) ∙ clear.1.1.1.1.0) in
     let found = ap (λ (d : DeviceWire). cached d t q) device ∙ seen.found (ap (λ (d : DeviceWire). is_none (cached d t q)) (sym device) ∙ clear.1.1.0) in
     let n = lowest_slot port.device in
     let y = found_at port.device t q in
-    subst (λ (b : Using). ByLabels (wire_of host) (step.BeginUse e t q x) (Ok (answer.Use b.slot b.frame)) (wire_of (with_tables host e port (after_begin_use port.device t q)))) same
+    subst (λ (b : Using). ByLabels (wire_of host) (step.BeginUse e t q x) (Ok (answer.Use b.slot b.frame))
+    (wire_of (with_tables host e port (after_begin_use port.device t q)))) same
     (device_done host (step.BeginUse e t q x) e port (after_begin_use port.device t q) (answer.Use n y.frame) (Move.Begin e n y) _ is
     (use_decided host e t q x port is
     ∙ passed begun a (refusals_of_use port.device t q x) [] (result_of (wire_of host) (step.BeginUse e t q x)) (sym allows)
@@ -111,7 +117,8 @@ end_done host e u port a is allows =
     let b = end_of (slot_at port.device.uses u) in
     let same : b ≡ a = given b a (refusals_of_end port.device u) (sym allows) in
     let clear = all_clear b a (ends (device_of (wire_of host) e) u) (ap (λ (cs : List Cause). unless cs b) (ends_seen host e u port is) ∙ sym allows) in
-    let said = seen.said (ap (λ (d : DeviceWire). is_none (use_at d u)) (sym device) ∙ clear.0) ∙ ap (λ (d : DeviceWire). end_answer (use_at d u)) (sym device) in
+    let said = seen.said (ap (λ (d : DeviceWire). is_none (use_at d u)) (sym device) ∙ clear.0)
+    ∙ ap (λ (d : DeviceWire). end_answer (use_at d u)) (sym device) in
     device_done host (step.EndUse e u) e port (after_end_use port.device u) a (Move.End e u) _ is
     (end_decided host e u port is
     ∙ passed b a (refusals_of_end port.device u) [] (result_of (wire_of host) (step.EndUse e u)) (sym allows)

@@ -99,7 +99,8 @@ port_for v e there = (refl, below_true e (length v.parts) there)
 pub first_taken : (host : Inside) (v : Wire) (e : ℕ) (port : Port) → wire_of host ≡ v → IsPort host e port
     → wire_of (with_unit_in host e port (without_first port.unit)) ≡ with_part v e (record (part_of v e) { page_queue = drop 1 (part_of v e).page_queue })
 first_taken host v e port view is =
-    with_part_seen host e port without_first is ∙ ap (λ (w : Wire). with_part w e (record (part_of w e) { page_queue = drop 1 (part_of w e).page_queue })) view
+    with_part_seen host e port without_first is
+    ∙ ap (λ (w : Wire). with_part w e (record (part_of w e) { page_queue = drop 1 (part_of w e).page_queue })) view
 
 -- The binding that bears a PASID.
 

@@ -1,5 +1,6 @@
 -- What holds after every list of calls.
-use Rattle.std.proofs.Common.{◌≡◌, ◌≢◌, ℕ, zero, suc, ◌+◌, ◌<◌, ◌≤◌, ◌==◌, Bool, true, false, Option, Some, None, List, [], ◌∷◌, ◌++◌, length, is_none, slice_get, slice_set, option_map, if◌then◌else◌, refl, ap, sym, ◌∙◌, subst, append_assoc, append-nil, arith}
+use Rattle.std.proofs.Common.{◌≡◌, ◌≢◌, ℕ, zero, suc, ◌+◌, ◌<◌, ◌≤◌, ◌==◌, Bool, true, false, Option, Some, None, List, [], ◌∷◌, ◌++◌, length, is_none}
+use Rattle.std.proofs.Common.{slice_get, slice_set, option_map, if◌then◌else◌, refl, ap, sym, ◌∙◌, subst, append_assoc, append-nil, arith}
 use Rattle.std.specs.List.{AllByRecursion as ByRecursion, position_or_len}
 use Rattle.std.proofs.Math.ListN.{length-set}
 use Rattle.std.proofs.lemmas.List.Elements.{All-set, All-replicate, recursion_from_All}
@@ -60,7 +61,8 @@ set-get_same (z ∷ xs) (suc i) x y h = set-get_same xs i x y h
 pub taken-get : (xs : List (Option Busy)) (t : ℕ) → lowest_free xs ≡ Some t → slice_get (taken xs) t ≡ Some (Some Fresh)
 taken-get xs t h = subst (λ o. slice_get (with_fresh o xs) t ≡ Some (Some Fresh)) (sym h) (set-get_same xs t None (Some Fresh) (lowest-free xs t h))
 
-pub with_fresh-busy : (o : Option ℕ) (xs : List (Option Busy)) (t : ℕ) (b : Busy) → ((k : ℕ) → o ≡ Some k → slice_get xs k ≡ Some None) → slice_get xs t ≡ Some (Some b) → slice_get (with_fresh o xs) t ≡ Some (Some b)
+pub with_fresh-busy : (o : Option ℕ) (xs : List (Option Busy)) (t : ℕ) (b : Busy) → ((k : ℕ) → o ≡ Some k → slice_get xs k ≡ Some None)
+    → slice_get xs t ≡ Some (Some b) → slice_get (with_fresh o xs) t ≡ Some (Some b)
 with_fresh-busy None xs t b free h = h
 with_fresh-busy (Some k) xs t b free h =
     let is_free : slice_get xs k ≡ Some None = free k refl in
@@ -97,11 +99,14 @@ kept_more (m ∷ ns) n h =
     rw more (counted_short m (length (m ∷ (ns ++ n ∷ []))) h)
 
 -- the place of a busy tag after a completion
-arrived-kept : (v n : ℕ) (xs : List (Option Busy)) (t : ℕ) (named : Bool) (b : Busy) → named ≡ is_named v t → slice_get xs t ≡ Some (Some b) → slice_get (completed v n xs) t ≡ Some (if named then one_more n b else Some b)
-arrived-kept v n xs t named b is_name h = completed-get v n xs t ∙ ap (option_map (after_completion (is_named v t) n)) h ∙ ap (λ k. Some (if k then one_more n b else Some b)) (sym is_name)
+arrived-kept : (v n : ℕ) (xs : List (Option Busy)) (t : ℕ) (named : Bool) (b : Busy) → named ≡ is_named v t → slice_get xs t ≡ Some (Some b)
+    → slice_get (completed v n xs) t ≡ Some (if named then one_more n b else Some b)
+arrived-kept v n xs t named b is_name h = completed-get v n xs t ∙ ap (option_map (after_completion (is_named v t) n)) h
+    ∙ ap (λ k. Some (if k then one_more n b else Some b)) (sym is_name)
 
 -- a tag that is busy counts the completions that name it, as long as they are fewer than the first one's count
-counts_on : (calls : List Call) (xs : List (Option Busy)) (t : ℕ) (seen : List ℕ) → ByRecursion IsNoClear calls → slice_get xs t ≡ Some (Some (kept seen)) → AreShort (seen ++ counts_for t calls) → slice_get (after_all xs calls) t ≡ Some (Some (kept (seen ++ counts_for t calls)))
+counts_on : (calls : List Call) (xs : List (Option Busy)) (t : ℕ) (seen : List ℕ) → ByRecursion IsNoClear calls → slice_get xs t
+    ≡ Some (Some (kept seen)) → AreShort (seen ++ counts_for t calls) → slice_get (after_all xs calls) t ≡ Some (Some (kept (seen ++ counts_for t calls)))
 counts_on [] xs t seen p h short = h ∙ ap (λ ns. Some (Some (kept ns))) (sym (append-nil seen))
 counts_on (Take ∷ calls) xs t seen p h short =
     counts_on calls (taken xs) t seen p.1 (with_fresh-busy (lowest_free xs) xs t (kept seen) (λ k e. lowest-free xs k e) h) short
@@ -109,12 +114,16 @@ counts_on (Clear ∷ calls) xs t seen p h short = absurd p.0
 counts_on (Arrived v n ∷ calls) xs t seen p h short =
     by_name (λ ns next fewer. counts_on calls (completed v n xs) t ns p.1 next fewer) (is_named v t) refl short
   where
-    by_name : ((ns : List ℕ) → slice_get (completed v n xs) t ≡ Some (Some (kept ns)) → AreShort (ns ++ counts_for t calls) → slice_get (after_all (completed v n xs) calls) t ≡ Some (Some (kept (ns ++ counts_for t calls)))) → (named : Bool) → named ≡ is_named v t → AreShort (seen ++ (if named then n ∷ counts_for t calls else counts_for t calls)) → slice_get (after_all (completed v n xs) calls) t ≡ Some (Some (kept (seen ++ (if named then n ∷ counts_for t calls else counts_for t calls))))
+    by_name : ((ns : List ℕ) → slice_get (completed v n xs) t ≡ Some (Some (kept ns)) → AreShort (ns ++ counts_for t calls)
+        → slice_get (after_all (completed v n xs) calls) t ≡ Some (Some (kept (ns ++ counts_for t calls)))) → (named : Bool) → named ≡ is_named v t
+        → AreShort (seen ++ (if named then n ∷ counts_for t calls else counts_for t calls)) → slice_get (after_all (completed v n xs) calls) t
+        ≡ Some (Some (kept (seen ++ (if named then n ∷ counts_for t calls else counts_for t calls))))
     by_name rest false is_name fewer = rest seen (arrived-kept v n xs t false (kept seen) is_name h) fewer
     by_name rest true is_name fewer =
         let parts : (seen ++ n ∷ []) ++ counts_for t calls ≡ seen ++ n ∷ counts_for t calls = append_assoc seen (n ∷ []) (counts_for t calls) in
         let fewer_now : AreShort ((seen ++ n ∷ []) ++ counts_for t calls) = subst AreShort (sym parts) fewer in
-        let next : slice_get (completed v n xs) t ≡ Some (Some (kept (seen ++ n ∷ []))) = arrived-kept v n xs t true (kept seen) is_name h ∙ ap Some (kept_more seen n (short_before (seen ++ n ∷ []) (counts_for t calls) fewer_now)) in
+        let next : slice_get (completed v n xs) t ≡ Some (Some (kept (seen ++ n ∷ []))) = arrived-kept v n xs t true (kept seen) is_name h
+        ∙ ap Some (kept_more seen n (short_before (seen ++ n ∷ []) (counts_for t calls) fewer_now)) in
         rest (seen ++ n ∷ []) next fewer_now ∙ ap (λ ns. Some (Some (kept ns))) parts
 
 -- the last completion of a tag is the one that makes its counts whole
@@ -135,7 +144,8 @@ freed_in_turn : (xs : List (Option Busy)) (t : ℕ) (ns : List ℕ) → slice_ge
 freed_in_turn xs t ns h = (
   (kept ns, h),
   λ v n named. (
-    λ freed. let (b, is_busy, is_name, last) = (freed_exactly v n xs t).0 freed in last_whole ns n (subst (IsLast n) (same_busy b (kept ns) (sym is_busy ∙ h)) last),
+    λ freed. let (b, is_busy, is_name, last) =
+        (freed_exactly v n xs t).0 freed in last_whole ns n (subst (IsLast n) (same_busy b (kept ns) (sym is_busy ∙ h)) last),
     λ whole. (freed_exactly v n xs t).1 (kept ns, h, named, whole_last ns n whole),
   ),
 )

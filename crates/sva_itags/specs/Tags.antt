@@ -1,6 +1,7 @@
 -- The tags of the Invalidate Requests of one unit (PCI Express Base 5.0, sections 10.3.1 to 10.3.3): a list of 32
 -- places, the place of tag T at index T, None for a free tag.
-use Rattle.std.specs.Prelude.{◌≡◌, ℕ, suc, ◌+◌, ◌<◌, ◌≤◌, ◌==◌, Bool, ◌&&◌, Option, Some, None, List, [], ◌∷◌, is_some, is_none, map, replicate, position, length, All, slice_get, IsTrue, slice_set, if◌then◌else◌}
+use Rattle.std.specs.Prelude.{◌≡◌, ℕ, suc, ◌+◌, ◌<◌, ◌≤◌, ◌==◌, Bool, ◌&&◌, Option, Some, None, List, [], ◌∷◌, is_some, is_none, map, replicate, position}
+use Rattle.std.specs.Prelude.{length, All, slice_get, IsTrue, slice_set, if◌then◌else◌}
 use Rattle.sva_itags.specs.Vector.{is_named, vector_of}
 use Rattle.sva_itags.specs.declared.itags.Busy.{Busy}
 use Rattle.sva_itags.specs.declared.itags.Busy.TheVariants.{Fresh, Counting}

@@ -161,7 +161,8 @@ act_square w (NewBinding e) s l r = binding_named w e s.invariant
 act_square w (NewJob e g) s l r = job_named w e g s.invariant r
 act_square w (Hold x j) s l r = job_held w x j
 act_square w (LetGo x) s l r = job_let_go w x
-act_square w (At e o) s l r = square w e o s.invariant (has_tables w s) l r.0 (part_moves w e o s l r) (places_moved w e o l s.invariant s.fronts s.debts s.few)
+act_square w (At e o) s l r =
+    square w e o s.invariant (has_tables w s) l r.0 (part_moves w e o s l r) (places_moved w e o l s.invariant s.fronts s.debts s.few)
 
 -- One after another.
 pub acts_square :

@@ -41,4 +41,5 @@ space_live w i k b x =
         (ap w.is_live (named w.config.first ((w.part (w.home x.of)).space x.of)) ∙ live)
 
 pub always_have_spaces : (config : Config) (steps : List Step) → Fits config → HaveSpaces (wire (world_after PerSpace config steps))
-always_have_spaces config steps fits = λ k b h. space_live (world_after PerSpace config steps) (always PerSpace config steps) k b (kept_at (world_after PerSpace config steps) k b h)
+always_have_spaces config steps fits =
+    λ k b h. space_live (world_after PerSpace config steps) (always PerSpace config steps) k b (kept_at (world_after PerSpace config steps) k b h)

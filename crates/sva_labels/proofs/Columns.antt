@@ -45,7 +45,14 @@ stage_kept first p q Released k = refl
 binding_kept : (first e : ℕ) (p q : Part) (b : ℕ) → KeepsBinding p q b → binding_wire first e q b ≡ binding_wire first e p b
 binding_kept first e p q b k =
     ap (λ s. record { endpoint = e; space = number first (q.space b); binding = number first b; pasid = q.pasid b; stage = stage_wire first q s }) k.stage
-    ∙ (λ i. record { endpoint = e; space = number first (k.space i); binding = number first b; pasid = k.pasid i; stage = stage_kept first p q (p.stage b) k.order i })
+    ∙ (λ i. record {
+      endpoint = e;
+      space = number first (k.space i);
+      binding = number first b;
+      pasid = k.pasid i;
+      stage =
+          stage_kept first p q (p.stage b) k.order i;
+    })
 
 -- orders that are made stay
 old_order : (p : Part) (n : ℕ) (o : Own) (k : ℕ) → k < p.orders → (own p n o).order k ≡ p.order k
@@ -285,7 +292,13 @@ bindings_released w e b i legal =
         (sym (ap (λ z. is_unreleased ((w.part e).stage d) && not z) (own_number w.config.first d b x) ∙ none (is_unreleased ((w.part e).stage d))) ∙ t))
     seen d (inr ne) t =
         binding_kept w.config.first e (w.part e) (part_after w e o) d
-        (record { space = refl; pasid = refl; stage = put-other (w.part e).stage b Released d ne; order = keeps_order (w.part e) w.messages o d (i.parts e).orders })
+        (record {
+          space = refl;
+          pasid = refl;
+          stage = put-other (w.part e).stage b Released d ne;
+          order =
+              keeps_order (w.part e) w.messages o d (i.parts e).orders;
+        })
 
 -- A reset-done cuts off those of its endpoint.
 
@@ -350,7 +363,13 @@ put_stage p n o b s first st od stage space pasid was now seen =
       pasid = ap (λ f. f b) pasid;
       others =
           λ d ne.
-          record { space = ap (λ f. f d) space; pasid = ap (λ f. f d) pasid; stage = ap (λ f. f d) stage ∙ put-other p.stage b s d ne; order = keeps_order p n o d od };
+          record {
+            space = ap (λ f. f d) space;
+            pasid = ap (λ f. f d) pasid;
+            stage = ap (λ f. f d) stage ∙ put-other p.stage b s d ne;
+            order =
+                keeps_order p n o d od;
+          };
     }
   where
     here : (own p n o).stage b ≡ s

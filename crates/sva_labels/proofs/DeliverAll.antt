@@ -3,10 +3,12 @@ use Rattle.std.proofs.Common.{◌≡◌, ℕ, ◌<◌}
 use Rattle.std.specs.Prelude.{Some}
 use Rattle.sva_step.specs.declared.steps.Step.TheVariants as step
 use Rattle.sva_model.specs.State.{About, World}
-use Rattle.sva_model.specs.State.About.{StartOf, StopOf, ResetOrder, CompletionOf, InvalidateOf, ResponseOf, RequestOf, InvalidatedOf, PageRequestOf, MarkerOf, ResetDone}
+use Rattle.sva_model.specs.State.About.{StartOf, StopOf, ResetOrder, CompletionOf, InvalidateOf, ResponseOf, RequestOf, InvalidatedOf, PageRequestOf}
+use Rattle.sva_model.specs.State.About.{MarkerOf, ResetDone}
 use Rattle.sva_labels.proofs.Reached.{IsReached}
 use Rattle.sva_labels.proofs.Alike.{SaysAlike}
-use Rattle.sva_labels.proofs.DeliverResults.{ArrivesAlike, delivered_alike, start_arrives, stop_arrives, reset_arrives, page_request_arrives, marker_arrives, reset_done_arrives}
+use Rattle.sva_labels.proofs.DeliverResults.{ArrivesAlike, delivered_alike, start_arrives, stop_arrives, reset_arrives, page_request_arrives}
+use Rattle.sva_labels.proofs.DeliverResults.{marker_arrives, reset_done_arrives}
 use Rattle.sva_labels.proofs.DeliverTranslations.{request_arrives, completion_arrives}
 use Rattle.sva_labels.proofs.DeliverOrders.{invalidate_arrives, invalidated_arrives, response_arrives}
 

@@ -82,7 +82,8 @@ page_request_arrives w e c x r l m =
     go true = refl
     go false = refl
 
-pub marker_arrives : (w : World) (e c b : ℕ) → IsReached w → e < w.config.endpoints → (w.part e).message c ≡ Some (MarkerOf b) → ArrivesAlike w e c (MarkerOf b)
+pub marker_arrives : (w : World) (e c b : ℕ) → IsReached w → e < w.config.endpoints → (w.part e).message c ≡ Some (MarkerOf b)
+    → ArrivesAlike w e c (MarkerOf b)
 marker_arrives w e c b r l m =
     ap (by_message w e c) ((r.carried e).marker c b m)
     ∙ ap₂ (λ o t. marker_result e (number w.config.first c) (binding_or_0 o) t) (bearer_seen w e b r.invariant unreleased) (open_seen w e l)

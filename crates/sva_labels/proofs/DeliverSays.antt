@@ -8,7 +8,8 @@ use Rattle.sva_model.specs.Words.{any_below, is_some}
 use Rattle.sva_model.specs.Order.{stays_behind}
 use Rattle.sva_model.specs.Message.{Message}
 use Rattle.sva_model.specs.State.{About, Mappings, Part, World}
-use Rattle.sva_model.specs.State.About.{StartOf, StopOf, ResetOrder, CompletionOf, InvalidateOf, ResponseOf, RequestOf, InvalidatedOf, PageRequestOf, MarkerOf, ResetDone}
+use Rattle.sva_model.specs.State.About.{StartOf, StopOf, ResetOrder, CompletionOf, InvalidateOf, ResponseOf, RequestOf, InvalidatedOf, PageRequestOf}
+use Rattle.sva_model.specs.State.About.{MarkerOf, ResetDone}
 use Rattle.sva_model.specs.Labels
 use Rattle.sva_model.specs.Refusals as names
 use Rattle.sva_model.specs.Refusals.{refusals}

@@ -16,7 +16,8 @@ use Rattle.sva_model.specs.State.About.{RequestOf, CompletionOf}
 use Rattle.sva_model.specs.States.{is_open, is_unreleased, is_live_stage, is_out}
 use Rattle.sva_model.specs.Acts.{is_replaced}
 use Rattle.sva_model.specs.Outcomes as names
-use Rattle.sva_model.specs.Wire.{DeviceWire, number, insert_by, sorted_by, is_before, is_doomed, stage_wire, page_wire, request_wire, cached_wire, device_wire, wire}
+use Rattle.sva_model.specs.Wire.{DeviceWire, number, insert_by, sorted_by, is_before, is_doomed, stage_wire, page_wire, request_wire, cached_wire}
+use Rattle.sva_model.specs.Wire.{device_wire, wire}
 use Rattle.sva_laws.proofs.Words.{some_the}
 use Rattle.sva_laws.proofs.Counting.{count_same}
 use Rattle.sva_laws.proofs.Invariant.{Invariant}
@@ -202,7 +203,13 @@ tag_missing w e c t i l ph =
 kept_arrives :
     (w : World) (e c r m : ℕ) (t : Bool)
     → keep_result e (number w.config.first c) ((w.part e).request_tag r)
-    (record { pasid = (w.part e).pasid ((w.part e).request_binding r); page = (w.part e).request_page r; frame = w.mappings.frame m; write = w.mappings.write m }) t ≡ result_by w (names.keep_outcome e c r m t)
+    (record {
+      pasid = (w.part e).pasid ((w.part e).request_binding r);
+      page = (w.part e).request_page r;
+      frame = w.mappings.frame m;
+      write =
+          w.mappings.write m;
+    }) t ≡ result_by w (names.keep_outcome e c r m t)
 kept_arrives w e c r m true = refl
 kept_arrives w e c r m false = refl
 

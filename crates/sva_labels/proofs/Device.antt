@@ -3,12 +3,15 @@ use Rattle.std.proofs.Common.{◌≡◌, refl, ap, sym, ◌∙◌, ℕ, ◌+◌,
 use Rattle.std.specs.Prelude.{Option, Some, None, map}
 use Rattle.sva_model.specs.Words.{count_below}
 use Rattle.sva_model.specs.Message.{Message}
-use Rattle.sva_model.specs.Message.Message.{StartMessage, StopMessage, ResetMessage, CompletionMessage, InvalidateMessage, ResponseMessage, RequestMessage, InvalidatedMessage, PageRequestMessage, MarkerMessage, ResetDoneMessage}
+use Rattle.sva_model.specs.Message.Message.{StartMessage, StopMessage, ResetMessage, CompletionMessage, InvalidateMessage, ResponseMessage, RequestMessage}
+use Rattle.sva_model.specs.Message.Message.{InvalidatedMessage, PageRequestMessage, MarkerMessage, ResetDoneMessage}
 use Rattle.sva_model.specs.State.{Mappings, Stage, Part, World}
 use Rattle.sva_model.specs.State.PasidState.{Off, On, Ending}
 use Rattle.sva_model.specs.States.{is_unreleased, is_off}
 use Rattle.sva_model.specs.Acts.{Act, Own, act, own, bound, submits, submitted, submitted_if}
-use Rattle.sva_model.specs.Acts.Own.{Bind, Stop, Drain, Invalidate, Quieten, Release, Send, Pass, File, Reset, Hand, Respond, Discard, Ask, Begin, End, Evict, Group, Request, Finish, Quit, Start_arrives, Stop_arrives, Reset_arrives, Keep, Forget, Take, Answered, Complete, Count, Arrive, Miss, Mark, Ignore, Reopen}
+use Rattle.sva_model.specs.Acts.Own.{Bind, Stop, Drain, Invalidate, Quieten, Release, Send, Pass, File, Reset, Hand, Respond, Discard, Ask, Begin, End}
+use Rattle.sva_model.specs.Acts.Own.{Evict, Group, Request, Finish, Quit, Start_arrives, Stop_arrives, Reset_arrives, Keep, Forget, Take, Answered}
+use Rattle.sva_model.specs.Acts.Own.{Complete, Count, Arrive, Miss, Mark, Ignore, Reopen}
 use Rattle.sva_model.specs.Wire.{DeviceWire, device_wire}
 use Rattle.sva_laws.proofs.Legal.{LegalOwn}
 use Rattle.sva_laws.proofs.Bounds.{Bounds}
@@ -22,7 +25,8 @@ use Rattle.sva_labels.proofs.DevicePasids.{unreleased_unless, pasids_bound, pasi
 use Rattle.sva_labels.proofs.DeviceTags.{tags_bound, tags_asked, tags_kept, tags_forgotten, tags_taken, tags_cleared}
 use Rattle.sva_labels.proofs.DeviceCache.{cache_bound, cache_asked, cache_evicted, cache_taken, cache_kept, cache_cleared}
 use Rattle.sva_labels.proofs.DeviceSlots.{slots_bound, slots_begun, slots_ended, slots_cleared}
-use Rattle.sva_labels.proofs.DeviceOrders.{taken_bound, taken_drained, taken_invalidated, taken_submitted, taken_passed, taken_reset, taken_sent, taken_begun, taken_counted, taken_reopened}
+use Rattle.sva_labels.proofs.DeviceOrders.{taken_bound, taken_drained, taken_invalidated, taken_submitted, taken_passed, taken_reset, taken_sent}
+use Rattle.sva_labels.proofs.DeviceOrders.{taken_begun, taken_counted, taken_reopened}
 use Rattle.sva_labels.proofs.DeviceFinished.{taken_finished, taken_taken, taken_ended, taken_cleared}
 use Rattle.sva_labels.proofs.DeviceGroups.{groups_bound, groups_opened, groups_requested, groups_quit, groups_answered, groups_cleared}
 

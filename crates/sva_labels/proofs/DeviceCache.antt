@@ -188,7 +188,8 @@ pub cache_kept :
     → Owners ms p
     → cache_wire ms (own p n (Own.Keep c r m)) ≡ kept (translation_wire ms p (p.request_binding r) (p.request_page r) m) (cache_wire ms p)
 cache_kept ms g n p c r m l bo bi la ra ow =
-    sorted_with is_before is_order (cached_wire ms (own p n (Own.Keep c r m))) p.requests r (λ k. is_some (rest k)) (λ k. is_some (put rest r (Some m) k)) made
+    sorted_with is_before is_order (cached_wire ms (own p n (Own.Keep c r m))) p.requests r (λ k. is_some (rest k))
+    (λ k. is_some (put rest r (Some m) k)) made
     (ap (λ b. is_some (none_if b (p.held r))) self ∙ gone (p.held r))
     (ap (λ o. is_some o) (put-same rest r (Some m)))
     (λ k lt ne. ap (λ o. is_some o) (put-other rest r (Some m) k ne))

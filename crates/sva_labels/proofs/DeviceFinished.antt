@@ -102,10 +102,20 @@ pub taken_taken :
     (ms : Mappings) (g n : ℕ) (p : Part) (c k : ℕ) → LegalOwn ms g p (Own.Take c k) → Bounds g p → Labels p → Orders p → Owners ms p
     → taken_wire ms (own p n (Own.Take c k))
     ≡ slice_set (taken_wire ms p) (p.itag k)
-    (Some (record { pasid = p.pasid (binding_of (p.order k)); extent = extent_of (p.order k); slots = map (Moves.is_noted (p.pasid (binding_of (p.order k))) (extent_of (p.order k))) (slots_wire ms p) }))
+    (Some (record {
+      pasid = p.pasid (binding_of (p.order k));
+      extent = extent_of (p.order k);
+      slots =
+          map (Moves.is_noted (p.pasid (binding_of (p.order k))) (extent_of (p.order k))) (slots_wire ms p);
+    }))
 taken_taken ms g n p c k l bo la or ow =
     tabulate_set 32 (λ t. chain (taken_seen ms p) (p.at_itag t)) (λ t. chain (taken_seen ms (own p n (Own.Take c k))) (p.at_itag t)) (p.itag k)
-    (Some (record { pasid = p.pasid (binding_of (p.order k)); extent = extent_of (p.order k); slots = map (Moves.is_noted (p.pasid (binding_of (p.order k))) (extent_of (p.order k))) (slots_wire ms p) }))
+    (Some (record {
+      pasid = p.pasid (binding_of (p.order k));
+      extent = extent_of (p.order k);
+      slots =
+          map (Moves.is_noted (p.pasid (binding_of (p.order k))) (extent_of (p.order k))) (slots_wire ms p);
+    }))
     (ap (chain (taken_seen ms (own p n (Own.Take c k)))) (la.bears_itag k (ap is_busy (la.sent c k l)))
     ∙ ap (taken_by ms (own p n (Own.Take c k)) k) (put-same p.order_state k (Taken p.uses))
     ∙ ap (λ xs. Some (record { pasid = p.pasid (binding_of (p.order k)); extent = extent_of (p.order k); slots = xs }))

@@ -90,5 +90,6 @@ pub device_mapped :
 device_mapped w s q f x p ow = device_kept w.mappings (act w (Map s q f x)).mappings p (mapped_keeps w s q f x) ow
 
 -- pages that are taken out
-pub device_without : (ms : Mappings) (s : ℕ) (pages : ℕ → Bool) (owed : ℕ → Owed) (p : Part) → device_wire (without_pages ms s pages owed) p ≡ device_wire ms p
+pub device_without : (ms : Mappings) (s : ℕ) (pages : ℕ → Bool) (owed : ℕ → Owed) (p : Part) → device_wire (without_pages ms s pages owed) p
+    ≡ device_wire ms p
 device_without ms s pages owed p = refl

@@ -50,12 +50,18 @@ pub taken_bound :
     → taken_wire ms (own p n (Own.Bind b s t)) ≡ taken_wire ms p
 taken_bound ms g n p b s t l or =
     taken_same ms ms p (own p n (Own.Bind b s t)) (λ x. refl) (λ x k a. refl)
-    (λ x k uses a e. record { pasid = put-other p.pasid b t (binding_of (p.order k)) (other k (busy_unreleased p k or (ap is_busy e))); extent = refl; slots = λ y. refl })
+    (λ x k uses a e. record {
+      pasid = put-other p.pasid b t (binding_of (p.order k)) (other k (busy_unreleased p k or (ap is_busy e)));
+      extent =
+          refl;
+      slots = λ y. refl;
+    })
   where
     other : (k : ℕ) → is_unreleased (p.stage (binding_of (p.order k))) ≡ true → binding_of (p.order k) ≢ b
     other k a e = absurd (cc (sym a ∙ ap (λ c. is_unreleased (p.stage c)) e ∙ ap is_unreleased l.2))
 
-pub taken_drained : (ms : Mappings) (g n : ℕ) (p : Part) (b cookie : ℕ) → Bounds g p → Labels p → taken_wire ms (own p n (Own.Drain b cookie)) ≡ taken_wire ms p
+pub taken_drained : (ms : Mappings) (g n : ℕ) (p : Part) (b cookie : ℕ) → Bounds g p → Labels p → taken_wire ms (own p n (Own.Drain b cookie))
+    ≡ taken_wire ms p
 taken_drained ms g n p b cookie bo la =
     orders_same ms p (put p.order p.orders (Order.Wait cookie true)) (put p.order_state p.orders Queued)
     (λ t k a. let l = busy_made p g k bo (la.itag_bears t k a).1 in

@@ -84,7 +84,8 @@ slots_begun ms g n p r m t l bo la ow =
         let state = put-other p.use_state p.uses Running u (omega arith) in
         λ i. seen_use (state i) (translation_wire ms p (binding i) (ms.page (mapping i)) (mapping i))
 
-pub slots_ended : (ms : Mappings) (n : ℕ) (p : Part) (u : ℕ) → Labels p → slots_wire ms (own p n (Own.End u)) ≡ slice_set (slots_wire ms p) (p.use_slot u) None
+pub slots_ended : (ms : Mappings) (n : ℕ) (p : Part) (u : ℕ) → Labels p → slots_wire ms (own p n (Own.End u))
+    ≡ slice_set (slots_wire ms p) (p.use_slot u) None
 slots_ended ms n p u la =
     row_set 16 (p.use_slot u) p.at_slot (put p.at_slot (p.use_slot u) None) (use_wire ms p) (use_wire ms (own p n (Own.End u))) None
     (ap (option_map (use_wire ms (own p n (Own.End u)))) (put-same p.at_slot (p.use_slot u) None))

@@ -160,7 +160,8 @@ none_higher : {A : Type 0} (below : A → A → Bool) → IsOrder below → (x a
 none_higher below or x a [] h i = tt
 none_higher below or x a (y ∷ ys) h i = (or.between y x a i.0 h, none_higher below or x a ys h i.1)
 
-none_insert : {A : Type 0} (below : A → A → Bool) (k a : A) (xs : List A) → below a k ≡ false → NoneBelow below k xs → NoneBelow below k (insert_by below a xs)
+none_insert : {A : Type 0} (below : A → A → Bool) (k a : A) (xs : List A) → below a k ≡ false → NoneBelow below k xs
+    → NoneBelow below k (insert_by below a xs)
 none_insert below k a [] h i = (h, tt)
 none_insert below k a (x ∷ xs) h i = go (below x a) (none_insert below k a xs h i.1)
   where

@@ -114,7 +114,8 @@ busy_unreleased p k or h = unreleased (p.stage (binding_of (p.order k))) (or.und
     unreleased s h = grind arith
 
 -- unreleased bindings differ in their PASIDs
-pub pasids_differ : (p : Part) (b d : ℕ) → Labels p → is_unreleased (p.stage b) ≡ true → is_unreleased (p.stage d) ≡ true → (p.pasid d == p.pasid b) ≡ (d == b)
+pub pasids_differ : (p : Part) (b d : ℕ) → Labels p → is_unreleased (p.stage b) ≡ true → is_unreleased (p.stage d) ≡ true → (p.pasid d == p.pasid b)
+    ≡ (d == b)
 pasids_differ p b d la h k = go (ℕ_cases d b)
   where
     same : (x y : ℕ) → x ≡ y → (x == y) ≡ true

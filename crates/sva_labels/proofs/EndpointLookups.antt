@@ -144,7 +144,8 @@ cache_find :
     → cached (device_wire ms p) t q ≡ find (is_at_page t q) (map (cached_wire ms p) (select p.requests (λ r. words.is_some (p.held r))))
 cache_find ms x g n e p i t q =
     find_sorted is_before (is_at_page t q) (map (cached_wire ms p) (select p.requests (λ r. words.is_some (p.held r))))
-    (alone_select p.requests (λ r. words.is_some (p.held r)) (cached_wire ms p) (is_at_page t q) (λ j k l m a b h f. one_holder ms x g n e p i t q j k a b h f))
+    (alone_select p.requests (λ r. words.is_some (p.held r)) (cached_wire ms p) (is_at_page t q)
+    (λ j k l m a b h f. one_holder ms x g n e p i t q j k a b h f))
 
 -- where something is cached, it is the one request's answer
 pub cached_seen :
@@ -168,7 +169,8 @@ pub none_cached :
     → cached (device_wire ms p) t q ≡ None
 none_cached ms x g n e p i t q h =
     cache_find ms x g n e p i t q
-    ∙ find_none p.requests (λ r. words.is_some (p.held r)) (cached_wire ms p) (is_at_page t q) (λ r l s. other r l s (is_at_page t q (cached_wire ms p r)) refl)
+    ∙ find_none p.requests (λ r. words.is_some (p.held r)) (cached_wire ms p) (is_at_page t q)
+    (λ r l s. other r l s (is_at_page t q (cached_wire ms p r)) refl)
   where
     other : (r : ℕ) → r < p.requests → words.is_some (p.held r) ≡ true → (b : Bool) → is_at_page t q (cached_wire ms p r) ≡ b → b ≡ false
     other r l s false k = refl

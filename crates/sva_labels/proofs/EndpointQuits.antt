@@ -213,7 +213,8 @@ stopping_cause w e t i l = ap (λ d. is_ending (pasid_state d t)) (device_seen w
 
 busy_cause :
     (w : World) (e t b : ℕ) → Invariant w → e < w.config.endpoints → (w.part e).at_pasid t ≡ Some b
-    → is_busy_pasid (device_of (wire w) e) t ≡ (Labels.is_unfinished_of (w.part e) b || Labels.is_request_out_of (w.part e) b || Labels.is_use_of (w.part e) b)
+    → is_busy_pasid (device_of (wire w) e) t
+    ≡ (Labels.is_unfinished_of (w.part e) b || Labels.is_request_out_of (w.part e) b || Labels.is_use_of (w.part e) b)
 busy_cause w e t b i l h =
     ap (λ d. is_busy_pasid d t) (device_seen w e l)
     ∙ (λ j. (groups_busy w e t b i h j || tags_busy w e t b i h j || slots_busy w e t b i h j))
@@ -240,5 +241,6 @@ quit_says w e t i =
           );
       result = λ h.
           ap (λ u. by_one answer.Marker (Move.Quit e u))
-          (sym ((i.parts e).labels.pasid_bears t (Labels.bearer (w.part e) t) (ending_bearer w e t (not_true (Labels.is_told_to_stop (w.part e) t) h.1.0))).0);
+          (sym ((i.parts e).labels.pasid_bears t (Labels.bearer (w.part e) t)
+          (ending_bearer w e t (not_true (Labels.is_told_to_stop (w.part e) t) h.1.0))).0);
     }

@@ -85,7 +85,8 @@ ask_says w e t q i =
 
 -- BeginUse.
 
-no_slot : (w : World) (e : ℕ) → e < w.config.endpoints → is_none (lowest_label (device_of (wire w) e).slots) ≡ (Labels.lowest_label 16 (w.part e).at_slot == 16)
+no_slot : (w : World) (e : ℕ) → e < w.config.endpoints → is_none (lowest_label (device_of (wire w) e).slots)
+    ≡ (Labels.lowest_label 16 (w.part e).at_slot == 16)
 no_slot w e l =
     ap (λ (d : DeviceWire). is_none (lowest_label d.slots)) (device_seen w e l)
     ∙ no_label 16 (w.part e).at_slot (λ t. option_map (use_wire w.mappings (w.part e)) ((w.part e).at_slot t))

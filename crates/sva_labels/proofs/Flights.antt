@@ -4,7 +4,8 @@ use Rattle.std.specs.Prelude.{Option, Some, None, ◌&&◌, not, ◌==◌, List,
 use Rattle.std.proofs.lemmas.Bool.Decides.{nat_tests}
 use Rattle.sva_model.specs.Words.{put, put_range, select, tabulate, is_some}
 use Rattle.sva_model.specs.Message.{Message}
-use Rattle.sva_model.specs.Message.Message.{StartMessage, StopMessage, ResetMessage, InvalidateMessage, ResponseMessage, RequestMessage, InvalidatedMessage, PageRequestMessage, MarkerMessage, ResetDoneMessage}
+use Rattle.sva_model.specs.Message.Message.{StartMessage, StopMessage, ResetMessage, InvalidateMessage, ResponseMessage, RequestMessage}
+use Rattle.sva_model.specs.Message.Message.{InvalidatedMessage, PageRequestMessage, MarkerMessage, ResetDoneMessage}
 use Rattle.sva_model.specs.State.{About, Part, World}
 use Rattle.sva_model.specs.Acts.{Own, own, act, sends, scope_of, extent_of, binding_of, count_field}
 use Rattle.sva_model.specs.Acts.Act.{At}
@@ -97,7 +98,12 @@ new_flight :
     → flight_wire (act w (At e o)) (w.messages + j) ≡ record { number = number w.config.first w.messages + j; endpoint = e; message = said (w.part e) o }
 new_flight w e o j l =
     let later : w.config.first + (w.messages + j) ≡ w.config.first + w.messages + j = omega arith in
-    ap (λ x. record { number = number w.config.first (w.messages + j); endpoint = x; message = (put w.part e (part_after w e o) x).carried (w.messages + j) }) (new_way w.way w.messages (sends o) e j l)
+    ap (λ x. record {
+      number = number w.config.first (w.messages + j);
+      endpoint = x;
+      message =
+          (put w.part e (part_after w e o) x).carried (w.messages + j);
+    }) (new_way w.way w.messages (sends o) e j l)
     ∙ ap (λ p. record { number = number w.config.first (w.messages + j); endpoint = e; message = p.carried (w.messages + j) })
     (put-same w.part e (part_after w e o))
     ∙ (λ i. record { number = later i; endpoint = e; message = new_carried (w.part e) w.messages o j l i })
@@ -131,7 +137,8 @@ old_flies w e o c to l =
     stays : (f : ℕ → Option About) (d : ℕ) → c ≢ d → is_some (put f d None c) ≡ (is_some (f c) && not (c == d))
     stays f d h = grind (arith, nat_tests)
 
-    here : (d : Option ℕ) → delivers o ≡ d → w.way c ≡ e → is_some (left_of (delivers o) (w.part e).message c) ≡ (is_some ((w.part e).message c) && is_left d c)
+    here : (d : Option ℕ) → delivers o ≡ d → w.way c ≡ e → is_some (left_of (delivers o) (w.part e).message c)
+        ≡ (is_some ((w.part e).message c) && is_left d c)
     here None h k = ap (λ x. is_some (left_of x (w.part e).message c)) h ∙ all (is_some ((w.part e).message c))
     here (Some d) h k = ap (λ x. is_some (left_of x (w.part e).message c)) h ∙ at_d (ℕ_cases c d)
       where

@@ -35,7 +35,8 @@ pub cookies_left :
     → (moved w (own_move first e ms p o)).next_cookie ≡ w.next_cookie + cookies_of o
 cookies_left w first e ms p o = grind arith
 
-pub messages_left : (w : Wire) (first e : ℕ) (ms : Mappings) (p : Part) (o : Own) → (moved w (own_move first e ms p o)).next_message ≡ w.next_message + sends o
+pub messages_left : (w : Wire) (first e : ℕ) (ms : Mappings) (p : Part) (o : Own) → (moved w (own_move first e ms p o)).next_message
+    ≡ w.next_message + sends o
 messages_left w first e ms p o = grind arith
 
 pub numbers_left :

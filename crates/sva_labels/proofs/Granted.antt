@@ -13,14 +13,18 @@ use Rattle.sva_model.specs.State.{PasidRule, Part, World, Stage, Order, About, R
 use Rattle.sva_model.specs.State.Stage.{Unbound, Live, Stopping, Draining, Invalidating, Quiet, Lost, Released}
 use Rattle.sva_model.specs.State.Order.{RangeOf, PasidOf, Wait}
 use Rattle.sva_model.specs.State.RequestState.{Out, Doomed, Over}
-use Rattle.sva_model.specs.State.About.{StartOf, StopOf, ResetOrder, CompletionOf, InvalidateOf, ResponseOf, RequestOf, InvalidatedOf, PageRequestOf, MarkerOf, ResetDone}
+use Rattle.sva_model.specs.State.About.{StartOf, StopOf, ResetOrder, CompletionOf, InvalidateOf, ResponseOf, RequestOf, InvalidatedOf, PageRequestOf}
+use Rattle.sva_model.specs.State.About.{MarkerOf, ResetDone}
 use Rattle.sva_model.specs.States.{is_open, is_wait}
 use Rattle.sva_model.specs.Acts.{Act, Own, act, sends, cookies_of, submits}
 use Rattle.sva_model.specs.Acts.Act.{NewSpace, Map, Unmap, NewBinding, LetGo, At}
 use Rattle.sva_model.specs.Labels
 use Rattle.sva_model.specs.Refusals.{Cause, refusals, unbind_refusals, advance_refusals, sends_invalidate, delivery_sends, is_queue_short}
-use Rattle.sva_model.specs.Replies.{maps_to, reply_maps, replies_success, newly_mapped, free_list, is_write_asked, job_space, job_part, job_binding, response, response_to, responds}
-use Rattle.sva_model.specs.Outcomes.{Outcome, outcome, unbind_outcome, advance_outcome, pump_outcome, head_outcome, wait_outcome, send_outcome, may_pass, serve_outcome, file_outcome, reply_outcome, fault_outcome, deliver_outcome, completion_outcome, keep_outcome, is_full, request_outcome, count_outcome, page_request_outcome, marker_outcome}
+use Rattle.sva_model.specs.Replies.{maps_to, reply_maps, replies_success, newly_mapped, free_list, is_write_asked, job_space, job_part, job_binding}
+use Rattle.sva_model.specs.Replies.{response, response_to, responds}
+use Rattle.sva_model.specs.Outcomes.{Outcome, outcome, unbind_outcome, advance_outcome, pump_outcome, head_outcome, wait_outcome, send_outcome, may_pass}
+use Rattle.sva_model.specs.Outcomes.{serve_outcome, file_outcome, reply_outcome, fault_outcome, deliver_outcome, completion_outcome, keep_outcome, is_full}
+use Rattle.sva_model.specs.Outcomes.{request_outcome, count_outcome, page_request_outcome, marker_outcome}
 use Rattle.sva_model.specs.Steps.{checked, decide, next, run, after_acts, world_after}
 use Rattle.sva_laws.proofs.Words.{any_below-false}
 use Rattle.sva_laws.proofs.Invariant.{Invariant}
@@ -196,7 +200,8 @@ reply_granted w x j v (Some code) e h = go (replies_success w j v)
   where
     few : Labels.lacks w w.messages 1 ≡ false
     few =
-        both_false (responds w j) (Labels.lacks w w.messages 1) h (responding (is_open (job_part w j).phase) ((job_part w j).stage (job_binding w j)) v code e)
+        both_false (responds w j) (Labels.lacks w w.messages 1) h
+        (responding (is_open (job_part w j).phase) ((job_part w j).stage (job_binding w j)) v code e)
 
     go :
         (b : Bool)
@@ -279,7 +284,8 @@ outcome_granted w (step.Serve e) h = serve_granted w e (w.part e) (Labels.is_pag
 outcome_granted w (step.Reset e) h = (sending w e Own.Reset h.1.1.0 refl tt, tt)
 outcome_granted w (step.Take x) h = (free_of w _ (Own.Hand _ x) refl refl tt, (tt, tt))
 outcome_granted w (step.Reply x v) h = reply_granted w x (the (w.hand x)) v (response_to w (the (w.hand x)) v) refl h.1.1.1.1.1.0
-outcome_granted w (step.Ask e t q) h = (sending w e (Own.Ask (Labels.bearer (w.part e) t) q (Labels.lowest_label 32 (w.part e).at_tag)) h.1.1.1.1.0 refl tt, tt)
+outcome_granted w (step.Ask e t q) h =
+    (sending w e (Own.Ask (Labels.bearer (w.part e) t) q (Labels.lowest_label 32 (w.part e).at_tag)) h.1.1.1.1.0 refl tt, tt)
 outcome_granted w (step.BeginUse e t q x) h = (free_of w e (Own.Begin _ _ _) refl refl tt, tt)
 outcome_granted w (step.EndUse e u) h = (free_of w e (Own.End _) refl refl tt, tt)
 outcome_granted w (step.Evict e t q) h = (free_of w e (Own.Evict _) refl refl tt, tt)

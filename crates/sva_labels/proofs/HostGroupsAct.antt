@@ -74,7 +74,13 @@ groups_alike first p q a =
     entry : (k : ℕ) → k < p.filings → opens p (filed_group p k) ≡ true → host_group_wire first q (filed_group p k) ≡ host_group_wire first p (filed_group p k)
     entry k l h =
         λ i.
-        record { binding = number first (a.under k l h i); index = a.index k l h i; asks = asks_same p q a (filed_group p k) i; is_whole = not (a.part k l h i) }
+        record {
+          binding = number first (a.under k l h i);
+          index = a.index k l h i;
+          asks = asks_same p q a (filed_group p k) i;
+          is_whole =
+              not (a.part k l h i);
+        }
 
 -- the endpoint makes a page request: of what is filed nothing changes
 
@@ -90,7 +96,12 @@ groups_group g first n p b i q r x l bo fi =
       ask =
           λ k m.
           λ j.
-          record { page = old_put p.asked_page p.page_requests (p.filing k) q (made k m) j; read = old_put p.asks_read p.page_requests (p.filing k) r (made k m) j; write = old_put p.asks_write p.page_requests (p.filing k) x (made k m) j };
+          record {
+            page = old_put p.asked_page p.page_requests (p.filing k) q (made k m) j;
+            read =
+                old_put p.asks_read p.page_requests (p.filing k) r (made k m) j;
+            write = old_put p.asks_write p.page_requests (p.filing k) x (made k m) j;
+          };
       same_opens = λ k m. refl;
       under = λ k m h. refl;
       index = λ k m h. old_put p.index p.groups (filed_group p k) i (bo.group_of (p.filing k) (made k m));
@@ -112,7 +123,12 @@ groups_request g first n p w q r x l bo fi =
       ask =
           λ k m.
           λ j.
-          record { page = old_put p.asked_page p.page_requests (p.filing k) q (made k m) j; read = old_put p.asks_read p.page_requests (p.filing k) r (made k m) j; write = old_put p.asks_write p.page_requests (p.filing k) x (made k m) j };
+          record {
+            page = old_put p.asked_page p.page_requests (p.filing k) q (made k m) j;
+            read =
+                old_put p.asks_read p.page_requests (p.filing k) r (made k m) j;
+            write = old_put p.asks_write p.page_requests (p.filing k) x (made k m) j;
+          };
       same_opens = λ k m. refl;
       under = λ k m h. refl;
       index = λ k m h. refl;
@@ -143,7 +159,8 @@ groups_state first p g s o w =
   where
     same : (x : ℕ) → (x ≡ g) ⊎ (x ≢ g) → is_open_group (put p.host_group g s x) ≡ is_open_group (p.host_group x)
     same x (inl e) =
-        ap (λ z. is_open_group (put p.host_group g s z)) e ∙ ap is_open_group (put-same p.host_group g s) ∙ o ∙ ap (λ z. is_open_group (p.host_group z)) (sym e)
+        ap (λ z. is_open_group (put p.host_group g s z)) e ∙ ap is_open_group (put-same p.host_group g s) ∙ o
+        ∙ ap (λ z. is_open_group (p.host_group z)) (sym e)
     same x (inr ne) = ap is_open_group (put-other p.host_group g s x ne)
 
     whole : (x : ℕ) → is_open_group (p.host_group x) ≡ true → (x ≡ g) ⊎ (x ≢ g) → is_part (put p.host_group g s x) ≡ is_part (p.host_group x)

@@ -11,7 +11,8 @@ use Rattle.sva_model.specs.State.HostGroupState.{NotFiled, PartFiled, Job, InHan
 use Rattle.sva_model.specs.State.Phase.{Open}
 use Rattle.sva_model.specs.States.{is_open_group, is_outstanding, is_before_invalidating}
 use Rattle.sva_model.specs.Acts.{Own, own, filed_as}
-use Rattle.sva_model.specs.Wire.{number, ask_wire, asks_wire, page_request_wire, host_group_wire, host_groups_wire, group_job, begins_open, is_part, AskWire, HostGroupWire}
+use Rattle.sva_model.specs.Wire.{number, ask_wire, asks_wire, page_request_wire, host_group_wire, host_groups_wire, group_job, begins_open, is_part}
+use Rattle.sva_model.specs.Wire.{AskWire, HostGroupWire}
 use Rattle.sva_wire.proofs.Lists.{none_below}
 use Rattle.sva_laws.proofs.Words.{put-same, put-other, ℕ_cases, any_below-false, any_below-intro, lowest_below}
 use Rattle.sva_laws.proofs.Legal.{LegalOwn}
@@ -194,7 +195,8 @@ module _ (ms : Mappings) (x g n e first : ℕ) (p : Part) (r : ℕ) (l : LegalOw
         binding = number first (put-other p.filed_under own_group (p.asker own_group) h ne j);
         index = p.index h;
         asks =
-            (asks_filed p n r h ∙ ap (λ z. asks_wire p h ++ if_passes z (ask_wire p r)) (differs own_group h (λ s. ne (sym s))) ∙ append-nil (asks_wire p h)) j;
+            (asks_filed p n r h ∙ ap (λ z. asks_wire p h ++ if_passes z (ask_wire p r)) (differs own_group h (λ s. ne (sym s)))
+            ∙ append-nil (asks_wire p h)) j;
         is_whole = not (is_part (put-other p.host_group own_group (filed_as (p.is_last r)) h ne j));
       }
 
@@ -245,7 +247,8 @@ module _ (ms : Mappings) (x g n e first : ℕ) (p : Part) (r : ℕ) (l : LegalOw
       (ap (host_group_wire first after) new_group ∙ own_entry
       ∙ ap (λ (xs : List AskWire). record (begun_by bound (page_request_wire p r)) { asks = xs ++ ask_wire p r ∷ [] }) none_asked))
       ∙ sym (filed_new bound (page_request_wire p r) p.filings (λ k. host_group_wire first p (filed_group p k)) (begins_open p)
-      (λ k m b. not_begun (filed_group p k) (opens_of (opens p (filed_group p k)) (not (any_below k (λ j. filed_group p j == filed_group p k))) b) (apart k m)))
+      (λ k m b. not_begun (filed_group p k) (opens_of (opens p (filed_group p k)) (not (any_below k (λ j. filed_group p j == filed_group p k))) b)
+      (apart k m)))
     where
       apart : (k : ℕ) → k < p.filings → filed_group p k ≢ own_group
       apart k m c = absurd (cc (sym (ap is_filed_group (ap p.host_group c ∙ h)) ∙ (i.groups.filed (p.filing k) (fi.filed k m)).0))
@@ -311,7 +314,8 @@ module _ (ms : Mappings) (x g n e first : ℕ) (p : Part) (r : ℕ) (l : LegalOw
       begun_least =
           ap (λ z. is_begun bound (p.index own_group) (host_group_wire first p z)) least_group
           ∙ all_three (number first (p.filed_under own_group) == bound) (p.index own_group == p.index own_group) (is_part (p.host_group own_group))
-          (equals (number first (p.filed_under own_group)) bound (ap (number first) under)) (equals (p.index own_group) (p.index own_group) refl) (ap is_part h)
+          (equals (number first (p.filed_under own_group)) bound (ap (number first) under)) (equals (p.index own_group) (p.index own_group) refl)
+          (ap is_part h)
 
       least_entry : host_group_wire first after (filed_group p least) ≡ added_to (page_request_wire p r) (host_group_wire first p (filed_group p least))
       least_entry =

@@ -15,7 +15,8 @@ begun_by b r = record { binding = b; index = r.index; asks = r.ask ∷ []; is_wh
 abbrev pub added_to : PageRequestWire → HostGroupWire → HostGroupWire
 added_to r g = record g { asks = g.asks ++ r.ask ∷ []; is_whole = r.last }
 
-filed_head : (b : ℕ) (r : PageRequestWire) (x : HostGroupWire) (xs : List HostGroupWire) → is_begun b r.index x ≡ false → filed b r (x ∷ xs) ≡ x ∷ filed b r xs
+filed_head : (b : ℕ) (r : PageRequestWire) (x : HostGroupWire) (xs : List HostGroupWire) → is_begun b r.index x ≡ false → filed b r (x ∷ xs) ≡ x
+    ∷ filed b r xs
 filed_head b r x xs h = ap (λ z. if z then added_to r x ∷ xs else x ∷ filed b r xs) h
 
 -- it passes by the groups that aren't begun

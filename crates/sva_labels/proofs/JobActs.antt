@@ -231,7 +231,8 @@ jobs_handed w e g x j i past made f =
         ∙ ap (λ z. is_job (put (w.part e).host_group g (InHand x) z)) f.group
         ∙ ap is_job (put-same (w.part e).host_group g (InHand x))
 
-    stays : (k : ℕ) → ((w.job k).endpoint ≡ e) ⊎ ((w.job k).endpoint ≢ e) → ((w.job k).endpoint ≡ e → (w.job k).group ≢ g) → after k ≡ Labels.is_queued_job w k
+    stays : (k : ℕ) → ((w.job k).endpoint ≡ e) ⊎ ((w.job k).endpoint ≢ e) → ((w.job k).endpoint ≡ e → (w.job k).group ≢ g) → after k
+        ≡ Labels.is_queued_job w k
     stays k (inl h) ne =
         ap (λ z. is_job ((put w.part e (part_after w e o) z).host_group (w.job k).group)) h
         ∙ ap (λ p. is_job (p.host_group (w.job k).group)) (put-same w.part e (part_after w e o))

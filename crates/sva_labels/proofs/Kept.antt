@@ -8,7 +8,8 @@ use Rattle.sva_model.specs.Wire.UseWire.{RunningWire}
 use Rattle.sva_model.specs.Wire.BusyWire.{Fresh}
 use Rattle.sva_model.specs.Wire.Descriptor.{PasidDescriptor, WaitDescriptor}
 use Rattle.sva_labels.specs.Finding.{is_at_page}
-use Rattle.sva_labels.specs.Moves.{Move, with_descriptors, with_pasid, without_tag, kept, taking, ended, requested, stale_of, cleared, completed, without_named, filed, is_of_job}
+use Rattle.sva_labels.specs.Moves.{Move, with_descriptors, with_pasid, without_tag, kept, taking, ended, requested, stale_of, cleared, completed}
+use Rattle.sva_labels.specs.Moves.{without_named, filed, is_of_job}
 
 abbrev pub device_moved : DeviceWire → Move → DeviceWire
 device_moved d (Move.Ask e t q tag) = record d { tags = slice_set d.tags tag (Some (record { pasid = t; page = q; is_doomed = false })) }

@@ -155,7 +155,8 @@ bearer_is w e t i = find_seen (binding_seen w) (λ b. b.endpoint == e && b.pasid
 pub bound_there : (w : World) (n : ℕ) → Invariant w → w.config.first + Labels.name w n ≡ n → is_bound (wire w) n ≡ Labels.is_bound w (Labels.name w n)
 bound_there w n i num =
     any_seen w.bindings (is_kept w) (binding_seen w) (λ b. b.space == n)
-    ∙ both_ways (any_below w.bindings (λ b. is_kept w b && w.config.first + (w.part (w.home b)).space b == n)) (Labels.is_bound w (Labels.name w n)) forth back
+    ∙ both_ways (any_below w.bindings (λ b. is_kept w b && w.config.first + (w.part (w.home b)).space b == n)) (Labels.is_bound w (Labels.name w n))
+    forth back
   where
     forth : any_below w.bindings (λ b. is_kept w b && w.config.first + (w.part (w.home b)).space b == n) ≡ true → Labels.is_bound w (Labels.name w n) ≡ true
     forth h =

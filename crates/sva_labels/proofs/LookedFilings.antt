@@ -132,7 +132,8 @@ asks_there ms x g n e first p r i on fi ph ar =
         ap (asks_wire p)
         (its_group k
         (find_passes p.filings
-        (λ k. begins_open p k && is_begun (number first (p.asker (p.group_of r))) (p.index (p.group_of r)) (host_group_wire first p (filed_group p k))) k h).1)
+        (λ k. begins_open p k && is_begun (number first (p.asker (p.group_of r))) (p.index (p.group_of r))
+        (host_group_wire first p (filed_group p k))) k h).1)
 
 -- and with the request itself, which is filed last
 pub asks_then :

@@ -59,7 +59,8 @@ open_there first m b ms p bo fi =
     ∙ both_ways (any_below p.filings (λ k. begins_open p k && first + p.filed_under (p.group_of (p.filing k)) == first + b))
     (Labels.has_open_group p b) forth back
   where
-    forth : any_below p.filings (λ k. begins_open p k && first + p.filed_under (p.group_of (p.filing k)) == first + b) ≡ true → Labels.has_open_group p b ≡ true
+    forth : any_below p.filings (λ k. begins_open p k && first + p.filed_under (p.group_of (p.filing k)) == first + b) ≡ true
+        → Labels.has_open_group p b ≡ true
     forth h =
         let x = any_below-true p.filings (λ k. begins_open p k && first + p.filed_under (p.group_of (p.filing k)) == first + b) h in
         let is_open =
@@ -72,7 +73,8 @@ open_there first m b ms p bo fi =
         (sym (same_number first (p.filed_under (p.group_of (p.filing x.0))) b)
         ∙ and_right (begins_open p x.0) (first + p.filed_under (p.group_of (p.filing x.0)) == first + b) x.2))
 
-    back : Labels.has_open_group p b ≡ true → any_below p.filings (λ k. begins_open p k && first + p.filed_under (p.group_of (p.filing k)) == first + b) ≡ true
+    back : Labels.has_open_group p b ≡ true
+        → any_below p.filings (λ k. begins_open p k && first + p.filed_under (p.group_of (p.filing k)) == first + b) ≡ true
     back h =
         let x = any_below-true p.groups (λ g. is_open_group (p.host_group g) && p.filed_under g == b) h in
         let f = begun p x.0 fi (and_left (is_open_group (p.host_group x.0)) (p.filed_under x.0 == b) x.2) in

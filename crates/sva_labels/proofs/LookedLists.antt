@@ -137,7 +137,8 @@ find_seen {A = A} f test (suc n) p =
     go b c e (Some k) None h = absurd (cc (h))
 
 -- how many pass a test
-pub count_seen : {A : Type 0} (f : ℕ → A) (test : A → Bool) (n : ℕ) (p : ℕ → Bool) → count_by test (map f (select n p)) ≡ count_below n (λ k. p k && test (f k))
+pub count_seen : {A : Type 0} (f : ℕ → A) (test : A → Bool) (n : ℕ) (p : ℕ → Bool) → count_by test (map f (select n p))
+    ≡ count_below n (λ k. p k && test (f k))
 unfolding select count_below
 count_seen f test zero p = refl
 count_seen f test (suc n) p =

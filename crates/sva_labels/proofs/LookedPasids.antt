@@ -82,7 +82,8 @@ pasid_there w e s i r =
         let y = borne_by w s t k in
         let la = (i.parts y.endpoint).labels.pasid_bears t y.binding y.bears in
         let z = kept_at y.endpoint y.binding la.1 y.its in
-        absurd (cc (sym (find_some w.bindings (λ b. is_kept w b && w.config.first + (w.part (w.home b)).space b == w.config.first + s) y.binding z.0 z.1) ∙ h))
+        absurd (cc (sym (find_some w.bindings (λ b. is_kept w b && w.config.first + (w.part (w.home b)).space b == w.config.first + s) y.binding z.0
+        z.1) ∙ h))
 
     go :
         (o : Option ℕ) → find w.bindings (λ b. is_kept w b && w.config.first + (w.part (w.home b)).space b == w.config.first + s) ≡ o

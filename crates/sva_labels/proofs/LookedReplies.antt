@@ -16,13 +16,15 @@ use Rattle.sva_model.specs.States.{is_open, is_unreleased, is_free_place, place}
 use Rattle.sva_model.specs.Replies as names
 use Rattle.sva_model.specs.Replies.{response, is_success, unseen, job_binding, job_space, job_asks}
 use Rattle.sva_model.specs.Labels
-use Rattle.sva_model.specs.Wire.{PlaceWire, AskWire, number, stage_wire, binding_wire, ask_wire, page_wire, pages_wire, place_wire_by, places_wire, job_wire, wire}
+use Rattle.sva_model.specs.Wire.{PlaceWire, AskWire, number, stage_wire, binding_wire, ask_wire, page_wire, pages_wire, place_wire_by, places_wire}
+use Rattle.sva_model.specs.Wire.{job_wire, wire}
 use Rattle.sva_laws.proofs.Groups.{is_filed_group}
 use Rattle.sva_laws.proofs.Invariant.{Invariant, IsHeldBy}
 use Rattle.sva_laws.proofs.LegalUnit.{group_there}
 use Rattle.sva_wire.proofs.Lists.{select_same, select_length, tabulate_length}
 use Rattle.sva_labels.specs.Finding.{pages_in, page_at, is_mapped, is_free, free_from, binding_of}
-use Rattle.sva_labels.specs.Replying.{response_by, response_for, response_to, responds, replies_success, space_by, pages_of_job, newly_mapped, is_write_asked, is_read_only_at, is_write_of_read_only}
+use Rattle.sva_labels.specs.Replying.{response_by, response_for, response_to, responds, replies_success, space_by, pages_of_job, newly_mapped}
+use Rattle.sva_labels.specs.Replying.{is_write_asked, is_read_only_at, is_write_of_read_only}
 use Rattle.sva_labels.proofs.EndpointViews.{unit_seen}
 use Rattle.sva_labels.proofs.LookedBindings.{binding_named, binding_released}
 use Rattle.sva_labels.proofs.LookedSpaces.{pages_of_name, page_found, mapped_there, frames_free}
@@ -99,7 +101,8 @@ response_there w j v i h =
         → response_for (is_open (w.part (w.job j).endpoint).phase) (binding_of (wire w) (number w.config.first (job_binding w j))) v ≡ names.response_to w j v
     go true e =
         ap (λ o. response_for (is_open (w.part (w.job j).endpoint).phase) o v) (binding_named w (w.job j).endpoint (job_binding w j) i e)
-        ∙ staged w.config.first (w.part (w.job j).endpoint) (is_open (w.part (w.job j).endpoint).phase) ((w.part (w.job j).endpoint).stage (job_binding w j)) v
+        ∙ staged w.config.first (w.part (w.job j).endpoint) (is_open (w.part (w.job j).endpoint).phase)
+        ((w.part (w.job j).endpoint).stage (job_binding w j)) v
     go false e =
         ap (λ o. response_for (is_open (w.part (w.job j).endpoint).phase) o v)
         (binding_released w (w.job j).endpoint (job_binding w j) i (filed_bound w j i h) e)

@@ -1,6 +1,7 @@
 -- What a look-up in a list finds, where the list is a table or the numbers that pass.
 use Rattle.std.proofs.Common.{◌≡◌, ◌≢◌, ◌⊎◌, inl, inr, refl, ap, ap₂, sym, subst, ◌∙◌, ℕ, zero, suc, ◌+◌, ◌<◌, ◌≤◌, Bool, true, false, arith, get_or}
-use Rattle.std.specs.Prelude.{Option, Some, None, option_map, ◌&&◌, ◌||◌, not, ◌==◌, nat_lt, if◌then◌else◌, is_some, is_none, List, [], ◌∷◌, ◌++◌, map, length}
+use Rattle.std.specs.Prelude.{Option, Some, None, option_map, ◌&&◌, ◌||◌, not, ◌==◌, nat_lt, if◌then◌else◌, is_some, is_none, List, [], ◌∷◌, ◌++◌, map}
+use Rattle.std.specs.Prelude.{length}
 use Rattle.std.specs.List.{find, list_any, position_or_len}
 use Rattle.std.specs.Option.{option_or}
 use Rattle.std.proofs.lemmas.Bool.Decides.{nat_tests}

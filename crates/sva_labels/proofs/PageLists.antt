@@ -99,7 +99,8 @@ any_filter p q (x ∷ xs) = go (q x) (any_filter p q xs)
     go true h = ap (λ b. p x || b) h
     go false h = h
 
-any_page : (ms : Mappings) (s : ℕ) (p : PageWire → Bool) (n : ℕ) → list_any p (pages_below ms s n) ≡ any_below n (λ m. is_page_of ms s m && p (page_wire ms m))
+any_page : (ms : Mappings) (s : ℕ) (p : PageWire → Bool) (n : ℕ) → list_any p (pages_below ms s n)
+    ≡ any_below n (λ m. is_page_of ms s m && p (page_wire ms m))
 unfolding pages_below any_below
 any_page ms s p zero = refl
 any_page ms s p (suc n) = go (is_page_of ms s n) (any_page ms s p n)

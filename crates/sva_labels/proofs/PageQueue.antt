@@ -57,7 +57,8 @@ queue_bind ms g n p b s t l gr =
     queue_same p (own p n (Own.Bind b s t)) refl (λ k m. refl) (λ k m. refl)
     (λ k m a. ap
     (λ z. asked_of z (p.index (p.group_of (p.arrival k))) (p.asked_page (p.arrival k)) (p.asks_read (p.arrival k)) (p.asks_write (p.arrival k))
-    (p.is_last (p.arrival k))) (put-other p.pasid b t (p.asker (p.group_of (p.arrival k))) (apart (p.arrival k) (arrived_is (p.page_request (p.arrival k)) a))))
+    (p.is_last (p.arrival k)))
+    (put-other p.pasid b t (p.asker (p.group_of (p.arrival k))) (apart (p.arrival k) (arrived_is (p.page_request (p.arrival k)) a))))
   where
     apart : (r : ℕ) → p.page_request r ≡ Arrived → p.asker (p.group_of r) ≢ b
     apart r a e = before_bound (p.stage (p.asker (p.group_of r))) (gr.arrived_stage r a) (ap p.stage e ∙ l.2)

@@ -125,7 +125,8 @@ silent_kept ms g n p o l sent or h (Ranges first count resets) d k =
     (undone_kept ms g n p o l sent h (first + count) d.1.made d.1.is_a_wait (or.no_wait (first + count)) z.1)
 silent_kept ms g n p o l sent or h (Pasid j x resets in_reset) d k =
     let z = pasid_open p j x resets in_reset d.1 k in
-    pasid_waits (own p n o) j x resets in_reset (z.0 ∙ sym (resets_kept p n o h)) (undone_kept ms g n p o l sent h x d.1.made d.1.is_a_wait (or.no_wait x) z.1)
+    pasid_waits (own p n o) j x resets in_reset (z.0 ∙ sym (resets_kept p n o h))
+    (undone_kept ms g n p o l sent h x d.1.made d.1.is_a_wait (or.no_wait x) z.1)
 silent_kept ms g n p o l sent or h (AReset resets) d k = ap (nat_lt resets) (resets_kept p n o h) ∙ k
 
 pub answered_kept :
@@ -183,7 +184,8 @@ seen_same w v owed c h =
         (λ e. if nat_lt e w.config.endpoints then target_wire w.config.first (w.part e) (owed e) else None)
         (λ e l. at e (nat_lt e w.config.endpoints) refl)
 
-pub places_kept : (w : World) (e : ℕ) (o : Own) → Legal w (At e o) → Invariant w → AllDebts w → settles o ≡ false → places_wire (act w (At e o)) ≡ places_wire w
+pub places_kept : (w : World) (e : ℕ) (o : Own) → Legal w (At e o) → Invariant w → AllDebts w → settles o ≡ false → places_wire (act w (At e o))
+    ≡ places_wire w
 places_kept w e o l i debts h =
     places_same w (act w (At e o)) refl refl
     (λ m owed gone. seen_same w (act w (At e o)) owed refl

@@ -2,7 +2,9 @@
 use Rattle.std.proofs.Common.{refl}
 use Rattle.sva_model.specs.Words.{lowest, any_below, all_below, count_below, select, tabulate}
 use Rattle.sva_labels.specs.Host.{replies_of}
-use Rattle.sva_labels.specs.RowsByLabels.{TranslationsByLabels, InvalidationsByLabels, ResetsByLabels, PageRequestsByLabels, FinalRulesByLabels, DeliveriesByLabels, RefusalsByLabels, ReadingsByLabels, LimitsByLabels, BoundariesByLabels, NamesByLabels, WrongRulesByLabels}
+use Rattle.sva_labels.specs.RowsByLabels.{TranslationsByLabels, InvalidationsByLabels, ResetsByLabels, PageRequestsByLabels, FinalRulesByLabels}
+use Rattle.sva_labels.specs.RowsByLabels.{DeliveriesByLabels, RefusalsByLabels, ReadingsByLabels, LimitsByLabels, BoundariesByLabels, NamesByLabels}
+use Rattle.sva_labels.specs.RowsByLabels.{WrongRulesByLabels}
 
 pub translations : TranslationsByLabels
 unfolding lowest any_below all_below count_below select tabulate replies_of

@@ -20,7 +20,8 @@ use Rattle.sva_laws.proofs.Words.{not_true, find_passes, find_some, any_below-tr
 use Rattle.sva_laws.proofs.Invariant.{Invariant}
 use Rattle.sva_laws.proofs.Passed.{is_less, unreleased_bound}
 use Rattle.sva_labels.specs.Finding.{binding_of, bound_at, pasid_for, has_room, has_open_group, is_wait_done}
-use Rattle.sva_labels.specs.Causes.{causes_of, no_such_endpoint, no_such_space, resetting, numbers_spent, bind_causes, unbind_causes, advance_causes, unbind_by, advance_by}
+use Rattle.sva_labels.specs.Causes.{causes_of, no_such_endpoint, no_such_space, resetting, numbers_spent, bind_causes, unbind_causes, advance_causes}
+use Rattle.sva_labels.specs.Causes.{unbind_by, advance_by}
 use Rattle.sva_labels.specs.Outcomes as results
 use Rattle.sva_labels.specs.Outcomes.{result_of, says, by_one, bind_result, label, of_binding}
 use Rattle.sva_labels.proofs.Alike.{refused_by, IsAlike, alike_same, alike_more, alike_right, alike_held, SaysAlike, result_by}
@@ -44,7 +45,8 @@ reset_cause w e l = ap (λ u. (not u.is_open, refusal.Resetting)) (unit_seen w e
 
 found_any : (n : ℕ) (p : ℕ → Bool) → is_some (find n p) ≡ any_below n p
 found_any n p =
-    both_ways (is_some (find n p)) (any_below n p) (λ h. forth (find n p) refl h) (λ h. let x = any_below-true n p h in ap is_some (find_some n p x.0 x.1 x.2))
+    both_ways (is_some (find n p)) (any_below n p) (λ h. forth (find n p) refl h) (λ h. let x =
+    any_below-true n p h in ap is_some (find_some n p x.0 x.1 x.2))
   where
     forth : (o : Option ℕ) → find n p ≡ o → is_some o ≡ true → any_below n p ≡ true
     forth None e h = absurd (cc (h))
@@ -212,7 +214,8 @@ advanced_by w b (Invalidating j k) = refl
 advanced_by w b Quiet = refl
 advanced_by w b Released = refl
 
-pub advance_says : (w : World) (n : ℕ) → Invariant w → ((e : ℕ) → HasFront w.cookies (w.part e)) → ((e : ℕ) → Filings (w.part e)) → SaysAlike w (step.Advance n)
+pub advance_says : (w : World) (n : ℕ) → Invariant w → ((e : ℕ) → HasFront w.cookies (w.part e)) → ((e : ℕ) → Filings (w.part e))
+    → SaysAlike w (step.Advance n)
 advance_says w n i f fi =
     record {
       alike =

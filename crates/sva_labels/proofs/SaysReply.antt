@@ -25,7 +25,8 @@ use Rattle.sva_labels.specs.Outcomes.{says, maps_to, reply_maps, reply_by, reply
 use Rattle.sva_labels.proofs.Alike.{refused_by, IsAlike, alike_same, alike_held, alike_right, SaysAlike, result_by}
 use Rattle.sva_labels.proofs.Named.{act_moves}
 use Rattle.sva_labels.proofs.LookedBindings.{binding_named}
-use Rattle.sva_labels.proofs.LookedReplies.{InHandNow, response_there, responds_there, success_there, sent_unreleased, succeeds, writes_asked, newly_there, read_only_there, free_there, free_count}
+use Rattle.sva_labels.proofs.LookedReplies.{InHandNow, response_there, responds_there, success_there, sent_unreleased, succeeds, writes_asked, newly_there}
+use Rattle.sva_labels.proofs.LookedReplies.{read_only_there, free_there, free_count}
 use Rattle.sva_labels.proofs.LookedSpaces.{pages_count}
 use Rattle.sva_labels.proofs.SaysServe.{at_worker, held_there}
 

@@ -110,7 +110,8 @@ label_there : (first : ℕ) (p : Part) → prelude.is_some (lowest_label (unit_w
 label_there first p =
     some_label (lowest_label (unit_wire first p).busy)
     ∙ ap not
-    (no_label 32 p.at_itag (λ t. option_map (λ k. busy_wire (p.order_state k)) (p.at_itag t)) (λ t. seen_none (λ k. busy_wire (p.order_state k)) (p.at_itag t)))
+    (no_label 32 p.at_itag (λ t. option_map (λ k. busy_wire (p.order_state k)) (p.at_itag t))
+    (λ t. seen_none (λ k. busy_wire (p.order_state k)) (p.at_itag t)))
 
 sends_there : (first : ℕ) (p : Part) → sends_invalidate (unit_wire first p) ≡ names.sends_invalidate p
 sends_there first p = go (Labels.is_queue_empty p) refl
@@ -189,7 +190,8 @@ sent_by :
     (w : World) (e pasid : ℕ) (extent : Extent) → (w.part e).pasid (binding_of ((w.part e).order (Labels.head (w.part e)))) ≡ pasid
     → extent_of ((w.part e).order (Labels.head (w.part e))) ≡ extent
     → send_result e pasid extent (lowest_label (unit_wire w.config.first (w.part e)).busy)
-    ≡ result_by w (send_outcome e (Labels.head (w.part e)) (Labels.lowest_label 32 (w.part e).at_itag) (not (Labels.lowest_label 32 (w.part e).at_itag == 32)))
+    ≡ result_by w (send_outcome e (Labels.head (w.part e)) (Labels.lowest_label 32 (w.part e).at_itag)
+    (not (Labels.lowest_label 32 (w.part e).at_itag == 32)))
 sent_by w e pasid extent p x =
     ap (send_result e pasid extent)
     (label_seen 32 (w.part e).at_itag (λ t. option_map (λ k. busy_wire ((w.part e).order_state k)) ((w.part e).at_itag t))

@@ -46,13 +46,15 @@ at_sent w e o l i h x c k = go (ℕ_cases x e)
   where
     go : (x ≡ e) ⊎ (x ≢ e) → put_range w.way w.messages (sends o) (λ j. e) c ≡ x
     go (inr ne) =
-        let old : is_some ((w.part x).message c) ≡ true = subst (λ p. is_some (p.message c) ≡ true) (put-other w.part e (own (w.part e) w.messages o) x ne) k in
+        let old : is_some ((w.part x).message c) ≡ true =
+        subst (λ p. is_some (p.message c) ≡ true) (put-other w.part e (own (w.part e) w.messages o) x ne) k in
         old_way w.way w.messages (sends o) e c (was_sent w.messages (w.part x) (i.parts x).resets c old) ∙ h x c old
     go (inl same) = here (message_from w.mappings w.bindings w.messages (w.part e) o l c there) ∙ sym same
       where
         there : is_some ((own (w.part e) w.messages o).message c) ≡ true
         there =
-            subst (λ p. is_some (p.message c) ≡ true) (ap (put w.part e (own (w.part e) w.messages o)) same ∙ put-same w.part e (own (w.part e) w.messages o)) k
+            subst (λ p. is_some (p.message c) ≡ true) (ap (put w.part e (own (w.part e) w.messages o)) same
+            ∙ put-same w.part e (own (w.part e) w.messages o)) k
 
         here : (is_some ((w.part e).message c) ≡ true) ⊎ ((w.messages ≤ c) × (c < w.messages + sends o)) → put_range w.way w.messages (sends o) (λ j. e) c ≡ e
         here (inl old) = old_way w.way w.messages (sends o) e c (was_sent w.messages (w.part e) (i.parts e).resets c old) ∙ h e c old

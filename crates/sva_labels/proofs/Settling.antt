@@ -181,7 +181,8 @@ pass_target ms g n cookies first p k v l bo sent f before after = go (answered p
             (or_true (is_done ((own p n (Own.Pass k)).order_state j) && is_done ((own p n (Own.Pass k)).order_state x)) (nat_lt resets p.resets)
             (both_done ((own p n (Own.Pass k)).order_state j) ((own p n (Own.Pass k)).order_state x)
             (a.1.done z.0 (now_done x e) j (omega arith) a.1.low) (now_done x e)))
-            ∙ sym (by_cookie x true (is_same (cookie_number first (p.order x)) (cookie_number first (p.order k)) (ap (λ y. cookie_number first (p.order y)) e)))
+            ∙ sym (by_cookie x true
+            (is_same (cookie_number first (p.order x)) (cookie_number first (p.order k)) (ap (λ y. cookie_number first (p.order y)) e)))
         which (inr ne) z =
             ap (λ b. if b then None else Some (Cookie (cookie_number first (p.order x))))
             (pasid_waits (own p n (Own.Pass k)) j x resets false z.0 (not_yet x ne z.1))

@@ -95,7 +95,8 @@ rise_get :
     → is_before x y ≡ true
 rise_get [] j k x y h l a b = absurd (cc (a))
 rise_get (z ∷ zs) j zero x y h l a b = absurd (omega (arith, l))
-rise_get (z ∷ zs) zero (suc k) x y h l a b = all_get (λ v. is_before x v ≡ true) zs k y (subst (λ u. AllOf (λ v. is_before u v ≡ true) zs) (same_Some z x a) h.0) b
+rise_get (z ∷ zs) zero (suc k) x y h l a b =
+    all_get (λ v. is_before x v ≡ true) zs k y (subst (λ u. AllOf (λ v. is_before u v ≡ true) zs) (same_Some z x a) h.0) b
 rise_get (z ∷ zs) (suc j) (suc k) x y h l a b = rise_get zs j k x y h.1 (omega (arith, l)) a b
 
 pairs_push : (xs : List TranslationWire) (y : TranslationWire) → PairsApart xs → AllOf (λ x. AreApart x y) xs → PairsApart (xs ++ y ∷ [])
@@ -129,14 +130,17 @@ one_bearer p b d h k e = let z : p.at_pasid (p.pasid b) ≡ p.at_pasid (p.pasid 
 cached_apart :
     (ms : Mappings) (x g n e : ℕ) (p : Part) (j k : ℕ) → PartInvariant ms x g n e p → j < k → is_some (p.held j) ≡ true → is_some (p.held k) ≡ true
     → AreApart (cached_wire ms p j) (cached_wire ms p k)
-cached_apart ms x g n e p j k i l s t = keys_apart (p.pasid (p.request_binding j)) (p.request_page j) (p.pasid (p.request_binding k)) (p.request_page k) (λ a b. absurd (apart a b))
+cached_apart ms x g n e p j k i l s t =
+    keys_apart (p.pasid (p.request_binding j)) (p.request_page j) (p.pasid (p.request_binding k)) (p.request_page k) (λ a b. absurd (apart a b))
   where
     bears : (r : ℕ) → is_some (p.held r) ≡ true → p.at_pasid (p.pasid (p.request_binding r)) ≡ Some (p.request_binding r)
-    bears r u = i.labels.bears_pasid (p.request_binding r) (active_unreleased (p.stage (p.request_binding r)) (i.owners.held r (the (p.held r)) (some_the (p.held r) u)))
+    bears r u = i.labels.bears_pasid (p.request_binding r)
+        (active_unreleased (p.stage (p.request_binding r)) (i.owners.held r (the (p.held r)) (some_the (p.held r) u)))
 
     apart : p.pasid (p.request_binding j) ≡ p.pasid (p.request_binding k) → p.request_page j ≡ p.request_page k → ⊥
     apart a b =
-        let same = i.requests.one_held j k (the (p.held j)) (the (p.held k)) (some_the (p.held j) s) (some_the (p.held k) t) (one_bearer p (p.request_binding j) (p.request_binding k) (bears j s) (bears k t) a) b in
+        let same = i.requests.one_held j k (the (p.held j)) (the (p.held k)) (some_the (p.held j) s) (some_the (p.held k) t)
+        (one_bearer p (p.request_binding j) (p.request_binding k) (bears j s) (bears k t) a) b in
         absurd (omega (arith, l, same))
 
 pub cache_rising :
@@ -145,5 +149,6 @@ pub cache_rising :
     → is_before a b ≡ true
 cache_rising ms x g n e p i j k a b l h m =
     rise_get (cache_wire ms p) j k a b
-    (rise_sorted (map (cached_wire ms p) (select p.requests (λ r. is_some (p.held r)))) (pairs_select p.requests (λ r. is_some (p.held r)) (cached_wire ms p) (λ c d o q s t. cached_apart ms x g n e p c d i o s t)))
+    (rise_sorted (map (cached_wire ms p) (select p.requests (λ r. is_some (p.held r))))
+    (pairs_select p.requests (λ r. is_some (p.held r)) (cached_wire ms p) (λ c d o q s t. cached_apart ms x g n e p c d i o s t)))
     l h m

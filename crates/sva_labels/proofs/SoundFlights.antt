@@ -7,11 +7,13 @@ use Rattle.sva_model.specs.Words as words
 use Rattle.sva_model.specs.State.{Part, World, Stage, Phase, About, GroupState, PageRequestState}
 use Rattle.sva_model.specs.State.Phase.{Open, Ordered, Cleared}
 use Rattle.sva_model.specs.State.PageRequestState.{Arrived}
-use Rattle.sva_model.specs.State.About.{StartOf, StopOf, ResetOrder, CompletionOf, InvalidateOf, ResponseOf, RequestOf, InvalidatedOf, PageRequestOf, MarkerOf, ResetDone}
+use Rattle.sva_model.specs.State.About.{StartOf, StopOf, ResetOrder, CompletionOf, InvalidateOf, ResponseOf, RequestOf, InvalidatedOf, PageRequestOf}
+use Rattle.sva_model.specs.State.About.{MarkerOf, ResetDone}
 use Rattle.sva_model.specs.States.{is_open, is_unreleased, is_before_invalidating, is_arrived, is_outstanding}
 use Rattle.sva_model.specs.Acts.{binding_of}
 use Rattle.sva_model.specs.Labels.{outstanding, is_waiting}
-use Rattle.sva_model.specs.Wire.{BindingWire, FlightWire, PageRequestWire, number, flight_wire, binding_wire, page_request_wire, stage_wire, host_groups_wire, wire}
+use Rattle.sva_model.specs.Wire.{BindingWire, FlightWire, PageRequestWire, number, flight_wire, binding_wire, page_request_wire, stage_wire}
+use Rattle.sva_model.specs.Wire.{host_groups_wire, wire}
 use Rattle.sva_laws.specs.Laws.{IsCarried, is_answerable}
 use Rattle.sva_laws.proofs.Bindings.{is_unmarked}
 use Rattle.sva_laws.proofs.Found.{found}
@@ -32,7 +34,8 @@ use Rattle.sva_labels.proofs.SoundRequests.{FiledOnce, arrival_short, filing_sho
 pub bearer_found :
     (w : World) (e b : ℕ) → Invariant w → is_unreleased ((w.part e).stage b) ≡ true
     → bearer (wire w) e ((w.part e).pasid b) ≡ Some (binding_wire w.config.first e (w.part e) b)
-bearer_found w e b i u = bearer_is w e ((w.part e).pasid b) i ∙ ap (option_map (binding_wire w.config.first e (w.part e))) ((i.parts e).labels.bears_pasid b u)
+bearer_found w e b i u = bearer_is w e ((w.part e).pasid b) i
+    ∙ ap (option_map (binding_wire w.config.first e (w.part e))) ((i.parts e).labels.bears_pasid b u)
 
 borne : (w : World) (e b : ℕ) → Invariant w → is_unreleased ((w.part e).stage b) ≡ true → IsBorne (wire w) e ((w.part e).pasid b)
 borne w e b i u = ap is_some (bearer_found w e b i u)
@@ -61,14 +64,19 @@ suits :
     (w : World) (e c : ℕ) → Invariant w → IsCarried w.mappings (w.part e) → outstanding (w.part e) ≤ 32 → e < w.config.endpoints → (a : About)
     → (w.part e).message c ≡ Some a
     → Suits (wire w) e ((w.part e).carried c)
-suits w e c i ca most l (StartOf b) h = subst (Suits (wire w) e) (sym (ca.start c b h)) (borne w e b i (unmarked_unreleased ((w.part e).stage b) ((i.parts e).bindings.start_stage c b h)))
-suits w e c i ca most l (StopOf b) h = subst (Suits (wire w) e) (sym (ca.stop c b h)) (borne w e b i (ap is_unreleased ((i.parts e).bindings.stop_stage c b h)))
+suits w e c i ca most l (StartOf b) h =
+    subst (Suits (wire w) e) (sym (ca.start c b h)) (borne w e b i (unmarked_unreleased ((w.part e).stage b) ((i.parts e).bindings.start_stage c b h)))
+suits w e c i ca most l (StopOf b) h =
+    subst (Suits (wire w) e) (sym (ca.stop c b h)) (borne w e b i (ap is_unreleased ((i.parts e).bindings.stop_stage c b h)))
 suits w e c i ca most l ResetOrder h = subst (Suits (wire w) e) (sym (ca.reset c h)) (shut_here w e l (ap is_open ((i.parts e).resets.down c h)))
 suits w e c i ca most l (CompletionOf r (Some m)) h = subst (Suits (wire w) e) (sym (ca.completion c r m h)) tt
 suits w e c i ca most l (CompletionOf r None) h = subst (Suits (wire w) e) (sym (ca.no_translation c r h)) tt
 suits w e c i ca most l (InvalidateOf k) h =
     let f = (found w e i).invalidate c k h in
-    subst (Suits (wire w) e) (sym (ca.invalidate c k h)) ((i.parts e).labels.itag_low ((w.part e).itag k) k f.1, borne w e (binding_of ((w.part e).order k)) i f.2.unreleased)
+    subst (Suits (wire w) e) (sym (ca.invalidate c k h)) (
+      (i.parts e).labels.itag_low ((w.part e).itag k) k f.1,
+      borne w e (binding_of ((w.part e).order k)) i f.2.unreleased,
+    )
 suits w e c i ca most l (ResponseOf g code) h =
     let out = answerable_out ((w.part e).group g) ((i.parts e).groups.response c g code h).0 in
     subst (Suits (wire w) e) (sym (ca.response c g code h)) ((i.parts e).groups.index_low ((w.part e).index g) g ((i.parts e).groups.bears_index g out))
@@ -82,8 +90,10 @@ suits w e c i ca most l (PageRequestOf r) h =
     subst (Suits (wire w) e) (sym (ca.page_request c r h))
     (λ op.
     let ph = open_here w e l op in (
-      subst (λ p. length p.page_queue < 32) (sym (part_seen w e l)) (arrival_short w.mappings w.config.endpoints w.bindings w.messages e (w.part e) c r (i.parts e) most ph h),
-      borne w e ((w.part e).asker ((w.part e).group_of r)) i (unmarked_unreleased ((w.part e).stage ((w.part e).asker ((w.part e).group_of r))) ((i.parts e).groups.flight_stage c r ph h)),
+      subst (λ p. length p.page_queue < 32) (sym (part_seen w e l))
+          (arrival_short w.mappings w.config.endpoints w.bindings w.messages e (w.part e) c r (i.parts e) most ph h),
+      borne w e ((w.part e).asker ((w.part e).group_of r)) i
+          (unmarked_unreleased ((w.part e).stage ((w.part e).asker ((w.part e).group_of r))) ((i.parts e).groups.flight_stage c r ph h)),
     ))
 suits w e c i ca most l (MarkerOf b) h =
     let st = (i.parts e).bindings.marker_stage c b h in
@@ -126,7 +136,8 @@ flight_suited w i ca most k f x =
 abbrev pub IsWaitingAt : World → (e k : ℕ) → PageRequestWire → Type 0
 IsWaitingAt w e k r = IsSeen (w.part e).arrivals (is_waiting (w.part e)) (λ j. page_request_wire (w.part e) ((w.part e).arrival j)) k r
 
-pub waiting_at : (w : World) (e k : ℕ) (r : PageRequestWire) → e < w.config.endpoints → slice_get (part_of (wire w) e).page_queue k ≡ Some r → IsWaitingAt w e k r
+pub waiting_at : (w : World) (e k : ℕ) (r : PageRequestWire) → e < w.config.endpoints → slice_get (part_of (wire w) e).page_queue k ≡ Some r
+    → IsWaitingAt w e k r
 waiting_at w e k r l h =
     seen_get (w.part e).arrivals (is_waiting (w.part e)) (λ j. page_request_wire (w.part e) ((w.part e).arrival j)) k r
     (sym (ap (λ p. slice_get p.page_queue k) (part_seen w e l)) ∙ h)
@@ -151,7 +162,8 @@ waiting_found w i e k r l h =
     (borne w e d i (before_unreleased ((w.part e).stage d) ((i.parts e).groups.arrived_stage y (arrived_is ((w.part e).page_request y) x.passes))))
 
 pub filing_placed :
-    (w : World) → Invariant w → ((e : ℕ) → OnTheWay (w.part e)) → ((e : ℕ) → Filings (w.part e)) → ((e : ℕ) → FiledOnce (w.part e)) → ((e : ℕ) → outstanding (w.part e) ≤ 32)
+    (w : World) → Invariant w → ((e : ℕ) → OnTheWay (w.part e)) → ((e : ℕ) → Filings (w.part e)) → ((e : ℕ) → FiledOnce (w.part e))
+    → ((e : ℕ) → outstanding (w.part e) ≤ 32)
     → (e k : ℕ) (r : PageRequestWire) (b : BindingWire)
     → e < w.config.endpoints
     → slice_get (part_of (wire w) e).page_queue k ≡ Some r
@@ -178,12 +190,14 @@ filing_placed w i on fi once most e k r b l h f = go (open_or_not (w.part e).pha
     one a c g = cc
 
     bears : bearer (wire w) e r.pasid ≡ Some (binding_wire w.config.first e (w.part e) d)
-    bears = ap (λ z. bearer (wire w) e z.pasid) x.seen ∙ bearer_found w e d i (before_unreleased ((w.part e).stage d) ((i.parts e).groups.arrived_stage y arrived))
+    bears = ap (λ z. bearer (wire w) e z.pasid) x.seen
+        ∙ bearer_found w e d i (before_unreleased ((w.part e).stage d) ((i.parts e).groups.arrived_stage y arrived))
 
     its : b.binding ≡ number w.config.first d
     its = ap (λ z. z.binding) (one b (binding_wire w.config.first e (w.part e) d) (sym f ∙ bears))
 
-    same : asks_of (find (is_begun b.binding r.index) (part_of (wire w) e).host_groups) ≡ asks_of (find (is_begun (number w.config.first d) ((w.part e).index ((w.part e).group_of y))) (host_groups_wire w.config.first (w.part e)))
+    same : asks_of (find (is_begun b.binding r.index) (part_of (wire w) e).host_groups)
+        ≡ asks_of (find (is_begun (number w.config.first d) ((w.part e).index ((w.part e).group_of y))) (host_groups_wire w.config.first (w.part e)))
     same = λ j. asks_of (find (is_begun (its j) (index j)) (part_seen w e l j).host_groups)
 
     go :

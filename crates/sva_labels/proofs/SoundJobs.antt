@@ -13,7 +13,8 @@ use Rattle.sva_model.specs.State.Phase.{Open}
 use Rattle.sva_model.specs.States.{is_open, is_unreleased, is_before_invalidating, is_arrived, is_open_group, is_job}
 use Rattle.sva_model.specs.Labels
 use Rattle.sva_model.specs.Replies.{response, job_binding}
-use Rattle.sva_model.specs.Wire.{BindingWire, JobWire, HostGroupWire, PageRequestWire, number, binding_wire, asks_wire, ask_wire, group_job, job_wire, part_wire, wire}
+use Rattle.sva_model.specs.Wire.{BindingWire, JobWire, HostGroupWire, PageRequestWire, number, binding_wire, asks_wire, ask_wire, group_job, job_wire}
+use Rattle.sva_model.specs.Wire.{part_wire, wire}
 use Rattle.sva_laws.proofs.Counting.{count_placed, pigeons}
 use Rattle.sva_laws.proofs.LegalUnit.{group_there}
 use Rattle.sva_laws.proofs.Orders.{is_active}

@@ -33,9 +33,30 @@ more : (limit a b c : ℕ) → a + b + c ≤ limit → a + (b + c) ≤ limit
 more limit a b c h = omega (arith, h)
 
 numbers_kept : (w : World) (a : Act) → Legal w a → IsGranted w a → Invariant w → HasNumbers w → HasNumbers (act w a)
-numbers_kept w NewSpace l g i h = record { spaces_end = one_more (2 ^ 63) w.config.first w.spaces g; bindings_end = h.bindings_end; messages_end = h.messages_end; cookies_end = h.cookies_end }
-numbers_kept w (NewBinding e) l g i h = record { spaces_end = h.spaces_end; bindings_end = one_more (2 ^ 63) w.config.first w.bindings g; messages_end = h.messages_end; cookies_end = h.cookies_end }
-numbers_kept w (Unmap s q count order) l g i h = record { spaces_end = h.spaces_end; bindings_end = h.bindings_end; messages_end = h.messages_end; cookies_end = more (2 ^ 63) w.config.first w.cookies _ g.1 }
+numbers_kept w NewSpace l g i h =
+    record {
+      spaces_end = one_more (2 ^ 63) w.config.first w.spaces g;
+      bindings_end = h.bindings_end;
+      messages_end = h.messages_end;
+      cookies_end =
+          h.cookies_end;
+    }
+numbers_kept w (NewBinding e) l g i h =
+    record {
+      spaces_end = h.spaces_end;
+      bindings_end = one_more (2 ^ 63) w.config.first w.bindings g;
+      messages_end = h.messages_end;
+      cookies_end =
+          h.cookies_end;
+    }
+numbers_kept w (Unmap s q count order) l g i h =
+    record {
+      spaces_end = h.spaces_end;
+      bindings_end = h.bindings_end;
+      messages_end = h.messages_end;
+      cookies_end =
+          more (2 ^ 63) w.config.first w.cookies _ g.1;
+    }
 numbers_kept w (At e o) l g i h =
     record {
       spaces_end = h.spaces_end;

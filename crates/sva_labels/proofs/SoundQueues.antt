@@ -57,7 +57,8 @@ has_place ms g p o l h = grind arith
 own_short : (ms : Mappings) (g n : ℕ) (p : Part) (o : Own) → LegalOwn ms g p o → queue_length p ≤ 64 → queue_length (own p n o) ≤ 64
 own_short ms g n p o l h =
     subst (λ k. count_below k (λ j. is_queued ((own p n o).order_state j)) ≤ 64) (sym (orders_after p n o))
-    (let m = count_added p.orders (added o) (λ j. is_queued ((own p n o).order_state j)) (λ j. is_queued (p.order_state j)) (λ k lt t. queued_before ms g n p o l k lt t) in
+    (let m = count_added p.orders (added o) (λ j. is_queued ((own p n o).order_state j)) (λ j. is_queued (p.order_state j))
+    (λ k lt t. queued_before ms g n p o l k lt t) in
     let r = has_place ms g p o l h in
     omega (arith, m, r))
 
@@ -70,7 +71,8 @@ submitted_short :
     (t : Bool) (p : Part) (o : Option ℕ) (q count order cookie : ℕ) → (t ≡ true → queue_length p + suc count ≤ 64) → queue_length p ≤ 64
     → queue_length (submitted_if t p o q count order cookie) ≤ 64
 submitted_short true p (Some b) q count order cookie room h =
-    let m = count_added p.orders (suc count) (λ j. is_queued ((submitted p b q count order cookie).order_state j)) (λ j. is_queued (p.order_state j)) (λ k lt t. submitted_before p b q count order cookie k lt t) in
+    let m = count_added p.orders (suc count) (λ j. is_queued ((submitted p b q count order cookie).order_state j)) (λ j. is_queued (p.order_state j))
+    (λ k lt t. submitted_before p b q count order cookie k lt t) in
     let r = room refl in
     omega (arith, m, r)
 submitted_short true p None q count order cookie room h = h

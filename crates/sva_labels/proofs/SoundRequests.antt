@@ -71,7 +71,8 @@ all_kept w (NewJob e y) l g i h = h
 all_kept w (Hold x j) l g i h = h
 all_kept w (LetGo x) l g i h = h
 all_kept w (At e o) l g i h =
-    put_keeps (λ k p. FiledOnce p) w.part e (own (w.part e) w.messages o) (own_once w.mappings w.config.endpoints w.bindings w.messages e (w.part e) o l.1.0 (i.parts e) (h e)) h
+    put_keeps (λ k p. FiledOnce p) w.part e (own (w.part e) w.messages o)
+    (own_once w.mappings w.config.endpoints w.bindings w.messages e (w.part e) o l.1.0 (i.parts e) (h e)) h
 
 pub always_once : (rule : PasidRule) (config : Config) (steps : List Step) → AllOnce (world_after rule config steps)
 always_once rule config steps = always_has AllOnce all_kept rule config steps (λ e. record { filed = grind arith; once = grind arith })
@@ -87,7 +88,8 @@ others_out p r x = is_out p x && not (x == r)
 fewer : (p : Part) (r : ℕ) → r < p.page_requests → is_out p r ≡ true → outstanding p ≤ 32 → count_below p.page_requests (others_out p r) < 32
 fewer p r l out most =
     let off : outstanding p ≡ suc (count_below p.page_requests (others_out p r)) =
-    count_off p.page_requests (is_out p) (others_out p r) r l out (itself (is_out p r) (r == r) (is_same r r refl)) (λ d ne. other (is_out p d) (d == r) (is_other d r ne)) in
+    count_off p.page_requests (is_out p) (others_out p r) r l out (itself (is_out p r) (r == r) (is_same r r refl))
+    (λ d ne. other (is_out p d) (d == r) (is_other d r ne)) in
     omega (arith, off, most)
   where
     itself : (a b : Bool) → b ≡ true → (a && not b) ≡ false
@@ -133,7 +135,8 @@ arrival_short ms x g n e p c r i most ph h =
     placed : count_below p.arrivals (is_waiting p) ≤ count_below p.page_requests (others_out p r)
     placed =
         count_placed p.arrivals p.page_requests (is_waiting p) (others_out p r) p.arrival (λ k a t. (i.queued.arrival k a).1)
-        (λ k a t. and_both (is_out p (p.arrival k)) (not (p.arrival k == r)) (i.lasts.out (p.arrival k) ph (inr (arrived_is (p.page_request (p.arrival k)) t))) (differs (p.arrival k) r (apart k t)))
+        (λ k a t. and_both (is_out p (p.arrival k)) (not (p.arrival k == r))
+        (i.lasts.out (p.arrival k) ph (inr (arrived_is (p.page_request (p.arrival k)) t))) (differs (p.arrival k) r (apart k t)))
         same
 
 -- one that is to be filed
@@ -142,7 +145,8 @@ pub filing_short :
     → p.page_request r ≡ Arrived
     → length (asks_wire p (p.group_of r)) < 32
 filing_short ms x g n e p r i fi most ph ar =
-    subst (λ k. k < 32) (sym (ap length (asks_seen p (p.group_of r)) ∙ length_seen (λ k. ask_wire p (p.filing k)) p.filings (λ k. filed_group p k == p.group_of r)))
+    subst (λ k. k < 32) (sym (ap length (asks_seen p (p.group_of r))
+    ∙ length_seen (λ k. ask_wire p (p.filing k)) p.filings (λ k. filed_group p k == p.group_of r)))
     (let few = fewer p r made out most in omega (arith, placed, few))
   where
     made : r < p.page_requests
@@ -163,5 +167,6 @@ filing_short ms x g n e p r i fi most ph ar =
     placed : count_below p.filings (λ k. filed_group p k == p.group_of r) ≤ count_below p.page_requests (others_out p r)
     placed =
         count_placed p.filings p.page_requests (λ k. filed_group p k == p.group_of r) (others_out p r) p.filing (λ k l t. filed_low k l)
-        (λ k l t. and_both (is_out p (p.filing k)) (not (p.filing k == r)) (ap (λ z. is_outstanding (p.group z)) (same_is (filed_group p k) (p.group_of r) t) ∙ out) (differs (p.filing k) r (apart k l)))
+        (λ k l t. and_both (is_out p (p.filing k)) (not (p.filing k == r))
+        (ap (λ z. is_outstanding (p.group z)) (same_is (filed_group p k) (p.group_of r) t) ∙ out) (differs (p.filing k) r (apart k l)))
         fi.once

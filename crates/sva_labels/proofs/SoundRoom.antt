@@ -51,7 +51,8 @@ pub distinct_within : (xs ys : List ℕ) → ((q : ℕ) → is_member (◌==◌)
 distinct_within [] ys h = omega arith
 distinct_within (x ∷ xs) ys h =
     go (is_member (◌==◌) xs x) refl (distinct_within xs ys (λ q m. h q (or_right (q == x) (is_member (◌==◌) xs q) m)))
-    (λ n. distinct_within xs (remove_key (λ y. x == y) ys) (λ q m. still_there x q ys (λ e. absurd (cc (sym m ∙ ap (is_member (◌==◌) xs) e ∙ n))) (h q (or_right (q == x) (is_member (◌==◌) xs q) m))))
+    (λ n. distinct_within xs (remove_key (λ y. x == y) ys)
+    (λ q m. still_there x q ys (λ e. absurd (cc (sym m ∙ ap (is_member (◌==◌) xs) e ∙ n))) (h q (or_right (q == x) (is_member (◌==◌) xs q) m))))
   where
     go :
         (b : Bool) → is_member (◌==◌) xs x ≡ b → distinct_count (◌==◌) xs ≤ length ys
@@ -144,7 +145,12 @@ found_at e n (x ∷ bindings) b h = go (x.endpoint == e && x.space == n) refl h 
         (t : Bool) → (x.endpoint == e && x.space == n) ≡ t → (if t then Some x else find (λ x. x.endpoint == e && x.space == n) bindings) ≡ Some b
         → (find (λ x. x.endpoint == e && x.space == n) bindings ≡ Some b → IsFoundAt e n bindings b)
         → IsFoundAt e n (x ∷ bindings) b
-    go true t k rest = record { place = 0; stands = k; endpoint = ap (λ o. the_endpoint o) (sym k) ∙ same_is x.endpoint e (and_left (x.endpoint == e) (x.space == n) t) }
+    go true t k rest = record {
+      place = 0;
+      stands = k;
+      endpoint =
+          ap (λ o. the_endpoint o) (sym k) ∙ same_is x.endpoint e (and_left (x.endpoint == e) (x.space == n) t);
+    }
       where
         the_endpoint : Option BindingWire → ℕ
         the_endpoint None = 0

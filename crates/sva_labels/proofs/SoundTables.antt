@@ -82,7 +82,8 @@ kept_before p r m x ne h = go (is_replaced p r x) (p.held x) (sym (ap is_some (p
 
 own_cached : (g n : ℕ) (p : Part) (o : Own) (b : Bool) → keeps o ≡ b → HasRoom p o → Bounds g p → cached_count p ≤ 64 → cached_count (own p n o) ≤ 64
 own_cached g n p (Own.Keep c r m) true k room bo h =
-    let few = one_beside p.requests r (λ x. is_some (put (λ y. none_if (is_replaced p r y) (p.held y)) r (Some m) x)) (λ x. is_some (p.held x) && not (is_replaced p r x)) (λ x ne t. kept_before p r m x ne t) in
+    let few = one_beside p.requests r (λ x. is_some (put (λ y. none_if (is_replaced p r y) (p.held y)) r (Some m) x))
+    (λ x. is_some (p.held x) && not (is_replaced p r x)) (λ x ne t. kept_before p r m x ne t) in
     let less = not_full p r room in
     omega (arith, few, less)
 own_cached g n p o true k room bo h = absurd (grind arith)
@@ -112,7 +113,8 @@ cached_kept w (NewJob e y) l g i h = h
 cached_kept w (Hold x j) l g i h = h
 cached_kept w (LetGo x) l g i h = h
 cached_kept w (At e o) l g i h =
-    put_keeps (λ k p. cached_count p ≤ 64) w.part e (own (w.part e) w.messages o) (own_cached w.bindings w.messages (w.part e) o (keeps o) refl g.room (i.parts e).bounds (h e)) h
+    put_keeps (λ k p. cached_count p ≤ 64) w.part e (own (w.part e) w.messages o)
+    (own_cached w.bindings w.messages (w.part e) o (keeps o) refl g.room (i.parts e).bounds (h e)) h
 
 pub always_cached : (rule : PasidRule) (config : Config) (steps : List Step) → AllCached (world_after rule config steps)
 unfolding count_below

@@ -49,8 +49,10 @@ always_sound config steps fits =
       messages_end = numbers.messages_end;
       cookies_end = numbers.cookies_end;
       space_low = λ k s h. let x = seen_get _ _ _ k s h in below_end w.config.first x.of w.spaces s.number x.below (ap (λ z. z.number) x.seen);
-      binding_low = λ k b h. let x = seen_get _ _ (binding_seen w) k b h in below_end w.config.first x.of w.bindings b.binding x.below (ap (λ z. z.binding) x.seen);
-      message_low = λ k f h. let x = seen_get _ _ (flight_wire w) k f h in below_end w.config.first x.of w.messages f.number x.below (ap (λ z. z.number) x.seen);
+      binding_low = λ k b h. let x =
+          seen_get _ _ (binding_seen w) k b h in below_end w.config.first x.of w.bindings b.binding x.below (ap (λ z. z.binding) x.seen);
+      message_low = λ k f h. let x =
+          seen_get _ _ (flight_wire w) k f h in below_end w.config.first x.of w.messages f.number x.below (ap (λ z. z.number) x.seen);
       spaces_rise =
           λ j k s t l h i.
           let x = seen_get _ _ _ j s h in
@@ -67,21 +69,27 @@ always_sound config steps fits =
           let y = seen_get _ _ (flight_wire w) k g i in
           in_order w.config.first x.of y.of f.number g.number (seen_rises _ _ _ j k f g l x y) (ap (λ z. z.number) x.seen) (ap (λ z. z.number) y.seen);
       few_parts = subst (λ n. n ≤ 8) (sym (endpoints_seen w)) few_endpoints;
-      few_hands = subst (λ n. n ≤ 4) (sym (tabulate_length w.config.workers _)) (subst (λ c. c.workers ≤ 4) (sym (config_kept PerSpace config steps)) fits.most_workers);
-      waits_given = λ e l. subst (λ u. u.waits_end ≤ (wire w).next_cookie) (sym (unit_seen w e (there e l))) (end_within w.config.first (w.part e).waits_end w.cookies (fronts e).given);
-      front_low = λ e l. subst (λ u. u.front ≤ u.waits_end) (sym (unit_seen w e (there e l))) (ends_rise w.config.first (w.part e).front (w.part e).waits_end (fronts e).front_low);
-      queue_fits = λ e l. subst (λ u. length u.queue ≤ 64) (sym (unit_seen w e (there e l))) (queue_short w.config.first (w.part e) (always_short PerSpace config steps e));
+      few_hands = subst (λ n. n ≤ 4) (sym (tabulate_length w.config.workers _))
+          (subst (λ c. c.workers ≤ 4) (sym (config_kept PerSpace config steps)) fits.most_workers);
+      waits_given = λ e l. subst (λ u. u.waits_end ≤ (wire w).next_cookie) (sym (unit_seen w e (there e l)))
+          (end_within w.config.first (w.part e).waits_end w.cookies (fronts e).given);
+      front_low = λ e l. subst (λ u. u.front ≤ u.waits_end) (sym (unit_seen w e (there e l)))
+          (ends_rise w.config.first (w.part e).front (w.part e).waits_end (fronts e).front_low);
+      queue_fits = λ e l. subst (λ u. length u.queue ≤ 64) (sym (unit_seen w e (there e l)))
+          (queue_short w.config.first (w.part e) (always_short PerSpace config steps e));
       pasid_low = λ k b h. pasid_low w invariant k b (kept_at w k b h);
       pasids_shared = λ j k b d h i. pasids_shared w invariant (rule_kept PerSpace config steps) j k b d (kept_at w j b h) (kept_at w k d i);
       endpoint_low = λ k b h. endpoint_low w invariant k b (kept_at w k b h);
       awaited_queued = λ e f c x l o h t. awaited_stands w fronts debts few_endpoints e f c x (there e l) o h t;
       invalidating_queued = λ k c b h st o d. invalidating_stands w invariant fronts k c b (kept_at w k b h) st o d;
       flight_endpoint = λ k f h. flight_near w invariant k f (flying_at w k f h);
-      flight_suits = λ k f h. flight_suited w invariant (always_carried PerSpace config steps) (always_outstanding PerSpace config steps) k f (flying_at w k f h);
+      flight_suits = λ k f h. flight_suited w invariant (always_carried PerSpace config steps) (always_outstanding PerSpace config steps) k f
+          (flying_at w k f h);
       waiting_borne = λ e k r l h. waiting_found w invariant e k r (there e l) h;
       filing_fits =
           λ e k r b l h f.
-          filing_placed w invariant (always_on_the_way PerSpace config steps) (always_filings PerSpace config steps) (always_once PerSpace config steps) (always_outstanding PerSpace config steps)
+          filing_placed w invariant (always_on_the_way PerSpace config steps) (always_filings PerSpace config steps)
+          (always_once PerSpace config steps) (always_outstanding PerSpace config steps)
           e k r b (there e l) h f;
       filing_anew = λ e k r b l h f. none_of_waiting w invariant e k r b (there e l) h f;
       groups_at_home = λ k e b h ne. open_at_home w invariant (always_filings PerSpace config steps) k e b (kept_at w k b h) ne;
@@ -104,7 +112,8 @@ always_sound config steps fits =
           });
       busy_size = λ e l. ap (λ u. length u.busy) (unit_seen w e (there e l)) ∙ tabulate_length 32 _;
       few_outstanding = λ e l. subst (λ n. n ≤ 32) (sym (outstanding_seen w e invariant (there e l))) (always_outstanding PerSpace config steps e);
-      cache_fits = λ e l. subst (λ d. length d.cache ≤ 64) (sym (device_seen w e (there e l))) (cache_short w.mappings (w.part e) (always_cached PerSpace config steps e));
+      cache_fits = λ e l. subst (λ d. length d.cache ≤ 64) (sym (device_seen w e (there e l)))
+          (cache_short w.mappings (w.part e) (always_cached PerSpace config steps e));
       cache_rises =
           λ e j k x y l o h m.
           cache_rising w.mappings w.config.endpoints w.bindings w.messages e (w.part e) (invariant.parts e) j k x y o

@@ -18,7 +18,8 @@ use Rattle.sva_labels.proofs.Kept.{part_moved}
 use Rattle.sva_labels.proofs.EndpointViews.{part_seen}
 use Rattle.sva_labels.proofs.SentTo.{AreSentTo}
 use Rattle.sva_labels.proofs.Flights.{part_after, delivers, flights_after}
-use Rattle.sva_labels.proofs.Columns.{bindings_same, bindings_bound, bindings_released, bindings_cut, bindings_stopped, bindings_drained, bindings_invalidated, bindings_quieted, bindings_marked}
+use Rattle.sva_labels.proofs.Columns.{bindings_same, bindings_bound, bindings_released, bindings_cut, bindings_stopped, bindings_drained}
+use Rattle.sva_labels.proofs.Columns.{bindings_invalidated, bindings_quieted, bindings_marked}
 use Rattle.sva_labels.proofs.JobActs.{FilesMade, FilesOpen, JobsPast, HandsFirst, hands_same, jobs_same, jobs_dropped, jobs_handed}
 use Rattle.sva_labels.proofs.Frame.{hands_left, spaces_left, bindings_left, jobs_left, cookies_left, messages_left, numbers_left, flights_left, parts_left}
 
@@ -65,7 +66,8 @@ jobs_moved :
 jobs_moved w e Own.Reset i h l t = jobs_dropped w e i (h.filed e)
 jobs_moved w e (Own.Hand g x) i h l t = jobs_handed w e g x t.0 i h.past (h.filed e) t.1
 jobs_moved w e o i h l t =
-    jobs_same w e o i l h.past (h.filed e) (files_open w e o t) (grind arith) ∙ sym (jobs_left (wire w) w.config.first e w.mappings (w.part e) o (grind arith))
+    jobs_same w e o i l h.past (h.filed e) (files_open w e o t) (grind arith)
+    ∙ sym (jobs_left (wire w) w.config.first e w.mappings (w.part e) o (grind arith))
 
 -- what is delivered was in flight there
 delivered_there : (ms : Mappings) (g : ℕ) (p : Part) (o : Own) (c : ℕ) → LegalOwn ms g p o → delivers o ≡ Some c → is_some (p.message c) ≡ true

@@ -13,7 +13,8 @@ use Rattle.sva_model.specs.State.Stage.{Unbound, Live, Stopping, Draining, Inval
 use Rattle.sva_model.specs.State.Order.{RangeOf, PasidOf, Wait}
 use Rattle.sva_model.specs.State.RequestState.{Out, Doomed, Over}
 use Rattle.sva_model.specs.State.GroupState.{Unfinished, Awaiting, Stale, Finished}
-use Rattle.sva_model.specs.State.About.{StartOf, StopOf, ResetOrder, CompletionOf, InvalidateOf, ResponseOf, RequestOf, InvalidatedOf, PageRequestOf, MarkerOf, ResetDone}
+use Rattle.sva_model.specs.State.About.{StartOf, StopOf, ResetOrder, CompletionOf, InvalidateOf, ResponseOf, RequestOf, InvalidatedOf, PageRequestOf}
+use Rattle.sva_model.specs.State.About.{MarkerOf, ResetDone}
 use Rattle.sva_model.specs.States.{Place, is_open, is_running, place}
 use Rattle.sva_model.specs.States.Place.{Free, Mapped, Withheld}
 use Rattle.sva_model.specs.Acts.{Act, Own, waits}
@@ -21,7 +22,10 @@ use Rattle.sva_model.specs.Acts.Act.{Unmap, LetGo, At}
 use Rattle.sva_model.specs.Labels
 use Rattle.sva_model.specs.Refusals.{Cause, refusals}
 use Rattle.sva_model.specs.Replies.{maps_to, reply_maps, replies_success, newly_mapped, free_list, is_write_asked, job_space, response_to}
-use Rattle.sva_model.specs.Outcomes.{Outcome, outcome, says, frames_at, mapped_in, unmap_answer, unmap_range_answer, code_answer, response_answer, look_answer, bearer_answer, unbind_outcome, advance_outcome, pump_outcome, head_outcome, wait_outcome, send_outcome, may_pass, serve_outcome, file_outcome, reply_outcome, fault_outcome, about_outcome, deliver_outcome, completion_outcome, keep_outcome, is_full, request_outcome, count_outcome, page_request_outcome, marker_outcome}
+use Rattle.sva_model.specs.Outcomes.{Outcome, outcome, says, frames_at, mapped_in, unmap_answer, unmap_range_answer, code_answer, response_answer}
+use Rattle.sva_model.specs.Outcomes.{look_answer, bearer_answer, unbind_outcome, advance_outcome, pump_outcome, head_outcome, wait_outcome, send_outcome}
+use Rattle.sva_model.specs.Outcomes.{may_pass, serve_outcome, file_outcome, reply_outcome, fault_outcome, about_outcome, deliver_outcome}
+use Rattle.sva_model.specs.Outcomes.{completion_outcome, keep_outcome, is_full, request_outcome, count_outcome, page_request_outcome, marker_outcome}
 use Rattle.sva_model.specs.Steps.{Decision, checked, decide}
 use Rattle.sva_labels.specs.Tallies.{binds, releases, begins, ends}
 
@@ -222,11 +226,14 @@ outcome_tallied : (w : World) (s : Step) → AreTallied (plain (outcome w s))
 outcome_tallied w step.Space = tallied _ refl refl refl refl
 outcome_tallied w (step.DropSpace n) = tallied _ refl refl refl refl
 outcome_tallied w (step.Map n q x) = tallied _ refl refl refl refl
-outcome_tallied w (step.Unmap n q count) = unmap_tallied (Labels.name w n) q count 0 (frames_at w (Labels.name w n) q count) (any_below w.config.endpoints (waits w (Labels.name w n)))
-outcome_tallied w (step.UnmapRange n q order) = range_tallied (Labels.name w n) q 1 order (mapped_in w (Labels.name w n) q order) (any_below w.config.endpoints (waits w (Labels.name w n)))
+outcome_tallied w (step.Unmap n q count) =
+    unmap_tallied (Labels.name w n) q count 0 (frames_at w (Labels.name w n) q count) (any_below w.config.endpoints (waits w (Labels.name w n)))
+outcome_tallied w (step.UnmapRange n q order) =
+    range_tallied (Labels.name w n) q 1 order (mapped_in w (Labels.name w n) q order) (any_below w.config.endpoints (waits w (Labels.name w n)))
 outcome_tallied w (step.Bind e n) = tallied _ refl refl refl refl
 outcome_tallied w (step.Unbind n) = unbind_tallied (w.home (Labels.name w n)) (Labels.name w n) ((w.part (w.home (Labels.name w n))).stage (Labels.name w n))
-outcome_tallied w (step.Advance n) = advance_tallied w (w.home (Labels.name w n)) (Labels.name w n) ((w.part (w.home (Labels.name w n))).stage (Labels.name w n))
+outcome_tallied w (step.Advance n) =
+    advance_tallied w (w.home (Labels.name w n)) (Labels.name w n) ((w.part (w.home (Labels.name w n))).stage (Labels.name w n))
 outcome_tallied w (step.Pump e) = pump_tallied (w.part e) e (Labels.is_queue_empty (w.part e))
 outcome_tallied w (step.Serve e) = serve_tallied (w.part e) e (Labels.is_page_queue_empty (w.part e))
 outcome_tallied w (step.Reset e) = tallied _ refl refl refl refl
@@ -239,7 +246,9 @@ outcome_tallied w (step.Evict e t q) = tallied _ refl refl refl refl
 outcome_tallied w (step.Fault e t q r x group l) = fault_tallied (w.part e) e t q r x l group
 outcome_tallied w (step.Finish e vector count) = tallied _ refl refl refl refl
 outcome_tallied w (step.Quit e t) = tallied _ refl refl refl refl
-outcome_tallied w (step.Deliver n) = deliver_tallied w (w.part (w.way (Labels.name w n))) (w.way (Labels.name w n)) (Labels.name w n) ((w.part (w.way (Labels.name w n))).message (Labels.name w n))
+outcome_tallied w (step.Deliver n) =
+    deliver_tallied w (w.part (w.way (Labels.name w n))) (w.way (Labels.name w n)) (Labels.name w n)
+    ((w.part (w.way (Labels.name w n))).message (Labels.name w n))
 outcome_tallied w (step.Look f) = look_tallied (place w f)
 outcome_tallied w (step.Bearer t) = bearer_tallied w t (Labels.is_borne w t)
 

@@ -103,7 +103,8 @@ at_bindings :
     (w : World) (e : ℕ) (o : Own) (z : Bool) → binds_or_releases o ≡ z → Legal w (At e o) → Invariant w
     → kept_count (act w (At e o)) + released_by (At e o) ≡ kept_count w + bound_by (At e o)
 at_bindings w e o false z l i =
-    let same = count_same w.bindings (is_kept (act w (At e o))) (is_kept w) (λ k m. kept_by w e (own (w.part e) w.messages o) k (λ s. stage_same w.mappings w.bindings w.messages (w.part e) o l.1.0 z k)) in
+    let same = count_same w.bindings (is_kept (act w (At e o))) (is_kept w)
+    (λ k m. kept_by w e (own (w.part e) w.messages o) k (λ s. stage_same w.mappings w.bindings w.messages (w.part e) o l.1.0 z k)) in
     let none = none_bound e o z in
     omega (arith, same, none)
 at_bindings w e (Own.Bind b s t) true z l i =
@@ -160,8 +161,11 @@ submitted_stage false p o q count order cookie b = refl
 
 new_kept : (w : World) (e : ℕ) → Invariant w → kept_count (act w (NewBinding e)) ≡ kept_count w
 new_kept w e i =
-    let old = count_same w.bindings (is_kept (act w (NewBinding e))) (is_kept w) (λ k l. ap (λ x. is_unreleased ((w.part x).stage k)) (put-other w.home w.bindings e k (λ s. absurd (omega (arith, l, s))))) in
-    let none : bit (is_kept (act w (NewBinding e)) w.bindings) ≡ 0 = ap bit (ap (λ x. is_unreleased ((w.part x).stage w.bindings)) (put-same w.home w.bindings e) ∙ ap is_unreleased ((i.parts e).bounds.stage w.bindings (omega arith))) ∙ bit_none in
+    let old = count_same w.bindings (is_kept (act w (NewBinding e))) (is_kept w)
+    (λ k l. ap (λ x. is_unreleased ((w.part x).stage k)) (put-other w.home w.bindings e k (λ s. absurd (omega (arith, l, s))))) in
+    let none : bit (is_kept (act w (NewBinding e)) w.bindings) ≡ 0 =
+    ap bit (ap (λ x. is_unreleased ((w.part x).stage w.bindings)) (put-same w.home w.bindings e)
+    ∙ ap is_unreleased ((i.parts e).bounds.stage w.bindings (omega arith))) ∙ bit_none in
     omega (arith, count_next w.bindings (is_kept (act w (NewBinding e))), old, none)
 
 act_bindings : (w : World) (a : Act) → Legal w a → Invariant w → kept_count (act w a) + released_by a ≡ kept_count w + bound_by a
@@ -170,7 +174,8 @@ act_bindings w (NewBinding e) l i = ap (λ n. n + 0) (new_kept w e i)
 act_bindings w (Unmap s q count order) l i =
     ap (λ n. n + 0)
     (count_same w.bindings (is_kept (act w (Unmap s q count order))) (is_kept w)
-    (λ k l. ap is_unreleased (submitted_stage (submits w s (w.home k)) (w.part (w.home k)) (bound w (w.home k) s) q count order (cookie_of w s (w.home k)) k)))
+    (λ k l. ap is_unreleased
+    (submitted_stage (submits w s (w.home k)) (w.part (w.home k)) (bound w (w.home k) s) q count order (cookie_of w s (w.home k)) k)))
 act_bindings w NewSpace l i = refl
 act_bindings w (DropSpace s) l i = refl
 act_bindings w (Map s q f x) l i = refl
@@ -206,13 +211,15 @@ own_slots ms g n e p o false z l la =
     omega (arith, same, none)
 own_slots ms g n e p (Own.Begin r m t) true z l la =
     let one =
-    count_off 16 (λ x. is_some (put p.at_slot t (Some p.uses) x)) (λ x. is_some (p.at_slot x)) t l.3 (ap is_some (put-same p.at_slot t (Some p.uses))) (ap is_some l.2)
+    count_off 16 (λ x. is_some (put p.at_slot t (Some p.uses) x)) (λ x. is_some (p.at_slot x)) t l.3
+    (ap is_some (put-same p.at_slot t (Some p.uses))) (ap is_some l.2)
     (λ d ne. ap is_some (put-other p.at_slot t (Some p.uses) d ne))
     in
     omega (arith, one)
 own_slots ms g n e p (Own.End u) true z l la =
     let one =
-    count_off 16 (λ x. is_some (p.at_slot x)) (λ x. is_some (put p.at_slot (p.use_slot u) None x)) (p.use_slot u) (la.slot_low (p.use_slot u) u l) (ap is_some l)
+    count_off 16 (λ x. is_some (p.at_slot x)) (λ x. is_some (put p.at_slot (p.use_slot u) None x)) (p.use_slot u) (la.slot_low (p.use_slot u) u l)
+    (ap is_some l)
     (ap is_some (put-same p.at_slot (p.use_slot u) None)) (λ d ne. ap is_some (sym (put-other p.at_slot (p.use_slot u) None d ne)))
     in
     omega (arith, one)
@@ -225,7 +232,8 @@ submitted_slot false p o q count order cookie x = refl
 
 act_slots : (w : World) (a : Act) → Legal w a → Invariant w → taken_count (act w a) + ended_by a ≡ taken_count w + begun_by a
 act_slots w (At e o) l i =
-    sum_changed w.config.endpoints e (λ x. taken_at (put w.part e (own (w.part e) w.messages o) x)) (λ x. taken_at (w.part x)) (ended_by (At e o)) (begun_by (At e o)) l.0
+    sum_changed w.config.endpoints e (λ x. taken_at (put w.part e (own (w.part e) w.messages o) x)) (λ x. taken_at (w.part x)) (ended_by (At e o))
+    (begun_by (At e o)) l.0
     (λ k ne. ap taken_at (put-other w.part e (own (w.part e) w.messages o) k ne))
     (ap (λ p. taken_at p + ended_by (At e o)) (put-same w.part e (own (w.part e) w.messages o))
     ∙ own_slots w.mappings w.bindings w.messages e (w.part e) o (begins_or_ends o) refl l.1.0 (i.parts e).labels)
@@ -287,7 +295,8 @@ taken_table (suc n) f at = taken_push (tabulate n (λ t. option_map f (at t))) (
   where
     go :
         (o : Option ℕ) → taken_in (tabulate n (λ t. option_map f (at t))) ≡ count_below n (λ t. is_some (at t))
-        → taken_in (option_map f o ∷ []) + taken_in (tabulate n (λ t. option_map f (at t))) ≡ (if is_some o then suc (count_below n (λ t. is_some (at t))) else count_below n (λ t. is_some (at t)))
+        → taken_in (option_map f o ∷ []) + taken_in (tabulate n (λ t. option_map f (at t)))
+        ≡ (if is_some o then suc (count_below n (λ t. is_some (at t))) else count_below n (λ t. is_some (at t)))
     go None r = omega (arith, r)
     go (Some k) r = omega (arith, r)
 
@@ -304,7 +313,8 @@ slots_table (suc n) f g h =
     slots_push (tabulate n f) (f n) ∙ omega (arith, here, rest)
 
 taken_seen : (w : World) → slots_in (wire w).parts ≡ taken_count w
-taken_seen w = slots_table w.config.endpoints (λ e. part_wire w.config.first w.mappings (w.part e)) (λ e. taken_at (w.part e)) (λ e. taken_table 16 (use_wire w.mappings (w.part e)) (w.part e).at_slot)
+taken_seen w = slots_table w.config.endpoints (λ e. part_wire w.config.first w.mappings (w.part e)) (λ e. taken_at (w.part e))
+    (λ e. taken_table 16 (use_wire w.mappings (w.part e)) (w.part e).at_slot)
 
 -- a step changes them as its answer says
 after_step :
@@ -317,7 +327,8 @@ pub step_counts : (w : World) (s : Step) → Invariant w → IsTallied (wire w) 
 step_counts w s i =
     let t = step_tallied w s in
     record {
-      bindings = after_step _ _ _ _ _ _ _ _ (acts_bindings (decide w s).acts w (step_legal w s i) i) t.released t.bound (unreleased_seen (next w s)) (unreleased_seen w);
+      bindings = after_step _ _ _ _ _ _ _ _ (acts_bindings (decide w s).acts w (step_legal w s i) i) t.released t.bound (unreleased_seen (next w s))
+          (unreleased_seen w);
       slots = after_step _ _ _ _ _ _ _ _ (acts_slots (decide w s).acts w (step_legal w s i) i) t.ended t.begun (taken_seen (next w s)) (taken_seen w);
     }
 

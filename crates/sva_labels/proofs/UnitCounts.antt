@@ -107,7 +107,8 @@ unit_count ms g first n next e p c names l la are owing = go (are c names l.0)
 
     go : IsOwedFor p c names → unit_wire first q ≡ unit_moved next (unit_wire first p) (own_move first e ms p (Own.Count c names))
     go (vector, field, carried, low, bits, owed) =
-        units_same first p q (queue_of first p) (completed vector (count_read field) (busy_of p)) (end_number first p.front) (end_number first p.waits_end) refl
+        units_same first p q (queue_of first p) (completed vector (count_read field) (busy_of p)) (end_number first p.front)
+        (end_number first p.waits_end) refl
         (states_queue first p q.order_state (λ k. queued k (names k) refl))
         (tabulate_same 32 (λ t. option_map (λ k. busy_wire (q.order_state k)) (q.at_itag t))
         (λ t. if is_set vector t then one_more (count_read field) (slice_index_or (busy_of p) t None) else slice_index_or (busy_of p) t None) (λ t m. at t m))
@@ -167,7 +168,8 @@ unit_count ms g first n next e p c names l la are owing = go (are c names l.0)
             inside true x =
                 let (left, s) = owed k x in
                 let low = owing k (count_read field) left s in
-                ap (counted_at true) s ∙ counted_named (count_read field) left low.0 low.1 ∙ sym (ap (λ z. one_more (count_read field) (Some (busy_wire z))) s)
+                ap (counted_at true) s ∙ counted_named (count_read field) left low.0 low.1
+                ∙ sym (ap (λ z. one_more (count_read field) (Some (busy_wire z))) s)
 
         both :
             (t : ℕ) → t < 32 → (o : Option ℕ) → p.at_itag t ≡ o

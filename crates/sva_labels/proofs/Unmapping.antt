@@ -9,7 +9,8 @@ use Rattle.sva_model.specs.State.Stage.{Unbound, Live, Stopping, Draining, Inval
 use Rattle.sva_model.specs.States.{is_open, is_unreleased, is_before_invalidating, is_job}
 use Rattle.sva_model.specs.Acts.{act, bound, submits, submits_at, cookie_of, owed_by, submitted, submitted_if, part_after_unmap, in_range, without_pages}
 use Rattle.sva_model.specs.Acts.Act.{Unmap}
-use Rattle.sva_model.specs.Wire.{BindingWire, PartWire, StageWire, number, cookie_number, target_wire, stage_wire, binding_wire, bindings_wire, unit_wire, part_wire, pages_wire, places_wire, group_job, wire}
+use Rattle.sva_model.specs.Wire.{BindingWire, PartWire, StageWire, number, cookie_number, target_wire, stage_wire, binding_wire, bindings_wire, unit_wire}
+use Rattle.sva_model.specs.Wire.{part_wire, pages_wire, places_wire, group_job, wire}
 use Rattle.sva_laws.proofs.Counting.{count_same}
 use Rattle.sva_laws.proofs.Bounds.{Bounds}
 use Rattle.sva_laws.proofs.Labels as labels
@@ -178,7 +179,8 @@ targets_are w s q count order i fronts =
     at :
         (e : ℕ) (b : Bool) → nat_lt e w.config.endpoints ≡ b
         → (if b then target_wire w.config.first (part_after_unmap w s q count order e) (owed_by (w.part e) count (bound w e s)) else None)
-        ≡ (if b then target_by (unit_of (wire w) e) (cookie_at (wire w) (number w.config.first s) e) (bound_at (wire w) e (number w.config.first s)) else None)
+        ≡ (if b then target_by (unit_of (wire w) e) (cookie_at (wire w) (number w.config.first s) e) (bound_at (wire w) e (number w.config.first s))
+        else None)
     at e false k = refl
     at e true k =
         let l = less e w.config.endpoints k in

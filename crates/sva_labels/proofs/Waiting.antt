@@ -6,7 +6,8 @@ use Rattle.std.proofs.lemmas.List.{take_all}
 use Rattle.std.proofs.lemmas.List.Sums.{sum_by-cons, sum_by-append, sum_by_more}
 use Rattle.sva_model.specs.Words.{tabulate}
 use Rattle.sva_model.specs.Message.{Message}
-use Rattle.sva_model.specs.Message.Message.{StartMessage, StopMessage, ResetMessage, InvalidateMessage, ResponseMessage, RequestMessage, InvalidatedMessage, PageRequestMessage, MarkerMessage, ResetDoneMessage}
+use Rattle.sva_model.specs.Message.Message.{StartMessage, StopMessage, ResetMessage, InvalidateMessage, ResponseMessage, RequestMessage}
+use Rattle.sva_model.specs.Message.Message.{InvalidatedMessage, PageRequestMessage, MarkerMessage, ResetDoneMessage}
 use Rattle.sva_model.specs.Acts.{count_field, scope_of}
 use Rattle.sva_model.specs.Wire.{Wire, PartWire, FlightWire, DeviceWire, UnitWire, PageRequestWire}
 use Rattle.sva_wire.proofs.Pages.{same_is}

@@ -14,26 +14,33 @@ use Rattle.sva_step.specs.declared.steps.Verdict.{Verdict}
 use Rattle.sva_model.specs.Words.{tabulate}
 use Rattle.sva_model.specs.Message.{Code, Message}
 use Rattle.sva_model.specs.Message.Code.{SuccessCode, InvalidCode, FailureCode}
-use Rattle.sva_model.specs.Message.Message.{StartMessage, StopMessage, ResetMessage, CompletionMessage, InvalidateMessage, ResponseMessage, RequestMessage, InvalidatedMessage, PageRequestMessage, MarkerMessage, ResetDoneMessage}
+use Rattle.sva_model.specs.Message.Message.{StartMessage, StopMessage, ResetMessage, CompletionMessage, InvalidateMessage, ResponseMessage, RequestMessage}
+use Rattle.sva_model.specs.Message.Message.{InvalidatedMessage, PageRequestMessage, MarkerMessage, ResetDoneMessage}
 use Rattle.sva_model.specs.State.{GroupState}
 use Rattle.sva_model.specs.State.GroupState.{Unfinished, Awaiting, Stale, Finished}
 use Rattle.sva_model.specs.States.{Extent}
 use Rattle.sva_model.specs.States.Extent.{Pages, AllPages}
 use Rattle.sva_model.specs.Outcomes.{unmap_answer, unmap_range_answer, response_answer, code_answer}
 use Rattle.sva_model.specs.Refusals.{Cause}
-use Rattle.sva_model.specs.Wire.{Wire, PlaceWire, BindingWire, StageWire, PartWire, DeviceWire, UnitWire, RequestWire, TranslationWire, UseWire, GroupWire, Descriptor, AskWire, PageRequestWire, JobWire, FlightWire}
+use Rattle.sva_model.specs.Wire.{Wire, PlaceWire, BindingWire, StageWire, PartWire, DeviceWire, UnitWire, RequestWire, TranslationWire, UseWire, GroupWire}
+use Rattle.sva_model.specs.Wire.{Descriptor, AskWire, PageRequestWire, JobWire, FlightWire}
 use Rattle.sva_model.specs.Wire.PlaceWire.{FreeWire, MappedWire, WithheldWire}
 use Rattle.sva_model.specs.Wire.StageWire.{LiveWire, StoppingWire, DrainingWire, InvalidatingWire, QuietWire, LostWire}
 use Rattle.sva_model.specs.Wire.UseWire.{RunningWire, DeadWire}
 use Rattle.sva_model.specs.Wire.Descriptor.{RangeDescriptor, PasidDescriptor, WaitDescriptor}
 use Rattle.sva_laws.proofs.Passed.{Passed, is_less}
-use Rattle.sva_labels.specs.Finding.{part_of, device_of, unit_of, bearer, binding_of, held_by, flight_of, lowest_label, cached, use_at, tag_at, group_at, pages_in, frames_of, free_from, idle}
+use Rattle.sva_labels.specs.Finding.{part_of, device_of, unit_of, bearer, binding_of, held_by, flight_of, lowest_label, cached, use_at, tag_at, group_at}
+use Rattle.sva_labels.specs.Finding.{pages_in, frames_of, free_from, idle}
 use Rattle.sva_labels.specs.Replying.{response_to, replies_success, newly_mapped, space_of_job}
 use Rattle.sva_labels.specs.Causes.{causes_of}
 use Rattle.sva_labels.specs.Host.{Decision, checked, decide_of, next_of, first_wire}
 use Rattle.sva_labels.specs.Moves.{Move, moved, all_moved, pasid_or_0}
 use Rattle.sva_labels.specs.Outcomes as outcomes
-use Rattle.sva_labels.specs.Outcomes.{Result, says, by_one, result_of, waits, unbind_by, advance_by, of_binding, wait_result, send_result, may_pass, pump_result, file_result, binding_or_0, serve_result, take_result, maps_to, reply_maps, reply_by, reply_result, begin_result, end_answer, fault_result, keep_result, is_full, completion_by, completion_result, response_said, request_result, count_result, page_request_result, marker_result, message_result, deliver_result, look_answer, bearer_answer, job_of}
+use Rattle.sva_labels.specs.Outcomes.{Result, says, by_one, result_of, waits, unbind_by, advance_by, of_binding, wait_result, send_result, may_pass}
+use Rattle.sva_labels.specs.Outcomes.{pump_result, file_result, binding_or_0, serve_result, take_result, maps_to, reply_maps, reply_by, reply_result}
+use Rattle.sva_labels.specs.Outcomes.{begin_result, end_answer, fault_result, keep_result, is_full, completion_by, completion_result, response_said}
+use Rattle.sva_labels.specs.Outcomes.{request_result, count_result, page_request_result, marker_result, message_result, deliver_result, look_answer}
+use Rattle.sva_labels.specs.Outcomes.{bearer_answer, job_of}
 use Rattle.sva_labels.specs.Waiting.{is_page_request, waiting, files, FiledInTurn}
 use Rattle.sva_labels.proofs.Waiting.{queue, IsInTurn, unchanged, arrives, moves_kept, arrived_kept, file_counted}
 

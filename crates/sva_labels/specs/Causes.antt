@@ -1,6 +1,7 @@
 -- The refusals of each step, in the order in which they are asked, read off what a host keeps. No name of a record stands
 -- here. They are those of the definitions, cause by cause.
-use Rattle.std.specs.Prelude.{ℕ, ◌+◌, ◌%◌, ◌^◌, Bool, true, false, ◌&&◌, ◌||◌, not, ◌==◌, nat_lt, nat_le, is_some, is_none, Option, Some, None, List, [], ◌∷◌, length}
+use Rattle.std.specs.Prelude.{ℕ, ◌+◌, ◌%◌, ◌^◌, Bool, true, false, ◌&&◌, ◌||◌, not, ◌==◌, nat_lt, nat_le, is_some, is_none, Option, Some, None, List, []}
+use Rattle.std.specs.Prelude.{◌∷◌, length}
 use Rattle.std.specs.List.{list_any}
 use Rattle.sva_step.specs.declared.refusals.Refusal.TheVariants as refusal
 use Rattle.sva_step.specs.declared.steps.Step.{Step}
@@ -15,7 +16,9 @@ use Rattle.sva_model.specs.Refusals.{Cause, page_range}
 use Rattle.sva_model.specs.Wire.{Wire, PageWire, BindingWire, StageWire, DeviceWire, UnitWire, TranslationWire, Descriptor, JobWire, FlightWire}
 use Rattle.sva_model.specs.Wire.StageWire.{StoppingWire, DrainingWire, InvalidatingWire, QuietWire, LostWire}
 use Rattle.sva_model.specs.Wire.Descriptor.{RangeDescriptor, PasidDescriptor}
-use Rattle.sva_labels.specs.Finding.{is_space, pages_in, is_mapped, lowest_free, free_from, binding_of, bound_at, is_bound, pasid_for, part_of, device_of, unit_of, is_wait_done, lowest_label, has_room, submits, has_open_group, is_live, pasid_state, cached, is_request_of, is_use_of, is_unfinished_of, outstanding, group_at, use_at, taken_at, waits_for_use, held_by, flight_of, may_deliver}
+use Rattle.sva_labels.specs.Finding.{is_space, pages_in, is_mapped, lowest_free, free_from, binding_of, bound_at, is_bound, pasid_for, part_of, device_of}
+use Rattle.sva_labels.specs.Finding.{unit_of, is_wait_done, lowest_label, has_room, submits, has_open_group, is_live, pasid_state, cached, is_request_of}
+use Rattle.sva_labels.specs.Finding.{is_use_of, is_unfinished_of, outstanding, group_at, use_at, taken_at, waits_for_use, held_by, flight_of, may_deliver}
 use Rattle.sva_labels.specs.Replying.{replies_success, responds, newly_mapped, is_write_of_read_only, space_of_job}
 
 -- Causes that several steps ask.

@@ -1,17 +1,21 @@
 -- What the numbers and labels of a step find among what a host keeps. Each look-up is of a list; a place of a table is read
 -- by its label, and past the table's end there is nothing.
-use Rattle.std.specs.Prelude.{ℕ, zero, suc, ◌+◌, Bool, true, false, ◌&&◌, not, ◌==◌, nat_lt, nat_le, if◌then◌else◌, is_some, is_none, Option, Some, None, List, [], ◌∷◌, length, slice_index_or, position}
+use Rattle.std.specs.Prelude.{ℕ, zero, suc, ◌+◌, Bool, true, false, ◌&&◌, not, ◌==◌, nat_lt, nat_le, if◌then◌else◌, is_some, is_none, Option, Some, None}
+use Rattle.std.specs.Prelude.{List, [], ◌∷◌, length, slice_index_or, position}
 use Rattle.std.specs.List.{find, list_any}
 use Rattle.sva_model.specs.Words.{tabulate}
 use Rattle.sva_model.specs.Message.{Message}
-use Rattle.sva_model.specs.Message.Message.{StartMessage, StopMessage, ResetMessage, CompletionMessage, InvalidateMessage, ResponseMessage, RequestMessage, InvalidatedMessage, PageRequestMessage, MarkerMessage, ResetDoneMessage}
+use Rattle.sva_model.specs.Message.Message.{StartMessage, StopMessage, ResetMessage, CompletionMessage, InvalidateMessage, ResponseMessage, RequestMessage}
+use Rattle.sva_model.specs.Message.Message.{InvalidatedMessage, PageRequestMessage, MarkerMessage, ResetDoneMessage}
 use Rattle.sva_model.specs.Order.{Sort, stays_behind}
-use Rattle.sva_model.specs.Order.Sort.{StartSort, StopSort, ResetSort, CompletionSort, InvalidateSort, ResponseSort, RequestSort, InvalidatedSort, PageRequestSort, MarkerSort, ResetDoneSort}
+use Rattle.sva_model.specs.Order.Sort.{StartSort, StopSort, ResetSort, CompletionSort, InvalidateSort, ResponseSort, RequestSort, InvalidatedSort}
+use Rattle.sva_model.specs.Order.Sort.{PageRequestSort, MarkerSort, ResetDoneSort}
 use Rattle.sva_model.specs.State.{PasidState}
 use Rattle.sva_model.specs.State.PasidState.{Off}
 use Rattle.sva_model.specs.States.{Extent, is_unfinished, is_within}
 use Rattle.sva_model.specs.Labels
-use Rattle.sva_model.specs.Wire.{Wire, SpaceWire, PageWire, PlaceWire, BindingWire, StageWire, PartWire, DeviceWire, UnitWire, RequestWire, TranslationWire, UseWire, TakenWire, GroupWire, BusyWire, JobWire, FlightWire}
+use Rattle.sva_model.specs.Wire.{Wire, SpaceWire, PageWire, PlaceWire, BindingWire, StageWire, PartWire, DeviceWire, UnitWire, RequestWire}
+use Rattle.sva_model.specs.Wire.{TranslationWire, UseWire, TakenWire, GroupWire, BusyWire, JobWire, FlightWire}
 use Rattle.sva_model.specs.Wire.PlaceWire.{FreeWire}
 use Rattle.sva_model.specs.Wire.StageWire.{LiveWire, StoppingWire, DrainingWire}
 use Rattle.sva_model.specs.Wire.UseWire.{RunningWire}

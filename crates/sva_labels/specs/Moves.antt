@@ -1,19 +1,23 @@
 -- What a step changes of what a host keeps: a list of moves, one for each act of the definitions, by numbers and labels
 -- alone.
-use Rattle.std.specs.Prelude.{ℕ, zero, suc, ◌+◌, ◌*◌, ◌^◌, Bool, true, false, ◌&&◌, ◌||◌, not, ◌==◌, nat_lt, if◌then◌else◌, is_none, Option, Some, None, List, [], ◌∷◌, ◌++◌, map, filter, drop, length, slice_set, slice_index_or}
+use Rattle.std.specs.Prelude.{ℕ, zero, suc, ◌+◌, ◌*◌, ◌^◌, Bool, true, false, ◌&&◌, ◌||◌, not, ◌==◌, nat_lt, if◌then◌else◌, is_none, Option, Some, None}
+use Rattle.std.specs.Prelude.{List, [], ◌∷◌, ◌++◌, map, filter, drop, length, slice_set, slice_index_or}
 use Rattle.std.specs.List.{list_all}
 use Rattle.sva_model.specs.Words.{tabulate, count_below}
 use Rattle.sva_model.specs.Range.{Range, decode}
 use Rattle.sva_model.specs.Message.{Code, Message, Scope}
 use Rattle.sva_model.specs.Message.Scope.{Coded, Everything}
-use Rattle.sva_model.specs.Message.Message.{StartMessage, StopMessage, ResetMessage, InvalidateMessage, ResponseMessage, RequestMessage, InvalidatedMessage, PageRequestMessage, MarkerMessage, ResetDoneMessage}
+use Rattle.sva_model.specs.Message.Message.{StartMessage, StopMessage, ResetMessage, InvalidateMessage, ResponseMessage, RequestMessage}
+use Rattle.sva_model.specs.Message.Message.{InvalidatedMessage, PageRequestMessage, MarkerMessage, ResetDoneMessage}
 use Rattle.sva_model.specs.State.{PasidState}
 use Rattle.sva_model.specs.State.PasidState.{Off, On, Ending}
 use Rattle.sva_model.specs.States.{Extent}
 use Rattle.sva_model.specs.States.Extent.{Pages, AllPages}
 use Rattle.sva_model.specs.Acts.{in_range, range_at, disables, scope_of, stale_if, sent_as, count_field}
 use Rattle.sva_model.specs.Labels
-use Rattle.sva_model.specs.Wire.{Wire, SpaceWire, PageWire, PlaceWire, TargetWire, BindingWire, StageWire, PartWire, DeviceWire, UnitWire, RequestWire, TranslationWire, UseWire, TakenWire, GroupWire, BusyWire, Descriptor, PageRequestWire, HostGroupWire, JobWire, insert_by, is_lower_page, is_before}
+use Rattle.sva_model.specs.Wire.{Wire, SpaceWire, PageWire, PlaceWire, TargetWire, BindingWire, StageWire, PartWire, DeviceWire, UnitWire, RequestWire}
+use Rattle.sva_model.specs.Wire.{TranslationWire, UseWire, TakenWire, GroupWire, BusyWire, Descriptor, PageRequestWire, HostGroupWire, JobWire, insert_by}
+use Rattle.sva_model.specs.Wire.{is_lower_page, is_before}
 use Rattle.sva_model.specs.Wire.PlaceWire.{FreeWire, MappedWire, WithheldWire}
 use Rattle.sva_model.specs.Wire.TargetWire.{Cookie, ResetEnd}
 use Rattle.sva_model.specs.Wire.StageWire.{LiveWire, StoppingWire, DrainingWire, InvalidatingWire, QuietWire, LostWire}
@@ -386,7 +390,11 @@ moved w (Forget e n tag) = delivered n (with_device w e (without_tag tag (device
 moved w (Take e n itag t extent) = delivered n (with_device w e (taking itag t extent (device_of w e)))
 moved w (Answered e n i code) =
     delivered n
-    (with_device w e (record (device_of w e) { groups = slice_set (device_of w e).groups i None; is_disabled = (device_of w e).is_disabled || disables code }))
+    (with_device w e (record (device_of w e) {
+      groups = slice_set (device_of w e).groups i None;
+      is_disabled =
+          (device_of w e).is_disabled || disables code;
+    }))
 moved w (Complete e n answer) = sent e answer (delivered n w)
 moved w (Count e n vector count) = delivered n (with_unit w e (record (unit_of w e) { busy = completed vector count (unit_of w e).busy }))
 moved w (Arrive e n r) = delivered n (with_part w e (record (part_of w e) { page_queue = (part_of w e).page_queue ++ r ∷ [] }))

@@ -1,15 +1,18 @@
 -- What the calls of the parts need of what a host keeps, in its own words; and the law that each world which a list of steps
 -- leads to is seen so.
-use Rattle.std.specs.Prelude.{◌≡◌, ◌↔◌, ℕ, ◌^◌, ◌<◌, ◌≤◌, Bool, true, false, ◌&&◌, ◌==◌, Option, Some, None, is_some, List, [], ◌∷◌, map, length, slice_get, slice_index_or}
+use Rattle.std.specs.Prelude.{◌≡◌, ◌↔◌, ℕ, ◌^◌, ◌<◌, ◌≤◌, Bool, true, false, ◌&&◌, ◌==◌, Option, Some, None, is_some, List, [], ◌∷◌, map, length}
+use Rattle.std.specs.Prelude.{slice_get, slice_index_or}
 use Rattle.std.specs.List.{find, list_any}
 use Rattle.sva_step.specs.declared.limits.Config.{Config}
 use Rattle.sva_step.specs.declared.steps.Step.{Step}
 use Rattle.sva_model.specs.Message.{Message}
-use Rattle.sva_model.specs.Message.Message.{StartMessage, StopMessage, ResetMessage, InvalidateMessage, ResponseMessage, RequestMessage, InvalidatedMessage, PageRequestMessage, MarkerMessage, ResetDoneMessage}
+use Rattle.sva_model.specs.Message.Message.{StartMessage, StopMessage, ResetMessage, InvalidateMessage, ResponseMessage, RequestMessage}
+use Rattle.sva_model.specs.Message.Message.{InvalidatedMessage, PageRequestMessage, MarkerMessage, ResetDoneMessage}
 use Rattle.sva_model.specs.State.PasidRule.{PerSpace}
 use Rattle.sva_model.specs.Steps.{world_after}
 use Rattle.sva_model.specs.Claims.{Fits}
-use Rattle.sva_model.specs.Wire.{Wire, SpaceWire, BindingWire, DeviceWire, TranslationWire, UnitWire, PlaceWire, TargetWire, PageRequestWire, JobWire, FlightWire, is_before, wire}
+use Rattle.sva_model.specs.Wire.{Wire, SpaceWire, BindingWire, DeviceWire, TranslationWire, UnitWire, PlaceWire, TargetWire, PageRequestWire, JobWire}
+use Rattle.sva_model.specs.Wire.{FlightWire, is_before, wire}
 use Rattle.sva_model.specs.Wire.PlaceWire.{WithheldWire}
 use Rattle.sva_model.specs.Wire.TargetWire.{Cookie}
 use Rattle.sva_model.specs.Wire.StageWire.{StoppingWire, InvalidatingWire}

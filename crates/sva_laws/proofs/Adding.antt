@@ -11,13 +11,16 @@ use Rattle.sva_model.specs.State.MappingState.{Unmade, Present, Gone}
 use Rattle.sva_model.specs.State.Stage.{Unbound, Live, Stopping, Draining, Invalidating, Quiet, Lost, Released}
 use Rattle.sva_model.specs.State.Order.{RangeOf, PasidOf, Wait}
 use Rattle.sva_model.specs.State.RequestState.{Out, Doomed, Over}
-use Rattle.sva_model.specs.State.About.{StartOf, StopOf, ResetOrder, CompletionOf, InvalidateOf, ResponseOf, RequestOf, InvalidatedOf, PageRequestOf, MarkerOf, ResetDone}
+use Rattle.sva_model.specs.State.About.{StartOf, StopOf, ResetOrder, CompletionOf, InvalidateOf, ResponseOf, RequestOf, InvalidatedOf, PageRequestOf}
+use Rattle.sva_model.specs.State.About.{MarkerOf, ResetDone}
 use Rattle.sva_model.specs.Acts.{Act, Own, act}
 use Rattle.sva_model.specs.Acts.Act.{NewSpace, DropSpace, Map, Unmap, NewBinding, NewJob, Hold, LetGo, At}
 use Rattle.sva_model.specs.Labels
 use Rattle.sva_model.specs.Refusals.{Cause, refusals}
 use Rattle.sva_model.specs.Replies.{maps_to, reply_maps, replies_success, newly_mapped, free_list, is_write_asked, job_space, response_to}
-use Rattle.sva_model.specs.Outcomes.{Outcome, outcome, unbind_outcome, advance_outcome, pump_outcome, head_outcome, wait_outcome, send_outcome, may_pass, serve_outcome, file_outcome, reply_outcome, fault_outcome, about_outcome, deliver_outcome, completion_outcome, keep_outcome, is_full, request_outcome, count_outcome, page_request_outcome, marker_outcome}
+use Rattle.sva_model.specs.Outcomes.{Outcome, outcome, unbind_outcome, advance_outcome, pump_outcome, head_outcome, wait_outcome, send_outcome, may_pass}
+use Rattle.sva_model.specs.Outcomes.{serve_outcome, file_outcome, reply_outcome, fault_outcome, about_outcome, deliver_outcome, completion_outcome}
+use Rattle.sva_model.specs.Outcomes.{keep_outcome, is_full, request_outcome, count_outcome, page_request_outcome, marker_outcome}
 use Rattle.sva_model.specs.States.{is_open}
 use Rattle.sva_model.specs.Steps.{checked, decide, after_acts}
 use Rattle.sva_laws.proofs.Words.{put-same, put-other, ℕ_cases}
@@ -74,18 +77,23 @@ adds_map w s q f x i =
     old_present : (m : ℕ) → w.mappings.state m ≡ Present → m ≢ w.mappings.made
     old_present m h e = grind (arith, i.mapped.unmade m)
 
-    back : (m : ℕ) (o : ℕ → Owed) → (m ≡ w.mappings.made) ⊎ (m ≢ w.mappings.made) → put w.mappings.state w.mappings.made Present m ≡ Gone o → w.mappings.state m ≡ Gone o
-    back m o (inl e) h = absurd (cc (sym (subst (λ z. put w.mappings.state w.mappings.made Present z ≡ Present) (sym e) (put-same w.mappings.state w.mappings.made Present)) ∙ h))
+    back : (m : ℕ) (o : ℕ → Owed) → (m ≡ w.mappings.made) ⊎ (m ≢ w.mappings.made) → put w.mappings.state w.mappings.made Present m ≡ Gone o
+        → w.mappings.state m ≡ Gone o
+    back m o (inl e) h =
+        absurd (cc (sym (subst (λ z. put w.mappings.state w.mappings.made Present z ≡ Present) (sym e)
+        (put-same w.mappings.state w.mappings.made Present)) ∙ h))
     back m o (inr ne) h = sym (put-other w.mappings.state w.mappings.made Present m ne) ∙ h
 
     made_latest : (g : ℕ) → g ≡ f → put w.mappings.latest f (Some w.mappings.made) g ≡ Some w.mappings.made
-    made_latest g e = subst (λ z. put w.mappings.latest f (Some w.mappings.made) z ≡ Some w.mappings.made) (sym e) (put-same w.mappings.latest f (Some w.mappings.made))
+    made_latest g e = subst (λ z. put w.mappings.latest f (Some w.mappings.made) z ≡ Some w.mappings.made) (sym e)
+        (put-same w.mappings.latest f (Some w.mappings.made))
 
     grows : (g k : ℕ) → (g ≡ f) ⊎ (g ≢ f) → w.mappings.latest g ≡ Some k → (z : ℕ) × (put w.mappings.latest f (Some w.mappings.made) g ≡ Some z) × (k ≤ z)
     grows g k (inl e) h = let n = i.mapped.named g k h in (w.mappings.made, made_latest g e, omega (arith, n.1))
     grows g k (inr ne) h = (k, put-other w.mappings.latest f (Some w.mappings.made) g ne ∙ h, omega arith)
 
-    new : (g : ℕ) → (g ≡ f) ⊎ (g ≢ f) → (put w.mappings.latest f (Some w.mappings.made) g ≡ w.mappings.latest g) ⊎ ((z : ℕ) × (put w.mappings.latest f (Some w.mappings.made) g ≡ Some z) × (put w.mappings.state w.mappings.made Present z ≡ Present))
+    new : (g : ℕ) → (g ≡ f) ⊎ (g ≢ f) → (put w.mappings.latest f (Some w.mappings.made) g ≡ w.mappings.latest g)
+        ⊎ ((z : ℕ) × (put w.mappings.latest f (Some w.mappings.made) g ≡ Some z) × (put w.mappings.state w.mappings.made Present z ≡ Present))
     new g (inl e) = inr (w.mappings.made, made_latest g e, put-same w.mappings.state w.mappings.made Present)
     new g (inr ne) = inl (put-other w.mappings.latest f (Some w.mappings.made) g ne)
 
@@ -119,7 +127,9 @@ adds_more u v w a b =
         go Present g = absurd (cc (sym (a.present_on m g) ∙ e))
         go (Gone o) g = absurd (cc (sym (a.gone_on m o g) ∙ e))
 
-    new : (f : ℕ) → (v.mappings.latest f ≡ u.mappings.latest f) ⊎ ((z : ℕ) × (v.mappings.latest f ≡ Some z) × (v.mappings.state z ≡ Present)) → (w.mappings.latest f ≡ v.mappings.latest f) ⊎ ((z : ℕ) × (w.mappings.latest f ≡ Some z) × (w.mappings.state z ≡ Present)) → (w.mappings.latest f ≡ u.mappings.latest f) ⊎ ((z : ℕ) × (w.mappings.latest f ≡ Some z) × (w.mappings.state z ≡ Present))
+    new : (f : ℕ) → (v.mappings.latest f ≡ u.mappings.latest f) ⊎ ((z : ℕ) × (v.mappings.latest f ≡ Some z) × (v.mappings.state z ≡ Present))
+        → (w.mappings.latest f ≡ v.mappings.latest f) ⊎ ((z : ℕ) × (w.mappings.latest f ≡ Some z) × (w.mappings.state z ≡ Present))
+        → (w.mappings.latest f ≡ u.mappings.latest f) ⊎ ((z : ℕ) × (w.mappings.latest f ≡ Some z) × (w.mappings.state z ≡ Present))
     new f (inl x) (inl y) = inl (y ∙ x)
     new f (inr x) (inl y) = inr (x.0, y ∙ x.1, b.present_on x.0 x.2)
     new f x (inr y) = inr y
@@ -188,8 +198,10 @@ pub reply_adds : (w : World) (x j : ℕ) (v : Verdict) (o : Option Code) → Are
 reply_adds w x j v None = (tt, (tt, tt))
 reply_adds w x j v (Some code) = go (replies_success w j v)
   where
-    go : (b : Bool) → AreAdding ((if b then maps_to (job_space w j) (is_write_asked w j) (newly_mapped w j) (free_list w) else []) ++ LetGo x ∷ At (w.job j).endpoint (Own.Respond (w.job j).group code) ∷ [])
-    go true = maps_add (job_space w j) (is_write_asked w j) (newly_mapped w j) (free_list w) (LetGo x ∷ At (w.job j).endpoint (Own.Respond (w.job j).group code) ∷ []) (tt, (tt, tt))
+    go : (b : Bool) → AreAdding ((if b then maps_to (job_space w j) (is_write_asked w j) (newly_mapped w j) (free_list w) else []) ++ LetGo x
+        ∷ At (w.job j).endpoint (Own.Respond (w.job j).group code) ∷ [])
+    go true = maps_add (job_space w j) (is_write_asked w j) (newly_mapped w j) (free_list w)
+        (LetGo x ∷ At (w.job j).endpoint (Own.Respond (w.job j).group code) ∷ []) (tt, (tt, tt))
     go false = (tt, (tt, tt))
 
 pub fault_adds : (p : Part) (e t q : ℕ) (r x l : Bool) (o : Option ℕ) → AreAdding (fault_outcome p e t q r x l o).acts
@@ -248,8 +260,10 @@ outcome_kind w (step.Map n q x) = adding (tt, tt)
 outcome_kind w (step.Unmap n q count) = unmapping (Labels.name w n) q count 0 refl
 outcome_kind w (step.UnmapRange n q order) = unmapping (Labels.name w n) q 1 order refl
 outcome_kind w (step.Bind e n) = adding (tt, (tt, tt))
-outcome_kind w (step.Unbind n) = adding (unbind_adds (w.home (Labels.name w n)) (Labels.name w n) ((w.part (w.home (Labels.name w n))).stage (Labels.name w n)))
-outcome_kind w (step.Advance n) = adding (advance_adds w (w.home (Labels.name w n)) (Labels.name w n) ((w.part (w.home (Labels.name w n))).stage (Labels.name w n)))
+outcome_kind w (step.Unbind n) =
+    adding (unbind_adds (w.home (Labels.name w n)) (Labels.name w n) ((w.part (w.home (Labels.name w n))).stage (Labels.name w n)))
+outcome_kind w (step.Advance n) =
+    adding (advance_adds w (w.home (Labels.name w n)) (Labels.name w n) ((w.part (w.home (Labels.name w n))).stage (Labels.name w n)))
 outcome_kind w (step.Pump e) = adding (pump_adds (w.part e) e (Labels.is_queue_empty (w.part e)))
 outcome_kind w (step.Serve e) = adding (serve_adds (w.part e) e (Labels.is_page_queue_empty (w.part e)))
 outcome_kind w (step.Reset e) = adding (tt, tt)
@@ -262,7 +276,9 @@ outcome_kind w (step.Evict e t q) = adding (tt, tt)
 outcome_kind w (step.Fault e t q r x group l) = adding (fault_adds (w.part e) e t q r x l group)
 outcome_kind w (step.Finish e vector count) = adding (tt, tt)
 outcome_kind w (step.Quit e t) = adding (tt, tt)
-outcome_kind w (step.Deliver n) = adding (deliver_adds w (w.part (w.way (Labels.name w n))) (w.way (Labels.name w n)) (Labels.name w n) ((w.part (w.way (Labels.name w n))).message (Labels.name w n)))
+outcome_kind w (step.Deliver n) =
+    adding (deliver_adds w (w.part (w.way (Labels.name w n))) (w.way (Labels.name w n)) (Labels.name w n)
+    ((w.part (w.way (Labels.name w n))).message (Labels.name w n)))
 outcome_kind w (step.Look f) = adding tt
 outcome_kind w (step.Bearer t) = adding tt
 

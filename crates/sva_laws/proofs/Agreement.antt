@@ -10,7 +10,8 @@ use Rattle.sva_model.specs.State.Stage.{Stopping, Invalidating}
 use Rattle.sva_model.specs.State.PasidState.{Off, On, Ending}
 use Rattle.sva_model.specs.State.Phase.{Open}
 use Rattle.sva_model.specs.State.OrderState.{Done}
-use Rattle.sva_model.specs.States.{is_unreleased, is_before_invalidating, is_open, is_open_group, is_outstanding, is_done, answered, place, place_at, place_by, place_of_gone}
+use Rattle.sva_model.specs.States.{is_unreleased, is_before_invalidating, is_open, is_open_group, is_outstanding, is_done, answered, place, place_at}
+use Rattle.sva_model.specs.States.{place_by, place_of_gone}
 use Rattle.sva_model.specs.States.Place.{Mapped, Withheld}
 use Rattle.sva_model.specs.Claims.{Usable, IsPresent, IsAt, IsMapped, IsBearer, HasSentMarker, IsMatched, asker_of}
 use Rattle.sva_model.specs.Claims.Usable.{cached, in_use, under_way}
@@ -31,7 +32,8 @@ use Rattle.sva_laws.proofs.Unmap.{active_unreleased}
 active_owner : (w : World) (e b q m : ℕ) → Invariant w → Usable w e b q m → is_active ((w.part e).stage b) ≡ true
 active_owner w e b q m i (cached r k h) = (i.parts e).owners.held r k h
 active_owner w e b q m i (in_use u h) = (i.parts e).owners.running u h
-active_owner w e b q m i (under_way c r k h o) = unmarked_active ((w.part e).stage ((w.part e).request_binding r)) (asker_stage (w.part e) r (i.parts e).bindings (i.parts e).requests o)
+active_owner w e b q m i (under_way c r k h o) =
+    unmarked_active ((w.part e).stage ((w.part e).request_binding r)) (asker_stage (w.part e) r (i.parts e).bindings (i.parts e).requests o)
   where
     unmarked_active : (s : Stage) → is_unmarked s ≡ true → is_active s ≡ true
     unmarked_active s k = grind arith
@@ -44,7 +46,8 @@ owner w e b q m i u = active_unreleased ((w.part e).stage b) (active_owner w e b
 silent_ranges : (p : Part) (b q age first count resets k : ℕ) → IsAhead p b q age first count resets k → answered p (Ranges first count resets) ≡ false
 silent_ranges p b q age first count resets k h =
     let waits : is_done (p.order_state (first + count)) ≡ false = not_done h in
-    let none : all_below (suc count) (λ j. is_done (p.order_state (first + j))) ≡ false = all_below-false (suc count) (λ j. is_done (p.order_state (first + j))) count (omega arith) waits in
+    let none : all_below (suc count) (λ j. is_done (p.order_state (first + j))) ≡ false =
+    all_below-false (suc count) (λ j. is_done (p.order_state (first + j))) count (omega arith) waits in
     grind (arith, nat_tests, none)
   where
     not_done : IsAhead p b q age first count resets k → is_done (p.order_state (first + count)) ≡ false
@@ -54,11 +57,13 @@ silent_pasid : (p : Part) (k w resets : ℕ) (c0 : Bool) → is_done (p.order_st
 silent_pasid p k w resets c0 h e = grind (arith, nat_tests)
 
 -- the PASID's invalidation of an owner of what is usable isn't done
-undone_held : (p : Part) (s : Bool) (k age : ℕ) → is_open p.phase ≡ s → (p.phase ≡ Open → blocks (p.order_state k) age ≡ true) → (is_open p.phase ≡ false → p.order_state k ≢ Done) → is_done (p.order_state k) ≡ false
+undone_held : (p : Part) (s : Bool) (k age : ℕ) → is_open p.phase ≡ s → (p.phase ≡ Open → blocks (p.order_state k) age ≡ true)
+    → (is_open p.phase ≡ false → p.order_state k ≢ Done) → is_done (p.order_state k) ≡ false
 undone_held p true k age e opened closed = grind (arith, nat_tests)
 undone_held p false k age e opened closed = grind (arith, nat_tests)
 
-silent : (p : Part) (b q age : ℕ) (v : Owed) → ((k w : ℕ) → p.stage b ≡ Invalidating k w → is_done (p.order_state k) ≡ false) → Pending p b q age v → answered p v ≡ false
+silent : (p : Part) (b q age : ℕ) (v : Owed) → ((k w : ℕ) → p.stage b ≡ Invalidating k w → is_done (p.order_state k) ≡ false) → Pending p b q age v
+    → answered p v ≡ false
 silent p b q age Nothing inv h = absurd h
 silent p b q age (Ranges first count resets) inv h = silent_ranges p b q age first count resets h.0 h.1
 silent p b q age (Pasid k w resets c0) inv h = silent_pasid p k w resets c0 (inv k w h.1) h.0
@@ -69,17 +74,27 @@ silent p b q age (AReset resets) inv h = reset_silent h.0
 
 -- Places.
 
-pub withheld_at : (w : World) (f m e : ℕ) (v : ℕ → Owed) → w.mappings.latest f ≡ Some m → w.mappings.state m ≡ Gone v → e < w.config.endpoints → answered (w.part e) (v e) ≡ false → place w f ≡ Withheld
+pub withheld_at : (w : World) (f m e : ℕ) (v : ℕ → Owed) → w.mappings.latest f ≡ Some m → w.mappings.state m ≡ Gone v → e < w.config.endpoints
+    → answered (w.part e) (v e) ≡ false → place w f ≡ Withheld
 withheld_at w f m e v la g l s =
     ap (place_at w) la ∙ ap (place_by w) g ∙ ap place_of_gone (all_below-false w.config.endpoints (λ x. answered (w.part x) (v x)) e l s)
 
 pub mapped_at : (w : World) (f m : ℕ) → w.mappings.latest f ≡ Some m → w.mappings.state m ≡ Present → place w f ≡ Mapped
 mapped_at w f m la g = ap (place_at w) la ∙ ap (place_by w) g
 
-safe_place : (w : World) (e b q m age : ℕ) → Invariant w → is_active ((w.part e).stage b) ≡ true → w.mappings.space m ≡ (w.part e).space b → w.mappings.page m ≡ q → ((k x : ℕ) → (w.part e).stage b ≡ Invalidating k x → is_done ((w.part e).order_state k) ≡ false) → IsSafe w.mappings e (w.part e) b m age → IsPresent w e b q m ⊎ (place w (w.mappings.frame m) ≡ Withheld)
+safe_place : (w : World) (e b q m age : ℕ) → Invariant w → is_active ((w.part e).stage b) ≡ true → w.mappings.space m ≡ (w.part e).space b
+    → w.mappings.page m ≡ q → ((k x : ℕ) → (w.part e).stage b ≡ Invalidating k x → is_done ((w.part e).order_state k) ≡ false)
+    → IsSafe w.mappings e (w.part e) b m age → IsPresent w e b q m ⊎ (place w (w.mappings.frame m) ≡ Withheld)
 safe_place w e b q m age i a sp pg inv (inl h) =
     let at = i.mapped.present_at m h in
-    inl (record { live = i.mapped.bound_live e b (active_unreleased ((w.part e).stage b) a); there = m; maps = ap (λ s. w.mappings.at s q) (sym sp) ∙ ap (w.mappings.at (w.mappings.space m)) (sym pg) ∙ at; frame = refl; write = refl })
+    inl (record {
+      live = i.mapped.bound_live e b (active_unreleased ((w.part e).stage b) a);
+      there = m;
+      maps = ap (λ s. w.mappings.at s q) (sym sp)
+          ∙ ap (w.mappings.at (w.mappings.space m)) (sym pg) ∙ at;
+      frame = refl;
+      write = refl;
+    })
 safe_place w e b q m age i a sp pg inv (inr h) = inr (go (w.mappings.state m) refl h)
   where
     go : (z : MappingState) → w.mappings.state m ≡ z → Pending (w.part e) b (w.mappings.page m) age (owed_of z e) → place w (w.mappings.frame m) ≡ Withheld
@@ -90,7 +105,8 @@ safe_place w e b q m age i a sp pg inv (inr h) = inr (go (w.mappings.state m) re
         let s = silent (w.part e) b (w.mappings.page m) age (v e) inv k in
         withheld_at w (w.mappings.frame m) m e v (latest_of (i.mapped.passed m v e g there) s) g there s
       where
-        latest_of : (w.mappings.latest (w.mappings.frame m) ≡ Some m) ⊎ (answered (w.part e) (v e) ≡ true) → answered (w.part e) (v e) ≡ false → w.mappings.latest (w.mappings.frame m) ≡ Some m
+        latest_of : (w.mappings.latest (w.mappings.frame m) ≡ Some m) ⊎ (answered (w.part e) (v e) ≡ true) → answered (w.part e) (v e) ≡ false
+            → w.mappings.latest (w.mappings.frame m) ≡ Some m
         latest_of (inl x) s = x
         latest_of (inr y) s = absurd (cc)
 
@@ -103,13 +119,16 @@ usable w e b q m i (cached r k h) =
     ((i.parts e).safe.held r k h)
 usable w e b q m i (in_use u h) =
     let ow = (i.parts e).owners in
-    safe_place w e ((w.part e).use_binding u) (w.mappings.page ((w.part e).use_mapping u)) ((w.part e).use_mapping u) u i (ow.running u h) (ow.running_space u h) refl
+    safe_place w e ((w.part e).use_binding u) (w.mappings.page ((w.part e).use_mapping u)) ((w.part e).use_mapping u) u i (ow.running u h)
+    (ow.running_space u h) refl
     (λ x y st. undone_held (w.part e) (is_open (w.part e).phase) x u refl (ow.running_open u x y h st) (ow.running_closed u x y h st))
     ((i.parts e).safe.running u h)
 usable w e b q m i (under_way c r k h o) =
     let ow = (i.parts e).owners in
     let st = asker_stage (w.part e) r (i.parts e).bindings (i.parts e).requests o in
-    safe_place w e ((w.part e).request_binding r) ((w.part e).request_page r) k (w.part e).uses i (active_owner w e ((w.part e).request_binding r) ((w.part e).request_page r) k i (under_way c r k h o)) (ow.flying_space c r k h) (ow.flying_page c r k h)
+    safe_place w e ((w.part e).request_binding r) ((w.part e).request_page r) k (w.part e).uses i
+    (active_owner w e ((w.part e).request_binding r) ((w.part e).request_page r) k i (under_way c r k h o)) (ow.flying_space c r k h)
+    (ow.flying_page c r k h)
     (λ x y inv. absurd (not_invalidating ((w.part e).stage ((w.part e).request_binding r)) x y st inv))
     ((i.parts e).safe.flying c r k h o)
   where
@@ -176,7 +195,8 @@ matched w e i =
     at_most : (s : HostGroupState) {x : ℕ} → x ≡ times_replied s → x ≤ 1
     at_most s h = grind arith
 
-pub distinct : (w : World) (e b d : ℕ) → Invariant w → is_unreleased ((w.part e).stage b) ≡ true → is_unreleased ((w.part e).stage d) ≡ true → (w.part e).pasid b ≡ (w.part e).pasid d → b ≡ d
+pub distinct : (w : World) (e b d : ℕ) → Invariant w → is_unreleased ((w.part e).stage b) ≡ true → is_unreleased ((w.part e).stage d) ≡ true
+    → (w.part e).pasid b ≡ (w.part e).pasid d → b ≡ d
 distinct w e b d i u v same = sym ((bearer (w.part e) b (i.parts e).labels u).alone d v (sym same))
 
 -- Frames.
@@ -211,7 +231,13 @@ is_mapped w f i h = go (w.mappings.latest f) refl h
             record {
               space = w.mappings.space m;
               page = w.mappings.page m;
-              is_at = record { live = (i.mapped.at_present (w.mappings.space m) (w.mappings.page m) m at).3; mapping = m; maps = at; leads = (i.mapped.named f m e).0 };
+              is_at = record {
+                live = (i.mapped.at_present (w.mappings.space m) (w.mappings.page m) m at).3;
+                mapping = m;
+                maps = at;
+                leads =
+                    (i.mapped.named f m e).0;
+              };
             }
         present (Gone v) g k = absurd (neither (all_below w.config.endpoints (λ x. answered (w.part x) (v x))) k)
           where

@@ -35,7 +35,8 @@ is_bound_by (Own.Bind b s t) = true
 is_bound_by (Own.Release b) = true
 is_bound_by _ = false
 
-stage_same : (ms : Mappings) (g n : ℕ) (p : Part) (o : Own) → LegalOwn ms g p o → is_bound_by o ≡ false → (b : ℕ) → is_unreleased ((own p n o).stage b) ≡ is_unreleased (p.stage b)
+stage_same : (ms : Mappings) (g n : ℕ) (p : Part) (o : Own) → LegalOwn ms g p o → is_bound_by o ≡ false → (b : ℕ)
+    → is_unreleased ((own p n o).stage b) ≡ is_unreleased (p.stage b)
 stage_same ms g n p o l h b = grind (arith, nat_tests)
 
 submitted_stage : (t : Bool) (p : Part) (o : Option ℕ) (q count order cookie b : ℕ) → (submitted_if t p o q count order cookie).stage b ≡ p.stage b
@@ -51,9 +52,11 @@ new_unbound : (w : World) (e : ℕ) → Invariant w → unreleased (act w (NewBi
 unfolding bit
 new_unbound w e i =
     let now : ℕ → Bool = λ b. is_unreleased ((w.part (put w.home w.bindings e b)).stage b) in
-    let new : bit (now w.bindings) ≡ 0 = ap (λ x. bit (is_unreleased x)) ((i.parts (put w.home w.bindings e w.bindings)).bounds.stage w.bindings (omega arith)) in
+    let new : bit (now w.bindings) ≡ 0 =
+    ap (λ x. bit (is_unreleased x)) ((i.parts (put w.home w.bindings e w.bindings)).bounds.stage w.bindings (omega arith)) in
     let old : count_below w.bindings now ≡ unreleased w =
-    count_same w.bindings now (λ b. is_unreleased ((w.part (w.home b)).stage b)) (λ b l. ap (λ z. is_unreleased ((w.part z).stage b)) (put-other w.home w.bindings e b (omega (arith, l))))
+    count_same w.bindings now (λ b. is_unreleased ((w.part (w.home b)).stage b))
+    (λ b l. ap (λ z. is_unreleased ((w.part z).stage b)) (put-other w.home w.bindings e b (omega (arith, l))))
     in
     omega (arith, count_next w.bindings now, new, old)
 
@@ -70,14 +73,16 @@ act_same w (Hold x j) l i h = refl
 act_same w (LetGo x) l i h = refl
 act_same w (At e o) l i h =
     count_same w.bindings (λ b. is_unreleased (((act w (At e o)).part (w.home b)).stage b)) (λ b. is_unreleased ((w.part (w.home b)).stage b))
-    (λ b k. put_keeps (λ x p. (d : ℕ) → is_unreleased (p.stage d) ≡ is_unreleased ((w.part x).stage d)) w.part e (own (w.part e) w.messages o) (λ d. stage_same w.mappings w.bindings w.messages (w.part e) o l.1.0 h d) (λ x d. refl) (w.home b) b)
+    (λ b k. put_keeps (λ x p. (d : ℕ) → is_unreleased (p.stage d) ≡ is_unreleased ((w.part x).stage d)) w.part e (own (w.part e) w.messages o)
+    (λ d. stage_same w.mappings w.bindings w.messages (w.part e) o l.1.0 h d) (λ x d. refl) (w.home b) b)
 
 quiet : (z : Step) (a : Act) → is_binding z ≡ false → is_advancing z ≡ false → may a z ≡ true → binds_or_releases a ≡ false
 quiet z (At e (Own.Bind b s t)) x y h = absurd (cc)
 quiet z (At e (Own.Release b)) x y h = absurd (cc)
 quiet z a x y h = grind arith
 
-acts_same : (z : Step) (acts : List Act) (w : World) → is_binding z ≡ false → is_advancing z ≡ false → AllMay z acts → LegalAll w acts → Invariant w → unreleased (after_acts w acts) ≡ unreleased w
+acts_same : (z : Step) (acts : List Act) (w : World) → is_binding z ≡ false → is_advancing z ≡ false → AllMay z acts → LegalAll w acts → Invariant w
+    → unreleased (after_acts w acts) ≡ unreleased w
 acts_same z [] w x y m l i = refl
 acts_same z (a ∷ acts) w x y m l i = acts_same z acts (act w a) x y m.1 l.1 (act_keeps w a l.0 i) ∙ act_same w a l.0 i (quiet z a x y m.0)
 
@@ -88,9 +93,11 @@ next_same w s i x y = acts_same s (decide w s).acts w x y (step_may w s) (step_l
 
 begins : (w : World) (e b s t : ℕ) → Invariant w → Legal w (At e (Own.Bind b s t)) → unreleased (act w (At e (Own.Bind b s t))) ≡ suc (unreleased w)
 begins w e b s t i l =
-    count_off w.bindings now was b l.1.0.0 (ap (λ z. is_unreleased (((act w (At e (Own.Bind b s t))).part z).stage b)) home ∙ ap (λ p. is_unreleased (p.stage b)) here ∙ ap is_unreleased (put-same (w.part e).stage b Live))
+    count_off w.bindings now was b l.1.0.0 (ap (λ z. is_unreleased (((act w (At e (Own.Bind b s t))).part z).stage b)) home
+    ∙ ap (λ p. is_unreleased (p.stage b)) here ∙ ap is_unreleased (put-same (w.part e).stage b Live))
     (ap (λ z. is_unreleased ((w.part z).stage b)) home ∙ ap is_unreleased l.1.0.2)
-    (λ d ne. put_keeps (λ x p. (c : ℕ) → c ≢ b → is_unreleased (p.stage c) ≡ is_unreleased ((w.part x).stage c)) w.part e (own (w.part e) w.messages (Own.Bind b s t)) (λ c k. ap is_unreleased (put-other (w.part e).stage b Live c k)) (λ x c k. refl) (w.home d) d ne)
+    (λ d ne. put_keeps (λ x p. (c : ℕ) → c ≢ b → is_unreleased (p.stage c) ≡ is_unreleased ((w.part x).stage c)) w.part e
+    (own (w.part e) w.messages (Own.Bind b s t)) (λ c k. ap is_unreleased (put-other (w.part e).stage b Live c k)) (λ x c k. refl) (w.home d) d ne)
   where
     now : ℕ → Bool
     now d = is_unreleased (((act w (At e (Own.Bind b s t))).part (w.home d)).stage d)
@@ -108,8 +115,11 @@ releases : (w : World) (e b : ℕ) → Invariant w → Legal w (At e (Own.Releas
 releases w e b i l =
     count_off w.bindings was now b made
     (ap (λ z. is_unreleased ((w.part z).stage b)) home ∙ ap is_unreleased l.1.0)
-    (ap (λ z. is_unreleased (((act w (At e (Own.Release b))).part z).stage b)) home ∙ ap (λ p. is_unreleased (p.stage b)) here ∙ ap is_unreleased (put-same (w.part e).stage b Released))
-    (λ d ne. put_keeps (λ x p. (c : ℕ) → c ≢ b → is_unreleased ((w.part x).stage c) ≡ is_unreleased (p.stage c)) w.part e (own (w.part e) w.messages (Own.Release b)) (λ c k. sym (ap is_unreleased (put-other (w.part e).stage b Released c k))) (λ x c k. refl) (w.home d) d ne)
+    (ap (λ z. is_unreleased (((act w (At e (Own.Release b))).part z).stage b)) home ∙ ap (λ p. is_unreleased (p.stage b)) here
+    ∙ ap is_unreleased (put-same (w.part e).stage b Released))
+    (λ d ne. put_keeps (λ x p. (c : ℕ) → c ≢ b → is_unreleased ((w.part x).stage c) ≡ is_unreleased (p.stage c)) w.part e
+    (own (w.part e) w.messages (Own.Release b)) (λ c k. sym (ap is_unreleased (put-other (w.part e).stage b Released c k)))
+    (λ x c k. refl) (w.home d) d ne)
   where
     now : ℕ → Bool
     now d = is_unreleased (((act w (At e (Own.Release b))).part (w.home d)).stage d)
@@ -130,11 +140,13 @@ releases w e b i l =
     here = put-same w.part e (own (w.part e) w.messages (Own.Release b))
 
 -- What is said of an answer and its acts holds of a decision, where it holds of a refusal and of what is done where none holds.
-by_checked : (P : Reply → List Act → Type 0) (cs : List Cause) (o : Outcome) → ((r : Refusal) → P (Err r) []) → P (Ok o.answer) o.acts → P (checked cs o).reply (checked cs o).acts
+by_checked : (P : Reply → List Act → Type 0) (cs : List Cause) (o : Outcome) → ((r : Refusal) → P (Err r) []) → P (Ok o.answer) o.acts
+    → P (checked cs o).reply (checked cs o).acts
 by_checked P [] o none some = some
 by_checked P (c ∷ cs) o none some = go c.0 (by_checked P cs o none some)
   where
-    go : (b : Bool) → P (checked cs o).reply (checked cs o).acts → P (if b then record { reply = Err c.1; acts = [] } else checked cs o).reply (if b then record { reply = Err c.1; acts = [] } else checked cs o).acts
+    go : (b : Bool) → P (checked cs o).reply (checked cs o).acts
+        → P (if b then record { reply = Err c.1; acts = [] } else checked cs o).reply (if b then record { reply = Err c.1; acts = [] } else checked cs o).acts
     go true k = none c.1
     go false k = k
 
@@ -148,16 +160,19 @@ bind_books w e n i =
     by_checked (Books w (step.Bind e n)) (refusals w (step.Bind e n)) (outcome w (step.Bind e n)) (λ r l. refl)
     (λ l.
     let one = act_same w (NewBinding e) l.0 i refl in
-    let two = begins (act w (NewBinding e)) e w.bindings (Labels.name w n) (the (Labels.pasid_for w e (Labels.name w n))) (act_keeps w (NewBinding e) l.0 i) l.1.0 in
+    let two = begins (act w (NewBinding e)) e w.bindings (Labels.name w n) (the (Labels.pasid_for w e (Labels.name w n)))
+    (act_keeps w (NewBinding e) l.0 i) l.1.0 in
     omega (arith, one, two))
 
-kept_books : (w : World) (n e : ℕ) (o : Own) (r : Reply) → Invariant w → is_bound_by o ≡ false → released_by (step.Advance n) r ≡ 0 → Books w (step.Advance n) r (At e o ∷ [])
+kept_books : (w : World) (n e : ℕ) (o : Own) (r : Reply) → Invariant w → is_bound_by o ≡ false → released_by (step.Advance n) r ≡ 0
+    → Books w (step.Advance n) r (At e o ∷ [])
 kept_books w n e o r i h z l = let one = act_same w (At e o) l.0 i h in omega (arith, one, z)
 
 released_books : (w : World) (n e b : ℕ) → Invariant w → Books w (step.Advance n) (Ok answer.Released) (At e (Own.Release b) ∷ [])
 released_books w n e b i l = let one = releases w e b i l.0 in omega (arith, one)
 
-stage_books : (w : World) (n e b : ℕ) (s : Stage) → Invariant w → Books w (step.Advance n) (Ok (advance_outcome w e b s).answer) (advance_outcome w e b s).acts
+stage_books : (w : World) (n e b : ℕ) (s : Stage) → Invariant w
+    → Books w (step.Advance n) (Ok (advance_outcome w e b s).answer) (advance_outcome w e b s).acts
 stage_books w n e b (Stopping marked) i = kept_books w n e (Own.Drain b w.cookies) (Ok answer.Draining) i refl refl
 stage_books w n e b (Draining wait) i = kept_books w n e (Own.Invalidate b w.cookies) (Ok answer.Invalidating) i refl refl
 stage_books w n e b (Invalidating k wait) i = kept_books w n e (Own.Quieten b) (Ok answer.Quiet) i refl refl
@@ -181,7 +196,8 @@ none_released s r h = grind arith
 pub next_books : (w : World) (s : Step) → Invariant w → unreleased (next w s) + released_by s (reply w s) ≡ unreleased w + bound_by s (reply w s)
 next_books w s i = go s (is_binding s) (is_advancing s) refl refl
   where
-    go : (z : Step) (b a : Bool) → is_binding z ≡ b → is_advancing z ≡ a → unreleased (next w z) + released_by z (reply w z) ≡ unreleased w + bound_by z (reply w z)
+    go : (z : Step) (b a : Bool) → is_binding z ≡ b → is_advancing z ≡ a → unreleased (next w z) + released_by z (reply w z)
+        ≡ unreleased w + bound_by z (reply w z)
     go (step.Bind e n) b a x y = bind_books w e n i (step_legal w (step.Bind e n) i)
     go (step.Advance n) b a x y = advance_books w n i (step_legal w (step.Advance n) i)
     go z false false x y =
@@ -218,7 +234,9 @@ act_slots : (w : World) (a : Act) (e : ℕ) → slots_used a ≡ false → slots
 act_slots w NewSpace e h = refl
 act_slots w (DropSpace s) e h = refl
 act_slots w (Map s q f x) e h = refl
-act_slots w (Unmap s q count order) e h = slots_same (w.part e) ((act w (Unmap s q count order)).part e) (λ k. submitted_slot (submits w s e) (w.part e) (bound w e s) q count order (cookie_of w s e) k)
+act_slots w (Unmap s q count order) e h =
+    slots_same (w.part e) ((act w (Unmap s q count order)).part e)
+    (λ k. submitted_slot (submits w s e) (w.part e) (bound w e s) q count order (cookie_of w s e) k)
 act_slots w (NewBinding d) e h = refl
 act_slots w (NewJob d g) e h = refl
 act_slots w (Hold x j) e h = refl
@@ -232,7 +250,8 @@ still z (At e (Own.Begin r m t)) x y h = absurd (cc)
 still z (At e (Own.End u)) x y h = absurd (cc)
 still z a x y h = grind arith
 
-acts_slots : (z : Step) (acts : List Act) (w : World) (e : ℕ) → is_beginning z ≡ false → is_ending z ≡ false → AllMay z acts → slots (after_acts w acts) e ≡ slots w e
+acts_slots : (z : Step) (acts : List Act) (w : World) (e : ℕ) → is_beginning z ≡ false → is_ending z ≡ false → AllMay z acts
+    → slots (after_acts w acts) e ≡ slots w e
 acts_slots z [] w e x y m = refl
 acts_slots z (a ∷ acts) w e x y m = acts_slots z acts (act w a) e x y m.1 ∙ act_slots w a e (still z a x y m.0)
 
@@ -243,7 +262,8 @@ begun w d r m t e l = go (ℕ_cases e d)
     p = w.part d
 
     new : count_below 16 (λ k. is_some (put p.at_slot t (Some p.uses) k)) ≡ suc (slots w d)
-    new = count_off 16 (λ k. is_some (put p.at_slot t (Some p.uses) k)) (λ k. is_some (p.at_slot k)) t l.1.0.3 (ap is_some (put-same p.at_slot t (Some p.uses))) (ap is_some l.1.0.2) (λ k ne. ap is_some (put-other p.at_slot t (Some p.uses) k ne))
+    new = count_off 16 (λ k. is_some (put p.at_slot t (Some p.uses) k)) (λ k. is_some (p.at_slot k)) t l.1.0.3
+        (ap is_some (put-same p.at_slot t (Some p.uses))) (ap is_some l.1.0.2) (λ k ne. ap is_some (put-other p.at_slot t (Some p.uses) k ne))
 
     here : (n : ℕ) → n ≡ suc (slots w d) → n ≡ slots w d + (if d == d then 1 else 0)
     here n h = grind (arith, nat_tests)
@@ -269,7 +289,8 @@ ended w d u e i l = go (ℕ_cases e d)
 
     old : slots w d ≡ suc (count_below 16 (λ k. is_some (put p.at_slot t None k)))
     old =
-        count_off 16 (λ k. is_some (p.at_slot k)) (λ k. is_some (put p.at_slot t None k)) t ((i.parts d).labels.slot_low t u l.1.0) (ap is_some l.1.0) (ap is_some (put-same p.at_slot t None))
+        count_off 16 (λ k. is_some (p.at_slot k)) (λ k. is_some (put p.at_slot t None k)) t ((i.parts d).labels.slot_low t u l.1.0)
+        (ap is_some l.1.0) (ap is_some (put-same p.at_slot t None))
         (λ k ne. sym (ap is_some (put-other p.at_slot t None k ne)))
 
     here : (n : ℕ) → slots w d ≡ suc n → n + (if d == d then 1 else 0) ≡ slots w d
@@ -283,15 +304,19 @@ ended w d u e i l = go (ℕ_cases e d)
         subst (λ x. slots (act w (At d (Own.End u))) x + (if d == x then 1 else 0) ≡ slots w x) (sym h)
         (ap (λ q. count_below 16 (λ k. is_some (q.at_slot k)) + (if d == d then 1 else 0)) (put-same w.part d (own p w.messages (Own.End u)))
         ∙ here (count_below 16 (λ k. is_some (put p.at_slot t None k))) old)
-    go (inr ne) = ap (λ q. count_below 16 (λ k. is_some (q.at_slot k)) + (if d == e then 1 else 0)) (put-other w.part d (own p w.messages (Own.End u)) e ne) ∙ there ne
+    go (inr ne) = ap (λ q. count_below 16 (λ k. is_some (q.at_slot k)) + (if d == e then 1 else 0))
+        (put-other w.part d (own p w.messages (Own.End u)) e ne) ∙ there ne
 
 abbrev Slots : World → ℕ → Step → Reply → List Act → Type 0
 Slots w e s r acts = LegalAll w acts → slots (after_acts w acts) e + ended_by e s r ≡ slots w e + begun_by e s r
 
-begin_slots : (w : World) (e d t q : ℕ) (x : Bool) → Slots w e (step.BeginUse d t q x) (decide w (step.BeginUse d t q x)).reply (decide w (step.BeginUse d t q x)).acts
+begin_slots : (w : World) (e d t q : ℕ) (x : Bool)
+    → Slots w e (step.BeginUse d t q x) (decide w (step.BeginUse d t q x)).reply (decide w (step.BeginUse d t q x)).acts
 begin_slots w e d t q x =
     by_checked (Slots w e (step.BeginUse d t q x)) (refusals w (step.BeginUse d t q x)) (outcome w (step.BeginUse d t q x)) (λ r l. refl)
-    (λ l. let one = begun w d (Labels.cached (w.part d) (Labels.bearer (w.part d) t) q) (the ((w.part d).held (Labels.cached (w.part d) (Labels.bearer (w.part d) t) q))) (Labels.lowest_label 16 (w.part d).at_slot) e l.0 in omega (arith, one))
+    (λ l. let one = begun w d (Labels.cached (w.part d) (Labels.bearer (w.part d) t) q)
+    (the ((w.part d).held (Labels.cached (w.part d) (Labels.bearer (w.part d) t) q))) (Labels.lowest_label 16 (w.part d).at_slot) e l.0 in omega
+    (arith, one))
 
 end_slots : (w : World) (e d u : ℕ) → Invariant w → Slots w e (step.EndUse d u) (decide w (step.EndUse d u)).reply (decide w (step.EndUse d u)).acts
 end_slots w e d u i =
@@ -318,7 +343,8 @@ next_slots w s e i = go s (is_beginning s) (is_ending s) refl refl
     go z true a x y = absurd (grind arith)
     go z false true x y = absurd (grind arith)
 
-pub always_books : (rule : PasidRule) (config : Config) (steps : List Step) (s : Step) → KeepsBooks (world_after rule config steps) (world_after rule config (steps ++ s ∷ [])) s
+pub always_books : (rule : PasidRule) (config : Config) (steps : List Step) (s : Step)
+    → KeepsBooks (world_after rule config steps) (world_after rule config (steps ++ s ∷ [])) s
 always_books rule config steps s =
     let w = world_after rule config steps in
     subst (λ v. KeepsBooks w v s) (sym (after_one rule config steps s))

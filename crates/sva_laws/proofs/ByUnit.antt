@@ -24,7 +24,10 @@ use Rattle.sva_laws.proofs.Withheld.{answered_if, answers_if, then_part}
 abbrev AllAnswered : (was then now : Part) (space page : ℕ) → Type 0
 AllAnswered was then now space page = (b : ℕ) → is_unreleased (was.stage b) ≡ true → was.space b ≡ space → HasAnswered was then now b page
 
-unit_answers : (rule : PasidRule) (c : Config) (before : List Step) (step : Step) (m e : ℕ) (owed : ℕ → Owed) (now : Part) → Goes (world_after rule c before) (next (world_after rule c before) step) m owed → (answered now (owed e) ≡ true) ↔ AllAnswered ((world_after rule c before).part e) ((world_after rule c (before ++ step ∷ [])).part e) now ((world_after rule c before).mappings.space m) ((world_after rule c before).mappings.page m)
+unit_answers : (rule : PasidRule) (c : Config) (before : List Step) (step : Step) (m e : ℕ) (owed : ℕ → Owed) (now : Part)
+    → Goes (world_after rule c before) (next (world_after rule c before) step) m owed
+    → (answered now (owed e) ≡ true) ↔ AllAnswered ((world_after rule c before).part e) ((world_after rule c (before ++ step ∷ [])).part e) now
+    ((world_after rule c before).mappings.space m) ((world_after rule c before).mappings.page m)
 unit_answers rule c before step m e owed now (dropped s sp none ow) = (
   (λ h b u t. absurd (none e b u (t ∙ sp))),
   (λ f. ap (λ v. answered now (v e)) ow),
@@ -43,7 +46,8 @@ unit_answers rule c before step m e owed now (unmapped s q count order nx sp r o
     owes : (o : Option ℕ) → bound w e s ≡ o → owed e ≡ owed_by (w.part e) count o
     owes o bo = ap (λ v. v e) ow ∙ ap (owed_by (w.part e) count) bo
 
-    by : answered now (owed e) ≡ true → (b : ℕ) → is_unreleased ((w.part e).stage b) ≡ true → (w.part e).space b ≡ s → HasAnswered (w.part e) then now b (w.mappings.page m)
+    by : answered now (owed e) ≡ true → (b : ℕ) → is_unreleased ((w.part e).stage b) ≡ true → (w.part e).space b ≡ s
+        → HasAnswered (w.part e) then now b (w.mappings.page m)
     by h b u t =
         let bo = bound_is w e b s (always rule c before) u t in
         answers_if (w.part e) now then b (w.mappings.page m) q count order (cookie_of w s e) r u (then_part rule c before step e s q count order b nx bo)
@@ -59,9 +63,11 @@ unit_answers rule c before step m e owed now (unmapped s q count order nx sp r o
         let u = and_left (is_unreleased ((w.part e).stage b)) ((w.part e).space b == s) x.1 in
         let t = same ((w.part e).space b) s (and_right (is_unreleased ((w.part e).stage b)) ((w.part e).space b == s) x.1) in
         ap (answered now) (owes (Some b) bo)
-        ∙ answered_if (w.part e) now then b (w.mappings.page m) q count order (cookie_of w s e) (then_part rule c before step e s q count order b nx bo) (f b u (t ∙ sym sp))
+        ∙ answered_if (w.part e) now then b (w.mappings.page m) q count order (cookie_of w s e)
+        (then_part rule c before step e s q count order b nx bo) (f b u (t ∙ sym sp))
 
-pub always_by_unit : (rule : PasidRule) (config : Config) (steps : List Step) (m : ℕ) (owed : ℕ → Owed) → (world_after rule config steps).mappings.state m ≡ Gone owed → AnswersByUnit rule config steps m owed
+pub always_by_unit : (rule : PasidRule) (config : Config) (steps : List Step) (m : ℕ) (owed : ℕ → Owed)
+    → (world_after rule config steps).mappings.state m ≡ Gone owed → AnswersByUnit rule config steps m owed
 always_by_unit rule config steps m owed g =
     let x = went rule config steps m owed g in
     record {

@@ -33,15 +33,20 @@ divided rule c steps =
       mapped = λ f. (is_mapped (world_after rule c steps) f i, place_mapped (world_after rule c steps) f i);
       withheld = λ f. (is_withheld rule c steps f, place_withheld rule c steps f);
       free = λ f. (
-        (λ h. (λ a. apart_mapped (place (world_after rule c steps) f) h (place_mapped (world_after rule c steps) f i a), λ x. apart_withheld (place (world_after rule c steps) f) h (place_withheld rule c steps f x))),
+        (λ h. (
+          λ a. apart_mapped (place (world_after rule c steps) f) h (place_mapped (world_after rule c steps) f i a),
+          λ x. apart_withheld (place (world_after rule c steps) f) h (place_withheld rule c steps f x),
+        )),
         (λ h. free_is (place (world_after rule c steps) f) (λ a. h.0 (is_mapped (world_after rule c steps) f i a)) (λ x. h.1 (is_withheld rule c steps f x))),
       );
     }
 
-usable_now : (rule : PasidRule) (c : Config) (steps : List Step) (e b q m : ℕ) → Usable (world_after rule c steps) e b q m → IsPresent (world_after rule c steps) e b q m ⊎ IsWithheld rule c steps ((world_after rule c steps).mappings.frame m)
+usable_now : (rule : PasidRule) (c : Config) (steps : List Step) (e b q m : ℕ) → Usable (world_after rule c steps) e b q m
+    → IsPresent (world_after rule c steps) e b q m ⊎ IsWithheld rule c steps ((world_after rule c steps).mappings.frame m)
 usable_now rule c steps e b q m u = go (usable (world_after rule c steps) e b q m (always rule c steps) u)
   where
-    go : IsPresent (world_after rule c steps) e b q m ⊎ (place (world_after rule c steps) ((world_after rule c steps).mappings.frame m) ≡ Withheld) → IsPresent (world_after rule c steps) e b q m ⊎ IsWithheld rule c steps ((world_after rule c steps).mappings.frame m)
+    go : IsPresent (world_after rule c steps) e b q m ⊎ (place (world_after rule c steps) ((world_after rule c steps).mappings.frame m) ≡ Withheld)
+        → IsPresent (world_after rule c steps) e b q m ⊎ IsWithheld rule c steps ((world_after rule c steps).mappings.frame m)
     go (inl x) = inl x
     go (inr y) = inr (is_withheld rule c steps ((world_after rule c steps).mappings.frame m) y)
 
@@ -53,5 +58,8 @@ always_agrees rule c steps fits =
       matched = λ e. matched (world_after rule c steps) e (always rule c steps);
       divided = divided rule c steps;
       distinct = λ e b d u v same. distinct (world_after rule c steps) e b d (always rule c steps) u v same;
-      shared = λ e b d x of u v. ((λ same. ((always rule c steps).shared (rule_kept rule c steps ∙ of)).same_space e d b x u v same), (λ same. ((always rule c steps).shared (rule_kept rule c steps ∙ of)).same_pasid e d b x u v same));
+      shared = λ e b d x of u v. (
+        (λ same. ((always rule c steps).shared (rule_kept rule c steps ∙ of)).same_space e d b x u v same),
+        (λ same. ((always rule c steps).shared (rule_kept rule c steps ∙ of)).same_pasid e d b x u v same),
+      );
     }

@@ -30,7 +30,10 @@ pub record Owed (n : ℕ) (p : Part) : Type 0 where
   pub owed : (k : ℕ) → p.phase ≡ Open → completions n p k ≡ left_of (p.order_state k)
   pub owing : (k count left : ℕ) → p.order_state k ≡ Owing count left → (0 < left) × (left ≤ count) × (count ≤ 8)
 
-owing_kept : (ms : Mappings) (g n : ℕ) (p : Part) (o : Own) → LegalOwn ms g p o → (k count left : ℕ) → (p.order_state k ≡ Owing count (suc left) → (suc left ≤ count) × (count ≤ 8)) → (p.order_state k ≡ Owing count left → (0 < left) × (left ≤ count) × (count ≤ 8)) → (own p n o).order_state k ≡ Owing count left → (0 < left) × (left ≤ count) × (count ≤ 8)
+owing_kept : (ms : Mappings) (g n : ℕ) (p : Part) (o : Own) → LegalOwn ms g p o → (k count left : ℕ)
+    → (p.order_state k ≡ Owing count (suc left) → (suc left ≤ count) × (count ≤ 8))
+    → (p.order_state k ≡ Owing count left → (0 < left) × (left ≤ count) × (count ≤ 8)) → (own p n o).order_state k ≡ Owing count left → (0 < left)
+    × (left ≤ count) × (count ≤ 8)
 owing_kept ms g n p o l k count left more old h = grind (arith, nat_tests)
 
 -- all acts but these leave the completions of an open unit
@@ -40,20 +43,25 @@ counts_completions (Own.Count c names) = true
 counts_completions (Own.Reopen c) = true
 counts_completions _ = false
 
-old_same : (ms : Mappings) (g n : ℕ) (p : Part) (o : Own) → LegalOwn ms g p o → counts_completions o ≡ false → p.phase ≡ Open → (k c : ℕ) → c < n → names_order k ((own p n o).message c) ≡ names_order k (p.message c)
+old_same : (ms : Mappings) (g n : ℕ) (p : Part) (o : Own) → LegalOwn ms g p o → counts_completions o ≡ false → p.phase ≡ Open → (k c : ℕ) → c < n
+    → names_order k ((own p n o).message c) ≡ names_order k (p.message c)
 old_same ms g n p o l e ph k c lt = grind (arith, nat_tests)
 
-new_none : (ms : Mappings) (g n : ℕ) (p : Part) (o : Own) → LegalOwn ms g p o → counts_completions o ≡ false → (k c : ℕ) → n ≤ c → p.message c ≡ None → names_order k ((own p n o).message c) ≡ false
+new_none : (ms : Mappings) (g n : ℕ) (p : Part) (o : Own) → LegalOwn ms g p o → counts_completions o ≡ false → (k c : ℕ) → n ≤ c → p.message c ≡ None
+    → names_order k ((own p n o).message c) ≡ false
 new_none ms g n p o l e k c lt un = grind (arith, nat_tests)
 
-left_same : (ms : Mappings) (g n : ℕ) (p : Part) (o : Own) → LegalOwn ms g p o → counts_completions o ≡ false → ((c k : ℕ) → p.message c ≡ Some (About.InvalidateOf k) → p.order_state k ≡ Sent) → (k : ℕ) → (p.orders ≤ k → p.order_state k ≡ Void) → (own p n o).phase ≡ Open → left_of ((own p n o).order_state k) ≡ left_of (p.order_state k)
+left_same : (ms : Mappings) (g n : ℕ) (p : Part) (o : Own) → LegalOwn ms g p o → counts_completions o ≡ false
+    → ((c k : ℕ) → p.message c ≡ Some (About.InvalidateOf k) → p.order_state k ≡ Sent) → (k : ℕ) → (p.orders ≤ k → p.order_state k ≡ Void)
+    → (own p n o).phase ≡ Open → left_of ((own p n o).order_state k) ≡ left_of (p.order_state k)
 left_same ms g n p o l e sent k bo ph = grind (arith, nat_tests)
 
 stays_open : (ms : Mappings) (g n : ℕ) (p : Part) (o : Own) → counts_completions o ≡ false → (own p n o).phase ≡ Open → p.phase ≡ Open
 stays_open ms g n p o e ph = grind arith
 
 -- Count over the messages of an act that neither sends nor takes in a completion of an open unit.
-plain_owed : (ms : Mappings) (g n : ℕ) (p : Part) (o : Own) → LegalOwn ms g p o → counts_completions o ≡ false → Resets n p → Bounds g p → Labels p → Owed n p → (k : ℕ) → (own p n o).phase ≡ Open → completions (n + sends o) (own p n o) k ≡ left_of ((own p n o).order_state k)
+plain_owed : (ms : Mappings) (g n : ℕ) (p : Part) (o : Own) → LegalOwn ms g p o → counts_completions o ≡ false → Resets n p → Bounds g p → Labels p
+    → Owed n p → (k : ℕ) → (own p n o).phase ≡ Open → completions (n + sends o) (own p n o) k ≡ left_of ((own p n o).order_state k)
 plain_owed ms g n p o l e re bo la ow k ph =
     count_more n (sends o) (λ c. names_order k ((own p n o).message c)) (λ c lt m. new_none ms g n p o l e k c lt (re.unsent c lt))
     ∙ count_same n (λ c. names_order k ((own p n o).message c)) (λ c. names_order k (p.message c)) (λ c lt. old_same ms g n p o l e was k c lt)
@@ -64,16 +72,19 @@ plain_owed ms g n p o l e re bo la ow k ph =
     was = stays_open ms g n p o e ph
 
 -- the endpoint sends `count` completions of the orders that it names
-finish_old : (n : ℕ) (p : Part) (names : ℕ → Bool) (vector count k c : ℕ) → c < n → names_order k ((own p n (Own.Finish names vector count)).message c) ≡ names_order k (p.message c)
+finish_old : (n : ℕ) (p : Part) (names : ℕ → Bool) (vector count k c : ℕ) → c < n
+    → names_order k ((own p n (Own.Finish names vector count)).message c) ≡ names_order k (p.message c)
 finish_old n p names vector count k c lt = grind (arith, nat_tests)
 
-pub finish_new : (n : ℕ) (p : Part) (names : ℕ → Bool) (vector count k c : ℕ) → n ≤ c → c < n + count → names_order k ((own p n (Own.Finish names vector count)).message c) ≡ names k
+pub finish_new : (n : ℕ) (p : Part) (names : ℕ → Bool) (vector count k c : ℕ) → n ≤ c → c < n + count
+    → names_order k ((own p n (Own.Finish names vector count)).message c) ≡ names k
 finish_new n p names vector count k c lt up = grind (arith, nat_tests)
 
 taken_left : (s : OrderState) → is_taken s ≡ true → left_of s ≡ 0
 taken_left s h = grind arith
 
-finish_owed : (ms : Mappings) (g n : ℕ) (p : Part) (names : ℕ → Bool) (vector count : ℕ) → LegalOwn ms g p (Own.Finish names vector count) → Owed n p → (k : ℕ) → p.phase ≡ Open → completions (n + count) (own p n (Own.Finish names vector count)) k ≡ left_of (owe_if (names k) count (p.order_state k))
+finish_owed : (ms : Mappings) (g n : ℕ) (p : Part) (names : ℕ → Bool) (vector count : ℕ) → LegalOwn ms g p (Own.Finish names vector count) → Owed n p
+    → (k : ℕ) → p.phase ≡ Open → completions (n + count) (own p n (Own.Finish names vector count)) k ≡ left_of (owe_if (names k) count (p.order_state k))
 finish_owed ms g n p names vector count l ow k ph = go (names k) refl
   where
     f : ℕ → Bool
@@ -92,7 +103,8 @@ finish_owed ms g n p names vector count l ow k ph = go (names k) refl
 count_taken : (n : ℕ) (p : Part) (c : ℕ) (names : ℕ → Bool) (k : ℕ) → names_order k ((own p n (Own.Count c names)).message c) ≡ false
 count_taken n p c names k = grind (arith, nat_tests)
 
-count_other : (n : ℕ) (p : Part) (c : ℕ) (names : ℕ → Bool) (k d : ℕ) → d ≢ c → names_order k ((own p n (Own.Count c names)).message d) ≡ names_order k (p.message d)
+count_other : (n : ℕ) (p : Part) (c : ℕ) (names : ℕ → Bool) (k d : ℕ) → d ≢ c → names_order k ((own p n (Own.Count c names)).message d)
+    ≡ names_order k (p.message d)
 count_other n p c names k d ne = grind (arith, nat_tests)
 
 left_counted : (s : OrderState) (x : ℕ) → suc x ≡ left_of s → x ≡ left_of (counted s)
@@ -106,7 +118,8 @@ left_counted (Owing count (suc (suc l))) x e = omega (arith, e)
 left_counted Done x e = absurd (omega (arith, e))
 left_counted Void x e = absurd (omega (arith, e))
 
-count_owed : (n : ℕ) (p : Part) (c : ℕ) (names : ℕ → Bool) → c < n → p.message c ≡ Some (InvalidatedOf names) → Owed n p → (k : ℕ) → p.phase ≡ Open → completions (n + 0) (own p n (Own.Count c names)) k ≡ left_of (counted_if (names k) (p.order_state k))
+count_owed : (n : ℕ) (p : Part) (c : ℕ) (names : ℕ → Bool) → c < n → p.message c ≡ Some (InvalidatedOf names) → Owed n p → (k : ℕ) → p.phase ≡ Open
+    → completions (n + 0) (own p n (Own.Count c names)) k ≡ left_of (counted_if (names k) (p.order_state k))
 count_owed n p c names lt me ow k ph = go (names k) refl
   where
     f : ℕ → Bool
@@ -135,24 +148,29 @@ count_owed n p c names lt me ow k ph = go (names k) refl
         same d (inr ne) = count_other n p c names k d ne
 
 -- at the end of a reset nothing is in flight, and nothing is owed
-reopen_none : (ms : Mappings) (g n : ℕ) (p : Part) (c k d : ℕ) → LegalOwn ms g p (Own.Reopen c) → p.phase ≡ Cleared c → ((a : About) → p.message d ≡ Some a → d ≤ c) → names_order k ((own p n (Own.Reopen c)).message d) ≡ false
+reopen_none : (ms : Mappings) (g n : ℕ) (p : Part) (c k d : ℕ) → LegalOwn ms g p (Own.Reopen c) → p.phase ≡ Cleared c
+    → ((a : About) → p.message d ≡ Some a → d ≤ c) → names_order k ((own p n (Own.Reopen c)).message d) ≡ false
 reopen_none ms g n p c k d l ph old = grind (arith, nat_tests)
 
 reopen_left : (n : ℕ) (p : Part) (c k : ℕ) → left_of ((own p n (Own.Reopen c)).order_state k) ≡ 0
 reopen_left n p c k = grind arith
 
-reopen_owed : (ms : Mappings) (g n : ℕ) (p : Part) (c : ℕ) → LegalOwn ms g p (Own.Reopen c) → Resets n p → (k : ℕ) → completions (n + 0) (own p n (Own.Reopen c)) k ≡ left_of ((own p n (Own.Reopen c)).order_state k)
+reopen_owed : (ms : Mappings) (g n : ℕ) (p : Part) (c : ℕ) → LegalOwn ms g p (Own.Reopen c) → Resets n p → (k : ℕ)
+    → completions (n + 0) (own p n (Own.Reopen c)) k ≡ left_of ((own p n (Own.Reopen c)).order_state k)
 reopen_owed ms g n p c l re k =
-    count_zero (n + 0) (λ d. names_order k ((own p n (Own.Reopen c)).message d)) (λ d lt. reopen_none ms g n p c k d l (re.up c l.0) (λ a h. re.older c d a (re.up c l.0) h))
+    count_zero (n + 0) (λ d. names_order k ((own p n (Own.Reopen c)).message d))
+    (λ d lt. reopen_none ms g n p c k d l (re.up c l.0) (λ a h. re.older c d a (re.up c l.0) h))
     ∙ sym (reopen_left n p c k)
 
 pub sent_below : (n c : ℕ) (p : Part) (a : About) → (n ≤ c → p.message c ≡ None) → p.message c ≡ Some a → c < n
 sent_below n c p a un h = grind (arith, nat_tests)
 
-owed_kept : (ms : Mappings) (g n : ℕ) (p : Part) (o : Own) → LegalOwn ms g p o → Resets n p → Bounds g p → Labels p → Owed n p → (b : Bool) → counts_completions o ≡ b → (k : ℕ) → (own p n o).phase ≡ Open → completions (n + sends o) (own p n o) k ≡ left_of ((own p n o).order_state k)
+owed_kept : (ms : Mappings) (g n : ℕ) (p : Part) (o : Own) → LegalOwn ms g p o → Resets n p → Bounds g p → Labels p → Owed n p → (b : Bool)
+    → counts_completions o ≡ b → (k : ℕ) → (own p n o).phase ≡ Open → completions (n + sends o) (own p n o) k ≡ left_of ((own p n o).order_state k)
 owed_kept ms g n p o l re bo la ow false e k ph = plain_owed ms g n p o l e re bo la ow k ph
 owed_kept ms g n p (Own.Finish names vector count) l re bo la ow true e k ph = finish_owed ms g n p names vector count l ow k ph
-owed_kept ms g n p (Own.Count c names) l re bo la ow true e k ph = count_owed n p c names (sent_below n c p (InvalidatedOf names) (re.unsent c) l.0) l.0 ow k l.1
+owed_kept ms g n p (Own.Count c names) l re bo la ow true e k ph =
+    count_owed n p c names (sent_below n c p (InvalidatedOf names) (re.unsent c) l.0) l.0 ow k l.1
 owed_kept ms g n p (Own.Reopen c) l re bo la ow true e k ph = reopen_owed ms g n p c l re k
 owed_kept ms g n p o l re bo la ow true e k ph = absurd (grind arith)
 
@@ -171,13 +189,16 @@ more_messages n s p re ow =
       owing = ow.owing;
     }
 
-submitted_left : (g b q count order cookie k : ℕ) (p : Part) → Bounds g p → left_of ((submitted p b q count order cookie).order_state k) ≡ left_of (p.order_state k)
+submitted_left : (g b q count order cookie k : ℕ) (p : Part) → Bounds g p → left_of ((submitted p b q count order cookie).order_state k)
+    ≡ left_of (p.order_state k)
 submitted_left g b q count order cookie k p bo = grind (arith, nat_tests, bo.order_state k)
 
-submitted_owing : (b q count order cookie k c left : ℕ) (p : Part) → (submitted p b q count order cookie).order_state k ≡ Owing c left → p.order_state k ≡ Owing c left
+submitted_owing : (b q count order cookie k c left : ℕ) (p : Part) → (submitted p b q count order cookie).order_state k ≡ Owing c left
+    → p.order_state k ≡ Owing c left
 submitted_owing b q count order cookie k c left p h = grind (arith, nat_tests)
 
-submitted_owed : (g n : ℕ) (t : Bool) (p : Part) (o : Option ℕ) (q count order cookie : ℕ) → Bounds g p → Owed n p → Owed n (submitted_if t p o q count order cookie)
+submitted_owed : (g n : ℕ) (t : Bool) (p : Part) (o : Option ℕ) (q count order cookie : ℕ) → Bounds g p → Owed n p
+    → Owed n (submitted_if t p o q count order cookie)
 submitted_owed g n true p (Some b) q count order cookie bo ow =
     record {
       owed = λ k ph. ow.owed k ph ∙ sym (submitted_left g b q count order cookie k p bo);
@@ -193,13 +214,15 @@ pub act_owed : (w : World) (a : Act) → Legal w a → Invariant w → AllOwed w
 act_owed w NewSpace l i h = h
 act_owed w (DropSpace s) l i h = h
 act_owed w (Map s q f x) l i h = h
-act_owed w (Unmap s q count order) l i h = λ e. submitted_owed w.bindings w.messages (submits w s e) (w.part e) (bound w e s) q count order (cookie_of w s e) (i.parts e).bounds (h e)
+act_owed w (Unmap s q count order) l i h =
+    λ e. submitted_owed w.bindings w.messages (submits w s e) (w.part e) (bound w e s) q count order (cookie_of w s e) (i.parts e).bounds (h e)
 act_owed w (NewBinding e) l i h = h
 act_owed w (NewJob e g) l i h = h
 act_owed w (Hold x j) l i h = h
 act_owed w (LetGo x) l i h = h
 act_owed w (At e o) l i h =
-    put_keeps (λ k p. Owed (w.messages + sends o) p) w.part e (own (w.part e) w.messages o) (every w.mappings w.config.endpoints w.bindings w.messages e (w.part e) o l.1.0 (i.parts e) (h e))
+    put_keeps (λ k p. Owed (w.messages + sends o) p) w.part e (own (w.part e) w.messages o)
+    (every w.mappings w.config.endpoints w.bindings w.messages e (w.part e) o l.1.0 (i.parts e) (h e))
     (λ d. more_messages w.messages (sends o) (w.part d) (i.parts d).resets (h d))
 
 pub acts_owed : (acts : List Act) (w : World) → LegalAll w acts → Invariant w → AllOwed w → AllOwed (after_acts w acts)

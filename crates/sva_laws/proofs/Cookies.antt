@@ -72,7 +72,9 @@ same_waits Gets given p q o s =
       once = λ k j c x y low high b d h i. absurd (omega (arith, o, low, high));
     }
 
-more_waits : (w v : World) (Gets : ℕ → Type 0) (given : ℕ → ℕ) → w.cookies ≤ v.cookies → ((e : ℕ) → PartWaits (Gets e) (given e) (w.part e) (v.part e)) → ((e : ℕ) → Gets e → (w.cookies ≤ given e) × (given e < v.cookies)) → ((e f : ℕ) → Gets e → Gets f → given e ≡ given f → e ≡ f) → GivesCookies w → GivesCookies v
+more_waits : (w v : World) (Gets : ℕ → Type 0) (given : ℕ → ℕ) → w.cookies ≤ v.cookies
+    → ((e : ℕ) → PartWaits (Gets e) (given e) (w.part e) (v.part e)) → ((e : ℕ) → Gets e → (w.cookies ≤ given e) × (given e < v.cookies))
+    → ((e f : ℕ) → Gets e → Gets f → given e ≡ given f → e ≡ f) → GivesCookies w → GivesCookies v
 more_waits w v Gets given up parts range apart co =
     record {
       low = λ e k c x l h. low e k c x l h (less_or_not k (w.part e).orders);
@@ -92,14 +94,16 @@ more_waits w v Gets given up parts range apart co =
     low e k c x l h (inl a) = let b = low_old e k c x a h in omega (arith, b, up)
     low e k c x l h (inr a) = (low_new e k c x a l h).1
 
-    both_new : (e f k j c : ℕ) (x y : Bool) → k < (v.part e).orders → j < (v.part f).orders → (v.part e).order k ≡ Wait c x → (v.part f).order j ≡ Wait c y → (w.part e).orders ≤ k → (w.part f).orders ≤ j → e ≡ f → (e ≡ f) × (k ≡ j)
+    both_new : (e f k j c : ℕ) (x y : Bool) → k < (v.part e).orders → j < (v.part f).orders → (v.part e).order k ≡ Wait c x → (v.part f).order j
+        ≡ Wait c y → (w.part e).orders ≤ k → (w.part f).orders ≤ j → e ≡ f → (e ≡ f) × (k ≡ j)
     both_new e f k j c x y l m h i a b s = (
       s,
       (parts f).once k j c x y
           (subst (λ z. (w.part z).orders ≤ k) s a) (subst (λ z. k < (v.part z).orders) s l) b m (subst (λ z. (v.part z).order k ≡ Wait c x) s h) i,
     )
 
-    once : (e f k j c : ℕ) (x y : Bool) → k < (v.part e).orders → j < (v.part f).orders → (v.part e).order k ≡ Wait c x → (v.part f).order j ≡ Wait c y → (k < (w.part e).orders) ⊎ ((w.part e).orders ≤ k) → (j < (w.part f).orders) ⊎ ((w.part f).orders ≤ j) → (e ≡ f) × (k ≡ j)
+    once : (e f k j c : ℕ) (x y : Bool) → k < (v.part e).orders → j < (v.part f).orders → (v.part e).order k ≡ Wait c x → (v.part f).order j
+        ≡ Wait c y → (k < (w.part e).orders) ⊎ ((w.part e).orders ≤ k) → (j < (w.part f).orders) ⊎ ((w.part f).orders ≤ j) → (e ≡ f) × (k ≡ j)
     once e f k j c x y l m h i (inl a) (inl b) = co.once e f k j c x y a b (sym ((parts e).old k a) ∙ h) (sym ((parts f).old j b) ∙ i)
     once e f k j c x y l m h i (inl a) (inr b) = let r = low_old e k c x a h in let z = low_new f j c y b m i in absurd (omega (arith, r, z.0))
     once e f k j c x y l m h i (inr a) (inl b) = let r = low_old f j c y b i in let z = low_new e k c x a l h in absurd (omega (arith, r, z.0))
@@ -110,7 +114,8 @@ more_waits w v Gets given up parts range apart co =
 
 -- Calm acts.
 
-calm_own : (p : Part) (n : ℕ) (o : Own) → is_calm_own o ≡ true → ((own p n o).orders ≡ p.orders) × (((k : ℕ) → (own p n o).order k ≡ p.order k) × (cookies_of o ≡ 0))
+calm_own : (p : Part) (n : ℕ) (o : Own) → is_calm_own o ≡ true → ((own p n o).orders ≡ p.orders)
+    × (((k : ℕ) → (own p n o).order k ≡ p.order k) × (cookies_of o ≡ 0))
 calm_own p n o h = (orders_same, (order_same, none))
   where
     orders_same : (own p n o).orders ≡ p.orders
@@ -155,13 +160,15 @@ calm_acts : (acts : List Act) (w : World) → are_calm acts ≡ true → Calm w 
 calm_acts [] w h = calm_same w w refl refl
 calm_acts (a ∷ acts) w h = go (is_calm a) refl h (λ k. calm_acts acts (act w a) k)
   where
-    go : (b : Bool) → is_calm a ≡ b → (if b then are_calm acts else false) ≡ true → (are_calm acts ≡ true → Calm (act w a) (after_acts (act w a) acts)) → Calm w (after_acts (act w a) acts)
+    go : (b : Bool) → is_calm a ≡ b → (if b then are_calm acts else false) ≡ true
+        → (are_calm acts ≡ true → Calm (act w a) (after_acts (act w a) acts)) → Calm w (after_acts (act w a) acts)
     go true c h rest = calm_more w (act w a) (after_acts (act w a) acts) (calm_act w a c) (rest h)
     go false c h rest = absurd (cc)
 
 calm_cookies : (w v : World) → Calm w v → GivesCookies w → GivesCookies v
 calm_cookies w v c co =
-    more_waits w v (λ e. ⊥) (λ e. 0) (let z = c.cookies in omega (arith, z)) (λ e. same_waits ⊥ 0 (w.part e) (v.part e) (c.orders e) (c.order e)) (λ e g. absurd g) (λ e f g. absurd g) co
+    more_waits w v (λ e. ⊥) (λ e. 0) (let z = c.cookies in omega (arith, z)) (λ e. same_waits ⊥ 0 (w.part e) (v.part e) (c.orders e) (c.order e))
+    (λ e g. absurd g) (λ e f g. absurd g) co
 
 -- One act of an endpoint: a drain and an invalidation give the next cookie.
 
@@ -178,10 +185,12 @@ has_cookie w s e _ a by = tt
 pub own_old : (p : Part) (n : ℕ) (o : Own) (k : ℕ) → k < p.orders → (own p n o).order k ≡ p.order k
 own_old p n o k l = grind (arith, nat_tests)
 
-own_new : (cookies : ℕ) (p : Part) (n : ℕ) (o : Own) → HasCookie cookies o → (k c : ℕ) (x : Bool) → p.orders ≤ k → k < (own p n o).orders → (own p n o).order k ≡ Wait c x → (cookies_of o ≡ 1) × (c ≡ cookies)
+own_new : (cookies : ℕ) (p : Part) (n : ℕ) (o : Own) → HasCookie cookies o → (k c : ℕ) (x : Bool) → p.orders ≤ k → k < (own p n o).orders
+    → (own p n o).order k ≡ Wait c x → (cookies_of o ≡ 1) × (c ≡ cookies)
 own_new cookies p n o h k c x low high i = grind (arith, nat_tests)
 
-own_once : (p : Part) (n : ℕ) (o : Own) (k j c : ℕ) (x y : Bool) → p.orders ≤ k → k < (own p n o).orders → p.orders ≤ j → j < (own p n o).orders → (own p n o).order k ≡ Wait c x → (own p n o).order j ≡ Wait c y → k ≡ j
+own_once : (p : Part) (n : ℕ) (o : Own) (k j c : ℕ) (x y : Bool) → p.orders ≤ k → k < (own p n o).orders → p.orders ≤ j → j < (own p n o).orders
+    → (own p n o).order k ≡ Wait c x → (own p n o).order j ≡ Wait c y → k ≡ j
 own_once p n o k j c x y low high b d h i = grind (arith, nat_tests)
 
 own_cookies : (w : World) (d : ℕ) (o : Own) → HasCookie w.cookies o → GivesCookies w → GivesCookies (act w (At d o))
@@ -212,7 +221,8 @@ submitted_waits true p (Some b) q count order cookie = record { old = old; new =
     last : (k c : ℕ) (x : Bool) → p.orders ≤ k → k < p.orders + suc count → (submitted p b q count order cookie).order k ≡ Wait c x → k ≡ p.orders + count
     last k c x low high h = grind (arith, nat_tests)
 
-    once : (k j c : ℕ) (x y : Bool) → p.orders ≤ k → k < p.orders + suc count → p.orders ≤ j → j < p.orders + suc count → (submitted p b q count order cookie).order k ≡ Wait c x → (submitted p b q count order cookie).order j ≡ Wait c y → k ≡ j
+    once : (k j c : ℕ) (x y : Bool) → p.orders ≤ k → k < p.orders + suc count → p.orders ≤ j → j < p.orders + suc count
+        → (submitted p b q count order cookie).order k ≡ Wait c x → (submitted p b q count order cookie).order j ≡ Wait c y → k ≡ j
     once k j c x y low high b d h i = last k c x low high h ∙ sym (last j c y b d i)
 submitted_waits true p None q count order cookie = same_waits (true ≡ true) cookie p p refl (λ k. refl)
 submitted_waits false p o q count order cookie = same_waits (false ≡ true) cookie p p refl (λ k. refl)
@@ -252,4 +262,9 @@ run_cookies [] w i co = co
 run_cookies (s ∷ ss) w i co = run_cookies ss (next w s) (next_keeps w s i) (next_cookies w s i co)
 
 pub always_cookies : (rule : PasidRule) (c : Config) (ss : List Step) → GivesCookies (world_after rule c ss)
-always_cookies rule c ss = run_cookies ss (opened rule c) (opened_invariant rule c) (record { low = λ e k x d l h. absurd (omega (arith, l)); once = λ e f k j x d y l m h i. absurd (omega (arith, l)) })
+always_cookies rule c ss =
+    run_cookies ss (opened rule c) (opened_invariant rule c) (record {
+      low = λ e k x d l h. absurd (omega (arith, l));
+      once =
+          λ e f k j x d y l m h i. absurd (omega (arith, l));
+    })

@@ -68,7 +68,8 @@ count_more n (suc s) f h =
 
 pub count_all : (n s : ℕ) (f : ℕ → Bool) → ((c : ℕ) → n ≤ c → c < n + s → f c ≡ true) → count_below (n + s) f ≡ s + count_below n f
 unfolding bit
-count_all n zero f h = let same : n + 0 ≡ n = omega arith in let e : count_below (n + 0) f ≡ count_below n f = ap (λ z. count_below z f) same in omega (arith, e)
+count_all n zero f h = let same : n + 0 ≡ n = omega arith in let e : count_below (n + 0) f ≡ count_below n f =
+    ap (λ z. count_below z f) same in omega (arith, e)
 count_all n (suc s) f h =
     let a : bit (f (n + s)) ≡ 1 = ap bit (h (n + s) (omega arith) (omega arith)) in
     let b : count_below (n + s) f ≡ s + count_below n f = count_all n s f (λ c l m. h c l (omega arith)) in
@@ -93,7 +94,8 @@ count_off (suc n) f g c l a b h = go (λ m. count_off n f g c m a b h) (ℕ_case
         omega (arith, count_next n f, count_next n g)
 
 -- as many as k different ones pass
-pub pigeons : (k n : ℕ) (p : ℕ → Bool) (f : ℕ → ℕ) → ((i : ℕ) → i < k → f i < n) → ((i : ℕ) → i < k → p (f i) ≡ true) → ((i j : ℕ) → i < k → j < k → f i ≡ f j → i ≡ j) → k ≤ count_below n p
+pub pigeons : (k n : ℕ) (p : ℕ → Bool) (f : ℕ → ℕ) → ((i : ℕ) → i < k → f i < n) → ((i : ℕ) → i < k → p (f i) ≡ true)
+    → ((i j : ℕ) → i < k → j < k → f i ≡ f j → i ≡ j) → k ≤ count_below n p
 pigeons zero n p f b h d = omega arith
 pigeons (suc k) n p f b h d =
     let l : k < suc k = omega arith in
@@ -117,18 +119,21 @@ unfolding select count_below bit
 length_select zero f = refl
 length_select (suc n) f = go (f n) (length_select n f)
   where
-    go : (b : Bool) → length (select n f) ≡ count_below n f → length (select n f ++ (if b then n ∷ [] else [])) ≡ (if b then suc (count_below n f) else count_below n f)
+    go : (b : Bool) → length (select n f) ≡ count_below n f → length (select n f ++ (if b then n ∷ [] else []))
+        ≡ (if b then suc (count_below n f) else count_below n f)
     go true e = omega (arith, e, length_push (select n f) (n ∷ []))
     go false e = omega (arith, e, length_push (select n f) [])
 
 -- what passes of one table passes in another at places of their own
-pub count_placed : (k n : ℕ) (q p : ℕ → Bool) (f : ℕ → ℕ) → ((i : ℕ) → i < k → q i ≡ true → f i < n) → ((i : ℕ) → i < k → q i ≡ true → p (f i) ≡ true) → ((i j : ℕ) → i < k → j < k → f i ≡ f j → i ≡ j) → count_below k q ≤ count_below n p
+pub count_placed : (k n : ℕ) (q p : ℕ → Bool) (f : ℕ → ℕ) → ((i : ℕ) → i < k → q i ≡ true → f i < n)
+    → ((i : ℕ) → i < k → q i ≡ true → p (f i) ≡ true) → ((i j : ℕ) → i < k → j < k → f i ≡ f j → i ≡ j) → count_below k q ≤ count_below n p
 unfolding count_below
 count_placed zero n q p f b h d = omega arith
 count_placed (suc k) n q p f b h d =
     go (q k) refl
     (count_placed k n q p f (λ i m. b i (omega arith)) (λ i m. h i (omega arith)) (λ i j m o. d i j (omega arith) (omega arith)))
-    (count_placed k n q (put p (f k) false) f (λ i m. b i (omega arith)) (λ i m t. put-other p (f k) false (f i) (apart i m) ∙ h i (omega arith) t) (λ i j m o. d i j (omega arith) (omega arith)))
+    (count_placed k n q (put p (f k) false) f (λ i m. b i (omega arith)) (λ i m t. put-other p (f k) false (f i) (apart i m) ∙ h i (omega arith) t)
+    (λ i j m o. d i j (omega arith) (omega arith)))
   where
     l : k < suc k
     l = omega arith
@@ -136,7 +141,8 @@ count_placed (suc k) n q p f b h d =
     apart : (i : ℕ) → i < k → f i ≢ f k
     apart i m z = let same = d i k (omega arith) l z in absurd (omega arith)
 
-    go : (t : Bool) → q k ≡ t → count_below k q ≤ count_below n p → count_below k q ≤ count_below n (put p (f k) false) → (if t then suc (count_below k q) else count_below k q) ≤ count_below n p
+    go : (t : Bool) → q k ≡ t → count_below k q ≤ count_below n p → count_below k q ≤ count_below n (put p (f k) false)
+        → (if t then suc (count_below k q) else count_below k q) ≤ count_below n p
     go false e rest less = rest
     go true e rest less =
         let off : count_below n p ≡ suc (count_below n (put p (f k) false)) =

@@ -13,7 +13,8 @@ use Rattle.sva_model.specs.State.OrderState.{Queued, Done, Void}
 use Rattle.sva_model.specs.State.Phase.{Open}
 use Rattle.sva_model.specs.States.{is_open, is_busy, is_wait, is_before_invalidating}
 use Rattle.sva_model.specs.Words.{put}
-use Rattle.sva_model.specs.Acts.{Act, Own, act, own, owed_by, owed_by_stage, owed_by_unit, submits, submits_at, submitted, submitted_if, bound, cookie_of, in_range}
+use Rattle.sva_model.specs.Acts.{Act, Own, act, own, owed_by, owed_by_stage, owed_by_unit, submits, submits_at, submitted, submitted_if, bound, cookie_of}
+use Rattle.sva_model.specs.Acts.{in_range}
 use Rattle.sva_model.specs.Acts.Act.{NewSpace, DropSpace, Map, Unmap, NewBinding, NewJob, Hold, LetGo, At}
 use Rattle.sva_model.specs.Steps.{decide, next, run, after_acts, world_after}
 use Rattle.sva_laws.specs.Waits.{IsBehind, FitsDebt}
@@ -40,18 +41,28 @@ wait_kept p n o x b made w = grind (arith, nat_tests)
 counted_kept : (p : Part) (n : ℕ) (o : Own) (resets : ℕ) → resets ≤ p.resets → resets ≤ (own p n o).resets
 counted_kept p n o resets h = grind (arith, nat_tests)
 
-not_void_kept : (ms : Mappings) (g n : ℕ) (p : Part) (o : Own) → LegalOwn ms g p o → Bounds g p → SentOnly p → (resets k : ℕ) → resets ≤ p.resets → k < p.orders → (resets ≡ p.resets → p.phase ≡ Open → p.order_state k ≢ Void) → resets ≡ (own p n o).resets → (own p n o).phase ≡ Open → (own p n o).order_state k ≢ Void
+not_void_kept : (ms : Mappings) (g n : ℕ) (p : Part) (o : Own) → LegalOwn ms g p o → Bounds g p → SentOnly p → (resets k : ℕ) → resets ≤ p.resets → k
+    < p.orders → (resets ≡ p.resets → p.phase ≡ Open → p.order_state k ≢ Void) → resets ≡ (own p n o).resets → (own p n o).phase ≡ Open
+    → (own p n o).order_state k ≢ Void
 not_void_kept ms g n p o l bo sent resets k low made old same ph = grind (arith, nat_tests, old)
 
 -- a wait becomes done at an open unit, where nothing ahead of it is undone
-done_kept : (ms : Mappings) (g n : ℕ) (p : Part) (o : Own) → LegalOwn ms g p o → SentOnly p → (resets x k : ℕ) → resets ≤ p.resets → k ≤ x → x < p.orders → is_wait (p.order x) ≡ true → (is_busy (p.order_state x) ≡ true → is_wait (p.order x) ≡ false) → (resets ≡ p.resets → p.phase ≡ Open → p.order_state k ≢ Void) → (resets ≡ p.resets → p.order_state x ≡ Done → p.order_state k ≡ Done) → resets ≡ (own p n o).resets → (own p n o).order_state x ≡ Done → (own p n o).order_state k ≡ Done
+done_kept : (ms : Mappings) (g n : ℕ) (p : Part) (o : Own) → LegalOwn ms g p o → SentOnly p → (resets x k : ℕ) → resets ≤ p.resets → k ≤ x → x
+    < p.orders → is_wait (p.order x) ≡ true → (is_busy (p.order_state x) ≡ true → is_wait (p.order x) ≡ false)
+    → (resets ≡ p.resets → p.phase ≡ Open → p.order_state k ≢ Void) → (resets ≡ p.resets → p.order_state x ≡ Done → p.order_state k ≡ Done) → resets
+    ≡ (own p n o).resets → (own p n o).order_state x ≡ Done → (own p n o).order_state k ≡ Done
 done_kept ms g n p o l sent resets x k low le made w nw not_void old same d = grind (arith, nat_tests, not_void, old)
 
 -- a wait becomes void by a Reset, where it was queued and so wasn't below the front; then it stays as it is till the reset-done
-void_kept : (ms : Mappings) (g n : ℕ) (p : Part) (o : Own) → LegalOwn ms g p o → SentOnly p → (resets x c : ℕ) (y : Bool) → resets ≤ p.resets → x < p.orders → (resets ≡ p.resets → p.phase ≡ Open → p.order_state x ≢ Void) → (p.order x ≡ Wait c y → c < p.front → (p.order_state x ≡ Done) ⊎ (p.order_state x ≡ Void)) → (resets ≡ p.resets → p.order_state x ≡ Void → p.order x ≡ Wait c y → p.front ≤ c) → resets ≡ (own p n o).resets → (own p n o).order_state x ≡ Void → (own p n o).order x ≡ Wait c y → (own p n o).front ≤ c
+void_kept : (ms : Mappings) (g n : ℕ) (p : Part) (o : Own) → LegalOwn ms g p o → SentOnly p → (resets x c : ℕ) (y : Bool) → resets ≤ p.resets → x
+    < p.orders → (resets ≡ p.resets → p.phase ≡ Open → p.order_state x ≢ Void)
+    → (p.order x ≡ Wait c y → c < p.front → (p.order_state x ≡ Done) ⊎ (p.order_state x ≡ Void))
+    → (resets ≡ p.resets → p.order_state x ≡ Void → p.order x ≡ Wait c y → p.front ≤ c) → resets ≡ (own p n o).resets → (own p n o).order_state x
+    ≡ Void → (own p n o).order x ≡ Wait c y → (own p n o).front ≤ c
 void_kept ms g n p o l sent resets x c y low made not_void passed old same v h = grind (arith, nat_tests, not_void, old)
 
-behind_kept : (ms : Mappings) (g n cookies : ℕ) (p : Part) (o : Own) → LegalOwn ms g p o → Bounds g p → Labels p → Orders p → Fronts cookies p → (first x resets : ℕ) → IsBehind p first x resets → IsBehind (own p n o) first x resets
+behind_kept : (ms : Mappings) (g n cookies : ℕ) (p : Part) (o : Own) → LegalOwn ms g p o → Bounds g p → Labels p → Orders p → Fronts cookies p
+    → (first x resets : ℕ) → IsBehind p first x resets → IsBehind (own p n o) first x resets
 behind_kept ms g n cookies p o l bo la or f first x resets h =
     record {
       low = h.low;
@@ -59,23 +70,30 @@ behind_kept ms g n cookies p o l bo la or f first x resets h =
       is_a_wait = wait_kept p n o x true h.made h.is_a_wait;
       ahead = λ k a b. wait_kept p n o k false (let m = h.made in omega (arith, b, m)) (h.ahead k a b);
       counted = counted_kept p n o resets h.counted;
-      not_void = λ same ph k a b. not_void_kept ms g n p o l bo la.sent resets k h.counted (let m = h.made in omega (arith, b, m)) (λ s q. h.not_void s q k a b) same ph;
-      done = λ same d k a b. done_kept ms g n p o l la.sent resets x k h.counted b h.made h.is_a_wait (or.no_wait x) (λ s q. h.not_void s q k a b) (λ s e. h.done s e k a b) same d;
-      void = λ same v c y i. void_kept ms g n p o l la.sent resets x c y h.counted h.made (λ s q. h.not_void s q x h.low (omega arith)) (f.passed x c y h.made) (λ s e j. h.void s e c y j) same v i;
+      not_void = λ same ph k a b. not_void_kept ms g n p o l bo la.sent resets k h.counted (let m = h.made in omega (arith, b, m))
+          (λ s q. h.not_void s q k a b) same ph;
+      done = λ same d k a b. done_kept ms g n p o l la.sent resets x k h.counted b h.made h.is_a_wait (or.no_wait x) (λ s q. h.not_void s q k a b)
+          (λ s e. h.done s e k a b) same d;
+      void = λ same v c y i. void_kept ms g n p o l la.sent resets x c y h.counted h.made (λ s q. h.not_void s q x h.low (omega arith))
+          (f.passed x c y h.made) (λ s e j. h.void s e c y j) same v i;
     }
 
-closed_kept : (ms : Mappings) (g n : ℕ) (p : Part) (o : Own) → LegalOwn ms g p o → (resets : ℕ) → resets ≤ p.resets → (resets ≡ p.resets → p.phase ≢ Open) → resets ≡ (own p n o).resets → (own p n o).phase ≢ Open
+closed_kept : (ms : Mappings) (g n : ℕ) (p : Part) (o : Own) → LegalOwn ms g p o → (resets : ℕ) → resets ≤ p.resets
+    → (resets ≡ p.resets → p.phase ≢ Open) → resets ≡ (own p n o).resets → (own p n o).phase ≢ Open
 closed_kept ms g n p o l resets low old same ph = grind (arith, nat_tests)
 
-own_debt : (ms : Mappings) (g n cookies : ℕ) (p : Part) (o : Own) → LegalOwn ms g p o → Bounds g p → Labels p → Orders p → Fronts cookies p → (v : Owed) → FitsDebt p v → FitsDebt (own p n o) v
+own_debt : (ms : Mappings) (g n cookies : ℕ) (p : Part) (o : Own) → LegalOwn ms g p o → Bounds g p → Labels p → Orders p → Fronts cookies p
+    → (v : Owed) → FitsDebt p v → FitsDebt (own p n o) v
 own_debt ms g n cookies p o l bo la or f Nothing h = tt
 own_debt ms g n cookies p o l bo la or f (Ranges first count resets) h = (h.0, behind_kept ms g n cookies p o l bo la or f first (first + count) resets h.1)
-own_debt ms g n cookies p o l bo la or f (Pasid k x resets in_reset) h = (h.0, behind_kept ms g n cookies p o l bo la or f k x resets h.1, λ t same. closed_kept ms g n p o l resets h.1.counted (h.2 t) same)
+own_debt ms g n cookies p o l bo la or f (Pasid k x resets in_reset) h =
+    (h.0, behind_kept ms g n cookies p o l bo la or f k x resets h.1, λ t same. closed_kept ms g n p o l resets h.1.counted (h.2 t) same)
 own_debt ms g n cookies p o l bo la or f (AReset resets) h = (counted_kept p n o resets h.0, closed_kept ms g n p o l resets h.0 h.1)
 
 -- So does what an unmapping submits.
 
-behind_submitted : (p : Part) (b q count order cookie first x resets : ℕ) → IsBehind p first x resets → IsBehind (submitted p b q count order cookie) first x resets
+behind_submitted : (p : Part) (b q count order cookie first x resets : ℕ) → IsBehind p first x resets
+    → IsBehind (submitted p b q count order cookie) first x resets
 behind_submitted p b q count order cookie first x resets h =
     record {
       low = h.low;
@@ -97,7 +115,8 @@ behind_submitted p b q count order cookie first x resets h =
     old_state : (k : ℕ) → k < p.orders → (submitted p b q count order cookie).order_state k ≡ p.order_state k
     old_state k made = grind (arith, nat_tests)
 
-submitted_debt : (t : Bool) (p : Part) (o : Option ℕ) (q count order cookie : ℕ) (v : Owed) → FitsDebt p v → FitsDebt (submitted_if t p o q count order cookie) v
+submitted_debt : (t : Bool) (p : Part) (o : Option ℕ) (q count order cookie : ℕ) (v : Owed) → FitsDebt p v
+    → FitsDebt (submitted_if t p o q count order cookie) v
 submitted_debt true p (Some b) q count order cookie Nothing h = tt
 submitted_debt true p (Some b) q count order cookie (Ranges first n resets) h = (h.0, behind_submitted p b q count order cookie first (first + n) resets h.1)
 submitted_debt true p (Some b) q count order cookie (Pasid k x resets in_reset) h = (h.0, behind_submitted p b q count order cookie k x resets h.1, h.2)
@@ -162,11 +181,13 @@ new_pasid cookies p b k w or f h =
 closed_is : (p : Part) → is_open p.phase ≡ false → p.phase ≢ Open
 closed_is p h e = absurd (cc (sym (ap is_open e) ∙ h))
 
-unit_debt : (p : Part) (b q count order cookie : ℕ) → 0 < count → (o : Bool) → is_open p.phase ≡ o → FitsDebt (submitted_if (o && true) p (Some b) q count order cookie) (owed_by_unit p count o)
+unit_debt : (p : Part) (b q count order cookie : ℕ) → 0 < count → (o : Bool) → is_open p.phase ≡ o
+    → FitsDebt (submitted_if (o && true) p (Some b) q count order cookie) (owed_by_unit p count o)
 unit_debt p b q count order cookie pos true h = (pos, new_ranges p b q count order cookie)
 unit_debt p b q count order cookie pos false h = (omega arith, λ same. closed_is p h)
 
-stage_debt : (cookies : ℕ) (p : Part) (b q count order cookie : ℕ) → 0 < count → Orders p → Fronts cookies p → (s : Stage) → p.stage b ≡ s → FitsDebt (submitted_if (is_open p.phase && is_before_invalidating s) p (Some b) q count order cookie) (owed_by_stage p count s)
+stage_debt : (cookies : ℕ) (p : Part) (b q count order cookie : ℕ) → 0 < count → Orders p → Fronts cookies p → (s : Stage) → p.stage b ≡ s
+    → FitsDebt (submitted_if (is_open p.phase && is_before_invalidating s) p (Some b) q count order cookie) (owed_by_stage p count s)
 stage_debt cookies p b q count order cookie pos or f Live st = unit_debt p b q count order cookie pos (is_open p.phase) refl
 stage_debt cookies p b q count order cookie pos or f (Stopping marked) st = unit_debt p b q count order cookie pos (is_open p.phase) refl
 stage_debt cookies p b q count order cookie pos or f (Draining wait) st = unit_debt p b q count order cookie pos (is_open p.phase) refl
@@ -183,7 +204,8 @@ stage_debt cookies p b q count order cookie pos or f Quiet st = tt
 stage_debt cookies p b q count order cookie pos or f Lost st = tt
 stage_debt cookies p b q count order cookie pos or f Released st = tt
 
-new_debt : (cookies : ℕ) (p : Part) (o : Option ℕ) (q count order cookie : ℕ) → 0 < count → Orders p → Fronts cookies p → FitsDebt (submitted_if (submits_at p o) p o q count order cookie) (owed_by p count o)
+new_debt : (cookies : ℕ) (p : Part) (o : Option ℕ) (q count order cookie : ℕ) → 0 < count → Orders p → Fronts cookies p
+    → FitsDebt (submitted_if (submits_at p o) p o q count order cookie) (owed_by p count o)
 new_debt cookies p None q count order cookie pos or f = tt
 new_debt cookies p (Some b) q count order cookie pos or f = stage_debt cookies p b q count order cookie pos or f (p.stage b) refl
 
@@ -192,22 +214,29 @@ new_debt cookies p (Some b) q count order cookie pos or f = stage_debt cookies p
 abbrev pub AllDebts : World → Type 0
 AllDebts w = (m e : ℕ) (owed : ℕ → Owed) → w.mappings.state m ≡ Gone owed → FitsDebt (w.part e) (owed e)
 
-old_gone : (w : World) (s q f : ℕ) (x : Bool) (m : ℕ) (owed : ℕ → Owed) → put w.mappings.state w.mappings.made Present m ≡ Gone owed → w.mappings.state m ≡ Gone owed
+old_gone : (w : World) (s q f : ℕ) (x : Bool) (m : ℕ) (owed : ℕ → Owed) → put w.mappings.state w.mappings.made Present m ≡ Gone owed
+    → w.mappings.state m ≡ Gone owed
 old_gone w s q f x m owed h = grind (arith, nat_tests)
 
 pub act_debts : (w : World) (a : Act) → Legal w a → Invariant w → AllFronts w → AllDebts w → AllDebts (act w a)
 act_debts w NewSpace l i f h = h
 act_debts w (DropSpace s) l i f h = λ m e owed g. go m e owed (gone_from (w.mappings.space m == s && true) (λ x. Nothing) (w.mappings.state m) owed g)
   where
-    go : (m e : ℕ) (owed : ℕ → Owed) → (w.mappings.state m ≡ Gone owed) ⊎ ((w.mappings.state m ≡ Present) × ((w.mappings.space m == s && true) ≡ true) × ((λ x. Nothing) ≡ owed)) → FitsDebt (w.part e) (owed e)
+    go : (m e : ℕ) (owed : ℕ → Owed) → (w.mappings.state m ≡ Gone owed)
+        ⊎ ((w.mappings.state m ≡ Present) × ((w.mappings.space m == s && true) ≡ true) × ((λ x. Nothing) ≡ owed)) → FitsDebt (w.part e) (owed e)
     go m e owed (inl g) = h m e owed g
     go m e owed (inr g) = subst (λ v. FitsDebt (w.part e) (v e)) g.2 tt
 act_debts w (Map s q f x) l i fs h = λ m e owed g. h m e owed (old_gone w s q f x m owed g)
-act_debts w (Unmap s q count order) l i fs h = λ m e owed g. go m e owed (gone_from (w.mappings.space m == s && in_range q (count * 2 ^ order) (w.mappings.page m)) (λ x. owed_by (w.part x) count (bound w x s)) (w.mappings.state m) owed g)
+act_debts w (Unmap s q count order) l i fs h =
+    λ m e owed g. go m e owed
+    (gone_from (w.mappings.space m == s && in_range q (count * 2 ^ order) (w.mappings.page m)) (λ x. owed_by (w.part x) count (bound w x s))
+    (w.mappings.state m) owed g)
   where
     go :
         (m e : ℕ) (owed : ℕ → Owed)
-        → (w.mappings.state m ≡ Gone owed) ⊎ ((w.mappings.state m ≡ Present) × ((w.mappings.space m == s && in_range q (count * 2 ^ order) (w.mappings.page m)) ≡ true) × ((λ x. owed_by (w.part x) count (bound w x s)) ≡ owed))
+        → (w.mappings.state m ≡ Gone owed)
+        ⊎ ((w.mappings.state m ≡ Present) × ((w.mappings.space m == s && in_range q (count * 2 ^ order) (w.mappings.page m)) ≡ true)
+        × ((λ x. owed_by (w.part x) count (bound w x s)) ≡ owed))
         → FitsDebt ((act w (Unmap s q count order)).part e) (owed e)
     go m e owed (inl g) = submitted_debt (submits w s e) (w.part e) (bound w e s) q count order (cookie_of w s e) (owed e) (h m e owed g)
     go m e owed (inr g) =
@@ -219,7 +248,8 @@ act_debts w (Hold x j) l i f h = h
 act_debts w (LetGo x) l i f h = h
 act_debts w (At d o) l i f h = λ m e owed g.
     put_keeps (λ x p. FitsDebt p (owed x)) w.part d (own (w.part d) w.messages o)
-    (own_debt w.mappings w.bindings w.messages w.cookies (w.part d) o l.1.0 (i.parts d).bounds (i.parts d).labels (i.parts d).orders (f d) (owed d) (h m d owed g))
+    (own_debt w.mappings w.bindings w.messages w.cookies (w.part d) o l.1.0 (i.parts d).bounds (i.parts d).labels (i.parts d).orders (f d) (owed d)
+    (h m d owed g))
     (λ x. h m x owed g) e
 
 acts_debts : (acts : List Act) (w : World) → LegalAll w acts → Invariant w → AllFronts w → AllDebts w → AllDebts (after_acts w acts)
@@ -229,7 +259,8 @@ acts_debts (a ∷ acts) w l i f h = acts_debts acts (act w a) l.1 (act_keeps w a
 run_debts : (ss : List Step) (w : World) → Invariant w → AllFronts w → AllDebts w → AllDebts (run w ss)
 run_debts [] w i f h = h
 run_debts (s ∷ ss) w i f h =
-    run_debts ss (next w s) (next_keeps w s i) (acts_fronts (decide w s).acts w (step_legal w s i) i f) (acts_debts (decide w s).acts w (step_legal w s i) i f h)
+    run_debts ss (next w s) (next_keeps w s i) (acts_fronts (decide w s).acts w (step_legal w s i) i f)
+    (acts_debts (decide w s).acts w (step_legal w s i) i f h)
 
 pub always_debts : (rule : PasidRule) (c : Config) (ss : List Step) → AllDebts (world_after rule c ss)
 always_debts rule c ss = run_debts ss (opened rule c) (opened_invariant rule c) (opened_fronts rule c) (λ m e owed g. absurd (cc (g)))

@@ -26,10 +26,14 @@ pub record FiledOnce (p : Part) : Type 0 where
   pub filed : (k : ℕ) → k < p.filings → p.page_request (p.filing k) ≡ Filed
   pub once : (j k : ℕ) → j < p.filings → k < p.filings → p.filing j ≡ p.filing k → j ≡ k
 
-filed_kept : (ms : Mappings) (g n : ℕ) (p : Part) (o : Own) → LegalOwn ms g p o → Queued p → (p.page_requests ≤ p.page_requests → p.page_request p.page_requests ≡ Dropped) → (k : ℕ) → (k < p.filings → p.page_request (p.filing k) ≡ Filed) → k < (own p n o).filings → (own p n o).page_request ((own p n o).filing k) ≡ Filed
+filed_kept : (ms : Mappings) (g n : ℕ) (p : Part) (o : Own) → LegalOwn ms g p o → Queued p
+    → (p.page_requests ≤ p.page_requests → p.page_request p.page_requests ≡ Dropped) → (k : ℕ)
+    → (k < p.filings → p.page_request (p.filing k) ≡ Filed) → k < (own p n o).filings → (own p n o).page_request ((own p n o).filing k) ≡ Filed
 filed_kept ms g n p o l qu un k old h = grind (arith, nat_tests, qu.in_flight)
 
-once_kept : (ms : Mappings) (g n : ℕ) (p : Part) (o : Own) → LegalOwn ms g p o → (j k : ℕ) → (j < p.filings → p.page_request (p.filing j) ≡ Filed) → (k < p.filings → p.page_request (p.filing k) ≡ Filed) → (j < p.filings → k < p.filings → p.filing j ≡ p.filing k → j ≡ k) → j < (own p n o).filings → k < (own p n o).filings → (own p n o).filing j ≡ (own p n o).filing k → j ≡ k
+once_kept : (ms : Mappings) (g n : ℕ) (p : Part) (o : Own) → LegalOwn ms g p o → (j k : ℕ) → (j < p.filings → p.page_request (p.filing j) ≡ Filed)
+    → (k < p.filings → p.page_request (p.filing k) ≡ Filed) → (j < p.filings → k < p.filings → p.filing j ≡ p.filing k → j ≡ k) → j
+    < (own p n o).filings → k < (own p n o).filings → (own p n o).filing j ≡ (own p n o).filing k → j ≡ k
 once_kept ms g n p o l j k fj fk old h i e = grind (arith, nat_tests)
 
 own_filed : (ms : Mappings) (x g n e : ℕ) (p : Part) (o : Own) → LegalOwn ms g p o → PartInvariant ms x g n e p → FiledOnce p → FiledOnce (own p n o)
@@ -57,7 +61,8 @@ act_filed w (NewJob e g) l i h = h
 act_filed w (Hold x j) l i h = h
 act_filed w (LetGo x) l i h = h
 act_filed w (At e o) l i h =
-    put_keeps (λ k p. FiledOnce p) w.part e (own (w.part e) w.messages o) (own_filed w.mappings w.config.endpoints w.bindings w.messages e (w.part e) o l.1.0 (i.parts e) (h e)) h
+    put_keeps (λ k p. FiledOnce p) w.part e (own (w.part e) w.messages o)
+    (own_filed w.mappings w.config.endpoints w.bindings w.messages e (w.part e) o l.1.0 (i.parts e) (h e)) h
 
 acts_filed : (acts : List Act) (w : World) → LegalAll w acts → Invariant w → AllFiled w → AllFiled (after_acts w acts)
 acts_filed [] w l i h = h
@@ -68,13 +73,19 @@ run_filed [] w i h = h
 run_filed (s ∷ ss) w i h = run_filed ss (next w s) (next_keeps w s i) (acts_filed (decide w s).acts w (step_legal w s i) i h)
 
 always_filed : (rule : PasidRule) (c : Config) (ss : List Step) → AllFiled (world_after rule c ss)
-always_filed rule c ss = run_filed ss (opened rule c) (opened_invariant rule c) (λ e. record { filed = λ k h. absurd (omega (arith, h)); once = λ j k h i e. absurd (omega (arith, h)) })
+always_filed rule c ss =
+    run_filed ss (opened rule c) (opened_invariant rule c) (λ e. record {
+      filed = λ k h. absurd (omega (arith, h));
+      once =
+          λ j k h i e. absurd (omega (arith, h));
+    })
 
 length_mapped : (f : ℕ → ℕ) (xs : List ℕ) → length (map f xs) ≡ length xs
 length_mapped f [] = refl
 length_mapped f (x ∷ xs) = let r = length_mapped f xs in omega (arith, r)
 
-few : (ms : Mappings) (x g n e : ℕ) (p : Part) (y : ℕ) → PartInvariant ms x g n e p → FiledOnce p → outstanding p ≤ 32 → is_open_group (p.host_group y) ≡ true → length (asks p y) ≤ 32
+few : (ms : Mappings) (x g n e : ℕ) (p : Part) (y : ℕ) → PartInvariant ms x g n e p → FiledOnce p → outstanding p ≤ 32
+    → is_open_group (p.host_group y) ≡ true → length (asks p y) ≤ 32
 few ms x g n e p y i fi h op = omega (arith, length_mapped p.filing (select p.filings is_of), length_select p.filings is_of, placed, h)
   where
     is_of : ℕ → Bool
@@ -99,7 +110,9 @@ few ms x g n e p y i fi h op = omega (arith, length_mapped p.filing (select p.fi
         (λ k l t. ap (λ z. is_outstanding (p.group z)) (same k t) ∙ (i.groups.open_group y (open_phase (is_open p.phase) refl) op).0)
         fi.once
 
-pub always_few : (rule : PasidRule) (config : Config) (steps : List Step) (e y : ℕ) → is_open_group (((world_after rule config steps).part e).host_group y) ≡ true → length (asks ((world_after rule config steps).part e) y) ≤ 32
+pub always_few : (rule : PasidRule) (config : Config) (steps : List Step) (e y : ℕ)
+    → is_open_group (((world_after rule config steps).part e).host_group y) ≡ true → length (asks ((world_after rule config steps).part e) y) ≤ 32
 always_few rule config steps e y h =
     let w = world_after rule config steps in
-    few w.mappings w.config.endpoints w.bindings w.messages e (w.part e) y ((always rule config steps).parts e) (always_filed rule config steps e) (always_outstanding rule config steps e) h
+    few w.mappings w.config.endpoints w.bindings w.messages e (w.part e) y ((always rule config steps).parts e) (always_filed rule config steps e)
+    (always_outstanding rule config steps e) h

@@ -4,7 +4,8 @@ use Rattle.std.specs.Prelude.{Option, Some, None, ◌==◌}
 use Rattle.std.proofs.lemmas.Bool.Decides.{nat_tests}
 use Rattle.sva_model.specs.Message.{Code}
 use Rattle.sva_model.specs.State.{About, PasidState, GroupState, HostGroupState, Part, World, Stage, UseState, Phase, OrderState}
-use Rattle.sva_model.specs.State.About.{StartOf, StopOf, ResetOrder, CompletionOf, InvalidateOf, ResponseOf, RequestOf, InvalidatedOf, PageRequestOf, MarkerOf, ResetDone}
+use Rattle.sva_model.specs.State.About.{StartOf, StopOf, ResetOrder, CompletionOf, InvalidateOf, ResponseOf, RequestOf, InvalidatedOf, PageRequestOf}
+use Rattle.sva_model.specs.State.About.{MarkerOf, ResetDone}
 use Rattle.sva_model.specs.State.Stage.{Stopping, Invalidating}
 use Rattle.sva_model.specs.State.PasidState.{Off, On, Ending}
 use Rattle.sva_model.specs.State.GroupState.{Unfinished, Awaiting}
@@ -49,7 +50,10 @@ labelled w e i =
     record {
       pasid = λ t b. ((λ h. ((la.pasid_bears t b h).1, (la.pasid_bears t b h).0)), (λ h. subst (λ k. p.at_pasid k ≡ Some b) h.1 (la.bears_pasid b h.0)));
       tag = λ t r. ((λ h. ((la.tag_bears t r h).1, (la.tag_bears t r h).0)), (λ h. subst (λ k. p.at_tag k ≡ Some r) h.1 (la.bears_tag r h.0)));
-      slot = λ t u. ((λ h. (slot_taken (p.use_state u) (la.slot_bears t u h).1, (la.slot_bears t u h).0)), (λ h. subst (λ k. p.at_slot k ≡ Some u) h.1 (la.bears_slot u (taken_slot (p.use_state u) h.0))));
+      slot = λ t u. (
+        (λ h. (slot_taken (p.use_state u) (la.slot_bears t u h).1, (la.slot_bears t u h).0)),
+        (λ h. subst (λ k. p.at_slot k ≡ Some u) h.1 (la.bears_slot u (taken_slot (p.use_state u) h.0))),
+      );
       itag = λ t k. ((λ h. ((la.itag_bears t k h).1, (la.itag_bears t k h).0)), (λ h. subst (λ z. p.at_itag z ≡ Some k) h.1 (la.bears_itag k h.0)));
       index = λ t g. ((λ h. ((gr.index_bears t g h).1, (gr.index_bears t g h).0)), (λ h. subst (λ z. p.at_index z ≡ Some g) h.1 (gr.bears_index g h.0)));
       pasid_low = λ b h. la.pasid_low (p.pasid b) b (la.bears_pasid b h);
@@ -67,7 +71,8 @@ not_cleared : (x : Phase) → x ≡ Open → is_cleared x ≡ false
 not_cleared x h = grind arith
 
 -- a PASID that is on or ending is of an unreleased binding
-alive_stage : (p : Part) (b : ℕ) → (p.pasid_state b ≡ On → is_unmarked (p.stage b) ≡ true) → (p.pasid_state b ≡ Ending → p.stage b ≡ Stopping false) → is_off (p.pasid_state b) ≡ false → is_unreleased (p.stage b) ≡ true
+alive_stage : (p : Part) (b : ℕ) → (p.pasid_state b ≡ On → is_unmarked (p.stage b) ≡ true) → (p.pasid_state b ≡ Ending → p.stage b ≡ Stopping false)
+    → is_off (p.pasid_state b) ≡ false → is_unreleased (p.stage b) ≡ true
 alive_stage p b on ending h = grind arith
 
 pub sent_undone : (x : OrderState) → x ≡ Sent → is_undone x ≡ true
@@ -127,13 +132,25 @@ found w e i =
     record {
       start = λ c b h. bearer p b la (unmarked_unreleased (p.stage b) (bi.start_stage c b h));
       stop = λ c b h. bearer p b la (ap is_unreleased (bi.stop_stage c b h));
-      request = λ c r ph h. let out = ra.ask_out c r h (not_cleared p.phase ph) in (bearer p (p.request_binding r) la (alive_stage p (p.request_binding r) (bi.on_stage (p.request_binding r)) (bi.ending_stage (p.request_binding r)) (ra.alive r out)), la.bears_tag r out);
+      request = λ c r ph h. let out =
+          ra.ask_out c r h (not_cleared p.phase ph) in (
+            bearer p (p.request_binding r) la
+                (alive_stage p (p.request_binding r) (bi.on_stage (p.request_binding r)) (bi.ending_stage (p.request_binding r)) (ra.alive r out)),
+            la.bears_tag r out,
+          );
       completion = λ c r f ph h. la.bears_tag r (ra.answer_out c r f h (isnt_cleared p.phase ph));
       none_out = λ c r h. re.over c r h;
       out = λ r h. started p (p.request_binding r) la bi (ra.alive r h);
       started = λ b h. (started p b la bi (off_not (p.pasid_state b) h)).0;
       asker = λ g h. started p (p.asker g) la bi (gr.alive g (alive_group (p.group g) h));
-      invalidate = λ c k h. let s = la.sent c k h in (s, la.bears_itag k (sent_busy (p.order_state k) s), bearer p (binding_of (p.order k)) la (active_unreleased (p.stage (binding_of (p.order k))) (or.undone_stage k (sent_undone (p.order_state k) s) (or.no_wait k (sent_busy (p.order_state k) s)))));
+      invalidate = λ c k h. let s =
+          la.sent c k h in (
+            s,
+            la.bears_itag k (sent_busy (p.order_state k) s),
+            bearer p (binding_of (p.order k)) la
+                (active_unreleased (p.stage (binding_of (p.order k)))
+                (or.undone_stage k (sent_undone (p.order_state k) s) (or.no_wait k (sent_busy (p.order_state k) s)))),
+          );
       cached = λ r m h. bearer p (p.request_binding r) la (active_unreleased (p.stage (p.request_binding r)) (ow.held r m h));
       one_held = ra.one_held;
       in_use = λ u h. bearer p (p.use_binding u) la (active_unreleased (p.stage (p.use_binding u)) (ow.running u h));
@@ -171,7 +188,8 @@ never w e i =
       discarded = λ g v ph h. not_before (p.stage (p.filed_under g)) (gr.discarded g v ph h);
     }
   where
-    replies : (g v k x : ℕ) → (w.part e).phase ≡ Open → ((w.part e).host_group g ≡ InHand v) ⊎ ((w.part e).host_group g ≡ InHandDiscarded v) → (w.part e).stage ((w.part e).filed_under g) ≢ Invalidating k x
+    replies : (g v k x : ℕ) → (w.part e).phase ≡ Open → ((w.part e).host_group g ≡ InHand v) ⊎ ((w.part e).host_group g ≡ InHandDiscarded v)
+        → (w.part e).stage ((w.part e).filed_under g) ≢ Invalidating k x
     replies g v k x ph (inl h) = before_not ((w.part e).stage ((w.part e).filed_under g)) k x ((i.parts e).groups.open_group g ph (ap is_open_group h)).1
     replies g v k x ph (inr h) = inactive_not ((w.part e).stage ((w.part e).filed_under g)) k x ((i.parts e).groups.discarded g v ph h)
 
@@ -211,11 +229,13 @@ answerable_outstanding : (s : GroupState) → is_answerable s ≡ true → is_ou
 answerable_outstanding s h = grind arith
 
 -- the last request of a group that isn't whole at the host is in flight or arrived
-asked_last : (p : Part) (g r : ℕ) → p.group_of r ≡ g → is_whole (p.host_group g) ≡ false → p.page_request r ≢ Dropped → (p.page_request r ≡ Filed → is_whole (p.host_group (p.group_of r)) ≡ true) → (p.page_request r ≡ InFlight) ⊎ (p.page_request r ≡ Arrived)
+asked_last : (p : Part) (g r : ℕ) → p.group_of r ≡ g → is_whole (p.host_group g) ≡ false → p.page_request r ≢ Dropped
+    → (p.page_request r ≡ Filed → is_whole (p.host_group (p.group_of r)) ≡ true) → (p.page_request r ≡ InFlight) ⊎ (p.page_request r ≡ Arrived)
 asked_last p g r e part kept filed = grind arith
 
 -- a group that is answerable at an open unit isn't discarded at the host
-way : (w : World) (e : ℕ) → Invariant w → Ways (w.part e) → OnTheWay (w.part e) → (g : ℕ) → (w.part e).phase ≡ Open → is_answerable ((w.part e).group g) ≡ true → IsOnItsWay (w.part e) g
+way : (w : World) (e : ℕ) → Invariant w → Ways (w.part e) → OnTheWay (w.part e) → (g : ℕ) → (w.part e).phase ≡ Open
+    → is_answerable ((w.part e).group g) ≡ true → IsOnItsWay (w.part e) g
 way w e i wa on g ph a = go (p.host_group g) refl
   where
     p : Part
@@ -274,14 +294,17 @@ under_way w e i wa on ow =
     made_of : (r : ℕ) → ((w.part e).page_request r ≡ InFlight) ⊎ ((w.part e).page_request r ≡ Arrived) → r < (w.part e).page_requests
     made_of r h = grind (arith, nat_tests, (i.parts e).bounds.page_request r)
 
-    not_filed : (r : ℕ) → (w.part e).phase ≡ Open → r < (w.part e).page_requests → ((w.part e).page_request r ≡ InFlight) ⊎ ((w.part e).page_request r ≡ Arrived) → (s : HostGroupState) → (w.part e).host_group ((w.part e).group_of r) ≡ s → ((w.part e).host_group ((w.part e).group_of r) ≡ NotFiled) ⊎ ((w.part e).host_group ((w.part e).group_of r) ≡ PartFiled)
+    not_filed : (r : ℕ) → (w.part e).phase ≡ Open → r < (w.part e).page_requests → ((w.part e).page_request r ≡ InFlight)
+        ⊎ ((w.part e).page_request r ≡ Arrived) → (s : HostGroupState) → (w.part e).host_group ((w.part e).group_of r) ≡ s
+        → ((w.part e).host_group ((w.part e).group_of r) ≡ NotFiled) ⊎ ((w.part e).host_group ((w.part e).group_of r) ≡ PartFiled)
     not_filed r ph lt h NotFiled x = inl x
     not_filed r ph lt h PartFiled x = inr x
     not_filed r ph lt h Job x = let z = (i.parts e).lasts.whole r (ap is_whole x) lt in grind arith
     not_filed r ph lt h (InHand v) x = let z = (i.parts e).lasts.whole r (ap is_whole x) lt in grind arith
     not_filed r ph lt h Replied x = let z = (i.parts e).lasts.whole r (ap is_whole x) lt in grind arith
     not_filed r ph lt h Discarded x = absurd (cc (sym ((i.parts e).lasts.out r ph h) ∙ on.discarded ((w.part e).group_of r) ph x))
-    not_filed r ph lt h (InHandDiscarded v) x = absurd (cc (sym ((i.parts e).lasts.out r ph h) ∙ (i.parts e).groups.discarded_over ((w.part e).group_of r) v ph x))
+    not_filed r ph lt h (InHandDiscarded v) x =
+        absurd (cc (sym ((i.parts e).lasts.out r ph h) ∙ (i.parts e).groups.discarded_over ((w.part e).group_of r) v ph x))
 
 -- a group is in one hand
 one_worker : (s : HostGroupState) (x y : ℕ) → IsHeldBy s x → IsHeldBy s y → x ≡ y
@@ -292,11 +315,14 @@ holds_jobs w i js =
     record {
       made = i.hands.made;
       in_hand = i.hands.held;
-      one_hand = λ x y j k a b e g. one_worker ((w.part (w.job k).endpoint).host_group (w.job k).group) x y (moved x j k e g (i.hands.held x j a)) (i.hands.held y k b);
+      one_hand = λ x y j k a b e g. one_worker ((w.part (w.job k).endpoint).host_group (w.job k).group) x y (moved x j k e g (i.hands.held x j a))
+          (i.hands.held y k b);
       held = js.held;
       queued = js.queued;
       one_job = js.once;
     }
   where
-    moved : (x j k : ℕ) → (w.job j).endpoint ≡ (w.job k).endpoint → (w.job j).group ≡ (w.job k).group → IsHeldBy ((w.part (w.job j).endpoint).host_group (w.job j).group) x → IsHeldBy ((w.part (w.job k).endpoint).host_group (w.job k).group) x
-    moved x j k e g h = subst (λ z. IsHeldBy ((w.part z).host_group (w.job k).group) x) e (subst (λ z. IsHeldBy ((w.part (w.job j).endpoint).host_group z) x) g h)
+    moved : (x j k : ℕ) → (w.job j).endpoint ≡ (w.job k).endpoint → (w.job j).group ≡ (w.job k).group
+        → IsHeldBy ((w.part (w.job j).endpoint).host_group (w.job j).group) x → IsHeldBy ((w.part (w.job k).endpoint).host_group (w.job k).group) x
+    moved x j k e g h = subst (λ z. IsHeldBy ((w.part z).host_group (w.job k).group) x) e
+        (subst (λ z. IsHeldBy ((w.part (w.job j).endpoint).host_group z) x) g h)

@@ -14,13 +14,16 @@ use Rattle.sva_model.specs.State.MappingState.{Unmade, Present, Gone}
 use Rattle.sva_model.specs.State.Stage.{Unbound, Live, Stopping, Draining, Invalidating, Quiet, Lost, Released}
 use Rattle.sva_model.specs.State.Order.{RangeOf, PasidOf, Wait}
 use Rattle.sva_model.specs.State.RequestState.{Out, Doomed, Over}
-use Rattle.sva_model.specs.State.About.{StartOf, StopOf, ResetOrder, CompletionOf, InvalidateOf, ResponseOf, RequestOf, InvalidatedOf, PageRequestOf, MarkerOf, ResetDone}
+use Rattle.sva_model.specs.State.About.{StartOf, StopOf, ResetOrder, CompletionOf, InvalidateOf, ResponseOf, RequestOf, InvalidatedOf, PageRequestOf}
+use Rattle.sva_model.specs.State.About.{MarkerOf, ResetDone}
 use Rattle.sva_model.specs.Acts.{Act, Own, act}
 use Rattle.sva_model.specs.Acts.Act.{NewSpace, DropSpace, Map, Unmap, NewBinding, NewJob, Hold, LetGo, At}
 use Rattle.sva_model.specs.Labels
 use Rattle.sva_model.specs.Refusals.{Cause, refusals}
 use Rattle.sva_model.specs.Replies.{maps_to, reply_maps, replies_success, newly_mapped, free_list, is_write_asked, job_space, response_to}
-use Rattle.sva_model.specs.Outcomes.{Outcome, outcome, unbind_outcome, advance_outcome, pump_outcome, head_outcome, wait_outcome, send_outcome, may_pass, serve_outcome, file_outcome, reply_outcome, fault_outcome, about_outcome, deliver_outcome, completion_outcome, keep_outcome, is_full, request_outcome, count_outcome, page_request_outcome, marker_outcome}
+use Rattle.sva_model.specs.Outcomes.{Outcome, outcome, unbind_outcome, advance_outcome, pump_outcome, head_outcome, wait_outcome, send_outcome, may_pass}
+use Rattle.sva_model.specs.Outcomes.{serve_outcome, file_outcome, reply_outcome, fault_outcome, about_outcome, deliver_outcome, completion_outcome}
+use Rattle.sva_model.specs.Outcomes.{keep_outcome, is_full, request_outcome, count_outcome, page_request_outcome, marker_outcome}
 use Rattle.sva_model.specs.States.{Place, is_open, is_free_place, place, place_at, place_by, place_of_gone, answered}
 use Rattle.sva_model.specs.States.Place.{Free, Mapped, Withheld}
 use Rattle.sva_model.specs.Steps.{checked, decide, next, after_acts, world_after}
@@ -100,8 +103,10 @@ reply_first : (w : World) (x j : ℕ) (v : Verdict) (o : Option Code) → maps_f
 reply_first w x j v None = refl
 reply_first w x j v (Some code) = go (replies_success w j v)
   where
-    go : (b : Bool) → maps_first ((if b then maps_to (job_space w j) (is_write_asked w j) (newly_mapped w j) (free_list w) else []) ++ LetGo x ∷ At (w.job j).endpoint (Own.Respond (w.job j).group code) ∷ []) ≡ true
-    go true = maps_then (job_space w j) (is_write_asked w j) (newly_mapped w j) (free_list w) (LetGo x ∷ At (w.job j).endpoint (Own.Respond (w.job j).group code) ∷ []) refl
+    go : (b : Bool) → maps_first ((if b then maps_to (job_space w j) (is_write_asked w j) (newly_mapped w j) (free_list w) else []) ++ LetGo x
+        ∷ At (w.job j).endpoint (Own.Respond (w.job j).group code) ∷ []) ≡ true
+    go true = maps_then (job_space w j) (is_write_asked w j) (newly_mapped w j) (free_list w)
+        (LetGo x ∷ At (w.job j).endpoint (Own.Respond (w.job j).group code) ∷ []) refl
     go false = refl
 
 fault_first : (p : Part) (e t q : ℕ) (r x l : Bool) (o : Option ℕ) → maps_first (fault_outcome p e t q r x l o).acts ≡ true
@@ -174,7 +179,9 @@ outcome_first w (step.Evict e t q) = refl
 outcome_first w (step.Fault e t q r x group l) = fault_first (w.part e) e t q r x l group
 outcome_first w (step.Finish e vector count) = refl
 outcome_first w (step.Quit e t) = refl
-outcome_first w (step.Deliver n) = deliver_first w (w.part (w.way (Labels.name w n))) (w.way (Labels.name w n)) (Labels.name w n) ((w.part (w.way (Labels.name w n))).message (Labels.name w n))
+outcome_first w (step.Deliver n) =
+    deliver_first w (w.part (w.way (Labels.name w n))) (w.way (Labels.name w n)) (Labels.name w n)
+    ((w.part (w.way (Labels.name w n))).message (Labels.name w n))
 outcome_first w (step.Look f) = refl
 outcome_first w (step.Bearer t) = refl
 
@@ -206,7 +213,9 @@ rest_same : (acts : List Act) (w : World) (f : ℕ) → no_maps acts ≡ true �
 rest_same [] w f h = refl
 rest_same (a ∷ acts) w f h = go (is_map a) refl h (rest_same acts (act w a) f)
   where
-    go : (b : Bool) → is_map a ≡ b → (if b then false else no_maps acts) ≡ true → (no_maps acts ≡ true → (after_acts (act w a) acts).mappings.latest f ≡ (act w a).mappings.latest f) → (after_acts (act w a) acts).mappings.latest f ≡ w.mappings.latest f
+    go : (b : Bool) → is_map a ≡ b → (if b then false else no_maps acts) ≡ true
+        → (no_maps acts ≡ true → (after_acts (act w a) acts).mappings.latest f ≡ (act w a).mappings.latest f)
+        → (after_acts (act w a) acts).mappings.latest f ≡ w.mappings.latest f
     go true e h k = absurd (cc)
     go false e h k = k h ∙ latest_same w a f e
 
@@ -233,13 +242,15 @@ is_free_is Free h = refl
 is_free_is Mapped h = absurd (cc)
 is_free_is Withheld h = absurd (cc)
 
-map_then : (w : World) (s q g : ℕ) (x : Bool) (f : ℕ) {v : Option ℕ} → Legal w (Map s q g x) → Invariant w → (f ≡ g) ⊎ (f ≢ g) → (v ≡ (act w (Map s q g x)).mappings.latest f) ⊎ (place (act w (Map s q g x)) f ≡ Free) → (v ≡ w.mappings.latest f) ⊎ (place w f ≡ Free)
+map_then : (w : World) (s q g : ℕ) (x : Bool) (f : ℕ) {v : Option ℕ} → Legal w (Map s q g x) → Invariant w → (f ≡ g) ⊎ (f ≢ g)
+    → (v ≡ (act w (Map s q g x)).mappings.latest f) ⊎ (place (act w (Map s q g x)) f ≡ Free) → (v ≡ w.mappings.latest f) ⊎ (place w f ≡ Free)
 map_then w s q g x f l i (inl e) old = inr (ap (place w) e ∙ is_free_is (place w g) l.2)
 map_then w s q g x f l i (inr ne) (inl y) = inl (y ∙ put-other w.mappings.latest g (Some w.mappings.made) f ne)
 map_then w s q g x f l i (inr ne) (inr y) = inr (sym (place_other w s q g f x i ne) ∙ y)
 
 -- a frame's latest mapping stays, or the frame was free
-maps_free : (acts : List Act) (w : World) (f : ℕ) → maps_first acts ≡ true → LegalAll w acts → Invariant w → ((after_acts w acts).mappings.latest f ≡ w.mappings.latest f) ⊎ (place w f ≡ Free)
+maps_free : (acts : List Act) (w : World) (f : ℕ) → maps_first acts ≡ true → LegalAll w acts → Invariant w
+    → ((after_acts w acts).mappings.latest f ≡ w.mappings.latest f) ⊎ (place w f ≡ Free)
 maps_free [] w f h l i = inl refl
 maps_free (Map s q g x ∷ acts) w f h l i =
     map_then w s q g x f l.0 i (ℕ_cases f g) (maps_free acts (act w (Map s q g x)) f h l.1 (act_keeps w (Map s q g x) l.0 i))
@@ -257,7 +268,8 @@ step_free w s f i = maps_free (decide w s).acts w f (step_first w s) (step_legal
 
 -- A withheld frame is withheld or free after one more step.
 
-gone_place : (w : World) (f m : ℕ) (owed : ℕ → Owed) → w.mappings.latest f ≡ Some m → w.mappings.state m ≡ Gone owed → (place w f ≡ Free) ⊎ (place w f ≡ Withheld)
+gone_place : (w : World) (f m : ℕ) (owed : ℕ → Owed) → w.mappings.latest f ≡ Some m → w.mappings.state m ≡ Gone owed → (place w f ≡ Free)
+    ⊎ (place w f ≡ Withheld)
 gone_place w f m owed la g = go (all_below w.config.endpoints (λ e. answered (w.part e) (owed e))) refl
   where
     go : (b : Bool) → all_below w.config.endpoints (λ e. answered (w.part e) (owed e)) ≡ b → (place w f ≡ Free) ⊎ (place w f ≡ Withheld)
@@ -267,11 +279,13 @@ gone_place w f m owed la g = go (all_below w.config.endpoints (λ e. answered (w
 withheld_gone : (w : World) (f : ℕ) → place w f ≡ Withheld → (m : ℕ) × (owed : ℕ → Owed) × (w.mappings.latest f ≡ Some m) × (w.mappings.state m ≡ Gone owed)
 withheld_gone w f h = go (w.mappings.latest f) refl h
   where
-    go : (o : Option ℕ) → w.mappings.latest f ≡ o → place_at w o ≡ Withheld → (m : ℕ) × (owed : ℕ → Owed) × (w.mappings.latest f ≡ Some m) × (w.mappings.state m ≡ Gone owed)
+    go : (o : Option ℕ) → w.mappings.latest f ≡ o → place_at w o ≡ Withheld → (m : ℕ) × (owed : ℕ → Owed) × (w.mappings.latest f ≡ Some m)
+        × (w.mappings.state m ≡ Gone owed)
     go None e h = absurd (cc)
     go (Some m) e h = by (w.mappings.state m) refl h
       where
-        by : (z : MappingState) → w.mappings.state m ≡ z → place_by w z ≡ Withheld → (k : ℕ) × (owed : ℕ → Owed) × (w.mappings.latest f ≡ Some k) × (w.mappings.state k ≡ Gone owed)
+        by : (z : MappingState) → w.mappings.state m ≡ z → place_by w z ≡ Withheld → (k : ℕ) × (owed : ℕ → Owed) × (w.mappings.latest f ≡ Some k)
+            × (w.mappings.state k ≡ Gone owed)
         by Unmade g h = absurd (cc)
         by Present g h = absurd (cc)
         by (Gone owed) g h = (m, owed, e, g)
@@ -279,13 +293,16 @@ withheld_gone w f h = go (w.mappings.latest f) refl h
 pub next_place : (w : World) (s : Step) (f : ℕ) → Invariant w → place w f ≡ Withheld → (place (next w s) f ≡ Free) ⊎ (place (next w s) f ≡ Withheld)
 next_place w s f i h = go (step_free w s f i) (withheld_gone w f h)
   where
-    go : ((next w s).mappings.latest f ≡ w.mappings.latest f) ⊎ (place w f ≡ Free) → (m : ℕ) × (owed : ℕ → Owed) × (w.mappings.latest f ≡ Some m) × (w.mappings.state m ≡ Gone owed) → (place (next w s) f ≡ Free) ⊎ (place (next w s) f ≡ Withheld)
+    go : ((next w s).mappings.latest f ≡ w.mappings.latest f) ⊎ (place w f ≡ Free) → (m : ℕ) × (owed : ℕ → Owed) × (w.mappings.latest f ≡ Some m)
+        × (w.mappings.state m ≡ Gone owed) → (place (next w s) f ≡ Free) ⊎ (place (next w s) f ≡ Withheld)
     go (inr x) y = absurd (cc)
     go (inl x) y = gone_place (next w s) f y.0 y.1 (x ∙ y.2) ((moves w s i).gone_on y.0 y.1 y.3)
 
-pub free_by : (rule : PasidRule) (c : Config) (steps : List Step) (step : Step) (f : ℕ) → IsWithheld rule c steps f → (IsWithheld rule c (steps ++ step ∷ []) f → ⊥) → place (world_after rule c (steps ++ step ∷ [])) f ≡ Free
+pub free_by : (rule : PasidRule) (c : Config) (steps : List Step) (step : Step) (f : ℕ) → IsWithheld rule c steps f
+    → (IsWithheld rule c (steps ++ step ∷ []) f → ⊥) → place (world_after rule c (steps ++ step ∷ [])) f ≡ Free
 free_by rule c steps step f was not_now = go (next_place (world_after rule c steps) step f (always rule c steps) (place_withheld rule c steps f was))
   where
-    go : (place (next (world_after rule c steps) step) f ≡ Free) ⊎ (place (next (world_after rule c steps) step) f ≡ Withheld) → place (world_after rule c (steps ++ step ∷ [])) f ≡ Free
+    go : (place (next (world_after rule c steps) step) f ≡ Free) ⊎ (place (next (world_after rule c steps) step) f ≡ Withheld)
+        → place (world_after rule c (steps ++ step ∷ [])) f ≡ Free
     go (inl x) = ap (λ w. place w f) (after_one rule c steps step) ∙ x
     go (inr x) = absurd (not_now (is_withheld rule c (steps ++ step ∷ []) f (ap (λ w. place w f) (after_one rule c steps step) ∙ x)))

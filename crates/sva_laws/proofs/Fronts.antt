@@ -37,23 +37,32 @@ pub record Fronts (cookies : ℕ) (p : Part) : Type 0 where
   pub given : p.waits_end ≤ cookies
   pub front_low : p.front ≤ p.waits_end
   -- what is at the front or behind it is queued, or void while the unit is in reset; what is below it is done or void
-  pub at_front : (k c : ℕ) (x : Bool) → k < p.orders → p.order k ≡ Wait c x → p.front ≤ c → (p.order_state k ≡ Queued) ⊎ ((p.order_state k ≡ Void) × (p.phase ≢ Open))
+  pub at_front : (k c : ℕ) (x : Bool) → k < p.orders → p.order k ≡ Wait c x → p.front ≤ c → (p.order_state k ≡ Queued)
+      ⊎ ((p.order_state k ≡ Void) × (p.phase ≢ Open))
   pub passed : (k c : ℕ) (x : Bool) → k < p.orders → p.order k ≡ Wait c x → c < p.front → (p.order_state k ≡ Done) ⊎ (p.order_state k ≡ Void)
   -- the wait of a binding isn't void by a reset that has ended
   pub draining : (b w c : ℕ) (x : Bool) → p.stage b ≡ Draining w → p.order w ≡ Wait c x → p.order_state w ≡ Void → p.front ≤ c
   pub invalidating : (b k w c : ℕ) (x : Bool) → p.stage b ≡ Invalidating k w → p.order w ≡ Wait c x → p.order_state w ≡ Void → p.front ≤ c
 
-rise_kept : (ms : Mappings) (g n cookies : ℕ) (p : Part) (o : Own) → LegalOwn ms g p o → HasCookie cookies o → p.waits_end ≤ cookies → (k j c d : ℕ) (x y : Bool) → (k < j → j < p.orders → p.order k ≡ Wait c x → p.order j ≡ Wait d y → c < d) → (k < p.orders → p.order k ≡ Wait c x → c < p.waits_end) → k < j → j < (own p n o).orders → (own p n o).order k ≡ Wait c x → (own p n o).order j ≡ Wait d y → c < d
+rise_kept : (ms : Mappings) (g n cookies : ℕ) (p : Part) (o : Own) → LegalOwn ms g p o → HasCookie cookies o → p.waits_end ≤ cookies
+    → (k j c d : ℕ) (x y : Bool) → (k < j → j < p.orders → p.order k ≡ Wait c x → p.order j ≡ Wait d y → c < d)
+    → (k < p.orders → p.order k ≡ Wait c x → c < p.waits_end) → k < j → j < (own p n o).orders → (own p n o).order k ≡ Wait c x → (own p n o).order j
+    ≡ Wait d y → c < d
 rise_kept ms g n cookies p o l hc given k j c d x y old below lt made h i = grind (arith, nat_tests)
 
-below_kept : (ms : Mappings) (g n cookies : ℕ) (p : Part) (o : Own) → LegalOwn ms g p o → HasCookie cookies o → p.waits_end ≤ cookies → (k c : ℕ) (x : Bool) → (k < p.orders → p.order k ≡ Wait c x → c < p.waits_end) → k < (own p n o).orders → (own p n o).order k ≡ Wait c x → c < (own p n o).waits_end
+below_kept : (ms : Mappings) (g n cookies : ℕ) (p : Part) (o : Own) → LegalOwn ms g p o → HasCookie cookies o → p.waits_end ≤ cookies
+    → (k c : ℕ) (x : Bool) → (k < p.orders → p.order k ≡ Wait c x → c < p.waits_end) → k < (own p n o).orders → (own p n o).order k ≡ Wait c x → c
+    < (own p n o).waits_end
 below_kept ms g n cookies p o l hc given k c x old made h = grind (arith, nat_tests)
 
-given_kept : (ms : Mappings) (g n cookies : ℕ) (p : Part) (o : Own) → LegalOwn ms g p o → HasCookie cookies o → p.waits_end ≤ cookies → (own p n o).waits_end ≤ cookies + cookies_of o
+given_kept : (ms : Mappings) (g n cookies : ℕ) (p : Part) (o : Own) → LegalOwn ms g p o → HasCookie cookies o → p.waits_end ≤ cookies
+    → (own p n o).waits_end ≤ cookies + cookies_of o
 given_kept ms g n cookies p o l hc given = grind (arith, nat_tests)
 
 -- one more than the cookie of the wait that is passed is within the end
-front_low_kept : (ms : Mappings) (g n cookies : ℕ) (p : Part) (o : Own) → LegalOwn ms g p o → HasCookie cookies o → Bounds g p → p.waits_end ≤ cookies → ((k c : ℕ) (x : Bool) → k < p.orders → p.order k ≡ Wait c x → c < p.waits_end) → p.front ≤ p.waits_end → (own p n o).front ≤ (own p n o).waits_end
+front_low_kept : (ms : Mappings) (g n cookies : ℕ) (p : Part) (o : Own) → LegalOwn ms g p o → HasCookie cookies o → Bounds g p → p.waits_end
+    ≤ cookies → ((k c : ℕ) (x : Bool) → k < p.orders → p.order k ≡ Wait c x → c < p.waits_end) → p.front ≤ p.waits_end → (own p n o).front
+    ≤ (own p n o).waits_end
 front_low_kept ms g n cookies p (Own.Pass k) l hc bo given below low = go (p.order k) refl l.2
   where
     made : k < p.orders
@@ -79,13 +88,16 @@ record IsFirst (p : Part) (j d : ℕ) (y : Bool) : Type 0 where
   made : j < p.orders
   cookie : p.order j ≡ Wait d y
 
-at_front_of : (cookies : ℕ) (p : Part) → Fronts cookies p → p.phase ≡ Open → (k c : ℕ) (x : Bool) → k < p.orders → p.order k ≡ Wait c x → p.front ≤ c → p.order_state k ≡ Queued
+at_front_of : (cookies : ℕ) (p : Part) → Fronts cookies p → p.phase ≡ Open → (k c : ℕ) (x : Bool) → k < p.orders → p.order k ≡ Wait c x → p.front ≤ c
+    → p.order_state k ≡ Queued
 at_front_of cookies p f ph k c x made h a = elim (f.at_front k c x made h a) [ inl q ↦ q | inr v ↦ absurd (v.1 ph) ]
 
 not_passed : (cookies : ℕ) (p : Part) (j d : ℕ) (y : Bool) → Fronts cookies p → IsFirst p j d y → p.front ≤ d
-not_passed cookies p j d y f is = elim (less_or_not d p.front) [ inl l ↦ absurd (is_queued (p.order_state j) is.queued (f.passed j d y is.made is.cookie l)) | inr m ↦ m ]
+not_passed cookies p j d y f is =
+    elim (less_or_not d p.front) [ inl l ↦ absurd (is_queued (p.order_state j) is.queued (f.passed j d y is.made is.cookie l)) | inr m ↦ m ]
 
-pass_at : (cookies : ℕ) (p : Part) (j d : ℕ) (y : Bool) → Fronts cookies p → IsFirst p j d y → (k c : ℕ) (x : Bool) → k < p.orders → p.order k ≡ Wait c x → d < c → put p.order_state j Done k ≡ Queued
+pass_at : (cookies : ℕ) (p : Part) (j d : ℕ) (y : Bool) → Fronts cookies p → IsFirst p j d y → (k c : ℕ) (x : Bool) → k < p.orders → p.order k
+    ≡ Wait c x → d < c → put p.order_state j Done k ≡ Queued
 pass_at cookies p j d y f is k c x made h lt = go (ℕ_cases k j) (less_or_not k j)
   where
     go : (k ≡ j) ⊎ (k ≢ j) → (k < j) ⊎ (j ≤ k) → put p.order_state j Done k ≡ Queued
@@ -95,7 +107,8 @@ pass_at cookies p j d y f is k c x made h lt = go (ℕ_cases k j) (less_or_not k
         let low = not_passed cookies p j d y f is in
         put-other p.order_state j Done k ne ∙ at_front_of cookies p f is.opened k c x made h (omega (arith, low, lt))
 
-pass_below : (cookies : ℕ) (p : Part) (j d : ℕ) (y : Bool) → Fronts cookies p → IsFirst p j d y → (k c : ℕ) (x : Bool) → k < p.orders → p.order k ≡ Wait c x → c ≤ d → (put p.order_state j Done k ≡ Done) ⊎ (put p.order_state j Done k ≡ Void)
+pass_below : (cookies : ℕ) (p : Part) (j d : ℕ) (y : Bool) → Fronts cookies p → IsFirst p j d y → (k c : ℕ) (x : Bool) → k < p.orders → p.order k
+    ≡ Wait c x → c ≤ d → (put p.order_state j Done k ≡ Done) ⊎ (put p.order_state j Done k ≡ Void)
 pass_below cookies p j d y f is k c x made h le = go (ℕ_cases k j) (less_or_not k j)
   where
     before : p.order_state k ≢ Queued → (p.front ≤ c) ⊎ (c < p.front) → (p.order_state k ≡ Done) ⊎ (p.order_state k ≡ Void)
@@ -120,7 +133,8 @@ passes (Own.Pass k) = true
 passes _ = false
 
 -- what a pump that passes a wait has tested
-first_wait : (ms : Mappings) (g n : ℕ) (p : Part) (j : ℕ) → LegalOwn ms g p (Own.Pass j) → Bounds g p → (o : Order) → p.order j ≡ o → is_wait o ≡ true → (d : ℕ) × (y : Bool) × (end_of o ≡ suc d) × IsFirst p j d y
+first_wait : (ms : Mappings) (g n : ℕ) (p : Part) (j : ℕ) → LegalOwn ms g p (Own.Pass j) → Bounds g p → (o : Order) → p.order j ≡ o → is_wait o
+    ≡ true → (d : ℕ) × (y : Bool) × (end_of o ≡ suc d) × IsFirst p j d y
 first_wait ms g n p j l bo (Wait d y) e w = (d, y, refl, record { opened = l.0; queued = l.1; first = l.3; made = made; cookie = e })
   where
     made : j < p.orders
@@ -128,21 +142,36 @@ first_wait ms g n p j l bo (Wait d y) e w = (d, y, refl, record { opened = l.0; 
 first_wait ms g n p j l bo (RangeOf b r) e w = absurd (cc (w))
 first_wait ms g n p j l bo (PasidOf b) e w = absurd (cc (w))
 
-other_front : (ms : Mappings) (g n cookies : ℕ) (p : Part) (o : Own) → LegalOwn ms g p o → passes o ≡ false → HasCookie cookies o → SentOnly p → (k c : ℕ) (x : Bool) → (is_busy (p.order_state k) ≡ true → is_wait (p.order k) ≡ false) → (k < p.orders → p.order k ≡ Wait c x → c < p.waits_end) → (k < p.orders → p.order k ≡ Wait c x → p.front ≤ c → (p.order_state k ≡ Queued) ⊎ ((p.order_state k ≡ Void) × (p.phase ≢ Open))) → k < (own p n o).orders → (own p n o).order k ≡ Wait c x → (own p n o).front ≤ c → ((own p n o).order_state k ≡ Queued) ⊎ (((own p n o).order_state k ≡ Void) × ((own p n o).phase ≢ Open))
+other_front : (ms : Mappings) (g n cookies : ℕ) (p : Part) (o : Own) → LegalOwn ms g p o → passes o ≡ false → HasCookie cookies o → SentOnly p
+    → (k c : ℕ) (x : Bool) → (is_busy (p.order_state k) ≡ true → is_wait (p.order k) ≡ false)
+    → (k < p.orders → p.order k ≡ Wait c x → c < p.waits_end)
+    → (k < p.orders → p.order k ≡ Wait c x → p.front ≤ c → (p.order_state k ≡ Queued) ⊎ ((p.order_state k ≡ Void) × (p.phase ≢ Open))) → k
+    < (own p n o).orders → (own p n o).order k ≡ Wait c x → (own p n o).front ≤ c → ((own p n o).order_state k ≡ Queued)
+    ⊎ (((own p n o).order_state k ≡ Void) × ((own p n o).phase ≢ Open))
 other_front ms g n cookies p o l np hc sent k c x nw below old made h f = grind (arith, nat_tests)
 
-other_passed : (ms : Mappings) (g n cookies : ℕ) (p : Part) (o : Own) → LegalOwn ms g p o → passes o ≡ false → HasCookie cookies o → SentOnly p → (k c : ℕ) (x : Bool) → (is_busy (p.order_state k) ≡ true → is_wait (p.order k) ≡ false) → p.waits_end ≤ cookies → p.front ≤ p.waits_end → (k < p.orders → p.order k ≡ Wait c x → p.front ≤ c → (p.order_state k ≡ Queued) ⊎ ((p.order_state k ≡ Void) × (p.phase ≢ Open))) → (k < p.orders → p.order k ≡ Wait c x → c < p.front → (p.order_state k ≡ Done) ⊎ (p.order_state k ≡ Void)) → k < (own p n o).orders → (own p n o).order k ≡ Wait c x → c < (own p n o).front → ((own p n o).order_state k ≡ Done) ⊎ ((own p n o).order_state k ≡ Void)
+other_passed : (ms : Mappings) (g n cookies : ℕ) (p : Part) (o : Own) → LegalOwn ms g p o → passes o ≡ false → HasCookie cookies o → SentOnly p
+    → (k c : ℕ) (x : Bool) → (is_busy (p.order_state k) ≡ true → is_wait (p.order k) ≡ false) → p.waits_end ≤ cookies → p.front ≤ p.waits_end
+    → (k < p.orders → p.order k ≡ Wait c x → p.front ≤ c → (p.order_state k ≡ Queued) ⊎ ((p.order_state k ≡ Void) × (p.phase ≢ Open)))
+    → (k < p.orders → p.order k ≡ Wait c x → c < p.front → (p.order_state k ≡ Done) ⊎ (p.order_state k ≡ Void)) → k < (own p n o).orders
+    → (own p n o).order k ≡ Wait c x → c < (own p n o).front → ((own p n o).order_state k ≡ Done) ⊎ ((own p n o).order_state k ≡ Void)
 other_passed ms g n cookies p o l np hc sent k c x nw given low at old made h f = grind (arith, nat_tests, at, old)
 
-at_front_kept : (ms : Mappings) (g n cookies : ℕ) (p : Part) (o : Own) (b : Bool) → passes o ≡ b → LegalOwn ms g p o → HasCookie cookies o → Bounds g p → SentOnly p → Orders p → Fronts cookies p → (k c : ℕ) (x : Bool) → k < (own p n o).orders → (own p n o).order k ≡ Wait c x → (own p n o).front ≤ c → ((own p n o).order_state k ≡ Queued) ⊎ (((own p n o).order_state k ≡ Void) × ((own p n o).phase ≢ Open))
-at_front_kept ms g n cookies p o false e l hc bo sent or f k c x = other_front ms g n cookies p o l e hc sent k c x (or.no_wait k) (f.below k c x) (f.at_front k c x)
+at_front_kept : (ms : Mappings) (g n cookies : ℕ) (p : Part) (o : Own) (b : Bool) → passes o ≡ b → LegalOwn ms g p o → HasCookie cookies o
+    → Bounds g p → SentOnly p → Orders p → Fronts cookies p → (k c : ℕ) (x : Bool) → k < (own p n o).orders → (own p n o).order k ≡ Wait c x
+    → (own p n o).front ≤ c → ((own p n o).order_state k ≡ Queued) ⊎ (((own p n o).order_state k ≡ Void) × ((own p n o).phase ≢ Open))
+at_front_kept ms g n cookies p o false e l hc bo sent or f k c x =
+    other_front ms g n cookies p o l e hc sent k c x (or.no_wait k) (f.below k c x) (f.at_front k c x)
 at_front_kept ms g n cookies p (Own.Pass j) true e l hc bo sent or f k c x =
     let w = first_wait ms g n p j l bo (p.order j) refl l.2 in
     λ made h a. let is = w.2 in inl (pass_at cookies p j w.0 w.1 f w.3 k c x made h (omega (arith, is, a)))
 at_front_kept ms g n cookies p o true e l hc bo sent or f k c x = absurd (grind arith)
 
-passed_kept : (ms : Mappings) (g n cookies : ℕ) (p : Part) (o : Own) (b : Bool) → passes o ≡ b → LegalOwn ms g p o → HasCookie cookies o → Bounds g p → SentOnly p → Orders p → Fronts cookies p → (k c : ℕ) (x : Bool) → k < (own p n o).orders → (own p n o).order k ≡ Wait c x → c < (own p n o).front → ((own p n o).order_state k ≡ Done) ⊎ ((own p n o).order_state k ≡ Void)
-passed_kept ms g n cookies p o false e l hc bo sent or f k c x = other_passed ms g n cookies p o l e hc sent k c x (or.no_wait k) f.given f.front_low (f.at_front k c x) (f.passed k c x)
+passed_kept : (ms : Mappings) (g n cookies : ℕ) (p : Part) (o : Own) (b : Bool) → passes o ≡ b → LegalOwn ms g p o → HasCookie cookies o → Bounds g p
+    → SentOnly p → Orders p → Fronts cookies p → (k c : ℕ) (x : Bool) → k < (own p n o).orders → (own p n o).order k ≡ Wait c x → c
+    < (own p n o).front → ((own p n o).order_state k ≡ Done) ⊎ ((own p n o).order_state k ≡ Void)
+passed_kept ms g n cookies p o false e l hc bo sent or f k c x =
+    other_passed ms g n cookies p o l e hc sent k c x (or.no_wait k) f.given f.front_low (f.at_front k c x) (f.passed k c x)
 passed_kept ms g n cookies p (Own.Pass j) true e l hc bo sent or f k c x =
     let w = first_wait ms g n p j l bo (p.order j) refl l.2 in
     λ made h a. let is = w.2 in pass_below cookies p j w.0 w.1 f w.3 k c x made h (omega (arith, is, a))
@@ -163,19 +192,30 @@ more_orders p n o = grind (arith, nat_tests)
 
 greatest_kept : (p : Part) (n : ℕ) (o : Own) (b : Bool) → submits_wait o ≡ b → HasGreatest p → HasGreatest (own p n o)
 greatest_kept p n o false e (inl h) = inl (same_end p n o e ∙ h)
-greatest_kept p n o false e (inr (k, c, x, made, h, i)) = let m = more_orders p n o in inr (k, c, x, omega (arith, made, m), own_old p n o k made ∙ h, same_end p n o e ∙ i)
+greatest_kept p n o false e (inr (k, c, x, made, h, i)) = let m =
+    more_orders p n o in inr (k, c, x, omega (arith, made, m), own_old p n o k made ∙ h, same_end p n o e ∙ i)
 greatest_kept p n (Own.Drain b cookie) true e h = inr (p.orders, cookie, true, omega arith, put-same p.order p.orders (Wait cookie true), refl)
-greatest_kept p n (Own.Invalidate b cookie) true e h = inr (suc p.orders, cookie, false, omega arith, put-same (put p.order p.orders (PasidOf b)) (suc p.orders) (Wait cookie false), refl)
+greatest_kept p n (Own.Invalidate b cookie) true e h =
+    inr (suc p.orders, cookie, false, omega arith, put-same (put p.order p.orders (PasidOf b)) (suc p.orders) (Wait cookie false), refl)
 greatest_kept p n o true e h = absurd (grind arith)
 
 -- no wait that a binding waits for is void at an open unit; what a Reset makes void was queued
-draining_kept : (ms : Mappings) (g n cookies : ℕ) (p : Part) (o : Own) → LegalOwn ms g p o → SentOnly p → (b w c : ℕ) (x : Bool) → (p.stage b ≡ Draining w → w < p.orders) → (p.stage b ≡ Draining w → p.phase ≡ Open → is_queued_or_done (p.order_state w) ≡ true) → (w < p.orders → p.order w ≡ Wait c x → c < p.front → (p.order_state w ≡ Done) ⊎ (p.order_state w ≡ Void)) → (p.stage b ≡ Draining w → p.order w ≡ Wait c x → p.order_state w ≡ Void → p.front ≤ c) → (own p n o).stage b ≡ Draining w → (own p n o).order w ≡ Wait c x → (own p n o).order_state w ≡ Void → (own p n o).front ≤ c
+draining_kept : (ms : Mappings) (g n cookies : ℕ) (p : Part) (o : Own) → LegalOwn ms g p o → SentOnly p → (b w c : ℕ) (x : Bool)
+    → (p.stage b ≡ Draining w → w < p.orders) → (p.stage b ≡ Draining w → p.phase ≡ Open → is_queued_or_done (p.order_state w) ≡ true)
+    → (w < p.orders → p.order w ≡ Wait c x → c < p.front → (p.order_state w ≡ Done) ⊎ (p.order_state w ≡ Void))
+    → (p.stage b ≡ Draining w → p.order w ≡ Wait c x → p.order_state w ≡ Void → p.front ≤ c) → (own p n o).stage b ≡ Draining w → (own p n o).order w
+    ≡ Wait c x → (own p n o).order_state w ≡ Void → (own p n o).front ≤ c
 draining_kept ms g n cookies p o l sent b w c x made state passed old h i v = grind (arith, nat_tests)
 
-invalidating_kept : (ms : Mappings) (g n cookies : ℕ) (p : Part) (o : Own) → LegalOwn ms g p o → SentOnly p → (b k w c : ℕ) (x : Bool) → (p.stage b ≡ Invalidating k w → w < p.orders) → (p.stage b ≡ Invalidating k w → p.phase ≡ Open → is_queued_or_done (p.order_state w) ≡ true) → (w < p.orders → p.order w ≡ Wait c x → c < p.front → (p.order_state w ≡ Done) ⊎ (p.order_state w ≡ Void)) → (p.stage b ≡ Invalidating k w → p.order w ≡ Wait c x → p.order_state w ≡ Void → p.front ≤ c) → (own p n o).stage b ≡ Invalidating k w → (own p n o).order w ≡ Wait c x → (own p n o).order_state w ≡ Void → (own p n o).front ≤ c
+invalidating_kept : (ms : Mappings) (g n cookies : ℕ) (p : Part) (o : Own) → LegalOwn ms g p o → SentOnly p → (b k w c : ℕ) (x : Bool)
+    → (p.stage b ≡ Invalidating k w → w < p.orders) → (p.stage b ≡ Invalidating k w → p.phase ≡ Open → is_queued_or_done (p.order_state w) ≡ true)
+    → (w < p.orders → p.order w ≡ Wait c x → c < p.front → (p.order_state w ≡ Done) ⊎ (p.order_state w ≡ Void))
+    → (p.stage b ≡ Invalidating k w → p.order w ≡ Wait c x → p.order_state w ≡ Void → p.front ≤ c) → (own p n o).stage b ≡ Invalidating k w
+    → (own p n o).order w ≡ Wait c x → (own p n o).order_state w ≡ Void → (own p n o).front ≤ c
 invalidating_kept ms g n cookies p o l sent b k w c x made state passed old h i v = grind (arith, nat_tests)
 
-pub every : (ms : Mappings) (g n cookies : ℕ) (p : Part) (o : Own) → LegalOwn ms g p o → HasCookie cookies o → Bounds g p → Labels p → Orders p → Fronts cookies p → Fronts (cookies + cookies_of o) (own p n o)
+pub every : (ms : Mappings) (g n cookies : ℕ) (p : Part) (o : Own) → LegalOwn ms g p o → HasCookie cookies o → Bounds g p → Labels p → Orders p
+    → Fronts cookies p → Fronts (cookies + cookies_of o) (own p n o)
 every ms g n cookies p o l hc bo la or f =
     record {
       rise = λ k j c d x y. rise_kept ms g n cookies p o l hc f.given k j c d x y (f.rise k j c d x y) (f.below k c x);
@@ -185,23 +225,44 @@ every ms g n cookies p o l hc bo la or f =
       at_front = λ k c x. at_front_kept ms g n cookies p o (passes o) refl l hc bo la.sent or f k c x;
       passed = λ k c x. passed_kept ms g n cookies p o (passes o) refl l hc bo la.sent or f k c x;
       greatest = greatest_kept p n o (submits_wait o) refl f.greatest;
-      draining = λ b w c x. draining_kept ms g n cookies p o l la.sent b w c x (λ h. (or.draining b w h).1) (or.draining_state b w) (f.passed w c x) (f.draining b w c x);
-      invalidating = λ b k w c x. invalidating_kept ms g n cookies p o l la.sent b k w c x (λ h. (or.invalidating b k w h).3) (or.invalidating_state b k w) (f.passed w c x) (f.invalidating b k w c x);
+      draining = λ b w c x. draining_kept ms g n cookies p o l la.sent b w c x (λ h. (or.draining b w h).1) (or.draining_state b w) (f.passed w c x)
+          (f.draining b w c x);
+      invalidating = λ b k w c x. invalidating_kept ms g n cookies p o l la.sent b k w c x (λ h. (or.invalidating b k w h).3)
+          (or.invalidating_state b k w) (f.passed w c x) (f.invalidating b k w c x);
     }
 
 -- more cookies given out to other units
 more_cookies : (n m : ℕ) (p : Part) → n ≤ m → Fronts n p → Fronts m p
 more_cookies n m p l f =
-    record { rise = f.rise; below = f.below; greatest = f.greatest; given = let z = f.given in omega (arith, l, z); front_low = f.front_low; at_front = f.at_front; passed = f.passed; draining = f.draining; invalidating = f.invalidating }
+    record {
+      rise = f.rise;
+      below = f.below;
+      greatest = f.greatest;
+      given = let z = f.given in omega (arith, l, z);
+      front_low =
+          f.front_low;
+      at_front = f.at_front;
+      passed = f.passed;
+      draining = f.draining;
+      invalidating = f.invalidating;
+    }
 
 -- the unit gets ranges and a wait with a cookie that is above all before
-submitted_fronts : (g m : ℕ) (p : Part) (b q count order cookie : ℕ) → p.waits_end ≤ cookie → cookie < m → Bounds g p → Orders p → Fronts cookie p → Fronts m (submitted p b q count order cookie)
+submitted_fronts : (g m : ℕ) (p : Part) (b q count order cookie : ℕ) → p.waits_end ≤ cookie → cookie < m → Bounds g p → Orders p → Fronts cookie p
+    → Fronts m (submitted p b q count order cookie)
 submitted_fronts g m p b q count order cookie low high bo or f =
     record {
       rise = λ k j c d x y lt made h i. rise k j c d x y lt made h i;
       below = λ k c x made h. below k c x made h;
       given = omega (arith, high);
-      greatest = inr (p.orders + count, cookie, false, omega arith, put-same (put_range p.order p.orders count (λ j. RangeOf b (range_at q order j))) (p.orders + count) (Wait cookie false), refl);
+      greatest = inr (
+        p.orders + count,
+        cookie,
+        false,
+        omega arith,
+        put-same (put_range p.order p.orders count (λ j. RangeOf b (range_at q order j))) (p.orders + count) (Wait cookie false),
+        refl,
+      );
       front_low = let z = f.front_low in omega (arith, z, low);
       at_front = λ k c x made h i. at_front k c x made h i;
       passed = λ k c x made h i. passed k c x made h i;
@@ -209,28 +270,34 @@ submitted_fronts g m p b q count order cookie low high bo or f =
       invalidating = λ d k w c x h i v. invalidating d k w c x h i v;
     }
   where
-    rise : (k j c d : ℕ) (x y : Bool) → k < j → j < p.orders + suc count → (submitted p b q count order cookie).order k ≡ Wait c x → (submitted p b q count order cookie).order j ≡ Wait d y → c < d
+    rise : (k j c d : ℕ) (x y : Bool) → k < j → j < p.orders + suc count → (submitted p b q count order cookie).order k ≡ Wait c x
+        → (submitted p b q count order cookie).order j ≡ Wait d y → c < d
     rise k j c d x y lt made h i = grind (arith, nat_tests, f.rise k j c d x y lt, f.below k c x, low)
 
     below : (k c : ℕ) (x : Bool) → k < p.orders + suc count → (submitted p b q count order cookie).order k ≡ Wait c x → c < suc cookie
     below k c x made h = grind (arith, nat_tests, f.below k c x, low)
 
-    at_front : (k c : ℕ) (x : Bool) → k < p.orders + suc count → (submitted p b q count order cookie).order k ≡ Wait c x → p.front ≤ c → ((submitted p b q count order cookie).order_state k ≡ Queued) ⊎ (((submitted p b q count order cookie).order_state k ≡ Void) × (p.phase ≢ Open))
+    at_front : (k c : ℕ) (x : Bool) → k < p.orders + suc count → (submitted p b q count order cookie).order k ≡ Wait c x → p.front ≤ c
+        → ((submitted p b q count order cookie).order_state k ≡ Queued) ⊎ (((submitted p b q count order cookie).order_state k ≡ Void) × (p.phase ≢ Open))
     at_front k c x made h i = grind (arith, nat_tests, f.at_front k c x)
 
-    passed : (k c : ℕ) (x : Bool) → k < p.orders + suc count → (submitted p b q count order cookie).order k ≡ Wait c x → c < p.front → ((submitted p b q count order cookie).order_state k ≡ Done) ⊎ ((submitted p b q count order cookie).order_state k ≡ Void)
+    passed : (k c : ℕ) (x : Bool) → k < p.orders + suc count → (submitted p b q count order cookie).order k ≡ Wait c x → c < p.front
+        → ((submitted p b q count order cookie).order_state k ≡ Done) ⊎ ((submitted p b q count order cookie).order_state k ≡ Void)
     passed k c x made h i = grind (arith, nat_tests, f.passed k c x, f.front_low, low)
 
-    draining : (d w c : ℕ) (x : Bool) → p.stage d ≡ Draining w → (submitted p b q count order cookie).order w ≡ Wait c x → (submitted p b q count order cookie).order_state w ≡ Void → p.front ≤ c
+    draining : (d w c : ℕ) (x : Bool) → p.stage d ≡ Draining w → (submitted p b q count order cookie).order w ≡ Wait c x
+        → (submitted p b q count order cookie).order_state w ≡ Void → p.front ≤ c
     draining d w c x h i v = grind (arith, nat_tests, f.draining d w c x, or.draining d w)
 
-    invalidating : (d k w c : ℕ) (x : Bool) → p.stage d ≡ Invalidating k w → (submitted p b q count order cookie).order w ≡ Wait c x → (submitted p b q count order cookie).order_state w ≡ Void → p.front ≤ c
+    invalidating : (d k w c : ℕ) (x : Bool) → p.stage d ≡ Invalidating k w → (submitted p b q count order cookie).order w ≡ Wait c x
+        → (submitted p b q count order cookie).order_state w ≡ Void → p.front ≤ c
     invalidating d k w c x h i v = grind (arith, nat_tests, f.invalidating d k w c x, or.invalidating d k w)
 
 abbrev pub AllFronts : World → Type 0
 AllFronts w = (e : ℕ) → Fronts w.cookies (w.part e)
 
-unmapped_fronts : (g n m : ℕ) (t : Bool) (p : Part) (o : Option ℕ) (q count order cookie : ℕ) → n ≤ cookie → n ≤ m → (t ≡ true → cookie < m) → Bounds g p → Orders p → Fronts n p → Fronts m (submitted_if t p o q count order cookie)
+unmapped_fronts : (g n m : ℕ) (t : Bool) (p : Part) (o : Option ℕ) (q count order cookie : ℕ) → n ≤ cookie → n ≤ m → (t ≡ true → cookie < m)
+    → Bounds g p → Orders p → Fronts n p → Fronts m (submitted_if t p o q count order cookie)
 unmapped_fronts g n m true p (Some b) q count order cookie low more high bo or f =
     submitted_fronts g m p b q count order cookie (let z = f.given in omega (arith, z, low)) (high refl) bo or (more_cookies n cookie p low f)
 unmapped_fronts g n m true p None q count order cookie low more high bo or f = more_cookies n m p more f
@@ -247,7 +314,8 @@ act_fronts w (DropSpace s) l i h = h
 act_fronts w (Map s q f x) l i h = h
 act_fronts w (Unmap s q count order) l i h =
     λ e.
-    unmapped_fronts w.bindings w.cookies (w.cookies + count_below w.config.endpoints (submits w s)) (submits w s e) (w.part e) (bound w e s) q count order (cookie_of w s e)
+    unmapped_fronts w.bindings w.cookies (w.cookies + count_below w.config.endpoints (submits w s)) (submits w s e) (w.part e) (bound w e s) q count
+    order (cookie_of w s e)
     (omega arith) (omega arith)
     (λ t. let z = count_strict e w.config.endpoints (submits w s) (submits_there w s e i t) t in omega (arith, z))
     (i.parts e).bounds (i.parts e).orders (h e)
@@ -257,7 +325,8 @@ act_fronts w (Hold x j) l i h = h
 act_fronts w (LetGo x) l i h = h
 act_fronts w (At e o) l i h =
     put_keeps (λ k p. Fronts (w.cookies + cookies_of o) p) w.part e (own (w.part e) w.messages o)
-    (every w.mappings w.bindings w.messages w.cookies (w.part e) o l.1.0 (suits_cookie w e o l.1.1) (i.parts e).bounds (i.parts e).labels (i.parts e).orders (h e))
+    (every w.mappings w.bindings w.messages w.cookies (w.part e) o l.1.0 (suits_cookie w e o l.1.1) (i.parts e).bounds (i.parts e).labels
+    (i.parts e).orders (h e))
     (λ d. more_cookies w.cookies (w.cookies + cookies_of o) (w.part d) (omega arith) (h d))
 
 pub acts_fronts : (acts : List Act) (w : World) → LegalAll w acts → Invariant w → AllFronts w → AllFronts (after_acts w acts)

@@ -43,11 +43,13 @@ pub record Mapped (w : World) : Type 0 where
   pub unmade : (m : ℕ) → w.mappings.made ≤ m → w.mappings.state m ≡ Unmade
   pub made : (m : ℕ) → m < w.mappings.made → w.mappings.state m ≢ Unmade
   pub present_at : (m : ℕ) → w.mappings.state m ≡ Present → w.mappings.at (w.mappings.space m) (w.mappings.page m) ≡ Some m
-  pub at_present : (s q m : ℕ) → w.mappings.at s q ≡ Some m → (w.mappings.state m ≡ Present) × (w.mappings.space m ≡ s) × (w.mappings.page m ≡ q) × (w.is_live s ≡ true)
+  pub at_present : (s q m : ℕ) → w.mappings.at s q ≡ Some m → (w.mappings.state m ≡ Present) × (w.mappings.space m ≡ s) × (w.mappings.page m ≡ q)
+      × (w.is_live s ≡ true)
   pub latest : (m : ℕ) → w.mappings.state m ≡ Present → w.mappings.latest (w.mappings.frame m) ≡ Some m
   pub named : (f m : ℕ) → w.mappings.latest f ≡ Some m → (w.mappings.frame m ≡ f) × (m < w.mappings.made)
   pub low : (m : ℕ) → m < w.mappings.made → w.mappings.frame m < w.config.frames
-  pub passed : (m : ℕ) (owed : ℕ → Owed) (e : ℕ) → w.mappings.state m ≡ Gone owed → e < w.config.endpoints → (w.mappings.latest (w.mappings.frame m) ≡ Some m) ⊎ (answered (w.part e) (owed e) ≡ true)
+  pub passed : (m : ℕ) (owed : ℕ → Owed) (e : ℕ) → w.mappings.state m ≡ Gone owed → e < w.config.endpoints
+      → (w.mappings.latest (w.mappings.frame m) ≡ Some m) ⊎ (answered (w.part e) (owed e) ≡ true)
   pub live : (s : ℕ) → w.is_live s ≡ true → s < w.spaces
   pub bound_live : (e b : ℕ) → is_unreleased ((w.part e).stage b) ≡ true → w.is_live ((w.part e).space b) ≡ true
 
@@ -78,7 +80,8 @@ pub presents : (w : World) → Mapped w → (s q m : ℕ) → w.mappings.at s q 
 presents w ma s q m h = (ma.at_present s q m h).0
 
 -- an act of an endpoint keeps what holds of it
-pub own_keeps : (ms : Mappings) (x g n e : ℕ) (p : Part) (o : Own) → e < x → LegalOwn ms g p o → Owners.Leads ms → ((s q m : ℕ) → ms.at s q ≡ Some m → ms.state m ≡ Present) → PartInvariant ms x g n e p → PartInvariant ms x g (n + sends o) e (own p n o)
+pub own_keeps : (ms : Mappings) (x g n e : ℕ) (p : Part) (o : Own) → e < x → LegalOwn ms g p o → Owners.Leads ms
+    → ((s q m : ℕ) → ms.at s q ≡ Some m → ms.state m ≡ Present) → PartInvariant ms x g n e p → PartInvariant ms x g (n + sends o) e (own p n o)
 own_keeps ms x g n e p o h l le pr i =
     record {
       there = λ b u. h;

@@ -16,13 +16,16 @@ use Rattle.sva_model.specs.State.HostGroupState.{NotFiled, PartFiled, Job, InHan
 use Rattle.sva_model.specs.State.Stage.{Unbound, Live, Stopping, Draining, Invalidating, Quiet, Lost, Released}
 use Rattle.sva_model.specs.State.Order.{RangeOf, PasidOf, Wait}
 use Rattle.sva_model.specs.State.RequestState.{Out, Doomed, Over}
-use Rattle.sva_model.specs.State.About.{StartOf, StopOf, ResetOrder, CompletionOf, InvalidateOf, ResponseOf, RequestOf, InvalidatedOf, PageRequestOf, MarkerOf, ResetDone}
+use Rattle.sva_model.specs.State.About.{StartOf, StopOf, ResetOrder, CompletionOf, InvalidateOf, ResponseOf, RequestOf, InvalidatedOf, PageRequestOf}
+use Rattle.sva_model.specs.State.About.{MarkerOf, ResetDone}
 use Rattle.sva_model.specs.Acts.{Act, Own, act, own, submitted_if, submits, bound, cookie_of, filed_as}
 use Rattle.sva_model.specs.Acts.Act.{NewSpace, DropSpace, Map, Unmap, NewBinding, NewJob, Hold, LetGo, At}
 use Rattle.sva_model.specs.Labels
 use Rattle.sva_model.specs.Refusals.{Cause, refusals}
 use Rattle.sva_model.specs.Replies.{maps_to, reply_maps, replies_success, newly_mapped, free_list, is_write_asked, job_space, response_to}
-use Rattle.sva_model.specs.Outcomes.{Outcome, outcome, unbind_outcome, advance_outcome, pump_outcome, head_outcome, wait_outcome, send_outcome, may_pass, serve_outcome, file_outcome, take_outcome, reply_outcome, fault_outcome, about_outcome, deliver_outcome, completion_outcome, keep_outcome, is_full, request_outcome, count_outcome, page_request_outcome, marker_outcome}
+use Rattle.sva_model.specs.Outcomes.{Outcome, outcome, unbind_outcome, advance_outcome, pump_outcome, head_outcome, wait_outcome, send_outcome, may_pass}
+use Rattle.sva_model.specs.Outcomes.{serve_outcome, file_outcome, take_outcome, reply_outcome, fault_outcome, about_outcome, deliver_outcome}
+use Rattle.sva_model.specs.Outcomes.{completion_outcome, keep_outcome, is_full, request_outcome, count_outcome, page_request_outcome, marker_outcome}
 use Rattle.sva_model.specs.States.{is_open, is_outstanding}
 use Rattle.sva_model.specs.Steps.{checked, decide, next, run, after_acts, world_after}
 use Rattle.sva_laws.proofs.Words.{put-same, put-other, ℕ_cases, none_is, some_the, not_true}
@@ -97,7 +100,8 @@ act_calm w (Hold x j) c h = absurd c
 act_calm w (LetGo x) c h = absurd c
 act_calm w (At e o) c h =
     still_jobs w.jobs w.job w.hand (λ d. (w.part d).host_group) (λ d. ((act w (At e o)).part d).host_group)
-    (put_keeps (λ d p. Still (w.part d).host_group p.host_group) w.part e (own (w.part e) w.messages o) (own_still w.messages (w.part e) o (true_is (is_calm_own o) c)) (λ d. unchanged (w.part d).host_group))
+    (put_keeps (λ d p. Still (w.part d).host_group p.host_group) w.part e (own (w.part e) w.messages o)
+    (own_still w.messages (w.part e) o (true_is (is_calm_own o) c)) (λ d. unchanged (w.part d).host_group))
     h
 
 acts_calm : (acts : List Act) (w : World) → AreCalm acts → JobsOf w → JobsOf (after_acts w acts)
@@ -108,7 +112,8 @@ acts_calm (a ∷ acts) w c h = acts_calm acts (act w a) c.1 (act_calm w a c.0 h)
 at_group : (part : ℕ → Part) (e : ℕ) (p : Part) (g : ℕ) (s : HostGroupState) → p.host_group ≡ put (part e).host_group g s → (put part e p e).host_group g ≡ s
 at_group part e p g s i = ap (λ z. z.host_group g) (put-same part e p) ∙ ap (λ z. z g) i ∙ put-same (part e).host_group g s
 
-others : (part : ℕ → Part) (e : ℕ) (p : Part) (g : ℕ) (s : HostGroupState) → p.host_group ≡ put (part e).host_group g s → Others (λ d. (part d).host_group) (λ d. (put part e p d).host_group) e g
+others : (part : ℕ → Part) (e : ℕ) (p : Part) (g : ℕ) (s : HostGroupState) → p.host_group ≡ put (part e).host_group g s
+    → Others (λ d. (part d).host_group) (λ d. (put part e p d).host_group) e g
 others part e p g s i d f ne = go (ℕ_cases d e) ne
   where
     go : (d ≡ e) ⊎ (d ≢ e) → (d ≢ e) ⊎ (f ≢ g) → (put part e p d).host_group f ≡ (part d).host_group f
@@ -122,7 +127,8 @@ others part e p g s i d f ne = go (ℕ_cases d e) ne
         ∙ sym (ap (λ z. (part z).host_group f) a)
 
 -- Serve. What has arrived is of a group that isn't whole at the host, and that no reset has dropped.
-pub not_past : (w : World) (e r : ℕ) → Invariant w → OnTheWay (w.part e) → (w.part e).phase ≡ Open → (w.part e).page_request r ≡ Arrived → is_past ((w.part e).host_group ((w.part e).group_of r)) ≡ false
+pub not_past : (w : World) (e r : ℕ) → Invariant w → OnTheWay (w.part e) → (w.part e).phase ≡ Open → (w.part e).page_request r ≡ Arrived
+    → is_past ((w.part e).host_group ((w.part e).group_of r)) ≡ false
 not_past w e r i on ph a = go (p.host_group (p.group_of r)) refl
   where
     p : Part
@@ -155,20 +161,24 @@ part_still n r p l e = record { job = λ g h. part_job g h; held = λ g x h. par
     part_past : (g : ℕ) → is_past (p.host_group g) ≡ true → is_past ((own p n (Own.File r)).host_group g) ≡ true
     part_past g h = grind (arith, nat_tests)
 
-file_jobs : (w : World) (e r : ℕ) (b : Bool) → (w.part e).is_last r ≡ b → Invariant w → OnTheWay (w.part e) → LegalAll w (file_outcome e r ((w.part e).group_of r) b).acts → JobsOf w → JobsOf (after_acts w (file_outcome e r ((w.part e).group_of r) b).acts)
+file_jobs : (w : World) (e r : ℕ) (b : Bool) → (w.part e).is_last r ≡ b → Invariant w → OnTheWay (w.part e)
+    → LegalAll w (file_outcome e r ((w.part e).group_of r) b).acts → JobsOf w → JobsOf (after_acts w (file_outcome e r ((w.part e).group_of r) b).acts)
 file_jobs w e r false last i on l h =
     still_jobs w.jobs w.job w.hand (λ d. (w.part d).host_group) (λ d. ((act w (At e (Own.File r))).part d).host_group)
-    (put_keeps (λ d p. Still (w.part d).host_group p.host_group) w.part e (own (w.part e) w.messages (Own.File r)) (part_still w.messages r (w.part e) last (not_past w e r i on l.0.1.0.0 l.0.1.0.1)) (λ d. unchanged (w.part d).host_group))
+    (put_keeps (λ d p. Still (w.part d).host_group p.host_group) w.part e (own (w.part e) w.messages (Own.File r))
+    (part_still w.messages r (w.part e) last (not_past w e r i on l.0.1.0.0 l.0.1.0.1)) (λ d. unchanged (w.part d).host_group))
     h
 file_jobs w e r true last i on l h =
     let p = own (w.part e) w.messages (Own.File r) in
     let g = (w.part e).group_of r in
     let same : p.host_group ≡ put (w.part e).host_group g Job = ap (λ b. put (w.part e).host_group g (filed_as b)) last in
-    filed w.jobs w.job w.hand (λ d. (w.part d).host_group) (λ d. (put w.part e p d).host_group) e g i.hands.made (not_past w e r i on l.0.1.0.0 l.0.1.0.1) (at_group w.part e p g Job same)
+    filed w.jobs w.job w.hand (λ d. (w.part d).host_group) (λ d. (put w.part e p d).host_group) e g i.hands.made
+    (not_past w e r i on l.0.1.0.0 l.0.1.0.1) (at_group w.part e p g Job same)
     (others w.part e p g Job same)
     h
 
-serve_jobs : (w : World) (e : ℕ) (b : Bool) → Invariant w → OnTheWay (w.part e) → LegalAll w (serve_outcome (w.part e) e b).acts → JobsOf w → JobsOf (after_acts w (serve_outcome (w.part e) e b).acts)
+serve_jobs : (w : World) (e : ℕ) (b : Bool) → Invariant w → OnTheWay (w.part e) → LegalAll w (serve_outcome (w.part e) e b).acts → JobsOf w
+    → JobsOf (after_acts w (serve_outcome (w.part e) e b).acts)
 serve_jobs w e true i on l h = h
 serve_jobs w e false i on l h = file_jobs w e (Labels.oldest_arrived (w.part e)) ((w.part e).is_last (Labels.oldest_arrived (w.part e))) refl i on l h
 
@@ -178,33 +188,42 @@ take_jobs w x j empty h =
     let e = (w.job j).endpoint in
     let g = (w.job j).group in
     let p = own (w.part e) w.messages (Own.Hand g x) in
-    taken w.jobs w.job w.hand (λ d. (w.part d).host_group) (λ d. (put w.part e p d).host_group) x j empty (at_group w.part e p g (InHand x) refl) (others w.part e p g (InHand x) refl) h
+    taken w.jobs w.job w.hand (λ d. (w.part d).host_group) (λ d. (put w.part e p d).host_group) x j empty (at_group w.part e p g (InHand x) refl)
+    (others w.part e p g (InHand x) refl) h
 
 -- Reply: pages are mapped, then the job is let go and its group answered or dropped
-respond_jobs : (w : World) (x j : ℕ) (code : Code) → w.hand x ≡ Some j → JobsOf w → JobsOf (after_acts w (LetGo x ∷ At (w.job j).endpoint (Own.Respond (w.job j).group code) ∷ []))
+respond_jobs : (w : World) (x j : ℕ) (code : Code) → w.hand x ≡ Some j → JobsOf w
+    → JobsOf (after_acts w (LetGo x ∷ At (w.job j).endpoint (Own.Respond (w.job j).group code) ∷ []))
 respond_jobs w x j code full h =
     let e = (w.job j).endpoint in
     let g = (w.job j).group in
     let p = own (w.part e) w.messages (Own.Respond g code) in
-    answered w.jobs w.job w.hand (λ d. (w.part d).host_group) (λ d. (put w.part e p d).host_group) x j full (ap is_answered (at_group w.part e p g Replied refl)) (others w.part e p g Replied refl) h
+    answered w.jobs w.job w.hand (λ d. (w.part d).host_group) (λ d. (put w.part e p d).host_group) x j full
+    (ap is_answered (at_group w.part e p g Replied refl)) (others w.part e p g Replied refl) h
 
-discard_jobs : (w : World) (x j : ℕ) → w.hand x ≡ Some j → JobsOf w → JobsOf (after_acts w (LetGo x ∷ At (w.job j).endpoint (Own.Discard (w.job j).group) ∷ []))
+discard_jobs : (w : World) (x j : ℕ) → w.hand x ≡ Some j → JobsOf w
+    → JobsOf (after_acts w (LetGo x ∷ At (w.job j).endpoint (Own.Discard (w.job j).group) ∷ []))
 discard_jobs w x j full h =
     let e = (w.job j).endpoint in
     let g = (w.job j).group in
     let p = own (w.part e) w.messages (Own.Discard g) in
-    answered w.jobs w.job w.hand (λ d. (w.part d).host_group) (λ d. (put w.part e p d).host_group) x j full (ap is_answered (at_group w.part e p g Discarded refl)) (others w.part e p g Discarded refl) h
+    answered w.jobs w.job w.hand (λ d. (w.part d).host_group) (λ d. (put w.part e p d).host_group) x j full
+    (ap is_answered (at_group w.part e p g Discarded refl)) (others w.part e p g Discarded refl) h
 
-maps_jobs : (s : ℕ) (write : ℕ → Bool) (qs fs : List ℕ) (w : World) (x j : ℕ) (code : Code) → w.hand x ≡ Some j → JobsOf w → JobsOf (after_acts w (maps_to s write qs fs ++ LetGo x ∷ At (w.job j).endpoint (Own.Respond (w.job j).group code) ∷ []))
+maps_jobs : (s : ℕ) (write : ℕ → Bool) (qs fs : List ℕ) (w : World) (x j : ℕ) (code : Code) → w.hand x ≡ Some j → JobsOf w
+    → JobsOf (after_acts w (maps_to s write qs fs ++ LetGo x ∷ At (w.job j).endpoint (Own.Respond (w.job j).group code) ∷ []))
 maps_jobs s write [] fs w x j code full h = respond_jobs w x j code full h
 maps_jobs s write (q ∷ qs) [] w x j code full h = respond_jobs w x j code full h
 maps_jobs s write (q ∷ qs) (f ∷ fs) w x j code full h = maps_jobs s write qs fs (act w (Map s q f (write q))) x j code full h
 
-reply_jobs : (w : World) (x j : ℕ) (v : Verdict) (o : Option Code) → w.hand x ≡ Some j → JobsOf w → JobsOf (after_acts w (reply_outcome w x j (reply_maps w j v) o).acts)
+reply_jobs : (w : World) (x j : ℕ) (v : Verdict) (o : Option Code) → w.hand x ≡ Some j → JobsOf w
+    → JobsOf (after_acts w (reply_outcome w x j (reply_maps w j v) o).acts)
 reply_jobs w x j v None full h = discard_jobs w x j full h
 reply_jobs w x j v (Some code) full h = go (replies_success w j v)
   where
-    go : (b : Bool) → JobsOf (after_acts w ((if b then maps_to (job_space w j) (is_write_asked w j) (newly_mapped w j) (free_list w) else []) ++ LetGo x ∷ At (w.job j).endpoint (Own.Respond (w.job j).group code) ∷ []))
+    go : (b : Bool) → JobsOf
+        (after_acts w ((if b then maps_to (job_space w j) (is_write_asked w j) (newly_mapped w j) (free_list w) else []) ++ LetGo x
+        ∷ At (w.job j).endpoint (Own.Respond (w.job j).group code) ∷ []))
     go true = maps_jobs (job_space w j) (is_write_asked w j) (newly_mapped w j) (free_list w) w x j code full h
     go false = respond_jobs w x j code full h
 
@@ -302,21 +321,30 @@ outcome_jobs w (step.Map n q x) i on p h = acts_calm (outcome w (step.Map n q x)
 outcome_jobs w (step.Unmap n q count) i on p h = acts_calm (outcome w (step.Unmap n q count)).acts w (tt, tt) h
 outcome_jobs w (step.UnmapRange n q order) i on p h = acts_calm (outcome w (step.UnmapRange n q order)).acts w (tt, tt) h
 outcome_jobs w (step.Bind e n) i on p h = acts_calm (outcome w (step.Bind e n)).acts w (tt, (tt, tt)) h
-outcome_jobs w (step.Unbind n) i on p h = acts_calm (outcome w (step.Unbind n)).acts w (unbind_calm (w.home (Labels.name w n)) (Labels.name w n) ((w.part (w.home (Labels.name w n))).stage (Labels.name w n))) h
-outcome_jobs w (step.Advance n) i on p h = acts_calm (outcome w (step.Advance n)).acts w (advance_calm w (w.home (Labels.name w n)) (Labels.name w n) ((w.part (w.home (Labels.name w n))).stage (Labels.name w n))) h
+outcome_jobs w (step.Unbind n) i on p h =
+    acts_calm (outcome w (step.Unbind n)).acts w
+    (unbind_calm (w.home (Labels.name w n)) (Labels.name w n) ((w.part (w.home (Labels.name w n))).stage (Labels.name w n))) h
+outcome_jobs w (step.Advance n) i on p h =
+    acts_calm (outcome w (step.Advance n)).acts w
+    (advance_calm w (w.home (Labels.name w n)) (Labels.name w n) ((w.part (w.home (Labels.name w n))).stage (Labels.name w n))) h
 outcome_jobs w (step.Pump e) i on p h = acts_calm (outcome w (step.Pump e)).acts w (pump_calm (w.part e) e (Labels.is_queue_empty (w.part e))) h
 outcome_jobs w (step.Serve e) i on p h = serve_jobs w e (Labels.is_page_queue_empty (w.part e)) i (on e) (Unit_steps.serve w e i p) h
 outcome_jobs w (step.Reset e) i on p h = acts_calm (outcome w (step.Reset e)).acts w (tt, tt) h
 outcome_jobs w (step.Take x) i on p h = take_jobs w x (lowest w.jobs (Labels.is_queued_job w)) (none_is (w.hand x) p.1.0) h
-outcome_jobs w (step.Reply x v) i on p h = reply_jobs w x (the (w.hand x)) v (response_to w (the (w.hand x)) v) (some_the (w.hand x) (not_true (is_some (w.hand x)) p.1.0)) h
+outcome_jobs w (step.Reply x v) i on p h =
+    reply_jobs w x (the (w.hand x)) v (response_to w (the (w.hand x)) v) (some_the (w.hand x) (not_true (is_some (w.hand x)) p.1.0)) h
 outcome_jobs w (step.Ask e t q) i on p h = acts_calm (outcome w (step.Ask e t q)).acts w (tt, tt) h
 outcome_jobs w (step.BeginUse e t q x) i on p h = acts_calm (outcome w (step.BeginUse e t q x)).acts w (tt, tt) h
 outcome_jobs w (step.EndUse e u) i on p h = acts_calm (outcome w (step.EndUse e u)).acts w (tt, tt) h
 outcome_jobs w (step.Evict e t q) i on p h = acts_calm (outcome w (step.Evict e t q)).acts w (tt, tt) h
-outcome_jobs w (step.Fault e t q r x group l) i on p h = acts_calm (outcome w (step.Fault e t q r x group l)).acts w (fault_calm (w.part e) e t q r x l group) h
+outcome_jobs w (step.Fault e t q r x group l) i on p h =
+    acts_calm (outcome w (step.Fault e t q r x group l)).acts w (fault_calm (w.part e) e t q r x l group) h
 outcome_jobs w (step.Finish e vector count) i on p h = acts_calm (outcome w (step.Finish e vector count)).acts w (tt, tt) h
 outcome_jobs w (step.Quit e t) i on p h = acts_calm (outcome w (step.Quit e t)).acts w (tt, tt) h
-outcome_jobs w (step.Deliver n) i on p h = acts_calm (outcome w (step.Deliver n)).acts w (deliver_calm w (w.part (w.way (Labels.name w n))) (w.way (Labels.name w n)) (Labels.name w n) ((w.part (w.way (Labels.name w n))).message (Labels.name w n))) h
+outcome_jobs w (step.Deliver n) i on p h =
+    acts_calm (outcome w (step.Deliver n)).acts w
+    (deliver_calm w (w.part (w.way (Labels.name w n))) (w.way (Labels.name w n)) (Labels.name w n)
+    ((w.part (w.way (Labels.name w n))).message (Labels.name w n))) h
 outcome_jobs w (step.Look f) i on p h = acts_calm (outcome w (step.Look f)).acts w tt h
 outcome_jobs w (step.Bearer t) i on p h = acts_calm (outcome w (step.Bearer t)).acts w tt h
 
@@ -324,7 +352,8 @@ checked_jobs : (w : World) (cs : List Cause) (o : Outcome) → JobsOf w → (Pas
 checked_jobs w [] o h f = f tt
 checked_jobs w (c ∷ cs) o h f = go (λ e. checked_jobs w cs o h (λ k. f (e, k))) c.0 refl
   where
-    go : (c.0 ≡ false → JobsOf (after_acts w (checked cs o).acts)) → (b : Bool) → c.0 ≡ b → JobsOf (after_acts w (if b then record { reply = Err c.1; acts = [] } else checked cs o).acts)
+    go : (c.0 ≡ false → JobsOf (after_acts w (checked cs o).acts)) → (b : Bool) → c.0 ≡ b
+        → JobsOf (after_acts w (if b then record { reply = Err c.1; acts = [] } else checked cs o).acts)
     go rest true e = h
     go rest false e = rest e
 

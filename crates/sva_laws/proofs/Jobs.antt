@@ -31,7 +31,8 @@ pub record Still (old new : ℕ → HostGroupState) : Type 0 where
 pub unchanged : (h : ℕ → HostGroupState) → Still h h
 unchanged h = record { job = λ g k. k; held = λ g x k. k; past = λ g k. k }
 
-pub still_jobs : (n : ℕ) (job : ℕ → JobName) (hand : ℕ → Option ℕ) (h k : ℕ → ℕ → HostGroupState) → ((e : ℕ) → Still (h e) (k e)) → Jobs n job hand h → Jobs n job hand k
+pub still_jobs : (n : ℕ) (job : ℕ → JobName) (hand : ℕ → Option ℕ) (h k : ℕ → ℕ → HostGroupState) → ((e : ℕ) → Still (h e) (k e)) → Jobs n job hand h
+    → Jobs n job hand k
 still_jobs n job hand h k s j =
     record {
       queued = λ e g q. j.queued e g ((s e).job g q);
@@ -56,7 +57,8 @@ is_there : (h : ℕ → ℕ → HostGroupState) (d e f g : ℕ) (s : HostGroupSt
 is_there h d e f g s a b i = ap (λ z. h z f) a ∙ ap (λ z. h e z) b ∙ i
 
 -- what a job's group is past stays past where the changed group is past then
-past_then : (h k : ℕ → ℕ → HostGroupState) (e g : ℕ) (s : HostGroupState) → k e g ≡ s → is_past s ≡ true → Others h k e g → (d f : ℕ) → is_past (h d f) ≡ true → is_past (k d f) ≡ true
+past_then : (h k : ℕ → ℕ → HostGroupState) (e g : ℕ) (s : HostGroupState) → k e g ≡ s → is_past s ≡ true → Others h k e g → (d f : ℕ)
+    → is_past (h d f) ≡ true → is_past (k d f) ≡ true
 past_then h k e g s i p o d f was = go (same_or_other d e f g)
   where
     go : ((d ≡ e) × (f ≡ g)) ⊎ ((d ≢ e) ⊎ (f ≢ g)) → is_past (k d f) ≡ true
@@ -64,7 +66,8 @@ past_then h k e g s i p o d f was = go (same_or_other d e f g)
     go (inr x) = ap is_past (o d f x) ∙ was
 
 -- the last request of a group is filed, and the group is a job
-pub filed : (n : ℕ) (job : ℕ → JobName) (hand : ℕ → Option ℕ) (h k : ℕ → ℕ → HostGroupState) (e g : ℕ) → ((x j : ℕ) → hand x ≡ Some j → j < n) → is_past (h e g) ≡ false → k e g ≡ Job → Others h k e g → Jobs n job hand h → Jobs (suc n) (put job n (record { endpoint = e; group = g })) hand k
+pub filed : (n : ℕ) (job : ℕ → JobName) (hand : ℕ → Option ℕ) (h k : ℕ → ℕ → HostGroupState) (e g : ℕ) → ((x j : ℕ) → hand x ≡ Some j → j < n)
+    → is_past (h e g) ≡ false → k e g ≡ Job → Others h k e g → Jobs n job hand h → Jobs (suc n) (put job n (record { endpoint = e; group = g })) hand k
 filed n job hand h k e g made new i o j =
     record {
       queued = λ d f q. queued d f q (same_or_other d e f g);
@@ -98,7 +101,8 @@ filed n job hand h k e g made new i o j =
     not_job : (s : HostGroupState) (x : ℕ) → s ≡ Job → IsHeldBy s x → ⊥
     not_job s x a b = grind arith
 
-    held : (d f x : ℕ) → IsHeldBy (k d f) x → ((d ≡ e) × (f ≡ g)) ⊎ ((d ≢ e) ⊎ (f ≢ g)) → (a : ℕ) × (hand x ≡ Some a) × ((table a).endpoint ≡ d) × ((table a).group ≡ f)
+    held : (d f x : ℕ) → IsHeldBy (k d f) x → ((d ≡ e) × (f ≡ g)) ⊎ ((d ≢ e) ⊎ (f ≢ g)) → (a : ℕ) × (hand x ≡ Some a) × ((table a).endpoint ≡ d)
+        × ((table a).group ≡ f)
     held d f x q (inl y) = absurd (not_job (k d f) x (is_there k d e f g Job y.0 y.1 i) q)
     held d f x q (inr y) =
         let a = j.held d f x (subst (λ s. IsHeldBy s x) (o d f y) q) in
@@ -107,24 +111,29 @@ filed n job hand h k e g made new i o j =
 
     past : (a : ℕ) → a < suc n → (a ≡ n) ⊎ (a ≢ n) → is_past (k (table a).endpoint (table a).group) ≡ true
     past a l (inl x) = ap (λ z. is_past (k z.endpoint z.group)) (at_n a x) ∙ ap is_past i
-    past a l (inr ne) = ap (λ z. is_past (k z.endpoint z.group)) (old a ne) ∙ past_then h k e g Job i refl o (job a).endpoint (job a).group (j.past a (omega arith))
+    past a l (inr ne) = ap (λ z. is_past (k z.endpoint z.group)) (old a ne)
+        ∙ past_then h k e g Job i refl o (job a).endpoint (job a).group (j.past a (omega arith))
 
     -- no entry before was of the group
     none : (a : ℕ) → a < n → (job a).endpoint ≡ e → (job a).group ≡ g → ⊥
     none a l x y = absurd (cc (sym new ∙ sym (ap (λ z. is_past (h z g)) x) ∙ sym (ap (λ z. is_past (h (job a).endpoint z)) y) ∙ j.past a l))
 
-    once : (a b : ℕ) → a < suc n → b < suc n → (table a).endpoint ≡ (table b).endpoint → (table a).group ≡ (table b).group → (a ≡ n) ⊎ (a ≢ n) → (b ≡ n) ⊎ (b ≢ n) → a ≡ b
+    once : (a b : ℕ) → a < suc n → b < suc n → (table a).endpoint ≡ (table b).endpoint → (table a).group ≡ (table b).group → (a ≡ n) ⊎ (a ≢ n)
+        → (b ≡ n) ⊎ (b ≢ n) → a ≡ b
     once a b l m x y (inl p) (inl q) = p ∙ sym q
     once a b l m x y (inr p) (inr q) =
         j.once a b (omega arith) (omega arith) (ap (λ z. z.endpoint) (sym (old a p)) ∙ x ∙ ap (λ z. z.endpoint) (old b q))
         (ap (λ z. z.group) (sym (old a p)) ∙ y ∙ ap (λ z. z.group) (old b q))
     once a b l m x y (inl p) (inr q) =
-        absurd (none b (omega arith) (ap (λ z. z.endpoint) (sym (old b q)) ∙ sym x ∙ ap (λ z. z.endpoint) (at_n a p)) (ap (λ z. z.group) (sym (old b q)) ∙ sym y ∙ ap (λ z. z.group) (at_n a p)))
+        absurd (none b (omega arith) (ap (λ z. z.endpoint) (sym (old b q)) ∙ sym x ∙ ap (λ z. z.endpoint) (at_n a p))
+        (ap (λ z. z.group) (sym (old b q)) ∙ sym y ∙ ap (λ z. z.group) (at_n a p)))
     once a b l m x y (inr p) (inl q) =
-        absurd (none a (omega arith) (ap (λ z. z.endpoint) (sym (old a p)) ∙ x ∙ ap (λ z. z.endpoint) (at_n b q)) (ap (λ z. z.group) (sym (old a p)) ∙ y ∙ ap (λ z. z.group) (at_n b q)))
+        absurd (none a (omega arith) (ap (λ z. z.endpoint) (sym (old a p)) ∙ x ∙ ap (λ z. z.endpoint) (at_n b q)) (ap (λ z. z.group) (sym (old a p))
+        ∙ y ∙ ap (λ z. z.group) (at_n b q)))
 
 -- a worker whose hand is empty takes a job
-pub taken : (n : ℕ) (job : ℕ → JobName) (hand : ℕ → Option ℕ) (h k : ℕ → ℕ → HostGroupState) (x j : ℕ) → hand x ≡ None → k (job j).endpoint (job j).group ≡ InHand x → Others h k (job j).endpoint (job j).group → Jobs n job hand h → Jobs n job (put hand x (Some j)) k
+pub taken : (n : ℕ) (job : ℕ → JobName) (hand : ℕ → Option ℕ) (h k : ℕ → ℕ → HostGroupState) (x j : ℕ) → hand x ≡ None
+    → k (job j).endpoint (job j).group ≡ InHand x → Others h k (job j).endpoint (job j).group → Jobs n job hand h → Jobs n job (put hand x (Some j)) k
 taken n job hand h k x j empty i o js =
     record {
       queued = λ d f q. queued d f q (same_or_other d (job j).endpoint f (job j).group);
@@ -133,15 +142,23 @@ taken n job hand h k x j empty i o js =
       once = js.once;
     }
   where
-    queued : (d f : ℕ) → k d f ≡ Job → ((d ≡ (job j).endpoint) × (f ≡ (job j).group)) ⊎ ((d ≢ (job j).endpoint) ⊎ (f ≢ (job j).group)) → (a : ℕ) × (a < n) × ((job a).endpoint ≡ d) × ((job a).group ≡ f)
+    queued : (d f : ℕ) → k d f ≡ Job → ((d ≡ (job j).endpoint) × (f ≡ (job j).group)) ⊎ ((d ≢ (job j).endpoint) ⊎ (f ≢ (job j).group)) → (a : ℕ)
+        × (a < n) × ((job a).endpoint ≡ d) × ((job a).group ≡ f)
     queued d f q (inl y) = absurd (cc (sym (is_there k d (job j).endpoint f (job j).group (InHand x) y.0 y.1 i) ∙ q))
     queued d f q (inr y) = js.queued d f (sym (o d f y) ∙ q)
 
     holder : (s : HostGroupState) (y : ℕ) → s ≡ InHand x → IsHeldBy s y → y ≡ x
     holder s y a b = grind arith
 
-    held : (d f y : ℕ) → IsHeldBy (k d f) y → ((d ≡ (job j).endpoint) × (f ≡ (job j).group)) ⊎ ((d ≢ (job j).endpoint) ⊎ (f ≢ (job j).group)) → (a : ℕ) × (put hand x (Some j) y ≡ Some a) × ((job a).endpoint ≡ d) × ((job a).group ≡ f)
-    held d f y q (inl z) = (j, ap (put hand x (Some j)) (holder (k d f) y (is_there k d (job j).endpoint f (job j).group (InHand x) z.0 z.1 i) q) ∙ put-same hand x (Some j), sym z.0, sym z.1)
+    held : (d f y : ℕ) → IsHeldBy (k d f) y → ((d ≡ (job j).endpoint) × (f ≡ (job j).group)) ⊎ ((d ≢ (job j).endpoint) ⊎ (f ≢ (job j).group))
+        → (a : ℕ) × (put hand x (Some j) y ≡ Some a) × ((job a).endpoint ≡ d) × ((job a).group ≡ f)
+    held d f y q (inl z) = (
+      j,
+      ap (put hand x (Some j)) (holder (k d f) y (is_there k d (job j).endpoint f (job j).group (InHand x) z.0 z.1 i) q)
+          ∙ put-same hand x (Some j),
+      sym z.0,
+      sym z.1,
+    )
     held d f y q (inr z) =
         let a = js.held d f y (subst (λ s. IsHeldBy s y) (o d f z) q) in
         (a.0, put-other hand x (Some j) y (λ e. absurd (cc (sym empty ∙ sym (ap hand e) ∙ a.1))) ∙ a.1, a.2, a.3)
@@ -152,12 +169,14 @@ is_answered Replied = true
 is_answered Discarded = true
 is_answered _ = false
 
-pub answered : (n : ℕ) (job : ℕ → JobName) (hand : ℕ → Option ℕ) (h k : ℕ → ℕ → HostGroupState) (x j : ℕ) → hand x ≡ Some j → is_answered (k (job j).endpoint (job j).group) ≡ true → Others h k (job j).endpoint (job j).group → Jobs n job hand h → Jobs n job (put hand x None) k
+pub answered : (n : ℕ) (job : ℕ → JobName) (hand : ℕ → Option ℕ) (h k : ℕ → ℕ → HostGroupState) (x j : ℕ) → hand x ≡ Some j
+    → is_answered (k (job j).endpoint (job j).group) ≡ true → Others h k (job j).endpoint (job j).group → Jobs n job hand h → Jobs n job (put hand x None) k
 answered n job hand h k x j full i o js =
     record {
       queued = λ d f q. queued d f q (same_or_other d (job j).endpoint f (job j).group);
       held = λ d f y q. held d f y q (same_or_other d (job j).endpoint f (job j).group);
-      past = λ a l. past_then h k (job j).endpoint (job j).group (k (job j).endpoint (job j).group) refl (answered_past (k (job j).endpoint (job j).group) i) o (job a).endpoint (job a).group (js.past a l);
+      past = λ a l. past_then h k (job j).endpoint (job j).group (k (job j).endpoint (job j).group) refl
+          (answered_past (k (job j).endpoint (job j).group) i) o (job a).endpoint (job a).group (js.past a l);
       once = js.once;
     }
   where
@@ -173,7 +192,8 @@ answered n job hand h k x j full i o js =
     here : (d f : ℕ) → d ≡ (job j).endpoint → f ≡ (job j).group → is_answered (k d f) ≡ true
     here d f a b = ap is_answered (is_there k d (job j).endpoint f (job j).group (k (job j).endpoint (job j).group) a b refl) ∙ i
 
-    queued : (d f : ℕ) → k d f ≡ Job → ((d ≡ (job j).endpoint) × (f ≡ (job j).group)) ⊎ ((d ≢ (job j).endpoint) ⊎ (f ≢ (job j).group)) → (a : ℕ) × (a < n) × ((job a).endpoint ≡ d) × ((job a).group ≡ f)
+    queued : (d f : ℕ) → k d f ≡ Job → ((d ≡ (job j).endpoint) × (f ≡ (job j).group)) ⊎ ((d ≢ (job j).endpoint) ⊎ (f ≢ (job j).group)) → (a : ℕ)
+        × (a < n) × ((job a).endpoint ≡ d) × ((job a).group ≡ f)
     queued d f q (inl y) = absurd (not_job (k d f) (here d f y.0 y.1) q)
     queued d f q (inr y) = js.queued d f (sym (o d f y) ∙ q)
 
@@ -184,7 +204,8 @@ answered n job hand h k x j full i o js =
     other_hand d f y a (inl ne) m p q e = ne (sym p ∙ ap (λ z. (job z).endpoint) (some_same a j (sym m ∙ ap hand e ∙ full)))
     other_hand d f y a (inr ne) m p q e = ne (sym q ∙ ap (λ z. (job z).group) (some_same a j (sym m ∙ ap hand e ∙ full)))
 
-    held : (d f y : ℕ) → IsHeldBy (k d f) y → ((d ≡ (job j).endpoint) × (f ≡ (job j).group)) ⊎ ((d ≢ (job j).endpoint) ⊎ (f ≢ (job j).group)) → (a : ℕ) × (put hand x None y ≡ Some a) × ((job a).endpoint ≡ d) × ((job a).group ≡ f)
+    held : (d f y : ℕ) → IsHeldBy (k d f) y → ((d ≡ (job j).endpoint) × (f ≡ (job j).group)) ⊎ ((d ≢ (job j).endpoint) ⊎ (f ≢ (job j).group))
+        → (a : ℕ) × (put hand x None y ≡ Some a) × ((job a).endpoint ≡ d) × ((job a).group ≡ f)
     held d f y q (inl z) = absurd (not_held (k d f) y (here d f z.0 z.1) q)
     held d f y q (inr z) =
         let a = js.held d f y (subst (λ s. IsHeldBy s y) (o d f z) q) in

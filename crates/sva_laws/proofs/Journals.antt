@@ -25,13 +25,15 @@ front_says [] rest w h = refl
 front_says (e ∷ journal) rest w h =
     both_same (reply w e.step) e.reply (replies (next w e.step) (steps_of journal)) (map (λ x. x.reply) journal)
     (head_same (reply w e.step) e.reply (replies (next w e.step) (steps_of (journal ++ rest))) (map (λ x. x.reply) (journal ++ rest)) h)
-    (front_says journal rest (next w e.step) (tail_same (reply w e.step) e.reply (replies (next w e.step) (steps_of (journal ++ rest))) (map (λ x. x.reply) (journal ++ rest)) h))
+    (front_says journal rest (next w e.step)
+    (tail_same (reply w e.step) e.reply (replies (next w e.step) (steps_of (journal ++ rest))) (map (λ x. x.reply) (journal ++ rest)) h))
 
 last_says : (journal : List Entry) (e : Entry) (w : World) → Says w (journal ++ e ∷ []) → e.reply ≡ reply (run w (steps_of journal)) e.step
 unfolding replies
 last_says [] e w h = sym (head_same (reply w e.step) e.reply [] [] h)
 last_says (d ∷ journal) e w h =
-    last_says journal e (next w d.step) (tail_same (reply w d.step) d.reply (replies (next w d.step) (steps_of (journal ++ e ∷ []))) (map (λ x. x.reply) (journal ++ e ∷ [])) h)
+    last_says journal e (next w d.step)
+    (tail_same (reply w d.step) d.reply (replies (next w d.step) (steps_of (journal ++ e ∷ []))) (map (λ x. x.reply) (journal ++ e ∷ [])) h)
 
 more_says : (journal : List Entry) (e : Entry) (w : World) → Says w journal → e.reply ≡ reply (run w (steps_of journal)) e.step → Says w (journal ++ e ∷ [])
 unfolding replies
@@ -44,7 +46,8 @@ more_says (d ∷ journal) e w h k =
 pub front_legal : (rule : PasidRule) (config : Config) (journal rest : List Entry) → IsLegal rule config (journal ++ rest) → IsLegal rule config journal
 front_legal rule config journal rest h = record { fits = h.fits; answers = front_says journal rest (opened rule config) h.answers }
 
-pub more_legal : (rule : PasidRule) (config : Config) (journal : List Entry) (e : Entry) → IsLegal rule config journal → IsLegal rule config (journal ++ e ∷ []) ↔ (e.reply ≡ reply (world_of rule config journal) e.step)
+pub more_legal : (rule : PasidRule) (config : Config) (journal : List Entry) (e : Entry) → IsLegal rule config journal
+    → IsLegal rule config (journal ++ e ∷ []) ↔ (e.reply ≡ reply (world_of rule config journal) e.step)
 more_legal rule config journal e legal = (
   (λ h. last_says journal e (opened rule config) h.answers),
   (λ k. record { fits = legal.fits; answers = more_says journal e (opened rule config) legal.answers k }),

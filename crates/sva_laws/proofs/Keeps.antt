@@ -11,8 +11,10 @@ use Rattle.sva_model.specs.State.PageRequestState.{Arrived}
 use Rattle.sva_model.specs.State.HostGroupState.{InHand}
 use Rattle.sva_model.specs.State.RequestState.{Out}
 use Rattle.sva_model.specs.State.Phase.{Open}
-use Rattle.sva_model.specs.States.{is_unreleased, is_outstanding, is_open, is_before_invalidating, answered, is_free, place_at, place_by, place_of_gone, is_free_place}
-use Rattle.sva_model.specs.Acts.{Act, Own, act, own, sends, bound, submits, submits_at, owed_by, part_after_unmap, submitted, submitted_if, cookie_of, gone_if, in_range, without_pages}
+use Rattle.sva_model.specs.States.{is_unreleased, is_outstanding, is_open, is_before_invalidating, answered, is_free, place_at, place_by, place_of_gone}
+use Rattle.sva_model.specs.States.{is_free_place}
+use Rattle.sva_model.specs.Acts.{Act, Own, act, own, sends, bound, submits, submits_at, owed_by, part_after_unmap, submitted, submitted_if, cookie_of}
+use Rattle.sva_model.specs.Acts.{gone_if, in_range, without_pages}
 use Rattle.sva_model.specs.Acts.Act.{NewSpace, DropSpace, Map, Unmap, NewBinding, NewJob, Hold, LetGo, At}
 use Rattle.sva_model.specs.State.Stage.{Unbound}
 use Rattle.sva_laws.proofs.Words.{put-same, put-other, ℕ_cases, all_below-true}
@@ -135,21 +137,26 @@ later ms x g h n m e p a b i =
       groups = i.groups;
     }
 
-bound_live_own : (w : World) (e : ℕ) (o : Own) → LegalOwn w.mappings w.bindings (w.part e) o → SuitsWorld w e o → (b : ℕ) → (is_unreleased ((w.part e).stage b) ≡ true → w.is_live ((w.part e).space b) ≡ true) → is_unreleased ((own (w.part e) w.messages o).stage b) ≡ true → w.is_live ((own (w.part e) w.messages o).space b) ≡ true
+bound_live_own : (w : World) (e : ℕ) (o : Own) → LegalOwn w.mappings w.bindings (w.part e) o → SuitsWorld w e o → (b : ℕ)
+    → (is_unreleased ((w.part e).stage b) ≡ true → w.is_live ((w.part e).space b) ≡ true) → is_unreleased ((own (w.part e) w.messages o).stage b)
+    ≡ true → w.is_live ((own (w.part e) w.messages o).space b) ≡ true
 bound_live_own w e o l bs b old h = go o bs (own_from w.mappings w.bindings w.messages (w.part e) o l b h)
   where
-    go : (x : Own) → SuitsWorld w e x → WasSo (w.part e) (own (w.part e) w.messages o) b ⊎ IsNew x (own (w.part e) w.messages o) b → w.is_live ((own (w.part e) w.messages o).space b) ≡ true
+    go : (x : Own) → SuitsWorld w e x → WasSo (w.part e) (own (w.part e) w.messages o) b ⊎ IsNew x (own (w.part e) w.messages o) b
+        → w.is_live ((own (w.part e) w.messages o).space b) ≡ true
     go x bs (inl k) = ap w.is_live k.2 ∙ old k.0
     go (Own.Bind d s t) bs (inr k) = ap w.is_live k.2 ∙ bs.0
     go _ bs (inr k) = absurd (cc (k.0))
 
-at_parts : (w : World) (e : ℕ) (o : Own) → Legal w (At e o) → Invariant w → (x : ℕ) → PartInvariant w.mappings w.config.endpoints w.bindings (w.messages + sends o) x ((act w (At e o)).part x)
+at_parts : (w : World) (e : ℕ) (o : Own) → Legal w (At e o) → Invariant w → (x : ℕ)
+    → PartInvariant w.mappings w.config.endpoints w.bindings (w.messages + sends o) x ((act w (At e o)).part x)
 at_parts w e o l i =
     put_keeps (λ x p. PartInvariant w.mappings w.config.endpoints w.bindings (w.messages + sends o) x p) w.part e (own (w.part e) w.messages o)
     (own_keeps w.mappings w.config.endpoints w.bindings w.messages e (w.part e) o l.0 l.1.0 (leads w i.mapped) (presents w i.mapped) (i.parts e))
     (λ x. later w.mappings w.config.endpoints w.bindings w.bindings w.messages (w.messages + sends o) x (w.part x) (omega arith) (omega arith) (i.parts x))
 
-at_answered : (w : World) (e : ℕ) (o : Own) (v : Owed) → Legal w (At e o) → Invariant w → (x : ℕ) → answered (w.part x) v ≡ true → answered ((act w (At e o)).part x) v ≡ true
+at_answered : (w : World) (e : ℕ) (o : Own) (v : Owed) → Legal w (At e o) → Invariant w → (x : ℕ) → answered (w.part x) v ≡ true
+    → answered ((act w (At e o)).part x) v ≡ true
 at_answered w e o v l i x h =
     put_keeps (λ x p. answered (w.part x) v ≡ true → answered p v ≡ true) w.part e (own (w.part e) w.messages o)
     (λ k. answered_own w.mappings w.bindings w.messages (w.part e) o l.1.0 (i.parts e).labels.sent (i.parts e).bounds v k)
@@ -177,11 +184,14 @@ not_answered w e (Own.Discard g) l x j h same = differ (l x j h (sym same))
 not_answered w e _ l x j h same = refl
 
 -- a job in hand stays in hand
-held_own : (ms : Mappings) (gs n : ℕ) (p : Part) (o : Own) → LegalOwn ms gs p o → (g x : ℕ) → (IsHeldBy (p.host_group g) x → (r : ℕ) → p.phase ≡ Open → p.group_of r ≡ g → p.page_request r ≢ Arrived) → responds_to o g ≡ false → IsHeldBy (p.host_group g) x → IsHeldBy ((own p n o).host_group g) x
+held_own : (ms : Mappings) (gs n : ℕ) (p : Part) (o : Own) → LegalOwn ms gs p o → (g x : ℕ)
+    → (IsHeldBy (p.host_group g) x → (r : ℕ) → p.phase ≡ Open → p.group_of r ≡ g → p.page_request r ≢ Arrived) → responds_to o g ≡ false
+    → IsHeldBy (p.host_group g) x → IsHeldBy ((own p n o).host_group g) x
 held_own ms gs n p o l g x nf ns h = grind (arith, nat_tests, nf h)
 
 -- no request of a group in hand is to be filed
-held_filed : (gs : ℕ) (p : Part) → Bounds.Bounds gs p → PageRequests.Lasts p → Groups.Groups p → (g x : ℕ) → IsHeldBy (p.host_group g) x → (r : ℕ) → p.phase ≡ Open → p.group_of r ≡ g → p.page_request r ≢ Arrived
+held_filed : (gs : ℕ) (p : Part) → Bounds.Bounds gs p → PageRequests.Lasts p → Groups.Groups p → (g x : ℕ) → IsHeldBy (p.host_group g) x → (r : ℕ)
+    → p.phase ≡ Open → p.group_of r ≡ g → p.page_request r ≢ Arrived
 held_filed gs p bo la gr g x (inl h) r ph e a = Groups.whole_filed gs p bo la g (ap PageRequests.is_whole h) r e a
 held_filed gs p bo la gr g x (inr h) r ph e a =
     let out = la.out r ph (inr a) in
@@ -207,7 +217,8 @@ new_job_hands w e g hs =
     record {
       made = λ x j h. let m = hs.made x j h in omega arith;
       held = λ x j h. let m = hs.made x j h in let ne : j ≢ w.jobs = omega arith in
-          subst (λ d. IsHeldBy ((w.part d.endpoint).host_group d.group) x) (sym (put-other w.job w.jobs (record { endpoint = e; group = g }) j ne)) (hs.held x j h);
+          subst (λ d. IsHeldBy ((w.part d.endpoint).host_group d.group) x) (sym (put-other w.job w.jobs (record { endpoint = e; group = g }) j ne))
+          (hs.held x j h);
     }
 
 hold_hands : (w : World) (x j : ℕ) → Legal w (Hold x j) → Hands w → Hands (act w (Hold x j))
@@ -254,7 +265,8 @@ at_shared w e o l i rule =
     its _ bs h = absurd (cc (h))
 
 -- an act begins a binding only at the binding's own endpoint
-homed_own : (w : World) (e : ℕ) (o : Own) → LegalOwn w.mappings w.bindings (w.part e) o → SuitsWorld w e o → (b : ℕ) → ((w.part e).stage b ≢ Unbound → w.home b ≡ e) → (own (w.part e) w.messages o).stage b ≢ Unbound → w.home b ≡ e
+homed_own : (w : World) (e : ℕ) (o : Own) → LegalOwn w.mappings w.bindings (w.part e) o → SuitsWorld w e o → (b : ℕ)
+    → ((w.part e).stage b ≢ Unbound → w.home b ≡ e) → (own (w.part e) w.messages o).stage b ≢ Unbound → w.home b ≡ e
 homed_own w e o l bs b old h = grind (arith, nat_tests)
 
 at_homed : (w : World) (e : ℕ) (o : Own) → Legal w (At e o) → Invariant w → (x b : ℕ) → ((act w (At e o)).part x).stage b ≢ Unbound → w.home b ≡ x
@@ -277,7 +289,8 @@ at_keeps w e o l i =
             named = i.mapped.named;
             low = i.mapped.low;
             live = i.mapped.live;
-            passed = λ m v x g b. or_answered (answered (w.part x) (v x)) (answered ((act w (At e o)).part x) (v x)) (i.mapped.passed m v x g b) (at_answered w e o (v x) l i x);
+            passed = λ m v x g b. or_answered (answered (w.part x) (v x)) (answered ((act w (At e o)).part x) (v x)) (i.mapped.passed m v x g b)
+                (at_answered w e o (v x) l i x);
             bound_live =
                 put_keeps (λ x p. (b : ℕ) → is_unreleased (p.stage b) ≡ true → w.is_live (p.space b) ≡ true) w.part e (own (w.part e) w.messages o)
                 (λ b. bound_live_own w e o l.1.0 l.1.1 b (i.mapped.bound_live e b))
@@ -342,7 +355,8 @@ new_binding_keeps w e i =
     new_home : (x b : ℕ) → (w.part x).stage b ≢ Unbound → put w.home w.bindings e b ≡ x
     new_home x b h = grind (arith, nat_tests, i.homed x b, (i.parts x).bounds.stage b)
 
-same_keeps : (w : World) (jobs : ℕ) (job : ℕ → JobName) (hand : ℕ → Option ℕ) → Hands (record w { jobs = jobs; job = job; hand = hand }) → Invariant w → Invariant (record w { jobs = jobs; job = job; hand = hand })
+same_keeps : (w : World) (jobs : ℕ) (job : ℕ → JobName) (hand : ℕ → Option ℕ) → Hands (record w { jobs = jobs; job = job; hand = hand })
+    → Invariant w → Invariant (record w { jobs = jobs; job = job; hand = hand })
 same_keeps w jobs job hand hs i =
     record {
       hands = hs;
@@ -365,9 +379,12 @@ same_keeps w jobs job hand hs i =
     }
 
 -- A frame that is free is at no page, and nobody owes an answer for it.
-free_gone : (w : World) (f m e : ℕ) (v : ℕ → Owed) → is_free w f ≡ true → w.mappings.latest f ≡ Some m → w.mappings.state m ≡ Gone v → e < w.config.endpoints → answered (w.part e) (v e) ≡ true
+free_gone : (w : World) (f m e : ℕ) (v : ℕ → Owed) → is_free w f ≡ true → w.mappings.latest f ≡ Some m → w.mappings.state m ≡ Gone v → e
+    < w.config.endpoints → answered (w.part e) (v e) ≡ true
 free_gone w f m e v h la g b =
-    all_below-true w.config.endpoints (λ x. answered (w.part x) (v x)) (is_all (all_below w.config.endpoints (λ x. answered (w.part x) (v x))) (sym (ap (λ s. is_free_place (place_by w s)) g) ∙ sym (ap (λ o. is_free_place (place_at w o)) la) ∙ h)) e b
+    all_below-true w.config.endpoints (λ x. answered (w.part x) (v x))
+    (is_all (all_below w.config.endpoints (λ x. answered (w.part x) (v x))) (sym (ap (λ s. is_free_place (place_by w s)) g)
+    ∙ sym (ap (λ o. is_free_place (place_at w o)) la) ∙ h)) e b
   where
     is_all : (x : Bool) → is_free_place (place_of_gone x) ≡ true → x ≡ true
     is_all true k = refl
@@ -377,7 +394,8 @@ free_present : (w : World) (f m : ℕ) → is_free w f ≡ true → w.mappings.l
 free_present w f m h la g = absurd (cc (sym (ap (λ s. is_free_place (place_by w s)) g) ∙ sym (ap (λ o. is_free_place (place_at w o)) la) ∙ h))
 
 -- mapping a page leaves what was made before
-safe_map : (w : World) (s q f : ℕ) (x : Bool) (e b m age : ℕ) (p : Part) → m < w.mappings.made → Safe.IsSafe w.mappings e p b m age → Safe.IsSafe (act w (Map s q f x)).mappings e p b m age
+safe_map : (w : World) (s q f : ℕ) (x : Bool) (e b m age : ℕ) (p : Part) → m < w.mappings.made → Safe.IsSafe w.mappings e p b m age
+    → Safe.IsSafe (act w (Map s q f x)).mappings e p b m age
 safe_map w s q f x e b m age p l h =
     let ne : m ≢ w.mappings.made = omega arith in
     let a : (act w (Map s q f x)).mappings.state m ≡ w.mappings.state m = put-other w.mappings.state w.mappings.made Present m ne in
@@ -410,10 +428,13 @@ owners_map w s q f x p ow =
     other_page : (m : ℕ) → m < w.mappings.made → (act w (Map s q f x)).mappings.page m ≡ w.mappings.page m
     other_page m l = let ne : m ≢ w.mappings.made = omega arith in put-other w.mappings.page w.mappings.made q m ne
 
-map_passed : (w : World) (s q f : ℕ) (x : Bool) → Legal w (Map s q f x) → Invariant w → (k : ℕ) (v : ℕ → Owed) (e : ℕ) → (act w (Map s q f x)).mappings.state k ≡ Gone v → e < w.config.endpoints → ((act w (Map s q f x)).mappings.latest ((act w (Map s q f x)).mappings.frame k) ≡ Some k) ⊎ (answered (w.part e) (v e) ≡ true)
+map_passed : (w : World) (s q f : ℕ) (x : Bool) → Legal w (Map s q f x) → Invariant w → (k : ℕ) (v : ℕ → Owed) (e : ℕ)
+    → (act w (Map s q f x)).mappings.state k ≡ Gone v → e < w.config.endpoints
+    → ((act w (Map s q f x)).mappings.latest ((act w (Map s q f x)).mappings.frame k) ≡ Some k) ⊎ (answered (w.part e) (v e) ≡ true)
 map_passed w s q f x l i k v e g b =
     let free : w.mappings.latest f ≡ Some k → w.mappings.state k ≡ Gone v → answered (w.part e) (v e) ≡ true = λ la gg. free_gone w f k e v l.2 la gg b in
-    let old : w.mappings.state k ≡ Gone v → (w.mappings.latest (w.mappings.frame k) ≡ Some k) ⊎ (answered (w.part e) (v e) ≡ true) = λ gg. i.mapped.passed k v e gg b in
+    let old : w.mappings.state k ≡ Gone v → (w.mappings.latest (w.mappings.frame k) ≡ Some k) ⊎ (answered (w.part e) (v e) ≡ true) =
+    λ gg. i.mapped.passed k v e gg b in
     grind (arith, nat_tests, free, old)
 
 map_mapped : (w : World) (s q f : ℕ) (x : Bool) → Legal w (Map s q f x) → Invariant w → Mapped (act w (Map s q f x))
@@ -453,9 +474,12 @@ map_keeps w s q f x l i =
             owners = owners_map w s q f x (w.part e) (i.parts e).owners;
             safe =
                 record {
-                  held = λ r m h. safe_map w s q f x e ((w.part e).request_binding r) m (w.part e).uses (w.part e) ((i.parts e).owners.held_made r m h) ((i.parts e).safe.held r m h);
-                  flying = λ c r m h o. safe_map w s q f x e ((w.part e).request_binding r) m (w.part e).uses (w.part e) ((i.parts e).owners.flying_made c r m h) ((i.parts e).safe.flying c r m h o);
-                  running = λ u h. safe_map w s q f x e ((w.part e).use_binding u) ((w.part e).use_mapping u) u (w.part e) ((i.parts e).owners.running_made u h) ((i.parts e).safe.running u h);
+                  held = λ r m h. safe_map w s q f x e ((w.part e).request_binding r) m (w.part e).uses (w.part e)
+                      ((i.parts e).owners.held_made r m h) ((i.parts e).safe.held r m h);
+                  flying = λ c r m h o. safe_map w s q f x e ((w.part e).request_binding r) m (w.part e).uses (w.part e)
+                      ((i.parts e).owners.flying_made c r m h) ((i.parts e).safe.flying c r m h o);
+                  running = λ u h. safe_map w s q f x e ((w.part e).use_binding u) ((w.part e).use_mapping u) u (w.part e)
+                      ((i.parts e).owners.running_made u h) ((i.parts e).safe.running u h);
                 };
             queued = (i.parts e).queued;
             lasts = (i.parts e).lasts;
@@ -476,8 +500,10 @@ without_mapped w s cookies pages owed live part sub there alive more ma =
     record {
       unmade = λ m h. let u = ma.unmade m h in gone_unmade (w.mappings.space m == s && pages (w.mappings.page m)) (w.mappings.state m) u;
       made = λ m h. gone_made (w.mappings.space m == s && pages (w.mappings.page m)) (w.mappings.state m) (ma.made m h);
-      present_at = λ m h. still_at m (gone_present (w.mappings.space m == s && pages (w.mappings.page m)) (w.mappings.state m) h) (gone_not (w.mappings.space m == s && pages (w.mappings.page m)) (w.mappings.state m) h);
-      at_present = λ t q m h. let a = ma.at_present t q m (Unmapping.was_at w.mappings s pages owed t q m h) in (still_present t q m h a.0 a.1 a.2, a.1, a.2, there t q m h);
+      present_at = λ m h. still_at m (gone_present (w.mappings.space m == s && pages (w.mappings.page m)) (w.mappings.state m) h)
+          (gone_not (w.mappings.space m == s && pages (w.mappings.page m)) (w.mappings.state m) h);
+      at_present = λ t q m h. let a =
+          ma.at_present t q m (Unmapping.was_at w.mappings s pages owed t q m h) in (still_present t q m h a.0 a.1 a.2, a.1, a.2, there t q m h);
       latest = λ m h. ma.latest m (gone_present (w.mappings.space m == s && pages (w.mappings.page m)) (w.mappings.state m) h);
       named = ma.named;
       low = ma.low;
@@ -498,13 +524,16 @@ without_mapped w s cookies pages owed live part sub there alive more ma =
     gone_not : (t : Bool) (z : MappingState) → gone_if t owed z ≡ Present → t ≡ false
     gone_not t z h = grind arith
 
-    still_at : (m : ℕ) → w.mappings.state m ≡ Present → (w.mappings.space m == s && pages (w.mappings.page m)) ≡ false → (without_pages w.mappings s pages owed).at (w.mappings.space m) (w.mappings.page m) ≡ Some m
+    still_at : (m : ℕ) → w.mappings.state m ≡ Present → (w.mappings.space m == s && pages (w.mappings.page m)) ≡ false
+        → (without_pages w.mappings s pages owed).at (w.mappings.space m) (w.mappings.page m) ≡ Some m
     still_at m h t = let a = ma.present_at m h in grind (arith, nat_tests)
 
-    still_present : (t q m : ℕ) → (without_pages w.mappings s pages owed).at t q ≡ Some m → w.mappings.state m ≡ Present → w.mappings.space m ≡ t → w.mappings.page m ≡ q → gone_if (w.mappings.space m == s && pages (w.mappings.page m)) owed (w.mappings.state m) ≡ Present
+    still_present : (t q m : ℕ) → (without_pages w.mappings s pages owed).at t q ≡ Some m → w.mappings.state m ≡ Present → w.mappings.space m ≡ t
+        → w.mappings.page m ≡ q → gone_if (w.mappings.space m == s && pages (w.mappings.page m)) owed (w.mappings.state m) ≡ Present
     still_present t q m h p sp pg = grind (arith, nat_tests)
 
-    gone_passed : (m : ℕ) (v : ℕ → Owed) (e : ℕ) (t : Bool) (z : MappingState) → w.mappings.state m ≡ z → gone_if t owed z ≡ Gone v → e < w.config.endpoints → (w.mappings.latest (w.mappings.frame m) ≡ Some m) ⊎ (answered (part e) (v e) ≡ true)
+    gone_passed : (m : ℕ) (v : ℕ → Owed) (e : ℕ) (t : Bool) (z : MappingState) → w.mappings.state m ≡ z → gone_if t owed z ≡ Gone v → e
+        < w.config.endpoints → (w.mappings.latest (w.mappings.frame m) ≡ Some m) ⊎ (answered (part e) (v e) ≡ true)
     gone_passed m v e t Unmade a g b = absurd (gone_unmade_gone t g)
       where
         gone_unmade_gone : (t : Bool) → gone_if t owed Unmade ≢ Gone v
@@ -518,7 +547,8 @@ without_mapped w s cookies pages owed live part sub there alive more ma =
         gone_gone true h = h
         gone_gone false h = h
 
-owners_without : (ms : Mappings) (s : ℕ) (pages : ℕ → Bool) (owed : ℕ → Owed) (p : Part) → Owners.Owners ms p → Owners.Owners (without_pages ms s pages owed) p
+owners_without : (ms : Mappings) (s : ℕ) (pages : ℕ → Bool) (owed : ℕ → Owed) (p : Part) → Owners.Owners ms p
+    → Owners.Owners (without_pages ms s pages owed) p
 owners_without ms s pages owed p ow =
     record {
       held = ow.held;
@@ -546,25 +576,30 @@ asked_active p r bi ra h = unmarked_active (Owners.asker_stage p r bi ra h)
 
 -- what is safe for an active owner, wherever its mapping is of its space
 abbrev pub KeepsSafe : (ms ms' : Mappings) (e : ℕ) (p p' : Part) → Type 0
-KeepsSafe ms ms' e p p' = (b m age : ℕ) → Orders.is_active (p.stage b) ≡ true → ms.space m ≡ p.space b → Safe.IsSafe ms e p b m age → Safe.IsSafe ms' e p' b m age
+KeepsSafe ms ms' e p p' = (b m age : ℕ) → Orders.is_active (p.stage b) ≡ true → ms.space m ≡ p.space b → Safe.IsSafe ms e p b m age
+    → Safe.IsSafe ms' e p' b m age
 
 safe_kept : (ms ms' : Mappings) (x g n e : ℕ) (p : Part) → KeepsSafe ms ms' e p p → PartInvariant ms x g n e p → Safe.Safe ms' e p
 safe_kept ms ms' x g n e p k i =
     record {
       held = λ r m h. k (p.request_binding r) m p.uses (i.owners.held r m h) (i.owners.held_space r m h) (i.safe.held r m h);
-      flying = λ c r m h o. k (p.request_binding r) m p.uses (asked_active p r i.bindings i.requests o) (i.owners.flying_space c r m h) (i.safe.flying c r m h o);
+      flying = λ c r m h o. k (p.request_binding r) m p.uses (asked_active p r i.bindings i.requests o) (i.owners.flying_space c r m h)
+          (i.safe.flying c r m h o);
       running = λ u h. k (p.use_binding u) (p.use_mapping u) u (i.owners.running u h) (i.owners.running_space u h) (i.safe.running u h);
     }
 
-safe_submitted : (ms ms' : Mappings) (x g n e : ℕ) (p : Part) (b q count order cookie : ℕ) → KeepsSafe ms ms' e p (submitted p b q count order cookie) → PartInvariant ms x g n e p → Safe.Safe ms' e (submitted p b q count order cookie)
+safe_submitted : (ms ms' : Mappings) (x g n e : ℕ) (p : Part) (b q count order cookie : ℕ)
+    → KeepsSafe ms ms' e p (submitted p b q count order cookie) → PartInvariant ms x g n e p → Safe.Safe ms' e (submitted p b q count order cookie)
 safe_submitted ms ms' x g n e p b q count order cookie k i =
     record {
       held = λ r m h. k (p.request_binding r) m p.uses (i.owners.held r m h) (i.owners.held_space r m h) (i.safe.held r m h);
-      flying = λ c r m h o. k (p.request_binding r) m p.uses (asked_active p r i.bindings i.requests o) (i.owners.flying_space c r m h) (i.safe.flying c r m h o);
+      flying = λ c r m h o. k (p.request_binding r) m p.uses (asked_active p r i.bindings i.requests o) (i.owners.flying_space c r m h)
+          (i.safe.flying c r m h o);
       running = λ u h. k (p.use_binding u) (p.use_mapping u) u (i.owners.running u h) (i.owners.running_space u h) (i.safe.running u h);
     }
 
-left_part : (ms : Mappings) (s x g n e : ℕ) (pages : ℕ → Bool) (owed : ℕ → Owed) (p : Part) → KeepsSafe ms (without_pages ms s pages owed) e p p → PartInvariant ms x g n e p → PartInvariant (without_pages ms s pages owed) x g n e p
+left_part : (ms : Mappings) (s x g n e : ℕ) (pages : ℕ → Bool) (owed : ℕ → Owed) (p : Part) → KeepsSafe ms (without_pages ms s pages owed) e p p
+    → PartInvariant ms x g n e p → PartInvariant (without_pages ms s pages owed) x g n e p
 left_part ms s x g n e pages owed p k i =
     record {
       there = i.there;
@@ -582,7 +617,9 @@ left_part ms s x g n e pages owed p k i =
       groups = i.groups;
     }
 
-submitted_part : (ms : Mappings) (s x g n e : ℕ) (pages : ℕ → Bool) (owed : ℕ → Owed) (p : Part) (b q count order cookie : ℕ) → p.phase ≡ Open → is_before_invalidating (p.stage b) ≡ true → KeepsSafe ms (without_pages ms s pages owed) e p (submitted p b q count order cookie) → PartInvariant ms x g n e p → PartInvariant (without_pages ms s pages owed) x g n e (submitted p b q count order cookie)
+submitted_part : (ms : Mappings) (s x g n e : ℕ) (pages : ℕ → Bool) (owed : ℕ → Owed) (p : Part) (b q count order cookie : ℕ) → p.phase ≡ Open
+    → is_before_invalidating (p.stage b) ≡ true → KeepsSafe ms (without_pages ms s pages owed) e p (submitted p b q count order cookie)
+    → PartInvariant ms x g n e p → PartInvariant (without_pages ms s pages owed) x g n e (submitted p b q count order cookie)
 submitted_part ms s x g n e pages owed p b q count order cookie ph st k i =
     record {
       there = i.there;
@@ -593,14 +630,17 @@ submitted_part ms s x g n e pages owed p b q count order cookie ph st k i =
       labels = Submitted.labels_submitted g b q count order cookie p i.bounds i.labels;
       requests = Submitted.requests_submitted b q count order cookie p i.requests;
       orders = Submitted.orders_submitted g b q count order cookie p st i.bounds i.orders;
-      owners = owners_without ms s pages owed (submitted p b q count order cookie) (Submitted.owners_submitted ms g b q count order cookie p i.orders i.owners);
+      owners = owners_without ms s pages owed (submitted p b q count order cookie)
+          (Submitted.owners_submitted ms g b q count order cookie p i.orders i.owners);
       safe = safe_submitted ms (without_pages ms s pages owed) x g n e p b q count order cookie k i;
       queued = Submitted.queued_submitted b q count order cookie p i.queued;
       lasts = Submitted.lasts_submitted b q count order cookie p i.lasts;
       groups = Submitted.groups_submitted b q count order cookie p i.orders i.groups;
     }
 
-part_unmapped : (ms : Mappings) (s x g n e : ℕ) (pages : ℕ → Bool) (owed : ℕ → Owed) (p : Part) (sub : Bool) (o : Option ℕ) (q count order cookie : ℕ) → submits_at p o ≡ sub → KeepsSafe ms (without_pages ms s pages owed) e p (submitted_if sub p o q count order cookie) → PartInvariant ms x g n e p → PartInvariant (without_pages ms s pages owed) x g n e (submitted_if sub p o q count order cookie)
+part_unmapped : (ms : Mappings) (s x g n e : ℕ) (pages : ℕ → Bool) (owed : ℕ → Owed) (p : Part) (sub : Bool) (o : Option ℕ)
+    (q count order cookie : ℕ) → submits_at p o ≡ sub → KeepsSafe ms (without_pages ms s pages owed) e p (submitted_if sub p o q count order cookie)
+    → PartInvariant ms x g n e p → PartInvariant (without_pages ms s pages owed) x g n e (submitted_if sub p o q count order cookie)
 part_unmapped ms s x g n e pages owed p true (Some b) q count order cookie h k i =
     submitted_part ms s x g n e pages owed p b q count order cookie (opens (is_open p.phase) refl h) (before (is_open p.phase) h) k i
   where
@@ -617,20 +657,27 @@ part_unmapped ms s x g n e pages owed p false o q count order cookie h k i = lef
 unmap_keeps : (w : World) (s q count order : ℕ) → Invariant w → Invariant (act w (Unmap s q count order))
 unmap_keeps w s q count order i =
     record {
-      hands = record { made = i.hands.made; held = λ x j h. sub_hands (w.job j).endpoint (w.job j).group x (submits w s (w.job j).endpoint) (bound w (w.job j).endpoint s) (i.hands.held x j h) };
+      hands = record {
+        made = i.hands.made;
+        held =
+            λ x j h. sub_hands (w.job j).endpoint (w.job j).group x (submits w s (w.job j).endpoint) (bound w (w.job j).endpoint s) (i.hands.held x j h);
+      };
       mapped =
           without_mapped w s _ (in_range q (count * 2 ^ order)) (λ e. owed_by (w.part e) count (bound w e s)) w.is_live (part_after_unmap w s q count order)
           (λ x h. h)
-          (λ t r m h. (i.mapped.at_present t r m (Unmapping.was_at w.mappings s (in_range q (count * 2 ^ order)) (λ e. owed_by (w.part e) count (bound w e s)) t r m h)).3)
+          (λ t r m h. (i.mapped.at_present t r m
+          (Unmapping.was_at w.mappings s (in_range q (count * 2 ^ order)) (λ e. owed_by (w.part e) count (bound w e s)) t r m h)).3)
           (λ e b h. sub_live e b (submits w s e) (bound w e s) h)
           (λ e v h. answered_submitted w.bindings (submits w s e) (w.part e) (bound w e s) q count order (cookie_of w s e) (i.parts e).bounds v h)
           i.mapped;
       parts =
           λ e.
-          part_unmapped w.mappings s w.config.endpoints w.bindings w.messages e (in_range q (count * 2 ^ order)) (λ x. owed_by (w.part x) count (bound w x s)) (w.part e) (submits w s e) (bound w e s) q count order (cookie_of w s e) refl
+          part_unmapped w.mappings s w.config.endpoints w.bindings w.messages e (in_range q (count * 2 ^ order))
+          (λ x. owed_by (w.part x) count (bound w x s)) (w.part e) (submits w s e) (bound w e s) q count order (cookie_of w s e) refl
           (λ b m age a sp sa. Unmapping.unmap_safe w s q count order e b m age i a sp sa)
           (i.parts e);
-      shared = λ rule. shared_still w.part (part_after_unmap w s q count order) (λ e b h. submitted_from (submits w s e) (w.part e) (bound w e s) q count order (cookie_of w s e) b h) (i.shared rule);
+      shared = λ rule. shared_still w.part (part_after_unmap w s q count order)
+          (λ e b h. submitted_from (submits w s e) (w.part e) (bound w e s) q count order (cookie_of w s e) b h) (i.shared rule);
       homed = λ e b h. sub_home e b (submits w s e) (bound w e s) h;
     }
   where
@@ -639,12 +686,14 @@ unmap_keeps w s q count order i =
     sub_home e b true None h = i.homed e b h
     sub_home e b false o h = i.homed e b h
 
-    sub_live : (e b : ℕ) (t : Bool) (o : Option ℕ) → is_unreleased ((submitted_if t (w.part e) o q count order (cookie_of w s e)).stage b) ≡ true → w.is_live ((submitted_if t (w.part e) o q count order (cookie_of w s e)).space b) ≡ true
+    sub_live : (e b : ℕ) (t : Bool) (o : Option ℕ) → is_unreleased ((submitted_if t (w.part e) o q count order (cookie_of w s e)).stage b) ≡ true
+        → w.is_live ((submitted_if t (w.part e) o q count order (cookie_of w s e)).space b) ≡ true
     sub_live e b true (Some d) h = i.mapped.bound_live e b h
     sub_live e b true None h = i.mapped.bound_live e b h
     sub_live e b false o h = i.mapped.bound_live e b h
 
-    sub_hands : (e g x : ℕ) (t : Bool) (o : Option ℕ) → IsHeldBy ((w.part e).host_group g) x → IsHeldBy ((submitted_if t (w.part e) o q count order (cookie_of w s e)).host_group g) x
+    sub_hands : (e g x : ℕ) (t : Bool) (o : Option ℕ) → IsHeldBy ((w.part e).host_group g) x
+        → IsHeldBy ((submitted_if t (w.part e) o q count order (cookie_of w s e)).host_group g) x
     sub_hands e g x true (Some d) h = h
     sub_hands e g x true None h = h
     sub_hands e g x false o h = h
@@ -686,8 +735,10 @@ drop_keeps w s l i =
 
     other_live : (t q m : ℕ) → (t ≡ s) ⊎ (t ≢ s) → (without_pages w.mappings s (λ q. true) (λ e. Nothing)).at t q ≡ Some m → put w.is_live s false t ≡ true
     other_live t q m (inl e) h =
-        let at_s : (without_pages w.mappings s (λ q. true) (λ e. Nothing)).at s q ≡ Some m = subst (λ z. (without_pages w.mappings s (λ q. true) (λ e. Nothing)).at z q ≡ Some m) e h in
-        let eq : (without_pages w.mappings s (λ q. true) (λ e. Nothing)).at s q ≡ unless (λ k. true) (w.mappings.at s q) = ap (λ g. g q) (put-same w.mappings.at s (λ x. unless (λ k. true) (w.mappings.at s x))) in
+        let at_s : (without_pages w.mappings s (λ q. true) (λ e. Nothing)).at s q ≡ Some m =
+        subst (λ z. (without_pages w.mappings s (λ q. true) (λ e. Nothing)).at z q ≡ Some m) e h in
+        let eq : (without_pages w.mappings s (λ q. true) (λ e. Nothing)).at s q ≡ unless (λ k. true) (w.mappings.at s q) =
+        ap (λ g. g q) (put-same w.mappings.at s (λ x. unless (λ k. true) (w.mappings.at s x))) in
         absurd (cc (sym (gone_pages q (w.mappings.at s q)) ∙ sym eq ∙ at_s))
     other_live t q m (inr ne) h =
         bound_other t ne (i.mapped.at_present t q m (Unmapping.was_at w.mappings s (λ q. true) (λ e. Nothing) t q m h)).3

@@ -78,7 +78,8 @@ finds w i h =
     last : (f m k : ℕ) → w.mappings.latest f ≡ Some m → w.mappings.frame k ≡ f → (z : ℕ) × (w.mappings.latest (w.mappings.frame k) ≡ Some z) × (k ≤ z) → k ≤ m
     last f m k e g x = subst (λ y. k ≤ y) (some_is x.0 m (sym x.1 ∙ ap w.mappings.latest g ∙ e)) x.2
 
-    whole : (f m : ℕ) → w.mappings.frame m ≡ f → ((k : ℕ) → k < w.mappings.made → w.mappings.frame k ≡ f → k ≤ m) → (z : ℕ) × (w.mappings.latest (w.mappings.frame m) ≡ Some z) × (m ≤ z) → w.mappings.latest f ≡ Some m
+    whole : (f m : ℕ) → w.mappings.frame m ≡ f → ((k : ℕ) → k < w.mappings.made → w.mappings.frame k ≡ f → k ≤ m) → (z : ℕ)
+        × (w.mappings.latest (w.mappings.frame m) ≡ Some z) × (m ≤ z) → w.mappings.latest f ≡ Some m
     whole f m g most x =
         let there : w.mappings.latest f ≡ Some x.0 = sym (ap w.mappings.latest g) ∙ x.1 in
         let n = i.mapped.named f x.0 there in
@@ -87,4 +88,5 @@ finds w i h =
         there ∙ ap (λ z. Some z) same
 
 pub always_finds : (rule : PasidRule) (config : Config) (steps : List Step) → FindsMappings (world_after rule config steps).mappings
-always_finds rule config steps = finds (world_after rule config steps) (always rule config steps) (run_latest steps (opened rule config) (λ k lt. absurd (omega (arith, lt))))
+always_finds rule config steps =
+    finds (world_after rule config steps) (always rule config steps) (run_latest steps (opened rule config) (λ k lt. absurd (omega (arith, lt))))

@@ -12,11 +12,15 @@ use Rattle.sva_model.specs.State.PageRequestState.{Arrived}
 use Rattle.sva_model.specs.State.GroupState.{Unfinished}
 use Rattle.sva_model.specs.State.HostGroupState.{Job, InHand, InHandDiscarded}
 use Rattle.sva_model.specs.State.OrderState.{Queued, Done}
-use Rattle.sva_model.specs.State.About.{StartOf, StopOf, ResetOrder, CompletionOf, InvalidateOf, ResponseOf, RequestOf, InvalidatedOf, PageRequestOf, MarkerOf, ResetDone}
+use Rattle.sva_model.specs.State.About.{StartOf, StopOf, ResetOrder, CompletionOf, InvalidateOf, ResponseOf, RequestOf, InvalidatedOf, PageRequestOf}
+use Rattle.sva_model.specs.State.About.{MarkerOf, ResetDone}
 use Rattle.sva_model.specs.State.Phase.{Open}
-use Rattle.sva_model.specs.States.{is_open, is_unreleased, is_before_invalidating, is_off, is_out, is_open_group, is_taken, is_busy, is_wait, drains, uses_noted, covers}
+use Rattle.sva_model.specs.States.{is_open, is_unreleased, is_before_invalidating, is_off, is_out, is_open_group, is_taken, is_busy, is_wait, drains}
+use Rattle.sva_model.specs.States.{uses_noted, covers}
 use Rattle.sva_model.specs.Acts.{Own}
-use Rattle.sva_model.specs.Acts.Own.{Bind, Stop, Drain, Invalidate, Quieten, Release, Send, Pass, File, Reset, Hand, Respond, Discard, Ask, Begin, End, Evict, Group, Request, Finish, Quit, Start_arrives, Stop_arrives, Reset_arrives, Keep, Forget, Take, Answered, Complete, Count, Arrive, Miss, Mark, Ignore, Reopen}
+use Rattle.sva_model.specs.Acts.Own.{Bind, Stop, Drain, Invalidate, Quieten, Release, Send, Pass, File, Reset, Hand, Respond, Discard, Ask, Begin, End}
+use Rattle.sva_model.specs.Acts.Own.{Evict, Group, Request, Finish, Quit, Start_arrives, Stop_arrives, Reset_arrives, Keep, Forget, Take, Answered}
+use Rattle.sva_model.specs.Acts.Own.{Complete, Count, Arrive, Miss, Mark, Ignore, Reopen}
 use Rattle.sva_model.specs.Labels.{outstanding, queue_length}
 use Rattle.sva_laws.specs.Laws.{IsVectorOf}
 
@@ -61,7 +65,8 @@ LegalOwn ms g p (Pass k) =
 LegalOwn ms g p (File r) = (p.phase ≡ Open) × (p.page_request r ≡ Arrived) × ((x : ℕ) → p.page_request x ≡ Arrived → p.arrived_as r ≤ p.arrived_as x)
 LegalOwn ms g p Reset = p.phase ≡ Open
 LegalOwn ms g p (Hand x w) = p.host_group x ≡ Job
-LegalOwn ms g p (Respond x code) = (p.phase ≡ Open) × ((w : ℕ) × ((p.host_group x ≡ InHand w) ⊎ (p.host_group x ≡ InHandDiscarded w))) × (is_before_invalidating (p.stage (p.filed_under x)) ≡ true)
+LegalOwn ms g p (Respond x code) = (p.phase ≡ Open) × ((w : ℕ) × ((p.host_group x ≡ InHand w) ⊎ (p.host_group x ≡ InHandDiscarded w)))
+    × (is_before_invalidating (p.stage (p.filed_under x)) ≡ true)
 LegalOwn ms g p (Discard x) =
     ((w : ℕ) × ((p.host_group x ≡ InHand w) ⊎ (p.host_group x ≡ InHandDiscarded w)))
     × (p.phase ≡ Open → is_before_invalidating (p.stage (p.filed_under x)) ≡ false)
@@ -74,7 +79,8 @@ LegalOwn ms g p (Request y q r x l) = (p.group y ≡ Unfinished) × (is_off (p.p
 LegalOwn ms g p (Finish names vector count) =
     ((k : ℕ) × (names k ≡ true))
     × ((k : ℕ) → names k ≡ true → is_taken (p.order_state k) ≡ true)
-    × ((k u : ℕ) → names k ≡ true → u < uses_noted (p.order_state k) → p.use_state u ≡ Running → covers (p.order k) (p.use_binding u) (ms.page (p.use_mapping u)) ≡ false)
+    × ((k u : ℕ) → names k ≡ true → u < uses_noted (p.order_state k) → p.use_state u ≡ Running
+    → covers (p.order k) (p.use_binding u) (ms.page (p.use_mapping u)) ≡ false)
     × (0 < count) × (count ≤ 8) × IsVectorOf p names vector
 LegalOwn ms g p (Quit b) =
     (p.pasid_state b ≡ Ending)
@@ -88,7 +94,8 @@ LegalOwn ms g p (Keep c r m) = (p.message c ≡ Some (CompletionOf r (Some m))) 
 LegalOwn ms g p (Forget c r) = (found : Option ℕ) × (p.message c ≡ Some (CompletionOf r found)) × (is_out (p.request r) ≡ true)
 LegalOwn ms g p (Take c k) = p.message c ≡ Some (InvalidateOf k)
 LegalOwn ms g p (Answered c x code) = p.message c ≡ Some (ResponseOf x code)
-LegalOwn ms g p (Complete c r None answer) = (p.message c ≡ Some (RequestOf r)) × (p.phase ≡ Open) × (answer ≡ CompletionMessage (p.request_tag r) 0 false false)
+LegalOwn ms g p (Complete c r None answer) = (p.message c ≡ Some (RequestOf r)) × (p.phase ≡ Open)
+    × (answer ≡ CompletionMessage (p.request_tag r) 0 false false)
 LegalOwn ms g p (Complete c r (Some m) answer) =
     (p.message c ≡ Some (RequestOf r)) × (p.phase ≡ Open) × (p.stage (p.request_binding r) ≡ Live)
     × (ms.at (p.space (p.request_binding r)) (p.request_page r) ≡ Some m)

@@ -31,8 +31,14 @@ started_on p t h = on_is (p.pasid_state (Labels.bearer p t)) (bearer_of p t (λ 
 
 pub ask : (w : World) (e t q : ℕ) → Invariant w → Passed (refusals w (step.Ask e t q)) → LegalAll w (outcome w (step.Ask e t q)).acts
 ask w e t q i h =
-    let p = w.part e in
-    ((is_less e w.config.endpoints h.0, ((started_on p t (not_true (Labels.is_started p t) h.1.1.0), label_free 32 p.at_tag h.1.1.1.0, label_low 32 p.at_tag h.1.1.1.0), tt), tt), tt)
+    let p = w.part e in (
+      (
+        is_less e w.config.endpoints h.0,
+        ((started_on p t (not_true (Labels.is_started p t) h.1.1.0), label_free 32 p.at_tag h.1.1.1.0, label_low 32 p.at_tag h.1.1.1.0), tt),
+        tt,
+      ),
+      tt,
+    )
 
 -- what is cached for a PASID and page
 pub record Cached (p : Part) (t q : ℕ) : Type 0 where
@@ -61,7 +67,8 @@ cached_is p t q h =
     third : (x y : Bool) (a b : ℕ) → (x && y && a == b) ≡ true → a ≡ b
     third x y a b h = grind (arith, nat_tests)
 
-pub begin : (w : World) (e t q : ℕ) (x : Bool) → Invariant w → Passed (refusals w (step.BeginUse e t q x)) → LegalAll w (outcome w (step.BeginUse e t q x)).acts
+pub begin : (w : World) (e t q : ℕ) (x : Bool) → Invariant w → Passed (refusals w (step.BeginUse e t q x))
+    → LegalAll w (outcome w (step.BeginUse e t q x)).acts
 begin w e t q x i h =
     let p = w.part e in
     let c = cached_is p t q (not_true (Labels.is_cached p t q) h.1.1.1.0) in (
@@ -101,8 +108,11 @@ index_free g p gr bo h = go (lowest_cases 32 (λ t. not (is_some (p.at_index t))
     full all =
         pigeons 32 p.page_requests (λ r. is_outstanding (p.group (p.group_of r))) (λ j. p.first_request (the (p.at_index j)))
         (λ j l. (gr.first (the (p.at_index j)) (made j l all)).0)
-        (λ j l. ap (λ z. is_outstanding (p.group z)) (gr.first (the (p.at_index j)) (made j l all)).1 ∙ (gr.index_bears j (the (p.at_index j)) (there j l all)).1)
-        (λ j k l m e. sym (gr.index_bears j (the (p.at_index j)) (there j l all)).0 ∙ ap p.index (sym (gr.first (the (p.at_index j)) (made j l all)).1 ∙ ap p.group_of e ∙ (gr.first (the (p.at_index k)) (made k m all)).1) ∙ (gr.index_bears k (the (p.at_index k)) (there k m all)).0)
+        (λ j l. ap (λ z. is_outstanding (p.group z)) (gr.first (the (p.at_index j)) (made j l all)).1
+        ∙ (gr.index_bears j (the (p.at_index j)) (there j l all)).1)
+        (λ j k l m e. sym (gr.index_bears j (the (p.at_index j)) (there j l all)).0
+        ∙ ap p.index (sym (gr.first (the (p.at_index j)) (made j l all)).1 ∙ ap p.group_of e ∙ (gr.first (the (p.at_index k)) (made k m all)).1)
+        ∙ (gr.index_bears k (the (p.at_index k)) (there k m all)).0)
       where
         there : (j : ℕ) → j < 32 → ((j : ℕ) → j < 32 → not (is_some (p.at_index j)) ≡ false) → p.at_index j ≡ Some (the (p.at_index j))
         there j l all = some_the (p.at_index j) (not_true (is_some (p.at_index j)) (all j l))
@@ -119,7 +129,9 @@ index_free g p gr bo h = go (lowest_cases 32 (λ t. not (is_some (p.at_index t))
     below : (k : ℕ) → k < 32 → (k == 32) ≡ false
     below k l = grind (arith, nat_tests)
 
-    go : ((Labels.lowest_label 32 p.at_index ≡ 32) × ((j : ℕ) → j < 32 → not (is_some (p.at_index j)) ≡ false)) ⊎ ((Labels.lowest_label 32 p.at_index < 32) × (not (is_some (p.at_index (Labels.lowest_label 32 p.at_index))) ≡ true) × ((j : ℕ) → j < Labels.lowest_label 32 p.at_index → not (is_some (p.at_index j)) ≡ false)) → (Labels.lowest_label 32 p.at_index == 32) ≡ false
+    go : ((Labels.lowest_label 32 p.at_index ≡ 32) × ((j : ℕ) → j < 32 → not (is_some (p.at_index j)) ≡ false))
+        ⊎ ((Labels.lowest_label 32 p.at_index < 32) × (not (is_some (p.at_index (Labels.lowest_label 32 p.at_index))) ≡ true)
+        × ((j : ℕ) → j < Labels.lowest_label 32 p.at_index → not (is_some (p.at_index j)) ≡ false)) → (Labels.lowest_label 32 p.at_index == 32) ≡ false
     go (inl x) = absurd (less (full x.1) h)
     go (inr x) = below (Labels.lowest_label 32 p.at_index) x.0
 
@@ -129,20 +141,36 @@ credit p h = grind (arith, nat_tests)
 unfinished_is : (s : GroupState) → is_unfinished s ≡ true → s ≡ Unfinished
 unfinished_is s h = grind arith
 
-fault_at : (w : World) (e t q : ℕ) (r x l : Bool) (o : Option ℕ) → Invariant w → e < w.config.endpoints → Passed (fault_refusals w (w.part e) t o) → LegalAll w (fault_outcome (w.part e) e t q r x l o).acts
+fault_at : (w : World) (e t q : ℕ) (r x l : Bool) (o : Option ℕ) → Invariant w → e < w.config.endpoints → Passed (fault_refusals w (w.part e) t o)
+    → LegalAll w (fault_outcome (w.part e) e t q r x l o).acts
 fault_at w e t q r x l None i b h =
     let p = w.part e in
     let some = index_free w.bindings p (i.parts e).groups (i.parts e).bounds h.1.0 in
     ((b, ((started_on p t (not_true (Labels.is_started p t) h.0), label_free 32 p.at_index some, label_low 32 p.at_index some, credit p h.1.0), tt), tt), tt)
 fault_at w e t q r x l (Some k) i b h =
     let p = w.part e in
-    let g = group_is (p.at_index k) (not_true (Labels.is_group_of p t k) h.1.1.0) in
-    ((b, ((unfinished_is (p.group (the (p.at_index k))) g.0, alive g.1 (not_true (Labels.is_started p t || Labels.is_told_to_stop p t) h.0), credit p h.1.0), tt), tt), tt)
+    let g = group_is (p.at_index k) (not_true (Labels.is_group_of p t k) h.1.1.0) in (
+      (
+        b,
+        (
+          (
+            unfinished_is (p.group (the (p.at_index k))) g.0,
+            alive g.1 (not_true (Labels.is_started p t || Labels.is_told_to_stop p t) h.0),
+            credit p h.1.0,
+          ),
+          tt,
+        ),
+        tt,
+      ),
+      tt,
+    )
   where
     parts_of : (a c : Bool) (x y : ℕ) → (a && c && x == y) ≡ true → (a ≡ true) × (x ≡ y)
     parts_of a c x y h = grind (arith, nat_tests)
 
-    group_is : (o : Option ℕ) → holds_of (λ g. is_unfinished ((w.part e).group g) && is_some ((w.part e).at_pasid t) && (w.part e).asker g == Labels.bearer (w.part e) t) o ≡ true → (is_unfinished ((w.part e).group (the o)) ≡ true) × ((w.part e).asker (the o) ≡ Labels.bearer (w.part e) t)
+    group_is : (o : Option ℕ)
+        → holds_of (λ g. is_unfinished ((w.part e).group g) && is_some ((w.part e).at_pasid t) && (w.part e).asker g == Labels.bearer (w.part e) t) o
+        ≡ true → (is_unfinished ((w.part e).group (the o)) ≡ true) × ((w.part e).asker (the o) ≡ Labels.bearer (w.part e) t)
     group_is None h = absurd (cc)
     group_is (Some g) h = parts_of (is_unfinished ((w.part e).group g)) (is_some ((w.part e).at_pasid t)) ((w.part e).asker g) (Labels.bearer (w.part e) t) h
 
@@ -154,18 +182,24 @@ fault_at w e t q r x l (Some k) i b h =
     either true c h = inl refl
     either false c h = inr h
 
-    alive : (w.part e).asker (the ((w.part e).at_index k)) ≡ Labels.bearer (w.part e) t → (Labels.is_started (w.part e) t || Labels.is_told_to_stop (w.part e) t) ≡ true → is_off ((w.part e).pasid_state ((w.part e).asker (the ((w.part e).at_index k)))) ≡ false
+    alive : (w.part e).asker (the ((w.part e).at_index k)) ≡ Labels.bearer (w.part e) t
+        → (Labels.is_started (w.part e) t || Labels.is_told_to_stop (w.part e) t) ≡ true
+        → is_off ((w.part e).pasid_state ((w.part e).asker (the ((w.part e).at_index k)))) ≡ false
     alive same h = ap (λ b. is_off ((w.part e).pasid_state b)) same ∙ go (either (Labels.is_started (w.part e) t) (Labels.is_told_to_stop (w.part e) t) h)
       where
-        go : (Labels.is_started (w.part e) t ≡ true) ⊎ (Labels.is_told_to_stop (w.part e) t ≡ true) → is_off ((w.part e).pasid_state (Labels.bearer (w.part e) t)) ≡ false
+        go : (Labels.is_started (w.part e) t ≡ true) ⊎ (Labels.is_told_to_stop (w.part e) t ≡ true)
+            → is_off ((w.part e).pasid_state (Labels.bearer (w.part e) t)) ≡ false
         go (inl k) = not_off ((w.part e).pasid_state (Labels.bearer (w.part e) t)) (inl (started_on (w.part e) t k))
-        go (inr k) = not_off ((w.part e).pasid_state (Labels.bearer (w.part e) t)) (inr (ending_is ((w.part e).pasid_state (Labels.bearer (w.part e) t)) (bearer_of (w.part e) t (λ b. is_ending ((w.part e).pasid_state b)) k).1))
+        go (inr k) = not_off ((w.part e).pasid_state (Labels.bearer (w.part e) t))
+            (inr (ending_is ((w.part e).pasid_state (Labels.bearer (w.part e) t)) (bearer_of (w.part e) t (λ b. is_ending ((w.part e).pasid_state b)) k).1))
 
-pub fault : (w : World) (e t q : ℕ) (r x : Bool) (o : Option ℕ) (l : Bool) → Invariant w → Passed (refusals w (step.Fault e t q r x o l)) → LegalAll w (outcome w (step.Fault e t q r x o l)).acts
+pub fault : (w : World) (e t q : ℕ) (r x : Bool) (o : Option ℕ) (l : Bool) → Invariant w → Passed (refusals w (step.Fault e t q r x o l))
+    → LegalAll w (outcome w (step.Fault e t q r x o l)).acts
 fault w e t q r x o l i h = fault_at w e t q r x l o i (is_less e w.config.endpoints h.0) h.1.1
 
 -- Finish: each named invalidation is taken, at least one is named, and no use that one noted runs on.
-finish_set : (w : World) (e vector t : ℕ) → Invariant w → any_below 32 (λ t. Labels.is_set vector t && not (Labels.is_pending (w.part e) t)) ≡ false → t < 32 → Labels.is_set vector t ≡ true → (k : ℕ) × (Labels.is_named (w.part e) vector k ≡ true) × ((w.part e).itag k ≡ t)
+finish_set : (w : World) (e vector t : ℕ) → Invariant w → any_below 32 (λ t. Labels.is_set vector t && not (Labels.is_pending (w.part e) t)) ≡ false
+    → t < 32 → Labels.is_set vector t ≡ true → (k : ℕ) × (Labels.is_named (w.part e) vector k ≡ true) × ((w.part e).itag k ≡ t)
 finish_set w e vector t i pending l s =
     let p = w.part e in
     let there = pending_at p is_pending in
@@ -174,7 +208,8 @@ finish_set w e vector t i pending l s =
     (k, both (is_taken (p.order_state k)) (Labels.is_set vector (p.itag k)) there.1 (ap (Labels.is_set vector) bears ∙ s), bears)
   where
     is_pending : Labels.is_pending (w.part e) t ≡ true
-    is_pending = second (Labels.is_set vector t) (Labels.is_pending (w.part e) t) s (any_below-false 32 (λ t. Labels.is_set vector t && not (Labels.is_pending (w.part e) t)) pending t l)
+    is_pending = second (Labels.is_set vector t) (Labels.is_pending (w.part e) t) s
+        (any_below-false 32 (λ t. Labels.is_set vector t && not (Labels.is_pending (w.part e) t)) pending t l)
       where
         second : (a b : Bool) → a ≡ true → (a && not b) ≡ false → b ≡ true
         second a b x y = grind arith
@@ -189,25 +224,33 @@ finish_set w e vector t i pending l s =
     both : (a b : Bool) → a ≡ true → b ≡ true → (a && b) ≡ true
     both a b x y = grind arith
 
-finish_named : (w : World) (e vector : ℕ) → Invariant w → Labels.names_none vector ≡ false → any_below 32 (λ t. Labels.is_set vector t && not (Labels.is_pending (w.part e) t)) ≡ false → (k : ℕ) × (Labels.is_named (w.part e) vector k ≡ true)
+finish_named : (w : World) (e vector : ℕ) → Invariant w → Labels.names_none vector ≡ false
+    → any_below 32 (λ t. Labels.is_set vector t && not (Labels.is_pending (w.part e) t)) ≡ false → (k : ℕ) × (Labels.is_named (w.part e) vector k ≡ true)
 finish_named w e vector i some pending =
     let set = any_below-true 32 (Labels.is_set vector) (not_true (any_below 32 (Labels.is_set vector)) some) in
     let found = finish_set w e vector set.0 i pending set.1 set.2 in
     (found.0, found.1)
 
-finish_vector : (w : World) (e vector : ℕ) → Invariant w → any_below 32 (λ t. Labels.is_set vector t && not (Labels.is_pending (w.part e) t)) ≡ false → IsVectorOf (w.part e) (Labels.is_named (w.part e) vector) vector
+finish_vector : (w : World) (e vector : ℕ) → Invariant w → any_below 32 (λ t. Labels.is_set vector t && not (Labels.is_pending (w.part e) t)) ≡ false
+    → IsVectorOf (w.part e) (Labels.is_named (w.part e) vector) vector
 finish_vector w e vector i pending =
     record {
       named = λ k nm. and_right (is_taken ((w.part e).order_state k)) (Labels.is_set vector ((w.part e).itag k)) nm;
       set = λ t l s. finish_set w e vector t i pending l s;
     }
 
-finish_unused : (w : World) (e vector : ℕ) → Invariant w → any_below (w.part e).orders (λ k. Labels.is_named (w.part e) vector k && Labels.is_in_use w (w.part e) k) ≡ false → (k u : ℕ) → Labels.is_named (w.part e) vector k ≡ true → u < uses_noted ((w.part e).order_state k) → (w.part e).use_state u ≡ Running → covers ((w.part e).order k) ((w.part e).use_binding u) (w.mappings.page ((w.part e).use_mapping u)) ≡ false
+finish_unused : (w : World) (e vector : ℕ) → Invariant w
+    → any_below (w.part e).orders (λ k. Labels.is_named (w.part e) vector k && Labels.is_in_use w (w.part e) k) ≡ false → (k u : ℕ)
+    → Labels.is_named (w.part e) vector k ≡ true → u < uses_noted ((w.part e).order_state k) → (w.part e).use_state u ≡ Running
+    → covers ((w.part e).order k) ((w.part e).use_binding u) (w.mappings.page ((w.part e).use_mapping u)) ≡ false
 finish_unused w e vector i h k u nm l r =
     let p = w.part e in
     let made : k < p.orders = taken_made k (and_left (is_taken (p.order_state k)) (Labels.is_set vector (p.itag k)) nm) in
-    let unused : Labels.is_in_use w p k ≡ false = second (Labels.is_named p vector k) (Labels.is_in_use w p k) nm (any_below-false p.orders (λ j. Labels.is_named p vector j && Labels.is_in_use w p j) h k made) in
-    second (is_running (p.use_state u)) (covers (p.order k) (p.use_binding u) (w.mappings.page (p.use_mapping u))) (ap is_running r) (any_below-false (uses_noted (p.order_state k)) (Labels.is_noted_running w.mappings p k) unused u l)
+    let unused : Labels.is_in_use w p k ≡ false =
+    second (Labels.is_named p vector k) (Labels.is_in_use w p k) nm
+    (any_below-false p.orders (λ j. Labels.is_named p vector j && Labels.is_in_use w p j) h k made) in
+    second (is_running (p.use_state u)) (covers (p.order k) (p.use_binding u) (w.mappings.page (p.use_mapping u))) (ap is_running r)
+    (any_below-false (uses_noted (p.order_state k)) (Labels.is_noted_running w.mappings p k) unused u l)
   where
     taken_made : (k : ℕ) → is_taken ((w.part e).order_state k) ≡ true → k < (w.part e).orders
     taken_made k t = grind (arith, (i.parts e).bounds.order_state k)
@@ -215,7 +258,8 @@ finish_unused w e vector i h k u nm l r =
     second : (a b : Bool) → a ≡ true → (a && b) ≡ false → b ≡ false
     second a b x y = grind arith
 
-pub finish : (w : World) (e vector count : ℕ) → Invariant w → Passed (refusals w (step.Finish e vector count)) → LegalAll w (outcome w (step.Finish e vector count)).acts
+pub finish : (w : World) (e vector count : ℕ) → Invariant w → Passed (refusals w (step.Finish e vector count))
+    → LegalAll w (outcome w (step.Finish e vector count)).acts
 finish w e vector count i h =
     let p = w.part e in
     let some = or_left (Labels.names_none vector) (any_below 32 (λ t. Labels.is_set vector t && not (Labels.is_pending p t))) h.1.0 in
@@ -251,17 +295,22 @@ quit w e t i h =
     let b = Labels.bearer p t in
     let ending = bearer_of p t (λ d. is_ending (p.pasid_state d)) (not_true (Labels.is_told_to_stop p t) h.1.0) in
     let busy = h.1.1.0 in
-    let groups = or_left (Labels.is_unfinished_of p b) (Labels.is_request_out_of p b) (or_left (Labels.is_unfinished_of p b || Labels.is_request_out_of p b) (Labels.is_use_of p b) busy) in
-    let requests = or_right (Labels.is_unfinished_of p b) (Labels.is_request_out_of p b) (or_left (Labels.is_unfinished_of p b || Labels.is_request_out_of p b) (Labels.is_use_of p b) busy) in
+    let groups = or_left (Labels.is_unfinished_of p b) (Labels.is_request_out_of p b)
+    (or_left (Labels.is_unfinished_of p b || Labels.is_request_out_of p b) (Labels.is_use_of p b) busy) in
+    let requests = or_right (Labels.is_unfinished_of p b) (Labels.is_request_out_of p b)
+    (or_left (Labels.is_unfinished_of p b || Labels.is_request_out_of p b) (Labels.is_use_of p b) busy) in
     let uses = or_right (Labels.is_unfinished_of p b || Labels.is_request_out_of p b) (Labels.is_use_of p b) busy in (
       (
         is_less e w.config.endpoints h.0,
         (
           (
             ending_is (p.pasid_state b) ending.1,
-            λ x u same. none (is_unfinished (p.group x)) (p.asker x) b (ap is_unfinished u) same (any_below-false p.groups (λ g. is_unfinished (p.group g) && p.asker g == b) groups x (group_made x u)),
-            λ r o same. none (is_out (p.request r)) (p.request_binding r) b o same (any_below-false p.requests (λ x. is_out (p.request x) && p.request_binding x == b) requests r (request_made r o)),
-            λ u r same. none (is_running (p.use_state u)) (p.use_binding u) b (ap is_running r) same (any_below-false p.uses (λ x. is_running (p.use_state x) && p.use_binding x == b) uses u (use_made u r)),
+            λ x u same. none (is_unfinished (p.group x)) (p.asker x) b (ap is_unfinished u) same
+                (any_below-false p.groups (λ g. is_unfinished (p.group g) && p.asker g == b) groups x (group_made x u)),
+            λ r o same. none (is_out (p.request r)) (p.request_binding r) b o same
+                (any_below-false p.requests (λ x. is_out (p.request x) && p.request_binding x == b) requests r (request_made r o)),
+            λ u r same. none (is_running (p.use_state u)) (p.use_binding u) b (ap is_running r) same
+                (any_below-false p.uses (λ x. is_running (p.use_state x) && p.use_binding x == b) uses u (use_made u r)),
           ),
           tt,
         ),

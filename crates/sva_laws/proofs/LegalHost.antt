@@ -53,7 +53,11 @@ bind w e n i h =
               (is.low w e s t given).1,
               none,
             ),
-            (and_right (Labels.is_number w w.spaces n) (w.is_live s) (not_true (Labels.is_space w n) h.1.0), λ r. is.its w e s t r refl i given, put-same w.home w.bindings e),
+            (
+              and_right (Labels.is_number w w.spaces n) (w.is_live s) (not_true (Labels.is_space w n) h.1.0),
+              λ r. is.its w e s t r refl i given,
+              put-same w.home w.bindings e,
+            ),
           ),
           tt,
         ),
@@ -65,9 +69,12 @@ bind w e n i h =
 home_there : (w : World) (n : ℕ) → Invariant w → not (Labels.is_binding w n) ≡ false → w.home (Labels.name w n) < w.config.endpoints
 home_there w n i h =
     let b = Labels.name w n in
-    (i.parts (w.home b)).there b (unreleased_bound (w.part (w.home b)) b (and_right (Labels.is_number w w.bindings n) (is_unreleased ((w.part (w.home b)).stage b)) (not_true (Labels.is_binding w n) h)))
+    (i.parts (w.home b)).there b
+    (unreleased_bound (w.part (w.home b)) b
+    (and_right (Labels.is_number w w.bindings n) (is_unreleased ((w.part (w.home b)).stage b)) (not_true (Labels.is_binding w n) h)))
 
-unbind_at : (w : World) (e b : ℕ) (s : Stage) → e < w.config.endpoints → (w.part e).stage b ≡ s → Passed (unbind_refusals w e s) → LegalAll w (unbind_outcome e b s).acts
+unbind_at : (w : World) (e b : ℕ) (s : Stage) → e < w.config.endpoints → (w.part e).stage b ≡ s → Passed (unbind_refusals w e s)
+    → LegalAll w (unbind_outcome e b s).acts
 unbind_at w e b Lost l f h = ((l, (inl f, tt), tt), tt)
 unbind_at w e b Live l f h = ((l, ((opened_is (w.part e) h.1.0, f), tt), tt), tt)
 unbind_at w e b Unbound l f h = absurd (cc h.0)
@@ -78,7 +85,8 @@ unbind_at w e b Quiet l f h = absurd (cc h.0)
 unbind_at w e b Released l f h = absurd (cc h.0)
 
 pub unbind : (w : World) (n : ℕ) → Invariant w → Passed (refusals w (step.Unbind n)) → LegalAll w (outcome w (step.Unbind n)).acts
-unbind w n i h = unbind_at w (w.home (Labels.name w n)) (Labels.name w n) ((w.part (w.home (Labels.name w n))).stage (Labels.name w n)) (home_there w n i h.0) refl h.1
+unbind w n i h = unbind_at w (w.home (Labels.name w n)) (Labels.name w n) ((w.part (w.home (Labels.name w n))).stage (Labels.name w n))
+    (home_there w n i h.0) refl h.1
 
 done_is : (s : OrderState) → is_done s ≡ true → s ≡ Done
 done_is s h = grind arith
@@ -90,7 +98,8 @@ short_two : (p : Part) → is_queue_short p 2 ≡ false → suc (Labels.queue_le
 short_two p h = grind (arith, nat_tests)
 
 -- no group of the binding is open
-no_open_group : (g : ℕ) (p : Part) (b : ℕ) → Bounds g p → Labels.has_open_group p b ≡ false → (x : ℕ) → is_open_group (p.host_group x) ≡ true → p.filed_under x ≢ b
+no_open_group : (g : ℕ) (p : Part) (b : ℕ) → Bounds g p → Labels.has_open_group p b ≡ false → (x : ℕ) → is_open_group (p.host_group x) ≡ true
+    → p.filed_under x ≢ b
 no_open_group g p b bo h x o same =
     let lt = made x o in
     let f = any_below-false p.groups (λ y. is_open_group (p.host_group y) && p.filed_under y == b) h x lt in
@@ -102,15 +111,31 @@ no_open_group g p b bo h x o same =
     both : (x : ℕ) → is_open_group (p.host_group x) ≡ true → p.filed_under x ≡ b → (is_open_group (p.host_group x) && p.filed_under x == b) ≢ false
     both x o same f = grind (arith, nat_tests)
 
-advance_at : (w : World) (e b : ℕ) (s : Stage) → Invariant w → e < w.config.endpoints → (w.part e).stage b ≡ s → Passed (advance_refusals w e b s) → LegalAll w (advance_outcome w e b s).acts
+advance_at : (w : World) (e b : ℕ) (s : Stage) → Invariant w → e < w.config.endpoints → (w.part e).stage b ≡ s → Passed (advance_refusals w e b s)
+    → LegalAll w (advance_outcome w e b s).acts
 advance_at w e b Quiet i l f h = ((l, (f, tt), tt), tt)
 advance_at w e b (Stopping m) i l f h =
     let yes : m ≡ true = not_true m h.1.0 in
     ((l, ((opened_is (w.part e) h.0, f ∙ ap (λ x. Stopping x) yes, short_one (w.part e) h.1.1.0), refl), tt), tt)
 advance_at w e b (Draining x) i l f h =
-    let done : is_done ((w.part e).order_state x) ≡ true = not_true (is_done ((w.part e).order_state x)) (or_left (not (is_done ((w.part e).order_state x))) (Labels.has_open_group (w.part e) b) h.1.0) in
-    let none = or_right (not (is_done ((w.part e).order_state x))) (Labels.has_open_group (w.part e) b) h.1.0 in
-    ((l, ((opened_is (w.part e) h.0, (x, f, done_is ((w.part e).order_state x) done), short_two (w.part e) h.1.1.0, no_open_group w.bindings (w.part e) b (i.parts e).bounds none), refl), tt), tt)
+    let done : is_done ((w.part e).order_state x) ≡ true =
+    not_true (is_done ((w.part e).order_state x)) (or_left (not (is_done ((w.part e).order_state x))) (Labels.has_open_group (w.part e) b) h.1.0) in
+    let none = or_right (not (is_done ((w.part e).order_state x))) (Labels.has_open_group (w.part e) b) h.1.0 in (
+      (
+        l,
+        (
+          (
+            opened_is (w.part e) h.0,
+            (x, f, done_is ((w.part e).order_state x) done),
+            short_two (w.part e) h.1.1.0,
+            no_open_group w.bindings (w.part e) b (i.parts e).bounds none,
+          ),
+          refl,
+        ),
+        tt,
+      ),
+      tt,
+    )
 advance_at w e b (Invalidating k x) i l f h =
     let done : is_done ((w.part e).order_state x) ≡ true = not_true (is_done ((w.part e).order_state x)) h.1.0 in
     ((l, (inr (k, x, opened_is (w.part e) h.0, f, done_is ((w.part e).order_state x) done), tt), tt), tt)
@@ -120,7 +145,8 @@ advance_at w e b Lost i l f h = absurd (cc h.1.0)
 advance_at w e b Released i l f h = absurd (cc h.1.0)
 
 pub advance : (w : World) (n : ℕ) → Invariant w → Passed (refusals w (step.Advance n)) → LegalAll w (outcome w (step.Advance n)).acts
-advance w n i h = advance_at w (w.home (Labels.name w n)) (Labels.name w n) ((w.part (w.home (Labels.name w n))).stage (Labels.name w n)) i (home_there w n i h.0) refl h.1
+advance w n i h = advance_at w (w.home (Labels.name w n)) (Labels.name w n) ((w.part (w.home (Labels.name w n))).stage (Labels.name w n)) i
+    (home_there w n i h.0) refl h.1
 
 -- an unmapping takes out at least one page
 pub unmap : (w : World) (n q count : ℕ) → Passed (refusals w (step.Unmap n q count)) → LegalAll w (outcome w (step.Unmap n q count)).acts

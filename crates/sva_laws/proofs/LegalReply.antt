@@ -14,7 +14,8 @@ use Rattle.sva_model.specs.Acts.{Own, act}
 use Rattle.sva_model.specs.Acts.Act.{Map, LetGo, At}
 use Rattle.sva_model.specs.Refusals.{refusals}
 use Rattle.sva_model.specs.Outcomes.{outcome, reply_outcome}
-use Rattle.sva_model.specs.Replies.{response, response_to, is_success, replies_success, unseen, newly_mapped, maps_to, reply_maps, free_list, is_write_asked, job_part, job_binding, job_space, job_asks}
+use Rattle.sva_model.specs.Replies.{response, response_to, is_success, replies_success, unseen, newly_mapped, maps_to, reply_maps, free_list}
+use Rattle.sva_model.specs.Replies.{is_write_asked, job_part, job_binding, job_space, job_asks}
 use Rattle.sva_model.specs.Labels
 use Rattle.sva_laws.proofs.Words.{put-same, put-other, ℕ_cases, none_is, some_the, not_true}
 use Rattle.sva_laws.proofs.Invariant.{Invariant, IsHeldBy}
@@ -60,7 +61,8 @@ are_free_other w s q f x [] i n a = tt
 are_free_other w s q f x (g ∷ gs) i n a = ((free_other w s q f g x i n.0 a.0.0, a.0.1), (a.1.0, are_free_other w s q f x gs i n.1 a.1.1))
 
 -- a page that is mapped isn't to be mapped again
-next_unmapped : (w : World) (s q f : ℕ) (x : Bool) (seen : ℕ → Bool) → ((r : ℕ) → seen r ≡ false → w.mappings.at s r ≡ None) → (r : ℕ) → (r == q || seen r) ≡ false → (act w (Map s q f x)).mappings.at s r ≡ None
+next_unmapped : (w : World) (s q f : ℕ) (x : Bool) (seen : ℕ → Bool) → ((r : ℕ) → seen r ≡ false → w.mappings.at s r ≡ None) → (r : ℕ)
+    → (r == q || seen r) ≡ false → (act w (Map s q f x)).mappings.at s r ≡ None
 next_unmapped w s q f x seen u r h =
     let ne : r ≢ q = differ r h in
     ap (λ g. g r) (put-same w.mappings.at s (put (w.mappings.at s) q (Some w.mappings.made)))
@@ -74,13 +76,22 @@ next_unmapped w s q f x seen u r h =
     rest r h = grind (arith, nat_tests)
 
 -- the pages that are mapped by a success, and then the response
-maps_legal : (x e g : ℕ) (code : Code) (s : ℕ) (write : ℕ → Bool) (qs : List ℕ) (seen : ℕ → Bool) (fs : List ℕ) (w : World) → Invariant w → w.is_live s ≡ true → ((q : ℕ) → seen q ≡ false → w.mappings.at s q ≡ None) → AreFree w fs → LegalAll w (LetGo x ∷ At e (Own.Respond g code) ∷ []) → LegalAll w (maps_to s write (unseen seen qs) fs ++ LetGo x ∷ At e (Own.Respond g code) ∷ [])
+maps_legal : (x e g : ℕ) (code : Code) (s : ℕ) (write : ℕ → Bool) (qs : List ℕ) (seen : ℕ → Bool) (fs : List ℕ) (w : World) → Invariant w
+    → w.is_live s ≡ true → ((q : ℕ) → seen q ≡ false → w.mappings.at s q ≡ None) → AreFree w fs
+    → LegalAll w (LetGo x ∷ At e (Own.Respond g code) ∷ []) → LegalAll w (maps_to s write (unseen seen qs) fs ++ LetGo x ∷ At e (Own.Respond g code) ∷ [])
 maps_legal x e g code s write [] seen fs w i l u a rest = rest
 maps_legal x e g code s write (q ∷ qs) seen fs w i l u a rest =
     go (seen q) refl (λ fs' k. maps_legal x e g code s write qs seen fs' w i l u k rest) fs a
-    (λ f fs' h k. maps_legal x e g code s write qs (λ r. r == q || seen r) fs' (act w (Map s q f (write q))) (act_keeps w (Map s q f (write q)) h i) l (next_unmapped w s q f (write q) seen u) k rest)
+    (λ f fs' h k. maps_legal x e g code s write qs (λ r. r == q || seen r) fs' (act w (Map s q f (write q))) (act_keeps w (Map s q f (write q)) h i)
+    l (next_unmapped w s q f (write q) seen u) k rest)
   where
-    go : (b : Bool) → seen q ≡ b → ((fs' : List ℕ) → AreFree w fs' → LegalAll w (maps_to s write (unseen seen qs) fs' ++ LetGo x ∷ At e (Own.Respond g code) ∷ [])) → (fs' : List ℕ) → AreFree w fs' → ((f : ℕ) (fs'' : List ℕ) → Legal w (Map s q f (write q)) → AreFree (act w (Map s q f (write q))) fs'' → LegalAll (act w (Map s q f (write q))) (maps_to s write (unseen (λ r. r == q || seen r) qs) fs'' ++ LetGo x ∷ At e (Own.Respond g code) ∷ [])) → LegalAll w (maps_to s write (if b then unseen seen qs else q ∷ unseen (λ r. r == q || seen r) qs) fs' ++ LetGo x ∷ At e (Own.Respond g code) ∷ [])
+    go : (b : Bool) → seen q ≡ b
+        → ((fs' : List ℕ) → AreFree w fs' → LegalAll w (maps_to s write (unseen seen qs) fs' ++ LetGo x ∷ At e (Own.Respond g code) ∷ []))
+        → (fs' : List ℕ) → AreFree w fs'
+        → ((f : ℕ) (fs'' : List ℕ) → Legal w (Map s q f (write q)) → AreFree (act w (Map s q f (write q))) fs''
+        → LegalAll (act w (Map s q f (write q))) (maps_to s write (unseen (λ r. r == q || seen r) qs) fs'' ++ LetGo x ∷ At e (Own.Respond g code)
+        ∷ [])) → LegalAll w (maps_to s write (if b then unseen seen qs else q ∷ unseen (λ r. r == q || seen r) qs) fs' ++ LetGo x
+        ∷ At e (Own.Respond g code) ∷ [])
     go true h same fs' k next = same fs' k
     go false h same [] k next = rest
     go false h same (f ∷ fs') k next =
@@ -124,11 +135,17 @@ select_free w zero lt = record { below = tt; free = tt }
 select_free w (suc n) lt = go (is_free w n) refl (select_free w n (omega (arith, lt)))
   where
     go : (b : Bool) → is_free w n ≡ b → Selected w n (select n (is_free w)) → Selected w (suc n) (select n (is_free w) ++ (if b then n ∷ [] else []))
-    go true h r = record { below = below_push n (select n (is_free w)) r.below; free = are_free_push w n (select n (is_free w)) r.below (h, omega (arith, lt)) r.free }
-    go false h r = subst (λ z. Selected w (suc n) z) (sym (append_none (select n (is_free w)))) (record { below = below_more n (select n (is_free w)) r.below; free = r.free })
+    go true h r = record {
+      below = below_push n (select n (is_free w)) r.below;
+      free =
+          are_free_push w n (select n (is_free w)) r.below (h, omega (arith, lt)) r.free;
+    }
+    go false h r = subst (λ z. Selected w (suc n) z) (sym (append_none (select n (is_free w))))
+        (record { below = below_more n (select n (is_free w)) r.below; free = r.free })
 
 -- the job of a hand is in that hand alone
-let_go : (w : World) (x j : ℕ) → Invariant w → w.hand x ≡ Some j → (y k : ℕ) → put w.hand x None y ≡ Some k → (w.job k).endpoint ≡ (w.job j).endpoint → (w.job k).group ≢ (w.job j).group
+let_go : (w : World) (x j : ℕ) → Invariant w → w.hand x ≡ Some j → (y k : ℕ) → put w.hand x None y ≡ Some k → (w.job k).endpoint ≡ (w.job j).endpoint
+    → (w.job k).group ≢ (w.job j).group
 let_go w x j i h y k g e same = go (ℕ_cases y x)
   where
     go : (y ≡ x) ⊎ (y ≢ x) → ⊥
@@ -136,7 +153,9 @@ let_go w x j i h y k g e same = go (ℕ_cases y x)
     go (inr ne) =
         let mine = i.hands.held x j h in
         let theirs = i.hands.held y k (sym (put-other w.hand x None y ne) ∙ g) in
-        let here : IsHeldBy ((w.part (w.job j).endpoint).host_group (w.job j).group) y = subst (λ z. IsHeldBy ((w.part z).host_group (w.job j).group) y) e (subst (λ z. IsHeldBy ((w.part (w.job k).endpoint).host_group z) y) same theirs) in
+        let here : IsHeldBy ((w.part (w.job j).endpoint).host_group (w.job j).group) y =
+        subst (λ z. IsHeldBy ((w.part z).host_group (w.job j).group) y) e
+        (subst (λ z. IsHeldBy ((w.part (w.job k).endpoint).host_group z) y) same theirs) in
         ne (one_hand ((w.part (w.job j).endpoint).host_group (w.job j).group) mine here)
       where
         one_hand : (s : HostGroupState) → IsHeldBy s x → IsHeldBy s y → y ≡ x
@@ -185,19 +204,33 @@ success_live false s v h = absurd (cc)
 in_hand : (w : World) (x j : ℕ) → Invariant w → w.hand x ≡ Some j → (y : ℕ) × IsHeldBy ((w.part (w.job j).endpoint).host_group (w.job j).group) y
 in_hand w x j i h = (x, i.hands.held x j h)
 
-reply_at : (w : World) (x j : ℕ) (v : Verdict) (o : Option Code) → Invariant w → w.hand x ≡ Some j → response_to w j v ≡ o → LegalAll w (reply_outcome w x j (reply_maps w j v) o).acts
-reply_at w x j v None i h r =
-    (tt, ((hand_there w x j i h, ((in_hand w x j i h, λ ph. silent (is_open (job_part w j).phase) ((job_part w j).stage (job_binding w j)) v r (ap is_open ph)), tt), let_go w x j i h), tt))
+reply_at : (w : World) (x j : ℕ) (v : Verdict) (o : Option Code) → Invariant w → w.hand x ≡ Some j → response_to w j v ≡ o
+    → LegalAll w (reply_outcome w x j (reply_maps w j v) o).acts
+reply_at w x j v None i h r = (
+  tt,
+  (
+    (
+      hand_there w x j i h,
+      ((in_hand w x j i h, λ ph. silent (is_open (job_part w j).phase) ((job_part w j).stage (job_binding w j)) v r (ap is_open ph)), tt),
+      let_go w x j i h,
+    ),
+    tt,
+  ),
+)
 reply_at w x j v (Some code) i h r =
     let sent = sent_open (is_open (job_part w j).phase) ((job_part w j).stage (job_binding w j)) v code r in
     let rest : LegalAll w (LetGo x ∷ At (w.job j).endpoint (Own.Respond (w.job j).group code) ∷ []) =
     (tt, ((hand_there w x j i h, ((open_is (job_part w j) sent.0, in_hand w x j i h, sent.1), tt), let_go w x j i h), tt)) in
     go (replies_success w j v) refl rest
   where
-    go : (b : Bool) → replies_success w j v ≡ b → LegalAll w (LetGo x ∷ At (w.job j).endpoint (Own.Respond (w.job j).group code) ∷ []) → LegalAll w ((if b then maps_to (job_space w j) (is_write_asked w j) (newly_mapped w j) (free_list w) else []) ++ LetGo x ∷ At (w.job j).endpoint (Own.Respond (w.job j).group code) ∷ [])
+    go : (b : Bool) → replies_success w j v ≡ b → LegalAll w (LetGo x ∷ At (w.job j).endpoint (Own.Respond (w.job j).group code) ∷ [])
+        → LegalAll w ((if b then maps_to (job_space w j) (is_write_asked w j) (newly_mapped w j) (free_list w) else []) ++ LetGo x
+        ∷ At (w.job j).endpoint (Own.Respond (w.job j).group code) ∷ [])
     go true e rest =
-        maps_legal x (w.job j).endpoint (w.job j).group code (job_space w j) (is_write_asked w j) (map (job_part w j).asked_page (job_asks w j)) (Labels.is_mapped w (job_space w j)) (free_list w) w i
-        (i.mapped.bound_live (w.job j).endpoint (job_binding w j) (ap is_unreleased (success_live (is_open (job_part w j).phase) ((job_part w j).stage (job_binding w j)) v e)))
+        maps_legal x (w.job j).endpoint (w.job j).group code (job_space w j) (is_write_asked w j) (map (job_part w j).asked_page (job_asks w j))
+        (Labels.is_mapped w (job_space w j)) (free_list w) w i
+        (i.mapped.bound_live (w.job j).endpoint (job_binding w j)
+        (ap is_unreleased (success_live (is_open (job_part w j).phase) ((job_part w j).stage (job_binding w j)) v e)))
         (λ q k. none_is (w.mappings.at (job_space w j) q) k)
         (select_free w w.config.frames (omega arith)).free
         rest

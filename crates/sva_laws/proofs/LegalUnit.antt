@@ -52,32 +52,56 @@ none_arrived p qu h r a =
     let back : is_arrived (p.page_request (p.arrival (p.arrived_as r))) ≡ is_arrived (p.page_request r) = ap (λ z. is_arrived (p.page_request z)) place.1 in
     absurd (cc (sym f ∙ back ∙ ap is_arrived a))
 
-wait_legal : (w : World) (e cookie : ℕ) (drain t : Bool) → Invariant w → e < w.config.endpoints → (w.part e).phase ≡ Open → Head (w.part e) → (w.part e).order (Labels.head (w.part e)) ≡ Wait cookie drain → may_pass (w.part e) drain ≡ t → LegalAll w (wait_outcome e (Labels.head (w.part e)) t).acts
+wait_legal : (w : World) (e cookie : ℕ) (drain t : Bool) → Invariant w → e < w.config.endpoints → (w.part e).phase ≡ Open → Head (w.part e)
+    → (w.part e).order (Labels.head (w.part e)) ≡ Wait cookie drain → may_pass (w.part e) drain ≡ t
+    → LegalAll w (wait_outcome e (Labels.head (w.part e)) t).acts
 wait_legal w e cookie drain false i l ph hd o m = tt
-wait_legal w e cookie drain true i l ph hd o m =
-    ((l, ((ph, hd.queued, ap is_wait o, hd.lowest, idle w.bindings (w.part e) (i.parts e).bounds quiet, λ r d. none_arrived (w.part e) (i.parts e).queued (empty (sym (ap drains o) ∙ d)) r), tt), tt), tt)
+wait_legal w e cookie drain true i l ph hd o m = (
+  (
+    l,
+    (
+      (
+        ph,
+        hd.queued,
+        ap is_wait o,
+        hd.lowest,
+        idle w.bindings (w.part e) (i.parts e).bounds quiet,
+        λ r d. none_arrived (w.part e) (i.parts e).queued (empty (sym (ap drains o) ∙ d)) r,
+      ),
+      tt,
+    ),
+    tt,
+  ),
+  tt,
+)
   where
     quiet : Labels.is_some_busy (w.part e) ≡ false
-    quiet = not_false (Labels.is_some_busy (w.part e)) (and_left (not (Labels.is_some_busy (w.part e))) (not drain || Labels.is_page_queue_empty (w.part e)) m)
+    quiet = not_false (Labels.is_some_busy (w.part e))
+        (and_left (not (Labels.is_some_busy (w.part e))) (not drain || Labels.is_page_queue_empty (w.part e)) m)
 
     empty : drain ≡ true → Labels.is_page_queue_empty (w.part e) ≡ true
-    empty d = or_drain drain (Labels.is_page_queue_empty (w.part e)) d (and_right (not (Labels.is_some_busy (w.part e))) (not drain || Labels.is_page_queue_empty (w.part e)) m)
+    empty d = or_drain drain (Labels.is_page_queue_empty (w.part e)) d
+        (and_right (not (Labels.is_some_busy (w.part e))) (not drain || Labels.is_page_queue_empty (w.part e)) m)
       where
         or_drain : (a b : Bool) → a ≡ true → (not a || b) ≡ true → b ≡ true
         or_drain a b x y = grind arith
 
-send_legal : (w : World) (e : ℕ) (t : Bool) → e < w.config.endpoints → (w.part e).phase ≡ Open → Head (w.part e) → is_wait ((w.part e).order (Labels.head (w.part e))) ≡ false → not (Labels.lowest_label 32 (w.part e).at_itag == 32) ≡ t → LegalAll w (send_outcome e (Labels.head (w.part e)) (Labels.lowest_label 32 (w.part e).at_itag) t).acts
+send_legal : (w : World) (e : ℕ) (t : Bool) → e < w.config.endpoints → (w.part e).phase ≡ Open → Head (w.part e)
+    → is_wait ((w.part e).order (Labels.head (w.part e))) ≡ false → not (Labels.lowest_label 32 (w.part e).at_itag == 32) ≡ t
+    → LegalAll w (send_outcome e (Labels.head (w.part e)) (Labels.lowest_label 32 (w.part e).at_itag) t).acts
 send_legal w e false l ph hd o m = tt
 send_legal w e true l ph hd o m =
     let some = not_false (Labels.lowest_label 32 (w.part e).at_itag == 32) m in
     ((l, ((ph, hd.queued, o, label_free 32 (w.part e).at_itag some, label_low 32 (w.part e).at_itag some), tt), tt), tt)
 
-head_legal : (w : World) (e : ℕ) (o : Order) → Invariant w → e < w.config.endpoints → (w.part e).phase ≡ Open → Head (w.part e) → (w.part e).order (Labels.head (w.part e)) ≡ o → LegalAll w (head_outcome (w.part e) e (Labels.head (w.part e)) o).acts
+head_legal : (w : World) (e : ℕ) (o : Order) → Invariant w → e < w.config.endpoints → (w.part e).phase ≡ Open → Head (w.part e)
+    → (w.part e).order (Labels.head (w.part e)) ≡ o → LegalAll w (head_outcome (w.part e) e (Labels.head (w.part e)) o).acts
 head_legal w e (Wait cookie drain) i l ph hd f = wait_legal w e cookie drain (may_pass (w.part e) drain) i l ph hd f refl
 head_legal w e (RangeOf b q) i l ph hd f = send_legal w e (not (Labels.lowest_label 32 (w.part e).at_itag == 32)) l ph hd (ap is_wait f) refl
 head_legal w e (PasidOf b) i l ph hd f = send_legal w e (not (Labels.lowest_label 32 (w.part e).at_itag == 32)) l ph hd (ap is_wait f) refl
 
-pump_at : (w : World) (e : ℕ) (b : Bool) → Invariant w → e < w.config.endpoints → (w.part e).phase ≡ Open → Labels.is_queue_empty (w.part e) ≡ b → LegalAll w (pump_outcome (w.part e) e b).acts
+pump_at : (w : World) (e : ℕ) (b : Bool) → Invariant w → e < w.config.endpoints → (w.part e).phase ≡ Open → Labels.is_queue_empty (w.part e) ≡ b
+    → LegalAll w (pump_outcome (w.part e) e b).acts
 pump_at w e true i l ph f = tt
 pump_at w e false i l ph f = head_legal w e ((w.part e).order (Labels.head (w.part e))) i l ph (head_is (w.part e) f) refl
 
@@ -102,16 +126,19 @@ oldest_is p qu h =
     arrived_is : (s : PageRequestState) → is_arrived s ≡ true → s ≡ Arrived
     arrived_is s k = grind arith
 
-    no_earlier : (k x : ℕ) → p.arrived_as (p.arrival k) ≡ k → ((i : ℕ) → i < k → Labels.is_waiting p i ≡ false) → p.page_request x ≡ Arrived → (p.arrived_as x < p.arrivals) × (p.arrival (p.arrived_as x) ≡ x) → p.arrived_as (p.arrival k) ≤ p.arrived_as x
+    no_earlier : (k x : ℕ) → p.arrived_as (p.arrival k) ≡ k → ((i : ℕ) → i < k → Labels.is_waiting p i ≡ false) → p.page_request x ≡ Arrived
+        → (p.arrived_as x < p.arrivals) × (p.arrival (p.arrived_as x) ≡ x) → p.arrived_as (p.arrival k) ≤ p.arrived_as x
     no_earlier k x b none a place =
         let waits : is_arrived (p.page_request (p.arrival (p.arrived_as x))) ≡ true = ap (λ z. is_arrived (p.page_request z)) place.1 ∙ ap is_arrived a in
         grind (arith, none (p.arrived_as x))
 
-file_legal : (w : World) (e : ℕ) (t : Bool) → Invariant w → e < w.config.endpoints → (w.part e).phase ≡ Open → Oldest (w.part e) → LegalAll w (file_outcome e (Labels.oldest_arrived (w.part e)) ((w.part e).group_of (Labels.oldest_arrived (w.part e))) t).acts
+file_legal : (w : World) (e : ℕ) (t : Bool) → Invariant w → e < w.config.endpoints → (w.part e).phase ≡ Open → Oldest (w.part e)
+    → LegalAll w (file_outcome e (Labels.oldest_arrived (w.part e)) ((w.part e).group_of (Labels.oldest_arrived (w.part e))) t).acts
 file_legal w e true i l ph od = ((l, ((ph, od.arrived, od.first), tt), tt), (tt, tt))
 file_legal w e false i l ph od = ((l, ((ph, od.arrived, od.first), tt), tt), tt)
 
-serve_at : (w : World) (e : ℕ) (b : Bool) → Invariant w → e < w.config.endpoints → (w.part e).phase ≡ Open → Labels.is_page_queue_empty (w.part e) ≡ b → LegalAll w (serve_outcome (w.part e) e b).acts
+serve_at : (w : World) (e : ℕ) (b : Bool) → Invariant w → e < w.config.endpoints → (w.part e).phase ≡ Open → Labels.is_page_queue_empty (w.part e)
+    ≡ b → LegalAll w (serve_outcome (w.part e) e b).acts
 serve_at w e true i l ph f = tt
 serve_at w e false i l ph f = file_legal w e ((w.part e).is_last (Labels.oldest_arrived (w.part e))) i l ph (oldest_is (w.part e) (i.parts e).queued f)
 
@@ -126,7 +153,8 @@ reset w e i h = ((is_less e w.config.endpoints h.0, (opened_is (w.part e) h.1.0,
 pub group_there : (w : World) (e x : ℕ) → Invariant w → x < (w.part e).groups → e < w.config.endpoints
 group_there w e x i l = (i.parts e).there ((w.part e).asker x) ((i.parts e).groups.asker_bound x l)
 
-take_at : (w : World) (x j : ℕ) → Invariant w → j < w.jobs → Labels.is_queued_job w j ≡ true → LegalAll w (At (w.job j).endpoint (Own.Hand (w.job j).group x) ∷ Hold x j ∷ [])
+take_at : (w : World) (x j : ℕ) → Invariant w → j < w.jobs → Labels.is_queued_job w j ≡ true
+    → LegalAll w (At (w.job j).endpoint (Own.Hand (w.job j).group x) ∷ Hold x j ∷ [])
 take_at w x j i l h =
     let e = (w.job j).endpoint in
     let g = (w.job j).group in

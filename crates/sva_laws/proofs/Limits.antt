@@ -27,10 +27,12 @@ use Rattle.sva_laws.proofs.Runs.{always, step_legal, next_keeps, opened_invarian
 
 -- An act of an endpoint: a page request that was outstanding after it was so before, but for the one that is new.
 
-out_before : (ms : Mappings) (g n : ℕ) (p : Part) (o : Own) → LegalOwn ms g p o → (r : ℕ) → r < p.page_requests → p.group_of r < p.groups → is_outstanding ((own p n o).group ((own p n o).group_of r)) ≡ true → is_outstanding (p.group (p.group_of r)) ≡ true
+out_before : (ms : Mappings) (g n : ℕ) (p : Part) (o : Own) → LegalOwn ms g p o → (r : ℕ) → r < p.page_requests → p.group_of r < p.groups
+    → is_outstanding ((own p n o).group ((own p n o).group_of r)) ≡ true → is_outstanding (p.group (p.group_of r)) ≡ true
 out_before ms g n p o l r lt made h = grind (arith, nat_tests)
 
-one_more : (ms : Mappings) (g n : ℕ) (p : Part) (o : Own) → LegalOwn ms g p o → ((own p n o).page_requests ≡ p.page_requests) ⊎ (((own p n o).page_requests ≡ suc p.page_requests) × (outstanding p < 32))
+one_more : (ms : Mappings) (g n : ℕ) (p : Part) (o : Own) → LegalOwn ms g p o → ((own p n o).page_requests ≡ p.page_requests)
+    ⊎ (((own p n o).page_requests ≡ suc p.page_requests) × (outstanding p < 32))
 one_more ms g n p (Own.Group b i q r x l) h = inr (refl, h.3)
 one_more ms g n p (Own.Request y q r x l) h = inr (refl, h.2)
 one_more ms g n p o h = inl (grind arith)
@@ -44,11 +46,13 @@ own_limited ms g n p o l bo h = go (one_more ms g n p o l)
     less : count_below p.page_requests now ≤ outstanding p
     less = count_less p.page_requests now (λ r. is_outstanding (p.group (p.group_of r))) (λ r lt t. out_before ms g n p o l r lt (bo.group_of r lt) t)
 
-    go : ((own p n o).page_requests ≡ p.page_requests) ⊎ (((own p n o).page_requests ≡ suc p.page_requests) × (outstanding p < 32)) → outstanding (own p n o) ≤ 32
+    go : ((own p n o).page_requests ≡ p.page_requests) ⊎ (((own p n o).page_requests ≡ suc p.page_requests) × (outstanding p < 32))
+        → outstanding (own p n o) ≤ 32
     go (inl e) = subst (λ k. count_below k now ≤ 32) (sym e) (omega (arith, less, h))
     go (inr x) = subst (λ k. count_below k now ≤ 32) (sym x.0) (omega (arith, less, x.1, count_next p.page_requests now, bit_most (now p.page_requests)))
 
-submitted_limited : (t : Bool) (p : Part) (o : Option ℕ) (q count order cookie : ℕ) → outstanding p ≤ 32 → outstanding (submitted_if t p o q count order cookie) ≤ 32
+submitted_limited : (t : Bool) (p : Part) (o : Option ℕ) (q count order cookie : ℕ) → outstanding p ≤ 32
+    → outstanding (submitted_if t p o q count order cookie) ≤ 32
 submitted_limited true p (Some b) q count order cookie h = h
 submitted_limited true p None q count order cookie h = h
 submitted_limited false p o q count order cookie h = h
@@ -65,7 +69,9 @@ act_limited w (NewBinding e) l i h = h
 act_limited w (NewJob e g) l i h = h
 act_limited w (Hold x j) l i h = h
 act_limited w (LetGo x) l i h = h
-act_limited w (At e o) l i h = put_keeps (λ k p. outstanding p ≤ 32) w.part e (own (w.part e) w.messages o) (own_limited w.mappings w.bindings w.messages (w.part e) o l.1.0 (i.parts e).bounds (h e)) h
+act_limited w (At e o) l i h =
+    put_keeps (λ k p. outstanding p ≤ 32) w.part e (own (w.part e) w.messages o)
+    (own_limited w.mappings w.bindings w.messages (w.part e) o l.1.0 (i.parts e).bounds (h e)) h
 
 acts_limited : (acts : List Act) (w : World) → LegalAll w acts → Invariant w → AllLimited w → AllLimited (after_acts w acts)
 acts_limited [] w l i h = h
@@ -103,7 +109,8 @@ always_page_queue rule c ss e = omega (arith, less, always_outstanding rule c ss
         none a h = grind arith
 
     less : page_queue p ≤ outstanding p
-    less = count_less p.page_requests (λ r. is_arrived (p.page_request r)) (λ r. is_outstanding (p.group (p.group_of r))) (λ r lt h. is (is_open p.phase) refl r h)
+    less = count_less p.page_requests (λ r. is_arrived (p.page_request r)) (λ r. is_outstanding (p.group (p.group_of r)))
+        (λ r lt h. is (is_open p.phase) refl r h)
 
 -- each that waits is in the list of arrivals once
 waiting_placed : (p : Part) → Queued p → length (waiting p) ≤ page_queue p
@@ -114,7 +121,8 @@ waiting_placed p qu =
     same i j a b e = sym (qu.arrival i a).0 ∙ ap p.arrived_as e ∙ (qu.arrival j b).0
 
     placed : count_below p.arrivals (is_waiting p) ≤ page_queue p
-    placed = count_placed p.arrivals p.page_requests (is_waiting p) (λ r. is_arrived (p.page_request r)) p.arrival (λ i a t. (qu.arrival i a).1) (λ i a t. t) same
+    placed = count_placed p.arrivals p.page_requests (is_waiting p) (λ r. is_arrived (p.page_request r)) p.arrival (λ i a t. (qu.arrival i a).1)
+        (λ i a t. t) same
 
 pub always_waiting : (rule : PasidRule) (c : Config) (ss : List Step) (e : ℕ) → length (waiting ((world_after rule c ss).part e)) ≤ 32
 always_waiting rule c ss e =
@@ -129,14 +137,23 @@ one_place Free = refl
 one_place Mapped = refl
 one_place Withheld = refl
 
-no_places : (at : ℕ → Place) → count_below zero (λ f. is_free_at (at f)) + count_below zero (λ f. is_mapped_at (at f)) + count_below zero (λ f. is_withheld_at (at f)) ≡ zero
+no_places : (at : ℕ → Place) → count_below zero (λ f. is_free_at (at f)) + count_below zero (λ f. is_mapped_at (at f)) + count_below zero
+    (λ f. is_withheld_at (at f)) ≡ zero
 unfolding count_below
 no_places at = refl
 
-places_add_up : (n : ℕ) (at : ℕ → Place) → count_below n (λ f. is_free_at (at f)) + count_below n (λ f. is_mapped_at (at f)) + count_below n (λ f. is_withheld_at (at f)) ≡ n
+places_add_up : (n : ℕ) (at : ℕ → Place) → count_below n (λ f. is_free_at (at f)) + count_below n (λ f. is_mapped_at (at f)) + count_below n
+    (λ f. is_withheld_at (at f)) ≡ n
 places_add_up zero at = no_places at
 places_add_up (suc n) at =
-    omega (arith, places_add_up n at, one_place (at n), count_next n (λ f. is_free_at (at f)), count_next n (λ f. is_mapped_at (at f)), count_next n (λ f. is_withheld_at (at f)))
+    omega (
+      arith,
+      places_add_up n at,
+      one_place (at n),
+      count_next n (λ f. is_free_at (at f)),
+      count_next n (λ f. is_mapped_at (at f)),
+      count_next n (λ f. is_withheld_at (at f)),
+    )
 
 pub adds_up : (w : World) → (counts w).free + (counts w).mapped + (counts w).withheld ≡ w.config.frames
 adds_up w = places_add_up w.config.frames (λ f. place w f)

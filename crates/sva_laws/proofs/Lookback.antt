@@ -37,26 +37,39 @@ one_more before s some t = sym (append_assoc before (s ∷ some) (t ∷ []))
 
 -- How a mapping goes: by an unmapping of its page, or with its space.
 pub data Goes (w v : World) (m : ℕ) (owed : ℕ → Owed) : Type 0 where
-  unmapped : (s q count order : ℕ) → v ≡ act w (Unmap s q count order) → w.mappings.space m ≡ s → in_range q (count * 2 ^ order) (w.mappings.page m) ≡ true → owed ≡ (λ e. owed_by (w.part e) count (bound w e s)) → Goes w v m owed
-  dropped : (s : ℕ) → w.mappings.space m ≡ s → ((e b : ℕ) → is_unreleased ((w.part e).stage b) ≡ true → (w.part e).space b ≢ s) → owed ≡ (λ e. Nothing) → Goes w v m owed
+  unmapped : (s q count order : ℕ) → v ≡ act w (Unmap s q count order) → w.mappings.space m ≡ s → in_range q (count * 2 ^ order) (w.mappings.page m)
+      ≡ true → owed ≡ (λ e. owed_by (w.part e) count (bound w e s)) → Goes w v m owed
+  dropped : (s : ℕ) → w.mappings.space m ≡ s → ((e b : ℕ) → is_unreleased ((w.part e).stage b) ≡ true → (w.part e).space b ≢ s) → owed
+      ≡ (λ e. Nothing) → Goes w v m owed
 
 -- what one step does to mappings
 pub record Moves (w v : World) : Type 0 where
   pub gone_on : (m : ℕ) (owed : ℕ → Owed) → w.mappings.state m ≡ Gone owed → v.mappings.state m ≡ Gone owed
-  pub gone_back : (m : ℕ) (owed : ℕ → Owed) → v.mappings.state m ≡ Gone owed → (w.mappings.state m ≡ Gone owed) ⊎ ((w.mappings.state m ≡ Present) × Goes w v m owed)
-  pub present_on : (m : ℕ) → w.mappings.state m ≡ Present → (v.mappings.state m ≡ Present) ⊎ ((owed : ℕ → Owed) × (v.mappings.state m ≡ Gone owed) × Goes w v m owed)
+  pub gone_back : (m : ℕ) (owed : ℕ → Owed) → v.mappings.state m ≡ Gone owed → (w.mappings.state m ≡ Gone owed)
+      ⊎ ((w.mappings.state m ≡ Present) × Goes w v m owed)
+  pub present_on : (m : ℕ) → w.mappings.state m ≡ Present → (v.mappings.state m ≡ Present)
+      ⊎ ((owed : ℕ → Owed) × (v.mappings.state m ≡ Gone owed) × Goes w v m owed)
   pub frame_on : (m : ℕ) → w.mappings.state m ≢ Unmade → v.mappings.frame m ≡ w.mappings.frame m
   pub latest_grows : (f k : ℕ) → w.mappings.latest f ≡ Some k → (z : ℕ) × (v.mappings.latest f ≡ Some z) × (k ≤ z)
   pub latest_new : (f : ℕ) → (v.mappings.latest f ≡ w.mappings.latest f) ⊎ ((z : ℕ) × (v.mappings.latest f ≡ Some z) × (v.mappings.state z ≡ Present))
 
 moves_adds : (w v : World) → Adds w v → Moves w v
 moves_adds w v a =
-    record { gone_on = a.gone_on; gone_back = λ m o h. inl (a.gone_back m o h); present_on = λ m h. inl (a.present_on m h); frame_on = a.frame_on; latest_grows = a.latest_grows; latest_new = a.latest_new }
+    record {
+      gone_on = a.gone_on;
+      gone_back = λ m o h. inl (a.gone_back m o h);
+      present_on = λ m h. inl (a.present_on m h);
+      frame_on =
+          a.frame_on;
+      latest_grows = a.latest_grows;
+      latest_new = a.latest_new;
+    }
 
 gone_same : (t : Bool) (owed : ℕ → Owed) (z : MappingState) (o : ℕ → Owed) → z ≡ Gone o → gone_if t owed z ≡ Gone o
 gone_same t owed z o h = grind arith
 
-pub gone_from : (t : Bool) (owed : ℕ → Owed) (z : MappingState) (o : ℕ → Owed) → gone_if t owed z ≡ Gone o → (z ≡ Gone o) ⊎ ((z ≡ Present) × (t ≡ true) × (owed ≡ o))
+pub gone_from : (t : Bool) (owed : ℕ → Owed) (z : MappingState) (o : ℕ → Owed) → gone_if t owed z ≡ Gone o → (z ≡ Gone o)
+    ⊎ ((z ≡ Present) × (t ≡ true) × (owed ≡ o))
 gone_from true owed Unmade o h = absurd (cc)
 gone_from true owed Present o h = inr (refl, refl, cc)
 gone_from true owed (Gone v) o h = inl h
@@ -75,21 +88,42 @@ range_space a s b h = grind (arith, nat_tests)
 moves_unmap : (w : World) (s q count order : ℕ) → Moves w (act w (Unmap s q count order))
 moves_unmap w s q count order =
     record {
-      gone_on = λ m o h. gone_same (w.mappings.space m == s && in_range q (count * 2 ^ order) (w.mappings.page m)) (λ e. owed_by (w.part e) count (bound w e s)) (w.mappings.state m) o h;
-      gone_back = λ m o h. back m o (gone_from (w.mappings.space m == s && in_range q (count * 2 ^ order) (w.mappings.page m)) (λ e. owed_by (w.part e) count (bound w e s)) (w.mappings.state m) o h);
-      present_on = λ m h. on m (present_from (w.mappings.space m == s && in_range q (count * 2 ^ order) (w.mappings.page m)) (λ e. owed_by (w.part e) count (bound w e s)) (w.mappings.state m) h);
+      gone_on = λ m o h. gone_same (w.mappings.space m == s && in_range q (count * 2 ^ order) (w.mappings.page m))
+          (λ e. owed_by (w.part e) count (bound w e s)) (w.mappings.state m) o h;
+      gone_back = λ m o h. back m o
+          (gone_from (w.mappings.space m == s && in_range q (count * 2 ^ order) (w.mappings.page m)) (λ e. owed_by (w.part e) count (bound w e s))
+          (w.mappings.state m) o h);
+      present_on = λ m h. on m
+          (present_from (w.mappings.space m == s && in_range q (count * 2 ^ order) (w.mappings.page m)) (λ e. owed_by (w.part e) count (bound w e s))
+          (w.mappings.state m) h);
       frame_on = λ m h. refl;
       latest_grows = λ f k h. (k, h, omega arith);
       latest_new = λ f. inl refl;
     }
   where
-    back : (m : ℕ) (o : ℕ → Owed) → (w.mappings.state m ≡ Gone o) ⊎ ((w.mappings.state m ≡ Present) × ((w.mappings.space m == s && in_range q (count * 2 ^ order) (w.mappings.page m)) ≡ true) × ((λ e. owed_by (w.part e) count (bound w e s)) ≡ o)) → (w.mappings.state m ≡ Gone o) ⊎ ((w.mappings.state m ≡ Present) × Goes w (act w (Unmap s q count order)) m o)
+    back : (m : ℕ) (o : ℕ → Owed) → (w.mappings.state m ≡ Gone o)
+        ⊎ ((w.mappings.state m ≡ Present) × ((w.mappings.space m == s && in_range q (count * 2 ^ order) (w.mappings.page m)) ≡ true)
+        × ((λ e. owed_by (w.part e) count (bound w e s)) ≡ o)) → (w.mappings.state m ≡ Gone o)
+        ⊎ ((w.mappings.state m ≡ Present) × Goes w (act w (Unmap s q count order)) m o)
     back m o (inl x) = inl x
-    back m o (inr x) = inr (x.0, unmapped s q count order refl (range_space (w.mappings.space m) s (in_range q (count * 2 ^ order) (w.mappings.page m)) x.1) (range_page (w.mappings.space m) s (in_range q (count * 2 ^ order) (w.mappings.page m)) x.1) (sym x.2))
+    back m o (inr x) = inr (
+      x.0,
+      unmapped s q count order refl (range_space (w.mappings.space m) s (in_range q (count * 2 ^ order) (w.mappings.page m)) x.1)
+          (range_page (w.mappings.space m) s (in_range q (count * 2 ^ order) (w.mappings.page m)) x.1) (sym x.2),
+    )
 
-    on : (m : ℕ) → ((act w (Unmap s q count order)).mappings.state m ≡ Present) ⊎ (((w.mappings.space m == s && in_range q (count * 2 ^ order) (w.mappings.page m)) ≡ true) × ((act w (Unmap s q count order)).mappings.state m ≡ Gone (λ e. owed_by (w.part e) count (bound w e s)))) → ((act w (Unmap s q count order)).mappings.state m ≡ Present) ⊎ ((owed : ℕ → Owed) × ((act w (Unmap s q count order)).mappings.state m ≡ Gone owed) × Goes w (act w (Unmap s q count order)) m owed)
+    on : (m : ℕ) → ((act w (Unmap s q count order)).mappings.state m ≡ Present)
+        ⊎ (((w.mappings.space m == s && in_range q (count * 2 ^ order) (w.mappings.page m)) ≡ true)
+        × ((act w (Unmap s q count order)).mappings.state m ≡ Gone (λ e. owed_by (w.part e) count (bound w e s))))
+        → ((act w (Unmap s q count order)).mappings.state m ≡ Present)
+        ⊎ ((owed : ℕ → Owed) × ((act w (Unmap s q count order)).mappings.state m ≡ Gone owed) × Goes w (act w (Unmap s q count order)) m owed)
     on m (inl x) = inl x
-    on m (inr x) = inr ((λ e. owed_by (w.part e) count (bound w e s)), x.1, unmapped s q count order refl (range_space (w.mappings.space m) s (in_range q (count * 2 ^ order) (w.mappings.page m)) x.0) (range_page (w.mappings.space m) s (in_range q (count * 2 ^ order) (w.mappings.page m)) x.0) refl)
+    on m (inr x) = inr (
+      (λ e. owed_by (w.part e) count (bound w e s)),
+      x.1,
+      unmapped s q count order refl (range_space (w.mappings.space m) s (in_range q (count * 2 ^ order) (w.mappings.page m)) x.0)
+          (range_page (w.mappings.space m) s (in_range q (count * 2 ^ order) (w.mappings.page m)) x.0) refl,
+    )
 
 moves_drop : (w : World) (s : ℕ) → Legal w (DropSpace s) → Moves w (act w (DropSpace s))
 moves_drop w s l =
@@ -102,11 +136,16 @@ moves_drop w s l =
       latest_new = λ f. inl refl;
     }
   where
-    back : (m : ℕ) (o : ℕ → Owed) → (w.mappings.state m ≡ Gone o) ⊎ ((w.mappings.state m ≡ Present) × ((w.mappings.space m == s && true) ≡ true) × ((λ e. Nothing) ≡ o)) → (w.mappings.state m ≡ Gone o) ⊎ ((w.mappings.state m ≡ Present) × Goes w (act w (DropSpace s)) m o)
+    back : (m : ℕ) (o : ℕ → Owed) → (w.mappings.state m ≡ Gone o)
+        ⊎ ((w.mappings.state m ≡ Present) × ((w.mappings.space m == s && true) ≡ true) × ((λ e. Nothing) ≡ o)) → (w.mappings.state m ≡ Gone o)
+        ⊎ ((w.mappings.state m ≡ Present) × Goes w (act w (DropSpace s)) m o)
     back m o (inl x) = inl x
     back m o (inr x) = inr (x.0, dropped s (range_space (w.mappings.space m) s true x.1) l (sym x.2))
 
-    on : (m : ℕ) → ((act w (DropSpace s)).mappings.state m ≡ Present) ⊎ (((w.mappings.space m == s && true) ≡ true) × ((act w (DropSpace s)).mappings.state m ≡ Gone (λ e. Nothing))) → ((act w (DropSpace s)).mappings.state m ≡ Present) ⊎ ((owed : ℕ → Owed) × ((act w (DropSpace s)).mappings.state m ≡ Gone owed) × Goes w (act w (DropSpace s)) m owed)
+    on : (m : ℕ) → ((act w (DropSpace s)).mappings.state m ≡ Present)
+        ⊎ (((w.mappings.space m == s && true) ≡ true) × ((act w (DropSpace s)).mappings.state m ≡ Gone (λ e. Nothing)))
+        → ((act w (DropSpace s)).mappings.state m ≡ Present)
+        ⊎ ((owed : ℕ → Owed) × ((act w (DropSpace s)).mappings.state m ≡ Gone owed) × Goes w (act w (DropSpace s)) m owed)
     on m (inl x) = inl x
     on m (inr x) = inr ((λ e. Nothing), x.1, dropped s (range_space (w.mappings.space m) s true x.0) l refl)
 
@@ -131,7 +170,8 @@ pub record WentAt (rule : PasidRule) (c : Config) (steps : List Step) (m : ℕ) 
   pub gone : (next (world_after rule c before) step).mappings.state m ≡ Gone owed
   pub goes : Goes (world_after rule c before) (next (world_after rule c before) step) m owed
 
-went_more : (rule : PasidRule) (c : Config) (ss : List Step) (s : Step) (m : ℕ) (owed : ℕ → Owed) → WentAt rule c ss m owed → WentAt rule c (ss ++ s ∷ []) m owed
+went_more : (rule : PasidRule) (c : Config) (ss : List Step) (s : Step) (m : ℕ) (owed : ℕ → Owed) → WentAt rule c ss m owed
+    → WentAt rule c (ss ++ s ∷ []) m owed
 went_more rule c ss s m owed x =
     record {
       before = x.before;
@@ -143,25 +183,34 @@ went_more rule c ss s m owed x =
       goes = x.goes;
     }
 
-went_next : (rule : PasidRule) (c : Config) (ss : List Step) (s : Step) → ((m : ℕ) (owed : ℕ → Owed) → (world_after rule c ss).mappings.state m ≡ Gone owed → WentAt rule c ss m owed) → (m : ℕ) (owed : ℕ → Owed) → (world_after rule c (ss ++ s ∷ [])).mappings.state m ≡ Gone owed → WentAt rule c (ss ++ s ∷ []) m owed
+went_next : (rule : PasidRule) (c : Config) (ss : List Step) (s : Step)
+    → ((m : ℕ) (owed : ℕ → Owed) → (world_after rule c ss).mappings.state m ≡ Gone owed → WentAt rule c ss m owed) → (m : ℕ) (owed : ℕ → Owed)
+    → (world_after rule c (ss ++ s ∷ [])).mappings.state m ≡ Gone owed → WentAt rule c (ss ++ s ∷ []) m owed
 went_next rule c ss s old m owed h =
     go ((moves (world_after rule c ss) s (always rule c ss)).gone_back m owed now)
   where
     now : (next (world_after rule c ss) s).mappings.state m ≡ Gone owed
     now = subst (λ w. w.mappings.state m ≡ Gone owed) (after_one rule c ss s) h
 
-    go : ((world_after rule c ss).mappings.state m ≡ Gone owed) ⊎ (((world_after rule c ss).mappings.state m ≡ Present) × Goes (world_after rule c ss) (next (world_after rule c ss) s) m owed) → WentAt rule c (ss ++ s ∷ []) m owed
+    go : ((world_after rule c ss).mappings.state m ≡ Gone owed)
+        ⊎ (((world_after rule c ss).mappings.state m ≡ Present) × Goes (world_after rule c ss) (next (world_after rule c ss) s) m owed)
+        → WentAt rule c (ss ++ s ∷ []) m owed
     go (inl x) = went_more rule c ss s m owed (old m owed x)
     go (inr x) = record { before = ss; step = s; since = []; steps_are = refl; present = x.0; gone = now; goes = x.1 }
 
-went_along : (rule : PasidRule) (c : Config) (rest before : List Step) → ((m : ℕ) (owed : ℕ → Owed) → (world_after rule c before).mappings.state m ≡ Gone owed → WentAt rule c before m owed) → (m : ℕ) (owed : ℕ → Owed) → (world_after rule c (before ++ rest)).mappings.state m ≡ Gone owed → WentAt rule c (before ++ rest) m owed
+went_along : (rule : PasidRule) (c : Config) (rest before : List Step)
+    → ((m : ℕ) (owed : ℕ → Owed) → (world_after rule c before).mappings.state m ≡ Gone owed → WentAt rule c before m owed)
+    → (m : ℕ) (owed : ℕ → Owed) → (world_after rule c (before ++ rest)).mappings.state m ≡ Gone owed → WentAt rule c (before ++ rest) m owed
 went_along rule c [] before old m owed h =
-    subst (λ z. WentAt rule c z m owed) (sym (append_none before)) (old m owed (subst (λ z. (world_after rule c z).mappings.state m ≡ Gone owed) (append_none before) h))
+    subst (λ z. WentAt rule c z m owed) (sym (append_none before))
+    (old m owed (subst (λ z. (world_after rule c z).mappings.state m ≡ Gone owed) (append_none before) h))
 went_along rule c (s ∷ rest) before old m owed h =
     subst (λ z. WentAt rule c z m owed) (append_assoc before (s ∷ []) rest)
-    (went_along rule c rest (before ++ s ∷ []) (went_next rule c before s old) m owed (subst (λ z. (world_after rule c z).mappings.state m ≡ Gone owed) (sym (append_assoc before (s ∷ []) rest)) h))
+    (went_along rule c rest (before ++ s ∷ []) (went_next rule c before s old) m owed
+    (subst (λ z. (world_after rule c z).mappings.state m ≡ Gone owed) (sym (append_assoc before (s ∷ []) rest)) h))
 
-pub went : (rule : PasidRule) (c : Config) (steps : List Step) (m : ℕ) (owed : ℕ → Owed) → (world_after rule c steps).mappings.state m ≡ Gone owed → WentAt rule c steps m owed
+pub went : (rule : PasidRule) (c : Config) (steps : List Step) (m : ℕ) (owed : ℕ → Owed) → (world_after rule c steps).mappings.state m ≡ Gone owed
+    → WentAt rule c steps m owed
 went rule c steps m owed h = went_along rule c steps [] (λ k o x. absurd (cc)) m owed h
 
 -- From one world to a later one.

@@ -26,30 +26,51 @@ use Rattle.sva_laws.proofs.Runs.{step_legal, next_keeps, opened_invariant}
 
 pub record OnTheWay (p : Part) : Type 0 where
   pub last : (g : ℕ) → is_answerable (p.group g) ≡ true → (r : ℕ) × (r < p.page_requests) × (p.group_of r ≡ g) × (p.is_last r ≡ true)
-  pub filed_last : (r : ℕ) → p.phase ≡ Open → r < p.page_requests → p.is_last r ≡ true → p.page_request r ≡ Filed → is_outstanding (p.group (p.group_of r)) ≡ true → is_whole (p.host_group (p.group_of r)) ≡ true
+  pub filed_last : (r : ℕ) → p.phase ≡ Open → r < p.page_requests → p.is_last r ≡ true → p.page_request r ≡ Filed
+      → is_outstanding (p.group (p.group_of r)) ≡ true → is_whole (p.host_group (p.group_of r)) ≡ true
   pub discarded : (g : ℕ) → p.phase ≡ Open → p.host_group g ≡ Discarded → is_outstanding (p.group g) ≡ false
 
 -- what an act says of a request that was made before
-old_last : (ms : Mappings) (g n : ℕ) (p : Part) (o : Own) (r : ℕ) → r < p.page_requests → (r < (own p n o).page_requests) × ((own p n o).group_of r ≡ p.group_of r) × ((own p n o).is_last r ≡ p.is_last r)
+old_last : (ms : Mappings) (g n : ℕ) (p : Part) (o : Own) (r : ℕ) → r < p.page_requests → (r < (own p n o).page_requests)
+    × ((own p n o).group_of r ≡ p.group_of r) × ((own p n o).is_last r ≡ p.is_last r)
 old_last ms g n p o r lt = grind (arith, nat_tests)
 
 -- a group that awaits its response did so before, or its last request is the one that the act makes
-new_last : (ms : Mappings) (g n : ℕ) (p : Part) (o : Own) → LegalOwn ms g p o → (x : ℕ) → is_answerable ((own p n o).group x) ≡ true → (is_answerable (p.group x) ≡ true) ⊎ ((p.page_requests < (own p n o).page_requests) × ((own p n o).group_of p.page_requests ≡ x) × ((own p n o).is_last p.page_requests ≡ true))
+new_last : (ms : Mappings) (g n : ℕ) (p : Part) (o : Own) → LegalOwn ms g p o → (x : ℕ) → is_answerable ((own p n o).group x) ≡ true
+    → (is_answerable (p.group x) ≡ true)
+    ⊎ ((p.page_requests < (own p n o).page_requests) × ((own p n o).group_of p.page_requests ≡ x) × ((own p n o).is_last p.page_requests ≡ true))
 new_last ms g n p o l x h = grind (arith, nat_tests)
 
-filed_last_kept : (ms : Mappings) (g n : ℕ) (p : Part) (o : Own) → LegalOwn ms g p o → (r : ℕ) → ((x : ℕ) → p.page_request x ≡ Arrived → is_whole (p.host_group (p.group_of x)) ≡ false) → ((w : ℕ) → p.phase ≡ Open → p.host_group (p.group_of r) ≡ InHand w → is_before_invalidating (p.stage (p.filed_under (p.group_of r))) ≡ true) → (p.page_requests ≤ r → p.page_request r ≡ Dropped) → ((c : ℕ) → p.message c ≡ Some ResetDone → p.group (p.group_of r) ≡ Finished) → (r < p.page_requests → p.group_of r < p.groups) → (p.phase ≡ Open → r < p.page_requests → p.is_last r ≡ true → p.page_request r ≡ Filed → is_outstanding (p.group (p.group_of r)) ≡ true → is_whole (p.host_group (p.group_of r)) ≡ true) → (own p n o).phase ≡ Open → r < (own p n o).page_requests → (own p n o).is_last r ≡ true → (own p n o).page_request r ≡ Filed → is_outstanding ((own p n o).group ((own p n o).group_of r)) ≡ true → is_whole ((own p n o).host_group ((own p n o).group_of r)) ≡ true
+filed_last_kept : (ms : Mappings) (g n : ℕ) (p : Part) (o : Own) → LegalOwn ms g p o → (r : ℕ)
+    → ((x : ℕ) → p.page_request x ≡ Arrived → is_whole (p.host_group (p.group_of x)) ≡ false)
+    → ((w : ℕ) → p.phase ≡ Open → p.host_group (p.group_of r) ≡ InHand w → is_before_invalidating (p.stage (p.filed_under (p.group_of r))) ≡ true)
+    → (p.page_requests ≤ r → p.page_request r ≡ Dropped) → ((c : ℕ) → p.message c ≡ Some ResetDone → p.group (p.group_of r) ≡ Finished)
+    → (r < p.page_requests → p.group_of r < p.groups)
+    → (p.phase ≡ Open → r < p.page_requests → p.is_last r ≡ true → p.page_request r ≡ Filed → is_outstanding (p.group (p.group_of r)) ≡ true
+    → is_whole (p.host_group (p.group_of r)) ≡ true) → (own p n o).phase ≡ Open → r < (own p n o).page_requests → (own p n o).is_last r ≡ true
+    → (own p n o).page_request r ≡ Filed → is_outstanding ((own p n o).group ((own p n o).group_of r)) ≡ true
+    → is_whole ((own p n o).host_group ((own p n o).group_of r)) ≡ true
 filed_last_kept ms g n p o l r part in_hand un re made old ph lt la fi out = grind (arith, nat_tests)
 
-discarded_kept : (ms : Mappings) (g n : ℕ) (p : Part) (o : Own) → LegalOwn ms g p o → (x : ℕ) → (p.groups ≤ x → p.host_group x ≡ NotFiled) → ((c : ℕ) → p.message c ≡ Some ResetDone → p.group x ≡ Finished) → ((w : ℕ) → p.phase ≡ Open → p.host_group x ≡ InHandDiscarded w → is_outstanding (p.group x) ≡ false) → ((w : ℕ) → p.phase ≡ Open → p.host_group x ≡ InHand w → is_before_invalidating (p.stage (p.filed_under x)) ≡ true) → (p.phase ≡ Open → p.host_group x ≡ Discarded → is_outstanding (p.group x) ≡ false) → (own p n o).phase ≡ Open → (own p n o).host_group x ≡ Discarded → is_outstanding ((own p n o).group x) ≡ false
+discarded_kept : (ms : Mappings) (g n : ℕ) (p : Part) (o : Own) → LegalOwn ms g p o → (x : ℕ) → (p.groups ≤ x → p.host_group x ≡ NotFiled)
+    → ((c : ℕ) → p.message c ≡ Some ResetDone → p.group x ≡ Finished)
+    → ((w : ℕ) → p.phase ≡ Open → p.host_group x ≡ InHandDiscarded w → is_outstanding (p.group x) ≡ false)
+    → ((w : ℕ) → p.phase ≡ Open → p.host_group x ≡ InHand w → is_before_invalidating (p.stage (p.filed_under x)) ≡ true)
+    → (p.phase ≡ Open → p.host_group x ≡ Discarded → is_outstanding (p.group x) ≡ false) → (own p n o).phase ≡ Open → (own p n o).host_group x
+    ≡ Discarded → is_outstanding ((own p n o).group x) ≡ false
 discarded_kept ms g n p o l x made re hand opened_hand old ph h = grind (arith, nat_tests)
 
-arrived_part : (p : Part) → ((r : ℕ) → is_whole (p.host_group (p.group_of r)) ≡ true → r < p.page_requests → p.page_request r ≡ Filed) → ((r : ℕ) → p.page_requests ≤ r → p.page_request r ≡ Dropped) → (x : ℕ) → p.page_request x ≡ Arrived → is_whole (p.host_group (p.group_of x)) ≡ false
+arrived_part : (p : Part) → ((r : ℕ) → is_whole (p.host_group (p.group_of r)) ≡ true → r < p.page_requests → p.page_request r ≡ Filed)
+    → ((r : ℕ) → p.page_requests ≤ r → p.page_request r ≡ Dropped) → (x : ℕ) → p.page_request x ≡ Arrived → is_whole (p.host_group (p.group_of x)) ≡ false
 arrived_part p whole made x h = grind (arith, nat_tests, whole x, made x)
 
-last_kept : (ms : Mappings) (g n : ℕ) (p : Part) (o : Own) → LegalOwn ms g p o → OnTheWay p → (x : ℕ) → is_answerable ((own p n o).group x) ≡ true → (r : ℕ) × (r < (own p n o).page_requests) × ((own p n o).group_of r ≡ x) × ((own p n o).is_last r ≡ true)
+last_kept : (ms : Mappings) (g n : ℕ) (p : Part) (o : Own) → LegalOwn ms g p o → OnTheWay p → (x : ℕ) → is_answerable ((own p n o).group x) ≡ true
+    → (r : ℕ) × (r < (own p n o).page_requests) × ((own p n o).group_of r ≡ x) × ((own p n o).is_last r ≡ true)
 last_kept ms g n p o l w x h = go (new_last ms g n p o l x h)
   where
-    go : (is_answerable (p.group x) ≡ true) ⊎ ((p.page_requests < (own p n o).page_requests) × ((own p n o).group_of p.page_requests ≡ x) × ((own p n o).is_last p.page_requests ≡ true)) → (r : ℕ) × (r < (own p n o).page_requests) × ((own p n o).group_of r ≡ x) × ((own p n o).is_last r ≡ true)
+    go : (is_answerable (p.group x) ≡ true)
+        ⊎ ((p.page_requests < (own p n o).page_requests) × ((own p n o).group_of p.page_requests ≡ x) × ((own p n o).is_last p.page_requests ≡ true))
+        → (r : ℕ) × (r < (own p n o).page_requests) × ((own p n o).group_of r ≡ x) × ((own p n o).is_last r ≡ true)
     go (inl a) = let y = w.last x a in let z = old_last ms g n p o y.0 y.1 in (y.0, z.0, z.1 ∙ y.2, z.2 ∙ y.3)
     go (inr y) = (p.page_requests, y.0, y.1, y.2)
 
@@ -60,8 +81,11 @@ every ms x g n e p o l i w =
     let gr = i.groups in
     record {
       last = λ y h. last_kept ms g n p o l w y h;
-      filed_last = λ r ph lt la fi out. filed_last_kept ms g n p o l r (arrived_part p i.lasts.whole bo.page_request) (λ v q h. (gr.open_group (p.group_of r) q (in_hand_open v h)).1) (bo.page_request r) (λ c m. re.finished c (p.group_of r) (re.up c m)) (bo.group_of r) (w.filed_last r) ph lt la fi out;
-      discarded = λ y ph h. discarded_kept ms g n p o l y (bo.host_group y) (λ c m. re.finished c y (re.up c m)) (λ v. gr.discarded_over y v) (λ v q k. (gr.open_group y q (in_hand_open v k)).1) (w.discarded y) ph h;
+      filed_last = λ r ph lt la fi out. filed_last_kept ms g n p o l r (arrived_part p i.lasts.whole bo.page_request)
+          (λ v q h. (gr.open_group (p.group_of r) q (in_hand_open v h)).1) (bo.page_request r) (λ c m. re.finished c (p.group_of r) (re.up c m))
+          (bo.group_of r) (w.filed_last r) ph lt la fi out;
+      discarded = λ y ph h. discarded_kept ms g n p o l y (bo.host_group y) (λ c m. re.finished c y (re.up c m)) (λ v. gr.discarded_over y v)
+          (λ v q k. (gr.open_group y q (in_hand_open v k)).1) (w.discarded y) ph h;
     }
   where
     in_hand_open : {s : HostGroupState} (v : ℕ) → s ≡ InHand v → is_open_group s ≡ true
@@ -84,7 +108,9 @@ act_on w (NewBinding e) l i h = h
 act_on w (NewJob e g) l i h = h
 act_on w (Hold x j) l i h = h
 act_on w (LetGo x) l i h = h
-act_on w (At e o) l i h = put_keeps (λ k p. OnTheWay p) w.part e (own (w.part e) w.messages o) (every w.mappings w.config.endpoints w.bindings w.messages e (w.part e) o l.1.0 (i.parts e) (h e)) h
+act_on w (At e o) l i h =
+    put_keeps (λ k p. OnTheWay p) w.part e (own (w.part e) w.messages o)
+    (every w.mappings w.config.endpoints w.bindings w.messages e (w.part e) o l.1.0 (i.parts e) (h e)) h
 
 pub acts_on : (acts : List Act) (w : World) → LegalAll w acts → Invariant w → AllOn w → AllOn (after_acts w acts)
 acts_on [] w l i h = h

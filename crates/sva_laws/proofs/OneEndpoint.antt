@@ -13,14 +13,18 @@ use Rattle.sva_model.specs.State.{MappingState, Stage, About, Part, World, opene
 use Rattle.sva_model.specs.State.PasidRule.{PerEndpoint, PerSpace}
 use Rattle.sva_model.specs.State.MappingState.{Unmade, Present, Gone}
 use Rattle.sva_model.specs.State.Stage.{Unbound, Live, Stopping, Draining, Invalidating, Quiet, Lost, Released}
-use Rattle.sva_model.specs.State.About.{StartOf, StopOf, ResetOrder, CompletionOf, InvalidateOf, ResponseOf, RequestOf, InvalidatedOf, PageRequestOf, MarkerOf, ResetDone}
+use Rattle.sva_model.specs.State.About.{StartOf, StopOf, ResetOrder, CompletionOf, InvalidateOf, ResponseOf, RequestOf, InvalidatedOf, PageRequestOf}
+use Rattle.sva_model.specs.State.About.{MarkerOf, ResetDone}
 use Rattle.sva_model.specs.States.{is_open, place, place_at, place_by, is_free, is_free_place}
 use Rattle.sva_model.specs.Acts.{Act, Own, act}
 use Rattle.sva_model.specs.Acts.Act.{NewSpace, DropSpace, Map, Unmap, NewBinding, NewJob, Hold, LetGo, At}
 use Rattle.sva_model.specs.Labels
-use Rattle.sva_model.specs.Replies.{replies_success, newly_mapped, maps_to, is_write_asked, job_space, response_to, reply_maps, responds, is_write_of_read_only}
-use Rattle.sva_model.specs.Refusals.{Cause, refusals, page_range, no_such_binding, no_such_worker, no_such_endpoint, no_such_space, resetting, messages_spent, advance_refusals, unbind_refusals}
-use Rattle.sva_model.specs.Outcomes.{Outcome, outcome, at_one, found_for, map_outcome, bind_outcome, advance_outcome, reply_outcome, completion_message, request_outcome, about_outcome, deliver_outcome, look_answer, says, bearer_answer}
+use Rattle.sva_model.specs.Replies.{replies_success, newly_mapped, maps_to, is_write_asked, job_space, response_to, reply_maps, responds}
+use Rattle.sva_model.specs.Replies.{is_write_of_read_only}
+use Rattle.sva_model.specs.Refusals.{Cause, refusals, page_range, no_such_binding, no_such_worker, no_such_endpoint, no_such_space, resetting}
+use Rattle.sva_model.specs.Refusals.{messages_spent, advance_refusals, unbind_refusals}
+use Rattle.sva_model.specs.Outcomes.{Outcome, outcome, at_one, found_for, map_outcome, bind_outcome, advance_outcome, reply_outcome, completion_message}
+use Rattle.sva_model.specs.Outcomes.{request_outcome, about_outcome, deliver_outcome, look_answer, says, bearer_answer}
 use Rattle.sva_model.specs.Steps.{checked, decide, next, reply, replies, after_acts}
 use Rattle.sva_laws.proofs.Words.{find_passes, holds_the, any_below-true, any_below-intro}
 use Rattle.sva_laws.proofs.Invariant.{Invariant}
@@ -131,13 +135,15 @@ same_bool false false f g = refl
 one_of : (n d e : ℕ) → n ≡ 1 → d < n → e < n → d ≡ e
 one_of n d e one l m = omega (arith, one, l, m)
 
-no_own : (w : World) (e s : ℕ) → w.config.endpoints ≡ 1 → e < w.config.endpoints → Invariant w → Labels.is_bound_at w s e ≡ false → (t : ℕ) → Labels.is_borne_by w s t ≢ true
+no_own : (w : World) (e s : ℕ) → w.config.endpoints ≡ 1 → e < w.config.endpoints → Invariant w → Labels.is_bound_at w s e ≡ false → (t : ℕ)
+    → Labels.is_borne_by w s t ≢ true
 no_own w e s one there i unbound t h =
     let d = any_below-true w.config.endpoints (λ x. holds_of (λ b. (w.part x).space b == s) ((w.part x).at_pasid t)) h in
     let c = holds_the (λ b. (w.part d.0).space b == s) ((w.part d.0).at_pasid t) d.2 in
     let bears = (i.parts d.0).labels.pasid_bears t (the ((w.part d.0).at_pasid t)) c.0 in
     let same = one_of w.config.endpoints e d.0 one there d.1 in
-    not_bound_at w s d.0 i (sym (ap (λ z. Labels.is_bound_at w s z) same) ∙ unbound) (the ((w.part d.0).at_pasid t)) bears.1 (number_is ((w.part d.0).space (the ((w.part d.0).at_pasid t))) s c.1)
+    not_bound_at w s d.0 i (sym (ap (λ z. Labels.is_bound_at w s z) same) ∙ unbound) (the ((w.part d.0).at_pasid t)) bears.1
+    (number_is ((w.part d.0).space (the ((w.part d.0).at_pasid t))) s c.1)
   where
     number_is : (a b : ℕ) → (a == b) ≡ true → a ≡ b
     number_is a b h = grind (arith, nat_tests)
@@ -145,12 +151,15 @@ no_own w e s one there i unbound t h =
 borne_there : (w : World) (e t : ℕ) → w.config.endpoints ≡ 1 → e < w.config.endpoints → Labels.is_borne w t ≡ Labels.is_borne_at (w.part e) t
 borne_there w e t one there =
     same_bool (Labels.is_borne w t) (Labels.is_borne_at (w.part e) t)
-    (λ h. let d = any_below-true w.config.endpoints (λ x. Labels.is_borne_at (w.part x) t) h in ap (λ z. Labels.is_borne_at (w.part z) t) (one_of w.config.endpoints e d.0 one there d.1) ∙ d.2)
+    (λ h. let d = any_below-true w.config.endpoints (λ x. Labels.is_borne_at (w.part x) t) h in ap (λ z. Labels.is_borne_at (w.part z) t)
+    (one_of w.config.endpoints e d.0 one there d.1) ∙ d.2)
     (λ h. any_below-intro w.config.endpoints (λ x. Labels.is_borne_at (w.part x) t) e there h)
 
-pasid_same : (w : World) (e s : ℕ) → w.rule ≡ PerEndpoint → w.config.endpoints ≡ 1 → e < w.config.endpoints → Invariant w → Labels.is_bound_at w s e ≡ false → Labels.pasid_for (by_space w) e s ≡ Labels.pasid_for w e s
+pasid_same : (w : World) (e s : ℕ) → w.rule ≡ PerEndpoint → w.config.endpoints ≡ 1 → e < w.config.endpoints → Invariant w → Labels.is_bound_at w s e
+    ≡ false → Labels.pasid_for (by_space w) e s ≡ Labels.pasid_for w e s
 pasid_same w e s r one there i unbound =
-    ap (λ o. Labels.or_else o (Labels.lowest_pasid (λ t. not (Labels.is_borne w t)))) (none_passes (Labels.is_borne_by w s) (no_own w e s one there i unbound))
+    ap (λ o. Labels.or_else o (Labels.lowest_pasid (λ t. not (Labels.is_borne w t))))
+    (none_passes (Labels.is_borne_by w s) (no_own w e s one there i unbound))
     ∙ ap Labels.lowest_pasid (λ k t. not (borne_there w e t one there k))
     ∙ ap (λ z. Labels.pasid_by z w e s) (sym r)
 
@@ -158,7 +167,8 @@ pasid_same w e s r one there i unbound =
 behind : (c : Cause) (cs ds : List Cause) (o u : Outcome) → (c.0 ≡ false → checked cs o ≡ checked ds u) → checked (c ∷ cs) o ≡ checked (c ∷ ds) u
 behind c cs ds o u h = go c.0 refl
   where
-    go : (b : Bool) → c.0 ≡ b → (if b then record { reply = Err c.1; acts = [] } else checked cs o) ≡ (if b then record { reply = Err c.1; acts = [] } else checked ds u)
+    go : (b : Bool) → c.0 ≡ b → (if b then record { reply = Err c.1; acts = [] } else checked cs o)
+        ≡ (if b then record { reply = Err c.1; acts = [] } else checked ds u)
     go true e = refl
     go false e = h e
 
@@ -166,7 +176,8 @@ behind c cs ds o u h = go c.0 refl
 abbrev bind_rest : World → Option ℕ → List Cause
 bind_rest w o = (not (is_some o), refusal.NoPasid) ∷ (Labels.lacks w w.bindings 1, refusal.NumbersSpent) ∷ messages_spent w 1 ∷ []
 
-bind_same : (w : World) (e n : ℕ) → w.rule ≡ PerEndpoint → w.config.endpoints ≡ 1 → Invariant w → decide (by_space w) (step.Bind e n) ≡ decide w (step.Bind e n)
+bind_same : (w : World) (e n : ℕ) → w.rule ≡ PerEndpoint → w.config.endpoints ≡ 1 → Invariant w → decide (by_space w) (step.Bind e n)
+    ≡ decide w (step.Bind e n)
 bind_same w e n r one i =
     let s = Labels.name w n in
     let bound : Cause = (Labels.is_bound_at w s e, refusal.AlreadyBound) in
@@ -208,7 +219,8 @@ decide_same w (step.Unbind n) r one i =
     (ap (λ z. no_such_binding w n ∷ z) (unbind_refusals_same w (w.home (Labels.name w n)) ((w.part (w.home (Labels.name w n))).stage (Labels.name w n)))) refl
 decide_same w (step.Advance n) r one i =
     both (refusals (by_space w) (step.Advance n)) (refusals w (step.Advance n)) (outcome (by_space w) (step.Advance n)) (outcome w (step.Advance n))
-    (ap (λ z. no_such_binding w n ∷ z) (advance_refusals_same w (w.home (Labels.name w n)) (Labels.name w n) ((w.part (w.home (Labels.name w n))).stage (Labels.name w n))))
+    (ap (λ z. no_such_binding w n ∷ z)
+    (advance_refusals_same w (w.home (Labels.name w n)) (Labels.name w n) ((w.part (w.home (Labels.name w n))).stage (Labels.name w n))))
     (advance_same w (w.home (Labels.name w n)) (Labels.name w n) ((w.part (w.home (Labels.name w n))).stage (Labels.name w n)))
 decide_same w (step.Pump e) r one i = refl
 decide_same w (step.Serve e) r one i = refl
@@ -227,7 +239,9 @@ decide_same w (step.Reply x v) r one i =
     ∷ [])
     (free_same w))
     (reply_same w x j (reply_maps (by_space w) j v) (response_to w j v)
-    ∙ ap (λ g. reply_outcome w x j (if replies_success w j v then maps_to (job_space w j) (is_write_asked w j) (newly_mapped w j) (select w.config.frames g) else []) (response_to w j v)) (free_same w))
+    ∙ ap (λ g. reply_outcome w x j
+    (if replies_success w j v then maps_to (job_space w j) (is_write_asked w j) (newly_mapped w j) (select w.config.frames g) else [])
+    (response_to w j v)) (free_same w))
 decide_same w (step.Ask e t q) r one i = refl
 decide_same w (step.BeginUse e t q x) r one i = refl
 decide_same w (step.EndUse e u) r one i = refl
@@ -236,7 +250,9 @@ decide_same w (step.Fault e t q rd x group l) r one i = refl
 decide_same w (step.Finish e vector count) r one i = refl
 decide_same w (step.Quit e t) r one i = refl
 decide_same w (step.Deliver n) r one i =
-    ap (λ z. checked (refusals w (step.Deliver n)) z) (deliver_same w (w.part (w.way (Labels.name w n))) (w.way (Labels.name w n)) (Labels.name w n) ((w.part (w.way (Labels.name w n))).message (Labels.name w n)))
+    ap (λ z. checked (refusals w (step.Deliver n)) z)
+    (deliver_same w (w.part (w.way (Labels.name w n))) (w.way (Labels.name w n)) (Labels.name w n)
+    ((w.part (w.way (Labels.name w n))).message (Labels.name w n)))
 decide_same w (step.Look f) r one i = ap (λ z. checked (refusals w (step.Look f)) (says (look_answer z) [])) (place_same w f)
 decide_same w (step.Bearer t) r one i = ap (λ z. checked (refusals w (step.Bearer t)) (says z [])) (bearer_same w t (Labels.is_borne w t))
 

@@ -9,13 +9,16 @@ use Rattle.sva_model.specs.Message.{Code}
 use Rattle.sva_model.specs.State.Stage.{Unbound, Live, Stopping, Draining, Invalidating, Quiet, Lost, Released}
 use Rattle.sva_model.specs.State.Order.{RangeOf, PasidOf, Wait}
 use Rattle.sva_model.specs.State.RequestState.{Out, Doomed, Over}
-use Rattle.sva_model.specs.State.About.{StartOf, StopOf, ResetOrder, CompletionOf, InvalidateOf, ResponseOf, RequestOf, InvalidatedOf, PageRequestOf, MarkerOf, ResetDone}
+use Rattle.sva_model.specs.State.About.{StartOf, StopOf, ResetOrder, CompletionOf, InvalidateOf, ResponseOf, RequestOf, InvalidatedOf, PageRequestOf}
+use Rattle.sva_model.specs.State.About.{MarkerOf, ResetDone}
 use Rattle.sva_model.specs.Acts.{Act, Own, act, own}
 use Rattle.sva_model.specs.Acts.Act.{NewSpace, DropSpace, Map, Unmap, NewBinding, NewJob, Hold, LetGo, At}
 use Rattle.sva_model.specs.Labels
 use Rattle.sva_model.specs.Refusals.{Cause, refusals}
 use Rattle.sva_model.specs.Replies.{maps_to, reply_maps, replies_success, newly_mapped, free_list, is_write_asked, job_space, response_to}
-use Rattle.sva_model.specs.Outcomes.{Outcome, outcome, unbind_outcome, advance_outcome, pump_outcome, head_outcome, wait_outcome, send_outcome, may_pass, serve_outcome, file_outcome, reply_outcome, fault_outcome, about_outcome, deliver_outcome, completion_outcome, keep_outcome, is_full, request_outcome, count_outcome, page_request_outcome, marker_outcome}
+use Rattle.sva_model.specs.Outcomes.{Outcome, outcome, unbind_outcome, advance_outcome, pump_outcome, head_outcome, wait_outcome, send_outcome, may_pass}
+use Rattle.sva_model.specs.Outcomes.{serve_outcome, file_outcome, reply_outcome, fault_outcome, about_outcome, deliver_outcome, completion_outcome}
+use Rattle.sva_model.specs.Outcomes.{keep_outcome, is_full, request_outcome, count_outcome, page_request_outcome, marker_outcome}
 use Rattle.sva_model.specs.States.{is_open}
 use Rattle.sva_model.specs.Words.{lowest, the}
 use Rattle.sva_model.specs.State.{PasidRule, Part, World, Stage, Order, About, RequestState}
@@ -105,8 +108,10 @@ reply_one : (w : World) (x j : ℕ) (v : Verdict) (o : Option Code) → AreOf (w
 reply_one w x j v None = (tt, (refl, tt))
 reply_one w x j v (Some code) = go (replies_success w j v)
   where
-    go : (b : Bool) → AreOf (w.job j).endpoint ((if b then maps_to (job_space w j) (is_write_asked w j) (newly_mapped w j) (free_list w) else []) ++ LetGo x ∷ At (w.job j).endpoint (Own.Respond (w.job j).group code) ∷ [])
-    go true = maps_one (w.job j).endpoint (job_space w j) (is_write_asked w j) (newly_mapped w j) (free_list w) (LetGo x ∷ At (w.job j).endpoint (Own.Respond (w.job j).group code) ∷ []) (tt, (refl, tt))
+    go : (b : Bool) → AreOf (w.job j).endpoint ((if b then maps_to (job_space w j) (is_write_asked w j) (newly_mapped w j) (free_list w) else [])
+        ++ LetGo x ∷ At (w.job j).endpoint (Own.Respond (w.job j).group code) ∷ [])
+    go true = maps_one (w.job j).endpoint (job_space w j) (is_write_asked w j) (newly_mapped w j) (free_list w)
+        (LetGo x ∷ At (w.job j).endpoint (Own.Respond (w.job j).group code) ∷ []) (tt, (refl, tt))
     go false = (tt, (refl, tt))
 
 fault_one : (p : Part) (e t q : ℕ) (r x l : Bool) (o : Option ℕ) → AreOf e (fault_outcome p e t q r x l o).acts
@@ -165,8 +170,10 @@ outcome_one w (step.Map n q x) h = (0, (tt, tt))
 outcome_one w (step.Unmap n q count) h = absurd (cc)
 outcome_one w (step.UnmapRange n q order) h = absurd (cc)
 outcome_one w (step.Bind e n) h = (e, (tt, (refl, tt)))
-outcome_one w (step.Unbind n) h = (w.home (Labels.name w n), unbind_one (w.home (Labels.name w n)) (Labels.name w n) ((w.part (w.home (Labels.name w n))).stage (Labels.name w n)))
-outcome_one w (step.Advance n) h = (w.home (Labels.name w n), advance_one w (w.home (Labels.name w n)) (Labels.name w n) ((w.part (w.home (Labels.name w n))).stage (Labels.name w n)))
+outcome_one w (step.Unbind n) h =
+    (w.home (Labels.name w n), unbind_one (w.home (Labels.name w n)) (Labels.name w n) ((w.part (w.home (Labels.name w n))).stage (Labels.name w n)))
+outcome_one w (step.Advance n) h =
+    (w.home (Labels.name w n), advance_one w (w.home (Labels.name w n)) (Labels.name w n) ((w.part (w.home (Labels.name w n))).stage (Labels.name w n)))
 outcome_one w (step.Pump e) h = (e, pump_one (w.part e) e (Labels.is_queue_empty (w.part e)))
 outcome_one w (step.Serve e) h = (e, serve_one (w.part e) e (Labels.is_page_queue_empty (w.part e)))
 outcome_one w (step.Reset e) h = (e, (refl, tt))
@@ -179,7 +186,11 @@ outcome_one w (step.Evict e t q) h = (e, (refl, tt))
 outcome_one w (step.Fault e t q r x group l) h = (e, fault_one (w.part e) e t q r x l group)
 outcome_one w (step.Finish e vector count) h = (e, (refl, tt))
 outcome_one w (step.Quit e t) h = (e, (refl, tt))
-outcome_one w (step.Deliver n) h = (w.way (Labels.name w n), deliver_one w (w.part (w.way (Labels.name w n))) (w.way (Labels.name w n)) (Labels.name w n) ((w.part (w.way (Labels.name w n))).message (Labels.name w n)))
+outcome_one w (step.Deliver n) h = (
+  w.way (Labels.name w n),
+  deliver_one w (w.part (w.way (Labels.name w n))) (w.way (Labels.name w n)) (Labels.name w n)
+      ((w.part (w.way (Labels.name w n))).message (Labels.name w n)),
+)
 outcome_one w (step.Look f) h = (0, tt)
 outcome_one w (step.Bearer t) h = (0, tt)
 
@@ -196,8 +207,10 @@ next_one w s h =
     let x = outcome_one w s h in
     (x.0, λ other ne. acts_one (decide w s).acts w x.0 other ne (checked_one x.0 (refusals w s) (outcome w s) x.1))
 
-pub always_one_part : (rule : PasidRule) (config : Config) (steps : List Step) (s : Step) → takes_out s ≡ false → ChangesOnePart (world_after rule config steps) (world_after rule config (steps ++ s ∷ []))
-always_one_part rule config steps s h = subst (ChangesOnePart (world_after rule config steps)) (sym (after_one rule config steps s)) (next_one (world_after rule config steps) s h)
+pub always_one_part : (rule : PasidRule) (config : Config) (steps : List Step) (s : Step) → takes_out s ≡ false
+    → ChangesOnePart (world_after rule config steps) (world_after rule config (steps ++ s ∷ []))
+always_one_part rule config steps s h =
+    subst (ChangesOnePart (world_after rule config steps)) (sym (after_one rule config steps s)) (next_one (world_after rule config steps) s h)
 
 -- the drop of a space changes none
 dropped_same : (w : World) (n e : ℕ) → (next w (step.DropSpace n)).part e ≡ w.part e
@@ -207,9 +220,11 @@ dropped_same w n e = go (refusals w (step.DropSpace n))
     go [] = refl
     go (c ∷ cs) = by c.0 (go cs)
       where
-        by : (b : Bool) → (after_acts w (checked cs (outcome w (step.DropSpace n))).acts).part e ≡ w.part e → (after_acts w (if b then record { reply = Err c.1; acts = [] } else checked cs (outcome w (step.DropSpace n))).acts).part e ≡ w.part e
+        by : (b : Bool) → (after_acts w (checked cs (outcome w (step.DropSpace n))).acts).part e ≡ w.part e
+            → (after_acts w (if b then record { reply = Err c.1; acts = [] } else checked cs (outcome w (step.DropSpace n))).acts).part e ≡ w.part e
         by true k = refl
         by false k = k
 
-pub always_dropped : (rule : PasidRule) (config : Config) (steps : List Step) (n e : ℕ) → (world_after rule config (steps ++ step.DropSpace n ∷ [])).part e ≡ (world_after rule config steps).part e
+pub always_dropped : (rule : PasidRule) (config : Config) (steps : List Step) (n e : ℕ)
+    → (world_after rule config (steps ++ step.DropSpace n ∷ [])).part e ≡ (world_after rule config steps).part e
 always_dropped rule config steps n e = ap (λ v. v.part e) (after_one rule config steps (step.DropSpace n)) ∙ dropped_same (world_after rule config steps) n e

@@ -20,7 +20,8 @@ IsUnbound w e s = (b : ℕ) → is_unreleased ((w.part e).stage b) ≡ true → 
 -- each space, it is the space's own.
 pub record IsPasidRule (rule : PasidRule) : Type 0 where
   pub low : (w : World) (e s t : ℕ) → Labels.pasid_by rule w e s ≡ Some t → (0 < t) × (t ≤ 32)
-  pub free : (w : World) (e s t : ℕ) → w.rule ≡ rule → Invariant w → e < w.config.endpoints → IsUnbound w e s → Labels.pasid_by rule w e s ≡ Some t → (w.part e).at_pasid t ≡ None
+  pub free : (w : World) (e s t : ℕ) → w.rule ≡ rule → Invariant w → e < w.config.endpoints → IsUnbound w e s → Labels.pasid_by rule w e s ≡ Some t
+      → (w.part e).at_pasid t ≡ None
   pub its : (w : World) (e s t : ℕ) → rule ≡ PerSpace → w.rule ≡ rule → Invariant w → Labels.pasid_by rule w e s ≡ Some t → IsOf w.part s t
 
 -- The lowest PASID that passes, and where none does.
@@ -78,7 +79,9 @@ borne_is_its w s t r i h =
 new_is_its : (w : World) (s t : ℕ) → Invariant w → Labels.lowest_pasid (Labels.is_borne_by w s) ≡ None → not (Labels.is_borne w t) ≡ true → IsOf w.part s t
 new_is_its w s t i none new =
     record {
-      its_space = λ e b u k. absurd (cc (sym (ap is_some (subst (λ z. (w.part e).at_pasid z ≡ Some b) k ((i.parts e).labels.bears_pasid b u))) ∙ any_below-false w.config.endpoints (λ d. Labels.is_borne_at (w.part d) t) (not_false (Labels.is_borne w t) new) e (there e b u)));
+      its_space = λ e b u k. absurd
+          (cc (sym (ap is_some (subst (λ z. (w.part e).at_pasid z ≡ Some b) k ((i.parts e).labels.bears_pasid b u)))
+          ∙ any_below-false w.config.endpoints (λ d. Labels.is_borne_at (w.part d) t) (not_false (Labels.is_borne w t) new) e (there e b u)));
       its_pasid = λ e b u k.
           let at = (i.parts e).labels.bears_pasid b u in
           let low = (i.parts e).labels.pasid_low ((w.part e).pasid b) b at in
@@ -96,14 +99,16 @@ new_is_its w s t i none new =
 its_own : (w : World) (e s t : ℕ) → w.rule ≡ PerSpace → Invariant w → Labels.pasid_by PerSpace w e s ≡ Some t → IsOf w.part s t
 its_own w e s t r i h = go (own_or_new (Labels.lowest_pasid (Labels.is_borne_by w s)) (Labels.lowest_pasid (λ k. not (Labels.is_borne w k))) t h)
   where
-    go : (Labels.lowest_pasid (Labels.is_borne_by w s) ≡ Some t) ⊎ ((Labels.lowest_pasid (Labels.is_borne_by w s) ≡ None) × (Labels.lowest_pasid (λ k. not (Labels.is_borne w k)) ≡ Some t)) → IsOf w.part s t
+    go : (Labels.lowest_pasid (Labels.is_borne_by w s) ≡ Some t)
+        ⊎ ((Labels.lowest_pasid (Labels.is_borne_by w s) ≡ None) × (Labels.lowest_pasid (λ k. not (Labels.is_borne w k)) ≡ Some t)) → IsOf w.part s t
     go (inl x) = borne_is_its w s t r i (lowest_is (Labels.is_borne_by w s) t x).2
     go (inr x) = new_is_its w s t i x.0 (lowest_is (λ k. not (Labels.is_borne w k)) t x.1).2
 
 low_either : (w : World) (e s t : ℕ) → Labels.pasid_by PerSpace w e s ≡ Some t → (0 < t) × (t ≤ 32)
 low_either w e s t h = go (own_or_new (Labels.lowest_pasid (Labels.is_borne_by w s)) (Labels.lowest_pasid (λ k. not (Labels.is_borne w k))) t h)
   where
-    go : (Labels.lowest_pasid (Labels.is_borne_by w s) ≡ Some t) ⊎ ((Labels.lowest_pasid (Labels.is_borne_by w s) ≡ None) × (Labels.lowest_pasid (λ k. not (Labels.is_borne w k)) ≡ Some t)) → (0 < t) × (t ≤ 32)
+    go : (Labels.lowest_pasid (Labels.is_borne_by w s) ≡ Some t)
+        ⊎ ((Labels.lowest_pasid (Labels.is_borne_by w s) ≡ None) × (Labels.lowest_pasid (λ k. not (Labels.is_borne w k)) ≡ Some t)) → (0 < t) × (t ≤ 32)
     go (inl x) = let y = lowest_is (Labels.is_borne_by w s) t x in (y.0, y.1)
     go (inr x) = let y = lowest_is (λ k. not (Labels.is_borne w k)) t x.1 in (y.0, y.1)
 

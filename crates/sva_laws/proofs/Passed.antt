@@ -32,7 +32,8 @@ pub checked_legal : (w : World) (cs : List Cause) (o : Outcome) → (Passed cs �
 checked_legal w [] o f = f tt
 checked_legal w (c ∷ cs) o f = go (λ e. checked_legal w cs o (λ k. f (e, k))) c.0 refl
   where
-    go : (c.0 ≡ false → LegalAll w (checked cs o).acts) → (b : Bool) → c.0 ≡ b → LegalAll w (if b then record { reply = Err c.1; acts = [] } else checked cs o).acts
+    go : (c.0 ≡ false → LegalAll w (checked cs o).acts) → (b : Bool) → c.0 ≡ b
+        → LegalAll w (if b then record { reply = Err c.1; acts = [] } else checked cs o).acts
     go rest true e = tt
     go rest false e = rest e
 
@@ -65,7 +66,8 @@ pub label_low : (n : ℕ) (at : ℕ → Option ℕ) → (Labels.lowest_label n a
 label_low n at h = (lowest_passes n (λ t. not (is_some (at t))) h).0
 
 pub label_free : (n : ℕ) (at : ℕ → Option ℕ) → (Labels.lowest_label n at == n) ≡ false → at (Labels.lowest_label n at) ≡ None
-label_free n at h = none_is (at (Labels.lowest_label n at)) (not_false (is_some (at (Labels.lowest_label n at))) (lowest_passes n (λ t. not (is_some (at t))) h).1)
+label_free n at h = none_is (at (Labels.lowest_label n at))
+    (not_false (is_some (at (Labels.lowest_label n at))) (lowest_passes n (λ t. not (is_some (at t))) h).1)
 
 -- bindings
 pub unreleased_made : (g : ℕ) (p : Part) (b : ℕ) → ((d : ℕ) → g ≤ d → p.stage d ≡ Unbound) → is_unreleased (p.stage b) ≡ true → b < g
@@ -74,7 +76,8 @@ unreleased_made g p b bo h = grind (arith, nat_tests, bo b)
 pub unreleased_bound : (p : Part) (b : ℕ) → is_unreleased (p.stage b) ≡ true → p.stage b ≢ Unbound
 unreleased_bound p b h e = absurd (cc)
 
-pub not_bound_at : (w : World) (s e : ℕ) → Invariant w → Labels.is_bound_at w s e ≡ false → (b : ℕ) → is_unreleased ((w.part e).stage b) ≡ true → (w.part e).space b ≢ s
+pub not_bound_at : (w : World) (s e : ℕ) → Invariant w → Labels.is_bound_at w s e ≡ false → (b : ℕ) → is_unreleased ((w.part e).stage b) ≡ true
+    → (w.part e).space b ≢ s
 not_bound_at w s e i h b u same =
     let lt = unreleased_made w.bindings (w.part e) b (i.parts e).bounds.stage u in
     let f = any_below-false w.bindings (λ d. is_unreleased ((w.part e).stage d) && (w.part e).space d == s) h b lt in
@@ -83,13 +86,15 @@ not_bound_at w s e i h b u same =
     both : is_unreleased ((w.part e).stage b) ≡ true → (w.part e).space b ≡ s → (is_unreleased ((w.part e).stage b) && (w.part e).space b == s) ≢ false
     both u same f = grind (arith, nat_tests)
 
-pub not_bound : (w : World) (s : ℕ) → Invariant w → Labels.is_bound w s ≡ false → (e b : ℕ) → is_unreleased ((w.part e).stage b) ≡ true → (w.part e).space b ≢ s
+pub not_bound : (w : World) (s : ℕ) → Invariant w → Labels.is_bound w s ≡ false → (e b : ℕ) → is_unreleased ((w.part e).stage b) ≡ true
+    → (w.part e).space b ≢ s
 not_bound w s i h e b u =
     let there = (i.parts e).there b (unreleased_bound (w.part e) b u) in
     not_bound_at w s e i (any_below-false w.config.endpoints (Labels.is_bound_at w s) h e there) b u
 
 -- a PASID that is on, or told to stop, has a bearer
-pub bearer_of : (p : Part) (t : ℕ) (test : ℕ → Bool) → holds_of test (p.at_pasid t) ≡ true → (p.at_pasid t ≡ Some (Labels.bearer p t)) × (test (Labels.bearer p t) ≡ true)
+pub bearer_of : (p : Part) (t : ℕ) (test : ℕ → Bool) → holds_of test (p.at_pasid t) ≡ true → (p.at_pasid t ≡ Some (Labels.bearer p t))
+    × (test (Labels.bearer p t) ≡ true)
 bearer_of p t test h = go (p.at_pasid t) h
   where
     go : (o : Option ℕ) → holds_of test o ≡ true → (o ≡ Some (the o)) × (test (the o) ≡ true)

@@ -12,7 +12,8 @@ use Rattle.sva_model.specs.Acts.{submitted, range_at, in_range}
 abbrev IsPiece : (q size count page : ℕ) → Type 0
 IsPiece q size count page = (j : ℕ) × (j < count) × (q + j * size ≤ page) × (page < q + j * size + size)
 
-last_piece : (q size count page : ℕ) (b : Bool) → nat_lt page (q + count * size) ≡ b → page < q + suc count * size → (page < q + count * size → IsPiece q size count page) → IsPiece q size (suc count) page
+last_piece : (q size count page : ℕ) (b : Bool) → nat_lt page (q + count * size) ≡ b → page < q + suc count * size
+    → (page < q + count * size → IsPiece q size count page) → IsPiece q size (suc count) page
 last_piece q size count page true h high rest = let x = rest (less h) in (x.0, omega (arith, x.1), x.2, x.3)
   where
     less : nat_lt page (q + count * size) ≡ true → page < q + count * size
@@ -43,10 +44,12 @@ range_of q order count page h =
     (x.0, x.1, is_inside (q + x.0 * 2 ^ order) (2 ^ order) page x.2 x.3)
 
 -- the orders that are submitted ahead of the wait are of these ranges
-pub order_of : (p : Part) (b q count order cookie k : ℕ) → p.orders ≤ k → k < p.orders + count → (submitted p b q count order cookie).order k ≡ RangeOf b (range_at q order (k - p.orders))
+pub order_of : (p : Part) (b q count order cookie k : ℕ) → p.orders ≤ k → k < p.orders + count → (submitted p b q count order cookie).order k
+    ≡ RangeOf b (range_at q order (k - p.orders))
 order_of p b q count order cookie k low high = grind (arith, nat_tests)
 
-pub order_at : (p : Part) (b q count order cookie j : ℕ) → j < count → (submitted p b q count order cookie).order (p.orders + j) ≡ RangeOf b (range_at q order j)
+pub order_at : (p : Part) (b q count order cookie j : ℕ) → j < count → (submitted p b q count order cookie).order (p.orders + j)
+    ≡ RangeOf b (range_at q order j)
 order_at p b q count order cookie j l =
     let same : (p.orders + j) - p.orders ≡ j = omega arith in
     order_of p b q count order cookie (p.orders + j) (omega arith) (omega (arith, l)) ∙ ap (λ z. RangeOf b (range_at q order z)) same
@@ -54,6 +57,7 @@ order_at p b q count order cookie j l =
 covers_range : (b : ℕ) (range : Range) (page : ℕ) → is_in range page ≡ true → covers (RangeOf b range) b page ≡ true
 covers_range b range page h = grind (arith, nat_tests)
 
-pub order_covers : (p : Part) (b q count order cookie page j : ℕ) → j < count → is_in (range_at q order j) page ≡ true → covers ((submitted p b q count order cookie).order (p.orders + j)) b page ≡ true
+pub order_covers : (p : Part) (b q count order cookie page j : ℕ) → j < count → is_in (range_at q order j) page ≡ true
+    → covers ((submitted p b q count order cookie).order (p.orders + j)) b page ≡ true
 order_covers p b q count order cookie page j l h =
     ap (λ o. covers o b page) (order_at p b q count order cookie j l) ∙ covers_range b (range_at q order j) page h

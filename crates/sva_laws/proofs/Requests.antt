@@ -25,9 +25,14 @@ pub record Requests (p : Part) : Type 0 where
   pub not_both : (c d r : ℕ) (f : Option ℕ) → p.message c ≡ Some (RequestOf r) → p.message d ≢ Some (CompletionOf r f)
   pub ask_out : (c r : ℕ) → p.message c ≡ Some (RequestOf r) → is_cleared p.phase ≡ false → is_out (p.request r) ≡ true
   pub answer_out : (c r : ℕ) (f : Option ℕ) → p.message c ≡ Some (CompletionOf r f) → is_cleared p.phase ≡ false → is_out (p.request r) ≡ true
-  pub one_held : (r x m y : ℕ) → p.held r ≡ Some m → p.held x ≡ Some y → p.request_binding r ≡ p.request_binding x → p.request_page r ≡ p.request_page x → r ≡ x
+  pub one_held : (r x m y : ℕ) → p.held r ≡ Some m → p.held x ≡ Some y → p.request_binding r ≡ p.request_binding x → p.request_page r
+      ≡ p.request_page x → r ≡ x
 
-one_held_kept : (ms : Mappings) (g n : ℕ) (p : Part) (o : Own) → LegalOwn ms g p o → (r x m y : ℕ) → (p.requests ≤ r → p.held r ≡ None) → (p.requests ≤ x → p.held x ≡ None) → ((k j : ℕ) → p.held r ≡ Some k → p.held x ≡ Some j → p.request_binding r ≡ p.request_binding x → p.request_page r ≡ p.request_page x → r ≡ x) → (own p n o).held r ≡ Some m → (own p n o).held x ≡ Some y → (own p n o).request_binding r ≡ (own p n o).request_binding x → (own p n o).request_page r ≡ (own p n o).request_page x → r ≡ x
+one_held_kept : (ms : Mappings) (g n : ℕ) (p : Part) (o : Own) → LegalOwn ms g p o → (r x m y : ℕ) → (p.requests ≤ r → p.held r ≡ None)
+    → (p.requests ≤ x → p.held x ≡ None)
+    → ((k j : ℕ) → p.held r ≡ Some k → p.held x ≡ Some j → p.request_binding r ≡ p.request_binding x → p.request_page r ≡ p.request_page x → r ≡ x)
+    → (own p n o).held r ≡ Some m → (own p n o).held x ≡ Some y → (own p n o).request_binding r ≡ (own p n o).request_binding x
+    → (own p n o).request_page r ≡ (own p n o).request_page x → r ≡ x
 one_held_kept ms g n p o l r x m y br bx old h i d f = grind (arith, nat_tests)
 
 pub every : (ms : Mappings) (g n : ℕ) (p : Part) (o : Own) → LegalOwn ms g p o → Resets n p → Bounds g p → Bindings p → Requests p → Requests (own p n o)
@@ -36,7 +41,16 @@ every ms g n p o l re bo bi ra =
       bound = λ r h. grind (arith, nat_tests, ra.bound r, bi.on_stage);
       alive = λ r h. grind (arith, nat_tests, ra.alive r);
       ask_once = λ c d r h i. grind (arith, nat_tests, ra.ask_once c d r, bo.asked c r, bo.asked d r, re.unsent c, re.unsent d);
-      answer_once = λ c d r f k h i. grind (arith, nat_tests, ra.answer_once c d r f k, ra.not_both, bo.answered c r f, bo.answered d r k, re.unsent c, re.unsent d);
+      answer_once = λ c d r f k h i. grind (
+        arith,
+        nat_tests,
+        ra.answer_once c d r f k,
+        ra.not_both,
+        bo.answered c r f,
+        bo.answered d r k,
+        re.unsent c,
+        re.unsent d,
+      );
       not_both = λ c d r f h i. grind (arith, nat_tests, ra.not_both c d r f, ra.ask_once c, bo.asked c r, bo.answered d r f, re.unsent c, re.unsent d);
       ask_out = λ c r h i. grind (arith, nat_tests, ra.ask_out c r, ra.not_both c, bo.asked c r, re.older, re.up, re.unsent c);
       one_held = λ r x m y h i d f. one_held_kept ms g n p o l r x m y (bo.held r) (bo.held x) (ra.one_held r x) h i d f;

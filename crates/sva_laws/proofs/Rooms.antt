@@ -49,7 +49,8 @@ acts_live z (a ∷ acts) w h m = let one = act_live w z a h m.0 in let rest = ac
 one_live : (w : World) → Labels.live_spaces (act w NewSpace) ≤ suc (Labels.live_spaces w)
 one_live w =
     let now = put w.is_live w.spaces true in
-    let old : count_below w.spaces now ≡ Labels.live_spaces w = count_same w.spaces now w.is_live (λ k l. put-other w.is_live w.spaces true k (omega (arith, l))) in
+    let old : count_below w.spaces now ≡ Labels.live_spaces w =
+    count_same w.spaces now w.is_live (λ k l. put-other w.is_live w.spaces true k (omega (arith, l))) in
     omega (arith, count_next w.spaces now, bit_most (now w.spaces), old)
 
 -- what holds where nothing is done, and where no cause refuses
@@ -85,19 +86,24 @@ was_both a b c f h = grind arith
 act_pages : (w : World) (z : Step) (a : Act) (t : ℕ) → is_mapping z ≡ false → may a z ≡ true → Labels.pages_of (act w a) t ≤ Labels.pages_of w t
 act_pages w z NewSpace t h m = omega arith
 act_pages w z (DropSpace s) t h m =
-    count_less w.mappings.made (λ k. is_present ((act w (DropSpace s)).mappings.state k) && w.mappings.space k == t) (λ k. is_present (w.mappings.state k) && w.mappings.space k == t)
-    (λ k l. was_both (is_present ((act w (DropSpace s)).mappings.state k)) (w.mappings.space k == t) (is_present (w.mappings.state k)) (was_present _ _ (w.mappings.state k)))
+    count_less w.mappings.made (λ k. is_present ((act w (DropSpace s)).mappings.state k) && w.mappings.space k == t)
+    (λ k. is_present (w.mappings.state k) && w.mappings.space k == t)
+    (λ k l. was_both (is_present ((act w (DropSpace s)).mappings.state k)) (w.mappings.space k == t) (is_present (w.mappings.state k))
+    (was_present _ _ (w.mappings.state k)))
 act_pages w z (Map s q f x) t h m = absurd (cc)
 act_pages w z (Unmap s q count order) t h m =
-    count_less w.mappings.made (λ k. is_present ((act w (Unmap s q count order)).mappings.state k) && w.mappings.space k == t) (λ k. is_present (w.mappings.state k) && w.mappings.space k == t)
-    (λ k l. was_both (is_present ((act w (Unmap s q count order)).mappings.state k)) (w.mappings.space k == t) (is_present (w.mappings.state k)) (was_present _ _ (w.mappings.state k)))
+    count_less w.mappings.made (λ k. is_present ((act w (Unmap s q count order)).mappings.state k) && w.mappings.space k == t)
+    (λ k. is_present (w.mappings.state k) && w.mappings.space k == t)
+    (λ k l. was_both (is_present ((act w (Unmap s q count order)).mappings.state k)) (w.mappings.space k == t) (is_present (w.mappings.state k))
+    (was_present _ _ (w.mappings.state k)))
 act_pages w z (NewBinding e) t h m = omega arith
 act_pages w z (NewJob e g) t h m = omega arith
 act_pages w z (Hold x j) t h m = omega arith
 act_pages w z (LetGo x) t h m = omega arith
 act_pages w z (At e o) t h m = omega arith
 
-acts_pages : (z : Step) (acts : List Act) (w : World) (t : ℕ) → is_mapping z ≡ false → AllMay z acts → Labels.pages_of (after_acts w acts) t ≤ Labels.pages_of w t
+acts_pages : (z : Step) (acts : List Act) (w : World) (t : ℕ) → is_mapping z ≡ false → AllMay z acts → Labels.pages_of (after_acts w acts) t
+    ≤ Labels.pages_of w t
 acts_pages z [] w t h m = omega arith
 acts_pages z (a ∷ acts) w t h m = let one = act_pages w z a t h m.0 in let rest = acts_pages z acts (act w a) t h m.1 in omega (arith, one, rest)
 
@@ -111,15 +117,18 @@ other_pages w v s n t x ne = ap (λ k. count_below k now) x.made ∙ more ∙ sa
     isnt a b h = grind (arith, nat_tests)
 
     more : count_below (w.mappings.made + n) now ≡ count_below w.mappings.made now
-    more = count_more w.mappings.made n now (λ m l k. isnt (v.mappings.space m) (is_present (v.mappings.state m)) (x.fresh m l (let e = x.made in omega (arith, k, e))).1)
+    more = count_more w.mappings.made n now
+        (λ m l k. isnt (v.mappings.space m) (is_present (v.mappings.state m)) (x.fresh m l (let e = x.made in omega (arith, k, e))).1)
 
     same : count_below w.mappings.made now ≡ Labels.pages_of w t
     same = count_same w.mappings.made now (λ m. is_present (w.mappings.state m) && w.mappings.space m == t) (λ m l. alike m (x.kept m l).0 (x.kept m l).1)
       where
-        alike : (m : ℕ) → v.mappings.state m ≡ w.mappings.state m → v.mappings.space m ≡ w.mappings.space m → now m ≡ (is_present (w.mappings.state m) && w.mappings.space m == t)
+        alike : (m : ℕ) → v.mappings.state m ≡ w.mappings.state m → v.mappings.space m ≡ w.mappings.space m → now m
+            ≡ (is_present (w.mappings.state m) && w.mappings.space m == t)
         alike m a b = ap (λ z. is_present z && v.mappings.space m == t) a ∙ ap (λ z. is_present (w.mappings.state m) && z == t) b
 
-fits : (w v : World) (s n : ℕ) → MapsPages w v s n → Labels.pages_of w s + n ≤ 1024 → ((t : ℕ) → Labels.pages_of w t ≤ 1024) → (t : ℕ) → Labels.pages_of v t ≤ 1024
+fits : (w v : World) (s n : ℕ) → MapsPages w v s n → Labels.pages_of w s + n ≤ 1024 → ((t : ℕ) → Labels.pages_of w t ≤ 1024) → (t : ℕ)
+    → Labels.pages_of v t ≤ 1024
 fits w v s n x room h t = go (ℕ_cases t s)
   where
     go : (t ≡ s) ⊎ (t ≢ s) → Labels.pages_of v t ≤ 1024
@@ -134,7 +143,9 @@ most s write (q ∷ qs) (f ∷ fs) = let r = most s write qs fs in omega (arith,
 abbrev AllFit : World → Type 0
 AllFit w = (t : ℕ) → Labels.pages_of w t ≤ 1024
 
-reply_fits : (w : World) (x j : ℕ) (v : Verdict) (o : Option Code) → (replies_success w j v && nat_lt 1024 (Labels.pages_of w (job_space w j) + length (newly_mapped w j))) ≡ false → AllFit w → LegalAll w (reply_outcome w x j (reply_maps w j v) o).acts → AllFit (after_acts w (reply_outcome w x j (reply_maps w j v) o).acts)
+reply_fits : (w : World) (x j : ℕ) (v : Verdict) (o : Option Code)
+    → (replies_success w j v && nat_lt 1024 (Labels.pages_of w (job_space w j) + length (newly_mapped w j))) ≡ false → AllFit w
+    → LegalAll w (reply_outcome w x j (reply_maps w j v) o).acts → AllFit (after_acts w (reply_outcome w x j (reply_maps w j v) o).acts)
 reply_fits w x j v None full h l = h
 reply_fits w x j v (Some code) full h l = go (replies_success w j v) refl l
   where
@@ -148,11 +159,14 @@ reply_fits w x j v (Some code) full h l = go (replies_success w j v) refl l
     maps = maps_to (job_space w j) (is_write_asked w j) (newly_mapped w j) (free_list w)
 
     room : replies_success w j v ≡ true → Labels.pages_of w (job_space w j) + length (newly_mapped w j) ≤ 1024
-    room t = is_at_most 1024 (Labels.pages_of w (job_space w j) + length (newly_mapped w j)) (sym (ap (λ b. b && nat_lt 1024 (Labels.pages_of w (job_space w j) + length (newly_mapped w j))) t) ∙ full)
+    room t = is_at_most 1024 (Labels.pages_of w (job_space w j) + length (newly_mapped w j))
+        (sym (ap (λ b. b && nat_lt 1024 (Labels.pages_of w (job_space w j) + length (newly_mapped w j))) t) ∙ full)
 
-    go : (b : Bool) → replies_success w j v ≡ b → LegalAll w ((if b then maps else []) ++ LetGo x ∷ At e r ∷ []) → AllFit (after_acts w ((if b then maps else []) ++ LetGo x ∷ At e r ∷ []))
+    go : (b : Bool) → replies_success w j v ≡ b → LegalAll w ((if b then maps else []) ++ LetGo x ∷ At e r ∷ [])
+        → AllFit (after_acts w ((if b then maps else []) ++ LetGo x ∷ At e r ∷ []))
     go true t k =
-        fits w (after_acts w (maps ++ LetGo x ∷ At e r ∷ [])) (job_space w j) (length maps) (all_pages (job_space w j) (is_write_asked w j) (newly_mapped w j) (free_list w) x e r w k)
+        fits w (after_acts w (maps ++ LetGo x ∷ At e r ∷ [])) (job_space w j) (length maps)
+        (all_pages (job_space w j) (is_write_asked w j) (newly_mapped w j) (free_list w) x e r w k)
         (let a = room t in let b = most (job_space w j) (is_write_asked w j) (newly_mapped w j) (free_list w) in omega (arith, a, b))
         h
     go false t k = h
@@ -165,7 +179,8 @@ next_fits w s i h = go s (is_mapping s) refl
         by_passed (λ acts. LegalAll w acts → AllFit (after_acts w acts)) (refusals w (step.Map n q x)) (outcome w (step.Map n q x)) (λ l. h)
         (λ k l.
         let few = few_enough 1024 (Labels.pages_of w (Labels.name w n)) k.1.1.1.0 in
-        fits w (act w (Map (Labels.name w n) q (Labels.lowest_frame w) x)) (Labels.name w n) 1 (one_page w (Labels.name w n) q (Labels.lowest_frame w) x l.0.1) (omega (arith, few)) h)
+        fits w (act w (Map (Labels.name w n) q (Labels.lowest_frame w) x)) (Labels.name w n) 1
+        (one_page w (Labels.name w n) q (Labels.lowest_frame w) x l.0.1) (omega (arith, few)) h)
         (step_legal w (step.Map n q x) i)
     go (step.Reply x v) b y =
         by_passed (λ acts. LegalAll w acts → AllFit (after_acts w acts)) (refusals w (step.Reply x v)) (outcome w (step.Reply x v)) (λ l. h)

@@ -46,7 +46,8 @@ as_before b count s h = ap (λ z. owe_if z count s) h
 in_new : {A : Type 0} (f : ℕ → A) (n count j : ℕ) (g : ℕ → A) (v : A) → ((i : ℕ) → g i ≡ v) → j < count → put_range f n count g (n + j) ≡ v
 in_new f n count j g v same l = grind (arith, nat_tests, same)
 
-finishes : (w : World) (e vector count : ℕ) (said : Answer) → said ≡ answer.Sent count → Finishes w (act w (At e (Own.Finish (Labels.is_named (w.part e) vector) vector count))) e vector count said
+finishes : (w : World) (e vector count : ℕ) (said : Answer) → said ≡ answer.Sent count
+    → Finishes w (act w (At e (Own.Finish (Labels.is_named (w.part e) vector) vector count))) e vector count said
 finishes w e vector count said h =
     let names = Labels.is_named (w.part e) vector in
     let o = Own.Finish (Labels.is_named (w.part e) vector) vector count in
@@ -57,12 +58,15 @@ finishes w e vector count said h =
       others = λ k named. ap (λ p. p.order_state k) same ∙ as_before (names k) count ((w.part e).order_state k) named;
       messages = refl;
       sent = λ j l. (
-        ap (λ p. p.message (w.messages + j)) same ∙ in_new (w.part e).message w.messages count j (λ i. Some (InvalidatedOf names)) (Some (InvalidatedOf names)) (λ i. refl) l,
+        ap (λ p. p.message (w.messages + j)) same
+            ∙ in_new (w.part e).message w.messages count j (λ i. Some (InvalidatedOf names)) (Some (InvalidatedOf names)) (λ i. refl) l,
         in_new w.way w.messages count j (λ i. e) e (λ i. refl) l,
       );
     }
 
-pub always_finishes : (rule : PasidRule) (config : Config) (steps : List Step) (e vector count : ℕ) (said : Answer) → reply (world_after rule config steps) (step.Finish e vector count) ≡ Ok said → Finishes (world_after rule config steps) (world_after rule config (steps ++ step.Finish e vector count ∷ [])) e vector count said
+pub always_finishes : (rule : PasidRule) (config : Config) (steps : List Step) (e vector count : ℕ) (said : Answer)
+    → reply (world_after rule config steps) (step.Finish e vector count) ≡ Ok said
+    → Finishes (world_after rule config steps) (world_after rule config (steps ++ step.Finish e vector count ∷ [])) e vector count said
 always_finishes rule config steps e vector count said h =
     let w = world_after rule config steps in
     let yes = accepted (refusals w (step.Finish e vector count)) (outcome w (step.Finish e vector count)) said h in
@@ -71,7 +75,9 @@ always_finishes rule config steps e vector count said h =
 
 -- A use.
 
-uses : (w : World) (e t q slot r m : ℕ) (said : Answer) → slot < 16 → (w.part e).held r ≡ Some m → (w.part e).request_binding r ≡ Labels.bearer (w.part e) t → (w.part e).request_page r ≡ q → said ≡ answer.Use slot (w.mappings.frame m) → Uses w (act w (At e (Own.Begin r m slot))) e t q said
+uses : (w : World) (e t q slot r m : ℕ) (said : Answer) → slot < 16 → (w.part e).held r ≡ Some m → (w.part e).request_binding r
+    ≡ Labels.bearer (w.part e) t → (w.part e).request_page r ≡ q → said ≡ answer.Use slot (w.mappings.frame m)
+    → Uses w (act w (At e (Own.Begin r m slot))) e t q said
 uses w e t q slot r m said low h b pg a =
     let same = part_at w e (Own.Begin r m slot) in
     let p = w.part e in
@@ -90,7 +96,9 @@ uses w e t q slot r m said low h b pg a =
       by = ap (λ z. z.use_mapping p.uses) same ∙ put-same p.use_mapping p.uses m;
     }
 
-pub always_uses : (rule : PasidRule) (config : Config) (steps : List Step) (e t q : ℕ) (x : Bool) (said : Answer) → reply (world_after rule config steps) (step.BeginUse e t q x) ≡ Ok said → Uses (world_after rule config steps) (world_after rule config (steps ++ step.BeginUse e t q x ∷ [])) e t q said
+pub always_uses : (rule : PasidRule) (config : Config) (steps : List Step) (e t q : ℕ) (x : Bool) (said : Answer)
+    → reply (world_after rule config steps) (step.BeginUse e t q x) ≡ Ok said
+    → Uses (world_after rule config steps) (world_after rule config (steps ++ step.BeginUse e t q x ∷ [])) e t q said
 always_uses rule config steps e t q x said h =
     let w = world_after rule config steps in
     let p = w.part e in
@@ -117,7 +125,8 @@ look_withheld Withheld said h = (λ y. refl, λ y. sym h)
 look_withheld Free said h = (λ y. absurd (cc), λ y. absurd (cc))
 look_withheld Mapped said h = (λ y. absurd (cc), λ y. absurd (cc))
 
-pub always_looks : (rule : PasidRule) (config : Config) (steps : List Step) (f : ℕ) (said : Answer) → reply (world_after rule config steps) (step.Look f) ≡ Ok said → Looks (world_after rule config steps) f said
+pub always_looks : (rule : PasidRule) (config : Config) (steps : List Step) (f : ℕ) (said : Answer)
+    → reply (world_after rule config steps) (step.Look f) ≡ Ok said → Looks (world_after rule config steps) f said
 always_looks rule config steps f said h =
     let w = world_after rule config steps in
     let yes = accepted (refusals w (step.Look f)) (outcome w (step.Look f)) said h in
@@ -143,24 +152,32 @@ newly_done true (Owing c (suc (suc l))) = refl
 newly_done true Done = refl
 newly_done true Void = refl
 
-counts : (w : World) (e c : ℕ) (names : ℕ → Bool) → count_below (w.part e).orders (λ k. names k && is_last_left ((w.part e).order_state k)) ≡ made_done (w.part e) ((act w (At e (Own.Count c names))).part e)
+counts : (w : World) (e c : ℕ) (names : ℕ → Bool) → count_below (w.part e).orders (λ k. names k && is_last_left ((w.part e).order_state k))
+    ≡ made_done (w.part e) ((act w (At e (Own.Count c names))).part e)
 counts w e c names =
-    count_same (w.part e).orders (λ k. names k && is_last_left ((w.part e).order_state k)) (λ k. is_done (counted_if (names k) ((w.part e).order_state k)) && not (is_done ((w.part e).order_state k)))
+    count_same (w.part e).orders (λ k. names k && is_last_left ((w.part e).order_state k))
+    (λ k. is_done (counted_if (names k) ((w.part e).order_state k)) && not (is_done ((w.part e).order_state k)))
     (λ k l. newly_done (names k) ((w.part e).order_state k))
     ∙ ap (λ p. made_done (w.part e) p) (sym (part_at w e (Own.Count c names)))
 
-pub always_frees : (rule : PasidRule) (config : Config) (steps : List Step) (s : Step) (e : ℕ) (names : ℕ → Bool) → ((world_after rule config steps).part e).phase ≡ Open → Delivers (world_after rule config steps) s e (InvalidatedOf names) → reply (world_after rule config steps) s ≡ Ok (answer.Freed (made_done ((world_after rule config steps).part e) ((world_after rule config (steps ++ s ∷ [])).part e)))
+pub always_frees : (rule : PasidRule) (config : Config) (steps : List Step) (s : Step) (e : ℕ) (names : ℕ → Bool)
+    → ((world_after rule config steps).part e).phase ≡ Open → Delivers (world_after rule config steps) s e (InvalidatedOf names)
+    → reply (world_after rule config steps) s
+    ≡ Ok (answer.Freed (made_done ((world_after rule config steps).part e) ((world_after rule config (steps ++ s ∷ [])).part e)))
 always_frees rule config steps s e names ph d =
     let w = world_after rule config steps in
     let c = Labels.name w d.number in
     let yes = accepted (refusals w (step.Deliver d.number)) (outcome w (step.Deliver d.number)) d.answer (sym (ap (reply w) d.step_is) ∙ d.accepted) in
-    let is_answer : (outcome w (step.Deliver d.number)).answer ≡ answer.Freed (count_below (w.part e).orders (λ k. names k && is_last_left ((w.part e).order_state k))) =
+    let is_answer : (outcome w (step.Deliver d.number)).answer
+    ≡ answer.Freed (count_below (w.part e).orders (λ k. names k && is_last_left ((w.part e).order_state k))) =
     ap (λ z. (deliver_outcome w (w.part z) z c ((w.part z).message c)).answer) d.way_is
     ∙ ap (λ z. (deliver_outcome w (w.part e) e c z).answer) d.speaks
     ∙ ap (λ b. (count_outcome (w.part e) e c names b).answer) (ap is_open ph)
     in
-    let acts : (decide w s).acts ≡ At e (Own.Count c names) ∷ [] = delivered w s e (InvalidatedOf names) d ∙ ap (λ b. (count_outcome (w.part e) e c names b).acts) (ap is_open ph) in
+    let acts : (decide w s).acts ≡ At e (Own.Count c names) ∷ [] = delivered w s e (InvalidatedOf names) d
+    ∙ ap (λ b. (count_outcome (w.part e) e c names b).acts) (ap is_open ph) in
     d.accepted
     ∙ ap (λ z. Ok z)
     (sym yes.1 ∙ is_answer
-    ∙ ap (λ k. answer.Freed k) (counts w e c names ∙ ap (λ v. made_done (w.part e) (v.part e)) (sym (after_one rule config steps s ∙ ap (after_acts w) acts))))
+    ∙ ap (λ k. answer.Freed k) (counts w e c names
+    ∙ ap (λ v. made_done (w.part e) (v.part e)) (sym (after_one rule config steps s ∙ ap (after_acts w) acts))))

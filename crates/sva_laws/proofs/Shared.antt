@@ -47,10 +47,12 @@ WasSo p q b = (is_unreleased (p.stage b) ≡ true) × (q.pasid b ≡ p.pasid b) 
 abbrev pub IsNew : Own → Part → ℕ → Type 0
 IsNew o q b = (binds o ≡ true) × (q.pasid b ≡ bound_pasid o) × (q.space b ≡ bound_space o)
 
-pub own_from : (ms : Mappings) (g n : ℕ) (p : Part) (o : Own) → LegalOwn ms g p o → (b : ℕ) → is_unreleased ((own p n o).stage b) ≡ true → WasSo p (own p n o) b ⊎ IsNew o (own p n o) b
+pub own_from : (ms : Mappings) (g n : ℕ) (p : Part) (o : Own) → LegalOwn ms g p o → (b : ℕ) → is_unreleased ((own p n o).stage b) ≡ true
+    → WasSo p (own p n o) b ⊎ IsNew o (own p n o) b
 own_from ms g n p o l b h = grind (arith, nat_tests)
 
-pub submitted_from : (t : Bool) (p : Part) (o : Option ℕ) (q count order cookie b : ℕ) → is_unreleased ((submitted_if t p o q count order cookie).stage b) ≡ true → WasSo p (submitted_if t p o q count order cookie) b
+pub submitted_from : (t : Bool) (p : Part) (o : Option ℕ) (q count order cookie b : ℕ)
+    → is_unreleased ((submitted_if t p o q count order cookie).stage b) ≡ true → WasSo p (submitted_if t p o q count order cookie) b
 submitted_from true p (Some d) q count order cookie b h = (h, refl, refl)
 submitted_from true p None q count order cookie b h = (h, refl, refl)
 submitted_from false p o q count order cookie b h = (h, refl, refl)
@@ -64,20 +66,23 @@ shared_still part next from sh =
     }
 
 -- where one may be
-pub shared_more : (part next : ℕ → Part) (o : Own) → (binds o ≡ true → IsOf part (bound_space o) (bound_pasid o)) → ((e b : ℕ) → is_unreleased ((next e).stage b) ≡ true → WasSo (part e) (next e) b ⊎ IsNew o (next e) b) → Shared part → Shared next
+pub shared_more : (part next : ℕ → Part) (o : Own) → (binds o ≡ true → IsOf part (bound_space o) (bound_pasid o))
+    → ((e b : ℕ) → is_unreleased ((next e).stage b) ≡ true → WasSo (part e) (next e) b ⊎ IsNew o (next e) b) → Shared part → Shared next
 shared_more part next o its from sh =
     record {
       same_space = λ e d b c u v h. space e d b c (from e b u) (from d c v) h;
       same_pasid = λ e d b c u v h. pasid e d b c (from e b u) (from d c v) h;
     }
   where
-    space : (e d b c : ℕ) → WasSo (part e) (next e) b ⊎ IsNew o (next e) b → WasSo (part d) (next d) c ⊎ IsNew o (next d) c → (next e).pasid b ≡ (next d).pasid c → (next e).space b ≡ (next d).space c
+    space : (e d b c : ℕ) → WasSo (part e) (next e) b ⊎ IsNew o (next e) b → WasSo (part d) (next d) c ⊎ IsNew o (next d) c → (next e).pasid b
+        ≡ (next d).pasid c → (next e).space b ≡ (next d).space c
     space e d b c (inl x) (inl y) h = x.2 ∙ sh.same_space e d b c x.0 y.0 (sym x.1 ∙ h ∙ y.1) ∙ sym y.2
     space e d b c (inl x) (inr y) h = x.2 ∙ (its y.0).its_space e b x.0 (sym x.1 ∙ h ∙ y.1) ∙ sym y.2
     space e d b c (inr x) (inl y) h = x.2 ∙ sym ((its x.0).its_space d c y.0 (sym y.1 ∙ sym h ∙ x.1)) ∙ sym y.2
     space e d b c (inr x) (inr y) h = x.2 ∙ sym y.2
 
-    pasid : (e d b c : ℕ) → WasSo (part e) (next e) b ⊎ IsNew o (next e) b → WasSo (part d) (next d) c ⊎ IsNew o (next d) c → (next e).space b ≡ (next d).space c → (next e).pasid b ≡ (next d).pasid c
+    pasid : (e d b c : ℕ) → WasSo (part e) (next e) b ⊎ IsNew o (next e) b → WasSo (part d) (next d) c ⊎ IsNew o (next d) c → (next e).space b
+        ≡ (next d).space c → (next e).pasid b ≡ (next d).pasid c
     pasid e d b c (inl x) (inl y) h = x.1 ∙ sh.same_pasid e d b c x.0 y.0 (sym x.2 ∙ h ∙ y.2) ∙ sym y.1
     pasid e d b c (inl x) (inr y) h = x.1 ∙ (its y.0).its_pasid e b x.0 (sym x.2 ∙ h ∙ y.2) ∙ sym y.1
     pasid e d b c (inr x) (inl y) h = x.1 ∙ sym ((its x.0).its_pasid d c y.0 (sym y.2 ∙ sym h ∙ x.2)) ∙ sym y.1

@@ -8,13 +8,16 @@ use Rattle.sva_model.specs.Message.{Code}
 use Rattle.sva_model.specs.State.Stage.{Unbound, Live, Stopping, Draining, Invalidating, Quiet, Lost, Released}
 use Rattle.sva_model.specs.State.Order.{RangeOf, PasidOf, Wait}
 use Rattle.sva_model.specs.State.RequestState.{Out, Doomed, Over}
-use Rattle.sva_model.specs.State.About.{StartOf, StopOf, ResetOrder, CompletionOf, InvalidateOf, ResponseOf, RequestOf, InvalidatedOf, PageRequestOf, MarkerOf, ResetDone}
+use Rattle.sva_model.specs.State.About.{StartOf, StopOf, ResetOrder, CompletionOf, InvalidateOf, ResponseOf, RequestOf, InvalidatedOf, PageRequestOf}
+use Rattle.sva_model.specs.State.About.{MarkerOf, ResetDone}
 use Rattle.sva_model.specs.Acts.{Act, Own}
 use Rattle.sva_model.specs.Acts.Act.{NewSpace, Map, Unmap, LetGo, At}
 use Rattle.sva_model.specs.Labels
 use Rattle.sva_model.specs.Refusals.{Cause, refusals}
 use Rattle.sva_model.specs.Replies.{maps_to, reply_maps, replies_success, newly_mapped, free_list, is_write_asked, job_space, response_to}
-use Rattle.sva_model.specs.Outcomes.{Outcome, outcome, unbind_outcome, advance_outcome, pump_outcome, head_outcome, wait_outcome, send_outcome, may_pass, serve_outcome, file_outcome, reply_outcome, fault_outcome, about_outcome, deliver_outcome, completion_outcome, keep_outcome, is_full, request_outcome, count_outcome, page_request_outcome, marker_outcome}
+use Rattle.sva_model.specs.Outcomes.{Outcome, outcome, unbind_outcome, advance_outcome, pump_outcome, head_outcome, wait_outcome, send_outcome, may_pass}
+use Rattle.sva_model.specs.Outcomes.{serve_outcome, file_outcome, reply_outcome, fault_outcome, about_outcome, deliver_outcome, completion_outcome}
+use Rattle.sva_model.specs.Outcomes.{keep_outcome, is_full, request_outcome, count_outcome, page_request_outcome, marker_outcome}
 use Rattle.sva_model.specs.States.{is_open}
 use Rattle.sva_model.specs.Words.{the}
 use Rattle.sva_model.specs.State.{Part, World, Stage, Order, About, RequestState}
@@ -109,7 +112,8 @@ serve_may : (z : Step) (p : Part) (e : ℕ) (b : Bool) → AllMay z (serve_outco
 serve_may z p e true = tt
 serve_may z p e false = file_may z e (Labels.oldest_arrived p) (p.group_of (Labels.oldest_arrived p)) (p.is_last (Labels.oldest_arrived p))
 
-maps_may : (z : Step) → is_mapping z ≡ true → (s : ℕ) (write : ℕ → Bool) (qs fs : List ℕ) (rest : List Act) → AllMay z rest → AllMay z (maps_to s write qs fs ++ rest)
+maps_may : (z : Step) → is_mapping z ≡ true → (s : ℕ) (write : ℕ → Bool) (qs fs : List ℕ) (rest : List Act) → AllMay z rest
+    → AllMay z (maps_to s write qs fs ++ rest)
 maps_may z h s write [] fs rest r = r
 maps_may z h s write (q ∷ qs) [] rest r = r
 maps_may z h s write (q ∷ qs) (f ∷ fs) rest r = (h, maps_may z h s write qs fs rest r)
@@ -118,8 +122,10 @@ reply_may : (w : World) (x j : ℕ) (v : Verdict) (o : Option Code) → AllMay (
 reply_may w x j v None = (refl, (refl, tt))
 reply_may w x j v (Some code) = go (replies_success w j v)
   where
-    go : (b : Bool) → AllMay (step.Reply x v) ((if b then maps_to (job_space w j) (is_write_asked w j) (newly_mapped w j) (free_list w) else []) ++ LetGo x ∷ At (w.job j).endpoint (Own.Respond (w.job j).group code) ∷ [])
-    go true = maps_may (step.Reply x v) refl (job_space w j) (is_write_asked w j) (newly_mapped w j) (free_list w) (LetGo x ∷ At (w.job j).endpoint (Own.Respond (w.job j).group code) ∷ []) (refl, (refl, tt))
+    go : (b : Bool) → AllMay (step.Reply x v) ((if b then maps_to (job_space w j) (is_write_asked w j) (newly_mapped w j) (free_list w) else [])
+        ++ LetGo x ∷ At (w.job j).endpoint (Own.Respond (w.job j).group code) ∷ [])
+    go true = maps_may (step.Reply x v) refl (job_space w j) (is_write_asked w j) (newly_mapped w j) (free_list w)
+        (LetGo x ∷ At (w.job j).endpoint (Own.Respond (w.job j).group code) ∷ []) (refl, (refl, tt))
     go false = (refl, (refl, tt))
 
 fault_may : (z : Step) (p : Part) (e t q : ℕ) (r x l : Bool) (o : Option ℕ) → AllMay z (fault_outcome p e t q r x l o).acts
@@ -178,7 +184,8 @@ outcome_may w (step.Map n q x) = (refl, tt)
 outcome_may w (step.Unmap n q count) = (refl, tt)
 outcome_may w (step.UnmapRange n q order) = (refl, tt)
 outcome_may w (step.Bind e n) = (refl, (refl, tt))
-outcome_may w (step.Unbind n) = unbind_may (step.Unbind n) (w.home (Labels.name w n)) (Labels.name w n) ((w.part (w.home (Labels.name w n))).stage (Labels.name w n))
+outcome_may w (step.Unbind n) =
+    unbind_may (step.Unbind n) (w.home (Labels.name w n)) (Labels.name w n) ((w.part (w.home (Labels.name w n))).stage (Labels.name w n))
 outcome_may w (step.Advance n) = advance_may n w (w.home (Labels.name w n)) (Labels.name w n) ((w.part (w.home (Labels.name w n))).stage (Labels.name w n))
 outcome_may w (step.Pump e) = pump_may (step.Pump e) (w.part e) e (Labels.is_queue_empty (w.part e))
 outcome_may w (step.Serve e) = serve_may (step.Serve e) (w.part e) e (Labels.is_page_queue_empty (w.part e))
@@ -192,7 +199,9 @@ outcome_may w (step.Evict e t q) = (refl, tt)
 outcome_may w (step.Fault e t q r x group l) = fault_may (step.Fault e t q r x group l) (w.part e) e t q r x l group
 outcome_may w (step.Finish e vector count) = (refl, tt)
 outcome_may w (step.Quit e t) = (refl, tt)
-outcome_may w (step.Deliver n) = deliver_may (step.Deliver n) w (w.part (w.way (Labels.name w n))) (w.way (Labels.name w n)) (Labels.name w n) ((w.part (w.way (Labels.name w n))).message (Labels.name w n))
+outcome_may w (step.Deliver n) =
+    deliver_may (step.Deliver n) w (w.part (w.way (Labels.name w n))) (w.way (Labels.name w n)) (Labels.name w n)
+    ((w.part (w.way (Labels.name w n))).message (Labels.name w n))
 outcome_may w (step.Look f) = tt
 outcome_may w (step.Bearer t) = tt
 

@@ -12,13 +12,16 @@ use Rattle.sva_model.specs.State.{Part, World, Stage, Order, About, RequestState
 use Rattle.sva_model.specs.State.Stage.{Unbound, Live, Stopping, Draining, Invalidating, Quiet, Lost, Released}
 use Rattle.sva_model.specs.State.Order.{RangeOf, PasidOf, Wait}
 use Rattle.sva_model.specs.State.RequestState.{Out, Doomed, Over}
-use Rattle.sva_model.specs.State.About.{StartOf, StopOf, ResetOrder, CompletionOf, InvalidateOf, ResponseOf, RequestOf, InvalidatedOf, PageRequestOf, MarkerOf, ResetDone}
+use Rattle.sva_model.specs.State.About.{StartOf, StopOf, ResetOrder, CompletionOf, InvalidateOf, ResponseOf, RequestOf, InvalidatedOf, PageRequestOf}
+use Rattle.sva_model.specs.State.About.{MarkerOf, ResetDone}
 use Rattle.sva_model.specs.Acts.{Act, Own}
 use Rattle.sva_model.specs.Acts.Act.{Unmap, LetGo, At}
 use Rattle.sva_model.specs.Labels
 use Rattle.sva_model.specs.Refusals.{Cause, refusals}
 use Rattle.sva_model.specs.Replies.{maps_to, reply_maps, replies_success, newly_mapped, free_list, is_write_asked, job_space, response_to}
-use Rattle.sva_model.specs.Outcomes.{Outcome, outcome, unbind_outcome, advance_outcome, pump_outcome, head_outcome, wait_outcome, send_outcome, may_pass, serve_outcome, file_outcome, reply_outcome, fault_outcome, about_outcome, deliver_outcome, completion_outcome, keep_outcome, is_full, request_outcome, count_outcome, page_request_outcome, marker_outcome}
+use Rattle.sva_model.specs.Outcomes.{Outcome, outcome, unbind_outcome, advance_outcome, pump_outcome, head_outcome, wait_outcome, send_outcome, may_pass}
+use Rattle.sva_model.specs.Outcomes.{serve_outcome, file_outcome, reply_outcome, fault_outcome, about_outcome, deliver_outcome, completion_outcome}
+use Rattle.sva_model.specs.Outcomes.{keep_outcome, is_full, request_outcome, count_outcome, page_request_outcome, marker_outcome}
 use Rattle.sva_model.specs.States.{is_open}
 use Rattle.sva_model.specs.Steps.{Decision, checked, decide}
 
@@ -128,8 +131,10 @@ reply_kind : (w : World) (s : Step) (x j : ℕ) (v : Verdict) (o : Option Code) 
 reply_kind w s x j v None = calm refl
 reply_kind w s x j v (Some code) = calm (go (replies_success w j v))
   where
-    go : (b : Bool) → are_calm ((if b then maps_to (job_space w j) (is_write_asked w j) (newly_mapped w j) (free_list w) else []) ++ LetGo x ∷ At (w.job j).endpoint (Own.Respond (w.job j).group code) ∷ []) ≡ true
-    go true = maps_calm (job_space w j) (is_write_asked w j) (newly_mapped w j) (free_list w) (LetGo x ∷ At (w.job j).endpoint (Own.Respond (w.job j).group code) ∷ []) refl
+    go : (b : Bool) → are_calm ((if b then maps_to (job_space w j) (is_write_asked w j) (newly_mapped w j) (free_list w) else []) ++ LetGo x
+        ∷ At (w.job j).endpoint (Own.Respond (w.job j).group code) ∷ []) ≡ true
+    go true = maps_calm (job_space w j) (is_write_asked w j) (newly_mapped w j) (free_list w)
+        (LetGo x ∷ At (w.job j).endpoint (Own.Respond (w.job j).group code) ∷ []) refl
     go false = refl
 
 fault_kind : (w : World) (s : Step) (p : Part) (e t q : ℕ) (r x l : Bool) (o : Option ℕ) → Kind w s (plain (fault_outcome p e t q r x l o))
@@ -190,8 +195,10 @@ outcome_kind w (step.Map n q x) = calm refl
 outcome_kind w (step.Unmap n q count) = unmapping (Labels.name w n) q count 0 refl
 outcome_kind w (step.UnmapRange n q order) = unmapping (Labels.name w n) q 1 order refl
 outcome_kind w (step.Bind e n) = calm refl
-outcome_kind w (step.Unbind n) = unbind_kind w (step.Unbind n) (w.home (Labels.name w n)) (Labels.name w n) ((w.part (w.home (Labels.name w n))).stage (Labels.name w n))
-outcome_kind w (step.Advance n) = advance_kind w (step.Advance n) (w.home (Labels.name w n)) (Labels.name w n) ((w.part (w.home (Labels.name w n))).stage (Labels.name w n))
+outcome_kind w (step.Unbind n) =
+    unbind_kind w (step.Unbind n) (w.home (Labels.name w n)) (Labels.name w n) ((w.part (w.home (Labels.name w n))).stage (Labels.name w n))
+outcome_kind w (step.Advance n) =
+    advance_kind w (step.Advance n) (w.home (Labels.name w n)) (Labels.name w n) ((w.part (w.home (Labels.name w n))).stage (Labels.name w n))
 outcome_kind w (step.Pump e) = pump_kind w e (Labels.is_queue_empty (w.part e))
 outcome_kind w (step.Serve e) = serve_kind w (step.Serve e) (w.part e) e (Labels.is_page_queue_empty (w.part e))
 outcome_kind w (step.Reset e) = single e Own.Reset answer.Resetting refl refl refl
@@ -205,7 +212,8 @@ outcome_kind w (step.Fault e t q r x group l) = fault_kind w (step.Fault e t q r
 outcome_kind w (step.Finish e vector count) = single e (Own.Finish (Labels.is_named (w.part e) vector) vector count) (answer.Sent count) refl refl tt
 outcome_kind w (step.Quit e t) = calm refl
 outcome_kind w (step.Deliver n) =
-    deliver_kind w (step.Deliver n) (w.part (w.way (Labels.name w n))) (w.way (Labels.name w n)) (Labels.name w n) ((w.part (w.way (Labels.name w n))).message (Labels.name w n))
+    deliver_kind w (step.Deliver n) (w.part (w.way (Labels.name w n))) (w.way (Labels.name w n)) (Labels.name w n)
+    ((w.part (w.way (Labels.name w n))).message (Labels.name w n))
     (record { number = n; step_is = refl; name_is = refl; way_is = refl })
 outcome_kind w (step.Look f) = calm refl
 outcome_kind w (step.Bearer t) = calm refl

@@ -105,9 +105,21 @@ labels_submitted g b q count order cookie p bo la =
     }
 
 pub requests_submitted : (b q count order cookie : ℕ) (p : Part) → Requests p → Requests (submitted p b q count order cookie)
-requests_submitted b q count order cookie p ra = record { bound = ra.bound; alive = ra.alive; ask_once = ra.ask_once; answer_once = ra.answer_once; not_both = ra.not_both; ask_out = ra.ask_out; answer_out = ra.answer_out; one_held = ra.one_held }
+requests_submitted b q count order cookie p ra =
+    record {
+      bound = ra.bound;
+      alive = ra.alive;
+      ask_once = ra.ask_once;
+      answer_once = ra.answer_once;
+      not_both = ra.not_both;
+      ask_out =
+          ra.ask_out;
+      answer_out = ra.answer_out;
+      one_held = ra.one_held;
+    }
 
-pub orders_submitted : (g b q count order cookie : ℕ) (p : Part) → is_before_invalidating (p.stage b) ≡ true → Bounds g p → Orders p → Orders (submitted p b q count order cookie)
+pub orders_submitted : (g b q count order cookie : ℕ) (p : Part) → is_before_invalidating (p.stage b) ≡ true → Bounds g p → Orders p
+    → Orders (submitted p b q count order cookie)
 orders_submitted g b q count order cookie p st bo or =
     record {
       no_wait = λ k h. grind (arith, nat_tests, or.no_wait k);
@@ -143,11 +155,23 @@ owners_submitted ms g b q count order cookie p or ow =
     }
 
 pub queued_submitted : (b q count order cookie : ℕ) (p : Part) → Queued p → Queued (submitted p b q count order cookie)
-queued_submitted b q count order cookie p qu = record { in_flight = qu.in_flight; message = qu.message; arrived = qu.arrived; arrival = qu.arrival; landed = qu.landed; made = qu.made }
+queued_submitted b q count order cookie p qu =
+    record { in_flight = qu.in_flight; message = qu.message; arrived = qu.arrived; arrival = qu.arrival; landed = qu.landed; made = qu.made }
 
 pub lasts_submitted : (b q count order cookie : ℕ) (p : Part) → Lasts p → Lasts (submitted p b q count order cookie)
 lasts_submitted b q count order cookie p la =
-    record { last_group = la.last_group; last_once = la.last_once; last_flight = la.last_flight; last_arrived = la.last_arrived; last_order = la.last_order; whole_group = la.whole_group; whole = la.whole; kept = la.kept; out = la.out }
+    record {
+      last_group = la.last_group;
+      last_once = la.last_once;
+      last_flight = la.last_flight;
+      last_arrived = la.last_arrived;
+      last_order =
+          la.last_order;
+      whole_group = la.whole_group;
+      whole = la.whole;
+      kept = la.kept;
+      out = la.out;
+    }
 
 pub groups_submitted : (b q count order cookie : ℕ) (p : Part) → Orders p → Groups p → Groups (submitted p b q count order cookie)
 groups_submitted b q count order cookie p or gr =

@@ -36,13 +36,17 @@ page_counted w s q f x =
     let ms = w.mappings in
     let now : ℕ → Bool = λ m. is_present (put ms.state ms.made Present m) && put ms.space ms.made s m == s in
     let new : bit (now ms.made) ≡ 1 = ap bit (both (put-same ms.state ms.made Present) (put-same ms.space ms.made s)) in
-    let old : count_below ms.made now ≡ pages_of w s = count_same ms.made now (λ m. is_present (ms.state m) && ms.space m == s) (λ m l. same m (omega (arith, l))) in
+    let old : count_below ms.made now ≡ pages_of w s =
+    count_same ms.made now (λ m. is_present (ms.state m) && ms.space m == s) (λ m l. same m (omega (arith, l))) in
     omega (arith, count_next ms.made now, new, old)
   where
-    both : put w.mappings.state w.mappings.made Present w.mappings.made ≡ Present → put w.mappings.space w.mappings.made s w.mappings.made ≡ s → (is_present (put w.mappings.state w.mappings.made Present w.mappings.made) && put w.mappings.space w.mappings.made s w.mappings.made == s) ≡ true
+    both : put w.mappings.state w.mappings.made Present w.mappings.made ≡ Present → put w.mappings.space w.mappings.made s w.mappings.made ≡ s
+        → (is_present (put w.mappings.state w.mappings.made Present w.mappings.made) && put w.mappings.space w.mappings.made s w.mappings.made == s) ≡ true
     both h k = grind (arith, nat_tests)
 
-    same : (m : ℕ) → m ≢ w.mappings.made → (is_present (put w.mappings.state w.mappings.made Present m) && put w.mappings.space w.mappings.made s m == s) ≡ (is_present (w.mappings.state m) && w.mappings.space m == s)
+    same : (m : ℕ) → m ≢ w.mappings.made
+        → (is_present (put w.mappings.state w.mappings.made Present m) && put w.mappings.space w.mappings.made s m == s)
+        ≡ (is_present (w.mappings.state m) && w.mappings.space m == s)
     same m ne = grind (arith, nat_tests)
 
 pub one_page : (w : World) (s q f : ℕ) (x : Bool) → w.mappings.at s q ≡ None → MapsPages w (act w (Map s q f x)) s 1
@@ -51,14 +55,24 @@ one_page w s q f x un =
       pages = page_counted w s q f x;
       made = omega arith;
       fresh = λ m a b. new m (omega (arith, a, b));
-      kept = λ m l. let ne : m ≢ w.mappings.made = omega (arith, l) in (put-other w.mappings.state w.mappings.made Present m ne, put-other w.mappings.space w.mappings.made s m ne, put-other w.mappings.page w.mappings.made q m ne);
+      kept = λ m l. let ne : m ≢ w.mappings.made =
+          omega (arith, l) in (
+            put-other w.mappings.state w.mappings.made Present m ne,
+            put-other w.mappings.space w.mappings.made s m ne,
+            put-other w.mappings.page w.mappings.made q m ne,
+          );
       mapped = λ r h. old r (ℕ_cases r q) h;
     }
   where
-    new : (m : ℕ) → m ≡ w.mappings.made → (put w.mappings.state w.mappings.made Present m ≡ Present) × (put w.mappings.space w.mappings.made s m ≡ s) × (w.mappings.at s (put w.mappings.page w.mappings.made q m) ≡ None)
+    new : (m : ℕ) → m ≡ w.mappings.made → (put w.mappings.state w.mappings.made Present m ≡ Present) × (put w.mappings.space w.mappings.made s m ≡ s)
+        × (w.mappings.at s (put w.mappings.page w.mappings.made q m) ≡ None)
     new m e =
-        subst (λ z. (put w.mappings.state w.mappings.made Present z ≡ Present) × (put w.mappings.space w.mappings.made s z ≡ s) × (w.mappings.at s (put w.mappings.page w.mappings.made q z) ≡ None)) (sym e)
-        (put-same w.mappings.state w.mappings.made Present, put-same w.mappings.space w.mappings.made s, ap (w.mappings.at s) (put-same w.mappings.page w.mappings.made q) ∙ un)
+        subst (λ z. (put w.mappings.state w.mappings.made Present z ≡ Present) × (put w.mappings.space w.mappings.made s z ≡ s)
+        × (w.mappings.at s (put w.mappings.page w.mappings.made q z) ≡ None)) (sym e) (
+          put-same w.mappings.state w.mappings.made Present,
+          put-same w.mappings.space w.mappings.made s,
+          ap (w.mappings.at s) (put-same w.mappings.page w.mappings.made q) ∙ un,
+        )
 
     row : put w.mappings.at s (put (w.mappings.at s) q (Some w.mappings.made)) s ≡ put (w.mappings.at s) q (Some w.mappings.made)
     row = put-same w.mappings.at s (put (w.mappings.at s) q (Some w.mappings.made))
@@ -90,7 +104,8 @@ more_pages u v w s n a b =
     nat_cases : (m n : ℕ) → (m < n) ⊎ (n ≤ m)
     nat_cases m n = grind arith
 
-    new : (m : ℕ) → u.mappings.made ≤ m → m < w.mappings.made → (m < v.mappings.made) ⊎ (v.mappings.made ≤ m) → (w.mappings.state m ≡ Present) × (w.mappings.space m ≡ s) × (u.mappings.at s (w.mappings.page m) ≡ None)
+    new : (m : ℕ) → u.mappings.made ≤ m → m < w.mappings.made → (m < v.mappings.made) ⊎ (v.mappings.made ≤ m) → (w.mappings.state m ≡ Present)
+        × (w.mappings.space m ≡ s) × (u.mappings.at s (w.mappings.page m) ≡ None)
     new m l k (inl x) =
         let f = a.fresh m l x in
         let y = b.kept m x in
@@ -99,23 +114,29 @@ more_pages u v w s n a b =
 
 -- The pages of a reply, and then the response.
 
-pub all_pages : (s : ℕ) (write : ℕ → Bool) (qs fs : List ℕ) (x e : ℕ) (o : Own) (w : World) → LegalAll w (maps_to s write qs fs ++ LetGo x ∷ At e o ∷ []) → MapsPages w (after_acts w (maps_to s write qs fs ++ LetGo x ∷ At e o ∷ [])) s (length (maps_to s write qs fs))
+pub all_pages : (s : ℕ) (write : ℕ → Bool) (qs fs : List ℕ) (x e : ℕ) (o : Own) (w : World)
+    → LegalAll w (maps_to s write qs fs ++ LetGo x ∷ At e o ∷ [])
+    → MapsPages w (after_acts w (maps_to s write qs fs ++ LetGo x ∷ At e o ∷ [])) s (length (maps_to s write qs fs))
 all_pages s write [] fs x e o w l = no_page w x e o s
 all_pages s write (q ∷ qs) [] x e o w l = no_page w x e o s
 all_pages s write (q ∷ qs) (f ∷ fs) x e o w l =
-    more_pages w (act w (Map s q f (write q))) (after_acts (act w (Map s q f (write q))) (maps_to s write qs fs ++ LetGo x ∷ At e o ∷ [])) s (length (maps_to s write qs fs))
+    more_pages w (act w (Map s q f (write q))) (after_acts (act w (Map s q f (write q))) (maps_to s write qs fs ++ LetGo x ∷ At e o ∷ [])) s
+    (length (maps_to s write qs fs))
     (one_page w s q f (write q) l.0.1)
     (all_pages s write qs fs x e o (act w (Map s q f (write q))) l.1)
 
 same_count : (a b : ℕ) → answer.Success a ≡ answer.Success b → a ≡ b
 same_count a b h = cc
 
-reply_pages : (w : World) (x j : ℕ) (v : Verdict) (o : Option Code) (count : ℕ) → (reply_outcome w x j (reply_maps w j v) o).answer ≡ answer.Success count → LegalAll w (reply_outcome w x j (reply_maps w j v) o).acts → MapsPages w (after_acts w (reply_outcome w x j (reply_maps w j v) o).acts) (job_space w j) count
+reply_pages : (w : World) (x j : ℕ) (v : Verdict) (o : Option Code) (count : ℕ) → (reply_outcome w x j (reply_maps w j v) o).answer
+    ≡ answer.Success count → LegalAll w (reply_outcome w x j (reply_maps w j v) o).acts
+    → MapsPages w (after_acts w (reply_outcome w x j (reply_maps w j v) o).acts) (job_space w j) count
 reply_pages w x j v None count a l = absurd (cc)
 reply_pages w x j v (Some InvalidCode) count a l = absurd (cc)
 reply_pages w x j v (Some FailureCode) count a l = absurd (cc)
 reply_pages w x j v (Some SuccessCode) count a l =
-    subst (λ k. MapsPages w (after_acts w (reply_maps w j v ++ LetGo x ∷ At (w.job j).endpoint (Own.Respond (w.job j).group SuccessCode) ∷ [])) (job_space w j) k) (same_count (length (reply_maps w j v)) count a)
+    subst (λ k. MapsPages w (after_acts w (reply_maps w j v ++ LetGo x ∷ At (w.job j).endpoint (Own.Respond (w.job j).group SuccessCode) ∷ []))
+    (job_space w j) k) (same_count (length (reply_maps w j v)) count a)
     (go (replies_success w j v) l)
   where
     e : ℕ
@@ -127,11 +148,14 @@ reply_pages w x j v (Some SuccessCode) count a l =
     maps : List Act
     maps = maps_to (job_space w j) (is_write_asked w j) (newly_mapped w j) (free_list w)
 
-    go : (b : Bool) → LegalAll w ((if b then maps else []) ++ LetGo x ∷ At e r ∷ []) → MapsPages w (after_acts w ((if b then maps else []) ++ LetGo x ∷ At e r ∷ [])) (job_space w j) (length (if b then maps else []))
+    go : (b : Bool) → LegalAll w ((if b then maps else []) ++ LetGo x ∷ At e r ∷ [])
+        → MapsPages w (after_acts w ((if b then maps else []) ++ LetGo x ∷ At e r ∷ [])) (job_space w j) (length (if b then maps else []))
     go true k = all_pages (job_space w j) (is_write_asked w j) (newly_mapped w j) (free_list w) x e r w k
     go false k = no_page w x e r (job_space w j)
 
-pub always_succeeds : (rule : PasidRule) (config : Config) (steps : List Step) (x : ℕ) (v : Verdict) (count : ℕ) → reply (world_after rule config steps) (step.Reply x v) ≡ Ok (answer.Success count) → Succeeds (world_after rule config steps) (world_after rule config (steps ++ step.Reply x v ∷ [])) x count
+pub always_succeeds : (rule : PasidRule) (config : Config) (steps : List Step) (x : ℕ) (v : Verdict) (count : ℕ)
+    → reply (world_after rule config steps) (step.Reply x v) ≡ Ok (answer.Success count)
+    → Succeeds (world_after rule config steps) (world_after rule config (steps ++ step.Reply x v ∷ [])) x count
 always_succeeds rule config steps x v count h =
     let w = world_after rule config steps in
     let s = step.Reply x v in
@@ -141,5 +165,6 @@ always_succeeds rule config steps x v count h =
     record {
       job = j;
       in_hand = some_the (w.hand x) (not_true (is_some (w.hand x)) yes.0.1.0);
-      maps = subst (λ z. MapsPages w z (job_space w j) count) (sym (after_one rule config steps s ∙ ap (after_acts w) yes.2)) (reply_pages w x j v (response_to w j v) count yes.1 legal);
+      maps = subst (λ z. MapsPages w z (job_space w j) count) (sym (after_one rule config steps s ∙ ap (after_acts w) yes.2))
+          (reply_pages w x j v (response_to w j v) count yes.1 legal);
     }

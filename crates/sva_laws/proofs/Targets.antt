@@ -50,7 +50,8 @@ done_below n p f k c x made h d = go (less_or_not c p.front)
     go (inl l) = l
     go (inr l) = absurd (done_apart (p.order_state k) d (either (f.at_front k c x made h l)))
 
-below_done : (n : ℕ) (p : Part) → Fronts n p → (k c : ℕ) (x : Bool) → k < p.orders → p.order k ≡ Wait c x → (p.order_state k ≡ Void → p.front ≤ c) → c < p.front → p.order_state k ≡ Done
+below_done : (n : ℕ) (p : Part) → Fronts n p → (k c : ℕ) (x : Bool) → k < p.orders → p.order k ≡ Wait c x → (p.order_state k ≡ Void → p.front ≤ c)
+    → c < p.front → p.order_state k ≡ Done
 below_done n p f k c x made h nv l = go (f.passed k c x made h l)
   where
     go : (p.order_state k ≡ Done) ⊎ (p.order_state k ≡ Void) → p.order_state k ≡ Done
@@ -67,21 +68,27 @@ has_front n p or f =
       front_low = f.front_low;
       at_front = λ k c x made h. ((λ a. forth k c x made h a (f.at_front k c x made h a)), (λ z. back k c x made h z));
       passed = λ k c x made h nv. ((λ d. done_below n p f k c x made h d), (λ l. below_done n p f k c x made h (λ v. absurd (nv v)) l));
-      draining = λ b w c x st h. let d = or.draining b w st in ((λ e. done_below n p f w c x d.1 h e), (λ l. below_done n p f w c x d.1 h (λ v. f.draining b w c x st h v) l));
-      invalidating = λ b k w c x st h. let d = or.invalidating b k w st in ((λ e. done_below n p f w c x d.3 h e), (λ l. below_done n p f w c x d.3 h (λ v. f.invalidating b k w c x st h v) l));
+      draining = λ b w c x st h. let d =
+          or.draining b w st in ((λ e. done_below n p f w c x d.1 h e), (λ l. below_done n p f w c x d.1 h (λ v. f.draining b w c x st h v) l));
+      invalidating = λ b k w c x st h. let d =
+          or.invalidating b k w st in ((λ e. done_below n p f w c x d.3 h e), (λ l. below_done n p f w c x d.3 h (λ v. f.invalidating b k w c x st h v) l));
     }
   where
-    forth : (k c : ℕ) (x : Bool) → k < p.orders → p.order k ≡ Wait c x → p.front ≤ c → (p.order_state k ≡ Queued) ⊎ ((p.order_state k ≡ Void) × (p.phase ≢ Open)) → (p.order_state k ≡ Queued) ⊎ ((p.order_state k ≡ Void) × (p.phase ≢ Open) × (p.front ≤ c))
+    forth : (k c : ℕ) (x : Bool) → k < p.orders → p.order k ≡ Wait c x → p.front ≤ c → (p.order_state k ≡ Queued)
+        ⊎ ((p.order_state k ≡ Void) × (p.phase ≢ Open)) → (p.order_state k ≡ Queued) ⊎ ((p.order_state k ≡ Void) × (p.phase ≢ Open) × (p.front ≤ c))
     forth k c x made h a (inl q) = inl q
     forth k c x made h a (inr v) = inr (v.0, v.1, a)
 
-    back : (k c : ℕ) (x : Bool) → k < p.orders → p.order k ≡ Wait c x → (p.order_state k ≡ Queued) ⊎ ((p.order_state k ≡ Void) × (p.phase ≢ Open) × (p.front ≤ c)) → p.front ≤ c
+    back : (k c : ℕ) (x : Bool) → k < p.orders → p.order k ≡ Wait c x → (p.order_state k ≡ Queued)
+        ⊎ ((p.order_state k ≡ Void) × (p.phase ≢ Open) × (p.front ≤ c)) → p.front ≤ c
     back k c x made h (inl q) = queued_front n p f k c x made h q
     back k c x made h (inr v) = v.2
 
-pub always_front : (rule : PasidRule) (config : Config) (steps : List Step) (e : ℕ) → HasFront (world_after rule config steps).cookies ((world_after rule config steps).part e)
+pub always_front : (rule : PasidRule) (config : Config) (steps : List Step) (e : ℕ)
+    → HasFront (world_after rule config steps).cookies ((world_after rule config steps).part e)
 always_front rule config steps e =
-    has_front (world_after rule config steps).cookies ((world_after rule config steps).part e) ((always rule config steps).parts e).orders (always_fronts rule config steps e)
+    has_front (world_after rule config steps).cookies ((world_after rule config steps).part e) ((always rule config steps).parts e).orders
+    (always_fronts rule config steps e)
 
 -- What isn't answered.
 
@@ -92,7 +99,8 @@ awaited n p first x resets f b same nd = let y = go (p.order x) refl b.is_a_wait
     front c y h (inl l) = absurd (nd (below_done n p f x c y b.made h (λ v. b.void same v c y h) l))
     front c y h (inr l) = l
 
-    go : (o : Order) → p.order x ≡ o → is_wait o ≡ true → (c : ℕ) × (y : Bool) × (p.order x ≡ Wait c y) × (p.front ≤ c) × ((p.order_state x ≡ Queued) ⊎ ((p.order_state x ≡ Void) × (p.phase ≢ Open)))
+    go : (o : Order) → p.order x ≡ o → is_wait o ≡ true → (c : ℕ) × (y : Bool) × (p.order x ≡ Wait c y) × (p.front ≤ c)
+        × ((p.order_state x ≡ Queued) ⊎ ((p.order_state x ≡ Void) × (p.phase ≢ Open)))
     go (Wait c y) h w = let a = front c y h (less_or_not c p.front) in (c, y, h, a, f.at_front x c y b.made h a)
     go (RangeOf d r) h w = absurd (cc (w))
     go (PasidOf d) h w = absurd (cc (w))
@@ -112,15 +120,21 @@ awaits n p (Ranges first count resets) f d h =
     let same = no_reset p resets d.1.counted (or_right (all_below (suc count) (λ j. is_done (p.order_state (first + j)))) (nat_lt resets p.resets) h) in
     let left = or_left (all_below (suc count) (λ j. is_done (p.order_state (first + j)))) (nat_lt resets p.resets) h in
     awaited n p first (first + count) resets f d.1 same
-    (λ e. absurd (cc (sym left ∙ all_below-intro (suc count) (λ j. is_done (p.order_state (first + j))) (λ j l. is_done_of (p.order_state (first + j)) (d.1.done same e (first + j) (omega arith) (omega (arith, l)))))))
+    (λ e. absurd (cc (sym left
+    ∙ all_below-intro (suc count) (λ j. is_done (p.order_state (first + j)))
+    (λ j l. is_done_of (p.order_state (first + j)) (d.1.done same e (first + j) (omega arith) (omega (arith, l)))))))
 awaits n p (Pasid k x resets false) f d h =
     let same = no_reset p resets d.1.counted (or_right (is_done (p.order_state k) && is_done (p.order_state x)) (nat_lt resets p.resets) h) in
     let left = or_left (is_done (p.order_state k) && is_done (p.order_state x)) (nat_lt resets p.resets) h in
     awaited n p k x resets f d.1 same
     (λ e. absurd (cc (sym left ∙ both_done (p.order_state k) (p.order_state x) (d.1.done same e k (omega arith) d.1.low) e)))
-awaits n p (Pasid k x resets true) f d h = d.2 refl (no_reset p resets d.1.counted (or_right (is_done (p.order_state k) && is_done (p.order_state x)) (nat_lt resets p.resets) h))
+awaits n p (Pasid k x resets true) f d h =
+    d.2 refl (no_reset p resets d.1.counted (or_right (is_done (p.order_state k) && is_done (p.order_state x)) (nat_lt resets p.resets) h))
 awaits n p (AReset resets) f d h = d.1 (no_reset p resets d.0 h)
 
-pub always_awaits : (rule : PasidRule) (config : Config) (steps : List Step) (m e : ℕ) (owed : ℕ → Owed) → (world_after rule config steps).mappings.state m ≡ Gone owed → answered ((world_after rule config steps).part e) (owed e) ≡ false → AwaitsTarget ((world_after rule config steps).part e) (owed e)
+pub always_awaits : (rule : PasidRule) (config : Config) (steps : List Step) (m e : ℕ) (owed : ℕ → Owed)
+    → (world_after rule config steps).mappings.state m ≡ Gone owed → answered ((world_after rule config steps).part e) (owed e) ≡ false
+    → AwaitsTarget ((world_after rule config steps).part e) (owed e)
 always_awaits rule config steps m e owed g h =
-    awaits (world_after rule config steps).cookies ((world_after rule config steps).part e) (owed e) (always_fronts rule config steps e) (always_debts rule config steps m e owed g) h
+    awaits (world_after rule config steps).cookies ((world_after rule config steps).part e) (owed e) (always_fronts rule config steps e)
+    (always_debts rule config steps m e owed g) h

@@ -34,7 +34,8 @@ use Rattle.sva_laws.proofs.Debts.{always_debts}
 use Rattle.sva_laws.proofs.Freed.{next_place}
 
 -- the counter of reset-dones stays, or a reset-done is delivered
-own_counts : (w : World) (s : Step) (e : ℕ) (a : Answer) (o : Own) → reply w s ≡ Ok a → IsBy w s e o a → LegalOwn w.mappings w.bindings (w.part e) o → ((own (w.part e) w.messages o).resets ≡ (w.part e).resets) ⊎ Delivers w s e ResetDone
+own_counts : (w : World) (s : Step) (e : ℕ) (a : Answer) (o : Own) → reply w s ≡ Ok a → IsBy w s e o a → LegalOwn w.mappings w.bindings (w.part e) o
+    → ((own (w.part e) w.messages o).resets ≡ (w.part e).resets) ⊎ Delivers w s e ResetDone
 own_counts w s e a (Own.Reopen c) h by l = inr (delivers w s e c a ResetDone h by l.0)
 own_counts w s e a _ h by l = inl refl
 
@@ -79,20 +80,25 @@ and_kept : (a b c d : Bool) → (a ≡ true → c ≡ true) → (b ≡ true → 
 and_kept a b c d f g h = grind arith
 
 -- what is answered stays so
-stays : (p q : Part) (v : Owed) → ((k : ℕ) → p.order_state k ≡ Done → q.order_state k ≡ Done) → p.resets ≤ q.resets → answered p v ≡ true → answered q v ≡ true
+stays : (p q : Part) (v : Owed) → ((k : ℕ) → p.order_state k ≡ Done → q.order_state k ≡ Done) → p.resets ≤ q.resets → answered p v ≡ true
+    → answered q v ≡ true
 stays p q Nothing d r h = refl
 stays p q (AReset resets) d r h = more resets p.resets q.resets r h
 stays p q (Ranges first count resets) d r h =
-    or_kept (all_below (suc count) (λ j. is_done (p.order_state (first + j)))) (nat_lt resets p.resets) (all_below (suc count) (λ j. is_done (q.order_state (first + j)))) (nat_lt resets q.resets)
-    (λ a. all_below-intro (suc count) (λ j. is_done (q.order_state (first + j))) (λ j l. on (first + j) (all_below-true (suc count) (λ k. is_done (p.order_state (first + k))) a j l)))
+    or_kept (all_below (suc count) (λ j. is_done (p.order_state (first + j)))) (nat_lt resets p.resets)
+    (all_below (suc count) (λ j. is_done (q.order_state (first + j)))) (nat_lt resets q.resets)
+    (λ a. all_below-intro (suc count) (λ j. is_done (q.order_state (first + j)))
+    (λ j l. on (first + j) (all_below-true (suc count) (λ k. is_done (p.order_state (first + k))) a j l)))
     (more resets p.resets q.resets r)
     h
   where
     on : (k : ℕ) → is_done (p.order_state k) ≡ true → is_done (q.order_state k) ≡ true
     on k x = ap is_done (d k (done_is (p.order_state k) x))
 stays p q (Pasid invalidation wait resets in_reset) d r h =
-    or_kept (is_done (p.order_state invalidation) && is_done (p.order_state wait)) (nat_lt resets p.resets) (is_done (q.order_state invalidation) && is_done (q.order_state wait)) (nat_lt resets q.resets)
-    (and_kept (is_done (p.order_state invalidation)) (is_done (p.order_state wait)) (is_done (q.order_state invalidation)) (is_done (q.order_state wait)) (on invalidation) (on wait))
+    or_kept (is_done (p.order_state invalidation) && is_done (p.order_state wait)) (nat_lt resets p.resets)
+    (is_done (q.order_state invalidation) && is_done (q.order_state wait)) (nat_lt resets q.resets)
+    (and_kept (is_done (p.order_state invalidation)) (is_done (p.order_state wait)) (is_done (q.order_state invalidation))
+    (is_done (q.order_state wait)) (on invalidation) (on wait))
     (more resets p.resets q.resets r)
     h
   where
@@ -105,7 +111,9 @@ by_reset : (p q : Part) (R : Type 0) (resets : ℕ) → nat_lt resets p.resets �
 by_reset p q R resets h (inl e) k = absurd (cc (sym h ∙ ap (nat_lt resets) (sym e) ∙ k))
 by_reset p q R resets h (inr r) k = r
 
-by_wait : (w : World) (s : Step) (e : ℕ) (q : Part) (first wait resets : ℕ) → IsBehind (w.part e) first wait resets → Orders (w.part e) → Changes w s e (w.part e) q → nat_lt resets (w.part e).resets ≡ false → (((k : ℕ) → first ≤ k → k ≤ wait → (w.part e).order_state k ≡ Done) → ⊥) → q.order_state wait ≡ Done → PassesWait w s e wait
+by_wait : (w : World) (s : Step) (e : ℕ) (q : Part) (first wait resets : ℕ) → IsBehind (w.part e) first wait resets → Orders (w.part e)
+    → Changes w s e (w.part e) q → nat_lt resets (w.part e).resets ≡ false → (((k : ℕ) → first ≤ k → k ≤ wait → (w.part e).order_state k ≡ Done) → ⊥)
+    → q.order_state wait ≡ Done → PassesWait w s e wait
 by_wait w s e q first wait resets b or c h un d = go (c.done wait d)
   where
     same : resets ≡ (w.part e).resets
@@ -122,10 +130,13 @@ by_wait w s e q first wait resets b or c h un d = go (c.done wait d)
 both : (t : Bool) → t ≡ true → t ≡ false → ⊥
 both t h k = absurd (cc)
 
-turns : (w : World) (s : Step) (e : ℕ) (q : Part) (v : Owed) → FitsDebt (w.part e) v → Orders (w.part e) → Changes w s e (w.part e) q → (q.resets ≡ (w.part e).resets) ⊎ Delivers w s e ResetDone → answered (w.part e) v ≡ false → answered q v ≡ true → PassesWait w s e (wait_of v) ⊎ Delivers w s e ResetDone
+turns : (w : World) (s : Step) (e : ℕ) (q : Part) (v : Owed) → FitsDebt (w.part e) v → Orders (w.part e) → Changes w s e (w.part e) q
+    → (q.resets ≡ (w.part e).resets) ⊎ Delivers w s e ResetDone → answered (w.part e) v ≡ false → answered q v ≡ true → PassesWait w s e (wait_of v)
+    ⊎ Delivers w s e ResetDone
 turns w s e q Nothing f or c r un h = absurd (cc)
 turns w s e q (AReset resets) f or c r un h = inr (by_reset (w.part e) q (Delivers w s e ResetDone) resets un r h)
-turns w s e q (Ranges first count resets) f or c r un h = go (or_cases (all_below (suc count) (λ j. is_done (q.order_state (first + j)))) (nat_lt resets q.resets) h)
+turns w s e q (Ranges first count resets) f or c r un h =
+    go (or_cases (all_below (suc count) (λ j. is_done (q.order_state (first + j)))) (nat_lt resets q.resets) h)
   where
     was : Bool
     was = all_below (suc count) (λ j. is_done ((w.part e).order_state (first + j)))
@@ -135,13 +146,17 @@ turns w s e q (Ranges first count resets) f or c r un h = go (or_cases (all_belo
 
     undone : ((k : ℕ) → first ≤ k → k ≤ first + count → (w.part e).order_state k ≡ Done) → ⊥
     undone all =
-        both was (all_below-intro (suc count) (λ j. is_done ((w.part e).order_state (first + j))) (λ j l. ap is_done (all (first + j) (omega arith) (omega (arith, l)))))
+        both was (all_below-intro (suc count) (λ j. is_done ((w.part e).order_state (first + j)))
+        (λ j l. ap is_done (all (first + j) (omega arith) (omega (arith, l)))))
         (or_left was (nat_lt resets (w.part e).resets) un)
 
-    go : (all_below (suc count) (λ j. is_done (q.order_state (first + j))) ≡ true) ⊎ (nat_lt resets q.resets ≡ true) → PassesWait w s e (first + count) ⊎ Delivers w s e ResetDone
-    go (inl x) = inl (by_wait w s e q first (first + count) resets f.1 or c no_reset undone (done_is (q.order_state (first + count)) (all_below-true (suc count) (λ j. is_done (q.order_state (first + j))) x count (omega arith))))
+    go : (all_below (suc count) (λ j. is_done (q.order_state (first + j))) ≡ true) ⊎ (nat_lt resets q.resets ≡ true)
+        → PassesWait w s e (first + count) ⊎ Delivers w s e ResetDone
+    go (inl x) = inl (by_wait w s e q first (first + count) resets f.1 or c no_reset undone
+        (done_is (q.order_state (first + count)) (all_below-true (suc count) (λ j. is_done (q.order_state (first + j))) x count (omega arith))))
     go (inr x) = inr (by_reset (w.part e) q (Delivers w s e ResetDone) resets no_reset r x)
-turns w s e q (Pasid invalidation wait resets in_reset) f or c r un h = go (or_cases (is_done (q.order_state invalidation) && is_done (q.order_state wait)) (nat_lt resets q.resets) h)
+turns w s e q (Pasid invalidation wait resets in_reset) f or c r un h =
+    go (or_cases (is_done (q.order_state invalidation) && is_done (q.order_state wait)) (nat_lt resets q.resets) h)
   where
     was : Bool
     was = is_done ((w.part e).order_state invalidation) && is_done ((w.part e).order_state wait)
@@ -155,14 +170,19 @@ turns w s e q (Pasid invalidation wait resets in_reset) f or c r un h = go (or_c
     undone : ((k : ℕ) → invalidation ≤ k → k ≤ wait → (w.part e).order_state k ≡ Done) → ⊥
     undone all =
         both was
-        (and_kept true true (is_done ((w.part e).order_state invalidation)) (is_done ((w.part e).order_state wait)) (λ x. ap is_done (all invalidation (omega arith) low)) (λ x. ap is_done (all wait low (omega arith))) refl)
+        (and_kept true true (is_done ((w.part e).order_state invalidation)) (is_done ((w.part e).order_state wait))
+        (λ x. ap is_done (all invalidation (omega arith) low)) (λ x. ap is_done (all wait low (omega arith))) refl)
         (or_left was (nat_lt resets (w.part e).resets) un)
 
-    go : ((is_done (q.order_state invalidation) && is_done (q.order_state wait)) ≡ true) ⊎ (nat_lt resets q.resets ≡ true) → PassesWait w s e wait ⊎ Delivers w s e ResetDone
-    go (inl x) = inl (by_wait w s e q invalidation wait resets f.1 or c no_reset undone (done_is (q.order_state wait) (and_right (is_done (q.order_state invalidation)) (is_done (q.order_state wait)) x)))
+    go : ((is_done (q.order_state invalidation) && is_done (q.order_state wait)) ≡ true) ⊎ (nat_lt resets q.resets ≡ true) → PassesWait w s e wait
+        ⊎ Delivers w s e ResetDone
+    go (inl x) = inl (by_wait w s e q invalidation wait resets f.1 or c no_reset undone
+        (done_is (q.order_state wait) (and_right (is_done (q.order_state invalidation)) (is_done (q.order_state wait)) x)))
     go (inr x) = inr (by_reset (w.part e) q (Delivers w s e ResetDone) resets no_reset r x)
 
-pub always_answers : (rule : PasidRule) (config : Config) (steps : List Step) (s : Step) (m e : ℕ) (owed : ℕ → Owed) → (world_after rule config steps).mappings.state m ≡ Gone owed → AnswersBy (world_after rule config steps) (world_after rule config (steps ++ s ∷ [])) s m e owed
+pub always_answers : (rule : PasidRule) (config : Config) (steps : List Step) (s : Step) (m e : ℕ) (owed : ℕ → Owed)
+    → (world_after rule config steps).mappings.state m ≡ Gone owed
+    → AnswersBy (world_after rule config steps) (world_after rule config (steps ++ s ∷ [])) s m e owed
 always_answers rule config steps s m e owed g =
     let w = world_after rule config steps in
     let i = always rule config steps in
@@ -186,9 +206,12 @@ next_latest w s f i h = go ((moves w s i).latest_new f)
     not_mapped x (inl a) b = absurd (cc)
     not_mapped x (inr a) b = absurd (cc)
 
-    go : ((next w s).mappings.latest f ≡ w.mappings.latest f) ⊎ ((z : ℕ) × ((next w s).mappings.latest f ≡ Some z) × ((next w s).mappings.state z ≡ Present)) → (next w s).mappings.latest f ≡ w.mappings.latest f
+    go : ((next w s).mappings.latest f ≡ w.mappings.latest f)
+        ⊎ ((z : ℕ) × ((next w s).mappings.latest f ≡ Some z) × ((next w s).mappings.state z ≡ Present)) → (next w s).mappings.latest f ≡ w.mappings.latest f
     go (inl x) = x
     go (inr x) = absurd (not_mapped (place (next w s) f) (next_place w s f i h) (ap (place_at (next w s)) x.1 ∙ ap (place_by (next w s)) x.2))
 
-pub always_latest : (rule : PasidRule) (config : Config) (steps : List Step) (s : Step) (f : ℕ) → place (world_after rule config steps) f ≡ Withheld → (world_after rule config (steps ++ s ∷ [])).mappings.latest f ≡ (world_after rule config steps).mappings.latest f
-always_latest rule config steps s f h = ap (λ v. v.mappings.latest f) (after_one rule config steps s) ∙ next_latest (world_after rule config steps) s f (always rule config steps) h
+pub always_latest : (rule : PasidRule) (config : Config) (steps : List Step) (s : Step) (f : ℕ) → place (world_after rule config steps) f ≡ Withheld
+    → (world_after rule config (steps ++ s ∷ [])).mappings.latest f ≡ (world_after rule config steps).mappings.latest f
+always_latest rule config steps s f h = ap (λ v. v.mappings.latest f) (after_one rule config steps s)
+    ∙ next_latest (world_after rule config steps) s f (always rule config steps) h

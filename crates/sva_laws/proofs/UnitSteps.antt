@@ -16,11 +16,13 @@ use Rattle.sva_model.specs.State.Phase.{Open}
 use Rattle.sva_model.specs.State.Stage.{Stopping}
 use Rattle.sva_model.specs.State.OrderState.{Queued, Sent, Taken, Lapsed, Owing, Done, Void}
 use Rattle.sva_model.specs.States.{is_open}
-use Rattle.sva_model.specs.Acts.{Act, Own, act, own, counted, counted_if, void_queued, void_undone, marked, submitted, submitted_if, submits, bound, cookie_of}
+use Rattle.sva_model.specs.Acts.{Act, Own, act, own, counted, counted_if, void_queued, void_undone, marked, submitted, submitted_if, submits, bound}
+use Rattle.sva_model.specs.Acts.{cookie_of}
 use Rattle.sva_model.specs.Acts.Act.{NewSpace, DropSpace, Map, Unmap, NewBinding, NewJob, Hold, LetGo, At}
 use Rattle.sva_model.specs.Labels
 use Rattle.sva_model.specs.Refusals.{refusals}
-use Rattle.sva_model.specs.Outcomes.{outcome, pump_outcome, head_outcome, wait_outcome, send_outcome, may_pass, about_outcome, deliver_outcome, count_outcome, marker_outcome}
+use Rattle.sva_model.specs.Outcomes.{outcome, pump_outcome, head_outcome, wait_outcome, send_outcome, may_pass, about_outcome, deliver_outcome}
+use Rattle.sva_model.specs.Outcomes.{count_outcome, marker_outcome}
 use Rattle.sva_model.specs.Steps.{reply, decide, next, after_acts, world_after}
 use Rattle.sva_laws.specs.UnitSteps.{Delivers, OrdersReset, PassesWait, CompletesOrder, CountsResetDones, ChangesOrders, NotesMarkers}
 use Rattle.sva_laws.proofs.Words.{put-same, put-other, ℕ_cases}
@@ -59,7 +61,8 @@ same_part : (p : Part) → Same p p
 same_part p = record { orders = refl; state = λ k. refl; resets = refl; noted = λ b h. h }
 
 same_more : (p q r : Part) → Same p q → Same q r → Same p r
-same_more p q r a b = record { orders = b.orders ∙ a.orders; state = λ k. b.state k ∙ a.state k; resets = b.resets ∙ a.resets; noted = λ x h. a.noted x (b.noted x h) }
+same_more p q r a b =
+    record { orders = b.orders ∙ a.orders; state = λ k. b.state k ∙ a.state k; resets = b.resets ∙ a.resets; noted = λ x h. a.noted x (b.noted x h) }
 
 same_own : (p : Part) (n : ℕ) (o : Own) → is_calm_own o ≡ true → Same p (own p n o)
 same_own p n o h =
@@ -79,13 +82,15 @@ same_act w (NewBinding d) h e = same_part (w.part e)
 same_act w (NewJob d g) h e = same_part (w.part e)
 same_act w (Hold x j) h e = same_part (w.part e)
 same_act w (LetGo x) h e = same_part (w.part e)
-same_act w (At d o) h e = put_keeps (λ x q. Same (w.part x) q) w.part d (own (w.part d) w.messages o) (same_own (w.part d) w.messages o h) (λ x. same_part (w.part x)) e
+same_act w (At d o) h e =
+    put_keeps (λ x q. Same (w.part x) q) w.part d (own (w.part d) w.messages o) (same_own (w.part d) w.messages o h) (λ x. same_part (w.part x)) e
 
 pub same_acts : (acts : List Act) (w : World) → are_calm acts ≡ true → (e : ℕ) → Same (w.part e) ((after_acts w acts).part e)
 same_acts [] w h e = same_part (w.part e)
 same_acts (a ∷ acts) w h e = go (is_calm a) refl h (λ k. same_acts acts (act w a) k e)
   where
-    go : (b : Bool) → is_calm a ≡ b → (if b then are_calm acts else false) ≡ true → (are_calm acts ≡ true → Same ((act w a).part e) ((after_acts (act w a) acts).part e)) → Same (w.part e) ((after_acts (act w a) acts).part e)
+    go : (b : Bool) → is_calm a ≡ b → (if b then are_calm acts else false) ≡ true
+        → (are_calm acts ≡ true → Same ((act w a).part e) ((after_acts (act w a) acts).part e)) → Same (w.part e) ((after_acts (act w a) acts).part e)
     go true c h rest = same_more (w.part e) ((act w a).part e) ((after_acts (act w a) acts).part e) (same_act w a c e) (rest h)
     go false c h rest = absurd (cc)
 
@@ -102,7 +107,8 @@ changes_nothing w s e p q x =
     }
 
 -- an unmapping
-submitted_changes : (w : World) (s : Step) (e g : ℕ) (t : Bool) (p : Part) (o : Option ℕ) (q count order cookie : ℕ) → ((k : ℕ) → p.orders ≤ k → p.order_state k ≡ Void) → Changes w s e p (submitted_if t p o q count order cookie)
+submitted_changes : (w : World) (s : Step) (e g : ℕ) (t : Bool) (p : Part) (o : Option ℕ) (q count order cookie : ℕ)
+    → ((k : ℕ) → p.orders ≤ k → p.order_state k ≡ Void) → Changes w s e p (submitted_if t p o q count order cookie)
 submitted_changes w s e g true p (Some b) q count order cookie bo =
     record {
       resets = λ none. refl;
@@ -134,11 +140,21 @@ submitted_changes w s e g false p o q count order cookie bo = changes_nothing w 
 -- One act of an endpoint.
 
 -- what the step delivers, by the message that the act takes
-pub delivers : (w : World) (s : Step) (e c : ℕ) (a : Answer) (about : About) → reply w s ≡ Ok a → IsDelivery w s e c → (w.part e).message c ≡ Some about → Delivers w s e about
+pub delivers : (w : World) (s : Step) (e c : ℕ) (a : Answer) (about : About) → reply w s ≡ Ok a → IsDelivery w s e c → (w.part e).message c
+    ≡ Some about → Delivers w s e about
 delivers w s e c a about h d m =
-    record { number = d.number; step_is = d.step_is; answer = a; accepted = h; way_is = ap w.way d.name_is ∙ d.way_is; speaks = ap (w.part e).message d.name_is ∙ m }
+    record {
+      number = d.number;
+      step_is = d.step_is;
+      answer = a;
+      accepted = h;
+      way_is = ap w.way d.name_is ∙ d.way_is;
+      speaks =
+          ap (w.part e).message d.name_is ∙ m;
+    }
 
-own_resets : (w : World) (s : Step) (e : ℕ) (a : Answer) (o : Own) → reply w s ≡ Ok a → IsBy w s e o a → LegalOwn w.mappings w.bindings (w.part e) o → (Delivers w s e ResetDone → ⊥) → (own (w.part e) w.messages o).resets ≡ (w.part e).resets
+own_resets : (w : World) (s : Step) (e : ℕ) (a : Answer) (o : Own) → reply w s ≡ Ok a → IsBy w s e o a → LegalOwn w.mappings w.bindings (w.part e) o
+    → (Delivers w s e ResetDone → ⊥) → (own (w.part e) w.messages o).resets ≡ (w.part e).resets
 own_resets w s e a (Own.Reopen c) h by l none = absurd (none (delivers w s e c a ResetDone h by l.0))
 own_resets w s e a _ h by l none = refl
 
@@ -162,10 +178,13 @@ ends_order Own.Reset = true
 ends_order (Own.Reopen c) = true
 ends_order _ = false
 
-other_done : (ms : Mappings) (g n : ℕ) (p : Part) (o : Own) → LegalOwn ms g p o → ends_order o ≡ false → (k : ℕ) → (own p n o).order_state k ≡ Done → p.order_state k ≡ Done
+other_done : (ms : Mappings) (g n : ℕ) (p : Part) (o : Own) → LegalOwn ms g p o → ends_order o ≡ false → (k : ℕ) → (own p n o).order_state k ≡ Done
+    → p.order_state k ≡ Done
 other_done ms g n p o l e k h = grind (arith, nat_tests)
 
-own_done : (w : World) (s : Step) (e : ℕ) (a : Answer) (o : Own) (b : Bool) → ends_order o ≡ b → reply w s ≡ Ok a → IsBy w s e o a → LegalOwn w.mappings w.bindings (w.part e) o → (k : ℕ) → (own (w.part e) w.messages o).order_state k ≡ Done → ((w.part e).order_state k ≡ Done) ⊎ (PassesWait w s e k ⊎ CompletesOrder w s e k)
+own_done : (w : World) (s : Step) (e : ℕ) (a : Answer) (o : Own) (b : Bool) → ends_order o ≡ b → reply w s ≡ Ok a → IsBy w s e o a
+    → LegalOwn w.mappings w.bindings (w.part e) o → (k : ℕ) → (own (w.part e) w.messages o).order_state k ≡ Done → ((w.part e).order_state k ≡ Done)
+    ⊎ (PassesWait w s e k ⊎ CompletesOrder w s e k)
 own_done w s e a o false x h by l k d = inl (other_done w.mappings w.bindings w.messages (w.part e) o l x k d)
 own_done w s e a (Own.Pass j) true x h by l k d = go (ℕ_cases k j)
   where
@@ -176,9 +195,18 @@ own_done w s e a (Own.Pass j) true x h by l k d = go (ℕ_cases k j)
     go (inr ne) = inl (sym (put-other (w.part e).order_state j Done k ne) ∙ d)
 own_done w s e a (Own.Count c names) true x h by l k d = go (count_done (names k) ((w.part e).order_state k) d)
   where
-    go : ((w.part e).order_state k ≡ Done) ⊎ ((names k ≡ true) × ((count : ℕ) × ((w.part e).order_state k ≡ Owing count 1))) → ((w.part e).order_state k ≡ Done) ⊎ (PassesWait w s e k ⊎ CompletesOrder w s e k)
+    go : ((w.part e).order_state k ≡ Done) ⊎ ((names k ≡ true) × ((count : ℕ) × ((w.part e).order_state k ≡ Owing count 1)))
+        → ((w.part e).order_state k ≡ Done) ⊎ (PassesWait w s e k ⊎ CompletesOrder w s e k)
     go (inl y) = inl y
-    go (inr y) = inr (inr (record { names = names; delivers = delivers w s e c a (InvalidatedOf names) h by l.0; is_open = l.1; named = y.0; count = y.1.0; one_left = y.1.1 }))
+    go (inr y) = inr (inr (record {
+      names = names;
+      delivers = delivers w s e c a (InvalidatedOf names) h by l.0;
+      is_open = l.1;
+      named = y.0;
+      count =
+          y.1.0;
+      one_left = y.1.1;
+    }))
 own_done w s e a Own.Reset true x h by l k d = inl (before ((w.part e).order_state k) d)
   where
     before : (z : OrderState) → void_queued z ≡ Done → z ≡ Done
@@ -190,13 +218,18 @@ own_done w s e a (Own.Reopen c) true x h by l k d = inl (before ((w.part e).orde
 own_done w s e a o true x h by l k d = absurd (grind arith)
 
 -- an invalidate in flight is of an order that was sent
-done_still : (ms : Mappings) (g n : ℕ) (p : Part) (o : Own) → LegalOwn ms g p o → ((c k : ℕ) → p.message c ≡ Some (InvalidateOf k) → p.order_state k ≡ Sent) → (k : ℕ) → (p.orders ≤ k → p.order_state k ≡ Void) → p.order_state k ≡ Done → (own p n o).order_state k ≡ Done
+done_still : (ms : Mappings) (g n : ℕ) (p : Part) (o : Own) → LegalOwn ms g p o
+    → ((c k : ℕ) → p.message c ≡ Some (InvalidateOf k) → p.order_state k ≡ Sent) → (k : ℕ) → (p.orders ≤ k → p.order_state k ≡ Void)
+    → p.order_state k ≡ Done → (own p n o).order_state k ≡ Done
 done_still ms g n p o l sent k bo h = grind (arith, nat_tests)
 
-void_still : (ms : Mappings) (g n : ℕ) (p : Part) (o : Own) → LegalOwn ms g p o → ((c k : ℕ) → p.message c ≡ Some (InvalidateOf k) → p.order_state k ≡ Sent) → (k : ℕ) → k < p.orders → p.order_state k ≡ Void → (own p n o).order_state k ≡ Void
+void_still : (ms : Mappings) (g n : ℕ) (p : Part) (o : Own) → LegalOwn ms g p o
+    → ((c k : ℕ) → p.message c ≡ Some (InvalidateOf k) → p.order_state k ≡ Sent) → (k : ℕ) → k < p.orders → p.order_state k ≡ Void
+    → (own p n o).order_state k ≡ Void
 void_still ms g n p o l sent k lt h = grind (arith, nat_tests)
 
-other_void : (ms : Mappings) (g n : ℕ) (p : Part) (o : Own) → LegalOwn ms g p o → ends_order o ≡ false → (k : ℕ) → k < p.orders → (own p n o).order_state k ≡ Void → p.order_state k ≡ Void
+other_void : (ms : Mappings) (g n : ℕ) (p : Part) (o : Own) → LegalOwn ms g p o → ends_order o ≡ false → (k : ℕ) → k < p.orders
+    → (own p n o).order_state k ≡ Void → p.order_state k ≡ Void
 other_void ms g n p o l e k lt h = grind (arith, nat_tests)
 
 void_from_queued : (x : OrderState) → void_queued x ≡ Void → (x ≡ Void) ⊎ (x ≡ Queued)
@@ -214,23 +247,29 @@ void_from_undone x h e = absurd (cc (sym (ap void_undone e) ∙ h))
 count_void : (b : Bool) (x : OrderState) → counted_if b x ≡ Void → x ≡ Void
 count_void b x h = grind (arith, nat_tests)
 
-own_void : (w : World) (s : Step) (e : ℕ) (a : Answer) (o : Own) (b : Bool) → ends_order o ≡ b → reply w s ≡ Ok a → IsBy w s e o a → LegalOwn w.mappings w.bindings (w.part e) o → (k : ℕ) → k < (w.part e).orders → (own (w.part e) w.messages o).order_state k ≡ Void → ((w.part e).order_state k ≡ Void) ⊎ ((((w.part e).order_state k ≡ Queued) × OrdersReset w s e) ⊎ (((w.part e).order_state k ≢ Done) × Delivers w s e ResetDone))
+own_void : (w : World) (s : Step) (e : ℕ) (a : Answer) (o : Own) (b : Bool) → ends_order o ≡ b → reply w s ≡ Ok a → IsBy w s e o a
+    → LegalOwn w.mappings w.bindings (w.part e) o → (k : ℕ) → k < (w.part e).orders → (own (w.part e) w.messages o).order_state k ≡ Void
+    → ((w.part e).order_state k ≡ Void)
+    ⊎ ((((w.part e).order_state k ≡ Queued) × OrdersReset w s e) ⊎ (((w.part e).order_state k ≢ Done) × Delivers w s e ResetDone))
 own_void w s e a o false x h by l k lt d = inl (other_void w.mappings w.bindings w.messages (w.part e) o l x k lt d)
 own_void w s e a (Own.Pass j) true x h by l k lt d = go (ℕ_cases k j)
   where
-    go : (k ≡ j) ⊎ (k ≢ j) → ((w.part e).order_state k ≡ Void) ⊎ ((((w.part e).order_state k ≡ Queued) × OrdersReset w s e) ⊎ (((w.part e).order_state k ≢ Done) × Delivers w s e ResetDone))
+    go : (k ≡ j) ⊎ (k ≢ j) → ((w.part e).order_state k ≡ Void)
+        ⊎ ((((w.part e).order_state k ≡ Queued) × OrdersReset w s e) ⊎ (((w.part e).order_state k ≢ Done) × Delivers w s e ResetDone))
     go (inl same) = absurd (cc (sym (subst (λ z. put (w.part e).order_state j Done z ≡ Done) (sym same) (put-same (w.part e).order_state j Done)) ∙ d))
     go (inr ne) = inl (sym (put-other (w.part e).order_state j Done k ne) ∙ d)
 own_void w s e a (Own.Count c names) true x h by l k lt d = inl (count_void (names k) ((w.part e).order_state k) d)
 own_void w s e a Own.Reset true x h by l k lt d = go (void_from_queued ((w.part e).order_state k) d)
   where
-    go : ((w.part e).order_state k ≡ Void) ⊎ ((w.part e).order_state k ≡ Queued) → ((w.part e).order_state k ≡ Void) ⊎ ((((w.part e).order_state k ≡ Queued) × OrdersReset w s e) ⊎ (((w.part e).order_state k ≢ Done) × Delivers w s e ResetDone))
+    go : ((w.part e).order_state k ≡ Void) ⊎ ((w.part e).order_state k ≡ Queued) → ((w.part e).order_state k ≡ Void)
+        ⊎ ((((w.part e).order_state k ≡ Queued) × OrdersReset w s e) ⊎ (((w.part e).order_state k ≢ Done) × Delivers w s e ResetDone))
     go (inl y) = inl y
     go (inr y) = inr (inl (y, record { step_is = by; answer = a; accepted = h }))
 own_void w s e a (Own.Reopen c) true x h by l k lt d = inr (inr (void_from_undone ((w.part e).order_state k) d, delivers w s e c a ResetDone h by l.0))
 own_void w s e a o true x h by l k lt d = absurd (grind arith)
 
-new_queued : (ms : Mappings) (g n : ℕ) (p : Part) (o : Own) → LegalOwn ms g p o → (k : ℕ) → p.orders ≤ k → k < (own p n o).orders → (own p n o).order_state k ≡ Queued
+new_queued : (ms : Mappings) (g n : ℕ) (p : Part) (o : Own) → LegalOwn ms g p o → (k : ℕ) → p.orders ≤ k → k < (own p n o).orders
+    → (own p n o).order_state k ≡ Queued
 new_queued ms g n p o l k low high = grind (arith, nat_tests)
 
 abbrev pub notes_marker : Own → Bool
@@ -240,7 +279,9 @@ notes_marker _ = false
 other_noted : (p : Part) (n : ℕ) (o : Own) → notes_marker o ≡ false → (b : ℕ) → (own p n o).stage b ≡ Stopping true → p.stage b ≡ Stopping true
 other_noted p n o e b h = grind (arith, nat_tests)
 
-own_noted : (w : World) (s : Step) (e : ℕ) (a : Answer) (o : Own) (t : Bool) → notes_marker o ≡ t → reply w s ≡ Ok a → IsBy w s e o a → LegalOwn w.mappings w.bindings (w.part e) o → (b : ℕ) → (own (w.part e) w.messages o).stage b ≡ Stopping true → ((w.part e).stage b ≡ Stopping true) ⊎ (((w.part e).phase ≡ Open) × Delivers w s e (MarkerOf b))
+own_noted : (w : World) (s : Step) (e : ℕ) (a : Answer) (o : Own) (t : Bool) → notes_marker o ≡ t → reply w s ≡ Ok a → IsBy w s e o a
+    → LegalOwn w.mappings w.bindings (w.part e) o → (b : ℕ) → (own (w.part e) w.messages o).stage b ≡ Stopping true
+    → ((w.part e).stage b ≡ Stopping true) ⊎ (((w.part e).phase ≡ Open) × Delivers w s e (MarkerOf b))
 own_noted w s e a o false x h by l b d = inl (other_noted (w.part e) w.messages o x b d)
 own_noted w s e a (Own.Mark c i) true x h by l b d = go (ℕ_cases b i)
   where
@@ -249,7 +290,8 @@ own_noted w s e a (Own.Mark c i) true x h by l b d = go (ℕ_cases b i)
     go (inr ne) = inl (sym (put-other (w.part e).stage i (marked ((w.part e).stage i)) b ne) ∙ d)
 own_noted w s e a o true x h by l b d = absurd (grind arith)
 
-own_changes : (w : World) (s : Step) (e : ℕ) (a : Answer) (o : Own) → Invariant w → reply w s ≡ Ok a → IsBy w s e o a → LegalOwn w.mappings w.bindings (w.part e) o → Changes w s e (w.part e) (own (w.part e) w.messages o)
+own_changes : (w : World) (s : Step) (e : ℕ) (a : Answer) (o : Own) → Invariant w → reply w s ≡ Ok a → IsBy w s e o a
+    → LegalOwn w.mappings w.bindings (w.part e) o → Changes w s e (w.part e) (own (w.part e) w.messages o)
 own_changes w s e a o i h by l =
     record {
       resets = own_resets w s e a o h by l;
@@ -282,7 +324,8 @@ changes w s e i = go (step_kind w s)
 
 -- And back: from what the step is to its act.
 
-pub delivered : (w : World) (s : Step) (e : ℕ) (about : About) → (d : Delivers w s e about) → (decide w s).acts ≡ (about_outcome w (w.part e) e (Labels.name w d.number) about).acts
+pub delivered : (w : World) (s : Step) (e : ℕ) (about : About) → (d : Delivers w s e about) → (decide w s).acts
+    ≡ (about_outcome w (w.part e) e (Labels.name w d.number) about).acts
 delivered w s e about d =
     ap (λ z. (decide w z).acts) d.step_is
     ∙ (accepted (refusals w (step.Deliver d.number)) (outcome w (step.Deliver d.number)) d.answer (sym (ap (reply w) d.step_is) ∙ d.accepted)).2
@@ -295,12 +338,15 @@ delivered w s e about d =
 part_after : (w : World) (s : Step) (e : ℕ) (o : Own) → (decide w s).acts ≡ At e o ∷ [] → (next w s).part e ≡ own (w.part e) w.messages o
 part_after w s e o h = ap (λ z. (after_acts w z).part e) h ∙ put-same w.part e (own (w.part e) w.messages o)
 
-reopens : (w : World) (s : Step) (e : ℕ) → (d : Delivers w s e ResetDone) → (next w s).part e ≡ own (w.part e) w.messages (Own.Reopen (Labels.name w d.number))
+reopens : (w : World) (s : Step) (e : ℕ) → (d : Delivers w s e ResetDone) → (next w s).part e
+    ≡ own (w.part e) w.messages (Own.Reopen (Labels.name w d.number))
 reopens w s e d = part_after w s e (Own.Reopen (Labels.name w d.number)) (delivered w s e ResetDone d)
 
 completes : (w : World) (s : Step) (e k : ℕ) → CompletesOrder w s e k → ((next w s).part e).order_state k ≡ Done
 completes w s e k x =
-    ap (λ p. p.order_state k) (part_after w s e (Own.Count c x.names) (delivered w s e (InvalidatedOf x.names) x.delivers ∙ ap (λ b. (count_outcome (w.part e) e c x.names b).acts) (ap is_open x.is_open)))
+    ap (λ p. p.order_state k)
+    (part_after w s e (Own.Count c x.names) (delivered w s e (InvalidatedOf x.names) x.delivers
+    ∙ ap (λ b. (count_outcome (w.part e) e c x.names b).acts) (ap is_open x.is_open)))
     ∙ ap (λ b. counted_if b ((w.part e).order_state k)) x.named
     ∙ ap counted x.one_left
   where
@@ -341,7 +387,8 @@ resets_queued w s e k q x =
     ap (λ p. p.order_state k) (part_after w s e Own.Reset acts) ∙ ap void_queued q
   where
     acts : (decide w s).acts ≡ At e Own.Reset ∷ []
-    acts = ap (λ z. (decide w z).acts) x.step_is ∙ (accepted (refusals w (step.Reset e)) (outcome w (step.Reset e)) x.answer (sym (ap (reply w) x.step_is) ∙ x.accepted)).2
+    acts = ap (λ z. (decide w z).acts) x.step_is
+        ∙ (accepted (refusals w (step.Reset e)) (outcome w (step.Reset e)) x.answer (sym (ap (reply w) x.step_is) ∙ x.accepted)).2
 
 undone_void : (x : OrderState) → x ≢ Done → void_undone x ≡ Void
 undone_void Done h = absurd (h refl)
@@ -352,7 +399,8 @@ undone_void Lapsed h = refl
 undone_void (Owing c l) h = refl
 undone_void Void h = refl
 
-marks : (w : World) (s : Step) (e b : ℕ) → Invariant w → (w.part e).phase ≡ Open → (d : Delivers w s e (MarkerOf b)) → ((next w s).part e).stage b ≡ Stopping true
+marks : (w : World) (s : Step) (e b : ℕ) → Invariant w → (w.part e).phase ≡ Open → (d : Delivers w s e (MarkerOf b)) → ((next w s).part e).stage b
+    ≡ Stopping true
 marks w s e b i ph d =
     ap (λ p. p.stage b) (part_after w s e (Own.Mark c b) (delivered w s e (MarkerOf b) d ∙ ap (λ t. (marker_outcome e c b t).acts) (ap is_open ph)))
     ∙ put-same (w.part e).stage b (marked ((w.part e).stage b))
@@ -372,7 +420,11 @@ orders_change w s e i =
       done = λ k. (c.done k, λ x. elim x [ inl d ↦ c.done_on k d | inr y ↦ elim y [ inl p ↦ passes w s e k p | inr q ↦ completes w s e k q ] ]);
       void = λ k lt. (
         c.void k lt,
-        λ x. elim x [ inl v ↦ c.void_on k lt v | inr y ↦ elim y [ inl q ↦ resets_queued w s e k q.0 q.1 | inr d ↦ ap (λ p. p.order_state k) (reopens w s e d.1) ∙ undone_void ((w.part e).order_state k) d.0 ] ],
+        λ x. elim x [
+          | inl v ↦ c.void_on k lt v
+          | inr y ↦ elim y
+              [ inl q ↦ resets_queued w s e k q.0 q.1 | inr d ↦ ap (λ p. p.order_state k) (reopens w s e d.1) ∙ undone_void ((w.part e).order_state k) d.0 ]
+        ],
       );
       submitted = c.submitted;
     }
@@ -383,11 +435,20 @@ orders_change w s e i =
 notes : (w : World) (s : Step) (e : ℕ) → Invariant w → NotesMarkers w s e ((next w s).part e)
 notes w s e i = record { noted = (changes w s e i).noted; notes = λ b ph d. marks w s e b i ph d }
 
-pub always_counts : (rule : PasidRule) (config : Config) (steps : List Step) (s : Step) (e : ℕ) → CountsResetDones (world_after rule config steps) s e ((world_after rule config (steps ++ s ∷ [])).part e)
-always_counts rule config steps s e = subst (λ v. CountsResetDones (world_after rule config steps) s e (v.part e)) (sym (after_one rule config steps s)) (counts (world_after rule config steps) s e (always rule config steps))
+pub always_counts : (rule : PasidRule) (config : Config) (steps : List Step) (s : Step) (e : ℕ)
+    → CountsResetDones (world_after rule config steps) s e ((world_after rule config (steps ++ s ∷ [])).part e)
+always_counts rule config steps s e =
+    subst (λ v. CountsResetDones (world_after rule config steps) s e (v.part e)) (sym (after_one rule config steps s))
+    (counts (world_after rule config steps) s e (always rule config steps))
 
-pub always_changes : (rule : PasidRule) (config : Config) (steps : List Step) (s : Step) (e : ℕ) → ChangesOrders (world_after rule config steps) s e ((world_after rule config (steps ++ s ∷ [])).part e)
-always_changes rule config steps s e = subst (λ v. ChangesOrders (world_after rule config steps) s e (v.part e)) (sym (after_one rule config steps s)) (orders_change (world_after rule config steps) s e (always rule config steps))
+pub always_changes : (rule : PasidRule) (config : Config) (steps : List Step) (s : Step) (e : ℕ)
+    → ChangesOrders (world_after rule config steps) s e ((world_after rule config (steps ++ s ∷ [])).part e)
+always_changes rule config steps s e =
+    subst (λ v. ChangesOrders (world_after rule config steps) s e (v.part e)) (sym (after_one rule config steps s))
+    (orders_change (world_after rule config steps) s e (always rule config steps))
 
-pub always_notes : (rule : PasidRule) (config : Config) (steps : List Step) (s : Step) (e : ℕ) → NotesMarkers (world_after rule config steps) s e ((world_after rule config (steps ++ s ∷ [])).part e)
-always_notes rule config steps s e = subst (λ v. NotesMarkers (world_after rule config steps) s e (v.part e)) (sym (after_one rule config steps s)) (notes (world_after rule config steps) s e (always rule config steps))
+pub always_notes : (rule : PasidRule) (config : Config) (steps : List Step) (s : Step) (e : ℕ)
+    → NotesMarkers (world_after rule config steps) s e ((world_after rule config (steps ++ s ∷ [])).part e)
+always_notes rule config steps s e =
+    subst (λ v. NotesMarkers (world_after rule config steps) s e (v.part e)) (sym (after_one rule config steps s))
+    (notes (world_after rule config steps) s e (always rule config steps))

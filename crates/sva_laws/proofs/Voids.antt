@@ -41,7 +41,8 @@ since_more p q r a b =
     before (inr h) = inr (up h)
     before (inl h) = elim (a.opened h) [ inl x ↦ inl x | inr y ↦ inr (on y) ]
 
-    from : (k : ℕ) → ((k < q.orders) × (q.order_state k ≡ Void)) ⊎ (q.resets < r.resets) → (q.phase ≡ Open) ⊎ (q.resets < r.resets) → ((k < p.orders) × (p.order_state k ≡ Void)) ⊎ (p.resets < r.resets)
+    from : (k : ℕ) → ((k < q.orders) × (q.order_state k ≡ Void)) ⊎ (q.resets < r.resets) → (q.phase ≡ Open) ⊎ (q.resets < r.resets)
+        → ((k < p.orders) × (p.order_state k ≡ Void)) ⊎ (p.resets < r.resets)
     from k (inr h) o = inr (up h)
     from k (inl h) (inr o) = inr (up o)
     from k (inl h) (inl o) = elim (a.void k h.0 h.1 o) [ inl x ↦ inl x | inr y ↦ inr (on y) ]
@@ -71,7 +72,8 @@ since_act w (NewBinding d) e = since_same (w.part e)
 since_act w (NewJob d g) e = since_same (w.part e)
 since_act w (Hold x j) e = since_same (w.part e)
 since_act w (LetGo x) e = since_same (w.part e)
-since_act w (At d o) e = put_keeps (λ x q. Since (w.part x) q) w.part d (own (w.part d) w.messages o) (since_own (w.part d) w.messages o) (λ x. since_same (w.part x)) e
+since_act w (At d o) e =
+    put_keeps (λ x q. Since (w.part x) q) w.part d (own (w.part d) w.messages o) (since_own (w.part d) w.messages o) (λ x. since_same (w.part x)) e
 
 since_acts : (acts : List Act) (w : World) (e : ℕ) → Since (w.part e) ((after_acts w acts).part e)
 since_acts [] w e = since_same (w.part e)
@@ -84,12 +86,15 @@ since_run (s ∷ ss) w e = since_more (w.part e) ((next w s).part e) ((run (next
 void_by_reset : (p q : Part) → Since p q → IsVoidByReset p q
 void_by_reset p q x = record { void = λ k lt h. go k lt h q.phase refl }
   where
-    go : (k : ℕ) → k < q.orders → q.order_state k ≡ Void → (f : Phase) → q.phase ≡ f → ((k < p.orders) × (p.order_state k ≡ Void)) ⊎ ((q.phase ≢ Open) ⊎ (p.resets < q.resets))
+    go : (k : ℕ) → k < q.orders → q.order_state k ≡ Void → (f : Phase) → q.phase ≡ f → ((k < p.orders) × (p.order_state k ≡ Void))
+        ⊎ ((q.phase ≢ Open) ⊎ (p.resets < q.resets))
     go k lt h Open f = elim (x.void k lt h f) [ inl y ↦ inl y | inr z ↦ inr (inr z) ]
     go k lt h (Ordered c) f = inr (inl (λ o. absurd (cc (sym o ∙ f))))
     go k lt h (Cleared c) f = inr (inl (λ o. absurd (cc (sym o ∙ f))))
 
-pub always_void : (rule : PasidRule) (config : Config) (before since : List Step) (e : ℕ) → IsVoidByReset ((world_after rule config before).part e) ((world_after rule config (before ++ since)).part e)
+pub always_void : (rule : PasidRule) (config : Config) (before since : List Step) (e : ℕ)
+    → IsVoidByReset ((world_after rule config before).part e) ((world_after rule config (before ++ since)).part e)
 always_void rule config before since e =
     subst (λ v. IsVoidByReset ((world_after rule config before).part e) (v.part e)) (sym (run_append before since (opened rule config)))
-    (void_by_reset ((world_after rule config before).part e) ((run (world_after rule config before) since).part e) (since_run since (world_after rule config before) e))
+    (void_by_reset ((world_after rule config before).part e) ((run (world_after rule config before) since).part e)
+    (since_run since (world_after rule config before) e))

@@ -37,15 +37,28 @@ is_response_to g _ = false
 pub record Ways (p : Part) : Type 0 where
   pub sent : (k : ℕ) → p.order_state k ≡ Sent → p.message (p.invalidate_message k) ≡ Some (InvalidateOf k)
   pub out : (r : ℕ) → p.phase ≡ Open → is_out (p.request r) ≡ true → is_of_request r (p.message (p.request_message r)) ≡ true
-  pub response : (g : ℕ) → p.phase ≡ Open → is_answerable (p.group g) ≡ true → p.host_group g ≡ Replied → is_response_to g (p.message (p.response_message g)) ≡ true
+  pub response : (g : ℕ) → p.phase ≡ Open → is_answerable (p.group g) ≡ true → p.host_group g ≡ Replied
+      → is_response_to g (p.message (p.response_message g)) ≡ true
 
-sent_kept : (ms : Mappings) (g n k : ℕ) (p : Part) (o : Own) → LegalOwn ms g p o → (n ≤ p.invalidate_message k → p.message (p.invalidate_message k) ≡ None) → (p.order_state k ≡ Sent → p.message (p.invalidate_message k) ≡ Some (InvalidateOf k)) → (own p n o).order_state k ≡ Sent → (own p n o).message ((own p n o).invalidate_message k) ≡ Some (InvalidateOf k)
+sent_kept : (ms : Mappings) (g n k : ℕ) (p : Part) (o : Own) → LegalOwn ms g p o
+    → (n ≤ p.invalidate_message k → p.message (p.invalidate_message k) ≡ None)
+    → (p.order_state k ≡ Sent → p.message (p.invalidate_message k) ≡ Some (InvalidateOf k)) → (own p n o).order_state k ≡ Sent
+    → (own p n o).message ((own p n o).invalidate_message k) ≡ Some (InvalidateOf k)
 sent_kept ms g n k p o l un old h = grind (arith, nat_tests)
 
-out_kept : (ms : Mappings) (g n r : ℕ) (p : Part) (o : Own) → LegalOwn ms g p o → (n ≤ p.request_message r → p.message (p.request_message r) ≡ None) → ((c : ℕ) → p.message c ≡ Some ResetDone → is_out (p.request r) ≡ false) → ((c d x : ℕ) (f : Option ℕ) → p.message c ≡ Some (CompletionOf x f) → p.message d ≡ Some (RequestOf x) → ⊥) → (p.phase ≡ Open → is_out (p.request r) ≡ true → is_of_request r (p.message (p.request_message r)) ≡ true) → (own p n o).phase ≡ Open → is_out ((own p n o).request r) ≡ true → is_of_request r ((own p n o).message ((own p n o).request_message r)) ≡ true
+out_kept : (ms : Mappings) (g n r : ℕ) (p : Part) (o : Own) → LegalOwn ms g p o → (n ≤ p.request_message r → p.message (p.request_message r) ≡ None)
+    → ((c : ℕ) → p.message c ≡ Some ResetDone → is_out (p.request r) ≡ false)
+    → ((c d x : ℕ) (f : Option ℕ) → p.message c ≡ Some (CompletionOf x f) → p.message d ≡ Some (RequestOf x) → ⊥)
+    → (p.phase ≡ Open → is_out (p.request r) ≡ true → is_of_request r (p.message (p.request_message r)) ≡ true) → (own p n o).phase ≡ Open
+    → is_out ((own p n o).request r) ≡ true → is_of_request r ((own p n o).message ((own p n o).request_message r)) ≡ true
 out_kept ms g n r p o l un re both old ph h = grind (arith, nat_tests)
 
-response_kept : (ms : Mappings) (g n x : ℕ) (p : Part) (o : Own) → LegalOwn ms g p o → (n ≤ p.response_message x → p.message (p.response_message x) ≡ None) → (p.groups ≤ x → p.host_group x ≡ NotFiled) → (p.host_group x ≡ Replied → p.group x ≢ Unfinished) → ((c : ℕ) → p.message c ≡ Some ResetDone → p.group x ≡ Finished) → (p.phase ≡ Open → is_answerable (p.group x) ≡ true → p.host_group x ≡ Replied → is_response_to x (p.message (p.response_message x)) ≡ true) → (own p n o).phase ≡ Open → is_answerable ((own p n o).group x) ≡ true → (own p n o).host_group x ≡ Replied → is_response_to x ((own p n o).message ((own p n o).response_message x)) ≡ true
+response_kept : (ms : Mappings) (g n x : ℕ) (p : Part) (o : Own) → LegalOwn ms g p o
+    → (n ≤ p.response_message x → p.message (p.response_message x) ≡ None) → (p.groups ≤ x → p.host_group x ≡ NotFiled)
+    → (p.host_group x ≡ Replied → p.group x ≢ Unfinished) → ((c : ℕ) → p.message c ≡ Some ResetDone → p.group x ≡ Finished)
+    → (p.phase ≡ Open → is_answerable (p.group x) ≡ true → p.host_group x ≡ Replied → is_response_to x (p.message (p.response_message x)) ≡ true)
+    → (own p n o).phase ≡ Open → is_answerable ((own p n o).group x) ≡ true → (own p n o).host_group x ≡ Replied
+    → is_response_to x ((own p n o).message ((own p n o).response_message x)) ≡ true
 response_kept ms g n x p o l un made whole re old ph a h = grind (arith, nat_tests)
 
 -- a group whose response was sent is whole
@@ -56,15 +69,21 @@ pub every : (ms : Mappings) (x g n e : ℕ) (p : Part) (o : Own) → LegalOwn ms
 every ms x g n e p o l i wa =
     record {
       sent = λ k h. sent_kept ms g n k p o l (i.resets.unsent (p.invalidate_message k)) (wa.sent k) h;
-      out = λ r ph h. out_kept ms g n r p o l (i.resets.unsent (p.request_message r)) (λ c m. i.resets.over c r (i.resets.up c m)) (λ c d y f a b. i.requests.not_both d c y f b a) (wa.out r) ph h;
-      response = λ y ph a h. response_kept ms g n y p o l (i.resets.unsent (p.response_message y)) (i.bounds.host_group y) (whole_of p i.lasts y) (λ c m. i.resets.finished c y (i.resets.up c m)) (wa.response y) ph a h;
+      out = λ r ph h. out_kept ms g n r p o l (i.resets.unsent (p.request_message r)) (λ c m. i.resets.over c r (i.resets.up c m))
+          (λ c d y f a b. i.requests.not_both d c y f b a) (wa.out r) ph h;
+      response = λ y ph a h. response_kept ms g n y p o l (i.resets.unsent (p.response_message y)) (i.bounds.host_group y) (whole_of p i.lasts y)
+          (λ c m. i.resets.finished c y (i.resets.up c m)) (wa.response y) ph a h;
     }
 
-submitted_sent : (g b q count order cookie k : ℕ) (p : Part) → Bounds g p → (p.order_state k ≡ Sent → p.message (p.invalidate_message k) ≡ Some (InvalidateOf k)) → (submitted p b q count order cookie).order_state k ≡ Sent → p.message (p.invalidate_message k) ≡ Some (InvalidateOf k)
+submitted_sent : (g b q count order cookie k : ℕ) (p : Part) → Bounds g p
+    → (p.order_state k ≡ Sent → p.message (p.invalidate_message k) ≡ Some (InvalidateOf k)) → (submitted p b q count order cookie).order_state k
+    ≡ Sent → p.message (p.invalidate_message k) ≡ Some (InvalidateOf k)
 submitted_sent g b q count order cookie k p bo old h = grind (arith, nat_tests)
 
-submitted_ways : (g : ℕ) (t : Bool) (p : Part) (o : Option ℕ) (q count order cookie : ℕ) → Bounds g p → Ways p → Ways (submitted_if t p o q count order cookie)
-submitted_ways g true p (Some b) q count order cookie bo wa = record { sent = λ k h. submitted_sent g b q count order cookie k p bo (wa.sent k) h; out = wa.out; response = wa.response }
+submitted_ways : (g : ℕ) (t : Bool) (p : Part) (o : Option ℕ) (q count order cookie : ℕ) → Bounds g p → Ways p
+    → Ways (submitted_if t p o q count order cookie)
+submitted_ways g true p (Some b) q count order cookie bo wa =
+    record { sent = λ k h. submitted_sent g b q count order cookie k p bo (wa.sent k) h; out = wa.out; response = wa.response }
 submitted_ways g true p None q count order cookie bo wa = wa
 submitted_ways g false p o q count order cookie bo wa = wa
 
@@ -75,12 +94,15 @@ act_ways : (w : World) (a : Act) → Legal w a → Invariant w → AllWays w →
 act_ways w NewSpace l i h = h
 act_ways w (DropSpace s) l i h = h
 act_ways w (Map s q f x) l i h = h
-act_ways w (Unmap s q count order) l i h = λ e. submitted_ways w.bindings (submits w s e) (w.part e) (bound w e s) q count order (cookie_of w s e) (i.parts e).bounds (h e)
+act_ways w (Unmap s q count order) l i h =
+    λ e. submitted_ways w.bindings (submits w s e) (w.part e) (bound w e s) q count order (cookie_of w s e) (i.parts e).bounds (h e)
 act_ways w (NewBinding e) l i h = h
 act_ways w (NewJob e g) l i h = h
 act_ways w (Hold x j) l i h = h
 act_ways w (LetGo x) l i h = h
-act_ways w (At e o) l i h = put_keeps (λ k p. Ways p) w.part e (own (w.part e) w.messages o) (every w.mappings w.config.endpoints w.bindings w.messages e (w.part e) o l.1.0 (i.parts e) (h e)) h
+act_ways w (At e o) l i h =
+    put_keeps (λ k p. Ways p) w.part e (own (w.part e) w.messages o)
+    (every w.mappings w.config.endpoints w.bindings w.messages e (w.part e) o l.1.0 (i.parts e) (h e)) h
 
 acts_ways : (acts : List Act) (w : World) → LegalAll w acts → Invariant w → AllWays w → AllWays (after_acts w acts)
 acts_ways [] w l i h = h

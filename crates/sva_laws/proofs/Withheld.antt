@@ -1,6 +1,7 @@
 -- A frame's place is Withheld exactly where the look back over the list of steps says so.
 use Rattle.sva_model.specs.State.{PasidRule}
-use Rattle.std.proofs.Common.{◌≡◌, ◌≢◌, ◌⊎◌, inl, inr, refl, ap, sym, subst, ◌∙◌, ℕ, suc, ◌+◌, ◌-◌, ◌*◌, ◌^◌, ◌<◌, ◌≤◌, Bool, true, false, arith, append_assoc}
+use Rattle.std.proofs.Common.{◌≡◌, ◌≢◌, ◌⊎◌, inl, inr, refl, ap, sym, subst, ◌∙◌, ℕ, suc, ◌+◌, ◌-◌, ◌*◌, ◌^◌, ◌<◌, ◌≤◌, Bool, true, false, arith}
+use Rattle.std.proofs.Common.{append_assoc}
 use Rattle.std.specs.Prelude.{Option, Some, None, ◌&&◌, ◌||◌, ◌==◌, nat_lt, List, [], ◌∷◌, ◌++◌}
 use Rattle.std.proofs.lemmas.Bool.Decides.{nat_tests}
 use Rattle.sva_step.specs.declared.limits.Config.{Config}
@@ -66,7 +67,8 @@ less a b h = grind (arith, nat_tests)
 less_is : (a b : ℕ) → nat_lt a b ≡ true → a < b
 less_is a b h = grind (arith, nat_tests)
 
-stage_by_reset : (was now : Part) (count : ℕ) (s : Stage) (o : Bool) → is_open was.phase ≡ o → was.resets < now.resets → answered now (owed_by_stage was count s) ≡ true
+stage_by_reset : (was now : Part) (count : ℕ) (s : Stage) (o : Bool) → is_open was.phase ≡ o → was.resets < now.resets
+    → answered now (owed_by_stage was count s) ≡ true
 stage_by_reset was now count Unbound o e l = refl
 stage_by_reset was now count Live o e l = grind (arith, nat_tests)
 stage_by_reset was now count (Stopping marked) o e l = grind (arith, nat_tests)
@@ -78,11 +80,13 @@ stage_by_reset was now count Released o e l = refl
 
 range_done : (now : Part) (from count : ℕ) → AreDone now from (from + suc count) → all_below (suc count) (λ j. is_done (now.order_state (from + j))) ≡ true
 range_done now from count dn =
-    all_below-intro (suc count) (λ j. is_done (now.order_state (from + j))) (λ j l. is_done_of (now.order_state (from + j)) (dn (from + j) (omega arith) (omega arith)))
+    all_below-intro (suc count) (λ j. is_done (now.order_state (from + j)))
+    (λ j l. is_done_of (now.order_state (from + j)) (dn (from + j) (omega arith) (omega arith)))
 
 done_range : (now : Part) (from count : ℕ) → all_below (suc count) (λ j. is_done (now.order_state (from + j))) ≡ true → AreDone now from (from + suc count)
 done_range now from count all k l h =
-    subst (λ z. now.order_state z ≡ Done) sum (done_is (now.order_state (from + (k - from))) (all_below-true (suc count) (λ j. is_done (now.order_state (from + j))) all (k - from) (omega arith)))
+    subst (λ z. now.order_state z ≡ Done) sum
+    (done_is (now.order_state (from + (k - from))) (all_below-true (suc count) (λ j. is_done (now.order_state (from + j))) all (k - from) (omega arith)))
   where
     sum : from + (k - from) ≡ k
     sum = omega arith
@@ -102,7 +106,9 @@ before_owes was b count ph (inl h) = grind arith
 before_owes was b count ph (inr (inl h)) = let e = h.1 in grind arith
 before_owes was b count ph (inr (inr h)) = let e = h.1 in grind arith
 
-pub answered_if : (was now then : Part) (b page q count order cookie : ℕ) → then ≡ submitted_if (submits_at was (Some b)) was (Some b) q count order cookie → HasAnswered was then now b page → answered now (owed_by was count (Some b)) ≡ true
+pub answered_if : (was now then : Part) (b page q count order cookie : ℕ)
+    → then ≡ submitted_if (submits_at was (Some b)) was (Some b) q count order cookie → HasAnswered was then now b page
+    → answered now (owed_by was count (Some b)) ≡ true
 answered_if was now then b page q count order cookie e (was_done (inl h)) = ap (λ s. answered now (owed_by_stage was count s)) h
 answered_if was now then b page q count order cookie e (was_done (inr h)) = ap (λ s. answered now (owed_by_stage was count s)) h
 answered_if was now then b page q count order cookie e (orders_done ph st su dn) =
@@ -112,16 +118,21 @@ answered_if was now then b page q count order cookie e (orders_done ph st su dn)
     sum = ap (λ p. p.orders) e ∙ orders_more (submits_at was (Some b)) was b q count order cookie (before_submits was b ph st)
 answered_if was now then b page q count order cookie e (pasid_done i w st x y) =
     ap (λ s. answered now (owed_by_stage was count s)) st
-    ∙ or_first (is_done (now.order_state i) && is_done (now.order_state w)) (nat_lt was.resets now.resets) (and_both (is_done (now.order_state i)) (is_done (now.order_state w)) (is_done_of (now.order_state i) x) (is_done_of (now.order_state w) y))
+    ∙ or_first (is_done (now.order_state i) && is_done (now.order_state w)) (nat_lt was.resets now.resets)
+    (and_both (is_done (now.order_state i)) (is_done (now.order_state w)) (is_done_of (now.order_state i) x) (is_done_of (now.order_state w) y))
 answered_if was now then b page q count order cookie e (was_reset l) =
-    stage_by_reset was now count (was.stage b) (is_open was.phase) refl (subst (λ z. z < now.resets) (ap (λ p. p.resets) e ∙ resets_same (submits_at was (Some b)) was b q count order cookie) l)
+    stage_by_reset was now count (was.stage b) (is_open was.phase) refl
+    (subst (λ z. z < now.resets) (ap (λ p. p.resets) e ∙ resets_same (submits_at was (Some b)) was b q count order cookie) l)
 
-then_resets : (was now then : Part) (b page q count order cookie : ℕ) → then ≡ submitted_if (submits_at was (Some b)) was (Some b) q count order cookie → nat_lt was.resets now.resets ≡ true → HasAnswered was then now b page
+then_resets : (was now then : Part) (b page q count order cookie : ℕ)
+    → then ≡ submitted_if (submits_at was (Some b)) was (Some b) q count order cookie → nat_lt was.resets now.resets ≡ true → HasAnswered was then now b page
 then_resets was now then b page q count order cookie e h =
-    was_reset (subst (λ z. z < now.resets) (sym (ap (λ p. p.resets) e ∙ resets_same (submits_at was (Some b)) was b q count order cookie)) (less_is was.resets now.resets h))
+    was_reset (subst (λ z. z < now.resets) (sym (ap (λ p. p.resets) e ∙ resets_same (submits_at was (Some b)) was b q count order cookie))
+    (less_is was.resets now.resets h))
 
 -- what is submitted for the binding: its page invalidations, and the wait behind them
-submits_wait : (was : Part) (b page q count order cookie : ℕ) → in_range q (count * 2 ^ order) page ≡ true → HasSubmitted was (submitted was b q count order cookie) b page
+submits_wait : (was : Part) (b page q count order cookie : ℕ) → in_range q (count * 2 ^ order) page ≡ true
+    → HasSubmitted was (submitted was b q count order cookie) b page
 submits_wait was b page q count order cookie inside =
     let x = range_of q order count page inside in
     record {
@@ -136,7 +147,10 @@ submits_wait was b page q count order cookie inside =
       own_covers = order_covers was b q count order cookie page x.0 x.1 x.2;
     }
 
-unit_answers : (was now then : Part) (b page q count order cookie : ℕ) (o : Bool) → in_range q (count * 2 ^ order) page ≡ true → is_open was.phase ≡ o → IsBeforeInvalidating was b → owed_by was count (Some b) ≡ owed_by_unit was count o → then ≡ submitted_if (submits_at was (Some b)) was (Some b) q count order cookie → answered now (owed_by was count (Some b)) ≡ true → HasAnswered was then now b page
+unit_answers : (was now then : Part) (b page q count order cookie : ℕ) (o : Bool) → in_range q (count * 2 ^ order) page ≡ true → is_open was.phase
+    ≡ o → IsBeforeInvalidating was b → owed_by was count (Some b) ≡ owed_by_unit was count o
+    → then ≡ submitted_if (submits_at was (Some b)) was (Some b) q count order cookie → answered now (owed_by was count (Some b)) ≡ true
+    → HasAnswered was then now b page
 unit_answers was now then b page q count order cookie false r op st ow e h =
     then_resets was now then b page q count order cookie e (sym (ap (answered now) ow) ∙ h)
 unit_answers was now then b page q count order cookie true r op st ow e h =
@@ -145,11 +159,17 @@ unit_answers was now then b page q count order cookie true r op st ow e h =
     sum : then.orders ≡ was.orders + suc count
     sum = ap (λ p. p.orders) e ∙ orders_more (submits_at was (Some b)) was b q count order cookie (before_submits was b (open_is was op) st)
 
-    by : (all_below (suc count) (λ j. is_done (now.order_state (was.orders + j))) ≡ true) ⊎ (nat_lt was.resets now.resets ≡ true) → HasAnswered was then now b page
-    by (inl x) = orders_done (open_is was op) st (subst (λ z. HasSubmitted was z b page) (sym (e ∙ ap (λ t. submitted_if t was (Some b) q count order cookie) (before_submits was b (open_is was op) st))) (submits_wait was b page q count order cookie r)) (subst (λ z. AreDone now was.orders z) (sym sum) (done_range now was.orders count x))
+    by : (all_below (suc count) (λ j. is_done (now.order_state (was.orders + j))) ≡ true) ⊎ (nat_lt was.resets now.resets ≡ true)
+        → HasAnswered was then now b page
+    by (inl x) = orders_done (open_is was op) st
+        (subst (λ z. HasSubmitted was z b page)
+        (sym (e ∙ ap (λ t. submitted_if t was (Some b) q count order cookie) (before_submits was b (open_is was op) st)))
+        (submits_wait was b page q count order cookie r)) (subst (λ z. AreDone now was.orders z) (sym sum) (done_range now was.orders count x))
     by (inr x) = then_resets was now then b page q count order cookie e x
 
-pub answers_if : (was now then : Part) (b page q count order cookie : ℕ) → in_range q (count * 2 ^ order) page ≡ true → is_unreleased (was.stage b) ≡ true → then ≡ submitted_if (submits_at was (Some b)) was (Some b) q count order cookie → answered now (owed_by was count (Some b)) ≡ true → HasAnswered was then now b page
+pub answers_if : (was now then : Part) (b page q count order cookie : ℕ) → in_range q (count * 2 ^ order) page ≡ true → is_unreleased (was.stage b)
+    ≡ true → then ≡ submitted_if (submits_at was (Some b)) was (Some b) q count order cookie → answered now (owed_by was count (Some b)) ≡ true
+    → HasAnswered was then now b page
 answers_if was now then b page q count order cookie r u e h = go (was.stage b) refl
   where
     go : (s : Stage) → was.stage b ≡ s → HasAnswered was then now b page
@@ -158,12 +178,17 @@ answers_if was now then b page q count order cookie r u e h = go (was.stage b) r
     go Quiet st = was_done (inl st)
     go Lost st = was_done (inr st)
     go Live st = unit_answers was now then b page q count order cookie (is_open was.phase) r refl (inl st) (ap (owed_by_stage was count) st) e h
-    go (Stopping marked) st = unit_answers was now then b page q count order cookie (is_open was.phase) r refl (inr (inl (marked, st))) (ap (owed_by_stage was count) st) e h
-    go (Draining wait) st = unit_answers was now then b page q count order cookie (is_open was.phase) r refl (inr (inr (wait, st))) (ap (owed_by_stage was count) st) e h
-    go (Invalidating i w) st = by (or_cases (is_done (now.order_state i) && is_done (now.order_state w)) (nat_lt was.resets now.resets) (sym (ap (λ s. answered now (owed_by_stage was count s)) st) ∙ h))
+    go (Stopping marked) st =
+        unit_answers was now then b page q count order cookie (is_open was.phase) r refl (inr (inl (marked, st))) (ap (owed_by_stage was count) st) e h
+    go (Draining wait) st =
+        unit_answers was now then b page q count order cookie (is_open was.phase) r refl (inr (inr (wait, st))) (ap (owed_by_stage was count) st) e h
+    go (Invalidating i w) st =
+        by (or_cases (is_done (now.order_state i) && is_done (now.order_state w)) (nat_lt was.resets now.resets)
+        (sym (ap (λ s. answered now (owed_by_stage was count s)) st) ∙ h))
       where
         by : ((is_done (now.order_state i) && is_done (now.order_state w)) ≡ true) ⊎ (nat_lt was.resets now.resets ≡ true) → HasAnswered was then now b page
-        by (inl x) = pasid_done i w st (done_is (now.order_state i) (and_left (is_done (now.order_state i)) (is_done (now.order_state w)) x)) (done_is (now.order_state w) (and_right (is_done (now.order_state i)) (is_done (now.order_state w)) x))
+        by (inl x) = pasid_done i w st (done_is (now.order_state i) (and_left (is_done (now.order_state i)) (is_done (now.order_state w)) x))
+            (done_is (now.order_state w) (and_right (is_done (now.order_state i)) (is_done (now.order_state w)) x))
         by (inr x) = then_resets was now then b page q count order cookie e x
 
 -- The config stays.
@@ -207,11 +232,15 @@ rule_kept rule c ss = rule_run ss (opened rule c)
 -- From one list of steps to a longer one.
 
 later_by : (rule : PasidRule) (c : Config) (before rest : List Step) → Later (world_after rule c before) (world_after rule c (before ++ rest))
-later_by rule c before rest = subst (λ v. Later (world_after rule c before) v) (sym (run_append before rest (opened rule c))) (later rest (world_after rule c before) (always rule c before))
+later_by rule c before rest =
+    subst (λ v. Later (world_after rule c before) v) (sym (run_append before rest (opened rule c)))
+    (later rest (world_after rule c before) (always rule c before))
 
-later_from_next : (rule : PasidRule) (c : Config) (before : List Step) (s : Step) (rest : List Step) → Later (next (world_after rule c before) s) (world_after rule c (before ++ s ∷ rest))
+later_from_next : (rule : PasidRule) (c : Config) (before : List Step) (s : Step) (rest : List Step)
+    → Later (next (world_after rule c before) s) (world_after rule c (before ++ s ∷ rest))
 later_from_next rule c before s rest =
-    subst (λ v. Later (next (world_after rule c before) s) v) (sym (run_append before (s ∷ rest) (opened rule c))) (later rest (next (world_after rule c before) s) (next_keeps (world_after rule c before) s (always rule c before)))
+    subst (λ v. Later (next (world_after rule c before) s) v) (sym (run_append before (s ∷ rest) (opened rule c)))
+    (later rest (next (world_after rule c before) s) (next_keeps (world_after rule c before) s (always rule c before)))
 
 longer : (before : List Step) (s : Step) (some rest : List Step) → (before ++ s ∷ some) ++ rest ≡ before ++ s ∷ (some ++ rest)
 longer before s some rest = append_assoc before (s ∷ some) rest
@@ -228,11 +257,18 @@ present_mapped w f k i la g =
     record {
       space = w.mappings.space k;
       page = w.mappings.page k;
-      is_at = record { live = (i.mapped.at_present (w.mappings.space k) (w.mappings.page k) k at).3; mapping = k; maps = at; leads = (i.mapped.named f k la).0 };
+      is_at = record {
+        live = (i.mapped.at_present (w.mappings.space k) (w.mappings.page k) k at).3;
+        mapping = k;
+        maps = at;
+        leads =
+            (i.mapped.named f k la).0;
+      };
     }
 
 -- where the latest mapping of a frame is gone and stays the latest, the frame wasn't mapped in between
-not_between : (w u v : World) (f m : ℕ) (owed : ℕ → Owed) → Invariant u → Later w u → Later u v → w.mappings.latest f ≡ Some m → u.mappings.state m ≡ Gone owed → v.mappings.latest f ≡ Some m → IsMapped u f → ⊥
+not_between : (w u v : World) (f m : ℕ) (owed : ℕ → Owed) → Invariant u → Later w u → Later u v → w.mappings.latest f ≡ Some m → u.mappings.state m
+    ≡ Gone owed → v.mappings.latest f ≡ Some m → IsMapped u f → ⊥
 not_between w u v f m owed i a b la g lv is =
     let x = mapped_latest u f i is in
     let y = a.latest_grows f m la in
@@ -248,9 +284,15 @@ not_between w u v f m owed i a b la g lv is =
     apart : Present ≡ Gone owed → ⊥
     apart h = absurd (cc)
 
-pub then_part : (rule : PasidRule) (c : Config) (before : List Step) (step : Step) (e s q count order b : ℕ) → next (world_after rule c before) step ≡ act (world_after rule c before) (Unmap s q count order) → bound (world_after rule c before) e s ≡ Some b → ((world_after rule c (before ++ step ∷ [])).part e) ≡ submitted_if (submits_at ((world_after rule c before).part e) (Some b)) ((world_after rule c before).part e) (Some b) q count order (cookie_of (world_after rule c before) s e)
+pub then_part : (rule : PasidRule) (c : Config) (before : List Step) (step : Step) (e s q count order b : ℕ) → next (world_after rule c before) step
+    ≡ act (world_after rule c before) (Unmap s q count order) → bound (world_after rule c before) e s ≡ Some b
+    → ((world_after rule c (before ++ step ∷ [])).part e)
+    ≡ submitted_if (submits_at ((world_after rule c before).part e) (Some b)) ((world_after rule c before).part e) (Some b) q count order
+    (cookie_of (world_after rule c before) s e)
 then_part rule c before step e s q count order b nx bo =
-    ap (λ w. w.part e) (after_one rule c before step ∙ nx) ∙ ap (λ o. submitted_if (submits_at ((world_after rule c before).part e) o) ((world_after rule c before).part e) o q count order (cookie_of (world_after rule c before) s e)) bo
+    ap (λ w. w.part e) (after_one rule c before step ∙ nx)
+    ∙ ap (λ o. submitted_if (submits_at ((world_after rule c before).part e) o) ((world_after rule c before).part e) o q count order
+    (cookie_of (world_after rule c before) s e)) bo
 
 both : {t : Bool} → t ≡ true → t ≡ false → ⊥
 both h k = absurd (cc)
@@ -263,7 +305,8 @@ record Owes (rule : PasidRule) (c : Config) (before : List Step) (step : Step) (
   latest : (world_after rule c (before ++ step ∷ since)).mappings.latest f ≡ Some m
   unanswered : answered ((world_after rule c (before ++ step ∷ since)).part e) (owed e) ≡ false
 
-was_at : (rule : PasidRule) (c : Config) (before : List Step) (step : Step) (since : List Step) (f m e : ℕ) (owed : ℕ → Owed) → Owes rule c before step since f m e owed → (world_after rule c before).mappings.frame m ≡ f
+was_at : (rule : PasidRule) (c : Config) (before : List Step) (step : Step) (since : List Step) (f m e : ℕ) (owed : ℕ → Owed)
+    → Owes rule c before step since f m e owed → (world_after rule c before).mappings.frame m ≡ f
 was_at rule c before step since f m e owed o =
     let l = later_by rule c before (step ∷ since) in
     let made : (world_after rule c before).mappings.state m ≢ Unmade = made_of o.present in
@@ -272,7 +315,11 @@ was_at rule c before step since f m e owed o =
     made_of : {z : MappingState} → z ≡ Present → z ≢ Unmade
     made_of h k = absurd (cc)
 
-withheld_by : (rule : PasidRule) (c : Config) (before : List Step) (step : Step) (since : List Step) (f m e : ℕ) (owed : ℕ → Owed) (s q count order b : ℕ) → Owes rule c before step since f m e owed → next (world_after rule c before) step ≡ act (world_after rule c before) (Unmap s q count order) → (world_after rule c before).mappings.space m ≡ s → owed ≡ (λ x. owed_by ((world_after rule c before).part x) count (bound (world_after rule c before) x s)) → bound (world_after rule c before) e s ≡ Some b → IsWithheld rule c (before ++ step ∷ since) f
+withheld_by : (rule : PasidRule) (c : Config) (before : List Step) (step : Step) (since : List Step) (f m e : ℕ) (owed : ℕ → Owed)
+    (s q count order b : ℕ) → Owes rule c before step since f m e owed → next (world_after rule c before) step
+    ≡ act (world_after rule c before) (Unmap s q count order) → (world_after rule c before).mappings.space m ≡ s → owed
+    ≡ (λ x. owed_by ((world_after rule c before).part x) count (bound (world_after rule c before) x s)) → bound (world_after rule c before) e s
+    ≡ Some b → IsWithheld rule c (before ++ step ∷ since) f
 withheld_by rule c before step since f m e owed s q count order b o nx sp ow bo =
     let w = world_after rule c before in
     let i = always rule c before in
@@ -308,36 +355,56 @@ withheld_by rule c before step since f m e owed s q count order b o nx sp ow bo 
 
     between : (some rest : List Step) → some ++ rest ≡ since → IsMapped (world_after rule c (before ++ step ∷ some)) f → ⊥
     between some rest sum is =
-        not_between (world_after rule c before) (world_after rule c (before ++ step ∷ some)) (world_after rule c (before ++ step ∷ since)) f m owed (always rule c (before ++ step ∷ some))
+        not_between (world_after rule c before) (world_after rule c (before ++ step ∷ some)) (world_after rule c (before ++ step ∷ since)) f m owed
+        (always rule c (before ++ step ∷ some))
         (later_by rule c before (step ∷ some))
-        (subst (λ z. Later (world_after rule c (before ++ step ∷ some)) (world_after rule c z)) (longer before step some rest ∙ ap (λ z. before ++ step ∷ z) sum) (later_by rule c (before ++ step ∷ some) rest))
+        (subst (λ z. Later (world_after rule c (before ++ step ∷ some)) (world_after rule c z)) (longer before step some rest
+        ∙ ap (λ z. before ++ step ∷ z) sum) (later_by rule c (before ++ step ∷ some) rest))
         (subst (λ z. (world_after rule c before).mappings.latest z ≡ Some m) frame ((always rule c before).mapped.latest m o.present))
         ((later_from_next rule c before step some).gone_on m owed o.gone)
         o.latest is
 
-    silent : HasAnswered ((world_after rule c before).part e) ((world_after rule c (before ++ step ∷ [])).part e) ((world_after rule c (before ++ step ∷ since)).part e) b ((world_after rule c before).mappings.page m) → ⊥
+    silent : HasAnswered ((world_after rule c before).part e) ((world_after rule c (before ++ step ∷ [])).part e)
+        ((world_after rule c (before ++ step ∷ since)).part e) b ((world_after rule c before).mappings.page m) → ⊥
     silent h =
-        let yes = answered_if ((world_after rule c before).part e) ((world_after rule c (before ++ step ∷ since)).part e) ((world_after rule c (before ++ step ∷ [])).part e) b ((world_after rule c before).mappings.page m) q count order (cookie_of (world_after rule c before) s e) (then_part rule c before step e s q count order b nx bo) h in
-        let owes : owed e ≡ owed_by ((world_after rule c before).part e) count (Some b) = ap (λ v. v e) ow ∙ ap (owed_by ((world_after rule c before).part e) count) bo in
+        let yes = answered_if ((world_after rule c before).part e) ((world_after rule c (before ++ step ∷ since)).part e)
+        ((world_after rule c (before ++ step ∷ [])).part e) b ((world_after rule c before).mappings.page m) q count order
+        (cookie_of (world_after rule c before) s e) (then_part rule c before step e s q count order b nx bo) h in
+        let owes : owed e ≡ owed_by ((world_after rule c before).part e) count (Some b) =
+        ap (λ v. v e) ow ∙ ap (owed_by ((world_after rule c before).part e) count) bo in
         both (ap (answered ((world_after rule c (before ++ step ∷ since)).part e)) owes ∙ yes) o.unanswered
 
-owed_withheld : (rule : PasidRule) (c : Config) (before : List Step) (step : Step) (since : List Step) (f m e : ℕ) (owed : ℕ → Owed) → Owes rule c before step since f m e owed → Goes (world_after rule c before) (next (world_after rule c before) step) m owed → IsWithheld rule c (before ++ step ∷ since) f
-owed_withheld rule c before step since f m e owed o (dropped s sp none ow) = absurd (cc (sym o.unanswered ∙ ap (λ v. answered ((world_after rule c (before ++ step ∷ since)).part e) (v e)) ow))
+owed_withheld : (rule : PasidRule) (c : Config) (before : List Step) (step : Step) (since : List Step) (f m e : ℕ) (owed : ℕ → Owed)
+    → Owes rule c before step since f m e owed → Goes (world_after rule c before) (next (world_after rule c before) step) m owed
+    → IsWithheld rule c (before ++ step ∷ since) f
+owed_withheld rule c before step since f m e owed o (dropped s sp none ow) =
+    absurd (cc (sym o.unanswered ∙ ap (λ v. answered ((world_after rule c (before ++ step ∷ since)).part e) (v e)) ow))
 owed_withheld rule c before step since f m e owed o (unmapped s q count order nx sp r ow) = go (bound (world_after rule c before) e s) refl
   where
     nothing : bound (world_after rule c before) e s ≡ None → answered ((world_after rule c (before ++ step ∷ since)).part e) (owed e) ≡ true
-    nothing bo = ap (λ v. answered ((world_after rule c (before ++ step ∷ since)).part e) (v e)) ow ∙ ap (λ x. answered ((world_after rule c (before ++ step ∷ since)).part e) (owed_by ((world_after rule c before).part e) count x)) bo
+    nothing bo = ap (λ v. answered ((world_after rule c (before ++ step ∷ since)).part e) (v e)) ow
+        ∙ ap (λ x. answered ((world_after rule c (before ++ step ∷ since)).part e) (owed_by ((world_after rule c before).part e) count x)) bo
 
     go : (x : Option ℕ) → bound (world_after rule c before) e s ≡ x → IsWithheld rule c (before ++ step ∷ since) f
     go None bo = absurd (cc (sym o.unanswered ∙ nothing bo))
     go (Some b) bo = withheld_by rule c before step since f m e owed s q count order b o nx sp ow bo
 
-gone_withheld : (rule : PasidRule) (c : Config) (steps : List Step) (f m e : ℕ) (owed : ℕ → Owed) → e < c.endpoints → (world_after rule c steps).mappings.latest f ≡ Some m → (world_after rule c steps).mappings.state m ≡ Gone owed → answered ((world_after rule c steps).part e) (owed e) ≡ false → IsWithheld rule c steps f
+gone_withheld : (rule : PasidRule) (c : Config) (steps : List Step) (f m e : ℕ) (owed : ℕ → Owed) → e < c.endpoints
+    → (world_after rule c steps).mappings.latest f ≡ Some m → (world_after rule c steps).mappings.state m ≡ Gone owed
+    → answered ((world_after rule c steps).part e) (owed e) ≡ false → IsWithheld rule c steps f
 gone_withheld rule c steps f m e owed lt la g un =
     let x = went rule c steps m owed g in
     subst (λ z. IsWithheld rule c z f) (sym x.steps_are)
     (owed_withheld rule c x.before x.step x.since f m e owed
-    (record { is_endpoint = lt; present = x.present; gone = x.gone; latest = subst (λ z. (world_after rule c z).mappings.latest f ≡ Some m) x.steps_are la; unanswered = subst (λ z. answered ((world_after rule c z).part e) (owed e) ≡ false) x.steps_are un })
+    (record {
+      is_endpoint = lt;
+      present = x.present;
+      gone = x.gone;
+      latest =
+          subst (λ z. (world_after rule c z).mappings.latest f ≡ Some m) x.steps_are la;
+      unanswered =
+          subst (λ z. answered ((world_after rule c z).part e) (owed e) ≡ false) x.steps_are un;
+    })
     x.goes)
 
 pub is_withheld : (rule : PasidRule) (c : Config) (steps : List Step) (f : ℕ) → place (world_after rule c steps) f ≡ Withheld → IsWithheld rule c steps f
@@ -347,7 +414,8 @@ is_withheld rule c steps f h = go ((world_after rule c steps).mappings.latest f)
     go None la h = absurd (cc)
     go (Some m) la h = by ((world_after rule c steps).mappings.state m) refl h
       where
-        by : (z : MappingState) → (world_after rule c steps).mappings.state m ≡ z → place_by (world_after rule c steps) z ≡ Withheld → IsWithheld rule c steps f
+        by : (z : MappingState) → (world_after rule c steps).mappings.state m ≡ z → place_by (world_after rule c steps) z ≡ Withheld
+            → IsWithheld rule c steps f
         by Unmade g h = absurd (cc)
         by Present g h = absurd (cc)
         by (Gone owed) g h = some (all_below_cases (world_after rule c steps).config.endpoints (λ x. answered ((world_after rule c steps).part x) (owed x)))
@@ -355,18 +423,25 @@ is_withheld rule c steps f h = go ((world_after rule c steps).mappings.latest f)
             free : all_below (world_after rule c steps).config.endpoints (λ x. answered ((world_after rule c steps).part x) (owed x)) ≡ true → Free ≡ Withheld
             free a = sym (ap place_of_gone a) ∙ h
 
-            some : (all_below (world_after rule c steps).config.endpoints (λ x. answered ((world_after rule c steps).part x) (owed x)) ≡ true) ⊎ ((j : ℕ) × (j < (world_after rule c steps).config.endpoints) × (answered ((world_after rule c steps).part j) (owed j) ≡ false)) → IsWithheld rule c steps f
+            some : (all_below (world_after rule c steps).config.endpoints (λ x. answered ((world_after rule c steps).part x) (owed x)) ≡ true)
+                ⊎ ((j : ℕ) × (j < (world_after rule c steps).config.endpoints) × (answered ((world_after rule c steps).part j) (owed j) ≡ false))
+                → IsWithheld rule c steps f
             some (inl a) = absurd (cc (free a))
             some (inr x) = gone_withheld rule c steps f m x.0 owed (subst (λ k. x.0 < k.endpoints) (config_kept rule c steps) x.1) la g x.2
 
 -- And back: what is withheld by the look back is owed for.
 
-mapped_latest_at : (rule : PasidRule) (c : Config) (steps : List Step) (f k : ℕ) → (world_after rule c steps).mappings.latest f ≡ Some k → (world_after rule c steps).mappings.state k ≡ Present → IsMapped (world_after rule c steps) f
+mapped_latest_at : (rule : PasidRule) (c : Config) (steps : List Step) (f k : ℕ) → (world_after rule c steps).mappings.latest f ≡ Some k
+    → (world_after rule c steps).mappings.state k ≡ Present → IsMapped (world_after rule c steps) f
 mapped_latest_at rule c steps f k la g = present_mapped (world_after rule c steps) f k (always rule c steps) la g
 
 -- while the frame isn't mapped, its latest mapping stays
-latest_stays : (rule : PasidRule) (c : Config) (before : List Step) (step : Step) (since : List Step) (f m : ℕ) → ((some rest : List Step) → some ++ rest ≡ since → IsMapped (world_after rule c (before ++ step ∷ some)) f → ⊥) → (rest some : List Step) → some ++ rest ≡ since → (world_after rule c (before ++ step ∷ some)).mappings.latest f ≡ Some m → (world_after rule c (before ++ step ∷ since)).mappings.latest f ≡ Some m
-latest_stays rule c before step since f m un [] some sum la = subst (λ z. (world_after rule c (before ++ step ∷ z)).mappings.latest f ≡ Some m) (sym (append_none some) ∙ sum) la
+latest_stays : (rule : PasidRule) (c : Config) (before : List Step) (step : Step) (since : List Step) (f m : ℕ)
+    → ((some rest : List Step) → some ++ rest ≡ since → IsMapped (world_after rule c (before ++ step ∷ some)) f → ⊥) → (rest some : List Step) → some
+    ++ rest ≡ since → (world_after rule c (before ++ step ∷ some)).mappings.latest f ≡ Some m
+    → (world_after rule c (before ++ step ∷ since)).mappings.latest f ≡ Some m
+latest_stays rule c before step since f m un [] some sum la =
+    subst (λ z. (world_after rule c (before ++ step ∷ z)).mappings.latest f ≡ Some m) (sym (append_none some) ∙ sum) la
 latest_stays rule c before step since f m un (s ∷ rest) some sum la =
     latest_stays rule c before step since f m un rest (some ++ s ∷ []) (append_assoc some (s ∷ []) rest ∙ sum)
     (go ((moves u s (always rule c (before ++ step ∷ some))).latest_new f))
@@ -377,17 +452,28 @@ latest_stays rule c before step since f m un (s ∷ rest) some sum la =
     after : world_after rule c (before ++ step ∷ (some ++ s ∷ [])) ≡ next u s
     after = ap (world_after rule c) (one_more before step some s) ∙ after_one rule c (before ++ step ∷ some) s
 
-    go : ((next u s).mappings.latest f ≡ u.mappings.latest f) ⊎ ((z : ℕ) × ((next u s).mappings.latest f ≡ Some z) × ((next u s).mappings.state z ≡ Present)) → (world_after rule c (before ++ step ∷ (some ++ s ∷ []))).mappings.latest f ≡ Some m
+    go : ((next u s).mappings.latest f ≡ u.mappings.latest f)
+        ⊎ ((z : ℕ) × ((next u s).mappings.latest f ≡ Some z) × ((next u s).mappings.state z ≡ Present))
+        → (world_after rule c (before ++ step ∷ (some ++ s ∷ []))).mappings.latest f ≡ Some m
     go (inl x) = ap (λ w. w.mappings.latest f) after ∙ x ∙ la
     go (inr x) =
         absurd (un (some ++ s ∷ []) rest (append_assoc some (s ∷ []) rest ∙ sum)
-        (mapped_latest_at rule c (before ++ step ∷ (some ++ s ∷ [])) f x.0 (ap (λ w. w.mappings.latest f) after ∙ x.1) (ap (λ w. w.mappings.state x.0) after ∙ x.2)))
+        (mapped_latest_at rule c (before ++ step ∷ (some ++ s ∷ [])) f x.0 (ap (λ w. w.mappings.latest f) after ∙ x.1)
+        (ap (λ w. w.mappings.state x.0) after ∙ x.2)))
 
 -- an endpoint with an unreleased binding of the space, which hasn't answered for it, hasn't answered what it owes
-not_answered : (rule : PasidRule) (c : Config) (before : List Step) (step : Step) (since : List Step) (m e b t page : ℕ) (owed : ℕ → Owed) → (world_after rule c before).mappings.space m ≡ t → (world_after rule c before).mappings.page m ≡ page → is_unreleased (((world_after rule c before).part e).stage b) ≡ true → ((world_after rule c before).part e).space b ≡ t → (HasAnswered ((world_after rule c before).part e) ((world_after rule c (before ++ step ∷ [])).part e) ((world_after rule c (before ++ step ∷ since)).part e) b page → ⊥) → Goes (world_after rule c before) (next (world_after rule c before) step) m owed → answered ((world_after rule c (before ++ step ∷ since)).part e) (owed e) ≡ true → ⊥
+not_answered : (rule : PasidRule) (c : Config) (before : List Step) (step : Step) (since : List Step) (m e b t page : ℕ) (owed : ℕ → Owed)
+    → (world_after rule c before).mappings.space m ≡ t → (world_after rule c before).mappings.page m ≡ page
+    → is_unreleased (((world_after rule c before).part e).stage b) ≡ true → ((world_after rule c before).part e).space b ≡ t
+    → (HasAnswered ((world_after rule c before).part e) ((world_after rule c (before ++ step ∷ [])).part e)
+    ((world_after rule c (before ++ step ∷ since)).part e) b page → ⊥)
+    → Goes (world_after rule c before) (next (world_after rule c before) step) m owed
+    → answered ((world_after rule c (before ++ step ∷ since)).part e) (owed e) ≡ true → ⊥
 not_answered rule c before step since m e b t page owed mt mp u bt silent (dropped s sp none ow) h = none e b u (bt ∙ sym mt ∙ sp)
 not_answered rule c before step since m e b t page owed mt mp u bt silent (unmapped s q count order nx sp r ow) h =
-    silent (answers_if ((world_after rule c before).part e) ((world_after rule c (before ++ step ∷ since)).part e) ((world_after rule c (before ++ step ∷ [])).part e) b page q count order (cookie_of (world_after rule c before) s e) (subst (λ z. in_range q (count * 2 ^ order) z ≡ true) mp r) u
+    silent (answers_if ((world_after rule c before).part e) ((world_after rule c (before ++ step ∷ since)).part e)
+    ((world_after rule c (before ++ step ∷ [])).part e) b page q count order (cookie_of (world_after rule c before) s e)
+    (subst (λ z. in_range q (count * 2 ^ order) z ≡ true) mp r) u
     (then_part rule c before step e s q count order b nx bo)
     (ap (answered ((world_after rule c (before ++ step ∷ since)).part e)) (sym owes) ∙ h))
   where
@@ -401,7 +487,12 @@ bool_false : (b : Bool) → (b ≡ true → ⊥) → b ≡ false
 bool_false true h = absurd (h refl)
 bool_false false h = refl
 
-withheld_after : (rule : PasidRule) (c : Config) (before : List Step) (step : Step) (since : List Step) (f t q e b : ℕ) → IsAt (world_after rule c before) f t q → ((some rest : List Step) → some ++ rest ≡ since → IsMapped (world_after rule c (before ++ step ∷ some)) f → ⊥) → e < c.endpoints → is_unreleased (((world_after rule c before).part e).stage b) ≡ true → ((world_after rule c before).part e).space b ≡ t → (HasAnswered ((world_after rule c before).part e) ((world_after rule c (before ++ step ∷ [])).part e) ((world_after rule c (before ++ step ∷ since)).part e) b q → ⊥) → place (world_after rule c (before ++ step ∷ since)) f ≡ Withheld
+withheld_after : (rule : PasidRule) (c : Config) (before : List Step) (step : Step) (since : List Step) (f t q e b : ℕ)
+    → IsAt (world_after rule c before) f t q
+    → ((some rest : List Step) → some ++ rest ≡ since → IsMapped (world_after rule c (before ++ step ∷ some)) f → ⊥) → e < c.endpoints
+    → is_unreleased (((world_after rule c before).part e).stage b) ≡ true → ((world_after rule c before).part e).space b ≡ t
+    → (HasAnswered ((world_after rule c before).part e) ((world_after rule c (before ++ step ∷ [])).part e)
+    ((world_after rule c (before ++ step ∷ since)).part e) b q → ⊥) → place (world_after rule c (before ++ step ∷ since)) f ≡ Withheld
 withheld_after rule c before step since f t q e b is un lt u bt silent =
     by ((moves w step i).present_on m (at.0))
   where
@@ -424,9 +515,11 @@ withheld_after rule c before step since f t q e b is un lt u bt silent =
     first = after_one rule c before step
 
     not_new : (k : ℕ) → (next w step).mappings.latest f ≡ Some k → (next w step).mappings.state k ≡ Present → ⊥
-    not_new k la g = un [] since refl (mapped_latest_at rule c (before ++ step ∷ []) f k (ap (λ v. v.mappings.latest f) first ∙ la) (ap (λ v. v.mappings.state k) first ∙ g))
+    not_new k la g = un [] since refl
+        (mapped_latest_at rule c (before ++ step ∷ []) f k (ap (λ v. v.mappings.latest f) first ∙ la) (ap (λ v. v.mappings.state k) first ∙ g))
 
-    stays : ((next w step).mappings.latest f ≡ w.mappings.latest f) ⊎ ((z : ℕ) × ((next w step).mappings.latest f ≡ Some z) × ((next w step).mappings.state z ≡ Present)) → (next w step).mappings.latest f ≡ Some m
+    stays : ((next w step).mappings.latest f ≡ w.mappings.latest f)
+        ⊎ ((z : ℕ) × ((next w step).mappings.latest f ≡ Some z) × ((next w step).mappings.state z ≡ Present)) → (next w step).mappings.latest f ≡ Some m
     stays (inl x) = x ∙ la
     stays (inr x) = absurd (not_new x.0 x.1 x.2)
 
@@ -436,16 +529,20 @@ withheld_after rule c before step since f t q e b is un lt u bt silent =
     end : (world_after rule c (before ++ step ∷ since)).mappings.latest f ≡ Some m
     end = latest_stays rule c before step since f m un since [] refl (ap (λ v. v.mappings.latest f) first ∙ latest)
 
-    by : ((next w step).mappings.state m ≡ Present) ⊎ ((owed : ℕ → Owed) × ((next w step).mappings.state m ≡ Gone owed) × Goes w (next w step) m owed) → place (world_after rule c (before ++ step ∷ since)) f ≡ Withheld
+    by : ((next w step).mappings.state m ≡ Present)
+        ⊎ ((owed : ℕ → Owed) × ((next w step).mappings.state m ≡ Gone owed) × Goes w (next w step) m owed)
+        → place (world_after rule c (before ++ step ∷ since)) f ≡ Withheld
     by (inl g) = absurd (not_new m latest g)
     by (inr x) =
         withheld_at (world_after rule c (before ++ step ∷ since)) f m e x.0 end
         ((later_from_next rule c before step since).gone_on m x.0 x.1)
         (subst (λ k. e < k.endpoints) (sym (config_kept rule c (before ++ step ∷ since))) lt)
-        (bool_false (answered ((world_after rule c (before ++ step ∷ since)).part e) (x.0 e)) (λ h. not_answered rule c before step since m e b t q x.0 at.1 at.2 u bt silent x.2 h))
+        (bool_false (answered ((world_after rule c (before ++ step ∷ since)).part e) (x.0 e))
+        (λ h. not_answered rule c before step since m e b t q x.0 at.1 at.2 u bt silent x.2 h))
 
 pub place_withheld : (rule : PasidRule) (c : Config) (steps : List Step) (f : ℕ) → IsWithheld rule c steps f → place (world_after rule c steps) f ≡ Withheld
 place_withheld rule c steps f x =
     subst (λ z. place (world_after rule c z) f ≡ Withheld) (sym x.steps_are)
     (withheld_after rule c x.before x.step x.since f x.space x.page x.endpoint x.binding x.was_there x.not_mapped_since x.is_endpoint x.unreleased x.of_space
-    (subst (λ z. HasAnswered ((world_after rule c x.before).part x.endpoint) ((world_after rule c (x.before ++ x.step ∷ [])).part x.endpoint) ((world_after rule c z).part x.endpoint) x.binding x.page → ⊥) x.steps_are x.silent))
+    (subst (λ z. HasAnswered ((world_after rule c x.before).part x.endpoint) ((world_after rule c (x.before ++ x.step ∷ [])).part x.endpoint)
+    ((world_after rule c z).part x.endpoint) x.binding x.page → ⊥) x.steps_are x.silent))

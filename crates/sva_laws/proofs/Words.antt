@@ -41,7 +41,8 @@ unfolding any_below
 any_below-false zero p h j l = absurd (omega arith)
 any_below-false (suc n) p h j l = any_next n j p (any_below n p) (λ e. any_below-false n p e j) h (omega arith)
 
-any_step : (n : ℕ) (p : ℕ → Bool) (b c : Bool) → p n ≡ c → (b ≡ true → (j : ℕ) × (j < n) × (p j ≡ true)) → (if c then true else b) ≡ true → (j : ℕ) × (j < suc n) × (p j ≡ true)
+any_step : (n : ℕ) (p : ℕ → Bool) (b c : Bool) → p n ≡ c → (b ≡ true → (j : ℕ) × (j < n) × (p j ≡ true)) → (if c then true else b) ≡ true → (j : ℕ)
+    × (j < suc n) × (p j ≡ true)
 any_step n p b true e f h = (n, omega arith, e)
 any_step n p b false e f h = let (j, l, k) = f h in (j, omega arith, k)
 
@@ -79,18 +80,22 @@ unfolding all_below
 all_below_cases zero p = inl refl
 all_below_cases (suc n) p = more n p (all_below n p) (p n) refl refl (all_below_cases n p)
   where
-    more : (n : ℕ) (p : ℕ → Bool) (b c : Bool) → all_below n p ≡ b → p n ≡ c → (b ≡ true) ⊎ ((j : ℕ) × (j < n) × (p j ≡ false)) → ((if c then b else false) ≡ true) ⊎ ((j : ℕ) × (j < suc n) × (p j ≡ false))
+    more : (n : ℕ) (p : ℕ → Bool) (b c : Bool) → all_below n p ≡ b → p n ≡ c → (b ≡ true) ⊎ ((j : ℕ) × (j < n) × (p j ≡ false))
+        → ((if c then b else false) ≡ true) ⊎ ((j : ℕ) × (j < suc n) × (p j ≡ false))
     more n p b false e h x = inr (n, omega arith, h)
     more n p b true e h (inl x) = inl x
     more n p b true e h (inr (j, l, x)) = inr (j, omega arith, x)
 
 -- the lowest number that passes
-pub lowest_cases : (n : ℕ) (p : ℕ → Bool) → ((lowest n p ≡ n) × ((j : ℕ) → j < n → p j ≡ false)) ⊎ ((lowest n p < n) × (p (lowest n p) ≡ true) × ((j : ℕ) → j < lowest n p → p j ≡ false))
+pub lowest_cases : (n : ℕ) (p : ℕ → Bool) → ((lowest n p ≡ n) × ((j : ℕ) → j < n → p j ≡ false))
+    ⊎ ((lowest n p < n) × (p (lowest n p) ≡ true) × ((j : ℕ) → j < lowest n p → p j ≡ false))
 unfolding lowest
 lowest_cases zero p = inl (refl, λ j l. absurd (omega arith))
 lowest_cases (suc n) p = next n p (lowest n p) (p n) (lowest n p == n) refl refl (lowest_cases n p)
   where
-    next : (n : ℕ) (p : ℕ → Bool) (k : ℕ) (b t : Bool) → p n ≡ b → (k == n) ≡ t → ((k ≡ n) × ((j : ℕ) → j < n → p j ≡ false)) ⊎ ((k < n) × (p k ≡ true) × ((j : ℕ) → j < k → p j ≡ false)) → ((step_lowest t k n b ≡ suc n) × ((j : ℕ) → j < suc n → p j ≡ false)) ⊎ ((step_lowest t k n b < suc n) × (p (step_lowest t k n b) ≡ true) × ((j : ℕ) → j < step_lowest t k n b → p j ≡ false))
+    next : (n : ℕ) (p : ℕ → Bool) (k : ℕ) (b t : Bool) → p n ≡ b → (k == n) ≡ t → ((k ≡ n) × ((j : ℕ) → j < n → p j ≡ false))
+        ⊎ ((k < n) × (p k ≡ true) × ((j : ℕ) → j < k → p j ≡ false)) → ((step_lowest t k n b ≡ suc n) × ((j : ℕ) → j < suc n → p j ≡ false))
+        ⊎ ((step_lowest t k n b < suc n) × (p (step_lowest t k n b) ≡ true) × ((j : ℕ) → j < step_lowest t k n b → p j ≡ false))
     next n p k b false e f (inl x) = absurd (grind (arith, nat_tests))
     next n p k b false e f (inr x) = inr (omega arith, x.1, x.2)
     next n p k true true e f (inl x) = inr (omega arith, e, x.1)
@@ -110,7 +115,8 @@ lowest_passes n p h = elim (lowest_cases n p) [ inl x ↦ absurd (grind (arith, 
 pub find_passes : (n : ℕ) (p : ℕ → Bool) (k : ℕ) → find n p ≡ Some k → (k < n) × (p k ≡ true)
 find_passes n p k h = go (lowest_cases n p)
   where
-    go : ((lowest n p ≡ n) × ((j : ℕ) → j < n → p j ≡ false)) ⊎ ((lowest n p < n) × (p (lowest n p) ≡ true) × ((j : ℕ) → j < lowest n p → p j ≡ false)) → (k < n) × (p k ≡ true)
+    go : ((lowest n p ≡ n) × ((j : ℕ) → j < n → p j ≡ false))
+        ⊎ ((lowest n p < n) × (p (lowest n p) ≡ true) × ((j : ℕ) → j < lowest n p → p j ≡ false)) → (k < n) × (p k ≡ true)
     go (inl x) = absurd (nothing (lowest n p) x.0 h)
       where
         nothing : (z : ℕ) → z ≡ n → if_found (nat_lt z n) z ≢ Some k

@@ -1,6 +1,7 @@
 -- Laws of the definitions beside the headline: what answers tell, what labels find, what can't occur, and how many there are.
 use Rattle.sva_model.specs.State.{PasidRule}
-use Rattle.std.specs.Prelude.{◌≡◌, ◌≢◌, ◌⊎◌, ◌↔◌, ℕ, zero, suc, ◌+◌, ◌^◌, ◌<◌, ◌≤◌, Bool, true, false, Option, Some, None, List, [], ◌∷◌, ◌++◌, length, slice_get, Ok}
+use Rattle.std.specs.Prelude.{◌≡◌, ◌≢◌, ◌⊎◌, ◌↔◌, ℕ, zero, suc, ◌+◌, ◌^◌, ◌<◌, ◌≤◌, Bool, true, false, Option, Some, None, List, [], ◌∷◌, ◌++◌, length}
+use Rattle.std.specs.Prelude.{slice_get, Ok}
 use Rattle.sva_step.specs.declared.answers.Answer.{Answer}
 use Rattle.sva_step.specs.declared.answers.Answer.TheVariants.{Frame, FreeFrames, WithheldFrames, RangeFree, RangeWithheld}
 use Rattle.sva_step.specs.declared.limits.Config.{Config}
@@ -8,9 +9,11 @@ use Rattle.sva_step.specs.declared.steps.Step.{Step}
 use Rattle.sva_step.specs.declared.steps.Step.TheVariants.{Map, Unmap, UnmapRange}
 use Rattle.sva_model.specs.Words.{count_below, select}
 use Rattle.sva_model.specs.Message.{Code}
-use Rattle.sva_model.specs.Message.Message.{StartMessage, StopMessage, ResetMessage, CompletionMessage, InvalidateMessage, ResponseMessage, RequestMessage, InvalidatedMessage, PageRequestMessage, MarkerMessage, ResetDoneMessage}
+use Rattle.sva_model.specs.Message.Message.{StartMessage, StopMessage, ResetMessage, CompletionMessage, InvalidateMessage, ResponseMessage, RequestMessage}
+use Rattle.sva_model.specs.Message.Message.{InvalidatedMessage, PageRequestMessage, MarkerMessage, ResetDoneMessage}
 use Rattle.sva_model.specs.State.{About, GroupState, Mappings, OrderState, Part, World}
-use Rattle.sva_model.specs.State.About.{StartOf, StopOf, ResetOrder, CompletionOf, InvalidateOf, ResponseOf, RequestOf, InvalidatedOf, PageRequestOf, MarkerOf, ResetDone}
+use Rattle.sva_model.specs.State.About.{StartOf, StopOf, ResetOrder, CompletionOf, InvalidateOf, ResponseOf, RequestOf, InvalidatedOf, PageRequestOf}
+use Rattle.sva_model.specs.State.About.{MarkerOf, ResetDone}
 use Rattle.sva_model.specs.State.MappingState.{Present}
 use Rattle.sva_model.specs.State.Phase.{Open, Cleared}
 use Rattle.sva_model.specs.State.Stage.{Stopping, Invalidating}
@@ -55,11 +58,13 @@ abbrev pub AlwaysAddsUp : Type 0
 AlwaysAddsUp =
     (rule : PasidRule) (config : Config) (steps : List Step)
     → Fits config
-    → (counts (world_after rule config steps)).free + (counts (world_after rule config steps)).mapped + (counts (world_after rule config steps)).withheld ≡ config.frames
+    → (counts (world_after rule config steps)).free + (counts (world_after rule config steps)).mapped +
+    (counts (world_after rule config steps)).withheld ≡ config.frames
 
 -- the place that the step reads is Withheld exactly where the look back over the list says so
 abbrev pub AlwaysWithheldExactly : Type 0
-AlwaysWithheldExactly = (rule : PasidRule) (config : Config) (steps : List Step) (f : ℕ) → Fits config → (place (world_after rule config steps) f ≡ Withheld) ↔ IsWithheld rule config steps f
+AlwaysWithheldExactly = (rule : PasidRule) (config : Config) (steps : List Step) (f : ℕ) → Fits config
+    → (place (world_after rule config steps) f ≡ Withheld) ↔ IsWithheld rule config steps f
 
 -- a withheld frame is free after the very step that leaves no endpoint in debt for it, and isn't mapped again by that step
 abbrev pub FreeByTheLastAnswer : Type 0
@@ -79,8 +84,10 @@ pub record IsTold (rule : PasidRule) (config : Config) (steps : List Step) (of_s
   pub one_a_page : length frames ≡ count
   pub was_there : (k f : ℕ) → slice_get frames k ≡ Some f → IsAt (world_after rule config steps) f space (page + k)
   pub said : (answer ≡ FreeFrames frames) ⊎ (answer ≡ WithheldFrames frames)
-  pub free : (k f : ℕ) → slice_get frames k ≡ Some f → (answer ≡ FreeFrames frames) ↔ (place (world_after rule config (steps ++ Unmap of_space page count ∷ [])) f ≡ Free)
-  pub withheld : (k f : ℕ) → slice_get frames k ≡ Some f → (answer ≡ WithheldFrames frames) ↔ IsWithheld rule config (steps ++ Unmap of_space page count ∷ []) f
+  pub free : (k f : ℕ) → slice_get frames k ≡ Some f
+      → (answer ≡ FreeFrames frames) ↔ (place (world_after rule config (steps ++ Unmap of_space page count ∷ [])) f ≡ Free)
+  pub withheld : (k f : ℕ) → slice_get frames k ≡ Some f
+      → (answer ≡ WithheldFrames frames) ↔ IsWithheld rule config (steps ++ Unmap of_space page count ∷ []) f
 
 abbrev pub AlwaysTold : Type 0
 AlwaysTold =
@@ -152,7 +159,8 @@ pub record IsFound (p : Part) : Type 0 where
   pub stop : (c b : ℕ) → p.message c ≡ Some (StopOf b) → IsBearer p b
   pub request : (c r : ℕ) → p.phase ≡ Open → p.message c ≡ Some (RequestOf r) → (IsBearer p (p.request_binding r)) × (p.at_tag (p.request_tag r) ≡ Some r)
   -- a completion finds its request by the tag while the endpoint hasn't reset itself; from then until the reset-done none is out
-  pub completion : (c r : ℕ) (found : Option ℕ) → ((d : ℕ) → p.phase ≢ Cleared d) → p.message c ≡ Some (CompletionOf r found) → p.at_tag (p.request_tag r) ≡ Some r
+  pub completion : (c r : ℕ) (found : Option ℕ) → ((d : ℕ) → p.phase ≢ Cleared d) → p.message c ≡ Some (CompletionOf r found)
+      → p.at_tag (p.request_tag r) ≡ Some r
   pub none_out : (c r : ℕ) → p.phase ≡ Cleared c → is_out (p.request r) ≡ false
   -- in every phase a translation request that is out, and a group of page requests that isn't whole or awaits its response,
   -- is of the binding that bears the PASID, which the endpoint has started
@@ -160,7 +168,8 @@ pub record IsFound (p : Part) : Type 0 where
   -- a binding whose PASID the endpoint has started bears it
   pub started : (b : ℕ) → p.pasid_state b ≢ Off → IsBearer p b
   pub asker : (g : ℕ) → (p.group g ≡ Unfinished) ⊎ (p.group g ≡ Awaiting) → (IsBearer p (p.asker g)) × (p.pasid_state (p.asker g) ≢ Off)
-  pub invalidate : (c k : ℕ) → p.message c ≡ Some (InvalidateOf k) → (p.order_state k ≡ Sent) × (p.at_itag (p.itag k) ≡ Some k) × (IsBearer p (binding_of (p.order k)))
+  pub invalidate : (c k : ℕ) → p.message c ≡ Some (InvalidateOf k) → (p.order_state k ≡ Sent) × (p.at_itag (p.itag k) ≡ Some k)
+      × (IsBearer p (binding_of (p.order k)))
   pub cached : (r m : ℕ) → p.held r ≡ Some m → IsBearer p (p.request_binding r)
   -- of one binding and page one translation is cached: a new one replaces the older
   pub one_held :
@@ -173,7 +182,8 @@ pub record IsFound (p : Part) : Type 0 where
   pub in_use : (u : ℕ) → p.use_state u ≡ Running → IsBearer p (p.use_binding u)
   -- at an open unit a page request in flight or arrived, and a group that the host has open, finds the group at the endpoint
   -- by its index; so no two groups that the host has open have the same index
-  pub page_request : (r : ℕ) → p.phase ≡ Open → (p.page_request r ≡ InFlight) ⊎ (p.page_request r ≡ Arrived) → p.at_index (p.index (p.group_of r)) ≡ Some (p.group_of r)
+  pub page_request : (r : ℕ) → p.phase ≡ Open → (p.page_request r ≡ InFlight) ⊎ (p.page_request r ≡ Arrived) → p.at_index (p.index (p.group_of r))
+      ≡ Some (p.group_of r)
   pub open_group : (g : ℕ) → p.phase ≡ Open → is_open_group (p.host_group g) ≡ true → p.at_index (p.index g) ≡ Some g
   pub one_group : (g h : ℕ) → p.phase ≡ Open → is_open_group (p.host_group g) ≡ true → is_open_group (p.host_group h) ≡ true → p.index g ≡ p.index h → g ≡ h
   -- each is in flight once
@@ -201,13 +211,16 @@ pub record IsCarried (ms : Mappings) (p : Part) : Type 0 where
   pub reset : (c : ℕ) → p.message c ≡ Some ResetOrder → p.carried c ≡ ResetMessage
   -- a Completion: the tag of its request; the frame of the mapping that it found, which may be read, and written if the
   -- mapping may; or no translation, which has neither flag
-  pub completion : (c r m : ℕ) → p.message c ≡ Some (CompletionOf r (Some m)) → p.carried c ≡ CompletionMessage (p.request_tag r) (ms.frame m) true (ms.write m)
+  pub completion : (c r m : ℕ) → p.message c ≡ Some (CompletionOf r (Some m)) → p.carried c
+      ≡ CompletionMessage (p.request_tag r) (ms.frame m) true (ms.write m)
   pub no_translation : (c r : ℕ) → p.message c ≡ Some (CompletionOf r None) → p.carried c ≡ CompletionMessage (p.request_tag r) 0 false false
   -- an Invalidate: the ITag of its order, the PASID of the order's binding, and its range by its code, or all pages
-  pub invalidate : (c k : ℕ) → p.message c ≡ Some (InvalidateOf k) → p.carried c ≡ InvalidateMessage (p.itag k) (p.pasid (binding_of (p.order k))) (scope_of (extent_of (p.order k)))
+  pub invalidate : (c k : ℕ) → p.message c ≡ Some (InvalidateOf k) → p.carried c
+      ≡ InvalidateMessage (p.itag k) (p.pasid (binding_of (p.order k))) (scope_of (extent_of (p.order k)))
   -- a Response: the PASID under which the host filed its group, the group's index, and the code
   pub response : (c g : ℕ) (code : Code) → p.message c ≡ Some (ResponseOf g code) → p.carried c ≡ ResponseMessage (p.pasid (p.filed_under g)) (p.index g) code
-  pub request : (c r : ℕ) → p.message c ≡ Some (RequestOf r) → p.carried c ≡ RequestMessage (p.request_tag r) (p.pasid (p.request_binding r)) (p.request_page r)
+  pub request : (c r : ℕ) → p.message c ≡ Some (RequestOf r) → p.carried c
+      ≡ RequestMessage (p.request_tag r) (p.pasid (p.request_binding r)) (p.request_page r)
   -- an Invalidate Completion: the ITags of the orders that it names, and the count by which each of them is owed, as it is
   -- read
   pub invalidated :
@@ -217,7 +230,8 @@ pub record IsCarried (ms : Mappings) (p : Part) : Type 0 where
       × (p.carried c ≡ InvalidatedMessage vector field) × (field < 8) × IsVectorOf p names vector
       × ((k : ℕ) → names k ≡ true → (left : ℕ) × (p.order_state k ≡ Owing (count_read field) left))
   -- a page request: the PASID of its group's asker, the group's index, and what it asks
-  pub page_request : (c r : ℕ) → p.message c ≡ Some (PageRequestOf r) → p.carried c ≡ PageRequestMessage (p.pasid (p.asker (p.group_of r))) (p.index (p.group_of r)) (p.asked_page r) (p.asks_read r) (p.asks_write r) (p.is_last r)
+  pub page_request : (c r : ℕ) → p.message c ≡ Some (PageRequestOf r) → p.carried c
+      ≡ PageRequestMessage (p.pasid (p.asker (p.group_of r))) (p.index (p.group_of r)) (p.asked_page r) (p.asks_read r) (p.asks_write r) (p.is_last r)
   pub marker : (c b : ℕ) → p.message c ≡ Some (MarkerOf b) → p.carried c ≡ MarkerMessage (p.pasid b)
   pub reset_done : (c : ℕ) → p.message c ≡ Some ResetDone → p.carried c ≡ ResetDoneMessage
 
@@ -237,7 +251,8 @@ pub record NeverOccurs (p : Part) : Type 0 where
   pub open_group : (g : ℕ) → p.phase ≡ Open → is_open_group (p.host_group g) ≡ true → is_before_invalidating (p.stage (p.filed_under g)) ≡ true
   pub arrived : (r : ℕ) → p.page_request r ≡ Arrived → is_before_invalidating (p.stage (p.asker (p.group_of r))) ≡ true
   -- a worker that replies at an open unit for a binding that is Invalidating, whether or not a reset has dropped the job
-  pub reply : (g worker invalidation wait : ℕ) → p.phase ≡ Open → (p.host_group g ≡ InHand worker) ⊎ (p.host_group g ≡ InHandDiscarded worker) → p.stage (p.filed_under g) ≢ Invalidating invalidation wait
+  pub reply : (g worker invalidation wait : ℕ) → p.phase ≡ Open → (p.host_group g ≡ InHand worker) ⊎ (p.host_group g ≡ InHandDiscarded worker)
+      → p.stage (p.filed_under g) ≢ Invalidating invalidation wait
   -- a worker that holds, at an open unit, a job that a reset has dropped, for a binding that is Live, Stopping or Draining
   pub discarded : (g worker : ℕ) → p.phase ≡ Open → p.host_group g ≡ InHandDiscarded worker → is_before_invalidating (p.stage (p.filed_under g)) ≡ false
 
@@ -287,7 +302,8 @@ is_answerable _ = false
 -- The places of a group on the way to its response: its last request is in flight or arrived; or the host has it whole, as
 -- a job or in a worker's hand; or the response is in flight. The host's state of the group tells the three apart.
 pub data IsOnItsWay (p : Part) (g : ℕ) : Type 0 where
-  asked : (last : ℕ) → p.group_of last ≡ g → p.is_last last ≡ true → (p.page_request last ≡ InFlight) ⊎ (p.page_request last ≡ Arrived) → (p.host_group g ≡ NotFiled) ⊎ (p.host_group g ≡ PartFiled) → IsOnItsWay p g
+  asked : (last : ℕ) → p.group_of last ≡ g → p.is_last last ≡ true → (p.page_request last ≡ InFlight) ⊎ (p.page_request last ≡ Arrived)
+      → (p.host_group g ≡ NotFiled) ⊎ (p.host_group g ≡ PartFiled) → IsOnItsWay p g
   is_job : p.host_group g ≡ Job → IsOnItsWay p g
   in_hand : (worker : ℕ) → p.host_group g ≡ InHand worker → IsOnItsWay p g
   answered : (c : ℕ) (code : Code) → p.message c ≡ Some (ResponseOf g code) → p.host_group g ≡ Replied → IsOnItsWay p g
@@ -299,7 +315,8 @@ pub record IsUnderWay (n : ℕ) (p : Part) : Type 0 where
   pub owing : (k count left : ℕ) → p.order_state k ≡ Owing count left → (0 < left) × (left ≤ count) × (count ≤ 8)
   pub never_lapsed : (k : ℕ) → p.phase ≡ Open → p.order_state k ≢ Lapsed
   -- each translation request that is out has its request or its completion in flight
-  pub request : (r : ℕ) → p.phase ≡ Open → is_out (p.request r) ≡ true → (c : ℕ) × ((p.message c ≡ Some (RequestOf r)) ⊎ ((found : Option ℕ) × (p.message c ≡ Some (CompletionOf r found))))
+  pub request : (r : ℕ) → p.phase ≡ Open → is_out (p.request r) ≡ true → (c : ℕ)
+      × ((p.message c ≡ Some (RequestOf r)) ⊎ ((found : Option ℕ) × (p.message c ≡ Some (CompletionOf r found))))
   -- a page request is in flight exactly where a message in flight speaks of it, and one does
   pub asked : (r : ℕ) → (p.page_request r ≡ InFlight) ↔ ((c : ℕ) × (p.message c ≡ Some (PageRequestOf r)))
   pub asked_once : (c d r : ℕ) → p.message c ≡ Some (PageRequestOf r) → p.message d ≡ Some (PageRequestOf r) → c ≡ d
@@ -317,7 +334,8 @@ pub record IsUnderWay (n : ℕ) (p : Part) : Type 0 where
       → p.group_of r ≡ p.group_of other
       → r ≡ other
   -- while a page request of it is in flight or arrived, the host doesn't have the group whole
-  pub unfiled : (r : ℕ) → p.phase ≡ Open → (p.page_request r ≡ InFlight) ⊎ (p.page_request r ≡ Arrived) → (p.host_group (p.group_of r) ≡ NotFiled) ⊎ (p.host_group (p.group_of r) ≡ PartFiled)
+  pub unfiled : (r : ℕ) → p.phase ≡ Open → (p.page_request r ≡ InFlight) ⊎ (p.page_request r ≡ Arrived) → (p.host_group (p.group_of r) ≡ NotFiled)
+      ⊎ (p.host_group (p.group_of r) ≡ PartFiled)
   -- a wait is done only behind orders that are done or void
   pub ahead : (wait k : ℕ) → is_wait (p.order wait) ≡ true → p.order_state wait ≡ Done → k < wait → (p.order_state k ≡ Done) ⊎ (p.order_state k ≡ Void)
   -- an order is void only by a reset: at an open unit a reset-done has been delivered
@@ -325,10 +343,12 @@ pub record IsUnderWay (n : ℕ) (p : Part) : Type 0 where
   pub response_once : (c d g : ℕ) (code other : Code) → p.message c ≡ Some (ResponseOf g code) → p.message d ≡ Some (ResponseOf g other) → c ≡ d
 
 abbrev pub AlwaysUnderWay : Type 0
-AlwaysUnderWay = (rule : PasidRule) (config : Config) (steps : List Step) (e : ℕ) → Fits config → IsUnderWay (world_after rule config steps).messages ((world_after rule config steps).part e)
+AlwaysUnderWay = (rule : PasidRule) (config : Config) (steps : List Step) (e : ℕ) → Fits config
+    → IsUnderWay (world_after rule config steps).messages ((world_after rule config steps).part e)
 
 abbrev pub AlwaysCarried : Type 0
-AlwaysCarried = (rule : PasidRule) (config : Config) (steps : List Step) (e : ℕ) → Fits config → IsCarried (world_after rule config steps).mappings ((world_after rule config steps).part e)
+AlwaysCarried = (rule : PasidRule) (config : Config) (steps : List Step) (e : ℕ) → Fits config
+    → IsCarried (world_after rule config steps).mappings ((world_after rule config steps).part e)
 
 -- A worker's hand holds a job that was made, of a group that is in that worker's hand at the host, whether or not a reset has
 -- dropped it since; so no two hands hold jobs of the same group. And back: of a group that is in a worker's hand, that worker
@@ -338,7 +358,8 @@ pub record HoldsJobs (w : World) : Type 0 where
   pub in_hand :
       (worker job : ℕ)
       → w.hand worker ≡ Some job
-      → ((w.part (w.job job).endpoint).host_group (w.job job).group ≡ InHand worker) ⊎ ((w.part (w.job job).endpoint).host_group (w.job job).group ≡ InHandDiscarded worker)
+      → ((w.part (w.job job).endpoint).host_group (w.job job).group ≡ InHand worker)
+      ⊎ ((w.part (w.job job).endpoint).host_group (w.job job).group ≡ InHandDiscarded worker)
   pub one_hand :
       (worker other job same : ℕ)
       → w.hand worker ≡ Some job

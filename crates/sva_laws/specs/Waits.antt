@@ -36,7 +36,8 @@ pub record HasFront (cookies : ℕ) (p : Part) : Type 0 where
   pub invalidating : (b k wait c : ℕ) (x : Bool) → p.stage b ≡ Invalidating k wait → p.order wait ≡ Wait c x → (p.order_state wait ≡ Done) ↔ (c < p.front)
 
 abbrev pub AlwaysHasFront : Type 0
-AlwaysHasFront = (rule : PasidRule) (config : Config) (steps : List Step) (e : ℕ) → Fits config → HasFront (world_after rule config steps).cookies ((world_after rule config steps).part e)
+AlwaysHasFront = (rule : PasidRule) (config : Config) (steps : List Step) (e : ℕ) → Fits config
+    → HasFront (world_after rule config steps).cookies ((world_after rule config steps).part e)
 
 -- a wait stands behind its invalidations, the orders from `first` on; since so many reset-dones none of them is void at an
 -- open unit, they are done where it is, and it is void only by the reset that the unit is in
@@ -54,7 +55,8 @@ pub record IsBehind (p : Part) (first wait resets : ℕ) : Type 0 where
 abbrev pub FitsDebt : Part → Owed → Type 0
 FitsDebt p Nothing = Unit {0}
 FitsDebt p (Ranges first count resets) = (0 < count) × IsBehind p first (first + count) resets
-FitsDebt p (Pasid invalidation wait resets in_reset) = (wait ≡ suc invalidation) × IsBehind p invalidation wait resets × (in_reset ≡ true → resets ≡ p.resets → p.phase ≢ Open)
+FitsDebt p (Pasid invalidation wait resets in_reset) = (wait ≡ suc invalidation) × IsBehind p invalidation wait resets
+    × (in_reset ≡ true → resets ≡ p.resets → p.phase ≢ Open)
 FitsDebt p (AReset resets) = (resets ≤ p.resets) × (resets ≡ p.resets → p.phase ≢ Open)
 
 abbrev pub AlwaysFitsDebts : Type 0

@@ -18,17 +18,20 @@ abbrev pub with_space : Inside → (place : ℕ) → Live → List (ℕ × (ℕ 
 with_space memory place live space frames = record memory { pool = frames; spaces = with_item memory.spaces place (record live { space = space }) }
 
 -- no space has the number
-pub lacks_space : (memory : Inside) (number : ℕ) (lives : List Live) → None ≡ position (is_of number) lives → lives ≡ memory.spaces.items → pages_of (memory_in memory).spaces number ≡ None
+pub lacks_space : (memory : Inside) (number : ℕ) (lives : List Live) → None ≡ position (is_of number) lives → lives ≡ memory.spaces.items
+    → pages_of (memory_in memory).spaces number ≡ None
 lacks_space memory number lives none is = not_found memory.spaces.items number (none ∙ ap (λ (ls : List Live). position (is_of number) ls) is)
 
 -- the space that has the number
-pub has_space : (memory : Inside) (number place : ℕ) (live : Live) (lives : List Live) → IsMemory memory → Some place ≡ position (is_of number) lives → lives ≡ memory.spaces.items
+pub has_space : (memory : Inside) (number place : ℕ) (live : Live) (lives : List Live) → IsMemory memory → Some place ≡ position (is_of number) lives
+    → lives ≡ memory.spaces.items
     → live ≡ get_or memory.spaces.items place live → IsAt memory.spaces.items number place live
 has_space memory number place live lives h first is read =
     found memory.spaces.items memory.next_space number place live h.numbered (first ∙ ap (λ (ls : List Live). position (is_of number) ls) is) read
 
 -- the invariant stays where frames moved between the space and the pool alone
-pub stays_memory : (memory : Inside) (number place : ℕ) (live : Live) (space : List (ℕ × (ℕ × Bool))) (frames : List Holding) → IsMemory memory → IsAt memory.spaces.items number place live
+pub stays_memory : (memory : Inside) (number place : ℕ) (live : Live) (space : List (ℕ × (ℕ × Bool))) (frames : List Holding) → IsMemory memory
+    → IsAt memory.spaces.items number place live
     → Balanced live.space memory.pool space frames → IsMemory (with_space memory place live space frames)
 stays_memory memory number place live space frames h at balanced = record {
   numbered = numbered-at memory.spaces.items memory.next_space place live space h.numbered at.there;
@@ -37,7 +40,8 @@ stays_memory memory number place live space frames h at balanced = record {
 
 -- what is seen of the spaces, where one of them has other pages
 pub one_changed : (memory : Inside) (number place : ℕ) (live : Live) (space : List (ℕ × (ℕ × Bool))) → IsAt memory.spaces.items number place live
-    → OneChanged (spaces_seen memory.spaces.items) number (pages_seen live.space) (pages_seen space) (spaces_seen (set memory.spaces.items place (record live { space = space })))
+    → OneChanged (spaces_seen memory.spaces.items) number (pages_seen live.space) (pages_seen space) (spaces_seen
+    (set memory.spaces.items place (record live { space = space })))
 one_changed memory number place live space at = record {
   found = pages_of-at memory.spaces.items number place live at.there at.is_number at.once;
   kept = λ same. spaces-kept memory.spaces.items place live space at.there same;

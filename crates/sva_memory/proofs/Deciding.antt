@@ -16,10 +16,12 @@ use Rattle.sva_memory.specs.Unmapping.{unmap_causes_of, range_causes_of, unmappe
 
 -- The memory's causes stand first, and then those of the units.
 
-pub unmap_split : (w : Wire) (n q count : ℕ) → causes_of w (step.Unmap n q count) ≡ unmap_causes_of (memory_of w) n q count ++ queue_full w n (count + 1) ∷ numbers_spent w.next_cookie (waits_needed w n) ∷ []
+pub unmap_split : (w : Wire) (n q count : ℕ) → causes_of w (step.Unmap n q count) ≡ unmap_causes_of (memory_of w) n q count
+    ++ queue_full w n (count + 1) ∷ numbers_spent w.next_cookie (waits_needed w n) ∷ []
 unmap_split w n q count = refl
 
-pub range_split : (w : Wire) (n q order : ℕ) → causes_of w (step.UnmapRange n q order) ≡ range_causes_of (memory_of w) n q order ++ queue_full w n 2 ∷ numbers_spent w.next_cookie (waits_needed w n) ∷ []
+pub range_split : (w : Wire) (n q order : ℕ) → causes_of w (step.UnmapRange n q order) ≡ range_causes_of (memory_of w) n q order ++ queue_full w n 2
+    ∷ numbers_spent w.next_cookie (waits_needed w n) ∷ []
 range_split w n q order = refl
 
 -- where the first refuse, all do
@@ -27,7 +29,9 @@ pub first_refuse : (cs ds : List Cause) (r : outcomes.Result) (e : Refusal) → 
 first_refuse [] ds r e is = absurd (cc)
 first_refuse (cause ∷ cs) ds r e is = go cause.0 is (first_refuse cs ds r e)
   where
-    go : (b : Bool) → (if b then Err cause.1 else verdict cs) ≡ Err e → (verdict cs ≡ Err e → checked (cs ++ ds) r ≡ record { reply = Err e; moves = [] }) → (if b then record { reply = Err cause.1; moves = [] } else checked (cs ++ ds) r) ≡ record { reply = Err e; moves = [] }
+    go : (b : Bool) → (if b then Err cause.1 else verdict cs) ≡ Err e
+        → (verdict cs ≡ Err e → checked (cs ++ ds) r ≡ record { reply = Err e; moves = [] })
+        → (if b then record { reply = Err cause.1; moves = [] } else checked (cs ++ ds) r) ≡ record { reply = Err e; moves = [] }
     go true is rest =
         let same : cause.1 ≡ e = cc in
         ap (λ (x : Refusal). record { reply = Err x; moves = [] }) same
@@ -38,7 +42,8 @@ pub first_pass : (cs ds : List Cause) (r : outcomes.Result) → IsOk (verdict cs
 first_pass [] ds r is = refl
 first_pass (cause ∷ cs) ds r is = go cause.0 is (first_pass cs ds r)
   where
-    go : (b : Bool) → IsOk (if b then Err cause.1 else verdict cs) → (IsOk (verdict cs) → checked (cs ++ ds) r ≡ checked ds r) → (if b then record { reply = Err cause.1; moves = [] } else checked (cs ++ ds) r) ≡ checked ds r
+    go : (b : Bool) → IsOk (if b then Err cause.1 else verdict cs) → (IsOk (verdict cs) → checked (cs ++ ds) r ≡ checked ds r)
+        → (if b then record { reply = Err cause.1; moves = [] } else checked (cs ++ ds) r) ≡ checked ds r
     go true is rest = absurd (cc)
     go false is rest = rest is
 

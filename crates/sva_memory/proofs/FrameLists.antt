@@ -1,5 +1,6 @@
 -- The frames, as they are seen.
-use Rattle.std.proofs.Common.{◌≡◌, ◌≢◌, ℕ, zero, suc, ◌+◌, ◌<◌, ◌≤◌, ◌==◌, Bool, true, false, cond, List, Option, Some, None, [], ◌∷◌, length, set, get_or, slice_get, refl, sym, ap, ◌∙◌, arith, replicate, count_by, if◌then◌else◌}
+use Rattle.std.proofs.Common.{◌≡◌, ◌≢◌, ℕ, zero, suc, ◌+◌, ◌<◌, ◌≤◌, ◌==◌, Bool, true, false, cond, List, Option, Some, None, [], ◌∷◌, length, set, get_or}
+use Rattle.std.proofs.Common.{slice_get, refl, sym, ap, ◌∙◌, arith, replicate, count_by, if◌then◌else◌}
 use Rattle.std.specs.Prelude.{nat_lt}
 use Rattle.std.specs.List.{position, position_or_len}
 use Rattle.std.proofs.lemmas.Bool.Decides.{nat_tests}
@@ -37,7 +38,8 @@ lowest_free-first : (frames : List Holding) → lowest_free (places_seen frames)
 lowest_free-first frames = is_position_or_len (λ (hs : List Holding). lowest_free (places_seen hs)) is_free refl one_more frames
   where
     one_more : (h : Holding) (hs : List Holding) → lowest_free (places_seen (h ∷ hs)) ≡ cond (is_free h) 0 (1 + lowest_free (places_seen hs))
-    one_more h hs = ap (λ b. if b then 0 else suc (lowest_free (places_seen hs))) (is_free-seen h) ∙ ap (λ k. cond (is_free h) 0 k) (one_first (lowest_free (places_seen hs)))
+    one_more h hs = ap (λ b. if b then 0 else suc (lowest_free (places_seen hs))) (is_free-seen h)
+        ∙ ap (λ k. cond (is_free h) 0 k) (one_first (lowest_free (places_seen hs)))
 
 pub lowest_free-some : (frames : List Holding) (n : ℕ) → position is_free frames ≡ Some n → lowest_free (places_seen frames) ≡ n
 lowest_free-some frames n first = lowest_free-first frames ∙ of_some (position_or_len is_free frames) (length frames) n first
@@ -53,7 +55,8 @@ lowest_free-none [] none = refl
 lowest_free-none (h ∷ hs) none = by_test (is_free h) refl (lowest_free-none hs)
   where
     first : (b : Bool) → is_free h ≡ b → position_or_len is_free (h ∷ hs) ≡ cond b 0 (1 + position_or_len is_free hs)
-    first b is = sym (lowest_free-first (h ∷ hs)) ∙ ap (λ c. if c then 0 else suc (lowest_free (places_seen hs))) (is_free-seen h ∙ is) ∙ ap (λ k. cond b 0 k) (one_first (lowest_free (places_seen hs)) ∙ ap (λ k. 1 + k) (lowest_free-first hs))
+    first b is = sym (lowest_free-first (h ∷ hs)) ∙ ap (λ c. if c then 0 else suc (lowest_free (places_seen hs))) (is_free-seen h ∙ is)
+        ∙ ap (λ k. cond b 0 k) (one_first (lowest_free (places_seen hs)) ∙ ap (λ k. 1 + k) (lowest_free-first hs))
 
     none_after : (k l m : ℕ) → k ≡ 1 + m → cond (nat_lt k (1 + l)) (Some k) None ≡ None → cond (nat_lt m l) (Some m) None ≡ None
     none_after k l m e h = grind (arith, nat_tests)
@@ -61,15 +64,18 @@ lowest_free-none (h ∷ hs) none = by_test (is_free h) refl (lowest_free-none hs
     not_first : (k l : ℕ) → k ≡ 0 → cond (nat_lt k (1 + l)) (Some k) None ≢ None
     not_first k l e h = grind (arith, nat_tests)
 
-    by_test : (b : Bool) → is_free h ≡ b → (position is_free hs ≡ None → lowest_free (places_seen hs) ≡ length (places_seen hs)) → (if is_free_wire (place_seen h) then 0 else suc (lowest_free (places_seen hs))) ≡ length (places_seen (h ∷ hs))
+    by_test : (b : Bool) → is_free h ≡ b → (position is_free hs ≡ None → lowest_free (places_seen hs) ≡ length (places_seen hs))
+        → (if is_free_wire (place_seen h) then 0 else suc (lowest_free (places_seen hs))) ≡ length (places_seen (h ∷ hs))
     by_test true is rest = absurd (not_first (position_or_len is_free (h ∷ hs)) (length hs) (first true is) (lengthened none))
       where
-        lengthened : position is_free (h ∷ hs) ≡ None → cond (nat_lt (position_or_len is_free (h ∷ hs)) (1 + length hs)) (Some (position_or_len is_free (h ∷ hs))) None ≡ None
+        lengthened : position is_free (h ∷ hs) ≡ None
+            → cond (nat_lt (position_or_len is_free (h ∷ hs)) (1 + length hs)) (Some (position_or_len is_free (h ∷ hs))) None ≡ None
         lengthened n = let same : 1 + length hs ≡ length (h ∷ hs) = omega arith in rw same n
     by_test false is rest =
         let same : 1 + length hs ≡ length (h ∷ hs) = omega arith in
         let long : cond (nat_lt (position_or_len is_free (h ∷ hs)) (1 + length hs)) (Some (position_or_len is_free (h ∷ hs))) None ≡ None = rw same none in
-        let below : lowest_free (places_seen hs) ≡ length (places_seen hs) = rest (none_after (position_or_len is_free (h ∷ hs)) (length hs) (position_or_len is_free hs) (first false is) long) in
+        let below : lowest_free (places_seen hs) ≡ length (places_seen hs) =
+        rest (none_after (position_or_len is_free (h ∷ hs)) (length hs) (position_or_len is_free hs) (first false is) long) in
         ap (λ c. if c then 0 else suc (lowest_free (places_seen hs))) (is_free-seen h ∙ is) ∙ omega arith
 
 -- a frame's place changes
@@ -96,13 +102,16 @@ first-free frames n first =
     free (Withheld targets) is = absurd (cc)
 
 -- the first frame of a space given back, and the others later
-pub first-placed : (space rest : List (ℕ × (ℕ × Bool))) (frames frames_after : List Holding) (first : ℕ × (ℕ × Bool)) → space ≡ first ∷ rest → frames_after ≡ set frames first.1.0 Free → placed FreeWire (pages_seen rest) (places_seen frames_after) ≡ placed FreeWire (pages_seen space) (places_seen frames)
+pub first-placed : (space rest : List (ℕ × (ℕ × Bool))) (frames frames_after : List Holding) (first : ℕ × (ℕ × Bool)) → space ≡ first ∷ rest
+    → frames_after ≡ set frames first.1.0 Free → placed FreeWire (pages_seen rest) (places_seen frames_after)
+    ≡ placed FreeWire (pages_seen space) (places_seen frames)
 first-placed space rest frames frames_after first is gave =
     ap (placed FreeWire (pages_seen rest)) (ap places_seen gave ∙ places_seen-set frames first.1.0 Free)
     ∙ sym (ap (λ (ms : List (ℕ × (ℕ × Bool))). placed FreeWire (pages_seen ms) (places_seen frames)) is)
 
 -- whether a frame is mapped in the pool, after a place changed
-pub mapped_bit-set : (frames : List Holding) (n : ℕ) (h : Holding) (f : ℕ) → n < length frames → mapped_bit f (set frames n h) ≡ (if n == f then one_if_mapped (Some h) else mapped_bit f frames)
+pub mapped_bit-set : (frames : List Holding) (n : ℕ) (h : Holding) (f : ℕ) → n < length frames → mapped_bit f (set frames n h)
+    ≡ (if n == f then one_if_mapped (Some h) else mapped_bit f frames)
 mapped_bit-set frames n h f within = by_test (n == f) refl
   where
     same : (n f : ℕ) → (n == f) ≡ true → n ≡ f
@@ -126,7 +135,8 @@ is_mapped-bit frames f one = go (slice_get frames f) one
 
 -- how many are at each place
 
-pub count-seen : (p : Holding → Bool) (q : PlaceWire → Bool) → ((h : Holding) → q (place_seen h) ≡ p h) → (frames : List Holding) → count_by p frames ≡ count_by q (places_seen frames)
+pub count-seen : (p : Holding → Bool) (q : PlaceWire → Bool) → ((h : Holding) → q (place_seen h) ≡ p h) → (frames : List Holding) → count_by p frames
+    ≡ count_by q (places_seen frames)
 count-seen p q same [] = refl
 count-seen p q same (h ∷ hs) =
     sum_by-cons (λ (x : Holding). cond (p x) 1 0) h hs

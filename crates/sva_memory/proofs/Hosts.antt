@@ -26,7 +26,8 @@ use Rattle.sva_memory.specs.Steps.{ByLabels, Steps, Moves}
 pub with_own : (w : Wire) (m : MemorySeen) → memory_of w ≡ m → with_memory w m ≡ w
 with_own w m is = ap (with_memory w) (sym is)
 
-pub at_each : (s : Step) (before : MemorySeen) (result : Reply) (after : MemorySeen) → ((w : Wire) → ByLabels (with_memory w before) s result (with_memory w after)) → Steps s before result after
+pub at_each : (s : Step) (before : MemorySeen) (result : Reply) (after : MemorySeen)
+    → ((w : Wire) → ByLabels (with_memory w before) s result (with_memory w after)) → Steps s before result after
 at_each s before result after step w is = subst (λ (v : Wire). ByLabels v s result (with_memory w after)) (with_own w before is) (step w)
 
 pub moves_each : (move : Move) (before after : MemorySeen) → ((w : Wire) → with_memory w after ≡ moved (with_memory w before) move) → Moves move before after
@@ -38,7 +39,8 @@ checked-reply : (cs : List Cause) (r : outcomes.Result) → (checked cs r).reply
 checked-reply [] r = refl
 checked-reply (cause ∷ cs) r = go cause.0 (checked-reply cs r)
   where
-    go : (b : Bool) → (checked cs r).reply ≡ unless_refused cs r.answer → (if b then record { reply = Err cause.1; moves = [] } else checked cs r).reply ≡ (if b then Err cause.1 else unless_refused cs r.answer)
+    go : (b : Bool) → (checked cs r).reply ≡ unless_refused cs r.answer
+        → (if b then record { reply = Err cause.1; moves = [] } else checked cs r).reply ≡ (if b then Err cause.1 else unless_refused cs r.answer)
     go true rest = refl
     go false rest = rest
 
@@ -46,7 +48,9 @@ checked-ok : (cs : List Cause) (r : outcomes.Result) (a : Answer) → unless_ref
 checked-ok [] r a is = refl
 checked-ok (cause ∷ cs) r a is = go cause.0 is (checked-ok cs r a)
   where
-    go : (b : Bool) → (if b then Err cause.1 else unless_refused cs r.answer) ≡ Ok a → (unless_refused cs r.answer ≡ Ok a → (checked cs r).moves ≡ r.moves) → (if b then record { reply = Err cause.1; moves = [] } else checked cs r).moves ≡ r.moves
+    go : (b : Bool) → (if b then Err cause.1 else unless_refused cs r.answer) ≡ Ok a
+        → (unless_refused cs r.answer ≡ Ok a → (checked cs r).moves ≡ r.moves)
+        → (if b then record { reply = Err cause.1; moves = [] } else checked cs r).moves ≡ r.moves
     go true is rest = absurd (cc)
     go false is rest = rest is
 
@@ -54,7 +58,9 @@ checked-err : (cs : List Cause) (r : outcomes.Result) (e : Refusal) → unless_r
 checked-err [] r e is = absurd (cc)
 checked-err (cause ∷ cs) r e is = go cause.0 is (checked-err cs r e)
   where
-    go : (b : Bool) → (if b then Err cause.1 else unless_refused cs r.answer) ≡ Err e → (unless_refused cs r.answer ≡ Err e → (checked cs r).moves ≡ []) → (if b then record { reply = Err cause.1; moves = [] } else checked cs r).moves ≡ []
+    go : (b : Bool) → (if b then Err cause.1 else unless_refused cs r.answer) ≡ Err e
+        → (unless_refused cs r.answer ≡ Err e → (checked cs r).moves ≡ [])
+        → (if b then record { reply = Err cause.1; moves = [] } else checked cs r).moves ≡ []
     go true is rest = refl
     go false is rest = rest is
 
@@ -107,7 +113,8 @@ no_space_map w n q x none = refused w (step.Map n q x) refusal.NoSuchSpace (ap (
 same_frame : (f g : ℕ) → answer.Frame f ≡ answer.Frame g → f ≡ g
 same_frame f g is = cc
 
-pub by_map : (w : Wire) (n q : ℕ) (x : Bool) (result : Reply) (pages pages_after : List PageWire) (spaces_after : List SpaceWire) (places_after : List PlaceWire) → OneChanged w.spaces n pages pages_after spaces_after → MapsPage pages w.places q x result pages_after places_after
+pub by_map : (w : Wire) (n q : ℕ) (x : Bool) (result : Reply) (pages pages_after : List PageWire) (spaces_after : List SpaceWire)
+    (places_after : List PlaceWire) → OneChanged w.spaces n pages pages_after spaces_after → MapsPage pages w.places q x result pages_after places_after
     → ByLabels w (step.Map n q x) result (with_spaces w spaces_after places_after)
 by_map w n q x (Err refusal.OutOfMemory) pages pages_after spaces_after places_after one maps =
     let kept : with_spaces w spaces_after places_after ≡ w = λ i. with_spaces w (one.kept maps.1 i) (maps.2 i) in
@@ -115,7 +122,8 @@ by_map w n q x (Err refusal.OutOfMemory) pages pages_after spaces_after places_a
     (no_memory_for w (step.Map n q x) (ap (λ o. is_ok (map_in w.places q o)) one.found ∙ maps.0))
 by_map w n q x (Ok (answer.Frame f)) pages pages_after spaces_after places_after one maps =
     let is : left_of w (step.Map n q x) ≡ Ok (answer.Frame f) = ap (map_in w.places q) one.found ∙ sym maps.0 in
-    let lowest : f ≡ lowest_free w.places = same_frame f (lowest_free w.places) (answer-is (causes_of w (step.Map n q x)) (answer.Frame (lowest_free w.places)) (answer.Frame f) is) in
+    let lowest : f ≡ lowest_free w.places =
+    same_frame f (lowest_free w.places) (answer-is (causes_of w (step.Map n q x)) (answer.Frame (lowest_free w.places)) (answer.Frame f) is) in
     answered w (step.Map n q x) (answer.Frame f) (with_spaces w spaces_after places_after) is
     ((λ i. with_spaces w (one.put (insert_by is_lower_page (record { page = q; frame = f; write = x })) maps.1.0 i) (maps.1.1 i))
     ∙ ap (λ (g : ℕ). moved w (Move.Map n q g x)) lowest)
@@ -127,7 +135,8 @@ by_map w n q x (Err e) pages pages_after spaces_after places_after one maps =
 
 -- A drop of the space of a number.
 
-pub by_drop : (w : Wire) (n : ℕ) (pages : List PageWire) (spaces_after : List SpaceWire) (places_after : List PlaceWire) → pages_of w.spaces n ≡ Some pages → spaces_after ≡ without_space n w.spaces → places_after ≡ placed FreeWire pages w.places
+pub by_drop : (w : Wire) (n : ℕ) (pages : List PageWire) (spaces_after : List SpaceWire) (places_after : List PlaceWire) → pages_of w.spaces n
+    ≡ Some pages → spaces_after ≡ without_space n w.spaces → places_after ≡ placed FreeWire pages w.places
     → with_spaces w spaces_after places_after ≡ moved w (Move.DropSpace n)
 by_drop w n pages spaces_after places_after found spaces places =
     (λ i. with_spaces w (spaces i) (places i))

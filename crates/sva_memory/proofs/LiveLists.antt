@@ -1,5 +1,6 @@
 -- The live spaces, as they are seen.
-use Rattle.std.proofs.Common.{◌≡◌, ℕ, zero, suc, ◌+◌, ◌<◌, ◌≤◌, ◌==◌, Bool, true, false, cond, List, Some, None, [], ◌∷◌, ◌++◌, length, set, get_or, slice_get, refl, sym, ap, subst, ◌∙◌, arith, if◌then◌else◌}
+use Rattle.std.proofs.Common.{◌≡◌, ℕ, zero, suc, ◌+◌, ◌<◌, ◌≤◌, ◌==◌, Bool, true, false, cond, List, Some, None, [], ◌∷◌, ◌++◌, length, set, get_or}
+use Rattle.std.proofs.Common.{slice_get, refl, sym, ap, subst, ◌∙◌, arith, if◌then◌else◌}
 use Rattle.std.specs.Prelude.{Option, is_some, nat_lt}
 use Rattle.std.specs.List.{position, position_or_len}
 use Rattle.std.proofs.lemmas.Bool.Decides.{nat_tests}
@@ -22,7 +23,8 @@ pub record IsAt (lives : List Live) (number place : ℕ) (live : Live) : Type 0 
   pub is_number : live.number ≡ number
   pub once : count_of number lives ≤ 1
 
-pub found : (lives : List Live) (next n i : ℕ) (live : Live) → AreNumbered lives next → Some i ≡ position (is_of n) lives → live ≡ get_or lives i live → IsAt lives n i live
+pub found : (lives : List Live) (next n i : ℕ) (live : Live) → AreNumbered lives next → Some i ≡ position (is_of n) lives → live
+    ≡ get_or lives i live → IsAt lives n i live
 found lives next n i live numbered first read =
     let at = position-Some (is_of n) lives i live (sym first) in
     record {
@@ -38,22 +40,26 @@ found lives next n i live numbered first read =
     at_most k true h = h
     at_most k false h = omega arith
 
-unmatched : (lives : List Live) (n : ℕ) → ((k : ℕ) (other : Live) → k < length lives → is_of n (get_or lives k other) ≡ false) → pages_of (spaces_seen lives) n ≡ None
+unmatched : (lives : List Live) (n : ℕ) → ((k : ℕ) (other : Live) → k < length lives → is_of n (get_or lives k other) ≡ false)
+    → pages_of (spaces_seen lives) n ≡ None
 unmatched [] n none = refl
 unmatched (l ∷ ls) n none =
     ap (λ b. if b then Some (pages_seen l.space) else pages_of (spaces_seen ls) n) (none 0 l (omega arith))
     ∙ unmatched ls n (λ k other within. none (suc k) other (omega arith))
 
 pub not_found : (lives : List Live) (n : ℕ) → None ≡ position (is_of n) lives → pages_of (spaces_seen lives) n ≡ None
-not_found lives n none = unmatched lives n (λ k other within. fails_before_first (is_of n) lives k other (below k (position_or_len (is_of n) lives) (length lives) within none))
+not_found lives n none =
+    unmatched lives n (λ k other within. fails_before_first (is_of n) lives k other (below k (position_or_len (is_of n) lives) (length lives) within none))
   where
     below : (k p l : ℕ) → k < l → None ≡ cond (nat_lt p l) (Some p) None → k < p
     below k p l h none = grind (arith, nat_tests)
 
 -- whether there is a space of the number
-pages_of-some : (lives : List Live) (n i : ℕ) (live : Live) → slice_get lives i ≡ Some live → is_of n live ≡ true → is_some (pages_of (spaces_seen lives) n) ≡ true
+pages_of-some : (lives : List Live) (n i : ℕ) (live : Live) → slice_get lives i ≡ Some live → is_of n live ≡ true
+    → is_some (pages_of (spaces_seen lives) n) ≡ true
 pages_of-some [] n i live there is = absurd (cc)
-pages_of-some (l ∷ ls) n zero live there is = ap (λ b. is_some (if b then Some (pages_seen l.space) else pages_of (spaces_seen ls) n)) (ap (is_of n) (inside there) ∙ is)
+pages_of-some (l ∷ ls) n zero live there is =
+    ap (λ b. is_some (if b then Some (pages_seen l.space) else pages_of (spaces_seen ls) n)) (ap (is_of n) (inside there) ∙ is)
   where
     inside : Some l ≡ Some live → l ≡ live
     inside e = cc
@@ -63,13 +69,15 @@ pages_of-some (l ∷ ls) n (suc i) live there is = go (is_of n l) (pages_of-some
     go true rest = refl
     go false rest = rest
 
-pub is_found : (lives : List Live) (n : ℕ) (found : Option ℕ) (seen : List Live) (b : Bool) → b ≡ is_some found → found ≡ position (is_of n) seen → seen ≡ lives → b ≡ is_some (pages_of (spaces_seen lives) n)
+pub is_found : (lives : List Live) (n : ℕ) (found : Option ℕ) (seen : List Live) (b : Bool) → b ≡ is_some found → found ≡ position (is_of n) seen
+    → seen ≡ lives → b ≡ is_some (pages_of (spaces_seen lives) n)
 is_found lives n None seen b is first same = is ∙ sym (ap is_some (not_found lives n (first ∙ ap (λ (ls : List Live). position (is_of n) ls) same)))
 is_found lives n (Some i) seen b is first same = is ∙ sym (at lives (sym (first ∙ ap (λ (ls : List Live). position (is_of n) ls) same)))
   where
     at : (ls : List Live) → position (is_of n) ls ≡ Some i → is_some (pages_of (spaces_seen ls) n) ≡ true
     at [] p = absurd (cc)
-    at (l ∷ ls) p = let here = position-Some (is_of n) (l ∷ ls) i l p in pages_of-some (l ∷ ls) n i (get_or (l ∷ ls) i l) (slice_get-get_or (l ∷ ls) i l here.0) here.1
+    at (l ∷ ls) p = let here =
+        position-Some (is_of n) (l ∷ ls) i l p in pages_of-some (l ∷ ls) n i (get_or (l ∷ ls) i l) (slice_get-get_or (l ∷ ls) i l here.0) here.1
 
 pub same_live : (l live : Live) → Some l ≡ Some live → l ≡ live
 same_live l live e = cc
@@ -97,15 +105,19 @@ counted (l ∷ ls) n zero live there is = by_test (l.number == n) (same l.number
 counted (l ∷ ls) n (suc i) live there is = omega (arith, counted ls n i live there is)
 
 -- where no space has the number, none changes
-with_pages-none : (lives : List Live) (n : ℕ) (change : List PageWire → List PageWire) → count_of n lives ≡ 0 → with_pages (spaces_seen lives) n change ≡ spaces_seen lives
+with_pages-none : (lives : List Live) (n : ℕ) (change : List PageWire → List PageWire) → count_of n lives ≡ 0
+    → with_pages (spaces_seen lives) n change ≡ spaces_seen lives
 with_pages-none [] n change none = refl
 with_pages-none (l ∷ ls) n change none = by_test (l.number == n) none (with_pages-none ls n change)
   where
-    by_test : (b : Bool) → (if b then 1 else 0) + count_of n ls ≡ 0 → (count_of n ls ≡ 0 → with_pages (spaces_seen ls) n change ≡ spaces_seen ls) → (if b then record (space_seen l) { pages = change (pages_seen l.space) } else space_seen l) ∷ with_pages (spaces_seen ls) n change ≡ space_seen l ∷ spaces_seen ls
+    by_test : (b : Bool) → (if b then 1 else 0) + count_of n ls ≡ 0 → (count_of n ls ≡ 0 → with_pages (spaces_seen ls) n change ≡ spaces_seen ls)
+        → (if b then record (space_seen l) { pages = change (pages_seen l.space) } else space_seen l) ∷ with_pages (spaces_seen ls) n change
+        ≡ space_seen l ∷ spaces_seen ls
     by_test true none rest = absurd (omega arith)
     by_test false none rest = ap (λ ss. space_seen l ∷ ss) (rest (omega arith))
 
-pub pages_of-at : (lives : List Live) (n i : ℕ) (live : Live) → slice_get lives i ≡ Some live → live.number ≡ n → count_of n lives ≤ 1 → pages_of (spaces_seen lives) n ≡ Some (pages_seen live.space)
+pub pages_of-at : (lives : List Live) (n i : ℕ) (live : Live) → slice_get lives i ≡ Some live → live.number ≡ n → count_of n lives ≤ 1
+    → pages_of (spaces_seen lives) n ≡ Some (pages_seen live.space)
 pages_of-at [] n i live there is once = absurd (cc)
 pages_of-at (l ∷ ls) n zero live there is once =
     let e : l ≡ live = same_live l live there in
@@ -113,14 +125,18 @@ pages_of-at (l ∷ ls) n zero live there is once =
     ∙ ap (λ (k : Live). Some (pages_seen k.space)) e
 pages_of-at (l ∷ ls) n (suc i) live there is once = by_test (l.number == n) once (pages_of-at ls n i live there is)
   where
-    by_test : (b : Bool) → (if b then 1 else 0) + count_of n ls ≤ 1 → (count_of n ls ≤ 1 → pages_of (spaces_seen ls) n ≡ Some (pages_seen live.space)) → (if b then Some (pages_seen l.space) else pages_of (spaces_seen ls) n) ≡ Some (pages_seen live.space)
+    by_test : (b : Bool) → (if b then 1 else 0) + count_of n ls ≤ 1
+        → (count_of n ls ≤ 1 → pages_of (spaces_seen ls) n ≡ Some (pages_seen live.space))
+        → (if b then Some (pages_seen l.space) else pages_of (spaces_seen ls) n) ≡ Some (pages_seen live.space)
     by_test true once rest = absurd (omega (arith, counted ls n i live there is))
     by_test false once rest = rest (omega arith)
 
 abbrev space_wire : ℕ → List PageWire → SpaceWire
 space_wire n ps = record { number = n; pages = ps }
 
-pub with_pages-at : (lives : List Live) (n i : ℕ) (live : Live) (space : List (ℕ × (ℕ × Bool))) (change : List PageWire → List PageWire) → slice_get lives i ≡ Some live → live.number ≡ n → count_of n lives ≤ 1 → pages_seen space ≡ change (pages_seen live.space) → spaces_seen (set lives i (record live { space = space })) ≡ with_pages (spaces_seen lives) n change
+pub with_pages-at : (lives : List Live) (n i : ℕ) (live : Live) (space : List (ℕ × (ℕ × Bool))) (change : List PageWire → List PageWire)
+    → slice_get lives i ≡ Some live → live.number ≡ n → count_of n lives ≤ 1 → pages_seen space ≡ change (pages_seen live.space)
+    → spaces_seen (set lives i (record live { space = space })) ≡ with_pages (spaces_seen lives) n change
 with_pages-at [] n i live space change there is once changed = refl
 with_pages-at (l ∷ ls) n zero live space change there is once changed =
     let e : l ≡ live = same_live l live there in
@@ -135,12 +151,16 @@ with_pages-at (l ∷ ls) n zero live space change there is once changed =
     no_more false k e h = absurd (cc)
 with_pages-at (l ∷ ls) n (suc i) live space change there is once changed = by_test (l.number == n) once (with_pages-at ls n i live space change there is)
   where
-    by_test : (b : Bool) → (if b then 1 else 0) + count_of n ls ≤ 1 → (count_of n ls ≤ 1 → pages_seen space ≡ change (pages_seen live.space) → spaces_seen (set ls i (record live { space = space })) ≡ with_pages (spaces_seen ls) n change) → space_seen l ∷ spaces_seen (set ls i (record live { space = space })) ≡ (if b then record (space_seen l) { pages = change (pages_seen l.space) } else space_seen l) ∷ with_pages (spaces_seen ls) n change
+    by_test : (b : Bool) → (if b then 1 else 0) + count_of n ls ≤ 1
+        → (count_of n ls ≤ 1 → pages_seen space ≡ change (pages_seen live.space) → spaces_seen (set ls i (record live { space = space }))
+        ≡ with_pages (spaces_seen ls) n change) → space_seen l ∷ spaces_seen (set ls i (record live { space = space }))
+        ≡ (if b then record (space_seen l) { pages = change (pages_seen l.space) } else space_seen l) ∷ with_pages (spaces_seen ls) n change
     by_test true once rest = absurd (omega (arith, counted ls n i live there is))
     by_test false once rest = ap (λ ss. space_seen l ∷ ss) (rest (omega arith) changed)
 
 -- a space with other pages keeps its number
-count_of-at : (lives : List Live) (m i : ℕ) (live : Live) (space : List (ℕ × (ℕ × Bool))) → slice_get lives i ≡ Some live → count_of m (set lives i (record live { space = space })) ≡ count_of m lives
+count_of-at : (lives : List Live) (m i : ℕ) (live : Live) (space : List (ℕ × (ℕ × Bool))) → slice_get lives i ≡ Some live
+    → count_of m (set lives i (record live { space = space })) ≡ count_of m lives
 count_of-at [] m i live space there = refl
 count_of-at (l ∷ ls) m zero live space there = ap (λ (k : Live). (if is_of m k then 1 else 0) + count_of m ls) (sym (inside there))
   where
@@ -148,11 +168,14 @@ count_of-at (l ∷ ls) m zero live space there = ap (λ (k : Live). (if is_of m 
     inside e = cc
 count_of-at (l ∷ ls) m (suc i) live space there = ap (λ (k : ℕ). (if is_of m l then 1 else 0) + k) (count_of-at ls m i live space there)
 
-pub numbered-at : (lives : List Live) (next i : ℕ) (live : Live) (space : List (ℕ × (ℕ × Bool))) → AreNumbered lives next → slice_get lives i ≡ Some live → AreNumbered (set lives i (record live { space = space })) next
-numbered-at lives next i live space numbered there m = subst (λ (k : ℕ). k ≤ (if nat_lt m next then 1 else 0)) (sym (count_of-at lives m i live space there)) (numbered m)
+pub numbered-at : (lives : List Live) (next i : ℕ) (live : Live) (space : List (ℕ × (ℕ × Bool))) → AreNumbered lives next → slice_get lives i
+    ≡ Some live → AreNumbered (set lives i (record live { space = space })) next
+numbered-at lives next i live space numbered there m =
+    subst (λ (k : ℕ). k ≤ (if nat_lt m next then 1 else 0)) (sym (count_of-at lives m i live space there)) (numbered m)
 
 -- its frames are of all frames
-count_all-at : (lives : List Live) (f i : ℕ) (live : Live) (space : List (ℕ × (ℕ × Bool))) → slice_get lives i ≡ Some live → count_all f (set lives i (record live { space = space })) + count_in f live.space ≡ count_all f lives + count_in f space
+count_all-at : (lives : List Live) (f i : ℕ) (live : Live) (space : List (ℕ × (ℕ × Bool))) → slice_get lives i ≡ Some live
+    → count_all f (set lives i (record live { space = space })) + count_in f live.space ≡ count_all f lives + count_in f space
 count_all-at [] f i live space there = absurd (cc)
 count_all-at (l ∷ ls) f zero live space there = omega (arith, ap (λ (k : Live). count_in f k.space) (inside there))
   where
@@ -168,10 +191,13 @@ count_in-all (l ∷ ls) f zero live there = omega (arith, ap (λ (k : Live). cou
     inside e = cc
 count_in-all (l ∷ ls) f (suc i) live there = omega (arith, count_in-all ls f i live there)
 
-pub owns-at : (lives : List Live) (frames : List Holding) (i : ℕ) (live : Live) → ((f : ℕ) → count_all f lives ≤ mapped_bit f frames) → slice_get lives i ≡ Some live → Owns live.space frames
+pub owns-at : (lives : List Live) (frames : List Holding) (i : ℕ) (live : Live) → ((f : ℕ) → count_all f lives ≤ mapped_bit f frames)
+    → slice_get lives i ≡ Some live → Owns live.space frames
 owns-at lives frames i live owned there f = omega (arith, owned f, count_in-all lives f i live there)
 
-pub owned-at : (lives : List Live) (frames frames_after : List Holding) (i : ℕ) (live : Live) (space : List (ℕ × (ℕ × Bool))) → ((f : ℕ) → count_all f lives ≤ mapped_bit f frames) → slice_get lives i ≡ Some live → Balanced live.space frames space frames_after → (f : ℕ) → count_all f (set lives i (record live { space = space })) ≤ mapped_bit f frames_after
+pub owned-at : (lives : List Live) (frames frames_after : List Holding) (i : ℕ) (live : Live) (space : List (ℕ × (ℕ × Bool)))
+    → ((f : ℕ) → count_all f lives ≤ mapped_bit f frames) → slice_get lives i ≡ Some live → Balanced live.space frames space frames_after → (f : ℕ)
+    → count_all f (set lives i (record live { space = space })) ≤ mapped_bit f frames_after
 owned-at lives frames frames_after i live space owned there balanced f = omega (arith, owned f, count_all-at lives f i live space there, balanced f)
 
 -- a new space, with the next number
@@ -179,8 +205,11 @@ count_of-new : (lives : List Live) (m : ℕ) (live : Live) → count_of m (lives
 count_of-new [] m live = omega arith
 count_of-new (l ∷ ls) m live = omega (arith, count_of-new ls m live)
 
-pub numbered-new : (lives : List Live) (next : ℕ) (space : List (ℕ × (ℕ × Bool))) → AreNumbered lives next → AreNumbered (lives ++ record { number = next; space = space } ∷ []) (next + 1)
-numbered-new lives next space numbered m = at_most (count_of m lives) (count_of m (lives ++ record { number = next; space = space } ∷ [])) m next (numbered m) (count_of-new lives m (record { number = next; space = space }))
+pub numbered-new : (lives : List Live) (next : ℕ) (space : List (ℕ × (ℕ × Bool))) → AreNumbered lives next
+    → AreNumbered (lives ++ record { number = next; space = space } ∷ []) (next + 1)
+numbered-new lives next space numbered m =
+    at_most (count_of m lives) (count_of m (lives ++ record { number = next; space = space } ∷ [])) m next (numbered m)
+    (count_of-new lives m (record { number = next; space = space }))
   where
     at_most : (k j m next : ℕ) → k ≤ (if nat_lt m next then 1 else 0) → j ≡ k + (if next == m then 1 else 0) → j ≤ (if nat_lt m (next + 1) then 1 else 0)
     at_most k j m next h e = grind (arith, nat_tests)
@@ -189,21 +218,25 @@ count_all-new : (lives : List Live) (f : ℕ) (live : Live) → count_all f (liv
 count_all-new [] f live = omega arith
 count_all-new (l ∷ ls) f live = omega (arith, count_all-new ls f live)
 
-pub owned-new : (lives : List Live) (frames : List Holding) (live : Live) → ((f : ℕ) → count_all f lives ≤ mapped_bit f frames) → live.space ≡ [] → (f : ℕ) → count_all f (lives ++ live ∷ []) ≤ mapped_bit f frames
+pub owned-new : (lives : List Live) (frames : List Holding) (live : Live) → ((f : ℕ) → count_all f lives ≤ mapped_bit f frames) → live.space ≡ []
+    → (f : ℕ) → count_all f (lives ++ live ∷ []) ≤ mapped_bit f frames
 owned-new lives frames live owned none f =
     let empty : count_in f live.space ≡ 0 = ap (count_in f) none in
     omega (arith, owned f, count_all-new lives f live, empty)
 
 -- a space whose pages are seen as before
-pub spaces-kept : (lives : List Live) (i : ℕ) (live : Live) (space : List (ℕ × (ℕ × Bool))) → slice_get lives i ≡ Some live → pages_seen space ≡ pages_seen live.space → spaces_seen (set lives i (record live { space = space })) ≡ spaces_seen lives
+pub spaces-kept : (lives : List Live) (i : ℕ) (live : Live) (space : List (ℕ × (ℕ × Bool))) → slice_get lives i ≡ Some live → pages_seen space
+    ≡ pages_seen live.space → spaces_seen (set lives i (record live { space = space })) ≡ spaces_seen lives
 spaces-kept [] i live space there same = refl
 spaces-kept (l ∷ ls) zero live space there same =
     ap (λ ps. space_wire live.number ps ∷ spaces_seen ls) same ∙ sym (ap (λ (k : Live). space_seen k ∷ spaces_seen ls) (same_live l live there))
 spaces-kept (l ∷ ls) (suc i) live space there same = ap (λ ss. space_seen l ∷ ss) (spaces-kept ls i live space there same)
 
 -- the last space of a host that is taken apart
-pub owns-last : (lives rest : List Live) (frames : List Holding) (live : Live) → lives ≡ rest ++ live ∷ [] → ((f : ℕ) → count_all f lives ≤ mapped_bit f frames) → Owns live.space frames
+pub owns-last : (lives rest : List Live) (frames : List Holding) (live : Live) → lives ≡ rest ++ live ∷ []
+    → ((f : ℕ) → count_all f lives ≤ mapped_bit f frames) → Owns live.space frames
 owns-last lives rest frames live last owned f = omega (arith, owned f, ap (count_all f) last, count_all-new rest f live)
 
-pub owned-rest : (lives rest : List Live) (frames frames_after : List Holding) (live : Live) → lives ≡ rest ++ live ∷ [] → ((f : ℕ) → count_all f lives ≤ mapped_bit f frames) → Spent live.space frames frames_after → (f : ℕ) → count_all f rest ≤ mapped_bit f frames_after
+pub owned-rest : (lives rest : List Live) (frames frames_after : List Holding) (live : Live) → lives ≡ rest ++ live ∷ []
+    → ((f : ℕ) → count_all f lives ≤ mapped_bit f frames) → Spent live.space frames frames_after → (f : ℕ) → count_all f rest ≤ mapped_bit f frames_after
 owned-rest lives rest frames frames_after live last owned spent f = omega (arith, owned f, ap (count_all f) last, count_all-new rest f live, spent f)

@@ -1,5 +1,6 @@
 -- One page after another of a job is mapped to the lowest free frame, or taken back.
-use Rattle.std.proofs.Common.{◌≡◌, ℕ, suc, ◌+◌, ◌<◌, ◌≤◌, ◌==◌, Bool, false, List, Option, Some, None, [], ◌∷◌, ◌++◌, length, set, slice_get, get_or, take, drop, drop-cons, add-one, add-zero, refl, sym, ap, subst, ◌∙◌, arith}
+use Rattle.std.proofs.Common.{◌≡◌, ℕ, suc, ◌+◌, ◌<◌, ◌≤◌, ◌==◌, Bool, false, List, Option, Some, None, [], ◌∷◌, ◌++◌, length, set, slice_get, get_or, take}
+use Rattle.std.proofs.Common.{drop, drop-cons, add-one, add-zero, refl, sym, ap, subst, ◌∙◌, arith}
 use Rattle.std.specs.Prelude.{◌||◌, filter, map, is_some, IsSome, option_map}
 use Rattle.std.specs.List.{position}
 use Rattle.std.proofs.lemmas.List.{take_more, take_all, drop_all}
@@ -326,4 +327,5 @@ pages_all_back qs old frames_old number ms frames end are = sym (ap (λ (k : ℕ
 
 pub places_all_back : (qs : List ℕ) (old : Pages) (frames_old : List Holding) (number : ℕ) (ms : Pages) (frames : List Holding) → number ≡ 0
     → AreBack qs old frames_old number ms frames → places_seen frames ≡ places_back qs (pages_seen old) (places_seen frames_old)
-places_all_back qs old frames_old number ms frames end are = sym (ap (λ (k : ℕ). places_back (take k qs) (pages_seen ms) (places_seen frames)) end) ∙ are.places
+places_all_back qs old frames_old number ms frames end are = sym (ap (λ (k : ℕ). places_back (take k qs) (pages_seen ms) (places_seen frames)) end)
+    ∙ are.places

@@ -1,5 +1,6 @@
 -- The pages of a space, as they are seen.
-use Rattle.std.proofs.Common.{◌≡◌, ◌≢◌, ℕ, suc, ◌+◌, ◌<◌, ◌==◌, Bool, true, false, cond, List, Option, Some, None, [], ◌∷◌, ◌++◌, refl, sym, ap, subst, ◌∙◌, arith, add-one, if◌then◌else◌}
+use Rattle.std.proofs.Common.{◌≡◌, ◌≢◌, ℕ, suc, ◌+◌, ◌<◌, ◌==◌, Bool, true, false, cond, List, Option, Some, None, [], ◌∷◌, ◌++◌, refl, sym, ap, subst}
+use Rattle.std.proofs.Common.{◌∙◌, arith, add-one, if◌then◌else◌}
 use Rattle.std.specs.Prelude.{not, ◌&&◌, nat_lt, option_map, is_some}
 use Rattle.std.specs.declared.cmp.Ordering.{Ordering}
 use Rattle.std.specs.declared.cmp.Ordering.TheVariants.{Less, Equal, Greater}
@@ -34,8 +35,11 @@ pub page_at-seen : (ms : List (ℕ × (ℕ × Bool))) (q : ℕ) → page_at (pag
 page_at-seen [] q = refl
 page_at-seen (m ∷ ms) q = by_test (m.0 == q) refl (page_at-seen ms q)
   where
-    by_test : (b : Bool) → (m.0 == q) ≡ b → page_at (pages_seen ms) q ≡ option_map (λ m. page_seen (q, m)) (mapping_at ms q) → (if b then Some (page_seen m) else page_at (pages_seen ms) q) ≡ option_map (λ n. page_seen (q, n)) (cond (is_at (nat_cmp q) m.0) (Some m.1) (mapping_at ms q))
-    by_test true is rest = ap (λ (p : ℕ). Some (page_seen (p, m.1))) (same_page m.0 q is) ∙ sym (ap (λ b. option_map (λ n. page_seen (q, n)) (cond b (Some m.1) (mapping_at ms q))) (at_page q m.0 ∙ is))
+    by_test : (b : Bool) → (m.0 == q) ≡ b → page_at (pages_seen ms) q ≡ option_map (λ m. page_seen (q, m)) (mapping_at ms q)
+        → (if b then Some (page_seen m) else page_at (pages_seen ms) q)
+        ≡ option_map (λ n. page_seen (q, n)) (cond (is_at (nat_cmp q) m.0) (Some m.1) (mapping_at ms q))
+    by_test true is rest = ap (λ (p : ℕ). Some (page_seen (p, m.1))) (same_page m.0 q is)
+        ∙ sym (ap (λ b. option_map (λ n. page_seen (q, n)) (cond b (Some m.1) (mapping_at ms q))) (at_page q m.0 ∙ is))
     by_test false is rest = rest ∙ sym (ap (λ b. option_map (λ n. page_seen (q, n)) (cond b (Some m.1) (mapping_at ms q))) (at_page q m.0 ∙ is))
 
 pub is_mapped-seen : (ms : List (ℕ × (ℕ × Bool))) (q : ℕ) → is_mapped (pages_seen ms) q ≡ is_some (mapping_at ms q)
@@ -46,7 +50,8 @@ is_mapped-seen ms q = ap is_some (page_at-seen ms q) ∙ kept (mapping_at ms q)
     kept (Some m) = refl
 
 -- a page more
-pub pages_seen-insert : (ms : List (ℕ × (ℕ × Bool))) (q f : ℕ) (x : Bool) → mapping_at ms q ≡ None → pages_seen (with_page ms q f x) ≡ insert_by is_lower_page (record { page = q; frame = f; write = x }) (pages_seen ms)
+pub pages_seen-insert : (ms : List (ℕ × (ℕ × Bool))) (q f : ℕ) (x : Bool) → mapping_at ms q ≡ None → pages_seen (with_page ms q f x)
+    ≡ insert_by is_lower_page (record { page = q; frame = f; write = x }) (pages_seen ms)
 pages_seen-insert [] q f x none = refl
 pages_seen-insert (m ∷ ms) q f x none = by_rank (nat_cmp q m.0) refl (ranked q m.0 (nat_cmp q m.0) refl) none (pages_seen-insert ms q f x)
   where
@@ -56,7 +61,12 @@ pages_seen-insert (m ∷ ms) q f x none = by_rank (nat_cmp q m.0) refl (ranked q
     lower : (a b : ℕ) → b < a → nat_lt b a ≡ true
     lower a b h = grind (arith, nat_tests)
 
-    by_rank : (r : Ordering) → nat_cmp q m.0 ≡ r → MatchOrdering r (q < m.0) (q ≡ m.0) (m.0 < q) → mapping_at (m ∷ ms) q ≡ None → (mapping_at ms q ≡ None → pages_seen (with_page ms q f x) ≡ insert_by is_lower_page (record { page = q; frame = f; write = x }) (pages_seen ms)) → pages_seen (match_ordering r ((q, (f, x)) ∷ m ∷ ms) ((m.0, (f, x)) ∷ ms) (m ∷ with_page ms q f x)) ≡ (if nat_lt m.0 q then page_seen m ∷ insert_by is_lower_page (record { page = q; frame = f; write = x }) (pages_seen ms) else page_seen (q, (f, x)) ∷ page_seen m ∷ pages_seen ms)
+    by_rank : (r : Ordering) → nat_cmp q m.0 ≡ r → MatchOrdering r (q < m.0) (q ≡ m.0) (m.0 < q) → mapping_at (m ∷ ms) q ≡ None
+        → (mapping_at ms q ≡ None → pages_seen (with_page ms q f x)
+        ≡ insert_by is_lower_page (record { page = q; frame = f; write = x }) (pages_seen ms))
+        → pages_seen (match_ordering r ((q, (f, x)) ∷ m ∷ ms) ((m.0, (f, x)) ∷ ms) (m ∷ with_page ms q f x))
+        ≡ (if nat_lt m.0 q then page_seen m ∷ insert_by is_lower_page (record { page = q; frame = f; write = x }) (pages_seen ms)
+        else page_seen (q, (f, x)) ∷ page_seen m ∷ pages_seen ms)
     by_rank Less is h none more = rw (higher q m.0 h) refl
     by_rank Equal is h none more = absurd (not_there (at_page q m.0 ∙ equal m.0 q h) none)
       where
@@ -89,7 +99,9 @@ without-more q j (p ∷ ps) = by_tests (in_range q j p.page) (in_range (q + j) 1
     one_of : (q j k : ℕ) (a b : Bool) → in_range q j k ≡ a → in_range (q + j) 1 k ≡ b → not (in_range q (j + 1) k) ≡ (not a && not b)
     one_of q j k a b is js = grind (arith, nat_tests)
 
-    by_tests : (a b : Bool) → in_range q j p.page ≡ a → in_range (q + j) 1 p.page ≡ b → without_pages q (j + 1) ps ≡ without_pages (q + j) 1 (without_pages q j ps) → without_pages q (j + 1) (p ∷ ps) ≡ without_pages (q + j) 1 (cond (not a) (p ∷ without_pages q j ps) (without_pages q j ps))
+    by_tests : (a b : Bool) → in_range q j p.page ≡ a → in_range (q + j) 1 p.page ≡ b → without_pages q (j + 1) ps
+        ≡ without_pages (q + j) 1 (without_pages q j ps) → without_pages q (j + 1) (p ∷ ps)
+        ≡ without_pages (q + j) 1 (cond (not a) (p ∷ without_pages q j ps) (without_pages q j ps))
     by_tests true b is js rest = ap (λ c. cond c (p ∷ without_pages q (j + 1) ps) (without_pages q (j + 1) ps)) (one_of q j p.page true b is js) ∙ rest
     by_tests false true is js rest =
         ap (λ c. cond c (p ∷ without_pages q (j + 1) ps) (without_pages q (j + 1) ps)) (one_of q j p.page false true is js)
@@ -108,14 +120,17 @@ page_at-without q j (p ∷ ps) = by_test (in_range q j p.page) refl (page_at-wit
     before : (q j k : ℕ) → in_range q j k ≡ true → (k == q + j) ≡ false
     before q j k is = grind (arith, nat_tests)
 
-    by_test : (b : Bool) → in_range q j p.page ≡ b → page_at (without_pages q j ps) (q + j) ≡ page_at ps (q + j) → page_at (cond (not b) (p ∷ without_pages q j ps) (without_pages q j ps)) (q + j) ≡ page_at (p ∷ ps) (q + j)
+    by_test : (b : Bool) → in_range q j p.page ≡ b → page_at (without_pages q j ps) (q + j) ≡ page_at ps (q + j)
+        → page_at (cond (not b) (p ∷ without_pages q j ps) (without_pages q j ps)) (q + j) ≡ page_at (p ∷ ps) (q + j)
     by_test true is rest = rest ∙ sym (ap (λ c. if c then Some p else page_at ps (q + j)) (before q j p.page is))
     by_test false is rest = ap (λ o. if p.page == q + j then Some p else o) rest
 
 -- above a page there is none of it
 without-above : (q : ℕ) (ms : List (ℕ × (ℕ × Bool))) → AllAbove q ms → without_pages q 1 (pages_seen ms) ≡ pages_seen ms
 without-above q [] above = refl
-without-above q (m ∷ ms) above = ap (λ b. cond b (page_seen m ∷ without_pages q 1 (pages_seen ms)) (without_pages q 1 (pages_seen ms))) (outside q m.0 (is_less q m.0 above.0)) ∙ ap (λ ps. page_seen m ∷ ps) (without-above q ms above.1)
+without-above q (m ∷ ms) above =
+    ap (λ b. cond b (page_seen m ∷ without_pages q 1 (pages_seen ms)) (without_pages q 1 (pages_seen ms))) (outside q m.0 (is_less q m.0 above.0))
+    ∙ ap (λ ps. page_seen m ∷ ps) (without-above q ms above.1)
   where
     outside : (q k : ℕ) → q < k → not (in_range q 1 k) ≡ true
     outside q k h = grind (arith, nat_tests)
@@ -136,7 +151,9 @@ pages_seen-remove (m ∷ ms) q rising = by_test (m.0 == q) refl (pages_seen-remo
     inside : (q k : ℕ) (b : Bool) → (k == q) ≡ b → not (in_range q 1 k) ≡ not b
     inside q k b is = grind (arith, nat_tests)
 
-    by_test : (b : Bool) → (m.0 == q) ≡ b → pages_seen (without_page ms q) ≡ without_pages q 1 (pages_seen ms) → pages_seen (cond (is_at (nat_cmp q) m.0) ms (m ∷ without_page ms q)) ≡ cond (not (in_range q 1 m.0)) (page_seen m ∷ without_pages q 1 (pages_seen ms)) (without_pages q 1 (pages_seen ms))
+    by_test : (b : Bool) → (m.0 == q) ≡ b → pages_seen (without_page ms q) ≡ without_pages q 1 (pages_seen ms)
+        → pages_seen (cond (is_at (nat_cmp q) m.0) ms (m ∷ without_page ms q))
+        ≡ cond (not (in_range q 1 m.0)) (page_seen m ∷ without_pages q 1 (pages_seen ms)) (without_pages q 1 (pages_seen ms))
     by_test true is rest =
         ap (λ b. pages_seen (cond b ms (m ∷ without_page ms q))) (at_page q m.0 ∙ is)
         ∙ sym (without-above q ms (subst (λ (p : ℕ). AllAbove p ms) (same_page m.0 q is) rising.0))

@@ -24,7 +24,8 @@ others-all : (xs : List ℕ) (y : ℕ) → is_member (◌==◌) xs y ≡ false �
 others-all [] y absent = refl
 others-all (x ∷ xs) y absent = go (y == x) refl absent (others-all xs y)
   where
-    go : (b : Bool) → (y == x) ≡ b → (b || is_member (◌==◌) xs y) ≡ false → (is_member (◌==◌) xs y ≡ false → others y xs ≡ xs) → cond (not (x == y)) (x ∷ others y xs) (others y xs) ≡ x ∷ xs
+    go : (b : Bool) → (y == x) ≡ b → (b || is_member (◌==◌) xs y) ≡ false → (is_member (◌==◌) xs y ≡ false → others y xs ≡ xs)
+        → cond (not (x == y)) (x ∷ others y xs) (others y xs) ≡ x ∷ xs
     go true is absent rest = absurd (cc)
     go false is absent rest = ap (λ b. cond (not b) (x ∷ others y xs) (others y xs)) (same_flipped y x false is) ∙ ap (λ zs. x ∷ zs) (rest absent)
 
@@ -36,7 +37,8 @@ others-member (x ∷ xs) y q apart = go (x == y) refl (others-member xs y q apar
     elsewhere : (x y q : ℕ) → (x == y) ≡ true → (q == y) ≡ false → (q == x) ≡ false
     elsewhere x y q is apart = grind (arith, nat_tests)
 
-    go : (b : Bool) → (x == y) ≡ b → is_member (◌==◌) (others y xs) q ≡ is_member (◌==◌) xs q → is_member (◌==◌) (cond (not b) (x ∷ others y xs) (others y xs)) q ≡ ((q == x) || is_member (◌==◌) xs q)
+    go : (b : Bool) → (x == y) ≡ b → is_member (◌==◌) (others y xs) q ≡ is_member (◌==◌) xs q
+        → is_member (◌==◌) (cond (not b) (x ∷ others y xs) (others y xs)) q ≡ ((q == x) || is_member (◌==◌) xs q)
     go true is rest = rest ∙ sym (ap (λ b. b || is_member (◌==◌) xs q) (elsewhere x y q is apart))
     go false is rest = ap (λ b. (q == x) || b) rest
 
@@ -81,7 +83,8 @@ count-among (y ∷ ys) xs among =
         elsewhere : (z y c : ℕ) → (z == y) ≡ false → (c == y) ≡ true → (c == z) ≡ false
         elsewhere z y c apart is = grind (arith, nat_tests)
 
-        by_test : (b : Bool) → (z == y) ≡ b → is_member (◌==◌) (others y zs) c ≡ false → is_member (◌==◌) (cond (not b) (z ∷ others y zs) (others y zs)) c ≡ false
+        by_test : (b : Bool) → (z == y) ≡ b → is_member (◌==◌) (others y zs) c ≡ false
+            → is_member (◌==◌) (cond (not b) (z ∷ others y zs) (others y zs)) c ≡ false
         by_test true at rest = rest
         by_test false at rest = ap (λ b. b || is_member (◌==◌) (others y zs) c) (elsewhere z y c at is) ∙ rest
 
@@ -89,9 +92,11 @@ count-among (y ∷ ys) xs among =
     go c true is there = absurd (cc (sym there ∙ left_out xs c is))
     go c false is there = sym (ap (λ b. b || is_member (◌==◌) ys c) is) ∙ among c (sym (others-member xs y c is) ∙ there)
 
-pub room_among : (targets : List (Option TargetWire)) (cookies : List ℕ) (t : TargetWire) → ((c : ℕ) → is_member (◌==◌) (cookies_in targets) c ≡ true → is_member (◌==◌) cookies c ≡ true) → length cookies < 64 → HasRoom targets t
+pub room_among : (targets : List (Option TargetWire)) (cookies : List ℕ) (t : TargetWire)
+    → ((c : ℕ) → is_member (◌==◌) (cookies_in targets) c ≡ true → is_member (◌==◌) cookies c ≡ true) → length cookies < 64 → HasRoom targets t
 room_among targets cookies ResetEnd among few = tt
-room_among targets cookies (Cookie c) among few = λ absent. below (distinct_count (◌==◌) (cookies_in targets)) (length cookies) (count-among cookies (cookies_in targets) among) few
+room_among targets cookies (Cookie c) among few =
+    λ absent. below (distinct_count (◌==◌) (cookies_in targets)) (length cookies) (count-among cookies (cookies_in targets) among) few
   where
     below : (a b : ℕ) → a ≤ b → b < 64 → a < 64
     below a b h l = omega arith

@@ -1,5 +1,6 @@
 -- What an unmapping tests of the pages of its space.
-use Rattle.std.proofs.Common.{◌≡◌, ℕ, ◌+◌, ◌*◌, ◌%◌, ◌^◌, ◌<◌, ◌≤◌, ◌==◌, Bool, true, false, List, Option, Some, None, [], ◌∷◌, refl, sym, ap, subst, ◌∙◌, arith, if◌then◌else◌}
+use Rattle.std.proofs.Common.{◌≡◌, ℕ, ◌+◌, ◌*◌, ◌%◌, ◌^◌, ◌<◌, ◌≤◌, ◌==◌, Bool, true, false, List, Option, Some, None, [], ◌∷◌, refl, sym, ap, subst, ◌∙◌}
+use Rattle.std.proofs.Common.{arith, if◌then◌else◌}
 use Rattle.std.specs.Prelude.{not, ◌&&◌, nat_lt, nat_le, is_some, Result, Ok, Err, IsOk}
 use Rattle.std.proofs.lemmas.Bool.Decides.{nat_tests}
 use Rattle.std.proofs.Math.Nat.{pow-le-pow_right}
@@ -22,7 +23,8 @@ mapped-are : (pages : List PageWire) (q n : ℕ) (b : Bool) → all_below n (λ 
 unfolding are_mapped
 mapped-are pages q n b is = is
 
-unmap-is : (pages : List PageWire) (q n : ℕ) (a b c : Bool) → (nat_le 1 n && nat_le n 48) ≡ a → nat_lt (2 ^ 36) (q + n) ≡ b → all_below n (λ j. is_mapped pages (q + j)) ≡ c
+unmap-is : (pages : List PageWire) (q n : ℕ) (a b c : Bool) → (nat_le 1 n && nat_le n 48) ≡ a → nat_lt (2 ^ 36) (q + n) ≡ b
+    → all_below n (λ j. is_mapped pages (q + j)) ≡ c
     → verdict (unmap_causes pages q n) ≡ verdict ((not a, refusal.BadCount) ∷ (b, refusal.PageRange) ∷ (not c, refusal.NotMapped) ∷ [])
 unmap-is pages q n a b c count past there = rw (count, past, there) refl
 
@@ -32,11 +34,14 @@ few n some most = grind (arith, nat_tests)
 within : (q n : ℕ) → q + n ≤ 2 ^ 36 → nat_lt (2 ^ 36) (q + n) ≡ false
 within q n h = grind (arith, nat_tests)
 
-pub some-unmapped : (pages : List PageWire) (q n : ℕ) → 1 ≤ n → n ≤ 48 → q + n ≤ 2 ^ 36 → are_mapped pages q n ≡ false → Err refusal.NotMapped ≡ verdict (unmap_causes pages q n)
-some-unmapped pages q n some most range missing = sym (unmap-is pages q n true false false (few n some most) (within q n range) (are_mapped-is pages q n false missing))
+pub some-unmapped : (pages : List PageWire) (q n : ℕ) → 1 ≤ n → n ≤ 48 → q + n ≤ 2 ^ 36 → are_mapped pages q n ≡ false → Err refusal.NotMapped
+    ≡ verdict (unmap_causes pages q n)
+some-unmapped pages q n some most range missing =
+    sym (unmap-is pages q n true false false (few n some most) (within q n range) (are_mapped-is pages q n false missing))
 
 pub all-mapped : (pages : List PageWire) (q n : ℕ) → 1 ≤ n → n ≤ 48 → q + n ≤ 2 ^ 36 → are_mapped pages q n ≡ true → Ok tt ≡ verdict (unmap_causes pages q n)
-all-mapped pages q n some most range there = sym (unmap-is pages q n true false true (few n some most) (within q n range) (are_mapped-is pages q n true there))
+all-mapped pages q n some most range there =
+    sym (unmap-is pages q n true false true (few n some most) (within q n range) (are_mapped-is pages q n true there))
 
 pub record MayUnmap (pages : List PageWire) (page count : ℕ) : Type 0 where
   pub few : count ≤ 48
@@ -44,7 +49,9 @@ pub record MayUnmap (pages : List PageWire) (page count : ℕ) : Type 0 where
   pub mapped : are_mapped pages page count ≡ true
 
 pub may_unmap-tests : (pages : List PageWire) (q n : ℕ) → IsOk (verdict (unmap_causes pages q n)) → MayUnmap pages q n
-may_unmap-tests pages q n may = go (nat_le 1 n && nat_le n 48) (nat_lt (2 ^ 36) (q + n)) (all_below n (λ j. is_mapped pages (q + j))) refl refl refl (subst (λ (r : Result (Unit {0}) Refusal). IsOk r) (unmap-is pages q n _ _ _ refl refl refl) may)
+may_unmap-tests pages q n may =
+    go (nat_le 1 n && nat_le n 48) (nat_lt (2 ^ 36) (q + n)) (all_below n (λ j. is_mapped pages (q + j))) refl refl refl
+    (subst (λ (r : Result (Unit {0}) Refusal). IsOk r) (unmap-is pages q n _ _ _ refl refl refl) may)
   where
     most : (n : ℕ) → (nat_le 1 n && nat_le n 48) ≡ true → n ≤ 48
     most n is = grind (arith, nat_tests)
@@ -74,8 +81,10 @@ some_mapped-is : (pages : List PageWire) (q n : ℕ) (b : Bool) → is_some_mapp
 unfolding is_some_mapped
 some_mapped-is pages q n b is = is
 
-range-is : (pages : List PageWire) (q k : ℕ) (a b c d : Bool) → nat_lt 9 k ≡ a → nat_lt (2 ^ 36) (q + 2 ^ k) ≡ b → (q % 2 ^ k == 0) ≡ c → any_below (2 ^ k) (λ j. is_mapped pages (q + j)) ≡ d
-    → verdict (range_causes pages q k) ≡ verdict ((a, refusal.BadOrder) ∷ (b, refusal.PageRange) ∷ (not c, refusal.NotAligned) ∷ (not d, refusal.NothingMapped) ∷ [])
+range-is : (pages : List PageWire) (q k : ℕ) (a b c d : Bool) → nat_lt 9 k ≡ a → nat_lt (2 ^ 36) (q + 2 ^ k) ≡ b → (q % 2 ^ k == 0) ≡ c
+    → any_below (2 ^ k) (λ j. is_mapped pages (q + j)) ≡ d
+    → verdict (range_causes pages q k)
+    ≡ verdict ((a, refusal.BadOrder) ∷ (b, refusal.PageRange) ∷ (not c, refusal.NotAligned) ∷ (not d, refusal.NothingMapped) ∷ [])
 range-is pages q k a b c d small past aligned some = rw (small, past, aligned, some) refl
 
 -- the first three tests passed
@@ -108,7 +117,8 @@ may_unmap_range-tests pages q k may = go (nat_lt 9 k) (nat_lt (2 ^ 36) (q + 2 ^ 
     inside q n is = grind (arith, nat_tests)
 
     go : (a b : Bool) → nat_lt 9 k ≡ a → nat_lt (2 ^ 36) (q + 2 ^ k) ≡ b
-        → IsOk (verdict ((a, refusal.BadOrder) ∷ (b, refusal.PageRange) ∷ (not (q % 2 ^ k == 0), refusal.NotAligned) ∷ (not (any_below (2 ^ k) (λ j. is_mapped pages (q + j))), refusal.NothingMapped) ∷ [])) → MayUnmapRange q k
+        → IsOk (verdict ((a, refusal.BadOrder) ∷ (b, refusal.PageRange) ∷ (not (q % 2 ^ k == 0), refusal.NotAligned)
+        ∷ (not (any_below (2 ^ k) (λ j. is_mapped pages (q + j))), refusal.NothingMapped) ∷ [])) → MayUnmapRange q k
     go false false small past may = record { small = not_past k small; range = inside q (2 ^ k) past }
     go true b small past may = absurd (cc)
     go false true small past may = absurd (cc)
@@ -125,5 +135,6 @@ in_space causes pages = if not (is_some pages) then Err refusal.NoSuchSpace else
 pub no_space : (causes : List PageWire → List Cause) (pages : Option (List PageWire)) → pages ≡ None → Err refusal.NoSuchSpace ≡ in_space causes pages
 no_space causes pages none = sym (ap (in_space causes) none)
 
-pub a_space : (causes : List PageWire → List Cause) (found : Option (List PageWire)) (pages : List PageWire) → found ≡ Some pages → verdict (causes pages) ≡ in_space causes found
+pub a_space : (causes : List PageWire → List Cause) (found : Option (List PageWire)) (pages : List PageWire) → found ≡ Some pages
+    → verdict (causes pages) ≡ in_space causes found
 a_space causes found pages there = sym (ap (in_space causes) there)

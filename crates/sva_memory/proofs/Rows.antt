@@ -1,5 +1,6 @@
 -- Pages in a row, those of them that are mapped.
-use Rattle.std.proofs.Common.{◌≡◌, ℕ, suc, ◌+◌, ◌<◌, ◌≤◌, ◌==◌, Bool, true, false, cond, List, Option, Some, None, [], ◌∷◌, ◌++◌, set, refl, sym, ap, ◌∙◌, arith, add-one, if◌then◌else◌}
+use Rattle.std.proofs.Common.{◌≡◌, ℕ, suc, ◌+◌, ◌<◌, ◌≤◌, ◌==◌, Bool, true, false, cond, List, Option, Some, None, [], ◌∷◌, ◌++◌, set, refl, sym, ap, ◌∙◌}
+use Rattle.std.proofs.Common.{arith, add-one, if◌then◌else◌}
 use Rattle.std.specs.Prelude.{◌||◌, filter}
 use Rattle.std.specs.declared.cmp.Ordering.{Ordering}
 use Rattle.std.specs.declared.cmp.Ordering.TheVariants.{Less, Equal, Greater}
@@ -32,7 +33,8 @@ is_less a b is = by_rank (nat_cmp a b) is (ranked a b (nat_cmp a b) refl)
 between-above : (q n p : ℕ) (ms : List (ℕ × (ℕ × Bool))) → AllAbove p ms → q + n ≤ p + 1 → filter (is_between q n) (pages_seen ms) ≡ []
 between-above q n p [] above end = refl
 between-above q n p (m ∷ ms) above end =
-    ap (λ b. cond b (page_seen m ∷ filter (is_between q n) (pages_seen ms)) (filter (is_between q n) (pages_seen ms))) (outside q n p m.0 end (is_less p m.0 above.0))
+    ap (λ b. cond b (page_seen m ∷ filter (is_between q n) (pages_seen ms)) (filter (is_between q n) (pages_seen ms)))
+    (outside q n p m.0 end (is_less p m.0 above.0))
     ∙ between-above q n p ms above.1 end
   where
     outside : (q n p k : ℕ) → q + n ≤ p + 1 → p < k → in_range q n k ≡ false
@@ -51,7 +53,8 @@ between-none q (p ∷ ps) = ap (λ b. cond b (p ∷ filter (is_between q 0) ps) 
     outside : (q k : ℕ) → in_range q 0 k ≡ false
     outside q k = grind (arith, nat_tests)
 
-pub between-more : (q j : ℕ) (ms : List (ℕ × (ℕ × Bool))) → IsRising ms → filter (is_between q (j + 1)) (pages_seen ms) ≡ filter (is_between q j) (pages_seen ms) ++ listed (page_at (pages_seen ms) (q + j))
+pub between-more : (q j : ℕ) (ms : List (ℕ × (ℕ × Bool))) → IsRising ms → filter (is_between q (j + 1)) (pages_seen ms)
+    ≡ filter (is_between q j) (pages_seen ms) ++ listed (page_at (pages_seen ms) (q + j))
 unfolding IsStrictlySortedBy
 between-more q j [] rising = refl
 between-more q j (m ∷ ms) rising = by_tests (in_range q j m.0) (m.0 == q + j) refl refl (between-more q j ms rising.1)
@@ -68,8 +71,11 @@ between-more q j (m ∷ ms) rising = by_tests (in_range q j m.0) (m.0 == q + j) 
     chosen : Bool → ℕ → List PageWire
     chosen b n = cond b (page_seen m ∷ filter (is_between q n) (pages_seen ms)) (filter (is_between q n) (pages_seen ms))
 
-    by_tests : (a b : Bool) → in_range q j m.0 ≡ a → (m.0 == q + j) ≡ b → filter (is_between q (j + 1)) (pages_seen ms) ≡ filter (is_between q j) (pages_seen ms) ++ listed (page_at (pages_seen ms) (q + j))
-        → cond (in_range q (j + 1) m.0) (page_seen m ∷ filter (is_between q (j + 1)) (pages_seen ms)) (filter (is_between q (j + 1)) (pages_seen ms)) ≡ cond (in_range q j m.0) (page_seen m ∷ filter (is_between q j) (pages_seen ms)) (filter (is_between q j) (pages_seen ms)) ++ listed (if m.0 == q + j then Some (page_seen m) else page_at (pages_seen ms) (q + j))
+    by_tests : (a b : Bool) → in_range q j m.0 ≡ a → (m.0 == q + j) ≡ b → filter (is_between q (j + 1)) (pages_seen ms)
+        ≡ filter (is_between q j) (pages_seen ms) ++ listed (page_at (pages_seen ms) (q + j))
+        → cond (in_range q (j + 1) m.0) (page_seen m ∷ filter (is_between q (j + 1)) (pages_seen ms)) (filter (is_between q (j + 1)) (pages_seen ms))
+        ≡ cond (in_range q j m.0) (page_seen m ∷ filter (is_between q j) (pages_seen ms)) (filter (is_between q j) (pages_seen ms))
+        ++ listed (if m.0 == q + j then Some (page_seen m) else page_at (pages_seen ms) (q + j))
     by_tests true true is at rest = absurd (not_both q j m.0 is at)
     by_tests true false is at rest = rw (one_of q j m.0 true false is at, is, at) (ap (λ ps. page_seen m ∷ ps) rest)
     by_tests false true is at rest =
@@ -79,7 +85,8 @@ between-more q j (m ∷ ms) rising = by_tests (in_range q j m.0) (m.0 == q + j) 
         ∙ sym (ap (λ ps. ps ++ page_seen m ∷ []) (between-above q j m.0 ms rising.0 (omega (arith, here)))))
     by_tests false false is at rest = rw (one_of q j m.0 false false is at, is, at) rest
 
-pub placed-more : (x : PlaceWire) (es : List PageWire) (entry : PageWire) (places : List PlaceWire) → placed x (es ++ entry ∷ []) places ≡ set (placed x es places) entry.frame x
+pub placed-more : (x : PlaceWire) (es : List PageWire) (entry : PageWire) (places : List PlaceWire) → placed x (es ++ entry ∷ []) places
+    ≡ set (placed x es places) entry.frame x
 placed-more x [] entry places = refl
 placed-more x (e ∷ es) entry places = placed-more x es entry (set places e.frame x)
 
@@ -88,7 +95,8 @@ pub without-missing : (ms : List (ℕ × (ℕ × Bool))) (q : ℕ) → mapping_a
 without-missing [] q none = refl
 without-missing (m ∷ ms) q none = by_test (is_at (nat_cmp q) m.0) refl (without-missing ms q)
   where
-    by_test : (b : Bool) → is_at (nat_cmp q) m.0 ≡ b → (mapping_at ms q ≡ None → without_page ms q ≡ ms) → cond (is_at (nat_cmp q) m.0) ms (m ∷ without_page ms q) ≡ m ∷ ms
+    by_test : (b : Bool) → is_at (nat_cmp q) m.0 ≡ b → (mapping_at ms q ≡ None → without_page ms q ≡ ms)
+        → cond (is_at (nat_cmp q) m.0) ms (m ∷ without_page ms q) ≡ m ∷ ms
     by_test true is rest = absurd (cc (sym (ap (λ b. cond b (Some m.1) (mapping_at ms q)) is) ∙ none))
     by_test false is rest =
         ap (λ b. cond b ms (m ∷ without_page ms q)) is
@@ -100,12 +108,15 @@ pub count_mapped-none : (ps : List PageWire) (q : ℕ) → count_mapped ps q 0 �
 unfolding count_mapped count_below
 count_mapped-none ps q = refl
 
-count_mapped-suc : (ps : List PageWire) (q j : ℕ) → count_mapped ps q (suc j) ≡ (if is_mapped ps (q + j) then suc (count_mapped ps q j) else count_mapped ps q j)
+count_mapped-suc : (ps : List PageWire) (q j : ℕ) → count_mapped ps q (suc j)
+    ≡ (if is_mapped ps (q + j) then suc (count_mapped ps q j) else count_mapped ps q j)
 unfolding count_mapped count_below
 count_mapped-suc ps q j = refl
 
-pub count_mapped-more : (ps : List PageWire) (q j : ℕ) (b : Bool) → is_mapped ps (q + j) ≡ b → count_mapped ps q (j + 1) ≡ (if b then suc (count_mapped ps q j) else count_mapped ps q j)
-count_mapped-more ps q j b is = ap (count_mapped ps q) (add-one j) ∙ count_mapped-suc ps q j ∙ ap (λ c. if c then suc (count_mapped ps q j) else count_mapped ps q j) is
+pub count_mapped-more : (ps : List PageWire) (q j : ℕ) (b : Bool) → is_mapped ps (q + j) ≡ b → count_mapped ps q (j + 1)
+    ≡ (if b then suc (count_mapped ps q j) else count_mapped ps q j)
+count_mapped-more ps q j b is = ap (count_mapped ps q) (add-one j) ∙ count_mapped-suc ps q j
+    ∙ ap (λ c. if c then suc (count_mapped ps q j) else count_mapped ps q j) is
 
 -- Whether some of them is.
 
@@ -118,7 +129,8 @@ unfolding is_some_mapped any_below
 some_mapped-suc ps q j = refl
 
 pub some_mapped-more : (ps : List PageWire) (q j : ℕ) → is_some_mapped ps q j ≡ false → is_mapped ps (q + j) ≡ false → is_some_mapped ps q (j + 1) ≡ false
-some_mapped-more ps q j before here = ap (is_some_mapped ps q) (add-one j) ∙ some_mapped-suc ps q j ∙ ap (λ b. if b then true else is_some_mapped ps q j) here ∙ before
+some_mapped-more ps q j before here = ap (is_some_mapped ps q) (add-one j) ∙ some_mapped-suc ps q j
+    ∙ ap (λ b. if b then true else is_some_mapped ps q j) here ∙ before
 
 pub some_mapped-at : (ps : List PageWire) (q n j : ℕ) → j < n → is_mapped ps (q + j) ≡ true → is_some_mapped ps q n ≡ true
 unfolding is_some_mapped

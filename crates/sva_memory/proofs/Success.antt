@@ -61,7 +61,8 @@ frames_enough pages places asks may =
     (subst (λ (r : Result (Unit {0}) Refusal). IsOk r) (success-is pages places asks _ _ _ refl refl refl) may)
   where
     go : (a b : Bool) → writes_read_only pages asks ≡ a → nat_lt (length (free_from 0 places)) (length (new_among pages asks)) ≡ b
-        → IsOk (verdict ((a, refusal.BadVerdict) ∷ (b, refusal.NoFrame) ∷ (nat_lt 1024 (length pages + length (new_among pages asks)), refusal.SpaceFull) ∷ []))
+        → IsOk (verdict ((a, refusal.BadVerdict) ∷ (b, refusal.NoFrame)
+        ∷ (nat_lt 1024 (length pages + length (new_among pages asks)), refusal.SpaceFull) ∷ []))
         → length (new_among pages asks) ≤ length (free_from 0 places)
     go false false is enough may = is_at_least (length (free_from 0 places)) (length (new_among pages asks)) enough
     go true b is enough may = absurd (cc)

@@ -1,5 +1,6 @@
 -- Pages that are taken out in a row, one after another, those of them that are mapped.
-use Rattle.std.proofs.Common.{◌≡◌, ◌≢◌, ℕ, suc, ◌+◌, ◌<◌, ◌≤◌, Bool, true, false, List, Option, Some, None, [], ◌∷◌, ◌++◌, length, set, slice_get, refl, sym, ap, subst, ◌∙◌, arith}
+use Rattle.std.proofs.Common.{◌≡◌, ◌≢◌, ℕ, suc, ◌+◌, ◌<◌, ◌≤◌, Bool, true, false, List, Option, Some, None, [], ◌∷◌, ◌++◌, length, set, slice_get, refl}
+use Rattle.std.proofs.Common.{sym, ap, subst, ◌∙◌, arith}
 use Rattle.std.specs.Prelude.{filter, is_some, option_map}
 use Rattle.std.proofs.lemmas.List.{length-append}
 use Rattle.std.proofs.lemmas.Option.{slice_get_within}
@@ -13,21 +14,24 @@ use Rattle.sva_labels.specs.Moves.{is_between, placed, place_for, without_pages}
 use Rattle.sva_memory.specs.Seen.{page_seen, pages_seen, places_seen, targets_seen}
 use Rattle.sva_memory.specs.Owned.{Owns, Balanced}
 use Rattle.sva_memory.specs.Pieces.{are_mapped, count_mapped}
-use Rattle.sva_memory.proofs.PageLists.{page_at-seen, without-none, without-more, page_at-without, pages_seen-remove, frames_of-none, frames_of-more, are_mapped-at}
+use Rattle.sva_memory.proofs.PageLists.{page_at-seen, without-none, without-more, page_at-without, pages_seen-remove, frames_of-none, frames_of-more}
+use Rattle.sva_memory.proofs.PageLists.{are_mapped-at}
 use Rattle.sva_memory.proofs.FrameLists.{places_seen-set}
 use Rattle.sva_memory.proofs.Counting.{balanced-none, balanced-on, balanced-is, balanced-unmap, owns-on, owned-mapped}
 use Rattle.sva_memory.proofs.Rows.{listed, between-none, between-more, placed-more, without-missing, count_mapped-none, count_mapped-more}
 use Rattle.sva_memory.proofs.Waiting.{place-after, none-after, room_kept}
 
 -- of so many pages from one on, those that were mapped are out of the space, and their frames wait for these targets
-pub record Went (old : List (ℕ × (ℕ × Bool))) (frames_old : List Holding) (waits : List (Option Target)) (page number : ℕ) (ms : List (ℕ × (ℕ × Bool))) (frames : List Holding) : Type 0 where
+pub record Went (old : List (ℕ × (ℕ × Bool))) (frames_old : List Holding) (waits : List (Option Target)) (page number : ℕ)
+    (ms : List (ℕ × (ℕ × Bool))) (frames : List Holding) : Type 0 where
   pub pages : pages_seen ms ≡ without_pages page number (pages_seen old)
   pub places : places_seen frames ≡ placed (place_for (targets_seen waits)) (filter (is_between page number) (pages_seen old)) (places_seen frames_old)
   pub rising : IsRising ms
   pub balanced : Balanced old frames_old ms frames
   pub room : HaveRoom frames waits
 
-pub none_went : (ms : List (ℕ × (ℕ × Bool))) (frames : List Holding) (waits : List (Option Target)) (q : ℕ) → IsRising ms → HaveRoom frames waits → Went ms frames waits q 0 ms frames
+pub none_went : (ms : List (ℕ × (ℕ × Bool))) (frames : List Holding) (waits : List (Option Target)) (q : ℕ) → IsRising ms → HaveRoom frames waits
+    → Went ms frames waits q 0 ms frames
 none_went ms frames waits q rising room = record {
   pages = sym (without-none q (pages_seen ms));
   places = sym (ap (λ (es : List PageWire). placed (place_for (targets_seen waits)) es (places_seen frames)) (between-none q (pages_seen ms)));
@@ -37,24 +41,33 @@ none_went ms frames waits q rising room = record {
 }
 
 -- the next page is as it was
-next_page : (old ms : List (ℕ × (ℕ × Bool))) (q j : ℕ) → pages_seen ms ≡ without_pages q j (pages_seen old) → page_at (pages_seen old) (q + j) ≡ option_map (λ (m : ℕ × Bool). page_seen (q + j, m)) (mapping_at ms (q + j))
+next_page : (old ms : List (ℕ × (ℕ × Bool))) (q j : ℕ) → pages_seen ms ≡ without_pages q j (pages_seen old) → page_at (pages_seen old) (q + j)
+    ≡ option_map (λ (m : ℕ × Bool). page_seen (q + j, m)) (mapping_at ms (q + j))
 next_page old ms q j is = sym (page_at-without q j (pages_seen old)) ∙ sym (ap (λ (ps : List PageWire). page_at ps (q + j)) is) ∙ page_at-seen ms (q + j)
 
-pub next_mapped : (old ms : List (ℕ × (ℕ × Bool))) (frames_old frames : List Holding) (waits : List (Option Target)) (q j f : ℕ) (x : Bool) → Owns old frames_old → Went old frames_old waits q j ms frames → mapping_at ms (q + j) ≡ Some (f, x) → slice_get frames f ≡ Some Mapped
-next_mapped old ms frames_old frames waits q j f x owned went there = owned-mapped ms frames (q + j) (f, x) (owns-on old ms frames_old frames owned went.balanced) there
+pub next_mapped : (old ms : List (ℕ × (ℕ × Bool))) (frames_old frames : List Holding) (waits : List (Option Target)) (q j f : ℕ) (x : Bool)
+    → Owns old frames_old → Went old frames_old waits q j ms frames → mapping_at ms (q + j) ≡ Some (f, x) → slice_get frames f ≡ Some Mapped
+next_mapped old ms frames_old frames waits q j f x owned went there =
+    owned-mapped ms frames (q + j) (f, x) (owns-on old ms frames_old frames owned went.balanced) there
 
 -- a page that is there goes
-pub one_more_went : (old ms ms_after : List (ℕ × (ℕ × Bool))) (frames_old frames frames_after : List Holding) (waits : List (Option Target)) (q j f : ℕ) (x : Bool) → IsRising old → Owns old frames_old → Went old frames_old waits q j ms frames → mapping_at ms (q + j) ≡ Some (f, x)
-    → ms_after ≡ without_page ms (q + j) → IsRising ms_after → frames_after ≡ set frames f (after_waits waits) → Went old frames_old waits q (j + 1) ms_after frames_after
+pub one_more_went : (old ms ms_after : List (ℕ × (ℕ × Bool))) (frames_old frames frames_after : List Holding) (waits : List (Option Target))
+    (q j f : ℕ) (x : Bool) → IsRising old → Owns old frames_old → Went old frames_old waits q j ms frames → mapping_at ms (q + j) ≡ Some (f, x)
+    → ms_after ≡ without_page ms (q + j) → IsRising ms_after → frames_after ≡ set frames f (after_waits waits)
+    → Went old frames_old waits q (j + 1) ms_after frames_after
 one_more_went old ms ms_after frames_old frames frames_after waits q j f x old_rising owned went there removed rising gave =
-    let here : page_at (pages_seen old) (q + j) ≡ Some (page_seen (q + j, (f, x))) = next_page old ms q j went.pages ∙ ap (option_map (λ (m : ℕ × Bool). page_seen (q + j, m))) there in
+    let here : page_at (pages_seen old) (q + j) ≡ Some (page_seen (q + j, (f, x))) =
+    next_page old ms q j went.pages ∙ ap (option_map (λ (m : ℕ × Bool). page_seen (q + j, m))) there in
     let place = place_for (targets_seen waits) in
     record {
-      pages = ap pages_seen removed ∙ pages_seen-remove ms (q + j) went.rising ∙ ap (without_pages (q + j) 1) went.pages ∙ sym (without-more q j (pages_seen old));
+      pages = ap pages_seen removed ∙ pages_seen-remove ms (q + j) went.rising ∙ ap (without_pages (q + j) 1) went.pages
+          ∙ sym (without-more q j (pages_seen old));
       places =
-          ap places_seen gave ∙ places_seen-set frames f (after_waits waits) ∙ ap (set (places_seen frames) f) (place-after waits) ∙ ap (λ (ps : List PlaceWire). set ps f place) went.places
+          ap places_seen gave ∙ places_seen-set frames f (after_waits waits) ∙ ap (set (places_seen frames) f) (place-after waits)
+          ∙ ap (λ (ps : List PlaceWire). set ps f place) went.places
           ∙ sym (placed-more place (filter (is_between q j) (pages_seen old)) (page_seen (q + j, (f, x))) (places_seen frames_old))
-          ∙ sym (ap (λ (es : List PageWire). placed place es (places_seen frames_old)) (between-more q j old old_rising ∙ ap (λ (o : Option PageWire). filter (is_between q j) (pages_seen old) ++ listed o) here));
+          ∙ sym (ap (λ (es : List PageWire). placed place es (places_seen frames_old)) (between-more q j old old_rising
+          ∙ ap (λ (o : Option PageWire). filter (is_between q j) (pages_seen old) ++ listed o) here));
       rising = rising;
       balanced =
           balanced-on old ms ms_after frames_old frames frames_after went.balanced
@@ -66,16 +79,21 @@ one_more_went old ms ms_after frames_old frames frames_after waits q j f x old_r
     }
 
 -- a page that isn't there
-pub none_more_went : (old ms ms_after : List (ℕ × (ℕ × Bool))) (frames_old frames frames_after : List Holding) (waits : List (Option Target)) (q j : ℕ) → IsRising old → Went old frames_old waits q j ms frames → mapping_at ms (q + j) ≡ None → ms_after ≡ without_page ms (q + j) → frames_after ≡ frames
+pub none_more_went : (old ms ms_after : List (ℕ × (ℕ × Bool))) (frames_old frames frames_after : List Holding) (waits : List (Option Target))
+    (q j : ℕ) → IsRising old → Went old frames_old waits q j ms frames → mapping_at ms (q + j) ≡ None → ms_after ≡ without_page ms (q + j)
+    → frames_after ≡ frames
     → Went old frames_old waits q (j + 1) ms_after frames_after
 none_more_went old ms ms_after frames_old frames frames_after waits q j old_rising went missing removed kept =
     let here : page_at (pages_seen old) (q + j) ≡ None = next_page old ms q j went.pages ∙ ap (option_map (λ (m : ℕ × Bool). page_seen (q + j, m))) missing in
     let same : ms_after ≡ ms = removed ∙ without-missing ms (q + j) missing in
     record {
-      pages = ap pages_seen removed ∙ pages_seen-remove ms (q + j) went.rising ∙ ap (without_pages (q + j) 1) went.pages ∙ sym (without-more q j (pages_seen old));
+      pages = ap pages_seen removed ∙ pages_seen-remove ms (q + j) went.rising ∙ ap (without_pages (q + j) 1) went.pages
+          ∙ sym (without-more q j (pages_seen old));
       places =
           ap places_seen kept ∙ went.places
-          ∙ sym (ap (λ (es : List PageWire). placed (place_for (targets_seen waits)) es (places_seen frames_old)) (between-more q j old old_rising ∙ ap (λ (o : Option PageWire). filter (is_between q j) (pages_seen old) ++ listed o) here ∙ no_more (filter (is_between q j) (pages_seen old))));
+          ∙ sym (ap (λ (es : List PageWire). placed (place_for (targets_seen waits)) es (places_seen frames_old)) (between-more q j old old_rising
+          ∙ ap (λ (o : Option PageWire). filter (is_between q j) (pages_seen old) ++ listed o) here
+          ∙ no_more (filter (is_between q j) (pages_seen old))));
       rising = subst (λ (ns : List (ℕ × (ℕ × Bool))). IsRising ns) (sym same) went.rising;
       balanced = balanced-is old ms ms_after frames_old frames frames_after same kept went.balanced;
       room = subst (λ (fs : List Holding). HaveRoom fs waits) (sym kept) went.room;
@@ -87,28 +105,37 @@ none_more_went old ms ms_after frames_old frames frames_after waits q j old_risi
 
 -- Where each of them is mapped, their frames are listed.
 
-pub record Out (old : List (ℕ × (ℕ × Bool))) (frames_old : List Holding) (waits : List (Option Target)) (page number : ℕ) (ms : List (ℕ × (ℕ × Bool))) (frames : List Holding) (taken : List ℕ) : Type 0 where
+pub record Out (old : List (ℕ × (ℕ × Bool))) (frames_old : List Holding) (waits : List (Option Target)) (page number : ℕ)
+    (ms : List (ℕ × (ℕ × Bool))) (frames : List Holding) (taken : List ℕ) : Type 0 where
   pub went : Went old frames_old waits page number ms frames
   pub taken_is : taken ≡ frames_of (pages_seen old) page number
   pub count : length taken ≡ number
 
-pub none_out : (ms : List (ℕ × (ℕ × Bool))) (frames : List Holding) (waits : List (Option Target)) (q : ℕ) (taken : List ℕ) → taken ≡ [] → IsRising ms → HaveRoom frames waits → Out ms frames waits q 0 ms frames taken
+pub none_out : (ms : List (ℕ × (ℕ × Bool))) (frames : List Holding) (waits : List (Option Target)) (q : ℕ) (taken : List ℕ) → taken ≡ []
+    → IsRising ms → HaveRoom frames waits → Out ms frames waits q 0 ms frames taken
 none_out ms frames waits q taken none rising room = record {
   went = none_went ms frames waits q rising room;
   taken_is = none ∙ sym (frames_of-none (pages_seen ms) q);
   count = ap length none;
 }
 
-pub never_missing : (old ms : List (ℕ × (ℕ × Bool))) (q j n : ℕ) → pages_seen ms ≡ without_pages q j (pages_seen old) → are_mapped (pages_seen old) q n ≡ true → j < n → mapping_at ms (q + j) ≢ None
+pub never_missing : (old ms : List (ℕ × (ℕ × Bool))) (q j n : ℕ) → pages_seen ms ≡ without_pages q j (pages_seen old)
+    → are_mapped (pages_seen old) q n ≡ true → j < n → mapping_at ms (q + j) ≢ None
 never_missing old ms q j n is all within none =
     let there : is_mapped (pages_seen old) (q + j) ≡ true = are_mapped-at (pages_seen old) q n j all within in
-    let missing : is_mapped (pages_seen old) (q + j) ≡ false = ap is_some (next_page old ms q j is ∙ ap (option_map (λ (m : ℕ × Bool). page_seen (q + j, m))) none) in
+    let missing : is_mapped (pages_seen old) (q + j) ≡ false =
+    ap is_some (next_page old ms q j is ∙ ap (option_map (λ (m : ℕ × Bool). page_seen (q + j, m))) none) in
     cc (sym there ∙ missing)
 
-pub one_more_out : (old ms ms_after : List (ℕ × (ℕ × Bool))) (frames_old frames frames_after : List Holding) (waits : List (Option Target)) (q j f number : ℕ) (x : Bool) (taken taken_after : List ℕ) → IsRising old → Owns old frames_old → Out old frames_old waits q j ms frames taken → mapping_at ms (q + j) ≡ Some (f, x) → number ≡ f
-    → taken_after ≡ taken ++ number ∷ [] → ms_after ≡ without_page ms (q + j) → IsRising ms_after → frames_after ≡ set frames f (after_waits waits) → Out old frames_old waits q (j + 1) ms_after frames_after taken_after
-one_more_out old ms ms_after frames_old frames frames_after waits q j f number x taken taken_after old_rising owned out there is_number pushed removed rising gave =
-    let here : frame_or_0 (page_at (pages_seen old) (q + j)) ≡ f = ap frame_or_0 (next_page old ms q j out.went.pages ∙ ap (option_map (λ (m : ℕ × Bool). page_seen (q + j, m))) there) in
+pub one_more_out : (old ms ms_after : List (ℕ × (ℕ × Bool))) (frames_old frames frames_after : List Holding) (waits : List (Option Target))
+    (q j f number : ℕ) (x : Bool) (taken taken_after : List ℕ) → IsRising old → Owns old frames_old → Out old frames_old waits q j ms frames taken
+    → mapping_at ms (q + j) ≡ Some (f, x) → number ≡ f
+    → taken_after ≡ taken ++ number ∷ [] → ms_after ≡ without_page ms (q + j) → IsRising ms_after → frames_after ≡ set frames f (after_waits waits)
+    → Out old frames_old waits q (j + 1) ms_after frames_after taken_after
+one_more_out old ms ms_after frames_old frames frames_after waits q j f number x taken taken_after old_rising owned out there is_number pushed
+    removed rising gave =
+    let here : frame_or_0 (page_at (pages_seen old) (q + j)) ≡ f =
+    ap frame_or_0 (next_page old ms q j out.went.pages ∙ ap (option_map (λ (m : ℕ × Bool). page_seen (q + j, m))) there) in
     record {
       went = one_more_went old ms ms_after frames_old frames frames_after waits q j f x old_rising owned out.went there removed rising gave;
       taken_is =
@@ -123,35 +150,45 @@ one_more_out old ms ms_after frames_old frames frames_after waits q j f number x
 
 -- Where some of them are, these are counted.
 
-pub record OutOfRange (old : List (ℕ × (ℕ × Bool))) (frames_old : List Holding) (waits : List (Option Target)) (page number : ℕ) (ms : List (ℕ × (ℕ × Bool))) (frames : List Holding) (count : ℕ) : Type 0 where
+pub record OutOfRange (old : List (ℕ × (ℕ × Bool))) (frames_old : List Holding) (waits : List (Option Target)) (page number : ℕ)
+    (ms : List (ℕ × (ℕ × Bool))) (frames : List Holding) (count : ℕ) : Type 0 where
   pub went : Went old frames_old waits page number ms frames
   pub count_is : count ≡ count_mapped (pages_seen old) page number
   pub few : count ≤ number
 
-pub none_of_range : (ms : List (ℕ × (ℕ × Bool))) (frames : List Holding) (waits : List (Option Target)) (q : ℕ) → IsRising ms → HaveRoom frames waits → OutOfRange ms frames waits q 0 ms frames 0
+pub none_of_range : (ms : List (ℕ × (ℕ × Bool))) (frames : List Holding) (waits : List (Option Target)) (q : ℕ) → IsRising ms → HaveRoom frames waits
+    → OutOfRange ms frames waits q 0 ms frames 0
 none_of_range ms frames waits q rising room = record {
   went = none_went ms frames waits q rising room;
   count_is = sym (count_mapped-none (pages_seen ms) q);
   few = omega arith;
 }
 
-pub one_more_of_range : (old ms ms_after : List (ℕ × (ℕ × Bool))) (frames_old frames frames_after : List Holding) (waits : List (Option Target)) (q j f count count_after : ℕ) (x : Bool) → IsRising old → Owns old frames_old → OutOfRange old frames_old waits q j ms frames count → mapping_at ms (q + j) ≡ Some (f, x)
-    → ms_after ≡ without_page ms (q + j) → IsRising ms_after → frames_after ≡ set frames f (after_waits waits) → count_after ≡ count + 1 → OutOfRange old frames_old waits q (j + 1) ms_after frames_after count_after
+pub one_more_of_range : (old ms ms_after : List (ℕ × (ℕ × Bool))) (frames_old frames frames_after : List Holding) (waits : List (Option Target))
+    (q j f count count_after : ℕ) (x : Bool) → IsRising old → Owns old frames_old → OutOfRange old frames_old waits q j ms frames count
+    → mapping_at ms (q + j) ≡ Some (f, x)
+    → ms_after ≡ without_page ms (q + j) → IsRising ms_after → frames_after ≡ set frames f (after_waits waits) → count_after ≡ count + 1
+    → OutOfRange old frames_old waits q (j + 1) ms_after frames_after count_after
 one_more_of_range old ms ms_after frames_old frames frames_after waits q j f count count_after x old_rising owned out there removed rising gave counted =
-    let here : page_at (pages_seen old) (q + j) ≡ Some (page_seen (q + j, (f, x))) = next_page old ms q j out.went.pages ∙ ap (option_map (λ (m : ℕ × Bool). page_seen (q + j, m))) there in
+    let here : page_at (pages_seen old) (q + j) ≡ Some (page_seen (q + j, (f, x))) = next_page old ms q j out.went.pages
+    ∙ ap (option_map (λ (m : ℕ × Bool). page_seen (q + j, m))) there in
     record {
       went = one_more_went old ms ms_after frames_old frames frames_after waits q j f x old_rising owned out.went there removed rising gave;
-      count_is = counted ∙ more count (count_mapped (pages_seen old) q j) (count_mapped (pages_seen old) q (j + 1)) out.count_is (count_mapped-more (pages_seen old) q j true (ap is_some here));
+      count_is = counted ∙ more count (count_mapped (pages_seen old) q j) (count_mapped (pages_seen old) q (j + 1)) out.count_is
+          (count_mapped-more (pages_seen old) q j true (ap is_some here));
       few = omega (arith, out.few, counted);
     }
   where
     more : (count before after : ℕ) → count ≡ before → after ≡ suc before → count + 1 ≡ after
     more count before after is next = omega arith
 
-pub none_more_of_range : (old ms ms_after : List (ℕ × (ℕ × Bool))) (frames_old frames frames_after : List Holding) (waits : List (Option Target)) (q j count count_after : ℕ) → IsRising old → OutOfRange old frames_old waits q j ms frames count → mapping_at ms (q + j) ≡ None → ms_after ≡ without_page ms (q + j)
+pub none_more_of_range : (old ms ms_after : List (ℕ × (ℕ × Bool))) (frames_old frames frames_after : List Holding) (waits : List (Option Target))
+    (q j count count_after : ℕ) → IsRising old → OutOfRange old frames_old waits q j ms frames count → mapping_at ms (q + j) ≡ None → ms_after
+    ≡ without_page ms (q + j)
     → frames_after ≡ frames → count_after ≡ count → OutOfRange old frames_old waits q (j + 1) ms_after frames_after count_after
 none_more_of_range old ms ms_after frames_old frames frames_after waits q j count count_after old_rising out missing removed kept counted =
-    let here : page_at (pages_seen old) (q + j) ≡ None = next_page old ms q j out.went.pages ∙ ap (option_map (λ (m : ℕ × Bool). page_seen (q + j, m))) missing in
+    let here : page_at (pages_seen old) (q + j) ≡ None = next_page old ms q j out.went.pages
+    ∙ ap (option_map (λ (m : ℕ × Bool). page_seen (q + j, m))) missing in
     record {
       went = none_more_went old ms ms_after frames_old frames frames_after waits q j old_rising out.went missing removed kept;
       count_is = counted ∙ out.count_is ∙ sym (count_mapped-more (pages_seen old) q j false (ap is_some here));

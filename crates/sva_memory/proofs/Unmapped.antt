@@ -18,16 +18,26 @@ use Rattle.sva_memory.proofs.ChangedSpace.{lacks_space}
 use Rattle.sva_memory.proofs.Permits.{in_space}
 
 -- no space was asked for that isn't there
-pub is_there : (causes : List PageWire → List Cause) (memory : Inside) (number : ℕ) (lives : List Live) → IsOk (in_space causes (pages_of (memory_in memory).spaces number)) → None ≡ position (is_of number) lives → lives ≡ memory.spaces.items → ⊥
-is_there causes memory number lives may none is = cc (subst (λ (o : Option (List PageWire)). IsOk (in_space causes o)) (lacks_space memory number lives none is) may)
+pub is_there : (causes : List PageWire → List Cause) (memory : Inside) (number : ℕ) (lives : List Live)
+    → IsOk (in_space causes (pages_of (memory_in memory).spaces number)) → None ≡ position (is_of number) lives → lives ≡ memory.spaces.items → ⊥
+is_there causes memory number lives may none is =
+    cc (subst (λ (o : Option (List PageWire)). IsOk (in_space causes o)) (lacks_space memory number lives none is) may)
 
 -- the test of the space is that of its pages
-pub tested : (causes : List PageWire → List Cause) (found : Option (List PageWire)) (pages : List PageWire) → found ≡ Some pages → IsOk (in_space causes found) → IsOk (in_space causes (Some pages))
+pub tested : (causes : List PageWire → List Cause) (found : Option (List PageWire)) (pages : List PageWire) → found ≡ Some pages
+    → IsOk (in_space causes found) → IsOk (in_space causes (Some pages))
 tested causes found pages there may = subst (λ (o : Option (List PageWire)). IsOk (in_space causes o)) there may
 
 -- what is left
-pub taken_out : (m : MemorySeen) (n q count : ℕ) (targets : List (Option TargetWire)) (pages pages_after : List PageWire) (spaces_after : List SpaceWire) (places_after : List PlaceWire) → OneChanged m.spaces n pages pages_after spaces_after → pages_after ≡ without_pages q count pages
-    → places_after ≡ placed (place_for targets) (filter (is_between q count) pages) m.places → record m { spaces = spaces_after; places = places_after } ≡ unmapped m n q count targets
+pub taken_out : (m : MemorySeen) (n q count : ℕ) (targets : List (Option TargetWire)) (pages pages_after : List PageWire)
+    (spaces_after : List SpaceWire) (places_after : List PlaceWire) → OneChanged m.spaces n pages pages_after spaces_after → pages_after
+    ≡ without_pages q count pages
+    → places_after ≡ placed (place_for targets) (filter (is_between q count) pages) m.places
+    → record m { spaces = spaces_after; places = places_after } ≡ unmapped m n q count targets
 taken_out m n q count targets pages pages_after spaces_after places_after one gone placed_after =
     (λ i. record m { spaces = one.put (without_pages q count) gone i; places = placed_after i })
-    ∙ ap (λ o. record m { spaces = labels.with_pages m.spaces n (without_pages q count); places = placed (place_for targets) (filter (is_between q count) (or_no_pages o)) m.places }) (sym one.found)
+    ∙ ap (λ o. record m {
+      spaces = labels.with_pages m.spaces n (without_pages q count);
+      places =
+          placed (place_for targets) (filter (is_between q count) (or_no_pages o)) m.places;
+    }) (sym one.found)

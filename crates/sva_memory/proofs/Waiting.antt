@@ -1,5 +1,6 @@
 -- What frames wait for, as it is seen, and the room for it.
-use Rattle.std.proofs.Common.{◌≡◌, ℕ, zero, suc, ◌<◌, ◌≤◌, ◌==◌, Bool, true, false, List, Option, Some, None, [], ◌∷◌, length, map, set, slice_get, refl, sym, ap, subst, ◌∙◌, arith, if◌then◌else◌}
+use Rattle.std.proofs.Common.{◌≡◌, ℕ, zero, suc, ◌<◌, ◌≤◌, ◌==◌, Bool, true, false, List, Option, Some, None, [], ◌∷◌, length, map, set, slice_get, refl}
+use Rattle.std.proofs.Common.{sym, ap, subst, ◌∙◌, arith, if◌then◌else◌}
 use Rattle.std.specs.Prelude.{not, ◌||◌, is_some, is_none, option_map, slice_index_or}
 use Rattle.std.specs.List.{list_any, list_all}
 use Rattle.std.specs.Set.{distinct_count, is_member}
@@ -30,7 +31,8 @@ has_left (Some t ∷ ts) = refl
 pub place-after : (ts : List (Option Target)) → place_seen (after_waits ts) ≡ place_for (targets_seen ts)
 place-after ts = go (list_any is_some ts) (has_left ts)
   where
-    go : (b : Bool) → list_all is_none (targets_seen ts) ≡ not b → place_seen (if b then Withheld ts else Free) ≡ (if list_all is_none (targets_seen ts) then FreeWire else WithheldWire (targets_seen ts))
+    go : (b : Bool) → list_all is_none (targets_seen ts) ≡ not b → place_seen (if b then Withheld ts else Free)
+        ≡ (if list_all is_none (targets_seen ts) then FreeWire else WithheldWire (targets_seen ts))
     go true is = sym (ap (λ c. if c then FreeWire else WithheldWire (targets_seen ts)) is)
     go false is = sym (ap (λ c. if c then FreeWire else WithheldWire (targets_seen ts)) is)
 
@@ -71,7 +73,8 @@ there_seen (t ∷ ts) (suc u) s there = there_seen ts u s there
 
 pub room_of : (frames : List Holding) (ts : List (Option Target)) → seen.HaveRoom (places_seen frames) (targets_seen ts) → HaveRoom frames ts
 room_of frames ts room u (CookieTarget c) there =
-    subst (λ (cs : List ℕ). is_member (◌==◌) cs c ≡ false → distinct_count (◌==◌) cs < 64) (ap cookies_in (awaited_all u frames) ∙ cookies_seen (map (target_at u) frames))
+    subst (λ (cs : List ℕ). is_member (◌==◌) cs c ≡ false → distinct_count (◌==◌) cs < 64) (ap cookies_in (awaited_all u frames)
+    ∙ cookies_seen (map (target_at u) frames))
     (room u (TargetWire.Cookie c) (there_seen ts u (CookieTarget c) there))
 room_of frames ts room u ResetTarget there = tt
 
@@ -86,13 +89,16 @@ room_seen frames ts room u target there = go (slice_get ts u) refl (sym (get_see
     inside : (a b : TargetWire) → Some (Some a) ≡ Some (Some b) → a ≡ b
     inside a b e = cc
 
-    go : (o : Option (Option Target)) → slice_get ts u ≡ o → option_map (option_map target_seen) o ≡ Some (Some target) → seen.HasRoom (map (awaited_at u) (places_seen frames)) target
+    go : (o : Option (Option Target)) → slice_get ts u ≡ o → option_map (option_map target_seen) o ≡ Some (Some target)
+        → seen.HasRoom (map (awaited_at u) (places_seen frames)) target
     go None is h = absurd (cc)
     go (Some None) is h = absurd (cc)
     go (Some (Some (CookieTarget c))) is h =
         subst (λ (t : TargetWire). seen.HasRoom (map (awaited_at u) (places_seen frames)) t) (inside (TargetWire.Cookie c) target h)
-        (subst (λ (cs : List ℕ). is_member (◌==◌) cs c ≡ false → distinct_count (◌==◌) cs < 64) (sym (ap cookies_in (awaited_all u frames) ∙ cookies_seen (map (target_at u) frames))) (room u (CookieTarget c) is))
-    go (Some (Some ResetTarget)) is h = subst (λ (t : TargetWire). seen.HasRoom (map (awaited_at u) (places_seen frames)) t) (inside TargetWire.ResetEnd target h) tt
+        (subst (λ (cs : List ℕ). is_member (◌==◌) cs c ≡ false → distinct_count (◌==◌) cs < 64)
+        (sym (ap cookies_in (awaited_all u frames) ∙ cookies_seen (map (target_at u) frames))) (room u (CookieTarget c) is))
+    go (Some (Some ResetTarget)) is h =
+        subst (λ (t : TargetWire). seen.HasRoom (map (awaited_at u) (places_seen frames)) t) (inside TargetWire.ResetEnd target h) tt
 
 -- Once a frame waits, there is room for another that waits for the same.
 
@@ -120,11 +126,13 @@ member_set (None ∷ ts) (suc n) c within = member_set ts n c (omega (arith, wit
 member_set (Some ResetTarget ∷ ts) (suc n) c within = member_set ts n c (omega (arith, within))
 member_set (Some (CookieTarget d) ∷ ts) (suc n) c within = go (c == d) (member_set ts n c (omega (arith, within)))
   where
-    go : (b : Bool) → is_member (◌==◌) (cookies (set ts n (Some (CookieTarget c)))) c ≡ true → (b || is_member (◌==◌) (cookies (set ts n (Some (CookieTarget c)))) c) ≡ true
+    go : (b : Bool) → is_member (◌==◌) (cookies (set ts n (Some (CookieTarget c)))) c ≡ true
+        → (b || is_member (◌==◌) (cookies (set ts n (Some (CookieTarget c)))) c) ≡ true
     go true rest = refl
     go false rest = rest
 
-pub room_kept : (frames : List Holding) (ts : List (Option Target)) (n : ℕ) → n < length frames → HaveRoom frames ts → HaveRoom (set frames n (after_waits ts)) ts
+pub room_kept : (frames : List Holding) (ts : List (Option Target)) (n : ℕ) → n < length frames → HaveRoom frames ts
+    → HaveRoom (set frames n (after_waits ts)) ts
 room_kept frames ts n within room u ResetTarget there = room u ResetTarget there
 room_kept frames ts n within room u (CookieTarget c) there = λ absent. absurd (cc (sym absent ∙ pending))
   where
@@ -138,19 +146,24 @@ room_kept frames ts n within room u (CookieTarget c) there = λ absent. absurd (
 
 -- What a unit settles.
 
-settled_seen : (u : ℕ) (left : Option Target → Option Target) (settle : Option TargetWire → Option TargetWire) → ((t : Option Target) → option_map target_seen (left t) ≡ settle (option_map target_seen t)) → (h : Holding) → place_seen (settled u left h) ≡ settled_at u settle (place_seen h)
+settled_seen : (u : ℕ) (left : Option Target → Option Target) (settle : Option TargetWire → Option TargetWire)
+    → ((t : Option Target) → option_map target_seen (left t) ≡ settle (option_map target_seen t)) → (h : Holding) → place_seen (settled u left h)
+    ≡ settled_at u settle (place_seen h)
 settled_seen u left settle same Free = refl
 settled_seen u left settle same Mapped = refl
 settled_seen u left settle same (Withheld ts) =
     place-after (set ts u (left (slice_index_or ts u None)))
-    ∙ ap place_for (map-set (option_map target_seen) ts u (left (slice_index_or ts u None)) ∙ ap (set (targets_seen ts) u) (same (slice_index_or ts u None) ∙ ap settle (sym (index_seen ts u))))
+    ∙ ap place_for (map-set (option_map target_seen) ts u (left (slice_index_or ts u None))
+    ∙ ap (set (targets_seen ts) u) (same (slice_index_or ts u None) ∙ ap settle (sym (index_seen ts u))))
 
-settled_all : (u : ℕ) (left : Option Target → Option Target) (settle : Option TargetWire → Option TargetWire) → ((t : Option Target) → option_map target_seen (left t) ≡ settle (option_map target_seen t)) → (frames : List Holding)
+settled_all : (u : ℕ) (left : Option Target → Option Target) (settle : Option TargetWire → Option TargetWire)
+    → ((t : Option Target) → option_map target_seen (left t) ≡ settle (option_map target_seen t)) → (frames : List Holding)
     → places_seen (map (settled u left) frames) ≡ labels.settled u settle (places_seen frames)
 settled_all u left settle same [] = refl
 settled_all u left settle same (h ∷ hs) = λ i. settled_seen u left settle same h i ∷ settled_all u left settle same hs i
 
-pub cookie_settled : (u c : ℕ) (frames frames_after : List Holding) → frames_after ≡ map (settled u (past_cookie c)) frames → places_seen frames_after ≡ labels.settled u (settled_cookie c) (places_seen frames)
+pub cookie_settled : (u c : ℕ) (frames frames_after : List Holding) → frames_after ≡ map (settled u (past_cookie c)) frames
+    → places_seen frames_after ≡ labels.settled u (settled_cookie c) (places_seen frames)
 cookie_settled u c frames frames_after is = ap places_seen is ∙ settled_all u (past_cookie c) (settled_cookie c) same frames
   where
     same : (t : Option Target) → option_map target_seen (past_cookie c t) ≡ settled_cookie c (option_map target_seen t)
@@ -162,16 +175,21 @@ cookie_settled u c frames frames_after is = ap places_seen is ∙ settled_all u 
         go true = refl
         go false = refl
 
-pub unit_settled : (u : ℕ) (frames frames_after : List Holding) → frames_after ≡ map (settled u past_reset) frames → places_seen frames_after ≡ labels.settled u (λ target. None) (places_seen frames)
+pub unit_settled : (u : ℕ) (frames frames_after : List Holding) → frames_after ≡ map (settled u past_reset) frames → places_seen frames_after
+    ≡ labels.settled u (λ target. None) (places_seen frames)
 unit_settled u frames frames_after is = ap places_seen is ∙ settled_all u past_reset (λ target. None) (λ t. refl) frames
 
 -- no frame becomes mapped, or stops to be
-bit_settled : (u : ℕ) (left : Option Target → Option Target) (frames : List Holding) (f : ℕ) → mapped_bit f (map (settled u left) frames) ≡ mapped_bit f frames
+bit_settled : (u : ℕ) (left : Option Target → Option Target) (frames : List Holding) (f : ℕ) → mapped_bit f (map (settled u left) frames)
+    ≡ mapped_bit f frames
 bit_settled u left [] f = refl
 bit_settled u left (Free ∷ hs) zero = refl
 bit_settled u left (Mapped ∷ hs) zero = refl
 bit_settled u left (Withheld ts ∷ hs) zero = none-after (set ts u (left (slice_index_or ts u None)))
 bit_settled u left (h ∷ hs) (suc f) = bit_settled u left hs f
 
-pub owned_settled : (u : ℕ) (left : Option Target → Option Target) (lives : List Live) (frames frames_after : List Holding) → ((f : ℕ) → count_all f lives ≤ mapped_bit f frames) → frames_after ≡ map (settled u left) frames → (f : ℕ) → count_all f lives ≤ mapped_bit f frames_after
-owned_settled u left lives frames frames_after owned is f = subst (λ (k : ℕ). count_all f lives ≤ k) (sym (ap (mapped_bit f) is ∙ bit_settled u left frames f)) (owned f)
+pub owned_settled : (u : ℕ) (left : Option Target → Option Target) (lives : List Live) (frames frames_after : List Holding)
+    → ((f : ℕ) → count_all f lives ≤ mapped_bit f frames) → frames_after ≡ map (settled u left) frames → (f : ℕ) → count_all f lives
+    ≤ mapped_bit f frames_after
+owned_settled u left lives frames frames_after owned is f =
+    subst (λ (k : ℕ). count_all f lives ≤ k) (sym (ap (mapped_bit f) is ∙ bit_settled u left frames f)) (owned f)

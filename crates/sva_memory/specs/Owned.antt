@@ -16,7 +16,8 @@ abbrev pub Owns : List (ℕ × (ℕ × Bool)) → List Holding → Type 0
 Owns space frames = (frame : ℕ) → count_in frame space ≤ mapped_bit frame frames
 
 -- a frame came into the space where it became mapped in the pool, and left it where it became free
-abbrev pub Balanced : (old_space : List (ℕ × (ℕ × Bool))) → (old_frames : List Holding) → (new_space : List (ℕ × (ℕ × Bool))) → (new_frames : List Holding) → Type 0
+abbrev pub Balanced : (old_space : List (ℕ × (ℕ × Bool))) → (old_frames : List Holding) → (new_space : List (ℕ × (ℕ × Bool)))
+    → (new_frames : List Holding) → Type 0
 Balanced old_space old_frames new_space new_frames =
     (frame : ℕ) → count_in frame new_space + mapped_bit frame old_frames ≡ count_in frame old_space + mapped_bit frame new_frames
 

@@ -28,12 +28,15 @@ count_most (suc n) f = go (f n) (count_below n f) (count_most n f)
     go false k l = omega arith
 
 -- the lowest number that passes
-lowest_cases : (n : ℕ) (p : ℕ → Bool) → ((lowest n p ≡ n) × ((j : ℕ) → j < n → p j ≡ false)) ⊎ ((lowest n p < n) × (p (lowest n p) ≡ true) × ((j : ℕ) → j < lowest n p → p j ≡ false))
+lowest_cases : (n : ℕ) (p : ℕ → Bool) → ((lowest n p ≡ n) × ((j : ℕ) → j < n → p j ≡ false))
+    ⊎ ((lowest n p < n) × (p (lowest n p) ≡ true) × ((j : ℕ) → j < lowest n p → p j ≡ false))
 unfolding lowest
 lowest_cases zero p = inl (refl, λ j l. absurd (omega arith))
 lowest_cases (suc n) p = next n p (lowest n p) (p n) (lowest n p == n) refl refl (lowest_cases n p)
   where
-    next : (n : ℕ) (p : ℕ → Bool) (k : ℕ) (b t : Bool) → p n ≡ b → (k == n) ≡ t → ((k ≡ n) × ((j : ℕ) → j < n → p j ≡ false)) ⊎ ((k < n) × (p k ≡ true) × ((j : ℕ) → j < k → p j ≡ false)) → ((step_lowest t k n b ≡ suc n) × ((j : ℕ) → j < suc n → p j ≡ false)) ⊎ ((step_lowest t k n b < suc n) × (p (step_lowest t k n b) ≡ true) × ((j : ℕ) → j < step_lowest t k n b → p j ≡ false))
+    next : (n : ℕ) (p : ℕ → Bool) (k : ℕ) (b t : Bool) → p n ≡ b → (k == n) ≡ t → ((k ≡ n) × ((j : ℕ) → j < n → p j ≡ false))
+        ⊎ ((k < n) × (p k ≡ true) × ((j : ℕ) → j < k → p j ≡ false)) → ((step_lowest t k n b ≡ suc n) × ((j : ℕ) → j < suc n → p j ≡ false))
+        ⊎ ((step_lowest t k n b < suc n) × (p (step_lowest t k n b) ≡ true) × ((j : ℕ) → j < step_lowest t k n b → p j ≡ false))
     next n p k b false e f (inl x) = absurd (grind (arith, nat_tests))
     next n p k b false e f (inr x) = inr (omega arith, x.1, x.2)
     next n p k true true e f (inl x) = inr (omega arith, e, x.1)
@@ -56,7 +59,8 @@ lowest_is n k p l f t = go (lowest n p) (lowest_below n p k l t)
         three z k = grind arith
 
 -- where no cause holds, the acts are those of the outcome
-unrefused : (a b c d e : Bool) (r s t u v : Refusal) (o : Outcome) → a ≡ false → b ≡ false → c ≡ false → d ≡ false → e ≡ false → (checked ((a, r) ∷ (b, s) ∷ (c, t) ∷ (d, u) ∷ (e, v) ∷ []) o).acts ≡ o.acts
+unrefused : (a b c d e : Bool) (r s t u v : Refusal) (o : Outcome) → a ≡ false → b ≡ false → c ≡ false → d ≡ false → e ≡ false
+    → (checked ((a, r) ∷ (b, s) ∷ (c, t) ∷ (d, u) ∷ (e, v) ∷ []) o).acts ≡ o.acts
 unrefused false false false false false r s t u v o ha hb hc hd he = refl
 unrefused a b c d e r s t u v o ha hb hc hd he = grind arith
 
@@ -193,7 +197,8 @@ made frames first =
 space_next : (frames first : ℕ) → first < 2 ^ 63 → next (opened PerSpace (config 1 frames 1 first)) step.Space ≡ mapped_space 0 frames first
 unfolding count_below
 space_next frames first l =
-    let acts : (decide (opened PerSpace (config 1 frames 1 first)) step.Space).acts ≡ Act.NewSpace ∷ [] = first_unrefused _ refusal.TooManySpaces refusal.NumbersSpent (outcome (opened PerSpace (config 1 frames 1 first)) step.Space) (enough first l) in
+    let acts : (decide (opened PerSpace (config 1 frames 1 first)) step.Space).acts ≡ Act.NewSpace ∷ [] =
+    first_unrefused _ refusal.TooManySpaces refusal.NumbersSpent (outcome (opened PerSpace (config 1 frames 1 first)) step.Space) (enough first l) in
     ap (after_acts (opened PerSpace (config 1 frames 1 first))) acts ∙ made frames first
 
 pub reached : FullSpaceReached

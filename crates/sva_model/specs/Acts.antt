@@ -5,8 +5,10 @@ use Rattle.sva_model.specs.Range.{Range, encode}
 use Rattle.sva_model.specs.Message.{Code, Message, Scope}
 use Rattle.sva_model.specs.Message.Scope.{Coded, Everything}
 use Rattle.sva_model.specs.Message.Code.{FailureCode}
-use Rattle.sva_model.specs.Message.Message.{StartMessage, StopMessage, ResetMessage, InvalidateMessage, ResponseMessage, RequestMessage, InvalidatedMessage, PageRequestMessage, MarkerMessage, ResetDoneMessage}
-use Rattle.sva_model.specs.State.{Owed, MappingState, Mappings, Stage, RequestState, UseState, PageRequestState, GroupState, HostGroupState, Order, OrderState, Part, World}
+use Rattle.sva_model.specs.Message.Message.{StartMessage, StopMessage, ResetMessage, InvalidateMessage, ResponseMessage, RequestMessage}
+use Rattle.sva_model.specs.Message.Message.{InvalidatedMessage, PageRequestMessage, MarkerMessage, ResetDoneMessage}
+use Rattle.sva_model.specs.State.{Owed, MappingState, Mappings, Stage, RequestState, UseState, PageRequestState, GroupState, HostGroupState, Order}
+use Rattle.sva_model.specs.State.{OrderState, Part, World}
 use Rattle.sva_model.specs.State.Owed.{Nothing, Ranges, Pasid, AReset}
 use Rattle.sva_model.specs.State.MappingState.{Present, Gone}
 use Rattle.sva_model.specs.State.Stage.{Live, Stopping, Draining, Invalidating, Quiet, Lost, Released}
@@ -18,7 +20,8 @@ use Rattle.sva_model.specs.State.GroupState.{Unfinished, Awaiting, Stale, Finish
 use Rattle.sva_model.specs.State.HostGroupState.{PartFiled, Job, InHand, Replied, Discarded, InHandDiscarded}
 use Rattle.sva_model.specs.State.Order.{RangeOf, PasidOf, Wait}
 use Rattle.sva_model.specs.State.OrderState.{Queued, Sent, Taken, Lapsed, Owing, Done, Void}
-use Rattle.sva_model.specs.State.About.{StartOf, StopOf, ResetOrder, CompletionOf, InvalidateOf, ResponseOf, RequestOf, InvalidatedOf, PageRequestOf, MarkerOf, ResetDone}
+use Rattle.sva_model.specs.State.About.{StartOf, StopOf, ResetOrder, CompletionOf, InvalidateOf, ResponseOf, RequestOf, InvalidatedOf, PageRequestOf}
+use Rattle.sva_model.specs.State.About.{MarkerOf, ResetDone}
 use Rattle.sva_model.specs.State.Phase.{Open, Ordered, Cleared}
 use Rattle.sva_model.specs.States.{Extent, is_open, is_unreleased, is_before_invalidating, is_done, covers}
 use Rattle.sva_model.specs.States.Extent.{Pages, AllPages}

@@ -26,8 +26,10 @@ use Rattle.sva_model.specs.Steps.{world_after}
 -- cached; that of a running use; or one that a Completion in flight carries, whose request is out and not doomed.
 pub data Usable (w : World) (e : ℕ) : (binding page mapping : ℕ) → Type 0 where
   cached : (r m : ℕ) → (w.part e).held r ≡ Some m → Usable w e ((w.part e).request_binding r) ((w.part e).request_page r) m
-  in_use : (u : ℕ) → (w.part e).use_state u ≡ Running → Usable w e ((w.part e).use_binding u) (w.mappings.page ((w.part e).use_mapping u)) ((w.part e).use_mapping u)
-  under_way : (c r m : ℕ) → (w.part e).message c ≡ Some (CompletionOf r (Some m)) → (w.part e).request r ≡ Out → Usable w e ((w.part e).request_binding r) ((w.part e).request_page r) m
+  in_use : (u : ℕ) → (w.part e).use_state u ≡ Running
+      → Usable w e ((w.part e).use_binding u) (w.mappings.page ((w.part e).use_mapping u)) ((w.part e).use_mapping u)
+  under_way : (c r m : ℕ) → (w.part e).message c ≡ Some (CompletionOf r (Some m)) → (w.part e).request r ≡ Out
+      → Usable w e ((w.part e).request_binding r) ((w.part e).request_page r) m
 
 -- the owner's space is live, and maps that page to that frame with that write flag
 pub record IsPresent (w : World) (e binding page mapping : ℕ) : Type 0 where
@@ -88,7 +90,8 @@ pub data HasAnswered (was then now : Part) (binding page : ℕ) : Type 0 where
       → HasSubmitted was then binding page
       → AreDone now was.orders then.orders
       → HasAnswered was then now binding page
-  pasid_done : (invalidation wait : ℕ) → was.stage binding ≡ Invalidating invalidation wait → now.order_state invalidation ≡ Done → now.order_state wait ≡ Done → HasAnswered was then now binding page
+  pasid_done : (invalidation wait : ℕ) → was.stage binding ≡ Invalidating invalidation wait → now.order_state invalidation ≡ Done
+      → now.order_state wait ≡ Done → HasAnswered was then now binding page
   was_reset : then.resets < now.resets → HasAnswered was then now binding page
 
 -- After these steps the frame is withheld: the last step that took it out of a space is the one between `before` and
@@ -124,7 +127,8 @@ pub record IsDivided (rule : PasidRule) (config : Config) (steps : List Step) : 
   pub mapped_once : (f s q t r : ℕ) → IsAt (world_after rule config steps) f s q → IsAt (world_after rule config steps) f t r → (s ≡ t) × (q ≡ r)
   pub mapped : (f : ℕ) → (place (world_after rule config steps) f ≡ Mapped) ↔ IsMapped (world_after rule config steps) f
   pub withheld : (f : ℕ) → (place (world_after rule config steps) f ≡ Withheld) ↔ IsWithheld rule config steps f
-  pub free : (f : ℕ) → (place (world_after rule config steps) f ≡ Free) ↔ ((IsMapped (world_after rule config steps) f → ⊥) × (IsWithheld rule config steps f → ⊥))
+  pub free : (f : ℕ) → (place (world_after rule config steps) f ≡ Free) ↔ ((IsMapped (world_after rule config steps) f → ⊥)
+      × (IsWithheld rule config steps f → ⊥))
 
 -- Page requests and responses. The binding under which a page request, a group or a marker was sent is its asker.
 abbrev pub asker_of : Part → (page_request : ℕ) → ℕ

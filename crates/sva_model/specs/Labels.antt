@@ -3,11 +3,14 @@ use Rattle.std.specs.Prelude.{ℕ, suc, ◌+◌, ◌-◌, ◌^◌, Bool, false, 
 use Rattle.std.specs.Int.{bit_at}
 use Rattle.sva_model.specs.Words.{lowest, any_below, count_below, find, select, is_some, holds_of, the}
 use Rattle.sva_model.specs.Order.{Sort, stays_behind}
-use Rattle.sva_model.specs.Order.Sort.{StartSort, StopSort, ResetSort, CompletionSort, InvalidateSort, ResponseSort, RequestSort, InvalidatedSort, PageRequestSort, MarkerSort, ResetDoneSort}
+use Rattle.sva_model.specs.Order.Sort.{StartSort, StopSort, ResetSort, CompletionSort, InvalidateSort, ResponseSort, RequestSort, InvalidatedSort}
+use Rattle.sva_model.specs.Order.Sort.{PageRequestSort, MarkerSort, ResetDoneSort}
 use Rattle.sva_model.specs.State.{PasidRule, Mappings, About, Part, World}
 use Rattle.sva_model.specs.State.PasidRule.{PerEndpoint, PerSpace}
-use Rattle.sva_model.specs.State.About.{StartOf, StopOf, ResetOrder, CompletionOf, InvalidateOf, ResponseOf, RequestOf, InvalidatedOf, PageRequestOf, MarkerOf, ResetDone}
-use Rattle.sva_model.specs.States.{is_unreleased, is_on, is_ending, is_arrived, is_unfinished, is_outstanding, is_out, is_queued, is_taken, is_busy, uses_noted, is_running, covers, is_open_group, is_job, is_present, is_free}
+use Rattle.sva_model.specs.State.About.{StartOf, StopOf, ResetOrder, CompletionOf, InvalidateOf, ResponseOf, RequestOf, InvalidatedOf, PageRequestOf}
+use Rattle.sva_model.specs.State.About.{MarkerOf, ResetDone}
+use Rattle.sva_model.specs.States.{is_unreleased, is_on, is_ending, is_arrived, is_unfinished, is_outstanding, is_out, is_queued, is_taken, is_busy}
+use Rattle.sva_model.specs.States.{uses_noted, is_running, covers, is_open_group, is_job, is_present, is_free}
 
 -- Numbers. Spaces, bindings, messages and cookies are numbered from `first` on, each below 2^63.
 

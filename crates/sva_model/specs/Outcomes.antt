@@ -2,7 +2,8 @@
 -- messages are those of PCI Express Base 5.0, chapter 10, beside start, stop, reset and reset-done, which are this project's
 -- own; the queues are those of Intel VT-d, "Queued Invalidation Interface" and "Page Request Queue". That a label which is
 -- given out is the lowest free one is this project's own.
-use Rattle.std.specs.Prelude.{ℕ, suc, ◌+◌, ◌^◌, Bool, true, false, ◌&&◌, ◌||◌, not, ◌==◌, nat_le, if◌then◌else◌, Option, Some, None, List, [], ◌∷◌, ◌++◌, length}
+use Rattle.std.specs.Prelude.{ℕ, suc, ◌+◌, ◌^◌, Bool, true, false, ◌&&◌, ◌||◌, not, ◌==◌, nat_le, if◌then◌else◌, Option, Some, None, List, [], ◌∷◌, ◌++◌}
+use Rattle.std.specs.Prelude.{length}
 use Rattle.sva_step.specs.declared.answers.Answer.{Answer}
 use Rattle.sva_step.specs.declared.answers.Answer.TheVariants as answer
 use Rattle.sva_step.specs.declared.steps.Step.{Step}
@@ -16,7 +17,8 @@ use Rattle.sva_model.specs.State.Stage.{Stopping, Draining, Invalidating, Lost}
 use Rattle.sva_model.specs.State.RequestState.{Out, Doomed}
 use Rattle.sva_model.specs.State.GroupState.{Stale}
 use Rattle.sva_model.specs.State.Order.{RangeOf, PasidOf, Wait}
-use Rattle.sva_model.specs.State.About.{StartOf, StopOf, ResetOrder, CompletionOf, InvalidateOf, ResponseOf, RequestOf, InvalidatedOf, PageRequestOf, MarkerOf, ResetDone}
+use Rattle.sva_model.specs.State.About.{StartOf, StopOf, ResetOrder, CompletionOf, InvalidateOf, ResponseOf, RequestOf, InvalidatedOf, PageRequestOf}
+use Rattle.sva_model.specs.State.About.{MarkerOf, ResetDone}
 use Rattle.sva_model.specs.States.{Place, is_open, is_live_stage, is_running, place}
 use Rattle.sva_model.specs.States.Place.{Free, Mapped, Withheld}
 use Rattle.sva_model.specs.Acts.{Act, Own, waits, is_replaced, is_last_left}
@@ -244,6 +246,7 @@ outcome w (step.Fault e t q r x group l) = fault_outcome (w.part e) e t q r x l 
 outcome w (step.Finish e vector count) = at_one (answer.Sent count) e (Own.Finish (Labels.is_named (w.part e) vector) vector count)
 outcome w (step.Quit e t) = at_one answer.Marker e (Own.Quit (Labels.bearer (w.part e) t))
 outcome w (step.Deliver n) =
-    deliver_outcome w (w.part (w.way (Labels.name w n))) (w.way (Labels.name w n)) (Labels.name w n) ((w.part (w.way (Labels.name w n))).message (Labels.name w n))
+    deliver_outcome w (w.part (w.way (Labels.name w n))) (w.way (Labels.name w n)) (Labels.name w n)
+    ((w.part (w.way (Labels.name w n))).message (Labels.name w n))
 outcome w (step.Look f) = says (look_answer (place w f)) []
 outcome w (step.Bearer t) = says (bearer_answer w t (Labels.is_borne w t)) []

@@ -2,7 +2,8 @@
 -- Base 5.0, section 10.3.1, with the coding of a Translation Completion's size, section 10.2.3.2): with S clear it is one page;
 -- with S set, the address bits from bit 0 of the page number upwards that are set before the first clear one, and that clear
 -- one, are no part of the address, and the range has as many times two pages as there are such bits. Here k is 9 at most.
-use Rattle.std.specs.Prelude.{ℕ, zero, suc, ◌+◌, ◌-◌, ◌/◌, ◌%◌, ◌^◌, ◌≡◌, ◌<◌, ◌≤◌, Bool, true, false, ◌&&◌, ◌==◌, nat_lt, nat_le, if◌then◌else◌, Option, Some, None}
+use Rattle.std.specs.Prelude.{ℕ, zero, suc, ◌+◌, ◌-◌, ◌/◌, ◌%◌, ◌^◌, ◌≡◌, ◌<◌, ◌≤◌, Bool, true, false, ◌&&◌, ◌==◌, nat_lt, nat_le, if◌then◌else◌, Option}
+use Rattle.std.specs.Prelude.{Some, None}
 
 -- 2^order pages from `base` on
 pub record Range : Type 0 where

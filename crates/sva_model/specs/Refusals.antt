@@ -157,7 +157,10 @@ finish_refusals w p vector count =
 abbrev pub quit_refusals : World → Part → (pasid : ℕ) → List Cause
 quit_refusals w p t =
     (not (Labels.is_told_to_stop p t), refusal.NotStopping)
-    ∷ (Labels.is_unfinished_of p (Labels.bearer p t) || Labels.is_request_out_of p (Labels.bearer p t) || Labels.is_use_of p (Labels.bearer p t), refusal.Busy)
+    ∷ (
+      Labels.is_unfinished_of p (Labels.bearer p t) || Labels.is_request_out_of p (Labels.bearer p t) || Labels.is_use_of p (Labels.bearer p t),
+      refusal.Busy,
+    )
     ∷ messages_spent w 1
     ∷ []
 

@@ -11,7 +11,8 @@ use Rattle.sva_step.specs.declared.limits.Config.{Config}
 use Rattle.sva_model.specs.Words.{tabulate}
 use Rattle.sva_model.specs.Message.{Message}
 use Rattle.sva_model.specs.Message.Code.{InvalidCode}
-use Rattle.sva_model.specs.Message.Message.{StartMessage, StopMessage, ResetMessage, CompletionMessage, InvalidateMessage, ResponseMessage, RequestMessage, InvalidatedMessage, PageRequestMessage, MarkerMessage, ResetDoneMessage}
+use Rattle.sva_model.specs.Message.Message.{StartMessage, StopMessage, ResetMessage, CompletionMessage, InvalidateMessage, ResponseMessage, RequestMessage}
+use Rattle.sva_model.specs.Message.Message.{InvalidatedMessage, PageRequestMessage, MarkerMessage, ResetDoneMessage}
 use Rattle.sva_model.specs.Rows.{steps_of}
 use Rattle.sva_model.specs.RowsOfInvalidations.{count_of_eight}
 use Rattle.sva_model.specs.Steps.{world_after}

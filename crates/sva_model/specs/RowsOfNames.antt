@@ -12,7 +12,8 @@ use Rattle.sva_model.specs.Words.{tabulate}
 use Rattle.sva_model.specs.Message.{Message}
 use Rattle.sva_model.specs.Message.Code.{SuccessCode, InvalidCode, FailureCode}
 use Rattle.sva_model.specs.Message.Scope.{Everything}
-use Rattle.sva_model.specs.Message.Message.{StartMessage, StopMessage, ResetMessage, CompletionMessage, InvalidateMessage, ResponseMessage, RequestMessage, InvalidatedMessage, PageRequestMessage, MarkerMessage, ResetDoneMessage}
+use Rattle.sva_model.specs.Message.Message.{StartMessage, StopMessage, ResetMessage, CompletionMessage, InvalidateMessage, ResponseMessage, RequestMessage}
+use Rattle.sva_model.specs.Message.Message.{InvalidatedMessage, PageRequestMessage, MarkerMessage, ResetDoneMessage}
 use Rattle.sva_model.specs.State.{Order, Part, World}
 use Rattle.sva_model.specs.State.Order.{PasidOf, Wait}
 use Rattle.sva_model.specs.Steps.{world_after}

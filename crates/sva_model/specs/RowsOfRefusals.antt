@@ -672,7 +672,9 @@ pump_without_tags_and_numbers =
     ++ lines 33 (λ k. says (step.Map 9223372036854775775 (16 + k) false) (answer.Frame k))
     ++ (says (step.Bind 0 9223372036854775775) (answer.Binding 9223372036854775775 1)
     ∷ says (step.Deliver 9223372036854775775) answer.Started
-    ∷ says (step.Unmap 9223372036854775775 16 33) (answer.WithheldFrames (0 ∷ 1 ∷ 2 ∷ 3 ∷ 4 ∷ 5 ∷ 6 ∷ 7 ∷ 8 ∷ 9 ∷ 10 ∷ 11 ∷ 12 ∷ 13 ∷ 14 ∷ 15 ∷ 16 ∷ 17 ∷ 18 ∷ 19 ∷ 20 ∷ 21 ∷ 22 ∷ 23 ∷ 24 ∷ 25 ∷ 26 ∷ 27 ∷ 28 ∷ 29 ∷ 30 ∷ 31 ∷ 32 ∷ []))
+    ∷ says (step.Unmap 9223372036854775775 16 33)
+    (answer.WithheldFrames (0 ∷ 1 ∷ 2 ∷ 3 ∷ 4 ∷ 5 ∷ 6 ∷ 7 ∷ 8 ∷ 9 ∷ 10 ∷ 11 ∷ 12 ∷ 13 ∷ 14 ∷ 15 ∷ 16 ∷ 17 ∷ 18 ∷ 19 ∷ 20 ∷ 21 ∷ 22 ∷ 23 ∷ 24 ∷ 25
+    ∷ 26 ∷ 27 ∷ 28 ∷ 29 ∷ 30 ∷ 31 ∷ 32 ∷ []))
     ∷ [])
     ++ lines 32 (λ k. says (step.Pump 0) (answer.Itag k))
     ++ (says (step.Pump 0) answer.Blocked

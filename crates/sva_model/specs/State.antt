@@ -290,7 +290,17 @@ opened rule config =
       config = config;
       spaces = 0;
       is_live = λ s. false;
-      mappings = record { made = 0; space = λ m. 0; page = λ m. 0; frame = λ m. 0; write = λ m. false; state = λ m. MappingState.Unmade; at = λ s q. None; latest = λ f. None };
+      mappings = record {
+        made = 0;
+        space = λ m. 0;
+        page = λ m. 0;
+        frame = λ m. 0;
+        write = λ m. false;
+        state = λ m. MappingState.Unmade;
+        at =
+            λ s q. None;
+        latest = λ f. None;
+      };
       bindings = 0;
       home = λ b. 0;
       cookies = 0;

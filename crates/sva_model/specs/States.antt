@@ -2,7 +2,8 @@
 use Rattle.std.specs.Prelude.{ℕ, suc, ◌+◌, Bool, true, false, ◌&&◌, ◌||◌, ◌==◌, nat_lt, Option, Some, None}
 use Rattle.sva_model.specs.Words.{all_below}
 use Rattle.sva_model.specs.Range.{Range, is_in}
-use Rattle.sva_model.specs.State.{Owed, MappingState, Stage, PasidState, RequestState, UseState, PageRequestState, GroupState, HostGroupState, Order, OrderState, Phase, Part, World}
+use Rattle.sva_model.specs.State.{Owed, MappingState, Stage, PasidState, RequestState, UseState, PageRequestState, GroupState, HostGroupState, Order}
+use Rattle.sva_model.specs.State.{OrderState, Phase, Part, World}
 use Rattle.sva_model.specs.State.Owed.{Nothing, Ranges, Pasid, AReset}
 use Rattle.sva_model.specs.State.MappingState.{Present, Gone}
 use Rattle.sva_model.specs.State.Stage.{Unbound, Live, Stopping, Draining, Released}

@@ -4,7 +4,8 @@
 -- queue and its open groups, jobs, hands, messages in flight and the numbers to come. Each view takes what it reads.
 -- (This project's own form; the queues and descriptors are those of Intel VT-d, "Queued Invalidation Interface",
 -- "Invalidation Wait Descriptor" and "Page Request Queue".)
-use Rattle.std.specs.Prelude.{ℕ, zero, suc, ◌+◌, ◌-◌, Bool, true, false, ◌&&◌, ◌||◌, not, ◌==◌, nat_lt, if◌then◌else◌, Option, Some, None, option_map, List, [], ◌∷◌, map}
+use Rattle.std.specs.Prelude.{ℕ, zero, suc, ◌+◌, ◌-◌, Bool, true, false, ◌&&◌, ◌||◌, not, ◌==◌, nat_lt, if◌then◌else◌, Option, Some, None, option_map}
+use Rattle.std.specs.Prelude.{List, [], ◌∷◌, map}
 use Rattle.sva_model.specs.Words.{any_below, count_below, select, tabulate, is_some, holds_of, the}
 use Rattle.sva_model.specs.Range.{Range}
 use Rattle.sva_model.specs.Message.{Message}
@@ -225,7 +226,12 @@ is_noted ms p k uses u = nat_lt u uses && Labels.is_noted_running ms p k u
 
 abbrev pub taken_by : Mappings → Part → (order : ℕ) → OrderState → Option TakenWire
 taken_by ms p k (Taken uses) =
-    Some (record { pasid = p.pasid (binding_of (p.order k)); extent = extent_of (p.order k); slots = tabulate 16 (λ t. holds_of (is_noted ms p k uses) (p.at_slot t)) })
+    Some (record {
+      pasid = p.pasid (binding_of (p.order k));
+      extent =
+          extent_of (p.order k);
+      slots = tabulate 16 (λ t. holds_of (is_noted ms p k uses) (p.at_slot t));
+    })
 taken_by ms p k _ = None
 
 abbrev pub group_wire : Part → (group : ℕ) → GroupWire

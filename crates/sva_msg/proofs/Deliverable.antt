@@ -1,5 +1,6 @@
 -- The code's test of all older messages is the definition, which looks them up by their numbers.
-use Rattle.std.proofs.Common.{◌≡◌, ◌↔◌, ℕ, ◌+◌, ◌<◌, Bool, true, false, not, cond, ◌&&◌, ◌||◌, nat_eq, nat_lt, IsTrue, List, [], ◌∷◌, Some, refl, sym, ◌∙◌, arith}
+use Rattle.std.proofs.Common.{◌≡◌, ◌↔◌, ℕ, ◌+◌, ◌<◌, Bool, true, false, not, cond, ◌&&◌, ◌||◌, nat_eq, nat_lt, IsTrue, List, [], ◌∷◌, Some, refl, sym, ◌∙◌}
+use Rattle.std.proofs.Common.{arith}
 use Rattle.std.proofs.lemmas.Bool.Decides.{nat_tests}
 use Rattle.std.specs.List.{list_any}
 use Rattle.std.specs.Map.{lookup}
@@ -20,7 +21,8 @@ module _ (f : Message → Bool) (n : ℕ) where
   NoneOlder-from_any [] h k older lt at = cc
   NoneOlder-from_any (p ∷ ps) h k older lt at = by (nat_eq k p.0) refl at (λ found. NoneOlder-from_any ps (grind (arith, nat_tests)) k older lt found)
     where
-      by : (b : Bool) → nat_eq k p.0 ≡ b → cond b (Some p.1) (lookup (nat_eq k) ps) ≡ Some older → (lookup (nat_eq k) ps ≡ Some older → f older ≡ false) → f older ≡ false
+      by : (b : Bool) → nat_eq k p.0 ≡ b → cond b (Some p.1) (lookup (nat_eq k) ps) ≡ Some older
+          → (lookup (nat_eq k) ps ≡ Some older → f older ≡ false) → f older ≡ false
       by true is found rest =
           let same : p.1 ≡ older = cc in
           let first : f p.1 ≡ false = grind (arith, nat_tests) in

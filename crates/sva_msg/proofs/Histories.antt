@@ -1,5 +1,6 @@
 -- What holds after every list of calls.
-use Rattle.std.proofs.Common.{◌≡◌, ℕ, zero, suc, ◌+◌, ◌<◌, ◌≤◌, ◌^◌, List, [], ◌∷◌, ◌++◌, true, IfSome, slice_get, All, IsPermutation, nat_eq, refl, arith, append_assoc}
+use Rattle.std.proofs.Common.{◌≡◌, ℕ, zero, suc, ◌+◌, ◌<◌, ◌≤◌, ◌^◌, List, [], ◌∷◌, ◌++◌, true, IfSome, slice_get, All, IsPermutation, nat_eq, refl, arith}
+use Rattle.std.proofs.Common.{append_assoc}
 use Rattle.std.proofs.lemmas.Bool.Decides.{nat_tests}
 use Rattle.std.proofs.lemmas.List.{append-nil}
 use Rattle.std.proofs.lemmas.List.Elements.{All-from_recursion, recursion_from_All, All-map, All-weaker}
@@ -7,7 +8,8 @@ use Rattle.std.proofs.lemmas.List.Sorted.{IsPermutation-refl, IsPermutation-appe
 use Rattle.std.specs.List.{AllByRecursion}
 use Rattle.std.specs.List.Sorted.{IsStrictlyIncreasing}
 use Rattle.sva_msg.specs.Bag.{InFlight, AreNumbered, IsNumbered, MayDeliver, opened, copies_of, with_sent, without}
-use Rattle.sva_msg.specs.Calls.{Call, Left, Send, Get, AskMayDeliver, Deliver, IsPermitted, ArePermitted, after, after_all, sent, sent_by, delivered, delivered_by}
+use Rattle.sva_msg.specs.Calls.{Call, Left, Send, Get, AskMayDeliver, Deliver, IsPermitted, ArePermitted, after, after_all, sent, sent_by, delivered}
+use Rattle.sva_msg.specs.Calls.{delivered_by}
 use Rattle.sva_msg.specs.Laws.{Always, GivesNumbersOnce, LosesNone, KeepsOrder, NeverStops, MayPrecede, numbers}
 use Rattle.sva_msg.specs.declared.messages.Message.{Message}
 use Rattle.sva_msg.proofs.Numbered.{bounds_in_order, AreNumbered-copies_of, AreNumbered-sent, AreNumbered-remove, lookup-below}
@@ -19,7 +21,8 @@ all_between low high (p ∷ ps) h =
     let rest = bounds_in_order (p.0 + 1) high ps h.1 in
     ((h.0, omega arith), weaker (p.0 + 1) ps (all_between (p.0 + 1) high ps h.1) (omega arith))
   where
-    weaker : (from : ℕ) (qs : List (ℕ × Message)) → AllByRecursion (λ q. (from ≤ q.0) × (q.0 < high)) qs → low ≤ from → AllByRecursion (λ q. (low ≤ q.0) × (q.0 < high)) qs
+    weaker : (from : ℕ) (qs : List (ℕ × Message)) → AllByRecursion (λ q. (from ≤ q.0) × (q.0 < high)) qs → low ≤ from
+        → AllByRecursion (λ q. (low ≤ q.0) × (q.0 < high)) qs
     weaker from [] a le = tt
     weaker from (q ∷ qs) a le = let first : from ≤ q.0 = a.0.0 in ((omega arith, a.0.1), weaker from qs a.1 le)
 
@@ -66,7 +69,8 @@ module _ (first : ℕ) (given done : List (ℕ × Message)) (bag : InFlight) (h 
         bag_numbered = (AreNumbered-sent 0 bag.next copies bag.messages m h.bag_numbered.0, le);
         whole = rw (← append_assoc done bag.messages new) (IsPermutation-append_left new given (done ++ bag.messages) h.whole);
         ordered = rw (← append_assoc done bag.messages new)
-            (Pairs-sent bag.next (bag.next + copies) (done ++ bag.messages) new all_older h.ordered (AreNumbered-copies_of m bag.next bag.next copies (omega arith)));
+            (Pairs-sent bag.next (bag.next + copies) (done ++ bag.messages) new all_older h.ordered
+            (AreNumbered-copies_of m bag.next bag.next copies (omega arith)));
       })
 
   IsHistory-delivered : (n : ℕ) → IsPermitted bag (Deliver n) → IsHistory first (given ++ []) (done ++ delivered_by bag (Deliver n)) (without bag n)
@@ -86,7 +90,8 @@ module _ (first : ℕ) (given done : List (ℕ × Message)) (bag : InFlight) (h 
   IsHistory-call (AskMayDeliver n) may = IsHistory-same
   IsHistory-call (Deliver n) may = IsHistory-delivered n may
 
-IsHistory-calls : (first : ℕ) (given done : List (ℕ × Message)) (bag : InFlight) → IsHistory first given done bag → (calls : List Call) → ArePermitted bag calls
+IsHistory-calls : (first : ℕ) (given done : List (ℕ × Message)) (bag : InFlight) → IsHistory first given done bag → (calls : List Call)
+    → ArePermitted bag calls
     → IsHistory first (given ++ sent bag calls) (done ++ delivered bag calls) (after_all bag calls)
 IsHistory-calls first given done bag h [] may = IsHistory-same first given done bag h
 IsHistory-calls first given done bag h (call ∷ calls) may =
@@ -107,11 +112,13 @@ gives_numbers_once first le calls may =
     let Between : ℕ × Message → Type 0 = λ p. (first ≤ p.0) × (p.0 < end) in (
       IsStrictlyIncreasing-numbers first end given h.given_numbered,
       All-map (λ n. (first ≤ n) × (n < 2 ^ 63)) (λ p. p.0) given
-          (All-weaker Between (λ p. (first ≤ p.0) × (p.0 < 2 ^ 63)) (λ p b. (b.0, omega arith)) given (All-from_recursion Between given (all_between first end given h.given_numbered))),
+          (All-weaker Between (λ p. (first ≤ p.0) × (p.0 < 2 ^ 63)) (λ p b. (b.0, omega arith)) given
+          (All-from_recursion Between given (all_between first end given h.given_numbered))),
     )
 
 -- the first message of a bag may be delivered, since no message is older
-oldest_may : (next : ℕ) (es : List (ℕ × Message)) → AreNumbered 0 next es → IfSome (slice_get es 0) (λ oldest. MayDeliver (record { messages = es; next = next }) oldest.0)
+oldest_may : (next : ℕ) (es : List (ℕ × Message)) → AreNumbered 0 next es
+    → IfSome (slice_get es 0) (λ oldest. MayDeliver (record { messages = es; next = next }) oldest.0)
 oldest_may next [] h = tt
 oldest_may next (p ∷ ps) h =
     let itself : nat_eq p.0 p.0 ≡ true = grind (arith, nat_tests) in

@@ -25,12 +25,14 @@ AreNumbered-copies_of m low first (suc copies) le =
     (le, rw (← same) rest)
 
 -- copies that are numbered from the upper bound on
-pub AreNumbered-sent : (low high copies : ℕ) (es : List (ℕ × Message)) (m : Message) → AreNumbered low high es → AreNumbered low (high + copies) (es ++ copies_of m high copies)
+pub AreNumbered-sent : (low high copies : ℕ) (es : List (ℕ × Message)) (m : Message) → AreNumbered low high es
+    → AreNumbered low (high + copies) (es ++ copies_of m high copies)
 AreNumbered-sent low high copies [] m h = AreNumbered-copies_of m low high copies h
 AreNumbered-sent low high copies (p ∷ ps) m h = (h.0, AreNumbered-sent (p.0 + 1) high copies ps m h.1)
 
 -- the copies that are numbered below `number`
-pub AreNumbered-so_far : (low high number : ℕ) (old es : List (ℕ × Message)) (m : Message) → high ≤ number → AreNumbered low high old → es ≡ old ++ copies_of m high (number - high) → AreNumbered low number es
+pub AreNumbered-so_far : (low high number : ℕ) (old es : List (ℕ × Message)) (m : Message) → high ≤ number → AreNumbered low high old → es ≡ old
+    ++ copies_of m high (number - high) → AreNumbered low number es
 AreNumbered-so_far low high number old es m le h is =
     let sum : high + (number - high) ≡ number = omega arith in
     rw is (rw sum at (AreNumbered-sent low high (number - high) old m h))
@@ -60,7 +62,8 @@ AreNumbered-remove low high n (p ∷ ps) h =
     ]
 
 -- one copy more
-pub copies_of-more : (m : Message) (first number : ℕ) → first ≤ number → copies_of m first (number + 1 - first) ≡ copies_of m first (number - first) ++ (number, m) ∷ []
+pub copies_of-more : (m : Message) (first number : ℕ) → first ≤ number → copies_of m first (number + 1 - first) ≡ copies_of m first (number - first)
+    ++ (number, m) ∷ []
 copies_of-more m first number le =
     let count : number + 1 - first ≡ (number - first) + 1 = omega arith in
     rw count (map-range_with_len_more (λ n. (n, m)) first (number - first) number (omega arith))

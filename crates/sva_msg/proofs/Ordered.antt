@@ -1,5 +1,6 @@
 -- Lists of messages in which none comes before an older one that it must not overtake.
-use Rattle.std.proofs.Common.{◌≡◌, ℕ, zero, suc, ◌+◌, ◌<◌, ◌≤◌, true, false, Bool, cond, nat_eq, List, [], ◌∷◌, ◌++◌, Some, AllPairs, IsPermutation, refl, arith}
+use Rattle.std.proofs.Common.{◌≡◌, ℕ, zero, suc, ◌+◌, ◌<◌, ◌≤◌, true, false, Bool, cond, nat_eq, List, [], ◌∷◌, ◌++◌, Some, AllPairs, IsPermutation, refl}
+use Rattle.std.proofs.Common.{arith}
 use Rattle.std.proofs.lemmas.Bool.Decides.{nat_tests}
 use Rattle.std.proofs.lemmas.List.Elements.{All-from_recursion}
 use Rattle.std.proofs.lemmas.List.Sorted.{IsPermutation-refl, IsPermutation-cons, IsPermutation-middle, IsPermutation-trans}
@@ -37,7 +38,8 @@ Pairs-from_AreNumbered low high [] h = tt
 Pairs-from_AreNumbered low high (p ∷ ps) h = (all_newer p (p.0 + 1) high ps (omega arith) h.1, Pairs-from_AreNumbered (p.0 + 1) high ps h.1)
 
 -- newer messages go to the end
-pub Pairs-sent : (low high : ℕ) (xs ys : List (ℕ × Message)) → AllByRecursion (λ p. p.0 < low) xs → Pairs MayPrecede xs → AreNumbered low high ys → Pairs MayPrecede (xs ++ ys)
+pub Pairs-sent : (low high : ℕ) (xs ys : List (ℕ × Message)) → AllByRecursion (λ p. p.0 < low) xs → Pairs MayPrecede xs → AreNumbered low high ys
+    → Pairs MayPrecede (xs ++ ys)
 Pairs-sent low high [] ys below h up = Pairs-from_AreNumbered low high ys up
 Pairs-sent low high (x ∷ xs) ys below h up =
     let older : x.0 < low = below.0 in

@@ -1,8 +1,10 @@
 -- What the kind of a message says of its way and of its place in the order of the link.
 use Rattle.std.specs.Prelude.{Bool, true, false, not}
-use Rattle.sva_model.specs.Order.{Sort, StartSort, StopSort, ResetSort, CompletionSort, InvalidateSort, ResponseSort, RequestSort, InvalidatedSort, PageRequestSort, MarkerSort, ResetDoneSort}
+use Rattle.sva_model.specs.Order.{Sort, StartSort, StopSort, ResetSort, CompletionSort, InvalidateSort, ResponseSort, RequestSort, InvalidatedSort}
+use Rattle.sva_model.specs.Order.{PageRequestSort, MarkerSort, ResetDoneSort}
 use Rattle.sva_msg.specs.declared.messages.Kind.{Kind}
-use Rattle.sva_msg.specs.declared.messages.Kind.TheVariants.{Start, Stop, Reset, Completion, Invalidate, Response, Request, Invalidated, PageRequest, Marker, ResetDone}
+use Rattle.sva_msg.specs.declared.messages.Kind.TheVariants.{Start, Stop, Reset, Completion, Invalidate, Response, Request, Invalidated, PageRequest}
+use Rattle.sva_msg.specs.declared.messages.Kind.TheVariants.{Marker, ResetDone}
 
 -- is a message of this kind sent by the endpoint to its host?
 abbrev pub is_up : Kind → Bool

@@ -1,5 +1,6 @@
 -- What the table keeps of each PASID: how each call changes it, and that the look-ups in it are those in the places.
-use Rattle.std.proofs.Common.{◌≡◌, ◌≢◌, ℕ, zero, suc, ◌+◌, ◌-◌, ◌<◌, ◌≤◌, ◌==◌, nat_lt, Bool, true, false, cond, not, inl, inr, Option, Some, None, List, [], ◌∷◌, ◌++◌, length, map, refl, sym, ◌∙◌, ap, subst, arith, slice_index_or, slice_set}
+use Rattle.std.proofs.Common.{◌≡◌, ◌≢◌, ℕ, zero, suc, ◌+◌, ◌-◌, ◌<◌, ◌≤◌, ◌==◌, nat_lt, Bool, true, false, cond, not, inl, inr, Option, Some, None, List}
+use Rattle.std.proofs.Common.{[], ◌∷◌, ◌++◌, length, map, refl, sym, ◌∙◌, ap, subst, arith, slice_index_or, slice_set}
 use Rattle.std.specs.Prelude.{All, AllPairs, find, filter, option_map, is_some, count_by, replicate}
 use Rattle.std.specs.List.{range_with_len, sum_by}
 use Rattle.std.specs.Option.{option_or}
@@ -9,13 +10,15 @@ use Rattle.std.proofs.lemmas.List.Sums.{sum_by-cons, sum_by-append, count_by-le-
 use Rattle.std.proofs.Math.ListN.{get_or-eq_default}
 use Rattle.std.proofs.lemmas.Bool.Decides.{nat_tests}
 use Rattle.std.proofs.lemmas.Bool.{cases_Bool, cases_eq, eqb-true, eqb-false, eq-eqb, ne_eqb}
-use Rattle.sva_pasid.specs.Places.{is_of, place_of, without, is_in, bears, is_borne, is_bound, borne_by, count_under, bearer_of, lowest_free, lowest, begun, ShareAlike, IsApart, IsOwn, IsTable}
+use Rattle.sva_pasid.specs.Places.{is_of, place_of, without, is_in, bears, is_borne, is_bound, borne_by, count_under, bearer_of, lowest_free, lowest}
+use Rattle.sva_pasid.specs.Places.{begun, ShareAlike, IsApart, IsOwn, IsTable}
 use Rattle.sva_pasid.specs.Bearers.{slot, is_by, is_free, pasid_in, free_in, raised, lowered, IsBearer, AreBearers}
 use Rattle.sva_pasid.specs.declared.bearers.Bearer.{Bearer}
 use Rattle.sva_pasid.specs.declared.bearers.TheConstants.{PASIDS}
 use Rattle.sva_pasid.specs.declared.places.Place.{Place}
 use Rattle.sva_pasid.proofs.PlaceLemmas.{pairs-tail, absent_behind, without-absent, find_range, find_range_none, found_in_range, none_in_range}
-use Rattle.sva_pasid.proofs.ShareLemmas.{found_passes, found_has, none_passes, none_found, IsFound, found_behind, found_too, any_found, any_of_found, none_any, borne_at, IsBorneAt, place_borne, no_place}
+use Rattle.sva_pasid.proofs.ShareLemmas.{found_passes, found_has, none_passes, none_found, IsFound, found_behind, found_too, any_found, any_of_found}
+use Rattle.sva_pasid.proofs.ShareLemmas.{none_any, borne_at, IsBorneAt, place_borne, no_place}
 
 -- the bindings under a PASID, place by place
 pub count-cons : (q : ℕ) (p : Place) (ps : List Place) → count_under q (p ∷ ps) ≡ cond (bears q p) 1 0 + count_under q ps
@@ -27,7 +30,8 @@ count-push q ps p =
     let one : count_under q (p ∷ []) ≡ cond (bears q p) 1 0 + 0 = count-cons q p [] in
     omega (arith, all, one)
 
-count-without : (q b : ℕ) (ps : List Place) (p : Place) → AllPairs IsApart ps → place_of b ps ≡ Some p → count_under q (without b ps) + cond (bears q p) 1 0 ≡ count_under q ps
+count-without : (q b : ℕ) (ps : List Place) (p : Place) → AllPairs IsApart ps → place_of b ps ≡ Some p
+    → count_under q (without b ps) + cond (bears q p) 1 0 ≡ count_under q ps
 count-without q b [] p a f = absurd (cc)
 count-without q b (r ∷ ps) p a f =
     elim (cases_Bool (is_of b r)) [
@@ -52,7 +56,8 @@ count-map q f [] k = refl
 count-map q f (p ∷ ps) k =
     let rest : count_under q (map f ps) ≡ count_under q ps = count-map q f ps k in
     let test : bears q (f p) ≡ bears q p = ap (λ (n : ℕ). n == q) (k p) in
-    count-cons q (f p) (map f ps) ∙ ap (λ (n : ℕ). cond (bears q (f p)) 1 0 + n) rest ∙ ap (λ (t : Bool). cond t 1 0 + count_under q ps) test ∙ sym (count-cons q p ps)
+    count-cons q (f p) (map f ps) ∙ ap (λ (n : ℕ). cond (bears q (f p)) 1 0 + n) rest ∙ ap (λ (t : Bool). cond t 1 0 + count_under q ps) test
+    ∙ sym (count-cons q p ps)
 
 -- no binding is under a PASID that none bears
 none_counted : (q : ℕ) (ps : List Place) → count_under q ps ≡ 0 → find (bears q) ps ≡ None
@@ -82,7 +87,8 @@ some_counted q (p ∷ ps) h =
 abbrev OfSpace : ℕ → ℕ → Place → Type 0
 OfSpace q s p = p.pasid ≡ q → p.space ≡ s
 
-push_raised : (q s : ℕ) (ps : List Place) (p : Place) (o : Option Bearer) → IsBearer q ps o → bears q p ≡ true → p.space ≡ s → All (OfSpace q s) ps → IsBearer q (ps ++ p ∷ []) (raised s o)
+push_raised : (q s : ℕ) (ps : List Place) (p : Place) (o : Option Bearer) → IsBearer q ps o → bears q p ≡ true → p.space ≡ s → All (OfSpace q s) ps
+    → IsBearer q (ps ++ p ∷ []) (raised s o)
 push_raised q s ps p None h e k a =
     let one : cond {A = ℕ} (bears q p) 1 0 ≡ 1 = rw e in
     (omega (arith, h, one, count-push q ps p), omega arith, All-push (OfSpace q s) ps p a (λ i. k))
@@ -96,7 +102,8 @@ push_same q ps p (Some b) h e =
     let none : cond {A = ℕ} (bears q p) 1 0 ≡ 0 = rw e in
     (omega (arith, h.0, none, count-push q ps p), h.1, All-push (OfSpace q b.space) ps p h.2 (λ i. absurd (eqb-false p.pasid q e i)))
 
-without_lowered : (q b : ℕ) (ps : List Place) (p : Place) (o : Option Bearer) → AllPairs IsApart ps → place_of b ps ≡ Some p → IsBearer q ps o → bears q p ≡ true → IsBearer q (without b ps) (lowered o)
+without_lowered : (q b : ℕ) (ps : List Place) (p : Place) (o : Option Bearer) → AllPairs IsApart ps → place_of b ps ≡ Some p → IsBearer q ps o
+    → bears q p ≡ true → IsBearer q (without b ps) (lowered o)
 without_lowered q b ps p None a f h e =
     let one : cond {A = ℕ} (bears q p) 1 0 ≡ 1 = rw e in absurd (omega (arith, h, one, count-without q b ps p a f))
 without_lowered q b ps p (Some o) a f h e =
@@ -109,14 +116,16 @@ without_lowered q b ps p (Some o) a f h e =
           rw t (omega (arith, left), omega (arith, left, h.1, more), All-filter (λ (x : Place). not (is_of b x)) (OfSpace q o.space) ps h.2)
     ]
 
-without_same : (q b : ℕ) (ps : List Place) (p : Place) (o : Option Bearer) → AllPairs IsApart ps → place_of b ps ≡ Some p → IsBearer q ps o → bears q p ≡ false → IsBearer q (without b ps) o
+without_same : (q b : ℕ) (ps : List Place) (p : Place) (o : Option Bearer) → AllPairs IsApart ps → place_of b ps ≡ Some p → IsBearer q ps o
+    → bears q p ≡ false → IsBearer q (without b ps) o
 without_same q b ps p None a f h e =
     let none : cond {A = ℕ} (bears q p) 1 0 ≡ 0 = rw e in omega (arith, h, none, count-without q b ps p a f)
 without_same q b ps p (Some o) a f h e =
     let none : cond {A = ℕ} (bears q p) 1 0 ≡ 0 = rw e in
     (omega (arith, h.0, none, count-without q b ps p a f), h.1, All-filter (λ (x : Place). not (is_of b x)) (OfSpace q o.space) ps h.2)
 
-map_same : (q : ℕ) (f : Place → Place) (ps : List Place) (o : Option Bearer) → ((p : Place) → ((f p).pasid ≡ p.pasid) × ((f p).space ≡ p.space)) → IsBearer q ps o → IsBearer q (map f ps) o
+map_same : (q : ℕ) (f : Place → Place) (ps : List Place) (o : Option Bearer) → ((p : Place) → ((f p).pasid ≡ p.pasid) × ((f p).space ≡ p.space))
+    → IsBearer q ps o → IsBearer q (map f ps) o
 map_same q f ps None k h = count-map q f ps (λ p. (k p).0) ∙ h
 map_same q f ps (Some b) k h = (
   count-map q f ps (λ p. (k p).0) ∙ h.0,
@@ -132,7 +141,8 @@ slot_same q o bs l = get_or-set_same bs q o None l
 slot_other : (q r : ℕ) (o : Option Bearer) (bs : List (Option Bearer)) → r ≢ q → slot r (slice_set bs q o) ≡ slot r bs
 slot_other q r o bs n = get_or-set_other bs q r o None n
 
-set_bearers : (q : ℕ) (o : Option Bearer) (ps ps' : List Place) (bs : List (Option Bearer)) → AreBearers ps bs → q < PASIDS + 1 → IsBearer q ps' o → ((r : ℕ) → r ≢ q → IsBearer r ps (slot r bs) → IsBearer r ps' (slot r bs)) → AreBearers ps' (slice_set bs q o)
+set_bearers : (q : ℕ) (o : Option Bearer) (ps ps' : List Place) (bs : List (Option Bearer)) → AreBearers ps bs → q < PASIDS + 1 → IsBearer q ps' o
+    → ((r : ℕ) → r ≢ q → IsBearer r ps (slot r bs) → IsBearer r ps' (slot r bs)) → AreBearers ps' (slice_set bs q o)
 set_bearers q o ps ps' bs k l here others = record {
   count = length-set bs q o ∙ k.count;
   each = λ r m. elim (cases_eq r q) [
@@ -143,14 +153,17 @@ set_bearers q o ps ps' bs k l here others = record {
   ];
 }
 
-pub bearers-begun : (e s b q : ℕ) (ps : List Place) (bs : List (Option Bearer)) → AreBearers ps bs → q ≤ PASIDS → All (λ (p : Place). ShareAlike p (begun e s b q)) ps → AreBearers (ps ++ begun e s b q ∷ []) (slice_set bs q (raised s (slot q bs)))
+pub bearers-begun : (e s b q : ℕ) (ps : List Place) (bs : List (Option Bearer)) → AreBearers ps bs → q ≤ PASIDS
+    → All (λ (p : Place). ShareAlike p (begun e s b q)) ps → AreBearers (ps ++ begun e s b q ∷ []) (slice_set bs q (raised s (slot q bs)))
 bearers-begun e s b q ps bs k m alike =
     let p : Place = begun e s b q in
     set_bearers q (raised s (slot q bs)) ps (ps ++ p ∷ []) bs k (omega arith)
-    (push_raised q s ps p (slot q bs) (k.each q (omega arith)) (eq-eqb q q refl) refl (All-weaker (λ (x : Place). ShareAlike x p) (OfSpace q s) (λ x a. a.0) ps alike))
+    (push_raised q s ps p (slot q bs) (k.each q (omega arith)) (eq-eqb q q refl) refl
+    (All-weaker (λ (x : Place). ShareAlike x p) (OfSpace q s) (λ x a. a.0) ps alike))
     (λ r n h. push_same r ps p (slot r bs) h (ne_eqb q r (λ i. n (sym i))))
 
-pub bearers-without : (b : ℕ) (ps : List Place) (p : Place) (bs : List (Option Bearer)) → IsTable ps → AreBearers ps bs → place_of b ps ≡ Some p → AreBearers (without b ps) (slice_set bs p.pasid (lowered (slot p.pasid bs)))
+pub bearers-without : (b : ℕ) (ps : List Place) (p : Place) (bs : List (Option Bearer)) → IsTable ps → AreBearers ps bs → place_of b ps ≡ Some p
+    → AreBearers (without b ps) (slice_set bs p.pasid (lowered (slot p.pasid bs)))
 bearers-without b ps p bs t k f =
     let own : IsOwn p = found_has IsOwn (is_of b) ps p t.own f in
     let low : p.pasid < PASIDS + 1 = omega (arith, own.to_last) in
@@ -158,7 +171,8 @@ bearers-without b ps p bs t k f =
     (without_lowered p.pasid b ps p (slot p.pasid bs) t.apart f (k.each p.pasid low) (eq-eqb p.pasid p.pasid refl))
     (λ r n h. without_same r b ps p (slot r bs) t.apart f h (ne_eqb p.pasid r (λ i. n (sym i))))
 
-pub bearers-map : (f : Place → Place) (ps : List Place) (bs : List (Option Bearer)) → ((p : Place) → ((f p).pasid ≡ p.pasid) × ((f p).space ≡ p.space)) → AreBearers ps bs → AreBearers (map f ps) bs
+pub bearers-map : (f : Place → Place) (ps : List Place) (bs : List (Option Bearer))
+    → ((p : Place) → ((f p).pasid ≡ p.pasid) × ((f p).space ≡ p.space)) → AreBearers ps bs → AreBearers (map f ps) bs
 bearers-map f ps bs k h = record { count = h.count; each = λ q l. map_same q f ps (slot q bs) k (h.each q l) }
 
 -- the look-ups
@@ -175,7 +189,9 @@ bearer-is q ps (Some b) h =
 -- no space bears a PASID above the last one
 pub bearer-above : (q : ℕ) (ps : List Place) → IsTable ps → PASIDS < q → bearer_of q ps ≡ None
 bearer-above q ps t l =
-    let none : find (bears q) ps ≡ None = none_found (bears q) ps (All-weaker IsOwn (λ (p : Place). bears q p ≡ false) (λ p o. ne_eqb p.pasid q (λ i. absurd (omega (arith, i, o.to_last, l)))) ps t.own) in
+    let none : find (bears q) ps ≡ None =
+    none_found (bears q) ps
+    (All-weaker IsOwn (λ (p : Place). bears q p ≡ false) (λ p o. ne_eqb p.pasid q (λ i. absurd (omega (arith, i, o.to_last, l)))) ps t.own) in
     ap (λ (r : Option Place). option_map (λ (p : Place). record { space = p.space; bindings = count_under q ps }) r) none
 
 pub slot-above : (q : ℕ) (bs : List (Option Bearer)) → length bs ≤ q → slot q bs ≡ None
@@ -201,7 +217,8 @@ slot_by q s ps (Some b) a h e =
 by_slot : (q s : ℕ) (ps : List Place) (o : Option Bearer) → IsBearer q ps o → borne_by s ps ≡ Some q → is_by s o ≡ true
 by_slot q s ps None h e =
     let at : IsBorneAt s ps q = place_borne s ps q e in
-    let no : bears q at.at ≡ false = found_has (λ (p : Place). bears q p ≡ false) (is_in s) ps at.at (none_passes (bears q) ps (none_counted q ps h)) at.found in
+    let no : bears q at.at ≡ false =
+    found_has (λ (p : Place). bears q p ≡ false) (is_in s) ps at.at (none_passes (bears q) ps (none_counted q ps h)) at.found in
     absurd (eqb-false at.at.pasid q no at.pasid)
 by_slot q s ps (Some b) h e =
     let at : IsBorneAt s ps q = place_borne s ps q e in
@@ -212,7 +229,8 @@ pub pasid_in-is : (s : ℕ) (ps : List Place) (bs : List (Option Bearer)) → Is
 unfolding pasid_in
 pasid_in-is s ps bs t k = by_result (pasid_in s bs) refl
   where
-    by_result : (r : Option ℕ) → find (λ pasid. is_by s (slot pasid bs)) (range_with_len 1 PASIDS) ≡ r → find (λ pasid. is_by s (slot pasid bs)) (range_with_len 1 PASIDS) ≡ borne_by s ps
+    by_result : (r : Option ℕ) → find (λ pasid. is_by s (slot pasid bs)) (range_with_len 1 PASIDS) ≡ r
+        → find (λ pasid. is_by s (slot pasid bs)) (range_with_len 1 PASIDS) ≡ borne_by s ps
     by_result (Some q) e =
         let f = found_in_range (λ pasid. is_by s (slot pasid bs)) 1 PASIDS q e in
         e ∙ sym (slot_by q s ps (slot q bs) t.apart (k.each q (omega (arith, f.below))) f.passes)
@@ -270,7 +288,8 @@ opened-bearers = record {
 
 -- what the loops over the slots find
 
-pub pasid_in-some : (s : ℕ) (bs : List (Option Bearer)) (q : ℕ) → 1 ≤ q → q ≤ PASIDS → is_by s (slot q bs) ≡ true → ((r : ℕ) → 1 ≤ r → r < q → is_by s (slot r bs) ≡ false) → pasid_in s bs ≡ Some q
+pub pasid_in-some : (s : ℕ) (bs : List (Option Bearer)) (q : ℕ) → 1 ≤ q → q ≤ PASIDS → is_by s (slot q bs) ≡ true
+    → ((r : ℕ) → 1 ≤ r → r < q → is_by s (slot r bs) ≡ false) → pasid_in s bs ≡ Some q
 unfolding pasid_in
 pasid_in-some s bs q l m h before = find_range (λ pasid. is_by s (slot pasid bs)) 1 PASIDS q l (omega arith) h before
 
@@ -278,7 +297,8 @@ pub pasid_in-none : (s : ℕ) (bs : List (Option Bearer)) → ((r : ℕ) → 1 �
 unfolding pasid_in
 pasid_in-none s bs h = find_range_none (λ pasid. is_by s (slot pasid bs)) 1 PASIDS (λ k g j. h k g (omega arith))
 
-pub free_in-some : (bs : List (Option Bearer)) (q : ℕ) → 1 ≤ q → q ≤ PASIDS → is_free (slot q bs) ≡ true → ((r : ℕ) → 1 ≤ r → r < q → is_free (slot r bs) ≡ false) → free_in bs ≡ Some q
+pub free_in-some : (bs : List (Option Bearer)) (q : ℕ) → 1 ≤ q → q ≤ PASIDS → is_free (slot q bs) ≡ true
+    → ((r : ℕ) → 1 ≤ r → r < q → is_free (slot r bs) ≡ false) → free_in bs ≡ Some q
 unfolding free_in
 free_in-some bs q l m h before = find_range (λ pasid. is_free (slot pasid bs)) 1 PASIDS q l (omega arith) h before
 

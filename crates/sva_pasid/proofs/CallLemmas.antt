@@ -1,5 +1,6 @@
 -- The laws of the calls of a table: what holds of the table and of what is in hand is kept by each call.
-use Rattle.std.proofs.Common.{◌≡◌, ◌≢◌, ◌↔◌, ℕ, Bool, true, false, cond, nat_eq, inl, inr, Option, Some, None, List, [], ◌∷◌, ◌++◌, refl, sym, ◌∙◌, ap, subst, arith, rules}
+use Rattle.std.proofs.Common.{◌≡◌, ◌≢◌, ◌↔◌, ℕ, Bool, true, false, cond, nat_eq, inl, inr, Option, Some, None, List, [], ◌∷◌, ◌++◌, refl, sym, ◌∙◌, ap}
+use Rattle.std.proofs.Common.{subst, arith, rules}
 use Rattle.std.specs.Prelude.{All, IfSome, IsSomeAnd, option_and_then, option_map}
 use Rattle.std.proofs.lemmas.List.Elements.{All-nil, All-head, All-tail}
 use Rattle.std.proofs.lemmas.Bool.{cases_eq, eq-eqb, ne_eqb}
@@ -9,11 +10,16 @@ use Rattle.sva_pasid.specs.Moves.{Life, Move, after_move, numbers_of_life, kind_
 use Rattle.sva_pasid.specs.Moves.Life.{at, over}
 use Rattle.sva_pasid.specs.Moves.Move.{reset}
 use Rattle.sva_pasid.specs.Moves.Kind.{live}
-use Rattle.sva_pasid.specs.Places.{is_of, place_of, stage_of, with_stage, without, lowest, IsLowest, begun, reset_at, after_reset, IsLiveIn, ShareAlike, IsOwn, IsTable}
-use Rattle.sva_pasid.specs.Calls.{Holder, Call, opening, hand_with, after_begin, after_take, after_moving, after_put, after_end, after, after_all, IsPermitted, ArePermitted, life_in, life_of, IsLifeStep, AlwaysTable, SharedBySpace, AlwaysAwaited, Spares, KeptUntilEnd, LivesByTable, TakenBack, ResetByMoves}
+use Rattle.sva_pasid.specs.Places.{is_of, place_of, stage_of, with_stage, without, lowest, IsLowest, begun, reset_at, after_reset, IsLiveIn, ShareAlike}
+use Rattle.sva_pasid.specs.Places.{IsOwn, IsTable}
+use Rattle.sva_pasid.specs.Calls.{Holder, Call, opening, hand_with, after_begin, after_take, after_moving, after_put, after_end, after, after_all}
+use Rattle.sva_pasid.specs.Calls.{IsPermitted, ArePermitted, life_in, life_of, IsLifeStep, AlwaysTable, SharedBySpace, AlwaysAwaited, Spares, KeptUntilEnd}
+use Rattle.sva_pasid.specs.Calls.{LivesByTable, TakenBack, ResetByMoves}
 use Rattle.sva_pasid.specs.Calls.Call.{begin, take, move, put, end, take_back, by_reset}
 use Rattle.sva_pasid.proofs.MoveLemmas.{move_keeps}
-use Rattle.sva_pasid.proofs.PlaceLemmas.{found_or, find_none, place_of-binding, place_of-with_same, place_of-with_other, place_of-without_same, place_of-without_other, place_of-push, place_of-reset, with_stage-table, without-table, without-absent, begun-table, reset-table, reset-numbers, reset-keeps, found-own, FitsPlace}
+use Rattle.sva_pasid.proofs.PlaceLemmas.{found_or, find_none, place_of-binding, place_of-with_same, place_of-with_other, place_of-without_same}
+use Rattle.sva_pasid.proofs.PlaceLemmas.{place_of-without_other, place_of-push, place_of-reset, with_stage-table, without-table, without-absent}
+use Rattle.sva_pasid.proofs.PlaceLemmas.{begun-table, reset-table, reset-numbers, reset-keeps, found-own, FitsPlace}
 use Rattle.sva_pasid.proofs.ShareLemmas.{is_lowest, lowest_alike, alike_found, kept_to_space}
 use Rattle.sva_pasid.specs.declared.stages.Stage.{Stage}
 use Rattle.sva_pasid.specs.declared.stages.Stage.TheVariants.{Live, Stopping, Draining, Invalidating, Quiet, Lost}
@@ -47,7 +53,8 @@ stays : (life : Option Life) → IsLifeStep life life
 stays None = tt
 stays (Some life) = (inl refl, refl)
 
-kept_at : (place place' q q' : Option Place) (life life' l l' : Option Life) → place ≡ q → place' ≡ q' → life ≡ l → life' ≡ l' → IsKept q q' l l' → IsKept place place' life life'
+kept_at : (place place' q q' : Option Place) (life life' l l' : Option Life) → place ≡ q → place' ≡ q' → life ≡ l → life' ≡ l' → IsKept q q' l l'
+    → IsKept place place' life life'
 kept_at place place' q q' life life' l l' p p' k k' kept =
     subst (λ (x : Option Place). IsKept x place' life life') (sym p)
     (subst (λ (x : Option Place). IsKept q x life life') (sym p')
@@ -67,7 +74,8 @@ nothing h i =
     record { table = i.table; cell = λ c. same_cell (place_of c h.places) (place_of c h.places) (h.hand c) (h.hand c) (i.matched c) refl refl }
 
 -- a call changes what there is of one binding
-goes_at : (h h' : Holder) (b : ℕ) → IsHeld h → IsTable h'.places → IsKept (place_of b h.places) (place_of b h'.places) (h.hand b) (h'.hand b) → ((c : ℕ) → b ≢ c → place_of c h'.places ≡ place_of c h.places) → ((c : ℕ) → b ≢ c → h'.hand c ≡ h.hand c) → Goes h h'
+goes_at : (h h' : Holder) (b : ℕ) → IsHeld h → IsTable h'.places → IsKept (place_of b h.places) (place_of b h'.places) (h.hand b) (h'.hand b)
+    → ((c : ℕ) → b ≢ c → place_of c h'.places ≡ place_of c h.places) → ((c : ℕ) → b ≢ c → h'.hand c ≡ h.hand c) → Goes h h'
 goes_at h h' b i t k places hands = record {
   table = t;
   cell = λ c. elim (cases_eq b c) [
@@ -87,7 +95,8 @@ out_of_hand : (p : Place) (stage : Stage) (life : Option Life) → IsInOne p (So
 out_of_hand p stage None m = refl
 out_of_hand p stage (Some life) m = absurd m
 
-kept_take : (p : Place) (stage : Stage) → p.stage ≡ Some stage → numbers_of stage ≡ record { binding = p.binding; pasid = p.pasid } → IsKept (Some p) (Some (record p { stage = None })) None (Some (at stage))
+kept_take : (p : Place) (stage : Stage) → p.stage ≡ Some stage → numbers_of stage ≡ record { binding = p.binding; pasid = p.pasid }
+    → IsKept (Some p) (Some (record p { stage = None })) None (Some (at stage))
 kept_take p stage e own = record {
   matched = own;
   step = subst (λ (s : Option Stage). IsLifeStep (option_map (λ (k : Stage). at k) s) (Some (at stage))) (sym e) (inl refl, refl);
@@ -98,12 +107,17 @@ take_stage h b p None i f e = nothing h i
 take_stage h b p (Some stage) i f e =
     let here : IsInOne p p.stage (h.hand b) = subst (λ (x : Option Place). IsMatched x (h.hand b)) f (i.matched b) in
     let free : h.hand b ≡ None = out_of_hand p stage (h.hand b) (subst (λ (x : Option Stage). IsInOne p x (h.hand b)) e here) in
-    let own : numbers_of stage ≡ record { binding = p.binding; pasid = p.pasid } = subst (λ (x : Option Stage). IfSome x (λ (k : Stage). numbers_of k ≡ record { binding = p.binding; pasid = p.pasid })) e (found-own b h.places p i.table.own f).stage in
+    let own : numbers_of stage ≡ record { binding = p.binding; pasid = p.pasid } =
+    subst (λ (x : Option Stage). IfSome x (λ (k : Stage). numbers_of k ≡ record { binding = p.binding; pasid = p.pasid })) e
+    (found-own b h.places p i.table.own f).stage in
     goes_at h (after_take b (Some stage) h) b i (with_stage-table b None h.places i.table (λ q g. tt))
-    (kept_at (place_of b h.places) (place_of b (with_stage b None h.places)) (Some p) (Some (record p { stage = None })) (h.hand b) (hand_with b (Some (at stage)) h.hand b) None (Some (at stage)) f (place_of-with_same b None h.places p f) free (hand_same b (Some (at stage)) h.hand) (kept_take p stage e own))
+    (kept_at (place_of b h.places) (place_of b (with_stage b None h.places)) (Some p) (Some (record p { stage = None })) (h.hand b)
+    (hand_with b (Some (at stage)) h.hand b) None (Some (at stage)) f (place_of-with_same b None h.places p f) free
+    (hand_same b (Some (at stage)) h.hand) (kept_take p stage e own))
     (λ c n. place_of-with_other b c None h.places (place_of c h.places) n refl) (λ c n. hand_other b c (Some (at stage)) h.hand n)
 
-take_place : (h : Holder) (b : ℕ) (place : Option Place) → IsHeld h → place_of b h.places ≡ place → Goes h (after_take b (option_and_then (λ (p : Place). p.stage) place) h)
+take_place : (h : Holder) (b : ℕ) (place : Option Place) → IsHeld h → place_of b h.places ≡ place
+    → Goes h (after_take b (option_and_then (λ (p : Place). p.stage) place) h)
 take_place h b None i f = nothing h i
 take_place h b (Some p) i f = take_stage h b p p.stage i f refl
 
@@ -127,7 +141,8 @@ held_place h b life i e =
     empty_place (place_of b h.places) life (subst (λ (x : Option Life). IsMatched (place_of b h.places) x) e (i.matched b))
 
 -- `move`
-kept_move : (p : Place) (life : Life) (m : Move) → p.stage ≡ None → numbers_of_life life ≡ record { binding = p.binding; pasid = p.pasid } → IsKept (Some p) (Some p) (Some life) (Some (after_move life m))
+kept_move : (p : Place) (life : Life) (m : Move) → p.stage ≡ None → numbers_of_life life ≡ record { binding = p.binding; pasid = p.pasid }
+    → IsKept (Some p) (Some p) (Some life) (Some (after_move life m))
 kept_move p life m e own = record {
   matched = subst (λ (s : Option Stage). IsInOne p s (Some (after_move life m))) (sym e) (move_keeps life m ∙ own);
   step = (moves_by_table life m, move_keeps life m);
@@ -138,7 +153,8 @@ move_life h b m None i e = nothing h i
 move_life h b m (Some life) i e =
     let x : IsEmptyAt (place_of b h.places) life = held_place h b life i e in
     goes_at h (after_moving b m (Some life) h) b i i.table
-    (kept_at (place_of b h.places) (place_of b h.places) (Some x.at) (Some x.at) (h.hand b) (hand_with b (Some (after_move life m)) h.hand b) (Some life) (Some (after_move life m)) x.found x.found e (hand_same b (Some (after_move life m)) h.hand) (kept_move x.at life m x.empty x.own))
+    (kept_at (place_of b h.places) (place_of b h.places) (Some x.at) (Some x.at) (h.hand b) (hand_with b (Some (after_move life m)) h.hand b)
+    (Some life) (Some (after_move life m)) x.found x.found e (hand_same b (Some (after_move life m)) h.hand) (kept_move x.at life m x.empty x.own))
     (λ c n. refl) (λ c n. hand_other b c (Some (after_move life m)) h.hand n)
 
 -- `put`
@@ -150,9 +166,12 @@ put_life h b None i e = nothing h i
 put_life h b (Some (over n)) i e = nothing h i
 put_life h b (Some (at stage)) i e =
     let x : IsEmptyAt (place_of b h.places) (at stage) = held_place h b (at stage) i e in
-    let fits : FitsPlace b (Some stage) h.places = λ p g. let same : Some x.at ≡ Some p = sym x.found ∙ g in let q : x.at ≡ p = cc in subst (λ (r : Place). numbers_of stage ≡ record { binding = r.binding; pasid = r.pasid }) q x.own in
+    let fits : FitsPlace b (Some stage) h.places = λ p g. let same : Some x.at ≡ Some p = sym x.found ∙ g in let q : x.at ≡ p =
+    cc in subst (λ (r : Place). numbers_of stage ≡ record { binding = r.binding; pasid = r.pasid }) q x.own in
     goes_at h (after_put b (Some (at stage)) h) b i (with_stage-table b (Some stage) h.places i.table fits)
-    (kept_at (place_of b h.places) (place_of b (with_stage b (Some stage) h.places)) (Some x.at) (Some (record x.at { stage = Some stage })) (h.hand b) (hand_with b None h.hand b) (Some (at stage)) None x.found (place_of-with_same b (Some stage) h.places x.at x.found) e (hand_same b None h.hand) (kept_put x.at stage))
+    (kept_at (place_of b h.places) (place_of b (with_stage b (Some stage) h.places)) (Some x.at) (Some (record x.at { stage = Some stage }))
+    (h.hand b) (hand_with b None h.hand b) (Some (at stage)) None x.found (place_of-with_same b (Some stage) h.places x.at x.found) e
+    (hand_same b None h.hand) (kept_put x.at stage))
     (λ c n. place_of-with_other b c (Some stage) h.places (place_of c h.places) n refl) (λ c n. hand_other b c None h.hand n)
 
 -- `end`
@@ -170,9 +189,11 @@ end_life h b (Some (at stage)) i e = nothing h i
 end_life h b (Some (over n)) i e =
     let x : IsEmptyAt (place_of b h.places) (over n) = held_place h b (over n) i e in
     let same : n.binding ≡ b = held_binding h b (over n) i e in
-    let gone : place_of b (without n.binding h.places) ≡ None = subst (λ (k : ℕ). place_of b (without k h.places) ≡ None) (sym same) (place_of-without_same b h.places) in
+    let gone : place_of b (without n.binding h.places) ≡ None =
+    subst (λ (k : ℕ). place_of b (without k h.places) ≡ None) (sym same) (place_of-without_same b h.places) in
     goes_at h (after_end b (Some (over n)) h) b i (without-table n.binding h.places i.table)
-    (kept_at (place_of b h.places) (place_of b (without n.binding h.places)) (Some x.at) None (h.hand b) (hand_with b None h.hand b) (Some (over n)) None x.found gone e (hand_same b None h.hand) (kept_end x.at n))
+    (kept_at (place_of b h.places) (place_of b (without n.binding h.places)) (Some x.at) None (h.hand b) (hand_with b None h.hand b) (Some (over n))
+    None x.found gone e (hand_same b None h.hand) (kept_end x.at n))
     (λ c d. place_of-without_other n.binding c h.places (λ k. d (sym same ∙ k))) (λ c d. hand_other b c None h.hand d)
 
 -- `begin`
@@ -187,14 +208,17 @@ none_else : (r : Option Place) → found_or r None ≡ r
 none_else None = refl
 none_else (Some p) = refl
 
-begin_pasid : (h : Holder) (e s b : ℕ) (pasid : Option ℕ) → IsHeld h → place_of b h.places ≡ None → lowest s h.places ≡ pasid → Goes h (after_begin e s b pasid h)
+begin_pasid : (h : Holder) (e s b : ℕ) (pasid : Option ℕ) → IsHeld h → place_of b h.places ≡ None → lowest s h.places ≡ pasid
+    → Goes h (after_begin e s b pasid h)
 begin_pasid h e s b None i f l = nothing h i
 begin_pasid h e s b (Some q) i f l =
     let p : Place = begun e s b q in
     let is_here : is_of b p ≡ true = eq-eqb b b refl in
     let found : place_of b (h.places ++ p ∷ []) ≡ Some p = place_of-push b h.places p ∙ (rw (f, is_here)) in
     let hand : h.hand b ≡ None = no_hand (h.hand b) (subst (λ (x : Option Place). IsMatched x (h.hand b)) f (i.matched b)) in
-    goes_at h (after_begin e s b (Some q) h) b i (begun-table e s b q h.places i.table f (is_lowest s h.places q i.table l).from_one (is_lowest s h.places q i.table l).to_last (lowest_alike e s b q h.places i.table l))
+    goes_at h (after_begin e s b (Some q) h) b i
+    (begun-table e s b q h.places i.table f (is_lowest s h.places q i.table l).from_one (is_lowest s h.places q i.table l).to_last
+    (lowest_alike e s b q h.places i.table l))
     (kept_at (place_of b h.places) (place_of b (h.places ++ p ∷ [])) None (Some p) (h.hand b) (h.hand b) None None f found hand hand (kept_begin e s b q))
     (λ c n. let other : is_of c p ≡ false = ne_eqb b c n in place_of-push c h.places p ∙ (rw other (none_else (place_of c h.places)))) (λ c n. refl)
 
@@ -209,9 +233,13 @@ reset_by_moves (Lost n) = refl
 
 reset_step : (stage : Stage) → IsLifeStep (Some (at stage)) (Some (at (reset_of stage)))
 reset_step stage =
-    subst (λ (life : Life). IsLifeStep (Some (at stage)) (Some life)) (sym (reset_by_moves stage)) (moves_by_table (at stage) reset, move_keeps (at stage) reset)
+    subst (λ (life : Life). IsLifeStep (Some (at stage)) (Some life)) (sym (reset_by_moves stage)) (
+      moves_by_table (at stage) reset,
+      move_keeps (at stage) reset,
+    )
 
-reset_stage : (p : Place) (s : Option Stage) (life : Option Life) → p.stage ≡ s → IsInOne p s life → IsKept (Some p) (Some (record p { stage = option_map reset_of s })) life life
+reset_stage : (p : Place) (s : Option Stage) (life : Option Life) → p.stage ≡ s → IsInOne p s life
+    → IsKept (Some p) (Some (record p { stage = option_map reset_of s })) life life
 reset_stage p None None e m = absurd m
 reset_stage p None (Some life) e m = record { matched = m; step = stays (Some life) }
 reset_stage p (Some stage) None e m = record {
@@ -231,7 +259,8 @@ reset_place e (Some p) life m = by_test (nat_eq p.endpoint e)
 reset_goes : (h : Holder) (e : ℕ) → IsHeld h → Goes h (after h (by_reset e))
 reset_goes h e i = record {
   table = reset-table e h.places i.table;
-  cell = λ c. subst (λ (x : Option Place). IsKept (place_of c h.places) x (h.hand c) (h.hand c)) (sym (place_of-reset e c h.places)) (reset_place e (place_of c h.places) (h.hand c) (i.matched c));
+  cell = λ c. subst (λ (x : Option Place). IsKept (place_of c h.places) x (h.hand c) (h.hand c)) (sym (place_of-reset e c h.places))
+      (reset_place e (place_of c h.places) (h.hand c) (i.matched c));
 }
 
 -- `take_back`: the place has a live stage, so nothing of the binding is in hand
@@ -264,7 +293,8 @@ none_in_hand h b i w =
     out_of_hand x.at (Live x.numbers) (h.hand b) (subst (λ (s : Option Stage). IsInOne x.at s (h.hand b)) x.stage here)
 
 back_other : (h : Holder) (b c : ℕ) → IsHeld h → b ≢ c → IsKept (place_of c h.places) (place_of c (without b h.places)) (h.hand c) (h.hand c)
-back_other h b c i n = same_cell (place_of c h.places) (place_of c (without b h.places)) (h.hand c) (h.hand c) (i.matched c) (place_of-without_other b c h.places n) refl
+back_other h b c i n =
+    same_cell (place_of c h.places) (place_of c (without b h.places)) (h.hand c) (h.hand c) (i.matched c) (place_of-without_other b c h.places n) refl
 
 held_back : (h : Holder) (b : ℕ) → IsHeld h → IsLiveIn b h.places → IsHeld (after h (take_back b))
 held_back h b i w = record {
@@ -313,7 +343,8 @@ always_awaited calls b life w e =
     let i : IsHeld (after_all opening calls) = held_after_all opening calls held_opening w in
     let x : IsEmptyAt (place_of b (after_all opening calls).places) life = held_place (after_all opening calls) b life i e in
     let same : (numbers_of_life life).binding ≡ b = held_binding (after_all opening calls) b life i e in
-    let here : place_of (numbers_of_life life).binding (after_all opening calls).places ≡ Some x.at = ap (λ (k : ℕ). place_of k (after_all opening calls).places) same ∙ x.found in
+    let here : place_of (numbers_of_life life).binding (after_all opening calls).places ≡ Some x.at =
+    ap (λ (k : ℕ). place_of k (after_all opening calls).places) same ∙ x.found in
     (same, rw here (sym (ap (λ (n : Numbers). n.pasid) x.own), x.empty))
 
 permitted_first : (h : Holder) (cs ds : List Call) → ArePermitted h (cs ++ ds) → ArePermitted h cs × ArePermitted (after_all h cs) ds
@@ -328,7 +359,8 @@ pub lives_by_table : LivesByTable
 lives_by_table calls c b n w =
     let parts = permitted_first opening calls (c ∷ []) w in
     let i : IsHeld (after_all opening calls) = held_after_all opening calls held_opening parts.0 in
-    subst (λ (x : Holder). IsLifeStep (life_of b (after_all opening calls)) (life_of b x)) (sym (after_all-append opening calls (c ∷ []))) (steps (after_all opening calls) c b i parts.1.0 n)
+    subst (λ (x : Holder). IsLifeStep (life_of b (after_all opening calls)) (life_of b x)) (sym (after_all-append opening calls (c ∷ [])))
+    (steps (after_all opening calls) c b i parts.1.0 n)
 
 pub shared_by_space : SharedBySpace
 shared_by_space calls b c p q w f g =
@@ -361,7 +393,8 @@ taken_back calls w =
     let h : Holder = after_all opening calls in
     let i : IsHeld h = held_after_all opening calls held_opening w in (
       λ b live. (life_before h b i live, ap (λ (x : Holder). life_of b x) (after_all-append opening calls (take_back b ∷ [])) ∙ life_behind h b i live),
-      λ e s b free. ap (λ (x : Holder). x.places) (after_all-append opening calls (begin e s b ∷ take_back b ∷ [])) ∙ begun_and_back h e s b (lowest s h.places) free.1,
+      λ e s b free. ap (λ (x : Holder). x.places) (after_all-append opening calls (begin e s b ∷ take_back b ∷ []))
+          ∙ begun_and_back h e s b (lowest s h.places) free.1,
     )
 
 -- A PASID is kept until the end of its binding.
@@ -379,7 +412,8 @@ bears_with b c s q stage ps h = by_place (place_of c ps) refl h
         elim (cases_eq b c) [
           | inl same ↦
               let here : place_of b ps ≡ Some p = ap (λ (k : ℕ). place_of k ps) same ∙ f in
-              let after : place_of c (with_stage b stage ps) ≡ Some (record p { stage = stage }) = ap (λ (k : ℕ). place_of k (with_stage b stage ps)) (sym same) ∙ place_of-with_same b stage ps p here in
+              let after : place_of c (with_stage b stage ps) ≡ Some (record p { stage = stage }) =
+              ap (λ (k : ℕ). place_of k (with_stage b stage ps)) (sym same) ∙ place_of-with_same b stage ps p here in
               rw after h
           | inr n ↦ rw (place_of-with_other b c stage ps (Some p) n f) h
         ]
@@ -398,7 +432,8 @@ bears_reset e c s q ps h = rw (place_of-reset e c ps) (by_found (place_of c ps) 
     by_found None h = absurd h
     by_found (Some p) h = ((reset-keeps e p).1 ∙ h.0, (reset-keeps e p).0 ∙ h.1)
 
-bears_begin : (h : Holder) (c s q e' s' b' : ℕ) (pasid : Option ℕ) → Bears s q (place_of c h.places) → Bears s q (place_of c (after_begin e' s' b' pasid h).places)
+bears_begin : (h : Holder) (c s q e' s' b' : ℕ) (pasid : Option ℕ) → Bears s q (place_of c h.places)
+    → Bears s q (place_of c (after_begin e' s' b' pasid h).places)
 bears_begin h c s q e' s' b' None k = k
 bears_begin h c s q e' s' b' (Some q') k = bears_push c s q h.places (begun e' s' b' q') k
 
@@ -406,7 +441,8 @@ bears_take : (h : Holder) (c s q b : ℕ) (stage : Option Stage) → Bears s q (
 bears_take h c s q b None k = k
 bears_take h c s q b (Some stage) k = bears_with b c s q None h.places k
 
-bears_move : (h : Holder) (c s q b : ℕ) (m : Move) (life : Option Life) → Bears s q (place_of c h.places) → Bears s q (place_of c (after_moving b m life h).places)
+bears_move : (h : Holder) (c s q b : ℕ) (m : Move) (life : Option Life) → Bears s q (place_of c h.places)
+    → Bears s q (place_of c (after_moving b m life h).places)
 bears_move h c s q b m None k = k
 bears_move h c s q b m (Some life) k = k
 
@@ -415,14 +451,16 @@ bears_put h c s q b None k = k
 bears_put h c s q b (Some (over n)) k = k
 bears_put h c s q b (Some (at stage)) k = bears_with b c s q (Some stage) h.places k
 
-bears_end : (h : Holder) (c s q b : ℕ) (life : Option Life) → IsHeld h → h.hand b ≡ life → b ≢ c → Bears s q (place_of c h.places) → Bears s q (place_of c (after_end b life h).places)
+bears_end : (h : Holder) (c s q b : ℕ) (life : Option Life) → IsHeld h → h.hand b ≡ life → b ≢ c → Bears s q (place_of c h.places)
+    → Bears s q (place_of c (after_end b life h).places)
 bears_end h c s q b None i f n k = k
 bears_end h c s q b (Some (at stage)) i f n k = k
 bears_end h c s q b (Some (over m)) i f n k =
     let same : m.binding ≡ b = held_binding h b (over m) i f in
     rw (place_of-without_other m.binding c h.places (λ j. n (sym same ∙ j))) k
 
-bears_after : (h : Holder) (c s q : ℕ) (call : Call) → IsHeld h → Spares c call → Bears s q (place_of c h.places) → Bears s q (place_of c (after h call).places)
+bears_after : (h : Holder) (c s q : ℕ) (call : Call) → IsHeld h → Spares c call → Bears s q (place_of c h.places)
+    → Bears s q (place_of c (after h call).places)
 bears_after h c s q (begin e' s' b') i n k = bears_begin h c s q e' s' b' (lowest s' h.places) k
 bears_after h c s q (take b) i n k = bears_take h c s q b (stage_of b h.places) k
 bears_after h c s q (move b m) i n k = bears_move h c s q b m (h.hand b) k
@@ -431,13 +469,15 @@ bears_after h c s q (end b) i n k = bears_end h c s q b (h.hand b) i refl (λ sa
 bears_after h c s q (take_back b) i n k = rw (place_of-without_other b c h.places (λ same. n.1 (ap (λ (x : ℕ). take_back x) same))) k
 bears_after h c s q (by_reset e) i n k = bears_reset e c s q h.places k
 
-bears_after_all : (h : Holder) (c s q : ℕ) (calls : List Call) → IsHeld h → ArePermitted h calls → All (λ (call : Call). Spares c call) calls → Bears s q (place_of c h.places) → Bears s q (place_of c (after_all h calls).places)
+bears_after_all : (h : Holder) (c s q : ℕ) (calls : List Call) → IsHeld h → ArePermitted h calls → All (λ (call : Call). Spares c call) calls
+    → Bears s q (place_of c h.places) → Bears s q (place_of c (after_all h calls).places)
 bears_after_all h c s q [] i w a k = k
 bears_after_all h c s q (call ∷ calls) i w a k =
     bears_after_all (after h call) c s q calls (held_after h call i w.0) w.1 (All-tail (λ (x : Call). Spares c x) call calls a)
     (bears_after h c s q call i (All-head (λ (x : Call). Spares c x) call calls a) k)
 
-begun_bears : (h : Holder) (e s b q : ℕ) (pasid : Option ℕ) → place_of b h.places ≡ None → pasid ≡ Some q → Bears s q (place_of b (after_begin e s b pasid h).places)
+begun_bears : (h : Holder) (e s b q : ℕ) (pasid : Option ℕ) → place_of b h.places ≡ None → pasid ≡ Some q
+    → Bears s q (place_of b (after_begin e s b pasid h).places)
 begun_bears h e s b q None f l = absurd (cc)
 begun_bears h e s b q (Some q') f l =
     let same : q' ≡ q = cc in
@@ -446,7 +486,8 @@ begun_bears h e s b q (Some q') f l =
     let found : place_of b (h.places ++ p ∷ []) ≡ Some p = place_of-push b h.places p ∙ (rw (f, is_here)) in
     rw found (refl, same)
 
-kept_at_place : (ps : List Place) (b s q other : ℕ) (r : Option Place) → IsTable ps → place_of b ps ≡ r → Bears s q r → (lowest other ps ≡ Some q) ↔ (other ≡ s)
+kept_at_place : (ps : List Place) (b s q other : ℕ) (r : Option Place) → IsTable ps → place_of b ps ≡ r → Bears s q r
+    → (lowest other ps ≡ Some q) ↔ (other ≡ s)
 kept_at_place ps b s q other None t f k = absurd k
 kept_at_place ps b s q other (Some p) t f k =
     subst (λ (x : ℕ). (lowest other ps ≡ Some q) ↔ (other ≡ x)) k.0

@@ -3,7 +3,8 @@ use Rattle.std.proofs.Common.{◌≡◌, ◌≢◌, ℕ, Bool, true, false, ◌�
 use Rattle.std.specs.Prelude.{All}
 use Rattle.std.proofs.lemmas.List.Elements.{All-head, All-tail, All-nil, All-cons}
 use Rattle.sva_pasid.specs.States.{Numbers, Stop, Wait}
-use Rattle.sva_pasid.specs.Moves.{Life, Move, Kind, after_move, after_moves, numbers_of_life, kind_of, HasInOrder, is_stop, is_mark, is_drain, is_wait_done, is_invalidate, is_settle, TableByMoves, KeepsNumbers, QuietAfterUnbinding}
+use Rattle.sva_pasid.specs.Moves.{Life, Move, Kind, after_move, after_moves, numbers_of_life, kind_of, HasInOrder, is_stop, is_mark, is_drain}
+use Rattle.sva_pasid.specs.Moves.{is_wait_done, is_invalidate, is_settle, TableByMoves, KeepsNumbers, QuietAfterUnbinding}
 use Rattle.sva_pasid.specs.Moves.Life.{at, over}
 use Rattle.sva_pasid.specs.Moves.Move.{stop, mark, drain, invalidate, settle, reset, release}
 use Rattle.sva_pasid.specs.Moves.Kind.{live, stopping, draining, invalidating, quiet, lost, released}
@@ -22,13 +23,15 @@ stop_keeps b p true (drain c) = refl
 stop_keeps b p false (drain c) = refl
 stop_keeps b p marked _ = refl
 
-drain_keeps : (b p k : ℕ) (waited : Bool) (m : Move) → numbers_of_life (after_move (at (Draining (wait_with b p k waited))) m) ≡ record { binding = b; pasid = p }
+drain_keeps : (b p k : ℕ) (waited : Bool) (m : Move) → numbers_of_life (after_move (at (Draining (wait_with b p k waited))) m)
+    ≡ record { binding = b; pasid = p }
 drain_keeps b p k true (invalidate c true) = refl
 drain_keeps b p k true (invalidate c false) = refl
 drain_keeps b p k false (invalidate c o) = refl
 drain_keeps b p k waited _ = refl
 
-invalidation_keeps : (b p k : ℕ) (waited : Bool) (m : Move) → numbers_of_life (after_move (at (Invalidating (wait_with b p k waited))) m) ≡ record { binding = b; pasid = p }
+invalidation_keeps : (b p k : ℕ) (waited : Bool) (m : Move) → numbers_of_life (after_move (at (Invalidating (wait_with b p k waited))) m)
+    ≡ record { binding = b; pasid = p }
 invalidation_keeps b p k true settle = refl
 invalidation_keeps b p k false settle = refl
 invalidation_keeps b p k waited _ = refl
@@ -135,7 +138,8 @@ none_left (over _) k = tt
 none_left _ (inl k) = absurd (cc)
 none_left _ (inr k) = absurd (cc)
 
-moves_advance : (life : Life) (ms : List Move) → All (λ m. m ≢ reset) ms → (kind_of (after_moves life ms) ≡ quiet) ⊎ (kind_of (after_moves life ms) ≡ released) → HasInOrder (left_of life) ms
+moves_advance : (life : Life) (ms : List Move) → All (λ m. m ≢ reset) ms → (kind_of (after_moves life ms) ≡ quiet)
+    ⊎ (kind_of (after_moves life ms) ≡ released) → HasInOrder (left_of life) ms
 moves_advance life [] q k = none_left life k
 moves_advance life (m ∷ ms) q k =
     move_advances life m (All-head (λ (x : Move). x ≢ reset) m ms q) ms
@@ -158,9 +162,11 @@ pub table_by_moves : TableByMoves
 table_by_moves live =
     All-cons (IsMoved live) stopping (lost ∷ []) (at (Live numbers), stop, refl, refl) (one_row live lost (at (Live numbers), reset, refl, refl))
 table_by_moves stopping =
-    All-cons (IsMoved stopping) draining (quiet ∷ []) (at (Stopping (stop_with 0 1 true)), drain 0, refl, refl) (one_row stopping quiet (at (Stopping (stop_with 0 1 true)), reset, refl, refl))
+    All-cons (IsMoved stopping) draining (quiet ∷ []) (at (Stopping (stop_with 0 1 true)), drain 0, refl, refl)
+    (one_row stopping quiet (at (Stopping (stop_with 0 1 true)), reset, refl, refl))
 table_by_moves draining =
-    All-cons (IsMoved draining) invalidating (quiet ∷ []) (at (Draining (wait_with 0 1 0 true)), invalidate 0 false, refl, refl) (one_row draining quiet (at (Draining (wait_with 0 1 0 true)), reset, refl, refl))
+    All-cons (IsMoved draining) invalidating (quiet ∷ []) (at (Draining (wait_with 0 1 0 true)), invalidate 0 false, refl, refl)
+    (one_row draining quiet (at (Draining (wait_with 0 1 0 true)), reset, refl, refl))
 table_by_moves invalidating = one_row invalidating quiet (at (Invalidating (wait_with 0 1 0 true)), settle, refl, refl)
 table_by_moves quiet = one_row quiet released (at (Quiet numbers), release, refl, refl)
 table_by_moves lost = one_row lost quiet (at (Lost numbers), settle, refl, refl)

@@ -1,5 +1,6 @@
 -- Lists of places: what a write to one place and its removal are, and that every table keeps what holds of tables.
-use Rattle.std.proofs.Common.{◌≡◌, ◌≢◌, ℕ, zero, suc, ◌+◌, ◌<◌, ◌≤◌, ◌==◌, Bool, true, false, cond, not, inl, inr, Option, Some, None, List, [], ◌∷◌, ◌++◌, length, map, refl, sym, ◌∙◌, ap, subst, arith, slice_index_or, slice_set}
+use Rattle.std.proofs.Common.{◌≡◌, ◌≢◌, ℕ, zero, suc, ◌+◌, ◌<◌, ◌≤◌, ◌==◌, Bool, true, false, cond, not, inl, inr, Option, Some, None, List, [], ◌∷◌, ◌++◌}
+use Rattle.std.proofs.Common.{length, map, refl, sym, ◌∙◌, ap, subst, arith, slice_index_or, slice_set}
 use Rattle.std.specs.Prelude.{All, AllPairs, find, filter, remove, position, IfSome, IfNone, option_map}
 use Rattle.std.specs.List.{range_with_len, position_from}
 use Rattle.std.proofs.lemmas.Iterator.Adapters.{position_from-zero}
@@ -78,14 +79,16 @@ absent_behind b p ps a h =
 apart_before : (b : ℕ) (p q : Place) → IsApart p q → is_of b q ≡ true → is_of b p ≡ false
 apart_before b p q a h = grind (arith, nat_tests, a.bindings)
 
-pub found_at : (b : ℕ) (ps : List Place) (i : ℕ) (d : Place) → AllPairs IsApart ps → i < length ps → is_of b (slice_index_or ps i d) ≡ true → place_of b ps ≡ Some (slice_index_or ps i d)
+pub found_at : (b : ℕ) (ps : List Place) (i : ℕ) (d : Place) → AllPairs IsApart ps → i < length ps → is_of b (slice_index_or ps i d) ≡ true
+    → place_of b ps ≡ Some (slice_index_or ps i d)
 found_at b [] i d a l h = absurd (omega arith)
 found_at b (p ∷ ps) zero d a l h = let e : is_of b p ≡ true = h in rw e
 found_at b (p ∷ ps) (suc i) d a l h =
     let e : is_of b p ≡ false = apart_before b p (slice_index_or ps i d) (pairs-head IsApart p ps a i d (omega arith)) h in
     rw e (found_at b ps i d (pairs-tail IsApart p ps a) (omega arith) h)
 
-pub written_at : (b : ℕ) (s : Option Stage) (ps : List Place) (i : ℕ) (d : Place) → AllPairs IsApart ps → i < length ps → is_of b (slice_index_or ps i d) ≡ true → slice_set ps i (record (slice_index_or ps i d) { stage = s }) ≡ with_stage b s ps
+pub written_at : (b : ℕ) (s : Option Stage) (ps : List Place) (i : ℕ) (d : Place) → AllPairs IsApart ps → i < length ps
+    → is_of b (slice_index_or ps i d) ≡ true → slice_set ps i (record (slice_index_or ps i d) { stage = s }) ≡ with_stage b s ps
 written_at b s [] i d a l h = absurd (omega arith)
 written_at b s (p ∷ ps) zero d a l h =
     let e : is_of b p ≡ true = h in
@@ -94,7 +97,8 @@ written_at b s (p ∷ ps) (suc i) d a l h =
     let e : is_of b p ≡ false = apart_before b p (slice_index_or ps i d) (pairs-head IsApart p ps a i d (omega arith)) h in
     rw e (ap (λ (qs : List Place). p ∷ qs) (written_at b s ps i d (pairs-tail IsApart p ps a) (omega arith) h))
 
-pub removed_at : (b : ℕ) (ps : List Place) (i : ℕ) (d : Place) → AllPairs IsApart ps → i < length ps → is_of b (slice_index_or ps i d) ≡ true → remove ps i ≡ without b ps
+pub removed_at : (b : ℕ) (ps : List Place) (i : ℕ) (d : Place) → AllPairs IsApart ps → i < length ps → is_of b (slice_index_or ps i d) ≡ true
+    → remove ps i ≡ without b ps
 removed_at b [] i d a l h = absurd (omega arith)
 removed_at b (p ∷ ps) zero d a l h =
     let e : is_of b p ≡ true = h in
@@ -103,11 +107,13 @@ removed_at b (p ∷ ps) (suc i) d a l h =
     let e : is_of b p ≡ false = apart_before b p (slice_index_or ps i d) (pairs-head IsApart p ps a i d (omega arith)) h in
     rw e (ap (λ (qs : List Place). p ∷ qs) (removed_at b ps i d (pairs-tail IsApart p ps a) (omega arith) h))
 
-index_removed : (b : ℕ) (ps : List Place) (i : ℕ) → AllPairs IsApart ps → i < length ps → ((d : Place) → is_of b (slice_index_or ps i d) ≡ true) → remove ps i ≡ without b ps
+index_removed : (b : ℕ) (ps : List Place) (i : ℕ) → AllPairs IsApart ps → i < length ps → ((d : Place) → is_of b (slice_index_or ps i d) ≡ true)
+    → remove ps i ≡ without b ps
 index_removed b [] i a l h = absurd (omega arith)
 index_removed b (p ∷ ps) i a l h = removed_at b (p ∷ ps) i p a l (h p)
 
-pub index_at : (b : ℕ) (ps : List Place) (i : ℕ) → AllPairs IsApart ps → i < length ps → ((d : Place) → is_of b (slice_index_or ps i d) ≡ true) → IsIndexOf b ps i
+pub index_at : (b : ℕ) (ps : List Place) (i : ℕ) → AllPairs IsApart ps → i < length ps → ((d : Place) → is_of b (slice_index_or ps i d) ≡ true)
+    → IsIndexOf b ps i
 index_at b ps i a l h = record {
   within = l;
   found = λ d. found_at b ps i d a l (h d);
@@ -142,7 +148,8 @@ all_weaker P Q xs f h k d l = f (slice_index_or xs k d) (h k d l)
 map-apart : (f : Place → Place) (ps : List Place) → ((p q : Place) → IsApart p q → IsApart (f p) (f q)) → AllPairs IsApart ps → AllPairs IsApart (map f ps)
 map-apart f [] k a = λ i j d l m. absurd (omega arith)
 map-apart f (p ∷ ps) k a =
-    pairs-cons IsApart (f p) (map f ps) (all_map (IsApart (f p)) f ps (all_weaker (IsApart p) (λ (q : Place). IsApart (f p) (f q)) ps (λ q h. k p q h) (pairs-head IsApart p ps a)))
+    pairs-cons IsApart (f p) (map f ps)
+    (all_map (IsApart (f p)) f ps (all_weaker (IsApart p) (λ (q : Place). IsApart (f p) (f q)) ps (λ q h. k p q h) (pairs-head IsApart p ps a)))
     (map-apart f ps k (pairs-tail IsApart p ps a))
 
 with_stage-apart : (b : ℕ) (s : Option Stage) (ps : List Place) → AllPairs IsApart ps → AllPairs IsApart (with_stage b s ps)
@@ -152,7 +159,8 @@ with_stage-apart b s ps a = map-apart (changed b s) ps (changed-apart b s) a
 abbrev pub FitsPlace : ℕ → Option Stage → List Place → Type 0
 FitsPlace b s ps = (p : Place) → place_of b ps ≡ Some p → IfSome s (λ (stage : Stage). numbers_of stage ≡ record { binding = p.binding; pasid = p.pasid })
 
-with_stage-here : (b : ℕ) (s : Option Stage) (p : Place) (ps : List Place) → is_of b p ≡ true → with_stage b s ps ≡ ps → with_stage b s (p ∷ ps) ≡ record p { stage = s } ∷ ps
+with_stage-here : (b : ℕ) (s : Option Stage) (p : Place) (ps : List Place) → is_of b p ≡ true → with_stage b s ps ≡ ps → with_stage b s (p ∷ ps)
+    ≡ record p { stage = s } ∷ ps
 with_stage-here b s p ps e same = rw e (ap (λ (qs : List Place). record p { stage = s } ∷ qs) same)
 
 with_stage-past : (b : ℕ) (s : Option Stage) (p : Place) (ps : List Place) → is_of b p ≡ false → with_stage b s (p ∷ ps) ≡ p ∷ with_stage b s ps
@@ -167,10 +175,12 @@ with_stage-own b s (p ∷ ps) a o f =
           let absent : place_of b ps ≡ None = absent_behind b p ps a e in
           let same : with_stage b s ps ≡ ps = with_stage-absent b s ps absent in
           let fits = f p (rw e) in
-          subst (λ (qs : List Place). All IsOwn qs) (sym (with_stage-here b s p ps e same)) (All-cons IsOwn (record p { stage = s }) ps (record { from_one = here.from_one; to_last = here.to_last; stage = fits }) (All-tail IsOwn p ps o))
+          subst (λ (qs : List Place). All IsOwn qs) (sym (with_stage-here b s p ps e same)) (All-cons IsOwn (record p { stage = s }) ps
+          (record { from_one = here.from_one; to_last = here.to_last; stage = fits }) (All-tail IsOwn p ps o))
       | inr e ↦
           let rest : FitsPlace b s ps = λ q h. f q (rw e h) in
-          subst (λ (qs : List Place). All IsOwn qs) (sym (with_stage-past b s p ps e)) (All-cons IsOwn p (with_stage b s ps) (All-head IsOwn p ps o) (with_stage-own b s ps (pairs-tail IsApart p ps a) (All-tail IsOwn p ps o) rest))
+          subst (λ (qs : List Place). All IsOwn qs) (sym (with_stage-past b s p ps e))
+          (All-cons IsOwn p (with_stage b s ps) (All-head IsOwn p ps o) (with_stage-own b s ps (pairs-tail IsApart p ps a) (All-tail IsOwn p ps o) rest))
     ]
 
 pub with_stage-table : (b : ℕ) (s : Option Stage) (ps : List Place) → IsTable ps → FitsPlace b s ps → IsTable (with_stage b s ps)
@@ -192,14 +202,16 @@ find-map t f (x ∷ xs) k =
 pub reset-keeps : (e : ℕ) (p : Place) → ((reset_at e p).pasid ≡ p.pasid) × ((reset_at e p).space ≡ p.space)
 reset-keeps e p = by_test (p.endpoint == e) p
   where
-    by_test : (t : Bool) (p : Place) → ((cond t (record p { stage = option_map reset_of p.stage }) p).pasid ≡ p.pasid) × ((cond t (record p { stage = option_map reset_of p.stage }) p).space ≡ p.space)
+    by_test : (t : Bool) (p : Place) → ((cond t (record p { stage = option_map reset_of p.stage }) p).pasid ≡ p.pasid)
+        × ((cond t (record p { stage = option_map reset_of p.stage }) p).space ≡ p.space)
     by_test true p = (refl, refl)
     by_test false p = (refl, refl)
 
 reset-apart : (e : ℕ) (p q : Place) → IsApart p q → IsApart (reset_at e p) (reset_at e q)
 reset-apart e p q a = by_tests (p.endpoint == e) (q.endpoint == e) p q a
   where
-    by_tests : (t u : Bool) (p q : Place) → IsApart p q → IsApart (cond t (record p { stage = option_map reset_of p.stage }) p) (cond u (record q { stage = option_map reset_of q.stage }) q)
+    by_tests : (t u : Bool) (p q : Place) → IsApart p q
+        → IsApart (cond t (record p { stage = option_map reset_of p.stage }) p) (cond u (record q { stage = option_map reset_of q.stage }) q)
     by_tests true true p q a = record { bindings = a.bindings; pasids = a.pasids }
     by_tests true false p q a = record { bindings = a.bindings; pasids = a.pasids }
     by_tests false true p q a = record { bindings = a.bindings; pasids = a.pasids }
@@ -221,7 +233,12 @@ reset-own e p o = by_test (p.endpoint == e) p o
     of_stage (Some s) n h = reset-numbers s ∙ h
 
     by_test : (t : Bool) (p : Place) → IsOwn p → IsOwn (cond t (record p { stage = option_map reset_of p.stage }) p)
-    by_test true p o = record { from_one = o.from_one; to_last = o.to_last; stage = of_stage p.stage (record { binding = p.binding; pasid = p.pasid }) o.stage }
+    by_test true p o = record {
+      from_one = o.from_one;
+      to_last = o.to_last;
+      stage =
+          of_stage p.stage (record { binding = p.binding; pasid = p.pasid }) o.stage;
+    }
     by_test false p o = o
 
 pub reset-table : (e : ℕ) (ps : List Place) → IsTable ps → IsTable (after_reset e ps)
@@ -251,7 +268,8 @@ without-apart b (p ∷ ps) a =
     elim (cases_Bool (is_of b p)) [
       | inl e ↦ rw e (without-apart b ps (pairs-tail IsApart p ps a))
       | inr e ↦
-          rw e (pairs-cons IsApart p (without b ps) (All-filter (λ (q : Place). not (is_of b q)) (IsApart p) ps (pairs-head IsApart p ps a)) (without-apart b ps (pairs-tail IsApart p ps a)))
+          rw e (pairs-cons IsApart p (without b ps) (All-filter (λ (q : Place). not (is_of b q)) (IsApart p) ps (pairs-head IsApart p ps a))
+          (without-apart b ps (pairs-tail IsApart p ps a)))
     ]
 
 pub without-table : (b : ℕ) (ps : List Place) → IsTable ps → IsTable (without b ps)
@@ -262,9 +280,11 @@ begun-apart : (e s b q : ℕ) (p : Place) → is_of b p ≡ false → ShareAlike
 begun-apart e s b q p h g = record { bindings = eqb-false p.binding b h; pasids = g }
 
 -- a place of a new binding that shares its PASID with the places of its space alone
-pub begun-table : (e s b q : ℕ) (ps : List Place) → IsTable ps → place_of b ps ≡ None → 1 ≤ q → q ≤ PASIDS → All (λ (p : Place). ShareAlike p (begun e s b q)) ps → IsTable (ps ++ begun e s b q ∷ [])
+pub begun-table : (e s b q : ℕ) (ps : List Place) → IsTable ps → place_of b ps ≡ None → 1 ≤ q → q ≤ PASIDS
+    → All (λ (p : Place). ShareAlike p (begun e s b q)) ps → IsTable (ps ++ begun e s b q ∷ [])
 begun-table e s b q ps t absent l m alike = record {
-  apart = all_pairs_push IsApart ps (begun e s b q) t.apart (λ k d h. begun-apart e s b q (slice_index_or ps k d) (all-from_absent b ps absent k d h) (alike k d h));
+  apart = all_pairs_push IsApart ps (begun e s b q) t.apart
+      (λ k d h. begun-apart e s b q (slice_index_or ps k d) (all-from_absent b ps absent k d h) (alike k d h));
   own = All-push IsOwn ps (begun e s b q) t.own (record { from_one = l; to_last = m; stage = refl });
 }
 
@@ -383,7 +403,8 @@ changed-is_of b c s p = by_test (is_of b p) c s p
 place_of-with : (b c : ℕ) (s : Option Stage) (ps : List Place) → place_of c (with_stage b s ps) ≡ option_map (changed b s) (place_of c ps)
 place_of-with b c s ps = find-map (is_of c) (changed b s) ps (λ p. changed-is_of b c s p)
 
-pub place_of-with_same : (b : ℕ) (s : Option Stage) (ps : List Place) (p : Place) → place_of b ps ≡ Some p → place_of b (with_stage b s ps) ≡ Some (record p { stage = s })
+pub place_of-with_same : (b : ℕ) (s : Option Stage) (ps : List Place) (p : Place) → place_of b ps ≡ Some p → place_of b (with_stage b s ps)
+    ≡ Some (record p { stage = s })
 place_of-with_same b s ps p h =
     let e : is_of b p ≡ true = eq-eqb p.binding b (place_of-binding b ps p h) in
     place_of-with b b s ps ∙ ap (λ (r : Option Place). option_map (changed b s) r) h ∙ (rw e)
@@ -397,7 +418,8 @@ place_of-with_other b c s ps (Some p) n h =
 
 pub place_of-without_same : (b : ℕ) (ps : List Place) → place_of b (without b ps) ≡ None
 place_of-without_same b ps =
-    absent-from_all b (without b ps) (λ k d l. not_false (is_of b (slice_index_or (without b ps) k d)) (filter_passes (λ (q : Place). not (is_of b q)) ps k d l))
+    absent-from_all b (without b ps)
+    (λ k d l. not_false (is_of b (slice_index_or (without b ps) k d)) (filter_passes (λ (q : Place). not (is_of b q)) ps k d l))
 
 pub place_of-without_other : (b c : ℕ) (ps : List Place) → b ≢ c → place_of c (without b ps) ≡ place_of c ps
 place_of-without_other b c ps n = find-filter (is_of c) (λ (q : Place). not (is_of b q)) ps (λ p h. grind (arith, nat_tests))
@@ -422,17 +444,22 @@ found-own b (q ∷ ps) p o h =
     ]
 
 -- the stage that comes out of its place can be put back there
-pub taken-awaits : (b : ℕ) (ps : List Place) (p : Place) (r : Option Stage) → IsTable ps → place_of b ps ≡ Some p → r ≡ p.stage → IfSome r (λ stage. ((numbers_of stage).binding ≡ b) × Awaits (numbers_of stage) (with_stage b None ps))
+pub taken-awaits : (b : ℕ) (ps : List Place) (p : Place) (r : Option Stage) → IsTable ps → place_of b ps ≡ Some p → r ≡ p.stage
+    → IfSome r (λ stage. ((numbers_of stage).binding ≡ b) × Awaits (numbers_of stage) (with_stage b None ps))
 taken-awaits b ps p None t h e = tt
 taken-awaits b ps p (Some stage) t h e =
-    let own : numbers_of stage ≡ record { binding = p.binding; pasid = p.pasid } = subst (λ (s : Option Stage). IfSome s (λ k. numbers_of k ≡ record { binding = p.binding; pasid = p.pasid })) (sym e) (found-own b ps p t.own h).stage in
+    let own : numbers_of stage ≡ record { binding = p.binding; pasid = p.pasid } =
+    subst (λ (s : Option Stage). IfSome s (λ k. numbers_of k ≡ record { binding = p.binding; pasid = p.pasid })) (sym e)
+    (found-own b ps p t.own h).stage in
     let same : (numbers_of stage).binding ≡ b = ap (λ (n : Numbers). n.binding) own ∙ place_of-binding b ps p h in
     let empty : place_of b (with_stage b None ps) ≡ Some (record p { stage = None }) = place_of-with_same b None ps p h in
-    let here : place_of (numbers_of stage).binding (with_stage b None ps) ≡ Some (record p { stage = None }) = ap (λ (k : ℕ). place_of k (with_stage b None ps)) same ∙ empty in
+    let here : place_of (numbers_of stage).binding (with_stage b None ps) ≡ Some (record p { stage = None }) =
+    ap (λ (k : ℕ). place_of k (with_stage b None ps)) same ∙ empty in
     (same, rw here (sym (ap (λ (n : Numbers). n.pasid) own), refl))
 
 -- the code writes at an index of what it saw
-pub written-item : (b i : ℕ) (ps seen : List Place) (item : Place) (s : Option Stage) → seen ≡ ps → IsIndexOf b seen i → item ≡ slice_index_or ps i item → (slice_set ps i (record item { stage = s }) ≡ with_stage b s ps) × (place_of b ps ≡ Some item)
+pub written-item : (b i : ℕ) (ps seen : List Place) (item : Place) (s : Option Stage) → seen ≡ ps → IsIndexOf b seen i → item
+    ≡ slice_index_or ps i item → (slice_set ps i (record item { stage = s }) ≡ with_stage b s ps) × (place_of b ps ≡ Some item)
 written-item b i ps seen item s e x at_i =
     let y : IsIndexOf b ps i = subst (λ (qs : List Place). IsIndexOf b qs i) e x in
     (ap (λ (q : Place). slice_set ps i (record q { stage = s })) at_i ∙ y.written item s, y.found item ∙ ap (λ (q : Place). Some q) (sym at_i))

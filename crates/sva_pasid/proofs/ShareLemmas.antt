@@ -1,14 +1,17 @@
 -- PASIDs that are shared by space: what the two look-ups of `lowest` find in a table.
-use Rattle.std.proofs.Common.{◌≡◌, ◌≢◌, ◌↔◌, ℕ, ◌+◌, ◌<◌, ◌≤◌, Bool, true, false, not, inl, inr, Option, Some, None, List, [], ◌∷◌, refl, sym, ◌∙◌, ap, subst, arith}
+use Rattle.std.proofs.Common.{◌≡◌, ◌≢◌, ◌↔◌, ℕ, ◌+◌, ◌<◌, ◌≤◌, Bool, true, false, not, inl, inr, Option, Some, None, List, [], ◌∷◌, refl, sym, ◌∙◌, ap}
+use Rattle.std.proofs.Common.{subst, arith}
 use Rattle.std.specs.Prelude.{◌||◌, IfSome, IfNone, All, AllPairs, find, option_map, MatchOption}
 use Rattle.std.specs.List.{range_with_len, list_any}
 use Rattle.std.specs.Option.{option_or}
 use Rattle.std.proofs.lemmas.List.Elements.{All-head, All-tail, All-nil, All-cons, All-weaker}
 use Rattle.std.proofs.lemmas.Bool.{cases_Bool, eqb-true, eqb-false, eq-eqb, ne_eqb}
-use Rattle.sva_pasid.specs.Places.{place_of, is_in, borne_by, bears, is_borne, is_bound, lowest_free, lowest, IsLowest, IsOutOfPasids, LowestIsLeast, begun, ShareAlike, IsApart, IsOwn, IsTable}
+use Rattle.sva_pasid.specs.Places.{place_of, is_in, borne_by, bears, is_borne, is_bound, lowest_free, lowest, IsLowest, IsOutOfPasids, LowestIsLeast}
+use Rattle.sva_pasid.specs.Places.{begun, ShareAlike, IsApart, IsOwn, IsTable}
 use Rattle.sva_pasid.specs.declared.bearers.TheConstants.{PASIDS}
 use Rattle.sva_pasid.specs.declared.places.Place.{Place}
-use Rattle.sva_pasid.proofs.PlaceLemmas.{pairs-head, pairs-tail, find_none, find_range, find_range_none, IsFirst, found_in_range, none_in_range, not_false, not_true}
+use Rattle.sva_pasid.proofs.PlaceLemmas.{pairs-head, pairs-tail, find_none, find_range, find_range_none, IsFirst, found_in_range, none_in_range, not_false}
+use Rattle.sva_pasid.proofs.PlaceLemmas.{not_true}
 
 -- what a search finds passes its test, and has what all have
 pub found_passes : {X : Type 0} (t : X → Bool) (xs : List X) (x : X) → find t xs ≡ Some x → t x ≡ true
@@ -91,10 +94,12 @@ alike_all t (p ∷ ps) r a h =
           let found : Some p ≡ Some r = rw e at h in
           let same : p ≡ r = cc in
           subst (λ (x : Place). All (λ (q : Place). ShareAlike q x) (p ∷ ps)) same
-          (All-cons (λ (q : Place). ShareAlike q p) p ps (λ k. refl, λ k. refl) (All-weaker (IsApart p) (λ (q : Place). ShareAlike q p) (λ q x. alike_back p q x.pasids) ps (pairs-head IsApart p ps a)))
+          (All-cons (λ (q : Place). ShareAlike q p) p ps (λ k. refl, λ k. refl)
+          (All-weaker (IsApart p) (λ (q : Place). ShareAlike q p) (λ q x. alike_back p q x.pasids) ps (pairs-head IsApart p ps a)))
       | inr e ↦
           let found : find t ps ≡ Some r = rw e at h in
-          All-cons (λ (q : Place). ShareAlike q r) p ps (found_has (IsApart p) t ps r (pairs-head IsApart p ps a) found).pasids (alike_all t ps r (pairs-tail IsApart p ps a) found)
+          All-cons (λ (q : Place). ShareAlike q r) p ps (found_has (IsApart p) t ps r (pairs-head IsApart p ps a) found).pasids
+          (alike_all t ps r (pairs-tail IsApart p ps a) found)
     ]
 
 -- two that were found
@@ -102,7 +107,8 @@ pub alike_found : (t u : Place → Bool) (ps : List Place) (p q : Place) → All
 alike_found t u ps p q a f g = found_has (λ (x : Place). ShareAlike x q) t ps p (alike_all u ps q a g) f
 
 -- the PASID that a space bears is that of each of its places
-pub borne_at : (t : Place → Bool) (s : ℕ) (ps : List Place) (p : Place) → AllPairs IsApart ps → find t ps ≡ Some p → p.space ≡ s → borne_by s ps ≡ Some p.pasid
+pub borne_at : (t : Place → Bool) (s : ℕ) (ps : List Place) (p : Place) → AllPairs IsApart ps → find t ps ≡ Some p → p.space ≡ s → borne_by s ps
+    ≡ Some p.pasid
 borne_at t s ps p a f e =
     let there : IsFound (is_in s) ps = found_too t (is_in s) ps p f (eq-eqb p.space s e) in
     let own : there.at.space ≡ s = eqb-true there.at.space s (found_passes (is_in s) ps there.at there.found) in
@@ -215,19 +221,22 @@ free_alike e s b q (p ∷ ps) f g =
     or_false true y h = absurd (cc)
     or_false false y h = (refl, h)
 
-lowest_alike_from : (e s b q : ℕ) (ps : List Place) (r : Option ℕ) → IsTable ps → borne_by s ps ≡ r → option_or r (lowest_free ps) ≡ Some q → All (λ (p : Place). ShareAlike p (begun e s b q)) ps
+lowest_alike_from : (e s b q : ℕ) (ps : List Place) (r : Option ℕ) → IsTable ps → borne_by s ps ≡ r → option_or r (lowest_free ps) ≡ Some q
+    → All (λ (p : Place). ShareAlike p (begun e s b q)) ps
 lowest_alike_from e s b q ps None t k h = free_alike e s b q ps (no_place s ps k) (is_free ps q h).free
 lowest_alike_from e s b q ps (Some own) t k h =
     let same : own ≡ q = cc in
     let at : IsBorneAt s ps own = place_borne s ps own k in
     All-weaker (λ (p : Place). ShareAlike p at.at) (λ (p : Place). ShareAlike p (begun e s b q))
-    (λ p a. (λ x. a.0 (x ∙ sym (at.pasid ∙ same)) ∙ at.space, λ x. a.1 (x ∙ sym at.space) ∙ (at.pasid ∙ same))) ps (alike_all (is_in s) ps at.at t.apart at.found)
+    (λ p a. (λ x. a.0 (x ∙ sym (at.pasid ∙ same)) ∙ at.space, λ x. a.1 (x ∙ sym at.space) ∙ (at.pasid ∙ same))) ps
+    (alike_all (is_in s) ps at.at t.apart at.found)
 
 pub lowest_alike : (e s b q : ℕ) (ps : List Place) → IsTable ps → lowest s ps ≡ Some q → All (λ (p : Place). ShareAlike p (begun e s b q)) ps
 lowest_alike e s b q ps t h = lowest_alike_from e s b q ps (borne_by s ps) t refl h
 
 -- the PASID of a space's place is that of each further binding of the space, and of no other
-pub kept_to_space : (t : Place → Bool) (ps : List Place) (p : Place) (other : ℕ) → IsTable ps → find t ps ≡ Some p → (lowest other ps ≡ Some p.pasid) ↔ (other ≡ p.space)
+pub kept_to_space : (t : Place → Bool) (ps : List Place) (p : Place) (other : ℕ) → IsTable ps → find t ps ≡ Some p
+    → (lowest other ps ≡ Some p.pasid) ↔ (other ≡ p.space)
 kept_to_space t ps p other table f = (
   λ h. by_borne (borne_by other ps) refl h,
   λ h. let own : borne_by other ps ≡ Some p.pasid = borne_at t other ps p table.apart f (sym h) in rw own refl,

@@ -102,12 +102,14 @@ AlwaysTable = (calls : List Call) → ArePermitted opening calls → IsTable (af
 -- two unreleased bindings have the same PASID exactly where they have the same space, whatever their endpoints
 abbrev pub SharedBySpace : Type 0
 SharedBySpace =
-    (calls : List Call) (binding other : ℕ) (p q : Place) → ArePermitted opening calls → place_of binding (after_all opening calls).places ≡ Some p → place_of other (after_all opening calls).places ≡ Some q → ShareAlike p q
+    (calls : List Call) (binding other : ℕ) (p q : Place) → ArePermitted opening calls → place_of binding (after_all opening calls).places ≡ Some p
+    → place_of other (after_all opening calls).places ≡ Some q → ShareAlike p q
 
 -- what is in hand can always be put back, or ended: its place is there, empty, and of its binding and PASID
 abbrev pub AlwaysAwaited : Type 0
 AlwaysAwaited =
-    (calls : List Call) (binding : ℕ) (life : Life) → ArePermitted opening calls → (after_all opening calls).hand binding ≡ Some life → ((numbers_of_life life).binding ≡ binding) × Awaits (numbers_of_life life) (after_all opening calls).places
+    (calls : List Call) (binding : ℕ) (life : Life) → ArePermitted opening calls → (after_all opening calls).hand binding ≡ Some life
+    → ((numbers_of_life life).binding ≡ binding) × Awaits (numbers_of_life life) (after_all opening calls).places
 
 -- the call doesn't end the binding
 abbrev pub Spares : ℕ → Call → Type 0
@@ -117,19 +119,25 @@ Spares binding call = (call ≢ end binding) × (call ≢ take_back binding)
 -- other space: so it goes to another one only after the end of the last binding that bore it
 abbrev pub KeptUntilEnd : Type 0
 KeptUntilEnd =
-    (calls between : List Call) (endpoint space binding pasid : ℕ) → ArePermitted opening (calls ++ begin endpoint space binding ∷ between) → lowest space (after_all opening calls).places ≡ Some pasid → All (λ call. Spares binding call) between → (other : ℕ) → (lowest other (after_all opening (calls ++ begin endpoint space binding ∷ between)).places ≡ Some pasid) ↔ (other ≡ space)
+    (calls between : List Call) (endpoint space binding pasid : ℕ) → ArePermitted opening (calls ++ begin endpoint space binding ∷ between)
+    → lowest space (after_all opening calls).places ≡ Some pasid → All (λ call. Spares binding call) between → (other : ℕ)
+    → (lowest other (after_all opening (calls ++ begin endpoint space binding ∷ between)).places ≡ Some pasid) ↔ (other ≡ space)
 
 -- over every list of calls each binding begins live, goes by the stage table alone, and ends released, or is taken back
 abbrev pub LivesByTable : Type 0
 LivesByTable =
-    (calls : List Call) (call : Call) (binding : ℕ) → call ≢ take_back binding → ArePermitted opening (calls ++ call ∷ []) → IsLifeStep (life_of binding (after_all opening calls)) (life_of binding (after_all opening (calls ++ call ∷ [])))
+    (calls : List Call) (call : Call) (binding : ℕ) → call ≢ take_back binding → ArePermitted opening (calls ++ call ∷ [])
+    → IsLifeStep (life_of binding (after_all opening calls)) (life_of binding (after_all opening (calls ++ call ∷ [])))
 
 -- a binding that is taken back was live; and where it was the last that began, the table is as it was before
 abbrev pub TakenBack : Type 0
 TakenBack =
     (calls : List Call) → ArePermitted opening calls
-    → ((binding : ℕ) → IsPermitted (after_all opening calls) (take_back binding) → IsSomeAnd (life_of binding (after_all opening calls)) (λ life. kind_of life ≡ live) × (life_of binding (after_all opening (calls ++ take_back binding ∷ [])) ≡ None))
-    × ((endpoint space binding : ℕ) → IsPermitted (after_all opening calls) (begin endpoint space binding) → (after_all opening (calls ++ begin endpoint space binding ∷ take_back binding ∷ [])).places ≡ (after_all opening calls).places)
+    → ((binding : ℕ) → IsPermitted (after_all opening calls) (take_back binding)
+    → IsSomeAnd (life_of binding (after_all opening calls)) (λ life. kind_of life ≡ live)
+    × (life_of binding (after_all opening (calls ++ take_back binding ∷ [])) ≡ None))
+    × ((endpoint space binding : ℕ) → IsPermitted (after_all opening calls) (begin endpoint space binding)
+    → (after_all opening (calls ++ begin endpoint space binding ∷ take_back binding ∷ [])).places ≡ (after_all opening calls).places)
 
 -- what a reset makes of a stage in its place is what the reset move makes of it
 abbrev pub ResetByMoves : Type 0

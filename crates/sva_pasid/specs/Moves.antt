@@ -1,7 +1,8 @@
 -- The moves of a binding from its beginning to its release, and the stage table (this project's own rule).
 use Rattle.std.specs.Prelude.{◌≡◌, ℕ, Bool, true, false, ◌≢◌, ◌⊎◌, not, Result, Ok, Err, List, [], ◌∷◌, All, Contains}
 use Rattle.std.specs.Bool.{MatchBool}
-use Rattle.sva_pasid.specs.States.{Numbers, Stop, Wait, stop_of, marked_stop, drain_of, done_wait, invalidation_of, quiet_of, numbers_of_stop, numbers_of_wait}
+use Rattle.sva_pasid.specs.States.{Numbers, Stop, Wait, stop_of, marked_stop, drain_of, done_wait, invalidation_of, quiet_of, numbers_of_stop}
+use Rattle.sva_pasid.specs.States.{numbers_of_wait}
 use Rattle.sva_pasid.specs.Stages.{numbers_of}
 use Rattle.sva_pasid.specs.declared.stages.Stage.{Stage}
 use Rattle.sva_pasid.specs.declared.stages.Stage.TheVariants.{Live, Stopping, Draining, Invalidating, Quiet, Lost}
@@ -147,4 +148,5 @@ whole_unbinding = is_stop ∷ is_mark ∷ is_drain ∷ is_wait_done ∷ is_inval
 -- without a reset a binding that has begun is quiet, or released, only after the whole unbinding
 abbrev pub QuietAfterUnbinding : Type 0
 QuietAfterUnbinding =
-    (n : Numbers) (ms : List Move) → All (λ m. m ≢ reset) ms → (kind_of (after_moves (at (Live n)) ms) ≡ quiet) ⊎ (kind_of (after_moves (at (Live n)) ms) ≡ released) → HasInOrder whole_unbinding ms
+    (n : Numbers) (ms : List Move) → All (λ m. m ≢ reset) ms → (kind_of (after_moves (at (Live n)) ms) ≡ quiet)
+    ⊎ (kind_of (after_moves (at (Live n)) ms) ≡ released) → HasInOrder whole_unbinding ms

@@ -1,7 +1,8 @@
 -- The table of bindings, seen as a list of places in the order in which the bindings began. A PASID is borne by a space,
 -- over all endpoints: 1 to 32 are given out, to a space that bears none the lowest free one (this project's own rule; PCI
 -- Express Base 5.0 has 20 bits, and leaves it to software which space a PASID names).
-use Rattle.std.specs.Prelude.{◌≡◌, ◌≢◌, ◌↔◌, ℕ, ◌<◌, ◌≤◌, Bool, true, false, ◌==◌, ◌&&◌, not, if◌then◌else◌, Option, Some, None, option_map, option_and_then, IfSome, IsSomeAnd, MatchOption, List, map, filter, find, count_by, All, AllPairs}
+use Rattle.std.specs.Prelude.{◌≡◌, ◌≢◌, ◌↔◌, ℕ, ◌<◌, ◌≤◌, Bool, true, false, ◌==◌, ◌&&◌, not, if◌then◌else◌, Option, Some, None, option_map}
+use Rattle.std.specs.Prelude.{option_and_then, IfSome, IsSomeAnd, MatchOption, List, map, filter, find, count_by, All, AllPairs}
 use Rattle.std.specs.List.{list_any, range_with_len}
 use Rattle.std.specs.Option.{option_or}
 use Rattle.sva_pasid.specs.States.{Numbers}

@@ -1,5 +1,6 @@
 -- What filing does to the unfinished groups of a name, and what that keeps over every history.
-use Rattle.std.proofs.Common.{◌≡◌, ℕ, ◌≤◌, Bool, true, false, ◌&&◌, not, cond, eqb, List, [], ◌∷◌, ◌++◌, filter, count_by, Option, Some, None, unwrap_or, refl, sym, ap, ◌∙◌, subst, arith}
+use Rattle.std.proofs.Common.{◌≡◌, ℕ, ◌≤◌, Bool, true, false, ◌&&◌, not, cond, eqb, List, [], ◌∷◌, ◌++◌, filter, count_by, Option, Some, None, unwrap_or}
+use Rattle.std.proofs.Common.{refl, sym, ap, ◌∙◌, subst, arith}
 use Rattle.std.proofs.lemmas.Bool.{and_parts, or_parts, true≢false, false_from_ne_true}
 use Rattle.std.proofs.lemmas.List.Sums.{sum_by-cons}
 use Rattle.std.specs.List.{find, list_any}
@@ -9,7 +10,8 @@ use Rattle.sva_prq.specs.Job.{ask_of}
 use Rattle.sva_prq.specs.Groups.{OpenGroup, is_unfinished, is_of_other_unit, has_job, new_group, with_request, filed_among, unfinished_asks, serial_for}
 use Rattle.sva_prq.specs.GroupCalls.{GroupCall, Reserve, File, Answered, DropUnit, groups_after, asks_filed, JobsHoldTheirRequests, UnfinishedGroupsDiffer}
 use Rattle.sva_prq.proofs.Searches.{find-none}
-use Rattle.sva_prq.proofs.Tests.{is_same, Same, same_parts, same_self, unfinished_name, unfinished_part, name_as, filed_any, answered_find, filter_find, filter_find_none, AtMostOne, AtMostOne-filter, AtMostOne-answered}
+use Rattle.sva_prq.proofs.Tests.{is_same, Same, same_parts, same_self, unfinished_name, unfinished_part, name_as, filed_any, answered_find, filter_find}
+use Rattle.sva_prq.proofs.Tests.{filter_find_none, AtMostOne, AtMostOne-filter, AtMostOne-answered}
 
 module _ (n u b : ℕ) (request : PageRequest) (unit binding index : ℕ) where
   -- a request of another name changes nothing of the unfinished group of this name
@@ -144,7 +146,8 @@ module _ (n u b : ℕ) (request : PageRequest) where
 
   asks-filed : (unit binding index : ℕ) (gs : List OpenGroup) → AtMostOne (is_unfinished u b request.index) gs
       → Same u b request.index unit binding index
-      → unfinished_asks unit binding index (filed_among n u b request gs) ≡ cond request.last [] (unfinished_asks unit binding index gs ++ ask_of request ∷ [])
+      → unfinished_asks unit binding index (filed_among n u b request gs)
+      ≡ cond request.last [] (unfinished_asks unit binding index gs ++ ask_of request ∷ [])
   asks-filed unit binding index gs one name =
       subst (λ x. unfinished_asks x binding index (filed_among n u b request gs) ≡ cond request.last []
       (unfinished_asks x binding index gs ++ ask_of request ∷ [])) name.units

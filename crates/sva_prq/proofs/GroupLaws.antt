@@ -1,15 +1,20 @@
 -- What every history keeps of the open groups: how many requests they have, and which bindings are open.
-use Rattle.std.proofs.Common.{◌≡◌, ℕ, ◌+◌, ◌<◌, ◌≤◌, Bool, true, false, ◌&&◌, ◌||◌, not, cond, eqb, List, [], ◌∷◌, ◌++◌, length, filter, All, Some, MatchOption, unwrap_or, refl, sym, ap, ◌∙◌, subst, arith, inl, inr, length-append}
-use Rattle.std.proofs.lemmas.Bool.{and_parts, and_from, or_parts, or_cases, or_left, or_right, eqb-true, eq-eqb, ne_eqb, not-true, not-false, true≢false, false≢true, false_from_ne_true}
+use Rattle.std.proofs.Common.{◌≡◌, ℕ, ◌+◌, ◌<◌, ◌≤◌, Bool, true, false, ◌&&◌, ◌||◌, not, cond, eqb, List, [], ◌∷◌, ◌++◌, length, filter, All, Some}
+use Rattle.std.proofs.Common.{MatchOption, unwrap_or, refl, sym, ap, ◌∙◌, subst, arith, inl, inr, length-append}
+use Rattle.std.proofs.lemmas.Bool.{and_parts, and_from, or_parts, or_cases, or_left, or_right, eqb-true, eq-eqb, ne_eqb, not-true, not-false, true≢false}
+use Rattle.std.proofs.lemmas.Bool.{false≢true, false_from_ne_true}
 use Rattle.std.proofs.lemmas.List.Elements.{All-nil, All-cons}
 use Rattle.std.proofs.lemmas.Map.Views.{any-filter_same}
 use Rattle.std.specs.List.{find, list_any}
 use Rattle.sva_msg.specs.declared.messages.PageRequest.{PageRequest}
-use Rattle.sva_prq.specs.Groups.{OpenGroup, is_unfinished, is_of_serial, is_of_binding, is_of_other_unit, has_job, new_group, with_request, filed_among, serial_for, answered_among}
-use Rattle.sva_prq.specs.GroupCalls.{GroupCall, Reserve, File, Answered, DropUnit, groups_after, IsGroupHistory, GroupsAreBounded, was_filed, was_made, is_pending, OpenGroupsAreSeen, SerialsAreNew, SerialsDiffer, OpenIsExact}
+use Rattle.sva_prq.specs.Groups.{OpenGroup, is_unfinished, is_of_serial, is_of_binding, is_of_other_unit, has_job, new_group, with_request, filed_among}
+use Rattle.sva_prq.specs.Groups.{serial_for, answered_among}
+use Rattle.sva_prq.specs.GroupCalls.{GroupCall, Reserve, File, Answered, DropUnit, groups_after, IsGroupHistory, GroupsAreBounded, was_filed, was_made}
+use Rattle.sva_prq.specs.GroupCalls.{is_pending, OpenGroupsAreSeen, SerialsAreNew, SerialsDiffer, OpenIsExact}
 use Rattle.sva_prq.proofs.Filing.{count-one}
 use Rattle.sva_prq.proofs.Searches.{filed_among-none, answered_among-none, find-none}
-use Rattle.sva_prq.proofs.Tests.{or_swap, or_twice, unfinished_name, unfinished_part, filter_none, answered_any, answered_none, AtMostOne, AtMostOne-filter, AtMostOne-answered}
+use Rattle.sva_prq.proofs.Tests.{or_swap, or_twice, unfinished_name, unfinished_part, filter_none, answered_any, answered_none, AtMostOne}
+use Rattle.sva_prq.proofs.Tests.{AtMostOne-filter, AtMostOne-answered}
 
 -- at most 32 requests in each group
 abbrev AreSmall : List OpenGroup → Type 0

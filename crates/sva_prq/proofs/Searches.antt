@@ -1,10 +1,12 @@
 -- The first group that passes a test, and what filing and answering make of it.
-use Rattle.std.proofs.Common.{◌^◌, subst, ◌≡◌, ℕ, ◌+◌, ◌-◌, ◌<◌, unwrap_or, Bool, true, false, cond, List, [], ◌∷◌, ◌++◌, length, Some, None, refl, sym, ap, ◌∙◌}
+use Rattle.std.proofs.Common.{◌^◌, subst, ◌≡◌, ℕ, ◌+◌, ◌-◌, ◌<◌, unwrap_or, Bool, true, false, cond, List, [], ◌∷◌, ◌++◌, length, Some, None, refl, sym}
+use Rattle.std.proofs.Common.{ap, ◌∙◌}
 use Rattle.std.proofs.lemmas.Bool.{or_parts, and_parts, eqb-true}
 use Rattle.std.proofs.lemmas.Option.{MatchOption-at_none}
 use Rattle.std.specs.List.{list_any, find}
 use Rattle.sva_msg.specs.declared.messages.PageRequest.{PageRequest}
-use Rattle.sva_prq.specs.Groups.{OpenGroup, Groups, is_unfinished, has_job, new_group, with_request, filed_among, answered_among, after_answer, CanFile, filed, unfinished_asks, job_of, job_made}
+use Rattle.sva_prq.specs.Groups.{OpenGroup, Groups, is_unfinished, has_job, new_group, with_request, filed_among, answered_among, after_answer, CanFile}
+use Rattle.sva_prq.specs.Groups.{filed, unfinished_asks, job_of, job_made}
 use Rattle.sva_prq.specs.Job.{ask_of}
 
 module _ (p : OpenGroup → Bool) where

@@ -1,6 +1,7 @@
 -- The groups of the slots by rising serial: which they are, that they rise, and that two rising lists of the same groups are
 -- equal.
-use Rattle.std.proofs.Common.{◌≡◌, ◌≢◌, ◌⊎◌, ℕ, zero, suc, ◌<◌, ◌≤◌, Bool, true, false, nat_lt, cond, List, [], ◌∷◌, ◌++◌, length, count_by, filter, Option, Some, None, is_some, refl, sym, ap, ◌∙◌, subst, inl, inr, arith}
+use Rattle.std.proofs.Common.{◌≡◌, ◌≢◌, ◌⊎◌, ℕ, zero, suc, ◌<◌, ◌≤◌, Bool, true, false, nat_lt, cond, List, [], ◌∷◌, ◌++◌, length, count_by, filter}
+use Rattle.std.proofs.Common.{Option, Some, None, is_some, refl, sym, ap, ◌∙◌, subst, inl, inr, arith}
 use Rattle.std.proofs.lemmas.Bool.{true≢false, or_left, or_right, ltb-true, ltb-false}
 use Rattle.std.proofs.lemmas.List.Sums.{sum_by-cons}
 use Rattle.std.proofs.lemmas.Option.{same_Some}
@@ -126,7 +127,8 @@ rising_groups (Some g ∷ slots) apart =
 not_above_itself : (s : ℕ) (gs : List OpenGroup) (g : OpenGroup) → AllAbove s gs → Has gs g → g.serial ≡ s → ⊥
 not_above_itself s gs g all has same = let above = above_has s gs g all has in absurd (omega (arith, above, same))
 
-pub same_rising : (xs ys : List OpenGroup) → Rising xs → Rising ys → ((g : OpenGroup) → Has xs g → Has ys g) → ((g : OpenGroup) → Has ys g → Has xs g) → xs ≡ ys
+pub same_rising : (xs ys : List OpenGroup) → Rising xs → Rising ys → ((g : OpenGroup) → Has xs g → Has ys g)
+    → ((g : OpenGroup) → Has ys g → Has xs g) → xs ≡ ys
 same_rising [] [] up up' forth back = refl
 same_rising [] (y ∷ ys) up up' forth back = absurd (back y (inl refl))
 same_rising (x ∷ xs) [] up up' forth back = absurd (forth x (inl refl))

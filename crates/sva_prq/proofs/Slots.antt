@@ -1,5 +1,7 @@
 -- What a write, a removal and an insertion in the slots do to the open groups, and that the slots stay as they have to be.
-use Rattle.std.proofs.Common.{◌≡◌, ◌≢◌, ◌⊎◌, ℕ, ◌+◌, ◌<◌, ◌≤◌, Bool, true, false, not, cond, List, [], ◌∷◌, ◌++◌, length, get_or, set, count_by, filter, Option, Some, None, is_some, IfSome, IfNone, refl, sym, ap, ◌∙◌, subst, inl, inr, arith, get_or-set_same, get_or-set_other, length-set}
+use Rattle.std.proofs.Common.{◌≡◌, ◌≢◌, ◌⊎◌, ℕ, ◌+◌, ◌<◌, ◌≤◌, Bool, true, false, not, cond, List, [], ◌∷◌, ◌++◌, length, get_or, set, count_by, filter}
+use Rattle.std.proofs.Common.{Option, Some, None, is_some, IfSome, IfNone, refl, sym, ap, ◌∙◌, subst, inl, inr, arith, get_or-set_same, get_or-set_other}
+use Rattle.std.proofs.Common.{length-set}
 use Rattle.std.proofs.lemmas.Bool.{cases_eq, cases_lt, and_parts, and_from, eqb-true, eq-eqb, true≢false, false_from_ne_true, not-true}
 use Rattle.std.proofs.lemmas.List.{get_or_past}
 use Rattle.std.proofs.lemmas.List.Sums.{sum_by-cons}
@@ -329,7 +331,8 @@ module _ (old new : List (Option OpenGroup)) (cells : List (Option ℕ)) (next :
     celled_begun j k h here part read =
         elim (cases_eq (cell_of h.unit h.index) (cell_of g.unit g.index)) [
           | inl same ↦
-              let lead = leads j (read_same (cell_of g.unit g.index) j (ap (λ c. get_or (set cells (cell_of g.unit g.index) cell) c None) (sym same) ∙ read)) in
+              let lead = leads j (read_same (cell_of g.unit g.index) j (ap (λ c. get_or (set cells (cell_of g.unit g.index) cell) c None) (sym same)
+              ∙ read)) in
               elim (new_or_old k h here) [
                 | inl mine ↦ lead.0 ∙ sym mine.0
                 | inr was ↦

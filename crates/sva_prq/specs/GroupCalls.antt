@@ -1,10 +1,12 @@
 -- The open groups over every list of calls. A history is the list of the calls so far, the latest first.
-use Rattle.std.specs.Prelude.{◌≡◌, ℕ, ◌≤◌, ◌==◌, Bool, true, false, ◌&&◌, ◌||◌, not, if◌then◌else◌, List, [], ◌∷◌, ◌++◌, length, Some, None, All, count_by, ◌↔◌}
+use Rattle.std.specs.Prelude.{◌≡◌, ℕ, ◌≤◌, ◌==◌, Bool, true, false, ◌&&◌, ◌||◌, not, if◌then◌else◌, List, [], ◌∷◌, ◌++◌, length, Some, None, All, count_by}
+use Rattle.std.specs.Prelude.{◌↔◌}
 use Rattle.std.specs.List.{list_any}
 use Rattle.sva_msg.specs.declared.messages.PageRequest.{PageRequest}
 use Rattle.sva_prq.specs.declared.jobs.Ask.{Ask}
 use Rattle.sva_prq.specs.Job.{Job, ask_of}
-use Rattle.sva_prq.specs.Groups.{Groups, is_unfinished, is_of_serial, no_groups, is_open, CanFile, filed, serial_for, job_made, with_room, after_answer, without_unit}
+use Rattle.sva_prq.specs.Groups.{Groups, is_unfinished, is_of_serial, no_groups, is_open, CanFile, filed, serial_for, job_made, with_room, after_answer}
+use Rattle.sva_prq.specs.Groups.{without_unit}
 
 -- the calls that change the open groups; a `reserve` that memory refuses changes nothing, and is no call here
 pub data GroupCall : Type 0 where

@@ -43,7 +43,8 @@ number_after-append (Range pasid range ∷ xs) ys first = number_after-append xs
 number_after-append (Pasid pasid ∷ xs) ys first = number_after-append xs ys first
 number_after-append (Wait cookie drain ∷ xs) ys first = number_after-append xs ys (cookie + 1)
 
-pub number_after-more : (xs : List Descriptor) (i first : ℕ) (d : Descriptor) → i < length xs → number_after (number_after first (take i xs)) (get_or xs i d ∷ []) ≡ number_after first (take (i + 1) xs)
+pub number_after-more : (xs : List Descriptor) (i first : ℕ) (d : Descriptor) → i < length xs
+    → number_after (number_after first (take i xs)) (get_or xs i d ∷ []) ≡ number_after first (take (i + 1) xs)
 number_after-more xs i first d lt = sym (number_after-append (take i xs) (get_or xs i d ∷ []) first) ∙ ap (number_after first) (sym (take_more xs i d lt))
 
 -- the same of an item that was read at this place
@@ -79,7 +80,8 @@ number_after-fits (Pasid pasid ∷ xs) first h k = number_after-fits xs first h.
 number_after-fits (Wait cookie drain ∷ xs) first h k = number_after-fits xs (cookie + 1) h.1 (omega (arith, h.0))
 
 -- a cookie of a rising list is at least the first number, and below the number after the last one
-pub rising-within : (xs : List Descriptor) (first cookie : ℕ) → AreRising first xs → Contains (cookies_of xs) cookie → (first ≤ cookie) × (cookie < number_after first xs)
+pub rising-within : (xs : List Descriptor) (first cookie : ℕ) → AreRising first xs → Contains (cookies_of xs) cookie → (first ≤ cookie)
+    × (cookie < number_after first xs)
 rising-within [] first cookie h is = absurd (contains_none cookie is)
 rising-within (Range pasid range ∷ xs) first cookie h is = rising-within xs first cookie h is
 rising-within (Pasid pasid ∷ xs) first cookie h is = rising-within xs first cookie h is

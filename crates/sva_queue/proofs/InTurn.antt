@@ -1,5 +1,6 @@
 -- First in, first out, and the size of the queue.
-use Rattle.std.proofs.Common.{◌≡◌, ◌+◌, ◌≤◌, Bool, true, false, Option, None, List, [], ◌∷◌, ◌++◌, length, nat_le, if◌then◌else◌, refl, ap, sym, ◌∙◌, append_assoc, append-nil, length-append, length-drop, arith}
+use Rattle.std.proofs.Common.{◌≡◌, ◌+◌, ◌≤◌, Bool, true, false, Option, None, List, [], ◌∷◌, ◌++◌, length, nat_le, if◌then◌else◌, refl, ap, sym, ◌∙◌}
+use Rattle.std.proofs.Common.{append_assoc, append-nil, length-append, length-drop, arith}
 use Rattle.std.specs.List.{AllByRecursion as ByRecursion}
 use Rattle.std.proofs.lemmas.List.{take-append-drop}
 use Rattle.std.proofs.lemmas.List.Elements.{recursion_from_All, All-replicate}
@@ -13,11 +14,13 @@ use Rattle.sva_queue.specs.declared.descriptors.Descriptor.{Descriptor}
 use Rattle.sva_queue.specs.declared.descriptors.Pumped.{Pumped}
 use Rattle.sva_queue.specs.declared.descriptors.Pumped.TheVariants.{Issued, Done, Blocked, Idle}
 use Rattle.sva_queue.specs.Queue.{Queue, empty, with_more, next_of, after_answer}
-use Rattle.sva_queue.specs.Calls.{Call, after, after_all, IsCounted, AlwaysFits, entering, taken_off, leaving, all_entering, all_leaving, FirstInFirstOut, tag_calls_by, tag_calls_of, all_tag_calls, TagsByCalls}
+use Rattle.sva_queue.specs.Calls.{Call, after, after_all, IsCounted, AlwaysFits, entering, taken_off, leaving, all_entering, all_leaving, FirstInFirstOut}
+use Rattle.sva_queue.specs.Calls.{tag_calls_by, tag_calls_of, all_tag_calls, TagsByCalls}
 use Rattle.sva_queue.specs.Calls.Call.{Submit, Pump, Arrived, BeginReset, EndReset}
 
 -- ---- one call
-submit_step : (queue : Queue) (more : List Descriptor) (b : Bool) → queue.descriptors ++ (if b then more else []) ≡ (if b then with_more more queue else queue).descriptors
+submit_step : (queue : Queue) (more : List Descriptor) (b : Bool) → queue.descriptors ++ (if b then more else [])
+    ≡ (if b then with_more more queue else queue).descriptors
 submit_step queue more true = refl
 submit_step queue more false = append-nil queue.descriptors
 
@@ -35,7 +38,8 @@ one_step BeginReset queue = refl
 one_step EndReset queue = append-nil queue.descriptors
 
 -- ---- all calls
-in_order : (calls : List Call) (queue : Queue) → queue.descriptors ++ all_entering queue calls ≡ all_leaving queue calls ++ (after_all queue calls).descriptors
+in_order : (calls : List Call) (queue : Queue) → queue.descriptors ++ all_entering queue calls ≡ all_leaving queue calls
+    ++ (after_all queue calls).descriptors
 in_order [] queue = append-nil queue.descriptors
 in_order (call ∷ calls) queue =
     let rest = all_entering (after queue call) calls in
@@ -49,7 +53,8 @@ pub first_in_first_out : FirstInFirstOut
 first_in_first_out calls = in_order calls empty
 
 -- ---- the size of the queue, and its tags
-submit_fits : (queue : Queue) (more : List Descriptor) (b : Bool) → b ≡ nat_le (length queue.descriptors + length more) 64 → length queue.descriptors ≤ 64 → length (if b then with_more more queue else queue).descriptors ≤ 64
+submit_fits : (queue : Queue) (more : List Descriptor) (b : Bool) → b ≡ nat_le (length queue.descriptors + length more) 64 → length queue.descriptors
+    ≤ 64 → length (if b then with_more more queue else queue).descriptors ≤ 64
 submit_fits queue more true e h =
     let fits : length queue.descriptors + length more ≤ 64 = grind (arith, nat_tests) in
     omega (arith, length-append queue.descriptors more)
@@ -85,7 +90,8 @@ call_tags (Arrived v n) queue p h = after-tags (Arrived_tag v n) queue.tags p h
 call_tags BeginReset queue p h = h
 call_tags EndReset queue p h = (refl, All-replicate IsPlace 32 None tt)
 
-all_fit : (calls : List Call) (queue : Queue) → ByRecursion IsCounted calls → length queue.descriptors ≤ 64 → AreTags queue.tags → (length (after_all queue calls).descriptors ≤ 64) × AreTags (after_all queue calls).tags
+all_fit : (calls : List Call) (queue : Queue) → ByRecursion IsCounted calls → length queue.descriptors ≤ 64 → AreTags queue.tags
+    → (length (after_all queue calls).descriptors ≤ 64) × AreTags (after_all queue calls).tags
 all_fit [] queue p h t = (h, t)
 all_fit (call ∷ calls) queue p h t = all_fit calls (after queue call) p.1 (call_fits call queue h) (call_tags call queue p.0 t)
 

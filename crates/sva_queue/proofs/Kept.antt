@@ -1,5 +1,6 @@
 -- The order of the cookies is kept by each call that is permitted.
-use Rattle.std.proofs.Common.{◌≡◌, ◌≢◌, ℕ, ◌+◌, ◌^◌, ◌≤◌, Bool, true, false, Option, None, Some, List, [], ◌∷◌, ◌++◌, length, drop, nat_le, if◌then◌else◌, refl, ap, sym, ◌∙◌, subst, arith}
+use Rattle.std.proofs.Common.{◌≡◌, ◌≢◌, ℕ, ◌+◌, ◌^◌, ◌≤◌, Bool, true, false, Option, None, Some, List, [], ◌∷◌, ◌++◌, length, drop, nat_le, if◌then◌else◌}
+use Rattle.std.proofs.Common.{refl, ap, sym, ◌∙◌, subst, arith}
 use Rattle.std.proofs.lemmas.List.Elements.{recursion_from_All}
 use Rattle.sva_itags.specs.Tags.{all_free, lowest_free}
 use Rattle.sva_queue.specs.declared.descriptors.Descriptor.{Descriptor}
@@ -27,7 +28,8 @@ more-in_order queue more may o =
       limit = number_after-fits more queue.back (recursion_from_All HasNumber more may.numbers) o.limit;
     }
 
-pub submit-in_order : (queue : Queue) (more : List Descriptor) (fits : Bool) → MaySubmit queue more → InOrder queue → InOrder (if fits then with_more more queue else queue)
+pub submit-in_order : (queue : Queue) (more : List Descriptor) (fits : Bool) → MaySubmit queue more → InOrder queue
+    → InOrder (if fits then with_more more queue else queue)
 submit-in_order queue more true may o = more-in_order queue more may o
 submit-in_order queue more false may o = o
 
@@ -45,20 +47,24 @@ wait_done true c cookie h = cc
 wait_done false c cookie h = absurd (cc)
 
 -- An invalidation at the head has no cookie.
-pub issued-cookies : (queue : Queue) (e : Bool) (tag first : ℕ) (ds : List Descriptor) → answer_at queue e ds ≡ Issued tag → (AreRising first ds → AreRising first (drop 1 ds)) × (number_after first (drop 1 ds) ≡ number_after first ds) × (cookies_of (drop 1 ds) ≡ cookies_of ds)
+pub issued-cookies : (queue : Queue) (e : Bool) (tag first : ℕ) (ds : List Descriptor) → answer_at queue e ds ≡ Issued tag
+    → (AreRising first ds → AreRising first (drop 1 ds)) × (number_after first (drop 1 ds) ≡ number_after first ds) × (cookies_of (drop 1 ds) ≡ cookies_of ds)
 issued-cookies queue e tag first [] h = absurd (cc)
 issued-cookies queue e tag first (Range pasid range ∷ ds) h = (λ r. r, refl, refl)
 issued-cookies queue e tag first (Pasid pasid ∷ ds) h = (λ r. r, refl, refl)
 issued-cookies queue e tag first (Wait c drain ∷ ds) h = absurd (wait_not_issued (is_complete queue e drain) c tag h)
 
 -- The cookie of a wait that is done is the first of those that are queued.
-pub done-cookies : (queue : Queue) (e : Bool) (cookie first : ℕ) (ds : List Descriptor) → answer_at queue e ds ≡ Done cookie → (AreRising first ds → (first ≤ cookie) × AreRising (cookie + 1) (drop 1 ds)) × (number_after (cookie + 1) (drop 1 ds) ≡ number_after first ds) × (cookies_of ds ≡ cookie ∷ cookies_of (drop 1 ds))
+pub done-cookies : (queue : Queue) (e : Bool) (cookie first : ℕ) (ds : List Descriptor) → answer_at queue e ds ≡ Done cookie
+    → (AreRising first ds → (first ≤ cookie) × AreRising (cookie + 1) (drop 1 ds)) × (number_after (cookie + 1) (drop 1 ds) ≡ number_after first ds)
+    × (cookies_of ds ≡ cookie ∷ cookies_of (drop 1 ds))
 done-cookies queue e cookie first [] h = absurd (cc)
 done-cookies queue e cookie first (Range pasid range ∷ ds) h = absurd (issued_not_done (lowest_free queue.tags) cookie h)
 done-cookies queue e cookie first (Pasid pasid ∷ ds) h = absurd (issued_not_done (lowest_free queue.tags) cookie h)
 done-cookies queue e cookie first (Wait c drain ∷ ds) h =
     let same : c ≡ cookie = wait_done (is_complete queue e drain) c cookie h in
-    subst (λ k. (((first ≤ c) × AreRising (c + 1) ds) → (first ≤ k) × AreRising (k + 1) ds) × (number_after (k + 1) ds ≡ number_after (c + 1) ds) × (c ∷ cookies_of ds ≡ k ∷ cookies_of ds)) same (λ r. r, refl, refl)
+    subst (λ k. (((first ≤ c) × AreRising (c + 1) ds) → (first ≤ k) × AreRising (k + 1) ds) × (number_after (k + 1) ds ≡ number_after (c + 1) ds)
+    × (c ∷ cookies_of ds ≡ k ∷ cookies_of ds)) same (λ r. r, refl, refl)
 
 -- what is answered where nothing is queued
 pub empty-idle : (queue : Queue) (e : Bool) (ds : List Descriptor) → ds ≡ [] → answer_at queue e ds ≡ Idle
@@ -100,8 +106,10 @@ pump-in_order Idle queue e is o = o
 pub begun-in_order : (queue : Queue) → InOrder queue → InOrder (reset_begun queue)
 begun-in_order queue o = record { rising = tt; at_open = λ k. absurd (cc); in_reset = λ _. refl; reached = o.reached; limit = o.limit }
 
-ended_by : (queue : Queue) (b : Bool) → b ≡ queue.is_open → InOrder queue → InOrder (record queue { is_open = true; tags = all_free; front = if b then queue.front else queue.back })
-ended_by queue true same o = record { rising = o.rising; at_open = λ _. o.at_open (sym same); in_reset = λ k. absurd (cc); reached = o.reached; limit = o.limit }
+ended_by : (queue : Queue) (b : Bool) → b ≡ queue.is_open → InOrder queue
+    → InOrder (record queue { is_open = true; tags = all_free; front = if b then queue.front else queue.back })
+ended_by queue true same o =
+    record { rising = o.rising; at_open = λ _. o.at_open (sym same); in_reset = λ k. absurd (cc); reached = o.reached; limit = o.limit }
 ended_by queue false same o =
     let none : queue.descriptors ≡ [] = o.in_reset (sym same) in
     record {

@@ -1,5 +1,6 @@
 -- A wait is done only behind all that was ahead of it.
-use Rattle.std.proofs.Common.{◌≡◌, ◌≢◌, ℕ, zero, suc, ◌+◌, ◌<◌, ◌↔◌, ◌⊎◌, inl, inr, Bool, true, false, not, ◌&&◌, ◌||◌, Option, Some, None, List, [], ◌∷◌, ◌++◌, length, take, slice_get, if◌then◌else◌, refl, ap, sym, ◌∙◌, subst, append-nil, length-append, arith}
+use Rattle.std.proofs.Common.{◌≡◌, ◌≢◌, ℕ, zero, suc, ◌+◌, ◌<◌, ◌↔◌, ◌⊎◌, inl, inr, Bool, true, false, not, ◌&&◌, ◌||◌, Option, Some, None, List, [], ◌∷◌}
+use Rattle.std.proofs.Common.{◌++◌, length, take, slice_get, if◌then◌else◌, refl, ap, sym, ◌∙◌, subst, append-nil, length-append, arith}
 use Rattle.std.proofs.lemmas.Bool.Decides.{nat_tests}
 use Rattle.sva_itags.specs.Tags.{IsBusy, lowest_free}
 use Rattle.sva_itags.specs.declared.itags.Busy.{Busy}
@@ -10,12 +11,14 @@ use Rattle.sva_queue.specs.declared.descriptors.Descriptor.TheVariants.{Range, P
 use Rattle.sva_queue.specs.declared.descriptors.Pumped.{Pumped}
 use Rattle.sva_queue.specs.declared.descriptors.Pumped.TheVariants.{Issued, Done, Blocked, Idle}
 use Rattle.sva_queue.specs.Queue.{Queue, empty, is_idle, is_complete, issued, answer_at, next_of, after_answer}
-use Rattle.sva_queue.specs.Calls.{Call, after, after_all, leaving, taken_off, all_leaving, IsFreedDuring, IsOverSince, IsOver, IsSettled, IsInvalidation, DoneBehind, IsWaitDone}
+use Rattle.sva_queue.specs.Calls.{Call, after, after_all, leaving, taken_off, all_leaving, IsFreedDuring, IsOverSince, IsOver, IsSettled, IsInvalidation}
+use Rattle.sva_queue.specs.Calls.{DoneBehind, IsWaitDone}
 use Rattle.sva_queue.specs.Calls.Call.{Submit, Pump, Arrived, BeginReset, EndReset}
 use Rattle.sva_queue.proofs.IdleTags.{idle_none, none_idle}
 
 -- ---- when a wait is done
-done_by : (i e : Bool) (drain : Bool) (c cookie : ℕ) → (if i && (not drain || e) then Done c else Blocked) ≡ Done cookie → (i ≡ true) × (c ≡ cookie) × (drain ≡ true → e ≡ true)
+done_by : (i e : Bool) (drain : Bool) (c cookie : ℕ) → (if i && (not drain || e) then Done c else Blocked) ≡ Done cookie → (i ≡ true) × (c ≡ cookie)
+    × (drain ≡ true → e ≡ true)
 done_by true true drain c cookie h = (refl, grind (arith, nat_tests), λ _. refl)
 done_by true false true c cookie h = absurd (cc)
 done_by true false false c cookie h = (refl, grind (arith, nat_tests), λ k. absurd (cc))
@@ -25,7 +28,8 @@ issued_not_done : (o : Option ℕ) (cookie : ℕ) → issued o ≢ Done cookie
 issued_not_done None cookie = λ k. cc
 issued_not_done (Some t) cookie = λ k. cc
 
-head_done : (queue : Queue) (e : Bool) (cookie : ℕ) (ds : List Descriptor) → answer_at queue e ds ≡ Done cookie → (drain : Bool) × (slice_get ds 0 ≡ Some (Wait cookie drain)) × (is_idle queue.tags ≡ true) × (drain ≡ true → e ≡ true)
+head_done : (queue : Queue) (e : Bool) (cookie : ℕ) (ds : List Descriptor) → answer_at queue e ds ≡ Done cookie → (drain : Bool)
+    × (slice_get ds 0 ≡ Some (Wait cookie drain)) × (is_idle queue.tags ≡ true) × (drain ≡ true → e ≡ true)
 head_done queue e cookie [] h = absurd (cc)
 head_done queue e cookie (Range pasid range ∷ ds) h = absurd (issued_not_done (lowest_free queue.tags) cookie h)
 head_done queue e cookie (Pasid pasid ∷ ds) h = absurd (issued_not_done (lowest_free queue.tags) cookie h)
@@ -40,7 +44,8 @@ to_done true false true cookie h k = let no : false ≡ true = k refl in absurd 
 to_done true false false cookie h k = refl
 to_done false e drain cookie h k = absurd (cc)
 
-head_to_done : (queue : Queue) (e : Bool) (cookie : ℕ) (drain : Bool) (ds : List Descriptor) → slice_get ds 0 ≡ Some (Wait cookie drain) → is_idle queue.tags ≡ true → (drain ≡ true → e ≡ true) → answer_at queue e ds ≡ Done cookie
+head_to_done : (queue : Queue) (e : Bool) (cookie : ℕ) (drain : Bool) (ds : List Descriptor) → slice_get ds 0 ≡ Some (Wait cookie drain)
+    → is_idle queue.tags ≡ true → (drain ≡ true → e ≡ true) → answer_at queue e ds ≡ Done cookie
 head_to_done queue e cookie drain [] h i k = absurd (cc)
 head_to_done queue e cookie drain (d ∷ ds) h i k =
     let is_wait : d ≡ Wait cookie drain = cc in
@@ -59,7 +64,8 @@ is_or_not None = inr (λ (b, h). cc)
 is_or_not (Some None) = inr (λ (b, h). cc)
 is_or_not (Some (Some b)) = inl (b, refl)
 
-freed_during : (calls : List Call) (queue : Queue) (tag : ℕ) → IsBusy queue.tags tag → ¬ IsBusy (after_all queue calls).tags tag → IsFreedDuring queue calls tag
+freed_during : (calls : List Call) (queue : Queue) (tag : ℕ) → IsBusy queue.tags tag → ¬ IsBusy (after_all queue calls).tags tag
+    → IsFreedDuring queue calls tag
 freed_during [] queue tag busy freed = absurd (freed busy)
 freed_during (call ∷ calls) queue tag busy freed =
     elim (is_or_not (slice_get (after queue call).tags tag)) [
@@ -97,7 +103,9 @@ take_one [] n d h = absurd (cc)
 take_one (x ∷ ds) zero d h = h
 take_one (x ∷ ds) (suc n) d h = absurd (cc)
 
-over_since : (answer : Pumped) (queue : Queue) (e : Bool) (calls : List Call) (n : ℕ) (d : Descriptor) → next_of queue e ≡ answer → slice_get (taken_off answer queue.descriptors) n ≡ Some d → IsInvalidation d → is_idle (after_all (after_answer answer queue) calls).tags ≡ true → IsOverSince answer (after_answer answer queue) calls
+over_since : (answer : Pumped) (queue : Queue) (e : Bool) (calls : List Call) (n : ℕ) (d : Descriptor) → next_of queue e ≡ answer
+    → slice_get (taken_off answer queue.descriptors) n ≡ Some d → IsInvalidation d → is_idle (after_all (after_answer answer queue) calls).tags
+    ≡ true → IsOverSince answer (after_answer answer queue) calls
 over_since (Issued tag) queue e calls n d is h inv idle =
     let lowest : lowest_free queue.tags ≡ Some tag = issued_lowest queue e tag queue.descriptors is in
     let now : Queue = after_answer (Issued tag) queue in
@@ -112,7 +120,8 @@ over_since (Done cookie) queue e calls n d is h inv idle =
 over_since Blocked queue e calls n d is h inv idle = absurd (cc)
 over_since Idle queue e calls n d is h inv idle = absurd (cc)
 
-over_at : (call : Call) (queue : Queue) (calls : List Call) (n : ℕ) (d : Descriptor) → slice_get (leaving queue call) n ≡ Some d → IsInvalidation d → is_idle (after_all (after queue call) calls).tags ≡ true → IsOver queue call calls
+over_at : (call : Call) (queue : Queue) (calls : List Call) (n : ℕ) (d : Descriptor) → slice_get (leaving queue call) n ≡ Some d → IsInvalidation d
+    → is_idle (after_all (after queue call) calls).tags ≡ true → IsOver queue call calls
 over_at (Submit more) queue calls n d h inv idle = absurd (cc)
 over_at (Pump e) queue calls n d h inv idle = over_since (next_of queue e) queue e calls n d refl h inv idle
 over_at (Arrived v c) queue calls n d h inv idle = absurd (cc)
@@ -120,13 +129,15 @@ over_at BeginReset queue calls n d h inv idle = tt
 over_at EndReset queue calls n d h inv idle = absurd (cc)
 
 -- a place of two lists one after the other
-get-append : (xs ys : List Descriptor) (n : ℕ) (d : Descriptor) → slice_get (xs ++ ys) n ≡ Some d → ((n < length xs) × (slice_get xs n ≡ Some d)) ⊎ ((m : ℕ) × (n ≡ length xs + m) × (slice_get ys m ≡ Some d))
+get-append : (xs ys : List Descriptor) (n : ℕ) (d : Descriptor) → slice_get (xs ++ ys) n ≡ Some d → ((n < length xs) × (slice_get xs n ≡ Some d))
+    ⊎ ((m : ℕ) × (n ≡ length xs + m) × (slice_get ys m ≡ Some d))
 get-append [] ys n d h = inr (n, omega arith, h)
 get-append (x ∷ xs) ys zero d h = inl (omega arith, h)
 get-append (x ∷ xs) ys (suc n) d h =
     elim (get-append xs ys n d h) [ inl here ↦ inl (omega (arith, here.0), here.1) | inr there ↦ inr (there.0, omega (arith, there.1), there.2) ]
 
-settled : (calls : List Call) (queue : Queue) (n : ℕ) (d : Descriptor) → slice_get (all_leaving queue calls) n ≡ Some d → IsInvalidation d → is_idle (after_all queue calls).tags ≡ true → IsSettled queue calls n
+settled : (calls : List Call) (queue : Queue) (n : ℕ) (d : Descriptor) → slice_get (all_leaving queue calls) n ≡ Some d → IsInvalidation d
+    → is_idle (after_all queue calls).tags ≡ true → IsSettled queue calls n
 settled [] queue n d h inv idle = absurd (cc)
 settled (call ∷ calls) queue n d h inv idle =
     elim (get-append (leaving queue call) (all_leaving (after queue call) calls) n d h) [

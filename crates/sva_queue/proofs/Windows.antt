@@ -1,5 +1,6 @@
 -- The part of a table that holds a list, from one place on and round the table's end.
-use Rattle.std.proofs.Common.{◌≡◌, ℕ, ◌+◌, ◌-◌, ◌%◌, ◌<◌, ◌≤◌, ◌⊎◌, List, [], ◌∷◌, ◌++◌, length, get_or, take, drop, set, ap, sym, ◌∙◌, ap₂, inl, inr, mod-eq_of_lt, arith, length-append, length-drop, length-set, length-take-le, get_or-drop, get_or-take}
+use Rattle.std.proofs.Common.{◌≡◌, ℕ, ◌+◌, ◌-◌, ◌%◌, ◌<◌, ◌≤◌, ◌⊎◌, List, [], ◌∷◌, ◌++◌, length, get_or, take, drop, set, ap, sym, ◌∙◌, ap₂, inl, inr}
+use Rattle.std.proofs.Common.{mod-eq_of_lt, arith, length-append, length-drop, length-set, length-take-le, get_or-drop, get_or-take}
 use native.Mathlib.Nat.{mod-eq-sub-mod, mod-add-mod}
 use Rattle.std.proofs.lemmas.List.{same_lists, drop_more, get_or_append_left, get_or-append_right}
 use Rattle.std.proofs.lemmas.Bool.{cases_lt}
@@ -30,7 +31,8 @@ module _ {X : Type 0} (N k n : ℕ) (xs : List X) (start_in_range : k < N) (len_
       let length_tail = length-drop k xs in
       get_or-take n _ i d in_range ∙ elim (mod_wraps_once N (k + i) (omega arith)) [
         | inl unwrapped ↦ get_or_append_left _ _ d i (omega arith) ∙ get_or-drop k xs i d ∙ ap (λ j. get_or xs j d) (omega arith)
-        | inr wrapped ↦ get_or-append_right _ _ (N - k) i d (omega arith) (omega arith) ∙ get_or-take k xs _ d (omega arith) ∙ ap (λ j. get_or xs j d) (omega arith)
+        | inr wrapped ↦ get_or-append_right _ _ (N - k) i d (omega arith) (omega arith) ∙ get_or-take k xs _ d (omega arith)
+            ∙ ap (λ j. get_or xs j d) (omega arith)
       ]
 
 -- A second block, since these use the lemmas above at other windows.
@@ -58,7 +60,8 @@ module _ {X : Type 0} (N k n : ℕ) (xs : List X) (start_in_range : k < N) (len_
       let length_old = length-window N k n xs start_in_range len_fits length_xs in
       let length_new = length-window N ((k + 1) % N) (n - 1) xs next_in_range (omega arith) length_xs in
       let old_item = get_or-window N k n xs start_in_range len_fits length_xs in
-      drop_more _ 0 z (omega arith) ∙ ap₂ ◌∷◌ (grind (arith, old_item 0 z, mod_wraps_once N k)) (same_lists _ _ (simp length-drop (omega arith)) (λ i d in_range. grind (
+      drop_more _ 0 z (omega arith)
+      ∙ ap₂ ◌∷◌ (grind (arith, old_item 0 z, mod_wraps_once N k)) (same_lists _ _ (simp length-drop (omega arith)) (λ i d in_range. grind (
         arith,
         length-drop 1 (window k n xs),
         get_or-drop 1 (window k n xs) i d,

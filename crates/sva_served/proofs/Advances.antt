@@ -105,7 +105,8 @@ refused_otherwise v x (Some b) is = otherwise_by x (open_drain v (Some b)) (has_
 none_open : (served : Inside) (e n : ℕ) → IsServed served → has_open_group (part_of served.host e) n ≡ false
 none_open served e n h =
     ap (λ (w : Wire). has_open_group (part_of w e) n) h.apart
-    ∙ ap (λ (groups : List HostGroupWire). has_open_group (record (part_of (with_service served.workers no_service served.host) e) { host_groups = groups }) n)
+    ∙ ap (λ (groups : List HostGroupWire). has_open_group
+    (record (part_of (with_service served.workers no_service served.host) e) { host_groups = groups }) n)
     (no_groups served.host.parts e)
 
 none_left : (is_open has_group : Bool) → None ≡ held_back_by (Some is_open) has_group → has_group ≡ false

@@ -11,7 +11,10 @@ use Rattle.sva_model.specs.Wire.UseWire.{RunningWire}
 use Rattle.sva_model.specs.Wire.BusyWire.{Fresh}
 use Rattle.sva_model.specs.Wire.Descriptor.{PasidDescriptor, WaitDescriptor}
 use Rattle.sva_labels.specs.Finding.{part_of, device_of, unit_of, pages_in, bound_at, submits, submits_by, is_at_page}
-use Rattle.sva_labels.specs.Moves.{Move, moved, all_moved, with_part, with_device, with_unit, sent, sent_copies, delivered, with_stage, with_descriptors, descriptors_for, part_unmapped, pasid_or_0, cookie_at, target_by, targets_of, settled, settled_cookie, with_pasid, without_tag, kept, taking, ended, requested, stale_of, cleared, completed, without_named, cut_off_at, place_for, placed, is_between, unmapped}
+use Rattle.sva_labels.specs.Moves.{Move, moved, all_moved, with_part, with_device, with_unit, sent, sent_copies, delivered, with_stage, with_descriptors}
+use Rattle.sva_labels.specs.Moves.{descriptors_for, part_unmapped, pasid_or_0, cookie_at, target_by, targets_of, settled, settled_cookie, with_pasid}
+use Rattle.sva_labels.specs.Moves.{without_tag, kept, taking, ended, requested, stale_of, cleared, completed, without_named, cut_off_at, place_for, placed}
+use Rattle.sva_labels.specs.Moves.{is_between, unmapped}
 use Rattle.sva_wire.proofs.Lists.{tabulate_same}
 use Rattle.sva_served.specs.Seen.{ServiceWire, parts_with, serving}
 use Rattle.sva_served.proofs.Parts.{length_with, part_with, unit_with, LeavesGroups, changed_with, tabulated_with}
@@ -35,7 +38,8 @@ LeaveService (m ∷ moves) = LeavesService m × LeaveService moves
 
 pub part_changed : (service : ServiceWire) (w : Wire) (e : ℕ) (change : PartWire → PartWire) → LeavesGroups change
     → with_part (serving service w) e (change (part_of (serving service w) e)) ≡ serving service (with_part w e (change (part_of w e)))
-part_changed service w e change leaves = λ i. record w { parts = changed_with service.groups w.parts e change leaves i; jobs = service.jobs; hands = service.hands }
+part_changed service w e change leaves =
+    λ i. record w { parts = changed_with service.groups w.parts e change leaves i; jobs = service.jobs; hands = service.hands }
 
 device_changed : (service : ServiceWire) (w : Wire) (e : ℕ) (change : DeviceWire → DeviceWire)
     → with_device (serving service w) e (change (device_of (serving service w) e)) ≡ serving service (with_device w e (change (device_of w e)))
@@ -61,10 +65,12 @@ pub targets_with : (service : ServiceWire) (w : Wire) (n : ℕ)
     → targets_of (serving service w) n ≡ targets_of w n
 targets_with service w n =
     λ i. tabulate 8
-    (λ e. if nat_lt e (length_with service.groups w.parts i) then target_by (unit_with service.groups w.parts e i) (given_with service w n e i) (bound_at w e n) else None)
+    (λ e. if nat_lt e (length_with service.groups w.parts i) then target_by (unit_with service.groups w.parts e i) (given_with service w n e i)
+    (bound_at w e n) else None)
 
 if_leaves : (b : Bool) (p : PartWire) (gs : List HostGroupWire) (unit : UnitWire)
-    → (if b then record (record p { host_groups = gs }) { unit = unit } else record p { host_groups = gs }) ≡ record (if b then record p { unit = unit } else p) { host_groups = gs }
+    → (if b then record (record p { host_groups = gs }) { unit = unit } else record p { host_groups = gs })
+    ≡ record (if b then record p { unit = unit } else p) { host_groups = gs }
 if_leaves true p gs unit = refl
 if_leaves false p gs unit = refl
 
@@ -87,7 +93,8 @@ units_unmapped : (service : ServiceWire) (w : Wire) (n q count order : ℕ)
     ≡ parts_with service.groups (tabulate (length w.parts) (part_unmapped w n q count order))
 units_unmapped service w n q count order =
     (λ i. tabulate (length_with service.groups w.parts i) (part_unmapped (serving service w) n q count order))
-    ∙ tabulate_same (length w.parts) (part_unmapped (serving service w) n q count order) (λ e. record (part_unmapped w n q count order e) { host_groups = service.groups e })
+    ∙ tabulate_same (length w.parts) (part_unmapped (serving service w) n q count order) (λ e. record (part_unmapped w n q count order e)
+    { host_groups = service.groups e })
     (unmapped_at service w n q count order)
     ∙ sym (tabulated_with service.groups (length w.parts) (part_unmapped w n q count order))
 
@@ -152,7 +159,8 @@ moved_with service w (Move.Evict e t q) leaves =
     device_changed service w e (λ (d : DeviceWire). record d { cache = filter (λ x. not (is_at_page t q x)) d.cache })
 moved_with service w (Move.Group e t n q r x l) leaves =
     ap (sent e (PageRequestMessage t n q r x l))
-    (device_changed service w e (λ (d : DeviceWire). record d { groups = slice_set d.groups n (Some (record { pasid = t; state = sent_as l; requests = 1 })) }))
+    (device_changed service w e
+    (λ (d : DeviceWire). record d { groups = slice_set d.groups n (Some (record { pasid = t; state = sent_as l; requests = 1 })) }))
 moved_with service w (Move.Request e t n q r x l) leaves =
     ap (sent e (PageRequestMessage t n q r x l)) (device_changed service w e (requested n l))
 moved_with service w (Move.Finish e vector count) leaves =

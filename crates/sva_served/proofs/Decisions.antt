@@ -1,13 +1,15 @@
 -- Steps that don't ask the service of page requests: a host with its service decides them as the host alone does.
 use Rattle.std.proofs.Common.{◌≡◌, refl, ◌∙◌, ℕ, Bool, true, false}
-use Rattle.std.specs.Prelude.{◌+◌, ◌&&◌, ◌||◌, ◌==◌, ◌%◌, ◌^◌, not, nat_lt, nat_le, if◌then◌else◌, is_some, is_none, Err, Option, Some, None, List, [], ◌∷◌, find, length, slice_index_or}
+use Rattle.std.specs.Prelude.{◌+◌, ◌&&◌, ◌||◌, ◌==◌, ◌%◌, ◌^◌, not, nat_lt, nat_le, if◌then◌else◌, is_some, is_none, Err, Option, Some, None, List, []}
+use Rattle.std.specs.Prelude.{◌∷◌, find, length, slice_index_or}
 use Rattle.sva_step.specs.declared.answers.Answer.TheVariants as answer
 use Rattle.sva_step.specs.declared.refusals.Refusal.TheVariants as refusal
 use Rattle.sva_step.specs.declared.steps.Step.{Step}
 use Rattle.sva_step.specs.declared.steps.Step.TheVariants as step
 use Rattle.sva_model.specs.Words.{any_below, all_below, count_below}
 use Rattle.sva_model.specs.Message.{Message}
-use Rattle.sva_model.specs.Message.Message.{StartMessage, StopMessage, ResetMessage, CompletionMessage, InvalidateMessage, ResponseMessage, RequestMessage, InvalidatedMessage, PageRequestMessage, MarkerMessage, ResetDoneMessage}
+use Rattle.sva_model.specs.Message.Message.{StartMessage, StopMessage, ResetMessage, CompletionMessage, InvalidateMessage, ResponseMessage, RequestMessage}
+use Rattle.sva_model.specs.Message.Message.{InvalidatedMessage, PageRequestMessage, MarkerMessage, ResetDoneMessage}
 use Rattle.sva_model.specs.Outcomes.{unmap_answer, unmap_range_answer}
 use Rattle.sva_model.specs.Refusals.{Cause, page_range}
 use Rattle.sva_model.specs.States.{Extent}
@@ -15,12 +17,17 @@ use Rattle.sva_model.specs.States.Extent.{Pages, AllPages}
 use Rattle.sva_model.specs.Wire.{Wire, PartWire, BindingWire, StageWire, Descriptor, FlightWire, TranslationWire, RequestWire, DeviceWire}
 use Rattle.sva_model.specs.Wire.StageWire.{LiveWire, StoppingWire, DrainingWire, InvalidatingWire, QuietWire, LostWire}
 use Rattle.sva_model.specs.Wire.Descriptor.{RangeDescriptor, PasidDescriptor, WaitDescriptor}
-use Rattle.sva_labels.specs.Finding.{part_of, device_of, unit_of, flight_of, binding_of, bearer, bound_at, pages_in, is_mapped, frames_of, lowest_label, cached, use_at, tag_at, group_at, is_some_busy, submits_by, has_room, pasid_by, may_deliver}
-use Rattle.sva_labels.specs.Causes.{queue_full, waits_needed, numbers_spent, lacks, no_such_space, not_started, not_held, is_read_only, unbind_causes, sends_invalidate, deliver_causes, delivery_sends, fault_causes, finish_causes, quit_causes, causes_of}
+use Rattle.sva_labels.specs.Finding.{part_of, device_of, unit_of, flight_of, binding_of, bearer, bound_at, pages_in, is_mapped, frames_of, lowest_label}
+use Rattle.sva_labels.specs.Finding.{cached, use_at, tag_at, group_at, is_some_busy, submits_by, has_room, pasid_by, may_deliver}
+use Rattle.sva_labels.specs.Causes.{queue_full, waits_needed, numbers_spent, lacks, no_such_space, not_started, not_held, is_read_only, unbind_causes}
+use Rattle.sva_labels.specs.Causes.{sends_invalidate, deliver_causes, delivery_sends, fault_causes, finish_causes, quit_causes, causes_of}
 use Rattle.sva_labels.specs.Causes as causes
 use Rattle.sva_labels.specs.Host.{checked, decide_of}
 use Rattle.sva_labels.specs.Moves.{Move}
-use Rattle.sva_labels.specs.Outcomes.{Result, says, by_one, label, bind_result, of_binding, unbind_by, may_pass, pump_result, send_result, wait_result, begin_result, end_answer, fault_result, deliver_result, message_result, completion_result, completion_by, keep_result, is_full, response_said, request_result, found_for, completion_of, count_result, count_read, page_request_result, marker_result, binding_or_0, bearer_answer, result_of}
+use Rattle.sva_labels.specs.Outcomes.{Result, says, by_one, label, bind_result, of_binding, unbind_by, may_pass, pump_result, send_result, wait_result}
+use Rattle.sva_labels.specs.Outcomes.{begin_result, end_answer, fault_result, deliver_result, message_result, completion_result, completion_by}
+use Rattle.sva_labels.specs.Outcomes.{keep_result, is_full, response_said, request_result, found_for, completion_of, count_result, count_read}
+use Rattle.sva_labels.specs.Outcomes.{page_request_result, marker_result, binding_or_0, bearer_answer, result_of}
 use Rattle.sva_served.specs.Seen.{ServiceWire, serving}
 use Rattle.sva_served.proofs.Parts.{length_with, device_with, unit_with, page_queue_with}
 use Rattle.sva_served.proofs.Changes.{LeaveService, needed_with, targets_with}
@@ -96,7 +103,8 @@ pump_same p q e (WaitDescriptor cookie drain ∷ ds) unit waiting =
 pump_with : (service : ServiceWire) (w : Wire) (e : ℕ)
     → pump_result (part_of (serving service w) e) e (unit_of (serving service w) e).queue ≡ pump_result (part_of w e) e (unit_of w e).queue
 pump_with service w e =
-    pump_same (part_of (serving service w) e) (part_of w e) e (unit_of (serving service w) e).queue (unit_with service.groups w.parts e) (page_queue_with service.groups w.parts e)
+    pump_same (part_of (serving service w) e) (part_of w e) e (unit_of (serving service w) e).queue (unit_with service.groups w.parts e)
+    (page_queue_with service.groups w.parts e)
     ∙ (λ i. pump_result (part_of w e) e (unit_with service.groups w.parts e i).queue)
 
 -- Messages that arrive.
@@ -118,11 +126,13 @@ message_with service w e n (InvalidateMessage itag t scope) = refl
 message_with service w e n (ResponseMessage t k code) =
     λ i. by_one (response_said (group_at (device_with service.groups w.parts e i) k)) (Move.Answered e n k code)
 message_with service w e n (RequestMessage tag t q) =
-    request_with service w e n tag t q (unit_of (serving service w) e).is_open ∙ (λ i. request_result w e n tag t q (unit_with service.groups w.parts e i).is_open)
+    request_with service w e n tag t q (unit_of (serving service w) e).is_open
+    ∙ (λ i. request_result w e n tag t q (unit_with service.groups w.parts e i).is_open)
 message_with service w e n (InvalidatedMessage vector field) =
     λ i. count_result (unit_with service.groups w.parts e i) e n vector (count_read field) (unit_with service.groups w.parts e i).is_open
 message_with service w e n (PageRequestMessage t k q r x l) =
-    λ i. page_request_result e n (record { pasid = t; index = k; ask = record { page = q; read = r; write = x }; last = l }) (unit_with service.groups w.parts e i).is_open
+    λ i. page_request_result e n (record { pasid = t; index = k; ask = record { page = q; read = r; write = x }; last = l })
+    (unit_with service.groups w.parts e i).is_open
 message_with service w e n (MarkerMessage t) = λ i. marker_result e n (binding_or_0 (bearer w e t)) (unit_with service.groups w.parts e i).is_open
 message_with service w e n ResetDoneMessage = refl
 
@@ -218,14 +228,17 @@ decide_with service w (step.BeginUse e t q x) asks =
     (begin_result e (label (lowest_label (device i).slots)) (cached (device i) t q))
 decide_with service w (step.EndUse e u) asks =
     let device = device_with service.groups w.parts e in
-    λ i. checked (there_with service w e i ∷ (is_none (use_at (device i) u), refusal.NoSuchUse) ∷ []) (by_one (end_answer (use_at (device i) u)) (Move.End e u))
+    λ i. checked (there_with service w e i ∷ (is_none (use_at (device i) u), refusal.NoSuchUse) ∷ [])
+    (by_one (end_answer (use_at (device i) u)) (Move.End e u))
 decide_with service w (step.Evict e t q) asks =
-    λ i. checked (there_with service w e i ∷ page_range q 1 ∷ not_held (device_with service.groups w.parts e i) t q ∷ []) (by_one answer.Evicted (Move.Evict e t q))
+    λ i. checked (there_with service w e i ∷ page_range q 1 ∷ not_held (device_with service.groups w.parts e i) t q ∷ [])
+    (by_one answer.Evicted (Move.Evict e t q))
 decide_with service w (step.Fault e t q r x group l) asks =
     let device = device_with service.groups w.parts e in
     λ i. checked (there_with service w e i ∷ page_range q 1 ∷ fault_causes w (device i) t group) (fault_result (device i) e t q r x l group)
 decide_with service w (step.Finish e vector count) asks =
-    λ i. checked (there_with service w e i ∷ finish_causes w (device_with service.groups w.parts e i) vector count) (by_one (answer.Sent count) (Move.Finish e vector count))
+    λ i. checked (there_with service w e i ∷ finish_causes w (device_with service.groups w.parts e i) vector count)
+    (by_one (answer.Sent count) (Move.Finish e vector count))
 decide_with service w (step.Quit e t) asks =
     λ i. checked (there_with service w e i ∷ quit_causes w (device_with service.groups w.parts e i) t) (by_one answer.Marker (Move.Quit e t))
 decide_with service w (step.Deliver n) asks = deliver_with service w (flight_of w n)
@@ -236,7 +249,8 @@ decide_with service w (step.Bearer t) asks =
 
 -- And what it moves leaves the service.
 
-completion_leaves : (d : DeviceWire) (e n tag f : ℕ) (read x is_doomed : Bool) (r : RequestWire) → LeaveService (completion_by d e n tag f read x is_doomed r).moves
+completion_leaves : (d : DeviceWire) (e n tag f : ℕ) (read x is_doomed : Bool) (r : RequestWire)
+    → LeaveService (completion_by d e n tag f read x is_doomed r).moves
 completion_leaves d e n tag f read x true r = (tt, tt)
 completion_leaves d e n tag f false x false r = (tt, tt)
 completion_leaves d e n tag f true x false r = go (is_full d.cache r.pasid r.page)
@@ -268,7 +282,8 @@ message_leaves w e n (InvalidatedMessage vector field) = go (unit_of w e).is_ope
     go false = (tt, tt)
 message_leaves w e n (PageRequestMessage t k q r x l) = go (unit_of w e).is_open
   where
-    go : (b : Bool) → LeaveService (page_request_result e n (record { pasid = t; index = k; ask = record { page = q; read = r; write = x }; last = l }) b).moves
+    go : (b : Bool) → LeaveService (page_request_result e n
+        (record { pasid = t; index = k; ask = record { page = q; read = r; write = x }; last = l }) b).moves
     go true = (tt, tt)
     go false = (tt, tt)
 message_leaves w e n (MarkerMessage t) = go (unit_of w e).is_open

@@ -1,6 +1,7 @@
 -- A page request is filed.
 use Rattle.std.proofs.Common.{◌≡◌, refl, ap, sym, ◌∙◌, subst, ℕ, suc, ◌+◌, ◌<◌, ◌≤◌, Bool, true, false, arith}
-use Rattle.std.specs.Prelude.{not, nat_lt, if◌then◌else◌, is_some, is_err, Ok, Err, IsOk, OnOk, OnErr, Result, Option, Some, None, option_map, List, [], ◌∷◌, ◌++◌, length, find, drop, slice_get, slice_set}
+use Rattle.std.specs.Prelude.{not, nat_lt, if◌then◌else◌, is_some, is_err, Ok, Err, IsOk, OnOk, OnErr, Result, Option, Some, None, option_map, List, []}
+use Rattle.std.specs.Prelude.{◌∷◌, ◌++◌, length, find, drop, slice_get, slice_set}
 use Rattle.std.specs.List.{list_any, sum_by}
 use Rattle.std.proofs.lemmas.Bool.{ltb-true}
 use Rattle.std.proofs.lemmas.List.{length-set}
@@ -47,7 +48,8 @@ use Rattle.sva_served.proofs.Decisions.{there_with, resetting_with}
 causes_with : (service : ServiceWire) (w : Wire) (e : ℕ) → causes_of (serving service w) (step.Serve e) ≡ causes_of w (step.Serve e)
 causes_with service w e = λ i. there_with service w e i ∷ resetting_with service w e i ∷ []
 
-pub serve_refused : (served : Inside) (e : ℕ) (x : Refusal) → MayStep served.host (step.Serve e) (Err x) → ByLabels (wire_of served) (step.Serve e) (Err x) (wire_of served)
+pub serve_refused : (served : Inside) (e : ℕ) (x : Refusal) → MayStep served.host (step.Serve e) (Err x)
+    → ByLabels (wire_of served) (step.Serve e) (Err x) (wire_of served)
 serve_refused served e x may =
     refused_by (tt {0}) (causes_of (wire_of served) (step.Serve e)) [] (result_of (wire_of served) (step.Serve e)) (wire_of served) x (tt, (tt, tt))
     (ap (λ (causes : List Cause). unless causes (tt {0})) (causes_with (service_seen served.workers served.service) served.host e) ∙ sym may)
@@ -87,7 +89,8 @@ first_of (q ∷ queue) r first =
 pub serve_empty : (served : Inside) (e : ℕ) → MayStep served.host (step.Serve e) (Ok tt) → None ≡ slice_get (part_of served.host e).page_queue 0
     → ByLabels (wire_of served) (step.Serve e) (Ok answer.Empty) (wire_of served)
 serve_empty served e may none =
-    subst (λ (d : Decision). Does d (wire_of served) (Ok answer.Empty) (wire_of served)) (sym (decides served e may [] (none_first (part_of served.host e).page_queue none)))
+    subst (λ (d : Decision). Does d (wire_of served) (Ok answer.Empty) (wire_of served))
+    (sym (decides served e may [] (none_first (part_of served.host e).page_queue none)))
     (refl, refl)
 
 -- One waits.
@@ -107,7 +110,8 @@ unqueued w e = with_part w e (record (part_of w e) { page_queue = drop 1 (part_o
 abbrev pub after_filing : Inside → (e binding : ℕ) → PageRequest → Inside
 after_filing served e b request = record served { host = unqueued served.host e; service = filed (with_room served.service) e b request }
 
-groups_there : (workers : ℕ) (s : Service) (w : Wire) (e : ℕ) → e < length w.parts → (part_of (with_service workers s w) e).host_groups ≡ groups_seen e s.groups
+groups_there : (workers : ℕ) (s : Service) (w : Wire) (e : ℕ) → e < length w.parts → (part_of (with_service workers s w) e).host_groups
+    ≡ groups_seen e s.groups
 groups_there workers s w e there = ap (λ (p : PartWire). p.host_groups) (part_with (service_seen workers s).groups w.parts e there)
 
 filed_seen : (workers : ℕ) (s : Service) (w : Wire) (e b : ℕ) (request : PageRequest) → e < length w.parts
@@ -121,7 +125,8 @@ filed_seen workers s w e b request there = go request.last (seen.jobs (part_of (
     open_then : groups_seen e (filed s e b request).groups ≡ moves.filed b (page_request_seen request) (part_of (with_service workers s w) e).host_groups
     open_then = seen.groups ∙ sym (ap (moves.filed b (page_request_seen request)) (groups_there workers s w e there))
 
-    parts : parts_with (λ k. groups_seen k (filed s e b request).groups) (unqueued w e).parts ≡ (moved (with_service workers s w) (Move.File e b (page_request_seen request))).parts
+    parts : parts_with (λ k. groups_seen k (filed s e b request).groups) (unqueued w e).parts
+        ≡ (moved (with_service workers s w) (Move.File e b (page_request_seen request))).parts
     parts =
         set_with (service_seen workers s).groups (λ k. groups_seen k (filed s e b request).groups) w.parts e
         (record (part_of w e) { page_queue = drop 1 (part_of w e).page_queue }) seen.others
@@ -175,8 +180,10 @@ pub serve_unfiled : (served : Inside) (v : Wire) (e b : ℕ) (request : PageRequ
     → MayStep served.host (step.Serve e) (Ok tt) → IsHead served e request b → service ≡ served.service
     → ByLabels v (step.Serve e) (Err refusal.OutOfMemory) (wire_of (record served { service = service }))
 serve_unfiled served v e b request service view may is same =
-    subst (λ (u : Wire). ByLabels u (step.Serve e) (Err refusal.OutOfMemory) (wire_of (record served { service = service }))) view
-    (subst (λ (d : Decision). IsOk d.reply) (sym (filing served e b request may is)) (accepts request.last), ap (λ (s : Service). wire_of (record served { service = s })) same)
+    subst (λ (u : Wire). ByLabels u (step.Serve e) (Err refusal.OutOfMemory) (wire_of (record served { service = service }))) view (
+      subst (λ (d : Decision). IsOk d.reply) (sym (filing served e b request may is)) (accepts request.last),
+      ap (λ (s : Service). wire_of (record served { service = s })) same,
+    )
   where
     accepts : (last : Bool) → IsOk (checked [] (file_result (part_of (wire_of served) e) e b (page_request_seen request) last)).reply
     accepts true = refl
@@ -190,7 +197,8 @@ pub unreserved : {E : Type 0} (r : Result (Unit {0}) E) (after s : Service) → 
 unreserved (Ok x) after s kept is = absurd (cc (is))
 unreserved (Err x) after s kept is = kept
 
-pub some_waits : (served : Inside) (v : Wire) (e b : ℕ) (request : PageRequest) → wire_of served ≡ v → IsHead served e request b → (part_of v e).page_queue ≡ [] → ⊥
+pub some_waits : (served : Inside) (v : Wire) (e b : ℕ) (request : PageRequest) → wire_of served ≡ v → IsHead served e request b
+    → (part_of v e).page_queue ≡ [] → ⊥
 some_waits served v e b request view is none = wrong (sym is.head ∙ sym queue ∙ none)
   where
     queue : (part_of v e).page_queue ≡ (part_of served.host e).page_queue
@@ -207,7 +215,8 @@ pub head_is : (served : Inside) (e : ℕ) (request : PageRequest) (binding : ℕ
     → IsHead served e request binding
 head_is served e request binding may first borne = go (bearer served.host e request.pasid) refl borne
   where
-    go : (o : Option BindingWire) → bearer served.host e request.pasid ≡ o → Some binding ≡ option_map (λ (b : BindingWire). b.binding) o → IsHead served e request binding
+    go : (o : Option BindingWire) → bearer served.host e request.pasid ≡ o → Some binding ≡ option_map (λ (b : BindingWire). b.binding) o
+        → IsHead served e request binding
     go None found borne = absurd (cc (borne))
     go (Some b) found borne =
         record {
@@ -218,9 +227,11 @@ head_is served e request binding may first borne = go (bearer served.host e requ
           number = cc;
         }
 
-at_the_head : (served : Inside) (e b : ℕ) (request : PageRequest) → IsHead served e request b → slice_get (part_of (wire_of served) e).page_queue 0 ≡ Some (page_request_seen request)
+at_the_head : (served : Inside) (e b : ℕ) (request : PageRequest) → IsHead served e request b → slice_get (part_of (wire_of served) e).page_queue 0
+    ≡ Some (page_request_seen request)
 at_the_head served e b request is =
-    ap (λ (queue : List PageRequestWire). slice_get queue 0) (page_queue_with (service_seen served.workers served.service).groups served.host.parts e ∙ is.head)
+    ap (λ (queue : List PageRequestWire). slice_get queue 0) (page_queue_with (service_seen served.workers served.service).groups served.host.parts e
+    ∙ is.head)
 
 there_too : (served : Inside) (e : ℕ) → e < length served.host.parts → e < length (wire_of served).parts
 there_too served e there = omega (arith, there, length_with (service_seen served.workers served.service).groups served.host.parts)
@@ -234,7 +245,8 @@ never_lost served e request sound may first lost = go (bearer served.host e requ
     borne : is_some (bearer served.host e request.pasid) ≡ true
     borne =
         sound.waiting_borne e 0 (page_request_seen request) (there_too served e (endpoint_there served.host e may))
-        (ap (λ (queue : List PageRequestWire). slice_get queue 0) (page_queue_with (service_seen served.workers served.service).groups served.host.parts e) ∙ sym first)
+        (ap (λ (queue : List PageRequestWire). slice_get queue 0)
+        (page_queue_with (service_seen served.workers served.service).groups served.host.parts e) ∙ sym first)
 
     go : (o : Option BindingWire) → is_some o ≡ true → None ≡ option_map (λ (b : BindingWire). b.binding) o → ⊥
     go None some none = cc
@@ -243,7 +255,8 @@ never_lost served e request sound may first lost = go (bearer served.host e requ
 pub can_file : (served : Inside) (e b : ℕ) (request : PageRequest) → IsServed served → IsSound (wire_of served) → IsHead served e request b
     → CanFile (with_room served.service) e b request
 can_file served e b request h sound is =
-    filing_is_permitted (with_room served.service) (part_of (wire_of served) e) e b request (groups_there served.workers served.service served.host e is.there) (omega arith) (omega arith)
+    filing_is_permitted (with_room served.service) (part_of (wire_of served) e) e b request
+    (groups_there served.workers served.service served.host e is.there) (omega arith) (omega arith)
     (omega (arith, h.serials, sound.messages_end))
     (subst (λ (n : ℕ). length (asks_of (find (is_begun n request.index) (part_of (wire_of served) e).host_groups)) < 32) is.number
     (sound.filing_fits e 0 (page_request_seen request) is.bound (there_too served e is.there) (at_the_head served e b request is) is.borne))
@@ -290,14 +303,16 @@ one_serial false n = omega arith
 as_long : (w : Wire) (e : ℕ) → length (unqueued w e).parts ≡ length w.parts
 as_long w e = length-set w.parts e (record (part_of w e) { page_queue = drop 1 (part_of w e).page_queue })
 
-pub serve_still : (served : Inside) (e b : ℕ) (request : PageRequest) (host : Wire) (service : Service) → IsServed served → IsSound (wire_of served) → IsHead served e request b
+pub serve_still : (served : Inside) (e b : ℕ) (request : PageRequest) (host : Wire) (service : Service) → IsServed served → IsSound (wire_of served)
+    → IsHead served e request b
     → host ≡ unqueued served.host e → service ≡ filed (with_room served.service) e b request → IsServed (record served { host = host; service = service })
 serve_still served e b request host service h sound is takes files =
     subst IsServed (λ i. record served { host = sym takes i; service = sym files i })
     (record {
       apart =
           ap (λ (w : Wire). unqueued w e) h.apart
-          ∙ part_changed (service_seen served.workers no_service) served.host e (λ (p : PartWire). record p { page_queue = drop 1 p.page_queue }) (λ p gs. refl);
+          ∙ part_changed (service_seen served.workers no_service) served.host e (λ (p : PartWire). record p { page_queue = drop 1 p.page_queue })
+          (λ p gs. refl);
       few = h.few;
       sound =
           sound_is_kept.filed served.workers (with_room served.service) e b request (sound_is_kept.reserved served.workers served.service h.sound)

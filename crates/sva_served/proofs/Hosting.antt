@@ -67,7 +67,8 @@ refused_same w after s _ does = does.1 ∙ ap (all_moved w) (moves_nothing (caus
 
 -- what waits anew took a number
 pub waits_counted : (s : Step) (r : Reply) (w after : Wire) → ByLabels w s r after → waiting after + w.next_message ≤ waiting w + after.next_message
-waits_counted s (Err refusal.OutOfMemory) w after does = subst (λ (v : Wire). waiting v + w.next_message ≤ waiting w + v.next_message) (sym does.1) (omega arith)
+waits_counted s (Err refusal.OutOfMemory) w after does =
+    subst (λ (v : Wire). waiting v + w.next_message ≤ waiting w + v.next_message) (sym does.1) (omega arith)
 waits_counted s _ w after does =
     subst (λ (v : Wire). waiting v + w.next_message ≤ waiting w + v.next_message) (sym does.1) (omega (arith, filed_in_turn w s))
 
@@ -78,10 +79,12 @@ pub hosted : (served : Inside) (v : Wire) (s : Step) (r : Reply) (after : Wire) 
 hosted served v s r after view asks is =
     subst (λ (u : Wire). ByLabels u s r (wire_of (record served { host = after }))) view (step_with _ served.host after s r asks is)
 
-pub looked : (served : Inside) (v : Wire) (s : Step) (r : Reply) → wire_of served ≡ v → AsksNoService s → ByLabels served.host s r served.host → ByLabels v s r v
+pub looked : (served : Inside) (v : Wire) (s : Step) (r : Reply) → wire_of served ≡ v → AsksNoService s → ByLabels served.host s r served.host
+    → ByLabels v s r v
 looked served v s r view asks is = subst (λ (u : Wire). ByLabels u s r u) view (step_with _ served.host served.host s r asks is)
 
-pub still : (served : Inside) (s : Step) (r : Reply) (after : Wire) → IsServed served → AsksNoService s → ByLabels served.host s r after → IsServed (record served { host = after })
+pub still : (served : Inside) (s : Step) (r : Reply) (after : Wire) → IsServed served → AsksNoService s → ByLabels served.host s r after
+    → IsServed (record served { host = after })
 still served s r after h asks is =
     record {
       apart = does_apart _ (decide_of served.host s) served.host after r (decide_leaves served.host s asks) h.apart is;
@@ -92,5 +95,6 @@ still served s r after h asks is =
     }
 
 -- A step that the host refused.
-pub refused_still : (served : Inside) (after : Wire) (s : Step) (x : Refusal) → IsServed served → ByLabels served.host s (Err x) after → IsServed (record served { host = after })
+pub refused_still : (served : Inside) (after : Wire) (s : Step) (x : Refusal) → IsServed served → ByLabels served.host s (Err x) after
+    → IsServed (record served { host = after })
 refused_still served after s x h is = subst (λ (w : Wire). IsServed (record served { host = w })) (sym (refused_same served.host after s x is)) h

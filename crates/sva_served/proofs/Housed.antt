@@ -123,7 +123,8 @@ housed_answered w workers s x job sound held housed = λ k past. go k past (k ==
 
 -- The open groups of a binding are those of its endpoint.
 
-pub open_at : (s : Service) (w : Wire) (workers k : ℕ) (b : BindingWire) → AreHoused w s → IsSound (with_service workers s w) → slice_get w.bindings k ≡ Some b
+pub open_at : (s : Service) (w : Wire) (workers k : ℕ) (b : BindingWire) → AreHoused w s → IsSound (with_service workers s w)
+    → slice_get w.bindings k ≡ Some b
     → is_open b.binding s.groups ≡ has_open_group (part_of (with_service workers s w) b.endpoint) b.binding
 open_at s w workers k b housed sound stands =
     service_is_seen.opens s.groups (part_of (with_service workers s w) b.endpoint) b.endpoint b.binding

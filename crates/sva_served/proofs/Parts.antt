@@ -53,7 +53,8 @@ changed_with groups (p ∷ parts) (suc e) change leaves =
 
 -- Another one in a place, with other groups there.
 
-same_groups : (groups others : ℕ → List HostGroupWire) (parts : List PartWire) → ((k : ℕ) → others k ≡ groups k) → parts_with others parts ≡ parts_with groups parts
+same_groups : (groups others : ℕ → List HostGroupWire) (parts : List PartWire) → ((k : ℕ) → others k ≡ groups k) → parts_with others parts
+    ≡ parts_with groups parts
 same_groups groups others parts same = λ i. parts_with (λ k. same k i) parts
 
 pub set_with :

@@ -1,6 +1,7 @@
 -- A worker answers the job that it holds.
 use Rattle.std.proofs.Common.{◌≡◌, refl, ap, sym, ◌∙◌, subst, ℕ, suc, ◌+◌, ◌<◌, ◌≤◌, Bool, true, false, arith}
-use Rattle.std.specs.Prelude.{◌&&◌, ◌||◌, ◌==◌, not, nat_lt, if◌then◌else◌, is_some, Ok, Err, IsOk, Option, Some, None, option_map, List, [], ◌∷◌, ◌++◌, length, filter, find, slice_get, slice_set, slice_index_or}
+use Rattle.std.specs.Prelude.{◌&&◌, ◌||◌, ◌==◌, not, nat_lt, if◌then◌else◌, is_some, Ok, Err, IsOk, Option, Some, None, option_map, List, [], ◌∷◌, ◌++◌}
+use Rattle.std.specs.Prelude.{length, filter, find, slice_get, slice_set, slice_index_or}
 use Rattle.std.specs.List.{list_any}
 use Rattle.std.proofs.lemmas.Bool.Decides.{nat_tests}
 use Rattle.sva_step.specs.declared.answers.Answer.{Answer}
@@ -20,7 +21,8 @@ use Rattle.sva_model.specs.Steps.{Reply}
 use Rattle.sva_model.specs.Wire.{Wire, PartWire, BindingWire, StageWire, AskWire, HostGroupWire, JobWire}
 use Rattle.sva_model.specs.Wire.StageWire.{LiveWire, StoppingWire, DrainingWire, InvalidatingWire, QuietWire, LostWire}
 use Rattle.sva_labels.specs.Finding.{idle, part_of, unit_of, is_space, pages_in, free_from, binding_of, held_by}
-use Rattle.sva_labels.specs.Replying.{is_write_asked, response_by, response_for, response_to, responds, replies_success, space_of_job, newly_mapped, is_write_of_read_only}
+use Rattle.sva_labels.specs.Replying.{is_write_asked, response_by, response_for, response_to, responds, replies_success, space_of_job, newly_mapped}
+use Rattle.sva_labels.specs.Replying.{is_write_of_read_only}
 use Rattle.sva_labels.specs.Causes.{lacks, reply_causes}
 use Rattle.sva_labels.specs.Host.{Decision, checked, decide_of, reply_of}
 use Rattle.sva_labels.specs.Moves.{Move, moved, all_moved, sent, is_of_job, pasid_or_0}
@@ -57,7 +59,10 @@ causes_with : (service : ServiceWire) (w : Wire) (job : JobWire) (v : Verdict) �
 causes_with service w job v =
     λ i. (is_success (response_with service w job v i) && is_write_of_read_only w job, refusal.BadVerdict)
     ∷ (is_success (response_with service w job v i) && nat_lt (length (free_from 0 w.places)) (length (newly_mapped w job)), refusal.NoFrame)
-    ∷ (is_success (response_with service w job v i) && nat_lt 1024 (length (pages_in w (space_of_job w job)) + length (newly_mapped w job)), refusal.SpaceFull)
+    ∷ (
+      is_success (response_with service w job v i) && nat_lt 1024 (length (pages_in w (space_of_job w job)) + length (newly_mapped w job)),
+      refusal.SpaceFull,
+    )
     ∷ (is_some (response_with service w job verdict.Invalid i) && lacks w.next_message 1, refusal.NumbersSpent)
     ∷ []
 
@@ -77,7 +82,8 @@ decides served x job v there held =
     (λ i. checked ((not (there i), refusal.NoSuchWorker) ∷ reply_causes (wire_of served) v (held i)) (reply_result (wire_of served) x v (held i)))
     ∙ (λ i. checked (causes_with service served.host job v i)
     (reply_by (wire_of served) x job (maps_with service served.host job v i) (response_with service served.host job v i)))
-    ∙ (λ i. checked (reply_causes served.host v (Some job)) (by_with service served.host x job (reply_maps served.host job v) (response_to served.host job v) i))
+    ∙ (λ i. checked (reply_causes served.host v (Some job))
+    (by_with service served.host x job (reply_maps served.host job v) (response_to served.host job v) i))
   where
     service : ServiceWire
     service = service_seen served.workers served.service
@@ -92,7 +98,8 @@ same_reply [] r t same = ap (λ (a : Answer). Ok a) same
 same_reply (cause ∷ causes) r t same = go cause.0 (same_reply causes r t same)
   where
     go : (b : Bool) → (checked causes r).reply ≡ (checked causes t).reply
-        → (if b then record { reply = Err cause.1; moves = [] } else checked causes r).reply ≡ (if b then record { reply = Err cause.1; moves = [] } else checked causes t).reply
+        → (if b then record { reply = Err cause.1; moves = [] } else checked causes r).reply
+        ≡ (if b then record { reply = Err cause.1; moves = [] } else checked causes t).reply
     go true rest = refl
     go false rest = rest
 
@@ -182,7 +189,8 @@ respond_with workers s x job w t code seen there =
         ≡ slice_set (with_service workers s w).parts job.unit (responded_part (job_seen job) (part_of (with_service workers s w) job.unit))
     parts = respond_parts (λ e. groups_seen e s.groups) (λ e. groups_seen e (after_answer s x).groups) w (job_seen job) there seen.answered seen.others
 
-responded : (workers : ℕ) (s : Service) (x : ℕ) (job : Job) (w : Wire) (maps : List Move) (t : ℕ) (code : Code) → AnswerIsSeen s x job → AreMaps maps → job.unit < length w.parts
+responded : (workers : ℕ) (s : Service) (x : ℕ) (job : Job) (w : Wire) (maps : List Move) (t : ℕ) (code : Code) → AnswerIsSeen s x job → AreMaps maps
+    → job.unit < length w.parts
     → with_service workers (after_answer s x) (all_moved w (maps ++ Move.Respond (job_seen job) t code ∷ []))
     ≡ all_moved (with_service workers s w) (maps ++ Move.LetGo x ∷ Move.Respond (job_seen job) t code ∷ [])
 responded workers s x job w maps t code seen are there =
@@ -222,10 +230,12 @@ job_is served x job sound is = sound.jobs_held x (job_seen job) (seen_held serve
 
 unit_there : (served : Inside) (x : ℕ) (job : Job) → IsSound (wire_of served) → IsHeld served x job → job.unit < length served.host.parts
 unit_there served x job sound is =
-    subst (λ (n : ℕ). job.unit < n) (length_with (service_seen served.workers served.service).groups served.host.parts) (job_is served x job sound is).endpoint_low
+    subst (λ (n : ℕ). job.unit < n) (length_with (service_seen served.workers served.service).groups served.host.parts)
+    (job_is served x job sound is).endpoint_low
 
 -- a job that gets no response has no open group
-closed : (served : Inside) (x : ℕ) (job : Job) (v : Verdict) → IsSound (wire_of served) → IsHeld served x job → response_to served.host (job_seen job) v ≡ None
+closed : (served : Inside) (x : ℕ) (job : Job) (v : Verdict) → IsSound (wire_of served) → IsHeld served x job
+    → response_to served.host (job_seen job) v ≡ None
     → list_any (is_of_job (job_seen job)) (groups_seen job.unit served.service.groups) ≡ false
 closed served x job v sound is none =
     sym (ap (λ (p : PartWire). list_any (is_of_job (job_seen job)) p.host_groups)
@@ -235,7 +245,8 @@ closed served x job v sound is none =
 
 after_reply : (served : Inside) (x : ℕ) (job : Job) (v : Verdict) (o : Option Code) → IsServed served → IsSound (wire_of served) → IsHeld served x job
     → response_to served.host (job_seen job) v ≡ o
-    → with_service served.workers (after_answer served.service x) (all_moved served.host (responded_by served.host (job_seen job) (reply_maps served.host (job_seen job) v) o).moves)
+    → with_service served.workers (after_answer served.service x)
+    (all_moved served.host (responded_by served.host (job_seen job) (reply_maps served.host (job_seen job) v) o).moves)
     ≡ all_moved (wire_of served) (reply_by served.host x (job_seen job) (reply_maps served.host (job_seen job) v) o).moves
 after_reply served x job v None h sound is none =
     dropped served.workers served.service x served.host ((answer_seen served x job h is).dropped (closed served x job v sound is none))
@@ -271,7 +282,8 @@ reply_done served w x job v a after left view h sound is does lets =
         (responded_by served.host (job_seen job) (reply_maps served.host (job_seen job) v) (response_to served.host (job_seen job) v))
         (same_answer served.host x (job_seen job) (reply_maps served.host (job_seen job) v) (response_to served.host (job_seen job) v)))
 
-    moves : after ≡ all_moved served.host (responded_by served.host (job_seen job) (reply_maps served.host (job_seen job) v) (response_to served.host (job_seen job) v)).moves
+    moves : after ≡ all_moved served.host
+        (responded_by served.host (job_seen job) (reply_maps served.host (job_seen job) v) (response_to served.host (job_seen job) v)).moves
     moves =
         does.1
         ∙ ap (all_moved served.host)
@@ -279,14 +291,17 @@ reply_done served w x job v a after left view h sound is does lets =
         (responded_by served.host (job_seen job) (reply_maps served.host (job_seen job) v) (response_to served.host (job_seen job) v)) a does.0)
 
 -- a reply that is refused
-unanswered : (served : Inside) (job : JobWire) (v : Verdict) (y : Refusal) (after : Wire) → Does (responded_of served.host job v) served.host (Err y) after → after ≡ served.host
+unanswered : (served : Inside) (job : JobWire) (v : Verdict) (y : Refusal) (after : Wire)
+    → Does (responded_of served.host job v) served.host (Err y) after → after ≡ served.host
 unanswered served job v refusal.OutOfMemory after does = does.1
 unanswered served job v _ after does =
     does.1
     ∙ ap (all_moved served.host)
-    (moves_nothing (reply_causes served.host v (Some job)) (responded_by served.host job (reply_maps served.host job v) (response_to served.host job v)) _ (sym does.0))
+    (moves_nothing (reply_causes served.host v (Some job))
+    (responded_by served.host job (reply_maps served.host job v) (response_to served.host job v)) _ (sym does.0))
 
-refused_alike : (d e : Decision) (w v after : Wire) (y : Refusal) → d.reply ≡ e.reply → (e.reply ≡ Err y → e.moves ≡ []) → Does d w (Err y) after → Does e v (Err y) v
+refused_alike : (d e : Decision) (w v after : Wire) (y : Refusal) → d.reply ≡ e.reply → (e.reply ≡ Err y → e.moves ≡ []) → Does d w (Err y) after
+    → Does e v (Err y) v
 refused_alike d e w v after refusal.OutOfMemory same nothing does = (subst IsOk same does.0, refl)
 refused_alike d e w v after _ same nothing does = (does.0 ∙ same, sym (ap (all_moved v) (nothing (sym same ∙ sym does.0))))
 
@@ -294,7 +309,8 @@ pub reply_refused : (served : Inside) (x : ℕ) (job : Job) (v : Verdict) (y : R
     → Does (responded_of served.host (job_seen job) v) served.host (Err y) after
     → ByLabels (wire_of served) (step.Reply x v) (Err y) (wire_of (record served { host = after }))
 reply_refused served x job v y after h is does =
-    subst (λ (u : Wire). ByLabels (wire_of served) (step.Reply x v) (Err y) (wire_of (record served { host = u }))) (sym (unanswered served (job_seen job) v y after does))
+    subst (λ (u : Wire). ByLabels (wire_of served) (step.Reply x v) (Err y) (wire_of (record served { host = u })))
+    (sym (unanswered served (job_seen job) v y after does))
     (subst (λ (d : Decision). Does d (wire_of served) (Err y) (wire_of served))
     (sym (decides served x (job_seen job) v (seen_there served x job h is) (seen_held served x job is)))
     (refused_alike (responded_of served.host (job_seen job) v)
@@ -309,7 +325,8 @@ reply_refused served x job v y after h is does =
     (reply_by served.host x (job_seen job) (reply_maps served.host (job_seen job) v) (response_to served.host (job_seen job) v)) y)
     does))
 
-pub reply_kept : (served : Inside) (job : JobWire) (v : Verdict) (y : Refusal) (after : Wire) → IsServed served → Does (responded_of served.host job v) served.host (Err y) after
+pub reply_kept : (served : Inside) (job : JobWire) (v : Verdict) (y : Refusal) (after : Wire) → IsServed served
+    → Does (responded_of served.host job v) served.host (Err y) after
     → IsServed (record served { host = after })
 reply_kept served job v y after h does = subst (λ (w : Wire). IsServed (record served { host = w })) (sym (unanswered served job v y after does)) h
 
@@ -319,7 +336,8 @@ answered_by : (causes : List Cause) (r : Result) (a : Answer) → (checked cause
 answered_by [] r a is = cc
 answered_by (cause ∷ causes) r a is = go cause.0 (answered_by causes r a) is
   where
-    go : (b : Bool) → ((checked causes r).reply ≡ Ok a → r.answer ≡ a) → (if b then record { reply = Err cause.1; moves = [] } else checked causes r).reply ≡ Ok a → r.answer ≡ a
+    go : (b : Bool) → ((checked causes r).reply ≡ Ok a → r.answer ≡ a)
+        → (if b then record { reply = Err cause.1; moves = [] } else checked causes r).reply ≡ Ok a → r.answer ≡ a
     go true rest is = absurd (wrong is)
       where
         wrong : ◌≡◌ {A = Reply} (Err cause.1) (Ok a) → ⊥
@@ -369,7 +387,8 @@ found_at n (x ∷ bindings) b is = go (x.binding == n) is (found_at n bindings b
     go true is rest = (0, is)
     go false is rest = let later = rest is in (suc later.0, later.1)
 
-pub space_there : (served : Inside) (n : ℕ) → HaveSpaces (wire_of served) → (b : BindingWire) → binding_of served.host n ≡ Some b → is_space served.host b.space ≡ true
+pub space_there : (served : Inside) (n : ℕ) → HaveSpaces (wire_of served) → (b : BindingWire) → binding_of served.host n ≡ Some b
+    → is_space served.host b.space ≡ true
 space_there served n have b found = let at = found_at n served.host.bindings b found in have at.0 b at.1
 
 -- What stays so.
@@ -382,9 +401,11 @@ respond_apart none w job t code empty there =
     parts : parts_with none.groups (slice_set w.parts job.endpoint (responded_part job (part_of w job.endpoint)))
         ≡ slice_set (serving none w).parts job.endpoint (responded_part job (part_of (serving none w) job.endpoint))
     parts =
-        respond_parts none.groups none.groups w job there (empty job.endpoint ∙ sym (ap (filter (λ g. not (is_of_job job g))) (empty job.endpoint))) (λ e apart. refl)
+        respond_parts none.groups none.groups w job there (empty job.endpoint ∙ sym (ap (filter (λ g. not (is_of_job job g))) (empty job.endpoint)))
+        (λ e apart. refl)
 
-apart_after : (none : ServiceWire) (w : Wire) (job : JobWire) (maps : List Move) (o : Option Code) → ((e : ℕ) → none.groups e ≡ []) → AreMaps maps → job.endpoint < length w.parts
+apart_after : (none : ServiceWire) (w : Wire) (job : JobWire) (maps : List Move) (o : Option Code) → ((e : ℕ) → none.groups e ≡ []) → AreMaps maps
+    → job.endpoint < length w.parts
     → w ≡ serving none w → all_moved w (responded_by w job maps o).moves ≡ serving none (all_moved w (responded_by w job maps o).moves)
 apart_after none w job maps None empty are there apart = apart
 apart_after none w job maps (Some code) empty are there apart =
@@ -402,20 +423,23 @@ waits_less : (w : Wire) (job : JobWire) (maps : List Move) (o : Option Code) →
     → waiting (all_moved w (responded_by w job maps o).moves) + w.next_message ≤ waiting w + (all_moved w (responded_by w job maps o).moves).next_message
 waits_less w job maps None are = omega arith
 waits_less w job maps (Some code) are =
-    let kept = moves_kept (maps ++ Move.Respond job (pasid_or_0 (binding_of w job.binding)) code ∷ []) w (are.arrive (Move.Respond job (pasid_or_0 (binding_of w job.binding)) code) refl) in
+    let kept = moves_kept (maps ++ Move.Respond job (pasid_or_0 (binding_of w job.binding)) code ∷ []) w
+    (are.arrive (Move.Respond job (pasid_or_0 (binding_of w job.binding)) code) refl) in
     omega (arith, kept)
 
 next_same : (s : Service) (x : ℕ) (job : Job) → hand s x ≡ Some job → (after_answer s x).groups.next ≡ s.groups.next
 next_same s x job held = ap (λ (o : Option Job). (after_answer_of s x o).groups.next) held
 
-pub reply_still : (served : Inside) (x : ℕ) (job : Job) (v : Verdict) (a : Answer) (after : Wire) (left : Service) → IsServed served → IsSound (wire_of served) → IsHeld served x job
+pub reply_still : (served : Inside) (x : ℕ) (job : Job) (v : Verdict) (a : Answer) (after : Wire) (left : Service) → IsServed served
+    → IsSound (wire_of served) → IsHeld served x job
     → Does (responded_of served.host (job_seen job) v) served.host (Ok a) after → left ≡ after_answer served.service x
     → IsServed (record served { host = after; service = left })
 reply_still served x job v a after left h sound is does lets =
     subst IsServed (λ i. record served { host = sym moves i; service = sym lets i })
     (record {
       apart =
-          apart_after (service_seen served.workers no_service) served.host (job_seen job) (reply_maps served.host (job_seen job) v) (response_to served.host (job_seen job) v) (λ e. refl)
+          apart_after (service_seen served.workers no_service) served.host (job_seen job) (reply_maps served.host (job_seen job) v)
+          (response_to served.host (job_seen job) v) (λ e. refl)
           (are_maps served.host (job_seen job) v) (unit_there served x job sound is) h.apart;
       few = h.few;
       sound = sound_is_kept.answered served.workers served.service x h.sound;
@@ -424,7 +448,8 @@ reply_still served x job v a after left h sound is does lets =
             arith,
             h.serials,
             next_same served.service x job is.held,
-            waits_less served.host (job_seen job) (reply_maps served.host (job_seen job) v) (response_to served.host (job_seen job) v) (are_maps served.host (job_seen job) v),
+            waits_less served.host (job_seen job) (reply_maps served.host (job_seen job) v) (response_to served.host (job_seen job) v)
+                (are_maps served.host (job_seen job) v),
           );
       housed =
           subst (λ (w : Wire). AreHoused w (after_answer served.service x)) moves
@@ -432,7 +457,8 @@ reply_still served x job v a after left h sound is does lets =
           (housed_answered served.host served.workers served.service x job h.sound is.held h.housed) does);
     })
   where
-    moves : after ≡ all_moved served.host (responded_by served.host (job_seen job) (reply_maps served.host (job_seen job) v) (response_to served.host (job_seen job) v)).moves
+    moves : after ≡ all_moved served.host
+        (responded_by served.host (job_seen job) (reply_maps served.host (job_seen job) v) (response_to served.host (job_seen job) v)).moves
     moves =
         does.1
         ∙ ap (all_moved served.host)

@@ -33,7 +33,8 @@ use Rattle.sva_served.proofs.Hosting.{moves_nothing, refused_with, waits_counted
 abbrev reset_part : PartWire → PartWire
 reset_part p = record p { unit = record p.unit { is_open = false; queue = [] }; page_queue = []; host_groups = [] }
 
-reset_with : (workers : ℕ) (s : Service) (w : Wire) (e : ℕ) → moved (with_service workers s w) (Move.Reset e) ≡ with_service workers (without_unit s e) (moved w (Move.Reset e))
+reset_with : (workers : ℕ) (s : Service) (w : Wire) (e : ℕ) → moved (with_service workers s w) (Move.Reset e)
+    ≡ with_service workers (without_unit s e) (moved w (Move.Reset e))
 reset_with workers s w e =
     λ i. sent e ResetMessage
     (record w {
@@ -89,7 +90,8 @@ reset_refused served e x after is =
     service : ServiceWire
     service = service_seen served.workers served.service
 
-pub reset_done : (served : Inside) (v : Wire) (e : ℕ) (a : Answer) (after : Wire) (left : Service) → wire_of served ≡ v → ByLabels served.host (step.Reset e) (Ok a) after
+pub reset_done : (served : Inside) (v : Wire) (e : ℕ) (a : Answer) (after : Wire) (left : Service) → wire_of served ≡ v
+    → ByLabels served.host (step.Reset e) (Ok a) after
     → left ≡ without_unit served.service e
     → ByLabels v (step.Reset e) (Ok a) (wire_of (record served { host = after; service = left }))
 reset_done served v e a after left view is drops =
@@ -103,7 +105,8 @@ reset_done served v e a after left view is drops =
     seen =
         (λ i. with_service served.workers (drops i) (moved_by served.host after e a is i))
         ∙ sym (reset_with served.workers served.service served.host e)
-        ∙ sym (ap (all_moved (wire_of served)) (ap (λ (d : Decision). d.moves) same ∙ accepted (causes_of served.host (step.Reset e)) (result_of served.host (step.Reset e)) a is.0))
+        ∙ sym (ap (all_moved (wire_of served)) (ap (λ (d : Decision). d.moves) same
+        ∙ accepted (causes_of served.host (step.Reset e)) (result_of served.host (step.Reset e)) a is.0))
 
 pub reset_still : (served : Inside) (e : ℕ) (a : Answer) (after : Wire) (left : Service) → IsServed served → ByLabels served.host (step.Reset e) (Ok a) after
     → left ≡ without_unit served.service e

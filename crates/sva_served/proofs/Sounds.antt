@@ -4,7 +4,8 @@ use Rattle.std.specs.Prelude.{◌==◌, None, Some, Option, List, [], ◌∷◌,
 use Rattle.std.specs.List.{find, list_any}
 use Rattle.std.proofs.lemmas.List.{length-take}
 use Rattle.sva_model.specs.Message.{Message}
-use Rattle.sva_model.specs.Message.Message.{StartMessage, StopMessage, ResetMessage, CompletionMessage, InvalidateMessage, ResponseMessage, RequestMessage, InvalidatedMessage, PageRequestMessage, MarkerMessage, ResetDoneMessage}
+use Rattle.sva_model.specs.Message.Message.{StartMessage, StopMessage, ResetMessage, CompletionMessage, InvalidateMessage, ResponseMessage, RequestMessage}
+use Rattle.sva_model.specs.Message.Message.{InvalidatedMessage, PageRequestMessage, MarkerMessage, ResetDoneMessage}
 use Rattle.sva_model.specs.Wire.{Wire, PartWire, DeviceWire, UnitWire, HostGroupWire, JobWire, PageRequestWire}
 use Rattle.sva_labels.specs.Finding.{idle, part_of, device_of, unit_of, outstanding, is_wait_done, held_by}
 use Rattle.sva_labels.specs.Moves.{is_begun}
@@ -75,7 +76,8 @@ alone n w few apart =
       groups = λ e. ap (λ (v : Wire). (part_of v e).host_groups) apart ∙ no_groups w.parts e;
       jobs = ap (λ (v : Wire). v.jobs) apart;
       hands = λ x. ap (λ (v : Wire). held_by v x) apart ∙ first_of_none n x (None ∷ None ∷ None ∷ None ∷ []) (four_empty x);
-      few = subst (λ (hands : List (Option JobWire)). length hands ≤ 4) (sym (ap (λ (v : Wire). v.hands) apart)) (fewer n (None ∷ None ∷ None ∷ None ∷ []) few);
+      few = subst (λ (hands : List (Option JobWire)). length hands ≤ 4) (sym (ap (λ (v : Wire). v.hands) apart))
+          (fewer n (None ∷ None ∷ None ∷ None ∷ []) few);
     }
 
 not_held : (w : Wire) (x : ℕ) (job : JobWire) → IsAlone w → held_by w x ≡ Some job → ⊥
@@ -120,7 +122,8 @@ sound_alone service w is s =
       endpoint_low = λ k b at. subst (λ (n : ℕ). b.endpoint < n) same (s.endpoint_low k b at);
       one_each = s.one_each;
       awaited_queued = λ e f c place l opened at awaits.
-          subst (λ (unit : UnitWire). HasWait unit c) (unit e) (s.awaited_queued e f c place (there e l) (ap (λ (unit : UnitWire). unit.is_open) (unit e) ∙ opened) at awaits);
+          subst (λ (unit : UnitWire). HasWait unit c) (unit e)
+          (s.awaited_queued e f c place (there e l) (ap (λ (unit : UnitWire). unit.is_open) (unit e) ∙ opened) at awaits);
       invalidating_queued = λ k c b at stage opened not_done.
           subst (λ (unit : UnitWire). HasWait unit c) (unit b.endpoint)
           (s.invalidating_queued k c b at stage (ap (λ (unit : UnitWire). unit.is_open) (unit b.endpoint) ∙ opened)

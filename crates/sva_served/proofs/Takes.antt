@@ -1,7 +1,8 @@
 -- A worker takes the oldest job.
 use Rattle.std.proofs.Common.{◌≡◌, refl, ap, sym, ◌∙◌, subst, ℕ, zero, suc, ◌+◌, ◌<◌, ◌≤◌, true, false, Bor, arith}
 use Rattle.std.specs.Option.{option_copied}
-use Rattle.std.specs.Prelude.{not, nat_lt, ◌==◌, is_some, Ok, Option, Some, None, option_map, List, [], ◌∷◌, map, length, drop, slice_get, slice_set, slice_index_or}
+use Rattle.std.specs.Prelude.{not, nat_lt, ◌==◌, is_some, Ok, Option, Some, None, option_map, List, [], ◌∷◌, map, length, drop, slice_get, slice_set}
+use Rattle.std.specs.Prelude.{slice_index_or}
 use Rattle.std.proofs.lemmas.List.{length-map, length-take-le}
 use Rattle.std.proofs.lemmas.Bool.Decides.{nat_tests}
 use Rattle.sva_step.specs.declared.answers.Answer.TheVariants as answer
@@ -41,7 +42,8 @@ none_held (Some job) held same is = absurd (cc (is))
 takes : (w : Wire) (x : ℕ) (job : JobWire) (later : List JobWire) → nat_lt x (length w.hands) ≡ true → held_by w x ≡ None → w.jobs ≡ job ∷ later
     → decide_of w (step.Take x) ≡ record { reply = Ok (answer.JobTaken job.binding job.index (length job.asks)); moves = Move.Hand ∷ Move.Hold x job ∷ [] }
 takes w x job later there empty jobs =
-    (λ i. checked ((not (there i), refusal.NoSuchWorker) ∷ (is_some (empty i), refusal.HandsFull) ∷ (length (jobs i) == 0, refusal.NoJob) ∷ []) (take_result x (jobs i)))
+    (λ i. checked ((not (there i), refusal.NoSuchWorker) ∷ (is_some (empty i), refusal.HandsFull) ∷ (length (jobs i) == 0, refusal.NoJob) ∷ [])
+    (take_result x (jobs i)))
     ∙ some_job (length later)
   where
     some_job : (n : ℕ) → checked ((suc n == 0, refusal.NoJob) ∷ []) (take_result x (job ∷ later)) ≡ checked [] (take_result x (job ∷ later))
@@ -86,18 +88,21 @@ take_done served v x b n k job after view h there empty is held binding index co
         takes (wire_of served) x (job_seen job) _ (worker_there served x h ∙ grind (arith, nat_tests, there))
         (seen.held served.workers there ∙ ap (option_map job_seen) (sym empty)) jobs
 
-    left : wire_of (record served { service = after }) ≡ record (wire_of served) { jobs = drop 1 (jobs_seen s); hands = slice_set (hands_seen served.workers s) x (Some (job_seen job)) }
+    left : wire_of (record served { service = after })
+        ≡ record (wire_of served) { jobs = drop 1 (jobs_seen s); hands = slice_set (hands_seen served.workers s) x (Some (job_seen job)) }
     left =
         ap (λ (t : Service). wire_of (record served { service = t })) is
         ∙ (λ i. record (wire_of served) { jobs = seen.jobs i; hands = seen.hands served.workers (job_seen job) _ jobs i })
 
-pub take_sound : (served : Inside) (x : ℕ) (after : Service) → IsServed served → x < served.workers → None ≡ hand served.service x → after ≡ taken served.service x
+pub take_sound : (served : Inside) (x : ℕ) (after : Service) → IsServed served → x < served.workers → None ≡ hand served.service x → after
+    ≡ taken served.service x
     → IsServed (record served { service = after })
 take_sound served x after h there empty is =
     record {
       apart = h.apart;
       few = h.few;
-      sound = subst (IsSound served.workers) (sym is) (sound_is_kept.taken served.workers served.service x h.sound there (omega (arith, there, h.few)) (sym empty));
+      sound = subst (IsSound served.workers) (sym is)
+          (sound_is_kept.taken served.workers served.service x h.sound there (omega (arith, there, h.few)) (sym empty));
       serials = subst (λ (s : Service). s.groups.next + waiting served.host ≤ served.host.next_message) (sym is) h.serials;
       housed = subst (AreHoused served.host) (sym is) h.housed;
     }

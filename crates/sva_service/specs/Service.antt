@@ -1,5 +1,6 @@
 -- The page request groups that are open at the host, the jobs that are queued, and those in hands of workers.
-use Rattle.std.specs.Prelude.{◌≡◌, ℕ, ◌+◌, ◌-◌, ◌<◌, ◌==◌, Bool, true, not, if◌then◌else◌, List, [], ◌∷◌, ◌++◌, drop, max, Option, Some, None, filter, count_by, slice_get, slice_index_or, slice_set, option_to_list}
+use Rattle.std.specs.Prelude.{◌≡◌, ℕ, ◌+◌, ◌-◌, ◌<◌, ◌==◌, Bool, true, not, if◌then◌else◌, List, [], ◌∷◌, ◌++◌, drop, max, Option, Some, None, filter}
+use Rattle.std.specs.Prelude.{count_by, slice_get, slice_index_or, slice_set, option_to_list}
 use Rattle.sva_msg.specs.declared.messages.PageRequest.{PageRequest}
 use Rattle.sva_prq.specs.Job.{Job}
 use Rattle.sva_prq.specs.Groups as groups

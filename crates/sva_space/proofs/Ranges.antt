@@ -1,5 +1,6 @@
 -- Ranges of pages: what is found of one, how many of it are mapped, and that all are.
-use Rattle.std.proofs.Common.{◌≡◌, ◌≢◌, ◌↔◌, ℕ, zero, suc, ◌+◌, ◌-◌, ◌<◌, ◌≤◌, ◌==◌, nat_lt, Bool, true, false, cond, not, inl, inr, Option, Some, None, List, [], ◌∷◌, length, refl, sym, ◌∙◌, ap, subst, arith}
+use Rattle.std.proofs.Common.{◌≡◌, ◌≢◌, ◌↔◌, ℕ, zero, suc, ◌+◌, ◌-◌, ◌<◌, ◌≤◌, ◌==◌, nat_lt, Bool, true, false, cond, not, inl, inr, Option, Some, None}
+use Rattle.std.proofs.Common.{List, [], ◌∷◌, length, refl, sym, ◌∙◌, ap, subst, arith}
 use Rattle.std.specs.Prelude.{◌&&◌, IsSome, IsTrue, MatchOption, is_some, find, filter, option_map, slice_get}
 use Rattle.std.specs.BTreeMap.{is_at}
 use Rattle.std.specs.BTreeMap.Range.{entries_between, range_contains}
@@ -30,7 +31,8 @@ none_between first end (m ∷ ms) h =
     backwards : (s t : Bool) (k : ℕ) → nat_lt k first ≡ s → nat_lt k end ≡ t → (not s && t) ≡ false
     backwards true t k e f = refl
     backwards false false k e f = refl
-    backwards false true k e f = absurd (let low : first ≤ k = grind (arith, nat_tests) in let high : k < end = grind (arith, nat_tests) in omega (arith, h, low, high))
+    backwards false true k e f =
+        absurd (let low : first ≤ k = grind (arith, nat_tests) in let high : k < end = grind (arith, nat_tests) in omega (arith, h, low, high))
 
 -- the part of the map in the range
 test_le : (a k : ℕ) → is_le (nat_cmp a k) ≡ not (nat_lt k a)
@@ -111,12 +113,14 @@ head_lowest first end x ms rising e =
       mapped = is_there x x.0 ms refl;
       least = λ page mapping l m f. elim (cases_eq x.0 page) [
         | inl same ↦ omega (arith, same)
-        | inr n ↦ let above : x.0 < page = above_others x.0 ms (rising_head x ms rising) page mapping (sym (is_behind x page ms n) ∙ f) in omega (arith, above)
+        | inr n ↦ let above : x.0 < page =
+            above_others x.0 ms (rising_head x ms rising) page mapping (sym (is_behind x page ms n) ∙ f) in omega (arith, above)
       ];
       others = let t : is_at (nat_cmp x.0) x.0 ≡ true = at_itself x.0 in rw (e, t) refl;
     }
 
-tail_lowest : (first end : ℕ) (x : Mapping) (ms : List Mapping) (y : Mapping) → IsRising (x ∷ ms) → is_between first end x ≡ false → IsLowestBetween first end ms y → IsLowestBetween first end (x ∷ ms) y
+tail_lowest : (first end : ℕ) (x : Mapping) (ms : List Mapping) (y : Mapping) → IsRising (x ∷ ms) → is_between first end x ≡ false
+    → IsLowestBetween first end ms y → IsLowestBetween first end (x ∷ ms) y
 tail_lowest first end x ms y rising e r =
     let above : x.0 < y.0 = above_others x.0 ms (rising_head x ms rising) y.0 y.1 r.mapped in
     let apart : x.0 ≢ y.0 = λ i. absurd (omega (arith, above, i)) in
@@ -135,14 +139,18 @@ pub lowest_found : (first end : ℕ) (ms : List Mapping) (y : Mapping) → IsRis
 lowest_found first end [] y rising h = absurd (cc)
 lowest_found first end (x ∷ ms) y rising h =
     elim (cases_Bool (is_between first end x)) [
-      | inl e ↦ let found : Some x ≡ Some y = rw e at h in let same : x ≡ y = cc in subst (λ (z : Mapping). IsLowestBetween first end (x ∷ ms) z) same (head_lowest first end x ms rising e)
-      | inr e ↦ let found : find (is_between first end) ms ≡ Some y = rw e at h in tail_lowest first end x ms y rising e (lowest_found first end ms y (rising_tail x ms rising) found)
+      | inl e ↦ let found : Some x ≡ Some y = rw e at h in let same : x ≡ y =
+          cc in subst (λ (z : Mapping). IsLowestBetween first end (x ∷ ms) z) same (head_lowest first end x ms rising e)
+      | inr e ↦ let found : find (is_between first end) ms ≡ Some y =
+          rw e at h in tail_lowest first end x ms y rising e (lowest_found first end ms y (rising_tail x ms rising) found)
     ]
 
 pub lowest_between : LowestBetween
 lowest_between calls first end = by_result (find (is_between first end) (after_all [] calls)) refl
   where
-    by_result : (r : Option Mapping) → find (is_between first end) (after_all [] calls) ≡ r → MatchOption r ((page : ℕ) → first ≤ page → page < end → mapping_at (after_all [] calls) page ≡ None) (λ lowest. IsLowestBetween first end (after_all [] calls) lowest)
+    by_result : (r : Option Mapping) → find (is_between first end) (after_all [] calls) ≡ r
+        → MatchOption r ((page : ℕ) → first ≤ page → page < end → mapping_at (after_all [] calls) page ≡ None)
+        (λ lowest. IsLowestBetween first end (after_all [] calls) lowest)
     by_result None h = none_mapped first end (after_all [] calls) h
     by_result (Some y) h = lowest_found first end (after_all [] calls) y (rising_after_all [] calls none_rising) h
 
@@ -178,11 +186,13 @@ count_step first e (x ∷ ms) rising l =
         let no : is_between first e x ≡ false = rw (not_below, not_low) refl in
         let there : mapping_at (x ∷ ms) e ≡ Some x.1 = is_there x e ms same in
         let none : mapping_at ms e ≡ None = subst (λ (k : ℕ). mapping_at ms k ≡ None) same (none_at x ms rising) in
-        let left : count first (e + 1) ms ≡ count first e ms + 0 = subst (λ (o : Option (ℕ × Bool)). count first (e + 1) ms ≡ count first e ms + cond (is_some o) 1 0) none rest in
+        let left : count first (e + 1) ms ≡ count first e ms + 0 =
+        subst (λ (o : Option (ℕ × Bool)). count first (e + 1) ms ≡ count first e ms + cond (is_some o) 1 0) none rest in
         subst (λ (o : Option (ℕ × Bool)). count first (e + 1) (x ∷ ms) ≡ count first e (x ∷ ms) + cond (is_some o) 1 0) (sym there)
         (rw (yes, no) (omega (arith, left)))
 
-    behind : x.0 ≢ e → count first (e + 1) ms ≡ count first e ms + one_at ms e → (b : Bool) → is_between first e x ≡ b → count first (e + 1) (x ∷ ms) ≡ count first e (x ∷ ms) + one_at (x ∷ ms) e
+    behind : x.0 ≢ e → count first (e + 1) ms ≡ count first e ms + one_at ms e → (b : Bool) → is_between first e x ≡ b → count first (e + 1) (x ∷ ms)
+        ≡ count first e (x ∷ ms) + one_at (x ∷ ms) e
     behind n rest b h =
         let same_test : nat_lt x.0 (e + 1) ≡ nat_lt x.0 e = below_next x.0 n in
         let more : is_between first (e + 1) x ≡ b = ap (λ (t : Bool). not (nat_lt x.0 first) && t) same_test ∙ h in
@@ -193,7 +203,9 @@ count_step first e (x ∷ ms) rising l =
         below_next : (k : ℕ) → k ≢ e → nat_lt k (e + 1) ≡ nat_lt k e
         below_next k n = grind (arith, nat_tests)
 
-        by_bool : (b : Bool) → count first (e + 1) ms ≡ count first e ms + one_at ms e → length (cond b (x ∷ mappings_between first (e + 1) ms) (mappings_between first (e + 1) ms)) ≡ length (cond b (x ∷ mappings_between first e ms) (mappings_between first e ms)) + one_at ms e
+        by_bool : (b : Bool) → count first (e + 1) ms ≡ count first e ms + one_at ms e
+            → length (cond b (x ∷ mappings_between first (e + 1) ms) (mappings_between first (e + 1) ms))
+            ≡ length (cond b (x ∷ mappings_between first e ms) (mappings_between first e ms)) + one_at ms e
         by_bool true rest = omega (arith, rest)
         by_bool false rest = rest
 
@@ -285,14 +297,18 @@ all-counted first end ms rising =
 
 -- the lowest page of a range, by its number
 
-found_at : (first end page : ℕ) (ms : List Mapping) → option_map (λ (m : Mapping). m.0) (find (is_between first end) ms) ≡ Some page → (m : Mapping) × (find (is_between first end) ms ≡ Some m) × (m.0 ≡ page)
+found_at : (first end page : ℕ) (ms : List Mapping) → option_map (λ (m : Mapping). m.0) (find (is_between first end) ms) ≡ Some page → (m : Mapping)
+    × (find (is_between first end) ms ≡ Some m) × (m.0 ≡ page)
 found_at first end page ms h = by_result (find (is_between first end) ms) refl h
   where
-    by_result : (r : Option Mapping) → find (is_between first end) ms ≡ r → option_map (λ (m : Mapping). m.0) r ≡ Some page → (m : Mapping) × (find (is_between first end) ms ≡ Some m) × (m.0 ≡ page)
+    by_result : (r : Option Mapping) → find (is_between first end) ms ≡ r → option_map (λ (m : Mapping). m.0) r ≡ Some page → (m : Mapping)
+        × (find (is_between first end) ms ≡ Some m) × (m.0 ≡ page)
     by_result None e k = absurd (cc (k))
     by_result (Some m) e k = let same : m.0 ≡ page = cc (k) in (m, e, same)
 
-pub found_taken : (first end page : ℕ) (value : ℕ × Bool) (ms : List Mapping) → IsRising ms → option_map (λ (m : Mapping). m.0) (find (is_between first end) ms) ≡ Some page → mapping_at ms page ≡ Some value → find (is_between first end) ms ≡ Some (page, value)
+pub found_taken : (first end page : ℕ) (value : ℕ × Bool) (ms : List Mapping) → IsRising ms
+    → option_map (λ (m : Mapping). m.0) (find (is_between first end) ms) ≡ Some page → mapping_at ms page ≡ Some value
+    → find (is_between first end) ms ≡ Some (page, value)
 found_taken first end page value ms rising h there =
     let found = found_at first end page ms h in
     let lowest = lowest_found first end ms found.0 rising found.1 in
@@ -300,7 +316,8 @@ found_taken first end page value ms rising h there =
     let same : found.0.1 ≡ value = cc (sym mapped ∙ there) in
     found.1 ∙ (λ i. Some (found.2 i, same i))
 
-pub found_mapped : (first end page : ℕ) (ms : List Mapping) → IsRising ms → option_map (λ (m : Mapping). m.0) (find (is_between first end) ms) ≡ Some page → mapping_at ms page ≡ None → ⊥
+pub found_mapped : (first end page : ℕ) (ms : List Mapping) → IsRising ms → option_map (λ (m : Mapping). m.0) (find (is_between first end) ms)
+    ≡ Some page → mapping_at ms page ≡ None → ⊥
 found_mapped first end page ms rising h gone =
     let found = found_at first end page ms h in
     let lowest = lowest_found first end ms found.0 rising found.1 in

@@ -1,6 +1,7 @@
 -- The text of an answer tells the answer: its words before the first digit tell the variant, and the rest tells the
 -- numbers.
-use Rattle.std.specs.Prelude.{◌≡◌, ℕ, suc, ◌+◌, ◌^◌, ◌<◌, ◌≤◌, ◌==◌, nat_le, Bool, true, false, ◌&&◌, ◌%◌, List, [], ◌∷◌, ◌++◌, drop, All, bytes_eq, position, unwrap_or, codes, decimal, refl}
+use Rattle.std.specs.Prelude.{◌≡◌, ℕ, suc, ◌+◌, ◌^◌, ◌<◌, ◌≤◌, ◌==◌, nat_le, Bool, true, false, ◌&&◌, ◌%◌, List, [], ◌∷◌, ◌++◌, drop, All, bytes_eq}
+use Rattle.std.specs.Prelude.{position, unwrap_or, codes, decimal, refl}
 use Rattle.std.proofs.Common.{append_assoc, append-nil, arith, sym, ◌∙◌, ap, eq-eqb, lit≤}
 use Rattle.std.proofs.lemmas.Bool.Decides.{nat_tests}
 use Rattle.std.proofs.lemmas.Fmt.{decimal_by_steps, decimal_injective}
@@ -8,7 +9,11 @@ use Rattle.sva_step.specs.Refusals.{number_of, name_of, refusal_text}
 use Rattle.sva_step.specs.Texts.{answer_text, frames_text, InRange, TextsTellApart}
 use Rattle.sva_step.specs.declared.refusals.Refusal.{Refusal}
 use Rattle.sva_step.specs.declared.answers.Answer.{Answer}
-use Rattle.sva_step.specs.declared.answers.Answer.TheVariants.{Space, Gone, Frame, FreeFrames, WithheldFrames, RangeFree, RangeWithheld, Binding, Stopping, Draining, Invalidating, Quiet, Released, Idle, Itag, Blocked, WaitDone, Empty, Part, Job, Resetting, JobTaken, Success, Invalid, Failure, Dropped, Tag, Use, Ended, Dead, Evicted, Group, Sent, Marker, Free, Mapped, Withheld, Started, Reset, NoTranslation, Full, Held, Taken, Answered, Stale, Completion, Freed, Queued, Marked, ResetDone, Bearer, NoBearer}
+use Rattle.sva_step.specs.declared.answers.Answer.TheVariants.{Space, Gone, Frame, FreeFrames, WithheldFrames, RangeFree, RangeWithheld, Binding, Stopping}
+use Rattle.sva_step.specs.declared.answers.Answer.TheVariants.{Draining, Invalidating, Quiet, Released, Idle, Itag, Blocked, WaitDone, Empty, Part, Job}
+use Rattle.sva_step.specs.declared.answers.Answer.TheVariants.{Resetting, JobTaken, Success, Invalid, Failure, Dropped, Tag, Use, Ended, Dead, Evicted}
+use Rattle.sva_step.specs.declared.answers.Answer.TheVariants.{Group, Sent, Marker, Free, Mapped, Withheld, Started, Reset, NoTranslation, Full, Held}
+use Rattle.sva_step.specs.declared.answers.Answer.TheVariants.{Taken, Answered, Stale, Completion, Freed, Queued, Marked, ResetDone, Bearer, NoBearer}
 use Rattle.sva_step.proofs.RefusalLemmas.{number_of-le}
 
 absurd_false : {A : Type 0} → false ≡ true → A
@@ -241,7 +246,13 @@ shape NoBearer = 51
 
 -- the variants' words, each at its variant's number
 abbrev all_words : List (List ℕ)
-all_words = codes "space " ∷ codes "gone" ∷ codes "frame " ∷ codes "free " ∷ codes "withheld " ∷ codes "range free " ∷ codes "range withheld " ∷ codes "binding " ∷ codes "stopping" ∷ codes "draining" ∷ codes "invalidating" ∷ codes "quiet" ∷ codes "released" ∷ codes "idle" ∷ codes "itag " ∷ codes "blocked" ∷ codes "wait done" ∷ codes "empty" ∷ codes "part" ∷ codes "job" ∷ codes "resetting" ∷ codes "job binding " ∷ codes "success " ∷ codes "invalid" ∷ codes "failure" ∷ codes "dropped" ∷ codes "tag " ∷ codes "use " ∷ codes "ended" ∷ codes "dead" ∷ codes "evicted" ∷ codes "group " ∷ codes "sent " ∷ codes "marker" ∷ codes "free" ∷ codes "mapped" ∷ codes "withheld" ∷ codes "started" ∷ codes "reset" ∷ codes "none" ∷ codes "full" ∷ codes "held" ∷ codes "taken" ∷ codes "answered" ∷ codes "stale" ∷ codes "completion" ∷ codes "freed " ∷ codes "queued" ∷ codes "marked" ∷ codes "reset done" ∷ codes "bearer " ∷ codes "bearer none" ∷ []
+all_words = codes "space " ∷ codes "gone" ∷ codes "frame " ∷ codes "free " ∷ codes "withheld " ∷ codes "range free " ∷ codes "range withheld "
+    ∷ codes "binding " ∷ codes "stopping" ∷ codes "draining" ∷ codes "invalidating" ∷ codes "quiet" ∷ codes "released" ∷ codes "idle" ∷ codes "itag "
+    ∷ codes "blocked" ∷ codes "wait done" ∷ codes "empty" ∷ codes "part" ∷ codes "job" ∷ codes "resetting" ∷ codes "job binding " ∷ codes "success "
+    ∷ codes "invalid" ∷ codes "failure" ∷ codes "dropped" ∷ codes "tag " ∷ codes "use " ∷ codes "ended" ∷ codes "dead" ∷ codes "evicted"
+    ∷ codes "group " ∷ codes "sent " ∷ codes "marker" ∷ codes "free" ∷ codes "mapped" ∷ codes "withheld" ∷ codes "started" ∷ codes "reset"
+    ∷ codes "none" ∷ codes "full" ∷ codes "held" ∷ codes "taken" ∷ codes "answered" ∷ codes "stale" ∷ codes "completion" ∷ codes "freed "
+    ∷ codes "queued" ∷ codes "marked" ∷ codes "reset done" ∷ codes "bearer " ∷ codes "bearer none" ∷ []
 
 abbrev shape_at : List ℕ → ℕ
 shape_at ws = unwrap_or (position (λ known. bytes_eq known ws) all_words) 52
@@ -385,7 +396,8 @@ same_by_shape (RangeWithheld frames) (RangeWithheld frames') range range' shape 
     λ i. RangeWithheld (decimal_injective frames frames' range range' (ap (drop 15) same) i)
 same_by_shape (Binding binding pasid) (Binding binding' pasid') range range' shape same =
     let parted : (decimal binding) ++ ((codes " pasid ") ++ ((decimal pasid))) ≡ (decimal binding') ++ ((codes " pasid ") ++ ((decimal pasid'))) =
-    sym (three_right (decimal binding) (codes " pasid ") (decimal pasid)) ∙ ap (drop 8) same ∙ three_right (decimal binding') (codes " pasid ") (decimal pasid') in
+    sym (three_right (decimal binding) (codes " pasid ") (decimal pasid)) ∙ ap (drop 8) same
+    ∙ three_right (decimal binding') (codes " pasid ") (decimal pasid') in
     let part0 : (binding ≡ binding') × ((codes " pasid ") ++ ((decimal pasid)) ≡ (codes " pasid ") ++ ((decimal pasid'))) =
     same_numbers binding binding' ((codes " pasid ") ++ ((decimal pasid))) ((codes " pasid ") ++ ((decimal pasid'))) range.0 range'.0 refl refl parted in
     let last : pasid ≡ pasid' = decimal_injective pasid pasid' range.1 range'.1 (ap (drop 7) part0.1) in
@@ -405,12 +417,18 @@ same_by_shape Part Part range range' shape same = refl
 same_by_shape Job Job range range' shape same = refl
 same_by_shape Resetting Resetting range range' shape same = refl
 same_by_shape (JobTaken binding group pages) (JobTaken binding' group' pages') range range' shape same =
-    let parted : (decimal binding) ++ ((codes " group ") ++ ((decimal group) ++ ((codes " pages ") ++ ((decimal pages))))) ≡ (decimal binding') ++ ((codes " group ") ++ ((decimal group') ++ ((codes " pages ") ++ ((decimal pages'))))) =
-    sym (five_right (decimal binding) (codes " group ") (decimal group) (codes " pages ") (decimal pages)) ∙ ap (drop 12) same ∙ five_right (decimal binding') (codes " group ") (decimal group') (codes " pages ") (decimal pages') in
-    let part0 : (binding ≡ binding') × ((codes " group ") ++ ((decimal group) ++ ((codes " pages ") ++ ((decimal pages)))) ≡ (codes " group ") ++ ((decimal group') ++ ((codes " pages ") ++ ((decimal pages'))))) =
-    same_numbers binding binding' ((codes " group ") ++ ((decimal group) ++ ((codes " pages ") ++ ((decimal pages))))) ((codes " group ") ++ ((decimal group') ++ ((codes " pages ") ++ ((decimal pages'))))) range.0 range'.0 refl refl parted in
+    let parted : (decimal binding) ++ ((codes " group ") ++ ((decimal group) ++ ((codes " pages ") ++ ((decimal pages))))) ≡ (decimal binding')
+    ++ ((codes " group ") ++ ((decimal group') ++ ((codes " pages ") ++ ((decimal pages'))))) =
+    sym (five_right (decimal binding) (codes " group ") (decimal group) (codes " pages ") (decimal pages)) ∙ ap (drop 12) same
+    ∙ five_right (decimal binding') (codes " group ") (decimal group') (codes " pages ") (decimal pages') in
+    let part0 : (binding ≡ binding')
+    × ((codes " group ") ++ ((decimal group) ++ ((codes " pages ") ++ ((decimal pages)))) ≡ (codes " group ")
+    ++ ((decimal group') ++ ((codes " pages ") ++ ((decimal pages'))))) =
+    same_numbers binding binding' ((codes " group ") ++ ((decimal group) ++ ((codes " pages ") ++ ((decimal pages))))) ((codes " group ")
+    ++ ((decimal group') ++ ((codes " pages ") ++ ((decimal pages'))))) range.0 range'.0 refl refl parted in
     let part1 : (group ≡ group') × ((codes " pages ") ++ ((decimal pages)) ≡ (codes " pages ") ++ ((decimal pages'))) =
-    same_numbers group group' ((codes " pages ") ++ ((decimal pages))) ((codes " pages ") ++ ((decimal pages'))) range.1 range'.1 refl refl (ap (drop 7) part0.1) in
+    same_numbers group group' ((codes " pages ") ++ ((decimal pages))) ((codes " pages ") ++ ((decimal pages'))) range.1 range'.1 refl refl
+    (ap (drop 7) part0.1) in
     let last : pages ≡ pages' = decimal_injective pages pages' range.2 range'.2 (ap (drop 7) part1.1) in
     λ i. JobTaken (part0.0 i) (part1.0 i) (last i)
 same_by_shape (Success pages) (Success pages') range range' shape same =

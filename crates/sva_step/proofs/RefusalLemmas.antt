@@ -2,12 +2,20 @@
 use Rattle.std.specs.Prelude.{◌≡◌, ℕ, ◌-◌, ◌≤◌, List, [], ◌∷◌, Option, Some, find, bytes_eq, slice_get, refl}
 use Rattle.std.proofs.Common.{sym, ◌∙◌, ap, lit≤}
 use Rattle.sva_step.specs.declared.refusals.Refusal.{Refusal}
-use Rattle.sva_step.specs.declared.refusals.Refusal.TheVariants.{BadConfig, NoSuchEndpoint, NoSuchSpace, TooManySpaces, PageRange, Mapped, NotMapped, NoFrame, SpaceFull, AlreadyBound, NoPasid, StillBound, NoSuchBinding, NotLive, NotYet, QueueFull, Resetting, NotStarted, NoTag, NotHeld, ReadOnly, NoUseSlot, NoSuchUse, NoCredit, NoSuchGroup, PriDisabled, NotPending, InUse, BadCount, NotStopping, Busy, NoSuchMessage, Overtakes, NoSuchWorker, HandsFull, NoJob, BadVerdict, NumbersSpent, OutOfMemory, BadOrder, NotAligned, NothingMapped, BadPasid}
+use Rattle.sva_step.specs.declared.refusals.Refusal.TheVariants.{BadConfig, NoSuchEndpoint, NoSuchSpace, TooManySpaces, PageRange, Mapped, NotMapped}
+use Rattle.sva_step.specs.declared.refusals.Refusal.TheVariants.{NoFrame, SpaceFull, AlreadyBound, NoPasid, StillBound, NoSuchBinding, NotLive, NotYet}
+use Rattle.sva_step.specs.declared.refusals.Refusal.TheVariants.{QueueFull, Resetting, NotStarted, NoTag, NotHeld, ReadOnly, NoUseSlot, NoSuchUse}
+use Rattle.sva_step.specs.declared.refusals.Refusal.TheVariants.{NoCredit, NoSuchGroup, PriDisabled, NotPending, InUse, BadCount, NotStopping, Busy}
+use Rattle.sva_step.specs.declared.refusals.Refusal.TheVariants.{NoSuchMessage, Overtakes, NoSuchWorker, HandsFull, NoJob, BadVerdict, NumbersSpent}
+use Rattle.sva_step.specs.declared.refusals.Refusal.TheVariants.{OutOfMemory, BadOrder, NotAligned, NothingMapped, BadPasid}
 use Rattle.sva_step.specs.Refusals.{number_of, name_of, TellApart}
 
 -- the refusals by number
 abbrev all_refusals : List Refusal
-all_refusals = BadConfig ∷ NoSuchEndpoint ∷ NoSuchSpace ∷ TooManySpaces ∷ PageRange ∷ Mapped ∷ NotMapped ∷ NoFrame ∷ SpaceFull ∷ AlreadyBound ∷ NoPasid ∷ StillBound ∷ NoSuchBinding ∷ NotLive ∷ NotYet ∷ QueueFull ∷ Resetting ∷ NotStarted ∷ NoTag ∷ NotHeld ∷ ReadOnly ∷ NoUseSlot ∷ NoSuchUse ∷ NoCredit ∷ NoSuchGroup ∷ PriDisabled ∷ NotPending ∷ InUse ∷ BadCount ∷ NotStopping ∷ Busy ∷ NoSuchMessage ∷ Overtakes ∷ NoSuchWorker ∷ HandsFull ∷ NoJob ∷ BadVerdict ∷ NumbersSpent ∷ OutOfMemory ∷ BadOrder ∷ NotAligned ∷ NothingMapped ∷ BadPasid ∷ []
+all_refusals = BadConfig ∷ NoSuchEndpoint ∷ NoSuchSpace ∷ TooManySpaces ∷ PageRange ∷ Mapped ∷ NotMapped ∷ NoFrame ∷ SpaceFull ∷ AlreadyBound
+    ∷ NoPasid ∷ StillBound ∷ NoSuchBinding ∷ NotLive ∷ NotYet ∷ QueueFull ∷ Resetting ∷ NotStarted ∷ NoTag ∷ NotHeld ∷ ReadOnly ∷ NoUseSlot
+    ∷ NoSuchUse ∷ NoCredit ∷ NoSuchGroup ∷ PriDisabled ∷ NotPending ∷ InUse ∷ BadCount ∷ NotStopping ∷ Busy ∷ NoSuchMessage ∷ Overtakes
+    ∷ NoSuchWorker ∷ HandsFull ∷ NoJob ∷ BadVerdict ∷ NumbersSpent ∷ OutOfMemory ∷ BadOrder ∷ NotAligned ∷ NothingMapped ∷ BadPasid ∷ []
 
 abbrev numbered : ℕ → Option Refusal
 numbered number = slice_get all_refusals (number - 1)

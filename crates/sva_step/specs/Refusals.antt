@@ -1,7 +1,12 @@
 -- The number and the name of each refusal, and its text.
 use Rattle.std.specs.Prelude.{◌≡◌, ℕ, ◌≤◌, Bool, true, false, List, ◌++◌, codes, decimal}
 use Rattle.sva_step.specs.declared.refusals.Refusal.{Refusal}
-use Rattle.sva_step.specs.declared.refusals.Refusal.TheVariants.{BadConfig, NoSuchEndpoint, NoSuchSpace, TooManySpaces, PageRange, Mapped, NotMapped, NoFrame, SpaceFull, AlreadyBound, NoPasid, StillBound, NoSuchBinding, NotLive, NotYet, QueueFull, Resetting, NotStarted, NoTag, NotHeld, ReadOnly, NoUseSlot, NoSuchUse, NoCredit, NoSuchGroup, PriDisabled, NotPending, InUse, BadCount, NotStopping, Busy, NoSuchMessage, Overtakes, NoSuchWorker, HandsFull, NoJob, BadVerdict, NumbersSpent, OutOfMemory, BadOrder, NotAligned, NothingMapped, BadPasid}
+use Rattle.sva_step.specs.declared.refusals.Refusal.TheVariants.{BadConfig, NoSuchEndpoint, NoSuchSpace, TooManySpaces, PageRange, Mapped, NotMapped}
+use Rattle.sva_step.specs.declared.refusals.Refusal.TheVariants.{NoFrame, SpaceFull, AlreadyBound, NoPasid, StillBound, NoSuchBinding, NotLive, NotYet}
+use Rattle.sva_step.specs.declared.refusals.Refusal.TheVariants.{QueueFull, Resetting, NotStarted, NoTag, NotHeld, ReadOnly, NoUseSlot, NoSuchUse}
+use Rattle.sva_step.specs.declared.refusals.Refusal.TheVariants.{NoCredit, NoSuchGroup, PriDisabled, NotPending, InUse, BadCount, NotStopping, Busy}
+use Rattle.sva_step.specs.declared.refusals.Refusal.TheVariants.{NoSuchMessage, Overtakes, NoSuchWorker, HandsFull, NoJob, BadVerdict, NumbersSpent}
+use Rattle.sva_step.specs.declared.refusals.Refusal.TheVariants.{OutOfMemory, BadOrder, NotAligned, NothingMapped, BadPasid}
 
 -- the numbers are this project's own
 abbrev pub number_of : Refusal → ℕ

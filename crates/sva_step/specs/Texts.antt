@@ -4,7 +4,11 @@ use Rattle.std.specs.Prelude.{◌≡◌, ◌≢◌, ℕ, ◌^◌, ◌<◌, Bool,
 use Rattle.sva_step.specs.Refusals.{refusal_text}
 use Rattle.sva_step.specs.declared.refusals.Refusal.{Refusal}
 use Rattle.sva_step.specs.declared.answers.Answer.{Answer}
-use Rattle.sva_step.specs.declared.answers.Answer.TheVariants.{Space, Gone, Frame, FreeFrames, WithheldFrames, RangeFree, RangeWithheld, Binding, Stopping, Draining, Invalidating, Quiet, Released, Idle, Itag, Blocked, WaitDone, Empty, Part, Job, Resetting, JobTaken, Success, Invalid, Failure, Dropped, Tag, Use, Ended, Dead, Evicted, Group, Sent, Marker, Free, Mapped, Withheld, Started, Reset, NoTranslation, Full, Held, Taken, Answered, Stale, Completion, Freed, Queued, Marked, ResetDone, Bearer, NoBearer}
+use Rattle.sva_step.specs.declared.answers.Answer.TheVariants.{Space, Gone, Frame, FreeFrames, WithheldFrames, RangeFree, RangeWithheld, Binding, Stopping}
+use Rattle.sva_step.specs.declared.answers.Answer.TheVariants.{Draining, Invalidating, Quiet, Released, Idle, Itag, Blocked, WaitDone, Empty, Part, Job}
+use Rattle.sva_step.specs.declared.answers.Answer.TheVariants.{Resetting, JobTaken, Success, Invalid, Failure, Dropped, Tag, Use, Ended, Dead, Evicted}
+use Rattle.sva_step.specs.declared.answers.Answer.TheVariants.{Group, Sent, Marker, Free, Mapped, Withheld, Started, Reset, NoTranslation, Full, Held}
+use Rattle.sva_step.specs.declared.answers.Answer.TheVariants.{Taken, Answered, Stale, Completion, Freed, Queued, Marked, ResetDone, Bearer, NoBearer}
 
 -- the numbers of some frames, a space before each
 abbrev pub frames_text : List ℕ → List ℕ

@@ -1,5 +1,6 @@
 -- Facts on groups of page requests.
-use Rattle.std.proofs.Common.{◌≡◌, ℕ, zero, suc, ◌+◌, ◌<◌, ◌≤◌, length, set, replicate, Some, None, arith, List, [], ◌∷◌, map, sym, ◌∙◌, subst, ap, get_or, not, refl, cond, true, false, Bool, eqb}
+use Rattle.std.proofs.Common.{◌≡◌, ℕ, zero, suc, ◌+◌, ◌<◌, ◌≤◌, length, set, replicate, Some, None, arith, List, [], ◌∷◌, map, sym, ◌∙◌, subst, ap, get_or}
+use Rattle.std.proofs.Common.{not, refl, cond, true, false, Bool, eqb}
 use Rattle.std.specs.List.{position, position_or_len}
 use Rattle.std.specs.Prelude.{nat_lt}
 use Rattle.std.proofs.lemmas.List.Sums.{sum_by-cons}
@@ -36,13 +37,15 @@ pub HaveRequests-replicate : (n : ℕ) → HaveRequests (replicate n Free)
 HaveRequests-replicate zero = tt
 HaveRequests-replicate (suc n) = ((λ wrong. absurd (cc)), HaveRequests-replicate n)
 
-pub HaveRequests-set : (groups : List GroupPlace) (i : ℕ) (place : GroupPlace) → HaveRequests groups → (is_free place ≡ false → 0 < requests_of place) → HaveRequests (set groups i place)
+pub HaveRequests-set : (groups : List GroupPlace) (i : ℕ) (place : GroupPlace) → HaveRequests groups
+    → (is_free place ≡ false → 0 < requests_of place) → HaveRequests (set groups i place)
 HaveRequests-set [] i place have here = tt
 HaveRequests-set (group ∷ groups) zero place have here = (here, have.1)
 HaveRequests-set (group ∷ groups) (suc i) place have here = (have.0, HaveRequests-set groups i place have.1 here)
 
 -- the same of a table that is written through the slice of its places
-pub HaveRequests-written : (table : ArrayVec GroupPlace) (groups : List GroupPlace) (i : ℕ) (place : GroupPlace) → groups ≡ table.items → HaveRequests table.items
+pub HaveRequests-written : (table : ArrayVec GroupPlace) (groups : List GroupPlace) (i : ℕ) (place : GroupPlace) → groups ≡ table.items
+    → HaveRequests table.items
     → (is_free place ≡ false → 0 < requests_of place) → HaveRequests (with_items table (set groups i place)).items
 HaveRequests-written table groups i place same have here =
     subst HaveRequests (sym (items-with_items table (set groups i place) (length-set groups i place ∙ ap length same)))
@@ -60,10 +63,13 @@ is_free-stale_of pasid (Stale sender requests) = refl
 
 pub HaveRequests-stale_of : (pasid : ℕ) (groups : List GroupPlace) → HaveRequests groups → HaveRequests (map (stale_of pasid) groups)
 HaveRequests-stale_of pasid [] have = tt
-HaveRequests-stale_of pasid (group ∷ groups) have =
-    ((λ taken. subst (λ (n : ℕ). 0 < n) (sym (requests_of-stale_of pasid group)) (have.0 (sym (is_free-stale_of pasid group) ∙ taken))), HaveRequests-stale_of pasid groups have.1)
+HaveRequests-stale_of pasid (group ∷ groups) have = (
+  (λ taken. subst (λ (n : ℕ). 0 < n) (sym (requests_of-stale_of pasid group)) (have.0 (sym (is_free-stale_of pasid group) ∙ taken))),
+  HaveRequests-stale_of pasid groups have.1,
+)
 
-pub HaveRequests-at : (groups : List GroupPlace) (i : ℕ) → HaveRequests groups → is_free (get_or groups i Free) ≡ false → 0 < requests_of (get_or groups i Free)
+pub HaveRequests-at : (groups : List GroupPlace) (i : ℕ) → HaveRequests groups → is_free (get_or groups i Free) ≡ false → 0
+    < requests_of (get_or groups i Free)
 HaveRequests-at [] i have taken = absurd (cc)
 HaveRequests-at (group ∷ groups) zero have taken = have.0 taken
 HaveRequests-at (group ∷ groups) (suc i) have taken = HaveRequests-at groups i have.1 taken
@@ -72,7 +78,8 @@ pub requests_of-group_of : (pasid requests : ℕ) (last : Bool) → requests_of 
 requests_of-group_of pasid requests true = refl
 requests_of-group_of pasid requests false = refl
 
-pub requests_of-with_request : (last : Bool) (place : GroupPlace) → (is_free place ≡ false → 0 < requests_of place) → is_free (with_request last place) ≡ false → 0 < requests_of (with_request last place)
+pub requests_of-with_request : (last : Bool) (place : GroupPlace) → (is_free place ≡ false → 0 < requests_of place)
+    → is_free (with_request last place) ≡ false → 0 < requests_of (with_request last place)
 requests_of-with_request last Free have taken = have taken
 requests_of-with_request last (Unfinished pasid requests) have taken = rw (requests_of-group_of pasid (requests + 1) last) (omega arith)
 requests_of-with_request last (Out pasid requests) have taken = have taken
@@ -110,6 +117,7 @@ none_found false i is = refl
 pub index_with_credit : (groups : List GroupPlace) → HaveRequests groups → length groups ≡ 32 → outstanding groups < 32 → position is_free groups ≡ None → ⊥
 index_with_credit groups have long credit none =
     let past : length groups ≤ position_or_len is_free groups =
-    ltb-false (position_or_len is_free groups) (length groups) (none_found (nat_lt (position_or_len is_free groups) (length groups)) (position_or_len is_free groups) none) in
+    ltb-false (position_or_len is_free groups) (length groups)
+    (none_found (nat_lt (position_or_len is_free groups) (length groups)) (position_or_len is_free groups) none) in
     let many = all_taken groups have past in
     absurd (omega arith)

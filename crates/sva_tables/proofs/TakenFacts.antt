@@ -1,5 +1,6 @@
 -- Facts on the invalidations that were taken.
-use Rattle.std.proofs.Common.{◌≡◌, ◌≢◌, ℕ, ◌+◌, ◌<◌, ◌≤◌, List, length, get_or, set, sym, ◌∙◌, ap, subst, refl, cond, Bool, true, false, Option, None, inl, inr, arith, get_or-set_same, get_or-set_other, zero-add}
+use Rattle.std.proofs.Common.{◌≡◌, ◌≢◌, ℕ, ◌+◌, ◌<◌, ◌≤◌, List, length, get_or, set, sym, ◌∙◌, ap, subst, refl, cond, Bool, true, false, Option, None, inl}
+use Rattle.std.proofs.Common.{inr, arith, get_or-set_same, get_or-set_other, zero-add}
 use Rattle.std.specs.List.{enumerate_from}
 use Rattle.std.proofs.lemmas.List.{get_or-map, get_or_past, length-map, ext_get_or}
 use Rattle.std.proofs.lemmas.List.FromFn.{length-enumerate_from, get_or-enumerate_from}
@@ -38,7 +39,8 @@ pub completed_all : (vector : ℕ) (xs ys : List (Option Taken)) → IsCompleted
 completed_all vector xs ys done =
     ext_get_or None ys (without_named vector xs) (done.long ∙ sym (length-map (enumerate_from 0 xs) _ ∙ length-enumerate_from 0 xs)) (λ k low.
     done.below k (omega (arith, done.long)) ∙ sym (
-    get_or-map (λ (place : ℕ × Option Taken). cond (is_named vector place.0) None place.1) (enumerate_from 0 xs) k (0, None) None (omega (arith, done.long, length-enumerate_from 0 xs))
+    get_or-map (λ (place : ℕ × Option Taken). cond (is_named vector place.0) None place.1) (enumerate_from 0 xs) k (0, None) None
+    (omega (arith, done.long, length-enumerate_from 0 xs))
     ∙ ap (λ (place : ℕ × Option Taken). cond (is_named vector place.0) None place.1) (get_or-enumerate_from 0 xs k (0, None) (omega (arith, done.long)))
     ∙ ap (λ j. cond (is_named vector j) None (get_or xs k None)) (zero-add k)))
 
@@ -47,14 +49,21 @@ nothing_left true = refl
 nothing_left false = refl
 
 -- what is left at an ITag
-pub get_or-without_named : (vector : ℕ) (xs : List (Option Taken)) (k : ℕ) → get_or (without_named vector xs) k None ≡ cond (is_named vector k) None (get_or xs k None)
+pub get_or-without_named : (vector : ℕ) (xs : List (Option Taken)) (k : ℕ) → get_or (without_named vector xs) k None
+    ≡ cond (is_named vector k) None (get_or xs k None)
 get_or-without_named vector xs k = elim (cases_lt k (length xs)) [
   | inl within ↦
-      get_or-map (λ (place : ℕ × Option Taken). cond (is_named vector place.0) None place.1) (enumerate_from 0 xs) k (0, None) None (omega (arith, length-enumerate_from 0 xs))
+      get_or-map (λ (place : ℕ × Option Taken). cond (is_named vector place.0) None place.1) (enumerate_from 0 xs) k (0, None) None
+      (omega (arith, length-enumerate_from 0 xs))
       ∙ ap (λ (place : ℕ × Option Taken). cond (is_named vector place.0) None place.1) (get_or-enumerate_from 0 xs k (0, None) within)
       ∙ ap (λ j. cond (is_named vector j) None (get_or xs k None)) (zero-add k)
   | inr past ↦
-      get_or_past (without_named vector xs) k None (omega (arith, length-map (enumerate_from 0 xs) (λ (place : ℕ × Option Taken). cond (is_named vector place.0) None place.1), length-enumerate_from 0 xs))
+      get_or_past (without_named vector xs) k None
+      (omega (
+        arith,
+        length-map (enumerate_from 0 xs) (λ (place : ℕ × Option Taken). cond (is_named vector place.0) None place.1),
+        length-enumerate_from 0 xs,
+      ))
       ∙ nothing_left (is_named vector k)
       ∙ ap (cond (is_named vector k) None) (sym (get_or_past xs k None past))
 ]

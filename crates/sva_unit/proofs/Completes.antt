@@ -1,5 +1,6 @@
 -- The ITags as they are seen once completions have arrived, and how many are free.
-use Rattle.std.proofs.Common.{◌≡◌, ℕ, zero, suc, ◌+◌, ◌*◌, ◌==◌, cond, count_ones, Bool, true, false, Option, Some, None, List, [], ◌∷◌, ◌++◌, length, map, is_none, refl, ap, ap₂, sym, ◌∙◌, arith}
+use Rattle.std.proofs.Common.{◌≡◌, ℕ, zero, suc, ◌+◌, ◌*◌, ◌==◌, cond, count_ones, Bool, true, false, Option, Some, None, List, [], ◌∷◌, ◌++◌, length, map}
+use Rattle.std.proofs.Common.{is_none, refl, ap, ap₂, sym, ◌∙◌, arith}
 use Rattle.std.specs.Prelude.{◌&&◌, if◌then◌else◌, option_map, slice_index_or, replicate}
 use Rattle.std.proofs.lemmas.Bool.Decides.{nat_tests}
 use Rattle.std.proofs.lemmas.Simd.{ones-mask_l_cons}

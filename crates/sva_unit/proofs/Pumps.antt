@@ -20,7 +20,8 @@ use Rattle.sva_unit.specs.declared.pumping.Sending.{Sending}
 use Rattle.sva_unit.specs.declared.pumping.Next.{Next}
 use Rattle.sva_unit.specs.declared.pumping.Next.TheVariants.{Idle, Blocked, Send, Pass}
 use Rattle.sva_unit.specs.Seen.{UnitSeen, descriptor_seen, request_seen, unit_seen, seen, with_unit}
-use Rattle.sva_unit.specs.Pumping.{extent_seen, sending_of, send_next, pass_next, may_pass, next_at, next_of, pumped, at_endpoint, IsPump, unit_sent, unit_passed}
+use Rattle.sva_unit.specs.Pumping.{extent_seen, sending_of, send_next, pass_next, may_pass, next_at, next_of, pumped, at_endpoint, IsPump, unit_sent}
+use Rattle.sva_unit.specs.Pumping.{unit_passed}
 use Rattle.sva_unit.proofs.Places.{places_seen, lowest_seen, idle_seen, fresh_seen}
 
 -- It is what the definitions by labels do.
@@ -104,14 +105,22 @@ after_issue q requests t lowest =
     let taken : places_seen (with_fresh (lowest_free q.tags) q.tags) ≡ slice_set (places_seen q.tags) t _ =
     ap (λ o. places_seen (with_fresh o q.tags)) lowest ∙ fresh_seen q.tags t in
     let rest = sym (drop-map descriptor_seen 1 q.descriptors) in
-    λ i. record { unit = record { is_open = q.is_open; queue = rest i; busy = taken i; front = q.front; waits_end = q.back }; page_queue = map request_seen requests }
+    λ i. record {
+      unit = record { is_open = q.is_open; queue = rest i; busy = taken i; front = q.front; waits_end = q.back };
+      page_queue =
+          map request_seen requests;
+    }
 
 after_pass : (q : Queue) (requests : List PageRequest) (cookie : ℕ)
     → seen (after_answer (was.Done cookie) q) requests ≡ with_unit (seen q requests) (unit_passed (unit_seen q) cookie)
 after_pass q requests cookie =
     let next : cookie + 1 ≡ suc cookie = omega arith in
     let rest = sym (drop-map descriptor_seen 1 q.descriptors) in
-    λ i. record { unit = record { is_open = q.is_open; queue = rest i; busy = places_seen q.tags; front = next i; waits_end = q.back }; page_queue = map request_seen requests }
+    λ i. record {
+      unit = record { is_open = q.is_open; queue = rest i; busy = places_seen q.tags; front = next i; waits_end = q.back };
+      page_queue =
+          map request_seen requests;
+    }
 
 -- the ITag of what goes to the endpoint
 abbrev itag_in : Next → ℕ

@@ -35,7 +35,8 @@ orders_length t q count order cookie =
 ranges_number : (t n : ℕ) (f : ℕ → model.Range) → All HasNumber (tabulate n (λ j. Range t (f j)))
 unfolding tabulate
 ranges_number t zero f = λ k d l. absurd (omega arith)
-ranges_number t (suc n) f = All-append HasNumber (tabulate n (λ j. Range t (f j))) (Range t (f n) ∷ []) (ranges_number t n f) (All-replicate HasNumber 1 (Range t (f n)) tt)
+ranges_number t (suc n) f =
+    All-append HasNumber (tabulate n (λ j. Range t (f j))) (Range t (f n) ∷ []) (ranges_number t n f) (All-replicate HasNumber 1 (Range t (f n)) tt)
 
 ranges_after : (t n first : ℕ) (f : ℕ → model.Range) → number_after first (tabulate n (λ j. Range t (f j))) ≡ first
 unfolding tabulate
@@ -49,7 +50,8 @@ ranges_rise t (suc n) first f = rising-append (tabulate n (λ j. Range t (f j)))
 
 pub orders_number : (t q count order cookie : ℕ) → cookie < 2 ^ 63 → All HasNumber (orders_for t q count order cookie)
 orders_number t q count order cookie l =
-    All-append HasNumber (tabulate count (λ j. Range t (range_at q order j))) (Wait cookie false ∷ []) (ranges_number t count (range_at q order)) (All-replicate HasNumber 1 (Wait cookie false) l)
+    All-append HasNumber (tabulate count (λ j. Range t (range_at q order j))) (Wait cookie false ∷ []) (ranges_number t count (range_at q order))
+    (All-replicate HasNumber 1 (Wait cookie false) l)
 
 pub orders_rise : (t q count order cookie first : ℕ) → first ≤ cookie → AreRising first (orders_for t q count order cookie)
 orders_rise t q count order cookie first l =

@@ -27,7 +27,8 @@ pub seen_found : {A B : Type 0} (see : A → B) (p : A → Bool) (q : B → Bool
 seen_found see p q h [] = refl
 seen_found see p q h (x ∷ xs) = go (q (see x)) (p x) (h x) (seen_found see p q h xs)
   where
-    go : (b c : Bool) → b ≡ c → find q (map see xs) ≡ option_map see (find p xs) → cond b (Some (see x)) (find q (map see xs)) ≡ option_map see (cond c (Some x) (find p xs))
+    go : (b c : Bool) → b ≡ c → find q (map see xs) ≡ option_map see (find p xs) → cond b (Some (see x)) (find q (map see xs))
+        ≡ option_map see (cond c (Some x) (find p xs))
     go true true k rest = refl
     go false false k rest = rest
     go true false k rest = absurd (cc (k))
@@ -49,7 +50,8 @@ pub seen_left : {A B : Type 0} (see : A → B) (p : A → Bool) (q : B → Bool)
 seen_left see p q h [] = refl
 seen_left see p q h (x ∷ xs) = go (q (see x)) (p x) (h x) (seen_left see p q h xs)
   where
-    go : (b c : Bool) → b ≡ c → map see (filter p xs) ≡ filter q (map see xs) → map see (cond c (x ∷ filter p xs) (filter p xs)) ≡ cond b (see x ∷ filter q (map see xs)) (filter q (map see xs))
+    go : (b c : Bool) → b ≡ c → map see (filter p xs) ≡ filter q (map see xs) → map see (cond c (x ∷ filter p xs) (filter p xs))
+        ≡ cond b (see x ∷ filter q (map see xs)) (filter q (map see xs))
     go true true k rest = ap (λ l. see x ∷ l) rest
     go false false k rest = rest
     go true false k rest = absurd (cc (k))
@@ -137,7 +139,8 @@ row_found (suc n) first p =
     sums : (a k : ℕ) → a + 1 + k ≡ a + suc k
     sums a k = omega arith
 
-    go : (b : Bool) → (if b then Some first else shifted first (shifted 1 (words.find n (λ k. p (first + suc k))))) ≡ shifted first (if b then Some 0 else shifted 1 (words.find n (λ k. p (first + suc k))))
+    go : (b : Bool) → (if b then Some first else shifted first (shifted 1 (words.find n (λ k. p (first + suc k)))))
+        ≡ shifted first (if b then Some 0 else shifted 1 (words.find n (λ k. p (first + suc k))))
     go true = ap Some (zero_is first)
       where
         zero_is : (a : ℕ) → a ≡ a + 0
@@ -158,7 +161,8 @@ lowest_by : (table : List Place) (w : Wire) → w.bindings ≡ bindings_seen tab
 unfolding places.lowest_free
 lowest_by table w h None =
     row_found 32 1 (λ t. not (places.is_borne t table))
-    ∙ ap (λ p. shifted 1 (words.find 32 p)) (fun_ext (λ k. ap (λ (b : Bool). not b) (borne_seen table w h (1 + k)) ∙ ap (λ t. not (finding.is_borne w t)) (one_more k)))
+    ∙ ap (λ p. shifted 1 (words.find 32 p))
+    (fun_ext (λ k. ap (λ (b : Bool). not b) (borne_seen table w h (1 + k)) ∙ ap (λ t. not (finding.is_borne w t)) (one_more k)))
     ∙ as_label (words.find 32 (λ k. not (finding.is_borne w (suc k))))
   where
     one_more : (k : ℕ) → 1 + k ≡ suc k
@@ -186,7 +190,8 @@ looked_up table w h =
       by_pasid = λ e t. at_bindings table w h (λ b. b.endpoint == e && b.pasid == t) (places.is_under e t) (λ a. refl);
       by_space = λ e n. at_bindings table w h (λ b. b.endpoint == e && b.space == n) (places.joins e n) (λ a. refl);
       bound = λ n. sym (seen_some binding_seen (places.is_in n) (λ b. b.space == n) (λ a. refl) table) ∙ ap (list_any (λ b. b.space == n)) (sym h);
-      lowest = λ n. lowest_by table w h (find (places.is_in n) table) ∙ ap (finding.pasid_by w) (at_bindings table w h (λ b. b.space == n) (places.is_in n) (λ a. refl));
+      lowest = λ n. lowest_by table w h (find (places.is_in n) table)
+          ∙ ap (finding.pasid_by w) (at_bindings table w h (λ b. b.space == n) (places.is_in n) (λ a. refl));
       bearer = λ t.
           bearer_by (places.count_under t table) (count_by (λ b. b.pasid == t) w.bindings)
           (sym (seen_counted binding_seen (places.bears t) (λ b. b.pasid == t) (λ a. refl) table) ∙ ap (count_by (λ b. b.pasid == t)) (sym h))
@@ -202,7 +207,8 @@ each_seen f g h [] = refl
 each_seen f g h (a ∷ table) = λ i. h a i ∷ each_seen f g h table i
 
 staged_at : (stage : Stage) (a : Place) (here : Bool)
-    → binding_seen (if here then record a { stage = Some stage } else a) ≡ (if here then record (binding_seen a) { stage = stage_seen stage } else binding_seen a)
+    → binding_seen (if here then record a { stage = Some stage } else a)
+    ≡ (if here then record (binding_seen a) { stage = stage_seen stage } else binding_seen a)
 staged_at stage a true = refl
 staged_at stage a false = refl
 
@@ -216,7 +222,8 @@ reset_stage (Some (Quiet n)) = refl
 reset_stage (Some (Lost n)) = refl
 
 reset_at : (a : Place) (here : Bool)
-    → binding_seen (if here then record a { stage = option_map reset_of a.stage } else a) ≡ (if here then record (binding_seen a) { stage = moves.cut_off (binding_seen a).stage } else binding_seen a)
+    → binding_seen (if here then record a { stage = option_map reset_of a.stage } else a)
+    ≡ (if here then record (binding_seen a) { stage = moves.cut_off (binding_seen a).stage } else binding_seen a)
 reset_at a true = ap (λ x. record (binding_seen a) { stage = x }) (reset_stage a.stage)
 reset_at a false = refl
 
@@ -229,7 +236,8 @@ changed table =
           (λ (x : BindingWire). if x.binding == b then record x { stage = stage_seen stage } else x) (λ a. staged_at stage a (places.is_of b a)) table;
       released = λ b. seen_left binding_seen (λ place. not (places.is_of b place)) (λ x. not (x.binding == b)) (λ a. refl) table;
       reset = λ e.
-          each_seen (places.reset_at e) (λ (x : BindingWire). if x.endpoint == e then record x { stage = moves.cut_off x.stage } else x) (λ a. reset_at a (a.endpoint == e)) table;
+          each_seen (places.reset_at e) (λ (x : BindingWire). if x.endpoint == e then record x { stage = moves.cut_off x.stage } else x)
+          (λ a. reset_at a (a.endpoint == e)) table;
     }
 
 pub bindings_are_seen : BindingsAreSeen

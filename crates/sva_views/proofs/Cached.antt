@@ -70,7 +70,8 @@ found_in : (t q : ℕ) (es : List Entry) → find_by (is_at_page t q) (seen es) 
 found_in t q [] = refl
 found_in t q (e ∷ es) = go (is_at_page t q (translation_seen e)) (is_eq (key_cmp (t, q) e.0)) refl (at_page t q e) (found_in t q es)
   where
-    go : (b c : Bool) → is_at_page t q (translation_seen e) ≡ b → is_at_page t q (translation_seen e) ≡ c → find_by (is_at_page t q) (seen es) ≡ found_seen t q (find key_cmp (t, q) es)
+    go : (b c : Bool) → is_at_page t q (translation_seen e) ≡ b → is_at_page t q (translation_seen e) ≡ c → find_by (is_at_page t q) (seen es)
+        ≡ found_seen t q (find key_cmp (t, q) es)
         → cond b (Some (translation_seen e)) (find_by (is_at_page t q) (seen es)) ≡ found_seen t q (cond c (Some e.1) (find key_cmp (t, q) es))
     go true true h k rest = ap Some (same_key t q e h)
     go false false h k rest = rest
@@ -87,7 +88,8 @@ kept_where : (p : Key → Bool) (r : TranslationWire → Bool) → ((e : Entry) 
 kept_where p r h [] = refl
 kept_where p r h (e ∷ es) = go (r (translation_seen e)) (p e.0) (h e) (kept_where p r h es)
   where
-    go : (b c : Bool) → b ≡ c → filter r (seen es) ≡ seen (where_key key_cmp p es) → cond b (translation_seen e ∷ filter r (seen es)) (filter r (seen es)) ≡ seen (cond c (e ∷ where_key key_cmp p es) (where_key key_cmp p es))
+    go : (b c : Bool) → b ≡ c → filter r (seen es) ≡ seen (where_key key_cmp p es)
+        → cond b (translation_seen e ∷ filter r (seen es)) (filter r (seen es)) ≡ seen (cond c (e ∷ where_key key_cmp p es) (where_key key_cmp p es))
     go true true k rest = ap (λ l. translation_seen e ∷ l) rest
     go false false k rest = rest
     go true false k rest = absurd (cc (k))
@@ -144,7 +146,8 @@ first_of t q v [] h = refl
 first_of t q v (e ∷ es) h =
     let both = less_both (is_lt (key_cmp (t, q) e.0)) (below_all key_cmp (t, q) es) h in
     let here : is_before (translation_seen e) (translation_seen ((t, q), v)) ≡ false = before t q v e ∙ ap is_gt (is_less (key_cmp (t, q) e.0) both.0) in
-    ap (λ (b : Bool). cond b (translation_seen e ∷ insert_by is_before (translation_seen ((t, q), v)) (seen es)) (translation_seen ((t, q), v) ∷ translation_seen e ∷ seen es)) here
+    ap (λ (b : Bool). cond b (translation_seen e ∷ insert_by is_before (translation_seen ((t, q), v)) (seen es)) (translation_seen ((t, q), v)
+    ∷ translation_seen e ∷ seen es)) here
 
 and_both : (a b : Bool) → T (a && b) → T a × T b
 and_both true b h = (tt, h)
@@ -153,7 +156,8 @@ and_both false b h = absurd h
 -- the entry comes first, in place of the first one, or behind it
 abbrev PutFirst : (t q : ℕ) → Translation → Entry → List Entry → Ordering → Type 0
 PutFirst t q v e es o =
-    seen (by_order o (((t, q), v) ∷ e ∷ es) ((e.0, v) ∷ es) (e ∷ put key_cmp (t, q) v es)) ≡ kept (translation_seen ((t, q), v)) (translation_seen e ∷ seen es)
+    seen (by_order o (((t, q), v) ∷ e ∷ es) ((e.0, v) ∷ es) (e ∷ put key_cmp (t, q) v es))
+    ≡ kept (translation_seen ((t, q), v)) (translation_seen e ∷ seen es)
 
 put_first : (t q : ℕ) (v : Translation) (e : Entry) (es : List Entry) → T (below_all key_cmp e.0 es) → (o : Ordering) → key_cmp (t, q) e.0 ≡ o
     → seen (put key_cmp (t, q) v es) ≡ kept (translation_seen ((t, q), v)) (seen es) → PutFirst t q v e es o
@@ -165,7 +169,8 @@ put_first t q v e es above Equal h rest =
     let below : T (below_all key_cmp (t, q) es) = subst (λ k. T (below_all key_cmp k es)) (sym same) above in
     let here : is_at_page t q (translation_seen e) ≡ true = at_page t q e ∙ ap is_eq h in
     sym
-    (ap (λ (b : Bool). insert_by is_before (translation_seen ((t, q), v)) (cond (not b) (translation_seen e ∷ filter (elsewhere t q) (seen es)) (filter (elsewhere t q) (seen es)))) here
+    (ap (λ (b : Bool). insert_by is_before (translation_seen ((t, q), v))
+    (cond (not b) (translation_seen e ∷ filter (elsewhere t q) (seen es)) (filter (elsewhere t q) (seen es)))) here
     ∙ ap (insert_by is_before (translation_seen ((t, q), v))) (none_there t q es below)
     ∙ first_of t q v es below
     ∙ ap (λ k. translation_seen (k, v) ∷ seen es) same)
@@ -211,13 +216,15 @@ all_others t q (e ∷ es) h =
 -- with the first one, by how its key compares
 abbrev Counted : (t q : ℕ) → Entry → List Entry → Ordering → Type 0
 Counted t q e es o =
-    (if not (is_eq o) then 1 else 0) + count_by (is_other t q) (seen es) + one_if (is_some (cond (is_eq o) (Some e.1) (find key_cmp (t, q) es))) ≡ length (e ∷ es)
+    (if not (is_eq o) then 1 else 0) + count_by (is_other t q) (seen es) + one_if (is_some (cond (is_eq o) (Some e.1) (find key_cmp (t, q) es)))
+    ≡ length (e ∷ es)
 
 counted_at : (t q : ℕ) (e : Entry) (es : List Entry) (o : Ordering) → key_cmp (t, q) e.0 ≡ o → Counted t q e es o
     → count_by (is_other t q) (seen (e ∷ es)) + one_if (is_some (find key_cmp (t, q) (e ∷ es))) ≡ length (e ∷ es)
 counted_at t q e es o h k =
     ap (λ n. n + one_if (is_some (find key_cmp (t, q) (e ∷ es)))) (count_first (is_other t q) (translation_seen e) (seen es))
-    ∙ ap (λ (b : Bool). (if not b then 1 else 0) + count_by (is_other t q) (seen es) + one_if (is_some (find key_cmp (t, q) (e ∷ es)))) (at_page t q e ∙ ap is_eq h)
+    ∙ ap (λ (b : Bool). (if not b then 1 else 0) + count_by (is_other t q) (seen es) + one_if (is_some (find key_cmp (t, q) (e ∷ es))))
+    (at_page t q e ∙ ap is_eq h)
     ∙ ap (λ r. (if not (is_eq o) then 1 else 0) + count_by (is_other t q) (seen es) + one_if (is_some (cond (is_eq r) (Some e.1) (find key_cmp (t, q) es)))) h
     ∙ k
 
@@ -243,5 +250,6 @@ room_by others size false h k = grind (arith, nat_tests)
 pub room_is_seen : (cache : Translations) (t q : ℕ) → finite.len cache ≤ 64 → has_room_for cache (t, q) ≡ not (is_full (cache_seen cache) t q)
 room_is_seen cache t q few =
     room_by (count_by (is_other t q) (cache_seen cache)) (finite.len cache) (finite.contains_key cache (t, q))
-    (ap (λ o. count_by (is_other t q) (cache_seen cache) + one_if (is_some o)) (finite.get-entries cache (t, q)) ∙ others_in t q (finite.entries cache) (entries_sorted cache) ∙ sym (finite.len-entries cache))
+    (ap (λ o. count_by (is_other t q) (cache_seen cache) + one_if (is_some o)) (finite.get-entries cache (t, q))
+    ∙ others_in t q (finite.entries cache) (entries_sorted cache) ∙ sym (finite.len-entries cache))
     few

@@ -1,6 +1,7 @@
 -- Completions of invalidations, seen: by the bits of an ITag Vector.
 use Rattle.std.proofs.Common.{◌≡◌, refl, ap, sym, ◌∙◌, ℕ, zero, suc, ◌+◌, ◌<◌, ◌^◌, Bool, true, false, arith}
-use Rattle.std.specs.Prelude.{◌&&◌, ◌||◌, not, ◌==◌, nat_lt, nat_le, if◌then◌else◌, is_some, is_none, Option, Some, None, option_map, List, [], ◌∷◌, ◌++◌, map, length, slice_index_or}
+use Rattle.std.specs.Prelude.{◌&&◌, ◌||◌, not, ◌==◌, nat_lt, nat_le, if◌then◌else◌, is_some, is_none, Option, Some, None, option_map, List, [], ◌∷◌, ◌++◌}
+use Rattle.std.specs.Prelude.{map, length, slice_index_or}
 use Rattle.std.specs.Int.{bit_at}
 use Rattle.std.specs.List.{list_any, list_all, enumerate_from}
 use Rattle.std.proofs.lemmas.Bool.Decides.{nat_tests}
@@ -57,7 +58,9 @@ any_numbered p n [] = refl
 any_numbered p n (x ∷ xs) =
     let first : n ≡ n + 0 = omega arith in
     (λ i. p (first i) x || any_numbered p (n + 1) xs i)
-    ∙ ap (λ (b : Bool). p (n + 0) x || b) (any_same (length xs) (λ k. p (n + 1 + k) (slice_index_or xs k None)) (λ k. p (n + suc k) (slice_index_or xs k None)) (λ k. ap (λ m. p m (slice_index_or xs k None)) (shifted n k)))
+    ∙ ap (λ (b : Bool). p (n + 0) x || b)
+    (any_same (length xs) (λ k. p (n + 1 + k) (slice_index_or xs k None)) (λ k. p (n + suc k) (slice_index_or xs k None))
+    (λ k. ap (λ m. p m (slice_index_or xs k None)) (shifted n k)))
     ∙ sym (any_front (length xs) (λ k. p (n + k) (slice_index_or (x ∷ xs) k None)))
 
 map_numbered : {A B : Type 0} (f : ℕ → Option A → B) (n : ℕ) (xs : List (Option A))
@@ -67,7 +70,9 @@ map_numbered f n [] = refl
 map_numbered f n (x ∷ xs) =
     let first : n ≡ n + 0 = omega arith in
     (λ i. f (first i) x ∷ map_numbered f (n + 1) xs i)
-    ∙ ap (λ l. f (n + 0) x ∷ l) (tabulate_same (length xs) (λ k. f (n + 1 + k) (slice_index_or xs k None)) (λ k. f (n + suc k) (slice_index_or xs k None)) (λ k l. ap (λ m. f m (slice_index_or xs k None)) (shifted n k)))
+    ∙ ap (λ l. f (n + 0) x ∷ l)
+    (tabulate_same (length xs) (λ k. f (n + 1 + k) (slice_index_or xs k None)) (λ k. f (n + suc k) (slice_index_or xs k None))
+    (λ k l. ap (λ m. f m (slice_index_or xs k None)) (shifted n k)))
     ∙ sym (tabulate_front (length xs) (λ k. f (n + k) (slice_index_or (x ∷ xs) k None)))
 
 none_before : (k : ℕ) → 0 + k ≡ k
@@ -77,13 +82,15 @@ any_at : {A : Type 0} (p : ℕ → Option A → Bool) (xs : List (Option A))
     → list_any (λ place. p place.0 place.1) (enumerate_from 0 xs) ≡ any_below (length xs) (λ k. p k (slice_index_or xs k None))
 any_at p xs =
     any_numbered p 0 xs
-    ∙ any_same (length xs) (λ k. p (0 + k) (slice_index_or xs k None)) (λ k. p k (slice_index_or xs k None)) (λ k. ap (λ m. p m (slice_index_or xs k None)) (none_before k))
+    ∙ any_same (length xs) (λ k. p (0 + k) (slice_index_or xs k None)) (λ k. p k (slice_index_or xs k None))
+    (λ k. ap (λ m. p m (slice_index_or xs k None)) (none_before k))
 
 map_at : {A B : Type 0} (f : ℕ → Option A → B) (xs : List (Option A))
     → map (λ place. f place.0 place.1) (enumerate_from 0 xs) ≡ tabulate (length xs) (λ k. f k (slice_index_or xs k None))
 map_at f xs =
     map_numbered f 0 xs
-    ∙ tabulate_same (length xs) (λ k. f (0 + k) (slice_index_or xs k None)) (λ k. f k (slice_index_or xs k None)) (λ k l. ap (λ m. f m (slice_index_or xs k None)) (none_before k))
+    ∙ tabulate_same (length xs) (λ k. f (0 + k) (slice_index_or xs k None)) (λ k. f k (slice_index_or xs k None))
+    (λ k l. ap (λ m. f m (slice_index_or xs k None)) (none_before k))
 
 -- The tests of a vector.
 
@@ -140,9 +147,11 @@ waits_seen (Some taken) = refl
 at_itag : (s : Tables) (t : ℕ) → taken_at (device_seen s) t ≡ option_map taken_seen (slice_index_or s.taken t None)
 at_itag s t = seen_at (option_map taken_seen) s.taken t None
 
-pending_seen : (s : Tables) (v : ℕ) → length s.taken ≡ 32 → not (are_pending v s.taken) ≡ any_below 32 (λ t. is_set v t && is_none (taken_at (device_seen s) t))
+pending_seen : (s : Tables) (v : ℕ) → length s.taken ≡ 32 → not (are_pending v s.taken)
+    ≡ any_below 32 (λ t. is_set v t && is_none (taken_at (device_seen s) t))
 pending_seen s v h =
-    not_all (λ place. not (is_named v place.0) || is_some place.1) (λ place. is_named v place.0 && is_none place.1) (λ place. missing (is_named v place.0) place.1) (enumerate_from 0 s.taken)
+    not_all (λ place. not (is_named v place.0) || is_some place.1) (λ place. is_named v place.0 && is_none place.1)
+    (λ place. missing (is_named v place.0) place.1) (enumerate_from 0 s.taken)
     ∙ any_at (λ t o. is_named v t && is_none o) s.taken
     ∙ ap (λ n. any_below n (λ t. is_named v t && is_none (slice_index_or s.taken t None))) h
     ∙ any_same 32 (λ t. is_named v t && is_none (slice_index_or s.taken t None)) (λ t. is_set v t && is_none (taken_at (device_seen s) t))
@@ -168,7 +177,8 @@ left_seen s v h =
     map_twice (λ place. if is_named v place.0 then None else place.1) (option_map taken_seen) (enumerate_from 0 s.taken)
     ∙ map_at (λ t o. option_map taken_seen (if is_named v t then None else o)) s.taken
     ∙ ap (λ n. tabulate n (λ t. option_map taken_seen (if is_named v t then None else slice_index_or s.taken t None))) h
-    ∙ tabulate_same 32 (λ t. option_map taken_seen (if is_named v t then None else slice_index_or s.taken t None)) (λ t. if is_set v t then None else taken_at (device_seen s) t)
+    ∙ tabulate_same 32 (λ t. option_map taken_seen (if is_named v t then None else slice_index_or s.taken t None))
+    (λ t. if is_set v t then None else taken_at (device_seen s) t)
     (λ t l. unnamed_seen (is_named v t) (slice_index_or s.taken t None) ∙ ap (λ o. if is_set v t then None else o) (sym (at_itag s t)))
 
 pub finish_is_seen : (s : Tables) (v n : ℕ) → v < 2 ^ 32 → IsSound s → FinishIsSeen s v n

@@ -122,7 +122,8 @@ kept_by s tag f t q x false true k =
 kept_by s tag f t q x false false k = absurd (cc (k))
 
 after_at : (s : Tables) (tag f : ℕ) (read x : Bool) (p : RequestTag) → request_at s.tags tag ≡ p → IsSound s
-    → device_seen (record s { cache = cache_after s.cache f read x p; tags = slice_set s.tags tag Free }) ≡ completed (device_seen s) tag f read x (tag_seen p)
+    → device_seen (record s { cache = cache_after s.cache f read x p; tags = slice_set s.tags tag Free })
+    ≡ completed (device_seen s) tag f read x (tag_seen p)
 after_at s tag f read x Free k h =
     ap (λ r. device_seen (record s { tags = slice_set s.tags tag r })) (sym k)
     ∙ ap (λ tags. device_seen (record s { tags = tags })) (set-get_or s.tags tag Free)

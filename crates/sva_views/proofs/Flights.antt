@@ -11,7 +11,8 @@ use Rattle.sva_model.specs.Wire.{FlightWire}
 use Rattle.sva_labels.specs.Finding as finding
 use Rattle.sva_msg.specs.declared.messages.Message.{Message}
 use Rattle.sva_msg.specs.declared.messages.Kind.{Kind}
-use Rattle.sva_msg.specs.declared.messages.Kind.TheVariants.{Start, Stop, Reset, Completion, Invalidate, Response, Request, Invalidated, PageRequest, Marker, ResetDone}
+use Rattle.sva_msg.specs.declared.messages.Kind.TheVariants.{Start, Stop, Reset, Completion, Invalidate, Response, Request, Invalidated, PageRequest}
+use Rattle.sva_msg.specs.declared.messages.Kind.TheVariants.{Marker, ResetDone}
 use Rattle.sva_msg.specs.Kind.{sort_of}
 use Rattle.sva_msg.specs.Bag.{InFlight, AreNumbered, MayDeliver, copies_of, must_follow}
 use Rattle.sva_msg.proofs.Deliverable.{any_older, may_deliver-is}
@@ -104,7 +105,8 @@ left_in : (n low high : ℕ) (es : List Entry) → AreNumbered low high es → s
 left_in n low high [] h = refl
 left_in n low high (e ∷ es) h =
     go (nat_eq n e.0) refl (left_in n (e.0 + 1) high es h.1)
-    ∙ ap (λ (b : Bool). cond (not b) (flight_seen e ∷ filter (λ f. not (f.number == n)) (seen es)) (filter (λ f. not (f.number == n)) (seen es))) (sym (flipped n e.0))
+    ∙ ap (λ (b : Bool). cond (not b) (flight_seen e ∷ filter (λ f. not (f.number == n)) (seen es)) (filter (λ f. not (f.number == n)) (seen es)))
+    (sym (flipped n e.0))
   where
     above : nat_eq n e.0 ≡ true → n < e.0 + 1
     above k = let same : e.0 ≡ n = same_of n e.0 k in omega (arith, same)

@@ -109,10 +109,15 @@ more_seen t last (Out u n) h = absurd (cc (h))
 more_seen t last (Stale u n) h = absurd (cc (h))
 
 faulted_seen : (s : Tables) (fault : Fault) (group : Option ℕ) → is_other_group (device_seen s) fault.pasid group ≡ false
-    → device_seen (record s { groups = slice_set s.groups (index_for s group) (group_after s fault group) }) ≡ faulted (device_seen s) fault group (index_for s group)
+    → device_seen (record s { groups = slice_set s.groups (index_for s group) (group_after s fault group) })
+    ≡ faulted (device_seen s) fault group (index_for s group)
 faulted_seen s fault None h =
     let i = index_for s None in
-    λ k. record (device_seen s) { groups = (map-set group_seen s.groups i (group_of fault.pasid 1 fault.last) ∙ ap (slice_set (map group_seen s.groups) i) (begun_seen fault.pasid fault.last)) k }
+    λ k. record (device_seen s) {
+      groups =
+          (map-set group_seen s.groups i (group_of fault.pasid 1 fault.last)
+          ∙ ap (slice_set (map group_seen s.groups) i) (begun_seen fault.pasid fault.last)) k;
+    }
 faulted_seen s fault (Some i) h =
     let own = group_at s.groups i in
     let more : group_seen (with_request fault.last own) ≡ moves.with_request fault.last (finding.group_at (device_seen s) i) =
@@ -136,7 +141,9 @@ fault_is_seen s fault h =
           ∷ (other i, refusal.NoSuchGroup)
           ∷ (not s.enabled, refusal.PriDisabled)
           ∷ [];
-      index = λ less. lowest ∙ place_there is_free s.groups (some_there (position is_free s.groups) (h.index (fewer (outstanding s.groups) (finding.outstanding (device_seen s).groups) few less)));
+      index = λ less. lowest
+          ∙ place_there is_free s.groups
+          (some_there (position is_free s.groups) (h.index (fewer (outstanding s.groups) (finding.outstanding (device_seen s).groups) few less)));
       after = faulted_seen s fault fault.group;
     }
   where

@@ -54,7 +54,8 @@ module _ (workers : ℕ) (s : Service) (worker : ℕ) (job : Job) (k : IsSound w
       same_tests (is_of_job (job_seen job) (group_seen g)) (g.serial == job.serial)
       (λ h.
       let b = both_of (g.binding == job.binding) (g.index == job.index) h in
-      let named : IsNamed g job = record { units = same_of g.unit job.unit u; bindings = same_of g.binding job.binding b.0; indexes = same_of g.index job.index b.1 } in
+      let named : IsNamed g job =
+      record { units = same_of g.unit job.unit u; bindings = same_of g.binding job.binding b.0; indexes = same_of g.index job.index b.1 } in
       equals g.serial job.serial (k.own job g (inr (worker, held)) m named))
       (λ h.
       let n : IsNamed g job = (kept_job g m (same_of g.serial job.serial h)).named in

@@ -9,11 +9,13 @@ use Rattle.sva_prq.specs.Groups.{OpenGroup, is_unfinished, new_group, with_reque
 use Rattle.sva_prq.proofs.Tests.{Same, unfinished_name, unfinished_part}
 use Rattle.sva_service.specs.Service.{Service, filed}
 use Rattle.sva_views.specs.Service.{job_seen, jobs_seen}
-use Rattle.sva_views.specs.ServiceLaws.{IsIn, IsKept, AreRising, AreNamesakes, IsNamed, IsWhole, IsSound, is_with, holds, jobs_with, is_job_of, HasNoJob, BeginsAnew, SoundIsKept}
+use Rattle.sva_views.specs.ServiceLaws.{IsIn, IsKept, AreRising, AreNamesakes, IsNamed, IsWhole, IsSound, is_with, holds, jobs_with, is_job_of, HasNoJob}
+use Rattle.sva_views.specs.ServiceLaws.{BeginsAnew, SoundIsKept}
 use Rattle.sva_views.proofs.ServiceJobs.{held_at}
 use Rattle.sva_views.proofs.ServiceCounts.{count_append, count_cons, count_none, held_none}
 use Rattle.sva_views.proofs.ServiceLists.{same_of, differs, in_append, left_in, right_in, in_any, mapped_in, rising_between, one_of_serial}
-use Rattle.sva_views.proofs.ServiceFiled.{FiledFrom, Old, Joined, Begun, unfinished_from, begun_seen, in_filed, chosen, chosen_filed, chosen_in, chosen_new, chosen_named, chosen_asks, next_more, rising_filed}
+use Rattle.sva_views.proofs.ServiceFiled.{FiledFrom, Old, Joined, Begun, unfinished_from, begun_seen, in_filed, chosen, chosen_filed, chosen_in}
+use Rattle.sva_views.proofs.ServiceFiled.{chosen_new, chosen_named, chosen_asks, next_more, rising_filed}
 use Rattle.sva_views.proofs.ServiceSound.{first_sound, reserved_sound, taken_sound, answered_sound, reset_sound}
 
 job_by : (x u y b z i : ℕ) → x ≡ u → y ≡ b → z ≡ i → ((x == u && y == b) && z == i) ≡ true

@@ -60,7 +60,8 @@ open_is_seen s p unit binding h alone = go s.groups alone ∙ ap (list_any (of_b
             → (g.binding == binding || list_any (is_of_binding binding) gs)
             ≡ list_any (of_binding binding) (map group_seen (cond b (g ∷ filter (is_of_unit unit) gs) (filter (is_of_unit unit) gs)))
         at true k later = ap (λ t. g.binding == binding || t) later
-        at false k later = ap (λ t. t || list_any (is_of_binding binding) gs) (here g gs (g.unit == g.unit) (equal g.unit g.unit refl) (alone g.unit k)) ∙ later
+        at false k later = ap (λ t. t || list_any (is_of_binding binding) gs)
+            (here g gs (g.unit == g.unit) (equal g.unit g.unit refl) (alone g.unit k)) ∙ later
 
 -- A page request is filed.
 
@@ -180,7 +181,8 @@ none_of_unit u (g ∷ gs) = go (g.unit == u) refl (none_of_unit u gs)
         → of_unit u (cond (not b) (g ∷ filter (is_of_other_unit u) gs) (filter (is_of_other_unit u) gs)) ≡ []
     go true k later = later
     go false k later =
-        ap (λ t. map group_seen (cond t (g ∷ filter (is_of_unit u) (filter (is_of_other_unit u) gs)) (filter (is_of_unit u) (filter (is_of_other_unit u) gs)))) k
+        ap (λ t. map group_seen
+        (cond t (g ∷ filter (is_of_unit u) (filter (is_of_other_unit u) gs)) (filter (is_of_unit u) (filter (is_of_other_unit u) gs)))) k
         ∙ later
 
 pub others_of_unit : (u e : ℕ) → (e == u) ≡ false → (gs : List OpenGroup) → of_unit e (filter (is_of_other_unit u) gs) ≡ of_unit e gs

@@ -1,6 +1,7 @@
 -- Jobs and hands, seen, and the calls of the service that ask for no more than they are.
 use Rattle.std.proofs.Common.{◌≡◌, refl, ap, sym, ◌∙◌, ℕ, zero, suc, ◌<◌, Bool, true, false, arith}
-use Rattle.std.specs.Prelude.{◌==◌, not, if◌then◌else◌, Option, Some, None, option_map, option_to_list, List, [], ◌∷◌, ◌++◌, map, find, take, drop, slice_get, slice_index_or, slice_set}
+use Rattle.std.specs.Prelude.{◌==◌, not, if◌then◌else◌, Option, Some, None, option_map, option_to_list, List, [], ◌∷◌, ◌++◌, map, find, take, drop}
+use Rattle.std.specs.Prelude.{slice_get, slice_index_or, slice_set}
 use Rattle.std.proofs.lemmas.List.{map-append, map-set, length-map, append-nil}
 use Rattle.sva_model.specs.Wire.{PartWire, JobWire}
 use Rattle.sva_labels.specs.Moves.{is_begun}

@@ -39,7 +39,13 @@ read_only_seen t q None = refl
 read_only_seen t q (Some v) = refl
 
 there_seen : (t q : ℕ) (o : Option Translation) → is_none (found_seen t q o) ≡ false
-    → found_seen t q o ≡ Some (record { pasid = t; page = q; frame = (unwrap_or o (record { frame = 0; write = false })).frame; write = (unwrap_or o (record { frame = 0; write = false })).write })
+    → found_seen t q o ≡ Some (record {
+      pasid = t;
+      page = q;
+      frame = (unwrap_or o (record { frame = 0; write = false })).frame;
+      write =
+          (unwrap_or o (record { frame = 0; write = false })).write;
+    })
 there_seen t q None h = absurd (cc (h))
 there_seen t q (Some v) h = refl
 

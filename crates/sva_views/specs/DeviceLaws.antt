@@ -1,6 +1,7 @@
 -- What an endpoint refuses, gives out and keeps is what the definitions by labels say of its device. `IsSound` holds of an
 -- endpoint after every list of permitted calls.
-use Rattle.std.specs.Prelude.{◌≡◌, ℕ, ◌<◌, ◌^◌, Bool, true, false, ◌&&◌, ◌||◌, not, nat_le, if◌then◌else◌, is_none, Option, Some, None, [], ◌∷◌, map, filter, slice_set}
+use Rattle.std.specs.Prelude.{◌≡◌, ℕ, ◌<◌, ◌^◌, Bool, true, false, ◌&&◌, ◌||◌, not, nat_le, if◌then◌else◌, is_none, Option, Some, None, [], ◌∷◌, map}
+use Rattle.std.specs.Prelude.{filter, slice_set}
 use Rattle.sva_step.specs.declared.answers.Answer.{Answer}
 use Rattle.sva_step.specs.declared.answers.Answer.TheVariants as answer
 use Rattle.sva_step.specs.declared.refusals.Refusal.TheVariants as refusal
@@ -22,7 +23,9 @@ use Rattle.sva_cache.specs.declared.coverage.Invalidation.{Invalidation}
 use Rattle.sva_tables.specs.UseSlots.{slot_at}
 use Rattle.sva_endpoint.specs.declared.permitted.Fault.{Fault}
 use Rattle.sva_endpoint.specs.Tables.{Tables}
-use Rattle.sva_endpoint.specs.Steps.{refusals_of_ask, lowest_tag, after_ask, refusals_of_use, lowest_slot, translation_at, after_begin_use, refusals_of_end, end_of, after_end_use, refusals_of_evict, after_evict, refusals_of_fault, index_for, after_fault, refusals_of_finish, after_finish, refusals_of_quit, after_quit}
+use Rattle.sva_endpoint.specs.Steps.{refusals_of_ask, lowest_tag, after_ask, refusals_of_use, lowest_slot, translation_at, after_begin_use}
+use Rattle.sva_endpoint.specs.Steps.{refusals_of_end, end_of, after_end_use, refusals_of_evict, after_evict, refusals_of_fault, index_for, after_fault}
+use Rattle.sva_endpoint.specs.Steps.{refusals_of_finish, after_finish, refusals_of_quit, after_quit}
 use Rattle.sva_endpoint.specs.Deliveries.{after_receive, answer_to, after_invalidate, is_failure}
 use Rattle.sva_endpoint.specs.Laws.{IsSound}
 use Rattle.sva_views.specs.Device.{device_seen, extent_seen}

@@ -3,7 +3,8 @@ use Rattle.std.specs.Prelude.{◌≡◌, ◌↔◌, ℕ, ◌+◌, false, ◌==�
 use Rattle.std.specs.List.{list_any}
 use Rattle.sva_model.specs.Words.{tabulate}
 use Rattle.sva_model.specs.Message.{Message, Scope as MessageScope, Code as MessageCode}
-use Rattle.sva_model.specs.Message.Message.{StartMessage, StopMessage, ResetMessage, CompletionMessage, InvalidateMessage, ResponseMessage, RequestMessage, InvalidatedMessage, PageRequestMessage, MarkerMessage, ResetDoneMessage}
+use Rattle.sva_model.specs.Message.Message.{StartMessage, StopMessage, ResetMessage, CompletionMessage, InvalidateMessage, ResponseMessage, RequestMessage}
+use Rattle.sva_model.specs.Message.Message.{InvalidatedMessage, PageRequestMessage, MarkerMessage, ResetDoneMessage}
 use Rattle.sva_model.specs.Message.Scope.{Coded, Everything}
 use Rattle.sva_model.specs.Message.Code.{SuccessCode, InvalidCode, FailureCode}
 use Rattle.sva_model.specs.Wire.{FlightWire}
@@ -14,7 +15,8 @@ use Rattle.sva_msg.specs.declared.messages.Scope.TheVariants as scope
 use Rattle.sva_msg.specs.declared.messages.Code.{Code}
 use Rattle.sva_msg.specs.declared.messages.Code.TheVariants.{Success, InvalidRequest, ResponseFailure}
 use Rattle.sva_msg.specs.declared.messages.Kind.{Kind}
-use Rattle.sva_msg.specs.declared.messages.Kind.TheVariants.{Start, Stop, Reset, Completion, Invalidate, Response, Request, Invalidated, PageRequest, Marker, ResetDone}
+use Rattle.sva_msg.specs.declared.messages.Kind.TheVariants.{Start, Stop, Reset, Completion, Invalidate, Response, Request, Invalidated, PageRequest}
+use Rattle.sva_msg.specs.declared.messages.Kind.TheVariants.{Marker, ResetDone}
 use Rattle.sva_msg.specs.Bag.{InFlight, IsNumbered, MayDeliver, message_at, with_sent, without}
 
 abbrev pub scope_seen : Scope → MessageScope

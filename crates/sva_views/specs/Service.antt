@@ -1,5 +1,6 @@
 -- How the service of page requests is seen by the definitions by labels, and what is looked up and changed there.
-use Rattle.std.specs.Prelude.{◌≡◌, ℕ, ◌<◌, false, ◌==◌, not, if◌then◌else◌, Option, Some, None, option_map, List, [], ◌∷◌, ◌++◌, map, filter, take, drop, length, slice_index_or, slice_set}
+use Rattle.std.specs.Prelude.{◌≡◌, ℕ, ◌<◌, false, ◌==◌, not, if◌then◌else◌, Option, Some, None, option_map, List, [], ◌∷◌, ◌++◌, map, filter, take, drop}
+use Rattle.std.specs.Prelude.{length, slice_index_or, slice_set}
 use Rattle.std.specs.List.{list_any}
 use Rattle.sva_model.specs.Wire.{AskWire, PageRequestWire, HostGroupWire, PartWire, JobWire}
 use Rattle.sva_labels.specs.Finding.{has_open_group}

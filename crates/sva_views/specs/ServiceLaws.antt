@@ -1,6 +1,7 @@
 -- When the service of page requests is sound, that each of its calls keeps it so, and what an answered job leaves of the open
 -- groups, as the definitions by labels say it.
-use Rattle.std.specs.Prelude.{◌≡◌, ◌⊎◌, ℕ, ◌+◌, ◌<◌, ◌≤◌, Bool, true, false, ◌==◌, ◌&&◌, not, Option, Some, None, List, [], ◌∷◌, ◌^◌, filter, find, length, slice_index_or, slice_set}
+use Rattle.std.specs.Prelude.{◌≡◌, ◌⊎◌, ℕ, ◌+◌, ◌<◌, ◌≤◌, Bool, true, false, ◌==◌, ◌&&◌, not, Option, Some, None, List, [], ◌∷◌, ◌^◌, filter, find, length}
+use Rattle.std.specs.Prelude.{slice_index_or, slice_set}
 use Rattle.std.specs.List.{count_by, list_any}
 use Rattle.sva_model.specs.Wire.{PartWire, JobWire}
 use Rattle.sva_labels.specs.Moves.{is_begun, is_of_job}

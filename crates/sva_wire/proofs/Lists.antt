@@ -48,14 +48,16 @@ unfolding tabulate
 tabulate_set zero g h f v here other = sym (set_past [] f v (omega arith))
 tabulate_set (suc n) g h f v here other = go (ℕ_cases f n) (tabulate_set n g h f v here other)
   where
-    below_or_past : f ≢ n → tabulate n h ≡ slice_set (tabulate n g) f v → (f < n) ⊎ (n < f) → tabulate n h ++ h n ∷ [] ≡ slice_set (tabulate n g ++ g n ∷ []) f v
+    below_or_past : f ≢ n → tabulate n h ≡ slice_set (tabulate n g) f v → (f < n) ⊎ (n < f) → tabulate n h ++ h n ∷ []
+        ≡ slice_set (tabulate n g ++ g n ∷ []) f v
     below_or_past ne rest (inl l) =
         let len : length (tabulate n g) ≡ n = tabulate_length n g in
         ap₂ (λ xs x. xs ++ x ∷ []) rest (other n (omega arith)) ∙ sym (set-append_left (tabulate n g) (g n ∷ []) f v (omega arith))
     below_or_past ne rest (inr l) =
         let len : length (tabulate n g) ≡ n = tabulate_length n g in
         let more : length (tabulate n g ++ g n ∷ []) ≡ n + 1 = length-append (tabulate n g) (g n ∷ []) ∙ omega arith in
-        ap₂ (λ xs x. xs ++ x ∷ []) (tabulate_same n h g (λ k m. other k (omega arith))) (other n (omega arith)) ∙ sym (set_past (tabulate n g ++ g n ∷ []) f v (omega arith))
+        ap₂ (λ xs x. xs ++ x ∷ []) (tabulate_same n h g (λ k m. other k (omega arith))) (other n (omega arith))
+        ∙ sym (set_past (tabulate n g ++ g n ∷ []) f v (omega arith))
 
     go : (f ≡ n) ⊎ (f ≢ n) → tabulate n h ≡ slice_set (tabulate n g) f v → tabulate n h ++ h n ∷ [] ≡ slice_set (tabulate n g ++ g n ∷ []) f v
     go (inl e) rest =
@@ -75,7 +77,8 @@ unfolding select count_below
 select_length zero p = refl
 select_length (suc n) p = go (p n) (select_length n p)
   where
-    go : (b : Bool) → length (select n p) ≡ count_below n p → length (select n p ++ (if b then n ∷ [] else [])) ≡ (if b then suc (count_below n p) else count_below n p)
+    go : (b : Bool) → length (select n p) ≡ count_below n p → length (select n p ++ (if b then n ∷ [] else []))
+        ≡ (if b then suc (count_below n p) else count_below n p)
     go true h = length-append (select n p) (n ∷ []) ∙ omega (arith, h)
     go false h = length-append (select n p) [] ∙ omega (arith, h)
 
@@ -126,7 +129,8 @@ one_more l n b false h = go (next h)
 differ : (n : ℕ) → (0 == suc n) ≡ false
 differ n = grind (arith, nat_tests)
 
-lowest_free_push : (xs : List PlaceWire) (x : PlaceWire) → lowest_free (xs ++ x ∷ []) ≡ step_lowest (lowest_free xs == length xs) (lowest_free xs) (length xs) (is_free x)
+lowest_free_push : (xs : List PlaceWire) (x : PlaceWire) → lowest_free (xs ++ x ∷ [])
+    ≡ step_lowest (lowest_free xs == length xs) (lowest_free xs) (length xs) (is_free x)
 lowest_free_push [] x = go (is_free x)
   where
     go : (b : Bool) → (if b then 0 else 1 + 0) ≡ step_lowest true 0 0 b
@@ -134,7 +138,9 @@ lowest_free_push [] x = go (is_free x)
     go false = refl
 lowest_free_push (y ∷ ys) x = go (is_free y) (lowest_free_push ys x)
   where
-    go : (b : Bool) → lowest_free (ys ++ x ∷ []) ≡ step_lowest (lowest_free ys == length ys) (lowest_free ys) (length ys) (is_free x) → (if b then 0 else 1 + lowest_free (ys ++ x ∷ [])) ≡ step_lowest ((if b then 0 else 1 + lowest_free ys) == suc (length ys)) (if b then 0 else 1 + lowest_free ys) (suc (length ys)) (is_free x)
+    go : (b : Bool) → lowest_free (ys ++ x ∷ []) ≡ step_lowest (lowest_free ys == length ys) (lowest_free ys) (length ys) (is_free x)
+        → (if b then 0 else 1 + lowest_free (ys ++ x ∷ []))
+        ≡ step_lowest ((if b then 0 else 1 + lowest_free ys) == suc (length ys)) (if b then 0 else 1 + lowest_free ys) (suc (length ys)) (is_free x)
     go true h = sym (ap (λ t. step_lowest t 0 (suc (length ys)) (is_free x)) (differ (length ys)))
     go false h =
         let more : suc (lowest_free ys) ≡ 1 + lowest_free ys = omega arith in

@@ -69,21 +69,29 @@ insert_low a [] h = refl
 insert_low a (x ∷ xs) h = ap (λ b. if b then x ∷ insert_by is_lower_page a xs else a ∷ x ∷ xs) (is_not_lower x.page a.page h.0)
 
 -- an insertion, and then what is kept
-pub filter_insert : (keeps : PageWire → Bool) (a : PageWire) (xs : List PageWire) → IsRising xs → filter keeps (insert_by is_lower_page a xs) ≡ (if keeps a then insert_by is_lower_page a (filter keeps xs) else filter keeps xs)
+pub filter_insert : (keeps : PageWire → Bool) (a : PageWire) (xs : List PageWire) → IsRising xs → filter keeps (insert_by is_lower_page a xs)
+    ≡ (if keeps a then insert_by is_lower_page a (filter keeps xs) else filter keeps xs)
 filter_insert keeps a [] h = refl
 filter_insert keeps a (x ∷ xs) h = go (is_lower_page x a) refl (filter_insert keeps a xs h.1)
   where
-    behind : (k : Bool) → is_lower_page x a ≡ true → (j : Bool) → filter keeps (insert_by is_lower_page a xs) ≡ (if j then insert_by is_lower_page a (filter keeps xs) else filter keeps xs) → (if k then x ∷ filter keeps (insert_by is_lower_page a xs) else filter keeps (insert_by is_lower_page a xs)) ≡ (if j then insert_by is_lower_page a (if k then x ∷ filter keeps xs else filter keeps xs) else (if k then x ∷ filter keeps xs else filter keeps xs))
+    behind : (k : Bool) → is_lower_page x a ≡ true → (j : Bool) → filter keeps (insert_by is_lower_page a xs)
+        ≡ (if j then insert_by is_lower_page a (filter keeps xs) else filter keeps xs)
+        → (if k then x ∷ filter keeps (insert_by is_lower_page a xs) else filter keeps (insert_by is_lower_page a xs))
+        ≡ (if j then insert_by is_lower_page a (if k then x ∷ filter keeps xs else filter keeps xs) else (if k then x ∷ filter keeps xs else filter keeps xs))
     behind true e true rest = ap (λ z. x ∷ z) rest ∙ sym (ap (λ b. if b then x ∷ insert_by is_lower_page a (filter keeps xs) else a ∷ x ∷ filter keeps xs) e)
     behind true e false rest = ap (λ z. x ∷ z) rest
     behind false e true rest = rest
     behind false e false rest = rest
 
-    before : (j : Bool) → a.page ≤ x.page → (if j then a ∷ filter keeps (x ∷ xs) else filter keeps (x ∷ xs)) ≡ (if j then insert_by is_lower_page a (filter keeps (x ∷ xs)) else filter keeps (x ∷ xs))
+    before : (j : Bool) → a.page ≤ x.page → (if j then a ∷ filter keeps (x ∷ xs) else filter keeps (x ∷ xs))
+        ≡ (if j then insert_by is_lower_page a (filter keeps (x ∷ xs)) else filter keeps (x ∷ xs))
     before true l = sym (insert_low a (filter keeps (x ∷ xs)) (all_from_filter a.page keeps (x ∷ xs) (l, all_from_lower a.page x.page xs l h.0)))
     before false l = refl
 
-    go : (b : Bool) → is_lower_page x a ≡ b → filter keeps (insert_by is_lower_page a xs) ≡ (if keeps a then insert_by is_lower_page a (filter keeps xs) else filter keeps xs) → filter keeps (if b then x ∷ insert_by is_lower_page a xs else a ∷ x ∷ xs) ≡ (if keeps a then insert_by is_lower_page a (filter keeps (x ∷ xs)) else filter keeps (x ∷ xs))
+    go : (b : Bool) → is_lower_page x a ≡ b → filter keeps (insert_by is_lower_page a xs)
+        ≡ (if keeps a then insert_by is_lower_page a (filter keeps xs) else filter keeps xs)
+        → filter keeps (if b then x ∷ insert_by is_lower_page a xs else a ∷ x ∷ xs)
+        ≡ (if keeps a then insert_by is_lower_page a (filter keeps (x ∷ xs)) else filter keeps (x ∷ xs))
     go true e rest = behind (keeps x) e (keeps a) rest
     go false e rest = before (keeps a) (not_lower x.page a.page e)
 
@@ -91,7 +99,8 @@ length_insert : (a : PageWire) (xs : List PageWire) → length (insert_by is_low
 length_insert a [] = refl
 length_insert a (x ∷ xs) = go (is_lower_page x a) (length_insert a xs)
   where
-    go : (b : Bool) → length (insert_by is_lower_page a xs) ≡ suc (length xs) → length (if b then x ∷ insert_by is_lower_page a xs else a ∷ x ∷ xs) ≡ suc (suc (length xs))
+    go : (b : Bool) → length (insert_by is_lower_page a xs) ≡ suc (length xs) → length (if b then x ∷ insert_by is_lower_page a xs else a ∷ x ∷ xs)
+        ≡ suc (suc (length xs))
     go true h = omega (arith, h)
     go false h = refl
 
@@ -102,12 +111,14 @@ page_at_insert : (a : PageWire) (xs : List PageWire) (q : ℕ) → page_at (inse
 page_at_insert a [] q = refl
 page_at_insert a (x ∷ xs) q = go (is_lower_page x a) refl (page_at_insert a xs q)
   where
-    behind : (t u : Bool) → (t ≡ true → u ≡ true → ⊥) → page_at (insert_by is_lower_page a xs) q ≡ (if u then Some a else page_at xs q) → (if t then Some x else page_at (insert_by is_lower_page a xs) q) ≡ (if u then Some a else (if t then Some x else page_at xs q))
+    behind : (t u : Bool) → (t ≡ true → u ≡ true → ⊥) → page_at (insert_by is_lower_page a xs) q ≡ (if u then Some a else page_at xs q)
+        → (if t then Some x else page_at (insert_by is_lower_page a xs) q) ≡ (if u then Some a else (if t then Some x else page_at xs q))
     behind true true n rest = absurd (n refl refl)
     behind true false n rest = refl
     behind false u n rest = rest
 
-    go : (b : Bool) → is_lower_page x a ≡ b → page_at (insert_by is_lower_page a xs) q ≡ (if a.page == q then Some a else page_at xs q) → page_at (if b then x ∷ insert_by is_lower_page a xs else a ∷ x ∷ xs) q ≡ (if a.page == q then Some a else page_at (x ∷ xs) q)
+    go : (b : Bool) → is_lower_page x a ≡ b → page_at (insert_by is_lower_page a xs) q ≡ (if a.page == q then Some a else page_at xs q)
+        → page_at (if b then x ∷ insert_by is_lower_page a xs else a ∷ x ∷ xs) q ≡ (if a.page == q then Some a else page_at (x ∷ xs) q)
     go true e rest = behind (x.page == q) (a.page == q) (both_not x.page a.page q e) rest
     go false e rest = refl
 
@@ -118,7 +129,8 @@ unfolding pages_below
 pages_rising w s zero = tt
 pages_rising w s (suc n) = go (is_page_of w.mappings s n) (pages_rising w s n)
   where
-    go : (b : Bool) → IsRising (pages_below w.mappings s n) → IsRising (if b then insert_by is_lower_page (page_wire w.mappings n) (pages_below w.mappings s n) else pages_below w.mappings s n)
+    go : (b : Bool) → IsRising (pages_below w.mappings s n)
+        → IsRising (if b then insert_by is_lower_page (page_wire w.mappings n) (pages_below w.mappings s n) else pages_below w.mappings s n)
     go true h = rising_insert (page_wire w.mappings n) (pages_below w.mappings s n) h
     go false h = h
 
@@ -127,12 +139,15 @@ unfolding pages_below count_below
 pages_length w s zero = refl
 pages_length w s (suc n) = go (is_page_of w.mappings s n) (pages_length w s n)
   where
-    go : (b : Bool) → length (pages_below w.mappings s n) ≡ count_below n (is_page_of w.mappings s) → length (if b then insert_by is_lower_page (page_wire w.mappings n) (pages_below w.mappings s n) else pages_below w.mappings s n) ≡ (if b then suc (count_below n (is_page_of w.mappings s)) else count_below n (is_page_of w.mappings s))
+    go : (b : Bool) → length (pages_below w.mappings s n) ≡ count_below n (is_page_of w.mappings s)
+        → length (if b then insert_by is_lower_page (page_wire w.mappings n) (pages_below w.mappings s n) else pages_below w.mappings s n)
+        ≡ (if b then suc (count_below n (is_page_of w.mappings s)) else count_below n (is_page_of w.mappings s))
     go true h = length_insert (page_wire w.mappings n) (pages_below w.mappings s n) ∙ omega (arith, h)
     go false h = h
 
 -- pages that look the same
-pub pages_same : (w v : World) (s n : ℕ) → ((m : ℕ) → m < n → is_page_of w.mappings s m ≡ is_page_of v.mappings s m) → ((m : ℕ) → m < n → page_wire w.mappings m ≡ page_wire v.mappings m) → pages_below w.mappings s n ≡ pages_below v.mappings s n
+pub pages_same : (w v : World) (s n : ℕ) → ((m : ℕ) → m < n → is_page_of w.mappings s m ≡ is_page_of v.mappings s m)
+    → ((m : ℕ) → m < n → page_wire w.mappings m ≡ page_wire v.mappings m) → pages_below w.mappings s n ≡ pages_below v.mappings s n
 unfolding pages_below
 pages_same w v s zero h k = refl
 pages_same w v s (suc n) h k =
@@ -145,7 +160,9 @@ pages_same w v s (suc n) h k =
 pub pages_none : (w : World) (s n : ℕ) → ((m : ℕ) → m < n → is_page_of w.mappings s m ≡ false) → pages_below w.mappings s n ≡ []
 unfolding pages_below
 pages_none w s zero h = refl
-pages_none w s (suc n) h = ap (λ b. if b then insert_by is_lower_page (page_wire w.mappings n) (pages_below w.mappings s n) else pages_below w.mappings s n) (h n (omega arith)) ∙ pages_none w s n (λ m l. h m (omega arith))
+pages_none w s (suc n) h =
+    ap (λ b. if b then insert_by is_lower_page (page_wire w.mappings n) (pages_below w.mappings s n) else pages_below w.mappings s n)
+    (h n (omega arith)) ∙ pages_none w s n (λ m l. h m (omega arith))
 
 -- What stands at a page.
 
@@ -179,28 +196,34 @@ there_page w ma s q m h =
     let a = ma.at_present s q m h in
     and_both (is_present (w.mappings.state m)) (w.mappings.space m == s) (ap is_present a.0) (is_same (w.mappings.space m) s a.1)
 
-page_at_none : (w : World) (s q n : ℕ) → ((m : ℕ) → m < n → is_page_of w.mappings s m ≡ true → w.mappings.page m ≢ q) → page_at (pages_below w.mappings s n) q ≡ None
+page_at_none : (w : World) (s q n : ℕ) → ((m : ℕ) → m < n → is_page_of w.mappings s m ≡ true → w.mappings.page m ≢ q)
+    → page_at (pages_below w.mappings s n) q ≡ None
 unfolding pages_below
 page_at_none w s q zero h = refl
 page_at_none w s q (suc n) h = go (is_page_of w.mappings s n) refl (page_at_none w s q n (λ m l. h m (omega arith)))
   where
-    go : (b : Bool) → is_page_of w.mappings s n ≡ b → page_at (pages_below w.mappings s n) q ≡ None → page_at (if b then insert_by is_lower_page (page_wire w.mappings n) (pages_below w.mappings s n) else pages_below w.mappings s n) q ≡ None
+    go : (b : Bool) → is_page_of w.mappings s n ≡ b → page_at (pages_below w.mappings s n) q ≡ None
+        → page_at (if b then insert_by is_lower_page (page_wire w.mappings n) (pages_below w.mappings s n) else pages_below w.mappings s n) q ≡ None
     go true e rest =
         page_at_insert (page_wire w.mappings n) (pages_below w.mappings s n) q
         ∙ ap (λ t. if t then Some (page_wire w.mappings n) else page_at (pages_below w.mappings s n) q) (is_other (w.mappings.page n) q (h n (omega arith) e))
         ∙ rest
     go false e rest = rest
 
-page_at_some : (w : World) → Mapped w → (s q m n : ℕ) → w.mappings.at s q ≡ Some m → m < n → page_at (pages_below w.mappings s n) q ≡ Some (page_wire w.mappings m)
+page_at_some : (w : World) → Mapped w → (s q m n : ℕ) → w.mappings.at s q ≡ Some m → m < n → page_at (pages_below w.mappings s n) q
+    ≡ Some (page_wire w.mappings m)
 unfolding pages_below
 page_at_some w ma s q m zero h l = absurd (omega arith)
 page_at_some w ma s q m (suc n) h l = go (ℕ_cases m n) (λ k. page_at_some w ma s q m n h k)
   where
-    here : m ≡ n → page_at (if is_page_of w.mappings s n then insert_by is_lower_page (page_wire w.mappings n) (pages_below w.mappings s n) else pages_below w.mappings s n) q ≡ Some (page_wire w.mappings n)
+    here : m ≡ n → page_at (if is_page_of w.mappings s n then insert_by is_lower_page (page_wire w.mappings n) (pages_below w.mappings s n)
+        else pages_below w.mappings s n) q ≡ Some (page_wire w.mappings n)
     here e =
-        ap (λ b. page_at (if b then insert_by is_lower_page (page_wire w.mappings n) (pages_below w.mappings s n) else pages_below w.mappings s n) q) (subst (λ k. is_page_of w.mappings s k ≡ true) e (there_page w ma s q m h))
+        ap (λ b. page_at (if b then insert_by is_lower_page (page_wire w.mappings n) (pages_below w.mappings s n) else pages_below w.mappings s n) q)
+        (subst (λ k. is_page_of w.mappings s k ≡ true) e (there_page w ma s q m h))
         ∙ page_at_insert (page_wire w.mappings n) (pages_below w.mappings s n) q
-        ∙ ap (λ t. if t then Some (page_wire w.mappings n) else page_at (pages_below w.mappings s n) q) (is_same (w.mappings.page n) q (subst (λ k. w.mappings.page k ≡ q) e (ma.at_present s q m h).2))
+        ∙ ap (λ t. if t then Some (page_wire w.mappings n) else page_at (pages_below w.mappings s n) q)
+        (is_same (w.mappings.page n) q (subst (λ k. w.mappings.page k ≡ q) e (ma.at_present s q m h).2))
 
     other : m ≢ n → is_page_of w.mappings s n ≡ true → w.mappings.page n ≢ q
     other ne t e = ne (one (sym h ∙ page_there w ma s q n t e))
@@ -208,14 +231,18 @@ page_at_some w ma s q m (suc n) h l = go (ℕ_cases m n) (λ k. page_at_some w m
         one : {a b : ℕ} → Some a ≡ Some b → a ≡ b
         one h = cc
 
-    there : m ≢ n → (b : Bool) → is_page_of w.mappings s n ≡ b → page_at (pages_below w.mappings s n) q ≡ Some (page_wire w.mappings m) → page_at (if b then insert_by is_lower_page (page_wire w.mappings n) (pages_below w.mappings s n) else pages_below w.mappings s n) q ≡ Some (page_wire w.mappings m)
+    there : m ≢ n → (b : Bool) → is_page_of w.mappings s n ≡ b → page_at (pages_below w.mappings s n) q ≡ Some (page_wire w.mappings m)
+        → page_at (if b then insert_by is_lower_page (page_wire w.mappings n) (pages_below w.mappings s n) else pages_below w.mappings s n) q
+        ≡ Some (page_wire w.mappings m)
     there ne true t rest =
         page_at_insert (page_wire w.mappings n) (pages_below w.mappings s n) q
         ∙ ap (λ t. if t then Some (page_wire w.mappings n) else page_at (pages_below w.mappings s n) q) (is_other (w.mappings.page n) q (other ne t))
         ∙ rest
     there ne false t rest = rest
 
-    go : (m ≡ n) ⊎ (m ≢ n) → (m < n → page_at (pages_below w.mappings s n) q ≡ Some (page_wire w.mappings m)) → page_at (if is_page_of w.mappings s n then insert_by is_lower_page (page_wire w.mappings n) (pages_below w.mappings s n) else pages_below w.mappings s n) q ≡ Some (page_wire w.mappings m)
+    go : (m ≡ n) ⊎ (m ≢ n) → (m < n → page_at (pages_below w.mappings s n) q ≡ Some (page_wire w.mappings m))
+        → page_at (if is_page_of w.mappings s n then insert_by is_lower_page (page_wire w.mappings n) (pages_below w.mappings s n)
+        else pages_below w.mappings s n) q ≡ Some (page_wire w.mappings m)
     go (inl e) rest = here e ∙ ap (λ k. Some (page_wire w.mappings k)) (sym e)
     go (inr ne) rest = there ne (is_page_of w.mappings s n) refl (rest (omega arith))
 
@@ -235,7 +262,8 @@ page_at_is w ma s q = go (w.mappings.at s q) refl
 
 -- A page more.
 
-pub pages_mapped : (w : World) (s q f : ℕ) (x : Bool) (t : ℕ) → pages_wire (act w (Map s q f x)).mappings t ≡ (if s == t then insert_by is_lower_page (record { page = q; frame = f; write = x }) (pages_wire w.mappings t) else pages_wire w.mappings t)
+pub pages_mapped : (w : World) (s q f : ℕ) (x : Bool) (t : ℕ) → pages_wire (act w (Map s q f x)).mappings t
+    ≡ (if s == t then insert_by is_lower_page (record { page = q; frame = f; write = x }) (pages_wire w.mappings t) else pages_wire w.mappings t)
 unfolding pages_below
 pages_mapped w s q f x t =
     λ i. if test i then insert_by is_lower_page (page i) (rest i) else rest i
@@ -244,13 +272,26 @@ pages_mapped w s q f x t =
     test = ap₂ (λ y z. is_present y && z == t) (put-same w.mappings.state w.mappings.made Present) (put-same w.mappings.space w.mappings.made s)
 
     page : page_wire (act w (Map s q f x)).mappings w.mappings.made ≡ record { page = q; frame = f; write = x }
-    page = λ i. record { page = put-same w.mappings.page w.mappings.made q i; frame = put-same w.mappings.frame w.mappings.made f i; write = put-same w.mappings.write w.mappings.made x i }
+    page = λ i. record {
+      page = put-same w.mappings.page w.mappings.made q i;
+      frame = put-same w.mappings.frame w.mappings.made f i;
+      write =
+          put-same w.mappings.write w.mappings.made x i;
+    }
 
     rest : pages_below (act w (Map s q f x)).mappings t w.mappings.made ≡ pages_below w.mappings t w.mappings.made
     rest =
         pages_same (act w (Map s q f x)) w t w.mappings.made
-        (λ m l. let ne : m ≢ w.mappings.made = omega arith in ap₂ (λ y z. is_present y && z == t) (put-other w.mappings.state w.mappings.made Present m ne) (put-other w.mappings.space w.mappings.made s m ne))
-        (λ m l. let ne : m ≢ w.mappings.made = omega arith in λ i. record { page = put-other w.mappings.page w.mappings.made q m ne i; frame = put-other w.mappings.frame w.mappings.made f m ne i; write = put-other w.mappings.write w.mappings.made x m ne i })
+        (λ m l. let ne : m ≢ w.mappings.made =
+        omega arith in ap₂ (λ y z. is_present y && z == t) (put-other w.mappings.state w.mappings.made Present m ne)
+        (put-other w.mappings.space w.mappings.made s m ne))
+        (λ m l. let ne : m ≢ w.mappings.made =
+        omega arith in λ i. record {
+          page = put-other w.mappings.page w.mappings.made q m ne i;
+          frame =
+              put-other w.mappings.frame w.mappings.made f m ne i;
+          write = put-other w.mappings.write w.mappings.made x m ne i;
+        })
 
 -- Pages less.
 

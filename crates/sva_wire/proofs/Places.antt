@@ -25,7 +25,8 @@ gone_seen false withheld = withheld
 abbrev pub seen_by : World → MappingState → PlaceWire
 seen_by w Unmade = FreeWire
 seen_by w Present = MappedWire
-seen_by w (Gone owed) = gone_seen (all_below w.config.endpoints (λ e. answered (w.part e) (owed e))) (withheld_wire w.config.first w.config.endpoints w.part (Gone owed))
+seen_by w (Gone owed) =
+    gone_seen (all_below w.config.endpoints (λ e. answered (w.part e) (owed e))) (withheld_wire w.config.first w.config.endpoints w.part (Gone owed))
 
 abbrev pub seen_at : World → (ℕ → MappingState) → Option ℕ → PlaceWire
 seen_at w state None = FreeWire
@@ -34,11 +35,14 @@ seen_at w state (Some m) = seen_by w (state m)
 pub place_seen : (w : World) (ms : Mappings) (f : ℕ) → place_wire_by (with_mappings w ms) f (place (with_mappings w ms) f) ≡ seen_at w ms.state (ms.latest f)
 place_seen w ms f = go (ms.latest f) refl
   where
-    by_answers : (m : ℕ) (owed : ℕ → Owed) → ms.latest f ≡ Some m → ms.state m ≡ Gone owed → (b : Bool) → place_wire_by (with_mappings w ms) f (place_of_gone b) ≡ gone_seen b (withheld_wire w.config.first w.config.endpoints w.part (Gone owed))
+    by_answers : (m : ℕ) (owed : ℕ → Owed) → ms.latest f ≡ Some m → ms.state m ≡ Gone owed → (b : Bool)
+        → place_wire_by (with_mappings w ms) f (place_of_gone b) ≡ gone_seen b (withheld_wire w.config.first w.config.endpoints w.part (Gone owed))
     by_answers m owed e h true = refl
-    by_answers m owed e h false = ap (λ o. withheld_wire w.config.first w.config.endpoints w.part (ms.state (the o))) e ∙ ap (withheld_wire w.config.first w.config.endpoints w.part) h
+    by_answers m owed e h false = ap (λ o. withheld_wire w.config.first w.config.endpoints w.part (ms.state (the o))) e
+        ∙ ap (withheld_wire w.config.first w.config.endpoints w.part) h
 
-    by_state : (m : ℕ) → ms.latest f ≡ Some m → (s : MappingState) → ms.state m ≡ s → place_wire_by (with_mappings w ms) f (place_by (with_mappings w ms) s) ≡ seen_by w s
+    by_state : (m : ℕ) → ms.latest f ≡ Some m → (s : MappingState) → ms.state m ≡ s
+        → place_wire_by (with_mappings w ms) f (place_by (with_mappings w ms) s) ≡ seen_by w s
     by_state m e Unmade h = refl
     by_state m e Present h = refl
     by_state m e (Gone owed) h = by_answers m owed e h (all_below w.config.endpoints (λ x. answered (w.part x) (owed x)))
@@ -52,7 +56,8 @@ place_seen w ms f = go (ms.latest f) refl
 free_is : (w : World) (f : ℕ) → is_free (place_wire_by w f (place w f)) ≡ is_free_place (place w f)
 free_is w f = ap is_free (place_seen w w.mappings f) ∙ go (w.mappings.latest f)
   where
-    by_answers : (b : Bool) (owed : ℕ → Owed) → is_free (gone_seen b (withheld_wire w.config.first w.config.endpoints w.part (Gone owed))) ≡ is_free_place (place_of_gone b)
+    by_answers : (b : Bool) (owed : ℕ → Owed) → is_free (gone_seen b (withheld_wire w.config.first w.config.endpoints w.part (Gone owed)))
+        ≡ is_free_place (place_of_gone b)
     by_answers true owed = refl
     by_answers false owed = refl
 
@@ -77,7 +82,8 @@ places_length w = tabulate_length w.config.frames (λ f. place_wire_by w f (plac
 
 pub places_mapped : (w : World) (s q f : ℕ) (x : Bool) → Mapped w → places_wire (act w (Map s q f x)) ≡ slice_set (places_wire w) f MappedWire
 places_mapped w s q f x ma =
-    tabulate_set w.config.frames (λ k. place_wire_by w k (place w k)) (λ k. place_wire_by (act w (Map s q f x)) k (place (act w (Map s q f x)) k)) f MappedWire here others
+    tabulate_set w.config.frames (λ k. place_wire_by w k (place w k)) (λ k. place_wire_by (act w (Map s q f x)) k (place (act w (Map s q f x)) k)) f
+    MappedWire here others
   where
     here : place_wire_by (act w (Map s q f x)) f (place (act w (Map s q f x)) f) ≡ MappedWire
     here =

@@ -29,7 +29,8 @@ found_left : (xs ys : List SpaceWire) (n : ℕ) (pages : List PageWire) → page
 found_left [] ys n pages h = absurd (cc)
 found_left (x ∷ xs) ys n pages h = go (x.number == n) h (found_left xs ys n pages)
   where
-    go : (b : Bool) → (if b then Some x.pages else pages_of xs n) ≡ Some pages → (pages_of xs n ≡ Some pages → pages_of (xs ++ ys) n ≡ Some pages) → (if b then Some x.pages else pages_of (xs ++ ys) n) ≡ Some pages
+    go : (b : Bool) → (if b then Some x.pages else pages_of xs n) ≡ Some pages → (pages_of xs n ≡ Some pages → pages_of (xs ++ ys) n ≡ Some pages)
+        → (if b then Some x.pages else pages_of (xs ++ ys) n) ≡ Some pages
     go true e rest = e
     go false e rest = rest e
 
@@ -37,17 +38,20 @@ found_right : (xs ys : List SpaceWire) (n : ℕ) → pages_of xs n ≡ None → 
 found_right [] ys n h = refl
 found_right (x ∷ xs) ys n h = go (x.number == n) h (found_right xs ys n)
   where
-    go : (b : Bool) → (if b then Some x.pages else pages_of xs n) ≡ None → (pages_of xs n ≡ None → pages_of (xs ++ ys) n ≡ pages_of ys n) → (if b then Some x.pages else pages_of (xs ++ ys) n) ≡ pages_of ys n
+    go : (b : Bool) → (if b then Some x.pages else pages_of xs n) ≡ None → (pages_of xs n ≡ None → pages_of (xs ++ ys) n ≡ pages_of ys n)
+        → (if b then Some x.pages else pages_of (xs ++ ys) n) ≡ pages_of ys n
     go true e rest = absurd (cc)
     go false e rest = rest e
 
 -- no selected space has the number
-none_has : (first n : ℕ) (pages : ℕ → List PageWire) (k : ℕ) (p : ℕ → Bool) → ((s : ℕ) → s < k → p s ≡ true → first + s ≢ n) → pages_of (map (space_by first pages) (select k p)) n ≡ None
+none_has : (first n : ℕ) (pages : ℕ → List PageWire) (k : ℕ) (p : ℕ → Bool) → ((s : ℕ) → s < k → p s ≡ true → first + s ≢ n)
+    → pages_of (map (space_by first pages) (select k p)) n ≡ None
 unfolding select
 none_has first n pages zero p h = refl
 none_has first n pages (suc k) p h = go (p k) refl (none_has first n pages k p (λ s l. h s (omega arith)))
   where
-    go : (b : Bool) → p k ≡ b → pages_of (map (space_by first pages) (select k p)) n ≡ None → pages_of (map (space_by first pages) (select k p ++ (if b then k ∷ [] else []))) n ≡ None
+    go : (b : Bool) → p k ≡ b → pages_of (map (space_by first pages) (select k p)) n ≡ None
+        → pages_of (map (space_by first pages) (select k p ++ (if b then k ∷ [] else []))) n ≡ None
     go true e rest =
         ap (λ xs. pages_of xs n) (map-append (space_by first pages) (select k p) (k ∷ []))
         ∙ found_right (map (space_by first pages) (select k p)) (space_by first pages k ∷ []) n rest
@@ -57,12 +61,14 @@ none_has first n pages (suc k) p h = go (p k) refl (none_has first n pages k p (
         ∙ found_right (map (space_by first pages) (select k p)) [] n rest
 
 -- a selected space has it
-one_has : (first n : ℕ) (pages : ℕ → List PageWire) (k : ℕ) (p : ℕ → Bool) (s : ℕ) → s < k → p s ≡ true → first + s ≡ n → pages_of (map (space_by first pages) (select k p)) n ≡ Some (pages s)
+one_has : (first n : ℕ) (pages : ℕ → List PageWire) (k : ℕ) (p : ℕ → Bool) (s : ℕ) → s < k → p s ≡ true → first + s ≡ n
+    → pages_of (map (space_by first pages) (select k p)) n ≡ Some (pages s)
 unfolding select
 one_has first n pages zero p s l t e = absurd (omega arith)
 one_has first n pages (suc k) p s l t e = go (ℕ_cases s k) (λ m. one_has first n pages k p s m t e)
   where
-    go : (s ≡ k) ⊎ (s ≢ k) → (s < k → pages_of (map (space_by first pages) (select k p)) n ≡ Some (pages s)) → pages_of (map (space_by first pages) (select k p ++ (if p k then k ∷ [] else []))) n ≡ Some (pages s)
+    go : (s ≡ k) ⊎ (s ≢ k) → (s < k → pages_of (map (space_by first pages) (select k p)) n ≡ Some (pages s))
+        → pages_of (map (space_by first pages) (select k p ++ (if p k then k ∷ [] else []))) n ≡ Some (pages s)
     go (inl c) rest =
         let here : first + k ≡ n = omega arith in
         ap (λ b. pages_of (map (space_by first pages) (select k p ++ (if b then k ∷ [] else []))) n) (ap p (sym c) ∙ t)
@@ -98,7 +104,8 @@ pub record IsSpace (w : World) (n : ℕ) : Type 0 where
 
 pub space_is : (w : World) (n : ℕ) → Labels.is_space w n ≡ true → IsSpace w n
 space_is w n h =
-    let number : (nat_le w.config.first n && nat_lt (Labels.name w n) w.spaces) ≡ true = and_left (nat_le w.config.first n && nat_lt (Labels.name w n) w.spaces) (w.is_live (Labels.name w n)) h in
+    let number : (nat_le w.config.first n && nat_lt (Labels.name w n) w.spaces) ≡ true =
+    and_left (nat_le w.config.first n && nat_lt (Labels.name w n) w.spaces) (w.is_live (Labels.name w n)) h in
     record {
       from = from_first w.config.first n (and_left (nat_le w.config.first n) (nat_lt (Labels.name w n) w.spaces) number);
       given = below_is (Labels.name w n) w.spaces (and_right (nat_le w.config.first n) (nat_lt (Labels.name w n) w.spaces) number);
@@ -111,7 +118,8 @@ named_back first n s e = omega arith
 named_forth : (first n : ℕ) → first ≤ n → first + (n - first) ≡ n
 named_forth first n l = omega arith
 
-pub space_found : (w : World) (n : ℕ) → Labels.is_space w n ≡ true → pages_of ((spaces_wire w.config.first w.spaces w.is_live w.mappings)) n ≡ Some (pages_wire w.mappings (Labels.name w n))
+pub space_found : (w : World) (n : ℕ) → Labels.is_space w n ≡ true → pages_of ((spaces_wire w.config.first w.spaces w.is_live w.mappings)) n
+    ≡ Some (pages_wire w.mappings (Labels.name w n))
 space_found w n h =
     let s = space_is w n h in
     one_has w.config.first n (pages_wire w.mappings) w.spaces w.is_live (Labels.name w n) s.given s.live (named_forth w.config.first n s.from)
@@ -123,13 +131,15 @@ space_missing w n h = none_has w.config.first n (pages_wire w.mappings) w.spaces
     there s l t e =
         let same : Labels.name w n ≡ s = named_back w.config.first n s e in
         and_both (nat_le w.config.first n && nat_lt (Labels.name w n) w.spaces) (w.is_live (Labels.name w n))
-        (and_both (nat_le w.config.first n) (nat_lt (Labels.name w n) w.spaces) (is_from_first w.config.first n (omega arith)) (ap (λ z. nat_lt z w.spaces) same ∙ is_below s w.spaces l))
+        (and_both (nat_le w.config.first n) (nat_lt (Labels.name w n) w.spaces) (is_from_first w.config.first n (omega arith))
+        (ap (λ z. nat_lt z w.spaces) same ∙ is_below s w.spaces l))
         (ap w.is_live same ∙ t)
 
 -- a number has the pages of its space, where that is live
 pub space_of :
     (w : World) (n : ℕ)
-    → pages_of (spaces_wire w.config.first w.spaces w.is_live w.mappings) n ≡ (if Labels.is_space w n then Some (pages_wire w.mappings (Labels.name w n)) else None)
+    → pages_of (spaces_wire w.config.first w.spaces w.is_live w.mappings) n
+    ≡ (if Labels.is_space w n then Some (pages_wire w.mappings (Labels.name w n)) else None)
 space_of w n = go (Labels.is_space w n) refl
   where
     go : (b : Bool) → Labels.is_space w n ≡ b
@@ -138,7 +148,9 @@ space_of w n = go (Labels.is_space w n) refl
     go false is = space_missing w n is
 
 -- a space more
-pub spaces_more : (w : World) → Mapped w → (spaces_wire (act w NewSpace).config.first (act w NewSpace).spaces (act w NewSpace).is_live (act w NewSpace).mappings) ≡ (spaces_wire w.config.first w.spaces w.is_live w.mappings) ++ record { number = Labels.number w w.spaces; pages = [] } ∷ []
+pub spaces_more : (w : World) → Mapped w
+    → (spaces_wire (act w NewSpace).config.first (act w NewSpace).spaces (act w NewSpace).is_live (act w NewSpace).mappings)
+    ≡ (spaces_wire w.config.first w.spaces w.is_live w.mappings) ++ record { number = Labels.number w w.spaces; pages = [] } ∷ []
 unfolding select
 spaces_more w ma =
     ap₂ (λ ss b. map (space_by w.config.first (pages_wire (act w NewSpace).mappings)) (ss ++ (if b then w.spaces ∷ [] else [])))
@@ -147,16 +159,20 @@ spaces_more w ma =
     ∙ map-append (space_by w.config.first (pages_wire (act w NewSpace).mappings)) (select w.spaces w.is_live) (w.spaces ∷ [])
     ∙ ap₂ (λ xs x. xs ++ x ∷ []) (same_pages (select w.spaces w.is_live)) (ap (λ z. space_by w.config.first (λ t. z) w.spaces) no_page)
   where
-    same_pages : (ss : List ℕ) → map (space_by w.config.first (pages_wire (act w NewSpace).mappings)) ss ≡ map (space_by w.config.first (pages_wire w.mappings)) ss
+    same_pages : (ss : List ℕ) → map (space_by w.config.first (pages_wire (act w NewSpace).mappings)) ss
+        ≡ map (space_by w.config.first (pages_wire w.mappings)) ss
     same_pages [] = refl
-    same_pages (s ∷ ss) = ap₂ (λ x xs. x ∷ xs) (ap (λ z. space_by w.config.first (λ t. z) s) (pages_same (act w NewSpace) w s w.mappings.made (λ m l. refl) (λ m l. refl))) (same_pages ss)
+    same_pages (s ∷ ss) =
+        ap₂ (λ x xs. x ∷ xs)
+        (ap (λ z. space_by w.config.first (λ t. z) s) (pages_same (act w NewSpace) w s w.mappings.made (λ m l. refl) (λ m l. refl))) (same_pages ss)
 
     unmapped : (m : ℕ) → (b : Bool) → is_page_of w.mappings w.spaces m ≡ b → b ≡ false
     unmapped m false h = refl
     unmapped m true h =
         let present = present_is (w.mappings.state m) (and_left (is_present (w.mappings.state m)) (w.mappings.space m == w.spaces) h) in
         let live = (ma.at_present (w.mappings.space m) (w.mappings.page m) m (ma.present_at m present)).3 in
-        let space : w.mappings.space m ≡ w.spaces = same_is (w.mappings.space m) w.spaces (and_right (is_present (w.mappings.state m)) (w.mappings.space m == w.spaces) h) in
+        let space : w.mappings.space m ≡ w.spaces =
+        same_is (w.mappings.space m) w.spaces (and_right (is_present (w.mappings.state m)) (w.mappings.space m == w.spaces) h) in
         let below : w.mappings.space m < w.spaces = ma.live (w.mappings.space m) live in
         absurd (omega arith)
 

@@ -26,4 +26,5 @@ pub returns-clause-given : goal.returns-clause-given
 returns-clause-given c = λ rule config steps of_space page write answer fits accepted. given rule config steps of_space page write answer accepted
 
 pub returns-clause-told_of_range : goal.returns-clause-told_of_range
-returns-clause-told_of_range c = λ rule config steps of_space page order answer fits accepted. told_of_range rule config steps of_space page order answer accepted
+returns-clause-told_of_range c =
+    λ rule config steps of_space page order answer fits accepted. told_of_range rule config steps of_space page order answer accepted

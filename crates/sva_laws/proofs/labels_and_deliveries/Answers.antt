@@ -18,7 +18,9 @@ pub returns-clause-never : goal.returns-clause-never
 returns-clause-never c = λ rule config steps e fits. never (world_after rule config steps) e (always rule config steps)
 
 pub returns-clause-under_way : goal.returns-clause-under_way
-returns-clause-under_way c = λ rule config steps e fits. under_way (world_after rule config steps) e (always rule config steps) (always_ways rule config steps e) (always_on_the_way rule config steps e) (always_owed rule config steps e)
+returns-clause-under_way c =
+    λ rule config steps e fits. under_way (world_after rule config steps) e (always rule config steps) (always_ways rule config steps e)
+    (always_on_the_way rule config steps e) (always_owed rule config steps e)
 
 pub returns-clause-carried : goal.returns-clause-carried
 returns-clause-carried c = λ rule config steps e fits. always_carried rule config steps e

@@ -12,10 +12,22 @@ pub returns-clause-matched : goal.returns-clause-matched
 returns-clause-matched c = λ rule config steps e fits. (always_agrees rule config steps fits).matched e
 
 pub returns-clause-limited : goal.returns-clause-limited
-returns-clause-limited c = λ rule config steps e fits. record { outstanding = always_outstanding rule config steps e; page_queue = always_page_queue rule config steps e; waiting = always_waiting rule config steps e }
+returns-clause-limited c =
+    λ rule config steps e fits. record {
+      outstanding = always_outstanding rule config steps e;
+      page_queue =
+          always_page_queue rule config steps e;
+      waiting = always_waiting rule config steps e;
+    }
 
 pub returns-clause-hands : goal.returns-clause-hands
 returns-clause-hands c = λ rule config steps fits. holds_jobs (world_after rule config steps) (always rule config steps) (always_jobs rule config steps)
 
 pub returns-clause-limits : goal.returns-clause-limits
-returns-clause-limits c = λ rule config steps fits. record { spaces = always_live rule config steps; pages = always_pages rule config steps; requests = always_few rule config steps }
+returns-clause-limits c =
+    λ rule config steps fits. record {
+      spaces = always_live rule config steps;
+      pages = always_pages rule config steps;
+      requests =
+          always_few rule config steps;
+    }

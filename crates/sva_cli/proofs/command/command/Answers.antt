@@ -4,7 +4,10 @@ use Rattle.clap.specs.Words.{App, app_of, new_app, with_subcommand}
 use Rattle.sva_cli.proofs.command.command.Goals as goal
 
 abbrev top : App
-top = let plain = new_app (codes "svahost") in record plain { top = record plain.top { has_version = true; subcommand_required = true; disable_help_subcommand = true } }
+top = let plain = new_app (codes "svahost") in record plain {
+  top =
+      record plain.top { has_version = true; subcommand_required = true; disable_help_subcommand = true };
+}
 
 pub returns : goal.returns
 returns c =
@@ -13,4 +16,5 @@ returns c =
     let top_is : app_of c.disable_help_subcommand.result ≡ top = search rules in
     let with_replay : app_of c.in_ok-subcommand.field-0 ≡ with_subcommand top (new_app (codes "replay")).top =
     c.in_ok-subcommand.ensures.shape (search rules) ∙ ap₂ with_subcommand top_is (ap (λ (a : App). a.top) replay_is) in
-    IfOk-weaker c.subcommand-2.result _ _ (λ r added. added.shape (search rules) ∙ ap₂ with_subcommand with_replay (ap (λ (a : App). a.top) check_is)) c.subcommand-2.ensures
+    IfOk-weaker c.subcommand-2.result _ _ (λ r added. added.shape (search rules)
+    ∙ ap₂ with_subcommand with_replay (ap (λ (a : App). a.top) check_is)) c.subcommand-2.ensures

@@ -13,11 +13,14 @@ pub returns-in-Ok-Replay-clause-run : goal.returns-in-Ok-Replay-clause-run
 returns-in-Ok-Replay-clause-run g c asked asks =
     let ran = c.drive-ended in
     let none = IfOk-weaker ran.result _ _ (λ _ e. (e.0, e.2)) ran.ensures.end in
-    let alone = one_alone asked Replay (texts c.args.words.now) asks (subst (λ a. Asks a (texts c.args.words.now)) c.in-Ok-Replay.field-0-is c.in-Ok-Replay.ensures.asked) in (
+    let alone = one_alone asked Replay (texts c.args.words.now) asks
+    (subst (λ a. Asks a (texts c.args.words.now)) c.in-Ok-Replay.field-0-is c.in-Ok-Replay.ensures.asked) in (
       ran.result,
       c.finish.ensures.status,
-      subst (λ a. Reports a (g.R.Read.remaining c.args.reader.now.inner) (g.W.Write.contents c.args.writer.now.inner) (g.W.Write.contents ran.new.writer.inner) ran.result) (sym alone)
-          (reported Replay _ _ _ ran.result ran.ensures.report ran.ensures.outcome (λ read. ap (λ told. g.W.Write.contents told.inner) (ran.ensures.read read).0)),
+      subst (λ a. Reports a (g.R.Read.remaining c.args.reader.now.inner) (g.W.Write.contents c.args.writer.now.inner)
+          (g.W.Write.contents ran.new.writer.inner) ran.result) (sym alone)
+          (reported Replay _ _ _ ran.result ran.ensures.report ran.ensures.outcome
+          (λ read. ap (λ told. g.W.Write.contents told.inner) (ran.ensures.read read).0)),
       caused ran.new.reader ran.new.writer ran.result none (λ read. (ran.ensures.read read).1) ran.ensures.write ran.ensures.memory,
       c.finish.ensures.said,
       c.finish.ensures.silent,
@@ -30,11 +33,14 @@ pub returns-in-Ok-Check-clause-run : goal.returns-in-Ok-Check-clause-run
 returns-in-Ok-Check-clause-run g c asked asks =
     let ran = c.check-ended in
     let none = IfOk-weaker ran.result _ _ (λ _ e. (e.0, e.2)) ran.ensures.end in
-    let alone = one_alone asked Check (texts c.args.words.now) asks (subst (λ a. Asks a (texts c.args.words.now)) c.in-Ok-Check.field-0-is c.in-Ok-Check.ensures.asked) in (
+    let alone = one_alone asked Check (texts c.args.words.now) asks
+    (subst (λ a. Asks a (texts c.args.words.now)) c.in-Ok-Check.field-0-is c.in-Ok-Check.ensures.asked) in (
       ran.result,
       c.finish-in-Ok-Check.ensures.status,
-      subst (λ a. Reports a (g.R.Read.remaining c.args.reader.now.inner) (g.W.Write.contents c.args.writer.now.inner) (g.W.Write.contents ran.new.writer.inner) ran.result) (sym alone)
-          (reported Check _ _ _ ran.result ran.ensures.report ran.ensures.outcome (λ read. ap (λ told. g.W.Write.contents told.inner) (ran.ensures.read read).0)),
+      subst (λ a. Reports a (g.R.Read.remaining c.args.reader.now.inner) (g.W.Write.contents c.args.writer.now.inner)
+          (g.W.Write.contents ran.new.writer.inner) ran.result) (sym alone)
+          (reported Check _ _ _ ran.result ran.ensures.report ran.ensures.outcome
+          (λ read. ap (λ told. g.W.Write.contents told.inner) (ran.ensures.read read).0)),
       caused ran.new.reader ran.new.writer ran.result none (λ read. (ran.ensures.read read).1) ran.ensures.write ran.ensures.memory,
       c.finish-in-Ok-Check.ensures.said,
       c.finish-in-Ok-Check.ensures.silent,

@@ -11,8 +11,10 @@ returns-in-Some-clause-apart c = rw c.remove.ensures.items (remove_apart c.args.
 
 pub returns-in-Some-clause-none : goal.returns-in-Some-clause-none
 returns-in-Some-clause-none c =
-    rw c.remove.ensures.items (taken_out-none c.args.pending.now.items c.args.cookie c.in-Some.place c.in-Some.ensures.some.0 c.requires (at c) c.in-Some.ensures.some.2)
+    rw c.remove.ensures.items
+    (taken_out-none c.args.pending.now.items c.args.cookie c.in-Some.place c.in-Some.ensures.some.0 c.requires (at c) c.in-Some.ensures.some.2)
 
 pub returns-in-Some-clause-others : goal.returns-in-Some-clause-others
 returns-in-Some-clause-others c =
-    rw c.remove.ensures.items (taken_out-others c.args.pending.now.items c.args.cookie c.in-Some.place c.in-Some.ensures.some.0 (at c) c.in-Some.ensures.some.2)
+    rw c.remove.ensures.items
+    (taken_out-others c.args.pending.now.items c.args.cookie c.in-Some.place c.in-Some.ensures.some.0 (at c) c.in-Some.ensures.some.2)

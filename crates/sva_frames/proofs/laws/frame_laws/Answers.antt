@@ -1,4 +1,5 @@
-use Rattle.sva_frames.proofs.CallLists.{divided, withheld_waits, lowest_free, mapped_in_hand, free_at_once, withheld_until_settled, free_when_settled, settles_waits}
+use Rattle.sva_frames.proofs.CallLists.{divided, withheld_waits, lowest_free, mapped_in_hand, free_at_once, withheld_until_settled, free_when_settled}
+use Rattle.sva_frames.proofs.CallLists.{settles_waits}
 use Rattle.sva_frames.proofs.laws.frame_laws.Goals as goal
 
 pub returns-clause-divided : goal.returns-clause-divided

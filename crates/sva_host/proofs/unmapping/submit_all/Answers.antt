@@ -17,8 +17,10 @@ submit_ranges-requires-clause-room c =
     let w = wire_with c.args.ports.now c.args.bindings.now c.args.first in
     let long : length w.parts ≡ length c.args.ports.now = length-map c.args.ports.now part_seen in
     let e = c.loop-endpoint.endpoint in
-    let asked = asked_some (unit_of w e) (bound_at w e c.args.space) c.in-Some.pasid (sym c.in-Some.is ∙ c.pasid_asked.ensures ∙ asks_there _ _ _ _ _ _ _ e _ _ c.index-ports-endpoint.result _ c.loop-endpoint.invariant c.loop-endpoint-test.true c.place_between-place.ensures) in
-    ap (λ (p : PartWire). has_room p.unit (suc c.args.count)) (part_now _ _ _ _ _ _ _ e _ _ c.index-ports-endpoint-in-Some.result c.loop-endpoint.invariant c.loop-endpoint-test.true)
+    let asked = asked_some (unit_of w e) (bound_at w e c.args.space) c.in-Some.pasid (sym c.in-Some.is ∙ c.pasid_asked.ensures
+    ∙ asks_there _ _ _ _ _ _ _ e _ _ c.index-ports-endpoint.result _ c.loop-endpoint.invariant c.loop-endpoint-test.true c.place_between-place.ensures) in
+    ap (λ (p : PartWire). has_room p.unit (suc c.args.count))
+    (part_now _ _ _ _ _ _ _ e _ _ c.index-ports-endpoint-in-Some.result c.loop-endpoint.invariant c.loop-endpoint-test.true)
     ∙ room_there w c.args.space (suc c.args.count) e c.requires.room (omega arith) asked.0
 
 pub submit_ranges-requires-clause-later : goal.submit_ranges-requires-clause-later
@@ -27,7 +29,8 @@ submit_ranges-requires-clause-later c =
     let long : length w.parts ≡ length c.args.ports.now = length-map c.args.ports.now part_seen in
     let e = c.loop-endpoint.endpoint in
     let low = given_there w c.args.space e c.requires.given (omega arith) in
-    let same = ap (λ (p : PartWire). p.unit.waits_end) (part_now _ _ _ _ _ _ _ e _ _ c.index-ports-endpoint-in-Some.result c.loop-endpoint.invariant c.loop-endpoint-test.true) in
+    let same = ap (λ (p : PartWire). p.unit.waits_end)
+    (part_now _ _ _ _ _ _ _ e _ _ c.index-ports-endpoint-in-Some.result c.loop-endpoint.invariant c.loop-endpoint-test.true) in
     let cookie = c.loop-endpoint.invariant.cookie in
     omega arith
 
@@ -36,7 +39,8 @@ submit_ranges-requires-clause-number c =
     let w = wire_with c.args.ports.now c.args.bindings.now c.args.first in
     let long : length w.parts ≡ length c.args.ports.now = length-map c.args.ports.now part_seen in
     let e = c.loop-endpoint.endpoint in
-    let asked = asked_some (unit_of w e) (bound_at w e c.args.space) c.in-Some.pasid (sym c.in-Some.is ∙ c.pasid_asked.ensures ∙ asks_there _ _ _ _ _ _ _ e _ _ c.index-ports-endpoint.result _ c.loop-endpoint.invariant c.loop-endpoint-test.true c.place_between-place.ensures) in
+    let asked = asked_some (unit_of w e) (bound_at w e c.args.space) c.in-Some.pasid (sym c.in-Some.is ∙ c.pasid_asked.ensures
+    ∙ asks_there _ _ _ _ _ _ _ e _ _ c.index-ports-endpoint.result _ c.loop-endpoint.invariant c.loop-endpoint-test.true c.place_between-place.ensures) in
     let low = cookie_low w c.args.space e (2 ^ 63) c.requires.cookies (omega arith) asked.0 in
     let cookie = c.loop-endpoint.invariant.cookie in
     omega arith
@@ -46,7 +50,8 @@ overflow_add-cookie c =
     let w = wire_with c.args.ports.now c.args.bindings.now c.args.first in
     let long : length w.parts ≡ length c.args.ports.now = length-map c.args.ports.now part_seen in
     let e = c.loop-endpoint.endpoint in
-    let asked = asked_some (unit_of w e) (bound_at w e c.args.space) c.in-Some.pasid (sym c.in-Some.is ∙ c.pasid_asked.ensures ∙ asks_there _ _ _ _ _ _ _ e _ _ c.index-ports-endpoint.result _ c.loop-endpoint.invariant c.loop-endpoint-test.true c.place_between-place.ensures) in
+    let asked = asked_some (unit_of w e) (bound_at w e c.args.space) c.in-Some.pasid (sym c.in-Some.is ∙ c.pasid_asked.ensures
+    ∙ asks_there _ _ _ _ _ _ _ e _ _ c.index-ports-endpoint.result _ c.loop-endpoint.invariant c.loop-endpoint-test.true c.place_between-place.ensures) in
     let low = cookie_low w c.args.space e (2 ^ 63) c.requires.cookies (omega arith) asked.0 in
     let cookie = c.loop-endpoint.invariant.cookie in
     omega arith
@@ -55,11 +60,14 @@ pub loop-endpoint-preserved : goal.loop-endpoint-preserved
 loop-endpoint-preserved c =
     let v = wire_with c.args.ports.now c.args.bindings.now c.args.first in
     let e = c.loop-endpoint.endpoint in
-    let seen = c.pasid_asked.ensures ∙ asks_there _ _ _ _ _ _ _ e _ _ c.index-ports-endpoint.result _ c.loop-endpoint.invariant c.loop-endpoint-test.true c.place_between-place.ensures in
+    let seen = c.pasid_asked.ensures
+    ∙ asks_there _ _ _ _ _ _ _ e _ _ c.index-ports-endpoint.result _ c.loop-endpoint.invariant c.loop-endpoint-test.true c.place_between-place.ensures in
     elim c.match-pasid_asked.branch [
       | in-Some w ↦ let asked = asked_some (unit_of v e) (bound_at v e c.args.space) w.in-Some.pasid (sym w.in-Some.is ∙ seen) in
-          asks _ _ _ _ _ _ _ e _ _ _ _ _ w.index-ports-endpoint-in-Some.result w.submit_ranges.new.self c.loop-endpoint.invariant c.loop-endpoint-test.true asked.0 asked.1 w.submit_ranges.ensures w.ports-is w.cookie-is
-      | in_default w ↦ asks_not _ _ _ _ _ _ _ e _ _ _ _ c.loop-endpoint.invariant (asked_none (unit_of v e) (bound_at v e c.args.space) (sym w.in_default.is ∙ seen)) w.ports-is w.cookie-is
+          asks _ _ _ _ _ _ _ e _ _ _ _ _ w.index-ports-endpoint-in-Some.result w.submit_ranges.new.self c.loop-endpoint.invariant
+          c.loop-endpoint-test.true asked.0 asked.1 w.submit_ranges.ensures w.ports-is w.cookie-is
+      | in_default w ↦ asks_not _ _ _ _ _ _ _ e _ _ _ _ c.loop-endpoint.invariant
+          (asked_none (unit_of v e) (bound_at v e c.args.space) (sym w.in_default.is ∙ seen)) w.ports-is w.cookie-is
     ]
 
 pub returns-clause-parts : goal.returns-clause-parts

@@ -12,10 +12,12 @@ pub loop-tag-preserved : goal.loop-tag-preserved
 loop-tag-preserved c =
     let within : c.loop-tag.tag < length c.args.places.now = omega (arith, c.requires.0) in
     record {
-      places = completed-step c.args.vector c.args.count c.loop-tag.tag c.args.places.now c.loop-tag.places None c.after_completion.result c.is_tag_named.result within c.loop-tag.invariant.places c.is_tag_named.ensures c.after_completion.ensures;
+      places = completed-step c.args.vector c.args.count c.loop-tag.tag c.args.places.now c.loop-tag.places None c.after_completion.result
+          c.is_tag_named.result within c.loop-tag.invariant.places c.is_tag_named.ensures c.after_completion.ensures;
       freed =
           rw (c.with_bit-freed.ensures, c.is_freed.ensures, c.loop-tag.invariant.freed)
-          (freed-step c.args.vector c.args.count c.loop-tag.tag c.args.places.now c.loop-tag.places None c.after_completion.result c.is_tag_named.result within c.loop-tag.invariant.places c.is_tag_named.ensures c.after_completion.ensures);
+          (freed-step c.args.vector c.args.count c.loop-tag.tag c.args.places.now c.loop-tag.places None c.after_completion.result
+          c.is_tag_named.result within c.loop-tag.invariant.places c.is_tag_named.ensures c.after_completion.ensures);
     }
 
 pub returns-clause-freed : goal.returns-clause-freed
@@ -31,5 +33,8 @@ returns-clause-places c =
 pub returns-clause-tags : goal.returns-clause-tags
 returns-clause-tags c =
     let all : c.loop-tag.tag ≡ length c.args.places.now = omega (arith, c.requires.0) in
-    let is_done : c.loop-tag.places ≡ completed c.args.vector c.args.count c.args.places.now = completed-end c.args.vector c.args.count c.loop-tag.tag c.args.places.now c.loop-tag.places all c.loop-tag.invariant.places in
-    subst AreTags (sym is_done) (completed-tags c.args.vector c.args.count c.args.places.now (omega (arith, c.get.ensures.value, c.get.ensures.within)) (omega (arith, c.get.ensures.value, c.get.ensures.within)) c.requires)
+    let is_done : c.loop-tag.places ≡ completed c.args.vector c.args.count c.args.places.now =
+    completed-end c.args.vector c.args.count c.loop-tag.tag c.args.places.now c.loop-tag.places all c.loop-tag.invariant.places in
+    subst AreTags (sym is_done)
+    (completed-tags c.args.vector c.args.count c.args.places.now (omega (arith, c.get.ensures.value, c.get.ensures.within))
+    (omega (arith, c.get.ensures.value, c.get.ensures.within)) c.requires)

@@ -17,13 +17,17 @@ give-requires c =
 pub loop-page-preserved : goal.loop-page-preserved
 loop-page-preserved c = (
   balanced-on c.args.space c.loop-page.space c.pop_first.new.self c.args.pool.now c.loop-page.pool c.give.new.self c.loop-page.invariant.0
-      (first-balanced c.loop-page.space c.pop_first.new.self c.loop-page.pool c.give.new.self (c.in-Some._page, (c.in-Some.frame, c.in-Some._write)) c.in-Some.ensures.some c.give.ensures
+      (first-balanced c.loop-page.space c.pop_first.new.self c.loop-page.pool c.give.new.self (c.in-Some._page, (c.in-Some.frame, c.in-Some._write))
+      c.in-Some.ensures.some c.give.ensures
       (owns-on c.args.space c.loop-page.space c.args.pool.now c.loop-page.pool c.requires c.loop-page.invariant.0)),
-  first-placed c.loop-page.space c.pop_first.new.self c.loop-page.pool c.give.new.self (c.in-Some._page, (c.in-Some.frame, c.in-Some._write)) c.in-Some.ensures.some c.give.ensures ∙ c.loop-page.invariant.1,
+  first-placed c.loop-page.space c.pop_first.new.self c.loop-page.pool c.give.new.self (c.in-Some._page, (c.in-Some.frame, c.in-Some._write))
+      c.in-Some.ensures.some c.give.ensures ∙ c.loop-page.invariant.1,
 )
 
 pub returns-clause-places : goal.returns-clause-places
-returns-clause-places c = ap (λ (left : List (ℕ × (ℕ × Bool))). placed FreeWire (pages_seen left) (places_seen c.loop-page.pool)) (sym c.in_default.ensures.none.0) ∙ c.loop-page.invariant.1
+returns-clause-places c =
+    ap (λ (left : List (ℕ × (ℕ × Bool))). placed FreeWire (pages_seen left) (places_seen c.loop-page.pool)) (sym c.in_default.ensures.none.0)
+    ∙ c.loop-page.invariant.1
 
 pub returns-clause-spent : goal.returns-clause-spent
 returns-clause-spent c = spent c.args.space c.loop-page.space c.args.pool.now c.loop-page.pool c.in_default.ensures.none.0 c.loop-page.invariant.0

@@ -14,11 +14,13 @@ returns-then-not-is_some_mapped c =
     let small : c.args.order ≤ 9 = omega (arith, c.if-order-from.false, c.from.ensures) in
     let most : 1 * 2 ^ c.args.order % 2 ^ 64 ≤ 512 = size-most c.args.order small in
     let range : c.args.page + 1 * 2 ^ c.args.order % 2 ^ 64 ≤ 2 ^ 36 = omega (arith, most, c.if-page-count.false) in
-    sym (range-tested (pages_seen c.args.space.now) c.args.page c.args.order (1 * 2 ^ c.args.order % 2 ^ 64) false small (size c.args.order small) range c.if-page-count-ne0.false (sym c.if-not-is_some_mapped.ensures))
+    sym (range-tested (pages_seen c.args.space.now) c.args.page c.args.order (1 * 2 ^ c.args.order % 2 ^ 64) false small (size c.args.order small)
+    range c.if-page-count-ne0.false (sym c.if-not-is_some_mapped.ensures))
 
 pub returns : goal.returns
 returns c =
     let small : c.args.order ≤ 9 = omega (arith, c.if-order-from.false, c.from.ensures) in
     let most : 1 * 2 ^ c.args.order % 2 ^ 64 ≤ 512 = size-most c.args.order small in
     let range : c.args.page + 1 * 2 ^ c.args.order % 2 ^ 64 ≤ 2 ^ 36 = omega (arith, most, c.if-page-count.false) in
-    sym (range-tested (pages_seen c.args.space.now) c.args.page c.args.order (1 * 2 ^ c.args.order % 2 ^ 64) true small (size c.args.order small) range c.if-page-count-ne0.false (sym c.if-not-is_some_mapped.ensures))
+    sym (range-tested (pages_seen c.args.space.now) c.args.page c.args.order (1 * 2 ^ c.args.order % 2 ^ 64) true small (size c.args.order small)
+    range c.if-page-count-ne0.false (sym c.if-not-is_some_mapped.ensures))

@@ -5,7 +5,8 @@ use Rattle.sva_cache.proofs.cached.Cache.get.Goals as goal
 
 pub offset_bounds-deref-place : goal.offset_bounds-deref-place
 offset_bounds-deref-place c =
-    let within = found_within c.self.inside.entries.items c.args.self.now c.self.invariant.0 c.self.view_is c.new.result c.in-Ok.place c.in-Ok.ensures.place in
+    let within = found_within c.self.inside.entries.items c.args.self.now c.self.invariant.0 c.self.view_is c.new.result c.in-Ok.place
+    c.in-Ok.ensures.place in
     omega arith
 
 pub bounds-deref-place : goal.bounds-deref-place

@@ -47,7 +47,8 @@ loop-low-preserved c =
     let high = c.loop-low.high in
     let sorted : T (is_sorted key_cmp es) = subst (λ xs. T (is_sorted key_cmp xs)) (sym c.as_slice-entries.ensures.value) c.self.invariant.0 in
     let half = halves (high - low) c.loop-low.invariant.left (omega arith) c.loop-low.invariant.halved in
-    let past = greater_at key_cmp_total c.args.key.now es (low + (high - low) / 2) c.index-entries-middle.result sorted (omega arith) (sym c.in-Greater.ensures.order) in
+    let past = greater_at key_cmp_total c.args.key.now es (low + (high - low) / 2) c.index-entries-middle.result sorted (omega arith)
+    (sym c.in-Greater.ensures.order) in
     let more = c.compare.ensures.counted in
     record {
       from = omega (arith, past);
@@ -65,7 +66,8 @@ returns-in-Equal-clause-place c =
     let low = c.loop-low.low in
     let high = c.loop-low.high in
     let sorted : T (is_sorted key_cmp es) = subst (λ xs. T (is_sorted key_cmp xs)) (sym c.as_slice-entries.ensures.value) c.self.invariant.0 in
-    let at = equal_at key_cmp_total c.args.key.now es (low + (high - low) / 2) c.index-entries-middle.result sorted (omega arith) (sym c.in-Equal.ensures.order) in
+    let at = equal_at key_cmp_total c.args.key.now es (low + (high - low) / 2) c.index-entries-middle.result sorted (omega arith)
+    (sym c.in-Equal.ensures.order) in
     let same = c.as_slice-entries.ensures.value in
     found_at c.self.inside.entries.items c.args.self.now c.self.invariant.0 c.self.view_is c.args.key.now _
     (ap (smaller_first key_cmp c.args.key.now) (sym same) ∙ at.0) (ap (λ xs. is_some (find key_cmp c.args.key.now xs)) (sym same) ∙ at.1)

@@ -9,15 +9,19 @@ pub apply-requires-clause-spaces : goal.apply-requires-clause-spaces
 apply-requires-clause-spaces c = spaces_reached c.self.inside.host c.self.invariant
 
 pub returns-clause-step : goal.returns-clause-step
-returns-clause-step c = follows_on c.self.inside.host c.args.self.now c.args.step.now c.apply.result c.apply.new.self c.self.view_is (follows every_step c.self.inside.host c.args.step.now c.apply.result c.apply.new.self c.apply.ensures.step)
+returns-clause-step c =
+    follows_on c.self.inside.host c.args.self.now c.args.step.now c.apply.result c.apply.new.self c.self.view_is
+    (follows every_step c.self.inside.host c.args.step.now c.apply.result c.apply.new.self c.apply.ensures.step)
 
 pub invariant_of-self : goal.invariant_of-self
 invariant_of-self c =
-    reached c.self.inside.host c.args.step.now c.apply.result c.apply.new.self c.self.invariant (follows every_step c.self.inside.host c.args.step.now c.apply.result c.apply.new.self c.apply.ensures.step)
+    reached c.self.inside.host c.args.step.now c.apply.result c.apply.new.self c.self.invariant
+    (follows every_step c.self.inside.host c.args.step.now c.apply.result c.apply.new.self c.apply.ensures.step)
 
 pub returns-clause-reached : goal.returns-clause-reached
 returns-clause-reached c =
-    reached c.self.inside.host c.args.step.now c.apply.result c.apply.new.self c.self.invariant (follows every_step c.self.inside.host c.args.step.now c.apply.result c.apply.new.self c.apply.ensures.step)
+    reached c.self.inside.host c.args.step.now c.apply.result c.apply.new.self c.self.invariant
+    (follows every_step c.self.inside.host c.args.step.now c.apply.result c.apply.new.self c.apply.ensures.step)
 
 pub returns-clause-memory : goal.returns-clause-memory
 returns-clause-memory c = memory_on c.self.inside.host c.args.self.now c.args.step.now c.apply.result c.self.view_is c.apply.ensures.memory

@@ -10,7 +10,8 @@ use Rattle.sva_frames.proofs.lane.Lane.pop.Goals as goal
 pub returns-in_err-frame-clause-none : goal.returns-in_err-frame-clause-none
 returns-in_err-frame-clause-none c =
     rw c.from_residual.ensures
-    (λ n. rw (← c.self.view_is) (none_at c.self.inside.cells.items c.self.inside.heads c.args.target c.self.invariant (sym c.in_err-frame.was ∙ c.first.ensures.first) n))
+    (λ n. rw (← c.self.view_is)
+    (none_at c.self.inside.cells.items c.self.inside.heads c.args.target c.self.invariant (sym c.in_err-frame.was ∙ c.first.ensures.first) n))
 
 -- what holds once a first frame was found
 here : (c : goal.After-set) → Some c.in_ok-frame.frame ≡ first_at c.self.inside.heads c.args.target
@@ -21,11 +22,19 @@ cell c = first_waits c.self.inside.cells.items c.self.inside.heads c.args.target
 
 pub index-requires : goal.index-requires
 index-requires c =
-    omega (arith, first_within c.self.inside.cells.items c.self.inside.heads c.args.target c.in_ok-frame.frame c.self.invariant (sym c.in_ok-frame.was ∙ c.first.ensures.first))
+    omega (
+      arith,
+      first_within c.self.inside.cells.items c.self.inside.heads c.args.target c.in_ok-frame.frame c.self.invariant
+          (sym c.in_ok-frame.was ∙ c.first.ensures.first),
+    )
 
 pub index_mut-requires : goal.index_mut-requires
 index_mut-requires c =
-    omega (arith, first_within c.self.inside.cells.items c.self.inside.heads c.args.target c.in_ok-frame.frame c.self.invariant (sym c.in_ok-frame.was ∙ c.first.ensures.first))
+    omega (
+      arith,
+      first_within c.self.inside.cells.items c.self.inside.heads c.args.target c.in_ok-frame.frame c.self.invariant
+          (sym c.in_ok-frame.was ∙ c.first.ensures.first),
+    )
 
 pub invariant_of-self : goal.invariant_of-self
 invariant_of-self c =

@@ -6,7 +6,8 @@ use Rattle.sva_frames.proofs.Lanes.{cell_at, has_place, lane_push}
 use Rattle.sva_frames.proofs.lane.Lane.push.Goals as goal
 
 pub set-requires : goal.set-requires
-set-requires c = has_place c.self.inside.cells.items c.self.inside.heads c.args.target c.self.invariant c.first-next.ensures.apart (rw c.self.view_is c.requires.room)
+set-requires c = has_place c.self.inside.cells.items c.self.inside.heads c.args.target c.self.invariant c.first-next.ensures.apart
+    (rw c.self.view_is c.requires.room)
 
 pub index_mut-requires : goal.index_mut-requires
 index_mut-requires c =

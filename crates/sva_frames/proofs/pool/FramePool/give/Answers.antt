@@ -9,7 +9,8 @@ set-requires c = mapped_within c.self.inside.ledger c.self.inside.lanes.items c.
 
 pub invariant_of-self : goal.invariant_of-self
 invariant_of-self c =
-    rw c.set.ensures (given-invariant c.self.inside.ledger c.self.inside.lanes.items c.frame.inside.number c.self.invariant (rw (c.self.view_is, c.frame.view_is) c.requires))
+    rw c.set.ensures (given-invariant c.self.inside.ledger c.self.inside.lanes.items c.frame.inside.number c.self.invariant
+    (rw (c.self.view_is, c.frame.view_is) c.requires))
 
 pub returns : goal.returns
 returns c =

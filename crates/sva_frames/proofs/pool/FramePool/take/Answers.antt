@@ -11,7 +11,8 @@ returns-in_err-number-clause-lowest c =
 
 pub invariant_of-self : goal.invariant_of-self
 invariant_of-self c =
-    rw c.set.ensures (taken-invariant c.self.inside.ledger c.self.inside.lanes.items c.in_ok-number.number c.self.invariant (sym c.in_ok-number.was ∙ c.first_free.ensures))
+    rw c.set.ensures (taken-invariant c.self.inside.ledger c.self.inside.lanes.items c.in_ok-number.number c.self.invariant (sym c.in_ok-number.was
+    ∙ c.first_free.ensures))
 
 pub returns-clause-lowest : goal.returns-clause-lowest
 returns-clause-lowest c =

@@ -12,7 +12,8 @@ returns-in_err-endpoint-clause-step c =
 
 pub returns-in_err-endpoint-clause-memory : goal.returns-in_err-endpoint-clause-memory
 returns-in_err-endpoint-clause-memory c =
-    not_memory _ c.in_err-endpoint.field-0.0 c.from_residual.ensures (refused_otherwise c.args.self.now c.args.binding c.in_err-endpoint.field-0.0 c.in_err-endpoint.ensures)
+    not_memory _ c.in_err-endpoint.field-0.0 c.from_residual.ensures
+    (refused_otherwise c.args.self.now c.args.binding c.in_err-endpoint.field-0.0 c.in_err-endpoint.ensures)
 
 pub settle-requires : goal.settle-requires
 settle-requires c =

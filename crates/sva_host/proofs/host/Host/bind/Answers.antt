@@ -8,7 +8,8 @@ use Rattle.sva_host.proofs.host.Host.bind.Goals as goal
 
 pub returns-in_err-may_bind : goal.returns-in_err-may_bind
 returns-in_err-may_bind c =
-    kept c.args.self.now c.args.self.now (step.Bind c.args.endpoint c.args.space) _ _ refl c.from_residual.ensures (bind_refused c.args.self.now c.args.endpoint c.args.space _ c.in_err-may_bind.ensures)
+    kept c.args.self.now c.args.self.now (step.Bind c.args.endpoint c.args.space) _ _ refl c.from_residual.ensures
+    (bind_refused c.args.self.now c.args.endpoint c.args.space _ c.in_err-may_bind.ensures)
 
 pub begin-requires-clause-free : goal.begin-requires-clause-free
 begin-requires-clause-free c = has_pasid c.self.inside _ c.args.endpoint c.args.space c.self.view_is c.in_ok-may_bind.ensures
@@ -18,20 +19,25 @@ begin-requires-clause-fresh c = fresh_binding c.self.inside _ c.self.view_is c.r
 
 pub take_back-requires : goal.take_back-requires
 take_back-requires c =
-    is_live c.self.inside.bindings c.begin.new.self c.args.endpoint c.args.space c.self.inside.next_binding c.in-Ok.pasid (fresh_binding c.self.inside _ c.self.view_is c.requires) c.in-Ok.ensures.places
+    is_live c.self.inside.bindings c.begin.new.self c.args.endpoint c.args.space c.self.inside.next_binding c.in-Ok.pasid
+    (fresh_binding c.self.inside _ c.self.view_is c.requires) c.in-Ok.ensures.places
 
 pub returns-then-is_err : goal.returns-then-is_err
 returns-then-is_err c =
-    bind_unsent c.self.inside c.args.self.now c.args.endpoint c.args.space c.in-Ok.pasid (Start c.in-Ok.pasid) c.begin.new.self c.take_back.new.self c.send.new.bag c.send.result
-    c.self.view_is c.in_ok-may_bind.ensures (fresh_binding c.self.inside _ c.self.view_is c.requires) c.in-Ok.ensures.places c.take_back.ensures c.send.ensures.sends (sym c.is_err.ensures.value ∙ c.if-is_err.true)
+    bind_unsent c.self.inside c.args.self.now c.args.endpoint c.args.space c.in-Ok.pasid (Start c.in-Ok.pasid) c.begin.new.self c.take_back.new.self
+    c.send.new.bag c.send.result
+    c.self.view_is c.in_ok-may_bind.ensures (fresh_binding c.self.inside _ c.self.view_is c.requires) c.in-Ok.ensures.places c.take_back.ensures
+    c.send.ensures.sends (sym c.is_err.ensures.value ∙ c.if-is_err.true)
 
 pub invariant_of-self-then-is_err : goal.invariant_of-self-then-is_err
 invariant_of-self-then-is_err c = record {
   sound = c.self.invariant.sound;
-  staged = back_staged c.self.inside.bindings c.begin.new.self c.take_back.new.self c.args.endpoint c.args.space c.self.inside.next_binding c.in-Ok.pasid c.in-Ok.ensures.places c.take_back.ensures c.self.invariant.staged;
+  staged = back_staged c.self.inside.bindings c.begin.new.self c.take_back.new.self c.args.endpoint c.args.space c.self.inside.next_binding
+      c.in-Ok.pasid c.in-Ok.ensures.places c.take_back.ensures c.self.invariant.staged;
 }
 
 pub returns : goal.returns
 returns c =
-    bind_done c.self.inside c.args.self.now c.args.endpoint c.args.space c.in-Ok.pasid c.begin.new.self c.send.new.bag c.send.result c.self.view_is c.in_ok-may_bind.ensures
+    bind_done c.self.inside c.args.self.now c.args.endpoint c.args.space c.in-Ok.pasid c.begin.new.self c.send.new.bag c.send.result c.self.view_is
+    c.in_ok-may_bind.ensures
     c.in-Ok.ensures.pasid c.in-Ok.ensures.places c.send.ensures.sends (sym c.is_err.ensures.value ∙ c.if-is_err.false)

@@ -33,7 +33,8 @@ submit_drain-requires-clause-opened c =
     let is = drains c.args.self.now c.args.binding c.args.endpoint c.requires.may in
     let there = home_is c.args.self.now c.args.binding c.args.endpoint _ _ _ _ c.requires.sound is in
     let long = parts_seen c.self.inside c.args.self.now c.self.view_is in
-    let unit = unit_there c.self.inside c.args.self.now c.args.endpoint c.deref_mut.result.now c.index-deref_mut-endpoint.result c.self.view_is (omega (arith, there, long)) c.deref_mut.ensures.value in
+    let unit = unit_there c.self.inside c.args.self.now c.args.endpoint c.deref_mut.result.now c.index-deref_mut-endpoint.result c.self.view_is
+    (omega (arith, there, long)) c.deref_mut.ensures.value in
     ap (λ (u : UnitWire). u.is_open) unit ∙ is.is_open
 
 pub submit_drain-requires-clause-room : goal.submit_drain-requires-clause-room
@@ -41,7 +42,8 @@ submit_drain-requires-clause-room c =
     let is = drains c.args.self.now c.args.binding c.args.endpoint c.requires.may in
     let there = home_is c.args.self.now c.args.binding c.args.endpoint _ _ _ _ c.requires.sound is in
     let long = parts_seen c.self.inside c.args.self.now c.self.view_is in
-    let unit = unit_there c.self.inside c.args.self.now c.args.endpoint c.deref_mut.result.now c.index-deref_mut-endpoint.result c.self.view_is (omega (arith, there, long)) c.deref_mut.ensures.value in
+    let unit = unit_there c.self.inside c.args.self.now c.args.endpoint c.deref_mut.result.now c.index-deref_mut-endpoint.result c.self.view_is
+    (omega (arith, there, long)) c.deref_mut.ensures.value in
     ap (λ (u : UnitWire). has_room u 1) unit ∙ is.room
 
 pub submit_drain-requires-clause-later : goal.submit_drain-requires-clause-later
@@ -49,7 +51,8 @@ submit_drain-requires-clause-later c =
     let is = drains c.args.self.now c.args.binding c.args.endpoint c.requires.may in
     let there = home_is c.args.self.now c.args.binding c.args.endpoint _ _ _ _ c.requires.sound is in
     let long = parts_seen c.self.inside c.args.self.now c.self.view_is in
-    let unit = unit_there c.self.inside c.args.self.now c.args.endpoint c.deref_mut.result.now c.index-deref_mut-endpoint.result c.self.view_is (omega (arith, there, long)) c.deref_mut.ensures.value in
+    let unit = unit_there c.self.inside c.args.self.now c.args.endpoint c.deref_mut.result.now c.index-deref_mut-endpoint.result c.self.view_is
+    (omega (arith, there, long)) c.deref_mut.ensures.value in
     let next : c.self.inside.next_cookie ≡ c.args.self.now.next_cookie = ap (λ (w : Wire). w.next_cookie) c.self.view_is in
     let low = c.requires.sound.waits_given c.args.endpoint there in
     let same = ap (λ (u : UnitWire). u.waits_end) unit in
@@ -70,18 +73,26 @@ pub invariant_of-self : goal.invariant_of-self
 invariant_of-self c =
     let is = drains c.args.self.now c.args.binding c.args.endpoint c.requires.may in
     let for = port_for c.args.self.now c.args.binding c.args.endpoint _ _ _ _ c.requires.sound is in
-    let port = port_found c.self.inside c.args.self.now c.args.endpoint c.args.endpoint c.deref_mut.result.now c.index-deref_mut-endpoint.result c.self.invariant c.self.view_is for c.deref_mut.ensures.value in
+    let port = port_found c.self.inside c.args.self.now c.args.endpoint c.args.endpoint c.deref_mut.result.now c.index-deref_mut-endpoint.result
+    c.self.invariant c.self.view_is for c.deref_mut.ensures.value in
     let change = λ (u : UnitSeen). with_unit u (with_descriptors u.unit (WaitDescriptor c.self.inside.next_cookie true ∷ []) c.self.inside.next_cookie) in
-    let written = unit_rewritten c.self.inside c.args.self.now c.args.endpoint c.args.endpoint c.deref_mut.result.now c.deref_mut.result.now c.index-deref_mut-endpoint.result c.index-deref_mut-endpoint.result c.submit_drain.new.self change c.self.view_is for c.deref_mut.ensures.value c.deref_mut.ensures.value c.submit_drain.ensures in
-    with_unit_host c.self.inside _ c.args.endpoint (slice_index_or c.deref_mut.result.now c.args.endpoint c.index-deref_mut-endpoint.result) _ c.self.invariant port.sound written
+    let written = unit_rewritten c.self.inside c.args.self.now c.args.endpoint c.args.endpoint c.deref_mut.result.now c.deref_mut.result.now
+    c.index-deref_mut-endpoint.result c.index-deref_mut-endpoint.result c.submit_drain.new.self change c.self.view_is for
+    c.deref_mut.ensures.value c.deref_mut.ensures.value c.submit_drain.ensures in
+    with_unit_host c.self.inside _ c.args.endpoint (slice_index_or c.deref_mut.result.now c.args.endpoint c.index-deref_mut-endpoint.result) _
+    c.self.invariant port.sound written
     (c.drain.ensures.staged c.self.invariant.staged)
 
 pub returns : goal.returns
 returns c =
     let is = drains c.args.self.now c.args.binding c.args.endpoint c.requires.may in
     let for = port_for c.args.self.now c.args.binding c.args.endpoint _ _ _ _ c.requires.sound is in
-    let port = port_found c.self.inside c.args.self.now c.args.endpoint c.args.endpoint c.deref_mut.result.now c.index-deref_mut-endpoint.result c.self.invariant c.self.view_is for c.deref_mut.ensures.value in
+    let port = port_found c.self.inside c.args.self.now c.args.endpoint c.args.endpoint c.deref_mut.result.now c.index-deref_mut-endpoint.result
+    c.self.invariant c.self.view_is for c.deref_mut.ensures.value in
     let change = λ (u : UnitSeen). with_unit u (with_descriptors u.unit (WaitDescriptor c.self.inside.next_cookie true ∷ []) c.self.inside.next_cookie) in
-    let written = unit_rewritten c.self.inside c.args.self.now c.args.endpoint c.args.endpoint c.deref_mut.result.now c.deref_mut.result.now c.index-deref_mut-endpoint.result c.index-deref_mut-endpoint.result c.submit_drain.new.self change c.self.view_is for c.deref_mut.ensures.value c.deref_mut.ensures.value c.submit_drain.ensures in
+    let written = unit_rewritten c.self.inside c.args.self.now c.args.endpoint c.args.endpoint c.deref_mut.result.now c.deref_mut.result.now
+    c.index-deref_mut-endpoint.result c.index-deref_mut-endpoint.result c.submit_drain.new.self change c.self.view_is for
+    c.deref_mut.ensures.value c.deref_mut.ensures.value c.submit_drain.ensures in
     submitted c.self.inside c.args.self.now c.args.binding c.args.endpoint _ _ _ _ (λ (k : ℕ). WaitDescriptor k true ∷ []) DrainingWire
-    (slice_index_or c.deref_mut.result.now c.args.endpoint c.index-deref_mut-endpoint.result) _ c.drain.new.bindings c.self.view_is is port written c.drain.ensures (λ w. refl)
+    (slice_index_or c.deref_mut.result.now c.args.endpoint c.index-deref_mut-endpoint.result) _ c.drain.new.bindings c.self.view_is is port written
+    c.drain.ensures (λ w. refl)

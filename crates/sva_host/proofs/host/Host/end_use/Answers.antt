@@ -13,23 +13,30 @@ use Rattle.sva_host.proofs.host.Host.end_use.Goals as goal
 
 pub returns-in_err-answer-clause-step : goal.returns-in_err-answer-clause-step
 returns-in_err-answer-clause-step c =
-    let is = port_found c.self.inside _ c.args.endpoint c.in_ok-at.at _ c.index-deref-at.result c.self.invariant c.self.view_is c.in_ok-at.ensures c.deref.ensures.0 in
-    kept _ _ (step.EndUse c.args.endpoint c.args.slot) _ _ c.self.view_is c.from_residual-in_err-answer.ensures (end_refused c.self.inside c.args.endpoint c.args.slot _ _ is c.in_err-answer.ensures)
+    let is = port_found c.self.inside _ c.args.endpoint c.in_ok-at.at _ c.index-deref-at.result c.self.invariant c.self.view_is c.in_ok-at.ensures
+    c.deref.ensures.0 in
+    kept _ _ (step.EndUse c.args.endpoint c.args.slot) _ _ c.self.view_is c.from_residual-in_err-answer.ensures
+    (end_refused c.self.inside c.args.endpoint c.args.slot _ _ is c.in_err-answer.ensures)
 
 pub invariant_of-self : goal.invariant_of-self
 invariant_of-self c =
-    let is = port_found c.self.inside _ c.args.endpoint c.in_ok-at.at _ c.index-deref-at.result c.self.invariant c.self.view_is c.in_ok-at.ensures c.deref.ensures.0 in
+    let is = port_found c.self.inside _ c.args.endpoint c.in_ok-at.at _ c.index-deref-at.result c.self.invariant c.self.view_is c.in_ok-at.ensures
+    c.deref.ensures.0 in
     let tables = λ (s : Tables). after_end_use s c.args.slot in
-    with_tables_host c.self.inside c.args.endpoint (slice_index_or c.deref.result.now c.in_ok-at.at c.index-deref-at.result) _ c.self.inside.in_flight _ c.self.invariant
+    with_tables_host c.self.inside c.args.endpoint (slice_index_or c.deref.result.now c.in_ok-at.at c.index-deref-at.result) _
+    c.self.inside.in_flight _ c.self.invariant
     (sound_after _ (call.EndUse c.args.slot) (ap is_ok (sym c.in_ok-answer.ensures)) is.sound)
-    (rewritten c.self.inside _ c.args.endpoint c.in_ok-at.at _ _ c.index-deref-at.result c.index-deref_mut-at.result c.end_use.new.self tables c.self.view_is c.in_ok-at.ensures c.deref.ensures.0 c.deref_mut.ensures.value c.end_use.ensures)
+    (rewritten c.self.inside _ c.args.endpoint c.in_ok-at.at _ _ c.index-deref-at.result c.index-deref_mut-at.result c.end_use.new.self tables
+    c.self.view_is c.in_ok-at.ensures c.deref.ensures.0 c.deref_mut.ensures.value c.end_use.ensures)
 
 pub returns-clause-step : goal.returns-clause-step
 returns-clause-step c =
-    let is = port_found c.self.inside _ c.args.endpoint c.in_ok-at.at _ c.index-deref-at.result c.self.invariant c.self.view_is c.in_ok-at.ensures c.deref.ensures.0 in
+    let is = port_found c.self.inside _ c.args.endpoint c.in_ok-at.at _ c.index-deref-at.result c.self.invariant c.self.view_is c.in_ok-at.ensures
+    c.deref.ensures.0 in
     let tables = λ (s : Tables). after_end_use s c.args.slot in
     ended c.self.inside _ (step.EndUse c.args.endpoint c.args.slot) (c.in_ok-answer.answer) _ _ _ c.self.inside.in_flight c.self.view_is
-    (rewritten c.self.inside _ c.args.endpoint c.in_ok-at.at _ _ c.index-deref-at.result c.index-deref_mut-at.result c.end_use.new.self tables c.self.view_is c.in_ok-at.ensures c.deref.ensures.0 c.deref_mut.ensures.value c.end_use.ensures)
+    (rewritten c.self.inside _ c.args.endpoint c.in_ok-at.at _ _ c.index-deref-at.result c.index-deref_mut-at.result c.end_use.new.self tables
+    c.self.view_is c.in_ok-at.ensures c.deref.ensures.0 c.deref_mut.ensures.value c.end_use.ensures)
     (refl)
     (end_done c.self.inside c.args.endpoint c.args.slot _ c.in_ok-answer.answer is c.in_ok-answer.ensures)
 
@@ -37,4 +44,6 @@ pub returns-in_err-at-clause-memory : goal.returns-in_err-at-clause-memory
 returns-in_err-at-clause-memory c = not_for_memory _ _ c.from_residual.ensures (other_port c.args.self.now c.args.endpoint _ c.in_err-at.ensures)
 
 pub returns-in_err-answer-clause-memory : goal.returns-in_err-answer-clause-memory
-returns-in_err-answer-clause-memory c = not_for_memory _ _ c.from_residual-in_err-answer.ensures (end_other (slice_index_or c.deref.result.now c.in_ok-at.at c.index-deref-at.result).device c.args.slot _ c.in_err-answer.ensures)
+returns-in_err-answer-clause-memory c =
+    not_for_memory _ _ c.from_residual-in_err-answer.ensures
+    (end_other (slice_index_or c.deref.result.now c.in_ok-at.at c.index-deref-at.result).device c.args.slot _ c.in_err-answer.ensures)

@@ -17,35 +17,43 @@ use Rattle.sva_host.proofs.Arrivals.{deliver_done}
 use Rattle.sva_host.proofs.host.Host.goes_down.Goals as goal
 
 pub deliver-taken-requires : goal.deliver-taken-requires
-deliver-taken-requires c = may_take c.self.inside _ c.args.message c.args.sent.endpoint c.args.sent.kind c.self.view_is c.left-room.ensures.numbered c.requires.arriving
+deliver-taken-requires c =
+    may_take c.self.inside _ c.args.message c.args.sent.endpoint c.args.sent.kind c.self.view_is c.left-room.ensures.numbered c.requires.arriving
 
 pub bounds-deref_mut-at : goal.bounds-deref_mut-at
-bounds-deref_mut-at c = arriving_within c.self.inside _ c.args.message c.args.sent.endpoint c.args.sent.kind _ c.self.view_is c.requires.sound c.requires.arriving c.deref_mut.ensures.value
+bounds-deref_mut-at c =
+    arriving_within c.self.inside _ c.args.message c.args.sent.endpoint c.args.sent.kind _ c.self.view_is c.requires.sound c.requires.arriving
+    c.deref_mut.ensures.value
 
 pub offset_bounds-deref_mut-at : goal.offset_bounds-deref_mut-at
 offset_bounds-deref_mut-at c =
-    let within = arriving_within c.self.inside _ c.args.message c.args.sent.endpoint c.args.sent.kind c.deref_mut.result.now c.self.view_is c.requires.sound c.requires.arriving c.deref_mut.ensures.value in
+    let within = arriving_within c.self.inside _ c.args.message c.args.sent.endpoint c.args.sent.kind c.deref_mut.result.now c.self.view_is
+    c.requires.sound c.requires.arriving c.deref_mut.ensures.value in
     omega (arith, within, c.deref_mut.ensures.fits)
 
 pub invariant_of-self : goal.invariant_of-self
 invariant_of-self c =
     let e = c.args.sent.endpoint in
     let for = arriving_port _ c.args.message e c.args.sent.kind c.requires.sound c.requires.arriving in
-    let is = port_found c.self.inside _ e e c.deref_mut.result.now c.index-deref_mut-at.result c.self.invariant c.self.view_is for c.deref_mut.ensures.value in
+    let is = port_found c.self.inside _ e e c.deref_mut.result.now c.index-deref_mut-at.result c.self.invariant c.self.view_is for
+    c.deref_mut.ensures.value in
     let tables = λ (s : Tables). after_receive s c.args.sent.kind in
     with_tables_host c.self.inside e (slice_index_or c.deref_mut.result.now e c.index-deref_mut-at.result) _ c.deliver-taken.new.self _ c.self.invariant
     (sound_after _ (call.Receive c.args.sent.kind) refl is.sound)
-    (rewritten c.self.inside _ e e c.deref_mut.result.now c.deref_mut.result.now c.index-deref_mut-at.result c.index-deref_mut-at.result c.receive-received.new.self tables c.self.view_is for c.deref_mut.ensures.value c.deref_mut.ensures.value c.receive-received.ensures.after)
+    (rewritten c.self.inside _ e e c.deref_mut.result.now c.deref_mut.result.now c.index-deref_mut-at.result c.index-deref_mut-at.result
+    c.receive-received.new.self tables c.self.view_is for c.deref_mut.ensures.value c.deref_mut.ensures.value c.receive-received.ensures.after)
 
 pub returns : goal.returns
 returns c =
     let e = c.args.sent.endpoint in
     let for = arriving_port _ c.args.message e c.args.sent.kind c.requires.sound c.requires.arriving in
-    let is = port_found c.self.inside _ e e c.deref_mut.result.now c.index-deref_mut-at.result c.self.invariant c.self.view_is for c.deref_mut.ensures.value in
+    let is = port_found c.self.inside _ e e c.deref_mut.result.now c.index-deref_mut-at.result c.self.invariant c.self.view_is for
+    c.deref_mut.ensures.value in
     let tables = λ (s : Tables). after_receive s c.args.sent.kind in
     let port : Port = slice_index_or c.deref_mut.result.now e c.index-deref_mut-at.result in
     ended c.self.inside _ (step.Deliver c.args.message) c.receive-received.result.answer _ _ _ c.deliver-taken.new.self c.self.view_is
-    (rewritten c.self.inside _ e e c.deref_mut.result.now c.deref_mut.result.now c.index-deref_mut-at.result c.index-deref_mut-at.result c.receive-received.new.self tables c.self.view_is for c.deref_mut.ensures.value c.deref_mut.ensures.value c.receive-received.ensures.after)
+    (rewritten c.self.inside _ e e c.deref_mut.result.now c.deref_mut.result.now c.index-deref_mut-at.result c.index-deref_mut-at.result
+    c.receive-received.new.self tables c.self.view_is for c.deref_mut.ensures.value c.deref_mut.ensures.value c.receive-received.ensures.after)
     c.receive-received.ensures.answer
     (subst
     (λ (bag : InFlight).

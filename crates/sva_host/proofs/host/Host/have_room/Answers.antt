@@ -20,5 +20,6 @@ loop-endpoint-preserved c =
     let ports = parts_seen c.self.inside _ c.self.view_is in
     let within : c.loop-endpoint.endpoint < length c.self.inside.ports.items = omega arith in
     let unit = unit_there c.self.inside _ c.loop-endpoint.endpoint c.deref.result.now c.index-deref-endpoint.result c.self.view_is within c.deref.ensures.0 in
-    any_next c.loop-endpoint.endpoint (λ e. submits c.args.self.now c.args.space e && not (has_room (unit_of c.args.self.now e) c.args.descriptors)) c.loop-endpoint.invariant
+    any_next c.loop-endpoint.endpoint (λ e. submits c.args.self.now c.args.space e && not (has_room (unit_of c.args.self.now e) c.args.descriptors))
+    c.loop-endpoint.invariant
     (lacks_none _ _ _ _ c.submits.ensures (c.has_room-lacks.ensures ∙ ap (λ u. has_room u c.args.descriptors) unit) c.else-submits.either)

@@ -34,7 +34,8 @@ submit_pasid-requires-clause-opened c =
     let (cookie, is) = invalidates c.args.self.now c.args.binding c.args.endpoint c.args.pasid c.requires.may in
     let there = home_is c.args.self.now c.args.binding c.args.endpoint _ _ _ _ c.requires.sound is in
     let long = parts_seen c.self.inside c.args.self.now c.self.view_is in
-    let unit = unit_there c.self.inside c.args.self.now c.args.endpoint c.deref_mut.result.now c.index-deref_mut-endpoint.result c.self.view_is (omega (arith, there, long)) c.deref_mut.ensures.value in
+    let unit = unit_there c.self.inside c.args.self.now c.args.endpoint c.deref_mut.result.now c.index-deref_mut-endpoint.result c.self.view_is
+    (omega (arith, there, long)) c.deref_mut.ensures.value in
     ap (λ (u : UnitWire). u.is_open) unit ∙ is.is_open
 
 pub submit_pasid-requires-clause-room : goal.submit_pasid-requires-clause-room
@@ -42,7 +43,8 @@ submit_pasid-requires-clause-room c =
     let (cookie, is) = invalidates c.args.self.now c.args.binding c.args.endpoint c.args.pasid c.requires.may in
     let there = home_is c.args.self.now c.args.binding c.args.endpoint _ _ _ _ c.requires.sound is in
     let long = parts_seen c.self.inside c.args.self.now c.self.view_is in
-    let unit = unit_there c.self.inside c.args.self.now c.args.endpoint c.deref_mut.result.now c.index-deref_mut-endpoint.result c.self.view_is (omega (arith, there, long)) c.deref_mut.ensures.value in
+    let unit = unit_there c.self.inside c.args.self.now c.args.endpoint c.deref_mut.result.now c.index-deref_mut-endpoint.result c.self.view_is
+    (omega (arith, there, long)) c.deref_mut.ensures.value in
     ap (λ (u : UnitWire). has_room u 2) unit ∙ is.room
 
 pub submit_pasid-requires-clause-later : goal.submit_pasid-requires-clause-later
@@ -50,7 +52,8 @@ submit_pasid-requires-clause-later c =
     let (cookie, is) = invalidates c.args.self.now c.args.binding c.args.endpoint c.args.pasid c.requires.may in
     let there = home_is c.args.self.now c.args.binding c.args.endpoint _ _ _ _ c.requires.sound is in
     let long = parts_seen c.self.inside c.args.self.now c.self.view_is in
-    let unit = unit_there c.self.inside c.args.self.now c.args.endpoint c.deref_mut.result.now c.index-deref_mut-endpoint.result c.self.view_is (omega (arith, there, long)) c.deref_mut.ensures.value in
+    let unit = unit_there c.self.inside c.args.self.now c.args.endpoint c.deref_mut.result.now c.index-deref_mut-endpoint.result c.self.view_is
+    (omega (arith, there, long)) c.deref_mut.ensures.value in
     let next : c.self.inside.next_cookie ≡ c.args.self.now.next_cookie = ap (λ (w : Wire). w.next_cookie) c.self.view_is in
     let low = c.requires.sound.waits_given c.args.endpoint there in
     let same = ap (λ (u : UnitWire). u.waits_end) unit in
@@ -65,24 +68,36 @@ submit_pasid-requires-clause-number c =
 pub invalidate-requires : goal.invalidate-requires
 invalidate-requires c =
     let (cookie, is) = invalidates c.args.self.now c.args.binding c.args.endpoint c.args.pasid c.requires.may in
-    kind_in (DrainingWire cookie) c.args.binding c.self.inside.bindings (seen_there c.self.inside c.args.self.now c.args.binding c.args.endpoint _ _ _ _ c.self.invariant c.self.view_is is)
+    kind_in (DrainingWire cookie) c.args.binding c.self.inside.bindings
+    (seen_there c.self.inside c.args.self.now c.args.binding c.args.endpoint _ _ _ _ c.self.invariant c.self.view_is is)
 
 pub invariant_of-self : goal.invariant_of-self
 invariant_of-self c =
     let (cookie, is) = invalidates c.args.self.now c.args.binding c.args.endpoint c.args.pasid c.requires.may in
     let for = port_for c.args.self.now c.args.binding c.args.endpoint _ _ _ _ c.requires.sound is in
-    let port = port_found c.self.inside c.args.self.now c.args.endpoint c.args.endpoint c.deref_mut.result.now c.index-deref_mut-endpoint.result c.self.invariant c.self.view_is for c.deref_mut.ensures.value in
-    let change = λ (u : UnitSeen). with_unit u (with_descriptors u.unit (PasidDescriptor c.args.pasid ∷ WaitDescriptor c.self.inside.next_cookie false ∷ []) c.self.inside.next_cookie) in
-    let written = unit_rewritten c.self.inside c.args.self.now c.args.endpoint c.args.endpoint c.deref_mut.result.now c.deref_mut.result.now c.index-deref_mut-endpoint.result c.index-deref_mut-endpoint.result c.submit_pasid.new.self change c.self.view_is for c.deref_mut.ensures.value c.deref_mut.ensures.value c.submit_pasid.ensures in
-    with_unit_host c.self.inside _ c.args.endpoint (slice_index_or c.deref_mut.result.now c.args.endpoint c.index-deref_mut-endpoint.result) _ c.self.invariant port.sound written
+    let port = port_found c.self.inside c.args.self.now c.args.endpoint c.args.endpoint c.deref_mut.result.now c.index-deref_mut-endpoint.result
+    c.self.invariant c.self.view_is for c.deref_mut.ensures.value in
+    let change = λ (u : UnitSeen). with_unit u
+    (with_descriptors u.unit (PasidDescriptor c.args.pasid ∷ WaitDescriptor c.self.inside.next_cookie false ∷ []) c.self.inside.next_cookie) in
+    let written = unit_rewritten c.self.inside c.args.self.now c.args.endpoint c.args.endpoint c.deref_mut.result.now c.deref_mut.result.now
+    c.index-deref_mut-endpoint.result c.index-deref_mut-endpoint.result c.submit_pasid.new.self change c.self.view_is for
+    c.deref_mut.ensures.value c.deref_mut.ensures.value c.submit_pasid.ensures in
+    with_unit_host c.self.inside _ c.args.endpoint (slice_index_or c.deref_mut.result.now c.args.endpoint c.index-deref_mut-endpoint.result) _
+    c.self.invariant port.sound written
     (c.invalidate.ensures.staged c.self.invariant.staged)
 
 pub returns : goal.returns
 returns c =
     let (cookie, is) = invalidates c.args.self.now c.args.binding c.args.endpoint c.args.pasid c.requires.may in
     let for = port_for c.args.self.now c.args.binding c.args.endpoint _ _ _ _ c.requires.sound is in
-    let port = port_found c.self.inside c.args.self.now c.args.endpoint c.args.endpoint c.deref_mut.result.now c.index-deref_mut-endpoint.result c.self.invariant c.self.view_is for c.deref_mut.ensures.value in
-    let change = λ (u : UnitSeen). with_unit u (with_descriptors u.unit (PasidDescriptor c.args.pasid ∷ WaitDescriptor c.self.inside.next_cookie false ∷ []) c.self.inside.next_cookie) in
-    let written = unit_rewritten c.self.inside c.args.self.now c.args.endpoint c.args.endpoint c.deref_mut.result.now c.deref_mut.result.now c.index-deref_mut-endpoint.result c.index-deref_mut-endpoint.result c.submit_pasid.new.self change c.self.view_is for c.deref_mut.ensures.value c.deref_mut.ensures.value c.submit_pasid.ensures in
-    submitted c.self.inside c.args.self.now c.args.binding c.args.endpoint _ _ _ _ (λ (k : ℕ). PasidDescriptor c.args.pasid ∷ WaitDescriptor k false ∷ []) InvalidatingWire
-    (slice_index_or c.deref_mut.result.now c.args.endpoint c.index-deref_mut-endpoint.result) _ c.invalidate.new.bindings c.self.view_is is port written c.invalidate.ensures (λ w. refl)
+    let port = port_found c.self.inside c.args.self.now c.args.endpoint c.args.endpoint c.deref_mut.result.now c.index-deref_mut-endpoint.result
+    c.self.invariant c.self.view_is for c.deref_mut.ensures.value in
+    let change = λ (u : UnitSeen). with_unit u
+    (with_descriptors u.unit (PasidDescriptor c.args.pasid ∷ WaitDescriptor c.self.inside.next_cookie false ∷ []) c.self.inside.next_cookie) in
+    let written = unit_rewritten c.self.inside c.args.self.now c.args.endpoint c.args.endpoint c.deref_mut.result.now c.deref_mut.result.now
+    c.index-deref_mut-endpoint.result c.index-deref_mut-endpoint.result c.submit_pasid.new.self change c.self.view_is for
+    c.deref_mut.ensures.value c.deref_mut.ensures.value c.submit_pasid.ensures in
+    submitted c.self.inside c.args.self.now c.args.binding c.args.endpoint _ _ _ _ (λ (k : ℕ). PasidDescriptor c.args.pasid ∷ WaitDescriptor k false
+    ∷ []) InvalidatingWire
+    (slice_index_or c.deref_mut.result.now c.args.endpoint c.index-deref_mut-endpoint.result) _ c.invalidate.new.bindings c.self.view_is is port
+    written c.invalidate.ensures (λ w. refl)

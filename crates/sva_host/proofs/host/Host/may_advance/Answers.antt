@@ -11,27 +11,32 @@ use Rattle.sva_host.proofs.Advances.{none_open, no_such_binding, quiet_goes, in_
 use Rattle.sva_host.proofs.host.Host.may_advance.Goals as goal
 
 pub returns-in_default : goal.returns-in_default
-returns-in_default c = no_such_binding c.args.self.now c.args.binding (binding_at c.self.inside c.args.self.now c.args.binding _ c.self.view_is c.in_default.ensures)
+returns-in_default c =
+    no_such_binding c.args.self.now c.args.binding (binding_at c.self.inside c.args.self.now c.args.binding _ c.self.view_is c.in_default.ensures)
 
 pub returns-then-is_quiet : goal.returns-then-is_quiet
 returns-then-is_quiet c =
     ap Ok c.next_course.ensures
-    ∙ quiet_goes c.args.self.now c.args.binding _ (binding_at c.self.inside c.args.self.now c.args.binding _ c.self.view_is c.in-Some.ensures) (sym c.is_quiet.ensures ∙ c.if-is_quiet.true)
+    ∙ quiet_goes c.args.self.now c.args.binding _ (binding_at c.self.inside c.args.self.now c.args.binding _ c.self.view_is c.in-Some.ensures)
+    (sym c.is_quiet.ensures ∙ c.if-is_quiet.true)
 
 pub bounds-deref-place : goal.bounds-deref-place
 bounds-deref-place c =
     subst (λ (ports : List Port). c.in-Some.place.now.endpoint < length ports) (sym c.deref.ensures.0)
-    (home_within c.self.inside c.args.self.now c.args.binding _ c.self.view_is c.requires (binding_at c.self.inside c.args.self.now c.args.binding _ c.self.view_is c.in-Some.ensures))
+    (home_within c.self.inside c.args.self.now c.args.binding _ c.self.view_is c.requires
+    (binding_at c.self.inside c.args.self.now c.args.binding _ c.self.view_is c.in-Some.ensures))
 
 pub offset_bounds-deref-place : goal.offset_bounds-deref-place
 offset_bounds-deref-place c =
-    let there = home_there c.args.self.now c.args.binding (binding_seen c.in-Some.place.now) c.requires (binding_at c.self.inside c.args.self.now c.args.binding _ c.self.view_is c.in-Some.ensures) in
+    let there = home_there c.args.self.now c.args.binding (binding_seen c.in-Some.place.now) c.requires
+    (binding_at c.self.inside c.args.self.now c.args.binding _ c.self.view_is c.in-Some.ensures) in
     omega (arith, there, c.requires.few_parts)
 
 pub returns-then-not-is_open : goal.returns-then-not-is_open
 returns-then-not-is_open c =
     let found = binding_at c.self.inside c.args.self.now c.args.binding _ c.self.view_is c.in-Some.ensures in
-    let unit = unit_there c.self.inside c.args.self.now c.in-Some.place.now.endpoint c.deref.result.now c.index-deref-place.result c.self.view_is (home_within c.self.inside c.args.self.now c.args.binding _ c.self.view_is c.requires found) c.deref.ensures.0 in
+    let unit = unit_there c.self.inside c.args.self.now c.in-Some.place.now.endpoint c.deref.result.now c.index-deref-place.result c.self.view_is
+    (home_within c.self.inside c.args.self.now c.args.binding _ c.self.view_is c.requires found) c.deref.ensures.0 in
     in_reset c.args.self.now c.args.binding _ found
     (sym c.is_quiet.ensures ∙ c.if-is_quiet.false)
     (sym (c.is_open.ensures ∙ ap (λ u. u.is_open) unit) ∙ c.if-not-is_open.true)
@@ -39,7 +44,8 @@ returns-then-not-is_open c =
 pub returns-then-not-is_due : goal.returns-then-not-is_due
 returns-then-not-is_due c =
     let found = binding_at c.self.inside c.args.self.now c.args.binding _ c.self.view_is c.in-Some.ensures in
-    let unit = unit_there c.self.inside c.args.self.now c.in-Some.place.now.endpoint c.deref.result.now c.index-deref-place.result c.self.view_is (home_within c.self.inside c.args.self.now c.args.binding _ c.self.view_is c.requires found) c.deref.ensures.0 in
+    let unit = unit_there c.self.inside c.args.self.now c.in-Some.place.now.endpoint c.deref.result.now c.index-deref-place.result c.self.view_is
+    (home_within c.self.inside c.args.self.now c.args.binding _ c.self.view_is c.requires found) c.deref.ensures.0 in
     not_yet c.args.self.now c.args.binding _ found
     (sym c.is_quiet.ensures ∙ c.if-is_quiet.false)
     (sym (c.is_open.ensures ∙ ap (λ u. u.is_open) unit) ∙ c.if-not-is_open.false)
@@ -48,7 +54,8 @@ returns-then-not-is_due c =
 pub returns-then-descriptors-eq0 : goal.returns-then-descriptors-eq0
 returns-then-descriptors-eq0 c =
     let found = binding_at c.self.inside c.args.self.now c.args.binding _ c.self.view_is c.in-Some.ensures in
-    let unit = unit_there c.self.inside c.args.self.now c.in-Some.place.now.endpoint c.deref.result.now c.index-deref-place.result c.self.view_is (home_within c.self.inside c.args.self.now c.args.binding _ c.self.view_is c.requires found) c.deref.ensures.0 in
+    let unit = unit_there c.self.inside c.args.self.now c.in-Some.place.now.endpoint c.deref.result.now c.index-deref-place.result c.self.view_is
+    (home_within c.self.inside c.args.self.now c.args.binding _ c.self.view_is c.requires found) c.deref.ensures.0 in
     ap Ok c.next_course-then-descriptors-eq0.ensures
     ∙ settles_next c.args.self.now c.args.binding _ found
     (sym c.is_quiet.ensures ∙ c.if-is_quiet.false)
@@ -59,7 +66,8 @@ returns-then-descriptors-eq0 c =
 pub returns-then-not-has_room : goal.returns-then-not-has_room
 returns-then-not-has_room c =
     let found = binding_at c.self.inside c.args.self.now c.args.binding _ c.self.view_is c.in-Some.ensures in
-    let unit = unit_there c.self.inside c.args.self.now c.in-Some.place.now.endpoint c.deref.result.now c.index-deref-place.result c.self.view_is (home_within c.self.inside c.args.self.now c.args.binding _ c.self.view_is c.requires found) c.deref.ensures.0 in
+    let unit = unit_there c.self.inside c.args.self.now c.in-Some.place.now.endpoint c.deref.result.now c.index-deref-place.result c.self.view_is
+    (home_within c.self.inside c.args.self.now c.args.binding _ c.self.view_is c.requires found) c.deref.ensures.0 in
     queue_full c.args.self.now c.args.binding _ found
     (sym c.is_quiet.ensures ∙ c.if-is_quiet.false)
     (sym (c.is_open.ensures ∙ ap (λ u. u.is_open) unit) ∙ c.if-not-is_open.false)
@@ -71,7 +79,8 @@ returns-then-not-has_room c =
 pub returns-then-self-ge-NUMBERS : goal.returns-then-self-ge-NUMBERS
 returns-then-self-ge-NUMBERS c =
     let found = binding_at c.self.inside c.args.self.now c.args.binding _ c.self.view_is c.in-Some.ensures in
-    let unit = unit_there c.self.inside c.args.self.now c.in-Some.place.now.endpoint c.deref.result.now c.index-deref-place.result c.self.view_is (home_within c.self.inside c.args.self.now c.args.binding _ c.self.view_is c.requires found) c.deref.ensures.0 in
+    let unit = unit_there c.self.inside c.args.self.now c.in-Some.place.now.endpoint c.deref.result.now c.index-deref-place.result c.self.view_is
+    (home_within c.self.inside c.args.self.now c.args.binding _ c.self.view_is c.requires found) c.deref.ensures.0 in
     let next : c.self.inside.next_cookie ≡ c.args.self.now.next_cookie = ap (λ (w : Wire). w.next_cookie) c.self.view_is in
     let over : 2 ^ 63 ≤ c.args.self.now.next_cookie = omega (arith, c.if-self-ge-NUMBERS.true, next) in
     cookies_spent c.args.self.now c.args.binding _ found
@@ -86,7 +95,8 @@ returns-then-self-ge-NUMBERS c =
 pub returns : goal.returns
 returns c =
     let found = binding_at c.self.inside c.args.self.now c.args.binding _ c.self.view_is c.in-Some.ensures in
-    let unit = unit_there c.self.inside c.args.self.now c.in-Some.place.now.endpoint c.deref.result.now c.index-deref-place.result c.self.view_is (home_within c.self.inside c.args.self.now c.args.binding _ c.self.view_is c.requires found) c.deref.ensures.0 in
+    let unit = unit_there c.self.inside c.args.self.now c.in-Some.place.now.endpoint c.deref.result.now c.index-deref-place.result c.self.view_is
+    (home_within c.self.inside c.args.self.now c.args.binding _ c.self.view_is c.requires found) c.deref.ensures.0 in
     let next : c.self.inside.next_cookie ≡ c.args.self.now.next_cookie = ap (λ (w : Wire). w.next_cookie) c.self.view_is in
     let under : c.args.self.now.next_cookie < 2 ^ 63 = omega (arith, c.if-self-ge-NUMBERS.false, next) in
     ap Ok c.next_course-2.ensures

@@ -39,7 +39,8 @@ returns c =
     let found = binding_at c.self.inside c.args.self.now c.args.binding _ c.self.view_is c.in_ok-place.ensures in
     let within = home_within c.self.inside c.args.self.now c.args.binding _ c.self.view_is c.requires found in
     let unit =
-    unit_there c.self.inside c.args.self.now c.in_ok-place.place.now.endpoint c.deref.result.now c.index-deref-place.result c.self.view_is within c.deref.ensures.0 in
+    unit_there c.self.inside c.args.self.now c.in_ok-place.place.now.endpoint c.deref.result.now c.index-deref-place.result c.self.view_is within
+    c.deref.ensures.0 in
     let drains = sym c.is_draining.ensures ∙ c.if-not-is_draining.false in
     ap Some (c.is_open.ensures ∙ ap (λ u. u.is_open) unit)
     ∙ sym

@@ -5,4 +5,5 @@ use Rattle.sva_host.proofs.host.Host.submits.Goals as goal
 pub returns : goal.returns
 returns c =
     c.submits.ensures
-    ∙ submits_there c.self.inside _ c.args.endpoint c.args.space c.deref.result.now c.index-deref-endpoint.result _ c.self.view_is c.requires c.deref.ensures.0 c.place_between-place.ensures
+    ∙ submits_there c.self.inside _ c.args.endpoint c.args.space c.deref.result.now c.index-deref-endpoint.result _ c.self.view_is c.requires
+    c.deref.ensures.0 c.place_between-place.ensures

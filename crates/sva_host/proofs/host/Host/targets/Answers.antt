@@ -3,17 +3,23 @@ use Rattle.std.specs.Prelude.{length, option_map}
 use Rattle.sva_model.specs.Wire.{Wire}
 use Rattle.sva_memory.specs.Seen.{target_seen, targets_seen}
 use Rattle.sva_host.specs.Unmapping.{target_so_far}
-use Rattle.sva_host.proofs.Awaited.{nothing_awaited, first_cookie, cookie_most, next_cookie_there, next_cookie_off, target_is, not_yet, nothing_yet, one_more, no_more}
+use Rattle.sva_host.proofs.Awaited.{nothing_awaited, first_cookie, cookie_most, next_cookie_there, next_cookie_off, target_is, not_yet, nothing_yet}
+use Rattle.sva_host.proofs.Awaited.{one_more, no_more}
 use Rattle.sva_host.proofs.host.Host.targets.Goals as goal
 use Rattle.sva_host.proofs.host.Host.targets.Goals.{then-submits, else-submits, in-Some, in_default}
 
 pub loop-endpoint-init : goal.loop-endpoint-init
-loop-endpoint-init c = (ap targets_seen c.new-waits.ensures ∙ nothing_awaited c.args.self.now c.args.space, ap (λ (w : Wire). w.next_cookie) c.self.view_is ∙ first_cookie c.args.self.now c.args.space)
+loop-endpoint-init c = (
+  ap targets_seen c.new-waits.ensures ∙ nothing_awaited c.args.self.now c.args.space,
+  ap (λ (w : Wire). w.next_cookie) c.self.view_is
+      ∙ first_cookie c.args.self.now c.args.space,
+)
 
 pub push-requires : goal.push-requires
 push-requires c =
     let most = c.len-endpoint-end.ensures.fits in
-    nothing_yet c.loop-endpoint.waits (target_so_far c.args.self.now c.args.space c.loop-endpoint.endpoint) c.loop-endpoint.endpoint c.loop-endpoint.invariant.0 (omega arith) (not_yet c.args.self.now c.args.space c.loop-endpoint.endpoint)
+    nothing_yet c.loop-endpoint.waits (target_so_far c.args.self.now c.args.space c.loop-endpoint.endpoint) c.loop-endpoint.endpoint
+    c.loop-endpoint.invariant.0 (omega arith) (not_yet c.args.self.now c.args.space c.loop-endpoint.endpoint)
 
 pub overflow_add-cookie : goal.overflow_add-cookie
 overflow_add-cookie c =
@@ -26,15 +32,20 @@ overflow_add-cookie c =
 pub loop-endpoint-preserved : goal.loop-endpoint-preserved
 loop-endpoint-preserved c =
     let within : c.loop-endpoint.endpoint < length c.self.inside.ports.items = omega arith in
-    let seen = c.target.ensures ∙ target_is c.self.inside _ c.loop-endpoint.endpoint c.args.space c.loop-endpoint.cookie c.deref.result.now c.index-deref-endpoint.result _ c.self.view_is within c.deref.ensures.0 c.place_between-place.ensures c.loop-endpoint.invariant.1 in (
+    let seen = c.target.ensures ∙ target_is c.self.inside _ c.loop-endpoint.endpoint c.args.space c.loop-endpoint.cookie c.deref.result.now
+    c.index-deref-endpoint.result _ c.self.view_is within c.deref.ensures.0 c.place_between-place.ensures c.loop-endpoint.invariant.1 in (
       elim c.match-target.branch [
-        | in-Some w ↦ one_more c.args.self.now c.args.space c.loop-endpoint.endpoint c.loop-endpoint.waits c.match-target.waits w.in-Some.target c.loop-endpoint.invariant.0
+        | in-Some w ↦ one_more c.args.self.now c.args.space c.loop-endpoint.endpoint c.loop-endpoint.waits c.match-target.waits w.in-Some.target
+            c.loop-endpoint.invariant.0
             (sym (ap (option_map target_seen) w.in-Some.is) ∙ seen) (w.waits-is ∙ w.push.ensures)
         | in_default w ↦ ap targets_seen w.waits-is
-            ∙ no_more c.args.self.now c.args.space c.loop-endpoint.endpoint c.loop-endpoint.waits c.loop-endpoint.invariant.0 (sym (ap (option_map target_seen) w.in_default.is) ∙ seen)
+            ∙ no_more c.args.self.now c.args.space c.loop-endpoint.endpoint c.loop-endpoint.waits c.loop-endpoint.invariant.0
+            (sym (ap (option_map target_seen) w.in_default.is) ∙ seen)
       ],
       elim c.if-submits.branch [
-        | then-submits w ↦ w.cookie-is ∙ ap (λ n. n + 1) c.loop-endpoint.invariant.1 ∙ sym (next_cookie_there c.args.self.now c.args.space c.loop-endpoint.endpoint (sym c.submits.ensures ∙ w.if-submits.true))
-        | else-submits w ↦ w.cookie-is ∙ c.loop-endpoint.invariant.1 ∙ sym (next_cookie_off c.args.self.now c.args.space c.loop-endpoint.endpoint (sym c.submits.ensures ∙ w.if-submits.false))
+        | then-submits w ↦ w.cookie-is ∙ ap (λ n. n + 1) c.loop-endpoint.invariant.1
+            ∙ sym (next_cookie_there c.args.self.now c.args.space c.loop-endpoint.endpoint (sym c.submits.ensures ∙ w.if-submits.true))
+        | else-submits w ↦ w.cookie-is ∙ c.loop-endpoint.invariant.1
+            ∙ sym (next_cookie_off c.args.self.now c.args.space c.loop-endpoint.endpoint (sym c.submits.ensures ∙ w.if-submits.false))
       ],
     )

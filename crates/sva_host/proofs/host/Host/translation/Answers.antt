@@ -10,12 +10,14 @@ returns-in_default c = found_by c.self.inside _ c.args.endpoint c.args.pasid c.a
 
 pub returns-then-not-is_live : goal.returns-then-not-is_live
 returns-then-not-is_live c =
-    sym (ap (λ (b : Bool). if b then page_at (pages_in c.args.self.now c.in-Some.place.now.space) c.args.page else None) (sym c.is_live.ensures ∙ c.if-not-is_live.true))
+    sym (ap (λ (b : Bool). if b then page_at (pages_in c.args.self.now c.in-Some.place.now.space) c.args.page else None) (sym c.is_live.ensures
+    ∙ c.if-not-is_live.true))
     ∙ found_by c.self.inside _ c.args.endpoint c.args.pasid c.args.page _ c.self.view_is c.in-Some.ensures
 
 pub returns : goal.returns
 returns c =
     c.find.ensures
     ∙ ap (λ (w : Wire). page_at (pages_in w c.in-Some.place.now.space) c.args.page) c.self.view_is
-    ∙ sym (ap (λ (b : Bool). if b then page_at (pages_in c.args.self.now c.in-Some.place.now.space) c.args.page else None) (sym c.is_live.ensures ∙ c.if-not-is_live.false))
+    ∙ sym (ap (λ (b : Bool). if b then page_at (pages_in c.args.self.now c.in-Some.place.now.space) c.args.page else None) (sym c.is_live.ensures
+    ∙ c.if-not-is_live.false))
     ∙ found_by c.self.inside _ c.args.endpoint c.args.pasid c.args.page _ c.self.view_is c.in-Some.ensures

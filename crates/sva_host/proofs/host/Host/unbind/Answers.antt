@@ -2,7 +2,8 @@ use Rattle.std.proofs.Common.{refl}
 use Rattle.sva_step.specs.declared.steps.Step.TheVariants as step
 use Rattle.sva_host.specs.Inner.{wire_of}
 use Rattle.sva_host.proofs.Devices.{kept, went}
-use Rattle.sva_host.proofs.Unbinds.{unbind_refused, refused_otherwise, ends_at_once, lost_there, ended, ends_by_stop, live_there, unsent, stopped, not_memory, not_lost}
+use Rattle.sva_host.proofs.Unbinds.{unbind_refused, refused_otherwise, ends_at_once, lost_there, ended, ends_by_stop, live_there, unsent, stopped}
+use Rattle.sva_host.proofs.Unbinds.{not_memory, not_lost}
 use Rattle.sva_host.proofs.host.Host.unbind.Goals as goal
 
 pub returns-in_err-endpoint-clause-step : goal.returns-in_err-endpoint-clause-step
@@ -12,7 +13,8 @@ returns-in_err-endpoint-clause-step c =
 
 pub returns-in_err-endpoint-clause-memory : goal.returns-in_err-endpoint-clause-memory
 returns-in_err-endpoint-clause-memory c = λ b found lost.
-    not_memory _ c.in_err-endpoint.field-0.0 c.from_residual.ensures (refused_otherwise c.args.self.now c.args.binding c.in_err-endpoint.field-0.0 c.in_err-endpoint.ensures)
+    not_memory _ c.in_err-endpoint.field-0.0 c.from_residual.ensures
+    (refused_otherwise c.args.self.now c.args.binding c.in_err-endpoint.field-0.0 c.in_err-endpoint.ensures)
 
 pub settle_lost-requires : goal.settle_lost-requires
 settle_lost-requires c =
@@ -31,7 +33,8 @@ stop-requires c =
 
 pub returns-in_err-send-clause-step : goal.returns-in_err-send-clause-step
 returns-in_err-send-clause-step c =
-    went c.args.self.now c.args.self.now (wire_of (record c.self.inside { in_flight = c.send.new.bag })) (step.Unbind c.args.binding) _ c.in_err-send.field-0.0 refl c.from_residual-in_err-send.ensures
+    went c.args.self.now c.args.self.now (wire_of (record c.self.inside { in_flight = c.send.new.bag })) (step.Unbind c.args.binding) _
+    c.in_err-send.field-0.0 refl c.from_residual-in_err-send.ensures
     (unsent c.self.inside c.args.self.now c.args.binding c.in-ByStop.endpoint c.in-ByStop.pasid c.send.new.bag c.in_err-send.field-0.0 c.self.view_is
     (ends_by_stop c.args.self.now c.args.binding c.in-ByStop.endpoint c.in-ByStop.pasid c.in_ok-endpoint.field-0 c.in_ok-endpoint.ensures c.in-ByStop.is)
     c.in_err-send.ensures.sends)
@@ -40,7 +43,8 @@ pub returns-in_err-send-clause-memory : goal.returns-in_err-send-clause-memory
 returns-in_err-send-clause-memory c = λ b found lost.
     absurd
     (not_lost c.args.self.now c.args.binding c.in-ByStop.endpoint c.in-ByStop.pasid b
-    (ends_by_stop c.args.self.now c.args.binding c.in-ByStop.endpoint c.in-ByStop.pasid c.in_ok-endpoint.field-0 c.in_ok-endpoint.ensures c.in-ByStop.is) found lost)
+    (ends_by_stop c.args.self.now c.args.binding c.in-ByStop.endpoint c.in-ByStop.pasid c.in_ok-endpoint.field-0 c.in_ok-endpoint.ensures
+    c.in-ByStop.is) found lost)
 
 pub returns-clause-step : goal.returns-clause-step
 returns-clause-step c =

@@ -19,21 +19,27 @@ returns-in_err-may_submit-clause-step c =
 pub unmap_range-frames-requires-clause-room : goal.unmap_range-frames-requires-clause-room
 unmap_range-frames-requires-clause-room c =
     room_for c.args.self.now c.args.space 1 c.self-2.inside.memory.places _ c.requires (omega arith)
-    (units_fit c.args.self.now c.args.space _ c.in_ok-may_submit.ensures) (ap (λ (w : Wire). w.places) (c.self-2.view_is ∙ c.submit.ensures)) c.targets-waits.ensures
+    (units_fit c.args.self.now c.args.space _ c.in_ok-may_submit.ensures) (ap (λ (w : Wire). w.places) (c.self-2.view_is ∙ c.submit.ensures))
+    c.targets-waits.ensures
 
 pub returns-clause-step : goal.returns-clause-step
 returns-clause-step c =
     let seen = c.self-2.view_is ∙ c.submit.ensures in
-    let frames = c.unmap_range-frames.ensures.frames ∙ ap (λ (w : Wire). count_below (2 ^ c.args.order) (λ j. is_mapped (pages_in w c.args.space) (c.args.page + j))) seen in
-    range_ends c.self.inside c.self-2.inside c.args.self.now c.args.space c.args.page c.args.order c.targets-waits.result c.unmap_range-frames.new.self c.if-is_empty.result
+    let frames = c.unmap_range-frames.ensures.frames
+    ∙ ap (λ (w : Wire). count_below (2 ^ c.args.order) (λ j. is_mapped (pages_in w c.args.space) (c.args.page + j))) seen in
+    range_ends c.self.inside c.self-2.inside c.args.self.now c.args.space c.args.page c.args.order c.targets-waits.result
+    c.unmap_range-frames.new.self c.if-is_empty.result
     c.self.view_is c.in_ok-may_unmap_range.ensures c.in_ok-may_submit.ensures seen c.targets-waits.ensures c.unmap_range-frames.ensures.after
     (elim c.if-is_empty.branch [
       | then-is_empty w ↦ w.result-is ∙ (λ i. Ok (unmap_range_answer (sym (empty_if c.is_empty.result _ c.is_empty.ensures w.if-is_empty.true) i) (frames i)))
-      | else-is_empty w ↦ w.result-is ∙ (λ i. Ok (unmap_range_answer (sym (awaited_if c.is_empty.result _ c.is_empty.ensures w.if-is_empty.false) i) (frames i)))
+      | else-is_empty w ↦ w.result-is
+          ∙ (λ i. Ok (unmap_range_answer (sym (awaited_if c.is_empty.result _ c.is_empty.ensures w.if-is_empty.false) i) (frames i)))
     ])
 
 pub returns-in_err-may_unmap_range-clause-memory : goal.returns-in_err-may_unmap_range-clause-memory
-returns-in_err-may_unmap_range-clause-memory c = not_for_memory _ _ c.from_residual.ensures (range_other c.self.inside.memory c.args.space c.args.page c.args.order _ c.in_err-may_unmap_range.ensures)
+returns-in_err-may_unmap_range-clause-memory c =
+    not_for_memory _ _ c.from_residual.ensures (range_other c.self.inside.memory c.args.space c.args.page c.args.order _ c.in_err-may_unmap_range.ensures)
 
 pub returns-in_err-may_submit-clause-memory : goal.returns-in_err-may_submit-clause-memory
-returns-in_err-may_submit-clause-memory c = not_for_memory _ _ c.from_residual-in_err-may_submit.ensures (units_other c.args.self.now c.args.space _ _ c.in_err-may_submit.ensures)
+returns-in_err-may_submit-clause-memory c =
+    not_for_memory _ _ c.from_residual-in_err-may_submit.ensures (units_other c.args.self.now c.args.space _ _ c.in_err-may_submit.ensures)

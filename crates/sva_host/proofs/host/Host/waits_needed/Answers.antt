@@ -11,9 +11,15 @@ pub loop-endpoint-preserved : goal.loop-endpoint-preserved
 loop-endpoint-preserved c =
     elim c.if-submits.branch [
       | then-submits w ↦ let is = w.needed-is in
-          let few = c.loop-endpoint.invariant.1 in
-          (w.needed-is ∙ ap (λ n. n + 1) c.loop-endpoint.invariant.0 ∙ sym (counted_there c.loop-endpoint.endpoint (submits c.args.self.now c.args.space) (sym c.submits.ensures ∙ w.if-submits.true)), omega arith)
+          let few = c.loop-endpoint.invariant.1 in (
+            w.needed-is ∙ ap (λ n. n + 1) c.loop-endpoint.invariant.0
+                ∙ sym (counted_there c.loop-endpoint.endpoint (submits c.args.self.now c.args.space) (sym c.submits.ensures ∙ w.if-submits.true)),
+            omega arith,
+          )
       | else-submits w ↦ let is = w.needed-is in
-          let few = c.loop-endpoint.invariant.1 in
-          (w.needed-is ∙ c.loop-endpoint.invariant.0 ∙ sym (counted_off c.loop-endpoint.endpoint (submits c.args.self.now c.args.space) (sym c.submits.ensures ∙ w.if-submits.false)), omega arith)
+          let few = c.loop-endpoint.invariant.1 in (
+            w.needed-is ∙ c.loop-endpoint.invariant.0
+                ∙ sym (counted_off c.loop-endpoint.endpoint (submits c.args.self.now c.args.space) (sym c.submits.ensures ∙ w.if-submits.false)),
+            omega arith,
+          )
     ]

@@ -11,7 +11,9 @@ returns-in_default-clause-none c =
 
 pub returns-clause-none : goal.returns-clause-none
 returns-clause-none c =
-    let is_free : Some c.in-Some.tag ≡ lowest_free c.self.inside.places.items = sym c.in-Some.is ∙ c.first_free.ensures.lowest ∙ ap lowest_free c.deref.ensures.0 in
-    let fewer : count_by is_some c.self.inside.places.items < length c.self.inside.places.items = some_free c.self.inside.places.items c.in-Some.tag is_free in
+    let is_free : Some c.in-Some.tag ≡ lowest_free c.self.inside.places.items = sym c.in-Some.is ∙ c.first_free.ensures.lowest
+    ∙ ap lowest_free c.deref.ensures.0 in
+    let fewer : count_by is_some c.self.inside.places.items < length c.self.inside.places.items =
+    some_free c.self.inside.places.items c.in-Some.tag is_free in
     let viewed : count_by is_some c.args.self.now < 32 = rw (← c.self.view_is) (omega (arith, c.self.invariant.0)) in
     (λ h. cc, λ h. absurd (omega (arith, h)))

@@ -8,7 +8,10 @@ use Rattle.sva_memory.proofs.memory.Memory.counts.Goals as goal
 
 pub returns : goal.returns
 returns c = record {
-  free = c.counts.ensures.free ∙ count-seen is_free is_free_wire is_free-seen c.self.inside.pool ∙ ap (λ (m : MemorySeen). count_by is_free_wire m.places) c.self.view_is;
-  mapped = c.counts.ensures.mapped ∙ count-seen is_mapped is_mapped_place mapped-seen c.self.inside.pool ∙ ap (λ (m : MemorySeen). count_by is_mapped_place m.places) c.self.view_is;
-  withheld = c.counts.ensures.withheld ∙ count-seen is_withheld is_withheld_place withheld-seen c.self.inside.pool ∙ ap (λ (m : MemorySeen). count_by is_withheld_place m.places) c.self.view_is;
+  free = c.counts.ensures.free ∙ count-seen is_free is_free_wire is_free-seen c.self.inside.pool
+      ∙ ap (λ (m : MemorySeen). count_by is_free_wire m.places) c.self.view_is;
+  mapped = c.counts.ensures.mapped ∙ count-seen is_mapped is_mapped_place mapped-seen c.self.inside.pool
+      ∙ ap (λ (m : MemorySeen). count_by is_mapped_place m.places) c.self.view_is;
+  withheld = c.counts.ensures.withheld ∙ count-seen is_withheld is_withheld_place withheld-seen c.self.inside.pool
+      ∙ ap (λ (m : MemorySeen). count_by is_withheld_place m.places) c.self.view_is;
 }

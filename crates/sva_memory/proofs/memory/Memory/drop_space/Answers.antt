@@ -20,24 +20,36 @@ unreachable-requires c =
 
 pub give_all-requires : goal.give_all-requires
 give_all-requires c =
-    let at = has_space c.self.inside c.args.number c.in-Some.place c.remove-space.result _ c.self.invariant c.in-Some.ensures c.deref.ensures.value c.remove-space.ensures.value in
+    let at = has_space c.self.inside c.args.number c.in-Some.place c.remove-space.result _ c.self.invariant c.in-Some.ensures c.deref.ensures.value
+    c.remove-space.ensures.value in
     owns-at c.self.inside.spaces.items c.self.inside.pool c.in-Some.place c.remove-space.result c.self.invariant.owned at.there
 
 pub invariant_of-self : goal.invariant_of-self
 invariant_of-self c =
-    let at = has_space c.self.inside c.args.number c.in-Some.place c.remove-space.result _ c.self.invariant c.in-Some.ensures c.deref.ensures.value c.remove-space.ensures.value in
+    let at = has_space c.self.inside c.args.number c.in-Some.place c.remove-space.result _ c.self.invariant c.in-Some.ensures c.deref.ensures.value
+    c.remove-space.ensures.value in
     record {
-      numbered = numbered-dropped c.self.inside.spaces.items c.remove-space.new.self.items c.self.inside.next_space c.in-Some.place c.self.invariant.numbered c.remove-space.ensures.items;
-      owned = owned-dropped c.self.inside.spaces.items c.remove-space.new.self.items c.self.inside.pool c.give_all.new.pool c.in-Some.place c.remove-space.result c.self.invariant.owned at.there c.remove-space.ensures.items c.give_all.ensures.spent;
+      numbered = numbered-dropped c.self.inside.spaces.items c.remove-space.new.self.items c.self.inside.next_space c.in-Some.place
+          c.self.invariant.numbered c.remove-space.ensures.items;
+      owned = owned-dropped c.self.inside.spaces.items c.remove-space.new.self.items c.self.inside.pool c.give_all.new.pool c.in-Some.place
+          c.remove-space.result c.self.invariant.owned at.there c.remove-space.ensures.items c.give_all.ensures.spent;
     }
 
 pub returns : goal.returns
 returns c =
     let live = c.remove-space.result in
-    let at = has_space c.self.inside c.args.number c.in-Some.place live _ c.self.invariant c.in-Some.ensures c.deref.ensures.value c.remove-space.ensures.value in
-    subst (λ (m : MemorySeen). Moves (Move.DropSpace c.args.number) m (record { spaces = spaces_seen c.remove-space.new.self.items; places = places_seen c.give_all.new.pool; next_space = c.self.inside.next_space })) c.self.view_is
+    let at = has_space c.self.inside c.args.number c.in-Some.place live _ c.self.invariant c.in-Some.ensures c.deref.ensures.value
+    c.remove-space.ensures.value in
+    subst (λ (m : MemorySeen). Moves (Move.DropSpace c.args.number) m
+    (record {
+      spaces = spaces_seen c.remove-space.new.self.items;
+      places = places_seen c.give_all.new.pool;
+      next_space =
+          c.self.inside.next_space;
+    })) c.self.view_is
     (moves_each (Move.DropSpace c.args.number) (memory_in c.self.inside) _
-    (λ w. by_drop (with_memory w (memory_in c.self.inside)) c.args.number (pages_seen live.space) (spaces_seen c.remove-space.new.self.items) (places_seen c.give_all.new.pool)
+    (λ w. by_drop (with_memory w (memory_in c.self.inside)) c.args.number (pages_seen live.space) (spaces_seen c.remove-space.new.self.items)
+    (places_seen c.give_all.new.pool)
     (pages_of-at c.self.inside.spaces.items c.args.number c.in-Some.place live at.there at.is_number at.once)
     (ap spaces_seen c.remove-space.ensures.items ∙ spaces-removed c.self.inside.spaces.items c.args.number c.in-Some.place live at.there at.is_number at.once)
     c.give_all.ensures.places))

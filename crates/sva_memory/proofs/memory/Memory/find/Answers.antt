@@ -11,7 +11,8 @@ use Rattle.sva_memory.proofs.memory.Memory.find.Goals as goal
 
 pub returns-in_default : goal.returns-in_default
 returns-in_default c =
-    sym (ap (λ (found : Option (List PageWire)). page_at (or_no_pages found) c.args.page) (lacks_space c.self.inside c.args.space _ c.in_default.ensures c.deref.ensures.value))
+    sym (ap (λ (found : Option (List PageWire)). page_at (or_no_pages found) c.args.page)
+    (lacks_space c.self.inside c.args.space _ c.in_default.ensures c.deref.ensures.value))
     ∙ ap (λ (m : MemorySeen). page_at (or_no_pages (pages_of m.spaces c.args.space)) c.args.page) c.self.view_is
 
 pub returns : goal.returns

@@ -6,6 +6,8 @@ use Rattle.sva_memory.proofs.memory.Memory.has_room.Goals as goal
 
 pub returns : goal.returns
 returns c = (
-  λ yes_room. subst (λ (m : MemorySeen). HaveRoom m.places (targets_seen c.args.waits.now)) c.self.view_is (room_seen c.self.inside.pool c.args.waits.now (c.has_room.ensures.0 yes_room)),
-  λ room. c.has_room.ensures.1 (room_of c.self.inside.pool c.args.waits.now (subst (λ (m : MemorySeen). HaveRoom m.places (targets_seen c.args.waits.now)) (sym c.self.view_is) room)),
+  λ yes_room. subst (λ (m : MemorySeen). HaveRoom m.places (targets_seen c.args.waits.now)) c.self.view_is
+      (room_seen c.self.inside.pool c.args.waits.now (c.has_room.ensures.0 yes_room)),
+  λ room. c.has_room.ensures.1
+      (room_of c.self.inside.pool c.args.waits.now (subst (λ (m : MemorySeen). HaveRoom m.places (targets_seen c.args.waits.now)) (sym c.self.view_is) room)),
 )

@@ -20,7 +20,8 @@ unreachable-requires c =
 pub map_all-requires-clause-may : goal.map_all-requires-clause-may
 map_all-requires-clause-may c =
     let live = c.index_mut.result.now in
-    let at = space_there c.self.inside c.args.space c.in-Some.place live _ c.self.invariant c.in-Some.ensures c.deref.ensures.value c.index_mut.ensures.value in
+    let at = space_there c.self.inside c.args.space c.in-Some.place live _ c.self.invariant c.in-Some.ensures c.deref.ensures.value
+    c.index_mut.ensures.value in
     subst (λ (o : Option (List PageWire)). IsOk (verdict (success_causes (or_no_pages o) (memory_in c.self.inside).places (asks_seen c.args.asks.now))))
     (pages_of-at c.self.inside.spaces.items c.args.space c.in-Some.place live at.there at.is_number at.once)
     (subst (λ (m : MemorySeen). IsOk (may_map_all m c.args.space (asks_seen c.args.asks.now))) (sym c.self.view_is) c.requires.may)
@@ -41,7 +42,8 @@ invariant_of-self c =
 pub returns-clause-pages : goal.returns-clause-pages
 returns-clause-pages c =
     let live = c.index_mut.result.now in
-    let at = space_there c.self.inside c.args.space c.in-Some.place live _ c.self.invariant c.in-Some.ensures c.deref.ensures.value c.index_mut.ensures.value in
+    let at = space_there c.self.inside c.args.space c.in-Some.place live _ c.self.invariant c.in-Some.ensures c.deref.ensures.value
+    c.index_mut.ensures.value in
     let asks = asks_seen c.args.asks.now in
     let same : new_among (pages_seen live.space) asks ≡ new_pages c.args.self.now c.args.space asks =
     ap (λ (o : Option (List PageWire)). new_among (or_no_pages o) asks)
@@ -53,7 +55,8 @@ returns-clause-pages c =
 pub returns-clause-after : goal.returns-clause-after
 returns-clause-after c =
     let live = c.index_mut.result.now in
-    let at = space_there c.self.inside c.args.space c.in-Some.place live _ c.self.invariant c.in-Some.ensures c.deref.ensures.value c.index_mut.ensures.value in
+    let at = space_there c.self.inside c.args.space c.in-Some.place live _ c.self.invariant c.in-Some.ensures c.deref.ensures.value
+    c.index_mut.ensures.value in
     let asks = asks_seen c.args.asks.now in
     let after = memory_in (with_space c.self.inside c.in-Some.place live c.map_all.new.space c.map_all.new.pool) in
     on_ok c.map_all.result _ (AllMoves (maps_of c.args.self.now c.args.space asks) c.args.self.now after)
@@ -65,7 +68,8 @@ returns-clause-after c =
 pub returns-clause-back : goal.returns-clause-back
 returns-clause-back c =
     let live = c.index_mut.result.now in
-    let at = space_there c.self.inside c.args.space c.in-Some.place live _ c.self.invariant c.in-Some.ensures c.deref.ensures.value c.index_mut.ensures.value in
+    let at = space_there c.self.inside c.args.space c.in-Some.place live _ c.self.invariant c.in-Some.ensures c.deref.ensures.value
+    c.index_mut.ensures.value in
     let asks = asks_seen c.args.asks.now in
     let after = memory_in (with_space c.self.inside c.in-Some.place live c.map_all.new.space c.map_all.new.pool) in
     if_both c.map_all.result (λ pages. pages.items ≡ new_among (pages_seen live.space) asks)
@@ -80,7 +84,8 @@ returns-clause-back c =
 pub returns-clause-err : goal.returns-clause-err
 returns-clause-err c =
     let live = c.index_mut.result.now in
-    let at = space_there c.self.inside c.args.space c.in-Some.place live _ c.self.invariant c.in-Some.ensures c.deref.ensures.value c.index_mut.ensures.value in
+    let at = space_there c.self.inside c.args.space c.in-Some.place live _ c.self.invariant c.in-Some.ensures c.deref.ensures.value
+    c.index_mut.ensures.value in
     on_err c.map_all.result _ _
     (λ kept. none_seen (memory_in c.self.inside) c.args.space (pages_seen live.space) (pages_seen c.map_all.new.space) _ (places_seen c.map_all.new.pool)
     (one_changed c.self.inside c.args.space c.in-Some.place live c.map_all.new.space at) kept.0 kept.1 ∙ c.self.view_is)

@@ -11,7 +11,8 @@ use Rattle.sva_memory.proofs.memory.Memory.may_unmap_range.Goals as goal
 
 pub returns-in_default : goal.returns-in_default
 returns-in_default c =
-    no_space (λ pages. range_causes pages c.args.page c.args.order) (pages_of (memory_in c.self.inside).spaces c.args.space) (lacks_space c.self.inside c.args.space _ c.in_default.ensures c.deref.ensures.value)
+    no_space (λ pages. range_causes pages c.args.page c.args.order) (pages_of (memory_in c.self.inside).spaces c.args.space)
+    (lacks_space c.self.inside c.args.space _ c.in_default.ensures c.deref.ensures.value)
     ∙ ap (λ (m : MemorySeen). unmapping.may_unmap_range m c.args.space c.args.page c.args.order) c.self.view_is
 
 pub returns : goal.returns

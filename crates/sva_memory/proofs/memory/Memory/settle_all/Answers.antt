@@ -10,10 +10,12 @@ use Rattle.sva_memory.proofs.memory.Memory.settle_all.Goals as goal
 pub invariant_of-self : goal.invariant_of-self
 invariant_of-self c = record {
   numbered = c.self.invariant.numbered;
-  owned = owned_settled c.args.unit (past_reset) c.self.inside.spaces.items c.self.inside.pool c.settle_all.new.self c.self.invariant.owned c.settle_all.ensures;
+  owned = owned_settled c.args.unit (past_reset) c.self.inside.spaces.items c.self.inside.pool c.settle_all.new.self c.self.invariant.owned
+      c.settle_all.ensures;
 }
 
 pub returns : goal.returns
 returns c =
-    ap (λ (places : List PlaceWire). record (memory_in c.self.inside) { places = places }) (unit_settled c.args.unit c.self.inside.pool c.settle_all.new.self c.settle_all.ensures)
+    ap (λ (places : List PlaceWire). record (memory_in c.self.inside) { places = places })
+    (unit_settled c.args.unit c.self.inside.pool c.settle_all.new.self c.settle_all.ensures)
     ∙ ap (λ (m : MemorySeen). settled m c.args.unit (λ target. None)) c.self.view_is

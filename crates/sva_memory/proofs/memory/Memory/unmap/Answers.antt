@@ -18,7 +18,8 @@ use Rattle.sva_memory.proofs.memory.Memory.unmap.Goals as goal
 pub unreachable-requires : goal.unreachable-requires
 unreachable-requires c =
     is_there (λ pages. unmap_causes pages c.args.page c.args.count) c.self.inside c.args.space _
-    (subst (λ (m : MemorySeen). IsOk (may_unmap m c.args.space c.args.page c.args.count)) (sym c.self.view_is) c.requires.may) c.in_default.ensures c.deref.ensures.value
+    (subst (λ (m : MemorySeen). IsOk (may_unmap m c.args.space c.args.page c.args.count)) (sym c.self.view_is) c.requires.may) c.in_default.ensures
+    c.deref.ensures.value
 
 pub take_out-requires-clause-mapped : goal.take_out-requires-clause-mapped
 take_out-requires-clause-mapped c =
@@ -31,30 +32,36 @@ take_out-requires-clause-mapped c =
 
 pub take_out-requires-clause-owned : goal.take_out-requires-clause-owned
 take_out-requires-clause-owned c =
-    let at = has_space c.self.inside c.args.space c.in-Some.place c.index_mut.result.now _ c.self.invariant c.in-Some.ensures c.deref.ensures.value c.index_mut.ensures.value in
+    let at = has_space c.self.inside c.args.space c.in-Some.place c.index_mut.result.now _ c.self.invariant c.in-Some.ensures c.deref.ensures.value
+    c.index_mut.ensures.value in
     owns-at c.self.inside.spaces.items c.self.inside.pool c.in-Some.place c.index_mut.result.now c.self.invariant.owned at.there
 
 pub take_out-requires-clause-room : goal.take_out-requires-clause-room
 take_out-requires-clause-room c =
-    room_of c.self.inside.pool c.args.waits.now (subst (λ (m : MemorySeen). HaveRoom m.places (targets_seen c.args.waits.now)) (sym c.self.view_is) c.requires.room)
+    room_of c.self.inside.pool c.args.waits.now
+    (subst (λ (m : MemorySeen). HaveRoom m.places (targets_seen c.args.waits.now)) (sym c.self.view_is) c.requires.room)
 
 pub invariant_of-self : goal.invariant_of-self
 invariant_of-self c =
-    let at = has_space c.self.inside c.args.space c.in-Some.place c.index_mut.result.now _ c.self.invariant c.in-Some.ensures c.deref.ensures.value c.index_mut.ensures.value in
-    stays_memory c.self.inside c.args.space c.in-Some.place c.index_mut.result.now c.take_out.new.space c.take_out.new.pool c.self.invariant at c.take_out.ensures.balanced
+    let at = has_space c.self.inside c.args.space c.in-Some.place c.index_mut.result.now _ c.self.invariant c.in-Some.ensures c.deref.ensures.value
+    c.index_mut.ensures.value in
+    stays_memory c.self.inside c.args.space c.in-Some.place c.index_mut.result.now c.take_out.new.space c.take_out.new.pool c.self.invariant at
+    c.take_out.ensures.balanced
 
 pub returns-clause-frames : goal.returns-clause-frames
 returns-clause-frames c =
     let live = c.index_mut.result.now in
     let at = has_space c.self.inside c.args.space c.in-Some.place live _ c.self.invariant c.in-Some.ensures c.deref.ensures.value c.index_mut.ensures.value in
     c.take_out.ensures.frames
-    ∙ sym (ap (λ (o : Option (List PageWire)). finding.frames_of (or_no_pages o) c.args.page c.args.count) (pages_of-at c.self.inside.spaces.items c.args.space c.in-Some.place live at.there at.is_number at.once))
+    ∙ sym (ap (λ (o : Option (List PageWire)). finding.frames_of (or_no_pages o) c.args.page c.args.count)
+    (pages_of-at c.self.inside.spaces.items c.args.space c.in-Some.place live at.there at.is_number at.once))
     ∙ ap (λ (m : MemorySeen). frames_of m c.args.space c.args.page c.args.count) c.self.view_is
 
 pub returns-clause-after : goal.returns-clause-after
 returns-clause-after c =
     let live = c.index_mut.result.now in
     let at = has_space c.self.inside c.args.space c.in-Some.place live _ c.self.invariant c.in-Some.ensures c.deref.ensures.value c.index_mut.ensures.value in
-    taken_out (memory_in c.self.inside) c.args.space c.args.page c.args.count (targets_seen c.args.waits.now) (pages_seen live.space) (pages_seen c.take_out.new.space) _ (places_seen c.take_out.new.pool)
+    taken_out (memory_in c.self.inside) c.args.space c.args.page c.args.count (targets_seen c.args.waits.now) (pages_seen live.space)
+    (pages_seen c.take_out.new.space) _ (places_seen c.take_out.new.pool)
     (one_changed c.self.inside c.args.space c.in-Some.place live c.take_out.new.space at) c.take_out.ensures.pages c.take_out.ensures.places
     ∙ ap (λ (m : MemorySeen). unmapped m c.args.space c.args.page c.args.count (targets_seen c.args.waits.now)) c.self.view_is

@@ -4,4 +4,5 @@ use Rattle.sva_msg.proofs.in_flight.Bag.may_deliver.Goals as goal
 
 pub returns : goal.returns
 returns c =
-    may_deliver-is c.args.self.now c.args.number c.in-Some.message c.overtakes.result c.get.ensures.numbered (sym c.in-Some.ensures.message) c.overtakes.ensures
+    may_deliver-is c.args.self.now c.args.number c.in-Some.message c.overtakes.result c.get.ensures.numbered (sym c.in-Some.ensures.message)
+    c.overtakes.ensures

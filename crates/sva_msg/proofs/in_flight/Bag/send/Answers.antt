@@ -27,5 +27,8 @@ invariant_of-self-2 c =
     let es = c.loop-number.self-inside.messages.entries in
     let end : c.loop-number.number ≡ old.next + c.args.copies = omega arith in
     let is = ap (λ (b : InFlight). b.messages) c.self.view_is in
-    let next = ap (λ (b : InFlight). b.next) c.self.view_is in
-    (rw (← end) (AreNumbered-so_far 0 old.next c.loop-number.number old.messages.entries es c.args.message (omega arith) c.self.invariant.0 (rw is c.loop-number.invariant.sent)), omega (arith, next, c.requires.left))
+    let next = ap (λ (b : InFlight). b.next) c.self.view_is in (
+      rw (← end) (AreNumbered-so_far 0 old.next c.loop-number.number old.messages.entries es c.args.message (omega arith) c.self.invariant.0
+          (rw is c.loop-number.invariant.sent)),
+      omega (arith, next, c.requires.left),
+    )

@@ -12,7 +12,8 @@ use Rattle.sva_pasid.proofs.tables.Table.begin.Goals as goal
 pub unreachable-requires : goal.unreachable-requires
 unreachable-requires c =
     let ps = c.self.inside.places.items in
-    let none : lowest c.args.space ps ≡ None = sym (lowest-is c.args.space ps c.self.inside.bearers c.self.invariant.0 c.self.invariant.1) ∙ sym c.lowest_in.ensures ∙ c.in_default.is in
+    let none : lowest c.args.space ps ≡ None = sym (lowest-is c.args.space ps c.self.inside.bearers c.self.invariant.0 c.self.invariant.1)
+    ∙ sym c.lowest_in.ensures ∙ c.in_default.is in
     let some : IsSome (lowest c.args.space ps) = rw c.self.view_is c.requires.free in
     let none_is : IsSome {T = ℕ} None = rw none at some in
     absurd (false≢true none_is)
@@ -20,14 +21,16 @@ unreachable-requires c =
 pub bounds-self-inside-pasid : goal.bounds-self-inside-pasid
 bounds-self-inside-pasid c =
     let ps = c.self.inside.places.items in
-    let chosen : lowest c.args.space ps ≡ Some c.in-Some.pasid = sym (lowest-is c.args.space ps c.self.inside.bearers c.self.invariant.0 c.self.invariant.1) ∙ sym c.lowest_in.ensures ∙ c.in-Some.is in
+    let chosen : lowest c.args.space ps ≡ Some c.in-Some.pasid =
+    sym (lowest-is c.args.space ps c.self.inside.bearers c.self.invariant.0 c.self.invariant.1) ∙ sym c.lowest_in.ensures ∙ c.in-Some.is in
     let least : IsLowest c.args.space ps c.in-Some.pasid = is_lowest c.args.space ps c.in-Some.pasid c.self.invariant.0 chosen in
     omega (arith, least.to_last)
 
 pub bounds-self-inside-pasid-2 : goal.bounds-self-inside-pasid-2
 bounds-self-inside-pasid-2 c =
     let ps = c.self.inside.places.items in
-    let chosen : lowest c.args.space ps ≡ Some c.in-Some.pasid = sym (lowest-is c.args.space ps c.self.inside.bearers c.self.invariant.0 c.self.invariant.1) ∙ sym c.lowest_in.ensures ∙ c.in-Some.is in
+    let chosen : lowest c.args.space ps ≡ Some c.in-Some.pasid =
+    sym (lowest-is c.args.space ps c.self.inside.bearers c.self.invariant.0 c.self.invariant.1) ∙ sym c.lowest_in.ensures ∙ c.in-Some.is in
     let least : IsLowest c.args.space ps c.in-Some.pasid = is_lowest c.args.space ps c.in-Some.pasid c.self.invariant.0 chosen in
     omega (arith, least.to_last)
 
@@ -35,7 +38,8 @@ pub invariant_of-self-2 : goal.invariant_of-self-2
 invariant_of-self-2 c =
     let ps = c.self.inside.places.items in
     let bs = c.self.inside.bearers in
-    let chosen : lowest c.args.space ps ≡ Some c.in-Some.pasid = sym (lowest-is c.args.space ps bs c.self.invariant.0 c.self.invariant.1) ∙ sym c.lowest_in.ensures ∙ c.in-Some.is in
+    let chosen : lowest c.args.space ps ≡ Some c.in-Some.pasid = sym (lowest-is c.args.space ps bs c.self.invariant.0 c.self.invariant.1)
+    ∙ sym c.lowest_in.ensures ∙ c.in-Some.is in
     let least : IsLowest c.args.space ps c.in-Some.pasid = is_lowest c.args.space ps c.in-Some.pasid c.self.invariant.0 chosen in
     let alike = lowest_alike c.args.endpoint c.args.space c.args.binding c.in-Some.pasid ps c.self.invariant.0 chosen in
     let fresh : place_of c.args.binding ps ≡ None = rw c.self.view_is c.requires.fresh in

@@ -12,7 +12,14 @@ pub invariant_of-self : goal.invariant_of-self
 invariant_of-self c =
     let ps = c.self.inside.places.items in
     let rest = drop (length c.reset_each.new.places) ps in
-    let count : c.self.inside.places.len ≡ length c.reset_each.new.places = sym (ap (λ (qs : List Place). length qs) c.reset_each.ensures ∙ length-map c.as_mut_slice.result.now (reset_at c.args.endpoint) ∙ c.as_mut_slice.ensures.len) in
-    let items : take c.self.inside.places.len (c.reset_each.new.places ++ rest) ≡ after_reset c.args.endpoint ps = ap (λ (n : ℕ). take n (c.reset_each.new.places ++ rest)) count ∙ take-append_seam c.reset_each.new.places rest ∙ c.reset_each.ensures ∙ ap (λ (qs : List Place). after_reset c.args.endpoint qs) c.as_mut_slice.ensures.value in
-    subst (λ (qs : List Place). IsTable qs × AreBearers qs c.self.inside.bearers) (sym items)
-    (reset-table c.args.endpoint ps c.self.invariant.0, bearers-map (reset_at c.args.endpoint) ps c.self.inside.bearers (reset-keeps c.args.endpoint) c.self.invariant.1)
+    let count : c.self.inside.places.len ≡ length c.reset_each.new.places =
+    sym (ap (λ (qs : List Place). length qs) c.reset_each.ensures ∙ length-map c.as_mut_slice.result.now (reset_at c.args.endpoint)
+    ∙ c.as_mut_slice.ensures.len) in
+    let items : take c.self.inside.places.len (c.reset_each.new.places ++ rest) ≡ after_reset c.args.endpoint ps =
+    ap (λ (n : ℕ). take n (c.reset_each.new.places ++ rest)) count ∙ take-append_seam c.reset_each.new.places rest ∙ c.reset_each.ensures
+    ∙ ap (λ (qs : List Place). after_reset c.args.endpoint qs) c.as_mut_slice.ensures.value in
+    subst (λ (qs : List Place). IsTable qs × AreBearers qs c.self.inside.bearers) (sym items) (
+      reset-table c.args.endpoint ps c.self.invariant.0,
+      bearers-map (reset_at c.args.endpoint) ps c.self.inside.bearers (reset-keeps c.args.endpoint)
+          c.self.invariant.1,
+    )

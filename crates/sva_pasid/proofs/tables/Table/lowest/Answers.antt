@@ -13,13 +13,15 @@ returns-clause-value c =
 pub returns-clause-some : goal.returns-clause-some
 returns-clause-some c =
     let ps = c.self.inside.places.items in
-    let value : c.lowest_in.result ≡ lowest c.args.space ps = c.lowest_in.ensures ∙ lowest-is c.args.space ps c.self.inside.bearers c.self.invariant.0 c.self.invariant.1 in
+    let value : c.lowest_in.result ≡ lowest c.args.space ps =
+    c.lowest_in.ensures ∙ lowest-is c.args.space ps c.self.inside.bearers c.self.invariant.0 c.self.invariant.1 in
     subst (λ (qs : List Place). IfSome c.lowest_in.result (λ pasid. IsLowest c.args.space qs pasid)) c.self.view_is
     (lowest-some c.args.space ps c.lowest_in.result c.self.invariant.0 value)
 
 pub returns-clause-none : goal.returns-clause-none
 returns-clause-none c =
     let ps = c.self.inside.places.items in
-    let value : c.lowest_in.result ≡ lowest c.args.space ps = c.lowest_in.ensures ∙ lowest-is c.args.space ps c.self.inside.bearers c.self.invariant.0 c.self.invariant.1 in
+    let value : c.lowest_in.result ≡ lowest c.args.space ps =
+    c.lowest_in.ensures ∙ lowest-is c.args.space ps c.self.inside.bearers c.self.invariant.0 c.self.invariant.1 in
     subst (λ (qs : List Place). IfNone c.lowest_in.result (IsOutOfPasids c.args.space qs)) c.self.view_is
     (lowest-none c.args.space ps c.lowest_in.result value)

@@ -11,8 +11,11 @@ pub invariant_of-self : goal.invariant_of-self
 invariant_of-self c =
     let ps = c.self.inside.places.items in
     let stage = c.args.stage in
-    let written = written-item c.args.binding c.in-Some.index ps c.as_slice.result.now c.index_mut.result.now (Some stage) c.as_slice.ensures.value c.in-Some.ensures.some c.index_mut.ensures.value in
+    let written = written-item c.args.binding c.in-Some.index ps c.as_slice.result.now c.index_mut.result.now (Some stage) c.as_slice.ensures.value
+    c.in-Some.ensures.some c.index_mut.ensures.value in
     let awaits : Awaits (numbers_of stage) ps = rw c.self.view_is c.requires.awaits in
     let fits : FitsPlace c.args.binding (Some stage) ps = rw c.requires.own at (awaits-fits stage ps awaits) in
-    rw c.replace-empty.ensures.after (subst (λ (qs : List Place). IsTable qs × AreBearers qs c.self.inside.bearers) (sym written.0)
-    (with_stage-table c.args.binding (Some stage) ps c.self.invariant.0 fits, bearers-map (changed c.args.binding (Some stage)) ps c.self.inside.bearers (changed-keeps c.args.binding (Some stage)) c.self.invariant.1))
+    rw c.replace-empty.ensures.after (subst (λ (qs : List Place). IsTable qs × AreBearers qs c.self.inside.bearers) (sym written.0) (
+      with_stage-table c.args.binding (Some stage) ps c.self.invariant.0 fits,
+      bearers-map (changed c.args.binding (Some stage)) ps c.self.inside.bearers (changed-keeps c.args.binding (Some stage)) c.self.invariant.1,
+    ))

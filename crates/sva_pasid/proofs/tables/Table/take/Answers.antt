@@ -17,13 +17,19 @@ returns-in_default-clause-places c =
 pub invariant_of-self : goal.invariant_of-self
 invariant_of-self c =
     let ps = c.self.inside.places.items in
-    let written = written-item c.args.binding c.in-Some.index ps c.as_slice.result.now c.index_mut.result.now None c.as_slice.ensures.value c.in-Some.ensures.some c.index_mut.ensures.value in
-    rw c.take.ensures.after (subst (λ (qs : List Place). IsTable qs × AreBearers qs c.self.inside.bearers) (sym written.0)
-    (with_stage-table c.args.binding None ps c.self.invariant.0 (λ p h. tt), bearers-map (changed c.args.binding None) ps c.self.inside.bearers (changed-keeps c.args.binding None) c.self.invariant.1))
+    let written = written-item c.args.binding c.in-Some.index ps c.as_slice.result.now c.index_mut.result.now None c.as_slice.ensures.value
+    c.in-Some.ensures.some c.index_mut.ensures.value in
+    rw c.take.ensures.after (subst (λ (qs : List Place). IsTable qs × AreBearers qs c.self.inside.bearers) (sym written.0) (
+      with_stage-table c.args.binding None ps c.self.invariant.0 (λ p h. tt),
+      bearers-map (changed c.args.binding None) ps c.self.inside.bearers (changed-keeps c.args.binding None) c.self.invariant.1,
+    ))
 
 pub returns-clause-awaits : goal.returns-clause-awaits
 returns-clause-awaits c =
     let ps = c.self.inside.places.items in
-    let written = written-item c.args.binding c.in-Some.index ps c.as_slice.result.now c.index_mut.result.now None c.as_slice.ensures.value c.in-Some.ensures.some c.index_mut.ensures.value in
-    rw c.take.ensures.after (subst (λ (qs : List Place). IfSome c.take.result (λ (stage : Stage). ((numbers_of stage).binding ≡ c.args.binding) × Awaits (numbers_of stage) qs)) (sym written.0)
+    let written = written-item c.args.binding c.in-Some.index ps c.as_slice.result.now c.index_mut.result.now None c.as_slice.ensures.value
+    c.in-Some.ensures.some c.index_mut.ensures.value in
+    rw c.take.ensures.after
+    (subst (λ (qs : List Place). IfSome c.take.result (λ (stage : Stage). ((numbers_of stage).binding ≡ c.args.binding)
+    × Awaits (numbers_of stage) qs)) (sym written.0)
     (taken-awaits c.args.binding ps c.index_mut.result.now c.take.result c.self.invariant.0 written.1 c.take.ensures.value))

@@ -33,7 +33,8 @@ returns-in-Some c =
     let updates = c.remove.ensures.updates in
     (λ i. record { groups = groups_in c.remove.new.self.slots; room = c.room_after-self-inside.ensures i; next = c.self.inside.next })
     ∙ answered-some s serial (groups_in c.remove.new.self.slots) (any_at (has_job serial) old c.in-Some.key there.0 there.1 there.2)
-    (groups-answered _ _ c.self.inside.cells c.self.inside.next c.self.invariant.0 c.in-Some.key there.0 there.1 updates.others serial there.2 updates.changed)
+    (groups-answered _ _ c.self.inside.cells c.self.inside.next c.self.invariant.0 c.in-Some.key there.0 there.1 updates.others serial there.2
+    updates.changed)
     ∙ (λ i. after_answer (c.self.view_is i) (c.serial.ensures i))
 
 pub returns-in_default : goal.returns-in_default

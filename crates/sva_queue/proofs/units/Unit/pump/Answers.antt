@@ -22,8 +22,10 @@ invariant_of-self-in-Done c =
 
 pub returns-in-Done-clause-done : goal.returns-in-Done-clause-done
 returns-in-Done-clause-done c =
-    λ cookie. subst (λ (answer : Pumped). (answer ≡ Done cookie) ↔ IsWaitDone c.args.self.now c.args.prq_empty cookie) (sym c.next-answer.ensures ∙ c.in-Done.is) (done_exactly c.args.self.now c.args.prq_empty cookie)
+    λ cookie. subst (λ (answer : Pumped). (answer ≡ Done cookie) ↔ IsWaitDone c.args.self.now c.args.prq_empty cookie) (sym c.next-answer.ensures
+    ∙ c.in-Done.is) (done_exactly c.args.self.now c.args.prq_empty cookie)
 
 pub returns-in-Blocked-clause-done : goal.returns-in-Blocked-clause-done
 returns-in-Blocked-clause-done c =
-    λ cookie. subst (λ (answer : Pumped). (answer ≡ Done cookie) ↔ IsWaitDone c.args.self.now c.args.prq_empty cookie) (sym c.next-answer.ensures) (done_exactly c.args.self.now c.args.prq_empty cookie)
+    λ cookie. subst (λ (answer : Pumped). (answer ≡ Done cookie) ↔ IsWaitDone c.args.self.now c.args.prq_empty cookie) (sym c.next-answer.ensures)
+    (done_exactly c.args.self.now c.args.prq_empty cookie)

@@ -10,4 +10,5 @@ invariant_of-self c =
     let more = c.args.descriptors.now in
     let queue : Queue = record { descriptors = q.queue; is_open = q.is_open; tags = q.tags; front = q.front; back = q.back } in
     let may : MaySubmit c.args.self.now more = record { opened = c.requires.opened; numbers = c.requires.numbers; rising = c.requires.rising } in
-    rw (c.extend.ensures, c.number_after-self-inside.ensures) (more-in_order queue more (subst (λ (k : Queue). MaySubmit k more) (sym c.self.view_is) may) c.self.invariant)
+    rw (c.extend.ensures, c.number_after-self-inside.ensures)
+    (more-in_order queue more (subst (λ (k : Queue). MaySubmit k more) (sym c.self.view_is) may) c.self.invariant)

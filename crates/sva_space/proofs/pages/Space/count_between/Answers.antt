@@ -10,6 +10,7 @@ returns-then-first-end c =
 
 pub returns : goal.returns
 returns c =
-    let rest = c.range.ensures.between tt ∙ between-is c.args.first c.args.end c.self.inside.pages.entries ∙ ap (mappings_between c.args.first c.args.end) c.self.view_is in
+    let rest = c.range.ensures.between tt ∙ between-is c.args.first c.args.end c.self.inside.pages.entries
+    ∙ ap (mappings_between c.args.first c.args.end) c.self.view_is in
     count_from_yields_List c.range.result c.count.result c.count.ensures.ran
     (YieldsList-from_first (λ x. (x.0.now, x.1.now)) (λ s. s) (mappings_between c.args.first c.args.end c.args.self.now) rest)

@@ -10,5 +10,6 @@ invariant_of-self c =
       grind (arith, common_steps),
       grind (arith, common_steps),
       grind (arith, common_steps),
-      HaveRequests-written c.self.inside.places _ c.args.index c.group_of.result c.deref_mut.ensures.value c.self.invariant.3 (λ taken. rw (c.group_of.ensures, one) (omega arith)),
+      HaveRequests-written c.self.inside.places _ c.args.index c.group_of.result c.deref_mut.ensures.value c.self.invariant.3
+          (λ taken. rw (c.group_of.ensures, one) (omega arith)),
     )

@@ -11,5 +11,6 @@ invariant_of-self c = (
   grind (arith, common_steps),
   HaveRequests-written c.self.inside.places _ c.args.index c.with_request-longer.result c.deref_mut.ensures.value c.self.invariant.3
       (subst (λ place. is_free place ≡ false → 0 < requests_of place) (sym c.with_request-longer.ensures)
-      (requests_of-with_request c.args.last _ (HaveRequests-at c.deref.result.now c.args.index (subst HaveRequests (sym c.deref.ensures.0) c.self.invariant.3)))),
+      (requests_of-with_request c.args.last _
+      (HaveRequests-at c.deref.result.now c.args.index (subst HaveRequests (sym c.deref.ensures.0) c.self.invariant.3)))),
 )

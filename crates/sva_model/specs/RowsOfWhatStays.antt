@@ -3,6 +3,9 @@
 use Rattle.std.specs.Prelude.{◌≡◌, ◌+◌, Bool, true, false, Some, None, List, [], ◌∷◌, ◌++◌, replicate, map}
 use Rattle.sva_step.specs.declared.answers.Answer.TheVariants as answer
 use Rattle.sva_step.specs.declared.steps.Step.TheVariants as step
+use Rattle.sva_step.specs.declared.steps.Verdict.TheVariants as verdict
+use Rattle.sva_model.specs.Message.Code.{InvalidCode}
+use Rattle.sva_model.specs.Message.Message.{ResponseMessage, PageRequestMessage}
 use Rattle.sva_model.specs.Rows.{Line, says, IsRow, config, lines}
 use Rattle.sva_model.specs.Order.{Sort, stays_behind}
 use Rattle.sva_model.specs.Order.Sort.{StartSort, StopSort, ResetSort, CompletionSort, InvalidateSort, ResponseSort, RequestSort, InvalidatedSort}
@@ -217,6 +220,41 @@ abbrev pub GroupFiledInPart : Type 0
 GroupFiledInPart =
     map (λ (p : PartWire). p.host_groups) (kept_after (config 1 1 1 0) group_filed_in_part).parts
     ≡ (record { binding = 0; index = 0; asks = record { page = 32; read = true; write = false } ∷ []; is_whole = false } ∷ []) ∷ []
+
+-- the second group of an index: its page requests carry the index, and so does its response
+abbrev pub second_group_of_an_index : List Line
+second_group_of_an_index =
+    says step.Space (answer.Space 0)
+    ∷ says (step.Bind 0 0) (answer.Binding 0 1)
+    ∷ says (step.Deliver 0) answer.Started
+    ∷ says (step.Fault 0 1 32 true false None true) (answer.Group 0)
+    ∷ says (step.Deliver 1) answer.Queued
+    ∷ says (step.Serve 0) answer.Job
+    ∷ says (step.Take 0) (answer.JobTaken 0 0 1)
+    ∷ says (step.Reply 0 verdict.Invalid) answer.Invalid
+    ∷ says (step.Deliver 2) answer.Answered
+    ∷ says (step.Fault 0 1 33 true false None false) (answer.Group 0)
+    ∷ says (step.Fault 0 1 34 true false (Some 0) true) (answer.Group 0)
+    ∷ []
+
+abbrev pub its_response : List Line
+its_response =
+    says (step.Deliver 3) answer.Queued
+    ∷ says (step.Deliver 4) answer.Queued
+    ∷ says (step.Serve 0) answer.Part
+    ∷ says (step.Serve 0) answer.Job
+    ∷ says (step.Take 0) (answer.JobTaken 0 0 2)
+    ∷ says (step.Reply 0 verdict.Invalid) answer.Invalid
+    ∷ []
+
+abbrev pub SecondGroupOfAnIndex : Type 0
+SecondGroupOfAnIndex =
+    ((kept_after (config 1 1 1 0) second_group_of_an_index).in_flight
+    ≡ record { number = 3; endpoint = 0; message = PageRequestMessage 1 0 33 true false false }
+    ∷ record { number = 4; endpoint = 0; message = PageRequestMessage 1 0 34 true false true }
+    ∷ [])
+    × ((kept_after (config 1 1 1 0) (second_group_of_an_index ++ its_response)).in_flight
+    ≡ record { number = 5; endpoint = 0; message = ResponseMessage 1 0 InvalidCode } ∷ [])
 
 -- The order of the link, each sort of message against each older one: what goes down but completions, what goes up, and last ones
 -- among the page requests.

@@ -13,7 +13,7 @@ ghost use Rattle.sva_model.specs.RowsOfBoundaries.{MessagesSpentBeforeBindings, 
 ghost use Rattle.sva_model.specs.RowsOfWrongRules.{NotFreeWhenSent, NotFreeWhenTaken, NotFreeAtTheReset, NotFreeWhenUnmappedInReset, NotFreedAtTheFirstOfTwo, NotNoneOfEight, DoomedAnswerNotKept, DoomedAnswerNotKeptLater, DoomedTagNotGivenBack, NotFinishedWhileAUseRuns, NoUseHeldAgainstAnother, NoDrainPastAPageRequest, NoResponseByAnUnbind, NoResponseInReset, NotWithheldPastTheLastWait, NoPageInvalidationWhileInvalidating, NotFreeWhileInvalidating, NoResetDonePastOlderMessages, NotReleasedWhileInvalidating, NotReleasedWhileQuiet, NoMarkerPastPageRequests, NoWaitPastABusyTag, NoUseLeftByAReset, NoIndexGivenBackByAQuit, NoQuitWhileAUseRuns, NoQuitWhileARequestIsOut, NoTranslationWhileStopping, NoTranslationOfAnotherSpace, NothingElseInvalidated, NothingOfAPasidLeft};
 ghost use Rattle.sva_model.specs.RowsOfFinalRules.{RangeOfEight, CausesOfUnmapRange, OnePasidForEachSpace};
 ghost use Rattle.sva_model.specs.RowsOfWire.{InvalidationsUnderWay, GroupsUnderWay, TwoTargets, Drained};
-ghost use Rattle.sva_model.specs.RowsOfWhatStays.{SamePageOfTwoPasids, EvictOfOnePage, NoTranslationBesideAnOlder, CacheFullOfTwo, UnmappedWhileInvalidating, OneOfTwoAnswered, UseBehindAnInvalidation, CachedByPasid, GroupFiledInPart, NothingElseIsOrdered};
+ghost use Rattle.sva_model.specs.RowsOfWhatStays.{SamePageOfTwoPasids, EvictOfOnePage, NoTranslationBesideAnOlder, CacheFullOfTwo, UnmappedWhileInvalidating, OneOfTwoAnswered, UseBehindAnInvalidation, CachedByPasid, GroupFiledInPart, SecondGroupOfAnIndex, NothingElseIsOrdered};
 
 /// What a host keeps after a run.
 pub fn kept()
@@ -267,5 +267,6 @@ pub fn what_stays()
     ensures use_behind_an_invalidation { UseBehindAnInvalidation }
     ensures cached_by_pasid { CachedByPasid }
     ensures group_filed_in_part { GroupFiledInPart }
+    ensures second_group_of_an_index { SecondGroupOfAnIndex }
     ensures nothing_else_is_ordered { NothingElseIsOrdered }
 {}

@@ -40,5 +40,9 @@ pub returns-clause-group_filed_in_part : goal.returns-clause-group_filed_in_part
 unfolding lowest any_below all_below count_below select tabulate pages_below
 returns-clause-group_filed_in_part c = refl
 
+pub returns-clause-second_group_of_an_index : goal.returns-clause-second_group_of_an_index
+unfolding lowest any_below all_below count_below select tabulate pages_below
+returns-clause-second_group_of_an_index c = (refl, refl)
+
 pub returns-clause-nothing_else_is_ordered : goal.returns-clause-nothing_else_is_ordered
 returns-clause-nothing_else_is_ordered c = refl

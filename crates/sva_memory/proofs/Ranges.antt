@@ -1,20 +1,19 @@
 -- The mapped pages of a range: taken out of it the lowest first, counted, and whether there are any.
 use Rattle.std.proofs.Common.{◌≡◌, ℕ, zero, suc, ◌+◌, ◌<◌, ◌≤◌, Bool, true, false, cond, List, Option, Some, None, [], ◌∷◌, ◌++◌, length, set, slice_get, refl}
 use Rattle.std.proofs.Common.{sym, ap, subst, ◌∙◌, arith, add-one, if◌then◌else◌}
-use Rattle.std.specs.Prelude.{filter, find, is_some, is_none, not, ◌&&◌, nat_lt, option_map}
+use Rattle.std.specs.Prelude.{filter, find, is_some, not, ◌&&◌, nat_lt, option_map}
 use Rattle.std.proofs.lemmas.Bool.Decides.{nat_tests}
 use Rattle.std.proofs.lemmas.List.{length-append}
 use Rattle.std.proofs.lemmas.Option.{slice_get_within}
-use Rattle.sva_space.specs.Pages.{IsRising, mapping_at, without_page, mappings_between}
+use Rattle.sva_space.specs.Pages.{IsRising, without_page, mappings_between}
 use Rattle.sva_space.specs.Pages as space
-use Rattle.sva_space.specs.Laws.{IsLowestBetween}
 use Rattle.sva_space.proofs.Ranges.{lowest_found, first_of}
 use Rattle.sva_frames.specs.declared.waits.Target.{Target}
 use Rattle.sva_frames.specs.Frames.{Holding, Mapped, after_waits}
 use Rattle.sva_frames.specs.Room.{HaveRoom}
 use Rattle.sva_model.specs.Acts.{in_range}
-use Rattle.sva_model.specs.Wire.{PageWire, PlaceWire}
-use Rattle.sva_labels.specs.Finding.{page_at, is_mapped}
+use Rattle.sva_model.specs.Wire.{PageWire}
+use Rattle.sva_labels.specs.Finding.{page_at}
 use Rattle.sva_labels.specs.Moves.{is_between, placed, place_for, without_pages}
 use Rattle.sva_memory.specs.Seen.{page_seen, pages_seen, places_seen, targets_seen}
 use Rattle.sva_memory.specs.Owned.{Owns, Balanced}
@@ -65,6 +64,12 @@ some_in_row ms q (suc n) rising =
     by_page (Some e) [] rest = refl
     by_page (Some e) (p ∷ ps) rest = refl
 
+none_longer : (ps : List PageWire) → length ps ≡ length (ps ++ [])
+none_longer ps = omega (arith, length-append ps [])
+
+one_longer : (n : ℕ) (ps : List PageWire) (e : PageWire) → n ≡ length ps → suc n ≡ length (ps ++ e ∷ [])
+one_longer n ps e is = omega (arith, is, length-append ps (e ∷ []))
+
 pub count_in_row : (ms : List (ℕ × (ℕ × Bool))) (q n : ℕ) → IsRising ms → count_mapped (pages_seen ms) q n ≡ length (in_row q n ms)
 count_in_row ms q zero rising =
     count_mapped-none (pages_seen ms) q ∙ sym (ap (λ (ps : List PageWire). length ps) (between-none q (pages_seen ms)))
@@ -77,21 +82,23 @@ count_in_row ms q (suc n) rising =
   where
     by_page : (o : Option PageWire) (ps : List PageWire) → count_mapped (pages_seen ms) q n ≡ length ps
         → (if is_some o then suc (count_mapped (pages_seen ms) q n) else count_mapped (pages_seen ms) q n) ≡ length (ps ++ listed o)
-    by_page None ps rest = omega (arith, rest, length-append ps [])
-    by_page (Some e) ps rest = omega (arith, rest, length-append ps (e ∷ []))
+    by_page None ps rest = rest ∙ none_longer ps
+    by_page (Some e) ps rest = one_longer _ ps e rest
 
 few_in_row : (ms : List (ℕ × (ℕ × Bool))) (q n : ℕ) → IsRising ms → length (in_row q n ms) ≤ n
-few_in_row ms q zero rising = let none : length (in_row q 0 ms) ≡ 0 = ap (λ (ps : List PageWire). length ps) (between-none q (pages_seen ms)) in omega (arith, none)
-few_in_row ms q (suc n) rising =
-    let more : length (in_row q (n + 1) ms) ≡ length (in_row q n ms ++ listed (page_at (pages_seen ms) (q + n))) =
-    ap (λ (ps : List PageWire). length ps) (between-more q n ms rising) in
-    subst (λ (k : ℕ). length (in_row q k ms) ≤ k) (add-one n)
-    (by_page (page_at (pages_seen ms) (q + n)) (in_row q n ms) (few_in_row ms q n rising) more)
+few_in_row ms q zero rising =
+    at_most (length (in_row q 0 ms)) 0 0 (ap (λ (ps : List PageWire). length ps) (between-none q (pages_seen ms))) (omega arith)
   where
-    by_page : (o : Option PageWire) (ps : List PageWire) → length ps ≤ n → length (in_row q (n + 1) ms) ≡ length (ps ++ listed o)
-        → length (in_row q (n + 1) ms) ≤ n + 1
-    by_page None ps rest more = omega (arith, rest, more, length-append ps [])
-    by_page (Some e) ps rest more = omega (arith, rest, more, length-append ps (e ∷ []))
+    at_most : (k l n : ℕ) → k ≡ l → l ≤ n → k ≤ n
+    at_most k l n is most = omega (arith, is, most)
+few_in_row ms q (suc n) rising =
+    subst (λ (k : ℕ). length (in_row q k ms) ≤ k) (add-one n)
+    (next (length (in_row q (n + 1) ms)) (in_row q n ms) (page_at (pages_seen ms) (q + n))
+    (ap (λ (ps : List PageWire). length ps) (between-more q n ms rising)) (few_in_row ms q n rising))
+  where
+    next : (k : ℕ) (ps : List PageWire) (o : Option PageWire) → k ≡ length (ps ++ listed o) → length ps ≤ n → k ≤ n + 1
+    next k ps None is most = omega (arith, is, none_longer ps, most)
+    next k ps (Some e) is most = omega (arith, is, one_longer (length ps) ps e refl, most)
 
 -- One less, the lowest.
 
@@ -166,18 +173,30 @@ pub all_left : (ms : List (ℕ × (ℕ × Bool))) (frames : List Holding) (waits
 all_left ms frames waits q n rising room = record {
   pages = refl;
   places = refl;
-  counted = omega arith;
-  few = omega (arith, few_in_row ms q n rising);
+  counted = none_yet (length (in_row q n ms));
+  few = few_yet (length (in_row q n ms)) n (few_in_row ms q n rising);
   rising = rising;
   balanced = balanced-none ms frames;
   room = room;
 }
+  where
+    none_yet : (k : ℕ) → 0 + k ≡ k
+    none_yet k = refl
+
+    few_yet : (k n : ℕ) → k ≤ n → 0 + k ≤ n
+    few_yet k n most = most
 
 pub lowest_mapped : (old ms : List (ℕ × (ℕ × Bool))) (frames_old frames : List Holding) (waits : List (Option Target)) (q n count : ℕ)
     (m : ℕ × (ℕ × Bool)) → Owns old frames_old → Leaving old frames_old waits q n ms frames count → find (space.is_between q (q + n)) ms ≡ Some m
     → slice_get frames m.1.0 ≡ Some Mapped
 lowest_mapped old ms frames_old frames waits q n count m owned left first =
     owned-mapped ms frames m.0 m.1 (owns-on old ms frames_old frames owned left.balanced) (lowest_found q (q + n) ms m left.rising first).mapped
+
+one_counted : (count after left less all : ℕ) → count + left ≡ all → left ≡ suc less → after ≡ count + 1 → after + less ≡ all
+one_counted count after left less all e f g = omega (arith, e, f, g)
+
+few_more : (count after left less n : ℕ) → count + left ≤ n → left ≡ suc less → after ≡ count + 1 → after + less ≤ n
+few_more count after left less n e f g = omega (arith, e, f, g)
 
 pub one_less : (old ms ms_after : List (ℕ × (ℕ × Bool))) (frames_old frames frames_after : List Holding) (waits : List (Option Target))
     (q n count count_after : ℕ) (m : ℕ × (ℕ × Bool)) → Owns old frames_old → Leaving old frames_old waits q n ms frames count
@@ -198,8 +217,8 @@ one_less old ms ms_after frames_old frames frames_after waits q n count count_af
           ap (placed place (in_row q n ms_after))
           (ap places_seen gave ∙ places_seen-set frames m.1.0 (after_waits waits) ∙ ap (set (places_seen frames) m.1.0) (place-after waits))
           ∙ sym (ap (λ (ps : List PageWire). placed place ps (places_seen frames)) row) ∙ left.places;
-      counted = omega (arith, left.counted, shorter, counted);
-      few = omega (arith, left.few, shorter, counted);
+      counted = one_counted count count_after _ _ _ left.counted shorter counted;
+      few = few_more count count_after _ _ n left.few shorter counted;
       rising = rising;
       balanced =
           balanced-on old ms ms_after frames_old frames frames_after left.balanced
@@ -216,7 +235,10 @@ pub shorter_row : (ms ms_after : List (ℕ × (ℕ × Bool))) (q n : ℕ) (m : �
 shorter_row ms ms_after q n m rising first removed =
     let shorter : length (in_row q n ms) ≡ suc (length (in_row q n ms_after)) =
     ap (λ (ps : List PageWire). length ps) (lowest_of_row ms q n m rising first ∙ sym (ap (λ ns. page_seen m ∷ in_row q n ns) removed)) in
-    omega (arith, shorter)
+    below (length (in_row q n ms)) (length (in_row q n ms_after)) shorter
+  where
+    below : (a b : ℕ) → a ≡ suc b → b < a
+    below a b is = omega (arith, is)
 
 -- Nothing is left of it.
 pub record AllOut (old : List (ℕ × (ℕ × Bool))) (frames_old : List Holding) (waits : List (Option Target)) (page number : ℕ)
@@ -235,6 +257,8 @@ none_left old ms frames_old frames waits q n count old_rising left none =
       pages = sym (without_none q n (pages_seen ms) row) ∙ left.pages;
       places = sym (ap (λ (ps : List PageWire). placed (place_for (targets_seen waits)) ps (places_seen frames)) row) ∙ left.places;
       counted =
-          let all : count ≡ length (in_row q n old) = omega (arith, left.counted, empty) in
-          all ∙ sym (count_in_row old q n old_rising);
+          all_counted count (length (in_row q n ms)) (length (in_row q n old)) left.counted empty ∙ sym (count_in_row old q n old_rising);
     }
+  where
+    all_counted : (count left all : ℕ) → count + left ≡ all → left ≡ 0 → count ≡ all
+    all_counted count left all e f = omega (arith, e, f)

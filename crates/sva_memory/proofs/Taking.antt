@@ -1,5 +1,5 @@
 -- Pages that are taken out in a row, one after another, those of them that are mapped.
-use Rattle.std.proofs.Common.{◌≡◌, ◌≢◌, ℕ, suc, ◌+◌, ◌<◌, ◌≤◌, Bool, true, false, List, Option, Some, None, [], ◌∷◌, ◌++◌, length, set, slice_get, refl}
+use Rattle.std.proofs.Common.{◌≡◌, ◌≢◌, ℕ, ◌+◌, ◌<◌, Bool, true, false, List, Option, Some, None, [], ◌∷◌, ◌++◌, length, set, slice_get}
 use Rattle.std.proofs.Common.{sym, ap, subst, ◌∙◌, arith}
 use Rattle.std.specs.Prelude.{filter, is_some, option_map}
 use Rattle.std.proofs.lemmas.List.{length-append}
@@ -13,12 +13,12 @@ use Rattle.sva_labels.specs.Finding.{is_mapped, page_at, frame_or_0, frames_of}
 use Rattle.sva_labels.specs.Moves.{is_between, placed, place_for, without_pages}
 use Rattle.sva_memory.specs.Seen.{page_seen, pages_seen, places_seen, targets_seen}
 use Rattle.sva_memory.specs.Owned.{Owns, Balanced}
-use Rattle.sva_memory.specs.Pieces.{are_mapped, count_mapped}
+use Rattle.sva_memory.specs.Pieces.{are_mapped}
 use Rattle.sva_memory.proofs.PageLists.{page_at-seen, without-none, without-more, page_at-without, pages_seen-remove, frames_of-none, frames_of-more}
 use Rattle.sva_memory.proofs.PageLists.{are_mapped-at}
 use Rattle.sva_memory.proofs.FrameLists.{places_seen-set}
 use Rattle.sva_memory.proofs.Counting.{balanced-none, balanced-on, balanced-is, balanced-unmap, owns-on, owned-mapped}
-use Rattle.sva_memory.proofs.Rows.{listed, between-none, between-more, placed-more, without-missing, count_mapped-none, count_mapped-more}
+use Rattle.sva_memory.proofs.Rows.{listed, between-none, between-more, placed-more}
 use Rattle.sva_memory.proofs.Waiting.{place-after, none-after, room_kept}
 
 -- of so many pages from one on, those that were mapped are out of the space, and their frames wait for these targets

@@ -529,3 +529,11 @@ fn refuses_the_steps_of_an_endpoint_that_has_not_started(rt: HostRuntime) {
     ];
     expect(&rt, rt.alloc(), SMALL, &steps, &answers, counts(4, 0, 0));
 }
+
+// Takes what may go to another thread, and else doesn't compile.
+fn sent<T: Send + Drop>(_value: T) {}
+
+#[test]
+fn may_go_to_another_thread(rt: HostRuntime) {
+    sent(open(&rt, rt.alloc(), SMALL));
+}

@@ -1,5 +1,6 @@
 -- The laws of the grammar.
-use Rattle.std.proofs.Common.{◌≡◌, ◌<◌, ◌≤◌, ◌+◌, ◌/◌, ◌%◌, ◌^◌, ◌∙◌, ap, sym, subst, arith, ℕ, zero, suc, List, [], ◌∷◌, ◌++◌, append_assoc, Bool, true, false, not, ◌&&◌, ◌||◌, cond, eqb, ltb, eq-eqb, length, get_or, refl, Option, Some, None, IfSome, Ok, Err, map}
+use Rattle.std.proofs.Common.{◌≡◌, ◌<◌, ◌≤◌, ◌+◌, ◌/◌, ◌%◌, ◌^◌, ◌∙◌, ap, sym, subst, arith, ℕ, zero, suc, List, [], ◌∷◌, ◌++◌, append_assoc, Bool, true}
+use Rattle.std.proofs.Common.{false, not, ◌&&◌, ◌||◌, cond, eqb, ltb, eq-eqb, length, get_or, refl, Option, Some, None, IfSome, Ok, map}
 use Rattle.std.specs.Prelude.{codes, decimal}
 use Rattle.std.specs.List.{AllByRecursion, enumerate_from, onto_first, join_with_byte}
 use Rattle.std.specs.Char.{digit_char, is_ascii_digit}
@@ -10,15 +11,20 @@ use Rattle.std.proofs.lemmas.Bool.Decides.{nat_tests}
 use Rattle.std.proofs.lemmas.List.Sums.{sum_by-cons}
 use Rattle.std.proofs.lemmas.Fmt.{decimal-digits_value, decimal_digit, decimal_nonempty, digits_decimal, digits_value-decimal, first_decimal}
 use Rattle.std.proofs.lemmas.Slice.Eq.{bytes_eq-Decides}
-use Rattle.sva_grammar.specs.Grammar.{access, begins_number, config_counts, config_of, fault, flags, group, is_last, is_skipped, is_too_large, lines_of, number, said_lines, scenario_of, script_of, steps_of, step_of, verdict, words_of}
-use Rattle.sva_grammar.specs.Grammar.{known_step, host_step, endpoint_step, one_number, space_step, drop_step, map_step, unmap_step, unmapr_step, look_step, bearer_step, bind_step, unbind_step, advance_step, pump_step, serve_step, reset_step, take_step, answer_step, ask_step, use_step, end_step, evict_step, fault_step, finish_step, quit_step, deliver_step}
-use Rattle.sva_grammar.specs.Laws.{access_word, config_words, flags_word, group_word, HasConfigLine, HasLine, hexadecimal, IsKnown, last_word, LinesAreCounted, NumbersAreDecimal, script_text, ScriptsAreRead, step_words, text_of, verdict_word}
+use Rattle.sva_grammar.specs.Grammar.{access, begins_number, config_counts, config_of, fault, flags, group, is_last, is_skipped, is_too_large, lines_of}
+use Rattle.sva_grammar.specs.Grammar.{number, said_lines, scenario_of, script_of, steps_of, step_of, verdict, words_of}
+use Rattle.sva_grammar.specs.Grammar.{host_step, endpoint_step, one_number, space_step, drop_step, map_step, unmap_step, unmapr_step, look_step}
+use Rattle.sva_grammar.specs.Grammar.{bearer_step, bind_step, unbind_step, advance_step, pump_step, serve_step, reset_step, take_step, answer_step}
+use Rattle.sva_grammar.specs.Grammar.{ask_step, use_step, end_step, evict_step, fault_step, finish_step, quit_step, deliver_step}
+use Rattle.sva_grammar.specs.Laws.{access_word, config_words, flags_word, group_word, HasConfigLine, HasLine, hexadecimal, last_word, LinesAreCounted}
+use Rattle.sva_grammar.specs.Laws.{NumbersAreDecimal, script_text, ScriptsAreRead, step_words, text_of, verdict_word}
 use Rattle.sva_grammar.proofs.VectorLemmas.{digit_char-ge, vector_read}
 use Rattle.sva_grammar.proofs.WordLemmas.{number-is, number-not, own, some_byte}
-use Rattle.sva_grammar.specs.declared.faults.Cause.TheVariants.{TooLarge, UnknownStep}
+use Rattle.sva_grammar.specs.declared.faults.Cause.TheVariants.{TooLarge}
 use Rattle.sva_step.specs.declared.limits.Config.{Config}
 use Rattle.sva_step.specs.declared.steps.Step.{Step}
-use Rattle.sva_step.specs.declared.steps.Step.TheVariants.{Space, DropSpace, Map, Unmap, UnmapRange, Bind, Unbind, Advance, Pump, Serve, Reset, Take, Reply, Ask, BeginUse, EndUse, Evict, Fault, Finish, Quit, Deliver, Look, Bearer}
+use Rattle.sva_step.specs.declared.steps.Step.TheVariants.{Space, DropSpace, Map, Unmap, UnmapRange, Bind, Unbind, Advance, Pump, Serve, Reset, Take}
+use Rattle.sva_step.specs.declared.steps.Step.TheVariants.{Reply, Ask, BeginUse, EndUse, Evict, Fault, Finish, Quit, Deliver, Look, Bearer}
 use Rattle.sva_step.specs.declared.steps.Verdict.{Verdict}
 use Rattle.sva_step.specs.declared.steps.Verdict.TheVariants.{Success, Invalid, Failure}
 
@@ -28,7 +34,8 @@ first_not_zero : (word : List ℕ) → begins_number word ≡ true → get_or wo
 first_not_zero [] h e = absurd (cc)
 first_not_zero (digit ∷ digits) h e = grind (arith, nat_tests)
 
-begins_test : (digit len : ℕ) (t : Bool) → ltb 48 digit ≡ t → 48 ≤ digit → digit < 58 → (digit ≡ 48 → len ≡ 0) → (t && ltb digit 58 || eqb digit 48 && eqb len 0) ≡ true
+begins_test : (digit len : ℕ) (t : Bool) → ltb 48 digit ≡ t → 48 ≤ digit → digit < 58 → (digit ≡ 48 → len ≡ 0)
+    → (t && ltb digit 58 || eqb digit 48 && eqb len 0) ≡ true
 begins_test digit len true e low high one = ap (λ t. t || (eqb digit 48 && eqb len 0)) (lt-ltb digit 58 high)
 begins_test digit len false e low high one =
     let zero_digit : digit ≡ 48 = omega (arith, ltb-false 48 digit e) in
@@ -65,7 +72,8 @@ number_decimal n small =
     let digits = digits_decimal own n small in
     let value = digits_value-decimal own n small in
     let fits : digits_value 10 (decimal n) < 2 ^ 64 = subst (λ m. m < 2 ^ 64) (sym value) small in
-    number-is (decimal n) (and_from _ _ (and_from _ _ (begins_from (decimal n) (decimal_nonempty n small) digits (one_zero n small)) digits) (lt-ltb _ _ fits)) ∙ ap Ok value
+    let begins = begins_from (decimal n) (decimal_nonempty n small) digits (one_zero n small) in
+    number-is (decimal n) (and_from _ _ (and_from _ _ begins digits) (lt-ltb _ _ fits)) ∙ ap Ok value
 
 pub numbers_are_decimal : NumbersAreDecimal
 numbers_are_decimal word n = (decimal_word word n, λ h. ap number h.1 ∙ number_decimal n h.0)
@@ -80,7 +88,8 @@ some_line false byte (line ∷ lines) = omega arith
 lines_of-some : (byte : ℕ) (text : List ℕ) → 0 < length (lines_of (byte ∷ text))
 lines_of-some byte text = some_line (eqb byte 10) byte (lines_of text)
 
-line_step : (t : Bool) (byte : ℕ) (lines : List (List ℕ)) (n : ℕ) → 0 < length lines → length lines ≡ n → length (cond t ([] ∷ lines) (onto_first byte lines)) ≡ cond t 1 0 + n
+line_step : (t : Bool) (byte : ℕ) (lines : List (List ℕ)) (n : ℕ) → 0 < length lines → length lines ≡ n
+    → length (cond t ([] ∷ lines) (onto_first byte lines)) ≡ cond t 1 0 + n
 line_step true byte lines n some h = omega arith
 line_step false byte [] n some h = absurd (omega arith)
 line_step false byte (line ∷ lines) n some h = omega arith
@@ -312,7 +321,9 @@ step_line (EndUse endpoint slot) h = line_from _ _ ((refl, refl), (word_of_numbe
 step_line (Evict endpoint pasid page) h =
     line_from _ _ ((refl, refl), (word_of_number endpoint h.0, (word_of_number pasid h.1, (word_of_number page h.2, tt)))) refl
 step_line (Fault endpoint pasid page read write group last) h =
-    line_from _ _ ((refl, refl), (word_of_number endpoint h.0, (word_of_number pasid h.1, (word_of_number page h.2, (word_of_flags read write, (word_of_group group h.4, (word_of_last last, tt))))))) refl
+    let bits : AreWords (flags_word read write ∷ group_word group ∷ last_word last ∷ []) =
+    (word_of_flags read write, (word_of_group group h.4, (word_of_last last, tt))) in
+    line_from _ _ ((refl, refl), (word_of_number endpoint h.0, (word_of_number pasid h.1, (word_of_number page h.2, bits)))) refl
 step_line (Finish endpoint vector count) h =
     line_from _ _ ((refl, refl), (word_of_number endpoint h.0, (word_of_vector vector, (word_of_number count h.2, tt)))) refl
 step_line (Quit endpoint pasid) h = line_from _ _ ((refl, refl), (word_of_number endpoint h.0, (word_of_number pasid h.1, tt))) refl
@@ -320,55 +331,52 @@ step_line (Deliver message) h = line_from _ _ ((refl, refl), (word_of_number mes
 step_line (Look frame) h = line_from _ _ ((refl, refl), (word_of_number frame h, tt)) refl
 step_line (Bearer pasid) h = line_from _ _ ((refl, refl), (word_of_number pasid h, tt)) refl
 
-known_read : (step : Step) → HasLine step → known_step (step_words step) ≡ Ok step
-unfolding known_step host_step endpoint_step one_number space_step drop_step map_step unmap_step unmapr_step look_step bearer_step bind_step unbind_step advance_step pump_step serve_step reset_step take_step answer_step ask_step use_step end_step evict_step fault_step finish_step quit_step deliver_step
-known_read Space h = refl
-known_read (DropSpace space) h = rw (number_decimal space h) refl
-known_read (Map space page write) h = rw (number_decimal space h.0, number_decimal page h.1, access_read write) refl
-known_read (Unmap space page count) h = rw (number_decimal space h.0, number_decimal page h.1, number_decimal count h.2) refl
-known_read (UnmapRange space page order) h = rw (number_decimal space h.0, number_decimal page h.1, number_decimal order h.2) refl
-known_read (Bind endpoint space) h = rw (number_decimal endpoint h.0, number_decimal space h.1) refl
-known_read (Unbind binding) h = rw (number_decimal binding h) refl
-known_read (Advance binding) h = rw (number_decimal binding h) refl
-known_read (Pump endpoint) h = rw (number_decimal endpoint h) refl
-known_read (Serve endpoint) h = rw (number_decimal endpoint h) refl
-known_read (Reset endpoint) h = rw (number_decimal endpoint h) refl
-known_read (Take worker) h = rw (number_decimal worker h) refl
-known_read (Reply worker verdict) h = rw (number_decimal worker h, verdict_read verdict) refl
-known_read (Ask endpoint pasid page) h = rw (number_decimal endpoint h.0, number_decimal pasid h.1, number_decimal page h.2) refl
-known_read (BeginUse endpoint pasid page write) h =
+step_read : (step : Step) → HasLine step → step_of (step_words step) ≡ Ok step
+unfolding step_of host_step endpoint_step one_number space_step drop_step map_step unmap_step unmapr_step look_step bearer_step bind_step unbind_step
+    advance_step pump_step serve_step reset_step take_step answer_step ask_step use_step end_step evict_step fault_step finish_step quit_step deliver_step
+step_read Space h = refl
+step_read (DropSpace space) h = rw (number_decimal space h) refl
+step_read (Map space page write) h = rw (number_decimal space h.0, number_decimal page h.1, access_read write) refl
+step_read (Unmap space page count) h = rw (number_decimal space h.0, number_decimal page h.1, number_decimal count h.2) refl
+step_read (UnmapRange space page order) h = rw (number_decimal space h.0, number_decimal page h.1, number_decimal order h.2) refl
+step_read (Bind endpoint space) h = rw (number_decimal endpoint h.0, number_decimal space h.1) refl
+step_read (Unbind binding) h = rw (number_decimal binding h) refl
+step_read (Advance binding) h = rw (number_decimal binding h) refl
+step_read (Pump endpoint) h = rw (number_decimal endpoint h) refl
+step_read (Serve endpoint) h = rw (number_decimal endpoint h) refl
+step_read (Reset endpoint) h = rw (number_decimal endpoint h) refl
+step_read (Take worker) h = rw (number_decimal worker h) refl
+step_read (Reply worker verdict) h = rw (number_decimal worker h, verdict_read verdict) refl
+step_read (Ask endpoint pasid page) h = rw (number_decimal endpoint h.0, number_decimal pasid h.1, number_decimal page h.2) refl
+step_read (BeginUse endpoint pasid page write) h =
     rw (number_decimal endpoint h.0, number_decimal pasid h.1, number_decimal page h.2, access_read write) refl
-known_read (EndUse endpoint slot) h = rw (number_decimal endpoint h.0, number_decimal slot h.1) refl
-known_read (Evict endpoint pasid page) h = rw (number_decimal endpoint h.0, number_decimal pasid h.1, number_decimal page h.2) refl
-known_read (Fault endpoint pasid page read write group last) h =
+step_read (EndUse endpoint slot) h = rw (number_decimal endpoint h.0, number_decimal slot h.1) refl
+step_read (Evict endpoint pasid page) h = rw (number_decimal endpoint h.0, number_decimal pasid h.1, number_decimal page h.2) refl
+step_read (Fault endpoint pasid page read write group last) h =
     rw (number_decimal endpoint h.0, number_decimal pasid h.1, number_decimal page h.2, flags_read read write h.3, group_read group h.4, last_read last) refl
-known_read (Finish endpoint vector count) h = rw (number_decimal endpoint h.0, vector_read vector h.1, number_decimal count h.2) refl
-known_read (Quit endpoint pasid) h = rw (number_decimal endpoint h.0, number_decimal pasid h.1) refl
-known_read (Deliver message) h = rw (number_decimal message h) refl
-known_read (Look frame) h = rw (number_decimal frame h) refl
-known_read (Bearer pasid) h = rw (number_decimal pasid h) refl
-
--- the step's name is that of a step that is built
-step_read : (step : Step) → HasLine step → IsKnown step → step_of (step_words step) ≡ Ok step
-unfolding step_of
-step_read step h known = ap (λ t. cond t (known_step (step_words step)) (Err UnknownStep)) known ∙ known_read step h
+step_read (Finish endpoint vector count) h = rw (number_decimal endpoint h.0, vector_read vector h.1, number_decimal count h.2) refl
+step_read (Quit endpoint pasid) h = rw (number_decimal endpoint h.0, number_decimal pasid h.1) refl
+step_read (Deliver message) h = rw (number_decimal message h) refl
+step_read (Look frame) h = rw (number_decimal frame h) refl
+step_read (Bearer pasid) h = rw (number_decimal pasid h) refl
 
 all_lines : (steps : List Step) → AllByRecursion HasLine steps → AllByRecursion IsLine (map step_words steps)
 all_lines [] h = tt
 all_lines (step ∷ steps) h = (step_line step h.0, all_lines steps h.1)
 
-steps_read : (first : ℕ) (steps : List Step) → AllByRecursion HasLine steps → AllByRecursion IsKnown steps
+steps_read : (first : ℕ) (steps : List Step) → AllByRecursion HasLine steps
     → steps_of (enumerate_from first (map (join_with_byte 32) (map step_words steps))) ≡ Ok steps
-steps_read first [] h k = refl
-steps_read first (step ∷ steps) h k =
-    let said = ap step_of (step_line step h.0).read ∙ step_read step h.0 k.0 in
-    rw (said, steps_read (first + 1) steps h.1 k.1) refl
+steps_read first [] h = refl
+steps_read first (step ∷ steps) h =
+    let said = ap step_of (step_line step h.0).read ∙ step_read step h.0 in
+    rw (said, steps_read (first + 1) steps h.1) refl
 
-script_read : (count : ℕ) (config : Config) (steps : List Step) → HasConfigLine config → AllByRecursion HasLine steps → AllByRecursion IsKnown steps
-    → script_of count (enumerate_from 1 (map (join_with_byte 32) (config_words config ∷ map step_words steps))) ≡ Ok (record { config = config; steps = steps })
-script_read count config steps h k known =
+script_read : (count : ℕ) (config : Config) (steps : List Step) → HasConfigLine config → AllByRecursion HasLine steps
+    → script_of count (enumerate_from 1 (map (join_with_byte 32) (config_words config ∷ map step_words steps)))
+    ≡ Ok (record { config = config; steps = steps })
+script_read count config steps h k =
     let said = ap config_of (config_line config h).read ∙ config_read config h in
-    rw (said, steps_read 2 steps k known) refl
+    rw (said, steps_read 2 steps k) refl
 
 scenario_of-said : (text : List ℕ) (lines : List (ℕ × List ℕ)) → is_too_large text ≡ false → said_lines 1 (lines_of text) ≡ lines
     → scenario_of text ≡ script_of (length (lines_of text)) lines
@@ -378,9 +386,9 @@ scenario_of-said text lines small said =
     ∙ ap (script_of (length (lines_of text))) said
 
 pub scripts_are_read : ScriptsAreRead
-scripts_are_read script config steps known small =
+scripts_are_read script config steps small =
     let lines = config_words script.config ∷ map step_words script.steps in
     let each : AllByRecursion IsLine lines = (config_line script.config config, all_lines script.steps steps) in
     let text : lines_of (script_text script) ≡ map (join_with_byte 32) lines = lines_of-text lines each in
     scenario_of-said (script_text script) _ small (ap (said_lines 1) text ∙ said_lines-all 1 lines each)
-    ∙ script_read (length (lines_of (script_text script))) script.config script.steps config steps known
+    ∙ script_read (length (lines_of (script_text script))) script.config script.steps config steps

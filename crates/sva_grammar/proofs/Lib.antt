@@ -3,4 +3,5 @@ pub mod WordLemmas
 pub mod StepLemmas
 pub mod VectorLemmas
 pub mod LawLemmas
-pub mod KnownLemmas
+pub mod NameLemmas
+pub mod SizeLemmas

@@ -1,5 +1,6 @@
 -- Lemmas on the lines of a text.
-use Rattle.std.proofs.Common.{◌≡◌, ◌<◌, ◌≤◌, ◌+◌, ◌-◌, ◌∙◌, ap, sym, arith, ℕ, suc, List, [], ◌∷◌, Bool, true, false, cond, length, take, drop, refl, eqb, Some, None}
+use Rattle.std.proofs.Common.{◌≡◌, ◌<◌, ◌≤◌, ◌+◌, ◌-◌, ◌∙◌, ap, sym, arith, ℕ, suc, List, [], ◌∷◌, Bool, true, false, cond, length, take, drop, refl, eqb}
+use Rattle.std.proofs.Common.{Some, None}
 use Rattle.std.specs.List.{onto_first, position, position_or_len}
 use Rattle.std.proofs.lemmas.Bool.{ltb-true, ltb-false}
 use Rattle.std.proofs.lemmas.List.{take_rest}
@@ -11,7 +12,8 @@ line_len : List ℕ → ℕ
 line_len [] = 0
 line_len (byte ∷ text) = cond (eqb byte 10) 0 (suc (line_len text))
 
-first_step : (byte : ℕ) (text : List ℕ) (t : Bool) → (line_len text < length text → lines_of text ≡ take (line_len text) text ∷ lines_of (drop (suc (line_len text)) text))
+first_step : (byte : ℕ) (text : List ℕ) (t : Bool)
+    → (line_len text < length text → lines_of text ≡ take (line_len text) text ∷ lines_of (drop (suc (line_len text)) text))
     → cond t 0 (suc (line_len text)) < suc (length text)
     → cond t ([] ∷ lines_of text) (onto_first byte (lines_of text))
     ≡ take (cond t 0 (suc (line_len text))) (byte ∷ text) ∷ lines_of (drop (suc (cond t 0 (suc (line_len text)))) (byte ∷ text))

@@ -1,5 +1,6 @@
 -- Vectors: eight hexadecimal digits in lower case, as a word and as a number.
-use Rattle.std.proofs.Common.{◌≡◌, ◌≢◌, ◌<◌, ◌≤◌, ◌+◌, ◌*◌, ◌/◌, ◌%◌, ◌^◌, ◌∙◌, ap, sym, subst, arith, ℕ, zero, suc, List, [], ◌∷◌, Bool, true, false, cond, eqb, length, get_or, refl, Result, Ok, Err, MatchResult}
+use Rattle.std.proofs.Common.{◌≡◌, ◌≢◌, ◌<◌, ◌≤◌, ◌+◌, ◌*◌, ◌/◌, ◌%◌, ◌^◌, ◌∙◌, ap, sym, subst, arith, ℕ, zero, suc, List, [], ◌∷◌, Bool, true, false}
+use Rattle.std.proofs.Common.{cond, eqb, length, get_or, refl, Result, Ok, Err, MatchResult}
 use Rattle.std.specs.Char.{digit_char, digit_value}
 use Rattle.std.specs.List.{list_all}
 use Rattle.std.specs.Result.{OkIff}
@@ -61,7 +62,8 @@ word_of_value m (byte ∷ word) h =
     let parts = and_parts (is_vector_digit byte) _ h in
     let small = digit_small byte parts.0 in
     let rest = value_bounds (m * 16 + digit_value byte) word parts.1 in
-    let front : digits_value_after 16 (m * 16 + digit_value byte) word / 16 ^ length word ≡ m * 16 + digit_value byte = div-eq_of_lt-le (16 ^ length word) rest.0 rest.1 in
+    let front : digits_value_after 16 (m * 16 + digit_value byte) word / 16 ^ length word ≡ m * 16 + digit_value byte =
+    div-eq_of_lt-le (16 ^ length word) rest.0 rest.1 in
     let low : (m * 16 + digit_value byte) % 16 ≡ digit_value byte = omega arith in
     let first = ap (λ n. digit_char (n % 16)) front ∙ ap digit_char low ∙ digit_char-value byte parts.0 in
     λ i. first i ∷ word_of_value (m * 16 + digit_value byte) word parts.1 i
@@ -150,10 +152,12 @@ vector-mapped {E} word r out h read m =
     let eight : length word ≡ 8 = eqb-true _ 8 parts.0 in
     let some : 0 < length word = omega arith in
     let plain = without_leading_plus_none word (no_plus word parts.1) in
-    by r out (subst (λ ds. OkIff r (IsNumeral 16 ds × (digits_value 16 ds < 2 ^ 32)) (digits_value 16 ds)) plain read) ((some, digits_from word parts.1), vector_small word h) m
+    by r out (subst (λ ds. OkIff r (IsNumeral 16 ds × (digits_value 16 ds < 2 ^ 32)) (digits_value 16 ds)) plain read)
+    ((some, digits_from word parts.1), vector_small word h) m
     ∙ sym (vector-is word h)
   where
-    by : (q : Result ℕ E) (o : Result ℕ Cause) → OkIff q (IsNumeral 16 word × (digits_value 16 word < 2 ^ 32)) (digits_value 16 word) → IsNumeral 16 word × (digits_value 16 word < 2 ^ 32)
+    by : (q : Result ℕ E) (o : Result ℕ Cause) → OkIff q (IsNumeral 16 word × (digits_value 16 word < 2 ^ 32)) (digits_value 16 word)
+        → IsNumeral 16 word × (digits_value 16 word < 2 ^ 32)
         → MatchResult q (λ v. o ≡ Ok v) (λ _. o ≡ Err BadWord) → o ≡ Ok (digits_value 16 word)
     by (Ok x) o p fits e = e ∙ ap Ok p.1
     by (Err d) o p fits e = absurd (p fits)

@@ -1,5 +1,6 @@
 -- Lemmas on the words of a line.
-use Rattle.std.proofs.Common.{◌≡◌, ◌≢◌, ◌<◌, ◌^◌, ◌∙◌, ap, sym, arith, ℕ, List, [], ◌∷◌, Bool, true, false, ◌&&◌, cond, length, get_or, refl, Option, Some, None, Result, Ok, Err, ltb, MatchResult}
+use Rattle.std.proofs.Common.{◌≡◌, ◌≢◌, ◌<◌, ◌^◌, ◌∙◌, ap, sym, arith, ℕ, List, [], ◌∷◌, Bool, true, false, ◌&&◌, cond, length, get_or, refl, Option, Some}
+use Rattle.std.proofs.Common.{None, Result, Ok, Err, ltb, MatchResult}
 use Rattle.std.specs.Prelude.{slice_get, unwrap_or}
 use Rattle.std.specs.Option.{option_map}
 use Rattle.std.specs.Str.{all_ascii_digits, IsUtf8}
@@ -35,7 +36,8 @@ unfolding number
 number-not word h = ap (λ t. cond t (Ok (digits_value 10 word)) (Err BadWord)) h
 
 -- a word that passes the test is its digits' number
-pub number-is : (word : List ℕ) → (begins_number word && all_ascii_digits word && ltb (digits_value 10 word) (2 ^ 64)) ≡ true → number word ≡ Ok (digits_value 10 word)
+pub number-is : (word : List ℕ) → (begins_number word && all_ascii_digits word && ltb (digits_value 10 word) (2 ^ 64)) ≡ true
+    → number word ≡ Ok (digits_value 10 word)
 unfolding number
 number-is word h = ap (λ t. cond t (Ok (digits_value 10 word)) (Err BadWord)) h
 

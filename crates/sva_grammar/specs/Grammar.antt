@@ -1,12 +1,14 @@
 -- The grammar of scenarios, which is this project's own, over the whole text. A text is a list of bytes.
-use Rattle.std.specs.Prelude.{◌≡◌, ℕ, ◌+◌, ◌^◌, ◌==◌, ◌&&◌, ◌||◌, not, nat_le, nat_lt, if◌then◌else◌, Bool, true, false, List, [], ◌∷◌, length, filter, codes, slice_index_or, Option, Some, None, Result, Ok, Err}
+use Rattle.std.specs.Prelude.{◌≡◌, ℕ, ◌+◌, ◌^◌, ◌==◌, ◌&&◌, ◌||◌, not, nat_le, nat_lt, if◌then◌else◌, Bool, true, false, List, [], ◌∷◌, length, filter}
+use Rattle.std.specs.Prelude.{codes, slice_index_or, Option, Some, None, Result, Ok, Err}
 use Rattle.std.specs.Char.{is_ascii_digit}
 use Rattle.std.specs.List.{enumerate_from, list_all, onto_first, slice_split}
 use Rattle.std.specs.Str.{all_ascii_digits, bytes_eq}
 use Rattle.std.specs.Str.Parse.{digits_value}
 use Rattle.sva_step.specs.declared.limits.Config.{Config}
 use Rattle.sva_step.specs.declared.steps.Step.{Step}
-use Rattle.sva_step.specs.declared.steps.Step.TheVariants.{Space, DropSpace, Map, Unmap, UnmapRange, Bind, Unbind, Advance, Pump, Serve, Reset, Take, Reply, Ask, BeginUse, EndUse, Evict, Fault, Finish, Quit, Deliver, Look, Bearer}
+use Rattle.sva_step.specs.declared.steps.Step.TheVariants.{Space, DropSpace, Map, Unmap, UnmapRange, Bind, Unbind, Advance, Pump, Serve, Reset, Take}
+use Rattle.sva_step.specs.declared.steps.Step.TheVariants.{Reply, Ask, BeginUse, EndUse, Evict, Fault, Finish, Quit, Deliver, Look, Bearer}
 use Rattle.sva_step.specs.declared.steps.Verdict.{Verdict}
 use Rattle.sva_step.specs.declared.steps.Verdict.TheVariants.{Success, Invalid, Failure}
 use Rattle.sva_grammar.specs.declared.faults.Cause.{Cause}
@@ -329,9 +331,9 @@ host_step words =
     if bytes_eq (word 0 words) (codes "answer") then answer_step words else
     endpoint_step words
 
--- those of spaces, frames and PASIDs, and else one of the above
-unfoldable pub known_step : List (List ℕ) → Result Step Cause
-known_step words =
+-- the step of a line: one of spaces, frames and PASIDs, and else one of the above; a line of another name is of no step
+unfoldable pub step_of : List (List ℕ) → Result Step Cause
+step_of words =
     if bytes_eq (word 0 words) (codes "space") then space_step words else
     if bytes_eq (word 0 words) (codes "drop") then drop_step words else
     if bytes_eq (word 0 words) (codes "map") then map_step words else
@@ -340,38 +342,6 @@ known_step words =
     if bytes_eq (word 0 words) (codes "look") then look_step words else
     if bytes_eq (word 0 words) (codes "bearer") then bearer_step words else
     host_step words
-
--- Is the step of this name built? A line of another is answered as that of no step. Once each is built this goes, and
--- `known_step` takes the place of `step_of`.
-abbrev pub is_built_word : List ℕ → Bool
-is_built_word name =
-    bytes_eq name (codes "space")
-    || bytes_eq name (codes "drop")
-    || bytes_eq name (codes "map")
-    || bytes_eq name (codes "unmap")
-    || bytes_eq name (codes "unmapr")
-    || bytes_eq name (codes "look")
-    || bytes_eq name (codes "bearer")
-    || bytes_eq name (codes "bind")
-    || bytes_eq name (codes "unbind")
-    || bytes_eq name (codes "advance")
-    || bytes_eq name (codes "pump")
-    || bytes_eq name (codes "serve")
-    || bytes_eq name (codes "reset")
-    || bytes_eq name (codes "take")
-    || bytes_eq name (codes "answer")
-    || bytes_eq name (codes "ask")
-    || bytes_eq name (codes "use")
-    || bytes_eq name (codes "end")
-    || bytes_eq name (codes "evict")
-    || bytes_eq name (codes "fault")
-    || bytes_eq name (codes "finish")
-    || bytes_eq name (codes "quit")
-    || bytes_eq name (codes "deliver")
-
--- the step of a line
-unfoldable pub step_of : List (List ℕ) → Result Step Cause
-step_of words = if is_built_word (word 0 words) then known_step words else Err UnknownStep
 
 -- ---- The whole text
 

@@ -1,13 +1,15 @@
 -- Laws of the grammar, over every word, every text and every scenario.
-use Rattle.std.specs.Prelude.{◌≡◌, ◌↔◌, ℕ, ◌+◌, ◌^◌, ◌<◌, ◌/◌, ◌%◌, ◌==◌, ◌||◌, if◌then◌else◌, Bool, true, false, List, [], ◌∷◌, ◌++◌, zero, suc, length, count_by, codes, decimal, flat_map, map, Option, Some, None, IfSome, Ok}
+use Rattle.std.specs.Prelude.{◌≡◌, ◌↔◌, ℕ, ◌+◌, ◌^◌, ◌<◌, ◌/◌, ◌%◌, ◌==◌, ◌||◌, if◌then◌else◌, Bool, true, false, List, [], ◌∷◌, ◌++◌, zero, suc, length}
+use Rattle.std.specs.Prelude.{count_by, codes, decimal, flat_map, map, Option, Some, None, IfSome, Ok}
 use Rattle.std.specs.Char.{digit_char}
 use Rattle.std.specs.List.{AllByRecursion, join_with_byte}
 use Rattle.sva_step.specs.declared.steps.Step.{Step}
-use Rattle.sva_step.specs.declared.steps.Step.TheVariants.{Space, DropSpace, Map, Unmap, UnmapRange, Bind, Unbind, Advance, Pump, Serve, Reset, Take, Reply, Ask, BeginUse, EndUse, Evict, Fault, Finish, Quit, Deliver, Look, Bearer}
+use Rattle.sva_step.specs.declared.steps.Step.TheVariants.{Space, DropSpace, Map, Unmap, UnmapRange, Bind, Unbind, Advance, Pump, Serve, Reset, Take}
+use Rattle.sva_step.specs.declared.steps.Step.TheVariants.{Reply, Ask, BeginUse, EndUse, Evict, Fault, Finish, Quit, Deliver, Look, Bearer}
 use Rattle.sva_step.specs.declared.steps.Verdict.{Verdict}
 use Rattle.sva_step.specs.declared.steps.Verdict.TheVariants.{Success, Invalid, Failure}
 use Rattle.sva_step.specs.declared.limits.Config.{Config}
-use Rattle.sva_grammar.specs.Grammar.{Script, is_built_word, is_too_large, lines_of, number, scenario_of, vector}
+use Rattle.sva_grammar.specs.Grammar.{Script, is_too_large, lines_of, number, scenario_of, step_of, vector, word}
 
 -- a word writes a number exactly where it is the number's decimal text
 abbrev pub NumbersAreDecimal : Type 0
@@ -142,10 +144,6 @@ HasLine (Deliver message) = message < 2 ^ 64
 HasLine (Look frame) = frame < 2 ^ 64
 HasLine (Bearer pasid) = pasid < 2 ^ 64
 
--- the step is built, so that its line is read
-abbrev pub IsKnown : Step → Type 0
-IsKnown step = is_built_word (step_name step) ≡ true
-
 -- a config that has a line: its numbers fit 64 bits, and what it numbers begins at 0
 abbrev pub HasConfigLine : Config → Type 0
 HasConfigLine config = (config.endpoints < 2 ^ 64) × (config.frames < 2 ^ 64) × (config.workers < 2 ^ 64) × (config.first ≡ 0)
@@ -158,16 +156,15 @@ text_of lines = flat_map (λ words. join_with_byte 32 words ++ 10 ∷ []) lines
 abbrev pub script_text : Script → List ℕ
 script_text script = text_of (config_words script.config ∷ map step_words script.steps)
 
--- each scenario that has lines, of steps that are built, and isn't too large, is read from its text
+-- each scenario that has lines and isn't too large is read from its text
 abbrev pub ScriptsAreRead : Type 0
 ScriptsAreRead =
     (script : Script)
     → HasConfigLine script.config
     → AllByRecursion HasLine script.steps
-    → AllByRecursion IsKnown script.steps
     → is_too_large (script_text script) ≡ false
     → scenario_of (script_text script) ≡ Ok script
 
--- a scenario that is read has built steps alone
-abbrev pub StepsAreKnown : Type 0
-StepsAreKnown = (text : List ℕ) (script : Script) → scenario_of text ≡ Ok script → AllByRecursion IsKnown script.steps
+-- a line that is read as a step begins with the step's name
+abbrev pub LinesAreNamed : Type 0
+LinesAreNamed = (words : List (List ℕ)) (step : Step) → step_of words ≡ Ok step → word 0 words ≡ step_name step

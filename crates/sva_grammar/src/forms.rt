@@ -1,6 +1,8 @@
 ghost use Rattle.std.specs.Prelude.{◌≡◌};
-ghost use Rattle.sva_grammar.specs.Grammar.{config_of, config_counts, step_of, known_step, host_step, endpoint_step};
-ghost use Rattle.sva_grammar.specs.Grammar.{space_step, drop_step, map_step, unmap_step, unmapr_step, look_step, bearer_step, bind_step, unbind_step, advance_step, pump_step, serve_step, reset_step, take_step, answer_step, ask_step, use_step, end_step, evict_step, fault_step, finish_step, quit_step, deliver_step};
+ghost use Rattle.sva_grammar.specs.Grammar.{config_of, config_counts, step_of, host_step, endpoint_step};
+ghost use Rattle.sva_grammar.specs.Grammar.{space_step, drop_step, map_step, unmap_step, unmapr_step, look_step, bearer_step};
+ghost use Rattle.sva_grammar.specs.Grammar.{bind_step, unbind_step, advance_step, pump_step, serve_step, reset_step, take_step, answer_step};
+ghost use Rattle.sva_grammar.specs.Grammar.{ask_step, use_step, end_step, evict_step, fault_step, finish_step, quit_step, deliver_step};
 
 use crate::faults::Cause;
 use crate::words::Words;
@@ -36,22 +38,10 @@ fn counts_in(words: &Words<'_>) -> Result<Config, Cause>
     })
 }
 
-/// The step that a line writes. A line of a step that isn't built yet is one of no step.
+/// The step that a line writes: one of spaces, frames or PASIDs, or else one of the others.
 #[tactic(auto, unfolding(crate::specs::Grammar::step_of))]
 pub fn step_in(words: &Words<'_>) -> Result<Step, Cause>
     ensures { result ≡ step_of words.now }
-{
-    if words.is_built() {
-        known_step_in(words)
-    } else {
-        Err(Cause::UnknownStep)
-    }
-}
-
-/// A step of spaces, frames or PASIDs, or else one of the others.
-#[tactic(auto, unfolding(crate::specs::Grammar::known_step))]
-pub fn known_step_in(words: &Words<'_>) -> Result<Step, Cause>
-    ensures { result ≡ known_step words.now }
 {
     if words.begins_with(b"space") {
         space_in(words)

@@ -1,62 +1,49 @@
 // Each form of a step's line, and lines that miss it by a word.
 use crate::faults::Cause;
-use crate::forms::known_step_in;
+use crate::forms::step_in;
 use crate::words::Words;
 use sva_step::{Step, Verdict};
 
-/// The step that a line writes, or why it can't be read, whether the step is built or not.
+/// The step that a line writes, or why it can't be read.
 fn read(line: &str) -> Result<Step, Cause> {
-    known_step_in(&Words::new(line.as_bytes()))
+    step_in(&Words::new(line.as_bytes()))
+}
+
+/// A map of page 16 of space 2.
+fn mapped(write: bool) -> Step {
+    let (space, page) = (2, 16);
+    Step::Map { space, page, write }
+}
+
+/// An unmapping of so many pages of space 2, from page 16 on.
+fn unmapped(count: u64) -> Step {
+    let (space, page) = (2, 16);
+    Step::Unmap { space, page, count }
 }
 
 #[test]
-fn reads_each_line(rt: HostRuntime) {
-    let (endpoint, space, binding, worker, pasid, page) = (1, 2, 3, 0, 32, 16);
+fn reads_steps_of_spaces(rt: HostRuntime) {
+    let (space, page, order) = (2, 16, 4);
     let lines = [
         ("space", Step::Space),
         ("drop 2", Step::DropSpace { space }),
-        (
-            "map 2 16 w",
-            Step::Map {
-                space,
-                page,
-                write: true,
-            },
-        ),
-        (
-            "map 2 16 r",
-            Step::Map {
-                space,
-                page,
-                write: false,
-            },
-        ),
-        (
-            "unmap 2 16",
-            Step::Unmap {
-                space,
-                page,
-                count: 1,
-            },
-        ),
-        (
-            "unmap 2 16 48",
-            Step::Unmap {
-                space,
-                page,
-                count: 48,
-            },
-        ),
-        (
-            "unmapr 2 16 4",
-            Step::UnmapRange {
-                space,
-                page,
-                order: 4,
-            },
-        ),
+        ("map 2 16 w", mapped(true)),
+        ("map 2 16 r", mapped(false)),
+        ("unmap 2 16", unmapped(1)),
+        ("unmap 2 16 48", unmapped(48)),
+        ("unmapr 2 16 4", Step::UnmapRange { space, page, order }),
         ("look 5", Step::Look { frame: 5 }),
-        ("bearer 32", Step::Bearer { pasid }),
+        ("bearer 32", Step::Bearer { pasid: 32 }),
+    ];
+    for (line, step) in lines {
+        assert_eq!(rt; read(line), Ok(step), "{line}");
+    }
+}
+
+#[test]
+fn reads_steps_of_bindings(rt: HostRuntime) {
+    let (endpoint, space, binding, worker) = (1, 2, 3, 0);
+    let lines = [
         ("bind 1 2", Step::Bind { endpoint, space }),
         ("unbind 3", Step::Unbind { binding }),
         ("advance 3", Step::Advance { binding }),
@@ -64,46 +51,45 @@ fn reads_each_line(rt: HostRuntime) {
         ("serve 1", Step::Serve { endpoint }),
         ("reset 1", Step::Reset { endpoint }),
         ("take 0", Step::Take { worker }),
-        (
-            "ask 1 32 16",
-            Step::Ask {
-                endpoint,
-                pasid,
-                page,
-            },
-        ),
-        (
-            "use 1 32 16 r",
-            Step::BeginUse {
-                endpoint,
-                pasid,
-                page,
-                write: false,
-            },
-        ),
-        (
-            "use 1 32 16 w",
-            Step::BeginUse {
-                endpoint,
-                pasid,
-                page,
-                write: true,
-            },
-        ),
+    ];
+    for (line, step) in lines {
+        assert_eq!(rt; read(line), Ok(step), "{line}");
+    }
+}
+
+/// A use of page 16 under PASID 32 at endpoint 1.
+fn used(write: bool) -> Step {
+    let (endpoint, pasid, page) = (1, 32, 16);
+    Step::BeginUse {
+        endpoint,
+        pasid,
+        page,
+        write,
+    }
+}
+
+#[test]
+fn reads_steps_of_endpoints(rt: HostRuntime) {
+    let (endpoint, pasid, page) = (1, 32, 16);
+    let ask = Step::Ask {
+        endpoint,
+        pasid,
+        page,
+    };
+    let evict = Step::Evict {
+        endpoint,
+        pasid,
+        page,
+    };
+    let message = u64::MAX;
+    let lines = [
+        ("ask 1 32 16", ask),
+        ("use 1 32 16 r", used(false)),
+        ("use 1 32 16 w", used(true)),
         ("end 1 15", Step::EndUse { endpoint, slot: 15 }),
-        (
-            "evict 1 32 16",
-            Step::Evict {
-                endpoint,
-                pasid,
-                page,
-            },
-        ),
+        ("evict 1 32 16", evict),
         ("quit 1 32", Step::Quit { endpoint, pasid }),
-        (
-            "deliver 18446744073709551615",
-            Step::Deliver { message: u64::MAX },
-        ),
+        ("deliver 18446744073709551615", Step::Deliver { message }),
     ];
     for (line, step) in lines {
         assert_eq!(rt; read(line), Ok(step), "{line}");
@@ -169,111 +155,113 @@ fn reads_vectors(rt: HostRuntime) {
     }
 }
 
-/// A line with a word too few or too many. What its words are, is asked later.
+/// Lines with a word too few or too many. What their words are, is asked later.
+const WRONG_COUNTS: [&str; 50] = [
+    "space 0",
+    "space ",
+    "drop",
+    "drop 0 0",
+    "map 0 16",
+    "map 0 16 w w",
+    "unmap 0",
+    "unmap 0 16 1 1",
+    "unmapr 0 16",
+    "unmapr 0 16 0 0",
+    "look",
+    "look 0 ",
+    "bearer",
+    "bearer 1 1",
+    "bind 0",
+    "bind 0 0 0",
+    "bind 0  0",
+    "unbind",
+    "unbind 0 0",
+    "advance",
+    "advance 0 0",
+    "pump",
+    "pump 0 ",
+    "serve",
+    "serve x x",
+    "reset",
+    "reset 0 0",
+    "take",
+    "take 0 0",
+    "answer 0",
+    "answer x",
+    "answer 0 success 0",
+    "ask 0 1",
+    "ask 0 1 16 r",
+    "use 0 1 16",
+    "use 0 1 16 r r",
+    "end 0",
+    "end 0 0 0",
+    "evict 0 1",
+    "evict 0 1 16 16",
+    "fault 0 1 16 r new",
+    "fault 0 1 16 r last",
+    "fault 0 1 16 r w new last",
+    "finish 0 00000001",
+    "finish 0 00000001 1 1",
+    "finish 0 0000 0001 1",
+    "quit 0",
+    "quit 0 1 ",
+    "deliver",
+    "deliver 0 1",
+];
+
 #[test]
 fn tells_wrong_counts(rt: HostRuntime) {
-    let lines = [
-        "space 0",
-        "space ",
-        "drop",
-        "drop 0 0",
-        "map 0 16",
-        "map 0 16 w w",
-        "unmap 0",
-        "unmap 0 16 1 1",
-        "unmapr 0 16",
-        "unmapr 0 16 0 0",
-        "look",
-        "look 0 ",
-        "bearer",
-        "bearer 1 1",
-        "bind 0",
-        "bind 0 0 0",
-        "bind 0  0",
-        "unbind",
-        "unbind 0 0",
-        "advance",
-        "advance 0 0",
-        "pump",
-        "pump 0 ",
-        "serve",
-        "serve x x",
-        "reset",
-        "reset 0 0",
-        "take",
-        "take 0 0",
-        "answer 0",
-        "answer x",
-        "answer 0 success 0",
-        "ask 0 1",
-        "ask 0 1 16 r",
-        "use 0 1 16",
-        "use 0 1 16 r r",
-        "end 0",
-        "end 0 0 0",
-        "evict 0 1",
-        "evict 0 1 16 16",
-        "fault 0 1 16 r new",
-        "fault 0 1 16 r last",
-        "fault 0 1 16 r w new last",
-        "finish 0 00000001",
-        "finish 0 00000001 1 1",
-        "finish 0 0000 0001 1",
-        "quit 0",
-        "quit 0 1 ",
-        "deliver",
-        "deliver 0 1",
-    ];
-    for line in lines {
+    for line in WRONG_COUNTS {
         assert_eq!(rt; read(line), Err(Cause::WordCount), "{line}");
     }
 }
 
-/// A line with a number in each place that is none.
+/// Lines with a word that is no number, in each place of one.
+const BAD_NUMBERS: [&str; 39] = [
+    "drop x",
+    "map x 16 w",
+    "map 0 +16 w",
+    "unmap 0  16",
+    "unmap 0 16 01",
+    "unmapr 0 16 18446744073709551616",
+    "look 18446744073709551616",
+    "bearer 0x1",
+    "bind x 0",
+    "bind 0 x",
+    "bind 0 ",
+    "bind  0",
+    "unbind -1",
+    "advance 00",
+    "pump 18446744073709551616",
+    "serve 0.",
+    "reset ",
+    "take one",
+    "answer 00 success",
+    "ask x 1 16",
+    "ask 0 x 16",
+    "ask 0 1 x",
+    "use x 1 16 r",
+    "use 0 x 16 r",
+    "use 0 1 x r",
+    "end x 0",
+    "end 0 x",
+    "evict x 1 16",
+    "evict 0 01 16",
+    "evict 0 1 1e1",
+    "fault x 1 16 r new last",
+    "fault 0 x 16 r new last",
+    "fault 0 1 x r new last",
+    "finish x 00000001 1",
+    "finish 0 00000001 x",
+    "quit x 1",
+    "quit 0 x",
+    "deliver 0\r",
+    "deliver ",
+];
+
 #[test]
 fn tells_bad_numbers(rt: HostRuntime) {
-    let lines = [
-        "drop x",
-        "map x 16 w",
-        "map 0 +16 w",
-        "unmap 0  16",
-        "unmap 0 16 01",
-        "unmapr 0 16 18446744073709551616",
-        "look 18446744073709551616",
-        "bearer 0x1",
-        "bind x 0",
-        "bind 0 x",
-        "bind 0 ",
-        "bind  0",
-        "unbind -1",
-        "advance 00",
-        "pump 18446744073709551616",
-        "serve 0.",
-        "reset ",
-        "take one",
-        "answer 00 success",
-        "ask x 1 16",
-        "ask 0 x 16",
-        "ask 0 1 x",
-        "use x 1 16 r",
-        "use 0 x 16 r",
-        "use 0 1 x r",
-        "end x 0",
-        "end 0 x",
-        "evict x 1 16",
-        "evict 0 01 16",
-        "evict 0 1 1e1",
-        "fault x 1 16 r new last",
-        "fault 0 x 16 r new last",
-        "fault 0 1 x r new last",
-        "finish x 00000001 1",
-        "finish 0 00000001 x",
-        "quit x 1",
-        "quit 0 x",
-        "deliver 0\r",
-        "deliver ",
-    ];
-    for line in lines {
+    for line in BAD_NUMBERS {
         assert_eq!(rt; read(line), Err(Cause::BadWord), "{line}");
     }
 }

@@ -1,4 +1,4 @@
-ghost use Rattle.std.specs.Prelude.{◌≡◌, ◌≢◌, ◌≤◌, Err, IfOk, IfErr, length};
+ghost use Rattle.std.specs.Prelude.{◌≡◌, ◌≢◌, ◌≤◌, Err, length};
 ghost use Rattle.sva_grammar.specs.Grammar.{at_line, config_of, lines_of, step_of, steps_of, words_of, scenario_of, Reads};
 
 use crate::faults::{Cause, LineFault, ParseFault};

@@ -1,5 +1,6 @@
-ghost use Rattle.std.specs.Prelude.{◌≡◌, ℕ, ◌+◌, ◌-◌, ◌<◌, ◌≤◌, List, [], ◌∷◌, ◌++◌, length, take, map};
-ghost use Rattle.sva_grammar.specs.Grammar.{access, begins_number, flags, group, is_built_word, is_last, is_vector, is_vector_digit, number, one_number, vector, verdict, word, has_words, has_words_or};
+ghost use Rattle.std.specs.Prelude.{◌≡◌, length};
+ghost use Rattle.sva_grammar.specs.Grammar.{access, begins_number, flags, group, is_last, is_vector, is_vector_digit, number, one_number, vector};
+ghost use Rattle.sva_grammar.specs.Grammar.{verdict, word, has_words, has_words_or};
 ghost use Rattle.std.specs.Str.{bytes_eq};
 
 use crate::faults::Cause;
@@ -51,35 +52,6 @@ impl<'a> Words<'a> {
         ensures { result ≡ bytes_eq (word 0 self.now) name.now }
     {
         self.word(0) == name
-    }
-
-    /// Is the line's first word the name of a step that is built? It goes with `is_built_word`.
-    pub fn is_built(&self) -> bool
-        ensures { result ≡ is_built_word (word 0 self.now) }
-    {
-        self.begins_with(b"space")
-            || self.begins_with(b"drop")
-            || self.begins_with(b"map")
-            || self.begins_with(b"unmap")
-            || self.begins_with(b"unmapr")
-            || self.begins_with(b"look")
-            || self.begins_with(b"bearer")
-            || self.begins_with(b"bind")
-            || self.begins_with(b"unbind")
-            || self.begins_with(b"advance")
-            || self.begins_with(b"pump")
-            || self.begins_with(b"serve")
-            || self.begins_with(b"reset")
-            || self.begins_with(b"take")
-            || self.begins_with(b"answer")
-            || self.begins_with(b"ask")
-            || self.begins_with(b"use")
-            || self.begins_with(b"end")
-            || self.begins_with(b"evict")
-            || self.begins_with(b"fault")
-            || self.begins_with(b"finish")
-            || self.begins_with(b"quit")
-            || self.begins_with(b"deliver")
     }
 
     /// `WordCount` unless the line has so many words.

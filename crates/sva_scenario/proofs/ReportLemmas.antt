@@ -1,5 +1,6 @@
 -- Lemmas on the report of some steps as it is written, line by line.
-use Rattle.std.proofs.Common.{◌≡◌, ◌<◌, ◌≤◌, ◌^◌, ◌∙◌, ap, sym, subst, arith, ◌*◌, ℕ, suc, List, [], ◌∷◌, ◌++◌, append_assoc, length, get_or, refl, Bool, true, false, Option, Result, Ok, Err}
+use Rattle.std.proofs.Common.{◌≡◌, ◌<◌, ◌≤◌, ◌^◌, ◌∙◌, ap, sym, subst, arith, ◌*◌, ℕ, suc, List, [], ◌∷◌, ◌++◌, append_assoc, length, get_or, refl, Bool}
+use Rattle.std.proofs.Common.{true, false, Option, Result, Ok, Err}
 use Rattle.std.specs.Prelude.{codes, decimal}
 use Rattle.std.specs.Io.KnownBytes.{Appends}
 use Rattle.std.proofs.KnownBytes.{Appends-nil, Appends-trans}
@@ -28,10 +29,12 @@ use Rattle.sva_scenario.proofs.StreamLemmas.{AppendsPrefix-after, AppendsPrefix-
 
 -- ---- One line after another
 
-steps_report-step : (w : World) (step : Step) (steps : List Step) → steps_report w (step ∷ steps) ≡ ended (reply_text (reply w step)) ++ steps_report (next w step) steps
+steps_report-step : (w : World) (step : Step) (steps : List Step)
+    → steps_report w (step ∷ steps) ≡ ended (reply_text (reply w step)) ++ steps_report (next w step) steps
 unfolding steps_report replies
 steps_report-step w step steps =
-    ap (λ l. l ++ ended (counts_text (counts (run (next w step) steps)))) (flat_map-cons (λ r. ended (reply_text r)) (reply w step) (replies (next w step) steps))
+    ap (λ l. l ++ ended (counts_text (counts (run (next w step) steps))))
+    (flat_map-cons (λ r. ended (reply_text r)) (reply w step) (replies (next w step) steps))
     ∙ append_assoc (ended (reply_text (reply w step))) _ _
 
 steps_report-end : (w : World) → steps_report w [] ≡ ended (counts_text (counts w))
@@ -59,7 +62,8 @@ pub record Reporting (config : Config) (seen : Wire) (left : List Step) (whole :
   pub appended : Appends old now written
   pub rest : written ++ steps_report (world_after PerSpace config taken) left ≡ whole
 
-pub reporting_start : (config : Config) (taken steps : List Step) (seen : Wire) (known : Option (List ℕ)) → Fits config → seen ≡ wire (world_after PerSpace config taken)
+pub reporting_start : (config : Config) (taken steps : List Step) (seen : Wire) (known : Option (List ℕ)) → Fits config
+    → seen ≡ wire (world_after PerSpace config taken)
     → Reporting config seen steps (steps_report (world_after PerSpace config taken) steps) known known
 reporting_start config taken steps seen known f e =
     record { fits = f; taken = taken; is_seen = e; written = []; appended = Appends-nil known; rest = refl }
@@ -69,7 +73,8 @@ line_and_rest : (w : World) (step : Step) (left : List Step) (result : Reply) �
     → ended (reply_text result) ++ steps_report (next w step) left ≡ steps_report w (step ∷ left)
 line_and_rest w step left result e = ap (λ r. ended (reply_text r) ++ steps_report (next w step) left) e ∙ sym (steps_report-step w step left)
 
-pub reporting_step : (config : Config) (before after : Wire) (step : Step) (left : List Step) (whole : List ℕ) (old now new : Option (List ℕ)) (result : Reply)
+pub reporting_step : (config : Config) (before after : Wire) (step : Step) (left : List Step) (whole : List ℕ) (old now new : Option (List ℕ))
+    (result : Reply)
     → Reporting config before (step ∷ left) whole old now → (result ≡ Err OutOfMemory → ⊥) → Follows before step result after
     → Appends now new (ended (reply_text result)) → Reporting config after left whole old new
 reporting_step config before after step left whole old now new result r ne follows appended =
@@ -102,23 +107,25 @@ reporting_cut config before after step left whole old now new result r ne follow
     (AppendsPrefix-longer old new (r.written ++ line) (steps_report (next w step) left) (AppendsPrefix-after old now new r.written line r.appended front))
 
 -- what is written is a prefix of the whole
-pub reporting_stop : (config : Config) (seen : Wire) (left : List Step) (whole : List ℕ) (old now : Option (List ℕ)) → Reporting config seen left whole old now
+pub reporting_stop : (config : Config) (seen : Wire) (left : List Step) (whole : List ℕ) (old now : Option (List ℕ))
+    → Reporting config seen left whole old now
     → AppendsPrefix old now whole
 reporting_stop config seen left whole old now r = (r.written, steps_report (world_after PerSpace config r.taken) left, r.rest, r.appended)
 
--- the counts as the definitions have them
 -- the counts that were found are those of each world that is seen so
 abbrev pub Counted : Wire → Counts → Type 0
 Counted seen found = (config : Config) (taken : List Step) → Fits config → seen ≡ wire (world_after PerSpace config taken)
     → (found.free ≡ (counts (world_after PerSpace config taken)).free) × (found.mapped ≡ (counts (world_after PerSpace config taken)).mapped)
     × (found.withheld ≡ (counts (world_after PerSpace config taken)).withheld)
 
-writes_after : {A : Type 0} (old now new : Option (List ℕ)) (first more : List ℕ) (result : Result A DriveFault) → Appends old now first → Writes now new more result
+writes_after : {A : Type 0} (old now new : Option (List ℕ)) (first more : List ℕ) (result : Result A DriveFault) → Appends old now first
+    → Writes now new more result
     → Writes old new (first ++ more) result
 writes_after old now new first more (Ok x) p q = Appends-trans old now new first more p q
 writes_after old now new first more (Err fault) p q = AppendsPrefix-after old now new first more p q
 
-pub reporting_end : {A : Type 0} (config : Config) (seen : Wire) (whole : List ℕ) (old now new : Option (List ℕ)) (found : Counts) (result : Result A DriveFault)
+pub reporting_end : {A : Type 0} (config : Config) (seen : Wire) (whole : List ℕ) (old now new : Option (List ℕ)) (found : Counts)
+    (result : Result A DriveFault)
     → Reporting config seen [] whole old now → Counted seen found → Writes now new (ended (counts_text found)) result → Writes old new whole result
 reporting_end config seen whole old now new found result r of line =
     let w = world_after PerSpace config r.taken in

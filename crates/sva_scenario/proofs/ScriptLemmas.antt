@@ -1,6 +1,7 @@
 -- Lemmas on the scenarios that the grammar reads: that the world takes their steps, that a text which is too large needs no
 -- more than a prefix of it, and what the test of a config means.
-use Rattle.std.proofs.Common.{◌≡◌, ◌<◌, ◌≤◌, ◌+◌, ◌∙◌, ap, sym, subst, arith, ℕ, zero, suc, List, [], ◌∷◌, Bool, true, false, ◌||◌, cond, ltb, length, take, drop, drop-cons, get_or, refl, Option, Some, None, IfSome, Result, Ok, Err}
+use Rattle.std.proofs.Common.{◌≡◌, ◌<◌, ◌≤◌, ◌+◌, ◌∙◌, ap, sym, subst, arith, ℕ, zero, suc, List, [], ◌∷◌, Bool, true, false, ◌||◌, cond, ltb, length}
+use Rattle.std.proofs.Common.{take, drop, drop-cons, get_or, refl, Option, Some, None, IfSome, Result, Ok, Err}
 use Rattle.std.specs.Prelude.{IfOk}
 use Rattle.std.specs.Result.{IsErr}
 use Rattle.std.proofs.lemmas.Bool.{and_from, and_parts, le-leb, leb-true, lt-ltb, ltb-false}
@@ -130,17 +131,20 @@ kept_outcome end None kept text (Ok outcome) e h o = tt
 kept_outcome end (Some input) kept text (Ok outcome) e h o = o ∙ ap end (ap scenario_of (e ∙ h) ∙ front_scenario input)
 
 -- a fault stands where a prefix was written
-pub writes_front : {A : Type 0} (old new : Option (List ℕ)) (bytes : List ℕ) (result : Result A DriveFault) → IsErr result → AppendsPrefix old new bytes → Writes old new bytes result
+pub writes_front : {A : Type 0} (old new : Option (List ℕ)) (bytes : List ℕ) (result : Result A DriveFault) → IsErr result
+    → AppendsPrefix old new bytes → Writes old new bytes result
 writes_front old new bytes (Ok x) e front = absurd (cc)
 writes_front old new bytes (Err fault) e front = front
 
 -- the same bytes, named otherwise
-pub writes_as : {A : Type 0} (old new : Option (List ℕ)) (bytes other : List ℕ) (result : Result A DriveFault) → other ≡ bytes → Writes old new bytes result → Writes old new other result
+pub writes_as : {A : Type 0} (old new : Option (List ℕ)) (bytes other : List ℕ) (result : Result A DriveFault) → other ≡ bytes
+    → Writes old new bytes result → Writes old new other result
 writes_as old new bytes other result e w = subst (λ b. Writes old new b result) (sym e) w
 
 pub read_fault : (text : List ℕ) (f : LineFault) → scenario_of text ≡ Err f → report_of text ≡ ended (line_fault_text f)
 read_fault text f h = ap report_by h
 
-pub ends_as : (result : Result Outcome DriveFault) (end other : Outcome) → other ≡ end → IfOk result (λ outcome. outcome ≡ end) → IfOk result (λ outcome. outcome ≡ other)
+pub ends_as : (result : Result Outcome DriveFault) (end other : Outcome) → other ≡ end → IfOk result (λ outcome. outcome ≡ end)
+    → IfOk result (λ outcome. outcome ≡ other)
 ends_as (Ok outcome) end other e h = h ∙ sym e
 ends_as (Err fault) end other e h = tt

@@ -1,5 +1,6 @@
 -- Lemmas on what is read and written in several calls.
-use Rattle.std.proofs.Common.{◌≡◌, ◌+◌, ◌-◌, ◌<◌, ◌≤◌, ◌∙◌, ap, sym, arith, min, ℕ, zero, suc, List, [], ◌∷◌, ◌++◌, length, take, drop, append_assoc, append-nil, refl, Option, Some, None, IfSome}
+use Rattle.std.proofs.Common.{◌≡◌, ◌+◌, ◌-◌, ◌<◌, ◌≤◌, ◌∙◌, ap, sym, arith, min, ℕ, zero, suc, List, [], ◌∷◌, ◌++◌, length, take, drop, append_assoc}
+use Rattle.std.proofs.Common.{append-nil, refl, Option, Some, None, IfSome}
 use Rattle.std.specs.Io.KnownBytes.{Appends, Consumes, Keeps, IsAtEnd}
 use Rattle.std.proofs.KnownBytes.{Appends-kept, Appends-trans}
 use Rattle.std.proofs.Math.Seq.{take-add}
@@ -44,7 +45,8 @@ kept_more most n given kept piece e =
     ∙ sym (take-joined most given (take n piece))
 
 -- n bytes more were read, and as many of them are kept as there is room for
-pub KeepsFront-more : (most n more : ℕ) (a b c : Option (List ℕ)) (kept new piece : List ℕ) → more ≡ min n (most - length kept) → new ≡ kept ++ take more piece
+pub KeepsFront-more : (most n more : ℕ) (a b c : Option (List ℕ)) (kept new piece : List ℕ) → more ≡ min n (most - length kept)
+    → new ≡ kept ++ take more piece
     → KeepsFront most a b kept → Consumes b c (take n piece) → KeepsFront most a c new
 KeepsFront-more most n more None b c kept new piece m e h r = tt
 KeepsFront-more most n more (Some xs) None c kept new piece m e h r = absurd h
@@ -80,13 +82,15 @@ Appends-more (Some x) (Some y) (Some z) bytes written n p q =
     ∙ ap (λ l. x ++ l) (sym (take-add written n bytes))
 
 -- where a call fails, a prefix of the bytes is written, and some are left
-pub AppendsPrefix-cut : (a b c : Option (List ℕ)) (bytes : List ℕ) (written : ℕ) → written < length bytes → Appends a b (take written bytes) → Keeps b c → AppendsProperPrefix a c bytes
+pub AppendsPrefix-cut : (a b c : Option (List ℕ)) (bytes : List ℕ) (written : ℕ) → written < length bytes → Appends a b (take written bytes)
+    → Keeps b c → AppendsProperPrefix a c bytes
 AppendsPrefix-cut a b c bytes written within p q =
     let left : 0 < length (drop written bytes) = omega (arith, length-drop written bytes, within) in
     (take written bytes, drop written bytes, take-append-drop written bytes, Appends-kept a b c (take written bytes) p q, left)
 
 -- where bytes came, known input had some
-pub Consumes-some : (most n : ℕ) (a b c : Option (List ℕ)) (kept piece : List ℕ) → 0 < n → n ≤ length piece → KeepsFront most a b kept → Consumes b c (take n piece) → IfSome a (λ input. 0 < length input)
+pub Consumes-some : (most n : ℕ) (a b c : Option (List ℕ)) (kept piece : List ℕ) → 0 < n → n ≤ length piece → KeepsFront most a b kept
+    → Consumes b c (take n piece) → IfSome a (λ input. 0 < length input)
 Consumes-some most n None b c kept piece some within h r = tt
 Consumes-some most n (Some xs) None c kept piece some within h r = absurd h
 Consumes-some most n (Some xs) (Some ys) None kept piece some within h r = absurd r

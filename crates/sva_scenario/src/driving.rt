@@ -1,9 +1,9 @@
-ghost use Rattle.std.specs.Prelude.{◌≡◌, ◌↔◌, ◌⊎◌, ◌≤◌, length, IsTrue, IfOk, IfErr, IfSome, OnOk, if◌then◌else◌};
-ghost use Rattle.std.specs.Io.KnownBytes.{Appends, IsAtEnd};
+ghost use Rattle.std.specs.Prelude.{◌≡◌, ◌↔◌, ◌⊎◌, ◌≤◌, length, IsTrue, IfOk, IfSome, OnOk, if◌then◌else◌};
+ghost use Rattle.std.specs.Io.KnownBytes.{IsAtEnd};
 ghost use Rattle.sva_core.specs.Reached.{Follows};
 ghost use Rattle.sva_scenario.specs.declared.reading.TheConstants.{MOST_TURNS};
 ghost use Rattle.sva_scenario.specs.Report.{is_fit, outcome_of, reply_text, report_of, script_report, ReportsFrom};
-ghost use Rattle.sva_scenario.specs.Streams.{AppendsPrefix, IsNew, Tells, Writes};
+ghost use Rattle.sva_scenario.specs.Streams.{IsNew, Tells, Writes};
 
 use crate::reading::read_all;
 use crate::report::{write_counts, write_fault, write_reply};
@@ -74,7 +74,8 @@ fn report_script<W: Write>(
 ) -> Result<Outcome, DriveFault>
     requires new { IsNew writer.old }
     requires few { length steps.now ≤ 65536 }
-    ensures report { Writes (W.contents writer.old.inner) (W.contents writer.new.inner) (script_report (record { config = config; steps = steps.now })) result }
+    ensures report { Writes (W.contents writer.old.inner) (W.contents writer.new.inner)
+        (script_report (record { config = config; steps = steps.now })) result }
     ensures outcome { IfOk result (λ outcome. outcome ≡ (if is_fit config then Outcome.Done else Outcome.Faulted)) }
     ensures told { Tells writer.old writer.new result }
 {

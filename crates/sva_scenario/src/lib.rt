@@ -22,6 +22,4 @@ pub use writing::write_all;
 #[cfg(test)]
 mod report_tests;
 #[cfg(test)]
-mod row_tests;
-#[cfg(test)]
 mod tests;

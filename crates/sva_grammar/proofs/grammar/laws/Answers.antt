@@ -1,4 +1,4 @@
-use Rattle.sva_grammar.proofs.KnownLemmas.{steps_are_known}
+use Rattle.sva_grammar.proofs.NameLemmas.{lines_are_named}
 use Rattle.sva_grammar.proofs.LawLemmas.{lines_are_counted, numbers_are_decimal, scripts_are_read}
 use Rattle.sva_grammar.proofs.VectorLemmas.{vectors_are_hexadecimal}
 use Rattle.sva_grammar.proofs.grammar.laws.Goals as goal
@@ -15,5 +15,5 @@ returns-clause-lines c = lines_are_counted
 pub returns-clause-scripts : goal.returns-clause-scripts
 returns-clause-scripts c = scripts_are_read
 
-pub returns-clause-known : goal.returns-clause-known
-returns-clause-known c = steps_are_known
+pub returns-clause-named : goal.returns-clause-named
+returns-clause-named c = lines_are_named

@@ -10,4 +10,5 @@ pub returns-in_default : goal.returns-in_default
 returns-in_default c = sym (number-no_text c.args.word.now c.in_default.ensures.cases.0)
 
 pub returns : goal.returns
-returns c = number-mapped c.args.word.now c.parse.result _ (sym (c.if-not-begins_number.ensures)) (subst (λ w. ParsesUnsigned 64 10 w c.parse.result) c.in-Ok.ensures.cases.0 c.parse.ensures.value.0) (search rules)
+returns c = number-mapped c.args.word.now c.parse.result _ (sym (c.if-not-begins_number.ensures))
+    (subst (λ w. ParsesUnsigned 64 10 w c.parse.result) c.in-Ok.ensures.cases.0 c.parse.ensures.value.0) (search rules)

@@ -11,7 +11,8 @@ write_reply-requires-clause-short g c = refusal_short BadConfig
 pub returns-in_err-write_reply-in-Err-BadConfig-clause-report : goal.returns-in_err-write_reply-in-Err-BadConfig-clause-report
 returns-in_err-write_reply-in-Err-BadConfig-clause-report g c =
     let unfit = unfit_report c.args.config c.args.steps.now (c.in-Err-BadConfig.ensures.bad.0 (ap Err c.in-Err-BadConfig.field-0-is)) in
-    writes_as _ _ _ _ c.from_residual.result unfit.0 (writes_front _ _ _ c.from_residual.result c.from_residual.ensures.0 c.in_err-write_reply-in-Err-BadConfig.ensures.written)
+    writes_as _ _ _ _ c.from_residual.result unfit.0
+    (writes_front _ _ _ c.from_residual.result c.from_residual.ensures.0 c.in_err-write_reply-in-Err-BadConfig.ensures.written)
 
 pub returns-in_ok-write_reply-in-Err-BadConfig : goal.returns-in_ok-write_reply-in-Err-BadConfig
 returns-in_ok-write_reply-in-Err-BadConfig g c =

@@ -3,7 +3,8 @@ use Rattle.sva_scenario.proofs.StreamLemmas.{Appends-more, AppendsPrefix-cut}
 use Rattle.sva_scenario.proofs.writing.write_all.Goals as goal
 
 pub returns-in_default-clause-front : goal.returns-in_default-clause-front
-returns-in_default-clause-front g c = AppendsPrefix-cut _ _ _ c.args.bytes.now _ c.loop-written-test.true c.loop-written.invariant.front c.in_default.ensures.failed.1
+returns-in_default-clause-front g c =
+    AppendsPrefix-cut _ _ _ c.args.bytes.now _ c.loop-written-test.true c.loop-written.invariant.front c.in_default.ensures.failed.1
 
 pub loop-written-preserved : goal.loop-written-preserved
 loop-written-preserved g c = record {

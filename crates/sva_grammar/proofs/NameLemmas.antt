@@ -1,21 +1,20 @@
--- The steps that are read: each bears the name that its line begins with, and is built.
-use Rattle.std.proofs.Common.{◌≡◌, ◌≤◌, ◌+◌, sym, subst, arith, ℕ, List, [], ◌∷◌, Bool, true, false, not, ◌||◌, cond, length, refl, Result, Ok, Err}
+-- A line that is read as a step begins with the step's name.
+use Rattle.std.proofs.Common.{◌≡◌, sym, subst, ℕ, List, Bool, true, false, cond, length, refl, Result, Ok, Err}
 use Rattle.std.specs.Prelude.{codes, if◌then◌else◌, ◌==◌}
-use Rattle.std.specs.List.{AllByRecursion}
 use Rattle.std.specs.Str.{bytes_eq}
-use Rattle.std.proofs.lemmas.Bool.{ltb-false}
 use Rattle.std.proofs.lemmas.Slice.Eq.{bytes_eq-Decides}
-use Rattle.sva_step.specs.declared.limits.Config.{Config}
 use Rattle.sva_step.specs.declared.steps.Step.{Step}
-use Rattle.sva_step.specs.declared.steps.Step.TheVariants.{Space, DropSpace, Map, Unmap, UnmapRange, Bind, Unbind, Advance, Pump, Serve, Reset, Take, Reply, Ask, BeginUse, EndUse, Evict, Fault, Finish, Quit, Deliver, Look, Bearer}
+use Rattle.sva_step.specs.declared.steps.Step.TheVariants.{Space, DropSpace, Map, Unmap, UnmapRange, Look, Bearer}
+use Rattle.sva_step.specs.declared.steps.Step.TheVariants.{Bind, Unbind, Advance, Pump, Serve, Reset, Take, Reply}
+use Rattle.sva_step.specs.declared.steps.Step.TheVariants.{Ask, BeginUse, EndUse, Evict, Fault, Finish, Quit, Deliver}
 use Rattle.sva_grammar.specs.declared.faults.Cause.{Cause}
-use Rattle.sva_grammar.specs.declared.faults.Cause.TheVariants.{TooLarge, UnknownStep}
-use Rattle.sva_grammar.specs.declared.faults.LineFault.{LineFault}
-use Rattle.sva_grammar.specs.Grammar.{◌>>=◌, access, at_line, config_of, fault, flags, group, has_words, has_words_or, is_built_word, is_last, is_skipped, is_too_large, lines_of, number, said_lines, Script, scenario_of, script_of, step_of, steps_of, vector, verdict, word, words_of}
-use Rattle.sva_grammar.specs.Grammar.{known_step, host_step, endpoint_step, one_number, space_step, drop_step, map_step, unmap_step, unmapr_step, look_step, bearer_step, bind_step, unbind_step, advance_step, pump_step, serve_step, reset_step, take_step, answer_step, ask_step, use_step, end_step, evict_step, fault_step, finish_step, quit_step, deliver_step}
-use Rattle.sva_grammar.specs.Laws.{IsKnown, step_name, StepsAreKnown}
-
--- ---- One line
+use Rattle.sva_grammar.specs.declared.faults.Cause.TheVariants.{UnknownStep}
+use Rattle.sva_grammar.specs.Grammar.{◌>>=◌, access, flags, group, has_words, has_words_or, is_last, number, one_number, vector, verdict, word}
+use Rattle.sva_grammar.specs.Grammar.{step_of, host_step, endpoint_step}
+use Rattle.sva_grammar.specs.Grammar.{space_step, drop_step, map_step, unmap_step, unmapr_step, look_step, bearer_step}
+use Rattle.sva_grammar.specs.Grammar.{bind_step, unbind_step, advance_step, pump_step, serve_step, reset_step, take_step, answer_step}
+use Rattle.sva_grammar.specs.Grammar.{ask_step, use_step, end_step, evict_step, fault_step, finish_step, quit_step, deliver_step}
+use Rattle.sva_grammar.specs.Laws.{LinesAreNamed, step_name}
 
 -- a step that was read bears this name
 Bears : {E : Type 0} → List ℕ → Result Step E → Type 0
@@ -168,7 +167,8 @@ unfolding deliver_step Bears
 deliver_bears words = through _ (one_number words) (λ message. Ok (Deliver message)) (λ message. refl)
 
 -- by the first of the names, or else another line
-by_test : (named : Bool) (name first : List ℕ) (a b : Result Step Cause) → bytes_eq first name ≡ named → Bears name a → Bears first b → Bears first (cond named a b)
+by_test : (named : Bool) (name first : List ℕ) (a b : Result Step Cause) → bytes_eq first name ≡ named → Bears name a → Bears first b
+    → Bears first (cond named a b)
 by_test true name first a b e p q = subst (λ w. Bears w a) (sym ((bytes_eq-Decides first name).0 e)) p
 by_test false name first a b e p q = q
 
@@ -205,9 +205,9 @@ host_bears words =
     (by_name _ _ _ _ (answer_bears words)
     (endpoint_bears words))))))))
 
-known_bears : (words : List (List ℕ)) → Bears (word 0 words) (known_step words)
-unfolding known_step
-known_bears words =
+step_bears : (words : List (List ℕ)) → Bears (word 0 words) (step_of words)
+unfolding step_of
+step_bears words =
     by_name _ _ _ _ (space_bears words)
     (by_name _ _ _ _ (drop_bears words)
     (by_name _ _ _ _ (map_bears words)
@@ -217,95 +217,6 @@ known_bears words =
     (by_name _ _ _ _ (bearer_bears words)
     (host_bears words)))))))
 
--- ---- A step that is read is built
-
-AsKnown : {E : Type 0} → Result Step E → Type 0
-AsKnown (Ok step) = IsKnown step
-AsKnown (Err fault) = Unit {0}
-
-known_from : (first : List ℕ) (read : Result Step Cause) → is_built_word first ≡ true → Bears first read → AsKnown read
-unfolding Bears AsKnown
-known_from first (Ok step) known bears = subst (λ w. is_built_word w ≡ true) bears known
-known_from first (Err fault) known bears = tt
-
-by_known : (first : List ℕ) (known : Bool) (read : Result Step Cause) → is_built_word first ≡ known → Bears first read → AsKnown (cond known read (Err UnknownStep))
-unfolding AsKnown
-by_known first true read e bears = known_from first read e bears
-by_known first false read e bears = tt
-
-step_known : (words : List (List ℕ)) → AsKnown (step_of words)
-unfolding step_of
-step_known words = by_known (word 0 words) _ (known_step words) refl (known_bears words)
-
--- the steps that were read are built, and so many
-StepsKnown : (count : ℕ) → Result (List Step) LineFault → Type 0
-StepsKnown count (Ok steps) = AllByRecursion IsKnown steps × (length steps ≡ count)
-StepsKnown count (Err fault) = Unit {0}
-
-one_more : (line count : ℕ) (first : Result Step Cause) (rest : Result (List Step) LineFault) → AsKnown first → StepsKnown count rest
-    → StepsKnown (count + 1) (at_line line first >>= λ step. rest >>= λ steps. Ok (step ∷ steps))
-unfolding AsKnown StepsKnown
-one_more line count (Ok step) (Ok steps) p q = let more : length (step ∷ steps) ≡ count + 1 = omega (arith, q.1) in ((p, q.0), more)
-one_more line count (Ok step) (Err f) p q = tt
-one_more line count (Err cause) rest p q = tt
-
-steps_known : (lines : List (ℕ × List ℕ)) → StepsKnown (length lines) (steps_of lines)
-unfolding StepsKnown
-steps_known [] = (tt, refl)
-steps_known (line ∷ lines) =
-    let more : length lines + 1 ≡ length (line ∷ lines) = omega arith in
-    subst (λ n. StepsKnown n (steps_of (line ∷ lines))) more (one_more line.0 (length lines) (step_of (words_of line.1)) (steps_of lines) (step_known (words_of line.1)) (steps_known lines))
-
--- ---- A whole text
-
--- a scenario's steps are built, and no more than so many
-abbrev pub ScriptKnown : (most : ℕ) → Result Script LineFault → Type 0
-ScriptKnown most (Ok script) = AllByRecursion IsKnown script.steps × (length script.steps ≤ most)
-ScriptKnown most (Err fault) = Unit {0}
-
-joined_known : (most count : ℕ) (config : Result Config LineFault) (steps : Result (List Step) LineFault) → count ≤ most → StepsKnown count steps
-    → ScriptKnown most (config >>= λ c. steps >>= λ ss. Ok (record { config = c; steps = ss }))
-unfolding StepsKnown
-joined_known most count (Ok config) (Ok steps) few h = let fits : length steps ≤ most = omega (arith, h.1) in (h.0, fits)
-joined_known most count (Ok config) (Err f) few h = tt
-joined_known most count (Err f) steps few h = tt
-
-script_known : (most count : ℕ) (lines : List (ℕ × List ℕ)) → length lines ≤ most → ScriptKnown most (script_of count lines)
-script_known most count [] few = tt
-script_known most count (first ∷ others) few =
-    let fewer : length others ≤ most = omega arith in
-    joined_known most (length others) (at_line first.0 (config_of (words_of first.1))) (steps_of others) fewer (steps_known others)
-
-kept_few : (keep : Bool) (line : ℕ × List ℕ) (some : List (ℕ × List ℕ)) (count : ℕ) → length some ≤ count → length (cond keep (line ∷ some) some) ≤ count + 1
-kept_few true line some count h = omega arith
-kept_few false line some count h = omega arith
-
-said_few : (first : ℕ) (lines : List (List ℕ)) → length (said_lines first lines) ≤ length lines
-said_few first [] = omega arith
-said_few first (line ∷ lines) =
-    let kept = kept_few (not (is_skipped line)) (first, line) (said_lines (first + 1) lines) (length lines) (said_few (first + 1) lines) in
-    omega (arith, kept)
-
-size_known : (large : Bool) (text : List ℕ) → (large ≡ false → length (lines_of text) ≤ 65536)
-    → ScriptKnown 65536 (cond large (fault 0 TooLarge) (script_of (length (lines_of text)) (said_lines 1 (lines_of text))))
-size_known true text few = tt
-size_known false text few =
-    let said = said_few 1 (lines_of text) in
-    let lines = few refl in
-    let fits : length (said_lines 1 (lines_of text)) ≤ 65536 = omega arith in
-    script_known 65536 (length (lines_of text)) (said_lines 1 (lines_of text)) fits
-
-no_or : (a b : Bool) → (a || b) ≡ false → b ≡ false
-no_or true b h = absurd (cc)
-no_or false b h = h
-
-scenario_known : (text : List ℕ) → ScriptKnown 65536 (scenario_of text)
-unfolding scenario_of
-scenario_known text = size_known (is_too_large text) text (λ small. ltb-false 65536 (length (lines_of text)) (no_or _ _ small))
-
--- the steps of a scenario that was read
-pub read_known : (text : List ℕ) (script : Script) → scenario_of text ≡ Ok script → AllByRecursion IsKnown script.steps × (length script.steps ≤ 65536)
-read_known text script h = subst (ScriptKnown 65536) h (scenario_known text)
-
-pub steps_are_known : StepsAreKnown
-steps_are_known text script h = (read_known text script h).0
+pub lines_are_named : LinesAreNamed
+unfolding Bears
+lines_are_named words step h = subst (λ read. Bears (word 0 words) read) h (step_bears words)

@@ -85,12 +85,11 @@ count_in_row ms q (suc n) rising =
     by_page None ps rest = rest ∙ none_longer ps
     by_page (Some e) ps rest = one_longer _ ps e rest
 
+none_most : (k : ℕ) → k ≡ 0 → k ≤ 0
+none_most k is = omega (arith, is)
+
 few_in_row : (ms : List (ℕ × (ℕ × Bool))) (q n : ℕ) → IsRising ms → length (in_row q n ms) ≤ n
-few_in_row ms q zero rising =
-    at_most (length (in_row q 0 ms)) 0 0 (ap (λ (ps : List PageWire). length ps) (between-none q (pages_seen ms))) (omega arith)
-  where
-    at_most : (k l n : ℕ) → k ≡ l → l ≤ n → k ≤ n
-    at_most k l n is most = omega (arith, is, most)
+few_in_row ms q zero rising = none_most (length (in_row q 0 ms)) (ap (λ (ps : List PageWire). length ps) (between-none q (pages_seen ms)))
 few_in_row ms q (suc n) rising =
     subst (λ (k : ℕ). length (in_row q k ms) ≤ k) (add-one n)
     (next (length (in_row q (n + 1) ms)) (in_row q n ms) (page_at (pages_seen ms) (q + n))
@@ -168,6 +167,12 @@ pub record Leaving (old : List (ℕ × (ℕ × Bool))) (frames_old : List Holdin
   pub balanced : Balanced old frames_old ms frames
   pub room : HaveRoom frames waits
 
+none_yet : (k : ℕ) → 0 + k ≡ k
+none_yet k = omega arith
+
+few_yet : (k n : ℕ) → k ≤ n → 0 + k ≤ n
+few_yet k n most = omega (arith, most)
+
 pub all_left : (ms : List (ℕ × (ℕ × Bool))) (frames : List Holding) (waits : List (Option Target)) (q n : ℕ) → IsRising ms → HaveRoom frames waits
     → Leaving ms frames waits q n ms frames 0
 all_left ms frames waits q n rising room = record {
@@ -179,18 +184,15 @@ all_left ms frames waits q n rising room = record {
   balanced = balanced-none ms frames;
   room = room;
 }
-  where
-    none_yet : (k : ℕ) → 0 + k ≡ k
-    none_yet k = refl
-
-    few_yet : (k n : ℕ) → k ≤ n → 0 + k ≤ n
-    few_yet k n most = most
 
 pub lowest_mapped : (old ms : List (ℕ × (ℕ × Bool))) (frames_old frames : List Holding) (waits : List (Option Target)) (q n count : ℕ)
     (m : ℕ × (ℕ × Bool)) → Owns old frames_old → Leaving old frames_old waits q n ms frames count → find (space.is_between q (q + n)) ms ≡ Some m
     → slice_get frames m.1.0 ≡ Some Mapped
 lowest_mapped old ms frames_old frames waits q n count m owned left first =
     owned-mapped ms frames m.0 m.1 (owns-on old ms frames_old frames owned left.balanced) (lowest_found q (q + n) ms m left.rising first).mapped
+
+one_longer_row : (e : PageWire) (ps : List PageWire) → length (e ∷ ps) ≡ suc (length ps)
+one_longer_row e ps = omega arith
 
 one_counted : (count after left less all : ℕ) → count + left ≡ all → left ≡ suc less → after ≡ count + 1 → after + less ≡ all
 one_counted count after left less all e f g = omega (arith, e, f, g)
@@ -208,7 +210,8 @@ one_less old ms ms_after frames_old frames frames_after waits q n count count_af
     let place = place_for (targets_seen waits) in
     let row : in_row q n ms ≡ page_seen m ∷ in_row q n ms_after =
     lowest_of_row ms q n m left.rising first ∙ sym (ap (λ ns. page_seen m ∷ in_row q n ns) removed) in
-    let shorter : length (in_row q n ms) ≡ suc (length (in_row q n ms_after)) = ap (λ (ps : List PageWire). length ps) row in
+    let shorter : length (in_row q n ms) ≡ suc (length (in_row q n ms_after)) =
+    ap (λ (ps : List PageWire). length ps) row ∙ one_longer_row (page_seen m) (in_row q n ms_after) in
     record {
       pages =
           ap (λ ns. without_pages q n (pages_seen ns)) removed ∙ ap (without_pages q n) (pages_seen-remove ms m.0 left.rising)
@@ -234,7 +237,8 @@ pub shorter_row : (ms ms_after : List (ℕ × (ℕ × Bool))) (q n : ℕ) (m : �
     → ms_after ≡ without_page ms m.0 → length (in_row q n ms_after) < length (in_row q n ms)
 shorter_row ms ms_after q n m rising first removed =
     let shorter : length (in_row q n ms) ≡ suc (length (in_row q n ms_after)) =
-    ap (λ (ps : List PageWire). length ps) (lowest_of_row ms q n m rising first ∙ sym (ap (λ ns. page_seen m ∷ in_row q n ns) removed)) in
+    ap (λ (ps : List PageWire). length ps) (lowest_of_row ms q n m rising first ∙ sym (ap (λ ns. page_seen m ∷ in_row q n ns) removed))
+    ∙ one_longer_row (page_seen m) (in_row q n ms_after) in
     below (length (in_row q n ms)) (length (in_row q n ms_after)) shorter
   where
     below : (a b : ℕ) → a ≡ suc b → b < a

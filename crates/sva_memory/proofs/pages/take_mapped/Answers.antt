@@ -1,4 +1,4 @@
-use Rattle.std.proofs.Common.{ap, sym, refl, ◌∙◌, set}
+use Rattle.std.proofs.Common.{ap, refl, ◌∙◌, set}
 use Rattle.sva_frames.specs.Frames.{after_waits}
 use Rattle.sva_memory.specs.Seen.{pages_seen}
 use Rattle.sva_memory.proofs.Counting.{balanced-is}

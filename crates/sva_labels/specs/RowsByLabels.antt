@@ -1,8 +1,13 @@
 -- Runs that are worked out, by labels: from what a host keeps before the first step, the steps by labels give the answers that
--- stand in each row of the definitions.
-use Rattle.std.specs.Prelude.{◌≡◌, List, map}
+-- stand in each row of the definitions, and leave as many frames free, mapped and withheld as stand at its end.
+use Rattle.std.specs.Prelude.{◌≡◌, ℕ, Bool, true, false, List, [], ◌∷◌, map}
+use Rattle.std.specs.List.{count_by}
 use Rattle.sva_step.specs.declared.limits.Config.{Config}
+use Rattle.sva_step.specs.declared.steps.Step.{Step}
 use Rattle.sva_model.specs.Rows.{Line, steps_of, config}
+use Rattle.sva_model.specs.Steps.{Counts}
+use Rattle.sva_model.specs.Wire.{Wire, PlaceWire}
+use Rattle.sva_model.specs.Wire.PlaceWire.{MappedWire, WithheldWire}
 use Rattle.sva_model.specs.RowsOfTranslations as of_translations
 use Rattle.sva_model.specs.RowsOfInvalidations as of_invalidations
 use Rattle.sva_model.specs.RowsOfResets as of_resets
@@ -15,209 +20,238 @@ use Rattle.sva_model.specs.RowsOfLimits as of_limits
 use Rattle.sva_model.specs.RowsOfBoundaries as of_boundaries
 use Rattle.sva_model.specs.RowsOfNames as of_names
 use Rattle.sva_model.specs.RowsOfWrongRules as of_wrong_rules
-use Rattle.sva_labels.specs.Host.{first_wire, replies_of}
+use Rattle.sva_model.specs.RowsOfWhatStays as of_what_stays
+use Rattle.sva_labels.specs.Finding.{is_free}
+use Rattle.sva_labels.specs.Host.{first_wire, next_of, replies_of}
 
-abbrev pub IsRowByLabels : Config → List Line → Type 0
-IsRowByLabels c row = replies_of (first_wire c) (steps_of row) ≡ map (λ l. l.reply) row
+-- how many of the frames at these places are free, mapped and withheld
+abbrev pub is_at_a_page : PlaceWire → Bool
+is_at_a_page MappedWire = true
+is_at_a_page _ = false
+
+abbrev pub is_withheld : PlaceWire → Bool
+is_withheld (WithheldWire targets) = true
+is_withheld _ = false
+
+abbrev pub counts_in : List PlaceWire → Counts
+counts_in places = record { free = count_by is_free places; mapped = count_by is_at_a_page places; withheld = count_by is_withheld places }
+
+-- the counts after a list of steps; unfolded step by step, as the answers are, it is computed quickly
+unfoldable pub counts_after : Wire → List Step → Counts
+counts_after w [] = counts_in w.places
+counts_after w (s ∷ ss) = counts_after (next_of w s) ss
+
+-- the answers, and the counts of frames at the end
+abbrev pub IsRowByLabels : Config → List Line → (free mapped withheld : ℕ) → Type 0
+IsRowByLabels c row free mapped withheld =
+    (replies_of (first_wire c) (steps_of row) ≡ map (λ l. l.reply) row)
+    × (counts_after (first_wire c) (steps_of row) ≡ record { free = free; mapped = mapped; withheld = withheld })
 
 -- Spaces, bindings, translations, and pages unmapped while they are in use.
 pub record TranslationsByLabels : Type 0 where
-  pub spaces_and_frames : IsRowByLabels (config 1 4 1 0) of_translations.spaces_and_frames
-  pub pages_of_a_space : IsRowByLabels (config 1 4 1 0) of_translations.pages_of_a_space
-  pub two_bindings : IsRowByLabels (config 1 4 1 0) of_translations.two_bindings
-  pub drop_of_a_space : IsRowByLabels (config 1 4 1 0) of_translations.drop_of_a_space
-  pub translations : IsRowByLabels (config 1 4 1 0) of_translations.translations
-  pub first_translation : IsRowByLabels (config 1 4 1 0) of_translations.first_translation
-  pub held_back_by_a_use : IsRowByLabels (config 1 4 1 0) of_translations.held_back_by_a_use
-  pub late_answer : IsRowByLabels (config 1 4 1 0) of_translations.late_answer
-  pub answers_crossed : IsRowByLabels (config 1 4 1 0) of_translations.answers_crossed
+  pub spaces_and_frames : IsRowByLabels (config 1 4 1 0) of_translations.spaces_and_frames 3 1 0
+  pub pages_of_a_space : IsRowByLabels (config 1 4 1 0) of_translations.pages_of_a_space 3 1 0
+  pub two_bindings : IsRowByLabels (config 1 4 1 0) of_translations.two_bindings 4 0 0
+  pub drop_of_a_space : IsRowByLabels (config 1 4 1 0) of_translations.drop_of_a_space 4 0 0
+  pub translations : IsRowByLabels (config 1 4 1 0) of_translations.translations 3 1 0
+  pub first_translation : IsRowByLabels (config 1 4 1 0) of_translations.first_translation 3 0 1
+  pub held_back_by_a_use : IsRowByLabels (config 1 4 1 0) of_translations.held_back_by_a_use 3 1 0
+  pub late_answer : IsRowByLabels (config 1 4 1 0) of_translations.late_answer 4 0 0
+  pub answers_crossed : IsRowByLabels (config 1 4 1 0) of_translations.answers_crossed 2 1 1
 
 -- Invalidations, their tags and completions, and bindings that are taken back.
 pub record InvalidationsByLabels : Type 0 where
-  pub count_of_eight : IsRowByLabels (config 1 4 1 0) of_invalidations.count_of_eight
-  pub one_vector_for_three : IsRowByLabels (config 1 64 1 0) of_invalidations.one_vector_for_three
-  pub all_tags_busy : IsRowByLabels (config 1 64 1 0) of_invalidations.all_tags_busy
-  pub unbind_stage_by_stage : IsRowByLabels (config 1 4 1 0) of_invalidations.unbind_stage_by_stage
-  pub unmap_while_invalidating : IsRowByLabels (config 1 4 1 0) of_invalidations.unmap_while_invalidating
+  pub count_of_eight : IsRowByLabels (config 1 4 1 0) of_invalidations.count_of_eight 4 0 0
+  pub one_vector_for_three : IsRowByLabels (config 1 64 1 0) of_invalidations.one_vector_for_three 60 0 4
+  pub all_tags_busy : IsRowByLabels (config 1 64 1 0) of_invalidations.all_tags_busy 24 0 40
+  pub unbind_stage_by_stage : IsRowByLabels (config 1 4 1 0) of_invalidations.unbind_stage_by_stage 4 0 0
+  pub unmap_while_invalidating : IsRowByLabels (config 1 4 1 0) of_invalidations.unmap_while_invalidating 4 0 0
 
 -- Function level resets and endpoints that are silent.
 pub record ResetsByLabels : Type 0 where
-  pub silent_endpoint : IsRowByLabels (config 1 4 1 0) of_resets.silent_endpoint
-  pub reset_and_tags : IsRowByLabels (config 1 4 1 0) of_resets.reset_and_tags
-  pub old_job : IsRowByLabels (config 1 4 1 0) of_resets.old_job
-  pub reset_of_a_live_binding : IsRowByLabels (config 1 4 1 0) of_resets.reset_of_a_live_binding
-  pub two_endpoints_one_silent : IsRowByLabels (config 2 4 1 0) of_resets.two_endpoints_one_silent
+  pub silent_endpoint : IsRowByLabels (config 1 4 1 0) of_resets.silent_endpoint 4 0 0
+  pub reset_and_tags : IsRowByLabels (config 1 4 1 0) of_resets.reset_and_tags 3 0 1
+  pub old_job : IsRowByLabels (config 1 4 1 0) of_resets.old_job 3 1 0
+  pub reset_of_a_live_binding : IsRowByLabels (config 1 4 1 0) of_resets.reset_of_a_live_binding 4 0 0
+  pub two_endpoints_one_silent : IsRowByLabels (config 2 4 1 0) of_resets.two_endpoints_one_silent 4 0 0
 
 -- Page requests, their groups, jobs and responses.
 pub record PageRequestsByLabels : Type 0 where
-  pub page_request_group : IsRowByLabels (config 1 4 1 0) of_page_requests.page_request_group
-  pub stale_group : IsRowByLabels (config 1 4 1 0) of_page_requests.stale_group
-  pub drain_of_two_requests : IsRowByLabels (config 1 4 1 0) of_page_requests.drain_of_two_requests
-  pub verdicts : IsRowByLabels (config 1 1 1 0) of_page_requests.verdicts
+  pub page_request_group : IsRowByLabels (config 1 4 1 0) of_page_requests.page_request_group 2 2 0
+  pub stale_group : IsRowByLabels (config 1 4 1 0) of_page_requests.stale_group 4 0 0
+  pub drain_of_two_requests : IsRowByLabels (config 1 4 1 0) of_page_requests.drain_of_two_requests 4 0 0
+  pub verdicts : IsRowByLabels (config 1 1 1 0) of_page_requests.verdicts 0 1 0
 
 -- Ranges of pages, and one PASID for each space.
 pub record FinalRulesByLabels : Type 0 where
-  pub range_of_eight : IsRowByLabels (config 1 8 1 0) of_final_rules.range_of_eight
-  pub causes_of_unmap_range : IsRowByLabels (config 1 2 1 0) of_final_rules.causes_of_unmap_range
-  pub one_pasid_for_each_space : IsRowByLabels (config 2 4 1 0) of_final_rules.one_pasid_for_each_space
+  pub range_of_eight : IsRowByLabels (config 1 8 1 0) of_final_rules.range_of_eight 7 1 0
+  pub causes_of_unmap_range : IsRowByLabels (config 1 2 1 0) of_final_rules.causes_of_unmap_range 2 0 0
+  pub one_pasid_for_each_space : IsRowByLabels (config 2 4 1 0) of_final_rules.one_pasid_for_each_space 4 0 0
 
 -- What each delivery answers.
 pub record DeliveriesByLabels : Type 0 where
-  pub each_kind_at_an_open_unit : IsRowByLabels (config 1 1 1 0) of_deliveries.each_kind_at_an_open_unit
-  pub start_and_stop_in_reset : IsRowByLabels (config 1 1 1 0) of_deliveries.start_and_stop_in_reset
-  pub start_before_the_reset : IsRowByLabels (config 1 1 1 0) of_deliveries.start_before_the_reset
-  pub invalidate_in_reset : IsRowByLabels (config 1 1 1 0) of_deliveries.invalidate_in_reset
-  pub response_in_reset : IsRowByLabels (config 1 1 1 0) of_deliveries.response_in_reset
-  pub stale_response_in_reset : IsRowByLabels (config 1 1 1 0) of_deliveries.stale_response_in_reset
-  pub completions_in_reset : IsRowByLabels (config 1 2 1 0) of_deliveries.completions_in_reset
-  pub completions_at_an_open_unit : IsRowByLabels (config 1 2 1 0) of_deliveries.completions_at_an_open_unit
-  pub doomed_without_translation : IsRowByLabels (config 1 1 1 0) of_deliveries.doomed_without_translation
-  pub cache_full_in_reset : IsRowByLabels (config 1 66 1 0) of_deliveries.cache_full_in_reset
-  pub responses_by_code : IsRowByLabels (config 1 1 1 0) of_deliveries.responses_by_code
-  pub messages_up_in_reset : IsRowByLabels (config 1 1 1 0) of_deliveries.messages_up_in_reset
-  pub vectors_of_two_counts : IsRowByLabels (config 1 3 1 0) of_deliveries.vectors_of_two_counts
-  pub own_reset : IsRowByLabels (config 1 2 1 0) of_deliveries.own_reset
+  pub each_kind_at_an_open_unit : IsRowByLabels (config 1 1 1 0) of_deliveries.each_kind_at_an_open_unit 1 0 0
+  pub start_and_stop_in_reset : IsRowByLabels (config 1 1 1 0) of_deliveries.start_and_stop_in_reset 1 0 0
+  pub start_before_the_reset : IsRowByLabels (config 1 1 1 0) of_deliveries.start_before_the_reset 0 1 0
+  pub invalidate_in_reset : IsRowByLabels (config 1 1 1 0) of_deliveries.invalidate_in_reset 1 0 0
+  pub response_in_reset : IsRowByLabels (config 1 1 1 0) of_deliveries.response_in_reset 1 0 0
+  pub stale_response_in_reset : IsRowByLabels (config 1 1 1 0) of_deliveries.stale_response_in_reset 1 0 0
+  pub completions_in_reset : IsRowByLabels (config 1 2 1 0) of_deliveries.completions_in_reset 1 1 0
+  pub completions_at_an_open_unit : IsRowByLabels (config 1 2 1 0) of_deliveries.completions_at_an_open_unit 1 0 1
+  pub doomed_without_translation : IsRowByLabels (config 1 1 1 0) of_deliveries.doomed_without_translation 0 0 1
+  pub cache_full_in_reset : IsRowByLabels (config 1 66 1 0) of_deliveries.cache_full_in_reset 0 66 0
+  pub responses_by_code : IsRowByLabels (config 1 1 1 0) of_deliveries.responses_by_code 0 1 0
+  pub messages_up_in_reset : IsRowByLabels (config 1 1 1 0) of_deliveries.messages_up_in_reset 1 0 0
+  pub vectors_of_two_counts : IsRowByLabels (config 1 3 1 0) of_deliveries.vectors_of_two_counts 3 0 0
+  pub own_reset : IsRowByLabels (config 1 2 1 0) of_deliveries.own_reset 1 1 0
 
 -- The causes of each step.
 pub record RefusalsByLabels : Type 0 where
-  pub causes_of_space : IsRowByLabels (config 1 1 1 9223372036854775744) of_refusals.causes_of_space
-  pub causes_of_drop_space : IsRowByLabels (config 1 1 1 0) of_refusals.causes_of_drop_space
-  pub causes_of_map : IsRowByLabels (config 1 1 1 0) of_refusals.causes_of_map
-  pub causes_of_unmap : IsRowByLabels (config 1 2 1 0) of_refusals.causes_of_unmap
-  pub full_queue_while_stopping : IsRowByLabels (config 1 33 1 9223372036854775776) of_refusals.full_queue_while_stopping
-  pub full_queue_while_draining : IsRowByLabels (config 1 33 1 9223372036854775775) of_refusals.full_queue_while_draining
-  pub causes_of_bind : IsRowByLabels (config 2 1 1 9223372036854775775) of_refusals.causes_of_bind
-  pub bind_in_reset : IsRowByLabels (config 1 1 1 0) of_refusals.bind_in_reset
-  pub causes_of_unbind : IsRowByLabels (config 1 1 1 0) of_refusals.causes_of_unbind
-  pub unbind_without_numbers : IsRowByLabels (config 1 1 1 9223372036854775806) of_refusals.unbind_without_numbers
-  pub causes_of_advance : IsRowByLabels (config 1 1 1 0) of_refusals.causes_of_advance
-  pub causes_at_a_unit : IsRowByLabels (config 1 1 1 9223372036854775807) of_refusals.causes_at_a_unit
-  pub causes_of_workers : IsRowByLabels (config 1 1 1 9223372036854775805) of_refusals.causes_of_workers
-  pub causes_of_ask : IsRowByLabels (config 1 1 1 9223372036854775775) of_refusals.causes_of_ask
-  pub causes_of_begin_use : IsRowByLabels (config 1 1 1 0) of_refusals.causes_of_begin_use
-  pub causes_of_end_use_and_evict : IsRowByLabels (config 1 1 1 0) of_refusals.causes_of_end_use_and_evict
-  pub causes_of_fault : IsRowByLabels (config 1 1 1 9223372036854775775) of_refusals.causes_of_fault
-  pub fault_where_disabled : IsRowByLabels (config 1 1 1 9223372036854775805) of_refusals.fault_where_disabled
-  pub causes_of_finish : IsRowByLabels (config 1 2 1 9223372036854775801) of_refusals.causes_of_finish
-  pub causes_of_quit : IsRowByLabels (config 1 1 1 9223372036854775805) of_refusals.causes_of_quit
-  pub quit_without_numbers : IsRowByLabels (config 1 1 1 9223372036854775806) of_refusals.quit_without_numbers
-  pub causes_of_deliver : IsRowByLabels (config 1 1 1 9223372036854775806) of_refusals.causes_of_deliver
-  pub causes_of_look : IsRowByLabels (config 1 4 1 0) of_refusals.causes_of_look
-  pub no_number_at_all : IsRowByLabels (config 1 1 1 9223372036854775808) of_refusals.no_number_at_all
-  pub bindings_spent : IsRowByLabels (config 2 1 1 9223372036854775807) of_refusals.bindings_spent
-  pub cookies_of_two_units : IsRowByLabels (config 2 3 1 9223372036854775805) of_refusals.cookies_of_two_units
-  pub cookies_while_draining : IsRowByLabels (config 1 2 1 9223372036854775805) of_refusals.cookies_while_draining
-  pub pump_without_numbers : IsRowByLabels (config 1 1 1 9223372036854775805) of_refusals.pump_without_numbers
-  pub pump_without_tags_and_numbers : IsRowByLabels (config 1 33 1 9223372036854775775) of_refusals.pump_without_tags_and_numbers
-  pub verdicts_without_numbers : IsRowByLabels (config 1 1 1 9223372036854775806) of_refusals.verdicts_without_numbers
-  pub dropped_without_numbers : IsRowByLabels (config 1 1 1 9223372036854775804) of_refusals.dropped_without_numbers
-  pub lost_without_numbers : IsRowByLabels (config 1 1 1 9223372036854775804) of_refusals.lost_without_numbers
+  pub causes_of_space : IsRowByLabels (config 1 1 1 9223372036854775744) of_refusals.causes_of_space 1 0 0
+  pub causes_of_drop_space : IsRowByLabels (config 1 1 1 0) of_refusals.causes_of_drop_space 1 0 0
+  pub causes_of_map : IsRowByLabels (config 1 1 1 0) of_refusals.causes_of_map 0 1 0
+  pub causes_of_unmap : IsRowByLabels (config 1 2 1 0) of_refusals.causes_of_unmap 1 1 0
+  pub full_queue_while_stopping : IsRowByLabels (config 1 33 1 9223372036854775776) of_refusals.full_queue_while_stopping 0 1 32
+  pub full_queue_while_draining : IsRowByLabels (config 1 33 1 9223372036854775775) of_refusals.full_queue_while_draining 1 1 31
+  pub causes_of_bind : IsRowByLabels (config 2 1 1 9223372036854775775) of_refusals.causes_of_bind 1 0 0
+  pub bind_in_reset : IsRowByLabels (config 1 1 1 0) of_refusals.bind_in_reset 1 0 0
+  pub causes_of_unbind : IsRowByLabels (config 1 1 1 0) of_refusals.causes_of_unbind 1 0 0
+  pub unbind_without_numbers : IsRowByLabels (config 1 1 1 9223372036854775806) of_refusals.unbind_without_numbers 1 0 0
+  pub causes_of_advance : IsRowByLabels (config 1 1 1 0) of_refusals.causes_of_advance 1 0 0
+  pub causes_at_a_unit : IsRowByLabels (config 1 1 1 9223372036854775807) of_refusals.causes_at_a_unit 1 0 0
+  pub causes_of_workers : IsRowByLabels (config 1 1 1 9223372036854775805) of_refusals.causes_of_workers 0 0 1
+  pub causes_of_ask : IsRowByLabels (config 1 1 1 9223372036854775775) of_refusals.causes_of_ask 1 0 0
+  pub causes_of_begin_use : IsRowByLabels (config 1 1 1 0) of_refusals.causes_of_begin_use 0 1 0
+  pub causes_of_end_use_and_evict : IsRowByLabels (config 1 1 1 0) of_refusals.causes_of_end_use_and_evict 0 1 0
+  pub causes_of_fault : IsRowByLabels (config 1 1 1 9223372036854775775) of_refusals.causes_of_fault 1 0 0
+  pub fault_where_disabled : IsRowByLabels (config 1 1 1 9223372036854775805) of_refusals.fault_where_disabled 1 0 0
+  pub causes_of_finish : IsRowByLabels (config 1 2 1 9223372036854775801) of_refusals.causes_of_finish 0 0 2
+  pub causes_of_quit : IsRowByLabels (config 1 1 1 9223372036854775805) of_refusals.causes_of_quit 1 0 0
+  pub quit_without_numbers : IsRowByLabels (config 1 1 1 9223372036854775806) of_refusals.quit_without_numbers 1 0 0
+  pub causes_of_deliver : IsRowByLabels (config 1 1 1 9223372036854775806) of_refusals.causes_of_deliver 1 0 0
+  pub causes_of_look : IsRowByLabels (config 1 4 1 0) of_refusals.causes_of_look 4 0 0
+  pub no_number_at_all : IsRowByLabels (config 1 1 1 9223372036854775808) of_refusals.no_number_at_all 1 0 0
+  pub bindings_spent : IsRowByLabels (config 2 1 1 9223372036854775807) of_refusals.bindings_spent 1 0 0
+  pub cookies_of_two_units : IsRowByLabels (config 2 3 1 9223372036854775805) of_refusals.cookies_of_two_units 0 1 2
+  pub cookies_while_draining : IsRowByLabels (config 1 2 1 9223372036854775805) of_refusals.cookies_while_draining 0 0 2
+  pub pump_without_numbers : IsRowByLabels (config 1 1 1 9223372036854775805) of_refusals.pump_without_numbers 1 0 0
+  pub pump_without_tags_and_numbers : IsRowByLabels (config 1 33 1 9223372036854775775) of_refusals.pump_without_tags_and_numbers 0 0 33
+  pub verdicts_without_numbers : IsRowByLabels (config 1 1 1 9223372036854775806) of_refusals.verdicts_without_numbers 0 1 0
+  pub dropped_without_numbers : IsRowByLabels (config 1 1 1 9223372036854775804) of_refusals.dropped_without_numbers 1 0 0
+  pub lost_without_numbers : IsRowByLabels (config 1 1 1 9223372036854775804) of_refusals.lost_without_numbers 1 0 0
 
 -- What is easily read otherwise.
 pub record ReadingsByLabels : Type 0 where
-  pub last_request_past_a_marker : IsRowByLabels (config 1 4 1 0) of_readings.last_request_past_a_marker
-  pub marker_past_a_marker : IsRowByLabels (config 1 4 1 0) of_readings.marker_past_a_marker
-  pub request_without_l_is_not_ordered : IsRowByLabels (config 1 1 1 0) of_readings.request_without_l_is_not_ordered
-  pub advance_of_a_live_binding : IsRowByLabels (config 1 4 1 0) of_readings.advance_of_a_live_binding
-  pub advance_of_a_lost_binding : IsRowByLabels (config 1 4 1 0) of_readings.advance_of_a_lost_binding
-  pub one_number_of_each_kind : IsRowByLabels (config 1 4 1 9223372036854775807) of_readings.one_number_of_each_kind
-  pub unmap_past_the_last_page : IsRowByLabels (config 1 4 1 0) of_readings.unmap_past_the_last_page
-  pub unmap_while_drained_in_reset : IsRowByLabels (config 1 4 1 0) of_readings.unmap_while_drained_in_reset
-  pub unmap_while_invalidating_in_reset : IsRowByLabels (config 1 1 1 0) of_readings.unmap_while_invalidating_in_reset
-  pub unmap_after_the_invalidation : IsRowByLabels (config 1 2 1 0) of_readings.unmap_after_the_invalidation
-  pub page_named_twice : IsRowByLabels (config 1 1 1 0) of_readings.page_named_twice
-  pub page_request_for_neither : IsRowByLabels (config 1 1 1 0) of_readings.page_request_for_neither
-  pub other_verdicts_need_no_frame : IsRowByLabels (config 1 1 1 0) of_readings.other_verdicts_need_no_frame
-  pub success_that_is_none : IsRowByLabels (config 1 1 2 0) of_readings.success_that_is_none
-  pub job_of_a_lost_binding : IsRowByLabels (config 1 1 2 0) of_readings.job_of_a_lost_binding
-  pub drain_waits_for_other_pasids : IsRowByLabels (config 1 1 1 0) of_readings.drain_waits_for_other_pasids
-  pub wait_of_an_unmap_does_not_drain : IsRowByLabels (config 1 1 1 0) of_readings.wait_of_an_unmap_does_not_drain
-  pub stale_groups_keep_their_requests : IsRowByLabels (config 1 1 1 0) of_readings.stale_groups_keep_their_requests
-  pub unfinished_where_disabled : IsRowByLabels (config 1 1 1 0) of_readings.unfinished_where_disabled
-  pub unfinished_without_credit : IsRowByLabels (config 1 1 1 0) of_readings.unfinished_without_credit
-  pub group_while_stopping : IsRowByLabels (config 1 1 1 0) of_readings.group_while_stopping
-  pub group_of_another_pasid : IsRowByLabels (config 1 1 1 0) of_readings.group_of_another_pasid
-  pub second_reset : IsRowByLabels (config 1 2 1 0) of_readings.second_reset
-  pub doomed_requests_are_out : IsRowByLabels (config 1 1 1 0) of_readings.doomed_requests_are_out
-  pub failure_before_the_stop : IsRowByLabels (config 1 1 1 0) of_readings.failure_before_the_stop
-  pub earlier_waits_in_reset : IsRowByLabels (config 1 1 1 0) of_readings.earlier_waits_in_reset
-  pub orders_down_stay_in_order : IsRowByLabels (config 1 1 1 0) of_readings.orders_down_stay_in_order
-  pub stop_behind_an_invalidate : IsRowByLabels (config 1 1 1 0) of_readings.stop_behind_an_invalidate
+  pub last_request_past_a_marker : IsRowByLabels (config 1 4 1 0) of_readings.last_request_past_a_marker 4 0 0
+  pub marker_past_a_marker : IsRowByLabels (config 1 4 1 0) of_readings.marker_past_a_marker 4 0 0
+  pub request_without_l_is_not_ordered : IsRowByLabels (config 1 1 1 0) of_readings.request_without_l_is_not_ordered 1 0 0
+  pub advance_of_a_live_binding : IsRowByLabels (config 1 4 1 0) of_readings.advance_of_a_live_binding 4 0 0
+  pub advance_of_a_lost_binding : IsRowByLabels (config 1 4 1 0) of_readings.advance_of_a_lost_binding 4 0 0
+  pub one_number_of_each_kind : IsRowByLabels (config 1 4 1 9223372036854775807) of_readings.one_number_of_each_kind 2 1 1
+  pub unmap_past_the_last_page : IsRowByLabels (config 1 4 1 0) of_readings.unmap_past_the_last_page 4 0 0
+  pub unmap_while_drained_in_reset : IsRowByLabels (config 1 4 1 0) of_readings.unmap_while_drained_in_reset 4 0 0
+  pub unmap_while_invalidating_in_reset : IsRowByLabels (config 1 1 1 0) of_readings.unmap_while_invalidating_in_reset 1 0 0
+  pub unmap_after_the_invalidation : IsRowByLabels (config 1 2 1 0) of_readings.unmap_after_the_invalidation 2 0 0
+  pub page_named_twice : IsRowByLabels (config 1 1 1 0) of_readings.page_named_twice 0 1 0
+  pub page_request_for_neither : IsRowByLabels (config 1 1 1 0) of_readings.page_request_for_neither 0 1 0
+  pub other_verdicts_need_no_frame : IsRowByLabels (config 1 1 1 0) of_readings.other_verdicts_need_no_frame 0 1 0
+  pub success_that_is_none : IsRowByLabels (config 1 1 2 0) of_readings.success_that_is_none 0 1 0
+  pub job_of_a_lost_binding : IsRowByLabels (config 1 1 2 0) of_readings.job_of_a_lost_binding 1 0 0
+  pub drain_waits_for_other_pasids : IsRowByLabels (config 1 1 1 0) of_readings.drain_waits_for_other_pasids 1 0 0
+  pub wait_of_an_unmap_does_not_drain : IsRowByLabels (config 1 1 1 0) of_readings.wait_of_an_unmap_does_not_drain 1 0 0
+  pub stale_groups_keep_their_requests : IsRowByLabels (config 1 1 1 0) of_readings.stale_groups_keep_their_requests 1 0 0
+  pub unfinished_where_disabled : IsRowByLabels (config 1 1 1 0) of_readings.unfinished_where_disabled 1 0 0
+  pub unfinished_without_credit : IsRowByLabels (config 1 1 1 0) of_readings.unfinished_without_credit 1 0 0
+  pub group_while_stopping : IsRowByLabels (config 1 1 1 0) of_readings.group_while_stopping 1 0 0
+  pub group_of_another_pasid : IsRowByLabels (config 1 1 1 0) of_readings.group_of_another_pasid 1 0 0
+  pub second_reset : IsRowByLabels (config 1 2 1 0) of_readings.second_reset 2 0 0
+  pub doomed_requests_are_out : IsRowByLabels (config 1 1 1 0) of_readings.doomed_requests_are_out 0 0 1
+  pub failure_before_the_stop : IsRowByLabels (config 1 1 1 0) of_readings.failure_before_the_stop 1 0 0
+  pub earlier_waits_in_reset : IsRowByLabels (config 1 1 1 0) of_readings.earlier_waits_in_reset 1 0 0
+  pub orders_down_stay_in_order : IsRowByLabels (config 1 1 1 0) of_readings.orders_down_stay_in_order 0 0 1
+  pub stop_behind_an_invalidate : IsRowByLabels (config 1 1 1 0) of_readings.stop_behind_an_invalidate 0 0 1
 
 -- The limits of the tables and of the numbers.
 pub record LimitsByLabels : Type 0 where
-  pub request_tags_spent : IsRowByLabels (config 1 80 1 0) of_limits.request_tags_spent
-  pub use_slots_spent : IsRowByLabels (config 1 80 1 0) of_limits.use_slots_spent
-  pub cache_full : IsRowByLabels (config 1 80 1 0) of_limits.cache_full
-  pub pasids_spent : IsRowByLabels (config 1 4 1 0) of_limits.pasids_spent
-  pub page_numbers : IsRowByLabels (config 1 4 1 0) of_limits.page_numbers
-  pub page_requests_spent : IsRowByLabels (config 1 4 1 0) of_limits.page_requests_spent
-  pub queue_of_sixty_four : IsRowByLabels (config 1 63 1 0) of_limits.queue_of_sixty_four
-  pub spaces_spent : IsRowByLabels (config 1 4 1 0) of_limits.spaces_spent
-  pub pages_of_an_unmap : IsRowByLabels (config 1 4 1 0) of_limits.pages_of_an_unmap
-  pub numbers_spent_at_the_end : IsRowByLabels (config 1 4 1 9223372036854775807) of_limits.numbers_spent_at_the_end
+  pub request_tags_spent : IsRowByLabels (config 1 80 1 0) of_limits.request_tags_spent 14 66 0
+  pub use_slots_spent : IsRowByLabels (config 1 80 1 0) of_limits.use_slots_spent 14 66 0
+  pub cache_full : IsRowByLabels (config 1 80 1 0) of_limits.cache_full 14 66 0
+  pub pasids_spent : IsRowByLabels (config 1 4 1 0) of_limits.pasids_spent 4 0 0
+  pub page_numbers : IsRowByLabels (config 1 4 1 0) of_limits.page_numbers 3 1 0
+  pub page_requests_spent : IsRowByLabels (config 1 4 1 0) of_limits.page_requests_spent 4 0 0
+  pub queue_of_sixty_four : IsRowByLabels (config 1 63 1 0) of_limits.queue_of_sixty_four 0 1 62
+  pub spaces_spent : IsRowByLabels (config 1 4 1 0) of_limits.spaces_spent 4 0 0
+  pub pages_of_an_unmap : IsRowByLabels (config 1 4 1 0) of_limits.pages_of_an_unmap 4 0 0
+  pub numbers_spent_at_the_end : IsRowByLabels (config 1 4 1 9223372036854775807) of_limits.numbers_spent_at_the_end 4 0 0
 
 -- The last that is accepted before a limit.
 pub record BoundariesByLabels : Type 0 where
-  pub messages_spent_before_bindings : IsRowByLabels (config 1 1 1 9223372036854775806) of_boundaries.messages_spent_before_bindings
-  pub last_number_of_a_reset : IsRowByLabels (config 1 1 1 9223372036854775805) of_boundaries.last_number_of_a_reset
-  pub last_number_of_a_completion : IsRowByLabels (config 1 1 1 9223372036854775805) of_boundaries.last_number_of_a_completion
-  pub last_cookie_of_a_drain : IsRowByLabels (config 1 3 1 9223372036854775805) of_boundaries.last_cookie_of_a_drain
-  pub last_cookie_of_an_invalidation : IsRowByLabels (config 1 2 1 9223372036854775805) of_boundaries.last_cookie_of_an_invalidation
-  pub no_cookie_in_reset : IsRowByLabels (config 1 3 1 9223372036854775806) of_boundaries.no_cookie_in_reset
-  pub quiet_needs_no_room : IsRowByLabels (config 1 61 1 0) of_boundaries.quiet_needs_no_room
-  pub greatest_page : IsRowByLabels (config 1 1 1 0) of_boundaries.greatest_page
-  pub held_before_writable : IsRowByLabels (config 1 1 1 0) of_boundaries.held_before_writable
-  pub last_slot_and_last_tag : IsRowByLabels (config 1 33 1 0) of_boundaries.last_slot_and_last_tag
-  pub stages_in_reset : IsRowByLabels (config 1 1 1 0) of_boundaries.stages_in_reset
-  pub unmap_in_each_stage : IsRowByLabels (config 1 6 1 0) of_boundaries.unmap_in_each_stage
-  pub unmap_while_stopping_in_reset : IsRowByLabels (config 1 2 1 0) of_boundaries.unmap_while_stopping_in_reset
-  pub waits_after_an_early_reset : IsRowByLabels (config 1 1 1 0) of_boundaries.waits_after_an_early_reset
-  pub credit_after_a_reset : IsRowByLabels (config 1 1 1 0) of_boundaries.credit_after_a_reset
-  pub orders_over_after_a_reset : IsRowByLabels (config 1 4 1 0) of_boundaries.orders_over_after_a_reset
-  pub labels_back_in_reset : IsRowByLabels (config 1 1 1 0) of_boundaries.labels_back_in_reset
+  pub messages_spent_before_bindings : IsRowByLabels (config 1 1 1 9223372036854775806) of_boundaries.messages_spent_before_bindings 1 0 0
+  pub last_number_of_a_reset : IsRowByLabels (config 1 1 1 9223372036854775805) of_boundaries.last_number_of_a_reset 1 0 0
+  pub last_number_of_a_completion : IsRowByLabels (config 1 1 1 9223372036854775805) of_boundaries.last_number_of_a_completion 1 0 0
+  pub last_cookie_of_a_drain : IsRowByLabels (config 1 3 1 9223372036854775805) of_boundaries.last_cookie_of_a_drain 0 1 2
+  pub last_cookie_of_an_invalidation : IsRowByLabels (config 1 2 1 9223372036854775805) of_boundaries.last_cookie_of_an_invalidation 0 0 2
+  pub no_cookie_in_reset : IsRowByLabels (config 1 3 1 9223372036854775806) of_boundaries.no_cookie_in_reset 0 0 3
+  pub quiet_needs_no_room : IsRowByLabels (config 1 61 1 0) of_boundaries.quiet_needs_no_room 0 0 61
+  pub greatest_page : IsRowByLabels (config 1 1 1 0) of_boundaries.greatest_page 0 0 1
+  pub held_before_writable : IsRowByLabels (config 1 1 1 0) of_boundaries.held_before_writable 0 1 0
+  pub last_slot_and_last_tag : IsRowByLabels (config 1 33 1 0) of_boundaries.last_slot_and_last_tag 0 1 32
+  pub stages_in_reset : IsRowByLabels (config 1 1 1 0) of_boundaries.stages_in_reset 1 0 0
+  pub unmap_in_each_stage : IsRowByLabels (config 1 6 1 0) of_boundaries.unmap_in_each_stage 3 3 0
+  pub unmap_while_stopping_in_reset : IsRowByLabels (config 1 2 1 0) of_boundaries.unmap_while_stopping_in_reset 2 0 0
+  pub waits_after_an_early_reset : IsRowByLabels (config 1 1 1 0) of_boundaries.waits_after_an_early_reset 1 0 0
+  pub credit_after_a_reset : IsRowByLabels (config 1 1 1 0) of_boundaries.credit_after_a_reset 1 0 0
+  pub orders_over_after_a_reset : IsRowByLabels (config 1 4 1 0) of_boundaries.orders_over_after_a_reset 4 0 0
+  pub labels_back_in_reset : IsRowByLabels (config 1 1 1 0) of_boundaries.labels_back_in_reset 0 1 0
 
 -- Numbers that differ from kind to kind.
 pub record NamesByLabels : Type 0 where
-  pub numbers_apart : IsRowByLabels (config 3 8 3 100) of_names.numbers_apart
-  pub numbers_below_the_first : IsRowByLabels (config 1 2 1 5) of_names.numbers_below_the_first
-  pub quit_of_one_of_two : IsRowByLabels (config 1 2 1 0) of_names.quit_of_one_of_two
-  pub second_job_of_an_endpoint : IsRowByLabels (config 2 8 2 0) of_names.second_job_of_an_endpoint
-  pub full_queue_of_a_binding : IsRowByLabels (config 2 62 1 0) of_names.full_queue_of_a_binding
-  pub past_older_messages : IsRowByLabels (config 1 2 1 0) of_names.past_older_messages
-  pub newer_answer_in_place : IsRowByLabels (config 1 2 1 0) of_names.newer_answer_in_place
-  pub second_unmap : IsRowByLabels (config 1 4 1 0) of_names.second_unmap
-  pub tags_given_back : IsRowByLabels (config 1 5 1 0) of_names.tags_given_back
+  pub numbers_apart : IsRowByLabels (config 3 8 3 100) of_names.numbers_apart 7 1 0
+  pub numbers_below_the_first : IsRowByLabels (config 1 2 1 5) of_names.numbers_below_the_first 1 1 0
+  pub quit_of_one_of_two : IsRowByLabels (config 1 2 1 0) of_names.quit_of_one_of_two 1 1 0
+  pub second_job_of_an_endpoint : IsRowByLabels (config 2 8 2 0) of_names.second_job_of_an_endpoint 1 7 0
+  pub full_queue_of_a_binding : IsRowByLabels (config 2 62 1 0) of_names.full_queue_of_a_binding 0 0 62
+  pub past_older_messages : IsRowByLabels (config 1 2 1 0) of_names.past_older_messages 0 1 1
+  pub newer_answer_in_place : IsRowByLabels (config 1 2 1 0) of_names.newer_answer_in_place 0 1 1
+  pub second_unmap : IsRowByLabels (config 1 4 1 0) of_names.second_unmap 4 0 0
+  pub tags_given_back : IsRowByLabels (config 1 5 1 0) of_names.tags_given_back 0 0 5
 
 -- What wrong rules would answer otherwise.
 pub record WrongRulesByLabels : Type 0 where
-  pub not_free_when_sent : IsRowByLabels (config 1 2 1 0) of_wrong_rules.not_free_when_sent
-  pub not_free_when_taken : IsRowByLabels (config 1 2 1 0) of_wrong_rules.not_free_when_taken
-  pub not_free_at_the_reset : IsRowByLabels (config 1 2 1 0) of_wrong_rules.not_free_at_the_reset
-  pub not_free_when_unmapped_in_reset : IsRowByLabels (config 1 2 1 0) of_wrong_rules.not_free_when_unmapped_in_reset
-  pub not_freed_at_the_first_of_two : IsRowByLabels (config 1 2 1 0) of_wrong_rules.not_freed_at_the_first_of_two
-  pub not_none_of_eight : IsRowByLabels (config 1 2 1 0) of_wrong_rules.not_none_of_eight
-  pub doomed_answer_not_kept : IsRowByLabels (config 1 2 1 0) of_wrong_rules.doomed_answer_not_kept
-  pub doomed_answer_not_kept_later : IsRowByLabels (config 1 2 1 0) of_wrong_rules.doomed_answer_not_kept_later
-  pub doomed_tag_not_given_back : IsRowByLabels (config 1 2 1 0) of_wrong_rules.doomed_tag_not_given_back
-  pub not_finished_while_a_use_runs : IsRowByLabels (config 1 2 1 0) of_wrong_rules.not_finished_while_a_use_runs
-  pub no_use_held_against_another : IsRowByLabels (config 1 4 1 0) of_wrong_rules.no_use_held_against_another
-  pub no_drain_past_a_page_request : IsRowByLabels (config 1 2 1 0) of_wrong_rules.no_drain_past_a_page_request
-  pub no_response_by_an_unbind : IsRowByLabels (config 1 2 1 0) of_wrong_rules.no_response_by_an_unbind
-  pub no_response_in_reset : IsRowByLabels (config 1 2 1 0) of_wrong_rules.no_response_in_reset
-  pub not_withheld_past_the_last_wait : IsRowByLabels (config 1 2 1 0) of_wrong_rules.not_withheld_past_the_last_wait
-  pub no_page_invalidation_while_invalidating : IsRowByLabels (config 1 2 1 0) of_wrong_rules.no_page_invalidation_while_invalidating
-  pub not_free_while_invalidating : IsRowByLabels (config 1 2 1 0) of_wrong_rules.not_free_while_invalidating
-  pub no_reset_done_past_older_messages : IsRowByLabels (config 1 2 1 0) of_wrong_rules.no_reset_done_past_older_messages
-  pub not_released_while_invalidating : IsRowByLabels (config 1 2 1 0) of_wrong_rules.not_released_while_invalidating
-  pub not_released_while_quiet : IsRowByLabels (config 1 2 1 0) of_wrong_rules.not_released_while_quiet
-  pub no_marker_past_page_requests : IsRowByLabels (config 1 2 1 0) of_wrong_rules.no_marker_past_page_requests
-  pub no_wait_past_a_busy_tag : IsRowByLabels (config 1 2 1 0) of_wrong_rules.no_wait_past_a_busy_tag
-  pub no_use_left_by_a_reset : IsRowByLabels (config 1 2 1 0) of_wrong_rules.no_use_left_by_a_reset
-  pub no_index_given_back_by_a_quit : IsRowByLabels (config 1 2 1 0) of_wrong_rules.no_index_given_back_by_a_quit
-  pub no_quit_while_a_use_runs : IsRowByLabels (config 1 2 1 0) of_wrong_rules.no_quit_while_a_use_runs
-  pub no_quit_while_a_request_is_out : IsRowByLabels (config 1 2 1 0) of_wrong_rules.no_quit_while_a_request_is_out
-  pub no_translation_while_stopping : IsRowByLabels (config 1 2 1 0) of_wrong_rules.no_translation_while_stopping
-  pub no_translation_of_another_space : IsRowByLabels (config 1 2 1 0) of_wrong_rules.no_translation_of_another_space
-  pub nothing_else_invalidated : IsRowByLabels (config 1 4 1 0) of_wrong_rules.nothing_else_invalidated
-  pub nothing_of_a_pasid_left : IsRowByLabels (config 1 4 1 0) of_wrong_rules.nothing_of_a_pasid_left
+  pub not_free_when_sent : IsRowByLabels (config 1 2 1 0) of_wrong_rules.not_free_when_sent 0 1 1
+  pub not_free_when_taken : IsRowByLabels (config 1 2 1 0) of_wrong_rules.not_free_when_taken 0 1 1
+  pub not_free_at_the_reset : IsRowByLabels (config 1 2 1 0) of_wrong_rules.not_free_at_the_reset 1 1 0
+  pub not_free_when_unmapped_in_reset : IsRowByLabels (config 1 2 1 0) of_wrong_rules.not_free_when_unmapped_in_reset 1 1 0
+  pub not_freed_at_the_first_of_two : IsRowByLabels (config 1 2 1 0) of_wrong_rules.not_freed_at_the_first_of_two 2 0 0
+  pub not_none_of_eight : IsRowByLabels (config 1 2 1 0) of_wrong_rules.not_none_of_eight 2 0 0
+  pub doomed_answer_not_kept : IsRowByLabels (config 1 2 1 0) of_wrong_rules.doomed_answer_not_kept 2 0 0
+  pub doomed_answer_not_kept_later : IsRowByLabels (config 1 2 1 0) of_wrong_rules.doomed_answer_not_kept_later 1 1 0
+  pub doomed_tag_not_given_back : IsRowByLabels (config 1 2 1 0) of_wrong_rules.doomed_tag_not_given_back 1 0 1
+  pub not_finished_while_a_use_runs : IsRowByLabels (config 1 2 1 0) of_wrong_rules.not_finished_while_a_use_runs 2 0 0
+  pub no_use_held_against_another : IsRowByLabels (config 1 4 1 0) of_wrong_rules.no_use_held_against_another 0 3 1
+  pub no_drain_past_a_page_request : IsRowByLabels (config 1 2 1 0) of_wrong_rules.no_drain_past_a_page_request 2 0 0
+  pub no_response_by_an_unbind : IsRowByLabels (config 1 2 1 0) of_wrong_rules.no_response_by_an_unbind 2 0 0
+  pub no_response_in_reset : IsRowByLabels (config 1 2 1 0) of_wrong_rules.no_response_in_reset 2 0 0
+  pub not_withheld_past_the_last_wait : IsRowByLabels (config 1 2 1 0) of_wrong_rules.not_withheld_past_the_last_wait 1 1 0
+  pub no_page_invalidation_while_invalidating : IsRowByLabels (config 1 2 1 0) of_wrong_rules.no_page_invalidation_while_invalidating 2 0 0
+  pub not_free_while_invalidating : IsRowByLabels (config 1 2 1 0) of_wrong_rules.not_free_while_invalidating 0 1 1
+  pub no_reset_done_past_older_messages : IsRowByLabels (config 1 2 1 0) of_wrong_rules.no_reset_done_past_older_messages 2 0 0
+  pub not_released_while_invalidating : IsRowByLabels (config 1 2 1 0) of_wrong_rules.not_released_while_invalidating 1 1 0
+  pub not_released_while_quiet : IsRowByLabels (config 1 2 1 0) of_wrong_rules.not_released_while_quiet 2 0 0
+  pub no_marker_past_page_requests : IsRowByLabels (config 1 2 1 0) of_wrong_rules.no_marker_past_page_requests 2 0 0
+  pub no_wait_past_a_busy_tag : IsRowByLabels (config 1 2 1 0) of_wrong_rules.no_wait_past_a_busy_tag 1 0 1
+  pub no_use_left_by_a_reset : IsRowByLabels (config 1 2 1 0) of_wrong_rules.no_use_left_by_a_reset 2 0 0
+  pub no_index_given_back_by_a_quit : IsRowByLabels (config 1 2 1 0) of_wrong_rules.no_index_given_back_by_a_quit 2 0 0
+  pub no_quit_while_a_use_runs : IsRowByLabels (config 1 2 1 0) of_wrong_rules.no_quit_while_a_use_runs 1 1 0
+  pub no_quit_while_a_request_is_out : IsRowByLabels (config 1 2 1 0) of_wrong_rules.no_quit_while_a_request_is_out 2 0 0
+  pub no_translation_while_stopping : IsRowByLabels (config 1 2 1 0) of_wrong_rules.no_translation_while_stopping 1 1 0
+  pub no_translation_of_another_space : IsRowByLabels (config 1 2 1 0) of_wrong_rules.no_translation_of_another_space 0 2 0
+  pub nothing_else_invalidated : IsRowByLabels (config 1 4 1 0) of_wrong_rules.nothing_else_invalidated 1 2 1
+  pub nothing_of_a_pasid_left : IsRowByLabels (config 1 4 1 0) of_wrong_rules.nothing_of_a_pasid_left 1 3 0
+
+-- What a step leaves alone.
+pub record WhatStaysByLabels : Type 0 where
+  pub same_page_of_two_pasids : IsRowByLabels (config 1 2 1 0) of_what_stays.same_page_of_two_pasids 0 2 0
+  pub evict_of_one_page : IsRowByLabels (config 1 2 1 0) of_what_stays.evict_of_one_page 0 2 0
+  pub no_translation_beside_an_older : IsRowByLabels (config 1 1 1 0) of_what_stays.no_translation_beside_an_older 0 0 1
+  pub cache_full_of_two : IsRowByLabels (config 1 65 1 0) of_what_stays.cache_full_of_two 0 65 0

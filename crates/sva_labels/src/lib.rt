@@ -2,7 +2,7 @@
 #![tactic(auto)]
 
 ghost use Rattle.sva_labels.specs.Host.{LabelsAreNames, RunsByLabels};
-ghost use Rattle.sva_labels.specs.RowsByLabels.{TranslationsByLabels, InvalidationsByLabels, ResetsByLabels, PageRequestsByLabels, FinalRulesByLabels, DeliveriesByLabels, RefusalsByLabels, ReadingsByLabels, LimitsByLabels, BoundariesByLabels, NamesByLabels, WrongRulesByLabels};
+ghost use Rattle.sva_labels.specs.RowsByLabels.{TranslationsByLabels, InvalidationsByLabels, ResetsByLabels, PageRequestsByLabels, FinalRulesByLabels, DeliveriesByLabels, RefusalsByLabels, ReadingsByLabels, LimitsByLabels, BoundariesByLabels, NamesByLabels, WrongRulesByLabels, WhatStaysByLabels};
 ghost use Rattle.sva_labels.specs.Sound.{AlwaysSound};
 ghost use Rattle.sva_labels.specs.Spaces.{AlwaysHaveSpaces};
 ghost use Rattle.sva_labels.specs.Tallies.{AlwaysTallied};
@@ -40,7 +40,7 @@ pub fn filed_in_turn()
 {}
 
 /// Runs that are worked out: the steps by labels, one after another from what a host keeps before the first step, give the
-/// answers that stand in the rows.
+/// answers that stand in the rows, and leave as many frames free, mapped and withheld as stand at their ends.
 pub fn rows_by_labels()
     ensures translations { TranslationsByLabels }
     ensures invalidations { InvalidationsByLabels }
@@ -54,4 +54,5 @@ pub fn rows_by_labels()
     ensures boundaries { BoundariesByLabels }
     ensures names { NamesByLabels }
     ensures wrong_rules { WrongRulesByLabels }
+    ensures what_stays { WhatStaysByLabels }
 {}

@@ -13,6 +13,7 @@ ghost use Rattle.sva_model.specs.RowsOfBoundaries.{MessagesSpentBeforeBindings, 
 ghost use Rattle.sva_model.specs.RowsOfWrongRules.{NotFreeWhenSent, NotFreeWhenTaken, NotFreeAtTheReset, NotFreeWhenUnmappedInReset, NotFreedAtTheFirstOfTwo, NotNoneOfEight, DoomedAnswerNotKept, DoomedAnswerNotKeptLater, DoomedTagNotGivenBack, NotFinishedWhileAUseRuns, NoUseHeldAgainstAnother, NoDrainPastAPageRequest, NoResponseByAnUnbind, NoResponseInReset, NotWithheldPastTheLastWait, NoPageInvalidationWhileInvalidating, NotFreeWhileInvalidating, NoResetDonePastOlderMessages, NotReleasedWhileInvalidating, NotReleasedWhileQuiet, NoMarkerPastPageRequests, NoWaitPastABusyTag, NoUseLeftByAReset, NoIndexGivenBackByAQuit, NoQuitWhileAUseRuns, NoQuitWhileARequestIsOut, NoTranslationWhileStopping, NoTranslationOfAnotherSpace, NothingElseInvalidated, NothingOfAPasidLeft};
 ghost use Rattle.sva_model.specs.RowsOfFinalRules.{RangeOfEight, CausesOfUnmapRange, OnePasidForEachSpace};
 ghost use Rattle.sva_model.specs.RowsOfWire.{InvalidationsUnderWay, GroupsUnderWay, TwoTargets, Drained};
+ghost use Rattle.sva_model.specs.RowsOfWhatStays.{SamePageOfTwoPasids, EvictOfOnePage, NoTranslationBesideAnOlder, CacheFullOfTwo, UnmappedWhileInvalidating, OneOfTwoAnswered, UseBehindAnInvalidation, CachedByPasid, GroupFiledInPart, SecondGroupOfAnIndex, NothingElseIsOrdered};
 
 /// What a host keeps after a run.
 pub fn kept()
@@ -253,4 +254,19 @@ pub fn boundaries()
     ensures credit_after_a_reset { CreditAfterAReset }
     ensures orders_over_after_a_reset { OrdersOverAfterAReset }
     ensures labels_back_in_reset { LabelsBackInReset }
+{}
+
+/// What a step leaves alone that stands beside what it changes: other pages, other PASIDs, what was noted or answered before.
+pub fn what_stays()
+    ensures same_page_of_two_pasids { SamePageOfTwoPasids }
+    ensures evict_of_one_page { EvictOfOnePage }
+    ensures no_translation_beside_an_older { NoTranslationBesideAnOlder }
+    ensures cache_full_of_two { CacheFullOfTwo }
+    ensures unmapped_while_invalidating { UnmappedWhileInvalidating }
+    ensures one_of_two_answered { OneOfTwoAnswered }
+    ensures use_behind_an_invalidation { UseBehindAnInvalidation }
+    ensures cached_by_pasid { CachedByPasid }
+    ensures group_filed_in_part { GroupFiledInPart }
+    ensures second_group_of_an_index { SecondGroupOfAnIndex }
+    ensures nothing_else_is_ordered { NothingElseIsOrdered }
 {}

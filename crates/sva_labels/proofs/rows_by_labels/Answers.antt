@@ -16,4 +16,5 @@ returns c =
       boundaries = computed.boundaries;
       names = computed.names;
       wrong_rules = computed.wrong_rules;
+      what_stays = computed.what_stays;
     }

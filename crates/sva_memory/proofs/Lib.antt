@@ -7,6 +7,7 @@ pub mod Dropping
 pub mod Hosts
 pub mod ChangedSpace
 pub mod Waiting
+pub mod Ranges
 pub mod Rows
 pub mod Taking
 pub mod Permits

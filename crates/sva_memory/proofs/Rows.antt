@@ -12,7 +12,6 @@ use Rattle.std.proofs.lemmas.Bool.Decides.{nat_tests}
 use Rattle.sva_space.specs.Pages.{IsRising, mapping_at, without_page}
 use Rattle.sva_space.proofs.Mappings.{AllAbove}
 use Rattle.sva_model.specs.Words.{any_below, count_below}
-use Rattle.sva_laws.proofs.Words.{any_below-intro}
 use Rattle.sva_model.specs.Acts.{in_range}
 use Rattle.sva_model.specs.Wire.{PageWire, PlaceWire}
 use Rattle.sva_labels.specs.Finding.{page_at, is_mapped}
@@ -128,10 +127,5 @@ some_mapped-suc : (ps : List PageWire) (q j : ℕ) → is_some_mapped ps q (suc 
 unfolding is_some_mapped any_below
 some_mapped-suc ps q j = refl
 
-pub some_mapped-more : (ps : List PageWire) (q j : ℕ) → is_some_mapped ps q j ≡ false → is_mapped ps (q + j) ≡ false → is_some_mapped ps q (j + 1) ≡ false
-some_mapped-more ps q j before here = ap (is_some_mapped ps q) (add-one j) ∙ some_mapped-suc ps q j
-    ∙ ap (λ b. if b then true else is_some_mapped ps q j) here ∙ before
-
-pub some_mapped-at : (ps : List PageWire) (q n j : ℕ) → j < n → is_mapped ps (q + j) ≡ true → is_some_mapped ps q n ≡ true
-unfolding is_some_mapped
-some_mapped-at ps q n j within there = any_below-intro n (λ k. is_mapped ps (q + k)) j within there
+pub some_mapped-more : (ps : List PageWire) (q j : ℕ) → is_some_mapped ps q (j + 1) ≡ (if is_mapped ps (q + j) then true else is_some_mapped ps q j)
+some_mapped-more ps q j = ap (is_some_mapped ps q) (add-one j) ∙ some_mapped-suc ps q j

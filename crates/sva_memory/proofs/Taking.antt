@@ -1,5 +1,5 @@
 -- Pages that are taken out in a row, one after another, those of them that are mapped.
-use Rattle.std.proofs.Common.{◌≡◌, ◌≢◌, ℕ, suc, ◌+◌, ◌<◌, ◌≤◌, Bool, true, false, List, Option, Some, None, [], ◌∷◌, ◌++◌, length, set, slice_get, refl}
+use Rattle.std.proofs.Common.{◌≡◌, ◌≢◌, ℕ, ◌+◌, ◌<◌, Bool, true, false, List, Option, Some, None, [], ◌∷◌, ◌++◌, length, set, slice_get}
 use Rattle.std.proofs.Common.{sym, ap, subst, ◌∙◌, arith}
 use Rattle.std.specs.Prelude.{filter, is_some, option_map}
 use Rattle.std.proofs.lemmas.List.{length-append}
@@ -13,12 +13,12 @@ use Rattle.sva_labels.specs.Finding.{is_mapped, page_at, frame_or_0, frames_of}
 use Rattle.sva_labels.specs.Moves.{is_between, placed, place_for, without_pages}
 use Rattle.sva_memory.specs.Seen.{page_seen, pages_seen, places_seen, targets_seen}
 use Rattle.sva_memory.specs.Owned.{Owns, Balanced}
-use Rattle.sva_memory.specs.Pieces.{are_mapped, count_mapped}
+use Rattle.sva_memory.specs.Pieces.{are_mapped}
 use Rattle.sva_memory.proofs.PageLists.{page_at-seen, without-none, without-more, page_at-without, pages_seen-remove, frames_of-none, frames_of-more}
 use Rattle.sva_memory.proofs.PageLists.{are_mapped-at}
 use Rattle.sva_memory.proofs.FrameLists.{places_seen-set}
 use Rattle.sva_memory.proofs.Counting.{balanced-none, balanced-on, balanced-is, balanced-unmap, owns-on, owned-mapped}
-use Rattle.sva_memory.proofs.Rows.{listed, between-none, between-more, placed-more, without-missing, count_mapped-none, count_mapped-more}
+use Rattle.sva_memory.proofs.Rows.{listed, between-none, between-more, placed-more}
 use Rattle.sva_memory.proofs.Waiting.{place-after, none-after, room_kept}
 
 -- of so many pages from one on, those that were mapped are out of the space, and their frames wait for these targets
@@ -78,31 +78,6 @@ one_more_went old ms ms_after frames_old frames frames_after waits q j f x old_r
           (room_kept frames waits f (slice_get_within frames f Mapped (next_mapped old ms frames_old frames waits q j f x owned went there)) went.room);
     }
 
--- a page that isn't there
-pub none_more_went : (old ms ms_after : List (ℕ × (ℕ × Bool))) (frames_old frames frames_after : List Holding) (waits : List (Option Target))
-    (q j : ℕ) → IsRising old → Went old frames_old waits q j ms frames → mapping_at ms (q + j) ≡ None → ms_after ≡ without_page ms (q + j)
-    → frames_after ≡ frames
-    → Went old frames_old waits q (j + 1) ms_after frames_after
-none_more_went old ms ms_after frames_old frames frames_after waits q j old_rising went missing removed kept =
-    let here : page_at (pages_seen old) (q + j) ≡ None = next_page old ms q j went.pages ∙ ap (option_map (λ (m : ℕ × Bool). page_seen (q + j, m))) missing in
-    let same : ms_after ≡ ms = removed ∙ without-missing ms (q + j) missing in
-    record {
-      pages = ap pages_seen removed ∙ pages_seen-remove ms (q + j) went.rising ∙ ap (without_pages (q + j) 1) went.pages
-          ∙ sym (without-more q j (pages_seen old));
-      places =
-          ap places_seen kept ∙ went.places
-          ∙ sym (ap (λ (es : List PageWire). placed (place_for (targets_seen waits)) es (places_seen frames_old)) (between-more q j old old_rising
-          ∙ ap (λ (o : Option PageWire). filter (is_between q j) (pages_seen old) ++ listed o) here
-          ∙ no_more (filter (is_between q j) (pages_seen old))));
-      rising = subst (λ (ns : List (ℕ × (ℕ × Bool))). IsRising ns) (sym same) went.rising;
-      balanced = balanced-is old ms ms_after frames_old frames frames_after same kept went.balanced;
-      room = subst (λ (fs : List Holding). HaveRoom fs waits) (sym kept) went.room;
-    }
-  where
-    no_more : (es : List PageWire) → es ++ [] ≡ es
-    no_more [] = refl
-    no_more (e ∷ es) = ap (λ (fs : List PageWire). e ∷ fs) (no_more es)
-
 -- Where each of them is mapped, their frames are listed.
 
 pub record Out (old : List (ℕ × (ℕ × Bool))) (frames_old : List Holding) (waits : List (Option Target)) (page number : ℕ)
@@ -147,50 +122,3 @@ one_more_out old ms ms_after frames_old frames frames_after waits q j f number x
   where
     longer : (fs : List ℕ) (g j : ℕ) → length fs ≡ j → length (fs ++ g ∷ []) ≡ j + 1
     longer fs g j is = omega (arith, length-append fs (g ∷ []))
-
--- Where some of them are, these are counted.
-
-pub record OutOfRange (old : List (ℕ × (ℕ × Bool))) (frames_old : List Holding) (waits : List (Option Target)) (page number : ℕ)
-    (ms : List (ℕ × (ℕ × Bool))) (frames : List Holding) (count : ℕ) : Type 0 where
-  pub went : Went old frames_old waits page number ms frames
-  pub count_is : count ≡ count_mapped (pages_seen old) page number
-  pub few : count ≤ number
-
-pub none_of_range : (ms : List (ℕ × (ℕ × Bool))) (frames : List Holding) (waits : List (Option Target)) (q : ℕ) → IsRising ms → HaveRoom frames waits
-    → OutOfRange ms frames waits q 0 ms frames 0
-none_of_range ms frames waits q rising room = record {
-  went = none_went ms frames waits q rising room;
-  count_is = sym (count_mapped-none (pages_seen ms) q);
-  few = omega arith;
-}
-
-pub one_more_of_range : (old ms ms_after : List (ℕ × (ℕ × Bool))) (frames_old frames frames_after : List Holding) (waits : List (Option Target))
-    (q j f count count_after : ℕ) (x : Bool) → IsRising old → Owns old frames_old → OutOfRange old frames_old waits q j ms frames count
-    → mapping_at ms (q + j) ≡ Some (f, x)
-    → ms_after ≡ without_page ms (q + j) → IsRising ms_after → frames_after ≡ set frames f (after_waits waits) → count_after ≡ count + 1
-    → OutOfRange old frames_old waits q (j + 1) ms_after frames_after count_after
-one_more_of_range old ms ms_after frames_old frames frames_after waits q j f count count_after x old_rising owned out there removed rising gave counted =
-    let here : page_at (pages_seen old) (q + j) ≡ Some (page_seen (q + j, (f, x))) = next_page old ms q j out.went.pages
-    ∙ ap (option_map (λ (m : ℕ × Bool). page_seen (q + j, m))) there in
-    record {
-      went = one_more_went old ms ms_after frames_old frames frames_after waits q j f x old_rising owned out.went there removed rising gave;
-      count_is = counted ∙ more count (count_mapped (pages_seen old) q j) (count_mapped (pages_seen old) q (j + 1)) out.count_is
-          (count_mapped-more (pages_seen old) q j true (ap is_some here));
-      few = omega (arith, out.few, counted);
-    }
-  where
-    more : (count before after : ℕ) → count ≡ before → after ≡ suc before → count + 1 ≡ after
-    more count before after is next = omega arith
-
-pub none_more_of_range : (old ms ms_after : List (ℕ × (ℕ × Bool))) (frames_old frames frames_after : List Holding) (waits : List (Option Target))
-    (q j count count_after : ℕ) → IsRising old → OutOfRange old frames_old waits q j ms frames count → mapping_at ms (q + j) ≡ None → ms_after
-    ≡ without_page ms (q + j)
-    → frames_after ≡ frames → count_after ≡ count → OutOfRange old frames_old waits q (j + 1) ms_after frames_after count_after
-none_more_of_range old ms ms_after frames_old frames frames_after waits q j count count_after old_rising out missing removed kept counted =
-    let here : page_at (pages_seen old) (q + j) ≡ None = next_page old ms q j out.went.pages
-    ∙ ap (option_map (λ (m : ℕ × Bool). page_seen (q + j, m))) missing in
-    record {
-      went = none_more_went old ms ms_after frames_old frames frames_after waits q j old_rising out.went missing removed kept;
-      count_is = counted ∙ out.count_is ∙ sym (count_mapped-more (pages_seen old) q j false (ap is_some here));
-      few = omega (arith, out.few, counted);
-    }

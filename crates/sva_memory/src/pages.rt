@@ -134,12 +134,9 @@ fn is_some_mapped(space: &Space, page: u64, count: u64) -> bool
     requires { page + count ≤ 2 ^ 36 }
     ensures { result ≡ is_some_mapped (pages_seen space.now) page count }
 {
-    for number in 0..count {
-        if space.find(page + number).is_some() {
-            return true;
-        }
-    }
-    false
+    // The pages rise, which is read of the space.
+    let _pages = space.len();
+    space.first_between(page, page + count).is_some()
 }
 
 /// Takes those of `count` pages in a row that are mapped out of a space, and answers how many they are. Their frames are
@@ -163,11 +160,9 @@ pub fn take_mapped(
     // Read for the same reason.
     let _pages = space.len();
     let mut frames = 0;
-    for number in 0..count {
-        if let Some((frame, _write)) = space.unmap(page + number) {
-            pool.withhold(frame, waits.copied());
-            frames += 1;
-        }
+    while let Some((_lowest, frame, _write)) = space.unmap_first(page, page + count) {
+        pool.withhold(frame, waits.copied());
+        frames += 1;
     }
     frames
 }

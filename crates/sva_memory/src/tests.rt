@@ -150,6 +150,30 @@ fn withholds_a_range(rt: HostRuntime) {
     assert_eq!(rt; memory.counts(), counts(3, 1, 0));
 }
 
+// The pages at both ends of a range go, mapped in falling order; those beside it stay.
+#[test]
+fn takes_a_range_from_end_to_end(rt: HostRuntime) {
+    let mut memory = open(&rt, rt.alloc(), 4, 0);
+    assert_eq!(rt; space(&rt, &mut memory), Ok(Answer::Space { space: 0 }));
+    for (page, frame) in [(32, 0), (31, 1), (16, 2), (15, 3)] {
+        assert_eq!(rt;
+            map(&rt, &mut memory, 0, page, true),
+            Ok(Answer::Frame { frame })
+        );
+    }
+    let none = Waits::new();
+    assert_eq!(rt; unmap_range(&rt, &mut memory, 0, 16, 4, &none), 2);
+    assert_eq!(rt; memory.find(0, 32), Some((0, true)));
+    assert_eq!(rt; memory.find(0, 31), None);
+    assert_eq!(rt; memory.find(0, 16), None);
+    assert_eq!(rt; memory.find(0, 15), Some((3, true)));
+    assert_eq!(rt; memory.counts(), counts(2, 2, 0));
+    assert_eq!(rt;
+        memory.may_unmap_range(0, 16, 4),
+        Err(Refusal::NothingMapped)
+    );
+}
+
 #[test]
 fn refuses_an_unmapping_in_order(rt: HostRuntime) {
     let memory = three_mapped(&rt, rt.alloc());

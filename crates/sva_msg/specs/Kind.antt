@@ -37,3 +37,17 @@ sort_of (Invalidated vector count) = InvalidatedSort
 sort_of (PageRequest request) = PageRequestSort request.last
 sort_of (Marker pasid) = MarkerSort
 sort_of ResetDone = ResetDoneSort
+
+-- is there an older message that one of this sort must not overtake?
+abbrev pub is_ordered : Sort → Bool
+is_ordered (PageRequestSort last) = last
+is_ordered StartSort = true
+is_ordered StopSort = true
+is_ordered ResetSort = true
+is_ordered MarkerSort = true
+is_ordered ResetDoneSort = true
+is_ordered CompletionSort = false
+is_ordered InvalidateSort = false
+is_ordered ResponseSort = false
+is_ordered RequestSort = false
+is_ordered InvalidatedSort = false

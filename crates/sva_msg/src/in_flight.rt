@@ -92,6 +92,10 @@ impl Bag {
         let Some(message) = self.get(number) else {
             return false;
         };
+        // Most kinds may overtake any message, and then none is looked at.
+        if !message.kind.is_ordered() {
+            return true;
+        }
         !self.overtakes(number, &message)
     }
 

@@ -168,7 +168,7 @@ pub enum Kind {
 }
 
 impl Kind {
-    ghost use Rattle.sva_msg.specs.Kind.{sort_of};
+    ghost use Rattle.sva_msg.specs.Kind.{sort_of, is_ordered};
 
     fn is_page_request(self) -> bool
         ensures { result ≡ is_page_request (sort_of self) }
@@ -192,6 +192,25 @@ impl Kind {
             | Kind::PageRequest(_)
             | Kind::Marker { .. }
             | Kind::ResetDone => false,
+        }
+    }
+
+    // Whether there is an older message that one of this kind must not overtake.
+    pub(crate) fn is_ordered(self) -> bool
+        ensures { result ≡ is_ordered (sort_of self) }
+    {
+        match self {
+            Kind::PageRequest(request) => request.last,
+            Kind::Start { .. }
+            | Kind::Stop { .. }
+            | Kind::Marker { .. }
+            | Kind::ResetDone
+            | Kind::Reset => true,
+            Kind::Completion { .. }
+            | Kind::Invalidate { .. }
+            | Kind::Response { .. }
+            | Kind::Request { .. }
+            | Kind::Invalidated { .. } => false,
         }
     }
 

@@ -1,27 +1,47 @@
-use Rattle.std.proofs.Common.{sym, ap, ◌∙◌, set}
+use Rattle.std.proofs.Common.{ap, refl, ◌∙◌, set}
 use Rattle.sva_frames.specs.Frames.{after_waits}
-use Rattle.sva_memory.proofs.Taking.{none_of_range, one_more_of_range, none_more_of_range, next_mapped}
-use Rattle.sva_memory.proofs.pages.take_mapped.Goals.{in-Some, in_default}
+use Rattle.sva_memory.specs.Seen.{pages_seen}
+use Rattle.sva_memory.proofs.Counting.{balanced-is}
+use Rattle.sva_memory.proofs.Ranges.{all_left, lowest_mapped, one_less, shorter_row, none_left}
 use Rattle.sva_memory.proofs.pages.take_mapped.Goals as goal
 
-pub loop-number-init : goal.loop-number-init
-loop-number-init c = none_of_range c.args.space.now c.args.pool.now c.args.waits.now c.args.page c.len-pages.ensures.rising c.requires.room
+pub loop-lowest-init : goal.loop-lowest-init
+loop-lowest-init c = all_left c.args.space.now c.args.pool.now c.args.waits.now c.args.page c.args.count c.len-pages.ensures.rising c.requires.room
 
 pub withhold-requires-clause-mapped : goal.withhold-requires-clause-mapped
 withhold-requires-clause-mapped c =
-    next_mapped c.args.space.now c.loop-number.space c.args.pool.now c.loop-number.pool c.args.waits.now c.args.page c.loop-number.number
-    c.in-Some.frame c.in-Some._write c.requires.owned c.loop-number.invariant.went (sym c.in-Some.ensures.value)
+    lowest_mapped c.args.space.now c.loop-lowest.space c.args.pool.now c.loop-lowest.pool c.args.waits.now c.args.page c.args.count
+    c.loop-lowest.frames (c.in-Some._lowest, (c.in-Some.frame, c.in-Some._write)) c.requires.owned c.loop-lowest.invariant c.in-Some.ensures.some
 
-pub loop-number-preserved : goal.loop-number-preserved
-loop-number-preserved c =
-    elim c.match-unmap.branch [
-      | in-Some w ↦
-          one_more_of_range c.args.space.now c.loop-number.space c.unmap.new.self c.args.pool.now c.loop-number.pool c.match-unmap.pool
-          c.args.waits.now c.args.page c.loop-number.number w.in-Some.frame c.loop-number.frames c.match-unmap.frames w.in-Some._write
-          c.len-pages.ensures.rising c.requires.owned c.loop-number.invariant (sym w.in-Some.ensures.value) c.unmap.ensures.after c.unmap.ensures.rising
-          (w.pool-is ∙ w.withhold.ensures ∙ ap (λ ts. set c.loop-number.pool w.in-Some.frame (after_waits ts)) w.copied.ensures) w.frames-is
-      | in_default w ↦
-          none_more_of_range c.args.space.now c.loop-number.space c.unmap.new.self c.args.pool.now c.loop-number.pool c.match-unmap.pool
-          c.args.waits.now c.args.page c.loop-number.number c.loop-number.frames c.match-unmap.frames
-          c.len-pages.ensures.rising c.loop-number.invariant (sym c.unmap.ensures.value ∙ w.in_default.is) c.unmap.ensures.after w.pool-is w.frames-is
-    ]
+pub loop-lowest-smaller : goal.loop-lowest-smaller
+loop-lowest-smaller c =
+    shorter_row c.loop-lowest.space c.unmap_first.new.self c.args.page c.args.count (c.in-Some._lowest, (c.in-Some.frame, c.in-Some._write))
+    c.loop-lowest.invariant.rising c.in-Some.ensures.some c.in-Some.ensures.after
+
+pub loop-lowest-preserved : goal.loop-lowest-preserved
+loop-lowest-preserved c =
+    one_less c.args.space.now c.loop-lowest.space c.unmap_first.new.self c.args.pool.now c.loop-lowest.pool c.withhold.new.self
+    c.args.waits.now c.args.page c.args.count c.loop-lowest.frames _ (c.in-Some._lowest, (c.in-Some.frame, c.in-Some._write))
+    c.requires.owned c.loop-lowest.invariant c.in-Some.ensures.some c.in-Some.ensures.after c.unmap_first.ensures.rising
+    (c.withhold.ensures ∙ ap (λ ts. set c.loop-lowest.pool c.in-Some.frame (after_waits ts)) c.copied.ensures) refl
+
+pub returns-clause-frames : goal.returns-clause-frames
+returns-clause-frames c =
+    (none_left c.args.space.now c.loop-lowest.space c.args.pool.now c.loop-lowest.pool c.args.waits.now c.args.page c.args.count
+    c.loop-lowest.frames c.len-pages.ensures.rising c.loop-lowest.invariant c.in_default.ensures.none.0).counted
+
+pub returns-clause-pages : goal.returns-clause-pages
+returns-clause-pages c =
+    ap pages_seen c.in_default.ensures.none.1
+    ∙ (none_left c.args.space.now c.loop-lowest.space c.args.pool.now c.loop-lowest.pool c.args.waits.now c.args.page c.args.count
+    c.loop-lowest.frames c.len-pages.ensures.rising c.loop-lowest.invariant c.in_default.ensures.none.0).pages
+
+pub returns-clause-places : goal.returns-clause-places
+returns-clause-places c =
+    (none_left c.args.space.now c.loop-lowest.space c.args.pool.now c.loop-lowest.pool c.args.waits.now c.args.page c.args.count
+    c.loop-lowest.frames c.len-pages.ensures.rising c.loop-lowest.invariant c.in_default.ensures.none.0).places
+
+pub returns-clause-balanced : goal.returns-clause-balanced
+returns-clause-balanced c =
+    balanced-is c.args.space.now c.loop-lowest.space c.unmap_first.new.self c.args.pool.now c.loop-lowest.pool c.loop-lowest.pool
+    c.in_default.ensures.none.1 refl c.loop-lowest.invariant.balanced

@@ -1,0 +1,2 @@
+-- Receipts in a journal.
+use Rattle.std.proofs.Common.{◌≡◌}

@@ -51,3 +51,19 @@ stayed h s r before after legal is follows lacks = not_taken (world_of h) s r af
 
 pub leads_more : (h : History) (port : ℕ) (s : Step) (r : Reply) (after : Wire) → after ≡ wire (next (world_of h) s) → after ≡ wire (world_of (with_entry h (entry_of port s r)))
 leads_more h port s r after is = is ∙ sym (ap wire (world_more h (entry_of port s r)))
+
+pub performed : (h : History) (port : ℕ) (s : Step) (r : Reply) (before after : Wire) (reserved noted : List Entry)
+    → IsLegal h → before ≡ wire (world_of h) → Follows before s r after → r ≢ Err refusal.OutOfMemory
+    → reserved ≡ h.entries → noted ≡ reserved ++ entry_of port s r ∷ []
+    → IsLegal (record { config = h.config; entries = noted }) × (after ≡ wire (world_of (record { config = h.config; entries = noted })))
+performed h port s r before after reserved noted legal is follows has same pushed =
+    let all : noted ≡ h.entries ++ entry_of port s r ∷ [] = pushed ∙ ap (λ (es : List Entry). es ++ entry_of port s r ∷ []) same in
+    let step : (r ≡ answer_of h s) × (after ≡ wire (next (world_of h) s)) = took h s r before after legal is follows has in
+    subst (λ (es : List Entry). IsLegal (record { config = h.config; entries = es }) × (after ≡ wire (world_of (record { config = h.config; entries = es })))) (sym all)
+    (legal_more h (entry_of port s r) legal step.0, leads_more h port s r after step.1)
+
+pub begun : (config : Config) (entries : List Entry) (seen : Wire) → Fits config → entries ≡ [] → seen ≡ wire (opened PerSpace config)
+    → IsLegal (record { config = config; entries = entries }) × (seen ≡ wire (world_of (record { config = config; entries = entries })))
+begun config entries seen fits none is =
+    subst (λ (es : List Entry). IsLegal (record { config = config; entries = es }) × (seen ≡ wire (world_of (record { config = config; entries = es })))) (sym none)
+    (legal_empty config fits, is)

@@ -1,5 +1,5 @@
 -- The audit at the end: the receipts of all ports against the journal.
-use Rattle.std.specs.Prelude.{◌≡◌, ◌≢◌, ◌⊎◌, ℕ, suc, ◌+◌, Result, Ok, Err, List, [], ◌∷◌, ◌++◌, length}
+use Rattle.std.specs.Prelude.{◌≡◌, ◌≢◌, ◌⊎◌, ℕ, ◌+◌, Result, Ok, Err, List, [], ◌∷◌, ◌++◌, length}
 use Rattle.sva_step.specs.declared.limits.Config.{Config}
 use Rattle.sva_model.specs.Steps.{counts}
 use Rattle.sva_fabric.specs.declared.journal.Entry.{Entry}
@@ -33,14 +33,14 @@ IsFirstBad entries port (r ∷ rest) place =
 -- each receipt of each port stands as a call of that port, the first of these ports being the one of this number
 abbrev pub EachStands : List Entry → (first : ℕ) → List Seat → Type 0
 EachStands entries first [] = Unit {0}
-EachStands entries first (s ∷ seats) = AllStand entries first s.receipts × EachStands entries (suc first) seats
+EachStands entries first (s ∷ seats) = AllStand entries first s.receipts × EachStands entries (first + 1) seats
 
 -- the port and the place of the first receipt that doesn't
 abbrev pub IsFirstBadOf : List Entry → (first : ℕ) → List Seat → (port place : ℕ) → Type 0
 IsFirstBadOf entries first [] port place = ⊥
 IsFirstBadOf entries first (s ∷ seats) port place =
     ((port ≡ first) × IsFirstBad entries first s.receipts place)
-    ⊎ (AllStand entries first s.receipts × IsFirstBadOf entries (suc first) seats port place)
+    ⊎ (AllStand entries first s.receipts × IsFirstBadOf entries (first + 1) seats port place)
 
 -- the calls of all ports
 abbrev pub calls_of : List Seat → ℕ

@@ -16,7 +16,7 @@ abbrev pub new_seat : ℕ → Seat
 new_seat n = record { number = n; receipts = [] }
 
 -- so many new ports, numbered from this number on
-abbrev pub seats_from : (first count : ℕ) → List Seat
+unfoldable pub seats_from : (first count : ℕ) → List Seat
 seats_from first zero = []
 seats_from first (suc count) = seats_from first count ++ new_seat (first + count) ∷ []
 

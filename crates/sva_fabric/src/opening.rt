@@ -27,6 +27,7 @@ pub(crate) fn open_ports(alloc: Global, config: &Config) -> Result<Ports, AllocE
 }
 
 // So many ports, numbered from this number on.
+#[tactic(auto, using(crate::proofs::Sums::seats_none, crate::proofs::Sums::seats_next))]
 fn row(alloc: Global, first: u64, count: u64) -> Result<Vec<Port>, AllocError>
     requires { first + count < 2 ^ 63 }
     ensures ports { IfOk result (λ ports. ports.items ≡ seats_from first count) }

@@ -1,6 +1,6 @@
 //! What lies under the lock.
 
-ghost use Rattle.std.specs.Prelude.{◌≡◌, ◌↔◌, ◌+◌, ◌<◌, ◌⊎◌, true, false, length, slice_get, IfOk, IfErr, IfSome, IfNone, OnErr, Some, Err};
+ghost use Rattle.std.specs.Prelude.{◌≡◌, ◌↔◌, ◌+◌, ◌^◌, ◌<◌, true, false, length, slice_get, IfOk, IfErr, IfSome, IfNone, OnErr, Some, Err};
 ghost use Rattle.sva_step.specs.declared.refusals.Refusal.TheVariants as refusal;
 ghost use Rattle.sva_step.specs.Limits.{Fits};
 ghost use Rattle.sva_core.specs.Reached.{IsOpenRefusal};
@@ -95,10 +95,10 @@ impl Running {
         ensures audit { IsAudit self.now (seats_of ports.now) result }
         ensures legal { IsLegal self.now }
     {
+        let calls = self.journaled.calls();
         if let Some(bad) = self.first_bad(ports) {
             return Err(bad);
         }
-        let calls = self.journaled.calls();
         if !adds_up(calls, ports) {
             let port = 3 + ports.endpoints.len() as u64 + ports.workers.len() as u64;
             return Err(FirstBadReceipt { port, place: calls });
@@ -178,6 +178,7 @@ impl Running {
 }
 
 // Tells that the calls of all ports are so many.
+#[tactic(auto, using(crate::proofs::Sums::calls_append))]
 fn adds_up(calls: u64, ports: &Ports) -> bool
     ensures yes { result ≡ true → calls_of (seats_of ports.now) ≡ calls }
     ensures no { result ≡ false → calls_of (seats_of ports.now) ≡ calls → ⊥ }
@@ -229,8 +230,16 @@ fn is_told(entry: &Entry, port: u64, receipt: &Receipt) -> bool
     ensures no { result ≡ false → entry.now ≡ entry_told port receipt.now → ⊥ }
 {
     entry.port == port
-        && entry.step == receipt.step
+        && is_same_step(&entry.step, &receipt.step)
         && is_same_answer(&entry.answer, &receipt.answer)
+}
+
+// Tells that two steps are the same.
+fn is_same_step(one: &Step, other: &Step) -> bool
+    ensures yes { result ≡ true → one.now ≡ other.now }
+    ensures no { result ≡ false → one.now ≡ other.now → ⊥ }
+{
+    one == other
 }
 
 // Tells that two answers are the same.

@@ -1,4 +1,5 @@
 -- Receipts and calls of several ports.
+use Rattle.std.specs.Prelude.{Option, Some, None, IfSome, IfNone}
 use Rattle.std.proofs.Common.{◌≡◌, ◌⊎◌, ℕ, zero, suc, ◌+◌, ◌<◌, ◌≤◌, List, [], ◌∷◌, ◌++◌, length, refl, sym, ap, subst, ◌∙◌, arith, inl, inr}
 use Rattle.sva_fabric.specs.declared.journal.Entry.{Entry}
 use Rattle.sva_fabric.specs.Receipts.{Seat, seats_from, new_seat}
@@ -43,3 +44,12 @@ seats_next first count =
 pub seats_none : (first : ℕ) → seats_from first 0 ≡ []
 unfolding seats_from
 seats_none first = refl
+
+-- what a `None` or a `Some` gives, one step on
+pub none_map : {A P Q : Type 0} (o : Option A) → (P → Q) → IfNone o P → IfNone o Q
+none_map None f p = f p
+none_map (Some x) f p = tt
+
+pub some_map : {A : Type 0} {P Q : A → Type 0} (o : Option A) → ((x : A) → P x → Q x) → IfSome o P → IfSome o Q
+some_map None f p = tt
+some_map (Some x) f p = f x p

@@ -248,8 +248,16 @@ fn is_same_answer(one: &Result<Answer, Refusal>, other: &Result<Answer, Refusal>
     ensures no { result ≡ false → one.now ≡ other.now → ⊥ }
 {
     match (one, other) {
-        (Ok(one), Ok(other)) => one == other,
+        (Ok(one), Ok(other)) => is_answer(one, other),
         (Err(one), Err(other)) => one == other,
         _ => false,
     }
+}
+
+// Tells that two answers of accepted steps are the same.
+fn is_answer(one: &Answer, other: &Answer) -> bool
+    ensures yes { result ≡ true → one.now ≡ other.now }
+    ensures no { result ≡ false → one.now ≡ other.now → ⊥ }
+{
+    one == other
 }

@@ -1,5 +1,5 @@
 -- Receipts: what a port was told of its own calls, and where they stand in a journal.
-use Rattle.std.specs.Prelude.{◌≡◌, ◌≢◌, ◌<◌, ◌-◌, ℕ, zero, suc, ◌+◌, Option, Some, None, List, [], ◌∷◌, ◌++◌, length, slice_get, IfSome, IsSomeAnd}
+use Rattle.std.specs.Prelude.{◌≡◌, ◌≢◌, ◌<◌, ◌-◌, ℕ, zero, suc, ◌+◌, Option, Some, List, [], ◌∷◌, ◌++◌, length, slice_get, IfSome, IsSomeAnd}
 use Rattle.sva_step.specs.declared.steps.Step.{Step}
 use Rattle.sva_fabric.specs.declared.journal.Entry.{Entry}
 use Rattle.sva_fabric.specs.declared.receipts.Receipt.{Receipt}

@@ -1,7 +1,5 @@
 //! The ports of a fabric.
 
-ghost use Rattle.std.specs.Prelude.{◌+◌, ◌^◌, ◌<◌, vec_len};
-
 use crate::port::Port;
 
 /// The ports of a `Fabric`, numbered from 0 in this order.
@@ -17,5 +15,4 @@ pub struct Ports {
     pub endpoints: Vec<Port>,
     /// A port for each worker.
     pub workers: Vec<Port>,
-    ghost few: { vec_len endpoints + vec_len workers < 2 ^ 63 },
 }

@@ -100,8 +100,10 @@ impl Running {
             return Err(bad);
         }
         if !adds_up(calls, ports) {
-            let port = 3 + ports.endpoints.len() as u64 + ports.workers.len() as u64;
-            return Err(FirstBadReceipt { port, place: calls });
+            return Err(FirstBadReceipt {
+                port: count_of(ports),
+                place: calls,
+            });
         }
         let counts = self.journaled.counts();
         Ok(Audit {
@@ -170,11 +172,23 @@ impl Running {
         if let Some(place) = self.first_bad_of(2, ports.service.receipts()) {
             return Some(FirstBadReceipt { port: 2, place });
         }
-        if let Some(bad) = self.first_bad_from(3, ports.endpoints.as_slice()) {
+        let endpoints = ports.endpoints.as_slice();
+        if let Some(bad) = self.first_bad_from(3, endpoints) {
             return Some(bad);
         }
-        self.first_bad_from(3 + ports.endpoints.len() as u64, ports.workers.as_slice())
+        let workers = ports.workers.as_slice();
+        self.first_bad_from(3 + endpoints.len() as u64, workers)
     }
+}
+
+// How many ports there are.
+#[tactic(auto, using(crate::proofs::Sums::length_both))]
+fn count_of(ports: &Ports) -> u64
+    ensures { result ≡ length (seats_of ports.now) }
+{
+    let endpoints = ports.endpoints.as_slice();
+    let workers = ports.workers.as_slice();
+    3 + endpoints.len() as u64 + workers.len() as u64
 }
 
 // Tells that the calls of all ports are so many.

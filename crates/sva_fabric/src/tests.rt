@@ -1,3 +1,6 @@
+ghost use Rattle.std.specs.Prelude.{◌≡◌, true};
+ghost use Rattle.sva_step.specs.Steps.{is_plain};
+
 use super::*;
 use std::process::Abort;
 use std::sync::{Barrier, Wait};
@@ -14,7 +17,9 @@ const CONFIG: Config = Config {
     first: 0,
 };
 
-fn map(page: u64) -> Step {
+fn map(page: u64) -> Step
+    ensures { is_plain result ≡ true }
+{
     Step::Map {
         space: 0,
         page,
@@ -191,7 +196,7 @@ fn calls_that_do_not_add_up(rt: HostRuntime) -> Result<(), Fail> {
             .step(&rt, &mut ports.service, &Step::Pump { endpoint: 0 })
             .is_ok()
     );
-    assert_eq!(rt; ports.workers[0].number(), 5);
+    assert_eq!(rt; ports.workers.first().map(|port| port.number()), Some(5));
     // The other's ports have no receipts, so none of theirs is bad.
     assert_eq!(rt;
         fabric.finish(others),

@@ -1,4 +1,4 @@
-use Rattle.std.proofs.Common.{◌≡◌, ◌+◌, List, ℕ, length, sym, ap, subst, ◌∙◌, inr}
+use Rattle.std.proofs.Common.{◌≡◌, ◌+◌, List, ℕ, length, ap, subst, inr}
 use Rattle.sva_fabric.specs.declared.receipts.Receipt.{Receipt}
 use Rattle.sva_fabric.specs.Receipts.{Seat}
 use Rattle.sva_fabric.specs.Audits.{AllStand, EachStands, IsFirstBadOf}

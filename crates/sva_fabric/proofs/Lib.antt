@@ -1,0 +1,4 @@
+pub mod Entries
+pub mod Same
+pub mod Standing
+pub mod Sums

@@ -1,0 +1,55 @@
+-- Receipts in a journal, and the places of a port's receipts.
+use Rattle.std.proofs.Common.{◌≡◌, ℕ, zero, suc, ◌-◌, ◌<◌, Option, Some, None, List, [], ◌∷◌, ◌++◌, length, refl, sym, ap, subst, ◌∙◌, arith}
+use Rattle.std.specs.Prelude.{slice_get, IfSome}
+use Rattle.std.proofs.lemmas.Option.{slice_get_within}
+use Rattle.sva_step.specs.declared.steps.Step.{Step}
+use Rattle.sva_fabric.specs.declared.journal.Entry.{Entry}
+use Rattle.sva_fabric.specs.declared.receipts.Receipt.{Receipt}
+use Rattle.sva_fabric.specs.Journal.{History, IsLegal, entry_of, with_entry}
+use Rattle.sva_fabric.specs.Receipts.{Stands, AreRising, IsAnswered, IsAnsweredAt, last_of, entry_told}
+
+get_before : {A : Type 0} (xs ys : List A) (k : ℕ) (x : A) → slice_get xs k ≡ Some x → slice_get (xs ++ ys) k ≡ Some x
+get_before [] ys k x h = absurd (cc)
+get_before (a ∷ xs) ys zero x h = h
+get_before (a ∷ xs) ys (suc k) x h = get_before xs ys k x h
+
+get_end : {A : Type 0} (xs : List A) (x : A) → slice_get (xs ++ x ∷ []) (length xs) ≡ Some x
+get_end [] x = refl
+get_end (a ∷ xs) x = get_end xs x
+
+-- what stood before stands in the longer journal, at a lower place than its end
+last_stands_more : (entries : List Entry) (e : Entry) (port place : ℕ) (last : Option Receipt) → place ≡ length entries
+    → IfSome last (λ l. Stands entries port l) → IfSome last (λ l. (l.place < place) × Stands (entries ++ e ∷ []) port l)
+last_stands_more entries e port place None at h = tt
+last_stands_more entries e port place (Some l) at h =
+    let within : l.place < length entries = slice_get_within entries l.place (entry_told port l) h in
+    (omega (arith, within, at), get_before entries (e ∷ []) l.place (entry_told port l) h)
+
+-- the call that was answered at the journal's end, told without the journal
+pub answered : (before after : History) (port : ℕ) (last : Option Receipt) (step : Step) (r : Receipt)
+    → IsAnsweredAt before port last step r → after ≡ with_entry before (entry_of port r.step r.answer) → IsLegal after → IsAnswered port last step r
+answered before after port last step r at is legal = record {
+  journal = with_entry before (entry_told port r);
+  legal = subst IsLegal is legal;
+  step_is = at.step_is;
+  stands = subst (λ (k : ℕ). slice_get (before.entries ++ entry_told port r ∷ []) k ≡ Some (entry_told port r)) (sym at.place_is)
+      (get_end before.entries (entry_told port r));
+  last_stands = last_stands_more before.entries (entry_told port r) port r.place last at.place_is at.last_stands;
+}
+
+-- the last of several receipts is the last of those behind the first
+last_next : (a b : Receipt) (rs : List Receipt) → last_of (a ∷ b ∷ rs) ≡ last_of (b ∷ rs)
+last_next a b rs =
+    let one : suc (suc (length rs)) - 1 ≡ suc (length rs) = omega arith in
+    let other : suc (length rs) - 1 ≡ length rs = omega arith in
+    ap (slice_get (a ∷ b ∷ rs)) one ∙ sym (ap (slice_get (b ∷ rs)) other)
+
+-- a receipt more, above the last one
+pub rising_more : (rs : List Receipt) (r : Receipt) (P : Receipt → Type 0) → AreRising rs → IfSome (last_of rs) (λ l. (l.place < r.place) × P l)
+    → AreRising (rs ++ r ∷ [])
+rising_more [] r P h last = tt
+rising_more (a ∷ []) r P h last = (last.0, tt)
+rising_more (a ∷ b ∷ rs) r P h last = (
+  h.0,
+  rising_more (b ∷ rs) r P h.1 (subst (λ (o : Option Receipt). IfSome o (λ l. (l.place < r.place) × P l)) (last_next a b rs) last),
+)

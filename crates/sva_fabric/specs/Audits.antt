@@ -1,0 +1,68 @@
+-- The audit at the end: the receipts of all ports against the journal.
+use Rattle.std.specs.Prelude.{◌≡◌, ◌≢◌, ◌⊎◌, ℕ, ◌+◌, Result, Ok, Err, List, [], ◌∷◌, ◌++◌, length}
+use Rattle.sva_step.specs.declared.limits.Config.{Config}
+use Rattle.sva_model.specs.Steps.{counts}
+use Rattle.sva_fabric.specs.declared.journal.Entry.{Entry}
+use Rattle.sva_fabric.specs.declared.receipts.Receipt.{Receipt}
+use Rattle.sva_fabric.specs.declared.ports.Ports.{Ports}
+use Rattle.sva_fabric.specs.declared.audits.Audit.{Audit}
+use Rattle.sva_fabric.specs.declared.audits.FirstBadReceipt.{FirstBadReceipt}
+use Rattle.sva_fabric.specs.Journal.{History, IsLegal, world_of}
+use Rattle.sva_fabric.specs.Receipts.{Seat, Stands, new_seat, seats_from}
+
+-- the ports in the order of their numbers
+abbrev pub seats_of : Ports → List Seat
+seats_of p = p.host ∷ p.link ∷ p.service ∷ (p.endpoints.items ++ p.workers.items)
+
+-- the ports of a config, of which nothing was asked
+abbrev pub new_seats : Config → List Seat
+new_seats c = new_seat 0 ∷ new_seat 1 ∷ new_seat 2 ∷ (seats_from 3 c.endpoints ++ seats_from (3 + c.endpoints) c.workers)
+
+-- each receipt stands
+abbrev pub AllStand : List Entry → (port : ℕ) → List Receipt → Type 0
+AllStand entries port [] = Unit {0}
+AllStand entries port (r ∷ rest) = Stands entries port r × AllStand entries port rest
+
+-- the place of the first receipt that doesn't
+abbrev pub IsFirstBad : List Entry → (port : ℕ) → List Receipt → (place : ℕ) → Type 0
+IsFirstBad entries port [] place = ⊥
+IsFirstBad entries port (r ∷ rest) place =
+    ((Stands entries port r → ⊥) × (place ≡ r.place))
+    ⊎ (Stands entries port r × IsFirstBad entries port rest place)
+
+-- each receipt of each port stands as a call of that port, the first of these ports being the one of this number
+abbrev pub EachStands : List Entry → (first : ℕ) → List Seat → Type 0
+EachStands entries first [] = Unit {0}
+EachStands entries first (s ∷ seats) = AllStand entries first s.receipts × EachStands entries (first + 1) seats
+
+-- the port and the place of the first receipt that doesn't
+abbrev pub IsFirstBadOf : List Entry → (first : ℕ) → List Seat → (port place : ℕ) → Type 0
+IsFirstBadOf entries first [] port place = ⊥
+IsFirstBadOf entries first (s ∷ seats) port place =
+    ((port ≡ first) × IsFirstBad entries first s.receipts place)
+    ⊎ (AllStand entries first s.receipts × IsFirstBadOf entries (first + 1) seats port place)
+
+-- the calls of all ports
+abbrev pub calls_of : List Seat → ℕ
+calls_of [] = 0
+calls_of (s ∷ seats) = length s.receipts + calls_of seats
+
+-- Ok exactly where each receipt stands and the calls add up to the journal's length. Else the first receipt that doesn't stand;
+-- where all do and the calls don't add up, the number of ports and the journal's length.
+abbrev pub IsAudit : History → List Seat → Result Audit FirstBadReceipt → Type 0
+IsAudit h seats (Ok audit) =
+    EachStands h.entries 0 seats
+    × (calls_of seats ≡ length h.entries)
+    × (audit.calls ≡ length h.entries)
+    × (audit.free ≡ (counts (world_of h)).free)
+    × (audit.mapped ≡ (counts (world_of h)).mapped)
+    × (audit.withheld ≡ (counts (world_of h)).withheld)
+IsAudit h seats (Err bad) =
+    IsFirstBadOf h.entries 0 seats bad.port bad.place
+    ⊎ (EachStands h.entries 0 seats × (calls_of seats ≢ length h.entries) × (bad.port ≡ length seats) × (bad.place ≡ length h.entries))
+
+-- what a call that takes the journal out of the lock says: there is a legal journal of which this is the audit
+pub record IsFinished (seats : List Seat) (result : Result Audit FirstBadReceipt) : Type 0 where
+  pub journal : History
+  pub legal : IsLegal journal
+  pub is_audit : IsAudit journal seats result

@@ -1,0 +1,3 @@
+pub mod Journal
+pub mod Receipts
+pub mod Audits

@@ -1,0 +1,67 @@
+-- Receipts: what a port was told of its own calls, and where they stand in a journal.
+use Rattle.std.specs.Prelude.{◌≡◌, ◌≢◌, ◌<◌, ◌-◌, ℕ, zero, suc, ◌+◌, Option, Some, List, [], ◌∷◌, ◌++◌, length, slice_get, IfSome, IsSomeAnd}
+use Rattle.sva_step.specs.declared.steps.Step.{Step}
+use Rattle.sva_fabric.specs.declared.journal.Entry.{Entry}
+use Rattle.sva_fabric.specs.declared.receipts.Receipt.{Receipt}
+use Rattle.sva_fabric.specs.declared.running.StepFault.{StepFault}
+use Rattle.sva_fabric.specs.declared.running.StepFault.TheVariants as fault
+use Rattle.sva_fabric.specs.Journal.{History, IsLegal, entry_of, answer_of}
+
+-- a port: its number, and the receipts of its calls
+pub record Seat : Type 0 where
+  pub number : ℕ
+  pub receipts : List Receipt
+
+abbrev pub new_seat : ℕ → Seat
+new_seat n = record { number = n; receipts = [] }
+
+-- so many new ports, numbered from this number on
+unfoldable pub seats_from : (first count : ℕ) → List Seat
+seats_from first zero = []
+seats_from first (suc count) = seats_from first count ++ new_seat (first + count) ∷ []
+
+abbrev pub last_of : List Receipt → Option Receipt
+last_of receipts = slice_get receipts (length receipts - 1)
+
+-- each receipt's place is above the one before it
+abbrev pub AreRising : List Receipt → Type 0
+AreRising [] = Unit {0}
+AreRising (r ∷ []) = Unit {0}
+AreRising (r ∷ s ∷ rest) = (r.place < s.place) × AreRising (s ∷ rest)
+
+-- the entry that a receipt of this port tells of
+abbrev pub entry_told : (port : ℕ) → Receipt → Entry
+entry_told port r = entry_of port r.step r.answer
+
+-- the receipt's entry stands at its place
+abbrev pub Stands : List Entry → (port : ℕ) → Receipt → Type 0
+Stands entries port r = slice_get entries r.place ≡ Some (entry_told port r)
+
+-- a call that was answered: it stands behind all that the journal had, its answer is the one of the definitions there, and the
+-- port's last receipt stands
+pub record IsAnsweredAt (before : History) (port : ℕ) (last : Option Receipt) (step : Step) (r : Receipt) : Type 0 where
+  pub step_is : r.step ≡ step
+  pub place_is : r.place ≡ length before.entries
+  pub answer_is : r.answer ≡ answer_of before step
+  pub last_stands : IfSome last (λ l. Stands before.entries port l)
+
+-- a call that was not: memory lacked, or something else stands where the port's last receipt should
+abbrev pub IsRefusedAt : List Entry → (port : ℕ) → Option Receipt → StepFault → Type 0
+IsRefusedAt entries port last fault.Memory = IfSome last (λ l. Stands entries port l)
+IsRefusedAt entries port last (fault.Strayed place found) =
+    (found ≡ slice_get entries place)
+    × IsSomeAnd last (λ l. (l.place ≡ place) × (found ≢ Some (entry_told port l)))
+
+-- For the calls that take the lock themselves no clause can name what lay under it. They say that there is a legal journal with
+-- what they tell: the new receipt stands in it, and before it, at a lower place, the port's last one.
+pub record IsAnswered (port : ℕ) (last : Option Receipt) (step : Step) (r : Receipt) : Type 0 where
+  pub journal : History
+  pub legal : IsLegal journal
+  pub step_is : r.step ≡ step
+  pub stands : Stands journal.entries port r
+  pub last_stands : IfSome last (λ l. (l.place < r.place) × Stands journal.entries port l)
+
+-- memory lacked; or there is a legal journal that has something else where the port's last receipt should stand
+abbrev pub IsRefused : (port : ℕ) → Option Receipt → StepFault → Type 0
+IsRefused port last fault.Memory = Unit {0}
+IsRefused port last (fault.Strayed place found) = (journal : History) × IsLegal journal × IsRefusedAt journal.entries port last (fault.Strayed place found)

@@ -1,0 +1,22 @@
+//! One world that several threads share under a lock, with a journal of what was asked and answered, and receipts that an audit
+//! compares with it.
+#![tactic(auto)]
+
+mod audits;
+mod fabric;
+mod journal;
+mod opening;
+mod port;
+mod ports;
+mod receipts;
+mod running;
+#[cfg(test)]
+mod tests;
+
+pub use audits::{Audit, FirstBadReceipt};
+pub use fabric::Fabric;
+pub use journal::{Entry, Journaled};
+pub use port::Port;
+pub use ports::Ports;
+pub use receipts::Receipt;
+pub use running::{Running, StepFault};

@@ -1,0 +1,277 @@
+//! What lies under the lock.
+
+ghost use Rattle.std.specs.Prelude.{◌≡◌, ◌↔◌, ◌+◌, ◌^◌, ◌<◌, true, false, length, slice_get, IfOk, IfErr, IfSome, IfNone, OnErr, Some, Err};
+ghost use Rattle.sva_step.specs.declared.refusals.Refusal.TheVariants as refusal;
+ghost use Rattle.sva_step.specs.Limits.{Fits};
+ghost use Rattle.sva_core.specs.Reached.{IsOpenRefusal};
+ghost use Rattle.sva_fabric.specs.Journal.{IsLegal, entry_of, with_entry, empty_of};
+ghost use Rattle.sva_fabric.specs.Receipts.{Stands, IsAnsweredAt, IsRefusedAt, entry_told};
+ghost use Rattle.sva_fabric.specs.Audits.{seats_of, AllStand, IsFirstBad, EachStands, IsFirstBadOf, calls_of, IsAudit};
+
+use crate::audits::{Audit, FirstBadReceipt};
+use crate::journal::{Entry, Journaled};
+use crate::port::Port;
+use crate::ports::Ports;
+use crate::receipts::Receipt;
+use std::alloc::Global;
+use std::marker::Model;
+use sva_step::{Answer, Config, Refusal, Step};
+
+/// Why a call was not answered. Nothing has changed.
+#[derive(Clone, Copy, Debug, PartialEq, Eq)]
+pub enum StepFault {
+    /// Memory lacked.
+    Memory,
+    /// The port's last receipt doesn't stand in the journal.
+    Strayed {
+        /// The place that the receipt names.
+        place: u64,
+        /// What stands there instead.
+        found: Option<Entry>,
+    },
+}
+
+/// A journaled world, as it lies under the lock of a `Fabric`.
+#[derive(Drop)]
+pub struct Running {
+    journaled: Journaled,
+}
+
+impl Model for Running {
+    ghost use Rattle.sva_fabric.specs.Journal.{History};
+
+    ghost Value = { History };
+
+    ghost view = { λ r. r.journaled };
+}
+
+impl Running {
+    /// A new world of a config, of which nothing was asked. A config out of its limits is `BadConfig`; the only other refusal is
+    /// `OutOfMemory`.
+    pub fn open(alloc: Global, config: Config) -> Result<Running, Refusal>
+        ensures ok { IfOk result (λ r. (Fits config) × (r ≡ empty_of config)) }
+        ensures bad { (result ≡ Err refusal.BadConfig) ↔ (Fits config → ⊥) }
+        ensures memory { IfErr result IsOpenRefusal }
+    {
+        let journaled = Journaled::open(alloc, config)?;
+        Ok(Running { journaled })
+    }
+
+    /// Takes one step for a port whose last receipt is this one. The receipt is compared with the journal first; where it doesn't
+    /// stand there, the answer is `Strayed`.
+    pub fn step(
+        &mut self,
+        port: u64,
+        last: Option<Receipt>,
+        step: &Step,
+    ) -> Result<Receipt, StepFault>
+        ensures answered { IfOk result (λ r. IsAnsweredAt self.old port last step.now r) }
+        ensures journal { IfOk result (λ r. self.new ≡ with_entry self.old (entry_of port r.step r.answer)) }
+        ensures err { OnErr result (self.new ≡ self.old) }
+        ensures fault { IfErr result (λ f. IsRefusedAt self.old.entries port last f) }
+        ensures legal { IsLegal self.new }
+    {
+        let place = self.journaled.calls();
+        if let Some(receipt) = last {
+            if !self.stands(port, &receipt) {
+                return Err(StepFault::Strayed {
+                    place: receipt.place,
+                    found: self.journaled.at(receipt.place),
+                });
+            }
+        }
+        match self.journaled.perform(port, step) {
+            Ok(entry) => Ok(Receipt {
+                place,
+                step: entry.step,
+                answer: entry.answer,
+            }),
+            Err(_) => Err(StepFault::Memory),
+        }
+    }
+
+    /// Compares the receipts of all ports with the journal.
+    pub fn audit(&self, ports: &Ports) -> Result<Audit, FirstBadReceipt>
+        ensures audit { IsAudit self.now (seats_of ports.now) result }
+        ensures legal { IsLegal self.now }
+    {
+        let calls = self.journaled.calls();
+        if let Some(bad) = self.first_bad(ports) {
+            return Err(bad);
+        }
+        if !adds_up(calls, ports) {
+            return Err(FirstBadReceipt {
+                port: count_of(ports),
+                place: calls,
+            });
+        }
+        let counts = self.journaled.counts();
+        Ok(Audit {
+            calls,
+            free: counts.free,
+            mapped: counts.mapped,
+            withheld: counts.withheld,
+        })
+    }
+
+    // Tells that a receipt stands at its place, as a call of this port.
+    fn stands(&self, port: u64, receipt: &Receipt) -> bool
+        ensures yes { result ≡ true → Stands self.now.entries port receipt.now }
+        ensures no { result ≡ false → Stands self.now.entries port receipt.now → ⊥ }
+        ensures legal { IsLegal self.now }
+    {
+        match self.journaled.at(receipt.place) {
+            Some(entry) => is_told(&entry, port, receipt),
+            None => false,
+        }
+    }
+
+    // The place of the first receipt of a port that doesn't stand.
+    fn first_bad_of(&self, port: u64, receipts: &[Receipt]) -> Option<u64>
+        ensures none { IfNone result (AllStand self.now.entries port receipts.now) }
+        ensures some { IfSome result (λ place. IsFirstBad self.now.entries port receipts.now place) }
+    {
+        for receipt in receipts {
+            if !self.stands(port, receipt) {
+                return Some(receipt.place);
+            }
+        }
+        None
+    }
+
+    // The first receipt that doesn't stand, of ports that are numbered from this number on.
+    fn first_bad_from(&self, first: u64, ports: &[Port]) -> Option<FirstBadReceipt>
+        requires { first + length ports.now < 2 ^ 64 }
+        ensures none { IfNone result (EachStands self.now.entries first ports.now) }
+        ensures some { IfSome result (λ bad. IsFirstBadOf self.now.entries first ports.now bad.port bad.place) }
+    {
+        let mut number = first;
+        for port in ports {
+            if let Some(place) = self.first_bad_of(number, port.receipts()) {
+                return Some(FirstBadReceipt {
+                    port: number,
+                    place,
+                });
+            }
+            number += 1;
+        }
+        None
+    }
+
+    // The first receipt that doesn't stand.
+    fn first_bad(&self, ports: &Ports) -> Option<FirstBadReceipt>
+        ensures none { IfNone result (EachStands self.now.entries 0 (seats_of ports.now)) }
+        ensures some { IfSome result (λ bad. IsFirstBadOf self.now.entries 0 (seats_of ports.now) bad.port bad.place) }
+    {
+        if let Some(place) = self.first_bad_of(0, ports.host.receipts()) {
+            return Some(FirstBadReceipt { port: 0, place });
+        }
+        if let Some(place) = self.first_bad_of(1, ports.link.receipts()) {
+            return Some(FirstBadReceipt { port: 1, place });
+        }
+        if let Some(place) = self.first_bad_of(2, ports.service.receipts()) {
+            return Some(FirstBadReceipt { port: 2, place });
+        }
+        let endpoints = ports.endpoints.as_slice();
+        if let Some(bad) = self.first_bad_from(3, endpoints) {
+            return Some(bad);
+        }
+        let workers = ports.workers.as_slice();
+        self.first_bad_from(3 + endpoints.len() as u64, workers)
+    }
+}
+
+// How many ports there are.
+#[tactic(auto, using(crate::proofs::Sums::length_both))]
+fn count_of(ports: &Ports) -> u64
+    ensures { result ≡ length (seats_of ports.now) }
+{
+    let endpoints = ports.endpoints.as_slice();
+    let workers = ports.workers.as_slice();
+    3 + endpoints.len() as u64 + workers.len() as u64
+}
+
+// Tells that the calls of all ports are so many.
+#[tactic(auto, using(crate::proofs::Sums::calls_append))]
+fn adds_up(calls: u64, ports: &Ports) -> bool
+    ensures yes { result ≡ true → calls_of (seats_of ports.now) ≡ calls }
+    ensures no { result ≡ false → calls_of (seats_of ports.now) ≡ calls → ⊥ }
+{
+    let Some(left) = left_of(calls, &ports.host) else {
+        return false;
+    };
+    let Some(left) = left_of(left, &ports.link) else {
+        return false;
+    };
+    let Some(left) = left_of(left, &ports.service) else {
+        return false;
+    };
+    let Some(left) = left_of_all(left, ports.endpoints.as_slice()) else {
+        return false;
+    };
+    let Some(left) = left_of_all(left, ports.workers.as_slice()) else {
+        return false;
+    };
+    left == 0
+}
+
+// How many calls are left without those of a port, if it hasn't more.
+fn left_of(calls: u64, port: &Port) -> Option<u64>
+    ensures some { IfSome result (λ left. left + length port.now.receipts ≡ calls) }
+    ensures none { IfNone result (calls < length port.now.receipts) }
+{
+    calls.checked_sub(port.calls())
+}
+
+// How many calls are left without those of several ports, if they haven't more.
+fn left_of_all(calls: u64, ports: &[Port]) -> Option<u64>
+    ensures some { IfSome result (λ left. left + calls_of ports.now ≡ calls) }
+    ensures none { IfNone result (calls < calls_of ports.now) }
+{
+    let mut left = calls;
+    for port in ports {
+        let Some(rest) = left_of(left, port) else {
+            return None;
+        };
+        left = rest;
+    }
+    Some(left)
+}
+
+// Tells that the entry is the one that a receipt of this port tells of.
+fn is_told(entry: &Entry, port: u64, receipt: &Receipt) -> bool
+    ensures yes { result ≡ true → entry.now ≡ entry_told port receipt.now }
+    ensures no { result ≡ false → entry.now ≡ entry_told port receipt.now → ⊥ }
+{
+    entry.port == port
+        && is_same_step(&entry.step, &receipt.step)
+        && is_same_answer(&entry.answer, &receipt.answer)
+}
+
+// Tells that two steps are the same.
+fn is_same_step(one: &Step, other: &Step) -> bool
+    ensures yes { result ≡ true → one.now ≡ other.now }
+    ensures no { result ≡ false → one.now ≡ other.now → ⊥ }
+{
+    one == other
+}
+
+// Tells that two answers are the same.
+fn is_same_answer(one: &Result<Answer, Refusal>, other: &Result<Answer, Refusal>) -> bool
+    ensures yes { result ≡ true → one.now ≡ other.now }
+    ensures no { result ≡ false → one.now ≡ other.now → ⊥ }
+{
+    match (one, other) {
+        (Ok(one), Ok(other)) => is_answer(one, other),
+        (Err(one), Err(other)) => one == other,
+        _ => false,
+    }
+}
+
+// Tells that two answers of accepted steps are the same.
+fn is_answer(one: &Answer, other: &Answer) -> bool
+    ensures yes { result ≡ true → one.now ≡ other.now }
+    ensures no { result ≡ false → one.now ≡ other.now → ⊥ }
+{
+    one == other
+}

@@ -6,7 +6,7 @@ use Rattle.std.proofs.lemmas.Bool.{or_parts}
 use Rattle.std.proofs.lemmas.List.Quantifiers.{position-Some}
 use Rattle.sva_step.specs.declared.refusals.Refusal.{Refusal}
 use Rattle.sva_endpoint.specs.Tables.{Tables}
-use Rattle.sva_endpoint.specs.Steps.{unless}
+use Rattle.sva_model.specs.Refusals.{unless_refused}
 use Rattle.sva_endpoint.specs.Calls.{Call, is_permitted, after, run, ArePermitted}
 
 -- no cause holds
@@ -14,12 +14,12 @@ abbrev pub AreClear : List (Bool × Refusal) → Type 0
 AreClear [] = Unit {0}
 AreClear (cause ∷ causes) = (cause.0 ≡ false) × AreClear causes
 
-pub are_clear : {A : Type 0} (causes : List (Bool × Refusal)) (answer : A) → is_ok (unless causes answer) ≡ true → AreClear causes
+pub are_clear : {A : Type 0} (causes : List (Bool × Refusal)) (answer : A) → is_ok (unless_refused causes answer) ≡ true → AreClear causes
 are_clear [] answer ok = tt
 are_clear {A} (cause ∷ causes) answer ok = by cause.0 refl ok (λ later. are_clear causes answer later)
   where
-    by : (b : Bool) → cause.0 ≡ b → is_ok (cond {A = Result A Refusal} b (Err cause.1) (unless causes answer)) ≡ true
-        → (is_ok (unless causes answer) ≡ true → AreClear causes) → AreClear (cause ∷ causes)
+    by : (b : Bool) → cause.0 ≡ b → is_ok (cond {A = Result A Refusal} b (Err cause.1) (unless_refused causes answer)) ≡ true
+        → (is_ok (unless_refused causes answer) ≡ true → AreClear causes) → AreClear (cause ∷ causes)
     by true is given rest = absurd (cc)
     by false is given rest = (is, rest given)
 

@@ -10,8 +10,8 @@ use Rattle.std.proofs.lemmas.List.Quantifiers.{position-Some}
 use Rattle.sva_msg.specs.declared.messages.Kind.{Kind}
 use Rattle.sva_msg.specs.declared.messages.Kind.TheVariants.{Reset, Response}
 use Rattle.sva_tables.specs.declared.groups.GroupPlace.{GroupPlace}
-use Rattle.sva_tables.specs.declared.groups.GroupPlace.TheVariants.{Free, Unfinished, Out, Stale}
-use Rattle.sva_tables.specs.Groups.{group_at, is_free, is_unfinished, group_of, with_request, stale_of}
+use Rattle.sva_tables.specs.declared.groups.GroupPlace.TheVariants.{Free, Collecting, Out, Stale}
+use Rattle.sva_tables.specs.Groups.{group_at, is_free, is_collecting, group_of, with_request, stale_of}
 use Rattle.sva_endpoint.specs.declared.permitted.Fault.{Fault}
 use Rattle.sva_endpoint.specs.Tables.{Tables}
 use Rattle.sva_endpoint.specs.Steps.{refusals_of_fault, is_of_group, index_for, group_after}
@@ -32,7 +32,7 @@ lowest_index groups = by (nat_lt (position_or_len is_free groups) (length groups
 -- a fact of an index that is taken, which lasts when the group goes on and when it becomes stale, lasts until the group
 -- ends
 module _ (index : ℕ) (Q : GroupPlace → Type 0) (taken : (place : GroupPlace) → Q place → is_free place ≡ false)
-    (goes_on : (pasid : ℕ) (last : Bool) (place : GroupPlace) → is_unfinished pasid place ≡ true → Q place → Q (with_request last place))
+    (goes_on : (pasid : ℕ) (last : Bool) (place : GroupPlace) → is_collecting pasid place ≡ true → Q place → Q (with_request last place))
     (stays : (pasid : ℕ) (place : GroupPlace) → Q place → Q (stale_of pasid place)) where
   received : (s : Tables) (kind : Kind) → ends_group index kind ≡ false → Q (group_at s.groups index) → Q (group_at (after_receive s kind).groups index)
   received s Reset goes q = absurd (cc)
@@ -64,7 +64,7 @@ module _ (index : ℕ) (Q : GroupPlace → Type 0) (taken : (place : GroupPlace)
       (taken (group_at s.groups index) q))
   requested s fault (Some other) of q =
       written s.groups other (with_request fault.last (group_at s.groups other)) q
-      (λ same. goes_on fault.pasid fault.last (group_at s.groups other) (passes (is_unfinished fault.pasid (group_at s.groups other)) of)
+      (λ same. goes_on fault.pasid fault.last (group_at s.groups other) (passes (is_collecting fault.pasid (group_at s.groups other)) of)
       (subst (λ k. Q (group_at s.groups k)) (sym same) q))
     where
       passes : (b : Bool) → not b ≡ false → b ≡ true
@@ -94,7 +94,7 @@ stale_groups_stay s index pasid requests calls permitted none stale =
 
 is_group-taken : (pasid requests : ℕ) (place : GroupPlace) → is_group pasid requests place ≡ true → is_free place ≡ false
 is_group-taken pasid requests Free is = absurd (cc)
-is_group-taken pasid requests (Unfinished sender sent) is = refl
+is_group-taken pasid requests (Collecting sender sent) is = refl
 is_group-taken pasid requests (Out sender sent) is = refl
 is_group-taken pasid requests (Stale sender sent) is = refl
 
@@ -115,7 +115,7 @@ is_group-group_of pasid requests sender sent last is = by last
 is_group-with_request : (pasid requests : ℕ) (last : Bool) (place : GroupPlace) → is_group pasid requests place ≡ true
     → is_group pasid requests (with_request last place) ≡ true
 is_group-with_request pasid requests last Free is = is
-is_group-with_request pasid requests last (Unfinished sender sent) is = is_group-group_of pasid requests sender sent last is
+is_group-with_request pasid requests last (Collecting sender sent) is = is_group-group_of pasid requests sender sent last is
 is_group-with_request pasid requests last (Out sender sent) is = is
 is_group-with_request pasid requests last (Stale sender sent) is = is
 
@@ -127,7 +127,7 @@ is_group-cond false pasid requests sender sent is = is
 is_group-stale_of : (pasid requests quit : ℕ) (place : GroupPlace) → is_group pasid requests place ≡ true
     → is_group pasid requests (stale_of quit place) ≡ true
 is_group-stale_of pasid requests quit Free is = is
-is_group-stale_of pasid requests quit (Unfinished sender sent) is = is
+is_group-stale_of pasid requests quit (Collecting sender sent) is = is
 is_group-stale_of pasid requests quit (Out sender sent) is = is_group-cond (sender == quit) pasid requests sender sent is
 is_group-stale_of pasid requests quit (Stale sender sent) is = is
 

@@ -21,7 +21,8 @@ use Rattle.sva_tables.specs.UseSlots.{slot_at, runs_covered}
 use Rattle.sva_itags.specs.Vector.{is_named}
 use Rattle.sva_tables.specs.Taken.{waits, are_pending, is_one_waiting, without_note}
 use Rattle.sva_endpoint.specs.Tables.{Tables}
-use Rattle.sva_endpoint.specs.Steps.{unless, finishing}
+use Rattle.sva_endpoint.specs.Steps.{finishing}
+use Rattle.sva_model.specs.Refusals.{unless_refused}
 use Rattle.sva_endpoint.specs.Deliveries.{after_receive, after_invalidate}
 use Rattle.sva_endpoint.specs.Calls.{Call, EndUse, Finish, Receive, after, run}
 use Rattle.sva_endpoint.specs.Laws.{takes_itag, is_noted, is_end_of_use, ends_taking, NotesExactly, NamesAlone, InUseExactly}
@@ -132,14 +133,14 @@ not_of false is = refl
 
 -- which of three causes is the first
 second : {A : Type 0} (pending waiting count : Bool) (answer : A)
-    → ◌≡◌ {A = Result A Refusal} (unless ((pending, NotPending) ∷ (waiting, InUse) ∷ (count, BadCount) ∷ []) answer) (Err InUse) → waiting ≡ true
+    → ◌≡◌ {A = Result A Refusal} (unless_refused ((pending, NotPending) ∷ (waiting, InUse) ∷ (count, BadCount) ∷ []) answer) (Err InUse) → waiting ≡ true
 second true waiting count answer is = absurd (cc)
 second false true count answer is = refl
 second false false true answer is = absurd (cc)
 second false false false answer is = absurd (cc)
 
 first_of : {A : Type 0} (pending waiting count : Bool) (answer : A) → pending ≡ false → waiting ≡ true
-    → ◌≡◌ {A = Result A Refusal} (unless ((pending, NotPending) ∷ (waiting, InUse) ∷ (count, BadCount) ∷ []) answer) (Err InUse)
+    → ◌≡◌ {A = Result A Refusal} (unless_refused ((pending, NotPending) ∷ (waiting, InUse) ∷ (count, BadCount) ∷ []) answer) (Err InUse)
 first_of true waiting count answer none one = absurd (cc)
 first_of false true count answer none one = refl
 first_of false false count answer none one = absurd (cc)

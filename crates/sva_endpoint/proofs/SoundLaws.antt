@@ -22,7 +22,7 @@ use Rattle.sva_tables.specs.declared.use_slots.UseSlot.{UseSlot}
 use Rattle.sva_tables.specs.declared.use_slots.UseSlot.TheVariants.{Free as FreeSlot, Running, Dead}
 use Rattle.sva_tables.specs.declared.taken_table.Taken.{Taken}
 use Rattle.sva_tables.specs.declared.groups.GroupPlace.{GroupPlace}
-use Rattle.sva_tables.specs.declared.groups.GroupPlace.TheVariants.{Free as NoGroup, Unfinished, Out as GroupOut, Stale}
+use Rattle.sva_tables.specs.declared.groups.GroupPlace.TheVariants.{Free as NoGroup, Collecting, Out as GroupOut, Stale}
 use Rattle.sva_endpoint.specs.declared.permitted.Fault.{Fault}
 use Rattle.sva_cache.specs.Coverage.{covers, extent_of}
 use Rattle.sva_cache.specs.Cache.{Key, Translations, key_cmp, key_cmp_total, has_room_for}
@@ -170,7 +170,7 @@ cached_after s _ h = h
 
 requests_of-with_request-le : (last : Bool) (place : GroupPlace) → requests_of (with_request last place) ≤ requests_of place + 1
 requests_of-with_request-le last NoGroup = omega arith
-requests_of-with_request-le last (Unfinished pasid requests) = let same = requests_of-group_of pasid (requests + 1) last in omega arith
+requests_of-with_request-le last (Collecting pasid requests) = let same = requests_of-group_of pasid (requests + 1) last in omega arith
 requests_of-with_request-le last (GroupOut pasid requests) = omega arith
 requests_of-with_request-le last (Stale pasid requests) = omega arith
 

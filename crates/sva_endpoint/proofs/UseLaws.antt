@@ -9,7 +9,8 @@ use Rattle.sva_tables.specs.declared.use_slots.UseSlot.{UseSlot}
 use Rattle.sva_tables.specs.declared.use_slots.UseSlot.TheVariants.{Free, Running, Dead}
 use Rattle.sva_tables.specs.UseSlots.{slot_at, is_free, cut_off}
 use Rattle.sva_endpoint.specs.Tables.{Tables}
-use Rattle.sva_endpoint.specs.Steps.{unless, lowest_slot, refusals_of_use, end_of}
+use Rattle.sva_endpoint.specs.Steps.{lowest_slot, refusals_of_use, end_of}
+use Rattle.sva_model.specs.Refusals.{unless_refused}
 use Rattle.sva_endpoint.specs.Deliveries.{after_receive}
 use Rattle.sva_endpoint.specs.Calls.{Call, BeginUse, EndUse, Receive, is_permitted, after}
 use Rattle.sva_endpoint.specs.Laws.{is_end_of_use, DeadUsesStay, ResetsEndUses}
@@ -49,4 +50,4 @@ pub resets_end_uses : ResetsEndUses
 resets_end_uses s slot calls taken permitted none =
     let start : slot_at (after s (Receive Reset)).uses slot ≡ Dead = get_or-map cut_off s.uses slot Free ∙ cut (slot_at s.uses slot) taken in
     let end = dead_uses_stay (after s (Receive Reset)) slot calls permitted none start in
-    (end, ap (λ place. unless ((is_free place, NoSuchUse) ∷ []) (end_of place)) end)
+    (end, ap (λ place. unless_refused ((is_free place, NoSuchUse) ∷ []) (end_of place)) end)

@@ -16,7 +16,7 @@ use Rattle.sva_tables.specs.declared.use_slots.Use.{Use}
 use Rattle.sva_tables.specs.declared.use_slots.UseSlot.TheVariants.{Running, Dead as DeadUse}
 use Rattle.sva_tables.specs.declared.taken_table.Taken.{Taken}
 use Rattle.sva_tables.specs.declared.groups.GroupPlace.{GroupPlace}
-use Rattle.sva_tables.specs.declared.groups.GroupPlace.TheVariants.{Free as NoGroup, Unfinished, Out as GroupOut, Stale}
+use Rattle.sva_tables.specs.declared.groups.GroupPlace.TheVariants.{Free as NoGroup, Collecting, Out as GroupOut, Stale}
 use Rattle.sva_cache.specs.Coverage.{covers, extent_of}
 use Rattle.sva_tables.specs.PasidStates.{state_of}
 use Rattle.sva_tables.specs.RequestTags.{request_at}
@@ -191,7 +191,7 @@ StaleGroupsStay = (s : Tables) (index pasid requests : ℕ) (calls : List Call) 
 -- is it a group of this PASID, with so many requests at least?
 abbrev pub is_group : ℕ → ℕ → GroupPlace → Bool
 is_group pasid requests NoGroup = false
-is_group pasid requests (Unfinished sender sent) = (sender == pasid) && nat_le requests sent
+is_group pasid requests (Collecting sender sent) = (sender == pasid) && nat_le requests sent
 is_group pasid requests (GroupOut sender sent) = (sender == pasid) && nat_le requests sent
 is_group pasid requests (Stale sender sent) = (sender == pasid) && nat_le requests sent
 

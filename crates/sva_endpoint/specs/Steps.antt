@@ -9,6 +9,7 @@ use Rattle.sva_step.specs.declared.refusals.Refusal.TheVariants.{NoSuchGroup, Pr
 use Rattle.sva_step.specs.declared.answers.Answer.{Answer}
 use Rattle.sva_step.specs.declared.answers.Answer.TheVariants.{Ended, Dead}
 use Rattle.sva_model.specs.Acts.{count_field}
+use Rattle.sva_model.specs.Refusals.{Cause, unless_refused}
 use Rattle.sva_msg.specs.declared.messages.Kind.{Kind}
 use Rattle.sva_msg.specs.declared.messages.Kind.TheVariants.{Request, Invalidated, PageRequest, Marker}
 use Rattle.sva_tables.specs.declared.pasid_states.PasidState.{PasidState}
@@ -27,13 +28,8 @@ use Rattle.sva_tables.specs.PasidStates.{state_of, with_state, is_on, is_stoppin
 use Rattle.sva_tables.specs.RequestTags.{is_free as is_free_tag, asks_under}
 use Rattle.sva_tables.specs.UseSlots.{is_free as is_free_slot, slot_at, runs_under}
 use Rattle.sva_tables.specs.Taken.{are_pending, is_one_waiting, without_named, without_note}
-use Rattle.sva_tables.specs.Groups.{is_free as is_free_index, is_unfinished, group_at, group_of, with_request, stale_of, outstanding}
+use Rattle.sva_tables.specs.Groups.{is_free as is_free_index, is_collecting, group_at, group_of, with_request, stale_of, outstanding}
 use Rattle.sva_endpoint.specs.Tables.{Tables}
-
--- the answer, unless a cause holds: then the refusal of the first that does
-abbrev pub unless : {A : Type 0} → List (Bool × Refusal) → A → Result A Refusal
-unless [] answer = Ok answer
-unless (cause ∷ causes) answer = if cause.0 then Err cause.1 else unless causes answer
 
 -- the number of a page is below 2^36
 abbrev pub is_beyond : ℕ → Bool
@@ -44,13 +40,13 @@ is_beyond page = not (nat_lt page (2 ^ 36))
 abbrev pub lowest_tag : Tables → ℕ
 lowest_tag s = position_or_len is_free_tag s.tags
 
-abbrev pub refusals_of_ask : Tables → ℕ → ℕ → List (Bool × Refusal)
+abbrev pub refusals_of_ask : Tables → ℕ → ℕ → List Cause
 refusals_of_ask s pasid page =
     (is_beyond page, PageRange) ∷ (not (is_on (state_of s.pasids pasid)), NotStarted) ∷ (is_none (position is_free_tag s.tags), NoTag) ∷ []
 
 abbrev pub asking : Tables → ℕ → ℕ → Result Asking Refusal
 asking s pasid page =
-    unless (refusals_of_ask s pasid page)
+    unless_refused (refusals_of_ask s pasid page)
     (record { tag = lowest_tag s; kind = Request (lowest_tag s) pasid page })
 
 abbrev pub after_ask : Tables → ℕ → ℕ → Tables
@@ -65,14 +61,14 @@ lowest_slot s = position_or_len is_free_slot s.uses
 abbrev pub translation_at : Tables → ℕ → ℕ → Translation
 translation_at s pasid page = unwrap_or (get s.cache (pasid, page)) (record { frame = 0; write = false })
 
-abbrev pub refusals_of_use : Tables → ℕ → ℕ → Bool → List (Bool × Refusal)
+abbrev pub refusals_of_use : Tables → ℕ → ℕ → Bool → List Cause
 refusals_of_use s pasid page write =
     (is_beyond page, PageRange) ∷ (not (is_on (state_of s.pasids pasid)), NotStarted) ∷ (is_none (get s.cache (pasid, page)), NotHeld)
     ∷ (write && not (translation_at s pasid page).write, ReadOnly) ∷ (is_none (position is_free_slot s.uses), NoUseSlot) ∷ []
 
 abbrev pub using : Tables → ℕ → ℕ → Bool → Result Using Refusal
 using s pasid page write =
-    unless (refusals_of_use s pasid page write)
+    unless_refused (refusals_of_use s pasid page write)
     (record { slot = lowest_slot s; frame = (translation_at s pasid page).frame })
 
 -- a use has the write flag of its translation, whatever the step asked
@@ -89,22 +85,22 @@ end_of FreeSlot = Ended
 end_of (Running running) = Ended
 end_of DeadUse = Dead
 
-abbrev pub refusals_of_end : Tables → ℕ → List (Bool × Refusal)
+abbrev pub refusals_of_end : Tables → ℕ → List Cause
 refusals_of_end s slot = (is_free_slot (slot_at s.uses slot), NoSuchUse) ∷ []
 
 abbrev pub ending : Tables → ℕ → Result Answer Refusal
-ending s slot = unless (refusals_of_end s slot) (end_of (slot_at s.uses slot))
+ending s slot = unless_refused (refusals_of_end s slot) (end_of (slot_at s.uses slot))
 
 abbrev pub after_end_use : Tables → ℕ → Tables
 after_end_use s slot = record s { uses = slice_set s.uses slot FreeSlot; taken = map (without_note slot) s.taken }
 
 -- ---- to let go of a cached translation
 
-abbrev pub refusals_of_evict : Tables → ℕ → ℕ → List (Bool × Refusal)
+abbrev pub refusals_of_evict : Tables → ℕ → ℕ → List Cause
 refusals_of_evict s pasid page = (is_beyond page, PageRange) ∷ (is_none (get s.cache (pasid, page)), NotHeld) ∷ []
 
 abbrev pub evicting : Tables → ℕ → ℕ → Result (Unit {0}) Refusal
-evicting s pasid page = unless (refusals_of_evict s pasid page) tt
+evicting s pasid page = unless_refused (refusals_of_evict s pasid page) tt
 
 abbrev pub after_evict : Tables → ℕ → ℕ → Tables
 after_evict s pasid page = record s { cache = remove s.cache (pasid, page) }
@@ -118,13 +114,13 @@ may_send (Some index) state = not (is_off state)
 
 abbrev pub is_of_group : Tables → ℕ → Option ℕ → Bool
 is_of_group s pasid None = true
-is_of_group s pasid (Some index) = is_unfinished pasid (group_at s.groups index)
+is_of_group s pasid (Some index) = is_collecting pasid (group_at s.groups index)
 
 abbrev pub index_for : Tables → Option ℕ → ℕ
 index_for s None = position_or_len is_free_index s.groups
 index_for s (Some index) = index
 
-abbrev pub refusals_of_fault : Tables → Fault → List (Bool × Refusal)
+abbrev pub refusals_of_fault : Tables → Fault → List Cause
 refusals_of_fault s fault =
     (is_beyond fault.page, PageRange) ∷ (not (may_send fault.group (state_of s.pasids fault.pasid)), NotStarted)
     ∷ (not (nat_lt (outstanding s.groups) 32), NoCredit) ∷ (not (is_of_group s fault.pasid fault.group), NoSuchGroup)
@@ -132,7 +128,7 @@ refusals_of_fault s fault =
 
 abbrev pub faulting : Tables → Fault → Result Faulting Refusal
 faulting s fault =
-    unless (refusals_of_fault s fault)
+    unless_refused (refusals_of_fault s fault)
     (record {
       index = index_for s fault.group;
       kind = PageRequest (record {
@@ -155,14 +151,14 @@ after_fault s fault = record s { groups = slice_set s.groups (index_for s fault.
 
 -- ---- to complete invalidations
 
-abbrev pub refusals_of_finish : Tables → ℕ → ℕ → List (Bool × Refusal)
+abbrev pub refusals_of_finish : Tables → ℕ → ℕ → List Cause
 refusals_of_finish s vector count =
     ((vector == 0) || not (are_pending vector s.taken), NotPending) ∷ (is_one_waiting vector s.taken, InUse)
     ∷ ((count == 0) || nat_lt 8 count, BadCount) ∷ []
 
 abbrev pub finishing : Tables → ℕ → ℕ → Result Finishing Refusal
 finishing s vector count =
-    unless (refusals_of_finish s vector count)
+    unless_refused (refusals_of_finish s vector count)
     (record { count = count; kind = Invalidated vector (count_field count) })
 
 abbrev pub after_finish : Tables → ℕ → Tables
@@ -171,13 +167,13 @@ after_finish s vector = record s { taken = without_named vector s.taken }
 -- ---- to stop using a PASID
 
 abbrev pub is_busy : Tables → ℕ → Bool
-is_busy s pasid = list_any (is_unfinished pasid) s.groups || (list_any (asks_under pasid) s.tags || list_any (runs_under pasid) s.uses)
+is_busy s pasid = list_any (is_collecting pasid) s.groups || (list_any (asks_under pasid) s.tags || list_any (runs_under pasid) s.uses)
 
-abbrev pub refusals_of_quit : Tables → ℕ → List (Bool × Refusal)
+abbrev pub refusals_of_quit : Tables → ℕ → List Cause
 refusals_of_quit s pasid = (not (is_stopping (state_of s.pasids pasid)), NotStopping) ∷ (is_busy s pasid, Busy) ∷ []
 
 abbrev pub quitting : Tables → ℕ → Result Kind Refusal
-quitting s pasid = unless (refusals_of_quit s pasid) (Marker pasid)
+quitting s pasid = unless_refused (refusals_of_quit s pasid) (Marker pasid)
 
 abbrev pub after_quit : Tables → ℕ → Tables
 after_quit s pasid = record s { pasids = with_state s.pasids pasid Off; groups = map (stale_of pasid) s.groups }

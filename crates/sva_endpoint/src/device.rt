@@ -311,7 +311,7 @@ impl Endpoint {
         if !self.pasids.state_of(pasid).is_stopping() {
             return Err(Refusal::NotStopping);
         }
-        if self.groups.is_unfinished(pasid)
+        if self.groups.is_collecting(pasid)
             || self.tags.asks_under(pasid)
             || self.uses.runs_under(pasid)
         {
@@ -465,7 +465,7 @@ impl Endpoint {
         }
         match self.groups.free(index) {
             GroupPlace::Stale { .. } => Answer::Stale,
-            GroupPlace::Free | GroupPlace::Unfinished { .. } | GroupPlace::Out { .. } =>
+            GroupPlace::Free | GroupPlace::Collecting { .. } | GroupPlace::Out { .. } =>
                 Answer::Answered,
         }
     }

@@ -7,7 +7,7 @@ use Rattle.sva_step.specs.declared.answers.Answer.TheVariants as answer
 use Rattle.sva_step.specs.declared.refusals.Refusal.{Refusal}
 use Rattle.sva_step.specs.declared.refusals.Refusal.TheVariants as refusal
 use Rattle.sva_step.specs.declared.steps.Step.TheVariants as step
-use Rattle.sva_model.specs.Refusals.{Cause}
+use Rattle.sva_model.specs.Refusals.{Cause, unless_refused}
 use Rattle.sva_model.specs.Wire.{Wire, BindingWire, UnitWire, StageWire, HostGroupWire, Descriptor}
 use Rattle.sva_model.specs.Wire.StageWire.{LiveWire, StoppingWire, DrainingWire, InvalidatingWire, QuietWire, LostWire}
 use Rattle.sva_labels.specs.Finding.{idle, part_of, unit_of, binding_of, is_wait_done, has_room, has_open_group}
@@ -20,7 +20,6 @@ use Rattle.sva_labels.specs.Outcomes.{of_binding, result_of}
 use Rattle.sva_labels.specs.Sound.{IsSound}
 use Rattle.sva_pasid.specs.Moves.{Kind}
 use Rattle.sva_pasid.specs.declared.places.Place.{Place}
-use Rattle.sva_endpoint.specs.Steps.{unless}
 use Rattle.sva_unit.specs.Seen as seen
 use Rattle.sva_host.specs.declared.advancing.Course.{Course}
 use Rattle.sva_host.specs.declared.advancing.Course.TheVariants.{Drain, Invalidate, Settle, Release}
@@ -51,8 +50,8 @@ none_open host v e n view =
 -- What refuses it.
 
 there : (v : Wire) (n : ℕ) (b : BindingWire) → binding_of v n ≡ Some b
-    → unless (causes_of v (step.Advance n)) (course_of (binding_of v n)) ≡ unless (causes.advance_by v b b.stage) (course_by b b.stage)
-there v n b found = ap (λ (o : Option BindingWire). unless (advance_causes v o) (course_of o)) found
+    → unless_refused (causes_of v (step.Advance n)) (course_of (binding_of v n)) ≡ unless_refused (causes.advance_by v b b.stage) (course_by b b.stage)
+there v n b found = ap (λ (o : Option BindingWire). unless_refused (advance_causes v o) (course_of o)) found
 
 -- what is asked where the unit is open
 abbrev opened_causes : Wire → BindingWire → StageWire → List Cause
@@ -76,19 +75,19 @@ is_asked v b QuietWire is = absurd (cc (is))
 is_asked v b LostWire is = refl
 
 opened : (v : Wire) (n : ℕ) (b : BindingWire) → binding_of v n ≡ Some b → is_quiet b.stage ≡ false → (unit_of v b.endpoint).is_open ≡ true
-    → unless (causes_of v (step.Advance n)) (course_of (binding_of v n)) ≡ unless (opened_causes v b b.stage) (course_by b b.stage)
+    → unless_refused (causes_of v (step.Advance n)) (course_of (binding_of v n)) ≡ unless_refused (opened_causes v b b.stage) (course_by b b.stage)
 opened v n b found stays is_open =
     there v n b found
-    ∙ ap (λ (cs : List Cause). unless cs (course_by b b.stage)) (is_asked v b b.stage stays)
-    ∙ ap (λ (c : Bool). if not c then Err refusal.Resetting else unless (opened_causes v b b.stage) (course_by b b.stage)) is_open
+    ∙ ap (λ (cs : List Cause). unless_refused cs (course_by b b.stage)) (is_asked v b b.stage stays)
+    ∙ ap (λ (c : Bool). if not c then Err refusal.Resetting else unless_refused (opened_causes v b b.stage) (course_by b b.stage)) is_open
 
 pub no_such_binding : (v : Wire) (n : ℕ) → binding_of v n ≡ None → MayAdvance v n (Err refusal.NoSuchBinding)
-no_such_binding v n none = sym (ap (λ (o : Option BindingWire). unless (advance_causes v o) (course_of o)) none)
+no_such_binding v n none = sym (ap (λ (o : Option BindingWire). unless_refused (advance_causes v o) (course_of o)) none)
 
 pub quiet_goes : (v : Wire) (n : ℕ) (b : BindingWire) → binding_of v n ≡ Some b → is_quiet b.stage ≡ true → MayAdvance v n (Ok (course_by b b.stage))
 quiet_goes v n b found quiet = sym (there v n b found ∙ go b.stage quiet)
   where
-    go : (s : StageWire) → is_quiet s ≡ true → unless (causes.advance_by v b s) (course_by b s) ≡ Ok (course_by b s)
+    go : (s : StageWire) → is_quiet s ≡ true → unless_refused (causes.advance_by v b s) (course_by b s) ≡ Ok (course_by b s)
     go QuietWire is = refl
     go LiveWire is = absurd (cc (is))
     go (StoppingWire marked) is = absurd (cc (is))
@@ -101,16 +100,17 @@ pub in_reset : (v : Wire) (n : ℕ) (b : BindingWire) → binding_of v n ≡ Som
 in_reset v n b found stays closed =
     sym
     (there v n b found
-    ∙ ap (λ (cs : List Cause). unless cs (course_by b b.stage)) (is_asked v b b.stage stays)
+    ∙ ap (λ (cs : List Cause). unless_refused cs (course_by b b.stage)) (is_asked v b b.stage stays)
     ∙ refuses (course_by b b.stage) [] (opened_causes v b b.stage) (resetting v b.endpoint) tt (ap not closed))
 
 pub not_yet : (v : Wire) (n : ℕ) (b : BindingWire) → binding_of v n ≡ Some b → is_quiet b.stage ≡ false → (unit_of v b.endpoint).is_open ≡ true
     → is_due (unit_of v b.endpoint) b.stage ≡ false → MayAdvance v n (Err refusal.NotYet)
 not_yet v n b found stays is_open early = sym (opened v n b found stays is_open ∙ go b.stage stays early)
   where
-    go : (s : StageWire) → is_quiet s ≡ false → is_due (unit_of v b.endpoint) s ≡ false → unless (opened_causes v b s) (course_by b s) ≡ Err refusal.NotYet
+    go : (s : StageWire) → is_quiet s ≡ false → is_due (unit_of v b.endpoint) s ≡ false → unless_refused (opened_causes v b s) (course_by b s)
+        ≡ Err refusal.NotYet
     go LiveWire stays is = refl
-    go (StoppingWire marked) stays is = ap (λ (m : Bool). unless (opened_causes v b (StoppingWire m)) (Drain b.endpoint)) is
+    go (StoppingWire marked) stays is = ap (λ (m : Bool). unless_refused (opened_causes v b (StoppingWire m)) (Drain b.endpoint)) is
     go (DrainingWire cookie) stays is =
         refuses (Invalidate b.endpoint b.pasid) [] ((not (has_room (unit_of v b.endpoint) 2), refusal.QueueFull) ∷ numbers_spent v.next_cookie 1 ∷ [])
         (not (is_wait_done (unit_of v b.endpoint) cookie) || has_open_group (part_of v b.endpoint) b.binding, refusal.NotYet) tt
@@ -125,7 +125,7 @@ pub settles_next : (v : Wire) (n : ℕ) (b : BindingWire) → binding_of v n ≡
 settles_next v n b found stays is_open due none = sym (opened v n b found stays is_open ∙ go b.stage stays due none)
   where
     go : (s : StageWire) → is_quiet s ≡ false → is_due (unit_of v b.endpoint) s ≡ true → descriptors_of s ≡ 0
-        → unless (opened_causes v b s) (course_by b s) ≡ Ok (course_by b s)
+        → unless_refused (opened_causes v b s) (course_by b s) ≡ Ok (course_by b s)
     go LiveWire stays is none = absurd (cc (is))
     go (StoppingWire marked) stays is none = absurd (omega (arith, none))
     go (DrainingWire cookie) stays is none = absurd (omega (arith, none))
@@ -139,15 +139,16 @@ submitting w e k = (not (has_room (unit_of w e) k), refusal.QueueFull) ∷ numbe
 
 submits_next : (v : Wire) (n : ℕ) (b : BindingWire) → binding_of v n ≡ Some b → is_quiet b.stage ≡ false → (unit_of v b.endpoint).is_open ≡ true
     → is_due (unit_of v b.endpoint) b.stage ≡ true → (descriptors_of b.stage ≡ 0 → ⊥) → has_open_group (part_of v b.endpoint) b.binding ≡ false
-    → unless (causes_of v (step.Advance n)) (course_of (binding_of v n)) ≡ unless (submitting v b.endpoint (descriptors_of b.stage)) (course_by b b.stage)
+    → unless_refused (causes_of v (step.Advance n)) (course_of (binding_of v n))
+        ≡ unless_refused (submitting v b.endpoint (descriptors_of b.stage)) (course_by b b.stage)
 submits_next v n b found stays is_open due some closed = opened v n b found stays is_open ∙ go b.stage due some
   where
     go : (s : StageWire) → is_due (unit_of v b.endpoint) s ≡ true → (descriptors_of s ≡ 0 → ⊥)
-        → unless (opened_causes v b s) (course_by b s) ≡ unless (submitting v b.endpoint (descriptors_of s)) (course_by b s)
+        → unless_refused (opened_causes v b s) (course_by b s) ≡ unless_refused (submitting v b.endpoint (descriptors_of s)) (course_by b s)
     go LiveWire is some = absurd (some refl)
-    go (StoppingWire marked) is some = ap (λ (m : Bool). unless (opened_causes v b (StoppingWire m)) (Drain b.endpoint)) is
+    go (StoppingWire marked) is some = ap (λ (m : Bool). unless_refused (opened_causes v b (StoppingWire m)) (Drain b.endpoint)) is
     go (DrainingWire cookie) is some =
-        λ i. if not (is i) || closed i then Err refusal.NotYet else unless (submitting v b.endpoint 2) (Invalidate b.endpoint b.pasid)
+        λ i. if not (is i) || closed i then Err refusal.NotYet else unless_refused (submitting v b.endpoint 2) (Invalidate b.endpoint b.pasid)
     go (InvalidatingWire cookie) is some = absurd (some refl)
     go QuietWire is some = absurd (some refl)
     go LostWire is some = absurd (some refl)
@@ -215,7 +216,7 @@ invalidate_stage : (b : BindingWire) (s : StageWire) (e t : ℕ) → course_by b
     × (b.pasid ≡ t)
 invalidate_stage b LiveWire e t is = absurd (cc (is))
 invalidate_stage b (StoppingWire m) e t is = absurd (cc (is))
-invalidate_stage b (DrainingWire cookie) e t is = let home : b.endpoint ≡ e = cc in let pasid : b.pasid ≡ t = cc in (cookie, refl, home, pasid)
+invalidate_stage b (DrainingWire cookie) e t is = let endpoint_of : b.endpoint ≡ e = cc in let pasid : b.pasid ≡ t = cc in (cookie, refl, endpoint_of, pasid)
 invalidate_stage b (InvalidatingWire cookie) e t is = absurd (cc (is))
 invalidate_stage b QuietWire e t is = absurd (cc (is))
 invalidate_stage b LostWire e t is = absurd (cc (is))
@@ -247,7 +248,7 @@ pub record GoesOn (v : Wire) (n : ℕ) (course : Course) : Type 0 where
 pub is_going : (v : Wire) (n : ℕ) (course : Course) → MayAdvance v n (Ok course) → GoesOn v n course
 is_going v n course may = go (binding_of v n) refl may
   where
-    go : (o : Option BindingWire) → binding_of v n ≡ o → Ok course ≡ unless (advance_causes v o) (course_of o) → GoesOn v n course
+    go : (o : Option BindingWire) → binding_of v n ≡ o → Ok course ≡ unless_refused (advance_causes v o) (course_of o) → GoesOn v n course
     go None is may = absurd (none may)
       where
         none : ◌≡◌ {A = Result Course Refusal} (Ok course) (Err refusal.NoSuchBinding) → ⊥
@@ -274,7 +275,7 @@ not_false false is = absurd (cc (is))
 pub record Submits (v : Wire) (n e k : ℕ) (stage : StageWire) (a : Answer) (m : Move) : Type 0 where
   pub binding : BindingWire
   pub found : binding_of v n ≡ Some binding
-  pub home : binding.endpoint ≡ e
+  pub endpoint_of : binding.endpoint ≡ e
   pub at : binding.stage ≡ stage
   pub is_open : (unit_of v e).is_open ≡ true
   pub room : has_room (unit_of v e) k ≡ true
@@ -285,18 +286,18 @@ pub drains : (v : Wire) (n e : ℕ) → MayAdvance v n (Ok (Drain e)) → Submit
 drains v n e may =
     let goes = is_going v n (Drain e) may in
     let b = goes.binding in
-    let (m, at, home) = drain_stage b b.stage e goes.course_is in
+    let (m, at, endpoint_of) = drain_stage b b.stage e goes.course_is in
     let clear = subst (λ (s : StageWire). AreClear (causes.advance_by v b s)) at goes.clear in
     record {
       binding = b;
       found = goes.found;
-      home = home;
+      endpoint_of = endpoint_of;
       at = at ∙ ap StoppingWire (not_false m clear.1.0);
-      is_open = ap (λ x. (unit_of v x).is_open) (sym home) ∙ not_false (unit_of v b.endpoint).is_open clear.0;
-      room = ap (λ x. has_room (unit_of v x) 1) (sym home) ∙ not_false (has_room (unit_of v b.endpoint) 1) clear.1.1.0;
+      is_open = ap (λ x. (unit_of v x).is_open) (sym endpoint_of) ∙ not_false (unit_of v b.endpoint).is_open clear.0;
+      room = ap (λ x. has_room (unit_of v x) 1) (sym endpoint_of) ∙ not_false (has_room (unit_of v b.endpoint) 1) clear.1.1.0;
       cookies = not_spent (2 ^ 63) v.next_cookie clear.1.1.1.0;
       decides = decided v n b (StoppingWire m) goes.found at goes.clear
-          ∙ (λ i. record { reply = Ok answer.Draining; moves = Move.Drain (home i) (number_is v n b goes.found i) ∷ [] });
+          ∙ (λ i. record { reply = Ok answer.Draining; moves = Move.Drain (endpoint_of i) (number_is v n b goes.found i) ∷ [] });
     }
 
 pub invalidates : (v : Wire) (n e t : ℕ) → MayAdvance v n (Ok (Invalidate e t)) → (c : ℕ)
@@ -304,19 +305,19 @@ pub invalidates : (v : Wire) (n e t : ℕ) → MayAdvance v n (Ok (Invalidate e 
 invalidates v n e t may =
     let goes = is_going v n (Invalidate e t) may in
     let b = goes.binding in
-    let (c, at, home, pasid) = invalidate_stage b b.stage e t goes.course_is in
+    let (c, at, endpoint_of, pasid) = invalidate_stage b b.stage e t goes.course_is in
     let clear = subst (λ (s : StageWire). AreClear (causes.advance_by v b s)) at goes.clear in (
       c,
       record {
         binding = b;
         found = goes.found;
-        home = home;
+        endpoint_of = endpoint_of;
         at = at;
-        is_open = ap (λ x. (unit_of v x).is_open) (sym home) ∙ not_false (unit_of v b.endpoint).is_open clear.0;
-        room = ap (λ x. has_room (unit_of v x) 2) (sym home) ∙ not_false (has_room (unit_of v b.endpoint) 2) clear.1.1.0;
+        is_open = ap (λ x. (unit_of v x).is_open) (sym endpoint_of) ∙ not_false (unit_of v b.endpoint).is_open clear.0;
+        room = ap (λ x. has_room (unit_of v x) 2) (sym endpoint_of) ∙ not_false (has_room (unit_of v b.endpoint) 2) clear.1.1.0;
         cookies = not_spent (2 ^ 63) v.next_cookie clear.1.1.1.0;
         decides = decided v n b (DrainingWire c) goes.found at goes.clear
-            ∙ (λ i. record { reply = Ok answer.Invalidating; moves = Move.Invalidate (home i) (number_is v n b goes.found i) (pasid i) ∷ [] });
+            ∙ (λ i. record { reply = Ok answer.Invalidating; moves = Move.Invalidate (endpoint_of i) (number_is v n b goes.found i) (pasid i) ∷ [] });
       },
     )
 
@@ -325,7 +326,7 @@ less_true : (a b : ℕ) → a < b → nat_lt a b ≡ true
 less_true a b h = grind (arith, nat_tests)
 
 pub home_is : (v : Wire) (n e k : ℕ) (stage : StageWire) (a : Answer) (m : Move) → IsSound v → Submits v n e k stage a m → e < length v.parts
-home_is v n e k stage a m sound is = subst (λ x. x < length v.parts) is.home (home_there v n is.binding sound is.found)
+home_is v n e k stage a m sound is = subst (λ x. x < length v.parts) is.endpoint_of (home_there v n is.binding sound is.found)
 
 pub port_for : (v : Wire) (n e k : ℕ) (stage : StageWire) (a : Answer) (m : Move) → IsSound v → Submits v n e k stage a m → PortFor v e (Ok e)
 port_for v n e k stage a m sound is = (refl, less_true e (length v.parts) (home_is v n e k stage a m sound is))

@@ -10,7 +10,7 @@ use Rattle.sva_step.specs.declared.steps.Step.TheVariants as step
 use Rattle.sva_model.specs.Acts.{disables}
 use Rattle.sva_model.specs.Range.{Range}
 use Rattle.sva_model.specs.State.{PasidState as DeviceState}
-use Rattle.sva_model.specs.Wire.{Wire, PartWire, DeviceWire, RequestWire, FlightWire}
+use Rattle.sva_model.specs.Wire.{Wire, EndpointWire, DeviceWire, RequestWire, FlightWire}
 use Rattle.sva_labels.specs.Finding.{device_of, unit_of, flight_of, may_deliver, holds_back, tag_at, group_at, idle}
 use Rattle.sva_labels.specs.Causes.{lacks, delivery_sends, deliver_causes}
 use Rattle.sva_labels.specs.Host.{Decision, checked, decide_of}
@@ -152,7 +152,7 @@ failure_same InvalidRequest = refl
 failure_same ResponseFailure = refl
 
 -- nothing is lost where the same is put back
-put_back : (parts : List PartWire) (e : ℕ) → parts ≡ slice_set parts e (slice_index_or parts e idle)
+put_back : (parts : List EndpointWire) (e : ℕ) → parts ≡ slice_set parts e (slice_index_or parts e idle)
 put_back [] e = refl
 put_back (p ∷ parts) zero = refl
 put_back (p ∷ parts) (suc e) = ap (λ ps. p ∷ ps) (put_back parts e)

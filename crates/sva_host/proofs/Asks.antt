@@ -5,7 +5,7 @@ use Rattle.sva_step.specs.declared.answers.Answer.TheVariants as answer
 use Rattle.sva_step.specs.declared.refusals.Refusal.{Refusal}
 use Rattle.sva_step.specs.declared.refusals.Refusal.TheVariants as refusal
 use Rattle.sva_step.specs.declared.steps.Step.TheVariants as step
-use Rattle.sva_model.specs.Refusals.{Cause, page_range}
+use Rattle.sva_model.specs.Refusals.{Cause, page_range, unless_refused}
 use Rattle.sva_model.specs.Wire.{DeviceWire}
 use Rattle.sva_labels.specs.Finding.{device_of, lowest_label}
 use Rattle.sva_labels.specs.Causes.{numbers_spent, not_started}
@@ -16,7 +16,7 @@ use Rattle.sva_msg.specs.declared.messages.Kind.{Kind}
 use Rattle.sva_msg.specs.declared.messages.Kind.TheVariants.{Request}
 use Rattle.sva_msg.specs.Bag.{InFlight}
 use Rattle.sva_endpoint.specs.declared.permitted.Asking.{Asking}
-use Rattle.sva_endpoint.specs.Steps.{unless, refusals_of_ask, asking, lowest_tag, after_ask}
+use Rattle.sva_endpoint.specs.Steps.{refusals_of_ask, asking, lowest_tag, after_ask}
 use Rattle.sva_views.proofs.Requests.{request_is_seen}
 use Rattle.sva_host.specs.declared.host.Host.TheInside.{Inside}
 use Rattle.sva_host.specs.declared.host.Port.{Port}
@@ -72,7 +72,7 @@ ask_done host e t q port a bag is allows sends =
     let same = given _ a (refusals_of_ask port.device t q) (sym allows) in
     let clear = all_clear (record { tag = lowest_tag port.device; kind = Request (lowest_tag port.device) t q }) a
     (listed (device_of (wire_of host) e) t q) (ap
-    (λ (cs : List Cause). unless cs (record { tag = lowest_tag port.device; kind = Request (lowest_tag port.device) t q }))
+    (λ (cs : List Cause). unless_refused cs (record { tag = lowest_tag port.device; kind = Request (lowest_tag port.device) t q }))
     (causes_seen host e t q port is) ∙ sym allows) in
     let tag = ap (λ (d : DeviceWire). lowest_label d.tags) device
     ∙ seen.tag (ap (λ (d : DeviceWire). is_none (lowest_label d.tags)) (sym device) ∙ clear.1.1.0) in

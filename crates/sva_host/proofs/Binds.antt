@@ -7,7 +7,7 @@ use Rattle.sva_step.specs.declared.answers.Answer.TheVariants as answer
 use Rattle.sva_step.specs.declared.refusals.Refusal.{Refusal}
 use Rattle.sva_step.specs.declared.refusals.Refusal.TheVariants as refusal
 use Rattle.sva_step.specs.declared.steps.Step.TheVariants as step
-use Rattle.sva_model.specs.Refusals.{Cause}
+use Rattle.sva_model.specs.Refusals.{Cause, unless_refused}
 use Rattle.sva_model.specs.Wire.{Wire, BindingWire}
 use Rattle.sva_labels.specs.Finding.{is_space, unit_of, bound_at, pasid_for}
 use Rattle.sva_labels.specs.Causes.{causes_of, no_such_endpoint, no_such_space, resetting, numbers_spent}
@@ -23,7 +23,6 @@ use Rattle.sva_pasid.specs.Places as places
 use Rattle.sva_pasid.specs.Places.{begun}
 use Rattle.sva_pasid.specs.Stages.{IsLive}
 use Rattle.sva_pasid.specs.declared.places.Place.{Place}
-use Rattle.sva_endpoint.specs.Steps.{unless}
 use Rattle.sva_views.specs.Bindings.{binding_seen, bindings_seen}
 use Rattle.sva_views.proofs.Bindings.{bindings_are_seen}
 use Rattle.sva_host.specs.declared.host.Host.TheInside.{Inside}
@@ -36,14 +35,14 @@ use Rattle.sva_host.proofs.Sent.{sent_seen, unsent_same}
 
 -- The first causes don't hold, and the next one does; or none does.
 
-stopped : (front rest : List Cause) (cause : Cause) → AreClear front → cause.0 ≡ true → unless (front ++ cause ∷ rest) (tt {0}) ≡ Err cause.1
-stopped [] rest cause clear holds = ap (λ (b : Bool). if b then Err cause.1 else unless rest (tt {0})) holds
+stopped : (front rest : List Cause) (cause : Cause) → AreClear front → cause.0 ≡ true → unless_refused (front ++ cause ∷ rest) (tt {0}) ≡ Err cause.1
+stopped [] rest cause clear holds = ap (λ (b : Bool). if b then Err cause.1 else unless_refused rest (tt {0})) holds
 stopped (c ∷ front) rest cause clear holds =
-    ap (λ (b : Bool). if b then Err c.1 else unless (front ++ cause ∷ rest) (tt {0})) clear.0 ∙ stopped front rest cause clear.1 holds
+    ap (λ (b : Bool). if b then Err c.1 else unless_refused (front ++ cause ∷ rest) (tt {0})) clear.0 ∙ stopped front rest cause clear.1 holds
 
-free : (causes : List Cause) → AreClear causes → unless causes (tt {0}) ≡ Ok tt
+free : (causes : List Cause) → AreClear causes → unless_refused causes (tt {0}) ≡ Ok tt
 free [] clear = refl
-free (c ∷ causes) clear = ap (λ (b : Bool). if b then Err c.1 else unless causes (tt {0})) clear.0 ∙ free causes clear.1
+free (c ∷ causes) clear = ap (λ (b : Bool). if b then Err c.1 else unless_refused causes (tt {0})) clear.0 ∙ free causes clear.1
 
 -- Where the endpoint and the space are there, and the unit is open.
 
@@ -155,7 +154,7 @@ binds host v e n view can is some under less =
 
 -- What follows where nothing refuses it.
 
-pub bind_refused : (v : Wire) (e n : ℕ) (x : Refusal) → Err x ≡ unless (causes_of v (step.Bind e n)) (tt {0}) → ByLabels v (step.Bind e n) (Err x) v
+pub bind_refused : (v : Wire) (e n : ℕ) (x : Refusal) → Err x ≡ unless_refused (causes_of v (step.Bind e n)) (tt {0}) → ByLabels v (step.Bind e n) (Err x) v
 bind_refused v e n x refuses =
     refused_by (tt {0}) (causes_of v (step.Bind e n)) [] (result_of v (step.Bind e n)) v x (tt, (tt, (tt, (tt, (tt, (tt, (tt, tt))))))) (sym refuses)
 
@@ -163,10 +162,10 @@ some_there : {A : Type 0} (o : Option A) → is_none o ≡ false → IsSome o
 some_there None h = absurd (cc (h))
 some_there (Some a) h = refl
 
-clear : (v : Wire) (e n : ℕ) → Ok tt ≡ unless (causes_of v (step.Bind e n)) (tt {0}) → AreClear (causes_of v (step.Bind e n))
+clear : (v : Wire) (e n : ℕ) → Ok tt ≡ unless_refused (causes_of v (step.Bind e n)) (tt {0}) → AreClear (causes_of v (step.Bind e n))
 clear v e n allows = all_clear (tt {0}) (tt {0}) (causes_of v (step.Bind e n)) (sym allows)
 
-pub has_pasid : (host : Inside) (v : Wire) (e n : ℕ) → wire_of host ≡ v → Ok tt ≡ unless (causes_of v (step.Bind e n)) (tt {0})
+pub has_pasid : (host : Inside) (v : Wire) (e n : ℕ) → wire_of host ≡ v → Ok tt ≡ unless_refused (causes_of v (step.Bind e n)) (tt {0})
     → IsSome (places.lowest n host.bindings)
 has_pasid host v e n view allows =
     some_there (places.lowest n host.bindings)
@@ -234,13 +233,13 @@ sent_any : (bag after : InFlight) (e : ℕ) (kind : Kind) (r : Result (Unit {0})
 sent_any bag after e kind (Ok a) sends is = sends.1
 sent_any bag after e kind (Err x) sends is = absurd (cc (is))
 
-decided : (v : Wire) (e n : ℕ) → Ok tt ≡ unless (causes_of v (step.Bind e n)) (tt {0})
+decided : (v : Wire) (e n : ℕ) → Ok tt ≡ unless_refused (causes_of v (step.Bind e n)) (tt {0})
     → decide_of v (step.Bind e n) ≡ record { reply = Ok (result_of v (step.Bind e n)).answer; moves = (result_of v (step.Bind e n)).moves }
 decided v e n allows = passed (tt {0}) (tt {0}) (causes_of v (step.Bind e n)) [] (result_of v (step.Bind e n)) (sym allows)
 
 pub bind_unsent : (host : Inside) (v : Wire) (e n t : ℕ) (kind : Kind) (after left : List Place) (bag : InFlight) (r : Result (Unit {0}) Refusal)
     → wire_of host ≡ v
-    → Ok tt ≡ unless (causes_of v (step.Bind e n)) (tt {0})
+    → Ok tt ≡ unless_refused (causes_of v (step.Bind e n)) (tt {0})
     → places.place_of host.next_binding host.bindings ≡ None
     → after ≡ host.bindings ++ begun e n host.next_binding t ∷ [] → left ≡ places.without host.next_binding after
     → Sends host.in_flight e kind 1 r bag → is_err r ≡ true
@@ -256,7 +255,7 @@ bind_unsent host v e n t kind after left bag r view allows none begins back send
     same = λ i. wire_of (record host { bindings = kept i; in_flight = unsent_any host.in_flight bag e kind r sends failed i })
 
 pub bind_done : (host : Inside) (v : Wire) (e n t : ℕ) (after : List Place) (bag : InFlight) (r : Result (Unit {0}) Refusal) → wire_of host ≡ v
-    → Ok tt ≡ unless (causes_of v (step.Bind e n)) (tt {0})
+    → Ok tt ≡ unless_refused (causes_of v (step.Bind e n)) (tt {0})
     → places.lowest n host.bindings ≡ Some t
     → after ≡ host.bindings ++ begun e n host.next_binding t ∷ []
     → Sends host.in_flight e (Start t) 1 r bag → is_err r ≡ false
@@ -272,7 +271,7 @@ bind_done host v e n t after bag r view allows pasid begins sends worked =
     decides : decide_of (wire_of host) (step.Bind e n)
         ≡ record { reply = Ok (answer.Binding host.next_binding t); moves = Move.NewBinding ∷ Move.Bind e n host.next_binding t ∷ [] }
     decides =
-        decided (wire_of host) e n (subst (λ (u : Wire). Ok tt ≡ unless (causes_of u (step.Bind e n)) (tt {0})) (sym view) allows)
+        decided (wire_of host) e n (subst (λ (u : Wire). Ok tt ≡ unless_refused (causes_of u (step.Bind e n)) (tt {0})) (sym view) allows)
         ∙ ap (λ (o : Option ℕ). record {
           reply = Ok (bind_result (wire_of host) e n (label o)).answer;
           moves =

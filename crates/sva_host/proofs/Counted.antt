@@ -6,7 +6,7 @@ use Rattle.sva_step.specs.declared.answers.Answer.TheVariants as answer
 use Rattle.sva_step.specs.declared.refusals.Refusal.TheVariants as refusal
 use Rattle.sva_step.specs.declared.steps.Step.TheVariants as step
 use Rattle.sva_model.specs.Labels.{is_set}
-use Rattle.sva_model.specs.Wire.{Wire, PartWire, UnitWire, FlightWire}
+use Rattle.sva_model.specs.Wire.{Wire, EndpointWire, UnitWire, FlightWire}
 use Rattle.sva_laws.proofs.Counting.{count_most}
 use Rattle.sva_labels.specs.Finding.{unit_of, busy_at}
 use Rattle.sva_labels.specs.Causes.{deliver_causes}
@@ -52,7 +52,7 @@ decided w n e vector field b arriving is_open =
     ∙ (λ i. if not (arriving.free i) then record { reply = Err refusal.Overtakes; moves = [] } else decision (unit_of w e) n e vector field (is_open i))
 
 unit_at : (host : Inside) (e : ℕ) (port : Port) → IsPort host e port → unit_of (wire_of host) e ≡ port.unit.unit
-unit_at host e port is = ap (λ (p : PartWire). p.unit) is.part
+unit_at host e port is = ap (λ (p : EndpointWire). p.unit) is.part
 
 pub uncounted : (host : Inside) (v : Wire) (n e vector field : ℕ) (port : Port) (bag : InFlight) → wire_of host ≡ v → IsNumbered host.in_flight
     → IsPort host e port

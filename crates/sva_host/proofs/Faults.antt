@@ -7,7 +7,7 @@ use Rattle.sva_step.specs.declared.refusals.Refusal.{Refusal}
 use Rattle.sva_step.specs.declared.refusals.Refusal.TheVariants as refusal
 use Rattle.sva_step.specs.declared.steps.Step.{Step}
 use Rattle.sva_step.specs.declared.steps.Step.TheVariants as step
-use Rattle.sva_model.specs.Refusals.{Cause, page_range}
+use Rattle.sva_model.specs.Refusals.{Cause, page_range, unless_refused}
 use Rattle.sva_model.specs.Wire.{DeviceWire}
 use Rattle.sva_labels.specs.Finding.{device_of, lowest_label, outstanding}
 use Rattle.sva_labels.specs.Causes.{numbers_spent, may_request, is_other_group}
@@ -20,7 +20,7 @@ use Rattle.sva_msg.specs.declared.messages.Kind.TheVariants.{PageRequest}
 use Rattle.sva_msg.specs.Bag.{InFlight}
 use Rattle.sva_endpoint.specs.declared.permitted.Fault.{Fault}
 use Rattle.sva_endpoint.specs.declared.permitted.Faulting.{Faulting}
-use Rattle.sva_endpoint.specs.Steps.{unless, refusals_of_fault, faulting, index_for, after_fault}
+use Rattle.sva_endpoint.specs.Steps.{refusals_of_fault, faulting, index_for, after_fault}
 use Rattle.sva_views.specs.Device.{device_seen}
 use Rattle.sva_views.specs.DeviceLaws.{faulted}
 use Rattle.sva_views.proofs.Groups.{fault_is_seen}
@@ -103,7 +103,7 @@ fault_done host e fault port a bag is allows sends =
     } in
     let same : sending ≡ a = given sending a (refusals_of_fault port.device fault) (sym allows) in
     let clear = all_clear sending a (listed (device_of (wire_of host) e) fault)
-    (ap (λ (cs : List Cause). unless cs sending) (causes_seen host e fault port is) ∙ sym allows) in
+    (ap (λ (cs : List Cause). unless_refused cs sending) (causes_seen host e fault port is) ∙ sym allows) in
     let credit = ap (λ (d : DeviceWire). nat_le 32 (outstanding d.groups)) (sym device) ∙ clear.1.1.0 in
     let other = ap (λ (d : DeviceWire). is_other_group d fault.pasid fault.group) (sym device) ∙ clear.1.1.1.0 in
     let index = ap (λ (d : DeviceWire). lowest_label d.groups) device ∙ seen.index (fewer (outstanding (device_seen port.device).groups) credit) in

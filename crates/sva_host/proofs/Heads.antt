@@ -9,7 +9,7 @@ use Rattle.sva_step.specs.declared.steps.Step.TheVariants as step
 use Rattle.sva_model.specs.Acts.{scope_of}
 use Rattle.sva_model.specs.Message.Message.{InvalidateMessage}
 use Rattle.sva_model.specs.Refusals.{Cause}
-use Rattle.sva_model.specs.Wire.{Wire, PartWire, Descriptor}
+use Rattle.sva_model.specs.Wire.{Wire, EndpointWire, Descriptor}
 use Rattle.sva_model.specs.Wire.Descriptor.{RangeDescriptor, PasidDescriptor, WaitDescriptor}
 use Rattle.sva_labels.specs.Finding.{part_of, unit_of, lowest_label}
 use Rattle.sva_labels.specs.Causes.{lacks, is_invalidation, sends_invalidate}
@@ -119,7 +119,7 @@ is_there host v e port view is = true_below e (length v.parts) (ap (λ (w : Wire
 pub is_open_there : (host : Inside) (v : Wire) (e : ℕ) (port : Port) (b c : Bool) → wire_of host ≡ v → IsPort host e port → b ≡ port.unit.unit.is_open
     → b ≡ c → (unit_of v e).is_open ≡ c
 is_open_there host v e port b c view is tells same =
-    ap (λ (w : Wire). (unit_of w e).is_open) (sym view) ∙ ap (λ (p : PartWire). p.unit.is_open) is.part ∙ sym tells ∙ same
+    ap (λ (w : Wire). (unit_of w e).is_open) (sym view) ∙ ap (λ (p : EndpointWire). p.unit.is_open) is.part ∙ sym tells ∙ same
 
 pub head_there : (host : Inside) (v : Wire) (e : ℕ) (port : Port) (b : Bool) (next : Next) → wire_of host ≡ v → IsPort host e port
     → b ≡ port.unit.unit.is_open → b ≡ true
@@ -128,7 +128,7 @@ head_there host v e port b next view is tells opened heads =
     record {
       there = is_there host v e port view is;
       opened = is_open_there host v e port b true view is tells opened;
-      heads = ap (λ (w : Wire). next_of (unit_at w e)) (sym view) ∙ ap (λ (p : PartWire). next_of (unit_in p)) is.part ∙ sym heads;
+      heads = ap (λ (w : Wire). next_of (unit_at w e)) (sym view) ∙ ap (λ (p : EndpointWire). next_of (unit_in p)) is.part ∙ sym heads;
     }
 
 pub head_seen : (host : Inside) (v : Wire) (e : ℕ) (next : Next) → wire_of host ≡ v → IsHead v e next → IsHead (wire_of host) e next
@@ -137,7 +137,7 @@ head_seen host v e next view head = subst (λ (w : Wire). IsHead w e next) (sym 
 -- and of the port that is written
 pub head_of : (host : Inside) (v : Wire) (e : ℕ) (port : Port) (next : Next) → wire_of host ≡ v → IsPort host e port → IsHead v e next
     → next_of port.unit ≡ next
-head_of host v e port next view is head = ap (λ (p : PartWire). next_of (unit_in p)) (sym is.part) ∙ (head_seen host v e next view head).heads
+head_of host v e port next view is head = ap (λ (p : EndpointWire). next_of (unit_in p)) (sym is.part) ∙ (head_seen host v e next view head).heads
 
 -- An invalidation at the head goes to the endpoint.
 

@@ -3,32 +3,31 @@ use Rattle.std.proofs.Common.{◌≡◌, refl, ap, ◌∙◌, subst, ℕ, ◌+�
 use Rattle.std.specs.Prelude.{nat_lt, if◌then◌else◌, Result, Ok, Err, List, [], ◌∷◌, ◌++◌}
 use Rattle.std.proofs.lemmas.Bool.Decides.{nat_tests}
 use Rattle.sva_step.specs.declared.refusals.Refusal.{Refusal}
-use Rattle.sva_model.specs.Refusals.{Cause}
+use Rattle.sva_model.specs.Refusals.{Cause, unless_refused}
 use Rattle.sva_labels.specs.Host.{checked}
 use Rattle.sva_labels.specs.Outcomes as outcomes
-use Rattle.sva_endpoint.specs.Steps.{unless}
 use Rattle.sva_host.proofs.Deciding.{AreClear, AreOther, IsOther}
 
 -- the first causes don't hold, and the next one does; or none does
-pub refuses : {A : Type 0} (a : A) (front rest : List Cause) (cause : Cause) → AreClear front → cause.0 ≡ true → unless (front ++ cause ∷ rest) a
+pub refuses : {A : Type 0} (a : A) (front rest : List Cause) (cause : Cause) → AreClear front → cause.0 ≡ true → unless_refused (front ++ cause ∷ rest) a
     ≡ Err cause.1
-refuses a [] rest cause clear holds = ap (λ (b : Bool). if b then Err cause.1 else unless rest a) holds
+refuses a [] rest cause clear holds = ap (λ (b : Bool). if b then Err cause.1 else unless_refused rest a) holds
 refuses a (c ∷ front) rest cause clear holds =
-    ap (λ (b : Bool). if b then Err c.1 else unless (front ++ cause ∷ rest) a) clear.0 ∙ refuses a front rest cause clear.1 holds
+    ap (λ (b : Bool). if b then Err c.1 else unless_refused (front ++ cause ∷ rest) a) clear.0 ∙ refuses a front rest cause clear.1 holds
 
-pub allows : {A : Type 0} (a : A) (causes : List Cause) → AreClear causes → unless causes a ≡ Ok a
+pub allows : {A : Type 0} (a : A) (causes : List Cause) → AreClear causes → unless_refused causes a ≡ Ok a
 allows a [] clear = refl
-allows a (c ∷ causes) clear = ap (λ (b : Bool). if b then Err c.1 else unless causes a) clear.0 ∙ allows a causes clear.1
+allows a (c ∷ causes) clear = ap (λ (b : Bool). if b then Err c.1 else unless_refused causes a) clear.0 ∙ allows a causes clear.1
 
 -- what refuses is one of the causes
-pub is_other : {A : Type 0} (a : A) (causes : List Cause) (x : Refusal) → AreOther causes → Err x ≡ unless causes a → IsOther x
+pub is_other : {A : Type 0} (a : A) (causes : List Cause) (x : Refusal) → AreOther causes → Err x ≡ unless_refused causes a → IsOther x
 is_other {A = A} a [] x others is = absurd (none is)
   where
     none : ◌≡◌ {A = Result A Refusal} (Err x) (Ok a) → ⊥
     none wrong = cc
 is_other {A = A} a (cause ∷ causes) x others is = go (is_other a causes x others.1) cause.0 is
   where
-    go : (Err x ≡ unless causes a → IsOther x) → (b : Bool) → Err x ≡ (if b then Err cause.1 else unless causes a) → IsOther x
+    go : (Err x ≡ unless_refused causes a → IsOther x) → (b : Bool) → Err x ≡ (if b then Err cause.1 else unless_refused causes a) → IsOther x
     go rest true is =
         let same : cause.1 ≡ x = cc in
         subst IsOther same others.0

@@ -4,7 +4,7 @@ use Rattle.std.specs.Prelude.{not, if◌then◌else◌, Ok, Err, Option, None, L
 use Rattle.sva_step.specs.declared.answers.Answer.TheVariants as answer
 use Rattle.sva_step.specs.declared.refusals.Refusal.TheVariants as refusal
 use Rattle.sva_step.specs.declared.steps.Step.TheVariants as step
-use Rattle.sva_model.specs.Wire.{Wire, PartWire, FlightWire}
+use Rattle.sva_model.specs.Wire.{Wire, EndpointWire, FlightWire}
 use Rattle.sva_labels.specs.Causes.{deliver_causes}
 use Rattle.sva_labels.specs.Host.{Decision, checked, decide_of}
 use Rattle.sva_labels.specs.Moves.{Move, moved}
@@ -41,7 +41,7 @@ decided w n e arriving =
 pub is_shut : (host : Inside) (v : Wire) (n e : ℕ) (port : Port) → wire_of host ≡ v → IsSound v → IsPort host e port → IsArriving v n e ResetDone
     → port.unit.unit.is_open ≡ false
 is_shut host v n e port view sound is arriving =
-    sym (ap (λ (p : PartWire). p.unit.is_open) is.part) ∙ suits (wire_of host) n e ResetDone (subst IsSound (sym view) sound)
+    sym (ap (λ (p : EndpointWire). p.unit.is_open) is.part) ∙ suits (wire_of host) n e ResetDone (subst IsSound (sym view) sound)
     (here host v n e ResetDone view arriving)
 
 -- the bindings of the endpoint are cut off, and no frame waits for it

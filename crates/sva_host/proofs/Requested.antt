@@ -6,7 +6,7 @@ use Rattle.sva_step.specs.declared.refusals.Refusal.{Refusal}
 use Rattle.sva_step.specs.declared.refusals.Refusal.TheVariants as refusal
 use Rattle.sva_step.specs.declared.steps.Step.TheVariants as step
 use Rattle.sva_model.specs.Message.{Message}
-use Rattle.sva_model.specs.Wire.{Wire, PartWire, UnitWire, BindingWire, FlightWire}
+use Rattle.sva_model.specs.Wire.{Wire, EndpointWire, UnitWire, BindingWire, FlightWire}
 use Rattle.sva_labels.specs.Finding.{unit_of, bearer}
 use Rattle.sva_labels.specs.Causes.{lacks, numbers_spent, deliver_causes}
 use Rattle.sva_labels.specs.Host.{Decision, checked, decide_of}
@@ -60,7 +60,7 @@ decided w n e tag t q b arriving is_open =
     ∙ (λ i. if not (arriving.free i) then record { reply = Err refusal.Overtakes; moves = [] } else request_decision w n e tag t q (is_open i))
 
 open_at : (host : Inside) (e : ℕ) (port : Port) (b : Bool) → IsPort host e port → port.unit.unit.is_open ≡ b → (unit_of (wire_of host) e).is_open ≡ b
-open_at host e port b is is_open = ap (λ (p : PartWire). p.unit.is_open) is.part ∙ is_open
+open_at host e port b is is_open = ap (λ (p : EndpointWire). p.unit.is_open) is.part ∙ is_open
 
 pub unasked : (host : Inside) (v : Wire) (n e tag t q : ℕ) (port : Port) (bag : InFlight) → wire_of host ≡ v → IsNumbered host.in_flight → IsPort host e port
     → IsArriving v n e (Request tag t q) → port.unit.unit.is_open ≡ false → bag ≡ without host.in_flight n

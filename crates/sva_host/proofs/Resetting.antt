@@ -5,7 +5,7 @@ use Rattle.sva_step.specs.declared.answers.Answer.TheVariants as answer
 use Rattle.sva_step.specs.declared.refusals.Refusal.TheVariants as refusal
 use Rattle.sva_step.specs.declared.steps.Step.TheVariants as step
 use Rattle.sva_model.specs.Message.Message.{ResetMessage}
-use Rattle.sva_model.specs.Wire.{PartWire, HostGroupWire}
+use Rattle.sva_model.specs.Wire.{EndpointWire, HostGroupWire}
 use Rattle.sva_labels.specs.Finding.{part_of, unit_of}
 use Rattle.sva_labels.specs.Causes.{numbers_spent, resetting}
 use Rattle.sva_labels.specs.Host.{checked, decide_of}
@@ -30,14 +30,14 @@ decided host e port b is is_open =
     at_endpoint (wire_of host) e (resetting (wire_of host) e ∷ numbers_spent host.in_flight.next 1 ∷ [])
     ((not b, refusal.Resetting) ∷ numbers_spent host.in_flight.next 1 ∷ [])
     (by_one answer.Resetting (Move.Reset e)) is.there
-    (ap (λ (c : Bool). (not c, refusal.Resetting) ∷ numbers_spent host.in_flight.next 1 ∷ []) (ap (λ (p : PartWire). p.unit.is_open) is.part ∙ is_open))
+    (ap (λ (c : Bool). (not c, refusal.Resetting) ∷ numbers_spent host.in_flight.next 1 ∷ []) (ap (λ (p : EndpointWire). p.unit.is_open) is.part ∙ is_open))
 
 -- no group is filed yet, and there is no job
 moves : (host : Inside) (e : ℕ) (port : Port) → IsPort host e port
     → moved (wire_of host) (Move.Reset e)
     ≡ sent e ResetMessage (with_part (wire_of host) e (part_with (part_of (wire_of host) e) (reset_begun (unit_in (part_of (wire_of host) e)))))
 moves host e port is =
-    let none : [] ≡ (part_of (wire_of host) e).host_groups = sym (ap (λ (p : PartWire). p.host_groups) is.part) in
+    let none : [] ≡ (part_of (wire_of host) e).host_groups = sym (ap (λ (p : EndpointWire). p.host_groups) is.part) in
     ap
     (λ (groups : List HostGroupWire).
     sent e ResetMessage

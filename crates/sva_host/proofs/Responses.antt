@@ -14,7 +14,7 @@ use Rattle.sva_model.specs.Message.Message.{ResponseMessage}
 use Rattle.sva_model.specs.Outcomes.{code_answer}
 use Rattle.sva_model.specs.Steps.{Reply}
 use Rattle.sva_model.specs.Replies.{is_success}
-use Rattle.sva_model.specs.Wire.{Wire, BindingWire, StageWire, PartWire, HostGroupWire, AskWire, JobWire}
+use Rattle.sva_model.specs.Wire.{Wire, BindingWire, StageWire, EndpointWire, HostGroupWire, AskWire, JobWire}
 use Rattle.sva_model.specs.Wire.StageWire.{LiveWire, StoppingWire, DrainingWire, InvalidatingWire, QuietWire, LostWire}
 use Rattle.sva_labels.specs.Finding.{idle, is_space, pages_in, free_from, binding_of, unit_of}
 use Rattle.sva_labels.specs.Replying.{response_by, response_for, response_to, responds, replies_success, space_by, space_of_job, newly_mapped}
@@ -148,7 +148,7 @@ none_filed (p ∷ ports) (suc e) = none_filed ports e
 
 responds_leaves : (w : Wire) (job : JobWire) (t : ℕ) (c : Code) → (slice_index_or w.parts job.endpoint idle).host_groups ≡ []
     → moved w (Move.Respond job t c) ≡ sent job.endpoint (ResponseMessage t job.index c) w
-responds_leaves w job t c none = ap (λ (parts : List PartWire). sent job.endpoint (ResponseMessage t job.index c) (record w { parts = parts })) same
+responds_leaves w job t c none = ap (λ (parts : List EndpointWire). sent job.endpoint (ResponseMessage t job.index c) (record w { parts = parts })) same
   where
     same : slice_set w.parts job.endpoint
         (record (slice_index_or w.parts job.endpoint idle) {

@@ -7,7 +7,7 @@ use Rattle.std.proofs.Math.ListN.{get_or-map}
 use Rattle.sva_queue.proofs.Windows.{refill_whole}
 use Rattle.std.proofs.lemmas.Bool.Decides.{nat_tests}
 use Rattle.sva_model.specs.Words.{tabulate, any_below, count_below}
-use Rattle.sva_model.specs.Wire.{Wire, PartWire, UnitWire, BindingWire}
+use Rattle.sva_model.specs.Wire.{Wire, EndpointWire, UnitWire, BindingWire}
 use Rattle.sva_labels.specs.Finding.{submits, submits_by, has_room, unit_of, part_of, bound_at, idle}
 use Rattle.sva_labels.specs.Moves.{part_unmapped, cookie_at, pasid_or_0, descriptors_for, with_descriptors}
 use Rattle.sva_labels.specs.Causes.{waits_needed}
@@ -124,7 +124,7 @@ part_now ports bindings first n q count order e now cookie d is there =
     let long : length now ≡ length ports = sym (length-map now part_seen) ∙ ap length is.parts
     ∙ tabulate_length (length ports) (part_so_far w n q count order e) in
     sym (part_there now e d (omega arith))
-    ∙ ap (λ (l : List PartWire). slice_index_or l e idle) is.parts
+    ∙ ap (λ (l : List EndpointWire). slice_index_or l e idle) is.parts
     ∙ tabulate_at (length ports) (part_so_far w n q count order e) e idle there
     ∙ left_at w n q count order e e (omega arith)
 

@@ -5,7 +5,7 @@ use Rattle.sva_step.specs.declared.answers.Answer.TheVariants as answer
 use Rattle.sva_step.specs.declared.refusals.Refusal.{Refusal}
 use Rattle.sva_step.specs.declared.refusals.Refusal.TheVariants as refusal
 use Rattle.sva_step.specs.declared.steps.Step.TheVariants as step
-use Rattle.sva_model.specs.Refusals.{Cause}
+use Rattle.sva_model.specs.Refusals.{Cause, unless_refused}
 use Rattle.sva_model.specs.Steps.{Reply}
 use Rattle.sva_model.specs.Wire.{Wire, BindingWire, StageWire}
 use Rattle.sva_model.specs.Wire.StageWire.{LiveWire, StoppingWire, DrainingWire, InvalidatingWire, QuietWire, LostWire}
@@ -20,7 +20,6 @@ use Rattle.sva_msg.specs.declared.messages.Kind.TheVariants.{Stop}
 use Rattle.sva_msg.specs.Bag.{InFlight}
 use Rattle.sva_pasid.specs.Moves.{Kind}
 use Rattle.sva_pasid.specs.declared.places.Place.{Place}
-use Rattle.sva_endpoint.specs.Steps.{unless}
 use Rattle.sva_views.specs.Bindings.{bindings_seen}
 use Rattle.sva_host.specs.declared.host.Host.TheInside.{Inside}
 use Rattle.sva_host.specs.declared.unbinding.Ending.{Ending}
@@ -38,18 +37,18 @@ use Rattle.sva_host.proofs.Sent.{sent_seen}
 -- What refuses it.
 
 of_binding_there : (v : Wire) (n : ℕ) (b : BindingWire) → binding_of v n ≡ Some b
-    → unless (causes_of v (step.Unbind n)) (ending_of (binding_of v n)) ≡ unless (causes.unbind_by v b b.stage) (ending_by b b.stage)
-of_binding_there v n b found = ap (λ (o : Option BindingWire). unless (unbind_causes v o) (ending_of o)) found
+    → unless_refused (causes_of v (step.Unbind n)) (ending_of (binding_of v n)) ≡ unless_refused (causes.unbind_by v b b.stage) (ending_by b b.stage)
+of_binding_there v n b found = ap (λ (o : Option BindingWire). unless_refused (unbind_causes v o) (ending_of o)) found
 
 -- of a binding that isn't Lost
 by_stop : (v : Wire) (n : ℕ) (b : BindingWire) → binding_of v n ≡ Some b → is_lost b.stage ≡ false
-    → unless (causes_of v (step.Unbind n)) (ending_of (binding_of v n))
-    ≡ unless ((not (is_live b.stage), refusal.NotLive) ∷ resetting v b.endpoint ∷ numbers_spent v.next_message 1 ∷ []) (ByStop b.endpoint b.pasid)
+    → unless_refused (causes_of v (step.Unbind n)) (ending_of (binding_of v n))
+    ≡ unless_refused ((not (is_live b.stage), refusal.NotLive) ∷ resetting v b.endpoint ∷ numbers_spent v.next_message 1 ∷ []) (ByStop b.endpoint b.pasid)
 by_stop v n b found stays = of_binding_there v n b found ∙ go b.stage stays
   where
     go : (s : StageWire) → is_lost s ≡ false
-        → unless (causes.unbind_by v b s) (ending_by b s)
-        ≡ unless ((not (is_live s), refusal.NotLive) ∷ resetting v b.endpoint ∷ numbers_spent v.next_message 1 ∷ []) (ByStop b.endpoint b.pasid)
+        → unless_refused (causes.unbind_by v b s) (ending_by b s)
+        ≡ unless_refused ((not (is_live s), refusal.NotLive) ∷ resetting v b.endpoint ∷ numbers_spent v.next_message 1 ∷ []) (ByStop b.endpoint b.pasid)
     go LiveWire is = refl
     go (StoppingWire marked) is = refl
     go (DrainingWire cookie) is = refl
@@ -58,12 +57,12 @@ by_stop v n b found stays = of_binding_there v n b found ∙ go b.stage stays
     go LostWire is = absurd (cc (is))
 
 pub no_such_binding : (v : Wire) (n : ℕ) → binding_of v n ≡ None → MayUnbind v n (Err refusal.NoSuchBinding)
-no_such_binding v n none = sym (ap (λ (o : Option BindingWire). unless (unbind_causes v o) (ending_of o)) none)
+no_such_binding v n none = sym (ap (λ (o : Option BindingWire). unless_refused (unbind_causes v o) (ending_of o)) none)
 
 pub lost_ends : (v : Wire) (n : ℕ) (b : BindingWire) → binding_of v n ≡ Some b → is_lost b.stage ≡ true → MayUnbind v n (Ok AtOnce)
 lost_ends v n b found lost = sym (of_binding_there v n b found ∙ go b.stage lost)
   where
-    go : (s : StageWire) → is_lost s ≡ true → unless (causes.unbind_by v b s) (ending_by b s) ≡ Ok AtOnce
+    go : (s : StageWire) → is_lost s ≡ true → unless_refused (causes.unbind_by v b s) (ending_by b s) ≡ Ok AtOnce
     go LostWire is = refl
     go LiveWire is = absurd (cc (is))
     go (StoppingWire marked) is = absurd (cc (is))
@@ -137,14 +136,14 @@ ends_at_once v n ending may is = go (binding_of v n) refl (subst (λ (f : Ending
     not_this : (b : BindingWire) → ◌≡◌ {A = Ending} (ByStop b.endpoint b.pasid) AtOnce → ⊥
     not_this b wrong = cc
 
-    go : (o : Option BindingWire) → binding_of v n ≡ o → Ok AtOnce ≡ unless (unbind_causes v o) (ending_of o) → EndsAtOnce v n
+    go : (o : Option BindingWire) → binding_of v n ≡ o → Ok AtOnce ≡ unless_refused (unbind_causes v o) (ending_of o) → EndsAtOnce v n
     go None is may = absurd (none may)
       where
         none : ◌≡◌ {A = Result Ending Refusal} (Ok AtOnce) (Err refusal.NoSuchBinding) → ⊥
         none wrong = cc
     go (Some b) is may = by_stage b.stage refl may
       where
-        by_stage : (s : StageWire) → b.stage ≡ s → Ok AtOnce ≡ unless (causes.unbind_by v b s) (ending_by b s) → EndsAtOnce v n
+        by_stage : (s : StageWire) → b.stage ≡ s → Ok AtOnce ≡ unless_refused (causes.unbind_by v b s) (ending_by b s) → EndsAtOnce v n
         by_stage LostWire at may = record { binding = b; found = is; lost = at }
         by_stage LiveWire at may = absurd (not_this b (given (ByStop b.endpoint b.pasid) AtOnce (causes.unbind_by v b LiveWire) (sym may)))
         by_stage (StoppingWire marked) at may =
@@ -192,15 +191,15 @@ ends_by_stop v n e t ending may is = go (binding_of v n) refl (subst (λ (f : En
     not_this : (x : Refusal) → ◌≡◌ {A = Result Ending Refusal} (Ok (ByStop e t)) (Err x) → ⊥
     not_this x wrong = cc
 
-    go : (o : Option BindingWire) → binding_of v n ≡ o → Ok (ByStop e t) ≡ unless (unbind_causes v o) (ending_of o) → EndsByStop v n e t
+    go : (o : Option BindingWire) → binding_of v n ≡ o → Ok (ByStop e t) ≡ unless_refused (unbind_causes v o) (ending_of o) → EndsByStop v n e t
     go None is may = absurd (not_this refusal.NoSuchBinding may)
     go (Some b) is may = by_stage b.stage refl may
       where
-        by_stage : (s : StageWire) → b.stage ≡ s → Ok (ByStop e t) ≡ unless (causes.unbind_by v b s) (ending_by b s) → EndsByStop v n e t
+        by_stage : (s : StageWire) → b.stage ≡ s → Ok (ByStop e t) ≡ unless_refused (causes.unbind_by v b s) (ending_by b s) → EndsByStop v n e t
         by_stage LiveWire at may =
             let clear = all_clear (ByStop b.endpoint b.pasid) (ByStop e t) (causes.unbind_by v b LiveWire) (sym may) in
             let same : ByStop b.endpoint b.pasid ≡ ByStop e t = given (ByStop b.endpoint b.pasid) (ByStop e t) (causes.unbind_by v b LiveWire) (sym may) in
-            let home : b.endpoint ≡ e = cc in
+            let endpoint_of : b.endpoint ≡ e = cc in
             let pasid : b.pasid ≡ t = cc in
             record {
               binding = b;
@@ -211,7 +210,7 @@ ends_by_stop v n e t ending may is = go (binding_of v n) refl (subst (λ (f : En
                   ap (λ (o : Option BindingWire). checked (unbind_causes v o) (of_binding (λ x. outcomes.unbind_by x x.stage) o)) is
                   ∙ ap (λ (s : StageWire). checked (causes.unbind_by v b s) (outcomes.unbind_by b s)) at
                   ∙ passed (ByStop b.endpoint b.pasid) (ByStop e t) (causes.unbind_by v b LiveWire) [] (outcomes.unbind_by b LiveWire) (sym may)
-                  ∙ (λ i. record { reply = Ok answer.Stopping; moves = Move.Stop (home i) (number_is v n b is i) (pasid i) ∷ [] });
+                  ∙ (λ i. record { reply = Ok answer.Stopping; moves = Move.Stop (endpoint_of i) (number_is v n b is i) (pasid i) ∷ [] });
             }
         by_stage (StoppingWire marked) at may = absurd (not_this refusal.NotLive may)
         by_stage (DrainingWire cookie) at may = absurd (not_this refusal.NotLive may)

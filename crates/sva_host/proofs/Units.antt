@@ -5,7 +5,7 @@ use Rattle.std.specs.List.{refill}
 use Rattle.std.proofs.lemmas.List.{map-set}
 use Rattle.sva_step.specs.declared.answers.Answer.{Answer}
 use Rattle.sva_step.specs.declared.steps.Step.{Step}
-use Rattle.sva_model.specs.Wire.{Wire, PartWire, UnitWire}
+use Rattle.sva_model.specs.Wire.{Wire, EndpointWire, UnitWire}
 use Rattle.sva_labels.specs.Finding.{part_of, unit_of}
 use Rattle.sva_labels.specs.Causes.{numbers_spent}
 use Rattle.sva_labels.specs.Host.{Decision, checked, decide_of}
@@ -29,11 +29,11 @@ abbrev pub with_unit_in : Inside → (e : ℕ) → Port → UnitSeen → Inside
 with_unit_in host e port unit = record host { ports = record { items = slice_set host.ports.items e (record port { unit = unit }) } }
 
 -- the unit of a part, with its page request queue
-abbrev pub unit_in : PartWire → UnitSeen
+abbrev pub unit_in : EndpointWire → UnitSeen
 unit_in p = record { unit = p.unit; page_queue = p.page_queue }
 
 -- a part with another unit and page request queue
-abbrev pub part_with : PartWire → UnitSeen → PartWire
+abbrev pub part_with : EndpointWire → UnitSeen → EndpointWire
 part_with p u = record p { unit = u.unit; page_queue = u.page_queue }
 
 pub unit_there : (host : Inside) (e : ℕ) (port : Port) → IsPort host e port → unit_in (part_of (wire_of host) e) ≡ port.unit
@@ -49,7 +49,7 @@ with_part_seen host e port change is = λ i. record (wire_of host) { parts = par
         ≡ slice_set (map part_seen host.ports.items) e (part_with (part_of (wire_of host) e) (change (unit_in (part_of (wire_of host) e))))
     parts =
         map-set part_seen host.ports.items e (record port { unit = change port.unit })
-        ∙ ap (λ (p : PartWire). slice_set (map part_seen host.ports.items) e (part_with p (change (unit_in p)))) (sym is.part)
+        ∙ ap (λ (p : EndpointWire). slice_set (map part_seen host.ports.items) e (part_with p (change (unit_in p)))) (sym is.part)
 
 -- and where the unit changes alone
 pub with_unit_seen : (host : Inside) (e : ℕ) (port : Port) (change : UnitWire → UnitWire) → IsPort host e port

@@ -6,7 +6,7 @@ use Rattle.sva_step.specs.declared.answers.Answer.TheVariants as answer
 use Rattle.sva_step.specs.declared.refusals.Refusal.{Refusal}
 use Rattle.sva_step.specs.declared.refusals.Refusal.TheVariants as refusal
 use Rattle.sva_step.specs.declared.steps.Step.TheVariants as step
-use Rattle.sva_model.specs.Refusals.{Cause, page_range}
+use Rattle.sva_model.specs.Refusals.{Cause, page_range, unless_refused}
 use Rattle.sva_model.specs.Wire.{DeviceWire}
 use Rattle.sva_model.specs.Wire.UseWire.{RunningWire}
 use Rattle.sva_labels.specs.Finding.{device_of, lowest_label, cached, use_at, is_at_page}
@@ -18,7 +18,7 @@ use Rattle.sva_labels.specs.Outcomes.{by_one, label, begin_result, end_answer, r
 use Rattle.sva_tables.specs.UseSlots.{slot_at}
 use Rattle.sva_endpoint.specs.declared.permitted.Using.{Using}
 use Rattle.sva_endpoint.specs.Tables.{Tables}
-use Rattle.sva_endpoint.specs.Steps.{unless, refusals_of_use, using, lowest_slot, translation_at, after_begin_use, refusals_of_end, end_of, ending}
+use Rattle.sva_endpoint.specs.Steps.{refusals_of_use, using, lowest_slot, translation_at, after_begin_use, refusals_of_end, end_of, ending}
 use Rattle.sva_endpoint.specs.Steps.{after_end_use, refusals_of_evict, evicting, after_evict}
 use Rattle.sva_views.specs.DeviceLaws.{found_at}
 use Rattle.sva_views.proofs.Uses.{use_is_seen, end_is_seen, evict_is_seen}
@@ -71,7 +71,7 @@ use_done host e t q x port a is allows =
     let begun : Using = record { slot = lowest_slot port.device; frame = (translation_at port.device t q).frame } in
     let same : begun ≡ a = given begun a (refusals_of_use port.device t q x) (sym allows) in
     let clear = all_clear begun a (uses (device_of (wire_of host) e) t q x)
-    (ap (λ (cs : List Cause). unless cs begun) (uses_seen host e t q x port is) ∙ sym allows) in
+    (ap (λ (cs : List Cause). unless_refused cs begun) (uses_seen host e t q x port is) ∙ sym allows) in
     let slot = ap (λ (d : DeviceWire). lowest_label d.slots) device
     ∙ seen.slot (ap (λ (d : DeviceWire). is_none (lowest_label d.slots)) (sym device) ∙ clear.1.1.1.1.0) in
     let found = ap (λ (d : DeviceWire). cached d t q) device ∙ seen.found (ap (λ (d : DeviceWire). is_none (cached d t q)) (sym device) ∙ clear.1.1.0) in
@@ -116,7 +116,7 @@ end_done host e u port a is allows =
     let seen = end_is_seen port.device u is.sound in
     let b = end_of (slot_at port.device.uses u) in
     let same : b ≡ a = given b a (refusals_of_end port.device u) (sym allows) in
-    let clear = all_clear b a (ends (device_of (wire_of host) e) u) (ap (λ (cs : List Cause). unless cs b) (ends_seen host e u port is) ∙ sym allows) in
+    let clear = all_clear b a (ends (device_of (wire_of host) e) u) (ap (λ (cs : List Cause). unless_refused cs b) (ends_seen host e u port is) ∙ sym allows) in
     let said = seen.said (ap (λ (d : DeviceWire). is_none (use_at d u)) (sym device) ∙ clear.0)
     ∙ ap (λ (d : DeviceWire). end_answer (use_at d u)) (sym device) in
     device_done host (step.EndUse e u) e port (after_end_use port.device u) a (Move.End e u) _ is

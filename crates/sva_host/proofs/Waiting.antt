@@ -5,7 +5,7 @@ use Rattle.std.specs.Prelude.{not, nat_lt, if◌then◌else◌, Ok, Err, Option,
 use Rattle.sva_step.specs.declared.answers.Answer.TheVariants as answer
 use Rattle.sva_step.specs.declared.refusals.Refusal.TheVariants as refusal
 use Rattle.sva_step.specs.declared.steps.Step.TheVariants as step
-use Rattle.sva_model.specs.Wire.{Wire, PartWire, BindingWire, FlightWire}
+use Rattle.sva_model.specs.Wire.{Wire, EndpointWire, BindingWire, FlightWire}
 use Rattle.sva_labels.specs.Finding.{bearer, part_of, unit_of}
 use Rattle.sva_labels.specs.Causes.{deliver_causes}
 use Rattle.sva_labels.specs.Host.{Decision, checked, decide_of}
@@ -51,14 +51,14 @@ decided w n e r b arriving is_open =
     ∙ (λ i. if not (arriving.free i) then record { reply = Err refusal.Overtakes; moves = [] } else decision n e r (is_open i))
 
 open_there : (host : Inside) (e : ℕ) (port : Port) (b : Bool) → IsPort host e port → port.unit.unit.is_open ≡ b → (unit_of (wire_of host) e).is_open ≡ b
-open_there host e port b is is_open = ap (λ (p : PartWire). p.unit.is_open) is.part ∙ is_open
+open_there host e port b is is_open = ap (λ (p : EndpointWire). p.unit.is_open) is.part ∙ is_open
 
 -- at an open unit there is a place for it
 pub has_place : (host : Inside) (v : Wire) (n e : ℕ) (r : PageRequest) (port : Port) → wire_of host ≡ v → IsSound v → IsPort host e port
     → IsArriving v n e (kind.PageRequest r)
     → port.unit.unit.is_open ≡ true → length port.unit.page_queue < 32
 has_place host v n e r port view sound is arriving is_open =
-    subst (λ (p : PartWire). length p.page_queue < 32) is.part
+    subst (λ (p : EndpointWire). length p.page_queue < 32) is.part
     (suits (wire_of host) n e (kind.PageRequest r) (subst IsSound (sym view) sound) (here host v n e (kind.PageRequest r) view arriving)
     (open_there host e port true is is_open)).0
 

@@ -7,7 +7,7 @@ use Rattle.sva_model.specs.Wire.{Wire, BindingWire, UnitWire, StageWire}
 use Rattle.sva_model.specs.Wire.StageWire.{StoppingWire, DrainingWire, InvalidatingWire, QuietWire}
 use Rattle.sva_labels.specs.Finding.{unit_of, is_wait_done, binding_of}
 use Rattle.sva_labels.specs.Causes.{causes_of}
-use Rattle.sva_endpoint.specs.Steps.{unless}
+use Rattle.sva_model.specs.Refusals.{unless_refused}
 use Rattle.sva_host.specs.declared.advancing.Course.{Course}
 use Rattle.sva_host.specs.declared.advancing.Course.TheVariants.{Drain, Invalidate, Settle, Release}
 
@@ -24,7 +24,7 @@ course_of (Some b) = course_by b b.stage
 
 -- what refuses it: the first of its causes that holds, if one does
 abbrev pub MayAdvance : Wire → (binding : ℕ) → Result Course Refusal → Type 0
-MayAdvance w n result = result ≡ unless (causes_of w (step.Advance n)) (course_of (binding_of w n))
+MayAdvance w n result = result ≡ unless_refused (causes_of w (step.Advance n)) (course_of (binding_of w n))
 
 abbrev pub is_quiet : StageWire → Bool
 is_quiet QuietWire = true

@@ -1,6 +1,6 @@
 -- What the parts of a host are seen as, and what holds of them.
 use Rattle.std.specs.Prelude.{None, IsSome, List, [], map, replicate, All}
-use Rattle.sva_model.specs.Wire.{Wire, PartWire}
+use Rattle.sva_model.specs.Wire.{Wire, EndpointWire}
 use Rattle.sva_endpoint.specs.Tables.{fresh}
 use Rattle.sva_endpoint.specs.Laws.{IsSound}
 use Rattle.sva_pasid.specs.declared.places.Place.{Place}
@@ -16,7 +16,7 @@ abbrev pub new_port : Port
 new_port = record { device = fresh; unit = idle }
 
 -- no group of page requests is filed yet
-abbrev pub part_seen : Port → PartWire
+abbrev pub part_seen : Port → EndpointWire
 part_seen port = record { device = device_seen port.device; unit = port.unit.unit; page_queue = port.unit.page_queue; host_groups = [] }
 
 -- no worker holds a job yet

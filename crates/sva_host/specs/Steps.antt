@@ -12,7 +12,7 @@ use Rattle.sva_labels.specs.Host.{Decision, decide_of}
 use Rattle.sva_labels.specs.Moves.{all_moved}
 use Rattle.sva_msg.specs.declared.messages.Kind.{Kind}
 use Rattle.sva_msg.specs.Bag.{InFlight, with_sent}
-use Rattle.sva_endpoint.specs.Steps.{unless}
+use Rattle.sva_model.specs.Refusals.{unless_refused}
 
 -- what was decided is answered and done; want of memory changes nothing, and comes only where the step would have been
 -- accepted
@@ -26,7 +26,7 @@ ByLabels before s result after = Does (decide_of before s) before result after
 
 -- what refuses a step: the first of its causes that holds, if one does
 abbrev pub MayStep : Wire → Step → Result (Unit {0}) Refusal → Type 0
-MayStep w s result = result ≡ unless (causes_of w s) tt
+MayStep w s result = result ≡ unless_refused (causes_of w s) tt
 
 -- the endpoint of a number stands at it
 abbrev pub PortFor : Wire → (endpoint : ℕ) → Result ℕ Refusal → Type 0

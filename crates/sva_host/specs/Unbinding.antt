@@ -6,7 +6,7 @@ use Rattle.sva_model.specs.Wire.{Wire, BindingWire, StageWire}
 use Rattle.sva_model.specs.Wire.StageWire.{LostWire}
 use Rattle.sva_labels.specs.Finding.{binding_of}
 use Rattle.sva_labels.specs.Causes.{causes_of}
-use Rattle.sva_endpoint.specs.Steps.{unless}
+use Rattle.sva_model.specs.Refusals.{unless_refused}
 use Rattle.sva_host.specs.declared.unbinding.Ending.{Ending}
 use Rattle.sva_host.specs.declared.unbinding.Ending.TheVariants.{AtOnce, ByStop}
 
@@ -26,4 +26,4 @@ ending_of (Some b) = ending_by b b.stage
 
 -- what refuses it: the first of its causes that holds, if one does
 abbrev pub MayUnbind : Wire → (binding : ℕ) → Result Ending Refusal → Type 0
-MayUnbind w n result = result ≡ unless (causes_of w (step.Unbind n)) (ending_of (binding_of w n))
+MayUnbind w n result = result ≡ unless_refused (causes_of w (step.Unbind n)) (ending_of (binding_of w n))

@@ -1,7 +1,7 @@
 -- What an unmapping asks of the units, and what they get.
 use Rattle.std.specs.Prelude.{◌≡◌, ℕ, ◌+◌, ◌<◌, ◌≤◌, Bool, ◌&&◌, not, nat_lt, if◌then◌else◌, Option, Some, None, List, [], map, length}
 use Rattle.sva_model.specs.Words.{any_below, count_below, tabulate}
-use Rattle.sva_model.specs.Wire.{Wire, PartWire, TargetWire, UnitWire, BindingWire}
+use Rattle.sva_model.specs.Wire.{Wire, EndpointWire, TargetWire, UnitWire, BindingWire}
 use Rattle.sva_labels.specs.Finding.{submits, submits_by, has_room, unit_of, part_of, bound_at}
 use Rattle.sva_labels.specs.Moves.{part_unmapped, target_by, cookie_at, pasid_or_0}
 use Rattle.sva_pasid.specs.declared.places.Place.{Place}
@@ -19,7 +19,7 @@ abbrev pub target_so_far : Wire → (space units endpoint : ℕ) → Option Targ
 target_so_far w n units e = if nat_lt e units then target_by (unit_of w e) (cookie_at w n e) (bound_at w e n) else None
 
 -- an endpoint with its unit once the first so many units have got their descriptors
-abbrev pub part_so_far : Wire → (space page count order units endpoint : ℕ) → PartWire
+abbrev pub part_so_far : Wire → (space page count order units endpoint : ℕ) → EndpointWire
 part_so_far w n q count order units e = if nat_lt e units then part_unmapped w n q count order e else part_of w e
 
 -- what is kept once all units have

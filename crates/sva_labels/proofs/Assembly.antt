@@ -5,10 +5,10 @@ use Rattle.std.specs.Prelude.{Option, Some, None, if◌then◌else◌, List, [],
 use Rattle.std.proofs.lemmas.Bool.Decides.{nat_tests}
 use Rattle.sva_step.specs.declared.steps.Step.{Step}
 use Rattle.sva_model.specs.Words.{put}
-use Rattle.sva_model.specs.State.{Part, JobName, World}
+use Rattle.sva_model.specs.State.{Endpoint, JobName, World}
 use Rattle.sva_model.specs.State.HostGroupState.{Job}
-use Rattle.sva_model.specs.Acts.{Act, Own, own, act, submitted_if, submits, bound, cookie_of}
-use Rattle.sva_model.specs.Acts.Act.{NewSpace, DropSpace, Map, Unmap, NewBinding, NewJob, Hold, LetGo, At}
+use Rattle.sva_model.specs.Acts.{Act, LocalAct, own, act, submitted_if, submits, bound, cookie_of}
+use Rattle.sva_model.specs.Acts.Act.{NewSpace, DropSpace, Map, Unmap, NewBinding, NewJob, Hold, LetGo, AtEndpoint}
 use Rattle.sva_model.specs.Refusals.{Cause, refusals}
 use Rattle.sva_model.specs.Outcomes.{Outcome, outcome}
 use Rattle.sva_model.specs.Steps.{checked, decide, reply, next, after_acts}
@@ -55,7 +55,7 @@ pub record Stands (w : World) : Type 0 where
 -- What an act has beside what is legal: its turn.
 abbrev pub IsReady : World → Act → Type 0
 IsReady w (NewJob e g) = (w.part e).host_group g ≡ Job
-IsReady w (At e o) = InTurn w e o × SendsFirst (w.part e) o
+IsReady w (AtEndpoint e o) = InTurn w e o × SendsFirst (w.part e) o
 IsReady w _ = Unit {0}
 
 abbrev pub AreReady : World → List Act → Type 0
@@ -64,11 +64,11 @@ AreReady w (a ∷ acts) = IsReady w a × AreReady (act w a) acts
 
 -- It stays so through each act.
 
-past_kept : (p : Part) (n : ℕ) (o : Own) (g : ℕ) → FilesOpen p o → is_past (p.host_group g) ≡ true → is_past ((own p n o).host_group g) ≡ true
+past_kept : (p : Endpoint) (n : ℕ) (o : LocalAct) (g : ℕ) → FilesOpen p o → is_past (p.host_group g) ≡ true → is_past ((own p n o).host_group g) ≡ true
 past_kept p n o g f h = grind (arith, nat_tests)
 
 submitted_past :
-    (t : Bool) (p : Part) (o : Option ℕ) (q count order cookie g : ℕ) → is_past (p.host_group g) ≡ true
+    (t : Bool) (p : Endpoint) (o : Option ℕ) (q count order cookie g : ℕ) → is_past (p.host_group g) ≡ true
     → is_past ((submitted_if t p o q count order cookie).host_group g) ≡ true
 submitted_past true p (Some b) q count order cookie g h = h
 submitted_past true p None q count order cookie g h = h
@@ -95,7 +95,7 @@ act_past w (NewJob e g) r h = λ j l. go j l (ℕ_cases j w.jobs)
     go j l (inr ne) = ap (λ x. is_past ((w.part x.endpoint).host_group x.group)) (put-other w.job w.jobs new j ne) ∙ h j (omega arith)
 act_past w (Hold x j) r h = h
 act_past w (LetGo x) r h = h
-act_past w (At e o) r h =
+act_past w (AtEndpoint e o) r h =
     λ j l.
     put_keeps (λ x p. is_past ((w.part x).host_group (w.job j).group) ≡ true → is_past (p.host_group (w.job j).group) ≡ true) w.part e
     (own (w.part e) w.messages o)
@@ -112,7 +112,7 @@ act_few w (NewBinding e) h = h
 act_few w (NewJob e g) h = h
 act_few w (Hold x j) h = h
 act_few w (LetGo x) h = h
-act_few w (At e o) h = h
+act_few w (AtEndpoint e o) h = h
 
 pub act_stands : (w : World) (a : Act) → Legal w a → IsReady w a → Stands w → Stands (act w a)
 act_stands w a l r s =
@@ -130,12 +130,12 @@ act_stands w a l r s =
 
 -- The endpoint's part, keeper by keeper.
 
-has_cookie : (w : World) (e : ℕ) (o : Own) → SuitsWorld w e o → HasCookie w.cookies o
-has_cookie w e (Own.Drain b cookie) s = s
-has_cookie w e (Own.Invalidate b cookie) s = s
+has_cookie : (w : World) (e : ℕ) (o : LocalAct) → SuitsWorld w e o → HasCookie w.cookies o
+has_cookie w e (LocalAct.Drain b cookie) s = s
+has_cookie w e (LocalAct.Invalidate b cookie) s = s
 has_cookie w e _ s = tt
 
-pub part_moves : (w : World) (e : ℕ) (o : Own) → Stands w → Legal w (At e o) → IsReady w (At e o) → PartMoves w e o
+pub part_moves : (w : World) (e : ℕ) (o : LocalAct) → Stands w → Legal w (AtEndpoint e o) → IsReady w (AtEndpoint e o) → PartMoves w e o
 part_moves w e o s l r =
     let p = w.part e in
     let i = s.invariant.parts e in
@@ -161,7 +161,7 @@ act_square w (NewBinding e) s l r = binding_named w e s.invariant
 act_square w (NewJob e g) s l r = job_named w e g s.invariant r
 act_square w (Hold x j) s l r = job_held w x j
 act_square w (LetGo x) s l r = job_let_go w x
-act_square w (At e o) s l r =
+act_square w (AtEndpoint e o) s l r =
     square w e o s.invariant (has_tables w s) l r.0 (part_moves w e o s l r) (places_moved w e o l s.invariant s.fronts s.debts s.few)
 
 -- One after another.

@@ -14,16 +14,17 @@ pub bearer_seen :
     (w : World) (e b : ℕ) → Invariant w → is_unreleased ((w.part e).stage b) ≡ true
     → bearer (wire w) e ((w.part e).pasid b) ≡ Some (binding_wire w.config.first e (w.part e) b)
 bearer_seen w e b i u =
-    find_one w.bindings (λ d. is_unreleased ((w.part (w.home d)).stage d)) (λ d. binding_wire w.config.first (w.home d) (w.part (w.home d)) d)
+    find_one w.bindings (λ d. is_unreleased ((w.part (w.endpoint_of d)).stage d))
+        (λ d. binding_wire w.config.first (w.endpoint_of d) (w.part (w.endpoint_of d)) d)
     (λ (x : BindingWire). x.endpoint == e && x.pasid == (w.part e).pasid b) b
     (unreleased_made w.bindings (w.part e) b (i.parts e).bounds.stage u)
-    (ap (λ x. is_unreleased ((w.part x).stage b)) home ∙ u)
-    (ap (λ x. x == e && (w.part x).pasid b == (w.part e).pasid b) home ∙ itself e ((w.part e).pasid b))
-    (λ j l s h. alone j s (both (w.home j) e ((w.part (w.home j)).pasid j) ((w.part e).pasid b) h))
-    ∙ ap (λ x. Some (binding_wire w.config.first x (w.part x) b)) home
+    (ap (λ x. is_unreleased ((w.part x).stage b)) endpoint_of ∙ u)
+    (ap (λ x. x == e && (w.part x).pasid b == (w.part e).pasid b) endpoint_of ∙ itself e ((w.part e).pasid b))
+    (λ j l s h. alone j s (both (w.endpoint_of j) e ((w.part (w.endpoint_of j)).pasid j) ((w.part e).pasid b) h))
+    ∙ ap (λ x. Some (binding_wire w.config.first x (w.part x) b)) endpoint_of
   where
-    home : w.home b ≡ e
-    home = i.homed e b (unreleased_bound (w.part e) b u)
+    endpoint_of : w.endpoint_of b ≡ e
+    endpoint_of = i.homed e b (unreleased_bound (w.part e) b u)
 
     itself : (x y : ℕ) → (x == x && y == y) ≡ true
     itself x y = grind (arith, nat_tests)
@@ -31,7 +32,8 @@ bearer_seen w e b i u =
     both : (a b c d : ℕ) → (a == b && c == d) ≡ true → (a ≡ b) × (c ≡ d)
     both a b c d h = grind (arith, nat_tests)
 
-    alone : (j : ℕ) → is_unreleased ((w.part (w.home j)).stage j) ≡ true → (w.home j ≡ e) × ((w.part (w.home j)).pasid j ≡ (w.part e).pasid b) → j ≡ b
+    alone : (j : ℕ) → is_unreleased ((w.part (w.endpoint_of j)).stage j) ≡ true → (w.endpoint_of j ≡ e)
+        × ((w.part (w.endpoint_of j)).pasid j ≡ (w.part e).pasid b) → j ≡ b
     alone j s h =
         let there : is_unreleased ((w.part e).stage j) ≡ true = sym (ap (λ x. is_unreleased ((w.part x).stage j)) h.0) ∙ s in
         let same : (w.part e).pasid j ≡ (w.part e).pasid b = sym (ap (λ x. (w.part x).pasid j) h.0) ∙ h.1 in

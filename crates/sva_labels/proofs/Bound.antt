@@ -15,23 +15,24 @@ use Rattle.sva_labels.proofs.SpaceLists.{same_number}
 
 -- a binding as its own endpoint shows it
 abbrev pub binding_seen : World → (binding : ℕ) → BindingWire
-binding_seen w b = binding_wire w.config.first (w.home b) (w.part (w.home b)) b
+binding_seen w b = binding_wire w.config.first (w.endpoint_of b) (w.part (w.endpoint_of b)) b
 
 pub bound_is :
     (w : World) (e s : ℕ) → Invariant w
     → bound_at (wire w) e (number w.config.first s) ≡ option_map (binding_wire w.config.first e (w.part e)) (bound w e s)
 bound_is w e s i =
-    find_seen (binding_seen w) (λ b. b.endpoint == e && b.space == w.config.first + s) w.bindings (λ b. is_unreleased ((w.part (w.home b)).stage b))
+    find_seen (binding_seen w) (λ b. b.endpoint == e && b.space == w.config.first + s) w.bindings (λ b. is_unreleased ((w.part (w.endpoint_of b)).stage b))
     ∙ ap (option_map (binding_seen w))
     (find_same w.bindings
-    (λ b. is_unreleased ((w.part (w.home b)).stage b) && (w.home b == e && w.config.first + (w.part (w.home b)).space b == w.config.first + s))
-    (λ b. is_unreleased ((w.part e).stage b) && (w.part e).space b == s) (λ b l. same b (ℕ_cases (w.home b) e)))
+    (λ b. is_unreleased ((w.part (w.endpoint_of b)).stage b)
+        && (w.endpoint_of b == e && w.config.first + (w.part (w.endpoint_of b)).space b == w.config.first + s))
+    (λ b. is_unreleased ((w.part e).stage b) && (w.part e).space b == s) (λ b l. same b (ℕ_cases (w.endpoint_of b) e)))
     ∙ go (bound w e s) refl
   where
     at : (b d : ℕ) → Bool
     at b d = is_unreleased ((w.part d).stage b) && (d == e && w.config.first + (w.part d).space b == w.config.first + s)
 
-    no_other : (b : ℕ) → w.home b ≢ e → (z : Bool) → is_unreleased ((w.part e).stage b) ≡ z → false ≡ (z && (w.part e).space b == s)
+    no_other : (b : ℕ) → w.endpoint_of b ≢ e → (z : Bool) → is_unreleased ((w.part e).stage b) ≡ z → false ≡ (z && (w.part e).space b == s)
     no_other b ne false h = refl
     no_other b ne true h = absurd (ne (i.homed e b (unreleased_bound (w.part e) b h)))
 
@@ -39,20 +40,20 @@ bound_is w e s i =
     nothing true y = refl
     nothing false y = refl
 
-    same : (b : ℕ) → (w.home b ≡ e) ⊎ (w.home b ≢ e) → at b (w.home b) ≡ (is_unreleased ((w.part e).stage b) && (w.part e).space b == s)
+    same : (b : ℕ) → (w.endpoint_of b ≡ e) ⊎ (w.endpoint_of b ≢ e) → at b (w.endpoint_of b) ≡ (is_unreleased ((w.part e).stage b) && (w.part e).space b == s)
     same b (inl h) =
         ap (at b) h
         ∙ ap (λ z. is_unreleased ((w.part e).stage b) && (z && w.config.first + (w.part e).space b == w.config.first + s)) (is_same e e refl)
         ∙ ap (λ z. is_unreleased ((w.part e).stage b) && z) (same_number w.config.first ((w.part e).space b) s)
     same b (inr ne) =
-        ap (λ z. is_unreleased ((w.part (w.home b)).stage b) && (z && w.config.first + (w.part (w.home b)).space b == w.config.first + s))
-        (is_other (w.home b) e ne)
-        ∙ nothing (is_unreleased ((w.part (w.home b)).stage b)) (w.config.first + (w.part (w.home b)).space b == w.config.first + s)
+        ap (λ z. is_unreleased ((w.part (w.endpoint_of b)).stage b) && (z && w.config.first + (w.part (w.endpoint_of b)).space b == w.config.first + s))
+        (is_other (w.endpoint_of b) e ne)
+        ∙ nothing (is_unreleased ((w.part (w.endpoint_of b)).stage b)) (w.config.first + (w.part (w.endpoint_of b)).space b == w.config.first + s)
         ∙ no_other b ne (is_unreleased ((w.part e).stage b)) refl
 
     go : (o : Option ℕ) → bound w e s ≡ o → option_map (binding_seen w) o ≡ option_map (binding_wire w.config.first e (w.part e)) o
     go None h = refl
     go (Some b) h =
         let found = find_passes w.bindings (λ d. is_unreleased ((w.part e).stage d) && (w.part e).space d == s) b h in
-        let home = i.homed e b (unreleased_bound (w.part e) b (and_left (is_unreleased ((w.part e).stage b)) ((w.part e).space b == s) found.1)) in
-        ap (λ d. Some (binding_wire w.config.first d (w.part d) b)) home
+        let endpoint_of = i.homed e b (unreleased_bound (w.part e) b (and_left (is_unreleased ((w.part e).stage b)) ((w.part e).space b == s) found.1)) in
+        ap (λ d. Some (binding_wire w.config.first d (w.part d) b)) endpoint_of

@@ -28,17 +28,17 @@ pub space_live : (w : World) → Invariant w → (k : ℕ) (b : BindingWire) →
 space_live w i k b x =
     space_there w b.space ∙ ap (Labels.is_space w) (ap (λ z. z.space) x.seen) ∙ there
   where
-    live : w.is_live ((w.part (w.home x.of)).space x.of) ≡ true
-    live = i.mapped.bound_live (w.home x.of) x.of x.passes
+    live : w.is_live ((w.part (w.endpoint_of x.of)).space x.of) ≡ true
+    live = i.mapped.bound_live (w.endpoint_of x.of) x.of x.passes
 
     both : (a b : Bool) → a ≡ true → b ≡ true → (a && b) ≡ true
     both a b ha hb = ap (λ c. c && b) ha ∙ hb
 
-    there : Labels.is_space w (w.config.first + (w.part (w.home x.of)).space x.of) ≡ true
+    there : Labels.is_space w (w.config.first + (w.part (w.endpoint_of x.of)).space x.of) ≡ true
     there =
         both _ _
-        (numbered w.config.first w.spaces ((w.part (w.home x.of)).space x.of) (i.mapped.live ((w.part (w.home x.of)).space x.of) live))
-        (ap w.is_live (named w.config.first ((w.part (w.home x.of)).space x.of)) ∙ live)
+        (numbered w.config.first w.spaces ((w.part (w.endpoint_of x.of)).space x.of) (i.mapped.live ((w.part (w.endpoint_of x.of)).space x.of) live))
+        (ap w.is_live (named w.config.first ((w.part (w.endpoint_of x.of)).space x.of)) ∙ live)
 
 pub always_have_spaces : (config : Config) (steps : List Step) → Fits config → HaveSpaces (wire (world_after PerSpace config steps))
 always_have_spaces config steps fits =

@@ -2,9 +2,9 @@
 use Rattle.std.proofs.Common.{◌≡◌, ℕ, ◌<◌}
 use Rattle.std.specs.Prelude.{Some}
 use Rattle.sva_step.specs.declared.steps.Step.TheVariants as step
-use Rattle.sva_model.specs.State.{About, World}
-use Rattle.sva_model.specs.State.About.{StartOf, StopOf, ResetOrder, CompletionOf, InvalidateOf, ResponseOf, RequestOf, InvalidatedOf, PageRequestOf}
-use Rattle.sva_model.specs.State.About.{MarkerOf, ResetDone}
+use Rattle.sva_model.specs.State.{Subject, World}
+use Rattle.sva_model.specs.State.Subject.{StartOf, StopOf, FunctionReset, CompletionOf, InvalidateOf, ResponseOf, RequestOf, InvalidatedOf, PageRequestOf}
+use Rattle.sva_model.specs.State.Subject.{MarkerOf, ResetDone}
 use Rattle.sva_labels.proofs.Reached.{IsReached}
 use Rattle.sva_labels.proofs.Alike.{SaysAlike}
 use Rattle.sva_labels.proofs.DeliverResults.{ArrivesAlike, delivered_alike, start_arrives, stop_arrives, reset_arrives, page_request_arrives}
@@ -12,10 +12,10 @@ use Rattle.sva_labels.proofs.DeliverResults.{marker_arrives, reset_done_arrives}
 use Rattle.sva_labels.proofs.DeliverTranslations.{request_arrives, completion_arrives}
 use Rattle.sva_labels.proofs.DeliverOrders.{invalidate_arrives, invalidated_arrives, response_arrives}
 
-pub arrives_alike : (w : World) (e c : ℕ) (a : About) → IsReached w → e < w.config.endpoints → (w.part e).message c ≡ Some a → ArrivesAlike w e c a
+pub arrives_alike : (w : World) (e c : ℕ) (a : Subject) → IsReached w → e < w.config.endpoints → (w.part e).message c ≡ Some a → ArrivesAlike w e c a
 arrives_alike w e c (StartOf b) r l m = start_arrives w e c b r m
 arrives_alike w e c (StopOf b) r l m = stop_arrives w e c b r m
-arrives_alike w e c ResetOrder r l m = reset_arrives w e c r m
+arrives_alike w e c FunctionReset r l m = reset_arrives w e c r m
 arrives_alike w e c (CompletionOf x found) r l m = completion_arrives w e c x found r l m
 arrives_alike w e c (InvalidateOf k) r l m = invalidate_arrives w e c k r m
 arrives_alike w e c (ResponseOf g code) r l m = response_arrives w e c g code r l m
@@ -26,4 +26,4 @@ arrives_alike w e c (MarkerOf b) r l m = marker_arrives w e c b r l m
 arrives_alike w e c ResetDone r l m = reset_done_arrives w e c r m
 
 pub deliver_says : (w : World) (n : ℕ) → IsReached w → SaysAlike w (step.Deliver n)
-deliver_says w n r = delivered_alike w n r (λ e c a l m way name. arrives_alike w e c a r l m)
+deliver_says w n r = delivered_alike w n r (λ e c a l m link_of name. arrives_alike w e c a r l m)

@@ -7,10 +7,10 @@ use Rattle.sva_model.specs.Words.{count_below, the}
 use Rattle.sva_model.proofs.RangeLemmas.{decode-encode}
 use Rattle.sva_model.specs.Message.{Code}
 use Rattle.sva_model.specs.Message.Message.{InvalidatedMessage}
-use Rattle.sva_model.specs.State.{Part, World, Order, GroupState}
+use Rattle.sva_model.specs.State.{Endpoint, World, Order, GroupState}
 use Rattle.sva_model.specs.State.Order.{RangeOf, PasidOf, Wait}
-use Rattle.sva_model.specs.State.OrderState.{Owing}
-use Rattle.sva_model.specs.State.About.{InvalidateOf, InvalidatedOf, ResponseOf}
+use Rattle.sva_model.specs.State.OrderState.{Completing}
+use Rattle.sva_model.specs.State.Subject.{InvalidateOf, InvalidatedOf, ResponseOf}
 use Rattle.sva_model.specs.States.{is_open, is_busy, is_outstanding}
 use Rattle.sva_model.specs.Acts.{extent_of, scope_of, binding_of, is_last_left}
 use Rattle.sva_model.specs.Labels
@@ -32,7 +32,7 @@ use Rattle.sva_labels.proofs.DeliverResults.{ArrivesAlike, by_message, open_seen
 
 -- An Invalidate: its range is read from the code.
 
-pub extent_read : (p : Part) → HasRanges p → (k : ℕ) (o : Order) → p.order k ≡ o → extent_in (scope_of (extent_of o)) ≡ extent_of o
+pub extent_read : (p : Endpoint) → HasRanges p → (k : ℕ) (o : Order) → p.order k ≡ o → extent_in (scope_of (extent_of o)) ≡ extent_of o
 extent_read p h k (RangeOf b range) e = ap extent_or_all (decode-encode range (h k b range e))
 extent_read p h k (PasidOf b) e = refl
 extent_read p h k (Wait cookie drain) e = refl
@@ -58,16 +58,16 @@ response_arrives w e c g code r l m =
     ∙ group_seen w.mappings p (r.invariant.parts e).groups.index_low (p.index g)
     ∙ ap (option_map (group_wire p)) ((r.invariant.parts e).groups.bears_index g (waits_on (p.group g) ((r.under_way e).responded c g code m).0)))
   where
-    p : Part
+    p : Endpoint
     p = w.part e
 
 -- Completions of invalidations: as many ITags are freed as orders are done.
 
 -- an order that is owed is done by one more exactly where its ITag is freed by one more
-last_seen : (count left : ℕ) → 0 < left → left ≤ count → is_last_of count (Some (busy_wire (Owing count left))) ≡ is_last_left (Owing count left)
+last_seen : (count left : ℕ) → 0 < left → left ≤ count → is_last_of count (Some (busy_wire (Completing count left))) ≡ is_last_left (Completing count left)
 last_seen count left low high = go (left == count) refl ∙ sym (by_left left)
   where
-    by_left : (x : ℕ) → is_last_left (Owing count x) ≡ (x == 1)
+    by_left : (x : ℕ) → is_last_left (Completing count x) ≡ (x == 1)
     by_left x = grind (arith, nat_tests)
 
     fresh : (a b : ℕ) → (a == b) ≡ true → (b == 1) ≡ (a == 1)
@@ -113,14 +113,14 @@ busy_seen w e t l m =
 
 freed_seen :
     (w : World) (e c vector field : ℕ) (names : ℕ → Bool) → IsReached w → e < w.config.endpoints → IsVectorOf (w.part e) names vector
-    → ((k : ℕ) → names k ≡ true → (left : ℕ) × ((w.part e).order_state k ≡ Owing (count_read field) left))
+    → ((k : ℕ) → names k ≡ true → (left : ℕ) × ((w.part e).order_state k ≡ Completing (count_read field) left))
     → count_below 32 (λ t. Labels.is_set vector t && is_last_of (count_read field) (busy_at (unit_of (wire w) e) t))
     ≡ count_below (w.part e).orders (λ k. names k && is_last_left ((w.part e).order_state k))
 freed_seen w e c vector field names r l v owed =
     count_paired 32 p.orders (λ t. Labels.is_set vector t && is_last_of count (busy_at (unit_of (wire w) e) t))
     (λ k. names k && is_last_left (p.order_state k)) (λ t. the (p.at_itag t)) p.itag forth back
   where
-    p : Part
+    p : Endpoint
     p = w.part e
 
     count : ℕ
@@ -135,7 +135,7 @@ freed_seen w e c vector field names r l v owed =
     second : (a b : Bool) → (a && b) ≡ true → b ≡ true
     second a b h = grind arith
 
-    busy : (k left : ℕ) → p.order_state k ≡ Owing count left → is_busy (p.order_state k) ≡ true
+    busy : (k left : ℕ) → p.order_state k ≡ Completing count left → is_busy (p.order_state k) ≡ true
     busy k left h = ap is_busy h
 
     bears : (k : ℕ) → names k ≡ true → p.at_itag (p.itag k) ≡ Some k
@@ -145,7 +145,7 @@ freed_seen w e c vector field names r l v owed =
     alike : (k : ℕ) → names k ≡ true → p.itag k < 32 → is_last_of count (busy_at (unit_of (wire w) e) (p.itag k)) ≡ is_last_left (p.order_state k)
     alike k nm low =
         let x = owed k nm in
-        let y = (r.under_way e).owing k count x.0 x.1 in
+        let y = (r.under_way e).completing k count x.0 x.1 in
         ap (is_last_of count)
         (busy_seen w e (p.itag k) l low ∙ ap (option_map (λ j. busy_wire (p.order_state j))) (bears k nm) ∙ ap (λ s. Some (busy_wire s)) x.1)
         ∙ last_seen count x.0 y.0 y.1
@@ -193,7 +193,7 @@ pub invalidated_arrives :
     → ArrivesAlike w e c (InvalidatedOf names)
 invalidated_arrives w e c names r l m = go ((r.carried e).invalidated c names m)
   where
-    p : Part
+    p : Endpoint
     p = w.part e
 
     -- what is moved where the unit is open
@@ -208,7 +208,7 @@ invalidated_arrives w e c names r l m = go ((r.carried e).invalidated c names m)
 
     go :
         (vector field : ℕ) × (p.carried c ≡ InvalidatedMessage vector field) × (field < 8) × IsVectorOf p names vector
-        × ((k : ℕ) → names k ≡ true → (left : ℕ) × (p.order_state k ≡ Owing (count_read field) left))
+        × ((k : ℕ) → names k ≡ true → (left : ℕ) × (p.order_state k ≡ Completing (count_read field) left))
         → ArrivesAlike w e c (InvalidatedOf names)
     go (vector, field, h, low, v, owed) =
         ap (by_message w e c) h

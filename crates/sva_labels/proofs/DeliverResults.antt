@@ -4,8 +4,8 @@ use Rattle.std.specs.Prelude.{Option, Some, None, ◌&&◌}
 use Rattle.sva_step.specs.declared.steps.Step.TheVariants as step
 use Rattle.sva_model.specs.Words.{is_some}
 use Rattle.sva_model.specs.Message.{Message}
-use Rattle.sva_model.specs.State.{About, World}
-use Rattle.sva_model.specs.State.About.{StartOf, StopOf, ResetOrder, PageRequestOf, MarkerOf, ResetDone}
+use Rattle.sva_model.specs.State.{Subject, World}
+use Rattle.sva_model.specs.State.Subject.{StartOf, StopOf, FunctionReset, PageRequestOf, MarkerOf, ResetDone}
 use Rattle.sva_model.specs.States.{is_open, is_unreleased}
 use Rattle.sva_model.specs.Labels
 use Rattle.sva_model.specs.Outcomes as names
@@ -21,13 +21,13 @@ use Rattle.sva_labels.proofs.DeliverSays.{flight_seen, deliver_alike}
 use Rattle.sva_labels.proofs.Alike.{SaysAlike, result_by}
 
 -- a message that speaks of this is answered, and moves what it moves, as by names
-abbrev pub ArrivesAlike : World → (e c : ℕ) → About → Type 0
+abbrev pub ArrivesAlike : World → (e c : ℕ) → Subject → Type 0
 ArrivesAlike w e c a = message_result (wire w) e (number w.config.first c) ((w.part e).carried c) ≡ result_by w (names.about_outcome w (w.part e) e c a)
 
 -- a delivery is alike where the message in flight is
 pub delivered_alike :
     (w : World) (n : ℕ) → IsReached w
-    → ((e c : ℕ) (a : About) → e < w.config.endpoints → (w.part e).message c ≡ Some a → w.way c ≡ e → c ≡ Labels.name w n → ArrivesAlike w e c a)
+    → ((e c : ℕ) (a : Subject) → e < w.config.endpoints → (w.part e).message c ≡ Some a → w.link_of c ≡ e → c ≡ Labels.name w n → ArrivesAlike w e c a)
     → SaysAlike w (step.Deliver n)
 delivered_alike w n r h = record { alike = deliver_alike w n r; result = λ p. go (not_true (Labels.is_in_flight w n) p.0) ((w.part e).message c) refl }
   where
@@ -35,10 +35,10 @@ delivered_alike w n r h = record { alike = deliver_alike w n r; result = λ p. g
     c = Labels.name w n
 
     e : ℕ
-    e = w.way c
+    e = w.link_of c
 
     go :
-        Labels.is_in_flight w n ≡ true → (o : Option About) → (w.part e).message c ≡ o
+        Labels.is_in_flight w n ≡ true → (o : Option Subject) → (w.part e).message c ≡ o
         → result_of (wire w) (step.Deliver n) ≡ result_by w (outcome w (step.Deliver n))
     go f None m = absurd (nothing f m)
       where
@@ -60,7 +60,7 @@ start_arrives w e c b r m = ap (by_message w e c) ((r.carried e).start c b m)
 pub stop_arrives : (w : World) (e c b : ℕ) → IsReached w → (w.part e).message c ≡ Some (StopOf b) → ArrivesAlike w e c (StopOf b)
 stop_arrives w e c b r m = ap (by_message w e c) ((r.carried e).stop c b m)
 
-pub reset_arrives : (w : World) (e c : ℕ) → IsReached w → (w.part e).message c ≡ Some ResetOrder → ArrivesAlike w e c ResetOrder
+pub reset_arrives : (w : World) (e c : ℕ) → IsReached w → (w.part e).message c ≡ Some FunctionReset → ArrivesAlike w e c FunctionReset
 reset_arrives w e c r m = ap (by_message w e c) ((r.carried e).reset c m)
 
 pub reset_done_arrives : (w : World) (e c : ℕ) → IsReached w → (w.part e).message c ≡ Some ResetDone → ArrivesAlike w e c ResetDone
@@ -98,14 +98,14 @@ marker_arrives w e c b r l m =
 
 -- the delivery of a Start
 pub start_says :
-    (w : World) (n b : ℕ) → IsReached w → (w.part (w.way (Labels.name w n))).message (Labels.name w n) ≡ Some (StartOf b)
+    (w : World) (n b : ℕ) → IsReached w → (w.part (w.link_of (Labels.name w n))).message (Labels.name w n) ≡ Some (StartOf b)
     → SaysAlike w (step.Deliver n)
 start_says w n b r h =
     delivered_alike w n r
-    (λ e c a l m way name. is_start e c a m
-    (subst (λ x. (w.part x).message c ≡ Some (StartOf b)) way (subst (λ x. (w.part (w.way x)).message x ≡ Some (StartOf b)) (sym name) h)))
+    (λ e c a l m link_of name. is_start e c a m
+    (subst (λ x. (w.part x).message c ≡ Some (StartOf b)) link_of (subst (λ x. (w.part (w.link_of x)).message x ≡ Some (StartOf b)) (sym name) h)))
   where
-    is_start : (e c : ℕ) (a : About) → (w.part e).message c ≡ Some a → (w.part e).message c ≡ Some (StartOf b) → ArrivesAlike w e c a
+    is_start : (e c : ℕ) (a : Subject) → (w.part e).message c ≡ Some a → (w.part e).message c ≡ Some (StartOf b) → ArrivesAlike w e c a
     is_start e c a m k =
         let same : a ≡ StartOf b = cc in
         start_arrives w e c b r k ∙ sym (ap (λ x. result_by w (names.about_outcome w (w.part e) e c x)) same)

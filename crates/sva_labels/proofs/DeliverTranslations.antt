@@ -8,11 +8,11 @@ use Rattle.sva_step.specs.declared.answers.Answer.TheVariants as answer
 use Rattle.sva_model.specs.Words.{select, is_some, the}
 use Rattle.sva_model.specs.Message.{Message}
 use Rattle.sva_model.specs.Message.Message.{CompletionMessage}
-use Rattle.sva_model.specs.State.{Part, World, Stage, RequestState, Phase}
+use Rattle.sva_model.specs.State.{Endpoint, World, Stage, RequestState, Phase}
 use Rattle.sva_model.specs.State.Stage.{Unbound, Live, Stopping, Draining, Invalidating, Quiet, Lost, Released}
 use Rattle.sva_model.specs.State.RequestState.{Out, Doomed, Over}
 use Rattle.sva_model.specs.State.Phase.{Open, Ordered, Cleared}
-use Rattle.sva_model.specs.State.About.{RequestOf, CompletionOf}
+use Rattle.sva_model.specs.State.Subject.{RequestOf, CompletionOf}
 use Rattle.sva_model.specs.States.{is_open, is_unreleased, is_live_stage, is_out}
 use Rattle.sva_model.specs.Acts.{is_replaced}
 use Rattle.sva_model.specs.Outcomes as names
@@ -37,7 +37,7 @@ use Rattle.sva_labels.proofs.DeliverResults.{ArrivesAlike, by_message, open_seen
 
 -- A request.
 
-live_seen : (first : ℕ) (p : Part) (s : Stage) → is_live (stage_wire first p s) ≡ is_live_stage s
+live_seen : (first : ℕ) (p : Endpoint) (s : Stage) → is_live (stage_wire first p s) ≡ is_live_stage s
 live_seen first p Unbound = refl
 live_seen first p Live = refl
 live_seen first p (Stopping m) = refl
@@ -58,7 +58,7 @@ found_seen w e r i u =
     ∙ ap₂ (λ t o. completion_of (p.request_tag r) (if t then o else None)) (live_seen w.config.first p (p.stage b)) there
     ∙ go (is_live_stage (p.stage b))
   where
-    p : Part
+    p : Endpoint
     p = w.part e
 
     b : ℕ
@@ -90,7 +90,7 @@ request_arrives w e c r re l m =
     ∙ ap (request_result (wire w) e (number w.config.first c) (p.request_tag r) (p.pasid (p.request_binding r)) (p.request_page r)) (open_seen w e l)
     ∙ go (is_open p.phase) refl
   where
-    p : Part
+    p : Endpoint
     p = w.part e
 
     go :
@@ -153,7 +153,7 @@ full_seen w e r i u =
     ∙ count_same p.requests (λ x. is_some (p.held x) && is_other (p.pasid b) (p.request_page r) (cached_wire w.mappings p x))
     (λ x. is_some (p.held x) && not (is_replaced p r x)) (λ x l. go x (is_some (p.held x)) refl))
   where
-    p : Part
+    p : Endpoint
     p = w.part e
 
     b : ℕ
@@ -238,7 +238,7 @@ out_arrives w e c r (Some m) i l u tag Out h out =
     (ap (λ (d : DeviceWire). is_full d.cache (p.pasid (p.request_binding r)) (p.request_page r)) (device_seen w e l) ∙ full_seen w e r i u)
     ∙ kept_arrives w e c r m (names.is_full p r)
   where
-    p : Part
+    p : Endpoint
     p = w.part e
 out_arrives w e c r None i l u tag Out h out =
     ap (completion_result (device_of (wire w) e) e (number w.config.first c) ((w.part e).request_tag r) 0 false false) (tag_found w e r i l tag)
@@ -270,7 +270,7 @@ pub completion_arrives :
     → ArrivesAlike w e c (CompletionOf r o)
 completion_arrives w e c r o re l m = ap (by_message w e c) (carried o m) ∙ go p.phase refl
   where
-    p : Part
+    p : Endpoint
     p = w.part e
 
     i : Invariant w

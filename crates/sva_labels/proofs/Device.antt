@@ -5,15 +5,15 @@ use Rattle.sva_model.specs.Words.{count_below}
 use Rattle.sva_model.specs.Message.{Message}
 use Rattle.sva_model.specs.Message.Message.{StartMessage, StopMessage, ResetMessage, CompletionMessage, InvalidateMessage, ResponseMessage, RequestMessage}
 use Rattle.sva_model.specs.Message.Message.{InvalidatedMessage, PageRequestMessage, MarkerMessage, ResetDoneMessage}
-use Rattle.sva_model.specs.State.{Mappings, Stage, Part, World}
+use Rattle.sva_model.specs.State.{Mappings, Stage, Endpoint, World}
 use Rattle.sva_model.specs.State.PasidState.{Off, On, Ending}
 use Rattle.sva_model.specs.States.{is_unreleased, is_off}
-use Rattle.sva_model.specs.Acts.{Act, Own, act, own, bound, submits, submitted, submitted_if}
-use Rattle.sva_model.specs.Acts.Own.{Bind, Stop, Drain, Invalidate, Quieten, Release, Send, Pass, File, Reset, Hand, Respond, Discard, Ask, Begin, End}
-use Rattle.sva_model.specs.Acts.Own.{Evict, Group, Request, Finish, Quit, Start_arrives, Stop_arrives, Reset_arrives, Keep, Forget, Take, Answered}
-use Rattle.sva_model.specs.Acts.Own.{Complete, Count, Arrive, Miss, Mark, Ignore, Reopen}
+use Rattle.sva_model.specs.Acts.{Act, LocalAct, act, own, bound, submits, submitted, submitted_if}
+use Rattle.sva_model.specs.Acts.LocalAct.{Bind, Stop, Drain, Invalidate, Quieten, Release, Send, Pass, File, Reset, Hand, Respond, Discard, Ask, Begin, End}
+use Rattle.sva_model.specs.Acts.LocalAct.{Evict, Group, Request, Finish, Quit, Start_arrives, Stop_arrives, Reset_arrives, Keep, Forget, Take, Answered}
+use Rattle.sva_model.specs.Acts.LocalAct.{Complete, Count, Arrive, Miss, Mark, Ignore, Reopen}
 use Rattle.sva_model.specs.Wire.{DeviceWire, device_wire}
-use Rattle.sva_laws.proofs.Legal.{LegalOwn}
+use Rattle.sva_laws.proofs.Legal.{LegalLocalAct}
 use Rattle.sva_laws.proofs.Bounds.{Bounds}
 use Rattle.sva_laws.proofs.Bindings.{is_unmarked}
 use Rattle.sva_laws.proofs.Labels.{Labels}
@@ -48,7 +48,7 @@ unmarked_unreleased : (s : Stage) → is_unmarked s ≡ true → is_unreleased s
 unmarked_unreleased s h = grind arith
 
 pub device_square :
-    (first : ℕ) (ms : Mappings) (x g n e : ℕ) (p : Part) (o : Own) → LegalOwn ms g p o → PartInvariant ms x g n e p
+    (first : ℕ) (ms : Mappings) (x g n e : ℕ) (p : Endpoint) (o : LocalAct) → LegalLocalAct ms g p o → PartInvariant ms x g n e p
     → device_wire ms (own p n o) ≡ device_moved (device_wire ms p) (own_move first e ms p o)
 device_square first ms x g n e p (Bind b s t) l i =
     let pasids = pasids_bound ms g n p b s t l i.bindings in
@@ -152,14 +152,14 @@ device_square first ms x g n e p (Reopen c) l i =
 
 -- Invalidations of ranges with the wait behind them, as an unmapping submits them, leave the device as it is.
 pub device_submitted :
-    (ms : Mappings) (g : ℕ) (p : Part) (b q count order cookie : ℕ) → Bounds g p → Labels p
+    (ms : Mappings) (g : ℕ) (p : Endpoint) (b q count order cookie : ℕ) → Bounds g p → Labels p
     → device_wire ms (submitted p b q count order cookie) ≡ device_wire ms p
 device_submitted ms g p b q count order cookie bo la =
     let taken = taken_submitted ms g p b q count order cookie bo la in
     λ j. record (device_wire ms p) { taken = taken j }
 
 pub device_submitted_if :
-    (t : Bool) (ms : Mappings) (g : ℕ) (p : Part) (o : Option ℕ) (q count order cookie : ℕ) → Bounds g p → Labels p
+    (t : Bool) (ms : Mappings) (g : ℕ) (p : Endpoint) (o : Option ℕ) (q count order cookie : ℕ) → Bounds g p → Labels p
     → device_wire ms (submitted_if t p o q count order cookie) ≡ device_wire ms p
 device_submitted_if true ms g p (Some b) q count order cookie bo la = device_submitted ms g p b q count order cookie bo la
 device_submitted_if true ms g p None q count order cookie bo la = refl

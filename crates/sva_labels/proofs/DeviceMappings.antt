@@ -3,7 +3,7 @@
 use Rattle.std.proofs.Common.{◌≡◌, refl, ap, ap₂, ℕ, ◌<◌, Bool, true, arith}
 use Rattle.std.specs.Prelude.{Option, Some, None, option_map, ◌&&◌, nat_lt, if◌then◌else◌}
 use Rattle.sva_model.specs.Words.{tabulate, is_some, holds_of, the}
-use Rattle.sva_model.specs.State.{Owed, Mappings, UseState, Part, World}
+use Rattle.sva_model.specs.State.{Owed, Mappings, UseState, Endpoint, World}
 use Rattle.sva_model.specs.State.UseState.{Running, Dead, Ended}
 use Rattle.sva_model.specs.States.{is_running, covers}
 use Rattle.sva_model.specs.Acts.{act, without_pages}
@@ -22,7 +22,7 @@ pub record KeepsMade (ms other : Mappings) : Type 0 where
   pub page : (m : ℕ) → m < ms.made → other.page m ≡ ms.page m
 
 cached_same :
-    (ms other : Mappings) (p : Part) → KeepsMade ms other → Owners ms p → (r : ℕ) → is_some (p.held r) ≡ true
+    (ms other : Mappings) (p : Endpoint) → KeepsMade ms other → Owners ms p → (r : ℕ) → is_some (p.held r) ≡ true
     → cached_wire other p r ≡ cached_wire ms p r
 cached_same ms other p keeps ow r h =
     let made : the (p.held r) < ms.made = ow.held_made r (the (p.held r)) (some_the (p.held r) h) in
@@ -30,7 +30,7 @@ cached_same ms other p keeps ow r h =
     (keeps.write (the (p.held r)) made)
 
 use_same :
-    (ms other : Mappings) (p : Part) → KeepsMade ms other → (u : ℕ) (s : UseState) → (s ≡ Running → p.use_mapping u < ms.made)
+    (ms other : Mappings) (p : Endpoint) → KeepsMade ms other → (u : ℕ) (s : UseState) → (s ≡ Running → p.use_mapping u < ms.made)
     → (if is_running s then RunningWire (translation_wire other p (p.use_binding u) (other.page (p.use_mapping u)) (p.use_mapping u)) else DeadWire)
     ≡ (if is_running s then RunningWire (translation_wire ms p (p.use_binding u) (ms.page (p.use_mapping u)) (p.use_mapping u)) else DeadWire)
 use_same ms other p keeps u Running h =
@@ -46,7 +46,7 @@ use_same ms other p keeps u Dead h = refl
 use_same ms other p keeps u Ended h = refl
 
 noted_same :
-    (ms other : Mappings) (p : Part) → KeepsMade ms other → (k uses u : ℕ) (s : UseState) → (s ≡ Running → p.use_mapping u < ms.made)
+    (ms other : Mappings) (p : Endpoint) → KeepsMade ms other → (k uses u : ℕ) (s : UseState) → (s ≡ Running → p.use_mapping u < ms.made)
     → (nat_lt u uses && (is_running s && covers (p.order k) (p.use_binding u) (other.page (p.use_mapping u))))
     ≡ (nat_lt u uses && (is_running s && covers (p.order k) (p.use_binding u) (ms.page (p.use_mapping u))))
 noted_same ms other p keeps k uses u Running h = ap (λ q. nat_lt u uses && covers (p.order k) (p.use_binding u) q) (keeps.page (p.use_mapping u) (h refl))
@@ -54,12 +54,12 @@ noted_same ms other p keeps k uses u Dead h = refl
 noted_same ms other p keeps k uses u Ended h = refl
 
 notes_same :
-    (ms other : Mappings) (p : Part) → KeepsMade ms other → Owners ms p → (k uses : ℕ) (o : Option ℕ)
+    (ms other : Mappings) (p : Endpoint) → KeepsMade ms other → Owners ms p → (k uses : ℕ) (o : Option ℕ)
     → holds_of (is_noted other p k uses) o ≡ holds_of (is_noted ms p k uses) o
 notes_same ms other p keeps ow k uses None = refl
 notes_same ms other p keeps ow k uses (Some u) = noted_same ms other p keeps k uses u (p.use_state u) (ow.running_made u)
 
-pub device_kept : (ms other : Mappings) (p : Part) → KeepsMade ms other → Owners ms p → device_wire other p ≡ device_wire ms p
+pub device_kept : (ms other : Mappings) (p : Endpoint) → KeepsMade ms other → Owners ms p → device_wire other p ≡ device_wire ms p
 device_kept ms other p keeps ow =
     let cache : cache_wire other p ≡ cache_wire ms p =
     ap (sorted_by is_before)
@@ -85,11 +85,11 @@ mapped_keeps w s q f x =
     }
 
 pub device_mapped :
-    (w : World) (s q f : ℕ) (x : Bool) (p : Part) → Owners w.mappings p
+    (w : World) (s q f : ℕ) (x : Bool) (p : Endpoint) → Owners w.mappings p
     → device_wire (act w (Map s q f x)).mappings p ≡ device_wire w.mappings p
 device_mapped w s q f x p ow = device_kept w.mappings (act w (Map s q f x)).mappings p (mapped_keeps w s q f x) ow
 
 -- pages that are taken out
-pub device_without : (ms : Mappings) (s : ℕ) (pages : ℕ → Bool) (owed : ℕ → Owed) (p : Part) → device_wire (without_pages ms s pages owed) p
+pub device_without : (ms : Mappings) (s : ℕ) (pages : ℕ → Bool) (owed : ℕ → Owed) (p : Endpoint) → device_wire (without_pages ms s pages owed) p
     ≡ device_wire ms p
 device_without ms s pages owed p = refl

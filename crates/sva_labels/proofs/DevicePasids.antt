@@ -2,36 +2,36 @@
 use Rattle.std.proofs.Common.{◌≡◌, ◌≢◌, ◌⊎◌, inl, inr, refl, ap, sym, ◌∙◌, ℕ, zero, suc, ◌<◌, true, false, arith}
 use Rattle.std.specs.Prelude.{Option, Some, None, List, map, slice_set}
 use Rattle.sva_model.specs.Words.{put, tabulate}
-use Rattle.sva_model.specs.State.{Mappings, PasidState, Part}
+use Rattle.sva_model.specs.State.{Mappings, PasidState, Endpoint}
 use Rattle.sva_model.specs.State.PasidState.{Off}
 use Rattle.sva_model.specs.States.{is_unreleased, is_off}
-use Rattle.sva_model.specs.Acts.{own, Own}
+use Rattle.sva_model.specs.Acts.{own, LocalAct}
 use Rattle.sva_model.specs.Wire.{DeviceWire, state_of_pasid}
 use Rattle.sva_laws.proofs.Words.{put-same, put-other, ℕ_cases}
-use Rattle.sva_laws.proofs.Legal.{LegalOwn}
+use Rattle.sva_laws.proofs.Legal.{LegalLocalAct}
 use Rattle.sva_laws.proofs.Bindings.{Bindings, is_unmarked}
 use Rattle.sva_laws.proofs.Labels.{Labels}
 use Rattle.sva_labels.specs.Moves.{with_pasid}
 use Rattle.sva_labels.proofs.DeviceRows.{tabulate_map}
 use Rattle.sva_wire.proofs.Lists.{tabulate_same, tabulate_set}
 
-abbrev pub pasids_wire : Part → List PasidState
+abbrev pub pasids_wire : Endpoint → List PasidState
 pasids_wire p = tabulate 32 (λ t. state_of_pasid p (p.at_pasid (suc t)))
 
 -- a binding that isn't Live or Stopping is off at its endpoint
-pub off_unless : (p : Part) (b : ℕ) → Bindings p → is_unmarked (p.stage b) ≡ false → p.pasid_state b ≡ Off
+pub off_unless : (p : Endpoint) (b : ℕ) → Bindings p → is_unmarked (p.stage b) ≡ false → p.pasid_state b ≡ Off
 off_unless p b bi h = grind (arith, bi.on_stage b, bi.ending_stage b)
 
 -- one that isn't off there isn't released
-pub unreleased_unless : (p : Part) (b : ℕ) → Bindings p → is_off (p.pasid_state b) ≡ false → is_unreleased (p.stage b) ≡ true
+pub unreleased_unless : (p : Endpoint) (b : ℕ) → Bindings p → is_off (p.pasid_state b) ≡ false → is_unreleased (p.stage b) ≡ true
 unreleased_unless p b bi h = grind (arith, bi.on_stage b, bi.ending_stage b)
 
 -- a PASID that nobody bore and one that is off read alike
 pub pasids_bound :
-    (ms : Mappings) (g n : ℕ) (p : Part) (b s t : ℕ) → LegalOwn ms g p (Own.Bind b s t) → Bindings p
-    → pasids_wire (own p n (Own.Bind b s t)) ≡ pasids_wire p
+    (ms : Mappings) (g n : ℕ) (p : Endpoint) (b s t : ℕ) → LegalLocalAct ms g p (LocalAct.Bind b s t) → Bindings p
+    → pasids_wire (own p n (LocalAct.Bind b s t)) ≡ pasids_wire p
 pasids_bound ms g n p b s t l bi =
-    tabulate_same 32 (λ x. state_of_pasid (own p n (Own.Bind b s t)) (put p.at_pasid t (Some b) (suc x))) (λ x. state_of_pasid p (p.at_pasid (suc x)))
+    tabulate_same 32 (λ x. state_of_pasid (own p n (LocalAct.Bind b s t)) (put p.at_pasid t (Some b) (suc x))) (λ x. state_of_pasid p (p.at_pasid (suc x)))
     (λ x m. go (suc x) (ℕ_cases (suc x) t))
   where
     go : (x : ℕ) → (x ≡ t) ⊎ (x ≢ t) → state_of_pasid p (put p.at_pasid t (Some b) x) ≡ state_of_pasid p (p.at_pasid x)
@@ -43,10 +43,10 @@ pasids_bound ms g n p b s t l bi =
     go x (inr ne) = ap (state_of_pasid p) (put-other p.at_pasid t (Some b) x ne)
 
 pub pasids_released :
-    (ms : Mappings) (g n : ℕ) (p : Part) (b : ℕ) → LegalOwn ms g p (Own.Release b) → Bindings p → Labels p
-    → pasids_wire (own p n (Own.Release b)) ≡ pasids_wire p
+    (ms : Mappings) (g n : ℕ) (p : Endpoint) (b : ℕ) → LegalLocalAct ms g p (LocalAct.Release b) → Bindings p → Labels p
+    → pasids_wire (own p n (LocalAct.Release b)) ≡ pasids_wire p
 pasids_released ms g n p b l bi la =
-    tabulate_same 32 (λ x. state_of_pasid (own p n (Own.Release b)) (put p.at_pasid (p.pasid b) None (suc x)))
+    tabulate_same 32 (λ x. state_of_pasid (own p n (LocalAct.Release b)) (put p.at_pasid (p.pasid b) None (suc x)))
     (λ x. state_of_pasid p (p.at_pasid (suc x))) (λ x m. go (suc x) (ℕ_cases (suc x) (p.pasid b)))
   where
     go : (x : ℕ) → (x ≡ p.pasid b) ⊎ (x ≢ p.pasid b) → state_of_pasid p (put p.at_pasid (p.pasid b) None x) ≡ state_of_pasid p (p.at_pasid x)
@@ -59,7 +59,7 @@ pasids_released ms g n p b l bi la =
 
 -- the bearer of a PASID gets another state
 pub pasids_put :
-    (p : Part) (b : ℕ) (state : PasidState) (d : DeviceWire) → Labels p → is_unreleased (p.stage b) ≡ true → d.pasids ≡ pasids_wire p
+    (p : Endpoint) (b : ℕ) (state : PasidState) (d : DeviceWire) → Labels p → is_unreleased (p.stage b) ≡ true → d.pasids ≡ pasids_wire p
     → with_pasid (p.pasid b) state d ≡ record d { pasids = pasids_wire (record p { pasid_state = put p.pasid_state b state }) }
 pasids_put p b state d la un same = go (p.pasid b) (la.bears_pasid b un) (la.pasid_low (p.pasid b) b (la.bears_pasid b un)).0
   where
@@ -85,11 +85,11 @@ pasids_put p b state d la un same = go (p.pasid b) (la.bears_pasid b un) (la.pas
         (λ x ne. other t x (p.at_pasid (suc x)) ne h refl)))
 
 -- after its own reset each is off
-pub pasids_cleared : (n : ℕ) (p : Part) (c : ℕ) → pasids_wire (own p n (Own.Reset_arrives c)) ≡ map (λ state. Off) (pasids_wire p)
+pub pasids_cleared : (n : ℕ) (p : Endpoint) (c : ℕ) → pasids_wire (own p n (LocalAct.Reset_arrives c)) ≡ map (λ state. Off) (pasids_wire p)
 pasids_cleared n p c =
-    tabulate_same 32 (λ x. state_of_pasid (own p n (Own.Reset_arrives c)) (p.at_pasid (suc x))) (λ x. Off) (λ x l. go (p.at_pasid (suc x)))
+    tabulate_same 32 (λ x. state_of_pasid (own p n (LocalAct.Reset_arrives c)) (p.at_pasid (suc x))) (λ x. Off) (λ x l. go (p.at_pasid (suc x)))
     ∙ sym (tabulate_map (λ state. Off) 32 (λ x. state_of_pasid p (p.at_pasid (suc x))))
   where
-    go : (o : Option ℕ) → state_of_pasid (own p n (Own.Reset_arrives c)) o ≡ Off
+    go : (o : Option ℕ) → state_of_pasid (own p n (LocalAct.Reset_arrives c)) o ≡ Off
     go None = refl
     go (Some b) = refl

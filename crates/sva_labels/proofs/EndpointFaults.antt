@@ -7,9 +7,9 @@ use Rattle.sva_step.specs.declared.refusals.Refusal.TheVariants as refusal
 use Rattle.sva_step.specs.declared.steps.Step.TheVariants as step
 use Rattle.sva_model.specs.Words as words
 use Rattle.sva_model.specs.Words.{count_below, tabulate, holds_of, the}
-use Rattle.sva_model.specs.State.{Part, World, GroupState}
-use Rattle.sva_model.specs.State.GroupState.{Unfinished}
-use Rattle.sva_model.specs.States.{is_unfinished, is_outstanding}
+use Rattle.sva_model.specs.State.{Endpoint, World, GroupState}
+use Rattle.sva_model.specs.State.GroupState.{Collecting}
+use Rattle.sva_model.specs.States.{is_collecting, is_outstanding}
 use Rattle.sva_model.specs.Labels
 use Rattle.sva_model.specs.Refusals as names
 use Rattle.sva_model.specs.Refusals.{refusals}
@@ -168,7 +168,7 @@ outstanding_seen w e i l =
     ∙ sum_groups p.group_of (λ g. is_outstanding (p.group g)) p.at_index p.index (i.parts e).groups.index_bears
     (λ g h. let x = (i.parts e).groups.bears_index g h in (x, (i.parts e).groups.index_low (p.index g) g x)) p.page_requests
   where
-    p : Part
+    p : Endpoint
     p = w.part e
 
     counted : (o : Option ℕ) → requests_in (option_map (group_wire p) o) ≡ of_group p.group_of p.page_requests o
@@ -185,17 +185,17 @@ may_seen w e t (Some x) i l =
     ap (λ d. may_request d t (Some x)) (device_seen w e l)
     ∙ ap₂ ◌||◌ (started_seen w.mappings (w.part e) (i.parts e).labels t) (ending_seen w.mappings (w.part e) (i.parts e).labels t)
 
-unfinished_is : (s : GroupState) → is_unfinished s ≡ true → s ≡ Unfinished
+unfinished_is : (s : GroupState) → is_collecting s ≡ true → s ≡ Collecting
 unfinished_is s h = grind arith
 
 -- an unfinished group is of the PASID exactly where its asker bears it
 group_of_pasid :
     (w : World) (e t g : ℕ) → Invariant w
-    → (is_unfinished ((w.part e).group g) && (w.part e).pasid ((w.part e).asker g) == t)
-    ≡ (is_unfinished ((w.part e).group g) && words.is_some ((w.part e).at_pasid t) && (w.part e).asker g == Labels.bearer (w.part e) t)
-group_of_pasid w e t g i = go (is_unfinished (p.group g)) refl
+    → (is_collecting ((w.part e).group g) && (w.part e).pasid ((w.part e).asker g) == t)
+    ≡ (is_collecting ((w.part e).group g) && words.is_some ((w.part e).at_pasid t) && (w.part e).asker g == Labels.bearer (w.part e) t)
+group_of_pasid w e t g i = go (is_collecting (p.group g)) refl
   where
-    p : Part
+    p : Endpoint
     p = w.part e
 
     itself : (x y : ℕ) → x ≡ y → (x == y) ≡ true
@@ -208,7 +208,7 @@ group_of_pasid w e t g i = go (is_unfinished (p.group g)) refl
     nothing x y = refl
 
     by :
-        is_unfinished (p.group g) ≡ true → (o : Option ℕ) → p.at_pasid t ≡ o → (p.pasid (p.asker g) ≡ t) ⊎ (p.pasid (p.asker g) ≢ t)
+        is_collecting (p.group g) ≡ true → (o : Option ℕ) → p.at_pasid t ≡ o → (p.pasid (p.asker g) ≡ t) ⊎ (p.pasid (p.asker g) ≢ t)
         → (p.pasid (p.asker g) == t) ≡ (words.is_some o && p.asker g == the o)
     by u None h (inl same) = absurd (cc (sym ((found w e i).asker g (inl (unfinished_is (p.group g) u))).0.bears ∙ ap p.at_pasid same ∙ h))
     by u None h (inr ne) = differ (p.pasid (p.asker g)) t ne
@@ -221,7 +221,7 @@ group_of_pasid w e t g i = go (is_unfinished (p.group g)) refl
     by u (Some b) h (inr ne) =
         differ (p.pasid (p.asker g)) t ne ∙ sym (differ (p.asker g) b (λ is. ne (ap p.pasid is ∙ ((i.parts e).labels.pasid_bears t b h).0)))
 
-    go : (b : Bool) → is_unfinished (p.group g) ≡ b → (b && p.pasid (p.asker g) == t) ≡ (b && words.is_some (p.at_pasid t) && p.asker g == Labels.bearer p t)
+    go : (b : Bool) → is_collecting (p.group g) ≡ b → (b && p.pasid (p.asker g) == t) ≡ (b && words.is_some (p.at_pasid t) && p.asker g == Labels.bearer p t)
     go false h = refl
     go true h = by h (p.at_pasid t) refl (ℕ_cases (p.pasid (p.asker g)) t)
 
@@ -237,7 +237,7 @@ other_seen w e t (Some x) i l =
     go :
         (o : Option ℕ)
         → is_unfinished_of t (option_map (group_wire (w.part e)) o)
-        ≡ holds_of (λ g. is_unfinished ((w.part e).group g) && words.is_some ((w.part e).at_pasid t) && (w.part e).asker g == Labels.bearer (w.part e) t) o
+        ≡ holds_of (λ g. is_collecting ((w.part e).group g) && words.is_some ((w.part e).at_pasid t) && (w.part e).asker g == Labels.bearer (w.part e) t) o
     go None = refl
     go (Some g) = group_of_pasid w e t g i
 
@@ -277,7 +277,7 @@ fault_result_is w e t q r x l None i h =
     (sym (bearer_pasid w e t i (not_true (Labels.is_started (w.part e) t) h.1.1.0)))
 fault_result_is w e t q r x l (Some k) i h = go ((w.part e).at_index k) refl (not_true (Labels.is_group_of (w.part e) t k) h.1.1.1.1.0)
   where
-    p : Part
+    p : Endpoint
     p = w.part e
 
     three : (a b c : Bool) → (a && b && c) ≡ true → (a ≡ true) × ((a && b && c) ≡ true)
@@ -288,13 +288,13 @@ fault_result_is w e t q r x l (Some k) i h = go ((w.part e).at_index k) refl (no
 
     go :
         (o : Option ℕ) → p.at_index k ≡ o
-        → holds_of (λ g. is_unfinished (p.group g) && words.is_some (p.at_pasid t) && p.asker g == Labels.bearer p t) o ≡ true
+        → holds_of (λ g. is_collecting (p.group g) && words.is_some (p.at_pasid t) && p.asker g == Labels.bearer p t) o ≡ true
         → by_one (answer.Group k) (Move.Request e t k q r x l)
         ≡ by_one (answer.Group k) (Move.Request e (p.pasid (p.asker (the (p.at_index k)))) (p.index (the (p.at_index k))) q r x l)
     go None m c = absurd (cc)
     go (Some g) m c =
         ap₂ (λ u v. by_one (answer.Group k) (Move.Request e u v q r x l))
-        (sym (same (is_unfinished (p.group g)) (p.pasid (p.asker g)) t (group_of_pasid w e t g i ∙ c))) (sym ((i.parts e).groups.index_bears k g m).0)
+        (sym (same (is_collecting (p.group g)) (p.pasid (p.asker g)) t (group_of_pasid w e t g i ∙ c))) (sym ((i.parts e).groups.index_bears k g m).0)
         ∙ ap (λ z. by_one (answer.Group k) (Move.Request e (p.pasid (p.asker z)) (p.index z) q r x l)) (sym (ap the m))
 
 pub fault_says : (w : World) (e t q : ℕ) (r x : Bool) (o : Option ℕ) (l : Bool) → Invariant w → SaysAlike w (step.Fault e t q r x o l)

@@ -6,8 +6,8 @@ use Rattle.std.proofs.lemmas.Bool.Decides.{nat_tests}
 use Rattle.sva_step.specs.declared.refusals.Refusal.TheVariants as refusal
 use Rattle.sva_step.specs.declared.steps.Step.TheVariants as step
 use Rattle.sva_model.specs.Words.{any_below, tabulate, holds_of}
-use Rattle.sva_model.specs.State.{Mappings, Part, World, OrderState, UseState}
-use Rattle.sva_model.specs.State.OrderState.{Queued, Sent, Taken, Lapsed, Owing, Done, Void}
+use Rattle.sva_model.specs.State.{Mappings, Endpoint, World, OrderState, UseState}
+use Rattle.sva_model.specs.State.OrderState.{Queued, Sent, Taken, Lapsed, Completing, Done, Void}
 use Rattle.sva_model.specs.States.{is_taken, is_busy, is_running, uses_noted, covers}
 use Rattle.sva_model.specs.Labels
 use Rattle.sva_model.specs.Refusals.{refusals}
@@ -34,7 +34,7 @@ both a b h k = grind arith
 
 -- an ITag has an invalidation in the endpoint's hands where its order is taken
 none_taken :
-    (ms : Mappings) (p : Part) (o : Option ℕ)
+    (ms : Mappings) (p : Endpoint) (o : Option ℕ)
     → is_none (chain (λ k. taken_by ms p k (p.order_state k)) o) ≡ not (holds_of (λ k. is_taken (p.order_state k)) o)
 none_taken ms p None = refl
 none_taken ms p (Some k) = go (p.order_state k)
@@ -44,7 +44,7 @@ none_taken ms p (Some k) = go (p.order_state k)
     go Sent = refl
     go (Taken uses) = refl
     go Lapsed = refl
-    go (Owing count left) = refl
+    go (Completing count left) = refl
     go Done = refl
     go Void = refl
 
@@ -66,7 +66,7 @@ noted_seen w e k uses i =
     ∙ any_both 16 uses (λ t. holds_of (is_noted w.mappings p k uses) (p.at_slot t)) (Labels.is_noted_running w.mappings p k)
     (λ t l h. forth (p.at_slot t) h) back
   where
-    p : Part
+    p : Endpoint
     p = w.part e
 
     less : (a b : ℕ) → nat_lt a b ≡ true → a < b
@@ -107,7 +107,7 @@ waits_seen w e k i Queued = refl
 waits_seen w e k i Sent = refl
 waits_seen w e k i (Taken uses) = noted_seen w e k uses i
 waits_seen w e k i Lapsed = refl
-waits_seen w e k i (Owing count left) = refl
+waits_seen w e k i (Completing count left) = refl
 waits_seen w e k i Done = refl
 waits_seen w e k i Void = refl
 
@@ -123,7 +123,7 @@ in_use_seen w e vector i l =
     (λ k. Labels.is_named p vector k && Labels.is_in_use w p k)
     (λ t m h. forth t (p.at_itag t) refl h) back
   where
-    p : Part
+    p : Endpoint
     p = w.part e
 
     made : (k : ℕ) → is_taken (p.order_state k) ≡ true → k < p.orders

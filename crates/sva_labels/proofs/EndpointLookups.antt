@@ -5,7 +5,7 @@ use Rattle.std.specs.List.{find}
 use Rattle.std.proofs.lemmas.Bool.Decides.{nat_tests}
 use Rattle.sva_model.specs.Words as words
 use Rattle.sva_model.specs.Words.{any_below, lowest, select, tabulate, holds_of, the}
-use Rattle.sva_model.specs.State.{Mappings, Part}
+use Rattle.sva_model.specs.State.{Mappings, Endpoint}
 use Rattle.sva_model.specs.State.PasidState.{Off}
 use Rattle.sva_model.specs.States.{is_on, is_ending, is_unreleased}
 use Rattle.sva_model.specs.Labels
@@ -21,21 +21,21 @@ use Rattle.sva_labels.proofs.Lookups.{tabulate_past, find_one, find_none, find_s
 
 -- The state of a PASID is that of the binding which bears it; one outside 1 to 32 has none.
 
-none_past : (p : Part) → Bears.Labels p → (t : ℕ) → 32 < t → p.at_pasid t ≡ None
+none_past : (p : Endpoint) → Bears.Labels p → (t : ℕ) → 32 < t → p.at_pasid t ≡ None
 none_past p la t l = go (p.at_pasid t) refl
   where
     go : (o : Option ℕ) → p.at_pasid t ≡ o → o ≡ None
     go None h = refl
     go (Some b) h = absurd (let x = la.pasid_low t b h in omega (arith, x.1))
 
-none_zero : (p : Part) → Bears.Labels p → p.at_pasid 0 ≡ None
+none_zero : (p : Endpoint) → Bears.Labels p → p.at_pasid 0 ≡ None
 none_zero p la = go (p.at_pasid 0) refl
   where
     go : (o : Option ℕ) → p.at_pasid 0 ≡ o → o ≡ None
     go None h = refl
     go (Some b) h = absurd (let x = la.pasid_low 0 b h in omega (arith, x.0))
 
-pub pasid_seen : (ms : Mappings) (p : Part) → Bears.Labels p → (t : ℕ) → pasid_state (device_wire ms p) t ≡ state_of_pasid p (p.at_pasid t)
+pub pasid_seen : (ms : Mappings) (p : Endpoint) → Bears.Labels p → (t : ℕ) → pasid_state (device_wire ms p) t ≡ state_of_pasid p (p.at_pasid t)
 pasid_seen ms p la zero = sym (ap (state_of_pasid p) (none_zero p la))
 pasid_seen ms p la (suc t) = go (nat_lt t 32) refl
   where
@@ -52,18 +52,18 @@ pasid_seen ms p la (suc t) = go (nat_lt t 32) refl
         tabulate_past 32 (λ x. state_of_pasid p (p.at_pasid (suc x))) t Off l
         ∙ sym (ap (state_of_pasid p) (none_past p la (suc t) (omega arith)))
 
-started_by : (p : Part) (o : Option ℕ) → is_on (state_of_pasid p o) ≡ holds_of (λ b. is_on (p.pasid_state b)) o
+started_by : (p : Endpoint) (o : Option ℕ) → is_on (state_of_pasid p o) ≡ holds_of (λ b. is_on (p.pasid_state b)) o
 started_by p None = refl
 started_by p (Some b) = refl
 
-ending_by : (p : Part) (o : Option ℕ) → is_ending (state_of_pasid p o) ≡ holds_of (λ b. is_ending (p.pasid_state b)) o
+ending_by : (p : Endpoint) (o : Option ℕ) → is_ending (state_of_pasid p o) ≡ holds_of (λ b. is_ending (p.pasid_state b)) o
 ending_by p None = refl
 ending_by p (Some b) = refl
 
-pub started_seen : (ms : Mappings) (p : Part) → Bears.Labels p → (t : ℕ) → is_on (pasid_state (device_wire ms p) t) ≡ Labels.is_started p t
+pub started_seen : (ms : Mappings) (p : Endpoint) → Bears.Labels p → (t : ℕ) → is_on (pasid_state (device_wire ms p) t) ≡ Labels.is_started p t
 started_seen ms p la t = ap is_on (pasid_seen ms p la t) ∙ started_by p (p.at_pasid t)
 
-pub ending_seen : (ms : Mappings) (p : Part) → Bears.Labels p → (t : ℕ) → is_ending (pasid_state (device_wire ms p) t) ≡ Labels.is_told_to_stop p t
+pub ending_seen : (ms : Mappings) (p : Endpoint) → Bears.Labels p → (t : ℕ) → is_ending (pasid_state (device_wire ms p) t) ≡ Labels.is_told_to_stop p t
 ending_seen ms p la t = ap is_ending (pasid_seen ms p la t) ∙ ending_by p (p.at_pasid t)
 
 -- A table of labels that ends where no label is borne.
@@ -87,19 +87,19 @@ table_seen {A = A} n at f none low t = go (nat_lt t n) refl
     go true h = tabulate_at n (λ x. f (at x)) t None (less t n h)
     go false h = tabulate_past n (λ x. f (at x)) t None (past t n h) ∙ sym (ap f (nothing (past t n h) (at t) refl) ∙ none)
 
-pub tag_seen : (ms : Mappings) (p : Part) → Bears.Labels p → (t : ℕ) → tag_at (device_wire ms p) t ≡ option_map (request_wire p) (p.at_tag t)
+pub tag_seen : (ms : Mappings) (p : Endpoint) → Bears.Labels p → (t : ℕ) → tag_at (device_wire ms p) t ≡ option_map (request_wire p) (p.at_tag t)
 tag_seen ms p la t = table_seen 32 p.at_tag (option_map (request_wire p)) refl la.tag_low t
 
-pub use_seen : (ms : Mappings) (p : Part) → Bears.Labels p → (t : ℕ) → use_at (device_wire ms p) t ≡ option_map (use_wire ms p) (p.at_slot t)
+pub use_seen : (ms : Mappings) (p : Endpoint) → Bears.Labels p → (t : ℕ) → use_at (device_wire ms p) t ≡ option_map (use_wire ms p) (p.at_slot t)
 use_seen ms p la t = table_seen 16 p.at_slot (option_map (use_wire ms p)) refl la.slot_low t
 
 pub taken_seen :
-    (ms : Mappings) (p : Part) → Bears.Labels p → (t : ℕ)
+    (ms : Mappings) (p : Endpoint) → Bears.Labels p → (t : ℕ)
     → taken_at (device_wire ms p) t ≡ chain (λ k. taken_by ms p k (p.order_state k)) (p.at_itag t)
 taken_seen ms p la t = table_seen 32 p.at_itag (chain (λ k. taken_by ms p k (p.order_state k))) refl la.itag_low t
 
 pub group_seen :
-    (ms : Mappings) (p : Part) → ((t g : ℕ) → p.at_index t ≡ Some g → t < 32) → (t : ℕ)
+    (ms : Mappings) (p : Endpoint) → ((t g : ℕ) → p.at_index t ≡ Some g → t < 32) → (t : ℕ)
     → group_at (device_wire ms p) t ≡ option_map (group_wire p) (p.at_index t)
 group_seen ms p low t = table_seen 32 p.at_index (option_map (group_wire p)) refl low t
 
@@ -119,7 +119,7 @@ all_two a b c d h k = grind (arith, nat_tests)
 
 -- a request whose answer is cached at a page of a PASID is one of the bearer's
 holder :
-    (ms : Mappings) (x g n e : ℕ) (p : Part) → PartInvariant ms x g n e p → (t q r : ℕ) → words.is_some (p.held r) ≡ true
+    (ms : Mappings) (x g n e : ℕ) (p : Endpoint) → PartInvariant ms x g n e p → (t q r : ℕ) → words.is_some (p.held r) ≡ true
     → is_at_page t q (cached_wire ms p r) ≡ true → (p.at_pasid t ≡ Some (p.request_binding r)) × (p.request_page r ≡ q)
 holder ms x g n e p i t q r s h =
     let same = and_two (p.pasid (p.request_binding r)) t (p.request_page r) q h in
@@ -128,7 +128,7 @@ holder ms x g n e p i t q r s h =
     (sym (ap p.at_pasid same.0) ∙ i.labels.bears_pasid (p.request_binding r) u, same.1)
 
 pub one_holder :
-    (ms : Mappings) (x g n e : ℕ) (p : Part) → PartInvariant ms x g n e p → (t q r s : ℕ) → words.is_some (p.held r) ≡ true
+    (ms : Mappings) (x g n e : ℕ) (p : Endpoint) → PartInvariant ms x g n e p → (t q r s : ℕ) → words.is_some (p.held r) ≡ true
     → words.is_some (p.held s) ≡ true → is_at_page t q (cached_wire ms p r) ≡ true → is_at_page t q (cached_wire ms p s) ≡ true → r ≡ s
 one_holder ms x g n e p i t q r s a b h k =
     let one = holder ms x g n e p i t q r a h in
@@ -140,7 +140,7 @@ one_holder ms x g n e p i t q r s a b h k =
     some_same h = cc
 
 cache_find :
-    (ms : Mappings) (x g n e : ℕ) (p : Part) → PartInvariant ms x g n e p → (t q : ℕ)
+    (ms : Mappings) (x g n e : ℕ) (p : Endpoint) → PartInvariant ms x g n e p → (t q : ℕ)
     → cached (device_wire ms p) t q ≡ find (is_at_page t q) (map (cached_wire ms p) (select p.requests (λ r. words.is_some (p.held r))))
 cache_find ms x g n e p i t q =
     find_sorted is_before (is_at_page t q) (map (cached_wire ms p) (select p.requests (λ r. words.is_some (p.held r))))
@@ -149,7 +149,7 @@ cache_find ms x g n e p i t q =
 
 -- where something is cached, it is the one request's answer
 pub cached_seen :
-    (ms : Mappings) (x g n e : ℕ) (p : Part) → PartInvariant ms x g n e p → (t q : ℕ) → Labels.is_cached p t q ≡ true
+    (ms : Mappings) (x g n e : ℕ) (p : Endpoint) → PartInvariant ms x g n e p → (t q : ℕ) → Labels.is_cached p t q ≡ true
     → cached (device_wire ms p) t q ≡ Some (cached_wire ms p (Labels.cached p (Labels.bearer p t) q))
 cached_seen ms x g n e p i t q h =
     let b = Labels.bearer p t in
@@ -165,7 +165,7 @@ cached_seen ms x g n e p i t q h =
     (λ j l s k. one_holder ms x g n e p i t q j r s three.0 k passes)
 
 pub none_cached :
-    (ms : Mappings) (x g n e : ℕ) (p : Part) → PartInvariant ms x g n e p → (t q : ℕ) → Labels.is_cached p t q ≡ false
+    (ms : Mappings) (x g n e : ℕ) (p : Endpoint) → PartInvariant ms x g n e p → (t q : ℕ) → Labels.is_cached p t q ≡ false
     → cached (device_wire ms p) t q ≡ None
 none_cached ms x g n e p i t q h =
     cache_find ms x g n e p i t q
@@ -183,7 +183,7 @@ none_cached ms x g n e p i t q h =
         absurd (cc (sym h ∙ ap (holds_of (λ d. any_below p.requests (Labels.is_held_at p d q))) y.0 ∙ found))
 
 pub is_cached_seen :
-    (ms : Mappings) (x g n e : ℕ) (p : Part) → PartInvariant ms x g n e p → (t q : ℕ)
+    (ms : Mappings) (x g n e : ℕ) (p : Endpoint) → PartInvariant ms x g n e p → (t q : ℕ)
     → is_none (cached (device_wire ms p) t q) ≡ not (Labels.is_cached p t q)
 is_cached_seen ms x g n e p i t q = go (Labels.is_cached p t q) refl
   where

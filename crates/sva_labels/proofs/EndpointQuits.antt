@@ -7,10 +7,10 @@ use Rattle.sva_step.specs.declared.answers.Answer.TheVariants as answer
 use Rattle.sva_step.specs.declared.refusals.Refusal.TheVariants as refusal
 use Rattle.sva_step.specs.declared.steps.Step.TheVariants as step
 use Rattle.sva_model.specs.Words.{any_below}
-use Rattle.sva_model.specs.State.{Mappings, Part, World, GroupState, UseState}
-use Rattle.sva_model.specs.State.GroupState.{Unfinished}
+use Rattle.sva_model.specs.State.{Mappings, Endpoint, World, GroupState, UseState}
+use Rattle.sva_model.specs.State.GroupState.{Collecting}
 use Rattle.sva_model.specs.State.UseState.{Running}
-use Rattle.sva_model.specs.States.{is_ending, is_out, is_running, is_unfinished, is_outstanding}
+use Rattle.sva_model.specs.States.{is_ending, is_out, is_running, is_collecting, is_outstanding}
 use Rattle.sva_model.specs.Claims.{IsBearer}
 use Rattle.sva_model.specs.Labels
 use Rattle.sva_model.specs.Refusals.{refusals}
@@ -61,16 +61,16 @@ itself : (x y : ℕ) → x ≡ y → (x == y) ≡ true
 itself x y h = grind (arith, nat_tests)
 
 -- a binding that bears its PASID, which is t, is the bearer of t
-is_bearer : (p : Part) (t b d : ℕ) → p.at_pasid t ≡ Some b → IsBearer p d → p.pasid d ≡ t → d ≡ b
+is_bearer : (p : Endpoint) (t b d : ℕ) → p.at_pasid t ≡ Some b → IsBearer p d → p.pasid d ≡ t → d ≡ b
 is_bearer p t b d h i same =
     let row : p.at_pasid (p.pasid d) ≡ p.at_pasid t = ap p.at_pasid same in
     let own : p.at_pasid (p.pasid d) ≡ Some d = i.bears in
     cc
 
-unfinished_is : (s : GroupState) → is_unfinished s ≡ true → s ≡ Unfinished
+unfinished_is : (s : GroupState) → is_collecting s ≡ true → s ≡ Collecting
 unfinished_is s h = grind arith
 
-unfinished_out : (s : GroupState) → is_unfinished s ≡ true → is_outstanding s ≡ true
+unfinished_out : (s : GroupState) → is_collecting s ≡ true → is_outstanding s ≡ true
 unfinished_out s h = grind arith
 
 pub groups_busy :
@@ -78,37 +78,37 @@ pub groups_busy :
     → list_any (is_unfinished_of t) (device_wire w.mappings (w.part e)).groups ≡ Labels.is_unfinished_of (w.part e) b
 groups_busy w e t b i h =
     any_table 32 (λ x. option_map (group_wire p) (p.at_index x)) (is_unfinished_of t)
-    ∙ any_both 32 p.groups (λ x. is_unfinished_of t (option_map (group_wire p) (p.at_index x))) (λ g. is_unfinished (p.group g) && p.asker g == b)
+    ∙ any_both 32 p.groups (λ x. is_unfinished_of t (option_map (group_wire p) (p.at_index x))) (λ g. is_collecting (p.group g) && p.asker g == b)
     (λ x l k. forth (p.at_index x) k) back
   where
-    p : Part
+    p : Endpoint
     p = w.part e
 
-    made : (g : ℕ) → is_unfinished (p.group g) ≡ true → g < p.groups
+    made : (g : ℕ) → is_collecting (p.group g) ≡ true → g < p.groups
     made g k = grind (arith, (i.parts e).bounds.group g)
 
     forth :
         (o : Option ℕ) → is_unfinished_of t (option_map (group_wire p) o) ≡ true
-        → (g : ℕ) × (g < p.groups) × ((is_unfinished (p.group g) && p.asker g == b) ≡ true)
+        → (g : ℕ) × (g < p.groups) × ((is_collecting (p.group g) && p.asker g == b) ≡ true)
     forth None k = absurd (cc)
     forth (Some g) k =
-        let x = parts (is_unfinished (p.group g)) (p.pasid (p.asker g)) t k in (
+        let x = parts (is_collecting (p.group g)) (p.pasid (p.asker g)) t k in (
           g,
           made g x.0,
-          both (is_unfinished (p.group g)) (p.asker g) b x.0
+          both (is_collecting (p.group g)) (p.asker g) b x.0
               (is_bearer p t b (p.asker g) h ((found w e i).asker g (inl (unfinished_is (p.group g) x.0))).0 x.1),
         )
 
     back :
-        (g : ℕ) → g < p.groups → (is_unfinished (p.group g) && p.asker g == b) ≡ true
+        (g : ℕ) → g < p.groups → (is_collecting (p.group g) && p.asker g == b) ≡ true
         → (x : ℕ) × (x < 32) × (is_unfinished_of t (option_map (group_wire p) (p.at_index x)) ≡ true)
     back g l k =
-        let x = parts (is_unfinished (p.group g)) (p.asker g) b k in
+        let x = parts (is_collecting (p.group g)) (p.asker g) b k in
         let there : p.at_index (p.index g) ≡ Some g = (i.parts e).groups.bears_index g (unfinished_out (p.group g) x.0) in (
           p.index g,
           (i.parts e).groups.index_low (p.index g) g there,
           ap (λ o. is_unfinished_of t (option_map (group_wire p) o)) there
-              ∙ both (is_unfinished (p.group g)) (p.pasid (p.asker g)) t x.0 (ap p.pasid x.1 ∙ ((i.parts e).labels.pasid_bears t b h).0),
+              ∙ both (is_collecting (p.group g)) (p.pasid (p.asker g)) t x.0 (ap p.pasid x.1 ∙ ((i.parts e).labels.pasid_bears t b h).0),
         )
 
 pub tags_busy :
@@ -119,7 +119,7 @@ tags_busy w e t b i h =
     ∙ any_both 32 p.requests (λ x. is_request_of t (option_map (request_wire p) (p.at_tag x))) (λ r. is_out (p.request r) && p.request_binding r == b)
     (λ x l k. forth x (p.at_tag x) refl k) back
   where
-    p : Part
+    p : Endpoint
     p = w.part e
 
     made : (r : ℕ) → is_out (p.request r) ≡ true → r < p.requests
@@ -153,7 +153,7 @@ running_is : (s : UseState) → is_running s ≡ true → s ≡ Running
 running_is s h = grind arith
 
 -- a use is of the PASID where it runs, and is of its bearer
-use_of : (t : ℕ) (ms : Mappings) (p : Part) (u : ℕ) → is_use_of t (Some (use_wire ms p u)) ≡ (is_running (p.use_state u) && p.pasid (p.use_binding u) == t)
+use_of : (t : ℕ) (ms : Mappings) (p : Endpoint) (u : ℕ) → is_use_of t (Some (use_wire ms p u)) ≡ (is_running (p.use_state u) && p.pasid (p.use_binding u) == t)
 use_of t ms p u = go (is_running (p.use_state u))
   where
     go :
@@ -172,7 +172,7 @@ slots_busy w e t b i h =
     ∙ any_both 16 p.uses (λ x. is_use_of t (option_map (use_wire w.mappings p) (p.at_slot x)))
     (λ u. is_running (p.use_state u) && p.use_binding u == b) (λ x l k. forth (p.at_slot x) k) back
   where
-    p : Part
+    p : Endpoint
     p = w.part e
 
     made : (u : ℕ) → is_running (p.use_state u) ≡ true → u < p.uses

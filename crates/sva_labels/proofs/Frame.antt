@@ -5,8 +5,8 @@ use Rattle.std.proofs.lemmas.List.{append-nil, set-get_or}
 use Rattle.sva_model.specs.Words.{tabulate}
 use Rattle.sva_model.specs.Message.{Message}
 use Rattle.sva_model.specs.Message.Message.{ResetMessage}
-use Rattle.sva_model.specs.State.{Mappings, Part}
-use Rattle.sva_model.specs.Acts.{Own, sends, cookies_of}
+use Rattle.sva_model.specs.State.{Mappings, Endpoint}
+use Rattle.sva_model.specs.Acts.{LocalAct, sends, cookies_of}
 use Rattle.sva_model.specs.Wire.{Wire, FlightWire}
 use Rattle.sva_labels.specs.Finding.{part_of, idle}
 use Rattle.sva_labels.specs.Moves.{moved}
@@ -16,31 +16,31 @@ use Rattle.sva_labels.proofs.Flights.{delivers, said, still_flying, newly_sent}
 use Rattle.sva_labels.proofs.Columns.{keeps_bindings}
 use Rattle.sva_labels.proofs.JobActs.{keeps_jobs}
 
-pub hands_left : (w : Wire) (first e : ℕ) (ms : Mappings) (p : Part) (o : Own) → (moved w (own_move first e ms p o)).hands ≡ w.hands
+pub hands_left : (w : Wire) (first e : ℕ) (ms : Mappings) (p : Endpoint) (o : LocalAct) → (moved w (own_move first e ms p o)).hands ≡ w.hands
 hands_left w first e ms p o = grind arith
 
-pub spaces_left : (w : Wire) (first e : ℕ) (ms : Mappings) (p : Part) (o : Own) → (moved w (own_move first e ms p o)).spaces ≡ w.spaces
+pub spaces_left : (w : Wire) (first e : ℕ) (ms : Mappings) (p : Endpoint) (o : LocalAct) → (moved w (own_move first e ms p o)).spaces ≡ w.spaces
 spaces_left w first e ms p o = grind arith
 
 pub bindings_left :
-    (w : Wire) (first e : ℕ) (ms : Mappings) (p : Part) (o : Own) → keeps_bindings o ≡ true
+    (w : Wire) (first e : ℕ) (ms : Mappings) (p : Endpoint) (o : LocalAct) → keeps_bindings o ≡ true
     → (moved w (own_move first e ms p o)).bindings ≡ w.bindings
 bindings_left w first e ms p o h = grind arith
 
-pub jobs_left : (w : Wire) (first e : ℕ) (ms : Mappings) (p : Part) (o : Own) → keeps_jobs o ≡ true → (moved w (own_move first e ms p o)).jobs ≡ w.jobs
+pub jobs_left : (w : Wire) (first e : ℕ) (ms : Mappings) (p : Endpoint) (o : LocalAct) → keeps_jobs o ≡ true → (moved w (own_move first e ms p o)).jobs ≡ w.jobs
 jobs_left w first e ms p o h = grind arith
 
 pub cookies_left :
-    (w : Wire) (first e : ℕ) (ms : Mappings) (p : Part) (o : Own)
+    (w : Wire) (first e : ℕ) (ms : Mappings) (p : Endpoint) (o : LocalAct)
     → (moved w (own_move first e ms p o)).next_cookie ≡ w.next_cookie + cookies_of o
 cookies_left w first e ms p o = grind arith
 
-pub messages_left : (w : Wire) (first e : ℕ) (ms : Mappings) (p : Part) (o : Own) → (moved w (own_move first e ms p o)).next_message
+pub messages_left : (w : Wire) (first e : ℕ) (ms : Mappings) (p : Endpoint) (o : LocalAct) → (moved w (own_move first e ms p o)).next_message
     ≡ w.next_message + sends o
 messages_left w first e ms p o = grind arith
 
 pub numbers_left :
-    (w : Wire) (first e : ℕ) (ms : Mappings) (p : Part) (o : Own)
+    (w : Wire) (first e : ℕ) (ms : Mappings) (p : Endpoint) (o : LocalAct)
     → ((moved w (own_move first e ms p o)).next_space ≡ w.next_space) × ((moved w (own_move first e ms p o)).next_binding ≡ w.next_binding)
 numbers_left w first e ms p o = (grind arith, grind arith)
 
@@ -57,7 +57,7 @@ one_sent xs next e m =
     λ i. xs ++ record { number = same i; endpoint = e; message = m } ∷ []
 
 pub flights_left :
-    (w : Wire) (first e : ℕ) (ms : Mappings) (p : Part) (o : Own)
+    (w : Wire) (first e : ℕ) (ms : Mappings) (p : Endpoint) (o : LocalAct)
     → (moved w (own_move first e ms p o)).in_flight ≡ still_flying first (delivers o) w.in_flight ++ newly_sent w.next_message e (sends o) (said p o)
 flights_left w first e ms p o =
     grind (
@@ -76,6 +76,6 @@ unset : (w : Wire) (e : ℕ) → w.parts ≡ slice_set w.parts e (part_of w e)
 unset w e = sym (set-get_or w.parts e idle)
 
 pub parts_left :
-    (w : Wire) (first e : ℕ) (ms : Mappings) (p : Part) (o : Own)
+    (w : Wire) (first e : ℕ) (ms : Mappings) (p : Endpoint) (o : LocalAct)
     → (moved w (own_move first e ms p o)).parts ≡ slice_set w.parts e (part_moved w.next_cookie (part_of w e) (own_move first e ms p o))
 parts_left w first e ms p o = grind (arith, unset w e)

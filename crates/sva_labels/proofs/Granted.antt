@@ -9,15 +9,15 @@ use Rattle.sva_step.specs.declared.steps.Verdict.{Verdict}
 use Rattle.sva_step.specs.declared.steps.Verdict.TheVariants as verdict
 use Rattle.sva_model.specs.Words.{any_below, count_below, is_some, the}
 use Rattle.sva_model.specs.Message.{Code}
-use Rattle.sva_model.specs.State.{PasidRule, Part, World, Stage, Order, About, RequestState, opened}
+use Rattle.sva_model.specs.State.{PasidRule, Endpoint, World, Stage, Order, Subject, RequestState, opened}
 use Rattle.sva_model.specs.State.Stage.{Unbound, Live, Stopping, Draining, Invalidating, Quiet, Lost, Released}
 use Rattle.sva_model.specs.State.Order.{RangeOf, PasidOf, Wait}
 use Rattle.sva_model.specs.State.RequestState.{Out, Doomed, Over}
-use Rattle.sva_model.specs.State.About.{StartOf, StopOf, ResetOrder, CompletionOf, InvalidateOf, ResponseOf, RequestOf, InvalidatedOf, PageRequestOf}
-use Rattle.sva_model.specs.State.About.{MarkerOf, ResetDone}
+use Rattle.sva_model.specs.State.Subject.{StartOf, StopOf, FunctionReset, CompletionOf, InvalidateOf, ResponseOf, RequestOf, InvalidatedOf, PageRequestOf}
+use Rattle.sva_model.specs.State.Subject.{MarkerOf, ResetDone}
 use Rattle.sva_model.specs.States.{is_open, is_wait}
-use Rattle.sva_model.specs.Acts.{Act, Own, act, sends, cookies_of, submits}
-use Rattle.sva_model.specs.Acts.Act.{NewSpace, Map, Unmap, NewBinding, LetGo, At}
+use Rattle.sva_model.specs.Acts.{Act, LocalAct, act, sends, cookies_of, submits}
+use Rattle.sva_model.specs.Acts.Act.{NewSpace, Map, Unmap, NewBinding, LetGo, AtEndpoint}
 use Rattle.sva_model.specs.Labels
 use Rattle.sva_model.specs.Refusals.{Cause, refusals, unbind_refusals, advance_refusals, sends_invalidate, delivery_sends, is_queue_short}
 use Rattle.sva_model.specs.Replies.{maps_to, reply_maps, replies_success, newly_mapped, free_list, is_write_asked, job_space, job_part, job_binding}
@@ -33,12 +33,12 @@ use Rattle.sva_laws.proofs.Passed.{Passed, LegalAll, is_at_most}
 use Rattle.sva_laws.proofs.Runs.{step_legal, next_keeps, opened_invariant}
 
 -- a translation is kept where the cache has room for it
-abbrev pub HasRoom : Part → Own → Type 0
-HasRoom p (Own.Keep c r m) = is_full p r ≡ false
+abbrev pub HasRoom : Endpoint → LocalAct → Type 0
+HasRoom p (LocalAct.Keep c r m) = is_full p r ≡ false
 HasRoom p _ = Unit {0}
 
 -- what an act of an endpoint spends is there: so many numbers of messages, so many cookies
-pub record IsPaid (w : World) (e : ℕ) (o : Own) : Type 0 where
+pub record IsPaid (w : World) (e : ℕ) (o : LocalAct) : Type 0 where
   pub messages : 0 < sends o → w.config.first + w.messages + sends o ≤ 2 ^ 63
   pub cookies : 0 < cookies_of o → w.config.first + w.cookies + cookies_of o ≤ 2 ^ 63
   pub room : HasRoom (w.part e) o
@@ -49,7 +49,7 @@ IsGranted w (NewBinding e) = w.config.first + w.bindings + 1 ≤ 2 ^ 63
 IsGranted w (Unmap s q count order) =
     ((e : ℕ) → e < w.config.endpoints → submits w s e ≡ true → Labels.queue_length (w.part e) + suc count ≤ 64)
     × (w.config.first + w.cookies + count_below w.config.endpoints (submits w s) ≤ 2 ^ 63)
-IsGranted w (At e o) = IsPaid w e o
+IsGranted w (AtEndpoint e o) = IsPaid w e o
 IsGranted w _ = Unit {0}
 
 abbrev pub AllGranted : World → List Act → Type 0
@@ -70,18 +70,18 @@ left : (w : World) (count needed : ℕ) → Labels.lacks w count needed ≡ fals
 left w count needed h = is_at_most (2 ^ 63) (w.config.first + count + needed) h
 
 -- an act that sends nothing and gives out no cookie; one that sends; one that gives out a cookie
-free_of : (w : World) (e : ℕ) (o : Own) → sends o ≡ 0 → cookies_of o ≡ 0 → HasRoom (w.part e) o → IsPaid w e o
+free_of : (w : World) (e : ℕ) (o : LocalAct) → sends o ≡ 0 → cookies_of o ≡ 0 → HasRoom (w.part e) o → IsPaid w e o
 free_of w e o s c r = record { messages = λ h. absurd (omega (arith, s, h)); cookies = λ h. absurd (omega (arith, c, h)); room = r }
 
-sending : (w : World) (e : ℕ) (o : Own) → Labels.lacks w w.messages (sends o) ≡ false → cookies_of o ≡ 0 → HasRoom (w.part e) o → IsPaid w e o
+sending : (w : World) (e : ℕ) (o : LocalAct) → Labels.lacks w w.messages (sends o) ≡ false → cookies_of o ≡ 0 → HasRoom (w.part e) o → IsPaid w e o
 sending w e o s c r = record { messages = λ h. left w w.messages (sends o) s; cookies = λ h. absurd (omega (arith, c, h)); room = r }
 
-waiting : (w : World) (e : ℕ) (o : Own) → sends o ≡ 0 → Labels.lacks w w.cookies (cookies_of o) ≡ false → HasRoom (w.part e) o → IsPaid w e o
+waiting : (w : World) (e : ℕ) (o : LocalAct) → sends o ≡ 0 → Labels.lacks w w.cookies (cookies_of o) ≡ false → HasRoom (w.part e) o → IsPaid w e o
 waiting w e o s c r = record { messages = λ h. absurd (omega (arith, s, h)); cookies = λ h. left w w.cookies (cookies_of o) c; room = r }
 
 -- Unmapping.
 
-no_room_short : (p : Part) (n : ℕ) → is_queue_short p n ≡ false → Labels.queue_length p + n ≤ 64
+no_room_short : (p : Endpoint) (n : ℕ) → is_queue_short p n ≡ false → Labels.queue_length p + n ≤ 64
 no_room_short p n h = is_at_most 64 (Labels.queue_length p + n) h
 
 both_false : (a b : Bool) → (a && b) ≡ false → a ≡ true → b ≡ false
@@ -105,37 +105,37 @@ unmap_granted w s q count order n same full spent =
 -- Bindings.
 
 unbind_granted : (w : World) (e b : ℕ) (s : Stage) → Passed (unbind_refusals w e s) → AllGranted w (unbind_outcome e b s).acts
-unbind_granted w e b Lost h = (free_of w e (Own.Quieten b) refl refl tt, tt)
-unbind_granted w e b Unbound h = (sending w e (Own.Stop b) h.1.1.0 refl tt, tt)
-unbind_granted w e b Live h = (sending w e (Own.Stop b) h.1.1.0 refl tt, tt)
-unbind_granted w e b (Stopping m) h = (sending w e (Own.Stop b) h.1.1.0 refl tt, tt)
-unbind_granted w e b (Draining k) h = (sending w e (Own.Stop b) h.1.1.0 refl tt, tt)
-unbind_granted w e b (Invalidating j k) h = (sending w e (Own.Stop b) h.1.1.0 refl tt, tt)
-unbind_granted w e b Quiet h = (sending w e (Own.Stop b) h.1.1.0 refl tt, tt)
-unbind_granted w e b Released h = (sending w e (Own.Stop b) h.1.1.0 refl tt, tt)
+unbind_granted w e b Lost h = (free_of w e (LocalAct.Quieten b) refl refl tt, tt)
+unbind_granted w e b Unbound h = (sending w e (LocalAct.Stop b) h.1.1.0 refl tt, tt)
+unbind_granted w e b Live h = (sending w e (LocalAct.Stop b) h.1.1.0 refl tt, tt)
+unbind_granted w e b (Stopping m) h = (sending w e (LocalAct.Stop b) h.1.1.0 refl tt, tt)
+unbind_granted w e b (Draining k) h = (sending w e (LocalAct.Stop b) h.1.1.0 refl tt, tt)
+unbind_granted w e b (Invalidating j k) h = (sending w e (LocalAct.Stop b) h.1.1.0 refl tt, tt)
+unbind_granted w e b Quiet h = (sending w e (LocalAct.Stop b) h.1.1.0 refl tt, tt)
+unbind_granted w e b Released h = (sending w e (LocalAct.Stop b) h.1.1.0 refl tt, tt)
 
 advance_granted : (w : World) (e b : ℕ) (s : Stage) → Passed (advance_refusals w e b s) → AllGranted w (advance_outcome w e b s).acts
-advance_granted w e b (Stopping m) h = (waiting w e (Own.Drain b w.cookies) refl h.1.1.1.0 tt, tt)
-advance_granted w e b (Draining k) h = (waiting w e (Own.Invalidate b w.cookies) refl h.1.1.1.0 tt, tt)
-advance_granted w e b (Invalidating j k) h = (free_of w e (Own.Quieten b) refl refl tt, tt)
-advance_granted w e b Unbound h = (free_of w e (Own.Release b) refl refl tt, tt)
-advance_granted w e b Live h = (free_of w e (Own.Release b) refl refl tt, tt)
-advance_granted w e b Quiet h = (free_of w e (Own.Release b) refl refl tt, tt)
-advance_granted w e b Lost h = (free_of w e (Own.Release b) refl refl tt, tt)
-advance_granted w e b Released h = (free_of w e (Own.Release b) refl refl tt, tt)
+advance_granted w e b (Stopping m) h = (waiting w e (LocalAct.Drain b w.cookies) refl h.1.1.1.0 tt, tt)
+advance_granted w e b (Draining k) h = (waiting w e (LocalAct.Invalidate b w.cookies) refl h.1.1.1.0 tt, tt)
+advance_granted w e b (Invalidating j k) h = (free_of w e (LocalAct.Quieten b) refl refl tt, tt)
+advance_granted w e b Unbound h = (free_of w e (LocalAct.Release b) refl refl tt, tt)
+advance_granted w e b Live h = (free_of w e (LocalAct.Release b) refl refl tt, tt)
+advance_granted w e b Quiet h = (free_of w e (LocalAct.Release b) refl refl tt, tt)
+advance_granted w e b Lost h = (free_of w e (LocalAct.Release b) refl refl tt, tt)
+advance_granted w e b Released h = (free_of w e (LocalAct.Release b) refl refl tt, tt)
 
 -- Units.
 
 wait_granted : (w : World) (e k : ℕ) (b : Bool) → AllGranted w (wait_outcome e k b).acts
-wait_granted w e k true = (free_of w e (Own.Pass k) refl refl tt, tt)
+wait_granted w e k true = (free_of w e (LocalAct.Pass k) refl refl tt, tt)
 wait_granted w e k false = tt
 
 send_granted : (w : World) (e k t : ℕ) (b : Bool) → (b ≡ true → Labels.lacks w w.messages 1 ≡ false) → AllGranted w (send_outcome e k t b).acts
-send_granted w e k t true h = (sending w e (Own.Send k t) (h refl) refl tt, tt)
+send_granted w e k t true h = (sending w e (LocalAct.Send k t) (h refl) refl tt, tt)
 send_granted w e k t false h = tt
 
 is_sent :
-    (p : Part) → (o : Order) → p.order (Labels.head p) ≡ o → is_wait o ≡ false → Labels.is_queue_empty p ≡ false
+    (p : Endpoint) → (o : Order) → p.order (Labels.head p) ≡ o → is_wait o ≡ false → Labels.is_queue_empty p ≡ false
     → not (Labels.lowest_label 32 p.at_itag == 32) ≡ true → sends_invalidate p ≡ true
 is_sent p o h nw ne free =
     go (Labels.is_queue_empty p) (is_wait (p.order (Labels.head p))) (not (Labels.lowest_label 32 p.at_itag == 32)) ne (ap is_wait h ∙ nw) free
@@ -165,10 +165,10 @@ pump_granted w e true h s = tt
 pump_granted w e false h s = head_granted w e ((w.part e).order (Labels.head (w.part e))) refl h s
 
 file_granted : (w : World) (e r g : ℕ) (b : Bool) → AllGranted w (file_outcome e r g b).acts
-file_granted w e r g true = (free_of w e (Own.File r) refl refl tt, (tt, tt))
-file_granted w e r g false = (free_of w e (Own.File r) refl refl tt, tt)
+file_granted w e r g true = (free_of w e (LocalAct.File r) refl refl tt, (tt, tt))
+file_granted w e r g false = (free_of w e (LocalAct.File r) refl refl tt, tt)
 
-serve_granted : (w : World) (e : ℕ) (p : Part) (b : Bool) → AllGranted w (serve_outcome p e b).acts
+serve_granted : (w : World) (e : ℕ) (p : Endpoint) (b : Bool) → AllGranted w (serve_outcome p e b).acts
 serve_granted w e p true = tt
 serve_granted w e p false = file_granted w e (Labels.oldest_arrived p) (p.group_of (Labels.oldest_arrived p)) (p.is_last (Labels.oldest_arrived p))
 
@@ -187,15 +187,15 @@ responding false s v code h = absurd (cc (h))
 
 maps_granted :
     (x e g : ℕ) (code : Code) (s : ℕ) (write : ℕ → Bool) (qs fs : List ℕ) (w : World) → Labels.lacks w w.messages 1 ≡ false
-    → AllGranted w (maps_to s write qs fs ++ LetGo x ∷ At e (Own.Respond g code) ∷ [])
-maps_granted x e g code s write [] fs w h = (tt, (sending (act w (LetGo x)) e (Own.Respond g code) h refl tt, tt))
-maps_granted x e g code s write (q ∷ qs) [] w h = (tt, (sending (act w (LetGo x)) e (Own.Respond g code) h refl tt, tt))
+    → AllGranted w (maps_to s write qs fs ++ LetGo x ∷ AtEndpoint e (LocalAct.Respond g code) ∷ [])
+maps_granted x e g code s write [] fs w h = (tt, (sending (act w (LetGo x)) e (LocalAct.Respond g code) h refl tt, tt))
+maps_granted x e g code s write (q ∷ qs) [] w h = (tt, (sending (act w (LetGo x)) e (LocalAct.Respond g code) h refl tt, tt))
 maps_granted x e g code s write (q ∷ qs) (f ∷ fs) w h = (tt, maps_granted x e g code s write qs fs (act w (Map s q f (write q))) h)
 
 reply_granted :
     (w : World) (x j : ℕ) (v : Verdict) (o : Option Code) → response_to w j v ≡ o → (responds w j && Labels.lacks w w.messages 1) ≡ false
     → AllGranted w (reply_outcome w x j (reply_maps w j v) o).acts
-reply_granted w x j v None e h = (tt, (free_of (act w (LetGo x)) (w.job j).endpoint (Own.Discard (w.job j).group) refl refl tt, tt))
+reply_granted w x j v None e h = (tt, (free_of (act w (LetGo x)) (w.job j).endpoint (LocalAct.Discard (w.job j).group) refl refl tt, tt))
 reply_granted w x j v (Some code) e h = go (replies_success w j v)
   where
     few : Labels.lacks w w.messages 1 ≡ false
@@ -206,62 +206,63 @@ reply_granted w x j v (Some code) e h = go (replies_success w j v)
     go :
         (b : Bool)
         → AllGranted w
-        ((if b then maps_to (job_space w j) (is_write_asked w j) (newly_mapped w j) (free_list w) else []) ++ LetGo x ∷ At (w.job j).endpoint
-        (Own.Respond (w.job j).group code) ∷ [])
+        ((if b then maps_to (job_space w j) (is_write_asked w j) (newly_mapped w j) (free_list w) else []) ++ LetGo x ∷ AtEndpoint (w.job j).endpoint
+        (LocalAct.Respond (w.job j).group code) ∷ [])
     go true = maps_granted x (w.job j).endpoint (w.job j).group code (job_space w j) (is_write_asked w j) (newly_mapped w j) (free_list w) w few
-    go false = (tt, (sending (act w (LetGo x)) (w.job j).endpoint (Own.Respond (w.job j).group code) few refl tt, tt))
+    go false = (tt, (sending (act w (LetGo x)) (w.job j).endpoint (LocalAct.Respond (w.job j).group code) few refl tt, tt))
 
 fault_granted :
     (w : World) (e t q : ℕ) (r x l : Bool) (o : Option ℕ) → Labels.lacks w w.messages 1 ≡ false
     → AllGranted w (fault_outcome (w.part e) e t q r x l o).acts
-fault_granted w e t q r x l None h = (sending w e (Own.Group (Labels.bearer (w.part e) t) (Labels.lowest_label 32 (w.part e).at_index) q r x l) h refl tt, tt)
-fault_granted w e t q r x l (Some i) h = (sending w e (Own.Request (the ((w.part e).at_index i)) q r x l) h refl tt, tt)
+fault_granted w e t q r x l None h =
+    (sending w e (LocalAct.Group (Labels.bearer (w.part e) t) (Labels.lowest_label 32 (w.part e).at_index) q r x l) h refl tt, tt)
+fault_granted w e t q r x l (Some i) h = (sending w e (LocalAct.Request (the ((w.part e).at_index i)) q r x l) h refl tt, tt)
 
 -- Deliveries.
 
 keep_granted : (w : World) (e c r m : ℕ) (b : Bool) → is_full (w.part e) r ≡ b → AllGranted w (keep_outcome e c r m b).acts
-keep_granted w e c r m true h = (free_of w e (Own.Forget c r) refl refl tt, tt)
-keep_granted w e c r m false h = (free_of w e (Own.Keep c r m) refl refl h, tt)
+keep_granted w e c r m true h = (free_of w e (LocalAct.Forget c r) refl refl tt, tt)
+keep_granted w e c r m false h = (free_of w e (LocalAct.Keep c r m) refl refl h, tt)
 
 completion_granted : (w : World) (e c r : ℕ) (o : Option ℕ) (x : RequestState) → AllGranted w (completion_outcome (w.part e) e c r o x).acts
 completion_granted w e c r (Some m) Out = keep_granted w e c r m (is_full (w.part e) r) refl
-completion_granted w e c r None Out = (free_of w e (Own.Forget c r) refl refl tt, tt)
-completion_granted w e c r (Some m) Doomed = (free_of w e (Own.Forget c r) refl refl tt, tt)
-completion_granted w e c r None Doomed = (free_of w e (Own.Forget c r) refl refl tt, tt)
-completion_granted w e c r (Some m) Over = (free_of w e (Own.Ignore c) refl refl tt, tt)
-completion_granted w e c r None Over = (free_of w e (Own.Ignore c) refl refl tt, tt)
+completion_granted w e c r None Out = (free_of w e (LocalAct.Forget c r) refl refl tt, tt)
+completion_granted w e c r (Some m) Doomed = (free_of w e (LocalAct.Forget c r) refl refl tt, tt)
+completion_granted w e c r None Doomed = (free_of w e (LocalAct.Forget c r) refl refl tt, tt)
+completion_granted w e c r (Some m) Over = (free_of w e (LocalAct.Ignore c) refl refl tt, tt)
+completion_granted w e c r None Over = (free_of w e (LocalAct.Ignore c) refl refl tt, tt)
 
 request_granted : (w : World) (e c r : ℕ) (b : Bool) → (b && Labels.lacks w w.messages 1) ≡ false → AllGranted w (request_outcome w (w.part e) e c r b).acts
-request_granted w e c r true h = (sending w e (Own.Complete c r _ _) h refl tt, tt)
-request_granted w e c r false h = (free_of w e (Own.Ignore c) refl refl tt, tt)
+request_granted w e c r true h = (sending w e (LocalAct.Complete c r _ _) h refl tt, tt)
+request_granted w e c r false h = (free_of w e (LocalAct.Ignore c) refl refl tt, tt)
 
 count_granted : (w : World) (e c : ℕ) (names : ℕ → Bool) (b : Bool) → AllGranted w (count_outcome (w.part e) e c names b).acts
-count_granted w e c names true = (free_of w e (Own.Count c names) refl refl tt, tt)
-count_granted w e c names false = (free_of w e (Own.Ignore c) refl refl tt, tt)
+count_granted w e c names true = (free_of w e (LocalAct.Count c names) refl refl tt, tt)
+count_granted w e c names false = (free_of w e (LocalAct.Ignore c) refl refl tt, tt)
 
 page_request_granted : (w : World) (e c r : ℕ) (b : Bool) → AllGranted w (page_request_outcome e c r b).acts
-page_request_granted w e c r true = (free_of w e (Own.Arrive c r) refl refl tt, tt)
-page_request_granted w e c r false = (free_of w e (Own.Miss c r) refl refl tt, tt)
+page_request_granted w e c r true = (free_of w e (LocalAct.Arrive c r) refl refl tt, tt)
+page_request_granted w e c r false = (free_of w e (LocalAct.Miss c r) refl refl tt, tt)
 
 marker_granted : (w : World) (e c b : ℕ) (t : Bool) → AllGranted w (marker_outcome e c b t).acts
-marker_granted w e c b true = (free_of w e (Own.Mark c b) refl refl tt, tt)
-marker_granted w e c b false = (free_of w e (Own.Ignore c) refl refl tt, tt)
+marker_granted w e c b true = (free_of w e (LocalAct.Mark c b) refl refl tt, tt)
+marker_granted w e c b false = (free_of w e (LocalAct.Ignore c) refl refl tt, tt)
 
 deliver_granted :
-    (w : World) (e c : ℕ) (o : Option About) → (delivery_sends (w.part e) o && Labels.lacks w w.messages 1) ≡ false
+    (w : World) (e c : ℕ) (o : Option Subject) → (delivery_sends (w.part e) o && Labels.lacks w w.messages 1) ≡ false
     → AllGranted w (deliver_outcome w (w.part e) e c o).acts
 deliver_granted w e c None h = tt
-deliver_granted w e c (Some (StartOf b)) h = (free_of w e (Own.Start_arrives c b) refl refl tt, tt)
-deliver_granted w e c (Some (StopOf b)) h = (free_of w e (Own.Stop_arrives c b) refl refl tt, tt)
-deliver_granted w e c (Some ResetOrder) h = (sending w e (Own.Reset_arrives c) h refl tt, tt)
+deliver_granted w e c (Some (StartOf b)) h = (free_of w e (LocalAct.Start_arrives c b) refl refl tt, tt)
+deliver_granted w e c (Some (StopOf b)) h = (free_of w e (LocalAct.Stop_arrives c b) refl refl tt, tt)
+deliver_granted w e c (Some FunctionReset) h = (sending w e (LocalAct.Reset_arrives c) h refl tt, tt)
 deliver_granted w e c (Some (CompletionOf r found)) h = completion_granted w e c r found ((w.part e).request r)
-deliver_granted w e c (Some (InvalidateOf k)) h = (free_of w e (Own.Take c k) refl refl tt, tt)
-deliver_granted w e c (Some (ResponseOf g code)) h = (free_of w e (Own.Answered c g code) refl refl tt, tt)
+deliver_granted w e c (Some (InvalidateOf k)) h = (free_of w e (LocalAct.Take c k) refl refl tt, tt)
+deliver_granted w e c (Some (ResponseOf g code)) h = (free_of w e (LocalAct.Answered c g code) refl refl tt, tt)
 deliver_granted w e c (Some (RequestOf r)) h = request_granted w e c r (is_open (w.part e).phase) h
 deliver_granted w e c (Some (InvalidatedOf names)) h = count_granted w e c names (is_open (w.part e).phase)
 deliver_granted w e c (Some (PageRequestOf r)) h = page_request_granted w e c r (is_open (w.part e).phase)
 deliver_granted w e c (Some (MarkerOf b)) h = marker_granted w e c b (is_open (w.part e).phase)
-deliver_granted w e c (Some ResetDone) h = (free_of w e (Own.Reopen c) refl refl tt, tt)
+deliver_granted w e c (Some ResetDone) h = (free_of w e (LocalAct.Reopen c) refl refl tt, tt)
 
 -- Each step.
 
@@ -273,27 +274,27 @@ outcome_granted w (step.Unmap n q count) h = unmap_granted w (Labels.name w n) q
 outcome_granted w (step.UnmapRange n q order) h = unmap_granted w (Labels.name w n) q 1 order 2 (omega arith) h.1.1.1.1.1.0 h.1.1.1.1.1.1.0
 outcome_granted w (step.Bind e n) h = (
   left w w.bindings 1 h.1.1.1.1.1.0,
-  (sending (act w (NewBinding e)) e (Own.Bind w.bindings (Labels.name w n) (the (Labels.pasid_for w e (Labels.name w n)))) h.1.1.1.1.1.1.0 refl tt, tt),
+  (sending (act w (NewBinding e)) e (LocalAct.Bind w.bindings (Labels.name w n) (the (Labels.pasid_for w e (Labels.name w n)))) h.1.1.1.1.1.1.0 refl tt, tt),
 )
 outcome_granted w (step.Unbind n) h =
-    unbind_granted w (w.home (Labels.name w n)) (Labels.name w n) ((w.part (w.home (Labels.name w n))).stage (Labels.name w n)) h.1
+    unbind_granted w (w.endpoint_of (Labels.name w n)) (Labels.name w n) ((w.part (w.endpoint_of (Labels.name w n))).stage (Labels.name w n)) h.1
 outcome_granted w (step.Advance n) h =
-    advance_granted w (w.home (Labels.name w n)) (Labels.name w n) ((w.part (w.home (Labels.name w n))).stage (Labels.name w n)) h.1
+    advance_granted w (w.endpoint_of (Labels.name w n)) (Labels.name w n) ((w.part (w.endpoint_of (Labels.name w n))).stage (Labels.name w n)) h.1
 outcome_granted w (step.Pump e) h = pump_granted w e (Labels.is_queue_empty (w.part e)) refl h.1.1.0
 outcome_granted w (step.Serve e) h = serve_granted w e (w.part e) (Labels.is_page_queue_empty (w.part e))
-outcome_granted w (step.Reset e) h = (sending w e Own.Reset h.1.1.0 refl tt, tt)
-outcome_granted w (step.Take x) h = (free_of w _ (Own.Hand _ x) refl refl tt, (tt, tt))
+outcome_granted w (step.Reset e) h = (sending w e LocalAct.Reset h.1.1.0 refl tt, tt)
+outcome_granted w (step.Take x) h = (free_of w _ (LocalAct.Hand _ x) refl refl tt, (tt, tt))
 outcome_granted w (step.Reply x v) h = reply_granted w x (the (w.hand x)) v (response_to w (the (w.hand x)) v) refl h.1.1.1.1.1.0
 outcome_granted w (step.Ask e t q) h =
-    (sending w e (Own.Ask (Labels.bearer (w.part e) t) q (Labels.lowest_label 32 (w.part e).at_tag)) h.1.1.1.1.0 refl tt, tt)
-outcome_granted w (step.BeginUse e t q x) h = (free_of w e (Own.Begin _ _ _) refl refl tt, tt)
-outcome_granted w (step.EndUse e u) h = (free_of w e (Own.End _) refl refl tt, tt)
-outcome_granted w (step.Evict e t q) h = (free_of w e (Own.Evict _) refl refl tt, tt)
+    (sending w e (LocalAct.Ask (Labels.bearer (w.part e) t) q (Labels.lowest_label 32 (w.part e).at_tag)) h.1.1.1.1.0 refl tt, tt)
+outcome_granted w (step.BeginUse e t q x) h = (free_of w e (LocalAct.Begin _ _ _) refl refl tt, tt)
+outcome_granted w (step.EndUse e u) h = (free_of w e (LocalAct.End _) refl refl tt, tt)
+outcome_granted w (step.Evict e t q) h = (free_of w e (LocalAct.Evict _) refl refl tt, tt)
 outcome_granted w (step.Fault e t q r x group l) h = fault_granted w e t q r x l group h.1.1.1.1.1.1.0
-outcome_granted w (step.Finish e vector count) h = (sending w e (Own.Finish (Labels.is_named (w.part e) vector) vector count) h.1.1.1.1.0 refl tt, tt)
-outcome_granted w (step.Quit e t) h = (sending w e (Own.Quit (Labels.bearer (w.part e) t)) h.1.1.1.0 refl tt, tt)
+outcome_granted w (step.Finish e vector count) h = (sending w e (LocalAct.Finish (Labels.is_named (w.part e) vector) vector count) h.1.1.1.1.0 refl tt, tt)
+outcome_granted w (step.Quit e t) h = (sending w e (LocalAct.Quit (Labels.bearer (w.part e) t)) h.1.1.1.0 refl tt, tt)
 outcome_granted w (step.Deliver n) h =
-    deliver_granted w (w.way (Labels.name w n)) (Labels.name w n) ((w.part (w.way (Labels.name w n))).message (Labels.name w n)) h.1.1.0
+    deliver_granted w (w.link_of (Labels.name w n)) (Labels.name w n) ((w.part (w.link_of (Labels.name w n))).message (Labels.name w n)) h.1.1.0
 outcome_granted w (step.Look f) h = tt
 outcome_granted w (step.Bearer t) h = tt
 

@@ -3,11 +3,11 @@ use Rattle.std.proofs.Common.{◌≡◌, ◌⊎◌, inl, inr, refl, ap, ℕ, fal
 use Rattle.std.specs.Prelude.{List}
 use Rattle.sva_model.specs.Message.{Message}
 use Rattle.sva_model.specs.Message.Message.{InvalidatedMessage}
-use Rattle.sva_model.specs.State.{HostGroupState, Mappings, Part}
+use Rattle.sva_model.specs.State.{HostGroupState, Mappings, Endpoint}
 use Rattle.sva_model.specs.State.HostGroupState.{NotFiled, PartFiled}
-use Rattle.sva_model.specs.Acts.{Own, own}
+use Rattle.sva_model.specs.Acts.{LocalAct, own}
 use Rattle.sva_model.specs.Wire.{host_groups_wire, HostGroupWire}
-use Rattle.sva_laws.proofs.Legal.{LegalOwn}
+use Rattle.sva_laws.proofs.Legal.{LegalLocalAct}
 use Rattle.sva_laws.proofs.Invariant.{PartInvariant}
 use Rattle.sva_laws.proofs.OnTheWay.{OnTheWay}
 use Rattle.sva_laws.proofs.Jobs.{is_past}
@@ -28,47 +28,47 @@ begun_or_not s h = grind arith
 
 -- where a request is filed in a group that isn't a job yet, and that no reset has dropped
 pub host_groups_in_turn :
-    (ms : Mappings) (x g n e first : ℕ) (p : Part) (o : Own) → LegalOwn ms g p o → PartInvariant ms x g n e p → FilesOpen p o → Filings p
+    (ms : Mappings) (x g n e first : ℕ) (p : Endpoint) (o : LocalAct) → LegalLocalAct ms g p o → PartInvariant ms x g n e p → FilesOpen p o → Filings p
     → host_groups_wire first (own p n o) ≡ host_groups_moved (host_groups_wire first p) (own_move first e ms p o)
-host_groups_in_turn ms x g n e first p (Own.Bind b s t) l i turn fi = refl
-host_groups_in_turn ms x g n e first p (Own.Stop b) l i turn fi = refl
-host_groups_in_turn ms x g n e first p (Own.Drain b cookie) l i turn fi = refl
-host_groups_in_turn ms x g n e first p (Own.Invalidate b cookie) l i turn fi = refl
-host_groups_in_turn ms x g n e first p (Own.Quieten b) l i turn fi = refl
-host_groups_in_turn ms x g n e first p (Own.Release b) l i turn fi = refl
-host_groups_in_turn ms x g n e first p (Own.Send k t) l i turn fi = refl
-host_groups_in_turn ms x g n e first p (Own.Pass k) l i turn fi = refl
-host_groups_in_turn ms x g n e first p (Own.File r) l i turn fi = groups_file ms x g n e first p r l i fi (begun_or_not (p.host_group (p.group_of r)) turn)
-host_groups_in_turn ms x g n e first p Own.Reset l i turn fi = groups_reset first n p
-host_groups_in_turn ms x g n e first p (Own.Hand y w) l i turn fi = groups_hand ms g first n p y w l
-host_groups_in_turn ms x g n e first p (Own.Respond y code) l i turn fi = groups_respond ms x g first n e p y code l i
-host_groups_in_turn ms x g n e first p (Own.Discard y) l i turn fi = groups_discard ms x g first n e p y l i
-host_groups_in_turn ms x g n e first p (Own.Ask b q t) l i turn fi = refl
-host_groups_in_turn ms x g n e first p (Own.Begin r m t) l i turn fi = refl
-host_groups_in_turn ms x g n e first p (Own.End u) l i turn fi = refl
-host_groups_in_turn ms x g n e first p (Own.Evict r) l i turn fi = refl
-host_groups_in_turn ms x g n e first p (Own.Group b y q r w z) l i turn fi = groups_group g first n p b y q r w z i.bounds fi
-host_groups_in_turn ms x g n e first p (Own.Request y q r w z) l i turn fi = groups_request g first n p y q r w z i.bounds fi
-host_groups_in_turn ms x g n e first p (Own.Finish names vector count) l i turn fi = refl
-host_groups_in_turn ms x g n e first p (Own.Quit b) l i turn fi = refl
-host_groups_in_turn ms x g n e first p (Own.Start_arrives m b) l i turn fi = refl
-host_groups_in_turn ms x g n e first p (Own.Stop_arrives m b) l i turn fi = refl
-host_groups_in_turn ms x g n e first p (Own.Reset_arrives m) l i turn fi = refl
-host_groups_in_turn ms x g n e first p (Own.Keep m r y) l i turn fi = refl
-host_groups_in_turn ms x g n e first p (Own.Forget m r) l i turn fi = refl
-host_groups_in_turn ms x g n e first p (Own.Take m k) l i turn fi = refl
-host_groups_in_turn ms x g n e first p (Own.Answered m y code) l i turn fi = refl
-host_groups_in_turn ms x g n e first p (Own.Complete m r found answer) l i turn fi = refl
-host_groups_in_turn ms x g n e first p (Own.Count m names) l i turn fi = count_same first e m (p.carried m) (host_groups_wire first p)
-host_groups_in_turn ms x g n e first p (Own.Arrive m r) l i turn fi = refl
-host_groups_in_turn ms x g n e first p (Own.Miss m r) l i turn fi = refl
-host_groups_in_turn ms x g n e first p (Own.Mark m b) l i turn fi = refl
-host_groups_in_turn ms x g n e first p (Own.Ignore m) l i turn fi = refl
-host_groups_in_turn ms x g n e first p (Own.Reopen m) l i turn fi = refl
+host_groups_in_turn ms x g n e first p (LocalAct.Bind b s t) l i turn fi = refl
+host_groups_in_turn ms x g n e first p (LocalAct.Stop b) l i turn fi = refl
+host_groups_in_turn ms x g n e first p (LocalAct.Drain b cookie) l i turn fi = refl
+host_groups_in_turn ms x g n e first p (LocalAct.Invalidate b cookie) l i turn fi = refl
+host_groups_in_turn ms x g n e first p (LocalAct.Quieten b) l i turn fi = refl
+host_groups_in_turn ms x g n e first p (LocalAct.Release b) l i turn fi = refl
+host_groups_in_turn ms x g n e first p (LocalAct.Send k t) l i turn fi = refl
+host_groups_in_turn ms x g n e first p (LocalAct.Pass k) l i turn fi = refl
+host_groups_in_turn ms x g n e first p (LocalAct.File r) l i turn fi = groups_file ms x g n e first p r l i fi (begun_or_not (p.host_group (p.group_of r)) turn)
+host_groups_in_turn ms x g n e first p LocalAct.Reset l i turn fi = groups_reset first n p
+host_groups_in_turn ms x g n e first p (LocalAct.Hand y w) l i turn fi = groups_hand ms g first n p y w l
+host_groups_in_turn ms x g n e first p (LocalAct.Respond y code) l i turn fi = groups_respond ms x g first n e p y code l i
+host_groups_in_turn ms x g n e first p (LocalAct.Discard y) l i turn fi = groups_discard ms x g first n e p y l i
+host_groups_in_turn ms x g n e first p (LocalAct.Ask b q t) l i turn fi = refl
+host_groups_in_turn ms x g n e first p (LocalAct.Begin r m t) l i turn fi = refl
+host_groups_in_turn ms x g n e first p (LocalAct.End u) l i turn fi = refl
+host_groups_in_turn ms x g n e first p (LocalAct.Evict r) l i turn fi = refl
+host_groups_in_turn ms x g n e first p (LocalAct.Group b y q r w z) l i turn fi = groups_group g first n p b y q r w z i.bounds fi
+host_groups_in_turn ms x g n e first p (LocalAct.Request y q r w z) l i turn fi = groups_request g first n p y q r w z i.bounds fi
+host_groups_in_turn ms x g n e first p (LocalAct.Finish names vector count) l i turn fi = refl
+host_groups_in_turn ms x g n e first p (LocalAct.Quit b) l i turn fi = refl
+host_groups_in_turn ms x g n e first p (LocalAct.Start_arrives m b) l i turn fi = refl
+host_groups_in_turn ms x g n e first p (LocalAct.Stop_arrives m b) l i turn fi = refl
+host_groups_in_turn ms x g n e first p (LocalAct.Reset_arrives m) l i turn fi = refl
+host_groups_in_turn ms x g n e first p (LocalAct.Keep m r y) l i turn fi = refl
+host_groups_in_turn ms x g n e first p (LocalAct.Forget m r) l i turn fi = refl
+host_groups_in_turn ms x g n e first p (LocalAct.Take m k) l i turn fi = refl
+host_groups_in_turn ms x g n e first p (LocalAct.Answered m y code) l i turn fi = refl
+host_groups_in_turn ms x g n e first p (LocalAct.Complete m r found answer) l i turn fi = refl
+host_groups_in_turn ms x g n e first p (LocalAct.Count m names) l i turn fi = count_same first e m (p.carried m) (host_groups_wire first p)
+host_groups_in_turn ms x g n e first p (LocalAct.Arrive m r) l i turn fi = refl
+host_groups_in_turn ms x g n e first p (LocalAct.Miss m r) l i turn fi = refl
+host_groups_in_turn ms x g n e first p (LocalAct.Mark m b) l i turn fi = refl
+host_groups_in_turn ms x g n e first p (LocalAct.Ignore m) l i turn fi = refl
+host_groups_in_turn ms x g n e first p (LocalAct.Reopen m) l i turn fi = refl
 
 -- and that is so for each request that is filed
-pub files_open : (ms : Mappings) (x g n e : ℕ) (p : Part) (o : Own) → LegalOwn ms g p o → PartInvariant ms x g n e p → OnTheWay p → FilesOpen p o
-files_open ms x g n e p (Own.File r) l i on = go (p.host_group (p.group_of r)) (arrived_in ms x g n e p r i on l.0 l.1)
+pub files_open : (ms : Mappings) (x g n e : ℕ) (p : Endpoint) (o : LocalAct) → LegalLocalAct ms g p o → PartInvariant ms x g n e p → OnTheWay p → FilesOpen p o
+files_open ms x g n e p (LocalAct.File r) l i on = go (p.host_group (p.group_of r)) (arrived_in ms x g n e p r i on l.0 l.1)
   where
     go : (s : HostGroupState) → (s ≡ NotFiled) ⊎ (s ≡ PartFiled) → is_past s ≡ false
     go s (inl h) = ap is_past h
@@ -76,6 +76,6 @@ files_open ms x g n e p (Own.File r) l i on = go (p.host_group (p.group_of r)) (
 files_open ms x g n e p _ l i on = tt
 
 pub host_groups_acts :
-    (ms : Mappings) (x g n e first : ℕ) (p : Part) (o : Own) → LegalOwn ms g p o → PartInvariant ms x g n e p → OnTheWay p → Filings p
+    (ms : Mappings) (x g n e first : ℕ) (p : Endpoint) (o : LocalAct) → LegalLocalAct ms g p o → PartInvariant ms x g n e p → OnTheWay p → Filings p
     → host_groups_wire first (own p n o) ≡ host_groups_moved (host_groups_wire first p) (own_move first e ms p o)
 host_groups_acts ms x g n e first p o l i on fi = host_groups_in_turn ms x g n e first p o l i (files_open ms x g n e p o l i on) fi

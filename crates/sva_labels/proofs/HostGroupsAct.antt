@@ -2,14 +2,14 @@
 use Rattle.std.proofs.Common.{◌≡◌, ◌≢◌, ◌⊎◌, inl, inr, refl, ap, sym, ◌∙◌, ℕ, ◌<◌, Bool, true, false, arith}
 use Rattle.std.specs.Prelude.{◌&&◌, not, ◌==◌, [], map}
 use Rattle.sva_model.specs.Words.{put, select, any_below}
-use Rattle.sva_model.specs.State.{HostGroupState, Mappings, Part}
+use Rattle.sva_model.specs.State.{HostGroupState, Mappings, Endpoint}
 use Rattle.sva_model.specs.State.HostGroupState.{InHand, Discarded, InHandDiscarded}
 use Rattle.sva_model.specs.State.Phase.{Open}
 use Rattle.sva_model.specs.States.{is_open, is_open_group}
-use Rattle.sva_model.specs.Acts.{Own, own, discarded}
+use Rattle.sva_model.specs.Acts.{LocalAct, own, discarded}
 use Rattle.sva_model.specs.Wire.{number, ask_wire, asks_wire, host_group_wire, host_groups_wire, begins_open, is_part}
 use Rattle.sva_laws.proofs.Words.{put-same, put-other, ℕ_cases}
-use Rattle.sva_laws.proofs.Legal.{LegalOwn}
+use Rattle.sva_laws.proofs.Legal.{LegalLocalAct}
 use Rattle.sva_laws.proofs.Bounds.{Bounds}
 use Rattle.sva_laws.proofs.Invariant.{PartInvariant}
 use Rattle.sva_labels.proofs.Picked.{picked_same, picked_none}
@@ -19,19 +19,19 @@ use Rattle.sva_labels.proofs.HostGroupsFiled.{Filings, filed_made}
 use Rattle.sva_labels.proofs.HostGroupsLists.{begins_same}
 
 -- the group of a filing
-abbrev pub filed_group : Part → (filing : ℕ) → ℕ
+abbrev pub filed_group : Endpoint → (filing : ℕ) → ℕ
 filed_group p k = p.group_of (p.filing k)
 
-abbrev pub opens : Part → (group : ℕ) → Bool
+abbrev pub opens : Endpoint → (group : ℕ) → Bool
 opens p g = is_open_group (p.host_group g)
 
 -- what the requests of a group ask, filing by filing
-pub asks_seen : (p : Part) (g : ℕ) → asks_wire p g ≡ map (λ k. ask_wire p (p.filing k)) (select p.filings (λ k. filed_group p k == g))
+pub asks_seen : (p : Endpoint) (g : ℕ) → asks_wire p g ≡ map (λ k. ask_wire p (p.filing k)) (select p.filings (λ k. filed_group p k == g))
 asks_seen p g = map_twice (ask_wire p) p.filing (select p.filings (λ k. filed_group p k == g))
 
 -- Two parts with the same filings.
 
-pub record FiledAlike (p q : Part) : Type 0 where
+pub record FiledAlike (p q : Endpoint) : Type 0 where
   pub filings : q.filings ≡ p.filings
   pub filing : (k : ℕ) → k < p.filings → q.filing k ≡ p.filing k
   pub group_of : (k : ℕ) → k < p.filings → q.group_of (p.filing k) ≡ p.group_of (p.filing k)
@@ -41,10 +41,10 @@ pub record FiledAlike (p q : Part) : Type 0 where
   pub index : (k : ℕ) → k < p.filings → opens p (filed_group p k) ≡ true → q.index (filed_group p k) ≡ p.index (filed_group p k)
   pub part : (k : ℕ) → k < p.filings → opens p (filed_group p k) ≡ true → is_part (q.host_group (filed_group p k)) ≡ is_part (p.host_group (filed_group p k))
 
-filed_group_same : (p q : Part) → FiledAlike p q → (k : ℕ) → k < p.filings → filed_group q k ≡ filed_group p k
+filed_group_same : (p q : Endpoint) → FiledAlike p q → (k : ℕ) → k < p.filings → filed_group q k ≡ filed_group p k
 filed_group_same p q a k l = ap q.group_of (a.filing k l) ∙ a.group_of k l
 
-asks_same : (p q : Part) → FiledAlike p q → (g : ℕ) → asks_wire q g ≡ asks_wire p g
+asks_same : (p q : Endpoint) → FiledAlike p q → (g : ℕ) → asks_wire q g ≡ asks_wire p g
 asks_same p q a g =
     asks_seen q g
     ∙ ap (λ z. map (λ k. ask_wire q (q.filing k)) (select z (λ k. filed_group q k == g))) a.filings
@@ -53,7 +53,7 @@ asks_same p q a g =
     (λ k l h. ap (ask_wire q) (a.filing k l) ∙ a.ask k l)
     ∙ sym (asks_seen p g)
 
-begins_alike : (p q : Part) → FiledAlike p q → (k : ℕ) → k < p.filings → begins_open q k ≡ begins_open p k
+begins_alike : (p q : Endpoint) → FiledAlike p q → (k : ℕ) → k < p.filings → begins_open q k ≡ begins_open p k
 begins_alike p q a k l =
     begins_same (opens p) (opens q) (filed_group p) (filed_group q) k (λ j m. filed_group_same p q a j (omega (arith, l, m))) (a.same_opens k l)
 
@@ -63,7 +63,7 @@ opens_of b c h = grind arith
 pub rest_of : (b c : Bool) → (b && not c) ≡ true → c ≡ false
 rest_of b c h = grind arith
 
-pub groups_alike : (first : ℕ) (p q : Part) → FiledAlike p q → host_groups_wire first q ≡ host_groups_wire first p
+pub groups_alike : (first : ℕ) (p q : Endpoint) → FiledAlike p q → host_groups_wire first q ≡ host_groups_wire first p
 groups_alike first p q a =
     ap (λ z. map (λ k. host_group_wire first q (filed_group q k)) (select z (begins_open q))) a.filings
     ∙ picked_same p.filings (λ k. host_group_wire first q (filed_group q k)) (λ k. host_group_wire first p (filed_group p k)) (begins_open q) (begins_open p)
@@ -85,10 +85,10 @@ groups_alike first p q a =
 -- the endpoint makes a page request: of what is filed nothing changes
 
 pub groups_group :
-    (g first n : ℕ) (p : Part) (b i q : ℕ) (r x l : Bool) → Bounds g p → Filings p
-    → host_groups_wire first (own p n (Own.Group b i q r x l)) ≡ host_groups_wire first p
+    (g first n : ℕ) (p : Endpoint) (b i q : ℕ) (r x l : Bool) → Bounds g p → Filings p
+    → host_groups_wire first (own p n (LocalAct.Group b i q r x l)) ≡ host_groups_wire first p
 groups_group g first n p b i q r x l bo fi =
-    groups_alike first p (own p n (Own.Group b i q r x l))
+    groups_alike first p (own p n (LocalAct.Group b i q r x l))
     (record {
       filings = refl;
       filing = λ k m. refl;
@@ -112,10 +112,10 @@ groups_group g first n p b i q r x l bo fi =
     made = filed_made g p bo fi
 
 pub groups_request :
-    (g first n : ℕ) (p : Part) (w q : ℕ) (r x l : Bool) → Bounds g p → Filings p
-    → host_groups_wire first (own p n (Own.Request w q r x l)) ≡ host_groups_wire first p
+    (g first n : ℕ) (p : Endpoint) (w q : ℕ) (r x l : Bool) → Bounds g p → Filings p
+    → host_groups_wire first (own p n (LocalAct.Request w q r x l)) ≡ host_groups_wire first p
 groups_request g first n p w q r x l bo fi =
-    groups_alike first p (own p n (Own.Request w q r x l))
+    groups_alike first p (own p n (LocalAct.Request w q r x l))
     (record {
       filings = refl;
       filing = λ k m. refl;
@@ -141,7 +141,7 @@ groups_request g first n p w q r x l bo fi =
 -- another state of one group, by which it is open as before, and whole as before
 
 pub groups_state :
-    (first : ℕ) (p : Part) (g : ℕ) (s : HostGroupState) → is_open_group s ≡ is_open_group (p.host_group g)
+    (first : ℕ) (p : Endpoint) (g : ℕ) (s : HostGroupState) → is_open_group s ≡ is_open_group (p.host_group g)
     → (is_open_group (p.host_group g) ≡ true → is_part s ≡ is_part (p.host_group g))
     → host_groups_wire first (record p { host_group = put p.host_group g s }) ≡ host_groups_wire first p
 groups_state first p g s o w =
@@ -174,15 +174,15 @@ groups_state first p g s o w =
 -- a job goes to a worker
 
 pub groups_hand :
-    (ms : Mappings) (g first n : ℕ) (p : Part) (x w : ℕ) → LegalOwn ms g p (Own.Hand x w)
-    → host_groups_wire first (own p n (Own.Hand x w)) ≡ host_groups_wire first p
+    (ms : Mappings) (g first n : ℕ) (p : Endpoint) (x w : ℕ) → LegalLocalAct ms g p (LocalAct.Hand x w)
+    → host_groups_wire first (own p n (LocalAct.Hand x w)) ≡ host_groups_wire first p
 groups_hand ms g first n p x w l = groups_state first p x (InHand w) (sym (ap is_open_group l)) (λ h. sym (ap is_part l))
 
 -- a worker's answer goes nowhere: the group isn't open
 
 pub groups_discard :
-    (ms : Mappings) (y g first n e : ℕ) (p : Part) (x : ℕ) → LegalOwn ms g p (Own.Discard x) → PartInvariant ms y g n e p
-    → host_groups_wire first (own p n (Own.Discard x)) ≡ host_groups_wire first p
+    (ms : Mappings) (y g first n e : ℕ) (p : Endpoint) (x : ℕ) → LegalLocalAct ms g p (LocalAct.Discard x) → PartInvariant ms y g n e p
+    → host_groups_wire first (own p n (LocalAct.Discard x)) ≡ host_groups_wire first p
 groups_discard ms y g first n e p x l i = go l.0
   where
     shut : (b : Bool) → is_open p.phase ≡ b → (w : ℕ) → p.host_group x ≢ InHand w
@@ -194,7 +194,7 @@ groups_discard ms y g first n e p x l i = go l.0
 
     go :
         (w : ℕ) × ((p.host_group x ≡ InHand w) ⊎ (p.host_group x ≡ InHandDiscarded w))
-        → host_groups_wire first (own p n (Own.Discard x)) ≡ host_groups_wire first p
+        → host_groups_wire first (own p n (LocalAct.Discard x)) ≡ host_groups_wire first p
     go (w, inl h) = absurd (shut (is_open p.phase) refl w h)
     go (w, inr h) = groups_state first p x Discarded (sym (ap is_open_group h)) (λ o. sym (ap is_part h))
 
@@ -206,8 +206,8 @@ dropped s = grind arith
 pub shut_begins : (b c : Bool) → b ≡ false → (b && c) ≡ false
 shut_begins b c h = grind arith
 
-pub groups_reset : (first n : ℕ) (p : Part) → host_groups_wire first (own p n Own.Reset) ≡ []
+pub groups_reset : (first n : ℕ) (p : Endpoint) → host_groups_wire first (own p n LocalAct.Reset) ≡ []
 groups_reset first n p =
-    picked_none p.filings (λ k. host_group_wire first (own p n Own.Reset) (filed_group p k)) (begins_open (own p n Own.Reset))
+    picked_none p.filings (λ k. host_group_wire first (own p n LocalAct.Reset) (filed_group p k)) (begins_open (own p n LocalAct.Reset))
     (λ k l. shut_begins (is_open_group (discarded (p.host_group (filed_group p k)))) (not (any_below k (λ j. filed_group p j == filed_group p k)))
     (dropped (p.host_group (filed_group p k))))

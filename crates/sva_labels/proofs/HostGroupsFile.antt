@@ -5,17 +5,17 @@ use Rattle.std.specs.Prelude.{◌&&◌, not, ◌==◌, Some, List, [], ◌∷◌
 use Rattle.std.proofs.lemmas.Bool.Decides.{nat_tests}
 use Rattle.sva_model.specs.Words.{put, any_below, lowest}
 use Rattle.sva_model.specs.Message.{Code}
-use Rattle.sva_model.specs.State.{HostGroupState, Mappings, Part, Stage}
+use Rattle.sva_model.specs.State.{HostGroupState, Mappings, Endpoint, Stage}
 use Rattle.sva_model.specs.State.PageRequestState.{Arrived, Dropped}
 use Rattle.sva_model.specs.State.HostGroupState.{NotFiled, PartFiled, Job, InHand, Replied, Discarded, InHandDiscarded}
 use Rattle.sva_model.specs.State.Phase.{Open}
 use Rattle.sva_model.specs.States.{is_open_group, is_outstanding, is_before_invalidating}
-use Rattle.sva_model.specs.Acts.{Own, own, filed_as}
+use Rattle.sva_model.specs.Acts.{LocalAct, own, filed_as}
 use Rattle.sva_model.specs.Wire.{number, ask_wire, asks_wire, page_request_wire, host_group_wire, host_groups_wire, group_job, begins_open, is_part}
 use Rattle.sva_model.specs.Wire.{AskWire, HostGroupWire}
 use Rattle.sva_wire.proofs.Lists.{none_below}
 use Rattle.sva_laws.proofs.Words.{put-same, put-other, ℕ_cases, any_below-false, any_below-intro, lowest_below}
-use Rattle.sva_laws.proofs.Legal.{LegalOwn}
+use Rattle.sva_laws.proofs.Legal.{LegalLocalAct}
 use Rattle.sva_laws.proofs.Orders.{is_active}
 use Rattle.sva_laws.proofs.PageRequests.{is_whole}
 use Rattle.sva_laws.proofs.Groups.{Groups, is_filed_group}
@@ -29,7 +29,7 @@ use Rattle.sva_labels.proofs.HostGroupsLists.{begun_by, added_to, filed_new, fil
 use Rattle.sva_labels.proofs.HostGroupsAct.{filed_group, opens, asks_seen, opens_of, rest_of, shut_begins}
 
 -- two open groups with the same index are one
-same_index : (p : Part) → Groups p → p.phase ≡ Open → (g h : ℕ) → is_outstanding (p.group g) ≡ true → opens p h ≡ true → p.index h ≡ p.index g → h ≡ g
+same_index : (p : Endpoint) → Groups p → p.phase ≡ Open → (g h : ℕ) → is_outstanding (p.group g) ≡ true → opens p h ≡ true → p.index h ≡ p.index g → h ≡ g
 same_index p gr ph g h og oh e =
     let a : p.at_index (p.index g) ≡ Some g = gr.bears_index g og in
     let b : p.at_index (p.index h) ≡ Some h = gr.bears_index h (gr.open_group h ph oh).0 in
@@ -60,8 +60,8 @@ in_hand_of s t (w, inr h) d b = absurd (inactive t (d w h) b)
     inactive t h b = grind arith
 
 pub groups_respond :
-    (ms : Mappings) (y g first n e : ℕ) (p : Part) (x : ℕ) (code : Code) → LegalOwn ms g p (Own.Respond x code) → PartInvariant ms y g n e p
-    → host_groups_wire first (own p n (Own.Respond x code)) ≡ filter (λ z. not (is_of_job (group_job first e p x) z)) (host_groups_wire first p)
+    (ms : Mappings) (y g first n e : ℕ) (p : Endpoint) (x : ℕ) (code : Code) → LegalLocalAct ms g p (LocalAct.Respond x code) → PartInvariant ms y g n e p
+    → host_groups_wire first (own p n (LocalAct.Respond x code)) ≡ filter (λ z. not (is_of_job (group_job first e p x) z)) (host_groups_wire first p)
 groups_respond ms y g first n e p x code l i =
     picked_filter p.filings (λ k. host_group_wire first p (filed_group p k)) (λ k. host_group_wire first q (filed_group p k)) (begins_open p)
     (begins_open q) (λ z. not (is_of_job (group_job first e p x) z))
@@ -69,8 +69,8 @@ groups_respond ms y g first n e p x code l i =
     (λ k m b. fails k b (ℕ_cases (filed_group p k) x))
     (λ k m b. entry k b (ℕ_cases (filed_group p k) x))
   where
-    q : Part
-    q = own p n (Own.Respond x code)
+    q : Endpoint
+    q = own p n (LocalAct.Respond x code)
 
     older : ℕ → Bool
     older k = not (any_below k (λ j. filed_group p j == filed_group p k))
@@ -113,7 +113,7 @@ groups_respond ms y g first n e p x code l i =
 -- A page request is filed. At an open unit its group isn't whole, and no reset has dropped it.
 
 pub arrived_in :
-    (ms : Mappings) (x g n e : ℕ) (p : Part) (r : ℕ) → PartInvariant ms x g n e p → OnTheWay p → p.phase ≡ Open → p.page_request r ≡ Arrived
+    (ms : Mappings) (x g n e : ℕ) (p : Endpoint) (r : ℕ) → PartInvariant ms x g n e p → OnTheWay p → p.phase ≡ Open → p.page_request r ≡ Arrived
     → (p.host_group (p.group_of r) ≡ NotFiled) ⊎ (p.host_group (p.group_of r) ≡ PartFiled)
 arrived_in ms x g n e p r i on ph a = go (p.host_group (p.group_of r)) refl
   where
@@ -136,9 +136,9 @@ arrived_in ms x g n e p r i on ph a = go (p.host_group (p.group_of r)) refl
     go (InHandDiscarded w) h = absurd (cc (sym out ∙ i.groups.discarded_over (p.group_of r) w ph h))
 
 -- what is asked in a group once a request is filed
-pub asks_filed : (p : Part) (n r h : ℕ) → asks_wire (own p n (Own.File r)) h ≡ asks_wire p h ++ if_passes (p.group_of r == h) (ask_wire p r)
+pub asks_filed : (p : Endpoint) (n r h : ℕ) → asks_wire (own p n (LocalAct.File r)) h ≡ asks_wire p h ++ if_passes (p.group_of r == h) (ask_wire p r)
 asks_filed p n r h =
-    asks_seen (own p n (Own.File r)) h
+    asks_seen (own p n (LocalAct.File r)) h
     ∙ picked_next (λ k. ask_wire p (put p.filing p.filings r k)) p.filings (λ k. p.group_of (put p.filing p.filings r k) == h)
     ∙ ap₂ (λ xs ys. xs ++ ys)
     (
@@ -168,9 +168,10 @@ both_begin a b h i = grind arith
 abbrev pub entry_of : (binding index : ℕ) → List AskWire → Bool → HostGroupWire
 entry_of b i asks whole = record { binding = b; index = i; asks = asks; is_whole = whole }
 
-module _ (ms : Mappings) (x g n e first : ℕ) (p : Part) (r : ℕ) (l : LegalOwn ms g p (Own.File r)) (i : PartInvariant ms x g n e p) (fi : Filings p) where
-  abbrev after : Part
-  after = own p n (Own.File r)
+module _ (ms : Mappings) (x g n e first : ℕ) (p : Endpoint) (r : ℕ) (l : LegalLocalAct ms g p (LocalAct.File r)) (i : PartInvariant ms x g n e p)
+    (fi : Filings p) where
+  abbrev after : Endpoint
+  after = own p n (LocalAct.File r)
 
   abbrev own_group : ℕ
   own_group = p.group_of r
@@ -360,6 +361,6 @@ module _ (ms : Mappings) (x g n e first : ℕ) (p : Part) (r : ℕ) (l : LegalOw
 
   pub groups_file :
       (p.host_group (p.group_of r) ≡ NotFiled) ⊎ (p.host_group (p.group_of r) ≡ PartFiled)
-      → host_groups_wire first (own p n (Own.File r)) ≡ filed (number first (p.asker (p.group_of r))) (page_request_wire p r) (host_groups_wire first p)
+      → host_groups_wire first (own p n (LocalAct.File r)) ≡ filed (number first (p.asker (p.group_of r))) (page_request_wire p r) (host_groups_wire first p)
   groups_file (inl h) = first_of h
   groups_file (inr h) = more_of h (fi.begun own_group (ap is_filed_group h))

@@ -5,12 +5,12 @@ use Rattle.std.specs.Prelude.{Option, Some, None, List, [], ◌∷◌}
 use Rattle.std.proofs.lemmas.Bool.Decides.{nat_tests}
 use Rattle.sva_step.specs.declared.limits.Config.{Config}
 use Rattle.sva_step.specs.declared.steps.Step.{Step}
-use Rattle.sva_model.specs.State.{PasidRule, Mappings, Part, World, opened}
+use Rattle.sva_model.specs.State.{PasidRule, Mappings, Endpoint, World, opened}
 use Rattle.sva_model.specs.State.PageRequestState.{Filed, Dropped}
-use Rattle.sva_model.specs.Acts.{Act, Own, act, own, submitted_if, submits, bound, cookie_of}
-use Rattle.sva_model.specs.Acts.Act.{NewSpace, DropSpace, Map, Unmap, NewBinding, NewJob, Hold, LetGo, At}
+use Rattle.sva_model.specs.Acts.{Act, LocalAct, act, own, submitted_if, submits, bound, cookie_of}
+use Rattle.sva_model.specs.Acts.Act.{NewSpace, DropSpace, Map, Unmap, NewBinding, NewJob, Hold, LetGo, AtEndpoint}
 use Rattle.sva_model.specs.Steps.{decide, next, run, after_acts, world_after}
-use Rattle.sva_laws.proofs.Legal.{LegalOwn}
+use Rattle.sva_laws.proofs.Legal.{LegalLocalAct}
 use Rattle.sva_laws.proofs.Bounds.{Bounds}
 use Rattle.sva_laws.proofs.PageRequests.{Queued}
 use Rattle.sva_laws.proofs.Groups.{is_filed_group}
@@ -19,39 +19,39 @@ use Rattle.sva_laws.proofs.Keeps.{Legal, act_keeps, put_keeps}
 use Rattle.sva_laws.proofs.Passed.{LegalAll}
 use Rattle.sva_laws.proofs.Runs.{step_legal, next_keeps, opened_invariant}
 
-pub record Filings (p : Part) : Type 0 where
+pub record Filings (p : Endpoint) : Type 0 where
   pub filed : (k : ℕ) → k < p.filings → p.page_request (p.filing k) ≡ Filed
   pub begun : (g : ℕ) → is_filed_group (p.host_group g) ≡ true → (k : ℕ) × (k < p.filings) × (p.group_of (p.filing k) ≡ g)
 
 -- what is filed is made
-pub filed_made : (g : ℕ) (p : Part) → Bounds g p → Filings p → (k : ℕ) → k < p.filings → p.filing k < p.page_requests
+pub filed_made : (g : ℕ) (p : Endpoint) → Bounds g p → Filings p → (k : ℕ) → k < p.filings → p.filing k < p.page_requests
 filed_made g p bo fi k l = made (fi.filed k l) (bo.page_request (p.filing k))
   where
     made : p.page_request (p.filing k) ≡ Filed → (p.page_requests ≤ p.filing k → p.page_request (p.filing k) ≡ Dropped) → p.filing k < p.page_requests
     made h d = grind (arith)
 
-pub filing_same : (p : Part) (n : ℕ) (o : Own) (k : ℕ) → k < p.filings → (own p n o).filing k ≡ p.filing k
+pub filing_same : (p : Endpoint) (n : ℕ) (o : LocalAct) (k : ℕ) → k < p.filings → (own p n o).filing k ≡ p.filing k
 filing_same p n o k l = grind (arith, nat_tests)
 
-pub group_of_same : (p : Part) (n : ℕ) (o : Own) (r : ℕ) → r < p.page_requests → (own p n o).group_of r ≡ p.group_of r
+pub group_of_same : (p : Endpoint) (n : ℕ) (o : LocalAct) (r : ℕ) → r < p.page_requests → (own p n o).group_of r ≡ p.group_of r
 group_of_same p n o r l = grind (arith, nat_tests)
 
-more_filings : (p : Part) (n : ℕ) (o : Own) → p.filings ≤ (own p n o).filings
+more_filings : (p : Endpoint) (n : ℕ) (o : LocalAct) → p.filings ≤ (own p n o).filings
 more_filings p n o = grind (arith, nat_tests)
 
 filed_kept :
-    (ms : Mappings) (g n : ℕ) (p : Part) (o : Own) → LegalOwn ms g p o → Queued p
+    (ms : Mappings) (g n : ℕ) (p : Endpoint) (o : LocalAct) → LegalLocalAct ms g p o → Queued p
     → (p.page_requests ≤ p.page_requests → p.page_request p.page_requests ≡ Dropped) → (k : ℕ)
     → (k < p.filings → p.page_request (p.filing k) ≡ Filed) → k < (own p n o).filings
     → (own p n o).page_request ((own p n o).filing k) ≡ Filed
 filed_kept ms g n p o l qu un k old h = grind (arith, nat_tests, qu.in_flight)
 
 begun_from :
-    (ms : Mappings) (g n : ℕ) (p : Part) (o : Own) → LegalOwn ms g p o → (x : ℕ) → is_filed_group ((own p n o).host_group x) ≡ true
+    (ms : Mappings) (g n : ℕ) (p : Endpoint) (o : LocalAct) → LegalLocalAct ms g p o → (x : ℕ) → is_filed_group ((own p n o).host_group x) ≡ true
     → (is_filed_group (p.host_group x) ≡ true) ⊎ ((p.filings < (own p n o).filings) × ((own p n o).group_of ((own p n o).filing p.filings) ≡ x))
 begun_from ms g n p o l x h = grind (arith, nat_tests)
 
-pub every : (ms : Mappings) (x g n e : ℕ) (p : Part) (o : Own) → LegalOwn ms g p o → PartInvariant ms x g n e p → Filings p → Filings (own p n o)
+pub every : (ms : Mappings) (x g n e : ℕ) (p : Endpoint) (o : LocalAct) → LegalLocalAct ms g p o → PartInvariant ms x g n e p → Filings p → Filings (own p n o)
 every ms x g n e p o l i fi =
     record {
       filed = λ k h. filed_kept ms g n p o l i.queued (i.bounds.page_request p.page_requests) k (fi.filed k) h;
@@ -68,7 +68,7 @@ every ms x g n e p o l i fi =
         (k, omega (arith, l, more), ap (own p n o).group_of (filing_same p n o k l) ∙ group_of_same p n o (p.filing k) (filed_made g p i.bounds fi k l) ∙ e)
     go y (inr h) = (p.filings, h.0, h.1)
 
-submitted_filings : (t : Bool) (p : Part) (o : Option ℕ) (q count order cookie : ℕ) → Filings p → Filings (submitted_if t p o q count order cookie)
+submitted_filings : (t : Bool) (p : Endpoint) (o : Option ℕ) (q count order cookie : ℕ) → Filings p → Filings (submitted_if t p o q count order cookie)
 submitted_filings true p (Some b) q count order cookie fi = record { filed = fi.filed; begun = fi.begun }
 submitted_filings true p None q count order cookie fi = fi
 submitted_filings false p o q count order cookie fi = fi
@@ -85,7 +85,7 @@ act_filings w (NewBinding e) l i h = h
 act_filings w (NewJob e g) l i h = h
 act_filings w (Hold x j) l i h = h
 act_filings w (LetGo x) l i h = h
-act_filings w (At e o) l i h =
+act_filings w (AtEndpoint e o) l i h =
     put_keeps (λ k p. Filings p) w.part e (own (w.part e) w.messages o)
     (every w.mappings w.config.endpoints w.bindings w.messages e (w.part e) o l.1.0 (i.parts e) (h e)) h
 

@@ -3,7 +3,7 @@
 use Rattle.std.specs.Prelude.{ℕ, suc, true, false, ◌||◌, not, Some, None, List, [], ◌∷◌, ◌++◌, map, filter, drop, slice_set}
 use Rattle.sva_model.specs.State.PasidState.{Off, On, Ending}
 use Rattle.sva_model.specs.Acts.{disables, sent_as}
-use Rattle.sva_model.specs.Wire.{PartWire, DeviceWire, UnitWire, PageRequestWire, HostGroupWire}
+use Rattle.sva_model.specs.Wire.{EndpointWire, DeviceWire, UnitWire, PageRequestWire, HostGroupWire}
 use Rattle.sva_model.specs.Wire.UseWire.{RunningWire}
 use Rattle.sva_model.specs.Wire.BusyWire.{Fresh}
 use Rattle.sva_model.specs.Wire.Descriptor.{PasidDescriptor, WaitDescriptor}
@@ -52,7 +52,7 @@ host_groups_moved groups (Move.Reset e) = []
 host_groups_moved groups (Move.Respond job t code) = filter (λ g. not (is_of_job job g)) groups
 host_groups_moved groups _ = groups
 
-abbrev pub part_moved : (next : ℕ) → PartWire → Move → PartWire
+abbrev pub part_moved : (next : ℕ) → EndpointWire → Move → EndpointWire
 part_moved next p m =
     record {
       device = device_moved p.device m;

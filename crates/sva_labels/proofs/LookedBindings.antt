@@ -20,7 +20,7 @@ use Rattle.sva_labels.proofs.Lookups.{any_seen}
 
 -- is it unreleased, at its own endpoint?
 abbrev pub is_kept : World → (binding : ℕ) → Bool
-is_kept w b = is_unreleased ((w.part (w.home b)).stage b)
+is_kept w b = is_unreleased ((w.part (w.endpoint_of b)).stage b)
 
 -- two sides that pass alike
 pub both_ways : (a b : Bool) → (a ≡ true → b ≡ true) → (b ≡ true → a ≡ true) → a ≡ b
@@ -88,26 +88,26 @@ pub binding_named :
     (w : World) (e b : ℕ) → Invariant w → is_unreleased ((w.part e).stage b) ≡ true
     → binding_of (wire w) (number w.config.first b) ≡ Some (binding_wire w.config.first e (w.part e) b)
 binding_named w e b i u =
-    let home : w.home b ≡ e = i.homed e b (unreleased_bound (w.part e) b u) in
+    let endpoint_of : w.endpoint_of b ≡ e = i.homed e b (unreleased_bound (w.part e) b u) in
     let back : Labels.name w (number w.config.first b) ≡ b = omega arith in
     let made : b < w.bindings = unreleased_made w.bindings (w.part e) b (i.parts e).bounds.stage u in
     binding_found w (number w.config.first b)
     (and_both (Labels.is_number w w.bindings (number w.config.first b)) (is_kept w (Labels.name w (number w.config.first b)))
     (number_parts w.config.first (number w.config.first b) b w.bindings refl made)
-    (ap (is_kept w) back ∙ ap (λ d. is_unreleased ((w.part d).stage b)) home ∙ u))
+    (ap (is_kept w) back ∙ ap (λ d. is_unreleased ((w.part d).stage b)) endpoint_of ∙ u))
     ∙ ap (λ z. Some (binding_seen w z)) back
-    ∙ ap (λ d. Some (binding_wire w.config.first d (w.part d) b)) home
+    ∙ ap (λ d. Some (binding_wire w.config.first d (w.part d) b)) endpoint_of
 
 -- one that was bound at this endpoint, and is released since, isn't there
 pub binding_released :
     (w : World) (e b : ℕ) → Invariant w → (w.part e).stage b ≢ Unbound → is_unreleased ((w.part e).stage b) ≡ false
     → binding_of (wire w) (number w.config.first b) ≡ None
 binding_released w e b i ne u =
-    let home : w.home b ≡ e = i.homed e b ne in
+    let endpoint_of : w.endpoint_of b ≡ e = i.homed e b ne in
     let back : Labels.name w (number w.config.first b) ≡ b = omega arith in
     binding_missing w (number w.config.first b)
     (and_no (Labels.is_number w w.bindings (number w.config.first b)) (is_kept w (Labels.name w (number w.config.first b)))
-    (ap (is_kept w) back ∙ ap (λ d. is_unreleased ((w.part d).stage b)) home ∙ u))
+    (ap (is_kept w) back ∙ ap (λ d. is_unreleased ((w.part d).stage b)) endpoint_of ∙ u))
   where
     and_no : (a b : Bool) → b ≡ false → (a && b) ≡ false
     and_no a b h = grind arith
@@ -117,61 +117,67 @@ binding_released w e b i ne u =
 pub bearer_is : (w : World) (e t : ℕ) → Invariant w → bearer (wire w) e t ≡ option_map (binding_wire w.config.first e (w.part e)) ((w.part e).at_pasid t)
 bearer_is w e t i = find_seen (binding_seen w) (λ b. b.endpoint == e && b.pasid == t) w.bindings (is_kept w) ∙ go ((w.part e).at_pasid t) refl
   where
-    bears : (b : ℕ) → (is_kept w b && (w.home b == e && (w.part (w.home b)).pasid b == t)) ≡ true → (w.part e).at_pasid t ≡ Some b
+    bears : (b : ℕ) → (is_kept w b && (w.endpoint_of b == e && (w.part (w.endpoint_of b)).pasid b == t)) ≡ true → (w.part e).at_pasid t ≡ Some b
     bears b h =
-        let rest = and_right (is_kept w b) (w.home b == e && (w.part (w.home b)).pasid b == t) h in
-        let home : w.home b ≡ e = same_is (w.home b) e (and_left (w.home b == e) ((w.part (w.home b)).pasid b == t) rest) in
-        let pasid : (w.part (w.home b)).pasid b ≡ t =
-        same_is ((w.part (w.home b)).pasid b) t (and_right (w.home b == e) ((w.part (w.home b)).pasid b == t) rest) in
-        subst (λ z. (w.part e).at_pasid z ≡ Some b) (ap (λ d. (w.part d).pasid b) (sym home) ∙ pasid)
+        let rest = and_right (is_kept w b) (w.endpoint_of b == e && (w.part (w.endpoint_of b)).pasid b == t) h in
+        let endpoint_of : w.endpoint_of b ≡ e = same_is (w.endpoint_of b) e (and_left (w.endpoint_of b == e) ((w.part (w.endpoint_of b)).pasid b == t) rest) in
+        let pasid : (w.part (w.endpoint_of b)).pasid b ≡ t =
+        same_is ((w.part (w.endpoint_of b)).pasid b) t (and_right (w.endpoint_of b == e) ((w.part (w.endpoint_of b)).pasid b == t) rest) in
+        subst (λ z. (w.part e).at_pasid z ≡ Some b) (ap (λ d. (w.part d).pasid b) (sym endpoint_of) ∙ pasid)
         ((i.parts e).labels.bears_pasid b
-        (ap (λ d. is_unreleased ((w.part d).stage b)) (sym home) ∙ and_left (is_kept w b) (w.home b == e && (w.part (w.home b)).pasid b == t) h))
+        (ap (λ d. is_unreleased ((w.part d).stage b)) (sym endpoint_of)
+            ∙ and_left (is_kept w b) (w.endpoint_of b == e && (w.part (w.endpoint_of b)).pasid b == t) h))
 
     one : {a b : ℕ} → Some a ≡ Some b → a ≡ b
     one h = cc
 
     go :
         (o : Option ℕ) → (w.part e).at_pasid t ≡ o
-        → option_map (binding_seen w) (find w.bindings (λ b. is_kept w b && (w.home b == e && (w.part (w.home b)).pasid b == t)))
+        → option_map (binding_seen w) (find w.bindings (λ b. is_kept w b && (w.endpoint_of b == e && (w.part (w.endpoint_of b)).pasid b == t)))
         ≡ option_map (binding_wire w.config.first e (w.part e)) o
     go None h =
         ap (option_map (binding_seen w))
-        (find_none w.bindings (λ b. is_kept w b && (w.home b == e && (w.part (w.home b)).pasid b == t))
+        (find_none w.bindings (λ b. is_kept w b && (w.endpoint_of b == e && (w.part (w.endpoint_of b)).pasid b == t))
         (λ b l. not_both _ (λ k. absurd (cc (sym (bears b k) ∙ h)))))
     go (Some b) h =
         let la = (i.parts e).labels.pasid_bears t b h in
-        let home : w.home b ≡ e = i.homed e b (unreleased_bound (w.part e) b la.1) in
+        let endpoint_of : w.endpoint_of b ≡ e = i.homed e b (unreleased_bound (w.part e) b la.1) in
         ap (option_map (binding_seen w))
-        (find_only w.bindings (λ b. is_kept w b && (w.home b == e && (w.part (w.home b)).pasid b == t)) b
+        (find_only w.bindings (λ b. is_kept w b && (w.endpoint_of b == e && (w.part (w.endpoint_of b)).pasid b == t)) b
         (unreleased_made w.bindings (w.part e) b (i.parts e).bounds.stage la.1)
-        (and_both (is_kept w b) (w.home b == e && (w.part (w.home b)).pasid b == t) (ap (λ d. is_unreleased ((w.part d).stage b)) home ∙ la.1)
-        (and_both (w.home b == e) ((w.part (w.home b)).pasid b == t) (is_same (w.home b) e home)
-        (is_same ((w.part (w.home b)).pasid b) t (ap (λ d. (w.part d).pasid b) home ∙ la.0))))
+        (and_both (is_kept w b) (w.endpoint_of b == e && (w.part (w.endpoint_of b)).pasid b == t)
+            (ap (λ d. is_unreleased ((w.part d).stage b)) endpoint_of ∙ la.1)
+        (and_both (w.endpoint_of b == e) ((w.part (w.endpoint_of b)).pasid b == t) (is_same (w.endpoint_of b) e endpoint_of)
+        (is_same ((w.part (w.endpoint_of b)).pasid b) t (ap (λ d. (w.part d).pasid b) endpoint_of ∙ la.0))))
         (λ j l k. one (sym (bears j k) ∙ h)))
-        ∙ ap (λ d. Some (binding_wire w.config.first d (w.part d) b)) home
+        ∙ ap (λ d. Some (binding_wire w.config.first d (w.part d) b)) endpoint_of
 
 -- Is a space bound? is a PASID borne?
 
 pub bound_there : (w : World) (n : ℕ) → Invariant w → w.config.first + Labels.name w n ≡ n → is_bound (wire w) n ≡ Labels.is_bound w (Labels.name w n)
 bound_there w n i num =
     any_seen w.bindings (is_kept w) (binding_seen w) (λ b. b.space == n)
-    ∙ both_ways (any_below w.bindings (λ b. is_kept w b && w.config.first + (w.part (w.home b)).space b == n)) (Labels.is_bound w (Labels.name w n))
+    ∙ both_ways (any_below w.bindings (λ b. is_kept w b && w.config.first + (w.part (w.endpoint_of b)).space b == n)) (Labels.is_bound w (Labels.name w n))
     forth back
   where
-    forth : any_below w.bindings (λ b. is_kept w b && w.config.first + (w.part (w.home b)).space b == n) ≡ true → Labels.is_bound w (Labels.name w n) ≡ true
+    forth : any_below w.bindings (λ b. is_kept w b && w.config.first + (w.part (w.endpoint_of b)).space b == n) ≡ true
+        → Labels.is_bound w (Labels.name w n) ≡ true
     forth h =
-        let x = any_below-true w.bindings (λ b. is_kept w b && w.config.first + (w.part (w.home b)).space b == n) h in
-        let kept = and_left (is_kept w x.0) (w.config.first + (w.part (w.home x.0)).space x.0 == n) x.2 in
-        let space : w.config.first + (w.part (w.home x.0)).space x.0 ≡ n =
-        same_is (w.config.first + (w.part (w.home x.0)).space x.0) n
-        (and_right (is_kept w x.0) (w.config.first + (w.part (w.home x.0)).space x.0 == n) x.2) in
-        any_below-intro w.config.endpoints (Labels.is_bound_at w (Labels.name w n)) (w.home x.0)
-        ((i.parts (w.home x.0)).there x.0 (unreleased_bound (w.part (w.home x.0)) x.0 kept))
-        (any_below-intro w.bindings (λ b. is_unreleased ((w.part (w.home x.0)).stage b) && (w.part (w.home x.0)).space b == Labels.name w n) x.0 x.1
-        (and_both (is_kept w x.0) ((w.part (w.home x.0)).space x.0 == Labels.name w n) kept
-        (is_same ((w.part (w.home x.0)).space x.0) (Labels.name w n) (sym (named_back w.config.first n ((w.part (w.home x.0)).space x.0) space)))))
+        let x = any_below-true w.bindings (λ b. is_kept w b && w.config.first + (w.part (w.endpoint_of b)).space b == n) h in
+        let kept = and_left (is_kept w x.0) (w.config.first + (w.part (w.endpoint_of x.0)).space x.0 == n) x.2 in
+        let space : w.config.first + (w.part (w.endpoint_of x.0)).space x.0 ≡ n =
+        same_is (w.config.first + (w.part (w.endpoint_of x.0)).space x.0) n
+        (and_right (is_kept w x.0) (w.config.first + (w.part (w.endpoint_of x.0)).space x.0 == n) x.2) in
+        any_below-intro w.config.endpoints (Labels.is_bound_at w (Labels.name w n)) (w.endpoint_of x.0)
+        ((i.parts (w.endpoint_of x.0)).there x.0 (unreleased_bound (w.part (w.endpoint_of x.0)) x.0 kept))
+        (any_below-intro w.bindings
+            (λ b. is_unreleased ((w.part (w.endpoint_of x.0)).stage b) && (w.part (w.endpoint_of x.0)).space b == Labels.name w n) x.0 x.1
+        (and_both (is_kept w x.0) ((w.part (w.endpoint_of x.0)).space x.0 == Labels.name w n) kept
+        (is_same ((w.part (w.endpoint_of x.0)).space x.0) (Labels.name w n)
+            (sym (named_back w.config.first n ((w.part (w.endpoint_of x.0)).space x.0) space)))))
 
-    back : Labels.is_bound w (Labels.name w n) ≡ true → any_below w.bindings (λ b. is_kept w b && w.config.first + (w.part (w.home b)).space b == n) ≡ true
+    back : Labels.is_bound w (Labels.name w n) ≡ true → any_below w.bindings (λ b. is_kept w b && w.config.first + (w.part (w.endpoint_of b)).space b == n)
+        ≡ true
     back h =
         let x = any_below-true w.config.endpoints (Labels.is_bound_at w (Labels.name w n)) h in
         let y = any_below-true w.bindings (λ b. is_unreleased ((w.part x.0).stage b) && (w.part x.0).space b == Labels.name w n) x.2 in
@@ -179,40 +185,41 @@ bound_there w n i num =
         let space : (w.part x.0).space y.0 ≡ Labels.name w n =
         same_is ((w.part x.0).space y.0) (Labels.name w n)
         (and_right (is_unreleased ((w.part x.0).stage y.0)) ((w.part x.0).space y.0 == Labels.name w n) y.2) in
-        let home : w.home y.0 ≡ x.0 = i.homed x.0 y.0 (unreleased_bound (w.part x.0) y.0 kept) in
-        any_below-intro w.bindings (λ b. is_kept w b && w.config.first + (w.part (w.home b)).space b == n) y.0 y.1
-        (and_both (is_kept w y.0) (w.config.first + (w.part (w.home y.0)).space y.0 == n) (ap (λ d. is_unreleased ((w.part d).stage y.0)) home ∙ kept)
-        (is_same (w.config.first + (w.part (w.home y.0)).space y.0) n
-        (ap (λ d. w.config.first + (w.part d).space y.0) home ∙ ap (λ z. w.config.first + z) space ∙ num)))
+        let endpoint_of : w.endpoint_of y.0 ≡ x.0 = i.homed x.0 y.0 (unreleased_bound (w.part x.0) y.0 kept) in
+        any_below-intro w.bindings (λ b. is_kept w b && w.config.first + (w.part (w.endpoint_of b)).space b == n) y.0 y.1
+        (and_both (is_kept w y.0) (w.config.first + (w.part (w.endpoint_of y.0)).space y.0 == n)
+            (ap (λ d. is_unreleased ((w.part d).stage y.0)) endpoint_of ∙ kept)
+        (is_same (w.config.first + (w.part (w.endpoint_of y.0)).space y.0) n
+        (ap (λ d. w.config.first + (w.part d).space y.0) endpoint_of ∙ ap (λ z. w.config.first + z) space ∙ num)))
 
 pub borne_there : (w : World) (t : ℕ) → Invariant w → is_borne (wire w) t ≡ Labels.is_borne w t
 borne_there w t i =
     any_seen w.bindings (is_kept w) (binding_seen w) (λ b. b.pasid == t)
-    ∙ both_ways (any_below w.bindings (λ b. is_kept w b && (w.part (w.home b)).pasid b == t)) (Labels.is_borne w t) forth back
+    ∙ both_ways (any_below w.bindings (λ b. is_kept w b && (w.part (w.endpoint_of b)).pasid b == t)) (Labels.is_borne w t) forth back
   where
-    forth : any_below w.bindings (λ b. is_kept w b && (w.part (w.home b)).pasid b == t) ≡ true → Labels.is_borne w t ≡ true
+    forth : any_below w.bindings (λ b. is_kept w b && (w.part (w.endpoint_of b)).pasid b == t) ≡ true → Labels.is_borne w t ≡ true
     forth h =
-        let x = any_below-true w.bindings (λ b. is_kept w b && (w.part (w.home b)).pasid b == t) h in
-        let kept = and_left (is_kept w x.0) ((w.part (w.home x.0)).pasid x.0 == t) x.2 in
-        let pasid : (w.part (w.home x.0)).pasid x.0 ≡ t =
-        same_is ((w.part (w.home x.0)).pasid x.0) t (and_right (is_kept w x.0) ((w.part (w.home x.0)).pasid x.0 == t) x.2) in
-        any_below-intro w.config.endpoints (λ e. Labels.is_borne_at (w.part e) t) (w.home x.0)
-        ((i.parts (w.home x.0)).there x.0 (unreleased_bound (w.part (w.home x.0)) x.0 kept))
-        (ap is_some (subst (λ z. (w.part (w.home x.0)).at_pasid z ≡ Some x.0) pasid ((i.parts (w.home x.0)).labels.bears_pasid x.0 kept)))
+        let x = any_below-true w.bindings (λ b. is_kept w b && (w.part (w.endpoint_of b)).pasid b == t) h in
+        let kept = and_left (is_kept w x.0) ((w.part (w.endpoint_of x.0)).pasid x.0 == t) x.2 in
+        let pasid : (w.part (w.endpoint_of x.0)).pasid x.0 ≡ t =
+        same_is ((w.part (w.endpoint_of x.0)).pasid x.0) t (and_right (is_kept w x.0) ((w.part (w.endpoint_of x.0)).pasid x.0 == t) x.2) in
+        any_below-intro w.config.endpoints (λ e. Labels.is_borne_at (w.part e) t) (w.endpoint_of x.0)
+        ((i.parts (w.endpoint_of x.0)).there x.0 (unreleased_bound (w.part (w.endpoint_of x.0)) x.0 kept))
+        (ap is_some (subst (λ z. (w.part (w.endpoint_of x.0)).at_pasid z ≡ Some x.0) pasid ((i.parts (w.endpoint_of x.0)).labels.bears_pasid x.0 kept)))
 
     by_bearer :
         (e : ℕ) (o : Option ℕ) → (w.part e).at_pasid t ≡ o → is_some o ≡ true
-        → any_below w.bindings (λ b. is_kept w b && (w.part (w.home b)).pasid b == t) ≡ true
+        → any_below w.bindings (λ b. is_kept w b && (w.part (w.endpoint_of b)).pasid b == t) ≡ true
     by_bearer e None h k = absurd (cc)
     by_bearer e (Some b) h k =
         let la = (i.parts e).labels.pasid_bears t b h in
-        let home : w.home b ≡ e = i.homed e b (unreleased_bound (w.part e) b la.1) in
-        any_below-intro w.bindings (λ b. is_kept w b && (w.part (w.home b)).pasid b == t) b
+        let endpoint_of : w.endpoint_of b ≡ e = i.homed e b (unreleased_bound (w.part e) b la.1) in
+        any_below-intro w.bindings (λ b. is_kept w b && (w.part (w.endpoint_of b)).pasid b == t) b
         (unreleased_made w.bindings (w.part e) b (i.parts e).bounds.stage la.1)
-        (and_both (is_kept w b) ((w.part (w.home b)).pasid b == t) (ap (λ d. is_unreleased ((w.part d).stage b)) home ∙ la.1)
-        (is_same ((w.part (w.home b)).pasid b) t (ap (λ d. (w.part d).pasid b) home ∙ la.0)))
+        (and_both (is_kept w b) ((w.part (w.endpoint_of b)).pasid b == t) (ap (λ d. is_unreleased ((w.part d).stage b)) endpoint_of ∙ la.1)
+        (is_same ((w.part (w.endpoint_of b)).pasid b) t (ap (λ d. (w.part d).pasid b) endpoint_of ∙ la.0)))
 
-    back : Labels.is_borne w t ≡ true → any_below w.bindings (λ b. is_kept w b && (w.part (w.home b)).pasid b == t) ≡ true
+    back : Labels.is_borne w t ≡ true → any_below w.bindings (λ b. is_kept w b && (w.part (w.endpoint_of b)).pasid b == t) ≡ true
     back h =
         let x = any_below-true w.config.endpoints (λ e. Labels.is_borne_at (w.part e) t) h in
         by_bearer x.0 ((w.part x.0).at_pasid t) refl x.2

@@ -3,12 +3,12 @@ use Rattle.std.proofs.Common.{◌≡◌, ◌⊎◌, inl, inr, refl, ap, sym, ◌
 use Rattle.std.specs.Prelude.{Option, Some, None, option_map, ◌&&◌, not, ◌==◌, [], ◌∷◌, ◌++◌}
 use Rattle.std.specs.List as lists
 use Rattle.sva_model.specs.Words.{find}
-use Rattle.sva_model.specs.State.{Part}
+use Rattle.sva_model.specs.State.{Endpoint}
 use Rattle.sva_model.specs.State.PageRequestState.{Arrived}
 use Rattle.sva_model.specs.State.HostGroupState.{NotFiled, PartFiled}
 use Rattle.sva_model.specs.State.Phase.{Open}
 use Rattle.sva_model.specs.States.{is_open_group, is_outstanding}
-use Rattle.sva_model.specs.Acts.{Own, own}
+use Rattle.sva_model.specs.Acts.{LocalAct, own}
 use Rattle.sva_model.specs.State.{Mappings}
 use Rattle.sva_model.specs.Wire.{number, ask_wire, asks_wire, begins_open, is_part, host_group_wire, host_groups_wire}
 use Rattle.sva_laws.proofs.Words.{find_passes, find_some}
@@ -31,7 +31,7 @@ use Rattle.sva_labels.proofs.SaysUnits.{none_picked}
 
 -- nothing stands filed of a group of which nothing is filed
 none_filed :
-    (p : Part) (g : ℕ) → Filings p → ((r : ℕ) → is_filed_group (p.host_group g) ≡ true → p.group_of r ≡ g → ⊥)
+    (p : Endpoint) (g : ℕ) → Filings p → ((r : ℕ) → is_filed_group (p.host_group g) ≡ true → p.group_of r ≡ g → ⊥)
     → ((k : ℕ) → k < p.filings → p.group_of (p.filing k) ≡ g → is_filed_group (p.host_group g) ≡ true) → asks_wire p g ≡ []
 none_filed p g fi never filed =
     asks_seen p g
@@ -41,7 +41,7 @@ none_filed p g fi never filed =
 
 -- an open group of the same index is this one
 pub one_group :
-    (ms : Mappings) (x g n e : ℕ) (p : Part) (y z : ℕ) → PartInvariant ms x g n e p → p.phase ≡ Open → is_outstanding (p.group y) ≡ true
+    (ms : Mappings) (x g n e : ℕ) (p : Endpoint) (y z : ℕ) → PartInvariant ms x g n e p → p.phase ≡ Open → is_outstanding (p.group y) ≡ true
     → is_open_group (p.host_group z) ≡ true → p.index z ≡ p.index y → z ≡ y
 one_group ms x g n e p y z i ph out op h =
     let a : p.at_index (p.index y) ≡ Some y = i.groups.bears_index y out in
@@ -53,7 +53,7 @@ one_group ms x g n e p y z i ph out op h =
     one h = cc
 
 pub asks_there :
-    (ms : Mappings) (x g n e first : ℕ) (p : Part) (r : ℕ) → PartInvariant ms x g n e p → OnTheWay p → Filings p → p.phase ≡ Open
+    (ms : Mappings) (x g n e first : ℕ) (p : Endpoint) (r : ℕ) → PartInvariant ms x g n e p → OnTheWay p → Filings p → p.phase ≡ Open
     → p.page_request r ≡ Arrived
     → asks_of (lists.find (is_begun (number first (p.asker (p.group_of r))) (p.index (p.group_of r))) (host_groups_wire first p)) ≡ asks_wire p (p.group_of r)
 asks_there ms x g n e first p r i on fi ph ar =
@@ -137,10 +137,10 @@ asks_there ms x g n e first p r i on fi ph ar =
 
 -- and with the request itself, which is filed last
 pub asks_then :
-    (ms : Mappings) (x g n e first : ℕ) (p : Part) (r : ℕ) → PartInvariant ms x g n e p → OnTheWay p → Filings p → p.phase ≡ Open
+    (ms : Mappings) (x g n e first : ℕ) (p : Endpoint) (r : ℕ) → PartInvariant ms x g n e p → OnTheWay p → Filings p → p.phase ≡ Open
     → p.page_request r ≡ Arrived
     → asks_of (lists.find (is_begun (number first (p.asker (p.group_of r))) (p.index (p.group_of r))) (host_groups_wire first p)) ++ ask_wire p r ∷ []
-    ≡ asks_wire (own p n (Own.File r)) (p.group_of r)
+    ≡ asks_wire (own p n (LocalAct.File r)) (p.group_of r)
 asks_then ms x g n e first p r i on fi ph ar =
     ap (λ xs. xs ++ ask_wire p r ∷ []) (asks_there ms x g n e first p r i on fi ph ar)
     ∙ ap (λ b. asks_wire p (p.group_of r) ++ if_passes b (ask_wire p r)) (sym (is_same (p.group_of r) (p.group_of r) refl))

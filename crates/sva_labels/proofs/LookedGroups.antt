@@ -2,7 +2,7 @@
 use Rattle.std.proofs.Common.{◌≡◌, ap, sym, ◌∙◌, ℕ, ◌+◌, ◌<◌, ◌≤◌, true, arith}
 use Rattle.std.specs.Prelude.{◌&&◌, not, ◌==◌}
 use Rattle.sva_model.specs.Words.{lowest, any_below}
-use Rattle.sva_model.specs.State.{HostGroupState, Mappings, Part}
+use Rattle.sva_model.specs.State.{HostGroupState, Mappings, Endpoint}
 use Rattle.sva_model.specs.State.HostGroupState.{NotFiled}
 use Rattle.sva_model.specs.States.{is_open_group}
 use Rattle.sva_model.specs.Labels
@@ -26,13 +26,13 @@ open_made : (g n : ℕ) (h : HostGroupState) → is_open_group h ≡ true → (n
 open_made g n h e k = grind (arith)
 
 -- the first filing of an open group
-pub record Begun (p : Part) (g : ℕ) : Type 0 where
+pub record Begun (p : Endpoint) (g : ℕ) : Type 0 where
   pub filing : ℕ
   pub made : filing < p.filings
   pub its : p.group_of (p.filing filing) ≡ g
   pub first : begins_open p filing ≡ true
 
-pub begun : (p : Part) (g : ℕ) → Filings p → is_open_group (p.host_group g) ≡ true → Begun p g
+pub begun : (p : Endpoint) (g : ℕ) → Filings p → is_open_group (p.host_group g) ≡ true → Begun p g
 begun p g fi h =
     let f = fi.begun g (open_filed (p.host_group g) h) in
     let low = lowest_below p.filings (λ k. p.group_of (p.filing k) == g) f.0 f.1 (is_same (p.group_of (p.filing f.0)) g f.2) in
@@ -52,7 +52,7 @@ begun p g fi h =
     }
 
 pub open_there :
-    (first m b : ℕ) (ms : Mappings) (p : Part) → Bounds m p → Filings p
+    (first m b : ℕ) (ms : Mappings) (p : Endpoint) → Bounds m p → Filings p
     → has_open_group (part_wire first ms p) (number first b) ≡ Labels.has_open_group p b
 open_there first m b ms p bo fi =
     any_seen p.filings (begins_open p) (λ k. host_group_wire first p (p.group_of (p.filing k))) (λ g. g.binding == first + b)

@@ -58,7 +58,7 @@ borne_by w s t h =
 pub pasid_there : (w : World) (e s : ℕ) → Invariant w → w.rule ≡ PerSpace → pasid_for (wire w) (number w.config.first s) ≡ Labels.pasid_for w e s
 pasid_there w e s i r =
     ap (pasid_by (wire w)) (find_seen (binding_seen w) (λ b. b.space == w.config.first + s) w.bindings (is_kept w))
-    ∙ go (find w.bindings (λ b. is_kept w b && w.config.first + (w.part (w.home b)).space b == w.config.first + s)) refl
+    ∙ go (find w.bindings (λ b. is_kept w b && w.config.first + (w.part (w.endpoint_of b)).space b == w.config.first + s)) refl
     ∙ ap (λ z. Labels.pasid_by z w e s) (sym r)
   where
     one_space : (a b : ℕ) → w.config.first + a ≡ w.config.first + b → a ≡ b
@@ -66,27 +66,28 @@ pasid_there w e s i r =
 
     kept_at :
         (d b : ℕ) → is_unreleased ((w.part d).stage b) ≡ true → (w.part d).space b ≡ s
-        → (b < w.bindings) × ((is_kept w b && w.config.first + (w.part (w.home b)).space b == w.config.first + s) ≡ true)
+        → (b < w.bindings) × ((is_kept w b && w.config.first + (w.part (w.endpoint_of b)).space b == w.config.first + s) ≡ true)
     kept_at d b u sp =
-        let home : w.home b ≡ d = i.homed d b (unreleased_bound (w.part d) b u) in (
+        let endpoint_of : w.endpoint_of b ≡ d = i.homed d b (unreleased_bound (w.part d) b u) in (
           unreleased_made w.bindings (w.part d) b (i.parts d).bounds.stage u,
-          and_both (is_kept w b) (w.config.first + (w.part (w.home b)).space b == w.config.first + s) (ap (λ x. is_unreleased ((w.part x).stage b)) home ∙ u)
-              (is_same (w.config.first + (w.part (w.home b)).space b) (w.config.first + s)
-              (ap (λ z. w.config.first + z) (ap (λ x. (w.part x).space b) home ∙ sp))),
+          and_both (is_kept w b) (w.config.first + (w.part (w.endpoint_of b)).space b == w.config.first + s)
+              (ap (λ x. is_unreleased ((w.part x).stage b)) endpoint_of ∙ u)
+              (is_same (w.config.first + (w.part (w.endpoint_of b)).space b) (w.config.first + s)
+              (ap (λ z. w.config.first + z) (ap (λ x. (w.part x).space b) endpoint_of ∙ sp))),
         )
 
     found_none :
-        (t : ℕ) → find w.bindings (λ b. is_kept w b && w.config.first + (w.part (w.home b)).space b == w.config.first + s) ≡ None
+        (t : ℕ) → find w.bindings (λ b. is_kept w b && w.config.first + (w.part (w.endpoint_of b)).space b == w.config.first + s) ≡ None
         → Labels.is_borne_by w s t ≡ true → ⊥
     found_none t h k =
         let y = borne_by w s t k in
         let la = (i.parts y.endpoint).labels.pasid_bears t y.binding y.bears in
         let z = kept_at y.endpoint y.binding la.1 y.its in
-        absurd (cc (sym (find_some w.bindings (λ b. is_kept w b && w.config.first + (w.part (w.home b)).space b == w.config.first + s) y.binding z.0
+        absurd (cc (sym (find_some w.bindings (λ b. is_kept w b && w.config.first + (w.part (w.endpoint_of b)).space b == w.config.first + s) y.binding z.0
         z.1) ∙ h))
 
     go :
-        (o : Option ℕ) → find w.bindings (λ b. is_kept w b && w.config.first + (w.part (w.home b)).space b == w.config.first + s) ≡ o
+        (o : Option ℕ) → find w.bindings (λ b. is_kept w b && w.config.first + (w.part (w.endpoint_of b)).space b == w.config.first + s) ≡ o
         → pasid_by (wire w) (option_map (binding_seen w) o)
         ≡ Labels.or_else (Labels.lowest_pasid (Labels.is_borne_by w s)) (Labels.lowest_pasid (λ t. not (Labels.is_borne w t)))
     go None h =
@@ -94,26 +95,27 @@ pasid_there w e s i r =
         ∙ sym (ap (λ o. Labels.or_else o (Labels.lowest_pasid (λ t. not (Labels.is_borne w t))))
         (lowest_none (Labels.is_borne_by w s) (λ t. not_both (Labels.is_borne_by w s t) (found_none t h))))
     go (Some b) h =
-        let x = find_passes w.bindings (λ b. is_kept w b && w.config.first + (w.part (w.home b)).space b == w.config.first + s) b h in
-        let kept = and_left (is_kept w b) (w.config.first + (w.part (w.home b)).space b == w.config.first + s) x.1 in
-        let space : (w.part (w.home b)).space b ≡ s =
-        one_space ((w.part (w.home b)).space b) s
-        (same_is (w.config.first + (w.part (w.home b)).space b) (w.config.first + s)
-        (and_right (is_kept w b) (w.config.first + (w.part (w.home b)).space b == w.config.first + s) x.1))
+        let x = find_passes w.bindings (λ b. is_kept w b && w.config.first + (w.part (w.endpoint_of b)).space b == w.config.first + s) b h in
+        let kept = and_left (is_kept w b) (w.config.first + (w.part (w.endpoint_of b)).space b == w.config.first + s) x.1 in
+        let space : (w.part (w.endpoint_of b)).space b ≡ s =
+        one_space ((w.part (w.endpoint_of b)).space b) s
+        (same_is (w.config.first + (w.part (w.endpoint_of b)).space b) (w.config.first + s)
+        (and_right (is_kept w b) (w.config.first + (w.part (w.endpoint_of b)).space b == w.config.first + s) x.1))
         in
-        let at = (i.parts (w.home b)).labels.bears_pasid b kept in
-        let low = (i.parts (w.home b)).labels.pasid_low ((w.part (w.home b)).pasid b) b at in
+        let at = (i.parts (w.endpoint_of b)).labels.bears_pasid b kept in
+        let low = (i.parts (w.endpoint_of b)).labels.pasid_low ((w.part (w.endpoint_of b)).pasid b) b at in
         sym (ap (λ o. Labels.or_else o (Labels.lowest_pasid (λ t. not (Labels.is_borne w t))))
-        (lowest_only (Labels.is_borne_by w s) ((w.part (w.home b)).pasid b) low.0 low.1
-        (any_below-intro w.config.endpoints (λ d. holds_of (λ c. (w.part d).space c == s) ((w.part d).at_pasid ((w.part (w.home b)).pasid b))) (w.home b)
-        ((i.parts (w.home b)).there b (unreleased_bound (w.part (w.home b)) b kept))
-        (ap (holds_of (λ c. (w.part (w.home b)).space c == s)) at ∙ is_same ((w.part (w.home b)).space b) s space))
+        (lowest_only (Labels.is_borne_by w s) ((w.part (w.endpoint_of b)).pasid b) low.0 low.1
+        (any_below-intro w.config.endpoints (λ d. holds_of (λ c. (w.part d).space c == s) ((w.part d).at_pasid ((w.part (w.endpoint_of b)).pasid b)))
+            (w.endpoint_of b)
+        ((i.parts (w.endpoint_of b)).there b (unreleased_bound (w.part (w.endpoint_of b)) b kept))
+        (ap (holds_of (λ c. (w.part (w.endpoint_of b)).space c == s)) at ∙ is_same ((w.part (w.endpoint_of b)).space b) s space))
         (λ u g. its_pasid u (borne_by w s u g) b kept space)))
       where
-        its_pasid : (u : ℕ) → BorneBy w s u → (b : ℕ) → is_kept w b ≡ true → (w.part (w.home b)).space b ≡ s → u ≡ (w.part (w.home b)).pasid b
+        its_pasid : (u : ℕ) → BorneBy w s u → (b : ℕ) → is_kept w b ≡ true → (w.part (w.endpoint_of b)).space b ≡ s → u ≡ (w.part (w.endpoint_of b)).pasid b
         its_pasid u y b kept space =
             let la = (i.parts y.endpoint).labels.pasid_bears u y.binding y.bears in
-            sym la.0 ∙ (i.shared r).same_pasid y.endpoint (w.home b) y.binding b la.1 kept (y.its ∙ sym space)
+            sym la.0 ∙ (i.shared r).same_pasid y.endpoint (w.endpoint_of b) y.binding b la.1 kept (y.its ∙ sym space)
 
 -- Which space bears a PASID.
 
@@ -132,29 +134,29 @@ count_within k n q p f h one =
     go i j l m false true s t e = let x = (h j m t).0 in absurd (omega (arith, x, e))
     go i j l m false false s t e = omega arith
 
-bearers : (w : World) (t : ℕ) → Invariant w → count_below w.bindings (λ b. is_kept w b && (w.part (w.home b)).pasid b == t) ≡ Labels.bindings_under w t
+bearers : (w : World) (t : ℕ) → Invariant w → count_below w.bindings (λ b. is_kept w b && (w.part (w.endpoint_of b)).pasid b == t) ≡ Labels.bindings_under w t
 bearers w t i =
     let less =
-    count_within w.bindings w.config.endpoints (λ b. is_kept w b && (w.part (w.home b)).pasid b == t)
-    (λ e. Labels.is_borne_at (w.part e) t) w.home forth (λ b c l m u v e. one_binding b c u v e) in
+    count_within w.bindings w.config.endpoints (λ b. is_kept w b && (w.part (w.endpoint_of b)).pasid b == t)
+    (λ e. Labels.is_borne_at (w.part e) t) w.endpoint_of forth (λ b c l m u v e. one_binding b c u v e) in
     let more =
-    count_within w.config.endpoints w.bindings (λ e. Labels.is_borne_at (w.part e) t) (λ b. is_kept w b && (w.part (w.home b)).pasid b == t)
+    count_within w.config.endpoints w.bindings (λ e. Labels.is_borne_at (w.part e) t) (λ b. is_kept w b && (w.part (w.endpoint_of b)).pasid b == t)
     (λ e. the ((w.part e).at_pasid t)) (λ e l h. back e ((w.part e).at_pasid t) refl h)
     (λ d e l m u v k. one_endpoint d e ((w.part d).at_pasid t) ((w.part e).at_pasid t) refl refl u v k) in
     omega (arith, less, more)
   where
-    bears : (b : ℕ) → (is_kept w b && (w.part (w.home b)).pasid b == t) ≡ true → (w.part (w.home b)).at_pasid t ≡ Some b
+    bears : (b : ℕ) → (is_kept w b && (w.part (w.endpoint_of b)).pasid b == t) ≡ true → (w.part (w.endpoint_of b)).at_pasid t ≡ Some b
     bears b h =
-        subst (λ z. (w.part (w.home b)).at_pasid z ≡ Some b)
-        (same_is ((w.part (w.home b)).pasid b) t (and_right (is_kept w b) ((w.part (w.home b)).pasid b == t) h))
-        ((i.parts (w.home b)).labels.bears_pasid b (and_left (is_kept w b) ((w.part (w.home b)).pasid b == t) h))
+        subst (λ z. (w.part (w.endpoint_of b)).at_pasid z ≡ Some b)
+        (same_is ((w.part (w.endpoint_of b)).pasid b) t (and_right (is_kept w b) ((w.part (w.endpoint_of b)).pasid b == t) h))
+        ((i.parts (w.endpoint_of b)).labels.bears_pasid b (and_left (is_kept w b) ((w.part (w.endpoint_of b)).pasid b == t) h))
 
     forth :
-        (b : ℕ) → b < w.bindings → (is_kept w b && (w.part (w.home b)).pasid b == t) ≡ true
-        → (w.home b < w.config.endpoints) × (Labels.is_borne_at (w.part (w.home b)) t ≡ true)
+        (b : ℕ) → b < w.bindings → (is_kept w b && (w.part (w.endpoint_of b)).pasid b == t) ≡ true
+        → (w.endpoint_of b < w.config.endpoints) × (Labels.is_borne_at (w.part (w.endpoint_of b)) t ≡ true)
     forth b l h = (
-      (i.parts (w.home b)).there b
-          (unreleased_bound (w.part (w.home b)) b (and_left (is_kept w b) ((w.part (w.home b)).pasid b == t) h)),
+      (i.parts (w.endpoint_of b)).there b
+          (unreleased_bound (w.part (w.endpoint_of b)) b (and_left (is_kept w b) ((w.part (w.endpoint_of b)).pasid b == t) h)),
       ap is_some (bears b h),
     )
 
@@ -162,20 +164,20 @@ bearers w t i =
     one h = cc
 
     one_binding :
-        (b c : ℕ) → (is_kept w b && (w.part (w.home b)).pasid b == t) ≡ true → (is_kept w c && (w.part (w.home c)).pasid c == t) ≡ true
-        → w.home b ≡ w.home c → b ≡ c
+        (b c : ℕ) → (is_kept w b && (w.part (w.endpoint_of b)).pasid b == t) ≡ true → (is_kept w c && (w.part (w.endpoint_of c)).pasid c == t) ≡ true
+        → w.endpoint_of b ≡ w.endpoint_of c → b ≡ c
     one_binding b c u v e = one (sym (bears b u) ∙ ap (λ d. (w.part d).at_pasid t) e ∙ bears c v)
 
     back :
         (e : ℕ) (o : Option ℕ) → (w.part e).at_pasid t ≡ o → is_some o ≡ true
-        → (the o < w.bindings) × ((is_kept w (the o) && (w.part (w.home (the o))).pasid (the o) == t) ≡ true)
+        → (the o < w.bindings) × ((is_kept w (the o) && (w.part (w.endpoint_of (the o))).pasid (the o) == t) ≡ true)
     back e None h k = absurd (cc (k))
     back e (Some b) h k =
         let la = (i.parts e).labels.pasid_bears t b h in
-        let home : w.home b ≡ e = i.homed e b (unreleased_bound (w.part e) b la.1) in (
+        let endpoint_of : w.endpoint_of b ≡ e = i.homed e b (unreleased_bound (w.part e) b la.1) in (
           unreleased_made w.bindings (w.part e) b (i.parts e).bounds.stage la.1,
-          and_both (is_kept w b) ((w.part (w.home b)).pasid b == t) (ap (λ d. is_unreleased ((w.part d).stage b)) home ∙ la.1)
-              (is_same ((w.part (w.home b)).pasid b) t (ap (λ d. (w.part d).pasid b) home ∙ la.0)),
+          and_both (is_kept w b) ((w.part (w.endpoint_of b)).pasid b == t) (ap (λ d. is_unreleased ((w.part d).stage b)) endpoint_of ∙ la.1)
+              (is_same ((w.part (w.endpoint_of b)).pasid b) t (ap (λ d. (w.part d).pasid b) endpoint_of ∙ la.0)),
         )
 
     one_endpoint :
@@ -185,7 +187,7 @@ bearers w t i =
     one_endpoint d e (Some b) None h k u v same = absurd (cc (v))
     one_endpoint d e (Some b) (Some c) h k u v same =
         sym (i.homed d b (unreleased_bound (w.part d) b ((i.parts d).labels.pasid_bears t b h).1))
-        ∙ ap w.home same
+        ∙ ap w.endpoint_of same
         ∙ i.homed e c (unreleased_bound (w.part e) c ((i.parts e).labels.pasid_bears t c k).1)
 
 pub bearer_said :
@@ -193,39 +195,39 @@ pub bearer_said :
     → bearer_answer (wire w) t (lists.find (λ b. b.pasid == t) (wire w).bindings) ≡ names.bearer_answer w t (Labels.is_borne w t)
 bearer_said w t i r =
     ap (bearer_answer (wire w) t) (find_seen (binding_seen w) (λ b. b.pasid == t) w.bindings (is_kept w))
-    ∙ go (find w.bindings (λ b. is_kept w b && (w.part (w.home b)).pasid b == t)) refl
+    ∙ go (find w.bindings (λ b. is_kept w b && (w.part (w.endpoint_of b)).pasid b == t)) refl
   where
-    bears : (b : ℕ) → (is_kept w b && (w.part (w.home b)).pasid b == t) ≡ true → (w.part (w.home b)).at_pasid t ≡ Some b
+    bears : (b : ℕ) → (is_kept w b && (w.part (w.endpoint_of b)).pasid b == t) ≡ true → (w.part (w.endpoint_of b)).at_pasid t ≡ Some b
     bears b h =
-        subst (λ z. (w.part (w.home b)).at_pasid z ≡ Some b)
-        (same_is ((w.part (w.home b)).pasid b) t (and_right (is_kept w b) ((w.part (w.home b)).pasid b == t) h))
-        ((i.parts (w.home b)).labels.bears_pasid b (and_left (is_kept w b) ((w.part (w.home b)).pasid b == t) h))
+        subst (λ z. (w.part (w.endpoint_of b)).at_pasid z ≡ Some b)
+        (same_is ((w.part (w.endpoint_of b)).pasid b) t (and_right (is_kept w b) ((w.part (w.endpoint_of b)).pasid b == t) h))
+        ((i.parts (w.endpoint_of b)).labels.bears_pasid b (and_left (is_kept w b) ((w.part (w.endpoint_of b)).pasid b == t) h))
 
     by_lowest :
-        (d b : ℕ) → is_kept w b ≡ true → (w.part (w.home b)).pasid b ≡ t → (o : Option ℕ) → (w.part d).at_pasid t ≡ o → is_some o ≡ true
-        → (w.part (w.home b)).space b ≡ (w.part d).space (the o)
+        (d b : ℕ) → is_kept w b ≡ true → (w.part (w.endpoint_of b)).pasid b ≡ t → (o : Option ℕ) → (w.part d).at_pasid t ≡ o → is_some o ≡ true
+        → (w.part (w.endpoint_of b)).space b ≡ (w.part d).space (the o)
     by_lowest d b kept pasid None h k = absurd (cc (k))
     by_lowest d b kept pasid (Some c) h k =
         let la = (i.parts d).labels.pasid_bears t c h in
-        (i.shared r).same_space (w.home b) d b c kept la.1 (pasid ∙ sym la.0)
+        (i.shared r).same_space (w.endpoint_of b) d b c kept la.1 (pasid ∙ sym la.0)
 
     its_space :
-        (b : ℕ) → is_kept w b ≡ true → (w.part (w.home b)).pasid b ≡ t
+        (b : ℕ) → is_kept w b ≡ true → (w.part (w.endpoint_of b)).pasid b ≡ t
         → ((lowest w.config.endpoints (λ e. Labels.is_borne_at (w.part e) t) ≡ w.config.endpoints)
         × ((j : ℕ) → j < w.config.endpoints → Labels.is_borne_at (w.part j) t
         ≡ false)) ⊎ ((lowest w.config.endpoints (λ e. Labels.is_borne_at (w.part e) t) < w.config.endpoints)
         × (Labels.is_borne_at (w.part (lowest w.config.endpoints (λ e. Labels.is_borne_at (w.part e) t))) t ≡ true)
         × ((j : ℕ) → j < lowest w.config.endpoints (λ e. Labels.is_borne_at (w.part e) t) → Labels.is_borne_at (w.part j) t ≡ false))
-        → (w.part (w.home b)).space b ≡ Labels.space_under w t
+        → (w.part (w.endpoint_of b)).space b ≡ Labels.space_under w t
     its_space b kept pasid (inl x) =
-        absurd (cc (sym (x.1 (w.home b) ((i.parts (w.home b)).there b (unreleased_bound (w.part (w.home b)) b kept)))
-        ∙ ap is_some (subst (λ z. (w.part (w.home b)).at_pasid z ≡ Some b) pasid ((i.parts (w.home b)).labels.bears_pasid b kept))))
+        absurd (cc (sym (x.1 (w.endpoint_of b) ((i.parts (w.endpoint_of b)).there b (unreleased_bound (w.part (w.endpoint_of b)) b kept)))
+        ∙ ap is_some (subst (λ z. (w.part (w.endpoint_of b)).at_pasid z ≡ Some b) pasid ((i.parts (w.endpoint_of b)).labels.bears_pasid b kept))))
     its_space b kept pasid (inr x) =
         by_lowest (lowest w.config.endpoints (λ e. Labels.is_borne_at (w.part e) t)) b kept pasid
         ((w.part (lowest w.config.endpoints (λ e. Labels.is_borne_at (w.part e) t))).at_pasid t) refl x.1
 
     go :
-        (o : Option ℕ) → find w.bindings (λ b. is_kept w b && (w.part (w.home b)).pasid b == t) ≡ o
+        (o : Option ℕ) → find w.bindings (λ b. is_kept w b && (w.part (w.endpoint_of b)).pasid b == t) ≡ o
         → bearer_answer (wire w) t (option_map (binding_seen w) o) ≡ names.bearer_answer w t (Labels.is_borne w t)
     go None h = sym (ap (names.bearer_answer w t) (not_both (Labels.is_borne w t) (λ k. unborne k)))
       where
@@ -238,19 +240,19 @@ bearer_said w t i r =
             by_one e None g z = absurd (cc (z))
             by_one e (Some b) g z =
                 let la = (i.parts e).labels.pasid_bears t b g in
-                let home : w.home b ≡ e = i.homed e b (unreleased_bound (w.part e) b la.1) in
+                let endpoint_of : w.endpoint_of b ≡ e = i.homed e b (unreleased_bound (w.part e) b la.1) in
                 absurd (cc
-                (sym (find_some w.bindings (λ b. is_kept w b && (w.part (w.home b)).pasid b == t) b
+                (sym (find_some w.bindings (λ b. is_kept w b && (w.part (w.endpoint_of b)).pasid b == t) b
                 (unreleased_made w.bindings (w.part e) b (i.parts e).bounds.stage la.1)
-                (and_both (is_kept w b) ((w.part (w.home b)).pasid b == t) (ap (λ d. is_unreleased ((w.part d).stage b)) home ∙ la.1)
-                (is_same ((w.part (w.home b)).pasid b) t (ap (λ d. (w.part d).pasid b) home ∙ la.0)))) ∙ h))
+                (and_both (is_kept w b) ((w.part (w.endpoint_of b)).pasid b == t) (ap (λ d. is_unreleased ((w.part d).stage b)) endpoint_of ∙ la.1)
+                (is_same ((w.part (w.endpoint_of b)).pasid b) t (ap (λ d. (w.part d).pasid b) endpoint_of ∙ la.0)))) ∙ h))
     go (Some b) h =
-        let x = find_passes w.bindings (λ b. is_kept w b && (w.part (w.home b)).pasid b == t) b h in
-        let kept = and_left (is_kept w b) ((w.part (w.home b)).pasid b == t) x.1 in
-        let pasid = same_is ((w.part (w.home b)).pasid b) t (and_right (is_kept w b) ((w.part (w.home b)).pasid b == t) x.1) in
+        let x = find_passes w.bindings (λ b. is_kept w b && (w.part (w.endpoint_of b)).pasid b == t) b h in
+        let kept = and_left (is_kept w b) ((w.part (w.endpoint_of b)).pasid b == t) x.1 in
+        let pasid = same_is ((w.part (w.endpoint_of b)).pasid b) t (and_right (is_kept w b) ((w.part (w.endpoint_of b)).pasid b == t) x.1) in
         let borne : Labels.is_borne w t ≡ true =
-        any_below-intro w.config.endpoints (λ e. Labels.is_borne_at (w.part e) t) (w.home b)
-        ((i.parts (w.home b)).there b (unreleased_bound (w.part (w.home b)) b kept)) (ap is_some (bears b x.1))
+        any_below-intro w.config.endpoints (λ e. Labels.is_borne_at (w.part e) t) (w.endpoint_of b)
+        ((i.parts (w.endpoint_of b)).there b (unreleased_bound (w.part (w.endpoint_of b)) b kept)) (ap is_some (bears b x.1))
         in
         ap₂ (λ s n. answer.Bearer (w.config.first + s) n) (its_space b kept pasid (lowest_cases w.config.endpoints (λ e. Labels.is_borne_at (w.part e) t)))
         (count_seen (binding_seen w) (λ x. x.pasid == t) w.bindings (is_kept w) ∙ bearers w t i)

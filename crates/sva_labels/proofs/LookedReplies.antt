@@ -9,7 +9,7 @@ use Rattle.sva_step.specs.declared.steps.Verdict.{Verdict}
 use Rattle.sva_step.specs.declared.steps.Verdict.TheVariants as verdict
 use Rattle.sva_model.specs.Words.{is_some, holds_of, select, tabulate}
 use Rattle.sva_model.specs.Message.{Code}
-use Rattle.sva_model.specs.State.{Stage, HostGroupState, Part, World}
+use Rattle.sva_model.specs.State.{Stage, HostGroupState, Endpoint, World}
 use Rattle.sva_model.specs.State.Stage.{Unbound, Live, Stopping, Draining, Invalidating, Quiet, Lost, Released}
 use Rattle.sva_model.specs.State.HostGroupState.{NotFiled}
 use Rattle.sva_model.specs.States.{is_open, is_unreleased, is_free_place, place}
@@ -61,7 +61,7 @@ filed_bound w j i h e =
 
 -- The response.
 
-staged : (first : ℕ) (p : Part) (o : Bool) (s : Stage) (v : Verdict) → response_by o (stage_wire first p s) v ≡ response o s v
+staged : (first : ℕ) (p : Endpoint) (o : Bool) (s : Stage) (v : Verdict) → response_by o (stage_wire first p s) v ≡ response o s v
 staged first p true Unbound v = refl
 staged first p true Live v = refl
 staged first p true (Stopping m) v = refl
@@ -151,11 +151,11 @@ succeeds w j v i s =
     }
 
 -- what the requests ask
-pages_asked : (p : Part) (rs : List ℕ) → map (λ (a : AskWire). a.page) (map (ask_wire p) rs) ≡ map p.asked_page rs
+pages_asked : (p : Endpoint) (rs : List ℕ) → map (λ (a : AskWire). a.page) (map (ask_wire p) rs) ≡ map p.asked_page rs
 pages_asked p [] = refl
 pages_asked p (r ∷ rs) = ap (λ xs. p.asked_page r ∷ xs) (pages_asked p rs)
 
-pub writes_asked : (p : Part) (q : ℕ) (rs : List ℕ) → is_write_asked (map (ask_wire p) rs) q ≡ list_any (λ r. p.asked_page r == q && p.asks_write r) rs
+pub writes_asked : (p : Endpoint) (q : ℕ) (rs : List ℕ) → is_write_asked (map (ask_wire p) rs) q ≡ list_any (λ r. p.asked_page r == q && p.asks_write r) rs
 writes_asked p q [] = refl
 writes_asked p q (r ∷ rs) = ap (λ b. (p.asked_page r == q && p.asks_write r) || b) (writes_asked p q rs)
 

@@ -4,10 +4,10 @@ use Rattle.std.proofs.Common.{◌≡◌, refl, ap, ap₂, ◌∙◌, ℕ, zero, 
 use Rattle.std.specs.Prelude.{◌↔◌, Option, Some, None, option_map, ◌&&◌, not, nat_lt, nat_le, if◌then◌else◌, is_some, length, slice_index_or}
 use Rattle.std.proofs.lemmas.Bool.Decides.{nat_tests}
 use Rattle.sva_model.specs.Words.{any_below, count_below}
-use Rattle.sva_model.specs.State.{Stage, Order, OrderState, Part, World}
+use Rattle.sva_model.specs.State.{Stage, Order, OrderState, Endpoint, World}
 use Rattle.sva_model.specs.State.Stage.{Unbound, Live, Stopping, Draining, Invalidating, Quiet, Lost, Released}
 use Rattle.sva_model.specs.State.Order.{RangeOf, PasidOf, Wait}
-use Rattle.sva_model.specs.State.OrderState.{Queued, Sent, Taken, Lapsed, Owing, Done, Void}
+use Rattle.sva_model.specs.State.OrderState.{Queued, Sent, Taken, Lapsed, Completing, Done, Void}
 use Rattle.sva_model.specs.States as states
 use Rattle.sva_model.specs.States.{is_open, is_done, is_queued, is_wait}
 use Rattle.sva_model.specs.Acts as acts
@@ -34,7 +34,7 @@ use Rattle.sva_labels.proofs.Lookups.{any_same}
 
 -- Room in the queue.
 
-pub room_there : (first k : ℕ) (p : Part) → not (has_room (unit_wire first p) k) ≡ is_queue_short p k
+pub room_there : (first k : ℕ) (p : Endpoint) → not (has_room (unit_wire first p) k) ≡ is_queue_short p k
 room_there first k p =
     ap (λ n. not (nat_le (n + k) 64)) (length_seen (λ x. descriptor first p (p.order x)) p.orders (λ x. is_queued (p.order_state x)))
     ∙ over (Labels.queue_length p + k)
@@ -49,7 +49,7 @@ below_end first c zero = both_ways (nat_lt (first + c) 0) (nat_lt c 0) (λ h. gr
 below_end first c (suc n) = both_ways (nat_lt (first + c) (first + suc n)) (nat_lt c (suc n)) (λ h. grind (arith, nat_tests)) (λ h. grind (arith, nat_tests))
 
 pub wait_there :
-    (first : ℕ) (p : Part) (k : ℕ) → is_wait (p.order k) ≡ true
+    (first : ℕ) (p : Endpoint) (k : ℕ) → is_wait (p.order k) ≡ true
     → ((c : ℕ) (x : Bool) → p.order k ≡ Wait c x → (p.order_state k ≡ Done) ↔ (c < p.front))
     → is_wait_done (unit_wire first p) (cookie_number first (p.order k)) ≡ is_done (p.order_state k)
 wait_there first p k wt h = go (p.order k) refl wt
@@ -60,7 +60,7 @@ wait_there first p k wt h = go (p.order k) refl wt
     state_done Sent e = absurd (cc)
     state_done (Taken n) e = absurd (cc)
     state_done Lapsed e = absurd (cc)
-    state_done (Owing n m) e = absurd (cc)
+    state_done (Completing n m) e = absurd (cc)
     state_done Void e = absurd (cc)
 
     less : (a b : ℕ) → nat_lt a b ≡ true → a < b
@@ -79,18 +79,18 @@ wait_there first p k wt h = go (p.order k) refl wt
 
 -- the wait of a binding that drains, and of one whose PASID is invalidated
 pub drained_there :
-    (first n b k : ℕ) (p : Part) → HasFront n p → is_wait (p.order k) ≡ true → p.stage b ≡ Draining k
+    (first n b k : ℕ) (p : Endpoint) → HasFront n p → is_wait (p.order k) ≡ true → p.stage b ≡ Draining k
     → is_wait_done (unit_wire first p) (cookie_number first (p.order k)) ≡ is_done (p.order_state k)
 drained_there first n b k p f wt h = wait_there first p k wt (λ c x e. f.draining b k c x h e)
 
 pub invalidated_there :
-    (first n b j k : ℕ) (p : Part) → HasFront n p → is_wait (p.order k) ≡ true → p.stage b ≡ Invalidating j k
+    (first n b j k : ℕ) (p : Endpoint) → HasFront n p → is_wait (p.order k) ≡ true → p.stage b ≡ Invalidating j k
     → is_wait_done (unit_wire first p) (cookie_number first (p.order k)) ≡ is_done (p.order_state k)
 invalidated_there first n b j k p f wt h = wait_there first p k wt (λ c x e. f.invalidating b j k c x h e)
 
 -- Where pages of a space are taken out.
 
-before_there : (first : ℕ) (p : Part) (s : Stage) → is_before_invalidating (stage_wire first p s) ≡ states.is_before_invalidating s
+before_there : (first : ℕ) (p : Endpoint) (s : Stage) → is_before_invalidating (stage_wire first p s) ≡ states.is_before_invalidating s
 before_there first p Unbound = refl
 before_there first p Live = refl
 before_there first p (Stopping marked) = refl
@@ -100,7 +100,7 @@ before_there first p Quiet = refl
 before_there first p Lost = refl
 before_there first p Released = refl
 
-submits_seen : (first e : ℕ) (p : Part) (o : Option ℕ) → submits_by (unit_wire first p) (option_map (binding_wire first e p) o) ≡ submits_at p o
+submits_seen : (first e : ℕ) (p : Endpoint) (o : Option ℕ) → submits_by (unit_wire first p) (option_map (binding_wire first e p) o) ≡ submits_at p o
 submits_seen first e p None = refl
 submits_seen first e p (Some b) = ap (λ t. is_open p.phase && t) (before_there first p (p.stage b))
 
@@ -125,7 +125,7 @@ full_there w s k i =
 -- Is there something to wait for?
 
 target_seen :
-    (first n cookie b : ℕ) (p : Part) → HasFront n p → ((j k : ℕ) → p.stage b ≡ Invalidating j k → is_wait (p.order k) ≡ true) → (s : Stage)
+    (first n cookie b : ℕ) (p : Endpoint) → HasFront n p → ((j k : ℕ) → p.stage b ≡ Invalidating j k → is_wait (p.order k) ≡ true) → (s : Stage)
     → p.stage b ≡ s → is_some (target_by_stage (unit_wire first p) cookie (stage_wire first p s)) ≡ waits_by_stage p s
 target_seen first n cookie b p f wt Unbound h = refl
 target_seen first n cookie b p f wt Live h = refl
@@ -147,7 +147,7 @@ target_seen first n cookie b p f wt Lost h = refl
 target_seen first n cookie b p f wt Released h = refl
 
 waits_seen :
-    (first n cookie e : ℕ) (p : Part) → HasFront n p → ((b j k : ℕ) → p.stage b ≡ Invalidating j k → is_wait (p.order k) ≡ true)
+    (first n cookie e : ℕ) (p : Endpoint) → HasFront n p → ((b j k : ℕ) → p.stage b ≡ Invalidating j k → is_wait (p.order k) ≡ true)
     → (o : Option ℕ) → is_some (target_by (unit_wire first p) cookie (option_map (binding_wire first e p) o)) ≡ waits_at p o
 waits_seen first n cookie e p f wt None = refl
 waits_seen first n cookie e p f wt (Some b) = target_seen first n cookie b p f (wt b) (p.stage b) refl

@@ -8,10 +8,10 @@ use Rattle.sva_step.specs.declared.limits.Config.{Config}
 use Rattle.sva_step.specs.declared.steps.Step.{Step}
 use Rattle.sva_step.specs.declared.steps.Step.TheVariants as step
 use Rattle.sva_model.specs.Range.{Range, IsRange}
-use Rattle.sva_model.specs.State.{PasidRule, Part, World, opened}
+use Rattle.sva_model.specs.State.{PasidRule, Endpoint, World, opened}
 use Rattle.sva_model.specs.State.Order.{RangeOf}
-use Rattle.sva_model.specs.Acts.{Act, Own, act, own, range_at, submitted, submitted_if, submits, bound, cookie_of}
-use Rattle.sva_model.specs.Acts.Act.{NewSpace, DropSpace, Map, Unmap, NewBinding, NewJob, Hold, LetGo, At}
+use Rattle.sva_model.specs.Acts.{Act, LocalAct, act, own, range_at, submitted, submitted_if, submits, bound, cookie_of}
+use Rattle.sva_model.specs.Acts.Act.{NewSpace, DropSpace, Map, Unmap, NewBinding, NewJob, Hold, LetGo, AtEndpoint}
 use Rattle.sva_model.specs.Labels
 use Rattle.sva_model.specs.Replies.{response_to}
 use Rattle.sva_model.specs.Words.{the}
@@ -22,7 +22,7 @@ use Rattle.sva_laws.proofs.Passed.{Passed, is_at_most}
 use Rattle.sva_laws.proofs.Keeps.{put_keeps}
 use Rattle.sva_laws.proofs.Adding.{IsAdding, AreAdding, unbind_adds, advance_adds, pump_adds, serve_adds, reply_adds, fault_adds, deliver_adds}
 
-abbrev pub HasRanges : Part → Type 0
+abbrev pub HasRanges : Endpoint → Type 0
 HasRanges p = (k b : ℕ) (range : Range) → p.order k ≡ RangeOf b range → IsRange range
 
 abbrev pub HaveRanges : World → Type 0
@@ -37,17 +37,17 @@ abbrev pub AllCanCode : List Act → Type 0
 AllCanCode [] = Unit {0}
 AllCanCode (a ∷ acts) = CanCode a × AllCanCode acts
 
-own_order : (p : Part) (n : ℕ) (o : Own) (k b : ℕ) (range : Range) → (own p n o).order k ≡ RangeOf b range → p.order k ≡ RangeOf b range
+own_order : (p : Endpoint) (n : ℕ) (o : LocalAct) (k b : ℕ) (range : Range) → (own p n o).order k ≡ RangeOf b range → p.order k ≡ RangeOf b range
 own_order p n o k b range h = grind (arith, nat_tests)
 
 -- an order after a submission was there, or is of one of the ranges
 submitted_order :
-    (p : Part) (d q count order cookie k b : ℕ) (range : Range) → (submitted p d q count order cookie).order k ≡ RangeOf b range
+    (p : Endpoint) (d q count order cookie k b : ℕ) (range : Range) → (submitted p d q count order cookie).order k ≡ RangeOf b range
     → (p.order k ≡ RangeOf b range) ⊎ ((p.orders ≤ k) × (k < p.orders + count) × (range_at q order (k - p.orders) ≡ range))
 submitted_order p d q count order cookie k b range h = grind (arith, nat_tests)
 
 submitted_ranges :
-    (t : Bool) (p : Part) (o : Option ℕ) (q count order cookie : ℕ) → ((j : ℕ) → j < count → IsRange (range_at q order j)) → HasRanges p
+    (t : Bool) (p : Endpoint) (o : Option ℕ) (q count order cookie : ℕ) → ((j : ℕ) → j < count → IsRange (range_at q order j)) → HasRanges p
     → HasRanges (submitted_if t p o q count order cookie)
 submitted_ranges true p (Some d) q count order cookie fit h = λ k b range e. go k b range (submitted_order p d q count order cookie k b range e)
   where
@@ -69,7 +69,7 @@ act_ranges w (NewBinding e) c h = h
 act_ranges w (NewJob e g) c h = h
 act_ranges w (Hold x j) c h = h
 act_ranges w (LetGo x) c h = h
-act_ranges w (At e o) c h =
+act_ranges w (AtEndpoint e o) c h =
     put_keeps (λ x p. HasRanges p) w.part e (own (w.part e) w.messages o) (λ k b range i. h e k b range (own_order (w.part e) w.messages o k b range i)) h
 
 acts_ranges : (acts : List Act) (w : World) → AllCanCode acts → HaveRanges w → HaveRanges (after_acts w acts)
@@ -91,7 +91,7 @@ adding_codes (x ∷ acts) a = (one x a.0, adding_codes acts a.1)
     one (NewJob e g) a = tt
     one (Hold y j) a = tt
     one (LetGo y) a = tt
-    one (At e o) a = tt
+    one (AtEndpoint e o) a = tt
 
 -- the pages of an unmapping, one range each, by what its step has tested
 pages_codes : (q count : ℕ) → nat_lt (2 ^ 36) (q + count) ≡ false → (j : ℕ) → j < count → IsRange (range_at q 0 j)
@@ -137,9 +137,9 @@ outcome_codes w (step.Unmap n q count) h = (pages_codes q count h.1.1.0, tt)
 outcome_codes w (step.UnmapRange n q order) h = (range_codes q order h.1.0 h.1.1.0 h.1.1.1.0, tt)
 outcome_codes w (step.Bind e n) h = (tt, (tt, tt))
 outcome_codes w (step.Unbind n) h =
-    adding_codes _ (unbind_adds (w.home (Labels.name w n)) (Labels.name w n) ((w.part (w.home (Labels.name w n))).stage (Labels.name w n)))
+    adding_codes _ (unbind_adds (w.endpoint_of (Labels.name w n)) (Labels.name w n) ((w.part (w.endpoint_of (Labels.name w n))).stage (Labels.name w n)))
 outcome_codes w (step.Advance n) h =
-    adding_codes _ (advance_adds w (w.home (Labels.name w n)) (Labels.name w n) ((w.part (w.home (Labels.name w n))).stage (Labels.name w n)))
+    adding_codes _ (advance_adds w (w.endpoint_of (Labels.name w n)) (Labels.name w n) ((w.part (w.endpoint_of (Labels.name w n))).stage (Labels.name w n)))
 outcome_codes w (step.Pump e) h = adding_codes _ (pump_adds (w.part e) e (Labels.is_queue_empty (w.part e)))
 outcome_codes w (step.Serve e) h = adding_codes _ (serve_adds (w.part e) e (Labels.is_page_queue_empty (w.part e)))
 outcome_codes w (step.Reset e) h = (tt, tt)
@@ -154,8 +154,8 @@ outcome_codes w (step.Finish e vector count) h = (tt, tt)
 outcome_codes w (step.Quit e t) h = (tt, tt)
 outcome_codes w (step.Deliver n) h =
     adding_codes _
-    (deliver_adds w (w.part (w.way (Labels.name w n))) (w.way (Labels.name w n)) (Labels.name w n)
-    ((w.part (w.way (Labels.name w n))).message (Labels.name w n)))
+    (deliver_adds w (w.part (w.link_of (Labels.name w n))) (w.link_of (Labels.name w n)) (Labels.name w n)
+    ((w.part (w.link_of (Labels.name w n))).message (Labels.name w n)))
 outcome_codes w (step.Look f) h = tt
 outcome_codes w (step.Bearer t) h = tt
 

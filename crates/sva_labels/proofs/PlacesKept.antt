@@ -3,19 +3,19 @@ use Rattle.std.proofs.Common.{◌≡◌, ◌≢◌, refl, ap, sym, ◌∙◌, �
 use Rattle.std.specs.Prelude.{Some, None, ◌&&◌, ◌||◌, nat_lt, if◌then◌else◌}
 use Rattle.std.proofs.lemmas.Bool.Decides.{nat_tests}
 use Rattle.sva_model.specs.Words.{all_below, tabulate}
-use Rattle.sva_model.specs.State.{Owed, Mappings, Part, World, OrderState}
-use Rattle.sva_model.specs.State.Owed.{Nothing, Ranges, Pasid, AReset}
+use Rattle.sva_model.specs.State.{Owed, Mappings, Endpoint, World, OrderState}
+use Rattle.sva_model.specs.State.Owed.{Nothing, Ranges, Pasid, NextReset}
 use Rattle.sva_model.specs.State.MappingState.{Gone}
 use Rattle.sva_model.specs.State.OrderState.{Done}
 use Rattle.sva_model.specs.States.{is_done, is_wait, is_busy, answered}
-use Rattle.sva_model.specs.Acts.{own, Own, act}
-use Rattle.sva_model.specs.Acts.Act.{At}
+use Rattle.sva_model.specs.Acts.{own, LocalAct, act}
+use Rattle.sva_model.specs.Acts.Act.{AtEndpoint}
 use Rattle.sva_model.specs.Wire.{PlaceWire, cookie_number, target_of, target_wire, places_wire}
 use Rattle.sva_model.specs.Wire.PlaceWire.{WithheldWire}
 use Rattle.sva_model.specs.Wire.TargetWire.{Cookie}
 use Rattle.sva_laws.specs.Waits.{IsBehind, FitsDebt}
 use Rattle.sva_laws.proofs.Words.{all_below-false}
-use Rattle.sva_laws.proofs.Legal.{LegalOwn}
+use Rattle.sva_laws.proofs.Legal.{LegalLocalAct}
 use Rattle.sva_laws.proofs.Bounds.{Bounds}
 use Rattle.sva_laws.proofs.Orders.{Orders, SentOnly}
 use Rattle.sva_laws.proofs.Answered.{answered_own, all_below-intro}
@@ -30,7 +30,7 @@ use Rattle.sva_labels.proofs.PlacesOut.{places_same}
 
 -- What isn't answered waits for a wait that isn't done.
 
-pub no_reset : (p : Part) (resets : ℕ) → resets ≤ p.resets → nat_lt resets p.resets ≡ false → resets ≡ p.resets
+pub no_reset : (p : Endpoint) (resets : ℕ) → resets ≤ p.resets → nat_lt resets p.resets ≡ false → resets ≡ p.resets
 no_reset p resets low h = grind (arith, nat_tests)
 
 is_done_of : (z : OrderState) → z ≡ Done → is_done z ≡ true
@@ -51,14 +51,14 @@ both_done a b h k = grind arith
 
 -- where the wait of a debt is done, the debt is answered
 pub done_answers :
-    (p : Part) (first count resets : ℕ) → IsBehind p first (first + count) resets → resets ≡ p.resets → p.order_state (first + count) ≡ Done
+    (p : Endpoint) (first count resets : ℕ) → IsBehind p first (first + count) resets → resets ≡ p.resets → p.order_state (first + count) ≡ Done
     → all_below (suc count) (λ j. is_done (p.order_state (first + j))) ≡ true
 done_answers p first count resets b same d =
     all_below-intro (suc count) (λ j. is_done (p.order_state (first + j)))
     (λ j l. is_done_of (p.order_state (first + j)) (b.done same d (first + j) (omega arith) (omega (arith, l))))
 
 pub ranges_open :
-    (p : Part) (first count resets : ℕ) → IsBehind p first (first + count) resets → answered p (Ranges first count resets) ≡ false
+    (p : Endpoint) (first count resets : ℕ) → IsBehind p first (first + count) resets → answered p (Ranges first count resets) ≡ false
     → (resets ≡ p.resets) × (p.order_state (first + count) ≢ Done)
 ranges_open p first count resets b h =
     let same = no_reset p resets b.counted (or_right (all_below (suc count) (λ j. is_done (p.order_state (first + j)))) (nat_lt resets p.resets) h) in
@@ -66,7 +66,7 @@ ranges_open p first count resets b h =
     (same, λ d. absurd (cc (sym left ∙ done_answers p first count resets b same d)))
 
 pub pasid_open :
-    (p : Part) (k x resets : ℕ) (in_reset : Bool) → IsBehind p k x resets → answered p (Pasid k x resets in_reset) ≡ false
+    (p : Endpoint) (k x resets : ℕ) (in_reset : Bool) → IsBehind p k x resets → answered p (Pasid k x resets in_reset) ≡ false
     → (resets ≡ p.resets) × (p.order_state x ≢ Done)
 pasid_open p k x resets in_reset b h =
     let same = no_reset p resets b.counted (or_right (is_done (p.order_state k) && is_done (p.order_state x)) (nat_lt resets p.resets) h) in
@@ -84,14 +84,15 @@ right_false a b h = grind arith
 
 -- and where its wait isn't done and no reset-done came since, it isn't
 pub ranges_wait :
-    (p : Part) (first count resets : ℕ) → resets ≡ p.resets → p.order_state (first + count) ≢ Done
+    (p : Endpoint) (first count resets : ℕ) → resets ≡ p.resets → p.order_state (first + count) ≢ Done
     → answered p (Ranges first count resets) ≡ false
 ranges_wait p first count resets same ne =
     both_false (all_below (suc count) (λ j. is_done (p.order_state (first + j)))) (nat_lt resets p.resets)
     (all_below-false (suc count) (λ j. is_done (p.order_state (first + j))) count (omega arith) (isnt_done (p.order_state (first + count)) ne))
     (no_more resets p.resets same)
 
-pub pasid_waits : (p : Part) (k x resets : ℕ) (in_reset : Bool) → resets ≡ p.resets → p.order_state x ≢ Done → answered p (Pasid k x resets in_reset) ≡ false
+pub pasid_waits : (p : Endpoint) (k x resets : ℕ) (in_reset : Bool) → resets ≡ p.resets → p.order_state x ≢ Done → answered p (Pasid k x resets in_reset)
+    ≡ false
 pasid_waits p k x resets in_reset same ne =
     both_false (is_done (p.order_state k) && is_done (p.order_state x)) (nat_lt resets p.resets)
     (right_false (is_done (p.order_state k)) (is_done (p.order_state x)) (isnt_done (p.order_state x) ne))
@@ -100,23 +101,23 @@ pasid_waits p k x resets in_reset same ne =
 -- The acts.
 
 -- a wait is done, or a reset-done comes
-abbrev pub settles : Own → Bool
-settles (Own.Pass k) = true
-settles (Own.Reopen c) = true
+abbrev pub settles : LocalAct → Bool
+settles (LocalAct.Pass k) = true
+settles (LocalAct.Reopen c) = true
 settles _ = false
 
-resets_kept : (p : Part) (n : ℕ) (o : Own) → settles o ≡ false → (own p n o).resets ≡ p.resets
+resets_kept : (p : Endpoint) (n : ℕ) (o : LocalAct) → settles o ≡ false → (own p n o).resets ≡ p.resets
 resets_kept p n o h = grind arith
 
 -- no other act makes a wait done
 undone_kept :
-    (ms : Mappings) (g n : ℕ) (p : Part) (o : Own) → LegalOwn ms g p o → SentOnly p → settles o ≡ false → (x : ℕ) → x < p.orders
+    (ms : Mappings) (g n : ℕ) (p : Endpoint) (o : LocalAct) → LegalLocalAct ms g p o → SentOnly p → settles o ≡ false → (x : ℕ) → x < p.orders
     → is_wait (p.order x) ≡ true → (is_busy (p.order_state x) ≡ true → is_wait (p.order x) ≡ false) → p.order_state x ≢ Done
     → (own p n o).order_state x ≢ Done
 undone_kept ms g n p o l sent h x made w nw nd d = grind (arith, nat_tests)
 
 silent_kept :
-    (ms : Mappings) (g n : ℕ) (p : Part) (o : Own) → LegalOwn ms g p o → SentOnly p → Orders p → settles o ≡ false → (v : Owed)
+    (ms : Mappings) (g n : ℕ) (p : Endpoint) (o : LocalAct) → LegalLocalAct ms g p o → SentOnly p → Orders p → settles o ≡ false → (v : Owed)
     → FitsDebt p v → answered p v ≡ false → answered (own p n o) v ≡ false
 silent_kept ms g n p o l sent or h Nothing d k = absurd (cc (k))
 silent_kept ms g n p o l sent or h (Ranges first count resets) d k =
@@ -127,10 +128,10 @@ silent_kept ms g n p o l sent or h (Pasid j x resets in_reset) d k =
     let z = pasid_open p j x resets in_reset d.1 k in
     pasid_waits (own p n o) j x resets in_reset (z.0 ∙ sym (resets_kept p n o h))
     (undone_kept ms g n p o l sent h x d.1.made d.1.is_a_wait (or.no_wait x) z.1)
-silent_kept ms g n p o l sent or h (AReset resets) d k = ap (nat_lt resets) (resets_kept p n o h) ∙ k
+silent_kept ms g n p o l sent or h (NextReset resets) d k = ap (nat_lt resets) (resets_kept p n o h) ∙ k
 
 pub answered_kept :
-    (ms : Mappings) (g n : ℕ) (p : Part) (o : Own) → LegalOwn ms g p o → Bounds g p → SentOnly p → Orders p → settles o ≡ false → (v : Owed)
+    (ms : Mappings) (g n : ℕ) (p : Endpoint) (o : LocalAct) → LegalLocalAct ms g p o → Bounds g p → SentOnly p → Orders p → settles o ≡ false → (v : Owed)
     → FitsDebt p v → answered (own p n o) v ≡ answered p v
 answered_kept ms g n p o l bo sent or h v d = go (answered p v) refl
   where
@@ -139,15 +140,15 @@ answered_kept ms g n p o l bo sent or h v d = go (answered p v) refl
     go false e = silent_kept ms g n p o l sent or h v d e ∙ sym e
 
 -- what is waited for doesn't change
-pub target_kept : (first n : ℕ) (p : Part) (o : Own) (v : Owed) → FitsDebt p v → target_of first (own p n o) v ≡ target_of first p v
+pub target_kept : (first n : ℕ) (p : Endpoint) (o : LocalAct) (v : Owed) → FitsDebt p v → target_of first (own p n o) v ≡ target_of first p v
 target_kept first n p o Nothing d = refl
 target_kept first n p o (Ranges range count resets) d = ap (λ z. Cookie (cookie_number first z)) (own_old p n o (range + count) d.1.made)
 target_kept first n p o (Pasid k x resets true) d = refl
 target_kept first n p o (Pasid k x resets false) d = ap (λ z. Cookie (cookie_number first z)) (own_old p n o x d.1.made)
-target_kept first n p o (AReset resets) d = refl
+target_kept first n p o (NextReset resets) d = refl
 
 -- a frame is seen the same where each endpoint has answered the same and waits for the same
-pub record IsSeenSame (first : ℕ) (p q : Part) (v : Owed) : Type 0 where
+pub record IsSeenSame (first : ℕ) (p q : Endpoint) (v : Owed) : Type 0 where
   pub answers : answered q v ≡ answered p v
   pub target : target_of first q v ≡ target_of first p v
 
@@ -159,7 +160,7 @@ seen_same w v owed c h =
     (λ i. by (c i).first (c i).endpoints v.part)
     ∙ (λ i. gone_seen (same_answers i) (WithheldWire (same_targets i)))
   where
-    by : (first endpoints : ℕ) → (ℕ → Part) → PlaceWire
+    by : (first endpoints : ℕ) → (ℕ → Endpoint) → PlaceWire
     by first endpoints part =
         gone_seen (all_below endpoints (λ e. answered (part e) (owed e)))
         (WithheldWire (tabulate 8 (λ e. if nat_lt e endpoints then target_wire first (part e) (owed e) else None)))
@@ -184,11 +185,12 @@ seen_same w v owed c h =
         (λ e. if nat_lt e w.config.endpoints then target_wire w.config.first (w.part e) (owed e) else None)
         (λ e l. at e (nat_lt e w.config.endpoints) refl)
 
-pub places_kept : (w : World) (e : ℕ) (o : Own) → Legal w (At e o) → Invariant w → AllDebts w → settles o ≡ false → places_wire (act w (At e o))
+pub places_kept : (w : World) (e : ℕ) (o : LocalAct) → Legal w (AtEndpoint e o) → Invariant w → AllDebts w → settles o ≡ false
+    → places_wire (act w (AtEndpoint e o))
     ≡ places_wire w
 places_kept w e o l i debts h =
-    places_same w (act w (At e o)) refl refl
-    (λ m owed gone. seen_same w (act w (At e o)) owed refl
+    places_same w (act w (AtEndpoint e o)) refl refl
+    (λ m owed gone. seen_same w (act w (AtEndpoint e o)) owed refl
     (λ x k. put_keeps (λ x q. IsSeenSame w.config.first (w.part x) q (owed x)) w.part e (own (w.part e) w.messages o)
     (record {
       answers =

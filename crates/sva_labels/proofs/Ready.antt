@@ -7,17 +7,17 @@ use Rattle.sva_step.specs.declared.steps.Step.TheVariants as step
 use Rattle.sva_step.specs.declared.steps.Verdict.{Verdict}
 use Rattle.sva_model.specs.Words.{the, any_below, lowest, put}
 use Rattle.sva_model.specs.Message.{Code}
-use Rattle.sva_model.specs.State.{Part, World, Stage, Order, OrderState, About, RequestState}
+use Rattle.sva_model.specs.State.{Endpoint, World, Stage, Order, OrderState, Subject, RequestState}
 use Rattle.sva_model.specs.State.OrderState.{Queued}
 use Rattle.sva_model.specs.State.HostGroupState.{Job}
 use Rattle.sva_model.specs.State.Stage.{Unbound, Live, Stopping, Draining, Invalidating, Quiet, Lost, Released}
 use Rattle.sva_model.specs.State.Order.{RangeOf, PasidOf, Wait}
 use Rattle.sva_model.specs.State.RequestState.{Out, Doomed, Over}
-use Rattle.sva_model.specs.State.About.{StartOf, StopOf, ResetOrder, CompletionOf, InvalidateOf, ResponseOf, RequestOf, InvalidatedOf, PageRequestOf}
-use Rattle.sva_model.specs.State.About.{MarkerOf, ResetDone}
+use Rattle.sva_model.specs.State.Subject.{StartOf, StopOf, FunctionReset, CompletionOf, InvalidateOf, ResponseOf, RequestOf, InvalidatedOf, PageRequestOf}
+use Rattle.sva_model.specs.State.Subject.{MarkerOf, ResetDone}
 use Rattle.sva_model.specs.States.{is_open, is_queued}
-use Rattle.sva_model.specs.Acts.{Own, act, own, filed_as}
-use Rattle.sva_model.specs.Acts.Act.{Map, LetGo, At}
+use Rattle.sva_model.specs.Acts.{LocalAct, act, own, filed_as}
+use Rattle.sva_model.specs.Acts.Act.{Map, LetGo, AtEndpoint}
 use Rattle.sva_model.specs.Labels
 use Rattle.sva_model.specs.Refusals.{refusals}
 use Rattle.sva_model.specs.Replies.{maps_to, reply_maps, replies_success, newly_mapped, free_list, is_write_asked, job_space, response_to}
@@ -55,7 +55,7 @@ advance_ready w e b Released = ((tt, tt), tt)
 
 -- Pump: the head is the first that is queued.
 
-head_first : (p : Part) (j : ℕ) → j < Labels.head p → p.order_state j ≢ Queued
+head_first : (p : Endpoint) (j : ℕ) → j < Labels.head p → p.order_state j ≢ Queued
 head_first p j l = go (lowest_cases p.orders (λ k. is_queued (p.order_state k)))
   where
     queued_is : (s : OrderState) → is_queued s ≡ false → s ≢ Queued
@@ -97,9 +97,9 @@ file_ready :
 file_ready w e r false h i on l = ((not_past w e r i (on e) l.0.1.0.0 l.0.1.0.1, tt), tt)
 file_ready w e r true h i on l = ((not_past w e r i (on e) l.0.1.0.0 l.0.1.0.1, tt), (job, tt))
   where
-    job : (put w.part e (own (w.part e) w.messages (Own.File r)) e).host_group ((w.part e).group_of r) ≡ Job
+    job : (put w.part e (own (w.part e) w.messages (LocalAct.File r)) e).host_group ((w.part e).group_of r) ≡ Job
     job =
-        ap (λ p. p.host_group ((w.part e).group_of r)) (put-same w.part e (own (w.part e) w.messages (Own.File r)))
+        ap (λ p. p.host_group ((w.part e).group_of r)) (put-same w.part e (own (w.part e) w.messages (LocalAct.File r)))
         ∙ put-same (w.part e).host_group ((w.part e).group_of r) (filed_as ((w.part e).is_last r))
         ∙ ap filed_as h
 
@@ -129,12 +129,12 @@ first_job w js h =
 
 -- Reply: pages are mapped, then the job is let go and its group answered or dropped.
 
-respond_ready : (w : World) (x e g : ℕ) (code : Code) → AreReady w (LetGo x ∷ At e (Own.Respond g code) ∷ [])
+respond_ready : (w : World) (x e g : ℕ) (code : Code) → AreReady w (LetGo x ∷ AtEndpoint e (LocalAct.Respond g code) ∷ [])
 respond_ready w x e g code = (tt, ((tt, tt), tt))
 
 maps_ready :
     (s : ℕ) (write : ℕ → Bool) (qs fs : List ℕ) (w : World) (x e g : ℕ) (code : Code)
-    → AreReady w (maps_to s write qs fs ++ LetGo x ∷ At e (Own.Respond g code) ∷ [])
+    → AreReady w (maps_to s write qs fs ++ LetGo x ∷ AtEndpoint e (LocalAct.Respond g code) ∷ [])
 maps_ready s write [] fs w x e g code = respond_ready w x e g code
 maps_ready s write (q ∷ qs) [] w x e g code = respond_ready w x e g code
 maps_ready s write (q ∷ qs) (f ∷ fs) w x e g code = (tt, maps_ready s write qs fs (act w (Map s q f (write q))) x e g code)
@@ -146,14 +146,14 @@ reply_ready w x j v (Some code) = go (replies_success w j v)
     go :
         (b : Bool)
         → AreReady w
-        ((if b then maps_to (job_space w j) (is_write_asked w j) (newly_mapped w j) (free_list w) else []) ++ LetGo x ∷ At (w.job j).endpoint
-        (Own.Respond (w.job j).group code) ∷ [])
+        ((if b then maps_to (job_space w j) (is_write_asked w j) (newly_mapped w j) (free_list w) else []) ++ LetGo x ∷ AtEndpoint (w.job j).endpoint
+        (LocalAct.Respond (w.job j).group code) ∷ [])
     go true = maps_ready (job_space w j) (is_write_asked w j) (newly_mapped w j) (free_list w) w x (w.job j).endpoint (w.job j).group code
     go false = respond_ready w x (w.job j).endpoint (w.job j).group code
 
 -- The endpoint, and deliveries.
 
-fault_ready : (w : World) (p : Part) (e t q : ℕ) (r x l : Bool) (o : Option ℕ) → AreReady w (fault_outcome p e t q r x l o).acts
+fault_ready : (w : World) (p : Endpoint) (e t q : ℕ) (r x l : Bool) (o : Option ℕ) → AreReady w (fault_outcome p e t q r x l o).acts
 fault_ready w p e t q r x l None = ((tt, tt), tt)
 fault_ready w p e t q r x l (Some k) = ((tt, tt), tt)
 
@@ -161,7 +161,7 @@ keep_ready : (w : World) (e c r m : ℕ) (b : Bool) → AreReady w (keep_outcome
 keep_ready w e c r m true = ((tt, tt), tt)
 keep_ready w e c r m false = ((tt, tt), tt)
 
-completion_ready : (w : World) (p : Part) (e c r : ℕ) (o : Option ℕ) (s : RequestState) → AreReady w (completion_outcome p e c r o s).acts
+completion_ready : (w : World) (p : Endpoint) (e c r : ℕ) (o : Option ℕ) (s : RequestState) → AreReady w (completion_outcome p e c r o s).acts
 completion_ready w p e c r (Some m) Out = keep_ready w e c r m (is_full p r)
 completion_ready w p e c r None Out = ((tt, tt), tt)
 completion_ready w p e c r (Some m) Doomed = ((tt, tt), tt)
@@ -169,11 +169,11 @@ completion_ready w p e c r None Doomed = ((tt, tt), tt)
 completion_ready w p e c r (Some m) Over = ((tt, tt), tt)
 completion_ready w p e c r None Over = ((tt, tt), tt)
 
-request_ready : (w : World) (p : Part) (e c r : ℕ) (b : Bool) → AreReady w (request_outcome w p e c r b).acts
+request_ready : (w : World) (p : Endpoint) (e c r : ℕ) (b : Bool) → AreReady w (request_outcome w p e c r b).acts
 request_ready w p e c r true = ((tt, tt), tt)
 request_ready w p e c r false = ((tt, tt), tt)
 
-count_ready : (w : World) (p : Part) (e c : ℕ) (names : ℕ → Bool) (b : Bool) → AreReady w (count_outcome p e c names b).acts
+count_ready : (w : World) (p : Endpoint) (e c : ℕ) (names : ℕ → Bool) (b : Bool) → AreReady w (count_outcome p e c names b).acts
 count_ready w p e c names true = ((tt, tt), tt)
 count_ready w p e c names false = ((tt, tt), tt)
 
@@ -185,10 +185,10 @@ marker_ready : (w : World) (e c d : ℕ) (b : Bool) → AreReady w (marker_outco
 marker_ready w e c d true = ((tt, tt), tt)
 marker_ready w e c d false = ((tt, tt), tt)
 
-about_ready : (w : World) (p : Part) (e c : ℕ) (a : About) → AreReady w (about_outcome w p e c a).acts
+about_ready : (w : World) (p : Endpoint) (e c : ℕ) (a : Subject) → AreReady w (about_outcome w p e c a).acts
 about_ready w p e c (StartOf b) = ((tt, tt), tt)
 about_ready w p e c (StopOf b) = ((tt, tt), tt)
-about_ready w p e c ResetOrder = ((tt, tt), tt)
+about_ready w p e c FunctionReset = ((tt, tt), tt)
 about_ready w p e c (CompletionOf r found) = completion_ready w p e c r found (p.request r)
 about_ready w p e c (InvalidateOf k) = ((tt, tt), tt)
 about_ready w p e c (ResponseOf g code) = ((tt, tt), tt)
@@ -198,7 +198,7 @@ about_ready w p e c (PageRequestOf r) = page_request_ready w e c r (is_open p.ph
 about_ready w p e c (MarkerOf b) = marker_ready w e c b (is_open p.phase)
 about_ready w p e c ResetDone = ((tt, tt), tt)
 
-deliver_ready : (w : World) (p : Part) (e c : ℕ) (o : Option About) → AreReady w (deliver_outcome w p e c o).acts
+deliver_ready : (w : World) (p : Endpoint) (e c : ℕ) (o : Option Subject) → AreReady w (deliver_outcome w p e c o).acts
 deliver_ready w p e c None = tt
 deliver_ready w p e c (Some a) = about_ready w p e c a
 
@@ -210,9 +210,9 @@ outcome_ready w (step.Unmap n q count) i on js p = (tt, tt)
 outcome_ready w (step.UnmapRange n q order) i on js p = (tt, tt)
 outcome_ready w (step.Bind e n) i on js p = (tt, ((refl, tt), tt))
 outcome_ready w (step.Unbind n) i on js p =
-    unbind_ready w (w.home (Labels.name w n)) (Labels.name w n) ((w.part (w.home (Labels.name w n))).stage (Labels.name w n))
+    unbind_ready w (w.endpoint_of (Labels.name w n)) (Labels.name w n) ((w.part (w.endpoint_of (Labels.name w n))).stage (Labels.name w n))
 outcome_ready w (step.Advance n) i on js p =
-    advance_ready w (w.home (Labels.name w n)) (Labels.name w n) ((w.part (w.home (Labels.name w n))).stage (Labels.name w n))
+    advance_ready w (w.endpoint_of (Labels.name w n)) (Labels.name w n) ((w.part (w.endpoint_of (Labels.name w n))).stage (Labels.name w n))
 outcome_ready w (step.Pump e) i on js p = pump_ready w e (Labels.is_queue_empty (w.part e))
 outcome_ready w (step.Serve e) i on js p = serve_ready w e (Labels.is_page_queue_empty (w.part e)) i on (unit_steps.serve w e i p)
 outcome_ready w (step.Reset e) i on js p = ((tt, tt), tt)
@@ -226,7 +226,7 @@ outcome_ready w (step.Fault e t q r x group l) i on js p = fault_ready w (w.part
 outcome_ready w (step.Finish e vector count) i on js p = ((tt, tt), tt)
 outcome_ready w (step.Quit e t) i on js p = ((tt, tt), tt)
 outcome_ready w (step.Deliver n) i on js p =
-    deliver_ready w (w.part (w.way (Labels.name w n))) (w.way (Labels.name w n)) (Labels.name w n)
-    ((w.part (w.way (Labels.name w n))).message (Labels.name w n))
+    deliver_ready w (w.part (w.link_of (Labels.name w n))) (w.link_of (Labels.name w n)) (Labels.name w n)
+    ((w.part (w.link_of (Labels.name w n))).message (Labels.name w n))
 outcome_ready w (step.Look f) i on js p = tt
 outcome_ready w (step.Bearer t) i on js p = tt

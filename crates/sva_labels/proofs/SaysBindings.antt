@@ -96,8 +96,8 @@ bind_says w e n i r =
 
 -- Ending one.
 
-home_there : (w : World) (b : ℕ) → Invariant w → is_kept w b ≡ true → w.home b < w.config.endpoints
-home_there w b i h = (i.parts (w.home b)).there b (unreleased_bound (w.part (w.home b)) b h)
+home_there : (w : World) (b : ℕ) → Invariant w → is_kept w b ≡ true → w.endpoint_of b < w.config.endpoints
+home_there w b i h = (i.parts (w.endpoint_of b)).there b (unreleased_bound (w.part (w.endpoint_of b)) b h)
 
 -- a binding that isn't there is refused first
 of_number :
@@ -115,20 +115,20 @@ of_number w n cs ds none h = go (Labels.is_binding w n) refl
         ∙ alike_right (names.no_such_binding w n) (cs (Some (binding_seen w (Labels.name w n)))) ds (ap not e) (h e)
 
 unbind_stages :
-    (w : World) (b : ℕ) → w.home b < w.config.endpoints → (s : Stage)
-    → unbind_by (wire w) (binding_seen w b) (stage_wire w.config.first (w.part (w.home b)) s) ≡ names.unbind_refusals w (w.home b) s
+    (w : World) (b : ℕ) → w.endpoint_of b < w.config.endpoints → (s : Stage)
+    → unbind_by (wire w) (binding_seen w b) (stage_wire w.config.first (w.part (w.endpoint_of b)) s) ≡ names.unbind_refusals w (w.endpoint_of b) s
 unbind_stages w b l Lost = refl
-unbind_stages w b l Unbound = ap (λ c. (true, refusal.NotLive) ∷ c ∷ numbers_spent (wire w).next_message 1 ∷ []) (reset_cause w (w.home b) l)
-unbind_stages w b l Live = ap (λ c. (false, refusal.NotLive) ∷ c ∷ numbers_spent (wire w).next_message 1 ∷ []) (reset_cause w (w.home b) l)
-unbind_stages w b l (Stopping marked) = ap (λ c. (true, refusal.NotLive) ∷ c ∷ numbers_spent (wire w).next_message 1 ∷ []) (reset_cause w (w.home b) l)
-unbind_stages w b l (Draining k) = ap (λ c. (true, refusal.NotLive) ∷ c ∷ numbers_spent (wire w).next_message 1 ∷ []) (reset_cause w (w.home b) l)
-unbind_stages w b l (Invalidating j k) = ap (λ c. (true, refusal.NotLive) ∷ c ∷ numbers_spent (wire w).next_message 1 ∷ []) (reset_cause w (w.home b) l)
-unbind_stages w b l Quiet = ap (λ c. (true, refusal.NotLive) ∷ c ∷ numbers_spent (wire w).next_message 1 ∷ []) (reset_cause w (w.home b) l)
-unbind_stages w b l Released = ap (λ c. (true, refusal.NotLive) ∷ c ∷ numbers_spent (wire w).next_message 1 ∷ []) (reset_cause w (w.home b) l)
+unbind_stages w b l Unbound = ap (λ c. (true, refusal.NotLive) ∷ c ∷ numbers_spent (wire w).next_message 1 ∷ []) (reset_cause w (w.endpoint_of b) l)
+unbind_stages w b l Live = ap (λ c. (false, refusal.NotLive) ∷ c ∷ numbers_spent (wire w).next_message 1 ∷ []) (reset_cause w (w.endpoint_of b) l)
+unbind_stages w b l (Stopping marked) = ap (λ c. (true, refusal.NotLive) ∷ c ∷ numbers_spent (wire w).next_message 1 ∷ []) (reset_cause w (w.endpoint_of b) l)
+unbind_stages w b l (Draining k) = ap (λ c. (true, refusal.NotLive) ∷ c ∷ numbers_spent (wire w).next_message 1 ∷ []) (reset_cause w (w.endpoint_of b) l)
+unbind_stages w b l (Invalidating j k) = ap (λ c. (true, refusal.NotLive) ∷ c ∷ numbers_spent (wire w).next_message 1 ∷ []) (reset_cause w (w.endpoint_of b) l)
+unbind_stages w b l Quiet = ap (λ c. (true, refusal.NotLive) ∷ c ∷ numbers_spent (wire w).next_message 1 ∷ []) (reset_cause w (w.endpoint_of b) l)
+unbind_stages w b l Released = ap (λ c. (true, refusal.NotLive) ∷ c ∷ numbers_spent (wire w).next_message 1 ∷ []) (reset_cause w (w.endpoint_of b) l)
 
 unbound_by :
     (w : World) (b : ℕ) (s : Stage)
-    → results.unbind_by (binding_seen w b) (stage_wire w.config.first (w.part (w.home b)) s) ≡ result_by w (unbind_outcome (w.home b) b s)
+    → results.unbind_by (binding_seen w b) (stage_wire w.config.first (w.part (w.endpoint_of b)) s) ≡ result_by w (unbind_outcome (w.endpoint_of b) b s)
 unbound_by w b Lost = refl
 unbound_by w b Unbound = refl
 unbound_by w b Live = refl
@@ -143,48 +143,49 @@ unbind_says w n i =
     record {
       alike =
           of_number w n (unbind_causes (wire w))
-          (names.unbind_refusals w (w.home (Labels.name w n)) ((w.part (w.home (Labels.name w n))).stage (Labels.name w n))) refl
+          (names.unbind_refusals w (w.endpoint_of (Labels.name w n)) ((w.part (w.endpoint_of (Labels.name w n))).stage (Labels.name w n))) refl
           (λ e. let kept = (binding_is w n e).kept in
           alike_same (unbind_causes (wire w) (Some (binding_seen w (Labels.name w n))))
-          (names.unbind_refusals w (w.home (Labels.name w n)) ((w.part (w.home (Labels.name w n))).stage (Labels.name w n)))
-          (unbind_stages w (Labels.name w n) (home_there w (Labels.name w n) i kept) ((w.part (w.home (Labels.name w n))).stage (Labels.name w n))));
+          (names.unbind_refusals w (w.endpoint_of (Labels.name w n)) ((w.part (w.endpoint_of (Labels.name w n))).stage (Labels.name w n)))
+          (unbind_stages w (Labels.name w n) (home_there w (Labels.name w n) i kept) ((w.part (w.endpoint_of (Labels.name w n))).stage (Labels.name w n))));
       result = λ k.
           ap (of_binding (λ b. results.unbind_by b b.stage)) (binding_found w n (not_true (Labels.is_binding w n) k.0))
-          ∙ unbound_by w (Labels.name w n) ((w.part (w.home (Labels.name w n))).stage (Labels.name w n));
+          ∙ unbound_by w (Labels.name w n) ((w.part (w.endpoint_of (Labels.name w n))).stage (Labels.name w n));
     }
 
 -- Going on with one.
 
 advance_stages :
     (w : World) (b : ℕ) → Invariant w → ((e : ℕ) → HasFront w.cookies (w.part e)) → ((e : ℕ) → Filings (w.part e)) → is_kept w b ≡ true
-    → (s : Stage) → (w.part (w.home b)).stage b ≡ s
-    → advance_by (wire w) (binding_seen w b) (stage_wire w.config.first (w.part (w.home b)) s) ≡ names.advance_refusals w (w.home b) b s
+    → (s : Stage) → (w.part (w.endpoint_of b)).stage b ≡ s
+    → advance_by (wire w) (binding_seen w b) (stage_wire w.config.first (w.part (w.endpoint_of b)) s) ≡ names.advance_refusals w (w.endpoint_of b) b s
 advance_stages w b i f fi h Unbound e = absurd (cc (sym (ap is_unreleased e) ∙ h))
 advance_stages w b i f fi h Released e = absurd (cc (sym (ap is_unreleased e) ∙ h))
 advance_stages w b i f fi h Quiet e = refl
-advance_stages w b i f fi h Live e = ap (λ c. c ∷ (true, refusal.NotYet) ∷ []) (reset_cause w (w.home b) (home_there w b i h))
-advance_stages w b i f fi h Lost e = ap (λ c. c ∷ (true, refusal.NotYet) ∷ []) (reset_cause w (w.home b) (home_there w b i h))
+advance_stages w b i f fi h Live e = ap (λ c. c ∷ (true, refusal.NotYet) ∷ []) (reset_cause w (w.endpoint_of b) (home_there w b i h))
+advance_stages w b i f fi h Lost e = ap (λ c. c ∷ (true, refusal.NotYet) ∷ []) (reset_cause w (w.endpoint_of b) (home_there w b i h))
 advance_stages w b i f fi h (Stopping marked) e =
     let l = home_there w b i h in
     λ k.
-    reset_cause w (w.home b) l k
+    reset_cause w (w.endpoint_of b) l k
     ∷ (not marked, refusal.NotYet)
-    ∷ ((ap (λ u. not (has_room u 1)) (unit_seen w (w.home b) l) ∙ room_there w.config.first 1 (w.part (w.home b))) k, refusal.QueueFull)
+    ∷ ((ap (λ u. not (has_room u 1)) (unit_seen w (w.endpoint_of b) l) ∙ room_there w.config.first 1 (w.part (w.endpoint_of b))) k, refusal.QueueFull)
     ∷ numbers_spent (wire w).next_cookie 1
     ∷ []
 advance_stages w b i f fi h (Draining wait) e =
     let l = home_there w b i h in
-    let d = (i.parts (w.home b)).orders.draining b wait e in
+    let d = (i.parts (w.endpoint_of b)).orders.draining b wait e in
     λ k.
-    reset_cause w (w.home b) l k
+    reset_cause w (w.endpoint_of b) l k
     ∷ (
-      not ((ap (λ u. is_wait_done u (cookie_number w.config.first ((w.part (w.home b)).order wait))) (unit_seen w (w.home b) l)
-          ∙ drained_there w.config.first w.cookies b wait (w.part (w.home b)) (f (w.home b)) (a_wait ((w.part (w.home b)).order wait) d.0) e) k)
-          || ((ap (λ p. has_open_group p (number w.config.first b)) (part_seen w (w.home b) l)
-          ∙ open_there w.config.first w.bindings b w.mappings (w.part (w.home b)) (i.parts (w.home b)).bounds (fi (w.home b))) k),
+      not ((ap (λ u. is_wait_done u (cookie_number w.config.first ((w.part (w.endpoint_of b)).order wait))) (unit_seen w (w.endpoint_of b) l)
+          ∙ drained_there w.config.first w.cookies b wait (w.part (w.endpoint_of b)) (f (w.endpoint_of b))
+              (a_wait ((w.part (w.endpoint_of b)).order wait) d.0) e) k)
+          || ((ap (λ p. has_open_group p (number w.config.first b)) (part_seen w (w.endpoint_of b) l)
+          ∙ open_there w.config.first w.bindings b w.mappings (w.part (w.endpoint_of b)) (i.parts (w.endpoint_of b)).bounds (fi (w.endpoint_of b))) k),
       refusal.NotYet,
     )
-    ∷ ((ap (λ u. not (has_room u 2)) (unit_seen w (w.home b) l) ∙ room_there w.config.first 2 (w.part (w.home b))) k, refusal.QueueFull)
+    ∷ ((ap (λ u. not (has_room u 2)) (unit_seen w (w.endpoint_of b) l) ∙ room_there w.config.first 2 (w.part (w.endpoint_of b))) k, refusal.QueueFull)
     ∷ numbers_spent (wire w).next_cookie 1
     ∷ []
   where
@@ -193,18 +194,18 @@ advance_stages w b i f fi h (Draining wait) e =
 advance_stages w b i f fi h (Invalidating invalidation wait) e =
     let l = home_there w b i h in
     λ k.
-    reset_cause w (w.home b) l k
+    reset_cause w (w.endpoint_of b) l k
     ∷ (
-      not ((ap (λ u. is_wait_done u (cookie_number w.config.first ((w.part (w.home b)).order wait))) (unit_seen w (w.home b) l)
-          ∙ invalidated_there w.config.first w.cookies b invalidation wait (w.part (w.home b)) (f (w.home b))
-          ((i.parts (w.home b)).orders.invalidating b invalidation wait e).2 e) k),
+      not ((ap (λ u. is_wait_done u (cookie_number w.config.first ((w.part (w.endpoint_of b)).order wait))) (unit_seen w (w.endpoint_of b) l)
+          ∙ invalidated_there w.config.first w.cookies b invalidation wait (w.part (w.endpoint_of b)) (f (w.endpoint_of b))
+          ((i.parts (w.endpoint_of b)).orders.invalidating b invalidation wait e).2 e) k),
       refusal.NotYet,
     )
     ∷ []
 
 advanced_by :
     (w : World) (b : ℕ) (s : Stage)
-    → results.advance_by (binding_seen w b) (stage_wire w.config.first (w.part (w.home b)) s) ≡ result_by w (advance_outcome w (w.home b) b s)
+    → results.advance_by (binding_seen w b) (stage_wire w.config.first (w.part (w.endpoint_of b)) s) ≡ result_by w (advance_outcome w (w.endpoint_of b) b s)
 advanced_by w b Lost = refl
 advanced_by w b Unbound = refl
 advanced_by w b Live = refl
@@ -220,12 +221,13 @@ advance_says w n i f fi =
     record {
       alike =
           of_number w n (advance_causes (wire w))
-          (names.advance_refusals w (w.home (Labels.name w n)) (Labels.name w n) ((w.part (w.home (Labels.name w n))).stage (Labels.name w n))) refl
+          (names.advance_refusals w (w.endpoint_of (Labels.name w n)) (Labels.name w n)
+              ((w.part (w.endpoint_of (Labels.name w n))).stage (Labels.name w n))) refl
           (λ e.
           alike_same (advance_causes (wire w) (Some (binding_seen w (Labels.name w n))))
-          (names.advance_refusals w (w.home (Labels.name w n)) (Labels.name w n) ((w.part (w.home (Labels.name w n))).stage (Labels.name w n)))
-          (advance_stages w (Labels.name w n) i f fi (binding_is w n e).kept ((w.part (w.home (Labels.name w n))).stage (Labels.name w n)) refl));
+          (names.advance_refusals w (w.endpoint_of (Labels.name w n)) (Labels.name w n) ((w.part (w.endpoint_of (Labels.name w n))).stage (Labels.name w n)))
+          (advance_stages w (Labels.name w n) i f fi (binding_is w n e).kept ((w.part (w.endpoint_of (Labels.name w n))).stage (Labels.name w n)) refl));
       result = λ k.
           ap (of_binding (λ b. results.advance_by b b.stage)) (binding_found w n (not_true (Labels.is_binding w n) k.0))
-          ∙ advanced_by w (Labels.name w n) ((w.part (w.home (Labels.name w n))).stage (Labels.name w n));
+          ∙ advanced_by w (Labels.name w n) ((w.part (w.endpoint_of (Labels.name w n))).stage (Labels.name w n));
     }

@@ -8,7 +8,7 @@ use Rattle.sva_model.specs.Words.{is_some, the}
 use Rattle.sva_model.specs.Message.{Code}
 use Rattle.sva_model.specs.State.{World}
 use Rattle.sva_model.specs.States.{is_open}
-use Rattle.sva_model.specs.Acts.{Act, Own, act}
+use Rattle.sva_model.specs.Acts.{Act, LocalAct, act}
 use Rattle.sva_model.specs.Replies as names
 use Rattle.sva_model.specs.Replies.{response, job_binding, job_space, job_asks, free_list}
 use Rattle.sva_model.specs.Refusals.{Cause, reply_refusals}
@@ -81,7 +81,7 @@ reply_alike w v i x (Some j) h =
 
 -- what is done once the pages are mapped
 abbrev then_acts : (worker endpoint group : ℕ) → Code → List Act
-then_acts x e g code = Act.LetGo x ∷ Act.At e (Own.Respond g code) ∷ []
+then_acts x e g code = Act.LetGo x ∷ Act.AtEndpoint e (LocalAct.Respond g code) ∷ []
 
 maps_moves :
     (x e g s : ℕ) (code : Code) (write : ℕ → Bool) (asks : List AskWire) → ((q : ℕ) → is_write_asked asks q ≡ write q)

@@ -9,7 +9,7 @@ use Rattle.sva_step.specs.declared.refusals.Refusal.TheVariants as refusal
 use Rattle.sva_step.specs.declared.steps.Step.TheVariants as step
 use Rattle.sva_model.specs.Words as words
 use Rattle.sva_model.specs.Words.{is_some, if_found, lowest, any_below, count_below, select}
-use Rattle.sva_model.specs.State.{Order, Part, World}
+use Rattle.sva_model.specs.State.{Order, Endpoint, World}
 use Rattle.sva_model.specs.State.Order.{RangeOf, PasidOf, Wait}
 use Rattle.sva_model.specs.State.OrderState.{Void}
 use Rattle.sva_model.specs.States.{Extent, is_queued, is_busy, is_wait}
@@ -85,19 +85,19 @@ count_is_none n p = go (any_below n p) refl
 
 -- Pump.
 
-queue_none : (first : ℕ) (p : Part) → Labels.is_queue_empty p ≡ true → (unit_wire first p).queue ≡ []
+queue_none : (first : ℕ) (p : Endpoint) → Labels.is_queue_empty p ≡ true → (unit_wire first p).queue ≡ []
 queue_none first p h =
     none_picked (λ k. descriptor first p (p.order k)) p.orders (λ k. is_queued (p.order_state k))
     (not_false (any_below p.orders (λ k. is_queued (p.order_state k))) h)
 
 queue_head :
-    (first : ℕ) (p : Part) → Labels.is_queue_empty p ≡ false
+    (first : ℕ) (p : Endpoint) → Labels.is_queue_empty p ≡ false
     → (rest : List Descriptor) × ((unit_wire first p).queue ≡ descriptor first p (p.order (Labels.head p)) ∷ rest)
 queue_head first p h =
     some_picked (λ k. descriptor first p (p.order k)) p.orders (λ k. is_queued (p.order_state k))
     (not_true (any_below p.orders (λ k. is_queued (p.order_state k))) h)
 
-head_kind : (first : ℕ) (p : Part) (o : Order) (rest : List Descriptor) → is_invalidation (descriptor first p o ∷ rest) ≡ not (is_wait o)
+head_kind : (first : ℕ) (p : Endpoint) (o : Order) (rest : List Descriptor) → is_invalidation (descriptor first p o ∷ rest) ≡ not (is_wait o)
 head_kind first p (RangeOf b r) rest = refl
 head_kind first p (PasidOf b) rest = refl
 head_kind first p (Wait c x) rest = refl
@@ -106,14 +106,14 @@ some_label : {A : Type 0} (o : Option A) → prelude.is_some o ≡ not (is_none 
 some_label None = refl
 some_label (Some a) = refl
 
-label_there : (first : ℕ) (p : Part) → prelude.is_some (lowest_label (unit_wire first p).busy) ≡ not (Labels.lowest_label 32 p.at_itag == 32)
+label_there : (first : ℕ) (p : Endpoint) → prelude.is_some (lowest_label (unit_wire first p).busy) ≡ not (Labels.lowest_label 32 p.at_itag == 32)
 label_there first p =
     some_label (lowest_label (unit_wire first p).busy)
     ∙ ap not
     (no_label 32 p.at_itag (λ t. option_map (λ k. busy_wire (p.order_state k)) (p.at_itag t))
     (λ t. seen_none (λ k. busy_wire (p.order_state k)) (p.at_itag t)))
 
-sends_there : (first : ℕ) (p : Part) → sends_invalidate (unit_wire first p) ≡ names.sends_invalidate p
+sends_there : (first : ℕ) (p : Endpoint) → sends_invalidate (unit_wire first p) ≡ names.sends_invalidate p
 sends_there first p = go (Labels.is_queue_empty p) refl
   where
     go :
@@ -125,7 +125,7 @@ sends_there first p = go (Labels.is_queue_empty p) refl
         (label_there first p)
 
 -- is an ITag busy?
-busy_there : (first m : ℕ) (p : Part) → Bounds m p → labels.Labels p → is_some_busy (unit_wire first p) ≡ Labels.is_some_busy p
+busy_there : (first m : ℕ) (p : Endpoint) → Bounds m p → labels.Labels p → is_some_busy (unit_wire first p) ≡ Labels.is_some_busy p
 busy_there first m p bo la =
     any_table 32 (λ t. option_map (λ k. busy_wire (p.order_state k)) (p.at_itag t)) prelude.is_some
     ∙ any_same 32 (λ t. prelude.is_some (option_map (λ k. busy_wire (p.order_state k)) (p.at_itag t))) (λ t. is_some (p.at_itag t))
@@ -150,7 +150,7 @@ busy_there first m p bo la =
         let at = la.bears_itag x.0 x.2 in
         any_below-intro 32 (λ t. is_some (p.at_itag t)) (p.itag x.0) (la.itag_low (p.itag x.0) x.0 at) (ap is_some at)
 
-pub page_queue_empty_there : (p : Part) → (length (page_queue_wire p) == 0) ≡ Labels.is_page_queue_empty p
+pub page_queue_empty_there : (p : Endpoint) → (length (page_queue_wire p) == 0) ≡ Labels.is_page_queue_empty p
 page_queue_empty_there p =
     ap (λ n. n == 0) (length_seen (λ k. page_request_wire p (p.arrival k)) p.arrivals (Labels.is_waiting p)) ∙ count_is_none p.arrivals (Labels.is_waiting p)
 

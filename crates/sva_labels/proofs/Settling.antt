@@ -5,20 +5,20 @@ use Rattle.std.specs.Prelude.{Some, None, Option, is_none, ◌&&◌, ◌||◌, �
 use Rattle.std.specs.List.{list_all}
 use Rattle.std.proofs.lemmas.Bool.Decides.{nat_tests}
 use Rattle.sva_model.specs.Words.{put, all_below, tabulate}
-use Rattle.sva_model.specs.State.{Owed, Mappings, Part, World, Order}
-use Rattle.sva_model.specs.State.Owed.{Nothing, Ranges, Pasid, AReset}
+use Rattle.sva_model.specs.State.{Owed, Mappings, Endpoint, World, Order}
+use Rattle.sva_model.specs.State.Owed.{Nothing, Ranges, Pasid, NextReset}
 use Rattle.sva_model.specs.State.MappingState.{Gone}
 use Rattle.sva_model.specs.State.Order.{RangeOf, PasidOf, Wait}
 use Rattle.sva_model.specs.State.OrderState.{Done}
 use Rattle.sva_model.specs.States.{is_done, is_wait, answered}
-use Rattle.sva_model.specs.Acts.{own, Own, act}
-use Rattle.sva_model.specs.Acts.Act.{At}
+use Rattle.sva_model.specs.Acts.{own, LocalAct, act}
+use Rattle.sva_model.specs.Acts.Act.{AtEndpoint}
 use Rattle.sva_model.specs.Wire.{TargetWire, cookie_number, target_of, target_wire, places_wire}
 use Rattle.sva_model.specs.Wire.PlaceWire.{FreeWire, WithheldWire}
 use Rattle.sva_model.specs.Wire.TargetWire.{Cookie, ResetEnd}
 use Rattle.sva_laws.specs.Waits.{FitsDebt}
 use Rattle.sva_laws.proofs.Words.{put-same, put-other, ℕ_cases}
-use Rattle.sva_laws.proofs.Legal.{LegalOwn}
+use Rattle.sva_laws.proofs.Legal.{LegalLocalAct}
 use Rattle.sva_laws.proofs.Bounds.{Bounds}
 use Rattle.sva_laws.proofs.Orders.{SentOnly}
 use Rattle.sva_laws.proofs.Fronts.{Fronts, AllFronts}
@@ -62,12 +62,12 @@ settled_place e settle targets h = go (list_all is_none targets) refl
         (ap (λ t. list_all is_none (slice_set targets e t)) (ap settle (none_at targets e k) ∙ h) ∙ none_set targets e k))
 
 settled_seen :
-    (w : World) (e : ℕ) (o : Own) (settle : Option TargetWire → Option TargetWire) (owed : ℕ → Owed) → settle None ≡ None
+    (w : World) (e : ℕ) (o : LocalAct) (settle : Option TargetWire → Option TargetWire) (owed : ℕ → Owed) → settle None ≡ None
     → e < w.config.endpoints → w.config.endpoints ≤ 8
     → target_wire w.config.first (own (w.part e) w.messages o) (owed e) ≡ settle (target_wire w.config.first (w.part e) (owed e))
-    → seen_by (act w (At e o)) (Gone owed) ≡ settled_at e settle (seen_by w (Gone owed))
+    → seen_by (act w (AtEndpoint e o)) (Gone owed) ≡ settled_at e settle (seen_by w (Gone owed))
 settled_seen w e o settle owed none l low h =
-    seen_targets (act w (At e o)) owed low
+    seen_targets (act w (AtEndpoint e o)) owed low
     ∙ ap place_for (tabulate_set 8 before after e (settle (before e)) here others)
     ∙ sym (ap (λ t. place_for (slice_set (tabulate 8 before) e (settle t))) (tabulate_at 8 before e None (omega (arith, l, low))))
     ∙ sym (settled_place e settle (tabulate 8 before) none)
@@ -93,13 +93,13 @@ settled_seen w e o settle owed none l low h =
         ap (λ p. if nat_lt x w.config.endpoints then target_wire w.config.first p (owed x) else None) (put-other w.part e (own (w.part e) w.messages o) x ne)
 
 pub settled_places :
-    (w : World) (e : ℕ) (o : Own) (settle : Option TargetWire → Option TargetWire) → settle None ≡ None → e < w.config.endpoints
+    (w : World) (e : ℕ) (o : LocalAct) (settle : Option TargetWire → Option TargetWire) → settle None ≡ None → e < w.config.endpoints
     → w.config.endpoints ≤ 8
     → ((m : ℕ) (owed : ℕ → Owed) → w.mappings.state m ≡ Gone owed → target_wire w.config.first (own (w.part e) w.messages o) (owed e)
     ≡ settle (target_wire w.config.first (w.part e) (owed e)))
-    → places_wire (act w (At e o)) ≡ settled e settle (places_wire w)
+    → places_wire (act w (AtEndpoint e o)) ≡ settled e settle (places_wire w)
 settled_places w e o settle none l low h =
-    places_changed w (act w (At e o)) (settled_at e settle) refl refl refl refl
+    places_changed w (act w (AtEndpoint e o)) (settled_at e settle) refl refl refl refl
     (λ m owed gone. settled_seen w e o settle owed none l low (h m owed gone))
 
 -- A wait that is done.
@@ -109,7 +109,7 @@ or_true a b h = grind arith
 
 -- the wait of another cookie
 other_cookie :
-    (cookies first : ℕ) (p : Part) (x k : ℕ) → Fronts cookies p → x < p.orders → k < p.orders → is_wait (p.order x) ≡ true
+    (cookies first : ℕ) (p : Endpoint) (x k : ℕ) → Fronts cookies p → x < p.orders → k < p.orders → is_wait (p.order x) ≡ true
     → is_wait (p.order k) ≡ true → x ≢ k → (cookie_number first (p.order x) == cookie_number first (p.order k)) ≡ false
 other_cookie cookies first p x k f mx mk wx wk ne = go (p.order x) (p.order k) refl refl wx wk
   where
@@ -129,9 +129,9 @@ other_cookie cookies first p x k f mx mk wx wk ne = go (p.order x) (p.order k) r
     go (PasidOf b) z h i t u = absurd (cc (t))
 
 pub pass_target :
-    (ms : Mappings) (g n cookies first : ℕ) (p : Part) (k : ℕ) (v : Owed) → LegalOwn ms g p (Own.Pass k) → Bounds g p → SentOnly p
-    → Fronts cookies p → FitsDebt p v → FitsDebt (own p n (Own.Pass k)) v
-    → target_wire first (own p n (Own.Pass k)) v ≡ settled_cookie (cookie_number first (p.order k)) (target_wire first p v)
+    (ms : Mappings) (g n cookies first : ℕ) (p : Endpoint) (k : ℕ) (v : Owed) → LegalLocalAct ms g p (LocalAct.Pass k) → Bounds g p → SentOnly p
+    → Fronts cookies p → FitsDebt p v → FitsDebt (own p n (LocalAct.Pass k)) v
+    → target_wire first (own p n (LocalAct.Pass k)) v ≡ settled_cookie (cookie_number first (p.order k)) (target_wire first p v)
 pass_target ms g n cookies first p k v l bo sent f before after = go (answered p v) refl
   where
     made : k < p.orders
@@ -143,68 +143,68 @@ pass_target ms g n cookies first p k v l bo sent f before after = go (answered p
         ≡ (if b then None else Some (Cookie (cookie_number first (p.order x))))
     by_cookie x b h = ap (λ z. if z then None else Some (Cookie (cookie_number first (p.order x)))) h
 
-    now_done : (x : ℕ) → x ≡ k → (own p n (Own.Pass k)).order_state x ≡ Done
+    now_done : (x : ℕ) → x ≡ k → (own p n (LocalAct.Pass k)).order_state x ≡ Done
     now_done x e = ap (put p.order_state k Done) e ∙ put-same p.order_state k Done
 
-    not_yet : (x : ℕ) → x ≢ k → p.order_state x ≢ Done → (own p n (Own.Pass k)).order_state x ≢ Done
+    not_yet : (x : ℕ) → x ≢ k → p.order_state x ≢ Done → (own p n (LocalAct.Pass k)).order_state x ≢ Done
     not_yet x ne nd h = nd (sym (put-other p.order_state k Done x ne) ∙ h)
 
     silent :
-        (v : Owed) → FitsDebt p v → FitsDebt (own p n (Own.Pass k)) v → answered p v ≡ false
-        → target_wire first (own p n (Own.Pass k)) v ≡ settled_cookie (cookie_number first (p.order k)) (Some (target_of first p v))
+        (v : Owed) → FitsDebt p v → FitsDebt (own p n (LocalAct.Pass k)) v → answered p v ≡ false
+        → target_wire first (own p n (LocalAct.Pass k)) v ≡ settled_cookie (cookie_number first (p.order k)) (Some (target_of first p v))
     silent Nothing d a h = absurd (cc (h))
     silent (Ranges range count resets) d a h = which (ℕ_cases (range + count) k) (ranges_open p range count resets d.1 h)
       where
         which :
             (range + count ≡ k) ⊎ (range + count ≢ k) → (resets ≡ p.resets) × (p.order_state (range + count) ≢ Done)
-            → target_wire first (own p n (Own.Pass k)) (Ranges range count resets)
+            → target_wire first (own p n (LocalAct.Pass k)) (Ranges range count resets)
             ≡ settled_cookie (cookie_number first (p.order k)) (Some (Cookie (cookie_number first (p.order (range + count)))))
         which (inl e) z =
             ap (λ b. if b then None else Some (Cookie (cookie_number first (p.order (range + count)))))
-            (or_true (all_below (suc count) (λ j. is_done ((own p n (Own.Pass k)).order_state (range + j)))) (nat_lt resets p.resets)
-            (done_answers (own p n (Own.Pass k)) range count resets a.1 z.0 (now_done (range + count) e)))
+            (or_true (all_below (suc count) (λ j. is_done ((own p n (LocalAct.Pass k)).order_state (range + j)))) (nat_lt resets p.resets)
+            (done_answers (own p n (LocalAct.Pass k)) range count resets a.1 z.0 (now_done (range + count) e)))
             ∙ sym (by_cookie (range + count) true
             (is_same (cookie_number first (p.order (range + count))) (cookie_number first (p.order k)) (ap (λ y. cookie_number first (p.order y)) e)))
         which (inr ne) z =
             ap (λ b. if b then None else Some (Cookie (cookie_number first (p.order (range + count)))))
-            (ranges_wait (own p n (Own.Pass k)) range count resets z.0 (not_yet (range + count) ne z.1))
+            (ranges_wait (own p n (LocalAct.Pass k)) range count resets z.0 (not_yet (range + count) ne z.1))
             ∙ sym (by_cookie (range + count) false (other_cookie cookies first p (range + count) k f d.1.made made d.1.is_a_wait l.2 ne))
     silent (Pasid j x resets true) d a h = absurd (d.2 refl (pasid_open p j x resets true d.1 h).0 l.0)
     silent (Pasid j x resets false) d a h = which (ℕ_cases x k) (pasid_open p j x resets false d.1 h)
       where
         which :
             (x ≡ k) ⊎ (x ≢ k) → (resets ≡ p.resets) × (p.order_state x ≢ Done)
-            → target_wire first (own p n (Own.Pass k)) (Pasid j x resets false)
+            → target_wire first (own p n (LocalAct.Pass k)) (Pasid j x resets false)
             ≡ settled_cookie (cookie_number first (p.order k)) (Some (Cookie (cookie_number first (p.order x))))
         which (inl e) z =
             ap (λ b. if b then None else Some (Cookie (cookie_number first (p.order x))))
-            (or_true (is_done ((own p n (Own.Pass k)).order_state j) && is_done ((own p n (Own.Pass k)).order_state x)) (nat_lt resets p.resets)
-            (both_done ((own p n (Own.Pass k)).order_state j) ((own p n (Own.Pass k)).order_state x)
+            (or_true (is_done ((own p n (LocalAct.Pass k)).order_state j) && is_done ((own p n (LocalAct.Pass k)).order_state x)) (nat_lt resets p.resets)
+            (both_done ((own p n (LocalAct.Pass k)).order_state j) ((own p n (LocalAct.Pass k)).order_state x)
             (a.1.done z.0 (now_done x e) j (omega arith) a.1.low) (now_done x e)))
             ∙ sym (by_cookie x true
             (is_same (cookie_number first (p.order x)) (cookie_number first (p.order k)) (ap (λ y. cookie_number first (p.order y)) e)))
         which (inr ne) z =
             ap (λ b. if b then None else Some (Cookie (cookie_number first (p.order x))))
-            (pasid_waits (own p n (Own.Pass k)) j x resets false z.0 (not_yet x ne z.1))
+            (pasid_waits (own p n (LocalAct.Pass k)) j x resets false z.0 (not_yet x ne z.1))
             ∙ sym (by_cookie x false (other_cookie cookies first p x k f d.1.made made d.1.is_a_wait l.2 ne))
-    silent (AReset resets) d a h = ap (λ b. if b then None else Some ResetEnd) h
+    silent (NextReset resets) d a h = ap (λ b. if b then None else Some ResetEnd) h
 
     go :
         (b : Bool) → answered p v ≡ b
-        → target_wire first (own p n (Own.Pass k)) v ≡ settled_cookie (cookie_number first (p.order k)) (if b then None else Some (target_of first p v))
-    go true h = ap (λ b. if b then None else Some (target_of first (own p n (Own.Pass k)) v)) (answered_own ms g n p (Own.Pass k) l sent bo v h)
+        → target_wire first (own p n (LocalAct.Pass k)) v ≡ settled_cookie (cookie_number first (p.order k)) (if b then None else Some (target_of first p v))
+    go true h = ap (λ b. if b then None else Some (target_of first (own p n (LocalAct.Pass k)) v)) (answered_own ms g n p (LocalAct.Pass k) l sent bo v h)
     go false h = silent v before after h
 
 pub places_passed :
-    (w : World) (e k : ℕ) → Legal w (At e (Own.Pass k)) → Invariant w → AllFronts w → AllDebts w → w.config.endpoints ≤ 8
-    → places_wire (act w (At e (Own.Pass k))) ≡ settled e (settled_cookie (cookie_number w.config.first ((w.part e).order k))) (places_wire w)
+    (w : World) (e k : ℕ) → Legal w (AtEndpoint e (LocalAct.Pass k)) → Invariant w → AllFronts w → AllDebts w → w.config.endpoints ≤ 8
+    → places_wire (act w (AtEndpoint e (LocalAct.Pass k))) ≡ settled e (settled_cookie (cookie_number w.config.first ((w.part e).order k))) (places_wire w)
 places_passed w e k l i fronts debts low =
-    settled_places w e (Own.Pass k) (settled_cookie (cookie_number w.config.first ((w.part e).order k))) refl l.0 low
+    settled_places w e (LocalAct.Pass k) (settled_cookie (cookie_number w.config.first ((w.part e).order k))) refl l.0 low
     (λ m owed gone.
     pass_target w.mappings w.bindings w.messages w.cookies w.config.first (w.part e) k (owed e) l.1.0 (i.parts e).bounds (i.parts e).labels.sent
     (fronts e) (debts m e owed gone)
-    (subst (λ p. FitsDebt p (owed e)) (put-same w.part e (own (w.part e) w.messages (Own.Pass k)))
-    (act_debts w (At e (Own.Pass k)) l i fronts debts m e owed gone)))
+    (subst (λ p. FitsDebt p (owed e)) (put-same w.part e (own (w.part e) w.messages (LocalAct.Pass k)))
+    (act_debts w (AtEndpoint e (LocalAct.Pass k)) l i fronts debts m e owed gone)))
 
 -- A reset-done.
 
@@ -214,20 +214,20 @@ later a b l = grind (arith, nat_tests)
 right_true : (a b : Bool) → b ≡ true → (a || b) ≡ true
 right_true a b h = grind arith
 
-reopen_answers : (n : ℕ) (p : Part) (c : ℕ) (v : Owed) → FitsDebt p v → answered (own p n (Own.Reopen c)) v ≡ true
+reopen_answers : (n : ℕ) (p : Endpoint) (c : ℕ) (v : Owed) → FitsDebt p v → answered (own p n (LocalAct.Reopen c)) v ≡ true
 reopen_answers n p c Nothing d = refl
 reopen_answers n p c (Ranges range count resets) d =
-    right_true (all_below (suc count) (λ j. is_done ((own p n (Own.Reopen c)).order_state (range + j)))) (nat_lt resets (suc p.resets))
+    right_true (all_below (suc count) (λ j. is_done ((own p n (LocalAct.Reopen c)).order_state (range + j)))) (nat_lt resets (suc p.resets))
     (later resets p.resets d.1.counted)
 reopen_answers n p c (Pasid k x resets in_reset) d =
-    right_true (is_done ((own p n (Own.Reopen c)).order_state k) && is_done ((own p n (Own.Reopen c)).order_state x)) (nat_lt resets (suc p.resets))
+    right_true (is_done ((own p n (LocalAct.Reopen c)).order_state k) && is_done ((own p n (LocalAct.Reopen c)).order_state x)) (nat_lt resets (suc p.resets))
     (later resets p.resets d.1.counted)
-reopen_answers n p c (AReset resets) d = later resets p.resets d.0
+reopen_answers n p c (NextReset resets) d = later resets p.resets d.0
 
 pub places_reopened :
-    (w : World) (e c : ℕ) → Legal w (At e (Own.Reopen c)) → Invariant w → AllDebts w → w.config.endpoints ≤ 8
-    → places_wire (act w (At e (Own.Reopen c))) ≡ settled e (λ target. None) (places_wire w)
+    (w : World) (e c : ℕ) → Legal w (AtEndpoint e (LocalAct.Reopen c)) → Invariant w → AllDebts w → w.config.endpoints ≤ 8
+    → places_wire (act w (AtEndpoint e (LocalAct.Reopen c))) ≡ settled e (λ target. None) (places_wire w)
 places_reopened w e c l i debts low =
-    settled_places w e (Own.Reopen c) (λ target. None) refl l.0 low
-    (λ m owed gone. ap (λ b. if b then None else Some (target_of w.config.first (own (w.part e) w.messages (Own.Reopen c)) (owed e)))
+    settled_places w e (LocalAct.Reopen c) (λ target. None) refl l.0 low
+    (λ m owed gone. ap (λ b. if b then None else Some (target_of w.config.first (own (w.part e) w.messages (LocalAct.Reopen c)) (owed e)))
     (reopen_answers w.messages (w.part e) c (owed e) (debts m e owed gone)))

@@ -5,7 +5,7 @@ use Rattle.std.proofs.lemmas.Bool.Decides.{nat_tests}
 use Rattle.std.proofs.lemmas.Option.{same_Some}
 use mathlib.Core.List.{map-append}
 use Rattle.sva_model.specs.Words.{select, is_some, the}
-use Rattle.sva_model.specs.State.{Mappings, Part, Stage}
+use Rattle.sva_model.specs.State.{Mappings, Endpoint, Stage}
 use Rattle.sva_model.specs.States.{is_unreleased}
 use Rattle.sva_model.specs.Wire.{TranslationWire, insert_by, sorted_by, is_before, cached_wire, cache_wire}
 use Rattle.sva_laws.proofs.Words.{some_the}
@@ -124,11 +124,11 @@ keys_apart t q u r ne h = grind (arith, nat_tests)
 active_unreleased : (s : Stage) → is_active s ≡ true → is_unreleased s ≡ true
 active_unreleased s h = grind arith
 
-one_bearer : (p : Part) (b d : ℕ) → p.at_pasid (p.pasid b) ≡ Some b → p.at_pasid (p.pasid d) ≡ Some d → p.pasid b ≡ p.pasid d → b ≡ d
+one_bearer : (p : Endpoint) (b d : ℕ) → p.at_pasid (p.pasid b) ≡ Some b → p.at_pasid (p.pasid d) ≡ Some d → p.pasid b ≡ p.pasid d → b ≡ d
 one_bearer p b d h k e = let z : p.at_pasid (p.pasid b) ≡ p.at_pasid (p.pasid d) = ap p.at_pasid e in cc
 
 cached_apart :
-    (ms : Mappings) (x g n e : ℕ) (p : Part) (j k : ℕ) → PartInvariant ms x g n e p → j < k → is_some (p.held j) ≡ true → is_some (p.held k) ≡ true
+    (ms : Mappings) (x g n e : ℕ) (p : Endpoint) (j k : ℕ) → PartInvariant ms x g n e p → j < k → is_some (p.held j) ≡ true → is_some (p.held k) ≡ true
     → AreApart (cached_wire ms p j) (cached_wire ms p k)
 cached_apart ms x g n e p j k i l s t =
     keys_apart (p.pasid (p.request_binding j)) (p.request_page j) (p.pasid (p.request_binding k)) (p.request_page k) (λ a b. absurd (apart a b))
@@ -144,7 +144,7 @@ cached_apart ms x g n e p j k i l s t =
         absurd (omega (arith, l, same))
 
 pub cache_rising :
-    (ms : Mappings) (x g n e : ℕ) (p : Part) → PartInvariant ms x g n e p → (j k : ℕ) (a b : TranslationWire) → j < k
+    (ms : Mappings) (x g n e : ℕ) (p : Endpoint) → PartInvariant ms x g n e p → (j k : ℕ) (a b : TranslationWire) → j < k
     → slice_get (cache_wire ms p) j ≡ Some a → slice_get (cache_wire ms p) k ≡ Some b
     → is_before a b ≡ true
 cache_rising ms x g n e p i j k a b l h m =

@@ -4,11 +4,11 @@ use Rattle.std.specs.Prelude.{Option, Some, None, option_map, length, slice_get}
 use Rattle.std.specs.Prelude.{is_some}
 use Rattle.std.specs.List.{find}
 use Rattle.sva_model.specs.Words as words
-use Rattle.sva_model.specs.State.{Part, World, Stage, Phase, About, GroupState, PageRequestState}
+use Rattle.sva_model.specs.State.{Endpoint, World, Stage, Phase, Subject, GroupState, PageRequestState}
 use Rattle.sva_model.specs.State.Phase.{Open, Ordered, Cleared}
 use Rattle.sva_model.specs.State.PageRequestState.{Arrived}
-use Rattle.sva_model.specs.State.About.{StartOf, StopOf, ResetOrder, CompletionOf, InvalidateOf, ResponseOf, RequestOf, InvalidatedOf, PageRequestOf}
-use Rattle.sva_model.specs.State.About.{MarkerOf, ResetDone}
+use Rattle.sva_model.specs.State.Subject.{StartOf, StopOf, FunctionReset, CompletionOf, InvalidateOf, ResponseOf, RequestOf, InvalidatedOf, PageRequestOf}
+use Rattle.sva_model.specs.State.Subject.{MarkerOf, ResetDone}
 use Rattle.sva_model.specs.States.{is_open, is_unreleased, is_before_invalidating, is_arrived, is_outstanding}
 use Rattle.sva_model.specs.Acts.{binding_of}
 use Rattle.sva_model.specs.Labels.{outstanding, is_waiting}
@@ -46,7 +46,7 @@ unmarked_unreleased s h = grind arith
 before_unreleased : (s : Stage) → is_before_invalidating s ≡ true → is_unreleased s ≡ true
 before_unreleased s h = grind arith
 
-opened_is : (p : Part) → is_open p.phase ≡ true → p.phase ≡ Open
+opened_is : (p : Endpoint) → is_open p.phase ≡ true → p.phase ≡ Open
 opened_is p h = grind arith
 
 open_here : (w : World) (e : ℕ) → e < w.config.endpoints → (unit_of (wire w) e).is_open ≡ true → (w.part e).phase ≡ Open
@@ -61,14 +61,14 @@ answerable_out : (s : GroupState) → is_answerable s ≡ true → is_outstandin
 answerable_out s h = grind arith
 
 suits :
-    (w : World) (e c : ℕ) → Invariant w → IsCarried w.mappings (w.part e) → outstanding (w.part e) ≤ 32 → e < w.config.endpoints → (a : About)
+    (w : World) (e c : ℕ) → Invariant w → IsCarried w.mappings (w.part e) → outstanding (w.part e) ≤ 32 → e < w.config.endpoints → (a : Subject)
     → (w.part e).message c ≡ Some a
     → Suits (wire w) e ((w.part e).carried c)
 suits w e c i ca most l (StartOf b) h =
     subst (Suits (wire w) e) (sym (ca.start c b h)) (borne w e b i (unmarked_unreleased ((w.part e).stage b) ((i.parts e).bindings.start_stage c b h)))
 suits w e c i ca most l (StopOf b) h =
     subst (Suits (wire w) e) (sym (ca.stop c b h)) (borne w e b i (ap is_unreleased ((i.parts e).bindings.stop_stage c b h)))
-suits w e c i ca most l ResetOrder h = subst (Suits (wire w) e) (sym (ca.reset c h)) (shut_here w e l (ap is_open ((i.parts e).resets.down c h)))
+suits w e c i ca most l FunctionReset h = subst (Suits (wire w) e) (sym (ca.reset c h)) (shut_here w e l (ap is_open ((i.parts e).resets.down c h)))
 suits w e c i ca most l (CompletionOf r (Some m)) h = subst (Suits (wire w) e) (sym (ca.completion c r m h)) tt
 suits w e c i ca most l (CompletionOf r None) h = subst (Suits (wire w) e) (sym (ca.no_translation c r h)) tt
 suits w e c i ca most l (InvalidateOf k) h =
@@ -107,14 +107,14 @@ suits w e c i ca most l (MarkerOf b) h =
 suits w e c i ca most l ResetDone h = subst (Suits (wire w) e) (sym (ca.reset_done c h)) (shut_here w e l (ap is_open ((i.parts e).resets.up c h)))
 
 abbrev pub IsFlyingAt : World → (k : ℕ) → FlightWire → Type 0
-IsFlyingAt w k f = IsSeen w.messages (λ c. words.is_some ((w.part (w.way c)).message c)) (flight_wire w) k f
+IsFlyingAt w k f = IsSeen w.messages (λ c. words.is_some ((w.part (w.link_of c)).message c)) (flight_wire w) k f
 
 pub flying_at : (w : World) (k : ℕ) (f : FlightWire) → slice_get (wire w).in_flight k ≡ Some f → IsFlyingAt w k f
-flying_at w k f h = seen_get w.messages (λ c. words.is_some ((w.part (w.way c)).message c)) (flight_wire w) k f h
+flying_at w k f h = seen_get w.messages (λ c. words.is_some ((w.part (w.link_of c)).message c)) (flight_wire w) k f h
 
 pub flight_near : (w : World) → Invariant w → (k : ℕ) (f : FlightWire) → IsFlyingAt w k f → f.endpoint < length (wire w).parts
 flight_near w i k f x =
-    let l : w.way x.of < w.config.endpoints = (i.parts (w.way x.of)).near x.of x.passes in
+    let l : w.link_of x.of < w.config.endpoints = (i.parts (w.link_of x.of)).near x.of x.passes in
     subst (λ n. f.endpoint < n) (sym (endpoints_seen w)) (subst (λ e. e < w.config.endpoints) (sym (ap (λ z. z.endpoint) x.seen)) l)
 
 pub flight_suited :
@@ -125,9 +125,9 @@ flight_suited w i ca most k f x =
     subst (λ z. Suits (wire w) z.endpoint z.message) (sym x.seen) (go ((w.part e).message x.of) refl x.passes)
   where
     e : ℕ
-    e = w.way x.of
+    e = w.link_of x.of
 
-    go : (o : Option About) → (w.part e).message x.of ≡ o → words.is_some o ≡ true → Suits (wire w) e ((w.part e).carried x.of)
+    go : (o : Option Subject) → (w.part e).message x.of ≡ o → words.is_some o ≡ true → Suits (wire w) e ((w.part e).carried x.of)
     go None h s = absurd (cc (s))
     go (Some a) h s = suits w e x.of i (ca e) (most e) ((i.parts e).near x.of (ap words.is_some h)) a h
 

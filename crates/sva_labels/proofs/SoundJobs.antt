@@ -5,7 +5,7 @@ use Rattle.std.specs.List.{list_any}
 use Rattle.sva_step.specs.declared.steps.Verdict.TheVariants as verdict
 use Rattle.sva_model.specs.Words as words
 use Rattle.sva_model.specs.Words.{count_below}
-use Rattle.sva_model.specs.State.{Part, World, Stage, Phase, HostGroupState, PageRequestState, Mappings}
+use Rattle.sva_model.specs.State.{Endpoint, World, Stage, Phase, HostGroupState, PageRequestState, Mappings}
 use Rattle.sva_model.specs.State.Stage.{Unbound}
 use Rattle.sva_model.specs.State.PageRequestState.{Arrived}
 use Rattle.sva_model.specs.State.HostGroupState.{Job, InHand, InHandDiscarded}
@@ -71,14 +71,14 @@ job_kept s h = grind arith
 held_kept : (s : HostGroupState) (x : ℕ) → IsHeldBy s x → is_kept_group s ≡ true
 held_kept s x h = grind arith
 
-group_made : (m : ℕ) (p : Part) → Bounds m p → (g : ℕ) → is_filed_group (p.host_group g) ≡ true → g < p.groups
+group_made : (m : ℕ) (p : Endpoint) → Bounds m p → (g : ℕ) → is_filed_group (p.host_group g) ≡ true → g < p.groups
 group_made m p bo g h = grind (arith, bo.host_group g)
 
 -- what is filed of a group is something, and no more than 32 requests
-asks_count : (p : Part) (g : ℕ) → length (asks_wire p g) ≡ count_below p.filings (λ k. filed_group p k == g)
+asks_count : (p : Endpoint) (g : ℕ) → length (asks_wire p g) ≡ count_below p.filings (λ k. filed_group p k == g)
 asks_count p g = ap length (asks_seen p g) ∙ length_seen (λ k. ask_wire p (p.filing k)) p.filings (λ k. filed_group p k == g)
 
-some_asked : (p : Part) (g : ℕ) → Filings p → is_filed_group (p.host_group g) ≡ true → 0 < length (asks_wire p g)
+some_asked : (p : Endpoint) (g : ℕ) → Filings p → is_filed_group (p.host_group g) ≡ true → 0 < length (asks_wire p g)
 some_asked p g fi h =
     let f = fi.begun g h in
     let one =
@@ -87,7 +87,7 @@ some_asked p g fi h =
     let many = asks_count p g in
     omega (arith, one, many)
 
-few_asked : (m : ℕ) (p : Part) (g : ℕ) → Bounds m p → Filings p → FiledOnce p → Sized p → length (asks_wire p g) ≤ 32
+few_asked : (m : ℕ) (p : Endpoint) (g : ℕ) → Bounds m p → Filings p → FiledOnce p → Sized p → length (asks_wire p g) ≤ 32
 few_asked m p g bo fi once si =
     let placed =
     count_placed p.filings p.page_requests (λ k. filed_group p k == g) (λ r. p.group_of r == g) p.filing
@@ -169,7 +169,7 @@ held_job w i fi once si x job h =
 -- Open groups of a binding.
 
 none_such :
-    (p : Part) (d : ℕ) → ((g : ℕ) → is_open_group (p.host_group g) ≡ true → p.filed_under g ≡ d → ⊥) → Labels.has_open_group p d ≡ false
+    (p : Endpoint) (d : ℕ) → ((g : ℕ) → is_open_group (p.host_group g) ≡ true → p.filed_under g ≡ d → ⊥) → Labels.has_open_group p d ≡ false
 none_such p d h =
     none_below p.groups (λ g. is_open_group (p.host_group g) && p.filed_under g == d)
     (λ g l. not_both (is_open_group (p.host_group g) && p.filed_under g == d)
@@ -192,15 +192,15 @@ none_open w e d i shut = none_such (w.part e) d (λ g o s. go g o s (is_open (w.
         absurd (cc (sym (shut ph) ∙ ap (λ z. is_before_invalidating ((w.part e).stage z)) (sym s) ∙ ((i.parts e).groups.open_group g ph o).1))
 
 -- nor at another endpoint than the binding's
-none_elsewhere : (w : World) (e d : ℕ) → Invariant w → w.home d ≢ e → Labels.has_open_group (w.part e) d ≡ false
-none_elsewhere w e d i ne = none_such (w.part e) d (λ g o s. absurd (ne (home g o s)))
+none_elsewhere : (w : World) (e d : ℕ) → Invariant w → w.endpoint_of d ≢ e → Labels.has_open_group (w.part e) d ≡ false
+none_elsewhere w e d i ne = none_such (w.part e) d (λ g o s. absurd (ne (endpoint_of g o s)))
   where
-    home : (g : ℕ) → is_open_group ((w.part e).host_group g) ≡ true → (w.part e).filed_under g ≡ d → w.home d ≡ e
-    home g o s =
+    endpoint_of : (g : ℕ) → is_open_group ((w.part e).host_group g) ≡ true → (w.part e).filed_under g ≡ d → w.endpoint_of d ≡ e
+    endpoint_of g o s =
         let filed = open_filed ((w.part e).host_group g) o in
         let under = (i.parts e).groups.under g filed in
         let made = group_made w.bindings (w.part e) (i.parts e).bounds g filed in
-        ap w.home (sym s ∙ under) ∙ i.homed e ((w.part e).asker g) ((i.parts e).groups.asker_bound g made)
+        ap w.endpoint_of (sym s ∙ under) ∙ i.homed e ((w.part e).asker g) ((i.parts e).groups.asker_bound g made)
 
 none_seen :
     (w : World) (e d : ℕ) → Invariant w → Filings (w.part e) → e < w.config.endpoints → Labels.has_open_group (w.part e) d ≡ false
@@ -215,7 +215,7 @@ pub open_at_home :
     → has_open_group (part_of (wire w) e) b.binding ≡ false
 open_at_home w i fi k e b x ne = go (less_or_not e w.config.endpoints)
   where
-    away : w.home x.of ≢ e
+    away : w.endpoint_of x.of ≢ e
     away h = absurd (cc (sym ne ∙ is_same e b.endpoint (sym (ap (λ z. z.endpoint) x.seen ∙ h))))
 
     go : (e < w.config.endpoints) ⊎ (w.config.endpoints ≤ e) → has_open_group (part_of (wire w) e) b.binding ≡ false
@@ -277,7 +277,7 @@ arrived_is s h = grind arith
 
 -- so no group that is a job, or was one and is in a hand, is of its binding and index
 none_kept :
-    (ms : Mappings) (x m n e : ℕ) (p : Part) (y g : ℕ) → PartInvariant ms x m n e p → p.page_request y ≡ Arrived → is_kept_group (p.host_group g) ≡ true
+    (ms : Mappings) (x m n e : ℕ) (p : Endpoint) (y g : ℕ) → PartInvariant ms x m n e p → p.page_request y ≡ Arrived → is_kept_group (p.host_group g) ≡ true
     → p.filed_under g ≡ p.asker (p.group_of y) → p.index g ≡ p.index (p.group_of y)
     → ⊥
 none_kept ms x m n e p y g i ar k under index = by (is_open p.phase) refl

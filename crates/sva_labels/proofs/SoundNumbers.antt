@@ -5,7 +5,7 @@ use Rattle.sva_step.specs.declared.limits.Config.{Config}
 use Rattle.sva_step.specs.declared.steps.Step.{Step}
 use Rattle.sva_model.specs.State.{PasidRule, World}
 use Rattle.sva_model.specs.Acts.{Act, act, sends, cookies_of}
-use Rattle.sva_model.specs.Acts.Act.{NewSpace, DropSpace, Map, Unmap, NewBinding, NewJob, Hold, LetGo, At}
+use Rattle.sva_model.specs.Acts.Act.{NewSpace, DropSpace, Map, Unmap, NewBinding, NewJob, Hold, LetGo, AtEndpoint}
 use Rattle.sva_model.specs.Steps.{world_after}
 use Rattle.sva_model.specs.Claims.{Fits}
 use Rattle.sva_laws.proofs.Invariant.{Invariant}
@@ -57,7 +57,7 @@ numbers_kept w (Unmap s q count order) l g i h =
       cookies_end =
           more (2 ^ 63) w.config.first w.cookies _ g.1;
     }
-numbers_kept w (At e o) l g i h =
+numbers_kept w (AtEndpoint e o) l g i h =
     record {
       spaces_end = h.spaces_end;
       bindings_end = h.bindings_end;

@@ -5,15 +5,15 @@ use Rattle.std.proofs.lemmas.Bool.Decides.{nat_tests}
 use Rattle.sva_step.specs.declared.limits.Config.{Config}
 use Rattle.sva_step.specs.declared.steps.Step.{Step}
 use Rattle.sva_model.specs.Words.{count_below}
-use Rattle.sva_model.specs.State.{PasidRule, Mappings, Part, World}
+use Rattle.sva_model.specs.State.{PasidRule, Mappings, Endpoint, World}
 use Rattle.sva_model.specs.States.{is_queued}
-use Rattle.sva_model.specs.Acts.{Act, Own, act, own, submitted, submitted_if, submits, bound, cookie_of}
-use Rattle.sva_model.specs.Acts.Act.{NewSpace, DropSpace, Map, Unmap, NewBinding, NewJob, Hold, LetGo, At}
+use Rattle.sva_model.specs.Acts.{Act, LocalAct, act, own, submitted, submitted_if, submits, bound, cookie_of}
+use Rattle.sva_model.specs.Acts.Act.{NewSpace, DropSpace, Map, Unmap, NewBinding, NewJob, Hold, LetGo, AtEndpoint}
 use Rattle.sva_model.specs.Labels.{queue_length}
 use Rattle.sva_model.specs.Steps.{world_after}
 use Rattle.sva_model.specs.Wire.{end_number, unit_wire, descriptor}
 use Rattle.sva_laws.proofs.Counting.{bit_most, count_next, count_less}
-use Rattle.sva_laws.proofs.Legal.{LegalOwn}
+use Rattle.sva_laws.proofs.Legal.{LegalLocalAct}
 use Rattle.sva_laws.proofs.Cookies.{submits_there}
 use Rattle.sva_laws.proofs.Invariant.{Invariant}
 use Rattle.sva_laws.proofs.Keeps.{Legal, put_keeps}
@@ -34,27 +34,27 @@ count_added n (suc s) f g h =
     omega (arith, rest, e, count_next (n + s) f, bit_most (f (n + s)))
 
 -- how many descriptors an act of an endpoint submits
-abbrev added : Own → ℕ
-added (Own.Drain b cookie) = 1
-added (Own.Invalidate b cookie) = 2
+abbrev added : LocalAct → ℕ
+added (LocalAct.Drain b cookie) = 1
+added (LocalAct.Invalidate b cookie) = 2
 added _ = 0
 
 queued_before :
-    (ms : Mappings) (g n : ℕ) (p : Part) (o : Own) → LegalOwn ms g p o → (k : ℕ) → k < p.orders → is_queued ((own p n o).order_state k) ≡ true
+    (ms : Mappings) (g n : ℕ) (p : Endpoint) (o : LocalAct) → LegalLocalAct ms g p o → (k : ℕ) → k < p.orders → is_queued ((own p n o).order_state k) ≡ true
     → is_queued (p.order_state k) ≡ true
 queued_before ms g n p o l k lt h = grind (arith, nat_tests)
 
-orders_after : (p : Part) (n : ℕ) (o : Own) → (own p n o).orders ≡ p.orders + added o
-orders_after p n (Own.Drain b cookie) = omega arith
-orders_after p n (Own.Invalidate b cookie) = omega arith
+orders_after : (p : Endpoint) (n : ℕ) (o : LocalAct) → (own p n o).orders ≡ p.orders + added o
+orders_after p n (LocalAct.Drain b cookie) = omega arith
+orders_after p n (LocalAct.Invalidate b cookie) = omega arith
 orders_after p n o = grind arith
 
-has_place : (ms : Mappings) (g : ℕ) (p : Part) (o : Own) → LegalOwn ms g p o → queue_length p ≤ 64 → queue_length p + added o ≤ 64
-has_place ms g p (Own.Drain b cookie) l h = let r = l.2 in omega (arith, r)
-has_place ms g p (Own.Invalidate b cookie) l h = let r = l.2 in omega (arith, r)
+has_place : (ms : Mappings) (g : ℕ) (p : Endpoint) (o : LocalAct) → LegalLocalAct ms g p o → queue_length p ≤ 64 → queue_length p + added o ≤ 64
+has_place ms g p (LocalAct.Drain b cookie) l h = let r = l.2 in omega (arith, r)
+has_place ms g p (LocalAct.Invalidate b cookie) l h = let r = l.2 in omega (arith, r)
 has_place ms g p o l h = grind arith
 
-own_short : (ms : Mappings) (g n : ℕ) (p : Part) (o : Own) → LegalOwn ms g p o → queue_length p ≤ 64 → queue_length (own p n o) ≤ 64
+own_short : (ms : Mappings) (g n : ℕ) (p : Endpoint) (o : LocalAct) → LegalLocalAct ms g p o → queue_length p ≤ 64 → queue_length (own p n o) ≤ 64
 own_short ms g n p o l h =
     subst (λ k. count_below k (λ j. is_queued ((own p n o).order_state j)) ≤ 64) (sym (orders_after p n o))
     (let m = count_added p.orders (added o) (λ j. is_queued ((own p n o).order_state j)) (λ j. is_queued (p.order_state j))
@@ -63,12 +63,12 @@ own_short ms g n p o l h =
     omega (arith, m, r))
 
 submitted_before :
-    (p : Part) (b q count order cookie k : ℕ) → k < p.orders → is_queued ((submitted p b q count order cookie).order_state k) ≡ true
+    (p : Endpoint) (b q count order cookie k : ℕ) → k < p.orders → is_queued ((submitted p b q count order cookie).order_state k) ≡ true
     → is_queued (p.order_state k) ≡ true
 submitted_before p b q count order cookie k lt h = grind (arith, nat_tests)
 
 submitted_short :
-    (t : Bool) (p : Part) (o : Option ℕ) (q count order cookie : ℕ) → (t ≡ true → queue_length p + suc count ≤ 64) → queue_length p ≤ 64
+    (t : Bool) (p : Endpoint) (o : Option ℕ) (q count order cookie : ℕ) → (t ≡ true → queue_length p + suc count ≤ 64) → queue_length p ≤ 64
     → queue_length (submitted_if t p o q count order cookie) ≤ 64
 submitted_short true p (Some b) q count order cookie room h =
     let m = count_added p.orders (suc count) (λ j. is_queued ((submitted p b q count order cookie).order_state j)) (λ j. is_queued (p.order_state j))
@@ -93,14 +93,14 @@ short_kept w (NewBinding e) l g i h = h
 short_kept w (NewJob e y) l g i h = h
 short_kept w (Hold x j) l g i h = h
 short_kept w (LetGo x) l g i h = h
-short_kept w (At e o) l g i h =
+short_kept w (AtEndpoint e o) l g i h =
     put_keeps (λ k p. queue_length p ≤ 64) w.part e (own (w.part e) w.messages o) (own_short w.mappings w.bindings w.messages (w.part e) o l.1.0 (h e)) h
 
 pub always_short : (rule : PasidRule) (config : Config) (steps : List Step) → AllShort (world_after rule config steps)
 unfolding count_below
 always_short rule config steps = always_has AllShort short_kept rule config steps (λ e. omega arith)
 
-pub queue_short : (first : ℕ) (p : Part) → queue_length p ≤ 64 → length (unit_wire first p).queue ≤ 64
+pub queue_short : (first : ℕ) (p : Endpoint) → queue_length p ≤ 64 → length (unit_wire first p).queue ≤ 64
 queue_short first p h = subst (λ n. n ≤ 64) (sym (length_seen (λ k. descriptor first p (p.order k)) p.orders (λ k. is_queued (p.order_state k)))) h
 
 -- the numbers after the last of so many

@@ -6,18 +6,18 @@ use Rattle.std.proofs.lemmas.Bool.Decides.{nat_tests}
 use Rattle.sva_step.specs.declared.limits.Config.{Config}
 use Rattle.sva_step.specs.declared.steps.Step.{Step}
 use Rattle.sva_model.specs.Words.{count_below}
-use Rattle.sva_model.specs.State.{PasidRule, Mappings, Part, World, PageRequestState}
+use Rattle.sva_model.specs.State.{PasidRule, Mappings, Endpoint, World, PageRequestState}
 use Rattle.sva_model.specs.State.PageRequestState.{InFlight, Arrived, Filed, Dropped}
-use Rattle.sva_model.specs.State.About.{PageRequestOf}
+use Rattle.sva_model.specs.State.Subject.{PageRequestOf}
 use Rattle.sva_model.specs.State.Phase.{Open}
 use Rattle.sva_model.specs.States.{is_arrived, is_outstanding}
-use Rattle.sva_model.specs.Acts.{Act, Own, act, own, submitted_if, submits, bound, cookie_of}
-use Rattle.sva_model.specs.Acts.Act.{NewSpace, DropSpace, Map, Unmap, NewBinding, NewJob, Hold, LetGo, At}
+use Rattle.sva_model.specs.Acts.{Act, LocalAct, act, own, submitted_if, submits, bound, cookie_of}
+use Rattle.sva_model.specs.Acts.Act.{NewSpace, DropSpace, Map, Unmap, NewBinding, NewJob, Hold, LetGo, AtEndpoint}
 use Rattle.sva_model.specs.Labels.{outstanding, is_waiting}
 use Rattle.sva_model.specs.Steps.{world_after}
 use Rattle.sva_model.specs.Wire.{page_request_wire, page_queue_wire, ask_wire, asks_wire}
 use Rattle.sva_laws.proofs.Counting.{count_off, count_placed}
-use Rattle.sva_laws.proofs.Legal.{LegalOwn}
+use Rattle.sva_laws.proofs.Legal.{LegalLocalAct}
 use Rattle.sva_laws.proofs.PageRequests.{Queued}
 use Rattle.sva_laws.proofs.Invariant.{Invariant, PartInvariant}
 use Rattle.sva_laws.proofs.Keeps.{Legal, put_keeps}
@@ -28,32 +28,33 @@ use Rattle.sva_labels.proofs.LookedLists.{length_seen}
 
 -- Each request is filed once.
 
-pub record FiledOnce (p : Part) : Type 0 where
+pub record FiledOnce (p : Endpoint) : Type 0 where
   pub filed : (k : ℕ) → k < p.filings → p.page_request (p.filing k) ≡ Filed
   pub once : (j k : ℕ) → j < p.filings → k < p.filings → p.filing j ≡ p.filing k → j ≡ k
 
 filed_kept :
-    (ms : Mappings) (g n : ℕ) (p : Part) (o : Own) → LegalOwn ms g p o → Queued p
+    (ms : Mappings) (g n : ℕ) (p : Endpoint) (o : LocalAct) → LegalLocalAct ms g p o → Queued p
     → (p.page_requests ≤ p.page_requests → p.page_request p.page_requests ≡ Dropped) → (k : ℕ) → (k < p.filings → p.page_request (p.filing k) ≡ Filed)
     → k < (own p n o).filings
     → (own p n o).page_request ((own p n o).filing k) ≡ Filed
 filed_kept ms g n p o l qu un k old h = grind (arith, nat_tests, qu.in_flight)
 
 once_kept :
-    (ms : Mappings) (g n : ℕ) (p : Part) (o : Own) → LegalOwn ms g p o → (j k : ℕ) → (j < p.filings → p.page_request (p.filing j) ≡ Filed)
+    (ms : Mappings) (g n : ℕ) (p : Endpoint) (o : LocalAct) → LegalLocalAct ms g p o → (j k : ℕ) → (j < p.filings → p.page_request (p.filing j) ≡ Filed)
     → (k < p.filings → p.page_request (p.filing k) ≡ Filed) → (j < p.filings → k < p.filings → p.filing j ≡ p.filing k → j ≡ k)
     → j < (own p n o).filings → k < (own p n o).filings → (own p n o).filing j ≡ (own p n o).filing k
     → j ≡ k
 once_kept ms g n p o l j k fj fk old hj hk e = grind (arith, nat_tests)
 
-own_once : (ms : Mappings) (x g n e : ℕ) (p : Part) (o : Own) → LegalOwn ms g p o → PartInvariant ms x g n e p → FiledOnce p → FiledOnce (own p n o)
+own_once : (ms : Mappings) (x g n e : ℕ) (p : Endpoint) (o : LocalAct) → LegalLocalAct ms g p o → PartInvariant ms x g n e p → FiledOnce p
+    → FiledOnce (own p n o)
 own_once ms x g n e p o l i fi =
     record {
       filed = λ k h. filed_kept ms g n p o l i.queued (i.bounds.page_request p.page_requests) k (fi.filed k) h;
       once = λ j k hj hk s. once_kept ms g n p o l j k (fi.filed j) (fi.filed k) (fi.once j k) hj hk s;
     }
 
-submitted_once : (t : Bool) (p : Part) (o : Option ℕ) (q count order cookie : ℕ) → FiledOnce p → FiledOnce (submitted_if t p o q count order cookie)
+submitted_once : (t : Bool) (p : Endpoint) (o : Option ℕ) (q count order cookie : ℕ) → FiledOnce p → FiledOnce (submitted_if t p o q count order cookie)
 submitted_once true p (Some b) q count order cookie fi = record { filed = fi.filed; once = fi.once }
 submitted_once true p None q count order cookie fi = fi
 submitted_once false p o q count order cookie fi = fi
@@ -70,7 +71,7 @@ all_kept w (NewBinding e) l g i h = h
 all_kept w (NewJob e y) l g i h = h
 all_kept w (Hold x j) l g i h = h
 all_kept w (LetGo x) l g i h = h
-all_kept w (At e o) l g i h =
+all_kept w (AtEndpoint e o) l g i h =
     put_keeps (λ k p. FiledOnce p) w.part e (own (w.part e) w.messages o)
     (own_once w.mappings w.config.endpoints w.bindings w.messages e (w.part e) o l.1.0 (i.parts e) (h e)) h
 
@@ -79,13 +80,13 @@ always_once rule config steps = always_has AllOnce all_kept rule config steps (�
 
 -- Outstanding ones but for one of them are fewer than 32.
 
-abbrev is_out : Part → ℕ → Bool
+abbrev is_out : Endpoint → ℕ → Bool
 is_out p x = is_outstanding (p.group (p.group_of x))
 
-abbrev others_out : Part → (page_request : ℕ) → ℕ → Bool
+abbrev others_out : Endpoint → (page_request : ℕ) → ℕ → Bool
 others_out p r x = is_out p x && not (x == r)
 
-fewer : (p : Part) (r : ℕ) → r < p.page_requests → is_out p r ≡ true → outstanding p ≤ 32 → count_below p.page_requests (others_out p r) < 32
+fewer : (p : Endpoint) (r : ℕ) → r < p.page_requests → is_out p r ≡ true → outstanding p ≤ 32 → count_below p.page_requests (others_out p r) < 32
 fewer p r l out most =
     let off : outstanding p ≡ suc (count_below p.page_requests (others_out p r)) =
     count_off p.page_requests (is_out p) (others_out p r) r l out (itself (is_out p r) (r == r) (is_same r r refl))
@@ -116,7 +117,7 @@ filed_apart s h k = absurd (cc (sym h ∙ k))
 
 -- one that is to arrive
 pub arrival_short :
-    (ms : Mappings) (x g n e : ℕ) (p : Part) (c r : ℕ) → PartInvariant ms x g n e p → outstanding p ≤ 32 → p.phase ≡ Open
+    (ms : Mappings) (x g n e : ℕ) (p : Endpoint) (c r : ℕ) → PartInvariant ms x g n e p → outstanding p ≤ 32 → p.phase ≡ Open
     → p.message c ≡ Some (PageRequestOf r)
     → length (page_queue_wire p) < 32
 arrival_short ms x g n e p c r i most ph h =
@@ -141,7 +142,7 @@ arrival_short ms x g n e p c r i most ph h =
 
 -- one that is to be filed
 pub filing_short :
-    (ms : Mappings) (x g n e : ℕ) (p : Part) (r : ℕ) → PartInvariant ms x g n e p → FiledOnce p → outstanding p ≤ 32 → p.phase ≡ Open
+    (ms : Mappings) (x g n e : ℕ) (p : Endpoint) (r : ℕ) → PartInvariant ms x g n e p → FiledOnce p → outstanding p ≤ 32 → p.phase ≡ Open
     → p.page_request r ≡ Arrived
     → length (asks_wire p (p.group_of r)) < 32
 filing_short ms x g n e p r i fi most ph ar =

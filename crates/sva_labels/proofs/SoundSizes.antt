@@ -5,22 +5,22 @@ use Rattle.std.proofs.lemmas.Bool.Decides.{nat_tests}
 use Rattle.sva_step.specs.declared.limits.Config.{Config}
 use Rattle.sva_step.specs.declared.steps.Step.{Step}
 use Rattle.sva_model.specs.Words.{put, count_below}
-use Rattle.sva_model.specs.State.{PasidRule, Mappings, Part, World}
+use Rattle.sva_model.specs.State.{PasidRule, Mappings, Endpoint, World}
 use Rattle.sva_model.specs.States.{is_outstanding}
-use Rattle.sva_model.specs.Acts.{Act, Own, act, own, submitted_if, submits, bound, cookie_of}
-use Rattle.sva_model.specs.Acts.Act.{NewSpace, DropSpace, Map, Unmap, NewBinding, NewJob, Hold, LetGo, At}
+use Rattle.sva_model.specs.Acts.{Act, LocalAct, act, own, submitted_if, submits, bound, cookie_of}
+use Rattle.sva_model.specs.Acts.Act.{NewSpace, DropSpace, Map, Unmap, NewBinding, NewJob, Hold, LetGo, AtEndpoint}
 use Rattle.sva_model.specs.Labels
 use Rattle.sva_model.specs.Steps.{world_after}
 use Rattle.sva_laws.proofs.Words.{put-same, put-other}
 use Rattle.sva_laws.proofs.Counting.{count_same, count_less, count_zero}
-use Rattle.sva_laws.proofs.Legal.{LegalOwn}
+use Rattle.sva_laws.proofs.Legal.{LegalLocalAct}
 use Rattle.sva_laws.proofs.Bounds.{Bounds}
 use Rattle.sva_laws.proofs.Invariant.{Invariant}
 use Rattle.sva_laws.proofs.Keeps.{Legal, put_keeps}
 use Rattle.sva_wire.proofs.Pages.{same_is, is_other}
 use Rattle.sva_labels.proofs.Granted.{IsGranted, always_has}
 
-pub record Sized (p : Part) : Type 0 where
+pub record Sized (p : Endpoint) : Type 0 where
   pub few : (y : ℕ) → count_below p.page_requests (λ r. p.group_of r == y) ≤ 32
   pub index_low : (y : ℕ) → p.index y < 32
 
@@ -36,7 +36,7 @@ one_more n f g same now h = go (g n) refl
 
 -- the first request of a new group
 begun_few :
-    (p : Part) (y : ℕ) → ((r : ℕ) → r < p.page_requests → p.group_of r < p.groups) → count_below p.page_requests (λ r. p.group_of r == y) ≤ 32
+    (p : Endpoint) (y : ℕ) → ((r : ℕ) → r < p.page_requests → p.group_of r < p.groups) → count_below p.page_requests (λ r. p.group_of r == y) ≤ 32
     → count_below (suc p.page_requests) (λ r. put p.group_of p.page_requests p.groups r == y) ≤ 32
 begun_few p y made h =
     one_more p.page_requests (λ r. p.group_of r == y) (λ r. put p.group_of p.page_requests p.groups r == y)
@@ -51,7 +51,7 @@ begun_few p y made h =
 
 -- one more of a group that isn't finished: all of it are outstanding
 added_few :
-    (p : Part) (z y : ℕ) → is_outstanding (p.group z) ≡ true → Labels.outstanding p < 32 → count_below p.page_requests (λ r. p.group_of r == y) ≤ 32
+    (p : Endpoint) (z y : ℕ) → is_outstanding (p.group z) ≡ true → Labels.outstanding p < 32 → count_below p.page_requests (λ r. p.group_of r == y) ≤ 32
     → count_below (suc p.page_requests) (λ r. put p.group_of p.page_requests z r == y) ≤ 32
 added_few p z y out most h =
     one_more p.page_requests (λ r. p.group_of r == y) (λ r. put p.group_of p.page_requests z r == y)
@@ -64,24 +64,24 @@ added_few p z y out most h =
     h
 
 few_kept :
-    (ms : Mappings) (g n : ℕ) (p : Part) (o : Own) → LegalOwn ms g p o → Bounds g p → (y : ℕ)
+    (ms : Mappings) (g n : ℕ) (p : Endpoint) (o : LocalAct) → LegalLocalAct ms g p o → Bounds g p → (y : ℕ)
     → count_below p.page_requests (λ r. p.group_of r == y) ≤ 32
     → count_below (own p n o).page_requests (λ r. (own p n o).group_of r == y) ≤ 32
-few_kept ms g n p (Own.Group b i q r x l) lo bo y h = begun_few p y bo.group_of h
-few_kept ms g n p (Own.Request z q r x l) lo bo y h = added_few p z y (ap is_outstanding lo.0) lo.2 h
+few_kept ms g n p (LocalAct.Group b i q r x l) lo bo y h = begun_few p y bo.group_of h
+few_kept ms g n p (LocalAct.Request z q r x l) lo bo y h = added_few p z y (ap is_outstanding lo.0) lo.2 h
 few_kept ms g n p _ lo bo y h = h
 
-index_kept : (ms : Mappings) (g n : ℕ) (p : Part) (o : Own) → LegalOwn ms g p o → (y : ℕ) → p.index y < 32 → (own p n o).index y < 32
+index_kept : (ms : Mappings) (g n : ℕ) (p : Endpoint) (o : LocalAct) → LegalLocalAct ms g p o → (y : ℕ) → p.index y < 32 → (own p n o).index y < 32
 index_kept ms g n p o l y h = grind (arith, nat_tests)
 
-own_sized : (ms : Mappings) (g n : ℕ) (p : Part) (o : Own) → LegalOwn ms g p o → Bounds g p → Sized p → Sized (own p n o)
+own_sized : (ms : Mappings) (g n : ℕ) (p : Endpoint) (o : LocalAct) → LegalLocalAct ms g p o → Bounds g p → Sized p → Sized (own p n o)
 own_sized ms g n p o l bo h =
     record {
       few = λ y. few_kept ms g n p o l bo y (h.few y);
       index_low = λ y. index_kept ms g n p o l y (h.index_low y);
     }
 
-submitted_sized : (t : Bool) (p : Part) (o : Option ℕ) (q count order cookie : ℕ) → Sized p → Sized (submitted_if t p o q count order cookie)
+submitted_sized : (t : Bool) (p : Endpoint) (o : Option ℕ) (q count order cookie : ℕ) → Sized p → Sized (submitted_if t p o q count order cookie)
 submitted_sized true p (Some b) q count order cookie h = record { few = h.few; index_low = h.index_low }
 submitted_sized true p None q count order cookie h = h
 submitted_sized false p o q count order cookie h = h
@@ -98,7 +98,7 @@ all_kept w (NewBinding e) l g i h = h
 all_kept w (NewJob e y) l g i h = h
 all_kept w (Hold x j) l g i h = h
 all_kept w (LetGo x) l g i h = h
-all_kept w (At e o) l g i h =
+all_kept w (AtEndpoint e o) l g i h =
     put_keeps (λ k p. Sized p) w.part e (own (w.part e) w.messages o)
     (own_sized w.mappings w.bindings w.messages (w.part e) o l.1.0 (i.parts e).bounds (h e)) h
 

@@ -7,9 +7,9 @@ use Rattle.std.proofs.lemmas.List.{length-map}
 use Rattle.sva_step.specs.declared.limits.Config.{Config}
 use Rattle.sva_step.specs.declared.steps.Step.{Step}
 use Rattle.sva_model.specs.Words.{put, count_below, select, is_some}
-use Rattle.sva_model.specs.State.{PasidRule, Mappings, Part, World}
-use Rattle.sva_model.specs.Acts.{Act, Own, act, own, submitted_if, submits, bound, cookie_of, is_replaced, none_if}
-use Rattle.sva_model.specs.Acts.Act.{NewSpace, DropSpace, Map, Unmap, NewBinding, NewJob, Hold, LetGo, At}
+use Rattle.sva_model.specs.State.{PasidRule, Mappings, Endpoint, World}
+use Rattle.sva_model.specs.Acts.{Act, LocalAct, act, own, submitted_if, submits, bound, cookie_of, is_replaced, none_if}
+use Rattle.sva_model.specs.Acts.Act.{NewSpace, DropSpace, Map, Unmap, NewBinding, NewJob, Hold, LetGo, AtEndpoint}
 use Rattle.sva_model.specs.Outcomes.{is_full}
 use Rattle.sva_model.specs.Steps.{world_after}
 use Rattle.sva_model.specs.Wire.{insert_by, sorted_by, is_before, cached_wire, cache_wire}
@@ -23,7 +23,7 @@ use Rattle.sva_labels.proofs.Granted.{IsGranted, HasRoom, always_has}
 
 -- How many are cached.
 
-abbrev pub cached_count : Part → ℕ
+abbrev pub cached_count : Endpoint → ℕ
 cached_count p = count_below p.requests (λ r. is_some (p.held r))
 
 bit_none : bit false ≡ 0
@@ -49,29 +49,29 @@ one_beside (suc n) c f g h = go (ℕ_cases n c) (one_beside n c f g h)
         let same = bit_less (f n) (g n) (h n ne) in
         omega (arith, rest, count_next n f, count_next n g, same)
 
-abbrev keeps : Own → Bool
-keeps (Own.Keep c r m) = true
+abbrev keeps : LocalAct → Bool
+keeps (LocalAct.Keep c r m) = true
 keeps _ = false
 
-abbrev asked : Own → ℕ
-asked (Own.Ask b q t) = 1
+abbrev asked : LocalAct → ℕ
+asked (LocalAct.Ask b q t) = 1
 asked _ = 0
 
-requests_after : (p : Part) (n : ℕ) (o : Own) → (own p n o).requests ≡ p.requests + asked o
-requests_after p n (Own.Ask b q t) = omega arith
+requests_after : (p : Endpoint) (n : ℕ) (o : LocalAct) → (own p n o).requests ≡ p.requests + asked o
+requests_after p n (LocalAct.Ask b q t) = omega arith
 requests_after p n o = grind arith
 
-held_before : (p : Part) (n : ℕ) (o : Own) → keeps o ≡ false → (r : ℕ) → is_some ((own p n o).held r) ≡ true → is_some (p.held r) ≡ true
+held_before : (p : Endpoint) (n : ℕ) (o : LocalAct) → keeps o ≡ false → (r : ℕ) → is_some ((own p n o).held r) ≡ true → is_some (p.held r) ≡ true
 held_before p n o k r h = grind (arith, nat_tests)
 
 unmade_none : (o : Option ℕ) → o ≡ None → is_some o ≡ false
 unmade_none o h = ap is_some h
 
-not_full : (p : Part) (r : ℕ) → is_full p r ≡ false → count_below p.requests (λ x. is_some (p.held x) && not (is_replaced p r x)) < 64
+not_full : (p : Endpoint) (r : ℕ) → is_full p r ≡ false → count_below p.requests (λ x. is_some (p.held x) && not (is_replaced p r x)) < 64
 not_full p r h = grind (arith, nat_tests)
 
 kept_before :
-    (p : Part) (r m x : ℕ) → x ≢ r → is_some (put (λ y. none_if (is_replaced p r y) (p.held y)) r (Some m) x) ≡ true
+    (p : Endpoint) (r m x : ℕ) → x ≢ r → is_some (put (λ y. none_if (is_replaced p r y) (p.held y)) r (Some m) x) ≡ true
     → (is_some (p.held x) && not (is_replaced p r x)) ≡ true
 kept_before p r m x ne h = go (is_replaced p r x) (p.held x) (sym (ap is_some (put-other (λ y. none_if (is_replaced p r y) (p.held y)) r (Some m) x ne)) ∙ h)
   where
@@ -80,8 +80,8 @@ kept_before p r m x ne h = go (is_replaced p r x) (p.held x) (sym (ap is_some (p
     go false (Some y) k = refl
     go false None k = absurd (cc (k))
 
-own_cached : (g n : ℕ) (p : Part) (o : Own) (b : Bool) → keeps o ≡ b → HasRoom p o → Bounds g p → cached_count p ≤ 64 → cached_count (own p n o) ≤ 64
-own_cached g n p (Own.Keep c r m) true k room bo h =
+own_cached : (g n : ℕ) (p : Endpoint) (o : LocalAct) (b : Bool) → keeps o ≡ b → HasRoom p o → Bounds g p → cached_count p ≤ 64 → cached_count (own p n o) ≤ 64
+own_cached g n p (LocalAct.Keep c r m) true k room bo h =
     let few = one_beside p.requests r (λ x. is_some (put (λ y. none_if (is_replaced p r y) (p.held y)) r (Some m) x))
     (λ x. is_some (p.held x) && not (is_replaced p r x)) (λ x ne t. kept_before p r m x ne t) in
     let less = not_full p r room in
@@ -94,7 +94,7 @@ own_cached g n p o false k room bo h =
     omega (arith, less, same, h))
 
 submitted_cached :
-    (t : Bool) (p : Part) (o : Option ℕ) (q count order cookie : ℕ) → cached_count p ≤ 64
+    (t : Bool) (p : Endpoint) (o : Option ℕ) (q count order cookie : ℕ) → cached_count p ≤ 64
     → cached_count (submitted_if t p o q count order cookie) ≤ 64
 submitted_cached true p (Some b) q count order cookie h = h
 submitted_cached true p None q count order cookie h = h
@@ -112,7 +112,7 @@ cached_kept w (NewBinding e) l g i h = h
 cached_kept w (NewJob e y) l g i h = h
 cached_kept w (Hold x j) l g i h = h
 cached_kept w (LetGo x) l g i h = h
-cached_kept w (At e o) l g i h =
+cached_kept w (AtEndpoint e o) l g i h =
     put_keeps (λ k p. cached_count p ≤ 64) w.part e (own (w.part e) w.messages o)
     (own_cached w.bindings w.messages (w.part e) o (keeps o) refl g.room (i.parts e).bounds (h e)) h
 
@@ -133,7 +133,7 @@ sorted_length : {A : Type 0} (below : A → A → Bool) (xs : List A) → length
 sorted_length below [] = refl
 sorted_length below (x ∷ xs) = insert_length below x (sorted_by below xs) ∙ ap suc (sorted_length below xs)
 
-pub cache_short : (ms : Mappings) (p : Part) → cached_count p ≤ 64 → length (cache_wire ms p) ≤ 64
+pub cache_short : (ms : Mappings) (p : Endpoint) → cached_count p ≤ 64 → length (cache_wire ms p) ≤ 64
 cache_short ms p h =
     subst (λ n. n ≤ 64)
     (sym (sorted_length is_before (map (cached_wire ms p) (select p.requests (λ r. is_some (p.held r))))

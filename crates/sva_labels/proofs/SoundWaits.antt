@@ -4,8 +4,8 @@ use Rattle.std.proofs.Common.{◌≡◌, ◌≢◌, ◌⊎◌, inl, inr, refl, a
 use Rattle.std.specs.Prelude.{Option, Some, None, nat_lt, if◌then◌else◌, slice_get, slice_index_or}
 use Rattle.std.proofs.lemmas.Bool.Decides.{nat_tests}
 use Rattle.sva_model.specs.Words.{all_below, tabulate}
-use Rattle.sva_model.specs.State.{Owed, MappingState, Part, World, Stage, Order, OrderState}
-use Rattle.sva_model.specs.State.Owed.{Nothing, Ranges, Pasid, AReset}
+use Rattle.sva_model.specs.State.{Owed, MappingState, Endpoint, World, Stage, Order, OrderState}
+use Rattle.sva_model.specs.State.Owed.{Nothing, Ranges, Pasid, NextReset}
 use Rattle.sva_model.specs.State.MappingState.{Unmade, Present, Gone}
 use Rattle.sva_model.specs.State.Stage.{Unbound, Live, Stopping, Draining, Invalidating, Quiet, Lost, Released}
 use Rattle.sva_model.specs.State.Order.{RangeOf, PasidOf, Wait}
@@ -36,17 +36,17 @@ use Rattle.sva_labels.proofs.Withholding.{target_at}
 
 -- a wait that is queued stands in the queue
 wait_stands :
-    (first : ℕ) (p : Part) (k c : ℕ) (x : Bool) → k < p.orders → p.order k ≡ Wait c x → p.order_state k ≡ Queued
+    (first : ℕ) (p : Endpoint) (k c : ℕ) (x : Bool) → k < p.orders → p.order k ≡ Wait c x → p.order_state k ≡ Queued
     → HasWait (unit_wire first p) (number first c)
 wait_stands first p k c x l o q =
     let r = seen_there p.orders (λ j. is_queued (p.order_state j)) (λ j. descriptor first p (p.order j)) k l (ap is_queued q) in
     record { place = r.0; drain = x; stands = r.1 ∙ ap (λ z. Some (descriptor first p z)) o }
 
-opened_is : (p : Part) → is_open p.phase ≡ true → p.phase ≡ Open
+opened_is : (p : Endpoint) → is_open p.phase ≡ true → p.phase ≡ Open
 opened_is p h = grind arith
 
 -- what is awaited at an open unit
-queued_there : (first : ℕ) (p : Part) (k c : ℕ) → p.phase ≡ Open → IsAwaited p k → c ≡ cookie_number first (p.order k) → HasWait (unit_wire first p) c
+queued_there : (first : ℕ) (p : Endpoint) (k c : ℕ) → p.phase ≡ Open → IsAwaited p k → c ≡ cookie_number first (p.order k) → HasWait (unit_wire first p) c
 queued_there first p k c ph (l, d, x, o, f, s) e = go s
   where
     go : (p.order_state k ≡ Queued) ⊎ ((p.order_state k ≡ Void) × (p.phase ≢ Open)) → HasWait (unit_wire first p) c
@@ -57,17 +57,17 @@ same_cookie : (c d : ℕ) → Some (Cookie c) ≡ Some (Cookie d) → c ≡ d
 same_cookie c d h = cc
 
 owed_stands :
-    (first : ℕ) (p : Part) (v : Owed) (c : ℕ) → p.phase ≡ Open → AwaitsTarget p v → Some (target_of first p v) ≡ Some (Cookie c)
+    (first : ℕ) (p : Endpoint) (v : Owed) (c : ℕ) → p.phase ≡ Open → AwaitsTarget p v → Some (target_of first p v) ≡ Some (Cookie c)
     → HasWait (unit_wire first p) c
 owed_stands first p Nothing c ph a h = absurd a
 owed_stands first p (Ranges k count resets) c ph a h =
     queued_there first p (k + count) c ph a (sym (same_cookie (cookie_number first (p.order (k + count))) c h))
 owed_stands first p (Pasid k x resets false) c ph a h = queued_there first p x c ph a (sym (same_cookie (cookie_number first (p.order x)) c h))
 owed_stands first p (Pasid k x resets true) c ph a h = absurd (a ph)
-owed_stands first p (AReset resets) c ph a h = absurd (a ph)
+owed_stands first p (NextReset resets) c ph a h = absurd (a ph)
 
 target_stands :
-    (first n : ℕ) (p : Part) (v : Owed) (c : ℕ) → p.phase ≡ Open → (answered p v ≡ false → AwaitsTarget p v) → target_wire first p v ≡ Some (Cookie c)
+    (first n : ℕ) (p : Endpoint) (v : Owed) (c : ℕ) → p.phase ≡ Open → (answered p v ≡ false → AwaitsTarget p v) → target_wire first p v ≡ Some (Cookie c)
     → HasWait (unit_wire first p) c
 target_stands first n p v c ph a h = go (answered p v) refl h
   where
@@ -130,7 +130,7 @@ queued_or_done : (z : OrderState) → is_queued_or_done z ≡ true → is_done z
 queued_or_done z h i = grind arith
 
 invalidating_waits :
-    (first n : ℕ) (p : Part) (b j k c : ℕ) → Orders p → Fronts n p → p.phase ≡ Open → p.stage b ≡ Invalidating j k
+    (first n : ℕ) (p : Endpoint) (b j k c : ℕ) → Orders p → Fronts n p → p.phase ≡ Open → p.stage b ≡ Invalidating j k
     → c ≡ cookie_number first (p.order k) → is_wait_done (unit_wire first p) c ≡ false
     → HasWait (unit_wire first p) c
 invalidating_waits first n p b j k c or f ph st e h = go (p.order k) refl (or.invalidating b j k st).2
@@ -150,7 +150,7 @@ invalidating_waits first n p b j k c or f ph st e h = go (p.order k) refl (or.in
 
 -- by its stage as a host keeps it
 stage_waits :
-    (first n : ℕ) (p : Part) (b c : ℕ) → Orders p → Fronts n p → p.phase ≡ Open → (s : Stage) → p.stage b ≡ s
+    (first n : ℕ) (p : Endpoint) (b c : ℕ) → Orders p → Fronts n p → p.phase ≡ Open → (s : Stage) → p.stage b ≡ s
     → stage_wire first p s ≡ InvalidatingWire c → is_wait_done (unit_wire first p) c ≡ false
     → HasWait (unit_wire first p) c
 stage_waits first n p b c or f ph (Invalidating j k) st h d =
@@ -183,7 +183,7 @@ invalidating_stands w i fs k c b x st op nd =
     (sym (ap (λ u. is_wait_done u c) seen) ∙ nd))
   where
     e : ℕ
-    e = w.home x.of
+    e = w.endpoint_of x.of
 
     seen : unit_of (wire w) b.endpoint ≡ unit_wire w.config.first (w.part e)
     seen = ap (unit_of (wire w)) (ap (λ z. z.endpoint) x.seen) ∙ unit_seen w e ((i.parts e).there x.of (unreleased_bound (w.part e) x.of x.passes))

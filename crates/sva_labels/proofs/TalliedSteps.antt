@@ -8,17 +8,17 @@ use Rattle.sva_step.specs.declared.steps.Verdict.{Verdict}
 use Rattle.sva_model.specs.Words.{the, any_below}
 use Rattle.sva_model.specs.Message.{Code}
 use Rattle.sva_model.specs.Message.Code.{SuccessCode, InvalidCode, FailureCode}
-use Rattle.sva_model.specs.State.{Part, World, Stage, Order, About, GroupState, RequestState}
+use Rattle.sva_model.specs.State.{Endpoint, World, Stage, Order, Subject, GroupState, RequestState}
 use Rattle.sva_model.specs.State.Stage.{Unbound, Live, Stopping, Draining, Invalidating, Quiet, Lost, Released}
 use Rattle.sva_model.specs.State.Order.{RangeOf, PasidOf, Wait}
 use Rattle.sva_model.specs.State.RequestState.{Out, Doomed, Over}
-use Rattle.sva_model.specs.State.GroupState.{Unfinished, Awaiting, Stale, Finished}
-use Rattle.sva_model.specs.State.About.{StartOf, StopOf, ResetOrder, CompletionOf, InvalidateOf, ResponseOf, RequestOf, InvalidatedOf, PageRequestOf}
-use Rattle.sva_model.specs.State.About.{MarkerOf, ResetDone}
+use Rattle.sva_model.specs.State.GroupState.{Collecting, Awaiting, Stale, Closed}
+use Rattle.sva_model.specs.State.Subject.{StartOf, StopOf, FunctionReset, CompletionOf, InvalidateOf, ResponseOf, RequestOf, InvalidatedOf, PageRequestOf}
+use Rattle.sva_model.specs.State.Subject.{MarkerOf, ResetDone}
 use Rattle.sva_model.specs.States.{Place, is_open, is_running, place}
 use Rattle.sva_model.specs.States.Place.{Free, Mapped, Withheld}
-use Rattle.sva_model.specs.Acts.{Act, Own, waits}
-use Rattle.sva_model.specs.Acts.Act.{Unmap, LetGo, At}
+use Rattle.sva_model.specs.Acts.{Act, LocalAct, waits}
+use Rattle.sva_model.specs.Acts.Act.{Unmap, LetGo, AtEndpoint}
 use Rattle.sva_model.specs.Labels
 use Rattle.sva_model.specs.Refusals.{Cause, refusals}
 use Rattle.sva_model.specs.Replies.{maps_to, reply_maps, replies_success, newly_mapped, free_list, is_write_asked, job_space, response_to}
@@ -30,19 +30,19 @@ use Rattle.sva_model.specs.Steps.{Decision, checked, decide}
 use Rattle.sva_labels.specs.Tallies.{binds, releases, begins, ends}
 
 abbrev pub bound_by : Act → ℕ
-bound_by (At e (Own.Bind b s t)) = 1
+bound_by (AtEndpoint e (LocalAct.Bind b s t)) = 1
 bound_by _ = 0
 
 abbrev pub released_by : Act → ℕ
-released_by (At e (Own.Release b)) = 1
+released_by (AtEndpoint e (LocalAct.Release b)) = 1
 released_by _ = 0
 
 abbrev pub begun_by : Act → ℕ
-begun_by (At e (Own.Begin r m t)) = 1
+begun_by (AtEndpoint e (LocalAct.Begin r m t)) = 1
 begun_by _ = 0
 
 abbrev pub ended_by : Act → ℕ
-ended_by (At e (Own.End u)) = 1
+ended_by (AtEndpoint e (LocalAct.End u)) = 1
 ended_by _ = 0
 
 abbrev pub total : (Act → ℕ) → List Act → ℕ
@@ -101,12 +101,12 @@ send_tallied : (e k t : ℕ) (b : Bool) → AreTallied (plain (send_outcome e k 
 send_tallied e k t true = tallied _ refl refl refl refl
 send_tallied e k t false = tallied _ refl refl refl refl
 
-head_tallied : (p : Part) (e k : ℕ) (o : Order) → AreTallied (plain (head_outcome p e k o))
+head_tallied : (p : Endpoint) (e k : ℕ) (o : Order) → AreTallied (plain (head_outcome p e k o))
 head_tallied p e k (Wait cookie drain) = wait_tallied e k (may_pass p drain)
 head_tallied p e k (RangeOf b q) = send_tallied e k (Labels.lowest_label 32 p.at_itag) _
 head_tallied p e k (PasidOf b) = send_tallied e k (Labels.lowest_label 32 p.at_itag) _
 
-pump_tallied : (p : Part) (e : ℕ) (b : Bool) → AreTallied (plain (pump_outcome p e b))
+pump_tallied : (p : Endpoint) (e : ℕ) (b : Bool) → AreTallied (plain (pump_outcome p e b))
 pump_tallied p e true = tallied _ refl refl refl refl
 pump_tallied p e false = head_tallied p e (Labels.head p) (p.order (Labels.head p))
 
@@ -114,7 +114,7 @@ file_tallied : (e r g : ℕ) (b : Bool) → AreTallied (plain (file_outcome e r 
 file_tallied e r g true = tallied _ refl refl refl refl
 file_tallied e r g false = tallied _ refl refl refl refl
 
-serve_tallied : (p : Part) (e : ℕ) (b : Bool) → AreTallied (plain (serve_outcome p e b))
+serve_tallied : (p : Endpoint) (e : ℕ) (b : Bool) → AreTallied (plain (serve_outcome p e b))
 serve_tallied p e true = tallied _ refl refl refl refl
 serve_tallied p e false = file_tallied e (Labels.oldest_arrived p) (p.group_of (Labels.oldest_arrived p)) (p.is_last (Labels.oldest_arrived p))
 
@@ -146,7 +146,7 @@ reply_tallied w x j v (Some code) =
     (none ended_by (λ s q g z. refl) (replies_success w j v))
   where
     last : List Act
-    last = LetGo x ∷ At (w.job j).endpoint (Own.Respond (w.job j).group code) ∷ []
+    last = LetGo x ∷ AtEndpoint (w.job j).endpoint (LocalAct.Respond (w.job j).group code) ∷ []
 
     none :
         (f : Act → ℕ) → ((s q g : ℕ) (z : Bool) → f (Act.Map s q g z) ≡ 0) → (b : Bool)
@@ -154,11 +154,11 @@ reply_tallied w x j v (Some code) =
     none f h true = maps_total f h (job_space w j) (is_write_asked w j) (newly_mapped w j) (free_list w) last
     none f h false = refl
 
-end_tallied : (e u : ℕ) (b : Bool) → AreTallied (plain (says (if b then answer.Ended else answer.Dead) (At e (Own.End u) ∷ [])))
+end_tallied : (e u : ℕ) (b : Bool) → AreTallied (plain (says (if b then answer.Ended else answer.Dead) (AtEndpoint e (LocalAct.End u) ∷ [])))
 end_tallied e u true = tallied _ refl refl refl refl
 end_tallied e u false = tallied _ refl refl refl refl
 
-fault_tallied : (p : Part) (e t q : ℕ) (r x l : Bool) (o : Option ℕ) → AreTallied (plain (fault_outcome p e t q r x l o))
+fault_tallied : (p : Endpoint) (e t q : ℕ) (r x l : Bool) (o : Option ℕ) → AreTallied (plain (fault_outcome p e t q r x l o))
 fault_tallied p e t q r x l None = tallied _ refl refl refl refl
 fault_tallied p e t q r x l (Some k) = tallied _ refl refl refl refl
 
@@ -166,7 +166,7 @@ keep_tallied : (e c r m : ℕ) (b : Bool) → AreTallied (plain (keep_outcome e 
 keep_tallied e c r m true = tallied _ refl refl refl refl
 keep_tallied e c r m false = tallied _ refl refl refl refl
 
-completion_tallied : (p : Part) (e c r : ℕ) (o : Option ℕ) (x : RequestState) → AreTallied (plain (completion_outcome p e c r o x))
+completion_tallied : (p : Endpoint) (e c r : ℕ) (o : Option ℕ) (x : RequestState) → AreTallied (plain (completion_outcome p e c r o x))
 completion_tallied p e c r (Some m) Out = keep_tallied e c r m (is_full p r)
 completion_tallied p e c r None Out = tallied _ refl refl refl refl
 completion_tallied p e c r (Some m) Doomed = tallied _ refl refl refl refl
@@ -174,17 +174,17 @@ completion_tallied p e c r None Doomed = tallied _ refl refl refl refl
 completion_tallied p e c r (Some m) Over = tallied _ refl refl refl refl
 completion_tallied p e c r None Over = tallied _ refl refl refl refl
 
-response_tallied : (e c g : ℕ) (code : Code) (s : GroupState) → AreTallied (plain (says (response_answer s) (At e (Own.Answered c g code) ∷ [])))
-response_tallied e c g code Unfinished = tallied _ refl refl refl refl
+response_tallied : (e c g : ℕ) (code : Code) (s : GroupState) → AreTallied (plain (says (response_answer s) (AtEndpoint e (LocalAct.Answered c g code) ∷ [])))
+response_tallied e c g code Collecting = tallied _ refl refl refl refl
 response_tallied e c g code Awaiting = tallied _ refl refl refl refl
 response_tallied e c g code Stale = tallied _ refl refl refl refl
-response_tallied e c g code Finished = tallied _ refl refl refl refl
+response_tallied e c g code Closed = tallied _ refl refl refl refl
 
-request_tallied : (w : World) (p : Part) (e c r : ℕ) (b : Bool) → AreTallied (plain (request_outcome w p e c r b))
+request_tallied : (w : World) (p : Endpoint) (e c r : ℕ) (b : Bool) → AreTallied (plain (request_outcome w p e c r b))
 request_tallied w p e c r true = tallied _ refl refl refl refl
 request_tallied w p e c r false = tallied _ refl refl refl refl
 
-count_tallied : (p : Part) (e c : ℕ) (names : ℕ → Bool) (b : Bool) → AreTallied (plain (count_outcome p e c names b))
+count_tallied : (p : Endpoint) (e c : ℕ) (names : ℕ → Bool) (b : Bool) → AreTallied (plain (count_outcome p e c names b))
 count_tallied p e c names true = tallied _ refl refl refl refl
 count_tallied p e c names false = tallied _ refl refl refl refl
 
@@ -196,10 +196,10 @@ marker_tallied : (e c b : ℕ) (t : Bool) → AreTallied (plain (marker_outcome 
 marker_tallied e c b true = tallied _ refl refl refl refl
 marker_tallied e c b false = tallied _ refl refl refl refl
 
-about_tallied : (w : World) (p : Part) (e c : ℕ) (x : About) → AreTallied (plain (about_outcome w p e c x))
+about_tallied : (w : World) (p : Endpoint) (e c : ℕ) (x : Subject) → AreTallied (plain (about_outcome w p e c x))
 about_tallied w p e c (StartOf b) = tallied _ refl refl refl refl
 about_tallied w p e c (StopOf b) = tallied _ refl refl refl refl
-about_tallied w p e c ResetOrder = tallied _ refl refl refl refl
+about_tallied w p e c FunctionReset = tallied _ refl refl refl refl
 about_tallied w p e c (CompletionOf r found) = completion_tallied p e c r found (p.request r)
 about_tallied w p e c (InvalidateOf k) = tallied _ refl refl refl refl
 about_tallied w p e c (ResponseOf g code) = response_tallied e c g code (p.group g)
@@ -209,7 +209,7 @@ about_tallied w p e c (PageRequestOf r) = page_request_tallied e c r (is_open p.
 about_tallied w p e c (MarkerOf b) = marker_tallied e c b (is_open p.phase)
 about_tallied w p e c ResetDone = tallied _ refl refl refl refl
 
-deliver_tallied : (w : World) (p : Part) (e c : ℕ) (o : Option About) → AreTallied (plain (deliver_outcome w p e c o))
+deliver_tallied : (w : World) (p : Endpoint) (e c : ℕ) (o : Option Subject) → AreTallied (plain (deliver_outcome w p e c o))
 deliver_tallied w p e c None = tallied _ refl refl refl refl
 deliver_tallied w p e c (Some x) = about_tallied w p e c x
 
@@ -231,9 +231,10 @@ outcome_tallied w (step.Unmap n q count) =
 outcome_tallied w (step.UnmapRange n q order) =
     range_tallied (Labels.name w n) q 1 order (mapped_in w (Labels.name w n) q order) (any_below w.config.endpoints (waits w (Labels.name w n)))
 outcome_tallied w (step.Bind e n) = tallied _ refl refl refl refl
-outcome_tallied w (step.Unbind n) = unbind_tallied (w.home (Labels.name w n)) (Labels.name w n) ((w.part (w.home (Labels.name w n))).stage (Labels.name w n))
+outcome_tallied w (step.Unbind n) =
+    unbind_tallied (w.endpoint_of (Labels.name w n)) (Labels.name w n) ((w.part (w.endpoint_of (Labels.name w n))).stage (Labels.name w n))
 outcome_tallied w (step.Advance n) =
-    advance_tallied w (w.home (Labels.name w n)) (Labels.name w n) ((w.part (w.home (Labels.name w n))).stage (Labels.name w n))
+    advance_tallied w (w.endpoint_of (Labels.name w n)) (Labels.name w n) ((w.part (w.endpoint_of (Labels.name w n))).stage (Labels.name w n))
 outcome_tallied w (step.Pump e) = pump_tallied (w.part e) e (Labels.is_queue_empty (w.part e))
 outcome_tallied w (step.Serve e) = serve_tallied (w.part e) e (Labels.is_page_queue_empty (w.part e))
 outcome_tallied w (step.Reset e) = tallied _ refl refl refl refl
@@ -247,8 +248,8 @@ outcome_tallied w (step.Fault e t q r x group l) = fault_tallied (w.part e) e t 
 outcome_tallied w (step.Finish e vector count) = tallied _ refl refl refl refl
 outcome_tallied w (step.Quit e t) = tallied _ refl refl refl refl
 outcome_tallied w (step.Deliver n) =
-    deliver_tallied w (w.part (w.way (Labels.name w n))) (w.way (Labels.name w n)) (Labels.name w n)
-    ((w.part (w.way (Labels.name w n))).message (Labels.name w n))
+    deliver_tallied w (w.part (w.link_of (Labels.name w n))) (w.link_of (Labels.name w n)) (Labels.name w n)
+    ((w.part (w.link_of (Labels.name w n))).message (Labels.name w n))
 outcome_tallied w (step.Look f) = look_tallied (place w f)
 outcome_tallied w (step.Bearer t) = bearer_tallied w t (Labels.is_borne w t)
 

@@ -6,16 +6,16 @@ use Rattle.std.proofs.lemmas.Bool.Decides.{nat_tests}
 use Rattle.sva_step.specs.declared.limits.Config.{Config}
 use Rattle.sva_step.specs.declared.steps.Step.{Step}
 use Rattle.sva_model.specs.Words.{put, count_below, is_some, tabulate}
-use Rattle.sva_model.specs.State.{PasidRule, Mappings, Part, World}
+use Rattle.sva_model.specs.State.{PasidRule, Mappings, Endpoint, World}
 use Rattle.sva_model.specs.State.Stage.{Unbound, Live, Quiet, Released}
 use Rattle.sva_model.specs.States.{is_unreleased}
-use Rattle.sva_model.specs.Acts.{Act, Own, act, own, submitted_if, submits, bound, cookie_of}
-use Rattle.sva_model.specs.Acts.Act.{NewSpace, DropSpace, Map, Unmap, NewBinding, NewJob, Hold, LetGo, At}
+use Rattle.sva_model.specs.Acts.{Act, LocalAct, act, own, submitted_if, submits, bound, cookie_of}
+use Rattle.sva_model.specs.Acts.Act.{NewSpace, DropSpace, Map, Unmap, NewBinding, NewJob, Hold, LetGo, AtEndpoint}
 use Rattle.sva_model.specs.Steps.{decide, next, after_acts, world_after, reply}
-use Rattle.sva_model.specs.Wire.{PartWire, UseWire, use_wire, part_wire, wire}
+use Rattle.sva_model.specs.Wire.{EndpointWire, UseWire, use_wire, part_wire, wire}
 use Rattle.sva_laws.proofs.Words.{put-same, put-other, ℕ_cases}
 use Rattle.sva_laws.proofs.Counting.{bit, count_next, count_same, count_off}
-use Rattle.sva_laws.proofs.Legal.{LegalOwn}
+use Rattle.sva_laws.proofs.Legal.{LegalLocalAct}
 use Rattle.sva_laws.proofs.Labels.{Labels}
 use Rattle.sva_laws.proofs.Invariant.{Invariant}
 use Rattle.sva_laws.proofs.Keeps.{Legal, act_keeps}
@@ -73,88 +73,88 @@ abbrev kept_count : World → ℕ
 kept_count w = count_below w.bindings (is_kept w)
 
 kept_by :
-    (w : World) (e : ℕ) (q : Part) (k : ℕ) → (w.home k ≡ e → is_unreleased (q.stage k) ≡ is_unreleased ((w.part e).stage k))
-    → is_unreleased ((put w.part e q (w.home k)).stage k) ≡ is_kept w k
-kept_by w e q k h = go (ℕ_cases (w.home k) e)
+    (w : World) (e : ℕ) (q : Endpoint) (k : ℕ) → (w.endpoint_of k ≡ e → is_unreleased (q.stage k) ≡ is_unreleased ((w.part e).stage k))
+    → is_unreleased ((put w.part e q (w.endpoint_of k)).stage k) ≡ is_kept w k
+kept_by w e q k h = go (ℕ_cases (w.endpoint_of k) e)
   where
-    go : (w.home k ≡ e) ⊎ (w.home k ≢ e) → is_unreleased ((put w.part e q (w.home k)).stage k) ≡ is_kept w k
+    go : (w.endpoint_of k ≡ e) ⊎ (w.endpoint_of k ≢ e) → is_unreleased ((put w.part e q (w.endpoint_of k)).stage k) ≡ is_kept w k
     go (inl s) =
         ap (λ x. is_unreleased ((put w.part e q x).stage k)) s
         ∙ ap (λ p. is_unreleased (p.stage k)) (put-same w.part e q)
         ∙ h s
         ∙ ap (λ x. is_unreleased ((w.part x).stage k)) (sym s)
-    go (inr ne) = ap (λ p. is_unreleased (p.stage k)) (put-other w.part e q (w.home k) ne)
+    go (inr ne) = ap (λ p. is_unreleased (p.stage k)) (put-other w.part e q (w.endpoint_of k) ne)
 
 -- an act that neither binds nor releases
-abbrev binds_or_releases : Own → Bool
-binds_or_releases (Own.Bind b s t) = true
-binds_or_releases (Own.Release b) = true
+abbrev binds_or_releases : LocalAct → Bool
+binds_or_releases (LocalAct.Bind b s t) = true
+binds_or_releases (LocalAct.Release b) = true
 binds_or_releases _ = false
 
 stage_same :
-    (ms : Mappings) (g n : ℕ) (p : Part) (o : Own) → LegalOwn ms g p o → binds_or_releases o ≡ false → (b : ℕ)
+    (ms : Mappings) (g n : ℕ) (p : Endpoint) (o : LocalAct) → LegalLocalAct ms g p o → binds_or_releases o ≡ false → (b : ℕ)
     → is_unreleased ((own p n o).stage b) ≡ is_unreleased (p.stage b)
 stage_same ms g n p o l k b = grind (arith, nat_tests)
 
-none_bound : (e : ℕ) (o : Own) → binds_or_releases o ≡ false → bound_by (At e o) ≡ released_by (At e o)
+none_bound : (e : ℕ) (o : LocalAct) → binds_or_releases o ≡ false → bound_by (AtEndpoint e o) ≡ released_by (AtEndpoint e o)
 none_bound e o h = grind arith
 
 at_bindings :
-    (w : World) (e : ℕ) (o : Own) (z : Bool) → binds_or_releases o ≡ z → Legal w (At e o) → Invariant w
-    → kept_count (act w (At e o)) + released_by (At e o) ≡ kept_count w + bound_by (At e o)
+    (w : World) (e : ℕ) (o : LocalAct) (z : Bool) → binds_or_releases o ≡ z → Legal w (AtEndpoint e o) → Invariant w
+    → kept_count (act w (AtEndpoint e o)) + released_by (AtEndpoint e o) ≡ kept_count w + bound_by (AtEndpoint e o)
 at_bindings w e o false z l i =
-    let same = count_same w.bindings (is_kept (act w (At e o))) (is_kept w)
+    let same = count_same w.bindings (is_kept (act w (AtEndpoint e o))) (is_kept w)
     (λ k m. kept_by w e (own (w.part e) w.messages o) k (λ s. stage_same w.mappings w.bindings w.messages (w.part e) o l.1.0 z k)) in
     let none = none_bound e o z in
     omega (arith, same, none)
-at_bindings w e (Own.Bind b s t) true z l i =
-    let one = count_off w.bindings (is_kept (act w (At e (Own.Bind b s t)))) (is_kept w) b l.1.0.0 now before others in
+at_bindings w e (LocalAct.Bind b s t) true z l i =
+    let one = count_off w.bindings (is_kept (act w (AtEndpoint e (LocalAct.Bind b s t)))) (is_kept w) b l.1.0.0 now before others in
     omega (arith, one)
   where
-    home : w.home b ≡ e
-    home = l.1.1.2
+    endpoint_of : w.endpoint_of b ≡ e
+    endpoint_of = l.1.1.2
 
     unbound : (w.part e).stage b ≡ Unbound
     unbound = l.1.0.2
 
-    now : is_kept (act w (At e (Own.Bind b s t))) b ≡ true
+    now : is_kept (act w (AtEndpoint e (LocalAct.Bind b s t))) b ≡ true
     now =
-        ap (λ x. is_unreleased ((put w.part e (own (w.part e) w.messages (Own.Bind b s t)) x).stage b)) home
-        ∙ ap (λ p. is_unreleased (p.stage b)) (put-same w.part e (own (w.part e) w.messages (Own.Bind b s t)))
+        ap (λ x. is_unreleased ((put w.part e (own (w.part e) w.messages (LocalAct.Bind b s t)) x).stage b)) endpoint_of
+        ∙ ap (λ p. is_unreleased (p.stage b)) (put-same w.part e (own (w.part e) w.messages (LocalAct.Bind b s t)))
         ∙ ap is_unreleased (put-same (w.part e).stage b Live)
 
     before : is_kept w b ≡ false
-    before = ap (λ x. is_unreleased ((w.part x).stage b)) home ∙ ap is_unreleased unbound
+    before = ap (λ x. is_unreleased ((w.part x).stage b)) endpoint_of ∙ ap is_unreleased unbound
 
-    others : (d : ℕ) → d ≢ b → is_kept (act w (At e (Own.Bind b s t))) d ≡ is_kept w d
-    others d ne = kept_by w e (own (w.part e) w.messages (Own.Bind b s t)) d (λ h. ap is_unreleased (put-other (w.part e).stage b Live d ne))
-at_bindings w e (Own.Release b) true z l i =
-    let one = count_off w.bindings (is_kept w) (is_kept (act w (At e (Own.Release b)))) b made before now (λ d ne. sym (others d ne)) in
+    others : (d : ℕ) → d ≢ b → is_kept (act w (AtEndpoint e (LocalAct.Bind b s t))) d ≡ is_kept w d
+    others d ne = kept_by w e (own (w.part e) w.messages (LocalAct.Bind b s t)) d (λ h. ap is_unreleased (put-other (w.part e).stage b Live d ne))
+at_bindings w e (LocalAct.Release b) true z l i =
+    let one = count_off w.bindings (is_kept w) (is_kept (act w (AtEndpoint e (LocalAct.Release b)))) b made before now (λ d ne. sym (others d ne)) in
     omega (arith, one)
   where
     quiet : (w.part e).stage b ≡ Quiet
     quiet = l.1.0
 
-    home : w.home b ≡ e
-    home = i.homed e b (λ h. absurd (cc (sym quiet ∙ h)))
+    endpoint_of : w.endpoint_of b ≡ e
+    endpoint_of = i.homed e b (λ h. absurd (cc (sym quiet ∙ h)))
 
     made : b < w.bindings
     made = grind (arith, (i.parts e).bounds.stage b, quiet)
 
     before : is_kept w b ≡ true
-    before = ap (λ x. is_unreleased ((w.part x).stage b)) home ∙ ap is_unreleased quiet
+    before = ap (λ x. is_unreleased ((w.part x).stage b)) endpoint_of ∙ ap is_unreleased quiet
 
-    now : is_kept (act w (At e (Own.Release b))) b ≡ false
+    now : is_kept (act w (AtEndpoint e (LocalAct.Release b))) b ≡ false
     now =
-        ap (λ x. is_unreleased ((put w.part e (own (w.part e) w.messages (Own.Release b)) x).stage b)) home
-        ∙ ap (λ p. is_unreleased (p.stage b)) (put-same w.part e (own (w.part e) w.messages (Own.Release b)))
+        ap (λ x. is_unreleased ((put w.part e (own (w.part e) w.messages (LocalAct.Release b)) x).stage b)) endpoint_of
+        ∙ ap (λ p. is_unreleased (p.stage b)) (put-same w.part e (own (w.part e) w.messages (LocalAct.Release b)))
         ∙ ap is_unreleased (put-same (w.part e).stage b Released)
 
-    others : (d : ℕ) → d ≢ b → is_kept (act w (At e (Own.Release b))) d ≡ is_kept w d
-    others d ne = kept_by w e (own (w.part e) w.messages (Own.Release b)) d (λ h. ap is_unreleased (put-other (w.part e).stage b Released d ne))
+    others : (d : ℕ) → d ≢ b → is_kept (act w (AtEndpoint e (LocalAct.Release b))) d ≡ is_kept w d
+    others d ne = kept_by w e (own (w.part e) w.messages (LocalAct.Release b)) d (λ h. ap is_unreleased (put-other (w.part e).stage b Released d ne))
 at_bindings w e o true z l i = absurd (grind arith)
 
-submitted_stage : (t : Bool) (p : Part) (o : Option ℕ) (q count order cookie b : ℕ) → (submitted_if t p o q count order cookie).stage b ≡ p.stage b
+submitted_stage : (t : Bool) (p : Endpoint) (o : Option ℕ) (q count order cookie b : ℕ) → (submitted_if t p o q count order cookie).stage b ≡ p.stage b
 submitted_stage true p (Some d) q count order cookie b = refl
 submitted_stage true p None q count order cookie b = refl
 submitted_stage false p o q count order cookie b = refl
@@ -162,20 +162,21 @@ submitted_stage false p o q count order cookie b = refl
 new_kept : (w : World) (e : ℕ) → Invariant w → kept_count (act w (NewBinding e)) ≡ kept_count w
 new_kept w e i =
     let old = count_same w.bindings (is_kept (act w (NewBinding e))) (is_kept w)
-    (λ k l. ap (λ x. is_unreleased ((w.part x).stage k)) (put-other w.home w.bindings e k (λ s. absurd (omega (arith, l, s))))) in
+    (λ k l. ap (λ x. is_unreleased ((w.part x).stage k)) (put-other w.endpoint_of w.bindings e k (λ s. absurd (omega (arith, l, s))))) in
     let none : bit (is_kept (act w (NewBinding e)) w.bindings) ≡ 0 =
-    ap bit (ap (λ x. is_unreleased ((w.part x).stage w.bindings)) (put-same w.home w.bindings e)
+    ap bit (ap (λ x. is_unreleased ((w.part x).stage w.bindings)) (put-same w.endpoint_of w.bindings e)
     ∙ ap is_unreleased ((i.parts e).bounds.stage w.bindings (omega arith))) ∙ bit_none in
     omega (arith, count_next w.bindings (is_kept (act w (NewBinding e))), old, none)
 
 act_bindings : (w : World) (a : Act) → Legal w a → Invariant w → kept_count (act w a) + released_by a ≡ kept_count w + bound_by a
-act_bindings w (At e o) l i = at_bindings w e o (binds_or_releases o) refl l i
+act_bindings w (AtEndpoint e o) l i = at_bindings w e o (binds_or_releases o) refl l i
 act_bindings w (NewBinding e) l i = ap (λ n. n + 0) (new_kept w e i)
 act_bindings w (Unmap s q count order) l i =
     ap (λ n. n + 0)
     (count_same w.bindings (is_kept (act w (Unmap s q count order))) (is_kept w)
     (λ k l. ap is_unreleased
-    (submitted_stage (submits w s (w.home k)) (w.part (w.home k)) (bound w (w.home k) s) q count order (cookie_of w s (w.home k)) k)))
+    (submitted_stage (submits w s (w.endpoint_of k)) (w.part (w.endpoint_of k)) (bound w (w.endpoint_of k) s) q count order
+        (cookie_of w s (w.endpoint_of k)) k)))
 act_bindings w NewSpace l i = refl
 act_bindings w (DropSpace s) l i = refl
 act_bindings w (Map s q f x) l i = refl
@@ -185,38 +186,38 @@ act_bindings w (LetGo x) l i = refl
 
 -- Slots.
 
-abbrev taken_at : Part → ℕ
+abbrev taken_at : Endpoint → ℕ
 taken_at p = count_below 16 (λ t. is_some (p.at_slot t))
 
 abbrev taken_count : World → ℕ
 taken_count w = sum_to w.config.endpoints (λ e. taken_at (w.part e))
 
-abbrev begins_or_ends : Own → Bool
-begins_or_ends (Own.Begin r m t) = true
-begins_or_ends (Own.End u) = true
+abbrev begins_or_ends : LocalAct → Bool
+begins_or_ends (LocalAct.Begin r m t) = true
+begins_or_ends (LocalAct.End u) = true
 begins_or_ends _ = false
 
-slot_same : (p : Part) (n : ℕ) (o : Own) → begins_or_ends o ≡ false → (t : ℕ) → (own p n o).at_slot t ≡ p.at_slot t
+slot_same : (p : Endpoint) (n : ℕ) (o : LocalAct) → begins_or_ends o ≡ false → (t : ℕ) → (own p n o).at_slot t ≡ p.at_slot t
 slot_same p n o k t = grind arith
 
-none_begun : (e : ℕ) (o : Own) → begins_or_ends o ≡ false → begun_by (At e o) ≡ ended_by (At e o)
+none_begun : (e : ℕ) (o : LocalAct) → begins_or_ends o ≡ false → begun_by (AtEndpoint e o) ≡ ended_by (AtEndpoint e o)
 none_begun e o h = grind arith
 
 own_slots :
-    (ms : Mappings) (g n e : ℕ) (p : Part) (o : Own) (z : Bool) → begins_or_ends o ≡ z → LegalOwn ms g p o → Labels p
-    → taken_at (own p n o) + ended_by (At e o) ≡ taken_at p + begun_by (At e o)
+    (ms : Mappings) (g n e : ℕ) (p : Endpoint) (o : LocalAct) (z : Bool) → begins_or_ends o ≡ z → LegalLocalAct ms g p o → Labels p
+    → taken_at (own p n o) + ended_by (AtEndpoint e o) ≡ taken_at p + begun_by (AtEndpoint e o)
 own_slots ms g n e p o false z l la =
     let same = count_same 16 (λ t. is_some ((own p n o).at_slot t)) (λ t. is_some (p.at_slot t)) (λ t m. ap is_some (slot_same p n o z t)) in
     let none = none_begun e o z in
     omega (arith, same, none)
-own_slots ms g n e p (Own.Begin r m t) true z l la =
+own_slots ms g n e p (LocalAct.Begin r m t) true z l la =
     let one =
     count_off 16 (λ x. is_some (put p.at_slot t (Some p.uses) x)) (λ x. is_some (p.at_slot x)) t l.3
     (ap is_some (put-same p.at_slot t (Some p.uses))) (ap is_some l.2)
     (λ d ne. ap is_some (put-other p.at_slot t (Some p.uses) d ne))
     in
     omega (arith, one)
-own_slots ms g n e p (Own.End u) true z l la =
+own_slots ms g n e p (LocalAct.End u) true z l la =
     let one =
     count_off 16 (λ x. is_some (p.at_slot x)) (λ x. is_some (put p.at_slot (p.use_slot u) None x)) (p.use_slot u) (la.slot_low (p.use_slot u) u l)
     (ap is_some l)
@@ -225,17 +226,17 @@ own_slots ms g n e p (Own.End u) true z l la =
     omega (arith, one)
 own_slots ms g n e p o true z l la = absurd (grind arith)
 
-submitted_slot : (t : Bool) (p : Part) (o : Option ℕ) (q count order cookie x : ℕ) → (submitted_if t p o q count order cookie).at_slot x ≡ p.at_slot x
+submitted_slot : (t : Bool) (p : Endpoint) (o : Option ℕ) (q count order cookie x : ℕ) → (submitted_if t p o q count order cookie).at_slot x ≡ p.at_slot x
 submitted_slot true p (Some d) q count order cookie x = refl
 submitted_slot true p None q count order cookie x = refl
 submitted_slot false p o q count order cookie x = refl
 
 act_slots : (w : World) (a : Act) → Legal w a → Invariant w → taken_count (act w a) + ended_by a ≡ taken_count w + begun_by a
-act_slots w (At e o) l i =
-    sum_changed w.config.endpoints e (λ x. taken_at (put w.part e (own (w.part e) w.messages o) x)) (λ x. taken_at (w.part x)) (ended_by (At e o))
-    (begun_by (At e o)) l.0
+act_slots w (AtEndpoint e o) l i =
+    sum_changed w.config.endpoints e (λ x. taken_at (put w.part e (own (w.part e) w.messages o) x)) (λ x. taken_at (w.part x)) (ended_by (AtEndpoint e o))
+    (begun_by (AtEndpoint e o)) l.0
     (λ k ne. ap taken_at (put-other w.part e (own (w.part e) w.messages o) k ne))
-    (ap (λ p. taken_at p + ended_by (At e o)) (put-same w.part e (own (w.part e) w.messages o))
+    (ap (λ p. taken_at p + ended_by (AtEndpoint e o)) (put-same w.part e (own (w.part e) w.messages o))
     ∙ own_slots w.mappings w.bindings w.messages e (w.part e) o (begins_or_ends o) refl l.1.0 (i.parts e).labels)
 act_slots w (Unmap s q count order) l i =
     ap (λ n. n + 0)
@@ -300,11 +301,11 @@ taken_table (suc n) f at = taken_push (tabulate n (λ t. option_map f (at t))) (
     go None r = omega (arith, r)
     go (Some k) r = omega (arith, r)
 
-slots_push : (xs : List PartWire) (x : PartWire) → slots_in (xs ++ x ∷ []) ≡ taken_in x.device.slots + slots_in xs
+slots_push : (xs : List EndpointWire) (x : EndpointWire) → slots_in (xs ++ x ∷ []) ≡ taken_in x.device.slots + slots_in xs
 slots_push [] x = omega arith
 slots_push (y ∷ xs) x = let r = slots_push xs x in omega (arith, r)
 
-slots_table : (n : ℕ) (f : ℕ → PartWire) (g : ℕ → ℕ) → ((k : ℕ) → taken_in (f k).device.slots ≡ g k) → slots_in (tabulate n f) ≡ sum_to n g
+slots_table : (n : ℕ) (f : ℕ → EndpointWire) (g : ℕ → ℕ) → ((k : ℕ) → taken_in (f k).device.slots ≡ g k) → slots_in (tabulate n f) ≡ sum_to n g
 unfolding tabulate sum_to
 slots_table zero f g h = refl
 slots_table (suc n) f g h =

@@ -1,11 +1,11 @@
 -- Each act of one endpoint leaves its unit as the move does that it is.
 use Rattle.std.proofs.Common.{◌≡◌, ◌≢◌, refl, ap, sym, ℕ, ◌<◌}
-use Rattle.sva_model.specs.State.{Mappings, Part}
+use Rattle.sva_model.specs.State.{Mappings, Endpoint}
 use Rattle.sva_model.specs.State.OrderState.{Queued}
-use Rattle.sva_model.specs.Acts.{Own, own}
+use Rattle.sva_model.specs.Acts.{LocalAct, own}
 use Rattle.sva_model.specs.Wire.{number, unit_wire}
 use Rattle.sva_laws.specs.Laws.{IsCarried}
-use Rattle.sva_laws.proofs.Legal.{LegalOwn}
+use Rattle.sva_laws.proofs.Legal.{LegalLocalAct}
 use Rattle.sva_laws.proofs.Invariant.{PartInvariant}
 use Rattle.sva_laws.proofs.Cookies.{HasCookie}
 use Rattle.sva_laws.proofs.Completions.{Owed}
@@ -16,49 +16,50 @@ use Rattle.sva_labels.proofs.UnitStates.{unit_reset, unit_reset_arrives, unit_ta
 use Rattle.sva_labels.proofs.UnitCounts.{unit_count}
 
 -- the order that is sent is the first in the queue
-abbrev pub SendsFirst : Part → Own → Type 0
-SendsFirst p (Own.Send k t) = (j : ℕ) → j < k → p.order_state j ≢ Queued
+abbrev pub SendsFirst : Endpoint → LocalAct → Type 0
+SendsFirst p (LocalAct.Send k t) = (j : ℕ) → j < k → p.order_state j ≢ Queued
 SendsFirst p _ = Unit {0}
 
 pub unit_acts :
-    (ms : Mappings) (x g n e first cookies : ℕ) (p : Part) (o : Own) → LegalOwn ms g p o → HasCookie cookies o → SendsFirst p o
+    (ms : Mappings) (x g n e first cookies : ℕ) (p : Endpoint) (o : LocalAct) → LegalLocalAct ms g p o → HasCookie cookies o → SendsFirst p o
     → PartInvariant ms x g n e p → Owed n p → IsCarried ms p
     → unit_wire first (own p n o) ≡ unit_moved (number first cookies) (unit_wire first p) (own_move first e ms p o)
-unit_acts ms x g n e first cookies p (Own.Bind b s t) l c f i ow ca = unit_bind ms g first n (number first cookies) e p b s t l i.orders
-unit_acts ms x g n e first cookies p (Own.Stop b) l c f i ow ca = refl
-unit_acts ms x g n e first cookies p (Own.Drain b cookie) l c f i ow ca =
+unit_acts ms x g n e first cookies p (LocalAct.Bind b s t) l c f i ow ca = unit_bind ms g first n (number first cookies) e p b s t l i.orders
+unit_acts ms x g n e first cookies p (LocalAct.Stop b) l c f i ow ca = refl
+unit_acts ms x g n e first cookies p (LocalAct.Drain b cookie) l c f i ow ca =
     unit_drain ms g first n (number first cookies) e p b cookie i.bounds i.labels (ap (number first) (sym c))
-unit_acts ms x g n e first cookies p (Own.Invalidate b cookie) l c f i ow ca =
+unit_acts ms x g n e first cookies p (LocalAct.Invalidate b cookie) l c f i ow ca =
     unit_invalidate ms g first n (number first cookies) e p b cookie i.bounds i.labels (ap (number first) (sym c))
-unit_acts ms x g n e first cookies p (Own.Quieten b) l c f i ow ca = refl
-unit_acts ms x g n e first cookies p (Own.Release b) l c f i ow ca = refl
-unit_acts ms x g n e first cookies p (Own.Send k t) l c f i ow ca = unit_send ms g first n (number first cookies) e p k t l f i.bounds i.labels
-unit_acts ms x g n e first cookies p (Own.Pass k) l c f i ow ca = unit_pass ms g first n (number first cookies) e p k l i.bounds
-unit_acts ms x g n e first cookies p (Own.File r) l c f i ow ca = refl
-unit_acts ms x g n e first cookies p Own.Reset l c f i ow ca = unit_reset ms first n (number first cookies) e p
-unit_acts ms x g n e first cookies p (Own.Hand y w) l c f i ow ca = refl
-unit_acts ms x g n e first cookies p (Own.Respond y code) l c f i ow ca = refl
-unit_acts ms x g n e first cookies p (Own.Discard y) l c f i ow ca = refl
-unit_acts ms x g n e first cookies p (Own.Ask b q t) l c f i ow ca = refl
-unit_acts ms x g n e first cookies p (Own.Begin r m t) l c f i ow ca = refl
-unit_acts ms x g n e first cookies p (Own.End u) l c f i ow ca = refl
-unit_acts ms x g n e first cookies p (Own.Evict r) l c f i ow ca = refl
-unit_acts ms x g n e first cookies p (Own.Group b y q r w z) l c f i ow ca = refl
-unit_acts ms x g n e first cookies p (Own.Request y q r w z) l c f i ow ca = refl
-unit_acts ms x g n e first cookies p (Own.Finish names vector count) l c f i ow ca = unit_finish ms g first n (number first cookies) e p names vector count l
-unit_acts ms x g n e first cookies p (Own.Quit b) l c f i ow ca = refl
-unit_acts ms x g n e first cookies p (Own.Start_arrives m b) l c f i ow ca = refl
-unit_acts ms x g n e first cookies p (Own.Stop_arrives m b) l c f i ow ca = refl
-unit_acts ms x g n e first cookies p (Own.Reset_arrives m) l c f i ow ca = unit_reset_arrives ms g first n (number first cookies) e p m l i.resets
-unit_acts ms x g n e first cookies p (Own.Keep m r y) l c f i ow ca = refl
-unit_acts ms x g n e first cookies p (Own.Forget m r) l c f i ow ca = refl
-unit_acts ms x g n e first cookies p (Own.Take m k) l c f i ow ca = unit_take ms g first n (number first cookies) e p m k l i.labels
-unit_acts ms x g n e first cookies p (Own.Answered m y code) l c f i ow ca = refl
-unit_acts ms x g n e first cookies p (Own.Complete m r found answer) l c f i ow ca = refl
-unit_acts ms x g n e first cookies p (Own.Count m names) l c f i ow ca =
-    unit_count ms g first n (number first cookies) e p m names l i.labels ca.invalidated ow.owing
-unit_acts ms x g n e first cookies p (Own.Arrive m r) l c f i ow ca = refl
-unit_acts ms x g n e first cookies p (Own.Miss m r) l c f i ow ca = refl
-unit_acts ms x g n e first cookies p (Own.Mark m b) l c f i ow ca = refl
-unit_acts ms x g n e first cookies p (Own.Ignore m) l c f i ow ca = refl
-unit_acts ms x g n e first cookies p (Own.Reopen m) l c f i ow ca = unit_reopen ms g first n (number first cookies) e p m l i.resets
+unit_acts ms x g n e first cookies p (LocalAct.Quieten b) l c f i ow ca = refl
+unit_acts ms x g n e first cookies p (LocalAct.Release b) l c f i ow ca = refl
+unit_acts ms x g n e first cookies p (LocalAct.Send k t) l c f i ow ca = unit_send ms g first n (number first cookies) e p k t l f i.bounds i.labels
+unit_acts ms x g n e first cookies p (LocalAct.Pass k) l c f i ow ca = unit_pass ms g first n (number first cookies) e p k l i.bounds
+unit_acts ms x g n e first cookies p (LocalAct.File r) l c f i ow ca = refl
+unit_acts ms x g n e first cookies p LocalAct.Reset l c f i ow ca = unit_reset ms first n (number first cookies) e p
+unit_acts ms x g n e first cookies p (LocalAct.Hand y w) l c f i ow ca = refl
+unit_acts ms x g n e first cookies p (LocalAct.Respond y code) l c f i ow ca = refl
+unit_acts ms x g n e first cookies p (LocalAct.Discard y) l c f i ow ca = refl
+unit_acts ms x g n e first cookies p (LocalAct.Ask b q t) l c f i ow ca = refl
+unit_acts ms x g n e first cookies p (LocalAct.Begin r m t) l c f i ow ca = refl
+unit_acts ms x g n e first cookies p (LocalAct.End u) l c f i ow ca = refl
+unit_acts ms x g n e first cookies p (LocalAct.Evict r) l c f i ow ca = refl
+unit_acts ms x g n e first cookies p (LocalAct.Group b y q r w z) l c f i ow ca = refl
+unit_acts ms x g n e first cookies p (LocalAct.Request y q r w z) l c f i ow ca = refl
+unit_acts ms x g n e first cookies p (LocalAct.Finish names vector count) l c f i ow ca =
+    unit_finish ms g first n (number first cookies) e p names vector count l
+unit_acts ms x g n e first cookies p (LocalAct.Quit b) l c f i ow ca = refl
+unit_acts ms x g n e first cookies p (LocalAct.Start_arrives m b) l c f i ow ca = refl
+unit_acts ms x g n e first cookies p (LocalAct.Stop_arrives m b) l c f i ow ca = refl
+unit_acts ms x g n e first cookies p (LocalAct.Reset_arrives m) l c f i ow ca = unit_reset_arrives ms g first n (number first cookies) e p m l i.resets
+unit_acts ms x g n e first cookies p (LocalAct.Keep m r y) l c f i ow ca = refl
+unit_acts ms x g n e first cookies p (LocalAct.Forget m r) l c f i ow ca = refl
+unit_acts ms x g n e first cookies p (LocalAct.Take m k) l c f i ow ca = unit_take ms g first n (number first cookies) e p m k l i.labels
+unit_acts ms x g n e first cookies p (LocalAct.Answered m y code) l c f i ow ca = refl
+unit_acts ms x g n e first cookies p (LocalAct.Complete m r found answer) l c f i ow ca = refl
+unit_acts ms x g n e first cookies p (LocalAct.Count m names) l c f i ow ca =
+    unit_count ms g first n (number first cookies) e p m names l i.labels ca.invalidated ow.completing
+unit_acts ms x g n e first cookies p (LocalAct.Arrive m r) l c f i ow ca = refl
+unit_acts ms x g n e first cookies p (LocalAct.Miss m r) l c f i ow ca = refl
+unit_acts ms x g n e first cookies p (LocalAct.Mark m b) l c f i ow ca = refl
+unit_acts ms x g n e first cookies p (LocalAct.Ignore m) l c f i ow ca = refl
+unit_acts ms x g n e first cookies p (LocalAct.Reopen m) l c f i ow ca = unit_reopen ms g first n (number first cookies) e p m l i.resets

@@ -4,16 +4,16 @@ use Rattle.std.proofs.Common.{◌≡◌, ◌≢◌, ◌⊎◌, inl, inr, refl, a
 use Rattle.std.specs.Prelude.{◌-◌, ◌&&◌, ◌==◌, if◌then◌else◌, Option, Some, None, option_map, slice_index_or}
 use Rattle.std.proofs.lemmas.Bool.Decides.{nat_tests}
 use Rattle.sva_model.specs.Words.{unless}
-use Rattle.sva_model.specs.State.{Mappings, OrderState, Part}
-use Rattle.sva_model.specs.State.OrderState.{Owing}
+use Rattle.sva_model.specs.State.{Mappings, OrderState, Endpoint}
+use Rattle.sva_model.specs.State.OrderState.{Completing}
 use Rattle.sva_model.specs.States.{is_queued, is_busy}
-use Rattle.sva_model.specs.Acts.{Own, own, counted, counted_if, is_last_left}
+use Rattle.sva_model.specs.Acts.{LocalAct, own, counted, counted_if, is_last_left}
 use Rattle.sva_model.specs.Labels.{is_set}
 use Rattle.sva_model.specs.Wire.{end_number, busy_wire, unit_wire, BusyWire}
 use Rattle.sva_model.specs.Wire.BusyWire.{Fresh, Counting}
 use Rattle.sva_wire.proofs.Lists.{tabulate_same, tabulate_at}
 use Rattle.sva_laws.specs.Laws.{count_read}
-use Rattle.sva_laws.proofs.Legal.{LegalOwn}
+use Rattle.sva_laws.proofs.Legal.{LegalLocalAct}
 use Rattle.sva_laws.proofs.Labels.{Labels}
 use Rattle.sva_laws.proofs.Vectors.{IsOwedFor, AreOwed}
 use Rattle.sva_labels.specs.Moves.{one_more, counting, completed}
@@ -24,8 +24,8 @@ use Rattle.sva_labels.proofs.UnitQueue.{queue_of, busy_of, units_same}
 use Rattle.sva_labels.proofs.UnitStates.{states_queue}
 
 -- what an order owes is at least one completion, and no more than the count that they all carry
-abbrev pub IsOwing : Part → Type 0
-IsOwing p = (k count left : ℕ) → p.order_state k ≡ Owing count left → (0 < left) × (left ≤ count) × (count ≤ 8)
+abbrev pub IsCompleting : Endpoint → Type 0
+IsCompleting p = (k count left : ℕ) → p.order_state k ≡ Completing count left → (0 < left) × (left ≤ count) × (count ≤ 8)
 
 -- an ITag after one completion more, by the state of the order that bears it
 
@@ -42,33 +42,33 @@ counting_last : (count arrived : ℕ) → arrived ≡ count → counting count a
 counting_last count arrived e = ap (λ b. if b then None else Some (Counting count arrived)) (equals arrived count e)
 
 -- the wire of an order that is owed
-owing_wire : (count left : ℕ) → left ≢ count → busy_wire (Owing count left) ≡ Counting count (count - left)
+owing_wire : (count left : ℕ) → left ≢ count → busy_wire (Completing count left) ≡ Counting count (count - left)
 owing_wire count left ne = ap (λ b. if b then Fresh else Counting count (count - left)) (differs left count ne)
 
-fresh_wire : (count left : ℕ) → left ≡ count → busy_wire (Owing count left) ≡ Fresh
+fresh_wire : (count left : ℕ) → left ≡ count → busy_wire (Completing count left) ≡ Fresh
 fresh_wire count left e = ap (λ b. if b then Fresh else Counting count (count - left)) (equals left count e)
 
 equal_or_not : (m n : ℕ) → (m ≡ n) ⊎ (m ≢ n)
 equal_or_not m n = grind arith
 
-last_comes : (count : ℕ) → 0 < count → one_more count (Some (busy_wire (Owing count 1))) ≡ None
+last_comes : (count : ℕ) → 0 < count → one_more count (Some (busy_wire (Completing count 1))) ≡ None
 last_comes count l = go (equal_or_not 1 count)
   where
-    go : (1 ≡ count) ⊎ (1 ≢ count) → one_more count (Some (busy_wire (Owing count 1))) ≡ None
+    go : (1 ≡ count) ⊎ (1 ≢ count) → one_more count (Some (busy_wire (Completing count 1))) ≡ None
     go (inl e) = ap (λ b. one_more count (Some b)) (fresh_wire count 1 e) ∙ counting_last count 1 e
     go (inr ne) = ap (λ b. one_more count (Some b)) (owing_wire count 1 ne) ∙ counting_last count (suc (count - 1)) (omega (arith, l))
 
 more_come :
     (count left : ℕ) → suc (suc left) ≤ count
-    → one_more count (Some (busy_wire (Owing count (suc (suc left))))) ≡ Some (busy_wire (Owing count (suc left)))
+    → one_more count (Some (busy_wire (Completing count (suc (suc left))))) ≡ Some (busy_wire (Completing count (suc left)))
 more_come count left l = go (equal_or_not (suc (suc left)) count)
   where
-    after : busy_wire (Owing count (suc left)) ≡ Counting count (count - suc left)
+    after : busy_wire (Completing count (suc left)) ≡ Counting count (count - suc left)
     after = owing_wire count (suc left) (λ e. absurd (omega (arith, l, e)))
 
     go :
         (suc (suc left) ≡ count) ⊎ (suc (suc left) ≢ count)
-        → one_more count (Some (busy_wire (Owing count (suc (suc left))))) ≡ Some (busy_wire (Owing count (suc left)))
+        → one_more count (Some (busy_wire (Completing count (suc (suc left))))) ≡ Some (busy_wire (Completing count (suc left)))
     go (inl e) =
         let one : 1 ≡ count - suc left = omega (arith, e) in
         ap (λ b. one_more count (Some b)) (fresh_wire count (suc (suc left)) e)
@@ -86,7 +86,7 @@ more_come count left l = go (equal_or_not (suc (suc left)) count)
 abbrev pub counted_at : Bool → OrderState → Option BusyWire
 counted_at named s = if named && is_last_left s then None else Some (busy_wire (counted_if named s))
 
-counted_named : (count left : ℕ) → 0 < left → left ≤ count → counted_at true (Owing count left) ≡ one_more count (Some (busy_wire (Owing count left)))
+counted_named : (count left : ℕ) → 0 < left → left ≤ count → counted_at true (Completing count left) ≡ one_more count (Some (busy_wire (Completing count left)))
 counted_named count zero l m = absurd (omega (arith, l))
 counted_named count (suc zero) l m = sym (last_comes count (omega (arith, m)))
 counted_named count (suc (suc left)) l m = sym (more_come count left m)
@@ -97,15 +97,15 @@ same_read zero = refl
 same_read (suc n) = refl
 
 pub unit_count :
-    (ms : Mappings) (g first n next e : ℕ) (p : Part) (c : ℕ) (names : ℕ → Bool) → LegalOwn ms g p (Own.Count c names) → Labels p
-    → AreOwed p → IsOwing p
-    → unit_wire first (own p n (Own.Count c names)) ≡ unit_moved next (unit_wire first p) (own_move first e ms p (Own.Count c names))
-unit_count ms g first n next e p c names l la are owing = go (are c names l.0)
+    (ms : Mappings) (g first n next e : ℕ) (p : Endpoint) (c : ℕ) (names : ℕ → Bool) → LegalLocalAct ms g p (LocalAct.Count c names) → Labels p
+    → AreOwed p → IsCompleting p
+    → unit_wire first (own p n (LocalAct.Count c names)) ≡ unit_moved next (unit_wire first p) (own_move first e ms p (LocalAct.Count c names))
+unit_count ms g first n next e p c names l la are completing = go (are c names l.0)
   where
-    q : Part
-    q = own p n (Own.Count c names)
+    q : Endpoint
+    q = own p n (LocalAct.Count c names)
 
-    go : IsOwedFor p c names → unit_wire first q ≡ unit_moved next (unit_wire first p) (own_move first e ms p (Own.Count c names))
+    go : IsOwedFor p c names → unit_wire first q ≡ unit_moved next (unit_wire first p) (own_move first e ms p (LocalAct.Count c names))
     go (vector, field, carried, low, bits, owed) =
         units_same first p q (queue_of first p) (completed vector (count_read field) (busy_of p)) (end_number first p.front)
         (end_number first p.waits_end) refl
@@ -125,7 +125,7 @@ unit_count ms g first n next e p c names l la are owing = go (are c names l.0)
             ∙ not_queued (count_read field) (owed k h).0
             ∙ sym (ap is_queued (owed k h).1)
           where
-            not_queued : (count left : ℕ) → is_queued (counted (Owing count left)) ≡ false
+            not_queued : (count left : ℕ) → is_queued (counted (Completing count left)) ≡ false
             not_queued count zero = refl
             not_queued count (suc zero) = refl
             not_queued count (suc (suc l)) = refl
@@ -167,7 +167,7 @@ unit_count ms g first n next e p c names l la are owing = go (are c names l.0)
             inside false x = refl
             inside true x =
                 let (left, s) = owed k x in
-                let low = owing k (count_read field) left s in
+                let low = completing k (count_read field) left s in
                 ap (counted_at true) s ∙ counted_named (count_read field) left low.0 low.1
                 ∙ sym (ap (λ z. one_more (count_read field) (Some (busy_wire z))) s)
 

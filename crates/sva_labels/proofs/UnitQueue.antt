@@ -3,18 +3,18 @@
 use Rattle.std.proofs.Common.{◌≡◌, ◌≢◌, ◌⊎◌, inl, inr, refl, ap, ap₂, sym, ◌∙◌, ℕ, suc, ◌<◌, ◌≤◌, true, false, arith}
 use Rattle.std.specs.Prelude.{Option, Some, None, option_map, List, [], ◌∷◌, ◌++◌, map, drop, slice_set}
 use Rattle.sva_model.specs.Words.{put, select, tabulate}
-use Rattle.sva_model.specs.State.{Mappings, Order, OrderState, Part}
+use Rattle.sva_model.specs.State.{Mappings, Order, OrderState, Endpoint}
 use Rattle.sva_model.specs.State.Order.{RangeOf, PasidOf, Wait}
 use Rattle.sva_model.specs.State.OrderState.{Queued, Sent, Done, Void}
 use Rattle.sva_model.specs.State.Stage.{Unbound}
 use Rattle.sva_model.specs.States.{is_open, is_queued, is_busy, is_wait}
-use Rattle.sva_model.specs.Acts.{Own, own, binding_of, end_of}
+use Rattle.sva_model.specs.Acts.{LocalAct, own, binding_of, end_of}
 use Rattle.sva_model.specs.Wire.{number, end_number, cookie_number, descriptor, busy_wire, unit_wire, BusyWire, Descriptor}
 use Rattle.sva_model.specs.Wire.BusyWire.{Fresh}
 use Rattle.sva_model.specs.Wire.Descriptor.{RangeDescriptor, PasidDescriptor, WaitDescriptor}
 use Rattle.sva_wire.proofs.Lists.{tabulate_set}
 use Rattle.sva_laws.proofs.Words.{put-same, put-other, ℕ_cases}
-use Rattle.sva_laws.proofs.Legal.{LegalOwn}
+use Rattle.sva_laws.proofs.Legal.{LegalLocalAct}
 use Rattle.sva_laws.proofs.Bounds.{Bounds}
 use Rattle.sva_laws.proofs.Labels.{Labels}
 use Rattle.sva_laws.proofs.Orders.{Orders, is_undone, is_active}
@@ -24,15 +24,15 @@ use Rattle.sva_labels.proofs.Picked.{picked_same, picked_one_more, picked_drop}
 use Rattle.sva_labels.proofs.UnitSubmitted.{unit_of, unit_same, borne_made, borne_same, cookie_end}
 
 -- the queue and the ITags of a unit
-abbrev pub queue_of : (first : ℕ) → Part → List Descriptor
+abbrev pub queue_of : (first : ℕ) → Endpoint → List Descriptor
 queue_of first p = map (λ k. descriptor first p (p.order k)) (select p.orders (λ k. is_queued (p.order_state k)))
 
-abbrev pub busy_of : Part → List (Option BusyWire)
+abbrev pub busy_of : Endpoint → List (Option BusyWire)
 busy_of p = tabulate 32 (λ t. option_map (λ k. busy_wire (p.order_state k)) (p.at_itag t))
 
 -- what two parts with the same phase have at their units
 pub units_same :
-    (first : ℕ) (p q : Part) (queue : List Descriptor) (busy : List (Option BusyWire)) (front waits_end : ℕ)
+    (first : ℕ) (p q : Endpoint) (queue : List Descriptor) (busy : List (Option BusyWire)) (front waits_end : ℕ)
     → is_open q.phase ≡ is_open p.phase → queue_of first q ≡ queue → busy_of q ≡ busy → end_number first q.front ≡ front
     → end_number first q.waits_end ≡ waits_end → unit_wire first q ≡ unit_of (is_open p.phase) queue busy front waits_end
 units_same first p q queue busy front waits_end o h b f w =
@@ -44,28 +44,29 @@ units_same first p q queue busy front waits_end o h b f w =
 queued_apart : (s : OrderState) → is_queued s ≡ true → is_undone s ≡ true
 queued_apart s h = grind arith
 
-pub not_bound : (p : Part) (b d : ℕ) → p.stage b ≡ Unbound → is_active (p.stage d) ≡ true → d ≢ b
+pub not_bound : (p : Endpoint) (b d : ℕ) → p.stage b ≡ Unbound → is_active (p.stage d) ≡ true → d ≢ b
 not_bound p b d u a e = absurd (cc (sym (ap (λ z. is_active (p.stage z)) e ∙ ap is_active u) ∙ a))
 
 bind_queue :
-    (ms : Mappings) (g first n : ℕ) (p : Part) (b s t : ℕ) → LegalOwn ms g p (Own.Bind b s t) → Orders p
-    → queue_of first (own p n (Own.Bind b s t)) ≡ queue_of first p
+    (ms : Mappings) (g first n : ℕ) (p : Endpoint) (b s t : ℕ) → LegalLocalAct ms g p (LocalAct.Bind b s t) → Orders p
+    → queue_of first (own p n (LocalAct.Bind b s t)) ≡ queue_of first p
 bind_queue ms g first n p b s t l or =
-    picked_same p.orders (λ k. descriptor first (own p n (Own.Bind b s t)) (p.order k)) (λ k. descriptor first p (p.order k))
+    picked_same p.orders (λ k. descriptor first (own p n (LocalAct.Bind b s t)) (p.order k)) (λ k. descriptor first p (p.order k))
     (λ k. is_queued (p.order_state k)) (λ k. is_queued (p.order_state k))
     (λ k m. refl)
     (λ k m q. go (p.order k) (or.undone_stage k (queued_apart (p.order_state k) q)))
   where
-    go : (o : Order) → (is_wait o ≡ false → is_active (p.stage (binding_of o)) ≡ true) → descriptor first (own p n (Own.Bind b s t)) o ≡ descriptor first p o
+    go : (o : Order) → (is_wait o ≡ false → is_active (p.stage (binding_of o)) ≡ true) → descriptor first (own p n (LocalAct.Bind b s t)) o
+        ≡ descriptor first p o
     go (RangeOf d r) a = ap (λ z. RangeDescriptor z r) (put-other p.pasid b t d (not_bound p b d l.2 (a refl)))
     go (PasidOf d) a = ap (λ z. PasidDescriptor z) (put-other p.pasid b t d (not_bound p b d l.2 (a refl)))
     go (Wait c x) a = refl
 
 pub unit_bind :
-    (ms : Mappings) (g first n next e : ℕ) (p : Part) (b s t : ℕ) → LegalOwn ms g p (Own.Bind b s t) → Orders p
-    → unit_wire first (own p n (Own.Bind b s t)) ≡ unit_moved next (unit_wire first p) (own_move first e ms p (Own.Bind b s t))
+    (ms : Mappings) (g first n next e : ℕ) (p : Endpoint) (b s t : ℕ) → LegalLocalAct ms g p (LocalAct.Bind b s t) → Orders p
+    → unit_wire first (own p n (LocalAct.Bind b s t)) ≡ unit_moved next (unit_wire first p) (own_move first e ms p (LocalAct.Bind b s t))
 unit_bind ms g first n next e p b s t l or =
-    units_same first p (own p n (Own.Bind b s t)) (queue_of first p) (busy_of p) (end_number first p.front) (end_number first p.waits_end) refl
+    units_same first p (own p n (LocalAct.Bind b s t)) (queue_of first p) (busy_of p) (end_number first p.front) (end_number first p.waits_end) refl
     (bind_queue ms g first n p b s t l or) refl refl refl
 
 -- A wait with drain is submitted.
@@ -74,8 +75,8 @@ pub old_put : {A : Type 0} (f : ℕ → A) (i k : ℕ) (v : A) → k < i → put
 old_put f i k v l = put-other f i v k (λ e. absurd (omega (arith, l, e)))
 
 pub unit_drain :
-    (ms : Mappings) (g first n next e : ℕ) (p : Part) (b cookie : ℕ) → Bounds g p → Labels p → next ≡ number first cookie
-    → unit_wire first (own p n (Own.Drain b cookie)) ≡ unit_moved next (unit_wire first p) (own_move first e ms p (Own.Drain b cookie))
+    (ms : Mappings) (g first n next e : ℕ) (p : Endpoint) (b cookie : ℕ) → Bounds g p → Labels p → next ≡ number first cookie
+    → unit_wire first (own p n (LocalAct.Drain b cookie)) ≡ unit_moved next (unit_wire first p) (own_move first e ms p (LocalAct.Drain b cookie))
 unit_drain ms g first n next e p b cookie bo la h =
     units_same first p q (queue_of first p ++ WaitDescriptor (number first cookie) true ∷ []) (busy_of p) (end_number first p.front)
     (suc (number first cookie)) refl
@@ -94,16 +95,16 @@ unit_drain ms g first n next e p b cookie bo la h =
     (λ t k m. ap busy_wire (old_put p.order_state p.orders k Queued (borne_made g p bo la t k m))))
     refl
     (cookie_end first cookie)
-    ∙ ap (λ z. unit_moved z (unit_wire first p) (own_move first e ms p (Own.Drain b cookie))) (sym h)
+    ∙ ap (λ z. unit_moved z (unit_wire first p) (own_move first e ms p (LocalAct.Drain b cookie))) (sym h)
   where
-    q : Part
-    q = own p n (Own.Drain b cookie)
+    q : Endpoint
+    q = own p n (LocalAct.Drain b cookie)
 
 -- The invalidation of all pages is submitted, and a wait.
 
 pub unit_invalidate :
-    (ms : Mappings) (g first n next e : ℕ) (p : Part) (b cookie : ℕ) → Bounds g p → Labels p → next ≡ number first cookie
-    → unit_wire first (own p n (Own.Invalidate b cookie)) ≡ unit_moved next (unit_wire first p) (own_move first e ms p (Own.Invalidate b cookie))
+    (ms : Mappings) (g first n next e : ℕ) (p : Endpoint) (b cookie : ℕ) → Bounds g p → Labels p → next ≡ number first cookie
+    → unit_wire first (own p n (LocalAct.Invalidate b cookie)) ≡ unit_moved next (unit_wire first p) (own_move first e ms p (LocalAct.Invalidate b cookie))
 unit_invalidate ms g first n next e p b cookie bo la h =
     units_same first p q (queue_of first p ++ PasidDescriptor (p.pasid b) ∷ WaitDescriptor (number first cookie) false ∷ []) (busy_of p)
     (end_number first p.front) (suc (number first cookie)) refl
@@ -129,10 +130,10 @@ unit_invalidate ms g first n next e p b cookie bo la h =
     (λ t k m. ap busy_wire (old_state k (borne_made g p bo la t k m))))
     refl
     (cookie_end first cookie)
-    ∙ ap (λ z. unit_moved z (unit_wire first p) (own_move first e ms p (Own.Invalidate b cookie))) (sym h)
+    ∙ ap (λ z. unit_moved z (unit_wire first p) (own_move first e ms p (LocalAct.Invalidate b cookie))) (sym h)
   where
-    q : Part
-    q = own p n (Own.Invalidate b cookie)
+    q : Endpoint
+    q = own p n (LocalAct.Invalidate b cookie)
 
     old_state : (k : ℕ) → k < p.orders → put (put p.order_state p.orders Queued) (suc p.orders) Queued k ≡ p.order_state k
     old_state k l = old_put (put p.order_state p.orders Queued) (suc p.orders) k Queued (omega (arith, l)) ∙ old_put p.order_state p.orders k Queued l
@@ -153,7 +154,7 @@ unit_invalidate ms g first n next e p b cookie bo la h =
 
 -- the first order of the queue is queued no more
 sent_queue :
-    (g first : ℕ) (p : Part) (k : ℕ) (s : OrderState) → Bounds g p → p.order_state k ≡ Queued → is_queued s ≡ false
+    (g first : ℕ) (p : Endpoint) (k : ℕ) (s : OrderState) → Bounds g p → p.order_state k ≡ Queued → is_queued s ≡ false
     → ((j : ℕ) → j < k → p.order_state j ≢ Queued)
     → map (λ j. descriptor first p (p.order j)) (select p.orders (λ j. is_queued (put p.order_state k s j))) ≡ drop 1 (queue_of first p)
 sent_queue g first p k s bo h i none =
@@ -173,9 +174,9 @@ sent_queue g first p k s bo h i none =
 -- An order is sent: it is the first in the queue, and its ITag waits for completions.
 
 pub unit_send :
-    (ms : Mappings) (g first n next e : ℕ) (p : Part) (k t : ℕ) → LegalOwn ms g p (Own.Send k t)
+    (ms : Mappings) (g first n next e : ℕ) (p : Endpoint) (k t : ℕ) → LegalLocalAct ms g p (LocalAct.Send k t)
     → ((j : ℕ) → j < k → p.order_state j ≢ Queued) → Bounds g p → Labels p
-    → unit_wire first (own p n (Own.Send k t)) ≡ unit_moved next (unit_wire first p) (own_move first e ms p (Own.Send k t))
+    → unit_wire first (own p n (LocalAct.Send k t)) ≡ unit_moved next (unit_wire first p) (own_move first e ms p (LocalAct.Send k t))
 unit_send ms g first n next e p k t l none bo la =
     units_same first p q (drop 1 (queue_of first p)) (slice_set (busy_of p) t (Some Fresh)) (end_number first p.front) (end_number first p.waits_end) refl
     (sent_queue g first p k Sent bo l.1 refl none)
@@ -184,8 +185,8 @@ unit_send ms g first n next e p k t l none bo la =
     refl
     refl
   where
-    q : Part
-    q = own p n (Own.Send k t)
+    q : Endpoint
+    q = own p n (LocalAct.Send k t)
 
     here : option_map (λ j. busy_wire (q.order_state j)) (q.at_itag t) ≡ Some Fresh
     here = ap (option_map (λ j. busy_wire (q.order_state j))) (put-same p.at_itag t (Some k)) ∙ ap (λ s. Some (busy_wire s)) (put-same p.order_state k Sent)
@@ -203,8 +204,8 @@ unit_send ms g first n next e p k t l none bo la =
 -- A wait is passed: it is the first in the queue, and it is below the front then.
 
 pub unit_pass :
-    (ms : Mappings) (g first n next e : ℕ) (p : Part) (k : ℕ) → LegalOwn ms g p (Own.Pass k) → Bounds g p
-    → unit_wire first (own p n (Own.Pass k)) ≡ unit_moved next (unit_wire first p) (own_move first e ms p (Own.Pass k))
+    (ms : Mappings) (g first n next e : ℕ) (p : Endpoint) (k : ℕ) → LegalLocalAct ms g p (LocalAct.Pass k) → Bounds g p
+    → unit_wire first (own p n (LocalAct.Pass k)) ≡ unit_moved next (unit_wire first p) (own_move first e ms p (LocalAct.Pass k))
 unit_pass ms g first n next e p k l bo =
     units_same first p q (drop 1 (queue_of first p)) (busy_of p) (suc (cookie_number first (p.order k))) (end_number first p.waits_end) refl
     (sent_queue g first p k Done bo l.1 refl l.3)
@@ -212,8 +213,8 @@ unit_pass ms g first n next e p k l bo =
     (front (p.order k) l.2)
     refl
   where
-    q : Part
-    q = own p n (Own.Pass k)
+    q : Endpoint
+    q = own p n (LocalAct.Pass k)
 
     state : (j : ℕ) → busy_wire (put p.order_state k Done j) ≡ busy_wire (p.order_state j)
     state j = go (ℕ_cases j k)

@@ -5,14 +5,14 @@ use Rattle.std.proofs.lemmas.List.{map-append}
 use Rattle.std.specs.Prelude.{◌-◌, if◌then◌else◌, ◌==◌, Option, None, option_map, [], ◌∷◌, ◌++◌, map}
 use Rattle.std.proofs.lemmas.Bool.Decides.{nat_tests}
 use Rattle.sva_model.specs.Words.{put, select, tabulate}
-use Rattle.sva_model.specs.State.{Mappings, OrderState, Part}
-use Rattle.sva_model.specs.State.OrderState.{Queued, Sent, Taken, Lapsed, Owing, Done, Void}
+use Rattle.sva_model.specs.State.{Mappings, OrderState, Endpoint}
+use Rattle.sva_model.specs.State.OrderState.{Queued, Sent, Taken, Lapsed, Completing, Done, Void}
 use Rattle.sva_model.specs.States.{is_open, is_queued, is_taken}
-use Rattle.sva_model.specs.Acts.{Own, own, void_queued, void_undone, lapse, owe_if}
+use Rattle.sva_model.specs.Acts.{LocalAct, own, void_queued, void_undone, lapse, owe_if}
 use Rattle.sva_model.specs.Wire.{end_number, descriptor, busy_wire, unit_wire, BusyWire}
 use Rattle.sva_model.specs.Wire.BusyWire.{Fresh}
 use Rattle.sva_laws.proofs.Words.{put-same, put-other, ℕ_cases}
-use Rattle.sva_laws.proofs.Legal.{LegalOwn}
+use Rattle.sva_laws.proofs.Legal.{LegalLocalAct}
 use Rattle.sva_laws.proofs.Resets.{Resets}
 use Rattle.sva_laws.proofs.Labels.{Labels}
 use Rattle.sva_labels.proofs.Kept.{unit_moved}
@@ -23,19 +23,19 @@ use Rattle.sva_labels.proofs.UnitQueue.{queue_of, busy_of, units_same}
 
 -- other states, by which the same orders are queued and the same ITags are as busy
 pub states_queue :
-    (first : ℕ) (p : Part) (s : ℕ → OrderState) → ((k : ℕ) → is_queued (s k) ≡ is_queued (p.order_state k))
+    (first : ℕ) (p : Endpoint) (s : ℕ → OrderState) → ((k : ℕ) → is_queued (s k) ≡ is_queued (p.order_state k))
     → map (λ k. descriptor first p (p.order k)) (select p.orders (λ k. is_queued (s k))) ≡ queue_of first p
 states_queue first p s h =
     picked_same p.orders (λ k. descriptor first p (p.order k)) (λ k. descriptor first p (p.order k)) (λ k. is_queued (s k))
     (λ k. is_queued (p.order_state k)) (λ k l. h k) (λ k l x. refl)
 
 pub states_busy :
-    (p : Part) (s : ℕ → OrderState) → ((k : ℕ) → busy_wire (s k) ≡ busy_wire (p.order_state k))
+    (p : Endpoint) (s : ℕ → OrderState) → ((k : ℕ) → busy_wire (s k) ≡ busy_wire (p.order_state k))
     → tabulate 32 (λ t. option_map (λ k. busy_wire (s k)) (p.at_itag t)) ≡ busy_of p
 states_busy p s h = borne_same 32 p.at_itag (λ k. busy_wire (s k)) (λ k. busy_wire (p.order_state k)) (λ t k m. h k)
 
 no_queue :
-    (first : ℕ) (p : Part) (s : ℕ → OrderState) → ((k : ℕ) → is_queued (s k) ≡ false)
+    (first : ℕ) (p : Endpoint) (s : ℕ → OrderState) → ((k : ℕ) → is_queued (s k) ≡ false)
     → map (λ k. descriptor first p (p.order k)) (select p.orders (λ k. is_queued (s k))) ≡ []
 no_queue first p s h = picked_none p.orders (λ k. descriptor first p (p.order k)) (λ k. is_queued (s k)) (λ k l. h k)
 
@@ -49,13 +49,13 @@ void_busy Queued = refl
 void_busy Sent = refl
 void_busy (Taken u) = refl
 void_busy Lapsed = refl
-void_busy (Owing c l) = refl
+void_busy (Completing c l) = refl
 void_busy Done = refl
 void_busy Void = refl
 
 pub unit_reset :
-    (ms : Mappings) (first n next e : ℕ) (p : Part)
-    → unit_wire first (own p n Own.Reset) ≡ unit_moved next (unit_wire first p) (own_move first e ms p Own.Reset)
+    (ms : Mappings) (first n next e : ℕ) (p : Endpoint)
+    → unit_wire first (own p n LocalAct.Reset) ≡ unit_moved next (unit_wire first p) (own_move first e ms p LocalAct.Reset)
 unit_reset ms first n next e p =
     unit_same false (map (λ k. descriptor first p (p.order k)) (select p.orders (λ k. is_queued (void_queued (p.order_state k))))) []
     (tabulate 32 (λ t. option_map (λ k. busy_wire (void_queued (p.order_state k))) (p.at_itag t)))
@@ -79,15 +79,15 @@ lapse_busy Queued = refl
 lapse_busy Sent = refl
 lapse_busy (Taken u) = refl
 lapse_busy Lapsed = refl
-lapse_busy (Owing c l) = refl
+lapse_busy (Completing c l) = refl
 lapse_busy Done = refl
 lapse_busy Void = refl
 
 pub unit_reset_arrives :
-    (ms : Mappings) (g first n next e : ℕ) (p : Part) (c : ℕ) → LegalOwn ms g p (Own.Reset_arrives c) → Resets n p
-    → unit_wire first (own p n (Own.Reset_arrives c)) ≡ unit_moved next (unit_wire first p) (own_move first e ms p (Own.Reset_arrives c))
+    (ms : Mappings) (g first n next e : ℕ) (p : Endpoint) (c : ℕ) → LegalLocalAct ms g p (LocalAct.Reset_arrives c) → Resets n p
+    → unit_wire first (own p n (LocalAct.Reset_arrives c)) ≡ unit_moved next (unit_wire first p) (own_move first e ms p (LocalAct.Reset_arrives c))
 unit_reset_arrives ms g first n next e p c l re =
-    units_same first p (own p n (Own.Reset_arrives c)) (queue_of first p) (busy_of p) (end_number first p.front) (end_number first p.waits_end)
+    units_same first p (own p n (LocalAct.Reset_arrives c)) (queue_of first p) (busy_of p) (end_number first p.front) (end_number first p.waits_end)
     (sym (ap is_open (re.down c l.0)))
     (states_queue first p (λ k. lapse (p.order_state k)) (λ k. lapse_queued (p.order_state k)))
     (states_busy p (λ k. lapse (p.order_state k)) (λ k. lapse_busy (p.order_state k)))
@@ -111,10 +111,10 @@ put_busy f i k s h = go (ℕ_cases k i)
     go (inr ne) = ap busy_wire (put-other f i s k ne)
 
 pub unit_take :
-    (ms : Mappings) (g first n next e : ℕ) (p : Part) (c k : ℕ) → LegalOwn ms g p (Own.Take c k) → Labels p
-    → unit_wire first (own p n (Own.Take c k)) ≡ unit_moved next (unit_wire first p) (own_move first e ms p (Own.Take c k))
+    (ms : Mappings) (g first n next e : ℕ) (p : Endpoint) (c k : ℕ) → LegalLocalAct ms g p (LocalAct.Take c k) → Labels p
+    → unit_wire first (own p n (LocalAct.Take c k)) ≡ unit_moved next (unit_wire first p) (own_move first e ms p (LocalAct.Take c k))
 unit_take ms g first n next e p c k l la =
-    units_same first p (own p n (Own.Take c k)) (queue_of first p) (busy_of p) (end_number first p.front) (end_number first p.waits_end) refl
+    units_same first p (own p n (LocalAct.Take c k)) (queue_of first p) (busy_of p) (end_number first p.front) (end_number first p.waits_end) refl
     (states_queue first p (put p.order_state k (Taken p.uses)) (λ j. put_queued p.order_state k j (Taken p.uses) (ap is_queued (la.sent c k l))))
     (states_busy p (put p.order_state k (Taken p.uses)) (λ j. put_busy p.order_state k j (Taken p.uses) (ap busy_wire (la.sent c k l))))
     refl
@@ -134,16 +134,18 @@ owe_busy true count (Taken u) h = ap (λ z. if z then Fresh else BusyWire.Counti
 owe_busy true count Queued h = absurd (let z = h refl in cc)
 owe_busy true count Sent h = absurd (let z = h refl in cc)
 owe_busy true count Lapsed h = absurd (let z = h refl in cc)
-owe_busy true count (Owing c l) h = absurd (let z = h refl in cc)
+owe_busy true count (Completing c l) h = absurd (let z = h refl in cc)
 owe_busy true count Done h = absurd (let z = h refl in cc)
 owe_busy true count Void h = absurd (let z = h refl in cc)
 
 pub unit_finish :
-    (ms : Mappings) (g first n next e : ℕ) (p : Part) (names : ℕ → Bool) (vector count : ℕ)
-    → LegalOwn ms g p (Own.Finish names vector count)
-    → unit_wire first (own p n (Own.Finish names vector count)) ≡ unit_moved next (unit_wire first p) (own_move first e ms p (Own.Finish names vector count))
+    (ms : Mappings) (g first n next e : ℕ) (p : Endpoint) (names : ℕ → Bool) (vector count : ℕ)
+    → LegalLocalAct ms g p (LocalAct.Finish names vector count)
+    → unit_wire first (own p n (LocalAct.Finish names vector count))
+        ≡ unit_moved next (unit_wire first p) (own_move first e ms p (LocalAct.Finish names vector count))
 unit_finish ms g first n next e p names vector count l =
-    units_same first p (own p n (Own.Finish names vector count)) (queue_of first p) (busy_of p) (end_number first p.front) (end_number first p.waits_end) refl
+    units_same first p (own p n (LocalAct.Finish names vector count)) (queue_of first p) (busy_of p) (end_number first p.front)
+        (end_number first p.waits_end) refl
     (states_queue first p (λ k. owe_if (names k) count (p.order_state k)) (λ k. owe_queued (names k) count (p.order_state k) (l.1 k)))
     (states_busy p (λ k. owe_if (names k) count (p.order_state k)) (λ k. owe_busy (names k) count (p.order_state k) (l.1 k)))
     refl
@@ -163,8 +165,8 @@ map_tabulate zero f h = refl
 map_tabulate (suc n) f h = map-append h (tabulate n f) (f n ∷ []) ∙ ap (λ xs. xs ++ h (f n) ∷ []) (map_tabulate n f h)
 
 pub unit_reopen :
-    (ms : Mappings) (g first n next e : ℕ) (p : Part) (c : ℕ) → LegalOwn ms g p (Own.Reopen c) → Resets n p
-    → unit_wire first (own p n (Own.Reopen c)) ≡ unit_moved next (unit_wire first p) (own_move first e ms p (Own.Reopen c))
+    (ms : Mappings) (g first n next e : ℕ) (p : Endpoint) (c : ℕ) → LegalLocalAct ms g p (LocalAct.Reopen c) → Resets n p
+    → unit_wire first (own p n (LocalAct.Reopen c)) ≡ unit_moved next (unit_wire first p) (own_move first e ms p (LocalAct.Reopen c))
 unit_reopen ms g first n next e p c l re =
     unit_same true (map (λ k. descriptor first p (p.order k)) (select p.orders (λ k. is_queued (void_undone (p.order_state k))))) (queue_of first p)
     (tabulate 32 (λ t. option_map (λ k. busy_wire (void_undone (p.order_state k))) None))

@@ -4,9 +4,9 @@ use Rattle.std.proofs.Common.{◌≡◌, refl, ap, ap₂, ◌∙◌, ℕ, suc, �
 use Rattle.std.specs.Prelude.{◌-◌, ◌&&◌, nat_lt, Option, Some, None, option_map, List, [], ◌∷◌, ◌++◌, map}
 use Rattle.std.proofs.lemmas.Bool.Decides.{nat_tests}
 use Rattle.sva_model.specs.Words.{put_range, select, tabulate, holds_of}
-use Rattle.sva_model.specs.State.{Mappings, Order, OrderState, Part}
+use Rattle.sva_model.specs.State.{Mappings, Order, OrderState, Endpoint}
 use Rattle.sva_model.specs.State.Order.{RangeOf, Wait}
-use Rattle.sva_model.specs.State.OrderState.{Queued, Sent, Taken, Lapsed, Owing, Done, Void}
+use Rattle.sva_model.specs.State.OrderState.{Queued, Sent, Taken, Lapsed, Completing, Done, Void}
 use Rattle.sva_model.specs.States.{is_open, is_queued, is_busy, is_running, covers}
 use Rattle.sva_model.specs.Acts.{submitted, range_at, binding_of, extent_of}
 use Rattle.sva_model.specs.Wire.{number, end_number, descriptor, busy_wire, taken_by, chain, unit_wire, device_wire, page_queue_wire, host_groups_wire}
@@ -29,7 +29,7 @@ pub unit_same :
 unit_same o q q' b b' f f' w w' hq hb hf hw = λ i. unit_of o (hq i) (hb i) (hf i) (hw i)
 
 -- an order that bears an ITag is made
-pub borne_made : (g : ℕ) (p : Part) → Bounds g p → Labels p → (t k : ℕ) → p.at_itag t ≡ Some k → k < p.orders
+pub borne_made : (g : ℕ) (p : Endpoint) → Bounds g p → Labels p → (t k : ℕ) → p.at_itag t ≡ Some k → k < p.orders
 borne_made g p bo la t k h = let b = la.itag_bears t k h in made (bo.order_state k) b.1
   where
     made : (p.orders ≤ k → p.order_state k ≡ Void) → is_busy (p.order_state k) ≡ true → k < p.orders
@@ -56,16 +56,17 @@ chained_same {A = A} n at f g h = tabulate_same n (λ t. chain f (at t)) (λ t. 
 
 -- The orders of a submission.
 
-old_order : (p : Part) (b q count order cookie k : ℕ) → k < p.orders → (submitted p b q count order cookie).order k ≡ p.order k
+old_order : (p : Endpoint) (b q count order cookie k : ℕ) → k < p.orders → (submitted p b q count order cookie).order k ≡ p.order k
 old_order p b q count order cookie k l = grind (arith, nat_tests)
 
-old_state : (p : Part) (b q count order cookie k : ℕ) → k < p.orders → (submitted p b q count order cookie).order_state k ≡ p.order_state k
+old_state : (p : Endpoint) (b q count order cookie k : ℕ) → k < p.orders → (submitted p b q count order cookie).order_state k ≡ p.order_state k
 old_state p b q count order cookie k l = grind (arith, nat_tests)
 
-new_state : (p : Part) (b q count order cookie j : ℕ) → j < suc count → (submitted p b q count order cookie).order_state (p.orders + j) ≡ Queued
+new_state : (p : Endpoint) (b q count order cookie j : ℕ) → j < suc count → (submitted p b q count order cookie).order_state (p.orders + j) ≡ Queued
 new_state p b q count order cookie j l = grind (arith, nat_tests)
 
-new_range : (p : Part) (b q count order cookie j : ℕ) → j < count → (submitted p b q count order cookie).order (p.orders + j) ≡ RangeOf b (range_at q order j)
+new_range : (p : Endpoint) (b q count order cookie j : ℕ) → j < count → (submitted p b q count order cookie).order (p.orders + j)
+    ≡ RangeOf b (range_at q order j)
 new_range p b q count order cookie j l =
     let same : (p.orders + j) - p.orders ≡ j = omega arith in
     in_range (p.orders + j) (omega arith) (omega (arith, l)) ∙ ap (λ z. RangeOf b (range_at q order z)) same
@@ -73,11 +74,11 @@ new_range p b q count order cookie j l =
     in_range : (k : ℕ) → p.orders ≤ k → k < p.orders + count → (submitted p b q count order cookie).order k ≡ RangeOf b (range_at q order (k - p.orders))
     in_range k a c = grind (arith, nat_tests)
 
-new_wait : (p : Part) (b q count order cookie : ℕ) → (submitted p b q count order cookie).order (p.orders + count) ≡ Wait cookie false
+new_wait : (p : Endpoint) (b q count order cookie : ℕ) → (submitted p b q count order cookie).order (p.orders + count) ≡ Wait cookie false
 new_wait p b q count order cookie = put-same (put_range p.order p.orders count (λ j. RangeOf b (range_at q order j))) (p.orders + count) (Wait cookie false)
 
 queue_submitted :
-    (first : ℕ) (p : Part) (b q count order cookie : ℕ)
+    (first : ℕ) (p : Endpoint) (b q count order cookie : ℕ)
     → map (λ k. descriptor first (submitted p b q count order cookie) ((submitted p b q count order cookie).order k))
     (select (p.orders + suc count) (λ k. is_queued ((submitted p b q count order cookie).order_state k)))
     ≡ map (λ k. descriptor first p (p.order k)) (select p.orders (λ k. is_queued (p.order_state k))) ++ descriptors_for (p.pasid b) q count order
@@ -111,7 +112,7 @@ pub cookie_end : (first cookie : ℕ) → end_number first (suc cookie) ≡ suc 
 cookie_end first cookie = omega arith
 
 pub unit_submitted :
-    (g first : ℕ) (p : Part) (b q count order cookie : ℕ) → Bounds g p → Labels p
+    (g first : ℕ) (p : Endpoint) (b q count order cookie : ℕ) → Bounds g p → Labels p
     → unit_wire first (submitted p b q count order cookie)
     ≡ with_descriptors (unit_wire first p) (descriptors_for (p.pasid b) q count order (number first cookie)) (number first cookie)
 unit_submitted g first p b q count order cookie bo la =
@@ -137,7 +138,7 @@ unit_submitted g first p b q count order cookie bo la =
 -- The other keepers don't see it.
 
 -- a taken order as it is seen
-abbrev pub taken_as : Mappings → Part → Order → (uses : ℕ) → Option TakenWire
+abbrev pub taken_as : Mappings → Endpoint → Order → (uses : ℕ) → Option TakenWire
 taken_as ms p o uses =
     Some (record {
       pasid = p.pasid (binding_of o);
@@ -148,7 +149,7 @@ taken_as ms p o uses =
     })
 
 pub device_submitted :
-    (g : ℕ) (ms : Mappings) (p : Part) (b q count order cookie : ℕ) → Bounds g p → Labels p
+    (g : ℕ) (ms : Mappings) (p : Endpoint) (b q count order cookie : ℕ) → Bounds g p → Labels p
     → device_wire ms (submitted p b q count order cookie) ≡ device_wire ms p
 device_submitted g ms p b q count order cookie bo la =
     ap (λ (taken : List (Option TakenWire)). record (device_wire ms p) { taken = taken })
@@ -166,7 +167,7 @@ device_submitted g ms p b q count order cookie bo la =
     by_state k Queued h = refl
     by_state k Sent h = refl
     by_state k Lapsed h = refl
-    by_state k (Owing c left) h = refl
+    by_state k (Completing c left) h = refl
     by_state k Done h = refl
     by_state k Void h = refl
 
@@ -177,10 +178,10 @@ device_submitted g ms p b q count order cookie bo la =
         by_state k ((submitted p b q count order cookie).order_state k) (old_order p b q count order cookie k l)
         ∙ ap (taken_by ms p k) (old_state p b q count order cookie k l)
 
-pub page_queue_submitted : (p : Part) (b q count order cookie : ℕ) → page_queue_wire (submitted p b q count order cookie) ≡ page_queue_wire p
+pub page_queue_submitted : (p : Endpoint) (b q count order cookie : ℕ) → page_queue_wire (submitted p b q count order cookie) ≡ page_queue_wire p
 page_queue_submitted p b q count order cookie = refl
 
 pub host_groups_submitted :
-    (first : ℕ) (p : Part) (b q count order cookie : ℕ)
+    (first : ℕ) (p : Endpoint) (b q count order cookie : ℕ)
     → host_groups_wire first (submitted p b q count order cookie) ≡ host_groups_wire first p
 host_groups_submitted first p b q count order cookie = refl

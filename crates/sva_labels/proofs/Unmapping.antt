@@ -4,12 +4,12 @@ use Rattle.std.proofs.Common.{◌≡◌, refl, ap, ap₂, sym, ◌∙◌, ℕ, �
 use Rattle.std.specs.Prelude.{Some, None, Option, option_map, ◌&&◌, nat_lt, if◌then◌else◌, length, map, filter}
 use Rattle.std.proofs.lemmas.Bool.Decides.{nat_tests}
 use Rattle.sva_model.specs.Words.{count_below, select, tabulate, is_some}
-use Rattle.sva_model.specs.State.{Owed, Mappings, Part, World, Stage}
+use Rattle.sva_model.specs.State.{Owed, Mappings, Endpoint, World, Stage}
 use Rattle.sva_model.specs.State.Stage.{Unbound, Live, Stopping, Draining, Invalidating, Quiet, Lost, Released}
 use Rattle.sva_model.specs.States.{is_open, is_unreleased, is_before_invalidating, is_job}
 use Rattle.sva_model.specs.Acts.{act, bound, submits, submits_at, cookie_of, owed_by, submitted, submitted_if, part_after_unmap, in_range, without_pages}
 use Rattle.sva_model.specs.Acts.Act.{Unmap}
-use Rattle.sva_model.specs.Wire.{BindingWire, PartWire, StageWire, number, cookie_number, target_wire, stage_wire, binding_wire, bindings_wire, unit_wire}
+use Rattle.sva_model.specs.Wire.{BindingWire, EndpointWire, StageWire, number, cookie_number, target_wire, stage_wire, binding_wire, bindings_wire, unit_wire}
 use Rattle.sva_model.specs.Wire.{part_wire, pages_wire, places_wire, group_job, wire}
 use Rattle.sva_laws.proofs.Counting.{count_same}
 use Rattle.sva_laws.proofs.Bounds.{Bounds}
@@ -36,16 +36,16 @@ use Rattle.sva_labels.proofs.Withholding.{target_at, seen_targets, target_new, s
 
 -- What a submission leaves as it is.
 
-stage_same : (t : Bool) (p : Part) (o : Option ℕ) (q count order cookie b : ℕ) → (submitted_if t p o q count order cookie).stage b ≡ p.stage b
+stage_same : (t : Bool) (p : Endpoint) (o : Option ℕ) (q count order cookie b : ℕ) → (submitted_if t p o q count order cookie).stage b ≡ p.stage b
 stage_same true p (Some d) q count order cookie b = refl
 stage_same true p None q count order cookie b = refl
 stage_same false p o q count order cookie b = refl
 
-old_order : (p : Part) (b q count order cookie k : ℕ) → k < p.orders → (submitted p b q count order cookie).order k ≡ p.order k
+old_order : (p : Endpoint) (b q count order cookie k : ℕ) → k < p.orders → (submitted p b q count order cookie).order k ≡ p.order k
 old_order p b q count order cookie k l = grind (arith, nat_tests)
 
 binding_same :
-    (first e : ℕ) (t : Bool) (p : Part) (o : Option ℕ) (q count order cookie b : ℕ) → Orders p
+    (first e : ℕ) (t : Bool) (p : Endpoint) (o : Option ℕ) (q count order cookie b : ℕ) → Orders p
     → binding_wire first e (submitted_if t p o q count order cookie) b ≡ binding_wire first e p b
 binding_same first e true p (Some d) q count order cookie b or = ap (λ z. record (binding_wire first e p b) { stage = z }) (go (p.stage b) refl)
   where
@@ -62,25 +62,25 @@ binding_same first e true p None q count order cookie b or = refl
 binding_same first e false p o q count order cookie b or = refl
 
 job_same :
-    (first e : ℕ) (t : Bool) (p : Part) (o : Option ℕ) (q count order cookie g : ℕ)
+    (first e : ℕ) (t : Bool) (p : Endpoint) (o : Option ℕ) (q count order cookie g : ℕ)
     → group_job first e (submitted_if t p o q count order cookie) g ≡ group_job first e p g
 job_same first e true p (Some d) q count order cookie g = refl
 job_same first e true p None q count order cookie g = refl
 job_same first e false p o q count order cookie g = refl
 
 queued_same :
-    (t : Bool) (p : Part) (o : Option ℕ) (q count order cookie g : ℕ)
+    (t : Bool) (p : Endpoint) (o : Option ℕ) (q count order cookie g : ℕ)
     → is_job ((submitted_if t p o q count order cookie).host_group g) ≡ is_job (p.host_group g)
 queued_same true p (Some d) q count order cookie g = refl
 queued_same true p None q count order cookie g = refl
 queued_same false p o q count order cookie g = refl
 
-carried_same : (t : Bool) (p : Part) (o : Option ℕ) (q count order cookie c : ℕ) → (submitted_if t p o q count order cookie).carried c ≡ p.carried c
+carried_same : (t : Bool) (p : Endpoint) (o : Option ℕ) (q count order cookie c : ℕ) → (submitted_if t p o q count order cookie).carried c ≡ p.carried c
 carried_same true p (Some d) q count order cookie c = refl
 carried_same true p None q count order cookie c = refl
 carried_same false p o q count order cookie c = refl
 
-message_same : (t : Bool) (p : Part) (o : Option ℕ) (q count order cookie c : ℕ) → (submitted_if t p o q count order cookie).message c ≡ p.message c
+message_same : (t : Bool) (p : Endpoint) (o : Option ℕ) (q count order cookie c : ℕ) → (submitted_if t p o q count order cookie).message c ≡ p.message c
 message_same true p (Some d) q count order cookie c = refl
 message_same true p None q count order cookie c = refl
 message_same false p o q count order cookie c = refl
@@ -90,7 +90,7 @@ message_same false p o q count order cookie c = refl
 pub part_is : (w : World) (e : ℕ) → e < w.config.endpoints → part_of (wire w) e ≡ part_wire w.config.first w.mappings (w.part e)
 part_is w e l = tabulate_at w.config.endpoints (λ x. part_wire w.config.first w.mappings (w.part x)) e idle l
 
-submits_seen : (first e : ℕ) (p : Part) (o : Option ℕ) → submits_by (unit_wire first p) (option_map (binding_wire first e p) o) ≡ submits_at p o
+submits_seen : (first e : ℕ) (p : Endpoint) (o : Option ℕ) → submits_by (unit_wire first p) (option_map (binding_wire first e p) o) ≡ submits_at p o
 submits_seen first e p None = refl
 submits_seen first e p (Some b) = ap (λ z. is_open p.phase && z) (go (p.stage b))
   where
@@ -120,19 +120,19 @@ cookie_is w s e i l =
 
 -- The units.
 
-abbrev pub unmapped_by : Bool → PartWire → Option BindingWire → (page count order cookie : ℕ) → PartWire
+abbrev pub unmapped_by : Bool → EndpointWire → Option BindingWire → (page count order cookie : ℕ) → EndpointWire
 unmapped_by true p b q count order cookie = record p { unit = with_descriptors p.unit (descriptors_for (pasid_or_0 b) q count order cookie) cookie }
 unmapped_by false p b q count order cookie = p
 
 part_split :
-    (t : Bool) (p : PartWire) (b : Option BindingWire) (q count order cookie : ℕ)
+    (t : Bool) (p : EndpointWire) (b : Option BindingWire) (q count order cookie : ℕ)
     → (if t then record p { unit = with_descriptors p.unit (descriptors_for (pasid_or_0 b) q count order cookie) cookie } else p)
     ≡ unmapped_by t p b q count order cookie
 part_split true p b q count order cookie = refl
 part_split false p b q count order cookie = refl
 
 part_submitted :
-    (g first e : ℕ) (ms : Mappings) (s : ℕ) (pages : ℕ → Bool) (owed : ℕ → Owed) (t : Bool) (p : Part) (o : Option ℕ) (q count order cookie : ℕ)
+    (g first e : ℕ) (ms : Mappings) (s : ℕ) (pages : ℕ → Bool) (owed : ℕ → Owed) (t : Bool) (p : Endpoint) (o : Option ℕ) (q count order cookie : ℕ)
     → Bounds g p → labels.Labels p → submits_at p o ≡ t
     → part_wire first (without_pages ms s pages owed) (submitted_if t p o q count order cookie)
     ≡ unmapped_by t (part_wire first ms p) (option_map (binding_wire first e p) o) q count order (number first cookie)
@@ -204,7 +204,7 @@ places_left w s q count order i fronts debts low =
 -- All of it. The premises beside the invariant are laws of each list of steps, and the config fits.
 
 -- the part of an endpoint, as the unmapping leaves it
-abbrev pub left_by : (w : World) (space page count order endpoint : ℕ) → Part
+abbrev pub left_by : (w : World) (space page count order endpoint : ℕ) → Endpoint
 left_by w s q count order e = submitted_if (submits w s e) (w.part e) (bound w e s) q count order (cookie_of w s e)
 
 pub unmap_pages :
@@ -220,8 +220,8 @@ unmap_pages w s q count order i fronts debts low =
       jobs = map (λ j. job_left (w.job j).endpoint (w.job j).group k) (select w.jobs (λ j. queued_left (w.job j).endpoint (w.job j).group k));
       hands = tabulate w.config.workers (λ x. option_map (λ j. job_left (w.job j).endpoint (w.job j).group k) (w.hand x));
       in_flight =
-          map (λ c. record { number = number w.config.first c; endpoint = w.way c; message = carried_left (w.way c) c k })
-          (select w.messages (λ c. is_some (message_left (w.way c) c k)));
+          map (λ c. record { number = number w.config.first c; endpoint = w.link_of c; message = carried_left (w.link_of c) c k })
+          (select w.messages (λ c. is_some (message_left (w.link_of c) c k)));
       next_cookie = next k;
     }
   where
@@ -243,8 +243,8 @@ unmap_pages w s q count order i fronts debts low =
     stage_left : (e b : ℕ) → (left_by w s q count order e).stage b ≡ (w.part e).stage b
     stage_left e b = stage_same (submits w s e) (w.part e) (bound w e s) q count order (cookie_of w s e) b
 
-    bindings : bindings_wire w.config.first w.bindings w.home (left_by w s q count order) ≡ bindings_wire w.config.first w.bindings w.home w.part
-    bindings = λ k. map (λ b. binding_left (w.home b) b k) (select w.bindings (λ b. is_unreleased (stage_left (w.home b) b k)))
+    bindings : bindings_wire w.config.first w.bindings w.endpoint_of (left_by w s q count order) ≡ bindings_wire w.config.first w.bindings w.endpoint_of w.part
+    bindings = λ k. map (λ b. binding_left (w.endpoint_of b) b k) (select w.bindings (λ b. is_unreleased (stage_left (w.endpoint_of b) b k)))
 
     spaces : (wire (act w (Unmap s q count order))).spaces ≡ (moved (wire w) (act_move w (Unmap s q count order))).spaces
     spaces =

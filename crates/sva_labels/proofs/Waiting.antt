@@ -9,7 +9,7 @@ use Rattle.sva_model.specs.Message.{Message}
 use Rattle.sva_model.specs.Message.Message.{StartMessage, StopMessage, ResetMessage, InvalidateMessage, ResponseMessage, RequestMessage}
 use Rattle.sva_model.specs.Message.Message.{InvalidatedMessage, PageRequestMessage, MarkerMessage, ResetDoneMessage}
 use Rattle.sva_model.specs.Acts.{count_field, scope_of}
-use Rattle.sva_model.specs.Wire.{Wire, PartWire, FlightWire, DeviceWire, UnitWire, PageRequestWire}
+use Rattle.sva_model.specs.Wire.{Wire, EndpointWire, FlightWire, DeviceWire, UnitWire, PageRequestWire}
 use Rattle.sva_wire.proofs.Pages.{same_is}
 use Rattle.sva_labels.specs.Finding.{idle, part_of, submits, flight_of}
 use Rattle.sva_labels.specs.Moves.{Move, moved, all_moved, with_part, with_device, with_unit, part_unmapped, sent, sent_copies, delivered, filed}
@@ -95,12 +95,12 @@ found_number (g ∷ fs) n f h = go (g.number == n) refl (λ k. found_number fs n
 
 -- In the page request queues.
 
-abbrev pub queue : PartWire → ℕ
+abbrev pub queue : EndpointWire → ℕ
 queue p = length p.page_queue
 
 -- one endpoint's queue changes
 queue_set :
-    (ps : List PartWire) (e : ℕ) (q : PartWire) (a b : ℕ) → (e < length ps) ⊎ (a ≤ b) → queue q + a ≤ queue (get_or ps e idle) + b
+    (ps : List EndpointWire) (e : ℕ) (q : EndpointWire) (a b : ℕ) → (e < length ps) ⊎ (a ≤ b) → queue q + a ≤ queue (get_or ps e idle) + b
     → sum_by queue (slice_set ps e q) + a ≤ sum_by queue ps + b
 queue_set [] e q a b (inl l) h = absurd (omega (arith, l))
 queue_set [] e q a b (inr l) h = omega (arith, l)
@@ -120,7 +120,7 @@ queue_set (p ∷ ps) (suc e) q a b l h =
 
 -- each stays as long as it was
 queue_table :
-    (n : ℕ) (ps : List PartWire) (f : ℕ → PartWire) → n ≤ length ps → ((e : ℕ) → queue (f e) ≡ queue (get_or ps e idle))
+    (n : ℕ) (ps : List EndpointWire) (f : ℕ → EndpointWire) → n ≤ length ps → ((e : ℕ) → queue (f e) ≡ queue (get_or ps e idle))
     → sum_by queue (tabulate n f) ≡ sum_by queue (take n ps)
 unfolding tabulate
 queue_table zero ps f l h = refl
@@ -146,7 +146,7 @@ unchanged w = omega arith
 pub after_both : (w v u : Wire) (j k : ℕ) → IsInTurn w v j → IsInTurn v u k → IsInTurn w u (j + k)
 after_both w v u j k a b = omega (arith, a, b)
 
-part_kept : (w : Wire) (e : ℕ) (q : PartWire) → queue q ≤ queue (part_of w e) → IsInTurn w (with_part w e q) 0
+part_kept : (w : Wire) (e : ℕ) (q : EndpointWire) → queue q ≤ queue (part_of w e) → IsInTurn w (with_part w e q) 0
 part_kept w e q h =
     let least : 0 ≤ 0 = omega arith in
     let set = queue_set w.parts e q 0 0 (inr least) (omega (arith, h)) in
@@ -175,7 +175,7 @@ delivered_kept w v n h =
     let left = count_left (λ (f : FlightWire). not (f.number == n)) v.in_flight in
     omega (arith, h, left)
 
-queue_either : (b : Bool) (p q : PartWire) → queue q ≡ queue p → queue (if b then q else p) ≡ queue p
+queue_either : (b : Bool) (p q : EndpointWire) → queue q ≡ queue p → queue (if b then q else p) ≡ queue p
 queue_either true p q h = h
 queue_either false p q h = refl
 

@@ -17,12 +17,12 @@ use Rattle.sva_model.specs.Message.Code.{SuccessCode, InvalidCode, FailureCode}
 use Rattle.sva_model.specs.Message.Message.{StartMessage, StopMessage, ResetMessage, CompletionMessage, InvalidateMessage, ResponseMessage, RequestMessage}
 use Rattle.sva_model.specs.Message.Message.{InvalidatedMessage, PageRequestMessage, MarkerMessage, ResetDoneMessage}
 use Rattle.sva_model.specs.State.{GroupState}
-use Rattle.sva_model.specs.State.GroupState.{Unfinished, Awaiting, Stale, Finished}
+use Rattle.sva_model.specs.State.GroupState.{Collecting, Awaiting, Stale, Closed}
 use Rattle.sva_model.specs.States.{Extent}
 use Rattle.sva_model.specs.States.Extent.{Pages, AllPages}
 use Rattle.sva_model.specs.Outcomes.{unmap_answer, unmap_range_answer, response_answer, code_answer}
 use Rattle.sva_model.specs.Refusals.{Cause}
-use Rattle.sva_model.specs.Wire.{Wire, PlaceWire, BindingWire, StageWire, PartWire, DeviceWire, UnitWire, RequestWire, TranslationWire, UseWire, GroupWire}
+use Rattle.sva_model.specs.Wire.{Wire, PlaceWire, BindingWire, StageWire, EndpointWire, DeviceWire, UnitWire, RequestWire, TranslationWire, UseWire, GroupWire}
 use Rattle.sva_model.specs.Wire.{Descriptor, AskWire, PageRequestWire, JobWire, FlightWire}
 use Rattle.sva_model.specs.Wire.PlaceWire.{FreeWire, MappedWire, WithheldWire}
 use Rattle.sva_model.specs.Wire.StageWire.{LiveWire, StoppingWire, DrainingWire, InvalidatingWire, QuietWire, LostWire}
@@ -100,7 +100,7 @@ send_plain : (e t : ℕ) (extent : Extent) (o : Option ℕ) → IsPlain (send_re
 send_plain e t extent None = plain refl refl
 send_plain e t extent (Some i) = plain refl refl
 
-pump_plain : (p : PartWire) (e : ℕ) (queue : List Descriptor) → IsPlain (pump_result p e queue)
+pump_plain : (p : EndpointWire) (e : ℕ) (queue : List Descriptor) → IsPlain (pump_result p e queue)
 pump_plain p e [] = plain refl refl
 pump_plain p e (RangeDescriptor t range ∷ queue) = send_plain e t (Pages range) (lowest_label p.unit.busy)
 pump_plain p e (PasidDescriptor t ∷ queue) = send_plain e t AllPages (lowest_label p.unit.busy)
@@ -177,10 +177,10 @@ completion_plain d e n tag f read x None = plain refl refl
 completion_plain d e n tag f read x (Some r) = doomed_plain d e n tag f read x r.is_doomed r
 
 group_plain : (e n i : ℕ) (code : Code) (s : GroupState) → IsPlain (by_one (response_answer s) (Move.Answered e n i code))
-group_plain e n i code Unfinished = plain refl refl
+group_plain e n i code Collecting = plain refl refl
 group_plain e n i code Awaiting = plain refl refl
 group_plain e n i code Stale = plain refl refl
-group_plain e n i code Finished = plain refl refl
+group_plain e n i code Closed = plain refl refl
 
 response_plain : (e n i : ℕ) (code : Code) (o : Option GroupWire) → IsPlain (by_one (response_said o) (Move.Answered e n i code))
 response_plain e n i code None = plain refl refl

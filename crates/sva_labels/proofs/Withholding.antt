@@ -4,8 +4,8 @@ use Rattle.std.specs.Prelude.{Some, None, Option, option_map, is_none, ◌&&◌,
 use Rattle.std.specs.List.{list_all}
 use Rattle.std.proofs.lemmas.Bool.Decides.{nat_tests}
 use Rattle.sva_model.specs.Words.{put_range, all_below, tabulate}
-use Rattle.sva_model.specs.State.{Owed, Part, World, Stage, Order, OrderState}
-use Rattle.sva_model.specs.State.Owed.{Nothing, Ranges, Pasid, AReset}
+use Rattle.sva_model.specs.State.{Owed, Endpoint, World, Stage, Order, OrderState}
+use Rattle.sva_model.specs.State.Owed.{Nothing, Ranges, Pasid, NextReset}
 use Rattle.sva_model.specs.State.MappingState.{Gone}
 use Rattle.sva_model.specs.State.Stage.{Unbound, Live, Stopping, Draining, Invalidating, Quiet, Lost, Released}
 use Rattle.sva_model.specs.State.Order.{RangeOf, PasidOf, Wait}
@@ -50,7 +50,7 @@ same_both : (a b : Bool) → (a ≡ true → b ≡ true) → (b ≡ true → a �
 same_both a b f g = grind arith
 
 -- what is waited for at each unit
-abbrev pub target_at : (first endpoints : ℕ) → (ℕ → Part) → (ℕ → Owed) → ℕ → Option TargetWire
+abbrev pub target_at : (first endpoints : ℕ) → (ℕ → Endpoint) → (ℕ → Owed) → ℕ → Option TargetWire
 target_at first endpoints part owed e = if nat_lt e endpoints then target_wire first (part e) (owed e) else None
 
 pub seen_targets :
@@ -131,7 +131,7 @@ done_is : (z : OrderState) → is_done z ≡ true → z ≡ Done
 done_is z h = grind arith
 
 pub invalidating_done :
-    (cookies first : ℕ) (p : Part) (b k w : ℕ) → Orders p → Fronts cookies p → p.stage b ≡ Invalidating k w
+    (cookies first : ℕ) (p : Endpoint) (b k w : ℕ) → Orders p → Fronts cookies p → p.stage b ≡ Invalidating k w
     → nat_lt (cookie_number first (p.order w)) (end_number first p.front) ≡ is_done (p.order_state w)
 invalidating_done cookies first p b k w or f st = go (p.order w) refl (or.invalidating b k w st).2
   where
@@ -153,11 +153,11 @@ both_or : (a b : Bool) → (b ≡ true → a ≡ true) → ((a && b) || false) �
 both_or a b h = grind arith
 
 -- the ranges that it submits aren't done
-ranges_wait_now : (p : Part) (b q count order cookie : ℕ) → (submitted p b q count order cookie).order_state (p.orders + count) ≢ Done
+ranges_wait_now : (p : Endpoint) (b q count order cookie : ℕ) → (submitted p b q count order cookie).order_state (p.orders + count) ≢ Done
 ranges_wait_now p b q count order cookie h = grind (arith, nat_tests)
 
 unit_target :
-    (first : ℕ) (p : Part) (b q count order cookie : ℕ) (o : Bool)
+    (first : ℕ) (p : Endpoint) (b q count order cookie : ℕ) (o : Bool)
     → target_wire first (submitted_if (o && true) p (Some b) q count order cookie) (owed_by_unit p count o)
     ≡ Some (if o then Cookie (number first cookie) else ResetEnd)
 unit_target first p b q count order cookie true =
@@ -168,7 +168,7 @@ unit_target first p b q count order cookie true =
 unit_target first p b q count order cookie false = ap (λ z. if z then None else Some ResetEnd) (not_itself p.resets)
 
 stage_target :
-    (cookies first : ℕ) (p : Part) (b q count order cookie : ℕ) → Orders p → Fronts cookies p → (s : Stage) → p.stage b ≡ s
+    (cookies first : ℕ) (p : Endpoint) (b q count order cookie : ℕ) → Orders p → Fronts cookies p → (s : Stage) → p.stage b ≡ s
     → target_wire first (submitted_if (is_open p.phase && is_before_invalidating s) p (Some b) q count order cookie) (owed_by_stage p count s)
     ≡ target_by_stage (unit_wire first p) (number first cookie) (stage_wire first p s)
 stage_target cookies first p b q count order cookie or f Live st = unit_target first p b q count order cookie (is_open p.phase)
@@ -202,7 +202,7 @@ stage_target cookies first p b q count order cookie or f Lost st = refl
 stage_target cookies first p b q count order cookie or f Released st = refl
 
 pub target_new :
-    (cookies first e : ℕ) (p : Part) (o : Option ℕ) (q count order cookie : ℕ) → Orders p → Fronts cookies p
+    (cookies first e : ℕ) (p : Endpoint) (o : Option ℕ) (q count order cookie : ℕ) → Orders p → Fronts cookies p
     → target_wire first (submitted_if (submits_at p o) p o q count order cookie) (owed_by p count o)
     ≡ target_by (unit_wire first p) (number first cookie) (option_map (binding_wire first e p) o)
 target_new cookies first e p None q count order cookie or f = refl
@@ -210,14 +210,14 @@ target_new cookies first e p (Some b) q count order cookie or f = stage_target c
 
 -- What was withheld before waits on.
 
-old_state : (p : Part) (b q count order cookie k : ℕ) → k < p.orders → (submitted p b q count order cookie).order_state k ≡ p.order_state k
+old_state : (p : Endpoint) (b q count order cookie k : ℕ) → k < p.orders → (submitted p b q count order cookie).order_state k ≡ p.order_state k
 old_state p b q count order cookie k l = grind (arith, nat_tests)
 
-old_order : (p : Part) (b q count order cookie k : ℕ) → k < p.orders → (submitted p b q count order cookie).order k ≡ p.order k
+old_order : (p : Endpoint) (b q count order cookie k : ℕ) → k < p.orders → (submitted p b q count order cookie).order k ≡ p.order k
 old_order p b q count order cookie k l = grind (arith, nat_tests)
 
 silent_still :
-    (p : Part) (b q count order cookie : ℕ) (v : Owed) → FitsDebt p v → answered p v ≡ false
+    (p : Endpoint) (b q count order cookie : ℕ) (v : Owed) → FitsDebt p v → answered p v ≡ false
     → answered (submitted p b q count order cookie) v ≡ false
 silent_still p b q count order cookie Nothing d h = absurd (cc (h))
 silent_still p b q count order cookie (Ranges first n resets) d h =
@@ -226,10 +226,10 @@ silent_still p b q count order cookie (Ranges first n resets) d h =
 silent_still p b q count order cookie (Pasid j x resets in_reset) d h =
     let z = pasid_open p j x resets in_reset d.1 h in
     pasid_waits (submitted p b q count order cookie) j x resets in_reset z.0 (λ k. z.1 (sym (old_state p b q count order cookie x d.1.made) ∙ k))
-silent_still p b q count order cookie (AReset resets) d h = h
+silent_still p b q count order cookie (NextReset resets) d h = h
 
 target_still :
-    (first : ℕ) (p : Part) (b q count order cookie : ℕ) (v : Owed) → FitsDebt p v
+    (first : ℕ) (p : Endpoint) (b q count order cookie : ℕ) (v : Owed) → FitsDebt p v
     → target_of first (submitted p b q count order cookie) v ≡ target_of first p v
 target_still first p b q count order cookie Nothing d = refl
 target_still first p b q count order cookie (Ranges range n resets) d =
@@ -237,10 +237,10 @@ target_still first p b q count order cookie (Ranges range n resets) d =
 target_still first p b q count order cookie (Pasid k x resets true) d = refl
 target_still first p b q count order cookie (Pasid k x resets false) d =
     ap (λ z. Cookie (cookie_number first z)) (old_order p b q count order cookie x d.1.made)
-target_still first p b q count order cookie (AReset resets) d = refl
+target_still first p b q count order cookie (NextReset resets) d = refl
 
 pub seen_still :
-    (g first : ℕ) (t : Bool) (p : Part) (o : Option ℕ) (q count order cookie : ℕ) (v : Owed) → Bounds g p → FitsDebt p v
+    (g first : ℕ) (t : Bool) (p : Endpoint) (o : Option ℕ) (q count order cookie : ℕ) (v : Owed) → Bounds g p → FitsDebt p v
     → IsSeenSame first p (submitted_if t p o q count order cookie) v
 seen_still g first true p (Some b) q count order cookie v bo d =
     record { answers = go (answered p v) refl; target = target_still first p b q count order cookie v d }

@@ -26,16 +26,16 @@ binding_named w e i =
     let more : w.config.first + suc w.bindings ≡ w.config.first + w.bindings + 1 = omega arith in
     λ k. record (wire w) { bindings = bindings k; next_binding = more k }
   where
-    unbound : (b : ℕ) → is_unreleased ((w.part (put w.home w.bindings e b)).stage w.bindings) ≡ false
-    unbound b = ap is_unreleased ((i.parts (put w.home w.bindings e b)).bounds.stage w.bindings (omega arith))
+    unbound : (b : ℕ) → is_unreleased ((w.part (put w.endpoint_of w.bindings e b)).stage w.bindings) ≡ false
+    unbound b = ap is_unreleased ((i.parts (put w.endpoint_of w.bindings e b)).bounds.stage w.bindings (omega arith))
 
     bindings : (wire (act w (NewBinding e))).bindings ≡ (wire w).bindings
     bindings =
-        select_less w.bindings (λ b. is_unreleased ((w.part (put w.home w.bindings e b)).stage b))
-        (λ b. binding_wire w.config.first (put w.home w.bindings e b) (w.part (put w.home w.bindings e b)) b) (unbound w.bindings)
+        select_less w.bindings (λ b. is_unreleased ((w.part (put w.endpoint_of w.bindings e b)).stage b))
+        (λ b. binding_wire w.config.first (put w.endpoint_of w.bindings e b) (w.part (put w.endpoint_of w.bindings e b)) b) (unbound w.bindings)
         ∙ select_seen w.bindings _ _ _ _
-        (λ b l. ap (λ x. is_unreleased ((w.part x).stage b)) (put-other w.home w.bindings e b (apart b w.bindings l)))
-        (λ b l t. ap (λ x. binding_wire w.config.first x (w.part x) b) (put-other w.home w.bindings e b (apart b w.bindings l)))
+        (λ b l. ap (λ x. is_unreleased ((w.part x).stage b)) (put-other w.endpoint_of w.bindings e b (apart b w.bindings l)))
+        (λ b l t. ap (λ x. binding_wire w.config.first x (w.part x) b) (put-other w.endpoint_of w.bindings e b (apart b w.bindings l)))
 
 -- A group whose last request was filed is a job.
 

@@ -7,14 +7,14 @@ use Rattle.sva_model.specs.Words.{tabulate}
 use Rattle.sva_model.specs.Message.{Message}
 use Rattle.sva_model.specs.Message.Message.{StartMessage, StopMessage, ResetMessage, CompletionMessage, InvalidateMessage, ResponseMessage, RequestMessage}
 use Rattle.sva_model.specs.Message.Message.{InvalidatedMessage, PageRequestMessage, MarkerMessage, ResetDoneMessage}
-use Rattle.sva_model.specs.Order.{Sort, stays_behind}
-use Rattle.sva_model.specs.Order.Sort.{StartSort, StopSort, ResetSort, CompletionSort, InvalidateSort, ResponseSort, RequestSort, InvalidatedSort}
-use Rattle.sva_model.specs.Order.Sort.{PageRequestSort, MarkerSort, ResetDoneSort}
+use Rattle.sva_model.specs.LinkOrder.{MessageKind, stays_behind}
+use Rattle.sva_model.specs.LinkOrder.MessageKind.{StartKind, StopKind, ResetKind, CompletionKind, InvalidateKind, ResponseKind, RequestKind, InvalidatedKind}
+use Rattle.sva_model.specs.LinkOrder.MessageKind.{PageRequestKind, MarkerKind, ResetDoneKind}
 use Rattle.sva_model.specs.State.{PasidState}
 use Rattle.sva_model.specs.State.PasidState.{Off}
-use Rattle.sva_model.specs.States.{Extent, is_unfinished, is_within}
+use Rattle.sva_model.specs.States.{Extent, is_collecting, is_within}
 use Rattle.sva_model.specs.Labels
-use Rattle.sva_model.specs.Wire.{Wire, SpaceWire, PageWire, PlaceWire, BindingWire, StageWire, PartWire, DeviceWire, UnitWire, RequestWire}
+use Rattle.sva_model.specs.Wire.{Wire, SpaceWire, PageWire, PlaceWire, BindingWire, StageWire, EndpointWire, DeviceWire, UnitWire, RequestWire}
 use Rattle.sva_model.specs.Wire.{TranslationWire, UseWire, TakenWire, GroupWire, BusyWire, JobWire, FlightWire}
 use Rattle.sva_model.specs.Wire.PlaceWire.{FreeWire}
 use Rattle.sva_model.specs.Wire.StageWire.{LiveWire, StoppingWire, DrainingWire}
@@ -126,10 +126,10 @@ idle_device =
 abbrev pub idle_unit : UnitWire
 idle_unit = record { is_open = true; queue = []; busy = tabulate 32 (λ t. None); front = 0; waits_end = 0 }
 
-abbrev pub idle : PartWire
+abbrev pub idle : EndpointWire
 idle = record { device = idle_device; unit = idle_unit; page_queue = []; host_groups = [] }
 
-abbrev pub part_of : Wire → (endpoint : ℕ) → PartWire
+abbrev pub part_of : Wire → (endpoint : ℕ) → EndpointWire
 part_of w e = slice_index_or w.parts e idle
 
 abbrev pub device_of : Wire → (endpoint : ℕ) → DeviceWire
@@ -162,7 +162,7 @@ abbrev pub submits : Wire → (space endpoint : ℕ) → Bool
 submits w n e = submits_by (unit_of w e) (bound_at w e n)
 
 -- has the binding a group that the host has filed in part or whole, and not answered?
-abbrev pub has_open_group : PartWire → (binding : ℕ) → Bool
+abbrev pub has_open_group : EndpointWire → (binding : ℕ) → Bool
 has_open_group p n = list_any (λ g. g.binding == n) p.host_groups
 
 -- the state of a PASID at the endpoint; one outside 1 to 32 is off
@@ -187,7 +187,7 @@ is_use_of t _ = false
 
 abbrev pub is_unfinished_of : (pasid : ℕ) → Option GroupWire → Bool
 is_unfinished_of t None = false
-is_unfinished_of t (Some g) = is_unfinished g.state && g.pasid == t
+is_unfinished_of t (Some g) = is_collecting g.state && g.pasid == t
 
 -- the page requests that are outstanding: those of all groups whose response hasn't come
 abbrev pub requests_in : Option GroupWire → ℕ
@@ -233,23 +233,23 @@ held_by w x = slice_index_or w.hands x None
 abbrev pub flight_of : Wire → (number : ℕ) → Option FlightWire
 flight_of w n = find (λ f. f.number == n) w.in_flight
 
-abbrev pub sort_of : Message → Sort
-sort_of (StartMessage pasid) = StartSort
-sort_of (StopMessage pasid) = StopSort
-sort_of ResetMessage = ResetSort
-sort_of (CompletionMessage tag frame read write) = CompletionSort
-sort_of (InvalidateMessage itag pasid scope) = InvalidateSort
-sort_of (ResponseMessage pasid index code) = ResponseSort
-sort_of (RequestMessage tag pasid page) = RequestSort
-sort_of (InvalidatedMessage vector field) = InvalidatedSort
-sort_of (PageRequestMessage pasid index page read write last) = PageRequestSort last
-sort_of (MarkerMessage pasid) = MarkerSort
-sort_of ResetDoneMessage = ResetDoneSort
+abbrev pub kind_of : Message → MessageKind
+kind_of (StartMessage pasid) = StartKind
+kind_of (StopMessage pasid) = StopKind
+kind_of ResetMessage = ResetKind
+kind_of (CompletionMessage tag frame read write) = CompletionKind
+kind_of (InvalidateMessage itag pasid scope) = InvalidateKind
+kind_of (ResponseMessage pasid index code) = ResponseKind
+kind_of (RequestMessage tag pasid page) = RequestKind
+kind_of (InvalidatedMessage vector field) = InvalidatedKind
+kind_of (PageRequestMessage pasid index page read write last) = PageRequestKind last
+kind_of (MarkerMessage pasid) = MarkerKind
+kind_of ResetDoneMessage = ResetDoneKind
 
 -- is a message older than another of its endpoint that must stay behind it?
 abbrev pub holds_back : FlightWire → FlightWire → Bool
 holds_back newer older =
-    nat_lt older.number newer.number && older.endpoint == newer.endpoint && stays_behind (sort_of newer.message) (sort_of older.message)
+    nat_lt older.number newer.number && older.endpoint == newer.endpoint && stays_behind (kind_of newer.message) (kind_of older.message)
 
 abbrev pub may_deliver : Wire → FlightWire → Bool
 may_deliver w f = not (list_any (holds_back f) w.in_flight)

@@ -6,7 +6,7 @@ use Rattle.sva_step.specs.declared.steps.Step.{Step}
 use Rattle.sva_model.specs.Words.{tabulate}
 use Rattle.sva_model.specs.State.{opened}
 use Rattle.sva_model.specs.State.PasidRule.{PerSpace}
-use Rattle.sva_model.specs.Refusals.{Cause}
+use Rattle.sva_model.specs.Refusals.{Cause, by_first_cause}
 use Rattle.sva_model.specs.Steps.{Reply, reply, replies, next, world_after}
 use Rattle.sva_model.specs.Claims.{Fits}
 use Rattle.sva_model.specs.Wire.{Wire, wire}
@@ -24,8 +24,8 @@ pub record Decision : Type 0 where
 
 -- the first cause that holds refuses the step
 abbrev pub checked : List Cause → outcomes.Result → Decision
-checked [] r = record { reply = Ok r.answer; moves = r.moves }
-checked (cause ∷ causes) r = if cause.0 then record { reply = Err cause.1; moves = [] } else checked causes r
+checked causes result =
+    by_first_cause causes (λ refusal. record { reply = Err refusal; moves = [] }) (record { reply = Ok result.answer; moves = result.moves })
 
 abbrev pub decide_of : Wire → Step → Decision
 decide_of w s = checked (causes_of w s) (result_of w s)

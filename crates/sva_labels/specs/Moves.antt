@@ -15,7 +15,7 @@ use Rattle.sva_model.specs.States.{Extent}
 use Rattle.sva_model.specs.States.Extent.{Pages, AllPages}
 use Rattle.sva_model.specs.Acts.{in_range, range_at, disables, scope_of, stale_if, sent_as, count_field}
 use Rattle.sva_model.specs.Labels
-use Rattle.sva_model.specs.Wire.{Wire, SpaceWire, PageWire, PlaceWire, TargetWire, BindingWire, StageWire, PartWire, DeviceWire, UnitWire, RequestWire}
+use Rattle.sva_model.specs.Wire.{Wire, SpaceWire, PageWire, PlaceWire, TargetWire, BindingWire, StageWire, EndpointWire, DeviceWire, UnitWire, RequestWire}
 use Rattle.sva_model.specs.Wire.{TranslationWire, UseWire, TakenWire, GroupWire, BusyWire, Descriptor, PageRequestWire, HostGroupWire, JobWire, insert_by}
 use Rattle.sva_model.specs.Wire.{is_lower_page, is_before}
 use Rattle.sva_model.specs.Wire.PlaceWire.{FreeWire, MappedWire, WithheldWire}
@@ -79,7 +79,7 @@ pub data Move : Type 0 where
 
 -- Changes of one keeper's part.
 
-abbrev pub with_part : Wire → (endpoint : ℕ) → PartWire → Wire
+abbrev pub with_part : Wire → (endpoint : ℕ) → EndpointWire → Wire
 with_part w e p = record w { parts = slice_set w.parts e p }
 
 abbrev pub with_device : Wire → (endpoint : ℕ) → DeviceWire → Wire
@@ -158,7 +158,7 @@ abbrev pub pasid_or_0 : Option BindingWire → ℕ
 pasid_or_0 None = 0
 pasid_or_0 (Some b) = b.pasid
 
-abbrev pub part_unmapped : Wire → (space page count order endpoint : ℕ) → PartWire
+abbrev pub part_unmapped : Wire → (space page count order endpoint : ℕ) → EndpointWire
 part_unmapped w n q count order e =
     if submits w n e
     then record (part_of w e) {

@@ -16,7 +16,7 @@ use Rattle.sva_model.specs.States.{Extent}
 use Rattle.sva_model.specs.States.Extent.{Pages, AllPages}
 use Rattle.sva_model.specs.Labels
 use Rattle.sva_model.specs.Outcomes.{unmap_answer, unmap_range_answer, response_answer, code_answer}
-use Rattle.sva_model.specs.Wire.{Wire, PageWire, PlaceWire, BindingWire, StageWire, PartWire, DeviceWire, UnitWire, RequestWire, TranslationWire, UseWire}
+use Rattle.sva_model.specs.Wire.{Wire, PageWire, PlaceWire, BindingWire, StageWire, EndpointWire, DeviceWire, UnitWire, RequestWire, TranslationWire, UseWire}
 use Rattle.sva_model.specs.Wire.{GroupWire, BusyWire, Descriptor, AskWire, PageRequestWire, HostGroupWire, JobWire, FlightWire}
 use Rattle.sva_model.specs.Wire.PlaceWire.{FreeWire, MappedWire, WithheldWire}
 use Rattle.sva_model.specs.Wire.StageWire.{StoppingWire, DrainingWire, InvalidatingWire, LostWire}
@@ -88,10 +88,10 @@ send_result e pasid extent None = says answer.Blocked []
 send_result e pasid extent (Some t) = by_one (answer.Itag t) (Move.Send e t pasid extent)
 
 -- a wait is taken where no ITag is busy and, if it drains, the page request queue is empty
-abbrev pub may_pass : PartWire → Bool → Bool
+abbrev pub may_pass : EndpointWire → Bool → Bool
 may_pass p drain = not (is_some_busy p.unit) && (not drain || length p.page_queue == 0)
 
-abbrev pub pump_result : PartWire → (endpoint : ℕ) → List Descriptor → Result
+abbrev pub pump_result : EndpointWire → (endpoint : ℕ) → List Descriptor → Result
 pump_result p e [] = says answer.Idle []
 pump_result p e (RangeDescriptor pasid range ∷ queue) = send_result e pasid (Pages range) (lowest_label p.unit.busy)
 pump_result p e (PasidDescriptor pasid ∷ queue) = send_result e pasid AllPages (lowest_label p.unit.busy)
@@ -102,10 +102,10 @@ abbrev pub asks_of : Option HostGroupWire → List AskWire
 asks_of None = []
 asks_of (Some g) = g.asks
 
-abbrev pub job_of : PartWire → (endpoint binding : ℕ) → PageRequestWire → JobWire
+abbrev pub job_of : EndpointWire → (endpoint binding : ℕ) → PageRequestWire → JobWire
 job_of p e b r = record { endpoint = e; binding = b; index = r.index; asks = asks_of (find (is_begun b r.index) p.host_groups) ++ r.ask ∷ [] }
 
-abbrev pub file_result : PartWire → (endpoint binding : ℕ) → PageRequestWire → Bool → Result
+abbrev pub file_result : EndpointWire → (endpoint binding : ℕ) → PageRequestWire → Bool → Result
 file_result p e b r true = says answer.Job (Move.File e b r ∷ Move.NewJob (job_of p e b r) ∷ [])
 file_result p e b r false = by_one answer.Part (Move.File e b r)
 
@@ -114,7 +114,7 @@ binding_or_0 None = 0
 binding_or_0 (Some b) = b.binding
 
 -- the head of the page request queue is filed under the binding that bears its PASID
-abbrev pub serve_result : Wire → PartWire → (endpoint : ℕ) → List PageRequestWire → Result
+abbrev pub serve_result : Wire → EndpointWire → (endpoint : ℕ) → List PageRequestWire → Result
 serve_result w p e [] = says answer.Empty []
 serve_result w p e (r ∷ queue) = file_result p e (binding_or_0 (bearer w e r.pasid)) r r.last
 

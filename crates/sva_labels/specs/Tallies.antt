@@ -6,7 +6,7 @@ use Rattle.sva_step.specs.declared.steps.Step.{Step}
 use Rattle.sva_model.specs.State.{PasidRule}
 use Rattle.sva_model.specs.Steps.{Reply, reply, next, world_after}
 use Rattle.sva_model.specs.Claims.{Fits}
-use Rattle.sva_model.specs.Wire.{Wire, PartWire, UseWire, wire}
+use Rattle.sva_model.specs.Wire.{Wire, EndpointWire, UseWire, wire}
 
 abbrev pub unreleased : Wire → ℕ
 unreleased w = length w.bindings
@@ -16,7 +16,7 @@ taken_in [] = 0
 taken_in (None ∷ slots) = taken_in slots
 taken_in (Some u ∷ slots) = suc (taken_in slots)
 
-abbrev pub slots_in : List PartWire → ℕ
+abbrev pub slots_in : List EndpointWire → ℕ
 slots_in [] = 0
 slots_in (p ∷ parts) = taken_in p.device.slots + slots_in parts
 

@@ -7,7 +7,7 @@ use Rattle.sva_step.specs.declared.steps.Step.{Step}
 use Rattle.sva_model.specs.Message.{Message}
 use Rattle.sva_model.specs.Message.Message.{PageRequestMessage}
 use Rattle.sva_model.specs.Steps.{Reply}
-use Rattle.sva_model.specs.Wire.{Wire, PartWire, FlightWire}
+use Rattle.sva_model.specs.Wire.{Wire, EndpointWire, FlightWire}
 use Rattle.sva_labels.specs.Host.{reply_of, next_of}
 
 abbrev pub is_page_request : Message → Bool
@@ -16,7 +16,7 @@ is_page_request _ = false
 
 -- in flight, and in the page request queues of all endpoints
 abbrev pub waiting : Wire → ℕ
-waiting w = count_by (λ (f : FlightWire). is_page_request f.message) w.in_flight + sum_by (λ (p : PartWire). length p.page_queue) w.parts
+waiting w = count_by (λ (f : FlightWire). is_page_request f.message) w.in_flight + sum_by (λ (p : EndpointWire). length p.page_queue) w.parts
 
 -- how many are filed by a step with this reply
 abbrev pub files : Reply → ℕ

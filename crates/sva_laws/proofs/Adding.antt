@@ -6,15 +6,15 @@ use Rattle.sva_step.specs.declared.steps.Step.TheVariants as step
 use Rattle.sva_step.specs.declared.steps.Verdict.{Verdict}
 use Rattle.sva_model.specs.Words.{put, the}
 use Rattle.sva_model.specs.Message.{Code}
-use Rattle.sva_model.specs.State.{Owed, MappingState, Part, World, Stage, Order, About, RequestState}
+use Rattle.sva_model.specs.State.{Owed, MappingState, Endpoint, World, Stage, Order, Subject, RequestState}
 use Rattle.sva_model.specs.State.MappingState.{Unmade, Present, Gone}
 use Rattle.sva_model.specs.State.Stage.{Unbound, Live, Stopping, Draining, Invalidating, Quiet, Lost, Released}
 use Rattle.sva_model.specs.State.Order.{RangeOf, PasidOf, Wait}
 use Rattle.sva_model.specs.State.RequestState.{Out, Doomed, Over}
-use Rattle.sva_model.specs.State.About.{StartOf, StopOf, ResetOrder, CompletionOf, InvalidateOf, ResponseOf, RequestOf, InvalidatedOf, PageRequestOf}
-use Rattle.sva_model.specs.State.About.{MarkerOf, ResetDone}
-use Rattle.sva_model.specs.Acts.{Act, Own, act}
-use Rattle.sva_model.specs.Acts.Act.{NewSpace, DropSpace, Map, Unmap, NewBinding, NewJob, Hold, LetGo, At}
+use Rattle.sva_model.specs.State.Subject.{StartOf, StopOf, FunctionReset, CompletionOf, InvalidateOf, ResponseOf, RequestOf, InvalidatedOf, PageRequestOf}
+use Rattle.sva_model.specs.State.Subject.{MarkerOf, ResetDone}
+use Rattle.sva_model.specs.Acts.{Act, LocalAct, act}
+use Rattle.sva_model.specs.Acts.Act.{NewSpace, DropSpace, Map, Unmap, NewBinding, NewJob, Hold, LetGo, AtEndpoint}
 use Rattle.sva_model.specs.Labels
 use Rattle.sva_model.specs.Refusals.{Cause, refusals}
 use Rattle.sva_model.specs.Replies.{maps_to, reply_maps, replies_success, newly_mapped, free_list, is_write_asked, job_space, response_to}
@@ -106,7 +106,7 @@ act_adds w (NewBinding e) a i = adds_nothing w (act w (NewBinding e)) refl
 act_adds w (NewJob e g) a i = adds_nothing w (act w (NewJob e g)) refl
 act_adds w (Hold x j) a i = adds_nothing w (act w (Hold x j)) refl
 act_adds w (LetGo x) a i = adds_nothing w (act w (LetGo x)) refl
-act_adds w (At e o) a i = adds_nothing w (act w (At e o)) refl
+act_adds w (AtEndpoint e o) a i = adds_nothing w (act w (AtEndpoint e o)) refl
 
 adds_more : (u v w : World) → Adds u v → Adds v w → Adds u w
 adds_more u v w a b =
@@ -172,12 +172,12 @@ send_adds : (e k t : ℕ) (b : Bool) → AreAdding (send_outcome e k t b).acts
 send_adds e k t true = (tt, tt)
 send_adds e k t false = tt
 
-head_adds : (p : Part) (e k : ℕ) (o : Order) → AreAdding (head_outcome p e k o).acts
+head_adds : (p : Endpoint) (e k : ℕ) (o : Order) → AreAdding (head_outcome p e k o).acts
 head_adds p e k (Wait cookie drain) = wait_adds e k (may_pass p drain)
 head_adds p e k (RangeOf b q) = send_adds e k (Labels.lowest_label 32 p.at_itag) _
 head_adds p e k (PasidOf b) = send_adds e k (Labels.lowest_label 32 p.at_itag) _
 
-pub pump_adds : (p : Part) (e : ℕ) (b : Bool) → AreAdding (pump_outcome p e b).acts
+pub pump_adds : (p : Endpoint) (e : ℕ) (b : Bool) → AreAdding (pump_outcome p e b).acts
 pump_adds p e true = tt
 pump_adds p e false = head_adds p e (Labels.head p) (p.order (Labels.head p))
 
@@ -185,7 +185,7 @@ file_adds : (e r g : ℕ) (b : Bool) → AreAdding (file_outcome e r g b).acts
 file_adds e r g true = (tt, (tt, tt))
 file_adds e r g false = (tt, tt)
 
-pub serve_adds : (p : Part) (e : ℕ) (b : Bool) → AreAdding (serve_outcome p e b).acts
+pub serve_adds : (p : Endpoint) (e : ℕ) (b : Bool) → AreAdding (serve_outcome p e b).acts
 serve_adds p e true = tt
 serve_adds p e false = file_adds e (Labels.oldest_arrived p) (p.group_of (Labels.oldest_arrived p)) (p.is_last (Labels.oldest_arrived p))
 
@@ -199,12 +199,12 @@ reply_adds w x j v None = (tt, (tt, tt))
 reply_adds w x j v (Some code) = go (replies_success w j v)
   where
     go : (b : Bool) → AreAdding ((if b then maps_to (job_space w j) (is_write_asked w j) (newly_mapped w j) (free_list w) else []) ++ LetGo x
-        ∷ At (w.job j).endpoint (Own.Respond (w.job j).group code) ∷ [])
+        ∷ AtEndpoint (w.job j).endpoint (LocalAct.Respond (w.job j).group code) ∷ [])
     go true = maps_add (job_space w j) (is_write_asked w j) (newly_mapped w j) (free_list w)
-        (LetGo x ∷ At (w.job j).endpoint (Own.Respond (w.job j).group code) ∷ []) (tt, (tt, tt))
+        (LetGo x ∷ AtEndpoint (w.job j).endpoint (LocalAct.Respond (w.job j).group code) ∷ []) (tt, (tt, tt))
     go false = (tt, (tt, tt))
 
-pub fault_adds : (p : Part) (e t q : ℕ) (r x l : Bool) (o : Option ℕ) → AreAdding (fault_outcome p e t q r x l o).acts
+pub fault_adds : (p : Endpoint) (e t q : ℕ) (r x l : Bool) (o : Option ℕ) → AreAdding (fault_outcome p e t q r x l o).acts
 fault_adds p e t q r x l None = (tt, tt)
 fault_adds p e t q r x l (Some k) = (tt, tt)
 
@@ -212,7 +212,7 @@ keep_adds : (e c r m : ℕ) (b : Bool) → AreAdding (keep_outcome e c r m b).ac
 keep_adds e c r m true = (tt, tt)
 keep_adds e c r m false = (tt, tt)
 
-completion_adds : (p : Part) (e c r : ℕ) (o : Option ℕ) (s : RequestState) → AreAdding (completion_outcome p e c r o s).acts
+completion_adds : (p : Endpoint) (e c r : ℕ) (o : Option ℕ) (s : RequestState) → AreAdding (completion_outcome p e c r o s).acts
 completion_adds p e c r (Some m) Out = keep_adds e c r m (is_full p r)
 completion_adds p e c r None Out = (tt, tt)
 completion_adds p e c r (Some m) Doomed = (tt, tt)
@@ -220,11 +220,11 @@ completion_adds p e c r None Doomed = (tt, tt)
 completion_adds p e c r (Some m) Over = (tt, tt)
 completion_adds p e c r None Over = (tt, tt)
 
-request_adds : (w : World) (p : Part) (e c r : ℕ) (b : Bool) → AreAdding (request_outcome w p e c r b).acts
+request_adds : (w : World) (p : Endpoint) (e c r : ℕ) (b : Bool) → AreAdding (request_outcome w p e c r b).acts
 request_adds w p e c r true = (tt, tt)
 request_adds w p e c r false = (tt, tt)
 
-count_adds : (p : Part) (e c : ℕ) (names : ℕ → Bool) (b : Bool) → AreAdding (count_outcome p e c names b).acts
+count_adds : (p : Endpoint) (e c : ℕ) (names : ℕ → Bool) (b : Bool) → AreAdding (count_outcome p e c names b).acts
 count_adds p e c names true = (tt, tt)
 count_adds p e c names false = (tt, tt)
 
@@ -236,10 +236,10 @@ marker_adds : (e c d : ℕ) (b : Bool) → AreAdding (marker_outcome e c d b).ac
 marker_adds e c d true = (tt, tt)
 marker_adds e c d false = (tt, tt)
 
-about_adds : (w : World) (p : Part) (e c : ℕ) (a : About) → AreAdding (about_outcome w p e c a).acts
+about_adds : (w : World) (p : Endpoint) (e c : ℕ) (a : Subject) → AreAdding (about_outcome w p e c a).acts
 about_adds w p e c (StartOf b) = (tt, tt)
 about_adds w p e c (StopOf b) = (tt, tt)
-about_adds w p e c ResetOrder = (tt, tt)
+about_adds w p e c FunctionReset = (tt, tt)
 about_adds w p e c (CompletionOf r found) = completion_adds p e c r found (p.request r)
 about_adds w p e c (InvalidateOf k) = (tt, tt)
 about_adds w p e c (ResponseOf g code) = (tt, tt)
@@ -249,7 +249,7 @@ about_adds w p e c (PageRequestOf r) = page_request_adds e c r (is_open p.phase)
 about_adds w p e c (MarkerOf b) = marker_adds e c b (is_open p.phase)
 about_adds w p e c ResetDone = (tt, tt)
 
-pub deliver_adds : (w : World) (p : Part) (e c : ℕ) (o : Option About) → AreAdding (deliver_outcome w p e c o).acts
+pub deliver_adds : (w : World) (p : Endpoint) (e c : ℕ) (o : Option Subject) → AreAdding (deliver_outcome w p e c o).acts
 deliver_adds w p e c None = tt
 deliver_adds w p e c (Some a) = about_adds w p e c a
 
@@ -261,9 +261,9 @@ outcome_kind w (step.Unmap n q count) = unmapping (Labels.name w n) q count 0 re
 outcome_kind w (step.UnmapRange n q order) = unmapping (Labels.name w n) q 1 order refl
 outcome_kind w (step.Bind e n) = adding (tt, (tt, tt))
 outcome_kind w (step.Unbind n) =
-    adding (unbind_adds (w.home (Labels.name w n)) (Labels.name w n) ((w.part (w.home (Labels.name w n))).stage (Labels.name w n)))
+    adding (unbind_adds (w.endpoint_of (Labels.name w n)) (Labels.name w n) ((w.part (w.endpoint_of (Labels.name w n))).stage (Labels.name w n)))
 outcome_kind w (step.Advance n) =
-    adding (advance_adds w (w.home (Labels.name w n)) (Labels.name w n) ((w.part (w.home (Labels.name w n))).stage (Labels.name w n)))
+    adding (advance_adds w (w.endpoint_of (Labels.name w n)) (Labels.name w n) ((w.part (w.endpoint_of (Labels.name w n))).stage (Labels.name w n)))
 outcome_kind w (step.Pump e) = adding (pump_adds (w.part e) e (Labels.is_queue_empty (w.part e)))
 outcome_kind w (step.Serve e) = adding (serve_adds (w.part e) e (Labels.is_page_queue_empty (w.part e)))
 outcome_kind w (step.Reset e) = adding (tt, tt)
@@ -277,8 +277,8 @@ outcome_kind w (step.Fault e t q r x group l) = adding (fault_adds (w.part e) e 
 outcome_kind w (step.Finish e vector count) = adding (tt, tt)
 outcome_kind w (step.Quit e t) = adding (tt, tt)
 outcome_kind w (step.Deliver n) =
-    adding (deliver_adds w (w.part (w.way (Labels.name w n))) (w.way (Labels.name w n)) (Labels.name w n)
-    ((w.part (w.way (Labels.name w n))).message (Labels.name w n)))
+    adding (deliver_adds w (w.part (w.link_of (Labels.name w n))) (w.link_of (Labels.name w n)) (Labels.name w n)
+    ((w.part (w.link_of (Labels.name w n))).message (Labels.name w n)))
 outcome_kind w (step.Look f) = adding tt
 outcome_kind w (step.Bearer t) = adding tt
 

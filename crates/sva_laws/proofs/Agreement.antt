@@ -3,8 +3,8 @@ use Rattle.std.proofs.Common.{◌≡◌, ◌≢◌, ◌⊎◌, inl, inr, refl, a
 use Rattle.std.specs.Prelude.{Option, Some, None}
 use Rattle.std.proofs.lemmas.Bool.Decides.{nat_tests}
 use Rattle.sva_model.specs.Words.{all_below}
-use Rattle.sva_model.specs.State.{Owed, MappingState, PasidState, Part, World, Stage, HostGroupState, GroupState}
-use Rattle.sva_model.specs.State.Owed.{Nothing, Ranges, Pasid, AReset}
+use Rattle.sva_model.specs.State.{Owed, MappingState, PasidState, Endpoint, World, Stage, HostGroupState, GroupState}
+use Rattle.sva_model.specs.State.Owed.{Nothing, Ranges, Pasid, NextReset}
 use Rattle.sva_model.specs.State.MappingState.{Unmade, Present, Gone}
 use Rattle.sva_model.specs.State.Stage.{Stopping, Invalidating}
 use Rattle.sva_model.specs.State.PasidState.{Off, On, Ending}
@@ -43,7 +43,7 @@ owner w e b q m i u = active_unreleased ((w.part e).stage b) (active_owner w e b
 
 -- What is pending isn't answered.
 
-silent_ranges : (p : Part) (b q age first count resets k : ℕ) → IsAhead p b q age first count resets k → answered p (Ranges first count resets) ≡ false
+silent_ranges : (p : Endpoint) (b q age first count resets k : ℕ) → IsAhead p b q age first count resets k → answered p (Ranges first count resets) ≡ false
 silent_ranges p b q age first count resets k h =
     let waits : is_done (p.order_state (first + count)) ≡ false = not_done h in
     let none : all_below (suc count) (λ j. is_done (p.order_state (first + j))) ≡ false =
@@ -53,23 +53,23 @@ silent_ranges p b q age first count resets k h =
     not_done : IsAhead p b q age first count resets k → is_done (p.order_state (first + count)) ≡ false
     not_done h = grind (arith)
 
-silent_pasid : (p : Part) (k w resets : ℕ) (c0 : Bool) → is_done (p.order_state k) ≡ false → resets ≡ p.resets → answered p (Pasid k w resets c0) ≡ false
+silent_pasid : (p : Endpoint) (k w resets : ℕ) (c0 : Bool) → is_done (p.order_state k) ≡ false → resets ≡ p.resets → answered p (Pasid k w resets c0) ≡ false
 silent_pasid p k w resets c0 h e = grind (arith, nat_tests)
 
 -- the PASID's invalidation of an owner of what is usable isn't done
-undone_held : (p : Part) (s : Bool) (k age : ℕ) → is_open p.phase ≡ s → (p.phase ≡ Open → blocks (p.order_state k) age ≡ true)
+undone_held : (p : Endpoint) (s : Bool) (k age : ℕ) → is_open p.phase ≡ s → (p.phase ≡ Open → blocks (p.order_state k) age ≡ true)
     → (is_open p.phase ≡ false → p.order_state k ≢ Done) → is_done (p.order_state k) ≡ false
 undone_held p true k age e opened closed = grind (arith, nat_tests)
 undone_held p false k age e opened closed = grind (arith, nat_tests)
 
-silent : (p : Part) (b q age : ℕ) (v : Owed) → ((k w : ℕ) → p.stage b ≡ Invalidating k w → is_done (p.order_state k) ≡ false) → Pending p b q age v
+silent : (p : Endpoint) (b q age : ℕ) (v : Owed) → ((k w : ℕ) → p.stage b ≡ Invalidating k w → is_done (p.order_state k) ≡ false) → Pending p b q age v
     → answered p v ≡ false
 silent p b q age Nothing inv h = absurd h
 silent p b q age (Ranges first count resets) inv h = silent_ranges p b q age first count resets h.0 h.1
 silent p b q age (Pasid k w resets c0) inv h = silent_pasid p k w resets c0 (inv k w h.1) h.0
-silent p b q age (AReset resets) inv h = reset_silent h.0
+silent p b q age (NextReset resets) inv h = reset_silent h.0
   where
-    reset_silent : resets ≡ p.resets → answered p (AReset resets) ≡ false
+    reset_silent : resets ≡ p.resets → answered p (NextReset resets) ≡ false
     reset_silent e = grind (arith, nat_tests)
 
 -- Places.
@@ -137,7 +137,7 @@ usable w e b q m i (under_way c r k h o) =
 
 -- Page requests and responses.
 
-pub bearer : (p : Part) (b : ℕ) → Labels p → is_unreleased (p.stage b) ≡ true → IsBearer p b
+pub bearer : (p : Endpoint) (b : ℕ) → Labels p → is_unreleased (p.stage b) ≡ true → IsBearer p b
 bearer p b la u =
     record {
       unreleased = u;
@@ -149,7 +149,7 @@ bearer p b la u =
     one_of d x y same = let z : p.at_pasid (p.pasid d) ≡ p.at_pasid (p.pasid b) = ap p.at_pasid same in cc
 
 -- a binding whose marker is noted has gone its line at the endpoint to the end
-has_sent_marker : (p : Part) (b : ℕ) → Labels p → Bindings p → p.stage b ≡ Stopping true → HasSentMarker p b
+has_sent_marker : (p : Endpoint) (b : ℕ) → Labels p → Bindings p → p.stage b ≡ Stopping true → HasSentMarker p b
 has_sent_marker p b la bi h =
     record {
       bearer = bearer p b la (ap is_unreleased h);

@@ -3,12 +3,12 @@ use Rattle.std.proofs.Common.{◌≡◌, refl, ℕ, zero, suc, ◌+◌, ◌<◌,
 use Rattle.std.specs.Prelude.{Option, Some, None, ◌&&◌, ◌||◌, nat_lt, if◌then◌else◌}
 use Rattle.std.proofs.lemmas.Bool.Decides.{nat_tests}
 use Rattle.sva_model.specs.Words.{all_below}
-use Rattle.sva_model.specs.State.{Owed, Mappings, Part}
-use Rattle.sva_model.specs.State.Owed.{Nothing, Ranges, Pasid, AReset}
+use Rattle.sva_model.specs.State.{Owed, Mappings, Endpoint}
+use Rattle.sva_model.specs.State.Owed.{Nothing, Ranges, Pasid, NextReset}
 use Rattle.sva_model.specs.State.OrderState.{Void}
 use Rattle.sva_model.specs.States.{is_done, answered}
-use Rattle.sva_model.specs.Acts.{own, Own, submitted, submitted_if}
-use Rattle.sva_laws.proofs.Legal.{LegalOwn}
+use Rattle.sva_model.specs.Acts.{own, LocalAct, submitted, submitted_if}
+use Rattle.sva_laws.proofs.Legal.{LegalLocalAct}
 use Rattle.sva_laws.proofs.Bounds.{Bounds}
 use Rattle.sva_laws.proofs.Orders.{SentOnly}
 use Rattle.sva_laws.proofs.Words.{all_below-true}
@@ -34,7 +34,7 @@ less_more : (a b c : ℕ) → b ≤ c → nat_lt a b ≡ true → nat_lt a c ≡
 less_more a b c l h = grind (arith, nat_tests)
 
 -- what is answered by orders that are done stays so, where these stay done and resets are counted up
-answered_more : (p q : Part) → ((k : ℕ) → is_done (p.order_state k) ≡ true → is_done (q.order_state k) ≡ true) → p.resets ≤ q.resets → (v : Owed)
+answered_more : (p q : Endpoint) → ((k : ℕ) → is_done (p.order_state k) ≡ true → is_done (q.order_state k) ≡ true) → p.resets ≤ q.resets → (v : Owed)
     → answered p v ≡ true → answered q v ≡ true
 answered_more p q f l Nothing h = refl
 answered_more p q f l (Ranges first count resets) h =
@@ -47,25 +47,25 @@ answered_more p q f l (Pasid k w resets c0) h =
     (is_done (q.order_state k) && is_done (q.order_state w)) (nat_lt resets q.resets)
     (and_more (is_done (p.order_state k)) (is_done (p.order_state w)) (is_done (q.order_state k)) (is_done (q.order_state w)) (f k) (f w))
     (less_more resets p.resets q.resets l) h
-answered_more p q f l (AReset resets) h = less_more resets p.resets q.resets l h
+answered_more p q f l (NextReset resets) h = less_more resets p.resets q.resets l h
 
-done_stays : (ms : Mappings) (g n : ℕ) (p : Part) (o : Own) → LegalOwn ms g p o → SentOnly p → (k : ℕ) → (p.orders ≤ k → p.order_state k ≡ Void)
+done_stays : (ms : Mappings) (g n : ℕ) (p : Endpoint) (o : LocalAct) → LegalLocalAct ms g p o → SentOnly p → (k : ℕ) → (p.orders ≤ k → p.order_state k ≡ Void)
     → is_done (p.order_state k) ≡ true → is_done ((own p n o).order_state k) ≡ true
 done_stays ms g n p o l sent k bo h = grind (arith, nat_tests)
 
-resets_grow : (ms : Mappings) (g n : ℕ) (p : Part) (o : Own) → LegalOwn ms g p o → p.resets ≤ (own p n o).resets
+resets_grow : (ms : Mappings) (g n : ℕ) (p : Endpoint) (o : LocalAct) → LegalLocalAct ms g p o → p.resets ≤ (own p n o).resets
 resets_grow ms g n p o l = grind (arith, nat_tests)
 
-pub answered_own : (ms : Mappings) (g n : ℕ) (p : Part) (o : Own) → LegalOwn ms g p o → SentOnly p → Bounds g p → (v : Owed) → answered p v ≡ true
+pub answered_own : (ms : Mappings) (g n : ℕ) (p : Endpoint) (o : LocalAct) → LegalLocalAct ms g p o → SentOnly p → Bounds g p → (v : Owed) → answered p v ≡ true
     → answered (own p n o) v ≡ true
 answered_own ms g n p o l sent bo v h =
     answered_more p (own p n o) (λ k. done_stays ms g n p o l sent k (bo.order_state k)) (resets_grow ms g n p o l) v h
 
-submitted_done : (g b q count order cookie k : ℕ) (p : Part) → Bounds g p → is_done (p.order_state k) ≡ true
+submitted_done : (g b q count order cookie k : ℕ) (p : Endpoint) → Bounds g p → is_done (p.order_state k) ≡ true
     → is_done ((submitted p b q count order cookie).order_state k) ≡ true
 submitted_done g b q count order cookie k p bo h = grind (arith, nat_tests, bo.order_state k)
 
-pub answered_submitted : (g : ℕ) (s : Bool) (p : Part) (o : Option ℕ) (q count order cookie : ℕ) → Bounds g p → (v : Owed) → answered p v ≡ true
+pub answered_submitted : (g : ℕ) (s : Bool) (p : Endpoint) (o : Option ℕ) (q count order cookie : ℕ) → Bounds g p → (v : Owed) → answered p v ≡ true
     → answered (submitted_if s p o q count order cookie) v ≡ true
 answered_submitted g true p (Some b) q count order cookie bo v h =
     answered_more p (submitted p b q count order cookie) (λ k. submitted_done g b q count order cookie k p bo) (omega arith) v h

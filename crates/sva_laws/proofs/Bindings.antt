@@ -2,12 +2,12 @@
 use Rattle.std.proofs.Common.{◌≡◌, ◌≢◌, ℕ, ◌<◌, Bool, true, false, arith}
 use Rattle.std.specs.Prelude.{Some, not}
 use Rattle.std.proofs.lemmas.Bool.Decides.{nat_tests}
-use Rattle.sva_model.specs.State.{Mappings, Part, Stage}
+use Rattle.sva_model.specs.State.{Mappings, Endpoint, Stage}
 use Rattle.sva_model.specs.State.Stage.{Live, Stopping}
 use Rattle.sva_model.specs.State.PasidState.{Off, On, Ending}
-use Rattle.sva_model.specs.State.About.{StartOf, StopOf, MarkerOf}
-use Rattle.sva_model.specs.Acts.{own, Own}
-use Rattle.sva_laws.proofs.Legal.{LegalOwn}
+use Rattle.sva_model.specs.State.Subject.{StartOf, StopOf, MarkerOf}
+use Rattle.sva_model.specs.Acts.{own, LocalAct}
+use Rattle.sva_laws.proofs.Legal.{LegalLocalAct}
 use Rattle.sva_laws.proofs.Resets.{Resets}
 
 -- Live, or Stopping with no marker noted
@@ -16,7 +16,7 @@ is_unmarked Live = true
 is_unmarked (Stopping m) = not m
 is_unmarked _ = false
 
-pub record Bindings (p : Part) : Type 0 where
+pub record Bindings (p : Endpoint) : Type 0 where
   pub start_once : (c d b : ℕ) → p.message c ≡ Some (StartOf b) → p.message d ≡ Some (StartOf b) → c ≡ d
   pub start_off : (c b : ℕ) → p.message c ≡ Some (StartOf b) → p.pasid_state b ≡ Off
   pub start_stage : (c b : ℕ) → p.message c ≡ Some (StartOf b) → is_unmarked (p.stage b) ≡ true
@@ -32,7 +32,7 @@ pub record Bindings (p : Part) : Type 0 where
   pub marker_start : (c d b : ℕ) → p.message c ≡ Some (MarkerOf b) → p.message d ≢ Some (StartOf b)
   pub marker_stop : (c d b : ℕ) → p.message c ≡ Some (MarkerOf b) → p.message d ≢ Some (StopOf b)
 
-pub every : (ms : Mappings) (g n : ℕ) (p : Part) (o : Own) → LegalOwn ms g p o → Resets n p → Bindings p → Bindings (own p n o)
+pub every : (ms : Mappings) (g n : ℕ) (p : Endpoint) (o : LocalAct) → LegalLocalAct ms g p o → Resets n p → Bindings p → Bindings (own p n o)
 every ms g n p o l re bi =
     record {
       start_once = λ c d b h i. grind (arith, nat_tests, bi.start_once c d b, bi.start_stage c b, bi.start_stage d b, re.unsent c, re.unsent d);

@@ -8,11 +8,11 @@ use Rattle.sva_step.specs.declared.refusals.Refusal.{Refusal}
 use Rattle.sva_step.specs.declared.steps.Step.{Step}
 use Rattle.sva_step.specs.declared.steps.Step.TheVariants as step
 use Rattle.sva_model.specs.Words.{put, count_below, is_some, the}
-use Rattle.sva_model.specs.State.{PasidRule, Mappings, Part, World, Stage}
+use Rattle.sva_model.specs.State.{PasidRule, Mappings, Endpoint, World, Stage}
 use Rattle.sva_model.specs.State.Stage.{Unbound, Live, Stopping, Draining, Invalidating, Quiet, Lost, Released}
 use Rattle.sva_model.specs.States.{is_unreleased}
-use Rattle.sva_model.specs.Acts.{Act, Own, act, own, submitted_if, submits, bound, cookie_of}
-use Rattle.sva_model.specs.Acts.Act.{NewSpace, DropSpace, Map, Unmap, NewBinding, NewJob, Hold, LetGo, At}
+use Rattle.sva_model.specs.Acts.{Act, LocalAct, act, own, submitted_if, submits, bound, cookie_of}
+use Rattle.sva_model.specs.Acts.Act.{NewSpace, DropSpace, Map, Unmap, NewBinding, NewJob, Hold, LetGo, AtEndpoint}
 use Rattle.sva_model.specs.Labels
 use Rattle.sva_model.specs.Refusals.{Cause, refusals}
 use Rattle.sva_model.specs.Outcomes.{Outcome, outcome, advance_outcome}
@@ -20,7 +20,7 @@ use Rattle.sva_model.specs.Steps.{Reply, checked, decide, reply, next, after_act
 use Rattle.sva_laws.specs.Steps.{unreleased, slots, bound_by, released_by, begun_by, ended_by, KeepsBooks}
 use Rattle.sva_laws.proofs.Words.{put-same, put-other, ℕ_cases}
 use Rattle.sva_laws.proofs.Counting.{bit, count_next, count_same, count_off}
-use Rattle.sva_laws.proofs.Legal.{LegalOwn}
+use Rattle.sva_laws.proofs.Legal.{LegalLocalAct}
 use Rattle.sva_laws.proofs.Invariant.{Invariant}
 use Rattle.sva_laws.proofs.Keeps.{Legal, act_keeps, put_keeps}
 use Rattle.sva_laws.proofs.Passed.{LegalAll}
@@ -30,33 +30,33 @@ use Rattle.sva_laws.proofs.StepActs.{may, AllMay, step_may, is_binding, is_advan
 
 -- Acts that begin and release no binding.
 
-abbrev is_bound_by : Own → Bool
-is_bound_by (Own.Bind b s t) = true
-is_bound_by (Own.Release b) = true
+abbrev is_bound_by : LocalAct → Bool
+is_bound_by (LocalAct.Bind b s t) = true
+is_bound_by (LocalAct.Release b) = true
 is_bound_by _ = false
 
-stage_same : (ms : Mappings) (g n : ℕ) (p : Part) (o : Own) → LegalOwn ms g p o → is_bound_by o ≡ false → (b : ℕ)
+stage_same : (ms : Mappings) (g n : ℕ) (p : Endpoint) (o : LocalAct) → LegalLocalAct ms g p o → is_bound_by o ≡ false → (b : ℕ)
     → is_unreleased ((own p n o).stage b) ≡ is_unreleased (p.stage b)
 stage_same ms g n p o l h b = grind (arith, nat_tests)
 
-submitted_stage : (t : Bool) (p : Part) (o : Option ℕ) (q count order cookie b : ℕ) → (submitted_if t p o q count order cookie).stage b ≡ p.stage b
+submitted_stage : (t : Bool) (p : Endpoint) (o : Option ℕ) (q count order cookie b : ℕ) → (submitted_if t p o q count order cookie).stage b ≡ p.stage b
 submitted_stage true p (Some d) q count order cookie b = refl
 submitted_stage true p None q count order cookie b = refl
 submitted_stage false p o q count order cookie b = refl
 
 abbrev binds_or_releases : Act → Bool
-binds_or_releases (At e o) = is_bound_by o
+binds_or_releases (AtEndpoint e o) = is_bound_by o
 binds_or_releases _ = false
 
 new_unbound : (w : World) (e : ℕ) → Invariant w → unreleased (act w (NewBinding e)) ≡ unreleased w
 unfolding bit
 new_unbound w e i =
-    let now : ℕ → Bool = λ b. is_unreleased ((w.part (put w.home w.bindings e b)).stage b) in
+    let now : ℕ → Bool = λ b. is_unreleased ((w.part (put w.endpoint_of w.bindings e b)).stage b) in
     let new : bit (now w.bindings) ≡ 0 =
-    ap (λ x. bit (is_unreleased x)) ((i.parts (put w.home w.bindings e w.bindings)).bounds.stage w.bindings (omega arith)) in
+    ap (λ x. bit (is_unreleased x)) ((i.parts (put w.endpoint_of w.bindings e w.bindings)).bounds.stage w.bindings (omega arith)) in
     let old : count_below w.bindings now ≡ unreleased w =
-    count_same w.bindings now (λ b. is_unreleased ((w.part (w.home b)).stage b))
-    (λ b l. ap (λ z. is_unreleased ((w.part z).stage b)) (put-other w.home w.bindings e b (omega (arith, l))))
+    count_same w.bindings now (λ b. is_unreleased ((w.part (w.endpoint_of b)).stage b))
+    (λ b l. ap (λ z. is_unreleased ((w.part z).stage b)) (put-other w.endpoint_of w.bindings e b (omega (arith, l))))
     in
     omega (arith, count_next w.bindings now, new, old)
 
@@ -65,20 +65,23 @@ act_same w NewSpace l i h = refl
 act_same w (DropSpace s) l i h = refl
 act_same w (Map s q f x) l i h = refl
 act_same w (Unmap s q count order) l i h =
-    count_same w.bindings (λ b. is_unreleased (((act w (Unmap s q count order)).part (w.home b)).stage b)) (λ b. is_unreleased ((w.part (w.home b)).stage b))
-    (λ b k. ap is_unreleased (submitted_stage (submits w s (w.home b)) (w.part (w.home b)) (bound w (w.home b) s) q count order (cookie_of w s (w.home b)) b))
+    count_same w.bindings (λ b. is_unreleased (((act w (Unmap s q count order)).part (w.endpoint_of b)).stage b))
+        (λ b. is_unreleased ((w.part (w.endpoint_of b)).stage b))
+    (λ b k. ap is_unreleased (submitted_stage (submits w s (w.endpoint_of b)) (w.part (w.endpoint_of b)) (bound w (w.endpoint_of b) s) q count order
+        (cookie_of w s (w.endpoint_of b)) b))
 act_same w (NewBinding e) l i h = new_unbound w e i
 act_same w (NewJob e g) l i h = refl
 act_same w (Hold x j) l i h = refl
 act_same w (LetGo x) l i h = refl
-act_same w (At e o) l i h =
-    count_same w.bindings (λ b. is_unreleased (((act w (At e o)).part (w.home b)).stage b)) (λ b. is_unreleased ((w.part (w.home b)).stage b))
+act_same w (AtEndpoint e o) l i h =
+    count_same w.bindings (λ b. is_unreleased (((act w (AtEndpoint e o)).part (w.endpoint_of b)).stage b))
+        (λ b. is_unreleased ((w.part (w.endpoint_of b)).stage b))
     (λ b k. put_keeps (λ x p. (d : ℕ) → is_unreleased (p.stage d) ≡ is_unreleased ((w.part x).stage d)) w.part e (own (w.part e) w.messages o)
-    (λ d. stage_same w.mappings w.bindings w.messages (w.part e) o l.1.0 h d) (λ x d. refl) (w.home b) b)
+    (λ d. stage_same w.mappings w.bindings w.messages (w.part e) o l.1.0 h d) (λ x d. refl) (w.endpoint_of b) b)
 
 quiet : (z : Step) (a : Act) → is_binding z ≡ false → is_advancing z ≡ false → may a z ≡ true → binds_or_releases a ≡ false
-quiet z (At e (Own.Bind b s t)) x y h = absurd (cc)
-quiet z (At e (Own.Release b)) x y h = absurd (cc)
+quiet z (AtEndpoint e (LocalAct.Bind b s t)) x y h = absurd (cc)
+quiet z (AtEndpoint e (LocalAct.Release b)) x y h = absurd (cc)
 quiet z a x y h = grind arith
 
 acts_same : (z : Step) (acts : List Act) (w : World) → is_binding z ≡ false → is_advancing z ≡ false → AllMay z acts → LegalAll w acts → Invariant w
@@ -91,53 +94,55 @@ next_same w s i x y = acts_same s (decide w s).acts w x y (step_may w s) (step_l
 
 -- A binding that begins, and one that is released.
 
-begins : (w : World) (e b s t : ℕ) → Invariant w → Legal w (At e (Own.Bind b s t)) → unreleased (act w (At e (Own.Bind b s t))) ≡ suc (unreleased w)
+begins : (w : World) (e b s t : ℕ) → Invariant w → Legal w (AtEndpoint e (LocalAct.Bind b s t)) → unreleased (act w (AtEndpoint e (LocalAct.Bind b s t)))
+    ≡ suc (unreleased w)
 begins w e b s t i l =
-    count_off w.bindings now was b l.1.0.0 (ap (λ z. is_unreleased (((act w (At e (Own.Bind b s t))).part z).stage b)) home
+    count_off w.bindings now was b l.1.0.0 (ap (λ z. is_unreleased (((act w (AtEndpoint e (LocalAct.Bind b s t))).part z).stage b)) endpoint_of
     ∙ ap (λ p. is_unreleased (p.stage b)) here ∙ ap is_unreleased (put-same (w.part e).stage b Live))
-    (ap (λ z. is_unreleased ((w.part z).stage b)) home ∙ ap is_unreleased l.1.0.2)
+    (ap (λ z. is_unreleased ((w.part z).stage b)) endpoint_of ∙ ap is_unreleased l.1.0.2)
     (λ d ne. put_keeps (λ x p. (c : ℕ) → c ≢ b → is_unreleased (p.stage c) ≡ is_unreleased ((w.part x).stage c)) w.part e
-    (own (w.part e) w.messages (Own.Bind b s t)) (λ c k. ap is_unreleased (put-other (w.part e).stage b Live c k)) (λ x c k. refl) (w.home d) d ne)
+    (own (w.part e) w.messages (LocalAct.Bind b s t)) (λ c k. ap is_unreleased (put-other (w.part e).stage b Live c k)) (λ x c k. refl) (w.endpoint_of d) d ne)
   where
     now : ℕ → Bool
-    now d = is_unreleased (((act w (At e (Own.Bind b s t))).part (w.home d)).stage d)
+    now d = is_unreleased (((act w (AtEndpoint e (LocalAct.Bind b s t))).part (w.endpoint_of d)).stage d)
 
     was : ℕ → Bool
-    was d = is_unreleased ((w.part (w.home d)).stage d)
+    was d = is_unreleased ((w.part (w.endpoint_of d)).stage d)
 
-    home : w.home b ≡ e
-    home = l.1.1.2
+    endpoint_of : w.endpoint_of b ≡ e
+    endpoint_of = l.1.1.2
 
-    here : (act w (At e (Own.Bind b s t))).part e ≡ own (w.part e) w.messages (Own.Bind b s t)
-    here = put-same w.part e (own (w.part e) w.messages (Own.Bind b s t))
+    here : (act w (AtEndpoint e (LocalAct.Bind b s t))).part e ≡ own (w.part e) w.messages (LocalAct.Bind b s t)
+    here = put-same w.part e (own (w.part e) w.messages (LocalAct.Bind b s t))
 
-releases : (w : World) (e b : ℕ) → Invariant w → Legal w (At e (Own.Release b)) → unreleased w ≡ suc (unreleased (act w (At e (Own.Release b))))
+releases : (w : World) (e b : ℕ) → Invariant w → Legal w (AtEndpoint e (LocalAct.Release b)) → unreleased w
+    ≡ suc (unreleased (act w (AtEndpoint e (LocalAct.Release b))))
 releases w e b i l =
     count_off w.bindings was now b made
-    (ap (λ z. is_unreleased ((w.part z).stage b)) home ∙ ap is_unreleased l.1.0)
-    (ap (λ z. is_unreleased (((act w (At e (Own.Release b))).part z).stage b)) home ∙ ap (λ p. is_unreleased (p.stage b)) here
+    (ap (λ z. is_unreleased ((w.part z).stage b)) endpoint_of ∙ ap is_unreleased l.1.0)
+    (ap (λ z. is_unreleased (((act w (AtEndpoint e (LocalAct.Release b))).part z).stage b)) endpoint_of ∙ ap (λ p. is_unreleased (p.stage b)) here
     ∙ ap is_unreleased (put-same (w.part e).stage b Released))
     (λ d ne. put_keeps (λ x p. (c : ℕ) → c ≢ b → is_unreleased ((w.part x).stage c) ≡ is_unreleased (p.stage c)) w.part e
-    (own (w.part e) w.messages (Own.Release b)) (λ c k. sym (ap is_unreleased (put-other (w.part e).stage b Released c k)))
-    (λ x c k. refl) (w.home d) d ne)
+    (own (w.part e) w.messages (LocalAct.Release b)) (λ c k. sym (ap is_unreleased (put-other (w.part e).stage b Released c k)))
+    (λ x c k. refl) (w.endpoint_of d) d ne)
   where
     now : ℕ → Bool
-    now d = is_unreleased (((act w (At e (Own.Release b))).part (w.home d)).stage d)
+    now d = is_unreleased (((act w (AtEndpoint e (LocalAct.Release b))).part (w.endpoint_of d)).stage d)
 
     was : ℕ → Bool
-    was d = is_unreleased ((w.part (w.home d)).stage d)
+    was d = is_unreleased ((w.part (w.endpoint_of d)).stage d)
 
     not_unbound : (w.part e).stage b ≢ Unbound
     not_unbound h = absurd (cc (sym h ∙ l.1.0))
 
-    home : w.home b ≡ e
-    home = i.homed e b not_unbound
+    endpoint_of : w.endpoint_of b ≡ e
+    endpoint_of = i.homed e b not_unbound
 
     made : b < w.bindings
     made = grind (arith, nat_tests, (i.parts e).bounds.stage b)
 
-    here : (act w (At e (Own.Release b))).part e ≡ own (w.part e) w.messages (Own.Release b)
-    here = put-same w.part e (own (w.part e) w.messages (Own.Release b))
+    here : (act w (AtEndpoint e (LocalAct.Release b))).part e ≡ own (w.part e) w.messages (LocalAct.Release b)
+    here = put-same w.part e (own (w.part e) w.messages (LocalAct.Release b))
 
 -- What is said of an answer and its acts holds of a decision, where it holds of a refusal and of what is done where none holds.
 by_checked : (P : Reply → List Act → Type 0) (cs : List Cause) (o : Outcome) → ((r : Refusal) → P (Err r) []) → P (Ok o.answer) o.acts
@@ -164,18 +169,18 @@ bind_books w e n i =
     (act_keeps w (NewBinding e) l.0 i) l.1.0 in
     omega (arith, one, two))
 
-kept_books : (w : World) (n e : ℕ) (o : Own) (r : Reply) → Invariant w → is_bound_by o ≡ false → released_by (step.Advance n) r ≡ 0
-    → Books w (step.Advance n) r (At e o ∷ [])
-kept_books w n e o r i h z l = let one = act_same w (At e o) l.0 i h in omega (arith, one, z)
+kept_books : (w : World) (n e : ℕ) (o : LocalAct) (r : Reply) → Invariant w → is_bound_by o ≡ false → released_by (step.Advance n) r ≡ 0
+    → Books w (step.Advance n) r (AtEndpoint e o ∷ [])
+kept_books w n e o r i h z l = let one = act_same w (AtEndpoint e o) l.0 i h in omega (arith, one, z)
 
-released_books : (w : World) (n e b : ℕ) → Invariant w → Books w (step.Advance n) (Ok answer.Released) (At e (Own.Release b) ∷ [])
+released_books : (w : World) (n e b : ℕ) → Invariant w → Books w (step.Advance n) (Ok answer.Released) (AtEndpoint e (LocalAct.Release b) ∷ [])
 released_books w n e b i l = let one = releases w e b i l.0 in omega (arith, one)
 
 stage_books : (w : World) (n e b : ℕ) (s : Stage) → Invariant w
     → Books w (step.Advance n) (Ok (advance_outcome w e b s).answer) (advance_outcome w e b s).acts
-stage_books w n e b (Stopping marked) i = kept_books w n e (Own.Drain b w.cookies) (Ok answer.Draining) i refl refl
-stage_books w n e b (Draining wait) i = kept_books w n e (Own.Invalidate b w.cookies) (Ok answer.Invalidating) i refl refl
-stage_books w n e b (Invalidating k wait) i = kept_books w n e (Own.Quieten b) (Ok answer.Quiet) i refl refl
+stage_books w n e b (Stopping marked) i = kept_books w n e (LocalAct.Drain b w.cookies) (Ok answer.Draining) i refl refl
+stage_books w n e b (Draining wait) i = kept_books w n e (LocalAct.Invalidate b w.cookies) (Ok answer.Invalidating) i refl refl
+stage_books w n e b (Invalidating k wait) i = kept_books w n e (LocalAct.Quieten b) (Ok answer.Quiet) i refl refl
 stage_books w n e b Unbound i = released_books w n e b i
 stage_books w n e b Live i = released_books w n e b i
 stage_books w n e b Quiet i = released_books w n e b i
@@ -185,7 +190,7 @@ stage_books w n e b Released i = released_books w n e b i
 advance_books : (w : World) (n : ℕ) → Invariant w → Books w (step.Advance n) (decide w (step.Advance n)).reply (decide w (step.Advance n)).acts
 advance_books w n i =
     by_checked (Books w (step.Advance n)) (refusals w (step.Advance n)) (outcome w (step.Advance n)) (λ r l. refl)
-    (stage_books w n (w.home (Labels.name w n)) (Labels.name w n) ((w.part (w.home (Labels.name w n))).stage (Labels.name w n)) i)
+    (stage_books w n (w.endpoint_of (Labels.name w n)) (Labels.name w n) ((w.part (w.endpoint_of (Labels.name w n))).stage (Labels.name w n)) i)
 
 none_bound : (s : Step) (r : Reply) → is_binding s ≡ false → bound_by s r ≡ 0
 none_bound s r h = grind arith
@@ -210,24 +215,25 @@ next_books w s i = go s (is_binding s) (is_advancing s) refl refl
 
 -- Use slots.
 
-abbrev uses_slot : Own → Bool
-uses_slot (Own.Begin r m t) = true
-uses_slot (Own.End u) = true
+abbrev uses_slot : LocalAct → Bool
+uses_slot (LocalAct.Begin r m t) = true
+uses_slot (LocalAct.End u) = true
 uses_slot _ = false
 
-slot_same : (p : Part) (n : ℕ) (o : Own) → uses_slot o ≡ false → (t : ℕ) → (own p n o).at_slot t ≡ p.at_slot t
+slot_same : (p : Endpoint) (n : ℕ) (o : LocalAct) → uses_slot o ≡ false → (t : ℕ) → (own p n o).at_slot t ≡ p.at_slot t
 slot_same p n o h t = grind (arith, nat_tests)
 
-submitted_slot : (t : Bool) (p : Part) (o : Option ℕ) (q count order cookie k : ℕ) → (submitted_if t p o q count order cookie).at_slot k ≡ p.at_slot k
+submitted_slot : (t : Bool) (p : Endpoint) (o : Option ℕ) (q count order cookie k : ℕ) → (submitted_if t p o q count order cookie).at_slot k ≡ p.at_slot k
 submitted_slot true p (Some d) q count order cookie k = refl
 submitted_slot true p None q count order cookie k = refl
 submitted_slot false p o q count order cookie k = refl
 
-slots_same : (p q : Part) → ((t : ℕ) → q.at_slot t ≡ p.at_slot t) → count_below 16 (λ t. is_some (q.at_slot t)) ≡ count_below 16 (λ t. is_some (p.at_slot t))
+slots_same : (p q : Endpoint) → ((t : ℕ) → q.at_slot t ≡ p.at_slot t) → count_below 16 (λ t. is_some (q.at_slot t))
+    ≡ count_below 16 (λ t. is_some (p.at_slot t))
 slots_same p q h = count_same 16 (λ t. is_some (q.at_slot t)) (λ t. is_some (p.at_slot t)) (λ t l. ap is_some (h t))
 
 abbrev slots_used : Act → Bool
-slots_used (At e o) = uses_slot o
+slots_used (AtEndpoint e o) = uses_slot o
 slots_used _ = false
 
 act_slots : (w : World) (a : Act) (e : ℕ) → slots_used a ≡ false → slots (act w a) e ≡ slots w e
@@ -241,13 +247,13 @@ act_slots w (NewBinding d) e h = refl
 act_slots w (NewJob d g) e h = refl
 act_slots w (Hold x j) e h = refl
 act_slots w (LetGo x) e h = refl
-act_slots w (At d o) e h =
+act_slots w (AtEndpoint d o) e h =
     put_keeps (λ x p. count_below 16 (λ t. is_some (p.at_slot t)) ≡ slots w x) w.part d (own (w.part d) w.messages o)
     (slots_same (w.part d) (own (w.part d) w.messages o) (slot_same (w.part d) w.messages o h)) (λ x. refl) e
 
 still : (z : Step) (a : Act) → is_beginning z ≡ false → is_ending z ≡ false → may a z ≡ true → slots_used a ≡ false
-still z (At e (Own.Begin r m t)) x y h = absurd (cc)
-still z (At e (Own.End u)) x y h = absurd (cc)
+still z (AtEndpoint e (LocalAct.Begin r m t)) x y h = absurd (cc)
+still z (AtEndpoint e (LocalAct.End u)) x y h = absurd (cc)
 still z a x y h = grind arith
 
 acts_slots : (z : Step) (acts : List Act) (w : World) (e : ℕ) → is_beginning z ≡ false → is_ending z ≡ false → AllMay z acts
@@ -255,10 +261,11 @@ acts_slots : (z : Step) (acts : List Act) (w : World) (e : ℕ) → is_beginning
 acts_slots z [] w e x y m = refl
 acts_slots z (a ∷ acts) w e x y m = acts_slots z acts (act w a) e x y m.1 ∙ act_slots w a e (still z a x y m.0)
 
-begun : (w : World) (d r m t e : ℕ) → Legal w (At d (Own.Begin r m t)) → slots (act w (At d (Own.Begin r m t))) e ≡ slots w e + (if d == e then 1 else 0)
+begun : (w : World) (d r m t e : ℕ) → Legal w (AtEndpoint d (LocalAct.Begin r m t)) → slots (act w (AtEndpoint d (LocalAct.Begin r m t))) e
+    ≡ slots w e + (if d == e then 1 else 0)
 begun w d r m t e l = go (ℕ_cases e d)
   where
-    p : Part
+    p : Endpoint
     p = w.part d
 
     new : count_below 16 (λ k. is_some (put p.at_slot t (Some p.uses) k)) ≡ suc (slots w d)
@@ -271,17 +278,18 @@ begun w d r m t e l = go (ℕ_cases e d)
     there : e ≢ d → slots w e ≡ slots w e + (if d == e then 1 else 0)
     there ne = grind (arith, nat_tests)
 
-    go : (e ≡ d) ⊎ (e ≢ d) → slots (act w (At d (Own.Begin r m t))) e ≡ slots w e + (if d == e then 1 else 0)
+    go : (e ≡ d) ⊎ (e ≢ d) → slots (act w (AtEndpoint d (LocalAct.Begin r m t))) e ≡ slots w e + (if d == e then 1 else 0)
     go (inl h) =
-        subst (λ x. slots (act w (At d (Own.Begin r m t))) x ≡ slots w x + (if d == x then 1 else 0)) (sym h)
-        (ap (λ q. count_below 16 (λ k. is_some (q.at_slot k))) (put-same w.part d (own p w.messages (Own.Begin r m t)))
+        subst (λ x. slots (act w (AtEndpoint d (LocalAct.Begin r m t))) x ≡ slots w x + (if d == x then 1 else 0)) (sym h)
+        (ap (λ q. count_below 16 (λ k. is_some (q.at_slot k))) (put-same w.part d (own p w.messages (LocalAct.Begin r m t)))
         ∙ here (count_below 16 (λ k. is_some (put p.at_slot t (Some p.uses) k))) new)
-    go (inr ne) = ap (λ q. count_below 16 (λ k. is_some (q.at_slot k))) (put-other w.part d (own p w.messages (Own.Begin r m t)) e ne) ∙ there ne
+    go (inr ne) = ap (λ q. count_below 16 (λ k. is_some (q.at_slot k))) (put-other w.part d (own p w.messages (LocalAct.Begin r m t)) e ne) ∙ there ne
 
-ended : (w : World) (d u e : ℕ) → Invariant w → Legal w (At d (Own.End u)) → slots (act w (At d (Own.End u))) e + (if d == e then 1 else 0) ≡ slots w e
+ended : (w : World) (d u e : ℕ) → Invariant w → Legal w (AtEndpoint d (LocalAct.End u))
+    → slots (act w (AtEndpoint d (LocalAct.End u))) e + (if d == e then 1 else 0) ≡ slots w e
 ended w d u e i l = go (ℕ_cases e d)
   where
-    p : Part
+    p : Endpoint
     p = w.part d
 
     t : ℕ
@@ -299,13 +307,13 @@ ended w d u e i l = go (ℕ_cases e d)
     there : e ≢ d → slots w e + (if d == e then 1 else 0) ≡ slots w e
     there ne = grind (arith, nat_tests)
 
-    go : (e ≡ d) ⊎ (e ≢ d) → slots (act w (At d (Own.End u))) e + (if d == e then 1 else 0) ≡ slots w e
+    go : (e ≡ d) ⊎ (e ≢ d) → slots (act w (AtEndpoint d (LocalAct.End u))) e + (if d == e then 1 else 0) ≡ slots w e
     go (inl h) =
-        subst (λ x. slots (act w (At d (Own.End u))) x + (if d == x then 1 else 0) ≡ slots w x) (sym h)
-        (ap (λ q. count_below 16 (λ k. is_some (q.at_slot k)) + (if d == d then 1 else 0)) (put-same w.part d (own p w.messages (Own.End u)))
+        subst (λ x. slots (act w (AtEndpoint d (LocalAct.End u))) x + (if d == x then 1 else 0) ≡ slots w x) (sym h)
+        (ap (λ q. count_below 16 (λ k. is_some (q.at_slot k)) + (if d == d then 1 else 0)) (put-same w.part d (own p w.messages (LocalAct.End u)))
         ∙ here (count_below 16 (λ k. is_some (put p.at_slot t None k))) old)
     go (inr ne) = ap (λ q. count_below 16 (λ k. is_some (q.at_slot k)) + (if d == e then 1 else 0))
-        (put-other w.part d (own p w.messages (Own.End u)) e ne) ∙ there ne
+        (put-other w.part d (own p w.messages (LocalAct.End u)) e ne) ∙ there ne
 
 abbrev Slots : World → ℕ → Step → Reply → List Act → Type 0
 Slots w e s r acts = LegalAll w acts → slots (after_acts w acts) e + ended_by e s r ≡ slots w e + begun_by e s r

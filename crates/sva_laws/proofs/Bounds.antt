@@ -3,25 +3,25 @@ use Rattle.std.proofs.Common.{◌≡◌, ℕ, ◌<◌, ◌≤◌, arith}
 use Rattle.std.specs.Prelude.{Option, Some, None}
 use Rattle.std.proofs.lemmas.Bool.Decides.{nat_tests}
 use Rattle.sva_model.specs.Message.{Code}
-use Rattle.sva_model.specs.State.{Mappings, Part}
+use Rattle.sva_model.specs.State.{Mappings, Endpoint}
 use Rattle.sva_model.specs.State.Stage.{Unbound}
 use Rattle.sva_model.specs.State.RequestState.{Over}
 use Rattle.sva_model.specs.State.UseState.{Ended}
 use Rattle.sva_model.specs.State.PageRequestState.{Dropped}
-use Rattle.sva_model.specs.State.GroupState.{Finished}
+use Rattle.sva_model.specs.State.GroupState.{Closed}
 use Rattle.sva_model.specs.State.HostGroupState.{NotFiled}
 use Rattle.sva_model.specs.State.OrderState.{Void, Taken}
-use Rattle.sva_model.specs.State.About.{CompletionOf, InvalidateOf, ResponseOf, RequestOf, PageRequestOf}
-use Rattle.sva_model.specs.Acts.{own, Own}
-use Rattle.sva_laws.proofs.Legal.{LegalOwn}
+use Rattle.sva_model.specs.State.Subject.{CompletionOf, InvalidateOf, ResponseOf, RequestOf, PageRequestOf}
+use Rattle.sva_model.specs.Acts.{own, LocalAct}
+use Rattle.sva_laws.proofs.Legal.{LegalLocalAct}
 use Rattle.sva_laws.proofs.Resets.{Resets}
 
-pub record Bounds (bindings : ℕ) (p : Part) : Type 0 where
+pub record Bounds (bindings : ℕ) (p : Endpoint) : Type 0 where
   pub stage : (b : ℕ) → bindings ≤ b → p.stage b ≡ Unbound
   pub request : (r : ℕ) → p.requests ≤ r → p.request r ≡ Over
   pub held : (r : ℕ) → p.requests ≤ r → p.held r ≡ None
   pub use_state : (u : ℕ) → p.uses ≤ u → p.use_state u ≡ Ended
-  pub group : (g : ℕ) → p.groups ≤ g → p.group g ≡ Finished
+  pub group : (g : ℕ) → p.groups ≤ g → p.group g ≡ Closed
   pub host_group : (g : ℕ) → p.groups ≤ g → p.host_group g ≡ NotFiled
   pub responses : (g : ℕ) → p.groups ≤ g → p.responses g ≡ 0
   pub page_request : (r : ℕ) → p.page_requests ≤ r → p.page_request r ≡ Dropped
@@ -34,7 +34,7 @@ pub record Bounds (bindings : ℕ) (p : Part) : Type 0 where
   pub requested : (c r : ℕ) → p.message c ≡ Some (PageRequestOf r) → r < p.page_requests
   pub responded : (c g : ℕ) (code : Code) → p.message c ≡ Some (ResponseOf g code) → g < p.groups
 
-pub every : (ms : Mappings) (g n : ℕ) (p : Part) (o : Own) → LegalOwn ms g p o → Resets n p → Bounds g p → Bounds g (own p n o)
+pub every : (ms : Mappings) (g n : ℕ) (p : Endpoint) (o : LocalAct) → LegalLocalAct ms g p o → Resets n p → Bounds g p → Bounds g (own p n o)
 every ms g n p o l re bo =
     record {
       stage = λ b h. grind (arith, nat_tests, bo.stage b);

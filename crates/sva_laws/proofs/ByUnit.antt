@@ -5,7 +5,7 @@ use Rattle.std.proofs.lemmas.Bool.Decides.{nat_tests}
 use Rattle.std.proofs.Common.{arith}
 use Rattle.sva_step.specs.declared.limits.Config.{Config}
 use Rattle.sva_step.specs.declared.steps.Step.{Step}
-use Rattle.sva_model.specs.State.{PasidRule, Owed, Part, World}
+use Rattle.sva_model.specs.State.{PasidRule, Owed, Endpoint, World}
 use Rattle.sva_model.specs.State.MappingState.{Gone}
 use Rattle.sva_model.specs.States.{is_unreleased, answered}
 use Rattle.sva_model.specs.Acts.{bound, owed_by, cookie_of}
@@ -21,10 +21,10 @@ use Rattle.sva_laws.proofs.Lookback.Goes.{unmapped, dropped}
 use Rattle.sva_laws.proofs.Withheld.{answered_if, answers_if, then_part}
 
 -- every unreleased binding of the space has answered by now
-abbrev AllAnswered : (was then now : Part) (space page : ℕ) → Type 0
+abbrev AllAnswered : (was then now : Endpoint) (space page : ℕ) → Type 0
 AllAnswered was then now space page = (b : ℕ) → is_unreleased (was.stage b) ≡ true → was.space b ≡ space → HasAnswered was then now b page
 
-unit_answers : (rule : PasidRule) (c : Config) (before : List Step) (step : Step) (m e : ℕ) (owed : ℕ → Owed) (now : Part)
+unit_answers : (rule : PasidRule) (c : Config) (before : List Step) (step : Step) (m e : ℕ) (owed : ℕ → Owed) (now : Endpoint)
     → Goes (world_after rule c before) (next (world_after rule c before) step) m owed
     → (answered now (owed e) ≡ true) ↔ AllAnswered ((world_after rule c before).part e) ((world_after rule c (before ++ step ∷ [])).part e) now
     ((world_after rule c before).mappings.space m) ((world_after rule c before).mappings.page m)
@@ -40,7 +40,7 @@ unit_answers rule c before step m e owed now (unmapped s q count order nx sp r o
     w : World
     w = world_after rule c before
 
-    then : Part
+    then : Endpoint
     then = (world_after rule c (before ++ step ∷ [])).part e
 
     owes : (o : Option ℕ) → bound w e s ≡ o → owed e ≡ owed_by (w.part e) count o

@@ -10,16 +10,16 @@ use Rattle.sva_model.specs.Words.{put}
 use Rattle.sva_model.specs.Message.{Code}
 use Rattle.sva_model.specs.Message.Message.{StartMessage, StopMessage, ResetMessage, CompletionMessage, InvalidateMessage, ResponseMessage, RequestMessage}
 use Rattle.sva_model.specs.Message.Message.{PageRequestMessage, MarkerMessage, ResetDoneMessage}
-use Rattle.sva_model.specs.State.{Mappings, Part, World, Stage, opened}
+use Rattle.sva_model.specs.State.{Mappings, Endpoint, World, Stage, opened}
 use Rattle.sva_model.specs.State.Stage.{Unbound}
 use Rattle.sva_model.specs.State.PageRequestState.{Arrived}
 use Rattle.sva_model.specs.State.OrderState.{Sent}
-use Rattle.sva_model.specs.State.About.{StartOf, StopOf, ResetOrder, CompletionOf, InvalidateOf, ResponseOf, RequestOf, PageRequestOf, MarkerOf, ResetDone}
-use Rattle.sva_model.specs.Acts.{Act, Own, act, own, submitted, submitted_if, submits, bound, cookie_of, binding_of, extent_of, scope_of}
-use Rattle.sva_model.specs.Acts.Act.{NewSpace, DropSpace, Map, Unmap, NewBinding, NewJob, Hold, LetGo, At}
+use Rattle.sva_model.specs.State.Subject.{StartOf, StopOf, FunctionReset, CompletionOf, InvalidateOf, ResponseOf, RequestOf, PageRequestOf, MarkerOf, ResetDone}
+use Rattle.sva_model.specs.Acts.{Act, LocalAct, act, own, submitted, submitted_if, submits, bound, cookie_of, binding_of, extent_of, scope_of}
+use Rattle.sva_model.specs.Acts.Act.{NewSpace, DropSpace, Map, Unmap, NewBinding, NewJob, Hold, LetGo, AtEndpoint}
 use Rattle.sva_model.specs.Steps.{decide, next, run, after_acts, world_after}
 use Rattle.sva_laws.specs.Laws.{IsCarried}
-use Rattle.sva_laws.proofs.Legal.{LegalOwn}
+use Rattle.sva_laws.proofs.Legal.{LegalLocalAct}
 use Rattle.sva_laws.proofs.Bounds.{Bounds}
 use Rattle.sva_laws.proofs.Bindings.{is_unmarked}
 use Rattle.sva_laws.proofs.Orders.{is_active}
@@ -33,30 +33,31 @@ use Rattle.sva_laws.proofs.Keeps.{Legal, act_keeps, put_keeps}
 use Rattle.sva_laws.proofs.Passed.{LegalAll}
 use Rattle.sva_laws.proofs.Runs.{step_legal, next_keeps, opened_invariant}
 
-start_kept : (ms : Mappings) (g n : ℕ) (p : Part) (o : Own) → LegalOwn ms g p o → (c b : ℕ) → (p.message c ≡ Some (StartOf b) → p.stage b ≢ Unbound)
+start_kept : (ms : Mappings) (g n : ℕ) (p : Endpoint) (o : LocalAct) → LegalLocalAct ms g p o → (c b : ℕ)
+    → (p.message c ≡ Some (StartOf b) → p.stage b ≢ Unbound)
     → (p.message c ≡ Some (StartOf b) → p.carried c ≡ StartMessage (p.pasid b)) → (own p n o).message c ≡ Some (StartOf b) → (own p n o).carried c
     ≡ StartMessage ((own p n o).pasid b)
 start_kept ms g n p o l c b bound old h = grind (arith, nat_tests)
 
-stop_kept : (ms : Mappings) (g n : ℕ) (p : Part) (o : Own) → LegalOwn ms g p o → (c b : ℕ) → (p.message c ≡ Some (StopOf b) → p.stage b ≢ Unbound)
+stop_kept : (ms : Mappings) (g n : ℕ) (p : Endpoint) (o : LocalAct) → LegalLocalAct ms g p o → (c b : ℕ) → (p.message c ≡ Some (StopOf b) → p.stage b ≢ Unbound)
     → (p.message c ≡ Some (StopOf b) → p.carried c ≡ StopMessage (p.pasid b)) → (own p n o).message c ≡ Some (StopOf b) → (own p n o).carried c
     ≡ StopMessage ((own p n o).pasid b)
 stop_kept ms g n p o l c b bound old h = grind (arith, nat_tests)
 
-reset_kept : (ms : Mappings) (g n : ℕ) (p : Part) (o : Own) → LegalOwn ms g p o → (c : ℕ)
-    → (p.message c ≡ Some ResetOrder → p.carried c ≡ ResetMessage) → (own p n o).message c ≡ Some ResetOrder → (own p n o).carried c ≡ ResetMessage
+reset_kept : (ms : Mappings) (g n : ℕ) (p : Endpoint) (o : LocalAct) → LegalLocalAct ms g p o → (c : ℕ)
+    → (p.message c ≡ Some FunctionReset → p.carried c ≡ ResetMessage) → (own p n o).message c ≡ Some FunctionReset → (own p n o).carried c ≡ ResetMessage
 reset_kept ms g n p o l c old h = grind (arith, nat_tests)
 
-reset_done_kept : (ms : Mappings) (g n : ℕ) (p : Part) (o : Own) → LegalOwn ms g p o → (c : ℕ)
+reset_done_kept : (ms : Mappings) (g n : ℕ) (p : Endpoint) (o : LocalAct) → LegalLocalAct ms g p o → (c : ℕ)
     → (p.message c ≡ Some ResetDone → p.carried c ≡ ResetDoneMessage) → (own p n o).message c ≡ Some ResetDone → (own p n o).carried c ≡ ResetDoneMessage
 reset_done_kept ms g n p o l c old h = grind (arith, nat_tests)
 
-marker_kept : (ms : Mappings) (g n : ℕ) (p : Part) (o : Own) → LegalOwn ms g p o → (c b : ℕ)
+marker_kept : (ms : Mappings) (g n : ℕ) (p : Endpoint) (o : LocalAct) → LegalLocalAct ms g p o → (c b : ℕ)
     → (p.message c ≡ Some (MarkerOf b) → p.stage b ≢ Unbound) → (p.message c ≡ Some (MarkerOf b) → p.carried c ≡ MarkerMessage (p.pasid b))
     → (own p n o).message c ≡ Some (MarkerOf b) → (own p n o).carried c ≡ MarkerMessage ((own p n o).pasid b)
 marker_kept ms g n p o l c b bound old h = grind (arith, nat_tests)
 
-invalidate_kept : (ms : Mappings) (g n : ℕ) (p : Part) (o : Own) → LegalOwn ms g p o → (c k : ℕ)
+invalidate_kept : (ms : Mappings) (g n : ℕ) (p : Endpoint) (o : LocalAct) → LegalLocalAct ms g p o → (c k : ℕ)
     → (p.message c ≡ Some (InvalidateOf k) → k < p.orders) → (p.message c ≡ Some (InvalidateOf k) → p.order_state k ≡ Sent)
     → (p.message c ≡ Some (InvalidateOf k) → p.stage (binding_of (p.order k)) ≢ Unbound)
     → (p.message c ≡ Some (InvalidateOf k) → p.carried c
@@ -65,7 +66,7 @@ invalidate_kept : (ms : Mappings) (g n : ℕ) (p : Part) (o : Own) → LegalOwn 
     ≡ InvalidateMessage ((own p n o).itag k) ((own p n o).pasid (binding_of ((own p n o).order k))) (scope_of (extent_of ((own p n o).order k)))
 invalidate_kept ms g n p o l c k made sent bound old h = grind (arith, nat_tests)
 
-response_kept : (ms : Mappings) (g n : ℕ) (p : Part) (o : Own) → LegalOwn ms g p o → (c x : ℕ) (code : Code)
+response_kept : (ms : Mappings) (g n : ℕ) (p : Endpoint) (o : LocalAct) → LegalLocalAct ms g p o → (c x : ℕ) (code : Code)
     → (p.message c ≡ Some (ResponseOf x code) → x < p.groups)
     → ((r : ℕ) → p.message c ≡ Some (ResponseOf x code) → p.group_of r ≡ x → p.page_request r ≢ Arrived)
     → (p.message c ≡ Some (ResponseOf x code) → p.stage (p.filed_under x) ≢ Unbound)
@@ -73,14 +74,15 @@ response_kept : (ms : Mappings) (g n : ℕ) (p : Part) (o : Own) → LegalOwn ms
     ≡ Some (ResponseOf x code) → (own p n o).carried c ≡ ResponseMessage ((own p n o).pasid ((own p n o).filed_under x)) ((own p n o).index x) code
 response_kept ms g n p o l c x code made filed bound old h = grind (arith, nat_tests)
 
-request_kept : (ms : Mappings) (g n : ℕ) (p : Part) (o : Own) → LegalOwn ms g p o → (c r : ℕ) → (p.message c ≡ Some (RequestOf r) → r < p.requests)
+request_kept : (ms : Mappings) (g n : ℕ) (p : Endpoint) (o : LocalAct) → LegalLocalAct ms g p o → (c r : ℕ)
+    → (p.message c ≡ Some (RequestOf r) → r < p.requests)
     → (p.message c ≡ Some (RequestOf r) → p.stage (p.request_binding r) ≢ Unbound)
     → (p.message c ≡ Some (RequestOf r) → p.carried c ≡ RequestMessage (p.request_tag r) (p.pasid (p.request_binding r)) (p.request_page r))
     → (own p n o).message c ≡ Some (RequestOf r) → (own p n o).carried c
     ≡ RequestMessage ((own p n o).request_tag r) ((own p n o).pasid ((own p n o).request_binding r)) ((own p n o).request_page r)
 request_kept ms g n p o l c r made bound old h = grind (arith, nat_tests)
 
-page_request_kept : (ms : Mappings) (g n : ℕ) (p : Part) (o : Own) → LegalOwn ms g p o → (c r : ℕ)
+page_request_kept : (ms : Mappings) (g n : ℕ) (p : Endpoint) (o : LocalAct) → LegalLocalAct ms g p o → (c r : ℕ)
     → (p.message c ≡ Some (PageRequestOf r) → r < p.page_requests) → (r < p.page_requests → p.group_of r < p.groups)
     → (p.message c ≡ Some (PageRequestOf r) → p.stage (p.asker (p.group_of r)) ≢ Unbound)
     → (p.message c ≡ Some (PageRequestOf r) → p.carried c
@@ -91,14 +93,14 @@ page_request_kept : (ms : Mappings) (g n : ℕ) (p : Part) (o : Own) → LegalOw
 page_request_kept ms g n p o l c r made group bound old h = grind (arith, nat_tests)
 
 -- a completion carries the frame and the write flag of the mapping that it found
-completion_kept : (ms : Mappings) (g n : ℕ) (p : Part) (o : Own) → LegalOwn ms g p o → (c r m : ℕ)
+completion_kept : (ms : Mappings) (g n : ℕ) (p : Endpoint) (o : LocalAct) → LegalLocalAct ms g p o → (c r m : ℕ)
     → (p.message c ≡ Some (CompletionOf r (Some m)) → r < p.requests) → ((d : ℕ) → p.message d ≡ Some (RequestOf r) → r < p.requests)
     → (p.message c ≡ Some (CompletionOf r (Some m)) → p.carried c ≡ CompletionMessage (p.request_tag r) (ms.frame m) true (ms.write m))
     → (own p n o).message c ≡ Some (CompletionOf r (Some m)) → (own p n o).carried c
     ≡ CompletionMessage ((own p n o).request_tag r) (ms.frame m) true (ms.write m)
 completion_kept ms g n p o l c r m made asked old h = grind (arith, nat_tests)
 
-nothing_kept : (ms : Mappings) (g n : ℕ) (p : Part) (o : Own) → LegalOwn ms g p o → (c r : ℕ)
+nothing_kept : (ms : Mappings) (g n : ℕ) (p : Endpoint) (o : LocalAct) → LegalLocalAct ms g p o → (c r : ℕ)
     → (p.message c ≡ Some (CompletionOf r None) → r < p.requests) → ((d : ℕ) → p.message d ≡ Some (RequestOf r) → r < p.requests)
     → (p.message c ≡ Some (CompletionOf r None) → p.carried c ≡ CompletionMessage (p.request_tag r) 0 false false) → (own p n o).message c
     ≡ Some (CompletionOf r None) → (own p n o).carried c ≡ CompletionMessage ((own p n o).request_tag r) 0 false false
@@ -115,7 +117,7 @@ active_bound s h e = absurd (cc (sym (ap is_active e) ∙ h))
 bound_as : (s t : Stage) → s ≡ t → t ≢ Unbound → s ≢ Unbound
 bound_as s t e ne h = ne (sym e ∙ h)
 
-pub every : (ms : Mappings) (x g n e : ℕ) (p : Part) (o : Own) → LegalOwn ms g p o → PartInvariant ms x g n e p → Owed n p → IsCarried ms p
+pub every : (ms : Mappings) (x g n e : ℕ) (p : Endpoint) (o : LocalAct) → LegalLocalAct ms g p o → PartInvariant ms x g n e p → Owed n p → IsCarried ms p
     → IsCarried ms (own p n o)
 every ms x g n e p o l i ow ca =
     let bo = i.bounds in
@@ -149,14 +151,14 @@ every ms x g n e p o l i ow ca =
         bound_as (p.stage (p.filed_under y)) (p.stage (p.asker y)) (ap p.stage (i.groups.under y f)) (i.groups.asker_bound y (i.bounds.responded c y code m))
 
 -- a submission leaves the orders that were sent
-submitted_invalidate : (g b q count order cookie c k : ℕ) (p : Part) → (p.message c ≡ Some (InvalidateOf k) → k < p.orders)
+submitted_invalidate : (g b q count order cookie c k : ℕ) (p : Endpoint) → (p.message c ≡ Some (InvalidateOf k) → k < p.orders)
     → (p.message c ≡ Some (InvalidateOf k) → p.carried c
     ≡ InvalidateMessage (p.itag k) (p.pasid (binding_of (p.order k))) (scope_of (extent_of (p.order k)))) → p.message c ≡ Some (InvalidateOf k)
     → p.carried c ≡ InvalidateMessage (p.itag k) (p.pasid (binding_of ((submitted p b q count order cookie).order k)))
     (scope_of (extent_of ((submitted p b q count order cookie).order k)))
 submitted_invalidate g b q count order cookie c k p made old h = grind (arith, nat_tests)
 
-submitted_carried : (ms : Mappings) (g : ℕ) (t : Bool) (p : Part) (o : Option ℕ) (q count order cookie : ℕ) → Bounds g p → IsCarried ms p
+submitted_carried : (ms : Mappings) (g : ℕ) (t : Bool) (p : Endpoint) (o : Option ℕ) (q count order cookie : ℕ) → Bounds g p → IsCarried ms p
     → IsCarried ms (submitted_if t p o q count order cookie)
 submitted_carried ms g true p (Some b) q count order cookie bo ca =
     record {
@@ -177,7 +179,7 @@ submitted_carried ms g true p None q count order cookie bo ca = ca
 submitted_carried ms g false p o q count order cookie bo ca = ca
 
 -- a mapping leads to the frame that it led to
-with_mappings : (ms ns : Mappings) (p : Part)
+with_mappings : (ms ns : Mappings) (p : Endpoint)
     → ((c r m : ℕ) → p.message c ≡ Some (CompletionOf r (Some m)) → p.carried c ≡ CompletionMessage (p.request_tag r) (ns.frame m) true (ns.write m))
     → IsCarried ms p → IsCarried ns p
 with_mappings ms ns p done ca =
@@ -196,7 +198,7 @@ with_mappings ms ns p done ca =
       reset_done = ca.reset_done;
     }
 
-mapped_completion : (p : Part) (c r m made f : ℕ) (x : Bool) (frame : ℕ → ℕ) (write : ℕ → Bool)
+mapped_completion : (p : Endpoint) (c r m made f : ℕ) (x : Bool) (frame : ℕ → ℕ) (write : ℕ → Bool)
     → (p.message c ≡ Some (CompletionOf r (Some m)) → m < made)
     → (p.message c ≡ Some (CompletionOf r (Some m)) → p.carried c ≡ CompletionMessage (p.request_tag r) (frame m) true (write m)) → p.message c
     ≡ Some (CompletionOf r (Some m)) → p.carried c ≡ CompletionMessage (p.request_tag r) (put frame made f m) true (put write made x m)
@@ -222,7 +224,7 @@ act_carried w (NewBinding e) l i ow h = h
 act_carried w (NewJob e g) l i ow h = h
 act_carried w (Hold x j) l i ow h = h
 act_carried w (LetGo x) l i ow h = h
-act_carried w (At e o) l i ow h =
+act_carried w (AtEndpoint e o) l i ow h =
     put_keeps (λ k p. IsCarried w.mappings p) w.part e (own (w.part e) w.messages o)
     (every w.mappings w.config.endpoints w.bindings w.messages e (w.part e) o l.1.0 (i.parts e) (ow e) (h e)) h
 

@@ -6,18 +6,18 @@ use Rattle.std.proofs.lemmas.Bool.Decides.{nat_tests}
 use Rattle.sva_step.specs.declared.limits.Config.{Config}
 use Rattle.sva_step.specs.declared.steps.Step.{Step}
 use Rattle.sva_model.specs.Words.{count_below}
-use Rattle.sva_model.specs.State.{About, Mappings, OrderState, Part, World, opened}
-use Rattle.sva_model.specs.State.OrderState.{Queued, Sent, Taken, Lapsed, Owing, Done, Void}
-use Rattle.sva_model.specs.State.About.{InvalidatedOf}
+use Rattle.sva_model.specs.State.{Subject, Mappings, OrderState, Endpoint, World, opened}
+use Rattle.sva_model.specs.State.OrderState.{Queued, Sent, Taken, Lapsed, Completing, Done, Void}
+use Rattle.sva_model.specs.State.Subject.{InvalidatedOf}
 use Rattle.sva_model.specs.State.Phase.{Open, Cleared}
 use Rattle.sva_model.specs.States.{is_taken}
-use Rattle.sva_model.specs.Acts.{Act, Own, act, own, sends, counted, counted_if, owe_if, submitted, submitted_if, submits, bound, cookie_of}
-use Rattle.sva_model.specs.Acts.Act.{NewSpace, DropSpace, Map, Unmap, NewBinding, NewJob, Hold, LetGo, At}
+use Rattle.sva_model.specs.Acts.{Act, LocalAct, act, own, sends, counted, counted_if, owe_if, submitted, submitted_if, submits, bound, cookie_of}
+use Rattle.sva_model.specs.Acts.Act.{NewSpace, DropSpace, Map, Unmap, NewBinding, NewJob, Hold, LetGo, AtEndpoint}
 use Rattle.sva_model.specs.Steps.{decide, next, run, after_acts, world_after}
 use Rattle.sva_laws.specs.Laws.{names_order, completions, left_of}
 use Rattle.sva_laws.proofs.Words.{ℕ_cases}
 use Rattle.sva_laws.proofs.Counting.{count_same, count_zero, count_more, count_all, count_off}
-use Rattle.sva_laws.proofs.Legal.{LegalOwn}
+use Rattle.sva_laws.proofs.Legal.{LegalLocalAct}
 use Rattle.sva_laws.proofs.Resets.{Resets}
 use Rattle.sva_laws.proofs.Bounds.{Bounds}
 use Rattle.sva_laws.proofs.Labels.{Labels}
@@ -26,41 +26,43 @@ use Rattle.sva_laws.proofs.Keeps.{Legal, act_keeps, put_keeps}
 use Rattle.sva_laws.proofs.Passed.{LegalAll}
 use Rattle.sva_laws.proofs.Runs.{step_legal, next_keeps, opened_invariant}
 
-pub record Owed (n : ℕ) (p : Part) : Type 0 where
+pub record Owed (n : ℕ) (p : Endpoint) : Type 0 where
   pub owed : (k : ℕ) → p.phase ≡ Open → completions n p k ≡ left_of (p.order_state k)
-  pub owing : (k count left : ℕ) → p.order_state k ≡ Owing count left → (0 < left) × (left ≤ count) × (count ≤ 8)
+  pub completing : (k count left : ℕ) → p.order_state k ≡ Completing count left → (0 < left) × (left ≤ count) × (count ≤ 8)
 
-owing_kept : (ms : Mappings) (g n : ℕ) (p : Part) (o : Own) → LegalOwn ms g p o → (k count left : ℕ)
-    → (p.order_state k ≡ Owing count (suc left) → (suc left ≤ count) × (count ≤ 8))
-    → (p.order_state k ≡ Owing count left → (0 < left) × (left ≤ count) × (count ≤ 8)) → (own p n o).order_state k ≡ Owing count left → (0 < left)
+owing_kept : (ms : Mappings) (g n : ℕ) (p : Endpoint) (o : LocalAct) → LegalLocalAct ms g p o → (k count left : ℕ)
+    → (p.order_state k ≡ Completing count (suc left) → (suc left ≤ count) × (count ≤ 8))
+    → (p.order_state k ≡ Completing count left → (0 < left) × (left ≤ count) × (count ≤ 8)) → (own p n o).order_state k ≡ Completing count left → (0 < left)
     × (left ≤ count) × (count ≤ 8)
 owing_kept ms g n p o l k count left more old h = grind (arith, nat_tests)
 
 -- all acts but these leave the completions of an open unit
-abbrev pub counts_completions : Own → Bool
-counts_completions (Own.Finish names vector count) = true
-counts_completions (Own.Count c names) = true
-counts_completions (Own.Reopen c) = true
+abbrev pub counts_completions : LocalAct → Bool
+counts_completions (LocalAct.Finish names vector count) = true
+counts_completions (LocalAct.Count c names) = true
+counts_completions (LocalAct.Reopen c) = true
 counts_completions _ = false
 
-old_same : (ms : Mappings) (g n : ℕ) (p : Part) (o : Own) → LegalOwn ms g p o → counts_completions o ≡ false → p.phase ≡ Open → (k c : ℕ) → c < n
+old_same : (ms : Mappings) (g n : ℕ) (p : Endpoint) (o : LocalAct) → LegalLocalAct ms g p o → counts_completions o ≡ false → p.phase ≡ Open → (k c : ℕ) → c < n
     → names_order k ((own p n o).message c) ≡ names_order k (p.message c)
 old_same ms g n p o l e ph k c lt = grind (arith, nat_tests)
 
-new_none : (ms : Mappings) (g n : ℕ) (p : Part) (o : Own) → LegalOwn ms g p o → counts_completions o ≡ false → (k c : ℕ) → n ≤ c → p.message c ≡ None
+new_none : (ms : Mappings) (g n : ℕ) (p : Endpoint) (o : LocalAct) → LegalLocalAct ms g p o → counts_completions o ≡ false → (k c : ℕ) → n ≤ c
+    → p.message c ≡ None
     → names_order k ((own p n o).message c) ≡ false
 new_none ms g n p o l e k c lt un = grind (arith, nat_tests)
 
-left_same : (ms : Mappings) (g n : ℕ) (p : Part) (o : Own) → LegalOwn ms g p o → counts_completions o ≡ false
-    → ((c k : ℕ) → p.message c ≡ Some (About.InvalidateOf k) → p.order_state k ≡ Sent) → (k : ℕ) → (p.orders ≤ k → p.order_state k ≡ Void)
+left_same : (ms : Mappings) (g n : ℕ) (p : Endpoint) (o : LocalAct) → LegalLocalAct ms g p o → counts_completions o ≡ false
+    → ((c k : ℕ) → p.message c ≡ Some (Subject.InvalidateOf k) → p.order_state k ≡ Sent) → (k : ℕ) → (p.orders ≤ k → p.order_state k ≡ Void)
     → (own p n o).phase ≡ Open → left_of ((own p n o).order_state k) ≡ left_of (p.order_state k)
 left_same ms g n p o l e sent k bo ph = grind (arith, nat_tests)
 
-stays_open : (ms : Mappings) (g n : ℕ) (p : Part) (o : Own) → counts_completions o ≡ false → (own p n o).phase ≡ Open → p.phase ≡ Open
+stays_open : (ms : Mappings) (g n : ℕ) (p : Endpoint) (o : LocalAct) → counts_completions o ≡ false → (own p n o).phase ≡ Open → p.phase ≡ Open
 stays_open ms g n p o e ph = grind arith
 
 -- Count over the messages of an act that neither sends nor takes in a completion of an open unit.
-plain_owed : (ms : Mappings) (g n : ℕ) (p : Part) (o : Own) → LegalOwn ms g p o → counts_completions o ≡ false → Resets n p → Bounds g p → Labels p
+plain_owed : (ms : Mappings) (g n : ℕ) (p : Endpoint) (o : LocalAct) → LegalLocalAct ms g p o → counts_completions o ≡ false → Resets n p → Bounds g p
+    → Labels p
     → Owed n p → (k : ℕ) → (own p n o).phase ≡ Open → completions (n + sends o) (own p n o) k ≡ left_of ((own p n o).order_state k)
 plain_owed ms g n p o l e re bo la ow k ph =
     count_more n (sends o) (λ c. names_order k ((own p n o).message c)) (λ c lt m. new_none ms g n p o l e k c lt (re.unsent c lt))
@@ -72,23 +74,24 @@ plain_owed ms g n p o l e re bo la ow k ph =
     was = stays_open ms g n p o e ph
 
 -- the endpoint sends `count` completions of the orders that it names
-finish_old : (n : ℕ) (p : Part) (names : ℕ → Bool) (vector count k c : ℕ) → c < n
-    → names_order k ((own p n (Own.Finish names vector count)).message c) ≡ names_order k (p.message c)
+finish_old : (n : ℕ) (p : Endpoint) (names : ℕ → Bool) (vector count k c : ℕ) → c < n
+    → names_order k ((own p n (LocalAct.Finish names vector count)).message c) ≡ names_order k (p.message c)
 finish_old n p names vector count k c lt = grind (arith, nat_tests)
 
-pub finish_new : (n : ℕ) (p : Part) (names : ℕ → Bool) (vector count k c : ℕ) → n ≤ c → c < n + count
-    → names_order k ((own p n (Own.Finish names vector count)).message c) ≡ names k
+pub finish_new : (n : ℕ) (p : Endpoint) (names : ℕ → Bool) (vector count k c : ℕ) → n ≤ c → c < n + count
+    → names_order k ((own p n (LocalAct.Finish names vector count)).message c) ≡ names k
 finish_new n p names vector count k c lt up = grind (arith, nat_tests)
 
 taken_left : (s : OrderState) → is_taken s ≡ true → left_of s ≡ 0
 taken_left s h = grind arith
 
-finish_owed : (ms : Mappings) (g n : ℕ) (p : Part) (names : ℕ → Bool) (vector count : ℕ) → LegalOwn ms g p (Own.Finish names vector count) → Owed n p
-    → (k : ℕ) → p.phase ≡ Open → completions (n + count) (own p n (Own.Finish names vector count)) k ≡ left_of (owe_if (names k) count (p.order_state k))
+finish_owed : (ms : Mappings) (g n : ℕ) (p : Endpoint) (names : ℕ → Bool) (vector count : ℕ) → LegalLocalAct ms g p (LocalAct.Finish names vector count)
+    → Owed n p
+    → (k : ℕ) → p.phase ≡ Open → completions (n + count) (own p n (LocalAct.Finish names vector count)) k ≡ left_of (owe_if (names k) count (p.order_state k))
 finish_owed ms g n p names vector count l ow k ph = go (names k) refl
   where
     f : ℕ → Bool
-    f c = names_order k ((own p n (Own.Finish names vector count)).message c)
+    f c = names_order k ((own p n (LocalAct.Finish names vector count)).message c)
 
     below : count_below n f ≡ left_of (p.order_state k)
     below = count_same n f (λ c. names_order k (p.message c)) (λ c lt. finish_old n p names vector count k c lt) ∙ ow.owed k ph
@@ -100,10 +103,10 @@ finish_owed ms g n p names vector count l ow k ph = go (names k) refl
     go false e = count_more n count f (λ c lt up. finish_new n p names vector count k c lt up ∙ e) ∙ below
 
 -- a completion that arrives at an open unit is counted
-count_taken : (n : ℕ) (p : Part) (c : ℕ) (names : ℕ → Bool) (k : ℕ) → names_order k ((own p n (Own.Count c names)).message c) ≡ false
+count_taken : (n : ℕ) (p : Endpoint) (c : ℕ) (names : ℕ → Bool) (k : ℕ) → names_order k ((own p n (LocalAct.Count c names)).message c) ≡ false
 count_taken n p c names k = grind (arith, nat_tests)
 
-count_other : (n : ℕ) (p : Part) (c : ℕ) (names : ℕ → Bool) (k d : ℕ) → d ≢ c → names_order k ((own p n (Own.Count c names)).message d)
+count_other : (n : ℕ) (p : Endpoint) (c : ℕ) (names : ℕ → Bool) (k d : ℕ) → d ≢ c → names_order k ((own p n (LocalAct.Count c names)).message d)
     ≡ names_order k (p.message d)
 count_other n p c names k d ne = grind (arith, nat_tests)
 
@@ -112,21 +115,21 @@ left_counted Queued x e = absurd (omega (arith, e))
 left_counted Sent x e = absurd (omega (arith, e))
 left_counted (Taken u) x e = absurd (omega (arith, e))
 left_counted Lapsed x e = absurd (omega (arith, e))
-left_counted (Owing count zero) x e = absurd (omega (arith, e))
-left_counted (Owing count (suc zero)) x e = omega (arith, e)
-left_counted (Owing count (suc (suc l))) x e = omega (arith, e)
+left_counted (Completing count zero) x e = absurd (omega (arith, e))
+left_counted (Completing count (suc zero)) x e = omega (arith, e)
+left_counted (Completing count (suc (suc l))) x e = omega (arith, e)
 left_counted Done x e = absurd (omega (arith, e))
 left_counted Void x e = absurd (omega (arith, e))
 
-count_owed : (n : ℕ) (p : Part) (c : ℕ) (names : ℕ → Bool) → c < n → p.message c ≡ Some (InvalidatedOf names) → Owed n p → (k : ℕ) → p.phase ≡ Open
-    → completions (n + 0) (own p n (Own.Count c names)) k ≡ left_of (counted_if (names k) (p.order_state k))
+count_owed : (n : ℕ) (p : Endpoint) (c : ℕ) (names : ℕ → Bool) → c < n → p.message c ≡ Some (InvalidatedOf names) → Owed n p → (k : ℕ) → p.phase ≡ Open
+    → completions (n + 0) (own p n (LocalAct.Count c names)) k ≡ left_of (counted_if (names k) (p.order_state k))
 count_owed n p c names lt me ow k ph = go (names k) refl
   where
     f : ℕ → Bool
     f d = names_order k (p.message d)
 
     after : ℕ → Bool
-    after d = names_order k ((own p n (Own.Count c names)).message d)
+    after d = names_order k ((own p n (LocalAct.Count c names)).message d)
 
     more : count_below (n + 0) after ≡ count_below n after
     more = count_more n 0 after (λ d a b. absurd (omega arith))
@@ -148,61 +151,63 @@ count_owed n p c names lt me ow k ph = go (names k) refl
         same d (inr ne) = count_other n p c names k d ne
 
 -- at the end of a reset nothing is in flight, and nothing is owed
-reopen_none : (ms : Mappings) (g n : ℕ) (p : Part) (c k d : ℕ) → LegalOwn ms g p (Own.Reopen c) → p.phase ≡ Cleared c
-    → ((a : About) → p.message d ≡ Some a → d ≤ c) → names_order k ((own p n (Own.Reopen c)).message d) ≡ false
+reopen_none : (ms : Mappings) (g n : ℕ) (p : Endpoint) (c k d : ℕ) → LegalLocalAct ms g p (LocalAct.Reopen c) → p.phase ≡ Cleared c
+    → ((a : Subject) → p.message d ≡ Some a → d ≤ c) → names_order k ((own p n (LocalAct.Reopen c)).message d) ≡ false
 reopen_none ms g n p c k d l ph old = grind (arith, nat_tests)
 
-reopen_left : (n : ℕ) (p : Part) (c k : ℕ) → left_of ((own p n (Own.Reopen c)).order_state k) ≡ 0
+reopen_left : (n : ℕ) (p : Endpoint) (c k : ℕ) → left_of ((own p n (LocalAct.Reopen c)).order_state k) ≡ 0
 reopen_left n p c k = grind arith
 
-reopen_owed : (ms : Mappings) (g n : ℕ) (p : Part) (c : ℕ) → LegalOwn ms g p (Own.Reopen c) → Resets n p → (k : ℕ)
-    → completions (n + 0) (own p n (Own.Reopen c)) k ≡ left_of ((own p n (Own.Reopen c)).order_state k)
+reopen_owed : (ms : Mappings) (g n : ℕ) (p : Endpoint) (c : ℕ) → LegalLocalAct ms g p (LocalAct.Reopen c) → Resets n p → (k : ℕ)
+    → completions (n + 0) (own p n (LocalAct.Reopen c)) k ≡ left_of ((own p n (LocalAct.Reopen c)).order_state k)
 reopen_owed ms g n p c l re k =
-    count_zero (n + 0) (λ d. names_order k ((own p n (Own.Reopen c)).message d))
+    count_zero (n + 0) (λ d. names_order k ((own p n (LocalAct.Reopen c)).message d))
     (λ d lt. reopen_none ms g n p c k d l (re.up c l.0) (λ a h. re.older c d a (re.up c l.0) h))
     ∙ sym (reopen_left n p c k)
 
-pub sent_below : (n c : ℕ) (p : Part) (a : About) → (n ≤ c → p.message c ≡ None) → p.message c ≡ Some a → c < n
+pub sent_below : (n c : ℕ) (p : Endpoint) (a : Subject) → (n ≤ c → p.message c ≡ None) → p.message c ≡ Some a → c < n
 sent_below n c p a un h = grind (arith, nat_tests)
 
-owed_kept : (ms : Mappings) (g n : ℕ) (p : Part) (o : Own) → LegalOwn ms g p o → Resets n p → Bounds g p → Labels p → Owed n p → (b : Bool)
+owed_kept : (ms : Mappings) (g n : ℕ) (p : Endpoint) (o : LocalAct) → LegalLocalAct ms g p o → Resets n p → Bounds g p → Labels p → Owed n p → (b : Bool)
     → counts_completions o ≡ b → (k : ℕ) → (own p n o).phase ≡ Open → completions (n + sends o) (own p n o) k ≡ left_of ((own p n o).order_state k)
 owed_kept ms g n p o l re bo la ow false e k ph = plain_owed ms g n p o l e re bo la ow k ph
-owed_kept ms g n p (Own.Finish names vector count) l re bo la ow true e k ph = finish_owed ms g n p names vector count l ow k ph
-owed_kept ms g n p (Own.Count c names) l re bo la ow true e k ph =
+owed_kept ms g n p (LocalAct.Finish names vector count) l re bo la ow true e k ph = finish_owed ms g n p names vector count l ow k ph
+owed_kept ms g n p (LocalAct.Count c names) l re bo la ow true e k ph =
     count_owed n p c names (sent_below n c p (InvalidatedOf names) (re.unsent c) l.0) l.0 ow k l.1
-owed_kept ms g n p (Own.Reopen c) l re bo la ow true e k ph = reopen_owed ms g n p c l re k
+owed_kept ms g n p (LocalAct.Reopen c) l re bo la ow true e k ph = reopen_owed ms g n p c l re k
 owed_kept ms g n p o l re bo la ow true e k ph = absurd (grind arith)
 
-pub every : (ms : Mappings) (x g n e : ℕ) (p : Part) (o : Own) → LegalOwn ms g p o → PartInvariant ms x g n e p → Owed n p → Owed (n + sends o) (own p n o)
+pub every : (ms : Mappings) (x g n e : ℕ) (p : Endpoint) (o : LocalAct) → LegalLocalAct ms g p o → PartInvariant ms x g n e p → Owed n p
+    → Owed (n + sends o) (own p n o)
 every ms x g n e p o l i ow =
     record {
       owed = λ k ph. owed_kept ms g n p o l i.resets i.bounds i.labels ow (counts_completions o) refl k ph;
-      owing = λ k count left h. owing_kept ms g n p o l k count left (λ s. let x = ow.owing k count (suc left) s in (x.1, x.2)) (ow.owing k count left) h;
+      completing = λ k count left h. owing_kept ms g n p o l k count left (λ s. let x = ow.completing k count (suc left) s in (x.1, x.2))
+          (ow.completing k count left) h;
     }
 
 -- messages of other endpoints don't count
-more_messages : (n s : ℕ) (p : Part) → Resets n p → Owed n p → Owed (n + s) p
+more_messages : (n s : ℕ) (p : Endpoint) → Resets n p → Owed n p → Owed (n + s) p
 more_messages n s p re ow =
     record {
       owed = λ k ph. count_more n s (λ c. names_order k (p.message c)) (λ c lt up. ap (names_order k) (re.unsent c lt)) ∙ ow.owed k ph;
-      owing = ow.owing;
+      completing = ow.completing;
     }
 
-submitted_left : (g b q count order cookie k : ℕ) (p : Part) → Bounds g p → left_of ((submitted p b q count order cookie).order_state k)
+submitted_left : (g b q count order cookie k : ℕ) (p : Endpoint) → Bounds g p → left_of ((submitted p b q count order cookie).order_state k)
     ≡ left_of (p.order_state k)
 submitted_left g b q count order cookie k p bo = grind (arith, nat_tests, bo.order_state k)
 
-submitted_owing : (b q count order cookie k c left : ℕ) (p : Part) → (submitted p b q count order cookie).order_state k ≡ Owing c left
-    → p.order_state k ≡ Owing c left
+submitted_owing : (b q count order cookie k c left : ℕ) (p : Endpoint) → (submitted p b q count order cookie).order_state k ≡ Completing c left
+    → p.order_state k ≡ Completing c left
 submitted_owing b q count order cookie k c left p h = grind (arith, nat_tests)
 
-submitted_owed : (g n : ℕ) (t : Bool) (p : Part) (o : Option ℕ) (q count order cookie : ℕ) → Bounds g p → Owed n p
+submitted_owed : (g n : ℕ) (t : Bool) (p : Endpoint) (o : Option ℕ) (q count order cookie : ℕ) → Bounds g p → Owed n p
     → Owed n (submitted_if t p o q count order cookie)
 submitted_owed g n true p (Some b) q count order cookie bo ow =
     record {
       owed = λ k ph. ow.owed k ph ∙ sym (submitted_left g b q count order cookie k p bo);
-      owing = λ k c left h. ow.owing k c left (submitted_owing b q count order cookie k c left p h);
+      completing = λ k c left h. ow.completing k c left (submitted_owing b q count order cookie k c left p h);
     }
 submitted_owed g n true p None q count order cookie bo ow = ow
 submitted_owed g n false p o q count order cookie bo ow = ow
@@ -220,7 +225,7 @@ act_owed w (NewBinding e) l i h = h
 act_owed w (NewJob e g) l i h = h
 act_owed w (Hold x j) l i h = h
 act_owed w (LetGo x) l i h = h
-act_owed w (At e o) l i h =
+act_owed w (AtEndpoint e o) l i h =
     put_keeps (λ k p. Owed (w.messages + sends o) p) w.part e (own (w.part e) w.messages o)
     (every w.mappings w.config.endpoints w.bindings w.messages e (w.part e) o l.1.0 (i.parts e) (h e))
     (λ d. more_messages w.messages (sends o) (w.part d) (i.parts d).resets (h d))
@@ -237,7 +242,7 @@ pub opened_owed : (rule : PasidRule) (c : Config) → AllOwed (opened rule c)
 opened_owed rule c e =
     record {
       owed = λ k ph. count_zero (opened rule c).messages (λ d. names_order k (((opened rule c).part e).message d)) (λ d lt. refl);
-      owing = λ k count left h. absurd (cc);
+      completing = λ k count left h. absurd (cc);
     }
 
 pub always_owed : (rule : PasidRule) (c : Config) (ss : List Step) (e : ℕ) → Owed (world_after rule c ss).messages ((world_after rule c ss).part e)

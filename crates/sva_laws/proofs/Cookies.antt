@@ -7,11 +7,11 @@ use Rattle.sva_step.specs.declared.answers.Answer.{Answer}
 use Rattle.sva_step.specs.declared.limits.Config.{Config}
 use Rattle.sva_step.specs.declared.steps.Step.{Step}
 use Rattle.sva_model.specs.Words.{count_below}
-use Rattle.sva_model.specs.State.{Part, World, opened}
+use Rattle.sva_model.specs.State.{Endpoint, World, opened}
 use Rattle.sva_model.specs.State.Order.{Wait}
 use Rattle.sva_model.specs.States.{is_unreleased}
-use Rattle.sva_model.specs.Acts.{Act, Own, act, own, cookies_of, submitted, submitted_if, submits, submits_at, bound, cookie_of}
-use Rattle.sva_model.specs.Acts.Act.{NewSpace, DropSpace, Map, Unmap, NewBinding, NewJob, Hold, LetGo, At}
+use Rattle.sva_model.specs.Acts.{Act, LocalAct, act, own, cookies_of, submitted, submitted_if, submits, submits_at, bound, cookie_of}
+use Rattle.sva_model.specs.Acts.Act.{NewSpace, DropSpace, Map, Unmap, NewBinding, NewJob, Hold, LetGo, AtEndpoint}
 use Rattle.sva_model.specs.Steps.{decide, next, run, after_acts, world_after}
 use Rattle.sva_laws.specs.UnitSteps.{GivesCookies}
 use Rattle.sva_laws.proofs.Words.{ℕ_cases, find_passes}
@@ -59,12 +59,12 @@ less_or_not a b = go (nat_lt a b) refl
     go false h = inr (not_less h)
 
 -- What a step does to the waits of an endpoint: if it gives a cookie, there is one wait more, which has that.
-record PartWaits (Gets : Type 0) (given : ℕ) (p q : Part) : Type 0 where
+record PartWaits (Gets : Type 0) (given : ℕ) (p q : Endpoint) : Type 0 where
   old : (k : ℕ) → k < p.orders → q.order k ≡ p.order k
   new : (k c : ℕ) (x : Bool) → p.orders ≤ k → k < q.orders → q.order k ≡ Wait c x → Gets × (c ≡ given)
   once : (k j c : ℕ) (x y : Bool) → p.orders ≤ k → k < q.orders → p.orders ≤ j → j < q.orders → q.order k ≡ Wait c x → q.order j ≡ Wait c y → k ≡ j
 
-same_waits : (Gets : Type 0) (given : ℕ) (p q : Part) → q.orders ≡ p.orders → ((k : ℕ) → q.order k ≡ p.order k) → PartWaits Gets given p q
+same_waits : (Gets : Type 0) (given : ℕ) (p q : Endpoint) → q.orders ≡ p.orders → ((k : ℕ) → q.order k ≡ p.order k) → PartWaits Gets given p q
 same_waits Gets given p q o s =
     record {
       old = λ k l. s k;
@@ -114,7 +114,7 @@ more_waits w v Gets given up parts range apart co =
 
 -- Calm acts.
 
-calm_own : (p : Part) (n : ℕ) (o : Own) → is_calm_own o ≡ true → ((own p n o).orders ≡ p.orders)
+calm_own : (p : Endpoint) (n : ℕ) (o : LocalAct) → is_calm_own o ≡ true → ((own p n o).orders ≡ p.orders)
     × (((k : ℕ) → (own p n o).order k ≡ p.order k) × (cookies_of o ≡ 0))
 calm_own p n o h = (orders_same, (order_same, none))
   where
@@ -145,7 +145,7 @@ calm_act w (NewBinding d) h = calm_same w (act w (NewBinding d)) refl refl
 calm_act w (NewJob d g) h = calm_same w (act w (NewJob d g)) refl refl
 calm_act w (Hold x j) h = calm_same w (act w (Hold x j)) refl refl
 calm_act w (LetGo x) h = calm_same w (act w (LetGo x)) refl refl
-calm_act w (At d o) h =
+calm_act w (AtEndpoint d o) h =
     let c = calm_own (w.part d) w.messages o h in
     record {
       cookies = let z = c.1.1 in omega (arith, z);
@@ -172,30 +172,30 @@ calm_cookies w v c co =
 
 -- One act of an endpoint: a drain and an invalidation give the next cookie.
 
-abbrev pub HasCookie : (cookies : ℕ) → Own → Type 0
-HasCookie n (Own.Drain b cookie) = cookie ≡ n
-HasCookie n (Own.Invalidate b cookie) = cookie ≡ n
+abbrev pub HasCookie : (cookies : ℕ) → LocalAct → Type 0
+HasCookie n (LocalAct.Drain b cookie) = cookie ≡ n
+HasCookie n (LocalAct.Invalidate b cookie) = cookie ≡ n
 HasCookie n _ = Unit {0}
 
-has_cookie : (w : World) (s : Step) (e : ℕ) (o : Own) (a : Answer) → IsBy w s e o a → HasCookie w.cookies o
-has_cookie w s e (Own.Drain b cookie) a by = by
-has_cookie w s e (Own.Invalidate b cookie) a by = by
+has_cookie : (w : World) (s : Step) (e : ℕ) (o : LocalAct) (a : Answer) → IsBy w s e o a → HasCookie w.cookies o
+has_cookie w s e (LocalAct.Drain b cookie) a by = by
+has_cookie w s e (LocalAct.Invalidate b cookie) a by = by
 has_cookie w s e _ a by = tt
 
-pub own_old : (p : Part) (n : ℕ) (o : Own) (k : ℕ) → k < p.orders → (own p n o).order k ≡ p.order k
+pub own_old : (p : Endpoint) (n : ℕ) (o : LocalAct) (k : ℕ) → k < p.orders → (own p n o).order k ≡ p.order k
 own_old p n o k l = grind (arith, nat_tests)
 
-own_new : (cookies : ℕ) (p : Part) (n : ℕ) (o : Own) → HasCookie cookies o → (k c : ℕ) (x : Bool) → p.orders ≤ k → k < (own p n o).orders
+own_new : (cookies : ℕ) (p : Endpoint) (n : ℕ) (o : LocalAct) → HasCookie cookies o → (k c : ℕ) (x : Bool) → p.orders ≤ k → k < (own p n o).orders
     → (own p n o).order k ≡ Wait c x → (cookies_of o ≡ 1) × (c ≡ cookies)
 own_new cookies p n o h k c x low high i = grind (arith, nat_tests)
 
-own_once : (p : Part) (n : ℕ) (o : Own) (k j c : ℕ) (x y : Bool) → p.orders ≤ k → k < (own p n o).orders → p.orders ≤ j → j < (own p n o).orders
+own_once : (p : Endpoint) (n : ℕ) (o : LocalAct) (k j c : ℕ) (x y : Bool) → p.orders ≤ k → k < (own p n o).orders → p.orders ≤ j → j < (own p n o).orders
     → (own p n o).order k ≡ Wait c x → (own p n o).order j ≡ Wait c y → k ≡ j
 own_once p n o k j c x y low high b d h i = grind (arith, nat_tests)
 
-own_cookies : (w : World) (d : ℕ) (o : Own) → HasCookie w.cookies o → GivesCookies w → GivesCookies (act w (At d o))
+own_cookies : (w : World) (d : ℕ) (o : LocalAct) → HasCookie w.cookies o → GivesCookies w → GivesCookies (act w (AtEndpoint d o))
 own_cookies w d o h co =
-    more_waits w (act w (At d o)) (λ e. (e ≡ d) × (cookies_of o ≡ 1)) (λ e. w.cookies) (omega arith)
+    more_waits w (act w (AtEndpoint d o)) (λ e. (e ≡ d) × (cookies_of o ≡ 1)) (λ e. w.cookies) (omega arith)
     (put_keeps (λ e q. PartWaits ((e ≡ d) × (cookies_of o ≡ 1)) w.cookies (w.part e) q) w.part d (own (w.part d) w.messages o)
     (record {
       old = own_old (w.part d) w.messages o;
@@ -209,7 +209,7 @@ own_cookies w d o h co =
 
 -- An unmapping: the units to which it submits get cookies in their order.
 
-submitted_waits : (t : Bool) (p : Part) (o : Option ℕ) (q count order cookie : ℕ) → PartWaits (t ≡ true) cookie p (submitted_if t p o q count order cookie)
+submitted_waits : (t : Bool) (p : Endpoint) (o : Option ℕ) (q count order cookie : ℕ) → PartWaits (t ≡ true) cookie p (submitted_if t p o q count order cookie)
 submitted_waits true p (Some b) q count order cookie = record { old = old; new = λ k c x low high h. (refl, new k c x low high h); once = once }
   where
     old : (k : ℕ) → k < p.orders → (submitted p b q count order cookie).order k ≡ p.order k

@@ -4,8 +4,8 @@ use Rattle.std.specs.Prelude.{Option, Some, None, List, [], ◌∷◌, ◌&&◌,
 use Rattle.std.proofs.lemmas.Bool.Decides.{nat_tests}
 use Rattle.sva_step.specs.declared.limits.Config.{Config}
 use Rattle.sva_step.specs.declared.steps.Step.{Step}
-use Rattle.sva_model.specs.State.{PasidRule, Owed, Mappings, Part, World, Stage, opened}
-use Rattle.sva_model.specs.State.Owed.{Nothing, Ranges, Pasid, AReset}
+use Rattle.sva_model.specs.State.{PasidRule, Owed, Mappings, Endpoint, World, Stage, opened}
+use Rattle.sva_model.specs.State.Owed.{Nothing, Ranges, Pasid, NextReset}
 use Rattle.sva_model.specs.State.MappingState.{Present, Gone}
 use Rattle.sva_model.specs.State.Stage.{Unbound, Live, Stopping, Draining, Invalidating, Quiet, Lost, Released}
 use Rattle.sva_model.specs.State.Order.{Wait}
@@ -13,13 +13,13 @@ use Rattle.sva_model.specs.State.OrderState.{Queued, Done, Void}
 use Rattle.sva_model.specs.State.Phase.{Open}
 use Rattle.sva_model.specs.States.{is_open, is_busy, is_wait, is_before_invalidating}
 use Rattle.sva_model.specs.Words.{put}
-use Rattle.sva_model.specs.Acts.{Act, Own, act, own, owed_by, owed_by_stage, owed_by_unit, submits, submits_at, submitted, submitted_if, bound, cookie_of}
+use Rattle.sva_model.specs.Acts.{Act, LocalAct, act, own, owed_by, owed_by_stage, owed_by_unit, submits, submits_at, submitted, submitted_if, bound, cookie_of}
 use Rattle.sva_model.specs.Acts.{in_range}
-use Rattle.sva_model.specs.Acts.Act.{NewSpace, DropSpace, Map, Unmap, NewBinding, NewJob, Hold, LetGo, At}
+use Rattle.sva_model.specs.Acts.Act.{NewSpace, DropSpace, Map, Unmap, NewBinding, NewJob, Hold, LetGo, AtEndpoint}
 use Rattle.sva_model.specs.Steps.{decide, next, run, after_acts, world_after}
 use Rattle.sva_laws.specs.Waits.{IsBehind, FitsDebt}
 use Rattle.sva_laws.proofs.Words.{ℕ_cases}
-use Rattle.sva_laws.proofs.Legal.{LegalOwn}
+use Rattle.sva_laws.proofs.Legal.{LegalLocalAct}
 use Rattle.sva_laws.proofs.Bounds.{Bounds}
 use Rattle.sva_laws.proofs.Labels.{Labels}
 use Rattle.sva_laws.proofs.Orders.{Orders, SentOnly, is_queued_or_done}
@@ -32,36 +32,37 @@ use Rattle.sva_laws.proofs.Runs.{step_legal, next_keeps, opened_invariant}
 
 -- An act of the endpoint keeps a debt.
 
-made_kept : (p : Part) (n : ℕ) (o : Own) (x : ℕ) → x < p.orders → x < (own p n o).orders
+made_kept : (p : Endpoint) (n : ℕ) (o : LocalAct) (x : ℕ) → x < p.orders → x < (own p n o).orders
 made_kept p n o x h = grind (arith, nat_tests)
 
-wait_kept : (p : Part) (n : ℕ) (o : Own) (x : ℕ) (b : Bool) → x < p.orders → is_wait (p.order x) ≡ b → is_wait ((own p n o).order x) ≡ b
+wait_kept : (p : Endpoint) (n : ℕ) (o : LocalAct) (x : ℕ) (b : Bool) → x < p.orders → is_wait (p.order x) ≡ b → is_wait ((own p n o).order x) ≡ b
 wait_kept p n o x b made w = grind (arith, nat_tests)
 
-counted_kept : (p : Part) (n : ℕ) (o : Own) (resets : ℕ) → resets ≤ p.resets → resets ≤ (own p n o).resets
+counted_kept : (p : Endpoint) (n : ℕ) (o : LocalAct) (resets : ℕ) → resets ≤ p.resets → resets ≤ (own p n o).resets
 counted_kept p n o resets h = grind (arith, nat_tests)
 
-not_void_kept : (ms : Mappings) (g n : ℕ) (p : Part) (o : Own) → LegalOwn ms g p o → Bounds g p → SentOnly p → (resets k : ℕ) → resets ≤ p.resets → k
+not_void_kept : (ms : Mappings) (g n : ℕ) (p : Endpoint) (o : LocalAct) → LegalLocalAct ms g p o → Bounds g p → SentOnly p → (resets k : ℕ)
+    → resets ≤ p.resets → k
     < p.orders → (resets ≡ p.resets → p.phase ≡ Open → p.order_state k ≢ Void) → resets ≡ (own p n o).resets → (own p n o).phase ≡ Open
     → (own p n o).order_state k ≢ Void
 not_void_kept ms g n p o l bo sent resets k low made old same ph = grind (arith, nat_tests, old)
 
 -- a wait becomes done at an open unit, where nothing ahead of it is undone
-done_kept : (ms : Mappings) (g n : ℕ) (p : Part) (o : Own) → LegalOwn ms g p o → SentOnly p → (resets x k : ℕ) → resets ≤ p.resets → k ≤ x → x
+done_kept : (ms : Mappings) (g n : ℕ) (p : Endpoint) (o : LocalAct) → LegalLocalAct ms g p o → SentOnly p → (resets x k : ℕ) → resets ≤ p.resets → k ≤ x → x
     < p.orders → is_wait (p.order x) ≡ true → (is_busy (p.order_state x) ≡ true → is_wait (p.order x) ≡ false)
     → (resets ≡ p.resets → p.phase ≡ Open → p.order_state k ≢ Void) → (resets ≡ p.resets → p.order_state x ≡ Done → p.order_state k ≡ Done) → resets
     ≡ (own p n o).resets → (own p n o).order_state x ≡ Done → (own p n o).order_state k ≡ Done
 done_kept ms g n p o l sent resets x k low le made w nw not_void old same d = grind (arith, nat_tests, not_void, old)
 
 -- a wait becomes void by a Reset, where it was queued and so wasn't below the front; then it stays as it is till the reset-done
-void_kept : (ms : Mappings) (g n : ℕ) (p : Part) (o : Own) → LegalOwn ms g p o → SentOnly p → (resets x c : ℕ) (y : Bool) → resets ≤ p.resets → x
+void_kept : (ms : Mappings) (g n : ℕ) (p : Endpoint) (o : LocalAct) → LegalLocalAct ms g p o → SentOnly p → (resets x c : ℕ) (y : Bool) → resets ≤ p.resets → x
     < p.orders → (resets ≡ p.resets → p.phase ≡ Open → p.order_state x ≢ Void)
     → (p.order x ≡ Wait c y → c < p.front → (p.order_state x ≡ Done) ⊎ (p.order_state x ≡ Void))
     → (resets ≡ p.resets → p.order_state x ≡ Void → p.order x ≡ Wait c y → p.front ≤ c) → resets ≡ (own p n o).resets → (own p n o).order_state x
     ≡ Void → (own p n o).order x ≡ Wait c y → (own p n o).front ≤ c
 void_kept ms g n p o l sent resets x c y low made not_void passed old same v h = grind (arith, nat_tests, not_void, old)
 
-behind_kept : (ms : Mappings) (g n cookies : ℕ) (p : Part) (o : Own) → LegalOwn ms g p o → Bounds g p → Labels p → Orders p → Fronts cookies p
+behind_kept : (ms : Mappings) (g n cookies : ℕ) (p : Endpoint) (o : LocalAct) → LegalLocalAct ms g p o → Bounds g p → Labels p → Orders p → Fronts cookies p
     → (first x resets : ℕ) → IsBehind p first x resets → IsBehind (own p n o) first x resets
 behind_kept ms g n cookies p o l bo la or f first x resets h =
     record {
@@ -78,21 +79,21 @@ behind_kept ms g n cookies p o l bo la or f first x resets h =
           (f.passed x c y h.made) (λ s e j. h.void s e c y j) same v i;
     }
 
-closed_kept : (ms : Mappings) (g n : ℕ) (p : Part) (o : Own) → LegalOwn ms g p o → (resets : ℕ) → resets ≤ p.resets
+closed_kept : (ms : Mappings) (g n : ℕ) (p : Endpoint) (o : LocalAct) → LegalLocalAct ms g p o → (resets : ℕ) → resets ≤ p.resets
     → (resets ≡ p.resets → p.phase ≢ Open) → resets ≡ (own p n o).resets → (own p n o).phase ≢ Open
 closed_kept ms g n p o l resets low old same ph = grind (arith, nat_tests)
 
-own_debt : (ms : Mappings) (g n cookies : ℕ) (p : Part) (o : Own) → LegalOwn ms g p o → Bounds g p → Labels p → Orders p → Fronts cookies p
+own_debt : (ms : Mappings) (g n cookies : ℕ) (p : Endpoint) (o : LocalAct) → LegalLocalAct ms g p o → Bounds g p → Labels p → Orders p → Fronts cookies p
     → (v : Owed) → FitsDebt p v → FitsDebt (own p n o) v
 own_debt ms g n cookies p o l bo la or f Nothing h = tt
 own_debt ms g n cookies p o l bo la or f (Ranges first count resets) h = (h.0, behind_kept ms g n cookies p o l bo la or f first (first + count) resets h.1)
 own_debt ms g n cookies p o l bo la or f (Pasid k x resets in_reset) h =
     (h.0, behind_kept ms g n cookies p o l bo la or f k x resets h.1, λ t same. closed_kept ms g n p o l resets h.1.counted (h.2 t) same)
-own_debt ms g n cookies p o l bo la or f (AReset resets) h = (counted_kept p n o resets h.0, closed_kept ms g n p o l resets h.0 h.1)
+own_debt ms g n cookies p o l bo la or f (NextReset resets) h = (counted_kept p n o resets h.0, closed_kept ms g n p o l resets h.0 h.1)
 
 -- So does what an unmapping submits.
 
-behind_submitted : (p : Part) (b q count order cookie first x resets : ℕ) → IsBehind p first x resets
+behind_submitted : (p : Endpoint) (b q count order cookie first x resets : ℕ) → IsBehind p first x resets
     → IsBehind (submitted p b q count order cookie) first x resets
 behind_submitted p b q count order cookie first x resets h =
     record {
@@ -115,18 +116,18 @@ behind_submitted p b q count order cookie first x resets h =
     old_state : (k : ℕ) → k < p.orders → (submitted p b q count order cookie).order_state k ≡ p.order_state k
     old_state k made = grind (arith, nat_tests)
 
-submitted_debt : (t : Bool) (p : Part) (o : Option ℕ) (q count order cookie : ℕ) (v : Owed) → FitsDebt p v
+submitted_debt : (t : Bool) (p : Endpoint) (o : Option ℕ) (q count order cookie : ℕ) (v : Owed) → FitsDebt p v
     → FitsDebt (submitted_if t p o q count order cookie) v
 submitted_debt true p (Some b) q count order cookie Nothing h = tt
 submitted_debt true p (Some b) q count order cookie (Ranges first n resets) h = (h.0, behind_submitted p b q count order cookie first (first + n) resets h.1)
 submitted_debt true p (Some b) q count order cookie (Pasid k x resets in_reset) h = (h.0, behind_submitted p b q count order cookie k x resets h.1, h.2)
-submitted_debt true p (Some b) q count order cookie (AReset resets) h = h
+submitted_debt true p (Some b) q count order cookie (NextReset resets) h = h
 submitted_debt true p None q count order cookie v h = h
 submitted_debt false p o q count order cookie v h = h
 
 -- The debts that an unmapping makes.
 
-new_ranges : (p : Part) (b q count order cookie : ℕ) → IsBehind (submitted p b q count order cookie) p.orders (p.orders + count) p.resets
+new_ranges : (p : Endpoint) (b q count order cookie : ℕ) → IsBehind (submitted p b q count order cookie) p.orders (p.orders + count) p.resets
 new_ranges p b q count order cookie =
     record {
       low = omega arith;
@@ -148,7 +149,7 @@ new_ranges p b q count order cookie =
     is_queued : (k : ℕ) → p.orders ≤ k → k ≤ p.orders + count → (submitted p b q count order cookie).order_state k ≡ Queued
     is_queued k low high = grind (arith, nat_tests)
 
-new_pasid : (cookies : ℕ) (p : Part) (b k w : ℕ) → Orders p → Fronts cookies p → p.stage b ≡ Invalidating k w → IsBehind p k w p.resets
+new_pasid : (cookies : ℕ) (p : Endpoint) (b k w : ℕ) → Orders p → Fronts cookies p → p.stage b ≡ Invalidating k w → IsBehind p k w p.resets
 new_pasid cookies p b k w or f h =
     let i = or.invalidating b k w h in
     record {
@@ -178,15 +179,15 @@ new_pasid cookies p b k w or f h =
         go (inl s) = ap p.order_state s ∙ dk
         go (inr ne) = let s : j ≡ w = omega (arith, e, a, z, ne) in ap p.order_state s ∙ dw
 
-closed_is : (p : Part) → is_open p.phase ≡ false → p.phase ≢ Open
+closed_is : (p : Endpoint) → is_open p.phase ≡ false → p.phase ≢ Open
 closed_is p h e = absurd (cc (sym (ap is_open e) ∙ h))
 
-unit_debt : (p : Part) (b q count order cookie : ℕ) → 0 < count → (o : Bool) → is_open p.phase ≡ o
+unit_debt : (p : Endpoint) (b q count order cookie : ℕ) → 0 < count → (o : Bool) → is_open p.phase ≡ o
     → FitsDebt (submitted_if (o && true) p (Some b) q count order cookie) (owed_by_unit p count o)
 unit_debt p b q count order cookie pos true h = (pos, new_ranges p b q count order cookie)
 unit_debt p b q count order cookie pos false h = (omega arith, λ same. closed_is p h)
 
-stage_debt : (cookies : ℕ) (p : Part) (b q count order cookie : ℕ) → 0 < count → Orders p → Fronts cookies p → (s : Stage) → p.stage b ≡ s
+stage_debt : (cookies : ℕ) (p : Endpoint) (b q count order cookie : ℕ) → 0 < count → Orders p → Fronts cookies p → (s : Stage) → p.stage b ≡ s
     → FitsDebt (submitted_if (is_open p.phase && is_before_invalidating s) p (Some b) q count order cookie) (owed_by_stage p count s)
 stage_debt cookies p b q count order cookie pos or f Live st = unit_debt p b q count order cookie pos (is_open p.phase) refl
 stage_debt cookies p b q count order cookie pos or f (Stopping marked) st = unit_debt p b q count order cookie pos (is_open p.phase) refl
@@ -204,7 +205,7 @@ stage_debt cookies p b q count order cookie pos or f Quiet st = tt
 stage_debt cookies p b q count order cookie pos or f Lost st = tt
 stage_debt cookies p b q count order cookie pos or f Released st = tt
 
-new_debt : (cookies : ℕ) (p : Part) (o : Option ℕ) (q count order cookie : ℕ) → 0 < count → Orders p → Fronts cookies p
+new_debt : (cookies : ℕ) (p : Endpoint) (o : Option ℕ) (q count order cookie : ℕ) → 0 < count → Orders p → Fronts cookies p
     → FitsDebt (submitted_if (submits_at p o) p o q count order cookie) (owed_by p count o)
 new_debt cookies p None q count order cookie pos or f = tt
 new_debt cookies p (Some b) q count order cookie pos or f = stage_debt cookies p b q count order cookie pos or f (p.stage b) refl
@@ -246,7 +247,7 @@ act_debts w (NewBinding d) l i f h = h
 act_debts w (NewJob d g) l i f h = h
 act_debts w (Hold x j) l i f h = h
 act_debts w (LetGo x) l i f h = h
-act_debts w (At d o) l i f h = λ m e owed g.
+act_debts w (AtEndpoint d o) l i f h = λ m e owed g.
     put_keeps (λ x p. FitsDebt p (owed x)) w.part d (own (w.part d) w.messages o)
     (own_debt w.mappings w.bindings w.messages w.cookies (w.part d) o l.1.0 (i.parts d).bounds (i.parts d).labels (i.parts d).orders (f d) (owed d)
     (h m d owed g))

@@ -5,16 +5,16 @@ use Rattle.std.proofs.lemmas.Bool.Decides.{nat_tests}
 use Rattle.sva_step.specs.declared.limits.Config.{Config}
 use Rattle.sva_step.specs.declared.steps.Step.{Step}
 use Rattle.sva_model.specs.Words.{count_below, select}
-use Rattle.sva_model.specs.State.{PasidRule, Mappings, Part, World, opened}
+use Rattle.sva_model.specs.State.{PasidRule, Mappings, Endpoint, World, opened}
 use Rattle.sva_model.specs.State.PageRequestState.{Filed, Dropped}
 use Rattle.sva_model.specs.State.Phase.{Open}
 use Rattle.sva_model.specs.States.{is_open, is_open_group, is_outstanding}
-use Rattle.sva_model.specs.Acts.{Act, Own, act, own, submitted_if, submits, bound, cookie_of}
-use Rattle.sva_model.specs.Acts.Act.{NewSpace, DropSpace, Map, Unmap, NewBinding, NewJob, Hold, LetGo, At}
+use Rattle.sva_model.specs.Acts.{Act, LocalAct, act, own, submitted_if, submits, bound, cookie_of}
+use Rattle.sva_model.specs.Acts.Act.{NewSpace, DropSpace, Map, Unmap, NewBinding, NewJob, Hold, LetGo, AtEndpoint}
 use Rattle.sva_model.specs.Labels.{asks, outstanding}
 use Rattle.sva_model.specs.Steps.{decide, next, run, after_acts, world_after}
 use Rattle.sva_laws.proofs.Counting.{length_select, count_placed}
-use Rattle.sva_laws.proofs.Legal.{LegalOwn}
+use Rattle.sva_laws.proofs.Legal.{LegalLocalAct}
 use Rattle.sva_laws.proofs.PageRequests.{Queued}
 use Rattle.sva_laws.proofs.Invariant.{PartInvariant, Invariant}
 use Rattle.sva_laws.proofs.Keeps.{Legal, act_keeps, put_keeps}
@@ -22,28 +22,29 @@ use Rattle.sva_laws.proofs.Passed.{LegalAll}
 use Rattle.sva_laws.proofs.Limits.{always_outstanding}
 use Rattle.sva_laws.proofs.Runs.{always, step_legal, next_keeps, opened_invariant}
 
-pub record FiledOnce (p : Part) : Type 0 where
+pub record FiledOnce (p : Endpoint) : Type 0 where
   pub filed : (k : ℕ) → k < p.filings → p.page_request (p.filing k) ≡ Filed
   pub once : (j k : ℕ) → j < p.filings → k < p.filings → p.filing j ≡ p.filing k → j ≡ k
 
-filed_kept : (ms : Mappings) (g n : ℕ) (p : Part) (o : Own) → LegalOwn ms g p o → Queued p
+filed_kept : (ms : Mappings) (g n : ℕ) (p : Endpoint) (o : LocalAct) → LegalLocalAct ms g p o → Queued p
     → (p.page_requests ≤ p.page_requests → p.page_request p.page_requests ≡ Dropped) → (k : ℕ)
     → (k < p.filings → p.page_request (p.filing k) ≡ Filed) → k < (own p n o).filings → (own p n o).page_request ((own p n o).filing k) ≡ Filed
 filed_kept ms g n p o l qu un k old h = grind (arith, nat_tests, qu.in_flight)
 
-once_kept : (ms : Mappings) (g n : ℕ) (p : Part) (o : Own) → LegalOwn ms g p o → (j k : ℕ) → (j < p.filings → p.page_request (p.filing j) ≡ Filed)
+once_kept : (ms : Mappings) (g n : ℕ) (p : Endpoint) (o : LocalAct) → LegalLocalAct ms g p o → (j k : ℕ) → (j < p.filings → p.page_request (p.filing j) ≡ Filed)
     → (k < p.filings → p.page_request (p.filing k) ≡ Filed) → (j < p.filings → k < p.filings → p.filing j ≡ p.filing k → j ≡ k) → j
     < (own p n o).filings → k < (own p n o).filings → (own p n o).filing j ≡ (own p n o).filing k → j ≡ k
 once_kept ms g n p o l j k fj fk old h i e = grind (arith, nat_tests)
 
-own_filed : (ms : Mappings) (x g n e : ℕ) (p : Part) (o : Own) → LegalOwn ms g p o → PartInvariant ms x g n e p → FiledOnce p → FiledOnce (own p n o)
+own_filed : (ms : Mappings) (x g n e : ℕ) (p : Endpoint) (o : LocalAct) → LegalLocalAct ms g p o → PartInvariant ms x g n e p → FiledOnce p
+    → FiledOnce (own p n o)
 own_filed ms x g n e p o l i fi =
     record {
       filed = λ k h. filed_kept ms g n p o l i.queued (i.bounds.page_request p.page_requests) k (fi.filed k) h;
       once = λ j k h m s. once_kept ms g n p o l j k (fi.filed j) (fi.filed k) (fi.once j k) h m s;
     }
 
-submitted_filed : (t : Bool) (p : Part) (o : Option ℕ) (q count order cookie : ℕ) → FiledOnce p → FiledOnce (submitted_if t p o q count order cookie)
+submitted_filed : (t : Bool) (p : Endpoint) (o : Option ℕ) (q count order cookie : ℕ) → FiledOnce p → FiledOnce (submitted_if t p o q count order cookie)
 submitted_filed true p (Some b) q count order cookie fi = record { filed = fi.filed; once = fi.once }
 submitted_filed true p None q count order cookie fi = fi
 submitted_filed false p o q count order cookie fi = fi
@@ -60,7 +61,7 @@ act_filed w (NewBinding e) l i h = h
 act_filed w (NewJob e g) l i h = h
 act_filed w (Hold x j) l i h = h
 act_filed w (LetGo x) l i h = h
-act_filed w (At e o) l i h =
+act_filed w (AtEndpoint e o) l i h =
     put_keeps (λ k p. FiledOnce p) w.part e (own (w.part e) w.messages o)
     (own_filed w.mappings w.config.endpoints w.bindings w.messages e (w.part e) o l.1.0 (i.parts e) (h e)) h
 
@@ -84,7 +85,7 @@ length_mapped : (f : ℕ → ℕ) (xs : List ℕ) → length (map f xs) ≡ leng
 length_mapped f [] = refl
 length_mapped f (x ∷ xs) = let r = length_mapped f xs in omega (arith, r)
 
-few : (ms : Mappings) (x g n e : ℕ) (p : Part) (y : ℕ) → PartInvariant ms x g n e p → FiledOnce p → outstanding p ≤ 32
+few : (ms : Mappings) (x g n e : ℕ) (p : Endpoint) (y : ℕ) → PartInvariant ms x g n e p → FiledOnce p → outstanding p ≤ 32
     → is_open_group (p.host_group y) ≡ true → length (asks p y) ≤ 32
 few ms x g n e p y i fi h op = omega (arith, length_mapped p.filing (select p.filings is_of), length_select p.filings is_of, placed, h)
   where

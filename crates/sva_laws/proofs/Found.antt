@@ -3,14 +3,14 @@ use Rattle.std.proofs.Common.{◌≡◌, ◌≢◌, ◌⊎◌, inl, inr, refl, a
 use Rattle.std.specs.Prelude.{Option, Some, None, ◌==◌}
 use Rattle.std.proofs.lemmas.Bool.Decides.{nat_tests}
 use Rattle.sva_model.specs.Message.{Code}
-use Rattle.sva_model.specs.State.{About, PasidState, GroupState, HostGroupState, Part, World, Stage, UseState, Phase, OrderState}
-use Rattle.sva_model.specs.State.About.{StartOf, StopOf, ResetOrder, CompletionOf, InvalidateOf, ResponseOf, RequestOf, InvalidatedOf, PageRequestOf}
-use Rattle.sva_model.specs.State.About.{MarkerOf, ResetDone}
+use Rattle.sva_model.specs.State.{Subject, PasidState, GroupState, HostGroupState, Endpoint, World, Stage, UseState, Phase, OrderState}
+use Rattle.sva_model.specs.State.Subject.{StartOf, StopOf, FunctionReset, CompletionOf, InvalidateOf, ResponseOf, RequestOf, InvalidatedOf, PageRequestOf}
+use Rattle.sva_model.specs.State.Subject.{MarkerOf, ResetDone}
 use Rattle.sva_model.specs.State.Stage.{Stopping, Invalidating}
 use Rattle.sva_model.specs.State.PasidState.{Off, On, Ending}
-use Rattle.sva_model.specs.State.GroupState.{Unfinished, Awaiting}
+use Rattle.sva_model.specs.State.GroupState.{Collecting, Awaiting}
 use Rattle.sva_model.specs.State.UseState.{Ended}
-use Rattle.sva_model.specs.State.OrderState.{Sent, Queued, Taken, Lapsed, Owing, Done, Void}
+use Rattle.sva_model.specs.State.OrderState.{Sent, Queued, Taken, Lapsed, Completing, Done, Void}
 use Rattle.sva_model.specs.State.PageRequestState.{InFlight, Arrived, Filed, Dropped}
 use Rattle.sva_model.specs.State.HostGroupState.{NotFiled, PartFiled, Job, InHand, Replied, Discarded, InHandDiscarded}
 use Rattle.sva_model.specs.State.Phase.{Open, Ordered, Cleared}
@@ -71,7 +71,7 @@ not_cleared : (x : Phase) → x ≡ Open → is_cleared x ≡ false
 not_cleared x h = grind arith
 
 -- a PASID that is on or ending is of an unreleased binding
-alive_stage : (p : Part) (b : ℕ) → (p.pasid_state b ≡ On → is_unmarked (p.stage b) ≡ true) → (p.pasid_state b ≡ Ending → p.stage b ≡ Stopping false)
+alive_stage : (p : Endpoint) (b : ℕ) → (p.pasid_state b ≡ On → is_unmarked (p.stage b) ≡ true) → (p.pasid_state b ≡ Ending → p.stage b ≡ Stopping false)
     → is_off (p.pasid_state b) ≡ false → is_unreleased (p.stage b) ≡ true
 alive_stage p b on ending h = grind arith
 
@@ -102,21 +102,21 @@ not_undone Queued h = absurd (cc)
 not_undone Sent h = absurd (cc)
 not_undone (Taken u) h = absurd (cc)
 not_undone Lapsed h = absurd (cc)
-not_undone (Owing c l) h = absurd (cc)
+not_undone (Completing c l) h = absurd (cc)
 
-alive_group : (s : GroupState) → (s ≡ Unfinished) ⊎ (s ≡ Awaiting) → is_alive_group s ≡ true
+alive_group : (s : GroupState) → (s ≡ Collecting) ⊎ (s ≡ Awaiting) → is_alive_group s ≡ true
 alive_group s (inl h) = ap is_alive_group h
 alive_group s (inr h) = ap is_alive_group h
 
 -- a binding whose PASID isn't off bears it
-started : (p : Part) (b : ℕ) → Labels p → Bindings p → is_off (p.pasid_state b) ≡ false → (IsBearer p b) × (p.pasid_state b ≢ Off)
+started : (p : Endpoint) (b : ℕ) → Labels p → Bindings p → is_off (p.pasid_state b) ≡ false → (IsBearer p b) × (p.pasid_state b ≢ Off)
 started p b la bi h = (bearer p b la (alive_stage p b (bi.on_stage b) (bi.ending_stage b) h), isnt_off (p.pasid_state b) h)
 
 -- an open group at an open unit is outstanding at the endpoint
-open_at : (p : Part) → Groups p → (g : ℕ) → p.phase ≡ Open → is_open_group (p.host_group g) ≡ true → p.at_index (p.index g) ≡ Some g
+open_at : (p : Endpoint) → Groups p → (g : ℕ) → p.phase ≡ Open → is_open_group (p.host_group g) ≡ true → p.at_index (p.index g) ≡ Some g
 open_at p gr g ph h = gr.bears_index g (gr.open_group g ph h).0
 
-one_index : (p : Part) (g h : ℕ) → p.at_index (p.index g) ≡ Some g → p.at_index (p.index h) ≡ Some h → p.index g ≡ p.index h → g ≡ h
+one_index : (p : Endpoint) (g h : ℕ) → p.at_index (p.index g) ≡ Some g → p.at_index (p.index h) ≡ Some h → p.index g ≡ p.index h → g ≡ h
 one_index p g h a b same = let z : p.at_index (p.index g) ≡ p.at_index (p.index h) = ap p.at_index same in cc
 
 pub found : (w : World) (e : ℕ) → Invariant w → IsFound (w.part e)
@@ -194,13 +194,13 @@ never w e i =
     replies g v k x ph (inr h) = inactive_not ((w.part e).stage ((w.part e).filed_under g)) k x ((i.parts e).groups.discarded g v ph h)
 
 -- what is awaited is on its way
-request_there : (r : ℕ) (m : Option About) → is_of_request r m ≡ true → (m ≡ Some (RequestOf r)) ⊎ ((found : Option ℕ) × (m ≡ Some (CompletionOf r found)))
+request_there : (r : ℕ) (m : Option Subject) → is_of_request r m ≡ true → (m ≡ Some (RequestOf r)) ⊎ ((found : Option ℕ) × (m ≡ Some (CompletionOf r found)))
 request_there r (Some (RequestOf x)) h = inl (ap (λ y. Some (RequestOf y)) (equal x r h))
 request_there r (Some (CompletionOf x f)) h = inr (f, ap (λ y. Some (CompletionOf y f)) (equal x r h))
 request_there r None h = absurd (cc)
 request_there r (Some (StartOf b)) h = absurd (cc)
 request_there r (Some (StopOf b)) h = absurd (cc)
-request_there r (Some ResetOrder) h = absurd (cc)
+request_there r (Some FunctionReset) h = absurd (cc)
 request_there r (Some (InvalidateOf k)) h = absurd (cc)
 request_there r (Some (ResponseOf g code)) h = absurd (cc)
 request_there r (Some (InvalidatedOf names)) h = absurd (cc)
@@ -208,14 +208,14 @@ request_there r (Some (PageRequestOf x)) h = absurd (cc)
 request_there r (Some (MarkerOf b)) h = absurd (cc)
 request_there r (Some ResetDone) h = absurd (cc)
 
-response_there : (g : ℕ) (m : Option About) → is_response_to g m ≡ true → (code : Code) × (m ≡ Some (ResponseOf g code))
+response_there : (g : ℕ) (m : Option Subject) → is_response_to g m ≡ true → (code : Code) × (m ≡ Some (ResponseOf g code))
 response_there g (Some (ResponseOf x code)) h = (code, ap (λ y. Some (ResponseOf y code)) (equal x g h))
 response_there g None h = absurd (cc)
 response_there g (Some (RequestOf x)) h = absurd (cc)
 response_there g (Some (CompletionOf x f)) h = absurd (cc)
 response_there g (Some (StartOf b)) h = absurd (cc)
 response_there g (Some (StopOf b)) h = absurd (cc)
-response_there g (Some ResetOrder) h = absurd (cc)
+response_there g (Some FunctionReset) h = absurd (cc)
 response_there g (Some (InvalidateOf k)) h = absurd (cc)
 response_there g (Some (InvalidatedOf names)) h = absurd (cc)
 response_there g (Some (PageRequestOf x)) h = absurd (cc)
@@ -229,16 +229,16 @@ answerable_outstanding : (s : GroupState) → is_answerable s ≡ true → is_ou
 answerable_outstanding s h = grind arith
 
 -- the last request of a group that isn't whole at the host is in flight or arrived
-asked_last : (p : Part) (g r : ℕ) → p.group_of r ≡ g → is_whole (p.host_group g) ≡ false → p.page_request r ≢ Dropped
+asked_last : (p : Endpoint) (g r : ℕ) → p.group_of r ≡ g → is_whole (p.host_group g) ≡ false → p.page_request r ≢ Dropped
     → (p.page_request r ≡ Filed → is_whole (p.host_group (p.group_of r)) ≡ true) → (p.page_request r ≡ InFlight) ⊎ (p.page_request r ≡ Arrived)
 asked_last p g r e part kept filed = grind arith
 
 -- a group that is answerable at an open unit isn't discarded at the host
-way : (w : World) (e : ℕ) → Invariant w → Ways (w.part e) → OnTheWay (w.part e) → (g : ℕ) → (w.part e).phase ≡ Open
+link_of : (w : World) (e : ℕ) → Invariant w → Ways (w.part e) → OnTheWay (w.part e) → (g : ℕ) → (w.part e).phase ≡ Open
     → is_answerable ((w.part e).group g) ≡ true → IsOnItsWay (w.part e) g
-way w e i wa on g ph a = go (p.host_group g) refl
+link_of w e i wa on g ph a = go (p.host_group g) refl
   where
-    p : Part
+    p : Endpoint
     p = w.part e
 
     out : is_outstanding (p.group g) ≡ true
@@ -272,12 +272,12 @@ under_way w e i wa on ow =
       sent = wa.sent;
       sent_only = (i.parts e).labels.sent;
       owed = ow.owed;
-      owing = ow.owing;
+      completing = ow.completing;
       never_lapsed = λ k ph h. is_closed p.phase (re.lapsed k h) ph;
       request = λ r ph h. (p.request_message r, request_there r (p.message (p.request_message r)) (wa.out r ph h));
       asked = λ r. ((λ h. (p.page_request_message r, qu.message r h)), (λ x. (qu.in_flight x.0 r x.1).0));
       asked_once = λ c d r h k. sym (qu.in_flight c r h).1 ∙ (qu.in_flight d r k).1;
-      group = λ g ph a. way w e i wa on g ph a;
+      group = λ g ph a. link_of w e i wa on g ph a;
       responded = λ c g code h. ((gr.response c g code h).0, (gr.response c g code h).1);
       one_last = (i.parts e).lasts.last_once;
       unfiled = λ r ph h. not_filed r ph (made_of r h) h (p.host_group (p.group_of r)) refl;

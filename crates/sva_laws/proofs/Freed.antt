@@ -9,15 +9,15 @@ use Rattle.sva_step.specs.declared.steps.Step.TheVariants as step
 use Rattle.sva_step.specs.declared.steps.Verdict.{Verdict}
 use Rattle.sva_model.specs.Words.{the}
 use Rattle.sva_model.specs.Message.{Code}
-use Rattle.sva_model.specs.State.{Owed, MappingState, Part, World, Stage, Order, About, RequestState}
+use Rattle.sva_model.specs.State.{Owed, MappingState, Endpoint, World, Stage, Order, Subject, RequestState}
 use Rattle.sva_model.specs.State.MappingState.{Unmade, Present, Gone}
 use Rattle.sva_model.specs.State.Stage.{Unbound, Live, Stopping, Draining, Invalidating, Quiet, Lost, Released}
 use Rattle.sva_model.specs.State.Order.{RangeOf, PasidOf, Wait}
 use Rattle.sva_model.specs.State.RequestState.{Out, Doomed, Over}
-use Rattle.sva_model.specs.State.About.{StartOf, StopOf, ResetOrder, CompletionOf, InvalidateOf, ResponseOf, RequestOf, InvalidatedOf, PageRequestOf}
-use Rattle.sva_model.specs.State.About.{MarkerOf, ResetDone}
-use Rattle.sva_model.specs.Acts.{Act, Own, act}
-use Rattle.sva_model.specs.Acts.Act.{NewSpace, DropSpace, Map, Unmap, NewBinding, NewJob, Hold, LetGo, At}
+use Rattle.sva_model.specs.State.Subject.{StartOf, StopOf, FunctionReset, CompletionOf, InvalidateOf, ResponseOf, RequestOf, InvalidatedOf, PageRequestOf}
+use Rattle.sva_model.specs.State.Subject.{MarkerOf, ResetDone}
+use Rattle.sva_model.specs.Acts.{Act, LocalAct, act}
+use Rattle.sva_model.specs.Acts.Act.{NewSpace, DropSpace, Map, Unmap, NewBinding, NewJob, Hold, LetGo, AtEndpoint}
 use Rattle.sva_model.specs.Labels
 use Rattle.sva_model.specs.Refusals.{Cause, refusals}
 use Rattle.sva_model.specs.Replies.{maps_to, reply_maps, replies_success, newly_mapped, free_list, is_write_asked, job_space, response_to}
@@ -77,12 +77,12 @@ send_first : (e k t : ℕ) (b : Bool) → maps_first (send_outcome e k t b).acts
 send_first e k t true = refl
 send_first e k t false = refl
 
-head_first : (p : Part) (e k : ℕ) (o : Order) → maps_first (head_outcome p e k o).acts ≡ true
+head_first : (p : Endpoint) (e k : ℕ) (o : Order) → maps_first (head_outcome p e k o).acts ≡ true
 head_first p e k (Wait cookie drain) = wait_first e k (may_pass p drain)
 head_first p e k (RangeOf b q) = send_first e k (Labels.lowest_label 32 p.at_itag) _
 head_first p e k (PasidOf b) = send_first e k (Labels.lowest_label 32 p.at_itag) _
 
-pump_first : (p : Part) (e : ℕ) (b : Bool) → maps_first (pump_outcome p e b).acts ≡ true
+pump_first : (p : Endpoint) (e : ℕ) (b : Bool) → maps_first (pump_outcome p e b).acts ≡ true
 pump_first p e true = refl
 pump_first p e false = head_first p e (Labels.head p) (p.order (Labels.head p))
 
@@ -90,7 +90,7 @@ file_first : (e r g : ℕ) (b : Bool) → maps_first (file_outcome e r g b).acts
 file_first e r g true = refl
 file_first e r g false = refl
 
-serve_first : (p : Part) (e : ℕ) (b : Bool) → maps_first (serve_outcome p e b).acts ≡ true
+serve_first : (p : Endpoint) (e : ℕ) (b : Bool) → maps_first (serve_outcome p e b).acts ≡ true
 serve_first p e true = refl
 serve_first p e false = file_first e (Labels.oldest_arrived p) (p.group_of (Labels.oldest_arrived p)) (p.is_last (Labels.oldest_arrived p))
 
@@ -104,12 +104,12 @@ reply_first w x j v None = refl
 reply_first w x j v (Some code) = go (replies_success w j v)
   where
     go : (b : Bool) → maps_first ((if b then maps_to (job_space w j) (is_write_asked w j) (newly_mapped w j) (free_list w) else []) ++ LetGo x
-        ∷ At (w.job j).endpoint (Own.Respond (w.job j).group code) ∷ []) ≡ true
+        ∷ AtEndpoint (w.job j).endpoint (LocalAct.Respond (w.job j).group code) ∷ []) ≡ true
     go true = maps_then (job_space w j) (is_write_asked w j) (newly_mapped w j) (free_list w)
-        (LetGo x ∷ At (w.job j).endpoint (Own.Respond (w.job j).group code) ∷ []) refl
+        (LetGo x ∷ AtEndpoint (w.job j).endpoint (LocalAct.Respond (w.job j).group code) ∷ []) refl
     go false = refl
 
-fault_first : (p : Part) (e t q : ℕ) (r x l : Bool) (o : Option ℕ) → maps_first (fault_outcome p e t q r x l o).acts ≡ true
+fault_first : (p : Endpoint) (e t q : ℕ) (r x l : Bool) (o : Option ℕ) → maps_first (fault_outcome p e t q r x l o).acts ≡ true
 fault_first p e t q r x l None = refl
 fault_first p e t q r x l (Some k) = refl
 
@@ -117,7 +117,7 @@ keep_first : (e c r m : ℕ) (b : Bool) → maps_first (keep_outcome e c r m b).
 keep_first e c r m true = refl
 keep_first e c r m false = refl
 
-completion_first : (p : Part) (e c r : ℕ) (o : Option ℕ) (s : RequestState) → maps_first (completion_outcome p e c r o s).acts ≡ true
+completion_first : (p : Endpoint) (e c r : ℕ) (o : Option ℕ) (s : RequestState) → maps_first (completion_outcome p e c r o s).acts ≡ true
 completion_first p e c r (Some m) Out = keep_first e c r m (is_full p r)
 completion_first p e c r None Out = refl
 completion_first p e c r (Some m) Doomed = refl
@@ -125,11 +125,11 @@ completion_first p e c r None Doomed = refl
 completion_first p e c r (Some m) Over = refl
 completion_first p e c r None Over = refl
 
-request_first : (w : World) (p : Part) (e c r : ℕ) (b : Bool) → maps_first (request_outcome w p e c r b).acts ≡ true
+request_first : (w : World) (p : Endpoint) (e c r : ℕ) (b : Bool) → maps_first (request_outcome w p e c r b).acts ≡ true
 request_first w p e c r true = refl
 request_first w p e c r false = refl
 
-count_first : (p : Part) (e c : ℕ) (names : ℕ → Bool) (b : Bool) → maps_first (count_outcome p e c names b).acts ≡ true
+count_first : (p : Endpoint) (e c : ℕ) (names : ℕ → Bool) (b : Bool) → maps_first (count_outcome p e c names b).acts ≡ true
 count_first p e c names true = refl
 count_first p e c names false = refl
 
@@ -141,10 +141,10 @@ marker_first : (e c d : ℕ) (b : Bool) → maps_first (marker_outcome e c d b).
 marker_first e c d true = refl
 marker_first e c d false = refl
 
-about_first : (w : World) (p : Part) (e c : ℕ) (a : About) → maps_first (about_outcome w p e c a).acts ≡ true
+about_first : (w : World) (p : Endpoint) (e c : ℕ) (a : Subject) → maps_first (about_outcome w p e c a).acts ≡ true
 about_first w p e c (StartOf b) = refl
 about_first w p e c (StopOf b) = refl
-about_first w p e c ResetOrder = refl
+about_first w p e c FunctionReset = refl
 about_first w p e c (CompletionOf r found) = completion_first p e c r found (p.request r)
 about_first w p e c (InvalidateOf k) = refl
 about_first w p e c (ResponseOf g code) = refl
@@ -154,7 +154,7 @@ about_first w p e c (PageRequestOf r) = page_request_first e c r (is_open p.phas
 about_first w p e c (MarkerOf b) = marker_first e c b (is_open p.phase)
 about_first w p e c ResetDone = refl
 
-deliver_first : (w : World) (p : Part) (e c : ℕ) (o : Option About) → maps_first (deliver_outcome w p e c o).acts ≡ true
+deliver_first : (w : World) (p : Endpoint) (e c : ℕ) (o : Option Subject) → maps_first (deliver_outcome w p e c o).acts ≡ true
 deliver_first w p e c None = refl
 deliver_first w p e c (Some a) = about_first w p e c a
 
@@ -165,8 +165,10 @@ outcome_first w (step.Map n q x) = refl
 outcome_first w (step.Unmap n q count) = refl
 outcome_first w (step.UnmapRange n q order) = refl
 outcome_first w (step.Bind e n) = refl
-outcome_first w (step.Unbind n) = unbind_first (w.home (Labels.name w n)) (Labels.name w n) ((w.part (w.home (Labels.name w n))).stage (Labels.name w n))
-outcome_first w (step.Advance n) = advance_first w (w.home (Labels.name w n)) (Labels.name w n) ((w.part (w.home (Labels.name w n))).stage (Labels.name w n))
+outcome_first w (step.Unbind n) =
+    unbind_first (w.endpoint_of (Labels.name w n)) (Labels.name w n) ((w.part (w.endpoint_of (Labels.name w n))).stage (Labels.name w n))
+outcome_first w (step.Advance n) =
+    advance_first w (w.endpoint_of (Labels.name w n)) (Labels.name w n) ((w.part (w.endpoint_of (Labels.name w n))).stage (Labels.name w n))
 outcome_first w (step.Pump e) = pump_first (w.part e) e (Labels.is_queue_empty (w.part e))
 outcome_first w (step.Serve e) = serve_first (w.part e) e (Labels.is_page_queue_empty (w.part e))
 outcome_first w (step.Reset e) = refl
@@ -180,8 +182,8 @@ outcome_first w (step.Fault e t q r x group l) = fault_first (w.part e) e t q r 
 outcome_first w (step.Finish e vector count) = refl
 outcome_first w (step.Quit e t) = refl
 outcome_first w (step.Deliver n) =
-    deliver_first w (w.part (w.way (Labels.name w n))) (w.way (Labels.name w n)) (Labels.name w n)
-    ((w.part (w.way (Labels.name w n))).message (Labels.name w n))
+    deliver_first w (w.part (w.link_of (Labels.name w n))) (w.link_of (Labels.name w n)) (Labels.name w n)
+    ((w.part (w.link_of (Labels.name w n))).message (Labels.name w n))
 outcome_first w (step.Look f) = refl
 outcome_first w (step.Bearer t) = refl
 
@@ -207,7 +209,7 @@ latest_same w (NewBinding e) f h = refl
 latest_same w (NewJob e g) f h = refl
 latest_same w (Hold x j) f h = refl
 latest_same w (LetGo x) f h = refl
-latest_same w (At e o) f h = refl
+latest_same w (AtEndpoint e o) f h = refl
 
 rest_same : (acts : List Act) (w : World) (f : ℕ) → no_maps acts ≡ true → (after_acts w acts).mappings.latest f ≡ w.mappings.latest f
 rest_same [] w f h = refl
@@ -261,7 +263,7 @@ maps_free (NewBinding e ∷ acts) w f h l i = inl (rest_same (NewBinding e ∷ a
 maps_free (NewJob e g ∷ acts) w f h l i = inl (rest_same (NewJob e g ∷ acts) w f h)
 maps_free (Hold x j ∷ acts) w f h l i = inl (rest_same (Hold x j ∷ acts) w f h)
 maps_free (LetGo x ∷ acts) w f h l i = inl (rest_same (LetGo x ∷ acts) w f h)
-maps_free (At e o ∷ acts) w f h l i = inl (rest_same (At e o ∷ acts) w f h)
+maps_free (AtEndpoint e o ∷ acts) w f h l i = inl (rest_same (AtEndpoint e o ∷ acts) w f h)
 
 step_free : (w : World) (s : Step) (f : ℕ) → Invariant w → ((next w s).mappings.latest f ≡ w.mappings.latest f) ⊎ (place w f ≡ Free)
 step_free w s f i = maps_free (decide w s).acts w f (step_first w s) (step_legal w s i) i

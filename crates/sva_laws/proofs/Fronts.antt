@@ -5,17 +5,17 @@ use Rattle.std.proofs.lemmas.Bool.Decides.{nat_tests}
 use Rattle.sva_step.specs.declared.limits.Config.{Config}
 use Rattle.sva_step.specs.declared.steps.Step.{Step}
 use Rattle.sva_model.specs.Words.{put, put_range, count_below}
-use Rattle.sva_model.specs.State.{PasidRule, Mappings, Order, OrderState, Part, World, opened}
+use Rattle.sva_model.specs.State.{PasidRule, Mappings, Order, OrderState, Endpoint, World, opened}
 use Rattle.sva_model.specs.State.Order.{RangeOf, PasidOf, Wait}
 use Rattle.sva_model.specs.State.OrderState.{Queued, Done, Void}
 use Rattle.sva_model.specs.State.Stage.{Draining, Invalidating}
 use Rattle.sva_model.specs.State.Phase.{Open}
 use Rattle.sva_model.specs.States.{is_busy, is_wait}
-use Rattle.sva_model.specs.Acts.{Act, Own, act, own, cookies_of, end_of, submitted, submitted_if, range_at, submits, bound, cookie_of}
-use Rattle.sva_model.specs.Acts.Act.{NewSpace, DropSpace, Map, Unmap, NewBinding, NewJob, Hold, LetGo, At}
+use Rattle.sva_model.specs.Acts.{Act, LocalAct, act, own, cookies_of, end_of, submitted, submitted_if, range_at, submits, bound, cookie_of}
+use Rattle.sva_model.specs.Acts.Act.{NewSpace, DropSpace, Map, Unmap, NewBinding, NewJob, Hold, LetGo, AtEndpoint}
 use Rattle.sva_model.specs.Steps.{decide, next, run, after_acts, world_after}
 use Rattle.sva_laws.proofs.Words.{put-same, put-other, ℕ_cases}
-use Rattle.sva_laws.proofs.Legal.{LegalOwn}
+use Rattle.sva_laws.proofs.Legal.{LegalLocalAct}
 use Rattle.sva_laws.proofs.Bounds.{Bounds}
 use Rattle.sva_laws.proofs.Labels.{Labels}
 use Rattle.sva_laws.proofs.Orders.{Orders, SentOnly, is_queued_or_done}
@@ -26,10 +26,10 @@ use Rattle.sva_laws.proofs.Cookies.{HasCookie, less_or_not, own_old, count_stric
 use Rattle.sva_laws.proofs.Runs.{step_legal, next_keeps, opened_invariant}
 
 -- the end of the cookies is one more than the greatest, and 0 where none was submitted
-abbrev pub HasGreatest : Part → Type 0
+abbrev pub HasGreatest : Endpoint → Type 0
 HasGreatest p = (p.waits_end ≡ 0) ⊎ ((k c : ℕ) × (x : Bool) × (k < p.orders) × (p.order k ≡ Wait c x) × (p.waits_end ≡ suc c))
 
-pub record Fronts (cookies : ℕ) (p : Part) : Type 0 where
+pub record Fronts (cookies : ℕ) (p : Endpoint) : Type 0 where
   -- the cookies of waits rise in order of submission; each is below the end of them
   pub rise : (k j c d : ℕ) (x y : Bool) → k < j → j < p.orders → p.order k ≡ Wait c x → p.order j ≡ Wait d y → c < d
   pub below : (k c : ℕ) (x : Bool) → k < p.orders → p.order k ≡ Wait c x → c < p.waits_end
@@ -44,26 +44,26 @@ pub record Fronts (cookies : ℕ) (p : Part) : Type 0 where
   pub draining : (b w c : ℕ) (x : Bool) → p.stage b ≡ Draining w → p.order w ≡ Wait c x → p.order_state w ≡ Void → p.front ≤ c
   pub invalidating : (b k w c : ℕ) (x : Bool) → p.stage b ≡ Invalidating k w → p.order w ≡ Wait c x → p.order_state w ≡ Void → p.front ≤ c
 
-rise_kept : (ms : Mappings) (g n cookies : ℕ) (p : Part) (o : Own) → LegalOwn ms g p o → HasCookie cookies o → p.waits_end ≤ cookies
+rise_kept : (ms : Mappings) (g n cookies : ℕ) (p : Endpoint) (o : LocalAct) → LegalLocalAct ms g p o → HasCookie cookies o → p.waits_end ≤ cookies
     → (k j c d : ℕ) (x y : Bool) → (k < j → j < p.orders → p.order k ≡ Wait c x → p.order j ≡ Wait d y → c < d)
     → (k < p.orders → p.order k ≡ Wait c x → c < p.waits_end) → k < j → j < (own p n o).orders → (own p n o).order k ≡ Wait c x → (own p n o).order j
     ≡ Wait d y → c < d
 rise_kept ms g n cookies p o l hc given k j c d x y old below lt made h i = grind (arith, nat_tests)
 
-below_kept : (ms : Mappings) (g n cookies : ℕ) (p : Part) (o : Own) → LegalOwn ms g p o → HasCookie cookies o → p.waits_end ≤ cookies
+below_kept : (ms : Mappings) (g n cookies : ℕ) (p : Endpoint) (o : LocalAct) → LegalLocalAct ms g p o → HasCookie cookies o → p.waits_end ≤ cookies
     → (k c : ℕ) (x : Bool) → (k < p.orders → p.order k ≡ Wait c x → c < p.waits_end) → k < (own p n o).orders → (own p n o).order k ≡ Wait c x → c
     < (own p n o).waits_end
 below_kept ms g n cookies p o l hc given k c x old made h = grind (arith, nat_tests)
 
-given_kept : (ms : Mappings) (g n cookies : ℕ) (p : Part) (o : Own) → LegalOwn ms g p o → HasCookie cookies o → p.waits_end ≤ cookies
+given_kept : (ms : Mappings) (g n cookies : ℕ) (p : Endpoint) (o : LocalAct) → LegalLocalAct ms g p o → HasCookie cookies o → p.waits_end ≤ cookies
     → (own p n o).waits_end ≤ cookies + cookies_of o
 given_kept ms g n cookies p o l hc given = grind (arith, nat_tests)
 
 -- one more than the cookie of the wait that is passed is within the end
-front_low_kept : (ms : Mappings) (g n cookies : ℕ) (p : Part) (o : Own) → LegalOwn ms g p o → HasCookie cookies o → Bounds g p → p.waits_end
+front_low_kept : (ms : Mappings) (g n cookies : ℕ) (p : Endpoint) (o : LocalAct) → LegalLocalAct ms g p o → HasCookie cookies o → Bounds g p → p.waits_end
     ≤ cookies → ((k c : ℕ) (x : Bool) → k < p.orders → p.order k ≡ Wait c x → c < p.waits_end) → p.front ≤ p.waits_end → (own p n o).front
     ≤ (own p n o).waits_end
-front_low_kept ms g n cookies p (Own.Pass k) l hc bo given below low = go (p.order k) refl l.2
+front_low_kept ms g n cookies p (LocalAct.Pass k) l hc bo given below low = go (p.order k) refl l.2
   where
     made : k < p.orders
     made = grind (arith, bo.order_state k)
@@ -81,22 +81,22 @@ same_cookie : (o : Order) (c d : ℕ) (x y : Bool) → o ≡ Wait c x → o ≡ 
 same_cookie o c d x y h i = cc
 
 -- at an open unit
-record IsFirst (p : Part) (j d : ℕ) (y : Bool) : Type 0 where
+record IsFirst (p : Endpoint) (j d : ℕ) (y : Bool) : Type 0 where
   opened : p.phase ≡ Open
   queued : p.order_state j ≡ Queued
   first : (i : ℕ) → i < j → p.order_state i ≢ Queued
   made : j < p.orders
   cookie : p.order j ≡ Wait d y
 
-at_front_of : (cookies : ℕ) (p : Part) → Fronts cookies p → p.phase ≡ Open → (k c : ℕ) (x : Bool) → k < p.orders → p.order k ≡ Wait c x → p.front ≤ c
+at_front_of : (cookies : ℕ) (p : Endpoint) → Fronts cookies p → p.phase ≡ Open → (k c : ℕ) (x : Bool) → k < p.orders → p.order k ≡ Wait c x → p.front ≤ c
     → p.order_state k ≡ Queued
 at_front_of cookies p f ph k c x made h a = elim (f.at_front k c x made h a) [ inl q ↦ q | inr v ↦ absurd (v.1 ph) ]
 
-not_passed : (cookies : ℕ) (p : Part) (j d : ℕ) (y : Bool) → Fronts cookies p → IsFirst p j d y → p.front ≤ d
+not_passed : (cookies : ℕ) (p : Endpoint) (j d : ℕ) (y : Bool) → Fronts cookies p → IsFirst p j d y → p.front ≤ d
 not_passed cookies p j d y f is =
     elim (less_or_not d p.front) [ inl l ↦ absurd (is_queued (p.order_state j) is.queued (f.passed j d y is.made is.cookie l)) | inr m ↦ m ]
 
-pass_at : (cookies : ℕ) (p : Part) (j d : ℕ) (y : Bool) → Fronts cookies p → IsFirst p j d y → (k c : ℕ) (x : Bool) → k < p.orders → p.order k
+pass_at : (cookies : ℕ) (p : Endpoint) (j d : ℕ) (y : Bool) → Fronts cookies p → IsFirst p j d y → (k c : ℕ) (x : Bool) → k < p.orders → p.order k
     ≡ Wait c x → d < c → put p.order_state j Done k ≡ Queued
 pass_at cookies p j d y f is k c x made h lt = go (ℕ_cases k j) (less_or_not k j)
   where
@@ -107,7 +107,7 @@ pass_at cookies p j d y f is k c x made h lt = go (ℕ_cases k j) (less_or_not k
         let low = not_passed cookies p j d y f is in
         put-other p.order_state j Done k ne ∙ at_front_of cookies p f is.opened k c x made h (omega (arith, low, lt))
 
-pass_below : (cookies : ℕ) (p : Part) (j d : ℕ) (y : Bool) → Fronts cookies p → IsFirst p j d y → (k c : ℕ) (x : Bool) → k < p.orders → p.order k
+pass_below : (cookies : ℕ) (p : Endpoint) (j d : ℕ) (y : Bool) → Fronts cookies p → IsFirst p j d y → (k c : ℕ) (x : Bool) → k < p.orders → p.order k
     ≡ Wait c x → c ≤ d → (put p.order_state j Done k ≡ Done) ⊎ (put p.order_state j Done k ≡ Void)
 pass_below cookies p j d y f is k c x made h le = go (ℕ_cases k j) (less_or_not k j)
   where
@@ -128,12 +128,12 @@ pass_below cookies p j d y f is k c x made h le = go (ℕ_cases k j) (less_or_no
     go (inr ne) (inl l) = still ne (before (is.first k l) (turned (less_or_not c p.front)))
     go (inr ne) (inr l) = let r = f.rise j k d c y x (omega (arith, l, ne)) made is.cookie h in absurd (omega (arith, r, le))
 
-abbrev pub passes : Own → Bool
-passes (Own.Pass k) = true
+abbrev pub passes : LocalAct → Bool
+passes (LocalAct.Pass k) = true
 passes _ = false
 
 -- what a pump that passes a wait has tested
-first_wait : (ms : Mappings) (g n : ℕ) (p : Part) (j : ℕ) → LegalOwn ms g p (Own.Pass j) → Bounds g p → (o : Order) → p.order j ≡ o → is_wait o
+first_wait : (ms : Mappings) (g n : ℕ) (p : Endpoint) (j : ℕ) → LegalLocalAct ms g p (LocalAct.Pass j) → Bounds g p → (o : Order) → p.order j ≡ o → is_wait o
     ≡ true → (d : ℕ) × (y : Bool) × (end_of o ≡ suc d) × IsFirst p j d y
 first_wait ms g n p j l bo (Wait d y) e w = (d, y, refl, record { opened = l.0; queued = l.1; first = l.3; made = made; cookie = e })
   where
@@ -142,7 +142,7 @@ first_wait ms g n p j l bo (Wait d y) e w = (d, y, refl, record { opened = l.0; 
 first_wait ms g n p j l bo (RangeOf b r) e w = absurd (cc (w))
 first_wait ms g n p j l bo (PasidOf b) e w = absurd (cc (w))
 
-other_front : (ms : Mappings) (g n cookies : ℕ) (p : Part) (o : Own) → LegalOwn ms g p o → passes o ≡ false → HasCookie cookies o → SentOnly p
+other_front : (ms : Mappings) (g n cookies : ℕ) (p : Endpoint) (o : LocalAct) → LegalLocalAct ms g p o → passes o ≡ false → HasCookie cookies o → SentOnly p
     → (k c : ℕ) (x : Bool) → (is_busy (p.order_state k) ≡ true → is_wait (p.order k) ≡ false)
     → (k < p.orders → p.order k ≡ Wait c x → c < p.waits_end)
     → (k < p.orders → p.order k ≡ Wait c x → p.front ≤ c → (p.order_state k ≡ Queued) ⊎ ((p.order_state k ≡ Void) × (p.phase ≢ Open))) → k
@@ -150,71 +150,72 @@ other_front : (ms : Mappings) (g n cookies : ℕ) (p : Part) (o : Own) → Legal
     ⊎ (((own p n o).order_state k ≡ Void) × ((own p n o).phase ≢ Open))
 other_front ms g n cookies p o l np hc sent k c x nw below old made h f = grind (arith, nat_tests)
 
-other_passed : (ms : Mappings) (g n cookies : ℕ) (p : Part) (o : Own) → LegalOwn ms g p o → passes o ≡ false → HasCookie cookies o → SentOnly p
+other_passed : (ms : Mappings) (g n cookies : ℕ) (p : Endpoint) (o : LocalAct) → LegalLocalAct ms g p o → passes o ≡ false → HasCookie cookies o → SentOnly p
     → (k c : ℕ) (x : Bool) → (is_busy (p.order_state k) ≡ true → is_wait (p.order k) ≡ false) → p.waits_end ≤ cookies → p.front ≤ p.waits_end
     → (k < p.orders → p.order k ≡ Wait c x → p.front ≤ c → (p.order_state k ≡ Queued) ⊎ ((p.order_state k ≡ Void) × (p.phase ≢ Open)))
     → (k < p.orders → p.order k ≡ Wait c x → c < p.front → (p.order_state k ≡ Done) ⊎ (p.order_state k ≡ Void)) → k < (own p n o).orders
     → (own p n o).order k ≡ Wait c x → c < (own p n o).front → ((own p n o).order_state k ≡ Done) ⊎ ((own p n o).order_state k ≡ Void)
 other_passed ms g n cookies p o l np hc sent k c x nw given low at old made h f = grind (arith, nat_tests, at, old)
 
-at_front_kept : (ms : Mappings) (g n cookies : ℕ) (p : Part) (o : Own) (b : Bool) → passes o ≡ b → LegalOwn ms g p o → HasCookie cookies o
+at_front_kept : (ms : Mappings) (g n cookies : ℕ) (p : Endpoint) (o : LocalAct) (b : Bool) → passes o ≡ b → LegalLocalAct ms g p o → HasCookie cookies o
     → Bounds g p → SentOnly p → Orders p → Fronts cookies p → (k c : ℕ) (x : Bool) → k < (own p n o).orders → (own p n o).order k ≡ Wait c x
     → (own p n o).front ≤ c → ((own p n o).order_state k ≡ Queued) ⊎ (((own p n o).order_state k ≡ Void) × ((own p n o).phase ≢ Open))
 at_front_kept ms g n cookies p o false e l hc bo sent or f k c x =
     other_front ms g n cookies p o l e hc sent k c x (or.no_wait k) (f.below k c x) (f.at_front k c x)
-at_front_kept ms g n cookies p (Own.Pass j) true e l hc bo sent or f k c x =
+at_front_kept ms g n cookies p (LocalAct.Pass j) true e l hc bo sent or f k c x =
     let w = first_wait ms g n p j l bo (p.order j) refl l.2 in
     λ made h a. let is = w.2 in inl (pass_at cookies p j w.0 w.1 f w.3 k c x made h (omega (arith, is, a)))
 at_front_kept ms g n cookies p o true e l hc bo sent or f k c x = absurd (grind arith)
 
-passed_kept : (ms : Mappings) (g n cookies : ℕ) (p : Part) (o : Own) (b : Bool) → passes o ≡ b → LegalOwn ms g p o → HasCookie cookies o → Bounds g p
+passed_kept : (ms : Mappings) (g n cookies : ℕ) (p : Endpoint) (o : LocalAct) (b : Bool) → passes o ≡ b → LegalLocalAct ms g p o → HasCookie cookies o
+    → Bounds g p
     → SentOnly p → Orders p → Fronts cookies p → (k c : ℕ) (x : Bool) → k < (own p n o).orders → (own p n o).order k ≡ Wait c x → c
     < (own p n o).front → ((own p n o).order_state k ≡ Done) ⊎ ((own p n o).order_state k ≡ Void)
 passed_kept ms g n cookies p o false e l hc bo sent or f k c x =
     other_passed ms g n cookies p o l e hc sent k c x (or.no_wait k) f.given f.front_low (f.at_front k c x) (f.passed k c x)
-passed_kept ms g n cookies p (Own.Pass j) true e l hc bo sent or f k c x =
+passed_kept ms g n cookies p (LocalAct.Pass j) true e l hc bo sent or f k c x =
     let w = first_wait ms g n p j l bo (p.order j) refl l.2 in
     λ made h a. let is = w.2 in pass_below cookies p j w.0 w.1 f w.3 k c x made h (omega (arith, is, a))
 passed_kept ms g n cookies p o true e l hc bo sent or f k c x = absurd (grind arith)
 
 -- The end of the cookies is one more than the greatest.
 
-abbrev pub submits_wait : Own → Bool
-submits_wait (Own.Drain b cookie) = true
-submits_wait (Own.Invalidate b cookie) = true
+abbrev pub submits_wait : LocalAct → Bool
+submits_wait (LocalAct.Drain b cookie) = true
+submits_wait (LocalAct.Invalidate b cookie) = true
 submits_wait _ = false
 
-same_end : (p : Part) (n : ℕ) (o : Own) → submits_wait o ≡ false → (own p n o).waits_end ≡ p.waits_end
+same_end : (p : Endpoint) (n : ℕ) (o : LocalAct) → submits_wait o ≡ false → (own p n o).waits_end ≡ p.waits_end
 same_end p n o h = grind arith
 
-more_orders : (p : Part) (n : ℕ) (o : Own) → p.orders ≤ (own p n o).orders
+more_orders : (p : Endpoint) (n : ℕ) (o : LocalAct) → p.orders ≤ (own p n o).orders
 more_orders p n o = grind (arith, nat_tests)
 
-greatest_kept : (p : Part) (n : ℕ) (o : Own) (b : Bool) → submits_wait o ≡ b → HasGreatest p → HasGreatest (own p n o)
+greatest_kept : (p : Endpoint) (n : ℕ) (o : LocalAct) (b : Bool) → submits_wait o ≡ b → HasGreatest p → HasGreatest (own p n o)
 greatest_kept p n o false e (inl h) = inl (same_end p n o e ∙ h)
 greatest_kept p n o false e (inr (k, c, x, made, h, i)) = let m =
     more_orders p n o in inr (k, c, x, omega (arith, made, m), own_old p n o k made ∙ h, same_end p n o e ∙ i)
-greatest_kept p n (Own.Drain b cookie) true e h = inr (p.orders, cookie, true, omega arith, put-same p.order p.orders (Wait cookie true), refl)
-greatest_kept p n (Own.Invalidate b cookie) true e h =
+greatest_kept p n (LocalAct.Drain b cookie) true e h = inr (p.orders, cookie, true, omega arith, put-same p.order p.orders (Wait cookie true), refl)
+greatest_kept p n (LocalAct.Invalidate b cookie) true e h =
     inr (suc p.orders, cookie, false, omega arith, put-same (put p.order p.orders (PasidOf b)) (suc p.orders) (Wait cookie false), refl)
 greatest_kept p n o true e h = absurd (grind arith)
 
 -- no wait that a binding waits for is void at an open unit; what a Reset makes void was queued
-draining_kept : (ms : Mappings) (g n cookies : ℕ) (p : Part) (o : Own) → LegalOwn ms g p o → SentOnly p → (b w c : ℕ) (x : Bool)
+draining_kept : (ms : Mappings) (g n cookies : ℕ) (p : Endpoint) (o : LocalAct) → LegalLocalAct ms g p o → SentOnly p → (b w c : ℕ) (x : Bool)
     → (p.stage b ≡ Draining w → w < p.orders) → (p.stage b ≡ Draining w → p.phase ≡ Open → is_queued_or_done (p.order_state w) ≡ true)
     → (w < p.orders → p.order w ≡ Wait c x → c < p.front → (p.order_state w ≡ Done) ⊎ (p.order_state w ≡ Void))
     → (p.stage b ≡ Draining w → p.order w ≡ Wait c x → p.order_state w ≡ Void → p.front ≤ c) → (own p n o).stage b ≡ Draining w → (own p n o).order w
     ≡ Wait c x → (own p n o).order_state w ≡ Void → (own p n o).front ≤ c
 draining_kept ms g n cookies p o l sent b w c x made state passed old h i v = grind (arith, nat_tests)
 
-invalidating_kept : (ms : Mappings) (g n cookies : ℕ) (p : Part) (o : Own) → LegalOwn ms g p o → SentOnly p → (b k w c : ℕ) (x : Bool)
+invalidating_kept : (ms : Mappings) (g n cookies : ℕ) (p : Endpoint) (o : LocalAct) → LegalLocalAct ms g p o → SentOnly p → (b k w c : ℕ) (x : Bool)
     → (p.stage b ≡ Invalidating k w → w < p.orders) → (p.stage b ≡ Invalidating k w → p.phase ≡ Open → is_queued_or_done (p.order_state w) ≡ true)
     → (w < p.orders → p.order w ≡ Wait c x → c < p.front → (p.order_state w ≡ Done) ⊎ (p.order_state w ≡ Void))
     → (p.stage b ≡ Invalidating k w → p.order w ≡ Wait c x → p.order_state w ≡ Void → p.front ≤ c) → (own p n o).stage b ≡ Invalidating k w
     → (own p n o).order w ≡ Wait c x → (own p n o).order_state w ≡ Void → (own p n o).front ≤ c
 invalidating_kept ms g n cookies p o l sent b k w c x made state passed old h i v = grind (arith, nat_tests)
 
-pub every : (ms : Mappings) (g n cookies : ℕ) (p : Part) (o : Own) → LegalOwn ms g p o → HasCookie cookies o → Bounds g p → Labels p → Orders p
+pub every : (ms : Mappings) (g n cookies : ℕ) (p : Endpoint) (o : LocalAct) → LegalLocalAct ms g p o → HasCookie cookies o → Bounds g p → Labels p → Orders p
     → Fronts cookies p → Fronts (cookies + cookies_of o) (own p n o)
 every ms g n cookies p o l hc bo la or f =
     record {
@@ -232,7 +233,7 @@ every ms g n cookies p o l hc bo la or f =
     }
 
 -- more cookies given out to other units
-more_cookies : (n m : ℕ) (p : Part) → n ≤ m → Fronts n p → Fronts m p
+more_cookies : (n m : ℕ) (p : Endpoint) → n ≤ m → Fronts n p → Fronts m p
 more_cookies n m p l f =
     record {
       rise = f.rise;
@@ -248,7 +249,7 @@ more_cookies n m p l f =
     }
 
 -- the unit gets ranges and a wait with a cookie that is above all before
-submitted_fronts : (g m : ℕ) (p : Part) (b q count order cookie : ℕ) → p.waits_end ≤ cookie → cookie < m → Bounds g p → Orders p → Fronts cookie p
+submitted_fronts : (g m : ℕ) (p : Endpoint) (b q count order cookie : ℕ) → p.waits_end ≤ cookie → cookie < m → Bounds g p → Orders p → Fronts cookie p
     → Fronts m (submitted p b q count order cookie)
 submitted_fronts g m p b q count order cookie low high bo or f =
     record {
@@ -296,16 +297,16 @@ submitted_fronts g m p b q count order cookie low high bo or f =
 abbrev pub AllFronts : World → Type 0
 AllFronts w = (e : ℕ) → Fronts w.cookies (w.part e)
 
-unmapped_fronts : (g n m : ℕ) (t : Bool) (p : Part) (o : Option ℕ) (q count order cookie : ℕ) → n ≤ cookie → n ≤ m → (t ≡ true → cookie < m)
+unmapped_fronts : (g n m : ℕ) (t : Bool) (p : Endpoint) (o : Option ℕ) (q count order cookie : ℕ) → n ≤ cookie → n ≤ m → (t ≡ true → cookie < m)
     → Bounds g p → Orders p → Fronts n p → Fronts m (submitted_if t p o q count order cookie)
 unmapped_fronts g n m true p (Some b) q count order cookie low more high bo or f =
     submitted_fronts g m p b q count order cookie (let z = f.given in omega (arith, z, low)) (high refl) bo or (more_cookies n cookie p low f)
 unmapped_fronts g n m true p None q count order cookie low more high bo or f = more_cookies n m p more f
 unmapped_fronts g n m false p o q count order cookie low more high bo or f = more_cookies n m p more f
 
-suits_cookie : (w : World) (e : ℕ) (o : Own) → SuitsWorld w e o → HasCookie w.cookies o
-suits_cookie w e (Own.Drain b cookie) s = s
-suits_cookie w e (Own.Invalidate b cookie) s = s
+suits_cookie : (w : World) (e : ℕ) (o : LocalAct) → SuitsWorld w e o → HasCookie w.cookies o
+suits_cookie w e (LocalAct.Drain b cookie) s = s
+suits_cookie w e (LocalAct.Invalidate b cookie) s = s
 suits_cookie w e _ s = tt
 
 pub act_fronts : (w : World) (a : Act) → Legal w a → Invariant w → AllFronts w → AllFronts (act w a)
@@ -323,7 +324,7 @@ act_fronts w (NewBinding e) l i h = h
 act_fronts w (NewJob e g) l i h = h
 act_fronts w (Hold x j) l i h = h
 act_fronts w (LetGo x) l i h = h
-act_fronts w (At e o) l i h =
+act_fronts w (AtEndpoint e o) l i h =
     put_keeps (λ k p. Fronts (w.cookies + cookies_of o) p) w.part e (own (w.part e) w.messages o)
     (every w.mappings w.bindings w.messages w.cookies (w.part e) o l.1.0 (suits_cookie w e o l.1.1) (i.parts e).bounds (i.parts e).labels
     (i.parts e).orders (h e))

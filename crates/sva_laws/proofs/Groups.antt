@@ -4,19 +4,19 @@ use Rattle.std.proofs.Common.{◌≡◌, ◌≢◌, inr, refl, ap, sym, ◌∙�
 use Rattle.std.specs.Prelude.{Some, None}
 use Rattle.std.proofs.lemmas.Bool.Decides.{nat_tests}
 use Rattle.sva_model.specs.Message.{Code}
-use Rattle.sva_model.specs.State.{Mappings, Part, Stage, GroupState, HostGroupState}
+use Rattle.sva_model.specs.State.{Mappings, Endpoint, Stage, GroupState, HostGroupState}
 use Rattle.sva_model.specs.State.Stage.{Unbound, Draining}
 use Rattle.sva_model.specs.State.PasidState.{Off}
 use Rattle.sva_model.specs.State.PageRequestState.{Arrived, Filed}
-use Rattle.sva_model.specs.State.GroupState.{Unfinished, Awaiting, Finished}
+use Rattle.sva_model.specs.State.GroupState.{Collecting, Awaiting, Closed}
 use Rattle.sva_model.specs.State.HostGroupState.{NotFiled, InHand, Replied, InHandDiscarded}
 use Rattle.sva_model.specs.State.OrderState.{Done}
-use Rattle.sva_model.specs.State.About.{ResetOrder, PageRequestOf, ResponseOf, MarkerOf, ResetDone}
+use Rattle.sva_model.specs.State.Subject.{FunctionReset, PageRequestOf, ResponseOf, MarkerOf, ResetDone}
 use Rattle.sva_model.specs.State.Phase.{Open, Cleared}
 use Rattle.sva_model.specs.States.{is_outstanding, is_open, is_open_group, is_before_invalidating, is_off, drains}
-use Rattle.sva_model.specs.Acts.{own, Own}
+use Rattle.sva_model.specs.Acts.{own, LocalAct}
 use Rattle.sva_laws.specs.Laws.{is_answerable}
-use Rattle.sva_laws.proofs.Legal.{LegalOwn}
+use Rattle.sva_laws.proofs.Legal.{LegalLocalAct}
 use Rattle.sva_laws.proofs.Resets.{Resets}
 use Rattle.sva_laws.proofs.Bounds.{Bounds}
 use Rattle.sva_laws.proofs.Bindings.{Bindings, is_unmarked}
@@ -28,7 +28,7 @@ is_filed_group NotFiled = false
 is_filed_group _ = true
 
 abbrev pub is_alive_group : GroupState → Bool
-is_alive_group Unfinished = true
+is_alive_group Collecting = true
 is_alive_group Awaiting = true
 is_alive_group _ = false
 
@@ -36,7 +36,7 @@ abbrev pub times_replied : HostGroupState → ℕ
 times_replied Replied = 1
 times_replied _ = 0
 
-pub record Groups (p : Part) : Type 0 where
+pub record Groups (p : Endpoint) : Type 0 where
   pub index_bears : (i x : ℕ) → p.at_index i ≡ Some x → (p.index x ≡ i) × (is_outstanding (p.group x) ≡ true)
   pub bears_index : (x : ℕ) → is_outstanding (p.group x) ≡ true → p.at_index (p.index x) ≡ Some x
   pub index_low : (i x : ℕ) → p.at_index i ≡ Some x → i < 32
@@ -58,54 +58,54 @@ pub record Groups (p : Part) : Type 0 where
   pub arrived_stage : (r : ℕ) → p.page_request r ≡ Arrived → is_before_invalidating (p.stage (p.asker (p.group_of r))) ≡ true
   pub arrived_wait : (r w : ℕ) → p.page_request r ≡ Arrived → p.stage (p.asker (p.group_of r)) ≡ Draining w → p.order_state w ≢ Done
 
-index_bears_kept : (ms : Mappings) (g n : ℕ) (p : Part) (o : Own) → LegalOwn ms g p o → (i x : ℕ)
+index_bears_kept : (ms : Mappings) (g n : ℕ) (p : Endpoint) (o : LocalAct) → LegalLocalAct ms g p o → (i x : ℕ)
     → (p.at_index i ≡ Some x → (p.index x ≡ i) × (is_outstanding (p.group x) ≡ true)) → (is_outstanding (p.group x) ≡ true → x < p.groups)
     → (own p n o).at_index i ≡ Some x → ((own p n o).index x ≡ i) × (is_outstanding ((own p n o).group x) ≡ true)
 index_bears_kept ms g n p o l i x old made h = grind (arith, nat_tests)
 
-bears_index_kept : (ms : Mappings) (g n : ℕ) (p : Part) (o : Own) → LegalOwn ms g p o
+bears_index_kept : (ms : Mappings) (g n : ℕ) (p : Endpoint) (o : LocalAct) → LegalLocalAct ms g p o
     → ((c x : ℕ) (code : Code) → p.message c ≡ Some (ResponseOf x code) → is_outstanding (p.group x) ≡ true) → (x : ℕ)
     → ((i y : ℕ) → p.at_index i ≡ Some y → p.index y ≡ i) → ((y : ℕ) → is_outstanding (p.group y) ≡ true → p.at_index (p.index y) ≡ Some y)
     → (is_outstanding (p.group x) ≡ true → x < p.groups) → is_outstanding ((own p n o).group x) ≡ true → (own p n o).at_index ((own p n o).index x) ≡ Some x
 bears_index_kept ms g n p o l rs x ib old made h = grind (arith, nat_tests, old x)
 
-index_low_kept : (ms : Mappings) (g n : ℕ) (p : Part) (o : Own) → LegalOwn ms g p o → (i x : ℕ) → (p.at_index i ≡ Some x → i < 32)
+index_low_kept : (ms : Mappings) (g n : ℕ) (p : Endpoint) (o : LocalAct) → LegalLocalAct ms g p o → (i x : ℕ) → (p.at_index i ≡ Some x → i < 32)
     → (own p n o).at_index i ≡ Some x → i < 32
 index_low_kept ms g n p o l i x old h = grind (arith, nat_tests)
 
-first_kept : (ms : Mappings) (g n : ℕ) (p : Part) (o : Own) → LegalOwn ms g p o → (x : ℕ)
+first_kept : (ms : Mappings) (g n : ℕ) (p : Endpoint) (o : LocalAct) → LegalLocalAct ms g p o → (x : ℕ)
     → (x < p.groups → (p.first_request x < p.page_requests) × (p.group_of (p.first_request x) ≡ x)) → x < (own p n o).groups
     → ((own p n o).first_request x < (own p n o).page_requests) × ((own p n o).group_of ((own p n o).first_request x) ≡ x)
 first_kept ms g n p o l x old h = grind (arith, nat_tests)
 
-asker_bound_kept : (ms : Mappings) (g n : ℕ) (p : Part) (o : Own) → LegalOwn ms g p o
+asker_bound_kept : (ms : Mappings) (g n : ℕ) (p : Endpoint) (o : LocalAct) → LegalLocalAct ms g p o
     → ((b : ℕ) → is_off (p.pasid_state b) ≡ false → is_unmarked (p.stage b) ≡ true) → (x : ℕ) → (x < p.groups → p.stage (p.asker x) ≢ Unbound) → x
     < (own p n o).groups → (own p n o).stage ((own p n o).asker x) ≢ Unbound
 asker_bound_kept ms g n p o l on x old h = grind (arith, nat_tests)
 
-alive_kept : (ms : Mappings) (g n : ℕ) (p : Part) (o : Own) → LegalOwn ms g p o → (x : ℕ) → (is_alive_group (p.group x) ≡ true → x < p.groups)
+alive_kept : (ms : Mappings) (g n : ℕ) (p : Endpoint) (o : LocalAct) → LegalLocalAct ms g p o → (x : ℕ) → (is_alive_group (p.group x) ≡ true → x < p.groups)
     → (is_alive_group (p.group x) ≡ true → is_off (p.pasid_state (p.asker x)) ≡ false) → is_alive_group ((own p n o).group x) ≡ true
     → is_off ((own p n o).pasid_state ((own p n o).asker x)) ≡ false
 alive_kept ms g n p o l x made old h = grind (arith, nat_tests)
 
-under_kept : (ms : Mappings) (g n : ℕ) (p : Part) (o : Own) → LegalOwn ms g p o → (x : ℕ)
+under_kept : (ms : Mappings) (g n : ℕ) (p : Endpoint) (o : LocalAct) → LegalLocalAct ms g p o → (x : ℕ)
     → ((r : ℕ) → p.page_request r ≡ Arrived → p.group_of r < p.groups) → (is_filed_group (p.host_group x) ≡ true → x < p.groups)
     → (is_filed_group (p.host_group x) ≡ true → p.filed_under x ≡ p.asker x) → is_filed_group ((own p n o).host_group x) ≡ true
     → (own p n o).filed_under x ≡ (own p n o).asker x
 under_kept ms g n p o l x ar made old h = grind (arith, nat_tests)
 
-filed_kept : (ms : Mappings) (g n : ℕ) (p : Part) (o : Own) → LegalOwn ms g p o → (r : ℕ) → (p.page_request r ≡ Arrived → r < p.page_requests)
+filed_kept : (ms : Mappings) (g n : ℕ) (p : Endpoint) (o : LocalAct) → LegalLocalAct ms g p o → (r : ℕ) → (p.page_request r ≡ Arrived → r < p.page_requests)
     → (r < p.page_requests → p.group_of r < p.groups)
     → (p.page_request r ≡ Filed → (is_filed_group (p.host_group (p.group_of r)) ≡ true) × (r < p.page_requests)) → (own p n o).page_request r ≡ Filed
     → (is_filed_group ((own p n o).host_group ((own p n o).group_of r)) ≡ true) × (r < (own p n o).page_requests)
 filed_kept ms g n p o l r ar bo old h = grind (arith, nat_tests)
 
-responses_kept : (ms : Mappings) (g n : ℕ) (p : Part) (o : Own) → LegalOwn ms g p o → (x : ℕ)
+responses_kept : (ms : Mappings) (g n : ℕ) (p : Endpoint) (o : LocalAct) → LegalLocalAct ms g p o → (x : ℕ)
     → (is_whole (p.host_group x) ≡ true → (r : ℕ) → p.group_of r ≡ x → p.page_request r ≢ Arrived) → p.responses x ≡ times_replied (p.host_group x)
     → (own p n o).responses x ≡ times_replied ((own p n o).host_group x)
 responses_kept ms g n p o l x wh old = grind (arith, nat_tests)
 
-flight_stage_kept : (ms : Mappings) (g n : ℕ) (p : Part) (o : Own) → LegalOwn ms g p o
+flight_stage_kept : (ms : Mappings) (g n : ℕ) (p : Endpoint) (o : LocalAct) → LegalLocalAct ms g p o
     → ((b : ℕ) → is_off (p.pasid_state b) ≡ false → is_unmarked (p.stage b) ≡ true) → (c r : ℕ) → (n ≤ c → p.message c ≡ None)
     → (p.message c ≡ Some (PageRequestOf r) → r < p.page_requests) → (r < p.page_requests → p.group_of r < p.groups)
     → ((d b : ℕ) → p.message d ≡ Some (MarkerOf b) → p.message c ≡ Some (PageRequestOf r) → p.asker (p.group_of r) ≡ b → c < d)
@@ -114,14 +114,14 @@ flight_stage_kept : (ms : Mappings) (g n : ℕ) (p : Part) (o : Own) → LegalOw
     → (own p n o).message c ≡ Some (PageRequestOf r) → is_unmarked ((own p n o).stage ((own p n o).asker ((own p n o).group_of r))) ≡ true
 flight_stage_kept ms g n p o l on c r un made bo ma rd old h i = grind (arith, nat_tests)
 
-marker_after_kept : (ms : Mappings) (g n : ℕ) (p : Part) (o : Own) → LegalOwn ms g p o → (c d b r : ℕ) → (n ≤ c → p.message c ≡ None)
+marker_after_kept : (ms : Mappings) (g n : ℕ) (p : Endpoint) (o : LocalAct) → LegalLocalAct ms g p o → (c d b r : ℕ) → (n ≤ c → p.message c ≡ None)
     → (n ≤ d → p.message d ≡ None) → (p.message d ≡ Some (PageRequestOf r) → r < p.page_requests) → (r < p.page_requests → p.group_of r < p.groups)
     → (p.message c ≡ Some (MarkerOf b) → p.pasid_state b ≡ Off)
     → (p.message c ≡ Some (MarkerOf b) → p.message d ≡ Some (PageRequestOf r) → p.asker (p.group_of r) ≡ b → d < c) → (own p n o).message c
     ≡ Some (MarkerOf b) → (own p n o).message d ≡ Some (PageRequestOf r) → (own p n o).asker ((own p n o).group_of r) ≡ b → d < c
 marker_after_kept ms g n p o l c d b r uc ud made bo off old h i e = grind (arith, nat_tests)
 
-arrived_stage_kept : (ms : Mappings) (g n : ℕ) (p : Part) (o : Own) → LegalOwn ms g p o → (r : ℕ)
+arrived_stage_kept : (ms : Mappings) (g n : ℕ) (p : Endpoint) (o : LocalAct) → LegalLocalAct ms g p o → (r : ℕ)
     → ((c : ℕ) → p.phase ≡ Open → p.message c ≡ Some (PageRequestOf r) → is_unmarked (p.stage (p.asker (p.group_of r))) ≡ true)
     → (p.page_request r ≡ Arrived → r < p.page_requests) → ((c : ℕ) → p.message c ≡ Some (PageRequestOf r) → r < p.page_requests)
     → (r < p.page_requests → p.group_of r < p.groups) → ((c : ℕ) → p.message c ≡ Some ResetDone → p.page_request r ≢ Arrived)
@@ -130,7 +130,7 @@ arrived_stage_kept : (ms : Mappings) (g n : ℕ) (p : Part) (o : Own) → LegalO
     ≡ Arrived → is_before_invalidating ((own p n o).stage ((own p n o).asker ((own p n o).group_of r))) ≡ true
 arrived_stage_kept ms g n p o l r fl made mm bo rd old wt h = grind (arith, nat_tests)
 
-arrived_wait_kept : (ms : Mappings) (g n : ℕ) (p : Part) (o : Own) → LegalOwn ms g p o → (r w : ℕ)
+arrived_wait_kept : (ms : Mappings) (g n : ℕ) (p : Endpoint) (o : LocalAct) → LegalLocalAct ms g p o → (r w : ℕ)
     → ((c : ℕ) → p.phase ≡ Open → p.message c ≡ Some (PageRequestOf r) → is_unmarked (p.stage (p.asker (p.group_of r))) ≡ true)
     → (p.page_request r ≡ Arrived → r < p.page_requests) → ((c : ℕ) → p.message c ≡ Some (PageRequestOf r) → r < p.page_requests)
     → (r < p.page_requests → p.group_of r < p.groups) → ((c : ℕ) → p.message c ≡ Some ResetDone → p.page_request r ≢ Arrived)
@@ -140,7 +140,7 @@ arrived_wait_kept : (ms : Mappings) (g n : ℕ) (p : Part) (o : Own) → LegalOw
     → (own p n o).stage ((own p n o).asker ((own p n o).group_of r)) ≡ Draining w → (own p n o).order_state w ≢ Done
 arrived_wait_kept ms g n p o l r w fl made mm bo rd dr old h i = grind (arith, nat_tests)
 
-open_group_kept : (ms : Mappings) (g n : ℕ) (p : Part) (o : Own) → LegalOwn ms g p o
+open_group_kept : (ms : Mappings) (g n : ℕ) (p : Endpoint) (o : LocalAct) → LegalLocalAct ms g p o
     → ((c x : ℕ) (code : Code) → p.message c ≡ Some (ResponseOf x code) → p.host_group x ≡ Replied)
     → ((r : ℕ) → p.phase ≡ Open → p.page_request r ≡ Arrived → (is_outstanding (p.group (p.group_of r)) ≡ true)
     × (is_before_invalidating (p.stage (p.asker (p.group_of r))) ≡ true)) → ((c : ℕ) → p.message c ≡ Some ResetDone → is_open p.phase ≡ false)
@@ -150,18 +150,18 @@ open_group_kept : (ms : Mappings) (g n : ℕ) (p : Part) (o : Own) → LegalOwn 
     → (is_outstanding ((own p n o).group x) ≡ true) × (is_before_invalidating ((own p n o).stage ((own p n o).filed_under x)) ≡ true)
 open_group_kept ms g n p o l rs ar cl x uf made old h i = grind (arith, nat_tests)
 
-discarded_kept : (ms : Mappings) (g n : ℕ) (p : Part) (o : Own) → LegalOwn ms g p o → (x w : ℕ)
+discarded_kept : (ms : Mappings) (g n : ℕ) (p : Endpoint) (o : LocalAct) → LegalLocalAct ms g p o → (x w : ℕ)
     → (p.host_group x ≡ InHandDiscarded w → p.stage (p.filed_under x) ≢ Unbound)
     → (is_whole (p.host_group x) ≡ true → (r : ℕ) → p.group_of r ≡ x → p.page_request r ≢ Arrived)
     → (p.phase ≡ Open → p.host_group x ≡ InHandDiscarded w → is_active (p.stage (p.filed_under x)) ≡ false) → (own p n o).phase ≡ Open
     → (own p n o).host_group x ≡ InHandDiscarded w → is_active ((own p n o).stage ((own p n o).filed_under x)) ≡ false
 discarded_kept ms g n p o l x w bound wh old h i = grind (arith, nat_tests)
 
-response_kept : (ms : Mappings) (g n : ℕ) (p : Part) (o : Own) → LegalOwn ms g p o → (c x : ℕ) (code : Code) → (n ≤ c → p.message c ≡ None)
+response_kept : (ms : Mappings) (g n : ℕ) (p : Endpoint) (o : LocalAct) → LegalLocalAct ms g p o → (c x : ℕ) (code : Code) → (n ≤ c → p.message c ≡ None)
     → (p.message c ≡ Some (ResponseOf x code) → x < p.groups) → ((r : ℕ) → p.host_group (p.group_of r) ≡ Replied → p.page_request r ≢ Arrived)
     → ((w : ℕ) → p.phase ≡ Open → p.host_group x ≡ InHand w → is_answerable (p.group x) ≡ true)
     → ((w : ℕ) → p.phase ≡ Open → p.host_group x ≡ InHandDiscarded w → is_before_invalidating (p.stage (p.filed_under x)) ≡ false)
-    → ((d : ℕ) → p.message d ≡ Some ResetOrder → p.message c ≡ Some (ResponseOf x code) → c < d)
+    → ((d : ℕ) → p.message d ≡ Some FunctionReset → p.message c ≡ Some (ResponseOf x code) → c < d)
     → ((d : ℕ) (code' : Code) → p.message d ≡ Some (ResponseOf x code') → p.response_message x ≡ d)
     → (p.message c ≡ Some (ResponseOf x code) → (is_answerable (p.group x) ≡ true) × (p.host_group x ≡ Replied) × (p.response_message x ≡ c))
     → (own p n o).message c ≡ Some (ResponseOf x code) → (is_answerable ((own p n o).group x) ≡ true) × ((own p n o).host_group x ≡ Replied)
@@ -170,40 +170,40 @@ response_kept ms g n p o l c x code un made wh ih hj rd on old h = grind (arith,
 
 -- what the others say, in the words of the clauses above
 
-unmarked_on : (p : Part) → Bindings p → (b : ℕ) → is_off (p.pasid_state b) ≡ false → is_unmarked (p.stage b) ≡ true
+unmarked_on : (p : Endpoint) → Bindings p → (b : ℕ) → is_off (p.pasid_state b) ≡ false → is_unmarked (p.stage b) ≡ true
 unmarked_on p bi b h = grind (arith, bi.on_stage b, bi.ending_stage b)
 
-outstanding_made : (g : ℕ) (p : Part) → Bounds g p → (x : ℕ) → is_outstanding (p.group x) ≡ true → x < p.groups
+outstanding_made : (g : ℕ) (p : Endpoint) → Bounds g p → (x : ℕ) → is_outstanding (p.group x) ≡ true → x < p.groups
 outstanding_made g p bo x h = grind (arith, bo.group x)
 
-alive_made : (g : ℕ) (p : Part) → Bounds g p → (x : ℕ) → is_alive_group (p.group x) ≡ true → x < p.groups
+alive_made : (g : ℕ) (p : Endpoint) → Bounds g p → (x : ℕ) → is_alive_group (p.group x) ≡ true → x < p.groups
 alive_made g p bo x h = grind (arith, bo.group x)
 
-filed_made : (g : ℕ) (p : Part) → Bounds g p → (x : ℕ) → is_filed_group (p.host_group x) ≡ true → x < p.groups
+filed_made : (g : ℕ) (p : Endpoint) → Bounds g p → (x : ℕ) → is_filed_group (p.host_group x) ≡ true → x < p.groups
 filed_made g p bo x h = grind (arith, bo.host_group x)
 
-open_made : (g : ℕ) (p : Part) → Bounds g p → (x : ℕ) → is_open_group (p.host_group x) ≡ true → x < p.groups
+open_made : (g : ℕ) (p : Endpoint) → Bounds g p → (x : ℕ) → is_open_group (p.host_group x) ≡ true → x < p.groups
 open_made g p bo x h = grind (arith, bo.host_group x)
 
-request_made : (g : ℕ) (p : Part) → Bounds g p → (r : ℕ) → p.page_request r ≡ Arrived → r < p.page_requests
+request_made : (g : ℕ) (p : Endpoint) → Bounds g p → (r : ℕ) → p.page_request r ≡ Arrived → r < p.page_requests
 request_made g p bo r h = grind (arith, bo.page_request r)
 
 answerable_outstanding : (s : GroupState) → is_answerable s ≡ true → is_outstanding s ≡ true
 answerable_outstanding s h = grind arith
 
 -- of a group that is whole, no request is still to be filed
-pub whole_filed : (g : ℕ) (p : Part) → Bounds g p → Lasts p → (x : ℕ) → is_whole (p.host_group x) ≡ true → (r : ℕ) → p.group_of r ≡ x
+pub whole_filed : (g : ℕ) (p : Endpoint) → Bounds g p → Lasts p → (x : ℕ) → is_whole (p.host_group x) ≡ true → (r : ℕ) → p.group_of r ≡ x
     → p.page_request r ≢ Arrived
 whole_filed g p bo la x h r e a =
     let w : is_whole (p.host_group (p.group_of r)) ≡ true = ap (λ y. is_whole (p.host_group y)) e ∙ h in
     let f = la.whole r w (request_made g p bo r a) in
     absurd (cc)
 
-replied_filed : (g : ℕ) (p : Part) → Bounds g p → Lasts p → (r : ℕ) → p.host_group (p.group_of r) ≡ Replied → p.page_request r ≢ Arrived
+replied_filed : (g : ℕ) (p : Endpoint) → Bounds g p → Lasts p → (r : ℕ) → p.host_group (p.group_of r) ≡ Replied → p.page_request r ≢ Arrived
 replied_filed g p bo la r h = whole_filed g p bo la (p.group_of r) (ap is_whole h) r refl
 
 -- the group of a job in hand awaits its response
-in_hand_answerable : (p : Part) → Lasts p → Groups p → (x w : ℕ) → p.phase ≡ Open → p.host_group x ≡ InHand w → is_answerable (p.group x) ≡ true
+in_hand_answerable : (p : Endpoint) → Lasts p → Groups p → (x w : ℕ) → p.phase ≡ Open → p.host_group x ≡ InHand w → is_answerable (p.group x) ≡ true
 in_hand_answerable p la gr x w ph h =
     let u = la.whole_group x (ap is_whole h) in
     let o = gr.open_group x ph (ap is_open_group h) in
@@ -212,52 +212,53 @@ in_hand_answerable p la gr x w ph h =
 not_active : (s : Stage) → is_active s ≡ false → is_before_invalidating s ≡ false
 not_active s h = grind arith
 
-pub has_job : (p : Part) → Groups p → HasJob p
+pub has_job : (p : Endpoint) → Groups p → HasJob p
 has_job p gr x w ph h = not_active (p.stage (p.filed_under x)) (gr.discarded x w ph h)
 
-pub response_whole : (p : Part) → Groups p → (c x : ℕ) (code : Code) → p.message c ≡ Some (ResponseOf x code) → is_whole (p.host_group x) ≡ true
+pub response_whole : (p : Endpoint) → Groups p → (c x : ℕ) (code : Code) → p.message c ≡ Some (ResponseOf x code) → is_whole (p.host_group x) ≡ true
 response_whole p gr c x code h = ap is_whole (gr.response c x code h).1
 
-discarded_bound : (g : ℕ) (p : Part) → Bounds g p → Groups p → (x w : ℕ) → p.host_group x ≡ InHandDiscarded w → p.stage (p.filed_under x) ≢ Unbound
+discarded_bound : (g : ℕ) (p : Endpoint) → Bounds g p → Groups p → (x w : ℕ) → p.host_group x ≡ InHandDiscarded w → p.stage (p.filed_under x) ≢ Unbound
 discarded_bound g p bo gr x w h u =
     let f : is_filed_group (p.host_group x) ≡ true = ap is_filed_group h in
     gr.asker_bound x (filed_made g p bo x f) (ap p.stage (sym (gr.under x f)) ∙ u)
 
-reset_closed : (n : ℕ) (p : Part) → Resets n p → (c : ℕ) → p.message c ≡ Some ResetDone → is_open p.phase ≡ false
+reset_closed : (n : ℕ) (p : Endpoint) → Resets n p → (c : ℕ) → p.message c ≡ Some ResetDone → is_open p.phase ≡ false
 reset_closed n p re c h = ap is_open (re.up c h)
 
-response_older : (n : ℕ) (p : Part) → Resets n p → (c x : ℕ) (code : Code) (d : ℕ) → p.message d ≡ Some ResetOrder → p.message c
+response_older : (n : ℕ) (p : Endpoint) → Resets n p → (c x : ℕ) (code : Code) (d : ℕ) → p.message d ≡ Some FunctionReset → p.message c
     ≡ Some (ResponseOf x code) → c < d
 response_older n p re c x code d h i = re.response_before d c x code (re.down d h) i
 
-flight_older : (n : ℕ) (p : Part) → Resets n p → (c r d : ℕ) → p.message d ≡ Some ResetDone → p.message c ≡ Some (PageRequestOf r) → c < d
+flight_older : (n : ℕ) (p : Endpoint) → Resets n p → (c r d : ℕ) → p.message d ≡ Some ResetDone → p.message c ≡ Some (PageRequestOf r) → c < d
 flight_older n p re c r d h i = let o = re.older d c (PageRequestOf r) (re.up d h) i in not_same c d o (λ e. absurd (cc))
   where
     not_same : (c d : ℕ) → c ≤ d → c ≢ d → c < d
     not_same c d a b = omega arith
 
-none_arrived : (n : ℕ) (p : Part) → Resets n p → (r c : ℕ) → p.message c ≡ Some ResetDone → p.page_request r ≢ Arrived
+none_arrived : (n : ℕ) (p : Endpoint) → Resets n p → (r c : ℕ) → p.message c ≡ Some ResetDone → p.page_request r ≢ Arrived
 none_arrived n p re r c h = re.unarrived r (reset_closed n p re c h)
 
-arrived_group : (p : Part) → Lasts p → Groups p → (r : ℕ) → p.phase ≡ Open → p.page_request r ≡ Arrived
+arrived_group : (p : Endpoint) → Lasts p → Groups p → (r : ℕ) → p.phase ≡ Open → p.page_request r ≡ Arrived
     → (is_outstanding (p.group (p.group_of r)) ≡ true) × (is_before_invalidating (p.stage (p.asker (p.group_of r))) ≡ true)
 arrived_group p la gr r ph h = (la.out r ph (inr h), gr.arrived_stage r h)
 
-drain_order : (p : Part) → Orders p → (b w : ℕ) → p.stage b ≡ Draining w → (drains (p.order w) ≡ true) × (w < p.orders)
+drain_order : (p : Endpoint) → Orders p → (b w : ℕ) → p.stage b ≡ Draining w → (drains (p.order w) ≡ true) × (w < p.orders)
     × (p.phase ≡ Open → is_queued_or_done (p.order_state w) ≡ true)
 drain_order p or b w h = let d = or.draining b w h in (d.0, d.1, or.draining_state b w h)
 
-discarded_over_kept : (ms : Mappings) (g n : ℕ) (p : Part) (o : Own) → LegalOwn ms g p o → (x w : ℕ)
-    → ((c : ℕ) → p.message c ≡ Some ResetDone → p.phase ≡ Cleared c) → ((c y : ℕ) → p.phase ≡ Cleared c → p.group y ≡ Finished)
+discarded_over_kept : (ms : Mappings) (g n : ℕ) (p : Endpoint) (o : LocalAct) → LegalLocalAct ms g p o → (x w : ℕ)
+    → ((c : ℕ) → p.message c ≡ Some ResetDone → p.phase ≡ Cleared c) → ((c y : ℕ) → p.phase ≡ Cleared c → p.group y ≡ Closed)
     → (p.host_group x ≡ InHandDiscarded w → x < p.groups)
     → (p.phase ≡ Open → p.host_group x ≡ InHandDiscarded w → is_outstanding (p.group x) ≡ false) → (own p n o).phase ≡ Open
     → (own p n o).host_group x ≡ InHandDiscarded w → is_outstanding ((own p n o).group x) ≡ false
 discarded_over_kept ms g n p o l x w up fin made old h i = grind (arith, nat_tests)
 
-discarded_made : (g : ℕ) (p : Part) → Bounds g p → (x w : ℕ) → p.host_group x ≡ InHandDiscarded w → x < p.groups
+discarded_made : (g : ℕ) (p : Endpoint) → Bounds g p → (x w : ℕ) → p.host_group x ≡ InHandDiscarded w → x < p.groups
 discarded_made g p bo x w h = grind (arith, bo.host_group x)
 
-pub every : (ms : Mappings) (g n : ℕ) (p : Part) (o : Own) → LegalOwn ms g p o → Resets n p → Bounds g p → Bindings p → Orders p → Queued p → Lasts p
+pub every : (ms : Mappings) (g n : ℕ) (p : Endpoint) (o : LocalAct) → LegalLocalAct ms g p o → Resets n p → Bounds g p → Bindings p → Orders p → Queued p
+    → Lasts p
     → Groups p → Groups (own p n o)
 every ms g n p o l re bo bi or qu la gr =
     record {

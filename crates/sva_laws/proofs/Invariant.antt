@@ -1,15 +1,15 @@
 -- What holds after every list of steps, family by family: of each endpoint with its unit, and of the mappings.
 use Rattle.std.proofs.Common.{◌≡◌, ◌≢◌, ◌⊎◌, ℕ, ◌+◌, ◌<◌, ◌≤◌, true, arith}
 use Rattle.std.specs.Prelude.{Some}
-use Rattle.sva_model.specs.State.{Owed, Mappings, Part, HostGroupState, World}
+use Rattle.sva_model.specs.State.{Owed, Mappings, Endpoint, HostGroupState, World}
 use Rattle.sva_model.specs.State.PasidRule.{PerSpace}
 use Rattle.sva_model.specs.State.MappingState.{Unmade, Present, Gone}
 use Rattle.sva_model.specs.State.HostGroupState.{InHand, InHandDiscarded}
 use Rattle.sva_model.specs.State.Stage.{Unbound}
 use Rattle.sva_model.specs.Words.{is_some}
 use Rattle.sva_model.specs.States.{is_unreleased, answered}
-use Rattle.sva_model.specs.Acts.{own, sends, Own}
-use Rattle.sva_laws.proofs.Legal.{LegalOwn}
+use Rattle.sva_model.specs.Acts.{own, sends, LocalAct}
+use Rattle.sva_laws.proofs.Legal.{LegalLocalAct}
 use Rattle.sva_laws.proofs.Resets
 use Rattle.sva_laws.proofs.Bounds
 use Rattle.sva_laws.proofs.Bindings
@@ -22,7 +22,7 @@ use Rattle.sva_laws.proofs.PageRequests
 use Rattle.sva_laws.proofs.Groups
 use Rattle.sva_laws.proofs.Shared.{Shared}
 
-pub record PartInvariant (ms : Mappings) (endpoints g n e : ℕ) (p : Part) : Type 0 where
+pub record PartInvariant (ms : Mappings) (endpoints g n e : ℕ) (p : Endpoint) : Type 0 where
   pub there : (b : ℕ) → p.stage b ≢ Unbound → e < endpoints
   pub near : (c : ℕ) → is_some (p.message c) ≡ true → e < endpoints
   pub resets : Resets.Resets n p
@@ -67,7 +67,7 @@ pub record Invariant (w : World) : Type 0 where
   pub parts : (e : ℕ) → PartInvariant w.mappings w.config.endpoints w.bindings w.messages e (w.part e)
   pub shared : w.rule ≡ PerSpace → Shared w.part
   -- a binding is at its own endpoint alone
-  pub homed : (e b : ℕ) → (w.part e).stage b ≢ Unbound → w.home b ≡ e
+  pub homed : (e b : ℕ) → (w.part e).stage b ≢ Unbound → w.endpoint_of b ≡ e
 
 -- what the mappings say to an endpoint's act
 pub leads : (w : World) → Mapped w → Owners.Leads w.mappings
@@ -80,7 +80,7 @@ pub presents : (w : World) → Mapped w → (s q m : ℕ) → w.mappings.at s q 
 presents w ma s q m h = (ma.at_present s q m h).0
 
 -- an act of an endpoint keeps what holds of it
-pub own_keeps : (ms : Mappings) (x g n e : ℕ) (p : Part) (o : Own) → e < x → LegalOwn ms g p o → Owners.Leads ms
+pub own_keeps : (ms : Mappings) (x g n e : ℕ) (p : Endpoint) (o : LocalAct) → e < x → LegalLocalAct ms g p o → Owners.Leads ms
     → ((s q m : ℕ) → ms.at s q ≡ Some m → ms.state m ≡ Present) → PartInvariant ms x g n e p → PartInvariant ms x g (n + sends o) e (own p n o)
 own_keeps ms x g n e p o h l le pr i =
     record {

@@ -9,17 +9,17 @@ use Rattle.sva_step.specs.declared.steps.Step.TheVariants as step
 use Rattle.sva_step.specs.declared.steps.Verdict.{Verdict}
 use Rattle.sva_model.specs.Words.{put, the, lowest, is_some}
 use Rattle.sva_model.specs.Message.{Code}
-use Rattle.sva_model.specs.State.{Part, World, Stage, Order, About, RequestState, HostGroupState, opened}
+use Rattle.sva_model.specs.State.{Endpoint, World, Stage, Order, Subject, RequestState, HostGroupState, opened}
 use Rattle.sva_model.specs.State.Phase.{Open}
 use Rattle.sva_model.specs.State.PageRequestState.{Arrived}
 use Rattle.sva_model.specs.State.HostGroupState.{NotFiled, PartFiled, Job, InHand, Replied, Discarded, InHandDiscarded}
 use Rattle.sva_model.specs.State.Stage.{Unbound, Live, Stopping, Draining, Invalidating, Quiet, Lost, Released}
 use Rattle.sva_model.specs.State.Order.{RangeOf, PasidOf, Wait}
 use Rattle.sva_model.specs.State.RequestState.{Out, Doomed, Over}
-use Rattle.sva_model.specs.State.About.{StartOf, StopOf, ResetOrder, CompletionOf, InvalidateOf, ResponseOf, RequestOf, InvalidatedOf, PageRequestOf}
-use Rattle.sva_model.specs.State.About.{MarkerOf, ResetDone}
-use Rattle.sva_model.specs.Acts.{Act, Own, act, own, submitted_if, submits, bound, cookie_of, filed_as}
-use Rattle.sva_model.specs.Acts.Act.{NewSpace, DropSpace, Map, Unmap, NewBinding, NewJob, Hold, LetGo, At}
+use Rattle.sva_model.specs.State.Subject.{StartOf, StopOf, FunctionReset, CompletionOf, InvalidateOf, ResponseOf, RequestOf, InvalidatedOf, PageRequestOf}
+use Rattle.sva_model.specs.State.Subject.{MarkerOf, ResetDone}
+use Rattle.sva_model.specs.Acts.{Act, LocalAct, act, own, submitted_if, submits, bound, cookie_of, filed_as}
+use Rattle.sva_model.specs.Acts.Act.{NewSpace, DropSpace, Map, Unmap, NewBinding, NewJob, Hold, LetGo, AtEndpoint}
 use Rattle.sva_model.specs.Labels
 use Rattle.sva_model.specs.Refusals.{Cause, refusals}
 use Rattle.sva_model.specs.Replies.{maps_to, reply_maps, replies_success, newly_mapped, free_list, is_write_asked, job_space, response_to}
@@ -43,11 +43,11 @@ abbrev pub JobsOf : World → Type 0
 JobsOf w = Jobs w.jobs w.job w.hand (λ e. (w.part e).host_group)
 
 -- acts that leave jobs and hands as they are
-abbrev pub is_calm_own : Own → Bool
-is_calm_own (Own.File r) = false
-is_calm_own (Own.Hand g x) = false
-is_calm_own (Own.Respond g code) = false
-is_calm_own (Own.Discard g) = false
+abbrev pub is_calm_own : LocalAct → Bool
+is_calm_own (LocalAct.File r) = false
+is_calm_own (LocalAct.Hand g x) = false
+is_calm_own (LocalAct.Respond g code) = false
+is_calm_own (LocalAct.Discard g) = false
 is_calm_own _ = true
 
 abbrev pub IsTrue : Bool → Type 0
@@ -62,7 +62,7 @@ abbrev pub IsCalm : Act → Type 0
 IsCalm (NewJob e g) = ⊥
 IsCalm (Hold x j) = ⊥
 IsCalm (LetGo x) = ⊥
-IsCalm (At e o) = IsTrue (is_calm_own o)
+IsCalm (AtEndpoint e o) = IsTrue (is_calm_own o)
 IsCalm _ = Unit {0}
 
 abbrev pub AreCalm : List Act → Type 0
@@ -70,19 +70,19 @@ AreCalm [] = Unit {0}
 AreCalm (a ∷ acts) = IsCalm a × AreCalm acts
 
 -- a reset drops jobs and open groups, and leaves those in hand in their hands
-own_job : (n : ℕ) (p : Part) (o : Own) → is_calm_own o ≡ true → (g : ℕ) → (own p n o).host_group g ≡ Job → p.host_group g ≡ Job
+own_job : (n : ℕ) (p : Endpoint) (o : LocalAct) → is_calm_own o ≡ true → (g : ℕ) → (own p n o).host_group g ≡ Job → p.host_group g ≡ Job
 own_job n p o c g h = grind arith
 
-own_held : (n : ℕ) (p : Part) (o : Own) → is_calm_own o ≡ true → (g x : ℕ) → IsHeldBy ((own p n o).host_group g) x → IsHeldBy (p.host_group g) x
+own_held : (n : ℕ) (p : Endpoint) (o : LocalAct) → is_calm_own o ≡ true → (g x : ℕ) → IsHeldBy ((own p n o).host_group g) x → IsHeldBy (p.host_group g) x
 own_held n p o c g x h = grind arith
 
-own_past : (n : ℕ) (p : Part) (o : Own) → is_calm_own o ≡ true → (g : ℕ) → is_past (p.host_group g) ≡ true → is_past ((own p n o).host_group g) ≡ true
+own_past : (n : ℕ) (p : Endpoint) (o : LocalAct) → is_calm_own o ≡ true → (g : ℕ) → is_past (p.host_group g) ≡ true → is_past ((own p n o).host_group g) ≡ true
 own_past n p o c g h = grind arith
 
-own_still : (n : ℕ) (p : Part) (o : Own) → is_calm_own o ≡ true → Still p.host_group (own p n o).host_group
+own_still : (n : ℕ) (p : Endpoint) (o : LocalAct) → is_calm_own o ≡ true → Still p.host_group (own p n o).host_group
 own_still n p o c = record { job = own_job n p o c; held = own_held n p o c; past = own_past n p o c }
 
-submitted_still : (t : Bool) (p : Part) (o : Option ℕ) (q count order cookie : ℕ) → Still p.host_group (submitted_if t p o q count order cookie).host_group
+submitted_still : (t : Bool) (p : Endpoint) (o : Option ℕ) (q count order cookie : ℕ) → Still p.host_group (submitted_if t p o q count order cookie).host_group
 submitted_still true p (Some b) q count order cookie = unchanged p.host_group
 submitted_still true p None q count order cookie = unchanged p.host_group
 submitted_still false p o q count order cookie = unchanged p.host_group
@@ -98,8 +98,8 @@ act_calm w (NewBinding e) c h = h
 act_calm w (NewJob e g) c h = absurd c
 act_calm w (Hold x j) c h = absurd c
 act_calm w (LetGo x) c h = absurd c
-act_calm w (At e o) c h =
-    still_jobs w.jobs w.job w.hand (λ d. (w.part d).host_group) (λ d. ((act w (At e o)).part d).host_group)
+act_calm w (AtEndpoint e o) c h =
+    still_jobs w.jobs w.job w.hand (λ d. (w.part d).host_group) (λ d. ((act w (AtEndpoint e o)).part d).host_group)
     (put_keeps (λ d p. Still (w.part d).host_group p.host_group) w.part e (own (w.part e) w.messages o)
     (own_still w.messages (w.part e) o (true_is (is_calm_own o) c)) (λ d. unchanged (w.part d).host_group))
     h
@@ -109,10 +109,11 @@ acts_calm [] w c h = h
 acts_calm (a ∷ acts) w c h = acts_calm acts (act w a) c.1 (act_calm w a c.0 h)
 
 -- an act at one group of an endpoint
-at_group : (part : ℕ → Part) (e : ℕ) (p : Part) (g : ℕ) (s : HostGroupState) → p.host_group ≡ put (part e).host_group g s → (put part e p e).host_group g ≡ s
+at_group : (part : ℕ → Endpoint) (e : ℕ) (p : Endpoint) (g : ℕ) (s : HostGroupState) → p.host_group ≡ put (part e).host_group g s
+    → (put part e p e).host_group g ≡ s
 at_group part e p g s i = ap (λ z. z.host_group g) (put-same part e p) ∙ ap (λ z. z g) i ∙ put-same (part e).host_group g s
 
-others : (part : ℕ → Part) (e : ℕ) (p : Part) (g : ℕ) (s : HostGroupState) → p.host_group ≡ put (part e).host_group g s
+others : (part : ℕ → Endpoint) (e : ℕ) (p : Endpoint) (g : ℕ) (s : HostGroupState) → p.host_group ≡ put (part e).host_group g s
     → Others (λ d. (part d).host_group) (λ d. (put part e p d).host_group) e g
 others part e p g s i d f ne = go (ℕ_cases d e) ne
   where
@@ -131,7 +132,7 @@ pub not_past : (w : World) (e r : ℕ) → Invariant w → OnTheWay (w.part e) �
     → is_past ((w.part e).host_group ((w.part e).group_of r)) ≡ false
 not_past w e r i on ph a = go (p.host_group (p.group_of r)) refl
   where
-    p : Part
+    p : Endpoint
     p = w.part e
 
     out : is_outstanding (p.group (p.group_of r)) ≡ true
@@ -149,27 +150,28 @@ not_past w e r i on ph a = go (p.host_group (p.group_of r)) refl
     go Discarded h = absurd (cc (sym out ∙ on.discarded (p.group_of r) ph h))
     go (InHandDiscarded v) h = absurd (cc (sym out ∙ (i.parts e).groups.discarded_over (p.group_of r) v ph h))
 
-part_still : (n r : ℕ) (p : Part) → p.is_last r ≡ false → is_past (p.host_group (p.group_of r)) ≡ false → Still p.host_group (own p n (Own.File r)).host_group
+part_still : (n r : ℕ) (p : Endpoint) → p.is_last r ≡ false → is_past (p.host_group (p.group_of r)) ≡ false
+    → Still p.host_group (own p n (LocalAct.File r)).host_group
 part_still n r p l e = record { job = λ g h. part_job g h; held = λ g x h. part_held g x h; past = λ g h. part_past g h }
   where
-    part_job : (g : ℕ) → (own p n (Own.File r)).host_group g ≡ Job → p.host_group g ≡ Job
+    part_job : (g : ℕ) → (own p n (LocalAct.File r)).host_group g ≡ Job → p.host_group g ≡ Job
     part_job g h = grind (arith, nat_tests)
 
-    part_held : (g x : ℕ) → IsHeldBy ((own p n (Own.File r)).host_group g) x → IsHeldBy (p.host_group g) x
+    part_held : (g x : ℕ) → IsHeldBy ((own p n (LocalAct.File r)).host_group g) x → IsHeldBy (p.host_group g) x
     part_held g x h = grind (arith, nat_tests)
 
-    part_past : (g : ℕ) → is_past (p.host_group g) ≡ true → is_past ((own p n (Own.File r)).host_group g) ≡ true
+    part_past : (g : ℕ) → is_past (p.host_group g) ≡ true → is_past ((own p n (LocalAct.File r)).host_group g) ≡ true
     part_past g h = grind (arith, nat_tests)
 
 file_jobs : (w : World) (e r : ℕ) (b : Bool) → (w.part e).is_last r ≡ b → Invariant w → OnTheWay (w.part e)
     → LegalAll w (file_outcome e r ((w.part e).group_of r) b).acts → JobsOf w → JobsOf (after_acts w (file_outcome e r ((w.part e).group_of r) b).acts)
 file_jobs w e r false last i on l h =
-    still_jobs w.jobs w.job w.hand (λ d. (w.part d).host_group) (λ d. ((act w (At e (Own.File r))).part d).host_group)
-    (put_keeps (λ d p. Still (w.part d).host_group p.host_group) w.part e (own (w.part e) w.messages (Own.File r))
+    still_jobs w.jobs w.job w.hand (λ d. (w.part d).host_group) (λ d. ((act w (AtEndpoint e (LocalAct.File r))).part d).host_group)
+    (put_keeps (λ d p. Still (w.part d).host_group p.host_group) w.part e (own (w.part e) w.messages (LocalAct.File r))
     (part_still w.messages r (w.part e) last (not_past w e r i on l.0.1.0.0 l.0.1.0.1)) (λ d. unchanged (w.part d).host_group))
     h
 file_jobs w e r true last i on l h =
-    let p = own (w.part e) w.messages (Own.File r) in
+    let p = own (w.part e) w.messages (LocalAct.File r) in
     let g = (w.part e).group_of r in
     let same : p.host_group ≡ put (w.part e).host_group g Job = ap (λ b. put (w.part e).host_group g (filed_as b)) last in
     filed w.jobs w.job w.hand (λ d. (w.part d).host_group) (λ d. (put w.part e p d).host_group) e g i.hands.made
@@ -187,31 +189,31 @@ take_jobs : (w : World) (x j : ℕ) → w.hand x ≡ None → JobsOf w → JobsO
 take_jobs w x j empty h =
     let e = (w.job j).endpoint in
     let g = (w.job j).group in
-    let p = own (w.part e) w.messages (Own.Hand g x) in
+    let p = own (w.part e) w.messages (LocalAct.Hand g x) in
     taken w.jobs w.job w.hand (λ d. (w.part d).host_group) (λ d. (put w.part e p d).host_group) x j empty (at_group w.part e p g (InHand x) refl)
     (others w.part e p g (InHand x) refl) h
 
 -- Reply: pages are mapped, then the job is let go and its group answered or dropped
 respond_jobs : (w : World) (x j : ℕ) (code : Code) → w.hand x ≡ Some j → JobsOf w
-    → JobsOf (after_acts w (LetGo x ∷ At (w.job j).endpoint (Own.Respond (w.job j).group code) ∷ []))
+    → JobsOf (after_acts w (LetGo x ∷ AtEndpoint (w.job j).endpoint (LocalAct.Respond (w.job j).group code) ∷ []))
 respond_jobs w x j code full h =
     let e = (w.job j).endpoint in
     let g = (w.job j).group in
-    let p = own (w.part e) w.messages (Own.Respond g code) in
+    let p = own (w.part e) w.messages (LocalAct.Respond g code) in
     answered w.jobs w.job w.hand (λ d. (w.part d).host_group) (λ d. (put w.part e p d).host_group) x j full
     (ap is_answered (at_group w.part e p g Replied refl)) (others w.part e p g Replied refl) h
 
 discard_jobs : (w : World) (x j : ℕ) → w.hand x ≡ Some j → JobsOf w
-    → JobsOf (after_acts w (LetGo x ∷ At (w.job j).endpoint (Own.Discard (w.job j).group) ∷ []))
+    → JobsOf (after_acts w (LetGo x ∷ AtEndpoint (w.job j).endpoint (LocalAct.Discard (w.job j).group) ∷ []))
 discard_jobs w x j full h =
     let e = (w.job j).endpoint in
     let g = (w.job j).group in
-    let p = own (w.part e) w.messages (Own.Discard g) in
+    let p = own (w.part e) w.messages (LocalAct.Discard g) in
     answered w.jobs w.job w.hand (λ d. (w.part d).host_group) (λ d. (put w.part e p d).host_group) x j full
     (ap is_answered (at_group w.part e p g Discarded refl)) (others w.part e p g Discarded refl) h
 
 maps_jobs : (s : ℕ) (write : ℕ → Bool) (qs fs : List ℕ) (w : World) (x j : ℕ) (code : Code) → w.hand x ≡ Some j → JobsOf w
-    → JobsOf (after_acts w (maps_to s write qs fs ++ LetGo x ∷ At (w.job j).endpoint (Own.Respond (w.job j).group code) ∷ []))
+    → JobsOf (after_acts w (maps_to s write qs fs ++ LetGo x ∷ AtEndpoint (w.job j).endpoint (LocalAct.Respond (w.job j).group code) ∷ []))
 maps_jobs s write [] fs w x j code full h = respond_jobs w x j code full h
 maps_jobs s write (q ∷ qs) [] w x j code full h = respond_jobs w x j code full h
 maps_jobs s write (q ∷ qs) (f ∷ fs) w x j code full h = maps_jobs s write qs fs (act w (Map s q f (write q))) x j code full h
@@ -223,7 +225,7 @@ reply_jobs w x j v (Some code) full h = go (replies_success w j v)
   where
     go : (b : Bool) → JobsOf
         (after_acts w ((if b then maps_to (job_space w j) (is_write_asked w j) (newly_mapped w j) (free_list w) else []) ++ LetGo x
-        ∷ At (w.job j).endpoint (Own.Respond (w.job j).group code) ∷ []))
+        ∷ AtEndpoint (w.job j).endpoint (LocalAct.Respond (w.job j).group code) ∷ []))
     go true = maps_jobs (job_space w j) (is_write_asked w j) (newly_mapped w j) (free_list w) w x j code full h
     go false = respond_jobs w x j code full h
 
@@ -256,16 +258,16 @@ send_calm : (e k t : ℕ) (b : Bool) → AreCalm (send_outcome e k t b).acts
 send_calm e k t true = (tt, tt)
 send_calm e k t false = tt
 
-head_calm : (p : Part) (e k : ℕ) (o : Order) → AreCalm (head_outcome p e k o).acts
+head_calm : (p : Endpoint) (e k : ℕ) (o : Order) → AreCalm (head_outcome p e k o).acts
 head_calm p e k (Wait cookie drain) = wait_calm e k (may_pass p drain)
 head_calm p e k (RangeOf b q) = send_calm e k (Labels.lowest_label 32 p.at_itag) _
 head_calm p e k (PasidOf b) = send_calm e k (Labels.lowest_label 32 p.at_itag) _
 
-pump_calm : (p : Part) (e : ℕ) (b : Bool) → AreCalm (pump_outcome p e b).acts
+pump_calm : (p : Endpoint) (e : ℕ) (b : Bool) → AreCalm (pump_outcome p e b).acts
 pump_calm p e true = tt
 pump_calm p e false = head_calm p e (Labels.head p) (p.order (Labels.head p))
 
-fault_calm : (p : Part) (e t q : ℕ) (r x l : Bool) (o : Option ℕ) → AreCalm (fault_outcome p e t q r x l o).acts
+fault_calm : (p : Endpoint) (e t q : ℕ) (r x l : Bool) (o : Option ℕ) → AreCalm (fault_outcome p e t q r x l o).acts
 fault_calm p e t q r x l None = (tt, tt)
 fault_calm p e t q r x l (Some k) = (tt, tt)
 
@@ -273,7 +275,7 @@ keep_calm : (e c r m : ℕ) (b : Bool) → AreCalm (keep_outcome e c r m b).acts
 keep_calm e c r m true = (tt, tt)
 keep_calm e c r m false = (tt, tt)
 
-completion_calm : (p : Part) (e c r : ℕ) (o : Option ℕ) (s : RequestState) → AreCalm (completion_outcome p e c r o s).acts
+completion_calm : (p : Endpoint) (e c r : ℕ) (o : Option ℕ) (s : RequestState) → AreCalm (completion_outcome p e c r o s).acts
 completion_calm p e c r (Some m) Out = keep_calm e c r m (is_full p r)
 completion_calm p e c r None Out = (tt, tt)
 completion_calm p e c r (Some m) Doomed = (tt, tt)
@@ -281,11 +283,11 @@ completion_calm p e c r None Doomed = (tt, tt)
 completion_calm p e c r (Some m) Over = (tt, tt)
 completion_calm p e c r None Over = (tt, tt)
 
-request_calm : (w : World) (p : Part) (e c r : ℕ) (b : Bool) → AreCalm (request_outcome w p e c r b).acts
+request_calm : (w : World) (p : Endpoint) (e c r : ℕ) (b : Bool) → AreCalm (request_outcome w p e c r b).acts
 request_calm w p e c r true = (tt, tt)
 request_calm w p e c r false = (tt, tt)
 
-count_calm : (p : Part) (e c : ℕ) (names : ℕ → Bool) (b : Bool) → AreCalm (count_outcome p e c names b).acts
+count_calm : (p : Endpoint) (e c : ℕ) (names : ℕ → Bool) (b : Bool) → AreCalm (count_outcome p e c names b).acts
 count_calm p e c names true = (tt, tt)
 count_calm p e c names false = (tt, tt)
 
@@ -297,10 +299,10 @@ marker_calm : (e c d : ℕ) (b : Bool) → AreCalm (marker_outcome e c d b).acts
 marker_calm e c d true = (tt, tt)
 marker_calm e c d false = (tt, tt)
 
-about_calm : (w : World) (p : Part) (e c : ℕ) (a : About) → AreCalm (about_outcome w p e c a).acts
+about_calm : (w : World) (p : Endpoint) (e c : ℕ) (a : Subject) → AreCalm (about_outcome w p e c a).acts
 about_calm w p e c (StartOf b) = (tt, tt)
 about_calm w p e c (StopOf b) = (tt, tt)
-about_calm w p e c ResetOrder = (tt, tt)
+about_calm w p e c FunctionReset = (tt, tt)
 about_calm w p e c (CompletionOf r found) = completion_calm p e c r found (p.request r)
 about_calm w p e c (InvalidateOf k) = (tt, tt)
 about_calm w p e c (ResponseOf g code) = (tt, tt)
@@ -310,7 +312,7 @@ about_calm w p e c (PageRequestOf r) = page_request_calm e c r (is_open p.phase)
 about_calm w p e c (MarkerOf b) = marker_calm e c b (is_open p.phase)
 about_calm w p e c ResetDone = (tt, tt)
 
-deliver_calm : (w : World) (p : Part) (e c : ℕ) (o : Option About) → AreCalm (deliver_outcome w p e c o).acts
+deliver_calm : (w : World) (p : Endpoint) (e c : ℕ) (o : Option Subject) → AreCalm (deliver_outcome w p e c o).acts
 deliver_calm w p e c None = tt
 deliver_calm w p e c (Some a) = about_calm w p e c a
 
@@ -323,10 +325,10 @@ outcome_jobs w (step.UnmapRange n q order) i on p h = acts_calm (outcome w (step
 outcome_jobs w (step.Bind e n) i on p h = acts_calm (outcome w (step.Bind e n)).acts w (tt, (tt, tt)) h
 outcome_jobs w (step.Unbind n) i on p h =
     acts_calm (outcome w (step.Unbind n)).acts w
-    (unbind_calm (w.home (Labels.name w n)) (Labels.name w n) ((w.part (w.home (Labels.name w n))).stage (Labels.name w n))) h
+    (unbind_calm (w.endpoint_of (Labels.name w n)) (Labels.name w n) ((w.part (w.endpoint_of (Labels.name w n))).stage (Labels.name w n))) h
 outcome_jobs w (step.Advance n) i on p h =
     acts_calm (outcome w (step.Advance n)).acts w
-    (advance_calm w (w.home (Labels.name w n)) (Labels.name w n) ((w.part (w.home (Labels.name w n))).stage (Labels.name w n))) h
+    (advance_calm w (w.endpoint_of (Labels.name w n)) (Labels.name w n) ((w.part (w.endpoint_of (Labels.name w n))).stage (Labels.name w n))) h
 outcome_jobs w (step.Pump e) i on p h = acts_calm (outcome w (step.Pump e)).acts w (pump_calm (w.part e) e (Labels.is_queue_empty (w.part e))) h
 outcome_jobs w (step.Serve e) i on p h = serve_jobs w e (Labels.is_page_queue_empty (w.part e)) i (on e) (Unit_steps.serve w e i p) h
 outcome_jobs w (step.Reset e) i on p h = acts_calm (outcome w (step.Reset e)).acts w (tt, tt) h
@@ -343,8 +345,8 @@ outcome_jobs w (step.Finish e vector count) i on p h = acts_calm (outcome w (ste
 outcome_jobs w (step.Quit e t) i on p h = acts_calm (outcome w (step.Quit e t)).acts w (tt, tt) h
 outcome_jobs w (step.Deliver n) i on p h =
     acts_calm (outcome w (step.Deliver n)).acts w
-    (deliver_calm w (w.part (w.way (Labels.name w n))) (w.way (Labels.name w n)) (Labels.name w n)
-    ((w.part (w.way (Labels.name w n))).message (Labels.name w n))) h
+    (deliver_calm w (w.part (w.link_of (Labels.name w n))) (w.link_of (Labels.name w n)) (Labels.name w n)
+    ((w.part (w.link_of (Labels.name w n))).message (Labels.name w n))) h
 outcome_jobs w (step.Look f) i on p h = acts_calm (outcome w (step.Look f)).acts w tt h
 outcome_jobs w (step.Bearer t) i on p h = acts_calm (outcome w (step.Bearer t)).acts w tt h
 

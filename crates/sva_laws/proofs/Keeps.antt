@@ -3,7 +3,7 @@ use Rattle.std.proofs.Common.{◌≡◌, ◌≢◌, ◌⊎◌, inl, inr, refl, a
 use Rattle.std.specs.Prelude.{Option, Some, None, ◌&&◌, ◌==◌}
 use Rattle.std.proofs.lemmas.Bool.Decides.{nat_tests}
 use Rattle.sva_model.specs.Words.{put, unless, all_below}
-use Rattle.sva_model.specs.State.{Owed, MappingState, Mappings, Part, JobName, World}
+use Rattle.sva_model.specs.State.{Owed, MappingState, Mappings, Endpoint, JobName, World}
 use Rattle.sva_model.specs.State.Owed.{Nothing}
 use Rattle.sva_model.specs.State.PasidRule.{PerSpace}
 use Rattle.sva_model.specs.State.MappingState.{Unmade, Present, Gone}
@@ -13,12 +13,12 @@ use Rattle.sva_model.specs.State.RequestState.{Out}
 use Rattle.sva_model.specs.State.Phase.{Open}
 use Rattle.sva_model.specs.States.{is_unreleased, is_outstanding, is_open, is_before_invalidating, answered, is_free, place_at, place_by, place_of_gone}
 use Rattle.sva_model.specs.States.{is_free_place}
-use Rattle.sva_model.specs.Acts.{Act, Own, act, own, sends, bound, submits, submits_at, owed_by, part_after_unmap, submitted, submitted_if, cookie_of}
+use Rattle.sva_model.specs.Acts.{Act, LocalAct, act, own, sends, bound, submits, submits_at, owed_by, part_after_unmap, submitted, submitted_if, cookie_of}
 use Rattle.sva_model.specs.Acts.{gone_if, in_range, without_pages}
-use Rattle.sva_model.specs.Acts.Act.{NewSpace, DropSpace, Map, Unmap, NewBinding, NewJob, Hold, LetGo, At}
+use Rattle.sva_model.specs.Acts.Act.{NewSpace, DropSpace, Map, Unmap, NewBinding, NewJob, Hold, LetGo, AtEndpoint}
 use Rattle.sva_model.specs.State.Stage.{Unbound}
 use Rattle.sva_laws.proofs.Words.{put-same, put-other, ℕ_cases, all_below-true}
-use Rattle.sva_laws.proofs.Legal.{LegalOwn}
+use Rattle.sva_laws.proofs.Legal.{LegalLocalAct}
 use Rattle.sva_laws.proofs.Resets
 use Rattle.sva_laws.proofs.Bounds
 use Rattle.sva_laws.proofs.Bindings
@@ -36,16 +36,16 @@ use Rattle.sva_laws.proofs.Unmap as Unmapping
 
 -- a space is bound while it is live, at the binding's own endpoint, where PASIDs are one for each space under one that is
 -- the space's; and a wait that an advance submits has the next cookie
-abbrev pub SuitsWorld : World → (e : ℕ) → Own → Type 0
-SuitsWorld w e (Own.Bind b s t) = (w.is_live s ≡ true) × (w.rule ≡ PerSpace → IsOf w.part s t) × (w.home b ≡ e)
-SuitsWorld w e (Own.Drain b cookie) = cookie ≡ w.cookies
-SuitsWorld w e (Own.Invalidate b cookie) = cookie ≡ w.cookies
+abbrev pub SuitsWorld : World → (e : ℕ) → LocalAct → Type 0
+SuitsWorld w e (LocalAct.Bind b s t) = (w.is_live s ≡ true) × (w.rule ≡ PerSpace → IsOf w.part s t) × (w.endpoint_of b ≡ e)
+SuitsWorld w e (LocalAct.Drain b cookie) = cookie ≡ w.cookies
+SuitsWorld w e (LocalAct.Invalidate b cookie) = cookie ≡ w.cookies
 SuitsWorld w e _ = Unit {0}
 
 -- a job is answered once it is out of the worker's hand
-abbrev pub LetsGo : World → (e : ℕ) → Own → Type 0
-LetsGo w e (Own.Respond g code) = (x j : ℕ) → w.hand x ≡ Some j → (w.job j).endpoint ≡ e → (w.job j).group ≢ g
-LetsGo w e (Own.Discard g) = (x j : ℕ) → w.hand x ≡ Some j → (w.job j).endpoint ≡ e → (w.job j).group ≢ g
+abbrev pub LetsGo : World → (e : ℕ) → LocalAct → Type 0
+LetsGo w e (LocalAct.Respond g code) = (x j : ℕ) → w.hand x ≡ Some j → (w.job j).endpoint ≡ e → (w.job j).group ≢ g
+LetsGo w e (LocalAct.Discard g) = (x j : ℕ) → w.hand x ≡ Some j → (w.job j).endpoint ≡ e → (w.job j).group ≢ g
 LetsGo w e _ = Unit {0}
 
 -- what a step has tested when an act is done
@@ -58,7 +58,7 @@ Legal w (NewBinding e) = Unit {0}
 Legal w (NewJob e g) = Unit {0}
 Legal w (Hold x j) = (j < w.jobs) × ((w.part (w.job j).endpoint).host_group (w.job j).group ≡ InHand x)
 Legal w (LetGo x) = Unit {0}
-Legal w (At e o) = (e < w.config.endpoints) × (LegalOwn w.mappings w.bindings (w.part e) o × SuitsWorld w e o) × LetsGo w e o
+Legal w (AtEndpoint e o) = (e < w.config.endpoints) × (LegalLocalAct w.mappings w.bindings (w.part e) o × SuitsWorld w e o) × LetsGo w e o
 
 -- a table with one row replaced keeps what the old row and the new one have
 pub put_keeps : {A : Type 0} (P : ℕ → A → Type 0) (f : ℕ → A) (i : ℕ) (v : A) → P i v → ((k : ℕ) → P k (f k)) → (k : ℕ) → P k (put f i v k)
@@ -69,7 +69,7 @@ put_keeps P f i v new old k = go (ℕ_cases k i)
     go (inr ne) = subst (P k) (sym (put-other f i v k ne)) (old k)
 
 -- a part that an act of another endpoint leaves: more bindings and messages may be there
-bounds_more : (g h : ℕ) (p : Part) → g ≤ h → Bounds.Bounds g p → Bounds.Bounds h p
+bounds_more : (g h : ℕ) (p : Endpoint) → g ≤ h → Bounds.Bounds g p → Bounds.Bounds h p
 bounds_more g h p a bo =
     record {
       stage = λ b k. bo.stage b (omega arith);
@@ -90,7 +90,7 @@ bounds_more g h p a bo =
       responded = bo.responded;
     }
 
-resets_more : (n m : ℕ) (p : Part) → n ≤ m → Resets.Resets n p → Resets.Resets m p
+resets_more : (n m : ℕ) (p : Endpoint) → n ≤ m → Resets.Resets n p → Resets.Resets m p
 resets_more n m p a re =
     record {
       unsent = λ c k. re.unsent c (omega arith);
@@ -119,7 +119,7 @@ resets_more n m p a re =
       unfiled = re.unfiled;
     }
 
-later : (ms : Mappings) (x g h n m e : ℕ) (p : Part) → g ≤ h → n ≤ m → PartInvariant ms x g n e p → PartInvariant ms x h m e p
+later : (ms : Mappings) (x g h n m e : ℕ) (p : Endpoint) → g ≤ h → n ≤ m → PartInvariant ms x g n e p → PartInvariant ms x h m e p
 later ms x g h n m e p a b i =
     record {
       there = i.there;
@@ -137,26 +137,26 @@ later ms x g h n m e p a b i =
       groups = i.groups;
     }
 
-bound_live_own : (w : World) (e : ℕ) (o : Own) → LegalOwn w.mappings w.bindings (w.part e) o → SuitsWorld w e o → (b : ℕ)
+bound_live_own : (w : World) (e : ℕ) (o : LocalAct) → LegalLocalAct w.mappings w.bindings (w.part e) o → SuitsWorld w e o → (b : ℕ)
     → (is_unreleased ((w.part e).stage b) ≡ true → w.is_live ((w.part e).space b) ≡ true) → is_unreleased ((own (w.part e) w.messages o).stage b)
     ≡ true → w.is_live ((own (w.part e) w.messages o).space b) ≡ true
 bound_live_own w e o l bs b old h = go o bs (own_from w.mappings w.bindings w.messages (w.part e) o l b h)
   where
-    go : (x : Own) → SuitsWorld w e x → WasSo (w.part e) (own (w.part e) w.messages o) b ⊎ IsNew x (own (w.part e) w.messages o) b
+    go : (x : LocalAct) → SuitsWorld w e x → WasSo (w.part e) (own (w.part e) w.messages o) b ⊎ IsNew x (own (w.part e) w.messages o) b
         → w.is_live ((own (w.part e) w.messages o).space b) ≡ true
     go x bs (inl k) = ap w.is_live k.2 ∙ old k.0
-    go (Own.Bind d s t) bs (inr k) = ap w.is_live k.2 ∙ bs.0
+    go (LocalAct.Bind d s t) bs (inr k) = ap w.is_live k.2 ∙ bs.0
     go _ bs (inr k) = absurd (cc (k.0))
 
-at_parts : (w : World) (e : ℕ) (o : Own) → Legal w (At e o) → Invariant w → (x : ℕ)
-    → PartInvariant w.mappings w.config.endpoints w.bindings (w.messages + sends o) x ((act w (At e o)).part x)
+at_parts : (w : World) (e : ℕ) (o : LocalAct) → Legal w (AtEndpoint e o) → Invariant w → (x : ℕ)
+    → PartInvariant w.mappings w.config.endpoints w.bindings (w.messages + sends o) x ((act w (AtEndpoint e o)).part x)
 at_parts w e o l i =
     put_keeps (λ x p. PartInvariant w.mappings w.config.endpoints w.bindings (w.messages + sends o) x p) w.part e (own (w.part e) w.messages o)
     (own_keeps w.mappings w.config.endpoints w.bindings w.messages e (w.part e) o l.0 l.1.0 (leads w i.mapped) (presents w i.mapped) (i.parts e))
     (λ x. later w.mappings w.config.endpoints w.bindings w.bindings w.messages (w.messages + sends o) x (w.part x) (omega arith) (omega arith) (i.parts x))
 
-at_answered : (w : World) (e : ℕ) (o : Own) (v : Owed) → Legal w (At e o) → Invariant w → (x : ℕ) → answered (w.part x) v ≡ true
-    → answered ((act w (At e o)).part x) v ≡ true
+at_answered : (w : World) (e : ℕ) (o : LocalAct) (v : Owed) → Legal w (AtEndpoint e o) → Invariant w → (x : ℕ) → answered (w.part x) v ≡ true
+    → answered ((act w (AtEndpoint e o)).part x) v ≡ true
 at_answered w e o v l i x h =
     put_keeps (λ x p. answered (w.part x) v ≡ true → answered p v ≡ true) w.part e (own (w.part e) w.messages o)
     (λ k. answered_own w.mappings w.bindings w.messages (w.part e) o l.1.0 (i.parts e).labels.sent (i.parts e).bounds v k)
@@ -167,30 +167,31 @@ or_answered b c (inl a) f = inl a
 or_answered b c (inr e) f = inr (f e)
 
 -- is the group's job answered or dropped by this act?
-abbrev pub responds_to : Own → ℕ → Bool
-responds_to (Own.Respond g code) x = x == g
-responds_to (Own.Discard g) x = x == g
+abbrev pub responds_to : LocalAct → ℕ → Bool
+responds_to (LocalAct.Respond g code) x = x == g
+responds_to (LocalAct.Discard g) x = x == g
 responds_to _ x = false
 
-not_answered : (w : World) (e : ℕ) (o : Own) → LetsGo w e o → (x j : ℕ) → w.hand x ≡ Some j → e ≡ (w.job j).endpoint → responds_to o (w.job j).group ≡ false
-not_answered w e (Own.Respond g code) l x j h same = differ (l x j h (sym same))
+not_answered : (w : World) (e : ℕ) (o : LocalAct) → LetsGo w e o → (x j : ℕ) → w.hand x ≡ Some j → e ≡ (w.job j).endpoint → responds_to o (w.job j).group
+    ≡ false
+not_answered w e (LocalAct.Respond g code) l x j h same = differ (l x j h (sym same))
   where
     differ : (w.job j).group ≢ g → ((w.job j).group == g) ≡ false
     differ ne = grind (arith, nat_tests)
-not_answered w e (Own.Discard g) l x j h same = differ (l x j h (sym same))
+not_answered w e (LocalAct.Discard g) l x j h same = differ (l x j h (sym same))
   where
     differ : (w.job j).group ≢ g → ((w.job j).group == g) ≡ false
     differ ne = grind (arith, nat_tests)
 not_answered w e _ l x j h same = refl
 
 -- a job in hand stays in hand
-held_own : (ms : Mappings) (gs n : ℕ) (p : Part) (o : Own) → LegalOwn ms gs p o → (g x : ℕ)
+held_own : (ms : Mappings) (gs n : ℕ) (p : Endpoint) (o : LocalAct) → LegalLocalAct ms gs p o → (g x : ℕ)
     → (IsHeldBy (p.host_group g) x → (r : ℕ) → p.phase ≡ Open → p.group_of r ≡ g → p.page_request r ≢ Arrived) → responds_to o g ≡ false
     → IsHeldBy (p.host_group g) x → IsHeldBy ((own p n o).host_group g) x
 held_own ms gs n p o l g x nf ns h = grind (arith, nat_tests, nf h)
 
 -- no request of a group in hand is to be filed
-held_filed : (gs : ℕ) (p : Part) → Bounds.Bounds gs p → PageRequests.Lasts p → Groups.Groups p → (g x : ℕ) → IsHeldBy (p.host_group g) x → (r : ℕ)
+held_filed : (gs : ℕ) (p : Endpoint) → Bounds.Bounds gs p → PageRequests.Lasts p → Groups.Groups p → (g x : ℕ) → IsHeldBy (p.host_group g) x → (r : ℕ)
     → p.phase ≡ Open → p.group_of r ≡ g → p.page_request r ≢ Arrived
 held_filed gs p bo la gr g x (inl h) r ph e a = Groups.whole_filed gs p bo la g (ap PageRequests.is_whole h) r e a
 held_filed gs p bo la gr g x (inr h) r ph e a =
@@ -198,7 +199,7 @@ held_filed gs p bo la gr g x (inr h) r ph e a =
     let over = gr.discarded_over g x ph h in
     absurd (cc (sym (ap (λ y. is_outstanding (p.group y)) e) ∙ out, over))
 
-at_hands : (w : World) (e : ℕ) (o : Own) → Legal w (At e o) → Invariant w → Hands (act w (At e o))
+at_hands : (w : World) (e : ℕ) (o : LocalAct) → Legal w (AtEndpoint e o) → Invariant w → Hands (act w (AtEndpoint e o))
 at_hands w e o l i =
     record {
       made = i.hands.made;
@@ -252,30 +253,31 @@ let_go_hands w x hs =
         absurd (cc)
     was y k (inr ne) h = sym (put-other w.hand x None y ne) ∙ h
 
-at_shared : (w : World) (e : ℕ) (o : Own) → Legal w (At e o) → Invariant w → w.rule ≡ PerSpace → Shared (act w (At e o)).part
+at_shared : (w : World) (e : ℕ) (o : LocalAct) → Legal w (AtEndpoint e o) → Invariant w → w.rule ≡ PerSpace → Shared (act w (AtEndpoint e o)).part
 at_shared w e o l i rule =
-    shared_more w.part (act w (At e o)).part o (its o l.1.1)
+    shared_more w.part (act w (AtEndpoint e o)).part o (its o l.1.1)
     (put_keeps (λ x p. (b : ℕ) → is_unreleased (p.stage b) ≡ true → WasSo (w.part x) p b ⊎ IsNew o p b) w.part e (own (w.part e) w.messages o)
     (own_from w.mappings w.bindings w.messages (w.part e) o l.1.0)
     (λ x b h. inl (h, refl, refl)))
     (i.shared rule)
   where
-    its : (x : Own) → SuitsWorld w e x → binds x ≡ true → IsOf w.part (bound_space x) (bound_pasid x)
-    its (Own.Bind b s t) bs h = bs.1 rule
+    its : (x : LocalAct) → SuitsWorld w e x → binds x ≡ true → IsOf w.part (bound_space x) (bound_pasid x)
+    its (LocalAct.Bind b s t) bs h = bs.1 rule
     its _ bs h = absurd (cc (h))
 
 -- an act begins a binding only at the binding's own endpoint
-homed_own : (w : World) (e : ℕ) (o : Own) → LegalOwn w.mappings w.bindings (w.part e) o → SuitsWorld w e o → (b : ℕ)
-    → ((w.part e).stage b ≢ Unbound → w.home b ≡ e) → (own (w.part e) w.messages o).stage b ≢ Unbound → w.home b ≡ e
+homed_own : (w : World) (e : ℕ) (o : LocalAct) → LegalLocalAct w.mappings w.bindings (w.part e) o → SuitsWorld w e o → (b : ℕ)
+    → ((w.part e).stage b ≢ Unbound → w.endpoint_of b ≡ e) → (own (w.part e) w.messages o).stage b ≢ Unbound → w.endpoint_of b ≡ e
 homed_own w e o l bs b old h = grind (arith, nat_tests)
 
-at_homed : (w : World) (e : ℕ) (o : Own) → Legal w (At e o) → Invariant w → (x b : ℕ) → ((act w (At e o)).part x).stage b ≢ Unbound → w.home b ≡ x
+at_homed : (w : World) (e : ℕ) (o : LocalAct) → Legal w (AtEndpoint e o) → Invariant w → (x b : ℕ) → ((act w (AtEndpoint e o)).part x).stage b ≢ Unbound
+    → w.endpoint_of b ≡ x
 at_homed w e o l i =
-    put_keeps (λ x p. (b : ℕ) → p.stage b ≢ Unbound → w.home b ≡ x) w.part e (own (w.part e) w.messages o)
+    put_keeps (λ x p. (b : ℕ) → p.stage b ≢ Unbound → w.endpoint_of b ≡ x) w.part e (own (w.part e) w.messages o)
     (λ b h. homed_own w e o l.1.0 l.1.1 b (i.homed e b) h)
     i.homed
 
-at_keeps : (w : World) (e : ℕ) (o : Own) → Legal w (At e o) → Invariant w → Invariant (act w (At e o))
+at_keeps : (w : World) (e : ℕ) (o : LocalAct) → Legal w (AtEndpoint e o) → Invariant w → Invariant (act w (AtEndpoint e o))
 at_keeps w e o l i =
     record {
       hands = at_hands w e o l i;
@@ -289,7 +291,7 @@ at_keeps w e o l i =
             named = i.mapped.named;
             low = i.mapped.low;
             live = i.mapped.live;
-            passed = λ m v x g b. or_answered (answered (w.part x) (v x)) (answered ((act w (At e o)).part x) (v x)) (i.mapped.passed m v x g b)
+            passed = λ m v x g b. or_answered (answered (w.part x) (v x)) (answered ((act w (AtEndpoint e o)).part x) (v x)) (i.mapped.passed m v x g b)
                 (at_answered w e o (v x) l i x);
             bound_live =
                 put_keeps (λ x p. (b : ℕ) → is_unreleased (p.stage b) ≡ true → w.is_live (p.space b) ≡ true) w.part e (own (w.part e) w.messages o)
@@ -352,7 +354,7 @@ new_binding_keeps w e i =
       homed = λ x b h. new_home x b h;
     }
   where
-    new_home : (x b : ℕ) → (w.part x).stage b ≢ Unbound → put w.home w.bindings e b ≡ x
+    new_home : (x b : ℕ) → (w.part x).stage b ≢ Unbound → put w.endpoint_of w.bindings e b ≡ x
     new_home x b h = grind (arith, nat_tests, i.homed x b, (i.parts x).bounds.stage b)
 
 same_keeps : (w : World) (jobs : ℕ) (job : ℕ → JobName) (hand : ℕ → Option ℕ) → Hands (record w { jobs = jobs; job = job; hand = hand })
@@ -394,7 +396,7 @@ free_present : (w : World) (f m : ℕ) → is_free w f ≡ true → w.mappings.l
 free_present w f m h la g = absurd (cc (sym (ap (λ s. is_free_place (place_by w s)) g) ∙ sym (ap (λ o. is_free_place (place_at w o)) la) ∙ h))
 
 -- mapping a page leaves what was made before
-safe_map : (w : World) (s q f : ℕ) (x : Bool) (e b m age : ℕ) (p : Part) → m < w.mappings.made → Safe.IsSafe w.mappings e p b m age
+safe_map : (w : World) (s q f : ℕ) (x : Bool) (e b m age : ℕ) (p : Endpoint) → m < w.mappings.made → Safe.IsSafe w.mappings e p b m age
     → Safe.IsSafe (act w (Map s q f x)).mappings e p b m age
 safe_map w s q f x e b m age p l h =
     let ne : m ≢ w.mappings.made = omega arith in
@@ -403,7 +405,7 @@ safe_map w s q f x e b m age p l h =
     subst (λ z. (z ≡ Present) ⊎ Safe.Pending p b ((act w (Map s q f x)).mappings.page m) age (Safe.owed_of z e)) (sym a)
     (subst (λ z. (w.mappings.state m ≡ Present) ⊎ Safe.Pending p b z age (Safe.owed_of (w.mappings.state m) e)) (sym c) h)
 
-owners_map : (w : World) (s q f : ℕ) (x : Bool) (p : Part) → Owners.Owners w.mappings p → Owners.Owners (act w (Map s q f x)).mappings p
+owners_map : (w : World) (s q f : ℕ) (x : Bool) (p : Endpoint) → Owners.Owners w.mappings p → Owners.Owners (act w (Map s q f x)).mappings p
 owners_map w s q f x p ow =
     record {
       held = ow.held;
@@ -489,7 +491,7 @@ map_keeps w s q f x l i =
 
 -- mappings that go leave the table of mappings in order
 without_mapped :
-    (w : World) (s cookies : ℕ) (pages : ℕ → Bool) (owed : ℕ → Owed) (live : ℕ → Bool) (part : ℕ → Part)
+    (w : World) (s cookies : ℕ) (pages : ℕ → Bool) (owed : ℕ → Owed) (live : ℕ → Bool) (part : ℕ → Endpoint)
     → ((x : ℕ) → live x ≡ true → w.is_live x ≡ true)
     → ((t q m : ℕ) → (without_pages w.mappings s pages owed).at t q ≡ Some m → live t ≡ true)
     → ((e b : ℕ) → is_unreleased ((part e).stage b) ≡ true → live ((part e).space b) ≡ true)
@@ -547,7 +549,7 @@ without_mapped w s cookies pages owed live part sub there alive more ma =
         gone_gone true h = h
         gone_gone false h = h
 
-owners_without : (ms : Mappings) (s : ℕ) (pages : ℕ → Bool) (owed : ℕ → Owed) (p : Part) → Owners.Owners ms p
+owners_without : (ms : Mappings) (s : ℕ) (pages : ℕ → Bool) (owed : ℕ → Owed) (p : Endpoint) → Owners.Owners ms p
     → Owners.Owners (without_pages ms s pages owed) p
 owners_without ms s pages owed p ow =
     record {
@@ -568,18 +570,18 @@ owners_without ms s pages owed p ow =
     }
 
 -- the owner of a request out is active
-asked_active : (p : Part) (r : ℕ) → Bindings.Bindings p → Requests.Requests p → p.request r ≡ Out → Orders.is_active (p.stage (p.request_binding r)) ≡ true
+asked_active : (p : Endpoint) (r : ℕ) → Bindings.Bindings p → Requests.Requests p → p.request r ≡ Out → Orders.is_active (p.stage (p.request_binding r)) ≡ true
 asked_active p r bi ra h = unmarked_active (Owners.asker_stage p r bi ra h)
   where
     unmarked_active : Bindings.is_unmarked (p.stage (p.request_binding r)) ≡ true → Orders.is_active (p.stage (p.request_binding r)) ≡ true
     unmarked_active k = grind arith
 
 -- what is safe for an active owner, wherever its mapping is of its space
-abbrev pub KeepsSafe : (ms ms' : Mappings) (e : ℕ) (p p' : Part) → Type 0
+abbrev pub KeepsSafe : (ms ms' : Mappings) (e : ℕ) (p p' : Endpoint) → Type 0
 KeepsSafe ms ms' e p p' = (b m age : ℕ) → Orders.is_active (p.stage b) ≡ true → ms.space m ≡ p.space b → Safe.IsSafe ms e p b m age
     → Safe.IsSafe ms' e p' b m age
 
-safe_kept : (ms ms' : Mappings) (x g n e : ℕ) (p : Part) → KeepsSafe ms ms' e p p → PartInvariant ms x g n e p → Safe.Safe ms' e p
+safe_kept : (ms ms' : Mappings) (x g n e : ℕ) (p : Endpoint) → KeepsSafe ms ms' e p p → PartInvariant ms x g n e p → Safe.Safe ms' e p
 safe_kept ms ms' x g n e p k i =
     record {
       held = λ r m h. k (p.request_binding r) m p.uses (i.owners.held r m h) (i.owners.held_space r m h) (i.safe.held r m h);
@@ -588,7 +590,7 @@ safe_kept ms ms' x g n e p k i =
       running = λ u h. k (p.use_binding u) (p.use_mapping u) u (i.owners.running u h) (i.owners.running_space u h) (i.safe.running u h);
     }
 
-safe_submitted : (ms ms' : Mappings) (x g n e : ℕ) (p : Part) (b q count order cookie : ℕ)
+safe_submitted : (ms ms' : Mappings) (x g n e : ℕ) (p : Endpoint) (b q count order cookie : ℕ)
     → KeepsSafe ms ms' e p (submitted p b q count order cookie) → PartInvariant ms x g n e p → Safe.Safe ms' e (submitted p b q count order cookie)
 safe_submitted ms ms' x g n e p b q count order cookie k i =
     record {
@@ -598,7 +600,7 @@ safe_submitted ms ms' x g n e p b q count order cookie k i =
       running = λ u h. k (p.use_binding u) (p.use_mapping u) u (i.owners.running u h) (i.owners.running_space u h) (i.safe.running u h);
     }
 
-left_part : (ms : Mappings) (s x g n e : ℕ) (pages : ℕ → Bool) (owed : ℕ → Owed) (p : Part) → KeepsSafe ms (without_pages ms s pages owed) e p p
+left_part : (ms : Mappings) (s x g n e : ℕ) (pages : ℕ → Bool) (owed : ℕ → Owed) (p : Endpoint) → KeepsSafe ms (without_pages ms s pages owed) e p p
     → PartInvariant ms x g n e p → PartInvariant (without_pages ms s pages owed) x g n e p
 left_part ms s x g n e pages owed p k i =
     record {
@@ -617,7 +619,7 @@ left_part ms s x g n e pages owed p k i =
       groups = i.groups;
     }
 
-submitted_part : (ms : Mappings) (s x g n e : ℕ) (pages : ℕ → Bool) (owed : ℕ → Owed) (p : Part) (b q count order cookie : ℕ) → p.phase ≡ Open
+submitted_part : (ms : Mappings) (s x g n e : ℕ) (pages : ℕ → Bool) (owed : ℕ → Owed) (p : Endpoint) (b q count order cookie : ℕ) → p.phase ≡ Open
     → is_before_invalidating (p.stage b) ≡ true → KeepsSafe ms (without_pages ms s pages owed) e p (submitted p b q count order cookie)
     → PartInvariant ms x g n e p → PartInvariant (without_pages ms s pages owed) x g n e (submitted p b q count order cookie)
 submitted_part ms s x g n e pages owed p b q count order cookie ph st k i =
@@ -638,7 +640,7 @@ submitted_part ms s x g n e pages owed p b q count order cookie ph st k i =
       groups = Submitted.groups_submitted b q count order cookie p i.orders i.groups;
     }
 
-part_unmapped : (ms : Mappings) (s x g n e : ℕ) (pages : ℕ → Bool) (owed : ℕ → Owed) (p : Part) (sub : Bool) (o : Option ℕ)
+part_unmapped : (ms : Mappings) (s x g n e : ℕ) (pages : ℕ → Bool) (owed : ℕ → Owed) (p : Endpoint) (sub : Bool) (o : Option ℕ)
     (q count order cookie : ℕ) → submits_at p o ≡ sub → KeepsSafe ms (without_pages ms s pages owed) e p (submitted_if sub p o q count order cookie)
     → PartInvariant ms x g n e p → PartInvariant (without_pages ms s pages owed) x g n e (submitted_if sub p o q count order cookie)
 part_unmapped ms s x g n e pages owed p true (Some b) q count order cookie h k i =
@@ -681,7 +683,7 @@ unmap_keeps w s q count order i =
       homed = λ e b h. sub_home e b (submits w s e) (bound w e s) h;
     }
   where
-    sub_home : (e b : ℕ) (t : Bool) (o : Option ℕ) → (submitted_if t (w.part e) o q count order (cookie_of w s e)).stage b ≢ Unbound → w.home b ≡ e
+    sub_home : (e b : ℕ) (t : Bool) (o : Option ℕ) → (submitted_if t (w.part e) o q count order (cookie_of w s e)).stage b ≢ Unbound → w.endpoint_of b ≡ e
     sub_home e b true (Some d) h = i.homed e b h
     sub_home e b true None h = i.homed e b h
     sub_home e b false o h = i.homed e b h
@@ -752,4 +754,4 @@ act_keeps w (NewBinding e) l i = new_binding_keeps w e i
 act_keeps w (NewJob e g) l i = same_keeps w (suc w.jobs) (put w.job w.jobs (record { endpoint = e; group = g })) w.hand (new_job_hands w e g i.hands) i
 act_keeps w (Hold x j) l i = same_keeps w w.jobs w.job (put w.hand x (Some j)) (hold_hands w x j l i.hands) i
 act_keeps w (LetGo x) l i = same_keeps w w.jobs w.job (put w.hand x None) (let_go_hands w x i.hands) i
-act_keeps w (At e o) l i = at_keeps w e o l i
+act_keeps w (AtEndpoint e o) l i = at_keeps w e o l i

@@ -2,13 +2,13 @@
 use Rattle.std.proofs.Common.{◌≡◌, ℕ, ◌<◌, ◌≤◌, Bool, true, false, arith}
 use Rattle.std.specs.Prelude.{Some}
 use Rattle.std.proofs.lemmas.Bool.Decides.{nat_tests}
-use Rattle.sva_model.specs.State.{Mappings, Part, UseState}
+use Rattle.sva_model.specs.State.{Mappings, Endpoint, UseState}
 use Rattle.sva_model.specs.State.UseState.{Ended}
-use Rattle.sva_model.specs.State.About.{InvalidateOf}
+use Rattle.sva_model.specs.State.Subject.{InvalidateOf}
 use Rattle.sva_model.specs.State.OrderState.{Sent}
 use Rattle.sva_model.specs.States.{is_unreleased, is_out, is_busy}
-use Rattle.sva_model.specs.Acts.{own, Own}
-use Rattle.sva_laws.proofs.Legal.{LegalOwn}
+use Rattle.sva_model.specs.Acts.{own, LocalAct}
+use Rattle.sva_laws.proofs.Legal.{LegalLocalAct}
 use Rattle.sva_laws.proofs.Resets.{Resets}
 use Rattle.sva_laws.proofs.Bounds.{Bounds}
 
@@ -16,7 +16,7 @@ abbrev pub has_slot : UseState → Bool
 has_slot Ended = false
 has_slot _ = true
 
-pub record Labels (p : Part) : Type 0 where
+pub record Labels (p : Endpoint) : Type 0 where
   pub pasid_bears : (t b : ℕ) → p.at_pasid t ≡ Some b → (p.pasid b ≡ t) × (is_unreleased (p.stage b) ≡ true)
   pub bears_pasid : (b : ℕ) → is_unreleased (p.stage b) ≡ true → p.at_pasid (p.pasid b) ≡ Some b
   pub pasid_low : (t b : ℕ) → p.at_pasid t ≡ Some b → (0 < t) × (t ≤ 32)
@@ -34,7 +34,7 @@ pub record Labels (p : Part) : Type 0 where
   pub sent : (c k : ℕ) → p.message c ≡ Some (InvalidateOf k) → p.order_state k ≡ Sent
   pub sent_once : (c d k : ℕ) → p.message c ≡ Some (InvalidateOf k) → p.message d ≡ Some (InvalidateOf k) → c ≡ d
 
-pub every : (ms : Mappings) (g n : ℕ) (p : Part) (o : Own) → LegalOwn ms g p o → Resets n p → Bounds g p → Labels p → Labels (own p n o)
+pub every : (ms : Mappings) (g n : ℕ) (p : Endpoint) (o : LocalAct) → LegalLocalAct ms g p o → Resets n p → Bounds g p → Labels p → Labels (own p n o)
 every ms g n p o l re bo la =
     record {
       pasid_bears = λ t b h. grind (arith, nat_tests, la.pasid_bears t b);

@@ -7,7 +7,7 @@ use Rattle.sva_step.specs.declared.steps.Step.{Step}
 use Rattle.sva_model.specs.Words.{put}
 use Rattle.sva_model.specs.State.{PasidRule, Mappings, World, opened}
 use Rattle.sva_model.specs.Acts.{Act, act}
-use Rattle.sva_model.specs.Acts.Act.{NewSpace, DropSpace, Map, Unmap, NewBinding, NewJob, Hold, LetGo, At}
+use Rattle.sva_model.specs.Acts.Act.{NewSpace, DropSpace, Map, Unmap, NewBinding, NewJob, Hold, LetGo, AtEndpoint}
 use Rattle.sva_model.specs.Steps.{decide, next, run, after_acts, world_after}
 use Rattle.sva_laws.specs.Laws.{FindsMappings}
 use Rattle.sva_laws.proofs.Words.{put-same, put-other, ℕ_cases}
@@ -49,7 +49,7 @@ act_latest w (NewBinding e) h = h
 act_latest w (NewJob e g) h = h
 act_latest w (Hold x j) h = h
 act_latest w (LetGo x) h = h
-act_latest w (At e o) h = h
+act_latest w (AtEndpoint e o) h = h
 
 acts_latest : (acts : List Act) (w : World) → HasLatest w.mappings → HasLatest (after_acts w acts).mappings
 acts_latest [] w h = h

@@ -3,15 +3,15 @@ use Rattle.std.proofs.Common.{◌≡◌, ◌≢◌, refl, ap, sym, ◌∙◌, �
 use Rattle.std.specs.Prelude.{Option, Some, None, if◌then◌else◌, [], ◌∷◌}
 use Rattle.sva_step.specs.declared.steps.Step.TheVariants as step
 use Rattle.sva_model.specs.Words.{any_below, is_some}
-use Rattle.sva_model.specs.Order.{Sort, stays_behind}
-use Rattle.sva_model.specs.Order.Sort.{StartSort, StopSort, ResetSort, MarkerSort, PageRequestSort, ResetDoneSort}
-use Rattle.sva_model.specs.State.{Part, World, About, RequestState, Stage}
+use Rattle.sva_model.specs.LinkOrder.{MessageKind, stays_behind}
+use Rattle.sva_model.specs.LinkOrder.MessageKind.{StartKind, StopKind, ResetKind, MarkerKind, PageRequestKind, ResetDoneKind}
+use Rattle.sva_model.specs.State.{Endpoint, World, Subject, RequestState, Stage}
 use Rattle.sva_model.specs.State.Stage.{Live}
 use Rattle.sva_model.specs.State.RequestState.{Out, Doomed, Over}
-use Rattle.sva_model.specs.State.About.{StartOf, StopOf, ResetOrder, CompletionOf, InvalidateOf, ResponseOf, RequestOf, InvalidatedOf, PageRequestOf}
-use Rattle.sva_model.specs.State.About.{MarkerOf, ResetDone}
+use Rattle.sva_model.specs.State.Subject.{StartOf, StopOf, FunctionReset, CompletionOf, InvalidateOf, ResponseOf, RequestOf, InvalidatedOf, PageRequestOf}
+use Rattle.sva_model.specs.State.Subject.{MarkerOf, ResetDone}
 use Rattle.sva_model.specs.States.{is_open, is_live_stage, is_out}
-use Rattle.sva_model.specs.Acts.{Act, Own}
+use Rattle.sva_model.specs.Acts.{Act, LocalAct}
 use Rattle.sva_model.specs.Refusals.{refusals}
 use Rattle.sva_model.specs.Outcomes.{outcome, about_outcome, deliver_outcome, completion_outcome, keep_outcome, is_full, request_outcome, found_for}
 use Rattle.sva_model.specs.Outcomes.{completion_message, count_outcome, page_request_outcome, marker_outcome}
@@ -23,40 +23,40 @@ use Rattle.sva_laws.proofs.Passed.{Passed, LegalAll, not_false}
 use Rattle.sva_laws.proofs.Unmap.{open_is}
 
 -- what is permitted stays behind nothing that is older
-nothing_held : (p : Part) (c : ℕ) (about : About) → Labels.is_permitted p c about ≡ true → (d : ℕ) → d < c
-    → Labels.holds_back p (Labels.sort_of p about) (p.message d) ≡ false
-nothing_held p c about h d l =
-    any_below-false c (λ d. Labels.holds_back p (Labels.sort_of p about) (p.message d))
-    (not_false (any_below c (λ d. Labels.holds_back p (Labels.sort_of p about) (p.message d))) h) d l
+nothing_held : (p : Endpoint) (c : ℕ) (subject : Subject) → Labels.is_permitted p c subject ≡ true → (d : ℕ) → d < c
+    → Labels.holds_back p (Labels.kind_of p subject) (p.message d) ≡ false
+nothing_held p c subject h d l =
+    any_below-false c (λ d. Labels.holds_back p (Labels.kind_of p subject) (p.message d))
+    (not_false (any_below c (λ d. Labels.holds_back p (Labels.kind_of p subject) (p.message d))) h) d l
 
-not_held : (p : Part) (s : Sort) (d : ℕ) (older : About) → Labels.holds_back p s (p.message d) ≡ false → stays_behind s (Labels.sort_of p older)
+not_held : (p : Endpoint) (s : MessageKind) (d : ℕ) (older : Subject) → Labels.holds_back p s (p.message d) ≡ false → stays_behind s (Labels.kind_of p older)
     ≡ true → p.message d ≢ Some older
 not_held p s d older h b e = absurd (cc (sym h ∙ ap (Labels.holds_back p s) e ∙ b))
 
 -- a start, a stop or a reset
-order_down : (p : Part) (c : ℕ) (s : Sort) → ((older : Sort) → stays_behind s older ≡ stays_behind ResetSort older)
+order_down : (p : Endpoint) (c : ℕ) (s : MessageKind) → ((older : MessageKind) → stays_behind s older ≡ stays_behind ResetKind older)
     → ((d : ℕ) → d < c → Labels.holds_back p s (p.message d) ≡ false) → NoOlderDown p c
 order_down p c s alike h =
     record {
-      no_start = λ d b l. not_held p s d (StartOf b) (h d l) (alike StartSort);
-      no_stop = λ d b l. not_held p s d (StopOf b) (h d l) (alike StopSort);
-      no_reset = λ d l. not_held p s d ResetOrder (h d l) (alike ResetSort);
-      no_invalidate = λ d k l. not_held p s d (InvalidateOf k) (h d l) (alike (Labels.sort_of p (InvalidateOf k)));
-      no_response = λ d g code l. not_held p s d (ResponseOf g code) (h d l) (alike (Labels.sort_of p (ResponseOf g code)));
+      no_start = λ d b l. not_held p s d (StartOf b) (h d l) (alike StartKind);
+      no_stop = λ d b l. not_held p s d (StopOf b) (h d l) (alike StopKind);
+      no_reset = λ d l. not_held p s d FunctionReset (h d l) (alike ResetKind);
+      no_invalidate = λ d k l. not_held p s d (InvalidateOf k) (h d l) (alike (Labels.kind_of p (InvalidateOf k)));
+      no_response = λ d g code l. not_held p s d (ResponseOf g code) (h d l) (alike (Labels.kind_of p (ResponseOf g code)));
     }
 
-marker_behind : (p : Part) (c : ℕ) → ((d : ℕ) → d < c → Labels.holds_back p MarkerSort (p.message d) ≡ false) → NoOlderPageRequest p c
-marker_behind p c h d r l = not_held p MarkerSort d (PageRequestOf r) (h d l) refl
+marker_behind : (p : Endpoint) (c : ℕ) → ((d : ℕ) → d < c → Labels.holds_back p MarkerKind (p.message d) ≡ false) → NoOlderPageRequest p c
+marker_behind p c h d r l = not_held p MarkerKind d (PageRequestOf r) (h d l) refl
 
-last_behind : (p : Part) (c r : ℕ) → ((d : ℕ) → d < c → Labels.holds_back p (PageRequestSort (p.is_last r)) (p.message d) ≡ false) → p.is_last r
+last_behind : (p : Endpoint) (c r : ℕ) → ((d : ℕ) → d < c → Labels.holds_back p (PageRequestKind (p.is_last r)) (p.message d) ≡ false) → p.is_last r
     ≡ true → NoOlderPageRequest p c
 last_behind p c r h last d x l =
-    not_held p (PageRequestSort (p.is_last r)) d (PageRequestOf x) (h d l) (ap (λ b. stays_behind (PageRequestSort b) (PageRequestSort (p.is_last x))) last)
+    not_held p (PageRequestKind (p.is_last r)) d (PageRequestOf x) (h d l) (ap (λ b. stays_behind (PageRequestKind b) (PageRequestKind (p.is_last x))) last)
 
-done_behind : (p : Part) (c : ℕ) → ((d : ℕ) → d < c → Labels.holds_back p ResetDoneSort (p.message d) ≡ false) → (d : ℕ) → d < c → p.message d ≡ None
+done_behind : (p : Endpoint) (c : ℕ) → ((d : ℕ) → d < c → Labels.holds_back p ResetDoneKind (p.message d) ≡ false) → (d : ℕ) → d < c → p.message d ≡ None
 done_behind p c h d l = go (p.message d) (h d l)
   where
-    go : (o : Option About) → Labels.holds_back p ResetDoneSort o ≡ false → o ≡ None
+    go : (o : Option Subject) → Labels.holds_back p ResetDoneKind o ≡ false → o ≡ None
     go None k = refl
     go (Some a) k = absurd (cc)
 
@@ -86,7 +86,8 @@ request_legal w e c r true l h o = go (found_for w (w.part e) r) refl
     live_is : (s : Stage) → is_live_stage s ≡ true → s ≡ Live
     live_is s k = grind arith
 
-    go : (x : Option ℕ) → found_for w (w.part e) r ≡ x → LegalAll w (Act.At e (Own.Complete c r x (completion_message w ((w.part e).request_tag r) x)) ∷ [])
+    go : (x : Option ℕ) → found_for w (w.part e) r ≡ x
+        → LegalAll w (Act.AtEndpoint e (LocalAct.Complete c r x (completion_message w ((w.part e).request_tag r) x)) ∷ [])
     go None f = ((l, ((h, open_is (w.part e) o, refl), tt), tt), tt)
     go (Some m) f =
         let there = live (is_live_stage ((w.part e).stage ((w.part e).request_binding r)))
@@ -108,11 +109,11 @@ marker_legal : (w : World) (e c d : ℕ) (b : Bool) → e < w.config.endpoints �
 marker_legal w e c d true l h n o = ((l, ((h, open_is (w.part e) o, n), tt), tt), tt)
 marker_legal w e c d false l h n o = ((l, ((MarkerOf d, h, o), tt), tt), tt)
 
-about_legal : (w : World) (e c : ℕ) (a : About) → e < w.config.endpoints → (w.part e).message c ≡ Some a → Labels.is_permitted (w.part e) c a ≡ true
+about_legal : (w : World) (e c : ℕ) (a : Subject) → e < w.config.endpoints → (w.part e).message c ≡ Some a → Labels.is_permitted (w.part e) c a ≡ true
     → LegalAll w (about_outcome w (w.part e) e c a).acts
-about_legal w e c (StartOf b) l h p = ((l, ((h, order_down (w.part e) c StartSort (λ s. refl) (nothing_held (w.part e) c (StartOf b) p)), tt), tt), tt)
-about_legal w e c (StopOf b) l h p = ((l, ((h, order_down (w.part e) c StopSort (λ s. refl) (nothing_held (w.part e) c (StopOf b) p)), tt), tt), tt)
-about_legal w e c ResetOrder l h p = ((l, ((h, order_down (w.part e) c ResetSort (λ s. refl) (nothing_held (w.part e) c ResetOrder p)), tt), tt), tt)
+about_legal w e c (StartOf b) l h p = ((l, ((h, order_down (w.part e) c StartKind (λ s. refl) (nothing_held (w.part e) c (StartOf b) p)), tt), tt), tt)
+about_legal w e c (StopOf b) l h p = ((l, ((h, order_down (w.part e) c StopKind (λ s. refl) (nothing_held (w.part e) c (StopOf b) p)), tt), tt), tt)
+about_legal w e c FunctionReset l h p = ((l, ((h, order_down (w.part e) c ResetKind (λ s. refl) (nothing_held (w.part e) c FunctionReset p)), tt), tt), tt)
 about_legal w e c (CompletionOf r found) l h p = completion_legal w e c r found ((w.part e).request r) l h refl
 about_legal w e c (InvalidateOf k) l h p = ((l, (h, tt), tt), tt)
 about_legal w e c (ResponseOf g code) l h p = ((l, (h, tt), tt), tt)
@@ -124,7 +125,7 @@ about_legal w e c (MarkerOf b) l h p =
     marker_legal w e c b (is_open (w.part e).phase) l h (marker_behind (w.part e) c (nothing_held (w.part e) c (MarkerOf b) p)) refl
 about_legal w e c ResetDone l h p = ((l, ((h, done_behind (w.part e) c (nothing_held (w.part e) c ResetDone p)), tt), tt), tt)
 
-message_legal : (w : World) (e c : ℕ) (o : Option About) → Invariant w → (w.part e).message c ≡ o → Labels.is_permitted_now (w.part e) c o ≡ true
+message_legal : (w : World) (e c : ℕ) (o : Option Subject) → Invariant w → (w.part e).message c ≡ o → Labels.is_permitted_now (w.part e) c o ≡ true
     → LegalAll w (deliver_outcome w (w.part e) e c o).acts
 message_legal w e c None i h p = tt
 message_legal w e c (Some a) i h p = about_legal w e c a ((i.parts e).near c (ap is_some h)) h p
@@ -132,5 +133,5 @@ message_legal w e c (Some a) i h p = about_legal w e c a ((i.parts e).near c (ap
 pub deliver : (w : World) (n : ℕ) → Invariant w → Passed (refusals w (step.Deliver n)) → LegalAll w (outcome w (step.Deliver n)).acts
 deliver w n i h =
     let c = Labels.name w n in
-    let e = w.way c in
+    let e = w.link_of c in
     message_legal w e c ((w.part e).message c) i refl (not_true (Labels.is_permitted_now (w.part e) c ((w.part e).message c)) h.1.0)

@@ -4,11 +4,11 @@ use Rattle.std.specs.Prelude.{Option, Some, None, ◌&&◌, ◌||◌, not, ◌==
 use Rattle.std.proofs.lemmas.Bool.Decides.{nat_tests}
 use Rattle.sva_step.specs.declared.steps.Step.TheVariants as step
 use Rattle.sva_model.specs.Words.{any_below, is_some, holds_of, the}
-use Rattle.sva_model.specs.State.{Part, World, PasidState, GroupState}
+use Rattle.sva_model.specs.State.{Endpoint, World, PasidState, GroupState}
 use Rattle.sva_model.specs.State.PasidState.{On, Ending}
 use Rattle.sva_model.specs.State.UseState.{Running}
-use Rattle.sva_model.specs.State.GroupState.{Unfinished}
-use Rattle.sva_model.specs.States.{is_on, is_ending, is_off, is_out, is_running, is_unfinished, is_outstanding, is_taken, uses_noted, covers}
+use Rattle.sva_model.specs.State.GroupState.{Collecting}
+use Rattle.sva_model.specs.States.{is_on, is_ending, is_off, is_out, is_running, is_collecting, is_outstanding, is_taken, uses_noted, covers}
 use Rattle.sva_model.specs.Refusals.{refusals, fault_refusals}
 use Rattle.sva_model.specs.Outcomes.{outcome, fault_outcome}
 use Rattle.sva_model.specs.Labels
@@ -26,7 +26,7 @@ on_is s h = grind arith
 ending_is : (s : PasidState) → is_ending s ≡ true → s ≡ Ending
 ending_is s h = grind arith
 
-started_on : (p : Part) (t : ℕ) → Labels.is_started p t ≡ true → p.pasid_state (Labels.bearer p t) ≡ On
+started_on : (p : Endpoint) (t : ℕ) → Labels.is_started p t ≡ true → p.pasid_state (Labels.bearer p t) ≡ On
 started_on p t h = on_is (p.pasid_state (Labels.bearer p t)) (bearer_of p t (λ b. is_on (p.pasid_state b)) h).1
 
 pub ask : (w : World) (e t q : ℕ) → Invariant w → Passed (refusals w (step.Ask e t q)) → LegalAll w (outcome w (step.Ask e t q)).acts
@@ -41,12 +41,12 @@ ask w e t q i h =
     )
 
 -- what is cached for a PASID and page
-pub record Cached (p : Part) (t q : ℕ) : Type 0 where
+pub record Cached (p : Endpoint) (t q : ℕ) : Type 0 where
   pub held : p.held (Labels.cached p (Labels.bearer p t) q) ≡ Some (the (p.held (Labels.cached p (Labels.bearer p t) q)))
   pub binding : p.request_binding (Labels.cached p (Labels.bearer p t) q) ≡ Labels.bearer p t
   pub page : p.request_page (Labels.cached p (Labels.bearer p t) q) ≡ q
 
-pub cached_is : (p : Part) (t q : ℕ) → Labels.is_cached p t q ≡ true → Cached p t q
+pub cached_is : (p : Endpoint) (t q : ℕ) → Labels.is_cached p t q ≡ true → Cached p t q
 cached_is p t q h =
     let b = Labels.bearer p t in
     let some = any_below-true p.requests (Labels.is_held_at p b q) (bearer_of p t (λ d. any_below p.requests (Labels.is_held_at p d q)) h).1 in
@@ -101,7 +101,7 @@ evict w e t q i h =
     ((is_less e w.config.endpoints h.0, ((the (p.held (Labels.cached p (Labels.bearer p t) q)), c.held), tt), tt), tt)
 
 -- where fewer than 32 page requests are outstanding, a group index is free: each group has a page request of its own
-index_free : (g : ℕ) (p : Part) → Groups p → Bounds g p → nat_le 32 (Labels.outstanding p) ≡ false → (Labels.lowest_label 32 p.at_index == 32) ≡ false
+index_free : (g : ℕ) (p : Endpoint) → Groups p → Bounds g p → nat_le 32 (Labels.outstanding p) ≡ false → (Labels.lowest_label 32 p.at_index == 32) ≡ false
 index_free g p gr bo h = go (lowest_cases 32 (λ t. not (is_some (p.at_index t))))
   where
     full : ((j : ℕ) → j < 32 → not (is_some (p.at_index j)) ≡ false) → 32 ≤ Labels.outstanding p
@@ -135,10 +135,10 @@ index_free g p gr bo h = go (lowest_cases 32 (λ t. not (is_some (p.at_index t))
     go (inl x) = absurd (less (full x.1) h)
     go (inr x) = below (Labels.lowest_label 32 p.at_index) x.0
 
-credit : (p : Part) → nat_le 32 (Labels.outstanding p) ≡ false → Labels.outstanding p < 32
+credit : (p : Endpoint) → nat_le 32 (Labels.outstanding p) ≡ false → Labels.outstanding p < 32
 credit p h = grind (arith, nat_tests)
 
-unfinished_is : (s : GroupState) → is_unfinished s ≡ true → s ≡ Unfinished
+unfinished_is : (s : GroupState) → is_collecting s ≡ true → s ≡ Collecting
 unfinished_is s h = grind arith
 
 fault_at : (w : World) (e t q : ℕ) (r x l : Bool) (o : Option ℕ) → Invariant w → e < w.config.endpoints → Passed (fault_refusals w (w.part e) t o)
@@ -169,10 +169,10 @@ fault_at w e t q r x l (Some k) i b h =
     parts_of a c x y h = grind (arith, nat_tests)
 
     group_is : (o : Option ℕ)
-        → holds_of (λ g. is_unfinished ((w.part e).group g) && is_some ((w.part e).at_pasid t) && (w.part e).asker g == Labels.bearer (w.part e) t) o
-        ≡ true → (is_unfinished ((w.part e).group (the o)) ≡ true) × ((w.part e).asker (the o) ≡ Labels.bearer (w.part e) t)
+        → holds_of (λ g. is_collecting ((w.part e).group g) && is_some ((w.part e).at_pasid t) && (w.part e).asker g == Labels.bearer (w.part e) t) o
+        ≡ true → (is_collecting ((w.part e).group (the o)) ≡ true) × ((w.part e).asker (the o) ≡ Labels.bearer (w.part e) t)
     group_is None h = absurd (cc)
-    group_is (Some g) h = parts_of (is_unfinished ((w.part e).group g)) (is_some ((w.part e).at_pasid t)) ((w.part e).asker g) (Labels.bearer (w.part e) t) h
+    group_is (Some g) h = parts_of (is_collecting ((w.part e).group g)) (is_some ((w.part e).at_pasid t)) ((w.part e).asker g) (Labels.bearer (w.part e) t) h
 
     not_off : (s : PasidState) → (s ≡ On) ⊎ (s ≡ Ending) → is_off s ≡ false
     not_off s (inl h) = ap is_off h
@@ -214,7 +214,8 @@ finish_set w e vector t i pending l s =
         second : (a b : Bool) → a ≡ true → (a && not b) ≡ false → b ≡ true
         second a b x y = grind arith
 
-    pending_at : (p : Part) → Labels.is_pending p t ≡ true → (p.at_itag t ≡ Some (the (p.at_itag t))) × (is_taken (p.order_state (the (p.at_itag t))) ≡ true)
+    pending_at : (p : Endpoint) → Labels.is_pending p t ≡ true → (p.at_itag t ≡ Some (the (p.at_itag t)))
+        × (is_taken (p.order_state (the (p.at_itag t))) ≡ true)
     pending_at p h = go (p.at_itag t) h
       where
         go : (o : Option ℕ) → holds_of (λ k. is_taken (p.order_state k)) o ≡ true → (o ≡ Some (the o)) × (is_taken (p.order_state (the o)) ≡ true)
@@ -305,8 +306,8 @@ quit w e t i h =
         (
           (
             ending_is (p.pasid_state b) ending.1,
-            λ x u same. none (is_unfinished (p.group x)) (p.asker x) b (ap is_unfinished u) same
-                (any_below-false p.groups (λ g. is_unfinished (p.group g) && p.asker g == b) groups x (group_made x u)),
+            λ x u same. none (is_collecting (p.group x)) (p.asker x) b (ap is_collecting u) same
+                (any_below-false p.groups (λ g. is_collecting (p.group g) && p.asker g == b) groups x (group_made x u)),
             λ r o same. none (is_out (p.request r)) (p.request_binding r) b o same
                 (any_below-false p.requests (λ x. is_out (p.request x) && p.request_binding x == b) requests r (request_made r o)),
             λ u r same. none (is_running (p.use_state u)) (p.use_binding u) b (ap is_running r) same
@@ -322,7 +323,7 @@ quit w e t i h =
     none : (x : Bool) (a b : ℕ) → x ≡ true → a ≡ b → (x && a == b) ≡ false → ⊥
     none x a b h e f = grind (arith, nat_tests)
 
-    group_made : (x : ℕ) → (w.part e).group x ≡ Unfinished → x < (w.part e).groups
+    group_made : (x : ℕ) → (w.part e).group x ≡ Collecting → x < (w.part e).groups
     group_made x u = grind (arith, (i.parts e).bounds.group x)
 
     request_made : (r : ℕ) → is_out ((w.part e).request r) ≡ true → r < (w.part e).requests

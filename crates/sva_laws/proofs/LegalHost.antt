@@ -4,7 +4,7 @@ use Rattle.std.specs.Prelude.{◌&&◌, not, ◌==◌, nat_le}
 use Rattle.std.proofs.lemmas.Bool.Decides.{nat_tests}
 use Rattle.sva_step.specs.declared.steps.Step.TheVariants as step
 use Rattle.sva_model.specs.Words.{is_some, the}
-use Rattle.sva_model.specs.State.{Part, World, Stage, OrderState}
+use Rattle.sva_model.specs.State.{Endpoint, World, Stage, OrderState}
 use Rattle.sva_model.specs.State.Stage.{Unbound, Live, Stopping, Draining, Invalidating, Quiet, Lost, Released}
 use Rattle.sva_model.specs.State.OrderState.{Done}
 use Rattle.sva_model.specs.States.{is_unreleased, is_done, is_free, is_open_group}
@@ -56,7 +56,7 @@ bind w e n i h =
             (
               and_right (Labels.is_number w w.spaces n) (w.is_live s) (not_true (Labels.is_space w n) h.1.0),
               λ r. is.its w e s t r refl i given,
-              put-same w.home w.bindings e,
+              put-same w.endpoint_of w.bindings e,
             ),
           ),
           tt,
@@ -66,12 +66,12 @@ bind w e n i h =
     )
 
 -- the binding of a step by its number
-home_there : (w : World) (n : ℕ) → Invariant w → not (Labels.is_binding w n) ≡ false → w.home (Labels.name w n) < w.config.endpoints
+home_there : (w : World) (n : ℕ) → Invariant w → not (Labels.is_binding w n) ≡ false → w.endpoint_of (Labels.name w n) < w.config.endpoints
 home_there w n i h =
     let b = Labels.name w n in
-    (i.parts (w.home b)).there b
-    (unreleased_bound (w.part (w.home b)) b
-    (and_right (Labels.is_number w w.bindings n) (is_unreleased ((w.part (w.home b)).stage b)) (not_true (Labels.is_binding w n) h)))
+    (i.parts (w.endpoint_of b)).there b
+    (unreleased_bound (w.part (w.endpoint_of b)) b
+    (and_right (Labels.is_number w w.bindings n) (is_unreleased ((w.part (w.endpoint_of b)).stage b)) (not_true (Labels.is_binding w n) h)))
 
 unbind_at : (w : World) (e b : ℕ) (s : Stage) → e < w.config.endpoints → (w.part e).stage b ≡ s → Passed (unbind_refusals w e s)
     → LegalAll w (unbind_outcome e b s).acts
@@ -85,20 +85,20 @@ unbind_at w e b Quiet l f h = absurd (cc h.0)
 unbind_at w e b Released l f h = absurd (cc h.0)
 
 pub unbind : (w : World) (n : ℕ) → Invariant w → Passed (refusals w (step.Unbind n)) → LegalAll w (outcome w (step.Unbind n)).acts
-unbind w n i h = unbind_at w (w.home (Labels.name w n)) (Labels.name w n) ((w.part (w.home (Labels.name w n))).stage (Labels.name w n))
+unbind w n i h = unbind_at w (w.endpoint_of (Labels.name w n)) (Labels.name w n) ((w.part (w.endpoint_of (Labels.name w n))).stage (Labels.name w n))
     (home_there w n i h.0) refl h.1
 
 done_is : (s : OrderState) → is_done s ≡ true → s ≡ Done
 done_is s h = grind arith
 
-short_one : (p : Part) → is_queue_short p 1 ≡ false → Labels.queue_length p < 64
+short_one : (p : Endpoint) → is_queue_short p 1 ≡ false → Labels.queue_length p < 64
 short_one p h = grind (arith, nat_tests)
 
-short_two : (p : Part) → is_queue_short p 2 ≡ false → suc (Labels.queue_length p) < 64
+short_two : (p : Endpoint) → is_queue_short p 2 ≡ false → suc (Labels.queue_length p) < 64
 short_two p h = grind (arith, nat_tests)
 
 -- no group of the binding is open
-no_open_group : (g : ℕ) (p : Part) (b : ℕ) → Bounds g p → Labels.has_open_group p b ≡ false → (x : ℕ) → is_open_group (p.host_group x) ≡ true
+no_open_group : (g : ℕ) (p : Endpoint) (b : ℕ) → Bounds g p → Labels.has_open_group p b ≡ false → (x : ℕ) → is_open_group (p.host_group x) ≡ true
     → p.filed_under x ≢ b
 no_open_group g p b bo h x o same =
     let lt = made x o in
@@ -145,7 +145,7 @@ advance_at w e b Lost i l f h = absurd (cc h.1.0)
 advance_at w e b Released i l f h = absurd (cc h.1.0)
 
 pub advance : (w : World) (n : ℕ) → Invariant w → Passed (refusals w (step.Advance n)) → LegalAll w (outcome w (step.Advance n)).acts
-advance w n i h = advance_at w (w.home (Labels.name w n)) (Labels.name w n) ((w.part (w.home (Labels.name w n))).stage (Labels.name w n)) i
+advance w n i h = advance_at w (w.endpoint_of (Labels.name w n)) (Labels.name w n) ((w.part (w.endpoint_of (Labels.name w n))).stage (Labels.name w n)) i
     (home_there w n i h.0) refl h.1
 
 -- an unmapping takes out at least one page

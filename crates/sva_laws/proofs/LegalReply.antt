@@ -10,8 +10,8 @@ use Rattle.sva_model.specs.State.{MappingState, World, Stage, HostGroupState}
 use Rattle.sva_model.specs.State.MappingState.{Unmade, Present, Gone}
 use Rattle.sva_model.specs.State.Stage.{Unbound, Live, Stopping, Draining, Invalidating, Quiet, Lost, Released}
 use Rattle.sva_model.specs.States.{is_open, is_unreleased, is_free, is_free_place, place_at, place_by, is_before_invalidating}
-use Rattle.sva_model.specs.Acts.{Own, act}
-use Rattle.sva_model.specs.Acts.Act.{Map, LetGo, At}
+use Rattle.sva_model.specs.Acts.{LocalAct, act}
+use Rattle.sva_model.specs.Acts.Act.{Map, LetGo, AtEndpoint}
 use Rattle.sva_model.specs.Refusals.{refusals}
 use Rattle.sva_model.specs.Outcomes.{outcome, reply_outcome}
 use Rattle.sva_model.specs.Replies.{response, response_to, is_success, replies_success, unseen, newly_mapped, maps_to, reply_maps, free_list}
@@ -78,7 +78,8 @@ next_unmapped w s q f x seen u r h =
 -- the pages that are mapped by a success, and then the response
 maps_legal : (x e g : ℕ) (code : Code) (s : ℕ) (write : ℕ → Bool) (qs : List ℕ) (seen : ℕ → Bool) (fs : List ℕ) (w : World) → Invariant w
     → w.is_live s ≡ true → ((q : ℕ) → seen q ≡ false → w.mappings.at s q ≡ None) → AreFree w fs
-    → LegalAll w (LetGo x ∷ At e (Own.Respond g code) ∷ []) → LegalAll w (maps_to s write (unseen seen qs) fs ++ LetGo x ∷ At e (Own.Respond g code) ∷ [])
+    → LegalAll w (LetGo x ∷ AtEndpoint e (LocalAct.Respond g code) ∷ [])
+        → LegalAll w (maps_to s write (unseen seen qs) fs ++ LetGo x ∷ AtEndpoint e (LocalAct.Respond g code) ∷ [])
 maps_legal x e g code s write [] seen fs w i l u a rest = rest
 maps_legal x e g code s write (q ∷ qs) seen fs w i l u a rest =
     go (seen q) refl (λ fs' k. maps_legal x e g code s write qs seen fs' w i l u k rest) fs a
@@ -86,12 +87,12 @@ maps_legal x e g code s write (q ∷ qs) seen fs w i l u a rest =
     l (next_unmapped w s q f (write q) seen u) k rest)
   where
     go : (b : Bool) → seen q ≡ b
-        → ((fs' : List ℕ) → AreFree w fs' → LegalAll w (maps_to s write (unseen seen qs) fs' ++ LetGo x ∷ At e (Own.Respond g code) ∷ []))
+        → ((fs' : List ℕ) → AreFree w fs' → LegalAll w (maps_to s write (unseen seen qs) fs' ++ LetGo x ∷ AtEndpoint e (LocalAct.Respond g code) ∷ []))
         → (fs' : List ℕ) → AreFree w fs'
         → ((f : ℕ) (fs'' : List ℕ) → Legal w (Map s q f (write q)) → AreFree (act w (Map s q f (write q))) fs''
-        → LegalAll (act w (Map s q f (write q))) (maps_to s write (unseen (λ r. r == q || seen r) qs) fs'' ++ LetGo x ∷ At e (Own.Respond g code)
+        → LegalAll (act w (Map s q f (write q))) (maps_to s write (unseen (λ r. r == q || seen r) qs) fs'' ++ LetGo x ∷ AtEndpoint e (LocalAct.Respond g code)
         ∷ [])) → LegalAll w (maps_to s write (if b then unseen seen qs else q ∷ unseen (λ r. r == q || seen r) qs) fs' ++ LetGo x
-        ∷ At e (Own.Respond g code) ∷ [])
+        ∷ AtEndpoint e (LocalAct.Respond g code) ∷ [])
     go true h same fs' k next = same fs' k
     go false h same [] k next = rest
     go false h same (f ∷ fs') k next =
@@ -219,13 +220,13 @@ reply_at w x j v None i h r = (
 )
 reply_at w x j v (Some code) i h r =
     let sent = sent_open (is_open (job_part w j).phase) ((job_part w j).stage (job_binding w j)) v code r in
-    let rest : LegalAll w (LetGo x ∷ At (w.job j).endpoint (Own.Respond (w.job j).group code) ∷ []) =
+    let rest : LegalAll w (LetGo x ∷ AtEndpoint (w.job j).endpoint (LocalAct.Respond (w.job j).group code) ∷ []) =
     (tt, ((hand_there w x j i h, ((open_is (job_part w j) sent.0, in_hand w x j i h, sent.1), tt), let_go w x j i h), tt)) in
     go (replies_success w j v) refl rest
   where
-    go : (b : Bool) → replies_success w j v ≡ b → LegalAll w (LetGo x ∷ At (w.job j).endpoint (Own.Respond (w.job j).group code) ∷ [])
+    go : (b : Bool) → replies_success w j v ≡ b → LegalAll w (LetGo x ∷ AtEndpoint (w.job j).endpoint (LocalAct.Respond (w.job j).group code) ∷ [])
         → LegalAll w ((if b then maps_to (job_space w j) (is_write_asked w j) (newly_mapped w j) (free_list w) else []) ++ LetGo x
-        ∷ At (w.job j).endpoint (Own.Respond (w.job j).group code) ∷ [])
+        ∷ AtEndpoint (w.job j).endpoint (LocalAct.Respond (w.job j).group code) ∷ [])
     go true e rest =
         maps_legal x (w.job j).endpoint (w.job j).group code (job_space w j) (is_write_asked w j) (map (job_part w j).asked_page (job_asks w j))
         (Labels.is_mapped w (job_space w j)) (free_list w) w i

@@ -3,15 +3,15 @@ use Rattle.std.proofs.Common.{◌≡◌, ◌≢◌, refl, ap, sym, ◌∙◌, �
 use Rattle.std.specs.Prelude.{◌||◌, not, ◌==◌, [], ◌∷◌}
 use Rattle.sva_step.specs.declared.steps.Step.TheVariants as step
 use Rattle.sva_model.specs.Words.{put, lowest, any_below}
-use Rattle.sva_model.specs.State.{Part, World, Order, OrderState, PageRequestState, HostGroupState}
+use Rattle.sva_model.specs.State.{Endpoint, World, Order, OrderState, PageRequestState, HostGroupState}
 use Rattle.sva_model.specs.State.PageRequestState.{Arrived}
 use Rattle.sva_model.specs.State.HostGroupState.{Job, InHand}
 use Rattle.sva_model.specs.State.Order.{RangeOf, PasidOf, Wait}
 use Rattle.sva_model.specs.State.OrderState.{Queued}
 use Rattle.sva_model.specs.State.Phase.{Open}
 use Rattle.sva_model.specs.States.{is_queued, is_busy, is_arrived, is_job, is_wait, drains}
-use Rattle.sva_model.specs.Acts.{Own, own}
-use Rattle.sva_model.specs.Acts.Act.{At, Hold}
+use Rattle.sva_model.specs.Acts.{LocalAct, own}
+use Rattle.sva_model.specs.Acts.Act.{AtEndpoint, Hold}
 use Rattle.sva_model.specs.Refusals.{refusals}
 use Rattle.sva_model.specs.Outcomes.{outcome, pump_outcome, head_outcome, wait_outcome, send_outcome, may_pass, serve_outcome, file_outcome}
 use Rattle.sva_model.specs.Labels
@@ -22,11 +22,11 @@ use Rattle.sva_laws.proofs.Invariant.{Invariant}
 use Rattle.sva_laws.proofs.Passed.{Passed, LegalAll, is_less, and_left, and_right, not_false, opened_is, label_low, label_free}
 
 -- Pump: the head is the lowest order that is queued.
-record Head (p : Part) : Type 0 where
+record Head (p : Endpoint) : Type 0 where
   queued : p.order_state (Labels.head p) ≡ Queued
   lowest : (j : ℕ) → j < Labels.head p → p.order_state j ≢ Queued
 
-head_is : (p : Part) → not (any_below p.orders (λ k. is_queued (p.order_state k))) ≡ false → Head p
+head_is : (p : Endpoint) → not (any_below p.orders (λ k. is_queued (p.order_state k))) ≡ false → Head p
 head_is p h =
     let some = any_below-true p.orders (λ k. is_queued (p.order_state k)) (not_true (any_below p.orders (λ k. is_queued (p.order_state k))) h) in
     let low = lowest_below p.orders (λ k. is_queued (p.order_state k)) some.0 some.1 some.2 in
@@ -39,13 +39,13 @@ head_is p h =
     not_queued s k e = absurd (cc)
 
 -- no order bears an ITag: those not made yet don't either
-idle : (g : ℕ) (p : Part) → Bounds g p → Labels.is_some_busy p ≡ false → (j : ℕ) → is_busy (p.order_state j) ≡ false
+idle : (g : ℕ) (p : Endpoint) → Bounds g p → Labels.is_some_busy p ≡ false → (j : ℕ) → is_busy (p.order_state j) ≡ false
 idle g p bo h j =
     let f : j < p.orders → is_busy (p.order_state j) ≡ false = any_below-false p.orders (λ k. is_busy (p.order_state k)) h j in
     grind (arith, f, bo.order_state j)
 
 -- the page request queue is empty: nothing has arrived and isn't filed
-none_arrived : (p : Part) → QueuedRequests p → Labels.is_page_queue_empty p ≡ true → (r : ℕ) → p.page_request r ≢ Arrived
+none_arrived : (p : Endpoint) → QueuedRequests p → Labels.is_page_queue_empty p ≡ true → (r : ℕ) → p.page_request r ≢ Arrived
 none_arrived p qu h r a =
     let place = qu.arrived r a in
     let f = any_below-false p.arrivals (Labels.is_waiting p) (not_false (any_below p.arrivals (Labels.is_waiting p)) h) (p.arrived_as r) place.0 in
@@ -109,11 +109,11 @@ pub pump : (w : World) (e : ℕ) → Invariant w → Passed (refusals w (step.Pu
 pump w e i h = pump_at w e (Labels.is_queue_empty (w.part e)) i (is_less e w.config.endpoints h.0) (opened_is (w.part e) h.1.0) refl
 
 -- Serve: the oldest page request that arrived is filed.
-record Oldest (p : Part) : Type 0 where
+record Oldest (p : Endpoint) : Type 0 where
   arrived : p.page_request (Labels.oldest_arrived p) ≡ Arrived
   first : (x : ℕ) → p.page_request x ≡ Arrived → p.arrived_as (Labels.oldest_arrived p) ≤ p.arrived_as x
 
-oldest_is : (p : Part) → QueuedRequests p → Labels.is_page_queue_empty p ≡ false → Oldest p
+oldest_is : (p : Endpoint) → QueuedRequests p → Labels.is_page_queue_empty p ≡ false → Oldest p
 oldest_is p qu h =
     let some = any_below-true p.arrivals (Labels.is_waiting p) (not_true (any_below p.arrivals (Labels.is_waiting p)) h) in
     let low = lowest_below p.arrivals (Labels.is_waiting p) some.0 some.1 some.2 in
@@ -154,7 +154,7 @@ pub group_there : (w : World) (e x : ℕ) → Invariant w → x < (w.part e).gro
 group_there w e x i l = (i.parts e).there ((w.part e).asker x) ((i.parts e).groups.asker_bound x l)
 
 take_at : (w : World) (x j : ℕ) → Invariant w → j < w.jobs → Labels.is_queued_job w j ≡ true
-    → LegalAll w (At (w.job j).endpoint (Own.Hand (w.job j).group x) ∷ Hold x j ∷ [])
+    → LegalAll w (AtEndpoint (w.job j).endpoint (LocalAct.Hand (w.job j).group x) ∷ Hold x j ∷ [])
 take_at w x j i l h =
     let e = (w.job j).endpoint in
     let g = (w.job j).group in
@@ -169,8 +169,8 @@ take_at w x j i l h =
     made : (e g : ℕ) → is_job ((w.part e).host_group g) ≡ true → g < (w.part e).groups
     made e g k = grind (arith, (i.parts e).bounds.host_group g)
 
-    held : (e g : ℕ) → (put w.part e (own (w.part e) w.messages (Own.Hand g x)) e).host_group g ≡ InHand x
-    held e g = ap (λ p. p.host_group g) (put-same w.part e (own (w.part e) w.messages (Own.Hand g x))) ∙ put-same (w.part e).host_group g (InHand x)
+    held : (e g : ℕ) → (put w.part e (own (w.part e) w.messages (LocalAct.Hand g x)) e).host_group g ≡ InHand x
+    held e g = ap (λ p. p.host_group g) (put-same w.part e (own (w.part e) w.messages (LocalAct.Hand g x))) ∙ put-same (w.part e).host_group g (InHand x)
 
 pub take : (w : World) (x : ℕ) → Invariant w → Passed (refusals w (step.Take x)) → LegalAll w (outcome w (step.Take x)).acts
 take w x i h =

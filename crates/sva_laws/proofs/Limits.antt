@@ -6,18 +6,18 @@ use Rattle.std.proofs.lemmas.Bool.Decides.{nat_tests}
 use Rattle.sva_step.specs.declared.limits.Config.{Config}
 use Rattle.sva_step.specs.declared.steps.Step.{Step}
 use Rattle.sva_model.specs.Words.{count_below}
-use Rattle.sva_model.specs.State.{Mappings, Part, World, opened}
+use Rattle.sva_model.specs.State.{Mappings, Endpoint, World, opened}
 use Rattle.sva_model.specs.State.PageRequestState.{Arrived}
 use Rattle.sva_model.specs.State.Phase.{Open}
 use Rattle.sva_model.specs.States.{Place, is_arrived, is_outstanding, is_open, place}
 use Rattle.sva_model.specs.States.Place.{Free, Mapped, Withheld}
-use Rattle.sva_model.specs.Acts.{Act, Own, act, own, submitted_if, submits, bound, cookie_of}
-use Rattle.sva_model.specs.Acts.Act.{NewSpace, DropSpace, Map, Unmap, NewBinding, NewJob, Hold, LetGo, At}
+use Rattle.sva_model.specs.Acts.{Act, LocalAct, act, own, submitted_if, submits, bound, cookie_of}
+use Rattle.sva_model.specs.Acts.Act.{NewSpace, DropSpace, Map, Unmap, NewBinding, NewJob, Hold, LetGo, AtEndpoint}
 use Rattle.sva_model.specs.Labels.{outstanding, is_waiting}
 use Rattle.sva_model.specs.Steps.{decide, next, run, after_acts, world_after, counts, is_free_at, is_mapped_at, is_withheld_at}
 use Rattle.sva_laws.specs.Laws.{page_queue, waiting}
 use Rattle.sva_laws.proofs.Counting.{bit, bit_most, count_next, count_less, length_select, count_placed}
-use Rattle.sva_laws.proofs.Legal.{LegalOwn}
+use Rattle.sva_laws.proofs.Legal.{LegalLocalAct}
 use Rattle.sva_laws.proofs.Bounds.{Bounds}
 use Rattle.sva_laws.proofs.PageRequests.{Queued}
 use Rattle.sva_laws.proofs.Invariant.{Invariant}
@@ -27,17 +27,17 @@ use Rattle.sva_laws.proofs.Runs.{always, step_legal, next_keeps, opened_invarian
 
 -- An act of an endpoint: a page request that was outstanding after it was so before, but for the one that is new.
 
-out_before : (ms : Mappings) (g n : ℕ) (p : Part) (o : Own) → LegalOwn ms g p o → (r : ℕ) → r < p.page_requests → p.group_of r < p.groups
+out_before : (ms : Mappings) (g n : ℕ) (p : Endpoint) (o : LocalAct) → LegalLocalAct ms g p o → (r : ℕ) → r < p.page_requests → p.group_of r < p.groups
     → is_outstanding ((own p n o).group ((own p n o).group_of r)) ≡ true → is_outstanding (p.group (p.group_of r)) ≡ true
 out_before ms g n p o l r lt made h = grind (arith, nat_tests)
 
-one_more : (ms : Mappings) (g n : ℕ) (p : Part) (o : Own) → LegalOwn ms g p o → ((own p n o).page_requests ≡ p.page_requests)
+one_more : (ms : Mappings) (g n : ℕ) (p : Endpoint) (o : LocalAct) → LegalLocalAct ms g p o → ((own p n o).page_requests ≡ p.page_requests)
     ⊎ (((own p n o).page_requests ≡ suc p.page_requests) × (outstanding p < 32))
-one_more ms g n p (Own.Group b i q r x l) h = inr (refl, h.3)
-one_more ms g n p (Own.Request y q r x l) h = inr (refl, h.2)
+one_more ms g n p (LocalAct.Group b i q r x l) h = inr (refl, h.3)
+one_more ms g n p (LocalAct.Request y q r x l) h = inr (refl, h.2)
 one_more ms g n p o h = inl (grind arith)
 
-own_limited : (ms : Mappings) (g n : ℕ) (p : Part) (o : Own) → LegalOwn ms g p o → Bounds g p → outstanding p ≤ 32 → outstanding (own p n o) ≤ 32
+own_limited : (ms : Mappings) (g n : ℕ) (p : Endpoint) (o : LocalAct) → LegalLocalAct ms g p o → Bounds g p → outstanding p ≤ 32 → outstanding (own p n o) ≤ 32
 own_limited ms g n p o l bo h = go (one_more ms g n p o l)
   where
     now : ℕ → Bool
@@ -51,7 +51,7 @@ own_limited ms g n p o l bo h = go (one_more ms g n p o l)
     go (inl e) = subst (λ k. count_below k now ≤ 32) (sym e) (omega (arith, less, h))
     go (inr x) = subst (λ k. count_below k now ≤ 32) (sym x.0) (omega (arith, less, x.1, count_next p.page_requests now, bit_most (now p.page_requests)))
 
-submitted_limited : (t : Bool) (p : Part) (o : Option ℕ) (q count order cookie : ℕ) → outstanding p ≤ 32
+submitted_limited : (t : Bool) (p : Endpoint) (o : Option ℕ) (q count order cookie : ℕ) → outstanding p ≤ 32
     → outstanding (submitted_if t p o q count order cookie) ≤ 32
 submitted_limited true p (Some b) q count order cookie h = h
 submitted_limited true p None q count order cookie h = h
@@ -69,7 +69,7 @@ act_limited w (NewBinding e) l i h = h
 act_limited w (NewJob e g) l i h = h
 act_limited w (Hold x j) l i h = h
 act_limited w (LetGo x) l i h = h
-act_limited w (At e o) l i h =
+act_limited w (AtEndpoint e o) l i h =
     put_keeps (λ k p. outstanding p ≤ 32) w.part e (own (w.part e) w.messages o)
     (own_limited w.mappings w.bindings w.messages (w.part e) o l.1.0 (i.parts e).bounds (h e)) h
 
@@ -92,7 +92,7 @@ always_outstanding rule c ss = run_limited ss (opened rule c) (opened_invariant 
 pub always_page_queue : (rule : PasidRule) (c : Config) (ss : List Step) (e : ℕ) → page_queue ((world_after rule c ss).part e) ≤ 32
 always_page_queue rule c ss e = omega (arith, less, always_outstanding rule c ss e)
   where
-    p : Part
+    p : Endpoint
     p = (world_after rule c ss).part e
 
     is : (b : Bool) → is_open p.phase ≡ b → (r : ℕ) → is_arrived (p.page_request r) ≡ true → is_outstanding (p.group (p.group_of r)) ≡ true
@@ -113,7 +113,7 @@ always_page_queue rule c ss e = omega (arith, less, always_outstanding rule c ss
         (λ r lt h. is (is_open p.phase) refl r h)
 
 -- each that waits is in the list of arrivals once
-waiting_placed : (p : Part) → Queued p → length (waiting p) ≤ page_queue p
+waiting_placed : (p : Endpoint) → Queued p → length (waiting p) ≤ page_queue p
 waiting_placed p qu =
     omega (arith, length_select p.arrivals (is_waiting p), placed)
   where

@@ -6,45 +6,45 @@ use Rattle.std.specs.Prelude.{Option, Some, None, List, [], ◌∷◌}
 use Rattle.std.proofs.lemmas.Bool.Decides.{nat_tests}
 use Rattle.sva_step.specs.declared.limits.Config.{Config}
 use Rattle.sva_step.specs.declared.steps.Step.{Step}
-use Rattle.sva_model.specs.State.{HostGroupState, Mappings, Part, World, opened}
+use Rattle.sva_model.specs.State.{HostGroupState, Mappings, Endpoint, World, opened}
 use Rattle.sva_model.specs.State.PageRequestState.{Arrived, Filed, Dropped}
 use Rattle.sva_model.specs.State.HostGroupState.{NotFiled, InHand, Discarded, InHandDiscarded}
-use Rattle.sva_model.specs.State.GroupState.{Finished}
-use Rattle.sva_model.specs.State.About.{ResetDone}
+use Rattle.sva_model.specs.State.GroupState.{Closed}
+use Rattle.sva_model.specs.State.Subject.{ResetDone}
 use Rattle.sva_model.specs.State.Phase.{Open}
 use Rattle.sva_model.specs.States.{is_outstanding, is_open_group, is_before_invalidating}
-use Rattle.sva_model.specs.Acts.{Act, Own, act, own, submitted_if, submits, bound, cookie_of}
-use Rattle.sva_model.specs.Acts.Act.{NewSpace, DropSpace, Map, Unmap, NewBinding, NewJob, Hold, LetGo, At}
+use Rattle.sva_model.specs.Acts.{Act, LocalAct, act, own, submitted_if, submits, bound, cookie_of}
+use Rattle.sva_model.specs.Acts.Act.{NewSpace, DropSpace, Map, Unmap, NewBinding, NewJob, Hold, LetGo, AtEndpoint}
 use Rattle.sva_model.specs.Steps.{decide, next, run, after_acts, world_after}
 use Rattle.sva_laws.specs.Laws.{is_answerable}
-use Rattle.sva_laws.proofs.Legal.{LegalOwn}
+use Rattle.sva_laws.proofs.Legal.{LegalLocalAct}
 use Rattle.sva_laws.proofs.PageRequests.{is_whole}
 use Rattle.sva_laws.proofs.Invariant.{PartInvariant, Invariant}
 use Rattle.sva_laws.proofs.Keeps.{Legal, act_keeps, put_keeps}
 use Rattle.sva_laws.proofs.Passed.{LegalAll}
 use Rattle.sva_laws.proofs.Runs.{step_legal, next_keeps, opened_invariant}
 
-pub record OnTheWay (p : Part) : Type 0 where
+pub record OnTheWay (p : Endpoint) : Type 0 where
   pub last : (g : ℕ) → is_answerable (p.group g) ≡ true → (r : ℕ) × (r < p.page_requests) × (p.group_of r ≡ g) × (p.is_last r ≡ true)
   pub filed_last : (r : ℕ) → p.phase ≡ Open → r < p.page_requests → p.is_last r ≡ true → p.page_request r ≡ Filed
       → is_outstanding (p.group (p.group_of r)) ≡ true → is_whole (p.host_group (p.group_of r)) ≡ true
   pub discarded : (g : ℕ) → p.phase ≡ Open → p.host_group g ≡ Discarded → is_outstanding (p.group g) ≡ false
 
 -- what an act says of a request that was made before
-old_last : (ms : Mappings) (g n : ℕ) (p : Part) (o : Own) (r : ℕ) → r < p.page_requests → (r < (own p n o).page_requests)
+old_last : (ms : Mappings) (g n : ℕ) (p : Endpoint) (o : LocalAct) (r : ℕ) → r < p.page_requests → (r < (own p n o).page_requests)
     × ((own p n o).group_of r ≡ p.group_of r) × ((own p n o).is_last r ≡ p.is_last r)
 old_last ms g n p o r lt = grind (arith, nat_tests)
 
 -- a group that awaits its response did so before, or its last request is the one that the act makes
-new_last : (ms : Mappings) (g n : ℕ) (p : Part) (o : Own) → LegalOwn ms g p o → (x : ℕ) → is_answerable ((own p n o).group x) ≡ true
+new_last : (ms : Mappings) (g n : ℕ) (p : Endpoint) (o : LocalAct) → LegalLocalAct ms g p o → (x : ℕ) → is_answerable ((own p n o).group x) ≡ true
     → (is_answerable (p.group x) ≡ true)
     ⊎ ((p.page_requests < (own p n o).page_requests) × ((own p n o).group_of p.page_requests ≡ x) × ((own p n o).is_last p.page_requests ≡ true))
 new_last ms g n p o l x h = grind (arith, nat_tests)
 
-filed_last_kept : (ms : Mappings) (g n : ℕ) (p : Part) (o : Own) → LegalOwn ms g p o → (r : ℕ)
+filed_last_kept : (ms : Mappings) (g n : ℕ) (p : Endpoint) (o : LocalAct) → LegalLocalAct ms g p o → (r : ℕ)
     → ((x : ℕ) → p.page_request x ≡ Arrived → is_whole (p.host_group (p.group_of x)) ≡ false)
     → ((w : ℕ) → p.phase ≡ Open → p.host_group (p.group_of r) ≡ InHand w → is_before_invalidating (p.stage (p.filed_under (p.group_of r))) ≡ true)
-    → (p.page_requests ≤ r → p.page_request r ≡ Dropped) → ((c : ℕ) → p.message c ≡ Some ResetDone → p.group (p.group_of r) ≡ Finished)
+    → (p.page_requests ≤ r → p.page_request r ≡ Dropped) → ((c : ℕ) → p.message c ≡ Some ResetDone → p.group (p.group_of r) ≡ Closed)
     → (r < p.page_requests → p.group_of r < p.groups)
     → (p.phase ≡ Open → r < p.page_requests → p.is_last r ≡ true → p.page_request r ≡ Filed → is_outstanding (p.group (p.group_of r)) ≡ true
     → is_whole (p.host_group (p.group_of r)) ≡ true) → (own p n o).phase ≡ Open → r < (own p n o).page_requests → (own p n o).is_last r ≡ true
@@ -52,19 +52,19 @@ filed_last_kept : (ms : Mappings) (g n : ℕ) (p : Part) (o : Own) → LegalOwn 
     → is_whole ((own p n o).host_group ((own p n o).group_of r)) ≡ true
 filed_last_kept ms g n p o l r part in_hand un re made old ph lt la fi out = grind (arith, nat_tests)
 
-discarded_kept : (ms : Mappings) (g n : ℕ) (p : Part) (o : Own) → LegalOwn ms g p o → (x : ℕ) → (p.groups ≤ x → p.host_group x ≡ NotFiled)
-    → ((c : ℕ) → p.message c ≡ Some ResetDone → p.group x ≡ Finished)
+discarded_kept : (ms : Mappings) (g n : ℕ) (p : Endpoint) (o : LocalAct) → LegalLocalAct ms g p o → (x : ℕ) → (p.groups ≤ x → p.host_group x ≡ NotFiled)
+    → ((c : ℕ) → p.message c ≡ Some ResetDone → p.group x ≡ Closed)
     → ((w : ℕ) → p.phase ≡ Open → p.host_group x ≡ InHandDiscarded w → is_outstanding (p.group x) ≡ false)
     → ((w : ℕ) → p.phase ≡ Open → p.host_group x ≡ InHand w → is_before_invalidating (p.stage (p.filed_under x)) ≡ true)
     → (p.phase ≡ Open → p.host_group x ≡ Discarded → is_outstanding (p.group x) ≡ false) → (own p n o).phase ≡ Open → (own p n o).host_group x
     ≡ Discarded → is_outstanding ((own p n o).group x) ≡ false
 discarded_kept ms g n p o l x made re hand opened_hand old ph h = grind (arith, nat_tests)
 
-arrived_part : (p : Part) → ((r : ℕ) → is_whole (p.host_group (p.group_of r)) ≡ true → r < p.page_requests → p.page_request r ≡ Filed)
+arrived_part : (p : Endpoint) → ((r : ℕ) → is_whole (p.host_group (p.group_of r)) ≡ true → r < p.page_requests → p.page_request r ≡ Filed)
     → ((r : ℕ) → p.page_requests ≤ r → p.page_request r ≡ Dropped) → (x : ℕ) → p.page_request x ≡ Arrived → is_whole (p.host_group (p.group_of x)) ≡ false
 arrived_part p whole made x h = grind (arith, nat_tests, whole x, made x)
 
-last_kept : (ms : Mappings) (g n : ℕ) (p : Part) (o : Own) → LegalOwn ms g p o → OnTheWay p → (x : ℕ) → is_answerable ((own p n o).group x) ≡ true
+last_kept : (ms : Mappings) (g n : ℕ) (p : Endpoint) (o : LocalAct) → LegalLocalAct ms g p o → OnTheWay p → (x : ℕ) → is_answerable ((own p n o).group x) ≡ true
     → (r : ℕ) × (r < (own p n o).page_requests) × ((own p n o).group_of r ≡ x) × ((own p n o).is_last r ≡ true)
 last_kept ms g n p o l w x h = go (new_last ms g n p o l x h)
   where
@@ -74,7 +74,8 @@ last_kept ms g n p o l w x h = go (new_last ms g n p o l x h)
     go (inl a) = let y = w.last x a in let z = old_last ms g n p o y.0 y.1 in (y.0, z.0, z.1 ∙ y.2, z.2 ∙ y.3)
     go (inr y) = (p.page_requests, y.0, y.1, y.2)
 
-pub every : (ms : Mappings) (x g n e : ℕ) (p : Part) (o : Own) → LegalOwn ms g p o → PartInvariant ms x g n e p → OnTheWay p → OnTheWay (own p n o)
+pub every : (ms : Mappings) (x g n e : ℕ) (p : Endpoint) (o : LocalAct) → LegalLocalAct ms g p o → PartInvariant ms x g n e p → OnTheWay p
+    → OnTheWay (own p n o)
 every ms x g n e p o l i w =
     let re = i.resets in
     let bo = i.bounds in
@@ -91,7 +92,7 @@ every ms x g n e p o l i w =
     in_hand_open : {s : HostGroupState} (v : ℕ) → s ≡ InHand v → is_open_group s ≡ true
     in_hand_open v h = ap is_open_group h
 
-submitted_on : (t : Bool) (p : Part) (o : Option ℕ) (q count order cookie : ℕ) → OnTheWay p → OnTheWay (submitted_if t p o q count order cookie)
+submitted_on : (t : Bool) (p : Endpoint) (o : Option ℕ) (q count order cookie : ℕ) → OnTheWay p → OnTheWay (submitted_if t p o q count order cookie)
 submitted_on true p (Some b) q count order cookie w = record { last = w.last; filed_last = w.filed_last; discarded = w.discarded }
 submitted_on true p None q count order cookie w = w
 submitted_on false p o q count order cookie w = w
@@ -108,7 +109,7 @@ act_on w (NewBinding e) l i h = h
 act_on w (NewJob e g) l i h = h
 act_on w (Hold x j) l i h = h
 act_on w (LetGo x) l i h = h
-act_on w (At e o) l i h =
+act_on w (AtEndpoint e o) l i h =
     put_keeps (λ k p. OnTheWay p) w.part e (own (w.part e) w.messages o)
     (every w.mappings w.config.endpoints w.bindings w.messages e (w.part e) o l.1.0 (i.parts e) (h e)) h
 

@@ -9,15 +9,15 @@ use Rattle.sva_step.specs.declared.steps.Step.{Step}
 use Rattle.sva_step.specs.declared.steps.Step.TheVariants as step
 use Rattle.sva_model.specs.Words.{find, select, count_below, lowest, is_some, holds_of, the}
 use Rattle.sva_model.specs.Message.{Code}
-use Rattle.sva_model.specs.State.{MappingState, Stage, About, Part, World, opened}
+use Rattle.sva_model.specs.State.{MappingState, Stage, Subject, Endpoint, World, opened}
 use Rattle.sva_model.specs.State.PasidRule.{PerEndpoint, PerSpace}
 use Rattle.sva_model.specs.State.MappingState.{Unmade, Present, Gone}
 use Rattle.sva_model.specs.State.Stage.{Unbound, Live, Stopping, Draining, Invalidating, Quiet, Lost, Released}
-use Rattle.sva_model.specs.State.About.{StartOf, StopOf, ResetOrder, CompletionOf, InvalidateOf, ResponseOf, RequestOf, InvalidatedOf, PageRequestOf}
-use Rattle.sva_model.specs.State.About.{MarkerOf, ResetDone}
+use Rattle.sva_model.specs.State.Subject.{StartOf, StopOf, FunctionReset, CompletionOf, InvalidateOf, ResponseOf, RequestOf, InvalidatedOf, PageRequestOf}
+use Rattle.sva_model.specs.State.Subject.{MarkerOf, ResetDone}
 use Rattle.sva_model.specs.States.{is_open, place, place_at, place_by, is_free, is_free_place}
-use Rattle.sva_model.specs.Acts.{Act, Own, act}
-use Rattle.sva_model.specs.Acts.Act.{NewSpace, DropSpace, Map, Unmap, NewBinding, NewJob, Hold, LetGo, At}
+use Rattle.sva_model.specs.Acts.{Act, LocalAct, act}
+use Rattle.sva_model.specs.Acts.Act.{NewSpace, DropSpace, Map, Unmap, NewBinding, NewJob, Hold, LetGo, AtEndpoint}
 use Rattle.sva_model.specs.Labels
 use Rattle.sva_model.specs.Replies.{replies_success, newly_mapped, maps_to, is_write_asked, job_space, response_to, reply_maps, responds}
 use Rattle.sva_model.specs.Replies.{is_write_of_read_only}
@@ -71,15 +71,15 @@ completion_same : (w : World) (tag : ℕ) (o : Option ℕ) → completion_messag
 completion_same w tag None = refl
 completion_same w tag (Some m) = refl
 
-request_same : (w : World) (p : Part) (e c r : ℕ) (b : Bool) → request_outcome (by_space w) p e c r b ≡ request_outcome w p e c r b
+request_same : (w : World) (p : Endpoint) (e c r : ℕ) (b : Bool) → request_outcome (by_space w) p e c r b ≡ request_outcome w p e c r b
 request_same w p e c r true =
-    ap (λ m. at_one answer.Completion e (Own.Complete c r (found_for w p r) m)) (completion_same w (p.request_tag r) (found_for w p r))
+    ap (λ m. at_one answer.Completion e (LocalAct.Complete c r (found_for w p r) m)) (completion_same w (p.request_tag r) (found_for w p r))
 request_same w p e c r false = refl
 
-about_same : (w : World) (p : Part) (e c : ℕ) (a : About) → about_outcome (by_space w) p e c a ≡ about_outcome w p e c a
+about_same : (w : World) (p : Endpoint) (e c : ℕ) (a : Subject) → about_outcome (by_space w) p e c a ≡ about_outcome w p e c a
 about_same w p e c (StartOf b) = refl
 about_same w p e c (StopOf b) = refl
-about_same w p e c ResetOrder = refl
+about_same w p e c FunctionReset = refl
 about_same w p e c (CompletionOf r found) = refl
 about_same w p e c (InvalidateOf k) = refl
 about_same w p e c (ResponseOf g code) = refl
@@ -89,7 +89,7 @@ about_same w p e c (PageRequestOf r) = refl
 about_same w p e c (MarkerOf b) = refl
 about_same w p e c ResetDone = refl
 
-deliver_same : (w : World) (p : Part) (e c : ℕ) (o : Option About) → deliver_outcome (by_space w) p e c o ≡ deliver_outcome w p e c o
+deliver_same : (w : World) (p : Endpoint) (e c : ℕ) (o : Option Subject) → deliver_outcome (by_space w) p e c o ≡ deliver_outcome w p e c o
 deliver_same w p e c None = refl
 deliver_same w p e c (Some a) = about_same w p e c a
 
@@ -216,12 +216,13 @@ decide_same w (step.UnmapRange n q order) r one i = refl
 decide_same w (step.Bind e n) r one i = bind_same w e n r one i
 decide_same w (step.Unbind n) r one i =
     both (refusals (by_space w) (step.Unbind n)) (refusals w (step.Unbind n)) (outcome (by_space w) (step.Unbind n)) (outcome w (step.Unbind n))
-    (ap (λ z. no_such_binding w n ∷ z) (unbind_refusals_same w (w.home (Labels.name w n)) ((w.part (w.home (Labels.name w n))).stage (Labels.name w n)))) refl
+    (ap (λ z. no_such_binding w n ∷ z)
+        (unbind_refusals_same w (w.endpoint_of (Labels.name w n)) ((w.part (w.endpoint_of (Labels.name w n))).stage (Labels.name w n)))) refl
 decide_same w (step.Advance n) r one i =
     both (refusals (by_space w) (step.Advance n)) (refusals w (step.Advance n)) (outcome (by_space w) (step.Advance n)) (outcome w (step.Advance n))
     (ap (λ z. no_such_binding w n ∷ z)
-    (advance_refusals_same w (w.home (Labels.name w n)) (Labels.name w n) ((w.part (w.home (Labels.name w n))).stage (Labels.name w n))))
-    (advance_same w (w.home (Labels.name w n)) (Labels.name w n) ((w.part (w.home (Labels.name w n))).stage (Labels.name w n)))
+    (advance_refusals_same w (w.endpoint_of (Labels.name w n)) (Labels.name w n) ((w.part (w.endpoint_of (Labels.name w n))).stage (Labels.name w n))))
+    (advance_same w (w.endpoint_of (Labels.name w n)) (Labels.name w n) ((w.part (w.endpoint_of (Labels.name w n))).stage (Labels.name w n)))
 decide_same w (step.Pump e) r one i = refl
 decide_same w (step.Serve e) r one i = refl
 decide_same w (step.Reset e) r one i = refl
@@ -251,8 +252,8 @@ decide_same w (step.Finish e vector count) r one i = refl
 decide_same w (step.Quit e t) r one i = refl
 decide_same w (step.Deliver n) r one i =
     ap (λ z. checked (refusals w (step.Deliver n)) z)
-    (deliver_same w (w.part (w.way (Labels.name w n))) (w.way (Labels.name w n)) (Labels.name w n)
-    ((w.part (w.way (Labels.name w n))).message (Labels.name w n)))
+    (deliver_same w (w.part (w.link_of (Labels.name w n))) (w.link_of (Labels.name w n)) (Labels.name w n)
+    ((w.part (w.link_of (Labels.name w n))).message (Labels.name w n)))
 decide_same w (step.Look f) r one i = ap (λ z. checked (refusals w (step.Look f)) (says (look_answer z) [])) (place_same w f)
 decide_same w (step.Bearer t) r one i = ap (λ z. checked (refusals w (step.Bearer t)) (says z [])) (bearer_same w t (Labels.is_borne w t))
 
@@ -267,7 +268,7 @@ act_same w (NewBinding e) = refl
 act_same w (NewJob e g) = refl
 act_same w (Hold x j) = refl
 act_same w (LetGo x) = refl
-act_same w (At e o) = refl
+act_same w (AtEndpoint e o) = refl
 
 acts_same : (acts : List Act) (w : World) → after_acts (by_space w) acts ≡ by_space (after_acts w acts)
 acts_same [] w = refl

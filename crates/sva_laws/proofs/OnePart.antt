@@ -9,10 +9,10 @@ use Rattle.sva_model.specs.Message.{Code}
 use Rattle.sva_model.specs.State.Stage.{Unbound, Live, Stopping, Draining, Invalidating, Quiet, Lost, Released}
 use Rattle.sva_model.specs.State.Order.{RangeOf, PasidOf, Wait}
 use Rattle.sva_model.specs.State.RequestState.{Out, Doomed, Over}
-use Rattle.sva_model.specs.State.About.{StartOf, StopOf, ResetOrder, CompletionOf, InvalidateOf, ResponseOf, RequestOf, InvalidatedOf, PageRequestOf}
-use Rattle.sva_model.specs.State.About.{MarkerOf, ResetDone}
-use Rattle.sva_model.specs.Acts.{Act, Own, act, own}
-use Rattle.sva_model.specs.Acts.Act.{NewSpace, DropSpace, Map, Unmap, NewBinding, NewJob, Hold, LetGo, At}
+use Rattle.sva_model.specs.State.Subject.{StartOf, StopOf, FunctionReset, CompletionOf, InvalidateOf, ResponseOf, RequestOf, InvalidatedOf, PageRequestOf}
+use Rattle.sva_model.specs.State.Subject.{MarkerOf, ResetDone}
+use Rattle.sva_model.specs.Acts.{Act, LocalAct, act, own}
+use Rattle.sva_model.specs.Acts.Act.{NewSpace, DropSpace, Map, Unmap, NewBinding, NewJob, Hold, LetGo, AtEndpoint}
 use Rattle.sva_model.specs.Labels
 use Rattle.sva_model.specs.Refusals.{Cause, refusals}
 use Rattle.sva_model.specs.Replies.{maps_to, reply_maps, replies_success, newly_mapped, free_list, is_write_asked, job_space, response_to}
@@ -21,7 +21,7 @@ use Rattle.sva_model.specs.Outcomes.{serve_outcome, file_outcome, reply_outcome,
 use Rattle.sva_model.specs.Outcomes.{keep_outcome, is_full, request_outcome, count_outcome, page_request_outcome, marker_outcome}
 use Rattle.sva_model.specs.States.{is_open}
 use Rattle.sva_model.specs.Words.{lowest, the}
-use Rattle.sva_model.specs.State.{PasidRule, Part, World, Stage, Order, About, RequestState}
+use Rattle.sva_model.specs.State.{PasidRule, Endpoint, World, Stage, Order, Subject, RequestState}
 use Rattle.sva_model.specs.Steps.{checked, decide, next, after_acts, world_after}
 use Rattle.sva_laws.specs.Steps.{takes_out, ChangesOnePart}
 use Rattle.sva_laws.proofs.Words.{put-other}
@@ -30,7 +30,7 @@ use Rattle.sva_laws.proofs.Lookback.{after_one}
 -- an act that leaves all endpoints but this one
 abbrev IsOf : (e : ℕ) → Act → Type 0
 IsOf e (Unmap s q count order) = ⊥
-IsOf e (At d o) = d ≡ e
+IsOf e (AtEndpoint d o) = d ≡ e
 IsOf e _ = Unit {0}
 
 abbrev AreOf : (e : ℕ) → List Act → Type 0
@@ -46,7 +46,7 @@ act_one w (NewBinding d) e x ne h = refl
 act_one w (NewJob d g) e x ne h = refl
 act_one w (Hold y j) e x ne h = refl
 act_one w (LetGo y) e x ne h = refl
-act_one w (At d o) e x ne h = put-other w.part d (own (w.part d) w.messages o) x (λ z. ne (z ∙ h))
+act_one w (AtEndpoint d o) e x ne h = put-other w.part d (own (w.part d) w.messages o) x (λ z. ne (z ∙ h))
 
 acts_one : (acts : List Act) (w : World) (e x : ℕ) → x ≢ e → AreOf e acts → (after_acts w acts).part x ≡ w.part x
 acts_one [] w e x ne h = refl
@@ -82,12 +82,12 @@ send_one : (e k t : ℕ) (b : Bool) → AreOf e (send_outcome e k t b).acts
 send_one e k t true = (refl, tt)
 send_one e k t false = tt
 
-head_one : (p : Part) (e k : ℕ) (o : Order) → AreOf e (head_outcome p e k o).acts
+head_one : (p : Endpoint) (e k : ℕ) (o : Order) → AreOf e (head_outcome p e k o).acts
 head_one p e k (Wait cookie drain) = wait_one e k (may_pass p drain)
 head_one p e k (RangeOf b q) = send_one e k (Labels.lowest_label 32 p.at_itag) _
 head_one p e k (PasidOf b) = send_one e k (Labels.lowest_label 32 p.at_itag) _
 
-pump_one : (p : Part) (e : ℕ) (b : Bool) → AreOf e (pump_outcome p e b).acts
+pump_one : (p : Endpoint) (e : ℕ) (b : Bool) → AreOf e (pump_outcome p e b).acts
 pump_one p e true = tt
 pump_one p e false = head_one p e (Labels.head p) (p.order (Labels.head p))
 
@@ -95,7 +95,7 @@ file_one : (e r g : ℕ) (b : Bool) → AreOf e (file_outcome e r g b).acts
 file_one e r g true = (refl, (tt, tt))
 file_one e r g false = (refl, tt)
 
-serve_one : (p : Part) (e : ℕ) (b : Bool) → AreOf e (serve_outcome p e b).acts
+serve_one : (p : Endpoint) (e : ℕ) (b : Bool) → AreOf e (serve_outcome p e b).acts
 serve_one p e true = tt
 serve_one p e false = file_one e (Labels.oldest_arrived p) (p.group_of (Labels.oldest_arrived p)) (p.is_last (Labels.oldest_arrived p))
 
@@ -109,12 +109,12 @@ reply_one w x j v None = (tt, (refl, tt))
 reply_one w x j v (Some code) = go (replies_success w j v)
   where
     go : (b : Bool) → AreOf (w.job j).endpoint ((if b then maps_to (job_space w j) (is_write_asked w j) (newly_mapped w j) (free_list w) else [])
-        ++ LetGo x ∷ At (w.job j).endpoint (Own.Respond (w.job j).group code) ∷ [])
+        ++ LetGo x ∷ AtEndpoint (w.job j).endpoint (LocalAct.Respond (w.job j).group code) ∷ [])
     go true = maps_one (w.job j).endpoint (job_space w j) (is_write_asked w j) (newly_mapped w j) (free_list w)
-        (LetGo x ∷ At (w.job j).endpoint (Own.Respond (w.job j).group code) ∷ []) (tt, (refl, tt))
+        (LetGo x ∷ AtEndpoint (w.job j).endpoint (LocalAct.Respond (w.job j).group code) ∷ []) (tt, (refl, tt))
     go false = (tt, (refl, tt))
 
-fault_one : (p : Part) (e t q : ℕ) (r x l : Bool) (o : Option ℕ) → AreOf e (fault_outcome p e t q r x l o).acts
+fault_one : (p : Endpoint) (e t q : ℕ) (r x l : Bool) (o : Option ℕ) → AreOf e (fault_outcome p e t q r x l o).acts
 fault_one p e t q r x l None = (refl, tt)
 fault_one p e t q r x l (Some k) = (refl, tt)
 
@@ -122,7 +122,7 @@ keep_one : (e c r m : ℕ) (b : Bool) → AreOf e (keep_outcome e c r m b).acts
 keep_one e c r m true = (refl, tt)
 keep_one e c r m false = (refl, tt)
 
-completion_one : (p : Part) (e c r : ℕ) (o : Option ℕ) (s : RequestState) → AreOf e (completion_outcome p e c r o s).acts
+completion_one : (p : Endpoint) (e c r : ℕ) (o : Option ℕ) (s : RequestState) → AreOf e (completion_outcome p e c r o s).acts
 completion_one p e c r (Some m) Out = keep_one e c r m (is_full p r)
 completion_one p e c r None Out = (refl, tt)
 completion_one p e c r (Some m) Doomed = (refl, tt)
@@ -130,11 +130,11 @@ completion_one p e c r None Doomed = (refl, tt)
 completion_one p e c r (Some m) Over = (refl, tt)
 completion_one p e c r None Over = (refl, tt)
 
-request_one : (w : World) (p : Part) (e c r : ℕ) (b : Bool) → AreOf e (request_outcome w p e c r b).acts
+request_one : (w : World) (p : Endpoint) (e c r : ℕ) (b : Bool) → AreOf e (request_outcome w p e c r b).acts
 request_one w p e c r true = (refl, tt)
 request_one w p e c r false = (refl, tt)
 
-count_one : (p : Part) (e c : ℕ) (names : ℕ → Bool) (b : Bool) → AreOf e (count_outcome p e c names b).acts
+count_one : (p : Endpoint) (e c : ℕ) (names : ℕ → Bool) (b : Bool) → AreOf e (count_outcome p e c names b).acts
 count_one p e c names true = (refl, tt)
 count_one p e c names false = (refl, tt)
 
@@ -146,10 +146,10 @@ marker_one : (e c d : ℕ) (b : Bool) → AreOf e (marker_outcome e c d b).acts
 marker_one e c d true = (refl, tt)
 marker_one e c d false = (refl, tt)
 
-about_one : (w : World) (p : Part) (e c : ℕ) (a : About) → AreOf e (about_outcome w p e c a).acts
+about_one : (w : World) (p : Endpoint) (e c : ℕ) (a : Subject) → AreOf e (about_outcome w p e c a).acts
 about_one w p e c (StartOf b) = (refl, tt)
 about_one w p e c (StopOf b) = (refl, tt)
-about_one w p e c ResetOrder = (refl, tt)
+about_one w p e c FunctionReset = (refl, tt)
 about_one w p e c (CompletionOf r found) = completion_one p e c r found (p.request r)
 about_one w p e c (InvalidateOf k) = (refl, tt)
 about_one w p e c (ResponseOf g code) = (refl, tt)
@@ -159,7 +159,7 @@ about_one w p e c (PageRequestOf r) = page_request_one e c r (is_open p.phase)
 about_one w p e c (MarkerOf b) = marker_one e c b (is_open p.phase)
 about_one w p e c ResetDone = (refl, tt)
 
-deliver_one : (w : World) (p : Part) (e c : ℕ) (o : Option About) → AreOf e (deliver_outcome w p e c o).acts
+deliver_one : (w : World) (p : Endpoint) (e c : ℕ) (o : Option Subject) → AreOf e (deliver_outcome w p e c o).acts
 deliver_one w p e c None = tt
 deliver_one w p e c (Some a) = about_one w p e c a
 
@@ -171,9 +171,11 @@ outcome_one w (step.Unmap n q count) h = absurd (cc)
 outcome_one w (step.UnmapRange n q order) h = absurd (cc)
 outcome_one w (step.Bind e n) h = (e, (tt, (refl, tt)))
 outcome_one w (step.Unbind n) h =
-    (w.home (Labels.name w n), unbind_one (w.home (Labels.name w n)) (Labels.name w n) ((w.part (w.home (Labels.name w n))).stage (Labels.name w n)))
+    (w.endpoint_of (Labels.name w n), unbind_one (w.endpoint_of (Labels.name w n)) (Labels.name w n)
+        ((w.part (w.endpoint_of (Labels.name w n))).stage (Labels.name w n)))
 outcome_one w (step.Advance n) h =
-    (w.home (Labels.name w n), advance_one w (w.home (Labels.name w n)) (Labels.name w n) ((w.part (w.home (Labels.name w n))).stage (Labels.name w n)))
+    (w.endpoint_of (Labels.name w n), advance_one w (w.endpoint_of (Labels.name w n)) (Labels.name w n)
+        ((w.part (w.endpoint_of (Labels.name w n))).stage (Labels.name w n)))
 outcome_one w (step.Pump e) h = (e, pump_one (w.part e) e (Labels.is_queue_empty (w.part e)))
 outcome_one w (step.Serve e) h = (e, serve_one (w.part e) e (Labels.is_page_queue_empty (w.part e)))
 outcome_one w (step.Reset e) h = (e, (refl, tt))
@@ -187,9 +189,9 @@ outcome_one w (step.Fault e t q r x group l) h = (e, fault_one (w.part e) e t q 
 outcome_one w (step.Finish e vector count) h = (e, (refl, tt))
 outcome_one w (step.Quit e t) h = (e, (refl, tt))
 outcome_one w (step.Deliver n) h = (
-  w.way (Labels.name w n),
-  deliver_one w (w.part (w.way (Labels.name w n))) (w.way (Labels.name w n)) (Labels.name w n)
-      ((w.part (w.way (Labels.name w n))).message (Labels.name w n)),
+  w.link_of (Labels.name w n),
+  deliver_one w (w.part (w.link_of (Labels.name w n))) (w.link_of (Labels.name w n)) (Labels.name w n)
+      ((w.part (w.link_of (Labels.name w n))).message (Labels.name w n)),
 )
 outcome_one w (step.Look f) h = (0, tt)
 outcome_one w (step.Bearer t) h = (0, tt)

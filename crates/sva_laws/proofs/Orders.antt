@@ -3,15 +3,15 @@
 use Rattle.std.proofs.Common.{◌≡◌, ◌≢◌, ◌⊎◌, inl, inr, refl, ℕ, suc, ◌<◌, Bool, true, false, arith}
 use Rattle.std.specs.Prelude.{Some}
 use Rattle.std.proofs.lemmas.Bool.Decides.{nat_tests}
-use Rattle.sva_model.specs.State.{Mappings, Part, Stage, Order, OrderState}
+use Rattle.sva_model.specs.State.{Mappings, Endpoint, Stage, Order, OrderState}
 use Rattle.sva_model.specs.State.Stage.{Live, Stopping, Draining, Invalidating}
 use Rattle.sva_model.specs.State.Order.{RangeOf, PasidOf, Wait}
 use Rattle.sva_model.specs.State.OrderState.{Queued, Sent, Done, Void}
-use Rattle.sva_model.specs.State.About.{InvalidateOf, ResetDone}
+use Rattle.sva_model.specs.State.Subject.{InvalidateOf, ResetDone}
 use Rattle.sva_model.specs.State.Phase.{Open, Cleared}
 use Rattle.sva_model.specs.States.{is_busy, is_wait, drains}
-use Rattle.sva_model.specs.Acts.{own, Own, binding_of}
-use Rattle.sva_laws.proofs.Legal.{LegalOwn}
+use Rattle.sva_model.specs.Acts.{own, LocalAct, binding_of}
+use Rattle.sva_laws.proofs.Legal.{LegalLocalAct}
 use Rattle.sva_laws.proofs.Resets.{Resets}
 use Rattle.sva_laws.proofs.Bounds.{Bounds}
 use Rattle.sva_laws.proofs.Labels.{Labels}
@@ -34,7 +34,7 @@ is_queued_or_done Queued = true
 is_queued_or_done Done = true
 is_queued_or_done _ = false
 
-pub record Orders (p : Part) : Type 0 where
+pub record Orders (p : Endpoint) : Type 0 where
   pub no_wait : (k : ℕ) → is_busy (p.order_state k) ≡ true → is_wait (p.order k) ≡ false
   pub ahead : (w k : ℕ) → p.order_state w ≡ Done → is_wait (p.order w) ≡ true → k < w → is_undone (p.order_state k) ≡ false
   pub draining : (b w : ℕ) → p.stage b ≡ Draining w → (drains (p.order w) ≡ true) × (w < p.orders)
@@ -49,28 +49,29 @@ pub record Orders (p : Part) : Type 0 where
   pub undone_stage : (k : ℕ) → is_undone (p.order_state k) ≡ true → is_wait (p.order k) ≡ false → is_active (p.stage (binding_of (p.order k))) ≡ true
 
 -- an invalidate in flight is of an order that was sent
-abbrev pub SentOnly : Part → Type 0
+abbrev pub SentOnly : Endpoint → Type 0
 SentOnly p = (c k : ℕ) → p.message c ≡ Some (InvalidateOf k) → p.order_state k ≡ Sent
 
 -- what is done or void stays so
-stays_done : (ms : Mappings) (g n : ℕ) (p : Part) (o : Own) → LegalOwn ms g p o → SentOnly p → (k : ℕ) → k < p.orders → is_undone (p.order_state k)
+stays_done : (ms : Mappings) (g n : ℕ) (p : Endpoint) (o : LocalAct) → LegalLocalAct ms g p o → SentOnly p → (k : ℕ) → k < p.orders
+    → is_undone (p.order_state k)
     ≡ false → is_undone ((own p n o).order_state k) ≡ false
 stays_done ms g n p o l sent k b h = grind (arith, nat_tests)
 
 -- a wait is done since before, or since now, and then nothing ahead of it is undone
-was_done : (ms : Mappings) (g n : ℕ) (p : Part) (o : Own) → LegalOwn ms g p o → (w k : ℕ) → k < w
+was_done : (ms : Mappings) (g n : ℕ) (p : Endpoint) (o : LocalAct) → LegalLocalAct ms g p o → (w k : ℕ) → k < w
     → (is_busy (p.order_state w) ≡ true → is_wait (p.order w) ≡ false) → (w < p.orders ⊎ (p.order_state w ≡ Void)) → (own p n o).order_state w ≡ Done
     → is_wait ((own p n o).order w) ≡ true → ((p.order_state w ≡ Done) × (is_wait (p.order w) ≡ true)) ⊎ (is_undone (p.order_state k) ≡ false)
 was_done ms g n p o l w k b nw made h i = grind (arith, nat_tests)
 
-made_or_void : (p : Part) (g w : ℕ) → Bounds g p → (w < p.orders) ⊎ (p.order_state w ≡ Void)
+made_or_void : (p : Endpoint) (g w : ℕ) → Bounds g p → (w < p.orders) ⊎ (p.order_state w ≡ Void)
 made_or_void p g w bo = grind (arith, nat_tests, bo.order_state w)
 
-done_made : (ms : Mappings) (g n : ℕ) (p : Part) (o : Own) → LegalOwn ms g p o → SentOnly p → (w : ℕ) → (w < p.orders) ⊎ (p.order_state w ≡ Void)
+done_made : (ms : Mappings) (g n : ℕ) (p : Endpoint) (o : LocalAct) → LegalLocalAct ms g p o → SentOnly p → (w : ℕ) → (w < p.orders) ⊎ (p.order_state w ≡ Void)
     → (own p n o).order_state w ≡ Done → w < p.orders
 done_made ms g n p o l sent w made h = grind (arith, nat_tests)
 
-ahead_kept : (ms : Mappings) (g n : ℕ) (p : Part) (o : Own) → LegalOwn ms g p o → Bounds g p → SentOnly p → Orders p → (w k : ℕ)
+ahead_kept : (ms : Mappings) (g n : ℕ) (p : Endpoint) (o : LocalAct) → LegalLocalAct ms g p o → Bounds g p → SentOnly p → Orders p → (w k : ℕ)
     → (own p n o).order_state w ≡ Done → is_wait ((own p n o).order w) ≡ true → k < w → is_undone ((own p n o).order_state k) ≡ false
 ahead_kept ms g n p o l bo sent or w k h i b =
     let made : w < p.orders = done_made ms g n p o l sent w (made_or_void p g w bo) h in
@@ -79,28 +80,29 @@ ahead_kept ms g n p o l bo sent or w k h i b =
     in
     stays_done ms g n p o l sent k (omega arith) old
 
-no_wait_kept : (ms : Mappings) (g n : ℕ) (p : Part) (o : Own) → LegalOwn ms g p o → SentOnly p → (k : ℕ) → (k < p.orders) ⊎ (p.order_state k ≡ Void)
+no_wait_kept : (ms : Mappings) (g n : ℕ) (p : Endpoint) (o : LocalAct) → LegalLocalAct ms g p o → SentOnly p → (k : ℕ) → (k < p.orders)
+    ⊎ (p.order_state k ≡ Void)
     → (is_busy (p.order_state k) ≡ true → is_wait (p.order k) ≡ false) → is_busy ((own p n o).order_state k) ≡ true → is_wait ((own p n o).order k) ≡ false
 no_wait_kept ms g n p o l sent k made old h = grind (arith, nat_tests)
 
-draining_kept : (ms : Mappings) (g n : ℕ) (p : Part) (o : Own) → LegalOwn ms g p o → (b w : ℕ)
+draining_kept : (ms : Mappings) (g n : ℕ) (p : Endpoint) (o : LocalAct) → LegalLocalAct ms g p o → (b w : ℕ)
     → (p.stage b ≡ Draining w → (drains (p.order w) ≡ true) × (w < p.orders)) → (own p n o).stage b ≡ Draining w
     → (drains ((own p n o).order w) ≡ true) × (w < (own p n o).orders)
 draining_kept ms g n p o l b w old h = grind (arith, nat_tests)
 
 -- a wait that a binding waits for is queued or done at an open unit
-wait_state_kept : (ms : Mappings) (g n : ℕ) (p : Part) (o : Own) → LegalOwn ms g p o → SentOnly p
+wait_state_kept : (ms : Mappings) (g n : ℕ) (p : Endpoint) (o : LocalAct) → LegalLocalAct ms g p o → SentOnly p
     → ((c : ℕ) → p.message c ≡ Some ResetDone → p.phase ≡ Cleared c) → (w : ℕ) → w < p.orders → is_wait (p.order w) ≡ true
     → (p.phase ≡ Open → is_queued_or_done (p.order_state w) ≡ true) → p.phase ≡ Open → (own p n o).phase ≡ Open
     → is_queued_or_done ((own p n o).order_state w) ≡ true
 wait_state_kept ms g n p o l sent up w b wt old q h = grind (arith, nat_tests)
 
 -- a binding that drains or invalidates did so before, at an open unit, or begins to now
-begins_to_drain : (ms : Mappings) (g n : ℕ) (p : Part) (o : Own) → LegalOwn ms g p o → (b w : ℕ) → (own p n o).stage b ≡ Draining w
+begins_to_drain : (ms : Mappings) (g n : ℕ) (p : Endpoint) (o : LocalAct) → LegalLocalAct ms g p o → (b w : ℕ) → (own p n o).stage b ≡ Draining w
     → (own p n o).phase ≡ Open → ((p.stage b ≡ Draining w) × (p.phase ≡ Open)) ⊎ ((w ≡ p.orders) × ((own p n o).order_state w ≡ Queued))
 begins_to_drain ms g n p o l b w h i = grind (arith, nat_tests)
 
-invalidates : (ms : Mappings) (g n : ℕ) (p : Part) (o : Own) → LegalOwn ms g p o → (b k w : ℕ) → (own p n o).stage b ≡ Invalidating k w
+invalidates : (ms : Mappings) (g n : ℕ) (p : Endpoint) (o : LocalAct) → LegalLocalAct ms g p o → (b k w : ℕ) → (own p n o).stage b ≡ Invalidating k w
     → (own p n o).phase ≡ Open → ((p.stage b ≡ Invalidating k w) × (p.phase ≡ Open)) ⊎ ((own p n o).order_state w ≡ Queued)
 invalidates ms g n p o l b k w h i = grind (arith, nat_tests)
 
@@ -112,7 +114,7 @@ drain_is_wait (PasidOf b) h = absurd (cc)
 queued_is : (s : OrderState) → s ≡ Queued → is_queued_or_done s ≡ true
 queued_is s h = grind arith
 
-draining_state_kept : (ms : Mappings) (g n : ℕ) (p : Part) (o : Own) → LegalOwn ms g p o → SentOnly p → Resets n p → Orders p → (b w : ℕ)
+draining_state_kept : (ms : Mappings) (g n : ℕ) (p : Endpoint) (o : LocalAct) → LegalLocalAct ms g p o → SentOnly p → Resets n p → Orders p → (b w : ℕ)
     → (own p n o).stage b ≡ Draining w → (own p n o).phase ≡ Open → is_queued_or_done ((own p n o).order_state w) ≡ true
 draining_state_kept ms g n p o l sent re or b w h i =
     elim (begins_to_drain ms g n p o l b w h i) [
@@ -120,12 +122,12 @@ draining_state_kept ms g n p o l sent re or b w h i =
       | inr x ↦ queued_is ((own p n o).order_state w) x.1
     ]
 
-invalidating_kept : (ms : Mappings) (g n : ℕ) (p : Part) (o : Own) → LegalOwn ms g p o → (b k w : ℕ)
+invalidating_kept : (ms : Mappings) (g n : ℕ) (p : Endpoint) (o : LocalAct) → LegalLocalAct ms g p o → (b k w : ℕ)
     → (p.stage b ≡ Invalidating k w → (w ≡ suc k) × (p.order k ≡ PasidOf b) × (is_wait (p.order w) ≡ true) × (w < p.orders)) → (own p n o).stage b
     ≡ Invalidating k w → (w ≡ suc k) × ((own p n o).order k ≡ PasidOf b) × (is_wait ((own p n o).order w) ≡ true) × (w < (own p n o).orders)
 invalidating_kept ms g n p o l b k w old h = grind (arith, nat_tests)
 
-invalidating_state_kept : (ms : Mappings) (g n : ℕ) (p : Part) (o : Own) → LegalOwn ms g p o → SentOnly p → Resets n p → Orders p → (b k w : ℕ)
+invalidating_state_kept : (ms : Mappings) (g n : ℕ) (p : Endpoint) (o : LocalAct) → LegalLocalAct ms g p o → SentOnly p → Resets n p → Orders p → (b k w : ℕ)
     → (own p n o).stage b ≡ Invalidating k w → (own p n o).phase ≡ Open → is_queued_or_done ((own p n o).order_state w) ≡ true
 invalidating_state_kept ms g n p o l sent re or b k w h i =
     elim (invalidates ms g n p o l b k w h i) [
@@ -134,18 +136,18 @@ invalidating_state_kept ms g n p o l sent re or b k w h i =
     ]
 
 -- a binding's invalidation isn't void at an open unit, so it is done where the wait behind it is
-begins_to_invalidate : (ms : Mappings) (g n : ℕ) (p : Part) (o : Own) → LegalOwn ms g p o → (b k w : ℕ) → (own p n o).stage b ≡ Invalidating k w
+begins_to_invalidate : (ms : Mappings) (g n : ℕ) (p : Endpoint) (o : LocalAct) → LegalLocalAct ms g p o → (b k w : ℕ) → (own p n o).stage b ≡ Invalidating k w
     → (p.stage b ≡ Invalidating k w) ⊎ (((own p n o).order_state k ≡ Queued) × ((own p n o).order_state w ≡ Queued))
 begins_to_invalidate ms g n p o l b k w h = grind (arith, nat_tests)
 
-not_void_kept : (ms : Mappings) (g n : ℕ) (p : Part) (o : Own) → LegalOwn ms g p o → (b k w : ℕ) → p.stage b ≡ Invalidating k w
+not_void_kept : (ms : Mappings) (g n : ℕ) (p : Endpoint) (o : LocalAct) → LegalLocalAct ms g p o → (b k w : ℕ) → p.stage b ≡ Invalidating k w
     → (p.phase ≡ Open → p.order_state k ≢ Void) → (own p n o).stage b ≡ Invalidating k w → (own p n o).phase ≡ Open → (own p n o).order_state k ≢ Void
 not_void_kept ms g n p o l b k w st old h i = grind (arith, nat_tests)
 
 queued_apart : (s z : OrderState) → s ≡ Queued → is_undone z ≡ false → s ≢ z
 queued_apart s z h u = grind arith
 
-invalidation_state_kept : (ms : Mappings) (g n : ℕ) (p : Part) (o : Own) → LegalOwn ms g p o → Orders p → (b k w : ℕ) → (own p n o).stage b
+invalidation_state_kept : (ms : Mappings) (g n : ℕ) (p : Endpoint) (o : LocalAct) → LegalLocalAct ms g p o → Orders p → (b k w : ℕ) → (own p n o).stage b
     ≡ Invalidating k w → (own p n o).phase ≡ Open → (own p n o).order_state k ≢ Void
 invalidation_state_kept ms g n p o l or b k w h i =
     elim (begins_to_invalidate ms g n p o l b k w h) [
@@ -153,12 +155,12 @@ invalidation_state_kept ms g n p o l or b k w h i =
       | inr x ↦ queued_apart ((own p n o).order_state k) Void x.0 refl
     ]
 
-done_behind : (ms : Mappings) (g n : ℕ) (p : Part) (o : Own) → LegalOwn ms g p o → SentOnly p → (k w : ℕ) → k < w → w < p.orders
+done_behind : (ms : Mappings) (g n : ℕ) (p : Endpoint) (o : LocalAct) → LegalLocalAct ms g p o → SentOnly p → (k w : ℕ) → k < w → w < p.orders
     → is_wait (p.order w) ≡ true → (is_busy (p.order_state w) ≡ true → is_wait (p.order w) ≡ false) → (p.phase ≡ Open → p.order_state k ≢ Void)
     → (p.order_state w ≡ Done → p.order_state k ≡ Done) → (own p n o).order_state w ≡ Done → (own p n o).order_state k ≡ Done
 done_behind ms g n p o l sent k w lt made wt nw not_void old h = grind (arith, nat_tests)
 
-invalidation_done_kept : (ms : Mappings) (g n : ℕ) (p : Part) (o : Own) → LegalOwn ms g p o → SentOnly p → Orders p → (b k w : ℕ)
+invalidation_done_kept : (ms : Mappings) (g n : ℕ) (p : Endpoint) (o : LocalAct) → LegalLocalAct ms g p o → SentOnly p → Orders p → (b k w : ℕ)
     → (own p n o).stage b ≡ Invalidating k w → (own p n o).order_state w ≡ Done → (own p n o).order_state k ≡ Done
 invalidation_done_kept ms g n p o l sent or b k w h i =
     elim (begins_to_invalidate ms g n p o l b k w h) [
@@ -168,12 +170,12 @@ invalidation_done_kept ms g n p o l sent or b k w h i =
     ]
 
 -- an order is void only by a reset
-void_kept : (ms : Mappings) (g n : ℕ) (p : Part) (o : Own) → LegalOwn ms g p o → (k : ℕ)
+void_kept : (ms : Mappings) (g n : ℕ) (p : Endpoint) (o : LocalAct) → LegalLocalAct ms g p o → (k : ℕ)
     → (k < p.orders → p.order_state k ≡ Void → p.phase ≡ Open → 0 < p.resets) → k < (own p n o).orders → (own p n o).order_state k ≡ Void
     → (own p n o).phase ≡ Open → 0 < (own p n o).resets
 void_kept ms g n p o l k old lt h i = grind (arith, nat_tests)
 
-undone_before_kept : (ms : Mappings) (g n : ℕ) (p : Part) (o : Own) → LegalOwn ms g p o → SentOnly p → (b k w x : ℕ) → (x < p.orders)
+undone_before_kept : (ms : Mappings) (g n : ℕ) (p : Endpoint) (o : LocalAct) → LegalLocalAct ms g p o → SentOnly p → (b k w x : ℕ) → (x < p.orders)
     ⊎ (p.order_state x ≡ Void)
     → (p.stage b ≡ Invalidating k w → is_undone (p.order_state x) ≡ true → is_wait (p.order x) ≡ false → binding_of (p.order x) ≡ b → x < w)
     → (own p n o).stage b ≡ Invalidating k w → is_undone ((own p n o).order_state x) ≡ true → is_wait ((own p n o).order x) ≡ false
@@ -181,7 +183,7 @@ undone_before_kept : (ms : Mappings) (g n : ℕ) (p : Part) (o : Own) → LegalO
 undone_before_kept ms g n p o l sent b k w x made old h i j e = grind (arith, nat_tests)
 
 -- when its wait is done, nothing is undone of a binding that invalidates
-pub quiet_now : (p : Part) → Orders p → (b k w x : ℕ) → p.stage b ≡ Invalidating k w → p.order_state w ≡ Done → is_undone (p.order_state x) ≡ true
+pub quiet_now : (p : Endpoint) → Orders p → (b k w x : ℕ) → p.stage b ≡ Invalidating k w → p.order_state w ≡ Done → is_undone (p.order_state x) ≡ true
     → is_wait (p.order x) ≡ false → binding_of (p.order x) ≢ b
 quiet_now p or b k w x h d u nw e =
     let i = or.invalidating b k w h in
@@ -189,7 +191,7 @@ quiet_now p or b k w x h d u nw e =
     let dn = or.ahead w x d i.2 lt in
     absurd (cc)
 
-undone_stage_kept : (ms : Mappings) (g n : ℕ) (p : Part) (o : Own) → LegalOwn ms g p o → SentOnly p → (x : ℕ) → (x < p.orders)
+undone_stage_kept : (ms : Mappings) (g n : ℕ) (p : Endpoint) (o : LocalAct) → LegalLocalAct ms g p o → SentOnly p → (x : ℕ) → (x < p.orders)
     ⊎ (p.order_state x ≡ Void)
     → ((b k w : ℕ) → p.stage b ≡ Invalidating k w → p.order_state w ≡ Done → is_undone (p.order_state x) ≡ true → is_wait (p.order x) ≡ false
     → binding_of (p.order x) ≢ b)
@@ -198,7 +200,8 @@ undone_stage_kept : (ms : Mappings) (g n : ℕ) (p : Part) (o : Own) → LegalOw
     → is_active ((own p n o).stage (binding_of ((own p n o).order x))) ≡ true
 undone_stage_kept ms g n p o l sent x made quiet old h i = grind (arith, nat_tests)
 
-pub every : (ms : Mappings) (g n : ℕ) (p : Part) (o : Own) → LegalOwn ms g p o → Resets n p → Bounds g p → Labels p → Orders p → Orders (own p n o)
+pub every : (ms : Mappings) (g n : ℕ) (p : Endpoint) (o : LocalAct) → LegalLocalAct ms g p o → Resets n p → Bounds g p → Labels p → Orders p
+    → Orders (own p n o)
 every ms g n p o l re bo la or =
     record {
       no_wait = λ k h. no_wait_kept ms g n p o l la.sent k (made_or_void p g k bo) (or.no_wait k) h;

@@ -3,19 +3,19 @@
 use Rattle.std.proofs.Common.{ap, refl, ◌≡◌, ◌≢◌, ℕ, ◌<◌, ◌≤◌, Bool, true, false, arith}
 use Rattle.std.specs.Prelude.{Some, None, nat_lt}
 use Rattle.std.proofs.lemmas.Bool.Decides.{nat_tests}
-use Rattle.sva_model.specs.State.{Mappings, Part, OrderState}
+use Rattle.sva_model.specs.State.{Mappings, Endpoint, OrderState}
 use Rattle.sva_model.specs.State.Stage.{Unbound, Invalidating}
 use Rattle.sva_model.specs.State.RequestState.{Out}
 use Rattle.sva_model.specs.State.PasidState.{On}
 use Rattle.sva_model.specs.State.Order.{PasidOf}
 use Rattle.sva_model.specs.State.UseState.{Running, Ended}
 use Rattle.sva_model.specs.State.OrderState.{Queued, Sent, Taken, Done}
-use Rattle.sva_model.specs.State.About.{CompletionOf, ResetDone}
+use Rattle.sva_model.specs.State.Subject.{CompletionOf, ResetDone}
 use Rattle.sva_model.specs.State.Phase.{Open, Cleared}
 use Rattle.sva_model.specs.States.{is_open, is_wait, is_taken, uses_noted, covers}
-use Rattle.sva_model.specs.Acts.{own, Own, binding_of}
-use Rattle.sva_model.specs.Acts.Own.{Finish}
-use Rattle.sva_laws.proofs.Legal.{LegalOwn}
+use Rattle.sva_model.specs.Acts.{own, LocalAct, binding_of}
+use Rattle.sva_model.specs.Acts.LocalAct.{Finish}
+use Rattle.sva_laws.proofs.Legal.{LegalLocalAct}
 use Rattle.sva_laws.proofs.Resets.{Resets}
 use Rattle.sva_laws.proofs.Bounds.{Bounds}
 use Rattle.sva_laws.proofs.Bindings.{Bindings, is_unmarked}
@@ -30,7 +30,7 @@ blocks Sent age = true
 blocks (Taken uses) age = nat_lt age uses
 blocks _ age = false
 
-pub record Owners (ms : Mappings) (p : Part) : Type 0 where
+pub record Owners (ms : Mappings) (p : Endpoint) : Type 0 where
   pub held : (r m : ℕ) → p.held r ≡ Some m → is_active (p.stage (p.request_binding r)) ≡ true
   pub running : (u : ℕ) → p.use_state u ≡ Running → is_active (p.stage (p.use_binding u)) ≡ true
   pub held_space : (r m : ℕ) → p.held r ≡ Some m → ms.space m ≡ p.space (p.request_binding r)
@@ -48,26 +48,26 @@ pub record Owners (ms : Mappings) (p : Part) : Type 0 where
   pub running_closed : (u k w : ℕ) → p.use_state u ≡ Running → p.stage (p.use_binding u) ≡ Invalidating k w → is_open p.phase ≡ false → p.order_state k ≢ Done
 
 -- what is asked for is asked for by a binding that is Live or Stopping
-pub asker_stage : (p : Part) (r : ℕ) → Bindings p → Requests p → p.request r ≡ Out → is_unmarked (p.stage (p.request_binding r)) ≡ true
+pub asker_stage : (p : Endpoint) (r : ℕ) → Bindings p → Requests p → p.request r ≡ Out → is_unmarked (p.stage (p.request_binding r)) ≡ true
 asker_stage p r bi ra h = grind (arith, ra.alive r, bi.on_stage (p.request_binding r), bi.ending_stage (p.request_binding r))
 
 -- the facts of a reset that what is usable rests on
-pub record NoneLeft (p : Part) : Type 0 where
+pub record NoneLeft (p : Endpoint) : Type 0 where
   pub up : (c : ℕ) → p.message c ≡ Some ResetDone → p.phase ≡ Cleared c
   pub empty : (c r : ℕ) → p.phase ≡ Cleared c → p.held r ≡ None
   pub dead : (c u : ℕ) → p.phase ≡ Cleared c → p.use_state u ≢ Running
 
-pub none_left : (n : ℕ) (p : Part) → Resets n p → NoneLeft p
+pub none_left : (n : ℕ) (p : Endpoint) → Resets n p → NoneLeft p
 none_left n p re = record { up = re.up; empty = re.empty; dead = re.dead }
 
-held_kept : (ms : Mappings) (g n : ℕ) (p : Part) (o : Own) → LegalOwn ms g p o → NoneLeft p
+held_kept : (ms : Mappings) (g n : ℕ) (p : Endpoint) (o : LocalAct) → LegalLocalAct ms g p o → NoneLeft p
     → ((r : ℕ) → p.request r ≡ Out → is_unmarked (p.stage (p.request_binding r)) ≡ true) → (r m : ℕ)
     → (p.held r ≡ Some m → is_active (p.stage (p.request_binding r)) ≡ true) → ((r : ℕ) → p.requests ≤ r → p.held r ≡ None)
     → ((k w : ℕ) → p.phase ≡ Open → p.stage (p.request_binding r) ≡ Invalidating k w → p.order_state w ≡ Done → p.held r ≢ Some m)
     → (own p n o).held r ≡ Some m → is_active ((own p n o).stage ((own p n o).request_binding r)) ≡ true
 held_kept ms g n p o l left asker r m old bound quiet h = grind (arith, nat_tests, bound r, left.up, left.empty)
 
-running_kept : (ms : Mappings) (g n : ℕ) (p : Part) (o : Own) → LegalOwn ms g p o
+running_kept : (ms : Mappings) (g n : ℕ) (p : Endpoint) (o : LocalAct) → LegalLocalAct ms g p o
     → ((r m : ℕ) → p.held r ≡ Some m → is_active (p.stage (p.request_binding r)) ≡ true) → NoneLeft p → (u : ℕ)
     → (p.use_state u ≡ Running → is_active (p.stage (p.use_binding u)) ≡ true)
     → ((k w : ℕ) → p.phase ≡ Open → p.stage (p.use_binding u) ≡ Invalidating k w → p.order_state w ≡ Done → p.use_state u ≢ Running)
@@ -78,26 +78,26 @@ blocks_undone : (s : OrderState) (age : ℕ) → blocks s age ≡ true → is_un
 blocks_undone s age h = grind (arith, nat_tests)
 
 -- when its wait is done, nothing of an invalidating binding is cached or in use
-pub held_quiet : (ms : Mappings) (p : Part) → Orders p → Owners ms p → (r m k w : ℕ) → p.phase ≡ Open → p.stage (p.request_binding r)
+pub held_quiet : (ms : Mappings) (p : Endpoint) → Orders p → Owners ms p → (r m k w : ℕ) → p.phase ≡ Open → p.stage (p.request_binding r)
     ≡ Invalidating k w → p.order_state w ≡ Done → p.held r ≢ Some m
 held_quiet ms p or ow r m k w ph st d h =
     let i = or.invalidating (p.request_binding r) k w st in
     quiet_now p or (p.request_binding r) k w k st d (blocks_undone (p.order_state k) p.uses (ow.held_open r m k w h st ph)) (ap is_wait i.1)
     (ap binding_of i.1)
 
-pub running_quiet : (ms : Mappings) (p : Part) → Orders p → Owners ms p → (u k w : ℕ) → p.phase ≡ Open → p.stage (p.use_binding u) ≡ Invalidating k w
+pub running_quiet : (ms : Mappings) (p : Endpoint) → Orders p → Owners ms p → (u k w : ℕ) → p.phase ≡ Open → p.stage (p.use_binding u) ≡ Invalidating k w
     → p.order_state w ≡ Done → p.use_state u ≢ Running
 running_quiet ms p or ow u k w ph st d h =
     let i = or.invalidating (p.use_binding u) k w st in
     quiet_now p or (p.use_binding u) k w k st d (blocks_undone (p.order_state k) u (ow.running_open u k w h st ph)) (ap is_wait i.1) (ap binding_of i.1)
 
-held_space_kept : (ms : Mappings) (g n : ℕ) (p : Part) (o : Own) → LegalOwn ms g p o → (r m : ℕ) → (p.requests ≤ r → p.held r ≡ None)
+held_space_kept : (ms : Mappings) (g n : ℕ) (p : Endpoint) (o : LocalAct) → LegalLocalAct ms g p o → (r m : ℕ) → (p.requests ≤ r → p.held r ≡ None)
     → (p.held r ≡ Some m → ms.space m ≡ p.space (p.request_binding r)) → (p.held r ≡ Some m → is_active (p.stage (p.request_binding r)) ≡ true)
     → ((c : ℕ) → p.message c ≡ Some (CompletionOf r (Some m)) → ms.space m ≡ p.space (p.request_binding r)) → (own p n o).held r ≡ Some m
     → ms.space m ≡ (own p n o).space ((own p n o).request_binding r)
 held_space_kept ms g n p o l r m bound old act flying h = grind (arith, nat_tests)
 
-held_page_kept : (ms : Mappings) (g n : ℕ) (p : Part) (o : Own) → LegalOwn ms g p o → (r m : ℕ) → (p.requests ≤ r → p.held r ≡ None)
+held_page_kept : (ms : Mappings) (g n : ℕ) (p : Endpoint) (o : LocalAct) → LegalLocalAct ms g p o → (r m : ℕ) → (p.requests ≤ r → p.held r ≡ None)
     → (p.held r ≡ Some m → ms.page m ≡ p.request_page r) → ((c : ℕ) → p.message c ≡ Some (CompletionOf r (Some m)) → ms.page m ≡ p.request_page r)
     → (own p n o).held r ≡ Some m → ms.page m ≡ (own p n o).request_page r
 held_page_kept ms g n p o l r m bound old flying h = grind (arith, nat_tests)
@@ -106,38 +106,38 @@ held_page_kept ms g n p o l r m bound old flying h = grind (arith, nat_tests)
 abbrev pub Leads : Mappings → Type 0
 Leads ms = (s q m : ℕ) → ms.at s q ≡ Some m → (ms.space m ≡ s) × (ms.page m ≡ q) × (m < ms.made)
 
-flying_space_kept : (ms : Mappings) (g n : ℕ) (p : Part) (o : Own) → LegalOwn ms g p o → Leads ms → (c r m : ℕ)
+flying_space_kept : (ms : Mappings) (g n : ℕ) (p : Endpoint) (o : LocalAct) → LegalLocalAct ms g p o → Leads ms → (c r m : ℕ)
     → (p.message c ≡ Some (CompletionOf r (Some m)) → r < p.requests) → (r < p.requests → p.stage (p.request_binding r) ≢ Unbound)
     → (p.message c ≡ Some (CompletionOf r (Some m)) → ms.space m ≡ p.space (p.request_binding r)) → (own p n o).message c
     ≡ Some (CompletionOf r (Some m)) → ms.space m ≡ (own p n o).space ((own p n o).request_binding r)
 flying_space_kept ms g n p o l le c r m bound made old h = grind (arith, nat_tests, le (p.space (p.request_binding r)) (p.request_page r) m)
 
-flying_page_kept : (ms : Mappings) (g n : ℕ) (p : Part) (o : Own) → LegalOwn ms g p o → Leads ms → (c r m : ℕ)
+flying_page_kept : (ms : Mappings) (g n : ℕ) (p : Endpoint) (o : LocalAct) → LegalLocalAct ms g p o → Leads ms → (c r m : ℕ)
     → (p.message c ≡ Some (CompletionOf r (Some m)) → r < p.requests) → (p.message c ≡ Some (CompletionOf r (Some m)) → ms.page m ≡ p.request_page r)
     → (own p n o).message c ≡ Some (CompletionOf r (Some m)) → ms.page m ≡ (own p n o).request_page r
 flying_page_kept ms g n p o l le c r m bound old h = grind (arith, nat_tests, le (p.space (p.request_binding r)) (p.request_page r) m)
 
-held_made_kept : (ms : Mappings) (g n : ℕ) (p : Part) (o : Own) → LegalOwn ms g p o → (r m : ℕ) → (p.held r ≡ Some m → m < ms.made)
+held_made_kept : (ms : Mappings) (g n : ℕ) (p : Endpoint) (o : LocalAct) → LegalLocalAct ms g p o → (r m : ℕ) → (p.held r ≡ Some m → m < ms.made)
     → ((c : ℕ) → p.message c ≡ Some (CompletionOf r (Some m)) → m < ms.made) → (own p n o).held r ≡ Some m → m < ms.made
 held_made_kept ms g n p o l r m old flying h = grind (arith, nat_tests)
 
-flying_made_kept : (ms : Mappings) (g n : ℕ) (p : Part) (o : Own) → LegalOwn ms g p o → Leads ms → (c r m : ℕ)
+flying_made_kept : (ms : Mappings) (g n : ℕ) (p : Endpoint) (o : LocalAct) → LegalLocalAct ms g p o → Leads ms → (c r m : ℕ)
     → (p.message c ≡ Some (CompletionOf r (Some m)) → m < ms.made) → (own p n o).message c ≡ Some (CompletionOf r (Some m)) → m < ms.made
 flying_made_kept ms g n p o l le c r m old h = grind (arith, nat_tests, le (p.space (p.request_binding r)) (p.request_page r) m)
 
-running_made_kept : (ms : Mappings) (g n : ℕ) (p : Part) (o : Own) → LegalOwn ms g p o → (u : ℕ) → ((r m : ℕ) → p.held r ≡ Some m → m < ms.made)
+running_made_kept : (ms : Mappings) (g n : ℕ) (p : Endpoint) (o : LocalAct) → LegalLocalAct ms g p o → (u : ℕ) → ((r m : ℕ) → p.held r ≡ Some m → m < ms.made)
     → (p.uses ≤ u → p.use_state u ≡ Ended) → (p.use_state u ≡ Running → p.use_mapping u < ms.made) → (own p n o).use_state u ≡ Running
     → (own p n o).use_mapping u < ms.made
 running_made_kept ms g n p o l u held bound old h = grind (arith, nat_tests)
 
-running_space_kept : (ms : Mappings) (g n : ℕ) (p : Part) (o : Own) → LegalOwn ms g p o
+running_space_kept : (ms : Mappings) (g n : ℕ) (p : Endpoint) (o : LocalAct) → LegalLocalAct ms g p o
     → ((r m : ℕ) → p.held r ≡ Some m → ms.space m ≡ p.space (p.request_binding r)) → (u : ℕ) → (p.uses ≤ u → p.use_state u ≡ Ended)
     → (p.use_state u ≡ Running → is_active (p.stage (p.use_binding u)) ≡ true)
     → (p.use_state u ≡ Running → ms.space (p.use_mapping u) ≡ p.space (p.use_binding u)) → (own p n o).use_state u ≡ Running
     → ms.space ((own p n o).use_mapping u) ≡ (own p n o).space ((own p n o).use_binding u)
 running_space_kept ms g n p o l held u bound act old h = grind (arith, nat_tests)
 
-held_open_kept : (ms : Mappings) (g n : ℕ) (p : Part) (o : Own) → LegalOwn ms g p o → NoneLeft p → SentOnly p
+held_open_kept : (ms : Mappings) (g n : ℕ) (p : Endpoint) (o : LocalAct) → LegalLocalAct ms g p o → NoneLeft p → SentOnly p
     → ((r : ℕ) → p.request r ≡ Out → is_unmarked (p.stage (p.request_binding r)) ≡ true) → (r m k w : ℕ) → (p.requests ≤ r → p.held r ≡ None)
     → (p.stage (p.request_binding r) ≡ Invalidating k w → (k < p.orders) × (p.order k ≡ PasidOf (p.request_binding r)))
     → ((x : ℕ) → p.order_state k ≡ Taken x → x ≤ p.uses)
@@ -146,7 +146,7 @@ held_open_kept : (ms : Mappings) (g n : ℕ) (p : Part) (o : Own) → LegalOwn m
     → blocks ((own p n o).order_state k) (own p n o).uses ≡ true
 held_open_kept ms g n p o l left sent asker r m k w bound inv noted old h i j = grind (arith, nat_tests, left.up, left.empty)
 
-held_closed_kept : (ms : Mappings) (g n : ℕ) (p : Part) (o : Own) → LegalOwn ms g p o → NoneLeft p → SentOnly p
+held_closed_kept : (ms : Mappings) (g n : ℕ) (p : Endpoint) (o : LocalAct) → LegalLocalAct ms g p o → NoneLeft p → SentOnly p
     → ((r : ℕ) → p.request r ≡ Out → is_unmarked (p.stage (p.request_binding r)) ≡ true) → (r m k w : ℕ) → (p.requests ≤ r → p.held r ≡ None)
     → (p.held r ≡ Some m → p.stage (p.request_binding r) ≡ Invalidating k w → p.phase ≡ Open → blocks (p.order_state k) p.uses ≡ true)
     → (p.held r ≡ Some m → p.stage (p.request_binding r) ≡ Invalidating k w → is_open p.phase ≡ false → p.order_state k ≢ Done) → (own p n o).held r
@@ -154,23 +154,23 @@ held_closed_kept : (ms : Mappings) (g n : ℕ) (p : Part) (o : Own) → LegalOwn
 held_closed_kept ms g n p o l left sent asker r m k w bound opened old h i j d = grind (arith, nat_tests, left.up, left.empty)
 
 -- does the act finish the order?
-abbrev pub finishes : Own → ℕ → Bool
+abbrev pub finishes : LocalAct → ℕ → Bool
 finishes (Finish names vector count) k = names k
 finishes _ k = false
 
 -- an order that has noted a running use isn't finished
-finish_spares : (ms : Mappings) (p : Part) (names : ℕ → Bool) (k u : ℕ) → (names k ≡ true → is_taken (p.order_state k) ≡ true)
+finish_spares : (ms : Mappings) (p : Endpoint) (names : ℕ → Bool) (k u : ℕ) → (names k ≡ true → is_taken (p.order_state k) ≡ true)
     → (names k ≡ true → u < uses_noted (p.order_state k) → p.use_state u ≡ Running → covers (p.order k) (p.use_binding u) (ms.page (p.use_mapping u))
     ≡ false) → p.use_state u ≡ Running → covers (p.order k) (p.use_binding u) (ms.page (p.use_mapping u)) ≡ true → blocks (p.order_state k) u ≡ true
     → names k ≡ false
 finish_spares ms p names k u taken spares h c b = grind (arith, nat_tests)
 
-pub spares : (ms : Mappings) (g : ℕ) (p : Part) (o : Own) → LegalOwn ms g p o → (k u : ℕ) → p.use_state u ≡ Running
+pub spares : (ms : Mappings) (g : ℕ) (p : Endpoint) (o : LocalAct) → LegalLocalAct ms g p o → (k u : ℕ) → p.use_state u ≡ Running
     → covers (p.order k) (p.use_binding u) (ms.page (p.use_mapping u)) ≡ true → blocks (p.order_state k) u ≡ true → finishes o k ≡ false
 spares ms g p (Finish names vector count) l k u h c b = finish_spares ms p names k u (l.1 k) (l.2 k u) h c b
 spares ms g p _ l k u h c b = refl
 
-running_open_kept : (ms : Mappings) (g n : ℕ) (p : Part) (o : Own) → LegalOwn ms g p o → NoneLeft p → SentOnly p
+running_open_kept : (ms : Mappings) (g n : ℕ) (p : Endpoint) (o : LocalAct) → LegalLocalAct ms g p o → NoneLeft p → SentOnly p
     → ((r : ℕ) → p.pasid_state r ≡ On → is_unmarked (p.stage r) ≡ true) → (u k w : ℕ) → (p.uses ≤ u → p.use_state u ≡ Ended)
     → (p.stage (p.use_binding u) ≡ Invalidating k w → (k < p.orders) × (p.order k ≡ PasidOf (p.use_binding u)))
     → (p.use_state u ≡ Running → covers (p.order k) (p.use_binding u) (ms.page (p.use_mapping u)) ≡ true → blocks (p.order_state k) u ≡ true
@@ -179,7 +179,7 @@ running_open_kept : (ms : Mappings) (g n : ℕ) (p : Part) (o : Own) → LegalOw
     → blocks ((own p n o).order_state k) u ≡ true
 running_open_kept ms g n p o l left sent on u k w bound inv spared old h i j = grind (arith, nat_tests, left.up, left.dead)
 
-running_closed_kept : (ms : Mappings) (g n : ℕ) (p : Part) (o : Own) → LegalOwn ms g p o → NoneLeft p → SentOnly p
+running_closed_kept : (ms : Mappings) (g n : ℕ) (p : Endpoint) (o : LocalAct) → LegalLocalAct ms g p o → NoneLeft p → SentOnly p
     → ((r : ℕ) → p.pasid_state r ≡ On → is_unmarked (p.stage r) ≡ true) → (u k w : ℕ) → (p.uses ≤ u → p.use_state u ≡ Ended)
     → (p.use_state u ≡ Running → p.stage (p.use_binding u) ≡ Invalidating k w → p.phase ≡ Open → blocks (p.order_state k) u ≡ true)
     → (p.use_state u ≡ Running → p.stage (p.use_binding u) ≡ Invalidating k w → is_open p.phase ≡ false → p.order_state k ≢ Done)
@@ -187,10 +187,10 @@ running_closed_kept : (ms : Mappings) (g n : ℕ) (p : Part) (o : Own) → Legal
     → (own p n o).order_state k ≢ Done
 running_closed_kept ms g n p o l left sent on u k w bound opened old h i j d = grind (arith, nat_tests, left.up, left.dead)
 
-invalidating_order : (p : Part) → Orders p → (b k w : ℕ) → p.stage b ≡ Invalidating k w → (k < p.orders) × (p.order k ≡ PasidOf b)
+invalidating_order : (p : Endpoint) → Orders p → (b k w : ℕ) → p.stage b ≡ Invalidating k w → (k < p.orders) × (p.order k ≡ PasidOf b)
 invalidating_order p or b k w h = let i = or.invalidating b k w h in (omega (arith, i), i.1)
 
-pub every : (ms : Mappings) (g n : ℕ) (p : Part) (o : Own) → LegalOwn ms g p o → Leads ms → Resets n p → Bounds g p → Bindings p → Labels p
+pub every : (ms : Mappings) (g n : ℕ) (p : Endpoint) (o : LocalAct) → LegalLocalAct ms g p o → Leads ms → Resets n p → Bounds g p → Bindings p → Labels p
     → Requests p → Orders p → Owners ms p → Owners ms (own p n o)
 every ms g n p o l le re bo bi la ra or ow =
     record {

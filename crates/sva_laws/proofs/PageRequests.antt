@@ -3,20 +3,20 @@ use Rattle.std.proofs.Common.{◌≡◌, ◌≢◌, ◌⊎◌, inl, inr, ap, ◌
 use Rattle.std.specs.Prelude.{Some, None}
 use Rattle.std.proofs.lemmas.Bool.Decides.{nat_tests}
 use Rattle.sva_model.specs.Message.{Code}
-use Rattle.sva_model.specs.State.{Mappings, Part, HostGroupState}
+use Rattle.sva_model.specs.State.{Mappings, Endpoint, HostGroupState}
 use Rattle.sva_model.specs.State.PageRequestState.{InFlight, Arrived, Filed, Dropped}
-use Rattle.sva_model.specs.State.GroupState.{Unfinished, Finished}
+use Rattle.sva_model.specs.State.GroupState.{Collecting, Closed}
 use Rattle.sva_model.specs.State.HostGroupState.{NotFiled, Job, InHand, Replied, InHandDiscarded}
-use Rattle.sva_model.specs.State.About.{PageRequestOf, ResponseOf, ResetDone}
+use Rattle.sva_model.specs.State.Subject.{PageRequestOf, ResponseOf, ResetDone}
 use Rattle.sva_model.specs.State.Phase.{Open, Cleared}
 use Rattle.sva_model.specs.States.{is_outstanding, is_before_invalidating}
-use Rattle.sva_model.specs.Acts.{own, Own}
-use Rattle.sva_model.specs.Acts.Own.{File, Reopen}
-use Rattle.sva_laws.proofs.Legal.{LegalOwn}
+use Rattle.sva_model.specs.Acts.{own, LocalAct}
+use Rattle.sva_model.specs.Acts.LocalAct.{File, Reopen}
+use Rattle.sva_laws.proofs.Legal.{LegalLocalAct}
 use Rattle.sva_laws.proofs.Resets.{Resets}
 use Rattle.sva_laws.proofs.Bounds.{Bounds}
 
-pub record Queued (p : Part) : Type 0 where
+pub record Queued (p : Endpoint) : Type 0 where
   pub in_flight : (c r : ℕ) → p.message c ≡ Some (PageRequestOf r) → (p.page_request r ≡ InFlight) × (p.page_request_message r ≡ c)
   pub message : (r : ℕ) → p.page_request r ≡ InFlight → p.message (p.page_request_message r) ≡ Some (PageRequestOf r)
   pub arrived : (r : ℕ) → p.page_request r ≡ Arrived → (p.arrived_as r < p.arrivals) × (p.arrival (p.arrived_as r) ≡ r)
@@ -24,7 +24,7 @@ pub record Queued (p : Part) : Type 0 where
   pub landed : (k : ℕ) → k < p.arrivals → p.page_request (p.arrival k) ≢ InFlight
   pub made : (r : ℕ) → p.page_request r ≡ InFlight → r < p.page_requests
 
-pub queued : (ms : Mappings) (g n : ℕ) (p : Part) (o : Own) → LegalOwn ms g p o → Resets n p → Bounds g p → Queued p → Queued (own p n o)
+pub queued : (ms : Mappings) (g n : ℕ) (p : Endpoint) (o : LocalAct) → LegalLocalAct ms g p o → Resets n p → Bounds g p → Queued p → Queued (own p n o)
 queued ms g n p o l re bo qu =
     record {
       in_flight = λ c r h. grind (arith, nat_tests, qu.in_flight c r, bo.requested c r, re.unsent c);
@@ -42,48 +42,49 @@ is_whole (InHand w) = true
 is_whole Replied = true
 is_whole _ = false
 
-pub record Lasts (p : Part) : Type 0 where
-  pub last_group : (r : ℕ) → r < p.page_requests → p.is_last r ≡ true → p.group (p.group_of r) ≢ Unfinished
+pub record Lasts (p : Endpoint) : Type 0 where
+  pub last_group : (r : ℕ) → r < p.page_requests → p.is_last r ≡ true → p.group (p.group_of r) ≢ Collecting
   pub last_once : (r x : ℕ) → r < p.page_requests → x < p.page_requests → p.is_last r ≡ true → p.is_last x ≡ true → p.group_of r ≡ p.group_of x → r ≡ x
   pub last_flight : (c d l x : ℕ) → p.message c ≡ Some (PageRequestOf l) → p.is_last l ≡ true → p.message d ≡ Some (PageRequestOf x) → p.group_of x
       ≡ p.group_of l → d ≤ c
   pub last_arrived : (l x : ℕ) → p.page_request l ≡ Arrived → p.is_last l ≡ true → p.group_of x ≡ p.group_of l → p.page_request x ≢ InFlight
   pub last_order : (l x : ℕ) → p.page_request l ≡ Arrived → p.is_last l ≡ true → p.group_of x ≡ p.group_of l → p.page_request x ≡ Arrived
       → p.arrived_as x ≤ p.arrived_as l
-  pub whole_group : (x : ℕ) → is_whole (p.host_group x) ≡ true → p.group x ≢ Unfinished
+  pub whole_group : (x : ℕ) → is_whole (p.host_group x) ≡ true → p.group x ≢ Collecting
   pub whole : (r : ℕ) → is_whole (p.host_group (p.group_of r)) ≡ true → r < p.page_requests → p.page_request r ≡ Filed
   pub kept : (r : ℕ) → p.phase ≡ Open → r < p.page_requests → is_outstanding (p.group (p.group_of r)) ≡ true → p.page_request r ≢ Dropped
   pub out : (r : ℕ) → p.phase ≡ Open → (p.page_request r ≡ InFlight) ⊎ (p.page_request r ≡ Arrived) → is_outstanding (p.group (p.group_of r)) ≡ true
 
-last_group_kept : (ms : Mappings) (g n : ℕ) (p : Part) (o : Own) → LegalOwn ms g p o → (r : ℕ) → (r < p.page_requests → p.group_of r < p.groups)
-    → (r < p.page_requests → p.is_last r ≡ true → p.group (p.group_of r) ≢ Unfinished) → r < (own p n o).page_requests → (own p n o).is_last r ≡ true
-    → (own p n o).group ((own p n o).group_of r) ≢ Unfinished
+last_group_kept : (ms : Mappings) (g n : ℕ) (p : Endpoint) (o : LocalAct) → LegalLocalAct ms g p o → (r : ℕ) → (r < p.page_requests → p.group_of r < p.groups)
+    → (r < p.page_requests → p.is_last r ≡ true → p.group (p.group_of r) ≢ Collecting) → r < (own p n o).page_requests → (own p n o).is_last r ≡ true
+    → (own p n o).group ((own p n o).group_of r) ≢ Collecting
 last_group_kept ms g n p o l r bo old h i j = grind (arith, nat_tests)
 
-either_made : (g : ℕ) (p : Part) → Bounds g p → Queued p → (r : ℕ) → (p.page_request r ≡ InFlight) ⊎ (p.page_request r ≡ Arrived) → r < p.page_requests
+either_made : (g : ℕ) (p : Endpoint) → Bounds g p → Queued p → (r : ℕ) → (p.page_request r ≡ InFlight) ⊎ (p.page_request r ≡ Arrived) → r < p.page_requests
 either_made g p bo qu r (inl h) = qu.made r h
 either_made g p bo qu r (inr h) = grind (arith, bo.page_request r)
 
-last_once_kept : (ms : Mappings) (g n : ℕ) (p : Part) (o : Own) → LegalOwn ms g p o → (r x : ℕ) → (r < p.page_requests → p.group_of r < p.groups)
-    → (x < p.page_requests → p.group_of x < p.groups) → (r < p.page_requests → p.is_last r ≡ true → p.group (p.group_of r) ≢ Unfinished)
-    → (x < p.page_requests → p.is_last x ≡ true → p.group (p.group_of x) ≢ Unfinished)
+last_once_kept : (ms : Mappings) (g n : ℕ) (p : Endpoint) (o : LocalAct) → LegalLocalAct ms g p o → (r x : ℕ) → (r < p.page_requests → p.group_of r < p.groups)
+    → (x < p.page_requests → p.group_of x < p.groups) → (r < p.page_requests → p.is_last r ≡ true → p.group (p.group_of r) ≢ Collecting)
+    → (x < p.page_requests → p.is_last x ≡ true → p.group (p.group_of x) ≢ Collecting)
     → (r < p.page_requests → x < p.page_requests → p.is_last r ≡ true → p.is_last x ≡ true → p.group_of r ≡ p.group_of x → r ≡ x) → r
     < (own p n o).page_requests → x < (own p n o).page_requests → (own p n o).is_last r ≡ true → (own p n o).is_last x ≡ true
     → (own p n o).group_of r ≡ (own p n o).group_of x → r ≡ x
 last_once_kept ms g n p o l r x ir ix gr gx old h i j k e = grind (arith, nat_tests)
 
-last_flight_kept : (ms : Mappings) (g n : ℕ) (p : Part) (o : Own) → LegalOwn ms g p o → (c d y x : ℕ)
+last_flight_kept : (ms : Mappings) (g n : ℕ) (p : Endpoint) (o : LocalAct) → LegalLocalAct ms g p o → (c d y x : ℕ)
     → (y < p.page_requests → p.group_of y < p.groups) → (x < p.page_requests → p.group_of x < p.groups) → (n ≤ c → p.message c ≡ None)
     → (n ≤ d → p.message d ≡ None) → (p.message c ≡ Some (PageRequestOf y) → y < p.page_requests)
-    → (p.message d ≡ Some (PageRequestOf x) → x < p.page_requests) → (y < p.page_requests → p.is_last y ≡ true → p.group (p.group_of y) ≢ Unfinished)
+    → (p.message d ≡ Some (PageRequestOf x) → x < p.page_requests) → (y < p.page_requests → p.is_last y ≡ true → p.group (p.group_of y) ≢ Collecting)
     → (p.message c ≡ Some (PageRequestOf y) → p.is_last y ≡ true → p.message d ≡ Some (PageRequestOf x) → p.group_of x ≡ p.group_of y → d ≤ c)
     → (own p n o).message c ≡ Some (PageRequestOf y) → (own p n o).is_last y ≡ true → (own p n o).message d ≡ Some (PageRequestOf x)
     → (own p n o).group_of x ≡ (own p n o).group_of y → d ≤ c
 last_flight_kept ms g n p o l c d y x iy ix uc ud my mx gy old h i j e = grind (arith, nat_tests)
 
-last_arrived_kept : (ms : Mappings) (g n : ℕ) (p : Part) (o : Own) → LegalOwn ms g p o → (y x : ℕ) → (y < p.page_requests → p.group_of y < p.groups)
+last_arrived_kept : (ms : Mappings) (g n : ℕ) (p : Endpoint) (o : LocalAct) → LegalLocalAct ms g p o → (y x : ℕ)
+    → (y < p.page_requests → p.group_of y < p.groups)
     → (x < p.page_requests → p.group_of x < p.groups) → (p.page_request y ≡ Arrived → y < p.page_requests)
-    → (p.page_request x ≡ InFlight → x < p.page_requests) → (y < p.page_requests → p.is_last y ≡ true → p.group (p.group_of y) ≢ Unfinished)
+    → (p.page_request x ≡ InFlight → x < p.page_requests) → (y < p.page_requests → p.is_last y ≡ true → p.group (p.group_of y) ≢ Collecting)
     → (p.page_request x ≡ InFlight → p.message (p.page_request_message x) ≡ Some (PageRequestOf x))
     → ((c : ℕ) → p.message c ≡ Some (PageRequestOf y) → p.is_last y ≡ true → p.message (p.page_request_message x) ≡ Some (PageRequestOf x)
     → p.group_of x ≡ p.group_of y → p.page_request_message x ≤ c) → ((c : ℕ) → p.message c ≡ Some (PageRequestOf y) → y < p.page_requests)
@@ -91,7 +92,7 @@ last_arrived_kept : (ms : Mappings) (g n : ℕ) (p : Part) (o : Own) → LegalOw
     ≡ Arrived → (own p n o).is_last y ≡ true → (own p n o).group_of x ≡ (own p n o).group_of y → (own p n o).page_request x ≢ InFlight
 last_arrived_kept ms g n p o l y x iy ix my mx gy ms' fl mm old h i e j = grind (arith, nat_tests)
 
-last_order_kept : (ms : Mappings) (g n : ℕ) (p : Part) (o : Own) → LegalOwn ms g p o → (y x : ℕ)
+last_order_kept : (ms : Mappings) (g n : ℕ) (p : Endpoint) (o : LocalAct) → LegalLocalAct ms g p o → (y x : ℕ)
     → (p.page_request x ≡ Arrived → p.arrived_as x < p.arrivals) → ((c : ℕ) → p.message c ≡ Some (PageRequestOf x) → p.page_request x ≡ InFlight)
     → (p.page_request y ≡ Arrived → y < p.page_requests) → (p.page_request x ≡ Arrived → x < p.page_requests)
     → (p.page_request y ≡ Arrived → p.is_last y ≡ true → p.group_of x ≡ p.group_of y → p.page_request x ≢ InFlight)
@@ -101,33 +102,33 @@ last_order_kept : (ms : Mappings) (g n : ℕ) (p : Part) (o : Own) → LegalOwn 
 last_order_kept ms g n p o l y x ax fx my mx na old h i e j = grind (arith, nat_tests)
 
 -- a worker's answer is sent for a job that the host still has
-abbrev pub HasJob : Part → Type 0
+abbrev pub HasJob : Endpoint → Type 0
 HasJob p = (x w : ℕ) → p.phase ≡ Open → p.host_group x ≡ InHandDiscarded w → is_before_invalidating (p.stage (p.filed_under x)) ≡ false
 
-whole_group_kept : (ms : Mappings) (g n : ℕ) (p : Part) (o : Own) → LegalOwn ms g p o → HasJob p
-    → ((r : ℕ) → r < p.page_requests → p.is_last r ≡ true → p.group (p.group_of r) ≢ Unfinished)
+whole_group_kept : (ms : Mappings) (g n : ℕ) (p : Endpoint) (o : LocalAct) → LegalLocalAct ms g p o → HasJob p
+    → ((r : ℕ) → r < p.page_requests → p.is_last r ≡ true → p.group (p.group_of r) ≢ Collecting)
     → ((r : ℕ) → p.page_request r ≡ Arrived → r < p.page_requests) → (x : ℕ) → (p.groups ≤ x → p.host_group x ≡ NotFiled)
-    → (is_whole (p.host_group x) ≡ true → p.group x ≢ Unfinished) → is_whole ((own p n o).host_group x) ≡ true → (own p n o).group x ≢ Unfinished
+    → (is_whole (p.host_group x) ≡ true → p.group x ≢ Collecting) → is_whole ((own p n o).host_group x) ≡ true → (own p n o).group x ≢ Collecting
 whole_group_kept ms g n p o l hj lg ar x bo old h i = grind (arith, nat_tests, hj x)
 
-arrived_made : (g : ℕ) (p : Part) → Bounds g p → (r : ℕ) → p.page_request r ≡ Arrived → r < p.page_requests
+arrived_made : (g : ℕ) (p : Endpoint) → Bounds g p → (r : ℕ) → p.page_request r ≡ Arrived → r < p.page_requests
 arrived_made g p bo r h = grind (arith, bo.page_request r)
 
 -- filing the last of a group: every other request of it is filed
-abbrev pub FilesLast : Part → Own → (r : ℕ) → Type 0
+abbrev pub FilesLast : Endpoint → LocalAct → (r : ℕ) → Type 0
 FilesLast p (File y) r = p.is_last y ≡ true → p.group_of r ≡ p.group_of y → (r ≡ y) ⊎ (p.page_request r ≡ Filed)
 FilesLast p _ r = Unit {0}
 
-alone : (p : Part) (y r : ℕ) → p.page_request y ≡ Arrived → p.arrived_as y ≤ p.arrived_as r ⊎ (p.page_request r ≢ Arrived)
+alone : (p : Endpoint) (y r : ℕ) → p.page_request y ≡ Arrived → p.arrived_as y ≤ p.arrived_as r ⊎ (p.page_request r ≢ Arrived)
     → (p.page_request r ≡ Arrived → p.arrived_as r ≤ p.arrived_as y) → (p.page_request r ≡ Arrived → p.arrival (p.arrived_as r) ≡ r)
     → p.arrival (p.arrived_as y) ≡ y → p.page_request r ≢ InFlight → p.page_request r ≢ Dropped → (r ≡ y) ⊎ (p.page_request r ≡ Filed)
 alone p y r h oldest ord inv invy nf nd = grind (arith)
 
-is_arrived_cases : (p : Part) (y r : ℕ) → (p.page_request r ≡ Arrived → p.arrived_as y ≤ p.arrived_as r) → p.arrived_as y ≤ p.arrived_as r
+is_arrived_cases : (p : Endpoint) (y r : ℕ) → (p.page_request r ≡ Arrived → p.arrived_as y ≤ p.arrived_as r) → p.arrived_as y ≤ p.arrived_as r
     ⊎ (p.page_request r ≢ Arrived)
 is_arrived_cases p y r h = grind arith
 
-file_last : (ms : Mappings) (g : ℕ) (p : Part) (y : ℕ) → LegalOwn ms g p (File y) → Queued p → Lasts p → (r : ℕ) → r < p.page_requests
+file_last : (ms : Mappings) (g : ℕ) (p : Endpoint) (y : ℕ) → LegalLocalAct ms g p (File y) → Queued p → Lasts p → (r : ℕ) → r < p.page_requests
     → FilesLast p (File y) r
 file_last ms g p y l qu la r b i e =
     let ay = qu.arrived y l.1 in
@@ -136,29 +137,30 @@ file_last ms g p y l qu la r b i e =
     alone p y r l.1 (is_arrived_cases p y r (l.2 r)) (la.last_order y r l.1 i e) (λ h. (qu.arrived r h).1) ay.1 (la.last_arrived y r l.1 i e)
     (la.kept r l.0 b same)
 
-files_last : (ms : Mappings) (g : ℕ) (p : Part) (o : Own) → LegalOwn ms g p o → Queued p → Lasts p → (r : ℕ) → r < p.page_requests → FilesLast p o r
+files_last : (ms : Mappings) (g : ℕ) (p : Endpoint) (o : LocalAct) → LegalLocalAct ms g p o → Queued p → Lasts p → (r : ℕ) → r < p.page_requests
+    → FilesLast p o r
 files_last ms g p (File y) l qu la r b = file_last ms g p y l qu la r b
 files_last ms g p _ l qu la r b = tt
 
-whole_kept : (ms : Mappings) (g n : ℕ) (p : Part) (o : Own) → LegalOwn ms g p o → HasJob p → (r : ℕ) → (r < p.page_requests → FilesLast p o r)
+whole_kept : (ms : Mappings) (g n : ℕ) (p : Endpoint) (o : LocalAct) → LegalLocalAct ms g p o → HasJob p → (r : ℕ) → (r < p.page_requests → FilesLast p o r)
     → (p.host_group p.groups ≡ NotFiled) → (r < p.page_requests → p.group_of r < p.groups)
     → ((c : ℕ) → p.message c ≡ Some (PageRequestOf r) → p.page_request r ≡ InFlight)
     → (is_whole (p.host_group (p.group_of r)) ≡ true → r < p.page_requests → p.page_request r ≡ Filed)
-    → ((x : ℕ) → is_whole (p.host_group x) ≡ true → p.group x ≢ Unfinished) → is_whole ((own p n o).host_group ((own p n o).group_of r)) ≡ true → r
+    → ((x : ℕ) → is_whole (p.host_group x) ≡ true → p.group x ≢ Collecting) → is_whole ((own p n o).host_group ((own p n o).group_of r)) ≡ true → r
     < (own p n o).page_requests → (own p n o).page_request r ≡ Filed
 whole_kept ms g n p o l hj r fl nf bo fi old wg h i = grind (arith, nat_tests, hj (p.group_of r))
 
-kept_kept : (ms : Mappings) (g n : ℕ) (p : Part) (o : Own) → LegalOwn ms g p o → ((c : ℕ) → p.message c ≡ Some ResetDone → p.phase ≡ Cleared c)
-    → ((c x : ℕ) → p.phase ≡ Cleared c → p.group x ≡ Finished) → (r : ℕ) → (r < p.page_requests → p.group_of r < p.groups)
+kept_kept : (ms : Mappings) (g n : ℕ) (p : Endpoint) (o : LocalAct) → LegalLocalAct ms g p o → ((c : ℕ) → p.message c ≡ Some ResetDone → p.phase ≡ Cleared c)
+    → ((c x : ℕ) → p.phase ≡ Cleared c → p.group x ≡ Closed) → (r : ℕ) → (r < p.page_requests → p.group_of r < p.groups)
     → (p.phase ≡ Open → r < p.page_requests → is_outstanding (p.group (p.group_of r)) ≡ true → p.page_request r ≢ Dropped) → (own p n o).phase ≡ Open
     → r < (own p n o).page_requests → is_outstanding ((own p n o).group ((own p n o).group_of r)) ≡ true → (own p n o).page_request r ≢ Dropped
 kept_kept ms g n p o l up fin r bo old h i j k = grind (arith, nat_tests)
 
-abbrev pub NoneBehind : Part → Own → (r : ℕ) → Type 0
+abbrev pub NoneBehind : Endpoint → LocalAct → (r : ℕ) → Type 0
 NoneBehind p (Reopen c) r = (p.page_request r ≢ InFlight) × (p.page_request r ≢ Arrived)
 NoneBehind p _ r = Unit {0}
 
-out_kept : (ms : Mappings) (g n : ℕ) (p : Part) (o : Own) → LegalOwn ms g p o
+out_kept : (ms : Mappings) (g n : ℕ) (p : Endpoint) (o : LocalAct) → LegalLocalAct ms g p o
     → ((c x : ℕ) (code : Code) → p.message c ≡ Some (ResponseOf x code) → is_whole (p.host_group x) ≡ true) → (r : ℕ)
     → (is_whole (p.host_group (p.group_of r)) ≡ true → r < p.page_requests → p.page_request r ≡ Filed)
     → ((p.page_request r ≡ InFlight) ⊎ (p.page_request r ≡ Arrived) → r < p.page_requests) → (r < p.page_requests → p.group_of r < p.groups)
@@ -169,7 +171,7 @@ out_kept : (ms : Mappings) (g n : ℕ) (p : Part) (o : Own) → LegalOwn ms g p 
 out_kept ms g n p o l rs r wh made bo gone fi old h i = grind (arith, nat_tests)
 
 -- when a reset-done arrives, no page request is in flight or arrived
-gone_then : (n : ℕ) (p : Part) → Resets n p → Queued p → (c : ℕ) → ((d : ℕ) → d < c → p.message d ≡ None) → p.message c ≡ Some ResetDone → (r : ℕ)
+gone_then : (n : ℕ) (p : Endpoint) → Resets n p → Queued p → (c : ℕ) → ((d : ℕ) → d < c → p.message d ≡ None) → p.message c ≡ Some ResetDone → (r : ℕ)
     → (p.page_request r ≢ InFlight) × (p.page_request r ≢ Arrived)
 gone_then n p re qu c none h r =
     let ph = re.up c h in
@@ -177,11 +179,11 @@ gone_then n p re qu c none h r =
     re.older c (p.page_request_message r) (PageRequestOf r) ph m in absurd (grind (arith, none (p.page_request_message r))) in
     (f, re.unarrived r (grind (arith)))
 
-none_behind : (ms : Mappings) (g n : ℕ) (p : Part) (o : Own) → LegalOwn ms g p o → Resets n p → Queued p → (r : ℕ) → NoneBehind p o r
+none_behind : (ms : Mappings) (g n : ℕ) (p : Endpoint) (o : LocalAct) → LegalLocalAct ms g p o → Resets n p → Queued p → (r : ℕ) → NoneBehind p o r
 none_behind ms g n p (Reopen c) l re qu r = gone_then n p re qu c l.1 l.0 r
 none_behind ms g n p _ l re qu r = tt
 
-pub lasts : (ms : Mappings) (g n : ℕ) (p : Part) (o : Own) → LegalOwn ms g p o → Resets n p → Bounds g p → Queued p → HasJob p
+pub lasts : (ms : Mappings) (g n : ℕ) (p : Endpoint) (o : LocalAct) → LegalLocalAct ms g p o → Resets n p → Bounds g p → Queued p → HasJob p
     → ((c x : ℕ) (code : Code) → p.message c ≡ Some (ResponseOf x code) → is_whole (p.host_group x) ≡ true) → Lasts p → Lasts (own p n o)
 lasts ms g n p o l re bo qu hj rs la =
     record {

@@ -3,7 +3,7 @@ use Rattle.std.proofs.Common.{◌≡◌, ◌≢◌, ◌⊎◌, inl, inr, refl, a
 use Rattle.std.specs.Prelude.{Option, Some, None, option_map, not, ◌==◌}
 use Rattle.std.proofs.lemmas.Bool.Decides.{nat_tests}
 use Rattle.sva_model.specs.Words.{find, is_some, holds_of, the}
-use Rattle.sva_model.specs.State.{PasidRule, Part, World}
+use Rattle.sva_model.specs.State.{PasidRule, Endpoint, World}
 use Rattle.sva_model.specs.State.PasidRule.{PerEndpoint, PerSpace}
 use Rattle.sva_model.specs.States.{is_unreleased}
 use Rattle.sva_model.specs.Labels
@@ -40,7 +40,7 @@ none_lowest : (p : ℕ → Bool) (t : ℕ) → Labels.lowest_pasid p ≡ None �
 none_lowest p (suc k) h pos low passes = absurd (cc (sym (ap (option_map suc) (find_some 32 (λ j. p (suc j)) k (omega arith) passes)) ∙ h))
 none_lowest p zero h pos low passes = absurd (omega arith)
 
-not_borne : (p : Part) (t : ℕ) → not (Labels.is_borne_at p t) ≡ true → p.at_pasid t ≡ None
+not_borne : (p : Endpoint) (t : ℕ) → not (Labels.is_borne_at p t) ≡ true → p.at_pasid t ≡ None
 not_borne p t h = none_is (p.at_pasid t) (not_false (Labels.is_borne_at p t) h)
 
 -- For each endpoint apart.

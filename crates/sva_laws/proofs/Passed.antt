@@ -3,7 +3,7 @@ use Rattle.std.proofs.Common.{◌≡◌, ◌≢◌, refl, ℕ, ◌<◌, ◌≤�
 use Rattle.std.specs.Prelude.{Option, Some, None, ◌&&◌, ◌||◌, not, ◌==◌, nat_lt, if◌then◌else◌, List, [], ◌∷◌, Err}
 use Rattle.std.proofs.lemmas.Bool.Decides.{nat_tests}
 use Rattle.sva_model.specs.Words.{is_some, holds_of, the}
-use Rattle.sva_model.specs.State.{Part, World}
+use Rattle.sva_model.specs.State.{Endpoint, World}
 use Rattle.sva_model.specs.State.Phase.{Open}
 use Rattle.sva_model.specs.State.Stage.{Unbound}
 use Rattle.sva_model.specs.States.{is_open, is_unreleased}
@@ -58,7 +58,7 @@ or_right a b h = grind arith
 pub not_false : (b : Bool) → not b ≡ true → b ≡ false
 not_false b h = grind arith
 
-pub opened_is : (p : Part) → not (is_open p.phase) ≡ false → p.phase ≡ Open
+pub opened_is : (p : Endpoint) → not (is_open p.phase) ≡ false → p.phase ≡ Open
 opened_is p h = grind arith
 
 -- the lowest free label
@@ -70,10 +70,10 @@ label_free n at h = none_is (at (Labels.lowest_label n at))
     (not_false (is_some (at (Labels.lowest_label n at))) (lowest_passes n (λ t. not (is_some (at t))) h).1)
 
 -- bindings
-pub unreleased_made : (g : ℕ) (p : Part) (b : ℕ) → ((d : ℕ) → g ≤ d → p.stage d ≡ Unbound) → is_unreleased (p.stage b) ≡ true → b < g
+pub unreleased_made : (g : ℕ) (p : Endpoint) (b : ℕ) → ((d : ℕ) → g ≤ d → p.stage d ≡ Unbound) → is_unreleased (p.stage b) ≡ true → b < g
 unreleased_made g p b bo h = grind (arith, nat_tests, bo b)
 
-pub unreleased_bound : (p : Part) (b : ℕ) → is_unreleased (p.stage b) ≡ true → p.stage b ≢ Unbound
+pub unreleased_bound : (p : Endpoint) (b : ℕ) → is_unreleased (p.stage b) ≡ true → p.stage b ≢ Unbound
 unreleased_bound p b h e = absurd (cc)
 
 pub not_bound_at : (w : World) (s e : ℕ) → Invariant w → Labels.is_bound_at w s e ≡ false → (b : ℕ) → is_unreleased ((w.part e).stage b) ≡ true
@@ -93,7 +93,7 @@ not_bound w s i h e b u =
     not_bound_at w s e i (any_below-false w.config.endpoints (Labels.is_bound_at w s) h e there) b u
 
 -- a PASID that is on, or told to stop, has a bearer
-pub bearer_of : (p : Part) (t : ℕ) (test : ℕ → Bool) → holds_of test (p.at_pasid t) ≡ true → (p.at_pasid t ≡ Some (Labels.bearer p t))
+pub bearer_of : (p : Endpoint) (t : ℕ) (test : ℕ → Bool) → holds_of test (p.at_pasid t) ≡ true → (p.at_pasid t ≡ Some (Labels.bearer p t))
     × (test (Labels.bearer p t) ≡ true)
 bearer_of p t test h = go (p.at_pasid t) h
   where

@@ -3,7 +3,7 @@ use Rattle.std.proofs.Common.{◌≡◌, refl, ap, ◌∙◌, ℕ, zero, suc, �
 use Rattle.std.specs.Prelude.{nat_lt}
 use Rattle.std.proofs.lemmas.Bool.Decides.{nat_tests}
 use Rattle.sva_model.specs.Range.{Range, is_in}
-use Rattle.sva_model.specs.State.{Part}
+use Rattle.sva_model.specs.State.{Endpoint}
 use Rattle.sva_model.specs.State.Order.{RangeOf}
 use Rattle.sva_model.specs.States.{covers}
 use Rattle.sva_model.specs.Acts.{submitted, range_at, in_range}
@@ -44,11 +44,11 @@ range_of q order count page h =
     (x.0, x.1, is_inside (q + x.0 * 2 ^ order) (2 ^ order) page x.2 x.3)
 
 -- the orders that are submitted ahead of the wait are of these ranges
-pub order_of : (p : Part) (b q count order cookie k : ℕ) → p.orders ≤ k → k < p.orders + count → (submitted p b q count order cookie).order k
+pub order_of : (p : Endpoint) (b q count order cookie k : ℕ) → p.orders ≤ k → k < p.orders + count → (submitted p b q count order cookie).order k
     ≡ RangeOf b (range_at q order (k - p.orders))
 order_of p b q count order cookie k low high = grind (arith, nat_tests)
 
-pub order_at : (p : Part) (b q count order cookie j : ℕ) → j < count → (submitted p b q count order cookie).order (p.orders + j)
+pub order_at : (p : Endpoint) (b q count order cookie j : ℕ) → j < count → (submitted p b q count order cookie).order (p.orders + j)
     ≡ RangeOf b (range_at q order j)
 order_at p b q count order cookie j l =
     let same : (p.orders + j) - p.orders ≡ j = omega arith in
@@ -57,7 +57,7 @@ order_at p b q count order cookie j l =
 covers_range : (b : ℕ) (range : Range) (page : ℕ) → is_in range page ≡ true → covers (RangeOf b range) b page ≡ true
 covers_range b range page h = grind (arith, nat_tests)
 
-pub order_covers : (p : Part) (b q count order cookie page j : ℕ) → j < count → is_in (range_at q order j) page ≡ true
+pub order_covers : (p : Endpoint) (b q count order cookie page j : ℕ) → j < count → is_in (range_at q order j) page ≡ true
     → covers ((submitted p b q count order cookie).order (p.orders + j)) b page ≡ true
 order_covers p b q count order cookie page j l h =
     ap (λ o. covers o b page) (order_at p b q count order cookie j l) ∙ covers_range b (range_at q order j) page h

@@ -2,13 +2,13 @@
 use Rattle.std.proofs.Common.{◌≡◌, ◌≢◌, ℕ, ◌<◌, ◌≤◌, Bool, true, false, arith}
 use Rattle.std.specs.Prelude.{Option, Some, None}
 use Rattle.std.proofs.lemmas.Bool.Decides.{nat_tests}
-use Rattle.sva_model.specs.State.{Mappings, Part, Phase}
+use Rattle.sva_model.specs.State.{Mappings, Endpoint, Phase}
 use Rattle.sva_model.specs.State.Stage.{Unbound}
 use Rattle.sva_model.specs.State.Phase.{Cleared}
-use Rattle.sva_model.specs.State.About.{RequestOf, CompletionOf}
+use Rattle.sva_model.specs.State.Subject.{RequestOf, CompletionOf}
 use Rattle.sva_model.specs.States.{is_out, is_off}
-use Rattle.sva_model.specs.Acts.{own, Own}
-use Rattle.sva_laws.proofs.Legal.{LegalOwn}
+use Rattle.sva_model.specs.Acts.{own, LocalAct}
+use Rattle.sva_laws.proofs.Legal.{LegalLocalAct}
 use Rattle.sva_laws.proofs.Resets.{Resets}
 use Rattle.sva_laws.proofs.Bounds.{Bounds}
 use Rattle.sva_laws.proofs.Bindings.{Bindings}
@@ -17,7 +17,7 @@ abbrev pub is_cleared : Phase → Bool
 is_cleared (Cleared c) = true
 is_cleared _ = false
 
-pub record Requests (p : Part) : Type 0 where
+pub record Requests (p : Endpoint) : Type 0 where
   pub bound : (r : ℕ) → r < p.requests → p.stage (p.request_binding r) ≢ Unbound
   pub alive : (r : ℕ) → is_out (p.request r) ≡ true → is_off (p.pasid_state (p.request_binding r)) ≡ false
   pub ask_once : (c d r : ℕ) → p.message c ≡ Some (RequestOf r) → p.message d ≡ Some (RequestOf r) → c ≡ d
@@ -28,14 +28,15 @@ pub record Requests (p : Part) : Type 0 where
   pub one_held : (r x m y : ℕ) → p.held r ≡ Some m → p.held x ≡ Some y → p.request_binding r ≡ p.request_binding x → p.request_page r
       ≡ p.request_page x → r ≡ x
 
-one_held_kept : (ms : Mappings) (g n : ℕ) (p : Part) (o : Own) → LegalOwn ms g p o → (r x m y : ℕ) → (p.requests ≤ r → p.held r ≡ None)
+one_held_kept : (ms : Mappings) (g n : ℕ) (p : Endpoint) (o : LocalAct) → LegalLocalAct ms g p o → (r x m y : ℕ) → (p.requests ≤ r → p.held r ≡ None)
     → (p.requests ≤ x → p.held x ≡ None)
     → ((k j : ℕ) → p.held r ≡ Some k → p.held x ≡ Some j → p.request_binding r ≡ p.request_binding x → p.request_page r ≡ p.request_page x → r ≡ x)
     → (own p n o).held r ≡ Some m → (own p n o).held x ≡ Some y → (own p n o).request_binding r ≡ (own p n o).request_binding x
     → (own p n o).request_page r ≡ (own p n o).request_page x → r ≡ x
 one_held_kept ms g n p o l r x m y br bx old h i d f = grind (arith, nat_tests)
 
-pub every : (ms : Mappings) (g n : ℕ) (p : Part) (o : Own) → LegalOwn ms g p o → Resets n p → Bounds g p → Bindings p → Requests p → Requests (own p n o)
+pub every : (ms : Mappings) (g n : ℕ) (p : Endpoint) (o : LocalAct) → LegalLocalAct ms g p o → Resets n p → Bounds g p → Bindings p → Requests p
+    → Requests (own p n o)
 every ms g n p o l re bo bi ra =
     record {
       bound = λ r h. grind (arith, nat_tests, ra.bound r, bi.on_stage);

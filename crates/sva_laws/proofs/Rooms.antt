@@ -10,8 +10,8 @@ use Rattle.sva_model.specs.Words.{put, count_below, the}
 use Rattle.sva_model.specs.Message.{Code}
 use Rattle.sva_model.specs.State.{PasidRule, Owed, MappingState, World, opened}
 use Rattle.sva_model.specs.States.{is_present}
-use Rattle.sva_model.specs.Acts.{Act, Own, act, gone_if}
-use Rattle.sva_model.specs.Acts.Act.{NewSpace, DropSpace, Map, Unmap, NewBinding, NewJob, Hold, LetGo, At}
+use Rattle.sva_model.specs.Acts.{Act, LocalAct, act, gone_if}
+use Rattle.sva_model.specs.Acts.Act.{NewSpace, DropSpace, Map, Unmap, NewBinding, NewJob, Hold, LetGo, AtEndpoint}
 use Rattle.sva_model.specs.Labels
 use Rattle.sva_model.specs.Refusals.{Cause, refusals}
 use Rattle.sva_model.specs.Replies.{maps_to, reply_maps, replies_success, newly_mapped, free_list, is_write_asked, job_space, response_to}
@@ -40,7 +40,7 @@ act_live w z (NewBinding e) h m = omega arith
 act_live w z (NewJob e g) h m = omega arith
 act_live w z (Hold x j) h m = omega arith
 act_live w z (LetGo x) h m = omega arith
-act_live w z (At e o) h m = omega arith
+act_live w z (AtEndpoint e o) h m = omega arith
 
 acts_live : (z : Step) (acts : List Act) (w : World) → is_making z ≡ false → AllMay z acts → Labels.live_spaces (after_acts w acts) ≤ Labels.live_spaces w
 acts_live z [] w h m = omega arith
@@ -100,7 +100,7 @@ act_pages w z (NewBinding e) t h m = omega arith
 act_pages w z (NewJob e g) t h m = omega arith
 act_pages w z (Hold x j) t h m = omega arith
 act_pages w z (LetGo x) t h m = omega arith
-act_pages w z (At e o) t h m = omega arith
+act_pages w z (AtEndpoint e o) t h m = omega arith
 
 acts_pages : (z : Step) (acts : List Act) (w : World) (t : ℕ) → is_mapping z ≡ false → AllMay z acts → Labels.pages_of (after_acts w acts) t
     ≤ Labels.pages_of w t
@@ -152,8 +152,8 @@ reply_fits w x j v (Some code) full h l = go (replies_success w j v) refl l
     e : ℕ
     e = (w.job j).endpoint
 
-    r : Own
-    r = Own.Respond (w.job j).group code
+    r : LocalAct
+    r = LocalAct.Respond (w.job j).group code
 
     maps : List Act
     maps = maps_to (job_space w j) (is_write_asked w j) (newly_mapped w j) (free_list w)
@@ -162,10 +162,10 @@ reply_fits w x j v (Some code) full h l = go (replies_success w j v) refl l
     room t = is_at_most 1024 (Labels.pages_of w (job_space w j) + length (newly_mapped w j))
         (sym (ap (λ b. b && nat_lt 1024 (Labels.pages_of w (job_space w j) + length (newly_mapped w j))) t) ∙ full)
 
-    go : (b : Bool) → replies_success w j v ≡ b → LegalAll w ((if b then maps else []) ++ LetGo x ∷ At e r ∷ [])
-        → AllFit (after_acts w ((if b then maps else []) ++ LetGo x ∷ At e r ∷ []))
+    go : (b : Bool) → replies_success w j v ≡ b → LegalAll w ((if b then maps else []) ++ LetGo x ∷ AtEndpoint e r ∷ [])
+        → AllFit (after_acts w ((if b then maps else []) ++ LetGo x ∷ AtEndpoint e r ∷ []))
     go true t k =
-        fits w (after_acts w (maps ++ LetGo x ∷ At e r ∷ [])) (job_space w j) (length maps)
+        fits w (after_acts w (maps ++ LetGo x ∷ AtEndpoint e r ∷ [])) (job_space w j) (length maps)
         (all_pages (job_space w j) (is_write_asked w j) (newly_mapped w j) (free_list w) x e r w k)
         (let a = room t in let b = most (job_space w j) (is_write_asked w j) (newly_mapped w j) (free_list w) in omega (arith, a, b))
         h

@@ -9,14 +9,14 @@ use Rattle.sva_step.specs.declared.steps.Step.{Step}
 use Rattle.sva_step.specs.declared.steps.Step.TheVariants as step
 use Rattle.sva_model.specs.Words.{put_range, count_below, the}
 use Rattle.sva_model.specs.State.{PasidRule, OrderState, World}
-use Rattle.sva_model.specs.State.About.{InvalidatedOf}
-use Rattle.sva_model.specs.State.OrderState.{Queued, Sent, Taken, Lapsed, Owing, Done, Void}
+use Rattle.sva_model.specs.State.Subject.{InvalidatedOf}
+use Rattle.sva_model.specs.State.OrderState.{Queued, Sent, Taken, Lapsed, Completing, Done, Void}
 use Rattle.sva_model.specs.State.UseState.{Running}
 use Rattle.sva_model.specs.State.Phase.{Open}
 use Rattle.sva_model.specs.States.{Place, is_open, is_done, place}
 use Rattle.sva_model.specs.States.Place.{Free, Mapped, Withheld}
-use Rattle.sva_model.specs.Acts.{Own, act, own, owe_if, counted_if, is_last_left}
-use Rattle.sva_model.specs.Acts.Act.{At}
+use Rattle.sva_model.specs.Acts.{LocalAct, act, own, owe_if, counted_if, is_last_left}
+use Rattle.sva_model.specs.Acts.Act.{AtEndpoint}
 use Rattle.sva_model.specs.Labels
 use Rattle.sva_model.specs.Refusals.{refusals}
 use Rattle.sva_model.specs.Outcomes.{outcome, look_answer, count_outcome, deliver_outcome}
@@ -32,12 +32,12 @@ use Rattle.sva_laws.proofs.Told.{accepted}
 use Rattle.sva_laws.proofs.UnitSteps.{delivered}
 
 -- after one act of an endpoint
-part_at : (w : World) (e : ℕ) (o : Own) → (act w (At e o)).part e ≡ own (w.part e) w.messages o
+part_at : (w : World) (e : ℕ) (o : LocalAct) → (act w (AtEndpoint e o)).part e ≡ own (w.part e) w.messages o
 part_at w e o = put-same w.part e (own (w.part e) w.messages o)
 
 -- A finish.
 
-owed_now : (b : Bool) (count : ℕ) (s : OrderState) → b ≡ true → owe_if b count s ≡ Owing count count
+owed_now : (b : Bool) (count : ℕ) (s : OrderState) → b ≡ true → owe_if b count s ≡ Completing count count
 owed_now b count s h = ap (λ z. owe_if z count s) h
 
 as_before : (b : Bool) (count : ℕ) (s : OrderState) → b ≡ false → owe_if b count s ≡ s
@@ -47,20 +47,20 @@ in_new : {A : Type 0} (f : ℕ → A) (n count j : ℕ) (g : ℕ → A) (v : A) 
 in_new f n count j g v same l = grind (arith, nat_tests, same)
 
 finishes : (w : World) (e vector count : ℕ) (said : Answer) → said ≡ answer.Sent count
-    → Finishes w (act w (At e (Own.Finish (Labels.is_named (w.part e) vector) vector count))) e vector count said
+    → Finishes w (act w (AtEndpoint e (LocalAct.Finish (Labels.is_named (w.part e) vector) vector count))) e vector count said
 finishes w e vector count said h =
     let names = Labels.is_named (w.part e) vector in
-    let o = Own.Finish (Labels.is_named (w.part e) vector) vector count in
-    let same = part_at w e (Own.Finish (Labels.is_named (w.part e) vector) vector count) in
+    let o = LocalAct.Finish (Labels.is_named (w.part e) vector) vector count in
+    let same = part_at w e (LocalAct.Finish (Labels.is_named (w.part e) vector) vector count) in
     record {
       answered = h;
-      owing = λ k named. ap (λ p. p.order_state k) same ∙ owed_now (names k) count ((w.part e).order_state k) named;
+      completing = λ k named. ap (λ p. p.order_state k) same ∙ owed_now (names k) count ((w.part e).order_state k) named;
       others = λ k named. ap (λ p. p.order_state k) same ∙ as_before (names k) count ((w.part e).order_state k) named;
       messages = refl;
       sent = λ j l. (
         ap (λ p. p.message (w.messages + j)) same
             ∙ in_new (w.part e).message w.messages count j (λ i. Some (InvalidatedOf names)) (Some (InvalidatedOf names)) (λ i. refl) l,
-        in_new w.way w.messages count j (λ i. e) e (λ i. refl) l,
+        in_new w.link_of w.messages count j (λ i. e) e (λ i. refl) l,
       );
     }
 
@@ -77,9 +77,9 @@ always_finishes rule config steps e vector count said h =
 
 uses : (w : World) (e t q slot r m : ℕ) (said : Answer) → slot < 16 → (w.part e).held r ≡ Some m → (w.part e).request_binding r
     ≡ Labels.bearer (w.part e) t → (w.part e).request_page r ≡ q → said ≡ answer.Use slot (w.mappings.frame m)
-    → Uses w (act w (At e (Own.Begin r m slot))) e t q said
+    → Uses w (act w (AtEndpoint e (LocalAct.Begin r m slot))) e t q said
 uses w e t q slot r m said low h b pg a =
-    let same = part_at w e (Own.Begin r m slot) in
+    let same = part_at w e (LocalAct.Begin r m slot) in
     let p = w.part e in
     record {
       slot = slot;
@@ -139,26 +139,26 @@ newly_done false Queued = refl
 newly_done false Sent = refl
 newly_done false (Taken u) = refl
 newly_done false Lapsed = refl
-newly_done false (Owing c l) = refl
+newly_done false (Completing c l) = refl
 newly_done false Done = refl
 newly_done false Void = refl
 newly_done true Queued = refl
 newly_done true Sent = refl
 newly_done true (Taken u) = refl
 newly_done true Lapsed = refl
-newly_done true (Owing c zero) = refl
-newly_done true (Owing c (suc zero)) = refl
-newly_done true (Owing c (suc (suc l))) = refl
+newly_done true (Completing c zero) = refl
+newly_done true (Completing c (suc zero)) = refl
+newly_done true (Completing c (suc (suc l))) = refl
 newly_done true Done = refl
 newly_done true Void = refl
 
 counts : (w : World) (e c : ℕ) (names : ℕ → Bool) → count_below (w.part e).orders (λ k. names k && is_last_left ((w.part e).order_state k))
-    ≡ made_done (w.part e) ((act w (At e (Own.Count c names))).part e)
+    ≡ made_done (w.part e) ((act w (AtEndpoint e (LocalAct.Count c names))).part e)
 counts w e c names =
     count_same (w.part e).orders (λ k. names k && is_last_left ((w.part e).order_state k))
     (λ k. is_done (counted_if (names k) ((w.part e).order_state k)) && not (is_done ((w.part e).order_state k)))
     (λ k l. newly_done (names k) ((w.part e).order_state k))
-    ∙ ap (λ p. made_done (w.part e) p) (sym (part_at w e (Own.Count c names)))
+    ∙ ap (λ p. made_done (w.part e) p) (sym (part_at w e (LocalAct.Count c names)))
 
 pub always_frees : (rule : PasidRule) (config : Config) (steps : List Step) (s : Step) (e : ℕ) (names : ℕ → Bool)
     → ((world_after rule config steps).part e).phase ≡ Open → Delivers (world_after rule config steps) s e (InvalidatedOf names)
@@ -174,7 +174,7 @@ always_frees rule config steps s e names ph d =
     ∙ ap (λ z. (deliver_outcome w (w.part e) e c z).answer) d.speaks
     ∙ ap (λ b. (count_outcome (w.part e) e c names b).answer) (ap is_open ph)
     in
-    let acts : (decide w s).acts ≡ At e (Own.Count c names) ∷ [] = delivered w s e (InvalidatedOf names) d
+    let acts : (decide w s).acts ≡ AtEndpoint e (LocalAct.Count c names) ∷ [] = delivered w s e (InvalidatedOf names) d
     ∙ ap (λ b. (count_outcome (w.part e) e c names b).acts) (ap is_open ph) in
     d.accepted
     ∙ ap (λ z. Ok z)

@@ -3,12 +3,12 @@
 use Rattle.std.proofs.Common.{◌≡◌, ◌⊎◌, inl, inr, refl, sym, ◌∙◌, ℕ, Bool, true, false, arith}
 use Rattle.std.specs.Prelude.{Option, Some, None}
 use Rattle.std.proofs.lemmas.Bool.Decides.{nat_tests}
-use Rattle.sva_model.specs.State.{Mappings, Part}
+use Rattle.sva_model.specs.State.{Mappings, Endpoint}
 use Rattle.sva_model.specs.States.{is_unreleased}
-use Rattle.sva_model.specs.Acts.{Own, own, submitted_if}
-use Rattle.sva_laws.proofs.Legal.{LegalOwn}
+use Rattle.sva_model.specs.Acts.{LocalAct, own, submitted_if}
+use Rattle.sva_laws.proofs.Legal.{LegalLocalAct}
 
-pub record Shared (part : ℕ → Part) : Type 0 where
+pub record Shared (part : ℕ → Endpoint) : Type 0 where
   pub same_space :
       (e d b c : ℕ)
       → is_unreleased ((part e).stage b) ≡ true
@@ -23,42 +23,42 @@ pub record Shared (part : ℕ → Part) : Type 0 where
       → (part e).pasid b ≡ (part d).pasid c
 
 -- a PASID that a new binding of the space may be given: it is borne by bindings of that space alone, and by each of them
-pub record IsOf (part : ℕ → Part) (s t : ℕ) : Type 0 where
+pub record IsOf (part : ℕ → Endpoint) (s t : ℕ) : Type 0 where
   pub its_space : (e b : ℕ) → is_unreleased ((part e).stage b) ≡ true → (part e).pasid b ≡ t → (part e).space b ≡ s
   pub its_pasid : (e b : ℕ) → is_unreleased ((part e).stage b) ≡ true → (part e).space b ≡ s → (part e).pasid b ≡ t
 
 -- what an act binds, if it does
-abbrev pub binds : Own → Bool
-binds (Own.Bind b s t) = true
+abbrev pub binds : LocalAct → Bool
+binds (LocalAct.Bind b s t) = true
 binds _ = false
 
-abbrev pub bound_space : Own → ℕ
-bound_space (Own.Bind b s t) = s
+abbrev pub bound_space : LocalAct → ℕ
+bound_space (LocalAct.Bind b s t) = s
 bound_space _ = 0
 
-abbrev pub bound_pasid : Own → ℕ
-bound_pasid (Own.Bind b s t) = t
+abbrev pub bound_pasid : LocalAct → ℕ
+bound_pasid (LocalAct.Bind b s t) = t
 bound_pasid _ = 0
 
 -- an unreleased binding was so before, with its PASID and space; or it is the one that is bound now
-abbrev pub WasSo : (p q : Part) → ℕ → Type 0
+abbrev pub WasSo : (p q : Endpoint) → ℕ → Type 0
 WasSo p q b = (is_unreleased (p.stage b) ≡ true) × (q.pasid b ≡ p.pasid b) × (q.space b ≡ p.space b)
 
-abbrev pub IsNew : Own → Part → ℕ → Type 0
+abbrev pub IsNew : LocalAct → Endpoint → ℕ → Type 0
 IsNew o q b = (binds o ≡ true) × (q.pasid b ≡ bound_pasid o) × (q.space b ≡ bound_space o)
 
-pub own_from : (ms : Mappings) (g n : ℕ) (p : Part) (o : Own) → LegalOwn ms g p o → (b : ℕ) → is_unreleased ((own p n o).stage b) ≡ true
+pub own_from : (ms : Mappings) (g n : ℕ) (p : Endpoint) (o : LocalAct) → LegalLocalAct ms g p o → (b : ℕ) → is_unreleased ((own p n o).stage b) ≡ true
     → WasSo p (own p n o) b ⊎ IsNew o (own p n o) b
 own_from ms g n p o l b h = grind (arith, nat_tests)
 
-pub submitted_from : (t : Bool) (p : Part) (o : Option ℕ) (q count order cookie b : ℕ)
+pub submitted_from : (t : Bool) (p : Endpoint) (o : Option ℕ) (q count order cookie b : ℕ)
     → is_unreleased ((submitted_if t p o q count order cookie).stage b) ≡ true → WasSo p (submitted_if t p o q count order cookie) b
 submitted_from true p (Some d) q count order cookie b h = (h, refl, refl)
 submitted_from true p None q count order cookie b h = (h, refl, refl)
 submitted_from false p o q count order cookie b h = (h, refl, refl)
 
 -- where none is bound
-pub shared_still : (part next : ℕ → Part) → ((e b : ℕ) → is_unreleased ((next e).stage b) ≡ true → WasSo (part e) (next e) b) → Shared part → Shared next
+pub shared_still : (part next : ℕ → Endpoint) → ((e b : ℕ) → is_unreleased ((next e).stage b) ≡ true → WasSo (part e) (next e) b) → Shared part → Shared next
 shared_still part next from sh =
     record {
       same_space = λ e d b c u v h. let x = from e b u in let y = from d c v in x.2 ∙ sh.same_space e d b c x.0 y.0 (sym x.1 ∙ h ∙ y.1) ∙ sym y.2;
@@ -66,7 +66,7 @@ shared_still part next from sh =
     }
 
 -- where one may be
-pub shared_more : (part next : ℕ → Part) (o : Own) → (binds o ≡ true → IsOf part (bound_space o) (bound_pasid o))
+pub shared_more : (part next : ℕ → Endpoint) (o : LocalAct) → (binds o ≡ true → IsOf part (bound_space o) (bound_pasid o))
     → ((e b : ℕ) → is_unreleased ((next e).stage b) ≡ true → WasSo (part e) (next e) b ⊎ IsNew o (next e) b) → Shared part → Shared next
 shared_more part next o its from sh =
     record {

@@ -8,10 +8,10 @@ use Rattle.sva_model.specs.Message.{Code}
 use Rattle.sva_model.specs.State.Stage.{Unbound, Live, Stopping, Draining, Invalidating, Quiet, Lost, Released}
 use Rattle.sva_model.specs.State.Order.{RangeOf, PasidOf, Wait}
 use Rattle.sva_model.specs.State.RequestState.{Out, Doomed, Over}
-use Rattle.sva_model.specs.State.About.{StartOf, StopOf, ResetOrder, CompletionOf, InvalidateOf, ResponseOf, RequestOf, InvalidatedOf, PageRequestOf}
-use Rattle.sva_model.specs.State.About.{MarkerOf, ResetDone}
-use Rattle.sva_model.specs.Acts.{Act, Own}
-use Rattle.sva_model.specs.Acts.Act.{NewSpace, Map, Unmap, LetGo, At}
+use Rattle.sva_model.specs.State.Subject.{StartOf, StopOf, FunctionReset, CompletionOf, InvalidateOf, ResponseOf, RequestOf, InvalidatedOf, PageRequestOf}
+use Rattle.sva_model.specs.State.Subject.{MarkerOf, ResetDone}
+use Rattle.sva_model.specs.Acts.{Act, LocalAct}
+use Rattle.sva_model.specs.Acts.Act.{NewSpace, Map, Unmap, LetGo, AtEndpoint}
 use Rattle.sva_model.specs.Labels
 use Rattle.sva_model.specs.Refusals.{Cause, refusals}
 use Rattle.sva_model.specs.Replies.{maps_to, reply_maps, replies_success, newly_mapped, free_list, is_write_asked, job_space, response_to}
@@ -20,7 +20,7 @@ use Rattle.sva_model.specs.Outcomes.{serve_outcome, file_outcome, reply_outcome,
 use Rattle.sva_model.specs.Outcomes.{keep_outcome, is_full, request_outcome, count_outcome, page_request_outcome, marker_outcome}
 use Rattle.sva_model.specs.States.{is_open}
 use Rattle.sva_model.specs.Words.{the}
-use Rattle.sva_model.specs.State.{Part, World, Stage, Order, About, RequestState}
+use Rattle.sva_model.specs.State.{Endpoint, World, Stage, Order, Subject, RequestState}
 use Rattle.sva_model.specs.Steps.{checked, decide}
 use Rattle.sva_laws.specs.Steps.{takes_out}
 
@@ -49,18 +49,18 @@ abbrev pub is_ending : Step → Bool
 is_ending (step.EndUse e u) = true
 is_ending _ = false
 
-abbrev pub may_own : Own → Step → Bool
-may_own (Own.Bind b s t) z = is_binding z
-may_own (Own.Release b) z = is_advancing z
-may_own (Own.Begin r m t) z = is_beginning z
-may_own (Own.End u) z = is_ending z
+abbrev pub may_own : LocalAct → Step → Bool
+may_own (LocalAct.Bind b s t) z = is_binding z
+may_own (LocalAct.Release b) z = is_advancing z
+may_own (LocalAct.Begin r m t) z = is_beginning z
+may_own (LocalAct.End u) z = is_ending z
 may_own _ z = true
 
 abbrev pub may : Act → Step → Bool
 may NewSpace z = is_making z
 may (Map s q f x) z = is_mapping z
 may (Unmap s q count order) z = takes_out z
-may (At e o) z = may_own o z
+may (AtEndpoint e o) z = may_own o z
 may _ z = true
 
 abbrev pub AllMay : Step → List Act → Type 0
@@ -95,12 +95,12 @@ send_may : (z : Step) (e k t : ℕ) (b : Bool) → AllMay z (send_outcome e k t 
 send_may z e k t true = (refl, tt)
 send_may z e k t false = tt
 
-head_may : (z : Step) (p : Part) (e k : ℕ) (o : Order) → AllMay z (head_outcome p e k o).acts
+head_may : (z : Step) (p : Endpoint) (e k : ℕ) (o : Order) → AllMay z (head_outcome p e k o).acts
 head_may z p e k (Wait cookie drain) = wait_may z e k (may_pass p drain)
 head_may z p e k (RangeOf b q) = send_may z e k (Labels.lowest_label 32 p.at_itag) _
 head_may z p e k (PasidOf b) = send_may z e k (Labels.lowest_label 32 p.at_itag) _
 
-pump_may : (z : Step) (p : Part) (e : ℕ) (b : Bool) → AllMay z (pump_outcome p e b).acts
+pump_may : (z : Step) (p : Endpoint) (e : ℕ) (b : Bool) → AllMay z (pump_outcome p e b).acts
 pump_may z p e true = tt
 pump_may z p e false = head_may z p e (Labels.head p) (p.order (Labels.head p))
 
@@ -108,7 +108,7 @@ file_may : (z : Step) (e r g : ℕ) (b : Bool) → AllMay z (file_outcome e r g 
 file_may z e r g true = (refl, (refl, tt))
 file_may z e r g false = (refl, tt)
 
-serve_may : (z : Step) (p : Part) (e : ℕ) (b : Bool) → AllMay z (serve_outcome p e b).acts
+serve_may : (z : Step) (p : Endpoint) (e : ℕ) (b : Bool) → AllMay z (serve_outcome p e b).acts
 serve_may z p e true = tt
 serve_may z p e false = file_may z e (Labels.oldest_arrived p) (p.group_of (Labels.oldest_arrived p)) (p.is_last (Labels.oldest_arrived p))
 
@@ -123,12 +123,12 @@ reply_may w x j v None = (refl, (refl, tt))
 reply_may w x j v (Some code) = go (replies_success w j v)
   where
     go : (b : Bool) → AllMay (step.Reply x v) ((if b then maps_to (job_space w j) (is_write_asked w j) (newly_mapped w j) (free_list w) else [])
-        ++ LetGo x ∷ At (w.job j).endpoint (Own.Respond (w.job j).group code) ∷ [])
+        ++ LetGo x ∷ AtEndpoint (w.job j).endpoint (LocalAct.Respond (w.job j).group code) ∷ [])
     go true = maps_may (step.Reply x v) refl (job_space w j) (is_write_asked w j) (newly_mapped w j) (free_list w)
-        (LetGo x ∷ At (w.job j).endpoint (Own.Respond (w.job j).group code) ∷ []) (refl, (refl, tt))
+        (LetGo x ∷ AtEndpoint (w.job j).endpoint (LocalAct.Respond (w.job j).group code) ∷ []) (refl, (refl, tt))
     go false = (refl, (refl, tt))
 
-fault_may : (z : Step) (p : Part) (e t q : ℕ) (r x l : Bool) (o : Option ℕ) → AllMay z (fault_outcome p e t q r x l o).acts
+fault_may : (z : Step) (p : Endpoint) (e t q : ℕ) (r x l : Bool) (o : Option ℕ) → AllMay z (fault_outcome p e t q r x l o).acts
 fault_may z p e t q r x l None = (refl, tt)
 fault_may z p e t q r x l (Some k) = (refl, tt)
 
@@ -136,7 +136,7 @@ keep_may : (z : Step) (e c r m : ℕ) (b : Bool) → AllMay z (keep_outcome e c 
 keep_may z e c r m true = (refl, tt)
 keep_may z e c r m false = (refl, tt)
 
-completion_may : (z : Step) (p : Part) (e c r : ℕ) (o : Option ℕ) (s : RequestState) → AllMay z (completion_outcome p e c r o s).acts
+completion_may : (z : Step) (p : Endpoint) (e c r : ℕ) (o : Option ℕ) (s : RequestState) → AllMay z (completion_outcome p e c r o s).acts
 completion_may z p e c r (Some m) Out = keep_may z e c r m (is_full p r)
 completion_may z p e c r None Out = (refl, tt)
 completion_may z p e c r (Some m) Doomed = (refl, tt)
@@ -144,11 +144,11 @@ completion_may z p e c r None Doomed = (refl, tt)
 completion_may z p e c r (Some m) Over = (refl, tt)
 completion_may z p e c r None Over = (refl, tt)
 
-request_may : (z : Step) (w : World) (p : Part) (e c r : ℕ) (b : Bool) → AllMay z (request_outcome w p e c r b).acts
+request_may : (z : Step) (w : World) (p : Endpoint) (e c r : ℕ) (b : Bool) → AllMay z (request_outcome w p e c r b).acts
 request_may z w p e c r true = (refl, tt)
 request_may z w p e c r false = (refl, tt)
 
-count_may : (z : Step) (p : Part) (e c : ℕ) (names : ℕ → Bool) (b : Bool) → AllMay z (count_outcome p e c names b).acts
+count_may : (z : Step) (p : Endpoint) (e c : ℕ) (names : ℕ → Bool) (b : Bool) → AllMay z (count_outcome p e c names b).acts
 count_may z p e c names true = (refl, tt)
 count_may z p e c names false = (refl, tt)
 
@@ -160,10 +160,10 @@ marker_may : (z : Step) (e c d : ℕ) (b : Bool) → AllMay z (marker_outcome e 
 marker_may z e c d true = (refl, tt)
 marker_may z e c d false = (refl, tt)
 
-about_may : (z : Step) (w : World) (p : Part) (e c : ℕ) (a : About) → AllMay z (about_outcome w p e c a).acts
+about_may : (z : Step) (w : World) (p : Endpoint) (e c : ℕ) (a : Subject) → AllMay z (about_outcome w p e c a).acts
 about_may z w p e c (StartOf b) = (refl, tt)
 about_may z w p e c (StopOf b) = (refl, tt)
-about_may z w p e c ResetOrder = (refl, tt)
+about_may z w p e c FunctionReset = (refl, tt)
 about_may z w p e c (CompletionOf r found) = completion_may z p e c r found (p.request r)
 about_may z w p e c (InvalidateOf k) = (refl, tt)
 about_may z w p e c (ResponseOf g code) = (refl, tt)
@@ -173,7 +173,7 @@ about_may z w p e c (PageRequestOf r) = page_request_may z e c r (is_open p.phas
 about_may z w p e c (MarkerOf b) = marker_may z e c b (is_open p.phase)
 about_may z w p e c ResetDone = (refl, tt)
 
-deliver_may : (z : Step) (w : World) (p : Part) (e c : ℕ) (o : Option About) → AllMay z (deliver_outcome w p e c o).acts
+deliver_may : (z : Step) (w : World) (p : Endpoint) (e c : ℕ) (o : Option Subject) → AllMay z (deliver_outcome w p e c o).acts
 deliver_may z w p e c None = tt
 deliver_may z w p e c (Some a) = about_may z w p e c a
 
@@ -185,8 +185,9 @@ outcome_may w (step.Unmap n q count) = (refl, tt)
 outcome_may w (step.UnmapRange n q order) = (refl, tt)
 outcome_may w (step.Bind e n) = (refl, (refl, tt))
 outcome_may w (step.Unbind n) =
-    unbind_may (step.Unbind n) (w.home (Labels.name w n)) (Labels.name w n) ((w.part (w.home (Labels.name w n))).stage (Labels.name w n))
-outcome_may w (step.Advance n) = advance_may n w (w.home (Labels.name w n)) (Labels.name w n) ((w.part (w.home (Labels.name w n))).stage (Labels.name w n))
+    unbind_may (step.Unbind n) (w.endpoint_of (Labels.name w n)) (Labels.name w n) ((w.part (w.endpoint_of (Labels.name w n))).stage (Labels.name w n))
+outcome_may w (step.Advance n) =
+    advance_may n w (w.endpoint_of (Labels.name w n)) (Labels.name w n) ((w.part (w.endpoint_of (Labels.name w n))).stage (Labels.name w n))
 outcome_may w (step.Pump e) = pump_may (step.Pump e) (w.part e) e (Labels.is_queue_empty (w.part e))
 outcome_may w (step.Serve e) = serve_may (step.Serve e) (w.part e) e (Labels.is_page_queue_empty (w.part e))
 outcome_may w (step.Reset e) = (refl, tt)
@@ -200,8 +201,8 @@ outcome_may w (step.Fault e t q r x group l) = fault_may (step.Fault e t q r x g
 outcome_may w (step.Finish e vector count) = (refl, tt)
 outcome_may w (step.Quit e t) = (refl, tt)
 outcome_may w (step.Deliver n) =
-    deliver_may (step.Deliver n) w (w.part (w.way (Labels.name w n))) (w.way (Labels.name w n)) (Labels.name w n)
-    ((w.part (w.way (Labels.name w n))).message (Labels.name w n))
+    deliver_may (step.Deliver n) w (w.part (w.link_of (Labels.name w n))) (w.link_of (Labels.name w n)) (Labels.name w n)
+    ((w.part (w.link_of (Labels.name w n))).message (Labels.name w n))
 outcome_may w (step.Look f) = tt
 outcome_may w (step.Bearer t) = tt
 

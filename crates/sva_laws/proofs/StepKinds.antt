@@ -8,14 +8,14 @@ use Rattle.sva_step.specs.declared.steps.Step.TheVariants as step
 use Rattle.sva_step.specs.declared.steps.Verdict.{Verdict}
 use Rattle.sva_model.specs.Words.{the}
 use Rattle.sva_model.specs.Message.{Code}
-use Rattle.sva_model.specs.State.{Part, World, Stage, Order, About, RequestState}
+use Rattle.sva_model.specs.State.{Endpoint, World, Stage, Order, Subject, RequestState}
 use Rattle.sva_model.specs.State.Stage.{Unbound, Live, Stopping, Draining, Invalidating, Quiet, Lost, Released}
 use Rattle.sva_model.specs.State.Order.{RangeOf, PasidOf, Wait}
 use Rattle.sva_model.specs.State.RequestState.{Out, Doomed, Over}
-use Rattle.sva_model.specs.State.About.{StartOf, StopOf, ResetOrder, CompletionOf, InvalidateOf, ResponseOf, RequestOf, InvalidatedOf, PageRequestOf}
-use Rattle.sva_model.specs.State.About.{MarkerOf, ResetDone}
-use Rattle.sva_model.specs.Acts.{Act, Own}
-use Rattle.sva_model.specs.Acts.Act.{Unmap, LetGo, At}
+use Rattle.sva_model.specs.State.Subject.{StartOf, StopOf, FunctionReset, CompletionOf, InvalidateOf, ResponseOf, RequestOf, InvalidatedOf, PageRequestOf}
+use Rattle.sva_model.specs.State.Subject.{MarkerOf, ResetDone}
+use Rattle.sva_model.specs.Acts.{Act, LocalAct}
+use Rattle.sva_model.specs.Acts.Act.{Unmap, LetGo, AtEndpoint}
 use Rattle.sva_model.specs.Labels
 use Rattle.sva_model.specs.Refusals.{Cause, refusals}
 use Rattle.sva_model.specs.Replies.{maps_to, reply_maps, replies_success, newly_mapped, free_list, is_write_asked, job_space, response_to}
@@ -26,23 +26,23 @@ use Rattle.sva_model.specs.States.{is_open}
 use Rattle.sva_model.specs.Steps.{Decision, checked, decide}
 
 -- does it leave every order, the counter of reset-dones, and the markers noted?
-abbrev pub is_calm_own : Own → Bool
-is_calm_own (Own.Drain b cookie) = false
-is_calm_own (Own.Invalidate b cookie) = false
-is_calm_own (Own.Send k t) = false
-is_calm_own (Own.Pass k) = false
-is_calm_own Own.Reset = false
-is_calm_own (Own.Finish names vector count) = false
-is_calm_own (Own.Reset_arrives c) = false
-is_calm_own (Own.Take c k) = false
-is_calm_own (Own.Count c names) = false
-is_calm_own (Own.Mark c b) = false
-is_calm_own (Own.Reopen c) = false
+abbrev pub is_calm_own : LocalAct → Bool
+is_calm_own (LocalAct.Drain b cookie) = false
+is_calm_own (LocalAct.Invalidate b cookie) = false
+is_calm_own (LocalAct.Send k t) = false
+is_calm_own (LocalAct.Pass k) = false
+is_calm_own LocalAct.Reset = false
+is_calm_own (LocalAct.Finish names vector count) = false
+is_calm_own (LocalAct.Reset_arrives c) = false
+is_calm_own (LocalAct.Take c k) = false
+is_calm_own (LocalAct.Count c names) = false
+is_calm_own (LocalAct.Mark c b) = false
+is_calm_own (LocalAct.Reopen c) = false
 is_calm_own _ = true
 
 abbrev pub is_calm : Act → Bool
 is_calm (Unmap s q count order) = false
-is_calm (At e o) = is_calm_own o
+is_calm (AtEndpoint e o) = is_calm_own o
 is_calm _ = true
 
 abbrev pub are_calm : List Act → Bool
@@ -54,23 +54,23 @@ pub record IsDelivery (w : World) (s : Step) (e c : ℕ) : Type 0 where
   pub number : ℕ
   pub step_is : s ≡ step.Deliver number
   pub name_is : Labels.name w number ≡ c
-  pub way_is : w.way c ≡ e
+  pub way_is : w.link_of c ≡ e
 
 -- by which step an act is done that isn't calm
-abbrev pub IsBy : World → Step → (e : ℕ) → Own → Answer → Type 0
-IsBy w s e (Own.Drain b cookie) a = cookie ≡ w.cookies
-IsBy w s e (Own.Invalidate b cookie) a = cookie ≡ w.cookies
-IsBy w s e (Own.Pass k) a = (s ≡ step.Pump e) × (a ≡ answer.WaitDone) × (Labels.head (w.part e) ≡ k)
-IsBy w s e Own.Reset a = s ≡ step.Reset e
-IsBy w s e (Own.Count c names) a = IsDelivery w s e c
-IsBy w s e (Own.Mark c b) a = IsDelivery w s e c
-IsBy w s e (Own.Reopen c) a = IsDelivery w s e c
+abbrev pub IsBy : World → Step → (e : ℕ) → LocalAct → Answer → Type 0
+IsBy w s e (LocalAct.Drain b cookie) a = cookie ≡ w.cookies
+IsBy w s e (LocalAct.Invalidate b cookie) a = cookie ≡ w.cookies
+IsBy w s e (LocalAct.Pass k) a = (s ≡ step.Pump e) × (a ≡ answer.WaitDone) × (Labels.head (w.part e) ≡ k)
+IsBy w s e LocalAct.Reset a = s ≡ step.Reset e
+IsBy w s e (LocalAct.Count c names) a = IsDelivery w s e c
+IsBy w s e (LocalAct.Mark c b) a = IsDelivery w s e c
+IsBy w s e (LocalAct.Reopen c) a = IsDelivery w s e c
 IsBy w s e _ a = Unit {0}
 
 -- The acts of a step: they are calm, or one act of an endpoint, or one unmapping.
 pub data Kind (w : World) (s : Step) (d : Decision) : Type 0 where
   calm : are_calm d.acts ≡ true → Kind w s d
-  single : (e : ℕ) (o : Own) (a : Answer) → d.acts ≡ At e o ∷ [] → d.reply ≡ Ok a → IsBy w s e o a → Kind w s d
+  single : (e : ℕ) (o : LocalAct) (a : Answer) → d.acts ≡ AtEndpoint e o ∷ [] → d.reply ≡ Ok a → IsBy w s e o a → Kind w s d
   unmapping : (t q count order : ℕ) → d.acts ≡ Unmap t q count order ∷ [] → Kind w s d
 
 -- what is done where no cause refuses
@@ -88,8 +88,8 @@ unbind_kind w s e b Quiet = calm refl
 unbind_kind w s e b Released = calm refl
 
 advance_kind : (w : World) (s : Step) (e b : ℕ) (x : Stage) → Kind w s (plain (advance_outcome w e b x))
-advance_kind w s e b (Stopping m) = single e (Own.Drain b w.cookies) answer.Draining refl refl refl
-advance_kind w s e b (Draining k) = single e (Own.Invalidate b w.cookies) answer.Invalidating refl refl refl
+advance_kind w s e b (Stopping m) = single e (LocalAct.Drain b w.cookies) answer.Draining refl refl refl
+advance_kind w s e b (Draining k) = single e (LocalAct.Invalidate b w.cookies) answer.Invalidating refl refl refl
 advance_kind w s e b (Invalidating j k) = calm refl
 advance_kind w s e b Lost = calm refl
 advance_kind w s e b Unbound = calm refl
@@ -98,11 +98,11 @@ advance_kind w s e b Quiet = calm refl
 advance_kind w s e b Released = calm refl
 
 wait_kind : (w : World) (e k : ℕ) (t : Bool) → Labels.head (w.part e) ≡ k → Kind w (step.Pump e) (plain (wait_outcome e k t))
-wait_kind w e k true h = single e (Own.Pass k) answer.WaitDone refl refl (refl, refl, h)
+wait_kind w e k true h = single e (LocalAct.Pass k) answer.WaitDone refl refl (refl, refl, h)
 wait_kind w e k false h = calm refl
 
 send_kind : (w : World) (s : Step) (e k t : ℕ) (b : Bool) → Kind w s (plain (send_outcome e k t b))
-send_kind w s e k t true = single e (Own.Send k t) (answer.Itag t) refl refl tt
+send_kind w s e k t true = single e (LocalAct.Send k t) (answer.Itag t) refl refl tt
 send_kind w s e k t false = calm refl
 
 head_kind : (w : World) (e k : ℕ) (o : Order) → Labels.head (w.part e) ≡ k → Kind w (step.Pump e) (plain (head_outcome (w.part e) e k o))
@@ -118,7 +118,7 @@ file_kind : (w : World) (s : Step) (e r g : ℕ) (b : Bool) → Kind w s (plain 
 file_kind w s e r g true = calm refl
 file_kind w s e r g false = calm refl
 
-serve_kind : (w : World) (s : Step) (p : Part) (e : ℕ) (b : Bool) → Kind w s (plain (serve_outcome p e b))
+serve_kind : (w : World) (s : Step) (p : Endpoint) (e : ℕ) (b : Bool) → Kind w s (plain (serve_outcome p e b))
 serve_kind w s p e true = calm refl
 serve_kind w s p e false = file_kind w s e (Labels.oldest_arrived p) (p.group_of (Labels.oldest_arrived p)) (p.is_last (Labels.oldest_arrived p))
 
@@ -132,12 +132,12 @@ reply_kind w s x j v None = calm refl
 reply_kind w s x j v (Some code) = calm (go (replies_success w j v))
   where
     go : (b : Bool) → are_calm ((if b then maps_to (job_space w j) (is_write_asked w j) (newly_mapped w j) (free_list w) else []) ++ LetGo x
-        ∷ At (w.job j).endpoint (Own.Respond (w.job j).group code) ∷ []) ≡ true
+        ∷ AtEndpoint (w.job j).endpoint (LocalAct.Respond (w.job j).group code) ∷ []) ≡ true
     go true = maps_calm (job_space w j) (is_write_asked w j) (newly_mapped w j) (free_list w)
-        (LetGo x ∷ At (w.job j).endpoint (Own.Respond (w.job j).group code) ∷ []) refl
+        (LetGo x ∷ AtEndpoint (w.job j).endpoint (LocalAct.Respond (w.job j).group code) ∷ []) refl
     go false = refl
 
-fault_kind : (w : World) (s : Step) (p : Part) (e t q : ℕ) (r x l : Bool) (o : Option ℕ) → Kind w s (plain (fault_outcome p e t q r x l o))
+fault_kind : (w : World) (s : Step) (p : Endpoint) (e t q : ℕ) (r x l : Bool) (o : Option ℕ) → Kind w s (plain (fault_outcome p e t q r x l o))
 fault_kind w s p e t q r x l None = calm refl
 fault_kind w s p e t q r x l (Some k) = calm refl
 
@@ -147,7 +147,7 @@ keep_kind : (w : World) (s : Step) (e c r m : ℕ) (b : Bool) → Kind w s (plai
 keep_kind w s e c r m true = calm refl
 keep_kind w s e c r m false = calm refl
 
-completion_kind : (w : World) (s : Step) (p : Part) (e c r : ℕ) (o : Option ℕ) (x : RequestState) → Kind w s (plain (completion_outcome p e c r o x))
+completion_kind : (w : World) (s : Step) (p : Endpoint) (e c r : ℕ) (o : Option ℕ) (x : RequestState) → Kind w s (plain (completion_outcome p e c r o x))
 completion_kind w s p e c r (Some m) Out = keep_kind w s e c r m (is_full p r)
 completion_kind w s p e c r None Out = calm refl
 completion_kind w s p e c r (Some m) Doomed = calm refl
@@ -155,12 +155,12 @@ completion_kind w s p e c r None Doomed = calm refl
 completion_kind w s p e c r (Some m) Over = calm refl
 completion_kind w s p e c r None Over = calm refl
 
-request_kind : (w : World) (s : Step) (p : Part) (e c r : ℕ) (b : Bool) → Kind w s (plain (request_outcome w p e c r b))
+request_kind : (w : World) (s : Step) (p : Endpoint) (e c r : ℕ) (b : Bool) → Kind w s (plain (request_outcome w p e c r b))
 request_kind w s p e c r true = calm refl
 request_kind w s p e c r false = calm refl
 
-count_kind : (w : World) (s : Step) (p : Part) (e c : ℕ) (names : ℕ → Bool) (b : Bool) → IsDelivery w s e c → Kind w s (plain (count_outcome p e c names b))
-count_kind w s p e c names true d = single e (Own.Count c names) _ refl refl d
+count_kind : (w : World) (s : Step) (p : Endpoint) (e c : ℕ) (names : ℕ → Bool) (b : Bool) → IsDelivery w s e c → Kind w s (plain (count_outcome p e c names b))
+count_kind w s p e c names true d = single e (LocalAct.Count c names) _ refl refl d
 count_kind w s p e c names false d = calm refl
 
 page_request_kind : (w : World) (s : Step) (e c r : ℕ) (b : Bool) → Kind w s (plain (page_request_outcome e c r b))
@@ -168,23 +168,23 @@ page_request_kind w s e c r true = calm refl
 page_request_kind w s e c r false = calm refl
 
 marker_kind : (w : World) (s : Step) (e c b : ℕ) (t : Bool) → IsDelivery w s e c → Kind w s (plain (marker_outcome e c b t))
-marker_kind w s e c b true d = single e (Own.Mark c b) answer.Marked refl refl d
+marker_kind w s e c b true d = single e (LocalAct.Mark c b) answer.Marked refl refl d
 marker_kind w s e c b false d = calm refl
 
-about_kind : (w : World) (s : Step) (p : Part) (e c : ℕ) (x : About) → IsDelivery w s e c → Kind w s (plain (about_outcome w p e c x))
+about_kind : (w : World) (s : Step) (p : Endpoint) (e c : ℕ) (x : Subject) → IsDelivery w s e c → Kind w s (plain (about_outcome w p e c x))
 about_kind w s p e c (StartOf b) d = calm refl
 about_kind w s p e c (StopOf b) d = calm refl
-about_kind w s p e c ResetOrder d = single e (Own.Reset_arrives c) answer.Reset refl refl tt
+about_kind w s p e c FunctionReset d = single e (LocalAct.Reset_arrives c) answer.Reset refl refl tt
 about_kind w s p e c (CompletionOf r found) d = completion_kind w s p e c r found (p.request r)
-about_kind w s p e c (InvalidateOf k) d = single e (Own.Take c k) answer.Taken refl refl tt
+about_kind w s p e c (InvalidateOf k) d = single e (LocalAct.Take c k) answer.Taken refl refl tt
 about_kind w s p e c (ResponseOf g code) d = calm refl
 about_kind w s p e c (RequestOf r) d = request_kind w s p e c r (is_open p.phase)
 about_kind w s p e c (InvalidatedOf names) d = count_kind w s p e c names (is_open p.phase) d
 about_kind w s p e c (PageRequestOf r) d = page_request_kind w s e c r (is_open p.phase)
 about_kind w s p e c (MarkerOf b) d = marker_kind w s e c b (is_open p.phase) d
-about_kind w s p e c ResetDone d = single e (Own.Reopen c) answer.ResetDone refl refl d
+about_kind w s p e c ResetDone d = single e (LocalAct.Reopen c) answer.ResetDone refl refl d
 
-deliver_kind : (w : World) (s : Step) (p : Part) (e c : ℕ) (o : Option About) → IsDelivery w s e c → Kind w s (plain (deliver_outcome w p e c o))
+deliver_kind : (w : World) (s : Step) (p : Endpoint) (e c : ℕ) (o : Option Subject) → IsDelivery w s e c → Kind w s (plain (deliver_outcome w p e c o))
 deliver_kind w s p e c None d = calm refl
 deliver_kind w s p e c (Some x) d = about_kind w s p e c x d
 
@@ -196,12 +196,12 @@ outcome_kind w (step.Unmap n q count) = unmapping (Labels.name w n) q count 0 re
 outcome_kind w (step.UnmapRange n q order) = unmapping (Labels.name w n) q 1 order refl
 outcome_kind w (step.Bind e n) = calm refl
 outcome_kind w (step.Unbind n) =
-    unbind_kind w (step.Unbind n) (w.home (Labels.name w n)) (Labels.name w n) ((w.part (w.home (Labels.name w n))).stage (Labels.name w n))
+    unbind_kind w (step.Unbind n) (w.endpoint_of (Labels.name w n)) (Labels.name w n) ((w.part (w.endpoint_of (Labels.name w n))).stage (Labels.name w n))
 outcome_kind w (step.Advance n) =
-    advance_kind w (step.Advance n) (w.home (Labels.name w n)) (Labels.name w n) ((w.part (w.home (Labels.name w n))).stage (Labels.name w n))
+    advance_kind w (step.Advance n) (w.endpoint_of (Labels.name w n)) (Labels.name w n) ((w.part (w.endpoint_of (Labels.name w n))).stage (Labels.name w n))
 outcome_kind w (step.Pump e) = pump_kind w e (Labels.is_queue_empty (w.part e))
 outcome_kind w (step.Serve e) = serve_kind w (step.Serve e) (w.part e) e (Labels.is_page_queue_empty (w.part e))
-outcome_kind w (step.Reset e) = single e Own.Reset answer.Resetting refl refl refl
+outcome_kind w (step.Reset e) = single e LocalAct.Reset answer.Resetting refl refl refl
 outcome_kind w (step.Take x) = calm refl
 outcome_kind w (step.Reply x v) = reply_kind w (step.Reply x v) x (the (w.hand x)) v (response_to w (the (w.hand x)) v)
 outcome_kind w (step.Ask e t q) = calm refl
@@ -209,11 +209,11 @@ outcome_kind w (step.BeginUse e t q x) = calm refl
 outcome_kind w (step.EndUse e u) = calm refl
 outcome_kind w (step.Evict e t q) = calm refl
 outcome_kind w (step.Fault e t q r x group l) = fault_kind w (step.Fault e t q r x group l) (w.part e) e t q r x l group
-outcome_kind w (step.Finish e vector count) = single e (Own.Finish (Labels.is_named (w.part e) vector) vector count) (answer.Sent count) refl refl tt
+outcome_kind w (step.Finish e vector count) = single e (LocalAct.Finish (Labels.is_named (w.part e) vector) vector count) (answer.Sent count) refl refl tt
 outcome_kind w (step.Quit e t) = calm refl
 outcome_kind w (step.Deliver n) =
-    deliver_kind w (step.Deliver n) (w.part (w.way (Labels.name w n))) (w.way (Labels.name w n)) (Labels.name w n)
-    ((w.part (w.way (Labels.name w n))).message (Labels.name w n))
+    deliver_kind w (step.Deliver n) (w.part (w.link_of (Labels.name w n))) (w.link_of (Labels.name w n)) (Labels.name w n)
+    ((w.part (w.link_of (Labels.name w n))).message (Labels.name w n))
     (record { number = n; step_is = refl; name_is = refl; way_is = refl })
 outcome_kind w (step.Look f) = calm refl
 outcome_kind w (step.Bearer t) = calm refl

@@ -1,7 +1,7 @@
 -- What a unit's page invalidations and their wait leave as it was.
 use Rattle.std.proofs.Common.{◌≡◌, ℕ, true, arith}
 use Rattle.std.proofs.lemmas.Bool.Decides.{nat_tests}
-use Rattle.sva_model.specs.State.{Mappings, Part}
+use Rattle.sva_model.specs.State.{Mappings, Endpoint}
 use Rattle.sva_model.specs.State.Phase.{Open}
 use Rattle.sva_model.specs.States.{is_before_invalidating}
 use Rattle.sva_model.specs.Acts.{submitted}
@@ -15,7 +15,7 @@ use Rattle.sva_laws.proofs.Owners.{Owners}
 use Rattle.sva_laws.proofs.PageRequests.{Queued, Lasts}
 use Rattle.sva_laws.proofs.Groups.{Groups}
 
-pub resets_submitted : (n b q count order cookie : ℕ) (p : Part) → p.phase ≡ Open → Resets n p → Resets n (submitted p b q count order cookie)
+pub resets_submitted : (n b q count order cookie : ℕ) (p : Endpoint) → p.phase ≡ Open → Resets n p → Resets n (submitted p b q count order cookie)
 resets_submitted n b q count order cookie p ph re =
     record {
       unsent = re.unsent;
@@ -44,7 +44,7 @@ resets_submitted n b q count order cookie p ph re =
       unfiled = re.unfiled;
     }
 
-pub bounds_submitted : (g b q count order cookie : ℕ) (p : Part) → Bounds g p → Bounds g (submitted p b q count order cookie)
+pub bounds_submitted : (g b q count order cookie : ℕ) (p : Endpoint) → Bounds g p → Bounds g (submitted p b q count order cookie)
 bounds_submitted g b q count order cookie p bo =
     record {
       stage = bo.stage;
@@ -65,7 +65,7 @@ bounds_submitted g b q count order cookie p bo =
       responded = bo.responded;
     }
 
-pub bindings_submitted : (b q count order cookie : ℕ) (p : Part) → Bindings p → Bindings (submitted p b q count order cookie)
+pub bindings_submitted : (b q count order cookie : ℕ) (p : Endpoint) → Bindings p → Bindings (submitted p b q count order cookie)
 bindings_submitted b q count order cookie p bi =
     record {
       start_once = bi.start_once;
@@ -84,7 +84,7 @@ bindings_submitted b q count order cookie p bi =
       marker_stop = bi.marker_stop;
     }
 
-pub labels_submitted : (g b q count order cookie : ℕ) (p : Part) → Bounds g p → Labels p → Labels (submitted p b q count order cookie)
+pub labels_submitted : (g b q count order cookie : ℕ) (p : Endpoint) → Bounds g p → Labels p → Labels (submitted p b q count order cookie)
 labels_submitted g b q count order cookie p bo la =
     record {
       pasid_bears = la.pasid_bears;
@@ -104,7 +104,7 @@ labels_submitted g b q count order cookie p bo la =
       sent_once = la.sent_once;
     }
 
-pub requests_submitted : (b q count order cookie : ℕ) (p : Part) → Requests p → Requests (submitted p b q count order cookie)
+pub requests_submitted : (b q count order cookie : ℕ) (p : Endpoint) → Requests p → Requests (submitted p b q count order cookie)
 requests_submitted b q count order cookie p ra =
     record {
       bound = ra.bound;
@@ -118,7 +118,7 @@ requests_submitted b q count order cookie p ra =
       one_held = ra.one_held;
     }
 
-pub orders_submitted : (g b q count order cookie : ℕ) (p : Part) → is_before_invalidating (p.stage b) ≡ true → Bounds g p → Orders p
+pub orders_submitted : (g b q count order cookie : ℕ) (p : Endpoint) → is_before_invalidating (p.stage b) ≡ true → Bounds g p → Orders p
     → Orders (submitted p b q count order cookie)
 orders_submitted g b q count order cookie p st bo or =
     record {
@@ -135,7 +135,7 @@ orders_submitted g b q count order cookie p st bo or =
       undone_stage = λ k h i. grind (arith, nat_tests, or.undone_stage k);
     }
 
-pub owners_submitted : (ms : Mappings) (g b q count order cookie : ℕ) (p : Part) → Orders p → Owners ms p → Owners ms (submitted p b q count order cookie)
+pub owners_submitted : (ms : Mappings) (g b q count order cookie : ℕ) (p : Endpoint) → Orders p → Owners ms p → Owners ms (submitted p b q count order cookie)
 owners_submitted ms g b q count order cookie p or ow =
     record {
       held = ow.held;
@@ -154,11 +154,11 @@ owners_submitted ms g b q count order cookie p or ow =
       running_closed = λ u k w h i j d. grind (arith, nat_tests, ow.running_closed u k w, or.invalidating (p.use_binding u) k w);
     }
 
-pub queued_submitted : (b q count order cookie : ℕ) (p : Part) → Queued p → Queued (submitted p b q count order cookie)
+pub queued_submitted : (b q count order cookie : ℕ) (p : Endpoint) → Queued p → Queued (submitted p b q count order cookie)
 queued_submitted b q count order cookie p qu =
     record { in_flight = qu.in_flight; message = qu.message; arrived = qu.arrived; arrival = qu.arrival; landed = qu.landed; made = qu.made }
 
-pub lasts_submitted : (b q count order cookie : ℕ) (p : Part) → Lasts p → Lasts (submitted p b q count order cookie)
+pub lasts_submitted : (b q count order cookie : ℕ) (p : Endpoint) → Lasts p → Lasts (submitted p b q count order cookie)
 lasts_submitted b q count order cookie p la =
     record {
       last_group = la.last_group;
@@ -173,7 +173,7 @@ lasts_submitted b q count order cookie p la =
       out = la.out;
     }
 
-pub groups_submitted : (b q count order cookie : ℕ) (p : Part) → Orders p → Groups p → Groups (submitted p b q count order cookie)
+pub groups_submitted : (b q count order cookie : ℕ) (p : Endpoint) → Orders p → Groups p → Groups (submitted p b q count order cookie)
 groups_submitted b q count order cookie p or gr =
     record {
       index_bears = gr.index_bears;

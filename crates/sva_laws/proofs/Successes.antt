@@ -13,8 +13,8 @@ use Rattle.sva_model.specs.Message.Code.{SuccessCode, InvalidCode, FailureCode}
 use Rattle.sva_model.specs.State.{PasidRule, World}
 use Rattle.sva_model.specs.State.MappingState.{Present}
 use Rattle.sva_model.specs.States.{is_present}
-use Rattle.sva_model.specs.Acts.{Act, Own, act}
-use Rattle.sva_model.specs.Acts.Act.{Map, LetGo, At}
+use Rattle.sva_model.specs.Acts.{Act, LocalAct, act}
+use Rattle.sva_model.specs.Acts.Act.{Map, LetGo, AtEndpoint}
 use Rattle.sva_model.specs.Labels.{pages_of}
 use Rattle.sva_model.specs.Refusals.{refusals}
 use Rattle.sva_model.specs.Replies.{maps_to, reply_maps, replies_success, newly_mapped, free_list, is_write_asked, job_space, response_to}
@@ -81,7 +81,7 @@ one_page w s q f x un =
     old r (inl e) h = ap (w.mappings.at s) e ∙ un
     old r (inr ne) h = sym (ap (λ g. g r) row ∙ put-other (w.mappings.at s) q (Some w.mappings.made) r ne) ∙ h
 
-no_page : (w : World) (x e : ℕ) (o : Own) (s : ℕ) → MapsPages w (after_acts w (LetGo x ∷ At e o ∷ [])) s 0
+no_page : (w : World) (x e : ℕ) (o : LocalAct) (s : ℕ) → MapsPages w (after_acts w (LetGo x ∷ AtEndpoint e o ∷ [])) s 0
 no_page w x e o s =
     record {
       pages = omega arith;
@@ -114,13 +114,13 @@ more_pages u v w s n a b =
 
 -- The pages of a reply, and then the response.
 
-pub all_pages : (s : ℕ) (write : ℕ → Bool) (qs fs : List ℕ) (x e : ℕ) (o : Own) (w : World)
-    → LegalAll w (maps_to s write qs fs ++ LetGo x ∷ At e o ∷ [])
-    → MapsPages w (after_acts w (maps_to s write qs fs ++ LetGo x ∷ At e o ∷ [])) s (length (maps_to s write qs fs))
+pub all_pages : (s : ℕ) (write : ℕ → Bool) (qs fs : List ℕ) (x e : ℕ) (o : LocalAct) (w : World)
+    → LegalAll w (maps_to s write qs fs ++ LetGo x ∷ AtEndpoint e o ∷ [])
+    → MapsPages w (after_acts w (maps_to s write qs fs ++ LetGo x ∷ AtEndpoint e o ∷ [])) s (length (maps_to s write qs fs))
 all_pages s write [] fs x e o w l = no_page w x e o s
 all_pages s write (q ∷ qs) [] x e o w l = no_page w x e o s
 all_pages s write (q ∷ qs) (f ∷ fs) x e o w l =
-    more_pages w (act w (Map s q f (write q))) (after_acts (act w (Map s q f (write q))) (maps_to s write qs fs ++ LetGo x ∷ At e o ∷ [])) s
+    more_pages w (act w (Map s q f (write q))) (after_acts (act w (Map s q f (write q))) (maps_to s write qs fs ++ LetGo x ∷ AtEndpoint e o ∷ [])) s
     (length (maps_to s write qs fs))
     (one_page w s q f (write q) l.0.1)
     (all_pages s write qs fs x e o (act w (Map s q f (write q))) l.1)
@@ -135,21 +135,21 @@ reply_pages w x j v None count a l = absurd (cc)
 reply_pages w x j v (Some InvalidCode) count a l = absurd (cc)
 reply_pages w x j v (Some FailureCode) count a l = absurd (cc)
 reply_pages w x j v (Some SuccessCode) count a l =
-    subst (λ k. MapsPages w (after_acts w (reply_maps w j v ++ LetGo x ∷ At (w.job j).endpoint (Own.Respond (w.job j).group SuccessCode) ∷ []))
+    subst (λ k. MapsPages w (after_acts w (reply_maps w j v ++ LetGo x ∷ AtEndpoint (w.job j).endpoint (LocalAct.Respond (w.job j).group SuccessCode) ∷ []))
     (job_space w j) k) (same_count (length (reply_maps w j v)) count a)
     (go (replies_success w j v) l)
   where
     e : ℕ
     e = (w.job j).endpoint
 
-    r : Own
-    r = Own.Respond (w.job j).group SuccessCode
+    r : LocalAct
+    r = LocalAct.Respond (w.job j).group SuccessCode
 
     maps : List Act
     maps = maps_to (job_space w j) (is_write_asked w j) (newly_mapped w j) (free_list w)
 
-    go : (b : Bool) → LegalAll w ((if b then maps else []) ++ LetGo x ∷ At e r ∷ [])
-        → MapsPages w (after_acts w ((if b then maps else []) ++ LetGo x ∷ At e r ∷ [])) (job_space w j) (length (if b then maps else []))
+    go : (b : Bool) → LegalAll w ((if b then maps else []) ++ LetGo x ∷ AtEndpoint e r ∷ [])
+        → MapsPages w (after_acts w ((if b then maps else []) ++ LetGo x ∷ AtEndpoint e r ∷ [])) (job_space w j) (length (if b then maps else []))
     go true k = all_pages (job_space w j) (is_write_asked w j) (newly_mapped w j) (free_list w) x e r w k
     go false k = no_page w x e r (job_space w j)
 

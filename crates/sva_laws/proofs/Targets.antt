@@ -6,8 +6,8 @@ use Rattle.std.proofs.lemmas.Bool.Decides.{nat_tests}
 use Rattle.sva_step.specs.declared.limits.Config.{Config}
 use Rattle.sva_step.specs.declared.steps.Step.{Step}
 use Rattle.sva_model.specs.Words.{all_below}
-use Rattle.sva_model.specs.State.{Owed, Order, OrderState, Part}
-use Rattle.sva_model.specs.State.Owed.{Nothing, Ranges, Pasid, AReset}
+use Rattle.sva_model.specs.State.{Owed, Order, OrderState, Endpoint}
+use Rattle.sva_model.specs.State.Owed.{Nothing, Ranges, Pasid, NextReset}
 use Rattle.sva_model.specs.State.MappingState.{Gone}
 use Rattle.sva_model.specs.State.Order.{RangeOf, PasidOf, Wait}
 use Rattle.sva_model.specs.State.OrderState.{Queued, Done, Void}
@@ -32,14 +32,14 @@ done_apart z h (inl e) = absurd (cc (sym h ∙ e))
 done_apart z h (inr e) = absurd (cc (sym h ∙ e))
 
 -- what is queued isn't below the front; what is done is
-queued_front : (n : ℕ) (p : Part) → Fronts n p → (k c : ℕ) (x : Bool) → k < p.orders → p.order k ≡ Wait c x → p.order_state k ≡ Queued → p.front ≤ c
+queued_front : (n : ℕ) (p : Endpoint) → Fronts n p → (k c : ℕ) (x : Bool) → k < p.orders → p.order k ≡ Wait c x → p.order_state k ≡ Queued → p.front ≤ c
 queued_front n p f k c x made h q = go (less_or_not c p.front)
   where
     go : (c < p.front) ⊎ (p.front ≤ c) → p.front ≤ c
     go (inl l) = absurd (queued_apart (p.order_state k) q (f.passed k c x made h l))
     go (inr l) = l
 
-done_below : (n : ℕ) (p : Part) → Fronts n p → (k c : ℕ) (x : Bool) → k < p.orders → p.order k ≡ Wait c x → p.order_state k ≡ Done → c < p.front
+done_below : (n : ℕ) (p : Endpoint) → Fronts n p → (k c : ℕ) (x : Bool) → k < p.orders → p.order k ≡ Wait c x → p.order_state k ≡ Done → c < p.front
 done_below n p f k c x made h d = go (less_or_not c p.front)
   where
     either : (p.order_state k ≡ Queued) ⊎ ((p.order_state k ≡ Void) × (p.phase ≢ Open)) → (p.order_state k ≡ Queued) ⊎ (p.order_state k ≡ Void)
@@ -50,7 +50,7 @@ done_below n p f k c x made h d = go (less_or_not c p.front)
     go (inl l) = l
     go (inr l) = absurd (done_apart (p.order_state k) d (either (f.at_front k c x made h l)))
 
-below_done : (n : ℕ) (p : Part) → Fronts n p → (k c : ℕ) (x : Bool) → k < p.orders → p.order k ≡ Wait c x → (p.order_state k ≡ Void → p.front ≤ c)
+below_done : (n : ℕ) (p : Endpoint) → Fronts n p → (k c : ℕ) (x : Bool) → k < p.orders → p.order k ≡ Wait c x → (p.order_state k ≡ Void → p.front ≤ c)
     → c < p.front → p.order_state k ≡ Done
 below_done n p f k c x made h nv l = go (f.passed k c x made h l)
   where
@@ -58,7 +58,7 @@ below_done n p f k c x made h nv l = go (f.passed k c x made h l)
     go (inl d) = d
     go (inr v) = let z = nv v in absurd (omega (arith, z, l))
 
-pub has_front : (n : ℕ) (p : Part) → Orders p → Fronts n p → HasFront n p
+pub has_front : (n : ℕ) (p : Endpoint) → Orders p → Fronts n p → HasFront n p
 has_front n p or f =
     record {
       rise = f.rise;
@@ -92,7 +92,7 @@ always_front rule config steps e =
 
 -- What isn't answered.
 
-awaited : (n : ℕ) (p : Part) (first x resets : ℕ) → Fronts n p → IsBehind p first x resets → resets ≡ p.resets → p.order_state x ≢ Done → IsAwaited p x
+awaited : (n : ℕ) (p : Endpoint) (first x resets : ℕ) → Fronts n p → IsBehind p first x resets → resets ≡ p.resets → p.order_state x ≢ Done → IsAwaited p x
 awaited n p first x resets f b same nd = let y = go (p.order x) refl b.is_a_wait in (b.made, y.0, y.1, y.2, y.3, y.4)
   where
     front : (c : ℕ) (y : Bool) → p.order x ≡ Wait c y → (c < p.front) ⊎ (p.front ≤ c) → p.front ≤ c
@@ -105,7 +105,7 @@ awaited n p first x resets f b same nd = let y = go (p.order x) refl b.is_a_wait
     go (RangeOf d r) h w = absurd (cc (w))
     go (PasidOf d) h w = absurd (cc (w))
 
-no_reset : (p : Part) (resets : ℕ) → resets ≤ p.resets → nat_lt resets p.resets ≡ false → resets ≡ p.resets
+no_reset : (p : Endpoint) (resets : ℕ) → resets ≤ p.resets → nat_lt resets p.resets ≡ false → resets ≡ p.resets
 no_reset p resets low h = grind (arith, nat_tests)
 
 is_done_of : (z : OrderState) → z ≡ Done → is_done z ≡ true
@@ -114,7 +114,7 @@ is_done_of z h = ap is_done h
 both_done : (a b : OrderState) → a ≡ Done → b ≡ Done → (is_done a && is_done b) ≡ true
 both_done a b h k = grind arith
 
-pub awaits : (n : ℕ) (p : Part) (v : Owed) → Fronts n p → FitsDebt p v → answered p v ≡ false → AwaitsTarget p v
+pub awaits : (n : ℕ) (p : Endpoint) (v : Owed) → Fronts n p → FitsDebt p v → answered p v ≡ false → AwaitsTarget p v
 awaits n p Nothing f d h = absurd (cc (h))
 awaits n p (Ranges first count resets) f d h =
     let same = no_reset p resets d.1.counted (or_right (all_below (suc count) (λ j. is_done (p.order_state (first + j)))) (nat_lt resets p.resets) h) in
@@ -130,7 +130,7 @@ awaits n p (Pasid k x resets false) f d h =
     (λ e. absurd (cc (sym left ∙ both_done (p.order_state k) (p.order_state x) (d.1.done same e k (omega arith) d.1.low) e)))
 awaits n p (Pasid k x resets true) f d h =
     d.2 refl (no_reset p resets d.1.counted (or_right (is_done (p.order_state k) && is_done (p.order_state x)) (nat_lt resets p.resets) h))
-awaits n p (AReset resets) f d h = d.1 (no_reset p resets d.0 h)
+awaits n p (NextReset resets) f d h = d.1 (no_reset p resets d.0 h)
 
 pub always_awaits : (rule : PasidRule) (config : Config) (steps : List Step) (m e : ℕ) (owed : ℕ → Owed)
     → (world_after rule config steps).mappings.state m ≡ Gone owed → answered ((world_after rule config steps).part e) (owed e) ≡ false

@@ -11,7 +11,7 @@ use Rattle.sva_step.specs.declared.limits.Config.{Config}
 use Rattle.sva_step.specs.declared.steps.Step.{Step}
 use Rattle.sva_step.specs.declared.steps.Step.TheVariants as step
 use Rattle.sva_model.specs.Words.{any_below, all_below, tabulate, put, is_some, the, unless}
-use Rattle.sva_model.specs.State.{Owed, OrderState, Part, World, Stage}
+use Rattle.sva_model.specs.State.{Owed, OrderState, Endpoint, World, Stage}
 use Rattle.sva_model.specs.State.Owed.{Ranges, Pasid}
 use Rattle.sva_model.specs.State.MappingState.{Present, Gone}
 use Rattle.sva_model.specs.State.Stage.{Unbound, Live, Stopping, Draining, Invalidating, Quiet, Lost, Released}
@@ -78,7 +78,7 @@ table_at (suc n) f k x h = go (λ e. table_at n f k x e) (in_front_or_last (tabu
 
 -- An endpoint has answered right after the step exactly where it had nothing to wait for.
 
-unit_silent : (p : Part) (b q count order cookie : ℕ) (o : Bool)
+unit_silent : (p : Endpoint) (b q count order cookie : ℕ) (o : Bool)
     → answered (submitted_if (o && true) p (Some b) q count order cookie) (owed_by_unit p count o) ≡ false
 unit_silent p b q count order cookie true = pages (first_queued)
   where
@@ -103,7 +103,7 @@ unit_silent p b q count order cookie false = not_less p.resets
 pasid_told : (a c : OrderState) (r : ℕ) → (c ≡ Done → a ≡ Done) → ((is_done a && is_done c) || nat_lt r r) ≡ not (not (is_done c))
 pasid_told a c r h = grind (arith, nat_tests)
 
-stage_told : (p : Part) (b q count order cookie : ℕ) → Orders p → (s : Stage) → p.stage b ≡ s
+stage_told : (p : Endpoint) (b q count order cookie : ℕ) → Orders p → (s : Stage) → p.stage b ≡ s
     → answered (submitted_if (is_open p.phase && is_before_invalidating s) p (Some b) q count order cookie) (owed_by_stage p count s)
     ≡ not (waits_by_stage p s)
 stage_told p b q count order cookie or Live st = unit_silent p b q count order cookie (is_open p.phase)

@@ -6,21 +6,21 @@ use Rattle.sva_step.specs.declared.answers.Answer.{Answer}
 use Rattle.sva_step.specs.declared.limits.Config.{Config}
 use Rattle.sva_step.specs.declared.steps.Step.{Step}
 use Rattle.sva_model.specs.Words.{all_below}
-use Rattle.sva_model.specs.State.{PasidRule, Owed, OrderState, Part, World}
-use Rattle.sva_model.specs.State.About.{ResetDone}
-use Rattle.sva_model.specs.State.Owed.{Nothing, Ranges, Pasid, AReset}
-use Rattle.sva_model.specs.State.OrderState.{Owing, Done}
+use Rattle.sva_model.specs.State.{PasidRule, Owed, OrderState, Endpoint, World}
+use Rattle.sva_model.specs.State.Subject.{ResetDone}
+use Rattle.sva_model.specs.State.Owed.{Nothing, Ranges, Pasid, NextReset}
+use Rattle.sva_model.specs.State.OrderState.{Completing, Done}
 use Rattle.sva_model.specs.State.MappingState.{Present, Gone}
 use Rattle.sva_model.specs.States.{Place, is_done, is_busy, answered, place, place_at, place_by}
 use Rattle.sva_model.specs.States.Place.{Free, Mapped, Withheld}
-use Rattle.sva_model.specs.Acts.{Own, own, submits, submitted_if, bound, cookie_of}
+use Rattle.sva_model.specs.Acts.{LocalAct, own, submits, submitted_if, bound, cookie_of}
 use Rattle.sva_model.specs.Steps.{reply, decide, next, after_acts, world_after}
 use Rattle.sva_laws.specs.UnitSteps.{Delivers, PassesWait, CompletesOrder}
 use Rattle.sva_laws.specs.Waits.{IsBehind, FitsDebt}
 use Rattle.sva_laws.specs.Steps.{wait_of, AnswersBy}
 use Rattle.sva_laws.proofs.Words.{all_below-true}
 use Rattle.sva_laws.proofs.Answered.{all_below-intro}
-use Rattle.sva_laws.proofs.Legal.{LegalOwn}
+use Rattle.sva_laws.proofs.Legal.{LegalLocalAct}
 use Rattle.sva_laws.proofs.Orders.{Orders}
 use Rattle.sva_laws.proofs.Invariant.{Invariant}
 use Rattle.sva_laws.proofs.Keeps.{put_keeps}
@@ -34,12 +34,12 @@ use Rattle.sva_laws.proofs.Debts.{always_debts}
 use Rattle.sva_laws.proofs.Freed.{next_place}
 
 -- the counter of reset-dones stays, or a reset-done is delivered
-own_counts : (w : World) (s : Step) (e : ℕ) (a : Answer) (o : Own) → reply w s ≡ Ok a → IsBy w s e o a → LegalOwn w.mappings w.bindings (w.part e) o
+own_counts : (w : World) (s : Step) (e : ℕ) (a : Answer) (o : LocalAct) → reply w s ≡ Ok a → IsBy w s e o a → LegalLocalAct w.mappings w.bindings (w.part e) o
     → ((own (w.part e) w.messages o).resets ≡ (w.part e).resets) ⊎ Delivers w s e ResetDone
-own_counts w s e a (Own.Reopen c) h by l = inr (delivers w s e c a ResetDone h by l.0)
+own_counts w s e a (LocalAct.Reopen c) h by l = inr (delivers w s e c a ResetDone h by l.0)
 own_counts w s e a _ h by l = inl refl
 
-submitted_counts : (t : Bool) (p : Part) (o : Option ℕ) (q count order cookie : ℕ) → (submitted_if t p o q count order cookie).resets ≡ p.resets
+submitted_counts : (t : Bool) (p : Endpoint) (o : Option ℕ) (q count order cookie : ℕ) → (submitted_if t p o q count order cookie).resets ≡ p.resets
 submitted_counts true p (Some b) q count order cookie = refl
 submitted_counts true p None q count order cookie = refl
 submitted_counts false p o q count order cookie = refl
@@ -59,7 +59,7 @@ next_counts w s e i = go (step_kind w s)
         inl (ap (λ z. ((after_acts w z).part e).resets) x ∙ submitted_counts (submits w t e) (w.part e) (bound w e t) q count order (cookie_of w t e))
 
 -- the counter never falls
-never_falls : (p q : Part) (R : Type 0) → (q.resets ≡ p.resets) ⊎ R → (R → q.resets ≡ suc p.resets) → p.resets ≤ q.resets
+never_falls : (p q : Endpoint) (R : Type 0) → (q.resets ≡ p.resets) ⊎ R → (R → q.resets ≡ suc p.resets) → p.resets ≤ q.resets
 never_falls p q R (inl e) f = omega (arith, e)
 never_falls p q R (inr r) f = let e = f r in omega (arith, e)
 
@@ -80,10 +80,10 @@ and_kept : (a b c d : Bool) → (a ≡ true → c ≡ true) → (b ≡ true → 
 and_kept a b c d f g h = grind arith
 
 -- what is answered stays so
-stays : (p q : Part) (v : Owed) → ((k : ℕ) → p.order_state k ≡ Done → q.order_state k ≡ Done) → p.resets ≤ q.resets → answered p v ≡ true
+stays : (p q : Endpoint) (v : Owed) → ((k : ℕ) → p.order_state k ≡ Done → q.order_state k ≡ Done) → p.resets ≤ q.resets → answered p v ≡ true
     → answered q v ≡ true
 stays p q Nothing d r h = refl
-stays p q (AReset resets) d r h = more resets p.resets q.resets r h
+stays p q (NextReset resets) d r h = more resets p.resets q.resets r h
 stays p q (Ranges first count resets) d r h =
     or_kept (all_below (suc count) (λ j. is_done (p.order_state (first + j)))) (nat_lt resets p.resets)
     (all_below (suc count) (λ j. is_done (q.order_state (first + j)))) (nat_lt resets q.resets)
@@ -107,11 +107,11 @@ stays p q (Pasid invalidation wait resets in_reset) d r h =
 
 -- What turns it.
 
-by_reset : (p q : Part) (R : Type 0) (resets : ℕ) → nat_lt resets p.resets ≡ false → (q.resets ≡ p.resets) ⊎ R → nat_lt resets q.resets ≡ true → R
+by_reset : (p q : Endpoint) (R : Type 0) (resets : ℕ) → nat_lt resets p.resets ≡ false → (q.resets ≡ p.resets) ⊎ R → nat_lt resets q.resets ≡ true → R
 by_reset p q R resets h (inl e) k = absurd (cc (sym h ∙ ap (nat_lt resets) (sym e) ∙ k))
 by_reset p q R resets h (inr r) k = r
 
-by_wait : (w : World) (s : Step) (e : ℕ) (q : Part) (first wait resets : ℕ) → IsBehind (w.part e) first wait resets → Orders (w.part e)
+by_wait : (w : World) (s : Step) (e : ℕ) (q : Endpoint) (first wait resets : ℕ) → IsBehind (w.part e) first wait resets → Orders (w.part e)
     → Changes w s e (w.part e) q → nat_lt resets (w.part e).resets ≡ false → (((k : ℕ) → first ≤ k → k ≤ wait → (w.part e).order_state k ≡ Done) → ⊥)
     → q.order_state wait ≡ Done → PassesWait w s e wait
 by_wait w s e q first wait resets b or c h un d = go (c.done wait d)
@@ -119,7 +119,7 @@ by_wait w s e q first wait resets b or c h un d = go (c.done wait d)
     same : resets ≡ (w.part e).resets
     same = let l = is_at_most resets (w.part e).resets h in let k = b.counted in omega (arith, l, k)
 
-    busy : (count : ℕ) → (w.part e).order_state wait ≡ Owing count 1 → ⊥
+    busy : (count : ℕ) → (w.part e).order_state wait ≡ Completing count 1 → ⊥
     busy count x = absurd (cc (sym b.is_a_wait ∙ or.no_wait wait (ap is_busy x)))
 
     go : ((w.part e).order_state wait ≡ Done) ⊎ (PassesWait w s e wait ⊎ CompletesOrder w s e wait) → PassesWait w s e wait
@@ -130,11 +130,11 @@ by_wait w s e q first wait resets b or c h un d = go (c.done wait d)
 both : (t : Bool) → t ≡ true → t ≡ false → ⊥
 both t h k = absurd (cc)
 
-turns : (w : World) (s : Step) (e : ℕ) (q : Part) (v : Owed) → FitsDebt (w.part e) v → Orders (w.part e) → Changes w s e (w.part e) q
+turns : (w : World) (s : Step) (e : ℕ) (q : Endpoint) (v : Owed) → FitsDebt (w.part e) v → Orders (w.part e) → Changes w s e (w.part e) q
     → (q.resets ≡ (w.part e).resets) ⊎ Delivers w s e ResetDone → answered (w.part e) v ≡ false → answered q v ≡ true → PassesWait w s e (wait_of v)
     ⊎ Delivers w s e ResetDone
 turns w s e q Nothing f or c r un h = absurd (cc)
-turns w s e q (AReset resets) f or c r un h = inr (by_reset (w.part e) q (Delivers w s e ResetDone) resets un r h)
+turns w s e q (NextReset resets) f or c r un h = inr (by_reset (w.part e) q (Delivers w s e ResetDone) resets un r h)
 turns w s e q (Ranges first count resets) f or c r un h =
     go (or_cases (all_below (suc count) (λ j. is_done (q.order_state (first + j)))) (nat_lt resets q.resets) h)
   where

@@ -9,16 +9,16 @@ use Rattle.sva_step.specs.declared.limits.Config.{Config}
 use Rattle.sva_step.specs.declared.steps.Step.{Step}
 use Rattle.sva_step.specs.declared.steps.Step.TheVariants as step
 use Rattle.sva_model.specs.Words.{put}
-use Rattle.sva_model.specs.State.{About, Mappings, Order, OrderState, Part, World}
-use Rattle.sva_model.specs.State.About.{InvalidateOf, InvalidatedOf, MarkerOf, ResetDone}
+use Rattle.sva_model.specs.State.{Subject, Mappings, Order, OrderState, Endpoint, World}
+use Rattle.sva_model.specs.State.Subject.{InvalidateOf, InvalidatedOf, MarkerOf, ResetDone}
 use Rattle.sva_model.specs.State.Order.{RangeOf, PasidOf, Wait}
 use Rattle.sva_model.specs.State.Phase.{Open}
 use Rattle.sva_model.specs.State.Stage.{Stopping}
-use Rattle.sva_model.specs.State.OrderState.{Queued, Sent, Taken, Lapsed, Owing, Done, Void}
+use Rattle.sva_model.specs.State.OrderState.{Queued, Sent, Taken, Lapsed, Completing, Done, Void}
 use Rattle.sva_model.specs.States.{is_open}
-use Rattle.sva_model.specs.Acts.{Act, Own, act, own, counted, counted_if, void_queued, void_undone, marked, submitted, submitted_if, submits, bound}
+use Rattle.sva_model.specs.Acts.{Act, LocalAct, act, own, counted, counted_if, void_queued, void_undone, marked, submitted, submitted_if, submits, bound}
 use Rattle.sva_model.specs.Acts.{cookie_of}
-use Rattle.sva_model.specs.Acts.Act.{NewSpace, DropSpace, Map, Unmap, NewBinding, NewJob, Hold, LetGo, At}
+use Rattle.sva_model.specs.Acts.Act.{NewSpace, DropSpace, Map, Unmap, NewBinding, NewJob, Hold, LetGo, AtEndpoint}
 use Rattle.sva_model.specs.Labels
 use Rattle.sva_model.specs.Refusals.{refusals}
 use Rattle.sva_model.specs.Outcomes.{outcome, pump_outcome, head_outcome, wait_outcome, send_outcome, may_pass, about_outcome, deliver_outcome}
@@ -26,7 +26,7 @@ use Rattle.sva_model.specs.Outcomes.{count_outcome, marker_outcome}
 use Rattle.sva_model.specs.Steps.{reply, decide, next, after_acts, world_after}
 use Rattle.sva_laws.specs.UnitSteps.{Delivers, OrdersReset, PassesWait, CompletesOrder, CountsResetDones, ChangesOrders, NotesMarkers}
 use Rattle.sva_laws.proofs.Words.{put-same, put-other, ℕ_cases}
-use Rattle.sva_laws.proofs.Legal.{LegalOwn}
+use Rattle.sva_laws.proofs.Legal.{LegalLocalAct}
 use Rattle.sva_laws.proofs.Invariant.{Invariant}
 use Rattle.sva_laws.proofs.Keeps.{Legal, put_keeps}
 use Rattle.sva_laws.proofs.Passed.{LegalAll}
@@ -37,7 +37,7 @@ use Rattle.sva_laws.proofs.StepKinds.{IsDelivery, IsBy, Kind, is_calm, is_calm_o
 use Rattle.sva_laws.proofs.StepKinds.Kind.{calm, single, unmapping}
 
 -- From the step to what has changed: of a part p before the step and q after it.
-pub record Changes (w : World) (s : Step) (e : ℕ) (p q : Part) : Type 0 where
+pub record Changes (w : World) (s : Step) (e : ℕ) (p q : Endpoint) : Type 0 where
   pub resets : (Delivers w s e ResetDone → ⊥) → q.resets ≡ p.resets
   pub done : (k : ℕ) → q.order_state k ≡ Done → (p.order_state k ≡ Done) ⊎ (PassesWait w s e k ⊎ CompletesOrder w s e k)
   pub done_on : (k : ℕ) → p.order_state k ≡ Done → q.order_state k ≡ Done
@@ -51,20 +51,20 @@ pub record Changes (w : World) (s : Step) (e : ℕ) (p q : Part) : Type 0 where
   pub noted : (b : ℕ) → q.stage b ≡ Stopping true → (p.stage b ≡ Stopping true) ⊎ ((p.phase ≡ Open) × Delivers w s e (MarkerOf b))
 
 -- what leaves all this
-pub record Same (p q : Part) : Type 0 where
+pub record Same (p q : Endpoint) : Type 0 where
   pub orders : q.orders ≡ p.orders
   pub state : (k : ℕ) → q.order_state k ≡ p.order_state k
   pub resets : q.resets ≡ p.resets
   pub noted : (b : ℕ) → q.stage b ≡ Stopping true → p.stage b ≡ Stopping true
 
-same_part : (p : Part) → Same p p
+same_part : (p : Endpoint) → Same p p
 same_part p = record { orders = refl; state = λ k. refl; resets = refl; noted = λ b h. h }
 
-same_more : (p q r : Part) → Same p q → Same q r → Same p r
+same_more : (p q r : Endpoint) → Same p q → Same q r → Same p r
 same_more p q r a b =
     record { orders = b.orders ∙ a.orders; state = λ k. b.state k ∙ a.state k; resets = b.resets ∙ a.resets; noted = λ x h. a.noted x (b.noted x h) }
 
-same_own : (p : Part) (n : ℕ) (o : Own) → is_calm_own o ≡ true → Same p (own p n o)
+same_own : (p : Endpoint) (n : ℕ) (o : LocalAct) → is_calm_own o ≡ true → Same p (own p n o)
 same_own p n o h =
     record {
       orders = grind (arith, nat_tests);
@@ -82,7 +82,7 @@ same_act w (NewBinding d) h e = same_part (w.part e)
 same_act w (NewJob d g) h e = same_part (w.part e)
 same_act w (Hold x j) h e = same_part (w.part e)
 same_act w (LetGo x) h e = same_part (w.part e)
-same_act w (At d o) h e =
+same_act w (AtEndpoint d o) h e =
     put_keeps (λ x q. Same (w.part x) q) w.part d (own (w.part d) w.messages o) (same_own (w.part d) w.messages o h) (λ x. same_part (w.part x)) e
 
 pub same_acts : (acts : List Act) (w : World) → are_calm acts ≡ true → (e : ℕ) → Same (w.part e) ((after_acts w acts).part e)
@@ -94,7 +94,7 @@ same_acts (a ∷ acts) w h e = go (is_calm a) refl h (λ k. same_acts acts (act 
     go true c h rest = same_more (w.part e) ((act w a).part e) ((after_acts (act w a) acts).part e) (same_act w a c e) (rest h)
     go false c h rest = absurd (cc)
 
-changes_nothing : (w : World) (s : Step) (e : ℕ) (p q : Part) → Same p q → Changes w s e p q
+changes_nothing : (w : World) (s : Step) (e : ℕ) (p q : Endpoint) → Same p q → Changes w s e p q
 changes_nothing w s e p q x =
     record {
       resets = λ none. x.resets;
@@ -107,7 +107,7 @@ changes_nothing w s e p q x =
     }
 
 -- an unmapping
-submitted_changes : (w : World) (s : Step) (e g : ℕ) (t : Bool) (p : Part) (o : Option ℕ) (q count order cookie : ℕ)
+submitted_changes : (w : World) (s : Step) (e g : ℕ) (t : Bool) (p : Endpoint) (o : Option ℕ) (q count order cookie : ℕ)
     → ((k : ℕ) → p.orders ≤ k → p.order_state k ≡ Void) → Changes w s e p (submitted_if t p o q count order cookie)
 submitted_changes w s e g true p (Some b) q count order cookie bo =
     record {
@@ -140,30 +140,30 @@ submitted_changes w s e g false p o q count order cookie bo = changes_nothing w 
 -- One act of an endpoint.
 
 -- what the step delivers, by the message that the act takes
-pub delivers : (w : World) (s : Step) (e c : ℕ) (a : Answer) (about : About) → reply w s ≡ Ok a → IsDelivery w s e c → (w.part e).message c
-    ≡ Some about → Delivers w s e about
-delivers w s e c a about h d m =
+pub delivers : (w : World) (s : Step) (e c : ℕ) (a : Answer) (subject : Subject) → reply w s ≡ Ok a → IsDelivery w s e c → (w.part e).message c
+    ≡ Some subject → Delivers w s e subject
+delivers w s e c a subject h d m =
     record {
       number = d.number;
       step_is = d.step_is;
       answer = a;
       accepted = h;
-      way_is = ap w.way d.name_is ∙ d.way_is;
+      way_is = ap w.link_of d.name_is ∙ d.way_is;
       speaks =
           ap (w.part e).message d.name_is ∙ m;
     }
 
-own_resets : (w : World) (s : Step) (e : ℕ) (a : Answer) (o : Own) → reply w s ≡ Ok a → IsBy w s e o a → LegalOwn w.mappings w.bindings (w.part e) o
+own_resets : (w : World) (s : Step) (e : ℕ) (a : Answer) (o : LocalAct) → reply w s ≡ Ok a → IsBy w s e o a → LegalLocalAct w.mappings w.bindings (w.part e) o
     → (Delivers w s e ResetDone → ⊥) → (own (w.part e) w.messages o).resets ≡ (w.part e).resets
-own_resets w s e a (Own.Reopen c) h by l none = absurd (none (delivers w s e c a ResetDone h by l.0))
+own_resets w s e a (LocalAct.Reopen c) h by l none = absurd (none (delivers w s e c a ResetDone h by l.0))
 own_resets w s e a _ h by l none = refl
 
-count_done : (b : Bool) (x : OrderState) → counted_if b x ≡ Done → (x ≡ Done) ⊎ ((b ≡ true) × ((count : ℕ) × (x ≡ Owing count 1)))
+count_done : (b : Bool) (x : OrderState) → counted_if b x ≡ Done → (x ≡ Done) ⊎ ((b ≡ true) × ((count : ℕ) × (x ≡ Completing count 1)))
 count_done false x h = inl h
 count_done true Done h = inl refl
-count_done true (Owing count (suc zero)) h = inr (refl, (count, refl))
-count_done true (Owing count zero) h = absurd (cc)
-count_done true (Owing count (suc (suc l))) h = absurd (cc)
+count_done true (Completing count (suc zero)) h = inr (refl, (count, refl))
+count_done true (Completing count zero) h = absurd (cc)
+count_done true (Completing count (suc (suc l))) h = absurd (cc)
 count_done true Queued h = absurd (cc)
 count_done true Sent h = absurd (cc)
 count_done true (Taken u) h = absurd (cc)
@@ -171,31 +171,32 @@ count_done true Lapsed h = absurd (cc)
 count_done true Void h = absurd (cc)
 
 -- the acts by which an order becomes done, or void
-abbrev pub ends_order : Own → Bool
-ends_order (Own.Pass k) = true
-ends_order (Own.Count c names) = true
-ends_order Own.Reset = true
-ends_order (Own.Reopen c) = true
+abbrev pub ends_order : LocalAct → Bool
+ends_order (LocalAct.Pass k) = true
+ends_order (LocalAct.Count c names) = true
+ends_order LocalAct.Reset = true
+ends_order (LocalAct.Reopen c) = true
 ends_order _ = false
 
-other_done : (ms : Mappings) (g n : ℕ) (p : Part) (o : Own) → LegalOwn ms g p o → ends_order o ≡ false → (k : ℕ) → (own p n o).order_state k ≡ Done
+other_done : (ms : Mappings) (g n : ℕ) (p : Endpoint) (o : LocalAct) → LegalLocalAct ms g p o → ends_order o ≡ false → (k : ℕ) → (own p n o).order_state k
+    ≡ Done
     → p.order_state k ≡ Done
 other_done ms g n p o l e k h = grind (arith, nat_tests)
 
-own_done : (w : World) (s : Step) (e : ℕ) (a : Answer) (o : Own) (b : Bool) → ends_order o ≡ b → reply w s ≡ Ok a → IsBy w s e o a
-    → LegalOwn w.mappings w.bindings (w.part e) o → (k : ℕ) → (own (w.part e) w.messages o).order_state k ≡ Done → ((w.part e).order_state k ≡ Done)
+own_done : (w : World) (s : Step) (e : ℕ) (a : Answer) (o : LocalAct) (b : Bool) → ends_order o ≡ b → reply w s ≡ Ok a → IsBy w s e o a
+    → LegalLocalAct w.mappings w.bindings (w.part e) o → (k : ℕ) → (own (w.part e) w.messages o).order_state k ≡ Done → ((w.part e).order_state k ≡ Done)
     ⊎ (PassesWait w s e k ⊎ CompletesOrder w s e k)
 own_done w s e a o false x h by l k d = inl (other_done w.mappings w.bindings w.messages (w.part e) o l x k d)
-own_done w s e a (Own.Pass j) true x h by l k d = go (ℕ_cases k j)
+own_done w s e a (LocalAct.Pass j) true x h by l k d = go (ℕ_cases k j)
   where
     go : (k ≡ j) ⊎ (k ≢ j) → ((w.part e).order_state k ≡ Done) ⊎ (PassesWait w s e k ⊎ CompletesOrder w s e k)
     go (inl same) =
         inr (inl (subst (λ z. PassesWait w s e z) (sym same)
         (record { step_is = by.0; answered = h ∙ ap (λ z. Ok z) by.1; at_head = by.2; is_a_wait = l.2; queued = l.1 })))
     go (inr ne) = inl (sym (put-other (w.part e).order_state j Done k ne) ∙ d)
-own_done w s e a (Own.Count c names) true x h by l k d = go (count_done (names k) ((w.part e).order_state k) d)
+own_done w s e a (LocalAct.Count c names) true x h by l k d = go (count_done (names k) ((w.part e).order_state k) d)
   where
-    go : ((w.part e).order_state k ≡ Done) ⊎ ((names k ≡ true) × ((count : ℕ) × ((w.part e).order_state k ≡ Owing count 1)))
+    go : ((w.part e).order_state k ≡ Done) ⊎ ((names k ≡ true) × ((count : ℕ) × ((w.part e).order_state k ≡ Completing count 1)))
         → ((w.part e).order_state k ≡ Done) ⊎ (PassesWait w s e k ⊎ CompletesOrder w s e k)
     go (inl y) = inl y
     go (inr y) = inr (inr (record {
@@ -207,28 +208,28 @@ own_done w s e a (Own.Count c names) true x h by l k d = go (count_done (names k
           y.1.0;
       one_left = y.1.1;
     }))
-own_done w s e a Own.Reset true x h by l k d = inl (before ((w.part e).order_state k) d)
+own_done w s e a LocalAct.Reset true x h by l k d = inl (before ((w.part e).order_state k) d)
   where
     before : (z : OrderState) → void_queued z ≡ Done → z ≡ Done
     before z y = grind arith
-own_done w s e a (Own.Reopen c) true x h by l k d = inl (before ((w.part e).order_state k) d)
+own_done w s e a (LocalAct.Reopen c) true x h by l k d = inl (before ((w.part e).order_state k) d)
   where
     before : (z : OrderState) → void_undone z ≡ Done → z ≡ Done
     before z y = grind arith
 own_done w s e a o true x h by l k d = absurd (grind arith)
 
 -- an invalidate in flight is of an order that was sent
-done_still : (ms : Mappings) (g n : ℕ) (p : Part) (o : Own) → LegalOwn ms g p o
+done_still : (ms : Mappings) (g n : ℕ) (p : Endpoint) (o : LocalAct) → LegalLocalAct ms g p o
     → ((c k : ℕ) → p.message c ≡ Some (InvalidateOf k) → p.order_state k ≡ Sent) → (k : ℕ) → (p.orders ≤ k → p.order_state k ≡ Void)
     → p.order_state k ≡ Done → (own p n o).order_state k ≡ Done
 done_still ms g n p o l sent k bo h = grind (arith, nat_tests)
 
-void_still : (ms : Mappings) (g n : ℕ) (p : Part) (o : Own) → LegalOwn ms g p o
+void_still : (ms : Mappings) (g n : ℕ) (p : Endpoint) (o : LocalAct) → LegalLocalAct ms g p o
     → ((c k : ℕ) → p.message c ≡ Some (InvalidateOf k) → p.order_state k ≡ Sent) → (k : ℕ) → k < p.orders → p.order_state k ≡ Void
     → (own p n o).order_state k ≡ Void
 void_still ms g n p o l sent k lt h = grind (arith, nat_tests)
 
-other_void : (ms : Mappings) (g n : ℕ) (p : Part) (o : Own) → LegalOwn ms g p o → ends_order o ≡ false → (k : ℕ) → k < p.orders
+other_void : (ms : Mappings) (g n : ℕ) (p : Endpoint) (o : LocalAct) → LegalLocalAct ms g p o → ends_order o ≡ false → (k : ℕ) → k < p.orders
     → (own p n o).order_state k ≡ Void → p.order_state k ≡ Void
 other_void ms g n p o l e k lt h = grind (arith, nat_tests)
 
@@ -238,7 +239,7 @@ void_from_queued Void h = inl refl
 void_from_queued Sent h = absurd (cc)
 void_from_queued (Taken u) h = absurd (cc)
 void_from_queued Lapsed h = absurd (cc)
-void_from_queued (Owing c l) h = absurd (cc)
+void_from_queued (Completing c l) h = absurd (cc)
 void_from_queued Done h = absurd (cc)
 
 void_from_undone : (x : OrderState) → void_undone x ≡ Void → x ≢ Done
@@ -247,51 +248,51 @@ void_from_undone x h e = absurd (cc (sym (ap void_undone e) ∙ h))
 count_void : (b : Bool) (x : OrderState) → counted_if b x ≡ Void → x ≡ Void
 count_void b x h = grind (arith, nat_tests)
 
-own_void : (w : World) (s : Step) (e : ℕ) (a : Answer) (o : Own) (b : Bool) → ends_order o ≡ b → reply w s ≡ Ok a → IsBy w s e o a
-    → LegalOwn w.mappings w.bindings (w.part e) o → (k : ℕ) → k < (w.part e).orders → (own (w.part e) w.messages o).order_state k ≡ Void
+own_void : (w : World) (s : Step) (e : ℕ) (a : Answer) (o : LocalAct) (b : Bool) → ends_order o ≡ b → reply w s ≡ Ok a → IsBy w s e o a
+    → LegalLocalAct w.mappings w.bindings (w.part e) o → (k : ℕ) → k < (w.part e).orders → (own (w.part e) w.messages o).order_state k ≡ Void
     → ((w.part e).order_state k ≡ Void)
     ⊎ ((((w.part e).order_state k ≡ Queued) × OrdersReset w s e) ⊎ (((w.part e).order_state k ≢ Done) × Delivers w s e ResetDone))
 own_void w s e a o false x h by l k lt d = inl (other_void w.mappings w.bindings w.messages (w.part e) o l x k lt d)
-own_void w s e a (Own.Pass j) true x h by l k lt d = go (ℕ_cases k j)
+own_void w s e a (LocalAct.Pass j) true x h by l k lt d = go (ℕ_cases k j)
   where
     go : (k ≡ j) ⊎ (k ≢ j) → ((w.part e).order_state k ≡ Void)
         ⊎ ((((w.part e).order_state k ≡ Queued) × OrdersReset w s e) ⊎ (((w.part e).order_state k ≢ Done) × Delivers w s e ResetDone))
     go (inl same) = absurd (cc (sym (subst (λ z. put (w.part e).order_state j Done z ≡ Done) (sym same) (put-same (w.part e).order_state j Done)) ∙ d))
     go (inr ne) = inl (sym (put-other (w.part e).order_state j Done k ne) ∙ d)
-own_void w s e a (Own.Count c names) true x h by l k lt d = inl (count_void (names k) ((w.part e).order_state k) d)
-own_void w s e a Own.Reset true x h by l k lt d = go (void_from_queued ((w.part e).order_state k) d)
+own_void w s e a (LocalAct.Count c names) true x h by l k lt d = inl (count_void (names k) ((w.part e).order_state k) d)
+own_void w s e a LocalAct.Reset true x h by l k lt d = go (void_from_queued ((w.part e).order_state k) d)
   where
     go : ((w.part e).order_state k ≡ Void) ⊎ ((w.part e).order_state k ≡ Queued) → ((w.part e).order_state k ≡ Void)
         ⊎ ((((w.part e).order_state k ≡ Queued) × OrdersReset w s e) ⊎ (((w.part e).order_state k ≢ Done) × Delivers w s e ResetDone))
     go (inl y) = inl y
     go (inr y) = inr (inl (y, record { step_is = by; answer = a; accepted = h }))
-own_void w s e a (Own.Reopen c) true x h by l k lt d = inr (inr (void_from_undone ((w.part e).order_state k) d, delivers w s e c a ResetDone h by l.0))
+own_void w s e a (LocalAct.Reopen c) true x h by l k lt d = inr (inr (void_from_undone ((w.part e).order_state k) d, delivers w s e c a ResetDone h by l.0))
 own_void w s e a o true x h by l k lt d = absurd (grind arith)
 
-new_queued : (ms : Mappings) (g n : ℕ) (p : Part) (o : Own) → LegalOwn ms g p o → (k : ℕ) → p.orders ≤ k → k < (own p n o).orders
+new_queued : (ms : Mappings) (g n : ℕ) (p : Endpoint) (o : LocalAct) → LegalLocalAct ms g p o → (k : ℕ) → p.orders ≤ k → k < (own p n o).orders
     → (own p n o).order_state k ≡ Queued
 new_queued ms g n p o l k low high = grind (arith, nat_tests)
 
-abbrev pub notes_marker : Own → Bool
-notes_marker (Own.Mark c b) = true
+abbrev pub notes_marker : LocalAct → Bool
+notes_marker (LocalAct.Mark c b) = true
 notes_marker _ = false
 
-other_noted : (p : Part) (n : ℕ) (o : Own) → notes_marker o ≡ false → (b : ℕ) → (own p n o).stage b ≡ Stopping true → p.stage b ≡ Stopping true
+other_noted : (p : Endpoint) (n : ℕ) (o : LocalAct) → notes_marker o ≡ false → (b : ℕ) → (own p n o).stage b ≡ Stopping true → p.stage b ≡ Stopping true
 other_noted p n o e b h = grind (arith, nat_tests)
 
-own_noted : (w : World) (s : Step) (e : ℕ) (a : Answer) (o : Own) (t : Bool) → notes_marker o ≡ t → reply w s ≡ Ok a → IsBy w s e o a
-    → LegalOwn w.mappings w.bindings (w.part e) o → (b : ℕ) → (own (w.part e) w.messages o).stage b ≡ Stopping true
+own_noted : (w : World) (s : Step) (e : ℕ) (a : Answer) (o : LocalAct) (t : Bool) → notes_marker o ≡ t → reply w s ≡ Ok a → IsBy w s e o a
+    → LegalLocalAct w.mappings w.bindings (w.part e) o → (b : ℕ) → (own (w.part e) w.messages o).stage b ≡ Stopping true
     → ((w.part e).stage b ≡ Stopping true) ⊎ (((w.part e).phase ≡ Open) × Delivers w s e (MarkerOf b))
 own_noted w s e a o false x h by l b d = inl (other_noted (w.part e) w.messages o x b d)
-own_noted w s e a (Own.Mark c i) true x h by l b d = go (ℕ_cases b i)
+own_noted w s e a (LocalAct.Mark c i) true x h by l b d = go (ℕ_cases b i)
   where
     go : (b ≡ i) ⊎ (b ≢ i) → ((w.part e).stage b ≡ Stopping true) ⊎ (((w.part e).phase ≡ Open) × Delivers w s e (MarkerOf b))
     go (inl same) = inr (l.1, subst (λ z. Delivers w s e (MarkerOf z)) (sym same) (delivers w s e c a (MarkerOf i) h by l.0))
     go (inr ne) = inl (sym (put-other (w.part e).stage i (marked ((w.part e).stage i)) b ne) ∙ d)
 own_noted w s e a o true x h by l b d = absurd (grind arith)
 
-own_changes : (w : World) (s : Step) (e : ℕ) (a : Answer) (o : Own) → Invariant w → reply w s ≡ Ok a → IsBy w s e o a
-    → LegalOwn w.mappings w.bindings (w.part e) o → Changes w s e (w.part e) (own (w.part e) w.messages o)
+own_changes : (w : World) (s : Step) (e : ℕ) (a : Answer) (o : LocalAct) → Invariant w → reply w s ≡ Ok a → IsBy w s e o a
+    → LegalLocalAct w.mappings w.bindings (w.part e) o → Changes w s e (w.part e) (own (w.part e) w.messages o)
 own_changes w s e a o i h by l =
     record {
       resets = own_resets w s e a o h by l;
@@ -307,7 +308,7 @@ own_changes w s e a o i h by l =
 pub changes : (w : World) (s : Step) (e : ℕ) → Invariant w → Changes w s e (w.part e) ((next w s).part e)
 changes w s e i = go (step_kind w s)
   where
-    first : (d : ℕ) (o : Own) → (decide w s).acts ≡ At d o ∷ [] → Legal w (At d o)
+    first : (d : ℕ) (o : LocalAct) → (decide w s).acts ≡ AtEndpoint d o ∷ [] → Legal w (AtEndpoint d o)
     first d o x = (subst (LegalAll w) x (step_legal w s i)).0
 
     go : Kind w s (decide w s) → Changes w s e (w.part e) ((next w s).part e)
@@ -324,9 +325,9 @@ changes w s e i = go (step_kind w s)
 
 -- And back: from what the step is to its act.
 
-pub delivered : (w : World) (s : Step) (e : ℕ) (about : About) → (d : Delivers w s e about) → (decide w s).acts
-    ≡ (about_outcome w (w.part e) e (Labels.name w d.number) about).acts
-delivered w s e about d =
+pub delivered : (w : World) (s : Step) (e : ℕ) (subject : Subject) → (d : Delivers w s e subject) → (decide w s).acts
+    ≡ (about_outcome w (w.part e) e (Labels.name w d.number) subject).acts
+delivered w s e subject d =
     ap (λ z. (decide w z).acts) d.step_is
     ∙ (accepted (refusals w (step.Deliver d.number)) (outcome w (step.Deliver d.number)) d.answer (sym (ap (reply w) d.step_is) ∙ d.accepted)).2
     ∙ ap (λ z. (deliver_outcome w (w.part z) z c ((w.part z).message c)).acts) d.way_is
@@ -335,17 +336,17 @@ delivered w s e about d =
     c : ℕ
     c = Labels.name w d.number
 
-part_after : (w : World) (s : Step) (e : ℕ) (o : Own) → (decide w s).acts ≡ At e o ∷ [] → (next w s).part e ≡ own (w.part e) w.messages o
+part_after : (w : World) (s : Step) (e : ℕ) (o : LocalAct) → (decide w s).acts ≡ AtEndpoint e o ∷ [] → (next w s).part e ≡ own (w.part e) w.messages o
 part_after w s e o h = ap (λ z. (after_acts w z).part e) h ∙ put-same w.part e (own (w.part e) w.messages o)
 
 reopens : (w : World) (s : Step) (e : ℕ) → (d : Delivers w s e ResetDone) → (next w s).part e
-    ≡ own (w.part e) w.messages (Own.Reopen (Labels.name w d.number))
-reopens w s e d = part_after w s e (Own.Reopen (Labels.name w d.number)) (delivered w s e ResetDone d)
+    ≡ own (w.part e) w.messages (LocalAct.Reopen (Labels.name w d.number))
+reopens w s e d = part_after w s e (LocalAct.Reopen (Labels.name w d.number)) (delivered w s e ResetDone d)
 
 completes : (w : World) (s : Step) (e k : ℕ) → CompletesOrder w s e k → ((next w s).part e).order_state k ≡ Done
 completes w s e k x =
     ap (λ p. p.order_state k)
-    (part_after w s e (Own.Count c x.names) (delivered w s e (InvalidatedOf x.names) x.delivers
+    (part_after w s e (LocalAct.Count c x.names) (delivered w s e (InvalidatedOf x.names) x.delivers
     ∙ ap (λ b. (count_outcome (w.part e) e c x.names b).acts) (ap is_open x.is_open)))
     ∙ ap (λ b. counted_if b ((w.part e).order_state k)) x.named
     ∙ ap counted x.one_left
@@ -353,40 +354,42 @@ completes w s e k x =
     c : ℕ
     c = Labels.name w x.delivers.number
 
-waits : (e k : ℕ) (b : Bool) → (wait_outcome e k b).answer ≡ answer.WaitDone → (wait_outcome e k b).acts ≡ At e (Own.Pass k) ∷ []
+waits : (e k : ℕ) (b : Bool) → (wait_outcome e k b).answer ≡ answer.WaitDone → (wait_outcome e k b).acts ≡ AtEndpoint e (LocalAct.Pass k) ∷ []
 waits e k true h = refl
 waits e k false h = absurd (cc)
 
-no_wait : (e k t : ℕ) (b : Bool) → (send_outcome e k t b).answer ≡ answer.WaitDone → (send_outcome e k t b).acts ≡ At e (Own.Pass k) ∷ []
+no_wait : (e k t : ℕ) (b : Bool) → (send_outcome e k t b).answer ≡ answer.WaitDone → (send_outcome e k t b).acts ≡ AtEndpoint e (LocalAct.Pass k) ∷ []
 no_wait e k t true h = absurd (cc)
 no_wait e k t false h = absurd (cc)
 
-head_waits : (p : Part) (e k : ℕ) (o : Order) → (head_outcome p e k o).answer ≡ answer.WaitDone → (head_outcome p e k o).acts ≡ At e (Own.Pass k) ∷ []
+head_waits : (p : Endpoint) (e k : ℕ) (o : Order) → (head_outcome p e k o).answer ≡ answer.WaitDone → (head_outcome p e k o).acts
+    ≡ AtEndpoint e (LocalAct.Pass k) ∷ []
 head_waits p e k (Wait cookie drain) h = waits e k (may_pass p drain) h
 head_waits p e k (RangeOf b q) h = no_wait e k (Labels.lowest_label 32 p.at_itag) _ h
 head_waits p e k (PasidOf b) h = no_wait e k (Labels.lowest_label 32 p.at_itag) _ h
 
-pump_waits : (p : Part) (e : ℕ) (b : Bool) → (pump_outcome p e b).answer ≡ answer.WaitDone → (pump_outcome p e b).acts ≡ At e (Own.Pass (Labels.head p)) ∷ []
+pump_waits : (p : Endpoint) (e : ℕ) (b : Bool) → (pump_outcome p e b).answer ≡ answer.WaitDone → (pump_outcome p e b).acts
+    ≡ AtEndpoint e (LocalAct.Pass (Labels.head p)) ∷ []
 pump_waits p e true h = absurd (cc)
 pump_waits p e false h = head_waits p e (Labels.head p) (p.order (Labels.head p)) h
 
 passes : (w : World) (s : Step) (e k : ℕ) → PassesWait w s e k → ((next w s).part e).order_state k ≡ Done
 passes w s e k x =
-    ap (λ p. p.order_state k) (part_after w s e (Own.Pass (Labels.head (w.part e))) acts)
+    ap (λ p. p.order_state k) (part_after w s e (LocalAct.Pass (Labels.head (w.part e))) acts)
     ∙ ap (λ z. put (w.part e).order_state z Done k) x.at_head
     ∙ put-same (w.part e).order_state k Done
   where
     done : (outcome w (step.Pump e)).answer ≡ answer.WaitDone × ((decide w (step.Pump e)).acts ≡ (outcome w (step.Pump e)).acts)
     done = let y = accepted (refusals w (step.Pump e)) (outcome w (step.Pump e)) answer.WaitDone (sym (ap (reply w) x.step_is) ∙ x.answered) in (y.1, y.2)
 
-    acts : (decide w s).acts ≡ At e (Own.Pass (Labels.head (w.part e))) ∷ []
+    acts : (decide w s).acts ≡ AtEndpoint e (LocalAct.Pass (Labels.head (w.part e))) ∷ []
     acts = ap (λ z. (decide w z).acts) x.step_is ∙ done.1 ∙ pump_waits (w.part e) e (Labels.is_queue_empty (w.part e)) done.0
 
 resets_queued : (w : World) (s : Step) (e k : ℕ) → (w.part e).order_state k ≡ Queued → OrdersReset w s e → ((next w s).part e).order_state k ≡ Void
 resets_queued w s e k q x =
-    ap (λ p. p.order_state k) (part_after w s e Own.Reset acts) ∙ ap void_queued q
+    ap (λ p. p.order_state k) (part_after w s e LocalAct.Reset acts) ∙ ap void_queued q
   where
-    acts : (decide w s).acts ≡ At e Own.Reset ∷ []
+    acts : (decide w s).acts ≡ AtEndpoint e LocalAct.Reset ∷ []
     acts = ap (λ z. (decide w z).acts) x.step_is
         ∙ (accepted (refusals w (step.Reset e)) (outcome w (step.Reset e)) x.answer (sym (ap (reply w) x.step_is) ∙ x.accepted)).2
 
@@ -396,13 +399,13 @@ undone_void Queued h = refl
 undone_void Sent h = refl
 undone_void (Taken u) h = refl
 undone_void Lapsed h = refl
-undone_void (Owing c l) h = refl
+undone_void (Completing c l) h = refl
 undone_void Void h = refl
 
 marks : (w : World) (s : Step) (e b : ℕ) → Invariant w → (w.part e).phase ≡ Open → (d : Delivers w s e (MarkerOf b)) → ((next w s).part e).stage b
     ≡ Stopping true
 marks w s e b i ph d =
-    ap (λ p. p.stage b) (part_after w s e (Own.Mark c b) (delivered w s e (MarkerOf b) d ∙ ap (λ t. (marker_outcome e c b t).acts) (ap is_open ph)))
+    ap (λ p. p.stage b) (part_after w s e (LocalAct.Mark c b) (delivered w s e (MarkerOf b) d ∙ ap (λ t. (marker_outcome e c b t).acts) (ap is_open ph)))
     ∙ put-same (w.part e).stage b (marked ((w.part e).stage b))
     ∙ ap marked ((i.parts e).bindings.marker_stage c b d.speaks)
   where

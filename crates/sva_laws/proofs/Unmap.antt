@@ -2,8 +2,8 @@
 use Rattle.std.proofs.Common.{◌≡◌, ◌≢◌, ◌⊎◌, inl, inr, refl, ap, sym, subst, ◌∙◌, ℕ, ◌+◌, ◌*◌, ◌^◌, ◌<◌, Bool, true, false, arith}
 use Rattle.std.specs.Prelude.{Option, Some, None, ◌&&◌, ◌==◌, not, if◌then◌else◌}
 use Rattle.std.proofs.lemmas.Bool.Decides.{nat_tests}
-use Rattle.sva_model.specs.State.{Owed, MappingState, Mappings, Part, World, Stage}
-use Rattle.sva_model.specs.State.Owed.{Nothing, Ranges, Pasid, AReset}
+use Rattle.sva_model.specs.State.{Owed, MappingState, Mappings, Endpoint, World, Stage}
+use Rattle.sva_model.specs.State.Owed.{Nothing, Ranges, Pasid, NextReset}
 use Rattle.sva_model.specs.State.MappingState.{Unmade, Present, Gone}
 use Rattle.sva_model.specs.State.Stage.{Unbound, Live, Stopping, Draining, Invalidating, Quiet, Lost, Released}
 use Rattle.sva_model.specs.State.Order.{RangeOf, Wait}
@@ -24,7 +24,7 @@ use Rattle.sva_laws.proofs.Invariant.{Invariant}
 use Rattle.sva_laws.proofs.Ranges.{range_of, order_covers}
 
 -- a translation of a mapping, where some mappings go
-pub safe_without : (ms : Mappings) (e : ℕ) (p p' : Part) (b m age : ℕ) (t : Bool) (owed : ℕ → Owed) → IsSafe ms e p b m age
+pub safe_without : (ms : Mappings) (e : ℕ) (p p' : Endpoint) (b m age : ℕ) (t : Bool) (owed : ℕ → Owed) → IsSafe ms e p b m age
     → ((v : Owed) → Pending p b (ms.page m) age v → Pending p' b (ms.page m) age v)
     → (t ≡ true → ms.state m ≡ Present → Pending p' b (ms.page m) age (owed e)) → (gone_if t owed (ms.state m) ≡ Present)
     ⊎ Pending p' b (ms.page m) age (owed_of (gone_if t owed (ms.state m)) e)
@@ -44,19 +44,19 @@ safe_without ms e p p' b m age t owed sa keep new = go (ms.state m) t refl refl 
     go (Gone v) false a c (inr h) = inr (keep (v e) h)
 
 -- what was pending stays so while orders are submitted
-ahead_submitted : (g b' q' count order cookie : ℕ) (p : Part) (b q age first n resets k : ℕ) → IsAhead p b q age first n resets k
+ahead_submitted : (g b' q' count order cookie : ℕ) (p : Endpoint) (b q age first n resets k : ℕ) → IsAhead p b q age first n resets k
     → IsAhead (submitted p b' q' count order cookie) b q age first n resets k
 ahead_submitted g b' q' count order cookie p b q age first n resets k h = grind (arith, nat_tests)
 
-pending_submitted : (g b' q' count order cookie : ℕ) (p : Part) → Bounds g p → (b q age : ℕ) (v : Owed) → Pending p b q age v
+pending_submitted : (g b' q' count order cookie : ℕ) (p : Endpoint) → Bounds g p → (b q age : ℕ) (v : Owed) → Pending p b q age v
     → Pending (submitted p b' q' count order cookie) b q age v
 pending_submitted g b' q' count order cookie p bo b q age Nothing h = h
 pending_submitted g b' q' count order cookie p bo b q age (Ranges first n resets) h =
     (h.0, ahead_submitted g b' q' count order cookie p b q age first n resets h.0 h.1)
 pending_submitted g b' q' count order cookie p bo b q age (Pasid k w resets c0) h = h
-pending_submitted g b' q' count order cookie p bo b q age (AReset resets) h = h
+pending_submitted g b' q' count order cookie p bo b q age (NextReset resets) h = h
 
-pending_submitted_if : (g : ℕ) (s : Bool) (o : Option ℕ) (q' count order cookie : ℕ) (p : Part) → Bounds g p → (b q age : ℕ) (v : Owed)
+pending_submitted_if : (g : ℕ) (s : Bool) (o : Option ℕ) (q' count order cookie : ℕ) (p : Endpoint) → Bounds g p → (b q age : ℕ) (v : Owed)
     → Pending p b q age v → Pending (submitted_if s p o q' count order cookie) b q age v
 pending_submitted_if g true (Some b') q' count order cookie p bo b q age v h = pending_submitted g b' q' count order cookie p bo b q age v h
 pending_submitted_if g true None q' count order cookie p bo b q age v h = h
@@ -84,10 +84,10 @@ bound_is w e b s i u sp =
         spaces : (is_unreleased ((w.part e).stage k) && (w.part e).space k == s) ≡ true → (w.part e).space k ≡ (w.part e).space b
         spaces h = grind (arith, nat_tests)
 
-pub open_is : (p : Part) → is_open p.phase ≡ true → p.phase ≡ Open
+pub open_is : (p : Endpoint) → is_open p.phase ≡ true → p.phase ≡ Open
 open_is p h = grind arith
 
-new_open : (p : Part) (b q page count order age cookie j : ℕ) → p.phase ≡ Open → j < count → is_in (range_at page order j) q ≡ true
+new_open : (p : Endpoint) (b q page count order age cookie j : ℕ) → p.phase ≡ Open → j < count → is_in (range_at page order j) q ≡ true
     → IsAhead (submitted p b page count order cookie) b q age p.orders count p.resets (p.orders + j)
 new_open p b q page count order age cookie j ph l h =
     (refl, omega arith, omega (arith, l), order_covers p b page count order cookie q j l h, is_a_wait, omega arith, inr (ph, wait_queued, strikes))
@@ -105,7 +105,7 @@ new_open p b q page count order age cookie j ph l h =
     strikes = ap (λ s. blocks s age) own_queued
 
 -- what an active binding's endpoint owes for a page that is taken out now
-new_pending : (p : Part) (b q page count order age cookie : ℕ) → is_active (p.stage b) ≡ true → in_range page (count * 2 ^ order) q ≡ true
+new_pending : (p : Endpoint) (b q page count order age cookie : ℕ) → is_active (p.stage b) ≡ true → in_range page (count * 2 ^ order) q ≡ true
     → Pending (submitted_if (submits_at p (Some b)) p (Some b) page count order cookie) b q age (owed_by p count (Some b))
 new_pending p b q page count order age cookie act inside =
     subst (λ s. Pending (submitted_if (is_open p.phase && is_before_invalidating s) p (Some b) page count order cookie) b q age

@@ -5,25 +5,25 @@ use Rattle.std.specs.Prelude.{Option, Some, None, List, [], ◌∷◌, ◌++◌}
 use Rattle.std.proofs.lemmas.Bool.Decides.{nat_tests}
 use Rattle.sva_step.specs.declared.limits.Config.{Config}
 use Rattle.sva_step.specs.declared.steps.Step.{Step}
-use Rattle.sva_model.specs.State.{Part, Phase, World, opened}
+use Rattle.sva_model.specs.State.{Endpoint, Phase, World, opened}
 use Rattle.sva_model.specs.State.OrderState.{Void}
 use Rattle.sva_model.specs.State.Phase.{Open, Ordered, Cleared}
-use Rattle.sva_model.specs.Acts.{Act, Own, act, own, submitted, submitted_if, submits, bound, cookie_of}
-use Rattle.sva_model.specs.Acts.Act.{NewSpace, DropSpace, Map, Unmap, NewBinding, NewJob, Hold, LetGo, At}
+use Rattle.sva_model.specs.Acts.{Act, LocalAct, act, own, submitted, submitted_if, submits, bound, cookie_of}
+use Rattle.sva_model.specs.Acts.Act.{NewSpace, DropSpace, Map, Unmap, NewBinding, NewJob, Hold, LetGo, AtEndpoint}
 use Rattle.sva_model.specs.Steps.{decide, next, run, after_acts, world_after}
 use Rattle.sva_laws.specs.UnitSteps.{IsVoidByReset}
 use Rattle.sva_laws.proofs.Keeps.{put_keeps}
 use Rattle.sva_laws.proofs.Lookback.{run_append}
 
-pub record Since (p q : Part) : Type 0 where
+pub record Since (p q : Endpoint) : Type 0 where
   pub resets : p.resets ≤ q.resets
   pub opened : q.phase ≡ Open → (p.phase ≡ Open) ⊎ (p.resets < q.resets)
   pub void : (k : ℕ) → k < q.orders → q.order_state k ≡ Void → q.phase ≡ Open → ((k < p.orders) × (p.order_state k ≡ Void)) ⊎ (p.resets < q.resets)
 
-since_same : (p : Part) → Since p p
+since_same : (p : Endpoint) → Since p p
 since_same p = record { resets = omega arith; opened = λ h. inl h; void = λ k lt h o. inl (lt, h) }
 
-since_more : (p q r : Part) → Since p q → Since q r → Since p r
+since_more : (p q r : Endpoint) → Since p q → Since q r → Since p r
 since_more p q r a b =
     record {
       resets = omega (arith, a.resets, b.resets);
@@ -47,7 +47,7 @@ since_more p q r a b =
     from k (inl h) (inr o) = inr (up o)
     from k (inl h) (inl o) = elim (a.void k h.0 h.1 o) [ inl x ↦ inl x | inr y ↦ inr (on y) ]
 
-since_own : (p : Part) (n : ℕ) (o : Own) → Since p (own p n o)
+since_own : (p : Endpoint) (n : ℕ) (o : LocalAct) → Since p (own p n o)
 since_own p n o =
     record {
       resets = grind (arith, nat_tests);
@@ -55,7 +55,7 @@ since_own p n o =
       void = λ k lt h ph. grind (arith, nat_tests);
     }
 
-since_submitted : (t : Bool) (p : Part) (o : Option ℕ) (q count order cookie : ℕ) → Since p (submitted_if t p o q count order cookie)
+since_submitted : (t : Bool) (p : Endpoint) (o : Option ℕ) (q count order cookie : ℕ) → Since p (submitted_if t p o q count order cookie)
 since_submitted true p (Some b) q count order cookie = record { resets = omega arith; opened = λ h. inl h; void = λ k lt h ph. inl (was_void k lt h) }
   where
     was_void : (k : ℕ) → k < p.orders + suc count → (submitted p b q count order cookie).order_state k ≡ Void → (k < p.orders) × (p.order_state k ≡ Void)
@@ -72,7 +72,7 @@ since_act w (NewBinding d) e = since_same (w.part e)
 since_act w (NewJob d g) e = since_same (w.part e)
 since_act w (Hold x j) e = since_same (w.part e)
 since_act w (LetGo x) e = since_same (w.part e)
-since_act w (At d o) e =
+since_act w (AtEndpoint d o) e =
     put_keeps (λ x q. Since (w.part x) q) w.part d (own (w.part d) w.messages o) (since_own (w.part d) w.messages o) (λ x. since_same (w.part x)) e
 
 since_acts : (acts : List Act) (w : World) (e : ℕ) → Since (w.part e) ((after_acts w acts).part e)
@@ -83,7 +83,7 @@ since_run : (ss : List Step) (w : World) (e : ℕ) → Since (w.part e) ((run w 
 since_run [] w e = since_same (w.part e)
 since_run (s ∷ ss) w e = since_more (w.part e) ((next w s).part e) ((run (next w s) ss).part e) (since_acts (decide w s).acts w e) (since_run ss (next w s) e)
 
-void_by_reset : (p q : Part) → Since p q → IsVoidByReset p q
+void_by_reset : (p q : Endpoint) → Since p q → IsVoidByReset p q
 void_by_reset p q x = record { void = λ k lt h. go k lt h q.phase refl }
   where
     go : (k : ℕ) → k < q.orders → q.order_state k ≡ Void → (f : Phase) → q.phase ≡ f → ((k < p.orders) × (p.order_state k ≡ Void))

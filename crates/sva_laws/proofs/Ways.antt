@@ -5,17 +5,17 @@ use Rattle.std.specs.Prelude.{Option, Some, None, ◌==◌, List, [], ◌∷◌}
 use Rattle.std.proofs.lemmas.Bool.Decides.{nat_tests}
 use Rattle.sva_step.specs.declared.limits.Config.{Config}
 use Rattle.sva_step.specs.declared.steps.Step.{Step}
-use Rattle.sva_model.specs.State.{About, Mappings, Part, World, opened}
+use Rattle.sva_model.specs.State.{Subject, Mappings, Endpoint, World, opened}
 use Rattle.sva_model.specs.State.OrderState.{Sent}
-use Rattle.sva_model.specs.State.GroupState.{Unfinished, Finished}
+use Rattle.sva_model.specs.State.GroupState.{Collecting, Closed}
 use Rattle.sva_model.specs.State.HostGroupState.{NotFiled, Replied}
-use Rattle.sva_model.specs.State.About.{RequestOf, CompletionOf, InvalidateOf, ResponseOf, ResetDone}
+use Rattle.sva_model.specs.State.Subject.{RequestOf, CompletionOf, InvalidateOf, ResponseOf, ResetDone}
 use Rattle.sva_model.specs.State.Phase.{Open}
 use Rattle.sva_model.specs.States.{is_out}
-use Rattle.sva_model.specs.Acts.{Act, Own, act, own, submitted, submitted_if, submits, bound, cookie_of}
-use Rattle.sva_model.specs.Acts.Act.{NewSpace, DropSpace, Map, Unmap, NewBinding, NewJob, Hold, LetGo, At}
+use Rattle.sva_model.specs.Acts.{Act, LocalAct, act, own, submitted, submitted_if, submits, bound, cookie_of}
+use Rattle.sva_model.specs.Acts.Act.{NewSpace, DropSpace, Map, Unmap, NewBinding, NewJob, Hold, LetGo, AtEndpoint}
 use Rattle.sva_model.specs.Steps.{decide, next, run, after_acts, world_after}
-use Rattle.sva_laws.proofs.Legal.{LegalOwn}
+use Rattle.sva_laws.proofs.Legal.{LegalLocalAct}
 use Rattle.sva_laws.proofs.Bounds.{Bounds}
 use Rattle.sva_laws.proofs.PageRequests.{Lasts, is_whole}
 use Rattle.sva_laws.specs.Laws.{is_answerable}
@@ -25,47 +25,48 @@ use Rattle.sva_laws.proofs.Passed.{LegalAll}
 use Rattle.sva_laws.proofs.Runs.{step_legal, next_keeps, opened_invariant}
 
 -- is it a translation request's message, there or back?
-abbrev pub is_of_request : (request : ℕ) → Option About → Bool
+abbrev pub is_of_request : (request : ℕ) → Option Subject → Bool
 is_of_request r (Some (RequestOf x)) = x == r
 is_of_request r (Some (CompletionOf x found)) = x == r
 is_of_request r _ = false
 
-abbrev pub is_response_to : (group : ℕ) → Option About → Bool
+abbrev pub is_response_to : (group : ℕ) → Option Subject → Bool
 is_response_to g (Some (ResponseOf x code)) = x == g
 is_response_to g _ = false
 
-pub record Ways (p : Part) : Type 0 where
+pub record Ways (p : Endpoint) : Type 0 where
   pub sent : (k : ℕ) → p.order_state k ≡ Sent → p.message (p.invalidate_message k) ≡ Some (InvalidateOf k)
   pub out : (r : ℕ) → p.phase ≡ Open → is_out (p.request r) ≡ true → is_of_request r (p.message (p.request_message r)) ≡ true
   pub response : (g : ℕ) → p.phase ≡ Open → is_answerable (p.group g) ≡ true → p.host_group g ≡ Replied
       → is_response_to g (p.message (p.response_message g)) ≡ true
 
-sent_kept : (ms : Mappings) (g n k : ℕ) (p : Part) (o : Own) → LegalOwn ms g p o
+sent_kept : (ms : Mappings) (g n k : ℕ) (p : Endpoint) (o : LocalAct) → LegalLocalAct ms g p o
     → (n ≤ p.invalidate_message k → p.message (p.invalidate_message k) ≡ None)
     → (p.order_state k ≡ Sent → p.message (p.invalidate_message k) ≡ Some (InvalidateOf k)) → (own p n o).order_state k ≡ Sent
     → (own p n o).message ((own p n o).invalidate_message k) ≡ Some (InvalidateOf k)
 sent_kept ms g n k p o l un old h = grind (arith, nat_tests)
 
-out_kept : (ms : Mappings) (g n r : ℕ) (p : Part) (o : Own) → LegalOwn ms g p o → (n ≤ p.request_message r → p.message (p.request_message r) ≡ None)
+out_kept : (ms : Mappings) (g n r : ℕ) (p : Endpoint) (o : LocalAct) → LegalLocalAct ms g p o
+    → (n ≤ p.request_message r → p.message (p.request_message r) ≡ None)
     → ((c : ℕ) → p.message c ≡ Some ResetDone → is_out (p.request r) ≡ false)
     → ((c d x : ℕ) (f : Option ℕ) → p.message c ≡ Some (CompletionOf x f) → p.message d ≡ Some (RequestOf x) → ⊥)
     → (p.phase ≡ Open → is_out (p.request r) ≡ true → is_of_request r (p.message (p.request_message r)) ≡ true) → (own p n o).phase ≡ Open
     → is_out ((own p n o).request r) ≡ true → is_of_request r ((own p n o).message ((own p n o).request_message r)) ≡ true
 out_kept ms g n r p o l un re both old ph h = grind (arith, nat_tests)
 
-response_kept : (ms : Mappings) (g n x : ℕ) (p : Part) (o : Own) → LegalOwn ms g p o
+response_kept : (ms : Mappings) (g n x : ℕ) (p : Endpoint) (o : LocalAct) → LegalLocalAct ms g p o
     → (n ≤ p.response_message x → p.message (p.response_message x) ≡ None) → (p.groups ≤ x → p.host_group x ≡ NotFiled)
-    → (p.host_group x ≡ Replied → p.group x ≢ Unfinished) → ((c : ℕ) → p.message c ≡ Some ResetDone → p.group x ≡ Finished)
+    → (p.host_group x ≡ Replied → p.group x ≢ Collecting) → ((c : ℕ) → p.message c ≡ Some ResetDone → p.group x ≡ Closed)
     → (p.phase ≡ Open → is_answerable (p.group x) ≡ true → p.host_group x ≡ Replied → is_response_to x (p.message (p.response_message x)) ≡ true)
     → (own p n o).phase ≡ Open → is_answerable ((own p n o).group x) ≡ true → (own p n o).host_group x ≡ Replied
     → is_response_to x ((own p n o).message ((own p n o).response_message x)) ≡ true
 response_kept ms g n x p o l un made whole re old ph a h = grind (arith, nat_tests)
 
 -- a group whose response was sent is whole
-whole_of : (p : Part) → Lasts p → (x : ℕ) → p.host_group x ≡ Replied → p.group x ≢ Unfinished
+whole_of : (p : Endpoint) → Lasts p → (x : ℕ) → p.host_group x ≡ Replied → p.group x ≢ Collecting
 whole_of p la x h = la.whole_group x (ap is_whole h)
 
-pub every : (ms : Mappings) (x g n e : ℕ) (p : Part) (o : Own) → LegalOwn ms g p o → PartInvariant ms x g n e p → Ways p → Ways (own p n o)
+pub every : (ms : Mappings) (x g n e : ℕ) (p : Endpoint) (o : LocalAct) → LegalLocalAct ms g p o → PartInvariant ms x g n e p → Ways p → Ways (own p n o)
 every ms x g n e p o l i wa =
     record {
       sent = λ k h. sent_kept ms g n k p o l (i.resets.unsent (p.invalidate_message k)) (wa.sent k) h;
@@ -75,12 +76,12 @@ every ms x g n e p o l i wa =
           (λ c m. i.resets.finished c y (i.resets.up c m)) (wa.response y) ph a h;
     }
 
-submitted_sent : (g b q count order cookie k : ℕ) (p : Part) → Bounds g p
+submitted_sent : (g b q count order cookie k : ℕ) (p : Endpoint) → Bounds g p
     → (p.order_state k ≡ Sent → p.message (p.invalidate_message k) ≡ Some (InvalidateOf k)) → (submitted p b q count order cookie).order_state k
     ≡ Sent → p.message (p.invalidate_message k) ≡ Some (InvalidateOf k)
 submitted_sent g b q count order cookie k p bo old h = grind (arith, nat_tests)
 
-submitted_ways : (g : ℕ) (t : Bool) (p : Part) (o : Option ℕ) (q count order cookie : ℕ) → Bounds g p → Ways p
+submitted_ways : (g : ℕ) (t : Bool) (p : Endpoint) (o : Option ℕ) (q count order cookie : ℕ) → Bounds g p → Ways p
     → Ways (submitted_if t p o q count order cookie)
 submitted_ways g true p (Some b) q count order cookie bo wa =
     record { sent = λ k h. submitted_sent g b q count order cookie k p bo (wa.sent k) h; out = wa.out; response = wa.response }
@@ -100,7 +101,7 @@ act_ways w (NewBinding e) l i h = h
 act_ways w (NewJob e g) l i h = h
 act_ways w (Hold x j) l i h = h
 act_ways w (LetGo x) l i h = h
-act_ways w (At e o) l i h =
+act_ways w (AtEndpoint e o) l i h =
     put_keeps (λ k p. Ways p) w.part e (own (w.part e) w.messages o)
     (every w.mappings w.config.endpoints w.bindings w.messages e (w.part e) o l.1.0 (i.parts e) (h e)) h
 

@@ -7,7 +7,7 @@ use Rattle.std.proofs.lemmas.Bool.Decides.{nat_tests}
 use Rattle.sva_step.specs.declared.limits.Config.{Config}
 use Rattle.sva_step.specs.declared.steps.Step.{Step}
 use Rattle.sva_model.specs.Words.{all_below, put_range}
-use Rattle.sva_model.specs.State.{Owed, OrderState, MappingState, Part, World, Stage, opened}
+use Rattle.sva_model.specs.State.{Owed, OrderState, MappingState, Endpoint, World, Stage, opened}
 use Rattle.sva_model.specs.State.Owed.{Ranges}
 use Rattle.sva_model.specs.State.MappingState.{Unmade, Present, Gone}
 use Rattle.sva_model.specs.State.Stage.{Unbound, Live, Stopping, Draining, Invalidating, Quiet, Lost, Released}
@@ -40,11 +40,11 @@ done_is x h = grind arith
 is_done_of : (x : OrderState) → x ≡ Done → is_done x ≡ true
 is_done_of x h = ap is_done h
 
-resets_same : (t : Bool) (p : Part) (b q count order cookie : ℕ) → (submitted_if t p (Some b) q count order cookie).resets ≡ p.resets
+resets_same : (t : Bool) (p : Endpoint) (b q count order cookie : ℕ) → (submitted_if t p (Some b) q count order cookie).resets ≡ p.resets
 resets_same true p b q count order cookie = refl
 resets_same false p b q count order cookie = refl
 
-orders_more : (t : Bool) (p : Part) (b q count order cookie : ℕ) → t ≡ true → (submitted_if t p (Some b) q count order cookie).orders ≡ p.orders + suc count
+orders_more : (t : Bool) (p : Endpoint) (b q count order cookie : ℕ) → t ≡ true → (submitted_if t p (Some b) q count order cookie).orders ≡ p.orders + suc count
 orders_more true p b q count order cookie h = refl
 orders_more false p b q count order cookie h = absurd (cc)
 
@@ -67,7 +67,7 @@ less a b h = grind (arith, nat_tests)
 less_is : (a b : ℕ) → nat_lt a b ≡ true → a < b
 less_is a b h = grind (arith, nat_tests)
 
-stage_by_reset : (was now : Part) (count : ℕ) (s : Stage) (o : Bool) → is_open was.phase ≡ o → was.resets < now.resets
+stage_by_reset : (was now : Endpoint) (count : ℕ) (s : Stage) (o : Bool) → is_open was.phase ≡ o → was.resets < now.resets
     → answered now (owed_by_stage was count s) ≡ true
 stage_by_reset was now count Unbound o e l = refl
 stage_by_reset was now count Live o e l = grind (arith, nat_tests)
@@ -78,12 +78,12 @@ stage_by_reset was now count Quiet o e l = refl
 stage_by_reset was now count Lost o e l = refl
 stage_by_reset was now count Released o e l = refl
 
-range_done : (now : Part) (from count : ℕ) → AreDone now from (from + suc count) → all_below (suc count) (λ j. is_done (now.order_state (from + j))) ≡ true
+range_done : (now : Endpoint) (from count : ℕ) → AreDone now from (from + suc count) → all_below (suc count) (λ j. is_done (now.order_state (from + j))) ≡ true
 range_done now from count dn =
     all_below-intro (suc count) (λ j. is_done (now.order_state (from + j)))
     (λ j l. is_done_of (now.order_state (from + j)) (dn (from + j) (omega arith) (omega arith)))
 
-done_range : (now : Part) (from count : ℕ) → all_below (suc count) (λ j. is_done (now.order_state (from + j))) ≡ true → AreDone now from (from + suc count)
+done_range : (now : Endpoint) (from count : ℕ) → all_below (suc count) (λ j. is_done (now.order_state (from + j))) ≡ true → AreDone now from (from + suc count)
 done_range now from count all k l h =
     subst (λ z. now.order_state z ≡ Done) sum
     (done_is (now.order_state (from + (k - from))) (all_below-true (suc count) (λ j. is_done (now.order_state (from + j))) all (k - from) (omega arith)))
@@ -92,21 +92,21 @@ done_range now from count all k l h =
     sum = omega arith
 
 -- what the unit submits for the binding is done: so all that it owes
-ranges_done : (was now : Part) (count : ℕ) → AreDone now was.orders (was.orders + suc count) → answered now (Ranges was.orders count was.resets) ≡ true
+ranges_done : (was now : Endpoint) (count : ℕ) → AreDone now was.orders (was.orders + suc count) → answered now (Ranges was.orders count was.resets) ≡ true
 ranges_done was now count dn =
     or_first (all_below (suc count) (λ j. is_done (now.order_state (was.orders + j)))) (nat_lt was.resets now.resets) (range_done now was.orders count dn)
 
-before_submits : (was : Part) (b : ℕ) → was.phase ≡ Open → IsBeforeInvalidating was b → submits_at was (Some b) ≡ true
+before_submits : (was : Endpoint) (b : ℕ) → was.phase ≡ Open → IsBeforeInvalidating was b → submits_at was (Some b) ≡ true
 before_submits was b ph (inl h) = grind arith
 before_submits was b ph (inr (inl h)) = let e = h.1 in grind arith
 before_submits was b ph (inr (inr h)) = let e = h.1 in grind arith
 
-before_owes : (was : Part) (b count : ℕ) → was.phase ≡ Open → IsBeforeInvalidating was b → owed_by was count (Some b) ≡ Ranges was.orders count was.resets
+before_owes : (was : Endpoint) (b count : ℕ) → was.phase ≡ Open → IsBeforeInvalidating was b → owed_by was count (Some b) ≡ Ranges was.orders count was.resets
 before_owes was b count ph (inl h) = grind arith
 before_owes was b count ph (inr (inl h)) = let e = h.1 in grind arith
 before_owes was b count ph (inr (inr h)) = let e = h.1 in grind arith
 
-pub answered_if : (was now then : Part) (b page q count order cookie : ℕ)
+pub answered_if : (was now then : Endpoint) (b page q count order cookie : ℕ)
     → then ≡ submitted_if (submits_at was (Some b)) was (Some b) q count order cookie → HasAnswered was then now b page
     → answered now (owed_by was count (Some b)) ≡ true
 answered_if was now then b page q count order cookie e (was_done (inl h)) = ap (λ s. answered now (owed_by_stage was count s)) h
@@ -124,14 +124,14 @@ answered_if was now then b page q count order cookie e (was_reset l) =
     stage_by_reset was now count (was.stage b) (is_open was.phase) refl
     (subst (λ z. z < now.resets) (ap (λ p. p.resets) e ∙ resets_same (submits_at was (Some b)) was b q count order cookie) l)
 
-then_resets : (was now then : Part) (b page q count order cookie : ℕ)
+then_resets : (was now then : Endpoint) (b page q count order cookie : ℕ)
     → then ≡ submitted_if (submits_at was (Some b)) was (Some b) q count order cookie → nat_lt was.resets now.resets ≡ true → HasAnswered was then now b page
 then_resets was now then b page q count order cookie e h =
     was_reset (subst (λ z. z < now.resets) (sym (ap (λ p. p.resets) e ∙ resets_same (submits_at was (Some b)) was b q count order cookie))
     (less_is was.resets now.resets h))
 
 -- what is submitted for the binding: its page invalidations, and the wait behind them
-submits_wait : (was : Part) (b page q count order cookie : ℕ) → in_range q (count * 2 ^ order) page ≡ true
+submits_wait : (was : Endpoint) (b page q count order cookie : ℕ) → in_range q (count * 2 ^ order) page ≡ true
     → HasSubmitted was (submitted was b q count order cookie) b page
 submits_wait was b page q count order cookie inside =
     let x = range_of q order count page inside in
@@ -147,7 +147,7 @@ submits_wait was b page q count order cookie inside =
       own_covers = order_covers was b q count order cookie page x.0 x.1 x.2;
     }
 
-unit_answers : (was now then : Part) (b page q count order cookie : ℕ) (o : Bool) → in_range q (count * 2 ^ order) page ≡ true → is_open was.phase
+unit_answers : (was now then : Endpoint) (b page q count order cookie : ℕ) (o : Bool) → in_range q (count * 2 ^ order) page ≡ true → is_open was.phase
     ≡ o → IsBeforeInvalidating was b → owed_by was count (Some b) ≡ owed_by_unit was count o
     → then ≡ submitted_if (submits_at was (Some b)) was (Some b) q count order cookie → answered now (owed_by was count (Some b)) ≡ true
     → HasAnswered was then now b page
@@ -167,7 +167,7 @@ unit_answers was now then b page q count order cookie true r op st ow e h =
         (submits_wait was b page q count order cookie r)) (subst (λ z. AreDone now was.orders z) (sym sum) (done_range now was.orders count x))
     by (inr x) = then_resets was now then b page q count order cookie e x
 
-pub answers_if : (was now then : Part) (b page q count order cookie : ℕ) → in_range q (count * 2 ^ order) page ≡ true → is_unreleased (was.stage b)
+pub answers_if : (was now then : Endpoint) (b page q count order cookie : ℕ) → in_range q (count * 2 ^ order) page ≡ true → is_unreleased (was.stage b)
     ≡ true → then ≡ submitted_if (submits_at was (Some b)) was (Some b) q count order cookie → answered now (owed_by was count (Some b)) ≡ true
     → HasAnswered was then now b page
 answers_if was now then b page q count order cookie r u e h = go (was.stage b) refl

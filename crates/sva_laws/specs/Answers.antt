@@ -7,10 +7,10 @@ use Rattle.sva_step.specs.declared.steps.Step.{Step}
 use Rattle.sva_step.specs.declared.steps.Step.TheVariants as step
 use Rattle.sva_step.specs.declared.steps.Verdict.{Verdict}
 use Rattle.sva_model.specs.Words.{count_below}
-use Rattle.sva_model.specs.State.{PasidRule, Part, World}
-use Rattle.sva_model.specs.State.About.{InvalidatedOf}
+use Rattle.sva_model.specs.State.{PasidRule, Endpoint, World}
+use Rattle.sva_model.specs.State.Subject.{InvalidatedOf}
 use Rattle.sva_model.specs.State.MappingState.{Present}
-use Rattle.sva_model.specs.State.OrderState.{Owing}
+use Rattle.sva_model.specs.State.OrderState.{Completing}
 use Rattle.sva_model.specs.State.UseState.{Running}
 use Rattle.sva_model.specs.State.Phase.{Open}
 use Rattle.sva_model.specs.States.{is_done, place}
@@ -25,10 +25,10 @@ use Rattle.sva_laws.specs.UnitSteps.{Delivers}
 -- that name these orders are in flight, as the newest messages of the endpoint. (PCI Express Base 5.0, section 10.3.3.)
 pub record Finishes (w v : World) (e vector count : ℕ) (said : Answer) : Type 0 where
   pub answered : said ≡ answer.Sent count
-  pub owing : (k : ℕ) → is_named (w.part e) vector k ≡ true → (v.part e).order_state k ≡ Owing count count
+  pub completing : (k : ℕ) → is_named (w.part e) vector k ≡ true → (v.part e).order_state k ≡ Completing count count
   pub others : (k : ℕ) → is_named (w.part e) vector k ≡ false → (v.part e).order_state k ≡ (w.part e).order_state k
   pub messages : v.messages ≡ w.messages + count
-  pub sent : (j : ℕ) → j < count → ((v.part e).message (w.messages + j) ≡ Some (InvalidatedOf (is_named (w.part e) vector))) × (v.way (w.messages + j) ≡ e)
+  pub sent : (j : ℕ) → j < count → ((v.part e).message (w.messages + j) ≡ Some (InvalidatedOf (is_named (w.part e) vector))) × (v.link_of (w.messages + j) ≡ e)
 
 abbrev pub AlwaysFinishes : Type 0
 AlwaysFinishes =
@@ -74,7 +74,7 @@ AlwaysLooks =
     → Looks (world_after rule config steps) frame said
 
 -- An invalidate completion that is counted at an open unit answers how many orders the step makes done.
-abbrev pub made_done : (was now : Part) → ℕ
+abbrev pub made_done : (was now : Endpoint) → ℕ
 made_done was now = count_below was.orders (λ k. is_done (now.order_state k) && not (is_done (was.order_state k)))
 
 abbrev pub AlwaysFrees : Type 0

@@ -11,15 +11,15 @@ use Rattle.sva_model.specs.Words.{count_below, select}
 use Rattle.sva_model.specs.Message.{Code}
 use Rattle.sva_model.specs.Message.Message.{StartMessage, StopMessage, ResetMessage, CompletionMessage, InvalidateMessage, ResponseMessage, RequestMessage}
 use Rattle.sva_model.specs.Message.Message.{InvalidatedMessage, PageRequestMessage, MarkerMessage, ResetDoneMessage}
-use Rattle.sva_model.specs.State.{About, GroupState, Mappings, OrderState, Part, World}
-use Rattle.sva_model.specs.State.About.{StartOf, StopOf, ResetOrder, CompletionOf, InvalidateOf, ResponseOf, RequestOf, InvalidatedOf, PageRequestOf}
-use Rattle.sva_model.specs.State.About.{MarkerOf, ResetDone}
+use Rattle.sva_model.specs.State.{Subject, GroupState, Mappings, OrderState, Endpoint, World}
+use Rattle.sva_model.specs.State.Subject.{StartOf, StopOf, FunctionReset, CompletionOf, InvalidateOf, ResponseOf, RequestOf, InvalidatedOf, PageRequestOf}
+use Rattle.sva_model.specs.State.Subject.{MarkerOf, ResetDone}
 use Rattle.sva_model.specs.State.MappingState.{Present}
 use Rattle.sva_model.specs.State.Phase.{Open, Cleared}
 use Rattle.sva_model.specs.State.Stage.{Stopping, Invalidating}
-use Rattle.sva_model.specs.State.OrderState.{Sent, Lapsed, Owing, Done, Void}
+use Rattle.sva_model.specs.State.OrderState.{Sent, Lapsed, Completing, Done, Void}
 use Rattle.sva_model.specs.State.PasidState.{Off}
-use Rattle.sva_model.specs.State.GroupState.{Unfinished, Awaiting, Stale}
+use Rattle.sva_model.specs.State.GroupState.{Collecting, Awaiting, Stale}
 use Rattle.sva_model.specs.State.HostGroupState.{NotFiled, PartFiled, Job, InHand, Replied, InHandDiscarded}
 use Rattle.sva_model.specs.State.UseState.{Running, Ended}
 use Rattle.sva_model.specs.State.PageRequestState.{InFlight, Arrived}
@@ -138,7 +138,7 @@ AlwaysGiven =
     × IsAt (world_after rule config (steps ++ Map of_space page write ∷ [])) frame space page
 
 -- Labels. What a label finds is the one record that bears it, and each record that bears a label is found by it.
-pub record IsLabelled (p : Part) : Type 0 where
+pub record IsLabelled (p : Endpoint) : Type 0 where
   pub pasid : (t b : ℕ) → (p.at_pasid t ≡ Some b) ↔ ((is_unreleased (p.stage b) ≡ true) × (p.pasid b ≡ t))
   pub tag : (t r : ℕ) → (p.at_tag t ≡ Some r) ↔ ((is_out (p.request r) ≡ true) × (p.request_tag r ≡ t))
   pub slot : (t u : ℕ) → (p.at_slot t ≡ Some u) ↔ ((p.use_state u ≢ Ended) × (p.use_slot u ≡ t))
@@ -154,7 +154,7 @@ pub record IsLabelled (p : Part) : Type 0 where
   pub one_space : (b d : ℕ) → is_unreleased (p.stage b) ≡ true → is_unreleased (p.stage d) ≡ true → p.space b ≡ p.space d → b ≡ d
 
 -- What a message or a step names by a label is the record that it was sent for.
-pub record IsFound (p : Part) : Type 0 where
+pub record IsFound (p : Endpoint) : Type 0 where
   pub start : (c b : ℕ) → p.message c ≡ Some (StartOf b) → IsBearer p b
   pub stop : (c b : ℕ) → p.message c ≡ Some (StopOf b) → IsBearer p b
   pub request : (c r : ℕ) → p.phase ≡ Open → p.message c ≡ Some (RequestOf r) → (IsBearer p (p.request_binding r)) × (p.at_tag (p.request_tag r) ≡ Some r)
@@ -167,7 +167,7 @@ pub record IsFound (p : Part) : Type 0 where
   pub out : (r : ℕ) → is_out (p.request r) ≡ true → (IsBearer p (p.request_binding r)) × (p.pasid_state (p.request_binding r) ≢ Off)
   -- a binding whose PASID the endpoint has started bears it
   pub started : (b : ℕ) → p.pasid_state b ≢ Off → IsBearer p b
-  pub asker : (g : ℕ) → (p.group g ≡ Unfinished) ⊎ (p.group g ≡ Awaiting) → (IsBearer p (p.asker g)) × (p.pasid_state (p.asker g) ≢ Off)
+  pub asker : (g : ℕ) → (p.group g ≡ Collecting) ⊎ (p.group g ≡ Awaiting) → (IsBearer p (p.asker g)) × (p.pasid_state (p.asker g) ≢ Off)
   pub invalidate : (c k : ℕ) → p.message c ≡ Some (InvalidateOf k) → (p.order_state k ≡ Sent) × (p.at_itag (p.itag k) ≡ Some k)
       × (IsBearer p (binding_of (p.order k)))
   pub cached : (r m : ℕ) → p.held r ≡ Some m → IsBearer p (p.request_binding r)
@@ -194,7 +194,7 @@ pub record IsFound (p : Part) : Type 0 where
 
 -- The bits of an ITag Vector are those of the ITags that the named orders bear, and no other (PCI Express Base 5.0, section
 -- 10.3.2).
-pub record IsVectorOf (p : Part) (names : ℕ → Bool) (vector : ℕ) : Type 0 where
+pub record IsVectorOf (p : Endpoint) (names : ℕ → Bool) (vector : ℕ) : Type 0 where
   pub named : (k : ℕ) → names k ≡ true → is_set vector (p.itag k) ≡ true
   pub set : (t : ℕ) → t < 32 → is_set vector t ≡ true → (k : ℕ) × (names k ≡ true) × (p.itag k ≡ t)
 
@@ -205,10 +205,10 @@ count_read (suc n) = suc n
 
 -- What a message in flight carries: the labels and fields of the records that it was sent for, as these records have them
 -- still. So what its receiver finds by them is what `IsLabelled` and `IsFound` say.
-pub record IsCarried (ms : Mappings) (p : Part) : Type 0 where
+pub record IsCarried (ms : Mappings) (p : Endpoint) : Type 0 where
   pub start : (c b : ℕ) → p.message c ≡ Some (StartOf b) → p.carried c ≡ StartMessage (p.pasid b)
   pub stop : (c b : ℕ) → p.message c ≡ Some (StopOf b) → p.carried c ≡ StopMessage (p.pasid b)
-  pub reset : (c : ℕ) → p.message c ≡ Some ResetOrder → p.carried c ≡ ResetMessage
+  pub reset : (c : ℕ) → p.message c ≡ Some FunctionReset → p.carried c ≡ ResetMessage
   -- a Completion: the tag of its request; the frame of the mapping that it found, which may be read, and written if the
   -- mapping may; or no translation, which has neither flag
   pub completion : (c r m : ℕ) → p.message c ≡ Some (CompletionOf r (Some m)) → p.carried c
@@ -228,7 +228,7 @@ pub record IsCarried (ms : Mappings) (p : Part) : Type 0 where
       → p.message c ≡ Some (InvalidatedOf names)
       → (vector field : ℕ)
       × (p.carried c ≡ InvalidatedMessage vector field) × (field < 8) × IsVectorOf p names vector
-      × ((k : ℕ) → names k ≡ true → (left : ℕ) × (p.order_state k ≡ Owing (count_read field) left))
+      × ((k : ℕ) → names k ≡ true → (left : ℕ) × (p.order_state k ≡ Completing (count_read field) left))
   -- a page request: the PASID of its group's asker, the group's index, and what it asks
   pub page_request : (c r : ℕ) → p.message c ≡ Some (PageRequestOf r) → p.carried c
       ≡ PageRequestMessage (p.pasid (p.asker (p.group_of r))) (p.index (p.group_of r)) (p.asked_page r) (p.asks_read r) (p.asks_write r) (p.is_last r)
@@ -236,9 +236,9 @@ pub record IsCarried (ms : Mappings) (p : Part) : Type 0 where
   pub reset_done : (c : ℕ) → p.message c ≡ Some ResetDone → p.carried c ≡ ResetDoneMessage
 
 -- What can't occur.
-pub record NeverOccurs (p : Part) : Type 0 where
+pub record NeverOccurs (p : Endpoint) : Type 0 where
   -- a Reset or a ResetDone in flight at an open unit
-  pub reset : (c : ℕ) → p.phase ≡ Open → p.message c ≢ Some ResetOrder
+  pub reset : (c : ℕ) → p.phase ≡ Open → p.message c ≢ Some FunctionReset
   pub reset_done : (c : ℕ) → p.phase ≡ Open → p.message c ≢ Some ResetDone
   -- an order in flight to an endpoint that has reset itself
   pub start : (c d b : ℕ) → p.phase ≡ Cleared c → p.message d ≢ Some (StartOf b)
@@ -257,13 +257,13 @@ pub record NeverOccurs (p : Part) : Type 0 where
   pub discarded : (g worker : ℕ) → p.phase ≡ Open → p.host_group g ≡ InHandDiscarded worker → is_before_invalidating (p.stage (p.filed_under g)) ≡ false
 
 -- page requests that have arrived and aren't filed: their number, and their list in order of arrival
-abbrev pub page_queue : Part → ℕ
+abbrev pub page_queue : Endpoint → ℕ
 page_queue p = count_below p.page_requests (λ r. is_arrived (p.page_request r))
 
-abbrev pub waiting : Part → List ℕ
+abbrev pub waiting : Endpoint → List ℕ
 waiting p = select p.arrivals (is_waiting p)
 
-pub record IsLimited (p : Part) : Type 0 where
+pub record IsLimited (p : Endpoint) : Type 0 where
   pub outstanding : outstanding p ≤ 32
   pub page_queue : page_queue p ≤ 32
   pub waiting : length (waiting p) ≤ 32
@@ -282,15 +282,15 @@ AlwaysLimited = (rule : PasidRule) (config : Config) (steps : List Step) (e : �
 
 -- What is awaited at an open unit is on its way, once. Each busy ITag has exactly one of: its Invalidate in flight, an
 -- invalidation that the endpoint has taken, or completions owed, each of them in flight.
-abbrev pub names_order : (order : ℕ) → Option About → Bool
+abbrev pub names_order : (order : ℕ) → Option Subject → Bool
 names_order k (Some (InvalidatedOf names)) = names k
 names_order k _ = false
 
-abbrev pub completions : (messages : ℕ) → Part → (order : ℕ) → ℕ
+abbrev pub completions : (messages : ℕ) → Endpoint → (order : ℕ) → ℕ
 completions n p k = count_below n (λ c. names_order k (p.message c))
 
 abbrev pub left_of : OrderState → ℕ
-left_of (Owing count left) = left
+left_of (Completing count left) = left
 left_of _ = 0
 
 -- does a group await its response, or is it stale?
@@ -301,18 +301,18 @@ is_answerable _ = false
 
 -- The places of a group on the way to its response: its last request is in flight or arrived; or the host has it whole, as
 -- a job or in a worker's hand; or the response is in flight. The host's state of the group tells the three apart.
-pub data IsOnItsWay (p : Part) (g : ℕ) : Type 0 where
+pub data IsOnItsWay (p : Endpoint) (g : ℕ) : Type 0 where
   asked : (last : ℕ) → p.group_of last ≡ g → p.is_last last ≡ true → (p.page_request last ≡ InFlight) ⊎ (p.page_request last ≡ Arrived)
       → (p.host_group g ≡ NotFiled) ⊎ (p.host_group g ≡ PartFiled) → IsOnItsWay p g
   is_job : p.host_group g ≡ Job → IsOnItsWay p g
   in_hand : (worker : ℕ) → p.host_group g ≡ InHand worker → IsOnItsWay p g
   answered : (c : ℕ) (code : Code) → p.message c ≡ Some (ResponseOf g code) → p.host_group g ≡ Replied → IsOnItsWay p g
 
-pub record IsUnderWay (n : ℕ) (p : Part) : Type 0 where
+pub record IsUnderWay (n : ℕ) (p : Endpoint) : Type 0 where
   pub sent : (k : ℕ) → p.order_state k ≡ Sent → p.message (p.invalidate_message k) ≡ Some (InvalidateOf k)
   pub sent_only : (c k : ℕ) → p.message c ≡ Some (InvalidateOf k) → p.order_state k ≡ Sent
   pub owed : (k : ℕ) → p.phase ≡ Open → completions n p k ≡ left_of (p.order_state k)
-  pub owing : (k count left : ℕ) → p.order_state k ≡ Owing count left → (0 < left) × (left ≤ count) × (count ≤ 8)
+  pub completing : (k count left : ℕ) → p.order_state k ≡ Completing count left → (0 < left) × (left ≤ count) × (count ≤ 8)
   pub never_lapsed : (k : ℕ) → p.phase ≡ Open → p.order_state k ≢ Lapsed
   -- each translation request that is out has its request or its completion in flight
   pub request : (r : ℕ) → p.phase ≡ Open → is_out (p.request r) ≡ true → (c : ℕ)

@@ -5,7 +5,7 @@ use Rattle.sva_step.specs.declared.limits.Config.{Config}
 use Rattle.sva_step.specs.declared.steps.Step.{Step}
 use Rattle.sva_step.specs.declared.steps.Step.TheVariants as step
 use Rattle.sva_model.specs.State.{PasidRule, Owed, World}
-use Rattle.sva_model.specs.State.About.{ResetDone}
+use Rattle.sva_model.specs.State.Subject.{ResetDone}
 use Rattle.sva_model.specs.State.Owed.{Ranges, Pasid}
 use Rattle.sva_model.specs.State.MappingState.{Gone}
 use Rattle.sva_model.specs.Words.{count_below, is_some}
@@ -68,7 +68,7 @@ AlwaysKeepsLatest =
 
 -- How many bindings are unreleased, and how many use slots of an endpoint are taken.
 abbrev pub unreleased : World → ℕ
-unreleased w = count_below w.bindings (λ b. is_unreleased ((w.part (w.home b)).stage b))
+unreleased w = count_below w.bindings (λ b. is_unreleased ((w.part (w.endpoint_of b)).stage b))
 
 abbrev pub slots : World → (endpoint : ℕ) → ℕ
 slots w e = count_below 16 (λ t. is_some ((w.part e).at_slot t))

@@ -8,25 +8,25 @@ use Rattle.sva_step.specs.declared.answers.Answer.TheVariants as answer
 use Rattle.sva_step.specs.declared.limits.Config.{Config}
 use Rattle.sva_step.specs.declared.steps.Step.{Step}
 use Rattle.sva_step.specs.declared.steps.Step.TheVariants as step
-use Rattle.sva_model.specs.State.{About, Part, World}
-use Rattle.sva_model.specs.State.About.{InvalidatedOf, MarkerOf, ResetDone}
+use Rattle.sva_model.specs.State.{Subject, Endpoint, World}
+use Rattle.sva_model.specs.State.Subject.{InvalidatedOf, MarkerOf, ResetDone}
 use Rattle.sva_model.specs.State.Order.{Wait}
 use Rattle.sva_model.specs.State.Phase.{Open}
 use Rattle.sva_model.specs.State.Stage.{Stopping}
-use Rattle.sva_model.specs.State.OrderState.{Queued, Owing, Done, Void}
+use Rattle.sva_model.specs.State.OrderState.{Queued, Completing, Done, Void}
 use Rattle.sva_model.specs.States.{is_wait}
 use Rattle.sva_model.specs.Labels.{name, head}
 use Rattle.sva_model.specs.Steps.{reply, world_after}
 use Rattle.sva_model.specs.Claims.{Fits}
 
 -- the step is a delivery that is accepted, of a message of the endpoint that speaks of this
-pub record Delivers (w : World) (s : Step) (e : ℕ) (about : About) : Type 0 where
+pub record Delivers (w : World) (s : Step) (e : ℕ) (subject : Subject) : Type 0 where
   pub number : ℕ
   pub step_is : s ≡ step.Deliver number
   pub answer : Answer
   pub accepted : reply w s ≡ Ok answer
-  pub way_is : w.way (name w number) ≡ e
-  pub speaks : (w.part e).message (name w number) ≡ Some about
+  pub way_is : w.link_of (name w number) ≡ e
+  pub speaks : (w.part e).message (name w number) ≡ Some subject
 
 -- the step is a Reset of the unit that is accepted
 pub record OrdersReset (w : World) (s : Step) (e : ℕ) : Type 0 where
@@ -49,14 +49,14 @@ pub record CompletesOrder (w : World) (s : Step) (e order : ℕ) : Type 0 where
   pub is_open : (w.part e).phase ≡ Open
   pub named : names order ≡ true
   pub count : ℕ
-  pub one_left : (w.part e).order_state order ≡ Owing count 1
+  pub one_left : (w.part e).order_state order ≡ Completing count 1
 
 -- the counter of reset-dones rises by one exactly where the step delivers a reset-done of the endpoint
-pub record CountsResetDones (w : World) (s : Step) (e : ℕ) (after : Part) : Type 0 where
+pub record CountsResetDones (w : World) (s : Step) (e : ℕ) (after : Endpoint) : Type 0 where
   pub rises : Delivers w s e ResetDone → after.resets ≡ suc (w.part e).resets
   pub stays : (Delivers w s e ResetDone → ⊥) → after.resets ≡ (w.part e).resets
 
-pub record ChangesOrders (w : World) (s : Step) (e : ℕ) (after : Part) : Type 0 where
+pub record ChangesOrders (w : World) (s : Step) (e : ℕ) (after : Endpoint) : Type 0 where
   -- an order is done after the step exactly where it was done before, or the step passes it, being a wait, or delivers the
   -- last of its completions
   pub done : (k : ℕ) → (after.order_state k ≡ Done) ↔ (((w.part e).order_state k ≡ Done) ⊎ (PassesWait w s e k ⊎ CompletesOrder w s e k))
@@ -71,7 +71,7 @@ pub record ChangesOrders (w : World) (s : Step) (e : ℕ) (after : Part) : Type 
   pub submitted : (k : ℕ) → (w.part e).orders ≤ k → k < after.orders → after.order_state k ≡ Queued
 
 -- a marker is noted by its own delivery at an open unit, and by that alone
-pub record NotesMarkers (w : World) (s : Step) (e : ℕ) (after : Part) : Type 0 where
+pub record NotesMarkers (w : World) (s : Step) (e : ℕ) (after : Endpoint) : Type 0 where
   pub noted :
       (b : ℕ)
       → after.stage b ≡ Stopping true
@@ -80,7 +80,7 @@ pub record NotesMarkers (w : World) (s : Step) (e : ℕ) (after : Part) : Type 0
 
 -- An order that is void after a list of steps was void after its front already; or the unit is in reset; or a reset-done of it
 -- was delivered since. So an order that wasn't submitted yet, or wasn't void yet, is void only by a reset since then.
-pub record IsVoidByReset (was now : Part) : Type 0 where
+pub record IsVoidByReset (was now : Endpoint) : Type 0 where
   pub void :
       (k : ℕ)
       → k < now.orders

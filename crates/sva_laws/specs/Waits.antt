@@ -3,8 +3,8 @@
 use Rattle.std.specs.Prelude.{◌≡◌, ◌≢◌, ◌⊎◌, ◌↔◌, ℕ, suc, ◌+◌, ◌<◌, ◌≤◌, Bool, true, false, List, [], ◌∷◌, ◌++◌}
 use Rattle.sva_step.specs.declared.limits.Config.{Config}
 use Rattle.sva_step.specs.declared.steps.Step.{Step}
-use Rattle.sva_model.specs.State.{PasidRule, Owed, Part}
-use Rattle.sva_model.specs.State.Owed.{Nothing, Ranges, Pasid, AReset}
+use Rattle.sva_model.specs.State.{PasidRule, Owed, Endpoint}
+use Rattle.sva_model.specs.State.Owed.{Nothing, Ranges, Pasid, NextReset}
 use Rattle.sva_model.specs.State.MappingState.{Present, Gone}
 use Rattle.sva_model.specs.State.Order.{Wait}
 use Rattle.sva_model.specs.State.OrderState.{Queued, Done, Void}
@@ -15,7 +15,7 @@ use Rattle.sva_model.specs.Steps.{world_after}
 use Rattle.sva_model.specs.Claims.{Fits, HasAnswered}
 
 -- The waits of a unit by their cookies.
-pub record HasFront (cookies : ℕ) (p : Part) : Type 0 where
+pub record HasFront (cookies : ℕ) (p : Endpoint) : Type 0 where
   -- cookies rise in order of submission
   pub rise : (wait later c d : ℕ) (x y : Bool) → wait < later → later < p.orders → p.order wait ≡ Wait c x → p.order later ≡ Wait d y → c < d
   -- their end is one more than the greatest one that was submitted, and 0 where none was; it was given out
@@ -41,7 +41,7 @@ AlwaysHasFront = (rule : PasidRule) (config : Config) (steps : List Step) (e : �
 
 -- a wait stands behind its invalidations, the orders from `first` on; since so many reset-dones none of them is void at an
 -- open unit, they are done where it is, and it is void only by the reset that the unit is in
-pub record IsBehind (p : Part) (first wait resets : ℕ) : Type 0 where
+pub record IsBehind (p : Endpoint) (first wait resets : ℕ) : Type 0 where
   pub low : first ≤ wait
   pub made : wait < p.orders
   pub is_a_wait : is_wait (p.order wait) ≡ true
@@ -52,12 +52,12 @@ pub record IsBehind (p : Part) (first wait resets : ℕ) : Type 0 where
   pub void : resets ≡ p.resets → p.order_state wait ≡ Void → (c : ℕ) (x : Bool) → p.order wait ≡ Wait c x → p.front ≤ c
 
 -- What an endpoint owes fits the orders of its unit. What was written down in reset waits for the end of that reset.
-abbrev pub FitsDebt : Part → Owed → Type 0
+abbrev pub FitsDebt : Endpoint → Owed → Type 0
 FitsDebt p Nothing = Unit {0}
 FitsDebt p (Ranges first count resets) = (0 < count) × IsBehind p first (first + count) resets
 FitsDebt p (Pasid invalidation wait resets in_reset) = (wait ≡ suc invalidation) × IsBehind p invalidation wait resets
     × (in_reset ≡ true → resets ≡ p.resets → p.phase ≢ Open)
-FitsDebt p (AReset resets) = (resets ≤ p.resets) × (resets ≡ p.resets → p.phase ≢ Open)
+FitsDebt p (NextReset resets) = (resets ≤ p.resets) × (resets ≡ p.resets → p.phase ≢ Open)
 
 abbrev pub AlwaysFitsDebts : Type 0
 AlwaysFitsDebts =
@@ -68,18 +68,18 @@ AlwaysFitsDebts =
 
 -- What an endpoint that hasn't answered waits for: a wait that is queued, or void by a reset that hasn't ended; or the end of
 -- the reset that its unit is in.
-abbrev pub IsAwaited : Part → (wait : ℕ) → Type 0
+abbrev pub IsAwaited : Endpoint → (wait : ℕ) → Type 0
 IsAwaited p wait =
     (wait < p.orders)
     × (c : ℕ) × (x : Bool) × (p.order wait ≡ Wait c x) × (p.front ≤ c)
     × ((p.order_state wait ≡ Queued) ⊎ ((p.order_state wait ≡ Void) × (p.phase ≢ Open)))
 
-abbrev pub AwaitsTarget : Part → Owed → Type 0
+abbrev pub AwaitsTarget : Endpoint → Owed → Type 0
 AwaitsTarget p Nothing = ⊥
 AwaitsTarget p (Ranges first count resets) = IsAwaited p (first + count)
 AwaitsTarget p (Pasid invalidation wait resets false) = IsAwaited p wait
 AwaitsTarget p (Pasid invalidation wait resets true) = p.phase ≢ Open
-AwaitsTarget p (AReset resets) = p.phase ≢ Open
+AwaitsTarget p (NextReset resets) = p.phase ≢ Open
 
 abbrev pub AlwaysAwaitsTargets : Type 0
 AlwaysAwaitsTargets =

@@ -7,7 +7,7 @@ use Rattle.sva_step.specs.declared.refusals.Refusal.{Refusal}
 use Rattle.sva_step.specs.declared.refusals.Refusal.TheVariants as refusal
 use Rattle.sva_step.specs.declared.steps.Step.{Step}
 use Rattle.sva_step.specs.declared.steps.Step.TheVariants as step
-use Rattle.sva_model.specs.Refusals.{Cause}
+use Rattle.sva_model.specs.Refusals.{Cause, unless_refused}
 use Rattle.sva_model.specs.Steps.{Reply}
 use Rattle.sva_model.specs.Wire.{Wire, PageWire, SpaceWire, PlaceWire, insert_by, is_lower_page}
 use Rattle.sva_model.specs.Wire.PlaceWire.{FreeWire}
@@ -18,7 +18,7 @@ use Rattle.sva_labels.specs.Outcomes.{result_of}
 use Rattle.sva_labels.specs.Outcomes as outcomes
 use Rattle.sva_labels.specs.Host.{checked}
 use Rattle.sva_memory.specs.Seen.{MemorySeen, memory_of, with_memory}
-use Rattle.sva_memory.specs.Pieces.{unless_refused, map_reply, MapsPage}
+use Rattle.sva_memory.specs.Pieces.{map_reply, MapsPage}
 use Rattle.sva_memory.specs.Steps.{ByLabels, Steps, Moves}
 
 -- A host that keeps a memory.

@@ -12,7 +12,8 @@ use Rattle.sva_frames.specs.Frames.{Holding, Free, Mapped, is_free}
 use Rattle.sva_model.specs.Wire.{PageWire, PlaceWire}
 use Rattle.sva_labels.specs.Finding.{is_mapped, lowest_free}
 use Rattle.sva_memory.specs.Seen.{page_seen, pages_seen, places_seen}
-use Rattle.sva_memory.specs.Pieces.{unless_refused, map_reply, MapsPage}
+use Rattle.sva_memory.specs.Pieces.{map_reply, MapsPage}
+use Rattle.sva_model.specs.Refusals.{unless_refused}
 use Rattle.sva_memory.proofs.PageLists.{is_mapped-seen, pages_seen-insert}
 use Rattle.sva_memory.proofs.FrameLists.{lowest_free-some, lowest_free-none, length-seen, some-within, places_seen-set, taken_given, first-free}
 

@@ -5,18 +5,13 @@ use Rattle.sva_step.specs.declared.answers.Answer.TheVariants as answer
 use Rattle.sva_step.specs.declared.refusals.Refusal.{Refusal}
 use Rattle.sva_step.specs.declared.refusals.Refusal.TheVariants as refusal
 use Rattle.sva_model.specs.Words.{any_below, all_below, count_below}
-use Rattle.sva_model.specs.Refusals.{Cause, page_range}
+use Rattle.sva_model.specs.Refusals.{Cause, unless_refused, page_range}
 use Rattle.sva_model.specs.Steps.{Reply}
 use Rattle.sva_model.specs.Wire.{PageWire, PlaceWire, insert_by, is_lower_page}
 use Rattle.sva_model.specs.Wire.PlaceWire.{MappedWire}
 use Rattle.sva_labels.specs.Finding.{is_mapped, lowest_free}
 
--- the first cause that holds refuses, else this is answered
-abbrev pub unless_refused : {A : Type 0} → List Cause → A → Result A Refusal
-unless_refused [] a = Ok a
-unless_refused (cause ∷ causes) a = if cause.0 then Err cause.1 else unless_refused causes a
-
--- the same where there is nothing to answer
+-- what refuses, where there is nothing to answer
 abbrev pub verdict : List Cause → Result (Unit {0}) Refusal
 verdict causes = unless_refused causes tt
 

@@ -8,64 +8,64 @@ use Rattle.sva_model.specs.Message.Code.{FailureCode}
 use Rattle.sva_model.specs.Message.Message.{StartMessage, StopMessage, ResetMessage, InvalidateMessage, ResponseMessage, RequestMessage}
 use Rattle.sva_model.specs.Message.Message.{InvalidatedMessage, PageRequestMessage, MarkerMessage, ResetDoneMessage}
 use Rattle.sva_model.specs.State.{Owed, MappingState, Mappings, Stage, RequestState, UseState, PageRequestState, GroupState, HostGroupState, Order}
-use Rattle.sva_model.specs.State.{OrderState, Part, World}
-use Rattle.sva_model.specs.State.Owed.{Nothing, Ranges, Pasid, AReset}
+use Rattle.sva_model.specs.State.{OrderState, Endpoint, World}
+use Rattle.sva_model.specs.State.Owed.{Nothing, Ranges, Pasid, NextReset}
 use Rattle.sva_model.specs.State.MappingState.{Present, Gone}
 use Rattle.sva_model.specs.State.Stage.{Live, Stopping, Draining, Invalidating, Quiet, Lost, Released}
 use Rattle.sva_model.specs.State.PasidState.{Off, On, Ending}
 use Rattle.sva_model.specs.State.RequestState.{Out, Doomed, Over}
 use Rattle.sva_model.specs.State.UseState.{Running, Dead, Ended}
 use Rattle.sva_model.specs.State.PageRequestState.{InFlight, Arrived, Filed, Dropped}
-use Rattle.sva_model.specs.State.GroupState.{Unfinished, Awaiting, Stale, Finished}
+use Rattle.sva_model.specs.State.GroupState.{Collecting, Awaiting, Stale, Closed}
 use Rattle.sva_model.specs.State.HostGroupState.{PartFiled, Job, InHand, Replied, Discarded, InHandDiscarded}
 use Rattle.sva_model.specs.State.Order.{RangeOf, PasidOf, Wait}
-use Rattle.sva_model.specs.State.OrderState.{Queued, Sent, Taken, Lapsed, Owing, Done, Void}
-use Rattle.sva_model.specs.State.About.{StartOf, StopOf, ResetOrder, CompletionOf, InvalidateOf, ResponseOf, RequestOf, InvalidatedOf, PageRequestOf}
-use Rattle.sva_model.specs.State.About.{MarkerOf, ResetDone}
+use Rattle.sva_model.specs.State.OrderState.{Queued, Sent, Taken, Lapsed, Completing, Done, Void}
+use Rattle.sva_model.specs.State.Subject.{StartOf, StopOf, FunctionReset, CompletionOf, InvalidateOf, ResponseOf, RequestOf, InvalidatedOf, PageRequestOf}
+use Rattle.sva_model.specs.State.Subject.{MarkerOf, ResetDone}
 use Rattle.sva_model.specs.State.Phase.{Open, Ordered, Cleared}
 use Rattle.sva_model.specs.States.{Extent, is_open, is_unreleased, is_before_invalidating, is_done, covers}
 use Rattle.sva_model.specs.States.Extent.{Pages, AllPages}
 
 -- what one endpoint or its unit does alone
-pub data Own : Type 0 where
+pub data LocalAct : Type 0 where
   -- the host
-  Bind : (binding space pasid : ℕ) → Own
-  Stop : (binding : ℕ) → Own
-  Drain : (binding cookie : ℕ) → Own
-  Invalidate : (binding cookie : ℕ) → Own
-  Quieten : (binding : ℕ) → Own
-  Release : (binding : ℕ) → Own
-  Send : (order itag : ℕ) → Own
-  Pass : (wait : ℕ) → Own
-  File : (page_request : ℕ) → Own
-  Reset : Own
-  Hand : (group worker : ℕ) → Own
-  Respond : (group : ℕ) (code : Code) → Own
-  Discard : (group : ℕ) → Own
+  Bind : (binding space pasid : ℕ) → LocalAct
+  Stop : (binding : ℕ) → LocalAct
+  Drain : (binding cookie : ℕ) → LocalAct
+  Invalidate : (binding cookie : ℕ) → LocalAct
+  Quieten : (binding : ℕ) → LocalAct
+  Release : (binding : ℕ) → LocalAct
+  Send : (order itag : ℕ) → LocalAct
+  Pass : (wait : ℕ) → LocalAct
+  File : (page_request : ℕ) → LocalAct
+  Reset : LocalAct
+  Hand : (group worker : ℕ) → LocalAct
+  Respond : (group : ℕ) (code : Code) → LocalAct
+  Discard : (group : ℕ) → LocalAct
   -- the endpoint
-  Ask : (binding page tag : ℕ) → Own
-  Begin : (request mapping slot : ℕ) → Own
-  End : (used : ℕ) → Own
-  Evict : (request : ℕ) → Own
-  Group : (binding index page : ℕ) (read write last : Bool) → Own
-  Request : (group page : ℕ) (read write last : Bool) → Own
-  Finish : (names : ℕ → Bool) (vector count : ℕ) → Own
-  Quit : (binding : ℕ) → Own
+  Ask : (binding page tag : ℕ) → LocalAct
+  Begin : (request mapping slot : ℕ) → LocalAct
+  End : (used : ℕ) → LocalAct
+  Evict : (request : ℕ) → LocalAct
+  Group : (binding index page : ℕ) (read write last : Bool) → LocalAct
+  Request : (group page : ℕ) (read write last : Bool) → LocalAct
+  Finish : (names : ℕ → Bool) (vector count : ℕ) → LocalAct
+  Quit : (binding : ℕ) → LocalAct
   -- deliveries, each of a message in flight
-  Start_arrives : (message binding : ℕ) → Own
-  Stop_arrives : (message binding : ℕ) → Own
-  Reset_arrives : (message : ℕ) → Own
-  Keep : (message request mapping : ℕ) → Own
-  Forget : (message request : ℕ) → Own
-  Take : (message order : ℕ) → Own
-  Answered : (message group : ℕ) (code : Code) → Own
-  Complete : (message request : ℕ) (found : Option ℕ) (answer : Message) → Own
-  Count : (message : ℕ) (names : ℕ → Bool) → Own
-  Arrive : (message page_request : ℕ) → Own
-  Miss : (message page_request : ℕ) → Own
-  Mark : (message binding : ℕ) → Own
-  Ignore : (message : ℕ) → Own
-  Reopen : (message : ℕ) → Own
+  Start_arrives : (message binding : ℕ) → LocalAct
+  Stop_arrives : (message binding : ℕ) → LocalAct
+  Reset_arrives : (message : ℕ) → LocalAct
+  Keep : (message request mapping : ℕ) → LocalAct
+  Forget : (message request : ℕ) → LocalAct
+  Take : (message order : ℕ) → LocalAct
+  Answered : (message group : ℕ) (code : Code) → LocalAct
+  Complete : (message request : ℕ) (found : Option ℕ) (answer : Message) → LocalAct
+  Count : (message : ℕ) (names : ℕ → Bool) → LocalAct
+  Arrive : (message page_request : ℕ) → LocalAct
+  Miss : (message page_request : ℕ) → LocalAct
+  Mark : (message binding : ℕ) → LocalAct
+  Ignore : (message : ℕ) → LocalAct
+  Reopen : (message : ℕ) → LocalAct
 
 -- what a step does, one after another
 pub data Act : Type 0 where
@@ -78,7 +78,7 @@ pub data Act : Type 0 where
   NewJob : (endpoint group : ℕ) → Act
   Hold : (worker job : ℕ) → Act
   LetGo : (worker : ℕ) → Act
-  At : (endpoint : ℕ) (own : Own) → Act
+  AtEndpoint : (endpoint : ℕ) (own : LocalAct) → Act
 
 -- the unreleased binding of a space at an endpoint
 abbrev pub bound : World → (endpoint space : ℕ) → Option ℕ
@@ -86,38 +86,38 @@ bound w e s = find w.bindings (λ b. is_unreleased ((w.part e).stage b) && (w.pa
 
 -- Unmapping. A unit that is open gets the invalidations of the ranges and a wait where its binding is Live, Stopping or
 -- Draining.
-abbrev pub submits_at : Part → Option ℕ → Bool
+abbrev pub submits_at : Endpoint → Option ℕ → Bool
 submits_at p None = false
 submits_at p (Some b) = is_open p.phase && is_before_invalidating (p.stage b)
 
 abbrev pub submits : World → (space endpoint : ℕ) → Bool
 submits w s e = submits_at (w.part e) (bound w e s)
 
-abbrev pub owed_by_unit : Part → (count : ℕ) → Bool → Owed
+abbrev pub owed_by_unit : Endpoint → (count : ℕ) → Bool → Owed
 owed_by_unit p count true = Ranges p.orders count p.resets
-owed_by_unit p count false = AReset p.resets
+owed_by_unit p count false = NextReset p.resets
 
 -- what the endpoint has to answer for the pages of `count` ranges that a binding in this stage loses
-abbrev pub owed_by_stage : Part → (count : ℕ) → Stage → Owed
+abbrev pub owed_by_stage : Endpoint → (count : ℕ) → Stage → Owed
 owed_by_stage p count Live = owed_by_unit p count (is_open p.phase)
 owed_by_stage p count (Stopping marked) = owed_by_unit p count (is_open p.phase)
 owed_by_stage p count (Draining wait) = owed_by_unit p count (is_open p.phase)
 owed_by_stage p count (Invalidating invalidation wait) = Pasid invalidation wait p.resets (not (is_open p.phase))
 owed_by_stage p count _ = Nothing
 
-abbrev pub owed_by : Part → (count : ℕ) → Option ℕ → Owed
+abbrev pub owed_by : Endpoint → (count : ℕ) → Option ℕ → Owed
 owed_by p count None = Nothing
 owed_by p count (Some b) = owed_by_stage p count (p.stage b)
 
 -- is there something to wait for at the endpoint?
-abbrev pub waits_by_stage : Part → Stage → Bool
+abbrev pub waits_by_stage : Endpoint → Stage → Bool
 waits_by_stage p Live = true
 waits_by_stage p (Stopping marked) = true
 waits_by_stage p (Draining wait) = true
 waits_by_stage p (Invalidating invalidation wait) = not (is_done (p.order_state wait))
 waits_by_stage p _ = false
 
-abbrev pub waits_at : Part → Option ℕ → Bool
+abbrev pub waits_at : Endpoint → Option ℕ → Bool
 waits_at p None = false
 waits_at p (Some b) = waits_by_stage p (p.stage b)
 
@@ -128,7 +128,7 @@ waits w s e = waits_at (w.part e) (bound w e s)
 abbrev pub range_at : (page order number : ℕ) → Range
 range_at q order j = record { base = q + j * 2 ^ order; order = order }
 
-abbrev pub submitted : Part → (binding page count order cookie : ℕ) → Part
+abbrev pub submitted : Endpoint → (binding page count order cookie : ℕ) → Endpoint
 submitted p b q count order cookie =
     record p {
       orders = p.orders + suc count;
@@ -137,7 +137,7 @@ submitted p b q count order cookie =
       waits_end = suc cookie;
     }
 
-abbrev pub submitted_if : Bool → Part → Option ℕ → (page count order cookie : ℕ) → Part
+abbrev pub submitted_if : Bool → Endpoint → Option ℕ → (page count order cookie : ℕ) → Endpoint
 submitted_if true p (Some b) q count order cookie = submitted p b q count order cookie
 submitted_if _ p _ q count order cookie = p
 
@@ -145,7 +145,7 @@ submitted_if _ p _ q count order cookie = p
 abbrev pub cookie_of : World → (space endpoint : ℕ) → ℕ
 cookie_of w s e = w.cookies + count_below e (submits w s)
 
-abbrev pub part_after_unmap : World → (space page count order endpoint : ℕ) → Part
+abbrev pub part_after_unmap : World → (space page count order endpoint : ℕ) → Endpoint
 part_after_unmap w s q count order e = submitted_if (submits w s e) (w.part e) (bound w e s) q count order (cookie_of w s e)
 
 abbrev pub gone_if : Bool → (ℕ → Owed) → MappingState → MappingState
@@ -179,12 +179,12 @@ lapse (Taken uses) = Lapsed
 lapse o = o
 
 abbrev pub owe_if : Bool → ℕ → OrderState → OrderState
-owe_if true count o = Owing count count
+owe_if true count o = Completing count count
 owe_if false count o = o
 
 abbrev pub counted : OrderState → OrderState
-counted (Owing count (suc zero)) = Done
-counted (Owing count (suc (suc left))) = Owing count (suc left)
+counted (Completing count (suc zero)) = Done
+counted (Completing count (suc (suc left))) = Completing count (suc left)
 counted o = o
 
 abbrev pub counted_if : Bool → OrderState → OrderState
@@ -193,7 +193,7 @@ counted_if false o = o
 
 -- would one completion more complete it?
 abbrev pub is_last_left : OrderState → Bool
-is_last_left (Owing count (suc zero)) = true
+is_last_left (Completing count (suc zero)) = true
 is_last_left o = false
 
 abbrev pub doom_if : Bool → RequestState → RequestState
@@ -228,7 +228,7 @@ filed_as false = PartFiled
 
 abbrev pub sent_as : Bool → GroupState
 sent_as true = Awaiting
-sent_as false = Unfinished
+sent_as false = Collecting
 
 abbrev pub marked : Stage → Stage
 marked (Stopping m) = Stopping true
@@ -271,11 +271,11 @@ count_field count = if count == 8 then 0 else count
 
 -- is request x, which may be r itself, of the binding and the page of request r? Then no translation that it brought
 -- is kept beside that of r.
-abbrev pub is_replaced : Part → (r request : ℕ) → Bool
+abbrev pub is_replaced : Endpoint → (r request : ℕ) → Bool
 is_replaced p r x = p.request_binding x == p.request_binding r && p.request_page x == p.request_page r
 
 -- n is the number of the next message
-abbrev pub own : Part → (n : ℕ) → Own → Part
+abbrev pub own : Endpoint → (n : ℕ) → LocalAct → Endpoint
 own p n (Bind b s t) =
     record p {
       stage = put p.stage b Live;
@@ -329,7 +329,7 @@ own p n Reset =
       order_state = λ k. void_queued (p.order_state k);
       page_request = λ r. dropped_arrived (p.page_request r);
       host_group = λ g. discarded (p.host_group g);
-      message = put p.message n (Some ResetOrder);
+      message = put p.message n (Some FunctionReset);
       carried = put p.carried n ResetMessage;
     }
 own p n (Hand g w) = record p { host_group = put p.host_group g (InHand w) }
@@ -421,7 +421,7 @@ own p n (Reset_arrives c) =
       at_tag = λ t. None;
       held = λ r. None;
       use_state = λ u. killed (p.use_state u);
-      group = λ g. Finished;
+      group = λ g. Closed;
       at_index = λ t. None;
       is_disabled = false;
       order_state = λ k. lapse (p.order_state k);
@@ -445,7 +445,7 @@ own p n (Take c k) =
     }
 own p n (Answered c g code) =
     record p {
-      group = put p.group g Finished;
+      group = put p.group g Closed;
       at_index = put p.at_index (p.index g) None;
       is_disabled = p.is_disabled || disables code;
       message = put p.message c None;
@@ -485,7 +485,7 @@ own p n (Reopen c) =
     }
 
 -- how many messages it sends
-abbrev pub sends : Own → ℕ
+abbrev pub sends : LocalAct → ℕ
 sends (Bind b s t) = 1
 sends (Stop b) = 1
 sends (Send k t) = 1
@@ -501,7 +501,7 @@ sends (Complete c r found answer) = 1
 sends _ = 0
 
 -- how many cookies it gives out
-abbrev pub cookies_of : Own → ℕ
+abbrev pub cookies_of : LocalAct → ℕ
 cookies_of (Drain b cookie) = 1
 cookies_of (Invalidate b cookie) = 1
 cookies_of _ = 0
@@ -530,14 +530,14 @@ act w (Unmap s q count order) =
       cookies = w.cookies + count_below w.config.endpoints (submits w s);
       part = part_after_unmap w s q count order;
     }
-act w (NewBinding e) = record w { bindings = suc w.bindings; home = put w.home w.bindings e }
+act w (NewBinding e) = record w { bindings = suc w.bindings; endpoint_of = put w.endpoint_of w.bindings e }
 act w (NewJob e g) = record w { jobs = suc w.jobs; job = put w.job w.jobs (record { endpoint = e; group = g }) }
 act w (Hold x j) = record w { hand = put w.hand x (Some j) }
 act w (LetGo x) = record w { hand = put w.hand x None }
-act w (At e o) =
+act w (AtEndpoint e o) =
     record w {
       cookies = w.cookies + cookies_of o;
       messages = w.messages + sends o;
-      way = put_range w.way w.messages (sends o) (λ j. e);
+      link_of = put_range w.link_of w.messages (sends o) (λ j. e);
       part = put w.part e (own (w.part e) w.messages o);
     }

@@ -6,7 +6,7 @@ use Rattle.sva_step.specs.declared.steps.Step.{Step}
 pub use Rattle.sva_step.specs.Limits.{Fits}
 use Rattle.sva_model.specs.Message.{Code}
 use Rattle.sva_model.specs.Range.{Range}
-use Rattle.sva_model.specs.State.{PasidRule, Part, World}
+use Rattle.sva_model.specs.State.{PasidRule, Endpoint, World}
 use Rattle.sva_model.specs.State.PasidRule.{PerSpace}
 use Rattle.sva_model.specs.State.PasidState.{Off}
 use Rattle.sva_model.specs.State.Stage.{Live, Stopping, Draining, Invalidating, Quiet, Lost}
@@ -15,7 +15,7 @@ use Rattle.sva_model.specs.State.UseState.{Running}
 use Rattle.sva_model.specs.State.PageRequestState.{Arrived, Filed}
 use Rattle.sva_model.specs.State.Order.{RangeOf}
 use Rattle.sva_model.specs.State.OrderState.{Done}
-use Rattle.sva_model.specs.State.About.{StartOf, StopOf, CompletionOf, ResponseOf, PageRequestOf, MarkerOf}
+use Rattle.sva_model.specs.State.Subject.{StartOf, StopOf, CompletionOf, ResponseOf, PageRequestOf, MarkerOf}
 use Rattle.sva_model.specs.State.Phase.{Open}
 use Rattle.sva_model.specs.States.{covers, is_unreleased, is_open_group, is_wait, place}
 use Rattle.sva_model.specs.States.Place.{Free, Mapped, Withheld}
@@ -54,16 +54,16 @@ pub record IsMapped (w : World) (frame : ℕ) : Type 0 where
 -- Withheld, by looking back over the list of steps. The steps are `before`, then the step that took the frame out of a
 -- space, then `since`. An endpoint with an unreleased binding of that space just before the step has answered by now if
 -- the binding was Quiet or Lost then;
-abbrev pub WasDone : Part → (binding : ℕ) → Type 0
+abbrev pub WasDone : Endpoint → (binding : ℕ) → Type 0
 WasDone p b = (p.stage b ≡ Quiet) ⊎ (p.stage b ≡ Lost)
 
 -- or the unit was open, the binding Live, Stopping or Draining, and the orders that the step submitted at the unit are done
 -- by now, which are invalidations of ranges of its pages, one that covers the page that led to the frame among them, and a
 -- wait behind them;
-abbrev pub IsBeforeInvalidating : Part → (binding : ℕ) → Type 0
+abbrev pub IsBeforeInvalidating : Endpoint → (binding : ℕ) → Type 0
 IsBeforeInvalidating p b = (p.stage b ≡ Live) ⊎ ((marked : Bool) × (p.stage b ≡ Stopping marked)) ⊎ ((wait : ℕ) × (p.stage b ≡ Draining wait))
 
-pub record HasSubmitted (was then : Part) (binding page : ℕ) : Type 0 where
+pub record HasSubmitted (was then : Endpoint) (binding page : ℕ) : Type 0 where
   -- the last order that the step submitted is a wait
   pub wait : ℕ
   pub is_new : was.orders ≤ wait
@@ -77,12 +77,12 @@ pub record HasSubmitted (was then : Part) (binding page : ℕ) : Type 0 where
   pub own_is_ahead : its_own < wait
   pub own_covers : covers (then.order its_own) binding page ≡ true
 
-abbrev pub AreDone : Part → (from to : ℕ) → Type 0
+abbrev pub AreDone : Endpoint → (from to : ℕ) → Type 0
 AreDone p from to = (k : ℕ) → from ≤ k → k < to → p.order_state k ≡ Done
 
 -- or the binding was Invalidating, and its PASID invalidation and the wait behind it are done by now, perhaps since
 -- before the step; or a reset-done of the endpoint was delivered after the step.
-pub data HasAnswered (was then now : Part) (binding page : ℕ) : Type 0 where
+pub data HasAnswered (was then now : Endpoint) (binding page : ℕ) : Type 0 where
   was_done : WasDone was binding → HasAnswered was then now binding page
   orders_done :
       was.phase ≡ Open
@@ -131,25 +131,25 @@ pub record IsDivided (rule : PasidRule) (config : Config) (steps : List Step) : 
       × (IsWithheld rule config steps f → ⊥))
 
 -- Page requests and responses. The binding under which a page request, a group or a marker was sent is its asker.
-abbrev pub asker_of : Part → (page_request : ℕ) → ℕ
+abbrev pub asker_of : Endpoint → (page_request : ℕ) → ℕ
 asker_of p r = p.asker (p.group_of r)
 
 -- the binding is the one unreleased binding of the endpoint that bears its PASID
-pub record IsBearer (p : Part) (binding : ℕ) : Type 0 where
+pub record IsBearer (p : Endpoint) (binding : ℕ) : Type 0 where
   pub unreleased : is_unreleased (p.stage binding) ≡ true
   pub bears : p.at_pasid (p.pasid binding) ≡ Some binding
   pub alone : (other : ℕ) → is_unreleased (p.stage other) ≡ true → p.pasid other ≡ p.pasid binding → other ≡ binding
 
 -- the endpoint has sent the binding's Stop Marker, and it has arrived: the binding bears its PASID, which is off at the
 -- endpoint since, and no Start, Stop or Marker of it is in flight
-pub record HasSentMarker (p : Part) (binding : ℕ) : Type 0 where
+pub record HasSentMarker (p : Endpoint) (binding : ℕ) : Type 0 where
   pub bearer : IsBearer p binding
   pub off : p.pasid_state binding ≡ Off
   pub no_start : (c : ℕ) → p.message c ≢ Some (StartOf binding)
   pub no_stop : (c : ℕ) → p.message c ≢ Some (StopOf binding)
   pub no_marker : (c : ℕ) → p.message c ≢ Some (MarkerOf binding)
 
-pub record IsMatched (p : Part) : Type 0 where
+pub record IsMatched (p : Endpoint) : Type 0 where
   -- what the host has filed, and each job, stands under its asker
   pub filed : (r : ℕ) → p.page_request r ≡ Filed → p.filed_under (p.group_of r) ≡ asker_of p r
   pub job : (g : ℕ) → is_open_group (p.host_group g) ≡ true → p.filed_under g ≡ p.asker g

@@ -2,14 +2,14 @@
 use Rattle.std.specs.Prelude.{ℕ, suc, ◌+◌, ◌-◌, ◌^◌, Bool, false, ◌&&◌, not, ◌==◌, nat_lt, nat_le, Option, Some, None, option_map, List, map}
 use Rattle.std.specs.Int.{bit_at}
 use Rattle.sva_model.specs.Words.{lowest, any_below, count_below, find, select, is_some, holds_of, the}
-use Rattle.sva_model.specs.Order.{Sort, stays_behind}
-use Rattle.sva_model.specs.Order.Sort.{StartSort, StopSort, ResetSort, CompletionSort, InvalidateSort, ResponseSort, RequestSort, InvalidatedSort}
-use Rattle.sva_model.specs.Order.Sort.{PageRequestSort, MarkerSort, ResetDoneSort}
-use Rattle.sva_model.specs.State.{PasidRule, Mappings, About, Part, World}
+use Rattle.sva_model.specs.LinkOrder.{MessageKind, stays_behind}
+use Rattle.sva_model.specs.LinkOrder.MessageKind.{StartKind, StopKind, ResetKind, CompletionKind, InvalidateKind, ResponseKind, RequestKind, InvalidatedKind}
+use Rattle.sva_model.specs.LinkOrder.MessageKind.{PageRequestKind, MarkerKind, ResetDoneKind}
+use Rattle.sva_model.specs.State.{PasidRule, Mappings, Subject, Endpoint, World}
 use Rattle.sva_model.specs.State.PasidRule.{PerEndpoint, PerSpace}
-use Rattle.sva_model.specs.State.About.{StartOf, StopOf, ResetOrder, CompletionOf, InvalidateOf, ResponseOf, RequestOf, InvalidatedOf, PageRequestOf}
-use Rattle.sva_model.specs.State.About.{MarkerOf, ResetDone}
-use Rattle.sva_model.specs.States.{is_unreleased, is_on, is_ending, is_arrived, is_unfinished, is_outstanding, is_out, is_queued, is_taken, is_busy}
+use Rattle.sva_model.specs.State.Subject.{StartOf, StopOf, FunctionReset, CompletionOf, InvalidateOf, ResponseOf, RequestOf, InvalidatedOf, PageRequestOf}
+use Rattle.sva_model.specs.State.Subject.{MarkerOf, ResetDone}
+use Rattle.sva_model.specs.States.{is_unreleased, is_on, is_ending, is_arrived, is_collecting, is_outstanding, is_out, is_queued, is_taken, is_busy}
 use Rattle.sva_model.specs.States.{uses_noted, is_running, covers, is_open_group, is_job, is_present, is_free}
 
 -- Numbers. Spaces, bindings, messages and cookies are numbered from `first` on, each below 2^63.
@@ -51,7 +51,7 @@ lowest_frame w = lowest w.config.frames (is_free w)
 -- Bindings.
 
 abbrev pub is_binding : World → ℕ → Bool
-is_binding w n = is_number w w.bindings n && is_unreleased ((w.part (w.home (name w n))).stage (name w n))
+is_binding w n = is_number w w.bindings n && is_unreleased ((w.part (w.endpoint_of (name w n))).stage (name w n))
 
 -- has the space an unreleased binding at this endpoint?
 abbrev pub is_bound_at : World → (space endpoint : ℕ) → Bool
@@ -67,7 +67,7 @@ abbrev pub lowest_pasid : (ℕ → Bool) → Option ℕ
 lowest_pasid p = option_map suc (find 32 (λ t. p (suc t)))
 
 -- does a binding of the endpoint bear it? and one of any endpoint? and one of the space, at any endpoint?
-abbrev pub is_borne_at : Part → (pasid : ℕ) → Bool
+abbrev pub is_borne_at : Endpoint → (pasid : ℕ) → Bool
 is_borne_at p t = is_some (p.at_pasid t)
 
 abbrev pub is_borne : World → (pasid : ℕ) → Bool
@@ -100,35 +100,35 @@ space_under w t =
 
 -- A PASID at an endpoint: the binding that bears it, and its state there.
 
-abbrev pub bearer : Part → (pasid : ℕ) → ℕ
+abbrev pub bearer : Endpoint → (pasid : ℕ) → ℕ
 bearer p t = the (p.at_pasid t)
 
-abbrev pub is_started : Part → (pasid : ℕ) → Bool
+abbrev pub is_started : Endpoint → (pasid : ℕ) → Bool
 is_started p t = holds_of (λ b. is_on (p.pasid_state b)) (p.at_pasid t)
 
-abbrev pub is_told_to_stop : Part → (pasid : ℕ) → Bool
+abbrev pub is_told_to_stop : Endpoint → (pasid : ℕ) → Bool
 is_told_to_stop p t = holds_of (λ b. is_ending (p.pasid_state b)) (p.at_pasid t)
 
 -- What the endpoint keeps under a binding.
 
-abbrev pub is_held_at : Part → (binding page request : ℕ) → Bool
+abbrev pub is_held_at : Endpoint → (binding page request : ℕ) → Bool
 is_held_at p b q r = is_some (p.held r) && p.request_binding r == b && p.request_page r == q
 
 -- the request whose answer is cached for the page
-abbrev pub cached : Part → (binding page : ℕ) → ℕ
+abbrev pub cached : Endpoint → (binding page : ℕ) → ℕ
 cached p b q = lowest p.requests (is_held_at p b q)
 
-abbrev pub is_cached : Part → (pasid page : ℕ) → Bool
+abbrev pub is_cached : Endpoint → (pasid page : ℕ) → Bool
 is_cached p t q = holds_of (λ b. any_below p.requests (is_held_at p b q)) (p.at_pasid t)
 
-abbrev pub is_request_out_of : Part → (binding : ℕ) → Bool
+abbrev pub is_request_out_of : Endpoint → (binding : ℕ) → Bool
 is_request_out_of p b = any_below p.requests (λ r. is_out (p.request r) && p.request_binding r == b)
 
-abbrev pub is_use_of : Part → (binding : ℕ) → Bool
+abbrev pub is_use_of : Endpoint → (binding : ℕ) → Bool
 is_use_of p b = any_below p.uses (λ u. is_running (p.use_state u) && p.use_binding u == b)
 
-abbrev pub is_unfinished_of : Part → (binding : ℕ) → Bool
-is_unfinished_of p b = any_below p.groups (λ g. is_unfinished (p.group g) && p.asker g == b)
+abbrev pub is_unfinished_of : Endpoint → (binding : ℕ) → Bool
+is_unfinished_of p b = any_below p.groups (λ g. is_collecting (p.group g) && p.asker g == b)
 
 -- Lowest free labels.
 
@@ -138,28 +138,28 @@ lowest_label n at = lowest n (λ t. not (is_some (at t)))
 -- Page requests.
 
 -- the page requests that wait for their group's response
-abbrev pub outstanding : Part → ℕ
+abbrev pub outstanding : Endpoint → ℕ
 outstanding p = count_below p.page_requests (λ r. is_outstanding (p.group (p.group_of r)))
 
-abbrev pub is_group_of : Part → (pasid index : ℕ) → Bool
-is_group_of p t i = holds_of (λ g. is_unfinished (p.group g) && is_some (p.at_pasid t) && p.asker g == bearer p t) (p.at_index i)
+abbrev pub is_group_of : Endpoint → (pasid index : ℕ) → Bool
+is_group_of p t i = holds_of (λ g. is_collecting (p.group g) && is_some (p.at_pasid t) && p.asker g == bearer p t) (p.at_index i)
 
 -- the page request queue holds the page requests that arrived and aren't filed, in order of arrival
-abbrev pub is_waiting : Part → (arrival : ℕ) → Bool
+abbrev pub is_waiting : Endpoint → (arrival : ℕ) → Bool
 is_waiting p k = is_arrived (p.page_request (p.arrival k))
 
-abbrev pub is_page_queue_empty : Part → Bool
+abbrev pub is_page_queue_empty : Endpoint → Bool
 is_page_queue_empty p = not (any_below p.arrivals (is_waiting p))
 
-abbrev pub oldest_arrived : Part → ℕ
+abbrev pub oldest_arrived : Endpoint → ℕ
 oldest_arrived p = p.arrival (lowest p.arrivals (is_waiting p))
 
 -- has the binding a group that the host has filed in part or whole, and not answered?
-abbrev pub has_open_group : Part → (binding : ℕ) → Bool
+abbrev pub has_open_group : Endpoint → (binding : ℕ) → Bool
 has_open_group p b = any_below p.groups (λ g. is_open_group (p.host_group g) && p.filed_under g == b)
 
 -- the page requests of a group that are filed, in order of filing
-abbrev pub asks : Part → (group : ℕ) → List ℕ
+abbrev pub asks : Endpoint → (group : ℕ) → List ℕ
 asks p g = map p.filing (select p.filings (λ k. p.group_of (p.filing k) == g))
 
 -- the job queue holds the groups with a job, in order of the filing of their last request
@@ -168,16 +168,16 @@ is_queued_job w j = is_job ((w.part (w.job j).endpoint).host_group (w.job j).gro
 
 -- The invalidation queue holds the orders of the unit that are queued, in order of submission.
 
-abbrev pub queue_length : Part → ℕ
+abbrev pub queue_length : Endpoint → ℕ
 queue_length p = count_below p.orders (λ k. is_queued (p.order_state k))
 
-abbrev pub is_queue_empty : Part → Bool
+abbrev pub is_queue_empty : Endpoint → Bool
 is_queue_empty p = not (any_below p.orders (λ k. is_queued (p.order_state k)))
 
-abbrev pub head : Part → ℕ
+abbrev pub head : Endpoint → ℕ
 head p = lowest p.orders (λ k. is_queued (p.order_state k))
 
-abbrev pub is_some_busy : Part → Bool
+abbrev pub is_some_busy : Endpoint → Bool
 is_some_busy p = any_below p.orders (λ k. is_busy (p.order_state k))
 
 -- Invalidations in the endpoint's hands, by the bits of an ITag Vector (PCI Express Base 5.0, section 10.3.2).
@@ -189,45 +189,45 @@ is_set vector t = bit_at vector t == 1
 abbrev pub names_none : (vector : ℕ) → Bool
 names_none vector = not (any_below 32 (is_set vector))
 
-abbrev pub is_pending : Part → (itag : ℕ) → Bool
+abbrev pub is_pending : Endpoint → (itag : ℕ) → Bool
 is_pending p t = holds_of (λ k. is_taken (p.order_state k)) (p.at_itag t)
 
-abbrev pub is_named : Part → (vector order : ℕ) → Bool
+abbrev pub is_named : Endpoint → (vector order : ℕ) → Bool
 is_named p vector k = is_taken (p.order_state k) && is_set vector (p.itag k)
 
 -- does a running use go on that the invalidation noted?
-abbrev pub is_noted_running : Mappings → Part → (order used : ℕ) → Bool
+abbrev pub is_noted_running : Mappings → Endpoint → (order used : ℕ) → Bool
 is_noted_running ms p k u = is_running (p.use_state u) && covers (p.order k) (p.use_binding u) (ms.page (p.use_mapping u))
 
-abbrev pub is_in_use : World → Part → (order : ℕ) → Bool
+abbrev pub is_in_use : World → Endpoint → (order : ℕ) → Bool
 is_in_use w p k = any_below (uses_noted (p.order_state k)) (is_noted_running w.mappings p k)
 
 -- The link.
 
-abbrev pub sort_of : Part → About → Sort
-sort_of p (StartOf b) = StartSort
-sort_of p (StopOf b) = StopSort
-sort_of p ResetOrder = ResetSort
-sort_of p (CompletionOf r found) = CompletionSort
-sort_of p (InvalidateOf k) = InvalidateSort
-sort_of p (ResponseOf g code) = ResponseSort
-sort_of p (RequestOf r) = RequestSort
-sort_of p (InvalidatedOf names) = InvalidatedSort
-sort_of p (PageRequestOf r) = PageRequestSort (p.is_last r)
-sort_of p (MarkerOf b) = MarkerSort
-sort_of p ResetDone = ResetDoneSort
+abbrev pub kind_of : Endpoint → Subject → MessageKind
+kind_of p (StartOf b) = StartKind
+kind_of p (StopOf b) = StopKind
+kind_of p FunctionReset = ResetKind
+kind_of p (CompletionOf r found) = CompletionKind
+kind_of p (InvalidateOf k) = InvalidateKind
+kind_of p (ResponseOf g code) = ResponseKind
+kind_of p (RequestOf r) = RequestKind
+kind_of p (InvalidatedOf names) = InvalidatedKind
+kind_of p (PageRequestOf r) = PageRequestKind (p.is_last r)
+kind_of p (MarkerOf b) = MarkerKind
+kind_of p ResetDone = ResetDoneKind
 
 -- must a message of sort `newer` stay behind what is in flight, if anything is?
-abbrev pub holds_back : Part → Sort → Option About → Bool
+abbrev pub holds_back : Endpoint → MessageKind → Option Subject → Bool
 holds_back p newer None = false
-holds_back p newer (Some older) = stays_behind newer (sort_of p older)
+holds_back p newer (Some older) = stays_behind newer (kind_of p older)
 
-abbrev pub is_permitted : Part → (message : ℕ) → About → Bool
-is_permitted p c about = not (any_below c (λ d. holds_back p (sort_of p about) (p.message d)))
+abbrev pub is_permitted : Endpoint → (message : ℕ) → Subject → Bool
+is_permitted p c subject = not (any_below c (λ d. holds_back p (kind_of p subject) (p.message d)))
 
-abbrev pub is_permitted_now : Part → (message : ℕ) → Option About → Bool
+abbrev pub is_permitted_now : Endpoint → (message : ℕ) → Option Subject → Bool
 is_permitted_now p c None = false
-is_permitted_now p c (Some about) = is_permitted p c about
+is_permitted_now p c (Some subject) = is_permitted p c subject
 
 abbrev pub is_in_flight : World → ℕ → Bool
-is_in_flight w n = is_number w w.messages n && is_some ((w.part (w.way (name w n))).message (name w n))
+is_in_flight w n = is_number w w.messages n && is_some ((w.part (w.link_of (name w n))).message (name w n))

@@ -1,15 +1,16 @@
 -- The refusals of each step, in the order in which they are asked, each with its cause. Want of memory is none of them.
 -- The refusals, their order and the limits are this project's own, except where a comment names a standard.
 use Rattle.std.specs.Prelude.{ℕ, ◌+◌, ◌%◌, ◌^◌, Bool, true, false, ◌&&◌, ◌||◌, not, ◌==◌, nat_lt, nat_le, Option, Some, None, List, [], ◌∷◌, length}
+use Rattle.std.specs.Prelude.{if◌then◌else◌, Result, Ok, Err}
 use Rattle.sva_step.specs.declared.refusals.Refusal.{Refusal}
 use Rattle.sva_step.specs.declared.refusals.Refusal.TheVariants as refusal
 use Rattle.sva_step.specs.declared.steps.Step.{Step}
 use Rattle.sva_step.specs.declared.steps.Step.TheVariants as step
 use Rattle.sva_step.specs.declared.steps.Verdict.{Verdict}
 use Rattle.sva_model.specs.Words.{any_below, all_below, count_below, is_some, the}
-use Rattle.sva_model.specs.State.{Stage, About, Part, World}
+use Rattle.sva_model.specs.State.{Stage, Subject, Endpoint, World}
 use Rattle.sva_model.specs.State.Stage.{Stopping, Draining, Invalidating, Quiet, Lost}
-use Rattle.sva_model.specs.State.About.{ResetOrder, RequestOf}
+use Rattle.sva_model.specs.State.Subject.{FunctionReset, RequestOf}
 use Rattle.sva_model.specs.States.{is_open, is_live_stage, is_done, is_wait}
 use Rattle.sva_model.specs.Acts.{submits}
 use Rattle.sva_model.specs.Labels
@@ -18,6 +19,15 @@ use Rattle.sva_model.specs.Replies.{replies_success, responds, newly_mapped, is_
 -- a test, and what is answered where it holds
 abbrev pub Cause : Type 0
 Cause = Bool × Refusal
+
+-- The first cause that holds refuses; where none does, it is granted.
+abbrev pub by_first_cause : {A : Type 0} → List Cause → (refused : Refusal → A) (granted : A) → A
+by_first_cause [] refused granted = granted
+by_first_cause (cause ∷ causes) refused granted = if cause.0 then refused cause.1 else by_first_cause causes refused granted
+
+-- the answer, unless a cause holds: then the refusal of the first that does
+abbrev pub unless_refused : {A : Type 0} → List Cause → A → Result A Refusal
+unless_refused causes answer = by_first_cause causes (λ refusal. Err refusal) (Ok answer)
 
 -- Causes that several steps ask.
 
@@ -46,11 +56,11 @@ cookies_spent w needed = (Labels.lacks w w.cookies needed, refusal.NumbersSpent)
 abbrev pub no_such_worker : World → ℕ → Cause
 no_such_worker w x = (not (nat_lt x w.config.workers), refusal.NoSuchWorker)
 
-abbrev pub not_held : Part → (pasid page : ℕ) → Cause
+abbrev pub not_held : Endpoint → (pasid page : ℕ) → Cause
 not_held p t q = (not (Labels.is_cached p t q), refusal.NotHeld)
 
 -- the descriptors don't fit into the 64 places of the unit's queue
-abbrev pub is_queue_short : Part → (descriptors : ℕ) → Bool
+abbrev pub is_queue_short : Endpoint → (descriptors : ℕ) → Bool
 is_queue_short p n = nat_lt 64 (Labels.queue_length p + n)
 
 -- Of single steps.
@@ -109,7 +119,7 @@ advance_refusals w e b (Invalidating invalidation wait) =
 advance_refusals w e b stage = resetting w e ∷ (true, refusal.NotYet) ∷ []
 
 -- a pump sends a message only where the head is an invalidation and an ITag is free
-abbrev pub sends_invalidate : Part → Bool
+abbrev pub sends_invalidate : Endpoint → Bool
 sends_invalidate p =
     not (Labels.is_queue_empty p)
     && not (is_wait (p.order (Labels.head p)))
@@ -124,17 +134,17 @@ reply_refusals w j v =
     ∷ []
 
 -- a new group needs the PASID On; one that is there goes on also while the PASID stops
-abbrev pub may_request : Part → (pasid : ℕ) → Option ℕ → Bool
+abbrev pub may_request : Endpoint → (pasid : ℕ) → Option ℕ → Bool
 may_request p t None = Labels.is_started p t
 may_request p t (Some i) = Labels.is_started p t || Labels.is_told_to_stop p t
 
-abbrev pub is_other_group : Part → (pasid : ℕ) → Option ℕ → Bool
+abbrev pub is_other_group : Endpoint → (pasid : ℕ) → Option ℕ → Bool
 is_other_group p t None = false
 is_other_group p t (Some i) = not (Labels.is_group_of p t i)
 
 -- Page requests (PCI Express Base 5.0, section 10.4.1): their allocation (NoCredit; section 10.5.2), and the interface that a
 -- Response Failure disables (PriDisabled; section 10.4.2).
-abbrev pub fault_refusals : World → Part → (pasid : ℕ) → Option ℕ → List Cause
+abbrev pub fault_refusals : World → Endpoint → (pasid : ℕ) → Option ℕ → List Cause
 fault_refusals w p t group =
     (not (may_request p t group), refusal.NotStarted)
     ∷ (nat_le 32 (Labels.outstanding p), refusal.NoCredit)
@@ -146,7 +156,7 @@ fault_refusals w p t group =
 -- An ITag Vector has 32 bits, and a Completion Count says 1 to 8 (PCI Express Base 5.0, section 10.3.2). That each ITag
 -- that the vector names is one which the endpoint has taken, and that no use runs that one of them noted, are this project's
 -- own, in place of section 10.3.3's rules for outstanding requests.
-abbrev pub finish_refusals : World → Part → (vector count : ℕ) → List Cause
+abbrev pub finish_refusals : World → Endpoint → (vector count : ℕ) → List Cause
 finish_refusals w p vector count =
     (Labels.names_none vector || any_below 32 (λ t. Labels.is_set vector t && not (Labels.is_pending p t)), refusal.NotPending)
     ∷ (any_below p.orders (λ k. Labels.is_named p vector k && Labels.is_in_use w p k), refusal.InUse)
@@ -154,7 +164,7 @@ finish_refusals w p vector count =
     ∷ messages_spent w count
     ∷ []
 
-abbrev pub quit_refusals : World → Part → (pasid : ℕ) → List Cause
+abbrev pub quit_refusals : World → Endpoint → (pasid : ℕ) → List Cause
 quit_refusals w p t =
     (not (Labels.is_told_to_stop p t), refusal.NotStopping)
     ∷ (
@@ -164,16 +174,16 @@ quit_refusals w p t =
     ∷ messages_spent w 1
     ∷ []
 
-abbrev pub is_read_only : World → Part → (pasid page : ℕ) → Bool
+abbrev pub is_read_only : World → Endpoint → (pasid page : ℕ) → Bool
 is_read_only w p t q = not (w.mappings.write (the (p.held (Labels.cached p (Labels.bearer p t) q))))
 
 -- only a reset order, and a translation request at an open unit, send a message when they are delivered
-abbrev pub delivery_sends : Part → Option About → Bool
-delivery_sends p (Some ResetOrder) = true
+abbrev pub delivery_sends : Endpoint → Option Subject → Bool
+delivery_sends p (Some FunctionReset) = true
 delivery_sends p (Some (RequestOf r)) = is_open p.phase
 delivery_sends p _ = false
 
-abbrev pub deliver_refusals : World → (message : ℕ) → Part → List Cause
+abbrev pub deliver_refusals : World → (message : ℕ) → Endpoint → List Cause
 deliver_refusals w c p =
     (not (Labels.is_permitted_now p c (p.message c)), refusal.Overtakes)
     ∷ (delivery_sends p (p.message c) && Labels.lacks w w.messages 1, refusal.NumbersSpent)
@@ -194,10 +204,10 @@ refusals w (step.UnmapRange n q order) = no_such_space w n ∷ unmap_range_refus
 refusals w (step.Bind e n) = no_such_endpoint w e ∷ no_such_space w n ∷ bind_refusals w e (Labels.name w n)
 refusals w (step.Unbind n) =
     no_such_binding w n
-    ∷ unbind_refusals w (w.home (Labels.name w n)) ((w.part (w.home (Labels.name w n))).stage (Labels.name w n))
+    ∷ unbind_refusals w (w.endpoint_of (Labels.name w n)) ((w.part (w.endpoint_of (Labels.name w n))).stage (Labels.name w n))
 refusals w (step.Advance n) =
     no_such_binding w n
-    ∷ advance_refusals w (w.home (Labels.name w n)) (Labels.name w n) ((w.part (w.home (Labels.name w n))).stage (Labels.name w n))
+    ∷ advance_refusals w (w.endpoint_of (Labels.name w n)) (Labels.name w n) ((w.part (w.endpoint_of (Labels.name w n))).stage (Labels.name w n))
 refusals w (step.Pump e) =
     no_such_endpoint w e
     ∷ resetting w e
@@ -233,6 +243,6 @@ refusals w (step.Finish e vector count) = no_such_endpoint w e ∷ finish_refusa
 refusals w (step.Quit e t) = no_such_endpoint w e ∷ quit_refusals w (w.part e) t
 refusals w (step.Deliver n) =
     (not (Labels.is_in_flight w n), refusal.NoSuchMessage)
-    ∷ deliver_refusals w (Labels.name w n) (w.part (w.way (Labels.name w n)))
+    ∷ deliver_refusals w (Labels.name w n) (w.part (w.link_of (Labels.name w n)))
 refusals w (step.Look f) = (not (nat_lt f w.config.frames), refusal.NoFrame) ∷ []
 refusals w (step.Bearer t) = (not (nat_le 1 t && nat_le t 32), refusal.BadPasid) ∷ []

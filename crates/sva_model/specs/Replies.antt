@@ -7,7 +7,7 @@ use Rattle.sva_step.specs.declared.steps.Verdict.TheVariants as verdict
 use Rattle.sva_model.specs.Words.{is_some, holds_of, select}
 use Rattle.sva_model.specs.Message.{Code}
 use Rattle.sva_model.specs.Message.Code.{SuccessCode, InvalidCode, FailureCode}
-use Rattle.sva_model.specs.State.{Stage, Part, World}
+use Rattle.sva_model.specs.State.{Stage, Endpoint, World}
 use Rattle.sva_model.specs.State.Stage.{Live, Stopping, Draining}
 use Rattle.sva_model.specs.States.{is_open, is_free}
 use Rattle.sva_model.specs.Acts.{Act}
@@ -26,7 +26,7 @@ response true (Stopping marked) v = Some InvalidCode
 response true (Draining wait) v = Some InvalidCode
 response _ _ v = None
 
-abbrev pub job_part : World → (job : ℕ) → Part
+abbrev pub job_part : World → (job : ℕ) → Endpoint
 job_part w j = w.part (w.job j).endpoint
 
 abbrev pub job_binding : World → (job : ℕ) → ℕ

@@ -14,7 +14,7 @@ use Rattle.sva_model.specs.Message.Code.{SuccessCode, InvalidCode, FailureCode}
 use Rattle.sva_model.specs.Message.Scope.{Everything}
 use Rattle.sva_model.specs.Message.Message.{StartMessage, StopMessage, ResetMessage, CompletionMessage, InvalidateMessage, ResponseMessage, RequestMessage}
 use Rattle.sva_model.specs.Message.Message.{InvalidatedMessage, PageRequestMessage, MarkerMessage, ResetDoneMessage}
-use Rattle.sva_model.specs.State.{Order, Part, World}
+use Rattle.sva_model.specs.State.{Order, Endpoint, World}
 use Rattle.sva_model.specs.State.Order.{PasidOf, Wait}
 use Rattle.sva_model.specs.Steps.{world_after}
 
@@ -193,7 +193,7 @@ NumbersApart = IsRow (config 3 8 3 100) numbers_apart 7 1 0
 
 -- the messages of a run as they were sent, whatever their endpoints, are these
 abbrev pub carried_after : World → ℕ → Message
-carried_after w c = (w.part (w.way c)).carried c
+carried_after w c = (w.part (w.link_of c)).carried c
 
 abbrev pub AreSentInAll : Config → List Line → (count : ℕ) → List Message → Type 0
 AreSentInAll c row count messages = tabulate count (carried_after (world_after PerSpace c (steps_of row))) ≡ messages
@@ -246,7 +246,7 @@ NumbersApartAsSent =
     ∷ [])
 
 -- the orders of a unit after a run, in the order of submission, are these
-abbrev pub orders_of : Part → List Order
+abbrev pub orders_of : Endpoint → List Order
 orders_of p = tabulate p.orders p.order
 
 abbrev pub AreOrdered : Config → List Line → (endpoint : ℕ) → List Order → Type 0

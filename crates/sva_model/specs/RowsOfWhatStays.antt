@@ -7,12 +7,12 @@ use Rattle.sva_step.specs.declared.steps.Verdict.TheVariants as verdict
 use Rattle.sva_model.specs.Message.Code.{InvalidCode}
 use Rattle.sva_model.specs.Message.Message.{ResponseMessage, PageRequestMessage}
 use Rattle.sva_model.specs.Rows.{Line, says, IsRow, config, lines}
-use Rattle.sva_model.specs.Order.{Sort, stays_behind}
-use Rattle.sva_model.specs.Order.Sort.{StartSort, StopSort, ResetSort, CompletionSort, InvalidateSort, ResponseSort, RequestSort, InvalidatedSort}
-use Rattle.sva_model.specs.Order.Sort.{PageRequestSort, MarkerSort, ResetDoneSort}
+use Rattle.sva_model.specs.LinkOrder.{MessageKind, stays_behind}
+use Rattle.sva_model.specs.LinkOrder.MessageKind.{StartKind, StopKind, ResetKind, CompletionKind, InvalidateKind, ResponseKind, RequestKind, InvalidatedKind}
+use Rattle.sva_model.specs.LinkOrder.MessageKind.{PageRequestKind, MarkerKind, ResetDoneKind}
 use Rattle.sva_model.specs.RowsOfWire.{kept_after}
 use Rattle.sva_model.specs.States.Extent.{Pages}
-use Rattle.sva_model.specs.Wire.{PartWire}
+use Rattle.sva_model.specs.Wire.{EndpointWire}
 use Rattle.sva_model.specs.Wire.PlaceWire.{WithheldWire}
 use Rattle.sva_model.specs.Wire.TargetWire.{Cookie, ResetEnd}
 
@@ -178,7 +178,7 @@ use_behind_an_invalidation =
 
 abbrev pub UseBehindAnInvalidation : Type 0
 UseBehindAnInvalidation =
-    map (λ (p : PartWire). p.device.taken) (kept_after (config 1 2 1 0) use_behind_an_invalidation).parts
+    map (λ (p : EndpointWire). p.device.taken) (kept_after (config 1 2 1 0) use_behind_an_invalidation).parts
     ≡ (Some (record { pasid = 1; extent = Pages (record { base = 16; order = 0 }); slots = replicate 16 false }) ∷ replicate 31 None) ∷ []
 
 -- what two PASIDs cache is kept by PASID, and then by page
@@ -202,7 +202,7 @@ cached_by_pasid =
 
 abbrev pub CachedByPasid : Type 0
 CachedByPasid =
-    map (λ (p : PartWire). p.device.cache) (kept_after (config 1 2 1 0) cached_by_pasid).parts
+    map (λ (p : EndpointWire). p.device.cache) (kept_after (config 1 2 1 0) cached_by_pasid).parts
     ≡ (record { pasid = 1; page = 17; frame = 0; write = true } ∷ record { pasid = 2; page = 16; frame = 1; write = true } ∷ []) ∷ []
 
 -- a group of which the host has filed one request, and not the last
@@ -218,7 +218,7 @@ group_filed_in_part =
 
 abbrev pub GroupFiledInPart : Type 0
 GroupFiledInPart =
-    map (λ (p : PartWire). p.host_groups) (kept_after (config 1 1 1 0) group_filed_in_part).parts
+    map (λ (p : EndpointWire). p.host_groups) (kept_after (config 1 1 1 0) group_filed_in_part).parts
     ≡ (record { binding = 0; index = 0; asks = record { page = 32; read = true; write = false } ∷ []; is_whole = false } ∷ []) ∷ []
 
 -- the second group of an index: its page requests carry the index, and so does its response
@@ -258,20 +258,20 @@ SecondGroupOfAnIndex =
 
 -- The order of the link, each sort of message against each older one: what goes down but completions, what goes up, and last ones
 -- among the page requests.
-abbrev pub sorts : List Sort
-sorts =
-    StartSort
-    ∷ StopSort
-    ∷ ResetSort
-    ∷ InvalidateSort
-    ∷ ResponseSort
-    ∷ CompletionSort
-    ∷ RequestSort
-    ∷ InvalidatedSort
-    ∷ PageRequestSort false
-    ∷ PageRequestSort true
-    ∷ MarkerSort
-    ∷ ResetDoneSort
+abbrev pub kinds : List MessageKind
+kinds =
+    StartKind
+    ∷ StopKind
+    ∷ ResetKind
+    ∷ InvalidateKind
+    ∷ ResponseKind
+    ∷ CompletionKind
+    ∷ RequestKind
+    ∷ InvalidatedKind
+    ∷ PageRequestKind false
+    ∷ PageRequestKind true
+    ∷ MarkerKind
+    ∷ ResetDoneKind
     ∷ []
 
 abbrev pub behind_orders_down : List Bool
@@ -283,5 +283,5 @@ behind_page_requests = replicate 8 false ++ replicate 2 true ++ replicate 2 fals
 -- the Start, the Stop and the Reset; what overtakes anything; the last page request and the marker; and the reset-done
 abbrev pub NothingElseIsOrdered : Type 0
 NothingElseIsOrdered =
-    map (λ newer. map (stays_behind newer) sorts) sorts
+    map (λ newer. map (stays_behind newer) kinds) kinds
     ≡ replicate 3 behind_orders_down ++ replicate 6 (replicate 12 false) ++ replicate 2 behind_page_requests ++ replicate 12 true ∷ []

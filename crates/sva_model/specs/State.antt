@@ -17,7 +17,7 @@ pub data Owed : Type 0 where
   Nothing : Owed
   Ranges : (first count resets : ℕ) → Owed
   Pasid : (invalidation wait resets : ℕ) (in_reset : Bool) → Owed
-  AReset : (resets : ℕ) → Owed
+  NextReset : (resets : ℕ) → Owed
 
 pub data MappingState : Type 0 where
   Unmade : MappingState
@@ -77,10 +77,10 @@ pub data PageRequestState : Type 0 where
 -- a group of page requests at its endpoint (section 10.4.1): its last request isn't sent yet; it is; it is, and the PASID was
 -- quit; its response came
 pub data GroupState : Type 0 where
-  Unfinished : GroupState
+  Collecting : GroupState
   Awaiting : GroupState
   Stale : GroupState
-  Finished : GroupState
+  Closed : GroupState
 
 -- a group at the host: nothing of it is filed; some; it is a job; a worker holds it; it was answered; a reset has
 -- dropped it; a reset has dropped it and a worker holds it yet
@@ -109,24 +109,24 @@ pub data OrderState : Type 0 where
   Sent : OrderState
   Taken : (uses : ℕ) → OrderState
   Lapsed : OrderState
-  Owing : (count left : ℕ) → OrderState
+  Completing : (count left : ℕ) → OrderState
   Done : OrderState
   Void : OrderState
 
 -- Of what records a message speaks. A completion carries the mapping that it found, if any; an invalidate completion
 -- names the orders for which `names` is true.
-pub data About : Type 0 where
-  StartOf : (binding : ℕ) → About
-  StopOf : (binding : ℕ) → About
-  ResetOrder : About
-  CompletionOf : (request : ℕ) (found : Option ℕ) → About
-  InvalidateOf : (order : ℕ) → About
-  ResponseOf : (group : ℕ) (code : Code) → About
-  RequestOf : (request : ℕ) → About
-  InvalidatedOf : (names : ℕ → Bool) → About
-  PageRequestOf : (request : ℕ) → About
-  MarkerOf : (binding : ℕ) → About
-  ResetDone : About
+pub data Subject : Type 0 where
+  StartOf : (binding : ℕ) → Subject
+  StopOf : (binding : ℕ) → Subject
+  FunctionReset : Subject
+  CompletionOf : (request : ℕ) (found : Option ℕ) → Subject
+  InvalidateOf : (order : ℕ) → Subject
+  ResponseOf : (group : ℕ) (code : Code) → Subject
+  RequestOf : (request : ℕ) → Subject
+  InvalidatedOf : (names : ℕ → Bool) → Subject
+  PageRequestOf : (request : ℕ) → Subject
+  MarkerOf : (binding : ℕ) → Subject
+  ResetDone : Subject
 
 -- A unit is open; or in reset (a function level reset, section 6.6.2), where first the reset order is in flight and then the
 -- reset-done.
@@ -136,7 +136,7 @@ pub data Phase : Type 0 where
   Cleared : (message : ℕ) → Phase
 
 -- an endpoint with its remapping unit
-pub record Part : Type 0 where
+pub record Endpoint : Type 0 where
   pub phase : Phase
   pub resets : ℕ  -- how many reset-dones were delivered
   pub stage : ℕ → Stage  -- of a binding
@@ -190,7 +190,7 @@ pub record Part : Type 0 where
   pub invalidate_message : ℕ → ℕ  -- the message of an order that was sent
   pub itag : ℕ → ℕ
   pub at_itag : ℕ → Option ℕ
-  pub message : ℕ → Option About  -- what a message in flight speaks of
+  pub message : ℕ → Option Subject  -- what a message in flight speaks of
   pub carried : ℕ → Message  -- a message as it was sent
 
 -- a job: a group whose last page request was filed
@@ -212,17 +212,17 @@ pub record World : Type 0 where
   pub is_live : ℕ → Bool
   pub mappings : Mappings
   pub bindings : ℕ
-  pub home : ℕ → ℕ  -- of a binding: its endpoint
+  pub endpoint_of : ℕ → ℕ  -- of a binding: its endpoint
   pub cookies : ℕ
   pub messages : ℕ
-  pub way : ℕ → ℕ  -- of a message: its endpoint
+  pub link_of : ℕ → ℕ  -- of a message: its endpoint
   pub jobs : ℕ
   pub job : ℕ → JobName
   pub hand : ℕ → Option ℕ  -- of a worker: the job that it holds
-  pub part : ℕ → Part
+  pub part : ℕ → Endpoint
 
 -- an endpoint before its first step
-abbrev pub blank : Part
+abbrev pub blank : Endpoint
 blank =
     record {
       phase = Phase.Open;
@@ -250,7 +250,7 @@ blank =
       asker = λ g. 0;
       index = λ g. 0;
       first_request = λ g. 0;
-      group = λ g. GroupState.Finished;
+      group = λ g. GroupState.Closed;
       at_index = λ t. None;
       is_disabled = false;
       page_requests = 0;
@@ -302,10 +302,10 @@ opened rule config =
         latest = λ f. None;
       };
       bindings = 0;
-      home = λ b. 0;
+      endpoint_of = λ b. 0;
       cookies = 0;
       messages = 0;
-      way = λ c. 0;
+      link_of = λ c. 0;
       jobs = 0;
       job = λ j. record { endpoint = 0; group = 0 };
       hand = λ w. None;

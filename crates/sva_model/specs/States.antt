@@ -3,18 +3,18 @@ use Rattle.std.specs.Prelude.{ℕ, suc, ◌+◌, Bool, true, false, ◌&&◌, �
 use Rattle.sva_model.specs.Words.{all_below}
 use Rattle.sva_model.specs.Range.{Range, is_in}
 use Rattle.sva_model.specs.State.{Owed, MappingState, Stage, PasidState, RequestState, UseState, PageRequestState, GroupState, HostGroupState, Order}
-use Rattle.sva_model.specs.State.{OrderState, Phase, Part, World}
-use Rattle.sva_model.specs.State.Owed.{Nothing, Ranges, Pasid, AReset}
+use Rattle.sva_model.specs.State.{OrderState, Phase, Endpoint, World}
+use Rattle.sva_model.specs.State.Owed.{Nothing, Ranges, Pasid, NextReset}
 use Rattle.sva_model.specs.State.MappingState.{Present, Gone}
 use Rattle.sva_model.specs.State.Stage.{Unbound, Live, Stopping, Draining, Released}
 use Rattle.sva_model.specs.State.PasidState.{Off, On, Ending}
 use Rattle.sva_model.specs.State.RequestState.{Out, Doomed}
 use Rattle.sva_model.specs.State.UseState.{Running}
 use Rattle.sva_model.specs.State.PageRequestState.{Arrived}
-use Rattle.sva_model.specs.State.GroupState.{Unfinished, Finished}
+use Rattle.sva_model.specs.State.GroupState.{Collecting, Closed}
 use Rattle.sva_model.specs.State.HostGroupState.{PartFiled, Job, InHand}
 use Rattle.sva_model.specs.State.Order.{RangeOf, PasidOf, Wait}
-use Rattle.sva_model.specs.State.OrderState.{Queued, Sent, Taken, Lapsed, Owing, Done}
+use Rattle.sva_model.specs.State.OrderState.{Queued, Sent, Taken, Lapsed, Completing, Done}
 use Rattle.sva_model.specs.State.Phase.{Open}
 
 abbrev pub is_open : Phase → Bool
@@ -65,13 +65,13 @@ abbrev pub is_arrived : PageRequestState → Bool
 is_arrived Arrived = true
 is_arrived _ = false
 
-abbrev pub is_unfinished : GroupState → Bool
-is_unfinished Unfinished = true
-is_unfinished _ = false
+abbrev pub is_collecting : GroupState → Bool
+is_collecting Collecting = true
+is_collecting _ = false
 
 -- does it keep its index and its requests' allocation (section 10.5.2)?
 abbrev pub is_outstanding : GroupState → Bool
-is_outstanding Finished = false
+is_outstanding Closed = false
 is_outstanding _ = true
 
 abbrev pub is_job : HostGroupState → Bool
@@ -98,7 +98,7 @@ abbrev pub is_busy : OrderState → Bool
 is_busy Sent = true
 is_busy (Taken uses) = true
 is_busy Lapsed = true
-is_busy (Owing count left) = true
+is_busy (Completing count left) = true
 is_busy _ = false
 
 abbrev pub is_done : OrderState → Bool
@@ -135,11 +135,11 @@ covers (PasidOf b) binding page = b == binding && is_within AllPages page
 covers (Wait cookie drain) binding page = false
 
 -- Has the endpoint answered for a mapping that was taken out, by now?
-abbrev pub answered : Part → Owed → Bool
+abbrev pub answered : Endpoint → Owed → Bool
 answered p Nothing = true
 answered p (Ranges first count resets) = all_below (suc count) (λ j. is_done (p.order_state (first + j))) || nat_lt resets p.resets
 answered p (Pasid invalidation wait resets in_reset) = (is_done (p.order_state invalidation) && is_done (p.order_state wait)) || nat_lt resets p.resets
-answered p (AReset resets) = nat_lt resets p.resets
+answered p (NextReset resets) = nat_lt resets p.resets
 
 abbrev pub is_present : MappingState → Bool
 is_present Present = true

@@ -9,7 +9,7 @@ use Rattle.sva_model.specs.State.{PasidRule, World, opened}
 use Rattle.sva_model.specs.States.{Place, place}
 use Rattle.sva_model.specs.States.Place.{Free, Mapped, Withheld}
 use Rattle.sva_model.specs.Acts.{Act, act}
-use Rattle.sva_model.specs.Refusals.{Cause, refusals}
+use Rattle.sva_model.specs.Refusals.{Cause, by_first_cause, refusals}
 use Rattle.sva_model.specs.Outcomes.{Outcome, outcome}
 
 abbrev pub Reply : Type 0
@@ -22,8 +22,8 @@ pub record Decision : Type 0 where
 
 -- the first cause that holds refuses the step
 abbrev pub checked : List Cause → Outcome → Decision
-checked [] o = record { reply = Ok o.answer; acts = o.acts }
-checked (c ∷ cs) o = if c.0 then record { reply = Err c.1; acts = [] } else checked cs o
+checked causes outcome =
+    by_first_cause causes (λ refusal. record { reply = Err refusal; acts = [] }) (record { reply = Ok outcome.answer; acts = outcome.acts })
 
 abbrev pub decide : World → Step → Decision
 decide w s = checked (refusals w s) (outcome w s)

@@ -9,14 +9,14 @@ use Rattle.std.specs.Prelude.{List, [], ◌∷◌, map}
 use Rattle.sva_model.specs.Words.{any_below, count_below, select, tabulate, is_some, holds_of, the}
 use Rattle.sva_model.specs.Range.{Range}
 use Rattle.sva_model.specs.Message.{Message}
-use Rattle.sva_model.specs.State.{Owed, MappingState, Mappings, Stage, PasidState, RequestState, GroupState, HostGroupState, Order, OrderState, Part, World}
+use Rattle.sva_model.specs.State.{Owed, MappingState, Mappings, Stage, PasidState, RequestState, GroupState, HostGroupState, Order, OrderState, Endpoint, World}
 use Rattle.sva_model.specs.State.Owed.{Ranges, Pasid}
 use Rattle.sva_model.specs.State.MappingState.{Gone}
 use Rattle.sva_model.specs.State.Stage.{Live, Stopping, Draining, Invalidating, Lost}
 use Rattle.sva_model.specs.State.PasidState.{Off}
 use Rattle.sva_model.specs.State.RequestState.{Doomed}
 use Rattle.sva_model.specs.State.Order.{RangeOf, PasidOf, Wait}
-use Rattle.sva_model.specs.State.OrderState.{Taken, Owing}
+use Rattle.sva_model.specs.State.OrderState.{Taken, Completing}
 use Rattle.sva_model.specs.States.{Extent, Place, is_open, is_unreleased, is_running, is_open_group, is_queued, is_present, answered, covers, place}
 use Rattle.sva_model.specs.States.Place.{Free, Mapped, Withheld}
 use Rattle.sva_model.specs.Acts.{extent_of, binding_of}
@@ -97,15 +97,15 @@ cookie_number first (Wait cookie drain) = number first cookie
 cookie_number first o = 0
 
 -- what is waited for at a unit that hasn't answered: a wait that was submitted, or the end of the reset that it was in
-abbrev pub target_of : (first : ℕ) → Part → Owed → TargetWire
+abbrev pub target_of : (first : ℕ) → Endpoint → Owed → TargetWire
 target_of first p (Ranges range count resets) = Cookie (cookie_number first (p.order (range + count)))
 target_of first p (Pasid invalidation wait resets in_reset) = if in_reset then ResetEnd else Cookie (cookie_number first (p.order wait))
 target_of first p _ = ResetEnd
 
-abbrev pub target_wire : (first : ℕ) → Part → Owed → Option TargetWire
+abbrev pub target_wire : (first : ℕ) → Endpoint → Owed → Option TargetWire
 target_wire first p owed = if answered p owed then None else Some (target_of first p owed)
 
-abbrev pub withheld_wire : (first endpoints : ℕ) → (ℕ → Part) → MappingState → PlaceWire
+abbrev pub withheld_wire : (first endpoints : ℕ) → (ℕ → Endpoint) → MappingState → PlaceWire
 withheld_wire first endpoints part (Gone owed) =
     WithheldWire (tabulate 8 (λ e. if nat_lt e endpoints then target_wire first (part e) (owed e) else None))
 withheld_wire first endpoints part state = FreeWire
@@ -129,7 +129,7 @@ pub data StageWire : Type 0 where
   QuietWire : StageWire
   LostWire : StageWire
 
-abbrev pub stage_wire : (first : ℕ) → Part → Stage → StageWire
+abbrev pub stage_wire : (first : ℕ) → Endpoint → Stage → StageWire
 stage_wire first p Live = LiveWire
 stage_wire first p (Stopping marked) = StoppingWire marked
 stage_wire first p (Draining wait) = DrainingWire (cookie_number first (p.order wait))
@@ -144,13 +144,13 @@ pub record BindingWire : Type 0 where
   pub pasid : ℕ
   pub stage : StageWire
 
-abbrev pub binding_wire : (first endpoint : ℕ) → Part → (binding : ℕ) → BindingWire
+abbrev pub binding_wire : (first endpoint : ℕ) → Endpoint → (binding : ℕ) → BindingWire
 binding_wire first e p b =
     record { endpoint = e; space = number first (p.space b); binding = number first b; pasid = p.pasid b; stage = stage_wire first p (p.stage b) }
 
-abbrev pub bindings_wire : (first bindings : ℕ) → (home : ℕ → ℕ) → (ℕ → Part) → List BindingWire
-bindings_wire first bindings home part =
-    map (λ b. binding_wire first (home b) (part (home b)) b) (select bindings (λ b. is_unreleased ((part (home b)).stage b)))
+abbrev pub bindings_wire : (first bindings : ℕ) → (endpoint_of : ℕ → ℕ) → (ℕ → Endpoint) → List BindingWire
+bindings_wire first bindings endpoint_of part =
+    map (λ b. binding_wire first (endpoint_of b) (part (endpoint_of b)) b) (select bindings (λ b. is_unreleased ((part (endpoint_of b)).stage b)))
 
 -- The device: what an endpoint keeps itself.
 
@@ -190,7 +190,7 @@ pub record DeviceWire : Type 0 where
   pub groups : List (Option GroupWire)
   pub is_disabled : Bool
 
-abbrev pub state_of_pasid : Part → Option ℕ → PasidState
+abbrev pub state_of_pasid : Endpoint → Option ℕ → PasidState
 state_of_pasid p None = Off
 state_of_pasid p (Some b) = p.pasid_state b
 
@@ -198,33 +198,33 @@ abbrev pub is_doomed : RequestState → Bool
 is_doomed Doomed = true
 is_doomed _ = false
 
-abbrev pub request_wire : Part → (request : ℕ) → RequestWire
+abbrev pub request_wire : Endpoint → (request : ℕ) → RequestWire
 request_wire p r = record { pasid = p.pasid (p.request_binding r); page = p.request_page r; is_doomed = is_doomed (p.request r) }
 
-abbrev pub translation_wire : Mappings → Part → (binding page mapping : ℕ) → TranslationWire
+abbrev pub translation_wire : Mappings → Endpoint → (binding page mapping : ℕ) → TranslationWire
 translation_wire ms p b q m = record { pasid = p.pasid b; page = q; frame = ms.frame m; write = ms.write m }
 
 abbrev pub is_before : TranslationWire → TranslationWire → Bool
 is_before a b = nat_lt a.pasid b.pasid || (a.pasid == b.pasid && nat_lt a.page b.page)
 
 -- the translation that the answer to a request left in the cache
-abbrev pub cached_wire : Mappings → Part → (request : ℕ) → TranslationWire
+abbrev pub cached_wire : Mappings → Endpoint → (request : ℕ) → TranslationWire
 cached_wire ms p r = translation_wire ms p (p.request_binding r) (p.request_page r) (the (p.held r))
 
-abbrev pub cache_wire : Mappings → Part → List TranslationWire
+abbrev pub cache_wire : Mappings → Endpoint → List TranslationWire
 cache_wire ms p = sorted_by is_before (map (cached_wire ms p) (select p.requests (λ r. is_some (p.held r))))
 
-abbrev pub use_wire : Mappings → Part → (used : ℕ) → UseWire
+abbrev pub use_wire : Mappings → Endpoint → (used : ℕ) → UseWire
 use_wire ms p u =
     if is_running (p.use_state u)
     then RunningWire (translation_wire ms p (p.use_binding u) (ms.page (p.use_mapping u)) (p.use_mapping u))
     else DeadWire
 
 -- does a taken order wait for the use?
-abbrev pub is_noted : Mappings → Part → (order uses used : ℕ) → Bool
+abbrev pub is_noted : Mappings → Endpoint → (order uses used : ℕ) → Bool
 is_noted ms p k uses u = nat_lt u uses && Labels.is_noted_running ms p k u
 
-abbrev pub taken_by : Mappings → Part → (order : ℕ) → OrderState → Option TakenWire
+abbrev pub taken_by : Mappings → Endpoint → (order : ℕ) → OrderState → Option TakenWire
 taken_by ms p k (Taken uses) =
     Some (record {
       pasid = p.pasid (binding_of (p.order k));
@@ -234,10 +234,10 @@ taken_by ms p k (Taken uses) =
     })
 taken_by ms p k _ = None
 
-abbrev pub group_wire : Part → (group : ℕ) → GroupWire
+abbrev pub group_wire : Endpoint → (group : ℕ) → GroupWire
 group_wire p g = record { pasid = p.pasid (p.asker g); state = p.group g; requests = count_below p.page_requests (λ r. p.group_of r == g) }
 
-abbrev pub device_wire : Mappings → Part → DeviceWire
+abbrev pub device_wire : Mappings → Endpoint → DeviceWire
 device_wire ms p =
     record {
       pasids = tabulate 32 (λ t. state_of_pasid p (p.at_pasid (suc t)));
@@ -271,16 +271,16 @@ pub record UnitWire : Type 0 where
   pub front : ℕ
   pub waits_end : ℕ
 
-abbrev pub descriptor : (first : ℕ) → Part → Order → Descriptor
+abbrev pub descriptor : (first : ℕ) → Endpoint → Order → Descriptor
 descriptor first p (RangeOf b range) = RangeDescriptor (p.pasid b) range
 descriptor first p (PasidOf b) = PasidDescriptor (p.pasid b)
 descriptor first p (Wait cookie drain) = WaitDescriptor (number first cookie) drain
 
 abbrev pub busy_wire : OrderState → BusyWire
-busy_wire (Owing count left) = if left == count then Fresh else Counting count (count - left)
+busy_wire (Completing count left) = if left == count then Fresh else Counting count (count - left)
 busy_wire _ = Fresh
 
-abbrev pub unit_wire : (first : ℕ) → Part → UnitWire
+abbrev pub unit_wire : (first : ℕ) → Endpoint → UnitWire
 unit_wire first p =
     record {
       is_open = is_open p.phase;
@@ -310,17 +310,17 @@ pub record HostGroupWire : Type 0 where
   pub asks : List AskWire
   pub is_whole : Bool
 
-abbrev pub ask_wire : Part → (page_request : ℕ) → AskWire
+abbrev pub ask_wire : Endpoint → (page_request : ℕ) → AskWire
 ask_wire p r = record { page = p.asked_page r; read = p.asks_read r; write = p.asks_write r }
 
-abbrev pub page_request_wire : Part → (page_request : ℕ) → PageRequestWire
+abbrev pub page_request_wire : Endpoint → (page_request : ℕ) → PageRequestWire
 page_request_wire p r = record { pasid = p.pasid (p.asker (p.group_of r)); index = p.index (p.group_of r); ask = ask_wire p r; last = p.is_last r }
 
-abbrev pub page_queue_wire : Part → List PageRequestWire
+abbrev pub page_queue_wire : Endpoint → List PageRequestWire
 page_queue_wire p = map (λ k. page_request_wire p (p.arrival k)) (select p.arrivals (Labels.is_waiting p))
 
 -- the asks of a group that are filed, in order of filing
-abbrev pub asks_wire : Part → (group : ℕ) → List AskWire
+abbrev pub asks_wire : Endpoint → (group : ℕ) → List AskWire
 asks_wire p g = map (ask_wire p) (Labels.asks p g)
 
 abbrev pub is_part : HostGroupState → Bool
@@ -328,25 +328,25 @@ is_part HostGroupState.PartFiled = true
 is_part _ = false
 
 -- the filing that began a group which is open
-abbrev pub begins_open : Part → (filing : ℕ) → Bool
+abbrev pub begins_open : Endpoint → (filing : ℕ) → Bool
 begins_open p k =
     is_open_group (p.host_group (p.group_of (p.filing k))) && not (any_below k (λ j. p.group_of (p.filing j) == p.group_of (p.filing k)))
 
-abbrev pub host_group_wire : (first : ℕ) → Part → (group : ℕ) → HostGroupWire
+abbrev pub host_group_wire : (first : ℕ) → Endpoint → (group : ℕ) → HostGroupWire
 host_group_wire first p g =
     record { binding = number first (p.filed_under g); index = p.index g; asks = asks_wire p g; is_whole = not (is_part (p.host_group g)) }
 
-abbrev pub host_groups_wire : (first : ℕ) → Part → List HostGroupWire
+abbrev pub host_groups_wire : (first : ℕ) → Endpoint → List HostGroupWire
 host_groups_wire first p = map (λ k. host_group_wire first p (p.group_of (p.filing k))) (select p.filings (begins_open p))
 
 -- an endpoint with its unit
-pub record PartWire : Type 0 where
+pub record EndpointWire : Type 0 where
   pub device : DeviceWire
   pub unit : UnitWire
   pub page_queue : List PageRequestWire
   pub host_groups : List HostGroupWire
 
-abbrev pub part_wire : (first : ℕ) → Mappings → Part → PartWire
+abbrev pub part_wire : (first : ℕ) → Mappings → Endpoint → EndpointWire
 part_wire first ms p =
     record { device = device_wire ms p; unit = unit_wire first p; page_queue = page_queue_wire p; host_groups = host_groups_wire first p }
 
@@ -358,7 +358,7 @@ pub record JobWire : Type 0 where
   pub index : ℕ
   pub asks : List AskWire
 
-abbrev pub group_job : (first endpoint : ℕ) → Part → (group : ℕ) → JobWire
+abbrev pub group_job : (first endpoint : ℕ) → Endpoint → (group : ℕ) → JobWire
 group_job first e p g = record { endpoint = e; binding = number first (p.filed_under g); index = p.index g; asks = asks_wire p g }
 
 abbrev pub job_wire : World → (job : ℕ) → JobWire
@@ -370,13 +370,13 @@ pub record FlightWire : Type 0 where
   pub message : Message
 
 abbrev pub flight_wire : World → (message : ℕ) → FlightWire
-flight_wire w c = record { number = number w.config.first c; endpoint = w.way c; message = (w.part (w.way c)).carried c }
+flight_wire w c = record { number = number w.config.first c; endpoint = w.link_of c; message = (w.part (w.link_of c)).carried c }
 
 pub record Wire : Type 0 where
   pub spaces : List SpaceWire
   pub places : List PlaceWire
   pub bindings : List BindingWire
-  pub parts : List PartWire
+  pub parts : List EndpointWire
   pub jobs : List JobWire
   pub hands : List (Option JobWire)
   pub in_flight : List FlightWire  -- oldest first
@@ -391,11 +391,11 @@ wire w =
     record {
       spaces = spaces_wire first w.spaces w.is_live w.mappings;
       places = places_wire w;
-      bindings = bindings_wire first w.bindings w.home w.part;
+      bindings = bindings_wire first w.bindings w.endpoint_of w.part;
       parts = tabulate w.config.endpoints (λ e. part_wire first w.mappings (w.part e));
       jobs = map (job_wire w) (select w.jobs (Labels.is_queued_job w));
       hands = tabulate w.config.workers (λ x. option_map (job_wire w) (w.hand x));
-      in_flight = map (flight_wire w) (select w.messages (λ c. is_some ((w.part (w.way c)).message c)));
+      in_flight = map (flight_wire w) (select w.messages (λ c. is_some ((w.part (w.link_of c)).message c)));
       next_space = number first w.spaces;
       next_binding = number first w.bindings;
       next_message = number first w.messages;

@@ -4,9 +4,9 @@ use Rattle.std.proofs.Common.{arith}
 use Rattle.std.proofs.lemmas.Bool.Decides.{nat_tests}
 use Rattle.std.specs.List.{list_any}
 use Rattle.std.specs.Map.{lookup}
-use Rattle.sva_model.specs.Order.{Sort, StartSort, StopSort, ResetSort, CompletionSort, InvalidateSort, ResponseSort, RequestSort, InvalidatedSort}
-use Rattle.sva_model.specs.Order.{PageRequestSort, MarkerSort, ResetDoneSort, stays_behind}
-use Rattle.sva_msg.specs.Kind.{sort_of, is_ordered}
+use Rattle.sva_model.specs.LinkOrder.{MessageKind, StartKind, StopKind, ResetKind, CompletionKind, InvalidateKind, ResponseKind, RequestKind, InvalidatedKind}
+use Rattle.sva_model.specs.LinkOrder.{PageRequestKind, MarkerKind, ResetDoneKind, stays_behind}
+use Rattle.sva_msg.specs.Kind.{kind_of, is_ordered}
 use Rattle.sva_msg.specs.Bag.{InFlight, AreNumbered, IsNumbered, MayDeliver, message_at, must_follow}
 use Rattle.sva_msg.specs.declared.messages.Message.{Message}
 use Rattle.sva_msg.proofs.Numbered.{lookup-below}
@@ -75,23 +75,23 @@ may_deliver-is bag n m r numbered at is = (to, from)
         grind (arith, nat_tests)
 
 -- a message that is ordered behind none may be delivered
-never_behind : (s older : Sort) → is_ordered s ≡ false → stays_behind s older ≡ false
-never_behind (PageRequestSort false) older is = refl
-never_behind (PageRequestSort true) older is = absurd (cc)
-never_behind StartSort older is = absurd (cc)
-never_behind StopSort older is = absurd (cc)
-never_behind ResetSort older is = absurd (cc)
-never_behind MarkerSort older is = absurd (cc)
-never_behind ResetDoneSort older is = absurd (cc)
-never_behind CompletionSort older is = refl
-never_behind InvalidateSort older is = refl
-never_behind ResponseSort older is = refl
-never_behind RequestSort older is = refl
-never_behind InvalidatedSort older is = refl
+never_behind : (s older : MessageKind) → is_ordered s ≡ false → stays_behind s older ≡ false
+never_behind (PageRequestKind false) older is = refl
+never_behind (PageRequestKind true) older is = absurd (cc)
+never_behind StartKind older is = absurd (cc)
+never_behind StopKind older is = absurd (cc)
+never_behind ResetKind older is = absurd (cc)
+never_behind MarkerKind older is = absurd (cc)
+never_behind ResetDoneKind older is = absurd (cc)
+never_behind CompletionKind older is = refl
+never_behind InvalidateKind older is = refl
+never_behind ResponseKind older is = refl
+never_behind RequestKind older is = refl
+never_behind InvalidatedKind older is = refl
 
-pub may_overtake : (bag : InFlight) (n : ℕ) (m : Message) → message_at bag n ≡ Some m → is_ordered (sort_of m.kind) ≡ false → MayDeliver bag n
+pub may_overtake : (bag : InFlight) (n : ℕ) (m : Message) → message_at bag n ≡ Some m → is_ordered (kind_of m.kind) ≡ false → MayDeliver bag n
 may_overtake bag n m at is =
-    (m, at, λ k older lt there. neither (nat_eq m.endpoint older.endpoint) (never_behind (sort_of m.kind) (sort_of older.kind) is))
+    (m, at, λ k older lt there. neither (nat_eq m.endpoint older.endpoint) (never_behind (kind_of m.kind) (kind_of older.kind) is))
   where
     neither : {t : Bool} → (s : Bool) → t ≡ false → (s && t) ≡ false
     neither true h = h

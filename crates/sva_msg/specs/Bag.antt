@@ -3,8 +3,8 @@ use Rattle.std.specs.Prelude.{◌≡◌, ℕ, ◌+◌, ◌<◌, ◌≤◌, ◌^�
 use Rattle.std.specs.List.{range_with_len}
 use Rattle.indexmap.specs.IndexMap.{shift_remove_entry}
 use Rattle.std.specs.Map.{lookup}
-use Rattle.sva_model.specs.Order.{stays_behind}
-use Rattle.sva_msg.specs.Kind.{sort_of}
+use Rattle.sva_model.specs.LinkOrder.{stays_behind}
+use Rattle.sva_msg.specs.Kind.{kind_of}
 use Rattle.sva_msg.specs.declared.messages.Message.{Message}
 
 -- the messages in flight, each with its number, oldest first, and the number that the next one gets
@@ -43,7 +43,7 @@ without bag number = record bag { messages = shift_remove_entry (nat_eq number) 
 
 -- must the newer message not overtake the older one? Two messages are ordered only if they have one endpoint.
 abbrev pub must_follow : Message → Message → Bool
-must_follow newer older = nat_eq newer.endpoint older.endpoint && stays_behind (sort_of newer.kind) (sort_of older.kind)
+must_follow newer older = nat_eq newer.endpoint older.endpoint && stays_behind (kind_of newer.kind) (kind_of older.kind)
 
 -- The message with this number may be delivered now: it is in flight, and there is no older message in flight that it
 -- must not overtake.

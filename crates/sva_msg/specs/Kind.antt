@@ -1,7 +1,7 @@
 -- What the kind of a message says of its way and of its place in the order of the link.
 use Rattle.std.specs.Prelude.{Bool, true, false, not}
-use Rattle.sva_model.specs.Order.{Sort, StartSort, StopSort, ResetSort, CompletionSort, InvalidateSort, ResponseSort, RequestSort, InvalidatedSort}
-use Rattle.sva_model.specs.Order.{PageRequestSort, MarkerSort, ResetDoneSort}
+use Rattle.sva_model.specs.LinkOrder.{MessageKind, StartKind, StopKind, ResetKind, CompletionKind, InvalidateKind, ResponseKind, RequestKind, InvalidatedKind}
+use Rattle.sva_model.specs.LinkOrder.{PageRequestKind, MarkerKind, ResetDoneKind}
 use Rattle.sva_msg.specs.declared.messages.Kind.{Kind}
 use Rattle.sva_msg.specs.declared.messages.Kind.TheVariants.{Start, Stop, Reset, Completion, Invalidate, Response, Request, Invalidated, PageRequest}
 use Rattle.sva_msg.specs.declared.messages.Kind.TheVariants.{Marker, ResetDone}
@@ -25,29 +25,29 @@ abbrev pub is_down : Kind → Bool
 is_down kind = not (is_up kind)
 
 -- what the order of the link reads of a kind
-abbrev pub sort_of : Kind → Sort
-sort_of (Start pasid) = StartSort
-sort_of (Stop pasid) = StopSort
-sort_of Reset = ResetSort
-sort_of (Completion tag frame read write) = CompletionSort
-sort_of (Invalidate itag pasid scope) = InvalidateSort
-sort_of (Response pasid index code) = ResponseSort
-sort_of (Request tag pasid page) = RequestSort
-sort_of (Invalidated vector count) = InvalidatedSort
-sort_of (PageRequest request) = PageRequestSort request.last
-sort_of (Marker pasid) = MarkerSort
-sort_of ResetDone = ResetDoneSort
+abbrev pub kind_of : Kind → MessageKind
+kind_of (Start pasid) = StartKind
+kind_of (Stop pasid) = StopKind
+kind_of Reset = ResetKind
+kind_of (Completion tag frame read write) = CompletionKind
+kind_of (Invalidate itag pasid scope) = InvalidateKind
+kind_of (Response pasid index code) = ResponseKind
+kind_of (Request tag pasid page) = RequestKind
+kind_of (Invalidated vector count) = InvalidatedKind
+kind_of (PageRequest request) = PageRequestKind request.last
+kind_of (Marker pasid) = MarkerKind
+kind_of ResetDone = ResetDoneKind
 
 -- is there an older message that one of this sort must not overtake?
-abbrev pub is_ordered : Sort → Bool
-is_ordered (PageRequestSort last) = last
-is_ordered StartSort = true
-is_ordered StopSort = true
-is_ordered ResetSort = true
-is_ordered MarkerSort = true
-is_ordered ResetDoneSort = true
-is_ordered CompletionSort = false
-is_ordered InvalidateSort = false
-is_ordered ResponseSort = false
-is_ordered RequestSort = false
-is_ordered InvalidatedSort = false
+abbrev pub is_ordered : MessageKind → Bool
+is_ordered (PageRequestKind last) = last
+is_ordered StartKind = true
+is_ordered StopKind = true
+is_ordered ResetKind = true
+is_ordered MarkerKind = true
+is_ordered ResetDoneKind = true
+is_ordered CompletionKind = false
+is_ordered InvalidateKind = false
+is_ordered ResponseKind = false
+is_ordered RequestKind = false
+is_ordered InvalidatedKind = false

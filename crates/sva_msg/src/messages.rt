@@ -1,5 +1,5 @@
 ghost use Rattle.std.specs.Prelude.{◌≡◌, ℕ, ◌<◌};
-ghost use Rattle.sva_model.specs.Order.{is_page_request, is_order_down, stays_behind};
+ghost use Rattle.sva_model.specs.LinkOrder.{is_page_request, is_order_down, stays_behind};
 
 use std::marker::Model;
 

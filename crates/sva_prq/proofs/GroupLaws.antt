@@ -7,7 +7,7 @@ use Rattle.std.proofs.lemmas.List.Elements.{All-nil, All-cons}
 use Rattle.std.proofs.lemmas.Map.Views.{any-filter_same}
 use Rattle.std.specs.List.{find, list_any}
 use Rattle.sva_msg.specs.declared.messages.PageRequest.{PageRequest}
-use Rattle.sva_prq.specs.Groups.{OpenGroup, is_unfinished, is_of_serial, is_of_binding, is_of_other_unit, has_job, new_group, with_request, filed_among}
+use Rattle.sva_prq.specs.Groups.{OpenGroup, is_collecting, is_of_serial, is_of_binding, is_of_other_unit, has_job, new_group, with_request, filed_among}
 use Rattle.sva_prq.specs.Groups.{serial_for, answered_among}
 use Rattle.sva_prq.specs.GroupCalls.{GroupCall, Reserve, File, Answered, DropUnit, groups_after, IsGroupHistory, GroupsAreBounded, was_filed, was_made}
 use Rattle.sva_prq.specs.GroupCalls.{is_pending, OpenGroupsAreSeen, SerialsAreNew, SerialsDiffer, OpenIsExact}
@@ -22,11 +22,11 @@ AreSmall [] = Unit {0}
 AreSmall (g ∷ gs) = (length g.asks ≤ 32) × AreSmall gs
 
 AreSmall-filed : (n u b : ℕ) (request : PageRequest) (P : Type 0) (gs : List OpenGroup)
-    → MatchOption (find (is_unfinished u b request.index) gs) P (λ g. length g.asks < 32) → AreSmall gs → AreSmall (filed_among n u b request gs)
+    → MatchOption (find (is_collecting u b request.index) gs) P (λ g. length g.asks < 32) → AreSmall gs → AreSmall (filed_among n u b request gs)
 AreSmall-filed n u b request P [] room small = (omega arith, tt)
 AreSmall-filed n u b request P (g ∷ gs) room small =
-    (elim (is_unfinished u b request.index g)
-    as (λ t. MatchOption (cond t (Some g) (find (is_unfinished u b request.index) gs)) P (λ g. length g.asks < 32)
+    (elim (is_collecting u b request.index g)
+    as (λ t. MatchOption (cond t (Some g) (find (is_collecting u b request.index) gs)) P (λ g. length g.asks < 32)
     → AreSmall (cond t (with_request g request ∷ gs) (g ∷ filed_among n u b request gs))) [
       | true ↦ λ few. (let longer = length-append g.asks ((with_request (new_group 0 0 0 0) request).asks) in omega arith, small.1)
       | false ↦ λ rest. (small.0, AreSmall-filed n u b request P gs rest small.1)
@@ -104,14 +104,14 @@ part_serial s gs none =
 module _ (n u b : ℕ) (request : PageRequest) where
   -- the serial of the group to which the request goes
   abbrev serial_in : List OpenGroup → ℕ
-  serial_in gs = (unwrap_or (find (is_unfinished u b request.index) gs) (new_group n u b request.index)).serial
+  serial_in gs = (unwrap_or (find (is_collecting u b request.index) gs) (new_group n u b request.index)).serial
 
   filed_of : (serial unit binding : ℕ) (gs : List OpenGroup)
       → list_any (is_of serial unit binding) (filed_among n u b request gs) ≡
       ((eqb (serial_in gs) serial && eqb u unit && eqb b binding) || list_any (is_of serial unit binding) gs)
   filed_of serial unit binding [] = refl
   filed_of serial unit binding (g ∷ gs) =
-      let p = is_unfinished u b request.index in
+      let p = is_collecting u b request.index in
       let q = is_of serial unit binding in
       (elim (p g)
       as (λ t. p g ≡ t
@@ -131,7 +131,7 @@ module _ (n u b : ℕ) (request : PageRequest) where
       → list_any (has_job serial) (filed_among n u b request gs) ≡ ((eqb (serial_in gs) serial && request.last) || list_any (has_job serial) gs)
   filed_whole serial [] = refl
   filed_whole serial (g ∷ gs) =
-      let p = is_unfinished u b request.index in
+      let p = is_collecting u b request.index in
       let q = has_job serial in
       (elim (p g)
       as (λ t. p g ≡ t
@@ -146,33 +146,33 @@ module _ (n u b : ℕ) (request : PageRequest) where
       ]) refl
 
   -- where an unfinished group takes the request, each keeps its serial
-  joined_any : (s : ℕ) (gs : List OpenGroup) → list_any (is_unfinished u b request.index) gs ≡ true
+  joined_any : (s : ℕ) (gs : List OpenGroup) → list_any (is_collecting u b request.index) gs ≡ true
       → list_any (is_of_serial s) (filed_among n u b request gs) ≡ list_any (is_of_serial s) gs
   joined_any s [] some = absurd (false≢true some)
   joined_any s (g ∷ gs) some =
-      (elim (is_unfinished u b request.index g)
-      as (λ t. (t || list_any (is_unfinished u b request.index) gs) ≡ true
+      (elim (is_collecting u b request.index g)
+      as (λ t. (t || list_any (is_collecting u b request.index) gs) ≡ true
       → list_any (is_of_serial s) (cond t (with_request g request ∷ gs) (g ∷ filed_among n u b request gs)) ≡
       (is_of_serial s g || list_any (is_of_serial s) gs)) [
         | true ↦ λ _. refl
         | false ↦ λ later. ap (λ t. is_of_serial s g || t) (joined_any s gs later)
       ]) some
 
-  joined_one : (s : ℕ) (gs : List OpenGroup) → list_any (is_unfinished u b request.index) gs ≡ true → AtMostOne (is_of_serial s) gs
+  joined_one : (s : ℕ) (gs : List OpenGroup) → list_any (is_collecting u b request.index) gs ≡ true → AtMostOne (is_of_serial s) gs
       → AtMostOne (is_of_serial s) (filed_among n u b request gs)
   joined_one s [] some one = absurd (false≢true some)
   joined_one s (g ∷ gs) some one =
-      (elim (is_unfinished u b request.index g)
-      as (λ t. (t || list_any (is_unfinished u b request.index) gs) ≡ true
+      (elim (is_collecting u b request.index g)
+      as (λ t. (t || list_any (is_collecting u b request.index) gs) ≡ true
       → AtMostOne (is_of_serial s) (cond t (with_request g request ∷ gs) (g ∷ filed_among n u b request gs))) [
         | true ↦ λ _. one
         | false ↦ λ later. (λ passes. joined_any s gs later ∙ one.0 passes, joined_one s gs later one.1)
       ]) some
 
-  joined_serial : (gs : List OpenGroup) → list_any (is_unfinished u b request.index) gs ≡ true → list_any (is_of_serial (serial_in gs)) gs ≡ true
+  joined_serial : (gs : List OpenGroup) → list_any (is_collecting u b request.index) gs ≡ true → list_any (is_of_serial (serial_in gs)) gs ≡ true
   joined_serial [] some = absurd (false≢true some)
   joined_serial (g ∷ gs) some =
-      let p = is_unfinished u b request.index in
+      let p = is_collecting u b request.index in
       (elim (p g)
       as (λ t. (t || list_any p gs) ≡ true
       → (eqb g.serial (unwrap_or (cond t (Some g) (find p gs)) (new_group n u b request.index)).serial
@@ -181,17 +181,17 @@ module _ (n u b : ℕ) (request : PageRequest) where
         | false ↦ λ later. or_right (eqb g.serial (serial_in gs)) _ (joined_serial gs later)
       ]) some
 
-  joined_with : (s : ℕ) (gs : List OpenGroup) → list_any (is_unfinished u b request.index) gs ≡ true → eqb (serial_in gs) s ≡ true
+  joined_with : (s : ℕ) (gs : List OpenGroup) → list_any (is_collecting u b request.index) gs ≡ true → eqb (serial_in gs) s ≡ true
       → list_any (is_of_serial s) gs ≡ true
   joined_with s gs some same =
       ap (λ k. list_any (is_of_serial k) gs) (sym (eqb-true (serial_in gs) s same)) ∙ joined_serial gs some
 
   -- the group that takes its last request is a part no more, and the others are what they were
-  joined_last : (s : ℕ) (gs : List OpenGroup) → list_any (is_unfinished u b request.index) gs ≡ true → AtMostOne (is_of_serial s) gs
+  joined_last : (s : ℕ) (gs : List OpenGroup) → list_any (is_collecting u b request.index) gs ≡ true → AtMostOne (is_of_serial s) gs
       → eqb (serial_in gs) s ≡ true → request.last ≡ true → list_any (is_part s) (filed_among n u b request gs) ≡ false
   joined_last s [] some one same last = absurd (false≢true some)
   joined_last s (g ∷ gs) some one same last =
-      let p = is_unfinished u b request.index in
+      let p = is_collecting u b request.index in
       (elim (p g)
       as (λ t. (t || list_any p gs) ≡ true
       → eqb (unwrap_or (cond t (Some g) (find p gs)) (new_group n u b request.index)).serial s ≡ true
@@ -204,11 +204,11 @@ module _ (n u b : ℕ) (request : PageRequest) where
             ap (λ t. t || list_any (is_part s) (filed_among n u b request gs)) other ∙ joined_last s gs later one.1 mine last
       ]) some same
 
-  joined_part : (s : ℕ) (gs : List OpenGroup) → list_any (is_unfinished u b request.index) gs ≡ true → list_any (is_part s) gs ≡ false
+  joined_part : (s : ℕ) (gs : List OpenGroup) → list_any (is_collecting u b request.index) gs ≡ true → list_any (is_part s) gs ≡ false
       → list_any (is_part s) (filed_among n u b request gs) ≡ false
   joined_part s [] some none = absurd (false≢true some)
   joined_part s (g ∷ gs) some none =
-      let p = is_unfinished u b request.index in
+      let p = is_collecting u b request.index in
       let parts = or_parts (is_part s g) (list_any (is_part s) gs) none in
       (elim (p g)
       as (λ t. p g ≡ t → (t || list_any p gs) ≡ true
@@ -319,7 +319,7 @@ record Kept (history : List GroupCall) : Type 0 where
 
 -- a group takes the request
 module _ (earlier : List GroupCall) (u b : ℕ) (request : PageRequest) (k : Kept earlier)
-    (some : list_any (is_unfinished u b request.index) (groups_after earlier).groups ≡ true) where
+    (some : list_any (is_collecting u b request.index) (groups_after earlier).groups ≡ true) where
   next_joined : (groups_after (File u b request ∷ earlier)).next ≡ (groups_after earlier).next
   next_joined = ap (λ t. cond t (groups_after earlier).next ((groups_after earlier).next + 1)) some
 
@@ -359,7 +359,7 @@ module _ (earlier : List GroupCall) (u b : ℕ) (request : PageRequest) (k : Kep
 
 -- a group begins with the request
 module _ (earlier : List GroupCall) (u b : ℕ) (request : PageRequest) (k : Kept earlier)
-    (none : list_any (is_unfinished u b request.index) (groups_after earlier).groups ≡ false) where
+    (none : list_any (is_collecting u b request.index) (groups_after earlier).groups ≡ false) where
   abbrev n : ℕ
   n = (groups_after earlier).next
 
@@ -376,7 +376,7 @@ module _ (earlier : List GroupCall) (u b : ℕ) (request : PageRequest) (k : Kep
   groups_begun = filed_among-none n u b request gs none
 
   serial_begun : serial_for (groups_after earlier) u b request.index ≡ n
-  serial_begun = ap (λ o. (unwrap_or o (new_group n u b request.index)).serial) (find-none (is_unfinished u b request.index) gs none)
+  serial_begun = ap (λ o. (unwrap_or o (new_group n u b request.index)).serial) (find-none (is_collecting u b request.index) gs none)
 
   apart : (s : ℕ) → n + 1 ≤ s → eqb n s ≡ false
   apart s past = ne_eqb n s (λ e. absurd (omega (arith, e, past)))
@@ -429,8 +429,8 @@ kept (Reserve _ ∷ earlier) =
     record { fresh = k.fresh; unfiled = k.unfiled; unmade = k.unmade; single = k.single; whole = k.whole }
 kept (File u b request ∷ earlier) =
     let k = kept earlier in
-    (elim (list_any (is_unfinished u b request.index) (groups_after earlier).groups)
-    as (λ t. list_any (is_unfinished u b request.index) (groups_after earlier).groups ≡ t → Kept (File u b request ∷ earlier)) [
+    (elim (list_any (is_collecting u b request.index) (groups_after earlier).groups)
+    as (λ t. list_any (is_collecting u b request.index) (groups_after earlier).groups ≡ t → Kept (File u b request ∷ earlier)) [
       | true ↦ λ some. kept_joined earlier u b request k some
       | false ↦ λ none. kept_begun earlier u b request k none
     ]) refl
@@ -458,7 +458,7 @@ kept (DropUnit u ∷ earlier) =
 pub serials_are_new : SerialsAreNew
 serials_are_new history unit binding index none =
     let s = groups_after history in
-    ap (λ o. was_filed (unwrap_or o (new_group s.next unit binding index)).serial history) (find-none (is_unfinished unit binding index) s.groups none)
+    ap (λ o. was_filed (unwrap_or o (new_group s.next unit binding index)).serial history) (find-none (is_collecting unit binding index) s.groups none)
     ∙ (kept history).unfiled s.next (omega arith)
 
 pub serials_differ : SerialsDiffer

@@ -5,7 +5,7 @@ use Rattle.std.proofs.lemmas.Bool.{or_parts, and_parts, eqb-true}
 use Rattle.std.proofs.lemmas.Option.{MatchOption-at_none}
 use Rattle.std.specs.List.{list_any, find}
 use Rattle.sva_msg.specs.declared.messages.PageRequest.{PageRequest}
-use Rattle.sva_prq.specs.Groups.{OpenGroup, Groups, is_unfinished, has_job, new_group, with_request, filed_among, answered_among, after_answer, CanFile}
+use Rattle.sva_prq.specs.Groups.{OpenGroup, Groups, is_collecting, has_job, new_group, with_request, filed_among, answered_among, after_answer, CanFile}
 use Rattle.sva_prq.specs.Groups.{filed, unfinished_asks, job_of, job_made}
 use Rattle.sva_prq.specs.Job.{ask_of}
 
@@ -26,21 +26,21 @@ module _ (p : OpenGroup → Bool) where
 -- filing goes to the first unfinished group, or to a new one
 module _ (next unit binding : ℕ) (request : PageRequest) where
   pub filed_among-first : (front : List OpenGroup) (g : OpenGroup) (back : List OpenGroup)
-      → list_any (is_unfinished unit binding request.index) front ≡ false → is_unfinished unit binding request.index g ≡ true
+      → list_any (is_collecting unit binding request.index) front ≡ false → is_collecting unit binding request.index g ≡ true
       → filed_among next unit binding request (front ++ g ∷ back) ≡ front ++ with_request g request ∷ back
   filed_among-first [] g back none passes =
       ap (λ t. cond t (with_request g request ∷ back) (g ∷ filed_among next unit binding request back)) passes
   filed_among-first (h ∷ front) g back none passes =
-      let p = is_unfinished unit binding request.index in
+      let p = is_collecting unit binding request.index in
       let parts = or_parts (p h) (list_any p front) none in
       ap (λ t. cond t (with_request h request ∷ (front ++ g ∷ back)) (h ∷ filed_among next unit binding request (front ++ g ∷ back))) parts.0
       ∙ ap (λ gs. h ∷ gs) (filed_among-first front g back parts.1 passes)
 
-  pub filed_among-none : (gs : List OpenGroup) → list_any (is_unfinished unit binding request.index) gs ≡ false
+  pub filed_among-none : (gs : List OpenGroup) → list_any (is_collecting unit binding request.index) gs ≡ false
       → filed_among next unit binding request gs ≡ gs ++ with_request (new_group next unit binding request.index) request ∷ []
   filed_among-none [] none = refl
   filed_among-none (h ∷ gs) none =
-      let p = is_unfinished unit binding request.index in
+      let p = is_collecting unit binding request.index in
       let parts = or_parts (p h) (list_any p gs) none in
       ap (λ t. cond t (with_request h request ∷ gs) (h ∷ filed_among next unit binding request gs)) parts.0
       ∙ ap (λ gs. h ∷ gs) (filed_among-none gs parts.1)
@@ -64,7 +64,7 @@ module _ (serial : ℕ) where
 
 -- the group that an unfinished place has names the binding and the index
 job-unfinished : (unit binding : ℕ) (request : PageRequest) (gs : List OpenGroup) (g : OpenGroup)
-    → find (is_unfinished unit binding request.index) gs ≡ Some g → is_unfinished unit binding request.index g ≡ true → (room next : ℕ)
+    → find (is_collecting unit binding request.index) gs ≡ Some g → is_collecting unit binding request.index g ≡ true → (room next : ℕ)
     → job_of (with_request g request) ≡ job_made (record { groups = gs; room = room; next = next }) unit binding request
 job-unfinished unit binding request gs g found passes room next =
     let all = and_parts _ _ passes in
@@ -89,8 +89,8 @@ pub record FiledIn (s : Groups) (unit binding : ℕ) (request : PageRequest) (g 
   pub job : job_of (with_request g request) ≡ job_made s unit binding request
 
 pub filed-in : (s : Groups) (unit binding : ℕ) (request : PageRequest) (g : OpenGroup)
-    → find (is_unfinished unit binding request.index) s.groups ≡ Some g → list_any (is_unfinished unit binding request.index) s.groups ≡ true
-    → is_unfinished unit binding request.index g ≡ true → FiledIn s unit binding request g
+    → find (is_collecting unit binding request.index) s.groups ≡ Some g → list_any (is_collecting unit binding request.index) s.groups ≡ true
+    → is_collecting unit binding request.index g ≡ true → FiledIn s unit binding request g
 filed-in s unit binding request g found any passes =
     record {
       groups = λ gs is i. record { groups = is i; room = cond (sym any i) s.room (s.room - 1); next = cond (sym any i) s.next (s.next + 1) };
@@ -99,15 +99,15 @@ filed-in s unit binding request g found any passes =
 
 -- and where a group begins with it
 pub record FiledNew (s : Groups) (unit binding : ℕ) (request : PageRequest) : Type 0 where
-  pub found : find (is_unfinished unit binding request.index) s.groups ≡ None
+  pub found : find (is_collecting unit binding request.index) s.groups ≡ None
   pub groups : (gs : List OpenGroup) → gs ≡ s.groups ++ with_request (new_group s.next unit binding request.index) request ∷ []
       → record { groups = gs; room = s.room - 1; next = s.next + 1 } ≡ filed s unit binding request
   pub job : job_of (with_request (new_group s.next unit binding request.index) request) ≡ job_made s unit binding request
 
-pub filed-new : (s : Groups) (unit binding : ℕ) (request : PageRequest) → list_any (is_unfinished unit binding request.index) s.groups ≡ false
+pub filed-new : (s : Groups) (unit binding : ℕ) (request : PageRequest) → list_any (is_collecting unit binding request.index) s.groups ≡ false
     → FiledNew s unit binding request
 filed-new s unit binding request none =
-    let p = is_unfinished unit binding request.index in
+    let p = is_collecting unit binding request.index in
     let found = find-none p s.groups none in
     record {
       found = found;
@@ -127,7 +127,7 @@ filed-new s unit binding request none =
 
 -- so a request for which there is room may begin it
 pub may_begin : (s t : Groups) (unit binding : ℕ) (request : PageRequest) → s ≡ t
-    → list_any (is_unfinished unit binding request.index) s.groups ≡ false → CanFile t unit binding request.index
+    → list_any (is_collecting unit binding request.index) s.groups ≡ false → CanFile t unit binding request.index
     → (0 < s.room) × (s.next + 1 < 2 ^ 64)
 may_begin s t unit binding request same none can =
     let found = (filed-new s unit binding request none).found in

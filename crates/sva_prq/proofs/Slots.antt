@@ -8,7 +8,7 @@ use Rattle.std.proofs.lemmas.List.Sums.{sum_by-cons}
 use Rattle.std.proofs.lemmas.Option.{same_Some}
 use Rattle.std.specs.List.{find, list_any}
 use Rattle.sva_msg.specs.declared.messages.PageRequest.{PageRequest}
-use Rattle.sva_prq.specs.Groups.{OpenGroup, is_unfinished, has_job, is_of_unit, is_of_other_unit, with_request, filed_among, answered_among}
+use Rattle.sva_prq.specs.Groups.{OpenGroup, is_collecting, has_job, is_of_unit, is_of_other_unit, with_request, filed_among, answered_among}
 use Rattle.sva_prq.specs.Slots.{IsAt, groups_in, cell_of, AreKept, passes_at, MayHold}
 use Rattle.sva_prq.proofs.Seats
 use Rattle.sva_prq.proofs.Searches.{find-first, filed_among-first, answered_among-first}
@@ -60,14 +60,14 @@ may_hold slots cells next kept k g at part = go (get_or cells (cell_of g.unit g.
 
 pub none_unfinished : (slots : List (Option OpenGroup)) (cells : List (Option ℕ)) (next unit binding index place : ℕ) → AreKept slots cells next
     → place ≡ cell_of unit index
-    → ((k : ℕ) → MayHold (get_or cells place None) k → passes_at (is_unfinished unit binding index) (get_or slots k None) ≡ false)
-    → (k : ℕ) (g : OpenGroup) → IsAt slots k g → is_unfinished unit binding index g ≡ false
+    → ((k : ℕ) → MayHold (get_or cells place None) k → passes_at (is_collecting unit binding index) (get_or slots k None) ≡ false)
+    → (k : ℕ) (g : OpenGroup) → IsAt slots k g → is_collecting unit binding index g ≡ false
 none_unfinished slots cells next unit binding index place kept cell absent k g at =
     false_from_ne_true _ (λ passes.
     let name = unfinished_name unit binding index g passes in
     let holds = may_hold slots cells next kept k g at (unfinished_part unit binding index g passes) in
     let here = subst (λ c. MayHold (get_or cells c None) k) ((λ i. cell_of (name.units i) (name.indexes i)) ∙ sym cell) holds in
-    true≢false (sym passes ∙ ap (passes_at (is_unfinished unit binding index)) (sym at) ∙ absent k here))
+    true≢false (sym passes ∙ ap (passes_at (is_collecting unit binding index)) (sym at) ∙ absent k here))
 
 -- a test that fails in all slots fails in all groups, and one that passes at a key passes there
 pub none_in : (p : OpenGroup → Bool) (slots : List (Option OpenGroup)) → ((k : ℕ) (g : OpenGroup) → IsAt slots k g → p g ≡ false)
@@ -201,20 +201,20 @@ module _ (old new : List (Option OpenGroup)) (cells : List (Option ℕ)) (next :
       ∙ ap (answered_among serial) (sym place.whole)
 
   -- a request is filed in it
-  module _ (unit binding : ℕ) (request : PageRequest) (passes : is_unfinished unit binding request.index g ≡ true) where
-    none_before : list_any (is_unfinished unit binding request.index) place.front ≡ false
+  module _ (unit binding : ℕ) (request : PageRequest) (passes : is_collecting unit binding request.index g ≡ true) where
+    none_before : list_any (is_collecting unit binding request.index) place.front ≡ false
     none_before =
         let name = unfinished_name unit binding request.index g passes in
         let part = unfinished_part unit binding request.index g passes in
-        none_front (is_unfinished unit binding request.index) (λ k h is mine.
+        none_front (is_collecting unit binding request.index) (λ k h is mine.
         let other = unfinished_name unit binding request.index h mine in
         kept.single k key h g is at (unfinished_part unit binding request.index h mine) part
         (other.units ∙ sym name.units) (other.bindings ∙ sym name.bindings) (other.indexes ∙ sym name.indexes))
 
-    pub found-joined : find (is_unfinished unit binding request.index) gs ≡ Some g
+    pub found-joined : find (is_collecting unit binding request.index) gs ≡ Some g
     found-joined =
-        ap (find (is_unfinished unit binding request.index)) place.whole
-        ∙ find-first (is_unfinished unit binding request.index) place.front g place.back none_before passes
+        ap (find (is_collecting unit binding request.index)) place.whole
+        ∙ find-first (is_collecting unit binding request.index) place.front g place.back none_before passes
 
     pub kept-joined : IsAt new key (with_request g request) → AreKept new cells next
     kept-joined is =
@@ -304,12 +304,12 @@ module _ (old new : List (Option OpenGroup)) (cells : List (Option ℕ)) (next :
       ])
 
   -- no other group of its name is unfinished, and its cell leads to it alone, or nowhere
-  module _ (cell : Option ℕ) (none : (k : ℕ) (h : OpenGroup) → IsAt old k h → is_unfinished g.unit g.binding g.index h ≡ false)
+  module _ (cell : Option ℕ) (none : (k : ℕ) (h : OpenGroup) → IsAt old k h → is_collecting g.unit g.binding g.index h ≡ false)
       (leads : (j : ℕ) → cell ≡ Some j → (j ≡ key) × ((k : ℕ) → MayHold (get_or cells (cell_of g.unit g.index) None) k → (h : OpenGroup) → IsAt old k
       h → h.last ≡ true)) where
     not_twin : (k : ℕ) (g' h : OpenGroup) → g ≡ g' → IsAt old k h → h.last ≡ false → h.unit ≡ g'.unit → h.binding ≡ g'.binding → h.index ≡ g'.index → ⊥
     not_twin k g' h same was part units bindings indexes =
-        let unfinished : is_unfinished g.unit g.binding g.index h ≡ true =
+        let unfinished : is_collecting g.unit g.binding g.index h ≡ true =
         and_from _ _ (and_from _ _ (and_from _ _ (eq-eqb _ _ (units ∙ ap (λ (x : OpenGroup). x.unit) (sym same)))
         (eq-eqb _ _ (bindings ∙ ap (λ (x : OpenGroup). x.binding) (sym same))))
         (eq-eqb _ _ (indexes ∙ ap (λ (x : OpenGroup). x.index) (sym same)))) (ap not part) in

@@ -4,7 +4,7 @@ use Rattle.std.proofs.lemmas.Bool.{and_parts, or_parts, eqb-true, eq-eqb, not-tr
 use Rattle.std.proofs.lemmas.Map.Views.{any-filter_same}
 use Rattle.std.specs.List.{find, list_any}
 use Rattle.sva_msg.specs.declared.messages.PageRequest.{PageRequest}
-use Rattle.sva_prq.specs.Groups.{OpenGroup, is_unfinished, has_job, new_group, with_request, filed_among, answered_among}
+use Rattle.sva_prq.specs.Groups.{OpenGroup, is_collecting, has_job, new_group, with_request, filed_among, answered_among}
 use Rattle.sva_prq.proofs.Searches.{find-none}
 
 -- the name of a group: unit, binding and index
@@ -33,14 +33,14 @@ same_self u b i = λ j. sym (all (sym (eq-eqb u u refl)) (sym (eq-eqb b b refl))
     all p q r = λ j. p j && q j && r j
 
 -- a group that takes a request has its name, and isn't whole
-pub unfinished_name : (u b i : ℕ) (g : OpenGroup) → is_unfinished u b i g ≡ true → Same g.unit g.binding g.index u b i
+pub unfinished_name : (u b i : ℕ) (g : OpenGroup) → is_collecting u b i g ≡ true → Same g.unit g.binding g.index u b i
 unfinished_name u b i g h = same_parts _ _ _ u b i (and_parts _ _ h).0
 
-pub unfinished_part : (u b i : ℕ) (g : OpenGroup) → is_unfinished u b i g ≡ true → g.last ≡ false
+pub unfinished_part : (u b i : ℕ) (g : OpenGroup) → is_collecting u b i g ≡ true → g.last ≡ false
 unfinished_part u b i g h = not-true g.last (and_parts _ _ h).1
 
 -- so its name is equal to another just where that of the request is
-pub name_as : (u b i unit binding index : ℕ) (g : OpenGroup) → is_unfinished u b i g ≡ true → is_named unit binding index g ≡ is_same u b i unit binding index
+pub name_as : (u b i unit binding index : ℕ) (g : OpenGroup) → is_collecting u b i g ≡ true → is_named unit binding index g ≡ is_same u b i unit binding index
 name_as u b i unit binding index g h =
     let name = unfinished_name u b i g h in
     λ j. is_same (name.units j) (name.bindings j) (name.indexes j) unit binding index
@@ -56,13 +56,13 @@ or_twice false a = refl
 
 -- a test that answers one thing at the groups that a request can go to
 module _ (p : OpenGroup → Bool) (s : Bool) (n u b : ℕ) (request : PageRequest) where
-  pub filed_any : ((g : OpenGroup) → is_unfinished u b request.index g ≡ true → (p (with_request g request) ≡ s) × (p g ≡ s))
+  pub filed_any : ((g : OpenGroup) → is_collecting u b request.index g ≡ true → (p (with_request g request) ≡ s) × (p g ≡ s))
       → p (with_request (new_group n u b request.index) request) ≡ s → (gs : List OpenGroup)
       → list_any p (filed_among n u b request gs) ≡ (s || list_any p gs)
   filed_any keeps new [] = ap (λ t. t || false) new
   filed_any keeps new (g ∷ gs) =
-      (elim (is_unfinished u b request.index g)
-      as (λ t. is_unfinished u b request.index g ≡ t
+      (elim (is_collecting u b request.index g)
+      as (λ t. is_collecting u b request.index g ≡ t
       → list_any p (cond t (with_request g request ∷ gs) (g ∷ filed_among n u b request gs)) ≡ (s || (p g || list_any p gs))) [
         | true ↦ λ e.
             ap (λ t. t || list_any p gs) (keeps g e).0 ∙ or_twice s (list_any p gs)

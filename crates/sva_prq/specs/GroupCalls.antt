@@ -5,7 +5,7 @@ use Rattle.std.specs.List.{list_any}
 use Rattle.sva_msg.specs.declared.messages.PageRequest.{PageRequest}
 use Rattle.sva_prq.specs.declared.jobs.Ask.{Ask}
 use Rattle.sva_prq.specs.Job.{Job, ask_of}
-use Rattle.sva_prq.specs.Groups.{Groups, is_unfinished, is_of_serial, no_groups, is_open, CanFile, filed, serial_for, job_made, with_room, after_answer}
+use Rattle.sva_prq.specs.Groups.{Groups, is_collecting, is_of_serial, no_groups, is_open, CanFile, filed, serial_for, job_made, with_room, after_answer}
 use Rattle.sva_prq.specs.Groups.{without_unit}
 
 -- the calls that change the open groups; a `reserve` that memory refuses changes nothing, and is no call here
@@ -71,7 +71,7 @@ GroupsAreBounded =
 abbrev pub UnfinishedGroupsDiffer : Type 0
 UnfinishedGroupsDiffer =
     (history : List GroupCall) (unit binding index : ℕ)
-    → count_by (is_unfinished unit binding index) (groups_after history).groups ≤ 1
+    → count_by (is_collecting unit binding index) (groups_after history).groups ≤ 1
 
 -- a request was filed in the group with this serial
 abbrev pub was_filed : ℕ → List GroupCall → Bool
@@ -84,7 +84,7 @@ was_filed serial (_ ∷ earlier) = was_filed serial earlier
 abbrev pub SerialsAreNew : Type 0
 SerialsAreNew =
     (history : List GroupCall) (unit binding index : ℕ)
-    → list_any (is_unfinished unit binding index) (groups_after history).groups ≡ false
+    → list_any (is_collecting unit binding index) (groups_after history).groups ≡ false
     → was_filed (serial_for (groups_after history) unit binding index) history ≡ false
 
 -- no two open groups share a serial, so the job of a group ends that group and no other

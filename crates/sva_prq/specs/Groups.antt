@@ -29,8 +29,8 @@ abbrev pub no_groups : Groups
 no_groups = record { groups = []; room = 0; next = 0 }
 
 -- a group of this unit, binding and index whose last request isn't filed
-abbrev pub is_unfinished : ℕ → ℕ → ℕ → OpenGroup → Bool
-is_unfinished unit binding index g = g.unit == unit && g.binding == binding && g.index == index && not g.last
+abbrev pub is_collecting : ℕ → ℕ → ℕ → OpenGroup → Bool
+is_collecting unit binding index g = g.unit == unit && g.binding == binding && g.index == index && not g.last
 
 abbrev pub is_of_serial : ℕ → OpenGroup → Bool
 is_of_serial serial g = g.serial == serial
@@ -62,7 +62,7 @@ with_request g request = record g { asks = g.asks ++ ask_of request ∷ []; last
 abbrev pub filed_among : ℕ → ℕ → ℕ → PageRequest → List OpenGroup → List OpenGroup
 filed_among next unit binding request [] = with_request (new_group next unit binding request.index) request ∷ []
 filed_among next unit binding request (g ∷ gs) =
-    if is_unfinished unit binding request.index g
+    if is_collecting unit binding request.index g
     then with_request g request ∷ gs
     else g ∷ filed_among next unit binding request gs
 
@@ -71,19 +71,19 @@ abbrev pub filed : Groups → ℕ → ℕ → PageRequest → Groups
 filed s unit binding request =
     record {
       groups = filed_among s.next unit binding request s.groups;
-      room = if list_any (is_unfinished unit binding request.index) s.groups then s.room else s.room - 1;
-      next = if list_any (is_unfinished unit binding request.index) s.groups then s.next else s.next + 1;
+      room = if list_any (is_collecting unit binding request.index) s.groups then s.room else s.room - 1;
+      next = if list_any (is_collecting unit binding request.index) s.groups then s.next else s.next + 1;
     }
 
 -- what the requests of the unfinished group of this unit, binding and index ask for
 abbrev pub unfinished_asks : ℕ → ℕ → ℕ → List OpenGroup → List Ask
 unfinished_asks unit binding index gs =
-    (unwrap_or (find (is_unfinished unit binding index) gs) (new_group 0 unit binding index)).asks
+    (unwrap_or (find (is_collecting unit binding index) gs) (new_group 0 unit binding index)).asks
 
 -- the serial of the group to which a request of this unit, binding and index goes
 abbrev pub serial_for : Groups → ℕ → ℕ → ℕ → ℕ
 serial_for s unit binding index =
-    (unwrap_or (find (is_unfinished unit binding index) s.groups) (new_group s.next unit binding index)).serial
+    (unwrap_or (find (is_collecting unit binding index) s.groups) (new_group s.next unit binding index)).serial
 
 -- the job of a group whose last request is filed
 abbrev pub job_of : OpenGroup → Option Job
@@ -106,7 +106,7 @@ job_made s unit binding request =
 -- has fewer than 32 requests
 abbrev pub CanFile : Groups → ℕ → ℕ → ℕ → Type 0
 CanFile s unit binding index =
-    MatchOption (find (is_unfinished unit binding index) s.groups) ((0 < s.room) × (s.next + 1 < 2 ^ 64)) (λ g. length g.asks < 32)
+    MatchOption (find (is_collecting unit binding index) s.groups) ((0 < s.room) × (s.next + 1 < 2 ^ 64)) (λ g. length g.asks < 32)
 
 -- room for at least one group more
 abbrev pub with_room : Groups → Groups

@@ -1,7 +1,7 @@
 ghost use Rattle.std.specs.Prelude.{◌≡◌, Bool, ℕ, ◌+◌, ◌<◌, ◌≤◌, true, false, length, Some, None, IsOk, OnOk, OnErr, IfSome, IfNone, slice_index_or};
 ghost use Rattle.slab.specs.Slab.{get, slab_len, ContainsKey, Updates};
 ghost use Rattle.sva_prq.specs.Slots.{IsAt, IsTest, MayHold, passes_at, cell_of as cell_for};
-ghost use Rattle.sva_prq.specs.Groups.{OpenGroup, no_groups, is_unfinished, has_job, is_of_binding, is_of_unit, is_open, new_group, with_request, job_of, CanFile, filed, job_made, with_room, after_answer, without_unit};
+ghost use Rattle.sva_prq.specs.Groups.{OpenGroup, no_groups, is_collecting, has_job, is_of_binding, is_of_unit, is_open, new_group, with_request, job_of, CanFile, filed, job_made, with_room, after_answer, without_unit};
 
 #[cfg(test)]
 mod tests;
@@ -58,8 +58,8 @@ impl Group {
         }
     }
 
-    fn is_unfinished(&self, unit: u64, binding: u64, index: u8) -> bool
-        ensures { result ≡ is_unfinished unit binding index self.now }
+    fn is_collecting(&self, unit: u64, binding: u64, index: u8) -> bool
+        ensures { result ≡ is_collecting unit binding index self.now }
     {
         self.unit == unit && self.binding == binding && self.index == index && !self.last
     }
@@ -153,15 +153,15 @@ fn unfinished_key(
     binding: u64,
     index: u8,
 ) -> Option<usize>
-    ensures found { IfSome result (λ key. passes_at (is_unfinished unit binding index) (get slots.now key) ≡ true) }
+    ensures found { IfSome result (λ key. passes_at (is_collecting unit binding index) (get slots.now key) ≡ true) }
     ensures absent { IfNone result ((key : ℕ) → MayHold cell key
-        → passes_at (is_unfinished unit binding index) (get slots.now key) ≡ false) }
+        → passes_at (is_collecting unit binding index) (get slots.now key) ≡ false) }
 {
     let Some(key) = cell else {
-        return key_where(slots, |group| group.is_unfinished(unit, binding, index));
+        return key_where(slots, |group| group.is_collecting(unit, binding, index));
     };
     match slots.get(key) {
-        Some(group) if group.is_unfinished(unit, binding, index) => Some(key),
+        Some(group) if group.is_collecting(unit, binding, index) => Some(key),
         _ => None,
     }
 }

@@ -5,7 +5,7 @@ use Rattle.sva_model.specs.Words.{tabulate, count_below}
 use Rattle.sva_model.specs.Acts.{disables, scope_of, sent_as, count_field}
 use Rattle.sva_model.specs.State.PasidState.{Off, On, Ending}
 use Rattle.sva_model.specs.Message.Message.{InvalidateMessage, RequestMessage, InvalidatedMessage, PageRequestMessage, MarkerMessage, ResetDoneMessage}
-use Rattle.sva_model.specs.Wire.{Wire, PartWire, DeviceWire, UnitWire, HostGroupWire}
+use Rattle.sva_model.specs.Wire.{Wire, EndpointWire, DeviceWire, UnitWire, HostGroupWire}
 use Rattle.sva_model.specs.Wire.StageWire.{DrainingWire, InvalidatingWire}
 use Rattle.sva_model.specs.Wire.UseWire.{RunningWire}
 use Rattle.sva_model.specs.Wire.BusyWire.{Fresh}
@@ -36,7 +36,7 @@ LeaveService (m ∷ moves) = LeavesService m × LeaveService moves
 
 -- One endpoint.
 
-pub part_changed : (service : ServiceWire) (w : Wire) (e : ℕ) (change : PartWire → PartWire) → LeavesGroups change
+pub part_changed : (service : ServiceWire) (w : Wire) (e : ℕ) (change : EndpointWire → EndpointWire) → LeavesGroups change
     → with_part (serving service w) e (change (part_of (serving service w) e)) ≡ serving service (with_part w e (change (part_of w e)))
 part_changed service w e change leaves =
     λ i. record w { parts = changed_with service.groups w.parts e change leaves i; jobs = service.jobs; hands = service.hands }
@@ -44,12 +44,12 @@ part_changed service w e change leaves =
 device_changed : (service : ServiceWire) (w : Wire) (e : ℕ) (change : DeviceWire → DeviceWire)
     → with_device (serving service w) e (change (device_of (serving service w) e)) ≡ serving service (with_device w e (change (device_of w e)))
 device_changed service w e change =
-    part_changed service w e (λ (p : PartWire). record p { device = change p.device }) (λ p gs. refl)
+    part_changed service w e (λ (p : EndpointWire). record p { device = change p.device }) (λ p gs. refl)
 
 unit_changed : (service : ServiceWire) (w : Wire) (e : ℕ) (change : UnitWire → UnitWire)
     → with_unit (serving service w) e (change (unit_of (serving service w) e)) ≡ serving service (with_unit w e (change (unit_of w e)))
 unit_changed service w e change =
-    part_changed service w e (λ (p : PartWire). record p { unit = change p.unit }) (λ p gs. refl)
+    part_changed service w e (λ (p : EndpointWire). record p { unit = change p.unit }) (λ p gs. refl)
 
 -- An unmapping changes the units of all endpoints.
 
@@ -68,7 +68,7 @@ targets_with service w n =
     (λ e. if nat_lt e (length_with service.groups w.parts i) then target_by (unit_with service.groups w.parts e i) (given_with service w n e i)
     (bound_at w e n) else None)
 
-if_leaves : (b : Bool) (p : PartWire) (gs : List HostGroupWire) (unit : UnitWire)
+if_leaves : (b : Bool) (p : EndpointWire) (gs : List HostGroupWire) (unit : UnitWire)
     → (if b then record (record p { host_groups = gs }) { unit = unit } else record p { host_groups = gs })
     ≡ record (if b then record p { unit = unit } else p) { host_groups = gs }
 if_leaves true p gs unit = refl
@@ -184,7 +184,7 @@ moved_with service w (Move.Complete e n answer) leaves = refl
 moved_with service w (Move.Count e n vector count) leaves =
     ap (delivered n) (unit_changed service w e (λ (unit : UnitWire). record unit { busy = completed vector count unit.busy }))
 moved_with service w (Move.Arrive e n r) leaves =
-    ap (delivered n) (part_changed service w e (λ (p : PartWire). record p { page_queue = p.page_queue ++ r ∷ [] }) (λ p gs. refl))
+    ap (delivered n) (part_changed service w e (λ (p : EndpointWire). record p { page_queue = p.page_queue ++ r ∷ [] }) (λ p gs. refl))
 moved_with service w (Move.Mark e n b) leaves = refl
 moved_with service w (Move.Ignore n) leaves = refl
 moved_with service w (Move.Reopen e n) leaves =

@@ -14,7 +14,7 @@ use Rattle.sva_model.specs.Outcomes.{unmap_answer, unmap_range_answer}
 use Rattle.sva_model.specs.Refusals.{Cause, page_range}
 use Rattle.sva_model.specs.States.{Extent}
 use Rattle.sva_model.specs.States.Extent.{Pages, AllPages}
-use Rattle.sva_model.specs.Wire.{Wire, PartWire, BindingWire, StageWire, Descriptor, FlightWire, TranslationWire, RequestWire, DeviceWire}
+use Rattle.sva_model.specs.Wire.{Wire, EndpointWire, BindingWire, StageWire, Descriptor, FlightWire, TranslationWire, RequestWire, DeviceWire}
 use Rattle.sva_model.specs.Wire.StageWire.{LiveWire, StoppingWire, DrainingWire, InvalidatingWire, QuietWire, LostWire}
 use Rattle.sva_model.specs.Wire.Descriptor.{RangeDescriptor, PasidDescriptor, WaitDescriptor}
 use Rattle.sva_labels.specs.Finding.{part_of, device_of, unit_of, flight_of, binding_of, bearer, bound_at, pages_in, is_mapped, frames_of, lowest_label}
@@ -93,7 +93,7 @@ unbind_with service w (Some b) = unbind_by_with service w b b.stage
 
 -- A unit's head.
 
-pump_same : (p q : PartWire) (e : ℕ) (ds : List Descriptor) → p.unit ≡ q.unit → p.page_queue ≡ q.page_queue → pump_result p e ds ≡ pump_result q e ds
+pump_same : (p q : EndpointWire) (e : ℕ) (ds : List Descriptor) → p.unit ≡ q.unit → p.page_queue ≡ q.page_queue → pump_result p e ds ≡ pump_result q e ds
 pump_same p q e [] unit waiting = refl
 pump_same p q e (RangeDescriptor pasid range ∷ ds) unit waiting = λ i. send_result e pasid (Pages range) (lowest_label (unit i).busy)
 pump_same p q e (PasidDescriptor pasid ∷ ds) unit waiting = λ i. send_result e pasid AllPages (lowest_label (unit i).busy)
@@ -309,7 +309,7 @@ send_leaves : (e pasid : ℕ) (extent : Extent) (o : Option ℕ) → LeaveServic
 send_leaves e pasid extent None = tt
 send_leaves e pasid extent (Some t) = (tt, tt)
 
-pump_leaves : (p : PartWire) (e : ℕ) (ds : List Descriptor) → LeaveService (pump_result p e ds).moves
+pump_leaves : (p : EndpointWire) (e : ℕ) (ds : List Descriptor) → LeaveService (pump_result p e ds).moves
 pump_leaves p e [] = tt
 pump_leaves p e (RangeDescriptor pasid range ∷ ds) = send_leaves e pasid (Pages range) (lowest_label p.unit.busy)
 pump_leaves p e (PasidDescriptor pasid ∷ ds) = send_leaves e pasid AllPages (lowest_label p.unit.busy)

@@ -11,9 +11,9 @@ use Rattle.sva_step.specs.declared.answers.Answer.TheVariants as answer
 use Rattle.sva_step.specs.declared.refusals.Refusal.{Refusal}
 use Rattle.sva_step.specs.declared.refusals.Refusal.TheVariants as refusal
 use Rattle.sva_step.specs.declared.steps.Step.TheVariants as step
-use Rattle.sva_model.specs.Refusals.{Cause}
+use Rattle.sva_model.specs.Refusals.{Cause, unless_refused}
 use Rattle.sva_model.specs.Steps.{Reply}
-use Rattle.sva_model.specs.Wire.{Wire, PartWire, BindingWire, PageRequestWire, HostGroupWire}
+use Rattle.sva_model.specs.Wire.{Wire, EndpointWire, BindingWire, PageRequestWire, HostGroupWire}
 use Rattle.sva_labels.specs.Finding.{part_of, bearer}
 use Rattle.sva_labels.specs.Causes.{resetting, causes_of}
 use Rattle.sva_labels.specs.Host.{Decision, checked, decide_of}
@@ -25,9 +25,8 @@ use Rattle.sva_labels.specs.Waiting.{waiting}
 use Rattle.sva_labels.proofs.Waiting.{file_counted}
 use Rattle.sva_host.specs.Steps.{Does, ByLabels, MayStep}
 use Rattle.sva_host.proofs.Deciding.{refused_by, passed}
-use Rattle.sva_endpoint.specs.Steps.{unless}
 use Rattle.sva_msg.specs.declared.messages.PageRequest.{PageRequest}
-use Rattle.sva_prq.specs.Groups.{is_unfinished}
+use Rattle.sva_prq.specs.Groups.{is_collecting}
 use Rattle.sva_service.specs.Service.{Service, CanFile, no_service, with_room, filed}
 use Rattle.sva_views.specs.Service.{page_request_seen, groups_seen, jobs_seen, FilingIsSeen}
 use Rattle.sva_views.specs.ServiceLaws as laws
@@ -52,7 +51,7 @@ pub serve_refused : (served : Inside) (e : ℕ) (x : Refusal) → MayStep served
     → ByLabels (wire_of served) (step.Serve e) (Err x) (wire_of served)
 serve_refused served e x may =
     refused_by (tt {0}) (causes_of (wire_of served) (step.Serve e)) [] (result_of (wire_of served) (step.Serve e)) (wire_of served) x (tt, (tt, tt))
-    (ap (λ (causes : List Cause). unless causes (tt {0})) (causes_with (service_seen served.workers served.service) served.host e) ∙ sym may)
+    (ap (λ (causes : List Cause). unless_refused causes (tt {0})) (causes_with (service_seen served.workers served.service) served.host e) ∙ sym may)
 
 -- where nothing refuses the step, the queue decides
 decides : (served : Inside) (e : ℕ) → MayStep served.host (step.Serve e) (Ok tt) → (queue : List PageRequestWire)
@@ -60,7 +59,7 @@ decides : (served : Inside) (e : ℕ) → MayStep served.host (step.Serve e) (Ok
     → decide_of (wire_of served) (step.Serve e) ≡ checked [] (serve_result (wire_of served) (part_of (wire_of served) e) e queue)
 decides served e may queue is =
     passed (tt {0}) (tt {0}) (causes_of (wire_of served) (step.Serve e)) [] (result_of (wire_of served) (step.Serve e))
-    (ap (λ (causes : List Cause). unless causes (tt {0})) (causes_with (service_seen served.workers served.service) served.host e) ∙ sym may)
+    (ap (λ (causes : List Cause). unless_refused causes (tt {0})) (causes_with (service_seen served.workers served.service) served.host e) ∙ sym may)
     ∙ ap (λ (q : List PageRequestWire). checked [] (serve_result (wire_of served) (part_of (wire_of served) e) e q))
     (page_queue_with (service_seen served.workers served.service).groups served.host.parts e ∙ is)
 
@@ -68,7 +67,8 @@ decides served e may queue is =
 pub endpoint_there : (w : Wire) (e : ℕ) → MayStep w (step.Serve e) (Ok tt) → e < length w.parts
 endpoint_there w e may = go (nat_lt e (length w.parts)) refl may
   where
-    go : (b : Bool) → nat_lt e (length w.parts) ≡ b → Ok tt ≡ unless ((not b, refusal.NoSuchEndpoint) ∷ resetting w e ∷ []) (tt {0}) → e < length w.parts
+    go : (b : Bool) → nat_lt e (length w.parts) ≡ b → Ok tt ≡ unless_refused ((not b, refusal.NoSuchEndpoint) ∷ resetting w e ∷ []) (tt {0})
+        → e < length w.parts
     go true is may = ltb-true e (length w.parts) is
     go false is may = absurd (wrong may)
       where
@@ -112,7 +112,7 @@ after_filing served e b request = record served { host = unqueued served.host e;
 
 groups_there : (workers : ℕ) (s : Service) (w : Wire) (e : ℕ) → e < length w.parts → (part_of (with_service workers s w) e).host_groups
     ≡ groups_seen e s.groups
-groups_there workers s w e there = ap (λ (p : PartWire). p.host_groups) (part_with (service_seen workers s).groups w.parts e there)
+groups_there workers s w e there = ap (λ (p : EndpointWire). p.host_groups) (part_with (service_seen workers s).groups w.parts e there)
 
 filed_seen : (workers : ℕ) (s : Service) (w : Wire) (e b : ℕ) (request : PageRequest) → e < length w.parts
     → with_service workers (filed s e b request) (unqueued w e)
@@ -158,7 +158,7 @@ abbrev pub filing_answer : Bool → Answer
 filing_answer true = answer.Job
 filing_answer false = answer.Part
 
-answers : (p : PartWire) (e b : ℕ) (r : PageRequestWire) (last : Bool) → (file_result p e b r last).answer ≡ filing_answer last
+answers : (p : EndpointWire) (e b : ℕ) (r : PageRequestWire) (last : Bool) → (file_result p e b r last).answer ≡ filing_answer last
 answers p e b r true = refl
 answers p e b r false = refl
 
@@ -271,13 +271,13 @@ begins_anew served e b request sound is none =
 
 -- And what stays so.
 
-queues_with : (groups : ℕ → List HostGroupWire) (parts : List PartWire)
-    → sum_by (λ (p : PartWire). length p.page_queue) (parts_with groups parts) ≡ sum_by (λ (p : PartWire). length p.page_queue) parts
+queues_with : (groups : ℕ → List HostGroupWire) (parts : List EndpointWire)
+    → sum_by (λ (p : EndpointWire). length p.page_queue) (parts_with groups parts) ≡ sum_by (λ (p : EndpointWire). length p.page_queue) parts
 queues_with groups [] = refl
 queues_with groups (p ∷ parts) =
     let rest = queues_with (λ e. groups (suc e)) parts in
-    let before = sum_by-cons (λ (q : PartWire). length q.page_queue) p parts in
-    let later = sum_by-cons (λ (q : PartWire). length q.page_queue) (record p { host_groups = groups 0 }) (parts_with (λ e. groups (suc e)) parts) in
+    let before = sum_by-cons (λ (q : EndpointWire). length q.page_queue) p parts in
+    let later = sum_by-cons (λ (q : EndpointWire). length q.page_queue) (record p { host_groups = groups 0 }) (parts_with (λ e. groups (suc e)) parts) in
     omega (arith, rest, before, later)
 
 -- a request fewer waits
@@ -287,7 +287,7 @@ fewer_wait w e r rest there head =
     let counted = file_counted w e 0 r rest there head in
     let here = queues_with (λ k. []) (unqueued w e).parts in
     let filed_there = queues_with (λ k. []) (moved w (Move.File e 0 r)).parts in
-    let same = ap (sum_by (λ (p : PartWire). length p.page_queue)) one in
+    let same = ap (sum_by (λ (p : EndpointWire). length p.page_queue)) one in
     omega (arith, counted, here, filed_there, same)
   where
     one : parts_with (λ k. []) (unqueued w e).parts ≡ parts_with (λ k. []) (moved w (Move.File e 0 r)).parts
@@ -311,7 +311,7 @@ serve_still served e b request host service h sound is takes files =
     (record {
       apart =
           ap (λ (w : Wire). unqueued w e) h.apart
-          ∙ part_changed (service_seen served.workers no_service) served.host e (λ (p : PartWire). record p { page_queue = drop 1 p.page_queue })
+          ∙ part_changed (service_seen served.workers no_service) served.host e (λ (p : EndpointWire). record p { page_queue = drop 1 p.page_queue })
           (λ p gs. refl);
       few = h.few;
       sound =
@@ -322,7 +322,7 @@ serve_still served e b request host service h sound is takes files =
             arith,
             h.serials,
             fewer_wait served.host e (page_request_seen request) (drop 1 (part_of served.host e).page_queue) is.there is.head,
-            one_serial (list_any (is_unfinished e b request.index) served.service.groups.groups) served.service.groups.next,
+            one_serial (list_any (is_collecting e b request.index) served.service.groups.groups) served.service.groups.next,
           );
       housed =
           housed_filed (unqueued served.host e) (with_room served.service) e b request (subst (λ (n : ℕ). e < n) (sym (as_long served.host e)) is.there)

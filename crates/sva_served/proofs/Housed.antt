@@ -6,7 +6,7 @@ use Rattle.std.specs.Prelude.{◌==◌, not, Err, Some, List, [], ◌∷◌, fil
 use Rattle.std.specs.List.{list_any}
 use Rattle.sva_step.specs.declared.refusals.Refusal.TheVariants as refusal
 use Rattle.sva_model.specs.Steps.{Reply}
-use Rattle.sva_model.specs.Wire.{Wire, PartWire, BindingWire, HostGroupWire}
+use Rattle.sva_model.specs.Wire.{Wire, EndpointWire, BindingWire, HostGroupWire}
 use Rattle.sva_labels.specs.Finding.{part_of, has_open_group}
 use Rattle.sva_labels.specs.Host.{Decision}
 use Rattle.sva_labels.specs.Moves.{Move, moved, all_moved, part_unmapped, is_of_job}
@@ -132,7 +132,7 @@ open_at s w workers k b housed sound stands =
   where
     there : (e : ℕ) → e < length (with_service workers s w).parts → (part_of (with_service workers s w) e).host_groups ≡ groups_seen e s.groups
     there e low =
-        ap (λ (p : PartWire). p.host_groups)
+        ap (λ (p : EndpointWire). p.host_groups)
         (part_with (service_seen workers s).groups w.parts e (subst (λ (n : ℕ). e < n) (length_with (service_seen workers s).groups w.parts) low))
 
     elsewhere : (e : ℕ) → (e == b.endpoint) ≡ false → list_any (λ (g : HostGroupWire). g.binding == b.binding) (groups_seen e s.groups) ≡ false

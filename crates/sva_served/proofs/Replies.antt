@@ -18,7 +18,7 @@ use Rattle.sva_model.specs.Outcomes.{code_answer}
 use Rattle.sva_model.specs.Replies.{is_success}
 use Rattle.sva_model.specs.Refusals.{Cause}
 use Rattle.sva_model.specs.Steps.{Reply}
-use Rattle.sva_model.specs.Wire.{Wire, PartWire, BindingWire, StageWire, AskWire, HostGroupWire, JobWire}
+use Rattle.sva_model.specs.Wire.{Wire, EndpointWire, BindingWire, StageWire, AskWire, HostGroupWire, JobWire}
 use Rattle.sva_model.specs.Wire.StageWire.{LiveWire, StoppingWire, DrainingWire, InvalidatingWire, QuietWire, LostWire}
 use Rattle.sva_labels.specs.Finding.{idle, part_of, unit_of, is_space, pages_in, free_from, binding_of, held_by}
 use Rattle.sva_labels.specs.Replying.{is_write_asked, response_by, response_for, response_to, responds, replies_success, space_of_job, newly_mapped}
@@ -144,7 +144,7 @@ then_moved w (m ∷ ms) ns = then_moved (moved w m) ms ns
 
 -- What the service leaves.
 
-abbrev pub responded_part : JobWire → PartWire → PartWire
+abbrev pub responded_part : JobWire → EndpointWire → EndpointWire
 responded_part job p = record p { host_groups = filter (λ g. not (is_of_job job g)) p.host_groups }
 
 respond_parts : (groups others : ℕ → List HostGroupWire) (w : Wire) (job : JobWire) → job.endpoint < length w.parts
@@ -160,7 +160,7 @@ respond_parts groups others w job there here apart =
       unit = sym (unit_with groups w.parts job.endpoint) i;
       page_queue = sym (page_queue_with groups w.parts job.endpoint) i;
       host_groups =
-          (here ∙ sym (ap (λ (p : PartWire). filter (λ g. not (is_of_job job g)) p.host_groups) (part_with groups w.parts job.endpoint there))) i;
+          (here ∙ sym (ap (λ (p : EndpointWire). filter (λ g. not (is_of_job job g)) p.host_groups) (part_with groups w.parts job.endpoint there))) i;
     }))
 
 -- the worker that answers, and the job in its hand
@@ -195,7 +195,7 @@ responded : (workers : ℕ) (s : Service) (x : ℕ) (job : Job) (w : Wire) (maps
     ≡ all_moved (with_service workers s w) (maps ++ Move.LetGo x ∷ Move.Respond (job_seen job) t code ∷ [])
 responded workers s x job w maps t code seen are there =
     ap (with_service workers (after_answer s x)) (then_moved w maps (Move.Respond (job_seen job) t code ∷ []))
-    ∙ sym (respond_with workers s x job (all_moved w maps) t code seen (subst (λ (ps : List PartWire). job.unit < length ps) (sym (are.parts w)) there))
+    ∙ sym (respond_with workers s x job (all_moved w maps) t code seen (subst (λ (ps : List EndpointWire). job.unit < length ps) (sym (are.parts w)) there))
     ∙ sym (ap (λ (v : Wire). all_moved v (Move.LetGo x ∷ Move.Respond (job_seen job) t code ∷ [])) (all_moved_with (service_seen workers s) w maps are.leave))
     ∙ sym (then_moved (with_service workers s w) maps (Move.LetGo x ∷ Move.Respond (job_seen job) t code ∷ []))
 
@@ -238,7 +238,7 @@ closed : (served : Inside) (x : ℕ) (job : Job) (v : Verdict) → IsSound (wire
     → response_to served.host (job_seen job) v ≡ None
     → list_any (is_of_job (job_seen job)) (groups_seen job.unit served.service.groups) ≡ false
 closed served x job v sound is none =
-    sym (ap (λ (p : PartWire). list_any (is_of_job (job_seen job)) p.host_groups)
+    sym (ap (λ (p : EndpointWire). list_any (is_of_job (job_seen job)) p.host_groups)
     (part_with (service_seen served.workers served.service).groups served.host.parts job.unit (unit_there served x job sound is)))
     ∙ sound.dropped_closed x (job_seen job) (seen_held served x job is)
     (responds_none (wire_of served) (job_seen job) v (response_with (service_seen served.workers served.service) served.host (job_seen job) v ∙ none))
@@ -413,7 +413,7 @@ apart_after none w job maps (Some code) empty are there apart =
     ∙ ap (λ (u : Wire). moved (all_moved u maps) last) apart
     ∙ ap (λ (u : Wire). moved u last) (all_moved_with none w maps are.leave)
     ∙ respond_apart none (all_moved w maps) job (pasid_or_0 (binding_of w job.binding)) code empty
-    (subst (λ (ps : List PartWire). job.endpoint < length ps) (sym (are.parts w)) there)
+    (subst (λ (ps : List EndpointWire). job.endpoint < length ps) (sym (are.parts w)) there)
     ∙ sym (ap (serving none) (then_moved w maps (last ∷ [])))
   where
     last : Move

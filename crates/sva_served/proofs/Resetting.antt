@@ -8,7 +8,7 @@ use Rattle.sva_step.specs.declared.steps.Step.TheVariants as step
 use Rattle.sva_model.specs.Refusals.{Cause}
 use Rattle.sva_model.specs.Steps.{Reply}
 use Rattle.sva_model.specs.Message.Message.{ResetMessage}
-use Rattle.sva_model.specs.Wire.{Wire, PartWire}
+use Rattle.sva_model.specs.Wire.{Wire, EndpointWire}
 use Rattle.sva_labels.specs.Finding.{part_of}
 use Rattle.sva_labels.specs.Causes.{numbers_spent, causes_of}
 use Rattle.sva_labels.specs.Host.{Decision, checked, decide_of}
@@ -30,7 +30,7 @@ use Rattle.sva_served.proofs.Decisions.{there_with, resetting_with}
 use Rattle.sva_served.proofs.Hosting.{moves_nothing, refused_with, waits_counted}
 
 -- an endpoint whose unit is reset
-abbrev reset_part : PartWire → PartWire
+abbrev reset_part : EndpointWire → EndpointWire
 reset_part p = record p { unit = record p.unit { is_open = false; queue = [] }; page_queue = []; host_groups = [] }
 
 reset_with : (workers : ℕ) (s : Service) (w : Wire) (e : ℕ) → moved (with_service workers s w) (Move.Reset e)

@@ -6,7 +6,7 @@ use Rattle.std.proofs.lemmas.List.{length-take}
 use Rattle.sva_model.specs.Message.{Message}
 use Rattle.sva_model.specs.Message.Message.{StartMessage, StopMessage, ResetMessage, CompletionMessage, InvalidateMessage, ResponseMessage, RequestMessage}
 use Rattle.sva_model.specs.Message.Message.{InvalidatedMessage, PageRequestMessage, MarkerMessage, ResetDoneMessage}
-use Rattle.sva_model.specs.Wire.{Wire, PartWire, DeviceWire, UnitWire, HostGroupWire, JobWire, PageRequestWire}
+use Rattle.sva_model.specs.Wire.{Wire, EndpointWire, DeviceWire, UnitWire, HostGroupWire, JobWire, PageRequestWire}
 use Rattle.sva_labels.specs.Finding.{idle, part_of, device_of, unit_of, outstanding, is_wait_done, held_by}
 use Rattle.sva_labels.specs.Moves.{is_begun}
 use Rattle.sva_labels.specs.Outcomes.{asks_of}
@@ -37,7 +37,7 @@ suits_alone service w e (MarkerMessage t) suits =
     record { binding = at.binding; found = at.found; stopping = at.stopping }
 suits_alone service w e ResetDoneMessage suits = ap (λ (unit : UnitWire). unit.is_open) (sym (unit_with service.groups w.parts e)) ∙ suits
 
-pub no_groups : (parts : List PartWire) (e : ℕ) → (slice_index_or (parts_with (λ k. []) parts) e idle).host_groups ≡ []
+pub no_groups : (parts : List EndpointWire) (e : ℕ) → (slice_index_or (parts_with (λ k. []) parts) e idle).host_groups ≡ []
 no_groups [] e = refl
 no_groups (p ∷ parts) zero = refl
 no_groups (p ∷ parts) (suc e) = no_groups parts e

@@ -1,12 +1,12 @@
 -- What a host with its service of page requests keeps, by labels. The host alone keeps no open group, no job and no hand: these
 -- are the service's.
 use Rattle.std.specs.Prelude.{ℕ, suc, Option, List, [], ◌∷◌}
-use Rattle.sva_model.specs.Wire.{Wire, PartWire, HostGroupWire, JobWire}
+use Rattle.sva_model.specs.Wire.{Wire, EndpointWire, HostGroupWire, JobWire}
 use Rattle.sva_service.specs.Service.{Service}
 use Rattle.sva_views.specs.Service.{groups_seen, jobs_seen, hands_seen}
 
 -- endpoints in their order, each with the groups that are open for it
-abbrev pub parts_with : (groups : ℕ → List HostGroupWire) → List PartWire → List PartWire
+abbrev pub parts_with : (groups : ℕ → List HostGroupWire) → List EndpointWire → List EndpointWire
 parts_with groups [] = []
 parts_with groups (part ∷ parts) = record part { host_groups = groups 0 } ∷ parts_with (λ e. groups (suc e)) parts
 

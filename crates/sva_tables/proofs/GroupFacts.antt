@@ -10,7 +10,7 @@ use Rattle.std.proofs.Math.ListN.{length-set}
 use Rattle.arrayvec.specs.ArrayVec.{ArrayVec, with_items}
 use Rattle.arrayvec.proofs.ArrayVecLemmas.{items-with_items}
 use Rattle.sva_tables.specs.declared.groups.GroupPlace.{GroupPlace}
-use Rattle.sva_tables.specs.declared.groups.GroupPlace.TheVariants.{Free, Unfinished, Out, Stale}
+use Rattle.sva_tables.specs.declared.groups.GroupPlace.TheVariants.{Free, Collecting, Out, Stale}
 use Rattle.sva_tables.specs.Groups.{is_free, requests_of, outstanding, stale_of, group_of, with_request, HaveRequests}
 
 requests_of-cond : (b : Bool) (pasid requests : ℕ) → requests_of (cond b (Stale pasid requests) (Out pasid requests)) ≡ requests
@@ -19,7 +19,7 @@ requests_of-cond false pasid requests = refl
 
 requests_of-stale_of : (pasid : ℕ) (place : GroupPlace) → requests_of (stale_of pasid place) ≡ requests_of place
 requests_of-stale_of pasid Free = refl
-requests_of-stale_of pasid (Unfinished sender requests) = refl
+requests_of-stale_of pasid (Collecting sender requests) = refl
 requests_of-stale_of pasid (Out sender requests) = requests_of-cond (eqb sender pasid) sender requests
 requests_of-stale_of pasid (Stale sender requests) = refl
 
@@ -57,7 +57,7 @@ is_free-cond false pasid requests = refl
 
 is_free-stale_of : (pasid : ℕ) (place : GroupPlace) → is_free (stale_of pasid place) ≡ is_free place
 is_free-stale_of pasid Free = refl
-is_free-stale_of pasid (Unfinished sender requests) = refl
+is_free-stale_of pasid (Collecting sender requests) = refl
 is_free-stale_of pasid (Out sender requests) = is_free-cond (eqb sender pasid) sender requests
 is_free-stale_of pasid (Stale sender requests) = refl
 
@@ -81,13 +81,13 @@ requests_of-group_of pasid requests false = refl
 pub requests_of-with_request : (last : Bool) (place : GroupPlace) → (is_free place ≡ false → 0 < requests_of place)
     → is_free (with_request last place) ≡ false → 0 < requests_of (with_request last place)
 requests_of-with_request last Free have taken = have taken
-requests_of-with_request last (Unfinished pasid requests) have taken = rw (requests_of-group_of pasid (requests + 1) last) (omega arith)
+requests_of-with_request last (Collecting pasid requests) have taken = rw (requests_of-group_of pasid (requests + 1) last) (omega arith)
 requests_of-with_request last (Out pasid requests) have taken = have taken
 requests_of-with_request last (Stale pasid requests) have taken = have taken
 
 requests_of-free : (place : GroupPlace) → is_free place ≡ true → requests_of place ≡ 0
 requests_of-free Free is = refl
-requests_of-free (Unfinished pasid requests) is = absurd (cc)
+requests_of-free (Collecting pasid requests) is = absurd (cc)
 requests_of-free (Out pasid requests) is = absurd (cc)
 requests_of-free (Stale pasid requests) is = absurd (cc)
 

@@ -12,7 +12,7 @@ pub enum GroupPlace {
     /// No group has the index.
     Free,
     /// A group whose last request wasn't sent.
-    Unfinished {
+    Collecting {
         /// The PASID, 1 to 32.
         pasid: u32,
         /// How many requests it has, 1 to 32.
@@ -36,7 +36,7 @@ pub enum GroupPlace {
 }
 
 impl GroupPlace {
-    ghost use Rattle.sva_tables.specs.Groups.{is_free, is_unfinished, requests_of, group_of, with_request, stale_of};
+    ghost use Rattle.sva_tables.specs.Groups.{is_free, is_collecting, requests_of, group_of, with_request, stale_of};
 
     fn is_free(&self) -> bool
         ensures { result ≡ is_free self.now }
@@ -45,11 +45,11 @@ impl GroupPlace {
     }
 
     /// Tells whether it is an unfinished group of this PASID.
-    pub fn is_unfinished(&self, pasid: u64) -> bool
-        ensures { result ≡ is_unfinished pasid self.now }
+    pub fn is_collecting(&self, pasid: u64) -> bool
+        ensures { result ≡ is_collecting pasid self.now }
     {
         match self {
-            GroupPlace::Unfinished { pasid: sender, .. } => u64::from(*sender) == pasid,
+            GroupPlace::Collecting { pasid: sender, .. } => u64::from(*sender) == pasid,
             GroupPlace::Free | GroupPlace::Out { .. } | GroupPlace::Stale { .. } => false,
         }
     }
@@ -59,7 +59,7 @@ impl GroupPlace {
     {
         match self {
             GroupPlace::Free => 0,
-            GroupPlace::Unfinished { requests, .. } => *requests,
+            GroupPlace::Collecting { requests, .. } => *requests,
             GroupPlace::Out { requests, .. } => *requests,
             GroupPlace::Stale { requests, .. } => *requests,
         }
@@ -71,7 +71,7 @@ impl GroupPlace {
         if last {
             GroupPlace::Out { pasid, requests }
         } else {
-            GroupPlace::Unfinished { pasid, requests }
+            GroupPlace::Collecting { pasid, requests }
         }
     }
 
@@ -80,7 +80,7 @@ impl GroupPlace {
         ensures { result ≡ with_request last self }
     {
         match self {
-            GroupPlace::Unfinished { pasid, requests } => GroupPlace::group_of(
+            GroupPlace::Collecting { pasid, requests } => GroupPlace::group_of(
                 pasid,
                 requests + 1,
                 last,
@@ -125,7 +125,7 @@ impl Model for GroupTable {
 }
 
 impl GroupTable {
-    ghost use Rattle.sva_tables.specs.Groups.{no_groups, group_at, is_free, is_unfinished, requests_of, outstanding as outstanding_of, group_of, with_request, stale_of};
+    ghost use Rattle.sva_tables.specs.Groups.{no_groups, group_at, is_free, is_collecting, requests_of, outstanding as outstanding_of, group_of, with_request, stale_of};
 
     /// No group is there.
     pub fn new() -> Self
@@ -169,11 +169,11 @@ impl GroupTable {
 
     /// The index, where it is that of an unfinished group of this PASID.
     pub fn unfinished(&self, index: u64, pasid: u64) -> Option<u8>
-        ensures found { result ≡ (if is_unfinished pasid (group_at self.now index) then Some index else None) }
+        ensures found { result ≡ (if is_collecting pasid (group_at self.now index) then Some index else None) }
         ensures within { IfSome result (λ index. index < 32) }
     {
         let places = &self.places;
-        if index < places.len() as u64 && places[index as usize].is_unfinished(pasid) {
+        if index < places.len() as u64 && places[index as usize].is_collecting(pasid) {
             Some(index as u8)
         } else {
             None
@@ -181,10 +181,10 @@ impl GroupTable {
     }
 
     /// Tells whether a group of this PASID is unfinished.
-    pub fn is_unfinished(&self, pasid: u64) -> bool
-        ensures { result ≡ list_any (is_unfinished pasid) self.now }
+    pub fn is_collecting(&self, pasid: u64) -> bool
+        ensures { result ≡ list_any (is_collecting pasid) self.now }
     {
-        self.places.iter().any(|place| place.is_unfinished(pasid))
+        self.places.iter().any(|place| place.is_collecting(pasid))
     }
 
     /// Begins a group of this PASID, 1 to 32, under the lowest free index, 0 to 31, with its first request, which may be its

@@ -124,13 +124,13 @@ fn a_group_keeps_its_requests_until_it_is_free(rt: HostRuntime) {
         assert_eq!(rt; lowest, index);
         groups.begin(lowest, 1, last);
     }
-    assert!(rt; groups.is_unfinished(1) && !groups.is_unfinished(2));
+    assert!(rt; groups.is_collecting(1) && !groups.is_collecting(2));
     assert_eq!(rt; groups.unfinished(0, 1), Some(0));
     assert_eq!(rt; groups.unfinished(0, 2), None);
     assert_eq!(rt; groups.unfinished(1, 1), None);
     assert!(rt; groups.outstanding() < 32);
     groups.extend(0, true);
-    assert!(rt; !groups.is_unfinished(1));
+    assert!(rt; !groups.is_collecting(1));
     assert_eq!(rt; groups.outstanding(), 3);
     groups.make_stale(1);
     let stale = groups.free(0);
@@ -141,7 +141,7 @@ fn a_group_keeps_its_requests_until_it_is_free(rt: HostRuntime) {
             requests: 2
         }
     );
-    assert!(rt; !stale.is_unfinished(1));
+    assert!(rt; !stale.is_collecting(1));
     assert_eq!(rt; groups.free(32), GroupPlace::Free);
     assert_eq!(rt; groups.outstanding(), 1);
 }

@@ -9,7 +9,7 @@ use Rattle.sva_msg.specs.declared.messages.Scope.{Scope}
 use Rattle.sva_msg.specs.declared.messages.Scope.TheVariants as scope
 use Rattle.sva_model.specs.Range.{encode}
 use Rattle.sva_model.specs.States.{Extent as ExtentSeen}
-use Rattle.sva_model.specs.Wire.{PartWire, UnitWire, DeviceWire, HostGroupWire, Descriptor}
+use Rattle.sva_model.specs.Wire.{EndpointWire, UnitWire, DeviceWire, HostGroupWire, Descriptor}
 use Rattle.sva_model.specs.Wire.BusyWire.{Fresh}
 use Rattle.sva_model.specs.Wire.Descriptor.{RangeDescriptor, PasidDescriptor, WaitDescriptor}
 use Rattle.sva_labels.specs.Finding.{lowest_label, is_some_busy}
@@ -82,7 +82,7 @@ pumped e (Send sending) = by_one (answer.Itag sending.itag) (Move.Send e sending
 pumped e (Pass cookie) = by_one answer.WaitDone (Move.Pass e cookie)
 
 -- the unit at its endpoint, with whatever stands beside it there
-abbrev pub at_endpoint : UnitSeen → DeviceWire → List HostGroupWire → PartWire
+abbrev pub at_endpoint : UnitSeen → DeviceWire → List HostGroupWire → EndpointWire
 at_endpoint s device groups = record { device = device; unit = s.unit; page_queue = s.page_queue; host_groups = groups }
 
 -- it is what the definitions by labels do

@@ -192,7 +192,7 @@ invalidation_is_seen s itag n h =
 
 answer_seen : (group : GroupPlace) → answer_to_response group ≡ response_said (group_seen group)
 answer_seen groups.Free = refl
-answer_seen (groups.Unfinished t n) = refl
+answer_seen (groups.Collecting t n) = refl
 answer_seen (groups.Out t n) = refl
 answer_seen (groups.Stale t n) = refl
 

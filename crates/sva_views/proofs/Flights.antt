@@ -6,14 +6,14 @@ use Rattle.std.specs.Map.{lookup, remove_entry}
 use Rattle.std.proofs.lemmas.List.{map-append}
 use Rattle.std.proofs.lemmas.Bool.Decides.{nat_tests}
 use Rattle.sva_model.specs.Words.{tabulate}
-use Rattle.sva_model.specs.Order.{stays_behind}
+use Rattle.sva_model.specs.LinkOrder.{stays_behind}
 use Rattle.sva_model.specs.Wire.{FlightWire}
 use Rattle.sva_labels.specs.Finding as finding
 use Rattle.sva_msg.specs.declared.messages.Message.{Message}
 use Rattle.sva_msg.specs.declared.messages.Kind.{Kind}
 use Rattle.sva_msg.specs.declared.messages.Kind.TheVariants.{Start, Stop, Reset, Completion, Invalidate, Response, Request, Invalidated, PageRequest}
 use Rattle.sva_msg.specs.declared.messages.Kind.TheVariants.{Marker, ResetDone}
-use Rattle.sva_msg.specs.Kind.{sort_of}
+use Rattle.sva_msg.specs.Kind.{kind_of}
 use Rattle.sva_msg.specs.Bag.{InFlight, AreNumbered, MayDeliver, copies_of, must_follow}
 use Rattle.sva_msg.proofs.Deliverable.{any_older, may_deliver-is}
 use Rattle.sva_wire.proofs.Lists.{tabulate_same}
@@ -46,23 +46,23 @@ found_in n (e ∷ es) = ap (λ b. cond b (Some (flight_seen e)) (find (λ f. f.n
 
 -- A message that has to stay behind another.
 
-sort_seen : (kind : Kind) → finding.sort_of (kind_seen kind) ≡ sort_of kind
-sort_seen (Start pasid) = refl
-sort_seen (Stop pasid) = refl
-sort_seen Reset = refl
-sort_seen (Completion tag frame read write) = refl
-sort_seen (Invalidate itag pasid scope) = refl
-sort_seen (Response pasid index code) = refl
-sort_seen (Request tag pasid page) = refl
-sort_seen (Invalidated vector count) = refl
-sort_seen (PageRequest r) = refl
-sort_seen (Marker pasid) = refl
-sort_seen ResetDone = refl
+kind_seen : (kind : Kind) → finding.kind_of (kind_seen kind) ≡ kind_of kind
+kind_seen (Start pasid) = refl
+kind_seen (Stop pasid) = refl
+kind_seen Reset = refl
+kind_seen (Completion tag frame read write) = refl
+kind_seen (Invalidate itag pasid scope) = refl
+kind_seen (Response pasid index code) = refl
+kind_seen (Request tag pasid page) = refl
+kind_seen (Invalidated vector count) = refl
+kind_seen (PageRequest r) = refl
+kind_seen (Marker pasid) = refl
+kind_seen ResetDone = refl
 
 held_seen : (n : ℕ) (sent : Message) (e : Entry) → finding.holds_back (flight_seen (n, sent)) (flight_seen e) ≡ (nat_lt e.0 n && must_follow sent e.1)
 held_seen n sent e =
-    (λ i. (nat_lt e.0 n && flipped sent.endpoint e.1.endpoint i) && stays_behind (sort_seen sent.kind i) (sort_seen e.1.kind i))
-    ∙ in_turn (nat_lt e.0 n) (nat_eq sent.endpoint e.1.endpoint) (stays_behind (sort_of sent.kind) (sort_of e.1.kind))
+    (λ i. (nat_lt e.0 n && flipped sent.endpoint e.1.endpoint i) && stays_behind (kind_seen sent.kind i) (kind_seen e.1.kind i))
+    ∙ in_turn (nat_lt e.0 n) (nat_eq sent.endpoint e.1.endpoint) (stays_behind (kind_of sent.kind) (kind_of e.1.kind))
   where
     in_turn : (a b c : Bool) → ((a && b) && c) ≡ (a && (b && c))
     in_turn true b c = refl

@@ -20,11 +20,11 @@ use Rattle.sva_tables.specs.declared.request_tags.RequestTag.TheVariants as tags
 use Rattle.sva_tables.specs.declared.use_slots.UseSlot.{UseSlot}
 use Rattle.sva_tables.specs.declared.use_slots.UseSlot.TheVariants as slots
 use Rattle.sva_tables.specs.declared.groups.GroupPlace.{GroupPlace}
-use Rattle.sva_tables.specs.declared.groups.GroupPlace.TheVariants.{Free, Unfinished, Out, Stale}
+use Rattle.sva_tables.specs.declared.groups.GroupPlace.TheVariants.{Free, Collecting, Out, Stale}
 use Rattle.sva_tables.specs.PasidStates.{state_of, is_off}
 use Rattle.sva_tables.specs.RequestTags.{asks_under}
 use Rattle.sva_tables.specs.UseSlots.{runs_under}
-use Rattle.sva_tables.specs.Groups.{is_free, is_unfinished, group_at, group_of, with_request, stale_of, requests_of, outstanding}
+use Rattle.sva_tables.specs.Groups.{is_free, is_collecting, group_at, group_of, with_request, stale_of, requests_of, outstanding}
 use Rattle.sva_endpoint.specs.declared.permitted.Fault.{Fault}
 use Rattle.sva_endpoint.specs.Tables.{Tables}
 use Rattle.sva_endpoint.specs.Steps.{may_send, is_of_group, index_for, group_after, is_busy}
@@ -36,13 +36,13 @@ use Rattle.sva_views.proofs.Pasids.{state_seen, started_seen, ending_seen, with_
 
 free_seen : (group : GroupPlace) → is_none (group_seen group) ≡ is_free group
 free_seen Free = refl
-free_seen (Unfinished t n) = refl
+free_seen (Collecting t n) = refl
 free_seen (Out t n) = refl
 free_seen (Stale t n) = refl
 
-unfinished_seen : (t : ℕ) (group : GroupPlace) → is_unfinished t group ≡ finding.is_unfinished_of t (group_seen group)
+unfinished_seen : (t : ℕ) (group : GroupPlace) → is_collecting t group ≡ finding.is_unfinished_of t (group_seen group)
 unfinished_seen t Free = refl
-unfinished_seen t (Unfinished u n) = refl
+unfinished_seen t (Collecting u n) = refl
 unfinished_seen t (Out u n) = refl
 unfinished_seen t (Stale u n) = refl
 
@@ -50,7 +50,7 @@ unfinished_seen t (Stale u n) = refl
 
 requests_seen : (group : GroupPlace) → requests_of group ≡ finding.requests_in (group_seen group)
 requests_seen Free = refl
-requests_seen (Unfinished t n) = refl
+requests_seen (Collecting t n) = refl
 requests_seen (Out t n) = refl
 requests_seen (Stale t n) = refl
 
@@ -96,15 +96,15 @@ more_by t n true = ap (λ m. Some (record { pasid = t; state = GroupState.Awaiti
   where
     one_more : (n : ℕ) → n + 1 ≡ suc n
     one_more n = omega arith
-more_by t n false = ap (λ m. Some (record { pasid = t; state = GroupState.Unfinished; requests = m })) (one_more n)
+more_by t n false = ap (λ m. Some (record { pasid = t; state = GroupState.Collecting; requests = m })) (one_more n)
   where
     one_more : (n : ℕ) → n + 1 ≡ suc n
     one_more n = omega arith
 
-more_seen : (t : ℕ) (last : Bool) (group : GroupPlace) → not (is_unfinished t group) ≡ false
+more_seen : (t : ℕ) (last : Bool) (group : GroupPlace) → not (is_collecting t group) ≡ false
     → group_seen (with_request last group) ≡ moves.with_request last (group_seen group)
 more_seen t last Free h = absurd (cc (h))
-more_seen t last (Unfinished u n) h = more_by u n last
+more_seen t last (Collecting u n) h = more_by u n last
 more_seen t last (Out u n) h = absurd (cc (h))
 more_seen t last (Stale u n) h = absurd (cc (h))
 
@@ -165,7 +165,7 @@ runs_seen t slots.Dead = refl
 busy_seen : (s : Tables) (t : ℕ) → is_busy s t ≡ is_busy_pasid (device_seen s) t
 busy_seen s t =
     (λ i.
-    seen_any group_seen (is_unfinished t) (finding.is_unfinished_of t) (unfinished_seen t) s.groups i
+    seen_any group_seen (is_collecting t) (finding.is_unfinished_of t) (unfinished_seen t) s.groups i
     || (seen_any tag_seen (asks_under t) (finding.is_request_of t) (asks_seen t) s.tags i
     || seen_any slot_seen (runs_under t) (finding.is_use_of t) (runs_seen t) s.uses i))
     ∙ in_turn
@@ -188,7 +188,7 @@ group_in u n x = Some (record { pasid = u; state = x; requests = n })
 as_it_was : (b : Bool) (u n : ℕ) (x : GroupState) → stale_if b x ≡ x → group_in u n x ≡ group_in u n (stale_if b x)
 as_it_was b u n x h = ap (group_in u n) (sym h)
 
-unfinished_stays : (b : Bool) → stale_if b GroupState.Unfinished ≡ GroupState.Unfinished
+unfinished_stays : (b : Bool) → stale_if b GroupState.Collecting ≡ GroupState.Collecting
 unfinished_stays true = refl
 unfinished_stays false = refl
 
@@ -198,7 +198,7 @@ stale_stays false = refl
 
 stale_seen : (t : ℕ) (group : GroupPlace) → group_seen (stale_of t group) ≡ moves.stale_of t (group_seen group)
 stale_seen t Free = refl
-stale_seen t (Unfinished u n) = as_it_was (u == t) u n GroupState.Unfinished (unfinished_stays (u == t))
+stale_seen t (Collecting u n) = as_it_was (u == t) u n GroupState.Collecting (unfinished_stays (u == t))
 stale_seen t (Out u n) = stale_by (u == t) u n
 stale_seen t (Stale u n) = as_it_was (u == t) u n GroupState.Stale (stale_stays (u == t))
 

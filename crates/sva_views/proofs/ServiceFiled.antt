@@ -5,7 +5,7 @@ use Rattle.std.specs.List.{list_any}
 use Rattle.std.proofs.lemmas.Bool.Decides.{nat_tests}
 use Rattle.sva_labels.specs.Moves.{is_begun}
 use Rattle.sva_msg.specs.declared.messages.PageRequest.{PageRequest}
-use Rattle.sva_prq.specs.Groups.{OpenGroup, is_unfinished, is_of_unit, new_group, with_request, filed_among, unfinished_asks}
+use Rattle.sva_prq.specs.Groups.{OpenGroup, is_collecting, is_of_unit, new_group, with_request, filed_among, unfinished_asks}
 use Rattle.sva_prq.proofs.Searches.{find-none}
 use Rattle.sva_prq.proofs.Tests.{Same, unfinished_name}
 use Rattle.sva_views.specs.Service.{group_seen}
@@ -16,23 +16,23 @@ use Rattle.sva_views.proofs.ServiceGroups.{of_unit, begun_here, not_begun}
 unfinished_by : (x u y b z i : ℕ) (last : Bool) → x ≡ u → y ≡ b → z ≡ i → last ≡ false → (((x == u && y == b) && z == i) && not last) ≡ true
 unfinished_by x u y b z i last h k l m = grind (arith, nat_tests)
 
-pub unfinished_from : (u b i : ℕ) (g : OpenGroup) → g.unit ≡ u → g.binding ≡ b → g.index ≡ i → g.last ≡ false → is_unfinished u b i g ≡ true
+pub unfinished_from : (u b i : ℕ) (g : OpenGroup) → g.unit ≡ u → g.binding ≡ b → g.index ≡ i → g.last ≡ false → is_collecting u b i g ≡ true
 unfinished_from u b i g h k l m = unfinished_by g.unit u g.binding b g.index i g.last h k l m
 
 -- it is begun where a group of the unit is begun by labels
-pub begun_seen : (u b i : ℕ) (gs : List OpenGroup) → list_any (is_begun b i) (of_unit u gs) ≡ list_any (is_unfinished u b i) gs
+pub begun_seen : (u b i : ℕ) (gs : List OpenGroup) → list_any (is_begun b i) (of_unit u gs) ≡ list_any (is_collecting u b i) gs
 begun_seen u b i [] = refl
 begun_seen u b i (g ∷ gs) = go (g.unit == u) refl (begun_seen u b i gs)
   where
-    go : (t : Bool) → (g.unit == u) ≡ t → list_any (is_begun b i) (of_unit u gs) ≡ list_any (is_unfinished u b i) gs
+    go : (t : Bool) → (g.unit == u) ≡ t → list_any (is_begun b i) (of_unit u gs) ≡ list_any (is_collecting u b i) gs
         → list_any (is_begun b i) (map group_seen (cond t (g ∷ filter (is_of_unit u) gs) (filter (is_of_unit u) gs)))
-        ≡ (is_unfinished u b i g || list_any (is_unfinished u b i) gs)
+        ≡ (is_collecting u b i g || list_any (is_collecting u b i) gs)
     go true h rest = λ j. begun_here u b i g h j || rest j
-    go false h rest = rest ∙ ap (λ t. t || list_any (is_unfinished u b i) gs) (sym (not_begun u b i g h))
+    go false h rest = rest ∙ ap (λ t. t || list_any (is_collecting u b i) gs) (sym (not_begun u b i g h))
 
 module _ (next u b : ℕ) (request : PageRequest) where
   abbrev unfinished : OpenGroup → Bool
-  unfinished = is_unfinished u b request.index
+  unfinished = is_collecting u b request.index
 
   abbrev new : OpenGroup
   new = new_group next u b request.index

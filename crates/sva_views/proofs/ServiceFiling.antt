@@ -5,7 +5,7 @@ use Rattle.std.specs.List.{count_by, list_any}
 use Rattle.std.proofs.lemmas.Bool.Decides.{nat_tests}
 use Rattle.sva_msg.specs.declared.messages.PageRequest.{PageRequest}
 use Rattle.sva_prq.specs.Job.{Job, ask_of}
-use Rattle.sva_prq.specs.Groups.{OpenGroup, is_unfinished, new_group, with_request, filed_among, unfinished_asks, serial_for}
+use Rattle.sva_prq.specs.Groups.{OpenGroup, is_collecting, new_group, with_request, filed_among, unfinished_asks, serial_for}
 use Rattle.sva_prq.proofs.Tests.{Same, unfinished_name, unfinished_part}
 use Rattle.sva_service.specs.Service.{Service, filed}
 use Rattle.sva_views.specs.Service.{job_seen, jobs_seen}
@@ -45,7 +45,7 @@ module _ (workers : ℕ) (s : Service) (u b : ℕ) (request : PageRequest) (k : 
   after = filed_among next u b request gs
 
   abbrev unfinished : OpenGroup → Bool
-  unfinished = is_unfinished u b request.index
+  unfinished = is_collecting u b request.index
 
   abbrev taker : OpenGroup
   taker = chosen next u b request gs

@@ -9,7 +9,7 @@ use Rattle.sva_labels.specs.Moves as moves
 use Rattle.sva_labels.specs.Outcomes.{asks_of}
 use Rattle.sva_msg.specs.declared.messages.PageRequest.{PageRequest}
 use Rattle.sva_prq.specs.Job.{ask_of}
-use Rattle.sva_prq.specs.Groups.{OpenGroup, is_unfinished, is_of_unit, is_of_other_unit, is_of_binding, new_group, with_request, filed_among, unfinished_asks}
+use Rattle.sva_prq.specs.Groups.{OpenGroup, is_collecting, is_of_unit, is_of_other_unit, is_of_binding, new_group, with_request, filed_among, unfinished_asks}
 use Rattle.sva_views.specs.Service.{ask_seen, page_request_seen, group_seen, OpenIsSeen}
 
 -- those of one unit
@@ -67,10 +67,10 @@ open_is_seen s p unit binding h alone = go s.groups alone ∙ ap (list_any (of_b
 
 -- a group of the unit is begun under the binding and index
 pub begun_here : (unit binding index : ℕ) (g : OpenGroup) → (g.unit == unit) ≡ true
-    → moves.is_begun binding index (group_seen g) ≡ is_unfinished unit binding index g
+    → moves.is_begun binding index (group_seen g) ≡ is_collecting unit binding index g
 begun_here unit binding index g h = sym (ap (λ t. ((t && g.binding == binding) && g.index == index) && not g.last) h)
 
-pub not_begun : (unit binding index : ℕ) (g : OpenGroup) → (g.unit == unit) ≡ false → is_unfinished unit binding index g ≡ false
+pub not_begun : (unit binding index : ℕ) (g : OpenGroup) → (g.unit == unit) ≡ false → is_collecting unit binding index g ≡ false
 not_begun unit binding index g h = ap (λ t. ((t && g.binding == binding) && g.index == index) && not g.last) h
 
 with_seen : (g : OpenGroup) (request : PageRequest)
@@ -83,7 +83,7 @@ module _ (next unit binding : ℕ) (request : PageRequest) where
   begun = moves.is_begun binding request.index
 
   abbrev unfinished : OpenGroup → Bool
-  unfinished = is_unfinished unit binding request.index
+  unfinished = is_collecting unit binding request.index
 
   abbrev by_labels : List HostGroupWire → List HostGroupWire
   by_labels = moves.filed binding (page_request_seen request)

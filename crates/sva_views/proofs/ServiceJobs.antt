@@ -3,7 +3,7 @@ use Rattle.std.proofs.Common.{◌≡◌, refl, ap, sym, ◌∙◌, ℕ, zero, su
 use Rattle.std.specs.Prelude.{◌==◌, not, if◌then◌else◌, Option, Some, None, option_map, option_to_list, List, [], ◌∷◌, ◌++◌, map, find, take, drop}
 use Rattle.std.specs.Prelude.{slice_get, slice_index_or, slice_set}
 use Rattle.std.proofs.lemmas.List.{map-append, map-set, length-map, append-nil}
-use Rattle.sva_model.specs.Wire.{PartWire, JobWire}
+use Rattle.sva_model.specs.Wire.{EndpointWire, JobWire}
 use Rattle.sva_labels.specs.Moves.{is_begun}
 use Rattle.sva_labels.specs.Outcomes.{job_of, asks_of}
 use Rattle.sva_msg.specs.declared.messages.PageRequest.{PageRequest}
@@ -46,7 +46,7 @@ held_at n k hands l = taken_at n k None (map (option_map job_seen) hands) l ∙ 
 
 -- A page request is filed.
 
-job_is_seen : (s : Groups) (p : PartWire) (unit binding : ℕ) (request : PageRequest) → p.host_groups ≡ groups_seen unit s
+job_is_seen : (s : Groups) (p : EndpointWire) (unit binding : ℕ) (request : PageRequest) → p.host_groups ≡ groups_seen unit s
     → map ask_seen (unfinished_asks unit binding request.index s.groups ++ ask_of request ∷ []) ≡ (job_of p unit binding (page_request_seen request)).asks
 job_is_seen s p unit binding request h =
     map-append ask_seen (unfinished_asks unit binding request.index s.groups) (ask_of request ∷ [])

@@ -4,14 +4,14 @@ use Rattle.std.specs.Prelude.{MatchOption, unwrap_or, Option, Some, None, length
 use Rattle.std.proofs.lemmas.List.{length-map}
 use Rattle.sva_labels.specs.Moves.{is_begun}
 use Rattle.sva_labels.specs.Outcomes.{asks_of}
-use Rattle.sva_prq.specs.Groups.{OpenGroup, is_unfinished, new_group, unfinished_asks}
+use Rattle.sva_prq.specs.Groups.{OpenGroup, is_collecting, new_group, unfinished_asks}
 use Rattle.sva_views.specs.Service.{ask_seen}
 use Rattle.sva_views.specs.ServiceLaws.{FilingIsPermitted}
 use Rattle.sva_views.proofs.ServiceGroups.{asks_seen}
 
 pub filing_is_permitted : FilingIsPermitted
 filing_is_permitted s p unit binding request h room groups next few =
-    record { group = go (find (is_unfinished unit binding request.index) s.groups.groups) fewer; job = λ last. room }
+    record { group = go (find (is_collecting unit binding request.index) s.groups.groups) fewer; job = λ last. room }
   where
     same : length (unfinished_asks unit binding request.index s.groups.groups) ≡ length (asks_of (find (is_begun binding request.index) p.host_groups))
     same =

@@ -17,7 +17,7 @@ use Rattle.sva_tables.specs.declared.use_slots.UseSlot.{UseSlot}
 use Rattle.sva_tables.specs.declared.use_slots.UseSlot.TheVariants.{Free as NoUse, Running, Dead}
 use Rattle.sva_tables.specs.declared.taken_table.Taken.{Taken}
 use Rattle.sva_tables.specs.declared.groups.GroupPlace.{GroupPlace}
-use Rattle.sva_tables.specs.declared.groups.GroupPlace.TheVariants.{Free as NoGroup, Unfinished, Out as GroupOut, Stale}
+use Rattle.sva_tables.specs.declared.groups.GroupPlace.TheVariants.{Free as NoGroup, Collecting, Out as GroupOut, Stale}
 use Rattle.sva_endpoint.specs.Tables.{Tables}
 
 abbrev pub pasid_seen : PasidState → DeviceState
@@ -50,7 +50,7 @@ taken_seen taken = record { pasid = taken.invalidation.pasid; extent = extent_se
 
 abbrev pub group_seen : GroupPlace → Option GroupWire
 group_seen NoGroup = None
-group_seen (Unfinished pasid requests) = Some (record { pasid = pasid; state = GroupState.Unfinished; requests = requests })
+group_seen (Collecting pasid requests) = Some (record { pasid = pasid; state = GroupState.Collecting; requests = requests })
 group_seen (GroupOut pasid requests) = Some (record { pasid = pasid; state = GroupState.Awaiting; requests = requests })
 group_seen (Stale pasid requests) = Some (record { pasid = pasid; state = GroupState.Stale; requests = requests })
 

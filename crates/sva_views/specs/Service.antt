@@ -2,7 +2,7 @@
 use Rattle.std.specs.Prelude.{◌≡◌, ℕ, ◌<◌, false, ◌==◌, not, if◌then◌else◌, Option, Some, None, option_map, List, [], ◌∷◌, ◌++◌, map, filter, take, drop}
 use Rattle.std.specs.Prelude.{length, slice_index_or, slice_set}
 use Rattle.std.specs.List.{list_any}
-use Rattle.sva_model.specs.Wire.{AskWire, PageRequestWire, HostGroupWire, PartWire, JobWire}
+use Rattle.sva_model.specs.Wire.{AskWire, PageRequestWire, HostGroupWire, EndpointWire, JobWire}
 use Rattle.sva_labels.specs.Finding.{has_open_group}
 use Rattle.sva_labels.specs.Moves as moves
 use Rattle.sva_labels.specs.Outcomes.{job_of}
@@ -38,7 +38,7 @@ hands_seen n s = take n (map (option_map job_seen) s.hands)
 -- an open group of a binding, which is at one unit alone
 abbrev pub OpenIsSeen : Type 0
 OpenIsSeen =
-    (s : Groups) (p : PartWire) (unit binding : ℕ) → p.host_groups ≡ groups_seen unit s
+    (s : Groups) (p : EndpointWire) (unit binding : ℕ) → p.host_groups ≡ groups_seen unit s
     → ((e : ℕ) → (e == unit) ≡ false → list_any (λ g. g.binding == binding) (groups_seen e s) ≡ false)
     → is_open binding s ≡ has_open_group p binding
 
@@ -48,7 +48,7 @@ pub record FilingIsSeen (s : Service) (unit binding : ℕ) (request : PageReques
       groups_seen unit (filed s unit binding request).groups ≡ moves.filed binding (page_request_seen request) (groups_seen unit s.groups)
   pub others : (e : ℕ) → (e == unit) ≡ false → groups_seen e (filed s unit binding request).groups ≡ groups_seen e s.groups
   pub jobs :
-      (p : PartWire) → p.host_groups ≡ groups_seen unit s.groups
+      (p : EndpointWire) → p.host_groups ≡ groups_seen unit s.groups
       → jobs_seen (filed s unit binding request)
       ≡ (if request.last then jobs_seen s ++ job_of p unit binding (page_request_seen request) ∷ [] else jobs_seen s)
   pub hands : (workers : ℕ) → hands_seen workers (filed s unit binding request) ≡ hands_seen workers s

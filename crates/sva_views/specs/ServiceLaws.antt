@@ -3,7 +3,7 @@
 use Rattle.std.specs.Prelude.{◌≡◌, ◌⊎◌, ℕ, ◌+◌, ◌<◌, ◌≤◌, Bool, true, false, ◌==◌, ◌&&◌, not, Option, Some, None, List, [], ◌∷◌, ◌^◌, filter, find, length}
 use Rattle.std.specs.Prelude.{slice_index_or, slice_set}
 use Rattle.std.specs.List.{count_by, list_any}
-use Rattle.sva_model.specs.Wire.{PartWire, JobWire}
+use Rattle.sva_model.specs.Wire.{EndpointWire, JobWire}
 use Rattle.sva_labels.specs.Moves.{is_begun, is_of_job}
 use Rattle.sva_labels.specs.Outcomes.{asks_of}
 use Rattle.sva_msg.specs.declared.messages.PageRequest.{PageRequest}
@@ -90,7 +90,7 @@ BeginsAnew workers s unit binding index =
 -- a request may be filed where there is room, a serial is left, and its group by labels has fewer than 32 requests
 abbrev pub FilingIsPermitted : Type 0
 FilingIsPermitted =
-    (s : Service) (p : PartWire) (unit binding : ℕ) (request : PageRequest) → p.host_groups ≡ groups_seen unit s.groups
+    (s : Service) (p : EndpointWire) (unit binding : ℕ) (request : PageRequest) → p.host_groups ≡ groups_seen unit s.groups
     → 0 < s.room → 0 < s.groups.room → s.groups.next + 1 < 2 ^ 64
     → length (asks_of (find (is_begun binding request.index) p.host_groups)) < 32 → CanFile s unit binding request
 

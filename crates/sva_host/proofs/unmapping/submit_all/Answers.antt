@@ -2,7 +2,7 @@ use Rattle.std.proofs.Common.{◌≡◌, ◌∙◌, ap, sym, ◌^◌, arith}
 use Rattle.std.specs.Prelude.{length, suc}
 use Rattle.std.proofs.lemmas.List.{length-map}
 use Rattle.sva_labels.specs.Finding.{has_room, unit_of, bound_at}
-use Rattle.sva_model.specs.Wire.{PartWire}
+use Rattle.sva_model.specs.Wire.{EndpointWire}
 use Rattle.sva_host.specs.Inner.{part_seen}
 use Rattle.sva_host.specs.Unmapping.{wire_with}
 use Rattle.sva_host.proofs.Submitting.{room_there, given_there, cookie_low, asked_some, asked_none, starts, part_now, asks, asks_not, asks_there, ends}
@@ -19,7 +19,7 @@ submit_ranges-requires-clause-room c =
     let e = c.loop-endpoint.endpoint in
     let asked = asked_some (unit_of w e) (bound_at w e c.args.space) c.in-Some.pasid (sym c.in-Some.is ∙ c.pasid_asked.ensures
     ∙ asks_there _ _ _ _ _ _ _ e _ _ c.index-ports-endpoint.result _ c.loop-endpoint.invariant c.loop-endpoint-test.true c.place_between-place.ensures) in
-    ap (λ (p : PartWire). has_room p.unit (suc c.args.count))
+    ap (λ (p : EndpointWire). has_room p.unit (suc c.args.count))
     (part_now _ _ _ _ _ _ _ e _ _ c.index-ports-endpoint-in-Some.result c.loop-endpoint.invariant c.loop-endpoint-test.true)
     ∙ room_there w c.args.space (suc c.args.count) e c.requires.room (omega arith) asked.0
 
@@ -29,7 +29,7 @@ submit_ranges-requires-clause-later c =
     let long : length w.parts ≡ length c.args.ports.now = length-map c.args.ports.now part_seen in
     let e = c.loop-endpoint.endpoint in
     let low = given_there w c.args.space e c.requires.given (omega arith) in
-    let same = ap (λ (p : PartWire). p.unit.waits_end)
+    let same = ap (λ (p : EndpointWire). p.unit.waits_end)
     (part_now _ _ _ _ _ _ _ e _ _ c.index-ports-endpoint-in-Some.result c.loop-endpoint.invariant c.loop-endpoint-test.true) in
     let cookie = c.loop-endpoint.invariant.cookie in
     omega arith

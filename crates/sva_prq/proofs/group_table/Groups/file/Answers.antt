@@ -1,6 +1,6 @@
 use Rattle.std.proofs.Common.{◌≡◌, ◌<◌, ◌+◌, ◌^◌, ℕ, true, None, Some, length, get_or, set, find, refl, sym, ap, ◌∙◌, subst, arith, IfSome}
 use Rattle.std.proofs.lemmas.Option.{MatchOption-at_some, same_Some}
-use Rattle.sva_prq.specs.Groups.{OpenGroup, Groups, is_unfinished, new_group, with_request, filed, job_of, job_made}
+use Rattle.sva_prq.specs.Groups.{OpenGroup, Groups, is_collecting, new_group, with_request, filed, job_of, job_made}
 use Rattle.sva_prq.specs.Slots.{IsAt, groups_in, AreKept, MayHold}
 use Rattle.sva_prq.proofs.Searches.{filed-in, filed-new, may_begin}
 use Rattle.sva_prq.proofs.Slots.{passing_at, any_at, none_in, none_unfinished, found-joined, kept-joined, groups-joined, kept-begun, groups-begun}
@@ -11,7 +11,7 @@ few g = length g.asks < 32
 
 pub join-requires-clause-room : goal.join-requires-clause-room
 join-requires-clause-room c g is =
-    let p = is_unfinished c.args.unit c.args.binding c.args.request.index in
+    let p = is_collecting c.args.unit c.args.binding c.args.request.index in
     let old = c.self.inside.slots.slots in
     let there = passing_at p (get_or old c.in-Some.key None) c.in-Some.ensures.found in
     let found = found-joined old old c.self.inside.cells c.self.inside.next c.self.invariant.0 c.in-Some.key there.0 there.1 (λ _ _. refl) c.args.unit
@@ -21,7 +21,7 @@ join-requires-clause-room c g is =
 
 pub invariant_of-self : goal.invariant_of-self
 invariant_of-self c =
-    let p = is_unfinished c.args.unit c.args.binding c.args.request.index in
+    let p = is_collecting c.args.unit c.args.binding c.args.request.index in
     let old = c.self.inside.slots.slots in
     let there = passing_at p (get_or old c.in-Some.key None) c.in-Some.ensures.found in
     let updates = c.join.ensures.group there.0 there.1 in
@@ -35,7 +35,7 @@ invariant_of-self c =
 
 pub returns-in-Some-clause-groups : goal.returns-in-Some-clause-groups
 returns-in-Some-clause-groups c =
-    let p = is_unfinished c.args.unit c.args.binding c.args.request.index in
+    let p = is_collecting c.args.unit c.args.binding c.args.request.index in
     let old = c.self.inside.slots.slots in
     let new = c.join.new.slots.slots in
     let cells = c.self.inside.cells in
@@ -51,7 +51,7 @@ returns-in-Some-clause-groups c =
 
 pub returns-in-Some-clause-job : goal.returns-in-Some-clause-job
 returns-in-Some-clause-job c =
-    let p = is_unfinished c.args.unit c.args.binding c.args.request.index in
+    let p = is_collecting c.args.unit c.args.binding c.args.request.index in
     let old = c.self.inside.slots.slots in
     let s : Groups = record { groups = groups_in old; room = c.self.inside.room; next = c.self.inside.next } in
     let there = passing_at p (get_or old c.in-Some.key None) c.in-Some.ensures.found in
@@ -68,7 +68,7 @@ insert_reserved-requires c =
     let none = none_unfinished old c.self.inside.cells c.self.inside.next c.args.unit c.args.binding c.args.request.index c.cell_of-place.result
     c.self.invariant.0 c.cell_of-place.ensures.cell c.in-None.ensures.absent in
     let may = may_begin s c.args.self.now c.args.unit c.args.binding c.args.request c.self.view_is
-    (none_in (is_unfinished c.args.unit c.args.binding c.args.request.index) old none) c.requires in
+    (none_in (is_collecting c.args.unit c.args.binding c.args.request.index) old none) c.requires in
     let room : 0 < c.self.inside.room = may.0 in
     let fits = c.self.invariant.1 in
     omega (arith, room, fits)
@@ -80,7 +80,7 @@ overflow_sub-self c =
     let none = none_unfinished old c.self.inside.cells c.self.inside.next c.args.unit c.args.binding c.args.request.index c.cell_of-place.result
     c.self.invariant.0 c.cell_of-place.ensures.cell c.in-None.ensures.absent in
     let may = may_begin s c.args.self.now c.args.unit c.args.binding c.args.request c.self.view_is
-    (none_in (is_unfinished c.args.unit c.args.binding c.args.request.index) old none) c.requires in
+    (none_in (is_collecting c.args.unit c.args.binding c.args.request.index) old none) c.requires in
     let room : 0 < c.self.inside.room = may.0 in
     omega (arith, room)
 
@@ -91,7 +91,7 @@ overflow_add-self c =
     let none = none_unfinished old c.self.inside.cells c.self.inside.next c.args.unit c.args.binding c.args.request.index c.cell_of-place.result
     c.self.invariant.0 c.cell_of-place.ensures.cell c.in-None.ensures.absent in
     let may = may_begin s c.args.self.now c.args.unit c.args.binding c.args.request c.self.view_is
-    (none_in (is_unfinished c.args.unit c.args.binding c.args.request.index) old none) c.requires in
+    (none_in (is_collecting c.args.unit c.args.binding c.args.request.index) old none) c.requires in
     let next : c.self.inside.next + 1 < 2 ^ 64 = may.1 in
     omega (arith, next)
 
@@ -114,7 +114,7 @@ invariant_of-self-in-None c =
     let none = none_unfinished old c.self.inside.cells c.self.inside.next c.args.unit c.args.binding c.args.request.index c.cell_of-place.result
     c.self.invariant.0 c.cell_of-place.ensures.cell c.in-None.ensures.absent in
     let may = may_begin s c.args.self.now c.args.unit c.args.binding c.args.request c.self.view_is
-    (none_in (is_unfinished c.args.unit c.args.binding c.args.request.index) old none) c.requires in
+    (none_in (is_collecting c.args.unit c.args.binding c.args.request.index) old none) c.requires in
     let room : 0 < c.self.inside.room = may.0 in
     let fits = c.self.invariant.1 in
     let kept =
@@ -131,7 +131,7 @@ invariant_of-self-in-None c =
 
 pub returns-in-None-clause-groups : goal.returns-in-None-clause-groups
 returns-in-None-clause-groups c =
-    let p = is_unfinished c.args.unit c.args.binding c.args.request.index in
+    let p = is_collecting c.args.unit c.args.binding c.args.request.index in
     let old = c.self.inside.slots.slots in
     let new = c.insert_reserved.new.self.slots in
     let s : Groups = record { groups = groups_in old; room = c.self.inside.room; next = c.self.inside.next } in
@@ -146,7 +146,7 @@ returns-in-None-clause-groups c =
 
 pub returns-in-None-clause-job : goal.returns-in-None-clause-job
 returns-in-None-clause-job c =
-    let p = is_unfinished c.args.unit c.args.binding c.args.request.index in
+    let p = is_collecting c.args.unit c.args.binding c.args.request.index in
     let old = c.self.inside.slots.slots in
     let s : Groups = record { groups = groups_in old; room = c.self.inside.room; next = c.self.inside.next } in
     let none = none_unfinished old c.self.inside.cells c.self.inside.next c.args.unit c.args.binding c.args.request.index c.cell_of-place.result

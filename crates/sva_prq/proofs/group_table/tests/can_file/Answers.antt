@@ -1,6 +1,6 @@
 use Rattle.std.proofs.Common.{◌+◌, ◌^◌, ◌<◌, false, length, get_or, find, MatchOption, None, refl, sym, ap, ◌∙◌, subst}
 use Rattle.sva_msg.specs.declared.messages.PageRequest.{PageRequest}
-use Rattle.sva_prq.specs.Groups.{OpenGroup, Groups, is_unfinished}
+use Rattle.sva_prq.specs.Groups.{OpenGroup, Groups, is_collecting}
 use Rattle.sva_prq.specs.Slots.{groups_in}
 use Rattle.sva_prq.proofs.Searches.{find-none}
 use Rattle.sva_prq.proofs.Slots.{passing_at, none_in, none_unfinished, found-joined}
@@ -14,7 +14,7 @@ few g = length g.asks < 32
 
 pub returns-in-Some : goal.returns-in-Some
 returns-in-Some c fits =
-    let p = is_unfinished c.args.unit c.args.binding c.args.index in
+    let p = is_collecting c.args.unit c.args.binding c.args.index in
     let old = c.groups.inside.slots.slots in
     let request : PageRequest = record { pasid = 0; index = c.args.index; page = 0; read = false; write = false; last = false } in
     let there = passing_at p (get_or old c.in-Some.key None) c.in-Some.ensures.found in
@@ -25,7 +25,7 @@ returns-in-Some c fits =
 
 pub returns-in-None : goal.returns-in-None
 returns-in-None c fits =
-    let p = is_unfinished c.args.unit c.args.binding c.args.index in
+    let p = is_collecting c.args.unit c.args.binding c.args.index in
     let old = c.groups.inside.slots.slots in
     let none = none_unfinished old c.groups.inside.cells c.groups.inside.next c.args.unit c.args.binding c.args.index c.cell_of-place.result
     c.groups.invariant.0 c.cell_of-place.ensures.cell c.in-None.ensures.absent in

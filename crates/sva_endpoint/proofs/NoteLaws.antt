@@ -40,7 +40,7 @@ and-none : (b : Bool) → false ≡ (b && false)
 and-none true = refl
 and-none false = refl
 
-set_false : (noted : List Bool) (slot : ℕ) → get_or (set noted slot false) slot false ≡ false
+pub set_false : (noted : List Bool) (slot : ℕ) → get_or (set noted slot false) slot false ≡ false
 set_false noted slot = elim (cases_lt slot (length noted)) [
   | inl within ↦ get_or-set_same noted slot false false within
   | inr past ↦ get_or_past (set noted slot false) slot false (omega (arith, length-set noted slot false))

@@ -43,6 +43,7 @@ use Rattle.sva_tables.proofs.GroupFacts.{requests_of-group_of, requests_of-with_
 use Rattle.sva_tables.proofs.TakenFacts.{get_or-without_named}
 use Rattle.sva_endpoint.proofs.CallFacts.{are_clear, lowest}
 use Rattle.sva_endpoint.proofs.TagLaws.{clash}
+use Rattle.sva_endpoint.proofs.NoteLaws.{set_false as get_or-set_false}
 
 -- ---- the lengths of the tables
 
@@ -258,11 +259,6 @@ set_read (x ∷ xs) (suc i) y (suc k) taken is = elim (set_read xs i y k taken i
   | inl h ↦ inl (ap suc h.0, h.1)
   | inr h ↦ inr h
 ]
-
-get_or-set_false : (xs : List Bool) (i : ℕ) → get_or (set xs i false) i false ≡ false
-get_or-set_false [] i = refl
-get_or-set_false (x ∷ xs) zero = refl
-get_or-set_false (x ∷ xs) (suc i) = get_or-set_false xs i
 
 free_runs_nothing : (invalidation : Invalidation) (place : UseSlot) → is_free_slot place ≡ true → runs_covered invalidation place ≡ false
 free_runs_nothing invalidation FreeSlot is = refl

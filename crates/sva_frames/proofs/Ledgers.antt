@@ -96,7 +96,7 @@ first_free_is ss words counts (Some m) is none some =
 
 -- ---- a ledger as it is opened
 
-get-replicate : {A : Type 0} (k n : ℕ) (x y : A) → slice_get (replicate k x) n ≡ Some y → y ≡ x
+pub get-replicate : {A : Type 0} (k n : ℕ) (x y : A) → slice_get (replicate k x) n ≡ Some y → y ≡ x
 get-replicate zero n x y here = absurd (cc)
 get-replicate (suc k) zero x y here = sym (same_Some x y here)
 get-replicate (suc k) (suc n) x y here = get-replicate k n x y here

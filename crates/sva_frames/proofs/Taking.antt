@@ -15,6 +15,7 @@ use Rattle.sva_frames.specs.Stages.{stage_place, is_free_stage, is_mapped_stage,
 use Rattle.sva_frames.specs.Pool.{row, holding, holdings_from, IsCounted, IsPool}
 use Rattle.sva_frames.proofs.Pools.{slice_get-set_same}
 use Rattle.sva_frames.proofs.Holdings.{pool_set, holdings_set, holding_at, stage_at, count_cons, length-holdings}
+use Rattle.sva_frames.proofs.Ledgers.{get-replicate}
 
 free_holding : (s : Stage) (ws : List (Option Target)) → is_free (holding s ws) ≡ is_free_stage s
 free_holding FreeStage ws = refl
@@ -141,11 +142,6 @@ none_counted (lane ∷ lanes) none n =
     let rest : count_by is_some (row lanes n) ≡ 0 = none_counted lanes (λ unit. none (suc unit)) n in
     let no_more : ◌≡◌ {A = ℕ} (cond (is_some (get_or lane n None)) 1 0) 0 = ap (λ (o : Option Target). let one : ℕ = 1 in cond (is_some o) one 0) here in
     omega (arith, count_cons (get_or lane n None) (row lanes n), no_more, rest)
-
-get-replicate : {A : Type 0} (k n : ℕ) (x y : A) → slice_get (replicate k x) n ≡ Some y → y ≡ x
-get-replicate zero n x y here = absurd (cc)
-get-replicate (suc k) zero x y here = sym (same_Some x y here)
-get-replicate (suc k) (suc n) x y here = get-replicate k n x y here
 
 nothing : (k n : ℕ) → ◌≡◌ {A = Option Target} (get_or (replicate k None) n None) None
 nothing zero n = refl

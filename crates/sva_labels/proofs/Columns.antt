@@ -19,6 +19,7 @@ use Rattle.sva_laws.proofs.Passed.{unreleased_bound}
 use Rattle.sva_labels.specs.Moves.{with_stage, without_binding, cut_off, cut_off_at}
 use Rattle.sva_labels.proofs.Selected.{select_seen, select_filtered, select_one, select_less, map_twice}
 use Rattle.sva_labels.proofs.Flights.{part_after, same_view}
+use Rattle.sva_laws.proofs.Cookies.{own_old as old_order}
 
 -- What an entry of a binding reads: the order that its stage waits for among them.
 abbrev pub KeepsOrder : (p q : Endpoint) → Stage → Type 0
@@ -53,10 +54,6 @@ binding_kept first e p q b k =
       stage =
           stage_kept first p q (p.stage b) k.order i;
     })
-
--- orders that are made stay
-old_order : (p : Endpoint) (n : ℕ) (o : LocalAct) (k : ℕ) → k < p.orders → (own p n o).order k ≡ p.order k
-old_order p n o k l = grind (arith, nat_tests)
 
 pub keeps_order : (p : Endpoint) (n : ℕ) (o : LocalAct) (b : ℕ) → Orders p → KeepsOrder p (own p n o) (p.stage b)
 keeps_order p n o b od = go (p.stage b) refl

@@ -29,6 +29,7 @@ use Rattle.sva_labels.proofs.OrderedRanges.{HasRanges}
 use Rattle.sva_labels.proofs.Reached.{IsReached}
 use Rattle.sva_labels.proofs.Alike.{result_by}
 use Rattle.sva_labels.proofs.DeliverResults.{ArrivesAlike, by_message, open_seen}
+use Rattle.sva_laws.proofs.Groups.{answerable_outstanding as waits_on}
 
 -- An Invalidate: its range is read from the code.
 
@@ -44,9 +45,6 @@ invalidate_arrives w e c k r m =
     (extent_read (w.part e) (r.ranges e) k ((w.part e).order k) refl)
 
 -- A response finds its group by the index.
-
-waits_on : (s : GroupState) → is_answerable s ≡ true → is_outstanding s ≡ true
-waits_on s h = grind arith
 
 pub response_arrives :
     (w : World) (e c g : ℕ) (code : Code) → IsReached w → e < w.config.endpoints → (w.part e).message c ≡ Some (ResponseOf g code)

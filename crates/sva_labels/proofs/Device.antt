@@ -29,6 +29,7 @@ use Rattle.sva_labels.proofs.DeviceOrders.{taken_bound, taken_drained, taken_inv
 use Rattle.sva_labels.proofs.DeviceOrders.{taken_begun, taken_counted, taken_reopened}
 use Rattle.sva_labels.proofs.DeviceFinished.{taken_finished, taken_taken, taken_ended, taken_cleared}
 use Rattle.sva_labels.proofs.DeviceGroups.{groups_bound, groups_opened, groups_requested, groups_quit, groups_answered, groups_cleared}
+use Rattle.sva_laws.proofs.Found.{unmarked_unreleased}
 
 -- a message that counts completions, or is let go, changes nothing that the device keeps
 count_leaves : (first e c : ℕ) (d : DeviceWire) (m : Message) → device_moved d (count_move first e c m) ≡ d
@@ -43,9 +44,6 @@ count_leaves first e c d (InvalidatedMessage vector field) = refl
 count_leaves first e c d (PageRequestMessage t i q r x l) = refl
 count_leaves first e c d (MarkerMessage t) = refl
 count_leaves first e c d ResetDoneMessage = refl
-
-unmarked_unreleased : (s : Stage) → is_unmarked s ≡ true → is_unreleased s ≡ true
-unmarked_unreleased s h = grind arith
 
 pub device_square :
     (first : ℕ) (ms : Mappings) (x g n e : ℕ) (p : Endpoint) (o : LocalAct) → LegalLocalAct ms g p o → PartInvariant ms x g n e p

@@ -30,6 +30,7 @@ use Rattle.sva_labels.proofs.EndpointViews.{device_seen, endpoint_cause, AreSame
 use Rattle.sva_labels.proofs.EndpointLookups.{started_seen, ending_seen, group_seen}
 use Rattle.sva_labels.proofs.EndpointSays.{below_seen, bearer_pasid}
 use Rattle.sva_labels.proofs.Alike.{SaysAlike, result_by}
+use Rattle.sva_laws.proofs.LegalEndpoint.{unfinished_is}
 
 -- The page requests that are outstanding, group by group and one by one.
 
@@ -184,9 +185,6 @@ may_seen w e t None i l = ap (λ d. may_request d t None) (device_seen w e l) �
 may_seen w e t (Some x) i l =
     ap (λ d. may_request d t (Some x)) (device_seen w e l)
     ∙ ap₂ ◌||◌ (started_seen w.mappings (w.part e) (i.parts e).labels t) (ending_seen w.mappings (w.part e) (i.parts e).labels t)
-
-unfinished_is : (s : GroupState) → is_collecting s ≡ true → s ≡ Collecting
-unfinished_is s h = grind arith
 
 -- an unfinished group is of the PASID exactly where its asker bears it
 group_of_pasid :

@@ -22,15 +22,13 @@ use Rattle.sva_labels.proofs.EndpointLookups.{taken_seen}
 use Rattle.sva_labels.proofs.EndpointSays.{below_seen}
 use Rattle.sva_labels.proofs.EndpointQuits.{any_both}
 use Rattle.sva_labels.proofs.Alike.{SaysAlike}
+use Rattle.sva_laws.proofs.Withheld.{and_both as both}
 
 first : (a b : Bool) → (a && b) ≡ true → a ≡ true
 first a b h = grind arith
 
 second : (a b : Bool) → (a && b) ≡ true → b ≡ true
 second a b h = grind arith
-
-both : (a b : Bool) → a ≡ true → b ≡ true → (a && b) ≡ true
-both a b h k = grind arith
 
 -- an ITag has an invalidation in the endpoint's hands where its order is taken
 none_taken :

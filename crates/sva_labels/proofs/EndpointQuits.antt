@@ -29,6 +29,7 @@ use Rattle.sva_labels.proofs.EndpointViews.{device_seen, endpoint_cause, same_al
 use Rattle.sva_labels.proofs.EndpointLookups.{ending_seen}
 use Rattle.sva_labels.proofs.EndpointSays.{below_seen}
 use Rattle.sva_labels.proofs.Alike.{SaysAlike}
+use Rattle.sva_laws.proofs.LegalEndpoint.{unfinished_is}
 
 -- two searches each of which finds where the other does
 pub any_both :
@@ -66,9 +67,6 @@ is_bearer p t b d h i same =
     let row : p.at_pasid (p.pasid d) ≡ p.at_pasid t = ap p.at_pasid same in
     let own : p.at_pasid (p.pasid d) ≡ Some d = i.bears in
     cc
-
-unfinished_is : (s : GroupState) → is_collecting s ≡ true → s ≡ Collecting
-unfinished_is s h = grind arith
 
 unfinished_out : (s : GroupState) → is_collecting s ≡ true → is_outstanding s ≡ true
 unfinished_out s h = grind arith

@@ -68,7 +68,7 @@ new_message p n o j l = grind (arith, nat_tests)
 new_carried : (p : Endpoint) (n : ℕ) (o : LocalAct) (j : ℕ) → j < sends o → (own p n o).carried (n + j) ≡ said p o
 new_carried p n o j l = grind (arith, nat_tests)
 
-old_way : (f : ℕ → ℕ) (n k e c : ℕ) → c < n → put_range f n k (λ j. e) c ≡ f c
+pub old_way : (f : ℕ → ℕ) (n k e c : ℕ) → c < n → put_range f n k (λ j. e) c ≡ f c
 old_way f n k e c l = grind (arith, nat_tests)
 
 new_way : (f : ℕ → ℕ) (n k e j : ℕ) → j < k → put_range f n k (λ j. e) (n + j) ≡ e

@@ -7,6 +7,7 @@ use Rattle.sva_model.specs.Wire.{PageRequestWire, HostGroupWire}
 use Rattle.sva_laws.proofs.Words.{ℕ_cases}
 use Rattle.sva_labels.specs.Moves.{filed, is_begun}
 use Rattle.sva_labels.proofs.Picked.{if_passes, picked_next, picked_same}
+use Rattle.sva_wire.proofs.Lists.{any_same}
 
 -- what a page request begins, and what it is added to
 abbrev pub begun_by : (binding : ℕ) → PageRequestWire → HostGroupWire
@@ -89,11 +90,6 @@ filed_into b r (suc n) m f g p ys l t begun here other =
         ∙ sym whole
 
 -- The filings that begin a group: no older one is of it.
-
-any_same : (n : ℕ) (p q : ℕ → Bool) → ((k : ℕ) → k < n → p k ≡ q k) → any_below n p ≡ any_below n q
-unfolding any_below
-any_same zero p q h = refl
-any_same (suc n) p q h = ap₂ (λ b c. if c then true else b) (any_same n p q (λ k l. h k (omega arith))) (h n (omega arith))
 
 -- `of` is the group of a filing, and `opens` tells of the group
 abbrev pub begins : (opens : ℕ → Bool) → (of : ℕ → ℕ) → (filing : ℕ) → Bool

@@ -20,6 +20,8 @@ use Rattle.sva_wire.proofs.Lists.{tabulate_same}
 use Rattle.sva_labels.proofs.Selected.{select_seen, select_filtered, select_less, map_twice}
 use Rattle.sva_labels.proofs.Picked.{picked_drop}
 use Rattle.sva_labels.proofs.Flights.{part_after}
+use Rattle.sva_labels.proofs.HostGroupsFiled.{filing_same as filing_kept}
+use Rattle.sva_labels.proofs.HostGroupsFiled.{group_of_same as group_of_kept}
 
 -- what is filed is made
 abbrev pub FilesMade : Endpoint → Type 0
@@ -41,13 +43,6 @@ under_kept p n o g f h = grind (arith, nat_tests)
 
 index_kept : (p : Endpoint) (n : ℕ) (o : LocalAct) (g : ℕ) → g < p.groups → (own p n o).index g ≡ p.index g
 index_kept p n o g l = grind (arith, nat_tests)
-
--- what was filed stays
-filing_kept : (p : Endpoint) (n : ℕ) (o : LocalAct) (k : ℕ) → k < p.filings → (own p n o).filing k ≡ p.filing k
-filing_kept p n o k l = grind (arith, nat_tests)
-
-group_of_kept : (p : Endpoint) (n : ℕ) (o : LocalAct) (r : ℕ) → r < p.page_requests → (own p n o).group_of r ≡ p.group_of r
-group_of_kept p n o r l = grind (arith, nat_tests)
 
 page_kept : (p : Endpoint) (n : ℕ) (o : LocalAct) (r : ℕ) → r < p.page_requests → (own p n o).asked_page r ≡ p.asked_page r
 page_kept p n o r l = grind (arith, nat_tests)

@@ -17,17 +17,11 @@ use Rattle.sva_labels.specs.Finding.{binding_of, bearer, is_bound, is_borne}
 use Rattle.sva_labels.proofs.Bound.{binding_seen}
 use Rattle.sva_labels.proofs.LookedLists.{find_none, find_only, find_seen}
 use Rattle.sva_labels.proofs.Lookups.{any_seen}
+pub use Rattle.sva_laws.proofs.OneEndpoint.{same_bool as both_ways}
 
 -- is it unreleased, at its own endpoint?
 abbrev pub is_kept : World → (binding : ℕ) → Bool
 is_kept w b = is_unreleased ((w.part (w.endpoint_of b)).stage b)
-
--- two sides that pass alike
-pub both_ways : (a b : Bool) → (a ≡ true → b ≡ true) → (b ≡ true → a ≡ true) → a ≡ b
-both_ways true true h k = refl
-both_ways false false h k = refl
-both_ways true false h k = sym (h refl)
-both_ways false true h k = k refl
 
 pub not_both : (b : Bool) → (b ≡ true → ⊥) → b ≡ false
 not_both false h = refl

@@ -19,7 +19,7 @@ use Rattle.sva_labels.proofs.LookedBindings.{both_ways}
 use Rattle.sva_labels.proofs.Lookups.{any_seen}
 use Rattle.sva_labels.proofs.SpaceLists.{same_number}
 
-open_filed : (h : HostGroupState) → is_open_group h ≡ true → is_filed_group h ≡ true
+pub open_filed : (h : HostGroupState) → is_open_group h ≡ true → is_filed_group h ≡ true
 open_filed h e = grind arith
 
 open_made : (g n : ℕ) (h : HostGroupState) → is_open_group h ≡ true → (n ≤ g → h ≡ NotFiled) → g < n

@@ -11,6 +11,7 @@ use Rattle.std.proofs.lemmas.Bool.Decides.{nat_tests}
 use Rattle.sva_model.specs.Words.{find, if_found, lowest, step_lowest, count_below, select}
 use Rattle.sva_laws.proofs.Words.{lowest_cases, find_some}
 use Rattle.sva_wire.proofs.Lists.{select_length}
+pub use Rattle.sva_labels.proofs.DeviceSorted.{none_selected as select_none}
 
 -- Searches by number.
 
@@ -103,7 +104,7 @@ abbrev pub if_passes : {A : Type 0} → Bool → A → List A
 if_passes true a = a ∷ []
 if_passes false a = []
 
-seen_next : {A : Type 0} (f : ℕ → A) (n : ℕ) (p : ℕ → Bool) → map f (select (suc n) p) ≡ map f (select n p) ++ if_passes (p n) (f n)
+pub seen_next : {A : Type 0} (f : ℕ → A) (n : ℕ) (p : ℕ → Bool) → map f (select (suc n) p) ≡ map f (select n p) ++ if_passes (p n) (f n)
 unfolding select
 seen_next f n p = map-append f (select n p) (if p n then n ∷ [] else []) ∙ ap (λ xs. map f (select n p) ++ xs) (go (p n))
   where
@@ -164,11 +165,6 @@ pub length_seen : {A : Type 0} (f : ℕ → A) (n : ℕ) (p : ℕ → Bool) → 
 length_seen f n p = length-map (select n p) f ∙ select_length n p
 
 -- The first of those that pass.
-
-pub select_none : (n : ℕ) (p : ℕ → Bool) → ((k : ℕ) → k < n → p k ≡ false) → select n p ≡ []
-unfolding select
-select_none zero p h = refl
-select_none (suc n) p h = ap₂ (λ xs b. xs ++ (if b then n ∷ [] else [])) (select_none n p (λ k l. h k (omega arith))) (h n (omega arith))
 
 pub select_first : (n : ℕ) (p : ℕ → Bool) → lowest n p < n → (rest : List ℕ) × (select n p ≡ lowest n p ∷ rest)
 unfolding select lowest

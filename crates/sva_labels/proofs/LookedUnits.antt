@@ -44,7 +44,7 @@ room_there first k p =
 
 -- Waits: one is done where its cookie is below the front.
 
-below_end : (first c n : ℕ) → nat_lt (first + c) (end_number first n) ≡ nat_lt c n
+pub below_end : (first c n : ℕ) → nat_lt (first + c) (end_number first n) ≡ nat_lt c n
 below_end first c zero = both_ways (nat_lt (first + c) 0) (nat_lt c 0) (λ h. grind (arith, nat_tests)) (λ h. grind (arith, nat_tests))
 below_end first c (suc n) = both_ways (nat_lt (first + c) (first + suc n)) (nat_lt c (suc n)) (λ h. grind (arith, nat_tests)) (λ h. grind (arith, nat_tests))
 
@@ -100,7 +100,7 @@ before_there first p Quiet = refl
 before_there first p Lost = refl
 before_there first p Released = refl
 
-submits_seen : (first e : ℕ) (p : Endpoint) (o : Option ℕ) → submits_by (unit_wire first p) (option_map (binding_wire first e p) o) ≡ submits_at p o
+pub submits_seen : (first e : ℕ) (p : Endpoint) (o : Option ℕ) → submits_by (unit_wire first p) (option_map (binding_wire first e p) o) ≡ submits_at p o
 submits_seen first e p None = refl
 submits_seen first e p (Some b) = ap (λ t. is_open p.phase && t) (before_there first p (p.stage b))
 

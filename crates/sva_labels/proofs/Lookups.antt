@@ -15,6 +15,7 @@ use Rattle.sva_laws.proofs.Words.{ℕ_cases, lowest_cases}
 use Rattle.sva_wire.proofs.Lists.{tabulate_length, lowest_same}
 use Rattle.sva_labels.specs.Finding.{lowest_label}
 use Rattle.sva_labels.specs.Outcomes.{label}
+pub use Rattle.sva_wire.proofs.Lists.{any_same}
 
 -- past the end of a table there is nothing
 pub tabulate_past : {A : Type 0} (n : ℕ) (f : ℕ → A) (k : ℕ) (d : A) → n ≤ k → get_or (tabulate n f) k d ≡ d
@@ -133,11 +134,6 @@ any_table (suc n) f p =
     or_no : (b : Bool) → (b || false) ≡ b
     or_no true = refl
     or_no false = refl
-
-pub any_same : (n : ℕ) (p q : ℕ → Bool) → ((k : ℕ) → k < n → p k ≡ q k) → any_below n p ≡ any_below n q
-unfolding any_below
-any_same zero p q h = refl
-any_same (suc n) p q h = ap₂ (λ b c. if c then true else b) (any_same n p q (λ k l. h k (omega arith))) (h n (omega arith))
 
 -- The one that passes.
 

@@ -39,7 +39,7 @@ queue_same p q n h s w =
     (λ k l. ap (λ r. is_arrived (q.page_request r)) (h k l) ∙ s k l)
     (λ k l a. ap (page_request_wire q) (h k l) ∙ w k l (sym (s k l) ∙ ap (λ r. is_arrived (q.page_request r)) (sym (h k l)) ∙ a))
 
-arrived_is : (s : PageRequestState) → is_arrived s ≡ true → s ≡ Arrived
+pub arrived_is : (s : PageRequestState) → is_arrived s ≡ true → s ≡ Arrived
 arrived_is s h = grind arith
 
 not_arrived : (s : PageRequestState) → s ≢ Arrived → is_arrived s ≡ false

@@ -5,19 +5,12 @@ use Rattle.std.specs.Prelude.{if◌then◌else◌, List, [], ◌∷◌, ◌++◌
 use Rattle.std.proofs.lemmas.List.{map-append}
 use Rattle.sva_model.specs.Words.{select, tabulate}
 use Rattle.sva_laws.proofs.Words.{ℕ_cases}
+pub use Rattle.sva_labels.proofs.LookedLists.{seen_next as picked_next}
 
 -- what stands at a number that may pass
 abbrev pub if_passes : {A : Type 0} → Bool → A → List A
 if_passes true a = a ∷ []
 if_passes false a = []
-
-pub picked_next : {A : Type 0} (f : ℕ → A) (n : ℕ) (p : ℕ → Bool) → map f (select (suc n) p) ≡ map f (select n p) ++ if_passes (p n) (f n)
-unfolding select
-picked_next f n p = map-append f (select n p) (if p n then n ∷ [] else []) ∙ ap (λ xs. map f (select n p) ++ xs) (go (p n))
-  where
-    go : (b : Bool) → map f (if b then n ∷ [] else []) ≡ if_passes b (f n)
-    go true = refl
-    go false = refl
 
 same_passes : {A : Type 0} (b c : Bool) (x y : A) → b ≡ c → (b ≡ true → x ≡ y) → if_passes b x ≡ if_passes c y
 same_passes true true x y e h = ap (λ z. z ∷ []) (h refl)

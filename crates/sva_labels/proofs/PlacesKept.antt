@@ -27,11 +27,10 @@ use Rattle.sva_laws.proofs.Passed.{or_left, or_right}
 use Rattle.sva_wire.proofs.Lists.{tabulate_same, all_same}
 use Rattle.sva_wire.proofs.Places.{gone_seen, seen_by}
 use Rattle.sva_labels.proofs.PlacesOut.{places_same}
+pub use Rattle.sva_laws.proofs.Targets.{no_reset}
+pub use Rattle.sva_laws.proofs.Targets.{both_done}
 
 -- What isn't answered waits for a wait that isn't done.
-
-pub no_reset : (p : Endpoint) (resets : ℕ) → resets ≤ p.resets → nat_lt resets p.resets ≡ false → resets ≡ p.resets
-no_reset p resets low h = grind (arith, nat_tests)
 
 is_done_of : (z : OrderState) → z ≡ Done → is_done z ≡ true
 is_done_of z h = ap is_done h
@@ -45,9 +44,6 @@ isnt_done z ne = go (is_done z) refl
     go : (b : Bool) → is_done z ≡ b → is_done z ≡ false
     go true h = absurd (ne (done h))
     go false h = h
-
-pub both_done : (a b : OrderState) → a ≡ Done → b ≡ Done → (is_done a && is_done b) ≡ true
-both_done a b h k = grind arith
 
 -- where the wait of a debt is done, the debt is answered
 pub done_answers :

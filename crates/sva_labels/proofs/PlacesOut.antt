@@ -18,11 +18,7 @@ use Rattle.sva_wire.proofs.Pages.{present_is, same_is, is_same, and_both}
 use Rattle.sva_wire.proofs.Places.{seen_by, seen_at, place_seen}
 use Rattle.sva_labels.specs.Moves.{placed}
 use Rattle.sva_labels.proofs.PageLists.{any_among, placed_is}
-
-pub map_tabulate : {A B : Type 0} (f : A → B) (n : ℕ) (g : ℕ → A) → map f (tabulate n g) ≡ tabulate n (λ k. f (g k))
-unfolding tabulate
-map_tabulate f zero g = refl
-map_tabulate f (suc n) g = map-append f (tabulate n g) (g n ∷ []) ∙ ap (λ xs. xs ++ f (g n) ∷ []) (map_tabulate f n g)
+pub use Rattle.sva_labels.proofs.DeviceRows.{tabulate_map as map_tabulate}
 
 -- a world that has the same mappings, where what is withheld has changed
 pub places_changed :

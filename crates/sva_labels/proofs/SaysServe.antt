@@ -38,7 +38,7 @@ use Rattle.sva_labels.proofs.SaysUnits.{at_endpoint, none_picked, some_picked, c
 
 -- Serve.
 
-unreleased_of : (s : Stage) → is_before_invalidating s ≡ true → is_unreleased s ≡ true
+pub unreleased_of : (s : Stage) → is_before_invalidating s ≡ true → is_unreleased s ≡ true
 unreleased_of s h = grind arith
 
 -- the binding under which a page request that has arrived is filed

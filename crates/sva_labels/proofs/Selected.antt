@@ -3,6 +3,7 @@ use Rattle.std.proofs.Common.{◌≡◌, refl, ap, ap₂, sym, ◌∙◌, ℕ, z
 use Rattle.std.specs.Prelude.{◌&&◌, if◌then◌else◌, cond, List, [], ◌∷◌, ◌++◌, map, filter}
 use Rattle.std.proofs.lemmas.List.{map-append, append-nil, append_assoc}
 use Rattle.sva_model.specs.Words.{select, tabulate}
+pub use Rattle.sva_labels.proofs.Picked.{filter_append as filter-append}
 
 -- the numbers that pass, each seen; only those below n that pass matter
 pub select_seen :
@@ -20,16 +21,6 @@ select_seen (suc n) p q f g h k =
     last false false t e = refl
     last true false t e = absurd (cc)
     last false true t e = absurd (cc)
-
-pub filter-append : {A : Type 0} (t : A → Bool) (xs ys : List A) → filter t (xs ++ ys) ≡ filter t xs ++ filter t ys
-filter-append t [] ys = refl
-filter-append t (x ∷ xs) ys = go (t x) (filter-append t xs ys)
-  where
-    go :
-        (b : Bool) → filter t (xs ++ ys) ≡ filter t xs ++ filter t ys
-        → cond b (x ∷ filter t (xs ++ ys)) (filter t (xs ++ ys)) ≡ cond b (x ∷ filter t xs) (filter t xs) ++ filter t ys
-    go true h = ap (λ zs. x ∷ zs) h
-    go false h = h
 
 -- those of them that pass a test as they are seen
 pub select_filtered : {B : Type 0} (n : ℕ) (p : ℕ → Bool) (f : ℕ → B) (t : B → Bool) → filter t (map f (select n p)) ≡ map f (select n (λ k. p k && t (f k)))

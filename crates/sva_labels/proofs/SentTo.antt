@@ -16,6 +16,7 @@ use Rattle.sva_laws.proofs.Invariant.{Invariant}
 use Rattle.sva_laws.proofs.Keeps.{Legal, act_keeps}
 use Rattle.sva_laws.proofs.Passed.{LegalAll}
 use Rattle.sva_laws.proofs.Runs.{step_legal, next_keeps, opened_invariant}
+use Rattle.sva_labels.proofs.Flights.{old_way}
 
 abbrev pub AreSentTo : World → Type 0
 AreSentTo w = (e c : ℕ) → is_some ((w.part e).message c) ≡ true → w.link_of c ≡ e
@@ -30,13 +31,10 @@ message_from ms g n p o l c h = grind (arith, nat_tests)
 pub was_sent : (n : ℕ) (p : Endpoint) → Resets n p → (c : ℕ) → is_some (p.message c) ≡ true → c < n
 was_sent n p re c h = grind (arith, nat_tests, re.unsent c)
 
-old_way : (link_of : ℕ → ℕ) (n count e c : ℕ) → c < n → put_range link_of n count (λ j. e) c ≡ link_of c
-old_way link_of n count e c l = grind (arith, nat_tests)
-
 new_way : (link_of : ℕ → ℕ) (n count e c : ℕ) → n ≤ c → c < n + count → put_range link_of n count (λ j. e) c ≡ e
 new_way link_of n count e c l m = grind (arith, nat_tests)
 
-same_message : (b : Bool) (p : Endpoint) (o : Option ℕ) (q count order cookie c : ℕ) → (submitted_if b p o q count order cookie).message c ≡ p.message c
+pub same_message : (b : Bool) (p : Endpoint) (o : Option ℕ) (q count order cookie c : ℕ) → (submitted_if b p o q count order cookie).message c ≡ p.message c
 same_message true p (Some b) q count order cookie c = refl
 same_message true p None q count order cookie c = refl
 same_message false p o q count order cookie c = refl

@@ -11,6 +11,7 @@ use Rattle.sva_model.specs.Wire.{TranslationWire, insert_by, sorted_by, is_befor
 use Rattle.sva_laws.proofs.Words.{some_the}
 use Rattle.sva_laws.proofs.Orders.{is_active}
 use Rattle.sva_laws.proofs.Invariant.{PartInvariant}
+use Rattle.sva_laws.proofs.Unmap.{active_unreleased}
 
 abbrev AllOf : {A : Type 0} → (A → Type 0) → List A → Type 0
 AllOf P [] = Unit {0}
@@ -120,9 +121,6 @@ pairs_select (suc n) q f h = go (q n) refl (pairs_select n q f (λ j k l m s t. 
 
 keys_apart : (t q u r : ℕ) → (t ≡ u → q ≡ r → ⊥) → (nat_lt u t || (u == t && nat_lt r q)) ≡ false → (nat_lt t u || (t == u && nat_lt q r)) ≡ true
 keys_apart t q u r ne h = grind (arith, nat_tests)
-
-active_unreleased : (s : Stage) → is_active s ≡ true → is_unreleased s ≡ true
-active_unreleased s h = grind arith
 
 one_bearer : (p : Endpoint) (b d : ℕ) → p.at_pasid (p.pasid b) ≡ Some b → p.at_pasid (p.pasid d) ≡ Some d → p.pasid b ≡ p.pasid d → b ≡ d
 one_bearer p b d h k e = let z : p.at_pasid (p.pasid b) ≡ p.at_pasid (p.pasid d) = ap p.at_pasid e in cc

@@ -29,6 +29,11 @@ use Rattle.sva_labels.proofs.LookedBindings.{bearer_is}
 use Rattle.sva_labels.proofs.LookedFilings.{asks_there}
 use Rattle.sva_labels.proofs.SoundLists.{IsSeen, seen_get}
 use Rattle.sva_labels.proofs.SoundRequests.{FiledOnce, arrival_short, filing_short}
+use Rattle.sva_labels.proofs.PageQueue.{arrived_is}
+use Rattle.sva_laws.proofs.Groups.{answerable_outstanding as answerable_out}
+use Rattle.sva_laws.proofs.Found.{unmarked_unreleased}
+use Rattle.sva_labels.proofs.SaysServe.{unreleased_of as before_unreleased}
+use Rattle.sva_laws.proofs.Unmap.{open_is as opened_is}
 
 -- an unreleased binding is found by its PASID
 pub bearer_found :
@@ -40,15 +45,6 @@ bearer_found w e b i u = bearer_is w e ((w.part e).pasid b) i
 borne : (w : World) (e b : ℕ) → Invariant w → is_unreleased ((w.part e).stage b) ≡ true → IsBorne (wire w) e ((w.part e).pasid b)
 borne w e b i u = ap is_some (bearer_found w e b i u)
 
-unmarked_unreleased : (s : Stage) → is_unmarked s ≡ true → is_unreleased s ≡ true
-unmarked_unreleased s h = grind arith
-
-before_unreleased : (s : Stage) → is_before_invalidating s ≡ true → is_unreleased s ≡ true
-before_unreleased s h = grind arith
-
-opened_is : (p : Endpoint) → is_open p.phase ≡ true → p.phase ≡ Open
-opened_is p h = grind arith
-
 open_here : (w : World) (e : ℕ) → e < w.config.endpoints → (unit_of (wire w) e).is_open ≡ true → (w.part e).phase ≡ Open
 open_here w e l op = opened_is (w.part e) (sym (ap (λ u. u.is_open) (unit_seen w e l)) ∙ op)
 
@@ -56,9 +52,6 @@ shut_here : (w : World) (e : ℕ) → e < w.config.endpoints → is_open (w.part
 shut_here w e l h = ap (λ u. u.is_open) (unit_seen w e l) ∙ h
 
 -- What is in flight.
-
-answerable_out : (s : GroupState) → is_answerable s ≡ true → is_outstanding s ≡ true
-answerable_out s h = grind arith
 
 suits :
     (w : World) (e c : ℕ) → Invariant w → IsCarried w.mappings (w.part e) → outstanding (w.part e) ≤ 32 → e < w.config.endpoints → (a : Subject)
@@ -141,9 +134,6 @@ pub waiting_at : (w : World) (e k : ℕ) (r : PageRequestWire) → e < w.config.
 waiting_at w e k r l h =
     seen_get (w.part e).arrivals (is_waiting (w.part e)) (λ j. page_request_wire (w.part e) ((w.part e).arrival j)) k r
     (sym (ap (λ p. slice_get p.page_queue k) (part_seen w e l)) ∙ h)
-
-arrived_is : (s : PageRequestState) → is_arrived s ≡ true → s ≡ Arrived
-arrived_is s h = grind arith
 
 -- a page request waits at an open unit only
 open_or_not : (p : Phase) → (is_open p ≡ false) ⊎ (p ≡ Open)

@@ -44,6 +44,10 @@ use Rattle.sva_labels.proofs.SoundLists.{seen_get}
 use Rattle.sva_labels.proofs.SoundPasids.{IsKeptAt}
 use Rattle.sva_labels.proofs.SoundRequests.{FiledOnce}
 use Rattle.sva_labels.proofs.SoundSizes.{Sized}
+use Rattle.sva_labels.proofs.PageQueue.{arrived_is}
+use Rattle.sva_labels.proofs.SaysServe.{unreleased_of as before_unreleased}
+use Rattle.sva_labels.proofs.LookedGroups.{open_filed}
+use Rattle.sva_laws.proofs.Groups.{filed_made as group_made}
 
 one_of : {A : Type 0} (a c : A) → Some a ≡ Some c → a ≡ c
 one_of a c h = cc
@@ -62,17 +66,11 @@ is_kept_group _ = false
 kept_filed : (s : HostGroupState) → is_kept_group s ≡ true → is_filed_group s ≡ true
 kept_filed s h = grind arith
 
-open_filed : (s : HostGroupState) → is_open_group s ≡ true → is_filed_group s ≡ true
-open_filed s h = grind arith
-
 job_kept : (s : HostGroupState) → is_job s ≡ true → is_kept_group s ≡ true
 job_kept s h = grind arith
 
 held_kept : (s : HostGroupState) (x : ℕ) → IsHeldBy s x → is_kept_group s ≡ true
 held_kept s x h = grind arith
-
-group_made : (m : ℕ) (p : Endpoint) → Bounds m p → (g : ℕ) → is_filed_group (p.host_group g) ≡ true → g < p.groups
-group_made m p bo g h = grind (arith, bo.host_group g)
 
 -- what is filed of a group is something, and no more than 32 requests
 asks_count : (p : Endpoint) (g : ℕ) → length (asks_wire p g) ≡ count_below p.filings (λ k. filed_group p k == g)
@@ -272,9 +270,6 @@ closed_where_dropped w i fi x job h r =
 active_before : (s : Stage) → is_active s ≡ false → is_before_invalidating s ≡ true → ⊥
 active_before s h k = grind arith
 
-arrived_is : (s : PageRequestState) → is_arrived s ≡ true → s ≡ Arrived
-arrived_is s h = grind arith
-
 -- so no group that is a job, or was one and is in a hand, is of its binding and index
 none_kept :
     (ms : Mappings) (x m n e : ℕ) (p : Endpoint) (y g : ℕ) → PartInvariant ms x m n e p → p.page_request y ≡ Arrived → is_kept_group (p.host_group g) ≡ true
@@ -298,9 +293,6 @@ none_kept ms x m n e p y g i ar k under index = by (is_open p.phase) refl
     by : (b : Bool) → is_open p.phase ≡ b → ⊥
     by false c = absurd (i.resets.unarrived y c ar)
     by true c = stages (opened_is p.phase c) (p.host_group g) refl k
-
-before_unreleased : (s : Stage) → is_before_invalidating s ≡ true → is_unreleased s ≡ true
-before_unreleased s h = grind arith
 
 first_off : (first a b : ℕ) → first + a ≡ first + b → a ≡ b
 first_off first a b h = omega (arith, h)

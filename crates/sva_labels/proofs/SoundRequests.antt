@@ -25,6 +25,7 @@ use Rattle.sva_wire.proofs.Pages.{and_both, same_is, is_same, is_other}
 use Rattle.sva_labels.proofs.Granted.{IsGranted, always_has}
 use Rattle.sva_labels.proofs.HostGroupsAct.{filed_group, asks_seen}
 use Rattle.sva_labels.proofs.LookedLists.{length_seen}
+use Rattle.sva_labels.proofs.PageQueue.{arrived_is}
 
 -- Each request is filed once.
 
@@ -105,9 +106,6 @@ fewer p r l out most =
 
 differs : (a b : ℕ) → a ≢ b → not (a == b) ≡ true
 differs a b ne = ap not (is_other a b ne)
-
-arrived_is : (s : PageRequestState) → is_arrived s ≡ true → s ≡ Arrived
-arrived_is s h = grind arith
 
 flying_apart : (s : PageRequestState) → s ≡ InFlight → s ≡ Arrived → ⊥
 flying_apart s h k = absurd (cc (sym h ∙ k))

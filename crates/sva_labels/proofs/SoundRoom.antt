@@ -162,7 +162,7 @@ found_at e n (x ∷ bindings) b h = go (x.endpoint == e && x.space == n) refl h 
 room_of : (unit : UnitWire) (k : ℕ) → has_room unit k ≡ true → length unit.queue + k ≤ 64
 room_of unit k h = grind (arith, nat_tests)
 
-same_cookie : (c d : ℕ) → Some (Cookie c) ≡ Some (Cookie d) → c ≡ d
+pub same_cookie : (c d : ℕ) → Some (Cookie c) ≡ Some (Cookie d) → c ≡ d
 same_cookie c d h = cc
 
 -- where the unit submits

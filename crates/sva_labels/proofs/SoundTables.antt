@@ -20,6 +20,7 @@ use Rattle.sva_laws.proofs.Invariant.{Invariant}
 use Rattle.sva_laws.proofs.Keeps.{Legal, put_keeps}
 use Rattle.sva_wire.proofs.Lists.{select_length}
 use Rattle.sva_labels.proofs.Granted.{IsGranted, HasRoom, always_has}
+use Rattle.sva_laws.proofs.Counting.{bit_less}
 
 -- How many are cached.
 
@@ -29,11 +30,6 @@ cached_count p = count_below p.requests (λ r. is_some (p.held r))
 bit_none : bit false ≡ 0
 unfolding bit
 bit_none = refl
-
-bit_less : (a b : Bool) → (a ≡ true → b ≡ true) → bit a ≤ bit b
-bit_less true true k = omega arith
-bit_less true false k = absurd (let z = k refl in cc)
-bit_less false b k = omega (arith, bit_none)
 
 -- one may pass beside those of another table
 one_beside : (n c : ℕ) (f g : ℕ → Bool) → ((d : ℕ) → d ≢ c → f d ≡ true → g d ≡ true) → count_below n f ≤ suc (count_below n g)

@@ -33,6 +33,8 @@ use Rattle.sva_labels.proofs.LookedUnits.{invalidated_there}
 use Rattle.sva_labels.proofs.SoundLists.{table_get, seen_there}
 use Rattle.sva_labels.proofs.SoundPasids.{IsKeptAt}
 use Rattle.sva_labels.proofs.Withholding.{target_at}
+use Rattle.sva_laws.proofs.Unmap.{open_is as opened_is}
+use Rattle.sva_labels.proofs.SoundRoom.{same_cookie}
 
 -- a wait that is queued stands in the queue
 wait_stands :
@@ -42,9 +44,6 @@ wait_stands first p k c x l o q =
     let r = seen_there p.orders (λ j. is_queued (p.order_state j)) (λ j. descriptor first p (p.order j)) k l (ap is_queued q) in
     record { place = r.0; drain = x; stands = r.1 ∙ ap (λ z. Some (descriptor first p z)) o }
 
-opened_is : (p : Endpoint) → is_open p.phase ≡ true → p.phase ≡ Open
-opened_is p h = grind arith
-
 -- what is awaited at an open unit
 queued_there : (first : ℕ) (p : Endpoint) (k c : ℕ) → p.phase ≡ Open → IsAwaited p k → c ≡ cookie_number first (p.order k) → HasWait (unit_wire first p) c
 queued_there first p k c ph (l, d, x, o, f, s) e = go s
@@ -52,9 +51,6 @@ queued_there first p k c ph (l, d, x, o, f, s) e = go s
     go : (p.order_state k ≡ Queued) ⊎ ((p.order_state k ≡ Void) × (p.phase ≢ Open)) → HasWait (unit_wire first p) c
     go (inl q) = subst (λ z. HasWait (unit_wire first p) z) (sym (e ∙ ap (cookie_number first) o)) (wait_stands first p k d x l o q)
     go (inr v) = absurd (v.1 ph)
-
-same_cookie : (c d : ℕ) → Some (Cookie c) ≡ Some (Cookie d) → c ≡ d
-same_cookie c d h = cc
 
 owed_stands :
     (first : ℕ) (p : Endpoint) (v : Owed) (c : ℕ) → p.phase ≡ Open → AwaitsTarget p v → Some (target_of first p v) ≡ Some (Cookie c)

@@ -10,6 +10,7 @@ use Rattle.sva_wire.proofs.Pages.{same_is, is_same, is_other}
 use Rattle.sva_wire.proofs.Spaces.{space_by}
 use Rattle.sva_labels.specs.Finding.{pages_of}
 use Rattle.sva_labels.specs.Moves.{with_pages, without_space}
+pub use Rattle.sva_labels.proofs.Picked.{filter_append}
 
 -- two names have one number where they are one
 pub same_number : (first a b : ℕ) → (first + a == first + b) ≡ (a == b)
@@ -143,16 +144,6 @@ without_is first s pages (t ∷ ss) =
         (filter (λ t. not (t == s)) ss)) ≡ map (space_by first pages) (if not b then t ∷ filter (λ t. not (t == s)) ss else filter (λ t. not (t == s)) ss)
     go true = refl
     go false = refl
-
-pub filter_append : {A : Type 0} (p : A → Bool) (xs ys : List A) → filter p (xs ++ ys) ≡ filter p xs ++ filter p ys
-filter_append p [] ys = refl
-filter_append p (x ∷ xs) ys = go (p x) (filter_append p xs ys)
-  where
-    go :
-        (b : Bool) → filter p (xs ++ ys) ≡ filter p xs ++ filter p ys
-        → (if b then x ∷ filter p (xs ++ ys) else filter p (xs ++ ys)) ≡ (if b then x ∷ filter p xs else filter p xs) ++ filter p ys
-    go true h = ap (λ z. x ∷ z) h
-    go false h = h
 
 -- one number less among those that pass
 select_without : (n : ℕ) (p : ℕ → Bool) (s : ℕ) → select n (put p s false) ≡ filter (λ t. not (t == s)) (select n p)

@@ -26,6 +26,8 @@ use Rattle.sva_labels.proofs.Bound.{binding_seen}
 use Rattle.sva_labels.proofs.LookedBindings.{is_kept}
 use Rattle.sva_labels.proofs.LookedLists.{length_seen}
 use Rattle.sva_labels.proofs.TalliedSteps.{bound_by, released_by, begun_by, ended_by, total, step_tallied}
+use Rattle.sva_laws.proofs.Books.{submitted_stage}
+use Rattle.sva_laws.proofs.Books.{submitted_slot}
 
 bit_none : bit false ≡ 0
 unfolding bit
@@ -154,11 +156,6 @@ at_bindings w e (LocalAct.Release b) true z l i =
     others d ne = kept_by w e (own (w.part e) w.messages (LocalAct.Release b)) d (λ h. ap is_unreleased (put-other (w.part e).stage b Released d ne))
 at_bindings w e o true z l i = absurd (grind arith)
 
-submitted_stage : (t : Bool) (p : Endpoint) (o : Option ℕ) (q count order cookie b : ℕ) → (submitted_if t p o q count order cookie).stage b ≡ p.stage b
-submitted_stage true p (Some d) q count order cookie b = refl
-submitted_stage true p None q count order cookie b = refl
-submitted_stage false p o q count order cookie b = refl
-
 new_kept : (w : World) (e : ℕ) → Invariant w → kept_count (act w (NewBinding e)) ≡ kept_count w
 new_kept w e i =
     let old = count_same w.bindings (is_kept (act w (NewBinding e))) (is_kept w)
@@ -225,11 +222,6 @@ own_slots ms g n e p (LocalAct.End u) true z l la =
     in
     omega (arith, one)
 own_slots ms g n e p o true z l la = absurd (grind arith)
-
-submitted_slot : (t : Bool) (p : Endpoint) (o : Option ℕ) (q count order cookie x : ℕ) → (submitted_if t p o q count order cookie).at_slot x ≡ p.at_slot x
-submitted_slot true p (Some d) q count order cookie x = refl
-submitted_slot true p None q count order cookie x = refl
-submitted_slot false p o q count order cookie x = refl
 
 act_slots : (w : World) (a : Act) → Legal w a → Invariant w → taken_count (act w a) + ended_by a ≡ taken_count w + begun_by a
 act_slots w (AtEndpoint e o) l i =

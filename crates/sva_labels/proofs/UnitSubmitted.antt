@@ -18,6 +18,7 @@ use Rattle.sva_laws.proofs.Bounds.{Bounds}
 use Rattle.sva_laws.proofs.Labels.{Labels}
 use Rattle.sva_labels.specs.Moves.{descriptors_for, with_descriptors}
 use Rattle.sva_labels.proofs.Picked.{picked_same, picked_more}
+use Rattle.sva_laws.proofs.Ranges.{order_at as new_range}
 
 -- a unit by its fields
 abbrev pub unit_of : Bool → List Descriptor → List (Option BusyWire) → ℕ → ℕ → UnitWire
@@ -56,23 +57,14 @@ chained_same {A = A} n at f g h = tabulate_same n (λ t. chain f (at t)) (λ t. 
 
 -- The orders of a submission.
 
-old_order : (p : Endpoint) (b q count order cookie k : ℕ) → k < p.orders → (submitted p b q count order cookie).order k ≡ p.order k
+pub old_order : (p : Endpoint) (b q count order cookie k : ℕ) → k < p.orders → (submitted p b q count order cookie).order k ≡ p.order k
 old_order p b q count order cookie k l = grind (arith, nat_tests)
 
-old_state : (p : Endpoint) (b q count order cookie k : ℕ) → k < p.orders → (submitted p b q count order cookie).order_state k ≡ p.order_state k
+pub old_state : (p : Endpoint) (b q count order cookie k : ℕ) → k < p.orders → (submitted p b q count order cookie).order_state k ≡ p.order_state k
 old_state p b q count order cookie k l = grind (arith, nat_tests)
 
 new_state : (p : Endpoint) (b q count order cookie j : ℕ) → j < suc count → (submitted p b q count order cookie).order_state (p.orders + j) ≡ Queued
 new_state p b q count order cookie j l = grind (arith, nat_tests)
-
-new_range : (p : Endpoint) (b q count order cookie j : ℕ) → j < count → (submitted p b q count order cookie).order (p.orders + j)
-    ≡ RangeOf b (range_at q order j)
-new_range p b q count order cookie j l =
-    let same : (p.orders + j) - p.orders ≡ j = omega arith in
-    in_range (p.orders + j) (omega arith) (omega (arith, l)) ∙ ap (λ z. RangeOf b (range_at q order z)) same
-  where
-    in_range : (k : ℕ) → p.orders ≤ k → k < p.orders + count → (submitted p b q count order cookie).order k ≡ RangeOf b (range_at q order (k - p.orders))
-    in_range k a c = grind (arith, nat_tests)
 
 new_wait : (p : Endpoint) (b q count order cookie : ℕ) → (submitted p b q count order cookie).order (p.orders + count) ≡ Wait cookie false
 new_wait p b q count order cookie = put-same (put_range p.order p.orders count (λ j. RangeOf b (range_at q order j))) (p.orders + count) (Wait cookie false)

@@ -33,16 +33,13 @@ use Rattle.sva_labels.proofs.PlacesKept.{seen_same}
 use Rattle.sva_labels.proofs.SpaceActs.{pages_are}
 use Rattle.sva_labels.proofs.Bound.{bound_is}
 use Rattle.sva_labels.proofs.Withholding.{target_at, seen_targets, target_new, seen_still}
+use Rattle.sva_laws.proofs.Books.{submitted_stage as stage_same}
+use Rattle.sva_labels.proofs.UnitSubmitted.{old_order}
+pub use Rattle.sva_labels.proofs.EndpointViews.{part_seen as part_is}
+use Rattle.sva_labels.proofs.LookedUnits.{submits_seen}
+use Rattle.sva_labels.proofs.SentTo.{same_message as message_same}
 
 -- What a submission leaves as it is.
-
-stage_same : (t : Bool) (p : Endpoint) (o : Option ℕ) (q count order cookie b : ℕ) → (submitted_if t p o q count order cookie).stage b ≡ p.stage b
-stage_same true p (Some d) q count order cookie b = refl
-stage_same true p None q count order cookie b = refl
-stage_same false p o q count order cookie b = refl
-
-old_order : (p : Endpoint) (b q count order cookie k : ℕ) → k < p.orders → (submitted p b q count order cookie).order k ≡ p.order k
-old_order p b q count order cookie k l = grind (arith, nat_tests)
 
 binding_same :
     (first e : ℕ) (t : Bool) (p : Endpoint) (o : Option ℕ) (q count order cookie b : ℕ) → Orders p
@@ -80,29 +77,7 @@ carried_same true p (Some d) q count order cookie c = refl
 carried_same true p None q count order cookie c = refl
 carried_same false p o q count order cookie c = refl
 
-message_same : (t : Bool) (p : Endpoint) (o : Option ℕ) (q count order cookie c : ℕ) → (submitted_if t p o q count order cookie).message c ≡ p.message c
-message_same true p (Some d) q count order cookie c = refl
-message_same true p None q count order cookie c = refl
-message_same false p o q count order cookie c = refl
-
 -- What the numbers find.
-
-pub part_is : (w : World) (e : ℕ) → e < w.config.endpoints → part_of (wire w) e ≡ part_wire w.config.first w.mappings (w.part e)
-part_is w e l = tabulate_at w.config.endpoints (λ x. part_wire w.config.first w.mappings (w.part x)) e idle l
-
-submits_seen : (first e : ℕ) (p : Endpoint) (o : Option ℕ) → submits_by (unit_wire first p) (option_map (binding_wire first e p) o) ≡ submits_at p o
-submits_seen first e p None = refl
-submits_seen first e p (Some b) = ap (λ z. is_open p.phase && z) (go (p.stage b))
-  where
-    go : (s : Stage) → finding.is_before_invalidating (stage_wire first p s) ≡ is_before_invalidating s
-    go (Draining w) = refl
-    go (Invalidating k w) = refl
-    go Unbound = refl
-    go Live = refl
-    go (Stopping marked) = refl
-    go Quiet = refl
-    go Lost = refl
-    go Released = refl
 
 -- the units that submit
 pub submits_is : (w : World) (s e : ℕ) → Invariant w → e < w.config.endpoints → finding.submits (wire w) (number w.config.first s) e ≡ submits w s e

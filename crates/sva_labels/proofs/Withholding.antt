@@ -25,6 +25,10 @@ use Rattle.sva_laws.proofs.Answered.{answered_submitted, all_below-intro}
 use Rattle.sva_wire.proofs.Places.{gone_seen, seen_by}
 use Rattle.sva_labels.specs.Moves.{place_for, target_by, target_by_stage}
 use Rattle.sva_labels.proofs.PlacesKept.{IsSeenSame, ranges_open, ranges_wait, pasid_open, pasid_waits}
+use Rattle.sva_laws.proofs.OneEndpoint.{same_bool as same_both}
+use Rattle.sva_labels.proofs.UnitSubmitted.{old_order}
+use Rattle.sva_labels.proofs.LookedUnits.{below_end as below_front}
+use Rattle.sva_labels.proofs.UnitSubmitted.{old_state}
 
 -- Where a frame is that waits for these.
 
@@ -45,9 +49,6 @@ all_table : {A : Type 0} (p : A → Bool) (n : ℕ) (f : ℕ → A) → list_all
 unfolding tabulate all_below
 all_table p zero f = refl
 all_table p (suc n) f = all_append p (tabulate n f) (f n) ∙ ap (λ b. if p (f n) then b else false) (all_table p n f)
-
-same_both : (a b : Bool) → (a ≡ true → b ≡ true) → (b ≡ true → a ≡ true) → a ≡ b
-same_both a b f g = grind arith
 
 -- what is waited for at each unit
 abbrev pub target_at : (first endpoints : ℕ) → (ℕ → Endpoint) → (ℕ → Owed) → ℕ → Option TargetWire
@@ -104,22 +105,6 @@ seen_targets w owed low =
     go false = refl
 
 -- What an unmapping makes its frames wait for.
-
--- a wait is done where its cookie is below the front
-below_front : (first c front : ℕ) → nat_lt (first + c) (end_number first front) ≡ nat_lt c front
-below_front first c zero = go (nat_lt (first + c) 0) (nat_lt c 0) refl refl
-  where
-    go : (a b : Bool) → nat_lt (first + c) 0 ≡ a → nat_lt c 0 ≡ b → a ≡ b
-    go false false h k = refl
-    go true b h k = absurd (grind (arith, nat_tests))
-    go false true h k = absurd (grind (arith, nat_tests))
-below_front first c (suc front) = go (nat_lt (first + c) (first + suc front)) (nat_lt c (suc front)) refl refl
-  where
-    go : (a b : Bool) → nat_lt (first + c) (first + suc front) ≡ a → nat_lt c (suc front) ≡ b → a ≡ b
-    go true true h k = refl
-    go false false h k = refl
-    go true false h k = absurd (grind (arith, nat_tests))
-    go false true h k = absurd (grind (arith, nat_tests))
 
 less_is : (a b : ℕ) → nat_lt a b ≡ true → a < b
 less_is a b h = grind (arith, nat_tests)
@@ -209,12 +194,6 @@ target_new cookies first e p None q count order cookie or f = refl
 target_new cookies first e p (Some b) q count order cookie or f = stage_target cookies first p b q count order cookie or f (p.stage b) refl
 
 -- What was withheld before waits on.
-
-old_state : (p : Endpoint) (b q count order cookie k : ℕ) → k < p.orders → (submitted p b q count order cookie).order_state k ≡ p.order_state k
-old_state p b q count order cookie k l = grind (arith, nat_tests)
-
-old_order : (p : Endpoint) (b q count order cookie k : ℕ) → k < p.orders → (submitted p b q count order cookie).order k ≡ p.order k
-old_order p b q count order cookie k l = grind (arith, nat_tests)
 
 silent_still :
     (p : Endpoint) (b q count order cookie : ℕ) (v : Owed) → FitsDebt p v → answered p v ≡ false

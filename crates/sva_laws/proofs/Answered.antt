@@ -24,13 +24,13 @@ all_below-intro (suc n) p h = both (p n) (all_below n p) (h n (omega arith)) (al
 all_below-more : (n : ℕ) (p q : ℕ → Bool) → ((j : ℕ) → p j ≡ true → q j ≡ true) → all_below n p ≡ true → all_below n q ≡ true
 all_below-more n p q f h = all_below-intro n q (λ j l. f j (all_below-true n p h j l))
 
-or_more : (a b c d : Bool) → (a ≡ true → c ≡ true) → (b ≡ true → d ≡ true) → (a || b) ≡ true → (c || d) ≡ true
+pub or_more : (a b c d : Bool) → (a ≡ true → c ≡ true) → (b ≡ true → d ≡ true) → (a || b) ≡ true → (c || d) ≡ true
 or_more a b c d f g h = grind arith
 
-and_more : (a b c d : Bool) → (a ≡ true → c ≡ true) → (b ≡ true → d ≡ true) → (a && b) ≡ true → (c && d) ≡ true
+pub and_more : (a b c d : Bool) → (a ≡ true → c ≡ true) → (b ≡ true → d ≡ true) → (a && b) ≡ true → (c && d) ≡ true
 and_more a b c d f g h = grind arith
 
-less_more : (a b c : ℕ) → b ≤ c → nat_lt a b ≡ true → nat_lt a c ≡ true
+pub less_more : (a b c : ℕ) → b ≤ c → nat_lt a b ≡ true → nat_lt a c ≡ true
 less_more a b c l h = grind (arith, nat_tests)
 
 -- what is answered by orders that are done stays so, where these stay done and resets are counted up

@@ -39,7 +39,7 @@ stage_same : (ms : Mappings) (g n : ℕ) (p : Endpoint) (o : LocalAct) → Legal
     → is_unreleased ((own p n o).stage b) ≡ is_unreleased (p.stage b)
 stage_same ms g n p o l h b = grind (arith, nat_tests)
 
-submitted_stage : (t : Bool) (p : Endpoint) (o : Option ℕ) (q count order cookie b : ℕ) → (submitted_if t p o q count order cookie).stage b ≡ p.stage b
+pub submitted_stage : (t : Bool) (p : Endpoint) (o : Option ℕ) (q count order cookie b : ℕ) → (submitted_if t p o q count order cookie).stage b ≡ p.stage b
 submitted_stage true p (Some d) q count order cookie b = refl
 submitted_stage true p None q count order cookie b = refl
 submitted_stage false p o q count order cookie b = refl
@@ -223,7 +223,7 @@ uses_slot _ = false
 slot_same : (p : Endpoint) (n : ℕ) (o : LocalAct) → uses_slot o ≡ false → (t : ℕ) → (own p n o).at_slot t ≡ p.at_slot t
 slot_same p n o h t = grind (arith, nat_tests)
 
-submitted_slot : (t : Bool) (p : Endpoint) (o : Option ℕ) (q count order cookie k : ℕ) → (submitted_if t p o q count order cookie).at_slot k ≡ p.at_slot k
+pub submitted_slot : (t : Bool) (p : Endpoint) (o : Option ℕ) (q count order cookie k : ℕ) → (submitted_if t p o q count order cookie).at_slot k ≡ p.at_slot k
 submitted_slot true p (Some d) q count order cookie k = refl
 submitted_slot true p None q count order cookie k = refl
 submitted_slot false p o q count order cookie k = refl

@@ -32,7 +32,7 @@ count_zero (suc n) f h =
     let b : count_below n f ≡ 0 = count_zero n f (λ c l. h c (omega arith)) in
     omega (arith, count_next n f)
 
-bit_less : (b c : Bool) → (b ≡ true → c ≡ true) → bit b ≤ bit c
+pub bit_less : (b c : Bool) → (b ≡ true → c ≡ true) → bit b ≤ bit c
 unfolding bit
 bit_less true true h = omega arith
 bit_less true false h = absurd (let k = h refl in cc)

@@ -32,6 +32,8 @@ use Rattle.sva_laws.proofs.Jobs.{Jobs}
 use Rattle.sva_laws.proofs.Completions.{Owed}
 use Rattle.sva_laws.proofs.Agreement.{bearer}
 use Rattle.sva_laws.proofs.Unmap.{active_unreleased}
+use Rattle.sva_laws.proofs.Groups.{answerable_outstanding}
+use Rattle.sva_laws.proofs.Groups.{not_active as not_before}
 
 equal : (x y : ℕ) → (x == y) ≡ true → x ≡ y
 equal x y h = grind (arith, nat_tests)
@@ -64,7 +66,7 @@ labelled w e i =
       one_space = λ b d u v same. la.one_space b d u v same;
     }
 
-unmarked_unreleased : (s : Stage) → is_unmarked s ≡ true → is_unreleased s ≡ true
+pub unmarked_unreleased : (s : Stage) → is_unmarked s ≡ true → is_unreleased s ≡ true
 unmarked_unreleased s h = grind arith
 
 not_cleared : (x : Phase) → x ≡ Open → is_cleared x ≡ false
@@ -91,9 +93,6 @@ isnt_off s h e = absurd (cc)
 
 off_not : (s : PasidState) → s ≢ Off → is_off s ≡ false
 off_not s h = grind arith
-
-not_before : (s : Stage) → is_active s ≡ false → is_before_invalidating s ≡ false
-not_before s h = grind arith
 
 not_undone : (s : OrderState) → is_undone s ≡ false → (s ≡ Done) ⊎ (s ≡ Void)
 not_undone Done h = inl refl
@@ -224,9 +223,6 @@ response_there g (Some ResetDone) h = absurd (cc)
 
 is_closed : (x : Phase) → is_open x ≡ false → x ≡ Open → ⊥
 is_closed x h e = grind arith
-
-answerable_outstanding : (s : GroupState) → is_answerable s ≡ true → is_outstanding s ≡ true
-answerable_outstanding s h = grind arith
 
 -- the last request of a group that isn't whole at the host is in flight or arrived
 asked_last : (p : Endpoint) (g r : ℕ) → p.group_of r ≡ g → is_whole (p.host_group g) ≡ false → p.page_request r ≢ Dropped

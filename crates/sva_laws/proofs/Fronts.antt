@@ -73,7 +73,7 @@ front_low_kept ms g n cookies p (LocalAct.Pass k) l hc bo given below low = go (
 front_low_kept ms g n cookies p o l hc bo given below low = grind (arith, nat_tests)
 
 -- the wait that is passed is the first that is queued, so its cookie is between those that are passed and those that aren't
-is_queued : (z : OrderState) → z ≡ Queued → (z ≡ Done) ⊎ (z ≡ Void) → ⊥
+pub is_queued : (z : OrderState) → z ≡ Queued → (z ≡ Done) ⊎ (z ≡ Void) → ⊥
 is_queued z h (inl e) = absurd (cc (sym h ∙ e))
 is_queued z h (inr e) = absurd (cc (sym h ∙ e))
 

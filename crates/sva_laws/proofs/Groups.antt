@@ -22,6 +22,7 @@ use Rattle.sva_laws.proofs.Bounds.{Bounds}
 use Rattle.sva_laws.proofs.Bindings.{Bindings, is_unmarked}
 use Rattle.sva_laws.proofs.Orders.{Orders, is_active, is_queued_or_done}
 use Rattle.sva_laws.proofs.PageRequests.{Queued, Lasts, HasJob, is_whole}
+use Rattle.sva_laws.proofs.PageRequests.{arrived_made as request_made}
 
 abbrev pub is_filed_group : HostGroupState → Bool
 is_filed_group NotFiled = false
@@ -179,16 +180,13 @@ outstanding_made g p bo x h = grind (arith, bo.group x)
 alive_made : (g : ℕ) (p : Endpoint) → Bounds g p → (x : ℕ) → is_alive_group (p.group x) ≡ true → x < p.groups
 alive_made g p bo x h = grind (arith, bo.group x)
 
-filed_made : (g : ℕ) (p : Endpoint) → Bounds g p → (x : ℕ) → is_filed_group (p.host_group x) ≡ true → x < p.groups
+pub filed_made : (g : ℕ) (p : Endpoint) → Bounds g p → (x : ℕ) → is_filed_group (p.host_group x) ≡ true → x < p.groups
 filed_made g p bo x h = grind (arith, bo.host_group x)
 
 open_made : (g : ℕ) (p : Endpoint) → Bounds g p → (x : ℕ) → is_open_group (p.host_group x) ≡ true → x < p.groups
 open_made g p bo x h = grind (arith, bo.host_group x)
 
-request_made : (g : ℕ) (p : Endpoint) → Bounds g p → (r : ℕ) → p.page_request r ≡ Arrived → r < p.page_requests
-request_made g p bo r h = grind (arith, bo.page_request r)
-
-answerable_outstanding : (s : GroupState) → is_answerable s ≡ true → is_outstanding s ≡ true
+pub answerable_outstanding : (s : GroupState) → is_answerable s ≡ true → is_outstanding s ≡ true
 answerable_outstanding s h = grind arith
 
 -- of a group that is whole, no request is still to be filed
@@ -209,7 +207,7 @@ in_hand_answerable p la gr x w ph h =
     let o = gr.open_group x ph (ap is_open_group h) in
     grind (arith)
 
-not_active : (s : Stage) → is_active s ≡ false → is_before_invalidating s ≡ false
+pub not_active : (s : Stage) → is_active s ≡ false → is_before_invalidating s ≡ false
 not_active s h = grind arith
 
 pub has_job : (p : Endpoint) → Groups p → HasJob p

@@ -138,7 +138,7 @@ index_free g p gr bo h = go (lowest_cases 32 (λ t. not (is_some (p.at_index t))
 credit : (p : Endpoint) → nat_le 32 (Labels.outstanding p) ≡ false → Labels.outstanding p < 32
 credit p h = grind (arith, nat_tests)
 
-unfinished_is : (s : GroupState) → is_collecting s ≡ true → s ≡ Collecting
+pub unfinished_is : (s : GroupState) → is_collecting s ≡ true → s ≡ Collecting
 unfinished_is s h = grind arith
 
 fault_at : (w : World) (e t q : ℕ) (r x l : Bool) (o : Option ℕ) → Invariant w → e < w.config.endpoints → Passed (fault_refusals w (w.part e) t o)

@@ -18,12 +18,9 @@ use Rattle.sva_laws.proofs.Passed.{LegalAll}
 use Rattle.sva_laws.proofs.Runs.{always, step_legal, next_keeps}
 use Rattle.sva_laws.proofs.Adding.{Adds, Kind, acts_add, step_kind}
 use Rattle.sva_laws.proofs.Adding.Kind.{adding, unmapping, dropping}
+pub use Rattle.sva_model.proofs.FullSpace.{run_on as run_append}
 
 -- Lists of steps.
-
-pub run_append : (ss rest : List Step) (w : World) → run w (ss ++ rest) ≡ run (run w ss) rest
-run_append [] rest w = refl
-run_append (s ∷ ss) rest w = run_append ss rest (next w s)
 
 pub after_one : (rule : PasidRule) (c : Config) (ss : List Step) (s : Step) → world_after rule c (ss ++ s ∷ []) ≡ next (world_after rule c ss) s
 after_one rule c ss s = run_append ss (s ∷ []) (opened rule c)

@@ -126,7 +126,7 @@ none_passes p h = go (find 32 (λ t. p (suc t))) refl
     go None e = refl
     go (Some k) e = absurd (h (suc k) (find_passes 32 (λ t. p (suc t)) k e).1)
 
-same_bool : (a b : Bool) → (a ≡ true → b ≡ true) → (b ≡ true → a ≡ true) → a ≡ b
+pub same_bool : (a b : Bool) → (a ≡ true → b ≡ true) → (b ≡ true → a ≡ true) → a ≡ b
 same_bool true b f g = sym (f refl)
 same_bool false true f g = g refl
 same_bool false false f g = refl

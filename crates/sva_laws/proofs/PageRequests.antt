@@ -111,7 +111,7 @@ whole_group_kept : (ms : Mappings) (g n : ℕ) (p : Endpoint) (o : LocalAct) →
     → (is_whole (p.host_group x) ≡ true → p.group x ≢ Collecting) → is_whole ((own p n o).host_group x) ≡ true → (own p n o).group x ≢ Collecting
 whole_group_kept ms g n p o l hj lg ar x bo old h i = grind (arith, nat_tests, hj x)
 
-arrived_made : (g : ℕ) (p : Endpoint) → Bounds g p → (r : ℕ) → p.page_request r ≡ Arrived → r < p.page_requests
+pub arrived_made : (g : ℕ) (p : Endpoint) → Bounds g p → (r : ℕ) → p.page_request r ≡ Arrived → r < p.page_requests
 arrived_made g p bo r h = grind (arith, bo.page_request r)
 
 -- filing the last of a group: every other request of it is filed

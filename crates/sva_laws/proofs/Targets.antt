@@ -22,10 +22,7 @@ use Rattle.sva_laws.proofs.Cookies.{less_or_not}
 use Rattle.sva_laws.proofs.Fronts.{Fronts, always_fronts}
 use Rattle.sva_laws.proofs.Debts.{always_debts}
 use Rattle.sva_laws.proofs.Runs.{always}
-
-queued_apart : (z : OrderState) → z ≡ Queued → (z ≡ Done) ⊎ (z ≡ Void) → ⊥
-queued_apart z h (inl e) = absurd (cc (sym h ∙ e))
-queued_apart z h (inr e) = absurd (cc (sym h ∙ e))
+use Rattle.sva_laws.proofs.Fronts.{is_queued as queued_apart}
 
 done_apart : (z : OrderState) → z ≡ Done → (z ≡ Queued) ⊎ (z ≡ Void) → ⊥
 done_apart z h (inl e) = absurd (cc (sym h ∙ e))
@@ -105,13 +102,13 @@ awaited n p first x resets f b same nd = let y = go (p.order x) refl b.is_a_wait
     go (RangeOf d r) h w = absurd (cc (w))
     go (PasidOf d) h w = absurd (cc (w))
 
-no_reset : (p : Endpoint) (resets : ℕ) → resets ≤ p.resets → nat_lt resets p.resets ≡ false → resets ≡ p.resets
+pub no_reset : (p : Endpoint) (resets : ℕ) → resets ≤ p.resets → nat_lt resets p.resets ≡ false → resets ≡ p.resets
 no_reset p resets low h = grind (arith, nat_tests)
 
 is_done_of : (z : OrderState) → z ≡ Done → is_done z ≡ true
 is_done_of z h = ap is_done h
 
-both_done : (a b : OrderState) → a ≡ Done → b ≡ Done → (is_done a && is_done b) ≡ true
+pub both_done : (a b : OrderState) → a ≡ Done → b ≡ Done → (is_done a && is_done b) ≡ true
 both_done a b h k = grind arith
 
 pub awaits : (n : ℕ) (p : Endpoint) (v : Owed) → Fronts n p → FitsDebt p v → answered p v ≡ false → AwaitsTarget p v

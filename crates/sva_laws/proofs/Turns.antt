@@ -32,6 +32,10 @@ use Rattle.sva_laws.proofs.StepKinds.Kind.{calm, single, unmapping}
 use Rattle.sva_laws.proofs.UnitSteps.{Changes, changes, delivers, same_acts, always_counts}
 use Rattle.sva_laws.proofs.Debts.{always_debts}
 use Rattle.sva_laws.proofs.Freed.{next_place}
+use Rattle.sva_laws.proofs.Withheld.{or_cases}
+use Rattle.sva_laws.proofs.Answered.{or_more as or_kept}
+use Rattle.sva_laws.proofs.Answered.{and_more as and_kept}
+use Rattle.sva_laws.proofs.Answered.{less_more as more}
 
 -- the counter of reset-dones stays, or a reset-done is delivered
 own_counts : (w : World) (s : Step) (e : ℕ) (a : Answer) (o : LocalAct) → reply w s ≡ Ok a → IsBy w s e o a → LegalLocalAct w.mappings w.bindings (w.part e) o
@@ -65,19 +69,6 @@ never_falls p q R (inr r) f = let e = f r in omega (arith, e)
 
 done_is : (x : OrderState) → is_done x ≡ true → x ≡ Done
 done_is x h = grind arith
-
-or_cases : (a b : Bool) → (a || b) ≡ true → (a ≡ true) ⊎ (b ≡ true)
-or_cases true b h = inl refl
-or_cases false b h = inr h
-
-more : (a b c : ℕ) → b ≤ c → nat_lt a b ≡ true → nat_lt a c ≡ true
-more a b c h k = grind (arith, nat_tests)
-
-or_kept : (a b c d : Bool) → (a ≡ true → c ≡ true) → (b ≡ true → d ≡ true) → (a || b) ≡ true → (c || d) ≡ true
-or_kept a b c d f g h = grind arith
-
-and_kept : (a b c d : Bool) → (a ≡ true → c ≡ true) → (b ≡ true → d ≡ true) → (a && b) ≡ true → (c && d) ≡ true
-and_kept a b c d f g h = grind arith
 
 -- what is answered stays so
 stays : (p q : Endpoint) (v : Owed) → ((k : ℕ) → p.order_state k ≡ Done → q.order_state k ≡ Done) → p.resets ≤ q.resets → answered p v ≡ true

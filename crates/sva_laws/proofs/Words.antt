@@ -3,6 +3,8 @@ use Rattle.std.proofs.Common.{◌≡◌, ℕ, zero, suc, ◌+◌, ◌<◌, ◌�
 use Rattle.std.specs.Prelude.{Option, Some, None, if◌then◌else◌, nat_lt, not, ◌==◌}
 use Rattle.std.proofs.lemmas.Bool.Decides.{nat_tests}
 use Rattle.sva_model.specs.Words.{put, lowest, find, if_found, step_lowest, any_below, all_below, is_some, the, holds_of}
+pub use Rattle.sva_model.proofs.FullSpace.{lowest_cases}
+pub use Rattle.sva_model.proofs.FullSpace.{lowest_below}
 
 pub put-same : {A : Type 0} (f : ℕ → A) (i : ℕ) (v : A) → put f i v i ≡ v
 put-same f i v = grind (arith, nat_tests)
@@ -85,28 +87,6 @@ all_below_cases (suc n) p = more n p (all_below n p) (p n) refl refl (all_below_
     more n p b false e h x = inr (n, omega arith, h)
     more n p b true e h (inl x) = inl x
     more n p b true e h (inr (j, l, x)) = inr (j, omega arith, x)
-
--- the lowest number that passes
-pub lowest_cases : (n : ℕ) (p : ℕ → Bool) → ((lowest n p ≡ n) × ((j : ℕ) → j < n → p j ≡ false))
-    ⊎ ((lowest n p < n) × (p (lowest n p) ≡ true) × ((j : ℕ) → j < lowest n p → p j ≡ false))
-unfolding lowest
-lowest_cases zero p = inl (refl, λ j l. absurd (omega arith))
-lowest_cases (suc n) p = next n p (lowest n p) (p n) (lowest n p == n) refl refl (lowest_cases n p)
-  where
-    next : (n : ℕ) (p : ℕ → Bool) (k : ℕ) (b t : Bool) → p n ≡ b → (k == n) ≡ t → ((k ≡ n) × ((j : ℕ) → j < n → p j ≡ false))
-        ⊎ ((k < n) × (p k ≡ true) × ((j : ℕ) → j < k → p j ≡ false)) → ((step_lowest t k n b ≡ suc n) × ((j : ℕ) → j < suc n → p j ≡ false))
-        ⊎ ((step_lowest t k n b < suc n) × (p (step_lowest t k n b) ≡ true) × ((j : ℕ) → j < step_lowest t k n b → p j ≡ false))
-    next n p k b false e f (inl x) = absurd (grind (arith, nat_tests))
-    next n p k b false e f (inr x) = inr (omega arith, x.1, x.2)
-    next n p k true true e f (inl x) = inr (omega arith, e, x.1)
-    next n p k false true e f (inl x) = inl (refl, λ j l. below_next j l x.1)
-      where
-        below_next : (j : ℕ) → j < suc n → ((j : ℕ) → j < n → p j ≡ false) → p j ≡ false
-        below_next j l h = grind (arith, h j)
-    next n p k b true e f (inr x) = absurd (grind (arith, nat_tests))
-
-pub lowest_below : (n : ℕ) (p : ℕ → Bool) (j : ℕ) → j < n → p j ≡ true → (lowest n p < n) × (p (lowest n p) ≡ true) × ((i : ℕ) → i < lowest n p → p i ≡ false)
-lowest_below n p j l h = elim (lowest_cases n p) [ inl x ↦ absurd (let f = x.1 j l in cc) | inr x ↦ x ]
 
 pub lowest_passes : (n : ℕ) (p : ℕ → Bool) → (lowest n p == n) ≡ false → (lowest n p < n) × (p (lowest n p) ≡ true) × ((i : ℕ) → i < lowest n p → p i ≡ false)
 lowest_passes n p h = elim (lowest_cases n p) [ inl x ↦ absurd (grind (arith, nat_tests, x.0)) | inr x ↦ x ]

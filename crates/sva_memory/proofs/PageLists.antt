@@ -19,13 +19,7 @@ use Rattle.sva_labels.specs.Finding.{page_at, is_mapped, frame_or_0, frames_of}
 use Rattle.sva_labels.specs.Moves.{without_pages}
 use Rattle.sva_memory.specs.Seen.{page_seen, pages_seen}
 use Rattle.sva_memory.specs.Pieces.{are_mapped}
-
--- a look-up compares the page asked for with the page there
-at_page : (page there : ℕ) → is_at (nat_cmp page) there ≡ (there == page)
-at_page page there = unsigned_tied page there ∙ flipped page there
-  where
-    flipped : (a b : ℕ) → (a == b) ≡ (b == a)
-    flipped a b = grind (arith, nat_tests)
+use Rattle.sva_space.proofs.Mappings.{at_page}
 
 pub same_page : (a b : ℕ) → (a == b) ≡ true → a ≡ b
 same_page a b is = grind (arith, nat_tests)

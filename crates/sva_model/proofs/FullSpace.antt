@@ -28,7 +28,7 @@ count_most (suc n) f = go (f n) (count_below n f) (count_most n f)
     go false k l = omega arith
 
 -- the lowest number that passes
-lowest_cases : (n : ℕ) (p : ℕ → Bool) → ((lowest n p ≡ n) × ((j : ℕ) → j < n → p j ≡ false))
+pub lowest_cases : (n : ℕ) (p : ℕ → Bool) → ((lowest n p ≡ n) × ((j : ℕ) → j < n → p j ≡ false))
     ⊎ ((lowest n p < n) × (p (lowest n p) ≡ true) × ((j : ℕ) → j < lowest n p → p j ≡ false))
 unfolding lowest
 lowest_cases zero p = inl (refl, λ j l. absurd (omega arith))
@@ -46,7 +46,7 @@ lowest_cases (suc n) p = next n p (lowest n p) (p n) (lowest n p == n) refl refl
         below_next j l h = grind (arith, h j)
     next n p k b true e f (inr x) = absurd (grind (arith, nat_tests))
 
-lowest_below : (n : ℕ) (p : ℕ → Bool) (j : ℕ) → j < n → p j ≡ true → (lowest n p < n) × (p (lowest n p) ≡ true) × ((i : ℕ) → i < lowest n p → p i ≡ false)
+pub lowest_below : (n : ℕ) (p : ℕ → Bool) (j : ℕ) → j < n → p j ≡ true → (lowest n p < n) × (p (lowest n p) ≡ true) × ((i : ℕ) → i < lowest n p → p i ≡ false)
 lowest_below n p j l h = elim (lowest_cases n p) [ inl x ↦ absurd (let f = x.1 j l in cc) | inr x ↦ x ]
 
 lowest_is : (n k : ℕ) (p : ℕ → Bool) → k < n → ((j : ℕ) → j < k → p j ≡ false) → p k ≡ true → lowest n p ≡ k
@@ -141,7 +141,7 @@ map_next n frames first l f =
     (has_room (Labels.pages_of w (Labels.name w first)) n (count_most n _) l) (has_frame (Labels.lowest_frame w) n frames k f) in
     ap (after_acts w) acts ∙ ap (λ s. act w (Act.Map s n (Labels.lowest_frame w) false)) z ∙ ap (λ x. act w (Act.Map 0 n x false)) k ∙ mapped n frames first
 
-run_on : (a b : List Step) (w : World) → run w (a ++ b) ≡ run (run w a) b
+pub run_on : (a b : List Step) (w : World) → run w (a ++ b) ≡ run (run w a) b
 run_on [] b w = refl
 run_on (s ∷ a) b w = run_on a b (next w s)
 

@@ -1,2 +1,2 @@
-mod FullSpace
+pub mod FullSpace
 pub mod RangeLemmas

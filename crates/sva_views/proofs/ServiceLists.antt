@@ -5,6 +5,7 @@ use Rattle.std.specs.List.{list_any}
 use Rattle.std.proofs.lemmas.Bool.Decides.{nat_tests}
 use Rattle.sva_prq.specs.Groups.{OpenGroup, answered_among}
 use Rattle.sva_views.specs.ServiceLaws.{IsIn, AreRising}
+pub use Rattle.sva_laws.proofs.OneEndpoint.{same_bool as same_tests}
 
 pub equals : (a b : ℕ) → a ≡ b → (a == b) ≡ true
 equals a b h = grind (arith, nat_tests)
@@ -14,13 +15,6 @@ same_of a b h = grind (arith, nat_tests)
 
 pub differs : (a b : ℕ) → a ≢ b → (a == b) ≡ false
 differs a b h = grind (arith, nat_tests)
-
--- tests of which each says the other
-pub same_tests : (a b : Bool) → (a ≡ true → b ≡ true) → (b ≡ true → a ≡ true) → a ≡ b
-same_tests true true h k = refl
-same_tests true false h k = absurd (cc (h refl))
-same_tests false true h k = absurd (cc (k refl))
-same_tests false false h k = refl
 
 -- A thing of a list.
 

@@ -7,6 +7,8 @@ use Rattle.sva_model.specs.Words.{step_lowest, lowest, any_below, all_below, cou
 use Rattle.sva_model.specs.Wire.{PlaceWire}
 use Rattle.sva_laws.proofs.Words.{ℕ_cases}
 use Rattle.sva_wire.specs.Host.{is_free, lowest_free}
+pub use Rattle.sva_laws.proofs.Answered.{all_below-intro as each_below}
+pub use Rattle.sva_laws.proofs.Counting.{length_select as select_length}
 
 -- Tables.
 
@@ -72,16 +74,6 @@ unfolding select
 select_same zero p q h = refl
 select_same (suc n) p q h = ap₂ (λ xs b. xs ++ (if b then n ∷ [] else [])) (select_same n p q (λ k l. h k (omega arith))) (h n (omega arith))
 
-pub select_length : (n : ℕ) (p : ℕ → Bool) → length (select n p) ≡ count_below n p
-unfolding select count_below
-select_length zero p = refl
-select_length (suc n) p = go (p n) (select_length n p)
-  where
-    go : (b : Bool) → length (select n p) ≡ count_below n p → length (select n p ++ (if b then n ∷ [] else []))
-        ≡ (if b then suc (count_below n p) else count_below n p)
-    go true h = length-append (select n p) (n ∷ []) ∙ omega (arith, h)
-    go false h = length-append (select n p) [] ∙ omega (arith, h)
-
 pub lowest_same : (n : ℕ) (p q : ℕ → Bool) → ((k : ℕ) → k < n → p k ≡ q k) → lowest n p ≡ lowest n q
 unfolding lowest
 lowest_same zero p q h = refl
@@ -101,11 +93,6 @@ pub none_below : (n : ℕ) (p : ℕ → Bool) → ((k : ℕ) → k < n → p k �
 unfolding any_below
 none_below zero p h = refl
 none_below (suc n) p h = ap₂ (λ b c. if c then true else b) (none_below n p (λ k l. h k (omega arith))) (h n (omega arith))
-
-pub each_below : (n : ℕ) (p : ℕ → Bool) → ((k : ℕ) → k < n → p k ≡ true) → all_below n p ≡ true
-unfolding all_below
-each_below zero p h = refl
-each_below (suc n) p h = ap₂ (λ b c. if c then b else false) (each_below n p (λ k l. h k (omega arith))) (h n (omega arith))
 
 -- The lowest free place.
 

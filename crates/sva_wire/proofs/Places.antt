@@ -53,7 +53,7 @@ place_seen w ms f = go (ms.latest f) refl
 
 -- The lowest free frame.
 
-free_is : (w : World) (f : ℕ) → is_free (place_wire_by w f (place w f)) ≡ is_free_place (place w f)
+pub free_is : (w : World) (f : ℕ) → is_free (place_wire_by w f (place w f)) ≡ is_free_place (place w f)
 free_is w f = ap is_free (place_seen w w.mappings f) ∙ go (w.mappings.latest f)
   where
     by_answers : (b : Bool) (owed : ℕ → Owed) → is_free (gone_seen b (withheld_wire w.config.first w.config.endpoints w.part (Gone owed)))

@@ -1,7 +1,6 @@
 -- Completions of invalidations that arrive, by labels.
 use Rattle.std.proofs.Common.{◌≡◌, ◌≢◌, refl, ap, sym, ◌∙◌, subst, ℕ, zero, suc, ◌≤◌, Bool, true, false}
-use Rattle.std.specs.Prelude.{◌&&◌, not, if◌then◌else◌, Ok, Err, Option, [], ◌∷◌}
-use Rattle.sva_step.specs.declared.answers.Answer.{Answer}
+use Rattle.std.specs.Prelude.{◌&&◌, not, if◌then◌else◌, Ok, Err, Option, []}
 use Rattle.sva_step.specs.declared.answers.Answer.TheVariants as answer
 use Rattle.sva_step.specs.declared.refusals.Refusal.TheVariants as refusal
 use Rattle.sva_step.specs.declared.steps.Step.TheVariants as step

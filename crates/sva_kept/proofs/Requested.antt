@@ -1,12 +1,12 @@
 -- Translation requests that arrive, by labels.
 use Rattle.std.proofs.Common.{◌≡◌, refl, ap, sym, ◌∙◌, subst, ℕ, ◌+◌, Bool, true, false}
-use Rattle.std.specs.Prelude.{◌&&◌, not, if◌then◌else◌, Ok, Err, Option, Some, None, option_map, [], ◌∷◌}
+use Rattle.std.specs.Prelude.{◌&&◌, not, if◌then◌else◌, Ok, Err, Option, option_map, [], ◌∷◌}
 use Rattle.sva_step.specs.declared.answers.Answer.TheVariants as answer
 use Rattle.sva_step.specs.declared.refusals.Refusal.{Refusal}
 use Rattle.sva_step.specs.declared.refusals.Refusal.TheVariants as refusal
 use Rattle.sva_step.specs.declared.steps.Step.TheVariants as step
 use Rattle.sva_model.specs.Message.{Message}
-use Rattle.sva_model.specs.Wire.{Wire, EndpointWire, UnitWire, BindingWire, FlightWire}
+use Rattle.sva_model.specs.Wire.{Wire, EndpointWire, FlightWire}
 use Rattle.sva_labels.specs.Finding.{unit_of, bearer}
 use Rattle.sva_labels.specs.Causes.{lacks, numbers_spent, deliver_causes}
 use Rattle.sva_labels.specs.Host.{Decision, checked, decide_of}

@@ -1,7 +1,6 @@
-use Rattle.std.proofs.Common.{sym, subst, refl, arith, ap, ◌∙◌}
-use Rattle.std.specs.Prelude.{Ok, slice_index_or, length, nat_lt}
+use Rattle.std.proofs.Common.{sym, subst, refl, arith}
+use Rattle.std.specs.Prelude.{Ok, slice_index_or}
 use Rattle.sva_step.specs.declared.steps.Step.TheVariants as step
-use Rattle.sva_model.specs.Wire.{Wire}
 use Rattle.sva_msg.specs.Bag.{InFlight}
 use Rattle.sva_endpoint.specs.Calls as call
 use Rattle.sva_endpoint.specs.Tables.{Tables}
@@ -9,7 +8,7 @@ use Rattle.sva_endpoint.specs.Deliveries.{after_receive, answer_to}
 use Rattle.sva_endpoint.proofs.SoundLaws.{sound_after}
 use Rattle.sva_kept.specs.declared.kept.Port.{Port}
 use Rattle.sva_kept.specs.Inner.{wire_of}
-use Rattle.sva_kept.specs.Steps.{ByLabels, PortFor}
+use Rattle.sva_kept.specs.Steps.{ByLabels}
 use Rattle.sva_kept.proofs.Ports.{port_found, rewritten, with_tables, with_tables_host}
 use Rattle.sva_kept.proofs.Devices.{ended}
 use Rattle.sva_kept.proofs.Arriving.{may_take, arriving_port, arriving_within, seen_found, seen_free}

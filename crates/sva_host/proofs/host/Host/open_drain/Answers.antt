@@ -1,6 +1,5 @@
-use Rattle.std.proofs.Common.{◌≡◌, ◌<◌, ap, sym, subst, ◌∙◌, Bool, arith}
-use Rattle.std.specs.Prelude.{if◌then◌else◌, List, Option, Some, None, length}
-use Rattle.sva_model.specs.Wire.{BindingWire}
+use Rattle.std.proofs.Common.{◌<◌, ap, sym, subst, ◌∙◌, Bool, arith}
+use Rattle.std.specs.Prelude.{if◌then◌else◌, List, Some, None, length}
 use Rattle.sva_labels.specs.Finding.{unit_of}
 use Rattle.sva_views.specs.Bindings.{binding_seen}
 use Rattle.sva_kept.specs.declared.kept.Port.{Port}

@@ -1,6 +1,6 @@
 use Rattle.std.proofs.Common.{sym, ap, ◌∙◌, Bool}
-use Rattle.std.specs.Prelude.{if◌then◌else◌, None, Option}
-use Rattle.sva_model.specs.Wire.{Wire, PageWire}
+use Rattle.std.specs.Prelude.{if◌then◌else◌, None}
+use Rattle.sva_model.specs.Wire.{Wire}
 use Rattle.sva_labels.specs.Finding.{page_at, pages_in}
 use Rattle.sva_kept.proofs.Requested.{found_by}
 use Rattle.sva_host.proofs.host.Host.translation.Goals as goal

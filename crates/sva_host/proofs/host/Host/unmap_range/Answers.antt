@@ -6,10 +6,15 @@ use Rattle.sva_model.specs.Outcomes.{unmap_range_answer}
 use Rattle.sva_labels.specs.Finding.{is_mapped, pages_in}
 use Rattle.sva_model.specs.Words.{count_below}
 use Rattle.sva_kept.proofs.Devices.{kept}
-use Rattle.sva_kept.proofs.PagesOut.{range_other, units_other, range_refuse, units_fit, room_for, range_ends, empty_if, awaited_if}
+use Rattle.sva_kept.proofs.PagesOut.{range_other, units_other, range_refused, range_refuse, units_fit, room_for, range_ends, empty_if, awaited_if}
 use Rattle.sva_kept.proofs.NeverForMemory.{not_for_memory}
 use Rattle.sva_host.proofs.host.Host.unmap_range.Goals as goal
 use Rattle.sva_host.proofs.host.Host.unmap_range.Goals.{then-is_empty, else-is_empty}
+
+pub returns-in_err-may_unmap_range-clause-step : goal.returns-in_err-may_unmap_range-clause-step
+returns-in_err-may_unmap_range-clause-step c =
+    kept _ _ (step.UnmapRange c.args.space c.args.page c.args.order) _ _ c.self.view_is c.from_residual.ensures
+    (range_refused c.self.inside.kept c.args.space c.args.page c.args.order _ c.in_err-may_unmap_range.ensures)
 
 pub returns-in_err-may_submit-clause-step : goal.returns-in_err-may_submit-clause-step
 returns-in_err-may_submit-clause-step c =

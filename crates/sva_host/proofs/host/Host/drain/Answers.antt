@@ -75,7 +75,8 @@ invariant_of-self c =
     let for = port_for c.args.self.now c.args.binding c.args.endpoint _ _ _ _ c.requires.sound is in
     let port = port_found c.self.inside.kept c.args.self.now c.args.endpoint c.args.endpoint c.deref_mut.result.now c.index-deref_mut-endpoint.result
     c.self.invariant c.self.view_is for c.deref_mut.ensures.value in
-    let change = λ (u : UnitSeen). with_unit u (with_descriptors u.unit (WaitDescriptor c.self.inside.kept.next_cookie true ∷ []) c.self.inside.kept.next_cookie) in
+    let change = λ (u : UnitSeen). with_unit u (with_descriptors u.unit (WaitDescriptor c.self.inside.kept.next_cookie true ∷ [])
+    c.self.inside.kept.next_cookie) in
     let written = unit_rewritten c.self.inside.kept c.args.self.now c.args.endpoint c.args.endpoint c.deref_mut.result.now c.deref_mut.result.now
     c.index-deref_mut-endpoint.result c.index-deref_mut-endpoint.result c.submit_drain.new.self change c.self.view_is for
     c.deref_mut.ensures.value c.deref_mut.ensures.value c.submit_drain.ensures in
@@ -89,7 +90,8 @@ returns c =
     let for = port_for c.args.self.now c.args.binding c.args.endpoint _ _ _ _ c.requires.sound is in
     let port = port_found c.self.inside.kept c.args.self.now c.args.endpoint c.args.endpoint c.deref_mut.result.now c.index-deref_mut-endpoint.result
     c.self.invariant c.self.view_is for c.deref_mut.ensures.value in
-    let change = λ (u : UnitSeen). with_unit u (with_descriptors u.unit (WaitDescriptor c.self.inside.kept.next_cookie true ∷ []) c.self.inside.kept.next_cookie) in
+    let change = λ (u : UnitSeen). with_unit u (with_descriptors u.unit (WaitDescriptor c.self.inside.kept.next_cookie true ∷ [])
+    c.self.inside.kept.next_cookie) in
     let written = unit_rewritten c.self.inside.kept c.args.self.now c.args.endpoint c.args.endpoint c.deref_mut.result.now c.deref_mut.result.now
     c.index-deref_mut-endpoint.result c.index-deref_mut-endpoint.result c.submit_drain.new.self change c.self.view_is for
     c.deref_mut.ensures.value c.deref_mut.ensures.value c.submit_drain.ensures in

@@ -23,7 +23,8 @@ invariant_of-self c =
     let for = place_for c.args.self.now c.args.at c.requires.there in
     let slice : List Port = c.deref_mut.result.now in
     let port : Port = slice_index_or slice c.args.at c.index-deref_mut-at.result in
-    let is = port_found c.self.inside.kept _ c.args.at c.args.at slice c.index-deref_mut-at.result c.self.invariant c.self.view_is for c.deref_mut.ensures.value in
+    let is = port_found c.self.inside.kept _ c.args.at c.args.at slice c.index-deref_mut-at.result c.self.invariant c.self.view_is for
+    c.deref_mut.ensures.value in
     with_unit_host c.self.inside.kept _ c.args.at port (after_pass c.args.cookie port.unit) c.self.invariant is.sound
     (unit_rewritten c.self.inside.kept _ c.args.at c.args.at slice slice c.index-deref_mut-at.result c.index-deref_mut-at.result c.pass.new.self
     (after_pass c.args.cookie) c.self.view_is for c.deref_mut.ensures.value c.deref_mut.ensures.value c.pass.ensures) c.self.invariant.staged
@@ -33,7 +34,8 @@ returns c =
     let for = place_for c.args.self.now c.args.at c.requires.there in
     let slice : List Port = c.deref_mut.result.now in
     let port : Port = slice_index_or slice c.args.at c.index-deref_mut-at.result in
-    let is = port_found c.self.inside.kept _ c.args.at c.args.at slice c.index-deref_mut-at.result c.self.invariant c.self.view_is for c.deref_mut.ensures.value in
+    let is = port_found c.self.inside.kept _ c.args.at c.args.at slice c.index-deref_mut-at.result c.self.invariant c.self.view_is for
+    c.deref_mut.ensures.value in
     ended_by c.self.inside.kept _ (step.Pump c.args.at) answer.WaitDone answer.WaitDone
     (λ items. wire_of (record c.self.inside.kept { ports = record { items = items }; memory = c.settle.new.self })) _ _ c.self.view_is
     (unit_rewritten c.self.inside.kept _ c.args.at c.args.at slice slice c.index-deref_mut-at.result c.index-deref_mut-at.result c.pass.new.self

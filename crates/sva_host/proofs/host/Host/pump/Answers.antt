@@ -37,7 +37,8 @@ returns-in-Blocked-clause-step c =
     c.self.view_is c.in_ok-at.ensures c.deref.ensures.0 c.deref-2.ensures.0 in
     let opened = c.is_open.ensures ∙ ap (λ (p : Port). p.unit.unit.is_open) (sym same) in
     pump_blocked c.args.self.now c.args.endpoint
-    (head_there c.self.inside.kept _ c.args.endpoint port c.is_open.result Next.Blocked c.self.view_is is opened c.if-not-is_open.false c.in-Blocked.ensures.next)
+    (head_there c.self.inside.kept _ c.args.endpoint port c.is_open.result Next.Blocked c.self.view_is is opened c.if-not-is_open.false
+    c.in-Blocked.ensures.next)
 
 pub send_head-requires : goal.send_head-requires
 send_head-requires c =

@@ -22,7 +22,8 @@ pub returns-then-not-is_open : goal.returns-then-not-is_open
 returns-then-not-is_open c =
     let long = parts_seen c.self.inside.kept c.args.self.now c.self.view_is in
     let within : c.unit.result < length c.self.inside.kept.ports.items = omega (arith, long, c.unit.ensures, c.requires) in
-    let unit = unit_there c.self.inside.kept c.args.self.now c.unit.result c.deref.result.now c.index-deref-unit.result c.self.view_is within c.deref.ensures.0 in
+    let unit = unit_there c.self.inside.kept c.args.self.now c.unit.result c.deref.result.now c.index-deref-unit.result c.self.view_is within
+    c.deref.ensures.0 in
     response_closed c.args.self.now (job_seen c.args.job.now) c.args.verdict
     (ap (λ (e : ℕ). (unit_of c.args.self.now e).is_open) (sym c.unit.ensures) ∙ sym (c.is_open.ensures ∙ ap (λ u. u.is_open) unit) ∙ c.if-not-is_open.true)
 
@@ -30,7 +31,8 @@ pub returns-in_err-code : goal.returns-in_err-code
 returns-in_err-code c =
     let long = parts_seen c.self.inside.kept c.args.self.now c.self.view_is in
     let within : c.unit.result < length c.self.inside.kept.ports.items = omega (arith, long, c.unit.ensures, c.requires) in
-    let unit = unit_there c.self.inside.kept c.args.self.now c.unit.result c.deref.result.now c.index-deref-unit.result c.self.view_is within c.deref.ensures.0 in
+    let unit = unit_there c.self.inside.kept c.args.self.now c.unit.result c.deref.result.now c.index-deref-unit.result c.self.view_is within
+    c.deref.ensures.0 in
     let is_open = ap (λ (e : ℕ). (unit_of c.args.self.now e).is_open) (sym c.unit.ensures) ∙ sym (c.is_open.ensures ∙ ap (λ u. u.is_open) unit)
     ∙ c.if-not-is_open.false in
     let found =
@@ -43,7 +45,8 @@ pub returns : goal.returns
 returns c =
     let long = parts_seen c.self.inside.kept c.args.self.now c.self.view_is in
     let within : c.unit.result < length c.self.inside.kept.ports.items = omega (arith, long, c.unit.ensures, c.requires) in
-    let unit = unit_there c.self.inside.kept c.args.self.now c.unit.result c.deref.result.now c.index-deref-unit.result c.self.view_is within c.deref.ensures.0 in
+    let unit = unit_there c.self.inside.kept c.args.self.now c.unit.result c.deref.result.now c.index-deref-unit.result c.self.view_is within
+    c.deref.ensures.0 in
     let is_open = ap (λ (e : ℕ). (unit_of c.args.self.now e).is_open) (sym c.unit.ensures) ∙ sym (c.is_open.ensures ∙ ap (λ u. u.is_open) unit)
     ∙ c.if-not-is_open.false in
     let found =

@@ -29,7 +29,8 @@ invariant_of-self-2 c =
     let for = place_for c.args.self.now c.args.at c.requires.there in
     let slice : List Port = c.deref_mut.result.now in
     let port : Port = slice_index_or slice c.args.at c.index-deref_mut-at.result in
-    let is = port_found c.self.inside.kept _ c.args.at c.args.at slice c.index-deref_mut-at.result c.self.invariant c.self.view_is for c.deref_mut.ensures.value in
+    let is = port_found c.self.inside.kept _ c.args.at c.args.at slice c.index-deref_mut-at.result c.self.invariant c.self.view_is for
+    c.deref_mut.ensures.value in
     with_unit_host c.self.inside.kept _ c.args.at port (after_send c.args.sending port.unit) c.self.invariant is.sound
     (unit_rewritten c.self.inside.kept _ c.args.at c.args.at slice slice c.index-deref_mut-at.result c.index-deref_mut-at.result c.send-2.new.self
     (after_send c.args.sending) c.self.view_is for c.deref_mut.ensures.value c.deref_mut.ensures.value c.send-2.ensures) c.self.invariant.staged
@@ -39,7 +40,8 @@ returns c =
     let for = place_for c.args.self.now c.args.at c.requires.there in
     let slice : List Port = c.deref_mut.result.now in
     let port : Port = slice_index_or slice c.args.at c.index-deref_mut-at.result in
-    let is = port_found c.self.inside.kept _ c.args.at c.args.at slice c.index-deref_mut-at.result c.self.invariant c.self.view_is for c.deref_mut.ensures.value in
+    let is = port_found c.self.inside.kept _ c.args.at c.args.at slice c.index-deref_mut-at.result c.self.invariant c.self.view_is for
+    c.deref_mut.ensures.value in
     ended_by c.self.inside.kept _ (step.Pump c.args.at) (answer.Itag c.args.sending.itag) (answer.Itag c.args.sending.itag)
     (λ items. wire_of (record c.self.inside.kept { ports = record { items = items }; in_flight = c.send.new.bag })) _ _ c.self.view_is
     (unit_rewritten c.self.inside.kept _ c.args.at c.args.at slice slice c.index-deref_mut-at.result c.index-deref_mut-at.result c.send-2.new.self

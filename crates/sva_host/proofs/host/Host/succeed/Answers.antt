@@ -47,7 +47,8 @@ returns c =
     (c.in-Ok.ensures.pages ∙ ap (λ (asks : List Ask). new_pages c.self.inside.kept.memory c.args.space
     (asks_seen asks)) c.asks-asks.ensures.asks) c.len.ensures.value
     (subst (λ (asks : List Ask). AllMoves
-    (maps_of c.self.inside.kept.memory c.args.space (asks_seen asks)) c.self.inside.kept.memory c.map_all.new.self) c.asks-asks.ensures.asks c.in-Ok.ensures.after)
+    (maps_of c.self.inside.kept.memory c.args.space (asks_seen asks)) c.self.inside.kept.memory c.map_all.new.self) c.asks-asks.ensures.asks
+    c.in-Ok.ensures.after)
     (named c.self.inside.kept.in_flight c.send.new.bag c.args.job.now c.unit.result c.index.result c.args.pasid Success c.send.result c.unit.ensures
     c.index.ensures c.send.ensures.sends)
     (sym c.if-is_err.ensures.value)

@@ -27,4 +27,5 @@ returns c =
     c.index-deref_mut-endpoint.result c.take_request-request.new.self without_first
     c.self.view_is (port_for c.args.self.now c.args.endpoint c.requires) c.deref_mut.ensures.value c.deref_mut.ensures.value
     c.take_request-request.ensures.rest)
-    ∙ first_taken c.self.inside.kept _ c.args.endpoint (slice_index_or c.deref_mut.result.now c.args.endpoint c.index-deref_mut-endpoint.result) c.self.view_is is
+    ∙ first_taken c.self.inside.kept _ c.args.endpoint (slice_index_or c.deref_mut.result.now c.args.endpoint c.index-deref_mut-endpoint.result)
+    c.self.view_is is

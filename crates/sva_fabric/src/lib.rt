@@ -4,12 +4,14 @@
 
 mod audits;
 mod fabric;
+mod gathering;
 mod journal;
 mod opening;
 mod port;
 mod ports;
 mod receipts;
 mod running;
+mod tally;
 #[cfg(test)]
 mod tests;
 
@@ -17,6 +19,8 @@ pub use audits::{Audit, FirstBadReceipt};
 pub use fabric::Fabric;
 pub use journal::{Entry, Journaled};
 pub use port::Port;
+pub use opening::ports_of;
 pub use ports::Ports;
 pub use receipts::Receipt;
 pub use running::{Running, StepFault};
+pub use tally::Tally;

@@ -11,7 +11,7 @@ use Rattle.sva_fabric.specs.Journal.{History, IsLegal, world_of}
 use Rattle.sva_fabric.specs.Receipts.{Seat, Stands, new_seat, seats_from}
 
 -- the ports in the order of their numbers
-abbrev pub seats_of : Ports → List Seat
+abbrev pub seats_of : {C : Type 0} → Ports C → List Seat
 seats_of p = p.host ∷ p.link ∷ p.service ∷ (p.endpoints.items ++ p.workers.items)
 
 -- the ports of a config, of which nothing was asked

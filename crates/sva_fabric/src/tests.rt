@@ -179,28 +179,32 @@ fn strays<C: Tally>(rt: &impl Abort, alloc: Global, calls: Blank) -> Result<(), 
     let Ok(mut running) = Running::<C>::open(alloc, CONFIG, book) else {
         return Err("it opens".into());
     };
+    let answer = Ok(Answer::Space { space: 0 });
     let made = Receipt {
         place: 0,
         step: Step::Space,
-        answer: Ok(Answer::Space { space: 0 }),
+        answer,
     };
     // Nothing stands there yet.
+    let strayed = running.step(3, Some(made), &mut share, &Step::Space);
     assert_eq!(rt;
-        running.step(3, Some(made), &mut share, &Step::Space),
+        strayed,
         Err(StepFault::Strayed {
             place: 0,
             found: None
         })
     );
-    assert_eq!(rt; running.step(1, None, &mut share, &Step::Space), Ok(made));
+    let first = running.step(1, None, &mut share, &Step::Space);
+    assert_eq!(rt; first, Ok(made));
     // Another port's call stands there.
+    let strayed = running.step(3, Some(made), &mut share, &Step::Space);
     let found = Entry {
         port: 1,
         step: Step::Space,
-        answer: Ok(Answer::Space { space: 0 }),
+        answer,
     };
     assert_eq!(rt;
-        running.step(3, Some(made), &mut share, &Step::Space),
+        strayed,
         Err(StepFault::Strayed {
             place: 0,
             found: Some(found)

@@ -2,7 +2,7 @@
 -- 10.2.2: the address translation cache of a function).
 use Rattle.std.specs.Prelude.{ℕ, zero, suc, Bool, ◌||◌, not, nat_lt, refl, List, [], ◌∷◌, if◌then◌else◌}
 use Rattle.std.specs.declared.cmp.Ordering.{Ordering}
-use Rattle.std.specs.LinkOrdering.{nat_cmp, then_cmp, on, is_lt}
+use Rattle.std.specs.Ordering.{nat_cmp, then_cmp, on, is_lt}
 use Rattle.std.specs.Cmp.{IsTotalOrder, then_total, on_total, nat_cmp_total}
 use Rattle.std.specs.Coded.{Coded, code_by, coded×, coded_ℕ, coded_bool}
 use Rattle.std.specs.FinMap as finite

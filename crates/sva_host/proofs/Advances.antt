@@ -140,7 +140,7 @@ submitting w e k = (not (has_room (unit_of w e) k), refusal.QueueFull) ∷ numbe
 submits_next : (v : Wire) (n : ℕ) (b : BindingWire) → binding_of v n ≡ Some b → is_quiet b.stage ≡ false → (unit_of v b.endpoint).is_open ≡ true
     → is_due (unit_of v b.endpoint) b.stage ≡ true → (descriptors_of b.stage ≡ 0 → ⊥) → has_open_group (part_of v b.endpoint) b.binding ≡ false
     → unless_refused (causes_of v (step.Advance n)) (course_of (binding_of v n))
-        ≡ unless_refused (submitting v b.endpoint (descriptors_of b.stage)) (course_by b b.stage)
+    ≡ unless_refused (submitting v b.endpoint (descriptors_of b.stage)) (course_by b b.stage)
 submits_next v n b found stays is_open due some closed = opened v n b found stays is_open ∙ go b.stage due some
   where
     go : (s : StageWire) → is_due (unit_of v b.endpoint) s ≡ true → (descriptors_of s ≡ 0 → ⊥)

@@ -15,7 +15,7 @@ pub bearer_seen :
     → bearer (wire w) e ((w.part e).pasid b) ≡ Some (binding_wire w.config.first e (w.part e) b)
 bearer_seen w e b i u =
     find_one w.bindings (λ d. is_unreleased ((w.part (w.endpoint_of d)).stage d))
-        (λ d. binding_wire w.config.first (w.endpoint_of d) (w.part (w.endpoint_of d)) d)
+    (λ d. binding_wire w.config.first (w.endpoint_of d) (w.part (w.endpoint_of d)) d)
     (λ (x : BindingWire). x.endpoint == e && x.pasid == (w.part e).pasid b) b
     (unreleased_made w.bindings (w.part e) b (i.parts e).bounds.stage u)
     (ap (λ x. is_unreleased ((w.part x).stage b)) endpoint_of ∙ u)

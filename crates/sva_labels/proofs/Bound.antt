@@ -25,7 +25,7 @@ bound_is w e s i =
     ∙ ap (option_map (binding_seen w))
     (find_same w.bindings
     (λ b. is_unreleased ((w.part (w.endpoint_of b)).stage b)
-        && (w.endpoint_of b == e && w.config.first + (w.part (w.endpoint_of b)).space b == w.config.first + s))
+    && (w.endpoint_of b == e && w.config.first + (w.part (w.endpoint_of b)).space b == w.config.first + s))
     (λ b. is_unreleased ((w.part e).stage b) && (w.part e).space b == s) (λ b l. same b (ℕ_cases (w.endpoint_of b) e)))
     ∙ go (bound w e s) refl
   where

@@ -96,7 +96,7 @@ pub bindings_same : (w : World) (e : ℕ) (o : LocalAct) → Invariant w → kee
 bindings_same w e o i h =
     select_seen w.bindings _ _ _ _
     (λ b l. same_view (λ p. is_unreleased (p.stage b)) w.part e (part_after w e o) (ap is_unreleased (same_stage (w.part e) w.messages o b h))
-        (w.endpoint_of b))
+    (w.endpoint_of b))
     (λ b l t. same_view (λ p. binding_wire w.config.first (w.endpoint_of b) p b) w.part e (part_after w e o) (kept b) (w.endpoint_of b))
   where
     kept : (b : ℕ) → binding_wire w.config.first (w.endpoint_of b) (part_after w e o) b ≡ binding_wire w.config.first (w.endpoint_of b) (w.part e) b
@@ -227,7 +227,7 @@ bindings_bound w e b s t i legal last endpoint_of =
         map (λ d. binding_wire w.config.first (w.endpoint_of d) ((act w (AtEndpoint e o)).part (w.endpoint_of d)) d)
         (select b (λ d. is_unreleased (((act w (AtEndpoint e o)).part (w.endpoint_of d)).stage d)))
         ≡ map (λ d. binding_wire w.config.first (w.endpoint_of d) (w.part (w.endpoint_of d)) d)
-            (select b (λ d. is_unreleased ((w.part (w.endpoint_of d)).stage d)))
+        (select b (λ d. is_unreleased ((w.part (w.endpoint_of d)).stage d)))
     older =
         select_seen b _ _ _ _
         (λ d l. same_view (λ p. is_unreleased (p.stage d)) w.part e (part_after w e o) (ap is_unreleased (kept d (apart d l)).stage) (w.endpoint_of d))
@@ -240,12 +240,12 @@ bindings_bound w e b s t i legal last endpoint_of =
     before :
         (wire w).bindings
         ≡ map (λ d. binding_wire w.config.first (w.endpoint_of d) (w.part (w.endpoint_of d)) d)
-            (select b (λ d. is_unreleased ((w.part (w.endpoint_of d)).stage d)))
+        (select b (λ d. is_unreleased ((w.part (w.endpoint_of d)).stage d)))
     before =
         ap (λ n. map (λ d. binding_wire w.config.first (w.endpoint_of d) (w.part (w.endpoint_of d)) d)
         (select n (λ d. is_unreleased ((w.part (w.endpoint_of d)).stage d)))) (sym last)
         ∙ select_less b (λ d. is_unreleased ((w.part (w.endpoint_of d)).stage d))
-            (λ d. binding_wire w.config.first (w.endpoint_of d) (w.part (w.endpoint_of d)) d) unbound
+        (λ d. binding_wire w.config.first (w.endpoint_of d) (w.part (w.endpoint_of d)) d) unbound
 
 -- One is released.
 pub bindings_released :
@@ -393,7 +393,7 @@ bindings_stopped w e b i l =
 pub bindings_drained :
     (w : World) (e b : ℕ) → Invariant w → LegalLocalAct w.mappings w.bindings (w.part e) (LocalAct.Drain b w.cookies)
     → (wire (act w (AtEndpoint e (LocalAct.Drain b w.cookies)))).bindings
-        ≡ with_stage (number w.config.first b) (DrainingWire (wire w).next_cookie) (wire w).bindings
+    ≡ with_stage (number w.config.first b) (DrainingWire (wire w).next_cookie) (wire w).bindings
 bindings_drained w e b i l =
     bindings_staged w e (LocalAct.Drain b w.cookies) b (DrainingWire (wire w).next_cookie) i
     (put_stage (w.part e) w.messages (LocalAct.Drain b w.cookies) b (Draining (w.part e).orders) w.config.first (DrainingWire (wire w).next_cookie)

@@ -139,7 +139,7 @@ permitted_seen w c a r l h =
     older :
         (d : ℕ) → d < c → (w.link_of d ≡ e) ⊎ (w.link_of d ≢ e)
         → (is_some ((w.part (w.link_of d)).message d) && holds_back (flight_wire w c) (flight_wire w d))
-            ≡ Labels.holds_back p (Labels.kind_of p a) (p.message d)
+        ≡ Labels.holds_back p (Labels.kind_of p a) (p.message d)
     older d m (inl same) =
         ap (λ x. is_some
         ((w.part x).message d) && (nat_lt (w.config.first + d) (w.config.first + c) && x == e && stays_behind (kind_of (p.carried c))
@@ -147,7 +147,7 @@ permitted_seen w c a r l h =
         ∙ here d m (p.message d) refl
     older d m (inr ne) =
         elsewhere (is_some ((w.part (w.link_of d)).message d)) (w.link_of d) e
-            (stays_behind (kind_of (p.carried c)) (kind_of ((w.part (w.link_of d)).carried d)))
+        (stays_behind (kind_of (p.carried c)) (kind_of ((w.part (w.link_of d)).carried d)))
         (nat_lt (w.config.first + d) (w.config.first + c)) ne
         ∙ sym (none_here d ne (p.message d) refl)
 
@@ -194,7 +194,7 @@ flying_alike w c (Some a) r l h s =
       λ f. (
         ap (λ b. (b && Labels.lacks w w.messages 1, refusal.NumbersSpent))
             (sends_seen w (w.link_of c) c a r ((r.invariant.parts (w.link_of c)).near c (ap is_some h)) h
-                ∙ sym (ap (names.delivery_sends (w.part (w.link_of c))) h)),
+            ∙ sym (ap (names.delivery_sends (w.part (w.link_of c))) h)),
         λ g. tt,
       ),
     )

@@ -61,7 +61,7 @@ pub cache_bound :
 cache_bound ms g n p b s t l ra =
     ap (sorted_by is_before)
     (select_seen p.requests (λ r. is_some (p.held r)) (λ r. is_some (p.held r)) (cached_wire ms p) (cached_wire ms (own p n (LocalAct.Bind b s t)))
-        (λ r m. refl)
+    (λ r m. refl)
     (λ r m h. ap (λ x. record { pasid = x; page = p.request_page r; frame = ms.frame (the (p.held r)); write = ms.write (the (p.held r)) })
     (put-other p.pasid b t (p.request_binding r) (other r m))))
   where

@@ -155,7 +155,7 @@ taken_ended ms n p u la =
         tabulate_set 16 (notes ms p k uses) (notes ms (own p n (LocalAct.End u)) k uses) (p.use_slot u) false
         (ap (holds_of (is_noted ms (own p n (LocalAct.End u)) k uses)) (put-same p.at_slot (p.use_slot u) None))
         (λ y ne. ap (holds_of (is_noted ms (own p n (LocalAct.End u)) k uses)) (put-other p.at_slot (p.use_slot u) None y ne)
-            ∙ old k uses y ne (p.at_slot y) refl)
+        ∙ old k uses y ne (p.at_slot y) refl)
 
     by_state : (k : ℕ) (s : OrderState) → taken_by ms (own p n (LocalAct.End u)) k s ≡ unnoted (p.use_slot u) (taken_by ms p k s)
     by_state k Queued = refl

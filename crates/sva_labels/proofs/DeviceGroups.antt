@@ -110,7 +110,7 @@ groups_opened ms g n p b i q r x l bo gr =
 pub groups_requested :
     (ms : Mappings) (g n : ℕ) (p : Endpoint) (y q : ℕ) (r x l : Bool) → LegalLocalAct ms g p (LocalAct.Request y q r x l) → Groups p
     → groups_wire (own p n (LocalAct.Request y q r x l))
-        ≡ slice_set (groups_wire p) (p.index y) (with_request l (slice_index_or (groups_wire p) (p.index y) None))
+    ≡ slice_set (groups_wire p) (p.index y) (with_request l (slice_index_or (groups_wire p) (p.index y) None))
 groups_requested ms g n p y q r x l le gr =
     row_set 32 (p.index y) p.at_index p.at_index (group_wire p) (group_wire (own p n (LocalAct.Request y q r x l)))
     (with_request l (slice_index_or (groups_wire p) (p.index y) None))

@@ -96,7 +96,7 @@ old_flight w e o c l =
 new_flight :
     (w : World) (e : ℕ) (o : LocalAct) (j : ℕ) → j < sends o
     → flight_wire (act w (AtEndpoint e o)) (w.messages + j)
-        ≡ record { number = number w.config.first w.messages + j; endpoint = e; message = said (w.part e) o }
+    ≡ record { number = number w.config.first w.messages + j; endpoint = e; message = said (w.part e) o }
 new_flight w e o j l =
     let later : w.config.first + (w.messages + j) ≡ w.config.first + w.messages + j = omega arith in
     ap (λ x. record {

@@ -126,7 +126,7 @@ bearer_is w e t i = find_seen (binding_seen w) (λ b. b.endpoint == e && b.pasid
         subst (λ z. (w.part e).at_pasid z ≡ Some b) (ap (λ d. (w.part d).pasid b) (sym endpoint_of) ∙ pasid)
         ((i.parts e).labels.bears_pasid b
         (ap (λ d. is_unreleased ((w.part d).stage b)) (sym endpoint_of)
-            ∙ and_left (is_kept w b) (w.endpoint_of b == e && (w.part (w.endpoint_of b)).pasid b == t) h))
+        ∙ and_left (is_kept w b) (w.endpoint_of b == e && (w.part (w.endpoint_of b)).pasid b == t) h))
 
     one : {a b : ℕ} → Some a ≡ Some b → a ≡ b
     one h = cc
@@ -146,7 +146,7 @@ bearer_is w e t i = find_seen (binding_seen w) (λ b. b.endpoint == e && b.pasid
         (find_only w.bindings (λ b. is_kept w b && (w.endpoint_of b == e && (w.part (w.endpoint_of b)).pasid b == t)) b
         (unreleased_made w.bindings (w.part e) b (i.parts e).bounds.stage la.1)
         (and_both (is_kept w b) (w.endpoint_of b == e && (w.part (w.endpoint_of b)).pasid b == t)
-            (ap (λ d. is_unreleased ((w.part d).stage b)) endpoint_of ∙ la.1)
+        (ap (λ d. is_unreleased ((w.part d).stage b)) endpoint_of ∙ la.1)
         (and_both (w.endpoint_of b == e) ((w.part (w.endpoint_of b)).pasid b == t) (is_same (w.endpoint_of b) e endpoint_of)
         (is_same ((w.part (w.endpoint_of b)).pasid b) t (ap (λ d. (w.part d).pasid b) endpoint_of ∙ la.0))))
         (λ j l k. one (sym (bears j k) ∙ h)))
@@ -171,10 +171,10 @@ bound_there w n i num =
         any_below-intro w.config.endpoints (Labels.is_bound_at w (Labels.name w n)) (w.endpoint_of x.0)
         ((i.parts (w.endpoint_of x.0)).there x.0 (unreleased_bound (w.part (w.endpoint_of x.0)) x.0 kept))
         (any_below-intro w.bindings
-            (λ b. is_unreleased ((w.part (w.endpoint_of x.0)).stage b) && (w.part (w.endpoint_of x.0)).space b == Labels.name w n) x.0 x.1
+        (λ b. is_unreleased ((w.part (w.endpoint_of x.0)).stage b) && (w.part (w.endpoint_of x.0)).space b == Labels.name w n) x.0 x.1
         (and_both (is_kept w x.0) ((w.part (w.endpoint_of x.0)).space x.0 == Labels.name w n) kept
         (is_same ((w.part (w.endpoint_of x.0)).space x.0) (Labels.name w n)
-            (sym (named_back w.config.first n ((w.part (w.endpoint_of x.0)).space x.0) space)))))
+        (sym (named_back w.config.first n ((w.part (w.endpoint_of x.0)).space x.0) space)))))
 
     back : Labels.is_bound w (Labels.name w n) ≡ true → any_below w.bindings (λ b. is_kept w b && w.config.first + (w.part (w.endpoint_of b)).space b == n)
         ≡ true
@@ -188,7 +188,7 @@ bound_there w n i num =
         let endpoint_of : w.endpoint_of y.0 ≡ x.0 = i.homed x.0 y.0 (unreleased_bound (w.part x.0) y.0 kept) in
         any_below-intro w.bindings (λ b. is_kept w b && w.config.first + (w.part (w.endpoint_of b)).space b == n) y.0 y.1
         (and_both (is_kept w y.0) (w.config.first + (w.part (w.endpoint_of y.0)).space y.0 == n)
-            (ap (λ d. is_unreleased ((w.part d).stage y.0)) endpoint_of ∙ kept)
+        (ap (λ d. is_unreleased ((w.part d).stage y.0)) endpoint_of ∙ kept)
         (is_same (w.config.first + (w.part (w.endpoint_of y.0)).space y.0) n
         (ap (λ d. w.config.first + (w.part d).space y.0) endpoint_of ∙ ap (λ z. w.config.first + z) space ∙ num)))
 

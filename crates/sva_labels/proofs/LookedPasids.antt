@@ -107,7 +107,7 @@ pasid_there w e s i r =
         sym (ap (λ o. Labels.or_else o (Labels.lowest_pasid (λ t. not (Labels.is_borne w t))))
         (lowest_only (Labels.is_borne_by w s) ((w.part (w.endpoint_of b)).pasid b) low.0 low.1
         (any_below-intro w.config.endpoints (λ d. holds_of (λ c. (w.part d).space c == s) ((w.part d).at_pasid ((w.part (w.endpoint_of b)).pasid b)))
-            (w.endpoint_of b)
+        (w.endpoint_of b)
         ((i.parts (w.endpoint_of b)).there b (unreleased_bound (w.part (w.endpoint_of b)) b kept))
         (ap (holds_of (λ c. (w.part (w.endpoint_of b)).space c == s)) at ∙ is_same ((w.part (w.endpoint_of b)).space b) s space))
         (λ u g. its_pasid u (borne_by w s u g) b kept space)))

@@ -180,7 +180,7 @@ advance_stages w b i f fi h (Draining wait) e =
     ∷ (
       not ((ap (λ u. is_wait_done u (cookie_number w.config.first ((w.part (w.endpoint_of b)).order wait))) (unit_seen w (w.endpoint_of b) l)
           ∙ drained_there w.config.first w.cookies b wait (w.part (w.endpoint_of b)) (f (w.endpoint_of b))
-              (a_wait ((w.part (w.endpoint_of b)).order wait) d.0) e) k)
+          (a_wait ((w.part (w.endpoint_of b)).order wait) d.0) e) k)
           || ((ap (λ p. has_open_group p (number w.config.first b)) (part_seen w (w.endpoint_of b) l)
           ∙ open_there w.config.first w.bindings b w.mappings (w.part (w.endpoint_of b)) (i.parts (w.endpoint_of b)).bounds (fi (w.endpoint_of b))) k),
       refusal.NotYet,
@@ -222,7 +222,7 @@ advance_says w n i f fi =
       alike =
           of_number w n (advance_causes (wire w))
           (names.advance_refusals w (w.endpoint_of (Labels.name w n)) (Labels.name w n)
-              ((w.part (w.endpoint_of (Labels.name w n))).stage (Labels.name w n))) refl
+          ((w.part (w.endpoint_of (Labels.name w n))).stage (Labels.name w n))) refl
           (λ e.
           alike_same (advance_causes (wire w) (Some (binding_seen w (Labels.name w n))))
           (names.advance_refusals w (w.endpoint_of (Labels.name w n)) (Labels.name w n) ((w.part (w.endpoint_of (Labels.name w n))).stage (Labels.name w n)))

@@ -27,7 +27,7 @@ pasid_low w i k b x =
 pub endpoint_low : (w : World) → Invariant w → (k : ℕ) (b : BindingWire) → IsKeptAt w k b → b.endpoint < length (wire w).parts
 endpoint_low w i k b x =
     let l : w.endpoint_of x.of < w.config.endpoints =
-        (i.parts (w.endpoint_of x.of)).there x.of (unreleased_bound (w.part (w.endpoint_of x.of)) x.of x.passes) in
+    (i.parts (w.endpoint_of x.of)).there x.of (unreleased_bound (w.part (w.endpoint_of x.of)) x.of x.passes) in
     subst (λ n. b.endpoint < n) (sym (endpoints_seen w)) (subst (λ e. e < w.config.endpoints) (sym (ap (λ z. z.endpoint) x.seen)) l)
 
 first_off : (first a b : ℕ) → first + a ≡ first + b → a ≡ b
@@ -54,14 +54,14 @@ pasids_shared w i r j k b d x y = ((λ h. forth h), (λ h. back h))
     forth h =
         space_b
         ∙ ap (λ s. w.config.first + s)
-            ((i.shared r).same_space (w.endpoint_of x.of) (w.endpoint_of y.of) x.of y.of x.passes y.passes (sym pasid_b ∙ h ∙ pasid_d))
+        ((i.shared r).same_space (w.endpoint_of x.of) (w.endpoint_of y.of) x.of y.of x.passes y.passes (sym pasid_b ∙ h ∙ pasid_d))
         ∙ sym space_d
 
     back : b.space ≡ d.space → b.pasid ≡ d.pasid
     back h =
         pasid_b
         ∙ (i.shared r).same_pasid (w.endpoint_of x.of) (w.endpoint_of y.of) x.of y.of x.passes y.passes
-            (first_off w.config.first _ _ (sym space_b ∙ h ∙ space_d))
+        (first_off w.config.first _ _ (sym space_b ∙ h ∙ space_d))
         ∙ sym pasid_d
 
 three_ways : (j k : ℕ) → (j ≡ k) ⊎ ((j < k) ⊎ (k < j))

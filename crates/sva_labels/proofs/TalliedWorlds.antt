@@ -176,7 +176,7 @@ act_bindings w (Unmap s q count order) l i =
     (count_same w.bindings (is_kept (act w (Unmap s q count order))) (is_kept w)
     (λ k l. ap is_unreleased
     (submitted_stage (submits w s (w.endpoint_of k)) (w.part (w.endpoint_of k)) (bound w (w.endpoint_of k) s) q count order
-        (cookie_of w s (w.endpoint_of k)) k)))
+    (cookie_of w s (w.endpoint_of k)) k)))
 act_bindings w NewSpace l i = refl
 act_bindings w (DropSpace s) l i = refl
 act_bindings w (Map s q f x) l i = refl

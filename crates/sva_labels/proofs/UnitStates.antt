@@ -142,10 +142,10 @@ pub unit_finish :
     (ms : Mappings) (g first n next e : ℕ) (p : Endpoint) (names : ℕ → Bool) (vector count : ℕ)
     → LegalLocalAct ms g p (LocalAct.Finish names vector count)
     → unit_wire first (own p n (LocalAct.Finish names vector count))
-        ≡ unit_moved next (unit_wire first p) (own_move first e ms p (LocalAct.Finish names vector count))
+    ≡ unit_moved next (unit_wire first p) (own_move first e ms p (LocalAct.Finish names vector count))
 unit_finish ms g first n next e p names vector count l =
     units_same first p (own p n (LocalAct.Finish names vector count)) (queue_of first p) (busy_of p) (end_number first p.front)
-        (end_number first p.waits_end) refl
+    (end_number first p.waits_end) refl
     (states_queue first p (λ k. owe_if (names k) count (p.order_state k)) (λ k. owe_queued (names k) count (p.order_state k) (l.1 k)))
     (states_busy p (λ k. owe_if (names k) count (p.order_state k)) (λ k. owe_busy (names k) count (p.order_state k) (l.1 k)))
     refl

@@ -66,16 +66,16 @@ act_same w (DropSpace s) l i h = refl
 act_same w (Map s q f x) l i h = refl
 act_same w (Unmap s q count order) l i h =
     count_same w.bindings (λ b. is_unreleased (((act w (Unmap s q count order)).part (w.endpoint_of b)).stage b))
-        (λ b. is_unreleased ((w.part (w.endpoint_of b)).stage b))
+    (λ b. is_unreleased ((w.part (w.endpoint_of b)).stage b))
     (λ b k. ap is_unreleased (submitted_stage (submits w s (w.endpoint_of b)) (w.part (w.endpoint_of b)) (bound w (w.endpoint_of b) s) q count order
-        (cookie_of w s (w.endpoint_of b)) b))
+    (cookie_of w s (w.endpoint_of b)) b))
 act_same w (NewBinding e) l i h = new_unbound w e i
 act_same w (NewJob e g) l i h = refl
 act_same w (Hold x j) l i h = refl
 act_same w (LetGo x) l i h = refl
 act_same w (AtEndpoint e o) l i h =
     count_same w.bindings (λ b. is_unreleased (((act w (AtEndpoint e o)).part (w.endpoint_of b)).stage b))
-        (λ b. is_unreleased ((w.part (w.endpoint_of b)).stage b))
+    (λ b. is_unreleased ((w.part (w.endpoint_of b)).stage b))
     (λ b k. put_keeps (λ x p. (d : ℕ) → is_unreleased (p.stage d) ≡ is_unreleased ((w.part x).stage d)) w.part e (own (w.part e) w.messages o)
     (λ d. stage_same w.mappings w.bindings w.messages (w.part e) o l.1.0 h d) (λ x d. refl) (w.endpoint_of b) b)
 

@@ -79,7 +79,7 @@ next_unmapped w s q f x seen u r h =
 maps_legal : (x e g : ℕ) (code : Code) (s : ℕ) (write : ℕ → Bool) (qs : List ℕ) (seen : ℕ → Bool) (fs : List ℕ) (w : World) → Invariant w
     → w.is_live s ≡ true → ((q : ℕ) → seen q ≡ false → w.mappings.at s q ≡ None) → AreFree w fs
     → LegalAll w (LetGo x ∷ AtEndpoint e (LocalAct.Respond g code) ∷ [])
-        → LegalAll w (maps_to s write (unseen seen qs) fs ++ LetGo x ∷ AtEndpoint e (LocalAct.Respond g code) ∷ [])
+    → LegalAll w (maps_to s write (unseen seen qs) fs ++ LetGo x ∷ AtEndpoint e (LocalAct.Respond g code) ∷ [])
 maps_legal x e g code s write [] seen fs w i l u a rest = rest
 maps_legal x e g code s write (q ∷ qs) seen fs w i l u a rest =
     go (seen q) refl (λ fs' k. maps_legal x e g code s write qs seen fs' w i l u k rest) fs a

@@ -217,7 +217,7 @@ decide_same w (step.Bind e n) r one i = bind_same w e n r one i
 decide_same w (step.Unbind n) r one i =
     both (refusals (by_space w) (step.Unbind n)) (refusals w (step.Unbind n)) (outcome (by_space w) (step.Unbind n)) (outcome w (step.Unbind n))
     (ap (λ z. no_such_binding w n ∷ z)
-        (unbind_refusals_same w (w.endpoint_of (Labels.name w n)) ((w.part (w.endpoint_of (Labels.name w n))).stage (Labels.name w n)))) refl
+    (unbind_refusals_same w (w.endpoint_of (Labels.name w n)) ((w.part (w.endpoint_of (Labels.name w n))).stage (Labels.name w n)))) refl
 decide_same w (step.Advance n) r one i =
     both (refusals (by_space w) (step.Advance n)) (refusals w (step.Advance n)) (outcome (by_space w) (step.Advance n)) (outcome w (step.Advance n))
     (ap (λ z. no_such_binding w n ∷ z)

@@ -170,12 +170,16 @@ outcome_one w (step.Map n q x) h = (0, (tt, tt))
 outcome_one w (step.Unmap n q count) h = absurd (cc)
 outcome_one w (step.UnmapRange n q order) h = absurd (cc)
 outcome_one w (step.Bind e n) h = (e, (tt, (refl, tt)))
-outcome_one w (step.Unbind n) h =
-    (w.endpoint_of (Labels.name w n), unbind_one (w.endpoint_of (Labels.name w n)) (Labels.name w n)
-        ((w.part (w.endpoint_of (Labels.name w n))).stage (Labels.name w n)))
-outcome_one w (step.Advance n) h =
-    (w.endpoint_of (Labels.name w n), advance_one w (w.endpoint_of (Labels.name w n)) (Labels.name w n)
-        ((w.part (w.endpoint_of (Labels.name w n))).stage (Labels.name w n)))
+outcome_one w (step.Unbind n) h = (
+  w.endpoint_of (Labels.name w n),
+  unbind_one (w.endpoint_of (Labels.name w n)) (Labels.name w n)
+      ((w.part (w.endpoint_of (Labels.name w n))).stage (Labels.name w n)),
+)
+outcome_one w (step.Advance n) h = (
+  w.endpoint_of (Labels.name w n),
+  advance_one w (w.endpoint_of (Labels.name w n)) (Labels.name w n)
+      ((w.part (w.endpoint_of (Labels.name w n))).stage (Labels.name w n)),
+)
 outcome_one w (step.Pump e) h = (e, pump_one (w.part e) e (Labels.is_queue_empty (w.part e)))
 outcome_one w (step.Serve e) h = (e, serve_one (w.part e) e (Labels.is_page_queue_empty (w.part e)))
 outcome_one w (step.Reset e) h = (e, (refl, tt))

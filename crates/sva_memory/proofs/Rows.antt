@@ -4,7 +4,7 @@ use Rattle.std.proofs.Common.{arith, add-one, if◌then◌else◌}
 use Rattle.std.specs.Prelude.{◌||◌, filter}
 use Rattle.std.specs.declared.cmp.Ordering.{Ordering}
 use Rattle.std.specs.declared.cmp.Ordering.TheVariants.{Less, Equal, Greater}
-use Rattle.std.specs.LinkOrdering.{nat_cmp, MatchOrdering}
+use Rattle.std.specs.Ordering.{nat_cmp, MatchOrdering}
 use Rattle.std.specs.Cmp.{ranked}
 use Rattle.std.specs.BTreeMap.{is_at}
 use Rattle.std.specs.List.Sorted.{IsStrictlySortedBy}

@@ -168,17 +168,17 @@ pub enum Kind {
 }
 
 impl Kind {
-    ghost use Rattle.sva_msg.specs.Kind.{sort_of, is_ordered};
+    ghost use Rattle.sva_msg.specs.Kind.{kind_of, is_ordered};
 
     fn is_page_request(self) -> bool
-        ensures { result ≡ is_page_request (sort_of self) }
+        ensures { result ≡ is_page_request (kind_of self) }
     {
         matches!(self, Kind::PageRequest(_))
     }
 
     // Whether a start, a stop or a reset must not overtake an older message of this kind.
     fn is_order_down(self) -> bool
-        ensures { result ≡ is_order_down (sort_of self) }
+        ensures { result ≡ is_order_down (kind_of self) }
     {
         match self {
             Kind::Start { .. }
@@ -197,7 +197,7 @@ impl Kind {
 
     // Whether there is an older message that one of this kind must not overtake.
     pub(crate) fn is_ordered(self) -> bool
-        ensures { result ≡ is_ordered (sort_of self) }
+        ensures { result ≡ is_ordered (kind_of self) }
     {
         match self {
             Kind::PageRequest(request) => request.last,
@@ -216,7 +216,7 @@ impl Kind {
 
     // Whether a message of this kind must not overtake an older one of the same endpoint.
     fn stays_behind(self, older: Kind) -> bool
-        ensures { result ≡ stays_behind (sort_of self) (sort_of older) }
+        ensures { result ≡ stays_behind (kind_of self) (kind_of older) }
     {
         match self {
             Kind::PageRequest(request) => request.last && older.is_page_request(),

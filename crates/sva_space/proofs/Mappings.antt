@@ -1,7 +1,7 @@
 use Rattle.std.proofs.Common.{◌≡◌, ℕ, ◌+◌, ◌<◌, ◌==◌, Bool, true, false, cond, List, Option, Some, None, [], ◌∷◌, refl, sym, ap, ◌∙◌, arith, if◌then◌else◌}
 use Rattle.std.specs.declared.cmp.Ordering.{Ordering}
 use Rattle.std.specs.declared.cmp.Ordering.TheVariants.{Less, Equal, Greater}
-use Rattle.std.specs.LinkOrdering.{nat_cmp, eq_by_cmp, match_ordering, MatchOrdering}
+use Rattle.std.specs.Ordering.{nat_cmp, eq_by_cmp, match_ordering, MatchOrdering}
 use Rattle.std.specs.Cmp.{nat_cmp_total, eq_by_cmp_equiv, ranked, unsigned_tied}
 use Rattle.std.specs.BTreeMap.{is_at, insert_entry}
 use Rattle.std.specs.Map.{keys_of}

@@ -4,9 +4,9 @@ use Rattle.std.specs.Prelude.{T, cond, ◌&&◌, ◌||◌, not, ◌==◌, nat_lt
 use Rattle.std.specs.List.{count_by, find as find_by}
 use Rattle.std.specs.declared.cmp.Ordering.{Ordering}
 use Rattle.std.specs.declared.cmp.Ordering.TheVariants.{Less, Equal, Greater}
-use Rattle.std.specs.LinkOrdering.{nat_cmp, eq_by_cmp, ordering_then, is_eq, is_lt, is_gt}
+use Rattle.std.specs.Ordering.{nat_cmp, eq_by_cmp, ordering_then, is_eq, is_lt, is_gt}
 use Rattle.std.specs.Cmp.{ranked}
-use Rattle.std.specs.LinkOrdering.{MatchOrdering}
+use Rattle.std.specs.Ordering.{MatchOrdering}
 use Rattle.std.specs.FinMap as finite
 use Rattle.std.specs.FinMap.{find, put, is_sorted, entries_sorted, entries-from_sorted, entries-insert}
 use Rattle.std.specs.FinMap.Entries.{where_key, below_all, by_order}

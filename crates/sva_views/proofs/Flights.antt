@@ -46,22 +46,22 @@ found_in n (e ∷ es) = ap (λ b. cond b (Some (flight_seen e)) (find (λ f. f.n
 
 -- A message that has to stay behind another.
 
-kind_seen : (kind : Kind) → finding.kind_of (kind_seen kind) ≡ kind_of kind
-kind_seen (Start pasid) = refl
-kind_seen (Stop pasid) = refl
-kind_seen Reset = refl
-kind_seen (Completion tag frame read write) = refl
-kind_seen (Invalidate itag pasid scope) = refl
-kind_seen (Response pasid index code) = refl
-kind_seen (Request tag pasid page) = refl
-kind_seen (Invalidated vector count) = refl
-kind_seen (PageRequest r) = refl
-kind_seen (Marker pasid) = refl
-kind_seen ResetDone = refl
+kind_kept : (kind : Kind) → finding.kind_of (kind_seen kind) ≡ kind_of kind
+kind_kept (Start pasid) = refl
+kind_kept (Stop pasid) = refl
+kind_kept Reset = refl
+kind_kept (Completion tag frame read write) = refl
+kind_kept (Invalidate itag pasid scope) = refl
+kind_kept (Response pasid index code) = refl
+kind_kept (Request tag pasid page) = refl
+kind_kept (Invalidated vector count) = refl
+kind_kept (PageRequest r) = refl
+kind_kept (Marker pasid) = refl
+kind_kept ResetDone = refl
 
 held_seen : (n : ℕ) (sent : Message) (e : Entry) → finding.holds_back (flight_seen (n, sent)) (flight_seen e) ≡ (nat_lt e.0 n && must_follow sent e.1)
 held_seen n sent e =
-    (λ i. (nat_lt e.0 n && flipped sent.endpoint e.1.endpoint i) && stays_behind (kind_seen sent.kind i) (kind_seen e.1.kind i))
+    (λ i. (nat_lt e.0 n && flipped sent.endpoint e.1.endpoint i) && stays_behind (kind_kept sent.kind i) (kind_kept e.1.kind i))
     ∙ in_turn (nat_lt e.0 n) (nat_eq sent.endpoint e.1.endpoint) (stays_behind (kind_of sent.kind) (kind_of e.1.kind))
   where
     in_turn : (a b c : Bool) → ((a && b) && c) ≡ (a && (b && c))

@@ -68,7 +68,7 @@ returns-clause-some g c =
           bad_behind e 3 p.endpoints.items p.workers.items bad.port bad.place each
               (subst (λ (n : ℕ). IsFirstBadOf e (3 + n) p.workers.items bad.port bad.place) many
               (subst (λ (ss : List Seat). IsFirstBadOf e
-                  (3 + length c.as_slice-endpoints.result.now) ss bad.port bad.place) c.as_slice-workers.ensures.value rest)),
+              (3 + length c.as_slice-endpoints.result.now) ss bad.port bad.place) c.as_slice-workers.ensures.value rest)),
         ),
       ),
     ))

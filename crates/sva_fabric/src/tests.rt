@@ -170,6 +170,14 @@ fn three_threads_at_once(rt: HostRuntime) -> Result<(), Fail> {
     looks::<Brand, _>(&rt, rt.alloc(), Blank::new(ports_of(&CONFIG)))
 }
 
+fn made() -> Receipt {
+    Receipt {
+        place: 0,
+        step: Step::Space,
+        answer: Ok(Answer::Space { space: 0 }),
+    }
+}
+
 fn strays<C: Tally>(rt: &impl Abort, alloc: Global, calls: Blank) -> Result<(), Fail>
     requires name { calls.name ≡ C.name }
     requires parts { (calls.parts ≡ C.parts) × (calls.parts ≡ 6) }
@@ -179,14 +187,8 @@ fn strays<C: Tally>(rt: &impl Abort, alloc: Global, calls: Blank) -> Result<(), 
     let Ok(mut running) = Running::<C>::open(alloc, CONFIG, book) else {
         return Err("it opens".into());
     };
-    let answer = Ok(Answer::Space { space: 0 });
-    let made = Receipt {
-        place: 0,
-        step: Step::Space,
-        answer,
-    };
     // Nothing stands there yet.
-    let strayed = running.step(3, Some(made), &mut share, &Step::Space);
+    let strayed = running.step(3, Some(made()), &mut share, &Step::Space);
     assert_eq!(rt;
         strayed,
         Err(StepFault::Strayed {
@@ -195,22 +197,21 @@ fn strays<C: Tally>(rt: &impl Abort, alloc: Global, calls: Blank) -> Result<(), 
         })
     );
     let first = running.step(1, None, &mut share, &Step::Space);
-    assert_eq!(rt; first, Ok(made));
+    let wanted = Ok(made());
+    assert_eq!(rt; first, wanted);
     // Another port's call stands there.
-    let strayed = running.step(3, Some(made), &mut share, &Step::Space);
+    let strayed = running.step(3, Some(made()), &mut share, &Step::Space);
     let found = Entry {
         port: 1,
         step: Step::Space,
-        answer,
+        answer: Ok(Answer::Space { space: 0 }),
     };
-    assert_eq!(rt;
-        strayed,
-        Err(StepFault::Strayed {
-            place: 0,
-            found: Some(found)
-        })
-    );
-    assert!(rt; running.step(1, Some(made), &mut share, &Step::Space).is_ok());
+    let wanted = Err(StepFault::Strayed {
+        place: 0,
+        found: Some(found),
+    });
+    assert_eq!(rt; strayed, wanted);
+    assert!(rt; running.step(1, Some(made()), &mut share, &Step::Space).is_ok());
     running.compare(&mut share);
     Ok(())
 }

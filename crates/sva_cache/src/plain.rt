@@ -23,13 +23,13 @@ pub struct Scanned {
 }
 
 impl Scanned {
-    pub fn new() -> Self {
+    pub(crate) fn new() -> Self {
         Scanned {
             entries: ArrayVec::new(),
         }
     }
 
-    pub fn get(&self, pasid: u64, page: u64) -> Option<Translation> {
+    pub(crate) fn get(&self, pasid: u64, page: u64) -> Option<Translation> {
         for entry in self.entries.as_slice() {
             if entry.is_of(pasid, page) {
                 return Some(entry.translation);
@@ -38,12 +38,12 @@ impl Scanned {
         None
     }
 
-    pub fn has_room_for(&self, pasid: u64, page: u64) -> bool {
+    pub(crate) fn has_room_for(&self, pasid: u64, page: u64) -> bool {
         self.get(pasid, page).is_some() || self.entries.len() < CACHED
     }
 
     // One for which there is no room isn't kept.
-    pub fn insert(&mut self, pasid: u32, page: u64, translation: Translation) {
+    pub(crate) fn insert(&mut self, pasid: u32, page: u64, translation: Translation) {
         self.remove(u64::from(pasid), page);
         let _ = self.entries.try_push(Entry {
             pasid,
@@ -52,11 +52,11 @@ impl Scanned {
         });
     }
 
-    pub fn remove(&mut self, pasid: u64, page: u64) {
+    pub(crate) fn remove(&mut self, pasid: u64, page: u64) {
         self.entries.retain(|entry| !entry.is_of(pasid, page));
     }
 
-    pub fn remove_covered(&mut self, invalidation: &Invalidation) {
+    pub(crate) fn remove_covered(&mut self, invalidation: &Invalidation) {
         self.entries
             .retain(|entry| !invalidation.covers(entry.pasid, entry.page));
     }

@@ -29,7 +29,7 @@ impl BitSet {
     ghost use Rattle.sva_frames.specs.Numbers.{has};
 
     /// The empty set with room for the numbers below a bound, a word for each 64 of them.
-    pub fn open(alloc: Global, bound: u32) -> Result<BitSet, AllocError>
+    pub(crate) fn open(alloc: Global, bound: u32) -> Result<BitSet, AllocError>
         ensures { IfOk result (λ set. set ≡ replicate ((bound + 63) / 64) 0) }
     {
         let words = (bound as usize + (WORD - 1)) / WORD;
@@ -39,14 +39,14 @@ impl BitSet {
     }
 
     /// How many words there are.
-    pub fn len(&self) -> usize
+    pub(crate) fn len(&self) -> usize
         ensures { result ≡ length self.now }
     {
         self.words.len()
     }
 
     /// Whether no number of the word at a place is in the set.
-    pub fn is_empty_at(&self, place: usize) -> bool
+    pub(crate) fn is_empty_at(&self, place: usize) -> bool
         requires { place < length self.now }
         ensures { result ≡ (slice_index self.now place == 0) }
     {
@@ -54,7 +54,7 @@ impl BitSet {
     }
 
     /// Enters a number, or takes it out.
-    pub fn put(&mut self, number: usize, is_in: bool)
+    pub(crate) fn put(&mut self, number: usize, is_in: bool)
         requires { number / 64 < length self.old }
         ensures same { has self.new number ≡ cond is_in 1 0 }
         ensures others { (other : ℕ) → other ≢ number → has self.new other ≡ has self.old other }
@@ -67,7 +67,7 @@ impl BitSet {
     }
 
     /// The lowest number of the word at a place, if any of them is in the set.
-    pub fn lowest_at(&self, place: usize) -> Option<usize>
+    pub(crate) fn lowest_at(&self, place: usize) -> Option<usize>
         requires { place < length self.now }
         ensures none { IfNone result (slice_index self.now place ≡ 0) }
         ensures some { IfSome result (λ lowest. (lowest / 64 ≡ place) × (has self.now lowest ≡ 1)
@@ -78,7 +78,7 @@ impl BitSet {
     }
 
     /// The lowest number, if there is one. It looks at one word after the other.
-    pub fn lowest(&self) -> Option<usize>
+    pub(crate) fn lowest(&self) -> Option<usize>
         ensures none { IfNone result ((number : ℕ) → has self.now number ≡ 0) }
         ensures some { IfSome result (λ lowest. (has self.now lowest ≡ 1) × ((number : ℕ) → number < lowest → has self.now number ≡ 0)) }
     {

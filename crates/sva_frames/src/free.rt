@@ -27,7 +27,7 @@ impl FreeSet {
     ghost use Rattle.sva_frames.specs.Numbers.{has};
 
     /// All numbers below a bound.
-    pub fn below(alloc: Global, bound: u32) -> Result<FreeSet, AllocError>
+    pub(crate) fn below(alloc: Global, bound: u32) -> Result<FreeSet, AllocError>
         ensures below { IfOk result (λ set. (number : ℕ) → number < bound → has set number ≡ 1) }
         ensures above { IfOk result (λ set. (number : ℕ) → bound ≤ number → has set number ≡ 0) }
         ensures room { IfOk result (λ set. bound ≤ 64 * length set) }
@@ -50,7 +50,7 @@ impl FreeSet {
     }
 
     /// Enters a number, or takes it out.
-    pub fn put(&mut self, number: usize, is_in: bool)
+    pub(crate) fn put(&mut self, number: usize, is_in: bool)
         requires { number / 64 < length self.old }
         ensures same { has self.new number ≡ cond is_in 1 0 }
         ensures others { (other : ℕ) → other ≢ number → has self.new other ≡ has self.old other }
@@ -63,7 +63,7 @@ impl FreeSet {
     }
 
     /// The lowest number, if there is one.
-    pub fn lowest(&self) -> Option<usize>
+    pub(crate) fn lowest(&self) -> Option<usize>
         ensures none { IfNone result ((number : ℕ) → has self.now number ≡ 0) }
         ensures some { IfSome result (λ lowest. (has self.now lowest ≡ 1) × ((number : ℕ) → number < lowest → has self.now number ≡ 0)) }
     {

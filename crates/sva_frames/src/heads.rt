@@ -48,7 +48,7 @@ impl Heads {
     ghost use Rattle.sva_frames.specs.Chains.{first_at, HasPlace};
 
     /// No chain at all.
-    pub fn new() -> Heads
+    pub(crate) fn new() -> Heads
         ensures empty { (target : Target) → first_at result target ≡ None }
     {
         Heads {
@@ -58,7 +58,7 @@ impl Heads {
     }
 
     /// The first frame of the chain of a target, if it has one.
-    pub fn first(&self, target: Target) -> Option<u32>
+    pub(crate) fn first(&self, target: Target) -> Option<u32>
         ensures first { result ≡ first_at self.now target }
         ensures apart { AreApart self.now.pending }
     {
@@ -72,7 +72,7 @@ impl Heads {
     }
 
     /// Whether a target may get a first frame.
-    pub fn has_place(&self, target: Target) -> bool
+    pub(crate) fn has_place(&self, target: Target) -> bool
         ensures place { IsTrue result ↔ HasPlace self.now target }
         ensures apart { AreApart self.now.pending }
     {
@@ -84,7 +84,7 @@ impl Heads {
     }
 
     /// Some target that has a chain.
-    pub fn any(&self) -> Option<Target>
+    pub(crate) fn any(&self) -> Option<Target>
         ensures none { IfNone result ((target : Target) → first_at self.now target ≡ None) }
         ensures some { IfSome result (λ target. (frame : ℕ) × (first_at self.now target ≡ Some frame)) }
     {
@@ -98,7 +98,7 @@ impl Heads {
     }
 
     /// Makes this the first frame of the chain of a target, or ends the chain.
-    pub fn set(&mut self, target: Target, first: Option<u32>)
+    pub(crate) fn set(&mut self, target: Target, first: Option<u32>)
         requires { HasPlace self.old target }
         ensures here { first_at self.new target ≡ first }
         ensures others { (other : Target) → other ≢ target → first_at self.new other ≡ first_at self.old other }

@@ -39,7 +39,7 @@ impl Model for Lane {
 
 impl Lane {
     /// That where none of so many frames waits for anything.
-    pub fn open(alloc: Global, frames: u32) -> Result<Lane, AllocError>
+    pub(crate) fn open(alloc: Global, frames: u32) -> Result<Lane, AllocError>
         ensures { IfOk result (λ lane. lane ≡ replicate frames None) }
     {
         let unlinked = Cell {
@@ -53,7 +53,7 @@ impl Lane {
     }
 
     /// Whether one frame more may wait for a target, if there is one.
-    pub fn has_room(&self, target: Option<Target>) -> bool
+    pub(crate) fn has_room(&self, target: Option<Target>) -> bool
         ensures { IsTrue result ↔ IfSome target (HasRoom self.now) }
     {
         let _cells = &self.cells;
@@ -64,7 +64,7 @@ impl Lane {
     }
 
     /// Lets a frame that waits for nothing here wait for a target: it becomes the first of the target's chain.
-    pub fn push(&mut self, frame: u32, target: Target)
+    pub(crate) fn push(&mut self, frame: u32, target: Target)
         requires here { slice_get self.old frame ≡ Some None }
         requires room { HasRoom self.old target }
         ensures { self.new ≡ slice_set self.old frame (Some target) }
@@ -78,7 +78,7 @@ impl Lane {
     }
 
     /// Lets a frame that waits for nothing here wait for a target, if there is one, and tells how many that are.
-    pub fn enter(&mut self, frame: u32, target: Option<Target>) -> u8
+    pub(crate) fn enter(&mut self, frame: u32, target: Option<Target>) -> u8
         requires here { slice_get self.old frame ≡ Some None }
         requires room { IfSome target (HasRoom self.old) }
         ensures after { self.new ≡ slice_set self.old frame target }
@@ -95,7 +95,7 @@ impl Lane {
 
     /// Takes the first frame off the chain of a target, and tells which it is: it waits for nothing here any more.
     /// `None` where no frame waits for the target.
-    pub fn pop(&mut self, target: Target) -> Option<u32>
+    pub(crate) fn pop(&mut self, target: Target) -> Option<u32>
         ensures none { IfNone result ((frame : ℕ) → slice_get self.old frame ≡ Some (Some target) → ⊥) }
         ensures kept { IfNone result (self.new ≡ self.old) }
         ensures some { IfSome result (λ frame. slice_get self.old frame ≡ Some (Some target)) }
@@ -117,7 +117,7 @@ impl Lane {
     ghost use Rattle.sva_frames.specs.Chains.{IsWanted};
 
     /// Some target that a frame waits for.
-    pub fn any_target(&self) -> Option<Target>
+    pub(crate) fn any_target(&self) -> Option<Target>
         ensures none { IfNone result ((frame : ℕ) (target : Target) → slice_get self.now frame ≡ Some (Some target) → ⊥) }
         ensures some { IfSome result (λ target. (frame : ℕ) × (slice_get self.now frame ≡ Some (Some target))) }
     {
@@ -126,7 +126,7 @@ impl Lane {
     }
 
     /// Takes the first frame off the chain of the wanted target, or of any, and tells which it is.
-    pub fn pop_wanted(&mut self, wanted: Option<Target>) -> Option<u32>
+    pub(crate) fn pop_wanted(&mut self, wanted: Option<Target>) -> Option<u32>
         ensures none { IfNone result ((frame : ℕ) (target : Target) → IsWanted wanted target → slice_get self.old frame ≡ Some (Some target) → ⊥) }
         ensures kept { IfNone result (self.new ≡ self.old) }
         ensures some { IfSome result (λ frame. (target : Target) × IsWanted wanted target × (slice_get self.old frame ≡ Some (Some target))) }
@@ -141,7 +141,7 @@ impl Lane {
 }
 
 /// Lets a frame that waits for nothing wait for a target at each lane, if there is one, and tells how many these are.
-pub fn enter_all(lanes: &mut [Lane], frame: u32, targets: &[Option<Target>]) -> u8
+pub(crate) fn enter_all(lanes: &mut [Lane], frame: u32, targets: &[Option<Target>]) -> u8
     requires units { length lanes.old ≡ length targets.now }
     requires few { length targets.now < 256 }
     requires here { (unit : ℕ) (lane : List (Option Target)) → slice_get lanes.old unit ≡ Some lane → slice_get lane frame ≡ Some None }

@@ -17,7 +17,7 @@ impl Stage {
     ghost use Rattle.sva_frames.specs.Stages.{is_free_stage, is_mapped_stage, is_withheld_stage, lowered, stage_of, stage_place};
 
     /// That of a frame which is in no space and still waits at so many units.
-    pub fn of(left: u8) -> Stage
+    pub(crate) fn of(left: u8) -> Stage
         ensures { result ≡ stage_of left }
     {
         if left == 0 {
@@ -28,7 +28,7 @@ impl Stage {
     }
 
     /// That once one of its waits is settled.
-    pub fn lowered(self) -> Stage
+    pub(crate) fn lowered(self) -> Stage
         ensures { result ≡ lowered self }
     {
         match self {
@@ -39,7 +39,7 @@ impl Stage {
     }
 
     /// Where its frame is.
-    pub fn place(self) -> Place
+    pub(crate) fn place(self) -> Place
         ensures { result ≡ stage_place self }
     {
         match self {
@@ -50,21 +50,21 @@ impl Stage {
     }
 
     /// Whether its frame is in the pool, to be taken.
-    pub fn is_free(self) -> bool
+    pub(crate) fn is_free(self) -> bool
         ensures { result ≡ is_free_stage self }
     {
         matches!(self, Stage::Free)
     }
 
     /// Whether its frame was handed out.
-    pub fn is_mapped(self) -> bool
+    pub(crate) fn is_mapped(self) -> bool
         ensures { result ≡ is_mapped_stage self }
     {
         matches!(self, Stage::Mapped)
     }
 
     /// Whether its frame waits at some unit.
-    pub fn is_withheld(self) -> bool
+    pub(crate) fn is_withheld(self) -> bool
         ensures { result ≡ is_withheld_stage self }
     {
         matches!(self, Stage::Withheld(_))
@@ -98,7 +98,7 @@ impl Ledger {
     ghost use Rattle.sva_frames.specs.Stages.{is_free_stage, is_mapped_stage, is_withheld_stage};
 
     /// That of so many free frames.
-    pub fn open(alloc: Global, frames: u32) -> Result<Ledger, AllocError>
+    pub(crate) fn open(alloc: Global, frames: u32) -> Result<Ledger, AllocError>
         ensures { IfOk result (λ ledger. ledger ≡ replicate frames Free) }
     {
         let free = FreeSet::below(alloc, frames)?;
@@ -114,14 +114,14 @@ impl Ledger {
     }
 
     /// How many frames there are.
-    pub fn len(&self) -> usize
+    pub(crate) fn len(&self) -> usize
         ensures { result ≡ length self.now }
     {
         self.stages.len()
     }
 
     /// The stage of a frame.
-    pub fn get(&self, frame: usize) -> Stage
+    pub(crate) fn get(&self, frame: usize) -> Stage
         requires { frame < length self.now }
         ensures { slice_get self.now frame ≡ Some result }
     {
@@ -129,7 +129,7 @@ impl Ledger {
     }
 
     /// Brings a frame to a stage.
-    pub fn set(&mut self, frame: usize, stage: Stage)
+    pub(crate) fn set(&mut self, frame: usize, stage: Stage)
         requires { frame < length self.old }
         ensures { self.new ≡ slice_set self.old frame stage }
     {
@@ -142,7 +142,7 @@ impl Ledger {
     }
 
     /// The lowest frame that is free.
-    pub fn first_free(&self) -> Option<usize>
+    pub(crate) fn first_free(&self) -> Option<usize>
         ensures { result ≡ position is_free_stage self.now }
     {
         let _stages = &self.stages;
@@ -150,7 +150,7 @@ impl Ledger {
     }
 
     /// How many frames are at each place.
-    pub fn counts(&self) -> Counts
+    pub(crate) fn counts(&self) -> Counts
         ensures free { result.free ≡ count_by is_free_stage self.now }
         ensures mapped { result.mapped ≡ count_by is_mapped_stage self.now }
         ensures withheld { result.withheld ≡ count_by is_withheld_stage self.now }

@@ -66,7 +66,7 @@ pub struct PlainPool {
 }
 
 impl PlainPool {
-    pub fn open(alloc: Global, frames: u32) -> Result<PlainPool, AllocError> {
+    pub(crate) fn open(alloc: Global, frames: u32) -> Result<PlainPool, AllocError> {
         let mut slots = Vec::new(alloc);
         for frame in 0..frames {
             slots.push(Slot::Free)?;
@@ -74,7 +74,7 @@ impl PlainPool {
         Ok(PlainPool { slots })
     }
 
-    pub fn take(&mut self) -> Option<usize> {
+    pub(crate) fn take(&mut self) -> Option<usize> {
         for number in 0..self.slots.len() {
             if self.slots[number].place() == Place::Free {
                 self.slots[number] = Slot::Mapped;
@@ -84,35 +84,35 @@ impl PlainPool {
         None
     }
 
-    pub fn give(&mut self, number: usize) {
+    pub(crate) fn give(&mut self, number: usize) {
         if number < self.slots.len() {
             self.slots[number] = Slot::Free;
         }
     }
 
-    pub fn withhold(&mut self, number: usize, waits: Vec<Wait>) {
+    pub(crate) fn withhold(&mut self, number: usize, waits: Vec<Wait>) {
         if number < self.slots.len() {
             self.slots[number] = Slot::after_waits(waits);
         }
     }
 
-    pub fn settle(&mut self, unit: u64, cookie: u64) {
+    pub(crate) fn settle(&mut self, unit: u64, cookie: u64) {
         for slot in &mut self.slots {
             slot.settle_cookie(unit, cookie);
         }
     }
 
-    pub fn settle_all(&mut self, unit: u64) {
+    pub(crate) fn settle_all(&mut self, unit: u64) {
         for slot in &mut self.slots {
             slot.settle_unit(unit);
         }
     }
 
-    pub fn place(&self, number: usize) -> Option<Place> {
+    pub(crate) fn place(&self, number: usize) -> Option<Place> {
         Some(self.slots.get(number)?.place())
     }
 
-    pub fn counts(&self) -> Counts {
+    pub(crate) fn counts(&self) -> Counts {
         let mut counts = Counts {
             free: 0,
             mapped: 0,

@@ -10,7 +10,7 @@ use sva_step::{Config, Step};
 
 /// The config that a line writes.
 #[tactic(auto, unfolding(crate::specs::Grammar::config_of))]
-pub fn config_in(words: &Words<'_>) -> Result<Config, Cause>
+pub(crate) fn config_in(words: &Words<'_>) -> Result<Config, Cause>
     ensures { result ≡ config_of words.now }
 {
     if words.begins_with(b"config") {
@@ -40,7 +40,7 @@ fn counts_in(words: &Words<'_>) -> Result<Config, Cause>
 
 /// The step that a line writes: one of spaces, frames or PASIDs, or else one of the others.
 #[tactic(auto, unfolding(crate::specs::Grammar::step_of))]
-pub fn step_in(words: &Words<'_>) -> Result<Step, Cause>
+pub(crate) fn step_in(words: &Words<'_>) -> Result<Step, Cause>
     ensures { result ≡ step_of words.now }
 {
     if words.begins_with(b"space") {

@@ -2,6 +2,7 @@
 use crate::faults::Cause;
 use crate::forms::step_in;
 use crate::words::Words;
+use std::process::Abort;
 use sva_step::{Step, Verdict};
 
 /// The step that a line writes, or why it can't be read.
@@ -9,107 +10,183 @@ fn read(line: &str) -> Result<Step, Cause> {
     step_in(&Words::new(line.as_bytes()))
 }
 
-/// A map of page 16 of space 2.
-fn mapped(write: bool) -> Step {
-    let (space, page) = (2, 16);
-    Step::Map { space, page, write }
+/// Each line writes its step.
+fn read_all<R: Abort>(rt: &R, lines: &[(&str, Step)]) {
+    for (line, step) in lines {
+        assert!(rt; read(line) == Ok(*step), "{line}");
+    }
 }
 
-/// An unmapping of so many pages of space 2, from page 16 on.
-fn unmapped(count: u64) -> Step {
-    let (space, page) = (2, 16);
-    Step::Unmap { space, page, count }
+/// Each line is refused for this cause.
+fn refuse_all<R: Abort>(rt: &R, lines: &[&str], cause: Cause) {
+    for line in lines {
+        assert!(rt; read(line) == Err(cause), "{line}");
+    }
 }
+
+/// Of space 2 and its page 16.
+static STEPS_OF_SPACES: [(&str, Step); 9] = [
+    ("space", Step::Space),
+    ("drop 2", Step::DropSpace { space: 2 }),
+    (
+        "map 2 16 w",
+        Step::Map {
+            space: 2,
+            page: 16,
+            write: true,
+        },
+    ),
+    (
+        "map 2 16 r",
+        Step::Map {
+            space: 2,
+            page: 16,
+            write: false,
+        },
+    ),
+    (
+        "unmap 2 16",
+        Step::Unmap {
+            space: 2,
+            page: 16,
+            count: 1,
+        },
+    ),
+    (
+        "unmap 2 16 48",
+        Step::Unmap {
+            space: 2,
+            page: 16,
+            count: 48,
+        },
+    ),
+    (
+        "unmapr 2 16 4",
+        Step::UnmapRange {
+            space: 2,
+            page: 16,
+            order: 4,
+        },
+    ),
+    ("look 5", Step::Look { frame: 5 }),
+    ("bearer 32", Step::Bearer { pasid: 32 }),
+];
 
 #[test]
 fn reads_steps_of_spaces(rt: HostRuntime) {
-    let (space, page, order) = (2, 16, 4);
-    let lines = [
-        ("space", Step::Space),
-        ("drop 2", Step::DropSpace { space }),
-        ("map 2 16 w", mapped(true)),
-        ("map 2 16 r", mapped(false)),
-        ("unmap 2 16", unmapped(1)),
-        ("unmap 2 16 48", unmapped(48)),
-        ("unmapr 2 16 4", Step::UnmapRange { space, page, order }),
-        ("look 5", Step::Look { frame: 5 }),
-        ("bearer 32", Step::Bearer { pasid: 32 }),
-    ];
-    for (line, step) in lines {
-        assert_eq!(rt; read(line), Ok(step), "{line}");
-    }
+    read_all(&rt, &STEPS_OF_SPACES);
 }
+
+/// Of endpoint 1, space 2, binding 3 and worker 0.
+static STEPS_OF_BINDINGS: [(&str, Step); 7] = [
+    (
+        "bind 1 2",
+        Step::Bind {
+            endpoint: 1,
+            space: 2,
+        },
+    ),
+    ("unbind 3", Step::Unbind { binding: 3 }),
+    ("advance 3", Step::Advance { binding: 3 }),
+    ("pump 1", Step::Pump { endpoint: 1 }),
+    ("serve 1", Step::Serve { endpoint: 1 }),
+    ("reset 1", Step::Reset { endpoint: 1 }),
+    ("take 0", Step::Take { worker: 0 }),
+];
 
 #[test]
 fn reads_steps_of_bindings(rt: HostRuntime) {
-    let (endpoint, space, binding, worker) = (1, 2, 3, 0);
-    let lines = [
-        ("bind 1 2", Step::Bind { endpoint, space }),
-        ("unbind 3", Step::Unbind { binding }),
-        ("advance 3", Step::Advance { binding }),
-        ("pump 1", Step::Pump { endpoint }),
-        ("serve 1", Step::Serve { endpoint }),
-        ("reset 1", Step::Reset { endpoint }),
-        ("take 0", Step::Take { worker }),
-    ];
-    for (line, step) in lines {
-        assert_eq!(rt; read(line), Ok(step), "{line}");
-    }
+    read_all(&rt, &STEPS_OF_BINDINGS);
 }
 
-/// A use of page 16 under PASID 32 at endpoint 1.
-fn used(write: bool) -> Step {
-    let (endpoint, pasid, page) = (1, 32, 16);
-    Step::BeginUse {
-        endpoint,
-        pasid,
-        page,
-        write,
-    }
-}
+/// Of endpoint 1 and its PASID 32.
+static STEPS_OF_ENDPOINTS: [(&str, Step); 7] = [
+    (
+        "ask 1 32 16",
+        Step::Ask {
+            endpoint: 1,
+            pasid: 32,
+            page: 16,
+        },
+    ),
+    (
+        "use 1 32 16 r",
+        Step::BeginUse {
+            endpoint: 1,
+            pasid: 32,
+            page: 16,
+            write: false,
+        },
+    ),
+    (
+        "use 1 32 16 w",
+        Step::BeginUse {
+            endpoint: 1,
+            pasid: 32,
+            page: 16,
+            write: true,
+        },
+    ),
+    (
+        "end 1 15",
+        Step::EndUse {
+            endpoint: 1,
+            slot: 15,
+        },
+    ),
+    (
+        "evict 1 32 16",
+        Step::Evict {
+            endpoint: 1,
+            pasid: 32,
+            page: 16,
+        },
+    ),
+    (
+        "quit 1 32",
+        Step::Quit {
+            endpoint: 1,
+            pasid: 32,
+        },
+    ),
+    (
+        "deliver 18446744073709551615",
+        Step::Deliver { message: u64::MAX },
+    ),
+];
 
 #[test]
 fn reads_steps_of_endpoints(rt: HostRuntime) {
-    let (endpoint, pasid, page) = (1, 32, 16);
-    let ask = Step::Ask {
-        endpoint,
-        pasid,
-        page,
-    };
-    let evict = Step::Evict {
-        endpoint,
-        pasid,
-        page,
-    };
-    let message = u64::MAX;
-    let lines = [
-        ("ask 1 32 16", ask),
-        ("use 1 32 16 r", used(false)),
-        ("use 1 32 16 w", used(true)),
-        ("end 1 15", Step::EndUse { endpoint, slot: 15 }),
-        ("evict 1 32 16", evict),
-        ("quit 1 32", Step::Quit { endpoint, pasid }),
-        ("deliver 18446744073709551615", Step::Deliver { message }),
-    ];
-    for (line, step) in lines {
-        assert_eq!(rt; read(line), Ok(step), "{line}");
-    }
+    read_all(&rt, &STEPS_OF_ENDPOINTS);
 }
+
+static REPLIES: [(&str, Step); 3] = [
+    (
+        "answer 3 success",
+        Step::Reply {
+            worker: 3,
+            verdict: Verdict::Success,
+        },
+    ),
+    (
+        "answer 3 invalid",
+        Step::Reply {
+            worker: 3,
+            verdict: Verdict::Invalid,
+        },
+    ),
+    (
+        "answer 3 failure",
+        Step::Reply {
+            worker: 3,
+            verdict: Verdict::Failure,
+        },
+    ),
+];
 
 #[test]
 fn reads_replies(rt: HostRuntime) {
-    let verdicts = [
-        ("answer 3 success", Verdict::Success),
-        ("answer 3 invalid", Verdict::Invalid),
-        ("answer 3 failure", Verdict::Failure),
-    ];
-    for (line, verdict) in verdicts {
-        assert_eq!(rt;
-            read(line),
-            Ok(Step::Reply { worker: 3, verdict }),
-            "{line}"
-        );
-    }
+    read_all(&rt, &REPLIES);
 }
 
 #[test]
@@ -130,7 +207,7 @@ fn reads_page_requests(rt: HostRuntime) {
             group,
             last,
         };
-        assert_eq!(rt; read(line), Ok(step), "{line}");
+        assert!(rt; read(line) == Ok(step), "{line}");
     }
 }
 
@@ -151,12 +228,12 @@ fn reads_vectors(rt: HostRuntime) {
             vector,
             count: 2,
         };
-        assert_eq!(rt; read(line), Ok(step), "{line}");
+        assert!(rt; read(line) == Ok(step), "{line}");
     }
 }
 
 /// Lines with a word too few or too many. What their words are, is asked later.
-const WRONG_COUNTS: [&str; 50] = [
+static WRONG_COUNTS: [&str; 50] = [
     "space 0",
     "space ",
     "drop",
@@ -211,13 +288,11 @@ const WRONG_COUNTS: [&str; 50] = [
 
 #[test]
 fn tells_wrong_counts(rt: HostRuntime) {
-    for line in WRONG_COUNTS {
-        assert_eq!(rt; read(line), Err(Cause::WordCount), "{line}");
-    }
+    refuse_all(&rt, &WRONG_COUNTS, Cause::WordCount);
 }
 
 /// Lines with a word that is no number, in each place of one.
-const BAD_NUMBERS: [&str; 39] = [
+static BAD_NUMBERS: [&str; 39] = [
     "drop x",
     "map x 16 w",
     "map 0 +16 w",
@@ -261,65 +336,61 @@ const BAD_NUMBERS: [&str; 39] = [
 
 #[test]
 fn tells_bad_numbers(rt: HostRuntime) {
-    for line in BAD_NUMBERS {
-        assert_eq!(rt; read(line), Err(Cause::BadWord), "{line}");
-    }
+    refuse_all(&rt, &BAD_NUMBERS, Cause::BadWord);
 }
 
 /// A line with another word in the place of an access, a verdict, flags, a group, its last request or a vector.
+static BAD_WORDS: [&str; 29] = [
+    "map 0 16 rw",
+    "map 0 16 W",
+    "answer 0 maybe",
+    "answer 0 Success",
+    "answer 0 ",
+    "answer success 0",
+    "use 0 1 16 rw",
+    "use 0 1 16 x",
+    "use 0 1 16 ",
+    "fault 0 1 16 wr new last",
+    "fault 0 1 16 x new last",
+    "fault 0 1 16  new last",
+    "fault 0 1 16 r old last",
+    "fault 0 1 16 r New last",
+    "fault 0 1 16 r 01 last",
+    "fault 0 1 16 r  last",
+    "fault 0 1 16 r new first",
+    "fault 0 1 16 r new ",
+    "fault 0 1 16 r last new",
+    "finish 0 0000000B 1",
+    "finish 0 1 1",
+    "finish 0 0000001 1",
+    "finish 0 000000001 1",
+    "finish 0 0000000g 1",
+    "finish 0 +0000001 1",
+    "finish 0 0x000001 1",
+    "finish 0  1",
+    "finish 0 0000000` 1",
+    "finish 0 0000000: 1",
+];
+
 #[test]
 fn tells_bad_words(rt: HostRuntime) {
-    let lines = [
-        "map 0 16 rw",
-        "map 0 16 W",
-        "answer 0 maybe",
-        "answer 0 Success",
-        "answer 0 ",
-        "answer success 0",
-        "use 0 1 16 rw",
-        "use 0 1 16 x",
-        "use 0 1 16 ",
-        "fault 0 1 16 wr new last",
-        "fault 0 1 16 x new last",
-        "fault 0 1 16  new last",
-        "fault 0 1 16 r old last",
-        "fault 0 1 16 r New last",
-        "fault 0 1 16 r 01 last",
-        "fault 0 1 16 r  last",
-        "fault 0 1 16 r new first",
-        "fault 0 1 16 r new ",
-        "fault 0 1 16 r last new",
-        "finish 0 0000000B 1",
-        "finish 0 1 1",
-        "finish 0 0000001 1",
-        "finish 0 000000001 1",
-        "finish 0 0000000g 1",
-        "finish 0 +0000001 1",
-        "finish 0 0x000001 1",
-        "finish 0  1",
-        "finish 0 0000000` 1",
-        "finish 0 0000000: 1",
-    ];
-    for line in lines {
-        assert_eq!(rt; read(line), Err(Cause::BadWord), "{line}");
-    }
+    refuse_all(&rt, &BAD_WORDS, Cause::BadWord);
 }
+
+static UNKNOWN_STEPS: [&str; 10] = [
+    "",
+    " ",
+    "config 1 4 1",
+    "Bind 0 0",
+    "bindr 0 0",
+    "reply 0 success",
+    "begin 0 1 16 r",
+    "unmap\r 0 16",
+    " deliver 0",
+    "deliver\t0",
+];
 
 #[test]
 fn tells_unknown_steps(rt: HostRuntime) {
-    let lines = [
-        "",
-        " ",
-        "config 1 4 1",
-        "Bind 0 0",
-        "bindr 0 0",
-        "reply 0 success",
-        "begin 0 1 16 r",
-        "unmap\r 0 16",
-        " deliver 0",
-        "deliver\t0",
-    ];
-    for line in lines {
-        assert_eq!(rt; read(line), Err(Cause::UnknownStep), "{line}");
-    }
+    refuse_all(&rt, &UNKNOWN_STEPS, Cause::UnknownStep);
 }

@@ -23,57 +23,89 @@ fn long_text(alloc: Global, lines: usize, line: &[u8]) -> Result<Vec<u8>, AllocE
     Ok(text)
 }
 
+static FAULTS: [(&str, &str); 15] = [
+    (" config 1 4 1", "line 1 NoConfig"),
+    ("configs 1 4 1", "line 1 NoConfig"),
+    ("config 1 4", "line 1 WordCount"),
+    ("config 1 4 1 ", "line 1 WordCount"),
+    ("config 007 4 1", "line 1 BadWord"),
+    ("config 00 4 1", "line 1 BadWord"),
+    ("config +1 4 1", "line 1 BadWord"),
+    ("config 18446744073709551615 4 1", "ok"),
+    ("config 1 4 1\nconfig 1 4 1", "line 2 UnknownStep"),
+    ("config 1 4 1\nspase", "line 2 UnknownStep"),
+    ("config 1 4 1\nspace\r", "line 2 UnknownStep"),
+    ("config 1 4 1\nspace ", "line 2 WordCount"),
+    ("config 1 4 1\nmap 0 x", "line 2 WordCount"),
+    ("config 1 4 1\nmap 0 x w", "line 2 BadWord"),
+    ("#\n\nconfig 1 4 1\n# a\nspace 1\nspase", "line 5 WordCount"),
+];
+
+/// Does `parse` end so, without a last line feed and with one?
+fn ends_both_ways(alloc: Global, text: &str, want: &str) -> Result<bool, AllocError> {
+    let mut lines = Vec::from_slice(alloc, text.as_bytes())?;
+    let is_same = ends(alloc, lines.as_slice(), want)?;
+    lines.push(b'\n')?;
+    Ok(is_same && ends(alloc, lines.as_slice(), want)?)
+}
+
 #[test]
 fn tells_the_first_fault(rt: HostRuntime) -> Result<(), Fail> {
-    let alloc = rt.alloc();
-    let faults = [
-        (" config 1 4 1", "line 1 NoConfig"),
-        ("configs 1 4 1", "line 1 NoConfig"),
-        ("config 1 4", "line 1 WordCount"),
-        ("config 1 4 1 ", "line 1 WordCount"),
-        ("config 007 4 1", "line 1 BadWord"),
-        ("config 00 4 1", "line 1 BadWord"),
-        ("config +1 4 1", "line 1 BadWord"),
-        ("config 18446744073709551615 4 1", "ok"),
-        ("config 1 4 1\nconfig 1 4 1", "line 2 UnknownStep"),
-        ("config 1 4 1\nspase", "line 2 UnknownStep"),
-        ("config 1 4 1\nspace\r", "line 2 UnknownStep"),
-        ("config 1 4 1\nspace ", "line 2 WordCount"),
-        ("config 1 4 1\nmap 0 x", "line 2 WordCount"),
-        ("config 1 4 1\nmap 0 x w", "line 2 BadWord"),
-        ("#\n\nconfig 1 4 1\n# a\nspace 1\nspase", "line 5 WordCount"),
-    ];
-    for (text, want) in faults {
-        let mut ended = Vec::from_slice(alloc, text.as_bytes())?;
-        ended.push(b'\n')?;
-        assert!(rt; ends(alloc, text.as_bytes(), want)?, "{want}");
-        assert!(rt; ends(alloc, ended.as_slice(), want)?, "{want}, ended");
+    for (text, want) in &FAULTS {
+        assert!(rt; ends_both_ways(rt.alloc(), text, want)?, "{want}");
     }
-    assert!(rt; ends(alloc, b"config 1 4 1\nmap 0 \xff w", "line 2 BadWord")?);
-    assert!(rt; ends(alloc, b"", "line 1 NoConfig")?);
-    assert!(rt; ends(alloc, b"\n", "line 2 NoConfig")?);
     Ok(())
+}
+
+/// Bytes that are no UTF-8, and texts with no line or an empty one.
+#[test]
+fn tells_of_odd_bytes(rt: HostRuntime) -> Result<(), Fail> {
+    let texts = [
+        (b"config 1 4 1\nmap 0 \xff w".as_slice(), "line 2 BadWord"),
+        (b"".as_slice(), "line 1 NoConfig"),
+        (b"\n".as_slice(), "line 2 NoConfig"),
+    ];
+    for (text, want) in texts {
+        assert!(rt; ends(rt.alloc(), text, want)?, "{want}");
+    }
+    Ok(())
+}
+
+/// 13 bytes, 65,534 lines of 16 bytes and one of 19: 1,048,576 bytes in 65,536 lines.
+fn largest_text(alloc: Global) -> Result<Vec<u8>, AllocError> {
+    let mut text = long_text(alloc, 65_534, b"#23456789012345\n")?;
+    text.extend_from_slice(b"#23456789012345678\n")?;
+    Ok(text)
 }
 
 #[test]
 fn tells_a_large_text(rt: HostRuntime) -> Result<(), Fail> {
-    let alloc = rt.alloc();
-    // 13 bytes, 65,534 lines of 16 bytes and one of 19: 1,048,576 bytes in 65,536 lines.
-    let mut full = long_text(alloc, 65_534, b"#23456789012345\n")?;
-    full.extend_from_slice(b"#23456789012345678\n")?;
-    assert_eq!(rt; full.len(), 1_048_576);
-    assert!(rt; ends(alloc, full.as_slice(), "ok")?);
-    full.push(b'#')?;
-    assert!(rt; ends(alloc, full.as_slice(), "line 0 TooLarge")?);
-    let no_config = vec![in alloc; b'\n'; 65_536]?;
-    assert!(rt; ends(alloc, no_config.as_slice(), "line 65537 NoConfig")?);
-    let many_lines = long_text(alloc, 65_536, b"#\n")?;
-    assert!(rt; ends(alloc, many_lines.as_slice(), "line 0 TooLarge")?);
-    let many_faults = long_text(alloc, 65_536, b"spase\n")?;
-    assert!(rt; ends(alloc, many_faults.as_slice(), "line 0 TooLarge")?);
-    let many_steps = long_text(alloc, 65_535, b"map 0 16 w\n")?;
-    let scenario = parse(alloc, many_steps.as_slice()).ok().ok_or("a fault")?;
-    assert_eq!(rt; scenario.steps.len(), 65_535);
+    let mut text = largest_text(rt.alloc())?;
+    assert!(rt; text.len() == 1_048_576 && ends(rt.alloc(), text.as_slice(), "ok")?);
+    text.push(b'#')?;
+    assert!(rt; ends(rt.alloc(), text.as_slice(), "line 0 TooLarge")?);
+    Ok(())
+}
+
+#[test]
+fn tells_many_lines(rt: HostRuntime) -> Result<(), Fail> {
+    for line in ["#\n", "spase\n"] {
+        let text = long_text(rt.alloc(), 65_536, line.as_bytes())?;
+        assert!(rt;
+            ends(rt.alloc(), text.as_slice(), "line 0 TooLarge")?,
+            "{line}"
+        );
+    }
+    let text = vec![in rt.alloc(); b'\n'; 65_536]?;
+    assert!(rt; ends(rt.alloc(), text.as_slice(), "line 65537 NoConfig")?);
+    Ok(())
+}
+
+#[test]
+fn keeps_the_most_steps(rt: HostRuntime) -> Result<(), Fail> {
+    let text = long_text(rt.alloc(), 65_535, b"map 0 16 w\n")?;
+    let scenario = parse(rt.alloc(), text.as_slice()).ok().ok_or("a fault")?;
+    assert!(rt; scenario.steps.len() == 65_535);
     Ok(())
 }
 

@@ -26,21 +26,21 @@ impl<'a> Model for Words<'a> {
 impl<'a> Words<'a> {
     ghost use Rattle.sva_grammar.specs.Grammar.{words_of};
 
-    pub fn new(line: &'a [u8]) -> Self
+    pub(crate) fn new(line: &'a [u8]) -> Self
         ensures { result ≡ words_of line.now }
     {
         Words { line }
     }
 
     /// How many words the line has.
-    pub fn len(&self) -> usize
+    pub(crate) fn len(&self) -> usize
         ensures { result ≡ length self.now }
     {
         self.line.split(|byte| *byte == b' ').count()
     }
 
     /// The word at a place, or the empty word where there is none.
-    pub fn word(&self, place: usize) -> &'a [u8]
+    pub(crate) fn word(&self, place: usize) -> &'a [u8]
         ensures { result.now ≡ word place self.now }
     {
         let mut words = self.line.split(|byte| *byte == b' ');
@@ -48,14 +48,14 @@ impl<'a> Words<'a> {
     }
 
     /// Is this the line's first word?
-    pub fn begins_with(&self, name: &[u8]) -> bool
+    pub(crate) fn begins_with(&self, name: &[u8]) -> bool
         ensures { result ≡ bytes_eq (word 0 self.now) name.now }
     {
         self.word(0) == name
     }
 
     /// `WordCount` unless the line has so many words.
-    pub fn exactly(&self, count: usize) -> Result<(), Cause>
+    pub(crate) fn exactly(&self, count: usize) -> Result<(), Cause>
         ensures { result ≡ has_words count self.now }
     {
         if self.len() == count {
@@ -66,7 +66,7 @@ impl<'a> Words<'a> {
     }
 
     /// `WordCount` unless the line has one of two numbers of words.
-    pub fn either(&self, count: usize, other: usize) -> Result<(), Cause>
+    pub(crate) fn either(&self, count: usize, other: usize) -> Result<(), Cause>
         ensures { result ≡ has_words_or count other self.now }
     {
         let len = self.len();
@@ -78,7 +78,7 @@ impl<'a> Words<'a> {
     }
 
     /// The number that the word at a place writes, or `BadWord`.
-    pub fn number(&self, place: usize) -> Result<u64, Cause>
+    pub(crate) fn number(&self, place: usize) -> Result<u64, Cause>
         ensures { result ≡ number (word place self.now) }
     {
         number_in(self.word(place))
@@ -86,7 +86,7 @@ impl<'a> Words<'a> {
 
     /// The number of a line that has one word beside its name.
     #[tactic(auto, unfolding(crate::specs::Grammar::one_number))]
-    pub fn one_number(&self) -> Result<u64, Cause>
+    pub(crate) fn one_number(&self) -> Result<u64, Cause>
         ensures { result ≡ one_number self.now }
     {
         self.exactly(2)?;
@@ -94,42 +94,42 @@ impl<'a> Words<'a> {
     }
 
     /// Whether the word at a place allows writing, or `BadWord`.
-    pub fn access(&self, place: usize) -> Result<bool, Cause>
+    pub(crate) fn access(&self, place: usize) -> Result<bool, Cause>
         ensures { result ≡ access (word place self.now) }
     {
         access_in(self.word(place))
     }
 
     /// The bits R and W that the word at a place writes, or `BadWord`.
-    pub fn flags(&self, place: usize) -> Result<(bool, bool), Cause>
+    pub(crate) fn flags(&self, place: usize) -> Result<(bool, bool), Cause>
         ensures { result ≡ flags (word place self.now) }
     {
         flags_in(self.word(place))
     }
 
     /// The group that the word at a place names, none for a new one, or `BadWord`.
-    pub fn group(&self, place: usize) -> Result<Option<u64>, Cause>
+    pub(crate) fn group(&self, place: usize) -> Result<Option<u64>, Cause>
         ensures { result ≡ group (word place self.now) }
     {
         group_in(self.word(place))
     }
 
     /// Whether the word at a place says that a page request is the last of its group, or `BadWord`.
-    pub fn is_last(&self, place: usize) -> Result<bool, Cause>
+    pub(crate) fn is_last(&self, place: usize) -> Result<bool, Cause>
         ensures { result ≡ is_last (word place self.now) }
     {
         last_in(self.word(place))
     }
 
     /// What a worker decides by the word at a place, or `BadWord`.
-    pub fn verdict(&self, place: usize) -> Result<Verdict, Cause>
+    pub(crate) fn verdict(&self, place: usize) -> Result<Verdict, Cause>
         ensures { result ≡ verdict (word place self.now) }
     {
         verdict_in(self.word(place))
     }
 
     /// The vector that the word at a place writes, or `BadWord`.
-    pub fn vector(&self, place: usize) -> Result<u32, Cause>
+    pub(crate) fn vector(&self, place: usize) -> Result<u32, Cause>
         ensures { result ≡ vector (word place self.now) }
     {
         vector_in(self.word(place))

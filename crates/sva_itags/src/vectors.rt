@@ -12,7 +12,7 @@ pub fn is_tag_named(vector: u32, tag: usize) -> bool
 
 /// The vector with one tag more, which is above all tags that it names.
 #[tactic(auto, using(crate::proofs::VectorLemmas::or_above))]
-pub fn with_bit(vector: u32, tag: usize, named: bool) -> u32
+pub(crate) fn with_bit(vector: u32, tag: usize, named: bool) -> u32
     requires within { tag < 32 }
     requires above { vector < 2 ^ tag }
     ensures { result ≡ (if named then vector + 2 ^ tag else vector) }

@@ -33,7 +33,7 @@ fn is_known(space: &Space, listed: &[u64], page: u64) -> bool
 }
 
 /// The pages that are asked for and aren't mapped, each once, in order of first filing.
-pub fn new_pages(space: &Space, asks: &[Ask]) -> ArrayVec<u64, MOST_ASKED>
+pub(crate) fn new_pages(space: &Space, asks: &[Ask]) -> ArrayVec<u64, MOST_ASKED>
     requires { length asks.now ≤ 32 }
     ensures { result.items ≡ new_among (pages_seen space.now) (asks_seen asks.now) }
 {
@@ -72,7 +72,7 @@ fn writes_read_only(space: &Space, asks: &[Ask]) -> bool
 }
 
 /// Whether the pages that are asked for may be mapped: the first of `BadVerdict`, `NoFrame` and `SpaceFull` that refuses it.
-pub fn may_map_all(space: &Space, pool: &FramePool, asks: &[Ask]) -> Result<(), Refusal>
+pub(crate) fn may_map_all(space: &Space, pool: &FramePool, asks: &[Ask]) -> Result<(), Refusal>
     requires { length asks.now ≤ 32 }
     ensures { result ≡ verdict (success_causes (pages_seen space.now) (places_seen pool.now) (asks_seen asks.now)) }
 {
@@ -116,7 +116,7 @@ fn map_new(
 
 /// Maps the pages that are asked for and aren't mapped, in order of first filing, to the lowest free frames in turn, each to be
 /// written if a request asks for that. Gives these pages. Where there is no memory for one of them, nothing changes.
-pub fn map_all(
+pub(crate) fn map_all(
     space: &mut Space,
     pool: &mut FramePool,
     asks: &[Ask],
@@ -143,7 +143,7 @@ pub fn map_all(
 }
 
 /// Takes pages out of a space, the last first, those of them that are mapped: their frames are free.
-pub fn take_back(space: &mut Space, pool: &mut FramePool, pages: &[u64])
+pub(crate) fn take_back(space: &mut Space, pool: &mut FramePool, pages: &[u64])
     requires { Owns space.old pool.old }
     ensures pages { pages_seen space.new ≡ pages_back pages.now (pages_seen space.old) }
     ensures places { places_seen pool.new ≡ places_back pages.now (pages_seen space.old) (places_seen pool.old) }

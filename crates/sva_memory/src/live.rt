@@ -12,7 +12,7 @@ pub struct Live {
 }
 
 /// Where the space of this number stands.
-pub fn place_of(lives: &[Live], number: u64) -> Option<usize>
+pub(crate) fn place_of(lives: &[Live], number: u64) -> Option<usize>
     ensures { result ≡ position (is_of number) lives.now }
 {
     lives.iter().position(|live| live.number == number)

@@ -17,7 +17,7 @@ use sva_step::{Answer, FrameList, MOST_ORDER, MOST_PAGES, PAGES, Refusal};
 pub const MOST_MAPPED: usize = 1024;
 
 /// Maps a page to the lowest free frame.
-pub fn map_page(
+pub(crate) fn map_page(
     space: &mut Space,
     pool: &mut FramePool,
     page: u64,
@@ -49,7 +49,7 @@ pub fn map_page(
 }
 
 /// Whether `count` pages in a row may be taken out of a space.
-pub fn may_unmap(space: &Space, page: u64, count: u64) -> Result<(), Refusal>
+pub(crate) fn may_unmap(space: &Space, page: u64, count: u64) -> Result<(), Refusal>
     ensures { result ≡ verdict (unmap_causes (pages_seen space.now) page count) }
 {
     if count < 1 || count > MOST_PAGES as u64 {
@@ -79,7 +79,7 @@ fn are_mapped(space: &Space, page: u64, count: u64) -> bool
 
 /// Takes `count` pages in a row out of a space where each of them is mapped. Their frames are withheld for these waits, and
 /// free where there are none.
-pub fn take_out(
+pub(crate) fn take_out(
     space: &mut Space,
     pool: &mut FramePool,
     page: u64,
@@ -110,7 +110,7 @@ pub fn take_out(
 }
 
 /// Whether a range of 2^`order` pages may be taken out of a space, those of them that are mapped.
-pub fn may_unmap_range(space: &Space, page: u64, order: u64) -> Result<(), Refusal>
+pub(crate) fn may_unmap_range(space: &Space, page: u64, order: u64) -> Result<(), Refusal>
     ensures { result ≡ verdict (range_causes (pages_seen space.now) page order) }
 {
     if order > u64::from(MOST_ORDER) {
@@ -141,7 +141,7 @@ fn is_some_mapped(space: &Space, page: u64, count: u64) -> bool
 
 /// Takes those of `count` pages in a row that are mapped out of a space, and answers how many they are. Their frames are
 /// withheld for these waits, and free where there are none.
-pub fn take_mapped(
+pub(crate) fn take_mapped(
     space: &mut Space,
     pool: &mut FramePool,
     page: u64,
@@ -168,7 +168,7 @@ pub fn take_mapped(
 }
 
 /// Ends a space: its frames are given back, and are free.
-pub fn give_all(mut space: Space, pool: &mut FramePool)
+pub(crate) fn give_all(mut space: Space, pool: &mut FramePool)
     requires { Owns space pool.old }
     ensures places { places_seen pool.new ≡ placed FreeWire (pages_seen space) (places_seen pool.old) }
     ensures spent { Spent space pool.old pool.new }

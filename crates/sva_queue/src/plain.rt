@@ -25,7 +25,7 @@ pub struct Unit {
 
 impl Unit {
     /// An open unit with an empty queue; all its tags are free.
-    pub fn new() -> Self {
+    pub(crate) fn new() -> Self {
         Unit {
             queue: ArrayVec::new(),
             tags: Itags::new(),
@@ -36,7 +36,7 @@ impl Unit {
     }
 
     /// Puts all of the descriptors at the end of the queue, or none where they don't fit.
-    pub fn submit(&mut self, descriptors: &[Descriptor]) -> Result<(), QueueFull> {
+    pub(crate) fn submit(&mut self, descriptors: &[Descriptor]) -> Result<(), QueueFull> {
         match self.queue.try_extend_from_slice(descriptors) {
             Ok(()) => Ok(()),
             Err(_) => Err(QueueFull),
@@ -44,27 +44,27 @@ impl Unit {
     }
 
     /// How many descriptors fit in beside those that are queued.
-    pub fn room(&self) -> usize {
+    pub(crate) fn room(&self) -> usize {
         self.queue.remaining_capacity()
     }
 
     /// The descriptor that is next.
-    pub fn head(&self) -> Option<Descriptor> {
+    pub(crate) fn head(&self) -> Option<Descriptor> {
         self.queue.first().copied()
     }
 
     /// Whether the unit is in no reset.
-    pub fn is_open(&self) -> bool {
+    pub(crate) fn is_open(&self) -> bool {
         self.is_open
     }
 
     /// The number after the greatest cookie that was taken, or that a reset made void which has ended.
-    pub fn front(&self) -> u64 {
+    pub(crate) fn front(&self) -> u64 {
         self.front
     }
 
     /// What `pump` would answer.
-    pub fn next(&self, prq_empty: bool) -> Pumped {
+    pub(crate) fn next(&self, prq_empty: bool) -> Pumped {
         match self.head() {
             None => Pumped::Idle,
             Some(Descriptor::Wait { cookie, drain }) => {
@@ -84,7 +84,7 @@ impl Unit {
     }
 
     /// Takes the head off where it can go.
-    pub fn pump(&mut self, prq_empty: bool) -> Pumped {
+    pub(crate) fn pump(&mut self, prq_empty: bool) -> Pumped {
         let answer = self.next(prq_empty);
         match answer {
             Pumped::Issued(_) => {
@@ -101,17 +101,17 @@ impl Unit {
     }
 
     /// A completion has arrived. Gives the vector of the tags that it completes.
-    pub fn arrived(&mut self, vector: u32, count: Count) -> u32 {
+    pub(crate) fn arrived(&mut self, vector: u32, count: Count) -> u32 {
         self.tags.arrived(vector, count)
     }
 
     /// The vector of the busy tags.
-    pub fn busy(&self) -> u32 {
+    pub(crate) fn busy(&self) -> u32 {
         self.tags.busy()
     }
 
     /// A reset of the function begins.
-    pub fn begin_reset(&mut self) {
+    pub(crate) fn begin_reset(&mut self) {
         for descriptor in &self.queue {
             if let Descriptor::Wait { cookie, .. } = *descriptor {
                 self.void = larger(self.void, cookie.wrapping_add(1));
@@ -122,7 +122,7 @@ impl Unit {
     }
 
     /// The reset has ended.
-    pub fn end_reset(&mut self) {
+    pub(crate) fn end_reset(&mut self) {
         self.tags.clear();
         self.front = larger(self.front, self.void);
         self.is_open = true;

@@ -31,7 +31,7 @@ impl Model for Ring {
 
 impl Ring {
     /// An empty queue.
-    pub fn new() -> Self
+    pub(crate) fn new() -> Self
         ensures { result ≡ [] }
     {
         Ring {
@@ -42,14 +42,14 @@ impl Ring {
     }
 
     /// How many of the 64 places are free.
-    pub fn room(&self) -> usize
+    pub(crate) fn room(&self) -> usize
         ensures { result + length self.now ≡ 64 }
     {
         PLACES - self.len
     }
 
     /// The first descriptor, if there is one.
-    pub fn first(&self) -> Option<Descriptor>
+    pub(crate) fn first(&self) -> Option<Descriptor>
         ensures { result ≡ slice_get self.now 0 }
     {
         if self.len == 0 {
@@ -60,7 +60,7 @@ impl Ring {
     }
 
     /// Puts a descriptor behind the last one.
-    pub fn push(&mut self, descriptor: Descriptor)
+    pub(crate) fn push(&mut self, descriptor: Descriptor)
         requires { length self.old < 64 }
         ensures { self.new ≡ self.old ++ descriptor ∷ [] }
     {
@@ -70,7 +70,7 @@ impl Ring {
     }
 
     /// Puts descriptors behind the last one, in their order.
-    pub fn extend(&mut self, descriptors: &[Descriptor])
+    pub(crate) fn extend(&mut self, descriptors: &[Descriptor])
         requires { length self.old + length descriptors.now ≤ 64 }
         ensures { self.new ≡ self.old ++ descriptors.now }
     {
@@ -80,7 +80,7 @@ impl Ring {
     }
 
     /// Takes the first descriptor out; nothing where there is none.
-    pub fn drop_first(&mut self)
+    pub(crate) fn drop_first(&mut self)
         ensures { self.new ≡ drop 1 self.old }
     {
         if self.len > 0 {
@@ -90,7 +90,7 @@ impl Ring {
     }
 
     /// Takes all descriptors out.
-    pub fn clear(&mut self)
+    pub(crate) fn clear(&mut self)
         ensures { self.new ≡ [] }
     {
         self.len = 0;

@@ -14,7 +14,7 @@ use sva_step::{Answer, Refusal};
 
 /// Writes the line of a step: its answer, or its refusal. What stands in `line` is lost. Want of memory comes before
 /// anything is written.
-pub fn write_reply<W: Write>(
+pub(crate) fn write_reply<W: Write>(
     line: &mut Vec<u8>,
     reply: &Result<Answer, Refusal>,
     writer: &mut Told<W>,
@@ -38,7 +38,7 @@ pub fn write_reply<W: Write>(
 }
 
 /// Writes the line of a line fault.
-pub fn write_fault<W: Write>(
+pub(crate) fn write_fault<W: Write>(
     line: &mut Vec<u8>,
     fault: &LineFault,
     writer: &mut Told<W>,
@@ -57,7 +57,7 @@ pub fn write_fault<W: Write>(
 }
 
 /// Writes the line of a check: `steps K`.
-pub fn write_steps<W: Write>(
+pub(crate) fn write_steps<W: Write>(
     line: &mut Vec<u8>,
     count: usize,
     writer: &mut Told<W>,
@@ -76,7 +76,7 @@ pub fn write_steps<W: Write>(
 }
 
 /// Writes the last line, that of the counts.
-pub fn write_counts<W: Write>(
+pub(crate) fn write_counts<W: Write>(
     line: &mut Vec<u8>,
     free: u32,
     mapped: u32,

@@ -11,7 +11,7 @@ const PLACES: usize = 64;
 
 /// The invalidations of `count` ranges of 2^order pages, 0 to 63 of them, one behind another from `page` on, and the wait
 /// behind them.
-pub fn orders_for(
+pub(crate) fn orders_for(
     pasid: u32,
     page: u64,
     count: u64,

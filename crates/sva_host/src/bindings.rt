@@ -4,10 +4,10 @@ ghost use Rattle.std.specs.Prelude.{◌≢◌, Err};
 ghost use Rattle.sva_step.specs.declared.refusals.Refusal.TheVariants as refusal;
 ghost use Rattle.sva_step.specs.declared.steps.Step.TheVariants as step;
 ghost use Rattle.sva_labels.specs.Sound.{IsSound};
-ghost use Rattle.sva_host.specs.Steps.{ByLabels, MayStep};
+ghost use Rattle.sva_kept.specs.Steps.{ByLabels, MayStep};
 
 use crate::host::Host;
-use crate::sending::send;
+use sva_kept::send;
 use sva_msg::Kind;
 use sva_step::{Answer, NUMBERS, PASIDS, Refusal};
 
@@ -17,22 +17,22 @@ impl Host {
         ensures { MayStep self.now (step.Bind endpoint space) result }
     {
         let at = self.port(endpoint)?;
-        if !self.memory.has_space(space) {
+        if !self.kept.memory.has_space(space) {
             return Err(Refusal::NoSuchSpace);
         }
-        if !self.ports[at].unit.is_open() {
+        if !self.kept.ports[at].unit.is_open() {
             return Err(Refusal::Resetting);
         }
-        if self.bindings.place_between(endpoint, space).is_some() {
+        if self.kept.bindings.place_between(endpoint, space).is_some() {
             return Err(Refusal::AlreadyBound);
         }
-        if self.bindings.lowest(space).is_none() {
+        if self.kept.bindings.lowest(space).is_none() {
             return Err(Refusal::NoPasid);
         }
-        if self.next_binding >= NUMBERS {
+        if self.kept.next_binding >= NUMBERS {
             return Err(Refusal::NumbersSpent);
         }
-        if self.in_flight.left() == 0 {
+        if self.kept.in_flight.left() == 0 {
             return Err(Refusal::NumbersSpent);
         }
         Ok(())
@@ -45,15 +45,15 @@ impl Host {
         ensures { ByLabels self.old (step.Bind endpoint space) result self.new }
     {
         self.may_bind(endpoint, space)?;
-        let binding = self.next_binding;
-        let Ok(pasid) = self.bindings.begin(endpoint, space, binding) else {
+        let binding = self.kept.next_binding;
+        let Ok(pasid) = self.kept.bindings.begin(endpoint, space, binding) else {
             return Err(Refusal::OutOfMemory);
         };
-        if send(&mut self.in_flight, endpoint, Kind::Start { pasid }, 1).is_err() {
-            self.bindings.take_back(binding);
+        if send(&mut self.kept.in_flight, endpoint, Kind::Start { pasid }, 1).is_err() {
+            self.kept.bindings.take_back(binding);
             return Err(Refusal::OutOfMemory);
         }
-        self.next_binding += 1;
+        self.kept.next_binding += 1;
         Ok(Answer::Binding { binding, pasid })
     }
 
@@ -69,7 +69,7 @@ impl Host {
         if pasid > u64::from(PASIDS) {
             return Err(Refusal::BadPasid);
         }
-        match self.bindings.bearer(pasid as u32) {
+        match self.kept.bindings.bearer(pasid as u32) {
             None => Ok(Answer::NoBearer),
             Some(bearer) => Ok(Answer::Bearer {
                 space: bearer.space,

@@ -5,8 +5,8 @@ ghost use Rattle.sva_step.specs.declared.refusals.Refusal.TheVariants as refusal
 ghost use Rattle.sva_step.specs.declared.steps.Step.TheVariants as step;
 ghost use Rattle.sva_labels.specs.Sound.{IsSound};
 ghost use Rattle.sva_msg.specs.declared.messages.Kind.TheVariants as kind;
-ghost use Rattle.sva_host.specs.Arriving.{IsArriving};
-ghost use Rattle.sva_host.specs.Steps.{ByLabels};
+ghost use Rattle.sva_kept.specs.Arriving.{IsArriving};
+ghost use Rattle.sva_kept.specs.Steps.{ByLabels};
 
 use crate::host::Host;
 use sva_itags::Count;
@@ -28,12 +28,12 @@ impl Host {
         ensures step { ByLabels self.old (step.Deliver message) result self.new }
         ensures memory { result ≢ Err refusal.OutOfMemory }
     {
-        let _taken = self.in_flight.deliver(message);
+        let _taken = self.kept.in_flight.deliver(message);
         let at = endpoint as usize;
-        if !self.ports[at].unit.is_open() {
+        if !self.kept.ports[at].unit.is_open() {
             return Ok(Answer::Dropped);
         }
-        let freed = self.ports[at]
+        let freed = self.kept.ports[at]
             .unit
             .complete(vector, Count::from_field(count.get()));
         Ok(Answer::Freed { count: freed as u8 })

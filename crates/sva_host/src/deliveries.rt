@@ -6,8 +6,8 @@ ghost use Rattle.sva_step.specs.declared.steps.Step.TheVariants as step;
 ghost use Rattle.sva_labels.specs.Finding.{flight_of};
 ghost use Rattle.sva_labels.specs.Sound.{IsSound};
 ghost use Rattle.sva_views.specs.Flights.{kind_seen};
-ghost use Rattle.sva_host.specs.Arriving.{IsArriving, answers};
-ghost use Rattle.sva_host.specs.Steps.{ByLabels, IsDown};
+ghost use Rattle.sva_kept.specs.Arriving.{IsArriving, answers};
+ghost use Rattle.sva_kept.specs.Steps.{ByLabels, IsDown};
 
 use crate::host::Host;
 use sva_msg::{Kind, Message};
@@ -22,10 +22,10 @@ impl Host {
         ensures step { ByLabels self.old (step.Deliver message) result self.new }
         ensures memory { answers self.old (flight_of self.old message) ≡ false → result ≢ Err refusal.OutOfMemory }
     {
-        let Some(sent) = self.in_flight.get(message) else {
+        let Some(sent) = self.kept.in_flight.get(message) else {
             return Err(Refusal::NoSuchMessage);
         };
-        if !self.in_flight.may_deliver(message) {
+        if !self.kept.in_flight.may_deliver(message) {
             return Err(Refusal::Overtakes);
         }
         let endpoint = sent.endpoint;
@@ -55,10 +55,10 @@ impl Host {
         requires down { IsDown (kind_seen sent.kind) }
         ensures { ByLabels self.old (step.Deliver message) (Ok result) self.new }
     {
-        let _room = self.in_flight.left();
+        let _room = self.kept.in_flight.left();
         let at = sent.endpoint as usize;
-        let _taken = self.in_flight.deliver(message);
-        let received = self.ports[at].device.receive(sent);
+        let _taken = self.kept.in_flight.deliver(message);
+        let received = self.kept.ports[at].device.receive(sent);
         received.answer
     }
 }

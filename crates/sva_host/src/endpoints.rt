@@ -3,11 +3,11 @@
 ghost use Rattle.std.specs.Prelude.{◌≢◌, Err};
 ghost use Rattle.sva_step.specs.declared.refusals.Refusal.TheVariants as refusal;
 ghost use Rattle.sva_step.specs.declared.steps.Step.TheVariants as step;
-ghost use Rattle.sva_host.specs.Steps.{ByLabels, PortFor};
+ghost use Rattle.sva_kept.specs.Steps.{ByLabels, PortFor};
 
 use crate::host::Host;
-use crate::sending::send;
 use sva_endpoint::Fault;
+use sva_kept::send;
 use sva_step::{Answer, Refusal};
 
 impl Host {
@@ -15,7 +15,7 @@ impl Host {
     pub(crate) fn port(&self, endpoint: u64) -> Result<usize, Refusal>
         ensures { PortFor self.now endpoint result }
     {
-        if endpoint >= self.ports.len() as u64 {
+        if endpoint >= self.kept.ports.len() as u64 {
             return Err(Refusal::NoSuchEndpoint);
         }
         Ok(endpoint as usize)
@@ -26,9 +26,9 @@ impl Host {
         ensures { ByLabels self.old (step.Ask endpoint pasid page) result self.new }
     {
         let at = self.port(endpoint)?;
-        let asking = self.ports[at].device.may_ask(pasid, page)?;
-        send(&mut self.in_flight, endpoint, asking.kind, 1)?;
-        let tag = self.ports[at].device.ask(pasid, page);
+        let asking = self.kept.ports[at].device.may_ask(pasid, page)?;
+        send(&mut self.kept.in_flight, endpoint, asking.kind, 1)?;
+        let tag = self.kept.ports[at].device.ask(pasid, page);
         Ok(Answer::Tag { tag })
     }
 
@@ -44,8 +44,10 @@ impl Host {
         ensures memory { result ≢ Err refusal.OutOfMemory }
     {
         let at = self.port(endpoint)?;
-        let _may = self.ports[at].device.may_begin_use(pasid, page, write)?;
-        let begun = self.ports[at].device.begin_use(pasid, page, write);
+        let _may = self.kept.ports[at]
+            .device
+            .may_begin_use(pasid, page, write)?;
+        let begun = self.kept.ports[at].device.begin_use(pasid, page, write);
         Ok(Answer::Use {
             slot: begun.slot,
             frame: begun.frame,
@@ -58,8 +60,8 @@ impl Host {
         ensures memory { result ≢ Err refusal.OutOfMemory }
     {
         let at = self.port(endpoint)?;
-        let answer = self.ports[at].device.may_end_use(slot)?;
-        self.ports[at].device.end_use(slot);
+        let answer = self.kept.ports[at].device.may_end_use(slot)?;
+        self.kept.ports[at].device.end_use(slot);
         Ok(answer)
     }
 
@@ -69,8 +71,8 @@ impl Host {
         ensures memory { result ≢ Err refusal.OutOfMemory }
     {
         let at = self.port(endpoint)?;
-        self.ports[at].device.may_evict(pasid, page)?;
-        self.ports[at].device.evict(pasid, page);
+        self.kept.ports[at].device.may_evict(pasid, page)?;
+        self.kept.ports[at].device.evict(pasid, page);
         Ok(Answer::Evicted)
     }
 
@@ -79,9 +81,9 @@ impl Host {
         ensures { ByLabels self.old (step.Fault endpoint fault.now.pasid fault.now.page fault.now.read fault.now.write fault.now.group fault.now.last) result self.new }
     {
         let at = self.port(endpoint)?;
-        let faulting = self.ports[at].device.may_fault(fault)?;
-        send(&mut self.in_flight, endpoint, faulting.kind, 1)?;
-        let group = self.ports[at].device.fault(fault);
+        let faulting = self.kept.ports[at].device.may_fault(fault)?;
+        send(&mut self.kept.in_flight, endpoint, faulting.kind, 1)?;
+        let group = self.kept.ports[at].device.fault(fault);
         Ok(Answer::Group { group })
     }
 
@@ -90,15 +92,15 @@ impl Host {
         ensures { ByLabels self.old (step.Finish endpoint vector count) result self.new }
     {
         let at = self.port(endpoint)?;
-        let finishing = self.ports[at].device.may_finish(vector, count)?;
+        let finishing = self.kept.ports[at].device.may_finish(vector, count)?;
         let copies = finishing.count.get();
         send(
-            &mut self.in_flight,
+            &mut self.kept.in_flight,
             endpoint,
             finishing.kind,
             u64::from(copies),
         )?;
-        self.ports[at].device.finish(vector, count);
+        self.kept.ports[at].device.finish(vector, count);
         Ok(Answer::Sent { count: copies })
     }
 
@@ -107,9 +109,9 @@ impl Host {
         ensures { ByLabels self.old (step.Quit endpoint pasid) result self.new }
     {
         let at = self.port(endpoint)?;
-        let marker = self.ports[at].device.may_quit(pasid)?;
-        send(&mut self.in_flight, endpoint, marker, 1)?;
-        self.ports[at].device.quit(pasid);
+        let marker = self.kept.ports[at].device.may_quit(pasid)?;
+        send(&mut self.kept.in_flight, endpoint, marker, 1)?;
+        self.kept.ports[at].device.quit(pasid);
         Ok(Answer::Marker)
     }
 }

@@ -13,10 +13,8 @@ mod pumping;
 mod replying;
 mod requests;
 mod resets;
-mod sending;
 mod spaces;
 mod stage_reading;
-mod stages;
 mod unbinding;
 mod unmapping;
 

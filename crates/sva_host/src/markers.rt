@@ -4,11 +4,11 @@ ghost use Rattle.std.specs.Prelude.{◌≢◌, Err};
 ghost use Rattle.sva_step.specs.declared.refusals.Refusal.TheVariants as refusal;
 ghost use Rattle.sva_step.specs.declared.steps.Step.TheVariants as step;
 ghost use Rattle.sva_labels.specs.Sound.{IsSound};
-ghost use Rattle.sva_host.specs.Arriving.{IsArriving};
-ghost use Rattle.sva_host.specs.Steps.{ByLabels};
+ghost use Rattle.sva_kept.specs.Arriving.{IsArriving};
+ghost use Rattle.sva_kept.specs.Steps.{ByLabels};
 
 use crate::host::Host;
-use crate::stages::mark;
+use sva_kept::stages;
 use sva_msg::Kind;
 use sva_step::{Answer, Refusal};
 
@@ -27,16 +27,16 @@ impl Host {
         ensures memory { result ≢ Err refusal.OutOfMemory }
     {
         // That the numbers of messages rise is known once it was asked how many are left.
-        let _left = self.in_flight.left();
-        let _marker = self.in_flight.deliver(message);
-        if !self.ports[endpoint as usize].unit.is_open() {
+        let _left = self.kept.in_flight.left();
+        let _marker = self.kept.in_flight.deliver(message);
+        if !self.kept.ports[endpoint as usize].unit.is_open() {
             return Ok(Answer::Dropped);
         }
-        let Some(place) = self.bindings.place_under(endpoint, pasid) else {
+        let Some(place) = self.kept.bindings.place_under(endpoint, pasid) else {
             unreachable!();
         };
         let binding = place.binding;
-        mark(&mut self.bindings, binding);
+        stages::mark(&mut self.kept.bindings, binding);
         Ok(Answer::Marked)
     }
 }

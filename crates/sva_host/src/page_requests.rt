@@ -8,8 +8,8 @@ ghost use Rattle.sva_labels.specs.Finding.{bearer, part_of};
 ghost use Rattle.sva_labels.specs.Moves.{with_part};
 ghost use Rattle.sva_labels.specs.Sound.{IsSound};
 ghost use Rattle.sva_unit.specs.Seen.{request_seen};
-ghost use Rattle.sva_host.specs.Arriving.{IsArriving};
-ghost use Rattle.sva_host.specs.Steps.{ByLabels, MayStep};
+ghost use Rattle.sva_kept.specs.Arriving.{IsArriving};
+ghost use Rattle.sva_kept.specs.Steps.{ByLabels, MayStep};
 
 use crate::host::Host;
 use sva_msg::{Kind, PageRequest};
@@ -28,12 +28,12 @@ impl Host {
         ensures step { ByLabels self.old (step.Deliver message) result self.new }
         ensures memory { result ≢ Err refusal.OutOfMemory }
     {
-        let _taken = self.in_flight.deliver(message);
+        let _taken = self.kept.in_flight.deliver(message);
         let at = endpoint as usize;
-        if !self.ports[at].unit.is_open() {
+        if !self.kept.ports[at].unit.is_open() {
             return Ok(Answer::Dropped);
         }
-        self.ports[at].unit.arrive(request);
+        self.kept.ports[at].unit.arrive(request);
         Ok(Answer::Queued)
     }
 
@@ -43,7 +43,7 @@ impl Host {
         ensures { MayStep self.now (step.Serve endpoint) result }
     {
         let at = self.port(endpoint)?;
-        if self.ports[at].unit.is_open() {
+        if self.kept.ports[at].unit.is_open() {
             Ok(())
         } else {
             Err(Refusal::Resetting)
@@ -54,7 +54,7 @@ impl Host {
     pub fn bearer_at(&self, endpoint: u64, pasid: u32) -> Option<u64>
         ensures { result ≡ option_map (λ (b : BindingWire). b.binding) (bearer self.now endpoint pasid) }
     {
-        match self.bindings.place_under(endpoint, pasid) {
+        match self.kept.bindings.place_under(endpoint, pasid) {
             Some(place) => Some(place.binding),
             None => None,
         }
@@ -65,7 +65,7 @@ impl Host {
         requires { endpoint < length self.now.parts }
         ensures { option_map request_seen result ≡ slice_get (part_of self.now endpoint).page_queue 0 }
     {
-        self.ports[endpoint as usize].unit.first_request()
+        self.kept.ports[endpoint as usize].unit.first_request()
     }
 
     /// Takes out the oldest page request that waits at the unit of this endpoint, which is there. Nothing changes where none
@@ -74,6 +74,6 @@ impl Host {
         requires { endpoint < length self.old.parts }
         ensures { self.new ≡ with_part self.old endpoint (record (part_of self.old endpoint) { page_queue = drop 1 (part_of self.old endpoint).page_queue }) }
     {
-        let _request = self.ports[endpoint as usize].unit.take_request();
+        let _request = self.kept.ports[endpoint as usize].unit.take_request();
     }
 }

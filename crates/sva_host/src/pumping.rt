@@ -6,11 +6,11 @@ ghost use Rattle.sva_step.specs.declared.refusals.Refusal.TheVariants as refusal
 ghost use Rattle.sva_step.specs.declared.steps.Step.TheVariants as step;
 ghost use Rattle.sva_labels.specs.Finding.{unit_of};
 ghost use Rattle.sva_labels.specs.Causes.{sends_invalidate};
-ghost use Rattle.sva_host.specs.Heads.{IsHead};
-ghost use Rattle.sva_host.specs.Steps.{ByLabels};
+ghost use Rattle.sva_kept.specs.Heads.{IsHead};
+ghost use Rattle.sva_kept.specs.Steps.{ByLabels};
 
 use crate::host::Host;
-use crate::sending::send;
+use sva_kept::send;
 use sva_step::{Answer, Refusal};
 use sva_unit::{Next, Sending};
 
@@ -22,8 +22,8 @@ impl Host {
     {
         let head = sending;
         let itag = sending.itag;
-        send(&mut self.in_flight, at as u64, sending.message(), 1)?;
-        self.ports[at].unit.send(head);
+        send(&mut self.kept.in_flight, at as u64, sending.message(), 1)?;
+        self.kept.ports[at].unit.send(head);
         Ok(Answer::Itag { itag })
     }
 
@@ -32,8 +32,8 @@ impl Host {
         requires { IsHead self.old at (Next.Pass cookie) }
         ensures { ByLabels self.old (step.Pump at) (Ok answer.WaitDone) self.new }
     {
-        self.ports[at].unit.pass(cookie);
-        self.memory.settle(at as u64, cookie);
+        self.kept.ports[at].unit.pass(cookie);
+        self.kept.memory.settle(at as u64, cookie);
     }
 
     /// The unit of an endpoint goes on with the head of its invalidation queue: an invalidation goes to the endpoint under
@@ -46,10 +46,10 @@ impl Host {
         ensures memory { sends_invalidate (unit_of self.old endpoint) ≡ false → result ≢ Err refusal.OutOfMemory }
     {
         let at = self.port(endpoint)?;
-        if !self.ports[at].unit.is_open() {
+        if !self.kept.ports[at].unit.is_open() {
             return Err(Refusal::Resetting);
         }
-        match self.ports[at].unit.next() {
+        match self.kept.ports[at].unit.next() {
             Next::Idle => Ok(Answer::Idle),
             Next::Blocked => Ok(Answer::Blocked),
             Next::Send(sending) => self.send_head(at, sending),

@@ -3,58 +3,17 @@
 ghost use Rattle.std.specs.Prelude.{◌≡◌, ◌≢◌, false, Err, option_map};
 ghost use Rattle.sva_step.specs.declared.refusals.Refusal.TheVariants as refusal;
 ghost use Rattle.sva_step.specs.declared.steps.Step.TheVariants as step;
-ghost use Rattle.sva_labels.specs.Finding.{bearer, unit_of, is_live as is_in_use};
-ghost use Rattle.sva_labels.specs.Outcomes.{completion_of, found_for};
+ghost use Rattle.sva_labels.specs.Finding.{bearer, unit_of};
+ghost use Rattle.sva_labels.specs.Outcomes.{found_for};
 ghost use Rattle.sva_labels.specs.Sound.{IsSound};
 ghost use Rattle.sva_msg.specs.declared.messages.Kind.TheVariants as kind;
 ghost use Rattle.sva_memory.specs.Seen.{page_seen};
-ghost use Rattle.sva_views.specs.Bindings.{stage_or_quiet};
-ghost use Rattle.sva_views.specs.Flights.{kind_seen};
-ghost use Rattle.sva_host.specs.Arriving.{IsArriving};
-ghost use Rattle.sva_host.specs.Steps.{ByLabels};
+ghost use Rattle.sva_kept.specs.Arriving.{IsArriving};
+ghost use Rattle.sva_kept.specs.Steps.{ByLabels};
 
 use crate::host::Host;
-use crate::sending::send;
-use sva_msg::Kind;
-use sva_pasid::Stage;
+use sva_kept::{completion, is_live, send};
 use sva_step::{Answer, Refusal};
-
-// Whether the binding is in use, and isn't being taken back.
-fn is_live(stage: &Option<Stage>) -> bool
-    ensures { result ≡ is_in_use (stage_or_quiet stage.now) }
-{
-    match stage {
-        Some(Stage::Live(_)) => true,
-        Some(Stage::Stopping(_)) => false,
-        Some(Stage::Draining(_)) => false,
-        Some(Stage::Invalidating(_)) => false,
-        Some(Stage::Quiet(_)) => false,
-        Some(Stage::Lost(_)) => false,
-        None => false,
-    }
-}
-
-// The Translation Completion for this tag that tells what was found at the page, if anything was.
-fn completion(tag: u8, page: u64, found: Option<(u32, bool)>) -> Kind
-    ensures { kind_seen result ≡ completion_of tag (option_map (λ at. page_seen (page, at)) found) }
-{
-    // The page isn't told; it is handed in so that the contract can say what was found there.
-    let _page = page;
-    match found {
-        Some((frame, write)) => Kind::Completion {
-            tag,
-            frame,
-            read: true,
-            write,
-        },
-        None => Kind::Completion {
-            tag,
-            frame: 0,
-            read: false,
-            write: false,
-        },
-    }
-}
 
 impl Host {
     // What the binding that bears a PASID at an endpoint has at a page: its frame, and whether it may be written. Nothing where
@@ -62,13 +21,13 @@ impl Host {
     fn translation(&self, endpoint: u64, pasid: u32, page: u64) -> Option<(u32, bool)>
         ensures { option_map (λ at. page_seen (page, at)) result ≡ found_for self.now page (bearer self.now endpoint pasid) }
     {
-        let Some(place) = self.bindings.place_under(endpoint, pasid) else {
+        let Some(place) = self.kept.bindings.place_under(endpoint, pasid) else {
             return None;
         };
         if !is_live(&place.stage) {
             return None;
         }
-        self.memory.find(place.space, page)
+        self.kept.memory.find(place.space, page)
     }
 
     /// A Translation Request arrives, and is answered from the space of the binding that bears its PASID at the endpoint; at a
@@ -88,18 +47,18 @@ impl Host {
         ensures memory { (unit_of self.old endpoint).is_open ≡ false → result ≢ Err refusal.OutOfMemory }
     {
         let at = endpoint as usize;
-        if !self.ports[at].unit.is_open() {
-            let _taken = self.in_flight.deliver(message);
+        if !self.kept.ports[at].unit.is_open() {
+            let _taken = self.kept.in_flight.deliver(message);
             return Ok(Answer::Dropped);
         }
         let found = self.translation(endpoint, pasid, page);
         send(
-            &mut self.in_flight,
+            &mut self.kept.in_flight,
             endpoint,
             completion(tag, page, found),
             1,
         )?;
-        let _taken = self.in_flight.deliver(message);
+        let _taken = self.kept.in_flight.deliver(message);
         Ok(Answer::Completion)
     }
 }

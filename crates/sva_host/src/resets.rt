@@ -4,11 +4,11 @@ ghost use Rattle.std.specs.Prelude.{◌≢◌, Err};
 ghost use Rattle.sva_step.specs.declared.refusals.Refusal.TheVariants as refusal;
 ghost use Rattle.sva_step.specs.declared.steps.Step.TheVariants as step;
 ghost use Rattle.sva_labels.specs.Sound.{IsSound};
-ghost use Rattle.sva_host.specs.Arriving.{IsArriving};
-ghost use Rattle.sva_host.specs.Steps.{ByLabels};
+ghost use Rattle.sva_kept.specs.Arriving.{IsArriving};
+ghost use Rattle.sva_kept.specs.Steps.{ByLabels};
 
 use crate::host::Host;
-use crate::sending::send;
+use sva_kept::send;
 use sva_msg::{Kind, Message};
 use sva_step::{Answer, Refusal};
 
@@ -21,11 +21,11 @@ impl Host {
         ensures { ByLabels self.old (step.Reset endpoint) result self.new }
     {
         let at = self.port(endpoint)?;
-        if !self.ports[at].unit.is_open() {
+        if !self.kept.ports[at].unit.is_open() {
             return Err(Refusal::Resetting);
         }
-        send(&mut self.in_flight, endpoint, Kind::Reset, 1)?;
-        self.ports[at].unit.reset();
+        send(&mut self.kept.in_flight, endpoint, Kind::Reset, 1)?;
+        self.kept.ports[at].unit.reset();
         Ok(Answer::Resetting)
     }
 
@@ -36,10 +36,10 @@ impl Host {
         requires arriving { IsArriving self.old message endpoint Kind.Reset }
         ensures { ByLabels self.old (step.Deliver message) result self.new }
     {
-        send(&mut self.in_flight, endpoint, Kind::ResetDone, 1)?;
-        let _taken = self.in_flight.deliver(message);
+        send(&mut self.kept.in_flight, endpoint, Kind::ResetDone, 1)?;
+        let _taken = self.kept.in_flight.deliver(message);
         let at = endpoint as usize;
-        let received = self.ports[at].device.receive(Message {
+        let received = self.kept.ports[at].device.receive(Message {
             endpoint,
             kind: Kind::Reset,
         });
@@ -57,11 +57,11 @@ impl Host {
         ensures step { ByLabels self.old (step.Deliver message) result self.new }
         ensures memory { result ≢ Err refusal.OutOfMemory }
     {
-        let _taken = self.in_flight.deliver(message);
+        let _taken = self.kept.in_flight.deliver(message);
         let at = endpoint as usize;
-        self.ports[at].unit.reopen();
-        self.bindings.by_reset(endpoint);
-        self.memory.settle_all(endpoint);
+        self.kept.ports[at].unit.reopen();
+        self.kept.bindings.by_reset(endpoint);
+        self.kept.memory.settle_all(endpoint);
         Ok(Answer::ResetDone)
     }
 }

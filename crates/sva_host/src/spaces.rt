@@ -4,7 +4,7 @@ ghost use Rattle.std.specs.Prelude.{◌≢◌, Err};
 ghost use Rattle.sva_step.specs.declared.refusals.Refusal.TheVariants as refusal;
 ghost use Rattle.sva_step.specs.declared.steps.Step.TheVariants as step;
 ghost use Rattle.sva_memory.specs.Steps.{Counted};
-ghost use Rattle.sva_host.specs.Steps.{ByLabels};
+ghost use Rattle.sva_kept.specs.Steps.{ByLabels};
 
 use crate::host::Host;
 use sva_frames::Counts;
@@ -15,7 +15,7 @@ impl Host {
     pub fn space(&mut self) -> Result<Answer, Refusal>
         ensures { ByLabels self.old step.Space result self.new }
     {
-        self.memory.space()
+        self.kept.memory.space()
     }
 
     /// Ends a space that is bound nowhere: its frames are free.
@@ -23,13 +23,13 @@ impl Host {
         ensures step { ByLabels self.old (step.DropSpace space) result self.new }
         ensures memory { result ≢ Err refusal.OutOfMemory }
     {
-        if !self.memory.has_space(space) {
+        if !self.kept.memory.has_space(space) {
             return Err(Refusal::NoSuchSpace);
         }
-        if self.bindings.is_bound(space) {
+        if self.kept.bindings.is_bound(space) {
             return Err(Refusal::StillBound);
         }
-        self.memory.drop_space(space);
+        self.kept.memory.drop_space(space);
         Ok(Answer::Gone)
     }
 
@@ -37,7 +37,7 @@ impl Host {
     pub fn map(&mut self, space: u64, page: u64, write: bool) -> Result<Answer, Refusal>
         ensures { ByLabels self.old (step.Map space page write) result self.new }
     {
-        self.memory.map(space, page, write)
+        self.kept.memory.map(space, page, write)
     }
 
     /// Where a frame is.
@@ -45,13 +45,13 @@ impl Host {
         ensures step { ByLabels self.now (step.Look frame) result self.now }
         ensures memory { result ≢ Err refusal.OutOfMemory }
     {
-        self.memory.look(frame)
+        self.kept.memory.look(frame)
     }
 
     /// How many frames are at each place.
     pub fn counts(&self) -> Counts
         ensures { Counted self.now.places result }
     {
-        self.memory.counts()
+        self.kept.memory.counts()
     }
 }

@@ -3,18 +3,10 @@
 ghost use Rattle.std.specs.Prelude.{◌≡◌};
 ghost use Rattle.sva_labels.specs.Finding.{binding_of};
 ghost use Rattle.sva_labels.specs.Sound.{IsSound};
-ghost use Rattle.sva_views.specs.Bindings.{stage_or_quiet};
-ghost use Rattle.sva_host.specs.StageReading.{is_draining, open_drain};
+ghost use Rattle.sva_kept.specs.StageReading.{open_drain};
 
 use crate::host::Host;
-use sva_pasid::Stage;
-
-// Whether the page requests of the binding are being drained.
-fn is_draining(stage: &Option<Stage>) -> bool
-    ensures { result ≡ is_draining (stage_or_quiet stage.now) }
-{
-    matches!(stage, Some(Stage::Draining(_)))
-}
+use sva_kept::is_draining;
 
 impl Host {
     /// Whether the unit is open that drains the page requests of a binding. None where the binding isn't there, or isn't being
@@ -23,10 +15,10 @@ impl Host {
         requires { IsSound self.now }
         ensures { result ≡ open_drain self.now (binding_of self.now binding) }
     {
-        let place = self.bindings.place(binding)?;
+        let place = self.kept.bindings.place(binding)?;
         if !is_draining(&place.stage) {
             return None;
         }
-        Some(self.ports[place.endpoint as usize].unit.is_open())
+        Some(self.kept.ports[place.endpoint as usize].unit.is_open())
     }
 }

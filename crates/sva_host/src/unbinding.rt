@@ -5,41 +5,15 @@ ghost use Rattle.sva_step.specs.declared.refusals.Refusal.TheVariants as refusal
 ghost use Rattle.sva_step.specs.declared.steps.Step.TheVariants as step;
 ghost use Rattle.sva_model.specs.Wire.{BindingWire};
 ghost use Rattle.sva_model.specs.Wire.StageWire.{LostWire};
-ghost use Rattle.sva_labels.specs.Finding.{binding_of, is_live};
+ghost use Rattle.sva_labels.specs.Finding.{binding_of};
 ghost use Rattle.sva_labels.specs.Sound.{IsSound};
-ghost use Rattle.sva_views.specs.Bindings.{stage_or_quiet};
-ghost use Rattle.sva_host.specs.Steps.{ByLabels};
-ghost use Rattle.sva_host.specs.Unbinding.{is_lost, MayUnbind};
+ghost use Rattle.sva_kept.specs.Steps.{ByLabels};
+ghost use Rattle.sva_kept.specs.Unbinding.{MayUnbind};
 
 use crate::host::Host;
-use crate::sending::send;
-use crate::stages::{settle_lost, stop};
+use sva_kept::{Ending, is_live, is_lost, send, stages};
 use sva_msg::Kind;
-use sva_pasid::Stage;
 use sva_step::{Answer, Refusal};
-
-// How a binding is unbound.
-#[derive(Drop)]
-enum Ending {
-    // A reset cut it off while it was in use: nothing is sent.
-    AtOnce,
-    // Its endpoint is told to stop the PASID.
-    ByStop { endpoint: u64, pasid: u32 },
-}
-
-// Whether a reset cut the binding off while it was in use.
-fn is_lost(stage: &Option<Stage>) -> bool
-    ensures { result ≡ is_lost (stage_or_quiet stage.now) }
-{
-    matches!(stage, Some(Stage::Lost(_)))
-}
-
-// Whether the binding is in use.
-fn is_live(stage: &Option<Stage>) -> bool
-    ensures { result ≡ is_live (stage_or_quiet stage.now) }
-{
-    matches!(stage, Some(Stage::Live(_)))
-}
 
 impl Host {
     // What refuses the unbinding: the first cause that holds, if one does. Else how the binding is unbound.
@@ -47,7 +21,7 @@ impl Host {
         requires { IsSound self.now }
         ensures { MayUnbind self.now binding result }
     {
-        let Some(place) = self.bindings.place(binding) else {
+        let Some(place) = self.kept.bindings.place(binding) else {
             return Err(Refusal::NoSuchBinding);
         };
         if is_lost(&place.stage) {
@@ -56,10 +30,10 @@ impl Host {
         if !is_live(&place.stage) {
             return Err(Refusal::NotLive);
         }
-        if !self.ports[place.endpoint as usize].unit.is_open() {
+        if !self.kept.ports[place.endpoint as usize].unit.is_open() {
             return Err(Refusal::Resetting);
         }
-        if self.in_flight.left() == 0 {
+        if self.kept.in_flight.left() == 0 {
             return Err(Refusal::NumbersSpent);
         }
         Ok(Ending::ByStop {
@@ -76,11 +50,11 @@ impl Host {
         ensures memory { (b : BindingWire) → binding_of self.old binding ≡ Some b → b.stage ≡ LostWire → result ≢ Err refusal.OutOfMemory }
     {
         let Ending::ByStop { endpoint, pasid } = self.may_unbind(binding)? else {
-            settle_lost(&mut self.bindings, binding);
+            stages::settle_lost(&mut self.kept.bindings, binding);
             return Ok(Answer::Quiet);
         };
-        send(&mut self.in_flight, endpoint, Kind::Stop { pasid }, 1)?;
-        stop(&mut self.bindings, binding);
+        send(&mut self.kept.in_flight, endpoint, Kind::Stop { pasid }, 1)?;
+        stages::stop(&mut self.kept.bindings, binding);
         Ok(Answer::Stopping)
     }
 }

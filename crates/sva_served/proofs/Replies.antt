@@ -31,8 +31,8 @@ use Rattle.sva_labels.specs.Sound.{IsSound, IsJob}
 use Rattle.sva_labels.specs.Spaces.{HaveSpaces}
 use Rattle.sva_labels.specs.Waiting.{waiting}
 use Rattle.sva_labels.proofs.Waiting.{arrives, moves_kept}
-use Rattle.sva_host.specs.Replying.{responded_by, responded_of}
-use Rattle.sva_host.specs.Steps.{Does, ByLabels}
+use Rattle.sva_kept.specs.Replying.{responded_by, responded_of}
+use Rattle.sva_kept.specs.Steps.{Does, ByLabels}
 use Rattle.sva_prq.specs.Job.{Job}
 use Rattle.sva_service.specs.Service.{Service, no_service, hand, after_answer, after_answer_of}
 use Rattle.sva_views.specs.Service.{job_seen, groups_seen, hands_seen}

@@ -1,8 +1,8 @@
 use Rattle.std.proofs.Common.{refl}
 use Rattle.sva_step.specs.declared.steps.Step.TheVariants as step
-use Rattle.sva_host.proofs.Advances.{advance_refused, refused_otherwise, settles, releases, invalidating_there, quiet_there, settled, released}
-use Rattle.sva_host.proofs.Devices.{kept}
-use Rattle.sva_host.proofs.Unbinds.{not_memory}
+use Rattle.sva_kept.proofs.Advances.{advance_refused, refused_otherwise, settles, releases, invalidating_there, quiet_there, settled, released}
+use Rattle.sva_kept.proofs.Devices.{kept}
+use Rattle.sva_kept.proofs.Unbinds.{not_memory}
 use Rattle.sva_host.proofs.host.Host.advance.Goals as goal
 
 pub returns-in_err-endpoint-clause-step : goal.returns-in_err-endpoint-clause-step
@@ -17,20 +17,20 @@ returns-in_err-endpoint-clause-memory c =
 
 pub settle-requires : goal.settle-requires
 settle-requires c =
-    invalidating_there c.self.inside c.args.self.now c.args.binding c.self.invariant c.self.view_is
+    invalidating_there c.self.inside.kept c.args.self.now c.args.binding c.self.invariant c.self.view_is
     (settles c.args.self.now c.args.binding c.in_ok-endpoint.field-0 c.in_ok-endpoint.ensures c.in-Settle.is)
 
 pub returns-in-Settle-clause-step : goal.returns-in-Settle-clause-step
 returns-in-Settle-clause-step c =
-    settled c.self.inside c.args.self.now c.args.binding c.settle.new.bindings c.self.view_is
+    settled c.self.inside.kept c.args.self.now c.args.binding c.settle.new.bindings c.self.view_is
     (settles c.args.self.now c.args.binding c.in_ok-endpoint.field-0 c.in_ok-endpoint.ensures c.in-Settle.is) c.settle.ensures
 
 pub release-requires : goal.release-requires
 release-requires c =
-    quiet_there c.self.inside c.args.self.now c.args.binding c.self.invariant c.self.view_is
+    quiet_there c.self.inside.kept c.args.self.now c.args.binding c.self.invariant c.self.view_is
     (releases c.args.self.now c.args.binding c.in_ok-endpoint.field-0 c.in_ok-endpoint.ensures c.in-Release.is)
 
 pub returns-in-Release-clause-step : goal.returns-in-Release-clause-step
 returns-in-Release-clause-step c =
-    released c.self.inside c.args.self.now c.args.binding c.release.new.bindings c.self.view_is
+    released c.self.inside.kept c.args.self.now c.args.binding c.release.new.bindings c.self.view_is
     (releases c.args.self.now c.args.binding c.in_ok-endpoint.field-0 c.in_ok-endpoint.ensures c.in-Release.is) c.release.ensures

@@ -6,44 +6,44 @@ use Rattle.sva_endpoint.specs.Calls as call
 use Rattle.sva_endpoint.specs.Tables.{Tables}
 use Rattle.sva_endpoint.specs.Steps.{using, after_begin_use}
 use Rattle.sva_endpoint.proofs.SoundLaws.{sound_after}
-use Rattle.sva_host.specs.declared.host.Port.{Port}
-use Rattle.sva_host.proofs.Ports.{port_found, same_port, rewritten, with_tables_host}
-use Rattle.sva_host.proofs.Devices.{kept, ended}
-use Rattle.sva_host.proofs.Uses.{use_other, use_refused, use_done}
-use Rattle.sva_host.proofs.NeverForMemory.{other_port, not_for_memory}
+use Rattle.sva_kept.specs.declared.kept.Port.{Port}
+use Rattle.sva_kept.proofs.Ports.{port_found, same_port, rewritten, with_tables_host}
+use Rattle.sva_kept.proofs.Devices.{kept, ended}
+use Rattle.sva_kept.proofs.Uses.{use_other, use_refused, use_done}
+use Rattle.sva_kept.proofs.NeverForMemory.{other_port, not_for_memory}
 use Rattle.sva_host.proofs.host.Host.begin_use.Goals as goal
 
 pub returns-in_err-_may-clause-step : goal.returns-in_err-_may-clause-step
 returns-in_err-_may-clause-step c =
-    let is = port_found c.self.inside _ c.args.endpoint c.in_ok-at.at _ c.index-deref-at.result c.self.invariant c.self.view_is c.in_ok-at.ensures
+    let is = port_found c.self.inside.kept _ c.args.endpoint c.in_ok-at.at _ c.index-deref-at.result c.self.invariant c.self.view_is c.in_ok-at.ensures
     c.deref.ensures.0 in
     kept _ _ (step.BeginUse c.args.endpoint c.args.pasid c.args.page c.args.write) _ _ c.self.view_is c.from_residual-in_err-_may.ensures
-    (use_refused c.self.inside c.args.endpoint c.args.pasid c.args.page c.args.write _ _ is c.in_err-_may.ensures)
+    (use_refused c.self.inside.kept c.args.endpoint c.args.pasid c.args.page c.args.write _ _ is c.in_err-_may.ensures)
 
 pub invariant_of-self : goal.invariant_of-self
 invariant_of-self c =
-    let is = port_found c.self.inside _ c.args.endpoint c.in_ok-at.at _ c.index-deref-at.result c.self.invariant c.self.view_is c.in_ok-at.ensures
+    let is = port_found c.self.inside.kept _ c.args.endpoint c.in_ok-at.at _ c.index-deref-at.result c.self.invariant c.self.view_is c.in_ok-at.ensures
     c.deref.ensures.0 in
     let tables = λ (s : Tables). after_begin_use s c.args.pasid c.args.page in
-    with_tables_host c.self.inside c.args.endpoint (slice_index_or c.deref.result.now c.in_ok-at.at c.index-deref-at.result) _
-    c.self.inside.in_flight _ c.self.invariant
+    with_tables_host c.self.inside.kept c.args.endpoint (slice_index_or c.deref.result.now c.in_ok-at.at c.index-deref-at.result) _
+    c.self.inside.kept.in_flight _ c.self.invariant
     (sound_after _ (call.BeginUse c.args.pasid c.args.page c.args.write) (ap is_ok (sym c.in_ok-_may.ensures)) is.sound)
-    (rewritten c.self.inside _ c.args.endpoint c.in_ok-at.at _ _ c.index-deref-at.result c.index-deref_mut-at.result c.begin_use-begun.new.self
+    (rewritten c.self.inside.kept _ c.args.endpoint c.in_ok-at.at _ _ c.index-deref-at.result c.index-deref_mut-at.result c.begin_use-begun.new.self
     tables c.self.view_is c.in_ok-at.ensures c.deref.ensures.0 c.deref_mut.ensures.value c.begin_use-begun.ensures.after)
 
 pub returns-clause-step : goal.returns-clause-step
 returns-clause-step c =
-    let is = port_found c.self.inside _ c.args.endpoint c.in_ok-at.at _ c.index-deref-at.result c.self.invariant c.self.view_is c.in_ok-at.ensures
+    let is = port_found c.self.inside.kept _ c.args.endpoint c.in_ok-at.at _ c.index-deref-at.result c.self.invariant c.self.view_is c.in_ok-at.ensures
     c.deref.ensures.0 in
     let tables = λ (s : Tables). after_begin_use s c.args.pasid c.args.page in
-    ended c.self.inside _ (step.BeginUse c.args.endpoint c.args.pasid c.args.page c.args.write)
-    (answer.Use c.begin_use-begun.result.slot c.begin_use-begun.result.frame) _ _ _ c.self.inside.in_flight c.self.view_is
-    (rewritten c.self.inside _ c.args.endpoint c.in_ok-at.at _ _ c.index-deref-at.result c.index-deref_mut-at.result c.begin_use-begun.new.self
+    ended c.self.inside.kept _ (step.BeginUse c.args.endpoint c.args.pasid c.args.page c.args.write)
+    (answer.Use c.begin_use-begun.result.slot c.begin_use-begun.result.frame) _ _ _ c.self.inside.kept.in_flight c.self.view_is
+    (rewritten c.self.inside.kept _ c.args.endpoint c.in_ok-at.at _ _ c.index-deref-at.result c.index-deref_mut-at.result c.begin_use-begun.new.self
     tables c.self.view_is c.in_ok-at.ensures c.deref.ensures.0 c.deref_mut.ensures.value c.begin_use-begun.ensures.after)
     (refl)
-    (use_done c.self.inside c.args.endpoint c.args.pasid c.args.page c.args.write _ c.begin_use-begun.result is (sym c.begin_use-begun.ensures.begun
+    (use_done c.self.inside.kept c.args.endpoint c.args.pasid c.args.page c.args.write _ c.begin_use-begun.result is (sym c.begin_use-begun.ensures.begun
     ∙ ap (λ (p : Port). using p.device c.args.pasid c.args.page c.args.write)
-    (same_port c.self.inside _ c.args.endpoint c.in_ok-at.at _ _ c.index-deref-at.result c.index-deref_mut-at.result c.self.view_is
+    (same_port c.self.inside.kept _ c.args.endpoint c.in_ok-at.at _ _ c.index-deref-at.result c.index-deref_mut-at.result c.self.view_is
     c.in_ok-at.ensures c.deref.ensures.0 c.deref_mut.ensures.value)))
 
 pub returns-in_err-at-clause-memory : goal.returns-in_err-at-clause-memory

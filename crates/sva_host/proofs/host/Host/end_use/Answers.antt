@@ -5,40 +5,40 @@ use Rattle.sva_endpoint.specs.Calls as call
 use Rattle.sva_endpoint.specs.Tables.{Tables}
 use Rattle.sva_endpoint.specs.Steps.{after_end_use}
 use Rattle.sva_endpoint.proofs.SoundLaws.{sound_after}
-use Rattle.sva_host.proofs.Ports.{port_found, rewritten, with_tables_host}
-use Rattle.sva_host.proofs.Devices.{kept, ended}
-use Rattle.sva_host.proofs.Uses.{end_other, end_refused, end_done}
-use Rattle.sva_host.proofs.NeverForMemory.{other_port, not_for_memory}
+use Rattle.sva_kept.proofs.Ports.{port_found, rewritten, with_tables_host}
+use Rattle.sva_kept.proofs.Devices.{kept, ended}
+use Rattle.sva_kept.proofs.Uses.{end_other, end_refused, end_done}
+use Rattle.sva_kept.proofs.NeverForMemory.{other_port, not_for_memory}
 use Rattle.sva_host.proofs.host.Host.end_use.Goals as goal
 
 pub returns-in_err-answer-clause-step : goal.returns-in_err-answer-clause-step
 returns-in_err-answer-clause-step c =
-    let is = port_found c.self.inside _ c.args.endpoint c.in_ok-at.at _ c.index-deref-at.result c.self.invariant c.self.view_is c.in_ok-at.ensures
+    let is = port_found c.self.inside.kept _ c.args.endpoint c.in_ok-at.at _ c.index-deref-at.result c.self.invariant c.self.view_is c.in_ok-at.ensures
     c.deref.ensures.0 in
     kept _ _ (step.EndUse c.args.endpoint c.args.slot) _ _ c.self.view_is c.from_residual-in_err-answer.ensures
-    (end_refused c.self.inside c.args.endpoint c.args.slot _ _ is c.in_err-answer.ensures)
+    (end_refused c.self.inside.kept c.args.endpoint c.args.slot _ _ is c.in_err-answer.ensures)
 
 pub invariant_of-self : goal.invariant_of-self
 invariant_of-self c =
-    let is = port_found c.self.inside _ c.args.endpoint c.in_ok-at.at _ c.index-deref-at.result c.self.invariant c.self.view_is c.in_ok-at.ensures
+    let is = port_found c.self.inside.kept _ c.args.endpoint c.in_ok-at.at _ c.index-deref-at.result c.self.invariant c.self.view_is c.in_ok-at.ensures
     c.deref.ensures.0 in
     let tables = λ (s : Tables). after_end_use s c.args.slot in
-    with_tables_host c.self.inside c.args.endpoint (slice_index_or c.deref.result.now c.in_ok-at.at c.index-deref-at.result) _
-    c.self.inside.in_flight _ c.self.invariant
+    with_tables_host c.self.inside.kept c.args.endpoint (slice_index_or c.deref.result.now c.in_ok-at.at c.index-deref-at.result) _
+    c.self.inside.kept.in_flight _ c.self.invariant
     (sound_after _ (call.EndUse c.args.slot) (ap is_ok (sym c.in_ok-answer.ensures)) is.sound)
-    (rewritten c.self.inside _ c.args.endpoint c.in_ok-at.at _ _ c.index-deref-at.result c.index-deref_mut-at.result c.end_use.new.self tables
+    (rewritten c.self.inside.kept _ c.args.endpoint c.in_ok-at.at _ _ c.index-deref-at.result c.index-deref_mut-at.result c.end_use.new.self tables
     c.self.view_is c.in_ok-at.ensures c.deref.ensures.0 c.deref_mut.ensures.value c.end_use.ensures)
 
 pub returns-clause-step : goal.returns-clause-step
 returns-clause-step c =
-    let is = port_found c.self.inside _ c.args.endpoint c.in_ok-at.at _ c.index-deref-at.result c.self.invariant c.self.view_is c.in_ok-at.ensures
+    let is = port_found c.self.inside.kept _ c.args.endpoint c.in_ok-at.at _ c.index-deref-at.result c.self.invariant c.self.view_is c.in_ok-at.ensures
     c.deref.ensures.0 in
     let tables = λ (s : Tables). after_end_use s c.args.slot in
-    ended c.self.inside _ (step.EndUse c.args.endpoint c.args.slot) (c.in_ok-answer.answer) _ _ _ c.self.inside.in_flight c.self.view_is
-    (rewritten c.self.inside _ c.args.endpoint c.in_ok-at.at _ _ c.index-deref-at.result c.index-deref_mut-at.result c.end_use.new.self tables
+    ended c.self.inside.kept _ (step.EndUse c.args.endpoint c.args.slot) (c.in_ok-answer.answer) _ _ _ c.self.inside.kept.in_flight c.self.view_is
+    (rewritten c.self.inside.kept _ c.args.endpoint c.in_ok-at.at _ _ c.index-deref-at.result c.index-deref_mut-at.result c.end_use.new.self tables
     c.self.view_is c.in_ok-at.ensures c.deref.ensures.0 c.deref_mut.ensures.value c.end_use.ensures)
     (refl)
-    (end_done c.self.inside c.args.endpoint c.args.slot _ c.in_ok-answer.answer is c.in_ok-answer.ensures)
+    (end_done c.self.inside.kept c.args.endpoint c.args.slot _ c.in_ok-answer.answer is c.in_ok-answer.ensures)
 
 pub returns-in_err-at-clause-memory : goal.returns-in_err-at-clause-memory
 returns-in_err-at-clause-memory c = not_for_memory _ _ c.from_residual.ensures (other_port c.args.self.now c.args.endpoint _ c.in_err-at.ensures)

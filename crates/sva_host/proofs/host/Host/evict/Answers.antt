@@ -6,40 +6,40 @@ use Rattle.sva_endpoint.specs.Calls as call
 use Rattle.sva_endpoint.specs.Tables.{Tables}
 use Rattle.sva_endpoint.specs.Steps.{after_evict}
 use Rattle.sva_endpoint.proofs.SoundLaws.{sound_after}
-use Rattle.sva_host.proofs.Ports.{port_found, rewritten, with_tables_host}
-use Rattle.sva_host.proofs.Devices.{kept, ended}
-use Rattle.sva_host.proofs.Uses.{evict_other, evict_refused, evict_done}
-use Rattle.sva_host.proofs.NeverForMemory.{other_port, not_for_memory}
+use Rattle.sva_kept.proofs.Ports.{port_found, rewritten, with_tables_host}
+use Rattle.sva_kept.proofs.Devices.{kept, ended}
+use Rattle.sva_kept.proofs.Uses.{evict_other, evict_refused, evict_done}
+use Rattle.sva_kept.proofs.NeverForMemory.{other_port, not_for_memory}
 use Rattle.sva_host.proofs.host.Host.evict.Goals as goal
 
 pub returns-in_err-may_evict-clause-step : goal.returns-in_err-may_evict-clause-step
 returns-in_err-may_evict-clause-step c =
-    let is = port_found c.self.inside _ c.args.endpoint c.in_ok-at.at _ c.index-deref-at.result c.self.invariant c.self.view_is c.in_ok-at.ensures
+    let is = port_found c.self.inside.kept _ c.args.endpoint c.in_ok-at.at _ c.index-deref-at.result c.self.invariant c.self.view_is c.in_ok-at.ensures
     c.deref.ensures.0 in
     kept _ _ (step.Evict c.args.endpoint c.args.pasid c.args.page) _ _ c.self.view_is c.from_residual-in_err-may_evict.ensures
-    (evict_refused c.self.inside c.args.endpoint c.args.pasid c.args.page _ _ is c.in_err-may_evict.ensures)
+    (evict_refused c.self.inside.kept c.args.endpoint c.args.pasid c.args.page _ _ is c.in_err-may_evict.ensures)
 
 pub invariant_of-self : goal.invariant_of-self
 invariant_of-self c =
-    let is = port_found c.self.inside _ c.args.endpoint c.in_ok-at.at _ c.index-deref-at.result c.self.invariant c.self.view_is c.in_ok-at.ensures
+    let is = port_found c.self.inside.kept _ c.args.endpoint c.in_ok-at.at _ c.index-deref-at.result c.self.invariant c.self.view_is c.in_ok-at.ensures
     c.deref.ensures.0 in
     let tables = λ (s : Tables). after_evict s c.args.pasid c.args.page in
-    with_tables_host c.self.inside c.args.endpoint (slice_index_or c.deref.result.now c.in_ok-at.at c.index-deref-at.result) _
-    c.self.inside.in_flight _ c.self.invariant
+    with_tables_host c.self.inside.kept c.args.endpoint (slice_index_or c.deref.result.now c.in_ok-at.at c.index-deref-at.result) _
+    c.self.inside.kept.in_flight _ c.self.invariant
     (sound_after _ (call.Evict c.args.pasid c.args.page) (ap is_ok (sym c.in_ok-may_evict.ensures)) is.sound)
-    (rewritten c.self.inside _ c.args.endpoint c.in_ok-at.at _ _ c.index-deref-at.result c.index-deref_mut-at.result c.evict.new.self tables
+    (rewritten c.self.inside.kept _ c.args.endpoint c.in_ok-at.at _ _ c.index-deref-at.result c.index-deref_mut-at.result c.evict.new.self tables
     c.self.view_is c.in_ok-at.ensures c.deref.ensures.0 c.deref_mut.ensures.value c.evict.ensures)
 
 pub returns-clause-step : goal.returns-clause-step
 returns-clause-step c =
-    let is = port_found c.self.inside _ c.args.endpoint c.in_ok-at.at _ c.index-deref-at.result c.self.invariant c.self.view_is c.in_ok-at.ensures
+    let is = port_found c.self.inside.kept _ c.args.endpoint c.in_ok-at.at _ c.index-deref-at.result c.self.invariant c.self.view_is c.in_ok-at.ensures
     c.deref.ensures.0 in
     let tables = λ (s : Tables). after_evict s c.args.pasid c.args.page in
-    ended c.self.inside _ (step.Evict c.args.endpoint c.args.pasid c.args.page) (answer.Evicted) _ _ _ c.self.inside.in_flight c.self.view_is
-    (rewritten c.self.inside _ c.args.endpoint c.in_ok-at.at _ _ c.index-deref-at.result c.index-deref_mut-at.result c.evict.new.self tables
+    ended c.self.inside.kept _ (step.Evict c.args.endpoint c.args.pasid c.args.page) (answer.Evicted) _ _ _ c.self.inside.kept.in_flight c.self.view_is
+    (rewritten c.self.inside.kept _ c.args.endpoint c.in_ok-at.at _ _ c.index-deref-at.result c.index-deref_mut-at.result c.evict.new.self tables
     c.self.view_is c.in_ok-at.ensures c.deref.ensures.0 c.deref_mut.ensures.value c.evict.ensures)
     (refl)
-    (evict_done c.self.inside c.args.endpoint c.args.pasid c.args.page _ is c.in_ok-may_evict.ensures)
+    (evict_done c.self.inside.kept c.args.endpoint c.args.pasid c.args.page _ is c.in_ok-may_evict.ensures)
 
 pub returns-in_err-at-clause-memory : goal.returns-in_err-at-clause-memory
 returns-in_err-at-clause-memory c = not_for_memory _ _ c.from_residual.ensures (other_port c.args.self.now c.args.endpoint _ c.in_err-at.ensures)

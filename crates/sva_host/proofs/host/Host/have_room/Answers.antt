@@ -1,7 +1,7 @@
 use Rattle.std.proofs.Common.{◌∙◌, ap, sym, ◌<◌, arith}
 use Rattle.std.specs.Prelude.{◌&&◌, not, length}
 use Rattle.sva_labels.specs.Finding.{submits, has_room, unit_of}
-use Rattle.sva_host.proofs.TakenOut.{parts_seen, unit_there, any_none, any_next, lacks_none, no_room}
+use Rattle.sva_kept.proofs.TakenOut.{parts_seen, unit_there, any_none, any_next, lacks_none, no_room}
 use Rattle.sva_host.proofs.host.Host.have_room.Goals as goal
 
 pub loop-endpoint-init : goal.loop-endpoint-init
@@ -9,17 +9,19 @@ loop-endpoint-init c = any_none (λ e. submits c.args.self.now c.args.space e &&
 
 pub returns-then-lacks : goal.returns-then-lacks
 returns-then-lacks c =
-    let ports = parts_seen c.self.inside _ c.self.view_is in
-    let within : c.loop-endpoint.endpoint < length c.self.inside.ports.items = omega arith in
-    let unit = unit_there c.self.inside _ c.loop-endpoint.endpoint c.deref.result.now c.index-deref-endpoint.result c.self.view_is within c.deref.ensures.0 in
+    let ports = parts_seen c.self.inside.kept _ c.self.view_is in
+    let within : c.loop-endpoint.endpoint < length c.self.inside.kept.ports.items = omega arith in
+    let unit = unit_there c.self.inside.kept _ c.loop-endpoint.endpoint c.deref.result.now c.index-deref-endpoint.result c.self.view_is within
+    c.deref.ensures.0 in
     no_room c.args.self.now c.args.space c.args.descriptors c.loop-endpoint.endpoint (omega arith) (sym c.submits.ensures ∙ c.if-submits.true)
     (sym (c.has_room-lacks.ensures ∙ ap (λ u. has_room u c.args.descriptors) unit) ∙ c.if-lacks.true)
 
 pub loop-endpoint-preserved : goal.loop-endpoint-preserved
 loop-endpoint-preserved c =
-    let ports = parts_seen c.self.inside _ c.self.view_is in
-    let within : c.loop-endpoint.endpoint < length c.self.inside.ports.items = omega arith in
-    let unit = unit_there c.self.inside _ c.loop-endpoint.endpoint c.deref.result.now c.index-deref-endpoint.result c.self.view_is within c.deref.ensures.0 in
+    let ports = parts_seen c.self.inside.kept _ c.self.view_is in
+    let within : c.loop-endpoint.endpoint < length c.self.inside.kept.ports.items = omega arith in
+    let unit = unit_there c.self.inside.kept _ c.loop-endpoint.endpoint c.deref.result.now c.index-deref-endpoint.result c.self.view_is within
+    c.deref.ensures.0 in
     any_next c.loop-endpoint.endpoint (λ e. submits c.args.self.now c.args.space e && not (has_room (unit_of c.args.self.now e) c.args.descriptors))
     c.loop-endpoint.invariant
     (lacks_none _ _ _ _ c.submits.ensures (c.has_room-lacks.ensures ∙ ap (λ u. has_room u c.args.descriptors) unit) c.else-submits.either)

@@ -6,19 +6,19 @@ use Rattle.sva_model.specs.Wire.Descriptor.{PasidDescriptor, WaitDescriptor}
 use Rattle.sva_labels.specs.Finding.{has_room}
 use Rattle.sva_labels.specs.Moves.{with_descriptors}
 use Rattle.sva_unit.specs.Seen.{UnitSeen, with_unit}
-use Rattle.sva_host.specs.declared.host.Port.{Port}
-use Rattle.sva_host.proofs.Advances.{invalidates, home_is, port_for, seen_there, submitted}
-use Rattle.sva_host.proofs.Bound.{kind_in}
-use Rattle.sva_host.proofs.Ports.{port_found}
-use Rattle.sva_host.proofs.TakenOut.{parts_seen, unit_there}
-use Rattle.sva_host.proofs.Units.{unit_rewritten, with_unit_host}
+use Rattle.sva_kept.specs.declared.kept.Port.{Port}
+use Rattle.sva_kept.proofs.Advances.{invalidates, home_is, port_for, seen_there, submitted}
+use Rattle.sva_kept.proofs.Bound.{kind_in}
+use Rattle.sva_kept.proofs.Ports.{port_found}
+use Rattle.sva_kept.proofs.TakenOut.{parts_seen, unit_there}
+use Rattle.sva_kept.proofs.Units.{unit_rewritten, with_unit_host}
 use Rattle.sva_host.proofs.host.Host.invalidate.Goals as goal
 
 pub bounds-deref_mut-endpoint : goal.bounds-deref_mut-endpoint
 bounds-deref_mut-endpoint c =
     let (cookie, is) = invalidates c.args.self.now c.args.binding c.args.endpoint c.args.pasid c.requires.may in
     let there = home_is c.args.self.now c.args.binding c.args.endpoint _ _ _ _ c.requires.sound is in
-    let long = parts_seen c.self.inside c.args.self.now c.self.view_is in
+    let long = parts_seen c.self.inside.kept c.args.self.now c.self.view_is in
     let same = ap (λ (ports : List Port). length ports) c.deref_mut.ensures.value in
     omega (arith, there, long, same)
 
@@ -26,15 +26,15 @@ pub offset_bounds-deref_mut-endpoint : goal.offset_bounds-deref_mut-endpoint
 offset_bounds-deref_mut-endpoint c =
     let (cookie, is) = invalidates c.args.self.now c.args.binding c.args.endpoint c.args.pasid c.requires.may in
     let there = home_is c.args.self.now c.args.binding c.args.endpoint _ _ _ _ c.requires.sound is in
-    let long = parts_seen c.self.inside c.args.self.now c.self.view_is in
+    let long = parts_seen c.self.inside.kept c.args.self.now c.self.view_is in
     omega (arith, there, c.requires.sound.few_parts)
 
 pub submit_pasid-requires-clause-opened : goal.submit_pasid-requires-clause-opened
 submit_pasid-requires-clause-opened c =
     let (cookie, is) = invalidates c.args.self.now c.args.binding c.args.endpoint c.args.pasid c.requires.may in
     let there = home_is c.args.self.now c.args.binding c.args.endpoint _ _ _ _ c.requires.sound is in
-    let long = parts_seen c.self.inside c.args.self.now c.self.view_is in
-    let unit = unit_there c.self.inside c.args.self.now c.args.endpoint c.deref_mut.result.now c.index-deref_mut-endpoint.result c.self.view_is
+    let long = parts_seen c.self.inside.kept c.args.self.now c.self.view_is in
+    let unit = unit_there c.self.inside.kept c.args.self.now c.args.endpoint c.deref_mut.result.now c.index-deref_mut-endpoint.result c.self.view_is
     (omega (arith, there, long)) c.deref_mut.ensures.value in
     ap (λ (u : UnitWire). u.is_open) unit ∙ is.is_open
 
@@ -42,8 +42,8 @@ pub submit_pasid-requires-clause-room : goal.submit_pasid-requires-clause-room
 submit_pasid-requires-clause-room c =
     let (cookie, is) = invalidates c.args.self.now c.args.binding c.args.endpoint c.args.pasid c.requires.may in
     let there = home_is c.args.self.now c.args.binding c.args.endpoint _ _ _ _ c.requires.sound is in
-    let long = parts_seen c.self.inside c.args.self.now c.self.view_is in
-    let unit = unit_there c.self.inside c.args.self.now c.args.endpoint c.deref_mut.result.now c.index-deref_mut-endpoint.result c.self.view_is
+    let long = parts_seen c.self.inside.kept c.args.self.now c.self.view_is in
+    let unit = unit_there c.self.inside.kept c.args.self.now c.args.endpoint c.deref_mut.result.now c.index-deref_mut-endpoint.result c.self.view_is
     (omega (arith, there, long)) c.deref_mut.ensures.value in
     ap (λ (u : UnitWire). has_room u 2) unit ∙ is.room
 
@@ -51,10 +51,10 @@ pub submit_pasid-requires-clause-later : goal.submit_pasid-requires-clause-later
 submit_pasid-requires-clause-later c =
     let (cookie, is) = invalidates c.args.self.now c.args.binding c.args.endpoint c.args.pasid c.requires.may in
     let there = home_is c.args.self.now c.args.binding c.args.endpoint _ _ _ _ c.requires.sound is in
-    let long = parts_seen c.self.inside c.args.self.now c.self.view_is in
-    let unit = unit_there c.self.inside c.args.self.now c.args.endpoint c.deref_mut.result.now c.index-deref_mut-endpoint.result c.self.view_is
+    let long = parts_seen c.self.inside.kept c.args.self.now c.self.view_is in
+    let unit = unit_there c.self.inside.kept c.args.self.now c.args.endpoint c.deref_mut.result.now c.index-deref_mut-endpoint.result c.self.view_is
     (omega (arith, there, long)) c.deref_mut.ensures.value in
-    let next : c.self.inside.next_cookie ≡ c.args.self.now.next_cookie = ap (λ (w : Wire). w.next_cookie) c.self.view_is in
+    let next : c.self.inside.kept.next_cookie ≡ c.args.self.now.next_cookie = ap (λ (w : Wire). w.next_cookie) c.self.view_is in
     let low = c.requires.sound.waits_given c.args.endpoint there in
     let same = ap (λ (u : UnitWire). u.waits_end) unit in
     omega (arith, low, same, next)
@@ -62,27 +62,27 @@ submit_pasid-requires-clause-later c =
 pub submit_pasid-requires-clause-number : goal.submit_pasid-requires-clause-number
 submit_pasid-requires-clause-number c =
     let (cookie, is) = invalidates c.args.self.now c.args.binding c.args.endpoint c.args.pasid c.requires.may in
-    let next : c.self.inside.next_cookie ≡ c.args.self.now.next_cookie = ap (λ (w : Wire). w.next_cookie) c.self.view_is in
+    let next : c.self.inside.kept.next_cookie ≡ c.args.self.now.next_cookie = ap (λ (w : Wire). w.next_cookie) c.self.view_is in
     omega (arith, is.cookies, next)
 
 pub invalidate-requires : goal.invalidate-requires
 invalidate-requires c =
     let (cookie, is) = invalidates c.args.self.now c.args.binding c.args.endpoint c.args.pasid c.requires.may in
-    kind_in (DrainingWire cookie) c.args.binding c.self.inside.bindings
-    (seen_there c.self.inside c.args.self.now c.args.binding c.args.endpoint _ _ _ _ c.self.invariant c.self.view_is is)
+    kind_in (DrainingWire cookie) c.args.binding c.self.inside.kept.bindings
+    (seen_there c.self.inside.kept c.args.self.now c.args.binding c.args.endpoint _ _ _ _ c.self.invariant c.self.view_is is)
 
 pub invariant_of-self : goal.invariant_of-self
 invariant_of-self c =
     let (cookie, is) = invalidates c.args.self.now c.args.binding c.args.endpoint c.args.pasid c.requires.may in
     let for = port_for c.args.self.now c.args.binding c.args.endpoint _ _ _ _ c.requires.sound is in
-    let port = port_found c.self.inside c.args.self.now c.args.endpoint c.args.endpoint c.deref_mut.result.now c.index-deref_mut-endpoint.result
+    let port = port_found c.self.inside.kept c.args.self.now c.args.endpoint c.args.endpoint c.deref_mut.result.now c.index-deref_mut-endpoint.result
     c.self.invariant c.self.view_is for c.deref_mut.ensures.value in
     let change = λ (u : UnitSeen). with_unit u
-    (with_descriptors u.unit (PasidDescriptor c.args.pasid ∷ WaitDescriptor c.self.inside.next_cookie false ∷ []) c.self.inside.next_cookie) in
-    let written = unit_rewritten c.self.inside c.args.self.now c.args.endpoint c.args.endpoint c.deref_mut.result.now c.deref_mut.result.now
+    (with_descriptors u.unit (PasidDescriptor c.args.pasid ∷ WaitDescriptor c.self.inside.kept.next_cookie false ∷ []) c.self.inside.kept.next_cookie) in
+    let written = unit_rewritten c.self.inside.kept c.args.self.now c.args.endpoint c.args.endpoint c.deref_mut.result.now c.deref_mut.result.now
     c.index-deref_mut-endpoint.result c.index-deref_mut-endpoint.result c.submit_pasid.new.self change c.self.view_is for
     c.deref_mut.ensures.value c.deref_mut.ensures.value c.submit_pasid.ensures in
-    with_unit_host c.self.inside _ c.args.endpoint (slice_index_or c.deref_mut.result.now c.args.endpoint c.index-deref_mut-endpoint.result) _
+    with_unit_host c.self.inside.kept _ c.args.endpoint (slice_index_or c.deref_mut.result.now c.args.endpoint c.index-deref_mut-endpoint.result) _
     c.self.invariant port.sound written
     (c.invalidate.ensures.staged c.self.invariant.staged)
 
@@ -90,14 +90,14 @@ pub returns : goal.returns
 returns c =
     let (cookie, is) = invalidates c.args.self.now c.args.binding c.args.endpoint c.args.pasid c.requires.may in
     let for = port_for c.args.self.now c.args.binding c.args.endpoint _ _ _ _ c.requires.sound is in
-    let port = port_found c.self.inside c.args.self.now c.args.endpoint c.args.endpoint c.deref_mut.result.now c.index-deref_mut-endpoint.result
+    let port = port_found c.self.inside.kept c.args.self.now c.args.endpoint c.args.endpoint c.deref_mut.result.now c.index-deref_mut-endpoint.result
     c.self.invariant c.self.view_is for c.deref_mut.ensures.value in
     let change = λ (u : UnitSeen). with_unit u
-    (with_descriptors u.unit (PasidDescriptor c.args.pasid ∷ WaitDescriptor c.self.inside.next_cookie false ∷ []) c.self.inside.next_cookie) in
-    let written = unit_rewritten c.self.inside c.args.self.now c.args.endpoint c.args.endpoint c.deref_mut.result.now c.deref_mut.result.now
+    (with_descriptors u.unit (PasidDescriptor c.args.pasid ∷ WaitDescriptor c.self.inside.kept.next_cookie false ∷ []) c.self.inside.kept.next_cookie) in
+    let written = unit_rewritten c.self.inside.kept c.args.self.now c.args.endpoint c.args.endpoint c.deref_mut.result.now c.deref_mut.result.now
     c.index-deref_mut-endpoint.result c.index-deref_mut-endpoint.result c.submit_pasid.new.self change c.self.view_is for
     c.deref_mut.ensures.value c.deref_mut.ensures.value c.submit_pasid.ensures in
-    submitted c.self.inside c.args.self.now c.args.binding c.args.endpoint _ _ _ _ (λ (k : ℕ). PasidDescriptor c.args.pasid ∷ WaitDescriptor k false
+    submitted c.self.inside.kept c.args.self.now c.args.binding c.args.endpoint _ _ _ _ (λ (k : ℕ). PasidDescriptor c.args.pasid ∷ WaitDescriptor k false
     ∷ []) InvalidatingWire
     (slice_index_or c.deref_mut.result.now c.args.endpoint c.index-deref_mut-endpoint.result) _ c.invalidate.new.bindings c.self.view_is is port
     written c.invalidate.ensures (λ w. refl)

@@ -1,51 +1,51 @@
 use Rattle.std.proofs.Common.{◌≡◌, ◌<◌, ◌≤◌, ◌^◌, ap, sym, subst, ◌∙◌, arith}
 use Rattle.std.specs.Prelude.{Ok, List, length}
-use Rattle.sva_host.specs.declared.host.Port.{Port}
+use Rattle.sva_kept.specs.declared.kept.Port.{Port}
 use Rattle.sva_model.specs.Wire.{Wire}
 use Rattle.sva_labels.specs.Finding.{has_room}
 use Rattle.sva_views.specs.Bindings.{binding_seen, stage_or_quiet}
-use Rattle.sva_host.specs.Advancing.{is_due}
-use Rattle.sva_host.proofs.Bound.{binding_at, home_there, home_within}
-use Rattle.sva_host.proofs.TakenOut.{unit_there}
-use Rattle.sva_host.proofs.Advances.{none_open, no_such_binding, quiet_goes, in_reset, not_yet, settles_next, queue_full, cookies_spent, goes_on}
+use Rattle.sva_kept.specs.Advancing.{is_due}
+use Rattle.sva_kept.proofs.Bound.{binding_at, home_there, home_within}
+use Rattle.sva_kept.proofs.TakenOut.{unit_there}
+use Rattle.sva_kept.proofs.Advances.{none_open, no_such_binding, quiet_goes, in_reset, not_yet, settles_next, queue_full, cookies_spent, goes_on}
 use Rattle.sva_host.proofs.host.Host.may_advance.Goals as goal
 
 pub returns-in_default : goal.returns-in_default
 returns-in_default c =
-    no_such_binding c.args.self.now c.args.binding (binding_at c.self.inside c.args.self.now c.args.binding _ c.self.view_is c.in_default.ensures)
+    no_such_binding c.args.self.now c.args.binding (binding_at c.self.inside.kept c.args.self.now c.args.binding _ c.self.view_is c.in_default.ensures)
 
 pub returns-then-is_quiet : goal.returns-then-is_quiet
 returns-then-is_quiet c =
     ap Ok c.next_course.ensures
-    ∙ quiet_goes c.args.self.now c.args.binding _ (binding_at c.self.inside c.args.self.now c.args.binding _ c.self.view_is c.in-Some.ensures)
+    ∙ quiet_goes c.args.self.now c.args.binding _ (binding_at c.self.inside.kept c.args.self.now c.args.binding _ c.self.view_is c.in-Some.ensures)
     (sym c.is_quiet.ensures ∙ c.if-is_quiet.true)
 
 pub bounds-deref-place : goal.bounds-deref-place
 bounds-deref-place c =
     subst (λ (ports : List Port). c.in-Some.place.now.endpoint < length ports) (sym c.deref.ensures.0)
-    (home_within c.self.inside c.args.self.now c.args.binding _ c.self.view_is c.requires
-    (binding_at c.self.inside c.args.self.now c.args.binding _ c.self.view_is c.in-Some.ensures))
+    (home_within c.self.inside.kept c.args.self.now c.args.binding _ c.self.view_is c.requires
+    (binding_at c.self.inside.kept c.args.self.now c.args.binding _ c.self.view_is c.in-Some.ensures))
 
 pub offset_bounds-deref-place : goal.offset_bounds-deref-place
 offset_bounds-deref-place c =
     let there = home_there c.args.self.now c.args.binding (binding_seen c.in-Some.place.now) c.requires
-    (binding_at c.self.inside c.args.self.now c.args.binding _ c.self.view_is c.in-Some.ensures) in
+    (binding_at c.self.inside.kept c.args.self.now c.args.binding _ c.self.view_is c.in-Some.ensures) in
     omega (arith, there, c.requires.few_parts)
 
 pub returns-then-not-is_open : goal.returns-then-not-is_open
 returns-then-not-is_open c =
-    let found = binding_at c.self.inside c.args.self.now c.args.binding _ c.self.view_is c.in-Some.ensures in
-    let unit = unit_there c.self.inside c.args.self.now c.in-Some.place.now.endpoint c.deref.result.now c.index-deref-place.result c.self.view_is
-    (home_within c.self.inside c.args.self.now c.args.binding _ c.self.view_is c.requires found) c.deref.ensures.0 in
+    let found = binding_at c.self.inside.kept c.args.self.now c.args.binding _ c.self.view_is c.in-Some.ensures in
+    let unit = unit_there c.self.inside.kept c.args.self.now c.in-Some.place.now.endpoint c.deref.result.now c.index-deref-place.result c.self.view_is
+    (home_within c.self.inside.kept c.args.self.now c.args.binding _ c.self.view_is c.requires found) c.deref.ensures.0 in
     in_reset c.args.self.now c.args.binding _ found
     (sym c.is_quiet.ensures ∙ c.if-is_quiet.false)
     (sym (c.is_open.ensures ∙ ap (λ u. u.is_open) unit) ∙ c.if-not-is_open.true)
 
 pub returns-then-not-is_due : goal.returns-then-not-is_due
 returns-then-not-is_due c =
-    let found = binding_at c.self.inside c.args.self.now c.args.binding _ c.self.view_is c.in-Some.ensures in
-    let unit = unit_there c.self.inside c.args.self.now c.in-Some.place.now.endpoint c.deref.result.now c.index-deref-place.result c.self.view_is
-    (home_within c.self.inside c.args.self.now c.args.binding _ c.self.view_is c.requires found) c.deref.ensures.0 in
+    let found = binding_at c.self.inside.kept c.args.self.now c.args.binding _ c.self.view_is c.in-Some.ensures in
+    let unit = unit_there c.self.inside.kept c.args.self.now c.in-Some.place.now.endpoint c.deref.result.now c.index-deref-place.result c.self.view_is
+    (home_within c.self.inside.kept c.args.self.now c.args.binding _ c.self.view_is c.requires found) c.deref.ensures.0 in
     not_yet c.args.self.now c.args.binding _ found
     (sym c.is_quiet.ensures ∙ c.if-is_quiet.false)
     (sym (c.is_open.ensures ∙ ap (λ u. u.is_open) unit) ∙ c.if-not-is_open.false)
@@ -53,9 +53,9 @@ returns-then-not-is_due c =
 
 pub returns-then-descriptors-eq0 : goal.returns-then-descriptors-eq0
 returns-then-descriptors-eq0 c =
-    let found = binding_at c.self.inside c.args.self.now c.args.binding _ c.self.view_is c.in-Some.ensures in
-    let unit = unit_there c.self.inside c.args.self.now c.in-Some.place.now.endpoint c.deref.result.now c.index-deref-place.result c.self.view_is
-    (home_within c.self.inside c.args.self.now c.args.binding _ c.self.view_is c.requires found) c.deref.ensures.0 in
+    let found = binding_at c.self.inside.kept c.args.self.now c.args.binding _ c.self.view_is c.in-Some.ensures in
+    let unit = unit_there c.self.inside.kept c.args.self.now c.in-Some.place.now.endpoint c.deref.result.now c.index-deref-place.result c.self.view_is
+    (home_within c.self.inside.kept c.args.self.now c.args.binding _ c.self.view_is c.requires found) c.deref.ensures.0 in
     ap Ok c.next_course-then-descriptors-eq0.ensures
     ∙ settles_next c.args.self.now c.args.binding _ found
     (sym c.is_quiet.ensures ∙ c.if-is_quiet.false)
@@ -65,39 +65,39 @@ returns-then-descriptors-eq0 c =
 
 pub returns-then-not-has_room : goal.returns-then-not-has_room
 returns-then-not-has_room c =
-    let found = binding_at c.self.inside c.args.self.now c.args.binding _ c.self.view_is c.in-Some.ensures in
-    let unit = unit_there c.self.inside c.args.self.now c.in-Some.place.now.endpoint c.deref.result.now c.index-deref-place.result c.self.view_is
-    (home_within c.self.inside c.args.self.now c.args.binding _ c.self.view_is c.requires found) c.deref.ensures.0 in
+    let found = binding_at c.self.inside.kept c.args.self.now c.args.binding _ c.self.view_is c.in-Some.ensures in
+    let unit = unit_there c.self.inside.kept c.args.self.now c.in-Some.place.now.endpoint c.deref.result.now c.index-deref-place.result c.self.view_is
+    (home_within c.self.inside.kept c.args.self.now c.args.binding _ c.self.view_is c.requires found) c.deref.ensures.0 in
     queue_full c.args.self.now c.args.binding _ found
     (sym c.is_quiet.ensures ∙ c.if-is_quiet.false)
     (sym (c.is_open.ensures ∙ ap (λ u. u.is_open) unit) ∙ c.if-not-is_open.false)
     (sym (c.is_due.ensures ∙ ap (λ u. is_due u (stage_or_quiet c.in-Some.place.now.stage)) unit) ∙ c.if-not-is_due.false)
     (λ none. c.if-descriptors-eq0.false (c.descriptors_of-descriptors.ensures ∙ none))
-    (none_open c.self.inside c.args.self.now c.in-Some.place.now.endpoint c.in-Some.place.now.binding c.self.view_is)
+    (none_open c.self.inside.kept c.args.self.now c.in-Some.place.now.endpoint c.in-Some.place.now.binding c.self.view_is)
     (sym (c.has_room.ensures ∙ (λ i. has_room (unit i) (c.descriptors_of-descriptors.ensures i))) ∙ c.if-not-has_room.true)
 
 pub returns-then-self-ge-NUMBERS : goal.returns-then-self-ge-NUMBERS
 returns-then-self-ge-NUMBERS c =
-    let found = binding_at c.self.inside c.args.self.now c.args.binding _ c.self.view_is c.in-Some.ensures in
-    let unit = unit_there c.self.inside c.args.self.now c.in-Some.place.now.endpoint c.deref.result.now c.index-deref-place.result c.self.view_is
-    (home_within c.self.inside c.args.self.now c.args.binding _ c.self.view_is c.requires found) c.deref.ensures.0 in
-    let next : c.self.inside.next_cookie ≡ c.args.self.now.next_cookie = ap (λ (w : Wire). w.next_cookie) c.self.view_is in
+    let found = binding_at c.self.inside.kept c.args.self.now c.args.binding _ c.self.view_is c.in-Some.ensures in
+    let unit = unit_there c.self.inside.kept c.args.self.now c.in-Some.place.now.endpoint c.deref.result.now c.index-deref-place.result c.self.view_is
+    (home_within c.self.inside.kept c.args.self.now c.args.binding _ c.self.view_is c.requires found) c.deref.ensures.0 in
+    let next : c.self.inside.kept.next_cookie ≡ c.args.self.now.next_cookie = ap (λ (w : Wire). w.next_cookie) c.self.view_is in
     let over : 2 ^ 63 ≤ c.args.self.now.next_cookie = omega (arith, c.if-self-ge-NUMBERS.true, next) in
     cookies_spent c.args.self.now c.args.binding _ found
     (sym c.is_quiet.ensures ∙ c.if-is_quiet.false)
     (sym (c.is_open.ensures ∙ ap (λ u. u.is_open) unit) ∙ c.if-not-is_open.false)
     (sym (c.is_due.ensures ∙ ap (λ u. is_due u (stage_or_quiet c.in-Some.place.now.stage)) unit) ∙ c.if-not-is_due.false)
     (λ none. c.if-descriptors-eq0.false (c.descriptors_of-descriptors.ensures ∙ none))
-    (none_open c.self.inside c.args.self.now c.in-Some.place.now.endpoint c.in-Some.place.now.binding c.self.view_is)
+    (none_open c.self.inside.kept c.args.self.now c.in-Some.place.now.endpoint c.in-Some.place.now.binding c.self.view_is)
     (sym (c.has_room.ensures ∙ (λ i. has_room (unit i) (c.descriptors_of-descriptors.ensures i))) ∙ c.if-not-has_room.false)
     over
 
 pub returns : goal.returns
 returns c =
-    let found = binding_at c.self.inside c.args.self.now c.args.binding _ c.self.view_is c.in-Some.ensures in
-    let unit = unit_there c.self.inside c.args.self.now c.in-Some.place.now.endpoint c.deref.result.now c.index-deref-place.result c.self.view_is
-    (home_within c.self.inside c.args.self.now c.args.binding _ c.self.view_is c.requires found) c.deref.ensures.0 in
-    let next : c.self.inside.next_cookie ≡ c.args.self.now.next_cookie = ap (λ (w : Wire). w.next_cookie) c.self.view_is in
+    let found = binding_at c.self.inside.kept c.args.self.now c.args.binding _ c.self.view_is c.in-Some.ensures in
+    let unit = unit_there c.self.inside.kept c.args.self.now c.in-Some.place.now.endpoint c.deref.result.now c.index-deref-place.result c.self.view_is
+    (home_within c.self.inside.kept c.args.self.now c.args.binding _ c.self.view_is c.requires found) c.deref.ensures.0 in
+    let next : c.self.inside.kept.next_cookie ≡ c.args.self.now.next_cookie = ap (λ (w : Wire). w.next_cookie) c.self.view_is in
     let under : c.args.self.now.next_cookie < 2 ^ 63 = omega (arith, c.if-self-ge-NUMBERS.false, next) in
     ap Ok c.next_course-2.ensures
     ∙ goes_on c.args.self.now c.args.binding _ found
@@ -105,6 +105,6 @@ returns c =
     (sym (c.is_open.ensures ∙ ap (λ u. u.is_open) unit) ∙ c.if-not-is_open.false)
     (sym (c.is_due.ensures ∙ ap (λ u. is_due u (stage_or_quiet c.in-Some.place.now.stage)) unit) ∙ c.if-not-is_due.false)
     (λ none. c.if-descriptors-eq0.false (c.descriptors_of-descriptors.ensures ∙ none))
-    (none_open c.self.inside c.args.self.now c.in-Some.place.now.endpoint c.in-Some.place.now.binding c.self.view_is)
+    (none_open c.self.inside.kept c.args.self.now c.in-Some.place.now.endpoint c.in-Some.place.now.binding c.self.view_is)
     (sym (c.has_room.ensures ∙ (λ i. has_room (unit i) (c.descriptors_of-descriptors.ensures i))) ∙ c.if-not-has_room.false)
     under

@@ -1,7 +1,7 @@
 use Rattle.std.proofs.Common.{refl, sym, subst}
-use Rattle.sva_host.proofs.Openings.{opened_seen, new_sound}
-use Rattle.sva_host.proofs.Ports.{AllSound}
-use Rattle.sva_host.proofs.Staged.{none_staged}
+use Rattle.sva_kept.proofs.Openings.{opened_seen, new_sound}
+use Rattle.sva_kept.proofs.Ports.{AllSound}
+use Rattle.sva_kept.proofs.Staged.{none_staged}
 use Rattle.sva_host.proofs.host.Host.open.Goals as goal
 
 pub returns : goal.returns

@@ -1,22 +1,21 @@
-use Rattle.std.proofs.Common.{◌≡◌, ◌<◌, ap, sym, subst, ◌∙◌, Bool, arith}
-use Rattle.std.specs.Prelude.{if◌then◌else◌, List, Option, Some, None, length}
-use Rattle.sva_model.specs.Wire.{BindingWire}
+use Rattle.std.proofs.Common.{◌<◌, ap, sym, subst, ◌∙◌, Bool, arith}
+use Rattle.std.specs.Prelude.{if◌then◌else◌, List, Some, None, length}
 use Rattle.sva_labels.specs.Finding.{unit_of}
 use Rattle.sva_views.specs.Bindings.{binding_seen}
-use Rattle.sva_host.specs.declared.host.Port.{Port}
-use Rattle.sva_host.specs.StageReading.{open_drain}
-use Rattle.sva_host.proofs.Bound.{binding_at, home_there, home_within}
-use Rattle.sva_host.proofs.TakenOut.{unit_there}
+use Rattle.sva_kept.specs.declared.kept.Port.{Port}
+use Rattle.sva_kept.specs.StageReading.{open_drain}
+use Rattle.sva_kept.proofs.Bound.{binding_at, home_there, home_within}
+use Rattle.sva_kept.proofs.TakenOut.{unit_there}
 use Rattle.sva_host.proofs.host.Host.open_drain.Goals as goal
 
 pub returns-in_err-place : goal.returns-in_err-place
 returns-in_err-place c =
     c.from_residual.ensures
-    ∙ sym (ap (open_drain c.args.self.now) (binding_at c.self.inside c.args.self.now c.args.binding _ c.self.view_is c.in_err-place.ensures))
+    ∙ sym (ap (open_drain c.args.self.now) (binding_at c.self.inside.kept c.args.self.now c.args.binding _ c.self.view_is c.in_err-place.ensures))
 
 pub returns-then-not-is_draining : goal.returns-then-not-is_draining
 returns-then-not-is_draining c =
-    let found = binding_at c.self.inside c.args.self.now c.args.binding _ c.self.view_is c.in_ok-place.ensures in
+    let found = binding_at c.self.inside.kept c.args.self.now c.args.binding _ c.self.view_is c.in_ok-place.ensures in
     let other = sym c.is_draining.ensures ∙ c.if-not-is_draining.true in
     sym
     (ap (open_drain c.args.self.now) found
@@ -25,21 +24,21 @@ returns-then-not-is_draining c =
 pub bounds-deref-place : goal.bounds-deref-place
 bounds-deref-place c =
     subst (λ (ports : List Port). c.in_ok-place.place.now.endpoint < length ports) (sym c.deref.ensures.0)
-    (home_within c.self.inside c.args.self.now c.args.binding _ c.self.view_is c.requires
-    (binding_at c.self.inside c.args.self.now c.args.binding _ c.self.view_is c.in_ok-place.ensures))
+    (home_within c.self.inside.kept c.args.self.now c.args.binding _ c.self.view_is c.requires
+    (binding_at c.self.inside.kept c.args.self.now c.args.binding _ c.self.view_is c.in_ok-place.ensures))
 
 pub offset_bounds-deref-place : goal.offset_bounds-deref-place
 offset_bounds-deref-place c =
-    let found = binding_at c.self.inside c.args.self.now c.args.binding _ c.self.view_is c.in_ok-place.ensures in
+    let found = binding_at c.self.inside.kept c.args.self.now c.args.binding _ c.self.view_is c.in_ok-place.ensures in
     let there = home_there c.args.self.now c.args.binding (binding_seen c.in_ok-place.place.now) c.requires found in
     omega (arith, there, c.requires.few_parts)
 
 pub returns : goal.returns
 returns c =
-    let found = binding_at c.self.inside c.args.self.now c.args.binding _ c.self.view_is c.in_ok-place.ensures in
-    let within = home_within c.self.inside c.args.self.now c.args.binding _ c.self.view_is c.requires found in
+    let found = binding_at c.self.inside.kept c.args.self.now c.args.binding _ c.self.view_is c.in_ok-place.ensures in
+    let within = home_within c.self.inside.kept c.args.self.now c.args.binding _ c.self.view_is c.requires found in
     let unit =
-    unit_there c.self.inside c.args.self.now c.in_ok-place.place.now.endpoint c.deref.result.now c.index-deref-place.result c.self.view_is within
+    unit_there c.self.inside.kept c.args.self.now c.in_ok-place.place.now.endpoint c.deref.result.now c.index-deref-place.result c.self.view_is within
     c.deref.ensures.0 in
     let drains = sym c.is_draining.ensures ∙ c.if-not-is_draining.false in
     ap Some (c.is_open.ensures ∙ ap (λ u. u.is_open) unit)

@@ -3,29 +3,30 @@ use Rattle.std.specs.Prelude.{List, slice_index_or}
 use Rattle.sva_step.specs.declared.answers.Answer.TheVariants as answer
 use Rattle.sva_step.specs.declared.steps.Step.TheVariants as step
 use Rattle.sva_unit.specs.declared.pumping.Next.TheVariants as Next
-use Rattle.sva_host.specs.declared.host.Port.{Port}
-use Rattle.sva_host.specs.Inner.{wire_of}
-use Rattle.sva_host.proofs.Ports.{port_found}
-use Rattle.sva_host.proofs.Units.{unit_rewritten, with_unit_host, ended_by}
-use Rattle.sva_host.proofs.Heads.{place_for, head_of, after_pass, pump_passed}
+use Rattle.sva_kept.specs.declared.kept.Port.{Port}
+use Rattle.sva_kept.specs.Inner.{wire_of}
+use Rattle.sva_kept.proofs.Ports.{port_found}
+use Rattle.sva_kept.proofs.Units.{unit_rewritten, with_unit_host, ended_by}
+use Rattle.sva_kept.proofs.Heads.{place_for, head_of, after_pass, pump_passed}
 use Rattle.sva_host.proofs.host.Host.pass_head.Goals as goal
 
 pub pass-requires : goal.pass-requires
 pass-requires c =
     let slice : List Port = c.deref_mut.result.now in
     let port : Port = slice_index_or slice c.args.at c.index-deref_mut-at.result in
-    let is = port_found c.self.inside _ c.args.at c.args.at slice c.index-deref_mut-at.result c.self.invariant c.self.view_is
+    let is = port_found c.self.inside.kept _ c.args.at c.args.at slice c.index-deref_mut-at.result c.self.invariant c.self.view_is
     (place_for c.args.self.now c.args.at c.requires.there) c.deref_mut.ensures.value in
-    head_of c.self.inside _ c.args.at port (Next.Pass c.args.cookie) c.self.view_is is c.requires
+    head_of c.self.inside.kept _ c.args.at port (Next.Pass c.args.cookie) c.self.view_is is c.requires
 
 pub invariant_of-self : goal.invariant_of-self
 invariant_of-self c =
     let for = place_for c.args.self.now c.args.at c.requires.there in
     let slice : List Port = c.deref_mut.result.now in
     let port : Port = slice_index_or slice c.args.at c.index-deref_mut-at.result in
-    let is = port_found c.self.inside _ c.args.at c.args.at slice c.index-deref_mut-at.result c.self.invariant c.self.view_is for c.deref_mut.ensures.value in
-    with_unit_host c.self.inside _ c.args.at port (after_pass c.args.cookie port.unit) c.self.invariant is.sound
-    (unit_rewritten c.self.inside _ c.args.at c.args.at slice slice c.index-deref_mut-at.result c.index-deref_mut-at.result c.pass.new.self
+    let is = port_found c.self.inside.kept _ c.args.at c.args.at slice c.index-deref_mut-at.result c.self.invariant c.self.view_is for
+    c.deref_mut.ensures.value in
+    with_unit_host c.self.inside.kept _ c.args.at port (after_pass c.args.cookie port.unit) c.self.invariant is.sound
+    (unit_rewritten c.self.inside.kept _ c.args.at c.args.at slice slice c.index-deref_mut-at.result c.index-deref_mut-at.result c.pass.new.self
     (after_pass c.args.cookie) c.self.view_is for c.deref_mut.ensures.value c.deref_mut.ensures.value c.pass.ensures) c.self.invariant.staged
 
 pub returns : goal.returns
@@ -33,10 +34,11 @@ returns c =
     let for = place_for c.args.self.now c.args.at c.requires.there in
     let slice : List Port = c.deref_mut.result.now in
     let port : Port = slice_index_or slice c.args.at c.index-deref_mut-at.result in
-    let is = port_found c.self.inside _ c.args.at c.args.at slice c.index-deref_mut-at.result c.self.invariant c.self.view_is for c.deref_mut.ensures.value in
-    ended_by c.self.inside _ (step.Pump c.args.at) answer.WaitDone answer.WaitDone
-    (λ items. wire_of (record c.self.inside { ports = record { items = items }; memory = c.settle.new.self })) _ _ c.self.view_is
-    (unit_rewritten c.self.inside _ c.args.at c.args.at slice slice c.index-deref_mut-at.result c.index-deref_mut-at.result c.pass.new.self
+    let is = port_found c.self.inside.kept _ c.args.at c.args.at slice c.index-deref_mut-at.result c.self.invariant c.self.view_is for
+    c.deref_mut.ensures.value in
+    ended_by c.self.inside.kept _ (step.Pump c.args.at) answer.WaitDone answer.WaitDone
+    (λ items. wire_of (record c.self.inside.kept { ports = record { items = items }; memory = c.settle.new.self })) _ _ c.self.view_is
+    (unit_rewritten c.self.inside.kept _ c.args.at c.args.at slice slice c.index-deref_mut-at.result c.index-deref_mut-at.result c.pass.new.self
     (after_pass c.args.cookie) c.self.view_is for c.deref_mut.ensures.value c.deref_mut.ensures.value c.pass.ensures)
     refl
-    (pump_passed c.self.inside _ c.args.at port c.args.cookie c.settle.new.self c.self.view_is is c.requires c.settle.ensures)
+    (pump_passed c.self.inside.kept _ c.args.at port c.args.cookie c.settle.new.self c.self.view_is is c.requires c.settle.ensures)

@@ -1,68 +1,69 @@
 use Rattle.std.proofs.Common.{sym, ap, ◌∙◌, subst, ℕ}
 use Rattle.std.specs.Prelude.{List, slice_index_or}
 use Rattle.sva_unit.specs.declared.pumping.Next.TheVariants as Next
-use Rattle.sva_host.specs.declared.host.Port.{Port}
-use Rattle.sva_host.specs.Heads.{IsHead}
-use Rattle.sva_host.proofs.Ports.{port_found, same_port}
-use Rattle.sva_host.proofs.Heads.{is_there, is_open_there, head_there, sends_there, pump_refused, pump_idle, pump_blocked}
+use Rattle.sva_kept.specs.declared.kept.Port.{Port}
+use Rattle.sva_kept.specs.Heads.{IsHead}
+use Rattle.sva_kept.proofs.Ports.{port_found, same_port}
+use Rattle.sva_kept.proofs.Heads.{is_there, is_open_there, head_there, sends_there, pump_refused, pump_idle, pump_blocked}
 use Rattle.sva_host.proofs.host.Host.pump.Goals as goal
 
 pub returns-then-not-is_open-clause-step : goal.returns-then-not-is_open-clause-step
 returns-then-not-is_open-clause-step c =
     let port : Port = slice_index_or c.deref.result.now c.in_ok-at.at c.index-deref-at.result in
-    let is = port_found c.self.inside _ c.args.endpoint c.in_ok-at.at c.deref.result.now c.index-deref-at.result c.self.invariant c.self.view_is
+    let is = port_found c.self.inside.kept _ c.args.endpoint c.in_ok-at.at c.deref.result.now c.index-deref-at.result c.self.invariant c.self.view_is
     c.in_ok-at.ensures c.deref.ensures.0 in
-    pump_refused c.args.self.now c.args.endpoint (is_there c.self.inside _ c.args.endpoint port c.self.view_is is)
-    (is_open_there c.self.inside _ c.args.endpoint port c.is_open.result _ c.self.view_is is c.is_open.ensures c.if-not-is_open.true)
+    pump_refused c.args.self.now c.args.endpoint (is_there c.self.inside.kept _ c.args.endpoint port c.self.view_is is)
+    (is_open_there c.self.inside.kept _ c.args.endpoint port c.is_open.result _ c.self.view_is is c.is_open.ensures c.if-not-is_open.true)
 
 pub returns-in-Idle-clause-step : goal.returns-in-Idle-clause-step
 returns-in-Idle-clause-step c =
     let slice : List Port = c.deref-2.result.now in
     let port : Port = slice_index_or slice c.in_ok-at.at c.index-deref-at-2.result in
-    let is = port_found c.self.inside _ c.args.endpoint c.in_ok-at.at slice c.index-deref-at-2.result c.self.invariant c.self.view_is c.in_ok-at.ensures
+    let is = port_found c.self.inside.kept _ c.args.endpoint c.in_ok-at.at slice c.index-deref-at-2.result c.self.invariant c.self.view_is c.in_ok-at.ensures
     c.deref-2.ensures.0 in
-    let same = same_port c.self.inside _ c.args.endpoint c.in_ok-at.at c.deref.result.now slice c.index-deref-at.result c.index-deref-at-2.result
+    let same = same_port c.self.inside.kept _ c.args.endpoint c.in_ok-at.at c.deref.result.now slice c.index-deref-at.result c.index-deref-at-2.result
     c.self.view_is c.in_ok-at.ensures c.deref.ensures.0 c.deref-2.ensures.0 in
     let opened = c.is_open.ensures ∙ ap (λ (p : Port). p.unit.unit.is_open) (sym same) in
     pump_idle c.args.self.now c.args.endpoint
-    (head_there c.self.inside _ c.args.endpoint port c.is_open.result Next.Idle c.self.view_is is opened c.if-not-is_open.false c.in-Idle.ensures.next)
+    (head_there c.self.inside.kept _ c.args.endpoint port c.is_open.result Next.Idle c.self.view_is is opened c.if-not-is_open.false c.in-Idle.ensures.next)
 
 pub returns-in-Blocked-clause-step : goal.returns-in-Blocked-clause-step
 returns-in-Blocked-clause-step c =
     let slice : List Port = c.deref-2.result.now in
     let port : Port = slice_index_or slice c.in_ok-at.at c.index-deref-at-2.result in
-    let is = port_found c.self.inside _ c.args.endpoint c.in_ok-at.at slice c.index-deref-at-2.result c.self.invariant c.self.view_is c.in_ok-at.ensures
+    let is = port_found c.self.inside.kept _ c.args.endpoint c.in_ok-at.at slice c.index-deref-at-2.result c.self.invariant c.self.view_is c.in_ok-at.ensures
     c.deref-2.ensures.0 in
-    let same = same_port c.self.inside _ c.args.endpoint c.in_ok-at.at c.deref.result.now slice c.index-deref-at.result c.index-deref-at-2.result
+    let same = same_port c.self.inside.kept _ c.args.endpoint c.in_ok-at.at c.deref.result.now slice c.index-deref-at.result c.index-deref-at-2.result
     c.self.view_is c.in_ok-at.ensures c.deref.ensures.0 c.deref-2.ensures.0 in
     let opened = c.is_open.ensures ∙ ap (λ (p : Port). p.unit.unit.is_open) (sym same) in
     pump_blocked c.args.self.now c.args.endpoint
-    (head_there c.self.inside _ c.args.endpoint port c.is_open.result Next.Blocked c.self.view_is is opened c.if-not-is_open.false c.in-Blocked.ensures.next)
+    (head_there c.self.inside.kept _ c.args.endpoint port c.is_open.result Next.Blocked c.self.view_is is opened c.if-not-is_open.false
+    c.in-Blocked.ensures.next)
 
 pub send_head-requires : goal.send_head-requires
 send_head-requires c =
     let slice : List Port = c.deref-2.result.now in
     let port : Port = slice_index_or slice c.in_ok-at.at c.index-deref-at-2.result in
-    let is = port_found c.self.inside _ c.args.endpoint c.in_ok-at.at slice c.index-deref-at-2.result c.self.invariant c.self.view_is c.in_ok-at.ensures
+    let is = port_found c.self.inside.kept _ c.args.endpoint c.in_ok-at.at slice c.index-deref-at-2.result c.self.invariant c.self.view_is c.in_ok-at.ensures
     c.deref-2.ensures.0 in
-    let same = same_port c.self.inside _ c.args.endpoint c.in_ok-at.at c.deref.result.now slice c.index-deref-at.result c.index-deref-at-2.result
+    let same = same_port c.self.inside.kept _ c.args.endpoint c.in_ok-at.at c.deref.result.now slice c.index-deref-at.result c.index-deref-at-2.result
     c.self.view_is c.in_ok-at.ensures c.deref.ensures.0 c.deref-2.ensures.0 in
     let opened = c.is_open.ensures ∙ ap (λ (p : Port). p.unit.unit.is_open) (sym same) in
     subst (λ (at : ℕ). IsHead c.args.self.now at (Next.Send c.in-Send.sending)) (sym c.in_ok-at.ensures.0)
-    (head_there c.self.inside _ c.args.endpoint port c.is_open.result (Next.Send c.in-Send.sending) c.self.view_is is opened c.if-not-is_open.false
+    (head_there c.self.inside.kept _ c.args.endpoint port c.is_open.result (Next.Send c.in-Send.sending) c.self.view_is is opened c.if-not-is_open.false
     c.in-Send.ensures.next)
 
 pub returns-in-Send-clause-memory : goal.returns-in-Send-clause-memory
 returns-in-Send-clause-memory c none wrong =
     let slice : List Port = c.deref-2.result.now in
     let port : Port = slice_index_or slice c.in_ok-at.at c.index-deref-at-2.result in
-    let is = port_found c.self.inside _ c.args.endpoint c.in_ok-at.at slice c.index-deref-at-2.result c.self.invariant c.self.view_is c.in_ok-at.ensures
+    let is = port_found c.self.inside.kept _ c.args.endpoint c.in_ok-at.at slice c.index-deref-at-2.result c.self.invariant c.self.view_is c.in_ok-at.ensures
     c.deref-2.ensures.0 in
-    let same = same_port c.self.inside _ c.args.endpoint c.in_ok-at.at c.deref.result.now slice c.index-deref-at.result c.index-deref-at-2.result
+    let same = same_port c.self.inside.kept _ c.args.endpoint c.in_ok-at.at c.deref.result.now slice c.index-deref-at.result c.index-deref-at-2.result
     c.self.view_is c.in_ok-at.ensures c.deref.ensures.0 c.deref-2.ensures.0 in
     let opened = c.is_open.ensures ∙ ap (λ (p : Port). p.unit.unit.is_open) (sym same) in
     sends_there c.args.self.now c.args.endpoint c.in-Send.sending
-    (head_there c.self.inside _ c.args.endpoint port c.is_open.result (Next.Send c.in-Send.sending) c.self.view_is is opened c.if-not-is_open.false
+    (head_there c.self.inside.kept _ c.args.endpoint port c.is_open.result (Next.Send c.in-Send.sending) c.self.view_is is opened c.if-not-is_open.false
     c.in-Send.ensures.next)
     none
 
@@ -70,11 +71,11 @@ pub pass_head-requires : goal.pass_head-requires
 pass_head-requires c =
     let slice : List Port = c.deref-2.result.now in
     let port : Port = slice_index_or slice c.in_ok-at.at c.index-deref-at-2.result in
-    let is = port_found c.self.inside _ c.args.endpoint c.in_ok-at.at slice c.index-deref-at-2.result c.self.invariant c.self.view_is c.in_ok-at.ensures
+    let is = port_found c.self.inside.kept _ c.args.endpoint c.in_ok-at.at slice c.index-deref-at-2.result c.self.invariant c.self.view_is c.in_ok-at.ensures
     c.deref-2.ensures.0 in
-    let same = same_port c.self.inside _ c.args.endpoint c.in_ok-at.at c.deref.result.now slice c.index-deref-at.result c.index-deref-at-2.result
+    let same = same_port c.self.inside.kept _ c.args.endpoint c.in_ok-at.at c.deref.result.now slice c.index-deref-at.result c.index-deref-at-2.result
     c.self.view_is c.in_ok-at.ensures c.deref.ensures.0 c.deref-2.ensures.0 in
     let opened = c.is_open.ensures ∙ ap (λ (p : Port). p.unit.unit.is_open) (sym same) in
     subst (λ (at : ℕ). IsHead c.args.self.now at (Next.Pass c.in-Pass.cookie)) (sym c.in_ok-at.ensures.0)
-    (head_there c.self.inside _ c.args.endpoint port c.is_open.result (Next.Pass c.in-Pass.cookie) c.self.view_is is opened c.if-not-is_open.false
+    (head_there c.self.inside.kept _ c.args.endpoint port c.is_open.result (Next.Pass c.in-Pass.cookie) c.self.view_is is opened c.if-not-is_open.false
     c.in-Pass.ensures.next)

@@ -6,45 +6,45 @@ use Rattle.sva_endpoint.specs.Calls as call
 use Rattle.sva_endpoint.specs.Tables.{Tables}
 use Rattle.sva_endpoint.specs.Steps.{after_quit}
 use Rattle.sva_endpoint.proofs.SoundLaws.{sound_after}
-use Rattle.sva_host.specs.Inner.{wire_of}
-use Rattle.sva_host.proofs.Ports.{port_found, rewritten, with_tables_host}
-use Rattle.sva_host.proofs.Devices.{kept, went, ended}
-use Rattle.sva_host.proofs.Quits.{quit_refused, quit_unsent, quit_done}
+use Rattle.sva_kept.specs.Inner.{wire_of}
+use Rattle.sva_kept.proofs.Ports.{port_found, rewritten, with_tables_host}
+use Rattle.sva_kept.proofs.Devices.{kept, went, ended}
+use Rattle.sva_kept.proofs.Quits.{quit_refused, quit_unsent, quit_done}
 use Rattle.sva_host.proofs.host.Host.quit.Goals as goal
 
 pub returns-in_err-marker : goal.returns-in_err-marker
 returns-in_err-marker c =
-    let is = port_found c.self.inside _ c.args.endpoint c.in_ok-at.at _ c.index-deref-at.result c.self.invariant c.self.view_is c.in_ok-at.ensures
+    let is = port_found c.self.inside.kept _ c.args.endpoint c.in_ok-at.at _ c.index-deref-at.result c.self.invariant c.self.view_is c.in_ok-at.ensures
     c.deref.ensures.0 in
     kept _ _ (step.Quit c.args.endpoint c.args.pasid) _ _ c.self.view_is c.from_residual-in_err-marker.ensures
-    (quit_refused c.self.inside c.args.endpoint c.args.pasid _ _ is c.in_err-marker.ensures)
+    (quit_refused c.self.inside.kept c.args.endpoint c.args.pasid _ _ is c.in_err-marker.ensures)
 
 pub returns-in_err-send : goal.returns-in_err-send
 returns-in_err-send c =
-    let is = port_found c.self.inside _ c.args.endpoint c.in_ok-at.at _ c.index-deref-at.result c.self.invariant c.self.view_is c.in_ok-at.ensures
+    let is = port_found c.self.inside.kept _ c.args.endpoint c.in_ok-at.at _ c.index-deref-at.result c.self.invariant c.self.view_is c.in_ok-at.ensures
     c.deref.ensures.0 in
-    went _ _ (wire_of (record c.self.inside { in_flight = c.send.new.bag })) (step.Quit c.args.endpoint c.args.pasid) _ _ c.self.view_is
+    went _ _ (wire_of (record c.self.inside.kept { in_flight = c.send.new.bag })) (step.Quit c.args.endpoint c.args.pasid) _ _ c.self.view_is
     c.from_residual-in_err-send.ensures
-    (quit_unsent c.self.inside c.args.endpoint c.args.pasid _ c.in_ok-marker.marker _ _ is c.in_ok-marker.ensures c.in_err-send.ensures.sends)
+    (quit_unsent c.self.inside.kept c.args.endpoint c.args.pasid _ c.in_ok-marker.marker _ _ is c.in_ok-marker.ensures c.in_err-send.ensures.sends)
 
 pub invariant_of-self-2 : goal.invariant_of-self-2
 invariant_of-self-2 c =
-    let is = port_found c.self.inside _ c.args.endpoint c.in_ok-at.at _ c.index-deref-at.result c.self.invariant c.self.view_is c.in_ok-at.ensures
+    let is = port_found c.self.inside.kept _ c.args.endpoint c.in_ok-at.at _ c.index-deref-at.result c.self.invariant c.self.view_is c.in_ok-at.ensures
     c.deref.ensures.0 in
     let tables = λ (s : Tables). after_quit s c.args.pasid in
-    with_tables_host c.self.inside c.args.endpoint (slice_index_or c.deref.result.now c.in_ok-at.at c.index-deref-at.result) _ c.send.new.bag _
+    with_tables_host c.self.inside.kept c.args.endpoint (slice_index_or c.deref.result.now c.in_ok-at.at c.index-deref-at.result) _ c.send.new.bag _
     c.self.invariant
     (sound_after _ (call.Quit c.args.pasid) (ap is_ok (sym c.in_ok-marker.ensures)) is.sound)
-    (rewritten c.self.inside _ c.args.endpoint c.in_ok-at.at _ _ c.index-deref-at.result c.index-deref_mut-at.result c.quit.new.self tables
+    (rewritten c.self.inside.kept _ c.args.endpoint c.in_ok-at.at _ _ c.index-deref-at.result c.index-deref_mut-at.result c.quit.new.self tables
     c.self.view_is c.in_ok-at.ensures c.deref.ensures.0 c.deref_mut.ensures.value c.quit.ensures)
 
 pub returns : goal.returns
 returns c =
-    let is = port_found c.self.inside _ c.args.endpoint c.in_ok-at.at _ c.index-deref-at.result c.self.invariant c.self.view_is c.in_ok-at.ensures
+    let is = port_found c.self.inside.kept _ c.args.endpoint c.in_ok-at.at _ c.index-deref-at.result c.self.invariant c.self.view_is c.in_ok-at.ensures
     c.deref.ensures.0 in
     let tables = λ (s : Tables). after_quit s c.args.pasid in
-    ended c.self.inside _ (step.Quit c.args.endpoint c.args.pasid) (answer.Marker) _ _ _ c.send.new.bag c.self.view_is
-    (rewritten c.self.inside _ c.args.endpoint c.in_ok-at.at _ _ c.index-deref-at.result c.index-deref_mut-at.result c.quit.new.self tables
+    ended c.self.inside.kept _ (step.Quit c.args.endpoint c.args.pasid) (answer.Marker) _ _ _ c.send.new.bag c.self.view_is
+    (rewritten c.self.inside.kept _ c.args.endpoint c.in_ok-at.at _ _ c.index-deref-at.result c.index-deref_mut-at.result c.quit.new.self tables
     c.self.view_is c.in_ok-at.ensures c.deref.ensures.0 c.deref_mut.ensures.value c.quit.ensures)
     (refl)
-    (quit_done c.self.inside c.args.endpoint c.args.pasid _ c.in_ok-marker.marker c.send.new.bag is c.in_ok-marker.ensures c.in_ok-send.ensures.sends)
+    (quit_done c.self.inside.kept c.args.endpoint c.args.pasid _ c.in_ok-marker.marker c.send.new.bag is c.in_ok-marker.ensures c.in_ok-send.ensures.sends)

@@ -3,8 +3,8 @@ use Rattle.sva_model.specs.Message.Code.{InvalidCode, FailureCode}
 use Rattle.sva_labels.specs.Host.{Decision}
 use Rattle.sva_views.specs.Flights.{code_seen}
 use Rattle.sva_views.specs.Service.{job_seen}
-use Rattle.sva_host.specs.Steps.{Does}
-use Rattle.sva_host.proofs.Responses.{dropped, never_silent, space_there, is_succeeded, is_turned_down}
+use Rattle.sva_kept.specs.Steps.{Does}
+use Rattle.sva_kept.proofs.Responses.{dropped, never_silent, space_there, is_succeeded, is_turned_down}
 use Rattle.sva_host.proofs.host.Host.respond.Goals as goal
 
 pub returns-in_default-clause-step : goal.returns-in_default-clause-step

@@ -2,9 +2,9 @@ use Rattle.std.proofs.Common.{◌∙◌, ap, sym, ◌<◌, ◌+◌, arith}
 use Rattle.std.specs.Prelude.{length, option_map}
 use Rattle.sva_model.specs.Wire.{Wire}
 use Rattle.sva_memory.specs.Seen.{target_seen, targets_seen}
-use Rattle.sva_host.specs.Unmapping.{target_so_far}
-use Rattle.sva_host.proofs.Awaited.{nothing_awaited, first_cookie, cookie_most, next_cookie_there, next_cookie_off, target_is, not_yet, nothing_yet}
-use Rattle.sva_host.proofs.Awaited.{one_more, no_more}
+use Rattle.sva_kept.specs.Unmapping.{target_so_far}
+use Rattle.sva_kept.proofs.Awaited.{nothing_awaited, first_cookie, cookie_most, next_cookie_there, next_cookie_off, target_is, not_yet, nothing_yet}
+use Rattle.sva_kept.proofs.Awaited.{one_more, no_more}
 use Rattle.sva_host.proofs.host.Host.targets.Goals as goal
 use Rattle.sva_host.proofs.host.Host.targets.Goals.{then-submits, else-submits, in-Some, in_default}
 
@@ -31,8 +31,8 @@ overflow_add-cookie c =
 
 pub loop-endpoint-preserved : goal.loop-endpoint-preserved
 loop-endpoint-preserved c =
-    let within : c.loop-endpoint.endpoint < length c.self.inside.ports.items = omega arith in
-    let seen = c.target.ensures ∙ target_is c.self.inside _ c.loop-endpoint.endpoint c.args.space c.loop-endpoint.cookie c.deref.result.now
+    let within : c.loop-endpoint.endpoint < length c.self.inside.kept.ports.items = omega arith in
+    let seen = c.target.ensures ∙ target_is c.self.inside.kept _ c.loop-endpoint.endpoint c.args.space c.loop-endpoint.cookie c.deref.result.now
     c.index-deref-endpoint.result _ c.self.view_is within c.deref.ensures.0 c.place_between-place.ensures c.loop-endpoint.invariant.1 in (
       elim c.match-target.branch [
         | in-Some w ↦ one_more c.args.self.now c.args.space c.loop-endpoint.endpoint c.loop-endpoint.waits c.match-target.waits w.in-Some.target

@@ -2,7 +2,7 @@ use Rattle.std.proofs.Common.{◌≡◌}
 use Rattle.sva_model.specs.Words.{tabulate}
 use Rattle.sva_labels.specs.Moves.{cookie_at}
 use Rattle.sva_memory.specs.Seen.{targets_seen}
-use Rattle.sva_host.specs.Unmapping.{target_so_far}
+use Rattle.sva_kept.specs.Unmapping.{target_so_far}
 use Rattle.sva_host.proofs.host.Host.targets.Given as goal
 
 -- what is awaited at the units so far, and the cookie of the next wait

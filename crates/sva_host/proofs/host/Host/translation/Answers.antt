@@ -1,18 +1,18 @@
 use Rattle.std.proofs.Common.{sym, ap, ◌∙◌, Bool}
-use Rattle.std.specs.Prelude.{if◌then◌else◌, None, Option}
-use Rattle.sva_model.specs.Wire.{Wire, PageWire}
+use Rattle.std.specs.Prelude.{if◌then◌else◌, None}
+use Rattle.sva_model.specs.Wire.{Wire}
 use Rattle.sva_labels.specs.Finding.{page_at, pages_in}
-use Rattle.sva_host.proofs.Requested.{found_by}
+use Rattle.sva_kept.proofs.Requested.{found_by}
 use Rattle.sva_host.proofs.host.Host.translation.Goals as goal
 
 pub returns-in_default : goal.returns-in_default
-returns-in_default c = found_by c.self.inside _ c.args.endpoint c.args.pasid c.args.page _ c.self.view_is c.in_default.ensures
+returns-in_default c = found_by c.self.inside.kept _ c.args.endpoint c.args.pasid c.args.page _ c.self.view_is c.in_default.ensures
 
 pub returns-then-not-is_live : goal.returns-then-not-is_live
 returns-then-not-is_live c =
     sym (ap (λ (b : Bool). if b then page_at (pages_in c.args.self.now c.in-Some.place.now.space) c.args.page else None) (sym c.is_live.ensures
     ∙ c.if-not-is_live.true))
-    ∙ found_by c.self.inside _ c.args.endpoint c.args.pasid c.args.page _ c.self.view_is c.in-Some.ensures
+    ∙ found_by c.self.inside.kept _ c.args.endpoint c.args.pasid c.args.page _ c.self.view_is c.in-Some.ensures
 
 pub returns : goal.returns
 returns c =
@@ -20,4 +20,4 @@ returns c =
     ∙ ap (λ (w : Wire). page_at (pages_in w c.in-Some.place.now.space) c.args.page) c.self.view_is
     ∙ sym (ap (λ (b : Bool). if b then page_at (pages_in c.args.self.now c.in-Some.place.now.space) c.args.page else None) (sym c.is_live.ensures
     ∙ c.if-not-is_live.false))
-    ∙ found_by c.self.inside _ c.args.endpoint c.args.pasid c.args.page _ c.self.view_is c.in-Some.ensures
+    ∙ found_by c.self.inside.kept _ c.args.endpoint c.args.pasid c.args.page _ c.self.view_is c.in-Some.ensures

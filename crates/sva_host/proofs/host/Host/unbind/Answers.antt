@@ -1,9 +1,9 @@
 use Rattle.std.proofs.Common.{refl}
 use Rattle.sva_step.specs.declared.steps.Step.TheVariants as step
-use Rattle.sva_host.specs.Inner.{wire_of}
-use Rattle.sva_host.proofs.Devices.{kept, went}
-use Rattle.sva_host.proofs.Unbinds.{unbind_refused, refused_otherwise, ends_at_once, lost_there, ended, ends_by_stop, live_there, unsent, stopped}
-use Rattle.sva_host.proofs.Unbinds.{not_memory, not_lost}
+use Rattle.sva_kept.specs.Inner.{wire_of}
+use Rattle.sva_kept.proofs.Devices.{kept, went}
+use Rattle.sva_kept.proofs.Unbinds.{unbind_refused, refused_otherwise, ends_at_once, lost_there, ended, ends_by_stop, live_there, unsent, stopped}
+use Rattle.sva_kept.proofs.Unbinds.{not_memory, not_lost}
 use Rattle.sva_host.proofs.host.Host.unbind.Goals as goal
 
 pub returns-in_err-endpoint-clause-step : goal.returns-in_err-endpoint-clause-step
@@ -18,24 +18,24 @@ returns-in_err-endpoint-clause-memory c = λ b found lost.
 
 pub settle_lost-requires : goal.settle_lost-requires
 settle_lost-requires c =
-    lost_there c.self.inside c.args.self.now c.args.binding c.self.invariant c.self.view_is
+    lost_there c.self.inside.kept c.args.self.now c.args.binding c.self.invariant c.self.view_is
     (ends_at_once c.args.self.now c.args.binding c.in_ok-endpoint.field-0 c.in_ok-endpoint.ensures c.in_default.is)
 
 pub returns-in_default-clause-step : goal.returns-in_default-clause-step
 returns-in_default-clause-step c =
-    ended c.self.inside c.args.self.now c.args.binding c.settle_lost.new.bindings c.self.view_is
+    ended c.self.inside.kept c.args.self.now c.args.binding c.settle_lost.new.bindings c.self.view_is
     (ends_at_once c.args.self.now c.args.binding c.in_ok-endpoint.field-0 c.in_ok-endpoint.ensures c.in_default.is) c.settle_lost.ensures
 
 pub stop-requires : goal.stop-requires
 stop-requires c =
-    live_there c.self.inside c.args.self.now c.args.binding c.in-ByStop.endpoint c.in-ByStop.pasid c.self.invariant c.self.view_is
+    live_there c.self.inside.kept c.args.self.now c.args.binding c.in-ByStop.endpoint c.in-ByStop.pasid c.self.invariant c.self.view_is
     (ends_by_stop c.args.self.now c.args.binding c.in-ByStop.endpoint c.in-ByStop.pasid c.in_ok-endpoint.field-0 c.in_ok-endpoint.ensures c.in-ByStop.is)
 
 pub returns-in_err-send-clause-step : goal.returns-in_err-send-clause-step
 returns-in_err-send-clause-step c =
-    went c.args.self.now c.args.self.now (wire_of (record c.self.inside { in_flight = c.send.new.bag })) (step.Unbind c.args.binding) _
+    went c.args.self.now c.args.self.now (wire_of (record c.self.inside.kept { in_flight = c.send.new.bag })) (step.Unbind c.args.binding) _
     c.in_err-send.field-0.0 refl c.from_residual-in_err-send.ensures
-    (unsent c.self.inside c.args.self.now c.args.binding c.in-ByStop.endpoint c.in-ByStop.pasid c.send.new.bag c.in_err-send.field-0.0 c.self.view_is
+    (unsent c.self.inside.kept c.args.self.now c.args.binding c.in-ByStop.endpoint c.in-ByStop.pasid c.send.new.bag c.in_err-send.field-0.0 c.self.view_is
     (ends_by_stop c.args.self.now c.args.binding c.in-ByStop.endpoint c.in-ByStop.pasid c.in_ok-endpoint.field-0 c.in_ok-endpoint.ensures c.in-ByStop.is)
     c.in_err-send.ensures.sends)
 
@@ -48,6 +48,6 @@ returns-in_err-send-clause-memory c = λ b found lost.
 
 pub returns-clause-step : goal.returns-clause-step
 returns-clause-step c =
-    stopped c.self.inside c.args.self.now c.args.binding c.in-ByStop.endpoint c.in-ByStop.pasid c.send.new.bag c.stop.new.bindings c.self.view_is
+    stopped c.self.inside.kept c.args.self.now c.args.binding c.in-ByStop.endpoint c.in-ByStop.pasid c.send.new.bag c.stop.new.bindings c.self.view_is
     (ends_by_stop c.args.self.now c.args.binding c.in-ByStop.endpoint c.in-ByStop.pasid c.in_ok-endpoint.field-0 c.in_ok-endpoint.ensures c.in-ByStop.is)
     c.in_ok-send.ensures.sends c.stop.ensures

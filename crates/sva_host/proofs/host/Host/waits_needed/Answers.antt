@@ -1,6 +1,6 @@
 use Rattle.std.proofs.Common.{◌∙◌, ap, sym, ◌+◌, arith}
 use Rattle.sva_labels.specs.Finding.{submits}
-use Rattle.sva_host.proofs.TakenOut.{counted_none, counted_there, counted_off}
+use Rattle.sva_kept.proofs.TakenOut.{counted_none, counted_there, counted_off}
 use Rattle.sva_host.proofs.host.Host.waits_needed.Goals as goal
 use Rattle.sva_host.proofs.host.Host.waits_needed.Goals.{then-submits, else-submits}
 

@@ -1,0 +1,53 @@
+-- What is answered to a job, by labels (Page Request Group Response: PCI Express Base 5.0, section 10.4.2).
+use Rattle.std.specs.Prelude.{◌≡◌, ℕ, Option, Some, None, List, [], ◌∷◌, ◌++◌, length}
+use Rattle.sva_step.specs.declared.answers.Answer.TheVariants as answer
+use Rattle.sva_step.specs.declared.steps.Verdict.{Verdict}
+use Rattle.sva_model.specs.Message.{Code}
+use Rattle.sva_model.specs.Message.Code.{SuccessCode}
+use Rattle.sva_model.specs.Outcomes.{code_answer}
+use Rattle.sva_model.specs.Wire.{Wire, BindingWire, JobWire}
+use Rattle.sva_labels.specs.Finding.{pages_in, free_from, binding_of}
+use Rattle.sva_labels.specs.Replying.{response_to}
+use Rattle.sva_labels.specs.Causes.{numbers_spent, reply_causes}
+use Rattle.sva_labels.specs.Moves.{Move, pasid_or_0}
+use Rattle.sva_labels.specs.Outcomes.{Result, says, maps_to, reply_maps}
+use Rattle.sva_labels.specs.Host.{Decision, checked}
+use Rattle.sva_memory.specs.Asked.{new_among, success_causes}
+use Rattle.sva_views.specs.Flights.{code_seen}
+use Rattle.sva_kept.specs.declared.replying.Response.{Response}
+
+-- What a reply answers and moves, but that the job leaves its hand, and is discarded where nothing is sent: a host keeps no
+-- hands yet, nor groups.
+abbrev pub responded_by : Wire → JobWire → List Move → Option Code → Result
+responded_by w job maps None = says answer.Dropped []
+responded_by w job maps (Some code) =
+    says (code_answer (length maps) code) (maps ++ Move.Respond job (pasid_or_0 (binding_of w job.binding)) code ∷ [])
+
+abbrev pub responded_of : Wire → JobWire → Verdict → Decision
+responded_of w job v = checked (reply_causes w v (Some job)) (responded_by w job (reply_maps w job v) (response_to w job v))
+
+-- The same by the response that is sent, to a PASID: a success maps pages of a space, and another code maps nothing.
+
+abbrev pub success_maps : Wire → JobWire → (space : ℕ) → List Move
+success_maps w job n = maps_to n job.asks (new_among (pages_in w n) job.asks) (free_from 0 w.places)
+
+abbrev pub succeeded : Wire → JobWire → (space pasid : ℕ) → Decision
+succeeded w job n t =
+    checked
+    (success_causes (pages_in w n) w.places job.asks ++ numbers_spent w.next_message 1 ∷ [])
+    (says (answer.Success (length (success_maps w job n))) (success_maps w job n ++ Move.Respond job t SuccessCode ∷ []))
+
+abbrev pub turned_down : Wire → JobWire → (pasid : ℕ) → Code → Decision
+turned_down w job t code = checked (numbers_spent w.next_message 1 ∷ []) (says (code_answer 0 code) (Move.Respond job t code ∷ []))
+
+-- the response that a job gets, with space and PASID of its binding
+pub record IsResponse (w : Wire) (job : JobWire) (verdict : Verdict) (response : Response) : Type 0 where
+  pub binding : BindingWire
+  pub found : binding_of w job.binding ≡ Some binding
+  pub space : binding.space ≡ response.space
+  pub pasid : binding.pasid ≡ response.pasid
+  pub code : response_to w job verdict ≡ Some (code_seen response.code)
+
+abbrev pub RespondsBy : Wire → JobWire → Verdict → Option Response → Type 0
+RespondsBy w job v None = response_to w job v ≡ None
+RespondsBy w job v (Some response) = IsResponse w job v response

@@ -4,13 +4,12 @@ ghost use Rattle.sva_step.specs.Steps.{is_plain};
 use super::*;
 use std::alloc::Global;
 use std::marker::Brand;
-use std::mem;
 use std::process::Abort;
 use std::sync::ledger::Blank;
 use std::sync::{Barrier, Wait};
 use std::test::Fail;
-use std::thread;
 use std::thread::Threads;
+use std::{mem, thread};
 use sva_step::{Answer, Config, Refusal, Step};
 
 // Two endpoints, four frames and one worker.
@@ -211,7 +210,11 @@ fn strays<C: Tally>(rt: &impl Abort, alloc: Global, calls: Blank) -> Result<(), 
         found: Some(found),
     });
     assert_eq!(rt; strayed, wanted);
-    assert!(rt; running.step(1, Some(made()), &mut share, &Step::Space).is_ok());
+    assert!(rt;
+        running
+            .step(1, Some(made()), &mut share, &Step::Space)
+            .is_ok()
+    );
     running.compare(&mut share);
     Ok(())
 }
@@ -284,7 +287,12 @@ fn refused<C: Tally>(rt: &impl Abort, alloc: Global, calls: Blank)
     requires parts { (calls.parts ≡ C.parts) × (calls.parts ≡ 10) }
     requires config { C.config ≡ TOO_MANY }
 {
-    assert!(rt; matches!(Fabric::<C>::open(alloc, TOO_MANY, calls), Err(Refusal::BadConfig)));
+    assert!(rt;
+        matches!(
+            Fabric::<C>::open(alloc, TOO_MANY, calls),
+            Err(Refusal::BadConfig)
+        )
+    );
 }
 
 #[test]

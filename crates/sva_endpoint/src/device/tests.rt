@@ -1,58 +1,233 @@
-ghost use Rattle.std.specs.Prelude.{◌≡◌};
-ghost use Rattle.sva_endpoint.specs.Deliveries.{answer_to, after_receive};
-
 use super::*;
 use std::process::Abort;
 use sva_msg::{PageRequest, Scope};
 
+// A message to the endpoint.
+#[derive(Clone, Copy)]
+enum Down {
+    Start,
+    Stop,
+    Reset,
+    // The tag, the frame, and whether the page may be read and written.
+    Completion(u8, u32, bool, bool),
+    // The ITag, the PASID and the pages.
+    Invalidate(u8, u32, Scope),
+    // The index and the code.
+    Response(u8, Code),
+}
+
 // What the endpoint answers to a message.
-fn tell(endpoint: &mut Endpoint, kind: Kind) -> Answer
-    ensures answer { result ≡ answer_to endpoint.old kind }
-    ensures after { endpoint.new ≡ after_receive endpoint.old kind }
-{
-    endpoint.receive(Message { endpoint: 0, kind }).answer
+#[derive(Clone, Copy)]
+enum Told {
+    Started,
+    Stopping,
+    Reset,
+    NoTranslation,
+    Full,
+    Held,
+    Dropped,
+    Taken,
+    Answered,
+    Stale,
 }
 
-fn started() -> Endpoint {
-    let mut endpoint = Endpoint::new();
-    tell(&mut endpoint, Kind::Start { pasid: 1 });
-    endpoint
+// What an endpoint is asked for.
+#[derive(Clone, Copy)]
+enum Try {
+    // A PASID and a page.
+    Ask(u64, u64),
+    // A page, and whether it is to be written.
+    Use(u64, bool),
+    End(u64),
+    Evict(u64),
+    // The group that goes on; none where a new one begins.
+    Send(Option<u64>),
+    // The vector, and how many completions.
+    Finish(u32, u64),
+    Quit,
 }
 
-fn ask(rt: &impl Abort, endpoint: &mut Endpoint, page: u64) -> u8 {
-    let yes = endpoint.may_ask(1, page);
-    assert!(rt; yes.is_ok());
-    let tag = endpoint.ask(1, page);
-    assert_eq!(rt;
-        yes,
-        Ok(Asking {
+// A step of an endpoint, and what it has to answer. Where none is named, the PASID is 1.
+#[derive(Clone, Copy)]
+enum Call {
+    Tell(Down, Told),
+    Refused(Try, Refusal),
+    Permitted(Try),
+    // A page, and the tag of the request.
+    Ask(u64, u8),
+    // So many requests for page 16, with the tags from 0 on.
+    AskEach(u8),
+    // A page is asked for, and held with this frame.
+    Hold(u64, u32),
+    // The pages from 0 on, so many, are held with frame 9.
+    HoldEach(u64),
+    // A page, whether it is to be written, and the slot and the frame of the use.
+    Use(u64, bool, Using),
+    // So many reads of page 16, which has frame 3, in the slots from 0 on.
+    UseEach(u8),
+    // A slot, and whether its use was dead.
+    End(u64, bool),
+    Evict(u64),
+    // A page, the group, whether this is its last request, and its index.
+    Send(u64, Option<u64>, bool, u8),
+    // So many requests of the group of index 0, which the first begins and none ends.
+    SendEach(u8),
+    // So many groups of one request, with the indices from 0 on.
+    GroupEach(u8),
+    // The vector, so many completions, and the Completion Count field of each.
+    Finish(u32, u8, u8),
+    Quit,
+}
+
+fn kind_of(down: Down) -> Kind {
+    match down {
+        Down::Start => Kind::Start { pasid: 1 },
+        Down::Stop => Kind::Stop { pasid: 1 },
+        Down::Reset => Kind::Reset,
+        Down::Completion(tag, frame, read, write) => Kind::Completion {
             tag,
-            kind: Kind::Request {
-                tag,
-                pasid: 1,
-                page
-            }
-        })
-    );
-    tag
+            frame,
+            read,
+            write,
+        },
+        Down::Invalidate(itag, pasid, scope) => Kind::Invalidate { itag, pasid, scope },
+        Down::Response(index, code) => Kind::Response {
+            pasid: 1,
+            index,
+            code,
+        },
+    }
 }
 
-fn use_page(rt: &impl Abort, endpoint: &mut Endpoint, page: u64, write: bool) -> Using {
-    let yes = endpoint.may_begin_use(1, page, write);
-    assert!(rt; yes.is_ok());
-    let begun = endpoint.begin_use(1, page, write);
-    assert_eq!(rt; yes, Ok(begun));
-    begun
+fn answer_of(told: Told) -> Answer {
+    match told {
+        Told::Started => Answer::Started,
+        Told::Stopping => Answer::Stopping,
+        Told::Reset => Answer::Reset,
+        Told::NoTranslation => Answer::NoTranslation,
+        Told::Full => Answer::Full,
+        Told::Held => Answer::Held,
+        Told::Dropped => Answer::Dropped,
+        Told::Taken => Answer::Taken,
+        Told::Answered => Answer::Answered,
+        Told::Stale => Answer::Stale,
+    }
 }
 
-fn end(rt: &impl Abort, endpoint: &mut Endpoint, slot: u64) -> bool {
-    let yes = endpoint.may_end_use(slot);
-    assert!(rt; yes.is_ok());
+// Whether the endpoint answers so to a message.
+fn tells(endpoint: &mut Endpoint, down: Down, told: Told) -> bool {
+    let kind = kind_of(down);
+    endpoint.receive(Message { endpoint: 0, kind }).answer == answer_of(told)
+}
+
+// A request of group `group` for page 32.
+fn fault_of(group: Option<u64>) -> Fault {
+    Fault {
+        pasid: 1,
+        page: 32,
+        read: true,
+        write: true,
+        group,
+        last: true,
+    }
+}
+
+// Why the endpoint doesn't do what it is asked for; none where it may.
+fn refusal(endpoint: &Endpoint, asked: Try) -> Option<Refusal> {
+    match asked {
+        Try::Ask(pasid, page) => endpoint.may_ask(pasid, page).err(),
+        Try::Use(page, write) => endpoint.may_begin_use(1, page, write).err(),
+        Try::End(slot) => endpoint.may_end_use(slot).err(),
+        Try::Evict(page) => endpoint.may_evict(1, page).err(),
+        Try::Send(group) => endpoint.may_fault(&fault_of(group)).err(),
+        Try::Finish(vector, count) => endpoint.may_finish(vector, count).err(),
+        Try::Quit => endpoint.may_quit(1).err(),
+    }
+}
+
+// The tag of a request for a page, if it may be sent, and as the test of the step said it.
+fn ask(endpoint: &mut Endpoint, page: u64) -> Option<u8> {
+    let asking = endpoint.may_ask(1, page);
+    if asking.is_err() {
+        return None;
+    }
+    let tag = endpoint.ask(1, page);
+    let kind = Kind::Request {
+        tag,
+        pasid: 1,
+        page,
+    };
+    if asking == Ok(Asking { tag, kind }) {
+        Some(tag)
+    } else {
+        None
+    }
+}
+
+fn ask_each(endpoint: &mut Endpoint, requests: u8) -> bool {
+    for tag in 0..requests {
+        if ask(endpoint, 16) != Some(tag) {
+            return false;
+        }
+    }
+    true
+}
+
+fn hold(endpoint: &mut Endpoint, page: u64, frame: u32) -> bool {
+    match ask(endpoint, page) {
+        Some(tag) => tells(
+            endpoint,
+            Down::Completion(tag, frame, true, true),
+            Told::Held,
+        ),
+        None => false,
+    }
+}
+
+fn hold_each(endpoint: &mut Endpoint, pages: u64) -> bool {
+    for page in 0..pages {
+        if !hold(endpoint, page, 9) {
+            return false;
+        }
+    }
+    true
+}
+
+// Whether a use may begin, and does, in this slot and with this frame.
+fn begins(endpoint: &mut Endpoint, page: u64, write: bool, begun: Using) -> bool {
+    let using = endpoint.may_begin_use(1, page, write);
+    using.is_ok() && endpoint.begin_use(1, page, write) == begun && using == Ok(begun)
+}
+
+fn begin_each(endpoint: &mut Endpoint, uses: u8) -> bool {
+    for slot in 0..uses {
+        if !begins(endpoint, 16, false, Using { slot, frame: 3 }) {
+            return false;
+        }
+    }
+    true
+}
+
+// Ends a use, if there is one, and tells whether it was dead or not, as wanted.
+fn ends(endpoint: &mut Endpoint, slot: u64, is_dead: bool) -> bool {
+    let ending = endpoint.may_end_use(slot);
+    if ending.is_err() {
+        return false;
+    }
     endpoint.end_use(slot);
-    matches!(yes, Ok(Answer::Dead))
+    matches!(ending, Ok(Answer::Dead)) == is_dead
 }
 
-fn send(rt: &impl Abort, endpoint: &mut Endpoint, page: u64, group: Option<u64>, last: bool) -> u8 {
+fn evicts(endpoint: &mut Endpoint, page: u64) -> bool {
+    if endpoint.may_evict(1, page).is_err() {
+        return false;
+    }
+    endpoint.evict(1, page);
+    true
+}
+
+// The index of a page request, if it may be sent, and as the test of the step said it.
+fn send(endpoint: &mut Endpoint, page: u64, group: Option<u64>, last: bool) -> Option<u8> {
     let fault = Fault {
         pasid: 1,
         page,
@@ -61,8 +236,10 @@ fn send(rt: &impl Abort, endpoint: &mut Endpoint, page: u64, group: Option<u64>,
         group,
         last,
     };
-    let yes = endpoint.may_fault(&fault);
-    assert!(rt; yes.is_ok());
+    let faulting = endpoint.may_fault(&fault);
+    if faulting.is_err() {
+        return None;
+    }
     let index = endpoint.fault(&fault);
     let request = PageRequest {
         pasid: 1,
@@ -72,380 +249,313 @@ fn send(rt: &impl Abort, endpoint: &mut Endpoint, page: u64, group: Option<u64>,
         write: false,
         last,
     };
-    assert_eq!(rt;
-        yes,
-        Ok(Faulting {
-            index,
-            kind: Kind::PageRequest(request)
-        })
-    );
-    index
-}
-
-fn refusal(endpoint: &Endpoint, group: Option<u64>) -> Option<Refusal> {
-    match endpoint.may_fault(&Fault {
-        pasid: 1,
-        page: 32,
-        read: true,
-        write: true,
-        group,
-        last: true,
-    }) {
-        Ok(_) => None,
-        Err(why) => Some(why),
+    let kind = Kind::PageRequest(request);
+    if faulting == Ok(Faulting { index, kind }) {
+        Some(index)
+    } else {
+        None
     }
 }
 
-// Completes what the vector names by so many completions, each with this Completion Count field.
-fn finish(rt: &impl Abort, endpoint: &mut Endpoint, vector: u32, count: u8, field: u8) {
-    assert!(rt; 0 < count && count <= 8 && field < 8);
-    let yes = endpoint.may_finish(vector, u64::from(count));
-    assert!(rt; yes.is_ok());
+fn send_each(endpoint: &mut Endpoint, requests: u8) -> bool {
+    let mut group = None;
+    for _request in 0..requests {
+        if send(endpoint, 32, group, false) != Some(0) {
+            return false;
+        }
+        group = Some(0);
+    }
+    true
+}
+
+fn group_each(endpoint: &mut Endpoint, groups: u8) -> bool {
+    for index in 0..groups {
+        if send(endpoint, 32, None, true) != Some(index) {
+            return false;
+        }
+    }
+    true
+}
+
+// Completes what the vector names by so many completions, if it may, and as the test of the step said it.
+fn finishes(endpoint: &mut Endpoint, vector: u32, count: u8, field: u8) -> bool {
+    let finishing = endpoint.may_finish(vector, u64::from(count));
+    if finishing.is_err() || count == 0 || count > 8 || field > 7 {
+        return false;
+    }
     endpoint.finish(vector, u64::from(count));
     let kind = Kind::Invalidated {
         vector,
         count: CountField::new(field),
     };
-    assert_eq!(rt;
-        yes,
-        Ok(Finishing {
-            count: Count::new(count),
-            kind
-        })
-    );
+    let count = Count::new(count);
+    finishing == Ok(Finishing { count, kind })
 }
 
-fn why_not(endpoint: &Endpoint, vector: u32, count: u64) -> Option<Refusal> {
-    match endpoint.may_finish(vector, count) {
-        Ok(_) => None,
-        Err(why) => Some(why),
+fn quits(endpoint: &mut Endpoint) -> bool {
+    let quitting = endpoint.may_quit(1);
+    if quitting.is_err() {
+        return false;
+    }
+    endpoint.quit(1);
+    quitting == Ok(Kind::Marker { pasid: 1 })
+}
+
+// Makes a call of requests, or another one, and tells whether it answers as it has to.
+fn answers(endpoint: &mut Endpoint, call: Call) -> bool {
+    match call {
+        Call::Tell(down, told) => tells(endpoint, down, told),
+        Call::Refused(asked, why) => refusal(endpoint, asked) == Some(why),
+        Call::Permitted(asked) => refusal(endpoint, asked).is_none(),
+        Call::Ask(page, tag) => ask(endpoint, page) == Some(tag),
+        Call::AskEach(requests) => ask_each(endpoint, requests),
+        Call::Hold(page, frame) => hold(endpoint, page, frame),
+        Call::HoldEach(pages) => hold_each(endpoint, pages),
+        _other => answers_other(endpoint, call),
     }
 }
 
-fn completion(tag: u8, frame: u32) -> Kind {
-    Kind::Completion {
-        tag,
-        frame,
-        read: true,
-        write: true,
+fn answers_other(endpoint: &mut Endpoint, call: Call) -> bool {
+    match call {
+        Call::Use(page, write, begun) => begins(endpoint, page, write, begun),
+        Call::UseEach(uses) => begin_each(endpoint, uses),
+        Call::End(slot, is_dead) => ends(endpoint, slot, is_dead),
+        Call::Evict(page) => evicts(endpoint, page),
+        Call::Send(page, group, last, index) => send(endpoint, page, group, last) == Some(index),
+        Call::SendEach(requests) => send_each(endpoint, requests),
+        Call::GroupEach(groups) => group_each(endpoint, groups),
+        Call::Finish(vector, count, field) => finishes(endpoint, vector, count, field),
+        Call::Quit => quits(endpoint),
+        _request => false,
     }
 }
 
-fn invalidate(itag: u8, page: u64) -> Kind {
-    Kind::Invalidate {
-        itag,
-        pasid: 1,
-        scope: Scope::Code { page, s: false },
+// Makes the calls one after another at an endpoint at which PASID 1 has started.
+fn run(rt: &impl Abort, calls: &[Call]) {
+    let mut endpoint = Endpoint::new();
+    assert!(rt; tells(&mut endpoint, Down::Start, Told::Started));
+    for place in 0..calls.len() {
+        assert!(rt; answers(&mut endpoint, calls[place]), "call {place}");
     }
 }
 
-fn respond(index: u8, code: Code) -> Kind {
-    Kind::Response {
-        pasid: 1,
-        index,
-        code,
-    }
-}
+const PAGE_16: Down = Down::Invalidate(0, 1, Scope::Code { page: 16, s: false });
 
-fn hold(rt: &impl Abort, endpoint: &mut Endpoint, page: u64, frame: u32) {
-    let tag = ask(rt, endpoint, page);
-    assert!(rt; matches!(tell(endpoint, completion(tag, frame)), Answer::Held));
-}
+static THIRTY_TWO_TAGS: [Call; 9] = [
+    Call::Refused(Try::Ask(1, 1 << 36), Refusal::PageRange),
+    Call::Refused(Try::Ask(0, 16), Refusal::NotStarted),
+    Call::Refused(Try::Ask(33, 16), Refusal::NotStarted),
+    Call::Refused(Try::Ask(u64::MAX, 16), Refusal::NotStarted),
+    Call::AskEach(32),
+    Call::Refused(Try::Ask(1, 16), Refusal::NoTag),
+    Call::Tell(Down::Completion(7, 0, false, false), Told::NoTranslation),
+    Call::Tell(Down::Completion(7, 0, false, false), Told::Dropped),
+    Call::Ask(16, 7),
+];
 
 #[test]
 fn request_tags_are_32(rt: HostRuntime) {
-    let mut endpoint = started();
-    for (pasid, page, why) in [
-        (1, 1 << 36, Refusal::PageRange),
-        (0, 16, Refusal::NotStarted),
-        (33, 16, Refusal::NotStarted),
-        (u64::MAX, 16, Refusal::NotStarted),
-    ] {
-        assert_eq!(rt; endpoint.may_ask(pasid, page), Err(why), "{pasid} {page}");
-    }
-    for tag in 0..32 {
-        assert_eq!(rt; ask(&rt, &mut endpoint, 16), tag);
-    }
-    assert_eq!(rt; endpoint.may_ask(1, 16), Err(Refusal::NoTag));
-    let none = Kind::Completion {
-        tag: 7,
-        frame: 0,
-        read: false,
-        write: false,
-    };
-    assert!(rt; matches!(tell(&mut endpoint, none), Answer::NoTranslation));
-    assert!(rt; matches!(tell(&mut endpoint, none), Answer::Dropped));
-    assert_eq!(rt; ask(&rt, &mut endpoint, 16), 7);
+    run(&rt, &THIRTY_TWO_TAGS);
 }
+
+static SIXTY_FOUR_PAGES: [Call; 10] = [
+    Call::HoldEach(64),
+    Call::Ask(64, 0),
+    Call::Tell(Down::Completion(0, 5, true, true), Told::Full),
+    Call::Refused(Try::Use(64, false), Refusal::NotHeld),
+    Call::Ask(5, 0),
+    Call::Tell(Down::Completion(0, 77, true, true), Told::Held),
+    Call::Use(5, true, Using { slot: 0, frame: 77 }),
+    Call::Evict(63),
+    Call::Refused(Try::Evict(63), Refusal::NotHeld),
+    Call::Hold(64, 6),
+];
 
 #[test]
 fn the_cache_keeps_64(rt: HostRuntime) {
-    let mut endpoint = started();
-    for page in 0..64 {
-        hold(&rt, &mut endpoint, page, 9);
-    }
-    assert_eq!(rt; ask(&rt, &mut endpoint, 64), 0);
-    assert!(rt; matches!(tell(&mut endpoint, completion(0, 5)), Answer::Full));
-    assert_eq!(rt; endpoint.may_begin_use(1, 64, false), Err(Refusal::NotHeld));
-    assert_eq!(rt; ask(&rt, &mut endpoint, 5), 0);
-    assert!(rt; matches!(tell(&mut endpoint, completion(0, 77)), Answer::Held));
-    assert_eq!(rt;
-        use_page(&rt, &mut endpoint, 5, true),
-        Using { slot: 0, frame: 77 }
-    );
-    assert!(rt; endpoint.may_evict(1, 63).is_ok());
-    endpoint.evict(1, 63);
-    assert_eq!(rt; endpoint.may_evict(1, 63), Err(Refusal::NotHeld));
-    hold(&rt, &mut endpoint, 64, 6);
+    run(&rt, &SIXTY_FOUR_PAGES);
 }
+
+static SIXTEEN_SLOTS: [Call; 9] = [
+    Call::Ask(16, 0),
+    Call::Tell(Down::Completion(0, 3, true, false), Told::Held),
+    Call::Refused(Try::Use(16, true), Refusal::ReadOnly),
+    Call::UseEach(16),
+    Call::Refused(Try::Use(16, false), Refusal::NoUseSlot),
+    Call::End(4, false),
+    Call::Refused(Try::End(4), Refusal::NoSuchUse),
+    Call::Refused(Try::End(16), Refusal::NoSuchUse),
+    Call::Use(16, false, Using { slot: 4, frame: 3 }),
+];
 
 #[test]
 fn use_slots_are_16(rt: HostRuntime) {
-    let mut endpoint = started();
-    assert_eq!(rt; ask(&rt, &mut endpoint, 16), 0);
-    tell(
-        &mut endpoint,
-        Kind::Completion {
-            tag: 0,
-            frame: 3,
-            read: true,
-            write: false,
-        },
-    );
-    assert_eq!(rt; endpoint.may_begin_use(1, 16, true), Err(Refusal::ReadOnly));
-    for slot in 0..16 {
-        assert_eq!(rt;
-            use_page(&rt, &mut endpoint, 16, false),
-            Using { slot, frame: 3 }
-        );
-    }
-    assert_eq!(rt;
-        endpoint.may_begin_use(1, 16, false),
-        Err(Refusal::NoUseSlot)
-    );
-    assert!(rt; !end(&rt, &mut endpoint, 4));
-    assert!(rt; matches!(endpoint.may_end_use(4), Err(Refusal::NoSuchUse)));
-    assert!(rt; matches!(endpoint.may_end_use(16), Err(Refusal::NoSuchUse)));
-    assert_eq!(rt;
-        use_page(&rt, &mut endpoint, 16, false),
-        Using { slot: 4, frame: 3 }
-    );
+    run(&rt, &SIXTEEN_SLOTS);
 }
+
+static THIRTY_TWO_REQUESTS: [Call; 6] = [
+    Call::SendEach(31),
+    Call::Send(32, Some(0), true, 0),
+    Call::Refused(Try::Send(None), Refusal::NoCredit),
+    Call::Refused(Try::Send(Some(0)), Refusal::NoCredit),
+    Call::Tell(Down::Response(0, Code::Success), Told::Answered),
+    Call::Refused(Try::Send(Some(0)), Refusal::NoSuchGroup),
+];
 
 #[test]
 fn page_requests_are_32(rt: HostRuntime) {
-    let mut endpoint = started();
-    for _request in 0..31 {
-        let group = if refusal(&endpoint, Some(0)).is_none() {
-            Some(0)
-        } else {
-            None
-        };
-        assert_eq!(rt; send(&rt, &mut endpoint, 32, group, false), 0);
-    }
-    assert_eq!(rt; send(&rt, &mut endpoint, 32, Some(0), true), 0);
-    assert_eq!(rt; refusal(&endpoint, None), Some(Refusal::NoCredit));
-    assert_eq!(rt; refusal(&endpoint, Some(0)), Some(Refusal::NoCredit));
-    assert!(rt;
-        matches!(
-            tell(&mut endpoint, respond(0, Code::Success)),
-            Answer::Answered
-        )
-    );
-    assert_eq!(rt; refusal(&endpoint, Some(0)), Some(Refusal::NoSuchGroup));
+    run(&rt, &THIRTY_TWO_REQUESTS);
 }
+
+static THIRTY_TWO_GROUPS: [Call; 9] = [
+    Call::GroupEach(32),
+    Call::Refused(Try::Send(None), Refusal::NoCredit),
+    Call::Tell(Down::Response(9, Code::InvalidRequest), Told::Answered),
+    Call::Send(32, None, true, 9),
+    Call::Tell(Down::Response(2, Code::ResponseFailure), Told::Answered),
+    Call::Refused(Try::Send(None), Refusal::PriDisabled),
+    Call::Tell(Down::Reset, Told::Reset),
+    Call::Tell(Down::Start, Told::Started),
+    Call::Permitted(Try::Send(None)),
+];
 
 #[test]
 fn groups_are_32(rt: HostRuntime) {
-    let mut endpoint = started();
-    for index in 0..32 {
-        assert_eq!(rt; send(&rt, &mut endpoint, 32, None, true), index);
-    }
-    assert_eq!(rt; refusal(&endpoint, None), Some(Refusal::NoCredit));
-    assert!(rt;
-        matches!(
-            tell(&mut endpoint, respond(9, Code::InvalidRequest)),
-            Answer::Answered
-        )
-    );
-    assert_eq!(rt; send(&rt, &mut endpoint, 32, None, true), 9);
-    assert!(rt;
-        matches!(
-            tell(&mut endpoint, respond(2, Code::ResponseFailure)),
-            Answer::Answered
-        )
-    );
-    assert_eq!(rt; refusal(&endpoint, None), Some(Refusal::PriDisabled));
-    tell(&mut endpoint, Kind::Reset);
-    tell(&mut endpoint, Kind::Start { pasid: 1 });
-    assert_eq!(rt; refusal(&endpoint, None), None);
+    run(&rt, &THIRTY_TWO_GROUPS);
 }
+
+static LATE_ANSWER: [Call; 7] = [
+    Call::Ask(16, 0),
+    Call::Tell(PAGE_16, Told::Taken),
+    Call::Finish(1, 1, 1),
+    Call::Ask(17, 1),
+    Call::Tell(Down::Completion(0, 0, true, true), Told::Dropped),
+    Call::Refused(Try::Use(16, false), Refusal::NotHeld),
+    Call::Ask(16, 0),
+];
 
 #[test]
 fn a_late_answer_is_dropped(rt: HostRuntime) {
-    let mut endpoint = started();
-    assert_eq!(rt; ask(&rt, &mut endpoint, 16), 0);
-    assert!(rt; matches!(tell(&mut endpoint, invalidate(0, 16)), Answer::Taken));
-    finish(&rt, &mut endpoint, 1, 1, 1);
-    assert_eq!(rt; ask(&rt, &mut endpoint, 17), 1);
-    assert!(rt; matches!(tell(&mut endpoint, completion(0, 0)), Answer::Dropped));
-    assert_eq!(rt; endpoint.may_begin_use(1, 16, false), Err(Refusal::NotHeld));
-    assert_eq!(rt; ask(&rt, &mut endpoint, 16), 0);
+    run(&rt, &LATE_ANSWER);
 }
+
+static TWO_ANSWERS: [Call; 5] = [
+    Call::Ask(16, 0),
+    Call::Ask(16, 1),
+    Call::Tell(Down::Completion(1, 1, true, true), Told::Held),
+    Call::Tell(Down::Completion(0, 0, true, true), Told::Held),
+    Call::Use(16, true, Using { slot: 0, frame: 0 }),
+];
 
 #[test]
 fn the_answer_that_comes_last_is_held(rt: HostRuntime) {
-    let mut endpoint = started();
-    assert_eq!(rt; ask(&rt, &mut endpoint, 16), 0);
-    assert_eq!(rt; ask(&rt, &mut endpoint, 16), 1);
-    assert!(rt; matches!(tell(&mut endpoint, completion(1, 1)), Answer::Held));
-    assert!(rt; matches!(tell(&mut endpoint, completion(0, 0)), Answer::Held));
-    assert_eq!(rt;
-        use_page(&rt, &mut endpoint, 16, true),
-        Using { slot: 0, frame: 0 }
-    );
+    run(&rt, &TWO_ANSWERS);
 }
+
+// A use that begins in the same slot afterwards isn't waited for.
+static USE_AND_INVALIDATION: [Call; 11] = [
+    Call::Hold(16, 3),
+    Call::Use(16, true, Using { slot: 0, frame: 3 }),
+    Call::Tell(PAGE_16, Told::Taken),
+    Call::Refused(Try::Use(16, false), Refusal::NotHeld),
+    Call::Refused(Try::Finish(1, 0), Refusal::InUse),
+    Call::End(0, false),
+    Call::Hold(16, 4),
+    Call::Use(16, true, Using { slot: 0, frame: 4 }),
+    Call::Refused(Try::Finish(1, 0), Refusal::BadCount),
+    Call::Refused(Try::Finish(1, 9), Refusal::BadCount),
+    Call::Finish(1, 8, 0),
+];
 
 #[test]
 fn a_use_holds_an_invalidation_up(rt: HostRuntime) {
-    let mut endpoint = started();
-    hold(&rt, &mut endpoint, 16, 3);
-    assert_eq!(rt;
-        use_page(&rt, &mut endpoint, 16, true),
-        Using { slot: 0, frame: 3 }
-    );
-    tell(&mut endpoint, invalidate(0, 16));
-    assert_eq!(rt; endpoint.may_begin_use(1, 16, false), Err(Refusal::NotHeld));
-    assert_eq!(rt; why_not(&endpoint, 1, 0), Some(Refusal::InUse));
-    assert!(rt; !end(&rt, &mut endpoint, 0));
-    // a use that begins in the same slot afterwards isn't waited for
-    hold(&rt, &mut endpoint, 16, 4);
-    assert_eq!(rt;
-        use_page(&rt, &mut endpoint, 16, true),
-        Using { slot: 0, frame: 4 }
-    );
-    assert_eq!(rt; why_not(&endpoint, 1, 0), Some(Refusal::BadCount));
-    assert_eq!(rt; why_not(&endpoint, 1, 9), Some(Refusal::BadCount));
-    finish(&rt, &mut endpoint, 1, 8, 0);
+    run(&rt, &USE_AND_INVALIDATION);
 }
+
+const PAGE_18: Scope = Scope::Code { page: 18, s: false };
+
+static SEVERAL_ITAGS: [Call; 14] = [
+    Call::Hold(16, 3),
+    Call::Hold(17, 4),
+    Call::Tell(Down::Invalidate(0, 1, PAGE_18), Told::Taken),
+    Call::Tell(Down::Invalidate(1, 1, PAGE_18), Told::Taken),
+    Call::Tell(Down::Invalidate(3, 1, PAGE_18), Told::Taken),
+    Call::Refused(Try::Finish(0x0f, 2), Refusal::NotPending),
+    Call::Refused(Try::Finish(0, 2), Refusal::NotPending),
+    Call::Finish(0x0b, 2, 2),
+    Call::Refused(Try::Finish(8, 2), Refusal::NotPending),
+    Call::Tell(Down::Invalidate(31, 2, Scope::All), Told::Taken),
+    Call::Permitted(Try::Evict(16)),
+    Call::Tell(Down::Invalidate(30, 1, Scope::All), Told::Taken),
+    Call::Refused(Try::Evict(17), Refusal::NotHeld),
+    Call::Finish(0xc000_0000, 7, 7),
+];
 
 #[test]
 fn one_vector_names_several(rt: HostRuntime) {
-    let mut endpoint = started();
-    hold(&rt, &mut endpoint, 16, 3);
-    hold(&rt, &mut endpoint, 17, 4);
-    for itag in [0, 1, 3] {
-        tell(&mut endpoint, invalidate(itag, 18));
-    }
-    assert_eq!(rt; why_not(&endpoint, 0x0f, 2), Some(Refusal::NotPending));
-    assert_eq!(rt; why_not(&endpoint, 0, 2), Some(Refusal::NotPending));
-    finish(&rt, &mut endpoint, 0x0b, 2, 2);
-    assert_eq!(rt; why_not(&endpoint, 8, 2), Some(Refusal::NotPending));
-    tell(
-        &mut endpoint,
-        Kind::Invalidate {
-            itag: 31,
-            pasid: 2,
-            scope: Scope::All,
-        },
-    );
-    assert!(rt; endpoint.may_evict(1, 16).is_ok());
-    tell(
-        &mut endpoint,
-        Kind::Invalidate {
-            itag: 30,
-            pasid: 1,
-            scope: Scope::All,
-        },
-    );
-    assert_eq!(rt; endpoint.may_evict(1, 17), Err(Refusal::NotHeld));
-    finish(&rt, &mut endpoint, 0xc000_0000, 7, 7);
+    run(&rt, &SEVERAL_ITAGS);
 }
+
+// The code is that of the eight pages from 64 on.
+static RANGE_OF_PAGES: [Call; 6] = [
+    Call::Hold(70, 1),
+    Call::Hold(72, 2),
+    Call::Tell(
+        Down::Invalidate(0, 1, Scope::Code { page: 67, s: true }),
+        Told::Taken,
+    ),
+    Call::Refused(Try::Use(70, false), Refusal::NotHeld),
+    Call::Use(72, false, Using { slot: 0, frame: 2 }),
+    Call::Finish(1, 1, 1),
+];
 
 #[test]
 fn an_invalidation_covers_a_range(rt: HostRuntime) {
-    let mut endpoint = started();
-    hold(&rt, &mut endpoint, 70, 1);
-    hold(&rt, &mut endpoint, 72, 2);
-    // the code of the eight pages from 64 on
-    let scope = Scope::Code { page: 67, s: true };
-    tell(
-        &mut endpoint,
-        Kind::Invalidate {
-            itag: 0,
-            pasid: 1,
-            scope,
-        },
-    );
-    assert_eq!(rt; endpoint.may_begin_use(1, 70, false), Err(Refusal::NotHeld));
-    assert_eq!(rt;
-        use_page(&rt, &mut endpoint, 72, false),
-        Using { slot: 0, frame: 2 }
-    );
-    finish(&rt, &mut endpoint, 1, 1, 1);
+    run(&rt, &RANGE_OF_PAGES);
 }
+
+// Neither the request nor the group of before the reset has its tag or index any more.
+static RESET: [Call; 16] = [
+    Call::Hold(16, 3),
+    Call::Use(16, true, Using { slot: 0, frame: 3 }),
+    Call::Ask(17, 0),
+    Call::Send(32, None, true, 0),
+    Call::Tell(Down::Invalidate(0, 1, PAGE_18), Told::Taken),
+    Call::Tell(Down::Reset, Told::Reset),
+    Call::Refused(Try::Ask(1, 17), Refusal::NotStarted),
+    Call::Refused(Try::Evict(16), Refusal::NotHeld),
+    Call::Refused(Try::Finish(1, 1), Refusal::NotPending),
+    Call::Tell(Down::Start, Told::Started),
+    Call::Ask(17, 0),
+    Call::Send(32, None, true, 0),
+    Call::Hold(16, 5),
+    Call::Use(16, true, Using { slot: 1, frame: 5 }),
+    Call::End(0, true),
+    Call::Use(16, true, Using { slot: 0, frame: 5 }),
+];
 
 #[test]
 fn a_reset_leaves_dead_uses(rt: HostRuntime) {
-    let mut endpoint = started();
-    hold(&rt, &mut endpoint, 16, 3);
-    assert_eq!(rt;
-        use_page(&rt, &mut endpoint, 16, true),
-        Using { slot: 0, frame: 3 }
-    );
-    assert_eq!(rt; ask(&rt, &mut endpoint, 17), 0);
-    assert_eq!(rt; send(&rt, &mut endpoint, 32, None, true), 0);
-    tell(&mut endpoint, invalidate(0, 18));
-    assert!(rt; matches!(tell(&mut endpoint, Kind::Reset), Answer::Reset));
-    assert_eq!(rt; endpoint.may_ask(1, 17), Err(Refusal::NotStarted));
-    assert_eq!(rt; endpoint.may_evict(1, 16), Err(Refusal::NotHeld));
-    assert_eq!(rt; why_not(&endpoint, 1, 1), Some(Refusal::NotPending));
-    tell(&mut endpoint, Kind::Start { pasid: 1 });
-    // neither the request nor the group of before has its tag or index any more
-    assert_eq!(rt; ask(&rt, &mut endpoint, 17), 0);
-    assert_eq!(rt; send(&rt, &mut endpoint, 32, None, true), 0);
-    hold(&rt, &mut endpoint, 16, 5);
-    assert_eq!(rt;
-        use_page(&rt, &mut endpoint, 16, true),
-        Using { slot: 1, frame: 5 }
-    );
-    assert!(rt; end(&rt, &mut endpoint, 0));
-    assert_eq!(rt;
-        use_page(&rt, &mut endpoint, 16, true),
-        Using { slot: 0, frame: 5 }
-    );
+    run(&rt, &RESET);
 }
+
+static QUIT: [Call; 13] = [
+    Call::Refused(Try::Quit, Refusal::NotStopping),
+    Call::Send(32, None, false, 0),
+    Call::Tell(Down::Stop, Told::Stopping),
+    Call::Refused(Try::Quit, Refusal::Busy),
+    Call::Refused(Try::Send(None), Refusal::NotStarted),
+    Call::Send(33, Some(0), true, 0),
+    Call::Permitted(Try::Quit),
+    Call::Quit,
+    Call::Refused(Try::Quit, Refusal::NotStopping),
+    Call::Tell(Down::Start, Told::Started),
+    Call::Send(32, None, true, 1),
+    Call::Tell(Down::Response(0, Code::Success), Told::Stale),
+    Call::Send(32, None, true, 0),
+];
 
 #[test]
 fn a_quit_leaves_stale_groups(rt: HostRuntime) {
-    let mut endpoint = started();
-    assert_eq!(rt; endpoint.may_quit(1), Err(Refusal::NotStopping));
-    assert_eq!(rt; send(&rt, &mut endpoint, 32, None, false), 0);
-    assert!(rt;
-        matches!(
-            tell(&mut endpoint, Kind::Stop { pasid: 1 }),
-            Answer::Stopping
-        )
-    );
-    assert_eq!(rt; endpoint.may_quit(1), Err(Refusal::Busy));
-    assert_eq!(rt; refusal(&endpoint, None), Some(Refusal::NotStarted));
-    assert_eq!(rt; send(&rt, &mut endpoint, 33, Some(0), true), 0);
-    assert_eq!(rt; endpoint.may_quit(1), Ok(Kind::Marker { pasid: 1 }));
-    assert!(rt; endpoint.may_quit(1).is_ok());
-    endpoint.quit(1);
-    assert_eq!(rt; endpoint.may_quit(1), Err(Refusal::NotStopping));
-    assert!(rt;
-        matches!(
-            tell(&mut endpoint, Kind::Start { pasid: 1 }),
-            Answer::Started
-        )
-    );
-    assert_eq!(rt; send(&rt, &mut endpoint, 32, None, true), 1);
-    assert!(rt;
-        matches!(
-            tell(&mut endpoint, respond(0, Code::Success)),
-            Answer::Stale
-        )
-    );
-    assert_eq!(rt; send(&rt, &mut endpoint, 32, None, true), 0);
+    run(&rt, &QUIT);
 }

@@ -1,7 +1,8 @@
 -- Receipts in a journal, and the places of a port's receipts.
-use Rattle.std.proofs.Common.{◌≡◌, ℕ, zero, suc, ◌-◌, ◌<◌, Option, Some, None, List, [], ◌∷◌, ◌++◌, length, refl, sym, ap, subst, ◌∙◌, arith}
+use Rattle.std.proofs.Common.{◌≡◌, ℕ, zero, suc, ◌-◌, ◌+◌, ◌<◌, Option, Some, None, List, [], ◌∷◌, ◌++◌, length, refl, sym, ap, subst, ◌∙◌, arith}
 use Rattle.std.specs.Prelude.{slice_get, IfSome}
 use Rattle.std.proofs.lemmas.Option.{slice_get_within}
+use Rattle.sva_step.specs.declared.limits.Config.{Config}
 use Rattle.sva_step.specs.declared.steps.Step.{Step}
 use Rattle.sva_fabric.specs.declared.journal.Entry.{Entry}
 use Rattle.sva_fabric.specs.declared.receipts.Receipt.{Receipt}
@@ -26,11 +27,13 @@ last_stands_more entries e port place (Some l) at h =
     (omega (arith, within, at), get_before entries (e ∷ []) l.place (entry_told port l) h)
 
 -- the call that was answered at the journal's end, told without the journal
-pub answered : (before after : History) (port : ℕ) (last : Option Receipt) (step : Step) (r : Receipt)
-    → IsAnsweredAt before port last step r → after ≡ with_entry before (entry_of port r.step r.answer) → IsLegal after → IsAnswered port last step r
-answered before after port last step r at is legal = record {
+pub answered : (config : Config) (before after : History) (port : ℕ) (last : Option Receipt) (step : Step) (r : Receipt)
+    → IsAnsweredAt before port last step r → after ≡ with_entry before (entry_of port r.step r.answer) → IsLegal after → after.config ≡ config
+    → IsAnswered config port last step r
+answered config before after port last step r at is legal of = record {
   journal = with_entry before (entry_told port r);
   legal = subst IsLegal is legal;
+  of_config = sym (ap (λ (h : History). h.config) is) ∙ of;
   step_is = at.step_is;
   stands = subst (λ (k : ℕ). slice_get (before.entries ++ entry_told port r ∷ []) k ≡ Some (entry_told port r)) (sym at.place_is)
       (get_end before.entries (entry_told port r));
@@ -53,3 +56,7 @@ rising_more (a ∷ b ∷ rs) r P h last = (
   h.0,
   rising_more (b ∷ rs) r P h.1 (subst (λ (o : Option Receipt). IfSome o (λ l. (l.place < r.place) × P l)) (last_next a b rs) last),
 )
+
+pub length_more : (rs : List Receipt) (r : Receipt) → length (rs ++ r ∷ []) ≡ length rs + 1
+length_more [] r = refl
+length_more (a ∷ rs) r = omega (arith, length_more rs r)

@@ -1,5 +1,5 @@
 -- The audit at the end: the receipts of all ports against the journal.
-use Rattle.std.specs.Prelude.{◌≡◌, ◌≢◌, ◌⊎◌, ℕ, ◌+◌, Result, Ok, Err, List, [], ◌∷◌, ◌++◌, length}
+use Rattle.std.specs.Prelude.{◌≡◌, ◌≢◌, ◌≤◌, ◌⊎◌, ℕ, ◌+◌, Result, Ok, Err, List, [], ◌∷◌, ◌++◌, length}
 use Rattle.sva_step.specs.declared.limits.Config.{Config}
 use Rattle.sva_model.specs.Steps.{counts}
 use Rattle.sva_fabric.specs.declared.journal.Entry.{Entry}
@@ -11,7 +11,7 @@ use Rattle.sva_fabric.specs.Journal.{History, IsLegal, world_of}
 use Rattle.sva_fabric.specs.Receipts.{Seat, Stands, new_seat, seats_from}
 
 -- the ports in the order of their numbers
-abbrev pub seats_of : Ports → List Seat
+abbrev pub seats_of : {C : Type 0} → Ports C → List Seat
 seats_of p = p.host ∷ p.link ∷ p.service ∷ (p.endpoints.items ++ p.workers.items)
 
 -- the ports of a config, of which nothing was asked
@@ -61,8 +61,12 @@ IsAudit h seats (Err bad) =
     IsFirstBadOf h.entries 0 seats bad.port bad.place
     ⊎ (EachStands h.entries 0 seats × (calls_of seats ≢ length h.entries) × (bad.port ≡ length seats) × (bad.place ≡ length h.entries))
 
--- what a call that takes the journal out of the lock says: there is a legal journal of which this is the audit
-pub record IsFinished (seats : List Seat) (result : Result Audit FirstBadReceipt) : Type 0 where
+-- what a call that takes the journal out of the lock says: there is a legal journal of the config that was opened of which this is the
+-- audit; it has each call of these ports, and, where these are all ports, no other
+pub record IsFinished (config : Config) (parts : ℕ) (seats : List Seat) (result : Result Audit FirstBadReceipt) : Type 0 where
   pub journal : History
   pub legal : IsLegal journal
+  pub of_config : journal.config ≡ config
+  pub counted : calls_of seats ≤ length journal.entries
+  pub all_counted : length seats ≡ parts → calls_of seats ≡ length journal.entries
   pub is_audit : IsAudit journal seats result

@@ -1,5 +1,6 @@
 -- Receipts: what a port was told of its own calls, and where they stand in a journal.
 use Rattle.std.specs.Prelude.{◌≡◌, ◌≢◌, ◌<◌, ◌-◌, ℕ, zero, suc, ◌+◌, Option, Some, List, [], ◌∷◌, ◌++◌, length, slice_get, IfSome, IsSomeAnd}
+use Rattle.sva_step.specs.declared.limits.Config.{Config}
 use Rattle.sva_step.specs.declared.steps.Step.{Step}
 use Rattle.sva_fabric.specs.declared.journal.Entry.{Entry}
 use Rattle.sva_fabric.specs.declared.receipts.Receipt.{Receipt}
@@ -52,16 +53,18 @@ IsRefusedAt entries port last (fault.Strayed place found) =
     (found ≡ slice_get entries place)
     × IsSomeAnd last (λ l. (l.place ≡ place) × (found ≢ Some (entry_told port l)))
 
--- For the calls that take the lock themselves no clause can name what lay under it. They say that there is a legal journal with
--- what they tell: the new receipt stands in it, and before it, at a lower place, the port's last one.
-pub record IsAnswered (port : ℕ) (last : Option Receipt) (step : Step) (r : Receipt) : Type 0 where
+-- For the calls that take the lock themselves no clause can name what lay under it. They say that there is a legal journal of the
+-- config that was opened, with what they tell: the new receipt stands in it, and before it, at a lower place, the port's last one.
+pub record IsAnswered (config : Config) (port : ℕ) (last : Option Receipt) (step : Step) (r : Receipt) : Type 0 where
   pub journal : History
   pub legal : IsLegal journal
+  pub of_config : journal.config ≡ config
   pub step_is : r.step ≡ step
   pub stands : Stands journal.entries port r
   pub last_stands : IfSome last (λ l. (l.place < r.place) × Stands journal.entries port l)
 
--- memory lacked; or there is a legal journal that has something else where the port's last receipt should stand
-abbrev pub IsRefused : (port : ℕ) → Option Receipt → StepFault → Type 0
-IsRefused port last fault.Memory = Unit {0}
-IsRefused port last (fault.Strayed place found) = (journal : History) × IsLegal journal × IsRefusedAt journal.entries port last (fault.Strayed place found)
+-- memory lacked; or there is a legal journal of that config that has something else where the port's last receipt should stand
+abbrev pub IsRefused : Config → (port : ℕ) → Option Receipt → StepFault → Type 0
+IsRefused config port last fault.Memory = Unit {0}
+IsRefused config port last (fault.Strayed place found) =
+    (journal : History) × IsLegal journal × (journal.config ≡ config) × IsRefusedAt journal.entries port last (fault.Strayed place found)

@@ -1,6 +1,6 @@
 //! The shared world: a lock, and the calls that take it.
 
-ghost use Rattle.std.specs.Prelude.{◌≡◌, ◌↔◌, ◌++◌, ◌∷◌, [], true, IfOk, IfErr, OnErr, Err};
+ghost use Rattle.std.specs.Prelude.{◌≡◌, ◌+◌, ◌↔◌, ◌++◌, ◌∷◌, [], true, IfOk, IfErr, OnErr, Err};
 ghost use Rattle.sva_step.specs.Steps.{is_plain};
 ghost use Rattle.sva_step.specs.declared.refusals.Refusal.TheVariants as refusal;
 ghost use Rattle.sva_step.specs.Limits.{Fits};
@@ -9,31 +9,43 @@ ghost use Rattle.sva_fabric.specs.Receipts.{last_of, IsAnswered, IsRefused};
 ghost use Rattle.sva_fabric.specs.Audits.{seats_of, IsFinished, new_seats};
 
 use crate::audits::{Audit, FirstBadReceipt};
+use crate::gathering::gather;
 use crate::opening::open_ports;
 use crate::port::Port;
 use crate::ports::Ports;
 use crate::receipts::Receipt;
 use crate::running::{Running, StepFault};
+use crate::tally::Tally;
 use std::alloc::Global;
+use std::sync::ledger::Blank;
 use std::sync::{Mutex, Wait};
 use sva_step::{Config, Refusal, Step};
 
 /// One world that several threads share. Each calls it by a port of its own.
 #[derive(Drop)]
-pub struct Fabric {
-    running: Mutex<Running>,
+pub struct Fabric<C: Tally> {
+    running: Mutex<Running<C>>,
 }
 
-impl Fabric {
+impl<C: Tally> Fabric<C> {
     /// A world of a config, of which nothing was asked, and its ports. A config out of its limits is `BadConfig`; the only other
-    /// refusal is `OutOfMemory`.
-    pub fn open(alloc: Global, config: Config) -> Result<(Fabric, Ports), Refusal>
+    /// refusal is `OutOfMemory`. The blank is that of the ledger of calls, with a part for each port.
+    pub fn open(
+        alloc: Global,
+        config: Config,
+        calls: Blank,
+    ) -> Result<(Fabric<C>, Ports<C>), Refusal>
+        requires config { config ≡ C.config }
+        requires name { calls.name ≡ C.name }
+        requires parts { calls.parts ≡ C.parts }
+        requires ports { Fits config → calls.parts ≡ 3 + config.endpoints + config.workers }
         ensures ok { IfOk result (λ opened. (Fits config) × (seats_of opened.1 ≡ new_seats config)) }
         ensures bad { (result ≡ Err refusal.BadConfig) ↔ (Fits config → ⊥) }
         ensures memory { IfErr result IsOpenRefusal }
     {
-        let running = Running::open(alloc, config)?;
-        let Ok(ports) = open_ports(alloc, &config) else {
+        let (book, shares) = calls.open::<C>();
+        let running = Running::open(alloc, config, book)?;
+        let Ok(ports) = open_ports(alloc, &config, shares) else {
             return Err(Refusal::OutOfMemory);
         };
         let fabric = Fabric {
@@ -43,29 +55,41 @@ impl Fabric {
     }
 
     /// Takes one step that needs no token. The port keeps the receipt. The growth of its receipts comes before the lock.
-    pub fn step<R: Wait>(&self, rt: &R, port: &mut Port, step: &Step) -> Result<Receipt, StepFault>
+    pub fn step<R: Wait>(
+        &self,
+        rt: &R,
+        port: &mut Port<C>,
+        step: &Step,
+    ) -> Result<Receipt, StepFault>
         requires plain { is_plain step.now ≡ true }
-        ensures answered { IfOk result (λ r. IsAnswered port.old.number (last_of port.old.receipts) step.now r) }
+        ensures answered { IfOk result (λ r. IsAnswered C.config port.old.number (last_of port.old.receipts) step.now r) }
         ensures kept { IfOk result (λ r. port.new ≡ record port.old { receipts = port.old.receipts ++ r ∷ [] }) }
         ensures err { OnErr result (port.new ≡ port.old) }
-        ensures fault { IfErr result (λ f. IsRefused port.old.number (last_of port.old.receipts) f) }
+        ensures fault { IfErr result (λ f. IsRefused C.config port.old.number (last_of port.old.receipts) f) }
     {
         let last = port.last();
-        let Port { number, receipts } = port;
+        let Port {
+            number,
+            receipts,
+            calls,
+        } = port;
         if receipts.reserve(1).is_err() {
             return Err(StepFault::Memory);
         }
-        let receipt = self.running.lock(rt).step(*number, last, step)?;
+        let receipt = self.running.lock(rt).step(*number, last, calls, step)?;
         let kept = receipt;
         receipts.push_reserved(kept);
         Ok(receipt)
     }
 
     /// Ends the sharing, and compares the receipts of all ports with the journal.
-    pub fn finish(self, ports: Ports) -> Result<Audit, FirstBadReceipt>
-        ensures audit { IsFinished (seats_of ports) result }
+    pub fn finish(self, ports: Ports<C>) -> Result<Audit, FirstBadReceipt>
+        ensures audit { IsFinished C.config C.parts (seats_of ports) result }
     {
-        let running = self.running.into_inner();
-        running.audit(&ports)
+        let mut running = self.running.into_inner();
+        let result = running.audit(&ports);
+        let mut calls = gather(ports);
+        running.compare(&mut calls);
+        result
     }
 }

@@ -4,19 +4,23 @@
 
 mod audits;
 mod fabric;
+mod gathering;
 mod journal;
 mod opening;
 mod port;
 mod ports;
 mod receipts;
 mod running;
+mod tally;
 #[cfg(test)]
 mod tests;
 
 pub use audits::{Audit, FirstBadReceipt};
 pub use fabric::Fabric;
 pub use journal::{Entry, Journaled};
+pub use opening::ports_of;
 pub use port::Port;
 pub use ports::Ports;
 pub use receipts::Receipt;
 pub use running::{Running, StepFault};
+pub use tally::Tally;

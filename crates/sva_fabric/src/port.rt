@@ -4,35 +4,42 @@ ghost use Rattle.std.specs.Prelude.{◌≡◌, length};
 ghost use Rattle.sva_fabric.specs.Receipts.{last_of, AreRising, new_seat};
 
 use crate::receipts::Receipt;
+use crate::tally::Tally;
 use std::alloc::Global;
 use std::marker::Model;
+use std::sync::ledger::Share;
 
 /// What one thread calls a `Fabric` by. It keeps a receipt of each call that was answered. Contracts see the number and the
-/// receipts, whose places rise.
+/// receipts, whose places rise. Its share of the ledger counts the calls.
 #[derive(Drop)]
-pub struct Port {
+pub struct Port<C: Tally> {
     pub(crate) number: u64,
     pub(crate) receipts: Vec<Receipt>,
+    pub(crate) calls: Share<C>,
 }
 
-impl Model for Port {
+impl<C: Tally> Model for Port<C> {
+    ghost use Rattle.std.specs.Prelude.{◌≡◌, length};
     ghost use Rattle.sva_fabric.specs.Receipts.{Seat, AreRising};
 
     ghost Value = { Seat };
 
     ghost view = { λ p. record { number = p.number; receipts = p.receipts.items } };
 
-    ghost invariant = { λ p. AreRising p.receipts.items };
+    ghost invariant = { λ p. AreRising p.receipts.items × (p.calls.parts ≡ 1) × (p.calls.amount ≡ length p.receipts.items) };
 }
 
-impl Port {
+impl<C: Tally> Port<C> {
     // A port of which nothing was asked.
-    pub(crate) fn new(alloc: Global, number: u64) -> Port
+    pub(crate) fn new(alloc: Global, number: u64, calls: Share<C>) -> Port<C>
+        requires part { calls.parts ≡ 1 }
+        requires none { calls.amount ≡ 0 }
         ensures { result ≡ new_seat number }
     {
         Port {
             number,
             receipts: Vec::new(alloc),
+            calls,
         }
     }
 
@@ -55,6 +62,14 @@ impl Port {
         ensures { result ≡ last_of self.now.receipts }
     {
         self.receipts.last().copied()
+    }
+
+    // The port's share of the ledger, without the port.
+    pub(crate) fn into_calls(self) -> Share<C>
+        ensures part { result.parts ≡ 1 }
+        ensures amount { result.amount ≡ length self.receipts }
+    {
+        self.calls
     }
 
     /// The receipts of all calls, in the order in which they were made.

@@ -1,18 +1,19 @@
 //! The ports of a fabric.
 
 use crate::port::Port;
+use crate::tally::Tally;
 
 /// The ports of a `Fabric`, numbered from 0 in this order.
 #[derive(Drop)]
-pub struct Ports {
+pub struct Ports<C: Tally> {
     /// The host's port.
-    pub host: Port,
+    pub host: Port<C>,
     /// The link's port.
-    pub link: Port,
+    pub link: Port<C>,
     /// The port of the service that pumps and serves.
-    pub service: Port,
+    pub service: Port<C>,
     /// A port for each endpoint.
-    pub endpoints: Vec<Port>,
+    pub endpoints: Vec<Port<C>>,
     /// A port for each worker.
-    pub workers: Vec<Port>,
+    pub workers: Vec<Port<C>>,
 }

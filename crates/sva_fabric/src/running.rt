@@ -1,6 +1,6 @@
 //! What lies under the lock.
 
-ghost use Rattle.std.specs.Prelude.{◌≡◌, ◌↔◌, ◌+◌, ◌^◌, ◌<◌, true, false, length, slice_get, IfOk, IfErr, IfSome, IfNone, OnErr, Some, Err};
+ghost use Rattle.std.specs.Prelude.{◌≡◌, ◌↔◌, ◌+◌, ◌^◌, ◌<◌, ◌≤◌, true, false, length, slice_get, IfOk, IfErr, IfSome, IfNone, OnOk, OnErr, Some, Err};
 ghost use Rattle.sva_step.specs.declared.refusals.Refusal.TheVariants as refusal;
 ghost use Rattle.sva_step.specs.Limits.{Fits};
 ghost use Rattle.sva_core.specs.Reached.{IsOpenRefusal};
@@ -13,8 +13,10 @@ use crate::journal::{Entry, Journaled};
 use crate::port::Port;
 use crate::ports::Ports;
 use crate::receipts::Receipt;
+use crate::tally::Tally;
 use std::alloc::Global;
 use std::marker::Model;
+use std::sync::ledger::{Book, Share};
 use sva_step::{Answer, Config, Refusal, Step};
 
 /// Why a call was not answered. Nothing has changed.
@@ -31,45 +33,58 @@ pub enum StepFault {
     },
 }
 
-/// A journaled world, as it lies under the lock of a `Fabric`.
+/// A journaled world, as it lies under the lock of a `Fabric`, with the book of its calls: the journal is as long as the shares of the
+/// ports add up to, and its config is the one of the type.
 #[derive(Drop)]
-pub struct Running {
+pub struct Running<C: Tally> {
     journaled: Journaled,
+    calls: Book<C>,
 }
 
-impl Model for Running {
+impl<C: Tally> Model for Running<C> {
+    ghost use Rattle.std.specs.Prelude.{◌≡◌, length};
     ghost use Rattle.sva_fabric.specs.Journal.{History};
 
     ghost Value = { History };
 
     ghost view = { λ r. r.journaled };
+
+    ghost invariant = { λ r. (r.calls.total ≡ length r.journaled.entries) × (r.journaled.config ≡ C.config) };
 }
 
-impl Running {
-    /// A new world of a config, of which nothing was asked. A config out of its limits is `BadConfig`; the only other refusal is
-    /// `OutOfMemory`.
-    pub fn open(alloc: Global, config: Config) -> Result<Running, Refusal>
+impl<C: Tally> Running<C> {
+    /// A new world of a config, of which nothing was asked, with a book in which nothing stands. A config out of its limits is
+    /// `BadConfig`; the only other refusal is `OutOfMemory`.
+    pub fn open(alloc: Global, config: Config, calls: Book<C>) -> Result<Running<C>, Refusal>
+        requires config { config ≡ C.config }
+        requires none { calls.total ≡ 0 }
         ensures ok { IfOk result (λ r. (Fits config) × (r ≡ empty_of config)) }
         ensures bad { (result ≡ Err refusal.BadConfig) ↔ (Fits config → ⊥) }
         ensures memory { IfErr result IsOpenRefusal }
     {
         let journaled = Journaled::open(alloc, config)?;
-        Ok(Running { journaled })
+        Ok(Running { journaled, calls })
     }
 
     /// Takes one step for a port whose last receipt is this one. The receipt is compared with the journal first; where it doesn't
-    /// stand there, the answer is `Strayed`.
+    /// stand there, the answer is `Strayed`. A call that is answered counts in the port's share.
     pub fn step(
         &mut self,
         port: u64,
         last: Option<Receipt>,
+        calls: &mut Share<C>,
         step: &Step,
     ) -> Result<Receipt, StepFault>
+        requires { 0 < calls.old.parts }
         ensures answered { IfOk result (λ r. IsAnsweredAt self.old port last step.now r) }
         ensures journal { IfOk result (λ r. self.new ≡ with_entry self.old (entry_of port r.step r.answer)) }
         ensures err { OnErr result (self.new ≡ self.old) }
         ensures fault { IfErr result (λ f. IsRefusedAt self.old.entries port last f) }
         ensures legal { IsLegal self.new }
+        ensures config { self.new.config ≡ C.config }
+        ensures counted { OnOk result (calls.new.amount ≡ calls.old.amount + 1) }
+        ensures uncounted { OnErr result (calls.new.amount ≡ calls.old.amount) }
+        ensures parts { calls.new.parts ≡ calls.old.parts }
     {
         let place = self.journaled.calls();
         if let Some(receipt) = last {
@@ -80,20 +95,33 @@ impl Running {
                 });
             }
         }
-        match self.journaled.perform(port, step) {
-            Ok(entry) => Ok(Receipt {
-                place,
-                step: entry.step,
-                answer: entry.answer,
-            }),
-            Err(_) => Err(StepFault::Memory),
-        }
+        let Ok(entry) = self.journaled.perform(port, step) else {
+            return Err(StepFault::Memory);
+        };
+        self.calls.add(calls, 1);
+        Ok(Receipt {
+            place,
+            step: entry.step,
+            answer: entry.answer,
+        })
+    }
+
+    /// A share with every part of the ledger counts each call of the journal, and no share more than there are. Nothing changes.
+    pub fn compare(&mut self, calls: &mut Share<C>)
+        ensures same { self.new ≡ self.old }
+        ensures parts { calls.new.parts ≡ calls.old.parts }
+        ensures amount { calls.new.amount ≡ calls.old.amount }
+        ensures some { calls.new.amount ≤ length self.new.entries }
+        ensures all { calls.new.parts ≡ C.parts → calls.new.amount ≡ length self.new.entries }
+    {
+        self.calls.audit(calls);
     }
 
     /// Compares the receipts of all ports with the journal.
-    pub fn audit(&self, ports: &Ports) -> Result<Audit, FirstBadReceipt>
+    pub fn audit(&self, ports: &Ports<C>) -> Result<Audit, FirstBadReceipt>
         ensures audit { IsAudit self.now (seats_of ports.now) result }
         ensures legal { IsLegal self.now }
+        ensures config { self.now.config ≡ C.config }
     {
         let calls = self.journaled.calls();
         if let Some(bad) = self.first_bad(ports) {
@@ -140,7 +168,7 @@ impl Running {
     }
 
     // The first receipt that doesn't stand, of ports that are numbered from this number on.
-    fn first_bad_from(&self, first: u64, ports: &[Port]) -> Option<FirstBadReceipt>
+    fn first_bad_from(&self, first: u64, ports: &[Port<C>]) -> Option<FirstBadReceipt>
         requires { first + length ports.now < 2 ^ 64 }
         ensures none { IfNone result (EachStands self.now.entries first ports.now) }
         ensures some { IfSome result (λ bad. IsFirstBadOf self.now.entries first ports.now bad.port bad.place) }
@@ -159,7 +187,7 @@ impl Running {
     }
 
     // The first receipt that doesn't stand.
-    fn first_bad(&self, ports: &Ports) -> Option<FirstBadReceipt>
+    fn first_bad(&self, ports: &Ports<C>) -> Option<FirstBadReceipt>
         ensures none { IfNone result (EachStands self.now.entries 0 (seats_of ports.now)) }
         ensures some { IfSome result (λ bad. IsFirstBadOf self.now.entries 0 (seats_of ports.now) bad.port bad.place) }
     {
@@ -183,7 +211,7 @@ impl Running {
 
 // How many ports there are.
 #[tactic(auto, using(crate::proofs::Sums::length_both))]
-fn count_of(ports: &Ports) -> u64
+fn count_of<C: Tally>(ports: &Ports<C>) -> u64
     ensures { result ≡ length (seats_of ports.now) }
 {
     let endpoints = ports.endpoints.as_slice();
@@ -193,7 +221,7 @@ fn count_of(ports: &Ports) -> u64
 
 // Tells that the calls of all ports are so many.
 #[tactic(auto, using(crate::proofs::Sums::calls_append))]
-fn adds_up(calls: u64, ports: &Ports) -> bool
+fn adds_up<C: Tally>(calls: u64, ports: &Ports<C>) -> bool
     ensures yes { result ≡ true → calls_of (seats_of ports.now) ≡ calls }
     ensures no { result ≡ false → calls_of (seats_of ports.now) ≡ calls → ⊥ }
 {
@@ -216,7 +244,7 @@ fn adds_up(calls: u64, ports: &Ports) -> bool
 }
 
 // How many calls are left without those of a port, if it hasn't more.
-fn left_of(calls: u64, port: &Port) -> Option<u64>
+fn left_of<C: Tally>(calls: u64, port: &Port<C>) -> Option<u64>
     ensures some { IfSome result (λ left. left + length port.now.receipts ≡ calls) }
     ensures none { IfNone result (calls < length port.now.receipts) }
 {
@@ -224,7 +252,7 @@ fn left_of(calls: u64, port: &Port) -> Option<u64>
 }
 
 // How many calls are left without those of several ports, if they haven't more.
-fn left_of_all(calls: u64, ports: &[Port]) -> Option<u64>
+fn left_of_all<C: Tally>(calls: u64, ports: &[Port<C>]) -> Option<u64>
     ensures some { IfSome result (λ left. left + calls_of ports.now ≡ calls) }
     ensures none { IfNone result (calls < calls_of ports.now) }
 {

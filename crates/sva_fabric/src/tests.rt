@@ -2,11 +2,14 @@ ghost use Rattle.std.specs.Prelude.{◌≡◌, true};
 ghost use Rattle.sva_step.specs.Steps.{is_plain};
 
 use super::*;
+use std::alloc::Global;
+use std::marker::Brand;
 use std::process::Abort;
+use std::sync::ledger::Blank;
 use std::sync::{Barrier, Wait};
 use std::test::Fail;
-use std::thread;
 use std::thread::Threads;
+use std::{mem, thread};
 use sva_step::{Answer, Config, Refusal, Step};
 
 // Two endpoints, four frames and one worker.
@@ -28,7 +31,11 @@ fn map(page: u64) -> Step
 }
 
 // Each of two threads takes a step of its own, in turns: a barrier stands between one turn and the next.
-fn in_turns<R: Threads + Wait + Abort + Sync>(rt: &R, fabric: &Fabric, ports: &mut Ports) {
+fn in_turns<C: Tally + Send + Sync, R: Threads + Wait + Abort + Sync>(
+    rt: &R,
+    fabric: &Fabric<C>,
+    ports: &mut Ports<C>,
+) {
     let Ports { host, link, .. } = ports;
     let barrier = Barrier::new(2);
     let meet = &barrier;
@@ -57,12 +64,19 @@ fn in_turns<R: Threads + Wait + Abort + Sync>(rt: &R, fabric: &Fabric, ports: &m
     );
 }
 
-#[test]
-fn two_threads_take_turns(rt: HostRuntime) -> Result<(), Fail> {
-    let Ok((fabric, mut ports)) = Fabric::open(rt.alloc(), CONFIG) else {
+fn turns<C: Tally + Send + Sync, R: Threads + Wait + Abort + Sync>(
+    rt: &R,
+    alloc: Global,
+    calls: Blank,
+) -> Result<(), Fail>
+    requires name { calls.name ≡ C.name }
+    requires parts { (calls.parts ≡ C.parts) × (calls.parts ≡ 6) }
+    requires config { C.config ≡ CONFIG }
+{
+    let Ok((fabric, mut ports)) = Fabric::<C>::open(alloc, CONFIG, calls) else {
         return Err("it opens".into());
     };
-    in_turns(&rt, &fabric, &mut ports);
+    in_turns(rt, &fabric, &mut ports);
     assert_eq!(rt; (ports.host.calls(), ports.link.calls()), (2, 1));
     let audit = fabric.finish(ports);
     assert_eq!(rt;
@@ -77,8 +91,18 @@ fn two_threads_take_turns(rt: HostRuntime) -> Result<(), Fail> {
     Ok(())
 }
 
+#[test]
+fn two_threads_take_turns(rt: HostRuntime) -> Result<(), Fail> {
+    turns::<Brand, _>(&rt, rt.alloc(), Blank::new(ports_of(&CONFIG)))
+}
+
 // As many looks as the turns.
-fn look_often<R: Wait + Abort>(rt: &R, fabric: &Fabric, port: &mut Port, turns: u64) {
+fn look_often<C: Tally, R: Wait + Abort>(
+    rt: &R,
+    fabric: &Fabric<C>,
+    port: &mut Port<C>,
+    turns: u64,
+) {
     for turn in 0..turns {
         let frame = turn % 5;
         let answer = if frame < 4 {
@@ -92,7 +116,11 @@ fn look_often<R: Wait + Abort>(rt: &R, fabric: &Fabric, port: &mut Port, turns: 
 }
 
 // A thread for each endpoint, and one for each worker.
-fn at_once<R: Threads + Wait + Abort + Sync>(rt: &R, fabric: &Fabric, ports: &mut Ports) {
+fn at_once<C: Tally + Send + Sync, R: Threads + Wait + Abort + Sync>(
+    rt: &R,
+    fabric: &Fabric<C>,
+    ports: &mut Ports<C>,
+) {
     let Ports {
         endpoints,
         workers,
@@ -110,12 +138,19 @@ fn at_once<R: Threads + Wait + Abort + Sync>(rt: &R, fabric: &Fabric, ports: &mu
     });
 }
 
-#[test]
-fn three_threads_at_once(rt: HostRuntime) -> Result<(), Fail> {
-    let Ok((fabric, mut ports)) = Fabric::open(rt.alloc(), CONFIG) else {
+fn looks<C: Tally + Send + Sync, R: Threads + Wait + Abort + Sync>(
+    rt: &R,
+    alloc: Global,
+    calls: Blank,
+) -> Result<(), Fail>
+    requires name { calls.name ≡ C.name }
+    requires parts { (calls.parts ≡ C.parts) × (calls.parts ≡ 6) }
+    requires config { C.config ≡ CONFIG }
+{
+    let Ok((fabric, mut ports)) = Fabric::<C>::open(alloc, CONFIG, calls) else {
         return Err("it opens".into());
     };
-    at_once(&rt, &fabric, &mut ports);
+    at_once(rt, &fabric, &mut ports);
     let audit = fabric.finish(ports);
     assert_eq!(rt;
         audit,
@@ -130,24 +165,29 @@ fn three_threads_at_once(rt: HostRuntime) -> Result<(), Fail> {
 }
 
 #[test]
-fn a_port_strays(rt: HostRuntime) -> Result<(), Fail> {
-    let Ok((one, mut ports)) = Fabric::open(rt.alloc(), CONFIG) else {
+fn three_threads_at_once(rt: HostRuntime) -> Result<(), Fail> {
+    looks::<Brand, _>(&rt, rt.alloc(), Blank::new(ports_of(&CONFIG)))
+}
+
+fn made() -> Receipt {
+    Receipt {
+        place: 0,
+        step: Step::Space,
+        answer: Ok(Answer::Space { space: 0 }),
+    }
+}
+
+fn strays<C: Tally>(rt: &impl Abort, alloc: Global, calls: Blank) -> Result<(), Fail>
+    requires name { calls.name ≡ C.name }
+    requires parts { (calls.parts ≡ C.parts) × (calls.parts ≡ 6) }
+    requires config { C.config ≡ CONFIG }
+{
+    let (book, mut share) = calls.open::<C>();
+    let Ok(mut running) = Running::<C>::open(alloc, CONFIG, book) else {
         return Err("it opens".into());
     };
-    let Ok((other, mut others)) = Fabric::open(rt.alloc(), CONFIG) else {
-        return Err("it opens".into());
-    };
-    let first = one.step(&rt, &mut ports.host, &Step::Space);
-    assert_eq!(rt;
-        first,
-        Ok(Receipt {
-            place: 0,
-            step: Step::Space,
-            answer: Ok(Answer::Space { space: 0 })
-        })
-    );
-    assert_eq!(rt; first.ok(), ports.host.last());
-    let strayed = other.step(&rt, &mut ports.host, &Step::Space);
+    // Nothing stands there yet.
+    let strayed = running.step(3, Some(made()), &mut share, &Step::Space);
     assert_eq!(rt;
         strayed,
         Err(StepFault::Strayed {
@@ -155,63 +195,109 @@ fn a_port_strays(rt: HostRuntime) -> Result<(), Fail> {
             found: None
         })
     );
-    // The link's first call stands where the host's receipt is looked for.
-    assert!(rt; other.step(&rt, &mut others.link, &Step::Space).is_ok());
-    let strayed = other.step(&rt, &mut ports.host, &Step::Space);
+    let first = running.step(1, None, &mut share, &Step::Space);
+    let wanted = Ok(made());
+    assert_eq!(rt; first, wanted);
+    // Another port's call stands there.
+    let strayed = running.step(3, Some(made()), &mut share, &Step::Space);
     let found = Entry {
         port: 1,
         step: Step::Space,
         answer: Ok(Answer::Space { space: 0 }),
     };
-    assert_eq!(rt;
-        strayed,
-        Err(StepFault::Strayed {
-            place: 0,
-            found: Some(found)
-        })
+    let wanted = Err(StepFault::Strayed {
+        place: 0,
+        found: Some(found),
+    });
+    assert_eq!(rt; strayed, wanted);
+    assert!(rt;
+        running
+            .step(1, Some(made()), &mut share, &Step::Space)
+            .is_ok()
     );
-    assert_eq!(rt; ports.host.receipts().len(), 1);
-    // Each audit is of the other's ports.
+    running.compare(&mut share);
+    Ok(())
+}
+
+#[test]
+fn a_receipt_that_does_not_stand(rt: HostRuntime) -> Result<(), Fail> {
+    strays::<Brand>(&rt, rt.alloc(), Blank::new(ports_of(&CONFIG)))
+}
+
+fn changed<C: Tally, R: Wait + Abort>(rt: &R, alloc: Global, calls: Blank) -> Result<(), Fail>
+    requires name { calls.name ≡ C.name }
+    requires parts { (calls.parts ≡ C.parts) × (calls.parts ≡ 6) }
+    requires config { C.config ≡ CONFIG }
+{
+    let Ok((fabric, mut ports)) = Fabric::<C>::open(alloc, CONFIG, calls) else {
+        return Err("it opens".into());
+    };
+    let pumped = fabric.step(rt, &mut ports.service, &Step::Pump { endpoint: 0 });
+    assert_eq!(rt; pumped.ok(), ports.service.last());
+    assert_eq!(rt; ports.service.receipts().len(), 1);
+    assert_eq!(rt; ports.workers.first().map(|port| port.number()), Some(5));
+    // Two ports change their places.
+    mem::swap(&mut ports.link, &mut ports.service);
     assert_eq!(rt;
-        one.finish(others),
+        fabric.finish(ports),
         Err(FirstBadReceipt { port: 1, place: 0 })
     );
+    Ok(())
+}
+
+#[test]
+fn ports_that_changed_their_places(rt: HostRuntime) -> Result<(), Fail> {
+    changed::<Brand, _>(&rt, rt.alloc(), Blank::new(ports_of(&CONFIG)))
+}
+
+fn left_out<C: Tally, R: Wait + Abort>(rt: &R, alloc: Global, calls: Blank) -> Result<(), Fail>
+    requires name { calls.name ≡ C.name }
+    requires parts { (calls.parts ≡ C.parts) × (calls.parts ≡ 6) }
+    requires config { C.config ≡ CONFIG }
+{
+    let Ok((fabric, mut ports)) = Fabric::<C>::open(alloc, CONFIG, calls) else {
+        return Err("it opens".into());
+    };
+    for port in ports.workers.iter_mut() {
+        assert!(rt; fabric.step(rt, port, &Step::Take { worker: 0 }).is_ok());
+    }
+    // The worker's port is kept back.
+    assert!(rt; ports.workers.pop().is_some());
     assert_eq!(rt;
-        other.finish(ports),
-        Err(FirstBadReceipt { port: 0, place: 0 })
+        fabric.finish(ports),
+        Err(FirstBadReceipt { port: 5, place: 1 })
     );
     Ok(())
 }
 
 #[test]
 fn calls_that_do_not_add_up(rt: HostRuntime) -> Result<(), Fail> {
-    let Ok((fabric, mut ports)) = Fabric::open(rt.alloc(), CONFIG) else {
-        return Err("it opens".into());
-    };
-    let Ok((_, others)) = Fabric::open(rt.alloc(), CONFIG) else {
-        return Err("it opens".into());
-    };
+    left_out::<Brand, _>(&rt, rt.alloc(), Blank::new(ports_of(&CONFIG)))
+}
+
+const TOO_MANY: Config = Config {
+    endpoints: 2,
+    frames: 4,
+    workers: 5,
+    first: 0,
+};
+
+fn refused<C: Tally>(rt: &impl Abort, alloc: Global, calls: Blank)
+    requires name { calls.name ≡ C.name }
+    requires parts { (calls.parts ≡ C.parts) × (calls.parts ≡ 10) }
+    requires config { C.config ≡ TOO_MANY }
+{
     assert!(rt;
-        fabric
-            .step(&rt, &mut ports.service, &Step::Pump { endpoint: 0 })
-            .is_ok()
+        matches!(
+            Fabric::<C>::open(alloc, TOO_MANY, calls),
+            Err(Refusal::BadConfig)
+        )
     );
-    assert_eq!(rt; ports.workers.first().map(|port| port.number()), Some(5));
-    // The other's ports have no receipts, so none of theirs is bad.
-    assert_eq!(rt;
-        fabric.finish(others),
-        Err(FirstBadReceipt { port: 6, place: 1 })
-    );
-    Ok(())
 }
 
 #[test]
 fn a_config_out_of_its_limits(rt: HostRuntime) {
-    let config = Config {
-        workers: 5,
-        ..CONFIG
-    };
-    assert!(rt; matches!(Fabric::open(rt.alloc(), config), Err(Refusal::BadConfig)));
+    refused::<Brand>(&rt, rt.alloc(), Blank::new(10));
 }
 
 #[test]

@@ -4,4 +4,4 @@ use Rattle.sva_fabric.proofs.running.left_of_all.Given as goal
 
 -- the calls of the ports so far were taken away
 abbrev pub invariant-loop-port : goal.invariant-loop-port
-invariant-loop-port l = l.left + calls_of l.ports ≡ l.fn.calls + calls_of (drop l.port-index l.ports)
+invariant-loop-port g l = l.left + calls_of l.ports ≡ l.fn.calls + calls_of (drop l.port-index l.ports)

@@ -6,7 +6,7 @@ use Rattle.sva_fabric.proofs.Sums.{each_append, bad_before, bad_behind, none_map
 use Rattle.sva_fabric.proofs.running.Running.first_bad.Goals as goal
 
 pub returns-in-Some-first_bad_from-clause-some : goal.returns-in-Some-first_bad_from-clause-some
-returns-in-Some-first_bad_from-clause-some c =
+returns-in-Some-first_bad_from-clause-some g c =
     let e = c.args.self.now.entries in
     let p = c.args.ports.now in
     let bad = c.in-Some-first_bad_from.bad in
@@ -20,7 +20,7 @@ returns-in-Some-first_bad_from-clause-some c =
     inr (host, inr (link, inr (service, bad_before e 3 p.endpoints.items p.workers.items bad.port bad.place there)))
 
 pub returns-clause-none : goal.returns-clause-none
-returns-clause-none c =
+returns-clause-none g c =
     let e = c.args.self.now.entries in
     let p = c.args.ports.now in
     let host : AllStand e 0 p.host.receipts = subst (λ (rs : List Receipt). AllStand e 0 rs) c.receipts.ensures.exact c.in_default.ensures.none in
@@ -46,7 +46,7 @@ returns-clause-none c =
     c.first_bad_from-2.ensures.none
 
 pub returns-clause-some : goal.returns-clause-some
-returns-clause-some c =
+returns-clause-some g c =
     let e = c.args.self.now.entries in
     let p = c.args.ports.now in
     let host : AllStand e 0 p.host.receipts = subst (λ (rs : List Receipt). AllStand e 0 rs) c.receipts.ensures.exact c.in_default.ensures.none in

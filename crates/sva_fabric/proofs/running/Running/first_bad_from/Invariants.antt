@@ -4,7 +4,7 @@ use Rattle.sva_fabric.proofs.running.Running.first_bad_from.Given as goal
 
 -- what holds of the ports that are left gives what holds of all
 abbrev pub invariant-loop-port : goal.invariant-loop-port
-invariant-loop-port l =
+invariant-loop-port g l =
     (EachStands l.self.entries l.number (drop l.port-index l.ports) → EachStands l.self.entries l.fn.first l.ports)
     × ((port place : ℕ) → IsFirstBadOf l.self.entries l.number (drop l.port-index l.ports) port place
     → IsFirstBadOf l.self.entries l.fn.first l.ports port place)

@@ -22,9 +22,10 @@ pub const HELP: &str =
     "Runs scenarios of a host for shared virtual addressing: PCI Express ATS, PRI and PASIDs,
 with the invalidations and page requests of Intel VT-d.
 
-A scenario is a text on standard input. Its first line is the config: how many endpoints, frames
-and workers there are. Each further line is a step. Lines that are empty or begin with # are
-skipped. A first scenario:
+A scenario is a text on standard input, of at most 65536 lines and 1048576 bytes. Its first line is
+the config: how many endpoints, frames and workers there are. Each further line is a step. Words are
+separated by one space, and numbers are decimal. Lines that are empty or begin with # are skipped. A
+first scenario, which is examples/first.sva:
 
     # one endpoint, four frames, one worker
     config 1 4 1
@@ -37,7 +38,8 @@ skipped. A first scenario:
     # r: it may only be read
     map 0 16 r
 
-`svahost replay` runs the steps and prints a report, a line for each step and last the counts:
+`svahost replay < examples/first.sva` runs the steps and prints a report, a line for each step and
+last the counts:
 
     space 0
     frame 0
@@ -47,37 +49,41 @@ skipped. A first scenario:
 
 `svahost check` runs nothing and prints `steps 4`.
 
-The config, and the steps. E is an endpoint, S a space, B a binding, M a message, X a worker, and a
-word in brackets may be missing:
+The config, and the steps. E is an endpoint, S a space, B a binding, M a message, F a frame and W a
+worker, each numbered from 0, and a word in brackets may be missing:
 
     config E N W           1 to 8 endpoints, 1 to 4096 frames, 1 to 4 workers
     space                  a new empty space; at most 64 live ones
-    drop S                 the space goes, and its frames are free
+    drop S                 the space goes, and its frames are free; not while it is bound
     map S PAGE r           the page leads to the lowest free frame, for reading
     map S PAGE w           for writing and reading; at most 1024 pages a space, below page 2^36
     unmap S PAGE [COUNT]   1 to 48 pages, 1 if missing, from PAGE on leave the space
     unmapr S PAGE K        those of the 2^K pages from PAGE on, K 0 to 9, PAGE a multiple of 2^K
     look F                 where frame F is: free, mapped or withheld
     bearer P               which space bears PASID P, 1 to 32
-    bind E S               space S is at endpoint E, under the PASID that it bears or a new one
+    bind E S               space S is at endpoint E, under the PASID that it bears or a new one;
+                           at most 32 PASIDs are borne
     unbind B               binding B is to end: its endpoint is told to stop
     advance B              it goes on to its next stage, and at last it is released
     reset E                endpoint E is to be reset, and its unit closed
-    pump E                 the head of endpoint E's invalidation queue is sent, or a wait is over
+    pump E                 the head of endpoint E's invalidation queue, which has 64 places, is
+                           sent under one of 32 ITags, or a wait is over
     serve E                the oldest page request of endpoint E is filed; a whole group is a job
-    take X                 worker X, numbered from 0, takes the oldest job in its hand
-    answer X success       it answers the job: its pages are mapped; or `invalid`, or `failure`
-    deliver M              message M arrives; messages are numbered from 0 as they are sent
+    take W                 worker W takes the oldest job in its hand
+    answer W success       it answers the job: its pages are mapped; or `invalid`, or `failure`
+    deliver M              message M arrives; messages are numbered as they are sent
 
 An endpoint's steps, under a PASID P:
 
-    ask E P PAGE           a translation of the page is asked for
+    ask E P PAGE           a translation of the page is asked for; at most 32 are asked for at once
     use E P PAGE r         a use of the translation that is held begins: it reads
     use E P PAGE w         it writes
     end E U                the use in slot U, 0 to 15, ends
     evict E P PAGE         the translation that is held goes
-    fault E P PAGE A G L   a page request; A is r, w or rw, G new or a group, L more or last
-    finish E VECTOR COUNT  invalidations are answered, those of the bits of VECTOR, as 0000000b
+    fault E P PAGE A G L   a page request; A is r, w or rw, G new or a group, L more or last; at
+                           most 32 have no response yet
+    finish E VECTOR COUNT  invalidations are answered, those of the ITags whose bits are set in
+                           VECTOR, as 0000000b, by 1 to 8 completions
     quit E P               the PASID isn't used any more
 
 A frame whose page is unmapped is free at once where no endpoint can hold its translation, and else
@@ -86,8 +92,10 @@ withheld until each has answered an invalidation.
 A step that isn't allowed is answered `refused N Name`, changes nothing, and the run goes on. Where
 a line can't be read nothing is run, and the report is that line's fault alone: `line 2 WordCount`.
 
-The status is 0 where the steps were run; 1 for a line that can't be read, for a config that is out
-of its limits, and for a fault of a stream or of memory, of which standard error tells; and 2 for a
-wrong command line.
+The status is 0 where the steps were run, refused ones too, and for help and the version; 1 for a
+line that can't be read, for a config that is out of its limits, and for a fault of a stream or of
+memory, of which standard error tells in a line; and 2 for a wrong command line, of which standard
+error tells too. The script svahost ends with 3 where it can't build the program. All else goes to
+standard output.
 
 docs/FORMAT.md describes scenarios, steps, refusals and reports, and examples/ has more of them.";

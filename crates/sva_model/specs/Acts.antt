@@ -90,9 +90,11 @@ abbrev pub submits_at : Endpoint → Option ℕ → Bool
 submits_at p None = false
 submits_at p (Some b) = is_open p.phase && is_before_invalidating (p.stage b)
 
+-- does the unmapping of the space submit at this endpoint's unit?
 abbrev pub submits : World → (space endpoint : ℕ) → Bool
 submits w s e = submits_at (w.part e) (bound w e s)
 
+-- what is owed where a unit that is open gets so many ranges; at one in reset, its next reset-done
 abbrev pub owed_by_unit : Endpoint → (count : ℕ) → Bool → Owed
 owed_by_unit p count true = Ranges p.orders count p.resets
 owed_by_unit p count false = NextReset p.resets
@@ -105,6 +107,7 @@ owed_by_stage p count (Draining wait) = owed_by_unit p count (is_open p.phase)
 owed_by_stage p count (Invalidating invalidation wait) = Pasid invalidation wait p.resets (not (is_open p.phase))
 owed_by_stage p count _ = Nothing
 
+-- what the endpoint owes, by the binding that the space has there, if any
 abbrev pub owed_by : Endpoint → (count : ℕ) → Option ℕ → Owed
 owed_by p count None = Nothing
 owed_by p count (Some b) = owed_by_stage p count (p.stage b)
@@ -117,10 +120,12 @@ waits_by_stage p (Draining wait) = true
 waits_by_stage p (Invalidating invalidation wait) = not (is_done (p.order_state wait))
 waits_by_stage p _ = false
 
+-- is there something to wait for, by the binding that the space has there?
 abbrev pub waits_at : Endpoint → Option ℕ → Bool
 waits_at p None = false
 waits_at p (Some b) = waits_by_stage p (p.stage b)
 
+-- is there something to wait for at the endpoint where the space loses a page?
 abbrev pub waits : World → (space endpoint : ℕ) → Bool
 waits w s e = waits_at (w.part e) (bound w e s)
 
@@ -128,6 +133,7 @@ waits w s e = waits_at (w.part e) (bound w e s)
 abbrev pub range_at : (page order number : ℕ) → Range
 range_at q order j = record { base = q + j * 2 ^ order; order = order }
 
+-- the unit behind `count` range invalidations and their wait
 abbrev pub submitted : Endpoint → (binding page count order cookie : ℕ) → Endpoint
 submitted p b q count order cookie =
     record p {
@@ -137,6 +143,7 @@ submitted p b q count order cookie =
       waits_end = suc cookie;
     }
 
+-- the same where something is submitted at all
 abbrev pub submitted_if : Bool → Endpoint → Option ℕ → (page count order cookie : ℕ) → Endpoint
 submitted_if true p (Some b) q count order cookie = submitted p b q count order cookie
 submitted_if _ p _ q count order cookie = p
@@ -145,13 +152,16 @@ submitted_if _ p _ q count order cookie = p
 abbrev pub cookie_of : World → (space endpoint : ℕ) → ℕ
 cookie_of w s e = w.cookies + count_below e (submits w s)
 
+-- an endpoint with its unit behind an unmapping of `count` ranges
 abbrev pub part_after_unmap : World → (space page count order endpoint : ℕ) → Endpoint
 part_after_unmap w s q count order e = submitted_if (submits w s e) (w.part e) (bound w e s) q count order (cookie_of w s e)
 
+-- a mapping that was present is gone, and is owed this
 abbrev pub gone_if : Bool → (ℕ → Owed) → MappingState → MappingState
 gone_if true owed Present = Gone owed
 gone_if _ owed state = state
 
+-- is k one of `count` numbers from `first` on?
 abbrev pub in_range : (first count k : ℕ) → Bool
 in_range first count k = nat_le first k && nat_lt k (first + count)
 
@@ -166,27 +176,33 @@ without_pages ms s pages owed =
 
 -- What becomes of a record's state.
 
+-- a queued order is void: a reset begins
 abbrev pub void_queued : OrderState → OrderState
 void_queued Queued = Void
 void_queued o = o
 
+-- an order that isn't done is void: a reset ends
 abbrev pub void_undone : OrderState → OrderState
 void_undone Done = Done
 void_undone o = Void
 
+-- an invalidation that the endpoint has taken lapses: the endpoint resets itself
 abbrev pub lapse : OrderState → OrderState
 lapse (Taken uses) = Lapsed
 lapse o = o
 
+-- the endpoint owes so many completions for it, and none has come
 abbrev pub owe_if : Bool → ℕ → OrderState → OrderState
 owe_if true count o = Completing count count
 owe_if false count o = o
 
+-- a completion more has come
 abbrev pub counted : OrderState → OrderState
 counted (Completing count (suc zero)) = Done
 counted (Completing count (suc (suc left))) = Completing count (suc left)
 counted o = o
 
+-- where the completion names the order
 abbrev pub counted_if : Bool → OrderState → OrderState
 counted_if true o = counted o
 counted_if false o = o
@@ -196,40 +212,49 @@ abbrev pub is_last_left : OrderState → Bool
 is_last_left (Completing count (suc zero)) = true
 is_last_left o = false
 
+-- a request that is out is doomed
 abbrev pub doom_if : Bool → RequestState → RequestState
 doom_if true Out = Doomed
 doom_if _ r = r
 
+-- what is cached goes
 abbrev pub none_if : Bool → Option ℕ → Option ℕ
 none_if true h = None
 none_if false h = h
 
+-- a running use is dead: the endpoint resets itself
 abbrev pub killed : UseState → UseState
 killed Running = Dead
 killed u = u
 
+-- a page request that waits is lost: a reset begins
 abbrev pub dropped_arrived : PageRequestState → PageRequestState
 dropped_arrived Arrived = Dropped
 dropped_arrived r = r
 
+-- a group that the host has open is dropped: a reset begins
 abbrev pub discarded : HostGroupState → HostGroupState
 discarded PartFiled = Discarded
 discarded Job = Discarded
 discarded (InHand w) = InHandDiscarded w
 discarded h = h
 
+-- a group that awaits its response is stale: its PASID is quit
 abbrev pub stale_if : Bool → GroupState → GroupState
 stale_if true Awaiting = Stale
 stale_if _ g = g
 
+-- a group is a job once its last page request is filed
 abbrev pub filed_as : Bool → HostGroupState
 filed_as true = Job
 filed_as false = PartFiled
 
+-- a group awaits its response once its last page request is sent
 abbrev pub sent_as : Bool → GroupState
 sent_as true = Awaiting
 sent_as false = Collecting
 
+-- the marker of a stopping binding is noted
 abbrev pub marked : Stage → Stage
 marked (Stopping m) = Stopping true
 marked stage = stage
@@ -242,10 +267,12 @@ cut_off (Draining wait) = Quiet
 cut_off (Invalidating invalidation wait) = Quiet
 cut_off stage = stage
 
+-- does the response code disable the page request interface (section 10.4.2)?
 abbrev pub disables : Code → Bool
 disables FailureCode = true
 disables _ = false
 
+-- which pages an invalidation is of
 abbrev pub extent_of : Order → Extent
 extent_of (RangeOf b range) = Pages range
 extent_of _ = AllPages
@@ -260,6 +287,7 @@ abbrev pub end_of : Order → ℕ
 end_of (Wait cookie drain) = suc cookie
 end_of _ = 0
 
+-- whose pages an invalidation is of
 abbrev pub binding_of : Order → ℕ
 binding_of (RangeOf b range) = b
 binding_of (PasidOf b) = b
@@ -506,6 +534,7 @@ cookies_of (Drain b cookie) = 1
 cookies_of (Invalidate b cookie) = 1
 cookies_of _ = 0
 
+-- the world after an act
 abbrev pub act : World → Act → World
 act w NewSpace = record w { spaces = suc w.spaces; is_live = put w.is_live w.spaces true }
 act w (DropSpace s) = record w { is_live = put w.is_live s false; mappings = without_pages w.mappings s (λ q. true) (λ e. Nothing) }

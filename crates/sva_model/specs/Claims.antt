@@ -46,6 +46,7 @@ pub record IsAt (w : World) (frame space page : ℕ) : Type 0 where
   pub maps : w.mappings.at space page ≡ Some mapping
   pub leads : w.mappings.frame mapping ≡ frame
 
+-- the frame is at some page of a live space
 pub record IsMapped (w : World) (frame : ℕ) : Type 0 where
   pub space : ℕ
   pub page : ℕ
@@ -77,6 +78,7 @@ pub record HasSubmitted (was then : Endpoint) (binding page : ℕ) : Type 0 wher
   pub own_is_ahead : its_own < wait
   pub own_covers : covers (then.order its_own) binding page ≡ true
 
+-- the orders of the unit from one up to another are done
 abbrev pub AreDone : Endpoint → (from to : ℕ) → Type 0
 AreDone p from to = (k : ℕ) → from ≤ k → k < to → p.order_state k ≡ Done
 
@@ -149,6 +151,7 @@ pub record HasSentMarker (p : Endpoint) (binding : ℕ) : Type 0 where
   pub no_stop : (c : ℕ) → p.message c ≢ Some (StopOf binding)
   pub no_marker : (c : ℕ) → p.message c ≢ Some (MarkerOf binding)
 
+-- page requests, groups, markers and responses of an endpoint are matched to who asked
 pub record IsMatched (p : Endpoint) : Type 0 where
   -- what the host has filed, and each job, stands under its asker
   pub filed : (r : ℕ) → p.page_request r ≡ Filed → p.filed_under (p.group_of r) ≡ asker_of p r

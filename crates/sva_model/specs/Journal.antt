@@ -6,11 +6,13 @@ use Rattle.sva_step.specs.Limits.{Fits}
 use Rattle.sva_model.specs.State.{PasidRule, World, opened}
 use Rattle.sva_model.specs.Steps.{Reply, replies, world_after}
 
+-- one call: which port asked, what, and what was answered
 pub record Entry : Type 0 where
   pub port : ℕ
   pub step : Step
   pub reply : Reply
 
+-- the steps of a journal
 abbrev pub steps_of : List Entry → List Step
 steps_of journal = map (λ e. e.step) journal
 

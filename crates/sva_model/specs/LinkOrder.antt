@@ -16,6 +16,7 @@ pub data MessageKind : Type 0 where
   MarkerKind : MessageKind
   ResetDoneKind : MessageKind
 
+-- is it a page request, last of its group or not?
 abbrev pub is_page_request : MessageKind → Bool
 is_page_request (PageRequestKind last) = true
 is_page_request _ = false

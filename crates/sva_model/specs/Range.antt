@@ -29,11 +29,12 @@ pub record Code : Type 0 where
   pub page : ℕ
   pub s : Bool
 
--- the code of a range
+-- the code of 2^order pages from `base` on
 abbrev pub encode_by : (base order : ℕ) → Code
 encode_by base zero = record { page = base; s = false }
 encode_by base (suc j) = record { page = base + (2 ^ j - 1); s = true }
 
+-- the code of a range
 abbrev pub encode : Range → Code
 encode r = encode_by r.base r.order
 
@@ -51,5 +52,6 @@ abbrev pub decode_by : Bool → Code → Option Range
 decode_by false c = None
 decode_by true c = if c.s then range_about c.page (ones 9 c.page) else Some (record { base = c.page; order = 0 })
 
+-- the range that a code names
 abbrev pub decode : Code → Option Range
 decode c = decode_by (nat_lt c.page (2 ^ 36)) c

@@ -31,9 +31,11 @@ unless_refused causes answer = by_first_cause causes (λ refusal. Err refusal) (
 
 -- Causes that several steps ask.
 
+-- the config has no endpoint of this number
 abbrev pub no_such_endpoint : World → ℕ → Cause
 no_such_endpoint w e = (not (nat_lt e w.config.endpoints), refusal.NoSuchEndpoint)
 
+-- no live space has this number
 abbrev pub no_such_space : World → ℕ → Cause
 no_such_space w n = (not (Labels.is_space w n), refusal.NoSuchSpace)
 
@@ -41,21 +43,27 @@ no_such_space w n = (not (Labels.is_space w n), refusal.NoSuchSpace)
 abbrev pub page_range : (page count : ℕ) → Cause
 page_range q count = (nat_lt (2 ^ 36) (q + count), refusal.PageRange)
 
+-- the endpoint's unit is in reset
 abbrev pub resetting : World → ℕ → Cause
 resetting w e = (not (is_open (w.part e).phase), refusal.Resetting)
 
+-- no unreleased binding has this number
 abbrev pub no_such_binding : World → ℕ → Cause
 no_such_binding w n = (not (Labels.is_binding w n), refusal.NoSuchBinding)
 
+-- there aren't so many numbers left for messages
 abbrev pub messages_spent : World → ℕ → Cause
 messages_spent w needed = (Labels.lacks w w.messages needed, refusal.NumbersSpent)
 
+-- there aren't so many numbers left for cookies
 abbrev pub cookies_spent : World → ℕ → Cause
 cookies_spent w needed = (Labels.lacks w w.cookies needed, refusal.NumbersSpent)
 
+-- the config has no worker of this number
 abbrev pub no_such_worker : World → ℕ → Cause
 no_such_worker w x = (not (nat_lt x w.config.workers), refusal.NoSuchWorker)
 
+-- no translation of the page is cached under the PASID
 abbrev pub not_held : Endpoint → (pasid page : ℕ) → Cause
 not_held p t q = (not (Labels.is_cached p t q), refusal.NotHeld)
 
@@ -65,6 +73,7 @@ is_queue_short p n = nat_lt 64 (Labels.queue_length p + n)
 
 -- Of single steps.
 
+-- an unmapping of single pages: 1 to 48, each mapped, and room at each unit that gets invalidations
 abbrev pub unmap_refusals : World → (space page count : ℕ) → List Cause
 unmap_refusals w s q count =
     (not (nat_le 1 count && nat_le count 48), refusal.BadCount)
@@ -85,6 +94,7 @@ unmap_range_refusals w s q order =
     ∷ cookies_spent w (count_below w.config.endpoints (submits w s))
     ∷ []
 
+-- a binding: one of a space at an endpoint, a PASID for it, and numbers for it and its start
 abbrev pub bind_refusals : World → (endpoint space : ℕ) → List Cause
 bind_refusals w e s =
     resetting w e
@@ -125,6 +135,7 @@ sends_invalidate p =
     && not (is_wait (p.order (Labels.head p)))
     && not (Labels.lowest_label 32 p.at_itag == 32)
 
+-- a reply: by success its pages are writable where that is asked, and there are frames and room for them
 abbrev pub reply_refusals : World → (job : ℕ) → Verdict → List Cause
 reply_refusals w j v =
     (replies_success w j v && is_write_of_read_only w j, refusal.BadVerdict)
@@ -138,6 +149,7 @@ abbrev pub may_request : Endpoint → (pasid : ℕ) → Option ℕ → Bool
 may_request p t None = Labels.is_started p t
 may_request p t (Some i) = Labels.is_started p t || Labels.is_told_to_stop p t
 
+-- is a group given, and none of the PASID that still collects?
 abbrev pub is_other_group : Endpoint → (pasid : ℕ) → Option ℕ → Bool
 is_other_group p t None = false
 is_other_group p t (Some i) = not (Labels.is_group_of p t i)
@@ -164,6 +176,7 @@ finish_refusals w p vector count =
     ∷ messages_spent w count
     ∷ []
 
+-- a quit: the PASID is told to stop, and nothing goes on under it
 abbrev pub quit_refusals : World → Endpoint → (pasid : ℕ) → List Cause
 quit_refusals w p t =
     (not (Labels.is_told_to_stop p t), refusal.NotStopping)
@@ -174,6 +187,7 @@ quit_refusals w p t =
     ∷ messages_spent w 1
     ∷ []
 
+-- is the cached translation of the page read-only?
 abbrev pub is_read_only : World → Endpoint → (pasid page : ℕ) → Bool
 is_read_only w p t q = not (w.mappings.write (the (p.held (Labels.cached p (Labels.bearer p t) q))))
 
@@ -183,12 +197,14 @@ delivery_sends p (Some FunctionReset) = true
 delivery_sends p (Some (RequestOf r)) = is_open p.phase
 delivery_sends p _ = false
 
+-- a delivery: the permitted order, and a number for what it sends
 abbrev pub deliver_refusals : World → (message : ℕ) → Endpoint → List Cause
 deliver_refusals w c p =
     (not (Labels.is_permitted_now p c (p.message c)), refusal.Overtakes)
     ∷ (delivery_sends p (p.message c) && Labels.lacks w w.messages 1, refusal.NumbersSpent)
     ∷ []
 
+-- the causes of every step, in the order in which they are asked
 abbrev pub refusals : World → Step → List Cause
 refusals w step.Space = (nat_le 64 (Labels.live_spaces w), refusal.TooManySpaces) ∷ (Labels.lacks w w.spaces 1, refusal.NumbersSpent) ∷ []
 refusals w (step.DropSpace n) = no_such_space w n ∷ (Labels.is_bound w (Labels.name w n), refusal.StillBound) ∷ []

@@ -14,6 +14,7 @@ use Rattle.sva_model.specs.Acts.{Act}
 use Rattle.sva_model.specs.Acts.Act.{Map}
 use Rattle.sva_model.specs.Labels
 
+-- the response code that a worker's verdict asks for
 abbrev pub code_of_verdict : Verdict → Code
 code_of_verdict verdict.Success = SuccessCode
 code_of_verdict verdict.Invalid = InvalidCode
@@ -26,25 +27,32 @@ response true (Stopping marked) v = Some InvalidCode
 response true (Draining wait) v = Some InvalidCode
 response _ _ v = None
 
+-- the endpoint of a job, with its unit
 abbrev pub job_part : World → (job : ℕ) → Endpoint
 job_part w j = w.part (w.job j).endpoint
 
+-- the binding that a job names
 abbrev pub job_binding : World → (job : ℕ) → ℕ
 job_binding w j = (job_part w j).filed_under (w.job j).group
 
+-- the space of the binding that a job names
 abbrev pub job_space : World → (job : ℕ) → ℕ
 job_space w j = (job_part w j).space (job_binding w j)
 
+-- the code of the response to a job, if one is sent
 abbrev pub response_to : World → (job : ℕ) → Verdict → Option Code
 response_to w j v = response (is_open (job_part w j).phase) ((job_part w j).stage (job_binding w j)) v
 
+-- is a response sent to the job, whatever the verdict?
 abbrev pub responds : World → (job : ℕ) → Bool
 responds w j = is_some (response_to w j verdict.Invalid)
 
+-- is it the code of success?
 abbrev pub is_success : Option Code → Bool
 is_success (Some SuccessCode) = true
 is_success _ = false
 
+-- is the job answered by success?
 abbrev pub replies_success : World → (job : ℕ) → Verdict → Bool
 replies_success w j v = is_success (response_to w j v)
 
@@ -81,5 +89,6 @@ maps_to s write _ _ = []
 abbrev pub free_list : World → List ℕ
 free_list w = select w.config.frames (is_free w)
 
+-- the pages that a reply maps: none but by success
 abbrev pub reply_maps : World → (job : ℕ) → Verdict → List Act
 reply_maps w j v = if replies_success w j v then maps_to (job_space w j) (is_write_asked w j) (newly_mapped w j) (free_list w) else []

@@ -19,11 +19,13 @@ pub data Owed : Type 0 where
   Pasid : (invalidation wait resets : ℕ) (in_reset : Bool) → Owed
   NextReset : (resets : ℕ) → Owed
 
+-- A mapping's page may be taken out once; what was then owed for it stays written down.
 pub data MappingState : Type 0 where
   Unmade : MappingState
   Present : MappingState
   Gone : (owed : ℕ → Owed) → MappingState
 
+-- all mappings, present and gone
 pub record Mappings : Type 0 where
   pub made : ℕ
   pub space : ℕ → ℕ
@@ -205,6 +207,7 @@ pub data PasidRule : Type 0 where
   PerEndpoint : PasidRule
   PerSpace : PasidRule
 
+-- the host, its endpoints and their links
 pub record World : Type 0 where
   pub rule : PasidRule
   pub config : Config

@@ -17,6 +17,7 @@ use Rattle.sva_model.specs.State.Order.{RangeOf, PasidOf, Wait}
 use Rattle.sva_model.specs.State.OrderState.{Queued, Sent, Taken, Lapsed, Completing, Done}
 use Rattle.sva_model.specs.State.Phase.{Open}
 
+-- isn't the unit in reset?
 abbrev pub is_open : Phase → Bool
 is_open Open = true
 is_open _ = false
@@ -27,6 +28,7 @@ is_unreleased Unbound = false
 is_unreleased Released = false
 is_unreleased _ = true
 
+-- is it bound, and not told to stop?
 abbrev pub is_live_stage : Stage → Bool
 is_live_stage Live = true
 is_live_stage _ = false
@@ -39,14 +41,17 @@ is_before_invalidating (Stopping marked) = true
 is_before_invalidating (Draining wait) = true
 is_before_invalidating _ = false
 
+-- hasn't the PASID started here, or was it quit?
 abbrev pub is_off : PasidState → Bool
 is_off Off = true
 is_off _ = false
 
+-- has the PASID started here, and isn't it told to stop?
 abbrev pub is_on : PasidState → Bool
 is_on On = true
 is_on _ = false
 
+-- is the PASID told to stop, and not quit yet?
 abbrev pub is_ending : PasidState → Bool
 is_ending Ending = true
 is_ending _ = false
@@ -57,14 +62,17 @@ is_out Out = true
 is_out Doomed = true
 is_out _ = false
 
+-- does the use go on?
 abbrev pub is_running : UseState → Bool
 is_running Running = true
 is_running _ = false
 
+-- does the page request wait in the unit's queue?
 abbrev pub is_arrived : PageRequestState → Bool
 is_arrived Arrived = true
 is_arrived _ = false
 
+-- is the last page request of the group still to come?
 abbrev pub is_collecting : GroupState → Bool
 is_collecting Collecting = true
 is_collecting _ = false
@@ -74,6 +82,7 @@ abbrev pub is_outstanding : GroupState → Bool
 is_outstanding Closed = false
 is_outstanding _ = true
 
+-- does the group wait for a worker?
 abbrev pub is_job : HostGroupState → Bool
 is_job Job = true
 is_job _ = false
@@ -85,10 +94,12 @@ is_open_group Job = true
 is_open_group (InHand worker) = true
 is_open_group _ = false
 
+-- does the order stand in the invalidation queue?
 abbrev pub is_queued : OrderState → Bool
 is_queued Queued = true
 is_queued _ = false
 
+-- has the endpoint taken the invalidation, and not answered it?
 abbrev pub is_taken : OrderState → Bool
 is_taken (Taken uses) = true
 is_taken _ = false
@@ -101,10 +112,12 @@ is_busy Lapsed = true
 is_busy (Completing count left) = true
 is_busy _ = false
 
+-- is the order done?
 abbrev pub is_done : OrderState → Bool
 is_done Done = true
 is_done _ = false
 
+-- is it a wait, and no invalidation?
 abbrev pub is_wait : Order → Bool
 is_wait (Wait cookie drain) = true
 is_wait _ = false
@@ -124,6 +137,7 @@ pub data Extent : Type 0 where
   Pages : (range : Range) → Extent
   AllPages : Extent
 
+-- is the page one of the extent?
 abbrev pub is_within : Extent → (page : ℕ) → Bool
 is_within (Pages range) page = is_in range page
 is_within AllPages page = true
@@ -141,6 +155,7 @@ answered p (Ranges first count resets) = all_below (suc count) (λ j. is_done (p
 answered p (Pasid invalidation wait resets in_reset) = (is_done (p.order_state invalidation) && is_done (p.order_state wait)) || nat_lt resets p.resets
 answered p (NextReset resets) = nat_lt resets p.resets
 
+-- does the mapping stand in its space?
 abbrev pub is_present : MappingState → Bool
 is_present Present = true
 is_present _ = false
@@ -151,25 +166,31 @@ pub data Place : Type 0 where
   Mapped : Place
   Withheld : Place
 
+-- the place of a frame whose mapping is gone, by whether all endpoints have answered for it
 abbrev pub place_of_gone : Bool → Place
 place_of_gone true = Free
 place_of_gone false = Withheld
 
+-- the place of the frame of a mapping in this state
 abbrev pub place_by : World → MappingState → Place
 place_by w Present = Mapped
 place_by w (Gone owed) = place_of_gone (all_below w.config.endpoints (λ e. answered (w.part e) (owed e)))
 place_by w _ = Free
 
+-- the place of a frame by its last mapping; free where it never had one
 abbrev pub place_at : World → Option ℕ → Place
 place_at w None = Free
 place_at w (Some m) = place_by w (w.mappings.state m)
 
+-- the place of a frame
 abbrev pub place : World → (frame : ℕ) → Place
 place w f = place_at w (w.mappings.latest f)
 
+-- is the place free?
 abbrev pub is_free_place : Place → Bool
 is_free_place Free = true
 is_free_place _ = false
 
+-- is the frame free?
 abbrev pub is_free : World → (frame : ℕ) → Bool
 is_free w f = is_free_place (place w f)

@@ -12,6 +12,7 @@ use Rattle.sva_model.specs.Acts.{Act, act}
 use Rattle.sva_model.specs.Refusals.{Cause, by_first_cause, refusals}
 use Rattle.sva_model.specs.Outcomes.{Outcome, outcome}
 
+-- an answer, or the refusal
 abbrev pub Reply : Type 0
 Reply = Result Answer Refusal
 
@@ -25,9 +26,11 @@ abbrev pub checked : List Cause → Outcome → Decision
 checked causes outcome =
     by_first_cause causes (λ refusal. record { reply = Err refusal; acts = [] }) (record { reply = Ok outcome.answer; acts = outcome.acts })
 
+-- what a step is answered, and what it does
 abbrev pub decide : World → Step → Decision
 decide w s = checked (refusals w s) (outcome w s)
 
+-- the world after acts, one after another
 abbrev pub after_acts : World → List Act → World
 after_acts w [] = w
 after_acts w (a ∷ acts) = after_acts (act w a) acts
@@ -36,6 +39,7 @@ after_acts w (a ∷ acts) = after_acts (act w a) acts
 abbrev pub reply : World → Step → Reply
 reply w s = (decide w s).reply
 
+-- the next world
 abbrev pub next : World → Step → World
 next w s = after_acts w (decide w s).acts
 
@@ -49,6 +53,7 @@ unfoldable pub replies : World → List Step → List Reply
 replies w [] = []
 replies w (s ∷ ss) = reply w s ∷ replies (next w s) ss
 
+-- the world after a list of steps from the first
 abbrev pub world_after : PasidRule → Config → List Step → World
 world_after rule config steps = run (opened rule config) steps
 
@@ -57,19 +62,23 @@ abbrev pub is_free_at : Place → Bool
 is_free_at Free = true
 is_free_at _ = false
 
+-- is the place mapped?
 abbrev pub is_mapped_at : Place → Bool
 is_mapped_at Mapped = true
 is_mapped_at _ = false
 
+-- is the place withheld?
 abbrev pub is_withheld_at : Place → Bool
 is_withheld_at Withheld = true
 is_withheld_at _ = false
 
+-- how many frames are at each place
 pub record Counts : Type 0 where
   pub free : ℕ
   pub mapped : ℕ
   pub withheld : ℕ
 
+-- the counts of a world's frames
 abbrev pub counts : World → Counts
 counts w =
     record {

@@ -24,6 +24,7 @@ use Rattle.sva_model.specs.Labels
 
 -- Numbers. A name is seen by its number, which is counted from the config's `first` on.
 
+-- the number of a name
 abbrev pub number : (first name : ℕ) → ℕ
 number first name = first + name
 
@@ -32,6 +33,7 @@ abbrev pub end_number : (first count : ℕ) → ℕ
 end_number first zero = 0
 end_number first (suc n) = first + suc n
 
+-- what is found where the first is there
 abbrev pub chain : {A : Type 0} → (ℕ → Option A) → Option ℕ → Option A
 chain f None = None
 chain f (Some k) = f k
@@ -41,27 +43,33 @@ abbrev pub insert_by : {A : Type 0} → (A → A → Bool) → A → List A → 
 insert_by below a [] = a ∷ []
 insert_by below a (x ∷ xs) = if below x a then x ∷ insert_by below a xs else a ∷ x ∷ xs
 
+-- the list in rising order
 abbrev pub sorted_by : {A : Type 0} → (A → A → Bool) → List A → List A
 sorted_by below [] = []
 sorted_by below (x ∷ xs) = insert_by below x (sorted_by below xs)
 
 -- Spaces: each live one by its number, with its pages in rising order.
 
+-- a mapped page of a space
 pub record PageWire : Type 0 where
   pub page : ℕ
   pub frame : ℕ
   pub write : Bool
 
+-- a live space
 pub record SpaceWire : Type 0 where
   pub number : ℕ
   pub pages : List PageWire
 
+-- the page of a mapping
 abbrev pub page_wire : Mappings → (mapping : ℕ) → PageWire
 page_wire ms m = record { page = ms.page m; frame = ms.frame m; write = ms.write m }
 
+-- is the mapping a present one of the space?
 abbrev pub is_page_of : Mappings → (space mapping : ℕ) → Bool
 is_page_of ms s m = is_present (ms.state m) && ms.space m == s
 
+-- the order of pages
 abbrev pub is_lower_page : PageWire → PageWire → Bool
 is_lower_page a b = nat_lt a.page b.page
 
@@ -70,12 +78,15 @@ unfoldable pub pages_below : Mappings → (space n : ℕ) → List PageWire
 pages_below ms s zero = []
 pages_below ms s (suc n) = if is_page_of ms s n then insert_by is_lower_page (page_wire ms n) (pages_below ms s n) else pages_below ms s n
 
+-- the mapped pages of a space, in rising order
 abbrev pub pages_wire : Mappings → (space : ℕ) → List PageWire
 pages_wire ms s = pages_below ms s ms.made
 
+-- a space by its number, with its pages
 abbrev pub space_wire : (first : ℕ) → Mappings → (space : ℕ) → SpaceWire
 space_wire first ms s = record { number = number first s; pages = pages_wire ms s }
 
+-- the live spaces, in the order in which they began
 abbrev pub spaces_wire : (first spaces : ℕ) → (is_live : ℕ → Bool) → Mappings → List SpaceWire
 spaces_wire first spaces is_live ms = map (space_wire first ms) (select spaces is_live)
 
@@ -86,6 +97,7 @@ pub data TargetWire : Type 0 where
   Cookie : (cookie : ℕ) → TargetWire
   ResetEnd : TargetWire
 
+-- a frame: free, mapped, or withheld with what it waits for at each of eight units
 pub data PlaceWire : Type 0 where
   FreeWire : PlaceWire
   MappedWire : PlaceWire
@@ -102,19 +114,23 @@ target_of first p (Ranges range count resets) = Cookie (cookie_number first (p.o
 target_of first p (Pasid invalidation wait resets in_reset) = if in_reset then ResetEnd else Cookie (cookie_number first (p.order wait))
 target_of first p _ = ResetEnd
 
+-- what is waited for at a unit, unless its endpoint has answered
 abbrev pub target_wire : (first : ℕ) → Endpoint → Owed → Option TargetWire
 target_wire first p owed = if answered p owed then None else Some (target_of first p owed)
 
+-- a withheld frame, by the mapping that is gone
 abbrev pub withheld_wire : (first endpoints : ℕ) → (ℕ → Endpoint) → MappingState → PlaceWire
 withheld_wire first endpoints part (Gone owed) =
     WithheldWire (tabulate 8 (λ e. if nat_lt e endpoints then target_wire first (part e) (owed e) else None))
 withheld_wire first endpoints part state = FreeWire
 
+-- a frame by its place
 abbrev pub place_wire_by : World → (frame : ℕ) → Place → PlaceWire
 place_wire_by w f Free = FreeWire
 place_wire_by w f Mapped = MappedWire
 place_wire_by w f Withheld = withheld_wire w.config.first w.config.endpoints w.part (w.mappings.state (the (w.mappings.latest f)))
 
+-- every frame, by its number
 abbrev pub places_wire : World → List PlaceWire
 places_wire w = tabulate w.config.frames (λ f. place_wire_by w f (place w f))
 
@@ -129,6 +145,7 @@ pub data StageWire : Type 0 where
   QuietWire : StageWire
   LostWire : StageWire
 
+-- a stage, its wait by its cookie
 abbrev pub stage_wire : (first : ℕ) → Endpoint → Stage → StageWire
 stage_wire first p Live = LiveWire
 stage_wire first p (Stopping marked) = StoppingWire marked
@@ -137,6 +154,7 @@ stage_wire first p (Invalidating invalidation wait) = InvalidatingWire (cookie_n
 stage_wire first p Lost = LostWire
 stage_wire first p _ = QuietWire
 
+-- an unreleased binding
 pub record BindingWire : Type 0 where
   pub endpoint : ℕ
   pub space : ℕ
@@ -144,21 +162,25 @@ pub record BindingWire : Type 0 where
   pub pasid : ℕ
   pub stage : StageWire
 
+-- a binding at its endpoint, by numbers
 abbrev pub binding_wire : (first endpoint : ℕ) → Endpoint → (binding : ℕ) → BindingWire
 binding_wire first e p b =
     record { endpoint = e; space = number first (p.space b); binding = number first b; pasid = p.pasid b; stage = stage_wire first p (p.stage b) }
 
+-- the unreleased bindings, in the order in which they began
 abbrev pub bindings_wire : (first bindings : ℕ) → (endpoint_of : ℕ → ℕ) → (ℕ → Endpoint) → List BindingWire
 bindings_wire first bindings endpoint_of part =
     map (λ b. binding_wire first (endpoint_of b) (part (endpoint_of b)) b) (select bindings (λ b. is_unreleased ((part (endpoint_of b)).stage b)))
 
 -- The device: what an endpoint keeps itself.
 
+-- a translation request that is out
 pub record RequestWire : Type 0 where
   pub pasid : ℕ
   pub page : ℕ
   pub is_doomed : Bool
 
+-- a cached translation
 pub record TranslationWire : Type 0 where
   pub pasid : ℕ
   pub page : ℕ
@@ -176,11 +198,13 @@ pub record TakenWire : Type 0 where
   pub extent : Extent
   pub slots : List Bool
 
+-- a group of page requests at its endpoint
 pub record GroupWire : Type 0 where
   pub pasid : ℕ
   pub state : GroupState
   pub requests : ℕ
 
+-- what an endpoint keeps: tables by label, and its cache
 pub record DeviceWire : Type 0 where
   pub pasids : List PasidState  -- of the PASIDs 1 to 32
   pub tags : List (Option RequestWire)
@@ -190,20 +214,25 @@ pub record DeviceWire : Type 0 where
   pub groups : List (Option GroupWire)
   pub is_disabled : Bool
 
+-- the state of the PASID that a binding bears; Off where none does
 abbrev pub state_of_pasid : Endpoint → Option ℕ → PasidState
 state_of_pasid p None = Off
 state_of_pasid p (Some b) = p.pasid_state b
 
+-- is it out and doomed?
 abbrev pub is_doomed : RequestState → Bool
 is_doomed Doomed = true
 is_doomed _ = false
 
+-- a translation request, by its binding's PASID
 abbrev pub request_wire : Endpoint → (request : ℕ) → RequestWire
 request_wire p r = record { pasid = p.pasid (p.request_binding r); page = p.request_page r; is_doomed = is_doomed (p.request r) }
 
+-- a translation, by its binding's PASID
 abbrev pub translation_wire : Mappings → Endpoint → (binding page mapping : ℕ) → TranslationWire
 translation_wire ms p b q m = record { pasid = p.pasid b; page = q; frame = ms.frame m; write = ms.write m }
 
+-- the order of cached translations: by PASID, then by page
 abbrev pub is_before : TranslationWire → TranslationWire → Bool
 is_before a b = nat_lt a.pasid b.pasid || (a.pasid == b.pasid && nat_lt a.page b.page)
 
@@ -211,9 +240,11 @@ is_before a b = nat_lt a.pasid b.pasid || (a.pasid == b.pasid && nat_lt a.page b
 abbrev pub cached_wire : Mappings → Endpoint → (request : ℕ) → TranslationWire
 cached_wire ms p r = translation_wire ms p (p.request_binding r) (p.request_page r) (the (p.held r))
 
+-- what is cached, in rising order
 abbrev pub cache_wire : Mappings → Endpoint → List TranslationWire
 cache_wire ms p = sorted_by is_before (map (cached_wire ms p) (select p.requests (λ r. is_some (p.held r))))
 
+-- a use, by whether it runs
 abbrev pub use_wire : Mappings → Endpoint → (used : ℕ) → UseWire
 use_wire ms p u =
     if is_running (p.use_state u)
@@ -224,6 +255,7 @@ use_wire ms p u =
 abbrev pub is_noted : Mappings → Endpoint → (order uses used : ℕ) → Bool
 is_noted ms p k uses u = nat_lt u uses && Labels.is_noted_running ms p k u
 
+-- an invalidation that the endpoint has taken, by its state
 abbrev pub taken_by : Mappings → Endpoint → (order : ℕ) → OrderState → Option TakenWire
 taken_by ms p k (Taken uses) =
     Some (record {
@@ -234,9 +266,11 @@ taken_by ms p k (Taken uses) =
     })
 taken_by ms p k _ = None
 
+-- a group, with how many of its page requests were sent
 abbrev pub group_wire : Endpoint → (group : ℕ) → GroupWire
 group_wire p g = record { pasid = p.pasid (p.asker g); state = p.group g; requests = count_below p.page_requests (λ r. p.group_of r == g) }
 
+-- the device of an endpoint
 abbrev pub device_wire : Mappings → Endpoint → DeviceWire
 device_wire ms p =
     record {
@@ -256,6 +290,7 @@ pub data BusyWire : Type 0 where
   Fresh : BusyWire
   Counting : (count arrived : ℕ) → BusyWire
 
+-- a descriptor of the invalidation queue (Intel VT-d, "Queued Invalidation Interface")
 pub data Descriptor : Type 0 where
   RangeDescriptor : (pasid : ℕ) (range : Range) → Descriptor
   PasidDescriptor : (pasid : ℕ) → Descriptor
@@ -271,15 +306,18 @@ pub record UnitWire : Type 0 where
   pub front : ℕ
   pub waits_end : ℕ
 
+-- an order as it stands in the queue
 abbrev pub descriptor : (first : ℕ) → Endpoint → Order → Descriptor
 descriptor first p (RangeOf b range) = RangeDescriptor (p.pasid b) range
 descriptor first p (PasidOf b) = PasidDescriptor (p.pasid b)
 descriptor first p (Wait cookie drain) = WaitDescriptor (number first cookie) drain
 
+-- an ITag by the state of its order
 abbrev pub busy_wire : OrderState → BusyWire
 busy_wire (Completing count left) = if left == count then Fresh else Counting count (count - left)
 busy_wire _ = Fresh
 
+-- the invalidation queue of a unit
 abbrev pub unit_wire : (first : ℕ) → Endpoint → UnitWire
 unit_wire first p =
     record {
@@ -292,11 +330,13 @@ unit_wire first p =
 
 -- The unit's page request queue, and the groups that the host has open.
 
+-- what one page request asks for
 pub record AskWire : Type 0 where
   pub page : ℕ
   pub read : Bool
   pub write : Bool
 
+-- a page request in the unit's queue
 pub record PageRequestWire : Type 0 where
   pub pasid : ℕ
   pub index : ℕ
@@ -310,12 +350,15 @@ pub record HostGroupWire : Type 0 where
   pub asks : List AskWire
   pub is_whole : Bool
 
+-- what a page request asks for
 abbrev pub ask_wire : Endpoint → (page_request : ℕ) → AskWire
 ask_wire p r = record { page = p.asked_page r; read = p.asks_read r; write = p.asks_write r }
 
+-- a page request, by its asker's PASID and its group's index
 abbrev pub page_request_wire : Endpoint → (page_request : ℕ) → PageRequestWire
 page_request_wire p r = record { pasid = p.pasid (p.asker (p.group_of r)); index = p.index (p.group_of r); ask = ask_wire p r; last = p.is_last r }
 
+-- the page requests that wait, oldest first
 abbrev pub page_queue_wire : Endpoint → List PageRequestWire
 page_queue_wire p = map (λ k. page_request_wire p (p.arrival k)) (select p.arrivals (Labels.is_waiting p))
 
@@ -323,6 +366,7 @@ page_queue_wire p = map (λ k. page_request_wire p (p.arrival k)) (select p.arri
 abbrev pub asks_wire : Endpoint → (group : ℕ) → List AskWire
 asks_wire p g = map (ask_wire p) (Labels.asks p g)
 
+-- is a part of the group filed, and not its last request?
 abbrev pub is_part : HostGroupState → Bool
 is_part HostGroupState.PartFiled = true
 is_part _ = false
@@ -332,10 +376,12 @@ abbrev pub begins_open : Endpoint → (filing : ℕ) → Bool
 begins_open p k =
     is_open_group (p.host_group (p.group_of (p.filing k))) && not (any_below k (λ j. p.group_of (p.filing j) == p.group_of (p.filing k)))
 
+-- a group that the host has open
 abbrev pub host_group_wire : (first : ℕ) → Endpoint → (group : ℕ) → HostGroupWire
 host_group_wire first p g =
     record { binding = number first (p.filed_under g); index = p.index g; asks = asks_wire p g; is_whole = not (is_part (p.host_group g)) }
 
+-- the groups that the host has open, in the order in which they began
 abbrev pub host_groups_wire : (first : ℕ) → Endpoint → List HostGroupWire
 host_groups_wire first p = map (λ k. host_group_wire first p (p.group_of (p.filing k))) (select p.filings (begins_open p))
 
@@ -346,32 +392,39 @@ pub record EndpointWire : Type 0 where
   pub page_queue : List PageRequestWire
   pub host_groups : List HostGroupWire
 
+-- an endpoint with its unit, as it is kept
 abbrev pub part_wire : (first : ℕ) → Mappings → Endpoint → EndpointWire
 part_wire first ms p =
     record { device = device_wire ms p; unit = unit_wire first p; page_queue = page_queue_wire p; host_groups = host_groups_wire first p }
 
 -- Jobs, hands and messages in flight.
 
+-- a job: the endpoint and the binding under which it was filed, its index and what it asks for
 pub record JobWire : Type 0 where
   pub endpoint : ℕ
   pub binding : ℕ
   pub index : ℕ
   pub asks : List AskWire
 
+-- the job that a group makes
 abbrev pub group_job : (first endpoint : ℕ) → Endpoint → (group : ℕ) → JobWire
 group_job first e p g = record { endpoint = e; binding = number first (p.filed_under g); index = p.index g; asks = asks_wire p g }
 
+-- a job, by its group
 abbrev pub job_wire : World → (job : ℕ) → JobWire
 job_wire w j = group_job w.config.first (w.job j).endpoint (w.part (w.job j).endpoint) (w.job j).group
 
+-- a message in flight, by its number
 pub record FlightWire : Type 0 where
   pub number : ℕ
   pub endpoint : ℕ
   pub message : Message
 
+-- a message as it was sent
 abbrev pub flight_wire : World → (message : ℕ) → FlightWire
 flight_wire w c = record { number = number w.config.first c; endpoint = w.link_of c; message = (w.part (w.link_of c)).carried c }
 
+-- all that is kept of a world
 pub record Wire : Type 0 where
   pub spaces : List SpaceWire
   pub places : List PlaceWire
@@ -385,6 +438,7 @@ pub record Wire : Type 0 where
   pub next_message : ℕ
   pub next_cookie : ℕ
 
+-- what is kept of a world
 abbrev pub wire : World → Wire
 wire w =
     let first = w.config.first in

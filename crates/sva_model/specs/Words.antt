@@ -16,6 +16,7 @@ step_lowest false k n b = k
 step_lowest true k n true = n
 step_lowest true k n false = suc n
 
+-- the lowest number below n that passes; n where none does
 unfoldable pub lowest : ℕ → (ℕ → Bool) → ℕ
 lowest zero p = zero
 lowest (suc n) p = step_lowest (lowest n p == n) (lowest n p) n (p n)
@@ -45,6 +46,7 @@ unfoldable pub tabulate : {A : Type 0} → ℕ → (ℕ → A) → List A
 tabulate zero f = []
 tabulate (suc n) f = tabulate n f ++ f n ∷ []
 
+-- is there one?
 abbrev pub is_some : {A : Type 0} → Option A → Bool
 is_some None = false
 is_some (Some a) = true
@@ -64,6 +66,7 @@ abbrev pub unless : (ℕ → Bool) → Option ℕ → Option ℕ
 unless p None = None
 unless p (Some k) = if p k then None else Some k
 
+-- the number, where it was found
 abbrev pub if_found : Bool → ℕ → Option ℕ
 if_found true k = Some k
 if_found false k = None

@@ -11,13 +11,12 @@ ghost use Rattle.sva_memory.specs.Owned.{Owns, Balanced};
 ghost use Rattle.sva_memory.specs.Pieces.{verdict};
 ghost use Rattle.sva_memory.specs.Asked.{asks_seen, new_among, success_causes, pages_back, places_back, MapsNew, MapsAll};
 
-use crate::pages::MOST_MAPPED;
 use arrayvec::ArrayVec;
 use std::alloc::AllocError;
 use sva_frames::FramePool;
 use sva_prq::Ask;
 use sva_space::Space;
-use sva_step::Refusal;
+use sva_step::{MOST_MAPPED, Refusal};
 
 /// How many pages the requests of a job ask for at most, since there are at most 32 of them.
 pub const MOST_ASKED: usize = 32;

@@ -20,10 +20,7 @@ use std::marker::Model;
 use sva_frames::{Counts, FramePool, Place, Waits};
 use sva_prq::Ask;
 use sva_space::Space;
-use sva_step::{Answer, FrameList, NUMBERS, Refusal};
-
-/// How many spaces live at most.
-const MOST_SPACES: usize = 64;
+use sva_step::{Answer, FrameList, MOST_SPACES, NUMBERS, Refusal};
 
 /// The frames and the live spaces of a host.
 ///

@@ -11,10 +11,7 @@ ghost use Rattle.sva_memory.specs.Pieces.{MapsPage, verdict, unmap_causes, range
 
 use sva_frames::{FramePool, Waits};
 use sva_space::Space;
-use sva_step::{Answer, FrameList, MOST_ORDER, MOST_PAGES, PAGES, Refusal};
-
-/// How many pages a space has at most.
-pub const MOST_MAPPED: usize = 1024;
+use sva_step::{Answer, FrameList, MOST_MAPPED, MOST_ORDER, MOST_PAGES, PAGES, Refusal};
 
 /// Maps a page to the lowest free frame.
 pub(crate) fn map_page(

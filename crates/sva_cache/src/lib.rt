@@ -5,10 +5,6 @@
 mod cached;
 mod coverage;
 mod keys;
-#[cfg(test)]
-mod plain;
-#[cfg(test)]
-mod tests;
 
 pub use cached::{Cache, Translation};
 pub use coverage::{Extent, Invalidation};

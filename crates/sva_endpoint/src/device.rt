@@ -16,9 +16,6 @@ use sva_tables::{
     Use, UseSlot, UseSlots,
 };
 
-#[cfg(test)]
-mod tests;
-
 /// How many page requests may be outstanding (Outstanding Page Request Allocation, PCI Express Base 5.0, section 10.5.2; how
 /// many is a limit of this project).
 const PAGE_REQUESTS: u8 = 32;

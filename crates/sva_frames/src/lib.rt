@@ -14,8 +14,3 @@ mod waits;
 pub use laws::frame_laws;
 pub use pool::{Counts, Frame, FramePool, Place};
 pub use waits::{PENDING, Target, UNITS, Waits};
-
-#[cfg(test)]
-mod plain;
-#[cfg(test)]
-mod tests;

@@ -19,6 +19,3 @@ mod unbinding;
 mod unmapping;
 
 pub use host::Host;
-
-#[cfg(test)]
-mod tests;

@@ -8,6 +8,3 @@ mod pages;
 
 pub use asked::MOST_ASKED;
 pub use memory::Memory;
-
-#[cfg(test)]
-mod tests;

@@ -5,9 +5,6 @@ ghost use Rattle.indexmap.specs.IndexMap.{get, spare};
 ghost use Rattle.sva_msg.specs.Bag.{InFlight, IsNumbered, MayDeliver, opened, message_at, must_follow, with_sent, without};
 ghost use Rattle.sva_msg.specs.Laws.{Always, GivesNumbersOnce, LosesNone, KeepsOrder, NeverStops};
 
-#[cfg(test)]
-mod tests;
-
 use crate::messages::Message;
 use indexmap::IndexMap;
 use std::alloc::{AllocError, Global};

@@ -8,8 +8,6 @@
 mod in_flight;
 mod messages;
 mod ranges;
-#[cfg(test)]
-mod tests;
 
 pub use in_flight::{Bag, laws};
 pub use messages::{Code, CountField, Kind, Message, PageRequest, Scope};

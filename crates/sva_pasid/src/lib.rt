@@ -14,6 +14,3 @@ pub use places::Place;
 pub use stages::Stage;
 pub use states::{Draining, Invalidating, Live, Lost, Quiet, Released, Stopping};
 pub use tables::Table;
-
-#[cfg(test)]
-mod tests;

@@ -115,28 +115,3 @@ impl PageQueue {
         self.waiting.clear();
     }
 }
-
-#[cfg(test)]
-mod tests {
-    use super::*;
-
-    #[test]
-    fn oldest_first(rt: HostRuntime) {
-        let mut queue = PageQueue::new();
-        assert!(rt; queue.is_empty() && queue.serve().is_none());
-        for page in 0..32 {
-            assert_eq!(rt; queue.room(), 32 - page);
-            let mut request = Arrival::default().request;
-            request.page = page as u64;
-            queue.arrive(request);
-        }
-        assert_eq!(rt; queue.room(), 0);
-        for page in 0..3 {
-            assert_eq!(rt; queue.head().map(|request| request.page), Some(page));
-            assert_eq!(rt; queue.serve().map(|request| request.page), Some(page));
-        }
-        assert!(rt; !queue.is_empty());
-        queue.clear();
-        assert!(rt; queue.is_empty() && queue.serve().is_none());
-    }
-}

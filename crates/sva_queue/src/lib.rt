@@ -2,11 +2,7 @@
 #![tactic(auto)]
 
 mod descriptors;
-#[cfg(test)]
-mod plain;
 mod ring;
-#[cfg(test)]
-mod twins;
 mod units;
 
 pub use descriptors::{Descriptor, Pumped, QueueFull};

@@ -2,9 +2,6 @@ ghost use Rattle.std.specs.Prelude.{◌≡◌, ◌<◌, length, None, OnOk, OnEr
 ghost use Rattle.sva_prq.specs.Groups.{is_open};
 ghost use Rattle.sva_service.specs.Service.{no_service, with_room, CanFile, filed, hand, taken, after_answer, without_unit, is_of_other_unit as is_apart};
 
-#[cfg(test)]
-mod tests;
-
 use std::alloc::{AllocError, Global};
 use std::collections::VecDeque;
 use std::marker::Model;

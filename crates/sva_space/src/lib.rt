@@ -6,6 +6,3 @@ mod pages;
 
 pub use laws::space_laws;
 pub use pages::Space;
-
-#[cfg(test)]
-mod tests;

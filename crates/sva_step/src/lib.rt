@@ -8,8 +8,6 @@ mod limits;
 mod pieces;
 mod refusals;
 mod steps;
-#[cfg(test)]
-mod tests;
 
 pub use answers::{Answer, texts_tell_apart};
 pub use frame_list::FrameList;

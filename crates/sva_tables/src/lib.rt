@@ -15,6 +15,3 @@ pub use pasid_states::{PasidState, PasidStates};
 pub use request_tags::{RequestTag, RequestTags};
 pub use taken_table::{Taken, TakenTable};
 pub use use_slots::{Use, UseSlot, UseSlots};
-
-#[cfg(test)]
-mod tests;

@@ -1,0 +1,255 @@
+ghost use Rattle.std.specs.Prelude.{◌≤◌, ◌^◌};
+
+use std::alloc::{AllocError, Global};
+use std::process::Abort;
+use std::test::Fail;
+use sva_msg::{Bag, Code, CountField, Kind, Message, PageRequest, Scope};
+
+fn page_request(last: bool) -> Kind {
+    Kind::PageRequest(PageRequest {
+        pasid: 1,
+        index: 0,
+        page: 16,
+        read: true,
+        write: false,
+        last,
+    })
+}
+
+// Each kind, page requests without and with L.
+fn each_kind() -> [Kind; 12] {
+    [
+        Kind::Start { pasid: 1 },
+        Kind::Stop { pasid: 1 },
+        Kind::Reset,
+        Kind::Completion {
+            tag: 0,
+            frame: 2,
+            read: true,
+            write: true,
+        },
+        Kind::Invalidate {
+            itag: 3,
+            pasid: 1,
+            scope: Scope::Code { page: 16, s: false },
+        },
+        Kind::Response {
+            pasid: 1,
+            index: 0,
+            code: Code::Success,
+        },
+        Kind::Request {
+            tag: 0,
+            pasid: 1,
+            page: 16,
+        },
+        Kind::Invalidated {
+            vector: 8,
+            count: CountField::new(1),
+        },
+        page_request(false),
+        page_request(true),
+        Kind::Marker { pasid: 1 },
+        Kind::ResetDone,
+    ]
+}
+
+// A row for each newer kind: may it be delivered while one of each older kind is in flight at its endpoint?
+//
+// A start, a stop and a reset overtake, of the messages down, a completion alone; a page request with L and a marker
+// overtake no page request; a reset-done overtakes nothing.
+static MAY_OVERTAKE: [&str; 12] = [
+    "nnnynnyyyyyy",
+    "nnnynnyyyyyy",
+    "nnnynnyyyyyy",
+    "yyyyyyyyyyyy",
+    "yyyyyyyyyyyy",
+    "yyyyyyyyyyyy",
+    "yyyyyyyyyyyy",
+    "yyyyyyyyyyyy",
+    "yyyyyyyyyyyy",
+    "yyyyyyyynnyy",
+    "yyyyyyyynnyy",
+    "nnnnnnnnnnnn",
+];
+
+// Whether the older one of two messages in flight may be delivered, and whether the newer one may.
+fn may_deliver(alloc: Global, older: Message, newer: Message) -> Result<(bool, bool), AllocError> {
+    let mut bag = Bag::new(alloc, 0);
+    bag.send(older, 1)?;
+    bag.send(newer, 1)?;
+    Ok((bag.may_deliver(0), bag.may_deliver(1)))
+}
+
+// Whether a message of the one kind overtakes an older one of the other, at its endpoint, as it may or may not, and at another
+// endpoint. The older one may always be delivered.
+fn overtakes(alloc: Global, newer: Kind, older: Kind, may: bool) -> Result<bool, AllocError> {
+    let first = Message {
+        endpoint: 0,
+        kind: older,
+    };
+    let second = Message {
+        endpoint: 0,
+        kind: newer,
+    };
+    let elsewhere = Message {
+        endpoint: 1,
+        kind: newer,
+    };
+    let is_so = may_deliver(alloc, first, second)? == (true, may);
+    Ok(is_so && may_deliver(alloc, first, elsewhere)? == (true, true))
+}
+
+#[test]
+fn orders_each_pair_of_kinds(rt: HostRuntime) -> Result<(), Fail> {
+    let kinds = each_kind();
+    for newer in 0..12 {
+        for older in 0..12 {
+            let may = MAY_OVERTAKE[newer].as_bytes().get(older) == Some(&b'y');
+            let is_so = overtakes(rt.alloc(), kinds[newer], kinds[older], may)?;
+            assert!(rt; is_so, "{newer} past {older}");
+        }
+    }
+    Ok(())
+}
+
+// Whether a message of a kind goes up or down, and not the other way.
+fn goes(kind: Kind, is_up: bool) -> bool {
+    let message = Message { endpoint: 7, kind };
+    message.is_up() == is_up && message.is_down() != is_up
+}
+
+#[test]
+fn tells_the_way(rt: HostRuntime) {
+    let kinds = each_kind();
+    for place in 0..12 {
+        assert!(rt; goes(kinds[place], place >= 6), "kind {place}");
+    }
+}
+
+#[test]
+fn codes_have_their_bits(rt: HostRuntime) {
+    assert!(rt; Code::Success.bits() == 0);
+    assert!(rt; Code::InvalidRequest.bits() == 1);
+    assert!(rt; Code::ResponseFailure.bits() == 15);
+    assert!(rt; CountField::new(7).get() == 7);
+}
+
+// A message that differs from those of other pages, and that the order of the link never holds back.
+fn request(page: u64) -> Message {
+    Message {
+        endpoint: page % 8,
+        kind: Kind::Request {
+            tag: 0,
+            pasid: 1,
+            page,
+        },
+    }
+}
+
+// Opens a bag whose first message has this number.
+fn open(alloc: Global, first: u64) -> Bag
+    requires { first ≤ 2 ^ 63 }
+{
+    Bag::new(alloc, first)
+}
+
+// Sends so many copies. Where memory is refused, nothing is sent, and the next try succeeds.
+fn send<R: Abort>(rt: &R, bag: &mut Bag, message: Message, copies: u64) -> u64 {
+    let left = bag.left();
+    assert!(rt; (1..=8).contains(&copies) && copies <= left);
+    if let Ok(first) = bag.send(message, copies) {
+        return first;
+    }
+    assert!(rt; bag.left() == left);
+    bag.send(message, copies)
+        .expect(rt, "memory is refused once")
+}
+
+// Whether the message of this number is delivered, and is the request for this page, and then there is none.
+fn is_delivered(bag: &mut Bag, number: u64, page: u64) -> bool {
+    if bag.get(number) != Some(request(page)) || !bag.may_deliver(number) {
+        return false;
+    }
+    bag.deliver(number) == request(page) && bag.get(number).is_none() && !bag.may_deliver(number)
+}
+
+#[test]
+fn holds_hundreds(rt: HostRuntime) {
+    let mut bag = open(rt.alloc(), 0);
+    for page in 0..300 {
+        assert!(rt; bag.get(2 * page).is_none());
+        assert!(rt; send(&rt, &mut bag, request(page), 2) == 2 * page);
+    }
+    // 7 and 600 have no common factor, so each number comes once.
+    for step in 0..600u64 {
+        let number = step * 7 % 600;
+        assert!(rt;
+            is_delivered(&mut bag, number, number / 2),
+            "message {number}"
+        );
+    }
+}
+
+#[test]
+fn spends_the_last_numbers(rt: HostRuntime) {
+    let mut bag = open(rt.alloc(), 9223372036854775800);
+    assert!(rt; bag.left() == 8);
+    assert!(rt; send(&rt, &mut bag, request(1), 8) == 9223372036854775800);
+    assert!(rt; bag.left() == 0);
+    assert!(rt; bag.get(9223372036854775807) == Some(request(1)));
+    assert!(rt; open(rt.alloc(), 9223372036854775808).left() == 0);
+}
+
+// The stop that the sends of the next test put in flight under a number: one, eight, two and twice eight copies.
+fn stop(number: u64) -> Message {
+    let pasid = match number {
+        5 => 1,
+        6..=13 => 2,
+        14..=15 => 3,
+        16..=23 => 4,
+        _ => 5,
+    };
+    Message {
+        endpoint: 0,
+        kind: Kind::Stop { pasid },
+    }
+}
+
+// Whether the numbers from 5 on and below `next` are in flight, each with its stop, and no other. A stop overtakes no
+// older stop, so the oldest alone may be delivered.
+fn holds_stops_below(bag: &Bag, next: u64) -> bool {
+    (0..40).all(|number| {
+        let is_there = (5..next).contains(&number);
+        let message = if is_there { Some(stop(number)) } else { None };
+        bag.get(number) == message && bag.may_deliver(number) == (is_there && number == 5)
+    })
+}
+
+// Sends the stop of this number. Where an allocation is refused, the bag is as it was, and the next try gives that number.
+fn send_stop<R: Abort>(rt: &R, bag: &mut Bag, number: u64, copies: u64) {
+    assert!(rt; holds_stops_below(bag, number));
+    let left = bag.left();
+    assert!(rt; (1..=8).contains(&copies) && copies <= left);
+    let first = match bag.send(stop(number), copies) {
+        Ok(first) => first,
+        Err(_refused) => {
+            assert!(rt; bag.left() == left && holds_stops_below(bag, number));
+            bag.send(stop(number), copies)
+                .expect(rt, "memory is refused once")
+        }
+    };
+    assert!(rt; first == number && bag.left() == left - copies);
+}
+
+// The number of the first copy, and how many there are.
+static STOPS: [(u64, u64); 5] = [(5, 1), (6, 8), (14, 2), (16, 8), (24, 8)];
+
+#[test]
+fn a_refused_send_changes_nothing(rt: HostRuntime) {
+    let mut bag = open(rt.alloc(), 5);
+    for (number, copies) in &STOPS {
+        send_stop(&rt, &mut bag, *number, *copies);
+    }
+    assert!(rt; holds_stops_below(&bag, 32));
+}

@@ -1,0 +1,353 @@
+use std::alloc::{AllocError, Global};
+use std::process::Abort;
+use std::test::Fail;
+use sva_step::{Answer, Config, FrameList, MOST_PAGES, Refusal, Step, Verdict};
+
+// Does an answer print this text, behind a text that was there before?
+fn is_printed(alloc: Global, answer: Answer, text: &str) -> Result<bool, AllocError> {
+    let mut line = Vec::from_slice(alloc, b"> ")?;
+    answer.write(&mut line)?;
+    Ok(line.as_slice() == text.as_bytes())
+}
+
+// Do these answers print their texts?
+fn print<R: Abort>(rt: &R, alloc: Global, answers: &[(Answer, &str)]) -> Result<(), Fail> {
+    for (answer, text) in answers {
+        assert!(rt; is_printed(alloc, *answer, text)?, "{text}");
+    }
+    Ok(())
+}
+
+// The texts that the calls of the host print.
+const HOST_ANSWERS: [(Answer, &str); 12] = [
+    (Answer::Space { space: 0 }, "> space 0"),
+    (Answer::Gone, "> gone"),
+    (Answer::Frame { frame: 4095 }, "> frame 4095"),
+    (Answer::RangeFree { frames: 512 }, "> range free 512"),
+    (Answer::RangeWithheld { frames: 2 }, "> range withheld 2"),
+    (
+        Answer::Binding {
+            binding: 9223372036854775807,
+            pasid: 32,
+        },
+        "> binding 9223372036854775807 pasid 32",
+    ),
+    (Answer::Stopping, "> stopping"),
+    (Answer::Draining, "> draining"),
+    (Answer::Invalidating, "> invalidating"),
+    (Answer::Quiet, "> quiet"),
+    (Answer::Released, "> released"),
+    (Answer::Idle, "> idle"),
+];
+
+#[test]
+fn host_answers(rt: HostRuntime) -> Result<(), Fail> {
+    print(&rt, rt.alloc(), &HOST_ANSWERS)
+}
+
+// The texts that the service of the queues and the workers print.
+const SERVICE_ANSWERS: [(Answer, &str); 12] = [
+    (Answer::Itag { itag: 31 }, "> itag 31"),
+    (Answer::Blocked, "> blocked"),
+    (Answer::WaitDone, "> wait done"),
+    (Answer::Empty, "> empty"),
+    (Answer::Part, "> part"),
+    (Answer::Job, "> job"),
+    (Answer::Resetting, "> resetting"),
+    (
+        Answer::JobTaken {
+            binding: 1,
+            group: 0,
+            pages: 32,
+        },
+        "> job binding 1 group 0 pages 32",
+    ),
+    (Answer::Success { pages: 1 }, "> success 1"),
+    (Answer::Invalid, "> invalid"),
+    (Answer::Failure, "> failure"),
+    (Answer::Dropped, "> dropped"),
+];
+
+#[test]
+fn service_answers(rt: HostRuntime) -> Result<(), Fail> {
+    print(&rt, rt.alloc(), &SERVICE_ANSWERS)
+}
+
+// The texts that endpoints print.
+const ENDPOINT_ANSWERS: [(Answer, &str); 8] = [
+    (Answer::Tag { tag: 10 }, "> tag 10"),
+    (Answer::Use { slot: 15, frame: 7 }, "> use 15 frame 7"),
+    (Answer::Ended, "> ended"),
+    (Answer::Dead, "> dead"),
+    (Answer::Evicted, "> evicted"),
+    (Answer::Group { group: 31 }, "> group 31"),
+    (Answer::Sent { count: 8 }, "> sent 8"),
+    (Answer::Marker, "> marker"),
+];
+
+#[test]
+fn endpoint_answers(rt: HostRuntime) -> Result<(), Fail> {
+    print(&rt, rt.alloc(), &ENDPOINT_ANSWERS)
+}
+
+// The texts that `look` and the deliveries to an endpoint print.
+const DELIVERIES_DOWN: [(Answer, &str); 11] = [
+    (Answer::Free, "> free"),
+    (Answer::Mapped, "> mapped"),
+    (Answer::Withheld, "> withheld"),
+    (Answer::Started, "> started"),
+    (Answer::Reset, "> reset"),
+    (Answer::NoTranslation, "> none"),
+    (Answer::Full, "> full"),
+    (Answer::Held, "> held"),
+    (Answer::Taken, "> taken"),
+    (Answer::Answered, "> answered"),
+    (Answer::Stale, "> stale"),
+];
+
+#[test]
+fn deliveries_down(rt: HostRuntime) -> Result<(), Fail> {
+    print(&rt, rt.alloc(), &DELIVERIES_DOWN)
+}
+
+// The texts that the deliveries to a unit and `bearer` print.
+const DELIVERIES_UP: [(Answer, &str); 7] = [
+    (Answer::Completion, "> completion"),
+    (Answer::Freed { count: 0 }, "> freed 0"),
+    (Answer::Queued, "> queued"),
+    (Answer::Marked, "> marked"),
+    (Answer::ResetDone, "> reset done"),
+    (
+        Answer::Bearer {
+            space: 0,
+            bindings: 2,
+        },
+        "> bearer 0 bindings 2",
+    ),
+    (Answer::NoBearer, "> bearer none"),
+];
+
+#[test]
+fn deliveries_up(rt: HostRuntime) -> Result<(), Fail> {
+    print(&rt, rt.alloc(), &DELIVERIES_UP)
+}
+
+#[test]
+fn answers_with_frames(rt: HostRuntime) -> Result<(), Fail> {
+    let mut frames = FrameList::new();
+    frames.push(0);
+    frames.push(10);
+    frames.push(4095);
+    let answers = [
+        (Answer::FreeFrames { frames }, "> free 0 10 4095"),
+        (Answer::WithheldFrames { frames }, "> withheld 0 10 4095"),
+    ];
+    print(&rt, rt.alloc(), &answers)
+}
+
+// Those of the host, and then the others.
+static REFUSALS: [(Refusal, u8, &str); 43] = [
+    (Refusal::BadConfig, 1, "> refused 1 BadConfig"),
+    (Refusal::NoSuchEndpoint, 2, "> refused 2 NoSuchEndpoint"),
+    (Refusal::NoSuchSpace, 3, "> refused 3 NoSuchSpace"),
+    (Refusal::TooManySpaces, 4, "> refused 4 TooManySpaces"),
+    (Refusal::PageRange, 5, "> refused 5 PageRange"),
+    (Refusal::Mapped, 6, "> refused 6 Mapped"),
+    (Refusal::NotMapped, 7, "> refused 7 NotMapped"),
+    (Refusal::NoFrame, 8, "> refused 8 NoFrame"),
+    (Refusal::SpaceFull, 9, "> refused 9 SpaceFull"),
+    (Refusal::AlreadyBound, 10, "> refused 10 AlreadyBound"),
+    (Refusal::NoPasid, 11, "> refused 11 NoPasid"),
+    (Refusal::StillBound, 12, "> refused 12 StillBound"),
+    (Refusal::NoSuchBinding, 13, "> refused 13 NoSuchBinding"),
+    (Refusal::NotLive, 14, "> refused 14 NotLive"),
+    (Refusal::NotYet, 15, "> refused 15 NotYet"),
+    (Refusal::QueueFull, 16, "> refused 16 QueueFull"),
+    (Refusal::Resetting, 17, "> refused 17 Resetting"),
+    (Refusal::BadOrder, 40, "> refused 40 BadOrder"),
+    (Refusal::NotAligned, 41, "> refused 41 NotAligned"),
+    (Refusal::NothingMapped, 42, "> refused 42 NothingMapped"),
+    (Refusal::BadPasid, 43, "> refused 43 BadPasid"),
+    (Refusal::NotStarted, 18, "> refused 18 NotStarted"),
+    (Refusal::NoTag, 19, "> refused 19 NoTag"),
+    (Refusal::NotHeld, 20, "> refused 20 NotHeld"),
+    (Refusal::ReadOnly, 21, "> refused 21 ReadOnly"),
+    (Refusal::NoUseSlot, 22, "> refused 22 NoUseSlot"),
+    (Refusal::NoSuchUse, 23, "> refused 23 NoSuchUse"),
+    (Refusal::NoCredit, 24, "> refused 24 NoCredit"),
+    (Refusal::NoSuchGroup, 25, "> refused 25 NoSuchGroup"),
+    (Refusal::PriDisabled, 26, "> refused 26 PriDisabled"),
+    (Refusal::NotPending, 27, "> refused 27 NotPending"),
+    (Refusal::InUse, 28, "> refused 28 InUse"),
+    (Refusal::BadCount, 29, "> refused 29 BadCount"),
+    (Refusal::NotStopping, 30, "> refused 30 NotStopping"),
+    (Refusal::Busy, 31, "> refused 31 Busy"),
+    (Refusal::NoSuchMessage, 32, "> refused 32 NoSuchMessage"),
+    (Refusal::Overtakes, 33, "> refused 33 Overtakes"),
+    (Refusal::NoSuchWorker, 34, "> refused 34 NoSuchWorker"),
+    (Refusal::HandsFull, 35, "> refused 35 HandsFull"),
+    (Refusal::NoJob, 36, "> refused 36 NoJob"),
+    (Refusal::BadVerdict, 37, "> refused 37 BadVerdict"),
+    (Refusal::NumbersSpent, 38, "> refused 38 NumbersSpent"),
+    (Refusal::OutOfMemory, 39, "> refused 39 OutOfMemory"),
+];
+
+// Does a refusal print this text, behind a text that was there before, and has it this number and the text's name?
+fn is_told(alloc: Global, refusal: Refusal, number: u8, text: &str) -> Result<bool, AllocError> {
+    let mut line = Vec::from_slice(alloc, b"> ")?;
+    refusal.write(&mut line)?;
+    Ok(
+        line.as_slice() == text.as_bytes()
+            && refusal.number() == number
+            && text.ends_with(refusal.name()),
+    )
+}
+
+#[test]
+fn refusals(rt: HostRuntime) -> Result<(), Fail> {
+    for (refusal, number, text) in &REFUSALS {
+        assert!(rt; is_told(rt.alloc(), *refusal, *number, text)?, "{text}");
+    }
+    Ok(())
+}
+
+// The numbers from one on, 48 at most, each less than the one before.
+fn falling(first: u32) -> FrameList {
+    let mut frames = FrameList::new();
+    for place in 0..48 {
+        if frames.len() < MOST_PAGES {
+            frames.push(first.wrapping_sub(place));
+        }
+    }
+    frames
+}
+
+#[test]
+fn frame_lists(rt: HostRuntime) {
+    let (none, frames) = (FrameList::new(), falling(100));
+    assert!(rt; (none.len(), frames.len()) == (0, 48));
+    assert!(rt; none.is_empty() && !frames.is_empty());
+    let listed = frames.as_slice();
+    assert!(rt; listed.starts_with(&[100, 99]) && listed.ends_with(&[54, 53]));
+    let same = Answer::FreeFrames { frames };
+    let others = [
+        Answer::WithheldFrames { frames },
+        Answer::FreeFrames {
+            frames: FrameList::default(),
+        },
+    ];
+    assert!(rt; same == Answer::FreeFrames { frames } && !others.contains(&same));
+}
+
+// Of each config its endpoints, frames, workers and first number, and whether it fits.
+const CONFIGS: [(u64, u64, u64, u64, bool); 9] = [
+    (1, 1, 1, 0, true),
+    (8, 4096, 4, 9223372036854775808, true),
+    (0, 1, 1, 0, false),
+    (9, 1, 1, 0, false),
+    (1, 0, 1, 0, false),
+    (1, 4097, 1, 0, false),
+    (1, 1, 0, 0, false),
+    (1, 1, 5, 0, false),
+    (1, 1, 1, 9223372036854775809, false),
+];
+
+#[test]
+fn configs(rt: HostRuntime) {
+    for (endpoints, frames, workers, first, fits) in CONFIGS {
+        let config = Config {
+            endpoints,
+            frames,
+            workers,
+            first,
+        };
+        assert!(rt; config.fits() == fits, "{config:?}");
+    }
+}
+
+static STEPS_WITH_TOKENS: [Step; 5] = [
+    Step::Bind {
+        endpoint: 0,
+        space: 0,
+    },
+    Step::Unbind { binding: 0 },
+    Step::Advance { binding: 0 },
+    Step::BeginUse {
+        endpoint: 0,
+        pasid: 1,
+        page: 16,
+        write: true,
+    },
+    Step::EndUse {
+        endpoint: 0,
+        slot: 0,
+    },
+];
+
+static PLAIN_STEPS: [Step; 7] = [
+    Step::Space,
+    Step::Unmap {
+        space: 0,
+        page: 16,
+        count: 1,
+    },
+    Step::UnmapRange {
+        space: 0,
+        page: 64,
+        order: 3,
+    },
+    Step::Reply {
+        worker: 0,
+        verdict: Verdict::Success,
+    },
+    Step::Deliver { message: 0 },
+    Step::Look { frame: 0 },
+    Step::Bearer { pasid: 1 },
+];
+
+#[test]
+fn steps_without_tokens(rt: HostRuntime) {
+    for step in &STEPS_WITH_TOKENS {
+        assert!(rt; !step.is_plain(), "{step:?}");
+    }
+    for step in &PLAIN_STEPS {
+        assert!(rt; step.is_plain(), "{step:?}");
+    }
+}
+
+// Appends an answer's text. With an allocation failing on the way, what was there stays, and the next try appends the whole
+// text.
+fn append<R: Abort>(rt: &R, answer: Answer, text: &mut Vec<u8>) {
+    let before = text.len();
+    if answer.write(text).is_err() {
+        assert!(rt; text.len() == before && answer.write(text).is_ok());
+    }
+}
+
+// Appends a refusal's text, in the same way.
+fn append_refusal<R: Abort>(rt: &R, refusal: Refusal, text: &mut Vec<u8>) {
+    let before = text.len();
+    if refusal.write(text).is_err() {
+        assert!(rt; text.len() == before && refusal.write(text).is_ok());
+    }
+}
+
+#[test]
+fn refused_memory(rt: HostRuntime) {
+    let mut text = Vec::new(rt.alloc());
+    let job = Answer::JobTaken {
+        binding: 9223372036854775807,
+        group: 31,
+        pages: 32,
+    };
+    append(&rt, job, &mut text);
+    let frames = falling(1048);
+    append(&rt, Answer::WithheldFrames { frames }, &mut text);
+    append_refusal(&rt, Refusal::OutOfMemory, &mut text);
+    let told = text.as_slice();
+    assert!(rt;
+        told.starts_with(b"job binding 9223372036854775807 group 31 pages 32withheld 1048 1047 ")
+    );
+    assert!(rt; told.ends_with(b" 1002 1001refused 39 OutOfMemory"));
+    assert!(rt; told.len() == 49 + 8 + 48 * 5 + 22);
+}

@@ -10,6 +10,8 @@ use Rattle.sva_model.specs.Claims.{Fits}
 use Rattle.sva_model.specs.Steps.{Reply, reply, replies, next, world_after}
 use Rattle.sva_model.specs.Wire.{Wire, wire}
 use Rattle.sva_model.specs.Journal.{IsLegal as IsLegalJournal, steps_of}
+use Rattle.sva_labels.specs.Tallies.{IsTallied}
+use Rattle.sva_labels.proofs.TalliedWorlds.{always_tallied}
 use Rattle.sva_laws.proofs.Journals.{more_legal}
 use Rattle.sva_laws.proofs.Lookback.{after_one}
 use Rattle.sva_core.specs.Reached.{FollowsAt, Follows}
@@ -75,3 +77,13 @@ begun config entries seen fits none is =
     subst (λ (es : List Entry). IsLegal (record { config = config; entries = es }) × (seen ≡ wire (world_of
     (record { config = config; entries = es })))) (sym none)
     (legal_empty config fits, is)
+
+-- a step that is answered changes how many bindings are unreleased, and how many slots are taken, as its answer says
+pub tallied : (h : History) (s : Step) (r : Reply) (before after : Wire) → IsLegal h → before ≡ wire (world_of h) → Follows before s r after
+    → r ≢ Err refusal.OutOfMemory → IsTallied before after r
+tallied h s r before after legal is follows has =
+    let step : (r ≡ answer_of h s) × (after ≡ wire (next (world_of h) s)) = took h s r before after legal is follows has in
+    subst (λ (x : Wire). IsTallied x after r) (sym is)
+    (subst (λ (x : Wire). IsTallied (wire (world_of h)) x r) (sym step.1)
+    (subst (λ (q : Reply). IsTallied (wire (world_of h)) (wire (next (world_of h) s)) q) (sym step.0)
+    (always_tallied PerSpace h.config (steps_of (map as_defined h.entries)) s)))

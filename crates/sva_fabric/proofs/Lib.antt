@@ -2,3 +2,4 @@ pub mod Entries
 pub mod Same
 pub mod Standing
 pub mod Sums
+pub mod Suiting

@@ -1,13 +1,14 @@
 -- The audit at the end: the receipts of all ports against the journal.
-use Rattle.std.specs.Prelude.{◌≡◌, ◌≢◌, ◌≤◌, ◌⊎◌, ℕ, ◌+◌, Result, Ok, Err, List, [], ◌∷◌, ◌++◌, length}
+use Rattle.std.specs.Prelude.{◌≡◌, ◌≤◌, ◌⊎◌, ℕ, ◌+◌, Result, Ok, Err, List, [], ◌∷◌, ◌++◌, length}
 use Rattle.sva_step.specs.declared.limits.Config.{Config}
 use Rattle.sva_model.specs.Steps.{counts}
 use Rattle.sva_fabric.specs.declared.journal.Entry.{Entry}
 use Rattle.sva_fabric.specs.declared.receipts.Receipt.{Receipt}
 use Rattle.sva_fabric.specs.declared.ports.Ports.{Ports}
+use Rattle.sva_fabric.specs.declared.tokens.Tokens.{Tokens}
 use Rattle.sva_fabric.specs.declared.audits.Audit.{Audit}
 use Rattle.sva_fabric.specs.declared.audits.FirstBadReceipt.{FirstBadReceipt}
-use Rattle.sva_fabric.specs.Journal.{History, IsLegal, world_of}
+use Rattle.sva_fabric.specs.Journal.{History, IsLegal, world_of, bindings_of, uses_of}
 use Rattle.sva_fabric.specs.Receipts.{Seat, Stands, new_seat, seats_from}
 
 -- the ports in the order of their numbers
@@ -47,26 +48,37 @@ abbrev pub calls_of : List Seat → ℕ
 calls_of [] = 0
 calls_of (s ∷ seats) = length s.receipts + calls_of seats
 
--- Ok exactly where each receipt stands and the calls add up to the journal's length. Else the first receipt that doesn't stand;
--- where all do and the calls don't add up, the number of ports and the journal's length.
-abbrev pub IsAudit : History → List Seat → Result Audit FirstBadReceipt → Type 0
-IsAudit h seats (Ok audit) =
+-- the tokens of bindings, and those of uses
+abbrev pub held_by : Tokens → ℕ
+held_by t = length t.leases.items + length t.leavings.items
+
+abbrev pub used_by : Tokens → ℕ
+used_by t = length t.tickets.items
+
+-- the calls add up to the journal's length, and there are as many tokens as its world has unreleased bindings and taken use slots
+abbrev pub AddUp : History → List Seat → (held used : ℕ) → Type 0
+AddUp h seats held used = (calls_of seats ≡ length h.entries) × (held ≡ bindings_of h) × (used ≡ uses_of h)
+
+-- Ok exactly where each receipt stands, and calls and tokens add up. Else the first receipt that doesn't stand; where all do and calls
+-- or tokens don't add up, the number of ports and the journal's length.
+abbrev pub IsAudit : History → List Seat → (held used : ℕ) → Result Audit FirstBadReceipt → Type 0
+IsAudit h seats held used (Ok audit) =
     EachStands h.entries 0 seats
-    × (calls_of seats ≡ length h.entries)
+    × AddUp h seats held used
     × (audit.calls ≡ length h.entries)
     × (audit.free ≡ (counts (world_of h)).free)
     × (audit.mapped ≡ (counts (world_of h)).mapped)
     × (audit.withheld ≡ (counts (world_of h)).withheld)
-IsAudit h seats (Err bad) =
+IsAudit h seats held used (Err bad) =
     IsFirstBadOf h.entries 0 seats bad.port bad.place
-    ⊎ (EachStands h.entries 0 seats × (calls_of seats ≢ length h.entries) × (bad.port ≡ length seats) × (bad.place ≡ length h.entries))
+    ⊎ (EachStands h.entries 0 seats × (AddUp h seats held used → ⊥) × (bad.port ≡ length seats) × (bad.place ≡ length h.entries))
 
 -- what a call that takes the journal out of the lock says: there is a legal journal of the config that was opened of which this is the
 -- audit; it has each call of these ports, and, where these are all ports, no other
-pub record IsFinished (config : Config) (parts : ℕ) (seats : List Seat) (result : Result Audit FirstBadReceipt) : Type 0 where
+pub record IsFinished (config : Config) (parts : ℕ) (seats : List Seat) (held used : ℕ) (result : Result Audit FirstBadReceipt) : Type 0 where
   pub journal : History
   pub legal : IsLegal journal
   pub of_config : journal.config ≡ config
   pub counted : calls_of seats ≤ length journal.entries
   pub all_counted : length seats ≡ parts → calls_of seats ≡ length journal.entries
-  pub is_audit : IsAudit journal seats result
+  pub is_audit : IsAudit journal seats held used result

@@ -6,6 +6,8 @@ use Rattle.sva_step.specs.declared.steps.Step.{Step}
 use Rattle.sva_model.specs.State.PasidRule.{PerSpace}
 use Rattle.sva_model.specs.State.{World}
 use Rattle.sva_model.specs.Steps.{Reply, reply, counts}
+use Rattle.sva_model.specs.Wire.{wire}
+use Rattle.sva_labels.specs.Tallies.{unreleased, slots_taken}
 use Rattle.sva_model.specs.Journal.{Entry as DefinedEntry, IsLegal as IsLegalJournal, world_of as world_of_journal}
 use Rattle.sva_fabric.specs.declared.journal.Entry.{Entry}
 
@@ -39,6 +41,13 @@ with_entry h e = record h { entries = h.entries ++ e ∷ [] }
 -- nothing was asked yet
 abbrev pub empty_of : Config → History
 empty_of c = record { config = c; entries = [] }
+
+-- how many bindings are unreleased, and how many use slots are taken, at the journal's world
+abbrev pub bindings_of : History → ℕ
+bindings_of h = unreleased (wire (world_of h))
+
+abbrev pub uses_of : History → ℕ
+uses_of h = slots_taken (wire (world_of h))
 
 -- the counts of frames at the journal's world
 abbrev pub CountsOf : History → FrameCounts → Type 0

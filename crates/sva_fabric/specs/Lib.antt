@@ -1,3 +1,5 @@
 pub mod Journal
 pub mod Receipts
 pub mod Audits
+pub mod Suiting
+pub mod Tokens

@@ -5,8 +5,9 @@ ghost use Rattle.sva_step.specs.Steps.{is_plain};
 ghost use Rattle.sva_step.specs.declared.refusals.Refusal.TheVariants as refusal;
 ghost use Rattle.sva_step.specs.Limits.{Fits};
 ghost use Rattle.sva_core.specs.Reached.{IsOpenRefusal};
+ghost use Rattle.sva_fabric.specs.Suiting.{Suits};
 ghost use Rattle.sva_fabric.specs.Receipts.{last_of, IsAnswered, IsRefused};
-ghost use Rattle.sva_fabric.specs.Audits.{seats_of, IsFinished, new_seats};
+ghost use Rattle.sva_fabric.specs.Audits.{held_by, used_by, seats_of, IsFinished, new_seats};
 
 use crate::audits::{Audit, FirstBadReceipt};
 use crate::gathering::gather;
@@ -16,6 +17,7 @@ use crate::ports::Ports;
 use crate::receipts::Receipt;
 use crate::running::{Running, StepFault};
 use crate::tally::Tally;
+use crate::tokens::Tokens;
 use std::alloc::Global;
 use std::sync::ledger::Blank;
 use std::sync::{Mutex, Wait};
@@ -67,6 +69,22 @@ impl<C: Tally> Fabric<C> {
         ensures err { OnErr result (port.new ≡ port.old) }
         ensures fault { IfErr result (λ f. IsRefused C.config port.old.number (last_of port.old.receipts) f) }
     {
+        self.call(rt, port, step)
+    }
+
+    // Takes one step, of whatever kind.
+    pub(crate) fn call<R: Wait>(
+        &self,
+        rt: &R,
+        port: &mut Port<C>,
+        step: &Step,
+    ) -> Result<Receipt, StepFault>
+        ensures answered { IfOk result (λ r. IsAnswered C.config port.old.number (last_of port.old.receipts) step.now r) }
+        ensures kept { IfOk result (λ r. port.new ≡ record port.old { receipts = port.old.receipts ++ r ∷ [] }) }
+        ensures suits { IfOk result (λ r. Suits step.now r.answer) }
+        ensures err { OnErr result (port.new ≡ port.old) }
+        ensures fault { IfErr result (λ f. IsRefused C.config port.old.number (last_of port.old.receipts) f) }
+    {
         let last = port.last();
         let Port {
             number,
@@ -82,12 +100,14 @@ impl<C: Tally> Fabric<C> {
         Ok(receipt)
     }
 
-    /// Ends the sharing, and compares the receipts of all ports with the journal.
-    pub fn finish(self, ports: Ports<C>) -> Result<Audit, FirstBadReceipt>
-        ensures audit { IsFinished C.config C.parts (seats_of ports) result }
+    /// Ends the sharing. It compares the receipts of all ports with the journal, and the tokens that are left with its world's
+    /// unreleased bindings and taken use slots.
+    pub fn finish(self, ports: Ports<C>, tokens: Tokens) -> Result<Audit, FirstBadReceipt>
+        ensures audit { IsFinished C.config C.parts (seats_of ports) (held_by tokens) (used_by tokens) result }
     {
         let mut running = self.running.into_inner();
-        let result = running.audit(&ports);
+        let result = running.audit(&ports, &tokens);
+        tokens.spend();
         let mut calls = gather(ports);
         running.compare(&mut calls);
         result

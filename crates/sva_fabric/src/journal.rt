@@ -1,10 +1,11 @@
 //! A world with the journal of what was asked of it and what it answered.
 
-ghost use Rattle.std.specs.Prelude.{◌≡◌, ◌≢◌, ◌↔◌, true, false, length, slice_get, IfOk, IfErr, OnErr, Err};
+ghost use Rattle.std.specs.Prelude.{◌≡◌, ◌≢◌, ◌↔◌, ◌+◌, ◌^◌, ◌<◌, ◌≤◌, true, false, length, slice_get, IfOk, IfErr, OnErr, Err};
 ghost use Rattle.sva_step.specs.declared.refusals.Refusal.TheVariants as refusal;
 ghost use Rattle.sva_step.specs.Limits.{Fits};
 ghost use Rattle.sva_core.specs.Reached.{IsOpenRefusal};
-ghost use Rattle.sva_fabric.specs.Journal.{IsLegal, entry_of, answer_of, with_entry, empty_of, CountsOf};
+ghost use Rattle.sva_labels.specs.Tallies.{binds, releases, begins, ends};
+ghost use Rattle.sva_fabric.specs.Journal.{IsLegal, entry_of, answer_of, with_entry, empty_of, CountsOf, bindings_of, uses_of};
 
 use std::alloc::{AllocError, Global};
 use std::marker::Model;
@@ -29,11 +30,15 @@ pub struct Journaled {
     config: Config,
     world: World,
     entries: Vec<Entry>,
+    // How many bindings are unreleased, and how many use slots are taken.
+    bindings: u64,
+    uses: u64,
 }
 
 impl Model for Journaled {
-    ghost use Rattle.std.specs.Prelude.{◌≡◌};
+    ghost use Rattle.std.specs.Prelude.{◌≡◌, ◌≤◌, length};
     ghost use Rattle.sva_model.specs.Wire.{wire};
+    ghost use Rattle.sva_labels.specs.Tallies.{unreleased, slots_taken};
     ghost use Rattle.sva_fabric.specs.Journal.{History, IsLegal, world_of};
 
     ghost Value = { History };
@@ -41,7 +46,9 @@ impl Model for Journaled {
     ghost view = { λ j. record { config = j.config; entries = j.entries.items } };
 
     ghost invariant = { λ j. IsLegal (record { config = j.config; entries = j.entries.items })
-        × (j.world ≡ wire (world_of (record { config = j.config; entries = j.entries.items }))) };
+        × (j.world ≡ wire (world_of (record { config = j.config; entries = j.entries.items })))
+        × (j.bindings ≡ unreleased j.world) × (j.bindings ≤ length j.entries.items)
+        × (j.uses ≡ slots_taken j.world) × (j.uses ≤ length j.entries.items) };
 }
 
 impl Journaled {
@@ -57,6 +64,8 @@ impl Journaled {
             config,
             world,
             entries: Vec::new(alloc),
+            bindings: 0,
+            uses: 0,
         })
     }
 
@@ -80,7 +89,27 @@ impl Journaled {
         };
         let noted = entry;
         self.entries.push_reserved(noted);
+        self.bindings = bindings_after(self.bindings, &answer);
+        self.uses = uses_after(self.uses, &answer);
         Ok(entry)
+    }
+
+    /// How many bindings are unreleased.
+    pub fn bindings(&self) -> u64
+        ensures count { result ≡ bindings_of self.now }
+        ensures legal { IsLegal self.now }
+    {
+        let Journaled { bindings, .. } = self;
+        *bindings
+    }
+
+    /// How many use slots are taken, those of uses that a reset ended among them.
+    pub fn uses(&self) -> u64
+        ensures count { result ≡ uses_of self.now }
+        ensures legal { IsLegal self.now }
+    {
+        let Journaled { uses, .. } = self;
+        *uses
     }
 
     /// How many calls the journal has.
@@ -105,6 +134,34 @@ impl Journaled {
         ensures legal { IsLegal self.now }
     {
         self.world.counts()
+    }
+}
+
+// How many bindings there are behind an answer.
+fn bindings_after(before: u64, answer: &Result<Answer, Refusal>) -> u64
+    requires room { before + 1 < 2 ^ 64 }
+    requires some { releases answer.now ≤ before + binds answer.now }
+    ensures count { result + releases answer.now ≡ before + binds answer.now }
+    ensures few { result ≤ before + 1 }
+{
+    match answer {
+        Ok(Answer::Binding { .. }) => before + 1,
+        Ok(Answer::Released) => before - 1,
+        _ => before,
+    }
+}
+
+// How many use slots are taken behind an answer.
+fn uses_after(before: u64, answer: &Result<Answer, Refusal>) -> u64
+    requires room { before + 1 < 2 ^ 64 }
+    requires some { ends answer.now ≤ before + begins answer.now }
+    ensures count { result + ends answer.now ≡ before + begins answer.now }
+    ensures few { result ≤ before + 1 }
+{
+    match answer {
+        Ok(Answer::Use { .. }) => before + 1,
+        Ok(Answer::Ended | Answer::Dead) => before - 1,
+        _ => before,
     }
 }
 

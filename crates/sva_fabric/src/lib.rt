@@ -4,7 +4,9 @@
 
 mod audits;
 mod fabric;
+mod faults;
 mod gathering;
+mod holding;
 mod journal;
 mod opening;
 mod port;
@@ -14,9 +16,11 @@ mod running;
 mod tally;
 #[cfg(test)]
 mod tests;
+mod tokens;
 
 pub use audits::{Audit, FirstBadReceipt};
 pub use fabric::Fabric;
+pub use faults::Fault;
 pub use journal::{Entry, Journaled};
 pub use opening::ports_of;
 pub use port::Port;
@@ -24,3 +28,4 @@ pub use ports::Ports;
 pub use receipts::Receipt;
 pub use running::{Running, StepFault};
 pub use tally::Tally;
+pub use tokens::{Lease, Leaving, Moved, Tokens, UseTicket};

@@ -4,9 +4,10 @@ ghost use Rattle.std.specs.Prelude.{◌≡◌, ◌↔◌, ◌+◌, ◌^◌, ◌<
 ghost use Rattle.sva_step.specs.declared.refusals.Refusal.TheVariants as refusal;
 ghost use Rattle.sva_step.specs.Limits.{Fits};
 ghost use Rattle.sva_core.specs.Reached.{IsOpenRefusal};
-ghost use Rattle.sva_fabric.specs.Journal.{IsLegal, entry_of, with_entry, empty_of};
+ghost use Rattle.sva_fabric.specs.Journal.{IsLegal, bindings_of, uses_of, entry_of, with_entry, empty_of};
+ghost use Rattle.sva_fabric.specs.Suiting.{Suits};
 ghost use Rattle.sva_fabric.specs.Receipts.{Stands, IsAnsweredAt, IsRefusedAt, entry_told};
-ghost use Rattle.sva_fabric.specs.Audits.{seats_of, AllStand, IsFirstBad, EachStands, IsFirstBadOf, calls_of, IsAudit};
+ghost use Rattle.sva_fabric.specs.Audits.{held_by, used_by, seats_of, AllStand, IsFirstBad, EachStands, IsFirstBadOf, calls_of, IsAudit};
 
 use crate::audits::{Audit, FirstBadReceipt};
 use crate::journal::{Entry, Journaled};
@@ -14,6 +15,7 @@ use crate::port::Port;
 use crate::ports::Ports;
 use crate::receipts::Receipt;
 use crate::tally::Tally;
+use crate::tokens::Tokens;
 use std::alloc::Global;
 use std::marker::Model;
 use std::sync::ledger::{Book, Share};
@@ -82,6 +84,7 @@ impl<C: Tally> Running<C> {
         ensures fault { IfErr result (λ f. IsRefusedAt self.old.entries port last f) }
         ensures legal { IsLegal self.new }
         ensures config { self.new.config ≡ C.config }
+        ensures suits { IfOk result (λ r. Suits step.now r.answer) }
         ensures counted { OnOk result (calls.new.amount ≡ calls.old.amount + 1) }
         ensures uncounted { OnErr result (calls.new.amount ≡ calls.old.amount) }
         ensures parts { calls.new.parts ≡ calls.old.parts }
@@ -117,9 +120,9 @@ impl<C: Tally> Running<C> {
         self.calls.audit(calls);
     }
 
-    /// Compares the receipts of all ports with the journal.
-    pub fn audit(&self, ports: &Ports<C>) -> Result<Audit, FirstBadReceipt>
-        ensures audit { IsAudit self.now (seats_of ports.now) result }
+    /// Compares the receipts of all ports with the journal, and the tokens with its world's unreleased bindings and taken use slots.
+    pub fn audit(&self, ports: &Ports<C>, tokens: &Tokens) -> Result<Audit, FirstBadReceipt>
+        ensures audit { IsAudit self.now (seats_of ports.now) (held_by tokens.now) (used_by tokens.now) result }
         ensures legal { IsLegal self.now }
         ensures config { self.now.config ≡ C.config }
     {
@@ -127,7 +130,7 @@ impl<C: Tally> Running<C> {
         if let Some(bad) = self.first_bad(ports) {
             return Err(bad);
         }
-        if !adds_up(calls, ports) {
+        if !(adds_up(calls, ports) && self.are_all(tokens)) {
             return Err(FirstBadReceipt {
                 port: count_of(ports),
                 place: calls,
@@ -140,6 +143,18 @@ impl<C: Tally> Running<C> {
             mapped: counts.mapped,
             withheld: counts.withheld,
         })
+    }
+
+    // Tells that there is a token for each unreleased binding, and for each taken use slot.
+    fn are_all(&self, tokens: &Tokens) -> bool
+        ensures yes { result ≡ true → (held_by tokens.now ≡ bindings_of self.now) × (used_by tokens.now ≡ uses_of self.now) }
+        ensures no { result ≡ false → (held_by tokens.now ≡ bindings_of self.now) × (used_by tokens.now ≡ uses_of self.now) → ⊥ }
+    {
+        let leases = tokens.leases.as_slice();
+        let leavings = tokens.leavings.as_slice();
+        let tickets = tokens.tickets.as_slice();
+        let held = leases.len() as u64 + leavings.len() as u64;
+        held == self.journaled.bindings() && tickets.len() as u64 == self.journaled.uses()
     }
 
     // Tells that a receipt stands at its place, as a call of this port.

@@ -78,7 +78,7 @@ fn turns<C: Tally + Send + Sync, R: Threads + Wait + Abort + Sync>(
     };
     in_turns(rt, &fabric, &mut ports);
     assert_eq!(rt; (ports.host.calls(), ports.link.calls()), (2, 1));
-    let audit = fabric.finish(ports);
+    let audit = fabric.finish(ports, Tokens::new(alloc));
     assert_eq!(rt;
         audit,
         Ok(Audit {
@@ -151,7 +151,7 @@ fn looks<C: Tally + Send + Sync, R: Threads + Wait + Abort + Sync>(
         return Err("it opens".into());
     };
     at_once(rt, &fabric, &mut ports);
-    let audit = fabric.finish(ports);
+    let audit = fabric.finish(ports, Tokens::new(alloc));
     assert_eq!(rt;
         audit,
         Ok(Audit {
@@ -239,7 +239,7 @@ fn changed<C: Tally, R: Wait + Abort>(rt: &R, alloc: Global, calls: Blank) -> Re
     // Two ports change their places.
     mem::swap(&mut ports.link, &mut ports.service);
     assert_eq!(rt;
-        fabric.finish(ports),
+        fabric.finish(ports, Tokens::new(alloc)),
         Err(FirstBadReceipt { port: 1, place: 0 })
     );
     Ok(())
@@ -264,7 +264,7 @@ fn left_out<C: Tally, R: Wait + Abort>(rt: &R, alloc: Global, calls: Blank) -> R
     // The worker's port is kept back.
     assert!(rt; ports.workers.pop().is_some());
     assert_eq!(rt;
-        fabric.finish(ports),
+        fabric.finish(ports, Tokens::new(alloc)),
         Err(FirstBadReceipt { port: 5, place: 1 })
     );
     Ok(())
@@ -273,6 +273,276 @@ fn left_out<C: Tally, R: Wait + Abort>(rt: &R, alloc: Global, calls: Blank) -> R
 #[test]
 fn calls_that_do_not_add_up(rt: HostRuntime) -> Result<(), Fail> {
     left_out::<Brand, _>(&rt, rt.alloc(), Blank::new(ports_of(&CONFIG)))
+}
+
+// A plain step that is accepted with this answer.
+fn takes<C: Tally, R: Wait + Abort>(
+    rt: &R,
+    fabric: &Fabric<C>,
+    port: &mut Port<C>,
+    step: Step,
+    answer: Answer,
+)
+    requires { is_plain step ≡ true }
+{
+    let taken = fabric.step(rt, port, &step);
+    assert_eq!(rt; taken.map(|r| r.answer), Ok(Ok(answer)));
+}
+
+// A space with a page, and a translation of it at endpoint 0, under the binding that is given back.
+fn bound<C: Tally, R: Wait + Abort>(
+    rt: &R,
+    fabric: &Fabric<C>,
+    ports: &mut Ports<C>,
+) -> Result<Lease, Fault> {
+    takes(
+        rt,
+        fabric,
+        &mut ports.host,
+        Step::Space,
+        Answer::Space { space: 0 },
+    );
+    takes(
+        rt,
+        fabric,
+        &mut ports.host,
+        map(16),
+        Answer::Frame { frame: 0 },
+    );
+    let lease = fabric.bind(rt, &mut ports.host, 0, 0)?;
+    assert_eq!(rt; (lease.binding(), lease.pasid()), (0, 1));
+    let ask = Step::Ask {
+        endpoint: 0,
+        pasid: 1,
+        page: 16,
+    };
+    takes(
+        rt,
+        fabric,
+        &mut ports.link,
+        Step::Deliver { message: 0 },
+        Answer::Started,
+    );
+    takes(rt, fabric, &mut ports.service, ask, Answer::Tag { tag: 0 });
+    takes(
+        rt,
+        fabric,
+        &mut ports.link,
+        Step::Deliver { message: 1 },
+        Answer::Completion,
+    );
+    takes(
+        rt,
+        fabric,
+        &mut ports.link,
+        Step::Deliver { message: 2 },
+        Answer::Held,
+    );
+    Ok(lease)
+}
+
+fn spend_lease(lease: Lease) {
+    let Lease {
+        binding: _,
+        pasid: _,
+    } = lease;
+}
+
+fn spend_leaving(leaving: Leaving) {
+    let Leaving { binding: _ } = leaving;
+}
+
+fn spend_ticket(ticket: UseTicket) {
+    let UseTicket {
+        endpoint: _,
+        slot: _,
+        frame: _,
+    } = ticket;
+}
+
+// The use ends behind a reset, and then the binding.
+fn cut_off<C: Tally, R: Wait + Abort>(
+    rt: &R,
+    fabric: &Fabric<C>,
+    ports: &mut Ports<C>,
+    lease: Lease,
+    ticket: UseTicket,
+) {
+    assert_eq!(rt;
+        (ticket.endpoint(), ticket.slot(), ticket.frame()),
+        (0, 0, 0)
+    );
+    takes(
+        rt,
+        fabric,
+        &mut ports.host,
+        Step::Reset { endpoint: 0 },
+        Answer::Resetting,
+    );
+    takes(
+        rt,
+        fabric,
+        &mut ports.link,
+        Step::Deliver { message: 3 },
+        Answer::Reset,
+    );
+    takes(
+        rt,
+        fabric,
+        &mut ports.link,
+        Step::Deliver { message: 4 },
+        Answer::ResetDone,
+    );
+    match fabric.end(rt, &mut ports.host, ticket) {
+        Ok(answer) => assert_eq!(rt; answer, Answer::Dead),
+        Err((ticket, _)) => spend_ticket(ticket),
+    }
+    let leaving = match fabric.unbind(rt, &mut ports.host, lease) {
+        Ok(leaving) => leaving,
+        Err((lease, _)) => {
+            spend_lease(lease);
+            return;
+        }
+    };
+    assert_eq!(rt; leaving.binding(), 0);
+    match fabric.advance(rt, &mut ports.host, leaving) {
+        Ok(Moved::Gone) => {}
+        Ok(Moved::Again(leaving)) => spend_leaving(leaving),
+        Err((leaving, _)) => spend_leaving(leaving),
+    }
+}
+
+fn tokens_spent<C: Tally, R: Wait + Abort>(rt: &R, alloc: Global, calls: Blank) -> Result<(), Fail>
+    requires name { calls.name ≡ C.name }
+    requires parts { (calls.parts ≡ C.parts) × (calls.parts ≡ 6) }
+    requires config { C.config ≡ CONFIG }
+{
+    let Ok((fabric, mut ports)) = Fabric::<C>::open(alloc, CONFIG, calls) else {
+        return Err("it opens".into());
+    };
+    let Ok(lease) = bound(rt, &fabric, &mut ports) else {
+        return Err("it binds".into());
+    };
+    let ticket = match fabric.begin(rt, &mut ports.host, 0, 1, 16, true) {
+        Ok(ticket) => ticket,
+        Err(_) => {
+            spend_lease(lease);
+            return Err("a use begins".into());
+        }
+    };
+    cut_off(rt, &fabric, &mut ports, lease, ticket);
+    assert_eq!(rt;
+        ports.host.last().map(|r| r.answer),
+        Some(Ok(Answer::Released))
+    );
+    let audit = fabric.finish(ports, Tokens::new(alloc));
+    assert_eq!(rt;
+        audit,
+        Ok(Audit {
+            calls: 14,
+            free: 3,
+            mapped: 1,
+            withheld: 0
+        })
+    );
+    Ok(())
+}
+
+#[test]
+fn a_binding_and_a_use(rt: HostRuntime) -> Result<(), Fail> {
+    tokens_spent::<Brand, _>(&rt, rt.alloc(), Blank::new(ports_of(&CONFIG)))
+}
+
+// The binding is being taken back, and isn't released yet.
+fn stopping<C: Tally, R: Wait + Abort>(
+    rt: &R,
+    fabric: &Fabric<C>,
+    ports: &mut Ports<C>,
+    lease: Lease,
+) -> Option<Leaving> {
+    let leaving = match fabric.unbind(rt, &mut ports.host, lease) {
+        Ok(leaving) => leaving,
+        Err((lease, _)) => {
+            spend_lease(lease);
+            return None;
+        }
+    };
+    match fabric.advance(rt, &mut ports.host, leaving) {
+        Ok(Moved::Gone) => None,
+        Ok(Moved::Again(leaving)) => Some(leaving),
+        Err((leaving, fault)) => {
+            assert_eq!(rt;
+                fault,
+                Fault::Refused {
+                    refusal: Refusal::NotYet
+                }
+            );
+            Some(leaving)
+        }
+    }
+}
+
+fn tokens_left<C: Tally, R: Wait + Abort>(
+    rt: &R,
+    alloc: Global,
+    calls: Blank,
+    kept_back: bool,
+) -> Result<Result<Audit, FirstBadReceipt>, Fail>
+    requires name { calls.name ≡ C.name }
+    requires parts { (calls.parts ≡ C.parts) × (calls.parts ≡ 6) }
+    requires config { C.config ≡ CONFIG }
+{
+    let Ok((fabric, mut ports)) = Fabric::<C>::open(alloc, CONFIG, calls) else {
+        return Err("it opens".into());
+    };
+    let Ok(lease) = bound(rt, &fabric, &mut ports) else {
+        return Err("it binds".into());
+    };
+    let refused = match fabric.begin(rt, &mut ports.host, 0, 2, 16, true) {
+        Ok(ticket) => {
+            spend_ticket(ticket);
+            None
+        }
+        Err(fault) => Some(fault),
+    };
+    assert_eq!(rt;
+        refused,
+        Some(Fault::Refused {
+            refusal: Refusal::NotStarted
+        })
+    );
+    let Some(leaving) = stopping(rt, &fabric, &mut ports, lease) else {
+        return Err("it is left".into());
+    };
+    let mut tokens = Tokens::new(alloc);
+    if kept_back {
+        spend_leaving(leaving);
+    } else if let Err(refused) = tokens.leavings.push(leaving) {
+        spend_leaving(refused.value);
+    }
+    Ok(fabric.finish(ports, tokens))
+}
+
+#[test]
+fn a_token_that_is_left(rt: HostRuntime) -> Result<(), Fail> {
+    let audit = tokens_left::<Brand, _>(&rt, rt.alloc(), Blank::new(ports_of(&CONFIG)), false)?;
+    assert_eq!(rt;
+        audit,
+        Ok(Audit {
+            calls: 10,
+            free: 3,
+            mapped: 1,
+            withheld: 0
+        })
+    );
+    Ok(())
+}
+
+#[test]
+fn a_token_that_is_kept_back(rt: HostRuntime) -> Result<(), Fail> {
+    let audit = tokens_left::<Brand, _>(&rt, rt.alloc(), Blank::new(ports_of(&CONFIG)), true)?;
+    assert_eq!(rt; audit, Err(FirstBadReceipt { port: 6, place: 10 }));
+    Ok(())
 }
 
 const TOO_MANY: Config = Config {

@@ -26,3 +26,15 @@ returns-clause-entry c =
     c.apply-answer.ensures.step (c.is_out_of_memory.ensures.no c.if-is_out_of_memory.false)).0 in
     ap (λ (r : Reply). entry_of c.args.port c.args.step.now r) answered
     ∙ ap (λ (h : History). entry_of c.args.port c.args.step.now (answer_of h c.args.step.now)) c.self.view_is
+
+-- not whole yet: the invariant has the counts too, and so have the premises of `uses_after`
+pub bindings_after-requires : goal.bindings_after-requires
+bindings_after-requires c =
+    let t : IsTallied c.self.inside.world c.apply-answer.new.self c.apply-answer.result =
+    tallied (record { config = c.self.inside.config; entries = c.self.inside.entries.items }) c.args.step.now c.apply-answer.result
+    c.self.inside.world c.apply-answer.new.self c.self.invariant.0 c.self.invariant.1 c.apply-answer.ensures.step
+    (c.is_out_of_memory.ensures.no c.if-is_out_of_memory.false) in
+    record {
+      room = ?;
+      some = omega (arith, t.bindings, c.self.invariant.2);
+    }

@@ -2,7 +2,7 @@ use Rattle.std.proofs.Common.{◌≡◌, ◌++◌, ◌∷◌, [], List, ℕ, Opt
 use Rattle.sva_fabric.specs.declared.receipts.Receipt.{Receipt}
 use Rattle.sva_fabric.specs.Receipts.{Seat, Stands, AreRising, IsAnswered, last_of}
 use Rattle.sva_fabric.proofs.Standing.{answered, rising_more, length_more}
-use Rattle.sva_fabric.proofs.fabric.Fabric.step.Goals as goal
+use Rattle.sva_fabric.proofs.fabric.Fabric.call.Goals as goal
 
 pub invariant_of-port-2 : goal.invariant_of-port-2
 invariant_of-port-2 g c =

@@ -1,0 +1,53 @@
+-- Which answers the steps may have that make, move or spend a token.
+use Rattle.std.specs.Prelude.{IfOk}
+use Rattle.sva_step.specs.declared.answers.Answer.{Answer}
+use Rattle.sva_step.specs.declared.answers.Answer.TheVariants as answer
+use Rattle.sva_step.specs.declared.steps.Step.{Step}
+use Rattle.sva_step.specs.declared.steps.Step.TheVariants as step
+use Rattle.sva_model.specs.Steps.{Reply}
+
+-- of a bind
+abbrev pub IsBinding : Answer → Type 0
+IsBinding (answer.Binding binding pasid) = Unit {0}
+IsBinding _ = ⊥
+
+-- of an unbind
+abbrev pub IsUnbound : Answer → Type 0
+IsUnbound answer.Stopping = Unit {0}
+IsUnbound answer.Quiet = Unit {0}
+IsUnbound _ = ⊥
+
+-- of an advance that doesn't release
+abbrev pub IsMoved : Answer → Type 0
+IsMoved answer.Draining = Unit {0}
+IsMoved answer.Invalidating = Unit {0}
+IsMoved answer.Quiet = Unit {0}
+IsMoved _ = ⊥
+
+-- of an advance
+abbrev pub IsAdvanced : Answer → Type 0
+IsAdvanced answer.Released = Unit {0}
+IsAdvanced a = IsMoved a
+
+-- of a use that begins
+abbrev pub IsUse : Answer → Type 0
+IsUse (answer.Use slot frame) = Unit {0}
+IsUse _ = ⊥
+
+-- of a use that ends
+abbrev pub IsOver : Answer → Type 0
+IsOver answer.Ended = Unit {0}
+IsOver answer.Dead = Unit {0}
+IsOver _ = ⊥
+
+abbrev pub SuitsStep : Step → Answer → Type 0
+SuitsStep (step.Bind endpoint space) a = IsBinding a
+SuitsStep (step.Unbind binding) a = IsUnbound a
+SuitsStep (step.Advance binding) a = IsAdvanced a
+SuitsStep (step.BeginUse endpoint pasid page write) a = IsUse a
+SuitsStep (step.EndUse endpoint slot) a = IsOver a
+SuitsStep _ a = Unit {0}
+
+-- a refusal suits each step
+abbrev pub Suits : Step → Reply → Type 0
+Suits s r = IfOk r (λ (a : Answer). SuitsStep s a)

@@ -1,0 +1,57 @@
+-- Tokens: an unreleased binding is held by a lease or a leaving, and a use slot that is taken by a ticket.
+use Rattle.std.specs.Prelude.{◌≡◌, ℕ, ◌+◌, List, [], ◌∷◌, ◌++◌, length, Ok, Err}
+use Rattle.sva_step.specs.declared.answers.Answer.{Answer}
+use Rattle.sva_step.specs.declared.answers.Answer.TheVariants as answer
+use Rattle.sva_step.specs.declared.limits.Config.{Config}
+use Rattle.sva_step.specs.declared.steps.Step.{Step}
+use Rattle.sva_step.specs.declared.steps.Step.TheVariants as step
+use Rattle.sva_model.specs.Steps.{Reply}
+use Rattle.sva_fabric.specs.declared.receipts.Receipt.{Receipt}
+use Rattle.sva_fabric.specs.declared.running.StepFault.TheVariants as step_fault
+use Rattle.sva_fabric.specs.declared.faults.Fault.{Fault}
+use Rattle.sva_fabric.specs.declared.faults.Fault.TheVariants as fault
+use Rattle.sva_fabric.specs.declared.tokens.Moved.{Moved}
+use Rattle.sva_fabric.specs.declared.tokens.Moved.TheVariants as moved
+use Rattle.sva_fabric.specs.Receipts.{Seat, IsAnswered, IsRefused, last_of}
+use Rattle.sva_fabric.specs.Suiting.{IsUnbound, IsMoved}
+
+-- the numbers of a lease, as the bind's answer has them
+pub record LeaseNumbers : Type 0 where
+  pub binding : ℕ
+  pub pasid : ℕ
+
+-- the numbers of a ticket: the endpoint of the step, slot and frame of its answer
+pub record TicketNumbers : Type 0 where
+  pub endpoint : ℕ
+  pub slot : ℕ
+  pub frame : ℕ
+
+-- what a call that was answered did to its port: it has one receipt more, of this step and reply
+pub record HasCalled (config : Config) (before after : Seat) (s : Step) (r : Reply) : Type 0 where
+  pub receipt : Receipt
+  pub kept : after ≡ record before { receipts = before.receipts ++ receipt ∷ [] }
+  pub answered : IsAnswered config before.number (last_of before.receipts) s receipt
+  pub says : receipt.answer ≡ r
+
+-- a call that makes, moves or spends no token: it was answered by a refusal, or not at all
+abbrev pub IsFault : Config → (before after : Seat) → Step → Fault → Type 0
+IsFault config before after s (fault.Refused refusal) = HasCalled config before after s (Err refusal)
+IsFault config before after s fault.Memory = after ≡ before
+IsFault config before after s (fault.Strayed place found) =
+    (after ≡ before) × IsRefused config before.number (last_of before.receipts) (step_fault.Strayed place found)
+
+-- a binding that is being taken back
+pub record HasUnbound (config : Config) (before after : Seat) (binding : ℕ) : Type 0 where
+  pub said : Answer
+  pub suits : IsUnbound said
+  pub called : HasCalled config before after (step.Unbind binding) (Ok said)
+
+-- a binding at its next stage
+pub record HasMoved (config : Config) (before after : Seat) (binding : ℕ) : Type 0 where
+  pub said : Answer
+  pub suits : IsMoved said
+  pub called : HasCalled config before after (step.Advance binding) (Ok said)
+
+abbrev pub IsAdvance : Config → (before after : Seat) → (binding : ℕ) → Moved → Type 0
+IsAdvance config before after binding (moved.Again leaving) = (leaving ≡ binding) × HasMoved config before after binding
+IsAdvance config before after binding moved.Gone = HasCalled config before after (step.Advance binding) (Ok answer.Released)

@@ -1,0 +1,159 @@
+//! Tokens: what an unreleased binding and a use are held by. Each has to be spent: none is `Drop`, `Clone` or `Copy`, and each comes only
+//! from the call that makes it.
+
+ghost use Rattle.std.specs.Prelude.{◌≡◌, []};
+
+use std::alloc::Global;
+use std::marker::Model;
+
+/// A binding that `Fabric::bind` made. Contracts see its numbers.
+pub struct Lease {
+    pub(crate) binding: u64,
+    pub(crate) pasid: u32,
+}
+
+impl Model for Lease {
+    ghost use Rattle.sva_fabric.specs.Tokens.{LeaseNumbers};
+
+    ghost Value = { LeaseNumbers };
+
+    ghost view = { λ lease. record { binding = lease.binding; pasid = lease.pasid } };
+}
+
+impl Lease {
+    /// The number of the binding.
+    pub fn binding(&self) -> u64
+        ensures { result ≡ self.now.binding }
+    {
+        self.binding
+    }
+
+    /// The PASID of the binding: 1 to 32 of its 20 bits (PCI Express Base 5.0, section 6.20).
+    pub fn pasid(&self) -> u32
+        ensures { result ≡ self.now.pasid }
+    {
+        self.pasid
+    }
+}
+
+/// A binding that is being taken back. Contracts see its number.
+pub struct Leaving {
+    pub(crate) binding: u64,
+}
+
+impl Model for Leaving {
+    ghost use Rattle.std.specs.Prelude.{ℕ};
+
+    ghost Value = { ℕ };
+
+    ghost view = { λ leaving. leaving.binding };
+}
+
+impl Leaving {
+    /// The number of the binding.
+    pub fn binding(&self) -> u64
+        ensures { result ≡ self.now }
+    {
+        let Leaving { binding } = self;
+        *binding
+    }
+}
+
+/// A use that began: its slot is taken until `Fabric::end`. Contracts see its numbers.
+pub struct UseTicket {
+    pub(crate) endpoint: u64,
+    pub(crate) slot: u8,
+    pub(crate) frame: u32,
+}
+
+impl Model for UseTicket {
+    ghost use Rattle.sva_fabric.specs.Tokens.{TicketNumbers};
+
+    ghost Value = { TicketNumbers };
+
+    ghost view = { λ ticket. record { endpoint = ticket.endpoint; slot = ticket.slot; frame = ticket.frame } };
+}
+
+impl UseTicket {
+    /// The number of the endpoint.
+    pub fn endpoint(&self) -> u64
+        ensures { result ≡ self.now.endpoint }
+    {
+        self.endpoint
+    }
+
+    /// The use slot.
+    pub fn slot(&self) -> u8
+        ensures { result ≡ self.now.slot }
+    {
+        self.slot
+    }
+
+    /// The number of the frame that is used.
+    pub fn frame(&self) -> u32
+        ensures { result ≡ self.now.frame }
+    {
+        self.frame
+    }
+}
+
+/// What became of a binding by an advance.
+pub enum Moved {
+    /// It is at its next stage.
+    Again(Leaving),
+    /// It is released.
+    Gone,
+}
+
+/// The tokens that are left at the end.
+pub struct Tokens {
+    /// Of bindings that nobody takes back.
+    pub leases: Vec<Lease>,
+    /// Of bindings that are being taken back.
+    pub leavings: Vec<Leaving>,
+    /// Of uses, those that a reset ended among them.
+    pub tickets: Vec<UseTicket>,
+}
+
+impl Tokens {
+    /// No tokens.
+    pub fn new(alloc: Global) -> Tokens
+        ensures leases { result.leases.items ≡ [] }
+        ensures leavings { result.leavings.items ≡ [] }
+        ensures tickets { result.tickets.items ≡ [] }
+    {
+        Tokens {
+            leases: Vec::new(alloc),
+            leavings: Vec::new(alloc),
+            tickets: Vec::new(alloc),
+        }
+    }
+
+    // Spends all of them.
+    pub(crate) fn spend(self) {
+        let Tokens {
+            mut leases,
+            mut leavings,
+            mut tickets,
+        } = self;
+        while let Some(lease) = leases.pop() {
+            let Lease {
+                binding: _,
+                pasid: _,
+            } = lease;
+        }
+        leases.destroy_empty();
+        while let Some(leaving) = leavings.pop() {
+            let Leaving { binding: _ } = leaving;
+        }
+        leavings.destroy_empty();
+        while let Some(ticket) = tickets.pop() {
+            let UseTicket {
+                endpoint: _,
+                slot: _,
+                frame: _,
+            } = ticket;
+        }
+        tickets.destroy_empty();
+    }
+}

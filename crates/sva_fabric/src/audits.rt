@@ -11,8 +11,8 @@ pub struct Audit {
     pub withheld: u32,
 }
 
-/// The first receipt that doesn't stand in the journal. Where each does and the calls don't add up to the journal's length, it is
-/// the number of ports and the journal's length.
+/// The first receipt that doesn't stand in the journal. Where each does and the calls don't add up to the journal's length, or the
+/// tokens aren't as many as unreleased bindings and taken use slots, it is the number of ports and the journal's length.
 #[derive(Clone, Copy, Debug, PartialEq, Eq)]
 pub struct FirstBadReceipt {
     /// The number of the port.

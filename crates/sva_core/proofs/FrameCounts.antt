@@ -4,8 +4,8 @@ use Rattle.std.proofs.lemmas.List.Sums.{sum_by_push}
 use Rattle.sva_model.specs.Words.{tabulate, count_below, all_below, the}
 use Rattle.sva_model.specs.State.{World, MappingState, Owed}
 use Rattle.sva_model.specs.State.MappingState.{Present, Gone}
-use Rattle.sva_model.specs.States.{Place, place, place_at, place_by, place_of_gone, answered}
-use Rattle.sva_model.specs.Steps.{counts, is_free_at, is_mapped_at, is_withheld_at}
+use Rattle.sva_model.specs.States.{Place, place, is_free_place, place_at, place_by, place_of_gone, answered}
+use Rattle.sva_model.specs.Steps.{counts, is_mapped_at, is_withheld_at}
 use Rattle.sva_model.specs.Wire.{PlaceWire, places_wire, place_wire_by, withheld_wire}
 use Rattle.sva_model.specs.Wire.PlaceWire.{FreeWire, MappedWire, WithheldWire}
 use Rattle.sva_labels.specs.Finding.{is_free}
@@ -46,7 +46,7 @@ count-tabulate q p (suc n) g same = sum_by_push (λ (x : PlaceWire). cond (q x) 
     one_more false true k m e f = absurd (cc)
     one_more false false k m e f = omega arith
 
-free_kind : (p : PlaceWire) → is_free p ≡ is_free_at (kind p)
+free_kind : (p : PlaceWire) → is_free p ≡ is_free_place (kind p)
 free_kind FreeWire = refl
 free_kind MappedWire = refl
 free_kind (WithheldWire targets) = refl
@@ -63,8 +63,8 @@ withheld_kind (WithheldWire targets) = refl
 
 -- the counts of places on the wire are the world's
 pub free-counted : (w : World) → count_by is_free (places_wire w) ≡ (counts w).free
-free-counted w = count-tabulate is_free (λ f. is_free_at (place w f)) w.config.frames (λ f. place_wire_by w f (place w f))
-    (λ f. free_kind (place_wire_by w f (place w f)) ∙ ap is_free_at (kind-is w f (w.mappings.latest f) refl))
+free-counted w = count-tabulate is_free (λ f. is_free_place (place w f)) w.config.frames (λ f. place_wire_by w f (place w f))
+    (λ f. free_kind (place_wire_by w f (place w f)) ∙ ap is_free_place (kind-is w f (w.mappings.latest f) refl))
 
 pub mapped-counted : (w : World) → count_by is_mapped_place (places_wire w) ≡ (counts w).mapped
 mapped-counted w = count-tabulate is_mapped_place (λ f. is_mapped_at (place w f)) w.config.frames (λ f. place_wire_by w f (place w f))

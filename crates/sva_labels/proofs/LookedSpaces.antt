@@ -1,59 +1,33 @@
 -- Spaces, their pages and frames, looked up in what a host keeps: they are those that the definitions find.
-use Rattle.std.proofs.Common.{◌≡◌, refl, ap, ap₂, ◌∙◌, ℕ, suc, ◌+◌, ◌<◌, Bool, true, false, arith}
-use Rattle.std.specs.Prelude.{Option, Some, None, option_map, ◌&&◌, ◌==◌, nat_lt, nat_le, if◌then◌else◌, is_some, List, [], ◌∷◌, length}
+use Rattle.std.proofs.Common.{◌≡◌, refl, ap, ◌∙◌, ℕ, suc, ◌+◌, ◌<◌, Bool, true, false, arith}
+use Rattle.std.specs.Prelude.{Option, Some, None, option_map, ◌&&◌, nat_lt, nat_le, is_some, length}
 use Rattle.std.proofs.lemmas.Bool.Decides.{nat_tests}
 use Rattle.sva_model.specs.Words as words
-use Rattle.sva_model.specs.Words.{the, all_below, count_below, select, tabulate}
-use Rattle.sva_model.specs.State.{World, Owed, MappingState}
+use Rattle.sva_model.specs.Words.{the, all_below}
+use Rattle.sva_model.specs.State.{World}
 use Rattle.sva_model.specs.Outcomes.{frames_at}
 use Rattle.sva_model.specs.Labels
-use Rattle.sva_model.specs.Wire.{PageWire, SpaceWire, PlaceWire, number, page_wire, pages_wire, places_wire, wire, withheld_wire, place_wire_by}
-use Rattle.sva_model.specs.Wire.PlaceWire.{FreeWire, MappedWire, WithheldWire}
+use Rattle.sva_model.specs.Wire.{number, page_wire, pages_wire, wire}
 use Rattle.sva_laws.proofs.Words.{all_below-true}
 use Rattle.sva_laws.proofs.Invariant.{Mapped}
-use Rattle.sva_wire.specs.Host as numbers
 use Rattle.sva_wire.proofs.Lists.{tabulate_same}
 use Rattle.sva_wire.proofs.Pages.{page_at_is, pages_length}
-use Rattle.sva_wire.proofs.Places.{lowest_is, gone_seen, seen_by, seen_at, place_seen}
+pub use Rattle.sva_wire.proofs.Places.{lowest_is as lowest_there, free_is as frames_free}
 use Rattle.sva_wire.proofs.Spaces.{space_found, space_missing}
-use Rattle.sva_labels.specs.Finding.{pages_of, is_space, or_no_pages, pages_in, page_at, is_mapped, frame_or_0, frames_of, is_free, lowest_free}
-use Rattle.sva_model.specs.State.MappingState.{Unmade, Present, Gone}
-use Rattle.sva_model.specs.States.{place, is_free_place, place_at, place_by, place_of_gone, answered}
+use Rattle.sva_labels.specs.Finding.{pages_of, is_space, or_no_pages, pages_in, page_at, is_mapped, frame_or_0, frames_of}
 use Rattle.sva_labels.proofs.Lookups.{seen_some}
-
--- Both crates say these look-ups, in the same words.
-
-pages_same : (xs : List SpaceWire) (n : ℕ) → pages_of xs n ≡ numbers.pages_of xs n
-pages_same [] n = refl
-pages_same (x ∷ xs) n = ap (λ o. if x.number == n then Some x.pages else o) (pages_same xs n)
-
-page_same : (xs : List PageWire) (q : ℕ) → page_at xs q ≡ numbers.page_at xs q
-page_same [] q = refl
-page_same (x ∷ xs) q = ap (λ o. if x.page == q then Some x else o) (page_same xs q)
-
-pub free_same : (x : PlaceWire) → is_free x ≡ numbers.is_free x
-free_same FreeWire = refl
-free_same MappedWire = refl
-free_same (WithheldWire targets) = refl
-
-lowest_same : (xs : List PlaceWire) → lowest_free xs ≡ numbers.lowest_free xs
-lowest_same [] = refl
-lowest_same (x ∷ xs) = ap₂ (λ b n. if b then 0 else n) (free_same x) (ap suc (lowest_same xs) ∙ next (numbers.lowest_free xs))
-  where
-    next : (n : ℕ) → suc n ≡ 1 + n
-    next n = omega arith
 
 -- Spaces by their numbers.
 
 pub space_there : (w : World) (n : ℕ) → is_space (wire w) n ≡ Labels.is_space w n
-space_there w n = ap is_some (pages_same (wire w).spaces n) ∙ go (Labels.is_space w n) refl
+space_there w n = go (Labels.is_space w n) refl
   where
-    go : (b : Bool) → Labels.is_space w n ≡ b → is_some (numbers.pages_of (wire w).spaces n) ≡ b
+    go : (b : Bool) → Labels.is_space w n ≡ b → is_some (pages_of (wire w).spaces n) ≡ b
     go true e = ap is_some (space_found w n e)
     go false e = ap is_some (space_missing w n e)
 
 pub pages_there : (w : World) (n : ℕ) → Labels.is_space w n ≡ true → pages_in (wire w) n ≡ pages_wire w.mappings (Labels.name w n)
-pages_there w n e = ap or_no_pages (pages_same (wire w).spaces n ∙ space_found w n e)
+pages_there w n e = ap or_no_pages (space_found w n e)
 
 -- a number and its name
 pub name_of : (w : World) (s : ℕ) → Labels.name w (number w.config.first s) ≡ s
@@ -79,7 +53,7 @@ pages_of_name w s ma l =
 -- Pages of a space.
 
 pub page_found : (w : World) (s q : ℕ) → Mapped w → page_at (pages_wire w.mappings s) q ≡ option_map (page_wire w.mappings) (w.mappings.at s q)
-page_found w s q ma = page_same (pages_wire w.mappings s) q ∙ page_at_is w ma s q
+page_found w s q ma = page_at_is w ma s q
 
 pub mapped_there : (w : World) (s q : ℕ) → Mapped w → is_mapped (pages_wire w.mappings s) q ≡ Labels.is_mapped w s q
 mapped_there w s q ma = ap is_some (page_found w s q ma) ∙ seen_some (page_wire w.mappings) (w.mappings.at s q)
@@ -98,27 +72,3 @@ frames_there w s q count ma h =
     go : (o : Option ℕ) → words.is_some o ≡ true → frame_or_0 (option_map (page_wire w.mappings) o) ≡ w.mappings.frame (the o)
     go None t = absurd (cc)
     go (Some m) t = refl
-
--- Frames.
-
-pub lowest_there : (w : World) → lowest_free (places_wire w) ≡ Labels.lowest_frame w
-lowest_there w = lowest_same (places_wire w) ∙ lowest_is w
-
--- is a frame free?
-pub frames_free : (w : World) (f : ℕ) → is_free (place_wire_by w f (place w f)) ≡ is_free_place (place w f)
-frames_free w f = ap is_free (place_seen w w.mappings f) ∙ go (w.mappings.latest f)
-  where
-    by_answers :
-        (b : Bool) (owed : ℕ → Owed)
-        → is_free (gone_seen b (withheld_wire w.config.first w.config.endpoints w.part (Gone owed))) ≡ is_free_place (place_of_gone b)
-    by_answers true owed = refl
-    by_answers false owed = refl
-
-    by_state : (s : MappingState) → is_free (seen_by w s) ≡ is_free_place (place_by w s)
-    by_state Unmade = refl
-    by_state Present = refl
-    by_state (Gone owed) = by_answers (all_below w.config.endpoints (λ x. answered (w.part x) (owed x))) owed
-
-    go : (o : Option ℕ) → is_free (seen_at w w.mappings.state o) ≡ is_free_place (place_at w o)
-    go None = refl
-    go (Some m) = by_state (w.mappings.state m)

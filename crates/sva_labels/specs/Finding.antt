@@ -14,18 +14,13 @@ use Rattle.sva_model.specs.State.{PasidState}
 use Rattle.sva_model.specs.State.PasidState.{Off}
 use Rattle.sva_model.specs.States.{Extent, is_collecting, is_within}
 use Rattle.sva_model.specs.Labels
-use Rattle.sva_model.specs.Wire.{Wire, SpaceWire, PageWire, PlaceWire, BindingWire, StageWire, EndpointWire, DeviceWire, UnitWire, RequestWire}
+use Rattle.sva_model.specs.Wire.{Wire, PageWire, PlaceWire, BindingWire, StageWire, EndpointWire, DeviceWire, UnitWire, RequestWire}
 use Rattle.sva_model.specs.Wire.{TranslationWire, UseWire, TakenWire, GroupWire, BusyWire, JobWire, FlightWire}
-use Rattle.sva_model.specs.Wire.PlaceWire.{FreeWire}
 use Rattle.sva_model.specs.Wire.StageWire.{LiveWire, StoppingWire, DrainingWire}
 use Rattle.sva_model.specs.Wire.UseWire.{RunningWire}
+pub use Rattle.sva_wire.specs.Host.{pages_of, page_at, is_free, lowest_free}
 
 -- Spaces and their pages.
-
--- the pages of the space of a number
-abbrev pub pages_of : List SpaceWire → (number : ℕ) → Option (List PageWire)
-pages_of [] n = None
-pages_of (space ∷ spaces) n = if space.number == n then Some space.pages else pages_of spaces n
 
 abbrev pub is_space : Wire → (number : ℕ) → Bool
 is_space w n = is_some (pages_of w.spaces n)
@@ -37,11 +32,6 @@ or_no_pages (Some pages) = pages
 
 abbrev pub pages_in : Wire → (number : ℕ) → List PageWire
 pages_in w n = or_no_pages (pages_of w.spaces n)
-
--- what stands at a page of a space, if anything does
-abbrev pub page_at : List PageWire → (page : ℕ) → Option PageWire
-page_at [] q = None
-page_at (entry ∷ pages) q = if entry.page == q then Some entry else page_at pages q
 
 abbrev pub is_mapped : List PageWire → (page : ℕ) → Bool
 is_mapped pages q = is_some (page_at pages q)
@@ -56,15 +46,6 @@ abbrev pub frames_of : List PageWire → (page count : ℕ) → List ℕ
 frames_of pages q count = tabulate count (λ j. frame_or_0 (page_at pages (q + j)))
 
 -- Frames.
-
-abbrev pub is_free : PlaceWire → Bool
-is_free FreeWire = true
-is_free _ = false
-
--- the lowest frame that is free; the number of frames where none is
-abbrev pub lowest_free : List PlaceWire → ℕ
-lowest_free [] = 0
-lowest_free (place ∷ places) = if is_free place then 0 else suc (lowest_free places)
 
 -- the free frames, lowest first; the first place is that of the given frame
 abbrev pub free_from : (frame : ℕ) → List PlaceWire → List ℕ

@@ -9,12 +9,12 @@ use Rattle.sva_model.specs.Words.{count_below}
 use Rattle.sva_model.specs.State.{Mappings, Endpoint, World, opened}
 use Rattle.sva_model.specs.State.PageRequestState.{Arrived}
 use Rattle.sva_model.specs.State.Phase.{Open}
-use Rattle.sva_model.specs.States.{Place, is_arrived, is_outstanding, is_open, place}
+use Rattle.sva_model.specs.States.{Place, is_arrived, is_outstanding, is_open, place, is_free_place}
 use Rattle.sva_model.specs.States.Place.{Free, Mapped, Withheld}
 use Rattle.sva_model.specs.Acts.{Act, LocalAct, act, own, submitted_if, submits, bound, cookie_of}
 use Rattle.sva_model.specs.Acts.Act.{NewSpace, DropSpace, Map, Unmap, NewBinding, NewJob, Hold, LetGo, AtEndpoint}
 use Rattle.sva_model.specs.Labels.{outstanding, is_waiting}
-use Rattle.sva_model.specs.Steps.{decide, next, run, after_acts, world_after, counts, is_free_at, is_mapped_at, is_withheld_at}
+use Rattle.sva_model.specs.Steps.{decide, next, run, after_acts, world_after, counts, is_mapped_at, is_withheld_at}
 use Rattle.sva_laws.specs.Laws.{page_queue, waiting}
 use Rattle.sva_laws.proofs.Counting.{bit, bit_most, count_next, count_less, length_select, count_placed}
 use Rattle.sva_laws.proofs.Legal.{LegalLocalAct}
@@ -131,18 +131,18 @@ always_waiting rule c ss e =
 
 -- Free, mapped and withheld frames are all frames.
 
-one_place : (x : Place) → bit (is_free_at x) + bit (is_mapped_at x) + bit (is_withheld_at x) ≡ 1
+one_place : (x : Place) → bit (is_free_place x) + bit (is_mapped_at x) + bit (is_withheld_at x) ≡ 1
 unfolding bit
 one_place Free = refl
 one_place Mapped = refl
 one_place Withheld = refl
 
-no_places : (at : ℕ → Place) → count_below zero (λ f. is_free_at (at f)) + count_below zero (λ f. is_mapped_at (at f)) + count_below zero
+no_places : (at : ℕ → Place) → count_below zero (λ f. is_free_place (at f)) + count_below zero (λ f. is_mapped_at (at f)) + count_below zero
     (λ f. is_withheld_at (at f)) ≡ zero
 unfolding count_below
 no_places at = refl
 
-places_add_up : (n : ℕ) (at : ℕ → Place) → count_below n (λ f. is_free_at (at f)) + count_below n (λ f. is_mapped_at (at f)) + count_below n
+places_add_up : (n : ℕ) (at : ℕ → Place) → count_below n (λ f. is_free_place (at f)) + count_below n (λ f. is_mapped_at (at f)) + count_below n
     (λ f. is_withheld_at (at f)) ≡ n
 places_add_up zero at = no_places at
 places_add_up (suc n) at =
@@ -150,7 +150,7 @@ places_add_up (suc n) at =
       arith,
       places_add_up n at,
       one_place (at n),
-      count_next n (λ f. is_free_at (at f)),
+      count_next n (λ f. is_free_place (at f)),
       count_next n (λ f. is_mapped_at (at f)),
       count_next n (λ f. is_withheld_at (at f)),
     )

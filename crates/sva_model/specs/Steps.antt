@@ -1,13 +1,13 @@
 -- The step, and the run over a list of steps. A refused step changes nothing. (This project's own form.)
-use Rattle.std.specs.Prelude.{ℕ, Bool, true, false, if◌then◌else◌, List, [], ◌∷◌, Result, Ok, Err}
+use Rattle.std.specs.Prelude.{ℕ, Bool, true, false, List, [], ◌∷◌, Result, Ok, Err}
 use Rattle.sva_step.specs.declared.answers.Answer.{Answer}
 use Rattle.sva_step.specs.declared.limits.Config.{Config}
 use Rattle.sva_step.specs.declared.refusals.Refusal.{Refusal}
 use Rattle.sva_step.specs.declared.steps.Step.{Step}
 use Rattle.sva_model.specs.Words.{count_below}
 use Rattle.sva_model.specs.State.{PasidRule, World, opened}
-use Rattle.sva_model.specs.States.{Place, place}
-use Rattle.sva_model.specs.States.Place.{Free, Mapped, Withheld}
+use Rattle.sva_model.specs.States.{Place, place, is_free_place}
+use Rattle.sva_model.specs.States.Place.{Mapped, Withheld}
 use Rattle.sva_model.specs.Acts.{Act, act}
 use Rattle.sva_model.specs.Refusals.{Cause, by_first_cause, refusals}
 use Rattle.sva_model.specs.Outcomes.{Outcome, outcome}
@@ -57,11 +57,6 @@ replies w (s ∷ ss) = reply w s ∷ replies (next w s) ss
 abbrev pub world_after : PasidRule → Config → List Step → World
 world_after rule config steps = run (opened rule config) steps
 
--- how many frames are free, mapped and withheld
-abbrev pub is_free_at : Place → Bool
-is_free_at Free = true
-is_free_at _ = false
-
 -- is the place mapped?
 abbrev pub is_mapped_at : Place → Bool
 is_mapped_at Mapped = true
@@ -82,7 +77,7 @@ pub record Counts : Type 0 where
 abbrev pub counts : World → Counts
 counts w =
     record {
-      free = count_below w.config.frames (λ f. is_free_at (place w f));
+      free = count_below w.config.frames (λ f. is_free_place (place w f));
       mapped = count_below w.config.frames (λ f. is_mapped_at (place w f));
       withheld = count_below w.config.frames (λ f. is_withheld_at (place w f));
     }

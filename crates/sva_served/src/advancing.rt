@@ -31,7 +31,7 @@ impl Served {
     /// there, `Resetting` where its unit is in reset and it isn't Quiet, `NotYet` where the Stop Marker or the wait has not come,
     /// or where its page requests are being drained and a group of it isn't answered; `QueueFull` and `NumbersSpent` where the
     /// unit has no room for the descriptors or no cookie is left. No memory is taken.
-    pub fn advance(&mut self, binding: u64) -> Result<Answer, Refusal>
+    pub(crate) fn advance(&mut self, binding: u64) -> Result<Answer, Refusal>
         requires { IsSound self.old }
         ensures step { ByLabels self.old (step.Advance binding) result self.new }
         ensures memory { result ≢ Err refusal.OutOfMemory }

@@ -15,7 +15,7 @@ use sva_step::{Answer, Refusal};
 impl Served {
     /// Binds a space to an endpoint, under the PASID that it bears or the lowest that is free, and tells the endpoint to
     /// start it.
-    pub fn bind(&mut self, endpoint: u64, space: u64) -> Result<Answer, Refusal>
+    pub(crate) fn bind(&mut self, endpoint: u64, space: u64) -> Result<Answer, Refusal>
         requires { IsSound self.old }
         ensures { ByLabels self.old (step.Bind endpoint space) result self.new }
     {
@@ -24,7 +24,7 @@ impl Served {
 
     /// Unbinds a space from an endpoint. The endpoint is told to stop the PASID; but where a reset has cut the binding off,
     /// nothing is sent, and no memory is taken.
-    pub fn unbind(&mut self, binding: u64) -> Result<Answer, Refusal>
+    pub(crate) fn unbind(&mut self, binding: u64) -> Result<Answer, Refusal>
         requires { IsSound self.old }
         ensures step { ByLabels self.old (step.Unbind binding) result self.new }
         ensures memory { (b : BindingWire) → binding_of self.old binding ≡ Some b → b.stage ≡ LostWire → result ≢ Err refusal.OutOfMemory }
@@ -33,7 +33,7 @@ impl Served {
     }
 
     /// Which space bears a PASID, and how many bindings are under it. `BadPasid` where it is not 1 to 32.
-    pub fn bearer(&self, pasid: u64) -> Result<Answer, Refusal>
+    pub(crate) fn bearer(&self, pasid: u64) -> Result<Answer, Refusal>
         requires { IsSound self.now }
         ensures step { ByLabels self.now (step.Bearer pasid) result self.now }
         ensures memory { result ≢ Err refusal.OutOfMemory }

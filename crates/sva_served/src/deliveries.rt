@@ -15,7 +15,7 @@ impl Served {
     /// Delivers the message of this number. `NoSuchMessage` where none is in flight under it, and `Overtakes` where an older
     /// one of its endpoint holds it back. A Reset and, at an open unit, a Translation Request are answered by a message:
     /// `NumbersSpent` where no number is left for that, and `OutOfMemory` where a growth is refused.
-    pub fn deliver(&mut self, message: u64) -> Result<Answer, Refusal>
+    pub(crate) fn deliver(&mut self, message: u64) -> Result<Answer, Refusal>
         requires { IsSound self.old }
         ensures step { ByLabels self.old (step.Deliver message) result self.new }
         ensures memory { answers self.old (flight_of self.old message) ≡ false → result ≢ Err refusal.OutOfMemory }

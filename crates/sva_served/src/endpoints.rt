@@ -11,14 +11,14 @@ use sva_step::{Answer, Refusal};
 
 impl Served {
     /// An endpoint asks for a translation of this page under this PASID.
-    pub fn ask(&mut self, endpoint: u64, pasid: u64, page: u64) -> Result<Answer, Refusal>
+    pub(crate) fn ask(&mut self, endpoint: u64, pasid: u64, page: u64) -> Result<Answer, Refusal>
         ensures { ByLabels self.old (step.Ask endpoint pasid page) result self.new }
     {
         self.host.ask(endpoint, pasid, page)
     }
 
     /// An endpoint begins a use of the translation of this page that it holds, to write or only to read.
-    pub fn begin_use(
+    pub(crate) fn begin_use(
         &mut self,
         endpoint: u64,
         pasid: u64,
@@ -32,7 +32,7 @@ impl Served {
     }
 
     /// An endpoint ends the use in this slot, or is told that a reset ended it.
-    pub fn end_use(&mut self, endpoint: u64, slot: u64) -> Result<Answer, Refusal>
+    pub(crate) fn end_use(&mut self, endpoint: u64, slot: u64) -> Result<Answer, Refusal>
         ensures step { ByLabels self.old (step.EndUse endpoint slot) result self.new }
         ensures memory { result ≢ Err refusal.OutOfMemory }
     {
@@ -40,7 +40,7 @@ impl Served {
     }
 
     /// An endpoint lets go of the translation of this page that it holds.
-    pub fn evict(&mut self, endpoint: u64, pasid: u64, page: u64) -> Result<Answer, Refusal>
+    pub(crate) fn evict(&mut self, endpoint: u64, pasid: u64, page: u64) -> Result<Answer, Refusal>
         ensures step { ByLabels self.old (step.Evict endpoint pasid page) result self.new }
         ensures memory { result ≢ Err refusal.OutOfMemory }
     {
@@ -48,21 +48,26 @@ impl Served {
     }
 
     /// An endpoint sends this page request.
-    pub fn fault(&mut self, endpoint: u64, fault: &Fault) -> Result<Answer, Refusal>
+    pub(crate) fn fault(&mut self, endpoint: u64, fault: &Fault) -> Result<Answer, Refusal>
         ensures { ByLabels self.old (step.Fault endpoint fault.now.pasid fault.now.page fault.now.read fault.now.write fault.now.group fault.now.last) result self.new }
     {
         self.host.fault(endpoint, fault)
     }
 
     /// An endpoint completes the invalidations that this vector names, bit T for ITag T, by so many completions, 1 to 8.
-    pub fn finish(&mut self, endpoint: u64, vector: u32, count: u64) -> Result<Answer, Refusal>
+    pub(crate) fn finish(
+        &mut self,
+        endpoint: u64,
+        vector: u32,
+        count: u64,
+    ) -> Result<Answer, Refusal>
         ensures { ByLabels self.old (step.Finish endpoint vector count) result self.new }
     {
         self.host.finish(endpoint, vector, count)
     }
 
     /// An endpoint has stopped using this PASID, and says so.
-    pub fn quit(&mut self, endpoint: u64, pasid: u64) -> Result<Answer, Refusal>
+    pub(crate) fn quit(&mut self, endpoint: u64, pasid: u64) -> Result<Answer, Refusal>
         ensures { ByLabels self.old (step.Quit endpoint pasid) result self.new }
     {
         self.host.quit(endpoint, pasid)

@@ -10,7 +10,7 @@ use sva_step::{Answer, Refusal};
 
 impl Served {
     /// A worker takes the oldest job that waits.
-    pub fn take(&mut self, worker: u64) -> Result<Answer, Refusal>
+    pub(crate) fn take(&mut self, worker: u64) -> Result<Answer, Refusal>
         ensures step { ByLabels self.old (step.Take worker) result self.new }
         ensures memory { result ≢ Err refusal.OutOfMemory }
     {

@@ -14,7 +14,7 @@ impl Served {
     /// Files the oldest page request that waits at the unit of an endpoint, under the binding that bears its PASID; with the last
     /// one of its group a job is made, behind all others. `NoSuchEndpoint` where the endpoint isn't there, `Resetting` where its
     /// unit is in reset, and `OutOfMemory` where a growth is refused; none is asked for where no page request waits.
-    pub fn serve(&mut self, endpoint: u64) -> Result<Answer, Refusal>
+    pub(crate) fn serve(&mut self, endpoint: u64) -> Result<Answer, Refusal>
         requires { IsSound self.old }
         ensures step { ByLabels self.old (step.Serve endpoint) result self.new }
         ensures memory { (part_of self.old endpoint).page_queue ≡ [] → result ≢ Err refusal.OutOfMemory }

@@ -16,7 +16,7 @@ impl Served {
     /// no page request waits, else it stays. A frame that waits for this wait alone is free then. `NoSuchEndpoint` where the
     /// endpoint isn't there, `Resetting` where its unit is in reset, and where an invalidation is to be sent `NumbersSpent`
     /// where no number is left for it, and `OutOfMemory` where a growth is refused.
-    pub fn pump(&mut self, endpoint: u64) -> Result<Answer, Refusal>
+    pub(crate) fn pump(&mut self, endpoint: u64) -> Result<Answer, Refusal>
         ensures step { ByLabels self.old (step.Pump endpoint) result self.new }
         ensures memory { sends_invalidate (unit_of self.old endpoint) ≡ false → result ≢ Err refusal.OutOfMemory }
     {

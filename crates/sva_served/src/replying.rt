@@ -17,7 +17,7 @@ impl Served {
     /// Success maps each page that the job asks for and that isn't mapped. Where the binding is cut off, quiet or released, or
     /// the unit is in reset, nothing is sent, and no memory is taken. `NoSuchWorker` where the worker isn't there, and `NoJob`
     /// where it holds none; a job that is refused stays in its hand.
-    pub fn reply(&mut self, worker: u64, verdict: Verdict) -> Result<Answer, Refusal>
+    pub(crate) fn reply(&mut self, worker: u64, verdict: Verdict) -> Result<Answer, Refusal>
         requires sound { IsSound self.old }
         requires spaces { HaveSpaces self.old }
         ensures step { ByLabels self.old (step.Reply worker verdict) result self.new }

@@ -11,7 +11,7 @@ impl Served {
     /// open, and its jobs are off the queue; a job in a hand stays there. The unit isn't open until the endpoint has said that
     /// the reset is done. `NoSuchEndpoint` where the endpoint isn't there, `Resetting` where its unit is in reset already,
     /// `NumbersSpent` where no number is left for the Reset, and `OutOfMemory` where a growth is refused.
-    pub fn reset(&mut self, endpoint: u64) -> Result<Answer, Refusal>
+    pub(crate) fn reset(&mut self, endpoint: u64) -> Result<Answer, Refusal>
         ensures { ByLabels self.old (step.Reset endpoint) result self.new }
     {
         let answer = self.host.reset(endpoint)?;

@@ -13,14 +13,14 @@ use sva_step::{Answer, Refusal};
 
 impl Served {
     /// Begins a space, with the next number.
-    pub fn space(&mut self) -> Result<Answer, Refusal>
+    pub(crate) fn space(&mut self) -> Result<Answer, Refusal>
         ensures { ByLabels self.old step.Space result self.new }
     {
         self.host.space()
     }
 
     /// Ends a space that is bound nowhere: its frames are free.
-    pub fn drop_space(&mut self, space: u64) -> Result<Answer, Refusal>
+    pub(crate) fn drop_space(&mut self, space: u64) -> Result<Answer, Refusal>
         ensures step { ByLabels self.old (step.DropSpace space) result self.new }
         ensures memory { result ≢ Err refusal.OutOfMemory }
     {
@@ -28,14 +28,14 @@ impl Served {
     }
 
     /// Maps a page of a space to the lowest free frame.
-    pub fn map(&mut self, space: u64, page: u64, write: bool) -> Result<Answer, Refusal>
+    pub(crate) fn map(&mut self, space: u64, page: u64, write: bool) -> Result<Answer, Refusal>
         ensures { ByLabels self.old (step.Map space page write) result self.new }
     {
         self.host.map(space, page, write)
     }
 
     /// Where a frame is.
-    pub fn look(&self, frame: u64) -> Result<Answer, Refusal>
+    pub(crate) fn look(&self, frame: u64) -> Result<Answer, Refusal>
         ensures step { ByLabels self.now (step.Look frame) result self.now }
         ensures memory { result ≢ Err refusal.OutOfMemory }
     {
@@ -51,7 +51,7 @@ impl Served {
 
     /// Takes pages of a space in a row out: the units are asked to invalidate them, and their frames are free once every
     /// endpoint that may use them has answered.
-    pub fn unmap(&mut self, space: u64, page: u64, count: u64) -> Result<Answer, Refusal>
+    pub(crate) fn unmap(&mut self, space: u64, page: u64, count: u64) -> Result<Answer, Refusal>
         requires { IsSound self.old }
         ensures step { ByLabels self.old (step.Unmap space page count) result self.new }
         ensures memory { result ≢ Err refusal.OutOfMemory }
@@ -60,7 +60,12 @@ impl Served {
     }
 
     /// Takes the pages of a range out, those of its 2^`order` pages that are mapped. Their frames are free as after `unmap`.
-    pub fn unmap_range(&mut self, space: u64, page: u64, order: u64) -> Result<Answer, Refusal>
+    pub(crate) fn unmap_range(
+        &mut self,
+        space: u64,
+        page: u64,
+        order: u64,
+    ) -> Result<Answer, Refusal>
         requires { IsSound self.old }
         ensures step { ByLabels self.old (step.UnmapRange space page order) result self.new }
         ensures memory { result ≢ Err refusal.OutOfMemory }

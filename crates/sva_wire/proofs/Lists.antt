@@ -3,7 +3,7 @@ use Rattle.std.proofs.Common.{◌≡◌, ◌≢◌, ◌⊎◌, inl, inr, refl, a
 use Rattle.std.specs.Prelude.{if◌then◌else◌, ◌==◌, List, [], ◌∷◌, ◌++◌, length, replicate, slice_set}
 use Rattle.std.proofs.lemmas.List.{set-append_left, set_at, set_past, get_or_at, get_or_append_left, replicate_more}
 use Rattle.std.proofs.lemmas.Bool.Decides.{nat_tests}
-use Rattle.sva_model.specs.Words.{step_lowest, lowest, any_below, all_below, count_below, select, tabulate}
+use Rattle.sva_model.specs.Words.{step_lowest, lowest, any_below, all_below, select, tabulate}
 use Rattle.sva_model.specs.Wire.{PlaceWire}
 use Rattle.sva_laws.proofs.Words.{ℕ_cases}
 use Rattle.sva_wire.specs.Host.{is_free, lowest_free}
@@ -96,13 +96,13 @@ none_below (suc n) p h = ap₂ (λ b c. if c then true else b) (none_below n p (
 
 -- The lowest free place.
 
-one_more : (l n : ℕ) (b t : Bool) → (l == n) ≡ t → 1 + step_lowest t l n b ≡ step_lowest (suc l == suc n) (suc l) (suc n) b
+one_more : (l n : ℕ) (b t : Bool) → (l == n) ≡ t → suc (step_lowest t l n b) ≡ step_lowest (suc l == suc n) (suc l) (suc n) b
 one_more l n b true h = go b (next h)
   where
     next : (l == n) ≡ true → (suc l == suc n) ≡ true
     next h = grind (arith, nat_tests)
 
-    go : (b : Bool) → (suc l == suc n) ≡ true → 1 + step_lowest true l n b ≡ step_lowest (suc l == suc n) (suc l) (suc n) b
+    go : (b : Bool) → (suc l == suc n) ≡ true → suc (step_lowest true l n b) ≡ step_lowest (suc l == suc n) (suc l) (suc n) b
     go true e = omega arith ∙ sym (ap (λ t. step_lowest t (suc l) (suc n) true) e)
     go false e = omega arith ∙ sym (ap (λ t. step_lowest t (suc l) (suc n) false) e)
 one_more l n b false h = go (next h)
@@ -110,7 +110,7 @@ one_more l n b false h = go (next h)
     next : (l == n) ≡ false → (suc l == suc n) ≡ false
     next h = grind (arith, nat_tests)
 
-    go : (suc l == suc n) ≡ false → 1 + step_lowest false l n b ≡ step_lowest (suc l == suc n) (suc l) (suc n) b
+    go : (suc l == suc n) ≡ false → suc (step_lowest false l n b) ≡ step_lowest (suc l == suc n) (suc l) (suc n) b
     go e = omega arith ∙ sym (ap (λ t. step_lowest t (suc l) (suc n) b) e)
 
 differ : (n : ℕ) → (0 == suc n) ≡ false
@@ -120,19 +120,16 @@ lowest_free_push : (xs : List PlaceWire) (x : PlaceWire) → lowest_free (xs ++ 
     ≡ step_lowest (lowest_free xs == length xs) (lowest_free xs) (length xs) (is_free x)
 lowest_free_push [] x = go (is_free x)
   where
-    go : (b : Bool) → (if b then 0 else 1 + 0) ≡ step_lowest true 0 0 b
+    go : (b : Bool) → (if b then 0 else suc 0) ≡ step_lowest true 0 0 b
     go true = refl
     go false = refl
 lowest_free_push (y ∷ ys) x = go (is_free y) (lowest_free_push ys x)
   where
     go : (b : Bool) → lowest_free (ys ++ x ∷ []) ≡ step_lowest (lowest_free ys == length ys) (lowest_free ys) (length ys) (is_free x)
-        → (if b then 0 else 1 + lowest_free (ys ++ x ∷ []))
-        ≡ step_lowest ((if b then 0 else 1 + lowest_free ys) == suc (length ys)) (if b then 0 else 1 + lowest_free ys) (suc (length ys)) (is_free x)
+        → (if b then 0 else suc (lowest_free (ys ++ x ∷ [])))
+        ≡ step_lowest ((if b then 0 else suc (lowest_free ys)) == suc (length ys)) (if b then 0 else suc (lowest_free ys)) (suc (length ys)) (is_free x)
     go true h = sym (ap (λ t. step_lowest t 0 (suc (length ys)) (is_free x)) (differ (length ys)))
-    go false h =
-        let more : suc (lowest_free ys) ≡ 1 + lowest_free ys = omega arith in
-        ap (λ l. 1 + l) h ∙ one_more (lowest_free ys) (length ys) (is_free x) (lowest_free ys == length ys) refl
-        ∙ ap (λ l. step_lowest (l == suc (length ys)) l (suc (length ys)) (is_free x)) more
+    go false h = ap suc h ∙ one_more (lowest_free ys) (length ys) (is_free x) (lowest_free ys == length ys) refl
 
 pub lowest_free_is : (n : ℕ) (g : ℕ → PlaceWire) → lowest_free (tabulate n g) ≡ lowest n (λ f. is_free (g f))
 unfolding tabulate lowest

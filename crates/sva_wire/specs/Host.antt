@@ -1,5 +1,5 @@
 -- What a host keeps of spaces, pages and frames, looked up by number; and the law that this finds what the definitions find.
-use Rattle.std.specs.Prelude.{◌≡◌, ℕ, ◌+◌, Bool, true, false, ◌==◌, if◌then◌else◌, Option, Some, None, option_map, List, [], ◌∷◌}
+use Rattle.std.specs.Prelude.{◌≡◌, ℕ, suc, Bool, true, false, ◌==◌, if◌then◌else◌, Option, Some, None, option_map, List, [], ◌∷◌}
 use Rattle.sva_step.specs.declared.limits.Config.{Config}
 use Rattle.sva_step.specs.declared.steps.Step.{Step}
 use Rattle.sva_model.specs.State.{PasidRule}
@@ -18,6 +18,7 @@ abbrev pub page_at : List PageWire → (page : ℕ) → Option PageWire
 page_at [] q = None
 page_at (entry ∷ pages) q = if entry.page == q then Some entry else page_at pages q
 
+-- is the place free?
 abbrev pub is_free : PlaceWire → Bool
 is_free FreeWire = true
 is_free _ = false
@@ -25,7 +26,7 @@ is_free _ = false
 -- the lowest frame that is free; the number of frames where none is
 abbrev pub lowest_free : List PlaceWire → ℕ
 lowest_free [] = 0
-lowest_free (place ∷ places) = if is_free place then 0 else 1 + lowest_free places
+lowest_free (place ∷ places) = if is_free place then 0 else suc (lowest_free places)
 
 -- At each world that some list of steps leads to: a number has pages where it is that of a live space, and they are that
 -- space's; what stands at a page is the mapping there; and the lowest free frame is the lowest.

@@ -1,7 +1,9 @@
 ghost use Rattle.std.specs.Prelude.{◌≡◌, Ok, IsOk};
 ghost use Rattle.sva_endpoint.specs.Tables.{fresh};
-ghost use Rattle.sva_endpoint.specs.Steps.{asking, after_ask, lowest_tag, using, after_begin_use, ending, after_end_use, evicting, after_evict, may_send, faulting, after_fault, index_for, finishing, after_finish, quitting, after_quit};
-ghost use Rattle.sva_endpoint.specs.Deliveries.{answer_to, after_receive, answer_to_completion, after_completion, after_invalidate, answer_to_response, after_response};
+ghost use Rattle.sva_endpoint.specs.Steps.{asking, after_ask, lowest_tag, using, after_begin_use, ending, after_end_use, evicting, after_evict};
+ghost use Rattle.sva_endpoint.specs.Steps.{may_send, faulting, after_fault, index_for, finishing, after_finish, quitting, after_quit};
+ghost use Rattle.sva_endpoint.specs.Deliveries.{answer_to, after_receive, answer_to_completion, after_completion, after_invalidate};
+ghost use Rattle.sva_endpoint.specs.Deliveries.{answer_to_response, after_response};
 ghost use Rattle.sva_tables.specs.RequestTags.{request_at};
 ghost use Rattle.sva_tables.specs.Groups.{group_at};
 

@@ -1,4 +1,5 @@
-ghost use Rattle.sva_endpoint.specs.Laws.{AlwaysSound, TagsStayTaken, DoomedNeverHeld, FinishWaits, NotesExactly, InUseExactly, DeadUsesStay, ResetsEndUses, StaleGroupsStay, GroupsStay};
+ghost use Rattle.sva_endpoint.specs.Laws.{AlwaysSound, TagsStayTaken, DoomedNeverHeld, FinishWaits, NotesExactly, InUseExactly, DeadUsesStay};
+ghost use Rattle.sva_endpoint.specs.Laws.{ResetsEndUses, StaleGroupsStay, GroupsStay};
 
 /// What holds of an endpoint over every list of permitted calls: its limits; that a request's tag stays taken until its
 /// completion or a reset comes; that the answer to a doomed request is never cached; that no completion names an

@@ -1,4 +1,5 @@
-ghost use Rattle.std.specs.Prelude.{◌≡◌, ◌^◌, ◌↔◌, IsTrue, ◌<◌, ◌==◌, ℕ, true, List, Option, Some, None, IfOk, IfSome, IfNone, length, position, count_by, slice_get, slice_set, option_map};
+ghost use Rattle.std.specs.Prelude.{◌≡◌, ◌^◌, ◌↔◌, IsTrue, ◌<◌, ◌==◌, ℕ, true, List, Option, Some, None, IfOk, IfSome, IfNone, length, position};
+ghost use Rattle.std.specs.Prelude.{count_by, slice_get, slice_set, option_map};
 
 use crate::lane::{Lane, enter_all};
 use crate::ledger::{Ledger, Stage};

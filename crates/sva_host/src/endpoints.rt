@@ -78,7 +78,9 @@ impl Host {
 
     /// An endpoint sends this page request.
     pub fn fault(&mut self, endpoint: u64, fault: &Fault) -> Result<Answer, Refusal>
-        ensures { ByLabels self.old (step.Fault endpoint fault.now.pasid fault.now.page fault.now.read fault.now.write fault.now.group fault.now.last) result self.new }
+        ensures { ByLabels self.old
+            (step.Fault endpoint fault.now.pasid fault.now.page fault.now.read fault.now.write fault.now.group fault.now.last)
+            result self.new }
     {
         let at = self.port(endpoint)?;
         let faulting = self.kept.ports[at].device.may_fault(fault)?;

@@ -1,6 +1,7 @@
 //! The tags of a unit.
 ghost use Rattle.std.specs.Prelude.{◌≡◌, ℕ, ◌<◌, ◌≤◌, ◌↔◌, length, IsNone, IfSome, IsTrue, is_some, count_by};
-ghost use Rattle.sva_itags.specs.Tags.{IsPlace, AreTags, all_free, busy_vector, lowest_free, taken, counted, is_freed, after_completion, completed, freed_vector, IsBusy, Completes};
+ghost use Rattle.sva_itags.specs.Tags.{IsPlace, AreTags, all_free, busy_vector, lowest_free, taken, counted, is_freed, after_completion, completed};
+ghost use Rattle.sva_itags.specs.Tags.{freed_vector, IsBusy, Completes};
 ghost use Rattle.sva_itags.specs.Vector.{is_named};
 ghost use Rattle.sva_itags.specs.Calls.{AlwaysTags, FreedAtItsCount};
 

@@ -37,7 +37,7 @@ use Rattle.sva_kept.proofs.Units.{with_unit_seen}
 
 -- No group of page requests is filed at a host.
 
-no_groups : (ports : List Port) (e : ℕ) → (slice_index_or (map part_seen ports) e idle).host_groups ≡ []
+pub no_groups : (ports : List Port) (e : ℕ) → (slice_index_or (map part_seen ports) e idle).host_groups ≡ []
 no_groups [] e = refl
 no_groups (p ∷ ports) zero = refl
 no_groups (p ∷ ports) (suc e) = no_groups ports e

@@ -224,7 +224,7 @@ last_out (p ∷ bindings) e n b t none = go (last_out bindings e n b t) (p.bindi
         some wrong = cc
     go rest false is = ap (λ ps. p ∷ ps) (rest is)
 
-unsent_any : (bag after : InFlight) (e : ℕ) (kind : Kind) (r : Result (Unit {0}) Refusal) → Sends bag e kind 1 r after → is_err r ≡ true → after ≡ bag
+pub unsent_any : (bag after : InFlight) (e : ℕ) (kind : Kind) (r : Result (Unit {0}) Refusal) → Sends bag e kind 1 r after → is_err r ≡ true → after ≡ bag
 unsent_any bag after e kind (Ok a) sends is = absurd (cc (is))
 unsent_any bag after e kind (Err x) sends is = unsent_same bag after e kind 1 x sends
 

@@ -1,6 +1,6 @@
 -- A Stop Marker arrives, by labels.
 use Rattle.std.proofs.Common.{◌≡◌, refl, ap, sym, ◌∙◌, subst, ℕ, zero, suc, ◌<◌, Bool, true, false, arith}
-use Rattle.std.specs.Prelude.{cond, ◌==◌, ◌&&◌, not, Ok, Option, Some, None, option_map, List, [], ◌∷◌, find, slice_get}
+use Rattle.std.specs.Prelude.{cond, ◌==◌, ◌&&◌, not, Ok, Option, Some, None, List, [], ◌∷◌, find, slice_get}
 use Rattle.std.proofs.lemmas.Bool.Decides.{nat_tests}
 use Rattle.sva_step.specs.declared.answers.Answer.TheVariants as answer
 use Rattle.sva_step.specs.declared.refusals.Refusal.TheVariants as refusal
@@ -20,7 +20,6 @@ use Rattle.sva_pasid.specs.Places.{place_under}
 use Rattle.sva_pasid.specs.declared.places.Place.{Place}
 use Rattle.sva_views.specs.Bindings.{binding_seen}
 use Rattle.sva_views.specs.Flights.{flight_seen}
-use Rattle.sva_views.proofs.Bindings.{bindings_are_seen}
 use Rattle.sva_views.proofs.Flights.{flight_laws}
 use Rattle.sva_kept.specs.declared.kept.Kept.{Kept}
 use Rattle.sva_kept.specs.Arriving.{IsArriving}
@@ -29,6 +28,7 @@ use Rattle.sva_kept.specs.Stages.{IsIn, IsSeenIn, MovesTo}
 use Rattle.sva_kept.specs.Steps.{Does, ByLabels}
 use Rattle.sva_kept.proofs.Arriving.{stands}
 use Rattle.sva_kept.proofs.Bound.{is_found, stage_there, kind_in}
+pub use Rattle.sva_kept.proofs.Requested.{bearer_is as bearer_there}
 
 -- What is decided, by whether the unit is open.
 
@@ -63,12 +63,6 @@ pub markable : (v : Wire) (n e t : ℕ) → IsSound v → IsArriving v n e (Mark
 markable v n e t sound arriving is_open =
     let (k, there) = stands n v.in_flight (flight_seen (n, record { endpoint = e; kind = Marker t })) arriving.found in
     sound.flight_suits k (flight_seen (n, record { endpoint = e; kind = Marker t })) there is_open
-
-pub bearer_there : (host : Kept) (v : Wire) (e t : ℕ) (o : Option Place) → wire_of host ≡ v → o ≡ place_under e t host.bindings → bearer v e t
-    ≡ option_map binding_seen o
-bearer_there host v e t o view found =
-    ap (λ (w : Wire). bearer w e t) (sym view) ∙ sym (((bindings_are_seen host.bindings).0 (wire_of host) refl).by_pasid e t)
-    ∙ ap (option_map binding_seen) (sym found)
 
 pub none_borne : (v : Wire) (e t : ℕ) → IsMarkable v e t → bearer v e t ≡ None → ⊥
 none_borne v e t is none = both (sym none ∙ is.found)

@@ -6,7 +6,7 @@ use Rattle.sva_step.specs.declared.refusals.Refusal.{Refusal}
 use Rattle.sva_step.specs.declared.refusals.Refusal.TheVariants as refusal
 use Rattle.sva_step.specs.declared.steps.Step.TheVariants as step
 use Rattle.sva_model.specs.Message.{Message}
-use Rattle.sva_model.specs.Wire.{Wire, EndpointWire, FlightWire}
+use Rattle.sva_model.specs.Wire.{Wire, FlightWire}
 use Rattle.sva_labels.specs.Finding.{unit_of, bearer}
 use Rattle.sva_labels.specs.Causes.{lacks, numbers_spent, deliver_causes}
 use Rattle.sva_labels.specs.Host.{Decision, checked, decide_of}
@@ -32,6 +32,7 @@ use Rattle.sva_kept.proofs.Devices.{unsent_done}
 use Rattle.sva_kept.proofs.Ports.{IsPort}
 use Rattle.sva_kept.proofs.ResetMessages.{left_in_flight, older}
 use Rattle.sva_kept.proofs.Sent.{sent_decided}
+use Rattle.sva_kept.proofs.Waiting.{open_there as open_at}
 
 -- What is found.
 
@@ -58,9 +59,6 @@ decided : (w : Wire) (n e tag t q : ℕ) (b : Bool) → IsArriving w n e (Reques
 decided w n e tag t q b arriving is_open =
     ap (λ (o : Option FlightWire). checked (deliver_causes w o) (deliver_result w o)) arriving.found
     ∙ (λ i. if not (arriving.free i) then record { reply = Err refusal.Overtakes; moves = [] } else request_decision w n e tag t q (is_open i))
-
-open_at : (host : Kept) (e : ℕ) (port : Port) (b : Bool) → IsPort host e port → port.unit.unit.is_open ≡ b → (unit_of (wire_of host) e).is_open ≡ b
-open_at host e port b is is_open = ap (λ (p : EndpointWire). p.unit.is_open) is.part ∙ is_open
 
 pub unasked : (host : Kept) (v : Wire) (n e tag t q : ℕ) (port : Port) (bag : InFlight) → wire_of host ≡ v → IsNumbered host.in_flight → IsPort host e port
     → IsArriving v n e (Request tag t q) → port.unit.unit.is_open ≡ false → bag ≡ without host.in_flight n

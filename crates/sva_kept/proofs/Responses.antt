@@ -1,5 +1,5 @@
 -- What is answered to a job, by labels.
-use Rattle.std.proofs.Common.{◌≡◌, refl, ap, sym, ◌∙◌, subst, ℕ, zero, suc, ◌+◌, ◌<◌, ◌≤◌, ◌^◌, Bool, true, false, arith}
+use Rattle.std.proofs.Common.{◌≡◌, refl, ap, sym, ◌∙◌, subst, ℕ, suc, ◌+◌, ◌<◌, ◌≤◌, ◌^◌, Bool, true, false, arith}
 use Rattle.std.specs.Prelude.{◌&&◌, not, nat_lt, if◌then◌else◌, is_some, is_err, Result, Ok, Err, IsOk, IsErr, IsErrAnd, Option, Some, None, List, [], ◌∷◌}
 use Rattle.std.specs.Prelude.{◌++◌, map, filter, length, slice_set, slice_index_or}
 use Rattle.std.proofs.lemmas.List.{set-get_or}
@@ -40,15 +40,16 @@ use Rattle.sva_views.specs.Bindings.{stage_or_quiet, binding_seen}
 use Rattle.sva_views.specs.Flights.{kind_seen, code_seen}
 use Rattle.sva_views.specs.Service.{ask_seen, job_seen}
 use Rattle.sva_kept.specs.declared.kept.Kept.{Kept}
-use Rattle.sva_kept.specs.declared.kept.Port.{Port}
 use Rattle.sva_kept.specs.declared.replying.Response.{Response as Responding}
-use Rattle.sva_kept.specs.Inner.{part_seen, wire_of}
+use Rattle.sva_kept.specs.Inner.{wire_of}
 use Rattle.sva_kept.specs.Steps.{Does, Sends}
 use Rattle.sva_kept.specs.Replying.{responded_by, responded_of, success_maps, succeeded, turned_down, IsResponse}
 use Rattle.sva_kept.proofs.Deciding.{passed, refused_by}
 use Rattle.sva_kept.proofs.Refusing.{left_over, spent}
 use Rattle.sva_kept.proofs.Sent.{sent_seen, unsent_same, unsent, sent_decided}
 use Rattle.sva_kept.proofs.Devices.{is_err as is_error}
+use Rattle.sva_kept.proofs.Advances.{no_groups as none_filed}
+use Rattle.sva_kept.proofs.Binds.{unsent_any as unsent_bag}
 
 -- The response that is sent.
 
@@ -70,7 +71,7 @@ responds_some w job v c is = go (slice_index_or w.parts job.endpoint idle).unit.
     go o (Some b) is = by_stage o b.stage is
 
 -- or isn't
-responds_none : (w : Wire) (job : JobWire) (v : Verdict) → response_to w job v ≡ None → responds w job ≡ false
+pub responds_none : (w : Wire) (job : JobWire) (v : Verdict) → response_to w job v ≡ None → responds w job ≡ false
 responds_none w job v is = go (slice_index_or w.parts job.endpoint idle).unit.is_open (binding_of w job.binding) is
   where
     by_stage : (o : Bool) (s : StageWire) → response_by o s v ≡ None → is_some (response_by o s verdict.Invalid) ≡ false
@@ -141,10 +142,6 @@ never_silent w job v r is silent = two (sym (responds_some w job v (code_seen r.
 -- What a response leaves.
 
 -- no group is filed at a host
-none_filed : (ports : List Port) (e : ℕ) → (slice_index_or (map part_seen ports) e idle).host_groups ≡ []
-none_filed [] e = refl
-none_filed (p ∷ ports) zero = refl
-none_filed (p ∷ ports) (suc e) = none_filed ports e
 
 responds_leaves : (w : Wire) (job : JobWire) (t : ℕ) (c : Code) → (slice_index_or w.parts job.endpoint idle).host_groups ≡ []
     → moved w (Move.Respond job t c) ≡ sent job.endpoint (ResponseMessage t job.index c) w
@@ -252,10 +249,6 @@ pub unmapped_all : (host : Kept) (v : Wire) (job : Job) (n t : ℕ) (after : Mem
     → Does (succeeded v (job_seen job) n t) v (Err refusal.OutOfMemory) (wire_of (record host { memory = after }))
 unmapped_all host v job n t after view may under kept =
     without_memory host (record host { memory = after }) v job n t view may under (ap (λ (m : MemorySeen). wire_of (record host { memory = m })) kept)
-
-unsent_bag : (bag after : InFlight) (e : ℕ) (kind : Kind) (r : Result (Unit {0}) Refusal) → Sends bag e kind 1 r after → is_err r ≡ true → after ≡ bag
-unsent_bag bag after e kind (Ok a) sends is = absurd (cc (is))
-unsent_bag bag after e kind (Err x) sends is = unsent_same bag after e kind 1 x sends
 
 sent_bag : (bag after : InFlight) (e : ℕ) (kind : Kind) (r : Result (Unit {0}) Refusal) → Sends bag e kind 1 r after → is_err r ≡ false
     → after ≡ with_sent bag (record { endpoint = e; kind = kind }) 1

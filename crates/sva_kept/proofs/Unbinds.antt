@@ -1,12 +1,11 @@
 -- A space is unbound, by labels.
-use Rattle.std.proofs.Common.{◌≡◌, ◌≢◌, refl, ap, sym, ◌∙◌, subst, append-nil, ℕ, ◌+◌, ◌<◌, ◌≤◌, ◌^◌, true, false}
-use Rattle.std.specs.Prelude.{not, Result, Ok, Err, IsErr, IsErrAnd, Option, Some, None, List, [], ◌∷◌}
+use Rattle.std.proofs.Common.{◌≡◌, refl, ap, sym, ◌∙◌, subst, append-nil, ℕ, ◌+◌, ◌<◌, ◌≤◌, ◌^◌, true, false}
+use Rattle.std.specs.Prelude.{not, Result, Ok, Err, Option, Some, None, List, [], ◌∷◌}
 use Rattle.sva_step.specs.declared.answers.Answer.TheVariants as answer
 use Rattle.sva_step.specs.declared.refusals.Refusal.{Refusal}
 use Rattle.sva_step.specs.declared.refusals.Refusal.TheVariants as refusal
 use Rattle.sva_step.specs.declared.steps.Step.TheVariants as step
 use Rattle.sva_model.specs.Refusals.{Cause, unless_refused}
-use Rattle.sva_model.specs.Steps.{Reply}
 use Rattle.sva_model.specs.Wire.{Wire, BindingWire, StageWire}
 use Rattle.sva_model.specs.Wire.StageWire.{LiveWire, StoppingWire, DrainingWire, InvalidatingWire, QuietWire, LostWire}
 use Rattle.sva_labels.specs.Finding.{is_live, unit_of, binding_of}
@@ -30,9 +29,9 @@ use Rattle.sva_kept.specs.Steps.{Does, ByLabels, Sends}
 use Rattle.sva_kept.specs.Unbinding.{is_lost, ending_by, ending_of, MayUnbind}
 use Rattle.sva_kept.proofs.Bound.{number_is, stage_there, kind_in}
 use Rattle.sva_kept.proofs.Deciding.{IsOther, AreOther, all_clear, given, passed, refused_by}
-use Rattle.sva_kept.proofs.Devices.{is_err}
 use Rattle.sva_kept.proofs.Refusing.{refuses, allows, is_other, spent, left_over}
 use Rattle.sva_kept.proofs.Sent.{sent_seen}
+pub use Rattle.sva_kept.proofs.NeverForMemory.{not_for_memory as not_memory}
 
 -- What refuses it.
 
@@ -263,12 +262,6 @@ stopped host v n e t bag after view ends sends moves =
         })
 
 -- Memory is not wanted of a binding that is Lost.
-
-pub not_memory : (r : Reply) (x : Refusal) → IsErr r × IsErrAnd r (λ y. y ≡ x) → IsOther x → r ≢ Err refusal.OutOfMemory
-not_memory r x is other wrong = subst IsOther (same (sym (is_err r x is) ∙ wrong)) other
-  where
-    same : ◌≡◌ {A = Reply} (Err x) (Err refusal.OutOfMemory) → x ≡ refusal.OutOfMemory
-    same is = cc
 
 pub not_lost : (v : Wire) (n e t : ℕ) (b : BindingWire) → EndsByStop v n e t → binding_of v n ≡ Some b → b.stage ≡ LostWire → ⊥
 not_lost v n e t b ends found lost =

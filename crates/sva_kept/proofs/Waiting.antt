@@ -26,10 +26,11 @@ use Rattle.sva_kept.specs.declared.kept.Kept.{Kept}
 use Rattle.sva_kept.specs.declared.kept.Port.{Port}
 use Rattle.sva_kept.specs.Arriving.{IsArriving}
 use Rattle.sva_kept.specs.Inner.{wire_of}
-use Rattle.sva_kept.specs.Steps.{Does, ByLabels, PortFor}
+use Rattle.sva_kept.specs.Steps.{Does, ByLabels}
 use Rattle.sva_kept.proofs.Arrived.{here, suits}
 use Rattle.sva_kept.proofs.Ports.{IsPort}
 use Rattle.sva_kept.proofs.Units.{with_unit_in, with_part_seen}
+pub use Rattle.sva_kept.proofs.Heads.{place_for as port_for}
 
 -- a unit with this page request behind those that wait; without the first of them
 abbrev pub with_last : PageRequest → UnitSeen → UnitSeen
@@ -50,7 +51,7 @@ decided w n e r b arriving is_open =
     ap (λ (o : Option FlightWire). checked (deliver_causes w o) (deliver_result w o)) arriving.found
     ∙ (λ i. if not (arriving.free i) then record { reply = Err refusal.Overtakes; moves = [] } else decision n e r (is_open i))
 
-open_there : (host : Kept) (e : ℕ) (port : Port) (b : Bool) → IsPort host e port → port.unit.unit.is_open ≡ b → (unit_of (wire_of host) e).is_open ≡ b
+pub open_there : (host : Kept) (e : ℕ) (port : Port) (b : Bool) → IsPort host e port → port.unit.unit.is_open ≡ b → (unit_of (wire_of host) e).is_open ≡ b
 open_there host e port b is is_open = ap (λ (p : EndpointWire). p.unit.is_open) is.part ∙ is_open
 
 -- at an open unit there is a place for it
@@ -92,9 +93,6 @@ queued host n e r port bag numbered is arriving is_open taken =
 
 below_true : (a b : ℕ) → a < b → nat_lt a b ≡ true
 below_true a b h = grind (arith, nat_tests)
-
-pub port_for : (v : Wire) (e : ℕ) → e < length v.parts → PortFor v e (Ok e)
-port_for v e there = (refl, below_true e (length v.parts) there)
 
 pub first_taken : (host : Kept) (v : Wire) (e : ℕ) (port : Port) → wire_of host ≡ v → IsPort host e port
     → wire_of (with_unit_in host e port (without_first port.unit)) ≡ with_part v e (record (part_of v e) { page_queue = drop 1 (part_of v e).page_queue })

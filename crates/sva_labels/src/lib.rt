@@ -2,7 +2,9 @@
 #![tactic(auto)]
 
 ghost use Rattle.sva_labels.specs.Host.{LabelsAreNames, RunsByLabels};
-ghost use Rattle.sva_labels.specs.RowsByLabels.{TranslationsByLabels, InvalidationsByLabels, ResetsByLabels, PageRequestsByLabels, FinalRulesByLabels, DeliveriesByLabels, RefusalsByLabels, ReadingsByLabels, LimitsByLabels, BoundariesByLabels, NamesByLabels, WrongRulesByLabels, WhatStaysByLabels};
+ghost use Rattle.sva_labels.specs.RowsByLabels.{TranslationsByLabels, InvalidationsByLabels, ResetsByLabels, PageRequestsByLabels};
+ghost use Rattle.sva_labels.specs.RowsByLabels.{FinalRulesByLabels, DeliveriesByLabels, RefusalsByLabels, ReadingsByLabels, LimitsByLabels};
+ghost use Rattle.sva_labels.specs.RowsByLabels.{BoundariesByLabels, NamesByLabels, WrongRulesByLabels, WhatStaysByLabels};
 ghost use Rattle.sva_labels.specs.Sound.{AlwaysSound};
 ghost use Rattle.sva_labels.specs.Spaces.{AlwaysHaveSpaces};
 ghost use Rattle.sva_labels.specs.Tallies.{AlwaysTallied};

@@ -2,7 +2,10 @@
 #![tactic(auto)]
 
 ghost use Rattle.sva_model.specs.Claims.{AlwaysAgrees};
-ghost use Rattle.sva_laws.specs.Laws.{AlwaysOwned, AlwaysPresentOrWithheld, AlwaysMatched, AlwaysHoldsJobs, AlwaysDivided, AlwaysAddsUp, AlwaysWithheldExactly, FreeByTheLastAnswer, AlwaysTold, AlwaysToldOfRange, AlwaysGiven, AlwaysLabelled, AlwaysFound, AlwaysCarried, AlwaysUnderWay, NeverOccurring, AlwaysLimited, AlwaysKeepsLimits, AlwaysFindsMappings};
+ghost use Rattle.sva_laws.specs.Laws.{AlwaysOwned, AlwaysPresentOrWithheld, AlwaysMatched, AlwaysHoldsJobs, AlwaysDivided, AlwaysAddsUp};
+ghost use Rattle.sva_laws.specs.Laws.{AlwaysWithheldExactly, FreeByTheLastAnswer, AlwaysTold, AlwaysToldOfRange, AlwaysGiven, AlwaysLabelled};
+ghost use Rattle.sva_laws.specs.Laws.{AlwaysFound, AlwaysCarried, AlwaysUnderWay, NeverOccurring, AlwaysLimited, AlwaysKeepsLimits};
+ghost use Rattle.sva_laws.specs.Laws.{AlwaysFindsMappings};
 ghost use Rattle.sva_laws.specs.Answers.{AlwaysFinishes, AlwaysUses, AlwaysLooks, AlwaysFrees, AlwaysSucceeds};
 ghost use Rattle.sva_laws.specs.Steps.{AlwaysChangesOnePart, AlwaysDropsApart, AlwaysAnswersBy, AlwaysKeepsLatest, AlwaysKeepsBooks};
 ghost use Rattle.sva_laws.specs.Runs.{AlwaysLegalInFront, AlwaysLegalByAnswer, SameForOneEndpoint};

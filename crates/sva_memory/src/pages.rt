@@ -90,7 +90,8 @@ pub(crate) fn take_out(
     requires room { HaveRoom pool.old waits.now }
     ensures frames { result ≡ frames_of (pages_seen space.old) page count }
     ensures pages { pages_seen space.new ≡ without_pages page count (pages_seen space.old) }
-    ensures places { places_seen pool.new ≡ placed (place_for (targets_seen waits.now)) (filter (is_between page count) (pages_seen space.old)) (places_seen pool.old) }
+    ensures places { places_seen pool.new
+        ≡ placed (place_for (targets_seen waits.now)) (filter (is_between page count) (pages_seen space.old)) (places_seen pool.old) }
     ensures balanced { Balanced space.old pool.old space.new pool.new }
 {
     // How many pages the space has doesn't matter; it is read so that the contract knows that they rise.
@@ -151,7 +152,8 @@ pub(crate) fn take_mapped(
     requires room { HaveRoom pool.old waits.now }
     ensures frames { result ≡ count_mapped (pages_seen space.old) page count }
     ensures pages { pages_seen space.new ≡ without_pages page count (pages_seen space.old) }
-    ensures places { places_seen pool.new ≡ placed (place_for (targets_seen waits.now)) (filter (is_between page count) (pages_seen space.old)) (places_seen pool.old) }
+    ensures places { places_seen pool.new
+        ≡ placed (place_for (targets_seen waits.now)) (filter (is_between page count) (pages_seen space.old)) (places_seen pool.old) }
     ensures balanced { Balanced space.old pool.old space.new pool.new }
 {
     // Read for the same reason.

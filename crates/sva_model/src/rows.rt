@@ -1,19 +1,53 @@
 //! Runs that are worked out by hand: the definitions give these answers, line by line, and these counts of frames.
 
-ghost use Rattle.sva_model.specs.RowsOfTranslations.{SpacesAndFrames, PagesOfASpace, TwoBindings, DropOfASpace, Translations, FirstTranslation, HeldBackByAUse, LateAnswer, AnswersCrossed};
+ghost use Rattle.sva_model.specs.RowsOfTranslations.{SpacesAndFrames, PagesOfASpace, TwoBindings, DropOfASpace, Translations, FirstTranslation};
+ghost use Rattle.sva_model.specs.RowsOfTranslations.{HeldBackByAUse, LateAnswer, AnswersCrossed};
 ghost use Rattle.sva_model.specs.RowsOfInvalidations.{CountOfEight, OneVectorForThree, AllTagsBusy, UnbindStageByStage, UnmapWhileInvalidating};
 ghost use Rattle.sva_model.specs.RowsOfResets.{SilentEndpoint, ResetAndTags, OldJob, ResetOfALiveBinding, TwoEndpointsOneSilent};
 ghost use Rattle.sva_model.specs.RowsOfPageRequests.{PageRequestGroup, StaleGroup, DrainOfTwoRequests, Verdicts};
-ghost use Rattle.sva_model.specs.RowsOfLimits.{FramesPastTheLimit, RequestTagsSpent, UseSlotsSpent, CacheFull, PasidsSpent, PageNumbers, PageRequestsSpent, QueueOfSixtyFour, SpacesSpent, PagesOfAnUnmap, NumbersSpentAtTheEnd};
-ghost use Rattle.sva_model.specs.RowsOfRefusals.{FullSpaceReached, CausesOfSpace, CausesOfDropSpace, CausesOfMap, FullSpaceWithoutFrames, FullSpaceWithoutNumbers, CausesOfUnmap, FullQueueWhileStopping, FullQueueWhileDraining, CausesOfBind, BindInReset, CausesOfUnbind, UnbindWithoutNumbers, CausesOfAdvance, CausesAtAUnit, CausesOfWorkers, CausesOfAsk, CausesOfBeginUse, CausesOfEndUseAndEvict, CausesOfFault, FaultWhereDisabled, CausesOfFinish, CausesOfQuit, QuitWithoutNumbers, CausesOfDeliver, CausesOfLook, NoNumberAtAll, BindingsSpent, CookiesOfTwoUnits, CookiesWhileDraining, PumpWithoutNumbers, PumpWithoutTagsAndNumbers, VerdictsWithoutNumbers, DroppedWithoutNumbers, LostWithoutNumbers};
-ghost use Rattle.sva_model.specs.RowsOfDeliveries.{EachKindAtAnOpenUnit, StartAndStopInReset, StartBeforeTheReset, InvalidateInReset, ResponseInReset, StaleResponseInReset, CompletionsInReset, CompletionsAtAnOpenUnit, DoomedWithoutTranslation, CacheFullInReset, ResponsesByCode, MessagesUpInReset, VectorsOfTwoCounts, OwnReset, EachKindAsSent, CountFieldsAsSent};
-ghost use Rattle.sva_model.specs.RowsOfReadings.{LastRequestPastAMarker, MarkerPastAMarker, RequestWithoutLIsNotOrdered, AdvanceOfALiveBinding, AdvanceOfALostBinding, OneNumberOfEachKind, UnmapPastTheLastPage, UnmapWhileDrainedInReset, UnmapWhileInvalidatingInReset, UnmapAfterTheInvalidation, PageNamedTwice, PageRequestForNeither, OtherVerdictsNeedNoFrame, SuccessThatIsNone, JobOfALostBinding, DrainWaitsForOtherPasids, WaitOfAnUnmapDoesNotDrain, StaleGroupsKeepTheirRequests, UnfinishedWhereDisabled, UnfinishedWithoutCredit, GroupWhileStopping, GroupOfAnotherPasid, SecondReset, DoomedRequestsAreOut, FailureBeforeTheStop, EarlierWaitsInReset, OrdersDownStayInOrder, StopBehindAnInvalidate};
-ghost use Rattle.sva_model.specs.RowsOfNames.{NumbersApart, NumbersApartAsSent, NumbersApartAsOrdered, OtherEndpointAsOrdered, CookiesOfTheFirst, CookiesOfTheOneInReset, CookiesOfTheLast, NoTranslationAsSent, FullQueueOfOneUnit, NumbersBelowTheFirst, JobsOfTwoEndpoints, QuitOfOneOfTwo, SecondJobOfAnEndpoint, FullQueueOfABinding, PastOlderMessages, NewerAnswerInPlace, SecondUnmap, TagsGivenBack, NumbersApartAsAsked};
-ghost use Rattle.sva_model.specs.RowsOfBoundaries.{MessagesSpentBeforeBindings, LastNumberOfAReset, LastNumberOfACompletion, LastCookieOfADrain, LastCookieOfAnInvalidation, NoCookieInReset, QuietNeedsNoRoom, FullSpaceAndAnother, LastPageAndLastFrame, GreatestPage, HeldBeforeWritable, LastSlotAndLastTag, StagesInReset, UnmapInEachStage, UnmapWhileStoppingInReset, WaitsAfterAnEarlyReset, CreditAfterAReset, OrdersOverAfterAReset, LabelsBackInReset};
-ghost use Rattle.sva_model.specs.RowsOfWrongRules.{NotFreeWhenSent, NotFreeWhenTaken, NotFreeAtTheReset, NotFreeWhenUnmappedInReset, NotFreedAtTheFirstOfTwo, NotNoneOfEight, DoomedAnswerNotKept, DoomedAnswerNotKeptLater, DoomedTagNotGivenBack, NotFinishedWhileAUseRuns, NoUseHeldAgainstAnother, NoDrainPastAPageRequest, NoResponseByAnUnbind, NoResponseInReset, NotWithheldPastTheLastWait, NoPageInvalidationWhileInvalidating, NotFreeWhileInvalidating, NoResetDonePastOlderMessages, NotReleasedWhileInvalidating, NotReleasedWhileQuiet, NoMarkerPastPageRequests, NoWaitPastABusyTag, NoUseLeftByAReset, NoIndexGivenBackByAQuit, NoQuitWhileAUseRuns, NoQuitWhileARequestIsOut, NoTranslationWhileStopping, NoTranslationOfAnotherSpace, NothingElseInvalidated, NothingOfAPasidLeft};
+ghost use Rattle.sva_model.specs.RowsOfLimits.{FramesPastTheLimit, RequestTagsSpent, UseSlotsSpent, CacheFull, PasidsSpent, PageNumbers};
+ghost use Rattle.sva_model.specs.RowsOfLimits.{PageRequestsSpent, QueueOfSixtyFour, SpacesSpent, PagesOfAnUnmap, NumbersSpentAtTheEnd};
+ghost use Rattle.sva_model.specs.RowsOfRefusals.{FullSpaceReached, CausesOfSpace, CausesOfDropSpace, CausesOfMap, FullSpaceWithoutFrames};
+ghost use Rattle.sva_model.specs.RowsOfRefusals.{FullSpaceWithoutNumbers, CausesOfUnmap, FullQueueWhileStopping, FullQueueWhileDraining};
+ghost use Rattle.sva_model.specs.RowsOfRefusals.{CausesOfBind, BindInReset, CausesOfUnbind, UnbindWithoutNumbers, CausesOfAdvance, CausesAtAUnit};
+ghost use Rattle.sva_model.specs.RowsOfRefusals.{CausesOfWorkers, CausesOfAsk, CausesOfBeginUse, CausesOfEndUseAndEvict, CausesOfFault};
+ghost use Rattle.sva_model.specs.RowsOfRefusals.{FaultWhereDisabled, CausesOfFinish, CausesOfQuit, QuitWithoutNumbers, CausesOfDeliver, CausesOfLook};
+ghost use Rattle.sva_model.specs.RowsOfRefusals.{NoNumberAtAll, BindingsSpent, CookiesOfTwoUnits, CookiesWhileDraining, PumpWithoutNumbers};
+ghost use Rattle.sva_model.specs.RowsOfRefusals.{PumpWithoutTagsAndNumbers, VerdictsWithoutNumbers, DroppedWithoutNumbers, LostWithoutNumbers};
+ghost use Rattle.sva_model.specs.RowsOfDeliveries.{EachKindAtAnOpenUnit, StartAndStopInReset, StartBeforeTheReset, InvalidateInReset};
+ghost use Rattle.sva_model.specs.RowsOfDeliveries.{ResponseInReset, StaleResponseInReset, CompletionsInReset, CompletionsAtAnOpenUnit};
+ghost use Rattle.sva_model.specs.RowsOfDeliveries.{DoomedWithoutTranslation, CacheFullInReset, ResponsesByCode, MessagesUpInReset};
+ghost use Rattle.sva_model.specs.RowsOfDeliveries.{VectorsOfTwoCounts, OwnReset, EachKindAsSent, CountFieldsAsSent};
+ghost use Rattle.sva_model.specs.RowsOfReadings.{LastRequestPastAMarker, MarkerPastAMarker, RequestWithoutLIsNotOrdered, AdvanceOfALiveBinding};
+ghost use Rattle.sva_model.specs.RowsOfReadings.{AdvanceOfALostBinding, OneNumberOfEachKind, UnmapPastTheLastPage, UnmapWhileDrainedInReset};
+ghost use Rattle.sva_model.specs.RowsOfReadings.{UnmapWhileInvalidatingInReset, UnmapAfterTheInvalidation, PageNamedTwice, PageRequestForNeither};
+ghost use Rattle.sva_model.specs.RowsOfReadings.{OtherVerdictsNeedNoFrame, SuccessThatIsNone, JobOfALostBinding, DrainWaitsForOtherPasids};
+ghost use Rattle.sva_model.specs.RowsOfReadings.{WaitOfAnUnmapDoesNotDrain, StaleGroupsKeepTheirRequests, UnfinishedWhereDisabled};
+ghost use Rattle.sva_model.specs.RowsOfReadings.{UnfinishedWithoutCredit, GroupWhileStopping, GroupOfAnotherPasid, SecondReset, DoomedRequestsAreOut};
+ghost use Rattle.sva_model.specs.RowsOfReadings.{FailureBeforeTheStop, EarlierWaitsInReset, OrdersDownStayInOrder, StopBehindAnInvalidate};
+ghost use Rattle.sva_model.specs.RowsOfNames.{NumbersApart, NumbersApartAsSent, NumbersApartAsOrdered, OtherEndpointAsOrdered, CookiesOfTheFirst};
+ghost use Rattle.sva_model.specs.RowsOfNames.{CookiesOfTheOneInReset, CookiesOfTheLast, NoTranslationAsSent, FullQueueOfOneUnit};
+ghost use Rattle.sva_model.specs.RowsOfNames.{NumbersBelowTheFirst, JobsOfTwoEndpoints, QuitOfOneOfTwo, SecondJobOfAnEndpoint, FullQueueOfABinding};
+ghost use Rattle.sva_model.specs.RowsOfNames.{PastOlderMessages, NewerAnswerInPlace, SecondUnmap, TagsGivenBack, NumbersApartAsAsked};
+ghost use Rattle.sva_model.specs.RowsOfBoundaries.{MessagesSpentBeforeBindings, LastNumberOfAReset, LastNumberOfACompletion, LastCookieOfADrain};
+ghost use Rattle.sva_model.specs.RowsOfBoundaries.{LastCookieOfAnInvalidation, NoCookieInReset, QuietNeedsNoRoom, FullSpaceAndAnother};
+ghost use Rattle.sva_model.specs.RowsOfBoundaries.{LastPageAndLastFrame, GreatestPage, HeldBeforeWritable, LastSlotAndLastTag, StagesInReset};
+ghost use Rattle.sva_model.specs.RowsOfBoundaries.{UnmapInEachStage, UnmapWhileStoppingInReset, WaitsAfterAnEarlyReset, CreditAfterAReset};
+ghost use Rattle.sva_model.specs.RowsOfBoundaries.{OrdersOverAfterAReset, LabelsBackInReset};
+ghost use Rattle.sva_model.specs.RowsOfWrongRules.{NotFreeWhenSent, NotFreeWhenTaken, NotFreeAtTheReset, NotFreeWhenUnmappedInReset};
+ghost use Rattle.sva_model.specs.RowsOfWrongRules.{NotFreedAtTheFirstOfTwo, NotNoneOfEight, DoomedAnswerNotKept, DoomedAnswerNotKeptLater};
+ghost use Rattle.sva_model.specs.RowsOfWrongRules.{DoomedTagNotGivenBack, NotFinishedWhileAUseRuns, NoUseHeldAgainstAnother, NoDrainPastAPageRequest};
+ghost use Rattle.sva_model.specs.RowsOfWrongRules.{NoResponseByAnUnbind, NoResponseInReset, NotWithheldPastTheLastWait};
+ghost use Rattle.sva_model.specs.RowsOfWrongRules.{NoPageInvalidationWhileInvalidating, NotFreeWhileInvalidating, NoResetDonePastOlderMessages};
+ghost use Rattle.sva_model.specs.RowsOfWrongRules.{NotReleasedWhileInvalidating, NotReleasedWhileQuiet, NoMarkerPastPageRequests, NoWaitPastABusyTag};
+ghost use Rattle.sva_model.specs.RowsOfWrongRules.{NoUseLeftByAReset, NoIndexGivenBackByAQuit, NoQuitWhileAUseRuns, NoQuitWhileARequestIsOut};
+ghost use Rattle.sva_model.specs.RowsOfWrongRules.{NoTranslationWhileStopping, NoTranslationOfAnotherSpace, NothingElseInvalidated};
+ghost use Rattle.sva_model.specs.RowsOfWrongRules.{NothingOfAPasidLeft};
 ghost use Rattle.sva_model.specs.RowsOfFinalRules.{RangeOfEight, CausesOfUnmapRange, OnePasidForEachSpace};
 ghost use Rattle.sva_model.specs.RowsOfWire.{InvalidationsUnderWay, GroupsUnderWay, TwoTargets, Drained};
-ghost use Rattle.sva_model.specs.RowsOfWhatStays.{SamePageOfTwoPasids, EvictOfOnePage, NoTranslationBesideAnOlder, CacheFullOfTwo, UnmappedWhileInvalidating, OneOfTwoAnswered, UseBehindAnInvalidation, CachedByPasid, GroupFiledInPart, SecondGroupOfAnIndex, NothingElseIsOrdered};
+ghost use Rattle.sva_model.specs.RowsOfWhatStays.{SamePageOfTwoPasids, EvictOfOnePage, NoTranslationBesideAnOlder, CacheFullOfTwo};
+ghost use Rattle.sva_model.specs.RowsOfWhatStays.{UnmappedWhileInvalidating, OneOfTwoAnswered, UseBehindAnInvalidation, CachedByPasid};
+ghost use Rattle.sva_model.specs.RowsOfWhatStays.{GroupFiledInPart, SecondGroupOfAnIndex, NothingElseIsOrdered};
 
 /// What a host keeps after a run.
 pub fn kept()

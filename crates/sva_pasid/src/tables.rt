@@ -48,7 +48,8 @@ impl Model for Table {
 
 impl Table {
     ghost use Rattle.sva_pasid.specs.Stages.{numbers_of};
-    ghost use Rattle.sva_pasid.specs.Places.{place_of, place_under, place_between, is_bound, bearer_of, stage_of, with_stage, without, lowest, IsLowest, IsOutOfPasids, begun, after_reset, IsLiveIn, Awaits, IsTable};
+    ghost use Rattle.sva_pasid.specs.Places.{place_of, place_under, place_between, is_bound, bearer_of, stage_of, with_stage, without, lowest};
+    ghost use Rattle.sva_pasid.specs.Places.{IsLowest, IsOutOfPasids, begun, after_reset, IsLiveIn, Awaits, IsTable};
 
     /// A table with no binding.
     pub fn new(alloc: Global) -> Table

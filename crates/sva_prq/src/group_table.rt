@@ -1,7 +1,8 @@
 ghost use Rattle.std.specs.Prelude.{◌≡◌, Bool, ℕ, ◌+◌, ◌<◌, ◌≤◌, true, false, length, Some, None, IsOk, OnOk, OnErr, IfSome, IfNone, slice_index_or};
 ghost use Rattle.slab.specs.Slab.{get, slab_len, ContainsKey, Updates};
 ghost use Rattle.sva_prq.specs.Slots.{IsAt, IsTest, MayHold, passes_at, cell_of as cell_for};
-ghost use Rattle.sva_prq.specs.Groups.{OpenGroup, no_groups, is_collecting, has_job, is_of_binding, is_of_unit, is_open, new_group, with_request, job_of, CanFile, filed, job_made, with_room, after_answer, without_unit};
+ghost use Rattle.sva_prq.specs.Groups.{OpenGroup, no_groups, is_collecting, has_job, is_of_binding, is_of_unit, is_open, new_group, with_request};
+ghost use Rattle.sva_prq.specs.Groups.{job_of, CanFile, filed, job_made, with_room, after_answer, without_unit};
 
 use crate::jobs::{Ask, Job, MOST_ASKS};
 use arrayvec::ArrayVec;

@@ -1,5 +1,6 @@
 ghost use Rattle.sva_prq.specs.Queue.{IsFirstInFirstOut, NeverOverflows};
-ghost use Rattle.sva_prq.specs.GroupCalls.{JobsHoldTheirRequests, GroupsAreBounded, UnfinishedGroupsDiffer, OpenGroupsAreSeen, SerialsAreNew, SerialsDiffer, OpenIsExact};
+ghost use Rattle.sva_prq.specs.GroupCalls.{JobsHoldTheirRequests, GroupsAreBounded, UnfinishedGroupsDiffer, OpenGroupsAreSeen, SerialsAreNew};
+ghost use Rattle.sva_prq.specs.GroupCalls.{SerialsDiffer, OpenIsExact};
 
 /// What holds of a page request queue after every list of permitted calls.
 pub fn queue_laws()

@@ -18,10 +18,9 @@ use Rattle.sva_model.specs.Outcomes.{code_answer}
 use Rattle.sva_model.specs.Replies.{is_success}
 use Rattle.sva_model.specs.Refusals.{Cause}
 use Rattle.sva_model.specs.Steps.{Reply}
-use Rattle.sva_model.specs.Wire.{Wire, EndpointWire, BindingWire, StageWire, AskWire, HostGroupWire, JobWire}
-use Rattle.sva_model.specs.Wire.StageWire.{LiveWire, StoppingWire, DrainingWire, InvalidatingWire, QuietWire, LostWire}
-use Rattle.sva_labels.specs.Finding.{idle, part_of, unit_of, is_space, pages_in, free_from, binding_of, held_by}
-use Rattle.sva_labels.specs.Replying.{is_write_asked, response_by, response_for, response_to, responds, replies_success, space_of_job, newly_mapped}
+use Rattle.sva_model.specs.Wire.{Wire, EndpointWire, BindingWire, AskWire, HostGroupWire, JobWire}
+use Rattle.sva_labels.specs.Finding.{idle, part_of, is_space, pages_in, free_from, binding_of, held_by}
+use Rattle.sva_labels.specs.Replying.{is_write_asked, response_for, response_to, responds, replies_success, space_of_job, newly_mapped}
 use Rattle.sva_labels.specs.Replying.{is_write_of_read_only}
 use Rattle.sva_labels.specs.Causes.{lacks, reply_causes}
 use Rattle.sva_labels.specs.Host.{Decision, checked, decide_of, reply_of}
@@ -49,6 +48,7 @@ use Rattle.sva_served.proofs.Hosting.{moves_nothing}
 use Rattle.sva_served.proofs.Resetting.{accepted}
 use Rattle.sva_served.proofs.Takes.{worker_there}
 use Rattle.sva_served.proofs.Housed.{housed_still, housed_answered}
+use Rattle.sva_kept.proofs.Responses.{responds_none}
 
 -- The job, and what is decided of it.
 
@@ -206,21 +206,6 @@ dropped workers s x w same =
     λ i. record w { parts = parts_with (λ e. same e i) w.parts; jobs = service_answers.jobs s x i; hands = service_answers.hands workers s x i }
 
 -- where no response is sent, none would be, whatever is decided
-responds_none : (w : Wire) (job : JobWire) (v : Verdict) → response_to w job v ≡ None → responds w job ≡ false
-responds_none w job v is = go (unit_of w job.endpoint).is_open (binding_of w job.binding) is
-  where
-    by_stage : (o : Bool) (s : StageWire) → response_by o s v ≡ None → is_some (response_by o s verdict.Invalid) ≡ false
-    by_stage true LiveWire is = absurd (cc (is))
-    by_stage true (StoppingWire marked) is = absurd (cc (is))
-    by_stage true (DrainingWire cookie) is = absurd (cc (is))
-    by_stage true (InvalidatingWire cookie) is = refl
-    by_stage true QuietWire is = refl
-    by_stage true LostWire is = refl
-    by_stage false s is = refl
-
-    go : (o : Bool) (b : Option BindingWire) → response_for o b v ≡ None → is_some (response_for o b verdict.Invalid) ≡ false
-    go o None is = refl
-    go o (Some b) is = by_stage o b.stage is
 
 answer_seen : (served : Inside) (x : ℕ) (job : Job) → IsServed served → IsHeld served x job → AnswerIsSeen served.service x job
 answer_seen served x job h is = service_answers.groups served.workers served.service x job h.sound is.held

@@ -49,7 +49,9 @@ impl Served {
 
     /// An endpoint sends this page request.
     pub(crate) fn fault(&mut self, endpoint: u64, fault: &Fault) -> Result<Answer, Refusal>
-        ensures { ByLabels self.old (step.Fault endpoint fault.now.pasid fault.now.page fault.now.read fault.now.write fault.now.group fault.now.last) result self.new }
+        ensures { ByLabels self.old
+            (step.Fault endpoint fault.now.pasid fault.now.page fault.now.read fault.now.write fault.now.group fault.now.last)
+            result self.new }
     {
         self.host.fault(endpoint, fault)
     }

@@ -125,7 +125,8 @@ impl Model for GroupTable {
 }
 
 impl GroupTable {
-    ghost use Rattle.sva_tables.specs.Groups.{no_groups, group_at, is_free, is_collecting, requests_of, outstanding as outstanding_of, group_of, with_request, stale_of};
+    ghost use Rattle.sva_tables.specs.Groups.{no_groups, group_at, is_free, is_collecting, requests_of, outstanding as outstanding_of, group_of};
+    ghost use Rattle.sva_tables.specs.Groups.{with_request, stale_of};
 
     /// No group is there.
     pub fn new() -> Self

@@ -4,9 +4,9 @@ use Rattle.std.specs.Prelude.{slice_get, IfSome}
 use Rattle.std.proofs.lemmas.Option.{slice_get_within}
 use Rattle.sva_step.specs.declared.limits.Config.{Config}
 use Rattle.sva_step.specs.declared.steps.Step.{Step}
-use Rattle.sva_fabric.specs.declared.journal.Entry.{Entry}
+use Rattle.sva_journal.specs.declared.journal.Entry.{Entry}
 use Rattle.sva_fabric.specs.declared.receipts.Receipt.{Receipt}
-use Rattle.sva_fabric.specs.Journal.{History, IsLegal, entry_of, with_entry}
+use Rattle.sva_journal.specs.Journal.{History, IsLegal, entry_of, with_entry}
 use Rattle.sva_fabric.specs.Receipts.{Stands, AreRising, IsAnswered, IsAnsweredAt, last_of, entry_told}
 
 get_before : {A : Type 0} (xs ys : List A) (k : ℕ) (x : A) → slice_get xs k ≡ Some x → slice_get (xs ++ ys) k ≡ Some x

@@ -2,13 +2,13 @@
 use Rattle.std.specs.Prelude.{◌≡◌, ◌≤◌, ◌⊎◌, ℕ, ◌+◌, Result, Ok, Err, List, [], ◌∷◌, ◌++◌, length}
 use Rattle.sva_step.specs.declared.limits.Config.{Config}
 use Rattle.sva_model.specs.Steps.{counts}
-use Rattle.sva_fabric.specs.declared.journal.Entry.{Entry}
+use Rattle.sva_journal.specs.declared.journal.Entry.{Entry}
 use Rattle.sva_fabric.specs.declared.receipts.Receipt.{Receipt}
 use Rattle.sva_fabric.specs.declared.ports.Ports.{Ports}
 use Rattle.sva_fabric.specs.declared.tokens.Tokens.{Tokens}
 use Rattle.sva_fabric.specs.declared.audits.Audit.{Audit}
 use Rattle.sva_fabric.specs.declared.audits.FirstBadReceipt.{FirstBadReceipt}
-use Rattle.sva_fabric.specs.Journal.{History, IsLegal, world_of, bindings_of, uses_of}
+use Rattle.sva_journal.specs.Journal.{History, IsLegal, world_of, bindings_of, uses_of}
 use Rattle.sva_fabric.specs.Receipts.{Seat, Stands, new_seat, seats_from}
 
 -- the ports in the order of their numbers

@@ -2,11 +2,11 @@
 use Rattle.std.specs.Prelude.{◌≡◌, ◌≢◌, ◌<◌, ◌-◌, ℕ, zero, suc, ◌+◌, Option, Some, List, [], ◌∷◌, ◌++◌, length, slice_get, IfSome, IsSomeAnd}
 use Rattle.sva_step.specs.declared.limits.Config.{Config}
 use Rattle.sva_step.specs.declared.steps.Step.{Step}
-use Rattle.sva_fabric.specs.declared.journal.Entry.{Entry}
+use Rattle.sva_journal.specs.declared.journal.Entry.{Entry}
 use Rattle.sva_fabric.specs.declared.receipts.Receipt.{Receipt}
 use Rattle.sva_fabric.specs.declared.running.StepFault.{StepFault}
 use Rattle.sva_fabric.specs.declared.running.StepFault.TheVariants as fault
-use Rattle.sva_fabric.specs.Journal.{History, IsLegal, entry_of, answer_of}
+use Rattle.sva_journal.specs.Journal.{History, IsLegal, entry_of, answer_of}
 
 -- a port: its number, and the receipts of its calls
 pub record Seat : Type 0 where

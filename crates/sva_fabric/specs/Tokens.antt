@@ -13,7 +13,7 @@ use Rattle.sva_fabric.specs.declared.faults.Fault.TheVariants as fault
 use Rattle.sva_fabric.specs.declared.tokens.Moved.{Moved}
 use Rattle.sva_fabric.specs.declared.tokens.Moved.TheVariants as moved
 use Rattle.sva_fabric.specs.Receipts.{Seat, IsAnswered, IsRefused, last_of}
-use Rattle.sva_fabric.specs.Suiting.{IsUnbound, IsMoved}
+use Rattle.sva_journal.specs.Suiting.{IsUnbound, IsMoved}
 
 -- the numbers of a lease, as the bind's answer has them
 pub record LeaseNumbers : Type 0 where

@@ -5,7 +5,7 @@ ghost use Rattle.sva_step.specs.Steps.{is_plain};
 ghost use Rattle.sva_step.specs.declared.refusals.Refusal.TheVariants as refusal;
 ghost use Rattle.sva_step.specs.Limits.{Fits};
 ghost use Rattle.sva_core.specs.Reached.{IsOpenRefusal};
-ghost use Rattle.sva_fabric.specs.Suiting.{Suits};
+ghost use Rattle.sva_journal.specs.Suiting.{Suits};
 ghost use Rattle.sva_fabric.specs.Receipts.{last_of, IsAnswered, IsRefused};
 ghost use Rattle.sva_fabric.specs.Audits.{held_by, used_by, seats_of, IsFinished, new_seats};
 

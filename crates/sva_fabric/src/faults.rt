@@ -1,6 +1,6 @@
 //! Why a call with a token failed.
 
-use crate::journal::Entry;
+use sva_journal::Entry;
 use sva_step::Refusal;
 
 /// Why a call made, moved or spent no token.

@@ -3,7 +3,7 @@
 ghost use Rattle.std.specs.Prelude.{◌≡◌, IfOk, IfErr, IfSome, IfNone, Ok, Some, true, false};
 ghost use Rattle.sva_step.specs.declared.answers.Answer.TheVariants as answer;
 ghost use Rattle.sva_step.specs.declared.steps.Step.TheVariants as step;
-ghost use Rattle.sva_fabric.specs.Suiting.{SuitsStep, IsAdvanced, IsBinding, IsMoved, IsUse, IsOver};
+ghost use Rattle.sva_journal.specs.Suiting.{SuitsStep, IsAdvanced, IsBinding, IsMoved, IsUse, IsOver};
 ghost use Rattle.sva_fabric.specs.Tokens.{HasCalled, HasUnbound, IsAdvance, IsFault};
 
 use crate::fabric::Fabric;

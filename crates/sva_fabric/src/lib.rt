@@ -7,25 +7,22 @@ mod fabric;
 mod faults;
 mod gathering;
 mod holding;
-mod journal;
 mod opening;
 mod port;
 mod ports;
 mod receipts;
 mod running;
 mod tally;
-#[cfg(test)]
-mod tests;
 mod tokens;
 
 pub use audits::{Audit, FirstBadReceipt};
 pub use fabric::Fabric;
 pub use faults::Fault;
-pub use journal::{Entry, Journaled};
 pub use opening::ports_of;
 pub use port::Port;
 pub use ports::Ports;
 pub use receipts::Receipt;
 pub use running::{Running, StepFault};
+pub use sva_journal::{Entry, Journaled};
 pub use tally::Tally;
 pub use tokens::{Lease, Leaving, Moved, Tokens, UseTicket};

@@ -4,13 +4,12 @@ ghost use Rattle.std.specs.Prelude.{◌≡◌, ◌↔◌, ◌+◌, ◌^◌, ◌<
 ghost use Rattle.sva_step.specs.declared.refusals.Refusal.TheVariants as refusal;
 ghost use Rattle.sva_step.specs.Limits.{Fits};
 ghost use Rattle.sva_core.specs.Reached.{IsOpenRefusal};
-ghost use Rattle.sva_fabric.specs.Journal.{IsLegal, bindings_of, uses_of, entry_of, with_entry, empty_of};
-ghost use Rattle.sva_fabric.specs.Suiting.{Suits};
-ghost use Rattle.sva_fabric.specs.Receipts.{Stands, IsAnsweredAt, IsRefusedAt, entry_told};
+ghost use Rattle.sva_journal.specs.Journal.{IsLegal, bindings_of, uses_of, entry_of, with_entry, empty_of};
+ghost use Rattle.sva_journal.specs.Suiting.{Suits};
+ghost use Rattle.sva_fabric.specs.Receipts.{Stands, IsAnsweredAt, IsRefusedAt};
 ghost use Rattle.sva_fabric.specs.Audits.{held_by, used_by, seats_of, AllStand, IsFirstBad, EachStands, IsFirstBadOf, calls_of, IsAudit};
 
 use crate::audits::{Audit, FirstBadReceipt};
-use crate::journal::{Entry, Journaled};
 use crate::port::Port;
 use crate::ports::Ports;
 use crate::receipts::Receipt;
@@ -19,7 +18,8 @@ use crate::tokens::Tokens;
 use std::alloc::Global;
 use std::marker::Model;
 use std::sync::ledger::{Book, Share};
-use sva_step::{Answer, Config, Refusal, Step};
+use sva_journal::{Entry, Journaled};
+use sva_step::{Config, Refusal, Step};
 
 /// Why a call was not answered. Nothing has changed.
 #[derive(Clone, Copy, Debug, PartialEq, Eq)]
@@ -45,7 +45,7 @@ pub struct Running<C: Tally> {
 
 impl<C: Tally> Model for Running<C> {
     ghost use Rattle.std.specs.Prelude.{◌≡◌, length};
-    ghost use Rattle.sva_fabric.specs.Journal.{History};
+    ghost use Rattle.sva_journal.specs.Journal.{History};
 
     ghost Value = { History };
 
@@ -163,10 +163,12 @@ impl<C: Tally> Running<C> {
         ensures no { result ≡ false → Stands self.now.entries port receipt.now → ⊥ }
         ensures legal { IsLegal self.now }
     {
-        match self.journaled.at(receipt.place) {
-            Some(entry) => is_told(&entry, port, receipt),
-            None => false,
-        }
+        let told = Entry {
+            port,
+            step: receipt.step,
+            answer: receipt.answer,
+        };
+        self.journaled.has(receipt.place, &told)
     }
 
     // The place of the first receipt of a port that doesn't stand.
@@ -279,42 +281,4 @@ fn left_of_all<C: Tally>(calls: u64, ports: &[Port<C>]) -> Option<u64>
         left = rest;
     }
     Some(left)
-}
-
-// Tells that the entry is the one that a receipt of this port tells of.
-fn is_told(entry: &Entry, port: u64, receipt: &Receipt) -> bool
-    ensures yes { result ≡ true → entry.now ≡ entry_told port receipt.now }
-    ensures no { result ≡ false → entry.now ≡ entry_told port receipt.now → ⊥ }
-{
-    entry.port == port
-        && is_same_step(&entry.step, &receipt.step)
-        && is_same_answer(&entry.answer, &receipt.answer)
-}
-
-// Tells that two steps are the same.
-fn is_same_step(one: &Step, other: &Step) -> bool
-    ensures yes { result ≡ true → one.now ≡ other.now }
-    ensures no { result ≡ false → one.now ≡ other.now → ⊥ }
-{
-    one == other
-}
-
-// Tells that two answers are the same.
-fn is_same_answer(one: &Result<Answer, Refusal>, other: &Result<Answer, Refusal>) -> bool
-    ensures yes { result ≡ true → one.now ≡ other.now }
-    ensures no { result ≡ false → one.now ≡ other.now → ⊥ }
-{
-    match (one, other) {
-        (Ok(one), Ok(other)) => is_answer(one, other),
-        (Err(one), Err(other)) => one == other,
-        _ => false,
-    }
-}
-
-// Tells that two answers of accepted steps are the same.
-fn is_answer(one: &Answer, other: &Answer) -> bool
-    ensures yes { result ≡ true → one.now ≡ other.now }
-    ensures no { result ≡ false → one.now ≡ other.now → ⊥ }
-{
-    one == other
 }

@@ -1,7 +1,0 @@
-use Rattle.sva_fabric.proofs.tests.a_receipt_that_does_not_stand.Given as goal
-
-abbrev pub ghosts-strays-C-Ledger : goal.ghosts-strays-C-Ledger
-ghosts-strays-C-Ledger g a = record { name = a.calls.name; parts = a.calls.parts }
-
-abbrev pub ghosts-strays-C-Tally : goal.ghosts-strays-C-Tally
-ghosts-strays-C-Tally g a = record { config = record { endpoints = 2; frames = 4; workers = 1; first = 0 } }

@@ -1,7 +1,0 @@
-use Rattle.sva_fabric.proofs.tests.calls_that_do_not_add_up.Given as goal
-
-abbrev pub ghosts-left_out-C-Ledger : goal.ghosts-left_out-C-Ledger
-ghosts-left_out-C-Ledger g a = record { name = a.calls.name; parts = a.calls.parts }
-
-abbrev pub ghosts-left_out-C-Tally : goal.ghosts-left_out-C-Tally
-ghosts-left_out-C-Tally g a = record { config = record { endpoints = 2; frames = 4; workers = 1; first = 0 } }

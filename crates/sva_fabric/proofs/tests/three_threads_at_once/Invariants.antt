@@ -1,7 +1,0 @@
-use Rattle.sva_fabric.proofs.tests.three_threads_at_once.Given as goal
-
-abbrev pub ghosts-looks-C-Ledger : goal.ghosts-looks-C-Ledger
-ghosts-looks-C-Ledger g a = record { name = a.calls.name; parts = a.calls.parts }
-
-abbrev pub ghosts-looks-C-Tally : goal.ghosts-looks-C-Tally
-ghosts-looks-C-Tally g a = record { config = record { endpoints = 2; frames = 4; workers = 1; first = 0 } }

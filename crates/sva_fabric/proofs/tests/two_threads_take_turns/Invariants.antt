@@ -1,7 +1,0 @@
-use Rattle.sva_fabric.proofs.tests.two_threads_take_turns.Given as goal
-
-abbrev pub ghosts-turns-C-Ledger : goal.ghosts-turns-C-Ledger
-ghosts-turns-C-Ledger g a = record { name = a.calls.name; parts = a.calls.parts }
-
-abbrev pub ghosts-turns-C-Tally : goal.ghosts-turns-C-Tally
-ghosts-turns-C-Tally g a = record { config = record { endpoints = 2; frames = 4; workers = 1; first = 0 } }

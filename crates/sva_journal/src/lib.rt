@@ -1,0 +1,7 @@
+//! A world with the journal of what was asked of it and what it answered: what lies under the lock of a fabric, without the lock.
+#![tactic(auto)]
+
+mod comparing;
+mod journal;
+
+pub use journal::{Entry, Journaled};

@@ -1,0 +1,270 @@
+ghost use Rattle.std.specs.Prelude.{◌≡◌};
+
+use crate::worlds::{CONFIG, map, takes};
+use std::alloc::Global;
+use std::marker::Brand;
+use std::process::Abort;
+use std::sync::Wait;
+use std::sync::ledger::Blank;
+use std::test::Fail;
+use sva_fabric::{
+    Audit, Fabric, Fault, FirstBadReceipt, Lease, Leaving, Moved, Ports, Tally, Tokens, UseTicket,
+    ports_of,
+};
+use sva_step::{Answer, Refusal, Step};
+
+// A space with a page, bound to endpoint 0, which knows of it.
+fn bound<C: Tally, R: Wait + Abort>(rt: &R, fabric: &Fabric<C>, ports: &mut Ports<C>) -> Lease {
+    let Ports { host, link, .. } = ports;
+    takes(rt, fabric, host, Step::Space, Answer::Space { space: 0 });
+    takes(rt, fabric, host, map(16), Answer::Frame { frame: 0 });
+    let lease = match fabric.bind(rt, host, 0, 0) {
+        Ok(lease) => lease,
+        Err(_) => panic!(rt; "it binds"),
+    };
+    assert_eq!(rt; (lease.binding(), lease.pasid()), (0, 1));
+    takes(
+        rt,
+        fabric,
+        link,
+        Step::Deliver { message: 0 },
+        Answer::Started,
+    );
+    lease
+}
+
+// A translation of the page at endpoint 0.
+fn translated<C: Tally, R: Wait + Abort>(rt: &R, fabric: &Fabric<C>, ports: &mut Ports<C>) {
+    let Ports { link, service, .. } = ports;
+    let ask = Step::Ask {
+        endpoint: 0,
+        pasid: 1,
+        page: 16,
+    };
+    takes(rt, fabric, service, ask, Answer::Tag { tag: 0 });
+    takes(
+        rt,
+        fabric,
+        link,
+        Step::Deliver { message: 1 },
+        Answer::Completion,
+    );
+    takes(rt, fabric, link, Step::Deliver { message: 2 }, Answer::Held);
+}
+
+// The endpoint is reset, while its use runs.
+fn reset<C: Tally, R: Wait + Abort>(rt: &R, fabric: &Fabric<C>, ports: &mut Ports<C>) {
+    let Ports { host, link, .. } = ports;
+    takes(
+        rt,
+        fabric,
+        host,
+        Step::Reset { endpoint: 0 },
+        Answer::Resetting,
+    );
+    takes(
+        rt,
+        fabric,
+        link,
+        Step::Deliver { message: 3 },
+        Answer::Reset,
+    );
+    takes(
+        rt,
+        fabric,
+        link,
+        Step::Deliver { message: 4 },
+        Answer::ResetDone,
+    );
+}
+
+// The use ends behind the reset.
+fn ends<C: Tally, R: Wait + Abort>(
+    rt: &R,
+    fabric: &Fabric<C>,
+    ports: &mut Ports<C>,
+    ticket: UseTicket,
+) {
+    assert_eq!(rt;
+        (ticket.endpoint(), ticket.slot(), ticket.frame()),
+        (0, 0, 0)
+    );
+    match fabric.end(rt, &mut ports.host, ticket) {
+        Ok(answer) => assert_eq!(rt; answer, Answer::Dead),
+        Err((_ticket, _fault)) => panic!(rt; "the use ends"),
+    }
+}
+
+// The binding is being taken back.
+fn left<C: Tally, R: Wait + Abort>(
+    rt: &R,
+    fabric: &Fabric<C>,
+    ports: &mut Ports<C>,
+    lease: Lease,
+) -> Leaving {
+    let leaving = match fabric.unbind(rt, &mut ports.host, lease) {
+        Ok(leaving) => leaving,
+        Err((_lease, _fault)) => panic!(rt; "it is taken back"),
+    };
+    assert_eq!(rt; leaving.binding(), 0);
+    leaving
+}
+
+// The binding is released.
+fn gone<C: Tally, R: Wait + Abort>(
+    rt: &R,
+    fabric: &Fabric<C>,
+    ports: &mut Ports<C>,
+    leaving: Leaving,
+) {
+    match fabric.advance(rt, &mut ports.host, leaving) {
+        Ok(Moved::Gone) => {}
+        Ok(Moved::Again(_leaving)) => panic!(rt; "it is released"),
+        Err((_leaving, _fault)) => panic!(rt; "it advances"),
+    }
+}
+
+fn tokens_spent<C: Tally, R: Wait + Abort>(rt: &R, alloc: Global, calls: Blank) -> Result<(), Fail>
+    requires name { calls.name ≡ C.name }
+    requires parts { (calls.parts ≡ C.parts) × (calls.parts ≡ 6) }
+    requires config { C.config ≡ CONFIG }
+{
+    let Ok((fabric, mut ports)) = Fabric::<C>::open(alloc, CONFIG, calls) else {
+        return Err("it opens".into());
+    };
+    let lease = bound(rt, &fabric, &mut ports);
+    translated(rt, &fabric, &mut ports);
+    let ticket = match fabric.begin(rt, &mut ports.host, 0, 1, 16, true) {
+        Ok(ticket) => ticket,
+        Err(_) => panic!(rt; "a use begins"),
+    };
+    reset(rt, &fabric, &mut ports);
+    ends(rt, &fabric, &mut ports, ticket);
+    let leaving = left(rt, &fabric, &mut ports, lease);
+    gone(rt, &fabric, &mut ports, leaving);
+    assert_eq!(rt;
+        ports.host.last().map(|r| r.answer),
+        Some(Ok(Answer::Released))
+    );
+    let audit = fabric.finish(ports, Tokens::new(alloc));
+    assert_eq!(rt;
+        audit,
+        Ok(Audit {
+            calls: 14,
+            free: 3,
+            mapped: 1,
+            withheld: 0
+        })
+    );
+    Ok(())
+}
+
+#[test]
+fn a_binding_and_a_use(rt: HostRuntime) -> Result<(), Fail> {
+    tokens_spent::<Brand, _>(&rt, rt.alloc(), Blank::new(ports_of(&CONFIG)))
+}
+
+// A fabric with a binding that is being taken back, and isn't released yet.
+fn left_over<C: Tally, R: Wait + Abort>(
+    rt: &R,
+    alloc: Global,
+    calls: Blank,
+) -> (Fabric<C>, Ports<C>, Leaving)
+    requires name { calls.name ≡ C.name }
+    requires parts { (calls.parts ≡ C.parts) × (calls.parts ≡ 6) }
+    requires config { C.config ≡ CONFIG }
+{
+    let Ok((fabric, mut ports)) = Fabric::<C>::open(alloc, CONFIG, calls) else {
+        panic!(rt; "it opens")
+    };
+    let lease = bound(rt, &fabric, &mut ports);
+    let refused = match fabric.begin(rt, &mut ports.host, 0, 2, 16, true) {
+        Ok(_ticket) => panic!(rt; "its PASID isn't started"),
+        Err(fault) => fault,
+    };
+    let not_started = Fault::Refused {
+        refusal: Refusal::NotStarted,
+    };
+    assert_eq!(rt; refused, not_started);
+    let leaving = left(rt, &fabric, &mut ports, lease);
+    let leaving = match fabric.advance(rt, &mut ports.host, leaving) {
+        Ok(_moved) => panic!(rt; "it is stopping"),
+        Err((leaving, fault)) => {
+            let not_yet = Fault::Refused {
+                refusal: Refusal::NotYet,
+            };
+            assert_eq!(rt; fault, not_yet);
+            leaving
+        }
+    };
+    (fabric, ports, leaving)
+}
+
+// The token of one binding.
+fn one_token<R: Abort>(rt: &R, alloc: Global, leaving: Leaving) -> Tokens {
+    let mut tokens = Tokens::new(alloc);
+    match tokens.leavings.push(leaving) {
+        Ok(()) => tokens,
+        Err(_refused) => panic!(rt; "there is memory"),
+    }
+}
+
+fn token_left<C: Tally, R: Wait + Abort>(
+    rt: &R,
+    alloc: Global,
+    calls: Blank,
+) -> Result<Audit, FirstBadReceipt>
+    requires name { calls.name ≡ C.name }
+    requires parts { (calls.parts ≡ C.parts) × (calls.parts ≡ 6) }
+    requires config { C.config ≡ CONFIG }
+{
+    let (fabric, ports, leaving) = left_over::<C, R>(rt, alloc, calls);
+    let tokens = one_token(rt, alloc, leaving);
+    fabric.finish(ports, tokens)
+}
+
+#[test]
+fn a_token_that_is_left(rt: HostRuntime) {
+    let audit = token_left::<Brand, _>(&rt, rt.alloc(), Blank::new(ports_of(&CONFIG)));
+    assert_eq!(rt;
+        audit,
+        Ok(Audit {
+            calls: 7,
+            free: 3,
+            mapped: 1,
+            withheld: 0
+        })
+    );
+}
+
+// The token of one fabric is handed in at another.
+fn tokens_changed<C: Tally, D: Tally, R: Wait + Abort>(
+    rt: &R,
+    alloc: Global,
+    calls: Blank,
+    others: Blank,
+)
+    requires name { (calls.name ≡ C.name) × (others.name ≡ D.name) }
+    requires parts { (calls.parts ≡ C.parts) × (calls.parts ≡ 6) × (others.parts ≡ D.parts) × (others.parts ≡ 6) }
+    requires config { (C.config ≡ CONFIG) × (D.config ≡ CONFIG) }
+{
+    let (fabric, ports, leaving) = left_over::<C, R>(rt, alloc, calls);
+    let Ok((other, strangers)) = Fabric::<D>::open(alloc, CONFIG, others) else {
+        panic!(rt; "it opens")
+    };
+    assert_eq!(rt;
+        fabric.finish(ports, Tokens::new(alloc)),
+        Err(FirstBadReceipt { port: 6, place: 7 })
+    );
+    let tokens = one_token(rt, alloc, leaving);
+    assert_eq!(rt;
+        other.finish(strangers, tokens),
+        Err(FirstBadReceipt { port: 6, place: 0 })
+    );
+}
+
+#[test]
+fn a_token_of_another_fabric(rt: HostRuntime) {
+    let (calls, others) = (Blank::new(6), Blank::new(6));
+    tokens_changed::<Brand, Brand, _>(&rt, rt.alloc(), calls, others);
+}

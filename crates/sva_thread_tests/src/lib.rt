@@ -1,0 +1,14 @@
+//! The tests of a world that several threads share, and of its journal: what the public functions of `sva_journal` and `sva_fabric` do,
+//! a module for each concern. `sva_tests` says why they stand in a crate of their own.
+#![tactic(auto)]
+
+#[cfg(test)]
+mod audits;
+#[cfg(test)]
+mod holding;
+#[cfg(test)]
+mod journals;
+#[cfg(test)]
+mod threads;
+#[cfg(test)]
+mod worlds;

@@ -23,12 +23,12 @@ impl Stage {
         ensures { result ≡ (numbers_of self.now).binding }
     {
         match self {
-            Stage::Live(live) => live.binding(),
-            Stage::Stopping(stopping) => stopping.binding(),
-            Stage::Draining(draining) => draining.binding(),
-            Stage::Invalidating(invalidating) => invalidating.binding(),
-            Stage::Quiet(quiet) => quiet.binding(),
-            Stage::Lost(lost) => lost.binding(),
+            Stage::Live(live) => live.binding,
+            Stage::Stopping(stopping) => stopping.binding,
+            Stage::Draining(draining) => draining.wait.binding,
+            Stage::Invalidating(invalidating) => invalidating.wait.binding,
+            Stage::Quiet(quiet) => quiet.binding,
+            Stage::Lost(lost) => lost.binding,
         }
     }
 
@@ -37,12 +37,12 @@ impl Stage {
         ensures { result ≡ (numbers_of self.now).pasid }
     {
         match self {
-            Stage::Live(live) => live.pasid(),
-            Stage::Stopping(stopping) => stopping.pasid(),
-            Stage::Draining(draining) => draining.pasid(),
-            Stage::Invalidating(invalidating) => invalidating.pasid(),
-            Stage::Quiet(quiet) => quiet.pasid(),
-            Stage::Lost(lost) => lost.pasid(),
+            Stage::Live(live) => live.pasid,
+            Stage::Stopping(stopping) => stopping.pasid,
+            Stage::Draining(draining) => draining.wait.pasid,
+            Stage::Invalidating(invalidating) => invalidating.wait.pasid,
+            Stage::Quiet(quiet) => quiet.pasid,
+            Stage::Lost(lost) => lost.pasid,
         }
     }
 

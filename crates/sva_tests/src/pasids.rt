@@ -204,24 +204,12 @@ fn look(stage: &Stage) -> Seen {
     }
 }
 
-// The binding and the PASID, as the state itself has them.
-fn numbers(stage: &Stage) -> (u64, u32) {
-    match stage {
-        Stage::Live(live) => (live.binding(), live.pasid()),
-        Stage::Stopping(stopping) => (stopping.binding(), stopping.pasid()),
-        Stage::Draining(draining) => (draining.binding(), draining.pasid()),
-        Stage::Invalidating(invalidating) => (invalidating.binding(), invalidating.pasid()),
-        Stage::Quiet(quiet) => (quiet.binding(), quiet.pasid()),
-        Stage::Lost(lost) => (lost.binding(), lost.pasid()),
-    }
-}
-
 // What is seen of the stage in a binding's place, if it has the numbers of that place.
 fn stage(table: &Table, binding: u64) -> Option<Seen> {
     let place = table.place(binding)?;
     let stage = place.stage.as_ref()?;
     let own = (place.binding, place.pasid);
-    if numbers(stage) == own && (stage.binding(), stage.pasid()) == own {
+    if (stage.binding(), stage.pasid()) == own {
         Some(look(stage))
     } else {
         None

@@ -1,5 +1,5 @@
 //! A remapping unit.
-ghost use Rattle.std.specs.Prelude.{◌≡◌, ◌+◌, ◌*◌, ◌%◌, ◌^◌, ◌<◌, ◌≤◌, ◌==◌, suc, true, false, not, option_map};
+ghost use Rattle.std.specs.Prelude.{◌≡◌, ◌+◌, ◌*◌, ◌%◌, ◌^◌, ◌<◌, ◌≤◌, ◌==◌, suc, true, false, option_map};
 ghost use Rattle.std.specs.Prelude.{◌++◌, [], ◌∷◌, length, map, drop, slice_get, All};
 ghost use Rattle.sva_queue.specs.Cookies.{AreRising, HasNumber, number_after};
 ghost use Rattle.sva_model.specs.Wire.Descriptor.{PasidDescriptor, WaitDescriptor};
@@ -221,13 +221,6 @@ impl Unit {
         ensures { self.new ≡ with_requests self.old (self.old.page_queue ++ request_seen request ∷ []) }
     {
         self.requests.arrive(request);
-    }
-
-    /// Whether a page request waits.
-    pub fn has_request(&self) -> bool
-        ensures { result ≡ not (length self.now.page_queue == 0) }
-    {
-        !self.requests.is_empty()
     }
 
     /// The oldest page request that waits, if one does.

@@ -76,10 +76,9 @@ fn page_request(page: u64) -> PageRequest {
 fn drains_page_requests(rt: HostRuntime) {
     let mut unit = Unit::new();
     unit.submit_drain(2);
-    assert!(rt; !unit.has_request() && unit.first_request().is_none());
+    assert!(rt; unit.first_request().is_none());
     unit.arrive(page_request(70));
     unit.arrive(page_request(71));
-    assert!(rt; unit.has_request());
     assert!(rt; unit.next() == Next::Blocked);
     assert!(rt; unit.first_request() == Some(page_request(70)));
     assert!(rt; unit.take_request() == Some(page_request(70)));
@@ -97,7 +96,7 @@ fn is_emptied_by_a_reset(rt: HostRuntime) {
     }
     unit.arrive(page_request(70));
     unit.reset();
-    assert!(rt; !unit.is_open() && !unit.has_request() && unit.has_room(64));
+    assert!(rt; !unit.is_open() && unit.first_request().is_none() && unit.has_room(64));
     assert!(rt; unit.next() == Next::Idle);
     assert!(rt; !unit.is_wait_done(9));
     unit.reopen();

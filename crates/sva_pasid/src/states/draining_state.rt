@@ -20,20 +20,6 @@ impl Model for Draining {
 }
 
 impl Draining {
-    /// The number of the binding.
-    pub fn binding(&self) -> u64
-        ensures { result ≡ self.now.binding }
-    {
-        self.wait.binding
-    }
-
-    /// The PASID that the binding bears, of 20 bits.
-    pub fn pasid(&self) -> u32
-        ensures { result ≡ self.now.pasid }
-    {
-        self.wait.pasid
-    }
-
     /// The cookie of the wait descriptor for which the binding waits.
     pub fn cookie(&self) -> u64
         ensures { result ≡ self.now.cookie }

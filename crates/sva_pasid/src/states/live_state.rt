@@ -27,20 +27,6 @@ impl Live {
         Live { binding, pasid }
     }
 
-    /// The number of the binding.
-    pub fn binding(&self) -> u64
-        ensures { result ≡ self.now.binding }
-    {
-        self.binding
-    }
-
-    /// The PASID that the binding bears, of 20 bits.
-    pub fn pasid(&self) -> u32
-        ensures { result ≡ self.now.pasid }
-    {
-        self.pasid
-    }
-
     /// The space is to be taken back from the endpoint: the stop is sent.
     pub fn stop(self) -> Stopping
         ensures { result ≡ stop_of self }

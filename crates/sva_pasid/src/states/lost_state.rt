@@ -20,20 +20,6 @@ impl Model for Lost {
 }
 
 impl Lost {
-    /// The number of the binding.
-    pub fn binding(&self) -> u64
-        ensures { result ≡ self.now.binding }
-    {
-        self.binding
-    }
-
-    /// The PASID that the binding bears, of 20 bits.
-    pub fn pasid(&self) -> u32
-        ensures { result ≡ self.now.pasid }
-    {
-        self.pasid
-    }
-
     /// The space is taken back: nothing has to be sent.
     pub fn quiet(self) -> Quiet
         ensures { result ≡ self }

@@ -20,20 +20,6 @@ impl Model for Quiet {
 }
 
 impl Quiet {
-    /// The number of the binding.
-    pub fn binding(&self) -> u64
-        ensures { result ≡ self.now.binding }
-    {
-        self.binding
-    }
-
-    /// The PASID that the binding bears, of 20 bits.
-    pub fn pasid(&self) -> u32
-        ensures { result ≡ self.now.pasid }
-    {
-        self.pasid
-    }
-
     /// Releases the binding: gives its number and its PASID, as they were when it began.
     pub fn release(self) -> Released
         ensures { result ≡ self }

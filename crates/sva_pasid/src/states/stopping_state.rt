@@ -23,20 +23,6 @@ impl Model for Stopping {
 }
 
 impl Stopping {
-    /// The number of the binding.
-    pub fn binding(&self) -> u64
-        ensures { result ≡ self.now.binding }
-    {
-        self.binding
-    }
-
-    /// The PASID that the binding bears, of 20 bits.
-    pub fn pasid(&self) -> u32
-        ensures { result ≡ self.now.pasid }
-    {
-        self.pasid
-    }
-
     /// Whether the marker was noted.
     pub fn is_marked(&self) -> bool
         ensures { result ≡ self.now.marked }

@@ -1,7 +1,11 @@
 -- What is known of the open groups by the number of the requests that were filed.
 use Rattle.std.specs.Prelude.{ℕ, ◌≤◌, length, List, All}
-use Rattle.sva_prq.specs.Groups.{OpenGroup}
+use Rattle.sva_prq.specs.Groups.{Groups, OpenGroup}
 
 -- no group has more requests than this
 abbrev pub AreFew : ℕ → List OpenGroup → Type 0
 AreFew n gs = All (λ (g : OpenGroup). length g.asks ≤ n) gs
+
+-- and no more groups have begun
+abbrev pub HasFew : ℕ → Groups → Type 0
+HasFew n s = AreFew n s.groups × (s.next ≤ n)

@@ -1,5 +1,4 @@
-ghost use Rattle.std.specs.Prelude.{◌≤◌, ◌<◌, IsTrue};
-ghost use Rattle.sva_tests.specs.Few.{AreFew};
+ghost use Rattle.sva_tests.specs.Few.{HasFew};
 
 use std::alloc::{AllocError, Global};
 use std::process::Abort;
@@ -7,17 +6,28 @@ use std::test::Fail;
 use sva_msg::PageRequest;
 use sva_prq::{Groups, Job};
 
-// Groups, and what is known of them by the calls that were made.
+/// A call of groups, and what it has to answer.
+#[derive(Clone, Copy)]
+enum Call {
+    /// A request of a unit, a binding and an index asks for a page, and isn't the last of its group.
+    Part(u64, u64, u8, u64),
+    /// The last request of a group asks for the last of these pages. The group's job asks for all of them, in this order.
+    Last(u64, u64, u8, &'static [u64]),
+    /// The job that was made by a call of `Last` is answered; they count from 0.
+    Answer(usize),
+    DropUnit(u64),
+    /// Whether a binding has an open group.
+    Open(u64, bool),
+}
+
+/// Groups, and what is known of them by the calls that were made.
 #[derive(Drop)]
 struct Filed {
     groups: Groups,
-    // How many requests were filed: no group has more.
+    /// How many requests were filed: no group has more.
     requests: u64,
-    // Whether room was made since the last one.
-    has_room: bool,
-    ghost few: { AreFew requests groups.groups },
-    ghost serials: { groups.next ≤ requests },
-    ghost room: { IsTrue has_room → 0 < groups.room },
+    jobs: Vec<Job>,
+    ghost few: { HasFew requests groups },
 }
 
 impl Filed {
@@ -25,203 +35,240 @@ impl Filed {
         Filed {
             groups: Groups::new(alloc),
             requests: 0,
-            has_room: false,
+            jobs: Vec::new(alloc),
         }
     }
 
-    fn reserve(&mut self, unit: u64) -> Result<(), AllocError> {
-        self.groups.reserve(unit)?;
-        self.has_room = true;
-        Ok(())
-    }
-
-    // Files a read request for a page under a binding and an index, if that is permitted for sure.
+    /// Makes room for a group, and files a read request.
     fn file<R: Abort>(
         &mut self,
         rt: &R,
         unit: u64,
         binding: u64,
-        (index, page, last): (u8, u64, bool),
-    ) -> Option<Job> {
-        assert!(rt; self.has_room);
+        request: PageRequest,
+    ) -> Result<Option<Job>, AllocError> {
         assert!(rt; self.requests < 32);
-        let request = PageRequest {
-            pasid: 1,
-            index,
-            page,
-            read: true,
-            write: false,
-            last,
-        };
-        self.has_room = false;
+        self.groups.reserve(unit)?;
         self.requests += 1;
-        self.groups.file(unit, binding, request)
+        Ok(self.groups.file(unit, binding, request))
     }
 
-    fn answered(&mut self, job: &Option<Job>) {
-        if let Some(job) = job {
-            self.has_room = false;
-            self.groups.answered(job);
+    /// A request is filed that isn't the last of its group: is there no job?
+    fn files_part<R: Abort>(
+        &mut self,
+        rt: &R,
+        unit: u64,
+        binding: u64,
+        request: PageRequest,
+    ) -> Result<bool, AllocError> {
+        let job = self.file(rt, unit, binding, request)?;
+        Ok(job.is_none())
+    }
+
+    /// The last request of a group is filed: is there a job that asks for these pages?
+    fn files_last<R: Abort>(
+        &mut self,
+        rt: &R,
+        unit: u64,
+        binding: u64,
+        request: PageRequest,
+        pages: &[u64],
+    ) -> Result<bool, AllocError> {
+        let Some(job) = self.file(rt, unit, binding, request)? else {
+            return Ok(false);
+        };
+        let is_so = is_job(&job, (unit, binding, request.index), pages);
+        self.jobs.push(job)?;
+        Ok(is_so)
+    }
+
+    fn answered(&mut self, place: usize) -> bool {
+        match self.jobs.get(place) {
+            Some(job) => {
+                self.groups.answered(job);
+                true
+            }
+            None => false,
         }
     }
 
     fn drop_unit(&mut self, unit: u64) {
-        self.has_room = false;
         self.groups.drop_unit(unit);
-    }
-
-    fn open_of(&self, binding: u64) -> bool {
-        self.groups.open_of(binding)
     }
 }
 
-// Whether this is the job of a binding and an index with reads of these pages in order.
-fn is_job(job: &Option<Job>, binding: u64, index: u8, pages: &[u64]) -> bool {
-    let Some(job) = job else {
-        return false;
-    };
+/// A read request for a page.
+fn request(index: u8, page: u64, last: bool) -> PageRequest {
+    PageRequest {
+        pasid: 1,
+        index,
+        page,
+        read: true,
+        write: false,
+        last,
+    }
+}
+
+/// Is this the job of a unit, a binding and an index, with reads of these pages in order?
+fn is_job(job: &Job, numbers: (u64, u64, u8), pages: &[u64]) -> bool {
+    (job.unit(), job.binding(), job.index()) == numbers && asks_for(job, pages)
+}
+
+/// Does a job ask to read these pages, in this order?
+fn asks_for(job: &Job, pages: &[u64]) -> bool {
     let asks = job.asks();
-    job.binding() == binding
-        && job.index() == index
-        && asks.len() == pages.len()
+    asks.len() == pages.len()
         && asks
             .iter()
             .zip(pages)
             .all(|(ask, page)| ask.page == *page && ask.read && !ask.write)
 }
 
-#[test]
-fn one_index_at_two_units(rt: HostRuntime) -> Result<(), Fail> {
-    let mut groups = Filed::new(rt.alloc());
-    groups.reserve(0)?;
-    let first = groups.file(&rt, 0, 7, (3, 10, false));
-    groups.reserve(1)?;
-    let second = groups.file(&rt, 1, 8, (3, 20, false));
-    assert!(rt; first.is_none() && second.is_none());
-    groups.reserve(0)?;
-    let old = groups.file(&rt, 0, 7, (3, 11, true));
-    groups.reserve(1)?;
-    let new = groups.file(&rt, 1, 8, (3, 21, true));
-    assert!(rt; is_job(&old, 7, 3, &[10, 11]) && is_job(&new, 8, 3, &[20, 21]));
-    assert!(rt; old.map(|job| job.unit()) == Some(0));
-    assert!(rt; new.map(|job| job.unit()) == Some(1));
-    Ok(())
-}
-
-#[test]
-fn bindings_in_turn(rt: HostRuntime) -> Result<(), Fail> {
-    let mut groups = Filed::new(rt.alloc());
-    groups.reserve(0)?;
-    groups.file(&rt, 0, 7, (3, 10, false));
-    assert!(rt; groups.open_of(7) && !groups.open_of(8));
-    groups.drop_unit(0);
-    assert!(rt; !groups.open_of(7));
-    groups.reserve(0)?;
-    let job = groups.file(&rt, 0, 8, (3, 20, true));
-    assert!(rt; is_job(&job, 8, 3, &[20]));
-    assert!(rt; groups.open_of(8));
-    groups.answered(&job);
-    assert!(rt; !groups.open_of(8));
-    Ok(())
-}
-
-#[test]
-fn a_job_outlives_its_unit(rt: HostRuntime) -> Result<(), Fail> {
-    let mut groups = Filed::new(rt.alloc());
-    groups.reserve(0)?;
-    let old = groups.file(&rt, 0, 7, (3, 10, true));
-    groups.reserve(1)?;
-    let other = groups.file(&rt, 1, 9, (3, 30, true));
-    assert!(rt; groups.open_of(7) && groups.open_of(9) && other.is_some());
-    groups.drop_unit(0);
-    groups.reserve(0)?;
-    let new = groups.file(&rt, 0, 8, (3, 20, true));
-    groups.answered(&old);
-    assert!(rt; is_job(&old, 7, 3, &[10]) && is_job(&new, 8, 3, &[20]));
-    assert!(rt; !groups.open_of(7) && groups.open_of(8) && groups.open_of(9));
-    Ok(())
-}
-
-// A reset drops the group of a first job, and the same binding and index have a second one. The late answer of the first
-// leaves the second as it is.
-#[test]
-fn a_late_answer_ends_no_other_group(rt: HostRuntime) -> Result<(), Fail> {
-    let mut groups = Filed::new(rt.alloc());
-    groups.reserve(0)?;
-    let first = groups.file(&rt, 0, 7, (3, 10, true));
-    groups.drop_unit(0);
-    groups.reserve(0)?;
-    let second = groups.file(&rt, 0, 7, (3, 20, true));
-    assert!(rt; is_job(&first, 7, 3, &[10]) && is_job(&second, 7, 3, &[20]));
-    groups.answered(&first);
-    assert!(rt; groups.open_of(7));
-    groups.answered(&second);
-    assert!(rt; !groups.open_of(7));
-    Ok(())
-}
-
-// Two bindings at one unit and index, and a unit and an index that are the same by the remainder.
-#[test]
-fn groups_that_share_a_cell(rt: HostRuntime) -> Result<(), Fail> {
-    let mut groups = Filed::new(rt.alloc());
-    for (unit, binding, index, page) in [(0, 7, 3, 10), (0, 8, 3, 20), (8, 9, 35, 30)] {
-        groups.reserve(unit)?;
-        let part = groups.file(&rt, unit, binding, (index, page, false));
-        assert!(rt; part.is_none());
+/// Makes a call, and tells whether it answers as it has to.
+fn answers<R: Abort>(rt: &R, filed: &mut Filed, call: Call) -> Result<bool, AllocError> {
+    match call {
+        Call::Part(unit, binding, index, page) => {
+            filed.files_part(rt, unit, binding, request(index, page, false))
+        }
+        Call::Last(unit, binding, index, pages) => match pages.last() {
+            Some(page) => {
+                filed.files_last(rt, unit, binding, request(index, *page, true), pages)
+            }
+            None => Ok(false),
+        },
+        Call::Answer(place) => Ok(filed.answered(place)),
+        Call::DropUnit(unit) => {
+            filed.drop_unit(unit);
+            Ok(true)
+        }
+        Call::Open(binding, is_open) => Ok(filed.groups.open_of(binding) == is_open),
     }
-    groups.reserve(8)?;
-    let last = groups.file(&rt, 8, 9, (35, 31, true));
-    assert!(rt; is_job(&last, 9, 35, &[30, 31]));
-    groups.reserve(0)?;
-    let first = groups.file(&rt, 0, 7, (3, 11, true));
-    assert!(rt; is_job(&first, 7, 3, &[10, 11]));
-    groups.reserve(0)?;
-    let second = groups.file(&rt, 0, 8, (3, 21, true));
-    assert!(rt; is_job(&second, 8, 3, &[20, 21]));
+}
+
+/// Makes the calls one after another.
+fn run<R: Abort>(rt: &R, alloc: Global, calls: &[Call]) -> Result<(), AllocError> {
+    let mut filed = Filed::new(alloc);
+    for place in 0..calls.len() {
+        assert!(rt; answers(rt, &mut filed, calls[place])?, "call {place}");
+    }
     Ok(())
 }
+
+static TWO_UNITS: [Call; 4] = [
+    Call::Part(0, 7, 3, 10),
+    Call::Part(1, 8, 3, 20),
+    Call::Last(0, 7, 3, &[10, 11]),
+    Call::Last(1, 8, 3, &[20, 21]),
+];
+
+#[test]
+fn one_index_at_two_units(rt: HostRuntime) -> Result<(), AllocError> {
+    run(&rt, rt.alloc(), &TWO_UNITS)
+}
+
+static IN_TURN: [Call; 9] = [
+    Call::Part(0, 7, 3, 10),
+    Call::Open(7, true),
+    Call::Open(8, false),
+    Call::DropUnit(0),
+    Call::Open(7, false),
+    Call::Last(0, 8, 3, &[20]),
+    Call::Open(8, true),
+    Call::Answer(0),
+    Call::Open(8, false),
+];
+
+#[test]
+fn bindings_in_turn(rt: HostRuntime) -> Result<(), AllocError> {
+    run(&rt, rt.alloc(), &IN_TURN)
+}
+
+static UNIT_GONE: [Call; 9] = [
+    Call::Last(0, 7, 3, &[10]),
+    Call::Last(1, 9, 3, &[30]),
+    Call::Open(7, true),
+    Call::DropUnit(0),
+    Call::Last(0, 8, 3, &[20]),
+    Call::Answer(0),
+    Call::Open(7, false),
+    Call::Open(8, true),
+    Call::Open(9, true),
+];
+
+#[test]
+fn a_job_outlives_its_unit(rt: HostRuntime) -> Result<(), AllocError> {
+    run(&rt, rt.alloc(), &UNIT_GONE)
+}
+
+/// A reset drops the group of a first job, and the same binding and index have a second one. The late answer of the first
+/// leaves the second as it is.
+static LATE_ANSWER: [Call; 7] = [
+    Call::Last(0, 7, 3, &[10]),
+    Call::DropUnit(0),
+    Call::Last(0, 7, 3, &[20]),
+    Call::Answer(0),
+    Call::Open(7, true),
+    Call::Answer(1),
+    Call::Open(7, false),
+];
+
+#[test]
+fn a_late_answer_ends_no_other_group(rt: HostRuntime) -> Result<(), AllocError> {
+    run(&rt, rt.alloc(), &LATE_ANSWER)
+}
+
+/// Two bindings at one unit and index, and a unit and an index that are the same by the remainder.
+static ONE_CELL: [Call; 6] = [
+    Call::Part(0, 7, 3, 10),
+    Call::Part(0, 8, 3, 20),
+    Call::Part(8, 9, 35, 30),
+    Call::Last(8, 9, 35, &[30, 31]),
+    Call::Last(0, 7, 3, &[10, 11]),
+    Call::Last(0, 8, 3, &[20, 21]),
+];
+
+#[test]
+fn groups_that_share_a_cell(rt: HostRuntime) -> Result<(), AllocError> {
+    run(&rt, rt.alloc(), &ONE_CELL)
+}
+
+/// The pages of the largest group, in its order.
+static MOST_PAGES: [u64; 32] = [
+    0, 1, 2, 3, 4, 5, 6, 7, 8, 9, 10, 11, 12, 13, 14, 15, 16, 17, 18, 19, 20, 21, 22, 23, 24, 25,
+    26, 27, 28, 29, 30, 31,
+];
 
 #[test]
 fn most_asks(rt: HostRuntime) -> Result<(), Fail> {
-    let mut groups = Filed::new(rt.alloc());
-    let mut pages = Vec::new(rt.alloc());
-    for page in 0..31u64 {
-        pages.push(page)?;
-        groups.reserve(0)?;
-        let part = groups.file(&rt, 0, 7, (0, page, false));
-        assert!(rt; part.is_none());
+    let mut filed = Filed::new(rt.alloc());
+    for page in 0..31 {
+        assert!(rt; answers(&rt, &mut filed, Call::Part(0, 7, 0, page))?);
     }
-    pages.push(31)?;
-    groups.reserve(0)?;
-    let job = groups.file(&rt, 0, 7, (0, 31, true));
-    assert!(rt; is_job(&job, 7, 0, pages.as_slice()));
+    assert!(rt; answers(&rt, &mut filed, Call::Last(0, 7, 0, &MOST_PAGES))?);
     Ok(())
 }
 
-// Whether each binding below this one has an open group, and no other has.
-fn holds_groups_below(groups: &Filed, binding: u64) -> bool {
-    (0..6).all(|other| groups.open_of(other) == (other < binding))
+/// Has each binding below this one an open group, and no other of six?
+fn holds_groups_below(filed: &Filed, binding: u64) -> bool {
+    (0..6).all(|other| filed.groups.open_of(other) == (other < binding))
 }
 
-// Makes room. Where an allocation is refused, the groups are as they were, and the next try makes it.
-fn reserve<R: Abort>(rt: &R, groups: &mut Filed, binding: u64) {
-    if groups.reserve(0).is_err() {
-        assert!(rt; holds_groups_below(groups, binding));
-        assert!(rt; groups.reserve(0).is_ok());
+/// Files a request of a binding. Where an allocation is refused, the groups are as they were, and the next try files it.
+fn files_again<R: Abort>(rt: &R, filed: &mut Filed, binding: u64) -> bool {
+    let call = Call::Part(0, binding, 0, 10);
+    match answers(rt, filed, call) {
+        Ok(is_so) => is_so,
+        Err(_refused) => {
+            holds_groups_below(filed, binding) && answers(rt, filed, call) == Ok(true)
+        }
     }
 }
 
 #[test]
 fn a_refused_reserve_changes_nothing(rt: HostRuntime) {
-    let mut groups = Filed::new(rt.alloc());
+    let mut filed = Filed::new(rt.alloc());
     for binding in 0..6 {
-        reserve(&rt, &mut groups, binding);
-        let part = groups.file(&rt, 0, binding, (0, 10, false));
-        assert!(rt; part.is_none() && holds_groups_below(&groups, binding + 1));
-    }
-    for binding in 0..6 {
-        reserve(&rt, &mut groups, 6);
-        let job = groups.file(&rt, 0, binding, (0, 11, true));
-        assert!(rt; is_job(&job, binding, 0, &[10, 11]));
+        assert!(rt; files_again(&rt, &mut filed, binding));
+        assert!(rt; holds_groups_below(&filed, binding + 1));
     }
 }

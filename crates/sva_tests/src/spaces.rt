@@ -1,79 +1,154 @@
 ghost use Rattle.std.specs.Prelude.{◌<◌};
 
+use std::alloc::{AllocError, Global};
 use std::process::Abort;
-use std::test::Fail;
 use sva_frames::{Frame, FramePool, Place};
 use sva_space::Space;
 
-/// Pages 17 and 16 in this order, each with the frame of a pool of its own.
-#[test]
-fn maps_and_unmaps(rt: HostRuntime) -> Result<(), Fail> {
-    let alloc = rt.alloc();
-    let mut first = FramePool::open(alloc, 1)?;
-    let mut second = FramePool::open(alloc, 1)?;
-    let Some(writable) = first.take() else {
-        return Err(Fail::from("the first pool has no frame"));
+/// A call of a space, and what it has to answer.
+#[derive(Clone, Copy)]
+enum Call {
+    /// A page that isn't mapped is mapped to the lowest free frame, to be read, or written too.
+    Map(u64, bool),
+    /// A page is taken out. Whether it could be written, if it was mapped.
+    Unmap(u64, Option<bool>),
+    /// The lowest page from one on and below another is taken out. The page, and whether it could be written, if there is one.
+    UnmapFirst(u64, u64, Option<(u64, bool)>),
+    /// A page's frame, and whether it may be written.
+    Find(u64, Option<(u32, bool)>),
+    /// The lowest mapped page from one on and below another.
+    First(u64, u64, Option<u64>),
+    /// How many pages from one on and below another are mapped.
+    Count(u64, u64, usize),
+    /// Whether all pages from one on and below another are mapped.
+    AreMapped(u64, u64, bool),
+    Len(usize),
+    IsEmpty(bool),
+}
+
+/// Gives a frame back to its pool.
+fn give<R: Abort>(rt: &R, pool: &mut FramePool, frame: Frame) {
+    let number = frame.number();
+    assert!(rt; (number as usize) < pool.len());
+    match pool.place(number) {
+        Place::Mapped => pool.give(frame),
+        _other => panic!(rt; "frame {} was given back before", frame.number()),
+    }
+}
+
+/// Maps a page to the lowest free frame, and tells whether that was done.
+fn maps<R: Abort>(rt: &R, pool: &mut FramePool, space: &mut Space, page: u64, write: bool) -> bool {
+    if space.find(page).is_some() {
+        return false;
+    }
+    let Some(frame) = pool.take() else {
+        return false;
     };
-    let Some(readable) = second.take() else {
-        first.give(writable);
-        return Err(Fail::from("the second pool has no frame"));
-    };
-    let mut space = Space::new(alloc);
+    match space.map(page, frame, write) {
+        Ok(()) => true,
+        Err((frame, _refused)) => {
+            give(rt, pool, frame);
+            false
+        }
+    }
+}
+
+/// Takes a page out, and gives its frame back. Whether it could be written, if it was mapped.
+fn unmap<R: Abort>(rt: &R, pool: &mut FramePool, space: &mut Space, page: u64) -> Option<bool> {
+    let (frame, write) = space.unmap(page)?;
+    give(rt, pool, frame);
+    Some(write)
+}
+
+/// The same of the lowest page from one on and below another.
+fn unmap_first<R: Abort>(
+    rt: &R,
+    pool: &mut FramePool,
+    space: &mut Space,
+    first: u64,
+    end: u64,
+) -> Option<(u64, bool)> {
+    let (page, frame, write) = space.unmap_first(first, end)?;
+    give(rt, pool, frame);
+    Some((page, write))
+}
+
+/// Makes a call, and tells whether it answers as it has to.
+fn answers<R: Abort>(rt: &R, pool: &mut FramePool, space: &mut Space, call: Call) -> bool {
+    match call {
+        Call::Map(page, write) => maps(rt, pool, space, page, write),
+        Call::Unmap(page, found) => unmap(rt, pool, space, page) == found,
+        Call::UnmapFirst(first, end, found) => unmap_first(rt, pool, space, first, end) == found,
+        _reading => tells(space, call),
+    }
+}
+
+/// Does a call that changes nothing answer as it has to?
+fn tells(space: &Space, call: Call) -> bool {
+    match call {
+        Call::Find(page, found) => space.find(page) == found,
+        Call::First(first, end, found) => space.first_between(first, end) == found,
+        Call::Count(first, end, count) => space.count_between(first, end) == count,
+        Call::AreMapped(first, end, are) => space.are_mapped(first, end) == are,
+        Call::Len(len) => space.len() == len,
+        Call::IsEmpty(is_empty) => space.is_empty() == is_empty,
+        _change => false,
+    }
+}
+
+/// Takes all pages out, the lowest first, and closes the space.
+fn close<R: Abort>(rt: &R, pool: &mut FramePool, mut space: Space) {
+    for _page in 0..space.len() {
+        if let Some((_page, frame, _write)) = space.pop_first() {
+            give(rt, pool, frame);
+        }
+    }
     assert!(rt; space.is_empty());
-    if let Err((frame, _)) = space.map(17, writable, true) {
-        first.give(frame);
-        second.give(readable);
-        assert!(rt; space.len() == 0);
-        space.close();
-        return Err(Fail::from("out of memory"));
+    space.close();
+}
+
+/// Makes the calls of a new space, one after another.
+fn run<R: Abort>(rt: &R, alloc: Global, calls: &[Call]) -> Result<(), AllocError> {
+    let mut pool = FramePool::open(alloc, 4)?;
+    let mut space = Space::new(alloc);
+    for place in 0..calls.len() {
+        assert!(rt;
+            answers(rt, &mut pool, &mut space, calls[place]),
+            "call {place}"
+        );
     }
-    assert!(rt; space.find(17) == Some((0, true)));
-    assert!(rt; space.find(16) == None);
-    if let Err((frame, _)) = space.map(16, readable, false) {
-        panic!(rt; "no memory for a second page: frame {}", frame.number());
-    }
-    assert!(rt; space.find(16) == Some((0, false)));
-    assert!(rt; space.len() == 2);
-    looks_at_ranges(&rt, &space);
-    pops_and_unmaps(&rt, space, first, second);
+    close(rt, &mut pool, space);
     Ok(())
 }
 
-/// Pages 16 and 17 are mapped, and no other.
-fn looks_at_ranges<R: Abort>(rt: &R, space: &Space) {
-    assert!(rt; space.first_between(0, 32) == Some(16));
-    assert!(rt; space.first_between(17, 32) == Some(17));
-    assert!(rt; space.first_between(18, 32) == None);
-    assert!(rt; space.count_between(0, 17) == 1);
-    assert!(rt; space.count_between(16, 18) == 2);
-    assert!(rt; space.are_mapped(16, 18));
-    assert!(rt; !space.are_mapped(16, 19));
-    assert!(rt; space.are_mapped(20, 20));
-}
+/// Pages 17 and 16 in this order; then page 16 goes as the lowest one of a range, and page 17 by its number.
+static TWO_PAGES: [Call; 21] = [
+    Call::IsEmpty(true),
+    Call::Map(17, true),
+    Call::Find(17, Some((0, true))),
+    Call::Find(16, None),
+    Call::Map(16, false),
+    Call::Find(16, Some((1, false))),
+    Call::Len(2),
+    Call::First(0, 32, Some(16)),
+    Call::First(17, 32, Some(17)),
+    Call::First(18, 32, None),
+    Call::Count(0, 17, 1),
+    Call::Count(16, 18, 2),
+    Call::AreMapped(16, 18, true),
+    Call::AreMapped(16, 19, false),
+    Call::AreMapped(20, 20, true),
+    Call::UnmapFirst(18, 32, None),
+    Call::UnmapFirst(0, 32, Some((16, false))),
+    Call::Unmap(17, Some(true)),
+    Call::Unmap(17, None),
+    Call::Find(17, None),
+    Call::IsEmpty(true),
+];
 
-/// Takes page 16 out as the lowest one of a range, and then page 17 by its number.
-fn pops_and_unmaps<R: Abort>(
-    rt: &R,
-    mut space: Space,
-    mut first: FramePool,
-    mut second: FramePool,
-) {
-    if let Some((_page, frame, _write)) = space.unmap_first(18, 32) {
-        panic!(rt; "no page of the range is mapped: frame {}", frame.number());
-    }
-    let Some((page, frame, write)) = space.unmap_first(0, 32) else {
-        panic!(rt; "no page of the range is mapped");
-    };
-    assert!(rt; (page, write) == (16, false));
-    give(rt, &mut second, frame);
-    let Some((frame, write)) = space.unmap(17) else {
-        panic!(rt; "page 17 isn't mapped");
-    };
-    assert!(rt; write);
-    give(rt, &mut first, frame);
-    assert!(rt; space.find(17).is_none());
-    assert!(rt; space.is_empty());
-    space.close();
+#[test]
+fn maps_and_unmaps(rt: HostRuntime) -> Result<(), AllocError> {
+    run(&rt, rt.alloc(), &TWO_PAGES)
 }
 
 /// A page of the test below: the first frame is mapped at page 100, and each next one at the page below.
@@ -110,16 +185,6 @@ fn map<R: Abort>(rt: &R, space: &mut Space, frame: Frame) {
     assert!(rt; holds_frames_below(space, number));
     if let Err((frame, _refused)) = space.map(page, frame, write) {
         panic!(rt; "memory is refused once: frame {}", frame.number());
-    }
-}
-
-/// Gives a frame back to its pool.
-fn give<R: Abort>(rt: &R, pool: &mut FramePool, frame: Frame) {
-    let number = frame.number();
-    assert!(rt; (number as usize) < pool.len());
-    match pool.place(number) {
-        Place::Mapped => pool.give(frame),
-        _other => panic!(rt; "frame {} was given back before", frame.number()),
     }
 }
 

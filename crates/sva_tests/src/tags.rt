@@ -1,54 +1,114 @@
+use std::process::Abort;
 use sva_itags::{Count, Itags};
+
+/// A call of tags, and what it has to answer.
+#[derive(Clone, Copy)]
+enum Call {
+    /// So many tags are taken, the lowest from this one on.
+    Take(u8, u8),
+    /// No tag is free.
+    TakeNone,
+    /// A completion of these tags with this count, and the tags that are free by it.
+    Arrive(u32, u8, u32),
+    /// The same so often, and none is free by it.
+    ArriveAgain(u32, u8, u8),
+    Busy(u32),
+    Lowest(Option<u8>),
+    Clear,
+}
+
+/// Takes so many tags, and tells whether they were the ones from the first on.
+fn takes(tags: &mut Itags, first: u8, count: u8) -> bool {
+    for place in 0..count {
+        if tags.take() != Some(first.wrapping_add(place)) {
+            return false;
+        }
+    }
+    true
+}
+
+/// The tags that are free by a completion.
+fn arrives(tags: &mut Itags, vector: u32, count: u8) -> Option<u32> {
+    if count == 0 || count > 8 {
+        return None;
+    }
+    Some(tags.arrived(vector, Count::new(count)))
+}
+
+/// Is no tag free by so many completions?
+fn arrives_again(tags: &mut Itags, vector: u32, count: u8, times: u8) -> bool {
+    for _time in 0..times {
+        if arrives(tags, vector, count) != Some(0) {
+            return false;
+        }
+    }
+    true
+}
+
+/// Makes a call, and tells whether it answers as it has to.
+fn answers(tags: &mut Itags, call: Call) -> bool {
+    match call {
+        Call::Take(first, count) => takes(tags, first, count),
+        Call::TakeNone => tags.take().is_none(),
+        Call::Arrive(vector, count, freed) => arrives(tags, vector, count) == Some(freed),
+        Call::ArriveAgain(vector, count, times) => arrives_again(tags, vector, count, times),
+        Call::Busy(vector) => tags.busy() == vector,
+        Call::Lowest(tag) => tags.lowest_free() == tag,
+        Call::Clear => {
+            tags.clear();
+            true
+        }
+    }
+}
+
+/// Makes the calls one after another.
+fn run<R: Abort>(rt: &R, mut tags: Itags, calls: &[Call]) {
+    for place in 0..calls.len() {
+        assert!(rt; answers(&mut tags, calls[place]), "call {place}");
+    }
+}
+
+static TWO_COMPLETIONS: [Call; 6] = [
+    Call::Take(0, 4),
+    Call::Arrive(0x0000_000b, 2, 0),
+    Call::Arrive(0x0000_000b, 2, 0x0000_000b),
+    Call::Busy(0x0000_0004),
+    Call::Lowest(Some(0)),
+    Call::Take(0, 1),
+];
 
 #[test]
 fn frees_at_the_last_completion(rt: HostRuntime) {
-    let mut tags = Itags::new();
-    for tag in 0..4 {
-        assert!(rt; tags.take() == Some(tag));
-    }
-    assert!(rt; tags.arrived(0x0000_000b, Count::new(2)) == 0);
-    assert!(rt; tags.arrived(0x0000_000b, Count::new(2)) == 0x0000_000b);
-    assert!(rt; tags.busy() == 0x0000_0004);
-    assert!(rt; tags.lowest_free() == Some(0));
-    assert!(rt; tags.take() == Some(0));
+    run(&rt, Itags::new(), &TWO_COMPLETIONS);
 }
+
+/// All tags are taken. Two are free at once, the lowest and the highest, and then named once more; tags 1 and 2 wait for three,
+/// and tag 1 has its second under another count, so that it is free with its third and tag 2 one later; tag 3 waits for eight.
+static ALL_TAGS: [Call; 16] = [
+    Call::Take(0, 32),
+    Call::TakeNone,
+    Call::Busy(0xffff_ffff),
+    Call::Arrive(0x8000_0001, 1, 0x8000_0001),
+    Call::Arrive(0x8000_0001, 1, 0),
+    Call::Arrive(0x0000_0006, 3, 0),
+    Call::Arrive(0x0000_0002, 1, 0),
+    Call::Arrive(0x0000_0006, 3, 0x0000_0002),
+    Call::Arrive(0x0000_000e, 8, 0x0000_0004),
+    Call::ArriveAgain(0x0000_0008, 8, 6),
+    Call::Arrive(0x0000_0008, 1, 0x0000_0008),
+    Call::Busy(0x7fff_fff0),
+    Call::Take(0, 4),
+    Call::Take(31, 1),
+    Call::Clear,
+    Call::Busy(0),
+];
 
 #[test]
 fn goes_by_the_first_count(rt: HostRuntime) {
-    let mut tags = Itags::default();
-    for tag in 0..32 {
-        assert!(rt; tags.take() == Some(tag));
-    }
-    assert!(rt; tags.take() == None);
-    assert!(rt; tags.busy() == 0xffff_ffff);
-    let one = Count::new(1);
-    let three = Count::new(3);
-    let eight = Count::from_field(0);
-    let completions = [
-        // Two tags at once, the lowest and the highest.
-        (0x8000_0001, one, 0x8000_0001),
-        // A completion for tags that are free.
-        (0x8000_0001, one, 0),
-        // Tags 1 and 2 wait for three; tag 1 has its second under another count.
-        (0x0000_0006, three, 0),
-        (0x0000_0002, one, 0),
-        (0x0000_0006, three, 0x0000_0002),
-        // Tag 1 is free, tag 2 has its third, tag 3 waits for eight.
-        (0x0000_000e, eight, 0x0000_0004),
-    ];
-    for (vector, count, freed) in completions {
-        assert!(rt; tags.arrived(vector, count) == freed, "at {vector}");
-    }
-    for _second_to_seventh in 0..6 {
-        assert!(rt; tags.arrived(0x0000_0008, eight) == 0);
-    }
-    assert!(rt; tags.arrived(0x0000_0008, one) == 0x0000_0008);
-    assert!(rt; tags.busy() == 0x7fff_fff0);
-    for tag in 0..4 {
-        assert!(rt; tags.take() == Some(tag));
-    }
-    assert!(rt; tags.take() == Some(31));
-    tags.clear();
-    assert!(rt; tags.busy() == 0);
-    assert!(rt; tags.take() == Some(0));
+    run(&rt, Itags::default(), &ALL_TAGS);
+}
+
+#[test]
+fn a_count_of_eight_is_written_as_0(rt: HostRuntime) {
+    assert!(rt; Count::from_field(0).get() == 8 && Count::new(8).field() == 0);
 }

@@ -1,60 +1,26 @@
 //! The steps of bindings.
 
-ghost use Rattle.std.specs.Prelude.{◌≢◌, Err};
+ghost use Rattle.std.specs.Prelude.{◌≡◌, ◌≢◌, Some, Err};
 ghost use Rattle.sva_step.specs.declared.refusals.Refusal.TheVariants as refusal;
 ghost use Rattle.sva_step.specs.declared.steps.Step.TheVariants as step;
+ghost use Rattle.sva_model.specs.Wire.{BindingWire};
+ghost use Rattle.sva_model.specs.Wire.StageWire.{LostWire};
+ghost use Rattle.sva_labels.specs.Finding.{binding_of};
 ghost use Rattle.sva_labels.specs.Sound.{IsSound};
-ghost use Rattle.sva_kept.specs.Steps.{ByLabels, MayStep};
+ghost use Rattle.sva_kept.specs.StageReading.{open_drain};
+ghost use Rattle.sva_kept.specs.Steps.{ByLabels};
 
 use crate::host::Host;
-use sva_kept::send;
-use sva_msg::Kind;
-use sva_step::{Answer, NUMBERS, PASIDS, Refusal};
+use sva_step::{Answer, Refusal};
 
 impl Host {
-    // What refuses a binding of the space to the endpoint: the first cause that holds, if one does.
-    fn may_bind(&self, endpoint: u64, space: u64) -> Result<(), Refusal>
-        ensures { MayStep self.now (step.Bind endpoint space) result }
-    {
-        let at = self.port(endpoint)?;
-        if !self.kept.memory.has_space(space) {
-            return Err(Refusal::NoSuchSpace);
-        }
-        if !self.kept.ports[at].unit.is_open() {
-            return Err(Refusal::Resetting);
-        }
-        if self.kept.bindings.place_between(endpoint, space).is_some() {
-            return Err(Refusal::AlreadyBound);
-        }
-        if self.kept.bindings.lowest(space).is_none() {
-            return Err(Refusal::NoPasid);
-        }
-        if self.kept.next_binding >= NUMBERS {
-            return Err(Refusal::NumbersSpent);
-        }
-        if self.kept.in_flight.left() == 0 {
-            return Err(Refusal::NumbersSpent);
-        }
-        Ok(())
-    }
-
     /// Binds a space to an endpoint, under the PASID that it bears or the lowest that is free, and tells the endpoint to
     /// start it.
     pub fn bind(&mut self, endpoint: u64, space: u64) -> Result<Answer, Refusal>
         requires { IsSound self.old }
         ensures { ByLabels self.old (step.Bind endpoint space) result self.new }
     {
-        self.may_bind(endpoint, space)?;
-        let binding = self.kept.next_binding;
-        let Ok(pasid) = self.kept.bindings.begin(endpoint, space, binding) else {
-            return Err(Refusal::OutOfMemory);
-        };
-        if send(&mut self.kept.in_flight, endpoint, Kind::Start { pasid }, 1).is_err() {
-            self.kept.bindings.take_back(binding);
-            return Err(Refusal::OutOfMemory);
-        }
-        self.kept.next_binding += 1;
-        Ok(Answer::Binding { binding, pasid })
+        sva_bindings::bind(&mut self.kept, endpoint, space)
     }
 
     /// Which space bears a PASID, and how many bindings are under it. `BadPasid` where it is not 1 to 32.
@@ -63,18 +29,36 @@ impl Host {
         ensures step { ByLabels self.now (step.Bearer pasid) result self.now }
         ensures memory { result ≢ Err refusal.OutOfMemory }
     {
-        if pasid == 0 {
-            return Err(Refusal::BadPasid);
-        }
-        if pasid > u64::from(PASIDS) {
-            return Err(Refusal::BadPasid);
-        }
-        match self.kept.bindings.bearer(pasid as u32) {
-            None => Ok(Answer::NoBearer),
-            Some(bearer) => Ok(Answer::Bearer {
-                space: bearer.space,
-                bindings: bearer.bindings as u32,
-            }),
-        }
+        sva_bindings::bearer(&self.kept, pasid)
+    }
+
+    /// Unbinds a space from an endpoint. The endpoint is told to stop the PASID; but where a reset has cut the binding off,
+    /// nothing is sent, and no memory is taken.
+    pub fn unbind(&mut self, binding: u64) -> Result<Answer, Refusal>
+        requires { IsSound self.old }
+        ensures step { ByLabels self.old (step.Unbind binding) result self.new }
+        ensures memory { (b : BindingWire) → binding_of self.old binding ≡ Some b → b.stage ≡ LostWire → result ≢ Err refusal.OutOfMemory }
+    {
+        sva_bindings::unbind(&mut self.kept, binding)
+    }
+
+    /// A binding that was unbound goes on to its next stage, where what it waits for has come. `NoSuchBinding` where it isn't
+    /// there, `Resetting` where its unit is in reset and it isn't Quiet, `NotYet` where the Stop Marker or the wait has not come,
+    /// `QueueFull` and `NumbersSpent` where the unit has no room for the descriptors or no cookie is left. No memory is taken.
+    pub fn advance(&mut self, binding: u64) -> Result<Answer, Refusal>
+        requires { IsSound self.old }
+        ensures step { ByLabels self.old (step.Advance binding) result self.new }
+        ensures memory { result ≢ Err refusal.OutOfMemory }
+    {
+        sva_bindings::advance(&mut self.kept, binding)
+    }
+
+    /// Whether the unit is open that drains the page requests of a binding. None where the binding isn't there, or isn't being
+    /// drained.
+    pub fn open_drain(&self, binding: u64) -> Option<bool>
+        requires { IsSound self.now }
+        ensures { result ≡ open_drain self.now (binding_of self.now binding) }
+    {
+        sva_bindings::open_drain(&self.kept, binding)
     }
 }

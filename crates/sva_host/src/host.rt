@@ -5,10 +5,7 @@ ghost use Rattle.sva_labels.specs.Host.{first_wire};
 
 use std::alloc::{AllocError, Global};
 use std::marker::Model;
-use sva_kept::{Kept, new_ports};
-use sva_memory::Memory;
-use sva_msg::Bag;
-use sva_pasid::Table;
+use sva_kept::Kept;
 use sva_step::Config;
 
 /// A host with its endpoints and the link between them. Contracts see what all of it keeps by numbers and labels.
@@ -19,13 +16,10 @@ pub struct Host {
 
 impl Model for Host {
     ghost use Rattle.sva_model.specs.Wire.{Wire};
-    ghost use Rattle.sva_kept.specs.Inner.{wire_of, IsHost};
 
     ghost Value = { Wire };
 
-    ghost view = { λ host. wire_of host.kept };
-
-    ghost invariant = { λ host. IsHost host.kept };
+    ghost view = { λ host. host.kept };
 }
 
 impl Host {
@@ -38,15 +32,7 @@ impl Host {
         ensures { IfOk result (λ host. host ≡ first_wire config) }
     {
         Ok(Host {
-            kept: Kept {
-                memory: Memory::open(alloc, config.frames as u32, config.first)?,
-                bindings: Table::new(alloc),
-                ports: new_ports(config.endpoints),
-                in_flight: Bag::new(alloc, config.first),
-                workers: config.workers,
-                next_binding: config.first,
-                next_cookie: config.first,
-            },
+            kept: Kept::open(alloc, config)?,
         })
     }
 }

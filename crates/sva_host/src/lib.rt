@@ -1,21 +1,14 @@
-//! A host with its endpoints and the link between them, put together of its parts. Each step is the step by labels.
+//! A host with its endpoints and the link between them, put together of its parts. Each step is the step by labels: those of
+//! spaces, of their pages and of page requests stand here; those of endpoints, of bindings and of the link in crates of their own.
 #![tactic(auto)]
 
-mod advancing;
 mod bindings;
-mod completions;
-mod deliveries;
 mod endpoints;
 mod host;
-mod markers;
+mod link;
 mod page_requests;
-mod pumping;
 mod replying;
-mod requests;
-mod resets;
 mod spaces;
-mod stage_reading;
-mod unbinding;
 mod unmapping;
 
 pub use host::Host;

@@ -1,48 +1,32 @@
-//! Page requests (PCI Express Base 5.0, section 10.4.1) that wait at the units.
+//! Page requests (PCI Express Base 5.0, section 10.4.1) that wait at the units, and what is answered to jobs.
 
-ghost use Rattle.std.specs.Prelude.{◌≡◌, ◌≢◌, ◌<◌, Err, drop, length, option_map, slice_get};
+ghost use Rattle.std.specs.Prelude.{◌≡◌, ◌≢◌, ◌<◌, true, false, Some, Err, drop, length, option_map, slice_get};
 ghost use Rattle.sva_step.specs.declared.refusals.Refusal.TheVariants as refusal;
 ghost use Rattle.sva_step.specs.declared.steps.Step.TheVariants as step;
 ghost use Rattle.sva_model.specs.Wire.{BindingWire};
-ghost use Rattle.sva_labels.specs.Finding.{bearer, part_of};
+ghost use Rattle.sva_labels.specs.Finding.{bearer, binding_of, is_space, part_of};
 ghost use Rattle.sva_labels.specs.Moves.{with_part};
-ghost use Rattle.sva_labels.specs.Sound.{IsSound};
+ghost use Rattle.sva_labels.specs.Replying.{responds};
+ghost use Rattle.sva_labels.specs.Sound.{IsSound, IsJob};
 ghost use Rattle.sva_unit.specs.Seen.{request_seen};
-ghost use Rattle.sva_kept.specs.Arriving.{IsArriving};
-ghost use Rattle.sva_kept.specs.Steps.{ByLabels, MayStep};
+ghost use Rattle.sva_views.specs.Service.{job_seen};
+ghost use Rattle.sva_kept.specs.Replying.{responded_of};
+ghost use Rattle.sva_kept.specs.Steps.{Does, MayStep};
 
 use crate::host::Host;
-use sva_msg::{Kind, PageRequest};
-use sva_step::{Answer, Refusal};
+use crate::replying::respond;
+use sva_kept::port;
+use sva_msg::PageRequest;
+use sva_prq::Job;
+use sva_step::{Answer, Refusal, Verdict};
 
 impl Host {
-    /// A page request arrives at the unit of its endpoint, behind those that wait there; at a unit in reset it is dropped.
-    pub(crate) fn page_request_arrives(
-        &mut self,
-        message: u64,
-        endpoint: u64,
-        request: PageRequest,
-    ) -> Result<Answer, Refusal>
-        requires sound { IsSound self.old }
-        requires arriving { IsArriving self.old message endpoint (Kind.PageRequest request) }
-        ensures step { ByLabels self.old (step.Deliver message) result self.new }
-        ensures memory { result ≢ Err refusal.OutOfMemory }
-    {
-        let _taken = self.kept.in_flight.deliver(message);
-        let at = endpoint as usize;
-        if !self.kept.ports[at].unit.is_open() {
-            return Ok(Answer::Dropped);
-        }
-        self.kept.ports[at].unit.arrive(request);
-        Ok(Answer::Queued)
-    }
-
     /// What refuses that a page request is filed: `NoSuchEndpoint` where the endpoint isn't there, `Resetting` where its unit is
     /// in reset.
     pub fn may_serve(&self, endpoint: u64) -> Result<(), Refusal>
         ensures { MayStep self.now (step.Serve endpoint) result }
     {
-        let at = self.port(endpoint)?;
+        let at = port(&self.kept, endpoint)?;
         if self.kept.ports[at].unit.is_open() {
             Ok(())
         } else {
@@ -54,7 +38,8 @@ impl Host {
     pub fn bearer_at(&self, endpoint: u64, pasid: u32) -> Option<u64>
         ensures { result ≡ option_map (λ (b : BindingWire). b.binding) (bearer self.now endpoint pasid) }
     {
-        match self.kept.bindings.place_under(endpoint, pasid) {
+        let host = &self.kept;
+        match host.bindings.place_under(endpoint, pasid) {
             Some(place) => Some(place.binding),
             None => None,
         }
@@ -74,6 +59,22 @@ impl Host {
         requires { endpoint < length self.old.parts }
         ensures { self.new ≡ with_part self.old endpoint (record (part_of self.old endpoint) { page_queue = drop 1 (part_of self.old endpoint).page_queue }) }
     {
-        let _request = self.kept.ports[endpoint as usize].unit.take_request();
+        let host = &mut self.kept;
+        let _request = host.ports[endpoint as usize].unit.take_request();
+    }
+
+    /// What is answered to a job: a verdict of Success maps each page that the job asks for and that isn't mapped, and the
+    /// endpoint gets the response code. Where the binding isn't in use any more, it is Invalid Request, and where it is cut off,
+    /// quiet or released, or the unit is in reset, nothing is sent.
+    ///
+    /// What else a reply does is another's: it takes the job out of its hand, and ends its group.
+    pub fn respond(&mut self, job: &Job, verdict: Verdict) -> Result<Answer, Refusal>
+        requires sound { IsSound self.old }
+        requires job { IsJob self.old (job_seen job.now) }
+        requires space { (b : BindingWire) → binding_of self.old job.now.binding ≡ Some b → is_space self.old b.space ≡ true }
+        ensures step { Does (responded_of self.old (job_seen job.now) verdict) self.old result self.new }
+        ensures memory { responds self.old (job_seen job.now) ≡ false → result ≢ Err refusal.OutOfMemory }
+    {
+        respond(&mut self.kept, job, verdict)
     }
 }

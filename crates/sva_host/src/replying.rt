@@ -10,91 +10,88 @@ ghost use Rattle.sva_views.specs.Service.{job_seen};
 ghost use Rattle.sva_kept.specs.Steps.{Does};
 ghost use Rattle.sva_kept.specs.Replying.{RespondsBy, responded_of, succeeded, turned_down};
 
-use crate::host::Host;
-use sva_kept::{Response, answer_of, code_by, send};
+use sva_kept::{Kept, Response, answer_of, code_by, send};
 use sva_msg::{Code, Kind};
 use sva_prq::Job;
 use sva_step::{Answer, Refusal, Verdict};
 
-impl Host {
-    // The response that a job gets, if it gets one: none at a unit in reset, nor where its binding is released, cut off or
-    // quiet.
-    fn response_to(&self, job: &Job, verdict: Verdict) -> Option<Response>
-        requires { job.now.unit < length self.now.parts }
-        ensures { RespondsBy self.now (job_seen job.now) verdict result }
-    {
-        let place = self.kept.bindings.place(job.binding())?;
-        if !self.kept.ports[job.unit() as usize].unit.is_open() {
-            return None;
-        }
-        let code = code_by(&place.stage, verdict)?;
-        Some(Response {
-            space: place.space,
-            pasid: place.pasid,
-            code,
-        })
+// The response that a job gets, if it gets one: none at a unit in reset, nor where its binding is released, cut off or
+// quiet.
+fn response_to(host: &Kept, job: &Job, verdict: Verdict) -> Option<Response>
+    requires { job.now.unit < length host.now.parts }
+    ensures { RespondsBy host.now (job_seen job.now) verdict result }
+{
+    let place = host.bindings.place(job.binding())?;
+    if !host.ports[job.unit() as usize].unit.is_open() {
+        return None;
     }
+    let code = code_by(&place.stage, verdict)?;
+    Some(Response {
+        space: place.space,
+        pasid: place.pasid,
+        code,
+    })
+}
 
-    // Answers a job by a code that maps nothing.
-    fn turn_down(&mut self, job: &Job, pasid: u32, code: Code) -> Result<Answer, Refusal>
-        ensures { Does (turned_down self.old (job_seen job.now) pasid (code_seen code)) self.old result self.new }
-    {
-        let response = Kind::Response {
-            pasid,
-            index: job.index(),
-            code,
-        };
-        send(&mut self.kept.in_flight, job.unit(), response, 1)?;
-        Ok(answer_of(code))
+// Answers a job by a code that maps nothing.
+fn turn_down(host: &mut Kept, job: &Job, pasid: u32, code: Code) -> Result<Answer, Refusal>
+    ensures { Does (turned_down host.old (job_seen job.now) pasid (code_seen code)) host.old result host.new }
+{
+    let response = Kind::Response {
+        pasid,
+        index: job.index(),
+        code,
+    };
+    send(&mut host.in_flight, job.unit(), response, 1)?;
+    Ok(answer_of(code))
+}
+
+// Maps what a job asks for, and answers it by Success. What is mapped is taken back where there is no memory for the
+// response.
+fn succeed(host: &mut Kept, job: &Job, space: u64, pasid: u32) -> Result<Answer, Refusal>
+    requires { is_space host.old space ≡ true }
+    ensures { Does (succeeded host.old (job_seen job.now) space pasid) host.old result host.new }
+{
+    let asks = job.asks();
+    host.memory.may_map_all(space, asks)?;
+    if host.in_flight.left() == 0 {
+        return Err(Refusal::NumbersSpent);
     }
-
-    // Maps what a job asks for, and answers it by Success. What is mapped is taken back where there is no memory for the
-    // response.
-    fn succeed(&mut self, job: &Job, space: u64, pasid: u32) -> Result<Answer, Refusal>
-        requires { is_space self.old space ≡ true }
-        ensures { Does (succeeded self.old (job_seen job.now) space pasid) self.old result self.new }
-    {
-        let asks = job.asks();
-        self.kept.memory.may_map_all(space, asks)?;
-        if self.kept.in_flight.left() == 0 {
-            return Err(Refusal::NumbersSpent);
-        }
-        let Ok(pages) = self.kept.memory.map_all(space, asks) else {
-            return Err(Refusal::OutOfMemory);
-        };
-        let response = Kind::Response {
-            pasid,
-            index: job.index(),
-            code: Code::Success,
-        };
-        if send(&mut self.kept.in_flight, job.unit(), response, 1).is_err() {
-            self.kept.memory.take_back(space, &pages);
-            return Err(Refusal::OutOfMemory);
-        }
-        Ok(Answer::Success {
-            pages: pages.len() as u32,
-        })
+    let Ok(pages) = host.memory.map_all(space, asks) else {
+        return Err(Refusal::OutOfMemory);
+    };
+    let response = Kind::Response {
+        pasid,
+        index: job.index(),
+        code: Code::Success,
+    };
+    if send(&mut host.in_flight, job.unit(), response, 1).is_err() {
+        host.memory.take_back(space, &pages);
+        return Err(Refusal::OutOfMemory);
     }
+    Ok(Answer::Success {
+        pages: pages.len() as u32,
+    })
+}
 
-    /// What is answered to a job: a verdict of Success maps each page that the job asks for and that isn't mapped, and the
-    /// endpoint gets the response code. Where the binding isn't in use any more, it is Invalid Request, and where it is cut off,
-    /// quiet or released, or the unit is in reset, nothing is sent.
-    ///
-    /// What else a reply does is another's: it takes the job out of its hand, and ends its group.
-    pub fn respond(&mut self, job: &Job, verdict: Verdict) -> Result<Answer, Refusal>
-        requires sound { IsSound self.old }
-        requires job { IsJob self.old (job_seen job.now) }
-        requires space { (b : BindingWire) → binding_of self.old job.now.binding ≡ Some b → is_space self.old b.space ≡ true }
-        ensures step { Does (responded_of self.old (job_seen job.now) verdict) self.old result self.new }
-        ensures memory { responds self.old (job_seen job.now) ≡ false → result ≢ Err refusal.OutOfMemory }
-    {
-        let Some(response) = self.response_to(job, verdict) else {
-            return Ok(Answer::Dropped);
-        };
-        match response.code {
-            Code::Success => self.succeed(job, response.space, response.pasid),
-            Code::InvalidRequest => self.turn_down(job, response.pasid, Code::InvalidRequest),
-            Code::ResponseFailure => self.turn_down(job, response.pasid, Code::ResponseFailure),
-        }
+/// What is answered to a job: a verdict of Success maps each page that the job asks for and that isn't mapped, and the
+/// endpoint gets the response code. Where the binding isn't in use any more, it is Invalid Request, and where it is cut off,
+/// quiet or released, or the unit is in reset, nothing is sent.
+///
+/// What else a reply does is another's: it takes the job out of its hand, and ends its group.
+pub(crate) fn respond(host: &mut Kept, job: &Job, verdict: Verdict) -> Result<Answer, Refusal>
+    requires sound { IsSound host.old }
+    requires job { IsJob host.old (job_seen job.now) }
+    requires space { (b : BindingWire) → binding_of host.old job.now.binding ≡ Some b → is_space host.old b.space ≡ true }
+    ensures step { Does (responded_of host.old (job_seen job.now) verdict) host.old result host.new }
+    ensures memory { responds host.old (job_seen job.now) ≡ false → result ≢ Err refusal.OutOfMemory }
+{
+    let Some(response) = response_to(host, job, verdict) else {
+        return Ok(Answer::Dropped);
+    };
+    match response.code {
+        Code::Success => succeed(host, job, response.space, response.pasid),
+        Code::InvalidRequest => turn_down(host, job, response.pasid, Code::InvalidRequest),
+        Code::ResponseFailure => turn_down(host, job, response.pasid, Code::ResponseFailure),
     }
 }

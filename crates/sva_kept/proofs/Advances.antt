@@ -23,7 +23,7 @@ use Rattle.sva_pasid.specs.declared.places.Place.{Place}
 use Rattle.sva_unit.specs.Seen as seen
 use Rattle.sva_kept.specs.declared.advancing.Course.{Course}
 use Rattle.sva_kept.specs.declared.advancing.Course.TheVariants.{Drain, Invalidate, Settle, Release}
-use Rattle.sva_kept.specs.declared.kept.Kept.{Kept}
+use Rattle.sva_kept.specs.declared.kept.Kept.TheInside.{Inside as Kept}
 use Rattle.sva_kept.specs.declared.kept.Port.{Port}
 use Rattle.sva_kept.specs.Advancing.{course_by, course_of, MayAdvance, is_quiet, is_due, descriptors_of}
 use Rattle.sva_kept.specs.Inner.{part_seen, wire_of, IsHost}

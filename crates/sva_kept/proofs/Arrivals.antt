@@ -33,7 +33,7 @@ use Rattle.sva_views.specs.DeviceLaws.{completion_said, said_by, completed, comp
 use Rattle.sva_views.specs.Flights.{kind_seen, code_seen, scope_seen, flight_seen, flight_at, flights_seen}
 use Rattle.sva_views.proofs.Flights.{flight_laws}
 use Rattle.sva_views.proofs.Deliveries.{start_is_seen, stop_is_seen, completion_is_seen, invalidation_is_seen, response_is_seen}
-use Rattle.sva_kept.specs.declared.kept.Kept.{Kept}
+use Rattle.sva_kept.specs.declared.kept.Kept.TheInside.{Inside as Kept}
 use Rattle.sva_kept.specs.declared.kept.Port.{Port}
 use Rattle.sva_kept.specs.Inner.{wire_of}
 use Rattle.sva_kept.specs.Arriving.{IsArriving, answers}

@@ -7,7 +7,7 @@ use Rattle.sva_msg.specs.declared.messages.Kind.{Kind}
 use Rattle.sva_msg.specs.declared.messages.Message.{Message as Sent}
 use Rattle.sva_msg.specs.Bag.{AreNumbered, IsNumbered}
 use Rattle.sva_views.specs.Flights.{flight_seen, kind_seen}
-use Rattle.sva_kept.specs.declared.kept.Kept.{Kept}
+use Rattle.sva_kept.specs.declared.kept.Kept.TheInside.{Inside as Kept}
 use Rattle.sva_kept.specs.declared.kept.Port.{Port}
 use Rattle.sva_kept.specs.Arriving.{IsArriving}
 use Rattle.sva_kept.specs.Inner.{wire_of, IsHost}

@@ -11,7 +11,7 @@ use Rattle.sva_msg.specs.declared.messages.Message.{Message as Sent}
 use Rattle.sva_msg.specs.Bag.{IsNumbered, MayDeliver, message_at}
 use Rattle.sva_views.specs.Flights.{flight_seen, flight_at, flights_seen}
 use Rattle.sva_views.proofs.Flights.{flight_laws}
-use Rattle.sva_kept.specs.declared.kept.Kept.{Kept}
+use Rattle.sva_kept.specs.declared.kept.Kept.TheInside.{Inside as Kept}
 use Rattle.sva_kept.specs.declared.kept.Port.{Port}
 use Rattle.sva_kept.specs.Inner.{wire_of}
 use Rattle.sva_kept.specs.Steps.{PortFor}

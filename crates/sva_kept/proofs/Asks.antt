@@ -18,7 +18,7 @@ use Rattle.sva_msg.specs.Bag.{InFlight}
 use Rattle.sva_endpoint.specs.declared.permitted.Asking.{Asking}
 use Rattle.sva_endpoint.specs.Steps.{refusals_of_ask, asking, lowest_tag, after_ask}
 use Rattle.sva_views.proofs.Requests.{request_is_seen}
-use Rattle.sva_kept.specs.declared.kept.Kept.{Kept}
+use Rattle.sva_kept.specs.declared.kept.Kept.TheInside.{Inside as Kept}
 use Rattle.sva_kept.specs.declared.kept.Port.{Port}
 use Rattle.sva_kept.specs.Inner.{wire_of}
 use Rattle.sva_kept.specs.Steps.{Does, ByLabels, Sends}

@@ -17,7 +17,7 @@ use Rattle.sva_memory.specs.Seen.{target_seen, targets_seen}
 use Rattle.sva_pasid.specs.declared.places.Place.{Place}
 use Rattle.sva_pasid.specs.Places.{place_between}
 use Rattle.sva_views.specs.Bindings.{binding_seen}
-use Rattle.sva_kept.specs.declared.kept.Kept.{Kept}
+use Rattle.sva_kept.specs.declared.kept.Kept.TheInside.{Inside as Kept}
 use Rattle.sva_kept.specs.declared.kept.Port.{Port}
 use Rattle.sva_kept.specs.Inner.{wire_of}
 use Rattle.sva_kept.specs.Unmapping.{target_so_far}

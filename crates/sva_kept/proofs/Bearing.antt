@@ -14,7 +14,7 @@ use Rattle.sva_labels.specs.Outcomes.{bearer_answer}
 use Rattle.sva_pasid.specs.Places as places
 use Rattle.sva_pasid.specs.declared.bearers.Bearer.{Bearer}
 use Rattle.sva_views.proofs.Bindings.{bindings_are_seen}
-use Rattle.sva_kept.specs.declared.kept.Kept.{Kept}
+use Rattle.sva_kept.specs.declared.kept.Kept.TheInside.{Inside as Kept}
 use Rattle.sva_kept.specs.Inner.{wire_of}
 use Rattle.sva_kept.specs.Steps.{Does, ByLabels}
 use Rattle.sva_kept.proofs.FewBound.{few_under}

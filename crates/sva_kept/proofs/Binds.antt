@@ -25,7 +25,7 @@ use Rattle.sva_pasid.specs.Stages.{IsLive}
 use Rattle.sva_pasid.specs.declared.places.Place.{Place}
 use Rattle.sva_views.specs.Bindings.{binding_seen, bindings_seen}
 use Rattle.sva_views.proofs.Bindings.{bindings_are_seen}
-use Rattle.sva_kept.specs.declared.kept.Kept.{Kept}
+use Rattle.sva_kept.specs.declared.kept.Kept.TheInside.{Inside as Kept}
 use Rattle.sva_kept.specs.declared.kept.Port.{Port}
 use Rattle.sva_kept.specs.Inner.{wire_of, IsHost}
 use Rattle.sva_kept.specs.Steps.{Does, ByLabels, Sends, MayStep, PortFor}

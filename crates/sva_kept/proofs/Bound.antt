@@ -15,7 +15,7 @@ use Rattle.sva_pasid.specs.declared.stages.Stage.{Stage}
 use Rattle.sva_pasid.specs.declared.stages.Stage.TheVariants.{Live, Stopping, Draining, Invalidating, Quiet, Lost}
 use Rattle.sva_views.specs.Bindings.{stage_seen, stage_or_quiet, binding_seen}
 use Rattle.sva_views.proofs.Bindings.{bindings_are_seen}
-use Rattle.sva_kept.specs.declared.kept.Kept.{Kept}
+use Rattle.sva_kept.specs.declared.kept.Kept.TheInside.{Inside as Kept}
 use Rattle.sva_kept.specs.Inner.{wire_of, IsHost}
 use Rattle.sva_kept.specs.Stages.{IsIn, IsSeenIn}
 use Rattle.sva_kept.proofs.TakenOut.{parts_seen}

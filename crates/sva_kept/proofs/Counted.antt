@@ -18,7 +18,7 @@ use Rattle.sva_unit.specs.Changes.{freed_by, unit_completed}
 use Rattle.sva_unit.specs.Seen as seen
 use Rattle.sva_unit.specs.Seen.{UnitSeen}
 use Rattle.sva_views.proofs.Flights.{flight_laws}
-use Rattle.sva_kept.specs.declared.kept.Kept.{Kept}
+use Rattle.sva_kept.specs.declared.kept.Kept.TheInside.{Inside as Kept}
 use Rattle.sva_kept.specs.declared.kept.Port.{Port}
 use Rattle.sva_kept.specs.Arriving.{IsArriving}
 use Rattle.sva_kept.specs.Inner.{wire_of}

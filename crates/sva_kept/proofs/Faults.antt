@@ -24,7 +24,7 @@ use Rattle.sva_endpoint.specs.Steps.{refusals_of_fault, faulting, index_for, aft
 use Rattle.sva_views.specs.Device.{device_seen}
 use Rattle.sva_views.specs.DeviceLaws.{faulted}
 use Rattle.sva_views.proofs.Groups.{fault_is_seen}
-use Rattle.sva_kept.specs.declared.kept.Kept.{Kept}
+use Rattle.sva_kept.specs.declared.kept.Kept.TheInside.{Inside as Kept}
 use Rattle.sva_kept.specs.declared.kept.Port.{Port}
 use Rattle.sva_kept.specs.Inner.{wire_of}
 use Rattle.sva_kept.specs.Steps.{Does, ByLabels, Sends}

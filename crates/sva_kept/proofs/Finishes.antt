@@ -23,7 +23,7 @@ use Rattle.sva_endpoint.specs.Steps.{refusals_of_finish, finishing, after_finish
 use Rattle.sva_views.specs.Device.{device_seen}
 use Rattle.sva_views.specs.Flights.{FlightsAreSeen}
 use Rattle.sva_views.proofs.Completions.{finish_is_seen}
-use Rattle.sva_kept.specs.declared.kept.Kept.{Kept}
+use Rattle.sva_kept.specs.declared.kept.Kept.TheInside.{Inside as Kept}
 use Rattle.sva_kept.specs.declared.kept.Port.{Port}
 use Rattle.sva_kept.specs.Inner.{wire_of}
 use Rattle.sva_kept.specs.Steps.{Does, ByLabels, Sends}

@@ -30,7 +30,7 @@ use Rattle.sva_unit.specs.Pumping.{extent_seen, scope_sent, send_next, pass_next
 use Rattle.sva_unit.proofs.Pumps.{pump_is}
 use Rattle.sva_views.specs.Flights.{scope_seen}
 use Rattle.sva_kept.specs.declared.kept.Port.{Port}
-use Rattle.sva_kept.specs.declared.kept.Kept.{Kept}
+use Rattle.sva_kept.specs.declared.kept.Kept.TheInside.{Inside as Kept}
 use Rattle.sva_kept.specs.Heads.{unit_at, IsHead, request_of}
 use Rattle.sva_kept.specs.Steps.{Does, ByLabels, PortFor, Sends}
 use Rattle.sva_kept.specs.Inner.{wire_of}

@@ -21,7 +21,7 @@ use Rattle.sva_pasid.specs.declared.places.Place.{Place}
 use Rattle.sva_views.specs.Bindings.{binding_seen}
 use Rattle.sva_views.specs.Flights.{flight_seen}
 use Rattle.sva_views.proofs.Flights.{flight_laws}
-use Rattle.sva_kept.specs.declared.kept.Kept.{Kept}
+use Rattle.sva_kept.specs.declared.kept.Kept.TheInside.{Inside as Kept}
 use Rattle.sva_kept.specs.Arriving.{IsArriving}
 use Rattle.sva_kept.specs.Inner.{wire_of, IsHost}
 use Rattle.sva_kept.specs.Stages.{IsIn, IsSeenIn, MovesTo}

@@ -20,7 +20,7 @@ use Rattle.sva_views.specs.Bindings.{bindings_seen}
 use Rattle.sva_views.specs.Flights.{flights_seen}
 use Rattle.sva_views.proofs.Completions.{tabulate_front}
 use Rattle.sva_kept.specs.declared.kept.Port.{Port}
-use Rattle.sva_kept.specs.declared.kept.Kept.{Kept}
+use Rattle.sva_kept.specs.declared.kept.Kept.TheInside.{Inside as Kept}
 use Rattle.sva_kept.specs.Inner.{new_port, part_seen, wire_of}
 use Rattle.sva_kept.proofs.Ports.{AllSound}
 

@@ -33,7 +33,7 @@ use Rattle.sva_memory.specs.Seen.{MemorySeen, target_seen, targets_seen}
 use Rattle.sva_memory.specs.Pieces.{verdict}
 use Rattle.sva_memory.specs.Unmapping.{may_unmap, may_unmap_range, unmap_causes_of, range_causes_of, unmapped}
 use Rattle.sva_views.proofs.Bindings.{seen_some}
-use Rattle.sva_kept.specs.declared.kept.Kept.{Kept}
+use Rattle.sva_kept.specs.declared.kept.Kept.TheInside.{Inside as Kept}
 use Rattle.sva_kept.specs.Inner.{wire_of}
 use Rattle.sva_kept.specs.Steps.{Does, ByLabels}
 use Rattle.sva_kept.specs.Unmapping.{have_room, submitted}

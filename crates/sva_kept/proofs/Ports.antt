@@ -15,7 +15,7 @@ use Rattle.sva_endpoint.specs.Tables.{Tables}
 use Rattle.sva_endpoint.specs.Laws.{IsSound}
 use Rattle.sva_kept.specs.declared.kept.Port.{Port}
 use Rattle.sva_views.specs.Device.{device_seen}
-use Rattle.sva_kept.specs.declared.kept.Kept.{Kept}
+use Rattle.sva_kept.specs.declared.kept.Kept.TheInside.{Inside as Kept}
 use Rattle.sva_kept.specs.Steps.{PortFor}
 use Rattle.sva_kept.specs.Inner.{part_seen, wire_of, IsHost}
 

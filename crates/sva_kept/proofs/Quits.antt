@@ -19,7 +19,7 @@ use Rattle.sva_msg.specs.declared.messages.Kind.TheVariants.{Marker}
 use Rattle.sva_msg.specs.Bag.{InFlight}
 use Rattle.sva_endpoint.specs.Steps.{refusals_of_quit, quitting, after_quit}
 use Rattle.sva_views.proofs.Groups.{quit_is_seen}
-use Rattle.sva_kept.specs.declared.kept.Kept.{Kept}
+use Rattle.sva_kept.specs.declared.kept.Kept.TheInside.{Inside as Kept}
 use Rattle.sva_kept.specs.declared.kept.Port.{Port}
 use Rattle.sva_kept.specs.Inner.{wire_of}
 use Rattle.sva_kept.specs.Steps.{Does, ByLabels, Sends}

@@ -22,7 +22,7 @@ use Rattle.sva_views.specs.Device.{device_seen}
 use Rattle.sva_views.specs.Flights.{flight_seen, flights_seen}
 use Rattle.sva_views.proofs.Flights.{flight_laws}
 use Rattle.sva_views.proofs.Deliveries.{reset_is_seen}
-use Rattle.sva_kept.specs.declared.kept.Kept.{Kept}
+use Rattle.sva_kept.specs.declared.kept.Kept.TheInside.{Inside as Kept}
 use Rattle.sva_kept.specs.declared.kept.Port.{Port}
 use Rattle.sva_kept.specs.Arriving.{IsArriving}
 use Rattle.sva_kept.specs.Inner.{wire_of}

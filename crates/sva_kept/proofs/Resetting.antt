@@ -14,7 +14,7 @@ use Rattle.sva_labels.specs.Outcomes.{by_one}
 use Rattle.sva_msg.specs.declared.messages.Kind.TheVariants.{Reset}
 use Rattle.sva_msg.specs.Bag.{InFlight}
 use Rattle.sva_unit.specs.Changes.{reset_begun}
-use Rattle.sva_kept.specs.declared.kept.Kept.{Kept}
+use Rattle.sva_kept.specs.declared.kept.Kept.TheInside.{Inside as Kept}
 use Rattle.sva_kept.specs.declared.kept.Port.{Port}
 use Rattle.sva_kept.specs.Inner.{wire_of}
 use Rattle.sva_kept.specs.Steps.{ByLabels, Sends}

@@ -39,7 +39,7 @@ use Rattle.sva_memory.proofs.Success.{frames_enough}
 use Rattle.sva_views.specs.Bindings.{stage_or_quiet, binding_seen}
 use Rattle.sva_views.specs.Flights.{kind_seen, code_seen}
 use Rattle.sva_views.specs.Service.{ask_seen, job_seen}
-use Rattle.sva_kept.specs.declared.kept.Kept.{Kept}
+use Rattle.sva_kept.specs.declared.kept.Kept.TheInside.{Inside as Kept}
 use Rattle.sva_kept.specs.declared.replying.Response.{Response as Responding}
 use Rattle.sva_kept.specs.Inner.{wire_of}
 use Rattle.sva_kept.specs.Steps.{Does, Sends}

@@ -15,7 +15,7 @@ use Rattle.sva_memory.specs.Seen.{MemorySeen}
 use Rattle.sva_memory.specs.Steps as memory
 use Rattle.sva_pasid.specs.Places as places
 use Rattle.sva_views.proofs.Bindings.{bindings_are_seen}
-use Rattle.sva_kept.specs.declared.kept.Kept.{Kept}
+use Rattle.sva_kept.specs.declared.kept.Kept.TheInside.{Inside as Kept}
 use Rattle.sva_kept.specs.Inner.{wire_of}
 use Rattle.sva_kept.specs.Steps.{Does, ByLabels}
 

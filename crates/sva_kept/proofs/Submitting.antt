@@ -22,7 +22,7 @@ use Rattle.sva_unit.specs.Seen.{UnitSeen, with_unit}
 use Rattle.sva_views.specs.Bindings.{binding_seen}
 use Rattle.sva_views.proofs.Bindings.{bindings_are_seen}
 use Rattle.sva_kept.specs.declared.kept.Port.{Port}
-use Rattle.sva_kept.specs.declared.kept.Kept.{Kept}
+use Rattle.sva_kept.specs.declared.kept.Kept.TheInside.{Inside as Kept}
 use Rattle.sva_kept.specs.Inner.{part_seen, wire_of, IsHost}
 use Rattle.sva_kept.specs.Unmapping.{have_room, AreGiven, IsSubmitting, wire_with, devices_of, part_so_far, pasid_asked, submitted}
 use Rattle.sva_kept.proofs.Ports.{part_there, AllSound}

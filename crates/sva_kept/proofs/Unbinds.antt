@@ -20,7 +20,7 @@ use Rattle.sva_msg.specs.Bag.{InFlight}
 use Rattle.sva_pasid.specs.Moves.{Kind}
 use Rattle.sva_pasid.specs.declared.places.Place.{Place}
 use Rattle.sva_views.specs.Bindings.{bindings_seen}
-use Rattle.sva_kept.specs.declared.kept.Kept.{Kept}
+use Rattle.sva_kept.specs.declared.kept.Kept.TheInside.{Inside as Kept}
 use Rattle.sva_kept.specs.declared.unbinding.Ending.{Ending}
 use Rattle.sva_kept.specs.declared.unbinding.Ending.TheVariants.{AtOnce, ByStop}
 use Rattle.sva_kept.specs.Inner.{wire_of, IsHost}

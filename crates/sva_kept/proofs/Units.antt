@@ -18,7 +18,7 @@ use Rattle.sva_unit.specs.Seen as seen
 use Rattle.sva_views.specs.Flights.{kind_seen}
 use Rattle.sva_endpoint.specs.Laws.{IsSound}
 use Rattle.sva_kept.specs.declared.kept.Port.{Port}
-use Rattle.sva_kept.specs.declared.kept.Kept.{Kept}
+use Rattle.sva_kept.specs.declared.kept.Kept.TheInside.{Inside as Kept}
 use Rattle.sva_kept.specs.Steps.{Does, ByLabels, PortFor, Sends}
 use Rattle.sva_kept.specs.Inner.{part_seen, wire_of, AreStaged, IsHost}
 use Rattle.sva_kept.proofs.Ports.{IsPort, AllSound, written, same_port, sound_set}

@@ -22,7 +22,7 @@ use Rattle.sva_endpoint.specs.Steps.{refusals_of_use, using, lowest_slot, transl
 use Rattle.sva_endpoint.specs.Steps.{after_end_use, refusals_of_evict, evicting, after_evict}
 use Rattle.sva_views.specs.DeviceLaws.{found_at}
 use Rattle.sva_views.proofs.Uses.{use_is_seen, end_is_seen, evict_is_seen}
-use Rattle.sva_kept.specs.declared.kept.Kept.{Kept}
+use Rattle.sva_kept.specs.declared.kept.Kept.TheInside.{Inside as Kept}
 use Rattle.sva_kept.specs.declared.kept.Port.{Port}
 use Rattle.sva_kept.specs.Inner.{wire_of}
 use Rattle.sva_kept.specs.Steps.{Does, ByLabels}

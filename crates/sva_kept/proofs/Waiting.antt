@@ -22,7 +22,7 @@ use Rattle.sva_unit.specs.Seen.{UnitSeen, request_seen}
 use Rattle.sva_views.specs.Bindings.{binding_seen}
 use Rattle.sva_views.proofs.Bindings.{bindings_are_seen}
 use Rattle.sva_views.proofs.Flights.{flight_laws}
-use Rattle.sva_kept.specs.declared.kept.Kept.{Kept}
+use Rattle.sva_kept.specs.declared.kept.Kept.TheInside.{Inside as Kept}
 use Rattle.sva_kept.specs.declared.kept.Port.{Port}
 use Rattle.sva_kept.specs.Arriving.{IsArriving}
 use Rattle.sva_kept.specs.Inner.{wire_of}

@@ -9,7 +9,7 @@ use Rattle.sva_views.specs.Device.{device_seen}
 use Rattle.sva_views.specs.Bindings.{bindings_seen}
 use Rattle.sva_views.specs.Flights.{flights_seen}
 use Rattle.sva_kept.specs.declared.kept.Port.{Port}
-use Rattle.sva_kept.specs.declared.kept.Kept.{Kept}
+use Rattle.sva_kept.specs.declared.kept.Kept.TheInside.{Inside as Kept}
 
 -- an endpoint that does nothing yet, with a unit of which nothing was asked
 abbrev pub new_port : Port

@@ -1,13 +1,17 @@
 //! The parts of a host.
 
-ghost use Rattle.std.specs.Prelude.{◌≡◌, ◌≤◌, replicate};
+ghost use Rattle.std.specs.Prelude.{◌≡◌, ◌≤◌, ◌^◌, IfOk, replicate};
+ghost use Rattle.sva_labels.specs.Host.{first_wire};
 ghost use Rattle.sva_kept.specs.Inner.{new_port};
 
 use arrayvec::ArrayVec;
+use std::alloc::{AllocError, Global};
+use std::marker::Model;
 use sva_endpoint::Endpoint;
 use sva_memory::Memory;
 use sva_msg::Bag;
 use sva_pasid::Table;
+use sva_step::Config;
 use sva_unit::Unit;
 
 /// How many endpoints a host has at most.
@@ -31,7 +35,8 @@ impl Default for Port {
     }
 }
 
-/// What a host keeps. That its parts fit one another is the host's affair.
+/// What a host keeps. Contracts see all of it by numbers and labels. Its fields are public, since the steps stand in the crates
+/// above: a function that writes a part shows that its endpoints are sound and that each stage of a binding stands in its place.
 #[derive(Drop)]
 pub struct Kept {
     /// The frames and the live spaces.
@@ -50,8 +55,41 @@ pub struct Kept {
     pub next_cookie: u64,
 }
 
-/// So many endpoints that do nothing yet, each with a unit of which nothing was asked.
-pub fn new_ports(count: u64) -> ArrayVec<Port, MOST_ENDPOINTS>
+impl Model for Kept {
+    ghost use Rattle.sva_model.specs.Wire.{Wire};
+
+    ghost Value = { Wire };
+
+    ghost use Rattle.sva_kept.specs.Inner.{wire_of, IsHost};
+
+    ghost view = { wire_of };
+
+    ghost invariant = { IsHost };
+}
+
+impl Kept {
+    /// What the host of a config keeps, in which nothing has happened: it has no space, each frame is free, nothing is bound,
+    /// and nothing is in flight.
+    pub fn open(alloc: Global, config: Config) -> Result<Kept, AllocError>
+        requires first { config.first ≤ 2 ^ 63 }
+        requires frames { config.frames ≤ 4096 }
+        requires endpoints { config.endpoints ≤ 8 }
+        ensures { IfOk result (λ kept. kept ≡ first_wire config) }
+    {
+        Ok(Kept {
+            memory: Memory::open(alloc, config.frames as u32, config.first)?,
+            bindings: Table::new(alloc),
+            ports: new_ports(config.endpoints),
+            in_flight: Bag::new(alloc, config.first),
+            workers: config.workers,
+            next_binding: config.first,
+            next_cookie: config.first,
+        })
+    }
+}
+
+// So many endpoints that do nothing yet, each with a unit of which nothing was asked.
+fn new_ports(count: u64) -> ArrayVec<Port, MOST_ENDPOINTS>
     requires { count ≤ 8 }
     ensures { result.items ≡ replicate count new_port }
 {

@@ -4,6 +4,7 @@
 #![tactic(auto)]
 
 mod advancing;
+mod endpoints;
 mod kept;
 mod replying;
 mod requests;
@@ -14,7 +15,8 @@ mod unbinding;
 mod unmapping;
 
 pub use advancing::{Course, descriptors_of, is_due, next_course};
-pub use kept::{Kept, Port, new_ports};
+pub use endpoints::port;
+pub use kept::{Kept, Port};
 pub use replying::{Response, answer_of, code_by};
 pub use requests::completion;
 pub use sending::send;

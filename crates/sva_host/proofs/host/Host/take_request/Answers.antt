@@ -7,25 +7,25 @@ use Rattle.sva_kept.proofs.Units.{with_unit_host, unit_rewritten}
 use Rattle.sva_kept.proofs.Waiting.{without_first, port_for, first_taken}
 use Rattle.sva_host.proofs.host.Host.take_request.Goals as goal
 
-pub invariant_of-self : goal.invariant_of-self
-invariant_of-self c =
-    let is = port_found c.self.inside.kept _ c.args.endpoint c.args.endpoint c.deref_mut.result.now c.index-deref_mut-endpoint.result c.self.invariant
-    c.self.view_is (port_for c.args.self.now c.args.endpoint c.requires) c.deref_mut.ensures.value in
-    with_unit_host c.self.inside.kept _ c.args.endpoint (slice_index_or c.deref_mut.result.now c.args.endpoint c.index-deref_mut-endpoint.result) _
-    c.self.invariant is.sound
-    (unit_rewritten c.self.inside.kept _ c.args.endpoint c.args.endpoint c.deref_mut.result.now c.deref_mut.result.now c.index-deref_mut-endpoint.result
+pub invariant_of-host : goal.invariant_of-host
+invariant_of-host c =
+    let is = port_found c.host.inside _ c.args.endpoint c.args.endpoint c.deref_mut.result.now c.index-deref_mut-endpoint.result c.host.invariant
+    (c.host.view_is ∙ c.self.view_is) (port_for c.args.self.now c.args.endpoint c.requires) c.deref_mut.ensures.value in
+    with_unit_host c.host.inside _ c.args.endpoint (slice_index_or c.deref_mut.result.now c.args.endpoint c.index-deref_mut-endpoint.result) _
+    c.host.invariant is.sound
+    (unit_rewritten c.host.inside _ c.args.endpoint c.args.endpoint c.deref_mut.result.now c.deref_mut.result.now c.index-deref_mut-endpoint.result
     c.index-deref_mut-endpoint.result c.take_request-request.new.self without_first
-    c.self.view_is (port_for c.args.self.now c.args.endpoint c.requires) c.deref_mut.ensures.value c.deref_mut.ensures.value
-    c.take_request-request.ensures.rest) c.self.invariant.staged
+    (c.host.view_is ∙ c.self.view_is) (port_for c.args.self.now c.args.endpoint c.requires) c.deref_mut.ensures.value c.deref_mut.ensures.value
+    c.take_request-request.ensures.rest) c.host.invariant.staged
 
 pub returns : goal.returns
 returns c =
-    let is = port_found c.self.inside.kept _ c.args.endpoint c.args.endpoint c.deref_mut.result.now c.index-deref_mut-endpoint.result c.self.invariant
-    c.self.view_is (port_for c.args.self.now c.args.endpoint c.requires) c.deref_mut.ensures.value in
-    ap (λ (ports : List Port). wire_of (record c.self.inside.kept { ports = record { items = ports } }))
-    (unit_rewritten c.self.inside.kept _ c.args.endpoint c.args.endpoint c.deref_mut.result.now c.deref_mut.result.now c.index-deref_mut-endpoint.result
+    let is = port_found c.host.inside _ c.args.endpoint c.args.endpoint c.deref_mut.result.now c.index-deref_mut-endpoint.result c.host.invariant
+    (c.host.view_is ∙ c.self.view_is) (port_for c.args.self.now c.args.endpoint c.requires) c.deref_mut.ensures.value in
+    ap (λ (ports : List Port). wire_of (record c.host.inside { ports = record { items = ports } }))
+    (unit_rewritten c.host.inside _ c.args.endpoint c.args.endpoint c.deref_mut.result.now c.deref_mut.result.now c.index-deref_mut-endpoint.result
     c.index-deref_mut-endpoint.result c.take_request-request.new.self without_first
-    c.self.view_is (port_for c.args.self.now c.args.endpoint c.requires) c.deref_mut.ensures.value c.deref_mut.ensures.value
+    (c.host.view_is ∙ c.self.view_is) (port_for c.args.self.now c.args.endpoint c.requires) c.deref_mut.ensures.value c.deref_mut.ensures.value
     c.take_request-request.ensures.rest)
-    ∙ first_taken c.self.inside.kept _ c.args.endpoint (slice_index_or c.deref_mut.result.now c.args.endpoint c.index-deref_mut-endpoint.result)
-    c.self.view_is is
+    ∙ first_taken c.host.inside _ c.args.endpoint (slice_index_or c.deref_mut.result.now c.args.endpoint c.index-deref_mut-endpoint.result)
+    (c.host.view_is ∙ c.self.view_is) is

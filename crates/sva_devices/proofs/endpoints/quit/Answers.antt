@@ -1,0 +1,50 @@
+use Rattle.std.proofs.Common.{sym, ap, refl}
+use Rattle.std.specs.Prelude.{is_ok, slice_index_or}
+use Rattle.sva_step.specs.declared.answers.Answer.TheVariants as answer
+use Rattle.sva_step.specs.declared.steps.Step.TheVariants as step
+use Rattle.sva_endpoint.specs.Calls as call
+use Rattle.sva_endpoint.specs.Tables.{Tables}
+use Rattle.sva_endpoint.specs.Steps.{after_quit}
+use Rattle.sva_endpoint.proofs.SoundLaws.{sound_after}
+use Rattle.sva_kept.specs.Inner.{wire_of}
+use Rattle.sva_kept.proofs.Ports.{port_found, rewritten, with_tables_host}
+use Rattle.sva_kept.proofs.Devices.{kept, went, ended}
+use Rattle.sva_kept.proofs.Quits.{quit_refused, quit_unsent, quit_done}
+use Rattle.sva_devices.proofs.endpoints.quit.Goals as goal
+
+pub returns-in_err-marker : goal.returns-in_err-marker
+returns-in_err-marker c =
+    let is = port_found c.host.inside _ c.args.endpoint c.in_ok-at.at _ c.index-deref-at.result c.host.invariant c.host.view_is c.in_ok-at.ensures
+    c.deref.ensures.0 in
+    kept _ _ (step.Quit c.args.endpoint c.args.pasid) _ _ c.host.view_is c.from_residual-in_err-marker.ensures
+    (quit_refused c.host.inside c.args.endpoint c.args.pasid _ _ is c.in_err-marker.ensures)
+
+pub returns-in_err-send : goal.returns-in_err-send
+returns-in_err-send c =
+    let is = port_found c.host.inside _ c.args.endpoint c.in_ok-at.at _ c.index-deref-at.result c.host.invariant c.host.view_is c.in_ok-at.ensures
+    c.deref.ensures.0 in
+    went _ _ (wire_of (record c.host.inside { in_flight = c.send.new.bag })) (step.Quit c.args.endpoint c.args.pasid) _ _ c.host.view_is
+    c.from_residual-in_err-send.ensures
+    (quit_unsent c.host.inside c.args.endpoint c.args.pasid _ c.in_ok-marker.marker _ _ is c.in_ok-marker.ensures c.in_err-send.ensures.sends)
+
+pub invariant_of-host-2 : goal.invariant_of-host-2
+invariant_of-host-2 c =
+    let is = port_found c.host.inside _ c.args.endpoint c.in_ok-at.at _ c.index-deref-at.result c.host.invariant c.host.view_is c.in_ok-at.ensures
+    c.deref.ensures.0 in
+    let tables = λ (s : Tables). after_quit s c.args.pasid in
+    with_tables_host c.host.inside c.args.endpoint (slice_index_or c.deref.result.now c.in_ok-at.at c.index-deref-at.result) _ c.send.new.bag _
+    c.host.invariant
+    (sound_after _ (call.Quit c.args.pasid) (ap is_ok (sym c.in_ok-marker.ensures)) is.sound)
+    (rewritten c.host.inside _ c.args.endpoint c.in_ok-at.at _ _ c.index-deref-at.result c.index-deref_mut-at.result c.quit.new.self tables
+    c.host.view_is c.in_ok-at.ensures c.deref.ensures.0 c.deref_mut.ensures.value c.quit.ensures)
+
+pub returns : goal.returns
+returns c =
+    let is = port_found c.host.inside _ c.args.endpoint c.in_ok-at.at _ c.index-deref-at.result c.host.invariant c.host.view_is c.in_ok-at.ensures
+    c.deref.ensures.0 in
+    let tables = λ (s : Tables). after_quit s c.args.pasid in
+    ended c.host.inside _ (step.Quit c.args.endpoint c.args.pasid) (answer.Marker) _ _ _ c.send.new.bag c.host.view_is
+    (rewritten c.host.inside _ c.args.endpoint c.in_ok-at.at _ _ c.index-deref-at.result c.index-deref_mut-at.result c.quit.new.self tables
+    c.host.view_is c.in_ok-at.ensures c.deref.ensures.0 c.deref_mut.ensures.value c.quit.ensures)
+    (refl)
+    (quit_done c.host.inside c.args.endpoint c.args.pasid _ c.in_ok-marker.marker c.send.new.bag is c.in_ok-marker.ensures c.in_ok-send.ensures.sends)

@@ -1,6 +1,6 @@
 //! Page requests, as they arrive (PCI Express Base 5.0, section 10.4.1).
 
-ghost use Rattle.std.specs.Prelude.{◌≡◌, ◌≢◌, Err};
+ghost use Rattle.std.specs.Prelude.{◌≢◌, Err};
 ghost use Rattle.sva_step.specs.declared.refusals.Refusal.TheVariants as refusal;
 ghost use Rattle.sva_step.specs.declared.steps.Step.TheVariants as step;
 ghost use Rattle.sva_labels.specs.Sound.{IsSound};

@@ -1,3 +1,4 @@
 pub mod Receipts
 pub mod Audits
+pub mod Once
 pub mod Tokens

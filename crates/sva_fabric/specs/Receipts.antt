@@ -1,12 +1,13 @@
 -- Receipts: what a port was told of its own calls, and where they stand in a journal.
 use Rattle.std.specs.Prelude.{◌≡◌, ◌≢◌, ◌<◌, ◌-◌, ℕ, zero, suc, ◌+◌, Option, Some, List, [], ◌∷◌, ◌++◌, length, slice_get, IfSome, IsSomeAnd}
+use Rattle.sva_frames.specs.declared.pool.Counts.{Counts}
 use Rattle.sva_step.specs.declared.limits.Config.{Config}
 use Rattle.sva_step.specs.declared.steps.Step.{Step}
 use Rattle.sva_journal.specs.declared.journal.Entry.{Entry}
 use Rattle.sva_fabric.specs.declared.receipts.Receipt.{Receipt}
 use Rattle.sva_fabric.specs.declared.running.StepFault.{StepFault}
 use Rattle.sva_fabric.specs.declared.running.StepFault.TheVariants as fault
-use Rattle.sva_journal.specs.Journal.{History, IsLegal, entry_of, answer_of}
+use Rattle.sva_journal.specs.Journal.{History, IsLegal, CountsOf, entry_of, answer_of}
 
 -- a port: its number, and the receipts of its calls
 pub record Seat : Type 0 where
@@ -46,12 +47,16 @@ pub record IsAnsweredAt (before : History) (port : ℕ) (last : Option Receipt) 
   pub answer_is : r.answer ≡ answer_of before step
   pub last_stands : IfSome last (λ l. Stands before.entries port l)
 
--- a call that was not: memory lacked, or something else stands where the port's last receipt should
-abbrev pub IsRefusedAt : List Entry → (port : ℕ) → Option Receipt → StepFault → Type 0
-IsRefusedAt entries port last fault.Memory = IfSome last (λ l. Stands entries port l)
-IsRefusedAt entries port last (fault.Strayed place found) =
+-- something else stands where the port's last receipt should
+abbrev pub HasStrayed : List Entry → (port : ℕ) → Option Receipt → (place : ℕ) → (found : Option Entry) → Type 0
+HasStrayed entries port last place found =
     (found ≡ slice_get entries place)
     × IsSomeAnd last (λ l. (l.place ≡ place) × (found ≢ Some (entry_told port l)))
+
+-- a call that was not: memory lacked, or the port strayed
+abbrev pub IsRefusedAt : List Entry → (port : ℕ) → Option Receipt → StepFault → Type 0
+IsRefusedAt entries port last fault.Memory = IfSome last (λ l. Stands entries port l)
+IsRefusedAt entries port last (fault.Strayed place found) = HasStrayed entries port last place found
 
 -- For the calls that take the lock themselves no clause can name what lay under it. They say that there is a legal journal of the
 -- config that was opened, with what they tell: the new receipt stands in it, and before it, at a lower place, the port's last one.
@@ -63,8 +68,20 @@ pub record IsAnswered (config : Config) (port : ℕ) (last : Option Receipt) (st
   pub stands : Stands journal.entries port r
   pub last_stands : IfSome last (λ l. (l.place < r.place) × Stands journal.entries port l)
 
--- memory lacked; or there is a legal journal of that config that has something else where the port's last receipt should stand
+-- there is a legal journal of that config that has something else where the port's last receipt should stand
+abbrev pub IsAstray : Config → (port : ℕ) → Option Receipt → (place : ℕ) → (found : Option Entry) → Type 0
+IsAstray config port last place found =
+    (journal : History) × IsLegal journal × (journal.config ≡ config) × HasStrayed journal.entries port last place found
+
+-- memory lacked, or the port strayed
 abbrev pub IsRefused : Config → (port : ℕ) → Option Receipt → StepFault → Type 0
 IsRefused config port last fault.Memory = Unit {0}
-IsRefused config port last (fault.Strayed place found) =
-    (journal : History) × IsLegal journal × (journal.config ≡ config) × IsRefusedAt journal.entries port last (fault.Strayed place found)
+IsRefused config port last (fault.Strayed place found) = IsAstray config port last place found
+
+-- the counts of frames at the world of a legal journal of that config that holds the port's last receipt
+pub record IsCounted (config : Config) (port : ℕ) (last : Option Receipt) (found : Counts) : Type 0 where
+  pub journal : History
+  pub legal : IsLegal journal
+  pub of_config : journal.config ≡ config
+  pub last_stands : IfSome last (λ l. Stands journal.entries port l)
+  pub counts : CountsOf journal found

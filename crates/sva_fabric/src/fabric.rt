@@ -6,7 +6,7 @@ ghost use Rattle.sva_step.specs.declared.refusals.Refusal.TheVariants as refusal
 ghost use Rattle.sva_step.specs.Limits.{Fits};
 ghost use Rattle.sva_core.specs.Reached.{IsOpenRefusal};
 ghost use Rattle.sva_journal.specs.Suiting.{Suits};
-ghost use Rattle.sva_fabric.specs.Receipts.{last_of, IsAnswered, IsRefused};
+ghost use Rattle.sva_fabric.specs.Receipts.{last_of, IsAnswered, IsRefused, IsCounted, IsAstray};
 ghost use Rattle.sva_fabric.specs.Audits.{held_by, used_by, seats_of, IsFinished, new_seats};
 
 use crate::audits::{Audit, FirstBadReceipt};
@@ -15,12 +15,13 @@ use crate::opening::open_ports;
 use crate::port::Port;
 use crate::ports::Ports;
 use crate::receipts::Receipt;
-use crate::running::{Running, StepFault};
+use crate::running::{Running, StepFault, Strayed};
 use crate::tally::Tally;
 use crate::tokens::Tokens;
 use std::alloc::Global;
 use std::sync::ledger::Blank;
 use std::sync::{Mutex, Wait};
+use sva_frames::Counts;
 use sva_step::{Config, Refusal, Step};
 
 /// One world that several threads share. Each calls it by a port of its own.
@@ -98,6 +99,15 @@ impl<C: Tally> Fabric<C> {
         let kept = receipt;
         receipts.push_reserved(kept);
         Ok(receipt)
+    }
+
+    /// How many frames are free, mapped and withheld, at a world whose journal holds the port's last receipt. It isn't journaled, counts
+    /// as no call, and takes no memory.
+    pub fn counts<R: Wait>(&self, rt: &R, port: &Port<C>) -> Result<Counts, Strayed>
+        ensures counted { IfOk result (IsCounted C.config port.now.number (last_of port.now.receipts)) }
+        ensures fault { IfErr result (λ f. IsAstray C.config port.now.number (last_of port.now.receipts) f.place f.found) }
+    {
+        self.running.lock(rt).counts(port.number(), port.last())
     }
 
     /// Ends the sharing. It compares the receipts of all ports with the journal, and the tokens that are left with its world's

@@ -4,9 +4,9 @@ ghost use Rattle.std.specs.Prelude.{◌≡◌, ◌↔◌, ◌+◌, ◌^◌, ◌<
 ghost use Rattle.sva_step.specs.declared.refusals.Refusal.TheVariants as refusal;
 ghost use Rattle.sva_step.specs.Limits.{Fits};
 ghost use Rattle.sva_core.specs.Reached.{IsOpenRefusal};
-ghost use Rattle.sva_journal.specs.Journal.{IsLegal, bindings_of, uses_of, entry_of, with_entry, empty_of};
+ghost use Rattle.sva_journal.specs.Journal.{IsLegal, CountsOf, bindings_of, uses_of, entry_of, with_entry, empty_of};
 ghost use Rattle.sva_journal.specs.Suiting.{Suits};
-ghost use Rattle.sva_fabric.specs.Receipts.{Stands, IsAnsweredAt, IsRefusedAt};
+ghost use Rattle.sva_fabric.specs.Receipts.{Stands, IsAnsweredAt, IsRefusedAt, HasStrayed};
 ghost use Rattle.sva_fabric.specs.Audits.{held_by, used_by, seats_of, AllStand, IsFirstBad, EachStands, IsFirstBadOf, calls_of, IsAudit};
 
 use crate::audits::{Audit, FirstBadReceipt};
@@ -18,6 +18,7 @@ use crate::tokens::Tokens;
 use std::alloc::Global;
 use std::marker::Model;
 use std::sync::ledger::{Book, Share};
+use sva_frames::Counts;
 use sva_journal::{Entry, Journaled};
 use sva_step::{Config, Refusal, Step};
 
@@ -33,6 +34,15 @@ pub enum StepFault {
         /// What stands there instead.
         found: Option<Entry>,
     },
+}
+
+/// Why counts were not told: the port's last receipt doesn't stand in the journal.
+#[derive(Clone, Copy, Debug, PartialEq, Eq)]
+pub struct Strayed {
+    /// The place that the receipt names.
+    pub place: u64,
+    /// What stands there instead.
+    pub found: Option<Entry>,
 }
 
 /// A journaled world, as it lies under the lock of a `Fabric`, with the book of its calls: the journal is as long as the shares of the
@@ -90,13 +100,8 @@ impl<C: Tally> Running<C> {
         ensures parts { calls.new.parts ≡ calls.old.parts }
     {
         let place = self.journaled.calls();
-        if let Some(receipt) = last {
-            if !self.stands(port, &receipt) {
-                return Err(StepFault::Strayed {
-                    place: receipt.place,
-                    found: self.journaled.at(receipt.place),
-                });
-            }
+        if let Err(Strayed { place, found }) = self.holds(port, last) {
+            return Err(StepFault::Strayed { place, found });
         }
         let Ok(entry) = self.journaled.perform(port, step) else {
             return Err(StepFault::Memory);
@@ -107,6 +112,19 @@ impl<C: Tally> Running<C> {
             step: entry.step,
             answer: entry.answer,
         })
+    }
+
+    /// How many frames are free, mapped and withheld. The receipt is compared with the journal as by `step`.
+    pub fn counts(&self, port: u64, last: Option<Receipt>) -> Result<Counts, Strayed>
+        ensures counts { IfOk result (CountsOf self.now) }
+        ensures stands { OnOk result (IfSome last (λ l. Stands self.now.entries port l)) }
+        ensures fault { IfErr result (λ f. HasStrayed self.now.entries port last f.place f.found) }
+        ensures legal { IsLegal self.now }
+        ensures config { self.now.config ≡ C.config }
+    {
+        let counts = self.journaled.counts();
+        self.holds(port, last)?;
+        Ok(counts)
     }
 
     /// A share with every part of the ledger counts each call of the journal, and no share more than there are. Nothing changes.
@@ -155,6 +173,23 @@ impl<C: Tally> Running<C> {
         let tickets = tokens.tickets.as_slice();
         let held = leases.len() as u64 + leavings.len() as u64;
         held == self.journaled.bindings() && tickets.len() as u64 == self.journaled.uses()
+    }
+
+    // Compares a port's last receipt with the journal.
+    fn holds(&self, port: u64, last: Option<Receipt>) -> Result<(), Strayed>
+        ensures stands { OnOk result (IfSome last (λ l. Stands self.now.entries port l)) }
+        ensures fault { IfErr result (λ f. HasStrayed self.now.entries port last f.place f.found) }
+    {
+        let Some(receipt) = last else {
+            return Ok(());
+        };
+        if self.stands(port, &receipt) {
+            return Ok(());
+        }
+        Err(Strayed {
+            place: receipt.place,
+            found: self.journaled.at(receipt.place),
+        })
     }
 
     // Tells that a receipt stands at its place, as a call of this port.

@@ -1,2 +1,3 @@
 pub mod Journal
+pub mod Agreement
 pub mod Suiting

@@ -5,6 +5,8 @@
 #[cfg(test)]
 mod audits;
 #[cfg(test)]
+mod counting;
+#[cfg(test)]
 mod holding;
 #[cfg(test)]
 mod journals;

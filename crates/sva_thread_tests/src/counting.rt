@@ -1,0 +1,46 @@
+ghost use Rattle.std.specs.Prelude.{◌≡◌};
+
+use crate::worlds::{map, takes};
+use std::alloc::Global;
+use std::marker::Brand;
+use std::process::Abort;
+use std::sync::Wait;
+use std::sync::ledger::Blank;
+use std::test::Fail;
+use sva_fabric::{Fabric, Tally, Tokens, ports_of};
+use sva_step::{Answer, Config, Step};
+
+// One endpoint, four frames and one worker.
+const SMALL: Config = Config {
+    endpoints: 1,
+    frames: 4,
+    workers: 1,
+    first: 0,
+};
+
+// Counts are told behind two steps, and are no call.
+fn counted<C: Tally, R: Wait + Abort>(rt: &R, alloc: Global, calls: Blank) -> Result<(), Fail>
+    requires name { calls.name ≡ C.name }
+    requires parts { (calls.parts ≡ C.parts) × (calls.parts ≡ 5) }
+    requires config { C.config ≡ SMALL }
+{
+    let Ok((fabric, mut ports)) = Fabric::<C>::open(alloc, SMALL, calls) else {
+        return Err("it opens".into());
+    };
+    let host = &mut ports.host;
+    takes(rt, &fabric, host, Step::Space, Answer::Space { space: 0 });
+    takes(rt, &fabric, host, map(16), Answer::Frame { frame: 0 });
+    let told = fabric
+        .counts(rt, host)
+        .map(|counts| (counts.free, counts.mapped, counts.withheld));
+    assert_eq!(rt; told, Ok((3, 1, 0)));
+    assert_eq!(rt; host.calls(), 2);
+    let audit = fabric.finish(ports, Tokens::new(alloc));
+    assert_eq!(rt; audit.map(|audit| audit.calls), Ok(2));
+    Ok(())
+}
+
+#[test]
+fn counts_behind_two_steps(rt: HostRuntime) -> Result<(), Fail> {
+    counted::<Brand, _>(&rt, rt.alloc(), Blank::new(ports_of(&SMALL)))
+}

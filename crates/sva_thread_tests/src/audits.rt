@@ -9,7 +9,7 @@ use std::sync::Wait;
 use std::sync::ledger::Blank;
 use std::test::Fail;
 use sva_fabric::{
-    Entry, Fabric, FirstBadReceipt, Receipt, Running, StepFault, Strayed, Tally, Tokens, ports_of,
+    Entry, Fabric, FirstBadReceipt, Receipt, Running, StepFault, Tally, Tokens, ports_of,
 };
 use sva_step::{Answer, Config, Refusal, Step};
 
@@ -58,17 +58,6 @@ fn strays<C: Tally>(rt: &impl Abort, alloc: Global, calls: Blank) -> Result<(), 
         running
             .step(1, Some(made()), &mut share, &Step::Space)
             .is_ok()
-    );
-    // The frames of the one that stands are told, and not those of the other.
-    let strayed = Strayed {
-        place: 0,
-        found: Some(found),
-    };
-    assert_eq!(rt; running.counts(3, Some(made())), Err(strayed));
-    assert!(rt;
-        running
-            .counts(1, Some(made()))
-            .is_ok_and(|counts| counts.free == 4)
     );
     running.compare(&mut share);
     Ok(())

@@ -7,7 +7,7 @@ use std::process::Abort;
 use std::sync::Wait;
 use std::sync::ledger::Blank;
 use std::test::Fail;
-use sva_fabric::{Fabric, Tally, Tokens, ports_of};
+use sva_fabric::{Fabric, Receipt, Running, Strayed, Tally, Tokens, ports_of};
 use sva_step::{Answer, Config, Step};
 
 // One endpoint, four frames and one worker.
@@ -43,4 +43,32 @@ fn counted<C: Tally, R: Wait + Abort>(rt: &R, alloc: Global, calls: Blank) -> Re
 #[test]
 fn counts_behind_two_steps(rt: HostRuntime) -> Result<(), Fail> {
     counted::<Brand, _>(&rt, rt.alloc(), Blank::new(ports_of(&SMALL)))
+}
+
+// None are told where the port's last receipt doesn't stand.
+fn astray<C: Tally>(rt: &impl Abort, alloc: Global, calls: Blank) -> Result<(), Fail>
+    requires name { calls.name ≡ C.name }
+    requires parts { (calls.parts ≡ C.parts) × (calls.parts ≡ 5) }
+    requires config { C.config ≡ SMALL }
+{
+    let (book, _share) = calls.open::<C>();
+    let Ok(running) = Running::<C>::open(alloc, SMALL, book) else {
+        return Err("it opens".into());
+    };
+    let made = Receipt {
+        place: 0,
+        step: Step::Space,
+        answer: Ok(Answer::Space { space: 0 }),
+    };
+    let strayed = Strayed {
+        place: 0,
+        found: None,
+    };
+    assert_eq!(rt; running.counts(1, Some(made)), Err(strayed));
+    Ok(())
+}
+
+#[test]
+fn none_behind_a_receipt_that_does_not_stand(rt: HostRuntime) -> Result<(), Fail> {
+    astray::<Brand>(&rt, rt.alloc(), Blank::new(ports_of(&SMALL)))
 }

@@ -1,0 +1,4 @@
+pub mod Tries
+pub mod Turns
+pub mod Working
+pub mod StormLemmas

@@ -1,0 +1,43 @@
+-- What a storm's audit counts, and how many ports a world has.
+use Rattle.std.proofs.Common.{◌≡◌, ◌∙◌, ◌≤◌, ℕ, zero, suc, ◌+◌, List, [], ◌∷◌, ◌++◌, length, map, Ok, ap, arith, refl}
+use Rattle.std.proofs.Common.{length-append}
+use Rattle.sva_step.specs.declared.limits.Config.{Config}
+use Rattle.sva_model.specs.State.PasidRule.{PerSpace}
+use Rattle.sva_model.specs.Journal.{steps_of}
+use Rattle.sva_laws.proofs.Limits.{adds_up}
+use Rattle.sva_laws.proofs.Withheld.{config_kept}
+use Rattle.sva_fabric.specs.declared.audits.Audit.{Audit}
+use Rattle.sva_fabric.specs.declared.ports.Ports.{Ports}
+use Rattle.sva_fabric.specs.Audits.{seats_of, new_seats}
+use Rattle.sva_journal.specs.Journal.{as_defined, world_of}
+use Rattle.sva_fabric.specs.Receipts.{Seat, seats_from, new_seat}
+use Rattle.sva_storm.specs.Storms.{HasFinished}
+
+-- the frames of an audit that is ok are all frames of the config
+pub storm_frames : (config : Config) (audit : Audit) → HasFinished config (Ok audit) → audit.free + audit.mapped + audit.withheld ≡ config.frames
+storm_frames config audit h =
+    let f = h.finished in
+    let a = f.is_audit in
+    let steps = steps_of (map as_defined f.journal.entries) in
+    let all = adds_up (world_of f.journal) in
+    let kept = ap (λ (c : Config). c.frames) (config_kept PerSpace f.journal.config steps ∙ f.of_config) in
+    omega (arith, a.3, a.4, a.5, all, kept)
+
+-- so many seats in a row
+seats_count : (first count : ℕ) → length (seats_from first count) ≡ count
+unfolding seats_from
+seats_count first zero = refl
+seats_count first (suc count) = omega (arith, length-append (seats_from first count) (new_seat (first + count) ∷ []), seats_count first count)
+
+-- the host's, the link's and the service's, and one for each endpoint and each worker
+pub ports_count : (config : Config) (seats : List Seat) → seats ≡ new_seats config → length seats ≡ 3 + config.endpoints + config.workers
+ports_count config seats same =
+    let row = seats_from 3 config.endpoints in
+    let rest = seats_from (3 + config.endpoints) config.workers in
+    omega (
+      arith,
+      ap length same,
+      length-append row rest,
+      seats_count 3 config.endpoints,
+      seats_count (3 + config.endpoints) config.workers,
+    )

@@ -1,0 +1,7 @@
+use Rattle.sva_storm.proofs.storming.storm.Given as goal
+
+abbrev pub ghosts-play_all-C-Ledger : goal.ghosts-play_all-C-Ledger
+ghosts-play_all-C-Ledger g a = record { name = a.calls.name; parts = a.calls.parts }
+
+abbrev pub ghosts-play_all-C-Tally : goal.ghosts-play_all-C-Tally
+ghosts-play_all-C-Tally g a = record { config = a.scenario.now.config }

@@ -1,0 +1,73 @@
+-- How a worker's calls take and answer jobs.
+use Rattle.std.specs.Prelude.{◌≡◌, ◌≤◌, ℕ, Bool, true, false, not, List, [], ◌∷◌, ◌++◌, length, Result, Ok, Err}
+use Rattle.sva_step.specs.declared.answers.Answer.{Answer}
+use Rattle.sva_step.specs.declared.answers.Answer.TheVariants.{JobTaken}
+use Rattle.sva_step.specs.declared.refusals.Refusal.{Refusal}
+use Rattle.sva_step.specs.declared.steps.Step.{Step}
+use Rattle.sva_step.specs.declared.steps.Step.TheVariants.{Take, Reply}
+use Rattle.sva_step.specs.declared.steps.Verdict.{Verdict}
+use Rattle.sva_step.specs.declared.steps.Verdict.TheVariants.{Success, Invalid, Failure}
+use Rattle.sva_fabric.specs.declared.receipts.Receipt.{Receipt}
+use Rattle.sva_fabric.specs.Receipts.{Seat}
+use Rattle.sva_storm.specs.Plays.{is_accepted}
+use Rattle.sva_storm.specs.declared.endings.Turn.{Turn}
+use Rattle.sva_storm.specs.declared.endings.Turn.TheVariants.{Accepted, Again, Memory, Strayed}
+
+-- was a job taken?
+abbrev pub is_job : Result Answer Refusal → Bool
+is_job (Ok (JobTaken binding group pages)) = true
+is_job _ = false
+
+-- a worker that holds a job answers it, and another takes one
+abbrev pub IsJobStep : (worker : ℕ) → (holds : Bool) → Step → Type 0
+IsJobStep worker false step = step ≡ Take worker
+IsJobStep worker true step = (verdict : Verdict) × (step ≡ Reply worker verdict)
+
+-- does it hold one after a call?
+abbrev pub holds_after : Bool → Receipt → Bool
+holds_after false receipt = is_job receipt.answer
+holds_after true receipt = not (is_accepted receipt.answer)
+
+-- and after some calls?
+abbrev pub holds_at_last : Bool → List Receipt → Bool
+holds_at_last holds [] = holds
+holds_at_last holds (r ∷ receipts) = holds_at_last (holds_after holds r) receipts
+
+-- each call takes a job where none is held, and else answers the one that is
+abbrev pub AreJobs : (worker : ℕ) → (holds : Bool) → List Receipt → Type 0
+AreJobs worker holds [] = Unit {0}
+AreJobs worker holds (r ∷ receipts) = IsJobStep worker holds r.step × AreJobs worker (holds_after holds r) receipts
+
+-- A loop that began with no job in hand has made these calls by its port, no more than the turns that were used: it took jobs, and
+-- answered each before it took the next.
+pub record HasAnswered (worker turns_used : ℕ) (before after : Seat) : Type 0 where
+  pub calls : List Receipt
+  pub number : after.number ≡ before.number
+  pub kept : after.receipts ≡ before.receipts ++ calls
+  pub jobs : AreJobs worker false calls
+  pub few : length calls ≤ turns_used
+
+-- ---- One turn
+
+-- is there something left to be answered after an answer's turn?
+abbrev pub is_left : Turn → Bool
+is_left Accepted = false
+is_left _ = true
+
+-- a success that was refused is `Invalid` at the next try
+abbrev pub verdict_after : Verdict → Turn → Verdict
+verdict_after Success Again = Invalid
+verdict_after verdict _ = verdict
+
+-- a call that was answered
+pub record HasWorked (worker : ℕ) (before after : Seat) (holds held : Bool) : Type 0 where
+  pub receipt : Receipt
+  pub kept : after ≡ record before { receipts = before.receipts ++ receipt ∷ [] }
+  pub of_job : IsJobStep worker holds receipt.step
+  pub holding : held ≡ holds_after holds receipt
+
+abbrev pub IsJobTurn : (worker : ℕ) → (before after : Seat) → (holds held : Bool) → Turn → Type 0
+IsJobTurn worker before after holds held Accepted = HasWorked worker before after holds held
+IsJobTurn worker before after holds held Again = HasWorked worker before after holds held
+IsJobTurn worker before after holds held Memory = after ≡ before
+IsJobTurn worker before after holds held Strayed = after ≡ before

@@ -1,0 +1,4 @@
+pub mod Plays
+pub mod Lines
+pub mod Jobs
+pub mod Storms

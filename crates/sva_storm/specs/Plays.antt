@@ -1,0 +1,100 @@
+-- How a script is played by the calls of a port: its lines in order, each tried until it is accepted.
+use Rattle.std.specs.Prelude.{◌≡◌, ◌≤◌, ◌⊎◌, ℕ, ◌+◌, Bool, true, false, List, [], ◌∷◌, ◌++◌, length, Option, Some, Result, Ok, Err, if◌then◌else◌}
+use Rattle.sva_step.specs.declared.answers.Answer.{Answer}
+use Rattle.sva_step.specs.declared.refusals.Refusal.{Refusal}
+use Rattle.sva_step.specs.declared.steps.Step.{Step}
+use Rattle.sva_step.specs.declared.steps.Step.TheVariants.{BeginUse, EndUse}
+use Rattle.sva_fabric.specs.declared.receipts.Receipt.{Receipt}
+use Rattle.sva_fabric.specs.declared.running.StepFault.{StepFault}
+use Rattle.sva_fabric.specs.declared.running.StepFault.TheVariants as step_fault
+use Rattle.sva_fabric.specs.declared.faults.Fault.{Fault}
+use Rattle.sva_fabric.specs.declared.faults.Fault.TheVariants as fault
+use Rattle.sva_fabric.specs.Receipts.{Seat}
+use Rattle.sva_storm.specs.declared.endings.Turn.{Turn}
+use Rattle.sva_storm.specs.declared.endings.Turn.TheVariants.{Accepted, Again, Memory, Strayed}
+
+-- was the call accepted?
+abbrev pub is_accepted : Result Answer Refusal → Bool
+is_accepted (Ok _) = true
+is_accepted (Err _) = false
+
+-- the lines behind the first
+abbrev pub lines_behind : List Step → List Step
+lines_behind [] = []
+lines_behind (line ∷ lines) = lines
+
+-- a call is of the first of these lines
+abbrev pub IsFirst : List Step → Step → Type 0
+IsFirst [] step = ⊥
+IsFirst (line ∷ lines) step = step ≡ line
+
+-- the lines that are left after a call: without the first where that was accepted
+abbrev pub lines_after : List Step → Receipt → List Step
+lines_after lines receipt = if is_accepted receipt.answer then lines_behind lines else lines
+
+-- the lines that are left after some calls
+abbrev pub lines_left : List Step → List Receipt → List Step
+lines_left lines [] = lines
+lines_left lines (r ∷ receipts) = lines_left (lines_after lines r) receipts
+
+-- each call is of the first line that is left then
+abbrev pub AreTries : List Step → List Receipt → Type 0
+AreTries lines [] = Unit {0}
+AreTries lines (r ∷ receipts) = IsFirst lines r.step × AreTries (lines_after lines r) receipts
+
+-- is it a use that began, or one that ended?
+abbrev pub begins : Step → ℕ
+begins (BeginUse endpoint pasid page write) = 1
+begins _ = 0
+
+abbrev pub ends : Step → ℕ
+ends (EndUse endpoint slot) = 1
+ends _ = 0
+
+-- how many uses began by some calls, and how many ended
+abbrev pub begun_by : List Receipt → ℕ
+begun_by [] = 0
+begun_by (r ∷ receipts) = (if is_accepted r.answer then begins r.step else 0) + begun_by receipts
+
+abbrev pub ended_by : List Receipt → ℕ
+ended_by [] = 0
+ended_by (r ∷ receipts) = (if is_accepted r.answer then ends r.step else 0) + ended_by receipts
+
+-- A loop has made these calls by its port: they are tries of the script's lines in order, and no more than the turns that were used. Of
+-- the uses that began by them and didn't end the tickets are left, beside those that were in hand before.
+pub record HasPlayed (script : List Step) (turns_used : ℕ) (before after : Seat) (tickets_before tickets_after : ℕ) : Type 0 where
+  pub calls : List Receipt
+  pub number : after.number ≡ before.number
+  pub kept : after.receipts ≡ before.receipts ++ calls
+  pub tries : AreTries script calls
+  pub few : length calls ≤ turns_used
+  pub tickets : tickets_after + ended_by calls ≡ tickets_before + begun_by calls
+
+-- ---- One turn
+
+-- what becomes of a turn whose call was asked
+abbrev pub turn_by : Result Receipt StepFault → Turn
+turn_by (Ok receipt) = if is_accepted receipt.answer then Accepted else Again
+turn_by (Err step_fault.Memory) = Memory
+turn_by (Err (step_fault.Strayed place found)) = Strayed
+
+-- what becomes of a turn whose call made, moved or spent no token
+abbrev pub turn_after_fault : Fault → Turn
+turn_after_fault (fault.Refused refusal) = Again
+turn_after_fault fault.Memory = Memory
+turn_after_fault (fault.Strayed place found) = Strayed
+
+-- one call more, of this step
+pub record HasCalledOnce (line : Step) (before after : Seat) (accepted : Bool) (tickets_before tickets_after : ℕ) : Type 0 where
+  pub receipt : Receipt
+  pub kept : after ≡ record before { receipts = before.receipts ++ receipt ∷ [] }
+  pub of_line : receipt.step ≡ line
+  pub answered : is_accepted receipt.answer ≡ accepted
+  pub tickets : tickets_after + (if accepted then ends line else 0) ≡ tickets_before + (if accepted then begins line else 0)
+
+-- what a turn did to its port, and to the tickets in hand
+abbrev pub IsTurn : Step → (before after : Seat) → (tickets_before tickets_after : ℕ) → Turn → Type 0
+IsTurn line before after t u Accepted = HasCalledOnce line before after true t u
+IsTurn line before after t u Again = HasCalledOnce line before after false t u ⊎ ((after ≡ before) × (u ≡ t))
+IsTurn line before after t u Memory = (after ≡ before) × (u ≡ t)
+IsTurn line before after t u Strayed = (after ≡ before) × (u ≡ t)

@@ -1,0 +1,276 @@
+//! The threads of a storm: who sits where, and how they are started and joined.
+
+ghost use Rattle.std.specs.Prelude.{◌≡◌, ◌+◌, ◌*◌, ◌≤◌, length, vec_len, vec_capacity, IfOk};
+ghost use Rattle.sva_fabric.specs.Audits.{seats_of};
+
+use crate::gates::{Device, Pager};
+use crate::hands::MOST_TICKETS;
+use crate::hosting::Holdings;
+use crate::lines::{Player, lines_of};
+use crate::seats::{HostSeat, Role, Seat};
+use std::alloc::{AllocError, Global};
+use std::sync::Wait;
+use std::thread;
+use std::thread::Threads;
+use sva_fabric::{Fabric, Port, Ports, Tally, Tokens, UseTicket};
+use sva_step::Step;
+
+/// The seats of a storm, with the memory that is wanted once the threads are joined: it is taken before any thread is started.
+pub(crate) struct Crew<C: Tally, D, P> {
+    host: [HostSeat<C>; 1],
+    // the link's, the service's, those of the endpoints and those of the workers, from the last one on
+    seats: Vec<Seat<C, D, P>>,
+    endpoint_count: usize,
+    room: Room<C>,
+    ghost some: { 2 ≤ vec_len seats },
+    ghost endpoints: { vec_len seats ≤ vec_capacity room.endpoints },
+    ghost workers: { vec_len seats ≤ vec_capacity room.workers },
+    ghost tickets: { vec_len seats * 16 ≤ vec_capacity room.tickets },
+}
+
+/// Room for the ports and tickets of all seats.
+pub(crate) struct Room<C: Tally> {
+    tickets: Vec<UseTicket>,
+    endpoints: Vec<Port<C>>,
+    workers: Vec<Port<C>>,
+    ghost no_tickets: { vec_len tickets ≡ 0 },
+    ghost no_endpoints: { vec_len endpoints ≡ 0 },
+    ghost no_workers: { vec_len workers ≡ 0 },
+}
+
+impl<C: Tally> Room<C> {
+    // Room for so many seats.
+    fn new(alloc: Global, count: usize) -> Result<Room<C>, AllocError>
+        requires few { count ≤ 1000 }
+        ensures tickets { IfOk result (λ room. count * 16 ≤ vec_capacity room.tickets) }
+        ensures endpoints { IfOk result (λ room. count ≤ vec_capacity room.endpoints) }
+        ensures workers { IfOk result (λ room. count ≤ vec_capacity room.workers) }
+    {
+        let endpoints = Vec::with_capacity(alloc, count)?;
+        let workers = Vec::with_capacity(alloc, count)?;
+        let tickets = Vec::with_capacity(alloc, count * MOST_TICKETS)?;
+        Ok(Room {
+            tickets,
+            endpoints,
+            workers,
+        })
+    }
+}
+
+impl<C: Tally, D: Device + Drop, P: Pager + Drop> Crew<C, D, P> {
+    // The seats of all ports, with the roles of the endpoints and of the workers.
+    pub(crate) fn new(
+        alloc: Global,
+        ports: Ports<C>,
+        script: Vec<Step>,
+        roles: Vec<Role<D, P>>,
+        turns: u64,
+    ) -> Result<Crew<C, D, P>, AllocError>
+        requires roles { length (seats_of ports) ≡ 3 + vec_len roles }
+        requires few { vec_len roles ≤ 100 }
+    {
+        let mut roles = roles;
+        let count = roles.len() + 2;
+        let mut seats = Vec::with_capacity(alloc, count)?;
+        let Ok(room) = Room::new(alloc, count) else {
+            seats.destroy_empty();
+            return Err(AllocError);
+        };
+        let Ports {
+            host,
+            link,
+            service,
+            endpoints,
+            workers,
+        } = ports;
+        let endpoint_count = endpoints.len();
+        let served = Role::Service {
+            endpoints: endpoint_count as u64,
+        };
+        seat_row(alloc, workers, &mut roles, turns, &mut seats);
+        seat_row(alloc, endpoints, &mut roles, turns, &mut seats);
+        seats.push_reserved(Seat::new(alloc, service, served, turns));
+        seats.push_reserved(Seat::new(alloc, link, Role::Link, turns));
+        let host = [HostSeat::new(alloc, host, script, turns)];
+        Ok(Crew {
+            host,
+            seats,
+            endpoint_count,
+            room,
+        })
+    }
+
+    // Starts a thread for each seat, and joins them. Tells whether each was started.
+    pub(crate) fn run<R: Threads + Wait + Sync>(&mut self, rt: &R, fabric: &Fabric<C>) -> bool
+    where
+        C: Send + Sync,
+        D: Send,
+        P: Send,
+    {
+        let Crew { host, seats, .. } = self;
+        sit_down(rt, fabric, host.as_mut_slice(), seats.as_mut_slice())
+    }
+
+    // Takes all seats apart: their ports in their order, the tokens that are left, and whether a thread wanted memory.
+    pub(crate) fn rise(self) -> (Ports<C>, Tokens, bool) {
+        let Crew {
+            host,
+            seats,
+            endpoint_count,
+            room,
+        } = self;
+        let Room {
+            tickets,
+            endpoints,
+            workers,
+        } = room;
+        let (mut seats, mut tickets) = (seats, tickets);
+        let (mut endpoints, mut workers) = (endpoints, workers);
+        let (link, link_lacked) = leave_last(&mut seats, &mut tickets);
+        let (service, service_lacked) = leave_last(&mut seats, &mut tickets);
+        let lacked = leave_all(
+            seats,
+            endpoint_count,
+            &mut endpoints,
+            &mut workers,
+            &mut tickets,
+        );
+        let [host] = host;
+        let (host, Holdings { leases, leavings }, host_lacked) = host.leave();
+        let ports = Ports {
+            host,
+            link,
+            service,
+            endpoints,
+            workers,
+        };
+        let tokens = Tokens {
+            leases,
+            leavings,
+            tickets,
+        };
+        (
+            ports,
+            tokens,
+            lacked || host_lacked || link_lacked || service_lacked,
+        )
+    }
+}
+
+// The roles of the endpoints and of the workers, in this order.
+pub(crate) fn roles_of<D: Drop, P: Drop>(
+    alloc: Global,
+    steps: &[Step],
+    devices: Vec<D>,
+    pagers: Vec<P>,
+) -> Result<Vec<Role<D, P>>, AllocError>
+    ensures { IfOk result (λ roles. vec_len roles ≡ vec_len devices + vec_len pagers) }
+{
+    let mut roles = Vec::new(alloc);
+    for device in devices {
+        let endpoint = roles.len() as u64;
+        roles.push(Role::Endpoint {
+            script: lines_of(alloc, steps, Player::Endpoint(endpoint))?,
+            device,
+        })?;
+    }
+    let endpoints = roles.len();
+    for pager in pagers {
+        let worker = (roles.len() - endpoints) as u64;
+        roles.push(Role::Worker { worker, pager })?;
+    }
+    Ok(roles)
+}
+
+// Seats the ports of a row from its end on, with the roles that stand last.
+fn seat_row<C: Tally, D: Device + Drop, P: Pager + Drop>(
+    alloc: Global,
+    ports: Vec<Port<C>>,
+    roles: &mut Vec<Role<D, P>>,
+    turns: u64,
+    seats: &mut Vec<Seat<C, D, P>>,
+)
+    requires roles { vec_len ports ≤ vec_len roles.old }
+    requires room { vec_len seats.old + vec_len ports ≤ vec_capacity seats.old }
+    ensures roles { vec_len roles.new + vec_len ports ≡ vec_len roles.old }
+    ensures seats { vec_len seats.new ≡ vec_len seats.old + vec_len ports }
+    ensures room { vec_capacity seats.new ≡ vec_capacity seats.old }
+{
+    let mut ports = ports;
+    while let Some(port) = ports.pop() {
+        let Some(role) = roles.pop() else {
+            unreachable!()
+        };
+        seats.push_reserved(Seat::new(alloc, port, role, turns));
+    }
+}
+
+// Starts a thread for each of these seats, and joins them. Tells whether each was started.
+fn sit_down<
+    C: Tally + Send + Sync,
+    R: Threads + Wait + Sync,
+    D: Device + Send + Drop,
+    P: Pager + Send + Drop,
+>(
+    rt: &R,
+    fabric: &Fabric<C>,
+    hosts: &mut [HostSeat<C>],
+    seats: &mut [Seat<C, D, P>],
+) -> bool {
+    let hosts = hosts.iter_mut();
+    let seats = seats.iter_mut();
+    thread::scope(thread::scope_env(), rt, move |scope| {
+        let mut all = true;
+        for seat in seats {
+            all &= scope.spawn(move || seat.sit(rt, fabric)).is_ok();
+        }
+        for host in hosts {
+            all &= scope.spawn(move || host.sit(rt, fabric)).is_ok();
+        }
+        all
+    })
+}
+
+// Takes the last seat apart.
+fn leave_last<C: Tally, D: Device + Drop, P: Pager + Drop>(
+    seats: &mut Vec<Seat<C, D, P>>,
+    tickets: &mut Vec<UseTicket>,
+) -> (Port<C>, bool)
+    requires some { 1 ≤ vec_len seats.old }
+    requires room { vec_len tickets.old + 16 ≤ vec_capacity tickets.old }
+    ensures less { vec_len seats.new + 1 ≡ vec_len seats.old }
+    ensures len { vec_len tickets.new ≤ vec_len tickets.old + 16 }
+    ensures room { vec_capacity tickets.new ≡ vec_capacity tickets.old }
+{
+    let Some(seat) = seats.pop() else {
+        unreachable!()
+    };
+    seat.leave(tickets)
+}
+
+// Takes seats apart: the ports of so many endpoints, and those of the workers behind them. Tells whether a thread wanted memory.
+fn leave_all<C: Tally, D: Device + Drop, P: Pager + Drop>(
+    seats: Vec<Seat<C, D, P>>,
+    endpoint_count: usize,
+    endpoints: &mut Vec<Port<C>>,
+    workers: &mut Vec<Port<C>>,
+    tickets: &mut Vec<UseTicket>,
+) -> bool
+    requires endpoints { vec_len endpoints.old + vec_len seats ≤ vec_capacity endpoints.old }
+    requires workers { vec_len workers.old + vec_len seats ≤ vec_capacity workers.old }
+    requires tickets { vec_len tickets.old + vec_len seats * 16 ≤ vec_capacity tickets.old }
+{
+    let mut seats = seats;
+    let mut lacked = false;
+    while let Some(seat) = seats.pop() {
+        let (port, out_of_memory) = seat.leave(tickets);
+        lacked |= out_of_memory;
+        if endpoints.len() < endpoint_count {
+            endpoints.push_reserved(port);
+        } else {
+            workers.push_reserved(port);
+        }
+    }
+    seats.destroy_empty();
+    lacked
+}

@@ -1,0 +1,61 @@
+//! The tickets that an endpoint's thread has in hand.
+
+ghost use Rattle.std.specs.Prelude.{◌≡◌, ◌+◌, ◌<◌, ◌≤◌, length, slice_get, vec_len, vec_capacity, IfSome};
+
+use std::alloc::Global;
+use sva_fabric::UseTicket;
+
+/// How many tickets are in hand at most: as many as an endpoint has use slots.
+pub(crate) const MOST_TICKETS: usize = 16;
+
+// The place of the ticket of a use slot.
+pub(crate) fn place_of(tickets: &[UseTicket], endpoint: u64, slot: u64) -> Option<usize>
+    ensures { IfSome result (λ place. (place < length tickets.now)
+        × IfSome (slice_get tickets.now place) (λ ticket. (ticket.endpoint ≡ endpoint) × (ticket.slot ≡ slot))) }
+{
+    for place in 0..tickets.len() {
+        let ticket = &tickets[place];
+        if ticket.endpoint() == endpoint && u64::from(ticket.slot()) == slot {
+            return Some(place);
+        }
+    }
+    None
+}
+
+/// A hand: its tickets are at most 16.
+pub(crate) struct Hand {
+    pub(crate) tickets: Vec<UseTicket>,
+    ghost few: { vec_len tickets ≤ 16 },
+}
+
+impl Hand {
+    // An empty hand. Its places are reserved by whoever plays with it.
+    pub(crate) fn new(alloc: Global) -> Hand {
+        Hand {
+            tickets: Vec::new(alloc),
+        }
+    }
+}
+
+// Puts some tickets to others, for which there is room.
+pub(crate) fn pour(from: Vec<UseTicket>, into: &mut Vec<UseTicket>)
+    requires { vec_len into.old + vec_len from ≤ vec_capacity into.old }
+    ensures len { vec_len into.new ≡ vec_len into.old + vec_len from }
+    ensures capacity { vec_capacity into.new ≡ vec_capacity into.old }
+{
+    let mut from = from;
+    while let Some(ticket) = from.pop() {
+        into.push_reserved(ticket);
+    }
+    from.destroy_empty();
+}
+
+// Puts the tickets of a hand to others, for which there is room.
+pub(crate) fn pour_hand(hand: Hand, into: &mut Vec<UseTicket>)
+    requires { vec_len into.old + 16 ≤ vec_capacity into.old }
+    ensures len { vec_len into.new ≤ vec_len into.old + 16 }
+    ensures capacity { vec_capacity into.new ≡ vec_capacity into.old }
+{
+    let Hand { tickets } = hand;
+    pour(tickets, into);
+}

@@ -1,0 +1,180 @@
+//! The host's thread.
+
+ghost use Rattle.std.specs.Prelude.{◌≡◌, ◌-◌, ◌<◌, ◌≤◌, length, slice_get, IfSome};
+ghost use Rattle.sva_step.specs.declared.steps.Step.TheVariants as step;
+ghost use Rattle.sva_storm.specs.Plays.{HasPlayed, IsTurn};
+
+use crate::endings::{Spent, Turn};
+use crate::using::{turn_after, turn_of};
+use std::sync::Wait;
+use sva_fabric::{Fabric, Lease, Leaving, Moved, Port, Tally};
+use sva_step::Step;
+
+/// The bindings that the host's thread has in hand.
+pub(crate) struct Holdings {
+    pub(crate) leases: Vec<Lease>,
+    pub(crate) leavings: Vec<Leaving>,
+}
+
+// The place of the lease of a binding.
+fn lease_of(leases: &[Lease], binding: u64) -> Option<usize>
+    ensures { IfSome result (λ place. (place < length leases.now) × IfSome (slice_get leases.now place) (λ lease. lease.binding ≡ binding)) }
+{
+    for place in 0..leases.len() {
+        if leases[place].binding() == binding {
+            return Some(place);
+        }
+    }
+    None
+}
+
+// The place of the leaving of a binding.
+fn leaving_of(leavings: &[Leaving], binding: u64) -> Option<usize>
+    ensures { IfSome result (λ place. (place < length leavings.now) × IfSome (slice_get leavings.now place) (λ leaving. leaving ≡ binding)) }
+{
+    for place in 0..leavings.len() {
+        if leavings[place].binding() == binding {
+            return Some(place);
+        }
+    }
+    None
+}
+
+// Plays the host's lines in their order, each until it is accepted.
+pub(crate) fn host<C: Tally, R: Wait>(
+    fabric: &Fabric<C>,
+    rt: &R,
+    port: &mut Port<C>,
+    script: &[Step],
+    turns: u64,
+    holdings: &mut Holdings,
+) -> Spent
+    ensures played { HasPlayed script.now (turns - result.turns_left) port.old port.new 0 0 }
+    ensures turns { result.turns_left ≤ turns }
+{
+    let mut accepted = 0;
+    for turn in 0..turns {
+        let Some(line) = script.get(accepted) else {
+            return Spent {
+                turns_left: turns - turn,
+                out_of_memory: false,
+            };
+        };
+        match host_turn(fabric, rt, port, line, holdings) {
+            Turn::Accepted => accepted += 1,
+            Turn::Again => {}
+            ended => {
+                return Spent {
+                    turns_left: turns - turn - 1,
+                    out_of_memory: ended == Turn::Memory,
+                };
+            }
+        }
+    }
+    Spent {
+        turns_left: 0,
+        out_of_memory: false,
+    }
+}
+
+// One try of a line.
+fn host_turn<C: Tally, R: Wait>(
+    fabric: &Fabric<C>,
+    rt: &R,
+    port: &mut Port<C>,
+    line: &Step,
+    holdings: &mut Holdings,
+) -> Turn
+    ensures { IsTurn line.now port.old port.new 0 0 result }
+{
+    if line.is_plain() {
+        return turn_of(fabric.step(rt, port, line));
+    }
+    let Holdings { leases, leavings } = holdings;
+    match line {
+        Step::Bind { endpoint, space } => bind(fabric, rt, port, leases, *endpoint, *space),
+        Step::Unbind { binding } => unbind(fabric, rt, port, leases, leavings, *binding),
+        Step::Advance { binding } => advance(fabric, rt, port, leavings, *binding),
+        _ => Turn::Again,
+    }
+}
+
+// One try to bind. The lease's place is reserved before the call.
+fn bind<C: Tally, R: Wait>(
+    fabric: &Fabric<C>,
+    rt: &R,
+    port: &mut Port<C>,
+    leases: &mut Vec<Lease>,
+    endpoint: u64,
+    space: u64,
+) -> Turn
+    ensures { IsTurn (step.Bind endpoint space) port.old port.new 0 0 result }
+{
+    if leases.reserve(1).is_err() {
+        return Turn::Memory;
+    }
+    match fabric.bind(rt, port, endpoint, space) {
+        Ok(lease) => {
+            leases.push_reserved(lease);
+            Turn::Accepted
+        }
+        Err(fault) => turn_after(&fault),
+    }
+}
+
+// One try to begin to take a binding back. The leaving's place is reserved before the call.
+fn unbind<C: Tally, R: Wait>(
+    fabric: &Fabric<C>,
+    rt: &R,
+    port: &mut Port<C>,
+    leases: &mut Vec<Lease>,
+    leavings: &mut Vec<Leaving>,
+    binding: u64,
+) -> Turn
+    ensures { IsTurn (step.Unbind binding) port.old port.new 0 0 result }
+{
+    let Some(place) = lease_of(leases.as_slice(), binding) else {
+        return Turn::Again;
+    };
+    if leavings.reserve(1).is_err() {
+        return Turn::Memory;
+    }
+    let lease = leases.swap_remove(place);
+    match fabric.unbind(rt, port, lease) {
+        Ok(leaving) => {
+            leavings.push_reserved(leaving);
+            Turn::Accepted
+        }
+        Err((lease, fault)) => {
+            leases.push_reserved(lease);
+            turn_after(&fault)
+        }
+    }
+}
+
+// One try to move a binding on.
+fn advance<C: Tally, R: Wait>(
+    fabric: &Fabric<C>,
+    rt: &R,
+    port: &mut Port<C>,
+    leavings: &mut Vec<Leaving>,
+    binding: u64,
+) -> Turn
+    ensures { IsTurn (step.Advance binding) port.old port.new 0 0 result }
+{
+    let Some(place) = leaving_of(leavings.as_slice(), binding) else {
+        return Turn::Again;
+    };
+    let leaving = leavings.swap_remove(place);
+    match fabric.advance(rt, port, leaving) {
+        Ok(Moved::Again(leaving)) => {
+            leavings.push_reserved(leaving);
+            Turn::Accepted
+        }
+        Ok(Moved::Gone) => Turn::Accepted,
+        Err((leaving, fault)) => {
+            leavings.push_reserved(leaving);
+            turn_after(&fault)
+        }
+    }
+}

@@ -1,0 +1,71 @@
+//! The threads of the link and of the service.
+
+ghost use Rattle.std.specs.Prelude.{◌≡◌, true};
+ghost use Rattle.sva_step.specs.Steps.{is_plain};
+
+use crate::endings::{Spent, Turn};
+use crate::using::turn_of;
+use std::sync::Wait;
+use sva_fabric::{Fabric, Port, Tally};
+use sva_step::Step;
+
+// Delivers the messages by their numbers, from 0 on, each tried until it is accepted.
+pub(crate) fn link<C: Tally, R: Wait>(
+    fabric: &Fabric<C>,
+    rt: &R,
+    port: &mut Port<C>,
+    turns: u64,
+) -> Spent {
+    let mut message = 0;
+    for turn in 0..turns {
+        match turn_of(fabric.step(rt, port, &Step::Deliver { message })) {
+            Turn::Accepted => message += 1,
+            Turn::Again => {}
+            ended => {
+                return Spent {
+                    turns_left: turns - turn - 1,
+                    out_of_memory: ended == Turn::Memory,
+                };
+            }
+        }
+    }
+    Spent {
+        turns_left: 0,
+        out_of_memory: false,
+    }
+}
+
+// What the service does in a turn: it pumps and serves each endpoint in turn. A world has one endpoint at least.
+fn service_step(turn: u64, endpoints: u64) -> Step
+    ensures { is_plain result ≡ true }
+{
+    let endpoint = turn / 2 % endpoints.max(1);
+    if turn % 2 == 0 {
+        Step::Pump { endpoint }
+    } else {
+        Step::Serve { endpoint }
+    }
+}
+
+// Pumps and serves each of the endpoints in turn.
+pub(crate) fn service<C: Tally, R: Wait>(
+    fabric: &Fabric<C>,
+    rt: &R,
+    port: &mut Port<C>,
+    endpoints: u64,
+    turns: u64,
+) -> Spent {
+    for turn in 0..turns {
+        let ended = turn_of(fabric.step(rt, port, &service_step(turn, endpoints)));
+        if ended == Turn::Memory || ended == Turn::Strayed {
+            return Spent {
+                turns_left: turns - turn - 1,
+                out_of_memory: ended == Turn::Memory,
+            };
+        }
+    }
+    Spent {
+        turns_left: 0,
+        out_of_memory: false,
+    }
+}

@@ -1,0 +1,95 @@
+//! A storm: a scenario that is played by threads, and the audit that ends it.
+
+ghost use Rattle.std.specs.Prelude.{◌≡◌, ◌≢◌, ◌↔◌, ◌+◌, vec_len, IfOk, IfErr, Ok, Err};
+ghost use Rattle.sva_step.specs.Limits.{Fits};
+ghost use Rattle.sva_storm.specs.Storms.{HasFinished, IsFound};
+ghost use Rattle.sva_storm.specs.declared.endings.StormFault.TheVariants as storm_fault;
+
+use crate::crew::{Crew, roles_of};
+use crate::endings::StormFault;
+use crate::gates::{Device, Pager};
+use crate::lines::{Player, lines_of};
+use std::alloc::Global;
+use std::marker::Brand;
+use std::sync::Wait;
+use std::sync::ledger::Blank;
+use std::thread::Threads;
+use sva_fabric::{Audit, Fabric, Tally, ports_of};
+use sva_grammar::Scenario;
+
+/// Plays a scenario by threads: one for the host, one for the link, one for the service, one for each endpoint and one for each worker.
+/// Each has so many turns. Host and endpoints play their lines in order, each line until it is accepted; the other lines are skipped. The
+/// link delivers the messages by their numbers; the service pumps and serves each endpoint in turn; the workers take jobs and answer
+/// them. At the end the audit compares all receipts with the journal. There is a device for each endpoint, and a pager for each worker.
+pub fn storm<R: Threads + Wait + Sync, D: Device + Send + Drop, P: Pager + Send + Drop>(
+    rt: &R,
+    alloc: Global,
+    scenario: &Scenario,
+    turns: u64,
+    devices: Vec<D>,
+    pagers: Vec<P>,
+) -> Result<Audit, StormFault>
+    requires devices { Fits scenario.now.config → vec_len devices ≡ scenario.now.config.endpoints }
+    requires pagers { Fits scenario.now.config → vec_len pagers ≡ scenario.now.config.workers }
+    ensures config { (result ≡ Err storm_fault.Config) ↔ (Fits scenario.now.config → ⊥) }
+    ensures audit { IfOk result (λ audit. HasFinished scenario.now.config (Ok audit)) }
+    ensures frames { IfOk result (λ audit. audit.free + audit.mapped + audit.withheld ≡ scenario.now.config.frames) }
+    ensures bad { IfErr result (λ fault. IsFound scenario.now.config fault) }
+{
+    if !scenario.config.fits() {
+        return Err(StormFault::Config);
+    }
+    let calls = Blank::new(ports_of(&scenario.config));
+    play_all::<Brand, R, D, P>(rt, alloc, scenario, turns, devices, pagers, calls)
+}
+
+// The storm on the fabric whose calls are counted by this blank.
+fn play_all<
+    C: Tally + Send + Sync,
+    R: Threads + Wait + Sync,
+    D: Device + Send + Drop,
+    P: Pager + Send + Drop,
+>(
+    rt: &R,
+    alloc: Global,
+    scenario: &Scenario,
+    turns: u64,
+    devices: Vec<D>,
+    pagers: Vec<P>,
+    calls: Blank,
+) -> Result<Audit, StormFault>
+    requires name { calls.name ≡ C.name }
+    requires parts { calls.parts ≡ C.parts }
+    requires ports { calls.parts ≡ 3 + scenario.now.config.endpoints + scenario.now.config.workers }
+    requires config { C.config ≡ scenario.now.config }
+    requires fits { Fits scenario.now.config }
+    requires devices { vec_len devices ≡ scenario.now.config.endpoints }
+    requires pagers { vec_len pagers ≡ scenario.now.config.workers }
+    ensures config { result ≢ Err storm_fault.Config }
+    ensures audit { IfOk result (λ audit. HasFinished scenario.now.config (Ok audit)) }
+    ensures bad { IfErr result (λ fault. IsFound scenario.now.config fault) }
+{
+    let Ok((fabric, ports)) = Fabric::<C>::open(alloc, scenario.config, calls) else {
+        return Err(StormFault::Memory);
+    };
+    let steps = scenario.steps.as_slice();
+    let Ok(script) = lines_of(alloc, steps, Player::Host) else {
+        return Err(StormFault::Memory);
+    };
+    let Ok(roles) = roles_of(alloc, steps, devices, pagers) else {
+        return Err(StormFault::Memory);
+    };
+    let Ok(mut crew) = Crew::new(alloc, ports, script, roles, turns) else {
+        return Err(StormFault::Memory);
+    };
+    let started = crew.run(rt, &fabric);
+    let (ports, tokens, lacked) = crew.rise();
+    let audit = fabric.finish(ports, tokens);
+    if !started || lacked {
+        return Err(StormFault::Memory);
+    }
+    match audit {
+        Ok(audit) => Ok(audit),
+        Err(bad) => Err(StormFault::Bad(bad)),
+    }
+}

@@ -93,7 +93,7 @@ playing_called script a turn before after next t u v line true p at h =
     let r = h.receipt in
     let front = line_at script a line at in
     let first : IsFirst (lines_left script p.calls) r.step =
-        first_is (lines_left script p.calls) (drop (a + 1) script) line r.step (p.left ∙ front) h.of_line in
+    first_is (lines_left script p.calls) (drop (a + 1) script) line r.step (p.left ∙ front) h.of_line in
     let begun = begun_more p.calls r in
     let ended = ended_more p.calls r in
     let one : (if is_accepted r.answer then begins r.step else 0) ≡ begins line = ap (λ b. if b then begins r.step else 0) h.answered ∙ ap begins h.of_line in
@@ -115,7 +115,7 @@ playing_called script a turn before after next t u v line false p at h =
     let r = h.receipt in
     let front = line_at script a line at in
     let first : IsFirst (lines_left script p.calls) r.step =
-        first_is (lines_left script p.calls) (drop (a + 1) script) line r.step (p.left ∙ front) h.of_line in
+    first_is (lines_left script p.calls) (drop (a + 1) script) line r.step (p.left ∙ front) h.of_line in
     let begun = begun_more p.calls r in
     let ended = ended_more p.calls r in
     let one : (if is_accepted r.answer then begins r.step else 0) ≡ 0 = ap (λ b. if b then begins r.step else 0) h.answered in

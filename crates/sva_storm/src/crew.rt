@@ -211,12 +211,7 @@ fn sit_down<
     R: Threads + Wait + Sync,
     D: Device + Send + Drop,
     P: Pager + Send + Drop,
->(
-    rt: &R,
-    fabric: &Fabric<C>,
-    hosts: &mut [HostSeat<C>],
-    seats: &mut [Seat<C, D, P>],
-) -> bool {
+>(rt: &R, fabric: &Fabric<C>, hosts: &mut [HostSeat<C>], seats: &mut [Seat<C, D, P>]) -> bool {
     let hosts = hosts.iter_mut();
     let seats = seats.iter_mut();
     thread::scope(thread::scope_env(), rt, move |scope| {

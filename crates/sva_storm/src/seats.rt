@@ -47,12 +47,7 @@ pub(crate) struct HostSeat<C: Tally> {
 
 impl<C: Tally, D: Device + Drop, P: Pager + Drop> Seat<C, D, P> {
     // A seat whose thread has so many turns.
-    pub(crate) fn new(
-        alloc: Global,
-        port: Port<C>,
-        role: Role<D, P>,
-        turns: u64,
-    ) -> Seat<C, D, P> {
+    pub(crate) fn new(alloc: Global, port: Port<C>, role: Role<D, P>, turns: u64) -> Seat<C, D, P> {
         Seat {
             port,
             role,
@@ -96,12 +91,7 @@ impl<C: Tally, D: Device + Drop, P: Pager + Drop> Seat<C, D, P> {
 
 impl<C: Tally> HostSeat<C> {
     // A seat whose thread has so many turns.
-    pub(crate) fn new(
-        alloc: Global,
-        port: Port<C>,
-        script: Vec<Step>,
-        turns: u64,
-    ) -> HostSeat<C> {
+    pub(crate) fn new(alloc: Global, port: Port<C>, script: Vec<Step>, turns: u64) -> HostSeat<C> {
         HostSeat {
             port,
             script,

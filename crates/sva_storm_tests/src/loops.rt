@@ -13,7 +13,7 @@ use std::thread;
 use std::thread::Threads;
 use sva_fabric::{Fabric, Lease, Port, Ports, Tally, Tokens, UseTicket, ports_of};
 use sva_grammar::{Scenario, parse};
-use sva_step::{Answer, Config, Step, Verdict};
+use sva_step::{Answer, Config, Refusal, Verdict};
 use sva_storm::{Device, Ended, Pager, endpoint_loop, fault_loop};
 
 /// What two threads know of each other's first call.
@@ -26,7 +26,8 @@ pub(crate) struct Meeting<'a> {
 }
 
 impl<'a> Meeting<'a> {
-    // Waits until the other's call has begun, for so many turns, each of which lets another thread run.
+    // Waits until the other's call has begun, for so many turns, each of which lets other threads run: a thousand times, since on a
+    // busy machine the other may be away for some milliseconds.
     fn meet(&self) {
         self.begun.store(1, Ordering::SeqCst);
         for _ in 0..self.turns {
@@ -34,7 +35,9 @@ impl<'a> Meeting<'a> {
                 self.met.store(1, Ordering::SeqCst);
                 return;
             }
-            thread::yield_now();
+            for _ in 0..1000 {
+                thread::yield_now();
+            }
         }
     }
 }
@@ -165,8 +168,10 @@ fn use_at_once<C: Tally + Send + Sync, R: Threads + Wait + Abort + Sync>(
     fabric: &Fabric<C>,
     first: &mut Port<C>,
     second: &mut Port<C>,
-    script: [&[Step]; 2],
 ) -> (Ended, Ended) {
+    let one_uses = scenario(rt, alloc, "config 2 4 1\nuse 0 1 16 w\nend 0 1\n").steps;
+    let two_uses = scenario(rt, alloc, "config 2 4 1\nuse 1 1 16 w\n").steps;
+    let (lines_one, lines_two) = (one_uses.as_slice(), two_uses.as_slice());
     let (one, two) = (AtomicU64::new(0), AtomicU64::new(0));
     let (met_one, met_two) = (AtomicU64::new(0), AtomicU64::new(0));
     let barrier = Barrier::new(2);
@@ -183,7 +188,6 @@ fn use_at_once<C: Tally + Send + Sync, R: Threads + Wait + Abort + Sync>(
         met: &met_two,
         turns: 10_000,
     };
-    let [lines_one, lines_two] = script;
     let ended = thread::join(
         rt,
         || {
@@ -205,6 +209,11 @@ fn use_at_once<C: Tally + Send + Sync, R: Threads + Wait + Abort + Sync>(
     ended
 }
 
+// What a port's first call answered.
+fn first_answer<C: Tally>(port: &Port<C>) -> Option<Result<Answer, Refusal>> {
+    port.receipts().first().map(|receipt| receipt.answer)
+}
+
 // The calls of all ports.
 fn calls_of<C: Tally>(ports: &Ports<C>) -> u64 {
     let mut calls = ports.host.calls().wrapping_add(ports.link.calls());
@@ -221,6 +230,22 @@ const DELIVERIES: &str =
     "config 2 4 1\ndeliver 0\ndeliver 1\nask 0 1 16\nask 1 1 16\ndeliver 2\ndeliver 3\ndeliver 4\ndeliver 5\n";
 
 const MAPPED: &str = "config 2 4 1\nmap 0 17 w\nask 0 1 17\ndeliver 6\ndeliver 7\nuse 0 1 17 w\n";
+
+// Plays what the two endpoints do at the same time, and tells by their turns and tickets that both did.
+fn both_use<C: Tally + Send + Sync, R: Threads + Wait + Abort + Sync>(
+    rt: &R,
+    alloc: Global,
+    fabric: &Fabric<C>,
+    endpoints: &mut [Port<C>],
+    tickets: &mut Vec<UseTicket>,
+) {
+    let [first, second] = endpoints else {
+        panic!(rt; "there are two");
+    };
+    let (first, second) = use_at_once(rt, alloc, fabric, first, second);
+    assert_eq!(rt; left_of(rt, first, tickets), (98, 0));
+    assert_eq!(rt; left_of(rt, second, tickets), (99, 1));
+}
 
 fn two_endpoints<C: Tally + Send + Sync, R: Threads + Wait + Abort + Sync>(
     rt: &R,
@@ -249,21 +274,16 @@ fn two_endpoints<C: Tally + Send + Sync, R: Threads + Wait + Abort + Sync>(
     let frame = plays(rt, alloc, &fabric, &mut ports.service, MAPPED, &mut tickets);
     assert_eq!(rt; frame, Some(1));
     assert_eq!(rt;
-        ports
-            .service
-            .receipts()
-            .first()
-            .map(|receipt| receipt.answer),
+        first_answer(&ports.service),
         Some(Ok(Answer::Frame { frame: 1 }))
     );
-    let one = scenario(rt, alloc, "config 2 4 1\nuse 0 1 16 w\nend 0 1\n").steps;
-    let two = scenario(rt, alloc, "config 2 4 1\nuse 1 1 16 w\n").steps;
-    if let [first, second] = ports.endpoints.as_mut_slice() {
-        let scripts = [one.as_slice(), two.as_slice()];
-        let (first, second) = use_at_once(rt, alloc, &fabric, first, second, scripts);
-        assert_eq!(rt; left_of(rt, first, &mut tickets), (98, 0));
-        assert_eq!(rt; left_of(rt, second, &mut tickets), (99, 1));
-    }
+    both_use(
+        rt,
+        alloc,
+        &fabric,
+        ports.endpoints.as_mut_slice(),
+        &mut tickets,
+    );
     let sum = calls_of(&ports);
     let tokens = Tokens {
         leases,

@@ -1,5 +1,7 @@
 //! Whole storms.
 
+ghost use Rattle.std.specs.Prelude.{◌≡◌, vec_len};
+
 use crate::loops::Meeting;
 use std::alloc::Global;
 use std::process::Abort;
@@ -34,11 +36,11 @@ fn scenario<R: Abort>(rt: &R, alloc: Global, text: &str) -> Scenario {
 }
 
 // Some of one kind.
-fn some<R: Abort, T: Copy>(rt: &R, alloc: Global, one: T, count: u64) -> Vec<T> {
+fn some<R: Abort, T: Copy>(rt: &R, alloc: Global, one: T, count: u64) -> Vec<T>
+    ensures { vec_len result ≡ count }
+{
     let mut all = Vec::new(alloc);
-    for _ in 0..count {
-        assert!(rt; all.push(one).is_ok());
-    }
+    assert!(rt; all.resize(count as usize, one).is_ok());
     all
 }
 
@@ -106,13 +108,17 @@ fn meets<R: Threads + Wait + Abort + Sync>(rt: &R, alloc: Global, text: &str, en
     assert!(rt; both.push(first).is_ok());
     assert!(rt; both.push(second).is_ok());
     let stormed = if endpoints {
+        assert_eq!(rt; scenario.config.endpoints, 2);
         let pagers = some(rt, alloc, Plain, scenario.config.workers);
         storm(rt, alloc, &scenario, 100_000, both, pagers)
     } else {
+        assert_eq!(rt; scenario.config.workers, 2);
         let devices = some(rt, alloc, Plain, scenario.config.endpoints);
         storm(rt, alloc, &scenario, 100_000, devices, both)
     };
-    let frames = counts(stormed).map(|(free, mapped, withheld)| free + mapped + withheld);
+    let frames = counts(stormed).map(|(free, mapped, withheld)| u64::from(free)
+        + u64::from(mapped)
+        + u64::from(withheld));
     assert_eq!(rt; frames, Ok(4));
     assert_eq!(rt;
         (

@@ -10,8 +10,7 @@ new-requires g c =
     let count = ports_count c.args.scenario.now.config (seats_of c.in-Ok.ports) (c.in-Ok.ensures.ok.1 ∙ ap new_seats same) in
     let fits = c.requires.fits in
     let few = fits.most_endpoints in
-    let workers = fits.most_workers in
-    (
+    let workers = fits.most_workers in (
       omega arith,
       (
         omega (arith, count, c.in-Ok-roles_of.ensures, c.requires.devices, c.requires.pagers),

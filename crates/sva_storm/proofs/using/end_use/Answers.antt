@@ -15,7 +15,7 @@ returns-in-Err-clause-turn g c =
     let same = same_ticket c.args.tickets.now.items c.in-Some.place c.args.endpoint c.args.slot c.swap_remove-ticket.result
     (search rules) c.swap_remove-ticket.ensures.value (search rules) in
     subst (λ turn. IsTurn (EndUse c.args.endpoint c.args.slot) c.args.port.now c.end.new.port
-        (vec_len c.args.tickets.now) (vec_len c.push_reserved.new.self) turn)
+    (vec_len c.args.tickets.now) (vec_len c.push_reserved.new.self) turn)
     (sym c.turn_after.ensures)
     (fault_turn g.C.Tally.config c.args.port.now c.end.new.port (EndUse c.swap_remove-ticket.result.endpoint c.swap_remove-ticket.result.slot)
     (EndUse c.args.endpoint c.args.slot) c.in-Err.fault (vec_len c.args.tickets.now) (vec_len c.push_reserved.new.self) (search rules)

@@ -1,15 +1,10 @@
 // The program svahost: reads a scenario from standard input, and writes its report to standard output.
 #![tactic(auto)]
 
-mod command;
-mod help;
-mod run;
-
-use run::{main_with, unread};
 use std::io;
 use std::process::ExitCode;
 use std::rt::Env;
-use sva_scenario::Told;
+use sva_program::{Told, main_with, unread};
 
 /// The words of the command line, the program's name first.
 fn words<R: Env + AllocGlobal>(rt: &R) -> io::Result<Vec<String>> {
@@ -27,6 +22,3 @@ fn main(rt: HostRuntime) -> ExitCode {
     };
     ExitCode::from(status)
 }
-
-#[cfg(test)]
-mod tests;

@@ -8,6 +8,3 @@ mod world;
 pub use agreement::headline;
 pub use running::run;
 pub use world::World;
-
-#[cfg(test)]
-mod tests;

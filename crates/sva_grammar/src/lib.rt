@@ -11,8 +11,3 @@ mod words;
 pub use faults::{Cause, LineFault, ParseFault};
 pub use grammar::laws;
 pub use parsing::{Scenario, parse};
-
-#[cfg(test)]
-mod line_tests;
-#[cfg(test)]
-mod tests;

@@ -11,8 +11,8 @@ use Rattle.sva_scenario.specs.declared.reading.TheConstants.{MOST_TURNS}
 use Rattle.sva_scenario.specs.declared.streams.DriveFault.{DriveFault}
 use Rattle.sva_scenario.specs.declared.streams.DriveFault.TheVariants.{Read, Write, Memory}
 use Rattle.sva_scenario.specs.declared.streams.Outcome.{Outcome}
-use Rattle.sva_cli.specs.Run.{HasCause, Reports, ended_of, printed_of}
-use Rattle.sva_cli.specs.declared.command.Asked.{Asked}
+use Rattle.sva_program.specs.Run.{HasCause, Reports, ended_of, printed_of}
+use Rattle.sva_program.specs.declared.command.Asked.{Asked}
 
 keeps : (old new : Option (List ℕ)) → new ≡ old → Keeps old new
 keeps None new e = tt

@@ -1,8 +1,8 @@
 ghost use Rattle.std.specs.Prelude.{◌≡◌, ◌≢◌, ◌≤◌, ◌<◌, ◌⊎◌, List, ℕ, [], length, OnOk, Result};
 ghost use Rattle.std.specs.Io.KnownBytes.{Appends};
 ghost use Rattle.std.specs.IoError.{error_kind};
-ghost use Rattle.sva_cli.specs.Command.{Asks, AsksRun, AsksText, CallsHelp, CallsVersion, IsMistaken, texts};
-ghost use Rattle.sva_cli.specs.Run.{HasCause, IsSaid, Reports, Says, complaint, fault_line, status_of, unread_line};
+ghost use Rattle.sva_program.specs.Command.{Asks, AsksRun, AsksText, CallsHelp, CallsVersion, IsMistaken, texts};
+ghost use Rattle.sva_program.specs.Run.{HasCause, IsSaid, Reports, Says, complaint, fault_line, status_of, unread_line};
 ghost use Rattle.sva_scenario.specs.Streams.{IsNew, Writes};
 
 use crate::command::{Asked, parse};

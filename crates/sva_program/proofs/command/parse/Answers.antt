@@ -1,9 +1,9 @@
 use Rattle.std.proofs.Common.{◌≡◌, ◌∙◌, ap, sym, subst, true, []}
 use Rattle.clap.specs.Words.{App, HasMatchesOf, fault_of}
 use Rattle.clap.specs.Faults.{is_simple_and_free}
-use Rattle.sva_cli.specs.Command.{Asks, asked_named, texts}
-use Rattle.sva_cli.proofs.LineLemmas.{asks_named, is_free, named_so}
-use Rattle.sva_cli.proofs.command.parse.Goals as goal
+use Rattle.sva_program.specs.Command.{Asks, asked_named, texts}
+use Rattle.sva_program.proofs.LineLemmas.{asks_named, is_free, named_so}
+use Rattle.sva_program.proofs.command.parse.Goals as goal
 
 pub returns-in-Ok-clause-fails : goal.returns-in-Ok-clause-fails
 returns-in-Ok-clause-fails c =

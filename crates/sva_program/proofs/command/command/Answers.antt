@@ -1,7 +1,7 @@
 use Rattle.std.proofs.Common.{rules, ap, ap₂, codes, true, ◌≡◌, ◌∙◌}
 use Rattle.std.proofs.lemmas.Result.{IfOk-weaker}
 use Rattle.clap.specs.Words.{App, app_of, new_app, with_subcommand}
-use Rattle.sva_cli.proofs.command.command.Goals as goal
+use Rattle.sva_program.proofs.command.command.Goals as goal
 
 abbrev top : App
 top = let plain = new_app (codes "svahost") in record plain {

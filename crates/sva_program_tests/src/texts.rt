@@ -1,6 +1,8 @@
-use super::*;
+//! How `parse` reads whole texts: their faults and their limits. `lines` has each form of a line.
+
 use std::alloc::{AllocError, Global};
 use std::test::Fail;
+use sva_grammar::{ParseFault, Scenario, parse};
 use sva_step::Step;
 
 /// Does `parse` end so? A fault is told by its text, a scenario by `ok`.

@@ -8,8 +8,8 @@ use Rattle.sva_scenario.specs.declared.streams.DriveFault.{DriveFault}
 use Rattle.sva_scenario.specs.declared.streams.DriveFault.TheVariants.{Read, Write, Memory}
 use Rattle.sva_scenario.specs.declared.streams.Outcome.{Outcome}
 use Rattle.sva_scenario.specs.declared.streams.Outcome.TheVariants.{Done, Faulted}
-use Rattle.sva_cli.specs.declared.command.Asked.{Asked}
-use Rattle.sva_cli.specs.declared.command.Asked.TheVariants.{Replay, Check}
+use Rattle.sva_program.specs.declared.command.Asked.{Asked}
+use Rattle.sva_program.specs.declared.command.Asked.TheVariants.{Replay, Check}
 
 -- the status: 0 where the steps were run, 1 for a line fault, a refused config and every fault of a stream or of memory
 abbrev pub status_of : Result Outcome DriveFault → ℕ

@@ -1,27 +1,55 @@
-// Each form of a step's line, and lines that miss it by a word.
-use crate::faults::Cause;
-use crate::forms::step_in;
-use crate::words::Words;
+//! Each form of a step's line, and lines that miss it by a word.
+
+use std::alloc::{AllocError, Global};
 use std::process::Abort;
+use sva_grammar::{Cause, ParseFault, parse};
 use sva_step::{Step, Verdict};
 
-/// The step that a line writes, or why it can't be read.
-fn read(line: &str) -> Result<Step, Cause> {
-    step_in(&Words::new(line.as_bytes()))
+/// A scenario of this step's line alone.
+fn scenario_of(alloc: Global, line: &str) -> Result<Vec<u8>, AllocError> {
+    let mut text = Vec::from_slice(alloc, b"config 1 4 1\n")?;
+    text.extend_from_slice(line.as_bytes())?;
+    Ok(text)
+}
+
+/// Does the line write this step?
+fn is_read(alloc: Global, line: &str, step: &Step) -> Result<bool, AllocError> {
+    let text = scenario_of(alloc, line)?;
+    match parse(alloc, text.as_slice()) {
+        Ok(scenario) => Ok(scenario.steps.as_slice() == [*step].as_slice()),
+        Err(ParseFault::Line(_)) => Ok(false),
+        Err(ParseFault::Memory) => Err(AllocError),
+    }
+}
+
+/// Is the line refused for this cause?
+fn is_refused(alloc: Global, line: &str, cause: Cause) -> Result<bool, AllocError> {
+    let text = scenario_of(alloc, line)?;
+    match parse(alloc, text.as_slice()) {
+        Ok(_) => Ok(false),
+        Err(ParseFault::Line(fault)) => Ok((fault.line, fault.cause) == (2, cause)),
+        Err(ParseFault::Memory) => Err(AllocError),
+    }
 }
 
 /// Each line writes its step.
-fn read_all<R: Abort>(rt: &R, lines: &[(&str, Step)]) {
+fn read_all<R: Abort + AllocGlobal>(rt: &R, lines: &[(&str, Step)]) -> Result<(), AllocError> {
     for (line, step) in lines {
-        assert!(rt; read(line) == Ok(*step), "{line}");
+        assert!(rt; is_read(rt.alloc(), line, step)?, "{line}");
     }
+    Ok(())
 }
 
 /// Each line is refused for this cause.
-fn refuse_all<R: Abort>(rt: &R, lines: &[&str], cause: Cause) {
+fn refuse_all<R: Abort + AllocGlobal>(
+    rt: &R,
+    lines: &[&str],
+    cause: Cause,
+) -> Result<(), AllocError> {
     for line in lines {
-        assert!(rt; read(line) == Err(cause), "{line}");
+        assert!(rt; is_refused(rt.alloc(), line, cause)?, "{line}");
     }
+    Ok(())
 }
 
 /// Of space 2 and its page 16.
@@ -73,8 +101,8 @@ static STEPS_OF_SPACES: [(&str, Step); 9] = [
 ];
 
 #[test]
-fn reads_steps_of_spaces(rt: HostRuntime) {
-    read_all(&rt, &STEPS_OF_SPACES);
+fn reads_steps_of_spaces(rt: HostRuntime) -> Result<(), AllocError> {
+    read_all(&rt, &STEPS_OF_SPACES)
 }
 
 /// Of endpoint 1, space 2, binding 3 and worker 0.
@@ -95,8 +123,8 @@ static STEPS_OF_BINDINGS: [(&str, Step); 7] = [
 ];
 
 #[test]
-fn reads_steps_of_bindings(rt: HostRuntime) {
-    read_all(&rt, &STEPS_OF_BINDINGS);
+fn reads_steps_of_bindings(rt: HostRuntime) -> Result<(), AllocError> {
+    read_all(&rt, &STEPS_OF_BINDINGS)
 }
 
 /// Of endpoint 1 and its PASID 32.
@@ -156,8 +184,8 @@ static STEPS_OF_ENDPOINTS: [(&str, Step); 7] = [
 ];
 
 #[test]
-fn reads_steps_of_endpoints(rt: HostRuntime) {
-    read_all(&rt, &STEPS_OF_ENDPOINTS);
+fn reads_steps_of_endpoints(rt: HostRuntime) -> Result<(), AllocError> {
+    read_all(&rt, &STEPS_OF_ENDPOINTS)
 }
 
 static REPLIES: [(&str, Step); 3] = [
@@ -185,12 +213,12 @@ static REPLIES: [(&str, Step); 3] = [
 ];
 
 #[test]
-fn reads_replies(rt: HostRuntime) {
-    read_all(&rt, &REPLIES);
+fn reads_replies(rt: HostRuntime) -> Result<(), AllocError> {
+    read_all(&rt, &REPLIES)
 }
 
 #[test]
-fn reads_page_requests(rt: HostRuntime) {
+fn reads_page_requests(rt: HostRuntime) -> Result<(), AllocError> {
     let lines = [
         ("fault 1 32 16 r new more", (true, false, None, false)),
         ("fault 1 32 16 w new last", (false, true, None, true)),
@@ -207,13 +235,14 @@ fn reads_page_requests(rt: HostRuntime) {
             group,
             last,
         };
-        assert!(rt; read(line) == Ok(step), "{line}");
+        assert!(rt; is_read(rt.alloc(), line, &step)?, "{line}");
     }
+    Ok(())
 }
 
 /// Bit T stands for ITag T: the ITags 0, 1 and 3 are written `0000000b`.
 #[test]
-fn reads_vectors(rt: HostRuntime) {
+fn reads_vectors(rt: HostRuntime) -> Result<(), AllocError> {
     let lines = [
         ("finish 1 0000000b 2", 0b1011),
         ("finish 1 00000000 2", 0),
@@ -228,8 +257,9 @@ fn reads_vectors(rt: HostRuntime) {
             vector,
             count: 2,
         };
-        assert!(rt; read(line) == Ok(step), "{line}");
+        assert!(rt; is_read(rt.alloc(), line, &step)?, "{line}");
     }
+    Ok(())
 }
 
 /// Lines with a word too few or too many. What their words are, is asked later.
@@ -287,8 +317,8 @@ static WRONG_COUNTS: [&str; 50] = [
 ];
 
 #[test]
-fn tells_wrong_counts(rt: HostRuntime) {
-    refuse_all(&rt, &WRONG_COUNTS, Cause::WordCount);
+fn tells_wrong_counts(rt: HostRuntime) -> Result<(), AllocError> {
+    refuse_all(&rt, &WRONG_COUNTS, Cause::WordCount)
 }
 
 /// Lines with a word that is no number, in each place of one.
@@ -335,8 +365,8 @@ static BAD_NUMBERS: [&str; 39] = [
 ];
 
 #[test]
-fn tells_bad_numbers(rt: HostRuntime) {
-    refuse_all(&rt, &BAD_NUMBERS, Cause::BadWord);
+fn tells_bad_numbers(rt: HostRuntime) -> Result<(), AllocError> {
+    refuse_all(&rt, &BAD_NUMBERS, Cause::BadWord)
 }
 
 /// A line with another word in the place of an access, a verdict, flags, a group, its last request or a vector.
@@ -373,12 +403,11 @@ static BAD_WORDS: [&str; 29] = [
 ];
 
 #[test]
-fn tells_bad_words(rt: HostRuntime) {
-    refuse_all(&rt, &BAD_WORDS, Cause::BadWord);
+fn tells_bad_words(rt: HostRuntime) -> Result<(), AllocError> {
+    refuse_all(&rt, &BAD_WORDS, Cause::BadWord)
 }
 
-static UNKNOWN_STEPS: [&str; 10] = [
-    "",
+static UNKNOWN_STEPS: [&str; 9] = [
     " ",
     "config 1 4 1",
     "Bind 0 0",
@@ -391,6 +420,6 @@ static UNKNOWN_STEPS: [&str; 10] = [
 ];
 
 #[test]
-fn tells_unknown_steps(rt: HostRuntime) {
-    refuse_all(&rt, &UNKNOWN_STEPS, Cause::UnknownStep);
+fn tells_unknown_steps(rt: HostRuntime) -> Result<(), AllocError> {
+    refuse_all(&rt, &UNKNOWN_STEPS, Cause::UnknownStep)
 }

@@ -1,6 +1,6 @@
 ghost use Rattle.std.specs.Prelude.{◌≡◌, IfOk, option_map};
 ghost use Rattle.clap.specs.Words.{FailsBy, app_of, fault_of};
-ghost use Rattle.sva_cli.specs.Command.{Asks, asked_named, svahost, texts};
+ghost use Rattle.sva_program.specs.Command.{Asks, asked_named, svahost, texts};
 
 use crate::help::{ABOUT, CHECK, HELP, REPLAY, VERSION};
 use clap::{Command, Error};

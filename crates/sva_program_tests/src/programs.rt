@@ -1,12 +1,11 @@
 //! What `scripts/runs` can't try by the program: the texts of help and mistakes, and streams that fail. That tries all scenarios
 //! of examples/ and runs/; the first of them is tried here too.
 
-use crate::run::{main_with, unread};
 use std::alloc::AllocError;
 use std::io;
 use std::io::{ErrorKind, Read, Write};
 use std::test::Fail;
-use sva_scenario::Told;
+use sva_program::{Told, main_with, unread};
 
 /// The steps of the first example, and its report.
 const SCENARIO: &[u8] = b"config 1 4 1\nspace\nmap 0 16 w\nunmap 0 16\nmap 0 16 r\n";
@@ -63,24 +62,41 @@ fn runs_the_first_example(rt: HostRuntime) -> Result<(), Fail> {
     Ok(())
 }
 
+/// Wrong command lines, and what standard error is told of each.
+static MISTAKES: [(&[&str], &str); 3] = [
+    (
+        &[],
+        "error: 'svahost' requires a subcommand but one was not provided
+  [subcommands: replay, check]
+
+Usage: svahost <COMMAND>
+
+For more information, try '--help'.
+",
+    ),
+    (
+        &["storm"],
+        "error: unrecognized subcommand 'storm'
+
+Usage: svahost <COMMAND>
+
+For more information, try '--help'.
+",
+    ),
+    (
+        &["replay", "first.sva"],
+        "error: unexpected argument 'first.sva' found
+
+Usage: svahost replay
+
+For more information, try '--help'.
+",
+    ),
+];
+
 #[test]
 fn judges_the_command_line_first(rt: HostRuntime) -> Result<(), Fail> {
-    let none: &[&str] = &[];
-    let mistakes = [
-        (
-            none,
-            "error: 'svahost' requires a subcommand but one was not provided\n  [subcommands: replay, check]\n\nUsage: svahost <COMMAND>\n\nFor more information, try '--help'.\n",
-        ),
-        (
-            &["storm"],
-            "error: unrecognized subcommand 'storm'\n\nUsage: svahost <COMMAND>\n\nFor more information, try '--help'.\n",
-        ),
-        (
-            &["replay", "first.sva"],
-            "error: unexpected argument 'first.sva' found\n\nUsage: svahost replay\n\nFor more information, try '--help'.\n",
-        ),
-    ];
-    for (words, text) in mistakes {
+    for (words, text) in &MISTAKES {
         let ran = run_on(&rt, words, SCENARIO)?;
         assert!(rt; ran.said.as_slice() == text.as_bytes(), "{text}");
         assert_eq!(rt;
@@ -111,32 +127,49 @@ fn tells_of_a_command_line_that_is_not_read(rt: HostRuntime) -> Result<(), Fail>
     Ok(())
 }
 
+/// What `-h` prints.
+static SHORT_HELP: &str = "Runs scenarios of a host for shared virtual addressing
+
+Usage: svahost <COMMAND>
+
+Commands:
+  replay  Runs the scenario on standard input, and prints its report
+  check   Reads the scenario on standard input, and prints how many steps it has
+
+Options:
+  -h, --help     Print help (see more with '--help')
+  -V, --version  Print version
+";
+
+/// Parts of what `--help` prints.
+static HELP_PARTS: [&str; 5] = [
+    "A scenario is a text",
+    "    map 0 16 w\n",
+    "    free 3 mapped 1 withheld 0\n",
+    "    unmap S PAGE [COUNT]",
+    "docs/FORMAT.md",
+];
+
+/// The command lines that ask for all of the help.
+static CALLS_FOR_HELP: [&[&str]; 3] = [&["--help"], &["replay", "--help"], &["check", "--help"]];
+
+/// Does a text have each of these parts?
+fn has_parts(text: &[u8], parts: &[&str]) -> bool {
+    match std::str::from_utf8(text) {
+        Ok(text) => parts.iter().all(|part| text.contains(part)),
+        Err(_) => false,
+    }
+}
+
 #[test]
 fn shows_help(rt: HostRuntime) -> Result<(), Fail> {
-    let short =
-        "Runs scenarios of a host for shared virtual addressing\n\nUsage: svahost <COMMAND>\n\nCommands:\n  replay  Runs the scenario on standard input, and prints its report\n  check   Reads the scenario on standard input, and prints how many steps it has\n\nOptions:\n  -h, --help     Print help (see more with '--help')\n  -V, --version  Print version\n";
     let ran = run_on(&rt, &["-h"], SCENARIO)?;
-    assert!(rt; ran.written.as_slice() == short.as_bytes());
+    assert!(rt; ran.written.as_slice() == SHORT_HELP.as_bytes());
     assert_eq!(rt; (ran.status, ran.said.len(), ran.reads), (0, 0, 0));
-    for words in [
-        ["--help"].as_slice(),
-        ["replay", "--help"].as_slice(),
-        ["check", "--help"].as_slice(),
-    ] {
+    for words in &CALLS_FOR_HELP {
         let ran = run_on(&rt, words, SCENARIO)?;
         assert_eq!(rt; (ran.status, ran.said.len(), ran.reads), (0, 0, 0));
-        let text = std::str::from_utf8(ran.written.as_slice())
-            .ok()
-            .ok_or("help is text")?;
-        for part in [
-            "A scenario is a text",
-            "    map 0 16 w\n",
-            "    free 3 mapped 1 withheld 0\n",
-            "    unmap S PAGE [COUNT]",
-            "docs/FORMAT.md",
-        ] {
-            assert!(rt; text.contains(part), "{part}");
-        }
+        assert!(rt; has_parts(ran.written.as_slice(), &HELP_PARTS));
     }
     Ok(())
 }

@@ -23,10 +23,10 @@ use Rattle.clap.specs.Faults.{step_fault, turn_fault, walk_fault}
 use Rattle.clap.proofs.OnLiterals.{clap_on_literals}
 use Rattle.clap.specs.declared.error.kind.ErrorKind.{ErrorKind}
 use Rattle.clap.specs.declared.error.kind.ErrorKind.TheVariants.{DisplayHelp, DisplayVersion, MissingSubcommand}
-use Rattle.sva_cli.specs.declared.command.Asked.{Asked}
-use Rattle.sva_cli.specs.declared.command.Asked.TheVariants.{Replay, Check}
-use Rattle.sva_cli.specs.Command.{Asks, AsksRun, AsksText, CallsHelp, CallsVersion, IsCommand, IsMistaken, asked_named, behind_check, behind_replay}
-use Rattle.sva_cli.specs.Command.{by_long, by_long_version, by_short, by_short_version, svahost, texts}
+use Rattle.sva_program.specs.declared.command.Asked.{Asked}
+use Rattle.sva_program.specs.declared.command.Asked.TheVariants.{Replay, Check}
+use Rattle.sva_program.specs.Command.{Asks, AsksRun, AsksText, CallsHelp, CallsVersion, IsCommand, IsMistaken, asked_named, behind_check, behind_replay}
+use Rattle.sva_program.specs.Command.{by_long, by_long_version, by_short, by_short_version, svahost, texts}
 
 abbrev top : Shape
 top = (built svahost).top

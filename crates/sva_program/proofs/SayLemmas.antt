@@ -3,7 +3,7 @@ use Rattle.std.proofs.Common.{arith, append-nil, ◌≡◌, ◌+◌, ℕ, List, 
 use Rattle.std.specs.Io.KnownBytes.{Appends}
 use Rattle.sva_scenario.specs.Streams.{AppendsProperPrefix, Stream}
 use Rattle.sva_scenario.specs.declared.streams.DriveFault.{DriveFault}
-use Rattle.sva_cli.specs.Run.{Says}
+use Rattle.sva_program.specs.Run.{Says}
 
 pub says : {T : Type 0} (contents : T → Option (List ℕ)) (old new : Stream T) (text : List ℕ) (r : Result (Unit {0}) DriveFault)
     → OnOk r (Appends (contents old.inner) (contents new.inner) text)

@@ -2,12 +2,12 @@ use Rattle.std.proofs.Common.{rules, ap, inl, inr, Err, ◌∙◌, subst, sym}
 use Rattle.std.proofs.lemmas.Result.{IfOk-weaker}
 use Rattle.clap.specs.Words.{HasKind, fault_of, kind_of}
 use Rattle.sva_scenario.specs.declared.streams.DriveFault.TheVariants.{Memory}
-use Rattle.sva_cli.specs.declared.command.Asked.TheVariants.{Replay, Check}
-use Rattle.sva_cli.specs.Command.{Asks, svahost, texts}
-use Rattle.sva_cli.specs.Run.{Reports}
-use Rattle.sva_cli.proofs.RunLemmas.{among_faults, asked_text, caused, only_memory, reported, unwritten}
-use Rattle.sva_cli.proofs.LineLemmas.{help_unmistaken, no_command_asks, no_command_taken, one_alone, takes, version_unmistaken}
-use Rattle.sva_cli.proofs.run.main_with.Goals as goal
+use Rattle.sva_program.specs.declared.command.Asked.TheVariants.{Replay, Check}
+use Rattle.sva_program.specs.Command.{Asks, svahost, texts}
+use Rattle.sva_program.specs.Run.{Reports}
+use Rattle.sva_program.proofs.RunLemmas.{among_faults, asked_text, caused, only_memory, reported, unwritten}
+use Rattle.sva_program.proofs.LineLemmas.{help_unmistaken, no_command_asks, no_command_taken, one_alone, takes, version_unmistaken}
+use Rattle.sva_program.proofs.run.main_with.Goals as goal
 
 pub returns-in-Ok-Replay-clause-run : goal.returns-in-Ok-Replay-clause-run
 returns-in-Ok-Replay-clause-run g c asked asks =

@@ -4,8 +4,8 @@ use Rattle.std.specs.Str.{bytes_eq}
 use Rattle.clap.specs.Words.{App, IsAmong, Text, fault_of, new_app, with_subcommand}
 use Rattle.clap.specs.declared.error.kind.ErrorKind.{ErrorKind}
 use Rattle.clap.specs.declared.error.kind.ErrorKind.TheVariants.{DisplayHelp, DisplayVersion}
-use Rattle.sva_cli.specs.declared.command.Asked.{Asked}
-use Rattle.sva_cli.specs.declared.command.Asked.TheVariants.{Replay, Check}
+use Rattle.sva_program.specs.declared.command.Asked.{Asked}
+use Rattle.sva_program.specs.declared.command.Asked.TheVariants.{Replay, Check}
 
 -- `svahost` with a version and its commands `replay` and `check`, which take no arguments; each has clap's flags for help
 abbrev pub svahost : App

@@ -5,7 +5,8 @@ use Rattle.std.proofs.lemmas.List.Elements.{All-nil, All-cons, All-filter, All-h
 use Rattle.std.specs.List.{find, list_any}
 use Rattle.std.specs.Prelude.{MatchOption}
 use Rattle.sva_msg.specs.declared.messages.PageRequest.{PageRequest}
-use Rattle.sva_prq.specs.Groups.{OpenGroup, Groups, is_collecting, has_job, with_request, new_group, filed_among, filed, after_answer, answered_among, CanFile, is_of_other_unit, with_room, without_unit}
+use Rattle.sva_prq.specs.Groups.{OpenGroup, Groups, is_collecting, has_job, with_request, new_group}
+use Rattle.sva_prq.specs.Groups.{filed_among, filed, after_answer, answered_among, CanFile, is_of_other_unit, with_room, without_unit}
 use Rattle.sva_prq.specs.Job.{ask_of}
 use Rattle.sva_tests.specs.Few.{AreFew, HasFew}
 

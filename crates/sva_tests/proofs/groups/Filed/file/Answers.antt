@@ -15,5 +15,6 @@ invariant_of-self-2 g c =
     let old = c.args.self.now in
     record {
       few = subst (HasFew (old.requests + 1)) (sym c.file.ensures.groups)
-          (filed_has_few old.requests c.reserve.new.self c.args.unit c.args.binding c.args.request (subst (HasFew old.requests) (sym c.in_ok-reserve.ensures.ok) old.few));
+          (filed_has_few old.requests c.reserve.new.self c.args.unit c.args.binding c.args.request
+          (subst (HasFew old.requests) (sym c.in_ok-reserve.ensures.ok) old.few));
     }

@@ -1,0 +1,5 @@
+use Rattle.std.proofs.Common.{rules}
+use Rattle.sva_pasid.proofs.states.invalidating_state.Invalidating.waited.Goals as goal
+
+pub returns : goal.returns
+returns c = rw⁻¹ c.self.view_is (search rules)

@@ -1,0 +1,5 @@
+use Rattle.std.proofs.Common.{refl}
+use Rattle.sva_pasid.proofs.states.stopping_state.Stopping.by_reset.Goals as goal
+
+pub returns : goal.returns
+returns c = rw⁻¹ c.self.view_is refl

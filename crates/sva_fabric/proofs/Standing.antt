@@ -1,13 +1,15 @@
 -- Receipts in a journal, and the places of a port's receipts.
 use Rattle.std.proofs.Common.{◌≡◌, ℕ, zero, suc, ◌-◌, ◌+◌, ◌<◌, Option, Some, None, List, [], ◌∷◌, ◌++◌, length, refl, sym, ap, subst, ◌∙◌, arith}
-use Rattle.std.specs.Prelude.{slice_get, IfSome}
+use Rattle.std.specs.Prelude.{Result, Ok, Err, slice_get, IfSome, IfOk, IfErr, OnOk}
 use Rattle.std.proofs.lemmas.Option.{slice_get_within}
+use Rattle.sva_frames.specs.declared.pool.Counts.{Counts}
 use Rattle.sva_step.specs.declared.limits.Config.{Config}
 use Rattle.sva_step.specs.declared.steps.Step.{Step}
 use Rattle.sva_journal.specs.declared.journal.Entry.{Entry}
 use Rattle.sva_fabric.specs.declared.receipts.Receipt.{Receipt}
-use Rattle.sva_journal.specs.Journal.{History, IsLegal, entry_of, with_entry}
-use Rattle.sva_fabric.specs.Receipts.{Stands, AreRising, IsAnswered, IsAnsweredAt, last_of, entry_told}
+use Rattle.sva_fabric.specs.declared.running.Strayed.{Strayed}
+use Rattle.sva_journal.specs.Journal.{History, IsLegal, CountsOf, entry_of, with_entry}
+use Rattle.sva_fabric.specs.Receipts.{Stands, HasStrayed, AreRising, IsAnswered, IsAnsweredAt, IsCounted, IsAstray, last_of, entry_told}
 
 get_before : {A : Type 0} (xs ys : List A) (k : ℕ) (x : A) → slice_get xs k ≡ Some x → slice_get (xs ++ ys) k ≡ Some x
 get_before [] ys k x h = absurd (cc)
@@ -40,6 +42,17 @@ answered config before after port last step r at is legal of = record {
   last_stands = last_stands_more before.entries (entry_told port r) port r.place last at.place_is at.last_stands;
 }
 
+-- counts that were told, or that something else stood there, told without the journal
+pub counted : (config : Config) (h : History) (port : ℕ) (last : Option Receipt) (r : Result Counts Strayed) → IsLegal h → h.config ≡ config
+    → IfOk r (CountsOf h) → OnOk r (IfSome last (λ l. Stands h.entries port l)) → IfOk r (IsCounted config port last)
+counted config h port last (Ok n) legal of is stands = record { journal = h; legal = legal; of_config = of; last_stands = stands; counts = is }
+counted config h port last (Err f) legal of is stands = tt
+
+pub astray : (config : Config) (h : History) (port : ℕ) (last : Option Receipt) (r : Result Counts Strayed) → IsLegal h → h.config ≡ config
+    → IfErr r (λ f. HasStrayed h.entries port last f.place f.found) → IfErr r (λ f. IsAstray config port last f.place f.found)
+astray config h port last (Ok n) legal of has = tt
+astray config h port last (Err f) legal of has = (h, legal, of, has)
+
 -- the last of several receipts is the last of those behind the first
 last_next : (a b : Receipt) (rs : List Receipt) → last_of (a ∷ b ∷ rs) ≡ last_of (b ∷ rs)
 last_next a b rs =
@@ -57,6 +70,6 @@ rising_more (a ∷ b ∷ rs) r P h last = (
   rising_more (b ∷ rs) r P h.1 (subst (λ (o : Option Receipt). IfSome o (λ l. (l.place < r.place) × P l)) (last_next a b rs) last),
 )
 
-pub length_more : (rs : List Receipt) (r : Receipt) → length (rs ++ r ∷ []) ≡ length rs + 1
-length_more [] r = refl
-length_more (a ∷ rs) r = omega (arith, length_more rs r)
+pub length_more : {A : Type 0} (xs : List A) (x : A) → length (xs ++ x ∷ []) ≡ length xs + 1
+length_more [] x = refl
+length_more (a ∷ xs) x = omega (arith, length_more xs x)

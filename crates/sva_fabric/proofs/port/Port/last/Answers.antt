@@ -1,0 +1,5 @@
+use Rattle.std.proofs.Common.{rules}
+use Rattle.sva_fabric.proofs.port.Port.last.Goals as goal
+
+pub returns : goal.returns
+returns g c = search rules

@@ -1,5 +1,5 @@
-//! The tests of the world, of the text of scenarios and of whole runs of the program, by public calls alone. `sva_tests` says why
-//! tests stand in a crate of their own.
+//! The tests of the world, of the text of scenarios, of streams and reports and of whole runs of the program, by public calls alone.
+//! `sva_tests` says why tests stand in a crate of their own.
 #![tactic(auto)]
 
 #[cfg(test)]
@@ -7,7 +7,11 @@ mod lines;
 #[cfg(test)]
 mod programs;
 #[cfg(test)]
+mod reports;
+#[cfg(test)]
 mod runs;
+#[cfg(test)]
+mod streams;
 #[cfg(test)]
 mod texts;
 #[cfg(test)]

@@ -1,3 +1,4 @@
 pub mod StreamLemmas
 pub mod ScriptLemmas
 pub mod ReportLemmas
+pub mod StormLemmas

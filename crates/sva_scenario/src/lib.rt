@@ -6,6 +6,7 @@ mod configs;
 mod driving;
 mod reading;
 mod report;
+mod storming;
 mod streams;
 mod told;
 mod writing;
@@ -14,12 +15,8 @@ pub use checking::check;
 pub use configs::laws;
 pub use driving::drive;
 pub use reading::{MOST_KEPT, MOST_TURNS, read_all};
+pub use storming::{read_scenario, report_audit};
 pub use streams::{DriveFault, Outcome};
 pub use sva_grammar::{Cause, LineFault, ParseFault, Scenario, parse};
 pub use told::Told;
 pub use writing::write_all;
-
-#[cfg(test)]
-mod report_tests;
-#[cfg(test)]
-mod tests;

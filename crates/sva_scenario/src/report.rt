@@ -1,6 +1,7 @@
 ghost use Rattle.std.specs.Prelude.{◌≡◌, ◌+◌, ◌^◌, ◌<◌, ◌≤◌, ◌++◌, length, decimal, Err, OnOk};
 ghost use Rattle.sva_grammar.specs.Faults.{line_fault_text};
 ghost use Rattle.sva_scenario.specs.Report.{ended, reply_text, counts_text, steps_text};
+ghost use Rattle.sva_scenario.specs.Storms.{audit_bad_text, audit_ok_text};
 ghost use Rattle.sva_scenario.specs.Streams.{Writes, Tells};
 
 use crate::streams::DriveFault;
@@ -92,6 +93,41 @@ pub(crate) fn write_counts<W: Write>(
 {
     line.clear();
     if put_counts(line, free, mapped, withheld).is_err() {
+        return Err(DriveFault::Memory);
+    }
+    end_line(line, writer)
+}
+
+/// Writes the lines of an audit that finds nothing wrong: `audit ok`, and `frames N`.
+pub(crate) fn write_audit<W: Write>(
+    line: &mut Vec<u8>,
+    frames: u64,
+    writer: &mut Told<W>,
+) -> Result<(), DriveFault>
+    requires calls { writer.old.calls + 1025 < 2 ^ 64 }
+    ensures written { Writes (W.contents writer.old.inner) (W.contents writer.new.inner) (audit_ok_text frames) result }
+    ensures told { Tells writer.old writer.new result }
+    ensures memory { result ≡ Err DriveFault.Memory → writer.new ≡ writer.old }
+{
+    line.clear();
+    if put_count(line, "audit ok\nframes ", frames).is_err() {
+        return Err(DriveFault::Memory);
+    }
+    end_line(line, writer)
+}
+
+/// Writes the line of an audit that finds something wrong: `audit bad`.
+pub(crate) fn write_bad_audit<W: Write>(
+    line: &mut Vec<u8>,
+    writer: &mut Told<W>,
+) -> Result<(), DriveFault>
+    requires calls { writer.old.calls + 1025 < 2 ^ 64 }
+    ensures written { Writes (W.contents writer.old.inner) (W.contents writer.new.inner) audit_bad_text result }
+    ensures told { Tells writer.old writer.new result }
+    ensures memory { result ≡ Err DriveFault.Memory → writer.new ≡ writer.old }
+{
+    line.clear();
+    if line.extend_from_slice(b"audit bad").is_err() {
         return Err(DriveFault::Memory);
     }
     end_line(line, writer)

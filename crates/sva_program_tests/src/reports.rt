@@ -1,11 +1,12 @@
-// Whole reports: of runs, of inputs that are no scenario, and where a reader, a writer or memory fails. More runs, with the reports
-// that were worked out for them, are those of the program.
-use super::*;
-use crate::tests::{Broken, Slow, long_text};
+//! Whole reports: of runs, of inputs that are no scenario, and where a reader, a writer or memory fails. More runs, with the reports
+//! that were worked out for them, are those of the program.
+
+use crate::streams::{Broken, Slow, long_text};
 use std::alloc::Global;
 use std::io;
 use std::io::{Read, Write};
 use std::test::Fail;
+use sva_scenario::{DriveFault, Outcome, Told, check, drive, read_scenario, report_audit};
 
 /// Is this the report of a text, and does the run end so?
 fn reports(alloc: Global, text: &[u8], want: &[u8], end: Outcome) -> Result<bool, DriveFault> {
@@ -276,4 +277,39 @@ fn stops_where_memory_lacks(rt: HostRuntime) {
         assert_eq!(rt; outcome, Ok(Outcome::Done));
         assert_eq!(rt; len, 58);
     }
+}
+
+/// A scenario that can be played is handed out, and nothing is written; of another its fault is.
+#[test]
+fn hands_out_what_can_be_played(rt: HostRuntime) -> Result<(), Fail> {
+    let texts = [
+        (FIRST, Some(4), ""),
+        ("config 1 4097 1\nspace\n", None, "refused 1 BadConfig\n"),
+        ("config 1 4 1\nspase\n", None, "line 2 UnknownStep\n"),
+        ("", None, "line 1 NoConfig\n"),
+    ];
+    for (text, steps, want) in texts {
+        let mut reader = Told::new(text.as_bytes());
+        let mut writer = Told::new(Vec::new(rt.alloc()));
+        let found = read_scenario(rt.alloc(), &mut reader, &mut writer)?;
+        assert_eq!(rt; found.map(|scenario| scenario.steps.len()), steps, "{text}");
+        assert!(rt; writer.inner().as_slice() == want.as_bytes(), "{text}");
+    }
+    Ok(())
+}
+
+/// What is written of what an audit says.
+#[test]
+fn reports_audits(rt: HostRuntime) -> Result<(), Fail> {
+    let audits = [
+        (Some(4), Outcome::Done, "audit ok\nframes 4\n"),
+        (None, Outcome::Faulted, "audit bad\n"),
+    ];
+    for (found, end, want) in audits {
+        let mut writer = Told::new(Vec::new(rt.alloc()));
+        let ended = report_audit(rt.alloc(), found, &mut writer)?;
+        assert_eq!(rt; ended, end);
+        assert!(rt; writer.inner().as_slice() == want.as_bytes(), "{want}");
+    }
+    Ok(())
 }

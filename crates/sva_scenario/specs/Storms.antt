@@ -1,0 +1,66 @@
+-- What `svahost storm` prints. Which end a storm has depends on its threads, and so on no text alone.
+use Rattle.std.specs.Prelude.{◌≡◌, ◌⊎◌, ℕ, List, [], ◌++◌, codes, decimal, Bool, true, false, Option, Some, None, Result, Ok, Err, IfOk}
+use Rattle.sva_step.specs.declared.refusals.Refusal.TheVariants.{BadConfig}
+use Rattle.sva_step.specs.Refusals.{refusal_text}
+use Rattle.sva_grammar.specs.declared.faults.LineFault.{LineFault}
+use Rattle.sva_grammar.specs.Faults.{line_fault_text}
+use Rattle.sva_grammar.specs.Grammar.{Script, scenario_of}
+use Rattle.sva_scenario.specs.declared.streams.DriveFault.{DriveFault}
+use Rattle.sva_scenario.specs.declared.streams.Outcome.{Outcome}
+use Rattle.sva_scenario.specs.declared.streams.Outcome.TheVariants.{Done, Faulted}
+use Rattle.sva_scenario.specs.Report.{ended, is_fit}
+use Rattle.sva_scenario.specs.Streams.{Writes}
+
+-- ---- The scenario
+
+-- a scenario whose config is within its limits is handed out, and nothing is written; of another that is written, and none is handed out
+abbrev pub JudgedBy : Bool → Script → Option (List ℕ) → Option (List ℕ) → Result (Option Script) DriveFault → Type 0
+JudgedBy true script old new result = Writes old new [] result × IfOk result (λ o. o ≡ Some script)
+JudgedBy false script old new result = Writes old new (ended (refusal_text BadConfig)) result × IfOk result (λ o. o ≡ None)
+
+-- of what was read: a line fault is written alone, and none is handed out
+abbrev pub Judged : Result Script LineFault → Option (List ℕ) → Option (List ℕ) → Result (Option Script) DriveFault → Type 0
+Judged (Ok script) old new result = JudgedBy (is_fit script.config) script old new result
+Judged (Err fault) old new result = Writes old new (ended (line_fault_text fault)) result × IfOk result (λ o. o ≡ None)
+
+abbrev pub JudgedOf : List ℕ → Option (List ℕ) → Option (List ℕ) → Result (Option Script) DriveFault → Type 0
+JudgedOf text old new result = Judged (scenario_of text) old new result
+
+-- ---- The storm's end
+
+-- `audit ok`, and `frames N`
+abbrev pub audit_ok_text : ℕ → List ℕ
+audit_ok_text frames = ended (codes "audit ok") ++ ended (codes "frames " ++ decimal frames)
+
+-- `audit bad`
+abbrev pub audit_bad_text : List ℕ
+audit_bad_text = ended (codes "audit bad")
+
+-- what an audit says: so many frames were found, or it is bad
+abbrev pub audit_text : Option ℕ → List ℕ
+audit_text (Some frames) = audit_ok_text frames
+audit_text None = audit_bad_text
+
+-- and how the run ends then
+abbrev pub audit_outcome : Option ℕ → Outcome
+audit_outcome (Some frames) = Done
+audit_outcome None = Faulted
+
+-- ---- A whole run
+
+-- what was written is this text, or a prefix of it after a fault; and where there is no fault the run ended so
+abbrev pub Says : Option (List ℕ) → Option (List ℕ) → List ℕ → Outcome → Result Outcome DriveFault → Type 0
+Says old new text outcome result = Writes old new text result × IfOk result (λ o. o ≡ outcome)
+
+-- a storm of a scenario: its audit is ok, and all frames of the config are there; or it is bad
+abbrev pub StormsBy : Bool → (frames : ℕ) → Option (List ℕ) → Option (List ℕ) → Result Outcome DriveFault → Type 0
+StormsBy true frames old new result = Says old new (audit_ok_text frames) Done result ⊎ Says old new audit_bad_text Faulted result
+StormsBy false frames old new result = Says old new (ended (refusal_text BadConfig)) Faulted result
+
+-- of what was read: a line fault, or a config out of its limits, stands alone, as in a report
+abbrev pub Storms : Result Script LineFault → Option (List ℕ) → Option (List ℕ) → Result Outcome DriveFault → Type 0
+Storms (Ok script) old new result = StormsBy (is_fit script.config) script.config.frames old new result
+Storms (Err fault) old new result = Says old new (ended (line_fault_text fault)) Faulted result
+
+abbrev pub StormsOf : List ℕ → Option (List ℕ) → Option (List ℕ) → Result Outcome DriveFault → Type 0
+StormsOf text old new result = Storms (scenario_of text) old new result

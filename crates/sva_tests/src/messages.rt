@@ -16,42 +16,42 @@ fn page_request(last: bool) -> Kind {
     })
 }
 
-// Each kind, page requests without and with L.
-fn each_kind() -> [Kind; 12] {
-    [
-        Kind::Start { pasid: 1 },
-        Kind::Stop { pasid: 1 },
-        Kind::Reset,
-        Kind::Completion {
+// Each kind by its place among 12, page requests without and with L.
+fn kind(place: usize) -> Kind {
+    match place {
+        0 => Kind::Start { pasid: 1 },
+        1 => Kind::Stop { pasid: 1 },
+        2 => Kind::Reset,
+        3 => Kind::Completion {
             tag: 0,
             frame: 2,
             read: true,
             write: true,
         },
-        Kind::Invalidate {
+        4 => Kind::Invalidate {
             itag: 3,
             pasid: 1,
             scope: Scope::Code { page: 16, s: false },
         },
-        Kind::Response {
+        5 => Kind::Response {
             pasid: 1,
             index: 0,
             code: Code::Success,
         },
-        Kind::Request {
+        6 => Kind::Request {
             tag: 0,
             pasid: 1,
             page: 16,
         },
-        Kind::Invalidated {
+        7 => Kind::Invalidated {
             vector: 8,
             count: CountField::new(1),
         },
-        page_request(false),
-        page_request(true),
-        Kind::Marker { pasid: 1 },
-        Kind::ResetDone,
-    ]
+        8 => page_request(false),
+        9 => page_request(true),
+        10 => Kind::Marker { pasid: 1 },
+        _ => Kind::ResetDone,
+    }
 }
 
 // A row for each newer kind: may it be delivered while one of each older kind is in flight at its endpoint?
@@ -73,6 +73,10 @@ static MAY_OVERTAKE: [&str; 12] = [
     "nnnnnnnnnnnn",
 ];
 
+fn may_overtake(newer: usize, older: usize) -> bool {
+    newer < MAY_OVERTAKE.len() && MAY_OVERTAKE[newer].as_bytes().get(older) == Some(&b'y')
+}
+
 // Whether the older one of two messages in flight may be delivered, and whether the newer one may.
 fn may_deliver(alloc: Global, older: Message, newer: Message) -> Result<(bool, bool), AllocError> {
     let mut bag = Bag::new(alloc, 0);
@@ -81,20 +85,21 @@ fn may_deliver(alloc: Global, older: Message, newer: Message) -> Result<(bool, b
     Ok((bag.may_deliver(0), bag.may_deliver(1)))
 }
 
-// Whether a message of the one kind overtakes an older one of the other, at its endpoint, as it may or may not, and at another
-// endpoint. The older one may always be delivered.
-fn overtakes(alloc: Global, newer: Kind, older: Kind, may: bool) -> Result<bool, AllocError> {
+// Whether a message of the kind in the one place overtakes an older one of the kind in the other, at its endpoint, as it may or may
+// not, and at another endpoint. The older one may always be delivered.
+fn overtakes(alloc: Global, newer: usize, older: usize) -> Result<bool, AllocError> {
+    let may = may_overtake(newer, older);
     let first = Message {
         endpoint: 0,
-        kind: older,
+        kind: kind(older),
     };
     let second = Message {
         endpoint: 0,
-        kind: newer,
+        kind: kind(newer),
     };
     let elsewhere = Message {
         endpoint: 1,
-        kind: newer,
+        kind: kind(newer),
     };
     let is_so = may_deliver(alloc, first, second)? == (true, may);
     Ok(is_so && may_deliver(alloc, first, elsewhere)? == (true, true))
@@ -102,12 +107,12 @@ fn overtakes(alloc: Global, newer: Kind, older: Kind, may: bool) -> Result<bool,
 
 #[test]
 fn orders_each_pair_of_kinds(rt: HostRuntime) -> Result<(), Fail> {
-    let kinds = each_kind();
     for newer in 0..12 {
         for older in 0..12 {
-            let may = MAY_OVERTAKE[newer].as_bytes().get(older) == Some(&b'y');
-            let is_so = overtakes(rt.alloc(), kinds[newer], kinds[older], may)?;
-            assert!(rt; is_so, "{newer} past {older}");
+            assert!(rt;
+                overtakes(rt.alloc(), newer, older)?,
+                "{newer} past {older}"
+            );
         }
     }
     Ok(())
@@ -121,9 +126,8 @@ fn goes(kind: Kind, is_up: bool) -> bool {
 
 #[test]
 fn tells_the_way(rt: HostRuntime) {
-    let kinds = each_kind();
     for place in 0..12 {
-        assert!(rt; goes(kinds[place], place >= 6), "kind {place}");
+        assert!(rt; goes(kind(place), place >= 6), "kind {place}");
     }
 }
 

@@ -19,6 +19,8 @@ enum Call {
     Front(u64),
     Room(usize),
     Open(bool),
+    /// How many descriptors are submitted, and whether they are taken.
+    Submit(u8, bool),
     BeginReset,
     EndReset,
 }
@@ -47,6 +49,7 @@ fn answers(unit: &mut Unit, submitted: &[Descriptor], call: Call) -> bool {
         Call::Front(front) => unit.front() == front,
         Call::Room(room) => unit.room() == room,
         Call::Open(is_open) => unit.is_open() == is_open,
+        Call::Submit(count, is_taken) => submits(unit, count) == is_taken,
         Call::BeginReset => {
             unit.begin_reset();
             true
@@ -65,18 +68,39 @@ fn run(rt: &impl Abort, unit: &mut Unit, submitted: &[Descriptor], calls: &[Call
     }
 }
 
+/// Submits one, two or 64 descriptors that aren't waits, and tells whether they were taken.
+fn submits(unit: &mut Unit, count: u8) -> bool {
+    if !unit.is_open() {
+        return false;
+    }
+    match count {
+        1 => unit.submit(&[Descriptor::Pasid { pasid: 1 }]) == Ok(()),
+        2 => unit.submit(&[Descriptor::Pasid { pasid: 1 }; 2]) == Ok(()),
+        _ => {
+            let range = Range::new(16, 0);
+            unit.submit(&[Descriptor::Range { pasid: 1, range }; 64]) == Ok(())
+        }
+    }
+}
+
+/// 64 descriptors fit in, and no other until the first one is sent.
+static FULL: [Call; 9] = [
+    Call::Submit(64, true),
+    Call::Room(0),
+    Call::Submit(1, false),
+    Call::Submit(2, false),
+    Call::Head(Some(0)),
+    Call::Pump(true, Pumped::Issued(0)),
+    Call::Room(1),
+    Call::Submit(2, false),
+    Call::Submit(1, true),
+];
+
 #[test]
 fn holds_64_descriptors(rt: HostRuntime) {
-    let mut unit = Unit::new();
     let range = Range::new(16, 0);
-    let all = [Descriptor::Range { pasid: 1, range }; 64];
-    let one = [Descriptor::Pasid { pasid: 1 }];
-    let two = [Descriptor::Pasid { pasid: 1 }; 2];
-    assert!(rt; unit.submit(&all) == Ok(()) && unit.room() == 0);
-    assert!(rt; unit.submit(&one) == Err(QueueFull) && unit.submit(&two) == Err(QueueFull));
-    assert!(rt; unit.head() == all.first().copied());
-    assert!(rt; unit.pump(true) == Pumped::Issued(0) && unit.room() == 1);
-    assert!(rt; unit.submit(&two) == Err(QueueFull) && unit.submit(&one) == Ok(()));
+    let first = [Descriptor::Range { pasid: 1, range }];
+    run(&rt, &mut Unit::new(), &first, &FULL);
 }
 
 fn wait(cookie: u64, drain: bool) -> Descriptor

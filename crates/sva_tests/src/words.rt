@@ -10,139 +10,235 @@ fn is_printed(alloc: Global, answer: Answer, text: &str) -> Result<bool, AllocEr
     Ok(line.as_slice() == text.as_bytes())
 }
 
-// Do these answers print their texts?
-fn print<R: Abort>(rt: &R, alloc: Global, answers: &[(Answer, &str)]) -> Result<(), Fail> {
-    for (answer, text) in answers {
-        assert!(rt; is_printed(alloc, *answer, text)?, "{text}");
-    }
-    Ok(())
-}
-
-// The texts that the calls of the host print.
-const HOST_ANSWERS: [(Answer, &str); 12] = [
-    (Answer::Space { space: 0 }, "> space 0"),
-    (Answer::Gone, "> gone"),
-    (Answer::Frame { frame: 4095 }, "> frame 4095"),
-    (Answer::RangeFree { frames: 512 }, "> range free 512"),
-    (Answer::RangeWithheld { frames: 2 }, "> range withheld 2"),
-    (
-        Answer::Binding {
+fn host_answer(place: usize) -> Answer {
+    match place {
+        0 => Answer::Space { space: 0 },
+        1 => Answer::Gone,
+        2 => Answer::Frame { frame: 4095 },
+        3 => Answer::RangeFree { frames: 512 },
+        4 => Answer::RangeWithheld { frames: 2 },
+        5 => Answer::Binding {
             binding: 9223372036854775807,
             pasid: 32,
         },
-        "> binding 9223372036854775807 pasid 32",
-    ),
-    (Answer::Stopping, "> stopping"),
-    (Answer::Draining, "> draining"),
-    (Answer::Invalidating, "> invalidating"),
-    (Answer::Quiet, "> quiet"),
-    (Answer::Released, "> released"),
-    (Answer::Idle, "> idle"),
+        6 => Answer::Stopping,
+        7 => Answer::Draining,
+        8 => Answer::Invalidating,
+        9 => Answer::Quiet,
+        10 => Answer::Released,
+        _ => Answer::Idle,
+    }
+}
+
+// The texts that the calls of the host print.
+static HOST_ANSWERS: [&str; 12] = [
+    "> space 0",
+    "> gone",
+    "> frame 4095",
+    "> range free 512",
+    "> range withheld 2",
+    "> binding 9223372036854775807 pasid 32",
+    "> stopping",
+    "> draining",
+    "> invalidating",
+    "> quiet",
+    "> released",
+    "> idle",
 ];
 
 #[test]
 fn host_answers(rt: HostRuntime) -> Result<(), Fail> {
-    print(&rt, rt.alloc(), &HOST_ANSWERS)
+    for place in 0..HOST_ANSWERS.len() {
+        assert!(rt;
+            is_printed(rt.alloc(), host_answer(place), HOST_ANSWERS[place])?,
+            "answer {place}"
+        );
+    }
+    Ok(())
 }
 
-// The texts that the service of the queues and the workers print.
-const SERVICE_ANSWERS: [(Answer, &str); 12] = [
-    (Answer::Itag { itag: 31 }, "> itag 31"),
-    (Answer::Blocked, "> blocked"),
-    (Answer::WaitDone, "> wait done"),
-    (Answer::Empty, "> empty"),
-    (Answer::Part, "> part"),
-    (Answer::Job, "> job"),
-    (Answer::Resetting, "> resetting"),
-    (
-        Answer::JobTaken {
+fn service_answer(place: usize) -> Answer {
+    match place {
+        0 => Answer::Itag { itag: 31 },
+        1 => Answer::Blocked,
+        2 => Answer::WaitDone,
+        3 => Answer::Empty,
+        4 => Answer::Part,
+        5 => Answer::Job,
+        6 => Answer::Resetting,
+        7 => Answer::JobTaken {
             binding: 1,
             group: 0,
             pages: 32,
         },
-        "> job binding 1 group 0 pages 32",
-    ),
-    (Answer::Success { pages: 1 }, "> success 1"),
-    (Answer::Invalid, "> invalid"),
-    (Answer::Failure, "> failure"),
-    (Answer::Dropped, "> dropped"),
+        8 => Answer::Success { pages: 1 },
+        9 => Answer::Invalid,
+        10 => Answer::Failure,
+        _ => Answer::Dropped,
+    }
+}
+
+// The texts that the service of the queues and the workers print.
+static SERVICE_ANSWERS: [&str; 12] = [
+    "> itag 31",
+    "> blocked",
+    "> wait done",
+    "> empty",
+    "> part",
+    "> job",
+    "> resetting",
+    "> job binding 1 group 0 pages 32",
+    "> success 1",
+    "> invalid",
+    "> failure",
+    "> dropped",
 ];
 
 #[test]
 fn service_answers(rt: HostRuntime) -> Result<(), Fail> {
-    print(&rt, rt.alloc(), &SERVICE_ANSWERS)
+    for place in 0..SERVICE_ANSWERS.len() {
+        assert!(rt;
+            is_printed(rt.alloc(), service_answer(place), SERVICE_ANSWERS[place])?,
+            "answer {place}"
+        );
+    }
+    Ok(())
+}
+
+fn endpoint_answer(place: usize) -> Answer {
+    match place {
+        0 => Answer::Tag { tag: 10 },
+        1 => Answer::Use { slot: 15, frame: 7 },
+        2 => Answer::Ended,
+        3 => Answer::Dead,
+        4 => Answer::Evicted,
+        5 => Answer::Group { group: 31 },
+        6 => Answer::Sent { count: 8 },
+        _ => Answer::Marker,
+    }
 }
 
 // The texts that endpoints print.
-const ENDPOINT_ANSWERS: [(Answer, &str); 8] = [
-    (Answer::Tag { tag: 10 }, "> tag 10"),
-    (Answer::Use { slot: 15, frame: 7 }, "> use 15 frame 7"),
-    (Answer::Ended, "> ended"),
-    (Answer::Dead, "> dead"),
-    (Answer::Evicted, "> evicted"),
-    (Answer::Group { group: 31 }, "> group 31"),
-    (Answer::Sent { count: 8 }, "> sent 8"),
-    (Answer::Marker, "> marker"),
+static ENDPOINT_ANSWERS: [&str; 8] = [
+    "> tag 10",
+    "> use 15 frame 7",
+    "> ended",
+    "> dead",
+    "> evicted",
+    "> group 31",
+    "> sent 8",
+    "> marker",
 ];
 
 #[test]
 fn endpoint_answers(rt: HostRuntime) -> Result<(), Fail> {
-    print(&rt, rt.alloc(), &ENDPOINT_ANSWERS)
+    for place in 0..ENDPOINT_ANSWERS.len() {
+        assert!(rt;
+            is_printed(rt.alloc(), endpoint_answer(place), ENDPOINT_ANSWERS[place])?,
+            "answer {place}"
+        );
+    }
+    Ok(())
+}
+
+fn delivery_down(place: usize) -> Answer {
+    match place {
+        0 => Answer::Free,
+        1 => Answer::Mapped,
+        2 => Answer::Withheld,
+        3 => Answer::Started,
+        4 => Answer::Reset,
+        5 => Answer::NoTranslation,
+        6 => Answer::Full,
+        7 => Answer::Held,
+        8 => Answer::Taken,
+        9 => Answer::Answered,
+        _ => Answer::Stale,
+    }
 }
 
 // The texts that `look` and the deliveries to an endpoint print.
-const DELIVERIES_DOWN: [(Answer, &str); 11] = [
-    (Answer::Free, "> free"),
-    (Answer::Mapped, "> mapped"),
-    (Answer::Withheld, "> withheld"),
-    (Answer::Started, "> started"),
-    (Answer::Reset, "> reset"),
-    (Answer::NoTranslation, "> none"),
-    (Answer::Full, "> full"),
-    (Answer::Held, "> held"),
-    (Answer::Taken, "> taken"),
-    (Answer::Answered, "> answered"),
-    (Answer::Stale, "> stale"),
+static DELIVERIES_DOWN: [&str; 11] = [
+    "> free",
+    "> mapped",
+    "> withheld",
+    "> started",
+    "> reset",
+    "> none",
+    "> full",
+    "> held",
+    "> taken",
+    "> answered",
+    "> stale",
 ];
 
 #[test]
 fn deliveries_down(rt: HostRuntime) -> Result<(), Fail> {
-    print(&rt, rt.alloc(), &DELIVERIES_DOWN)
+    for place in 0..DELIVERIES_DOWN.len() {
+        assert!(rt;
+            is_printed(rt.alloc(), delivery_down(place), DELIVERIES_DOWN[place])?,
+            "answer {place}"
+        );
+    }
+    Ok(())
 }
 
-// The texts that the deliveries to a unit and `bearer` print.
-const DELIVERIES_UP: [(Answer, &str); 7] = [
-    (Answer::Completion, "> completion"),
-    (Answer::Freed { count: 0 }, "> freed 0"),
-    (Answer::Queued, "> queued"),
-    (Answer::Marked, "> marked"),
-    (Answer::ResetDone, "> reset done"),
-    (
-        Answer::Bearer {
+fn delivery_up(place: usize) -> Answer {
+    match place {
+        0 => Answer::Completion,
+        1 => Answer::Freed { count: 0 },
+        2 => Answer::Queued,
+        3 => Answer::Marked,
+        4 => Answer::ResetDone,
+        5 => Answer::Bearer {
             space: 0,
             bindings: 2,
         },
-        "> bearer 0 bindings 2",
-    ),
-    (Answer::NoBearer, "> bearer none"),
+        _ => Answer::NoBearer,
+    }
+}
+
+// The texts that the deliveries to a unit and `bearer` print.
+static DELIVERIES_UP: [&str; 7] = [
+    "> completion",
+    "> freed 0",
+    "> queued",
+    "> marked",
+    "> reset done",
+    "> bearer 0 bindings 2",
+    "> bearer none",
 ];
 
 #[test]
 fn deliveries_up(rt: HostRuntime) -> Result<(), Fail> {
-    print(&rt, rt.alloc(), &DELIVERIES_UP)
+    for place in 0..DELIVERIES_UP.len() {
+        assert!(rt;
+            is_printed(rt.alloc(), delivery_up(place), DELIVERIES_UP[place])?,
+            "answer {place}"
+        );
+    }
+    Ok(())
 }
 
-#[test]
-fn answers_with_frames(rt: HostRuntime) -> Result<(), Fail> {
+// Frames 0, 10 and 4095.
+fn three_frames() -> FrameList {
     let mut frames = FrameList::new();
     frames.push(0);
     frames.push(10);
     frames.push(4095);
-    let answers = [
-        (Answer::FreeFrames { frames }, "> free 0 10 4095"),
-        (Answer::WithheldFrames { frames }, "> withheld 0 10 4095"),
-    ];
-    print(&rt, rt.alloc(), &answers)
+    frames
+}
+
+#[test]
+fn answers_with_frames(rt: HostRuntime) -> Result<(), Fail> {
+    let frames = three_frames();
+    let (free, withheld) = (
+        Answer::FreeFrames { frames },
+        Answer::WithheldFrames { frames },
+    );
+    assert!(rt; is_printed(rt.alloc(), free, "> free 0 10 4095")?);
+    assert!(rt; is_printed(rt.alloc(), withheld, "> withheld 0 10 4095")?);
+    Ok(())
 }
 
 // Those of the host, and then the others.
@@ -240,7 +336,7 @@ fn frame_lists(rt: HostRuntime) {
 }
 
 // Of each config its endpoints, frames, workers and first number, and whether it fits.
-const CONFIGS: [(u64, u64, u64, u64, bool); 9] = [
+static CONFIGS: [(u64, u64, u64, u64, bool); 9] = [
     (1, 1, 1, 0, true),
     (8, 4096, 4, 9223372036854775808, true),
     (0, 1, 1, 0, false),
@@ -252,16 +348,24 @@ const CONFIGS: [(u64, u64, u64, u64, bool); 9] = [
     (1, 1, 1, 9223372036854775809, false),
 ];
 
+fn fits(endpoints: u64, frames: u64, workers: u64, first: u64) -> bool {
+    let config = Config {
+        endpoints,
+        frames,
+        workers,
+        first,
+    };
+    config.fits()
+}
+
 #[test]
 fn configs(rt: HostRuntime) {
-    for (endpoints, frames, workers, first, fits) in CONFIGS {
-        let config = Config {
-            endpoints,
-            frames,
-            workers,
-            first,
-        };
-        assert!(rt; config.fits() == fits, "{config:?}");
+    for place in 0..CONFIGS.len() {
+        let (endpoints, frames, workers, first, does_fit) = CONFIGS[place];
+        assert!(rt;
+            fits(endpoints, frames, workers, first) == does_fit,
+            "config {place}"
+        );
     }
 }
 

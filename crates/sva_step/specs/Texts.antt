@@ -104,6 +104,40 @@ is_of_host Failure = true
 is_of_host Dropped = true
 is_of_host _ = false
 
+-- an answer of the host or of its service whose text has a number
+abbrev pub has_host_number : Answer → Bool
+has_host_number (Space space) = true
+has_host_number (Frame frame) = true
+has_host_number (FreeFrames frames) = true
+has_host_number (WithheldFrames frames) = true
+has_host_number (RangeFree frames) = true
+has_host_number (RangeWithheld frames) = true
+has_host_number (Binding binding pasid) = true
+has_host_number (Itag itag) = true
+has_host_number (JobTaken binding group pages) = true
+has_host_number (Success pages) = true
+has_host_number _ = false
+
+-- an answer whose text has a number
+abbrev pub has_number : Answer → Bool
+has_number (Space space) = true
+has_number (Frame frame) = true
+has_number (FreeFrames frames) = true
+has_number (WithheldFrames frames) = true
+has_number (RangeFree frames) = true
+has_number (RangeWithheld frames) = true
+has_number (Binding binding pasid) = true
+has_number (Itag itag) = true
+has_number (JobTaken binding group pages) = true
+has_number (Success pages) = true
+has_number (Tag tag) = true
+has_number (Use slot frame) = true
+has_number (Group group) = true
+has_number (Sent count) = true
+has_number (Freed count) = true
+has_number (Bearer space bindings) = true
+has_number _ = false
+
 -- each number is one of 64 bits, and a list of frames has a frame
 abbrev pub InRange : Answer → Type 0
 InRange (Space space) = space < 2 ^ 64

@@ -1,5 +1,5 @@
-ghost use Rattle.std.specs.Prelude.{◌≡◌, false, ◌++◌, OnOk, OnErr};
-ghost use Rattle.sva_step.specs.Texts.{answer_text, is_of_host, frames_text, BeginsWith, TextsTellApart};
+ghost use Rattle.std.specs.Prelude.{◌≡◌, false, ◌++◌, decimal, OnOk, OnErr};
+ghost use Rattle.sva_step.specs.Texts.{answer_text, is_of_host, has_host_number, has_number, frames_text, BeginsWith, TextsTellApart};
 
 use crate::frame_list::FrameList;
 use crate::pieces::{put, put_number, undo};
@@ -191,7 +191,6 @@ impl Answer {
     {
         match self {
             Answer::Space { space } => put_number(out, "space ", *space),
-            Answer::Gone => put(out, "gone"),
             Answer::Frame { frame } => put_number(out, "frame ", u64::from(*frame)),
             Answer::FreeFrames { frames } => put_frames(out, "free", frames),
             Answer::WithheldFrames { frames } => put_frames(out, "withheld", frames),
@@ -201,75 +200,106 @@ impl Answer {
                 "range withheld ",
                 u64::from(*frames),
             ),
-            Answer::Binding { binding, pasid } => {
-                put_number(out, "binding ", *binding)?;
-                put_number(out, " pasid ", u64::from(*pasid))
-            }
-            Answer::Stopping => put(out, "stopping"),
-            Answer::Draining => put(out, "draining"),
-            Answer::Invalidating => put(out, "invalidating"),
-            Answer::Quiet => put(out, "quiet"),
-            Answer::Released => put(out, "released"),
-            Answer::Idle => put(out, "idle"),
+            Answer::Binding { binding, pasid } => put_two(
+                out,
+                "binding ",
+                *binding,
+                " pasid ",
+                u64::from(*pasid),
+            ),
             Answer::Itag { itag } => put_number(out, "itag ", u64::from(*itag)),
-            Answer::Blocked => put(out, "blocked"),
-            Answer::WaitDone => put(out, "wait done"),
-            Answer::Empty => put(out, "empty"),
-            Answer::Part => put(out, "part"),
-            Answer::Job => put(out, "job"),
-            Answer::Resetting => put(out, "resetting"),
             Answer::JobTaken {
                 binding,
                 group,
                 pages,
             } => put_job(out, *binding, *group, *pages),
             Answer::Success { pages } => put_number(out, "success ", u64::from(*pages)),
-            Answer::Invalid => put(out, "invalid"),
-            Answer::Failure => put(out, "failure"),
-            Answer::Dropped => put(out, "dropped"),
             _ => self.append_endpoint(out),
         }
     }
 
-    // As `append`, for the answers of endpoints, of the link, of `look` and of `bearer`.
+    // As `append`, for the answers of endpoints, of the link and of `bearer` that have numbers, and for those of words alone.
     fn append_endpoint(&self, out: &mut Vec<u8>) -> Result<(), AllocError>
-        requires { is_of_host self.now ≡ false }
+        requires { has_host_number self.now ≡ false }
         ensures ok { OnOk result (out.new.items ≡ out.old.items ++ answer_text self.now) }
         ensures err { OnErr result (BeginsWith out.new.items out.old.items) }
     {
         match self {
             Answer::Tag { tag } => put_number(out, "tag ", u64::from(*tag)),
-            Answer::Use { slot, frame } => {
-                put_number(out, "use ", u64::from(*slot))?;
-                put_number(out, " frame ", u64::from(*frame))
-            }
-            Answer::Ended => put(out, "ended"),
-            Answer::Dead => put(out, "dead"),
-            Answer::Evicted => put(out, "evicted"),
+            Answer::Use { slot, frame } => put_two(
+                out,
+                "use ",
+                u64::from(*slot),
+                " frame ",
+                u64::from(*frame),
+            ),
             Answer::Group { group } => put_number(out, "group ", u64::from(*group)),
             Answer::Sent { count } => put_number(out, "sent ", u64::from(*count)),
-            Answer::Marker => put(out, "marker"),
-            Answer::Free => put(out, "free"),
-            Answer::Mapped => put(out, "mapped"),
-            Answer::Withheld => put(out, "withheld"),
-            Answer::Started => put(out, "started"),
-            Answer::Reset => put(out, "reset"),
-            Answer::NoTranslation => put(out, "none"),
-            Answer::Full => put(out, "full"),
-            Answer::Held => put(out, "held"),
-            Answer::Taken => put(out, "taken"),
-            Answer::Answered => put(out, "answered"),
-            Answer::Stale => put(out, "stale"),
-            Answer::Completion => put(out, "completion"),
             Answer::Freed { count } => put_number(out, "freed ", u64::from(*count)),
-            Answer::Queued => put(out, "queued"),
-            Answer::Marked => put(out, "marked"),
-            Answer::ResetDone => put(out, "reset done"),
-            Answer::Bearer { space, bindings } => {
-                put_number(out, "bearer ", *space)?;
-                put_number(out, " bindings ", u64::from(*bindings))
-            }
-            Answer::NoBearer => put(out, "bearer none"),
+            Answer::Bearer { space, bindings } => put_two(
+                out,
+                "bearer ",
+                *space,
+                " bindings ",
+                u64::from(*bindings),
+            ),
+            _ => put(out, self.words()),
+        }
+    }
+
+    // The text of an answer that has no number.
+    fn words(&self) -> &'static str
+        requires { has_number self.now ≡ false }
+        ensures { result.now ≡ answer_text self.now }
+    {
+        match self {
+            Answer::Gone => "gone",
+            Answer::Stopping => "stopping",
+            Answer::Draining => "draining",
+            Answer::Invalidating => "invalidating",
+            Answer::Quiet => "quiet",
+            Answer::Released => "released",
+            Answer::Idle => "idle",
+            Answer::Blocked => "blocked",
+            Answer::WaitDone => "wait done",
+            Answer::Empty => "empty",
+            Answer::Part => "part",
+            Answer::Job => "job",
+            Answer::Resetting => "resetting",
+            Answer::Invalid => "invalid",
+            Answer::Failure => "failure",
+            Answer::Dropped => "dropped",
+            _ => self.endpoint_words(),
+        }
+    }
+
+    // As `words`, for the answers of endpoints, of the link, of `look` and of `bearer`.
+    fn endpoint_words(&self) -> &'static str
+        requires no_number { has_number self.now ≡ false }
+        requires not_of_host { is_of_host self.now ≡ false }
+        ensures { result.now ≡ answer_text self.now }
+    {
+        match self {
+            Answer::Ended => "ended",
+            Answer::Dead => "dead",
+            Answer::Evicted => "evicted",
+            Answer::Marker => "marker",
+            Answer::Free => "free",
+            Answer::Mapped => "mapped",
+            Answer::Withheld => "withheld",
+            Answer::Started => "started",
+            Answer::Reset => "reset",
+            Answer::NoTranslation => "none",
+            Answer::Full => "full",
+            Answer::Held => "held",
+            Answer::Taken => "taken",
+            Answer::Answered => "answered",
+            Answer::Stale => "stale",
+            Answer::Completion => "completion",
+            Answer::Queued => "queued",
+            Answer::Marked => "marked",
+            Answer::ResetDone => "reset done",
+            Answer::NoBearer => "bearer none",
             _ => unreachable!(),
         }
     }
@@ -286,6 +316,22 @@ fn put_frames(out: &mut Vec<u8>, words: &str, frames: &FrameList) -> Result<(), 
         put_number(out, " ", u64::from(*frame))?;
     }
     Ok(())
+}
+
+// Appends two numbers, each behind its words.
+fn put_two(
+    out: &mut Vec<u8>,
+    first: &str,
+    number: u64,
+    second: &str,
+    other: u64,
+) -> Result<(), AllocError>
+    ensures ok { OnOk result (out.new.items ≡
+        out.old.items ++ (first.now ++ decimal number ++ second.now ++ decimal other)) }
+    ensures err { OnErr result (BeginsWith out.new.items out.old.items) }
+{
+    put_number(out, first, number)?;
+    put_number(out, second, other)
 }
 
 // Appends the text of a job that a worker has taken.

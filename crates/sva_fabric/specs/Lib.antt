@@ -1,3 +1,4 @@
+pub use Rattle.sva_journal.specs.Journal
 pub mod Receipts
 pub mod Audits
 pub mod Once

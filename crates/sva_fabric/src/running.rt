@@ -3,7 +3,7 @@
 ghost use Rattle.std.specs.Prelude.{◌≡◌, ◌↔◌, ◌+◌, ◌^◌, ◌<◌, ◌≤◌, true, false, length, slice_get, IfOk, IfErr, IfSome, IfNone, OnOk, OnErr, Some, Err};
 ghost use Rattle.sva_step.specs.declared.refusals.Refusal.TheVariants as refusal;
 ghost use Rattle.sva_step.specs.Limits.{Fits};
-ghost use Rattle.sva_core.specs.Reached.{IsOpenRefusal};
+ghost use Rattle.sva_journal.specs.Reached.{IsOpenRefusal};
 ghost use Rattle.sva_journal.specs.Journal.{IsLegal, CountsOf, bindings_of, uses_of, entry_of, with_entry, empty_of};
 ghost use Rattle.sva_journal.specs.Suiting.{Suits};
 ghost use Rattle.sva_fabric.specs.Receipts.{Stands, IsAnsweredAt, IsRefusedAt, HasStrayed};

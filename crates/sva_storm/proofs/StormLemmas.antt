@@ -9,7 +9,7 @@ use Rattle.sva_laws.proofs.Withheld.{config_kept}
 use Rattle.sva_fabric.specs.declared.audits.Audit.{Audit}
 use Rattle.sva_fabric.specs.declared.ports.Ports.{Ports}
 use Rattle.sva_fabric.specs.Audits.{seats_of, new_seats}
-use Rattle.sva_journal.specs.Journal.{as_defined, world_of}
+use Rattle.sva_fabric.specs.Journal.{as_defined, world_of}
 use Rattle.sva_fabric.specs.Receipts.{Seat, seats_from, new_seat}
 use Rattle.sva_storm.specs.Storms.{HasFinished}
 

@@ -18,4 +18,5 @@ pub use endings::{Ended, StormFault};
 pub use gates::{Device, Pager};
 pub use paging::fault_loop;
 pub use storming::storm;
+pub use sva_fabric::{Audit, Fabric, Lease, Port, Ports, Tally, Tokens, UseTicket, ports_of};
 pub use using::endpoint_loop;

@@ -11,10 +11,12 @@ use std::sync::{Barrier, Wait};
 use std::test::Fail;
 use std::thread;
 use std::thread::Threads;
-use sva_fabric::{Fabric, Lease, Port, Ports, Tally, Tokens, UseTicket, ports_of};
 use sva_grammar::{Scenario, parse};
 use sva_step::{Answer, Config, Refusal, Verdict};
-use sva_storm::{Device, Ended, Pager, endpoint_loop, fault_loop};
+use sva_storm::{
+    Device, Ended, Fabric, Lease, Pager, Port, Ports, Tally, Tokens, UseTicket, endpoint_loop,
+    fault_loop, ports_of,
+};
 
 /// What two threads know of each other's first call.
 #[derive(Drop)]

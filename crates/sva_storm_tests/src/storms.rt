@@ -8,10 +8,9 @@ use std::process::Abort;
 use std::sync::Wait;
 use std::sync::atomic::{AtomicU64, Ordering};
 use std::thread::Threads;
-use sva_fabric::Audit;
 use sva_grammar::{Scenario, parse};
 use sva_step::Verdict;
-use sva_storm::{Device, Pager, StormFault, storm};
+use sva_storm::{Audit, Device, Pager, StormFault, storm};
 
 /// A device and a pager that do nothing else.
 #[derive(Clone, Copy)]

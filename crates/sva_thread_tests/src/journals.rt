@@ -1,6 +1,6 @@
 use crate::worlds::{CONFIG, map};
 use std::test::Fail;
-use sva_journal::{Entry, Journaled};
+use sva_fabric::{Entry, Journaled};
 use sva_step::Refusal;
 
 #[test]

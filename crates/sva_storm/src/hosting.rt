@@ -7,6 +7,7 @@ ghost use Rattle.sva_storm.specs.Plays.{HasPlayed, IsTurn};
 use crate::endings::{Spent, Turn};
 use crate::using::{turn_after, turn_of};
 use std::sync::Wait;
+use std::thread::yield_now;
 use sva_fabric::{Fabric, Lease, Leaving, Moved, Port, Tally};
 use sva_step::Step;
 
@@ -62,7 +63,7 @@ pub(crate) fn host<C: Tally, R: Wait>(
         };
         match host_turn(fabric, rt, port, line, holdings) {
             Turn::Accepted => accepted += 1,
-            Turn::Again => {}
+            Turn::Again => yield_now(),
             ended => {
                 return Spent {
                     turns_left: turns - turn - 1,

@@ -6,6 +6,7 @@ ghost use Rattle.sva_step.specs.Steps.{is_plain};
 use crate::endings::{Spent, Turn};
 use crate::using::turn_of;
 use std::sync::Wait;
+use std::thread::yield_now;
 use sva_fabric::{Fabric, Port, Tally};
 use sva_step::Step;
 
@@ -20,7 +21,7 @@ pub(crate) fn link<C: Tally, R: Wait>(
     for turn in 0..turns {
         match turn_of(fabric.step(rt, port, &Step::Deliver { message })) {
             Turn::Accepted => message += 1,
-            Turn::Again => {}
+            Turn::Again => yield_now(),
             ended => {
                 return Spent {
                     turns_left: turns - turn - 1,
@@ -56,12 +57,15 @@ pub(crate) fn service<C: Tally, R: Wait>(
     turns: u64,
 ) -> Spent {
     for turn in 0..turns {
-        let ended = turn_of(fabric.step(rt, port, &service_step(turn, endpoints)));
-        if ended == Turn::Memory || ended == Turn::Strayed {
-            return Spent {
-                turns_left: turns - turn - 1,
-                out_of_memory: ended == Turn::Memory,
-            };
+        match turn_of(fabric.step(rt, port, &service_step(turn, endpoints))) {
+            Turn::Accepted => {}
+            Turn::Again => yield_now(),
+            ended => {
+                return Spent {
+                    turns_left: turns - turn - 1,
+                    out_of_memory: ended == Turn::Memory,
+                };
+            }
         }
     }
     Spent {

@@ -8,12 +8,13 @@ use crate::gates::Pager;
 use crate::using::turn_of;
 use std::alloc::Global;
 use std::sync::Wait;
+use std::thread::yield_now;
 use sva_fabric::{Fabric, Port, StepFault, Tally};
 use sva_step::{Answer, Step, Verdict};
 
 /// Takes jobs as a worker, has the pager decide of each, and answers so, in as many turns as are given: a taking and an answer are a turn
 /// each. A success that is refused is answered `Invalid`; any other refused call is tried again. Want of memory ends the loop, and so
-/// does a port whose last receipt doesn't stand. There are no tickets.
+/// does a port whose last receipt doesn't stand. A refused call lets other threads run. There are no tickets.
 pub fn fault_loop<C: Tally, R: Wait, P: Pager>(
     fabric: &Fabric<C>,
     rt: &R,
@@ -53,7 +54,8 @@ pub(crate) fn answer_jobs<C: Tally, R: Wait, P: Pager>(
     let mut decided = None;
     for turn in 0..turns {
         match take_turn(fabric, rt, port, worker, pager, &mut decided) {
-            Turn::Accepted | Turn::Again => {}
+            Turn::Accepted => {}
+            Turn::Again => yield_now(),
             ended => {
                 return Spent {
                     turns_left: turns - turn - 1,

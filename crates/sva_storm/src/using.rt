@@ -9,13 +9,14 @@ use crate::gates::Device;
 use crate::hands::{MOST_TICKETS, place_of};
 use std::alloc::Global;
 use std::sync::Wait;
+use std::thread::yield_now;
 use sva_fabric::{Fabric, Fault, Port, Receipt, StepFault, Tally, UseTicket};
 use sva_step::Step;
 
 /// Plays the lines of a script in their order, each until it is accepted, in as many turns as are given. A use that begins is touched by
 /// the device, and its ticket is kept until its line ends it: 16 at most, whose places are reserved before the first turn. With 16 in
 /// hand the line of a use is a turn without a call, and so is a line whose ticket isn't in hand, or that binds, unbinds or advances.
-/// Want of memory ends the loop, and so does a port whose last receipt doesn't stand.
+/// Want of memory ends the loop, and so does a port whose last receipt doesn't stand. A turn in which nothing was accepted lets other threads run.
 pub fn endpoint_loop<C: Tally, R: Wait, D: Device>(
     fabric: &Fabric<C>,
     rt: &R,
@@ -72,7 +73,7 @@ pub(crate) fn play<C: Tally, R: Wait, D: Device>(
         };
         match take_turn(fabric, rt, port, device, line, tickets) {
             Turn::Accepted => accepted += 1,
-            Turn::Again => {}
+            Turn::Again => yield_now(),
             ended => {
                 return Spent {
                     turns_left: turns - turn - 1,

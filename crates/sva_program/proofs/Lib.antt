@@ -1,3 +1,5 @@
 mod SayLemmas
 mod RunLemmas
 mod LineLemmas
+mod ReadLemmas
+mod TurnLemmas

@@ -1,37 +1,45 @@
--- How a run of `replay` ends, from what `drive` says, and from a command line that couldn't be read for want of memory.
-use Rattle.std.proofs.Common.{◌≡◌, ◌⊎◌, inl, inr, sym, ◌∙◌, subst, append-nil, refl, ℕ, List, [], ◌∷◌, Option, Some, None, IfSome, Result, Ok, Err, OnOk}
+-- How a run ends, from what its command says, and from a command line that couldn't be read for want of memory.
+use Rattle.std.proofs.Common.{◌≡◌, ◌⊎◌, inl, inr, sym, ◌∙◌, subst, append-nil, refl, ℕ, List}
+use Rattle.std.proofs.Common.{[], ◌∷◌, Option, Some, None, IfSome, Result, Ok, Err, OnOk}
 use Rattle.std.proofs.Common.{IfOk}
 use Rattle.std.specs.Io.KnownBytes.{Appends, Keeps}
 use Rattle.clap.specs.Words.{HasKind, IsAmong, Kinds, kind_of}
 use Rattle.clap.specs.declared.error.Error.{Error}
 use Rattle.clap.specs.declared.error.kind.ErrorKind.{ErrorKind}
 use Rattle.clap.specs.declared.error.kind.ErrorKind.TheVariants.{DisplayHelp, DisplayVersion, OutOfMemory}
-use Rattle.sva_scenario.specs.Streams.{Stream, Writes}
+use Rattle.sva_scenario.specs.Streams.{AppendsPrefix, Stream}
 use Rattle.sva_scenario.specs.declared.reading.TheConstants.{MOST_TURNS}
 use Rattle.sva_scenario.specs.declared.streams.DriveFault.{DriveFault}
 use Rattle.sva_scenario.specs.declared.streams.DriveFault.TheVariants.{Read, Write, Memory}
 use Rattle.sva_scenario.specs.declared.streams.Outcome.{Outcome}
-use Rattle.sva_program.specs.Run.{HasCause, Reports, ended_of, printed_of}
+use Rattle.sva_scenario.specs.Report.{check_of, report_of}
+use Rattle.sva_scenario.proofs.StormLemmas.{lacking_of}
+use Rattle.sva_program.specs.Run.{HasCause, Makes, Reports}
 use Rattle.sva_program.specs.declared.command.Asked.{Asked}
+use Rattle.sva_program.specs.declared.command.Asked.TheVariants.{Check, Replay, Storm}
 
 keeps : (old new : Option (List ℕ)) → new ≡ old → Keeps old new
 keeps None new e = tt
 keeps (Some xs) (Some ys) e = cc e
 keeps (Some xs) None e = absurd (cc e)
 
--- what `drive` says of what it wrote, put together
+-- what a command says of what it wrote, put together
 pub reported : (asked : Asked) (input old new : Option (List ℕ)) (r : Result Outcome DriveFault)
-    → IfSome input (λ text. Writes old new (printed_of asked text) r)
-    → IfOk r (λ outcome. IfSome input (λ text. outcome ≡ ended_of asked text))
+    → IfSome input (λ text. Makes asked text old new r)
     → (r ≡ Err Read → new ≡ old)
     → Reports asked input old new r
-reported asked None old new (Ok ended) report outcome read = tt
-reported asked (Some text) old new (Ok ended) report outcome read = (outcome, report)
-reported asked input old new (Err Read) report outcome read = keeps old new (read refl)
-reported asked None old new (Err Write) report outcome read = tt
-reported asked (Some text) old new (Err Write) report outcome read = report
-reported asked None old new (Err Memory) report outcome read = tt
-reported asked (Some text) old new (Err Memory) report outcome read = report
+reported asked input old new (Ok ended) made read = made
+reported asked input old new (Err Read) made read = keeps old new (read refl)
+reported asked input old new (Err Write) made read = made
+reported asked input old new (Err Memory) made read = made
+
+-- the text and the outcome of a command, where its input is known
+pub made : (A : List ℕ → Type 0) (P : Outcome → List ℕ → Type 0) (input : Option (List ℕ)) (r : Result Outcome DriveFault) → IfSome input A
+    → IfOk r (λ outcome. IfSome input (P outcome))
+    → IfSome input (λ text. A text × IfOk r (λ outcome. P outcome text))
+made A P None r text outcome = tt
+made A P (Some input) (Ok ended) text outcome = (text, outcome)
+made A P (Some input) (Err fault) text outcome = (text, tt)
 
 -- and of what failed
 pub caused : {R W : Type 0} (reader : Stream R) (writer : Stream W) (r : Result Outcome DriveFault)
@@ -49,10 +57,18 @@ appends_nothing : (old : Option (List ℕ)) → Appends old old []
 appends_nothing None = tt
 appends_nothing (Some xs) = sym (append-nil xs)
 
+nothing_of : (old : Option (List ℕ)) (text : List ℕ) → AppendsPrefix old old text
+nothing_of old text = ([], text, refl, appends_nothing old)
+
 -- nothing written is a prefix of each report
+unwritten_by : (asked : Asked) (text : List ℕ) (old : Option (List ℕ)) → Makes asked text old old (Err Memory)
+unwritten_by Replay text old = (nothing_of old (report_of text), tt)
+unwritten_by Check text old = (nothing_of old (check_of text), tt)
+unwritten_by (Storm turns) text old = lacking_of text old Memory
+
 pub unwritten : (asked : Asked) (input old new : Option (List ℕ)) → new ≡ old → Reports asked input old new (Err Memory)
 unwritten asked None old new e = tt
-unwritten asked (Some text) old new e = ([], printed_of asked text, refl, subst (λ n. Appends old n []) (sym e) (appends_nothing old))
+unwritten asked (Some text) old new e = subst (λ n. Makes asked text old n (Err Memory)) (sym e) (unwritten_by asked text old)
 
 -- where a command line has no fault, an error can only be want of memory
 pub only_memory : (kinds : Kinds) (error : Error) → kinds ≡ [] → HasKind kinds error → kind_of error ≡ OutOfMemory

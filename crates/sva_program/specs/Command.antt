@@ -1,18 +1,38 @@
 -- What a command line asks for. clap's definitions say what a parse makes of words; here is the command that they speak of.
-use Rattle.std.specs.Prelude.{◌≡◌, ◌≢◌, ◌⊎◌, List, [], ◌∷◌, true, codes, map, if◌then◌else◌, Option, None, Some, String, string_bytes}
+use Rattle.std.specs.Prelude.{◌≡◌, ◌≢◌, ◌⊎◌, ℕ, List, [], ◌∷◌, ◌++◌, true, codes, map, if◌then◌else◌, Option, None, Some, option_and_then, String, string_bytes}
 use Rattle.std.specs.Str.{bytes_eq}
-use Rattle.clap.specs.Words.{App, IsAmong, Text, fault_of, new_app, with_subcommand}
+use Rattle.std.specs.Str.Parse.{digits_value, without_leading_plus}
+use Rattle.clap.specs.Words.{App, IsAmong, IsUnsignedIn, Kinds, Row, Rule, Text, fault_of, new_app, new_rule, one_of, with_rule, with_subcommand}
+use Rattle.clap.specs.declared.builder.action.ArgAction.TheVariants.{Set}
+use Rattle.clap.specs.declared.builder.value_parser.ValueParser.TheVariants.{Unsigned}
 use Rattle.clap.specs.declared.error.kind.ErrorKind.{ErrorKind}
 use Rattle.clap.specs.declared.error.kind.ErrorKind.TheVariants.{DisplayHelp, DisplayVersion}
 use Rattle.sva_program.specs.declared.command.Asked.{Asked}
-use Rattle.sva_program.specs.declared.command.Asked.TheVariants.{Replay, Check}
+use Rattle.sva_program.specs.declared.command.Asked.TheVariants.{Replay, Check, Storm}
 
--- `svahost` with a version and its commands `replay` and `check`, which take no arguments; each has clap's flags for help
+-- `--turns N`, a number that is read as u64, from 1 to 1000000, or 10000 where it isn't given
+abbrev pub turns_rule : Rule
+turns_rule = record (new_rule (codes "turns")) {
+  long = Some (codes "turns");
+  action = Some Set;
+  value_names = 1;
+  defaults = codes "10000" ∷ [];
+  parser = Some (Unsigned 1 1000000);
+}
+
+-- `svahost` with a version and its commands: `replay` and `check`, which take no arguments, and `storm`, which takes `--turns`; each
+-- has clap's flags for help
 abbrev pub svahost : App
 svahost =
     let plain = new_app (codes "svahost") in
     let top = record plain { top = record plain.top { has_version = true; subcommand_required = true; disable_help_subcommand = true } } in
-    with_subcommand (with_subcommand top (new_app (codes "replay")).top) (new_app (codes "check")).top
+    let replaying = with_subcommand top (new_app (codes "replay")).top in
+    let checking = with_subcommand replaying (new_app (codes "check")).top in
+    with_subcommand checking (with_rule (new_app (codes "storm")) turns_rule).top
+
+-- the faults of words, by clap's definitions
+unfoldable pub faults_of : List Text → Kinds
+faults_of words = fault_of svahost words
 
 -- the words of a command line as texts
 abbrev pub texts : {Z : Type 0} → List (String Z) → List Text
@@ -22,19 +42,51 @@ texts = map string_bytes
 abbrev pub IsCommand : Text → List Text → Type 0
 IsCommand command words = (name : Text) × ((words ≡ name ∷ command ∷ []) ⊎ (words ≡ name ∷ command ∷ codes "--" ∷ []))
 
+-- the text writes this number of turns: its decimal digits, behind a plus sign or none, and it is from 1 to 1000000
+abbrev pub WritesTurns : ℕ → Text → Type 0
+WritesTurns turns text = IsUnsignedIn 1 1000000 text × (turns ≡ digits_value 10 (without_leading_plus text))
+
+-- the words behind `storm` give this number of turns: it stands in a word of its own, or behind `=`; or it is 10000
+pub data GivesTurns (turns : ℕ) (words : List Text) : Type 0 where
+  usual : words ≡ [] → turns ≡ 10000 → GivesTurns turns words
+  apart : (text : Text) → words ≡ codes "--turns" ∷ text ∷ [] → WritesTurns turns text → GivesTurns turns words
+  attached : (text : Text) → words ≡ (codes "--turns=" ++ text) ∷ [] → WritesTurns turns text → GivesTurns turns words
+
+-- the words are the program's name, `storm`, and words that give this number of turns. As behind those `--` may stand
+abbrev pub IsStorm : ℕ → List Text → Type 0
+IsStorm turns words =
+    (name : Text) × (rest : List Text) × GivesTurns turns rest
+    × ((words ≡ name ∷ codes "storm" ∷ rest) ⊎ (words ≡ name ∷ codes "storm" ∷ rest ++ codes "--" ∷ []))
+
 -- the words ask for this command
 abbrev pub Asks : Asked → List Text → Type 0
 Asks Replay words = IsCommand (codes "replay") words
 Asks Check words = IsCommand (codes "check") words
+Asks (Storm turns) words = IsStorm turns words
 
--- the command of this name
-abbrev pub asked_named : Option Text → Asked
-asked_named None = Replay
-asked_named (Some name) = if bytes_eq name (codes "check") then Check else Replay
+-- the command that clap entered, by its name and by what was found of `--turns`
+abbrev pub turns_text : List Row → Option Text
+turns_text = one_of (codes "turns")
+
+abbrev pub turns_by : Option Text → ℕ
+turns_by None = 10000
+turns_by (Some text) = digits_value 10 (without_leading_plus text)
+
+abbrev pub asked_by : Option (Text × List Row) → Asked
+asked_by None = Replay
+asked_by (Some (name, rows)) =
+    if bytes_eq name (codes "check") then Check else (if bytes_eq name (codes "storm") then Storm (turns_by (turns_text rows)) else Replay)
+
+-- what was found of `--turns` is a number of turns
+abbrev pub IsWritten : Option Text → Type 0
+IsWritten found = (text : Text) → found ≡ Some text → IsUnsignedIn 1 1000000 text
+
+abbrev pub IsReadable : Option (Text × List Row) → Type 0
+IsReadable entered = IsWritten (option_and_then (λ p. turns_text p.1) entered)
 
 -- the words ask for a run that reads standard input
 abbrev pub AsksRun : List Text → Type 0
-AsksRun words = Asks Replay words ⊎ Asks Check words
+AsksRun words = (asked : Asked) × Asks asked words
 
 -- a call for help: by a flag in the place of the command, whatever follows, or behind the command
 pub data CallsHelp (words : List Text) : Type 0 where
@@ -42,6 +94,7 @@ pub data CallsHelp (words : List Text) : Type 0 where
   by_short : (name : Text) (rest : List Text) → words ≡ name ∷ codes "-h" ∷ rest → CallsHelp words
   behind_replay : (name : Text) → words ≡ name ∷ codes "replay" ∷ codes "--help" ∷ [] → CallsHelp words
   behind_check : (name : Text) → words ≡ name ∷ codes "check" ∷ codes "--help" ∷ [] → CallsHelp words
+  behind_storm : (name : Text) → words ≡ name ∷ codes "storm" ∷ codes "--help" ∷ [] → CallsHelp words
 
 -- a call for the version: by a flag in the place of the command, whatever follows
 pub data CallsVersion (words : List Text) : Type 0 where
@@ -50,8 +103,8 @@ pub data CallsVersion (words : List Text) : Type 0 where
 
 -- the words ask for help or for the version, by clap's definitions
 abbrev pub AsksText : List Text → Type 0
-AsksText words = IsAmong DisplayHelp (fault_of svahost words) ⊎ IsAmong DisplayVersion (fault_of svahost words)
+AsksText words = IsAmong DisplayHelp (faults_of words) ⊎ IsAmong DisplayVersion (faults_of words)
 
 -- by clap's definitions the words have a fault, and it isn't that they ask for help or for the version
 abbrev pub IsMistaken : List Text → Type 0
-IsMistaken words = (kind : ErrorKind) × (kind ≢ DisplayHelp) × (kind ≢ DisplayVersion) × IsAmong kind (fault_of svahost words)
+IsMistaken words = (kind : ErrorKind) × (kind ≢ DisplayHelp) × (kind ≢ DisplayVersion) × IsAmong kind (faults_of words)

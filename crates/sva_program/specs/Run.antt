@@ -1,15 +1,16 @@
 -- How a run of svahost ends.
-use Rattle.std.specs.Prelude.{◌≡◌, ◌≢◌, ◌⊎◌, ◌≤◌, ℕ, ◌+◌, List, [], ◌∷◌, ◌++◌, codes, Option, IfSome, Result, Ok, Err}
+use Rattle.std.specs.Prelude.{◌≡◌, ◌≢◌, ◌⊎◌, ◌≤◌, ℕ, ◌+◌, List, [], ◌∷◌, ◌++◌, codes, Option, IfOk, IfSome, Result, Ok, Err}
 use Rattle.std.specs.Io.KnownBytes.{Appends, Keeps}
 use Rattle.sva_scenario.specs.Report.{check_of, check_outcome_of, outcome_of, report_of}
-use Rattle.sva_scenario.specs.Streams.{AppendsPrefix, Stream}
+use Rattle.sva_scenario.specs.Storms.{StormsOf}
+use Rattle.sva_scenario.specs.Streams.{AppendsPrefix, Stream, Writes}
 use Rattle.sva_scenario.specs.declared.reading.TheConstants.{MOST_TURNS}
 use Rattle.sva_scenario.specs.declared.streams.DriveFault.{DriveFault}
 use Rattle.sva_scenario.specs.declared.streams.DriveFault.TheVariants.{Read, Write, Memory}
 use Rattle.sva_scenario.specs.declared.streams.Outcome.{Outcome}
 use Rattle.sva_scenario.specs.declared.streams.Outcome.TheVariants.{Done, Faulted}
 use Rattle.sva_program.specs.declared.command.Asked.{Asked}
-use Rattle.sva_program.specs.declared.command.Asked.TheVariants.{Replay, Check}
+use Rattle.sva_program.specs.declared.command.Asked.TheVariants.{Replay, Check, Storm}
 
 -- the status: 0 where the steps were run, 1 for a line fault, a refused config and every fault of a stream or of memory
 abbrev pub status_of : Result Outcome DriveFault → ℕ
@@ -40,20 +41,17 @@ Says contents old new text =
     × (old.failures ≤ new.failures)
     × (new.failures ≤ old.failures + 1)
 
--- what a command makes of its input: the text that it prints, and how it ends
-abbrev pub printed_of : Asked → List ℕ → List ℕ
-printed_of Replay = report_of
-printed_of Check = check_of
+-- what a command makes of its input: it has written this text, or a prefix of it after a fault, and ends so. What a storm makes of it
+-- depends on its threads: its audit is ok, and then all frames of the config are there; or it is bad
+abbrev pub Makes : Asked → List ℕ → Option (List ℕ) → Option (List ℕ) → Result Outcome DriveFault → Type 0
+Makes Replay input old new ended = Writes old new (report_of input) ended × IfOk ended (λ outcome. outcome ≡ outcome_of input)
+Makes Check input old new ended = Writes old new (check_of input) ended × IfOk ended (λ outcome. outcome ≡ check_outcome_of input)
+Makes (Storm turns) input old new ended = StormsOf input old new ended
 
-abbrev pub ended_of : Asked → List ℕ → Outcome
-ended_of Replay = outcome_of
-ended_of Check = check_outcome_of
-
--- what a command wrote, where its input is known: its text; after a fault a prefix of that, and nothing after a read fault
+-- what a command wrote, where its input is known; after a read fault nothing
 abbrev pub Reports : Asked → Option (List ℕ) → Option (List ℕ) → Option (List ℕ) → Result Outcome DriveFault → Type 0
-Reports asked input old new (Ok outcome) = IfSome input (λ text. (outcome ≡ ended_of asked text) × Appends old new (printed_of asked text))
 Reports asked input old new (Err Read) = Keeps old new
-Reports asked input old new (Err fault) = IfSome input (λ text. AppendsPrefix old new (printed_of asked text))
+Reports asked input old new ended = IfSome input (λ text. Makes asked text old new ended)
 
 -- a text for the user: something is said, and where the value's own text is known and isn't empty, it is that one
 abbrev pub IsSaid : Option (List ℕ) → List ℕ → Type 0

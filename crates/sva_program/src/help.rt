@@ -13,6 +13,13 @@ pub const REPLAY: &str = "Runs the scenario on standard input, and prints its re
 /// What `-h` says of `check`.
 pub const CHECK: &str = "Reads the scenario on standard input, and prints how many steps it has";
 
+/// What `-h` says of `storm`.
+pub const STORM: &str =
+    "Plays the scenario on standard input by threads, and prints what an audit of their calls says";
+
+/// What `-h` says of `--turns`.
+pub const TURNS: &str = "How many turns each thread has, 1 to 1000000";
+
 /// What is written where clap has no text for a command line.
 pub const NO_TEXT: &str =
     "svahost: nothing is known of this command line; docs/FORMAT.md describes the program\n";
@@ -48,6 +55,18 @@ last the counts:
     free 3 mapped 1 withheld 0
 
 `svahost check` runs nothing and prints `steps 4`.
+
+`svahost storm --turns 100` plays the scenario by threads on one host: one for the host, one for the
+link, one for the service, one for each endpoint and each worker. Each has N turns, 1 to 1000000, or
+10000 where --turns is missing. Host and endpoints play their own lines in order, each until it is
+accepted; the lines `take`, `answer`, `deliver`, `pump` and `serve` are skipped. The link delivers
+the messages by their numbers, the service pumps and serves each endpoint in turn, and the workers
+take jobs and answer them. At the end each thread's receipts are compared with the journal of all:
+
+    audit ok
+    frames 4
+
+or else `audit bad`.
 
 The config, and the steps. E is an endpoint, S a space, B a binding, M a message, F a frame and W a
 worker, each numbered from 0, and a word in brackets may be missing:
@@ -93,9 +112,9 @@ A step that isn't allowed is answered `refused N Name`, changes nothing, and the
 a line can't be read nothing is run, and the report is that line's fault alone: `line 2 WordCount`.
 
 The status is 0 where the steps were run, refused ones too, and for help and the version; 1 for a
-line that can't be read, for a config that is out of its limits, and for a fault of a stream or of
-memory, of which standard error tells in a line; and 2 for a wrong command line, of which standard
-error tells too. The script svahost ends with 3 where it can't build the program. All else goes to
-standard output.
+line that can't be read, for a config that is out of its limits, for a bad audit, and for a fault of
+a stream or of memory, of which standard error tells in a line; and 2 for a wrong command line, of
+which standard error tells too. The script svahost ends with 3 where it can't build the program. All
+else goes to standard output.
 
 docs/FORMAT.md describes scenarios, steps, refusals and reports, and examples/ has more of them.";

@@ -5,6 +5,7 @@
 mod command;
 mod help;
 mod run;
+mod storming;
 
 pub use command::Asked;
 pub use run::{main_with, unread};

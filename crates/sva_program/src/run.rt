@@ -7,11 +7,14 @@ ghost use Rattle.sva_scenario.specs.Streams.{IsNew, Writes};
 
 use crate::command::{Asked, parse};
 use crate::help::NO_TEXT;
+use crate::storming::drive_storm;
 use clap::error::ErrorKind;
 use std::alloc::Global;
 use std::fmt::Display;
 use std::io;
 use std::io::{ErrorKind as IoErrorKind, Read, Write};
+use std::sync::Wait;
+use std::thread::Threads;
 use sva_scenario::{DriveFault, Outcome, Told, check, drive, write_all};
 
 /// The steps were run, or help was shown.
@@ -24,9 +27,9 @@ const FAULT: u8 = 1;
 const MISTAKE: u8 = 2;
 
 /// A whole run of svahost on its words, the program's name first: the status that it exits with. The command line is
-/// judged before anything is read. `replay` and `check` write what they make of all that the reader gives; what a fault
-/// is, `errors` is told in a line. Help and the version go to the writer, what is wrong with the words to `errors`.
-pub fn main_with<X: AllocGlobal, R: Read, W: Write, E: Write>(
+/// judged before anything is read. `replay`, `check` and `storm` write what they make of all that the reader gives; what a
+/// fault is, `errors` is told in a line. Help and the version go to the writer, what is wrong with the words to `errors`.
+pub fn main_with<X: AllocGlobal + Threads + Wait + Sync, R: Read, W: Write, E: Write>(
     rt: &X,
     words: &[String],
     reader: &mut Told<R>,
@@ -63,6 +66,10 @@ pub fn main_with<X: AllocGlobal, R: Read, W: Write, E: Write>(
         }
         Ok(Asked::Check) => {
             let ended = check(rt.alloc(), reader, writer);
+            finish(ended, errors)
+        }
+        Ok(Asked::Storm { turns }) => {
+            let ended = drive_storm(rt, rt.alloc(), turns, reader, writer);
             finish(ended, errors)
         }
         Err(error) => answer(rt.alloc(), error.kind(), &error, writer, errors),

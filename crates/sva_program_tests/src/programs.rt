@@ -4,13 +4,18 @@
 use std::alloc::AllocError;
 use std::io;
 use std::io::{ErrorKind, Read, Write};
+use std::sync::Wait;
 use std::test::Fail;
+use std::thread::Threads;
 use sva_program::{Told, main_with, unread};
 
 /// The steps of the first example, and its report.
 const SCENARIO: &[u8] = b"config 1 4 1\nspace\nmap 0 16 w\nunmap 0 16\nmap 0 16 r\n";
 
 const REPORT: &str = "space 0\nframe 0\nfree 0\nframe 0\nfree 3 mapped 1 withheld 0\n";
+
+/// What a storm of it prints.
+const AUDIT: &str = "audit ok\nframes 4\n";
 
 /// The words of a command line, the program's name first.
 fn line<R: AllocGlobal>(rt: &R, words: &[&str]) -> Result<Vec<String>, AllocError> {
@@ -32,7 +37,11 @@ struct Ran {
 }
 
 /// Runs the program on an input that is in memory.
-fn run_on<R: AllocGlobal>(rt: &R, words: &[&str], input: &[u8]) -> Result<Ran, AllocError> {
+fn run_on<R: AllocGlobal + Threads + Wait + Sync>(
+    rt: &R,
+    words: &[&str],
+    input: &[u8],
+) -> Result<Ran, AllocError> {
     let words = line(rt, words)?;
     let mut reader = Told::new(input);
     let mut writer = Told::new(Vec::new(rt.alloc()));
@@ -53,6 +62,11 @@ fn runs_the_first_example(rt: HostRuntime) -> Result<(), Fail> {
         (["replay", "--"].as_slice(), REPORT),
         (["check"].as_slice(), "steps 4\n"),
         (["check", "--"].as_slice(), "steps 4\n"),
+        (["storm"].as_slice(), AUDIT),
+        (["storm", "--"].as_slice(), AUDIT),
+        (["storm", "--turns", "100"].as_slice(), AUDIT),
+        (["storm", "--turns=1", "--"].as_slice(), AUDIT),
+        (["storm", "--turns", "+0020"].as_slice(), AUDIT),
     ];
     for (words, report) in runs {
         let ran = run_on(&rt, words, SCENARIO)?;
@@ -62,12 +76,29 @@ fn runs_the_first_example(rt: HostRuntime) -> Result<(), Fail> {
     Ok(())
 }
 
+/// Texts of which no scenario is played, and what a storm prints of each.
+static UNPLAYED: [(&str, &str); 3] = [
+    ("", "line 1 NoConfig\n"),
+    ("config 1 4 1\nmap 0 x w\n", "line 2 BadWord\n"),
+    ("config 1 4097 1\nspace\n", "refused 1 BadConfig\n"),
+];
+
+#[test]
+fn storms_tell_of_faults(rt: HostRuntime) -> Result<(), Fail> {
+    for (input, report) in &UNPLAYED {
+        let ran = run_on(&rt, &["storm", "--turns", "10"], input.as_bytes())?;
+        assert!(rt; ran.written.as_slice() == report.as_bytes(), "{report}");
+        assert_eq!(rt; (ran.status, ran.said.len()), (1, 0), "{report}");
+    }
+    Ok(())
+}
+
 /// Wrong command lines, and what standard error is told of each.
-static MISTAKES: [(&[&str], &str); 3] = [
+static MISTAKES: [(&[&str], &str); 9] = [
     (
         &[],
         "error: 'svahost' requires a subcommand but one was not provided
-  [subcommands: replay, check]
+  [subcommands: replay, check, storm]
 
 Usage: svahost <COMMAND>
 
@@ -75,8 +106,8 @@ For more information, try '--help'.
 ",
     ),
     (
-        &["storm"],
-        "error: unrecognized subcommand 'storm'
+        &["gale"],
+        "error: unrecognized subcommand 'gale'
 
 Usage: svahost <COMMAND>
 
@@ -88,6 +119,52 @@ For more information, try '--help'.
         "error: unexpected argument 'first.sva' found
 
 Usage: svahost replay
+
+For more information, try '--help'.
+",
+    ),
+    (
+        &["storm", "--turns", "0"],
+        "error: invalid value '0' for '--turns <N>': 0 is not in 1..=1000000
+
+For more information, try '--help'.
+",
+    ),
+    (
+        &["storm", "--turns=1000001"],
+        "error: invalid value '1000001' for '--turns <N>': 1000001 is not in 1..=1000000
+
+For more information, try '--help'.
+",
+    ),
+    (
+        &["storm", "--turns", "x"],
+        "error: invalid value 'x' for '--turns <N>': invalid digit found in string
+
+For more information, try '--help'.
+",
+    ),
+    (
+        &["storm", "--turns"],
+        "error: a value is required for '--turns <N>' but none was supplied
+
+For more information, try '--help'.
+",
+    ),
+    (
+        &["storm", "--turns", "5", "--turns=5"],
+        "error: the argument '--turns <N>' cannot be used multiple times
+
+Usage: svahost storm [OPTIONS]
+
+For more information, try '--help'.
+",
+    ),
+    (
+        &["storm", "5"],
+        "error: unexpected argument '5' found
+
+Usage: svahost storm [OPTIONS]
 
 For more information, try '--help'.
 ",
@@ -135,6 +212,7 @@ Usage: svahost <COMMAND>
 Commands:
   replay  Runs the scenario on standard input, and prints its report
   check   Reads the scenario on standard input, and prints how many steps it has
+  storm   Plays the scenario on standard input by threads, and prints what an audit of their calls says
 
 Options:
   -h, --help     Print help (see more with '--help')
@@ -142,16 +220,22 @@ Options:
 ";
 
 /// Parts of what `--help` prints.
-static HELP_PARTS: [&str; 5] = [
+static HELP_PARTS: [&str; 6] = [
     "A scenario is a text",
     "    map 0 16 w\n",
     "    free 3 mapped 1 withheld 0\n",
+    "    audit ok\n    frames 4\n",
     "    unmap S PAGE [COUNT]",
     "docs/FORMAT.md",
 ];
 
 /// The command lines that ask for all of the help.
-static CALLS_FOR_HELP: [&[&str]; 3] = [&["--help"], &["replay", "--help"], &["check", "--help"]];
+static CALLS_FOR_HELP: [&[&str]; 4] = [
+    &["--help"],
+    &["replay", "--help"],
+    &["check", "--help"],
+    &["storm", "--help"],
+];
 
 /// Does a text have each of these parts?
 fn has_parts(text: &[u8], parts: &[&str]) -> bool {
@@ -240,7 +324,7 @@ fn tells_of_a_read_fault(rt: HostRuntime) -> Result<(), Fail> {
 
 /// A run whose writer fails after so many bytes: is the status 1, are these bytes a prefix of the text, and is the write
 /// fault told?
-fn ends_in_write_fault<R: AllocGlobal>(
+fn ends_in_write_fault<R: AllocGlobal + Threads + Wait + Sync>(
     rt: &R,
     words: &[&str],
     most: usize,
@@ -271,13 +355,14 @@ fn tells_of_a_write_fault(rt: HostRuntime) -> Result<(), Fail> {
     }
     assert!(rt; ends_in_write_fault(&rt, &["--help"], 4, "Runs")?);
     assert!(rt; ends_in_write_fault(&rt, &["check"], 5, "steps 4\n")?);
+    assert!(rt; ends_in_write_fault(&rt, &["storm"], 9, AUDIT)?);
     Ok(())
 }
 
 #[test]
 fn keeps_the_status_where_errors_fail(rt: HostRuntime) -> Result<(), Fail> {
     let alloc = rt.alloc();
-    for (word, want) in [("replay", 1), ("storm", 2)] {
+    for (word, want) in [("replay", 1), ("storm", 1), ("gale", 2)] {
         let words = line(&rt, &[word])?;
         let mut reader = Told::new(BrokenReader { left: 0 });
         let mut writer = Told::new(Vec::new(alloc));

@@ -1,0 +1,61 @@
+-- What the program reads of the command that clap entered.
+use Rattle.std.proofs.Common.{◌≡◌, ◌∙◌, refl, sym, subst, ap, ℕ, List, Option, Some, None, Result, codes, option_map, unwrap_or}
+use Rattle.std.specs.Prelude.{Box}
+use Rattle.std.specs.Box.{box_value}
+use Rattle.std.specs.Str.Parse.{ExplainsUnsignedError, HasUnsignedDigitsIfOk, ParsesUnsigned, digits_value, without_leading_plus}
+use Rattle.std.specs.declared.num.ParseIntError.{ParseIntError}
+use Rattle.clap.proofs.WalkLemmas.{one_text-rows}
+use Rattle.clap.specs.Matches.{ReadsOne, found_of, one_text, subcommand_name_of}
+use Rattle.clap.specs.Simple.{subcommand_rows, subcommand_rows_of}
+use Rattle.clap.specs.Words.{IsUnsignedIn, Row, Text, rows_of}
+use Rattle.clap.specs.declared.parser.matches.ArgMatches.{ArgMatches}
+use Rattle.clap.specs.declared.parser.matches.ArgMatches.TheViews.{out-ArgMatches, out-SubCommand}
+use Rattle.clap.specs.declared.parser.matches.Found.{Found}
+use Rattle.clap.specs.declared.parser.matches.SubCommand.{SubCommand}
+use Rattle.sva_program.specs.declared.command.Asked.TheVariants.{Storm}
+use Rattle.sva_program.specs.Command.{IsReadable, IsWritten, asked_by, turns_by, turns_text}
+
+-- what `u64` makes of a text
+abbrev Reads : Text → Result ℕ ParseIntError → Type 0
+Reads text r = ParsesUnsigned 64 10 text r × ExplainsUnsignedError 10 text r × HasUnsignedDigitsIfOk text r
+
+read_one : (text : Text) (r : Option ℕ) → ReadsOne Reads text r → IsUnsignedIn 1 1000000 text
+    → unwrap_or r 10000 ≡ digits_value 10 (without_leading_plus text)
+read_one text (Some number) read written = read.0.1
+read_one text None read written = absurd (read.1.0 (written.0, written.1))
+
+-- what was found of `--turns` is read as the number that it writes, and as 10000 where nothing was
+pub turns_read : (found : Found) (r : Option ℕ) → (one_text found (codes "turns") ≡ None → r ≡ None)
+    → ((text : Text) → one_text found (codes "turns") ≡ Some text → ReadsOne Reads text r)
+    → IsWritten (turns_text (rows_of found))
+    → unwrap_or r 10000 ≡ turns_by (turns_text (rows_of found))
+turns_read found r none some written = go (turns_text (rows_of found)) refl
+  where
+    go : (o : Option Text) → turns_text (rows_of found) ≡ o → unwrap_or r 10000 ≡ turns_by o
+    go None e = ap (λ o. unwrap_or o 10000) (none (one_text-rows found (codes "turns") ∙ e))
+    go (Some text) e = read_one text r (some text (one_text-rows found (codes "turns") ∙ e)) (written text e)
+
+entered_by : (name : Text) (found rows : List Row) (turns : ℕ) → codes "storm" ≡ name → rows ≡ found
+    → (IsWritten (turns_text rows) → turns ≡ turns_by (turns_text rows))
+    → IsWritten (turns_text found)
+    → Storm turns ≡ asked_by (Some (name, found))
+entered_by name found rows turns named same made written =
+    subst (λ n. Storm turns ≡ asked_by (Some (n, found))) named
+    (ap Storm (subst (λ l. IsWritten (turns_text l) → turns ≡ turns_by (turns_text l)) same made written))
+
+-- where `storm` was entered, the words ask for a storm
+pub entered_storm : (m : ArgMatches) (name : Text) (rows : List Row) (turns : ℕ) → name ≡ codes "storm" → Some name ≡ subcommand_name_of m
+    → Some rows ≡ option_map (λ p. p.1) (subcommand_rows (out-ArgMatches m).subcommand)
+    → (IsWritten (turns_text rows) → turns ≡ turns_by (turns_text rows))
+    → IsReadable (subcommand_rows_of m)
+    → Storm turns ≡ asked_by (subcommand_rows_of m)
+entered_storm m name rows turns storm named found made readable = go (out-ArgMatches m).subcommand named found readable
+  where
+    go : {Z : Type 0} (b : Option (Box SubCommand Z)) → Some name ≡ option_map (λ b. (out-SubCommand (box_value b)).name.now) b
+        → Some rows ≡ option_map (λ p. p.1) (subcommand_rows b)
+        → IsReadable (subcommand_rows b)
+        → Storm turns ≡ asked_by (subcommand_rows b)
+    go None named found readable = absurd (cc named)
+    go (Some b) named found readable =
+        entered_by (out-SubCommand (box_value b)).name.now (rows_of (found_of (out-SubCommand (box_value b)).matches)) rows turns
+        (sym storm ∙ ap (λ o. unwrap_or o name) named) (ap (λ o. unwrap_or o rows) found) made readable

@@ -1,4 +1,4 @@
-use Rattle.std.proofs.Common.{sym, ap, refl, ◌∙◌}
+use Rattle.std.proofs.Common.{sym, ap, refl, ◌∙◌, arith}
 use Rattle.std.specs.Prelude.{is_ok, slice_index_or}
 use Rattle.sva_step.specs.declared.answers.Answer.TheVariants as answer
 use Rattle.sva_step.specs.declared.steps.Step.TheVariants as step
@@ -11,6 +11,7 @@ use Rattle.sva_kept.proofs.Ports.{port_found, same_port, rewritten, with_tables_
 use Rattle.sva_kept.proofs.Devices.{kept, ended}
 use Rattle.sva_kept.proofs.Uses.{use_other, use_refused, use_done}
 use Rattle.sva_kept.proofs.NeverForMemory.{other_port, not_for_memory}
+use Rattle.sva_devices.proofs.Reached.{within, begin_use_nowhere, none_in, no_error}
 use Rattle.sva_devices.proofs.endpoints.begin_use.Goals as goal
 
 pub returns-in_err-_may-clause-step : goal.returns-in_err-_may-clause-step
@@ -53,3 +54,58 @@ pub returns-in_err-_may-clause-memory : goal.returns-in_err-_may-clause-memory
 returns-in_err-_may-clause-memory c =
     not_for_memory _ _ c.from_residual-in_err-_may.ensures
     (use_other (slice_index_or c.deref.result.now c.in_ok-at.at c.index-deref-at.result).device c.args.pasid c.args.page c.args.write _ c.in_err-_may.ensures)
+
+pub port-requires : goal.port-requires
+port-requires c = tt
+
+pub branch-at-requires : goal.branch-at-requires
+branch-at-requires c κs = (none_in _, none_in _)
+
+pub from_residual-requires : goal.from_residual-requires
+from_residual-requires c κs = (none_in _, (none_in _, none_in _))
+
+pub returns-in_err-at-clause-step : goal.returns-in_err-at-clause-step
+returns-in_err-at-clause-step c =
+    kept _ _ (step.BeginUse c.args.endpoint c.args.pasid c.args.page c.args.write) _ _ refl c.from_residual.ensures
+    (begin_use_nowhere c.args.host.now c.args.endpoint c.args.pasid c.args.page c.args.write _ c.in_err-at.ensures)
+
+pub deref-requires : goal.deref-requires
+deref-requires c = omega arith
+
+pub offset_bounds-deref-at : goal.offset_bounds-deref-at
+offset_bounds-deref-at c =
+    let there = within c.host.inside _ c.args.endpoint c.in_ok-at.at _ c.host.invariant c.host.view_is c.in_ok-at.ensures c.deref.ensures.0 in
+    omega (arith, there, c.deref.type_inv)
+
+pub bounds-deref-at : goal.bounds-deref-at
+bounds-deref-at c = within c.host.inside _ c.args.endpoint c.in_ok-at.at _ c.host.invariant c.host.view_is c.in_ok-at.ensures c.deref.ensures.0
+
+pub may_begin_use-requires : goal.may_begin_use-requires
+may_begin_use-requires c = tt
+
+pub branch-may-requires : goal.branch-may-requires
+branch-may-requires c κs = (none_in _, none_in _)
+
+pub from_residual-requires-in_err-_may : goal.from_residual-requires-in_err-_may
+from_residual-requires-in_err-_may c κs = (none_in _, (none_in _, none_in _))
+
+pub deref_mut-requires : goal.deref_mut-requires
+deref_mut-requires c = omega arith
+
+pub offset_bounds-deref_mut-at : goal.offset_bounds-deref_mut-at
+offset_bounds-deref_mut-at c =
+    let there = within c.host.inside _ c.args.endpoint c.in_ok-at.at _ c.host.invariant c.host.view_is c.in_ok-at.ensures c.deref_mut.ensures.value in
+    omega (arith, there, c.deref_mut.ensures.fits)
+
+pub bounds-deref_mut-at : goal.bounds-deref_mut-at
+bounds-deref_mut-at c = within c.host.inside _ c.args.endpoint c.in_ok-at.at _ c.host.invariant c.host.view_is c.in_ok-at.ensures c.deref_mut.ensures.value
+
+pub begin_use-begun-requires : goal.begin_use-begun-requires
+begin_use-begun-requires c =
+    ap (λ (p : Port). is_ok (using p.device c.args.pasid c.args.page c.args.write))
+    (same_port c.host.inside _ c.args.endpoint c.in_ok-at.at _ _ c.index-deref-at.result c.index-deref_mut-at.result c.host.view_is
+    c.in_ok-at.ensures c.deref.ensures.0 c.deref_mut.ensures.value)
+    ∙ ap is_ok (sym c.in_ok-_may.ensures)
+
+pub returns-clause-memory : goal.returns-clause-memory
+returns-clause-memory c = no_error _ _

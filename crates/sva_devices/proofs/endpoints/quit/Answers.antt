@@ -1,15 +1,17 @@
-use Rattle.std.proofs.Common.{sym, ap, refl}
+use Rattle.std.proofs.Common.{sym, ap, refl, ◌∙◌, arith}
 use Rattle.std.specs.Prelude.{is_ok, slice_index_or}
 use Rattle.sva_step.specs.declared.answers.Answer.TheVariants as answer
 use Rattle.sva_step.specs.declared.steps.Step.TheVariants as step
 use Rattle.sva_endpoint.specs.Calls as call
 use Rattle.sva_endpoint.specs.Tables.{Tables}
-use Rattle.sva_endpoint.specs.Steps.{after_quit}
+use Rattle.sva_endpoint.specs.Steps.{quitting, after_quit}
 use Rattle.sva_endpoint.proofs.SoundLaws.{sound_after}
+use Rattle.sva_kept.specs.declared.kept.Port.{Port}
 use Rattle.sva_kept.specs.Inner.{wire_of}
-use Rattle.sva_kept.proofs.Ports.{port_found, rewritten, with_tables_host}
+use Rattle.sva_kept.proofs.Ports.{port_found, same_port, rewritten, with_tables_host}
 use Rattle.sva_kept.proofs.Devices.{kept, went, ended}
 use Rattle.sva_kept.proofs.Quits.{quit_refused, quit_unsent, quit_done}
+use Rattle.sva_devices.proofs.Reached.{within, quit_nowhere, none_in}
 use Rattle.sva_devices.proofs.endpoints.quit.Goals as goal
 
 pub returns-in_err-marker : goal.returns-in_err-marker
@@ -48,3 +50,69 @@ returns c =
     c.host.view_is c.in_ok-at.ensures c.deref.ensures.0 c.deref_mut.ensures.value c.quit.ensures)
     (refl)
     (quit_done c.host.inside c.args.endpoint c.args.pasid _ c.in_ok-marker.marker c.send.new.bag is c.in_ok-marker.ensures c.in_ok-send.ensures.sends)
+
+pub port-requires : goal.port-requires
+port-requires c = tt
+
+pub branch-at-requires : goal.branch-at-requires
+branch-at-requires c κs = (none_in _, none_in _)
+
+pub from_residual-requires : goal.from_residual-requires
+from_residual-requires c κs = (none_in _, (none_in _, none_in _))
+
+pub returns-in_err-at : goal.returns-in_err-at
+returns-in_err-at c =
+    kept _ _ (step.Quit c.args.endpoint c.args.pasid) _ _ refl c.from_residual.ensures
+    (quit_nowhere c.args.host.now c.args.endpoint c.args.pasid _ c.in_err-at.ensures)
+
+pub deref-requires : goal.deref-requires
+deref-requires c = omega arith
+
+pub offset_bounds-deref-at : goal.offset_bounds-deref-at
+offset_bounds-deref-at c =
+    let there = within c.host.inside _ c.args.endpoint c.in_ok-at.at _ c.host.invariant c.host.view_is c.in_ok-at.ensures c.deref.ensures.0 in
+    omega (arith, there, c.deref.type_inv)
+
+pub bounds-deref-at : goal.bounds-deref-at
+bounds-deref-at c = within c.host.inside _ c.args.endpoint c.in_ok-at.at _ c.host.invariant c.host.view_is c.in_ok-at.ensures c.deref.ensures.0
+
+pub may_quit-requires : goal.may_quit-requires
+may_quit-requires c = tt
+
+pub branch-marker-requires : goal.branch-marker-requires
+branch-marker-requires c κs = (none_in _, none_in _)
+
+pub from_residual-requires-in_err-marker : goal.from_residual-requires-in_err-marker
+from_residual-requires-in_err-marker c κs = (none_in _, (none_in _, none_in _))
+
+pub send-requires-clause-at_least_one : goal.send-requires-clause-at_least_one
+send-requires-clause-at_least_one c = omega arith
+
+pub send-requires-clause-at_most_eight : goal.send-requires-clause-at_most_eight
+send-requires-clause-at_most_eight c = omega arith
+
+pub branch-send-requires : goal.branch-send-requires
+branch-send-requires c κs = (none_in _, none_in _)
+
+pub from_residual-requires-in_err-send : goal.from_residual-requires-in_err-send
+from_residual-requires-in_err-send c κs = (none_in _, (none_in _, none_in _))
+
+pub invariant_of-host : goal.invariant_of-host
+invariant_of-host c = record { sound = c.host.invariant.sound; staged = c.host.invariant.staged }
+
+pub deref_mut-requires : goal.deref_mut-requires
+deref_mut-requires c = omega arith
+
+pub offset_bounds-deref_mut-at : goal.offset_bounds-deref_mut-at
+offset_bounds-deref_mut-at c =
+    let there = within c.host.inside _ c.args.endpoint c.in_ok-at.at _ c.host.invariant c.host.view_is c.in_ok-at.ensures c.deref_mut.ensures.value in
+    omega (arith, there, c.deref_mut.ensures.fits)
+
+pub bounds-deref_mut-at : goal.bounds-deref_mut-at
+bounds-deref_mut-at c = within c.host.inside _ c.args.endpoint c.in_ok-at.at _ c.host.invariant c.host.view_is c.in_ok-at.ensures c.deref_mut.ensures.value
+
+pub quit-requires : goal.quit-requires
+quit-requires c =
+    ap (λ (p : Port). is_ok (quitting p.device c.args.pasid))
+    (same_port c.host.inside _ c.args.endpoint c.in_ok-at.at _ _ c.index-deref-at.result c.index-deref_mut-at.result c.host.view_is
+    c.in_ok-at.ensures c.deref.ensures.0 c.deref_mut.ensures.value) ∙ ap is_ok (sym c.in_ok-marker.ensures)

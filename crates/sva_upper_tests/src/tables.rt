@@ -22,11 +22,13 @@ static STATES: [(u64, PasidState); 6] = [
     (u64::MAX, PasidState::Off),
 ];
 
+static SET_ON: [u32; 4] = [0, 32, 33, u32::MAX];
+
 // PASID 32 is on, and PASID 2 stops.
 fn two_pasids() -> PasidStates {
     let mut states = PasidStates::new();
-    for pasid in [0, 32, 33, u32::MAX] {
-        states.set(pasid, PasidState::On);
+    for place in 0..SET_ON.len() {
+        states.set(SET_ON[place], PasidState::On);
     }
     states.set(2, PasidState::Stopping);
     states
@@ -40,36 +42,97 @@ fn pasids_are_1_to_32(rt: HostRuntime) {
     }
 }
 
+// The label of PASID 32, where it isn't off.
+fn last_label(states: &PasidStates) -> Option<u32> {
+    if states.state_of(32).is_off() {
+        return None;
+    }
+    Some(states.label(32))
+}
+
+// Is a state told to be on, and to be stopping?
+fn is_told(state: PasidState, on: bool, stopping: bool) -> bool {
+    state.is_on() == on && state.is_stopping() == stopping
+}
+
 #[test]
 fn states_are_told_apart(rt: HostRuntime) {
     let states = two_pasids();
-    let (last, second) = (states.state_of(32), states.state_of(2));
-    assert!(rt; !last.is_off());
-    assert!(rt; last.is_on() && !last.is_stopping());
-    assert!(rt; second.is_stopping() && !second.is_on());
-    assert!(rt; states.label(32) == 32);
+    assert!(rt; is_told(states.state_of(32), true, false));
+    assert!(rt; is_told(states.state_of(2), false, true));
+    assert!(rt; last_label(&states) == Some(32));
 }
+
+// A call of request tags, and what it has to answer.
+#[derive(Clone, Copy)]
+enum TagCall {
+    Lowest(Option<u8>),
+    // A tag is taken for a page, under PASID 1.
+    Take(u8, u64),
+    // The requests for this page alone are doomed.
+    DoomPage16,
+    Asks(u64, bool),
+    Free(u8, RequestTag),
+}
+
+fn takes(tags: &mut RequestTags, tag: u8, page: u64) -> bool {
+    if tag >= 32 {
+        return false;
+    }
+    tags.take(tag, 1, page);
+    true
+}
+
+fn tags_answer(tags: &mut RequestTags, call: TagCall) -> bool {
+    match call {
+        TagCall::Lowest(tag) => tags.lowest_free() == tag,
+        TagCall::Take(tag, page) => takes(tags, tag, page),
+        TagCall::DoomPage16 => {
+            tags.doom(&in_range(Range::new(16, 0)));
+            true
+        }
+        TagCall::Asks(pasid, are_there) => tags.asks_under(pasid) == are_there,
+        TagCall::Free(tag, was) => tags.free(tag) == was,
+    }
+}
+
+static DOOMED: [TagCall; 14] = [
+    TagCall::Lowest(Some(0)),
+    TagCall::Take(0, 16),
+    TagCall::Take(1, 17),
+    TagCall::DoomPage16,
+    TagCall::Lowest(Some(2)),
+    TagCall::Asks(1, true),
+    TagCall::Asks(2, false),
+    TagCall::Free(1, RequestTag::Out { pasid: 1, page: 17 }),
+    TagCall::Asks(1, true),
+    TagCall::Free(32, RequestTag::Free),
+    TagCall::Free(0, RequestTag::Doomed { pasid: 1, page: 16 }),
+    TagCall::Free(0, RequestTag::Free),
+    TagCall::Asks(1, false),
+    TagCall::Lowest(Some(0)),
+];
 
 #[test]
 fn a_doomed_request_keeps_its_tag(rt: HostRuntime) {
     let mut tags = RequestTags::new();
-    assert!(rt; tags.lowest_free() == Some(0));
-    tags.take(0, 1, 16);
-    tags.take(1, 1, 17);
-    tags.doom(&in_range(Range::new(16, 0)));
-    assert!(rt; tags.lowest_free() == Some(2));
-    assert!(rt; tags.asks_under(1) && !tags.asks_under(2));
-    for (tag, was) in [
-        (1, RequestTag::Out { pasid: 1, page: 17 }),
-        (32, RequestTag::Free),
-        (0, RequestTag::Doomed { pasid: 1, page: 16 }),
-        (0, RequestTag::Free),
-    ] {
-        assert!(rt; tags.asks_under(1) || tag == 0, "at {tag}");
-        assert!(rt; tags.free(tag) == was, "at {tag}");
+    for place in 0..DOOMED.len() {
+        assert!(rt; tags_answer(&mut tags, DOOMED[place]), "call {place}");
     }
-    assert!(rt; !tags.asks_under(1));
-    assert!(rt; tags.lowest_free() == Some(0));
+}
+
+// A call of slots, and what it has to answer.
+#[derive(Clone, Copy)]
+enum SlotCall {
+    Lowest(Option<u8>),
+    // A use of a page begins in a slot.
+    Begin(u8, u64),
+    Runs(u64, bool),
+    At(u64, UseSlot),
+    // The slot whose use alone an invalidation of page 17 covers.
+    Covered(usize),
+    CutOff,
+    Free(u64),
 }
 
 fn begun(page: u64) -> Use {
@@ -81,34 +144,103 @@ fn begun(page: u64) -> Use {
     }
 }
 
-// Uses of pages 16 and 17 run in slots 0 and 15.
-fn two_uses() -> UseSlots {
-    let mut uses = UseSlots::new();
-    uses.begin(0, begun(16));
-    uses.begin(15, begun(17));
-    uses
+fn begins(uses: &mut UseSlots, slot: u8, page: u64) -> bool {
+    if slot >= 16 {
+        return false;
+    }
+    uses.begin(slot, begun(page));
+    true
 }
 
-#[test]
-fn a_use_runs_in_its_slot(rt: HostRuntime) {
-    assert!(rt; UseSlots::new().lowest_free() == Some(0));
-    let uses = two_uses();
-    assert!(rt; uses.runs_under(1) && !uses.runs_under(2));
-    assert!(rt; uses.at(0) == UseSlot::Running(begun(16)) && uses.at(16) == UseSlot::Free);
+// Does an invalidation of page 17 cover the use in this slot, and no other?
+fn covers(uses: &UseSlots, slot: usize) -> bool {
     let covered = uses.covered(&in_range(Range::new(17, 0)));
-    for slot in 0..16 {
-        assert!(rt; covered[slot] == (slot == 15), "at {slot}");
+    for place in 0..16 {
+        if covered[place] != (place == slot) {
+            return false;
+        }
+    }
+    true
+}
+
+fn slots_answer(uses: &mut UseSlots, call: SlotCall) -> bool {
+    match call {
+        SlotCall::Lowest(slot) => uses.lowest_free() == slot,
+        SlotCall::Begin(slot, page) => begins(uses, slot, page),
+        SlotCall::Runs(pasid, is_so) => uses.runs_under(pasid) == is_so,
+        SlotCall::At(slot, found) => uses.at(slot) == found,
+        SlotCall::Covered(slot) => covers(uses, slot),
+        SlotCall::CutOff => {
+            uses.cut_off();
+            true
+        }
+        SlotCall::Free(slot) => {
+            uses.free(slot);
+            true
+        }
     }
 }
 
+// Makes the calls of new slots.
+fn use_slots<R: Abort>(rt: &R, calls: &[SlotCall]) {
+    let mut uses = UseSlots::new();
+    for place in 0..calls.len() {
+        assert!(rt; slots_answer(&mut uses, calls[place]), "call {place}");
+    }
+}
+
+// Uses of pages 16 and 17 run in slots 0 and 15.
+static RUNNING: [SlotCall; 8] = [
+    SlotCall::Lowest(Some(0)),
+    SlotCall::Begin(0, 16),
+    SlotCall::Begin(15, 17),
+    SlotCall::Runs(1, true),
+    SlotCall::Runs(2, false),
+    SlotCall::At(
+        0,
+        UseSlot::Running(Use {
+            pasid: 1,
+            page: 16,
+            frame: 3,
+            write: false,
+        }),
+    ),
+    SlotCall::At(16, UseSlot::Free),
+    SlotCall::Covered(15),
+];
+
+#[test]
+fn a_use_runs_in_its_slot(rt: HostRuntime) {
+    use_slots(&rt, &RUNNING);
+}
+
+static CUT_OFF: [SlotCall; 10] = [
+    SlotCall::Begin(0, 16),
+    SlotCall::Begin(15, 17),
+    SlotCall::CutOff,
+    SlotCall::Runs(1, false),
+    SlotCall::Lowest(Some(1)),
+    SlotCall::At(0, UseSlot::Dead),
+    SlotCall::At(1, UseSlot::Free),
+    SlotCall::Free(0),
+    SlotCall::At(0, UseSlot::Free),
+    SlotCall::At(15, UseSlot::Dead),
+];
+
 #[test]
 fn a_use_that_is_cut_off_keeps_its_slot(rt: HostRuntime) {
-    let mut uses = two_uses();
-    uses.cut_off();
-    assert!(rt; !uses.runs_under(1) && uses.lowest_free() == Some(1));
-    assert!(rt; uses.at(0) == UseSlot::Dead && uses.at(1) == UseSlot::Free);
-    uses.free(0);
-    assert!(rt; uses.at(0) == UseSlot::Free && uses.at(15) == UseSlot::Dead);
+    use_slots(&rt, &CUT_OFF);
+}
+
+// A call of invalidations that were taken, and what it has to answer.
+#[derive(Clone, Copy)]
+enum TakenCall {
+    // An ITag, and whether the use in slot 3 is noted.
+    Take(u8, bool),
+    Pending(u32, bool),
+    Waiting(u32, bool),
+    Forget(u64),
+    Complete(u32),
 }
 
 // What is taken of page 16, by which a use in slot 3 is noted or none.
@@ -121,53 +253,137 @@ fn taken(is_noted: bool) -> Taken {
     }
 }
 
+fn taken_answer(table: &mut TakenTable, call: TakenCall) -> bool {
+    match call {
+        TakenCall::Pending(vector, are) => return table.are_pending(vector) == are,
+        TakenCall::Waiting(vector, is_one) => return table.is_one_waiting(vector) == is_one,
+        TakenCall::Take(itag, is_noted) => table.take(itag, taken(is_noted)),
+        TakenCall::Forget(slot) => table.forget(slot),
+        TakenCall::Complete(vector) => table.complete(vector),
+    }
+    true
+}
+
+static NOTED: [TakenCall; 13] = [
+    TakenCall::Take(31, true),
+    TakenCall::Take(0, false),
+    TakenCall::Pending(0x8000_0001, true),
+    TakenCall::Pending(0x8000_0003, false),
+    TakenCall::Waiting(0x8000_0001, true),
+    TakenCall::Waiting(1, false),
+    TakenCall::Forget(4),
+    TakenCall::Waiting(0x8000_0000, true),
+    TakenCall::Forget(3),
+    TakenCall::Waiting(0x8000_0000, false),
+    TakenCall::Complete(0x8000_0000),
+    TakenCall::Pending(1, true),
+    TakenCall::Pending(0x8000_0000, false),
+];
+
 #[test]
 fn an_invalidation_waits_for_the_uses_it_noted(rt: HostRuntime) {
     let mut table = TakenTable::new();
-    table.take(31, taken(true));
-    table.take(0, taken(false));
-    assert!(rt; table.are_pending(0x8000_0001) && !table.are_pending(0x8000_0003));
-    assert!(rt; table.is_one_waiting(0x8000_0001) && !table.is_one_waiting(1));
-    table.forget(4);
-    assert!(rt; table.is_one_waiting(0x8000_0000));
-    table.forget(3);
-    assert!(rt; !table.is_one_waiting(0x8000_0000));
-    table.complete(0x8000_0000);
-    assert!(rt; table.are_pending(1) && !table.are_pending(0x8000_0000));
+    for place in 0..NOTED.len() {
+        assert!(rt; taken_answer(&mut table, NOTED[place]), "call {place}");
+    }
+}
+
+// A call of groups, and what it has to answer.
+#[derive(Clone, Copy)]
+enum GroupCall {
+    // The group of the lowest free index, which is this one, begins under PASID 1; whether by its last request.
+    Begin(u8, bool),
+    Extend(u8, bool),
+    Collecting(u64, bool),
+    Unfinished(u64, u64, Option<u8>),
+    Outstanding(u8),
+    // The groups of a PASID that are out are stale.
+    MakeStale(u32),
+    // An index is free, at which no group went on.
+    Free(u8, GroupPlace),
+}
+
+fn begins_group(groups: &mut GroupTable, index: u8, last: bool) -> bool {
+    if groups.outstanding() >= 32 {
+        return false;
+    }
+    let lowest = groups.lowest_free();
+    groups.begin(lowest, 1, last);
+    lowest == index
+}
+
+fn extends_group(groups: &mut GroupTable, index: u8, last: bool) -> bool {
+    if index >= 32 || groups.outstanding() >= 32 {
+        return false;
+    }
+    groups.extend(index, last);
+    true
+}
+
+fn frees_group(groups: &mut GroupTable, index: u8, was: GroupPlace) -> bool {
+    let found = groups.free(index);
+    found == was && !found.is_collecting(1)
+}
+
+fn groups_answer(groups: &mut GroupTable, call: GroupCall) -> bool {
+    match call {
+        GroupCall::Begin(index, last) => begins_group(groups, index, last),
+        GroupCall::Extend(index, last) => extends_group(groups, index, last),
+        GroupCall::Collecting(pasid, is_so) => groups.is_collecting(pasid) == is_so,
+        GroupCall::Unfinished(index, pasid, found) => groups.unfinished(index, pasid) == found,
+        GroupCall::Outstanding(requests) => groups.outstanding() == requests,
+        GroupCall::MakeStale(pasid) => {
+            groups.make_stale(pasid);
+            true
+        }
+        GroupCall::Free(index, was) => frees_group(groups, index, was),
+    }
+}
+
+// Makes the calls of no groups.
+fn use_groups<R: Abort>(rt: &R, calls: &[GroupCall]) {
+    let mut groups = GroupTable::new();
+    for place in 0..calls.len() {
+        assert!(rt; groups_answer(&mut groups, calls[place]), "call {place}");
+    }
 }
 
 // The group of index 0 goes on, and that of index 1 has had its last request.
-fn two_groups(rt: &impl Abort) -> GroupTable {
-    let mut groups = GroupTable::new();
-    for (index, last) in [(0, false), (1, true)] {
-        assert!(rt; groups.outstanding() < 32);
-        let lowest = groups.lowest_free();
-        assert!(rt; lowest == index);
-        groups.begin(lowest, 1, last);
-    }
-    groups
-}
+static GOES_ON: [GroupCall; 10] = [
+    GroupCall::Begin(0, false),
+    GroupCall::Begin(1, true),
+    GroupCall::Collecting(1, true),
+    GroupCall::Collecting(2, false),
+    GroupCall::Unfinished(0, 1, Some(0)),
+    GroupCall::Unfinished(0, 2, None),
+    GroupCall::Unfinished(1, 1, None),
+    GroupCall::Extend(0, true),
+    GroupCall::Collecting(1, false),
+    GroupCall::Outstanding(3),
+];
 
 #[test]
 fn a_group_goes_on_until_its_last_request(rt: HostRuntime) {
-    let mut groups = two_groups(&rt);
-    assert!(rt; groups.is_collecting(1) && !groups.is_collecting(2));
-    assert!(rt; groups.unfinished(0, 1) == Some(0));
-    assert!(rt; groups.unfinished(0, 2).is_none() && groups.unfinished(1, 1).is_none());
-    assert!(rt; groups.outstanding() < 32);
-    groups.extend(0, true);
-    assert!(rt; !groups.is_collecting(1) && groups.outstanding() == 3);
+    use_groups(&rt, &GOES_ON);
 }
+
+static STALE: [GroupCall; 7] = [
+    GroupCall::Begin(0, false),
+    GroupCall::Begin(1, true),
+    GroupCall::Extend(0, true),
+    GroupCall::MakeStale(1),
+    GroupCall::Free(
+        0,
+        GroupPlace::Stale {
+            pasid: 1,
+            requests: 2,
+        },
+    ),
+    GroupCall::Free(32, GroupPlace::Free),
+    GroupCall::Outstanding(1),
+];
 
 #[test]
 fn a_group_keeps_its_requests_until_it_is_free(rt: HostRuntime) {
-    let mut groups = two_groups(&rt);
-    assert!(rt; groups.outstanding() < 32);
-    groups.extend(0, true);
-    groups.make_stale(1);
-    let (pasid, requests) = (1, 2);
-    let stale = groups.free(0);
-    assert!(rt; stale == GroupPlace::Stale { pasid, requests });
-    assert!(rt; !stale.is_collecting(1) && groups.free(32) == GroupPlace::Free);
-    assert!(rt; groups.outstanding() == 1);
+    use_groups(&rt, &STALE);
 }

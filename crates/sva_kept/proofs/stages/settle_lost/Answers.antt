@@ -1,6 +1,8 @@
-use Rattle.sva_pasid.specs.declared.stages.Stage.TheVariants.{Quiet}
 use Rattle.sva_kept.proofs.Moving.{moves_to}
 use Rattle.sva_kept.proofs.stages.settle_lost.Goals as goal
 
+-- the stage isn't named: it is that which was put there
 pub returns : goal.returns
-returns c = moves_to c.args.binding c.args.bindings.now c.take.new.self c.put.new.self (Quiet c.quiet.result) c.take.ensures.places c.put.ensures
+returns c =
+    let moved = moves_to c.args.binding c.args.bindings.now c.take.new.self c.put.new.self _ c.take.ensures.places c.put.ensures in
+    moved

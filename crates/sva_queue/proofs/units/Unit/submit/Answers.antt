@@ -1,4 +1,4 @@
-use Rattle.std.proofs.Common.{sym, subst}
+use Rattle.std.proofs.Common.{sym, subst, rules}
 use Rattle.sva_queue.specs.Queue.{Queue}
 use Rattle.sva_queue.specs.Calls.{MaySubmit}
 use Rattle.sva_queue.proofs.Kept.{more-in_order}
@@ -12,3 +12,15 @@ invariant_of-self c =
     let may : MaySubmit c.args.self.now more = record { opened = c.requires.opened; numbers = c.requires.numbers; rising = c.requires.rising } in
     rw (c.extend.ensures, c.number_after-self-inside.ensures)
     (more-in_order queue more (subst (λ (k : Queue). MaySubmit k more) (sym c.self.view_is) may) c.self.invariant)
+
+pub returns-then-descriptors-room-clause-fits : goal.returns-then-descriptors-room-clause-fits
+returns-then-descriptors-room-clause-fits c = search rules
+
+pub extend-requires : goal.extend-requires
+extend-requires c = search rules
+
+pub returns-clause-fits : goal.returns-clause-fits
+returns-clause-fits c = search rules
+
+pub returns-then-descriptors-room-clause-queue : goal.returns-then-descriptors-room-clause-queue
+returns-then-descriptors-room-clause-queue c = search rules

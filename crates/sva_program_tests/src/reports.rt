@@ -1,7 +1,7 @@
 //! Whole reports: of runs, of inputs that are no scenario, and where a reader, a writer or memory fails. More runs, with the reports
 //! that were worked out for them, are those of the program.
 
-use crate::streams::{Broken, Slow, long_text};
+use crate::streams::{Broken, Slow, fails_behind, is_front, long_text};
 use std::alloc::Global;
 use std::io;
 use std::io::{Read, Write};
@@ -13,7 +13,12 @@ fn reports(alloc: Global, text: &[u8], want: &[u8], end: Outcome) -> Result<bool
     let mut reader = Told::new(text);
     let mut writer = Told::new(Vec::new(alloc));
     let outcome = drive(alloc, &mut reader, &mut writer)?;
-    Ok(outcome == end && writer.inner().as_slice() == want && reader.inner().is_empty())
+    Ok(outcome == end && is_whole(&reader, &writer, want))
+}
+
+/// Was all of the input read, and this written?
+fn is_whole(reader: &Told<&[u8]>, writer: &Told<Vec<u8>>, want: &[u8]) -> bool {
+    writer.inner().as_slice() == want && reader.inner().is_empty()
 }
 
 /// Is this the report of a run to its end, with and without the last LF of the text?
@@ -26,24 +31,25 @@ fn runs(alloc: Global, text: &str, want: &str) -> Result<bool, DriveFault> {
     )
 }
 
-const FIRST: &str = "config 1 4 1\nspace\nmap 0 16 w\nunmap 0 16\nmap 0 16 r\n";
+static FIRST: &str = "config 1 4 1\nspace\nmap 0 16 w\nunmap 0 16\nmap 0 16 r\n";
 
-const FIRST_REPORT: &str = "space 0\nframe 0\nfree 0\nframe 0\nfree 3 mapped 1 withheld 0\n";
+static FIRST_REPORT: &str = "space 0\nframe 0\nfree 0\nframe 0\nfree 3 mapped 1 withheld 0\n";
+
+/// Does a check of a text write this, and end so?
+fn checks(alloc: Global, text: &str, want: &str, end: Outcome) -> Result<bool, DriveFault> {
+    let mut reader = Told::new(text.as_bytes());
+    let mut writer = Told::new(Vec::new(alloc));
+    let outcome = check(alloc, &mut reader, &mut writer)?;
+    Ok(outcome == end && is_whole(&reader, &writer, want.as_bytes()))
+}
 
 #[test]
 fn checks_texts(rt: HostRuntime) -> Result<(), Fail> {
-    let texts = [
-        (FIRST, "steps 4\n", Outcome::Done),
-        ("config 0 0 0\n#\nspace", "steps 1\n", Outcome::Done),
-        ("space\n", "line 1 NoConfig\n", Outcome::Faulted),
-    ];
-    for (text, want, end) in texts {
-        let mut reader = Told::new(text.as_bytes());
-        let mut writer = Told::new(Vec::new(rt.alloc()));
-        let outcome = check(rt.alloc(), &mut reader, &mut writer)?;
-        assert!(rt; outcome == end && reader.inner().is_empty(), "{text}");
-        assert!(rt; writer.inner().as_slice() == want.as_bytes(), "{text}");
-    }
+    let alloc = rt.alloc();
+    let steps = "config 0 0 0\n#\nspace";
+    assert!(rt; checks(alloc, FIRST, "steps 4\n", Outcome::Done)?);
+    assert!(rt; checks(alloc, steps, "steps 1\n", Outcome::Done)?);
+    assert!(rt; checks(alloc, "space\n", "line 1 NoConfig\n", Outcome::Faulted)?);
     Ok(())
 }
 
@@ -91,20 +97,22 @@ fn stops_a_binding(rt: HostRuntime) -> Result<(), Fail> {
     Ok(())
 }
 
+/// Texts with a fault, and what is written of it.
+static FAULTS: [(&str, &str); 7] = [
+    ("", "line 1 NoConfig\n"),
+    ("config 1 4", "line 1 WordCount\n"),
+    ("config 1 4097 1", "refused 1 BadConfig\n"),
+    ("config 0 4 1\nspace", "refused 1 BadConfig\n"),
+    ("config 1 4097 1\nspase", "line 2 UnknownStep\n"),
+    ("config 1 4 1\nspace\nmap 0 16", "line 3 WordCount\n"),
+    ("config 1 4 1\nunmap 0  16", "line 2 BadWord\n"),
+];
+
 /// Where a line can't be read, or the config is out of its limits, nothing is run.
 #[test]
 fn reports_faults(rt: HostRuntime) -> Result<(), Fail> {
     let alloc = rt.alloc();
-    let faults = [
-        ("", "line 1 NoConfig\n"),
-        ("config 1 4", "line 1 WordCount\n"),
-        ("config 1 4097 1", "refused 1 BadConfig\n"),
-        ("config 0 4 1\nspace", "refused 1 BadConfig\n"),
-        ("config 1 4097 1\nspase", "line 2 UnknownStep\n"),
-        ("config 1 4 1\nspace\nmap 0 16", "line 3 WordCount\n"),
-        ("config 1 4 1\nunmap 0  16", "line 2 BadWord\n"),
-    ];
-    for (text, want) in faults {
+    for (text, want) in &FAULTS {
         let text = text.as_bytes();
         assert!(rt;
             reports(alloc, text, want.as_bytes(), Outcome::Faulted)?,
@@ -155,6 +163,12 @@ impl<'a> Read for Drip<'a> {
     }
 }
 
+/// Was a report of 58 bytes written in as many calls, of which none failed?
+fn is_written(writer: &Told<Slow>) -> bool {
+    (writer.calls(), writer.failures()) == (58, 0)
+        && is_front(&writer.inner().taken, FIRST_REPORT.as_bytes(), 58)
+}
+
 #[test]
 fn reads_byte_by_byte(rt: HostRuntime) -> Result<(), Fail> {
     let mut reader = Told::new(Drip {
@@ -162,72 +176,75 @@ fn reads_byte_by_byte(rt: HostRuntime) -> Result<(), Fail> {
     });
     let mut writer = Told::new(Slow::new(64));
     let outcome = drive(rt.alloc(), &mut reader, &mut writer)?;
-    assert_eq!(rt; outcome, Outcome::Done);
-    assert_eq!(rt;
-        (reader.calls(), writer.calls()),
-        (FIRST.len() as u64 + 1, 58)
-    );
-    assert_eq!(rt; &writer.inner().taken[..58], FIRST_REPORT.as_bytes());
+    assert!(rt; outcome == Outcome::Done && is_written(&writer));
+    assert!(rt; reader.calls() == FIRST.len() as u64 + 1);
     Ok(())
+}
+
+/// Ends a check in a fault where the sixth call of the reader fails, with nothing written?
+fn check_fails_to_read(alloc: Global) -> bool {
+    let mut reader = Told::new(Broken::new(5));
+    let mut writer = Told::new(Slow::new(64));
+    let result = check(alloc, &mut reader, &mut writer);
+    result == Err(DriveFault::Read) && (reader.failures(), writer.calls()) == (1, 0)
+}
+
+/// Ends a check in a fault where the writer fails behind six bytes?
+fn check_fails_to_write(alloc: Global) -> bool {
+    let mut reader = Told::new(FIRST.as_bytes());
+    let mut writer = Told::new(Slow::new(6));
+    let result = check(alloc, &mut reader, &mut writer);
+    result == Err(DriveFault::Write)
+        && (reader.failures(), writer.failures()) == (0, 1)
+        && is_front(&writer.inner().taken, b"steps ", 6)
 }
 
 #[test]
 fn stops_a_check_at_a_fault(rt: HostRuntime) {
-    let alloc = rt.alloc();
+    assert!(rt; check_fails_to_read(rt.alloc()));
+    assert!(rt; check_fails_to_write(rt.alloc()));
+}
+
+fn fails_to_read(alloc: Global) -> bool {
     let mut reader = Told::new(Broken::new(5));
     let mut writer = Told::new(Slow::new(64));
-    assert_eq!(rt;
-        check(alloc, &mut reader, &mut writer),
-        Err(DriveFault::Read)
-    );
-    assert_eq!(rt; (reader.failures(), writer.calls()), (1, 0));
-    let mut reader = Told::new(FIRST.as_bytes());
-    let mut writer = Told::new(Slow::new(6));
-    assert_eq!(rt;
-        check(alloc, &mut reader, &mut writer),
-        Err(DriveFault::Write)
-    );
-    assert_eq!(rt; (reader.failures(), writer.failures()), (0, 1));
-    assert_eq!(rt; &writer.inner().taken[..6], b"steps ".as_slice());
+    let result = drive(alloc, &mut reader, &mut writer);
+    result == Err(DriveFault::Read)
+        && (reader.calls(), reader.failures()) == (6, 1)
+        && is_untouched(&writer)
+}
+
+fn is_untouched(writer: &Told<Slow>) -> bool {
+    (writer.calls(), writer.failures(), writer.inner().len) == (0, 0, 0)
 }
 
 #[test]
 fn stops_at_a_read_fault(rt: HostRuntime) {
-    let alloc = rt.alloc();
-    let mut reader = Told::new(Broken::new(5));
-    let mut writer = Told::new(Slow::new(64));
-    assert_eq!(rt;
-        drive(alloc, &mut reader, &mut writer),
-        Err(DriveFault::Read)
-    );
-    assert_eq!(rt; (reader.calls(), reader.failures()), (6, 1));
-    assert_eq!(rt;
-        (writer.calls(), writer.failures(), writer.inner().len),
-        (0, 0, 0)
-    );
+    assert!(rt; fails_to_read(rt.alloc()));
+}
+
+/// Ends a run in a fault where the writer takes so many bytes, and are these those of the report?
+fn fails_to_write(alloc: Global, most: usize) -> bool {
+    let mut reader = Told::new(FIRST.as_bytes());
+    let mut writer = Told::new(Slow::new(most));
+    let result = drive(alloc, &mut reader, &mut writer);
+    result == Err(DriveFault::Write) && fails_behind(&writer, most, FIRST_REPORT.as_bytes())
+}
+
+/// Is the report written whole where the writer takes so many bytes?
+fn writes_whole(alloc: Global, most: usize) -> bool {
+    let mut reader = Told::new(FIRST.as_bytes());
+    let mut writer = Told::new(Slow::new(most));
+    drive(alloc, &mut reader, &mut writer) == Ok(Outcome::Done) && is_written(&writer)
 }
 
 #[test]
 fn stops_at_a_write_fault(rt: HostRuntime) {
-    let alloc = rt.alloc();
-    let report = FIRST_REPORT.as_bytes();
-    assert_eq!(rt; report.len(), 58);
+    assert!(rt; FIRST_REPORT.len() == 58);
     for most in 0..58 {
-        let mut reader = Told::new(FIRST.as_bytes());
-        let mut writer = Told::new(Slow::new(most));
-        assert_eq!(rt;
-            drive(alloc, &mut reader, &mut writer),
-            Err(DriveFault::Write)
-        );
-        assert_eq!(rt; (writer.calls(), writer.failures()), (most as u64 + 1, 1));
-        assert_eq!(rt; writer.inner().len, most);
-        assert_eq!(rt; &writer.inner().taken[..most], &report[..most]);
+        assert!(rt; fails_to_write(rt.alloc(), most), "{most}");
     }
-    let mut reader = Told::new(FIRST.as_bytes());
-    let mut writer = Told::new(Slow::new(58));
-    assert_eq!(rt; drive(alloc, &mut reader, &mut writer), Ok(Outcome::Done));
-    assert_eq!(rt; (writer.calls(), writer.failures()), (58, 0));
-    assert_eq!(rt; &writer.inner().taken[..58], report);
+    assert!(rt; writes_whole(rt.alloc(), 58));
 }
 
 /// Takes nothing.
@@ -255,27 +272,25 @@ fn stops_where_nothing_is_taken(rt: HostRuntime) {
     assert_eq!(rt; (writer.calls(), writer.failures()), (1, 1));
 }
 
+/// Is a part of the report written, and did no call fail?
+fn is_cut(reader: &Told<&[u8]>, writer: &Told<Slow>) -> bool {
+    let len = writer.inner().len;
+    (reader.failures(), writer.failures()) == (0, 0)
+        && is_front(&writer.inner().taken, FIRST_REPORT.as_bytes(), len)
+}
+
 /// With ample memory the report is whole. Where an allocation fails, a prefix of it is written, and nothing failed.
 #[test]
 fn stops_where_memory_lacks(rt: HostRuntime) {
-    let alloc = rt.alloc();
-    let report = FIRST_REPORT.as_bytes();
     let mut reader = Told::new(FIRST.as_bytes());
     let mut writer = Told::new(Slow::new(64));
-    let outcome = drive(alloc, &mut reader, &mut writer);
-    let len = writer.inner().len;
-    assert!(rt; len <= 58);
-    assert_eq!(rt; &writer.inner().taken[..len], &report[..len]);
-    assert_eq!(rt; (reader.failures(), writer.failures()), (0, 0));
+    let outcome = drive(rt.alloc(), &mut reader, &mut writer);
+    assert!(rt; is_cut(&reader, &writer));
     if outcome == Err(DriveFault::Memory) {
         // No other allocation fails, so that a second run has ample memory.
-        let mut again = Told::new(FIRST.as_bytes());
-        let mut page = Told::new(Slow::new(64));
-        assert_eq!(rt; drive(alloc, &mut again, &mut page), Ok(Outcome::Done));
-        assert_eq!(rt; &page.inner().taken[..58], report);
+        assert!(rt; writes_whole(rt.alloc(), 64));
     } else {
-        assert_eq!(rt; outcome, Ok(Outcome::Done));
-        assert_eq!(rt; len, 58);
+        assert!(rt; outcome == Ok(Outcome::Done) && writer.inner().len == 58);
     }
 }
 

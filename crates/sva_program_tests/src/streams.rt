@@ -38,6 +38,13 @@ impl Read for Broken {
     }
 }
 
+/// Ends a reading of so many bytes, one a call, in a fault, and with so many calls and failures?
+fn fails_to_read(alloc: Global, left: u64, calls: u64, failures: u64) -> bool {
+    let mut broken = Told::new(Broken::new(left));
+    let fault = read_all(alloc, &mut broken).err();
+    fault == Some(DriveFault::Read) && (broken.calls(), broken.failures()) == (calls, failures)
+}
+
 #[test]
 fn reads_to_the_end(rt: HostRuntime) -> Result<(), Fail> {
     let alloc = rt.alloc();
@@ -47,11 +54,8 @@ fn reads_to_the_end(rt: HostRuntime) -> Result<(), Fail> {
     assert_eq!(rt; (kept.len(), reader.inner().len()), (1_048_577, 0));
     // 256 calls of 4096 bytes, one of 3, and the one that meets the end.
     assert_eq!(rt; (reader.calls(), reader.failures()), (258, 0));
-    for (left, calls, failures) in [(5, 6, 1), (u64::MAX, 2_097_152, 0)] {
-        let mut broken = Told::new(Broken::new(left));
-        assert_eq!(rt; read_all(alloc, &mut broken).err(), Some(DriveFault::Read));
-        assert_eq!(rt; (broken.calls(), broken.failures()), (calls, failures));
-    }
+    assert!(rt; fails_to_read(alloc, 5, 6, 1));
+    assert!(rt; fails_to_read(alloc, u64::MAX, 2_097_152, 0));
     Ok(())
 }
 
@@ -91,18 +95,44 @@ impl Write for Slow {
     }
 }
 
+/// Do a text's first bytes, so many, stand in front of what was taken?
+pub(crate) fn is_front(taken: &[u8], text: &[u8], len: usize) -> bool {
+    if len > taken.len() || len > text.len() {
+        return false;
+    }
+    let (front, want) = (&taken[..len], &text[..len]);
+    front == want
+}
+
+/// Did the call behind the first bytes of a text, so many, fail, and none but it, and were these bytes taken?
+pub(crate) fn fails_behind(slow: &Told<Slow>, most: usize, text: &[u8]) -> bool {
+    let calls = (most as u64).wrapping_add(1);
+    slow.calls() == calls
+        && slow.failures() == 1
+        && slow.inner().len == most
+        && is_front(&slow.inner().taken, text, most)
+}
+
+static REPORT: &str = "space 0\nframe 0\nfree 0\nframe 0\nfree 3 mapped 1 withheld 0\n";
+
+/// Is a report of 58 bytes written as far as a writer takes it, which takes fewer?
+fn writes_front(most: usize) -> bool {
+    let mut slow = Told::new(Slow::new(most));
+    let result = write_all(&mut slow, REPORT.as_bytes());
+    result == Err(DriveFault::Write) && fails_behind(&slow, most, REPORT.as_bytes())
+}
+
+fn writes_whole() -> bool {
+    let mut slow = Told::new(Slow::new(58));
+    let result = write_all(&mut slow, REPORT.as_bytes());
+    result == Ok(()) && is_front(&slow.inner().taken, REPORT.as_bytes(), 58)
+}
+
 #[test]
 fn writes_a_front(rt: HostRuntime) {
-    let report = b"space 0\nframe 0\nfree 0\nframe 0\nfree 3 mapped 1 withheld 0\n".as_slice();
-    assert_eq!(rt; report.len(), 58);
+    assert!(rt; REPORT.len() == 58);
     for most in 0..58 {
-        let mut slow = Told::new(Slow::new(most));
-        assert_eq!(rt; write_all(&mut slow, report), Err(DriveFault::Write));
-        assert_eq!(rt; (slow.calls(), slow.failures()), (most as u64 + 1, 1));
-        assert_eq!(rt; slow.inner().len, most);
-        assert_eq!(rt; &slow.inner().taken[..most], &report[..most]);
+        assert!(rt; writes_front(most), "{most}");
     }
-    let mut slow = Told::new(Slow::new(58));
-    assert_eq!(rt; write_all(&mut slow, report), Ok(()));
-    assert_eq!(rt; &slow.inner().taken[..58], report);
+    assert!(rt; writes_whole());
 }

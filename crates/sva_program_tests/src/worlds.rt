@@ -662,17 +662,24 @@ static SIXTY_MAPPED: [(Step, &str); 3] = [
     (Step::DropSpace { space: 2 }, "gone"),
 ];
 
+/// Maps twelve pages of each of five spaces, to the frames in order.
+fn maps_five<R: Abort>(rt: &R, world: &mut World) -> bool {
+    for space in 0..5u32 {
+        if !maps_each(rt, world, u64::from(space), 0, (12 * space, 12)) {
+            return false;
+        }
+    }
+    true
+}
+
 /// Five spaces of twelve pages, for which each list and tree grows at least once.
 #[test]
 fn goes_on_where_memory_was_refused(rt: HostRuntime) -> Result<(), AllocError> {
     let mut world = open(&rt, rt.alloc(), config(1, 64));
     assert!(rt; begins_each(&rt, &mut world, 0, 5));
-    for space in 0..5 {
-        assert!(rt; maps_each(&rt, &mut world, space, 0, (12 * space as u32, 12)));
-    }
-    assert_eq!(rt; world.counts(), counts(4, 60, 0));
+    assert!(rt; maps_five(&rt, &mut world) && world.counts() == counts(4, 60, 0));
     go_on(&rt, rt.alloc(), &mut world, &SIXTY_MAPPED)?;
-    assert_eq!(rt; world.counts(), counts(30, 34, 0));
+    assert!(rt; world.counts() == counts(30, 34, 0));
     Ok(())
 }
 

@@ -80,3 +80,16 @@ returns-clause-place c =
     let same = c.as_slice-entries.ensures.value in
     not_found_at c.self.inside.entries.items c.args.self.now c.self.invariant.0 c.self.view_is c.args.key.now _
     (ap (smaller_first key_cmp c.args.key.now) (sym same) ∙ end.0) (ap (λ xs. is_some (find key_cmp c.args.key.now xs)) (sym same) ∙ end.1)
+
+pub compare-requires : goal.compare-requires
+compare-requires c =
+    let half = halves (c.loop-low.high - c.loop-low.low) c.loop-low.invariant.left (omega arith) c.loop-low.invariant.halved in
+    omega (arith, half.1, c.loop-low.invariant.spent, c.loop-low.invariant.few, c.requires)
+
+pub returns-in-Equal-clause-few : goal.returns-in-Equal-clause-few
+returns-in-Equal-clause-few c =
+    let half = halves (c.loop-low.high - c.loop-low.low) c.loop-low.invariant.left (omega arith) c.loop-low.invariant.halved in
+    omega (arith, half.1, c.loop-low.invariant.spent, c.compare.ensures.counted)
+
+pub returns-clause-few : goal.returns-clause-few
+returns-clause-few c = omega (arith, c.loop-low.invariant.spent)

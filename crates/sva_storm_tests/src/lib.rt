@@ -6,3 +6,5 @@
 mod loops;
 #[cfg(test)]
 mod storms;
+#[cfg(test)]
+mod tokens;

@@ -86,7 +86,7 @@ impl Device for Noting {
 }
 
 // The config and the steps of a scenario.
-fn scenario<R: Abort>(rt: &R, alloc: Global, text: &str) -> Scenario {
+pub(crate) fn scenario<R: Abort>(rt: &R, alloc: Global, text: &str) -> Scenario {
     match parse(alloc, text.as_bytes()) {
         Ok(scenario) => scenario,
         Err(_) => panic!(rt; "it can be read"),
@@ -94,7 +94,7 @@ fn scenario<R: Abort>(rt: &R, alloc: Global, text: &str) -> Scenario {
 }
 
 // Plays lines by a port, each of which is accepted at its first try. Tells what was touched last, and puts the tickets to others.
-fn plays<C: Tally, R: Wait + Abort>(
+pub(crate) fn plays<C: Tally, R: Wait + Abort>(
     rt: &R,
     alloc: Global,
     fabric: &Fabric<C>,
@@ -131,7 +131,11 @@ fn pour(from: Vec<UseTicket>, into: &mut Vec<UseTicket>)
 }
 
 // How many turns are left, and how many tickets, which are put to others.
-fn left_of<R: Abort>(rt: &R, ended: Ended, tickets: &mut Vec<UseTicket>) -> (u64, usize) {
+pub(crate) fn left_of<R: Abort>(
+    rt: &R,
+    ended: Ended,
+    tickets: &mut Vec<UseTicket>,
+) -> (u64, usize) {
     let Ended {
         turns_left,
         out_of_memory,
@@ -145,7 +149,7 @@ fn left_of<R: Abort>(rt: &R, ended: Ended, tickets: &mut Vec<UseTicket>) -> (u64
 }
 
 // Binds space 0 to so many endpoints.
-fn binds<C: Tally, R: Wait + Abort>(
+pub(crate) fn binds<C: Tally, R: Wait + Abort>(
     rt: &R,
     alloc: Global,
     fabric: &Fabric<C>,
@@ -217,7 +221,7 @@ fn first_answer<C: Tally>(port: &Port<C>) -> Option<Result<Answer, Refusal>> {
 }
 
 // The calls of all ports.
-fn calls_of<C: Tally>(ports: &Ports<C>) -> u64 {
+pub(crate) fn calls_of<C: Tally>(ports: &Ports<C>) -> u64 {
     let mut calls = ports.host.calls().wrapping_add(ports.link.calls());
     calls = calls.wrapping_add(ports.service.calls());
     for port in ports.endpoints.iter().chain(ports.workers.iter()) {

@@ -29,8 +29,8 @@ const ONE: Config = Config {
 struct Resets<'a, C: Tally, R> {
     fabric: &'a Fabric<C>,
     rt: &'a R,
-    host: &'a mut Port<C>,
-    link: &'a mut Port<C>,
+    host: Port<C>,
+    link: Port<C>,
     frame: Option<u32>,
 }
 
@@ -39,12 +39,12 @@ impl<'a, C: Tally, R: Wait> Device for Resets<'a, C, R> {
         self.frame = Some(frame);
         let _asked = self
             .fabric
-            .step(self.rt, self.host, &Step::Reset { endpoint: 0 });
+            .step(self.rt, &mut self.host, &Step::Reset { endpoint: 0 });
         // Start, request and completion were 0 to 2.
         for message in 3..5 {
             let _moved = self
                 .fabric
-                .step(self.rt, self.link, &Step::Deliver { message });
+                .step(self.rt, &mut self.link, &Step::Deliver { message });
         }
     }
 }
@@ -93,18 +93,25 @@ fn uses<C: Tally, R: Wait + Abort>(
     rt: &R,
     alloc: Global,
     fabric: &Fabric<C>,
-    ports: &mut Ports<C>,
+    ports: Ports<C>,
     tickets: &mut Vec<UseTicket>,
-) {
+) -> Ports<C> {
     let script = scenario(rt, alloc, USES).steps;
-    let [endpoint] = ports.endpoints.as_mut_slice() else {
+    let Ports {
+        host,
+        link,
+        service,
+        mut endpoints,
+        workers,
+    } = ports;
+    let [endpoint] = endpoints.as_mut_slice() else {
         panic!(rt; "there is one");
     };
     let mut device = Resets {
         fabric,
         rt,
-        host: &mut ports.host,
-        link: &mut ports.link,
+        host,
+        link,
         frame: None,
     };
     let ended = endpoint_loop(
@@ -119,6 +126,14 @@ fn uses<C: Tally, R: Wait + Abort>(
     assert_eq!(rt; device.frame, Some(1));
     assert_eq!(rt; left_of(rt, ended, tickets), (8, 0));
     assert_eq!(rt; last_answer(endpoint), Some(Ok(Answer::Dead)));
+    let Resets { host, link, .. } = device;
+    Ports {
+        host,
+        link,
+        service,
+        endpoints,
+        workers,
+    }
 }
 
 fn reset_in_use<C: Tally, R: Wait + Abort>(rt: &R, alloc: Global, calls: Blank) -> Result<(), Fail>
@@ -133,7 +148,7 @@ fn reset_in_use<C: Tally, R: Wait + Abort>(rt: &R, alloc: Global, calls: Blank) 
     let _none = plays(rt, alloc, &fabric, &mut ports.host, PAGES, &mut tickets);
     let leases = binds(rt, alloc, &fabric, &mut ports.host, 1);
     let _none = plays(rt, alloc, &fabric, &mut ports.link, HELD, &mut tickets);
-    uses(rt, alloc, &fabric, &mut ports, &mut tickets);
+    let ports = uses(rt, alloc, &fabric, ports, &mut tickets);
     assert_eq!(rt; last_answer(&ports.host), Some(Ok(Answer::Resetting)));
     assert_eq!(rt; last_answer(&ports.link), Some(Ok(Answer::ResetDone)));
     let tokens = Tokens {

@@ -11,7 +11,8 @@ returns-in_err-scenario-clause-report g c =
 
 pub returns-clause-report : goal.returns-clause-report
 returns-clause-report g c =
-    let same = subst (λ o. IfSome o (λ script. Fits script.config × (c.read_scenario.new.writer ≡ c.args.writer.now))) c.in-Some.is c.in_ok-scenario.ensures.fits in
+    let fits = c.in_ok-scenario.ensures.fits in
+    let same = subst (λ o. IfSome o (λ script. Fits script.config × (c.read_scenario.new.writer ≡ c.args.writer.now))) c.in-Some.is fits in
     played_known (g.R.Read.remaining c.args.reader.now.inner) (g.W.Write.contents c.args.writer.now.inner)
     (g.W.Write.contents c.read_scenario.new.writer.inner) (g.W.Write.contents c.report_audit.new.writer.inner) c.in_ok-scenario.field-0 c.in-Some.scenario
     c.in_ok-found.found c.report_audit.result c.in-Some.is c.in_ok-scenario.ensures.judged (ap (λ told. g.W.Write.contents told.inner) same.1)

@@ -8,7 +8,7 @@ use Rattle.sva_model.specs.Wire.{BindingWire, binding_wire, wire}
 use Rattle.sva_laws.proofs.Invariant.{Invariant}
 use Rattle.sva_laws.proofs.Passed.{unreleased_made, unreleased_bound}
 use Rattle.sva_labels.specs.Finding.{bearer}
-use Rattle.sva_labels.proofs.Lookups.{find_one}
+use Rattle.sva_labels.proofs.Lookups.{find_one, and_two}
 
 pub bearer_seen :
     (w : World) (e b : ℕ) → Invariant w → is_unreleased ((w.part e).stage b) ≡ true
@@ -20,7 +20,7 @@ bearer_seen w e b i u =
     (unreleased_made w.bindings (w.part e) b (i.parts e).bounds.stage u)
     (ap (λ x. is_unreleased ((w.part x).stage b)) endpoint_of ∙ u)
     (ap (λ x. x == e && (w.part x).pasid b == (w.part e).pasid b) endpoint_of ∙ itself e ((w.part e).pasid b))
-    (λ j l s h. alone j s (both (w.endpoint_of j) e ((w.part (w.endpoint_of j)).pasid j) ((w.part e).pasid b) h))
+    (λ j l s h. alone j s (and_two (w.endpoint_of j) e ((w.part (w.endpoint_of j)).pasid j) ((w.part e).pasid b) h))
     ∙ ap (λ x. Some (binding_wire w.config.first x (w.part x) b)) endpoint_of
   where
     endpoint_of : w.endpoint_of b ≡ e
@@ -28,9 +28,6 @@ bearer_seen w e b i u =
 
     itself : (x y : ℕ) → (x == x && y == y) ≡ true
     itself x y = grind (arith, nat_tests)
-
-    both : (a b c d : ℕ) → (a == b && c == d) ≡ true → (a ≡ b) × (c ≡ d)
-    both a b c d h = grind (arith, nat_tests)
 
     alone : (j : ℕ) → is_unreleased ((w.part (w.endpoint_of j)).stage j) ≡ true → (w.endpoint_of j ≡ e)
         × ((w.part (w.endpoint_of j)).pasid j ≡ (w.part e).pasid b) → j ≡ b

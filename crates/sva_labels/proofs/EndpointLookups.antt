@@ -17,7 +17,7 @@ use Rattle.sva_laws.proofs.Passed.{bearer_of}
 use Rattle.sva_laws.proofs.Unmap.{active_unreleased}
 use Rattle.sva_wire.proofs.Lists.{tabulate_at}
 use Rattle.sva_labels.specs.Finding.{pasid_state, is_at_page, cached, group_at, use_at, tag_at, taken_at}
-use Rattle.sva_labels.proofs.Lookups.{tabulate_past, find_one, find_none, find_sorted, alone_select}
+use Rattle.sva_labels.proofs.Lookups.{tabulate_past, find_one, find_none, find_sorted, alone_select, and_two}
 
 -- The state of a PASID is that of the binding which bears it; one outside 1 to 32 has none.
 
@@ -110,9 +110,6 @@ and_three x a b c d h = grind (arith, nat_tests)
 
 all_three : (x : Bool) (a b c d : ℕ) → x ≡ true → a ≡ b → c ≡ d → (x && a == b && c == d) ≡ true
 all_three x a b c d h k l = grind (arith, nat_tests)
-
-and_two : (a b c d : ℕ) → (a == b && c == d) ≡ true → (a ≡ b) × (c ≡ d)
-and_two a b c d h = grind (arith, nat_tests)
 
 all_two : (a b c d : ℕ) → a ≡ b → c ≡ d → (a == b && c == d) ≡ true
 all_two a b c d h k = grind (arith, nat_tests)

@@ -98,6 +98,10 @@ pub seen_some : {A : Type 0} (f : ℕ → A) (o : Option ℕ) → is_some (optio
 seen_some f None = refl
 seen_some f (Some k) = refl
 
+-- two pairs of numbers that are tested together
+pub and_two : (a b c d : ℕ) → (a == b && c == d) ≡ true → (a ≡ b) × (c ≡ d)
+and_two a b c d h = grind (arith, nat_tests)
+
 -- Does one pass?
 
 or_if : (a b : Bool) → (a || b) ≡ (if b then true else a)

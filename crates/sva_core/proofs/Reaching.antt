@@ -19,7 +19,7 @@ use Rattle.sva_labels.proofs.BoundSpaces.{always_have_spaces}
 use Rattle.sva_labels.proofs.Sounds.{always_sound}
 use Rattle.sva_labels.proofs.WholeLists.{opened_is}
 use Rattle.sva_memory.specs.Steps.{Counted, is_mapped_place, is_withheld_place}
-use Rattle.sva_kept.specs.Steps.{ByLabels}
+use Rattle.sva_served.specs.Steps.{ByLabels}
 use Rattle.sva_served.specs.Applied.{TakesNoMemory}
 use Rattle.sva_core.specs.Reached.{FollowsAt, Follows, IsReached, CountsOf, Ran}
 use Rattle.sva_core.proofs.FrameCounts.{free-counted, mapped-counted, withheld-counted}

@@ -9,7 +9,7 @@ ghost use Rattle.sva_labels.specs.Moves.{with_part};
 ghost use Rattle.sva_labels.specs.Replying.{responds};
 ghost use Rattle.sva_labels.specs.Sound.{IsSound, IsJob};
 ghost use Rattle.sva_unit.specs.Seen.{request_seen};
-ghost use Rattle.sva_views.specs.Service.{job_seen};
+ghost use Rattle.sva_kept.specs.Service.{job_seen};
 ghost use Rattle.sva_kept.specs.Replying.{responded_of};
 ghost use Rattle.sva_kept.specs.Steps.{Does, MayStep};
 

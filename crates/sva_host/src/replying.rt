@@ -5,8 +5,8 @@ ghost use Rattle.sva_model.specs.Wire.{BindingWire};
 ghost use Rattle.sva_labels.specs.Finding.{binding_of, is_space};
 ghost use Rattle.sva_labels.specs.Replying.{responds};
 ghost use Rattle.sva_labels.specs.Sound.{IsSound, IsJob};
-ghost use Rattle.sva_views.specs.Flights.{code_seen};
-ghost use Rattle.sva_views.specs.Service.{job_seen};
+ghost use Rattle.sva_kept.specs.Flights.{code_seen};
+ghost use Rattle.sva_kept.specs.Service.{job_seen};
 ghost use Rattle.sva_kept.specs.Steps.{Does};
 ghost use Rattle.sva_kept.specs.Replying.{RespondsBy, responded_of, succeeded, turned_down};
 

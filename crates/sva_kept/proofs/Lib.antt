@@ -1,3 +1,4 @@
+pub use Rattle.sva_views.proofs.Flights
 pub mod Deciding
 pub mod NeverForMemory
 pub mod Ports

@@ -1,3 +1,7 @@
+pub use Rattle.sva_views.specs.Bindings
+pub use Rattle.sva_views.specs.Flights
+pub use Rattle.sva_views.specs.Service
+pub use Rattle.sva_memory.specs.Seen
 pub mod Steps
 pub mod Inner
 pub mod Unmapping

@@ -5,7 +5,7 @@ ghost use Rattle.sva_step.specs.declared.refusals.Refusal.TheVariants as refusal
 ghost use Rattle.sva_step.specs.declared.steps.Step.TheVariants as step;
 ghost use Rattle.sva_labels.specs.Finding.{flight_of};
 ghost use Rattle.sva_labels.specs.Sound.{IsSound};
-ghost use Rattle.sva_views.specs.Flights.{kind_seen};
+ghost use Rattle.sva_kept.specs.Flights.{kind_seen};
 ghost use Rattle.sva_kept.specs.Arriving.{IsArriving, answers};
 ghost use Rattle.sva_kept.specs.Steps.{ByLabels, IsDown};
 

@@ -7,7 +7,7 @@ ghost use Rattle.sva_labels.specs.Finding.{bearer, unit_of};
 ghost use Rattle.sva_labels.specs.Outcomes.{found_for};
 ghost use Rattle.sva_labels.specs.Sound.{IsSound};
 ghost use Rattle.sva_msg.specs.declared.messages.Kind.TheVariants as kind;
-ghost use Rattle.sva_memory.specs.Seen.{page_seen};
+ghost use Rattle.sva_kept.specs.Seen.{page_seen};
 ghost use Rattle.sva_kept.specs.Arriving.{IsArriving};
 ghost use Rattle.sva_kept.specs.Steps.{ByLabels};
 

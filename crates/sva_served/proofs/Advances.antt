@@ -15,10 +15,10 @@ use Rattle.sva_labels.specs.Host.{Decision, checked, decide_of}
 use Rattle.sva_labels.specs.Outcomes as outcomes
 use Rattle.sva_labels.specs.Outcomes.{Result, of_binding, result_of}
 use Rattle.sva_labels.specs.Sound.{IsSound}
-use Rattle.sva_kept.specs.StageReading.{is_draining, open_drain}
-use Rattle.sva_kept.specs.Steps.{Does, ByLabels}
-use Rattle.sva_kept.proofs.Bound.{is_found, number_is}
-use Rattle.sva_kept.proofs.Deciding.{IsOther}
+use Rattle.sva_host.specs.StageReading.{is_draining, open_drain}
+use Rattle.sva_host.specs.Steps.{Does, ByLabels}
+use Rattle.sva_host.proofs.Bound.{is_found, number_is}
+use Rattle.sva_host.proofs.Deciding.{IsOther}
 use Rattle.sva_prq.specs.Groups.{is_open}
 use Rattle.sva_service.specs.Service.{no_service}
 use Rattle.sva_served.specs.Advancing.{held_back_by, held_back}

@@ -4,7 +4,7 @@ use Rattle.std.specs.Prelude.{Option, Some, None}
 use Rattle.sva_model.specs.Wire.{Wire, UnitWire, FlightWire}
 use Rattle.sva_labels.specs.Finding.{unit_of, flight_of}
 use Rattle.sva_labels.specs.Causes.{delivery_sends}
-use Rattle.sva_kept.specs.Arriving.{answers}
+use Rattle.sva_host.specs.Arriving.{answers}
 use Rattle.sva_served.specs.Seen.{ServiceWire, service_seen, serving}
 use Rattle.sva_served.specs.Inner.{wire_of}
 use Rattle.sva_served.specs.declared.served.Served.TheInside.{Inside}

@@ -23,8 +23,8 @@ use Rattle.sva_labels.specs.Outcomes.{file_result, serve_result, job_of, binding
 use Rattle.sva_labels.specs.Sound.{IsSound, HasNoJob}
 use Rattle.sva_labels.specs.Waiting.{waiting}
 use Rattle.sva_labels.proofs.Waiting.{file_counted}
-use Rattle.sva_kept.specs.Steps.{Does, ByLabels, MayStep}
-use Rattle.sva_kept.proofs.Deciding.{refused_by, passed}
+use Rattle.sva_host.specs.Steps.{Does, ByLabels, MayStep}
+use Rattle.sva_host.proofs.Deciding.{refused_by, passed}
 use Rattle.sva_msg.specs.declared.messages.PageRequest.{PageRequest}
 use Rattle.sva_prq.specs.Groups.{is_collecting}
 use Rattle.sva_service.specs.Service.{Service, CanFile, no_service, with_room, filed}

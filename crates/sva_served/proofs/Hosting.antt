@@ -13,7 +13,7 @@ use Rattle.sva_labels.specs.Causes.{causes_of}
 use Rattle.sva_labels.specs.Outcomes.{Result, result_of}
 use Rattle.sva_labels.specs.Waiting.{waiting}
 use Rattle.sva_labels.proofs.WaitingSteps.{filed_in_turn}
-use Rattle.sva_kept.specs.Steps.{Does, ByLabels}
+use Rattle.sva_host.specs.Steps.{Does, ByLabels}
 use Rattle.sva_served.specs.Seen.{ServiceWire, serving}
 use Rattle.sva_served.specs.Inner.{wire_of, IsServed}
 use Rattle.sva_served.specs.declared.served.Served.TheInside.{Inside}

@@ -12,7 +12,7 @@ use Rattle.sva_labels.specs.Host.{Decision}
 use Rattle.sva_labels.specs.Moves.{Move, moved, all_moved, part_unmapped, is_of_job}
 use Rattle.sva_labels.specs.Sound.{IsSound}
 use Rattle.sva_wire.proofs.Lists.{tabulate_length}
-use Rattle.sva_kept.specs.Steps.{Does}
+use Rattle.sva_host.specs.Steps.{Does}
 use Rattle.sva_msg.specs.declared.messages.PageRequest.{PageRequest}
 use Rattle.sva_prq.specs.Groups.{is_open}
 use Rattle.sva_prq.specs.Job.{Job}

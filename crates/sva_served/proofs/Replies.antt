@@ -30,8 +30,8 @@ use Rattle.sva_labels.specs.Sound.{IsSound, IsJob}
 use Rattle.sva_labels.specs.Spaces.{HaveSpaces}
 use Rattle.sva_labels.specs.Waiting.{waiting}
 use Rattle.sva_labels.proofs.Waiting.{arrives, moves_kept}
-use Rattle.sva_kept.specs.Replying.{responded_by, responded_of}
-use Rattle.sva_kept.specs.Steps.{Does, ByLabels}
+use Rattle.sva_host.specs.Replying.{responded_by, responded_of}
+use Rattle.sva_host.specs.Steps.{Does, ByLabels}
 use Rattle.sva_prq.specs.Job.{Job}
 use Rattle.sva_service.specs.Service.{Service, no_service, hand, after_answer, after_answer_of}
 use Rattle.sva_views.specs.Service.{job_seen, groups_seen, hands_seen}
@@ -48,7 +48,7 @@ use Rattle.sva_served.proofs.Hosting.{moves_nothing}
 use Rattle.sva_served.proofs.Resetting.{accepted}
 use Rattle.sva_served.proofs.Takes.{worker_there}
 use Rattle.sva_served.proofs.Housed.{housed_still, housed_answered}
-use Rattle.sva_kept.proofs.Responses.{responds_none}
+use Rattle.sva_host.proofs.Responses.{responds_none}
 
 -- The job, and what is decided of it.
 

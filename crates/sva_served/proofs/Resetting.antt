@@ -15,7 +15,7 @@ use Rattle.sva_labels.specs.Host.{Decision, checked, decide_of}
 use Rattle.sva_labels.specs.Moves.{Move, moved, all_moved, sent}
 use Rattle.sva_labels.specs.Outcomes.{Result, by_one, result_of}
 use Rattle.sva_labels.specs.Waiting.{waiting}
-use Rattle.sva_kept.specs.Steps.{Does, ByLabels}
+use Rattle.sva_host.specs.Steps.{Does, ByLabels}
 use Rattle.sva_service.specs.Service.{Service, no_service, without_unit}
 use Rattle.sva_views.specs.Service.{groups_seen, hands_seen, ResetIsSeen}
 use Rattle.sva_views.specs.ServiceLaws.{IsSound}

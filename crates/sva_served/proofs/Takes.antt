@@ -14,7 +14,7 @@ use Rattle.sva_labels.specs.Host.{Decision, checked, decide_of}
 use Rattle.sva_labels.specs.Moves.{Move}
 use Rattle.sva_labels.specs.Waiting.{waiting}
 use Rattle.sva_labels.specs.Outcomes.{take_result}
-use Rattle.sva_kept.specs.Steps.{Does, ByLabels}
+use Rattle.sva_host.specs.Steps.{Does, ByLabels}
 use Rattle.sva_prq.specs.Job.{Job}
 use Rattle.sva_service.specs.Service.{Service, hand, taken}
 use Rattle.sva_views.specs.Service.{ask_seen, job_seen, jobs_seen, hands_seen, TakeIsSeen}

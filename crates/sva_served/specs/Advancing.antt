@@ -4,7 +4,7 @@ use Rattle.sva_step.specs.declared.refusals.Refusal.{Refusal}
 use Rattle.sva_step.specs.declared.refusals.Refusal.TheVariants as refusal
 use Rattle.sva_model.specs.Wire.{Wire, BindingWire}
 use Rattle.sva_labels.specs.Finding.{part_of, has_open_group}
-use Rattle.sva_kept.specs.StageReading.{open_drain}
+use Rattle.sva_host.specs.StageReading.{open_drain}
 
 -- by whether its unit is open, where that drains its page requests, and whether a group of it is open
 abbrev pub held_back_by : (is_open : Option Bool) → (has_group : Bool) → Option Refusal

@@ -8,7 +8,7 @@ use Rattle.sva_model.specs.Wire.StageWire.{LostWire}
 use Rattle.sva_labels.specs.Causes.{sends_invalidate}
 use Rattle.sva_labels.specs.Finding.{binding_of, flight_of, part_of, unit_of}
 use Rattle.sva_labels.specs.Host.{reply_of}
-use Rattle.sva_kept.specs.Arriving.{answers}
+use Rattle.sva_host.specs.Arriving.{answers}
 
 -- an endpoint asks for a translation, uses one, or lets go of one
 abbrev pub IsOfTranslations : Step → Type 0

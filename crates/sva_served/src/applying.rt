@@ -4,7 +4,7 @@ ghost use Rattle.std.specs.Prelude.{◌≢◌, Err};
 ghost use Rattle.sva_step.specs.declared.refusals.Refusal.TheVariants as refusal;
 ghost use Rattle.sva_labels.specs.Sound.{IsSound};
 ghost use Rattle.sva_labels.specs.Spaces.{HaveSpaces};
-ghost use Rattle.sva_kept.specs.Steps.{ByLabels};
+ghost use Rattle.sva_host.specs.Steps.{ByLabels};
 ghost use Rattle.sva_served.specs.Applied.{IsOfEndpoint, IsOfTranslations, TakesNoMemory};
 
 use crate::served::Served;

@@ -7,7 +7,7 @@ ghost use Rattle.sva_model.specs.Wire.{BindingWire};
 ghost use Rattle.sva_model.specs.Wire.StageWire.{LostWire};
 ghost use Rattle.sva_labels.specs.Finding.{binding_of};
 ghost use Rattle.sva_labels.specs.Sound.{IsSound};
-ghost use Rattle.sva_kept.specs.Steps.{ByLabels};
+ghost use Rattle.sva_host.specs.Steps.{ByLabels};
 
 use crate::served::Served;
 use sva_step::{Answer, Refusal};

@@ -5,8 +5,8 @@ ghost use Rattle.sva_step.specs.declared.refusals.Refusal.TheVariants as refusal
 ghost use Rattle.sva_step.specs.declared.steps.Step.TheVariants as step;
 ghost use Rattle.sva_labels.specs.Finding.{flight_of};
 ghost use Rattle.sva_labels.specs.Sound.{IsSound};
-ghost use Rattle.sva_kept.specs.Arriving.{answers};
-ghost use Rattle.sva_kept.specs.Steps.{ByLabels};
+ghost use Rattle.sva_host.specs.Arriving.{answers};
+ghost use Rattle.sva_host.specs.Steps.{ByLabels};
 
 use crate::served::Served;
 use sva_step::{Answer, Refusal};

@@ -3,7 +3,7 @@
 ghost use Rattle.std.specs.Prelude.{◌≢◌, Err};
 ghost use Rattle.sva_step.specs.declared.steps.Step.TheVariants as step;
 ghost use Rattle.sva_step.specs.declared.refusals.Refusal.TheVariants as refusal;
-ghost use Rattle.sva_kept.specs.Steps.{ByLabels};
+ghost use Rattle.sva_host.specs.Steps.{ByLabels};
 
 use crate::served::Served;
 use sva_step::{Answer, Refusal};

@@ -5,7 +5,7 @@ ghost use Rattle.sva_step.specs.declared.refusals.Refusal.TheVariants as refusal
 ghost use Rattle.sva_step.specs.declared.steps.Step.TheVariants as step;
 ghost use Rattle.sva_labels.specs.Causes.{sends_invalidate};
 ghost use Rattle.sva_labels.specs.Finding.{unit_of};
-ghost use Rattle.sva_kept.specs.Steps.{ByLabels};
+ghost use Rattle.sva_host.specs.Steps.{ByLabels};
 
 use crate::served::Served;
 use sva_step::{Answer, Refusal};

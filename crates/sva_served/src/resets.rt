@@ -1,7 +1,7 @@
 //! Resets of endpoints (a function level reset, PCI Express Base 5.0, section 6.6.2).
 
 ghost use Rattle.sva_step.specs.declared.steps.Step.TheVariants as step;
-ghost use Rattle.sva_kept.specs.Steps.{ByLabels};
+ghost use Rattle.sva_host.specs.Steps.{ByLabels};
 
 use crate::served::Served;
 use sva_step::{Answer, Refusal};

@@ -3,7 +3,7 @@ use Rattle.std.specs.Prelude.{Ok, List, length}
 use Rattle.sva_kept.specs.declared.kept.Port.{Port}
 use Rattle.sva_model.specs.Wire.{Wire}
 use Rattle.sva_labels.specs.Finding.{has_room}
-use Rattle.sva_views.specs.Bindings.{binding_seen, stage_or_quiet}
+use Rattle.sva_kept.specs.Bindings.{binding_seen, stage_or_quiet}
 use Rattle.sva_kept.specs.Advancing.{is_due}
 use Rattle.sva_kept.proofs.Bound.{binding_at, home_there, home_within}
 use Rattle.sva_kept.proofs.TakenOut.{unit_there}

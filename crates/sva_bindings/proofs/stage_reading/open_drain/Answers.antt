@@ -1,7 +1,7 @@
 use Rattle.std.proofs.Common.{◌<◌, ap, sym, subst, ◌∙◌, Bool, arith}
 use Rattle.std.specs.Prelude.{if◌then◌else◌, List, Some, None, length}
 use Rattle.sva_labels.specs.Finding.{unit_of}
-use Rattle.sva_views.specs.Bindings.{binding_seen}
+use Rattle.sva_kept.specs.Bindings.{binding_seen}
 use Rattle.sva_kept.specs.declared.kept.Port.{Port}
 use Rattle.sva_kept.specs.StageReading.{open_drain}
 use Rattle.sva_kept.proofs.Bound.{binding_at, home_there, home_within}

@@ -2,7 +2,7 @@ use Rattle.std.proofs.Common.{◌≡◌, ◌<◌, ◌≤◌, ◌^◌, ap, sym, s
 use Rattle.std.specs.Prelude.{List, length}
 use Rattle.sva_kept.specs.declared.kept.Port.{Port}
 use Rattle.sva_model.specs.Wire.{Wire}
-use Rattle.sva_views.specs.Bindings.{binding_seen}
+use Rattle.sva_kept.specs.Bindings.{binding_seen}
 use Rattle.sva_kept.proofs.Bound.{binding_at, home_there, home_within}
 use Rattle.sva_kept.proofs.TakenOut.{unit_there}
 use Rattle.sva_kept.proofs.Unbinds.{no_such_binding, lost_ends, not_live, in_reset, messages_spent, is_stopped}

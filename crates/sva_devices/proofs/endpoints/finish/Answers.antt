@@ -6,7 +6,7 @@ use Rattle.sva_endpoint.specs.Calls as call
 use Rattle.sva_endpoint.specs.Tables.{Tables}
 use Rattle.sva_endpoint.specs.Steps.{after_finish, finishing}
 use Rattle.sva_endpoint.proofs.SoundLaws.{sound_after}
-use Rattle.sva_views.proofs.Flights.{flight_laws}
+use Rattle.sva_kept.proofs.Flights.{flight_laws}
 use Rattle.sva_kept.specs.Inner.{wire_of}
 use Rattle.sva_kept.specs.declared.kept.Port.{Port}
 use Rattle.sva_kept.proofs.Ports.{port_found, rewritten, with_tables_host, same_port}

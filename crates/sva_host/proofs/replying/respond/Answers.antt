@@ -1,8 +1,8 @@
 use Rattle.std.proofs.Common.{sym, ap, subst, refl}
 use Rattle.sva_model.specs.Message.Code.{InvalidCode, FailureCode}
 use Rattle.sva_labels.specs.Host.{Decision}
-use Rattle.sva_views.specs.Flights.{code_seen}
-use Rattle.sva_views.specs.Service.{job_seen}
+use Rattle.sva_kept.specs.Flights.{code_seen}
+use Rattle.sva_kept.specs.Service.{job_seen}
 use Rattle.sva_kept.specs.Steps.{Does}
 use Rattle.sva_kept.proofs.Responses.{dropped, never_silent, space_there, is_succeeded, is_turned_down}
 use Rattle.sva_host.proofs.replying.respond.Goals as goal

@@ -2,8 +2,8 @@ use Rattle.std.proofs.Common.{◌<◌, ℕ, refl, sym, ap, subst, ◌∙◌, ari
 use Rattle.std.specs.Prelude.{Option, length}
 use Rattle.sva_pasid.specs.Places.{place_of}
 use Rattle.sva_labels.specs.Finding.{unit_of}
-use Rattle.sva_views.specs.Bindings.{binding_seen}
-use Rattle.sva_views.specs.Service.{job_seen}
+use Rattle.sva_kept.specs.Bindings.{binding_seen}
+use Rattle.sva_kept.specs.Service.{job_seen}
 use Rattle.sva_kept.specs.declared.replying.Response.{Response}
 use Rattle.sva_kept.specs.Replying.{RespondsBy}
 use Rattle.sva_kept.proofs.Bound.{binding_at}

@@ -3,7 +3,7 @@ use Rattle.sva_msg.specs.declared.messages.Code.TheVariants.{Success}
 use Rattle.sva_prq.specs.declared.jobs.Ask.{Ask}
 use Rattle.sva_memory.specs.Steps.{AllMoves}
 use Rattle.sva_memory.specs.Asked.{asks_seen, new_pages, may_map_all, maps_of, taken_back}
-use Rattle.sva_views.specs.Service.{job_seen}
+use Rattle.sva_kept.specs.Service.{job_seen}
 use Rattle.sva_kept.specs.Replying.{succeeded}
 use Rattle.sva_kept.proofs.Responses.{named, does_err, success_refused, success_spent, unmapped_all, taken_back_all, success_done}
 use Rattle.sva_host.proofs.replying.succeed.Goals as goal

@@ -1,8 +1,8 @@
 use Rattle.std.proofs.Common.{sym, subst}
 use Rattle.std.specs.Prelude.{Ok, Err}
 use Rattle.sva_step.specs.declared.answers.Answer.{Answer}
-use Rattle.sva_views.specs.Flights.{code_seen}
-use Rattle.sva_views.specs.Service.{job_seen}
+use Rattle.sva_kept.specs.Flights.{code_seen}
+use Rattle.sva_kept.specs.Service.{job_seen}
 use Rattle.sva_kept.specs.Inner.{wire_of}
 use Rattle.sva_kept.specs.Steps.{Does}
 use Rattle.sva_kept.specs.Replying.{turned_down}

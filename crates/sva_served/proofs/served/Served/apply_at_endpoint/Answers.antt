@@ -1,6 +1,6 @@
 use Rattle.std.proofs.Common.{sym, subst}
 use Rattle.sva_step.specs.declared.steps.Step.{Step}
-use Rattle.sva_kept.specs.Steps.{ByLabels}
+use Rattle.sva_host.specs.Steps.{ByLabels}
 use Rattle.sva_served.proofs.served.Served.apply_at_endpoint.Goals as goal
 
 pub returns-in-Quit-clause-step : goal.returns-in-Quit-clause-step

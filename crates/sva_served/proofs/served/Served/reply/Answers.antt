@@ -2,7 +2,7 @@ use Rattle.std.proofs.Common.{sym, subst, ◌∙◌, ◌<◌, arith}
 use Rattle.sva_step.specs.declared.steps.Step.TheVariants as step
 use Rattle.sva_labels.specs.Sound.{IsSound}
 use Rattle.sva_labels.specs.Spaces.{HaveSpaces}
-use Rattle.sva_kept.proofs.Devices.{is_err, went}
+use Rattle.sva_host.proofs.Devices.{is_err, went}
 use Rattle.sva_views.specs.Service.{job_seen}
 use Rattle.sva_served.specs.Inner.{wire_of}
 use Rattle.sva_served.proofs.Sounds.{host_sound}

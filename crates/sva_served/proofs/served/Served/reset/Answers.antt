@@ -1,5 +1,5 @@
 use Rattle.sva_step.specs.declared.steps.Step.TheVariants as step
-use Rattle.sva_kept.proofs.Devices.{went}
+use Rattle.sva_host.proofs.Devices.{went}
 use Rattle.sva_served.specs.Inner.{wire_of}
 use Rattle.sva_served.proofs.Hosting.{refused_still}
 use Rattle.sva_served.proofs.Resetting.{reset_refused, reset_done, reset_still}

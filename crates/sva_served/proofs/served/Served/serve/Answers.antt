@@ -4,8 +4,8 @@ use Rattle.sva_step.specs.declared.steps.Step.TheVariants as step
 use Rattle.sva_step.specs.declared.answers.Answer.TheVariants as answer
 use Rattle.sva_model.specs.Wire.{Wire}
 use Rattle.sva_labels.specs.Sound.{IsSound}
-use Rattle.sva_kept.specs.Steps.{ByLabels}
-use Rattle.sva_kept.proofs.Devices.{kept}
+use Rattle.sva_host.specs.Steps.{ByLabels}
+use Rattle.sva_host.proofs.Devices.{kept}
 use Rattle.sva_service.specs.Service.{Service, CanFile, filed}
 use Rattle.sva_served.specs.Inner.{wire_of}
 use Rattle.sva_served.proofs.Filing.{serve_refused, serve_empty, serve_unfiled, serve_done, serve_still, some_waits, never_lost, head_is, can_file}

@@ -10,7 +10,7 @@ use std::marker::Model;
 pub const WORD: usize = 64;
 
 /// A set of numbers below a bound. Contracts see its words: a number is bit `number % 64` of word `number / 64`.
-#[derive(Debug, Drop)]
+#[derive(Drop)]
 pub struct BitSet {
     words: Vec<u64>,
 }

@@ -6,7 +6,7 @@ use std::marker::Model;
 
 /// A set of numbers that finds its lowest without a look at each word: a second set has the places of the words that
 /// aren't 0. For 4096 numbers these are 64 words and one. Contracts see the words.
-#[derive(Debug, Drop)]
+#[derive(Drop)]
 pub struct FreeSet {
     numbers: BitSet,
     summary: BitSet,

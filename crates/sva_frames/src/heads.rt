@@ -7,7 +7,7 @@ use arrayvec::ArrayVec;
 use std::marker::Model;
 
 /// A cookie that some frame waits for, with the first frame of its chain.
-#[derive(Clone, Copy, Debug)]
+#[derive(Clone, Copy)]
 pub struct Pending {
     cookie: u64,
     first: u32,
@@ -27,7 +27,7 @@ impl Default for Pending {
 
 /// The first frame of each chain of one unit: a table of the pending cookies, in which the one that was used last stands
 /// last, and a place for the reset's end. Contracts see both.
-#[derive(Debug, Drop)]
+#[derive(Drop)]
 pub struct Heads {
     pending: ArrayVec<Pending, PENDING>,
     reset: Option<u32>,

@@ -10,7 +10,7 @@ use std::alloc::{AllocError, Global};
 use std::marker::Model;
 
 /// What a unit keeps of one frame: what the frame waits for there, and the next frame that waits for the same.
-#[derive(Clone, Copy, Debug)]
+#[derive(Clone, Copy)]
 pub struct Cell {
     target: Option<Target>,
     next: Option<u32>,
@@ -19,7 +19,7 @@ pub struct Cell {
 /// What frames wait for at one unit: a cell for each frame, and the first frame of each chain of cells.
 ///
 /// Contracts see the list of targets, one a frame, where it has one.
-#[derive(Debug, Drop)]
+#[derive(Drop)]
 pub struct Lane {
     cells: Vec<Cell>,
     heads: Heads,

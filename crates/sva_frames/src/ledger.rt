@@ -6,7 +6,7 @@ use std::alloc::{AllocError, Global};
 use std::marker::Model;
 
 /// Where a frame is, and at how many units a withheld one still waits.
-#[derive(Clone, Copy, Debug)]
+#[derive(Clone, Copy)]
 pub enum Stage {
     Free,
     Mapped,
@@ -74,7 +74,7 @@ impl Stage {
 /// The stage of each frame, the set of those that are free, and how many frames are at each place.
 ///
 /// Contracts see the list of stages.
-#[derive(Debug, Drop)]
+#[derive(Drop)]
 pub struct Ledger {
     stages: Vec<Stage>,
     free: FreeSet,

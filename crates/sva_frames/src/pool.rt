@@ -5,6 +5,7 @@ use crate::lane::{Lane, enter_all};
 use crate::ledger::{Ledger, Stage};
 use crate::waits::{Target, UNITS, Waits};
 use std::alloc::{AllocError, Global};
+use std::fmt;
 use std::marker::Model;
 
 /// Where a frame is.
@@ -62,7 +63,7 @@ impl Frame {
 ///
 /// At each unit the frames that wait for the same stand in a chain, so a settlement goes to these and to no other frame.
 /// Only `open` takes memory: a cell for each frame and unit, and a place for each cookie that may be pending.
-#[derive(Debug, Drop)]
+#[derive(Drop)]
 pub struct FramePool {
     ledger: Ledger,
     lanes: Vec<Lane>,
@@ -78,6 +79,14 @@ impl Model for FramePool {
     ghost view = { λ p. holdings_from 0 p.ledger p.lanes.items };
 
     ghost invariant = { λ p. IsPool p.ledger p.lanes.items };
+}
+
+impl fmt::Debug for FramePool {
+    // How many frames are at each place, which of a pool of thousands says more than each frame would.
+    fn fmt<W: fmt::Write>(&self, f: &mut fmt::Formatter<W>) -> fmt::Result {
+        f.write_str("FramePool ")?;
+        fmt::Debug::fmt(&self.counts(), f)
+    }
 }
 
 impl FramePool {

@@ -7,7 +7,6 @@ ghost use Rattle.sva_pasid.specs.Indexes.{IsIndexOf};
 use crate::stages::Stage;
 
 /// The place of a binding in the table.
-#[derive(Debug)]
 pub struct Place {
     /// The endpoint's number.
     pub endpoint: u64,

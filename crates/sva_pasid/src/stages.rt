@@ -5,7 +5,6 @@ ghost use Rattle.std.specs.Prelude.{◌≡◌};
 use crate::states::{Draining, Invalidating, Live, Lost, Quiet, Released, Stopping};
 
 /// The state that a binding is in until it is released. A stage must be spent, as the states must.
-#[derive(Debug)]
 pub enum Stage {
     Live(Live),
     Stopping(Stopping),

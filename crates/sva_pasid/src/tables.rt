@@ -13,7 +13,6 @@ use std::marker::Model;
 
 /// The bindings that are not released, in the order in which they began. A table that goes, at the end of the host itself,
 /// spends the stages that are in it: each ends as by a function level reset, over `Quiet` and `Released`.
-#[derive(Debug)]
 pub struct Table {
     places: Vec<Place>,
     // What the places say of each PASID, so that a look-up by PASID goes through no binding.

@@ -8,7 +8,6 @@ use crate::states::{Invalidating, Quiet};
 use std::marker::Model;
 
 /// The marker was noted. The binding waits until the page requests that came before it are answered.
-#[derive(Debug)]
 pub struct Draining {
     pub(crate) wait: Wait,
 }

@@ -8,7 +8,6 @@ use crate::states::wait::Wait;
 use std::marker::Model;
 
 /// The page requests are answered. The binding waits until the endpoint has given up all that it holds under the PASID.
-#[derive(Debug)]
 pub struct Invalidating {
     pub(crate) wait: Wait,
 }

@@ -8,7 +8,6 @@ use std::marker::Model;
 
 /// The binding is in use: its endpoint may ask for translations and hold them. Only the table makes one, as a binding
 /// begins.
-#[derive(Debug)]
 pub struct Live {
     pub(crate) binding: u64,
     pub(crate) pasid: u32,

@@ -7,7 +7,6 @@ use crate::states::Quiet;
 use std::marker::Model;
 
 /// A function level reset emptied the endpoint while the binding was in use. The space wasn't taken back yet.
-#[derive(Debug)]
 pub struct Lost {
     pub(crate) binding: u64,
     pub(crate) pasid: u32,

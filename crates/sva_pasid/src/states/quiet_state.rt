@@ -7,7 +7,6 @@ use crate::states::Released;
 use std::marker::Model;
 
 /// The endpoint holds nothing of the binding and sends nothing for it. The PASID isn't free yet.
-#[derive(Debug)]
 pub struct Quiet {
     pub(crate) binding: u64,
     pub(crate) pasid: u32,

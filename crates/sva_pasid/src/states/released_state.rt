@@ -6,7 +6,6 @@ ghost use Rattle.sva_pasid.specs.States.{Numbers};
 use std::marker::Model;
 
 /// The binding is over. The table takes this value for the binding's place and frees the PASID; only `Quiet` makes one.
-#[derive(Debug)]
 pub struct Released {
     pub(crate) binding: u64,
     pub(crate) pasid: u32,

@@ -9,7 +9,6 @@ use std::marker::Model;
 
 /// The stop was sent. Until the marker is noted (Stop Marker: PCI Express Base 5.0, section 10.4.1), page requests
 /// under the PASID may still come.
-#[derive(Debug)]
 pub struct Stopping {
     pub(crate) binding: u64,
     pub(crate) pasid: u32,

@@ -8,7 +8,7 @@ use std::marker::Model;
 
 /// The numbers of a binding, the cookie of the wait descriptor for which it waits, and whether that wait was told to be
 /// done.
-#[derive(Debug, Drop)]
+#[derive(Drop)]
 pub(crate) struct Wait {
     pub(crate) binding: u64,
     pub(crate) pasid: u32,

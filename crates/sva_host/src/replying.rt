@@ -79,7 +79,7 @@ fn succeed(host: &mut Kept, job: &Job, space: u64, pasid: u32) -> Result<Answer,
 /// quiet or released, or the unit is in reset, nothing is sent.
 ///
 /// What else a reply does is another's: it takes the job out of its hand, and ends its group.
-pub(crate) fn respond(host: &mut Kept, job: &Job, verdict: Verdict) -> Result<Answer, Refusal>
+pub fn respond(host: &mut Kept, job: &Job, verdict: Verdict) -> Result<Answer, Refusal>
     requires sound { IsSound host.old }
     requires job { IsJob host.old (job_seen job.now) }
     requires space { (b : BindingWire) → binding_of host.old job.now.binding ≡ Some b → is_space host.old b.space ≡ true }

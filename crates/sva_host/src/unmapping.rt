@@ -107,7 +107,7 @@ fn may_submit(host: &Kept, space: u64, descriptors: u64) -> Result<(), Refusal>
 
 /// Takes pages of a space in a row out: the units are asked to invalidate them, and their frames are free once every
 /// endpoint that may use them has answered.
-pub(crate) fn unmap(host: &mut Kept, space: u64, page: u64, count: u64) -> Result<Answer, Refusal>
+pub fn unmap(host: &mut Kept, space: u64, page: u64, count: u64) -> Result<Answer, Refusal>
     requires { IsSound host.old }
     ensures step { ByLabels host.old (step.Unmap space page count) result host.new }
     ensures memory { result ≢ Err refusal.OutOfMemory }
@@ -125,12 +125,7 @@ pub(crate) fn unmap(host: &mut Kept, space: u64, page: u64, count: u64) -> Resul
 }
 
 /// Takes the pages of a range out, those of its 2^`order` pages that are mapped. Their frames are free as after `unmap`.
-pub(crate) fn unmap_range(
-    host: &mut Kept,
-    space: u64,
-    page: u64,
-    order: u64,
-) -> Result<Answer, Refusal>
+pub fn unmap_range(host: &mut Kept, space: u64, page: u64, order: u64) -> Result<Answer, Refusal>
     requires { IsSound host.old }
     ensures step { ByLabels host.old (step.UnmapRange space page order) result host.new }
     ensures memory { result ≢ Err refusal.OutOfMemory }

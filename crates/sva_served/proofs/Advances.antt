@@ -35,19 +35,19 @@ use Rattle.sva_served.proofs.Sounds.{no_groups}
 -- What holds it back, as the host and its service tell it.
 
 pub held_back_is : (served : Inside) (v : Wire) (n : ℕ) → IsServed served → wire_of served ≡ v → IsSound v
-    → held_back_by (open_drain served.host (binding_of served.host n)) (is_open n served.service.groups) ≡ held_back v (binding_of v n)
+    → held_back_by (open_drain served.kept (binding_of served.kept n)) (is_open n served.service.groups) ≡ held_back v (binding_of v n)
 held_back_is served v n h view sound =
-    go (binding_of served.host n) refl ∙ ap (λ (w : Wire). held_back w (binding_of w n)) view
+    go (binding_of served.kept n) refl ∙ ap (λ (w : Wire). held_back w (binding_of w n)) view
   where
-    go : (o : Option BindingWire) → binding_of served.host n ≡ o
-        → held_back_by (open_drain served.host o) (is_open n served.service.groups) ≡ held_back (wire_of served) o
+    go : (o : Option BindingWire) → binding_of served.kept n ≡ o
+        → held_back_by (open_drain served.kept o) (is_open n served.service.groups) ≡ held_back (wire_of served) o
     go None is = refl
     go (Some b) is =
-        let at = is_found (λ (x : BindingWire). x.binding == n) served.host.bindings b is in
-        let number = number_is served.host n b is in
-        let unit = unit_with (service_seen served.workers served.service).groups served.host.parts b.endpoint in
+        let at = is_found (λ (x : BindingWire). x.binding == n) served.kept.bindings b is in
+        let number = number_is served.kept n b is in
+        let unit = unit_with (service_seen served.workers served.service).groups served.kept.parts b.endpoint in
         let same = ap (λ (k : ℕ). is_open k served.service.groups) (sym number)
-        ∙ open_at served.service served.host served.workers at.place b h.housed (subst IsSound (sym view) sound) at.stands in
+        ∙ open_at served.service served.kept served.workers at.place b h.housed (subst IsSound (sym view) sound) at.stands in
         λ i. held_back_by
         (if is_draining b.stage then Some (sym unit i).is_open else None)
         (same i)
@@ -102,12 +102,12 @@ refused_otherwise v x (Some b) is = otherwise_by x (open_drain v (Some b)) (has_
 
 -- Where it isn't, the host decides.
 
-none_open : (served : Inside) (e n : ℕ) → IsServed served → has_open_group (part_of served.host e) n ≡ false
+none_open : (served : Inside) (e n : ℕ) → IsServed served → has_open_group (part_of served.kept e) n ≡ false
 none_open served e n h =
     ap (λ (w : Wire). has_open_group (part_of w e) n) h.apart
     ∙ ap (λ (groups : List HostGroupWire). has_open_group
-    (record (part_of (with_service served.workers no_service served.host) e) { host_groups = groups }) n)
-    (no_groups served.host.parts e)
+    (record (part_of (with_service served.workers no_service served.kept) e) { host_groups = groups }) n)
+    (no_groups served.kept.parts e)
 
 none_left : (is_open has_group : Bool) → None ≡ held_back_by (Some is_open) has_group → has_group ≡ false
 none_left is_open false is = refl
@@ -135,12 +135,12 @@ same_by service w b (InvalidatingWire cookie) groups =
 same_by service w b QuietWire groups = refl
 same_by service w b LostWire groups = λ i. resetting_with service w b.endpoint i ∷ (true, refusal.NotYet) ∷ []
 
-decide_same : (served : Inside) (n : ℕ) → IsServed served → None ≡ held_back (wire_of served) (binding_of served.host n)
-    → decide_of (wire_of served) (step.Advance n) ≡ decide_of served.host (step.Advance n)
-decide_same served n h is = go (binding_of served.host n) is
+decide_same : (served : Inside) (n : ℕ) → IsServed served → None ≡ held_back (wire_of served) (binding_of served.kept n)
+    → decide_of (wire_of served) (step.Advance n) ≡ decide_of served.kept (step.Advance n)
+decide_same served n h is = go (binding_of served.kept n) is
   where
     groups : (b : BindingWire) → None ≡ held_back (wire_of served) (Some b) → is_draining b.stage ≡ true
-        → has_open_group (part_of (wire_of served) b.endpoint) b.binding ≡ has_open_group (part_of served.host b.endpoint) b.binding
+        → has_open_group (part_of (wire_of served) b.endpoint) b.binding ≡ has_open_group (part_of served.kept b.endpoint) b.binding
     groups b is drains =
         none_left (unit_of (wire_of served) b.endpoint).is_open (has_open_group (part_of (wire_of served) b.endpoint) b.binding)
         (is
@@ -150,11 +150,11 @@ decide_same served n h is = go (binding_of served.host n) is
 
     go : (o : Option BindingWire) → None ≡ held_back (wire_of served) o
         → checked (advance_causes (wire_of served) o) (of_binding (λ (b : BindingWire). outcomes.advance_by b b.stage) o)
-        ≡ checked (advance_causes served.host o) (of_binding (λ (b : BindingWire). outcomes.advance_by b b.stage) o)
+        ≡ checked (advance_causes served.kept o) (of_binding (λ (b : BindingWire). outcomes.advance_by b b.stage) o)
     go None is = refl
     go (Some b) is =
         ap (λ (cs : List Cause). checked cs (outcomes.advance_by b b.stage))
-        (same_by (service_seen served.workers served.service) served.host b b.stage (groups b is))
+        (same_by (service_seen served.workers served.service) served.kept b b.stage (groups b is))
 
 result_leaves : (o : Option BindingWire) → LeaveService (of_binding (λ (b : BindingWire). outcomes.advance_by b b.stage) o).moves
 result_leaves None = tt
@@ -172,20 +172,20 @@ leaves : (w : Wire) (n : ℕ) → LeaveService (decide_of w (step.Advance n)).mo
 leaves w n = checked_leaves (advance_causes w (binding_of w n)) (result_of w (step.Advance n)) (result_leaves (binding_of w n))
 
 pub advanced : (served : Inside) (v : Wire) (n : ℕ) (r : Reply) (after : Wire) → wire_of served ≡ v → IsServed served → None ≡ held_back v (binding_of v n)
-    → ByLabels served.host (step.Advance n) r after → ByLabels v (step.Advance n) r (wire_of (record served { host = after }))
+    → ByLabels served.kept (step.Advance n) r after → ByLabels v (step.Advance n) r (wire_of (record served { kept = after }))
 advanced served v n r after view h free is =
-    subst (λ (u : Wire). ByLabels u (step.Advance n) r (wire_of (record served { host = after }))) view
-    (subst (λ (d : Decision). Does d (wire_of served) r (wire_of (record served { host = after })))
+    subst (λ (u : Wire). ByLabels u (step.Advance n) r (wire_of (record served { kept = after }))) view
+    (subst (λ (d : Decision). Does d (wire_of served) r (wire_of (record served { kept = after })))
     (sym (decide_same served n h (free ∙ ap (λ (w : Wire). held_back w (binding_of w n)) (sym view))))
-    (does_with (service_seen served.workers served.service) (decide_of served.host (step.Advance n)) served.host after r (leaves served.host n) is))
+    (does_with (service_seen served.workers served.service) (decide_of served.kept (step.Advance n)) served.kept after r (leaves served.kept n) is))
 
-pub advance_still : (served : Inside) (n : ℕ) (r : Reply) (after : Wire) → IsServed served → ByLabels served.host (step.Advance n) r after
-    → IsServed (record served { host = after })
+pub advance_still : (served : Inside) (n : ℕ) (r : Reply) (after : Wire) → IsServed served → ByLabels served.kept (step.Advance n) r after
+    → IsServed (record served { kept = after })
 advance_still served n r after h is =
     record {
-      apart = does_apart _ (decide_of served.host (step.Advance n)) served.host after r (leaves served.host n) h.apart is;
+      apart = does_apart _ (decide_of served.kept (step.Advance n)) served.kept after r (leaves served.kept n) h.apart is;
       few = h.few;
       sound = h.sound;
-      serials = omega (arith, h.serials, waits_counted (step.Advance n) r served.host after is);
-      housed = housed_still (decide_of served.host (step.Advance n)) served.host after r served.service h.housed is;
+      serials = omega (arith, h.serials, waits_counted (step.Advance n) r served.kept after is);
+      housed = housed_still (decide_of served.kept (step.Advance n)) served.kept after r served.service h.housed is;
     }

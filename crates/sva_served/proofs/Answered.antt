@@ -10,13 +10,13 @@ use Rattle.sva_served.specs.Inner.{wire_of}
 use Rattle.sva_served.specs.declared.served.Served.TheInside.{Inside}
 use Rattle.sva_served.proofs.Parts.{unit_with}
 
-pub unit_seen : (served : Inside) (v : Wire) (e : ℕ) → wire_of served ≡ v → unit_of served.host e ≡ unit_of v e
-unit_seen served v e view = sym (unit_with (service_seen served.workers served.service).groups served.host.parts e) ∙ ap (λ (w : Wire). unit_of w e) view
+pub unit_seen : (served : Inside) (v : Wire) (e : ℕ) → wire_of served ≡ v → unit_of served.kept e ≡ unit_of v e
+unit_seen served v e view = sym (unit_with (service_seen served.workers served.service).groups served.kept.parts e) ∙ ap (λ (w : Wire). unit_of w e) view
 
 answers_with : (service : ServiceWire) (w : Wire) (o : Option FlightWire) → answers w o ≡ answers (serving service w) o
 answers_with service w None = refl
 answers_with service w (Some f) = ap (λ (unit : UnitWire). delivery_sends unit f.message) (sym (unit_with service.groups w.parts f.endpoint))
 
-pub answers_seen : (served : Inside) (v : Wire) (n : ℕ) → wire_of served ≡ v → answers served.host (flight_of served.host n) ≡ answers v (flight_of v n)
+pub answers_seen : (served : Inside) (v : Wire) (n : ℕ) → wire_of served ≡ v → answers served.kept (flight_of served.kept n) ≡ answers v (flight_of v n)
 answers_seen served v n view =
-    answers_with (service_seen served.workers served.service) served.host (flight_of served.host n) ∙ ap (λ (w : Wire). answers w (flight_of w n)) view
+    answers_with (service_seen served.workers served.service) served.kept (flight_of served.kept n) ∙ ap (λ (w : Wire). answers w (flight_of w n)) view

@@ -47,21 +47,21 @@ use Rattle.sva_served.proofs.Decisions.{there_with, resetting_with}
 causes_with : (service : ServiceWire) (w : Wire) (e : ℕ) → causes_of (serving service w) (step.Serve e) ≡ causes_of w (step.Serve e)
 causes_with service w e = λ i. there_with service w e i ∷ resetting_with service w e i ∷ []
 
-pub serve_refused : (served : Inside) (e : ℕ) (x : Refusal) → MayStep served.host (step.Serve e) (Err x)
+pub serve_refused : (served : Inside) (e : ℕ) (x : Refusal) → MayStep served.kept (step.Serve e) (Err x)
     → ByLabels (wire_of served) (step.Serve e) (Err x) (wire_of served)
 serve_refused served e x may =
     refused_by (tt {0}) (causes_of (wire_of served) (step.Serve e)) [] (result_of (wire_of served) (step.Serve e)) (wire_of served) x (tt, (tt, tt))
-    (ap (λ (causes : List Cause). unless_refused causes (tt {0})) (causes_with (service_seen served.workers served.service) served.host e) ∙ sym may)
+    (ap (λ (causes : List Cause). unless_refused causes (tt {0})) (causes_with (service_seen served.workers served.service) served.kept e) ∙ sym may)
 
 -- where nothing refuses the step, the queue decides
-decides : (served : Inside) (e : ℕ) → MayStep served.host (step.Serve e) (Ok tt) → (queue : List PageRequestWire)
-    → (part_of served.host e).page_queue ≡ queue
+decides : (served : Inside) (e : ℕ) → MayStep served.kept (step.Serve e) (Ok tt) → (queue : List PageRequestWire)
+    → (part_of served.kept e).page_queue ≡ queue
     → decide_of (wire_of served) (step.Serve e) ≡ checked [] (serve_result (wire_of served) (part_of (wire_of served) e) e queue)
 decides served e may queue is =
     passed (tt {0}) (tt {0}) (causes_of (wire_of served) (step.Serve e)) [] (result_of (wire_of served) (step.Serve e))
-    (ap (λ (causes : List Cause). unless_refused causes (tt {0})) (causes_with (service_seen served.workers served.service) served.host e) ∙ sym may)
+    (ap (λ (causes : List Cause). unless_refused causes (tt {0})) (causes_with (service_seen served.workers served.service) served.kept e) ∙ sym may)
     ∙ ap (λ (q : List PageRequestWire). checked [] (serve_result (wire_of served) (part_of (wire_of served) e) e q))
-    (page_queue_with (service_seen served.workers served.service).groups served.host.parts e ∙ is)
+    (page_queue_with (service_seen served.workers served.service).groups served.kept.parts e ∙ is)
 
 -- it is there
 pub endpoint_there : (w : Wire) (e : ℕ) → MayStep w (step.Serve e) (Ok tt) → e < length w.parts
@@ -86,21 +86,21 @@ first_of (q ∷ queue) r first =
     ap (λ (x : PageRequestWire). x ∷ queue) same
 
 -- no page request waits
-pub serve_empty : (served : Inside) (e : ℕ) → MayStep served.host (step.Serve e) (Ok tt) → None ≡ slice_get (part_of served.host e).page_queue 0
+pub serve_empty : (served : Inside) (e : ℕ) → MayStep served.kept (step.Serve e) (Ok tt) → None ≡ slice_get (part_of served.kept e).page_queue 0
     → ByLabels (wire_of served) (step.Serve e) (Ok answer.Empty) (wire_of served)
 serve_empty served e may none =
     subst (λ (d : Decision). Does d (wire_of served) (Ok answer.Empty) (wire_of served))
-    (sym (decides served e may [] (none_first (part_of served.host e).page_queue none)))
+    (sym (decides served e may [] (none_first (part_of served.kept e).page_queue none)))
     (refl, refl)
 
 -- One waits.
 
 -- the head of a unit's queue, and the binding that bears its PASID
 pub record IsHead (served : Inside) (e : ℕ) (request : PageRequest) (binding : ℕ) : Type 0 where
-  pub there : e < length served.host.parts
-  pub head : (part_of served.host e).page_queue ≡ page_request_seen request ∷ drop 1 (part_of served.host e).page_queue
+  pub there : e < length served.kept.parts
+  pub head : (part_of served.kept e).page_queue ≡ page_request_seen request ∷ drop 1 (part_of served.kept e).page_queue
   pub bound : BindingWire
-  pub borne : bearer served.host e request.pasid ≡ Some bound
+  pub borne : bearer served.kept e request.pasid ≡ Some bound
   pub number : bound.binding ≡ binding
 
 -- the unit without its head
@@ -108,7 +108,7 @@ abbrev pub unqueued : Wire → (e : ℕ) → Wire
 unqueued w e = with_part w e (record (part_of w e) { page_queue = drop 1 (part_of w e).page_queue })
 
 abbrev pub after_filing : Inside → (e binding : ℕ) → PageRequest → Inside
-after_filing served e b request = record served { host = unqueued served.host e; service = filed (with_room served.service) e b request }
+after_filing served e b request = record served { kept = unqueued served.kept e; service = filed (with_room served.service) e b request }
 
 groups_there : (workers : ℕ) (s : Service) (w : Wire) (e : ℕ) → e < length w.parts → (part_of (with_service workers s w) e).host_groups
     ≡ groups_seen e s.groups
@@ -147,10 +147,10 @@ filed_seen workers s w e b request there = go request.last (seen.jobs (part_of (
     go false jobs = λ i. record w { parts = parts i; jobs = jobs i; hands = seen.hands workers i }
 
 -- what is decided
-filing : (served : Inside) (e b : ℕ) (request : PageRequest) → MayStep served.host (step.Serve e) (Ok tt) → IsHead served e request b
+filing : (served : Inside) (e b : ℕ) (request : PageRequest) → MayStep served.kept (step.Serve e) (Ok tt) → IsHead served e request b
     → decide_of (wire_of served) (step.Serve e) ≡ checked [] (file_result (part_of (wire_of served) e) e b (page_request_seen request) request.last)
 filing served e b request may is =
-    decides served e may (page_request_seen request ∷ drop 1 (part_of served.host e).page_queue) is.head
+    decides served e may (page_request_seen request ∷ drop 1 (part_of served.kept e).page_queue) is.head
     ∙ (λ i. checked [] (file_result (part_of (wire_of served) e) e (binding_or_0 (is.borne i)) (page_request_seen request) request.last))
     ∙ (λ i. checked [] (file_result (part_of (wire_of served) e) e (is.number i) (page_request_seen request) request.last))
 
@@ -163,21 +163,21 @@ answers p e b r true = refl
 answers p e b r false = refl
 
 pub serve_done : (served : Inside) (v : Wire) (e b : ℕ) (request : PageRequest) (r : Reply) (host : Wire) (service : Service) → wire_of served ≡ v
-    → MayStep served.host (step.Serve e) (Ok tt) → IsHead served e request b
-    → host ≡ unqueued served.host e → service ≡ filed (with_room served.service) e b request → r ≡ Ok (filing_answer request.last)
-    → ByLabels v (step.Serve e) r (wire_of (record served { host = host; service = service }))
+    → MayStep served.kept (step.Serve e) (Ok tt) → IsHead served e request b
+    → host ≡ unqueued served.kept e → service ≡ filed (with_room served.service) e b request → r ≡ Ok (filing_answer request.last)
+    → ByLabels v (step.Serve e) r (wire_of (record served { kept = host; service = service }))
 serve_done served v e b request r host service view may is takes files says =
-    subst (λ (u : Wire). ByLabels u (step.Serve e) r (wire_of (record served { host = host; service = service }))) view
-    (subst (λ (a : Reply). ByLabels (wire_of served) (step.Serve e) a (wire_of (record served { host = host; service = service }))) (sym says)
-    (subst (λ (d : Decision). Does d (wire_of served) (Ok (filing_answer request.last)) (wire_of (record served { host = host; service = service })))
+    subst (λ (u : Wire). ByLabels u (step.Serve e) r (wire_of (record served { kept = host; service = service }))) view
+    (subst (λ (a : Reply). ByLabels (wire_of served) (step.Serve e) a (wire_of (record served { kept = host; service = service }))) (sym says)
+    (subst (λ (d : Decision). Does d (wire_of served) (Ok (filing_answer request.last)) (wire_of (record served { kept = host; service = service })))
     (sym (filing served e b request may is)) (
       ap (λ (a : Answer). Ok a) (sym (answers (part_of (wire_of served) e) e b (page_request_seen request) request.last)),
-      (λ i. with_service served.workers (files i) (takes i)) ∙ filed_seen served.workers (with_room served.service) served.host e b request is.there,
+      (λ i. with_service served.workers (files i) (takes i)) ∙ filed_seen served.workers (with_room served.service) served.kept e b request is.there,
     )))
 
 -- for want of memory nothing changes
 pub serve_unfiled : (served : Inside) (v : Wire) (e b : ℕ) (request : PageRequest) (service : Service) → wire_of served ≡ v
-    → MayStep served.host (step.Serve e) (Ok tt) → IsHead served e request b → service ≡ served.service
+    → MayStep served.kept (step.Serve e) (Ok tt) → IsHead served e request b → service ≡ served.service
     → ByLabels v (step.Serve e) (Err refusal.OutOfMemory) (wire_of (record served { service = service }))
 serve_unfiled served v e b request service view may is same =
     subst (λ (u : Wire). ByLabels u (step.Serve e) (Err refusal.OutOfMemory) (wire_of (record served { service = service }))) view (
@@ -201,27 +201,27 @@ pub some_waits : (served : Inside) (v : Wire) (e b : ℕ) (request : PageRequest
     → (part_of v e).page_queue ≡ [] → ⊥
 some_waits served v e b request view is none = wrong (sym is.head ∙ sym queue ∙ none)
   where
-    queue : (part_of v e).page_queue ≡ (part_of served.host e).page_queue
-    queue = ap (λ (w : Wire). (part_of w e).page_queue) (sym view) ∙ page_queue_with (service_seen served.workers served.service).groups served.host.parts e
+    queue : (part_of v e).page_queue ≡ (part_of served.kept e).page_queue
+    queue = ap (λ (w : Wire). (part_of w e).page_queue) (sym view) ∙ page_queue_with (service_seen served.workers served.service).groups served.kept.parts e
 
-    wrong : page_request_seen request ∷ drop 1 (part_of served.host e).page_queue ≡ [] → ⊥
+    wrong : page_request_seen request ∷ drop 1 (part_of served.kept e).page_queue ≡ [] → ⊥
     wrong h = cc
 
 -- What the service asks for.
 
-pub head_is : (served : Inside) (e : ℕ) (request : PageRequest) (binding : ℕ) → MayStep served.host (step.Serve e) (Ok tt)
-    → Some (page_request_seen request) ≡ slice_get (part_of served.host e).page_queue 0
-    → Some binding ≡ option_map (λ (b : BindingWire). b.binding) (bearer served.host e request.pasid)
+pub head_is : (served : Inside) (e : ℕ) (request : PageRequest) (binding : ℕ) → MayStep served.kept (step.Serve e) (Ok tt)
+    → Some (page_request_seen request) ≡ slice_get (part_of served.kept e).page_queue 0
+    → Some binding ≡ option_map (λ (b : BindingWire). b.binding) (bearer served.kept e request.pasid)
     → IsHead served e request binding
-head_is served e request binding may first borne = go (bearer served.host e request.pasid) refl borne
+head_is served e request binding may first borne = go (bearer served.kept e request.pasid) refl borne
   where
-    go : (o : Option BindingWire) → bearer served.host e request.pasid ≡ o → Some binding ≡ option_map (λ (b : BindingWire). b.binding) o
+    go : (o : Option BindingWire) → bearer served.kept e request.pasid ≡ o → Some binding ≡ option_map (λ (b : BindingWire). b.binding) o
         → IsHead served e request binding
     go None found borne = absurd (cc (borne))
     go (Some b) found borne =
         record {
-          there = endpoint_there served.host e may;
-          head = first_of (part_of served.host e).page_queue (page_request_seen request) first;
+          there = endpoint_there served.kept e may;
+          head = first_of (part_of served.kept e).page_queue (page_request_seen request) first;
           bound = b;
           borne = found;
           number = cc;
@@ -230,23 +230,23 @@ head_is served e request binding may first borne = go (bearer served.host e requ
 at_the_head : (served : Inside) (e b : ℕ) (request : PageRequest) → IsHead served e request b → slice_get (part_of (wire_of served) e).page_queue 0
     ≡ Some (page_request_seen request)
 at_the_head served e b request is =
-    ap (λ (queue : List PageRequestWire). slice_get queue 0) (page_queue_with (service_seen served.workers served.service).groups served.host.parts e
+    ap (λ (queue : List PageRequestWire). slice_get queue 0) (page_queue_with (service_seen served.workers served.service).groups served.kept.parts e
     ∙ is.head)
 
-there_too : (served : Inside) (e : ℕ) → e < length served.host.parts → e < length (wire_of served).parts
-there_too served e there = omega (arith, there, length_with (service_seen served.workers served.service).groups served.host.parts)
+there_too : (served : Inside) (e : ℕ) → e < length served.kept.parts → e < length (wire_of served).parts
+there_too served e there = omega (arith, there, length_with (service_seen served.workers served.service).groups served.kept.parts)
 
 -- a PASID that waits finds its bearer
-pub never_lost : (served : Inside) (e : ℕ) (request : PageRequest) → IsSound (wire_of served) → MayStep served.host (step.Serve e) (Ok tt)
-    → Some (page_request_seen request) ≡ slice_get (part_of served.host e).page_queue 0
-    → None ≡ option_map (λ (b : BindingWire). b.binding) (bearer served.host e request.pasid) → ⊥
-never_lost served e request sound may first lost = go (bearer served.host e request.pasid) borne lost
+pub never_lost : (served : Inside) (e : ℕ) (request : PageRequest) → IsSound (wire_of served) → MayStep served.kept (step.Serve e) (Ok tt)
+    → Some (page_request_seen request) ≡ slice_get (part_of served.kept e).page_queue 0
+    → None ≡ option_map (λ (b : BindingWire). b.binding) (bearer served.kept e request.pasid) → ⊥
+never_lost served e request sound may first lost = go (bearer served.kept e request.pasid) borne lost
   where
-    borne : is_some (bearer served.host e request.pasid) ≡ true
+    borne : is_some (bearer served.kept e request.pasid) ≡ true
     borne =
-        sound.waiting_borne e 0 (page_request_seen request) (there_too served e (endpoint_there served.host e may))
+        sound.waiting_borne e 0 (page_request_seen request) (there_too served e (endpoint_there served.kept e may))
         (ap (λ (queue : List PageRequestWire). slice_get queue 0)
-        (page_queue_with (service_seen served.workers served.service).groups served.host.parts e) ∙ sym first)
+        (page_queue_with (service_seen served.workers served.service).groups served.kept.parts e) ∙ sym first)
 
     go : (o : Option BindingWire) → is_some o ≡ true → None ≡ option_map (λ (b : BindingWire). b.binding) o → ⊥
     go None some none = cc
@@ -256,7 +256,7 @@ pub can_file : (served : Inside) (e b : ℕ) (request : PageRequest) → IsServe
     → CanFile (with_room served.service) e b request
 can_file served e b request h sound is =
     filing_is_permitted (with_room served.service) (part_of (wire_of served) e) e b request
-    (groups_there served.workers served.service served.host e is.there) (omega arith) (omega arith)
+    (groups_there served.workers served.service served.kept e is.there) (omega arith) (omega arith)
     (omega (arith, h.serials, sound.messages_end))
     (subst (λ (n : ℕ). length (asks_of (find (is_begun n request.index) (part_of (wire_of served) e).host_groups)) < 32) is.number
     (sound.filing_fits e 0 (page_request_seen request) is.bound (there_too served e is.there) (at_the_head served e b request is) is.borne))
@@ -305,13 +305,13 @@ as_long w e = length-set w.parts e (record (part_of w e) { page_queue = drop 1 (
 
 pub serve_still : (served : Inside) (e b : ℕ) (request : PageRequest) (host : Wire) (service : Service) → IsServed served → IsSound (wire_of served)
     → IsHead served e request b
-    → host ≡ unqueued served.host e → service ≡ filed (with_room served.service) e b request → IsServed (record served { host = host; service = service })
+    → host ≡ unqueued served.kept e → service ≡ filed (with_room served.service) e b request → IsServed (record served { kept = host; service = service })
 serve_still served e b request host service h sound is takes files =
-    subst IsServed (λ i. record served { host = sym takes i; service = sym files i })
+    subst IsServed (λ i. record served { kept = sym takes i; service = sym files i })
     (record {
       apart =
           ap (λ (w : Wire). unqueued w e) h.apart
-          ∙ part_changed (service_seen served.workers no_service) served.host e (λ (p : EndpointWire). record p { page_queue = drop 1 p.page_queue })
+          ∙ part_changed (service_seen served.workers no_service) served.kept e (λ (p : EndpointWire). record p { page_queue = drop 1 p.page_queue })
           (λ p gs. refl);
       few = h.few;
       sound =
@@ -321,12 +321,12 @@ serve_still served e b request host service h sound is takes files =
           omega (
             arith,
             h.serials,
-            fewer_wait served.host e (page_request_seen request) (drop 1 (part_of served.host e).page_queue) is.there is.head,
+            fewer_wait served.kept e (page_request_seen request) (drop 1 (part_of served.kept e).page_queue) is.there is.head,
             one_serial (list_any (is_collecting e b request.index) served.service.groups.groups) served.service.groups.next,
           );
       housed =
-          housed_filed (unqueued served.host e) (with_room served.service) e b request (subst (λ (n : ℕ). e < n) (sym (as_long served.host e)) is.there)
-          (λ k past. h.housed k (subst (λ (n : ℕ). n ≤ k) (as_long served.host e) past));
+          housed_filed (unqueued served.kept e) (with_room served.service) e b request (subst (λ (n : ℕ). e < n) (sym (as_long served.kept e)) is.there)
+          (λ k past. h.housed k (subst (λ (n : ℕ). n ≤ k) (as_long served.kept e) past));
     })
 
 pub reserve_still : (served : Inside) (service : Service) → IsServed served → service ≡ served.service → IsServed (record served { service = service })

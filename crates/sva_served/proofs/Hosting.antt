@@ -74,27 +74,27 @@ waits_counted s _ w after does =
 
 -- A step that doesn't ask the service.
 
-pub hosted : (served : Inside) (v : Wire) (s : Step) (r : Reply) (after : Wire) → wire_of served ≡ v → AsksNoService s → ByLabels served.host s r after
-    → ByLabels v s r (wire_of (record served { host = after }))
+pub hosted : (served : Inside) (v : Wire) (s : Step) (r : Reply) (after : Wire) → wire_of served ≡ v → AsksNoService s → ByLabels served.kept s r after
+    → ByLabels v s r (wire_of (record served { kept = after }))
 hosted served v s r after view asks is =
-    subst (λ (u : Wire). ByLabels u s r (wire_of (record served { host = after }))) view (step_with _ served.host after s r asks is)
+    subst (λ (u : Wire). ByLabels u s r (wire_of (record served { kept = after }))) view (step_with _ served.kept after s r asks is)
 
-pub looked : (served : Inside) (v : Wire) (s : Step) (r : Reply) → wire_of served ≡ v → AsksNoService s → ByLabels served.host s r served.host
+pub looked : (served : Inside) (v : Wire) (s : Step) (r : Reply) → wire_of served ≡ v → AsksNoService s → ByLabels served.kept s r served.kept
     → ByLabels v s r v
-looked served v s r view asks is = subst (λ (u : Wire). ByLabels u s r u) view (step_with _ served.host served.host s r asks is)
+looked served v s r view asks is = subst (λ (u : Wire). ByLabels u s r u) view (step_with _ served.kept served.kept s r asks is)
 
-pub still : (served : Inside) (s : Step) (r : Reply) (after : Wire) → IsServed served → AsksNoService s → ByLabels served.host s r after
-    → IsServed (record served { host = after })
+pub still : (served : Inside) (s : Step) (r : Reply) (after : Wire) → IsServed served → AsksNoService s → ByLabels served.kept s r after
+    → IsServed (record served { kept = after })
 still served s r after h asks is =
     record {
-      apart = does_apart _ (decide_of served.host s) served.host after r (decide_leaves served.host s asks) h.apart is;
+      apart = does_apart _ (decide_of served.kept s) served.kept after r (decide_leaves served.kept s asks) h.apart is;
       few = h.few;
       sound = h.sound;
-      serials = omega (arith, h.serials, waits_counted s r served.host after is);
-      housed = housed_still (decide_of served.host s) served.host after r served.service h.housed is;
+      serials = omega (arith, h.serials, waits_counted s r served.kept after is);
+      housed = housed_still (decide_of served.kept s) served.kept after r served.service h.housed is;
     }
 
 -- A step that the host refused.
-pub refused_still : (served : Inside) (after : Wire) (s : Step) (x : Refusal) → IsServed served → ByLabels served.host s (Err x) after
-    → IsServed (record served { host = after })
-refused_still served after s x h is = subst (λ (w : Wire). IsServed (record served { host = w })) (sym (refused_same served.host after s x is)) h
+pub refused_still : (served : Inside) (after : Wire) (s : Step) (x : Refusal) → IsServed served → ByLabels served.kept s (Err x) after
+    → IsServed (record served { kept = after })
+refused_still served after s x h is = subst (λ (w : Wire). IsServed (record served { kept = w })) (sym (refused_same served.kept after s x is)) h

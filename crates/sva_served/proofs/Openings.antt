@@ -29,7 +29,7 @@ empty_hands (suc (suc (suc (suc (suc n))))) few = absurd (omega arith)
 pub opened_apart : (config : Config) → config.workers ≤ 4 → with_service config.workers no_service (first_wire config) ≡ first_wire config
 opened_apart config few = λ i. record (first_wire config) { parts = with_own config.endpoints idle refl i; hands = empty_hands config.workers few i }
 
-pub opened_seen : (served : Inside) (config : Config) → config.workers ≤ 4 → served.host ≡ first_wire config → served.service ≡ no_service
+pub opened_seen : (served : Inside) (config : Config) → config.workers ≤ 4 → served.kept ≡ first_wire config → served.service ≡ no_service
     → served.workers ≡ config.workers
     → wire_of served ≡ first_wire config
 opened_seen served config few host service workers = (λ i. with_service (workers i) (service i) (host i)) ∙ opened_apart config few
@@ -37,7 +37,7 @@ opened_seen served config few host service workers = (λ i. with_service (worker
 none_filed : (config : Config) (next : ℕ) → next ≡ 0 → next + waiting (first_wire config) ≤ config.first
 none_filed config next none = omega (arith, none, none_waiting config)
 
-pub opened : (served : Inside) (config : Config) → config.workers ≤ 4 → served.host ≡ first_wire config → served.service ≡ no_service
+pub opened : (served : Inside) (config : Config) → config.workers ≤ 4 → served.kept ≡ first_wire config → served.service ≡ no_service
     → served.workers ≡ config.workers → IsServed served
 opened served config few host service workers =
     record {
@@ -46,5 +46,5 @@ opened served config few host service workers =
       sound = subst (λ (s : Service). IsSound served.workers s) (sym service) (first_sound served.workers);
       serials = subst (λ (w : Wire). served.service.groups.next + waiting w ≤ w.next_message) (sym host)
           (none_filed config served.service.groups.next (ap (λ (s : Service). s.groups.next) service));
-      housed = subst (AreHoused served.host) (sym service) (λ e past. refl);
+      housed = subst (AreHoused served.kept) (sym service) (λ e past. refl);
     }

@@ -77,13 +77,13 @@ by_with service w x job maps (Some code) = refl
 
 decides : (served : Inside) (x : ℕ) (job : JobWire) (v : Verdict) → nat_lt x (length (wire_of served).hands) ≡ true → held_by (wire_of served) x ≡ Some job
     → decide_of (wire_of served) (step.Reply x v)
-    ≡ checked (reply_causes served.host v (Some job)) (reply_by served.host x job (reply_maps served.host job v) (response_to served.host job v))
+    ≡ checked (reply_causes served.kept v (Some job)) (reply_by served.kept x job (reply_maps served.kept job v) (response_to served.kept job v))
 decides served x job v there held =
     (λ i. checked ((not (there i), refusal.NoSuchWorker) ∷ reply_causes (wire_of served) v (held i)) (reply_result (wire_of served) x v (held i)))
-    ∙ (λ i. checked (causes_with service served.host job v i)
-    (reply_by (wire_of served) x job (maps_with service served.host job v i) (response_with service served.host job v i)))
-    ∙ (λ i. checked (reply_causes served.host v (Some job))
-    (by_with service served.host x job (reply_maps served.host job v) (response_to served.host job v) i))
+    ∙ (λ i. checked (causes_with service served.kept job v i)
+    (reply_by (wire_of served) x job (maps_with service served.kept job v i) (response_with service served.kept job v i)))
+    ∙ (λ i. checked (reply_causes served.kept v (Some job))
+    (by_with service served.kept x job (reply_maps served.kept job v) (response_to served.kept job v) i))
   where
     service : ServiceWire
     service = service_seen served.workers served.service
@@ -213,77 +213,77 @@ answer_seen served x job h is = service_answers.groups served.workers served.ser
 job_is : (served : Inside) (x : ℕ) (job : Job) → IsSound (wire_of served) → IsHeld served x job → IsJob (wire_of served) (job_seen job)
 job_is served x job sound is = sound.jobs_held x (job_seen job) (seen_held served x job is)
 
-unit_there : (served : Inside) (x : ℕ) (job : Job) → IsSound (wire_of served) → IsHeld served x job → job.unit < length served.host.parts
+unit_there : (served : Inside) (x : ℕ) (job : Job) → IsSound (wire_of served) → IsHeld served x job → job.unit < length served.kept.parts
 unit_there served x job sound is =
-    subst (λ (n : ℕ). job.unit < n) (length_with (service_seen served.workers served.service).groups served.host.parts)
+    subst (λ (n : ℕ). job.unit < n) (length_with (service_seen served.workers served.service).groups served.kept.parts)
     (job_is served x job sound is).endpoint_low
 
 -- a job that gets no response has no open group
 closed : (served : Inside) (x : ℕ) (job : Job) (v : Verdict) → IsSound (wire_of served) → IsHeld served x job
-    → response_to served.host (job_seen job) v ≡ None
+    → response_to served.kept (job_seen job) v ≡ None
     → list_any (is_of_job (job_seen job)) (groups_seen job.unit served.service.groups) ≡ false
 closed served x job v sound is none =
     sym (ap (λ (p : EndpointWire). list_any (is_of_job (job_seen job)) p.host_groups)
-    (part_with (service_seen served.workers served.service).groups served.host.parts job.unit (unit_there served x job sound is)))
+    (part_with (service_seen served.workers served.service).groups served.kept.parts job.unit (unit_there served x job sound is)))
     ∙ sound.dropped_closed x (job_seen job) (seen_held served x job is)
-    (responds_none (wire_of served) (job_seen job) v (response_with (service_seen served.workers served.service) served.host (job_seen job) v ∙ none))
+    (responds_none (wire_of served) (job_seen job) v (response_with (service_seen served.workers served.service) served.kept (job_seen job) v ∙ none))
 
 after_reply : (served : Inside) (x : ℕ) (job : Job) (v : Verdict) (o : Option Code) → IsServed served → IsSound (wire_of served) → IsHeld served x job
-    → response_to served.host (job_seen job) v ≡ o
+    → response_to served.kept (job_seen job) v ≡ o
     → with_service served.workers (after_answer served.service x)
-    (all_moved served.host (responded_by served.host (job_seen job) (reply_maps served.host (job_seen job) v) o).moves)
-    ≡ all_moved (wire_of served) (reply_by served.host x (job_seen job) (reply_maps served.host (job_seen job) v) o).moves
+    (all_moved served.kept (responded_by served.kept (job_seen job) (reply_maps served.kept (job_seen job) v) o).moves)
+    ≡ all_moved (wire_of served) (reply_by served.kept x (job_seen job) (reply_maps served.kept (job_seen job) v) o).moves
 after_reply served x job v None h sound is none =
-    dropped served.workers served.service x served.host ((answer_seen served x job h is).dropped (closed served x job v sound is none))
+    dropped served.workers served.service x served.kept ((answer_seen served x job h is).dropped (closed served x job v sound is none))
 after_reply served x job v (Some code) h sound is some =
-    responded served.workers served.service x job served.host (reply_maps served.host (job_seen job) v) (pasid_or_0 (binding_of served.host job.binding)) code
-    (answer_seen served x job h is) (are_maps served.host (job_seen job) v) (unit_there served x job sound is)
+    responded served.workers served.service x job served.kept (reply_maps served.kept (job_seen job) v) (pasid_or_0 (binding_of served.kept job.binding)) code
+    (answer_seen served x job h is) (are_maps served.kept (job_seen job) v) (unit_there served x job sound is)
 
 -- The step.
 
 pub reply_done : (served : Inside) (w : Wire) (x : ℕ) (job : Job) (v : Verdict) (a : Answer) (after : Wire) (left : Service) → wire_of served ≡ w
     → IsServed served → IsSound (wire_of served) → IsHeld served x job
-    → Does (responded_of served.host (job_seen job) v) served.host (Ok a) after → left ≡ after_answer served.service x
-    → ByLabels w (step.Reply x v) (Ok a) (wire_of (record served { host = after; service = left }))
+    → Does (responded_of served.kept (job_seen job) v) served.kept (Ok a) after → left ≡ after_answer served.service x
+    → ByLabels w (step.Reply x v) (Ok a) (wire_of (record served { kept = after; service = left }))
 reply_done served w x job v a after left view h sound is does lets =
-    subst (λ (u : Wire). ByLabels u (step.Reply x v) (Ok a) (wire_of (record served { host = after; service = left }))) view
-    (subst (λ (d : Decision). Does d (wire_of served) (Ok a) (wire_of (record served { host = after; service = left })))
+    subst (λ (u : Wire). ByLabels u (step.Reply x v) (Ok a) (wire_of (record served { kept = after; service = left }))) view
+    (subst (λ (d : Decision). Does d (wire_of served) (Ok a) (wire_of (record served { kept = after; service = left })))
     (sym (decides served x (job_seen job) v (seen_there served x job h is) (seen_held served x job is))) (
       says,
       (λ i. with_service served.workers (lets i) (moves i))
-          ∙ after_reply served x job v (response_to served.host (job_seen job) v) h sound is refl
+          ∙ after_reply served x job v (response_to served.kept (job_seen job) v) h sound is refl
           ∙ sym (ap (all_moved (wire_of served))
-          (accepted (reply_causes served.host v (Some (job_seen job)))
-          (reply_by served.host x (job_seen job) (reply_maps served.host (job_seen job) v) (response_to served.host (job_seen job) v)) a says)),
+          (accepted (reply_causes served.kept v (Some (job_seen job)))
+          (reply_by served.kept x (job_seen job) (reply_maps served.kept (job_seen job) v) (response_to served.kept (job_seen job) v)) a says)),
     ))
   where
     says : Ok a
-        ≡ (checked (reply_causes served.host v (Some (job_seen job)))
-        (reply_by served.host x (job_seen job) (reply_maps served.host (job_seen job) v) (response_to served.host (job_seen job) v))).reply
+        ≡ (checked (reply_causes served.kept v (Some (job_seen job)))
+        (reply_by served.kept x (job_seen job) (reply_maps served.kept (job_seen job) v) (response_to served.kept (job_seen job) v))).reply
     says =
         does.0
-        ∙ sym (same_reply (reply_causes served.host v (Some (job_seen job)))
-        (reply_by served.host x (job_seen job) (reply_maps served.host (job_seen job) v) (response_to served.host (job_seen job) v))
-        (responded_by served.host (job_seen job) (reply_maps served.host (job_seen job) v) (response_to served.host (job_seen job) v))
-        (same_answer served.host x (job_seen job) (reply_maps served.host (job_seen job) v) (response_to served.host (job_seen job) v)))
+        ∙ sym (same_reply (reply_causes served.kept v (Some (job_seen job)))
+        (reply_by served.kept x (job_seen job) (reply_maps served.kept (job_seen job) v) (response_to served.kept (job_seen job) v))
+        (responded_by served.kept (job_seen job) (reply_maps served.kept (job_seen job) v) (response_to served.kept (job_seen job) v))
+        (same_answer served.kept x (job_seen job) (reply_maps served.kept (job_seen job) v) (response_to served.kept (job_seen job) v)))
 
-    moves : after ≡ all_moved served.host
-        (responded_by served.host (job_seen job) (reply_maps served.host (job_seen job) v) (response_to served.host (job_seen job) v)).moves
+    moves : after ≡ all_moved served.kept
+        (responded_by served.kept (job_seen job) (reply_maps served.kept (job_seen job) v) (response_to served.kept (job_seen job) v)).moves
     moves =
         does.1
-        ∙ ap (all_moved served.host)
-        (accepted (reply_causes served.host v (Some (job_seen job)))
-        (responded_by served.host (job_seen job) (reply_maps served.host (job_seen job) v) (response_to served.host (job_seen job) v)) a does.0)
+        ∙ ap (all_moved served.kept)
+        (accepted (reply_causes served.kept v (Some (job_seen job)))
+        (responded_by served.kept (job_seen job) (reply_maps served.kept (job_seen job) v) (response_to served.kept (job_seen job) v)) a does.0)
 
 -- a reply that is refused
 unanswered : (served : Inside) (job : JobWire) (v : Verdict) (y : Refusal) (after : Wire)
-    → Does (responded_of served.host job v) served.host (Err y) after → after ≡ served.host
+    → Does (responded_of served.kept job v) served.kept (Err y) after → after ≡ served.kept
 unanswered served job v refusal.OutOfMemory after does = does.1
 unanswered served job v _ after does =
     does.1
-    ∙ ap (all_moved served.host)
-    (moves_nothing (reply_causes served.host v (Some job))
-    (responded_by served.host job (reply_maps served.host job v) (response_to served.host job v)) _ (sym does.0))
+    ∙ ap (all_moved served.kept)
+    (moves_nothing (reply_causes served.kept v (Some job))
+    (responded_by served.kept job (reply_maps served.kept job v) (response_to served.kept job v)) _ (sym does.0))
 
 refused_alike : (d e : Decision) (w v after : Wire) (y : Refusal) → d.reply ≡ e.reply → (e.reply ≡ Err y → e.moves ≡ []) → Does d w (Err y) after
     → Does e v (Err y) v
@@ -291,29 +291,29 @@ refused_alike d e w v after refusal.OutOfMemory same nothing does = (subst IsOk 
 refused_alike d e w v after _ same nothing does = (does.0 ∙ same, sym (ap (all_moved v) (nothing (sym same ∙ sym does.0))))
 
 pub reply_refused : (served : Inside) (x : ℕ) (job : Job) (v : Verdict) (y : Refusal) (after : Wire) → IsServed served → IsHeld served x job
-    → Does (responded_of served.host (job_seen job) v) served.host (Err y) after
-    → ByLabels (wire_of served) (step.Reply x v) (Err y) (wire_of (record served { host = after }))
+    → Does (responded_of served.kept (job_seen job) v) served.kept (Err y) after
+    → ByLabels (wire_of served) (step.Reply x v) (Err y) (wire_of (record served { kept = after }))
 reply_refused served x job v y after h is does =
-    subst (λ (u : Wire). ByLabels (wire_of served) (step.Reply x v) (Err y) (wire_of (record served { host = u })))
+    subst (λ (u : Wire). ByLabels (wire_of served) (step.Reply x v) (Err y) (wire_of (record served { kept = u })))
     (sym (unanswered served (job_seen job) v y after does))
     (subst (λ (d : Decision). Does d (wire_of served) (Err y) (wire_of served))
     (sym (decides served x (job_seen job) v (seen_there served x job h is) (seen_held served x job is)))
-    (refused_alike (responded_of served.host (job_seen job) v)
-    (checked (reply_causes served.host v (Some (job_seen job)))
-    (reply_by served.host x (job_seen job) (reply_maps served.host (job_seen job) v) (response_to served.host (job_seen job) v)))
-    served.host (wire_of served) after y
-    (sym (same_reply (reply_causes served.host v (Some (job_seen job)))
-    (reply_by served.host x (job_seen job) (reply_maps served.host (job_seen job) v) (response_to served.host (job_seen job) v))
-    (responded_by served.host (job_seen job) (reply_maps served.host (job_seen job) v) (response_to served.host (job_seen job) v))
-    (same_answer served.host x (job_seen job) (reply_maps served.host (job_seen job) v) (response_to served.host (job_seen job) v))))
-    (moves_nothing (reply_causes served.host v (Some (job_seen job)))
-    (reply_by served.host x (job_seen job) (reply_maps served.host (job_seen job) v) (response_to served.host (job_seen job) v)) y)
+    (refused_alike (responded_of served.kept (job_seen job) v)
+    (checked (reply_causes served.kept v (Some (job_seen job)))
+    (reply_by served.kept x (job_seen job) (reply_maps served.kept (job_seen job) v) (response_to served.kept (job_seen job) v)))
+    served.kept (wire_of served) after y
+    (sym (same_reply (reply_causes served.kept v (Some (job_seen job)))
+    (reply_by served.kept x (job_seen job) (reply_maps served.kept (job_seen job) v) (response_to served.kept (job_seen job) v))
+    (responded_by served.kept (job_seen job) (reply_maps served.kept (job_seen job) v) (response_to served.kept (job_seen job) v))
+    (same_answer served.kept x (job_seen job) (reply_maps served.kept (job_seen job) v) (response_to served.kept (job_seen job) v))))
+    (moves_nothing (reply_causes served.kept v (Some (job_seen job)))
+    (reply_by served.kept x (job_seen job) (reply_maps served.kept (job_seen job) v) (response_to served.kept (job_seen job) v)) y)
     does))
 
 pub reply_kept : (served : Inside) (job : JobWire) (v : Verdict) (y : Refusal) (after : Wire) → IsServed served
-    → Does (responded_of served.host job v) served.host (Err y) after
-    → IsServed (record served { host = after })
-reply_kept served job v y after h does = subst (λ (w : Wire). IsServed (record served { host = w })) (sym (unanswered served job v y after does)) h
+    → Does (responded_of served.kept job v) served.kept (Err y) after
+    → IsServed (record served { kept = after })
+reply_kept served job v y after h does = subst (λ (w : Wire). IsServed (record served { kept = w })) (sym (unanswered served job v y after does)) h
 
 -- One that is dropped sends nothing.
 
@@ -339,18 +339,18 @@ no_response w x job maps None is = refl
 no_response w x job maps (Some code) is = absurd (never_dropped (length maps) code is)
 
 pub sends_none : (served : Inside) (w : Wire) (x : ℕ) (job : Job) (v : Verdict) → wire_of served ≡ w → IsServed served → IsHeld served x job
-    → reply_of w (step.Reply x v) ≡ Ok answer.Dropped → responds served.host (job_seen job) ≡ false
+    → reply_of w (step.Reply x v) ≡ Ok answer.Dropped → responds served.kept (job_seen job) ≡ false
 sends_none served w x job v view h is drops =
-    responds_none served.host (job_seen job) v
-    (no_response served.host x (job_seen job) (reply_maps served.host (job_seen job) v) (response_to served.host (job_seen job) v)
-    (answered_by (reply_causes served.host v (Some (job_seen job)))
-    (reply_by served.host x (job_seen job) (reply_maps served.host (job_seen job) v) (response_to served.host (job_seen job) v)) answer.Dropped
+    responds_none served.kept (job_seen job) v
+    (no_response served.kept x (job_seen job) (reply_maps served.kept (job_seen job) v) (response_to served.kept (job_seen job) v)
+    (answered_by (reply_causes served.kept v (Some (job_seen job)))
+    (reply_by served.kept x (job_seen job) (reply_maps served.kept (job_seen job) v) (response_to served.kept (job_seen job) v)) answer.Dropped
     (sym (ap (λ (d : Decision). d.reply) (decides served x (job_seen job) v (seen_there served x job h is) (seen_held served x job is)))
     ∙ ap (λ (u : Wire). reply_of u (step.Reply x v)) view ∙ drops)))
 
 -- What the host asks for.
 
-pub job_alone : (served : Inside) (x : ℕ) (job : Job) → IsSound (wire_of served) → IsHeld served x job → IsJob served.host (job_seen job)
+pub job_alone : (served : Inside) (x : ℕ) (job : Job) → IsSound (wire_of served) → IsHeld served x job → IsJob served.kept (job_seen job)
 job_alone served x job sound is =
     let there = job_is served x job sound is in
     record {
@@ -372,9 +372,9 @@ found_at n (x ∷ bindings) b is = go (x.binding == n) is (found_at n bindings b
     go true is rest = (0, is)
     go false is rest = let later = rest is in (suc later.0, later.1)
 
-pub space_there : (served : Inside) (n : ℕ) → HaveSpaces (wire_of served) → (b : BindingWire) → binding_of served.host n ≡ Some b
-    → is_space served.host b.space ≡ true
-space_there served n have b found = let at = found_at n served.host.bindings b found in have at.0 b at.1
+pub space_there : (served : Inside) (n : ℕ) → HaveSpaces (wire_of served) → (b : BindingWire) → binding_of served.kept n ≡ Some b
+    → is_space served.kept b.space ≡ true
+space_there served n have b found = let at = found_at n served.kept.bindings b found in have at.0 b at.1
 
 -- What stays so.
 
@@ -417,15 +417,15 @@ next_same s x job held = ap (λ (o : Option Job). (after_answer_of s x o).groups
 
 pub reply_still : (served : Inside) (x : ℕ) (job : Job) (v : Verdict) (a : Answer) (after : Wire) (left : Service) → IsServed served
     → IsSound (wire_of served) → IsHeld served x job
-    → Does (responded_of served.host (job_seen job) v) served.host (Ok a) after → left ≡ after_answer served.service x
-    → IsServed (record served { host = after; service = left })
+    → Does (responded_of served.kept (job_seen job) v) served.kept (Ok a) after → left ≡ after_answer served.service x
+    → IsServed (record served { kept = after; service = left })
 reply_still served x job v a after left h sound is does lets =
-    subst IsServed (λ i. record served { host = sym moves i; service = sym lets i })
+    subst IsServed (λ i. record served { kept = sym moves i; service = sym lets i })
     (record {
       apart =
-          apart_after (service_seen served.workers no_service) served.host (job_seen job) (reply_maps served.host (job_seen job) v)
-          (response_to served.host (job_seen job) v) (λ e. refl)
-          (are_maps served.host (job_seen job) v) (unit_there served x job sound is) h.apart;
+          apart_after (service_seen served.workers no_service) served.kept (job_seen job) (reply_maps served.kept (job_seen job) v)
+          (response_to served.kept (job_seen job) v) (λ e. refl)
+          (are_maps served.kept (job_seen job) v) (unit_there served x job sound is) h.apart;
       few = h.few;
       sound = sound_is_kept.answered served.workers served.service x h.sound;
       serials =
@@ -433,19 +433,19 @@ reply_still served x job v a after left h sound is does lets =
             arith,
             h.serials,
             next_same served.service x job is.held,
-            waits_less served.host (job_seen job) (reply_maps served.host (job_seen job) v) (response_to served.host (job_seen job) v)
-                (are_maps served.host (job_seen job) v),
+            waits_less served.kept (job_seen job) (reply_maps served.kept (job_seen job) v) (response_to served.kept (job_seen job) v)
+                (are_maps served.kept (job_seen job) v),
           );
       housed =
           subst (λ (w : Wire). AreHoused w (after_answer served.service x)) moves
-          (housed_still (responded_of served.host (job_seen job) v) served.host after (Ok a) (after_answer served.service x)
-          (housed_answered served.host served.workers served.service x job h.sound is.held h.housed) does);
+          (housed_still (responded_of served.kept (job_seen job) v) served.kept after (Ok a) (after_answer served.service x)
+          (housed_answered served.kept served.workers served.service x job h.sound is.held h.housed) does);
     })
   where
-    moves : after ≡ all_moved served.host
-        (responded_by served.host (job_seen job) (reply_maps served.host (job_seen job) v) (response_to served.host (job_seen job) v)).moves
+    moves : after ≡ all_moved served.kept
+        (responded_by served.kept (job_seen job) (reply_maps served.kept (job_seen job) v) (response_to served.kept (job_seen job) v)).moves
     moves =
         does.1
-        ∙ ap (all_moved served.host)
-        (accepted (reply_causes served.host v (Some (job_seen job)))
-        (responded_by served.host (job_seen job) (reply_maps served.host (job_seen job) v) (response_to served.host (job_seen job) v)) a does.0)
+        ∙ ap (all_moved served.kept)
+        (accepted (reply_causes served.kept v (Some (job_seen job)))
+        (responded_by served.kept (job_seen job) (reply_maps served.kept (job_seen job) v) (response_to served.kept (job_seen job) v)) a does.0)

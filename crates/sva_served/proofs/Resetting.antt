@@ -80,52 +80,52 @@ accepted (cause ∷ causes) r a is = go cause.0 (accepted causes r a) is
 moved_by : (w after : Wire) (e : ℕ) (a : Answer) → ByLabels w (step.Reset e) (Ok a) after → after ≡ moved w (Move.Reset e)
 moved_by w after e a is = is.1 ∙ ap (all_moved w) (accepted (causes_of w (step.Reset e)) (result_of w (step.Reset e)) a is.0)
 
-pub reset_refused : (served : Inside) (e : ℕ) (x : Refusal) (after : Wire) → ByLabels served.host (step.Reset e) (Err x) after
-    → ByLabels (wire_of served) (step.Reset e) (Err x) (wire_of (record served { host = after }))
+pub reset_refused : (served : Inside) (e : ℕ) (x : Refusal) (after : Wire) → ByLabels served.kept (step.Reset e) (Err x) after
+    → ByLabels (wire_of served) (step.Reset e) (Err x) (wire_of (record served { kept = after }))
 reset_refused served e x after is =
-    subst (λ (d : Decision). Does d (wire_of served) (Err x) (wire_of (record served { host = after }))) (sym (decided service served.host e))
-    (refused_with service (decide_of served.host (step.Reset e)) served.host after x
-    (moves_nothing (causes_of served.host (step.Reset e)) (by_one answer.Resetting (Move.Reset e)) x) is)
+    subst (λ (d : Decision). Does d (wire_of served) (Err x) (wire_of (record served { kept = after }))) (sym (decided service served.kept e))
+    (refused_with service (decide_of served.kept (step.Reset e)) served.kept after x
+    (moves_nothing (causes_of served.kept (step.Reset e)) (by_one answer.Resetting (Move.Reset e)) x) is)
   where
     service : ServiceWire
     service = service_seen served.workers served.service
 
 pub reset_done : (served : Inside) (v : Wire) (e : ℕ) (a : Answer) (after : Wire) (left : Service) → wire_of served ≡ v
-    → ByLabels served.host (step.Reset e) (Ok a) after
+    → ByLabels served.kept (step.Reset e) (Ok a) after
     → left ≡ without_unit served.service e
-    → ByLabels v (step.Reset e) (Ok a) (wire_of (record served { host = after; service = left }))
+    → ByLabels v (step.Reset e) (Ok a) (wire_of (record served { kept = after; service = left }))
 reset_done served v e a after left view is drops =
-    subst (λ (u : Wire). ByLabels u (step.Reset e) (Ok a) (wire_of (record served { host = after; service = left }))) view
+    subst (λ (u : Wire). ByLabels u (step.Reset e) (Ok a) (wire_of (record served { kept = after; service = left }))) view
     (is.0 ∙ ap (λ (d : Decision). d.reply) (sym same), seen)
   where
-    same : decide_of (wire_of served) (step.Reset e) ≡ decide_of served.host (step.Reset e)
-    same = decided (service_seen served.workers served.service) served.host e
+    same : decide_of (wire_of served) (step.Reset e) ≡ decide_of served.kept (step.Reset e)
+    same = decided (service_seen served.workers served.service) served.kept e
 
-    seen : wire_of (record served { host = after; service = left }) ≡ all_moved (wire_of served) (decide_of (wire_of served) (step.Reset e)).moves
+    seen : wire_of (record served { kept = after; service = left }) ≡ all_moved (wire_of served) (decide_of (wire_of served) (step.Reset e)).moves
     seen =
-        (λ i. with_service served.workers (drops i) (moved_by served.host after e a is i))
-        ∙ sym (reset_with served.workers served.service served.host e)
+        (λ i. with_service served.workers (drops i) (moved_by served.kept after e a is i))
+        ∙ sym (reset_with served.workers served.service served.kept e)
         ∙ sym (ap (all_moved (wire_of served)) (ap (λ (d : Decision). d.moves) same
-        ∙ accepted (causes_of served.host (step.Reset e)) (result_of served.host (step.Reset e)) a is.0))
+        ∙ accepted (causes_of served.kept (step.Reset e)) (result_of served.kept (step.Reset e)) a is.0))
 
-pub reset_still : (served : Inside) (e : ℕ) (a : Answer) (after : Wire) (left : Service) → IsServed served → ByLabels served.host (step.Reset e) (Ok a) after
+pub reset_still : (served : Inside) (e : ℕ) (a : Answer) (after : Wire) (left : Service) → IsServed served → ByLabels served.kept (step.Reset e) (Ok a) after
     → left ≡ without_unit served.service e
-    → IsServed (record served { host = after; service = left })
+    → IsServed (record served { kept = after; service = left })
 reset_still served e a after left h is drops =
     record {
       apart =
-          moves ∙ ap (λ (w : Wire). moved w (Move.Reset e)) h.apart ∙ reset_with served.workers no_service served.host e
+          moves ∙ ap (λ (w : Wire). moved w (Move.Reset e)) h.apart ∙ reset_with served.workers no_service served.kept e
           ∙ ap (with_service served.workers no_service) (sym moves);
       few = h.few;
       sound = subst (IsSound served.workers) (sym drops) (sound_is_kept.reset served.workers served.service e h.sound);
       serials =
           subst (λ (s : Service). s.groups.next + waiting after ≤ after.next_message) (sym drops)
-          (omega (arith, h.serials, waits_counted (step.Reset e) (Ok a) served.host after is));
+          (omega (arith, h.serials, waits_counted (step.Reset e) (Ok a) served.kept after is));
       housed =
           subst (AreHoused after) (sym drops)
-          (housed_still (decide_of served.host (step.Reset e)) served.host after (Ok a) (without_unit served.service e)
-          (housed_after_reset served.host served.service e h.housed) is);
+          (housed_still (decide_of served.kept (step.Reset e)) served.kept after (Ok a) (without_unit served.service e)
+          (housed_after_reset served.kept served.service e h.housed) is);
     }
   where
-    moves : after ≡ moved served.host (Move.Reset e)
-    moves = moved_by served.host after e a is
+    moves : after ≡ moved served.kept (Move.Reset e)
+    moves = moved_by served.kept after e a is

@@ -161,6 +161,6 @@ sound_alone service w is s =
     waits : (e k : ℕ) (r : PageRequestWire) → slice_get (part_of w e).page_queue k ≡ Some r → slice_get (part_of (serving service w) e).page_queue k ≡ Some r
     waits e k r at = ap (λ (queue : List PageRequestWire). slice_get queue k) (page_queue_with service.groups w.parts e) ∙ at
 
-pub host_sound : (served : Inside) (v : Wire) → wire_of served ≡ v → IsServed served → IsSound v → IsSound served.host
+pub host_sound : (served : Inside) (v : Wire) → wire_of served ≡ v → IsServed served → IsSound v → IsSound served.kept
 host_sound served v view h sound =
-    sound_alone (service_seen served.workers served.service) served.host (alone served.workers served.host h.few h.apart) (subst IsSound (sym view) sound)
+    sound_alone (service_seen served.workers served.service) served.kept (alone served.workers served.kept h.few h.apart) (subst IsSound (sym view) sound)

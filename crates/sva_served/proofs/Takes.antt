@@ -103,6 +103,6 @@ take_sound served x after h there empty is =
       few = h.few;
       sound = subst (IsSound served.workers) (sym is)
           (sound_is_kept.taken served.workers served.service x h.sound there (omega (arith, there, h.few)) (sym empty));
-      serials = subst (λ (s : Service). s.groups.next + waiting served.host ≤ served.host.next_message) (sym is) h.serials;
-      housed = subst (AreHoused served.host) (sym is) h.housed;
+      serials = subst (λ (s : Service). s.groups.next + waiting served.kept ≤ served.kept.next_message) (sym is) h.serials;
+      housed = subst (AreHoused served.kept) (sym is) h.housed;
     }

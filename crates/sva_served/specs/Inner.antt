@@ -9,7 +9,7 @@ use Rattle.sva_served.specs.Seen.{with_service}
 use Rattle.sva_served.specs.declared.served.Served.TheInside.{Inside}
 
 abbrev pub wire_of : Inside → Wire
-wire_of served = with_service served.workers served.service served.host
+wire_of served = with_service served.workers served.service served.kept
 
 -- no group is open at a unit that isn't there
 abbrev pub AreHoused : Wire → Service → Type 0
@@ -17,10 +17,10 @@ AreHoused w s = (e : ℕ) → length w.parts ≤ e → groups_seen e s.groups �
 
 pub record IsServed (served : Inside) : Type 0 where
   -- the host alone keeps no group, no job and no hand
-  pub apart : served.host ≡ with_service served.workers no_service served.host
+  pub apart : served.kept ≡ with_service served.workers no_service served.kept
   pub few : served.workers ≤ 4
   pub sound : IsSound served.workers served.service
   -- a group takes a serial where its first request is filed, and each request that waits has taken the number of a message: so
   -- no more serials are taken than numbers
-  pub serials : served.service.groups.next + waiting served.host ≤ served.host.next_message
-  pub housed : AreHoused served.host served.service
+  pub serials : served.service.groups.next + waiting served.kept ≤ served.kept.next_message
+  pub housed : AreHoused served.kept served.service

@@ -17,7 +17,7 @@ impl Served {
         requires { IsSound self.now }
         ensures { result ≡ held_back self.now (binding_of self.now binding) }
     {
-        let is_open = self.host.open_drain(binding)?;
+        let is_open = sva_host::open_drain(&self.kept, binding)?;
         if !self.service.open_of(binding) {
             return None;
         }
@@ -39,6 +39,6 @@ impl Served {
         if let Some(refusal) = self.held_back(binding) {
             return Err(refusal);
         }
-        self.host.advance(binding)
+        sva_host::advance(&mut self.kept, binding)
     }
 }

@@ -19,7 +19,7 @@ impl Served {
         requires { IsSound self.old }
         ensures { ByLabels self.old (step.Bind endpoint space) result self.new }
     {
-        self.host.bind(endpoint, space)
+        sva_host::bind(&mut self.kept, endpoint, space)
     }
 
     /// Unbinds a space from an endpoint. The endpoint is told to stop the PASID; but where a reset has cut the binding off,
@@ -29,7 +29,7 @@ impl Served {
         ensures step { ByLabels self.old (step.Unbind binding) result self.new }
         ensures memory { (b : BindingWire) → binding_of self.old binding ≡ Some b → b.stage ≡ LostWire → result ≢ Err refusal.OutOfMemory }
     {
-        self.host.unbind(binding)
+        sva_host::unbind(&mut self.kept, binding)
     }
 
     /// Which space bears a PASID, and how many bindings are under it. `BadPasid` where it is not 1 to 32.
@@ -38,6 +38,6 @@ impl Served {
         ensures step { ByLabels self.now (step.Bearer pasid) result self.now }
         ensures memory { result ≢ Err refusal.OutOfMemory }
     {
-        self.host.bearer(pasid)
+        sva_host::bearer(&self.kept, pasid)
     }
 }

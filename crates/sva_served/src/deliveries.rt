@@ -20,6 +20,6 @@ impl Served {
         ensures step { ByLabels self.old (step.Deliver message) result self.new }
         ensures memory { answers self.old (flight_of self.old message) ≡ false → result ≢ Err refusal.OutOfMemory }
     {
-        self.host.deliver(message)
+        sva_host::deliver(&mut self.kept, message)
     }
 }

@@ -14,7 +14,7 @@ impl Served {
     pub(crate) fn ask(&mut self, endpoint: u64, pasid: u64, page: u64) -> Result<Answer, Refusal>
         ensures { ByLabels self.old (step.Ask endpoint pasid page) result self.new }
     {
-        self.host.ask(endpoint, pasid, page)
+        sva_host::ask(&mut self.kept, endpoint, pasid, page)
     }
 
     /// An endpoint begins a use of the translation of this page that it holds, to write or only to read.
@@ -28,7 +28,7 @@ impl Served {
         ensures step { ByLabels self.old (step.BeginUse endpoint pasid page write) result self.new }
         ensures memory { result ≢ Err refusal.OutOfMemory }
     {
-        self.host.begin_use(endpoint, pasid, page, write)
+        sva_host::begin_use(&mut self.kept, endpoint, pasid, page, write)
     }
 
     /// An endpoint ends the use in this slot, or is told that a reset ended it.
@@ -36,7 +36,7 @@ impl Served {
         ensures step { ByLabels self.old (step.EndUse endpoint slot) result self.new }
         ensures memory { result ≢ Err refusal.OutOfMemory }
     {
-        self.host.end_use(endpoint, slot)
+        sva_host::end_use(&mut self.kept, endpoint, slot)
     }
 
     /// An endpoint lets go of the translation of this page that it holds.
@@ -44,7 +44,7 @@ impl Served {
         ensures step { ByLabels self.old (step.Evict endpoint pasid page) result self.new }
         ensures memory { result ≢ Err refusal.OutOfMemory }
     {
-        self.host.evict(endpoint, pasid, page)
+        sva_host::evict(&mut self.kept, endpoint, pasid, page)
     }
 
     /// An endpoint sends this page request.
@@ -53,7 +53,7 @@ impl Served {
             (step.Fault endpoint fault.now.pasid fault.now.page fault.now.read fault.now.write fault.now.group fault.now.last)
             result self.new }
     {
-        self.host.fault(endpoint, fault)
+        sva_host::fault(&mut self.kept, endpoint, fault)
     }
 
     /// An endpoint completes the invalidations that this vector names, bit T for ITag T, by so many completions, 1 to 8.
@@ -65,13 +65,13 @@ impl Served {
     ) -> Result<Answer, Refusal>
         ensures { ByLabels self.old (step.Finish endpoint vector count) result self.new }
     {
-        self.host.finish(endpoint, vector, count)
+        sva_host::finish(&mut self.kept, endpoint, vector, count)
     }
 
     /// An endpoint has stopped using this PASID, and says so.
     pub(crate) fn quit(&mut self, endpoint: u64, pasid: u64) -> Result<Answer, Refusal>
         ensures { ByLabels self.old (step.Quit endpoint pasid) result self.new }
     {
-        self.host.quit(endpoint, pasid)
+        sva_host::quit(&mut self.kept, endpoint, pasid)
     }
 }

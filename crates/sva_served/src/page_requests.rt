@@ -19,17 +19,17 @@ impl Served {
         ensures step { ByLabels self.old (step.Serve endpoint) result self.new }
         ensures memory { (part_of self.old endpoint).page_queue ≡ [] → result ≢ Err refusal.OutOfMemory }
     {
-        self.host.may_serve(endpoint)?;
-        let Some(request) = self.host.first_request(endpoint) else {
+        sva_host::may_serve(&self.kept, endpoint)?;
+        let Some(request) = sva_host::first_request(&self.kept, endpoint) else {
             return Ok(Answer::Empty);
         };
-        let Some(binding) = self.host.bearer_at(endpoint, request.pasid) else {
+        let Some(binding) = sva_host::bearer_at(&self.kept, endpoint, request.pasid) else {
             unreachable!()
         };
         if self.service.reserve(endpoint).is_err() {
             return Err(Refusal::OutOfMemory);
         }
-        self.host.take_request(endpoint);
+        sva_host::take_request(&mut self.kept, endpoint);
         if self.service.file(endpoint, binding, request) {
             Ok(Answer::Job)
         } else {

@@ -20,6 +20,6 @@ impl Served {
         ensures step { ByLabels self.old (step.Pump endpoint) result self.new }
         ensures memory { sends_invalidate (unit_of self.old endpoint) ≡ false → result ≢ Err refusal.OutOfMemory }
     {
-        self.host.pump(endpoint)
+        sva_host::pump(&mut self.kept, endpoint)
     }
 }

@@ -30,7 +30,7 @@ impl Served {
         let Some(job) = self.service.held(hand) else {
             return Err(Refusal::NoJob);
         };
-        let answer = self.host.respond(job, verdict)?;
+        let answer = sva_host::respond(&mut self.kept, job, verdict)?;
         self.service.let_go(hand);
         Ok(answer)
     }

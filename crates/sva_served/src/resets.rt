@@ -14,7 +14,7 @@ impl Served {
     pub(crate) fn reset(&mut self, endpoint: u64) -> Result<Answer, Refusal>
         ensures { ByLabels self.old (step.Reset endpoint) result self.new }
     {
-        let answer = self.host.reset(endpoint)?;
+        let answer = sva_host::reset(&mut self.kept, endpoint)?;
         self.service.drop_unit(endpoint);
         Ok(answer)
     }

@@ -5,7 +5,7 @@ ghost use Rattle.sva_labels.specs.Host.{first_wire};
 
 use std::alloc::{AllocError, Global};
 use std::marker::Model;
-use sva_host::Host;
+use sva_host::Kept;
 use sva_service::Service;
 use sva_step::Config;
 
@@ -13,7 +13,7 @@ use sva_step::Config;
 /// by numbers and labels.
 #[derive(Drop)]
 pub struct Served {
-    pub(crate) host: Host,
+    pub(crate) kept: Kept,
     pub(crate) service: Service,
     // How many workers there are: at most 4.
     pub(crate) workers: u64,
@@ -41,7 +41,7 @@ impl Served {
         ensures { IfOk result (λ served. served ≡ first_wire config) }
     {
         Ok(Served {
-            host: Host::open(alloc, config)?,
+            kept: Kept::open(alloc, config)?,
             service: Service::new(alloc),
             workers: config.workers,
         })

@@ -16,7 +16,7 @@ impl Served {
     pub(crate) fn space(&mut self) -> Result<Answer, Refusal>
         ensures { ByLabels self.old step.Space result self.new }
     {
-        self.host.space()
+        sva_host::space(&mut self.kept)
     }
 
     /// Ends a space that is bound nowhere: its frames are free.
@@ -24,14 +24,14 @@ impl Served {
         ensures step { ByLabels self.old (step.DropSpace space) result self.new }
         ensures memory { result ≢ Err refusal.OutOfMemory }
     {
-        self.host.drop_space(space)
+        sva_host::drop_space(&mut self.kept, space)
     }
 
     /// Maps a page of a space to the lowest free frame.
     pub(crate) fn map(&mut self, space: u64, page: u64, write: bool) -> Result<Answer, Refusal>
         ensures { ByLabels self.old (step.Map space page write) result self.new }
     {
-        self.host.map(space, page, write)
+        sva_host::map(&mut self.kept, space, page, write)
     }
 
     /// Where a frame is.
@@ -39,14 +39,14 @@ impl Served {
         ensures step { ByLabels self.now (step.Look frame) result self.now }
         ensures memory { result ≢ Err refusal.OutOfMemory }
     {
-        self.host.look(frame)
+        sva_host::look(&self.kept, frame)
     }
 
     /// How many frames are at each place.
     pub fn counts(&self) -> Counts
         ensures { Counted self.now.places result }
     {
-        self.host.counts()
+        sva_host::counts(&self.kept)
     }
 
     /// Takes pages of a space in a row out: the units are asked to invalidate them, and their frames are free once every
@@ -56,7 +56,7 @@ impl Served {
         ensures step { ByLabels self.old (step.Unmap space page count) result self.new }
         ensures memory { result ≢ Err refusal.OutOfMemory }
     {
-        self.host.unmap(space, page, count)
+        sva_host::unmap(&mut self.kept, space, page, count)
     }
 
     /// Takes the pages of a range out, those of its 2^`order` pages that are mapped. Their frames are free as after `unmap`.
@@ -70,6 +70,6 @@ impl Served {
         ensures step { ByLabels self.old (step.UnmapRange space page order) result self.new }
         ensures memory { result ≢ Err refusal.OutOfMemory }
     {
-        self.host.unmap_range(space, page, order)
+        sva_host::unmap_range(&mut self.kept, space, page, order)
     }
 }

@@ -51,7 +51,7 @@ file-requires c =
 
 pub invariant_of-self-2 : goal.invariant_of-self-2
 invariant_of-self-2 c =
-    serve_still c.self.inside c.args.endpoint c.in-Some-bearer_at.binding c.in-Some.request c.take_request.new.self c.file.new.self c.self.invariant
+    serve_still c.self.inside c.args.endpoint c.in-Some-bearer_at.binding c.in-Some.request c.take_request.new.host c.file.new.self c.self.invariant
     (subst IsSound (sym c.self.view_is) c.requires)
     (head_is c.self.inside c.args.endpoint c.in-Some.request c.in-Some-bearer_at.binding c.in_ok-may_serve.ensures c.in-Some.ensures
     c.in-Some-bearer_at.ensures)
@@ -61,7 +61,7 @@ invariant_of-self-2 c =
 
 pub returns-clause-step : goal.returns-clause-step
 returns-clause-step c =
-    serve_done c.self.inside _ c.args.endpoint c.in-Some-bearer_at.binding c.in-Some.request c.if-file.result c.take_request.new.self c.file.new.self
+    serve_done c.self.inside _ c.args.endpoint c.in-Some-bearer_at.binding c.in-Some.request c.if-file.result c.take_request.new.host c.file.new.self
     c.self.view_is
     c.in_ok-may_serve.ensures
     (head_is c.self.inside c.args.endpoint c.in-Some.request c.in-Some-bearer_at.binding c.in_ok-may_serve.ensures c.in-Some.ensures

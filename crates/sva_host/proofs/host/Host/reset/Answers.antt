@@ -1,8 +1,0 @@
-use Rattle.std.proofs.Common.{subst}
-use Rattle.sva_step.specs.declared.steps.Step.TheVariants as step
-use Rattle.sva_model.specs.Wire.{Wire}
-use Rattle.sva_kept.specs.Steps.{ByLabels}
-use Rattle.sva_host.proofs.host.Host.reset.Goals as goal
-
-pub returns : goal.returns
-returns c = subst (λ (w : Wire). ByLabels w (step.Reset c.args.endpoint) c.reset.result c.reset.new.host) c.self.view_is c.reset.ensures

@@ -1,0 +1,5 @@
+use Rattle.std.proofs.Common.{rules}
+use Rattle.sva_itags.proofs.itags.Itags.lowest_free.Goals as goal
+
+pub returns : goal.returns
+returns c = search rules

@@ -9,8 +9,6 @@ mod programs;
 #[cfg(test)]
 mod reports;
 #[cfg(test)]
-mod runs;
-#[cfg(test)]
 mod streams;
 #[cfg(test)]
 mod texts;

@@ -1,9 +1,10 @@
 //! What `scripts/runs` can't try by the program: the texts of help and mistakes, and streams that fail. That tries all scenarios
 //! of examples/ and runs/; the first of them is tried here too.
 
-use std::alloc::AllocError;
+use crate::streams::{Broken, Slow, is_front};
+use std::alloc::{AllocError, Global};
 use std::io;
-use std::io::{ErrorKind, Read, Write};
+use std::io::ErrorKind;
 use std::sync::Wait;
 use std::test::Fail;
 use std::thread::Threads;
@@ -55,24 +56,50 @@ fn run_on<R: AllocGlobal + Threads + Wait + Sync>(
     })
 }
 
+/// Does a run end with this status, with this written, and nothing said?
+fn prints<R: AllocGlobal + Threads + Wait + Sync>(
+    rt: &R,
+    words: &[&str],
+    input: &[u8],
+    (report, status): (&str, u8),
+) -> Result<bool, AllocError> {
+    let ran = run_on(rt, words, input)?;
+    let is_quiet = ran.status == status && ran.said.is_empty();
+    Ok(is_quiet && ran.written.as_slice() == report.as_bytes())
+}
+
+/// Command lines that print the same of the first example.
+static REPLAYS: [&[&str]; 2] = [&["replay"], &["replay", "--"]];
+
+static CHECKS: [&[&str]; 2] = [&["check"], &["check", "--"]];
+
+static STORMS: [&[&str]; 5] = [
+    &["storm"],
+    &["storm", "--"],
+    &["storm", "--turns", "100"],
+    &["storm", "--turns=1", "--"],
+    &["storm", "--turns", "+0020"],
+];
+
+/// Does each of these command lines print this of the first example?
+fn print_alike<R: AllocGlobal + Threads + Wait + Sync>(
+    rt: &R,
+    lines: &[&[&str]],
+    report: &str,
+) -> Result<bool, AllocError> {
+    for words in lines {
+        if !prints(rt, words, SCENARIO, (report, 0))? {
+            return Ok(false);
+        }
+    }
+    Ok(true)
+}
+
 #[test]
 fn runs_the_first_example(rt: HostRuntime) -> Result<(), Fail> {
-    let runs = [
-        (["replay"].as_slice(), REPORT),
-        (["replay", "--"].as_slice(), REPORT),
-        (["check"].as_slice(), "steps 4\n"),
-        (["check", "--"].as_slice(), "steps 4\n"),
-        (["storm"].as_slice(), AUDIT),
-        (["storm", "--"].as_slice(), AUDIT),
-        (["storm", "--turns", "100"].as_slice(), AUDIT),
-        (["storm", "--turns=1", "--"].as_slice(), AUDIT),
-        (["storm", "--turns", "+0020"].as_slice(), AUDIT),
-    ];
-    for (words, report) in runs {
-        let ran = run_on(&rt, words, SCENARIO)?;
-        assert!(rt; ran.written.as_slice() == report.as_bytes(), "{report}");
-        assert_eq!(rt; (ran.status, ran.said.len()), (0, 0), "{report}");
-    }
+    assert!(rt; print_alike(&rt, &REPLAYS, REPORT)?);
+    assert!(rt; print_alike(&rt, &CHECKS, "steps 4\n")?);
+    assert!(rt; print_alike(&rt, &STORMS, AUDIT)?);
     Ok(())
 }
 
@@ -86,9 +113,11 @@ static UNPLAYED: [(&str, &str); 3] = [
 #[test]
 fn storms_tell_of_faults(rt: HostRuntime) -> Result<(), Fail> {
     for (input, report) in &UNPLAYED {
-        let ran = run_on(&rt, &["storm", "--turns", "10"], input.as_bytes())?;
-        assert!(rt; ran.written.as_slice() == report.as_bytes(), "{report}");
-        assert_eq!(rt; (ran.status, ran.said.len()), (1, 0), "{report}");
+        let words = ["storm", "--turns", "10"];
+        assert!(rt;
+            prints(&rt, &words, input.as_bytes(), (report, 1))?,
+            "{report}"
+        );
     }
     Ok(())
 }
@@ -171,53 +200,48 @@ For more information, try '--help'.
     ),
 ];
 
+/// Ends a run with this said, the status 2, and nothing read or written?
+fn is_judged<R: AllocGlobal + Threads + Wait + Sync>(
+    rt: &R,
+    words: &[&str],
+    text: &str,
+) -> Result<bool, AllocError> {
+    let ran = run_on(rt, words, SCENARIO)?;
+    let is_unread = ran.status == 2 && ran.written.is_empty() && ran.reads == 0;
+    Ok(is_unread && ran.said.as_slice() == text.as_bytes())
+}
+
 #[test]
 fn judges_the_command_line_first(rt: HostRuntime) -> Result<(), Fail> {
     for (words, text) in &MISTAKES {
-        let ran = run_on(&rt, words, SCENARIO)?;
-        assert!(rt; ran.said.as_slice() == text.as_bytes(), "{text}");
-        assert_eq!(rt;
-            (ran.status, ran.written.len(), ran.reads),
-            (2, 0, 0),
-            "{text}"
-        );
+        assert!(rt; is_judged(&rt, words, text)?, "{text}");
     }
     Ok(())
+}
+
+/// Why a command line isn't read, what standard error is told, and the status.
+static UNREAD: [(ErrorKind, &str, u8); 2] = [
+    (
+        ErrorKind::InvalidData,
+        "error: a word of the command line isn't UTF-8 text\n",
+        2,
+    ),
+    (ErrorKind::OutOfMemory, "svahost: out of memory\n", 1),
+];
+
+/// Is this told of a command line that isn't read, and is this the status?
+fn is_unread(alloc: Global, kind: ErrorKind, text: &str, status: u8) -> bool {
+    let mut errors = Told::new(Vec::new(alloc));
+    let found = unread(&io::Error::from(kind), &mut errors);
+    found == status && errors.inner().as_slice() == text.as_bytes()
 }
 
 #[test]
-fn tells_of_a_command_line_that_is_not_read(rt: HostRuntime) -> Result<(), Fail> {
-    let runs = [
-        (
-            ErrorKind::InvalidData,
-            "error: a word of the command line isn't UTF-8 text\n",
-            2,
-        ),
-        (ErrorKind::OutOfMemory, "svahost: out of memory\n", 1),
-    ];
-    for (kind, text, status) in runs {
-        let mut errors = Told::new(Vec::new(rt.alloc()));
-        let found = unread(&io::Error::from(kind), &mut errors);
-        assert!(rt; errors.inner().as_slice() == text.as_bytes(), "{text}");
-        assert_eq!(rt; found, status, "{text}");
+fn tells_of_a_command_line_that_is_not_read(rt: HostRuntime) {
+    for (kind, text, status) in &UNREAD {
+        assert!(rt; is_unread(rt.alloc(), *kind, text, *status), "{text}");
     }
-    Ok(())
 }
-
-/// What `-h` prints.
-static SHORT_HELP: &str = "Runs scenarios of a host for shared virtual addressing
-
-Usage: svahost <COMMAND>
-
-Commands:
-  replay  Runs the scenario on standard input, and prints its report
-  check   Reads the scenario on standard input, and prints how many steps it has
-  storm   Plays the scenario on standard input by threads, and prints what an audit of their calls says
-
-Options:
-  -h, --help     Print help (see more with '--help')
-  -V, --version  Print version
-";
 
 /// Parts of what `--help` prints.
 static HELP_PARTS: [&str; 6] = [
@@ -245,81 +269,86 @@ fn has_parts(text: &[u8], parts: &[&str]) -> bool {
     }
 }
 
+/// Ends a run that reads and says nothing well, with these parts written?
+fn helps<R: AllocGlobal + Threads + Wait + Sync>(
+    rt: &R,
+    words: &[&str],
+    parts: &[&str],
+) -> Result<bool, AllocError> {
+    let ran = run_on(rt, words, SCENARIO)?;
+    let is_quiet = ran.status == 0 && ran.said.is_empty() && ran.reads == 0;
+    Ok(is_quiet && has_parts(ran.written.as_slice(), parts))
+}
+
 #[test]
 fn shows_help(rt: HostRuntime) -> Result<(), Fail> {
-    let ran = run_on(&rt, &["-h"], SCENARIO)?;
-    assert!(rt; ran.written.as_slice() == SHORT_HELP.as_bytes());
-    assert_eq!(rt; (ran.status, ran.said.len(), ran.reads), (0, 0, 0));
     for words in &CALLS_FOR_HELP {
-        let ran = run_on(&rt, words, SCENARIO)?;
-        assert_eq!(rt; (ran.status, ran.said.len(), ran.reads), (0, 0, 0));
-        assert!(rt; has_parts(ran.written.as_slice(), &HELP_PARTS));
+        assert!(rt; helps(&rt, words, &HELP_PARTS)?);
     }
     Ok(())
+}
+
+/// Command lines that ask for a short text, and these texts.
+static SHORT_TEXTS: [(&[&str], &str); 3] = [
+    (
+        &["-h"],
+        "Runs scenarios of a host for shared virtual addressing
+
+Usage: svahost <COMMAND>
+
+Commands:
+  replay  Runs the scenario on standard input, and prints its report
+  check   Reads the scenario on standard input, and prints how many steps it has
+  storm   Plays the scenario on standard input by threads, and prints what an audit of their calls says
+
+Options:
+  -h, --help     Print help (see more with '--help')
+  -V, --version  Print version
+",
+    ),
+    (&["--version"], "svahost 0.1.0\n"),
+    (&["-V"], "svahost 0.1.0\n"),
+];
+
+/// Ends a run that reads and says nothing well, with this written?
+fn shows<R: AllocGlobal + Threads + Wait + Sync>(
+    rt: &R,
+    words: &[&str],
+    text: &str,
+) -> Result<bool, AllocError> {
+    let ran = run_on(rt, words, SCENARIO)?;
+    let is_quiet = ran.status == 0 && ran.said.is_empty() && ran.reads == 0;
+    Ok(is_quiet && ran.written.as_slice() == text.as_bytes())
 }
 
 #[test]
-fn shows_the_version(rt: HostRuntime) -> Result<(), Fail> {
-    for word in ["--version", "-V"] {
-        let ran = run_on(&rt, &[word], SCENARIO)?;
-        assert!(rt; ran.written.as_slice() == b"svahost 0.1.0\n".as_slice());
-        assert_eq!(rt; (ran.status, ran.said.len(), ran.reads), (0, 0, 0));
+fn shows_short_help_and_the_version(rt: HostRuntime) -> Result<(), Fail> {
+    for (words, text) in &SHORT_TEXTS {
+        assert!(rt; shows(&rt, words, text)?, "{text}");
     }
     Ok(())
 }
 
-/// Gives a byte a call, so many times, and fails then.
-#[derive(Drop)]
-struct BrokenReader {
-    left: u64,
-}
-
-impl Read for BrokenReader {
-    fn read(&mut self, piece: &mut [u8]) -> io::Result<usize> {
-        if self.left == 0 || piece.is_empty() {
-            return Err(ErrorKind::Other.into());
-        }
-        self.left -= 1;
-        piece[0] = b'#';
-        Ok(1)
-    }
-}
-
-/// Takes a byte a call, so many in all, and fails then.
-#[derive(Drop)]
-struct BrokenWriter {
-    taken: Vec<u8>,
-    most: usize,
-}
-
-impl Write for BrokenWriter {
-    fn write(&mut self, bytes: &[u8]) -> io::Result<usize> {
-        if self.taken.len() >= self.most {
-            return Err(ErrorKind::Other.into());
-        }
-        let Some(first) = bytes.first() else {
-            return Ok(0);
-        };
-        self.taken.push(*first)?;
-        Ok(1)
-    }
-
-    fn flush(&mut self) -> io::Result<()> {
-        Ok(())
-    }
+/// A run whose reader fails behind five bytes: is the status 1, is nothing written, and is the read fault told?
+fn ends_in_read_fault<R: AllocGlobal + Threads + Wait + Sync>(rt: &R) -> Result<bool, AllocError> {
+    let words = line(rt, &["replay"])?;
+    let mut reader = Told::new(Broken::new(5));
+    let mut writer = Told::new(Vec::new(rt.alloc()));
+    let mut errors = Told::new(Vec::new(rt.alloc()));
+    let status = main_with(rt, words.as_slice(), &mut reader, &mut writer, &mut errors);
+    let is_unwritten = status == 1 && writer.inner().is_empty();
+    Ok(is_unwritten && errors.inner().as_slice() == b"svahost: read fault\n".as_slice())
 }
 
 #[test]
 fn tells_of_a_read_fault(rt: HostRuntime) -> Result<(), Fail> {
-    let alloc = rt.alloc();
-    let words = line(&rt, &["replay"])?;
-    let mut reader = Told::new(BrokenReader { left: 5 });
-    let mut writer = Told::new(Vec::new(alloc));
-    let mut errors = Told::new(Vec::new(alloc));
-    let status = main_with(&rt, words.as_slice(), &mut reader, &mut writer, &mut errors);
-    assert_eq!(rt; (status, writer.inner().len()), (1, 0));
-    assert!(rt; errors.inner().as_slice() == b"svahost: read fault\n".as_slice());
+    assert!(rt; ends_in_read_fault(&rt)?);
     Ok(())
+}
+
+/// Was so much taken of a text, and no more?
+fn is_cut(slow: &Slow, most: usize, text: &[u8]) -> bool {
+    slow.len == most && is_front(&slow.taken, text, most)
 }
 
 /// A run whose writer fails after so many bytes: is the status 1, are these bytes a prefix of the text, and is the write
@@ -332,47 +361,53 @@ fn ends_in_write_fault<R: AllocGlobal + Threads + Wait + Sync>(
 ) -> Result<bool, AllocError> {
     let words = line(rt, words)?;
     let mut reader = Told::new(SCENARIO);
-    let taken = Vec::new(rt.alloc());
-    let mut writer = Told::new(BrokenWriter { taken, most });
+    let mut writer = Told::new(Slow::new(most));
     let mut errors = Told::new(Vec::new(rt.alloc()));
     let status = main_with(rt, words.as_slice(), &mut reader, &mut writer, &mut errors);
-    let taken = writer.inner().taken.as_slice();
-    Ok(
-        status == 1
-            && taken.len() == most
-            && text.as_bytes().starts_with(taken)
-            && errors.inner().as_slice() == b"svahost: write fault\n".as_slice(),
-    )
+    let is_told = errors.inner().as_slice() == b"svahost: write fault\n".as_slice();
+    Ok(status == 1 && is_told && is_cut(writer.inner(), most, text.as_bytes()))
 }
+
+/// Command lines, how many bytes of their text are taken, and what these are the front of.
+static CUT_TEXTS: [(&[&str], usize, &str); 8] = [
+    (&["replay"], 0, REPORT),
+    (&["replay"], 1, REPORT),
+    (&["replay"], 7, REPORT),
+    (&["replay"], 8, REPORT),
+    (&["replay"], 57, REPORT),
+    (&["--help"], 4, "Runs"),
+    (&["check"], 5, "steps 4\n"),
+    (&["storm"], 9, AUDIT),
+];
 
 #[test]
 fn tells_of_a_write_fault(rt: HostRuntime) -> Result<(), Fail> {
-    for most in [0, 1, 7, 8, 57] {
-        assert!(rt;
-            ends_in_write_fault(&rt, &["replay"], most, REPORT)?,
-            "{most}"
-        );
+    for (words, most, text) in &CUT_TEXTS {
+        assert!(rt; ends_in_write_fault(&rt, words, *most, text)?, "{most}");
     }
-    assert!(rt; ends_in_write_fault(&rt, &["--help"], 4, "Runs")?);
-    assert!(rt; ends_in_write_fault(&rt, &["check"], 5, "steps 4\n")?);
-    assert!(rt; ends_in_write_fault(&rt, &["storm"], 9, AUDIT)?);
     Ok(())
 }
 
+/// Where no byte is read, and three of standard error are taken: is this the status, and is nothing written?
+fn keeps_status<R: AllocGlobal + Threads + Wait + Sync>(
+    rt: &R,
+    word: &str,
+    want: u8,
+) -> Result<bool, AllocError> {
+    let words = line(rt, &[word])?;
+    let mut reader = Told::new(Broken::new(0));
+    let mut writer = Told::new(Vec::new(rt.alloc()));
+    let mut errors = Told::new(Slow::new(3));
+    let status = main_with(rt, words.as_slice(), &mut reader, &mut writer, &mut errors);
+    Ok(status == want && writer.inner().is_empty() && errors.inner().len == 3)
+}
+
+static STATUSES: [(&str, u8); 3] = [("replay", 1), ("storm", 1), ("gale", 2)];
+
 #[test]
 fn keeps_the_status_where_errors_fail(rt: HostRuntime) -> Result<(), Fail> {
-    let alloc = rt.alloc();
-    for (word, want) in [("replay", 1), ("storm", 1), ("gale", 2)] {
-        let words = line(&rt, &[word])?;
-        let mut reader = Told::new(BrokenReader { left: 0 });
-        let mut writer = Told::new(Vec::new(alloc));
-        let taken = Vec::new(alloc);
-        let mut errors = Told::new(BrokenWriter { taken, most: 3 });
-        let status = main_with(&rt, words.as_slice(), &mut reader, &mut writer, &mut errors);
-        assert_eq!(rt;
-            (status, writer.inner().len(), errors.inner().taken.len()),
-            (want, 0, 3)
-        );
+    for (word, want) in &STATUSES {
+        assert!(rt; keeps_status(&rt, word, *want)?, "{word}");
     }
     Ok(())
 }

@@ -1,7 +1,7 @@
 //! Whole reports: of runs, of inputs that are no scenario, and where a reader, a writer or memory fails. More runs, with the reports
 //! that were worked out for them, are those of the program.
 
-use crate::streams::{Broken, Slow, fails_behind, is_front, long_text};
+use crate::streams::{Broken, Slow, fails_behind, is_front};
 use std::alloc::Global;
 use std::io;
 use std::io::{Read, Write};
@@ -61,42 +61,6 @@ fn reports_short_runs(rt: HostRuntime) -> Result<(), Fail> {
     Ok(())
 }
 
-/// Before a start has arrived an endpoint's steps are refused, each by its first cause.
-#[test]
-fn refuses_what_has_not_started(rt: HostRuntime) -> Result<(), Fail> {
-    let text = "\
-        config 1 4 1\nspace\nmap 0 16 w\nbind 0 0\n\
-        ask 0 1 16\nask 1 1 16\nask 0 1 68719476736\nuse 0 1 16 w\nend 0 0\nevict 0 1 16\n\
-        fault 0 1 16 rw new last\nfault 0 1 16 r 0 more\nfinish 0 00000001 1\nfinish 0 00000000 9\nquit 0 1\n\
-        unmap 0 16\nlook 0\n";
-    let want = "\
-        space 0\nframe 0\nbinding 0 pasid 1\n\
-        refused 18 NotStarted\nrefused 2 NoSuchEndpoint\nrefused 5 PageRange\nrefused 18 NotStarted\n\
-        refused 23 NoSuchUse\nrefused 20 NotHeld\nrefused 18 NotStarted\nrefused 18 NotStarted\n\
-        refused 27 NotPending\nrefused 27 NotPending\nrefused 30 NotStopping\n\
-        withheld 0\nwithheld\nfree 3 mapped 0 withheld 1\n";
-    assert!(rt; runs(rt.alloc(), text, want)?);
-    Ok(())
-}
-
-/// A binding is taken back as far as its marker, which no page request of it is behind.
-#[test]
-fn stops_a_binding(rt: HostRuntime) -> Result<(), Fail> {
-    let text = "\
-        config 1 4 1\nspace\nbind 0 0\ndeliver 0\nfault 0 1 32 r new more\n\
-        unbind 0\nunbind 0\nunbind 1\ndeliver 2\nquit 0 1\n\
-        fault 0 1 40 r new last\nfault 0 1 33 w 0 last\nquit 0 1\n\
-        deliver 3\ndeliver 4\ndeliver 1\ndeliver 4\ndeliver 3\ndeliver 4\n";
-    let want = "\
-        space 0\nbinding 0 pasid 1\nstarted\ngroup 0\n\
-        stopping\nrefused 14 NotLive\nrefused 13 NoSuchBinding\nstopping\nrefused 31 Busy\n\
-        refused 18 NotStarted\ngroup 0\nmarker\n\
-        refused 33 Overtakes\nrefused 33 Overtakes\nqueued\nrefused 33 Overtakes\nqueued\nmarked\n\
-        free 4 mapped 0 withheld 0\n";
-    assert!(rt; runs(rt.alloc(), text, want)?);
-    Ok(())
-}
-
 /// Texts with a fault, and what is written of it.
 static FAULTS: [(&str, &str); 7] = [
     ("", "line 1 NoConfig\n"),
@@ -119,30 +83,6 @@ fn reports_faults(rt: HostRuntime) -> Result<(), Fail> {
             "{want}"
         );
     }
-    Ok(())
-}
-
-#[test]
-fn reports_a_byte_that_is_no_text(rt: HostRuntime) -> Result<(), Fail> {
-    let odd = b"config 1 4 1\nunmap 0 \xff\n";
-    assert!(rt; reports(rt.alloc(), odd, b"line 2 BadWord\n", Outcome::Faulted)?);
-    Ok(())
-}
-
-#[test]
-fn reports_large_texts(rt: HostRuntime) -> Result<(), Fail> {
-    let alloc = rt.alloc();
-    let counts = b"free 4 mapped 0 withheld 0\n";
-    let large = b"line 0 TooLarge\n";
-    // 13 bytes, 65,534 lines of 16 bytes and one of 19: 1,048,576 bytes in 65,536 lines.
-    let mut full = long_text(alloc, 65_534, b"#23456789012345\n")?;
-    full.extend_from_slice(b"#23456789012345678\n")?;
-    assert_eq!(rt; full.len(), 1_048_576);
-    assert!(rt; reports(alloc, full.as_slice(), counts, Outcome::Done)?);
-    full.push(b'#')?;
-    assert!(rt; reports(alloc, full.as_slice(), large, Outcome::Faulted)?);
-    full.extend_from_slice(b"\nspase\n")?;
-    assert!(rt; reports(alloc, full.as_slice(), large, Outcome::Faulted)?);
     Ok(())
 }
 

@@ -1,19 +1,10 @@
 //! Readers and writers: what is read of an input, what is written of a text, and where a call fails.
 
-use std::alloc::{AllocError, Global};
+use std::alloc::Global;
 use std::io;
 use std::io::{ErrorKind, Read, Write};
 use std::test::Fail;
 use sva_scenario::{DriveFault, Told, read_all, write_all};
-
-/// A text of a config and so many lines of steps or comments.
-pub(crate) fn long_text(alloc: Global, lines: usize, line: &[u8]) -> Result<Vec<u8>, AllocError> {
-    let mut text = Vec::from_slice(alloc, b"config 1 4 1\n")?;
-    for _ in 0..lines {
-        text.extend_from_slice(line)?;
-    }
-    Ok(text)
-}
 
 /// Gives a byte a call, so many times, and fails then.
 #[derive(Drop)]

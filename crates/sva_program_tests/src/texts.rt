@@ -1,4 +1,4 @@
-//! How `parse` reads whole texts: their faults and their limits. `lines` has each form of a line.
+//! How `parse` reads whole texts, and their faults. `lines` has each form of a line, runs/sizes what is too large.
 
 use std::alloc::{AllocError, Global};
 use std::test::Fail;
@@ -70,36 +70,6 @@ fn tells_of_odd_bytes(rt: HostRuntime) -> Result<(), Fail> {
     for (text, want) in texts {
         assert!(rt; ends(rt.alloc(), text, want)?, "{want}");
     }
-    Ok(())
-}
-
-/// 13 bytes, 65,534 lines of 16 bytes and one of 19: 1,048,576 bytes in 65,536 lines.
-fn largest_text(alloc: Global) -> Result<Vec<u8>, AllocError> {
-    let mut text = long_text(alloc, 65_534, b"#23456789012345\n")?;
-    text.extend_from_slice(b"#23456789012345678\n")?;
-    Ok(text)
-}
-
-#[test]
-fn tells_a_large_text(rt: HostRuntime) -> Result<(), Fail> {
-    let mut text = largest_text(rt.alloc())?;
-    assert!(rt; text.len() == 1_048_576 && ends(rt.alloc(), text.as_slice(), "ok")?);
-    text.push(b'#')?;
-    assert!(rt; ends(rt.alloc(), text.as_slice(), "line 0 TooLarge")?);
-    Ok(())
-}
-
-#[test]
-fn tells_many_lines(rt: HostRuntime) -> Result<(), Fail> {
-    for line in ["#\n", "spase\n"] {
-        let text = long_text(rt.alloc(), 65_536, line.as_bytes())?;
-        assert!(rt;
-            ends(rt.alloc(), text.as_slice(), "line 0 TooLarge")?,
-            "{line}"
-        );
-    }
-    let text = vec![in rt.alloc(); b'\n'; 65_536]?;
-    assert!(rt; ends(rt.alloc(), text.as_slice(), "line 65537 NoConfig")?);
     Ok(())
 }
 

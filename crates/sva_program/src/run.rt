@@ -60,19 +60,30 @@ pub fn main_with<X: AllocGlobal + Threads + Wait + Sync, R: Read, W: Write, E: W
     ensures status { result ≤ MISTAKE }
 {
     match parse(rt.alloc(), words) {
-        Ok(Asked::Replay) => {
-            let ended = drive(rt.alloc(), reader, writer);
-            finish(ended, errors)
-        }
-        Ok(Asked::Check) => {
-            let ended = check(rt.alloc(), reader, writer);
-            finish(ended, errors)
-        }
-        Ok(Asked::Storm { turns }) => {
-            let ended = drive_storm(rt, rt.alloc(), turns, reader, writer);
+        Ok(asked) => {
+            let ended = perform(rt, asked, reader, writer);
             finish(ended, errors)
         }
         Err(error) => answer(rt.alloc(), error.kind(), &error, writer, errors),
+    }
+}
+
+/// What a command makes of its streams.
+fn perform<X: AllocGlobal + Threads + Wait + Sync, R: Read, W: Write>(
+    rt: &X,
+    asked: Asked,
+    reader: &mut Told<R>,
+    writer: &mut Told<W>,
+) -> Result<Outcome, DriveFault>
+    requires reader { IsNew reader.old }
+    requires writer { IsNew writer.old }
+    ensures report { Reports asked (R.remaining reader.old.inner) (W.contents writer.old.inner) (W.contents writer.new.inner) result }
+    ensures cause { HasCause reader.new writer.new result }
+{
+    match asked {
+        Asked::Replay => drive(rt.alloc(), reader, writer),
+        Asked::Check => check(rt.alloc(), reader, writer),
+        Asked::Storm { turns } => drive_storm(rt, rt.alloc(), turns, reader, writer),
     }
 }
 

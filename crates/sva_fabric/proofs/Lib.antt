@@ -1,3 +1,4 @@
 pub mod Standing
 pub mod Sums
 pub mod Once
+pub mod Hands

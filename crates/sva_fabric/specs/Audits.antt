@@ -49,10 +49,10 @@ calls_of [] = 0
 calls_of (s ∷ seats) = length s.receipts + calls_of seats
 
 -- the tokens of bindings, and those of uses
-abbrev pub held_by : Tokens → ℕ
+abbrev pub held_by : {C : Type 0} → Tokens C → ℕ
 held_by t = length t.leases.items + length t.leavings.items
 
-abbrev pub used_by : Tokens → ℕ
+abbrev pub used_by : {C : Type 0} → Tokens C → ℕ
 used_by t = length t.tickets.items
 
 -- the calls add up to the journal's length, and there are as many tokens as its world has unreleased bindings and taken use slots
@@ -74,11 +74,14 @@ IsAudit h seats held used (Err bad) =
     ⊎ (EachStands h.entries 0 seats × (AddUp h seats held used → ⊥) × (bad.port ≡ length seats) × (bad.place ≡ length h.entries))
 
 -- what a call that takes the journal out of the lock says: there is a legal journal of the config that was opened of which this is the
--- audit; it has each call of these ports, and, where these are all ports, no other
+-- audit; it has each call of these ports, and, where these are all ports, no other; and there are no more tokens than its world has
+-- unreleased bindings and taken use slots
 pub record IsFinished (config : Config) (parts : ℕ) (seats : List Seat) (held used : ℕ) (result : Result Audit FirstBadReceipt) : Type 0 where
   pub journal : History
   pub legal : IsLegal journal
   pub of_config : journal.config ≡ config
   pub counted : calls_of seats ≤ length journal.entries
   pub all_counted : length seats ≡ parts → calls_of seats ≡ length journal.entries
+  pub few_held : held ≤ bindings_of journal
+  pub few_used : used ≤ uses_of journal
   pub is_audit : IsAudit journal seats held used result

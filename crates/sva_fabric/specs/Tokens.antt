@@ -15,17 +15,6 @@ use Rattle.sva_fabric.specs.declared.tokens.Moved.TheVariants as moved
 use Rattle.sva_fabric.specs.Receipts.{Seat, IsAnswered, IsRefused, last_of}
 use Rattle.sva_journal.specs.Suiting.{IsUnbound, IsMoved}
 
--- the numbers of a lease, as the bind's answer has them
-pub record LeaseNumbers : Type 0 where
-  pub binding : ℕ
-  pub pasid : ℕ
-
--- the numbers of a ticket: the endpoint of the step, slot and frame of its answer
-pub record TicketNumbers : Type 0 where
-  pub endpoint : ℕ
-  pub slot : ℕ
-  pub frame : ℕ
-
 -- what a call that was answered did to its port: it has one receipt more, of this step and reply
 pub record HasCalled (config : Config) (before after : Seat) (s : Step) (r : Reply) : Type 0 where
   pub receipt : Receipt
@@ -52,6 +41,6 @@ pub record HasMoved (config : Config) (before after : Seat) (binding : ℕ) : Ty
   pub suits : IsMoved said
   pub called : HasCalled config before after (step.Advance binding) (Ok said)
 
-abbrev pub IsAdvance : Config → (before after : Seat) → (binding : ℕ) → Moved → Type 0
+abbrev pub IsAdvance : {C : Type 0} → Config → (before after : Seat) → (binding : ℕ) → Moved C → Type 0
 IsAdvance config before after binding (moved.Again leaving) = (leaving ≡ binding) × HasMoved config before after binding
 IsAdvance config before after binding moved.Gone = HasCalled config before after (step.Advance binding) (Ok answer.Released)

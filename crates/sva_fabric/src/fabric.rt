@@ -7,10 +7,13 @@ ghost use Rattle.sva_step.specs.Limits.{Fits};
 ghost use Rattle.sva_journal.specs.Reached.{IsOpenRefusal};
 ghost use Rattle.sva_journal.specs.Suiting.{Suits};
 ghost use Rattle.sva_fabric.specs.Receipts.{last_of, IsAnswered, IsRefused, IsCounted, IsAstray};
+ghost use Rattle.sva_fabric.specs.Stocks.{IsHandedIn, IsHandedOut};
 ghost use Rattle.sva_fabric.specs.Audits.{held_by, used_by, seats_of, IsFinished, new_seats};
 
 use crate::audits::{Audit, FirstBadReceipt};
+use crate::blanks::Blanks;
 use crate::gathering::gather;
+use crate::held::Held;
 use crate::opening::open_ports;
 use crate::port::Port;
 use crate::ports::Ports;
@@ -19,7 +22,6 @@ use crate::running::{Running, StepFault, Strayed};
 use crate::tally::Tally;
 use crate::tokens::Tokens;
 use std::alloc::Global;
-use std::sync::ledger::Blank;
 use std::sync::{Mutex, Wait};
 use sva_frames::Counts;
 use sva_step::{Config, Refusal, Step};
@@ -32,22 +34,24 @@ pub struct Fabric<C: Tally> {
 
 impl<C: Tally> Fabric<C> {
     /// A world of a config, of which nothing was asked, and its ports. A config out of its limits is `BadConfig`; the only other
-    /// refusal is `OutOfMemory`. The blank is that of the ledger of calls, with a part for each port.
+    /// refusal is `OutOfMemory`. The blanks are those that `Blanks::new` makes for the config.
     pub fn open(
         alloc: Global,
         config: Config,
-        calls: Blank,
+        blanks: Blanks,
     ) -> Result<(Fabric<C>, Ports<C>), Refusal>
         requires config { config ≡ C.config }
-        requires name { calls.name ≡ C.name }
-        requires parts { calls.parts ≡ C.parts }
-        requires ports { Fits config → calls.parts ≡ 3 + config.endpoints + config.workers }
+        requires name { blanks.calls.name ≡ C.name }
+        requires parts { blanks.calls.parts ≡ C.parts }
+        requires ports { Fits config → blanks.calls.parts ≡ 3 + config.endpoints + config.workers }
+        requires bindings { blanks.bindings.name ≡ C.bindings }
+        requires uses { blanks.uses.name ≡ C.uses }
         ensures ok { IfOk result (λ opened. (Fits config) × (seats_of opened.1 ≡ new_seats config)) }
         ensures bad { (result ≡ Err refusal.BadConfig) ↔ (Fits config → ⊥) }
         ensures memory { IfErr result IsOpenRefusal }
     {
-        let (book, shares) = calls.open::<C>();
-        let running = Running::open(alloc, config, book)?;
+        let (books, shares) = blanks.open::<C>();
+        let running = Running::open(alloc, config, books)?;
         let Ok(ports) = open_ports(alloc, &config, shares) else {
             return Err(Refusal::OutOfMemory);
         };
@@ -70,16 +74,20 @@ impl<C: Tally> Fabric<C> {
         ensures err { OnErr result (port.new ≡ port.old) }
         ensures fault { IfErr result (λ f. IsRefused C.config port.old.number (last_of port.old.receipts) f) }
     {
-        self.call(rt, port, step)
+        self.call(rt, port, &mut Held::nothing(), step)
     }
 
-    // Takes one step, of whatever kind.
+    // Takes one step, of whatever kind, with the token that it spends.
     pub(crate) fn call<R: Wait>(
         &self,
         rt: &R,
         port: &mut Port<C>,
+        held: &mut Held<C>,
         step: &Step,
     ) -> Result<Receipt, StepFault>
+        requires held { IsHandedIn step.now held.old }
+        ensures handed { IfOk result (λ r. IsHandedOut held.old held.new r.answer) }
+        ensures unhanded { OnErr result (held.new ≡ held.old) }
         ensures answered { IfOk result (λ r. IsAnswered C.config port.old.number (last_of port.old.receipts) step.now r) }
         ensures kept { IfOk result (λ r. port.new ≡ record port.old { receipts = port.old.receipts ++ r ∷ [] }) }
         ensures suits { IfOk result (λ r. Suits step.now r.answer) }
@@ -95,7 +103,10 @@ impl<C: Tally> Fabric<C> {
         if receipts.reserve(1).is_err() {
             return Err(StepFault::Memory);
         }
-        let receipt = self.running.lock(rt).step(*number, last, calls, step)?;
+        let receipt = self
+            .running
+            .lock(rt)
+            .step(*number, last, calls, held, step)?;
         let kept = receipt;
         receipts.push_reserved(kept);
         Ok(receipt)
@@ -112,12 +123,12 @@ impl<C: Tally> Fabric<C> {
 
     /// Ends the sharing. It compares the receipts of all ports with the journal, and the tokens that are left with its world's
     /// unreleased bindings and taken use slots.
-    pub fn finish(self, ports: Ports<C>, tokens: Tokens) -> Result<Audit, FirstBadReceipt>
+    pub fn finish(self, ports: Ports<C>, tokens: Tokens<C>) -> Result<Audit, FirstBadReceipt>
         ensures audit { IsFinished C.config C.parts (seats_of ports) (held_by tokens) (used_by tokens) result }
     {
         let mut running = self.running.into_inner();
         let result = running.audit(&ports, &tokens);
-        tokens.spend();
+        running.spend(tokens);
         let mut calls = gather(ports);
         running.compare(&mut calls);
         result

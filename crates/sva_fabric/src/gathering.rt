@@ -1,11 +1,12 @@
-//! The calls of all ports, put together again.
+//! The calls of all ports, and the parts of tokens, put together again.
 
 ghost use Rattle.std.specs.Prelude.{◌≡◌, ◌+◌, length};
-ghost use Rattle.sva_fabric.specs.Audits.{seats_of, calls_of};
+ghost use Rattle.sva_fabric.specs.Audits.{seats_of, calls_of, held_by, used_by};
 
 use crate::port::Port;
 use crate::ports::Ports;
-use crate::tally::Tally;
+use crate::tally::{Bindings, Tally, Uses};
+use crate::tokens::{Lease, Leaving, Tokens, UseTicket};
 use std::sync::ledger::Share;
 
 // One share that counts the calls of all ports.
@@ -39,4 +40,68 @@ fn gather_row<C: Tally>(all: &mut Share<C>, ports: Vec<Port<C>>)
     while let Some(port) = ports.pop() {
         all.merge(port.into_calls());
     }
+}
+
+// Spends tokens: their parts are gathered in two shares.
+pub(crate) fn gather_tokens<C: Tally>(
+    held: &mut Share<Bindings<C>>,
+    used: &mut Share<Uses<C>>,
+    tokens: Tokens<C>,
+)
+    ensures held { held.new.amount ≡ held.old.amount + held_by tokens }
+    ensures used { used.new.amount ≡ used.old.amount + used_by tokens }
+{
+    let Tokens {
+        leases,
+        leavings,
+        tickets,
+    } = tokens;
+    gather_leases(held, leases);
+    gather_leavings(held, leavings);
+    gather_tickets(used, tickets);
+}
+
+fn gather_leases<C: Tally>(held: &mut Share<Bindings<C>>, leases: Vec<Lease<C>>)
+    ensures { held.new.amount ≡ held.old.amount + length leases.items }
+{
+    let mut leases = leases;
+    while let Some(lease) = leases.pop() {
+        let Lease {
+            binding: _,
+            pasid: _,
+            held: token,
+        } = lease;
+        token.gather_binding(held);
+    }
+    leases.destroy_empty();
+}
+
+fn gather_leavings<C: Tally>(held: &mut Share<Bindings<C>>, leavings: Vec<Leaving<C>>)
+    ensures { held.new.amount ≡ held.old.amount + length leavings.items }
+{
+    let mut leavings = leavings;
+    while let Some(leaving) = leavings.pop() {
+        let Leaving {
+            binding: _,
+            held: token,
+        } = leaving;
+        token.gather_binding(held);
+    }
+    leavings.destroy_empty();
+}
+
+fn gather_tickets<C: Tally>(used: &mut Share<Uses<C>>, tickets: Vec<UseTicket<C>>)
+    ensures { used.new.amount ≡ used.old.amount + length tickets.items }
+{
+    let mut tickets = tickets;
+    while let Some(ticket) = tickets.pop() {
+        let UseTicket {
+            endpoint: _,
+            slot: _,
+            frame: _,
+            held: token,
+        } = ticket;
+        token.gather_use(used);
+    }
+    tickets.destroy_empty();
 }

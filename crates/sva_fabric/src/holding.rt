@@ -1,13 +1,15 @@
 //! The calls that make, move or spend tokens.
 
-ghost use Rattle.std.specs.Prelude.{◌≡◌, IfOk, IfErr, IfSome, IfNone, Ok, Some, true, false};
+ghost use Rattle.std.specs.Prelude.{◌≡◌, IfOk, IfErr, IfSome, IfNone, OnErr, Ok, Some, true, false};
 ghost use Rattle.sva_step.specs.declared.answers.Answer.TheVariants as answer;
 ghost use Rattle.sva_step.specs.declared.steps.Step.TheVariants as step;
 ghost use Rattle.sva_journal.specs.Suiting.{SuitsStep, IsAdvanced, IsBinding, IsMoved, IsUse, IsOver};
+ghost use Rattle.sva_fabric.specs.Stocks.{IsHandedIn, IsHandedOut};
 ghost use Rattle.sva_fabric.specs.Tokens.{HasCalled, HasUnbound, IsAdvance, IsFault};
 
 use crate::fabric::Fabric;
 use crate::faults::Fault;
+use crate::held::Held;
 use crate::port::Port;
 use crate::running::StepFault;
 use crate::tally::Tally;
@@ -23,16 +25,21 @@ impl<C: Tally> Fabric<C> {
         port: &mut Port<C>,
         endpoint: u64,
         space: u64,
-    ) -> Result<Lease, Fault>
+    ) -> Result<Lease<C>, Fault>
         ensures bound { IfOk result (λ lease. HasCalled C.config port.old port.new (step.Bind endpoint space)
             (Ok (answer.Binding lease.binding lease.pasid))) }
         ensures fault { IfErr result (λ f. IsFault C.config port.old port.new (step.Bind endpoint space) f) }
     {
-        let answer = self.answer(rt, port, &Step::Bind { endpoint, space })?;
+        let mut held = Held::nothing();
+        let answer = self.answer(rt, port, &mut held, &Step::Bind { endpoint, space })?;
         let Some((binding, pasid)) = binding_in(&answer) else {
             unreachable!()
         };
-        Ok(Lease { binding, pasid })
+        Ok(Lease {
+            binding,
+            pasid,
+            held,
+        })
     }
 
     /// Begins to take a binding back. Where that isn't answered, or refused, the lease comes back.
@@ -40,16 +47,21 @@ impl<C: Tally> Fabric<C> {
         &self,
         rt: &R,
         port: &mut Port<C>,
-        lease: Lease,
-    ) -> Result<Leaving, (Lease, Fault)>
+        lease: Lease<C>,
+    ) -> Result<Leaving<C>, (Lease<C>, Fault)>
         ensures leaving { IfOk result (λ leaving. (leaving ≡ lease.binding) × HasUnbound C.config port.old port.new lease.binding) }
         ensures fault { IfErr result (λ e. (e.0 ≡ lease) × IsFault C.config port.old port.new (step.Unbind lease.binding) e.1) }
     {
         let binding = lease.binding();
-        match self.answer(rt, port, &Step::Unbind { binding }) {
+        let mut none = Held::nothing();
+        match self.answer(rt, port, &mut none, &Step::Unbind { binding }) {
             Ok(_) => {
-                let Lease { binding, pasid: _ } = lease;
-                Ok(Leaving { binding })
+                let Lease {
+                    binding,
+                    pasid: _,
+                    held,
+                } = lease;
+                Ok(Leaving { binding, held })
             }
             Err(fault) => Err((lease, fault)),
         }
@@ -60,20 +72,24 @@ impl<C: Tally> Fabric<C> {
         &self,
         rt: &R,
         port: &mut Port<C>,
-        leaving: Leaving,
-    ) -> Result<Moved, (Leaving, Fault)>
+        leaving: Leaving<C>,
+    ) -> Result<Moved<C>, (Leaving<C>, Fault)>
         ensures moved { IfOk result (λ moved. IsAdvance C.config port.old port.new leaving moved) }
         ensures fault { IfErr result (λ e. (e.0 ≡ leaving) × IsFault C.config port.old port.new (step.Advance leaving) e.1) }
     {
+        let mut leaving = leaving;
         let binding = leaving.binding();
-        let answer = match self.answer(rt, port, &Step::Advance { binding }) {
+        let answer = match self.answer(rt, port, &mut leaving.held, &Step::Advance { binding }) {
             Ok(answer) => answer,
             Err(fault) => return Err((leaving, fault)),
         };
         if !is_released(&answer) {
             return Ok(Moved::Again(leaving));
         }
-        let Leaving { binding: _ } = leaving;
+        let Leaving {
+            binding: _,
+            held: _,
+        } = leaving;
         Ok(Moved::Gone)
     }
 
@@ -86,7 +102,7 @@ impl<C: Tally> Fabric<C> {
         pasid: u64,
         page: u64,
         write: bool,
-    ) -> Result<UseTicket, Fault>
+    ) -> Result<UseTicket<C>, Fault>
         ensures endpoint { IfOk result (λ ticket. ticket.endpoint ≡ endpoint) }
         ensures begun { IfOk result (λ ticket. HasCalled C.config port.old port.new (step.BeginUse endpoint pasid page write)
             (Ok (answer.Use ticket.slot ticket.frame))) }
@@ -98,7 +114,8 @@ impl<C: Tally> Fabric<C> {
             page,
             write,
         };
-        let answer = self.answer(rt, port, &asked)?;
+        let mut held = Held::nothing();
+        let answer = self.answer(rt, port, &mut held, &asked)?;
         let Some((slot, frame)) = use_in(&answer) else {
             unreachable!()
         };
@@ -106,6 +123,7 @@ impl<C: Tally> Fabric<C> {
             endpoint,
             slot,
             frame,
+            held,
         })
     }
 
@@ -114,21 +132,23 @@ impl<C: Tally> Fabric<C> {
         &self,
         rt: &R,
         port: &mut Port<C>,
-        ticket: UseTicket,
-    ) -> Result<Answer, (UseTicket, Fault)>
+        ticket: UseTicket<C>,
+    ) -> Result<Answer, (UseTicket<C>, Fault)>
         ensures ended { IfOk result (λ a. HasCalled C.config port.old port.new (step.EndUse ticket.endpoint ticket.slot) (Ok a)) }
         ensures over { IfOk result IsOver }
         ensures fault { IfErr result (λ e. (e.0 ≡ ticket)
             × IsFault C.config port.old port.new (step.EndUse ticket.endpoint ticket.slot) e.1) }
     {
+        let mut ticket = ticket;
         let endpoint = ticket.endpoint();
         let slot = ticket.slot().into();
-        match self.answer(rt, port, &Step::EndUse { endpoint, slot }) {
+        match self.answer(rt, port, &mut ticket.held, &Step::EndUse { endpoint, slot }) {
             Ok(answer) => {
                 let UseTicket {
                     endpoint: _,
                     slot: _,
                     frame: _,
+                    held: _,
                 } = ticket;
                 Ok(answer)
             }
@@ -137,12 +157,21 @@ impl<C: Tally> Fabric<C> {
     }
 
     // Takes a step, and tells its answer where it isn't refused.
-    fn answer<R: Wait>(&self, rt: &R, port: &mut Port<C>, asked: &Step) -> Result<Answer, Fault>
+    fn answer<R: Wait>(
+        &self,
+        rt: &R,
+        port: &mut Port<C>,
+        held: &mut Held<C>,
+        asked: &Step,
+    ) -> Result<Answer, Fault>
+        requires held { IsHandedIn asked.now held.old }
+        ensures handed { IfOk result (λ a. IsHandedOut held.old held.new (Ok a)) }
+        ensures unhanded { OnErr result (held.new ≡ held.old) }
         ensures called { IfOk result (λ a. HasCalled C.config port.old port.new asked.now (Ok a)) }
         ensures suits { IfOk result (λ a. SuitsStep asked.now a) }
         ensures fault { IfErr result (λ f. IsFault C.config port.old port.new asked.now f) }
     {
-        let receipt = match self.call(rt, port, asked) {
+        let receipt = match self.call(rt, port, held, asked) {
             Ok(receipt) => receipt,
             Err(StepFault::Memory) => return Err(Fault::Memory),
             Err(StepFault::Strayed { place, found }) => return Err(Fault::Strayed { place, found }),

@@ -7,9 +7,12 @@ ghost use Rattle.sva_journal.specs.Reached.{IsOpenRefusal};
 ghost use Rattle.sva_journal.specs.Journal.{IsLegal, CountsOf, bindings_of, uses_of, entry_of, with_entry, empty_of};
 ghost use Rattle.sva_journal.specs.Suiting.{Suits};
 ghost use Rattle.sva_fabric.specs.Receipts.{Stands, IsAnsweredAt, IsRefusedAt, HasStrayed};
+ghost use Rattle.sva_fabric.specs.Stocks.{no_totals, IsHandedIn, IsHandedOut};
 ghost use Rattle.sva_fabric.specs.Audits.{held_by, used_by, seats_of, AllStand, IsFirstBad, EachStands, IsFirstBadOf, calls_of, IsAudit};
 
 use crate::audits::{Audit, FirstBadReceipt};
+use crate::books::Books;
+use crate::held::Held;
 use crate::port::Port;
 use crate::ports::Ports;
 use crate::receipts::Receipt;
@@ -17,7 +20,7 @@ use crate::tally::Tally;
 use crate::tokens::Tokens;
 use std::alloc::Global;
 use std::marker::Model;
-use std::sync::ledger::{Book, Share};
+use std::sync::ledger::Share;
 use sva_frames::Counts;
 use sva_journal::{Entry, Journaled};
 use sva_step::{Config, Refusal, Step};
@@ -45,49 +48,53 @@ pub struct Strayed {
     pub found: Option<Entry>,
 }
 
-/// A journaled world, as it lies under the lock of a `Fabric`, with the book of its calls: the journal is as long as the shares of the
-/// ports add up to, and its config is the one of the type.
+/// A journaled world, as it lies under the lock of a `Fabric`, with its books: the journal is as long as the shares of the ports add up to,
+/// its world has as many unreleased bindings and taken use slots as there are tokens of them, and its config is the one of the type.
 #[derive(Drop)]
 pub struct Running<C: Tally> {
     journaled: Journaled,
-    calls: Book<C>,
+    books: Books<C>,
 }
 
 impl<C: Tally> Model for Running<C> {
-    ghost use Rattle.std.specs.Prelude.{◌≡◌, length};
+    ghost use Rattle.std.specs.Prelude.{◌≡◌};
     ghost use Rattle.sva_journal.specs.Journal.{History};
+    ghost use Rattle.sva_fabric.specs.Stocks.{totals_of};
 
     ghost Value = { History };
 
     ghost view = { λ r. r.journaled };
 
-    ghost invariant = { λ r. (r.calls.total ≡ length r.journaled.entries) × (r.journaled.config ≡ C.config) };
+    ghost invariant = { λ r. (r.books ≡ totals_of r.journaled) × (r.journaled.config ≡ C.config) };
 }
 
 impl<C: Tally> Running<C> {
-    /// A new world of a config, of which nothing was asked, with a book in which nothing stands. A config out of its limits is
+    /// A new world of a config, of which nothing was asked, with books in which nothing stands. A config out of its limits is
     /// `BadConfig`; the only other refusal is `OutOfMemory`.
-    pub fn open(alloc: Global, config: Config, calls: Book<C>) -> Result<Running<C>, Refusal>
+    pub fn open(alloc: Global, config: Config, books: Books<C>) -> Result<Running<C>, Refusal>
         requires config { config ≡ C.config }
-        requires none { calls.total ≡ 0 }
+        requires none { books ≡ no_totals }
         ensures ok { IfOk result (λ r. (Fits config) × (r ≡ empty_of config)) }
         ensures bad { (result ≡ Err refusal.BadConfig) ↔ (Fits config → ⊥) }
         ensures memory { IfErr result IsOpenRefusal }
     {
         let journaled = Journaled::open(alloc, config)?;
-        Ok(Running { journaled, calls })
+        Ok(Running { journaled, books })
     }
 
     /// Takes one step for a port whose last receipt is this one. The receipt is compared with the journal first; where it doesn't
-    /// stand there, the answer is `Strayed`. A call that is answered counts in the port's share.
+    /// stand there, the answer is `Strayed`. A call that is answered counts in the port's share, and what it makes is in hand then, and
+    /// what it spends no longer.
     pub fn step(
         &mut self,
         port: u64,
         last: Option<Receipt>,
         calls: &mut Share<C>,
+        held: &mut Held<C>,
         step: &Step,
     ) -> Result<Receipt, StepFault>
-        requires { 0 < calls.old.parts }
+        requires part { 0 < calls.old.parts }
+        requires held { IsHandedIn step.now held.old }
         ensures answered { IfOk result (λ r. IsAnsweredAt self.old port last step.now r) }
         ensures journal { IfOk result (λ r. self.new ≡ with_entry self.old (entry_of port r.step r.answer)) }
         ensures err { OnErr result (self.new ≡ self.old) }
@@ -98,6 +105,8 @@ impl<C: Tally> Running<C> {
         ensures counted { OnOk result (calls.new.amount ≡ calls.old.amount + 1) }
         ensures uncounted { OnErr result (calls.new.amount ≡ calls.old.amount) }
         ensures parts { calls.new.parts ≡ calls.old.parts }
+        ensures handed { IfOk result (λ r. IsHandedOut held.old held.new r.answer) }
+        ensures unhanded { OnErr result (held.new ≡ held.old) }
     {
         let place = self.journaled.calls();
         if let Err(Strayed { place, found }) = self.holds(port, last) {
@@ -106,7 +115,7 @@ impl<C: Tally> Running<C> {
         let Ok(entry) = self.journaled.perform(port, step) else {
             return Err(StepFault::Memory);
         };
-        self.calls.add(calls, 1);
+        self.books.note(&self.journaled, calls, held);
         Ok(Receipt {
             place,
             step: entry.step,
@@ -135,11 +144,20 @@ impl<C: Tally> Running<C> {
         ensures some { calls.new.amount ≤ length self.new.entries }
         ensures all { calls.new.parts ≡ C.parts → calls.new.amount ≡ length self.new.entries }
     {
-        self.calls.audit(calls);
+        self.books.compare(calls);
+    }
+
+    /// Spends tokens. They are no more than the unreleased bindings and the taken use slots. Nothing changes.
+    pub fn spend(&mut self, tokens: Tokens<C>)
+        ensures same { self.new ≡ self.old }
+        ensures held { held_by tokens ≤ bindings_of self.new }
+        ensures used { used_by tokens ≤ uses_of self.new }
+    {
+        self.books.spend(tokens);
     }
 
     /// Compares the receipts of all ports with the journal, and the tokens with its world's unreleased bindings and taken use slots.
-    pub fn audit(&self, ports: &Ports<C>, tokens: &Tokens) -> Result<Audit, FirstBadReceipt>
+    pub fn audit(&self, ports: &Ports<C>, tokens: &Tokens<C>) -> Result<Audit, FirstBadReceipt>
         ensures audit { IsAudit self.now (seats_of ports.now) (held_by tokens.now) (used_by tokens.now) result }
         ensures legal { IsLegal self.now }
         ensures config { self.now.config ≡ C.config }
@@ -164,7 +182,7 @@ impl<C: Tally> Running<C> {
     }
 
     // Tells that there is a token for each unreleased binding, and for each taken use slot.
-    fn are_all(&self, tokens: &Tokens) -> bool
+    fn are_all(&self, tokens: &Tokens<C>) -> bool
         ensures yes { result ≡ true → (held_by tokens.now ≡ bindings_of self.now) × (used_by tokens.now ≡ uses_of self.now) }
         ensures no { result ≡ false → (held_by tokens.now ≡ bindings_of self.now) × (used_by tokens.now ≡ uses_of self.now) → ⊥ }
     {

@@ -3,24 +3,30 @@
 
 ghost use Rattle.std.specs.Prelude.{◌≡◌, []};
 
+use crate::held::Held;
+use crate::tally::Tally;
 use std::alloc::Global;
 use std::marker::Model;
 
 /// A binding that `Fabric::bind` made. Contracts see its numbers.
-pub struct Lease {
+pub struct Lease<C: Tally> {
     pub(crate) binding: u64,
     pub(crate) pasid: u32,
+    pub(crate) held: Held<C>,
 }
 
-impl Model for Lease {
-    ghost use Rattle.sva_fabric.specs.Tokens.{LeaseNumbers};
+impl<C: Tally> Model for Lease<C> {
+    ghost use Rattle.std.specs.Prelude.{◌≡◌};
+    ghost use Rattle.sva_fabric.specs.Stocks.{LeaseNumbers, one_binding};
 
     ghost Value = { LeaseNumbers };
 
     ghost view = { λ lease. record { binding = lease.binding; pasid = lease.pasid } };
+
+    ghost invariant = { λ lease. lease.held ≡ one_binding };
 }
 
-impl Lease {
+impl<C: Tally> Lease<C> {
     /// The number of the binding.
     pub fn binding(&self) -> u64
         ensures { result ≡ self.now.binding }
@@ -37,44 +43,52 @@ impl Lease {
 }
 
 /// A binding that is being taken back. Contracts see its number.
-pub struct Leaving {
+pub struct Leaving<C: Tally> {
     pub(crate) binding: u64,
+    pub(crate) held: Held<C>,
 }
 
-impl Model for Leaving {
-    ghost use Rattle.std.specs.Prelude.{ℕ};
+impl<C: Tally> Model for Leaving<C> {
+    ghost use Rattle.std.specs.Prelude.{◌≡◌, ℕ};
+    ghost use Rattle.sva_fabric.specs.Stocks.{one_binding};
 
     ghost Value = { ℕ };
 
     ghost view = { λ leaving. leaving.binding };
+
+    ghost invariant = { λ leaving. leaving.held ≡ one_binding };
 }
 
-impl Leaving {
+impl<C: Tally> Leaving<C> {
     /// The number of the binding.
     pub fn binding(&self) -> u64
         ensures { result ≡ self.now }
     {
-        let Leaving { binding } = self;
+        let Leaving { binding, .. } = self;
         *binding
     }
 }
 
 /// A use that began: its slot is taken until `Fabric::end`. Contracts see its numbers.
-pub struct UseTicket {
+pub struct UseTicket<C: Tally> {
     pub(crate) endpoint: u64,
     pub(crate) slot: u8,
     pub(crate) frame: u32,
+    pub(crate) held: Held<C>,
 }
 
-impl Model for UseTicket {
-    ghost use Rattle.sva_fabric.specs.Tokens.{TicketNumbers};
+impl<C: Tally> Model for UseTicket<C> {
+    ghost use Rattle.std.specs.Prelude.{◌≡◌};
+    ghost use Rattle.sva_fabric.specs.Stocks.{TicketNumbers, one_use};
 
     ghost Value = { TicketNumbers };
 
     ghost view = { λ ticket. record { endpoint = ticket.endpoint; slot = ticket.slot; frame = ticket.frame } };
+
+    ghost invariant = { λ ticket. ticket.held ≡ one_use };
 }
 
-impl UseTicket {
+impl<C: Tally> UseTicket<C> {
     /// The number of the endpoint.
     pub fn endpoint(&self) -> u64
         ensures { result ≡ self.now.endpoint }
@@ -98,26 +112,26 @@ impl UseTicket {
 }
 
 /// What became of a binding by an advance.
-pub enum Moved {
+pub enum Moved<C: Tally> {
     /// It is at its next stage.
-    Again(Leaving),
+    Again(Leaving<C>),
     /// It is released.
     Gone,
 }
 
 /// The tokens that are left at the end.
-pub struct Tokens {
+pub struct Tokens<C: Tally> {
     /// Of bindings that nobody takes back.
-    pub leases: Vec<Lease>,
+    pub leases: Vec<Lease<C>>,
     /// Of bindings that are being taken back.
-    pub leavings: Vec<Leaving>,
+    pub leavings: Vec<Leaving<C>>,
     /// Of uses, those that a reset ended among them.
-    pub tickets: Vec<UseTicket>,
+    pub tickets: Vec<UseTicket<C>>,
 }
 
-impl Tokens {
+impl<C: Tally> Tokens<C> {
     /// No tokens.
-    pub fn new(alloc: Global) -> Tokens
+    pub fn new(alloc: Global) -> Tokens<C>
         ensures leases { result.leases.items ≡ [] }
         ensures leavings { result.leavings.items ≡ [] }
         ensures tickets { result.tickets.items ≡ [] }
@@ -127,33 +141,5 @@ impl Tokens {
             leavings: Vec::new(alloc),
             tickets: Vec::new(alloc),
         }
-    }
-
-    // Spends all of them.
-    pub(crate) fn spend(self) {
-        let Tokens {
-            mut leases,
-            mut leavings,
-            mut tickets,
-        } = self;
-        while let Some(lease) = leases.pop() {
-            let Lease {
-                binding: _,
-                pasid: _,
-            } = lease;
-        }
-        leases.destroy_empty();
-        while let Some(leaving) = leavings.pop() {
-            let Leaving { binding: _ } = leaving;
-        }
-        leavings.destroy_empty();
-        while let Some(ticket) = tickets.pop() {
-            let UseTicket {
-                endpoint: _,
-                slot: _,
-                frame: _,
-            } = ticket;
-        }
-        tickets.destroy_empty();
     }
 }

@@ -17,7 +17,7 @@ use Rattle.sva_laws.proofs.Journals.{more_legal}
 use Rattle.sva_laws.proofs.Lookback.{after_one}
 use Rattle.sva_core.specs.Reached.{FollowsAt, Follows}
 use Rattle.sva_journal.specs.declared.journal.Entry.{Entry}
-use Rattle.sva_journal.specs.Journal.{History, IsLegal, as_defined, entry_of, world_of, answer_of, with_entry, empty_of}
+use Rattle.sva_journal.specs.Journal.{History, IsLegal, as_defined, entry_of, world_of, answer_of, with_entry, empty_of, bindings_of, uses_of, CountsFollow}
 
 defined_more : (es : List Entry) (e : Entry) → map as_defined (es ++ e ∷ []) ≡ map as_defined es ++ as_defined e ∷ []
 defined_more [] e = refl
@@ -108,6 +108,13 @@ no_bindings : (config : Config) → unreleased (wire (opened PerSpace config)) �
 unfolding select
 no_bindings config = refl
 
+-- so of a new journal
+pub none_bound : (config : Config) → bindings_of (empty_of config) ≡ 0
+none_bound config = no_bindings config
+
+pub none_used : (config : Config) → uses_of (empty_of config) ≡ 0
+none_used config = no_slots config
+
 pub begun : (config : Config) (entries : List Entry) (seen : Wire) → Fits config → entries ≡ [] → seen ≡ wire (opened PerSpace config)
     → IsLegal (record { config = config; entries = entries }) × (seen ≡ wire (world_of (record { config = config; entries = entries })))
     × (0 ≡ unreleased seen) × (0 ≤ length entries) × (0 ≡ slots_taken seen) × (0 ≤ length entries)
@@ -133,3 +140,16 @@ tallied h s r before after legal is follows has =
     (subst (λ (x : Wire). IsTallied (wire (world_of h)) x r) (sym step.1)
     (subst (λ (q : Reply). IsTallied (wire (world_of h)) (wire (next (world_of h) s)) q) (sym step.0)
     (always_tallied PerSpace h.config (steps_of (map as_defined h.entries)) s)))
+
+-- so both numbers of the journal's world do
+pub follow : (h : History) (port : ℕ) (s : Step) (r : Reply) (noted : List Entry) → r ≡ answer_of h s → noted ≡ h.entries ++ entry_of port s r ∷ []
+    → CountsFollow h (record { config = h.config; entries = noted }) r
+follow h port s r noted is all =
+    let there : wire (next (world_of h) s) ≡ wire (world_of (record { config = h.config; entries = noted })) =
+    sym (ap wire (ap (λ (es : List Entry). world_of (record { config = h.config; entries = es })) all ∙ world_more h (entry_of port s r))) in
+    let t : IsTallied (wire (world_of h)) (wire (next (world_of h) s)) (answer_of h s) =
+    always_tallied PerSpace h.config (steps_of (map as_defined h.entries)) s in
+    let u : IsTallied (wire (world_of h)) (wire (world_of (record { config = h.config; entries = noted }))) r =
+    subst (λ (q : Reply). IsTallied (wire (world_of h)) (wire (world_of (record { config = h.config; entries = noted }))) q) (sym is)
+    (subst (λ (x : Wire). IsTallied (wire (world_of h)) x (answer_of h s)) there t) in
+    record { bindings = u.bindings; uses = u.slots }

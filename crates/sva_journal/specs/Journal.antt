@@ -1,5 +1,5 @@
 -- The journal that is kept beside the world, as the definitions have it.
-use Rattle.std.specs.Prelude.{◌≡◌, ℕ, List, [], ◌∷◌, ◌++◌, map}
+use Rattle.std.specs.Prelude.{◌≡◌, ℕ, ◌+◌, List, [], ◌∷◌, ◌++◌, map}
 use Rattle.sva_frames.specs.declared.pool.Counts.{Counts as FrameCounts}
 use Rattle.sva_step.specs.declared.limits.Config.{Config}
 use Rattle.sva_step.specs.declared.steps.Step.{Step}
@@ -7,7 +7,7 @@ use Rattle.sva_model.specs.State.PasidRule.{PerSpace}
 use Rattle.sva_model.specs.State.{World}
 use Rattle.sva_model.specs.Steps.{Reply, reply, counts}
 use Rattle.sva_model.specs.Wire.{wire}
-use Rattle.sva_labels.specs.Tallies.{unreleased, slots_taken}
+use Rattle.sva_labels.specs.Tallies.{unreleased, slots_taken, binds, releases, begins, ends}
 use Rattle.sva_model.specs.Journal.{Entry as DefinedEntry, IsLegal as IsLegalJournal, world_of as world_of_journal}
 use Rattle.sva_journal.specs.declared.journal.Entry.{Entry}
 
@@ -48,6 +48,11 @@ bindings_of h = unreleased (wire (world_of h))
 
 abbrev pub uses_of : History → ℕ
 uses_of h = slots_taken (wire (world_of h))
+
+-- both numbers change as an answer says
+pub record CountsFollow (before after : History) (r : Reply) : Type 0 where
+  pub bindings : bindings_of after + releases r ≡ bindings_of before + binds r
+  pub uses : uses_of after + ends r ≡ uses_of before + begins r
 
 -- the counts of frames at the journal's world
 abbrev pub CountsOf : History → FrameCounts → Type 0

@@ -1,4 +1,4 @@
--- Which answers the steps may have that make, move or spend a token.
+-- Which answers the steps may have that make, move or spend a token, and that no other step has these.
 use Rattle.std.specs.Prelude.{IfOk}
 use Rattle.sva_step.specs.declared.answers.Answer.{Answer}
 use Rattle.sva_step.specs.declared.answers.Answer.TheVariants as answer
@@ -40,13 +40,22 @@ IsOver answer.Ended = Unit {0}
 IsOver answer.Dead = Unit {0}
 IsOver _ = ⊥
 
+-- of a step that makes, moves and spends no token
+abbrev pub IsStill : Answer → Type 0
+IsStill (answer.Binding binding pasid) = ⊥
+IsStill answer.Released = ⊥
+IsStill (answer.Use slot frame) = ⊥
+IsStill answer.Ended = ⊥
+IsStill answer.Dead = ⊥
+IsStill _ = Unit {0}
+
 abbrev pub SuitsStep : Step → Answer → Type 0
 SuitsStep (step.Bind endpoint space) a = IsBinding a
 SuitsStep (step.Unbind binding) a = IsUnbound a
 SuitsStep (step.Advance binding) a = IsAdvanced a
 SuitsStep (step.BeginUse endpoint pasid page write) a = IsUse a
 SuitsStep (step.EndUse endpoint slot) a = IsOver a
-SuitsStep _ a = Unit {0}
+SuitsStep _ a = IsStill a
 
 -- a refusal suits each step
 abbrev pub Suits : Step → Reply → Type 0

@@ -5,7 +5,7 @@ ghost use Rattle.sva_step.specs.declared.refusals.Refusal.TheVariants as refusal
 ghost use Rattle.sva_step.specs.Limits.{Fits};
 ghost use Rattle.sva_core.specs.Reached.{IsOpenRefusal};
 ghost use Rattle.sva_labels.specs.Tallies.{binds, releases, begins, ends};
-ghost use Rattle.sva_journal.specs.Journal.{IsLegal, entry_of, answer_of, with_entry, empty_of, CountsOf, bindings_of, uses_of};
+ghost use Rattle.sva_journal.specs.Journal.{IsLegal, entry_of, answer_of, with_entry, empty_of, CountsFollow, CountsOf, bindings_of, uses_of};
 ghost use Rattle.sva_journal.specs.Suiting.{Suits};
 
 use crate::comparing::is_same_entry;
@@ -77,6 +77,7 @@ impl Journaled {
         ensures entry { IfOk result (λ e. e ≡ entry_of port step.now (answer_of self.old step.now)) }
         ensures journal { IfOk result (λ e. self.new ≡ with_entry self.old e) }
         ensures suits { IfOk result (λ e. Suits step.now e.answer) }
+        ensures follow { IfOk result (λ e. CountsFollow self.old self.new e.answer) }
         ensures err { OnErr result (self.new ≡ self.old) }
         ensures legal { IsLegal self.new }
     {

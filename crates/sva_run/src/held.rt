@@ -24,7 +24,7 @@ pub(crate) fn take<C: Tally, R: Wait>(
     fabric: &Fabric<C>,
     rt: &R,
     port: &mut Port<C>,
-    tokens: &mut Tokens,
+    tokens: &mut Tokens<C>,
     step: &Step,
 ) -> Option<Result<Answer, Refusal>> {
     match make_call(fabric, rt, port, tokens, step) {
@@ -40,7 +40,7 @@ fn make_call<C: Tally, R: Wait>(
     fabric: &Fabric<C>,
     rt: &R,
     port: &mut Port<C>,
-    tokens: &mut Tokens,
+    tokens: &mut Tokens<C>,
     step: &Step,
 ) -> Call {
     if step.is_plain() {
@@ -86,7 +86,7 @@ fn bind<C: Tally, R: Wait>(
     fabric: &Fabric<C>,
     rt: &R,
     port: &mut Port<C>,
-    leases: &mut Vec<Lease>,
+    leases: &mut Vec<Lease<C>>,
     endpoint: u64,
     space: u64,
 ) -> Call {
@@ -107,7 +107,7 @@ fn unbind<C: Tally, R: Wait>(
     fabric: &Fabric<C>,
     rt: &R,
     port: &mut Port<C>,
-    tokens: &mut Tokens,
+    tokens: &mut Tokens<C>,
     binding: u64,
 ) -> Call {
     let Tokens {
@@ -139,7 +139,7 @@ fn advance<C: Tally, R: Wait>(
     fabric: &Fabric<C>,
     rt: &R,
     port: &mut Port<C>,
-    leavings: &mut Vec<Leaving>,
+    leavings: &mut Vec<Leaving<C>>,
     binding: u64,
 ) -> Call {
     let Some(place) = leaving_of(leavings.as_slice(), binding) else {
@@ -164,7 +164,7 @@ fn begin<C: Tally, R: Wait>(
     fabric: &Fabric<C>,
     rt: &R,
     port: &mut Port<C>,
-    tickets: &mut Vec<UseTicket>,
+    tickets: &mut Vec<UseTicket<C>>,
     endpoint: u64,
     pasid: u64,
     page: u64,
@@ -187,7 +187,7 @@ fn end<C: Tally, R: Wait>(
     fabric: &Fabric<C>,
     rt: &R,
     port: &mut Port<C>,
-    tickets: &mut Vec<UseTicket>,
+    tickets: &mut Vec<UseTicket<C>>,
     endpoint: u64,
     slot: u64,
 ) -> Call {
@@ -205,7 +205,7 @@ fn end<C: Tally, R: Wait>(
 }
 
 // The place of the lease of a binding.
-fn lease_of(leases: &[Lease], binding: u64) -> Option<usize>
+fn lease_of<C: Tally>(leases: &[Lease<C>], binding: u64) -> Option<usize>
     ensures { IfSome result (λ place. place < length leases.now) }
 {
     for place in 0..leases.len() {
@@ -217,7 +217,7 @@ fn lease_of(leases: &[Lease], binding: u64) -> Option<usize>
 }
 
 // The place of the leaving of a binding.
-fn leaving_of(leavings: &[Leaving], binding: u64) -> Option<usize>
+fn leaving_of<C: Tally>(leavings: &[Leaving<C>], binding: u64) -> Option<usize>
     ensures { IfSome result (λ place. place < length leavings.now) }
 {
     for place in 0..leavings.len() {
@@ -229,7 +229,7 @@ fn leaving_of(leavings: &[Leaving], binding: u64) -> Option<usize>
 }
 
 // The place of the ticket of a use slot.
-fn ticket_of(tickets: &[UseTicket], endpoint: u64, slot: u64) -> Option<usize>
+fn ticket_of<C: Tally>(tickets: &[UseTicket<C>], endpoint: u64, slot: u64) -> Option<usize>
     ensures { IfSome result (λ place. place < length tickets.now) }
 {
     for place in 0..tickets.len() {

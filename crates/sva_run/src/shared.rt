@@ -8,8 +8,7 @@ use crate::{Fault, Taken};
 use std::alloc::Global;
 use std::marker::Brand;
 use std::sync::Wait;
-use std::sync::ledger::Blank;
-use sva_fabric::{Fabric, Port, Tally, Tokens, ports_of};
+use sva_fabric::{Blanks, Fabric, Port, Tally, Tokens};
 use sva_frames::Counts;
 use sva_step::{Answer, Config, Refusal, Step};
 
@@ -23,24 +22,26 @@ pub(crate) fn take_shared<R: Wait>(
     if !config.fits() {
         return Err(Fault::Config);
     }
-    let calls = Blank::new(ports_of(&config));
-    take_on::<Brand, R>(rt, alloc, config, steps, calls)
+    let blanks = Blanks::new(&config);
+    take_on::<Brand, R>(rt, alloc, config, steps, blanks)
 }
 
-// The same on the world whose calls are counted by this blank.
+// The same on the world of these blanks.
 fn take_on<C: Tally, R: Wait>(
     rt: &R,
     alloc: Global,
     config: Config,
     steps: &[Step],
-    calls: Blank,
+    blanks: Blanks,
 ) -> Result<Taken, Fault>
     requires config { config ≡ C.config }
-    requires name { calls.name ≡ C.name }
-    requires parts { calls.parts ≡ C.parts }
-    requires ports { Fits config → calls.parts ≡ 3 + config.endpoints + config.workers }
+    requires name { blanks.calls.name ≡ C.name }
+    requires parts { blanks.calls.parts ≡ C.parts }
+    requires ports { Fits config → blanks.calls.parts ≡ 3 + config.endpoints + config.workers }
+    requires bindings { blanks.bindings.name ≡ C.bindings }
+    requires uses { blanks.uses.name ≡ C.uses }
 {
-    let (fabric, ports) = match Fabric::<C>::open(alloc, config, calls) {
+    let (fabric, ports) = match Fabric::<C>::open(alloc, config, blanks) {
         Ok(opened) => opened,
         Err(Refusal::BadConfig) => return Err(Fault::Config),
         Err(_) => return Err(Fault::Memory),
@@ -70,7 +71,7 @@ fn take_each<C: Tally, R: Wait>(
     fabric: &Fabric<C>,
     rt: &R,
     port: &mut Port<C>,
-    tokens: &mut Tokens,
+    tokens: &mut Tokens<C>,
     steps: &[Step],
     answers: &mut Vec<Result<Answer, Refusal>>,
 ) -> Result<(), Fault> {

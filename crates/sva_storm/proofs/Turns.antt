@@ -9,7 +9,8 @@ use Rattle.sva_step.specs.declared.steps.Step.TheVariants.{EndUse}
 use Rattle.sva_fabric.specs.declared.faults.Fault.{Fault}
 use Rattle.sva_fabric.specs.declared.faults.Fault.TheVariants as fault
 use Rattle.sva_fabric.specs.Receipts.{Seat}
-use Rattle.sva_fabric.specs.Tokens.{HasCalled, IsFault, TicketNumbers}
+use Rattle.sva_fabric.specs.Stocks.{TicketNumbers}
+use Rattle.sva_fabric.specs.Tokens.{HasCalled, IsFault}
 use Rattle.sva_storm.specs.declared.endings.Turn.{Turn}
 use Rattle.sva_storm.specs.Plays.{is_accepted, HasCalledOnce, IsTurn, turn_after_fault}
 

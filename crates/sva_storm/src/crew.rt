@@ -30,7 +30,7 @@ pub(crate) struct Crew<C: Tally, D, P> {
 
 /// Room for the ports and tickets of all seats.
 pub(crate) struct Room<C: Tally> {
-    tickets: Vec<UseTicket>,
+    tickets: Vec<UseTicket<C>>,
     endpoints: Vec<Port<C>>,
     workers: Vec<Port<C>>,
     ghost no_tickets: { vec_len tickets ≡ 0 },
@@ -112,7 +112,7 @@ impl<C: Tally, D: Device + Drop, P: Pager + Drop> Crew<C, D, P> {
     }
 
     // Takes all seats apart: their ports in their order, the tokens that are left, and whether a thread wanted memory.
-    pub(crate) fn rise(self) -> (Ports<C>, Tokens, bool) {
+    pub(crate) fn rise(self) -> (Ports<C>, Tokens<C>, bool) {
         let Crew {
             host,
             seats,
@@ -229,7 +229,7 @@ fn sit_down<
 // Takes the last seat apart.
 fn leave_last<C: Tally, D: Device + Drop, P: Pager + Drop>(
     seats: &mut Vec<Seat<C, D, P>>,
-    tickets: &mut Vec<UseTicket>,
+    tickets: &mut Vec<UseTicket<C>>,
 ) -> (Port<C>, bool)
     requires some { 1 ≤ vec_len seats.old }
     requires room { vec_len tickets.old + 16 ≤ vec_capacity tickets.old }
@@ -249,7 +249,7 @@ fn leave_all<C: Tally, D: Device + Drop, P: Pager + Drop>(
     endpoint_count: usize,
     endpoints: &mut Vec<Port<C>>,
     workers: &mut Vec<Port<C>>,
-    tickets: &mut Vec<UseTicket>,
+    tickets: &mut Vec<UseTicket<C>>,
 ) -> bool
     requires endpoints { vec_len endpoints.old + vec_len seats ≤ vec_capacity endpoints.old }
     requires workers { vec_len workers.old + vec_len seats ≤ vec_capacity workers.old }

@@ -1,16 +1,16 @@
 //! How loops and storms end.
 
-use sva_fabric::{FirstBadReceipt, UseTicket};
+use sva_fabric::{FirstBadReceipt, Tally, UseTicket};
 use thiserror::Error;
 
 /// How a loop ended.
-pub struct Ended {
+pub struct Ended<C: Tally> {
     /// How many turns weren't used.
     pub turns_left: u64,
     /// Want of memory ended it.
     pub out_of_memory: bool,
     /// The uses that began and didn't end: at most 16.
-    pub tickets: Vec<UseTicket>,
+    pub tickets: Vec<UseTicket<C>>,
 }
 
 /// Why a storm has no audit.

@@ -3,13 +3,17 @@
 ghost use Rattle.std.specs.Prelude.{◌≡◌, ◌+◌, ◌<◌, ◌≤◌, length, slice_get, vec_len, vec_capacity, IfSome};
 
 use std::alloc::Global;
-use sva_fabric::UseTicket;
+use sva_fabric::{Tally, UseTicket};
 
 /// How many tickets are in hand at most: as many as an endpoint has use slots.
 pub(crate) const MOST_TICKETS: usize = 16;
 
 // The place of the ticket of a use slot.
-pub(crate) fn place_of(tickets: &[UseTicket], endpoint: u64, slot: u64) -> Option<usize>
+pub(crate) fn place_of<C: Tally>(
+    tickets: &[UseTicket<C>],
+    endpoint: u64,
+    slot: u64,
+) -> Option<usize>
     ensures { IfSome result (λ place. (place < length tickets.now)
         × IfSome (slice_get tickets.now place) (λ ticket. (ticket.endpoint ≡ endpoint) × (ticket.slot ≡ slot))) }
 {
@@ -23,14 +27,14 @@ pub(crate) fn place_of(tickets: &[UseTicket], endpoint: u64, slot: u64) -> Optio
 }
 
 /// A hand: its tickets are at most 16.
-pub(crate) struct Hand {
-    pub(crate) tickets: Vec<UseTicket>,
+pub(crate) struct Hand<C: Tally> {
+    pub(crate) tickets: Vec<UseTicket<C>>,
     ghost few: { vec_len tickets ≤ 16 },
 }
 
-impl Hand {
+impl<C: Tally> Hand<C> {
     // An empty hand. Its places are reserved by whoever plays with it.
-    pub(crate) fn new(alloc: Global) -> Hand {
+    pub(crate) fn new(alloc: Global) -> Hand<C> {
         Hand {
             tickets: Vec::new(alloc),
         }
@@ -38,7 +42,7 @@ impl Hand {
 }
 
 // Puts some tickets to others, for which there is room.
-pub(crate) fn pour(from: Vec<UseTicket>, into: &mut Vec<UseTicket>)
+pub(crate) fn pour<C: Tally>(from: Vec<UseTicket<C>>, into: &mut Vec<UseTicket<C>>)
     requires { vec_len into.old + vec_len from ≤ vec_capacity into.old }
     ensures len { vec_len into.new ≡ vec_len into.old + vec_len from }
     ensures capacity { vec_capacity into.new ≡ vec_capacity into.old }
@@ -51,7 +55,7 @@ pub(crate) fn pour(from: Vec<UseTicket>, into: &mut Vec<UseTicket>)
 }
 
 // Puts the tickets of a hand to others, for which there is room.
-pub(crate) fn pour_hand(hand: Hand, into: &mut Vec<UseTicket>)
+pub(crate) fn pour_hand<C: Tally>(hand: Hand<C>, into: &mut Vec<UseTicket<C>>)
     requires { vec_len into.old + 16 ≤ vec_capacity into.old }
     ensures len { vec_len into.new ≤ vec_len into.old + 16 }
     ensures capacity { vec_capacity into.new ≡ vec_capacity into.old }

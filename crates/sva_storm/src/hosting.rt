@@ -12,13 +12,13 @@ use sva_fabric::{Fabric, Lease, Leaving, Moved, Port, Tally};
 use sva_step::Step;
 
 /// The bindings that the host's thread has in hand.
-pub(crate) struct Holdings {
-    pub(crate) leases: Vec<Lease>,
-    pub(crate) leavings: Vec<Leaving>,
+pub(crate) struct Holdings<C: Tally> {
+    pub(crate) leases: Vec<Lease<C>>,
+    pub(crate) leavings: Vec<Leaving<C>>,
 }
 
 // The place of the lease of a binding.
-fn lease_of(leases: &[Lease], binding: u64) -> Option<usize>
+fn lease_of<C: Tally>(leases: &[Lease<C>], binding: u64) -> Option<usize>
     ensures { IfSome result (λ place. (place < length leases.now) × IfSome (slice_get leases.now place) (λ lease. lease.binding ≡ binding)) }
 {
     for place in 0..leases.len() {
@@ -30,7 +30,7 @@ fn lease_of(leases: &[Lease], binding: u64) -> Option<usize>
 }
 
 // The place of the leaving of a binding.
-fn leaving_of(leavings: &[Leaving], binding: u64) -> Option<usize>
+fn leaving_of<C: Tally>(leavings: &[Leaving<C>], binding: u64) -> Option<usize>
     ensures { IfSome result (λ place. (place < length leavings.now) × IfSome (slice_get leavings.now place) (λ leaving. leaving ≡ binding)) }
 {
     for place in 0..leavings.len() {
@@ -48,7 +48,7 @@ pub(crate) fn host<C: Tally, R: Wait>(
     port: &mut Port<C>,
     script: &[Step],
     turns: u64,
-    holdings: &mut Holdings,
+    holdings: &mut Holdings<C>,
 ) -> Spent
     ensures played { HasPlayed script.now (turns - result.turns_left) port.old port.new 0 0 }
     ensures turns { result.turns_left ≤ turns }
@@ -84,7 +84,7 @@ fn host_turn<C: Tally, R: Wait>(
     rt: &R,
     port: &mut Port<C>,
     line: &Step,
-    holdings: &mut Holdings,
+    holdings: &mut Holdings<C>,
 ) -> Turn
     ensures { IsTurn line.now port.old port.new 0 0 result }
 {
@@ -105,7 +105,7 @@ fn bind<C: Tally, R: Wait>(
     fabric: &Fabric<C>,
     rt: &R,
     port: &mut Port<C>,
-    leases: &mut Vec<Lease>,
+    leases: &mut Vec<Lease<C>>,
     endpoint: u64,
     space: u64,
 ) -> Turn
@@ -128,8 +128,8 @@ fn unbind<C: Tally, R: Wait>(
     fabric: &Fabric<C>,
     rt: &R,
     port: &mut Port<C>,
-    leases: &mut Vec<Lease>,
-    leavings: &mut Vec<Leaving>,
+    leases: &mut Vec<Lease<C>>,
+    leavings: &mut Vec<Leaving<C>>,
     binding: u64,
 ) -> Turn
     ensures { IsTurn (step.Unbind binding) port.old port.new 0 0 result }
@@ -158,7 +158,7 @@ fn advance<C: Tally, R: Wait>(
     fabric: &Fabric<C>,
     rt: &R,
     port: &mut Port<C>,
-    leavings: &mut Vec<Leaving>,
+    leavings: &mut Vec<Leaving<C>>,
     binding: u64,
 ) -> Turn
     ensures { IsTurn (step.Advance binding) port.old port.new 0 0 result }

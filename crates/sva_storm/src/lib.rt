@@ -18,5 +18,7 @@ pub use endings::{Ended, StormFault};
 pub use gates::{Device, Pager};
 pub use paging::fault_loop;
 pub use storming::storm;
-pub use sva_fabric::{Audit, Fabric, Lease, Port, Ports, Tally, Tokens, UseTicket, ports_of};
+pub use sva_fabric::{
+    Audit, Blanks, Fabric, Lease, Port, Ports, Tally, Tokens, UseTicket, ports_of,
+};
 pub use using::endpoint_loop;

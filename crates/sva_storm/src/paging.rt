@@ -23,7 +23,7 @@ pub fn fault_loop<C: Tally, R: Wait, P: Pager>(
     worker: u64,
     pager: &mut P,
     turns: u64,
-) -> Ended
+) -> Ended<C>
     ensures turns { result.turns_left ≤ turns }
     ensures none { vec_len result.tickets ≡ 0 }
     ensures answered { HasAnswered worker (turns - result.turns_left) port.old port.new }

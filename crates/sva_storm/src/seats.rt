@@ -33,7 +33,7 @@ pub(crate) struct Seat<C: Tally, D, P> {
     role: Role<D, P>,
     turns: u64,
     out_of_memory: bool,
-    hand: Hand,
+    hand: Hand<C>,
 }
 
 /// The seat of the host's thread.
@@ -42,7 +42,7 @@ pub(crate) struct HostSeat<C: Tally> {
     script: Vec<Step>,
     turns: u64,
     out_of_memory: bool,
-    holdings: Holdings,
+    holdings: Holdings<C>,
 }
 
 impl<C: Tally, D: Device + Drop, P: Pager + Drop> Seat<C, D, P> {
@@ -72,7 +72,7 @@ impl<C: Tally, D: Device + Drop, P: Pager + Drop> Seat<C, D, P> {
     }
 
     // Takes the seat apart: its tickets are put to others, for which there is room. Tells whether its thread wanted memory.
-    pub(crate) fn leave(self, tickets: &mut Vec<UseTicket>) -> (Port<C>, bool)
+    pub(crate) fn leave(self, tickets: &mut Vec<UseTicket<C>>) -> (Port<C>, bool)
         requires { vec_len tickets.old + 16 ≤ vec_capacity tickets.old }
         ensures len { vec_len tickets.new ≤ vec_len tickets.old + 16 }
         ensures capacity { vec_capacity tickets.new ≡ vec_capacity tickets.old }
@@ -119,7 +119,7 @@ impl<C: Tally> HostSeat<C> {
     }
 
     // Takes the seat apart. Tells whether its thread wanted memory.
-    pub(crate) fn leave(self) -> (Port<C>, Holdings, bool) {
+    pub(crate) fn leave(self) -> (Port<C>, Holdings<C>, bool) {
         let HostSeat {
             port,
             script: _,
@@ -138,7 +138,7 @@ fn play_role<C: Tally, R: Wait, D: Device, P: Pager>(
     port: &mut Port<C>,
     role: &mut Role<D, P>,
     turns: u64,
-    hand: &mut Hand,
+    hand: &mut Hand<C>,
 ) -> Spent {
     match role {
         Role::Link => link(fabric, rt, port, turns),

@@ -12,9 +12,8 @@ use crate::lines::{Player, lines_of};
 use std::alloc::Global;
 use std::marker::Brand;
 use std::sync::Wait;
-use std::sync::ledger::Blank;
 use std::thread::Threads;
-use sva_fabric::{Audit, Fabric, Tally, ports_of};
+use sva_fabric::{Audit, Blanks, Fabric, Tally};
 use sva_grammar::Scenario;
 
 /// Plays a scenario by threads: one for the host, one for the link, one for the service, one for each endpoint and one for each worker.
@@ -39,8 +38,8 @@ pub fn storm<R: Threads + Wait + Sync, D: Device + Send + Drop, P: Pager + Send 
     if !scenario.config.fits() {
         return Err(StormFault::Config);
     }
-    let calls = Blank::new(ports_of(&scenario.config));
-    play_all::<Brand, R, D, P>(rt, alloc, scenario, turns, devices, pagers, calls)
+    let blanks = Blanks::new(&scenario.config);
+    play_all::<Brand, R, D, P>(rt, alloc, scenario, turns, devices, pagers, blanks)
 }
 
 // The storm on the fabric whose calls are counted by this blank.
@@ -56,11 +55,13 @@ fn play_all<
     turns: u64,
     devices: Vec<D>,
     pagers: Vec<P>,
-    calls: Blank,
+    blanks: Blanks,
 ) -> Result<Audit, StormFault>
-    requires name { calls.name ≡ C.name }
-    requires parts { calls.parts ≡ C.parts }
-    requires ports { calls.parts ≡ 3 + scenario.now.config.endpoints + scenario.now.config.workers }
+    requires name { blanks.calls.name ≡ C.name }
+    requires parts { blanks.calls.parts ≡ C.parts }
+    requires ports { blanks.calls.parts ≡ 3 + scenario.now.config.endpoints + scenario.now.config.workers }
+    requires bindings { blanks.bindings.name ≡ C.bindings }
+    requires uses { blanks.uses.name ≡ C.uses }
     requires config { C.config ≡ scenario.now.config }
     requires fits { Fits scenario.now.config }
     requires devices { vec_len devices ≡ scenario.now.config.endpoints }
@@ -69,7 +70,7 @@ fn play_all<
     ensures audit { IfOk result (λ audit. HasFinished scenario.now.config (Ok audit)) }
     ensures bad { IfErr result (λ fault. IsFound scenario.now.config fault) }
 {
-    let Ok((fabric, ports)) = Fabric::<C>::open(alloc, scenario.config, calls) else {
+    let Ok((fabric, ports)) = Fabric::<C>::open(alloc, scenario.config, blanks) else {
         return Err(StormFault::Memory);
     };
     let steps = scenario.steps.as_slice();

@@ -25,7 +25,7 @@ pub fn endpoint_loop<C: Tally, R: Wait, D: Device>(
     device: &mut D,
     script: &[Step],
     turns: u64,
-) -> Ended
+) -> Ended<C>
     ensures played { HasPlayed script.now (turns - result.turns_left) port.old port.new 0 (vec_len result.tickets) }
     ensures turns { result.turns_left ≤ turns }
     ensures few { vec_len result.tickets ≤ 16 }
@@ -50,7 +50,7 @@ pub(crate) fn play<C: Tally, R: Wait, D: Device>(
     device: &mut D,
     script: &[Step],
     turns: u64,
-    tickets: &mut Vec<UseTicket>,
+    tickets: &mut Vec<UseTicket<C>>,
 ) -> Spent
     requires { vec_len tickets.old ≤ 16 }
     ensures played { HasPlayed script.now (turns - result.turns_left) port.old port.new (vec_len tickets.old) (vec_len tickets.new) }
@@ -95,7 +95,7 @@ fn take_turn<C: Tally, R: Wait, D: Device>(
     port: &mut Port<C>,
     device: &mut D,
     line: &Step,
-    tickets: &mut Vec<UseTicket>,
+    tickets: &mut Vec<UseTicket<C>>,
 ) -> Turn
     requires few { vec_len tickets.old ≤ 16 }
     requires room { 16 ≤ vec_capacity tickets.old }
@@ -126,7 +126,7 @@ fn begin_use<C: Tally, R: Wait, D: Device>(
     rt: &R,
     port: &mut Port<C>,
     device: &mut D,
-    tickets: &mut Vec<UseTicket>,
+    tickets: &mut Vec<UseTicket<C>>,
     endpoint: u64,
     pasid: u64,
     page: u64,
@@ -156,7 +156,7 @@ fn end_use<C: Tally, R: Wait>(
     fabric: &Fabric<C>,
     rt: &R,
     port: &mut Port<C>,
-    tickets: &mut Vec<UseTicket>,
+    tickets: &mut Vec<UseTicket<C>>,
     endpoint: u64,
     slot: u64,
 ) -> Turn

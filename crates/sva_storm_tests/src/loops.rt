@@ -6,7 +6,6 @@ use std::alloc::Global;
 use std::marker::Brand;
 use std::process::Abort;
 use std::sync::atomic::{AtomicU64, Ordering};
-use std::sync::ledger::Blank;
 use std::sync::{Barrier, Wait};
 use std::test::Fail;
 use std::thread;
@@ -14,8 +13,8 @@ use std::thread::Threads;
 use sva_grammar::{Scenario, parse};
 use sva_step::{Answer, Config, Refusal, Verdict};
 use sva_storm::{
-    Device, Ended, Fabric, Lease, Pager, Port, Ports, Tally, Tokens, UseTicket, endpoint_loop,
-    fault_loop, ports_of,
+    Blanks, Device, Ended, Fabric, Lease, Pager, Port, Ports, Tally, Tokens, UseTicket,
+    endpoint_loop, fault_loop,
 };
 
 /// What two threads know of each other's first call.
@@ -100,7 +99,7 @@ pub(crate) fn plays<C: Tally, R: Wait + Abort>(
     fabric: &Fabric<C>,
     port: &mut Port<C>,
     text: &str,
-    tickets: &mut Vec<UseTicket>,
+    tickets: &mut Vec<UseTicket<C>>,
 ) -> Option<u32> {
     let script = scenario(rt, alloc, text).steps;
     let mut device = Noting { frame: None };
@@ -120,7 +119,7 @@ pub(crate) fn plays<C: Tally, R: Wait + Abort>(
 }
 
 // Puts some tickets to others, for which there is room.
-fn pour(from: Vec<UseTicket>, into: &mut Vec<UseTicket>)
+fn pour<C: Tally>(from: Vec<UseTicket<C>>, into: &mut Vec<UseTicket<C>>)
     requires { vec_len into.old + vec_len from ≤ vec_capacity into.old }
 {
     let mut from = from;
@@ -131,10 +130,10 @@ fn pour(from: Vec<UseTicket>, into: &mut Vec<UseTicket>)
 }
 
 // How many turns are left, and how many tickets, which are put to others.
-pub(crate) fn left_of<R: Abort>(
+pub(crate) fn left_of<C: Tally, R: Abort>(
     rt: &R,
-    ended: Ended,
-    tickets: &mut Vec<UseTicket>,
+    ended: Ended<C>,
+    tickets: &mut Vec<UseTicket<C>>,
 ) -> (u64, usize) {
     let Ended {
         turns_left,
@@ -155,7 +154,7 @@ pub(crate) fn binds<C: Tally, R: Wait + Abort>(
     fabric: &Fabric<C>,
     port: &mut Port<C>,
     endpoints: u64,
-) -> Vec<Lease> {
+) -> Vec<Lease<C>> {
     let mut leases = Vec::new(alloc);
     for endpoint in 0..endpoints {
         assert!(rt; leases.reserve(1).is_ok());
@@ -174,7 +173,7 @@ fn use_at_once<C: Tally + Send + Sync, R: Threads + Wait + Abort + Sync>(
     fabric: &Fabric<C>,
     first: &mut Port<C>,
     second: &mut Port<C>,
-) -> (Ended, Ended) {
+) -> (Ended<C>, Ended<C>) {
     let one_uses = scenario(rt, alloc, "config 2 4 1\nuse 0 1 16 w\nend 0 1\n").steps;
     let two_uses = scenario(rt, alloc, "config 2 4 1\nuse 1 1 16 w\n").steps;
     let (lines_one, lines_two) = (one_uses.as_slice(), two_uses.as_slice());
@@ -243,7 +242,7 @@ fn both_use<C: Tally + Send + Sync, R: Threads + Wait + Abort + Sync>(
     alloc: Global,
     fabric: &Fabric<C>,
     endpoints: &mut [Port<C>],
-    tickets: &mut Vec<UseTicket>,
+    tickets: &mut Vec<UseTicket<C>>,
 ) {
     let [first, second] = endpoints else {
         panic!(rt; "there are two");
@@ -256,13 +255,15 @@ fn both_use<C: Tally + Send + Sync, R: Threads + Wait + Abort + Sync>(
 fn two_endpoints<C: Tally + Send + Sync, R: Threads + Wait + Abort + Sync>(
     rt: &R,
     alloc: Global,
-    calls: Blank,
+    blanks: Blanks,
 ) -> Result<(), Fail>
-    requires name { calls.name ≡ C.name }
-    requires parts { (calls.parts ≡ C.parts) × (calls.parts ≡ 6) }
+    requires name { blanks.calls.name ≡ C.name }
+    requires parts { (blanks.calls.parts ≡ C.parts) × (blanks.calls.parts ≡ 6) }
+    requires bindings { blanks.bindings.name ≡ C.bindings }
+    requires uses { blanks.uses.name ≡ C.uses }
     requires config { C.config ≡ TWO_ENDPOINTS }
 {
-    let Ok((fabric, mut ports)) = Fabric::<C>::open(alloc, TWO_ENDPOINTS, calls) else {
+    let Ok((fabric, mut ports)) = Fabric::<C>::open(alloc, TWO_ENDPOINTS, blanks) else {
         return Err("it opens".into());
     };
     let mut tickets = Vec::new(alloc);
@@ -303,7 +304,7 @@ fn two_endpoints<C: Tally + Send + Sync, R: Threads + Wait + Abort + Sync>(
 
 #[test]
 fn two_uses_at_once(rt: HostRuntime) -> Result<(), Fail> {
-    two_endpoints::<Brand, _>(&rt, rt.alloc(), Blank::new(ports_of(&TWO_ENDPOINTS)))
+    two_endpoints::<Brand, _>(&rt, rt.alloc(), Blanks::new(&TWO_ENDPOINTS))
 }
 
 const SPACE: &str = "config 1 4 2\nspace\n";
@@ -318,7 +319,7 @@ fn decide_at_once<C: Tally + Send + Sync, R: Threads + Wait + Abort + Sync>(
     fabric: &Fabric<C>,
     first: &mut Port<C>,
     second: &mut Port<C>,
-) -> (Ended, Ended) {
+) -> (Ended<C>, Ended<C>) {
     let (one, two) = (AtomicU64::new(0), AtomicU64::new(0));
     let (met_one, met_two) = (AtomicU64::new(0), AtomicU64::new(0));
     let barrier = Barrier::new(2);
@@ -359,13 +360,15 @@ fn decide_at_once<C: Tally + Send + Sync, R: Threads + Wait + Abort + Sync>(
 fn two_workers<C: Tally + Send + Sync, R: Threads + Wait + Abort + Sync>(
     rt: &R,
     alloc: Global,
-    calls: Blank,
+    blanks: Blanks,
 ) -> Result<(), Fail>
-    requires name { calls.name ≡ C.name }
-    requires parts { (calls.parts ≡ C.parts) × (calls.parts ≡ 6) }
+    requires name { blanks.calls.name ≡ C.name }
+    requires parts { (blanks.calls.parts ≡ C.parts) × (blanks.calls.parts ≡ 6) }
+    requires bindings { blanks.bindings.name ≡ C.bindings }
+    requires uses { blanks.uses.name ≡ C.uses }
     requires config { C.config ≡ TWO_WORKERS }
 {
-    let Ok((fabric, mut ports)) = Fabric::<C>::open(alloc, TWO_WORKERS, calls) else {
+    let Ok((fabric, mut ports)) = Fabric::<C>::open(alloc, TWO_WORKERS, blanks) else {
         return Err("it opens".into());
     };
     let mut tickets = Vec::new(alloc);
@@ -399,5 +402,5 @@ fn two_workers<C: Tally + Send + Sync, R: Threads + Wait + Abort + Sync>(
 
 #[test]
 fn two_jobs_at_once(rt: HostRuntime) -> Result<(), Fail> {
-    two_workers::<Brand, _>(&rt, rt.alloc(), Blank::new(ports_of(&TWO_WORKERS)))
+    two_workers::<Brand, _>(&rt, rt.alloc(), Blanks::new(&TWO_WORKERS))
 }

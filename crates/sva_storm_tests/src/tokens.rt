@@ -7,13 +7,12 @@ use std::alloc::Global;
 use std::marker::Brand;
 use std::process::Abort;
 use std::sync::Wait;
-use std::sync::ledger::Blank;
 use std::test::Fail;
 use sva_fabric::{Leaving, Moved};
 use sva_step::{Answer, Config, Refusal, Step, Verdict};
 use sva_storm::{
-    Device, Fabric, Lease, Pager, Port, Ports, Tally, Tokens, UseTicket, endpoint_loop, fault_loop,
-    ports_of,
+    Blanks, Device, Fabric, Lease, Pager, Port, Ports, Tally, Tokens, UseTicket, endpoint_loop,
+    fault_loop,
 };
 
 // One endpoint, four frames and one worker.
@@ -72,7 +71,7 @@ fn ends<C: Tally, R: Abort>(
     rt: &R,
     fabric: Fabric<C>,
     ports: Ports<C>,
-    tokens: Tokens,
+    tokens: Tokens<C>,
     free: u32,
     mapped: u32,
 ) {
@@ -94,7 +93,7 @@ fn uses<C: Tally, R: Wait + Abort>(
     alloc: Global,
     fabric: &Fabric<C>,
     ports: Ports<C>,
-    tickets: &mut Vec<UseTicket>,
+    tickets: &mut Vec<UseTicket<C>>,
 ) -> Ports<C> {
     let script = scenario(rt, alloc, USES).steps;
     let Ports {
@@ -136,12 +135,18 @@ fn uses<C: Tally, R: Wait + Abort>(
     }
 }
 
-fn reset_in_use<C: Tally, R: Wait + Abort>(rt: &R, alloc: Global, calls: Blank) -> Result<(), Fail>
-    requires name { calls.name ≡ C.name }
-    requires parts { (calls.parts ≡ C.parts) × (calls.parts ≡ 5) }
+fn reset_in_use<C: Tally, R: Wait + Abort>(
+    rt: &R,
+    alloc: Global,
+    blanks: Blanks,
+) -> Result<(), Fail>
+    requires name { blanks.calls.name ≡ C.name }
+    requires parts { (blanks.calls.parts ≡ C.parts) × (blanks.calls.parts ≡ 5) }
+    requires bindings { blanks.bindings.name ≡ C.bindings }
+    requires uses { blanks.uses.name ≡ C.uses }
     requires config { C.config ≡ ONE }
 {
-    let Ok((fabric, mut ports)) = Fabric::<C>::open(alloc, ONE, calls) else {
+    let Ok((fabric, mut ports)) = Fabric::<C>::open(alloc, ONE, blanks) else {
         return Err("it opens".into());
     };
     let mut tickets = Vec::new(alloc);
@@ -162,7 +167,7 @@ fn reset_in_use<C: Tally, R: Wait + Abort>(rt: &R, alloc: Global, calls: Blank) 
 
 #[test]
 fn a_reset_in_a_use(rt: HostRuntime) -> Result<(), Fail> {
-    reset_in_use::<Brand, _>(&rt, rt.alloc(), Blank::new(ports_of(&ONE)))
+    reset_in_use::<Brand, _>(&rt, rt.alloc(), Blanks::new(&ONE))
 }
 
 const SPACE: &str = "config 1 4 1\nspace\n";
@@ -179,7 +184,7 @@ fn takes<C: Tally, R: Wait + Abort>(
     alloc: Global,
     fabric: &Fabric<C>,
     workers: &mut [Port<C>],
-    tickets: &mut Vec<UseTicket>,
+    tickets: &mut Vec<UseTicket<C>>,
 ) {
     let [worker] = workers else {
         panic!(rt; "there is one");
@@ -201,8 +206,8 @@ fn unbinds<C: Tally, R: Wait + Abort>(
     rt: &R,
     fabric: &Fabric<C>,
     port: &mut Port<C>,
-    leases: &mut Vec<Lease>,
-) -> Leaving {
+    leases: &mut Vec<Lease<C>>,
+) -> Leaving<C> {
     let Some(lease) = leases.pop() else {
         panic!(rt; "it was bound");
     };
@@ -217,9 +222,9 @@ fn advances<C: Tally, R: Wait + Abort>(
     rt: &R,
     fabric: &Fabric<C>,
     port: &mut Port<C>,
-    leaving: Leaving,
+    leaving: Leaving<C>,
     answer: Result<Answer, Refusal>,
-) -> Leaving {
+) -> Leaving<C> {
     let leaving = match fabric.advance(rt, port, leaving) {
         Ok(Moved::Again(leaving)) => leaving,
         Ok(Moved::Gone) => panic!(rt; "it stays"),
@@ -235,9 +240,9 @@ fn drains<C: Tally, R: Wait + Abort>(
     alloc: Global,
     fabric: &Fabric<C>,
     ports: &mut Ports<C>,
-    leases: &mut Vec<Lease>,
-    tickets: &mut Vec<UseTicket>,
-) -> Leaving {
+    leases: &mut Vec<Lease<C>>,
+    tickets: &mut Vec<UseTicket<C>>,
+) -> Leaving<C> {
     let leaving = unbinds(rt, fabric, &mut ports.host, leases);
     let _none = plays(rt, alloc, fabric, &mut ports.service, MARKED, tickets);
     let leaving = advances(rt, fabric, &mut ports.host, leaving, Ok(Answer::Draining));
@@ -246,12 +251,14 @@ fn drains<C: Tally, R: Wait + Abort>(
     advances(rt, fabric, &mut ports.host, leaving, Err(Refusal::NotYet))
 }
 
-fn job_in_hand<C: Tally, R: Wait + Abort>(rt: &R, alloc: Global, calls: Blank) -> Result<(), Fail>
-    requires name { calls.name ≡ C.name }
-    requires parts { (calls.parts ≡ C.parts) × (calls.parts ≡ 5) }
+fn job_in_hand<C: Tally, R: Wait + Abort>(rt: &R, alloc: Global, blanks: Blanks) -> Result<(), Fail>
+    requires name { blanks.calls.name ≡ C.name }
+    requires parts { (blanks.calls.parts ≡ C.parts) × (blanks.calls.parts ≡ 5) }
+    requires bindings { blanks.bindings.name ≡ C.bindings }
+    requires uses { blanks.uses.name ≡ C.uses }
     requires config { C.config ≡ ONE }
 {
-    let Ok((fabric, mut ports)) = Fabric::<C>::open(alloc, ONE, calls) else {
+    let Ok((fabric, mut ports)) = Fabric::<C>::open(alloc, ONE, blanks) else {
         return Err("it opens".into());
     };
     let mut tickets = Vec::new(alloc);
@@ -279,5 +286,5 @@ fn job_in_hand<C: Tally, R: Wait + Abort>(rt: &R, alloc: Global, calls: Blank) -
 
 #[test]
 fn a_job_in_hand(rt: HostRuntime) -> Result<(), Fail> {
-    job_in_hand::<Brand, _>(&rt, rt.alloc(), Blank::new(ports_of(&ONE)))
+    job_in_hand::<Brand, _>(&rt, rt.alloc(), Blanks::new(&ONE))
 }

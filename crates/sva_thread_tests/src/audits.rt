@@ -6,10 +6,9 @@ use std::marker::Brand;
 use std::mem;
 use std::process::Abort;
 use std::sync::Wait;
-use std::sync::ledger::Blank;
 use std::test::Fail;
 use sva_fabric::{
-    Entry, Fabric, FirstBadReceipt, Receipt, Running, StepFault, Tally, Tokens, ports_of,
+    Blanks, Entry, Fabric, FirstBadReceipt, Held, Receipt, Running, StepFault, Tally, Tokens,
 };
 use sva_step::{Answer, Config, Refusal, Step};
 
@@ -21,17 +20,20 @@ fn made() -> Receipt {
     }
 }
 
-fn strays<C: Tally>(rt: &impl Abort, alloc: Global, calls: Blank) -> Result<(), Fail>
-    requires name { calls.name ≡ C.name }
-    requires parts { (calls.parts ≡ C.parts) × (calls.parts ≡ 6) }
+fn strays<C: Tally>(rt: &impl Abort, alloc: Global, blanks: Blanks) -> Result<(), Fail>
+    requires name { blanks.calls.name ≡ C.name }
+    requires parts { (blanks.calls.parts ≡ C.parts) × (blanks.calls.parts ≡ 6) }
+    requires bindings { blanks.bindings.name ≡ C.bindings }
+    requires uses { blanks.uses.name ≡ C.uses }
     requires config { C.config ≡ CONFIG }
 {
-    let (book, mut share) = calls.open::<C>();
-    let Ok(mut running) = Running::<C>::open(alloc, CONFIG, book) else {
+    let (books, mut share) = blanks.open::<C>();
+    let Ok(mut running) = Running::<C>::open(alloc, CONFIG, books) else {
         return Err("it opens".into());
     };
+    let mut held = Held::nothing();
     // Nothing stands there yet.
-    let strayed = running.step(3, Some(made()), &mut share, &Step::Space);
+    let strayed = running.step(3, Some(made()), &mut share, &mut held, &Step::Space);
     assert_eq!(rt;
         strayed,
         Err(StepFault::Strayed {
@@ -39,11 +41,11 @@ fn strays<C: Tally>(rt: &impl Abort, alloc: Global, calls: Blank) -> Result<(), 
             found: None
         })
     );
-    let first = running.step(1, None, &mut share, &Step::Space);
+    let first = running.step(1, None, &mut share, &mut held, &Step::Space);
     let wanted = Ok(made());
     assert_eq!(rt; first, wanted);
     // Another port's call stands there.
-    let strayed = running.step(3, Some(made()), &mut share, &Step::Space);
+    let strayed = running.step(3, Some(made()), &mut share, &mut held, &Step::Space);
     let found = Entry {
         port: 1,
         step: Step::Space,
@@ -56,7 +58,7 @@ fn strays<C: Tally>(rt: &impl Abort, alloc: Global, calls: Blank) -> Result<(), 
     assert_eq!(rt; strayed, wanted);
     assert!(rt;
         running
-            .step(1, Some(made()), &mut share, &Step::Space)
+            .step(1, Some(made()), &mut share, &mut held, &Step::Space)
             .is_ok()
     );
     running.compare(&mut share);
@@ -65,15 +67,17 @@ fn strays<C: Tally>(rt: &impl Abort, alloc: Global, calls: Blank) -> Result<(), 
 
 #[test]
 fn a_receipt_that_does_not_stand(rt: HostRuntime) -> Result<(), Fail> {
-    strays::<Brand>(&rt, rt.alloc(), Blank::new(ports_of(&CONFIG)))
+    strays::<Brand>(&rt, rt.alloc(), Blanks::new(&CONFIG))
 }
 
-fn changed<C: Tally, R: Wait + Abort>(rt: &R, alloc: Global, calls: Blank) -> Result<(), Fail>
-    requires name { calls.name ≡ C.name }
-    requires parts { (calls.parts ≡ C.parts) × (calls.parts ≡ 6) }
+fn changed<C: Tally, R: Wait + Abort>(rt: &R, alloc: Global, blanks: Blanks) -> Result<(), Fail>
+    requires name { blanks.calls.name ≡ C.name }
+    requires parts { (blanks.calls.parts ≡ C.parts) × (blanks.calls.parts ≡ 6) }
+    requires bindings { blanks.bindings.name ≡ C.bindings }
+    requires uses { blanks.uses.name ≡ C.uses }
     requires config { C.config ≡ CONFIG }
 {
-    let Ok((fabric, mut ports)) = Fabric::<C>::open(alloc, CONFIG, calls) else {
+    let Ok((fabric, mut ports)) = Fabric::<C>::open(alloc, CONFIG, blanks) else {
         return Err("it opens".into());
     };
     let pumped = fabric.step(rt, &mut ports.service, &Step::Pump { endpoint: 0 });
@@ -91,15 +95,17 @@ fn changed<C: Tally, R: Wait + Abort>(rt: &R, alloc: Global, calls: Blank) -> Re
 
 #[test]
 fn ports_that_changed_their_places(rt: HostRuntime) -> Result<(), Fail> {
-    changed::<Brand, _>(&rt, rt.alloc(), Blank::new(ports_of(&CONFIG)))
+    changed::<Brand, _>(&rt, rt.alloc(), Blanks::new(&CONFIG))
 }
 
-fn left_out<C: Tally, R: Wait + Abort>(rt: &R, alloc: Global, calls: Blank) -> Result<(), Fail>
-    requires name { calls.name ≡ C.name }
-    requires parts { (calls.parts ≡ C.parts) × (calls.parts ≡ 6) }
+fn left_out<C: Tally, R: Wait + Abort>(rt: &R, alloc: Global, blanks: Blanks) -> Result<(), Fail>
+    requires name { blanks.calls.name ≡ C.name }
+    requires parts { (blanks.calls.parts ≡ C.parts) × (blanks.calls.parts ≡ 6) }
+    requires bindings { blanks.bindings.name ≡ C.bindings }
+    requires uses { blanks.uses.name ≡ C.uses }
     requires config { C.config ≡ CONFIG }
 {
-    let Ok((fabric, mut ports)) = Fabric::<C>::open(alloc, CONFIG, calls) else {
+    let Ok((fabric, mut ports)) = Fabric::<C>::open(alloc, CONFIG, blanks) else {
         return Err("it opens".into());
     };
     for port in ports.workers.iter_mut() {
@@ -116,7 +122,7 @@ fn left_out<C: Tally, R: Wait + Abort>(rt: &R, alloc: Global, calls: Blank) -> R
 
 #[test]
 fn calls_that_do_not_add_up(rt: HostRuntime) -> Result<(), Fail> {
-    left_out::<Brand, _>(&rt, rt.alloc(), Blank::new(ports_of(&CONFIG)))
+    left_out::<Brand, _>(&rt, rt.alloc(), Blanks::new(&CONFIG))
 }
 
 const TOO_MANY: Config = Config {
@@ -126,14 +132,16 @@ const TOO_MANY: Config = Config {
     first: 0,
 };
 
-fn refused<C: Tally>(rt: &impl Abort, alloc: Global, calls: Blank)
-    requires name { calls.name ≡ C.name }
-    requires parts { (calls.parts ≡ C.parts) × (calls.parts ≡ 10) }
+fn refused<C: Tally>(rt: &impl Abort, alloc: Global, blanks: Blanks)
+    requires name { blanks.calls.name ≡ C.name }
+    requires parts { blanks.calls.parts ≡ C.parts }
+    requires bindings { blanks.bindings.name ≡ C.bindings }
+    requires uses { blanks.uses.name ≡ C.uses }
     requires config { C.config ≡ TOO_MANY }
 {
     assert!(rt;
         matches!(
-            Fabric::<C>::open(alloc, TOO_MANY, calls),
+            Fabric::<C>::open(alloc, TOO_MANY, blanks),
             Err(Refusal::BadConfig)
         )
     );
@@ -141,5 +149,5 @@ fn refused<C: Tally>(rt: &impl Abort, alloc: Global, calls: Blank)
 
 #[test]
 fn a_config_out_of_its_limits(rt: HostRuntime) {
-    refused::<Brand>(&rt, rt.alloc(), Blank::new(10));
+    refused::<Brand>(&rt, rt.alloc(), Blanks::new(&TOO_MANY));
 }

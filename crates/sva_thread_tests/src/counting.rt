@@ -5,9 +5,8 @@ use std::alloc::Global;
 use std::marker::Brand;
 use std::process::Abort;
 use std::sync::Wait;
-use std::sync::ledger::Blank;
 use std::test::Fail;
-use sva_fabric::{Fabric, Receipt, Running, Strayed, Tally, Tokens, ports_of};
+use sva_fabric::{Blanks, Fabric, Receipt, Running, Strayed, Tally, Tokens};
 use sva_step::{Answer, Config, Step};
 
 // One endpoint, four frames and one worker.
@@ -19,12 +18,14 @@ const SMALL: Config = Config {
 };
 
 // Counts are told behind two steps, and are no call.
-fn counted<C: Tally, R: Wait + Abort>(rt: &R, alloc: Global, calls: Blank) -> Result<(), Fail>
-    requires name { calls.name ≡ C.name }
-    requires parts { (calls.parts ≡ C.parts) × (calls.parts ≡ 5) }
+fn counted<C: Tally, R: Wait + Abort>(rt: &R, alloc: Global, blanks: Blanks) -> Result<(), Fail>
+    requires name { blanks.calls.name ≡ C.name }
+    requires parts { (blanks.calls.parts ≡ C.parts) × (blanks.calls.parts ≡ 5) }
+    requires bindings { blanks.bindings.name ≡ C.bindings }
+    requires uses { blanks.uses.name ≡ C.uses }
     requires config { C.config ≡ SMALL }
 {
-    let Ok((fabric, mut ports)) = Fabric::<C>::open(alloc, SMALL, calls) else {
+    let Ok((fabric, mut ports)) = Fabric::<C>::open(alloc, SMALL, blanks) else {
         return Err("it opens".into());
     };
     let host = &mut ports.host;
@@ -42,17 +43,19 @@ fn counted<C: Tally, R: Wait + Abort>(rt: &R, alloc: Global, calls: Blank) -> Re
 
 #[test]
 fn counts_behind_two_steps(rt: HostRuntime) -> Result<(), Fail> {
-    counted::<Brand, _>(&rt, rt.alloc(), Blank::new(ports_of(&SMALL)))
+    counted::<Brand, _>(&rt, rt.alloc(), Blanks::new(&SMALL))
 }
 
 // None are told where the port's last receipt doesn't stand.
-fn astray<C: Tally>(rt: &impl Abort, alloc: Global, calls: Blank) -> Result<(), Fail>
-    requires name { calls.name ≡ C.name }
-    requires parts { (calls.parts ≡ C.parts) × (calls.parts ≡ 5) }
+fn astray<C: Tally>(rt: &impl Abort, alloc: Global, blanks: Blanks) -> Result<(), Fail>
+    requires name { blanks.calls.name ≡ C.name }
+    requires parts { (blanks.calls.parts ≡ C.parts) × (blanks.calls.parts ≡ 5) }
+    requires bindings { blanks.bindings.name ≡ C.bindings }
+    requires uses { blanks.uses.name ≡ C.uses }
     requires config { C.config ≡ SMALL }
 {
-    let (book, _share) = calls.open::<C>();
-    let Ok(running) = Running::<C>::open(alloc, SMALL, book) else {
+    let (books, _share) = blanks.open::<C>();
+    let Ok(running) = Running::<C>::open(alloc, SMALL, books) else {
         return Err("it opens".into());
     };
     let made = Receipt {
@@ -70,5 +73,5 @@ fn astray<C: Tally>(rt: &impl Abort, alloc: Global, calls: Blank) -> Result<(), 
 
 #[test]
 fn none_behind_a_receipt_that_does_not_stand(rt: HostRuntime) -> Result<(), Fail> {
-    astray::<Brand>(&rt, rt.alloc(), Blank::new(ports_of(&SMALL)))
+    astray::<Brand>(&rt, rt.alloc(), Blanks::new(&SMALL))
 }

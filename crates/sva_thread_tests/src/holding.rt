@@ -5,16 +5,15 @@ use std::alloc::Global;
 use std::marker::Brand;
 use std::process::Abort;
 use std::sync::Wait;
-use std::sync::ledger::Blank;
 use std::test::Fail;
 use sva_fabric::{
-    Audit, Fabric, Fault, FirstBadReceipt, Lease, Leaving, Moved, Ports, Tally, Tokens, UseTicket,
-    ports_of,
+    Audit, Blanks, Fabric, Fault, FirstBadReceipt, Lease, Leaving, Moved, Ports, Tally, Tokens,
+    UseTicket,
 };
 use sva_step::{Answer, Refusal, Step};
 
 // A space with a page, bound to endpoint 0, which knows of it.
-fn bound<C: Tally, R: Wait + Abort>(rt: &R, fabric: &Fabric<C>, ports: &mut Ports<C>) -> Lease {
+fn bound<C: Tally, R: Wait + Abort>(rt: &R, fabric: &Fabric<C>, ports: &mut Ports<C>) -> Lease<C> {
     let Ports { host, link, .. } = ports;
     takes(rt, fabric, host, Step::Space, Answer::Space { space: 0 });
     takes(rt, fabric, host, map(16), Answer::Frame { frame: 0 });
@@ -83,7 +82,7 @@ fn ends<C: Tally, R: Wait + Abort>(
     rt: &R,
     fabric: &Fabric<C>,
     ports: &mut Ports<C>,
-    ticket: UseTicket,
+    ticket: UseTicket<C>,
 ) {
     assert_eq!(rt;
         (ticket.endpoint(), ticket.slot(), ticket.frame()),
@@ -100,8 +99,8 @@ fn left<C: Tally, R: Wait + Abort>(
     rt: &R,
     fabric: &Fabric<C>,
     ports: &mut Ports<C>,
-    lease: Lease,
-) -> Leaving {
+    lease: Lease<C>,
+) -> Leaving<C> {
     let leaving = match fabric.unbind(rt, &mut ports.host, lease) {
         Ok(leaving) => leaving,
         Err((_lease, _fault)) => panic!(rt; "it is taken back"),
@@ -115,7 +114,7 @@ fn gone<C: Tally, R: Wait + Abort>(
     rt: &R,
     fabric: &Fabric<C>,
     ports: &mut Ports<C>,
-    leaving: Leaving,
+    leaving: Leaving<C>,
 ) {
     match fabric.advance(rt, &mut ports.host, leaving) {
         Ok(Moved::Gone) => {}
@@ -124,12 +123,18 @@ fn gone<C: Tally, R: Wait + Abort>(
     }
 }
 
-fn tokens_spent<C: Tally, R: Wait + Abort>(rt: &R, alloc: Global, calls: Blank) -> Result<(), Fail>
-    requires name { calls.name ≡ C.name }
-    requires parts { (calls.parts ≡ C.parts) × (calls.parts ≡ 6) }
+fn tokens_spent<C: Tally, R: Wait + Abort>(
+    rt: &R,
+    alloc: Global,
+    blanks: Blanks,
+) -> Result<(), Fail>
+    requires name { blanks.calls.name ≡ C.name }
+    requires parts { (blanks.calls.parts ≡ C.parts) × (blanks.calls.parts ≡ 6) }
+    requires bindings { blanks.bindings.name ≡ C.bindings }
+    requires uses { blanks.uses.name ≡ C.uses }
     requires config { C.config ≡ CONFIG }
 {
-    let Ok((fabric, mut ports)) = Fabric::<C>::open(alloc, CONFIG, calls) else {
+    let Ok((fabric, mut ports)) = Fabric::<C>::open(alloc, CONFIG, blanks) else {
         return Err("it opens".into());
     };
     let lease = bound(rt, &fabric, &mut ports);
@@ -161,20 +166,22 @@ fn tokens_spent<C: Tally, R: Wait + Abort>(rt: &R, alloc: Global, calls: Blank) 
 
 #[test]
 fn a_binding_and_a_use(rt: HostRuntime) -> Result<(), Fail> {
-    tokens_spent::<Brand, _>(&rt, rt.alloc(), Blank::new(ports_of(&CONFIG)))
+    tokens_spent::<Brand, _>(&rt, rt.alloc(), Blanks::new(&CONFIG))
 }
 
 // A fabric with a binding that is being taken back, and isn't released yet.
 fn left_over<C: Tally, R: Wait + Abort>(
     rt: &R,
     alloc: Global,
-    calls: Blank,
-) -> (Fabric<C>, Ports<C>, Leaving)
-    requires name { calls.name ≡ C.name }
-    requires parts { (calls.parts ≡ C.parts) × (calls.parts ≡ 6) }
+    blanks: Blanks,
+) -> (Fabric<C>, Ports<C>, Leaving<C>)
+    requires name { blanks.calls.name ≡ C.name }
+    requires parts { (blanks.calls.parts ≡ C.parts) × (blanks.calls.parts ≡ 6) }
+    requires bindings { blanks.bindings.name ≡ C.bindings }
+    requires uses { blanks.uses.name ≡ C.uses }
     requires config { C.config ≡ CONFIG }
 {
-    let Ok((fabric, mut ports)) = Fabric::<C>::open(alloc, CONFIG, calls) else {
+    let Ok((fabric, mut ports)) = Fabric::<C>::open(alloc, CONFIG, blanks) else {
         panic!(rt; "it opens")
     };
     let lease = bound(rt, &fabric, &mut ports);
@@ -201,7 +208,7 @@ fn left_over<C: Tally, R: Wait + Abort>(
 }
 
 // The token of one binding.
-fn one_token<R: Abort>(rt: &R, alloc: Global, leaving: Leaving) -> Tokens {
+fn one_token<C: Tally, R: Abort>(rt: &R, alloc: Global, leaving: Leaving<C>) -> Tokens<C> {
     let mut tokens = Tokens::new(alloc);
     match tokens.leavings.push(leaving) {
         Ok(()) => tokens,
@@ -212,20 +219,22 @@ fn one_token<R: Abort>(rt: &R, alloc: Global, leaving: Leaving) -> Tokens {
 fn token_left<C: Tally, R: Wait + Abort>(
     rt: &R,
     alloc: Global,
-    calls: Blank,
+    blanks: Blanks,
 ) -> Result<Audit, FirstBadReceipt>
-    requires name { calls.name ≡ C.name }
-    requires parts { (calls.parts ≡ C.parts) × (calls.parts ≡ 6) }
+    requires name { blanks.calls.name ≡ C.name }
+    requires parts { (blanks.calls.parts ≡ C.parts) × (blanks.calls.parts ≡ 6) }
+    requires bindings { blanks.bindings.name ≡ C.bindings }
+    requires uses { blanks.uses.name ≡ C.uses }
     requires config { C.config ≡ CONFIG }
 {
-    let (fabric, ports, leaving) = left_over::<C, R>(rt, alloc, calls);
+    let (fabric, ports, leaving) = left_over::<C, R>(rt, alloc, blanks);
     let tokens = one_token(rt, alloc, leaving);
     fabric.finish(ports, tokens)
 }
 
 #[test]
 fn a_token_that_is_left(rt: HostRuntime) {
-    let audit = token_left::<Brand, _>(&rt, rt.alloc(), Blank::new(ports_of(&CONFIG)));
+    let audit = token_left::<Brand, _>(&rt, rt.alloc(), Blanks::new(&CONFIG));
     assert_eq!(rt;
         audit,
         Ok(Audit {
@@ -235,36 +244,4 @@ fn a_token_that_is_left(rt: HostRuntime) {
             withheld: 0
         })
     );
-}
-
-// The token of one fabric is handed in at another.
-fn tokens_changed<C: Tally, D: Tally, R: Wait + Abort>(
-    rt: &R,
-    alloc: Global,
-    calls: Blank,
-    others: Blank,
-)
-    requires name { (calls.name ≡ C.name) × (others.name ≡ D.name) }
-    requires parts { (calls.parts ≡ C.parts) × (calls.parts ≡ 6) × (others.parts ≡ D.parts) × (others.parts ≡ 6) }
-    requires config { (C.config ≡ CONFIG) × (D.config ≡ CONFIG) }
-{
-    let (fabric, ports, leaving) = left_over::<C, R>(rt, alloc, calls);
-    let Ok((other, strangers)) = Fabric::<D>::open(alloc, CONFIG, others) else {
-        panic!(rt; "it opens")
-    };
-    assert_eq!(rt;
-        fabric.finish(ports, Tokens::new(alloc)),
-        Err(FirstBadReceipt { port: 6, place: 7 })
-    );
-    let tokens = one_token(rt, alloc, leaving);
-    assert_eq!(rt;
-        other.finish(strangers, tokens),
-        Err(FirstBadReceipt { port: 6, place: 0 })
-    );
-}
-
-#[test]
-fn a_token_of_another_fabric(rt: HostRuntime) {
-    let (calls, others) = (Blank::new(6), Blank::new(6));
-    tokens_changed::<Brand, Brand, _>(&rt, rt.alloc(), calls, others);
 }

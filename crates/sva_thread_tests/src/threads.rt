@@ -4,12 +4,11 @@ use crate::worlds::{CONFIG, map};
 use std::alloc::Global;
 use std::marker::Brand;
 use std::process::Abort;
-use std::sync::ledger::Blank;
 use std::sync::{Barrier, Wait};
 use std::test::Fail;
 use std::thread;
 use std::thread::Threads;
-use sva_fabric::{Audit, Fabric, Port, Ports, Tally, Tokens, ports_of};
+use sva_fabric::{Audit, Blanks, Fabric, Port, Ports, Tally, Tokens};
 use sva_step::{Answer, Refusal, Step};
 
 // Each of two threads takes a step of its own, in turns: a barrier stands between one turn and the next.
@@ -49,13 +48,15 @@ fn in_turns<C: Tally + Send + Sync, R: Threads + Wait + Abort + Sync>(
 fn turns<C: Tally + Send + Sync, R: Threads + Wait + Abort + Sync>(
     rt: &R,
     alloc: Global,
-    calls: Blank,
+    blanks: Blanks,
 ) -> Result<(), Fail>
-    requires name { calls.name ≡ C.name }
-    requires parts { (calls.parts ≡ C.parts) × (calls.parts ≡ 6) }
+    requires name { blanks.calls.name ≡ C.name }
+    requires parts { (blanks.calls.parts ≡ C.parts) × (blanks.calls.parts ≡ 6) }
+    requires bindings { blanks.bindings.name ≡ C.bindings }
+    requires uses { blanks.uses.name ≡ C.uses }
     requires config { C.config ≡ CONFIG }
 {
-    let Ok((fabric, mut ports)) = Fabric::<C>::open(alloc, CONFIG, calls) else {
+    let Ok((fabric, mut ports)) = Fabric::<C>::open(alloc, CONFIG, blanks) else {
         return Err("it opens".into());
     };
     in_turns(rt, &fabric, &mut ports);
@@ -75,7 +76,7 @@ fn turns<C: Tally + Send + Sync, R: Threads + Wait + Abort + Sync>(
 
 #[test]
 fn two_threads_take_turns(rt: HostRuntime) -> Result<(), Fail> {
-    turns::<Brand, _>(&rt, rt.alloc(), Blank::new(ports_of(&CONFIG)))
+    turns::<Brand, _>(&rt, rt.alloc(), Blanks::new(&CONFIG))
 }
 
 // As many looks as the turns.
@@ -123,13 +124,15 @@ fn at_once<C: Tally + Send + Sync, R: Threads + Wait + Abort + Sync>(
 fn looks<C: Tally + Send + Sync, R: Threads + Wait + Abort + Sync>(
     rt: &R,
     alloc: Global,
-    calls: Blank,
+    blanks: Blanks,
 ) -> Result<(), Fail>
-    requires name { calls.name ≡ C.name }
-    requires parts { (calls.parts ≡ C.parts) × (calls.parts ≡ 6) }
+    requires name { blanks.calls.name ≡ C.name }
+    requires parts { (blanks.calls.parts ≡ C.parts) × (blanks.calls.parts ≡ 6) }
+    requires bindings { blanks.bindings.name ≡ C.bindings }
+    requires uses { blanks.uses.name ≡ C.uses }
     requires config { C.config ≡ CONFIG }
 {
-    let Ok((fabric, mut ports)) = Fabric::<C>::open(alloc, CONFIG, calls) else {
+    let Ok((fabric, mut ports)) = Fabric::<C>::open(alloc, CONFIG, blanks) else {
         return Err("it opens".into());
     };
     at_once(rt, &fabric, &mut ports);
@@ -148,5 +151,5 @@ fn looks<C: Tally + Send + Sync, R: Threads + Wait + Abort + Sync>(
 
 #[test]
 fn three_threads_at_once(rt: HostRuntime) -> Result<(), Fail> {
-    looks::<Brand, _>(&rt, rt.alloc(), Blank::new(ports_of(&CONFIG)))
+    looks::<Brand, _>(&rt, rt.alloc(), Blanks::new(&CONFIG))
 }

@@ -1,7 +1,11 @@
 use Rattle.sva_thread_tests.proofs.audits.a_receipt_that_does_not_stand.Given as goal
 
 abbrev pub ghosts-strays-C-Ledger : goal.ghosts-strays-C-Ledger
-ghosts-strays-C-Ledger g a = record { name = a.calls.name; parts = a.calls.parts }
+ghosts-strays-C-Ledger g a = record { name = a.blanks.calls.name; parts = a.blanks.calls.parts }
 
 abbrev pub ghosts-strays-C-Tally : goal.ghosts-strays-C-Tally
-ghosts-strays-C-Tally g a = record { config = record { endpoints = 2; frames = 4; workers = 1; first = 0 } }
+ghosts-strays-C-Tally g a = record {
+  config = record { endpoints = 2; frames = 4; workers = 1; first = 0 };
+  bindings = a.blanks.bindings.name;
+  uses = a.blanks.uses.name;
+}

@@ -1,4 +1,4 @@
-use Rattle.std.proofs.Common.{ℕ, refl, subst}
+use Rattle.std.proofs.Common.{ℕ, subst}
 use Rattle.std.specs.Prelude.{Ok}
 use Rattle.sva_step.specs.declared.answers.Answer.{Answer}
 use Rattle.sva_step.specs.declared.steps.Step.TheVariants as step
@@ -7,14 +7,14 @@ use Rattle.sva_fabric.proofs.fabric.Fabric.advance.Goals as goal
 
 pub returns-in-Err-clause-fault : goal.returns-in-Err-clause-fault
 returns-in-Err-clause-fault g c = (
-  refl,
+  c.leaving.view_is,
   subst (λ (n : ℕ). IsFault g.C.Tally.config c.args.port.now c.answer.new.port (step.Advance n) c.in-Err.fault)
       c.binding-binding.ensures c.in-Err.ensures.fault,
 )
 
 pub returns-then-not-is_released-clause-moved : goal.returns-then-not-is_released-clause-moved
 returns-then-not-is_released-clause-moved g c = (
-  refl,
+  c.leaving.view_is,
   record {
     said = c.in-Ok.answer;
     suits = c.is_released.ensures.no c.if-not-is_released.true c.in-Ok.ensures.suits;

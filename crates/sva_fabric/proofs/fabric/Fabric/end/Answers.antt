@@ -1,4 +1,4 @@
-use Rattle.std.proofs.Common.{ℕ, refl, subst, ◌∙◌}
+use Rattle.std.proofs.Common.{ℕ, subst, ◌∙◌}
 use Rattle.std.specs.Prelude.{Ok}
 use Rattle.sva_step.specs.declared.steps.Step.TheVariants as step
 use Rattle.sva_fabric.specs.Tokens.{HasCalled, IsFault}
@@ -19,7 +19,7 @@ returns-in-Err-clause-ended g c = tt
 
 pub returns-in-Err-clause-fault : goal.returns-in-Err-clause-fault
 returns-in-Err-clause-fault g c = (
-  refl,
+  c.ticket.view_is,
   subst (λ (n : ℕ). IsFault g.C.Tally.config c.args.port.now c.answer.new.port (step.EndUse n c.args.ticket.slot) c.in-Err.fault)
       c.endpoint-endpoint.ensures
       (subst (λ (n : ℕ). IsFault g.C.Tally.config c.args.port.now c.answer.new.port (step.EndUse c.endpoint-endpoint.result n) c.in-Err.fault)

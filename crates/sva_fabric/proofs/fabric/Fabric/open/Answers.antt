@@ -8,7 +8,7 @@ pub open_ports-requires-clause-fits : goal.open_ports-requires-clause-fits
 open_ports-requires-clause-fits g c = c.in_ok-running.ensures.ok.0
 
 pub open_ports-requires-clause-parts : goal.open_ports-requires-clause-parts
-open_ports-requires-clause-parts g c = c.open-book.ensures.parts ∙ (sym c.requires.parts ∙ c.requires.ports c.in_ok-running.ensures.ok.0)
+open_ports-requires-clause-parts g c = c.open-books.ensures.parts ∙ (sym c.requires.parts ∙ c.requires.ports c.in_ok-running.ensures.ok.0)
 
 pub returns-in_err-running-clause-bad : goal.returns-in_err-running-clause-bad
 returns-in_err-running-clause-bad g c = search rules

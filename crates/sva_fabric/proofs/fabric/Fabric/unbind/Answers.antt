@@ -1,7 +1,8 @@
 use Rattle.std.proofs.Common.{ℕ, refl, ap, subst}
 use Rattle.std.specs.Prelude.{Ok}
 use Rattle.sva_step.specs.declared.steps.Step.TheVariants as step
-use Rattle.sva_fabric.specs.Tokens.{LeaseNumbers, HasCalled, IsFault}
+use Rattle.sva_fabric.specs.Tokens.{HasCalled, IsFault}
+use Rattle.sva_fabric.specs.Stocks.{LeaseNumbers}
 use Rattle.sva_fabric.proofs.fabric.Fabric.unbind.Goals as goal
 
 pub returns-in-Ok-clause-leaving : goal.returns-in-Ok-clause-leaving
@@ -18,11 +19,11 @@ returns-in-Ok-clause-leaving g c = (
 pub returns-in-Ok-clause-fault : goal.returns-in-Ok-clause-fault
 returns-in-Ok-clause-fault g c = tt
 
-pub returns-in-Err-clause-leaving : goal.returns-in-Err-clause-leaving
-returns-in-Err-clause-leaving g c = tt
+pub returns-clause-leaving : goal.returns-clause-leaving
+returns-clause-leaving g c = tt
 
-pub returns-in-Err-clause-fault : goal.returns-in-Err-clause-fault
-returns-in-Err-clause-fault g c = (
+pub returns-clause-fault : goal.returns-clause-fault
+returns-clause-fault g c = (
   refl,
   subst (λ (n : ℕ). IsFault g.C.Tally.config c.args.port.now c.answer.new.port (step.Unbind n) c.in-Err.fault)
       c.binding-binding.ensures c.in-Err.ensures.fault,

@@ -1,10 +1,12 @@
-use Rattle.std.proofs.Common.{length, sym, ap, ◌∙◌, rules}
+use Rattle.std.proofs.Common.{sym, ap, ◌∙◌, rules}
 use Rattle.sva_journal.specs.Journal.{History}
+use Rattle.sva_fabric.specs.Stocks.{totals_of}
+use Rattle.sva_fabric.proofs.Hands.{empty_totals}
 use Rattle.sva_fabric.proofs.running.Running.open.Goals as goal
 
 pub invariant_of-result : goal.invariant_of-result
 invariant_of-result g c = (
-  c.requires.none ∙ sym (ap (λ (h : History). length h.entries) c.in_ok-journaled.ensures.ok.1),
+  c.requires.none ∙ sym (ap totals_of c.in_ok-journaled.ensures.ok.1 ∙ empty_totals c.args.config),
   ap (λ (h : History). h.config) c.in_ok-journaled.ensures.ok.1 ∙ c.requires.config,
 )
 

@@ -1,6 +1,6 @@
 use Rattle.std.proofs.Common.{ap}
-use Rattle.sva_fabric.specs.Tokens.{LeaseNumbers}
+use Rattle.sva_fabric.specs.Stocks.{LeaseNumbers}
 use Rattle.sva_fabric.proofs.tokens.Lease.binding.Goals as goal
 
 pub returns : goal.returns
-returns c = ap (λ (n : LeaseNumbers). n.binding) c.self.view_is
+returns g c = ap (λ (n : LeaseNumbers). n.binding) c.self.view_is

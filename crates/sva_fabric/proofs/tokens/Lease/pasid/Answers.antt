@@ -1,6 +1,6 @@
 use Rattle.std.proofs.Common.{ap}
-use Rattle.sva_fabric.specs.Tokens.{LeaseNumbers}
+use Rattle.sva_fabric.specs.Stocks.{LeaseNumbers}
 use Rattle.sva_fabric.proofs.tokens.Lease.pasid.Goals as goal
 
 pub returns : goal.returns
-returns c = ap (λ (n : LeaseNumbers). n.pasid) c.self.view_is
+returns g c = ap (λ (n : LeaseNumbers). n.pasid) c.self.view_is

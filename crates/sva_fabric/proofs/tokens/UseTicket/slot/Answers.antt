@@ -1,6 +1,6 @@
 use Rattle.std.proofs.Common.{ap}
-use Rattle.sva_fabric.specs.Tokens.{TicketNumbers}
+use Rattle.sva_fabric.specs.Stocks.{TicketNumbers}
 use Rattle.sva_fabric.proofs.tokens.UseTicket.slot.Goals as goal
 
 pub returns : goal.returns
-returns c = ap (λ (n : TicketNumbers). n.slot) c.self.view_is
+returns g c = ap (λ (n : TicketNumbers). n.slot) c.self.view_is

@@ -2,10 +2,10 @@ use Rattle.std.proofs.Common.{◌≡◌, suc, List, [], ◌∷◌, ◌++◌, len
 use Rattle.sva_model.specs.Steps.{Reply}
 use Rattle.sva_labels.specs.Tallies.{IsTallied}
 use Rattle.sva_journal.specs.declared.journal.Entry.{Entry}
-use Rattle.sva_journal.specs.Journal.{History, world_of, entry_of, answer_of}
+use Rattle.sva_journal.specs.Journal.{History, CountsFollow, world_of, entry_of, answer_of}
 use Rattle.sva_journal.specs.Suiting.{Suits}
 use Rattle.sva_journal.proofs.Suiting.{reply_suits}
-use Rattle.sva_journal.proofs.Entries.{performed, took, tallied, length_with}
+use Rattle.sva_journal.proofs.Entries.{performed, took, tallied, follow, length_with}
 use Rattle.sva_journal.proofs.journal.Journaled.perform.Goals as goal
 
 pub bindings_after-self-inside-requires-clause-some : goal.bindings_after-self-inside-requires-clause-some
@@ -70,3 +70,16 @@ returns-clause-suits c =
     (took before c.args.step.now c.apply-answer.result c.self.inside.world c.apply-answer.new.self c.self.invariant.0 c.self.invariant.1
     c.apply-answer.ensures.step (c.is_out_of_memory.ensures.no c.if-is_out_of_memory.false)).0 in
     subst (λ (r : Reply). Suits c.args.step.now r) (sym answered) (reply_suits (world_of before) c.args.step.now)
+
+pub returns-clause-follow : goal.returns-clause-follow
+returns-clause-follow c =
+    let before : History = record { config = c.self.inside.config; entries = c.self.inside.entries.items } in
+    let after : History = record { config = c.self.inside.config; entries = c.push_reserved.new.self.items } in
+    let answered : c.apply-answer.result ≡ answer_of before c.args.step.now =
+    (took before c.args.step.now c.apply-answer.result c.self.inside.world c.apply-answer.new.self c.self.invariant.0 c.self.invariant.1
+    c.apply-answer.ensures.step (c.is_out_of_memory.ensures.no c.if-is_out_of_memory.false)).0 in
+    let all : c.push_reserved.new.self.items ≡ c.self.inside.entries.items ++ entry_of c.args.port c.args.step.now c.apply-answer.result ∷ [] =
+    c.push_reserved.ensures.items ∙ ap (λ (es : List Entry). es ++ entry_of c.args.port c.args.step.now c.apply-answer.result ∷ [])
+    c.reserve.ensures.items in
+    subst (λ (h : History). CountsFollow h after c.apply-answer.result) c.self.view_is
+    (follow before c.args.port c.args.step.now c.apply-answer.result c.push_reserved.new.self.items answered all)

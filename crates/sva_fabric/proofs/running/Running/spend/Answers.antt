@@ -1,0 +1,6 @@
+use Rattle.std.proofs.Common.{ap, arith, ◌∙◌}
+use Rattle.sva_fabric.specs.Stocks.{Totals}
+use Rattle.sva_fabric.proofs.running.Running.spend.Goals as goal
+
+pub invariant_of-self : goal.invariant_of-self
+invariant_of-self g c = (c.spend.ensures.same ∙ c.self.invariant.0, c.self.invariant.1)

@@ -1,0 +1,72 @@
+-- How many tokens there are, and how a call changes what it has in hand of them.
+use Rattle.std.specs.Prelude.{◌≡◌, ◌≤◌, ◌<◌, ℕ, ◌+◌, ◌-◌, ◌^◌, Option, Some, None, length}
+use Rattle.sva_step.specs.declared.steps.Step.{Step}
+use Rattle.sva_step.specs.declared.steps.Step.TheVariants as step
+use Rattle.sva_model.specs.Steps.{Reply}
+use Rattle.sva_journal.specs.Tallies.{binds, releases, begins, ends}
+use Rattle.sva_journal.specs.Journal.{History, bindings_of, uses_of}
+
+-- the numbers of a lease, as the bind's answer has them
+pub record LeaseNumbers : Type 0 where
+  pub binding : ℕ
+  pub pasid : ℕ
+
+-- the numbers of a ticket: the endpoint of the step, slot and frame of its answer
+pub record TicketNumbers : Type 0 where
+  pub endpoint : ℕ
+  pub slot : ℕ
+  pub frame : ℕ
+
+-- how many parts the ledger of one kind of token has: more than there can be tokens, since no journal is as long
+abbrev pub all_parts : ℕ
+all_parts = 2 ^ 64 - 1
+
+-- what is counted of a world: its calls, its unreleased bindings and its taken use slots
+pub record Totals : Type 0 where
+  pub calls : ℕ
+  pub bindings : ℕ
+  pub uses : ℕ
+
+abbrev pub no_totals : Totals
+no_totals = record { calls = 0; bindings = 0; uses = 0 }
+
+abbrev pub totals_of : History → Totals
+totals_of h = record { calls = length h.entries; bindings = bindings_of h; uses = uses_of h }
+
+-- for how many bindings and uses there is a token in hand
+pub record Holding : Type 0 where
+  pub bindings : ℕ
+  pub uses : ℕ
+
+abbrev pub no_token : Holding
+no_token = record { bindings = 0; uses = 0 }
+
+abbrev pub one_binding : Holding
+one_binding = record { bindings = 1; uses = 0 }
+
+abbrev pub one_use : Holding
+one_use = record { bindings = 0; uses = 1 }
+
+abbrev pub count_of : {A : Type 0} → Option A → ℕ
+count_of None = 0
+count_of (Some a) = 1
+
+-- from so many tokens to so many: to one more, which isn't in hand yet, to one less, which is, or to as many
+pub record MayReach (before after held : ℕ) : Type 0 where
+  pub up : after ≤ before + 1
+  pub down : before ≤ after + 1
+  pub made : before < after → held ≡ 0
+  pub spent : after < before → held ≡ 1
+
+-- what has to be in hand for a step: a binding for an advance, a use for the end of one, and none of what the step may make
+abbrev pub IsHandedIn : Step → Holding → Type 0
+IsHandedIn (step.Bind endpoint space) h = h.bindings ≡ 0
+IsHandedIn (step.Advance binding) h = h.bindings ≡ 1
+IsHandedIn (step.BeginUse endpoint pasid page write) h = h.uses ≡ 0
+IsHandedIn (step.EndUse endpoint slot) h = h.uses ≡ 1
+IsHandedIn _ h = Unit {0}
+
+-- what is in hand behind a reply: what was, with what it makes, and without what it spends
+pub record IsHandedOut (before after : Holding) (r : Reply) : Type 0 where
+  pub bindings : after.bindings + releases r ≡ before.bindings + binds r
+  pub uses : after.uses + ends r ≡ before.uses + begins r

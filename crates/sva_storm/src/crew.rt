@@ -69,13 +69,28 @@ impl<C: Tally, D: Device + Drop, P: Pager + Drop> Crew<C, D, P> {
         requires roles { length (seats_of ports) ≡ 3 + vec_len roles }
         requires few { vec_len roles ≤ 100 }
     {
-        let mut roles = roles;
-        let count = roles.len() + 2;
-        let mut seats = Vec::with_capacity(alloc, count)?;
-        let Ok(room) = Room::new(alloc, count) else {
-            seats.destroy_empty();
-            return Err(AllocError);
-        };
+        let (seats, room) = reserved(alloc, roles.len() + 2)?;
+        Ok(Crew::filled(alloc, ports, script, roles, turns, seats, room))
+    }
+
+    // The seats of all ports, where there is room for them.
+    fn filled(
+        alloc: Global,
+        ports: Ports<C>,
+        script: Vec<Step>,
+        roles: Vec<Role<D, P>>,
+        turns: u64,
+        seats: Vec<Seat<C, D, P>>,
+        room: Room<C>,
+    ) -> Crew<C, D, P>
+        requires roles { length (seats_of ports) ≡ 3 + vec_len roles }
+        requires none { vec_len seats ≡ 0 }
+        requires seats { vec_len roles + 2 ≤ vec_capacity seats }
+        requires endpoints { vec_len roles + 2 ≤ vec_capacity room.endpoints }
+        requires workers { vec_len roles + 2 ≤ vec_capacity room.workers }
+        requires tickets { (vec_len roles + 2) * 16 ≤ vec_capacity room.tickets }
+    {
+        let mut seats = seats;
         let Ports {
             host,
             link,
@@ -84,20 +99,18 @@ impl<C: Tally, D: Device + Drop, P: Pager + Drop> Crew<C, D, P> {
             workers,
         } = ports;
         let endpoint_count = endpoints.len();
+        seat_rows(alloc, endpoints, workers, roles, turns, &mut seats);
         let served = Role::Service {
             endpoints: endpoint_count as u64,
         };
-        seat_row(alloc, workers, &mut roles, turns, &mut seats);
-        seat_row(alloc, endpoints, &mut roles, turns, &mut seats);
         seats.push_reserved(Seat::new(alloc, service, served, turns));
         seats.push_reserved(Seat::new(alloc, link, Role::Link, turns));
-        let host = [HostSeat::new(alloc, host, script, turns)];
-        Ok(Crew {
-            host,
+        Crew {
+            host: [HostSeat::new(alloc, host, script, turns)],
             seats,
             endpoint_count,
             room,
-        })
+        }
     }
 
     // Starts a thread for each seat, and joins them. Tells whether each was started.
@@ -119,23 +132,33 @@ impl<C: Tally, D: Device + Drop, P: Pager + Drop> Crew<C, D, P> {
             endpoint_count,
             room,
         } = self;
-        let Room {
-            tickets,
+        let risen = rise_all(seats, endpoint_count, room);
+        let [host] = host;
+        risen.with_host(host)
+    }
+}
+
+/// What the seats but the host's leave: their ports, their tickets, and whether a thread of theirs wanted memory.
+struct Risen<C: Tally> {
+    link: Port<C>,
+    service: Port<C>,
+    endpoints: Vec<Port<C>>,
+    workers: Vec<Port<C>>,
+    tickets: Vec<UseTicket<C>>,
+    lacked: bool,
+}
+
+impl<C: Tally> Risen<C> {
+    // What the host's seat leaves beside it: all ports in their order, all tokens, and whether a thread wanted memory.
+    fn with_host(self, host: HostSeat<C>) -> (Ports<C>, Tokens<C>, bool) {
+        let Risen {
+            link,
+            service,
             endpoints,
             workers,
-        } = room;
-        let (mut seats, mut tickets) = (seats, tickets);
-        let (mut endpoints, mut workers) = (endpoints, workers);
-        let (link, link_lacked) = leave_last(&mut seats, &mut tickets);
-        let (service, service_lacked) = leave_last(&mut seats, &mut tickets);
-        let lacked = leave_all(
-            seats,
-            endpoint_count,
-            &mut endpoints,
-            &mut workers,
-            &mut tickets,
-        );
-        let [host] = host;
+            tickets,
+            lacked,
+        } = self;
         let (host, Holdings { leases, leavings }, host_lacked) = host.leave();
         let ports = Ports {
             host,
@@ -149,11 +172,7 @@ impl<C: Tally, D: Device + Drop, P: Pager + Drop> Crew<C, D, P> {
             leavings,
             tickets,
         };
-        (
-            ports,
-            tokens,
-            lacked || host_lacked || link_lacked || service_lacked,
-        )
+        (ports, tokens, lacked | host_lacked)
     }
 }
 
@@ -180,6 +199,47 @@ pub(crate) fn roles_of<D: Drop, P: Drop>(
         roles.push(Role::Worker { worker, pager })?;
     }
     Ok(roles)
+}
+
+// Memory for so many seats, and for what they leave.
+fn reserved<C: Tally, D: Device + Drop, P: Pager + Drop>(
+    alloc: Global,
+    count: usize,
+) -> Result<(Vec<Seat<C, D, P>>, Room<C>), AllocError>
+    requires few { count ≤ 1000 }
+    ensures none { IfOk result (λ r. vec_len r.0 ≡ 0) }
+    ensures seats { IfOk result (λ r. count ≤ vec_capacity r.0) }
+    ensures endpoints { IfOk result (λ r. count ≤ vec_capacity r.1.endpoints) }
+    ensures workers { IfOk result (λ r. count ≤ vec_capacity r.1.workers) }
+    ensures tickets { IfOk result (λ r. count * 16 ≤ vec_capacity r.1.tickets) }
+{
+    let seats = Vec::with_capacity(alloc, count)?;
+    match Room::new(alloc, count) {
+        Ok(room) => Ok((seats, room)),
+        Err(AllocError) => {
+            seats.destroy_empty();
+            Err(AllocError)
+        }
+    }
+}
+
+// Seats the ports of the workers and of the endpoints, with their roles.
+fn seat_rows<C: Tally, D: Device + Drop, P: Pager + Drop>(
+    alloc: Global,
+    endpoints: Vec<Port<C>>,
+    workers: Vec<Port<C>>,
+    roles: Vec<Role<D, P>>,
+    turns: u64,
+    seats: &mut Vec<Seat<C, D, P>>,
+)
+    requires roles { vec_len endpoints + vec_len workers ≡ vec_len roles }
+    requires room { vec_len seats.old + vec_len roles ≤ vec_capacity seats.old }
+    ensures seats { vec_len seats.new ≡ vec_len seats.old + vec_len roles }
+    ensures room { vec_capacity seats.new ≡ vec_capacity seats.old }
+{
+    let mut roles = roles;
+    seat_row(alloc, workers, &mut roles, turns, seats);
+    seat_row(alloc, endpoints, &mut roles, turns, seats);
 }
 
 // Seats the ports of a row from its end on, with the roles that stand last.
@@ -224,6 +284,42 @@ fn sit_down<
         }
         all
     })
+}
+
+// Takes all seats apart but the host's.
+fn rise_all<C: Tally, D: Device + Drop, P: Pager + Drop>(
+    seats: Vec<Seat<C, D, P>>,
+    endpoint_count: usize,
+    room: Room<C>,
+) -> Risen<C>
+    requires some { 2 ≤ vec_len seats }
+    requires endpoints { vec_len seats ≤ vec_capacity room.endpoints }
+    requires workers { vec_len seats ≤ vec_capacity room.workers }
+    requires tickets { vec_len seats * 16 ≤ vec_capacity room.tickets }
+{
+    let Room {
+        mut tickets,
+        mut endpoints,
+        mut workers,
+    } = room;
+    let mut seats = seats;
+    let (link, link_lacked) = leave_last(&mut seats, &mut tickets);
+    let (service, service_lacked) = leave_last(&mut seats, &mut tickets);
+    let lacked = leave_all(
+        seats,
+        endpoint_count,
+        &mut endpoints,
+        &mut workers,
+        &mut tickets,
+    );
+    Risen {
+        link,
+        service,
+        endpoints,
+        workers,
+        tickets,
+        lacked: lacked | link_lacked | service_lacked,
+    }
 }
 
 // Takes the last seat apart.

@@ -1,5 +1,7 @@
 //! How loops and storms end.
 
+ghost use Rattle.std.specs.Prelude.{◌≡◌};
+
 use sva_fabric::{FirstBadReceipt, Tally, UseTicket};
 use thiserror::Error;
 
@@ -28,7 +30,7 @@ pub enum StormFault {
 }
 
 /// What became of a turn.
-#[derive(Clone, Copy, Debug, PartialEq, Eq)]
+#[derive(Clone, Copy, PartialEq)]
 pub(crate) enum Turn {
     /// The line's step was accepted.
     Accepted,
@@ -41,10 +43,22 @@ pub(crate) enum Turn {
 }
 
 /// How a thread's turns were spent.
-#[derive(Clone, Copy, Debug, PartialEq, Eq)]
+#[derive(Clone, Copy)]
 pub(crate) struct Spent {
     /// How many turns weren't used.
     pub(crate) turns_left: u64,
     /// Want of memory ended them.
     pub(crate) out_of_memory: bool,
+}
+
+impl Spent {
+    // A turn ended them, and so many are left.
+    pub(crate) fn by(ended: Turn, turns_left: u64) -> Spent
+        ensures { result.turns_left ≡ turns_left }
+    {
+        Spent {
+            turns_left,
+            out_of_memory: ended == Turn::Memory,
+        }
+    }
 }

@@ -64,12 +64,7 @@ pub(crate) fn host<C: Tally, R: Wait>(
         match host_turn(fabric, rt, port, line, holdings) {
             Turn::Accepted => accepted += 1,
             Turn::Again => yield_now(),
-            ended => {
-                return Spent {
-                    turns_left: turns - turn - 1,
-                    out_of_memory: ended == Turn::Memory,
-                };
-            }
+            ended => return Spent::by(ended, turns - turn - 1),
         }
     }
     Spent {

@@ -22,12 +22,7 @@ pub(crate) fn link<C: Tally, R: Wait>(
         match turn_of(fabric.step(rt, port, &Step::Deliver { message })) {
             Turn::Accepted => message += 1,
             Turn::Again => yield_now(),
-            ended => {
-                return Spent {
-                    turns_left: turns - turn - 1,
-                    out_of_memory: ended == Turn::Memory,
-                };
-            }
+            ended => return Spent::by(ended, turns - turn - 1),
         }
     }
     Spent {
@@ -60,12 +55,7 @@ pub(crate) fn service<C: Tally, R: Wait>(
         match turn_of(fabric.step(rt, port, &service_step(turn, endpoints))) {
             Turn::Accepted => {}
             Turn::Again => yield_now(),
-            ended => {
-                return Spent {
-                    turns_left: turns - turn - 1,
-                    out_of_memory: ended == Turn::Memory,
-                };
-            }
+            ended => return Spent::by(ended, turns - turn - 1),
         }
     }
     Spent {

@@ -56,12 +56,7 @@ pub(crate) fn answer_jobs<C: Tally, R: Wait, P: Pager>(
         match take_turn(fabric, rt, port, worker, pager, &mut decided) {
             Turn::Accepted => {}
             Turn::Again => yield_now(),
-            ended => {
-                return Spent {
-                    turns_left: turns - turn - 1,
-                    out_of_memory: ended == Turn::Memory,
-                };
-            }
+            ended => return Spent::by(ended, turns - turn - 1),
         }
     }
     Spent {

@@ -1,7 +1,8 @@
 //! A storm: a scenario that is played by threads, and the audit that ends it.
 
-ghost use Rattle.std.specs.Prelude.{◌≡◌, ◌≢◌, ◌↔◌, ◌+◌, vec_len, IfOk, IfErr, Ok, Err};
+ghost use Rattle.std.specs.Prelude.{◌≡◌, ◌≢◌, ◌↔◌, ◌+◌, ◌≤◌, length, vec_len, IfOk, IfErr, Ok, Err};
 ghost use Rattle.sva_step.specs.Limits.{Fits};
+ghost use Rattle.sva_fabric.specs.Audits.{seats_of};
 ghost use Rattle.sva_storm.specs.Storms.{HasFinished, IsFound};
 ghost use Rattle.sva_storm.specs.declared.endings.StormFault.TheVariants as storm_fault;
 
@@ -9,11 +10,11 @@ use crate::crew::{Crew, roles_of};
 use crate::endings::StormFault;
 use crate::gates::{Device, Pager};
 use crate::lines::{Player, lines_of};
-use std::alloc::Global;
+use std::alloc::{AllocError, Global};
 use std::marker::Brand;
 use std::sync::Wait;
 use std::thread::Threads;
-use sva_fabric::{Audit, Blanks, Fabric, Tally};
+use sva_fabric::{Audit, Blanks, Fabric, Ports, Tally};
 use sva_grammar::Scenario;
 
 /// Plays a scenario by threads: one for the host, one for the link, one for the service, one for each endpoint and one for each worker.
@@ -73,24 +74,35 @@ fn play_all<
     let Ok((fabric, ports)) = Fabric::<C>::open(alloc, scenario.config, blanks) else {
         return Err(StormFault::Memory);
     };
-    let steps = scenario.steps.as_slice();
-    let Ok(script) = lines_of(alloc, steps, Player::Host) else {
-        return Err(StormFault::Memory);
-    };
-    let Ok(roles) = roles_of(alloc, steps, devices, pagers) else {
-        return Err(StormFault::Memory);
-    };
-    let Ok(mut crew) = Crew::new(alloc, ports, script, roles, turns) else {
+    let Ok(mut crew) = crew_for(alloc, scenario, turns, ports, devices, pagers) else {
         return Err(StormFault::Memory);
     };
     let started = crew.run(rt, &fabric);
     let (ports, tokens, lacked) = crew.rise();
     let audit = fabric.finish(ports, tokens);
-    if !started || lacked {
+    if !started | lacked {
         return Err(StormFault::Memory);
     }
     match audit {
         Ok(audit) => Ok(audit),
         Err(bad) => Err(StormFault::Bad(bad)),
     }
+}
+
+// The seats of a scenario's threads.
+fn crew_for<C: Tally, D: Device + Drop, P: Pager + Drop>(
+    alloc: Global,
+    scenario: &Scenario,
+    turns: u64,
+    ports: Ports<C>,
+    devices: Vec<D>,
+    pagers: Vec<P>,
+) -> Result<Crew<C, D, P>, AllocError>
+    requires ports { length (seats_of ports) ≡ 3 + vec_len devices + vec_len pagers }
+    requires few { vec_len devices + vec_len pagers ≤ 100 }
+{
+    let steps = scenario.steps.as_slice();
+    let script = lines_of(alloc, steps, Player::Host)?;
+    let roles = roles_of(alloc, steps, devices, pagers)?;
+    Crew::new(alloc, ports, script, roles, turns)
 }

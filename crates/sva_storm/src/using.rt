@@ -74,12 +74,7 @@ pub(crate) fn play<C: Tally, R: Wait, D: Device>(
         match take_turn(fabric, rt, port, device, line, tickets) {
             Turn::Accepted => accepted += 1,
             Turn::Again => yield_now(),
-            ended => {
-                return Spent {
-                    turns_left: turns - turn - 1,
-                    out_of_memory: ended == Turn::Memory,
-                };
-            }
+            ended => return Spent::by(ended, turns - turn - 1),
         }
     }
     Spent {

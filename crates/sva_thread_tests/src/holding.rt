@@ -6,11 +6,8 @@ use std::marker::Brand;
 use std::process::Abort;
 use std::sync::Wait;
 use std::test::Fail;
-use sva_fabric::{
-    Audit, Blanks, Fabric, Fault, FirstBadReceipt, Lease, Leaving, Moved, Ports, Tally, Tokens,
-    UseTicket,
-};
-use sva_step::{Answer, Refusal, Step};
+use sva_fabric::{Audit, Blanks, Fabric, Lease, Leaving, Moved, Ports, Tally, Tokens, UseTicket};
+use sva_step::{Answer, Step};
 
 // A space with a page, bound to endpoint 0, which knows of it.
 fn bound<C: Tally, R: Wait + Abort>(rt: &R, fabric: &Fabric<C>, ports: &mut Ports<C>) -> Lease<C> {
@@ -167,81 +164,4 @@ fn tokens_spent<C: Tally, R: Wait + Abort>(
 #[test]
 fn a_binding_and_a_use(rt: HostRuntime) -> Result<(), Fail> {
     tokens_spent::<Brand, _>(&rt, rt.alloc(), Blanks::new(&CONFIG))
-}
-
-// A fabric with a binding that is being taken back, and isn't released yet.
-fn left_over<C: Tally, R: Wait + Abort>(
-    rt: &R,
-    alloc: Global,
-    blanks: Blanks,
-) -> (Fabric<C>, Ports<C>, Leaving<C>)
-    requires name { blanks.calls.name ≡ C.name }
-    requires parts { (blanks.calls.parts ≡ C.parts) × (blanks.calls.parts ≡ 6) }
-    requires bindings { blanks.bindings.name ≡ C.bindings }
-    requires uses { blanks.uses.name ≡ C.uses }
-    requires config { C.config ≡ CONFIG }
-{
-    let Ok((fabric, mut ports)) = Fabric::<C>::open(alloc, CONFIG, blanks) else {
-        panic!(rt; "it opens")
-    };
-    let lease = bound(rt, &fabric, &mut ports);
-    let refused = match fabric.begin(rt, &mut ports.host, 0, 2, 16, true) {
-        Ok(_ticket) => panic!(rt; "its PASID isn't started"),
-        Err(fault) => fault,
-    };
-    let not_started = Fault::Refused {
-        refusal: Refusal::NotStarted,
-    };
-    assert_eq!(rt; refused, not_started);
-    let leaving = left(rt, &fabric, &mut ports, lease);
-    let leaving = match fabric.advance(rt, &mut ports.host, leaving) {
-        Ok(_moved) => panic!(rt; "it is stopping"),
-        Err((leaving, fault)) => {
-            let not_yet = Fault::Refused {
-                refusal: Refusal::NotYet,
-            };
-            assert_eq!(rt; fault, not_yet);
-            leaving
-        }
-    };
-    (fabric, ports, leaving)
-}
-
-// The token of one binding.
-fn one_token<C: Tally, R: Abort>(rt: &R, alloc: Global, leaving: Leaving<C>) -> Tokens<C> {
-    let mut tokens = Tokens::new(alloc);
-    match tokens.leavings.push(leaving) {
-        Ok(()) => tokens,
-        Err(_refused) => panic!(rt; "there is memory"),
-    }
-}
-
-fn token_left<C: Tally, R: Wait + Abort>(
-    rt: &R,
-    alloc: Global,
-    blanks: Blanks,
-) -> Result<Audit, FirstBadReceipt>
-    requires name { blanks.calls.name ≡ C.name }
-    requires parts { (blanks.calls.parts ≡ C.parts) × (blanks.calls.parts ≡ 6) }
-    requires bindings { blanks.bindings.name ≡ C.bindings }
-    requires uses { blanks.uses.name ≡ C.uses }
-    requires config { C.config ≡ CONFIG }
-{
-    let (fabric, ports, leaving) = left_over::<C, R>(rt, alloc, blanks);
-    let tokens = one_token(rt, alloc, leaving);
-    fabric.finish(ports, tokens)
-}
-
-#[test]
-fn a_token_that_is_left(rt: HostRuntime) {
-    let audit = token_left::<Brand, _>(&rt, rt.alloc(), Blanks::new(&CONFIG));
-    assert_eq!(rt;
-        audit,
-        Ok(Audit {
-            calls: 7,
-            free: 3,
-            mapped: 1,
-            withheld: 0
-        })
-    );
 }

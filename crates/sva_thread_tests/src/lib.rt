@@ -3,13 +3,13 @@
 #![tactic(auto)]
 
 #[cfg(test)]
-mod audits;
-#[cfg(test)]
 mod counting;
 #[cfg(test)]
 mod holding;
 #[cfg(test)]
 mod journals;
+#[cfg(test)]
+mod straying;
 #[cfg(test)]
 mod threads;
 #[cfg(test)]

@@ -1,4 +1,4 @@
-use Rattle.sva_thread_tests.proofs.audits.a_receipt_that_does_not_stand.Given as goal
+use Rattle.sva_thread_tests.proofs.straying.a_receipt_that_does_not_stand.Given as goal
 
 abbrev pub ghosts-strays-C-Ledger : goal.ghosts-strays-C-Ledger
 ghosts-strays-C-Ledger g a = record { name = a.blanks.calls.name; parts = a.blanks.calls.parts }

@@ -5,14 +5,14 @@ use std::alloc::{AllocError, Global};
 use sva_frames::{Counts, Place, Target};
 
 /// A unit, and what a frame waits for there.
-#[derive(Clone, Copy, Debug)]
+#[derive(Clone, Copy)]
 pub struct Wait {
     pub unit: u64,
     pub target: Target,
 }
 
 /// What the pool keeps of one frame.
-#[derive(Debug, Drop)]
+#[derive(Drop)]
 enum Slot {
     Free,
     Mapped,
@@ -59,7 +59,7 @@ impl Slot {
 }
 
 /// The frames of a host, by their numbers from 0. A call for a frame that isn't there changes nothing.
-#[derive(Debug, Drop)]
+#[derive(Drop)]
 pub struct PlainPool {
     slots: Vec<Slot>,
 }
@@ -111,19 +111,22 @@ impl PlainPool {
         Some(self.slots.get(number)?.place())
     }
 
-    pub(crate) fn counts(&self) -> Counts {
-        let mut counts = Counts {
-            free: 0,
-            mapped: 0,
-            withheld: 0,
-        };
+    // How many frames are at a place.
+    fn count(&self, place: Place) -> u32 {
+        let mut count: u32 = 0;
         for slot in &self.slots {
-            match slot.place() {
-                Place::Free => counts.free = counts.free.wrapping_add(1),
-                Place::Mapped => counts.mapped = counts.mapped.wrapping_add(1),
-                Place::Withheld => counts.withheld = counts.withheld.wrapping_add(1),
+            if slot.place() == place {
+                count = count.wrapping_add(1);
             }
         }
-        counts
+        count
+    }
+
+    pub(crate) fn counts(&self) -> Counts {
+        Counts {
+            free: self.count(Place::Free),
+            mapped: self.count(Place::Mapped),
+            withheld: self.count(Place::Withheld),
+        }
     }
 }

@@ -60,16 +60,24 @@ fn waits_for(targets_by_unit: &[(usize, Target)]) -> Waits {
     waits_of(&targets)
 }
 
-/// Withholds the lowest free frame, and answers its number. Where a unit has no room the frame is given back.
-fn withhold_lowest(pool: &mut FramePool, waits: Waits) -> Option<u32> {
+/// Takes the lowest free frame and withholds it; where a unit has no room it is given back. Its number, and whether it is withheld.
+fn withhold_or_give(pool: &mut FramePool, waits: Waits) -> Option<(u32, bool)> {
     let frame = pool.take()?;
     let number = frame.number();
     if pool.has_room(&waits) {
         pool.withhold(frame, waits);
-        Some(number)
+        Some((number, true))
     } else {
         pool.give(frame);
-        None
+        Some((number, false))
+    }
+}
+
+/// Withholds the lowest free frame, and answers its number. Where a unit has no room the frame is given back.
+fn withhold_lowest(pool: &mut FramePool, waits: Waits) -> Option<u32> {
+    match withhold_or_give(pool, waits) {
+        Some((number, true)) => Some(number),
+        _other => None,
     }
 }
 
@@ -112,10 +120,12 @@ fn unmapped(free: u32, withheld: u32) -> Counts {
     }
 }
 
-/// Makes a call, and tells whether it answers as it has to.
+/// Makes a call that may change the pool, and tells whether it answers as it has to.
 fn answers(pool: &mut FramePool, call: Call) -> bool {
     match call {
         Call::Withhold(targets, number) => withhold_lowest(pool, waits_for(targets)) == number,
+        Call::WithholdInTurn(unit, frames) => withhold_in_turn(pool, unit, frames),
+        Call::WithholdAlike(targets, frames) => withhold_alike(pool, targets, frames),
         Call::TakeAndGive(number, counts) => take_and_give(pool) == Some((number, counts)),
         Call::Settle(unit, cookie) => {
             pool.settle(unit, cookie);
@@ -125,12 +135,18 @@ fn answers(pool: &mut FramePool, call: Call) -> bool {
             pool.settle_all(unit);
             true
         }
+        _reading => tells(pool, call),
+    }
+}
+
+/// Whether a call that changes nothing answers as it has to.
+fn tells(pool: &FramePool, call: Call) -> bool {
+    match call {
         Call::Look(number, found) => place(pool, number) == Some(found),
         Call::Count(free, withheld) => pool.counts() == unmapped(free, withheld),
         Call::AskRoom(targets, has_room) => pool.has_room(&waits_for(targets)) == has_room,
         Call::AskEmpty(is_empty) => pool.is_empty() == is_empty,
-        Call::WithholdInTurn(unit, frames) => withhold_in_turn(pool, unit, frames),
-        Call::WithholdAlike(targets, frames) => withhold_alike(pool, targets, frames),
+        _change => false,
     }
 }
 
@@ -419,24 +435,27 @@ impl Twins {
         taken
     }
 
-    /// Takes the lowest free frame of both and withholds it, or gives it back where there is no room for it.
-    fn withhold<R: Abort>(&mut self, rt: &R, alloc: Global) -> Result<(), AllocError> {
-        let (waits, plain_waits) = some_waits(alloc, &mut self.numbers)?;
-        let Some(frame) = self.pool.take() else {
-            assert!(rt; self.plain.take().is_none());
-            return Ok(());
+    /// Does the same with the plain pool, and tells whether that took the frame which the pool did.
+    fn withhold_plain(&mut self, made: Option<(u32, bool)>, waits: Vec<Wait>) -> bool {
+        let taken = self.plain.take();
+        let Some((number, is_withheld)) = made else {
+            return taken.is_none();
         };
-        let number = frame.number() as usize;
-        assert!(rt; self.plain.take() == Some(number));
-        if self.pool.has_room(&waits) {
-            self.pool.withhold(frame, waits);
-            self.plain.withhold(number, plain_waits);
+        let number = number as usize;
+        if is_withheld {
+            self.plain.withhold(number, waits);
         } else {
-            self.pool.give(frame);
             self.plain.give(number);
             self.is_crowded = true;
         }
-        Ok(())
+        taken == Some(number)
+    }
+
+    /// Takes the lowest free frame of both and withholds it, or gives it back where there is no room for it.
+    fn withhold<R: Abort>(&mut self, rt: &R, alloc: Global) {
+        let (waits, plain_waits) = some_waits(alloc, &mut self.numbers).expect(rt, "memory");
+        let made = withhold_or_give(&mut self.pool, waits);
+        assert!(rt; self.withhold_plain(made, plain_waits));
     }
 
     fn settle(&mut self, unit: u64) {
@@ -480,7 +499,7 @@ fn call_both<R: Abort>(
         0 => twins.settle_all(unit),
         1..=44 => twins.settle(unit),
         45..=54 => return twins.give_or_take(rt, hand),
-        _ => twins.withhold(rt, alloc).expect(rt, "memory"),
+        _ => twins.withhold(rt, alloc),
     }
     hand
 }

@@ -9,6 +9,10 @@ use Rattle.sva_model.specs.Rows.{Line, says, IsRow, config, refused, lines}
 use Rattle.sva_model.specs.RowsOfRefusals.{full_space, IsRowAfter}
 use Rattle.sva_model.specs.Words.{tabulate}
 
+-- no step at all: each frame is free
+abbrev pub NoStep : Type 0
+NoStep = IsRow (config 2 5 1 0) [] 5 0 0
+
 -- a bind needs a message, also where a number of a binding is left
 abbrev pub messages_spent_before_bindings : List Line
 messages_spent_before_bindings =
@@ -477,3 +481,29 @@ labels_back_in_reset =
 
 abbrev pub LabelsBackInReset : Type 0
 LabelsBackInReset = IsRow (config 1 1 1 0) labels_back_in_reset 0 1 0
+
+-- a unit is in reset, and its endpoint goes on until it resets itself: what it holds may be evicted until then
+abbrev pub evict_in_reset : List Line
+evict_in_reset =
+    says step.Space (answer.Space 0)
+    ∷ says (step.Map 0 16 false) (answer.Frame 0)
+    ∷ says (step.Map 0 17 false) (answer.Frame 1)
+    ∷ says (step.Bind 0 0) (answer.Binding 0 1)
+    ∷ says (step.Deliver 0) answer.Started
+    ∷ says (step.Ask 0 1 16) (answer.Tag 0)
+    ∷ says (step.Ask 0 1 17) (answer.Tag 1)
+    ∷ says (step.Deliver 1) answer.Completion
+    ∷ says (step.Deliver 2) answer.Completion
+    ∷ says (step.Deliver 3) answer.Held
+    ∷ says (step.Deliver 4) answer.Held
+    ∷ says (step.Reset 0) answer.Resetting
+    ∷ says (step.Evict 0 1 16) answer.Evicted
+    ∷ refused (step.Evict 0 1 16) refusal.NotHeld
+    ∷ says (step.BeginUse 0 1 17 false) (answer.Use 0 1)
+    ∷ says (step.Deliver 5) answer.Reset
+    ∷ refused (step.Evict 0 1 17) refusal.NotHeld
+    ∷ says (step.EndUse 0 0) answer.Dead
+    ∷ []
+
+abbrev pub EvictInReset : Type 0
+EvictInReset = IsRow (config 1 2 1 0) evict_in_reset 0 2 0

@@ -81,3 +81,29 @@ one_pasid_for_each_space =
 
 abbrev pub OnePasidForEachSpace : Type 0
 OnePasidForEachSpace = IsRow (config 2 4 1 0) one_pasid_for_each_space 4 0 0
+
+-- of a space's two bindings one is released: its PASID isn't given to another space, and comes to it again at the same endpoint
+abbrev pub first_release_of_two : List Line
+first_release_of_two =
+    says step.Space (answer.Space 0)
+    ∷ says step.Space (answer.Space 1)
+    ∷ says (step.Bind 0 0) (answer.Binding 0 1)
+    ∷ says (step.Bind 1 1) (answer.Binding 1 2)
+    ∷ says (step.Bind 1 0) (answer.Binding 2 1)
+    ∷ says (step.Bearer 1) (answer.Bearer 0 2)
+    ∷ says (step.Reset 0) answer.Resetting
+    ∷ says (step.Deliver 0) answer.Started
+    ∷ says (step.Deliver 3) answer.Reset
+    ∷ says (step.Deliver 4) answer.ResetDone
+    ∷ says (step.Unbind 0) answer.Quiet
+    ∷ says (step.Advance 0) answer.Released
+    ∷ says (step.Bearer 1) (answer.Bearer 0 1)
+    ∷ says step.Space (answer.Space 2)
+    ∷ says (step.Bind 0 2) (answer.Binding 3 3)
+    ∷ says (step.Bearer 4) answer.NoBearer
+    ∷ refused (step.Bearer 0) refusal.BadPasid
+    ∷ says (step.Bind 0 0) (answer.Binding 4 1)
+    ∷ []
+
+abbrev pub FirstReleaseOfTwo : Type 0
+FirstReleaseOfTwo = IsRow (config 2 4 1 0) first_release_of_two 4 0 0

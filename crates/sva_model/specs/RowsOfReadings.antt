@@ -146,6 +146,18 @@ unmap_past_the_last_page =
 abbrev pub UnmapPastTheLastPage : Type 0
 UnmapPastTheLastPage = IsRow (config 1 4 1 0) unmap_past_the_last_page 4 0 0
 
+-- each of the pages of a range is a page of the step: past the last page it is no matter that the range isn't aligned
+abbrev pub range_past_the_last_page : List Line
+range_past_the_last_page =
+    says step.Space (answer.Space 0)
+    ∷ says (step.Map 0 68719476735 false) (answer.Frame 0)
+    ∷ refused (step.UnmapRange 0 68719476735 1) refusal.PageRange
+    ∷ says (step.UnmapRange 0 68719476734 1) (answer.RangeFree 1)
+    ∷ []
+
+abbrev pub RangePastTheLastPage : Type 0
+RangePastTheLastPage = IsRow (config 1 4 1 0) range_past_the_last_page 4 0 0
+
 -- the wait of a drained binding is done, and yet its frames wait for the reset's end
 abbrev pub unmap_while_drained_in_reset : List Line
 unmap_while_drained_in_reset =
@@ -195,6 +207,32 @@ unmap_while_invalidating_in_reset =
 
 abbrev pub UnmapWhileInvalidatingInReset : Type 0
 UnmapWhileInvalidatingInReset = IsRow (config 1 1 1 0) unmap_while_invalidating_in_reset 1 0 0
+
+-- the same where the PASID has started before it is told to stop, and other frames are free
+abbrev pub unmap_while_invalidating_one_that_started : List Line
+unmap_while_invalidating_one_that_started =
+    says step.Space (answer.Space 0)
+    ∷ says (step.Map 0 16 false) (answer.Frame 0)
+    ∷ says (step.Bind 0 0) (answer.Binding 0 1)
+    ∷ says (step.Deliver 0) answer.Started
+    ∷ says (step.Unbind 0) answer.Stopping
+    ∷ says (step.Deliver 1) answer.Stopping
+    ∷ says (step.Quit 0 1) answer.Marker
+    ∷ says (step.Deliver 2) answer.Marked
+    ∷ says (step.Advance 0) answer.Draining
+    ∷ says (step.Pump 0) answer.WaitDone
+    ∷ says (step.Advance 0) answer.Invalidating
+    ∷ says (step.Reset 0) answer.Resetting
+    ∷ says (step.Unmap 0 16 1) (answer.WithheldFrames (0 ∷ []))
+    ∷ says (step.Deliver 3) answer.Reset
+    ∷ says (step.Look 0) answer.Withheld
+    ∷ says (step.Deliver 4) answer.ResetDone
+    ∷ says (step.Look 0) answer.Free
+    ∷ says (step.Advance 0) answer.Released
+    ∷ []
+
+abbrev pub UnmapWhileInvalidatingOneThatStarted : Type 0
+UnmapWhileInvalidatingOneThatStarted = IsRow (config 1 4 1 0) unmap_while_invalidating_one_that_started 4 0 0
 
 -- the wait of an invalidating binding is done: its frames are free at once, in reset too
 abbrev pub unmap_after_the_invalidation : List Line

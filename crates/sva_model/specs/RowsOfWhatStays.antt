@@ -112,6 +112,30 @@ cache_full_of_two =
 abbrev pub CacheFullOfTwo : Type 0
 CacheFullOfTwo = IsRow (config 1 65 1 0) cache_full_of_two 0 65 0
 
+-- the answer to a doomed request comes beside a newer translation of its page: it is dropped, and the newer one stays
+abbrev pub doomed_answer_beside_a_newer : List Line
+doomed_answer_beside_a_newer =
+    says step.Space (answer.Space 0)
+    ∷ says (step.Map 0 16 true) (answer.Frame 0)
+    ∷ says (step.Bind 0 0) (answer.Binding 0 1)
+    ∷ says (step.Deliver 0) answer.Started
+    ∷ says (step.Ask 0 1 16) (answer.Tag 0)
+    ∷ says (step.Deliver 1) answer.Completion
+    ∷ says (step.Unmap 0 16 1) (answer.WithheldFrames (0 ∷ []))
+    ∷ says (step.Pump 0) (answer.Itag 0)
+    ∷ says (step.Deliver 3) answer.Taken
+    ∷ says (step.Map 0 16 true) (answer.Frame 1)
+    ∷ says (step.Ask 0 1 16) (answer.Tag 1)
+    ∷ says (step.Deliver 4) answer.Completion
+    ∷ says (step.Deliver 5) answer.Held
+    ∷ says (step.Deliver 2) answer.Dropped
+    ∷ says (step.BeginUse 0 1 16 true) (answer.Use 0 1)
+    ∷ says (step.Ask 0 1 16) (answer.Tag 0)
+    ∷ []
+
+abbrev pub DoomedAnswerBesideANewer : Type 0
+DoomedAnswerBesideANewer = IsRow (config 1 2 1 0) doomed_answer_beside_a_newer 0 1 1
+
 -- two pages of a binding whose PASID is invalidated are unmapped: the first waits for that invalidation, and the second, as its
 -- unit is in reset then, for the end of the reset
 abbrev pub unmapped_while_invalidating : List Line

@@ -20,6 +20,7 @@ ghost use Rattle.sva_model.specs.RowsOfDeliveries.{DoomedWithoutTranslation, Cac
 ghost use Rattle.sva_model.specs.RowsOfDeliveries.{VectorsOfTwoCounts, OwnReset, EachKindAsSent, CountFieldsAsSent};
 ghost use Rattle.sva_model.specs.RowsOfReadings.{LastRequestPastAMarker, MarkerPastAMarker, RequestWithoutLIsNotOrdered, AdvanceOfALiveBinding};
 ghost use Rattle.sva_model.specs.RowsOfReadings.{AdvanceOfALostBinding, OneNumberOfEachKind, UnmapPastTheLastPage, UnmapWhileDrainedInReset};
+ghost use Rattle.sva_model.specs.RowsOfReadings.{RangePastTheLastPage, UnmapWhileInvalidatingOneThatStarted};
 ghost use Rattle.sva_model.specs.RowsOfReadings.{UnmapWhileInvalidatingInReset, UnmapAfterTheInvalidation, PageNamedTwice, PageRequestForNeither};
 ghost use Rattle.sva_model.specs.RowsOfReadings.{OtherVerdictsNeedNoFrame, SuccessThatIsNone, JobOfALostBinding, DrainWaitsForOtherPasids};
 ghost use Rattle.sva_model.specs.RowsOfReadings.{WaitOfAnUnmapDoesNotDrain, StaleGroupsKeepTheirRequests, UnfinishedWhereDisabled};
@@ -33,7 +34,7 @@ ghost use Rattle.sva_model.specs.RowsOfBoundaries.{MessagesSpentBeforeBindings, 
 ghost use Rattle.sva_model.specs.RowsOfBoundaries.{LastCookieOfAnInvalidation, NoCookieInReset, QuietNeedsNoRoom, FullSpaceAndAnother};
 ghost use Rattle.sva_model.specs.RowsOfBoundaries.{LastPageAndLastFrame, GreatestPage, HeldBeforeWritable, LastSlotAndLastTag, StagesInReset};
 ghost use Rattle.sva_model.specs.RowsOfBoundaries.{UnmapInEachStage, UnmapWhileStoppingInReset, WaitsAfterAnEarlyReset, CreditAfterAReset};
-ghost use Rattle.sva_model.specs.RowsOfBoundaries.{OrdersOverAfterAReset, LabelsBackInReset};
+ghost use Rattle.sva_model.specs.RowsOfBoundaries.{OrdersOverAfterAReset, LabelsBackInReset, NoStep, EvictInReset};
 ghost use Rattle.sva_model.specs.RowsOfWrongRules.{NotFreeWhenSent, NotFreeWhenTaken, NotFreeAtTheReset, NotFreeWhenUnmappedInReset};
 ghost use Rattle.sva_model.specs.RowsOfWrongRules.{NotFreedAtTheFirstOfTwo, NotNoneOfEight, DoomedAnswerNotKept, DoomedAnswerNotKeptLater};
 ghost use Rattle.sva_model.specs.RowsOfWrongRules.{DoomedTagNotGivenBack, NotFinishedWhileAUseRuns, NoUseHeldAgainstAnother, NoDrainPastAPageRequest};
@@ -43,11 +44,11 @@ ghost use Rattle.sva_model.specs.RowsOfWrongRules.{NotReleasedWhileInvalidating,
 ghost use Rattle.sva_model.specs.RowsOfWrongRules.{NoUseLeftByAReset, NoIndexGivenBackByAQuit, NoQuitWhileAUseRuns, NoQuitWhileARequestIsOut};
 ghost use Rattle.sva_model.specs.RowsOfWrongRules.{NoTranslationWhileStopping, NoTranslationOfAnotherSpace, NothingElseInvalidated};
 ghost use Rattle.sva_model.specs.RowsOfWrongRules.{NothingOfAPasidLeft};
-ghost use Rattle.sva_model.specs.RowsOfFinalRules.{RangeOfEight, CausesOfUnmapRange, OnePasidForEachSpace};
+ghost use Rattle.sva_model.specs.RowsOfFinalRules.{RangeOfEight, CausesOfUnmapRange, OnePasidForEachSpace, FirstReleaseOfTwo};
 ghost use Rattle.sva_model.specs.RowsOfWire.{InvalidationsUnderWay, GroupsUnderWay, TwoTargets, Drained};
 ghost use Rattle.sva_model.specs.RowsOfWhatStays.{SamePageOfTwoPasids, EvictOfOnePage, NoTranslationBesideAnOlder, CacheFullOfTwo};
 ghost use Rattle.sva_model.specs.RowsOfWhatStays.{UnmappedWhileInvalidating, OneOfTwoAnswered, UseBehindAnInvalidation, CachedByPasid};
-ghost use Rattle.sva_model.specs.RowsOfWhatStays.{GroupFiledInPart, SecondGroupOfAnIndex, NothingElseIsOrdered};
+ghost use Rattle.sva_model.specs.RowsOfWhatStays.{GroupFiledInPart, SecondGroupOfAnIndex, NothingElseIsOrdered, DoomedAnswerBesideANewer};
 
 /// What a host keeps after a run.
 pub fn kept()
@@ -62,6 +63,7 @@ pub fn final_rules()
     ensures range_of_eight { RangeOfEight }
     ensures causes_of_unmap_range { CausesOfUnmapRange }
     ensures one_pasid_for_each_space { OnePasidForEachSpace }
+    ensures first_release_of_two { FirstReleaseOfTwo }
 {}
 
 /// Spaces, bindings, translations, and pages unmapped while they are in use.
@@ -186,8 +188,10 @@ pub fn readings()
     ensures advance_of_a_lost_binding { AdvanceOfALostBinding }
     ensures one_number_of_each_kind { OneNumberOfEachKind }
     ensures unmap_past_the_last_page { UnmapPastTheLastPage }
+    ensures range_past_the_last_page { RangePastTheLastPage }
     ensures unmap_while_drained_in_reset { UnmapWhileDrainedInReset }
     ensures unmap_while_invalidating_in_reset { UnmapWhileInvalidatingInReset }
+    ensures unmap_while_invalidating_one_that_started { UnmapWhileInvalidatingOneThatStarted }
     ensures unmap_after_the_invalidation { UnmapAfterTheInvalidation }
     ensures page_named_twice { PageNamedTwice }
     ensures page_request_for_neither { PageRequestForNeither }
@@ -288,6 +292,8 @@ pub fn boundaries()
     ensures credit_after_a_reset { CreditAfterAReset }
     ensures orders_over_after_a_reset { OrdersOverAfterAReset }
     ensures labels_back_in_reset { LabelsBackInReset }
+    ensures no_step { NoStep }
+    ensures evict_in_reset { EvictInReset }
 {}
 
 /// What a step leaves alone that stands beside what it changes: other pages, other PASIDs, what was noted or answered before.
@@ -296,6 +302,7 @@ pub fn what_stays()
     ensures evict_of_one_page { EvictOfOnePage }
     ensures no_translation_beside_an_older { NoTranslationBesideAnOlder }
     ensures cache_full_of_two { CacheFullOfTwo }
+    ensures doomed_answer_beside_a_newer { DoomedAnswerBesideANewer }
     ensures unmapped_while_invalidating { UnmappedWhileInvalidating }
     ensures one_of_two_answered { OneOfTwoAnswered }
     ensures use_behind_an_invalidation { UseBehindAnInvalidation }

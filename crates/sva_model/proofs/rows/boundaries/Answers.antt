@@ -78,3 +78,11 @@ returns-clause-orders_over_after_a_reset c = (refl, refl)
 pub returns-clause-labels_back_in_reset : goal.returns-clause-labels_back_in_reset
 unfolding lowest any_below all_below count_below select tabulate replies
 returns-clause-labels_back_in_reset c = (refl, refl)
+
+pub returns-clause-no_step : goal.returns-clause-no_step
+unfolding lowest any_below all_below count_below select tabulate replies
+returns-clause-no_step c = (refl, refl)
+
+pub returns-clause-evict_in_reset : goal.returns-clause-evict_in_reset
+unfolding lowest any_below all_below count_below select tabulate replies
+returns-clause-evict_in_reset c = (refl, refl)

@@ -14,3 +14,7 @@ returns-clause-causes_of_unmap_range c = (refl, refl)
 pub returns-clause-one_pasid_for_each_space : goal.returns-clause-one_pasid_for_each_space
 unfolding lowest any_below all_below count_below select tabulate replies
 returns-clause-one_pasid_for_each_space c = (refl, refl)
+
+pub returns-clause-first_release_of_two : goal.returns-clause-first_release_of_two
+unfolding lowest any_below all_below count_below select tabulate replies
+returns-clause-first_release_of_two c = (refl, refl)

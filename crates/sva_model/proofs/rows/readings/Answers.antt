@@ -114,3 +114,11 @@ returns-clause-orders_down_stay_in_order c = (refl, refl)
 pub returns-clause-stop_behind_an_invalidate : goal.returns-clause-stop_behind_an_invalidate
 unfolding lowest any_below all_below count_below select tabulate replies
 returns-clause-stop_behind_an_invalidate c = (refl, refl)
+
+pub returns-clause-range_past_the_last_page : goal.returns-clause-range_past_the_last_page
+unfolding lowest any_below all_below count_below select tabulate replies
+returns-clause-range_past_the_last_page c = (refl, refl)
+
+pub returns-clause-unmap_while_invalidating_one_that_started : goal.returns-clause-unmap_while_invalidating_one_that_started
+unfolding lowest any_below all_below count_below select tabulate replies
+returns-clause-unmap_while_invalidating_one_that_started c = (refl, refl)

@@ -46,3 +46,7 @@ returns-clause-second_group_of_an_index c = (refl, refl)
 
 pub returns-clause-nothing_else_is_ordered : goal.returns-clause-nothing_else_is_ordered
 returns-clause-nothing_else_is_ordered c = refl
+
+pub returns-clause-doomed_answer_beside_a_newer : goal.returns-clause-doomed_answer_beside_a_newer
+unfolding lowest any_below all_below count_below select tabulate replies
+returns-clause-doomed_answer_beside_a_newer c = (refl, refl)

@@ -45,6 +45,8 @@ ghost use Rattle.sva_model.specs.RowsOfWrongRules.{NoUseLeftByAReset, NoIndexGiv
 ghost use Rattle.sva_model.specs.RowsOfWrongRules.{NoTranslationWhileStopping, NoTranslationOfAnotherSpace, NothingElseInvalidated};
 ghost use Rattle.sva_model.specs.RowsOfWrongRules.{NothingOfAPasidLeft};
 ghost use Rattle.sva_model.specs.RowsOfFinalRules.{RangeOfEight, CausesOfUnmapRange, OnePasidForEachSpace, FirstReleaseOfTwo};
+ghost use Rattle.sva_model.specs.RowsOfRanges.{RangeIntoAFullQueue, CookiesOfARange, RangeAtTwoEndpoints, RangeAtTheFirst, RangeAtTheSecond};
+ghost use Rattle.sva_model.specs.RowsOfRanges.{RangeInReset, RangeWhileInvalidating, RangeOf512, RangeOf512AsSent, RangeOfTheLastPages};
 ghost use Rattle.sva_model.specs.RowsOfWire.{InvalidationsUnderWay, GroupsUnderWay, TwoTargets, Drained};
 ghost use Rattle.sva_model.specs.RowsOfWhatStays.{SamePageOfTwoPasids, EvictOfOnePage, NoTranslationBesideAnOlder, CacheFullOfTwo};
 ghost use Rattle.sva_model.specs.RowsOfWhatStays.{UnmappedWhileInvalidating, OneOfTwoAnswered, UseBehindAnInvalidation, CachedByPasid};
@@ -64,6 +66,20 @@ pub fn final_rules()
     ensures causes_of_unmap_range { CausesOfUnmapRange }
     ensures one_pasid_for_each_space { OnePasidForEachSpace }
     ensures first_release_of_two { FirstReleaseOfTwo }
+{}
+
+/// Ranges that are unmapped: what they need at each unit, what their frames wait for, the largest and the last of them.
+pub fn ranges()
+    ensures range_into_a_full_queue { RangeIntoAFullQueue }
+    ensures cookies_of_a_range { CookiesOfARange }
+    ensures range_at_two_endpoints { RangeAtTwoEndpoints }
+    ensures range_at_the_first { RangeAtTheFirst }
+    ensures range_at_the_second { RangeAtTheSecond }
+    ensures range_in_reset { RangeInReset }
+    ensures range_while_invalidating { RangeWhileInvalidating }
+    ensures range_of_512 { RangeOf512 }
+    ensures range_of_512_as_sent { RangeOf512AsSent }
+    ensures range_of_the_last_pages { RangeOfTheLastPages }
 {}
 
 /// Spaces, bindings, translations, and pages unmapped while they are in use.

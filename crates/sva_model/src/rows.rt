@@ -47,10 +47,14 @@ ghost use Rattle.sva_model.specs.RowsOfWrongRules.{NothingOfAPasidLeft};
 ghost use Rattle.sva_model.specs.RowsOfFinalRules.{RangeOfEight, CausesOfUnmapRange, OnePasidForEachSpace, FirstReleaseOfTwo};
 ghost use Rattle.sva_model.specs.RowsOfRanges.{RangeIntoAFullQueue, CookiesOfARange, RangeAtTwoEndpoints, RangeAtTheFirst, RangeAtTheSecond};
 ghost use Rattle.sva_model.specs.RowsOfRanges.{RangeInReset, RangeWhileInvalidating, RangeOf512, RangeOf512AsSent, RangeOfTheLastPages};
-ghost use Rattle.sva_model.specs.RowsOfWire.{InvalidationsUnderWay, GroupsUnderWay, TwoTargets, Drained};
+ghost use Rattle.sva_model.specs.RowsOfWire.{InvalidationsUnderWay, GroupsUnderWay, TwoTargets, Drained, RangesQueued, JobsQueued};
 ghost use Rattle.sva_model.specs.RowsOfWhatStays.{SamePageOfTwoPasids, EvictOfOnePage, NoTranslationBesideAnOlder, CacheFullOfTwo};
 ghost use Rattle.sva_model.specs.RowsOfWhatStays.{UnmappedWhileInvalidating, OneOfTwoAnswered, UseBehindAnInvalidation, CachedByPasid};
 ghost use Rattle.sva_model.specs.RowsOfWhatStays.{GroupFiledInPart, SecondGroupOfAnIndex, NothingElseIsOrdered, DoomedAnswerBesideANewer};
+ghost use Rattle.sva_model.specs.RowsOfAnswers.{AnswersOfInvalidationsUnderWay, AnswersOfGroupsUnderWay, AnswersOfTwoTargets, AnswersOfDrained};
+ghost use Rattle.sva_model.specs.RowsOfAnswers.{AnswersOfRangesQueued, AnswersOfJobsQueued, AnswersOfUnmappedWhileInvalidating};
+ghost use Rattle.sva_model.specs.RowsOfAnswers.{AnswersOfOneOfTwoAnswered, AnswersOfUseBehindAnInvalidation, AnswersOfCachedByPasid};
+ghost use Rattle.sva_model.specs.RowsOfAnswers.{AnswersOfGroupFiledInPart, AnswersOfSecondGroupOfAnIndex, AnswersOfCookiesByUnit, AnswersOfNoTranslation};
 
 /// What a host keeps after a run.
 pub fn kept()
@@ -58,6 +62,26 @@ pub fn kept()
     ensures groups_under_way { GroupsUnderWay }
     ensures two_targets { TwoTargets }
     ensures drained { Drained }
+    ensures ranges_queued { RangesQueued }
+    ensures jobs_queued { JobsQueued }
+{}
+
+/// The answers of the runs that are read for what a host keeps, for what was sent or for what was ordered.
+pub fn answers()
+    ensures invalidations_under_way { AnswersOfInvalidationsUnderWay }
+    ensures groups_under_way { AnswersOfGroupsUnderWay }
+    ensures two_targets { AnswersOfTwoTargets }
+    ensures drained { AnswersOfDrained }
+    ensures ranges_queued { AnswersOfRangesQueued }
+    ensures jobs_queued { AnswersOfJobsQueued }
+    ensures unmapped_while_invalidating { AnswersOfUnmappedWhileInvalidating }
+    ensures one_of_two_answered { AnswersOfOneOfTwoAnswered }
+    ensures use_behind_an_invalidation { AnswersOfUseBehindAnInvalidation }
+    ensures cached_by_pasid { AnswersOfCachedByPasid }
+    ensures group_filed_in_part { AnswersOfGroupFiledInPart }
+    ensures second_group_of_an_index { AnswersOfSecondGroupOfAnIndex }
+    ensures cookies_by_unit { AnswersOfCookiesByUnit }
+    ensures no_translation { AnswersOfNoTranslation }
 {}
 
 /// Ranges of pages, and one PASID for each space.

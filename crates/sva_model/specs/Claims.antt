@@ -64,6 +64,8 @@ WasDone p b = (p.stage b ≡ Quiet) ⊎ (p.stage b ≡ Lost)
 abbrev pub IsBeforeInvalidating : Endpoint → (binding : ℕ) → Type 0
 IsBeforeInvalidating p b = (p.stage b ≡ Live) ⊎ ((marked : Bool) × (p.stage b ≡ Stopping marked)) ⊎ ((wait : ℕ) × (p.stage b ≡ Draining wait))
 
+-- The step that led from `was` to `then` submitted at the unit what the unmapping of a page of the binding asks: behind all
+-- orders that were there, invalidations of ranges of the binding, of which one covers the page, and a wait as the last of them.
 pub record HasSubmitted (was then : Endpoint) (binding page : ℕ) : Type 0 where
   -- the last order that the step submitted is a wait
   pub wait : ℕ

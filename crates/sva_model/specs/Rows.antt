@@ -11,20 +11,24 @@ use Rattle.sva_model.specs.State.{PasidRule, Order, opened}
 use Rattle.sva_model.specs.State.Order.{RangeOf}
 use Rattle.sva_model.specs.Steps.{Reply, replies, counts, world_after}
 
+-- one line of a run: a step, and its answer or refusal
 pub record Line : Type 0 where
   pub step : Step
   pub reply : Reply
 
+-- the step is accepted with this answer
 abbrev pub says : Step → Answer → Line
 says s a = record { step = s; reply = Ok a }
 
+-- the step is refused for this cause
 abbrev pub refused : Step → Refusal → Line
 refused s r = record { step = s; reply = Err r }
 
--- an Invalidate Request's one page, and the invalidation of one page
+-- one page, as an Invalidate Request names it
 abbrev pub one_page : (page : ℕ) → Scope
 one_page q = Coded (record { page = q; s = false })
 
+-- the invalidation of one page of a binding
 abbrev pub page_of : (binding page : ℕ) → Order
 page_of b q = RangeOf b (record { base = q; order = 0 })
 
@@ -33,9 +37,11 @@ abbrev pub lines : ℕ → (ℕ → Line) → List Line
 lines zero f = []
 lines (suc n) f = lines n f ++ f n ∷ []
 
+-- a config, by its numbers in the order of the line `config`, and the first number of each counter
 abbrev pub config : (endpoints frames workers first : ℕ) → Config
 config endpoints frames workers first = record { endpoints = endpoints; frames = frames; workers = workers; first = first }
 
+-- the steps of a run, without their answers
 abbrev pub steps_of : List Line → List Step
 steps_of row = map (λ l. l.step) row
 

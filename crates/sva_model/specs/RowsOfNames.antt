@@ -191,10 +191,11 @@ numbers_apart =
 abbrev pub NumbersApart : Type 0
 NumbersApart = IsRow (config 3 8 3 100) numbers_apart 7 1 0
 
--- the messages of a run as they were sent, whatever their endpoints, are these
+-- a message as it was sent, whatever its endpoint
 abbrev pub carried_after : World → ℕ → Message
 carried_after w c = (w.part (w.link_of c)).carried c
 
+-- the messages of a run as they were sent, from the first on, are these
 abbrev pub AreSentInAll : Config → List Line → (count : ℕ) → List Message → Type 0
 AreSentInAll c row count messages = tabulate count (carried_after (world_after PerSpace c (steps_of row))) ≡ messages
 
@@ -245,10 +246,11 @@ NumbersApartAsSent =
     ∷ ResponseMessage 1 0 InvalidCode
     ∷ [])
 
--- the orders of a unit after a run, in the order of submission, are these
+-- the orders of a unit, in the order of submission
 abbrev pub orders_of : Endpoint → List Order
 orders_of p = tabulate p.orders p.order
 
+-- those of an endpoint's unit after a run are these
 abbrev pub AreOrdered : Config → List Line → (endpoint : ℕ) → List Order → Type 0
 AreOrdered c row e orders = orders_of ((world_after PerSpace c (steps_of row)).part e) ≡ orders
 

@@ -261,6 +261,7 @@ second_group_of_an_index =
     ∷ says (step.Fault 0 1 34 true false (Some 0) true) (answer.Group 0)
     ∷ []
 
+-- and then: its page requests are filed, and it is answered
 abbrev pub its_response : List Line
 its_response =
     says (step.Deliver 3) answer.Queued
@@ -298,9 +299,11 @@ kinds =
     ∷ ResetDoneKind
     ∷ []
 
+-- behind what goes down but completions, and behind nothing else
 abbrev pub behind_orders_down : List Bool
 behind_orders_down = replicate 5 true ++ replicate 7 false
 
+-- behind page requests, the last of a group or not, and behind nothing else
 abbrev pub behind_page_requests : List Bool
 behind_page_requests = replicate 8 false ++ replicate 2 true ++ replicate 2 false
 

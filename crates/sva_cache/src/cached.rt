@@ -43,7 +43,7 @@ impl Model for Cache {
 
 impl Cache {
     ghost use Rattle.std.specs.Prelude.{Ok, Err};
-    ghost use Rattle.std.specs.FinMap.{contains_key};
+    ghost use Rattle.std.specs.FinMap.{contains_key, len};
     ghost use Rattle.sva_cache.specs.Cache.{has_room_for, place_of, without_covered};
 
     /// Nothing is cached.
@@ -56,13 +56,14 @@ impl Cache {
     }
 
     /// Where the key stands in the order of the cached ones, 0 to 63, or else where it would stand, 0 to 64: that is how
-    /// many cached keys are smaller. It is found by at most seven comparisons, for which the ticks have to have room: they
-    /// are below 2^32.
+    /// many cached keys are smaller. It is found by at most seven comparisons, and by at least one where something is cached.
+    /// The ticks have to have room for them: they are below 2^32.
     pub fn search(&self, key: &CacheKey, ticks: &mut Ticks) -> Result<usize, usize>
         requires { ticks.old + 7 < 2 ^ 32 }
         ensures place { result ≡ (if contains_key self.now key.now then Ok (place_of self.now key.now) else Err (place_of self.now key.now)) }
         ensures counted { ticks.old ≤ ticks.new }
         ensures few { ticks.new ≤ ticks.old + 7 }
+        ensures reached { 0 < len self.now → ticks.old < ticks.new }
     {
         let entries = self.entries.as_slice();
         let mut low = 0;

@@ -1,8 +1,10 @@
-use Rattle.std.proofs.Common.{◌+◌, ◌-◌, ◌/◌, ◌≤◌, length, sym, ◌∙◌, ap, refl, subst, arith}
+use Rattle.std.proofs.Common.{◌≡◌, ◌+◌, ◌-◌, ◌/◌, ◌≤◌, length, sym, ◌∙◌, ap, refl, subst, arith}
 use Rattle.std.specs.Prelude.{T}
 use Rattle.std.specs.Option.{is_some}
+use Rattle.std.specs.FinMap as finite
 use Rattle.std.specs.FinMap.{find, is_sorted}
 use Rattle.sva_cache.specs.Cache.{key_cmp, key_cmp_total, smaller_first}
+use Rattle.sva_cache.proofs.Edits.{length_is}
 use Rattle.sva_cache.proofs.Places.{at_most_length, less_at, greater_at, equal_at}
 use Rattle.sva_cache.proofs.Search.{halves, closed, found_at, not_found_at}
 use Rattle.sva_cache.proofs.cached.Cache.search.Goals as goal
@@ -20,6 +22,7 @@ loop-low-init c =
       few = omega arith;
       halved = omega arith;
       spent = refl;
+      begun = omega arith;
     }
 
 pub loop-low-preserved-in-Less : goal.loop-low-preserved-in-Less
@@ -28,6 +31,7 @@ loop-low-preserved-in-Less c =
     let low = c.loop-low.low in
     let high = c.loop-low.high in
     let sorted : T (is_sorted key_cmp es) = subst (λ xs. T (is_sorted key_cmp xs)) (sym c.as_slice-entries.ensures.value) c.self.invariant.0 in
+    let long : length es ≤ 64 = subst (λ xs. length xs ≤ 64) (sym c.as_slice-entries.ensures.value) c.self.invariant.1 in
     let half = halves (high - low) c.loop-low.invariant.left (omega arith) c.loop-low.invariant.halved in
     let more = c.compare.ensures.counted in
     record {
@@ -38,6 +42,7 @@ loop-low-preserved-in-Less c =
       few = omega (arith, half.1);
       halved = omega (arith, half.2);
       spent = omega (arith, half.1, c.loop-low.invariant.spent);
+      begun = omega (arith, more, long, half.1, c.loop-low.invariant.spent);
     }
 
 pub loop-low-preserved : goal.loop-low-preserved
@@ -46,6 +51,7 @@ loop-low-preserved c =
     let low = c.loop-low.low in
     let high = c.loop-low.high in
     let sorted : T (is_sorted key_cmp es) = subst (λ xs. T (is_sorted key_cmp xs)) (sym c.as_slice-entries.ensures.value) c.self.invariant.0 in
+    let long : length es ≤ 64 = subst (λ xs. length xs ≤ 64) (sym c.as_slice-entries.ensures.value) c.self.invariant.1 in
     let half = halves (high - low) c.loop-low.invariant.left (omega arith) c.loop-low.invariant.halved in
     let past = greater_at key_cmp_total c.args.key.now es (low + (high - low) / 2) c.index-entries-middle.result sorted (omega arith)
     (sym c.in-Greater.ensures.order) in
@@ -58,6 +64,7 @@ loop-low-preserved c =
       few = omega (arith, half.1);
       halved = omega (arith, half.2);
       spent = omega (arith, half.1, c.loop-low.invariant.spent);
+      begun = omega (arith, more, long, half.1, c.loop-low.invariant.spent);
     }
 
 pub returns-in-Equal-clause-place : goal.returns-in-Equal-clause-place
@@ -93,3 +100,13 @@ returns-in-Equal-clause-few c =
 
 pub returns-clause-few : goal.returns-clause-few
 returns-clause-few c = omega (arith, c.loop-low.invariant.spent)
+
+pub returns-in-Equal-clause-reached : goal.returns-in-Equal-clause-reached
+returns-in-Equal-clause-reached c = λ some. omega (arith, c.loop-low.invariant.spent, c.loop-low.invariant.few, c.compare.ensures.counted)
+
+pub returns-clause-reached : goal.returns-clause-reached
+returns-clause-reached c =
+    let es = c.as_slice-entries.result.now in
+    let count : finite.len c.args.self.now ≡ length es =
+    length_is _ _ c.self.invariant.0 c.self.view_is ∙ ap (λ xs. length xs) (sym c.as_slice-entries.ensures.value) in
+    λ some. omega (arith, some, count, c.loop-low.invariant.begun)

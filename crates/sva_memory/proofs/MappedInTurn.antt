@@ -1,5 +1,5 @@
 -- Pages that are mapped in turn, and taken back the last first.
-use Rattle.std.proofs.Common.{◌≡◌, ℕ, ◌+◌, ◌≤◌, ◌==◌, Bool, true, false, cond, List, Some, [], ◌∷◌, ◌++◌, length, set, slice_get, refl, sym, ap, ◌∙◌}
+use Rattle.std.proofs.Common.{◌≡◌, ℕ, ◌≤◌, ◌==◌, Bool, true, false, cond, List, Some, [], ◌∷◌, ◌++◌, length, set, slice_get, refl, sym, ap, ◌∙◌}
 use Rattle.std.proofs.Common.{arith, if◌then◌else◌}
 use Rattle.std.specs.Prelude.{◌||◌, not, nat_lt, is_some, filter}
 use Rattle.std.proofs.lemmas.Bool.Decides.{nat_tests}

@@ -21,7 +21,7 @@ use Rattle.sva_memory.proofs.Counting.{balanced-none, balanced-on, balanced-is, 
 use Rattle.sva_memory.proofs.Rows.{listed, between-none, between-more, without-missing}
 use Rattle.sva_memory.proofs.NewPages.{AreNew, unseen_new, page_of}
 use Rattle.sva_memory.proofs.FreeFrames.{IsFirst, first_is, free_again}
-use Rattle.sva_memory.proofs.MappedInTurn.{page_out, page_between, new_rest, pages_return, places_return, pages_back_more, places_back_more}
+use Rattle.sva_memory.proofs.MappedInTurn.{page_out, page_between, new_rest, pages_back_more, places_back_more}
 
 -- the pages of a space
 abbrev pub Pages : Type 0

@@ -1,18 +1,18 @@
 -- The pages of a space, as they are seen.
-use Rattle.std.proofs.Common.{◌≡◌, ◌≢◌, ℕ, suc, ◌+◌, ◌<◌, ◌==◌, Bool, true, false, cond, List, Option, Some, None, [], ◌∷◌, ◌++◌, refl, sym, ap, subst}
-use Rattle.std.proofs.Common.{◌∙◌, arith, add-one, if◌then◌else◌}
-use Rattle.std.specs.Prelude.{not, ◌&&◌, nat_lt, option_map, is_some}
+use Rattle.std.proofs.Common.{◌≡◌, ◌≢◌, ◌↔◌, ℕ, suc, ◌+◌, ◌-◌, ◌<◌, ◌==◌, Bool, true, false, cond, List, Option, Some, None, [], ◌∷◌, ◌++◌, refl, sym, ap, subst}
+use Rattle.std.proofs.Common.{◌∙◌, arith, inl, inr, add-one, if◌then◌else◌}
+use Rattle.std.specs.Prelude.{not, ◌&&◌, nat_lt, option_map, is_some, IsSome, IsTrue}
 use Rattle.std.specs.declared.cmp.Ordering.{Ordering}
 use Rattle.std.specs.declared.cmp.Ordering.TheVariants.{Less, Equal, Greater}
 use Rattle.std.specs.Ordering.{nat_cmp, match_ordering, MatchOrdering}
-use Rattle.std.specs.Cmp.{ranked, unsigned_tied}
+use Rattle.std.specs.Cmp.{ranked}
 use Rattle.std.specs.BTreeMap.{is_at}
 use Rattle.std.specs.List.Sorted.{IsStrictlySortedBy}
 use Rattle.std.proofs.lemmas.Bool.Decides.{nat_tests}
-use Rattle.sva_space.specs.Pages.{IsRising, mapping_at, with_page, without_page}
+use Rattle.sva_space.specs.Pages.{IsRising, mapping_at, with_page, without_page, AllMapped}
 use Rattle.sva_space.proofs.Mappings.{AllAbove}
 use Rattle.sva_model.specs.Words.{tabulate, all_below}
-use Rattle.sva_laws.proofs.Words.{all_below-true, all_below-false}
+use Rattle.sva_laws.proofs.Words.{all_below-true, all_below-false, all_below_cases}
 use Rattle.sva_model.specs.Acts.{in_range}
 use Rattle.sva_model.specs.Wire.{PageWire, insert_by, is_lower_page}
 use Rattle.sva_labels.specs.Finding.{page_at, is_mapped, frame_or_0, frames_of}
@@ -172,21 +172,28 @@ frames_of-more ps q j = ap (frames_of ps q) (add-one j) ∙ frames_of-suc ps q j
 
 -- whether they are mapped
 
-pub are_mapped-none : (ps : List PageWire) (q : ℕ) → are_mapped ps q 0 ≡ true
-unfolding are_mapped all_below
-are_mapped-none ps q = refl
-
-are_mapped-suc : (ps : List PageWire) (q j : ℕ) → are_mapped ps q (suc j) ≡ (if is_mapped ps (q + j) then are_mapped ps q j else false)
-unfolding are_mapped all_below
-are_mapped-suc ps q j = refl
-
-pub are_mapped-more : (ps : List PageWire) (q j : ℕ) → are_mapped ps q j ≡ true → is_mapped ps (q + j) ≡ true → are_mapped ps q (j + 1) ≡ true
-are_mapped-more ps q j before here = ap (are_mapped ps q) (add-one j) ∙ are_mapped-suc ps q j ∙ ap (λ b. if b then are_mapped ps q j else false) here ∙ before
-
 pub are_mapped-at : (ps : List PageWire) (q n j : ℕ) → are_mapped ps q n ≡ true → j < n → is_mapped ps (q + j) ≡ true
 unfolding are_mapped
 are_mapped-at ps q n j all within = all_below-true n (λ k. is_mapped ps (q + k)) all j within
 
-pub are_mapped-not : (ps : List PageWire) (q n j : ℕ) → j < n → is_mapped ps (q + j) ≡ false → are_mapped ps q n ≡ false
+-- the space's own test of them
+pub are_mapped-seen : (ms : List (ℕ × (ℕ × Bool))) (q n : ℕ) (b : Bool) → (IsTrue b ↔ AllMapped q (q + n) ms) → b ≡ are_mapped (pages_seen ms) q n
 unfolding are_mapped
-are_mapped-not ps q n j within not_there = all_below-false n (λ k. is_mapped ps (q + k)) j within not_there
+are_mapped-seen ms q n b told =
+    elim (all_below_cases n (λ j. is_mapped (pages_seen ms) (q + j))) [
+      | inl all ↦ told.1 (each all) ∙ sym all
+      | inr some ↦ missing b told some.0 some.1 some.2 ∙ sym (all_below-false n (λ j. is_mapped (pages_seen ms) (q + j)) some.0 some.1 some.2)
+    ]
+  where
+    each : all_below n (λ j. is_mapped (pages_seen ms) (q + j)) ≡ true → AllMapped q (q + n) ms
+    each all page from below =
+        let split : q + (page - q) ≡ page = omega (arith, from) in
+        subst (λ (k : ℕ). IsSome (mapping_at ms k)) split
+        (sym (is_mapped-seen ms (q + (page - q)))
+        ∙ all_below-true n (λ j. is_mapped (pages_seen ms) (q + j)) all (page - q) (omega (arith, from, below)))
+
+    missing : (b : Bool) → (IsTrue b ↔ AllMapped q (q + n) ms) → (j : ℕ) → j < n → is_mapped (pages_seen ms) (q + j) ≡ false → b ≡ false
+    missing false told j within not_there = refl
+    missing true told j within not_there =
+        let there : is_some (mapping_at ms (q + j)) ≡ true = told.0 refl (q + j) (omega arith) (omega (arith, within)) in
+        absurd (cc (sym not_there ∙ is_mapped-seen ms (q + j) ∙ there))

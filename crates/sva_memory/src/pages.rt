@@ -66,12 +66,7 @@ fn are_mapped(space: &Space, page: u64, count: u64) -> bool
     requires { page + count ≤ 2 ^ 36 }
     ensures { result ≡ are_mapped (pages_seen space.now) page count }
 {
-    for number in 0..count {
-        if space.find(page + number).is_none() {
-            return false;
-        }
-    }
-    true
+    space.are_mapped(page, page + count)
 }
 
 /// Takes `count` pages in a row out of a space where each of them is mapped. Their frames are withheld for these waits, and

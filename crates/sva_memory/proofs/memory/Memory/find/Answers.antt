@@ -2,8 +2,7 @@ use Rattle.std.proofs.Common.{ap, sym, ◌∙◌}
 use Rattle.std.specs.Prelude.{option_map, Option, List}
 use Rattle.sva_model.specs.Wire.{PageWire}
 use Rattle.sva_labels.specs.Finding.{page_at, pages_of, or_no_pages}
-use Rattle.sva_memory.specs.Seen.{MemorySeen, page_seen, pages_seen}
-use Rattle.sva_memory.specs.Inner.{memory_in}
+use Rattle.sva_memory.specs.Seen.{MemorySeen, page_seen}
 use Rattle.sva_memory.proofs.LiveLists.{pages_of-at}
 use Rattle.sva_memory.proofs.PageLists.{page_at-seen}
 use Rattle.sva_memory.proofs.ChangedSpace.{has_space, lacks_space}

@@ -6,26 +6,34 @@ use std::marker::Brand;
 use std::process::Abort;
 use std::sync::Wait;
 use std::test::Fail;
-use sva_fabric::{Audit, Blanks, Fabric, Lease, Leaving, Moved, Ports, Tally, Tokens, UseTicket};
+use sva_fabric::{
+    Audit, Blanks, Fabric, Lease, Leaving, Moved, Port, Ports, Tally, Tokens, UseTicket,
+};
 use sva_step::{Answer, Step};
 
-// A space with a page, bound to endpoint 0, which knows of it.
-fn bound<C: Tally, R: Wait + Abort>(rt: &R, fabric: &Fabric<C>, ports: &mut Ports<C>) -> Lease<C> {
-    let Ports { host, link, .. } = ports;
+// A message that arrives, and what it does.
+fn delivers<C: Tally, R: Wait + Abort>(
+    rt: &R,
+    fabric: &Fabric<C>,
+    link: &mut Port<C>,
+    message: u64,
+    answer: Answer,
+) {
+    takes(rt, fabric, link, Step::Deliver { message }, answer);
+}
+
+// A space with a page.
+fn mapped<C: Tally, R: Wait + Abort>(rt: &R, fabric: &Fabric<C>, host: &mut Port<C>) {
     takes(rt, fabric, host, Step::Space, Answer::Space { space: 0 });
     takes(rt, fabric, host, map(16), Answer::Frame { frame: 0 });
-    let lease = match fabric.bind(rt, host, 0, 0) {
-        Ok(lease) => lease,
-        Err(_) => panic!(rt; "it binds"),
+}
+
+// Space 0 is bound to endpoint 0.
+fn leased<C: Tally, R: Wait + Abort>(rt: &R, fabric: &Fabric<C>, host: &mut Port<C>) -> Lease<C> {
+    let Ok(lease) = fabric.bind(rt, host, 0, 0) else {
+        panic!(rt; "it binds");
     };
     assert_eq!(rt; (lease.binding(), lease.pasid()), (0, 1));
-    takes(
-        rt,
-        fabric,
-        link,
-        Step::Deliver { message: 0 },
-        Answer::Started,
-    );
     lease
 }
 
@@ -38,40 +46,17 @@ fn translated<C: Tally, R: Wait + Abort>(rt: &R, fabric: &Fabric<C>, ports: &mut
         page: 16,
     };
     takes(rt, fabric, service, ask, Answer::Tag { tag: 0 });
-    takes(
-        rt,
-        fabric,
-        link,
-        Step::Deliver { message: 1 },
-        Answer::Completion,
-    );
-    takes(rt, fabric, link, Step::Deliver { message: 2 }, Answer::Held);
+    delivers(rt, fabric, link, 1, Answer::Completion);
+    delivers(rt, fabric, link, 2, Answer::Held);
 }
 
 // The endpoint is reset, while its use runs.
 fn reset<C: Tally, R: Wait + Abort>(rt: &R, fabric: &Fabric<C>, ports: &mut Ports<C>) {
     let Ports { host, link, .. } = ports;
-    takes(
-        rt,
-        fabric,
-        host,
-        Step::Reset { endpoint: 0 },
-        Answer::Resetting,
-    );
-    takes(
-        rt,
-        fabric,
-        link,
-        Step::Deliver { message: 3 },
-        Answer::Reset,
-    );
-    takes(
-        rt,
-        fabric,
-        link,
-        Step::Deliver { message: 4 },
-        Answer::ResetDone,
-    );
+    let asked = Step::Reset { endpoint: 0 };
+    takes(rt, fabric, host, asked, Answer::Resetting);
+    delivers(rt, fabric, link, 3, Answer::Reset);
+    delivers(rt, fabric, link, 4, Answer::ResetDone);
 }
 
 // The use ends behind the reset.
@@ -85,10 +70,11 @@ fn ends<C: Tally, R: Wait + Abort>(
         (ticket.endpoint(), ticket.slot(), ticket.frame()),
         (0, 0, 0)
     );
-    match fabric.end(rt, &mut ports.host, ticket) {
-        Ok(answer) => assert_eq!(rt; answer, Answer::Dead),
+    let answer = match fabric.end(rt, &mut ports.host, ticket) {
+        Ok(answer) => answer,
         Err((_ticket, _fault)) => panic!(rt; "the use ends"),
-    }
+    };
+    assert_eq!(rt; answer, Answer::Dead);
 }
 
 // The binding is being taken back.
@@ -134,7 +120,9 @@ fn tokens_spent<C: Tally, R: Wait + Abort>(
     let Ok((fabric, mut ports)) = Fabric::<C>::open(alloc, CONFIG, blanks) else {
         return Err("it opens".into());
     };
-    let lease = bound(rt, &fabric, &mut ports);
+    mapped(rt, &fabric, &mut ports.host);
+    let lease = leased(rt, &fabric, &mut ports.host);
+    delivers(rt, &fabric, &mut ports.link, 0, Answer::Started);
     translated(rt, &fabric, &mut ports);
     let ticket = match fabric.begin(rt, &mut ports.host, 0, 1, 16, true) {
         Ok(ticket) => ticket,

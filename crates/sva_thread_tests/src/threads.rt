@@ -79,6 +79,21 @@ fn two_threads_take_turns(rt: HostRuntime) -> Result<(), Fail> {
     turns::<Brand, _>(&rt, rt.alloc(), Blanks::new(&CONFIG))
 }
 
+// What a look at one of five frames answers, of which there are four.
+fn look_answer(frame: u64) -> Result<Answer, Refusal> {
+    if frame < 4 {
+        Ok(Answer::Free)
+    } else {
+        Err(Refusal::NoFrame)
+    }
+}
+
+// One look, whose answer is known.
+fn look<C: Tally, R: Wait + Abort>(rt: &R, fabric: &Fabric<C>, port: &mut Port<C>, frame: u64) {
+    let looked = fabric.step(rt, port, &Step::Look { frame });
+    assert_eq!(rt; looked.map(|r| r.answer), Ok(look_answer(frame)));
+}
+
 // As many looks as the turns.
 fn look_often<C: Tally, R: Wait + Abort>(
     rt: &R,
@@ -87,14 +102,7 @@ fn look_often<C: Tally, R: Wait + Abort>(
     turns: u64,
 ) {
     for turn in 0..turns {
-        let frame = turn % 5;
-        let answer = if frame < 4 {
-            Ok(Answer::Free)
-        } else {
-            Err(Refusal::NoFrame)
-        };
-        let looked = fabric.step(rt, port, &Step::Look { frame });
-        assert_eq!(rt; looked.map(|r| r.answer), Ok(answer));
+        look(rt, fabric, port, turn % 5);
     }
 }
 

@@ -1,0 +1,8 @@
+//! The tests of the memory of a host and of its remapping units, by public functions alone. `sva_word_tests` says why they stand in a
+//! crate of their own.
+#![tactic(auto)]
+
+#[cfg(test)]
+mod memories;
+#[cfg(test)]
+mod units;

@@ -1,0 +1,177 @@
+//! Ten thousand calls, each made at a pool and at its plain form, with equal answers.
+use crate::plain::{PlainPool, Wait};
+use crate::pools::{place, waits_of, withhold_or_give};
+use std::alloc::{AllocError, Global};
+use std::process::Abort;
+use sva_frames::{Frame, FramePool, Place, Target, UNITS, Waits};
+
+/// Numbers from a fixed seed: a linear congruential generator with the multiplier and increment of Knuth's MMIX, of
+/// which the upper bits are given out.
+#[derive(Drop)]
+struct Numbers {
+    state: u64,
+}
+
+impl Numbers {
+    /// The next number, below a bound; 0 where the bound is.
+    fn below(&mut self, bound: u64) -> u64 {
+        self.state = self
+            .state
+            .wrapping_mul(6_364_136_223_846_793_005)
+            .wrapping_add(1_442_695_040_888_963_407);
+        match bound {
+            0 => 0,
+            _ => (self.state >> 33) % bound,
+        }
+    }
+
+    /// What a frame waits for at one unit: mostly nothing.
+    fn target(&mut self) -> Option<Target> {
+        match self.below(8) {
+            0 => Some(Target::ResetEnd),
+            1 | 2 => Some(Target::Cookie(self.below(90))),
+            _ => None,
+        }
+    }
+}
+
+/// The waits of a frame, for the new pool and for the plain one.
+fn some_waits(alloc: Global, numbers: &mut Numbers) -> Result<(Waits, Vec<Wait>), AllocError> {
+    let mut targets = [None; UNITS];
+    let mut plain = Vec::new(alloc);
+    for unit in 0..UNITS {
+        targets[unit] = numbers.target();
+        if let Some(target) = targets[unit] {
+            let unit = unit as u64;
+            plain.push(Wait { unit, target })?;
+        }
+    }
+    Ok((waits_of(&targets), plain))
+}
+
+/// A pool and a plain one, of which the same calls are made.
+#[derive(Drop)]
+struct Twins {
+    pool: FramePool,
+    plain: PlainPool,
+    numbers: Numbers,
+    /// Whether there was no room for a frame's waits once.
+    is_crowded: bool,
+}
+
+impl Twins {
+    fn open(alloc: Global, frames: u32) -> Result<Twins, AllocError> {
+        Ok(Twins {
+            pool: FramePool::open(alloc, frames)?,
+            plain: PlainPool::open(alloc, frames)?,
+            numbers: Numbers { state: 2026 },
+            is_crowded: false,
+        })
+    }
+
+    /// Gives a frame back that was taken of both.
+    fn give<R: Abort>(&mut self, rt: &R, frame: Frame) {
+        let number = frame.number();
+        assert!(rt; (number as usize) < self.pool.len());
+        match self.pool.place(number) {
+            Place::Mapped => self.pool.give(frame),
+            _other => panic!(rt; "frame {number} isn't mapped"),
+        }
+        self.plain.give(number as usize);
+    }
+
+    /// Takes a frame of both.
+    fn take<R: Abort>(&mut self, rt: &R) -> Option<Frame> {
+        let taken = self.pool.take();
+        let number = match &taken {
+            Some(frame) => Some(frame.number() as usize),
+            None => None,
+        };
+        assert!(rt; self.plain.take() == number);
+        taken
+    }
+
+    /// Does the same with the plain pool, and tells whether that took the frame which the pool did.
+    fn withhold_plain(&mut self, made: Option<(u32, bool)>, waits: Vec<Wait>) -> bool {
+        let taken = self.plain.take();
+        let Some((number, is_withheld)) = made else {
+            return taken.is_none();
+        };
+        let number = number as usize;
+        if is_withheld {
+            self.plain.withhold(number, waits);
+        } else {
+            self.plain.give(number);
+            self.is_crowded = true;
+        }
+        taken == Some(number)
+    }
+
+    /// Takes the lowest free frame of both and withholds it, or gives it back where there is no room for it.
+    fn withhold<R: Abort>(&mut self, rt: &R, alloc: Global) {
+        let (waits, plain_waits) = some_waits(alloc, &mut self.numbers).expect(rt, "memory");
+        let made = withhold_or_give(&mut self.pool, waits);
+        assert!(rt; self.withhold_plain(made, plain_waits));
+    }
+
+    fn settle(&mut self, unit: u64) {
+        let cookie = self.numbers.below(90);
+        self.pool.settle(unit, cookie);
+        self.plain.settle(unit, cookie);
+    }
+
+    fn settle_all(&mut self, unit: u64) {
+        self.pool.settle_all(unit);
+        self.plain.settle_all(unit);
+    }
+
+    /// Gives the frame that is in hand, or takes one.
+    fn give_or_take<R: Abort>(&mut self, rt: &R, hand: Option<Frame>) -> Option<Frame> {
+        match hand {
+            Some(frame) => {
+                self.give(rt, frame);
+                None
+            }
+            None => self.take(rt),
+        }
+    }
+
+    /// Whether both count the same, and have the frame of this number at the same place.
+    fn are_same(&self, number: u32) -> bool {
+        self.pool.counts() == self.plain.counts()
+            && place(&self.pool, number) == self.plain.place(number as usize)
+    }
+}
+
+/// One call of both, by the next numbers. Of the frames at most one is in hand.
+fn call_both<R: Abort>(
+    rt: &R,
+    alloc: Global,
+    twins: &mut Twins,
+    hand: Option<Frame>,
+) -> Option<Frame> {
+    let unit = twins.numbers.below(8);
+    match twins.numbers.below(100) {
+        0 => twins.settle_all(unit),
+        1..=44 => twins.settle(unit),
+        45..=54 => return twins.give_or_take(rt, hand),
+        _ => twins.withhold(rt, alloc),
+    }
+    hand
+}
+
+/// Ten thousand calls find equal answers from the pool and from the plain one.
+#[test]
+fn answers_as_the_plain_pool(rt: HostRuntime) {
+    let frames = 600;
+    let mut twins = Twins::open(rt.alloc(), frames).expect(&rt, "memory");
+    let mut hand = None;
+    for call in 0..10_000 {
+        hand = call_both(&rt, rt.alloc(), &mut twins, hand);
+        assert!(rt; twins.are_same(call % frames), "call {call}");
+    }
+    if let Some(frame) = hand {
+        twins.give(&rt, frame);
+    }
+    assert!(rt; twins.is_crowded);
+}

@@ -1,11 +1,12 @@
-//! Ten thousand calls, each made at a unit and at its plain form, with equal answers.
+//! Ten thousand calls, each made at a unit and at its plain form, with equal answers; and more with all tags busy.
 ghost use Rattle.std.specs.Prelude.{◌≤◌, ◌<◌, ◌^◌, All};
 ghost use Rattle.sva_queue.specs.Cookies.{AreRising, number_after, HasNumber};
 
 use crate::plain;
+use std::process::Abort;
 use sva_itags::Count;
 use sva_msg::Range;
-use sva_queue::{Descriptor, Unit};
+use sva_queue::{Descriptor, Pumped, Unit};
 
 /// Numbers that look random: xorshift with 64 bits (Marsaglia, "Xorshift RNGs", 13, 7, 17).
 #[derive(Drop)]
@@ -82,18 +83,43 @@ impl Twins {
         }
     }
 
+    /// A reset of both begins.
+    fn begin_reset(&mut self) {
+        self.unit.begin_reset();
+        self.plain.begin_reset();
+    }
+
+    /// The reset of both has ended.
+    fn end_reset(&mut self) {
+        self.unit.end_reset();
+        self.plain.end_reset();
+    }
+
+    /// Submits a range at both and pumps; whether the answers were the same.
+    fn sends_one_more(&mut self) -> bool {
+        let range = Range::new(16, 0);
+        let cookie = self.cookie;
+        self.submit(&[Descriptor::Range { pasid: 1, range }], cookie)
+            && self.unit.pump(false) == self.plain.pump(false)
+    }
+
+    /// Whether all tags are busy and both answer that the head has to stay.
+    fn are_blocked(&self) -> bool {
+        self.unit.busy() == u32::MAX
+            && self.unit.next(true) == Pumped::Blocked
+            && self.plain.next(true) == Pumped::Blocked
+    }
+
     /// One call at both, which the number chooses; whether the answers were the same.
     fn call(&mut self, number: u64) -> bool {
         let flag = (number >> 8) & 1 == 1;
         match number % 64 {
             0 => {
-                self.unit.begin_reset();
-                self.plain.begin_reset();
+                self.begin_reset();
                 true
             }
             1..=3 => {
-                self.unit.end_reset();
-                self.plain.end_reset();
+                self.end_reset();
                 true
             }
             4..=23 => self.submit_some(number),
@@ -123,17 +149,36 @@ impl Twins {
     }
 }
 
+/// So many calls at both, by the next numbers.
+fn call_both<R: Abort>(rt: &R, twins: &mut Twins, numbers: &mut Numbers, calls: u32) {
+    for call in 0..calls {
+        let number = numbers.next();
+        assert!(rt; twins.call(number), "call {call} by {number}");
+        assert!(rt; twins.are_same(), "after call {call} by {number}");
+    }
+}
+
+/// From a reset on, ranges are submitted and sent, and no completion comes: 32 are sent, 64 fill the queue, and four find it full.
+fn fill<R: Abort>(rt: &R, twins: &mut Twins) {
+    twins.begin_reset();
+    twins.end_reset();
+    for range in 0..100 {
+        assert!(rt; twins.sends_one_more(), "range {range}");
+        assert!(rt; twins.are_same(), "after range {range}");
+    }
+}
+
 #[test]
 fn ten_thousand_calls(rt: HostRuntime) {
     let mut twins = Twins::new();
     let mut numbers = Numbers {
         state: 0x9e37_79b9_7f4a_7c15,
     };
-    for call in 0..10_000 {
-        let number = numbers.next();
-        assert!(rt; twins.call(number), "call {call} by {number}");
-        assert!(rt; twins.are_same(), "after call {call} by {number}");
-    }
+    call_both(&rt, &mut twins, &mut numbers, 10_000);
     // The calls were of all kinds: many waits were done, and many were made void.
     assert!(rt; twins.unit.front() > 1_000);
+    // None of them found 32 busy tags: a thousand more begin with these.
+    fill(&rt, &mut twins);
+    assert!(rt; twins.are_blocked() && twins.unit.room() == 0);
+    call_both(&rt, &mut twins, &mut numbers, 1_000);
 }

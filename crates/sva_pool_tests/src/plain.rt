@@ -2,13 +2,32 @@
 //! for comparison: tests alone use it.
 
 use std::alloc::{AllocError, Global};
-use sva_frames::{Counts, Place, Target};
+use sva_frames::{Counts, PENDING, Place, Target};
 
 /// A unit, and what a frame waits for there.
 #[derive(Clone, Copy)]
 pub struct Wait {
     pub unit: u64,
     pub target: Target,
+}
+
+/// A set of cookies with one more. It keeps cookies below 128, which are all that the tests have.
+fn with_cookie(set: u128, cookie: u64) -> u128 {
+    if cookie < 128 {
+        set | (1 << cookie)
+    } else {
+        set
+    }
+}
+
+impl Wait {
+    /// A set of cookies, with the one that is waited for at a unit, if this waits there for one.
+    fn noted_in(&self, set: u128, unit: u64) -> u128 {
+        match self.target {
+            Target::Cookie(cookie) if self.unit == unit => with_cookie(set, cookie),
+            _other => set,
+        }
+    }
 }
 
 /// What the pool keeps of one frame.
@@ -35,6 +54,17 @@ impl Slot {
             Slot::Mapped => Place::Mapped,
             Slot::Withheld(_) => Place::Withheld,
         }
+    }
+
+    /// A set of cookies, with the one that the frame waits for at a unit.
+    fn noted_in(&self, set: u128, unit: u64) -> u128 {
+        let mut all = set;
+        if let Slot::Withheld(waits) = self {
+            for wait in waits {
+                all = wait.noted_in(all, unit);
+            }
+        }
+        all
     }
 
     /// The wait of this unit with this cookie is done.
@@ -93,6 +123,30 @@ impl PlainPool {
         if number < self.slots.len() {
             self.slots[number] = Slot::after_waits(waits);
         }
+    }
+
+    // The cookies that frames wait for at a unit.
+    fn pending(&self, unit: u64) -> u128 {
+        let mut all = 0;
+        for slot in &self.slots {
+            all = slot.noted_in(all, unit);
+        }
+        all
+    }
+
+    // Whether there are at most as many cookies pending at the wait's unit as may be, with its own.
+    fn has_room_for(&self, wait: &Wait) -> bool {
+        let pending = self.pending(wait.unit);
+        wait.noted_in(pending, wait.unit).count_ones() <= PENDING as u32
+    }
+
+    pub(crate) fn has_room(&self, waits: &[Wait]) -> bool {
+        for wait in waits {
+            if !self.has_room_for(wait) {
+                return false;
+            }
+        }
+        true
     }
 
     pub(crate) fn settle(&mut self, unit: u64, cookie: u64) {

@@ -49,14 +49,54 @@ fn some_waits(alloc: Global, numbers: &mut Numbers) -> Result<(Waits, Vec<Wait>)
     Ok((waits_of(&targets), plain))
 }
 
+/// How often a run met what it has to meet: counted as the pool answers.
+#[derive(Drop)]
+struct Met {
+    /// Frames for whose waits there was room.
+    withheld: u32,
+    /// Frames that were given back, since there was no room for their waits.
+    crowded: u32,
+    /// Takes that found no free frame.
+    empty: u32,
+    /// Settlements that freed more than one frame.
+    freed_many: u32,
+}
+
+impl Met {
+    /// Notes what `withhold_or_give` answered.
+    fn note(&mut self, made: Option<(u32, bool)>) {
+        match made {
+            Some((_number, true)) => self.withheld = self.withheld.wrapping_add(1),
+            Some((_number, false)) => self.crowded = self.crowded.wrapping_add(1),
+            None => self.empty = self.empty.wrapping_add(1),
+        }
+    }
+
+    /// Notes a take that found no free frame.
+    fn note_empty(&mut self) {
+        self.empty = self.empty.wrapping_add(1);
+    }
+
+    /// Notes a settlement, before and after which so many frames are free.
+    fn note_settled(&mut self, before: u32, after: u32) {
+        if after.saturating_sub(before) > 1 {
+            self.freed_many = self.freed_many.wrapping_add(1);
+        }
+    }
+
+    /// Whether the run met each of these often enough to compare it.
+    fn is_enough(&self) -> bool {
+        self.withheld >= 1_000 && self.crowded >= 1 && self.empty >= 100 && self.freed_many >= 100
+    }
+}
+
 /// A pool and a plain one, of which the same calls are made.
 #[derive(Drop)]
 struct Twins {
     pool: FramePool,
     plain: PlainPool,
     numbers: Numbers,
-    /// Whether there was no room for a frame's waits once.
-    is_crowded: bool,
+    met: Met,
 }
 
 impl Twins {
@@ -65,7 +105,12 @@ impl Twins {
             pool: FramePool::open(alloc, frames)?,
             plain: PlainPool::open(alloc, frames)?,
             numbers: Numbers { state: 2026 },
-            is_crowded: false,
+            met: Met {
+                withheld: 0,
+                crowded: 0,
+                empty: 0,
+                freed_many: 0,
+            },
         })
     }
 
@@ -85,7 +130,10 @@ impl Twins {
         let taken = self.pool.take();
         let number = match &taken {
             Some(frame) => Some(frame.number() as usize),
-            None => None,
+            None => {
+                self.met.note_empty();
+                None
+            }
         };
         assert!(rt; self.plain.take() == number);
         taken
@@ -102,22 +150,25 @@ impl Twins {
             self.plain.withhold(number, waits);
         } else {
             self.plain.give(number);
-            self.is_crowded = true;
         }
         taken == Some(number)
     }
 
-    /// Takes the lowest free frame of both and withholds it, or gives it back where there is no room for it.
+    /// Takes the lowest free frame of both and withholds it, or gives it back where there is no room for it, of which both say the same.
     fn withhold<R: Abort>(&mut self, rt: &R, alloc: Global) {
         let (waits, plain_waits) = some_waits(alloc, &mut self.numbers).expect(rt, "memory");
+        assert!(rt; self.pool.has_room(&waits) == self.plain.has_room(&plain_waits));
         let made = withhold_or_give(&mut self.pool, waits);
+        self.met.note(made);
         assert!(rt; self.withhold_plain(made, plain_waits));
     }
 
     fn settle(&mut self, unit: u64) {
         let cookie = self.numbers.below(90);
+        let before = self.pool.counts().free;
         self.pool.settle(unit, cookie);
         self.plain.settle(unit, cookie);
+        self.met.note_settled(before, self.pool.counts().free);
     }
 
     fn settle_all(&mut self, unit: u64) {
@@ -173,5 +224,6 @@ fn answers_as_the_plain_pool(rt: HostRuntime) {
     if let Some(frame) = hand {
         twins.give(&rt, frame);
     }
-    assert!(rt; twins.is_crowded);
+    // The calls were of all kinds.
+    assert!(rt; twins.met.is_enough());
 }

@@ -1,7 +1,7 @@
 // Put before the C library (LD_PRELOAD), refuses one request for memory of a program: that of the number in REFUSED_REQUEST,
 // counted from 1. On the descriptor in REFUSED_TELL it then writes, in a word, how far the program had come: `begun` where
-// it had read nothing, `reading` up to the end of its input, `working` behind that, `writing` once it had written. It needs
-// no header, so that the kit's own compiler can build it. scripts/refused-memory runs the programs with it.
+// it had read nothing, `reading` up to the end of its input, `working` behind that, `writing` once it had written. Threads may ask at once:
+// each request has one number. It needs no header, so that the kit's own compiler can build it. scripts/refused-memory runs the programs with it.
 typedef unsigned long size;
 
 extern void *__libc_malloc(size bytes);
@@ -10,7 +10,7 @@ extern long __read(int from, void *to, size bytes);
 extern long __write(int to, const void *from, size bytes);
 extern char *getenv(const char *name);
 
-static size left;
+static size asked, asked_for;
 static int tell = -1;
 static const char *part = "begun";
 
@@ -22,13 +22,13 @@ static size number_of(const char *digits) {
 }
 
 __attribute__((constructor)) static void begin(void) {
-    left = number_of(getenv("REFUSED_REQUEST"));
+    asked_for = number_of(getenv("REFUSED_REQUEST"));
     tell = (int)number_of(getenv("REFUSED_TELL"));
 }
 
 static int is_refused(void) {
     size length = 0;
-    if (left == 0 || --left != 0)
+    if (asked_for == 0 || __atomic_add_fetch(&asked, 1, __ATOMIC_RELAXED) != asked_for)
         return 0;
     while (part[length])
         length++;

@@ -14,12 +14,12 @@ enum Call {
     Lacked,
     /// Its token isn't in hand, so nothing was asked.
     NoToken,
-    /// The port isn't of this world.
+    /// The port isn't of this world, or there is no place for the token.
     Astray,
 }
 
-// Takes a step by its call: its answer or refusal, or none where the call went astray. Where its token isn't in hand it is told as of a
-// binding that isn't there: want of memory left it unmade.
+// Takes a step by its call: its answer or refusal, or none where the call went astray. It asks for no memory itself, so each want of memory
+// is the call's. Where its token isn't in hand it is told as of a binding that isn't there: want of memory left it unmade.
 pub(crate) fn take<C: Tally, R: Wait>(
     fabric: &Fabric<C>,
     rt: &R,
@@ -81,7 +81,7 @@ fn call_after(fault: &Fault) -> Call {
     }
 }
 
-// Binds, and keeps the lease. Its place is reserved before.
+// Binds, and keeps the lease. Its place was reserved before the first step.
 fn bind<C: Tally, R: Wait>(
     fabric: &Fabric<C>,
     rt: &R,
@@ -90,8 +90,8 @@ fn bind<C: Tally, R: Wait>(
     endpoint: u64,
     space: u64,
 ) -> Call {
-    if leases.reserve(1).is_err() {
-        return Call::Lacked;
+    if leases.len() >= leases.capacity() {
+        return Call::Astray;
     }
     match fabric.bind(rt, port, endpoint, space) {
         Ok(lease) => {
@@ -102,7 +102,7 @@ fn bind<C: Tally, R: Wait>(
     }
 }
 
-// Begins to take a binding back, whose lease becomes a leaving. Its place is reserved before.
+// Begins to take a binding back, whose lease becomes a leaving. Its place was reserved before the first step.
 fn unbind<C: Tally, R: Wait>(
     fabric: &Fabric<C>,
     rt: &R,
@@ -118,8 +118,8 @@ fn unbind<C: Tally, R: Wait>(
     let Some(place) = lease_of(leases.as_slice(), binding) else {
         return Call::NoToken;
     };
-    if leavings.reserve(1).is_err() {
-        return Call::Lacked;
+    if leavings.len() >= leavings.capacity() {
+        return Call::Astray;
     }
     let lease = leases.swap_remove(place);
     match fabric.unbind(rt, port, lease) {
@@ -159,7 +159,7 @@ fn advance<C: Tally, R: Wait>(
     }
 }
 
-// Begins a use, and keeps its ticket. Its place is reserved before.
+// Begins a use, and keeps its ticket. Its place was reserved before the first step.
 fn begin<C: Tally, R: Wait>(
     fabric: &Fabric<C>,
     rt: &R,
@@ -170,8 +170,8 @@ fn begin<C: Tally, R: Wait>(
     page: u64,
     write: bool,
 ) -> Call {
-    if tickets.reserve(1).is_err() {
-        return Call::Lacked;
+    if tickets.len() >= tickets.capacity() {
+        return Call::Astray;
     }
     match fabric.begin(rt, port, endpoint, pasid, page, write) {
         Ok(ticket) => {

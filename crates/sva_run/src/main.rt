@@ -1,10 +1,13 @@
 // Takes the steps of a scenario, and prints what `svahost replay` prints. But where a step is refused for want of memory, that is its
 // line, and the next step is taken: `replay` ends there. scripts/refused-memory needs such a program.
 //     sva_run           takes the steps by `run`
-//     sva_run shared    takes them on a world under a lock, by the calls that make, move and spend tokens, and ends with the audit
+//     sva_run shared    takes them on a world under a lock, each by the port of its own part and tokens by the calls that make, move and
+//                       spend them, and ends with the audit
+// Where memory lacks and no step is to blame, its fault names the call that wanted it.
 #![tactic(auto)]
 
 mod held;
+mod parts;
 mod shared;
 
 ghost use Rattle.std.specs.Prelude.{◌≡◌, ◌+◌};
@@ -16,7 +19,7 @@ use std::io::{self, Read, Write};
 use std::process::ExitCode;
 use std::rt::Env;
 use std::sync::Wait;
-use sva_core::run;
+use sva_core::{World, run};
 use sva_frames::Counts;
 use sva_grammar::{ParseFault, parse};
 use sva_scenario::{DriveFault, Told, read_all, write_all};
@@ -36,13 +39,57 @@ struct Taken {
 }
 
 /// Why there is no `Taken`.
+#[derive(Drop)]
 enum Fault {
-    /// Memory lacked where no step was taken.
-    Memory,
+    /// Memory lacked, and no step is to blame.
+    Memory(Wanted),
     /// The config is out of its limits.
     Config,
     /// A call was told that its port isn't of this world, a token is missing, or the audit is bad.
     Astray,
+}
+
+/// The call that memory lacked for.
+#[derive(Drop)]
+enum Wanted {
+    /// The list of the command line's words.
+    Words,
+    /// The reading of the input.
+    Read,
+    /// `parse`.
+    Parse,
+    /// `World::open`, or `Fabric::open`.
+    Open,
+    /// `run`: its own world, and the list of its answers.
+    Run,
+    /// The places of answers and tokens on a shared world.
+    Places,
+    /// The texts of the answers.
+    Texts,
+}
+
+impl Wanted {
+    /// The fault that names the call.
+    fn fault(&self) -> &'static str {
+        match self {
+            Wanted::Words => "sva_run: out of memory: words\n",
+            Wanted::Read => "sva_run: out of memory: read\n",
+            Wanted::Parse => "sva_run: out of memory: parse\n",
+            Wanted::Open => "sva_run: out of memory: open\n",
+            Wanted::Run => "sva_run: out of memory: run\n",
+            Wanted::Places => "sva_run: out of memory: places\n",
+            Wanted::Texts => "sva_run: out of memory: texts\n",
+        }
+    }
+}
+
+/// Why there is no report.
+#[derive(Drop)]
+enum Lost {
+    /// Memory lacked.
+    Memory(Wanted),
+    /// The input can't be read.
+    Input,
 }
 
 fn main(rt: HostRuntime) -> ExitCode {
@@ -52,18 +99,18 @@ fn main(rt: HostRuntime) -> ExitCode {
     let mut report = Vec::new(rt.alloc());
     let made = match is_shared(&rt) {
         Ok(shared) => report_all(&rt, rt.alloc(), shared, &mut reader, &mut report),
-        Err(_) => Err(DriveFault::Memory),
+        Err(_) => Err(Lost::Memory(Wanted::Words)),
     };
     let status = match made {
         Ok(status) => match write_all(&mut writer, report.as_slice()) {
             Ok(()) => status,
             Err(_) => FAULT,
         },
-        Err(DriveFault::Memory) => {
-            let _ = write_all(&mut errors, b"sva_run: out of memory\n");
+        Err(Lost::Memory(wanted)) => {
+            let _ = write_all(&mut errors, wanted.fault().as_bytes());
             FAULT
         }
-        Err(_) => FAULT,
+        Err(Lost::Input) => FAULT,
     };
     ExitCode::from(status)
 }
@@ -81,17 +128,21 @@ fn report_all<X: Wait, R: Read>(
     shared: bool,
     reader: &mut Told<R>,
     report: &mut Vec<u8>,
-) -> Result<u8, DriveFault>
+) -> Result<u8, Lost>
     requires { IsNew reader.old }
 {
-    let text = read_all(alloc, reader)?;
+    let text = match read_all(alloc, reader) {
+        Ok(text) => text,
+        Err(DriveFault::Memory) => return Err(Lost::Memory(Wanted::Read)),
+        Err(_) => return Err(Lost::Input),
+    };
     let scenario = match parse(alloc, text.as_slice()) {
         Ok(scenario) => scenario,
         Err(ParseFault::Line(fault)) => {
             let put = fault.write(report);
             return ended(put, report, FAULT);
         }
-        Err(ParseFault::Memory) => return Err(DriveFault::Memory),
+        Err(ParseFault::Memory) => return Err(Lost::Memory(Wanted::Parse)),
     };
     let steps = scenario.steps.as_slice();
     let taken = if shared {
@@ -102,15 +153,20 @@ fn report_all<X: Wait, R: Read>(
     report_taken(alloc, taken, report)
 }
 
-/// Takes the steps by `run`.
+/// Takes the steps by `run`. A world is opened alone before, so that its want of memory is told from that of `run`.
 fn take_all(alloc: Global, config: Config, steps: &[Step]) -> Result<Taken, Fault> {
+    match World::open(alloc, config) {
+        Ok(_unused) => {}
+        Err(Refusal::BadConfig) => return Err(Fault::Config),
+        Err(_) => return Err(Fault::Memory(Wanted::Open)),
+    }
     match run(alloc, config, steps) {
         Ok((world, answers)) => Ok(Taken {
             answers,
             counts: world.counts(),
         }),
         Err(Refusal::BadConfig) => Err(Fault::Config),
-        Err(_) => Err(Fault::Memory),
+        Err(_) => Err(Fault::Memory(Wanted::Run)),
     }
 }
 
@@ -119,7 +175,7 @@ fn report_taken(
     alloc: Global,
     taken: Result<Taken, Fault>,
     report: &mut Vec<u8>,
-) -> Result<u8, DriveFault> {
+) -> Result<u8, Lost> {
     match taken {
         Ok(taken) => {
             for answer in taken.answers.as_slice() {
@@ -137,14 +193,14 @@ fn report_taken(
             let put = report.extend_from_slice(b"astray");
             ended(put, report, FAULT)
         }
-        Err(Fault::Memory) => Err(DriveFault::Memory),
+        Err(Fault::Memory(wanted)) => Err(Lost::Memory(wanted)),
     }
 }
 
 /// Ends a line of which the words were put so, and passes the status on.
-fn ended(put: Result<(), AllocError>, report: &mut Vec<u8>, status: u8) -> Result<u8, DriveFault> {
+fn ended(put: Result<(), AllocError>, report: &mut Vec<u8>, status: u8) -> Result<u8, Lost> {
     if put.is_err() || report.push(b'\n').is_err() {
-        return Err(DriveFault::Memory);
+        return Err(Lost::Memory(Wanted::Texts));
     }
     Ok(status)
 }

@@ -1,4 +1,4 @@
-# One byte too many, and a line behind it that can't be read.
+# One byte too many, the last of a comment, and a line behind it that can't be read.
 echo 'config 1 4 1'
-head -c 65534 /dev/zero | sed 's/\x00/#23456789012345\n/g'
-printf '#23456789012345678\n#\nspase\n'
+head -c 1048563 /dev/zero | tr '\0' '#'
+printf '\nspase\n'

@@ -224,15 +224,123 @@ static LAST_NUMBER: [(Step, &str); 2] = [
     (Step::Space, "refused 38 NumbersSpent"),
 ];
 
+/// The last number of a kind.
+const LAST: u64 = 9223372036854775807;
+
+/// Spaces, bindings, messages and cookies are counted apart, so the last number of each is given once, and then none of
+/// the kind is left. What takes no number goes on, and what is refused for another cause first is told that one.
+static LAST_NUMBERS: [(Step, &str); 22] = [
+    (Step::Space, "space 9223372036854775807"),
+    (Step::Space, "refused 38 NumbersSpent"),
+    (
+        Step::Map {
+            space: LAST,
+            page: 16,
+            write: false,
+        },
+        "frame 0",
+    ),
+    (
+        Step::Bind {
+            endpoint: 0,
+            space: LAST,
+        },
+        "binding 9223372036854775807 pasid 1",
+    ),
+    (
+        Step::Unmap {
+            space: LAST,
+            page: 16,
+            count: 1,
+        },
+        "withheld 0",
+    ),
+    (
+        Step::Map {
+            space: LAST,
+            page: 16,
+            write: false,
+        },
+        "frame 1",
+    ),
+    (
+        Step::Unmap {
+            space: LAST,
+            page: 16,
+            count: 1,
+        },
+        "refused 38 NumbersSpent",
+    ),
+    (
+        Step::Unmap {
+            space: LAST,
+            page: 17,
+            count: 1,
+        },
+        "refused 7 NotMapped",
+    ),
+    (Step::Unbind { binding: LAST }, "refused 38 NumbersSpent"),
+    (Step::Advance { binding: LAST }, "refused 15 NotYet"),
+    (Step::Pump { endpoint: 0 }, "refused 38 NumbersSpent"),
+    (Step::Serve { endpoint: 0 }, "empty"),
+    (Step::Reset { endpoint: 0 }, "refused 38 NumbersSpent"),
+    (
+        Step::Ask {
+            endpoint: 0,
+            pasid: 1,
+            page: 16,
+        },
+        "refused 18 NotStarted",
+    ),
+    (Step::Deliver { message: LAST }, "started"),
+    (Step::Deliver { message: LAST }, "refused 32 NoSuchMessage"),
+    (
+        Step::Ask {
+            endpoint: 0,
+            pasid: 1,
+            page: 16,
+        },
+        "refused 38 NumbersSpent",
+    ),
+    (
+        Step::Fault {
+            endpoint: 0,
+            pasid: 1,
+            page: 16,
+            read: true,
+            write: false,
+            group: None,
+            last: true,
+        },
+        "refused 38 NumbersSpent",
+    ),
+    (
+        Step::Fault {
+            endpoint: 0,
+            pasid: 1,
+            page: 16,
+            read: true,
+            write: false,
+            group: Some(0),
+            last: true,
+        },
+        "refused 25 NoSuchGroup",
+    ),
+    (Step::Take { worker: 0 }, "refused 36 NoJob"),
+    (Step::DropSpace { space: LAST }, "refused 12 StillBound"),
+    (Step::Look { frame: 0 }, "withheld"),
+];
+
 #[test]
 fn spends_the_last_number(rt: HostRuntime) -> Result<(), AllocError> {
     let config = Config {
         endpoints: 1,
         frames: 4,
         workers: 1,
-        first: 9223372036854775807,
+        first: LAST,
     };
-    expect(&rt, rt.alloc(), config, &LAST_NUMBER, counts(4, 0, 0))
+    expect(&rt, rt.alloc(), config, &LAST_NUMBER, counts(4, 0, 0))?;
+    expect(&rt, rt.alloc(), config, &LAST_NUMBERS, counts(2, 1, 1))
 }
 
 /// With five spaces of twelve pages.

@@ -32,7 +32,7 @@ with the invalidations and page requests of Intel VT-d.
 A scenario is a text on standard input, of at most 65536 lines and 1048576 bytes. Its first line is
 the config: how many endpoints, frames and workers there are. Each further line is a step. Words are
 separated by one space, and numbers are decimal. Lines that are empty or begin with # are skipped. A
-first scenario, which is examples/first.sva:
+first scenario, as in examples/first.sva:
 
     # one endpoint, four frames, one worker
     config 1 4 1
@@ -94,15 +94,17 @@ worker, each numbered from 0, and a word in brackets may be missing:
 
 An endpoint's steps, under a PASID P:
 
-    ask E P PAGE           a translation of the page is asked for; at most 32 are asked for at once
+    ask E P PAGE           a translation of the page is asked for; at most 32 are asked for at once,
+                           and at most 64 translations are held at an endpoint
     use E P PAGE r         a use of the translation that is held begins: it reads
     use E P PAGE w         it writes
     end E U                the use in slot U, 0 to 15, ends
     evict E P PAGE         the translation that is held goes
-    fault E P PAGE A G L   a page request; A is r, w or rw, G new or a group, L more or last; at
-                           most 32 have no response yet
+    fault E P PAGE A G L   a page request; A is r, w or rw, G new or the index of an unfinished
+                           group, L more or last; at most 32 have no response yet
     finish E VECTOR COUNT  invalidations are answered, those of the ITags whose bits are set in
-                           VECTOR, as 0000000b, by 1 to 8 completions
+                           VECTOR, eight lower-case hexadecimal digits as 0000000b, by 1 to 8
+                           completions
     quit E P               the PASID isn't used any more
 
 A frame whose page is unmapped is free at once where no endpoint can hold its translation, and else

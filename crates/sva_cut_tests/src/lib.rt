@@ -1,4 +1,4 @@
-//! The tests of a part that falls silent: whole runs on one shared world, in which a thread does no more behind each of its lines. `sva_tests`
+//! The tests of a part that falls silent: whole runs on one shared world, in which a thread does no more behind each of its lines. `sva_word_tests`
 //! says why such tests stand in a crate of their own.
 #![tactic(auto)]
 

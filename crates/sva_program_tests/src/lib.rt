@@ -1,4 +1,4 @@
-//! The tests of streams and reports, and of whole runs of the program, by public calls alone. `sva_tests` says why tests stand in a
+//! The tests of streams and reports, and of whole runs of the program, by public calls alone. `sva_word_tests` says why tests stand in a
 //! crate of their own.
 #![tactic(auto)]
 

@@ -1,5 +1,5 @@
 //! The tests of a world that several threads share, and of its journal: what the public functions of `sva_journal` and `sva_fabric` do,
-//! a module for each concern. `sva_tests` says why they stand in a crate of their own.
+//! a module for each concern. `sva_word_tests` says why they stand in a crate of their own.
 #![tactic(auto)]
 
 #[cfg(test)]

@@ -1,4 +1,4 @@
-//! The tests of the world and of the text of scenarios, by public calls alone. `sva_tests` says why tests stand in a crate of their own.
+//! The tests of the world and of the text of scenarios, by public calls alone. `sva_word_tests` says why tests stand in a crate of their own.
 #![tactic(auto)]
 
 #[cfg(test)]

@@ -86,6 +86,86 @@ fn reports_faults(rt: HostRuntime) -> Result<(), Fail> {
     Ok(())
 }
 
+/// Lines that are hostile in one byte or word, and what is written of them.
+static HOSTILE: &[(&[u8], &[u8])] = &[
+    (b" config 1 4 1\n", b"line 1 NoConfig\n"),
+    (b"config 1 4\n", b"line 1 WordCount\n"),
+    (
+        b"config 18446744073709551615 4 1\n",
+        b"refused 1 BadConfig\n",
+    ),
+    (b"config 1 4 1\nconfig 1 4 1\n", b"line 2 UnknownStep\n"),
+    (b"config 1 4 1\nspace\r\n", b"line 2 UnknownStep\n"),
+    (b"config 1 4 1\nspace \n", b"line 2 WordCount\n"),
+    (b"config 1 4 1\nmap 0  16 w\n", b"line 2 WordCount\n"),
+    (b"config 1 4 1\nunmap 0  16\n", b"line 2 BadWord\n"),
+    (b"config 1 4 1\nmap 0 016 w\n", b"line 2 BadWord\n"),
+    (
+        b"config 1 4 1\nlook 18446744073709551616\n",
+        b"line 2 BadWord\n",
+    ),
+    (b"config 1 4 1\nlook \xff\n", b"line 2 BadWord\n"),
+    (b"config 1 4 1\nfinish 0 0000000B 1\n", b"line 2 BadWord\n"),
+];
+
+/// Each of these lines is told the same where the text ends without LF. A LF alone is one empty line, and the config is missed
+/// on the line behind it.
+#[test]
+fn reports_hostile_lines(rt: HostRuntime) -> Result<(), Fail> {
+    let alloc = rt.alloc();
+    for (text, want) in HOSTILE {
+        let cut = &text[..text.len().saturating_sub(1)];
+        assert!(rt; reports(alloc, text, want, Outcome::Faulted)?, "{want:?}");
+        assert!(rt; reports(alloc, cut, want, Outcome::Faulted)?, "{want:?}");
+    }
+    assert!(rt; reports(alloc, b"\n", b"line 2 NoConfig\n", Outcome::Faulted)?);
+    Ok(())
+}
+
+/// A config, and so many lines `#` behind it.
+fn commented(alloc: Global, lines: usize) -> Result<Vec<u8>, Fail> {
+    let mut text = Vec::new(alloc);
+    text.extend_from_slice(b"config 1 4 1\n")?;
+    for _line in 0..lines {
+        text.extend_from_slice(b"#\n")?;
+    }
+    Ok(text)
+}
+
+/// A scenario may have 65,536 lines and 1,048,576 bytes, and no line or byte more.
+#[test]
+fn reports_large_texts(rt: HostRuntime) -> Result<(), Fail> {
+    let alloc = rt.alloc();
+    let counts = b"free 4 mapped 0 withheld 0\n";
+    let large = b"line 0 TooLarge\n";
+    let mut text = commented(alloc, 65_535)?;
+    assert!(rt; reports(alloc, text.as_slice(), counts, Outcome::Done)?);
+    text.push(b'#')?;
+    assert!(rt; reports(alloc, text.as_slice(), large, Outcome::Faulted)?);
+    // A comment without LF is the last line, and goes on to the last byte.
+    let mut full = commented(alloc, 65_534)?;
+    full.resize(1_048_576, b'#')?;
+    assert!(rt; reports(alloc, full.as_slice(), counts, Outcome::Done)?);
+    full.push(b'#')?;
+    assert!(rt; reports(alloc, full.as_slice(), large, Outcome::Faulted)?);
+    Ok(())
+}
+
+/// Ends a run of a reader that never ends, a byte a call, in a fault, with nothing written?
+fn reads_no_further(alloc: Global) -> bool {
+    let mut reader = Told::new(Broken::new(u64::MAX));
+    let mut writer = Told::new(Slow::new(64));
+    let result = drive(alloc, &mut reader, &mut writer);
+    result == Err(DriveFault::Read)
+        && (reader.calls(), reader.failures()) == (2_097_152, 0)
+        && is_untouched(&writer)
+}
+
+#[test]
+fn stops_at_a_reader_without_end(rt: HostRuntime) {
+    assert!(rt; reads_no_further(rt.alloc()));
+}
+
 /// Gives its bytes one a call.
 #[derive(Drop)]
 struct Drip<'a> {

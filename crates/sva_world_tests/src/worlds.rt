@@ -188,15 +188,24 @@ fn refuses_4097_frames(rt: HostRuntime) {
     assert!(rt; is_refused(rt.alloc(), config(1, 4097)) && is_refused(rt.alloc(), config(9, 4)));
 }
 
+/// Begins the space of this number.
+fn begins<R: Abort>(rt: &R, world: &mut World, space: u64) -> bool {
+    apply(rt, world, &Step::Space) == Ok(Answer::Space { space })
+}
+
 /// Begins so many spaces, with the numbers from `first` on.
 fn begins_each<R: Abort>(rt: &R, world: &mut World, first: u64, spaces: u64) -> bool {
+    let mut all = true;
     for place in 0..spaces {
-        let space = first.wrapping_add(place);
-        if apply(rt, world, &Step::Space) != Ok(Answer::Space { space }) {
-            return false;
-        }
+        all &= begins(rt, world, first.wrapping_add(place));
     }
-    true
+    all
+}
+
+/// Maps a page of a space to this frame.
+fn maps<R: Abort>(rt: &R, world: &mut World, space: u64, page: u64, frame: u32) -> bool {
+    let write = true;
+    apply(rt, world, &Step::Map { space, page, write }) == Ok(Answer::Frame { frame })
 }
 
 /// Maps so many pages of a space, from a page on, to the frames from `frame` on.
@@ -207,15 +216,12 @@ fn maps_each<R: Abort>(
     first: u64,
     (frame, pages): (u32, u32),
 ) -> bool {
+    let mut all = true;
     for place in 0..pages {
         let page = first.wrapping_add(u64::from(place));
-        let write = true;
-        let frame = frame.wrapping_add(place);
-        if apply(rt, world, &Step::Map { space, page, write }) != Ok(Answer::Frame { frame }) {
-            return false;
-        }
+        all &= maps(rt, world, space, page, frame.wrapping_add(place));
     }
-    true
+    all
 }
 
 /// The last number is given, and then none is left.

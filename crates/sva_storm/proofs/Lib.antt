@@ -1,4 +1,5 @@
 pub mod Tries
 pub mod Turns
 pub mod Working
+pub mod InHand
 pub mod StormLemmas

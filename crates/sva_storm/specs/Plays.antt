@@ -84,6 +84,11 @@ turn_after_fault (fault.Refused refusal) = Again
 turn_after_fault fault.Memory = Memory
 turn_after_fault (fault.Strayed place found) = Strayed
 
+-- did it want memory?
+abbrev pub is_memory : Turn → Bool
+is_memory Memory = true
+is_memory _ = false
+
 -- one call more, of this step
 pub record HasCalledOnce (line : Step) (before after : Seat) (accepted : Bool) (tickets_before tickets_after : ℕ) : Type 0 where
   pub receipt : Receipt

@@ -1,6 +1,7 @@
 //! The threads of a storm: who sits where, and how they are started and joined.
 
-ghost use Rattle.std.specs.Prelude.{◌≡◌, ◌+◌, ◌*◌, ◌≤◌, length, vec_len, vec_capacity, IfOk};
+ghost use Rattle.std.specs.Prelude.{◌≡◌, ◌+◌, ◌*◌, ◌≤◌, ◌||◌, ◌++◌, ◌∷◌, [], length, vec_len, vec_capacity, IfOk};
+ghost use Rattle.sva_storm.specs.Lacks.{lacks_of};
 ghost use Rattle.sva_fabric.specs.Audits.{seats_of};
 
 use crate::gates::{Device, Pager};
@@ -150,7 +151,9 @@ struct Risen<C: Tally> {
 
 impl<C: Tally> Risen<C> {
     // What the host's seat leaves beside it: all ports in their order, all tokens, and whether a thread wanted memory.
-    fn with_host(self, host: HostSeat<C>) -> (Ports<C>, Tokens<C>, bool) {
+    fn with_host(self, host: HostSeat<C>) -> (Ports<C>, Tokens<C>, bool)
+        ensures lacked { result.2 ≡ (self.lacked || host.out_of_memory) }
+    {
         let Risen {
             link,
             service,
@@ -329,6 +332,7 @@ fn leave_last<C: Tally, D: Device + Drop, P: Pager + Drop>(
 ) -> (Port<C>, bool)
     requires some { 1 ≤ vec_len seats.old }
     requires room { vec_len tickets.old + 16 ≤ vec_capacity tickets.old }
+    ensures lacked { lacks_of seats.old.items ≡ lacks_of seats.new.items ++ result.1 ∷ [] }
     ensures less { vec_len seats.new + 1 ≡ vec_len seats.old }
     ensures len { vec_len tickets.new ≤ vec_len tickets.old + 16 }
     ensures room { vec_capacity tickets.new ≡ vec_capacity tickets.old }

@@ -1,6 +1,7 @@
 //! How loops and storms end.
 
 ghost use Rattle.std.specs.Prelude.{◌≡◌};
+ghost use Rattle.sva_storm.specs.Plays.{is_memory};
 
 use sva_fabric::{FirstBadReceipt, Tally, UseTicket};
 use thiserror::Error;
@@ -54,7 +55,8 @@ pub(crate) struct Spent {
 impl Spent {
     // A turn ended them, and so many are left.
     pub(crate) fn by(ended: Turn, turns_left: u64) -> Spent
-        ensures { result.turns_left ≡ turns_left }
+        ensures turns { result.turns_left ≡ turns_left }
+        ensures memory { result.out_of_memory ≡ is_memory ended }
     {
         Spent {
             turns_left,

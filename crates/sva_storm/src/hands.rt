@@ -1,6 +1,7 @@
 //! The tickets that an endpoint's thread has in hand.
 
-ghost use Rattle.std.specs.Prelude.{◌≡◌, ◌+◌, ◌<◌, ◌≤◌, length, slice_get, vec_len, vec_capacity, IfSome};
+ghost use Rattle.std.specs.Prelude.{◌≡◌, ◌+◌, ◌<◌, ◌≤◌, length, slice_get, vec_len, vec_capacity, is_some, IfSome};
+ghost use Rattle.sva_storm.specs.Hands.{has_ticket};
 
 use std::alloc::Global;
 use sva_fabric::{Tally, UseTicket};
@@ -14,7 +15,8 @@ pub(crate) fn place_of<C: Tally>(
     endpoint: u64,
     slot: u64,
 ) -> Option<usize>
-    ensures { IfSome result (λ place. (place < length tickets.now)
+    ensures is_there { is_some result ≡ has_ticket endpoint slot tickets.now }
+    ensures place { IfSome result (λ place. (place < length tickets.now)
         × IfSome (slice_get tickets.now place) (λ ticket. (ticket.endpoint ≡ endpoint) × (ticket.slot ≡ slot))) }
 {
     for place in 0..tickets.len() {

@@ -1,7 +1,8 @@
 //! The host's thread.
 
-ghost use Rattle.std.specs.Prelude.{◌≡◌, ◌-◌, ◌<◌, ◌≤◌, length, slice_get, IfSome};
+ghost use Rattle.std.specs.Prelude.{◌≡◌, ◌-◌, ◌<◌, ◌≤◌, length, slice_get, is_some, IfSome};
 ghost use Rattle.sva_step.specs.declared.steps.Step.TheVariants as step;
+ghost use Rattle.sva_storm.specs.Hands.{has_lease, has_leaving};
 ghost use Rattle.sva_storm.specs.Plays.{HasPlayed, IsTurn};
 
 use crate::endings::{Spent, Turn};
@@ -19,7 +20,8 @@ pub(crate) struct Holdings<C: Tally> {
 
 // The place of the lease of a binding.
 fn lease_of<C: Tally>(leases: &[Lease<C>], binding: u64) -> Option<usize>
-    ensures { IfSome result (λ place. (place < length leases.now) × IfSome (slice_get leases.now place) (λ lease. lease.binding ≡ binding)) }
+    ensures is_there { is_some result ≡ has_lease binding leases.now }
+    ensures place { IfSome result (λ place. (place < length leases.now) × IfSome (slice_get leases.now place) (λ lease. lease.binding ≡ binding)) }
 {
     for place in 0..leases.len() {
         if leases[place].binding() == binding {
@@ -31,7 +33,8 @@ fn lease_of<C: Tally>(leases: &[Lease<C>], binding: u64) -> Option<usize>
 
 // The place of the leaving of a binding.
 fn leaving_of<C: Tally>(leavings: &[Leaving<C>], binding: u64) -> Option<usize>
-    ensures { IfSome result (λ place. (place < length leavings.now) × IfSome (slice_get leavings.now place) (λ leaving. leaving ≡ binding)) }
+    ensures is_there { is_some result ≡ has_leaving binding leavings.now }
+    ensures place { IfSome result (λ place. (place < length leavings.now) × IfSome (slice_get leavings.now place) (λ leaving. leaving ≡ binding)) }
 {
     for place in 0..leavings.len() {
         if leavings[place].binding() == binding {

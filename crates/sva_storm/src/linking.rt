@@ -2,6 +2,7 @@
 
 ghost use Rattle.std.specs.Prelude.{◌≡◌, true};
 ghost use Rattle.sva_step.specs.Steps.{is_plain};
+ghost use Rattle.sva_storm.specs.Asks.{service_at};
 
 use crate::endings::{Spent, Turn};
 use crate::using::turn_of;
@@ -33,7 +34,8 @@ pub(crate) fn link<C: Tally, R: Wait>(
 
 // What the service does in a turn: it pumps and serves each endpoint in turn. A world has one endpoint at least.
 fn service_step(turn: u64, endpoints: u64) -> Step
-    ensures { is_plain result ≡ true }
+    ensures plain { is_plain result ≡ true }
+    ensures step { result ≡ service_at turn endpoints }
 {
     let endpoint = turn / 2 % endpoints.max(1);
     if turn % 2 == 0 {

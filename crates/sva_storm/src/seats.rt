@@ -32,7 +32,7 @@ pub(crate) struct Seat<C: Tally, D, P> {
     port: Port<C>,
     role: Role<D, P>,
     turns: u64,
-    out_of_memory: bool,
+    pub(crate) out_of_memory: bool,
     hand: Hand<C>,
 }
 
@@ -41,7 +41,7 @@ pub(crate) struct HostSeat<C: Tally> {
     port: Port<C>,
     script: Vec<Step>,
     turns: u64,
-    out_of_memory: bool,
+    pub(crate) out_of_memory: bool,
     holdings: Holdings<C>,
 }
 
@@ -74,6 +74,7 @@ impl<C: Tally, D: Device + Drop, P: Pager + Drop> Seat<C, D, P> {
     // Takes the seat apart: its tickets are put to others, for which there is room. Tells whether its thread wanted memory.
     pub(crate) fn leave(self, tickets: &mut Vec<UseTicket<C>>) -> (Port<C>, bool)
         requires { vec_len tickets.old + 16 ≤ vec_capacity tickets.old }
+        ensures lacked { result.1 ≡ self.out_of_memory }
         ensures len { vec_len tickets.new ≤ vec_len tickets.old + 16 }
         ensures capacity { vec_capacity tickets.new ≡ vec_capacity tickets.old }
     {
@@ -119,7 +120,9 @@ impl<C: Tally> HostSeat<C> {
     }
 
     // Takes the seat apart. Tells whether its thread wanted memory.
-    pub(crate) fn leave(self) -> (Port<C>, Holdings<C>, bool) {
+    pub(crate) fn leave(self) -> (Port<C>, Holdings<C>, bool)
+        ensures lacked { result.2 ≡ self.out_of_memory }
+    {
         let HostSeat {
             port,
             script: _,

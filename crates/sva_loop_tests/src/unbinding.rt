@@ -73,10 +73,17 @@ fn storms<R: Threads + Wait + Abort + Sync>(
     storm(rt, alloc, &scenario, turns, devices, pagers)
 }
 
+// Does a storm with so many turns release both bindings? The first space went then, and the page of the second one has its frame.
+fn releases<R: Threads + Wait + Abort + Sync>(rt: &R, alloc: Global, turns: u64) -> bool {
+    let stormed = storms(rt, alloc, UNBINDS, turns);
+    stormed.map(|audit| (audit.free, audit.mapped, audit.withheld)) == Ok((3, 1, 0))
+}
+
 #[test]
 fn two_bindings_are_released(rt: HostRuntime) {
-    let stormed = storms(&rt, rt.alloc(), UNBINDS, 100_000);
-    // The first space went, and the page of the second one has its frame.
-    let counts = stormed.map(|audit| (audit.free, audit.mapped, audit.withheld));
-    assert_eq!(rt; counts, Ok((3, 1, 0)));
+    // On a busy machine a thread may spend its turns before the others come: then all have more.
+    let is_released = releases(&rt, rt.alloc(), 100_000)
+        || releases(&rt, rt.alloc(), 300_000)
+        || releases(&rt, rt.alloc(), 1_000_000);
+    assert!(rt; is_released);
 }

@@ -5,7 +5,7 @@ use itoa::Buffer;
 use std::alloc::AllocError;
 
 /// Why a line of a scenario can't be read. In one line the earlier cause of this list comes first.
-#[derive(Clone, Copy, Debug, PartialEq, Eq)]
+#[derive(Clone, Copy, PartialEq, Eq)]
 pub enum Cause {
     /// The first line that isn't skipped doesn't begin with the word `config`, or there is none.
     NoConfig,
@@ -35,7 +35,7 @@ impl Cause {
 }
 
 /// The first line of a scenario that can't be read.
-#[derive(Clone, Copy, Debug, PartialEq, Eq)]
+#[derive(Clone, Copy)]
 pub struct LineFault {
     /// The line's number, from 1 on. It is 0 where the text is too large.
     pub line: u64,
@@ -63,7 +63,7 @@ impl LineFault {
 }
 
 /// Why there is no scenario.
-#[derive(Clone, Copy, Debug, PartialEq, Eq)]
+#[derive(Clone, Copy)]
 pub enum ParseFault {
     /// A line can't be read.
     Line(LineFault),

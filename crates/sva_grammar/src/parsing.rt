@@ -71,7 +71,10 @@ fn config_at(number: u64, line: &[u8]) -> Result<Config, ParseFault>
     ensures read { Reads (λ config. config) result (at_line number (config_of (words_of line.now))) }
     ensures memory { result ≢ Err ParseFault.Memory }
 {
-    config_in(&Words::new(line)).map_err(|cause| fault(number, cause))
+    match config_in(&Words::new(line)) {
+        Ok(config) => Ok(config),
+        Err(cause) => Err(fault(number, cause)),
+    }
 }
 
 /// The step that a line writes.
@@ -79,7 +82,10 @@ fn step_at(number: u64, line: &[u8]) -> Result<Step, ParseFault>
     ensures read { Reads (λ step. step) result (at_line number (step_of (words_of line.now))) }
     ensures memory { result ≢ Err ParseFault.Memory }
 {
-    step_in(&Words::new(line)).map_err(|cause| fault(number, cause))
+    match step_in(&Words::new(line)) {
+        Ok(step) => Ok(step),
+        Err(cause) => Err(fault(number, cause)),
+    }
 }
 
 /// A fault of a line.

@@ -217,49 +217,118 @@ fn reads_replies(rt: HostRuntime) -> Result<(), AllocError> {
     read_all(&rt, &REPLIES)
 }
 
-#[test]
-fn reads_page_requests(rt: HostRuntime) -> Result<(), AllocError> {
-    let lines = [
-        ("fault 1 32 16 r new more", (true, false, None, false)),
-        ("fault 1 32 16 w new last", (false, true, None, true)),
-        ("fault 1 32 16 rw 0 more", (true, true, Some(0), false)),
-        ("fault 1 32 16 r 31 last", (true, false, Some(31), true)),
-    ];
-    for (line, (read_flag, write, group, last)) in lines {
-        let step = Step::Fault {
+/// Of endpoint 1 and its PASID 32, for each of the three flags, for a new group and for one that has begun.
+static PAGE_REQUESTS: [(&str, Step); 4] = [
+    (
+        "fault 1 32 16 r new more",
+        Step::Fault {
             endpoint: 1,
             pasid: 32,
             page: 16,
-            read: read_flag,
-            write,
-            group,
-            last,
-        };
-        assert!(rt; is_read(rt.alloc(), line, &step)?, "{line}");
-    }
-    Ok(())
+            read: true,
+            write: false,
+            group: None,
+            last: false,
+        },
+    ),
+    (
+        "fault 1 32 16 w new last",
+        Step::Fault {
+            endpoint: 1,
+            pasid: 32,
+            page: 16,
+            read: false,
+            write: true,
+            group: None,
+            last: true,
+        },
+    ),
+    (
+        "fault 1 32 16 rw 0 more",
+        Step::Fault {
+            endpoint: 1,
+            pasid: 32,
+            page: 16,
+            read: true,
+            write: true,
+            group: Some(0),
+            last: false,
+        },
+    ),
+    (
+        "fault 1 32 16 r 31 last",
+        Step::Fault {
+            endpoint: 1,
+            pasid: 32,
+            page: 16,
+            read: true,
+            write: false,
+            group: Some(31),
+            last: true,
+        },
+    ),
+];
+
+#[test]
+fn reads_page_requests(rt: HostRuntime) -> Result<(), AllocError> {
+    read_all(&rt, &PAGE_REQUESTS)
 }
 
 /// Bit T stands for ITag T: the ITags 0, 1 and 3 are written `0000000b`.
+static VECTORS: [(&str, Step); 6] = [
+    (
+        "finish 1 0000000b 2",
+        Step::Finish {
+            endpoint: 1,
+            vector: 0b1011,
+            count: 2,
+        },
+    ),
+    (
+        "finish 1 00000000 2",
+        Step::Finish {
+            endpoint: 1,
+            vector: 0,
+            count: 2,
+        },
+    ),
+    (
+        "finish 1 00000001 2",
+        Step::Finish {
+            endpoint: 1,
+            vector: 1,
+            count: 2,
+        },
+    ),
+    (
+        "finish 1 80000000 2",
+        Step::Finish {
+            endpoint: 1,
+            vector: 0x8000_0000,
+            count: 2,
+        },
+    ),
+    (
+        "finish 1 0123abcd 2",
+        Step::Finish {
+            endpoint: 1,
+            vector: 0x0123_abcd,
+            count: 2,
+        },
+    ),
+    (
+        "finish 1 ffffffff 2",
+        Step::Finish {
+            endpoint: 1,
+            vector: u32::MAX,
+            count: 2,
+        },
+    ),
+];
+
 #[test]
 fn reads_vectors(rt: HostRuntime) -> Result<(), AllocError> {
-    let lines = [
-        ("finish 1 0000000b 2", 0b1011),
-        ("finish 1 00000000 2", 0),
-        ("finish 1 00000001 2", 1),
-        ("finish 1 80000000 2", 0x8000_0000),
-        ("finish 1 0123abcd 2", 0x0123_abcd),
-        ("finish 1 ffffffff 2", u32::MAX),
-    ];
-    for (line, vector) in lines {
-        let step = Step::Finish {
-            endpoint: 1,
-            vector,
-            count: 2,
-        };
-        assert!(rt; is_read(rt.alloc(), line, &step)?, "{line}");
-    }
-    Ok(())
+    read_all(&rt, &VECTORS)
 }
 
 /// Lines with a word too few or too many. What their words are, is asked later.

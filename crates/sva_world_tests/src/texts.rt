@@ -60,14 +60,15 @@ fn tells_the_first_fault(rt: HostRuntime) -> Result<(), Fail> {
 }
 
 /// Bytes that are no UTF-8, and texts with no line or an empty one.
+static ODD_BYTES: &[(&[u8], &str)] = &[
+    (b"config 1 4 1\nmap 0 \xff w", "line 2 BadWord"),
+    (b"", "line 1 NoConfig"),
+    (b"\n", "line 2 NoConfig"),
+];
+
 #[test]
 fn tells_of_odd_bytes(rt: HostRuntime) -> Result<(), Fail> {
-    let texts = [
-        (b"config 1 4 1\nmap 0 \xff w".as_slice(), "line 2 BadWord"),
-        (b"".as_slice(), "line 1 NoConfig"),
-        (b"\n".as_slice(), "line 2 NoConfig"),
-    ];
-    for (text, want) in texts {
+    for (text, want) in ODD_BYTES {
         assert!(rt; ends(rt.alloc(), text, want)?, "{want}");
     }
     Ok(())

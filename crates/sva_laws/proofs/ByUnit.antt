@@ -21,10 +21,10 @@ use Rattle.sva_laws.proofs.Lookback.Goes.{unmapped, dropped}
 use Rattle.sva_laws.proofs.Withheld.{answered_if, answers_if, then_part}
 
 -- every unreleased binding of the space has answered by now
-abbrev AllAnswered : (was then now : Endpoint) (space page : ℕ) → Type 0
+abbrev pub AllAnswered : (was then now : Endpoint) (space page : ℕ) → Type 0
 AllAnswered was then now space page = (b : ℕ) → is_unreleased (was.stage b) ≡ true → was.space b ≡ space → HasAnswered was then now b page
 
-unit_answers : (rule : PasidRule) (c : Config) (before : List Step) (step : Step) (m e : ℕ) (owed : ℕ → Owed) (now : Endpoint)
+pub unit_answers : (rule : PasidRule) (c : Config) (before : List Step) (step : Step) (m e : ℕ) (owed : ℕ → Owed) (now : Endpoint)
     → Goes (world_after rule c before) (next (world_after rule c before) step) m owed
     → (answered now (owed e) ≡ true) ↔ AllAnswered ((world_after rule c before).part e) ((world_after rule c (before ++ step ∷ [])).part e) now
     ((world_after rule c before).mappings.space m) ((world_after rule c before).mappings.page m)

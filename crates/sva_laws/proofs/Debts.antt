@@ -62,7 +62,7 @@ void_kept : (ms : Mappings) (g n : ℕ) (p : Endpoint) (o : LocalAct) → LegalL
     ≡ Void → (own p n o).order x ≡ Wait c y → (own p n o).front ≤ c
 void_kept ms g n p o l sent resets x c y low made not_void passed old same v h = grind (arith, nat_tests, not_void, old)
 
-behind_kept : (ms : Mappings) (g n cookies : ℕ) (p : Endpoint) (o : LocalAct) → LegalLocalAct ms g p o → Bounds g p → Labels p → Orders p → Fronts cookies p
+pub behind_kept : (ms : Mappings) (g n cookies : ℕ) (p : Endpoint) (o : LocalAct) → LegalLocalAct ms g p o → Bounds g p → Labels p → Orders p → Fronts cookies p
     → (first x resets : ℕ) → IsBehind p first x resets → IsBehind (own p n o) first x resets
 behind_kept ms g n cookies p o l bo la or f first x resets h =
     record {
@@ -93,7 +93,7 @@ own_debt ms g n cookies p o l bo la or f (NextReset resets) h = (counted_kept p 
 
 -- So does what an unmapping submits.
 
-behind_submitted : (p : Endpoint) (b q count order cookie first x resets : ℕ) → IsBehind p first x resets
+pub behind_submitted : (p : Endpoint) (b q count order cookie first x resets : ℕ) → IsBehind p first x resets
     → IsBehind (submitted p b q count order cookie) first x resets
 behind_submitted p b q count order cookie first x resets h =
     record {

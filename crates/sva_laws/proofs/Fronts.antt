@@ -188,7 +188,7 @@ submits_wait _ = false
 same_end : (p : Endpoint) (n : ℕ) (o : LocalAct) → submits_wait o ≡ false → (own p n o).waits_end ≡ p.waits_end
 same_end p n o h = grind arith
 
-more_orders : (p : Endpoint) (n : ℕ) (o : LocalAct) → p.orders ≤ (own p n o).orders
+pub more_orders : (p : Endpoint) (n : ℕ) (o : LocalAct) → p.orders ≤ (own p n o).orders
 more_orders p n o = grind (arith, nat_tests)
 
 greatest_kept : (p : Endpoint) (n : ℕ) (o : LocalAct) (b : Bool) → submits_wait o ≡ b → HasGreatest p → HasGreatest (own p n o)

@@ -61,3 +61,8 @@ pub mod StepActs
 pub mod Books
 pub mod Filed
 pub mod Rooms
+pub mod PartRuns
+pub mod FrontExact
+pub mod TargetsByUnit
+pub mod Untouched
+pub mod Places

@@ -54,7 +54,7 @@ one_live w =
     omega (arith, count_next w.spaces now, bit_most (now w.spaces), old)
 
 -- what holds where nothing is done, and where no cause refuses
-by_passed : (P : List Act → Type 0) (cs : List Cause) (o : Outcome) → P [] → (Passed cs → P o.acts) → P (checked cs o).acts
+pub by_passed : (P : List Act → Type 0) (cs : List Cause) (o : Outcome) → P [] → (Passed cs → P o.acts) → P (checked cs o).acts
 by_passed P [] o none some = some tt
 by_passed P (c ∷ cs) o none some = go c.0 refl (λ e. by_passed P cs o none (λ k. some (e, k)))
   where

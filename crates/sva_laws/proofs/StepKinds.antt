@@ -1,4 +1,4 @@
--- By which step each act is done that changes an order, the counter of reset-dones or a marker noted.
+-- By which step each act is done that changes an order, the counter of reset-dones, a marker noted or whether page requests are disabled.
 use Rattle.std.proofs.Common.{◌≡◌, refl, ℕ, Bool, true, false}
 use Rattle.std.specs.Prelude.{Option, Some, None, List, [], ◌∷◌, ◌++◌, if◌then◌else◌, Ok, Err}
 use Rattle.sva_step.specs.declared.answers.Answer.{Answer}
@@ -21,11 +21,11 @@ use Rattle.sva_model.specs.Refusals.{Cause, refusals}
 use Rattle.sva_model.specs.Replies.{maps_to, reply_maps, replies_success, newly_mapped, free_list, is_write_asked, job_space, response_to}
 use Rattle.sva_model.specs.Outcomes.{Outcome, outcome, unbind_outcome, advance_outcome, pump_outcome, head_outcome, wait_outcome, send_outcome, may_pass}
 use Rattle.sva_model.specs.Outcomes.{serve_outcome, file_outcome, reply_outcome, fault_outcome, about_outcome, deliver_outcome, completion_outcome}
-use Rattle.sva_model.specs.Outcomes.{keep_outcome, is_full, request_outcome, count_outcome, page_request_outcome, marker_outcome}
+use Rattle.sva_model.specs.Outcomes.{keep_outcome, is_full, request_outcome, count_outcome, page_request_outcome, marker_outcome, response_answer}
 use Rattle.sva_model.specs.States.{is_open}
 use Rattle.sva_model.specs.Steps.{Decision, checked, decide}
 
--- does it leave every order, the counter of reset-dones, and the markers noted?
+-- does it leave every order, the counter of reset-dones, the markers noted, and whether page requests are disabled?
 abbrev pub is_calm_own : LocalAct → Bool
 is_calm_own (LocalAct.Drain b cookie) = false
 is_calm_own (LocalAct.Invalidate b cookie) = false
@@ -34,7 +34,9 @@ is_calm_own (LocalAct.Pass k) = false
 is_calm_own LocalAct.Reset = false
 is_calm_own (LocalAct.Finish names vector count) = false
 is_calm_own (LocalAct.Reset_arrives c) = false
+is_calm_own (LocalAct.Keep c r m) = false
 is_calm_own (LocalAct.Take c k) = false
+is_calm_own (LocalAct.Answered c g code) = false
 is_calm_own (LocalAct.Count c names) = false
 is_calm_own (LocalAct.Mark c b) = false
 is_calm_own (LocalAct.Reopen c) = false
@@ -62,6 +64,8 @@ IsBy w s e (LocalAct.Drain b cookie) a = cookie ≡ w.cookies
 IsBy w s e (LocalAct.Invalidate b cookie) a = cookie ≡ w.cookies
 IsBy w s e (LocalAct.Pass k) a = (s ≡ step.Pump e) × (a ≡ answer.WaitDone) × (Labels.head (w.part e) ≡ k)
 IsBy w s e LocalAct.Reset a = s ≡ step.Reset e
+IsBy w s e (LocalAct.Keep c r m) a = is_full (w.part e) r ≡ false
+IsBy w s e (LocalAct.Answered c g code) a = IsDelivery w s e c
 IsBy w s e (LocalAct.Count c names) a = IsDelivery w s e c
 IsBy w s e (LocalAct.Mark c b) a = IsDelivery w s e c
 IsBy w s e (LocalAct.Reopen c) a = IsDelivery w s e c
@@ -143,17 +147,17 @@ fault_kind w s p e t q r x l (Some k) = calm refl
 
 -- Deliveries.
 
-keep_kind : (w : World) (s : Step) (e c r m : ℕ) (b : Bool) → Kind w s (plain (keep_outcome e c r m b))
-keep_kind w s e c r m true = calm refl
-keep_kind w s e c r m false = calm refl
+keep_kind : (w : World) (s : Step) (e c r m : ℕ) (b : Bool) → is_full (w.part e) r ≡ b → Kind w s (plain (keep_outcome e c r m b))
+keep_kind w s e c r m true h = calm refl
+keep_kind w s e c r m false h = single e (LocalAct.Keep c r m) answer.Held refl refl h
 
-completion_kind : (w : World) (s : Step) (p : Endpoint) (e c r : ℕ) (o : Option ℕ) (x : RequestState) → Kind w s (plain (completion_outcome p e c r o x))
-completion_kind w s p e c r (Some m) Out = keep_kind w s e c r m (is_full p r)
-completion_kind w s p e c r None Out = calm refl
-completion_kind w s p e c r (Some m) Doomed = calm refl
-completion_kind w s p e c r None Doomed = calm refl
-completion_kind w s p e c r (Some m) Over = calm refl
-completion_kind w s p e c r None Over = calm refl
+completion_kind : (w : World) (s : Step) (e c r : ℕ) (o : Option ℕ) (x : RequestState) → Kind w s (plain (completion_outcome (w.part e) e c r o x))
+completion_kind w s e c r (Some m) Out = keep_kind w s e c r m (is_full (w.part e) r) refl
+completion_kind w s e c r None Out = calm refl
+completion_kind w s e c r (Some m) Doomed = calm refl
+completion_kind w s e c r None Doomed = calm refl
+completion_kind w s e c r (Some m) Over = calm refl
+completion_kind w s e c r None Over = calm refl
 
 request_kind : (w : World) (s : Step) (p : Endpoint) (e c r : ℕ) (b : Bool) → Kind w s (plain (request_outcome w p e c r b))
 request_kind w s p e c r true = calm refl
@@ -171,22 +175,22 @@ marker_kind : (w : World) (s : Step) (e c b : ℕ) (t : Bool) → IsDelivery w s
 marker_kind w s e c b true d = single e (LocalAct.Mark c b) answer.Marked refl refl d
 marker_kind w s e c b false d = calm refl
 
-about_kind : (w : World) (s : Step) (p : Endpoint) (e c : ℕ) (x : Subject) → IsDelivery w s e c → Kind w s (plain (about_outcome w p e c x))
-about_kind w s p e c (StartOf b) d = calm refl
-about_kind w s p e c (StopOf b) d = calm refl
-about_kind w s p e c FunctionReset d = single e (LocalAct.Reset_arrives c) answer.Reset refl refl tt
-about_kind w s p e c (CompletionOf r found) d = completion_kind w s p e c r found (p.request r)
-about_kind w s p e c (InvalidateOf k) d = single e (LocalAct.Take c k) answer.Taken refl refl tt
-about_kind w s p e c (ResponseOf g code) d = calm refl
-about_kind w s p e c (RequestOf r) d = request_kind w s p e c r (is_open p.phase)
-about_kind w s p e c (InvalidatedOf names) d = count_kind w s p e c names (is_open p.phase) d
-about_kind w s p e c (PageRequestOf r) d = page_request_kind w s e c r (is_open p.phase)
-about_kind w s p e c (MarkerOf b) d = marker_kind w s e c b (is_open p.phase) d
-about_kind w s p e c ResetDone d = single e (LocalAct.Reopen c) answer.ResetDone refl refl d
+about_kind : (w : World) (s : Step) (e c : ℕ) (x : Subject) → IsDelivery w s e c → Kind w s (plain (about_outcome w (w.part e) e c x))
+about_kind w s e c (StartOf b) d = calm refl
+about_kind w s e c (StopOf b) d = calm refl
+about_kind w s e c FunctionReset d = single e (LocalAct.Reset_arrives c) answer.Reset refl refl tt
+about_kind w s e c (CompletionOf r found) d = completion_kind w s e c r found ((w.part e).request r)
+about_kind w s e c (InvalidateOf k) d = single e (LocalAct.Take c k) answer.Taken refl refl tt
+about_kind w s e c (ResponseOf g code) d = single e (LocalAct.Answered c g code) (response_answer ((w.part e).group g)) refl refl d
+about_kind w s e c (RequestOf r) d = request_kind w s (w.part e) e c r (is_open (w.part e).phase)
+about_kind w s e c (InvalidatedOf names) d = count_kind w s (w.part e) e c names (is_open (w.part e).phase) d
+about_kind w s e c (PageRequestOf r) d = page_request_kind w s e c r (is_open (w.part e).phase)
+about_kind w s e c (MarkerOf b) d = marker_kind w s e c b (is_open (w.part e).phase) d
+about_kind w s e c ResetDone d = single e (LocalAct.Reopen c) answer.ResetDone refl refl d
 
-deliver_kind : (w : World) (s : Step) (p : Endpoint) (e c : ℕ) (o : Option Subject) → IsDelivery w s e c → Kind w s (plain (deliver_outcome w p e c o))
-deliver_kind w s p e c None d = calm refl
-deliver_kind w s p e c (Some x) d = about_kind w s p e c x d
+deliver_kind : (w : World) (s : Step) (e c : ℕ) (o : Option Subject) → IsDelivery w s e c → Kind w s (plain (deliver_outcome w (w.part e) e c o))
+deliver_kind w s e c None d = calm refl
+deliver_kind w s e c (Some x) d = about_kind w s e c x d
 
 outcome_kind : (w : World) (s : Step) → Kind w s (plain (outcome w s))
 outcome_kind w step.Space = calm refl
@@ -212,7 +216,7 @@ outcome_kind w (step.Fault e t q r x group l) = fault_kind w (step.Fault e t q r
 outcome_kind w (step.Finish e vector count) = single e (LocalAct.Finish (Labels.is_named (w.part e) vector) vector count) (answer.Sent count) refl refl tt
 outcome_kind w (step.Quit e t) = calm refl
 outcome_kind w (step.Deliver n) =
-    deliver_kind w (step.Deliver n) (w.part (w.link_of (Labels.name w n))) (w.link_of (Labels.name w n)) (Labels.name w n)
+    deliver_kind w (step.Deliver n) (w.link_of (Labels.name w n)) (Labels.name w n)
     ((w.part (w.link_of (Labels.name w n))).message (Labels.name w n))
     (record { number = n; step_is = refl; name_is = refl; way_is = refl })
 outcome_kind w (step.Look f) = calm refl

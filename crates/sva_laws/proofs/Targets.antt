@@ -29,14 +29,14 @@ done_apart z h (inl e) = absurd (cc (sym h ∙ e))
 done_apart z h (inr e) = absurd (cc (sym h ∙ e))
 
 -- what is queued isn't below the front; what is done is
-queued_front : (n : ℕ) (p : Endpoint) → Fronts n p → (k c : ℕ) (x : Bool) → k < p.orders → p.order k ≡ Wait c x → p.order_state k ≡ Queued → p.front ≤ c
+pub queued_front : (n : ℕ) (p : Endpoint) → Fronts n p → (k c : ℕ) (x : Bool) → k < p.orders → p.order k ≡ Wait c x → p.order_state k ≡ Queued → p.front ≤ c
 queued_front n p f k c x made h q = go (less_or_not c p.front)
   where
     go : (c < p.front) ⊎ (p.front ≤ c) → p.front ≤ c
     go (inl l) = absurd (queued_apart (p.order_state k) q (f.passed k c x made h l))
     go (inr l) = l
 
-done_below : (n : ℕ) (p : Endpoint) → Fronts n p → (k c : ℕ) (x : Bool) → k < p.orders → p.order k ≡ Wait c x → p.order_state k ≡ Done → c < p.front
+pub done_below : (n : ℕ) (p : Endpoint) → Fronts n p → (k c : ℕ) (x : Bool) → k < p.orders → p.order k ≡ Wait c x → p.order_state k ≡ Done → c < p.front
 done_below n p f k c x made h d = go (less_or_not c p.front)
   where
     either : (p.order_state k ≡ Queued) ⊎ ((p.order_state k ≡ Void) × (p.phase ≢ Open)) → (p.order_state k ≡ Queued) ⊎ (p.order_state k ≡ Void)

@@ -336,10 +336,10 @@ delivered w s e subject d =
     c : ℕ
     c = Labels.name w d.number
 
-part_after : (w : World) (s : Step) (e : ℕ) (o : LocalAct) → (decide w s).acts ≡ AtEndpoint e o ∷ [] → (next w s).part e ≡ own (w.part e) w.messages o
+pub part_after : (w : World) (s : Step) (e : ℕ) (o : LocalAct) → (decide w s).acts ≡ AtEndpoint e o ∷ [] → (next w s).part e ≡ own (w.part e) w.messages o
 part_after w s e o h = ap (λ z. (after_acts w z).part e) h ∙ put-same w.part e (own (w.part e) w.messages o)
 
-reopens : (w : World) (s : Step) (e : ℕ) → (d : Delivers w s e ResetDone) → (next w s).part e
+pub reopens : (w : World) (s : Step) (e : ℕ) → (d : Delivers w s e ResetDone) → (next w s).part e
     ≡ own (w.part e) w.messages (LocalAct.Reopen (Labels.name w d.number))
 reopens w s e d = part_after w s e (LocalAct.Reopen (Labels.name w d.number)) (delivered w s e ResetDone d)
 

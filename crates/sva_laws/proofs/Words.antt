@@ -2,7 +2,7 @@
 use Rattle.std.proofs.Common.{◌≡◌, ℕ, zero, suc, ◌+◌, ◌<◌, ◌≢◌, ◌⊎◌, inl, inr, refl, arith, Bool, true, false, subst}
 use Rattle.std.specs.Prelude.{Option, Some, None, if◌then◌else◌, nat_lt, not, ◌==◌}
 use Rattle.std.proofs.lemmas.Bool.Decides.{nat_tests}
-use Rattle.sva_model.specs.Words.{put, lowest, find, if_found, step_lowest, any_below, all_below, is_some, the, holds_of}
+use Rattle.sva_model.specs.Words.{put, lowest, find, if_found, any_below, all_below, is_some, the, holds_of}
 pub use Rattle.sva_model.proofs.FullSpace.{lowest_cases}
 pub use Rattle.sva_model.proofs.FullSpace.{lowest_below}
 

@@ -7,7 +7,7 @@ use Rattle.sva_step.specs.declared.answers.Answer.TheVariants.{Frame, FreeFrames
 use Rattle.sva_step.specs.declared.limits.Config.{Config}
 use Rattle.sva_step.specs.declared.steps.Step.{Step}
 use Rattle.sva_step.specs.declared.steps.Step.TheVariants.{Map, Unmap, UnmapRange}
-use Rattle.sva_model.specs.Words.{count_below, select}
+use Rattle.sva_model.specs.Words.{count_below, select, is_some}
 use Rattle.sva_model.specs.Message.{Code}
 use Rattle.sva_model.specs.Message.Message.{StartMessage, StopMessage, ResetMessage, CompletionMessage, InvalidateMessage, ResponseMessage, RequestMessage}
 use Rattle.sva_model.specs.Message.Message.{InvalidatedMessage, PageRequestMessage, MarkerMessage, ResetDoneMessage}
@@ -26,7 +26,7 @@ use Rattle.sva_model.specs.State.PageRequestState.{InFlight, Arrived}
 use Rattle.sva_model.specs.States.{is_unreleased, is_out, is_busy, is_outstanding, is_open_group, is_arrived, is_before_invalidating, is_wait, place}
 use Rattle.sva_model.specs.States.Place.{Free, Withheld}
 use Rattle.sva_model.specs.Acts.{binding_of, extent_of, scope_of}
-use Rattle.sva_model.specs.Labels.{number, is_mapped, outstanding, is_waiting, is_set, live_spaces, pages_of, asks}
+use Rattle.sva_model.specs.Labels.{number, is_mapped, outstanding, is_waiting, is_set, live_spaces, pages_of, asks, queue_length}
 use Rattle.sva_model.specs.Steps.{reply, counts, world_after}
 use Rattle.sva_model.specs.Claims.{Fits, Usable, IsPresent, IsAt, IsWithheld, IsDivided, IsMatched, IsBearer}
 
@@ -395,12 +395,18 @@ pub record FindsMappings (ms : Mappings) : Type 0 where
 abbrev pub AlwaysFindsMappings : Type 0
 AlwaysFindsMappings = (rule : PasidRule) (config : Config) (steps : List Step) → Fits config → FindsMappings (world_after rule config steps).mappings
 
--- Limits of the host: live spaces, pages of a space, and page requests that are filed of a group which is open. (Those of a
--- unit's queue and of an endpoint's cache are claimed in `sva_labels`.)
+-- how many translations an endpoint has cached
+abbrev pub cached_translations : Endpoint → ℕ
+cached_translations p = count_below p.requests (λ r. is_some (p.held r))
+
+-- Limits of the host: live spaces, pages of a space, and page requests that are filed of a group which is open; the descriptors in
+-- a unit's invalidation queue; and those of an endpoint: the translations that it caches.
 pub record KeepsLimits (w : World) : Type 0 where
   pub spaces : live_spaces w ≤ 64
   pub pages : (space : ℕ) → pages_of w space ≤ 1024
   pub requests : (e group : ℕ) → is_open_group ((w.part e).host_group group) ≡ true → length (asks (w.part e) group) ≤ 32
+  pub queued : (e : ℕ) → queue_length (w.part e) ≤ 64
+  pub cached : (e : ℕ) → cached_translations (w.part e) ≤ 64
 
 abbrev pub AlwaysKeepsLimits : Type 0
 AlwaysKeepsLimits = (rule : PasidRule) (config : Config) (steps : List Step) → Fits config → KeepsLimits (world_after rule config steps)

@@ -4,3 +4,5 @@ pub mod Waits
 pub mod Runs
 pub mod Answers
 pub mod Steps
+pub mod Fronts
+pub mod Untouched

@@ -10,6 +10,9 @@ ghost use Rattle.sva_laws.specs.Answers.{AlwaysFinishes, AlwaysUses, AlwaysLooks
 ghost use Rattle.sva_laws.specs.Steps.{AlwaysChangesOnePart, AlwaysDropsApart, AlwaysAnswersBy, AlwaysKeepsLatest, AlwaysKeepsBooks};
 ghost use Rattle.sva_laws.specs.Runs.{AlwaysLegalInFront, AlwaysLegalByAnswer, SameForOneEndpoint};
 ghost use Rattle.sva_laws.specs.Waits.{AlwaysHasFront, AlwaysFitsDebts, AlwaysAwaitsTargets, AlwaysAnswersByUnit};
+ghost use Rattle.sva_laws.specs.Fronts.{AlwaysFrontOf, AlwaysKeepsTargets};
+ghost use Rattle.sva_laws.specs.Untouched.{AlwaysEvicts, AlwaysTakes, AlwaysStops, AlwaysQuits, AlwaysAsks, AlwaysDisables, AlwaysCutsOff};
+ghost use Rattle.sva_laws.specs.Untouched.{AlwaysDrainsOnce};
 ghost use Rattle.sva_laws.specs.UnitSteps.{AlwaysCountsResetDones, AlwaysChangesOrders, AlwaysVoidByReset, AlwaysNotesMarkers, AlwaysGivesCookies};
 
 /// The headline. After every list of steps, however late messages come in a permitted order: each translation that an
@@ -76,12 +79,15 @@ pub fn orders_and_resets()
 /// Waits and the front of a unit: cookies rise in order of submission; a wait is done, unless a reset made it void, exactly
 /// where its cookie is below the front; what an endpoint owes for a mapping that was taken out fits the orders of its unit;
 /// what it still waits for is a wait that is queued, or void by a reset that hasn't ended, or the end of that reset; and it has
-/// answered exactly where the look back over the list says so.
+/// answered exactly where the look back over the list says so. The front is one more than the greatest cookie of a wait that was
+/// taken, or is void by a reset that has ended; and what a host keeps of a target is the very wait, or reset's end, that it awaits.
 pub fn waits_and_fronts()
     ensures fronts { AlwaysHasFront }
     ensures debts { AlwaysFitsDebts }
     ensures targets { AlwaysAwaitsTargets }
     ensures by_unit { AlwaysAnswersByUnit }
+    ensures front_of { AlwaysFrontOf }
+    ensures awaited { AlwaysKeepsTargets }
 {}
 
 /// Journals and rules: what a legal journal begins with is legal, and one entry more is legal exactly where it says what its
@@ -112,4 +118,19 @@ pub fn what_steps_change()
     ensures answers { AlwaysAnswersBy }
     ensures latest { AlwaysKeepsLatest }
     ensures books { AlwaysKeepsBooks }
+{}
+
+/// What steps at an endpoint leave as it was: an evict takes one translation out of the cache, an invalidation that is taken drops
+/// what it covers and dooms the requests that it covers, a Stop, a quit and a translation request touch no translation, and each
+/// changes nothing else of the endpoint and its unit. A Response Failure alone disables page requests; a reset-done leaves a Live
+/// binding Lost, and Quiet one that was told to stop; and of the two waits of a binding that ends the first alone drains.
+pub fn what_steps_leave()
+    ensures evicts { AlwaysEvicts }
+    ensures takes { AlwaysTakes }
+    ensures stops { AlwaysStops }
+    ensures quits { AlwaysQuits }
+    ensures asks { AlwaysAsks }
+    ensures disables { AlwaysDisables }
+    ensures cuts_off { AlwaysCutsOff }
+    ensures drains { AlwaysDrainsOnce }
 {}

@@ -6,6 +6,7 @@ use Rattle.sva_laws.proofs.JobSteps.{always_jobs}
 use Rattle.sva_laws.proofs.Limits.{always_outstanding, always_page_queue, always_waiting}
 use Rattle.sva_laws.proofs.Filed.{always_few}
 use Rattle.sva_laws.proofs.Rooms.{always_live, always_pages}
+use Rattle.sva_laws.proofs.Places.{always_short, always_cached}
 use Rattle.sva_laws.proofs.page_requests.Goals as goal
 
 pub returns-clause-matched : goal.returns-clause-matched
@@ -28,6 +29,7 @@ returns-clause-limits c =
     λ rule config steps fits. record {
       spaces = always_live rule config steps;
       pages = always_pages rule config steps;
-      requests =
-          always_few rule config steps;
+      requests = always_few rule config steps;
+      queued = always_short rule config steps;
+      cached = always_cached rule config steps;
     }

@@ -18,10 +18,11 @@ use Rattle.sva_labels.proofs.Bound.{binding_seen}
 use Rattle.sva_labels.proofs.EndpointViews.{endpoints_seen, device_seen, unit_seen}
 use Rattle.sva_labels.proofs.EndpointFaults.{outstanding_seen}
 use Rattle.sva_labels.proofs.SoundCache.{cache_rising}
-use Rattle.sva_labels.proofs.SoundTables.{always_cached, cache_short}
+use Rattle.sva_labels.proofs.SoundTables.{cache_short}
 use Rattle.sva_labels.proofs.SoundLists.{seen_get, seen_rises}
 use Rattle.sva_labels.proofs.SoundNumbers.{HasNumbers, always_numbers}
-use Rattle.sva_labels.proofs.SoundQueues.{always_short, queue_short, ends_rise, end_within}
+use Rattle.sva_labels.proofs.SoundQueues.{queue_short, ends_rise, end_within}
+use Rattle.sva_laws.proofs.Places.{always_short, always_cached}
 use Rattle.sva_laws.proofs.Debts.{AllDebts, always_debts}
 use Rattle.sva_labels.proofs.SoundWaits.{awaited_stands, invalidating_stands}
 use Rattle.sva_laws.proofs.Carried.{always_carried}

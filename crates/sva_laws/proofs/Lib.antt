@@ -66,3 +66,4 @@ pub mod FrontExact
 pub mod TargetsByUnit
 pub mod Untouched
 pub mod Places
+pub mod Asked

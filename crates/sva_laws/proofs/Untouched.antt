@@ -1,28 +1,32 @@
 -- What a step at an endpoint leaves as it was.
 use Rattle.std.proofs.Common.{◌≡◌, ◌≢◌, ◌⊎◌, inl, inr, refl, ap, sym, subst, ◌∙◌, ℕ, ◌<◌, Bool, true, false, arith}
-use Rattle.std.specs.Prelude.{Option, Some, None, ◌||◌, ◌==◌, List, [], ◌∷◌, ◌++◌, if◌then◌else◌, Ok}
+use Rattle.std.specs.Prelude.{Option, Some, None, ◌&&◌, ◌||◌, ◌==◌, List, [], ◌∷◌, ◌++◌, if◌then◌else◌, Ok, Err}
 use Rattle.std.proofs.lemmas.Bool.Decides.{nat_tests}
 use Rattle.sva_step.specs.declared.answers.Answer.{Answer}
+use Rattle.sva_step.specs.declared.answers.Answer.TheVariants as answer
 use Rattle.sva_step.specs.declared.limits.Config.{Config}
+use Rattle.sva_step.specs.declared.refusals.Refusal.{Refusal}
+use Rattle.sva_step.specs.declared.refusals.Refusal.TheVariants as refusal
 use Rattle.sva_step.specs.declared.steps.Step.{Step}
 use Rattle.sva_step.specs.declared.steps.Step.TheVariants as step
 use Rattle.sva_model.specs.Words.{put, the}
 use Rattle.sva_model.specs.Message.{Code}
 use Rattle.sva_model.specs.Message.Code.{SuccessCode, InvalidCode, FailureCode}
-use Rattle.sva_model.specs.State.{PasidRule, Mappings, RequestState, GroupState, Stage, Endpoint, World}
-use Rattle.sva_model.specs.State.Subject.{StopOf, InvalidateOf, ResponseOf, ResetDone}
+use Rattle.sva_model.specs.State.{PasidRule, Mappings, Subject, RequestState, GroupState, Stage, Endpoint, World}
+use Rattle.sva_model.specs.State.Subject.{StopOf, CompletionOf, InvalidateOf, ResponseOf, ResetDone}
 use Rattle.sva_model.specs.State.RequestState.{Out, Doomed, Over}
 use Rattle.sva_model.specs.State.GroupState.{Awaiting, Stale}
 use Rattle.sva_model.specs.State.Stage.{Unbound, Invalidating, Quiet, Lost, Released}
 use Rattle.sva_model.specs.States.{covers, drains}
-use Rattle.sva_model.specs.Acts.{Act, LocalAct, act, own, none_if, doom_if, stale_if, disables, cut_off, submitted, submitted_if, submits, bound, cookie_of}
+use Rattle.sva_model.specs.Acts.{Act, LocalAct, act, own, none_if, is_replaced, doom_if, stale_if, disables, cut_off, submitted, submitted_if, submits, bound}
+use Rattle.sva_model.specs.Acts.{cookie_of}
 use Rattle.sva_model.specs.Acts.Act.{NewSpace, DropSpace, Map, Unmap, NewBinding, NewJob, Hold, LetGo, AtEndpoint}
 use Rattle.sva_model.specs.Labels
-use Rattle.sva_model.specs.Refusals.{refusals}
-use Rattle.sva_model.specs.Outcomes.{outcome}
-use Rattle.sva_model.specs.Steps.{reply, decide, next, after_acts, world_after}
+use Rattle.sva_model.specs.Refusals.{Cause, refusals}
+use Rattle.sva_model.specs.Outcomes.{Outcome, outcome, about_outcome, deliver_outcome, completion_outcome, keep_outcome, is_full}
+use Rattle.sva_model.specs.Steps.{Reply, checked, reply, decide, next, after_acts, world_after}
 use Rattle.sva_laws.specs.UnitSteps.{Delivers}
-use Rattle.sva_laws.specs.Untouched.{Evicts, Takes, Stops, Quits, Asks, Disables, CutsOff, DrainsOnce}
+use Rattle.sva_laws.specs.Untouched.{Evicts, Takes, Brings, Stops, Quits, Asks, Disables, CutsOff, DrainsOnce, is_of_endpoint}
 use Rattle.sva_laws.proofs.Words.{put-same, put-other, not_true}
 use Rattle.sva_laws.proofs.Legal.{LegalLocalAct}
 use Rattle.sva_laws.proofs.Invariant.{Invariant}
@@ -114,6 +118,95 @@ always_takes rule config steps s e k d =
     later_part rule config steps s e (λ z. Takes (w.part e) z k)
     (subst (λ z. Takes (w.part e) z k) (sym (part_after w s e (LocalAct.Take c k) (delivered w s e (InvalidateOf k) d)))
     (own_takes (w.part e) w.messages c k))
+
+-- A translation completion.
+
+own_keeps : (p : Endpoint) (n c r m : ℕ) → Brings p (own p n (LocalAct.Keep c r m)) r (Some m) answer.Held
+own_keeps p n c r m =
+    record {
+      kept = λ h. (m, refl, put-same (λ x. none_if (is_replaced p r x) (p.held x)) r (Some m));
+      replaced = λ h x ne b q.
+          put-other (λ y. none_if (is_replaced p r y) (p.held y)) r (Some m) x ne
+          ∙ ap (λ t. none_if t (p.held x)) (is_same (p.request_binding x) (p.request_binding r) (p.request_page x) (p.request_page r) b q);
+      others = λ h x ne d.
+          put-other (λ y. none_if (is_replaced p r y) (p.held y)) r (Some m) x ne
+          ∙ ap (λ t. none_if t (p.held x)) (is_other (p.request_binding x) (p.request_binding r) (p.request_page x) (p.request_page r) d);
+      not_kept = λ h. absurd (h refl);
+      other_requests = λ x ne. put-other p.request r Over x ne;
+      alone = refl;
+    }
+  where
+    is_same : (a b x y : ℕ) → a ≡ b → x ≡ y → (a == b && x == y) ≡ true
+    is_same a b x y h k = grind (arith, nat_tests)
+
+    is_other : (a b x y : ℕ) → (a ≢ b) ⊎ (x ≢ y) → (a == b && x == y) ≡ false
+    is_other a b x y h = grind (arith, nat_tests)
+
+own_forgets : (p : Endpoint) (n c r : ℕ) (found : Option ℕ) (said : Answer) → said ≢ answer.Held → Brings p (own p n (LocalAct.Forget c r)) r found said
+own_forgets p n c r found said ne =
+    record {
+      kept = λ h. absurd (ne h);
+      replaced = λ h. absurd (ne h);
+      others = λ h. absurd (ne h);
+      not_kept = λ h x. refl;
+      other_requests = λ x d. put-other p.request r Over x d;
+      alone = refl;
+    }
+
+own_ignores : (p : Endpoint) (n c r : ℕ) (found : Option ℕ) (said : Answer) → said ≢ answer.Held → Brings p (own p n (LocalAct.Ignore c)) r found said
+own_ignores p n c r found said ne =
+    record {
+      kept = λ h. absurd (ne h);
+      replaced = λ h. absurd (ne h);
+      others = λ h. absurd (ne h);
+      not_kept = λ h x. refl;
+      other_requests = λ x d. refl;
+      alone = refl;
+    }
+
+-- by the act of the outcome
+abbrev Leaves : (p q : Endpoint) (n e : ℕ) → List Act → Type 0
+Leaves p q n e acts = (o : LocalAct) → acts ≡ AtEndpoint e o ∷ [] → q ≡ own p n o
+
+keep_brings : (p q : Endpoint) (n e c r m : ℕ) (said : Answer) (b : Bool) → (keep_outcome e c r m b).answer ≡ said
+    → Leaves p q n e (keep_outcome e c r m b).acts → Brings p q r (Some m) said
+keep_brings p q n e c r m said true h f =
+    subst (λ z. Brings p z r (Some m) said) (sym (f (LocalAct.Forget c r) refl)) (own_forgets p n c r (Some m) said (λ k. absurd (cc (h ∙ k))))
+keep_brings p q n e c r m said false h f =
+    subst (λ z. Brings p q r (Some m) z) h (subst (λ z. Brings p z r (Some m) answer.Held) (sym (f (LocalAct.Keep c r m) refl)) (own_keeps p n c r m))
+
+completion_brings : (p q : Endpoint) (n e c r : ℕ) (found : Option ℕ) (said : Answer) (x : RequestState) → (completion_outcome p e c r found x).answer ≡ said
+    → Leaves p q n e (completion_outcome p e c r found x).acts → Brings p q r found said
+completion_brings p q n e c r (Some m) said Out h f = keep_brings p q n e c r m said (is_full p r) h f
+completion_brings p q n e c r None said Out h f =
+    subst (λ z. Brings p z r None said) (sym (f (LocalAct.Forget c r) refl)) (own_forgets p n c r None said (λ k. absurd (cc (h ∙ k))))
+completion_brings p q n e c r (Some m) said Doomed h f =
+    subst (λ z. Brings p z r (Some m) said) (sym (f (LocalAct.Forget c r) refl)) (own_forgets p n c r (Some m) said (λ k. absurd (cc (h ∙ k))))
+completion_brings p q n e c r None said Doomed h f =
+    subst (λ z. Brings p z r None said) (sym (f (LocalAct.Forget c r) refl)) (own_forgets p n c r None said (λ k. absurd (cc (h ∙ k))))
+completion_brings p q n e c r (Some m) said Over h f =
+    subst (λ z. Brings p z r (Some m) said) (sym (f (LocalAct.Ignore c) refl)) (own_ignores p n c r (Some m) said (λ k. absurd (cc (h ∙ k))))
+completion_brings p q n e c r None said Over h f =
+    subst (λ z. Brings p z r None said) (sym (f (LocalAct.Ignore c) refl)) (own_ignores p n c r None said (λ k. absurd (cc (h ∙ k))))
+
+-- what a delivery answers
+said_by : (w : World) (s : Step) (e : ℕ) (subject : Subject) (said : Answer) → (d : Delivers w s e subject) → reply w s ≡ Ok said
+    → (about_outcome w (w.part e) e (Labels.name w d.number) subject).answer ≡ said
+said_by w s e subject said d h =
+    sym (ap (λ z. (deliver_outcome w (w.part z) z (Labels.name w d.number) ((w.part z).message (Labels.name w d.number))).answer) d.way_is
+    ∙ ap (λ z. (deliver_outcome w (w.part e) e (Labels.name w d.number) z).answer) d.speaks)
+    ∙ (accepted (refusals w (step.Deliver d.number)) (outcome w (step.Deliver d.number)) said (sym (ap (reply w) d.step_is) ∙ h)).1
+
+pub always_brings : (rule : PasidRule) (config : Config) (steps : List Step) (s : Step) (e r : ℕ) (found : Option ℕ) (said : Answer)
+    → Delivers (world_after rule config steps) s e (CompletionOf r found) → reply (world_after rule config steps) s ≡ Ok said
+    → Brings ((world_after rule config steps).part e) ((world_after rule config (steps ++ s ∷ [])).part e) r found said
+always_brings rule config steps s e r found said d h =
+    let w = world_after rule config steps in
+    let p = w.part e in
+    let c = Labels.name w d.number in
+    later_part rule config steps s e (λ z. Brings p z r found said)
+    (completion_brings p ((next w s).part e) w.messages e c r found said (p.request r) (said_by w s e (CompletionOf r found) said d h)
+    (λ o acts. part_after w s e o (delivered w s e (CompletionOf r found) d ∙ acts)))
 
 -- A Stop that arrives.
 
@@ -325,3 +418,46 @@ always_drains_once rule config steps e =
       draining = λ b x st. (((always rule config steps).parts e).orders.draining b x st).0;
       invalidating = λ b k x st. (part_later BehindPasid behind_parts rule config [] steps e (λ d j y s. absurd (cc)) b k x st).1;
     }
+
+-- In reset.
+
+abbrev AllOther : List Cause → Type 0
+AllOther [] = Unit {0}
+AllOther (c ∷ cs) = (c.1 ≢ refusal.Resetting) × AllOther cs
+
+abbrev refused : Refusal → Reply
+refused r = Err r
+
+same_refusal : (a b : Refusal) → refused a ≡ refused b → a ≡ b
+same_refusal a b h = cc
+
+other_refusals : (cs : List Cause) (o : Outcome) → AllOther cs → (checked cs o).reply ≢ Err refusal.Resetting
+other_refusals [] o a h = absurd (cc)
+other_refusals (c ∷ cs) o a h = go c.0 h (other_refusals cs o a.1)
+  where
+    go : (b : Bool) → (if b then record { reply = Err c.1; acts = [] } else checked cs o).reply ≡ Err refusal.Resetting
+        → ((checked cs o).reply ≢ Err refusal.Resetting) → ⊥
+    go true k rest = a.0 (same_refusal c.1 refusal.Resetting k)
+    go false k rest = rest k
+
+endpoint_other : (w : World) (s : Step) → is_of_endpoint s ≡ true → AllOther (refusals w s)
+endpoint_other w (step.Ask e t q) h = ((λ k. absurd (cc)), ((λ k. absurd (cc)), ((λ k. absurd (cc)), ((λ k. absurd (cc)), ((λ k. absurd (cc)), tt)))))
+endpoint_other w (step.BeginUse e t q x) h =
+    ((λ k. absurd (cc)), ((λ k. absurd (cc)), ((λ k. absurd (cc)), ((λ k. absurd (cc)), ((λ k. absurd (cc)), ((λ k. absurd (cc)), tt))))))
+endpoint_other w (step.EndUse e u) h = ((λ k. absurd (cc)), ((λ k. absurd (cc)), tt))
+endpoint_other w (step.Evict e t q) h = ((λ k. absurd (cc)), ((λ k. absurd (cc)), ((λ k. absurd (cc)), tt)))
+endpoint_other w (step.Fault e t q r x group l) h = (
+  (λ k. absurd (cc)),
+  ((λ k. absurd (cc)), ((λ k. absurd (cc)), ((λ k. absurd (cc)), ((λ k. absurd (cc)), ((λ k. absurd (cc)), ((λ k. absurd (cc)), tt)))))),
+)
+endpoint_other w (step.Finish e vector count) h =
+    ((λ k. absurd (cc)), ((λ k. absurd (cc)), ((λ k. absurd (cc)), ((λ k. absurd (cc)), ((λ k. absurd (cc)), tt)))))
+endpoint_other w (step.Quit e t) h = ((λ k. absurd (cc)), ((λ k. absurd (cc)), ((λ k. absurd (cc)), ((λ k. absurd (cc)), tt))))
+endpoint_other w (step.Deliver n) h = ((λ k. absurd (cc)), ((λ k. absurd (cc)), ((λ k. absurd (cc)), tt)))
+endpoint_other w s h = absurd (grind arith)
+
+pub always_goes_on : (rule : PasidRule) (config : Config) (steps : List Step) (s : Step) → is_of_endpoint s ≡ true
+    → reply (world_after rule config steps) s ≢ Err refusal.Resetting
+always_goes_on rule config steps s h k =
+    other_refusals (refusals (world_after rule config steps) s) (outcome (world_after rule config steps) s)
+    (endpoint_other (world_after rule config steps) s h) k

@@ -6,3 +6,4 @@ pub mod Answers
 pub mod Steps
 pub mod Fronts
 pub mod Untouched
+pub mod Asked

@@ -1,14 +1,16 @@
--- What a step at an endpoint leaves as it was: of an evict, an invalidation that is taken, a Stop, a quit and a translation request,
--- all that it changes, and that nothing else of the endpoint and its unit changes; what disables the page request interface; and to
+-- What a step at an endpoint leaves as it was: of an evict, an invalidation that is taken, a translation request and its completion,
+-- a Stop and a quit, all that it changes, and that nothing else of the endpoint and its unit changes; what disables the page request interface; and to
 -- which stage a reset leads. Sections are those of PCI Express Base 5.0.
-use Rattle.std.specs.Prelude.{◌≡◌, ◌≢◌, ◌⊎◌, ℕ, Bool, true, false, Some, None, List, [], ◌∷◌, ◌++◌, Ok}
+use Rattle.std.specs.Prelude.{◌≡◌, ◌≢◌, ◌⊎◌, ℕ, Bool, true, false, Option, Some, None, List, [], ◌∷◌, ◌++◌, Ok, Err}
 use Rattle.sva_step.specs.declared.answers.Answer.{Answer}
+use Rattle.sva_step.specs.declared.answers.Answer.TheVariants as answer
 use Rattle.sva_step.specs.declared.limits.Config.{Config}
+use Rattle.sva_step.specs.declared.refusals.Refusal.TheVariants as refusal
 use Rattle.sva_step.specs.declared.steps.Step.{Step}
 use Rattle.sva_step.specs.declared.steps.Step.TheVariants as step
 use Rattle.sva_model.specs.Message.Code.{FailureCode}
 use Rattle.sva_model.specs.State.{PasidRule, Endpoint, World}
-use Rattle.sva_model.specs.State.Subject.{StopOf, InvalidateOf, ResponseOf, ResetDone}
+use Rattle.sva_model.specs.State.Subject.{StopOf, CompletionOf, InvalidateOf, ResponseOf, ResetDone}
 use Rattle.sva_model.specs.State.PasidState.{Off, Ending}
 use Rattle.sva_model.specs.State.RequestState.{Out, Doomed}
 use Rattle.sva_model.specs.State.GroupState.{Awaiting, Stale}
@@ -56,6 +58,35 @@ AlwaysTakes =
     → Fits config
     → Delivers (world_after rule config steps) s e (InvalidateOf order)
     → Takes ((world_after rule config steps).part e) ((world_after rule config (steps ++ s ∷ [])).part e) order
+
+-- A translation completion (section 10.2.3) that is kept replaces what is cached of its binding and page, and drops nothing else; one
+-- that isn't kept drops nothing; and nothing else changes but that its request is over.
+pub record Brings (p q : Endpoint) (request : ℕ) (found : Option ℕ) (said : Answer) : Type 0 where
+  pub kept : said ≡ answer.Held → (m : ℕ) × (found ≡ Some m) × (q.held request ≡ Some m)
+  pub replaced :
+      said ≡ answer.Held
+      → (r : ℕ)
+      → r ≢ request
+      → p.request_binding r ≡ p.request_binding request
+      → p.request_page r ≡ p.request_page request
+      → q.held r ≡ None
+  pub others :
+      said ≡ answer.Held
+      → (r : ℕ)
+      → r ≢ request
+      → (p.request_binding r ≢ p.request_binding request) ⊎ (p.request_page r ≢ p.request_page request)
+      → q.held r ≡ p.held r
+  pub not_kept : said ≢ answer.Held → (r : ℕ) → q.held r ≡ p.held r
+  pub other_requests : (r : ℕ) → r ≢ request → q.request r ≡ p.request r
+  pub alone : record q { held = p.held; request = p.request; at_tag = p.at_tag; message = p.message } ≡ p
+
+abbrev pub AlwaysBrings : Type 0
+AlwaysBrings =
+    (rule : PasidRule) (config : Config) (steps : List Step) (s : Step) (e request : ℕ) (found : Option ℕ) (said : Answer)
+    → Fits config
+    → Delivers (world_after rule config steps) s e (CompletionOf request found)
+    → reply (world_after rule config steps) s ≡ Ok said
+    → Brings ((world_after rule config steps).part e) ((world_after rule config (steps ++ s ∷ [])).part e) request found said
 
 -- A Stop that arrives tells one PASID to stop, and changes nothing else.
 pub record Stops (p q : Endpoint) (binding : ℕ) : Type 0 where
@@ -150,3 +181,22 @@ pub record DrainsOnce (p : Endpoint) : Type 0 where
 
 abbrev pub AlwaysDrainsOnce : Type 0
 AlwaysDrainsOnce = (rule : PasidRule) (config : Config) (steps : List Step) (e : ℕ) → Fits config → DrainsOnce ((world_after rule config steps).part e)
+
+-- What an endpoint does itself, and what is delivered, isn't refused because the unit is in reset.
+abbrev pub is_of_endpoint : Step → Bool
+is_of_endpoint (step.Ask e pasid page) = true
+is_of_endpoint (step.BeginUse e pasid page write) = true
+is_of_endpoint (step.EndUse e used) = true
+is_of_endpoint (step.Evict e pasid page) = true
+is_of_endpoint (step.Fault e pasid page read write group last) = true
+is_of_endpoint (step.Finish e vector count) = true
+is_of_endpoint (step.Quit e pasid) = true
+is_of_endpoint (step.Deliver number) = true
+is_of_endpoint _ = false
+
+abbrev pub AlwaysGoesOnInReset : Type 0
+AlwaysGoesOnInReset =
+    (rule : PasidRule) (config : Config) (steps : List Step) (s : Step)
+    → Fits config
+    → is_of_endpoint s ≡ true
+    → reply (world_after rule config steps) s ≢ Err refusal.Resetting

@@ -7,12 +7,13 @@ ghost use Rattle.sva_laws.specs.Laws.{AlwaysWithheldExactly, FreeByTheLastAnswer
 ghost use Rattle.sva_laws.specs.Laws.{AlwaysFound, AlwaysCarried, AlwaysUnderWay, NeverOccurring, AlwaysLimited, AlwaysKeepsLimits};
 ghost use Rattle.sva_laws.specs.Laws.{AlwaysFindsMappings};
 ghost use Rattle.sva_laws.specs.Answers.{AlwaysFinishes, AlwaysUses, AlwaysLooks, AlwaysFrees, AlwaysSucceeds};
+ghost use Rattle.sva_laws.specs.Asked.{AlwaysMapsWhatIsAsked};
 ghost use Rattle.sva_laws.specs.Steps.{AlwaysChangesOnePart, AlwaysDropsApart, AlwaysAnswersBy, AlwaysKeepsLatest, AlwaysKeepsBooks};
 ghost use Rattle.sva_laws.specs.Runs.{AlwaysLegalInFront, AlwaysLegalByAnswer, SameForOneEndpoint};
 ghost use Rattle.sva_laws.specs.Waits.{AlwaysHasFront, AlwaysFitsDebts, AlwaysAwaitsTargets, AlwaysAnswersByUnit};
 ghost use Rattle.sva_laws.specs.Fronts.{AlwaysFrontOf, AlwaysKeepsTargets};
 ghost use Rattle.sva_laws.specs.Untouched.{AlwaysEvicts, AlwaysTakes, AlwaysStops, AlwaysQuits, AlwaysAsks, AlwaysDisables, AlwaysCutsOff};
-ghost use Rattle.sva_laws.specs.Untouched.{AlwaysDrainsOnce};
+ghost use Rattle.sva_laws.specs.Untouched.{AlwaysDrainsOnce, AlwaysBrings, AlwaysGoesOnInReset};
 ghost use Rattle.sva_laws.specs.UnitSteps.{AlwaysCountsResetDones, AlwaysChangesOrders, AlwaysVoidByReset, AlwaysNotesMarkers, AlwaysGivesCookies};
 
 /// The headline. After every list of steps, however late messages come in a permitted order: each translation that an
@@ -100,13 +101,15 @@ pub fn journals_and_rules()
 
 /// Answers: a finish of so many completions leaves each order that it names owed that many, and sends that many; a use
 /// answers the frame of the translation that is cached; a look answers the frame's place; a completion that is counted
-/// answers how many orders the step makes done; and a worker's success answers how many pages it maps.
+/// answers how many orders the step makes done; and a worker's success answers how many pages it maps, which are those that its
+/// job's page requests ask for and that weren't mapped.
 pub fn what_answers_tell()
     ensures finishes { AlwaysFinishes }
     ensures uses { AlwaysUses }
     ensures looks { AlwaysLooks }
     ensures frees { AlwaysFrees }
     ensures succeeds { AlwaysSucceeds }
+    ensures asked { AlwaysMapsWhatIsAsked }
 {}
 
 /// What one step changes: one endpoint with its unit at most, unless it takes pages out of a space; and the drop of a space
@@ -121,16 +124,19 @@ pub fn what_steps_change()
 {}
 
 /// What steps at an endpoint leave as it was: an evict takes one translation out of the cache, an invalidation that is taken drops
-/// what it covers and dooms the requests that it covers, a Stop, a quit and a translation request touch no translation, and each
-/// changes nothing else of the endpoint and its unit. A Response Failure alone disables page requests; a reset-done leaves a Live
-/// binding Lost, and Quiet one that was told to stop; and of the two waits of a binding that ends the first alone drains.
+/// what it covers and dooms the requests that it covers, a translation that is kept replaces the older ones of its page, a Stop, a
+/// quit and a translation request touch no translation, and each changes nothing else of the endpoint and its unit. A Response
+/// Failure alone disables page requests; a reset-done leaves a Live binding Lost, and Quiet one that was told to stop; and of the
+/// two waits of a binding that ends the first alone drains. What an endpoint does itself isn't refused because its unit is in reset.
 pub fn what_steps_leave()
     ensures evicts { AlwaysEvicts }
     ensures takes { AlwaysTakes }
+    ensures brings { AlwaysBrings }
     ensures stops { AlwaysStops }
     ensures quits { AlwaysQuits }
     ensures asks { AlwaysAsks }
     ensures disables { AlwaysDisables }
     ensures cuts_off { AlwaysCutsOff }
     ensures drains { AlwaysDrainsOnce }
+    ensures goes_on { AlwaysGoesOnInReset }
 {}

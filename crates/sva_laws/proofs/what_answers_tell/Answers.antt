@@ -1,5 +1,6 @@
 use Rattle.sva_laws.proofs.Said.{always_finishes, always_uses, always_looks, always_frees}
 use Rattle.sva_laws.proofs.Successes.{always_succeeds}
+use Rattle.sva_laws.proofs.Asked.{always_maps_asked}
 use Rattle.sva_laws.proofs.what_answers_tell.Goals as goal
 
 pub returns-clause-finishes : goal.returns-clause-finishes
@@ -16,3 +17,7 @@ returns-clause-frees c = λ rule config steps s e names fits opened delivers. al
 
 pub returns-clause-succeeds : goal.returns-clause-succeeds
 returns-clause-succeeds c = λ rule config steps worker verdict count fits accepted. always_succeeds rule config steps worker verdict count accepted
+
+pub returns-clause-asked : goal.returns-clause-asked
+returns-clause-asked c = λ rule config steps worker job verdict count fits accepted hand.
+    always_maps_asked rule config steps worker job verdict count accepted hand

@@ -1,5 +1,5 @@
 use Rattle.sva_laws.proofs.Untouched.{always_evicts, always_takes, always_stops, always_quits, always_asks, always_disables, always_cuts_off}
-use Rattle.sva_laws.proofs.Untouched.{always_drains_once}
+use Rattle.sva_laws.proofs.Untouched.{always_brings, always_drains_once, always_goes_on}
 use Rattle.sva_laws.proofs.what_steps_leave.Goals as goal
 
 pub returns-clause-evicts : goal.returns-clause-evicts
@@ -25,3 +25,10 @@ returns-clause-cuts_off c = λ rule config steps s e fits delivers. always_cuts_
 
 pub returns-clause-drains : goal.returns-clause-drains
 returns-clause-drains c = λ rule config steps e fits. always_drains_once rule config steps e
+
+pub returns-clause-brings : goal.returns-clause-brings
+returns-clause-brings c = λ rule config steps s e request found said fits delivers accepted.
+    always_brings rule config steps s e request found said delivers accepted
+
+pub returns-clause-goes_on : goal.returns-clause-goes_on
+returns-clause-goes_on c = λ rule config steps s fits own. always_goes_on rule config steps s own

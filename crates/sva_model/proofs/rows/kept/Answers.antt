@@ -17,7 +17,7 @@ returns-clause-two_targets c = refl
 
 pub returns-clause-drained : goal.returns-clause-drained
 unfolding lowest any_below all_below count_below select tabulate pages_below
-returns-clause-drained c = (refl, refl)
+returns-clause-drained c = (refl, refl, refl, refl)
 
 pub returns-clause-ranges_queued : goal.returns-clause-ranges_queued
 unfolding lowest any_below all_below count_below select tabulate pages_below

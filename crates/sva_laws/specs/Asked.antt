@@ -1,0 +1,43 @@
+-- Which pages a worker's success maps. (This project's own; the page requests of a group are those of PCI Express Base 5.0, section
+-- 10.4.1, and its code of success that of section 10.4.2.)
+use Rattle.std.specs.Prelude.{◌≡◌, ◌↔◌, ℕ, ◌<◌, ◌≤◌, Bool, true, Some, List, [], ◌∷◌, ◌++◌, Ok}
+use Rattle.sva_step.specs.declared.answers.Answer.TheVariants as answer
+use Rattle.sva_step.specs.declared.limits.Config.{Config}
+use Rattle.sva_step.specs.declared.steps.Step.{Step}
+use Rattle.sva_step.specs.declared.steps.Step.TheVariants as step
+use Rattle.sva_step.specs.declared.steps.Verdict.{Verdict}
+use Rattle.sva_model.specs.State.{PasidRule, World}
+use Rattle.sva_model.specs.Labels.{is_mapped}
+use Rattle.sva_model.specs.Replies.{job_part, job_space}
+use Rattle.sva_model.specs.Steps.{reply, world_after}
+use Rattle.sva_model.specs.Claims.{Fits}
+
+-- a page request that is filed of the job's group asks for the page
+pub record IsAskedFor (w : World) (job page : ℕ) : Type 0 where
+  pub filing : ℕ
+  pub filed : filing < (job_part w job).filings
+  pub of_group : (job_part w job).group_of ((job_part w job).filing filing) ≡ (w.job job).group
+  pub of_page : (job_part w job).asked_page ((job_part w job).filing filing) ≡ page
+
+-- one asks to write it
+pub record IsAskedToWrite (w : World) (job page : ℕ) : Type 0 where
+  pub filing : ℕ
+  pub filed : filing < (job_part w job).filings
+  pub of_group : (job_part w job).group_of ((job_part w job).filing filing) ≡ (w.job job).group
+  pub of_page : (job_part w job).asked_page ((job_part w job).filing filing) ≡ page
+  pub writes : (job_part w job).asks_write ((job_part w job).filing filing) ≡ true
+
+-- A success maps pages that are asked for, and no other; each page that is asked for is mapped after it; and a page that it maps
+-- may be written exactly where some request asks to write it.
+pub record MapsWhatIsAsked (w v : World) (job : ℕ) : Type 0 where
+  pub asked : (m : ℕ) → w.mappings.made ≤ m → m < v.mappings.made → IsAskedFor w job (v.mappings.page m)
+  pub all : (page : ℕ) → IsAskedFor w job page → is_mapped v (job_space w job) page ≡ true
+  pub writable : (m : ℕ) → w.mappings.made ≤ m → m < v.mappings.made → (v.mappings.write m ≡ true) ↔ IsAskedToWrite w job (v.mappings.page m)
+
+abbrev pub AlwaysMapsWhatIsAsked : Type 0
+AlwaysMapsWhatIsAsked =
+    (rule : PasidRule) (config : Config) (steps : List Step) (worker job : ℕ) (verdict : Verdict) (count : ℕ)
+    → Fits config
+    → reply (world_after rule config steps) (step.Reply worker verdict) ≡ Ok (answer.Success count)
+    → (world_after rule config steps).hand worker ≡ Some job
+    → MapsWhatIsAsked (world_after rule config steps) (world_after rule config (steps ++ step.Reply worker verdict ∷ [])) job

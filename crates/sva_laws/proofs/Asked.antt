@@ -1,28 +1,32 @@
--- A success maps the pages that are asked for, and each of them is mapped after it.
+-- A success maps the pages that are asked for, and each of them is mapped after it; and what a reply is answered.
 use Rattle.std.proofs.Common.{◌≡◌, ◌≢◌, ◌⊎◌, inl, inr, refl, ap, sym, subst, ◌∙◌, ℕ, zero, suc, ◌<◌, ◌≤◌, Bool, true, false, arith}
 use Rattle.std.specs.Prelude.{Option, Some, None, ◌&&◌, ◌||◌, ◌==◌, nat_lt, List, [], ◌∷◌, ◌++◌, map, length, if◌then◌else◌, Ok}
 use Rattle.std.specs.List.{list_any}
 use Rattle.std.proofs.lemmas.Bool.Decides.{nat_tests}
+use Rattle.sva_step.specs.declared.answers.Answer.{Answer}
 use Rattle.sva_step.specs.declared.answers.Answer.TheVariants as answer
 use Rattle.sva_step.specs.declared.limits.Config.{Config}
 use Rattle.sva_step.specs.declared.steps.Step.{Step}
 use Rattle.sva_step.specs.declared.steps.Step.TheVariants as step
 use Rattle.sva_step.specs.declared.steps.Verdict.{Verdict}
+use Rattle.sva_step.specs.declared.steps.Verdict.TheVariants as verdict_is
 use Rattle.sva_model.specs.Words.{put, select, is_some, the}
-use Rattle.sva_model.specs.States.{is_free}
+use Rattle.sva_model.specs.States.{is_open, is_free, is_before_invalidating}
 use Rattle.sva_model.specs.Message.{Code}
 use Rattle.sva_model.specs.Message.Code.{SuccessCode, InvalidCode, FailureCode}
-use Rattle.sva_model.specs.State.{PasidRule, World}
+use Rattle.sva_model.specs.State.{PasidRule, Stage, Endpoint, World}
+use Rattle.sva_model.specs.State.Stage.{Live, Stopping, Draining}
+use Rattle.sva_model.specs.State.Phase.{Open}
 use Rattle.sva_model.specs.Acts.{Act, LocalAct, act}
 use Rattle.sva_model.specs.Acts.Act.{Map, LetGo, AtEndpoint}
 use Rattle.sva_model.specs.Labels.{asks, is_mapped, free_frames}
 use Rattle.sva_model.specs.Refusals.{refusals}
 use Rattle.sva_model.specs.Replies.{maps_to, reply_maps, replies_success, newly_mapped, free_list, is_write_asked, job_space, job_part, response_to, unseen}
-use Rattle.sva_model.specs.Replies.{is_success}
+use Rattle.sva_model.specs.Replies.{is_success, response, code_of_verdict}
 use Rattle.sva_model.specs.Outcomes.{outcome, reply_outcome}
 use Rattle.sva_model.specs.Steps.{reply, after_acts, world_after}
-use Rattle.sva_laws.specs.Asked.{IsAskedFor, IsAskedToWrite, MapsWhatIsAsked}
-use Rattle.sva_laws.proofs.Words.{put-same, put-other, ℕ_cases, not_true}
+use Rattle.sva_laws.specs.Asked.{IsAskedFor, IsAskedToWrite, MapsWhatIsAsked, RepliesBy, stage_of}
+use Rattle.sva_laws.proofs.Words.{put-same, put-other, ℕ_cases}
 use Rattle.sva_laws.proofs.Counting.{length_select}
 use Rattle.sva_laws.proofs.Passed.{is_at_most}
 use Rattle.sva_laws.proofs.Lookback.{after_one}
@@ -295,14 +299,14 @@ success_maps w x j v None count r a room = absurd (cc)
 success_maps w x j v (Some InvalidCode) count r a room = absurd (cc)
 success_maps w x j v (Some FailureCode) count r a room = absurd (cc)
 success_maps w x j v (Some SuccessCode) count r a room =
-    subst (λ b. MapsEach w (after_acts w ((if b then pages else []) ++ LetGo x ∷ AtEndpoint (w.job j).endpoint response ∷ [])) (job_space w j)
+    subst (λ b. MapsEach w (after_acts w ((if b then pages else []) ++ LetGo x ∷ AtEndpoint (w.job j).endpoint sent ∷ [])) (job_space w j)
     (is_write_asked w j) (newly_mapped w j)) (sym succeeds)
-    (all_mapped (job_space w j) (is_write_asked w j) (newly_mapped w j) (free_list w) x (w.job j).endpoint response w
+    (all_mapped (job_space w j) (is_write_asked w j) (newly_mapped w j) (free_list w) x (w.job j).endpoint sent w
     (subst (λ n. length (newly_mapped w j) ≤ n) (sym (length_select w.config.frames (is_free w)))
     (is_at_most (free_frames w) (length (newly_mapped w j)) (second (replies_success w j v) _ room succeeds))))
   where
-    response : LocalAct
-    response = LocalAct.Respond (w.job j).group SuccessCode
+    sent : LocalAct
+    sent = LocalAct.Respond (w.job j).group SuccessCode
 
     pages : List Act
     pages = maps_to (job_space w j) (is_write_asked w j) (newly_mapped w j) (free_list w)
@@ -325,3 +329,86 @@ always_maps_asked rule config steps x j v count h hand =
     subst (λ z. MapsWhatIsAsked w (world_after rule config (steps ++ s ∷ [])) z) (ap the hand)
     (subst (λ z. MapsWhatIsAsked w z i) (sym (after_one rule config steps s ∙ ap (after_acts w) accept.2))
     (maps_asked w (after_acts w (outcome w s).acts) i (success_maps w x i v (response_to w i v) count refl accept.1 accept.0.1.1.1.0)))
+
+-- What a reply is answered.
+
+live_code : (b : Bool) (s : Stage) (v : Verdict) (code : Code) → response b s v ≡ Some code → (code ≡ SuccessCode) ⊎ (code ≡ FailureCode)
+    → (b ≡ true) × (s ≡ Live) × (code_of_verdict v ≡ code)
+live_code true Live v code h e = (refl, refl, cc)
+live_code b s v code h e = absurd (grind arith)
+
+success_of : (v : Verdict) → code_of_verdict v ≡ SuccessCode → v ≡ verdict_is.Success
+success_of v h = grind arith
+
+failure_of : (v : Verdict) → code_of_verdict v ≡ FailureCode → v ≡ verdict_is.Failure
+failure_of v h = grind arith
+
+invalid_of : (v : Verdict) → code_of_verdict v ≡ InvalidCode → v ≡ verdict_is.Invalid
+invalid_of v h = grind arith
+
+invalid_code : (b : Bool) (s : Stage) (v : Verdict) → response b s v ≡ Some InvalidCode
+    → (b ≡ true) × (((s ≡ Live) × (v ≡ verdict_is.Invalid)) ⊎ (((m : Bool) × (s ≡ Stopping m)) ⊎ ((x : ℕ) × (s ≡ Draining x))))
+invalid_code true Live v h = (refl, inl (refl, invalid_of v cc))
+invalid_code true (Stopping m) v h = (refl, inr (inl (m, refl)))
+invalid_code true (Draining x) v h = (refl, inr (inr (x, refl)))
+invalid_code b s v h = absurd (grind arith)
+
+no_code : (b : Bool) (s : Stage) (v : Verdict) → response b s v ≡ None → (b ≡ false) ⊎ (is_before_invalidating s ≡ false)
+no_code false s v h = inl refl
+no_code true Live v h = absurd (cc)
+no_code true (Stopping m) v h = absurd (cc)
+no_code true (Draining x) v h = absurd (cc)
+no_code true s v h = inr refl
+
+open_is : (p : Endpoint) → is_open p.phase ≡ true → p.phase ≡ Open
+open_is p h = grind arith
+
+closed_is : (p : Endpoint) → is_open p.phase ≡ false → p.phase ≢ Open
+closed_is p h e = absurd (cc (sym (ap is_open e) ∙ h))
+
+replies_by : (w : World) (x j : ℕ) (v : Verdict) (said : Answer) (o : Option Code) → response_to w j v ≡ o
+    → (reply_outcome w x j (reply_maps w j v) o).answer ≡ said → RepliesBy w j v said
+replies_by w x j v said None r a =
+    record {
+      success = λ n h. absurd (cc (a ∙ h));
+      failure = λ h. absurd (cc (a ∙ h));
+      invalid = λ h. absurd (cc (a ∙ h));
+      dropped = λ h. elim (no_code (is_open (job_part w j).phase) (stage_of w j) v r) [ inl b ↦ inl (closed_is (job_part w j) b) | inr b ↦ inr b ];
+      one_of_four = inr (inr (inr (sym a)));
+    }
+replies_by w x j v said (Some SuccessCode) r a =
+    let y = live_code (is_open (job_part w j).phase) (stage_of w j) v SuccessCode r (inl refl) in
+    record {
+      success = λ n h. (open_is (job_part w j) y.0, y.1, success_of v y.2);
+      failure = λ h. absurd (cc (a ∙ h));
+      invalid = λ h. absurd (cc (a ∙ h));
+      dropped = λ h. absurd (cc (a ∙ h));
+      one_of_four = inl (length (reply_maps w j v), sym a);
+    }
+replies_by w x j v said (Some FailureCode) r a =
+    let y = live_code (is_open (job_part w j).phase) (stage_of w j) v FailureCode r (inr refl) in
+    record {
+      success = λ n h. absurd (cc (a ∙ h));
+      failure = λ h. (open_is (job_part w j) y.0, y.1, failure_of v y.2);
+      invalid = λ h. absurd (cc (a ∙ h));
+      dropped = λ h. absurd (cc (a ∙ h));
+      one_of_four = inr (inl (sym a));
+    }
+replies_by w x j v said (Some InvalidCode) r a =
+    let y = invalid_code (is_open (job_part w j).phase) (stage_of w j) v r in
+    record {
+      success = λ n h. absurd (cc (a ∙ h));
+      failure = λ h. absurd (cc (a ∙ h));
+      invalid = λ h. (open_is (job_part w j) y.0, y.1);
+      dropped = λ h. absurd (cc (a ∙ h));
+      one_of_four = inr (inr (inl (sym a)));
+    }
+
+pub always_replies_by : (rule : PasidRule) (config : Config) (steps : List Step) (x j : ℕ) (v : Verdict) (said : Answer)
+    → reply (world_after rule config steps) (step.Reply x v) ≡ Ok said → (world_after rule config steps).hand x ≡ Some j
+    → RepliesBy (world_after rule config steps) j v said
+always_replies_by rule config steps x j v said h hand =
+    let w = world_after rule config steps in
+    let i = the (w.hand x) in
+    let accept = accepted (refusals w (step.Reply x v)) (outcome w (step.Reply x v)) said h in
+    subst (λ z. RepliesBy w z v said) (ap the hand) (replies_by w x i v said (response_to w i v) refl accept.1)

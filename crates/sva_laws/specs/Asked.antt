@@ -1,14 +1,19 @@
--- Which pages a worker's success maps. (This project's own; the page requests of a group are those of PCI Express Base 5.0, section
+-- Which pages a worker's success maps, and what its reply is answered. (This project's own; the page requests of a group are those of PCI Express Base 5.0, section
 -- 10.4.1, and its code of success that of section 10.4.2.)
-use Rattle.std.specs.Prelude.{◌≡◌, ◌↔◌, ℕ, ◌<◌, ◌≤◌, Bool, true, Some, List, [], ◌∷◌, ◌++◌, Ok}
+use Rattle.std.specs.Prelude.{◌≡◌, ◌≢◌, ◌⊎◌, ◌↔◌, ℕ, ◌<◌, ◌≤◌, Bool, true, false, Some, List, [], ◌∷◌, ◌++◌, Ok}
+use Rattle.sva_step.specs.declared.answers.Answer.{Answer}
 use Rattle.sva_step.specs.declared.answers.Answer.TheVariants as answer
 use Rattle.sva_step.specs.declared.limits.Config.{Config}
 use Rattle.sva_step.specs.declared.steps.Step.{Step}
 use Rattle.sva_step.specs.declared.steps.Step.TheVariants as step
 use Rattle.sva_step.specs.declared.steps.Verdict.{Verdict}
-use Rattle.sva_model.specs.State.{PasidRule, World}
+use Rattle.sva_step.specs.declared.steps.Verdict.TheVariants as verdict_is
+use Rattle.sva_model.specs.State.{PasidRule, Stage, World}
+use Rattle.sva_model.specs.State.Stage.{Live, Stopping, Draining}
+use Rattle.sva_model.specs.State.Phase.{Open}
+use Rattle.sva_model.specs.States.{is_before_invalidating}
 use Rattle.sva_model.specs.Labels.{is_mapped}
-use Rattle.sva_model.specs.Replies.{job_part, job_space}
+use Rattle.sva_model.specs.Replies.{job_part, job_binding, job_space}
 use Rattle.sva_model.specs.Steps.{reply, world_after}
 use Rattle.sva_model.specs.Claims.{Fits}
 
@@ -41,3 +46,28 @@ AlwaysMapsWhatIsAsked =
     → reply (world_after rule config steps) (step.Reply worker verdict) ≡ Ok (answer.Success count)
     → (world_after rule config steps).hand worker ≡ Some job
     → MapsWhatIsAsked (world_after rule config steps) (world_after rule config (steps ++ step.Reply worker verdict ∷ [])) job
+
+-- What a worker's reply is answered, and so which code is sent (section 10.4.2): at an open unit the verdict of the worker where the
+-- binding is Live, and Invalid Request where it stops or drains; else nothing is sent and the job is dropped.
+abbrev pub stage_of : World → (job : ℕ) → Stage
+stage_of w job = (job_part w job).stage (job_binding w job)
+
+pub record RepliesBy (w : World) (job : ℕ) (verdict : Verdict) (said : Answer) : Type 0 where
+  pub success : (count : ℕ) → said ≡ answer.Success count → ((job_part w job).phase ≡ Open) × (stage_of w job ≡ Live) × (verdict ≡ verdict_is.Success)
+  pub failure : said ≡ answer.Failure → ((job_part w job).phase ≡ Open) × (stage_of w job ≡ Live) × (verdict ≡ verdict_is.Failure)
+  pub invalid :
+      said ≡ answer.Invalid
+      → ((job_part w job).phase ≡ Open)
+      × (((stage_of w job ≡ Live) × (verdict ≡ verdict_is.Invalid))
+      ⊎ (((marked : Bool) × (stage_of w job ≡ Stopping marked)) ⊎ ((wait : ℕ) × (stage_of w job ≡ Draining wait))))
+  pub dropped : said ≡ answer.Dropped → ((job_part w job).phase ≢ Open) ⊎ (is_before_invalidating (stage_of w job) ≡ false)
+  pub one_of_four :
+      ((count : ℕ) × (said ≡ answer.Success count)) ⊎ ((said ≡ answer.Failure) ⊎ ((said ≡ answer.Invalid) ⊎ (said ≡ answer.Dropped)))
+
+abbrev pub AlwaysRepliesBy : Type 0
+AlwaysRepliesBy =
+    (rule : PasidRule) (config : Config) (steps : List Step) (worker job : ℕ) (verdict : Verdict) (said : Answer)
+    → Fits config
+    → reply (world_after rule config steps) (step.Reply worker verdict) ≡ Ok said
+    → (world_after rule config steps).hand worker ≡ Some job
+    → RepliesBy (world_after rule config steps) job verdict said

@@ -7,7 +7,7 @@ ghost use Rattle.sva_laws.specs.Laws.{AlwaysWithheldExactly, FreeByTheLastAnswer
 ghost use Rattle.sva_laws.specs.Laws.{AlwaysFound, AlwaysCarried, AlwaysUnderWay, NeverOccurring, AlwaysLimited, AlwaysKeepsLimits};
 ghost use Rattle.sva_laws.specs.Laws.{AlwaysFindsMappings};
 ghost use Rattle.sva_laws.specs.Answers.{AlwaysFinishes, AlwaysUses, AlwaysLooks, AlwaysFrees, AlwaysSucceeds};
-ghost use Rattle.sva_laws.specs.Asked.{AlwaysMapsWhatIsAsked};
+ghost use Rattle.sva_laws.specs.Asked.{AlwaysMapsWhatIsAsked, AlwaysRepliesBy};
 ghost use Rattle.sva_laws.specs.Steps.{AlwaysChangesOnePart, AlwaysDropsApart, AlwaysAnswersBy, AlwaysKeepsLatest, AlwaysKeepsBooks};
 ghost use Rattle.sva_laws.specs.Runs.{AlwaysLegalInFront, AlwaysLegalByAnswer, SameForOneEndpoint};
 ghost use Rattle.sva_laws.specs.Waits.{AlwaysHasFront, AlwaysFitsDebts, AlwaysAwaitsTargets, AlwaysAnswersByUnit};
@@ -102,7 +102,7 @@ pub fn journals_and_rules()
 /// Answers: a finish of so many completions leaves each order that it names owed that many, and sends that many; a use
 /// answers the frame of the translation that is cached; a look answers the frame's place; a completion that is counted
 /// answers how many orders the step makes done; and a worker's success answers how many pages it maps, which are those that its
-/// job's page requests ask for and that weren't mapped.
+/// job's page requests ask for and that weren't mapped. A reply is answered by the verdict where the job's binding is Live.
 pub fn what_answers_tell()
     ensures finishes { AlwaysFinishes }
     ensures uses { AlwaysUses }
@@ -110,6 +110,7 @@ pub fn what_answers_tell()
     ensures frees { AlwaysFrees }
     ensures succeeds { AlwaysSucceeds }
     ensures asked { AlwaysMapsWhatIsAsked }
+    ensures replies { AlwaysRepliesBy }
 {}
 
 /// What one step changes: one endpoint with its unit at most, unless it takes pages out of a space; and the drop of a space

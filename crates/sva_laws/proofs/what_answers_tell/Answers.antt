@@ -1,6 +1,6 @@
 use Rattle.sva_laws.proofs.Said.{always_finishes, always_uses, always_looks, always_frees}
 use Rattle.sva_laws.proofs.Successes.{always_succeeds}
-use Rattle.sva_laws.proofs.Asked.{always_maps_asked}
+use Rattle.sva_laws.proofs.Asked.{always_maps_asked, always_replies_by}
 use Rattle.sva_laws.proofs.what_answers_tell.Goals as goal
 
 pub returns-clause-finishes : goal.returns-clause-finishes
@@ -21,3 +21,7 @@ returns-clause-succeeds c = λ rule config steps worker verdict count fits accep
 pub returns-clause-asked : goal.returns-clause-asked
 returns-clause-asked c = λ rule config steps worker job verdict count fits accepted hand.
     always_maps_asked rule config steps worker job verdict count accepted hand
+
+pub returns-clause-replies : goal.returns-clause-replies
+returns-clause-replies c = λ rule config steps worker job verdict said fits accepted hand.
+    always_replies_by rule config steps worker job verdict said accepted hand

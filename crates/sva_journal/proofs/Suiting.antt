@@ -23,7 +23,7 @@ use Rattle.sva_model.specs.Refusals.{Cause, refusals}
 use Rattle.sva_model.specs.Outcomes.{Outcome, outcome, unbind_outcome, advance_outcome, unmap_answer, unmap_range_answer, frames_at, mapped_in}
 use Rattle.sva_model.specs.Outcomes.{wait_outcome, send_outcome, head_outcome, may_pass, pump_outcome, file_outcome, serve_outcome}
 use Rattle.sva_model.specs.Outcomes.{code_answer, reply_outcome, fault_outcome, keep_outcome, is_full, completion_outcome, response_answer}
-use Rattle.sva_model.specs.Outcomes.{request_outcome, count_outcome, page_request_outcome, marker_outcome, about_outcome, deliver_outcome}
+use Rattle.sva_model.specs.Outcomes.{request_outcome, count_outcome, page_request_outcome, marker_outcome, subject_outcome, deliver_outcome}
 use Rattle.sva_model.specs.Outcomes.{look_answer, bearer_answer}
 use Rattle.sva_model.specs.Steps.{checked, reply}
 use Rattle.sva_journal.specs.Suiting.{IsUnbound, IsAdvanced, IsOver, IsStill, SuitsStep, Suits}
@@ -133,22 +133,22 @@ marker_still : (e c m : ℕ) (b : Bool) → IsStill (marker_outcome e c m b).ans
 marker_still e c m true = tt
 marker_still e c m false = tt
 
-about_still : (w : World) (p : Endpoint) (e c : ℕ) (x : Subject) → IsStill (about_outcome w p e c x).answer
-about_still w p e c (StartOf b) = tt
-about_still w p e c (StopOf b) = tt
-about_still w p e c FunctionReset = tt
-about_still w p e c (CompletionOf r found) = completion_still p e c r found (p.request r)
-about_still w p e c (InvalidateOf k) = tt
-about_still w p e c (ResponseOf g code) = response_still (p.group g)
-about_still w p e c (RequestOf r) = request_still w p e c r (is_open p.phase)
-about_still w p e c (InvalidatedOf names) = count_still p e c names (is_open p.phase)
-about_still w p e c (PageRequestOf r) = page_request_still e c r (is_open p.phase)
-about_still w p e c (MarkerOf b) = marker_still e c b (is_open p.phase)
-about_still w p e c ResetDone = tt
+subject_still : (w : World) (p : Endpoint) (e c : ℕ) (x : Subject) → IsStill (subject_outcome w p e c x).answer
+subject_still w p e c (StartOf b) = tt
+subject_still w p e c (StopOf b) = tt
+subject_still w p e c FunctionReset = tt
+subject_still w p e c (CompletionOf r found) = completion_still p e c r found (p.request r)
+subject_still w p e c (InvalidateOf k) = tt
+subject_still w p e c (ResponseOf g code) = response_still (p.group g)
+subject_still w p e c (RequestOf r) = request_still w p e c r (is_open p.phase)
+subject_still w p e c (InvalidatedOf names) = count_still p e c names (is_open p.phase)
+subject_still w p e c (PageRequestOf r) = page_request_still e c r (is_open p.phase)
+subject_still w p e c (MarkerOf b) = marker_still e c b (is_open p.phase)
+subject_still w p e c ResetDone = tt
 
 deliver_still : (w : World) (p : Endpoint) (e c : ℕ) (o : Option Subject) → IsStill (deliver_outcome w p e c o).answer
 deliver_still w p e c None = tt
-deliver_still w p e c (Some subject) = about_still w p e c subject
+deliver_still w p e c (Some subject) = subject_still w p e c subject
 
 look_still : (x : Place) → IsStill (look_answer x)
 look_still Free = tt

@@ -7,7 +7,7 @@ use Rattle.sva_step.specs.declared.steps.Step.{Step}
 use Rattle.sva_model.specs.Words.{put}
 use Rattle.sva_model.specs.State.{Endpoint, JobName, World}
 use Rattle.sva_model.specs.State.HostGroupState.{Job}
-use Rattle.sva_model.specs.Acts.{Act, LocalAct, own, act, submitted_if, submits, bound, cookie_of}
+use Rattle.sva_model.specs.Acts.{Act, LocalAct, act_alone, act, submitted_if, submits, bound, cookie_of}
 use Rattle.sva_model.specs.Acts.Act.{NewSpace, DropSpace, Map, Unmap, NewBinding, NewJob, Hold, LetGo, AtEndpoint}
 use Rattle.sva_model.specs.Refusals.{Cause, refusals}
 use Rattle.sva_model.specs.Outcomes.{Outcome, outcome}
@@ -64,7 +64,7 @@ AreReady w (a ∷ acts) = IsReady w a × AreReady (act w a) acts
 
 -- It stays so through each act.
 
-past_kept : (p : Endpoint) (n : ℕ) (o : LocalAct) (g : ℕ) → FilesOpen p o → is_past (p.host_group g) ≡ true → is_past ((own p n o).host_group g) ≡ true
+past_kept : (p : Endpoint) (n : ℕ) (o : LocalAct) (g : ℕ) → FilesOpen p o → is_past (p.host_group g) ≡ true → is_past ((act_alone p n o).host_group g) ≡ true
 past_kept p n o g f h = grind (arith, nat_tests)
 
 submitted_past :
@@ -98,7 +98,7 @@ act_past w (LetGo x) r h = h
 act_past w (AtEndpoint e o) r h =
     λ j l.
     put_keeps (λ x p. is_past ((w.part x).host_group (w.job j).group) ≡ true → is_past (p.host_group (w.job j).group) ≡ true) w.part e
-    (own (w.part e) w.messages o)
+    (act_alone (w.part e) w.messages o)
     (past_kept (w.part e) w.messages o (w.job j).group (files_open w e o r.0))
     (λ x k. k)
     (w.job j).endpoint (h j l)

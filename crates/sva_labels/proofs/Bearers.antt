@@ -24,7 +24,7 @@ bearer_seen w e b i u =
     ∙ ap (λ x. Some (binding_wire w.config.first x (w.part x) b)) endpoint_of
   where
     endpoint_of : w.endpoint_of b ≡ e
-    endpoint_of = i.homed e b (unreleased_bound (w.part e) b u)
+    endpoint_of = i.one_endpoint e b (unreleased_bound (w.part e) b u)
 
     itself : (x y : ℕ) → (x == x && y == y) ≡ true
     itself x y = grind (arith, nat_tests)

@@ -34,7 +34,7 @@ bound_is w e s i =
 
     no_other : (b : ℕ) → w.endpoint_of b ≢ e → (z : Bool) → is_unreleased ((w.part e).stage b) ≡ z → false ≡ (z && (w.part e).space b == s)
     no_other b ne false h = refl
-    no_other b ne true h = absurd (ne (i.homed e b (unreleased_bound (w.part e) b h)))
+    no_other b ne true h = absurd (ne (i.one_endpoint e b (unreleased_bound (w.part e) b h)))
 
     nothing : (x y : Bool) → (x && (false && y)) ≡ false
     nothing true y = refl
@@ -55,5 +55,6 @@ bound_is w e s i =
     go None h = refl
     go (Some b) h =
         let found = find_passes w.bindings (λ d. is_unreleased ((w.part e).stage d) && (w.part e).space d == s) b h in
-        let endpoint_of = i.homed e b (unreleased_bound (w.part e) b (and_left (is_unreleased ((w.part e).stage b)) ((w.part e).space b == s) found.1)) in
+        let endpoint_of =
+        i.one_endpoint e b (unreleased_bound (w.part e) b (and_left (is_unreleased ((w.part e).stage b)) ((w.part e).space b == s) found.1)) in
         ap (λ d. Some (binding_wire w.config.first d (w.part d) b)) endpoint_of

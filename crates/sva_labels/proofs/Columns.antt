@@ -7,7 +7,7 @@ use Rattle.sva_model.specs.State.{Stage, Endpoint, World}
 use Rattle.sva_model.specs.State.Stage.{Unbound, Live, Stopping, Draining, Invalidating, Quiet, Lost, Released}
 use Rattle.sva_model.specs.State.Order.{PasidOf, Wait}
 use Rattle.sva_model.specs.States.{is_unreleased}
-use Rattle.sva_model.specs.Acts.{LocalAct, own, act, cut_off as cut_stage, marked}
+use Rattle.sva_model.specs.Acts.{LocalAct, act_alone, act, cut_off as cut_stage, marked}
 use Rattle.sva_model.specs.Acts.Act.{AtEndpoint}
 use Rattle.sva_model.specs.Wire.{BindingWire, StageWire, number, cookie_number, stage_wire, binding_wire, wire}
 use Rattle.sva_model.specs.Wire.StageWire.{LiveWire, StoppingWire, DrainingWire, InvalidatingWire, QuietWire}
@@ -55,10 +55,10 @@ binding_kept first e p q b k =
           stage_kept first p q (p.stage b) k.order i;
     })
 
-pub keeps_order : (p : Endpoint) (n : ℕ) (o : LocalAct) (b : ℕ) → Orders p → KeepsOrder p (own p n o) (p.stage b)
+pub keeps_order : (p : Endpoint) (n : ℕ) (o : LocalAct) (b : ℕ) → Orders p → KeepsOrder p (act_alone p n o) (p.stage b)
 keeps_order p n o b od = go (p.stage b) refl
   where
-    go : (s : Stage) → p.stage b ≡ s → KeepsOrder p (own p n o) s
+    go : (s : Stage) → p.stage b ≡ s → KeepsOrder p (act_alone p n o) s
     go Unbound h = tt
     go Live h = tt
     go (Stopping m) h = tt
@@ -80,13 +80,13 @@ keeps_bindings (LocalAct.Mark c b) = false
 keeps_bindings (LocalAct.Reopen c) = false
 keeps_bindings _ = true
 
-space_kept : (p : Endpoint) (n : ℕ) (o : LocalAct) (b : ℕ) → keeps_bindings o ≡ true → (own p n o).space b ≡ p.space b
+space_kept : (p : Endpoint) (n : ℕ) (o : LocalAct) (b : ℕ) → keeps_bindings o ≡ true → (act_alone p n o).space b ≡ p.space b
 space_kept p n o b h = grind (arith)
 
-pasid_kept : (p : Endpoint) (n : ℕ) (o : LocalAct) (b : ℕ) → keeps_bindings o ≡ true → (own p n o).pasid b ≡ p.pasid b
+pasid_kept : (p : Endpoint) (n : ℕ) (o : LocalAct) (b : ℕ) → keeps_bindings o ≡ true → (act_alone p n o).pasid b ≡ p.pasid b
 pasid_kept p n o b h = grind (arith)
 
-same_stage : (p : Endpoint) (n : ℕ) (o : LocalAct) (b : ℕ) → keeps_bindings o ≡ true → (own p n o).stage b ≡ p.stage b
+same_stage : (p : Endpoint) (n : ℕ) (o : LocalAct) (b : ℕ) → keeps_bindings o ≡ true → (act_alone p n o).stage b ≡ p.stage b
 same_stage p n o b h = grind (arith)
 
 pub bindings_same : (w : World) (e : ℕ) (o : LocalAct) → Invariant w → keeps_bindings o ≡ true → (wire (act w (AtEndpoint e o))).bindings ≡ (wire w).bindings
@@ -144,7 +144,7 @@ bindings_staged w e o b st i k =
     ∙ sym (map_twice with_st _ (select w.bindings _))
   where
     endpoint_of : w.endpoint_of b ≡ e
-    endpoint_of = i.homed e b (unreleased_bound (w.part e) b k.was)
+    endpoint_of = i.one_endpoint e b (unreleased_bound (w.part e) b k.was)
 
     with_st : BindingWire → BindingWire
     with_st x = if x.binding == number w.config.first b then record x { stage = st } else x
@@ -262,7 +262,7 @@ bindings_released w e b i legal =
     o = LocalAct.Release b
 
     endpoint_of : w.endpoint_of b ≡ e
-    endpoint_of = i.homed e b (λ x. absurd (cc (sym x ∙ legal)))
+    endpoint_of = i.one_endpoint e b (λ x. absurd (cc (sym x ∙ legal)))
 
     left : (u : Bool) (d : ℕ) → d ≢ b → u ≡ (u && not (number w.config.first d == number w.config.first b))
     left u d ne = go u ∙ ap (λ t. u && not t) (sym (other_number w.config.first d b ne))
@@ -352,14 +352,14 @@ bindings_cut w e c =
 -- The acts that bring a binding to another stage.
 
 put_stage :
-    (p : Endpoint) (n : ℕ) (o : LocalAct) (b : ℕ) (s : Stage) (first : ℕ) (st : StageWire) → Orders p → (own p n o).stage ≡ put p.stage b s
-    → (own p n o).space ≡ p.space → (own p n o).pasid ≡ p.pasid → is_unreleased (p.stage b) ≡ true → is_unreleased s ≡ true
-    → stage_wire first (own p n o) s ≡ st → ComesToStage first p (own p n o) b st
+    (p : Endpoint) (n : ℕ) (o : LocalAct) (b : ℕ) (s : Stage) (first : ℕ) (st : StageWire) → Orders p → (act_alone p n o).stage ≡ put p.stage b s
+    → (act_alone p n o).space ≡ p.space → (act_alone p n o).pasid ≡ p.pasid → is_unreleased (p.stage b) ≡ true → is_unreleased s ≡ true
+    → stage_wire first (act_alone p n o) s ≡ st → ComesToStage first p (act_alone p n o) b st
 put_stage p n o b s first st od stage space pasid was now seen =
     record {
       was = was;
       now = ap is_unreleased here ∙ now;
-      stage = ap (stage_wire first (own p n o)) here ∙ seen;
+      stage = ap (stage_wire first (act_alone p n o)) here ∙ seen;
       space = ap (λ f. f b) space;
       pasid = ap (λ f. f b) pasid;
       others =
@@ -373,7 +373,7 @@ put_stage p n o b s first st od stage space pasid was now seen =
           };
     }
   where
-    here : (own p n o).stage b ≡ s
+    here : (act_alone p n o).stage b ≡ s
     here = ap (λ f. f b) stage ∙ put-same p.stage b s
 
 unreleased_is : (p : Endpoint) (b : ℕ) (s : Stage) → p.stage b ≡ s → is_unreleased s ≡ true → is_unreleased (p.stage b) ≡ true

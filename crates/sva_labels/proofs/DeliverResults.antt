@@ -22,7 +22,7 @@ use Rattle.sva_labels.proofs.Alike.{SaysAlike, result_by}
 
 -- a message that speaks of this is answered, and moves what it moves, as by names
 abbrev pub ArrivesAlike : World → (e c : ℕ) → Subject → Type 0
-ArrivesAlike w e c a = message_result (wire w) e (number w.config.first c) ((w.part e).carried c) ≡ result_by w (names.about_outcome w (w.part e) e c a)
+ArrivesAlike w e c a = message_result (wire w) e (number w.config.first c) ((w.part e).carried c) ≡ result_by w (names.subject_outcome w (w.part e) e c a)
 
 -- a delivery is alike where the message in flight is
 pub delivered_alike :
@@ -108,4 +108,4 @@ start_says w n b r h =
     is_start : (e c : ℕ) (a : Subject) → (w.part e).message c ≡ Some a → (w.part e).message c ≡ Some (StartOf b) → ArrivesAlike w e c a
     is_start e c a m k =
         let same : a ≡ StartOf b = cc in
-        start_arrives w e c b r k ∙ sym (ap (λ x. result_by w (names.about_outcome w (w.part e) e c x)) same)
+        start_arrives w e c b r k ∙ sym (ap (λ x. result_by w (names.subject_outcome w (w.part e) e c x)) same)

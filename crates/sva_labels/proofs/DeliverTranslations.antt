@@ -11,7 +11,7 @@ use Rattle.sva_model.specs.Message.Message.{CompletionMessage}
 use Rattle.sva_model.specs.State.{Endpoint, World, Stage, RequestState, Phase}
 use Rattle.sva_model.specs.State.Stage.{Unbound, Live, Stopping, Draining, Invalidating, Quiet, Lost, Released}
 use Rattle.sva_model.specs.State.RequestState.{Out, Doomed, Over}
-use Rattle.sva_model.specs.State.Phase.{Open, Ordered, Cleared}
+use Rattle.sva_model.specs.State.Phase.{Open, ResetSent, Cleared}
 use Rattle.sva_model.specs.State.Subject.{RequestOf, CompletionOf}
 use Rattle.sva_model.specs.States.{is_open, is_unreleased, is_live_stage, is_out}
 use Rattle.sva_model.specs.Acts.{is_replaced}
@@ -288,7 +288,7 @@ completion_arrives w e c r o re l m = ap (by_message w e c) (carried o m) ∙ go
 
     go : (x : Phase) → p.phase ≡ x → by_message w e c (carried_by w e r o) ≡ result_by w (names.completion_outcome p e c r o (p.request r))
     go Open h = out (λ d k. absurd (cc))
-    go (Ordered d) h = out (λ x k. absurd (cc))
+    go (ResetSent d) h = out (λ x k. absurd (cc))
     go (Cleared d) h =
         over_arrives w e c d r o i l h
         ∙ sym (ap (λ s. result_by w (names.completion_outcome p e c r o s)) (over_is (p.request r) ((i.parts e).resets.over d r h)))

@@ -8,7 +8,7 @@ use Rattle.sva_model.specs.Message.Message.{InvalidatedMessage, PageRequestMessa
 use Rattle.sva_model.specs.State.{Mappings, Stage, Endpoint, World}
 use Rattle.sva_model.specs.State.PasidState.{Off, On, Ending}
 use Rattle.sva_model.specs.States.{is_unreleased, is_off}
-use Rattle.sva_model.specs.Acts.{Act, LocalAct, act, own, bound, submits, submitted, submitted_if}
+use Rattle.sva_model.specs.Acts.{Act, LocalAct, act, act_alone, bound, submits, submitted, submitted_if}
 use Rattle.sva_model.specs.Acts.LocalAct.{Bind, Stop, Drain, Invalidate, Quieten, Release, Send, Pass, File, Reset, Hand, Respond, Discard, Ask, Begin, End}
 use Rattle.sva_model.specs.Acts.LocalAct.{Evict, Group, Request, Finish, Quit, Start_arrives, Stop_arrives, Reset_arrives, Keep, Forget, Take, Answered}
 use Rattle.sva_model.specs.Acts.LocalAct.{Complete, Count, Arrive, Miss, Mark, Ignore, Reopen}
@@ -47,7 +47,7 @@ count_leaves first e c d ResetDoneMessage = refl
 
 pub device_square :
     (first : ℕ) (ms : Mappings) (x g n e : ℕ) (p : Endpoint) (o : LocalAct) → LegalLocalAct ms g p o → PartInvariant ms x g n e p
-    → device_wire ms (own p n o) ≡ device_moved (device_wire ms p) (own_move first e ms p o)
+    → device_wire ms (act_alone p n o) ≡ device_moved (device_wire ms p) (own_move first e ms p o)
 device_square first ms x g n e p (Bind b s t) l i =
     let pasids = pasids_bound ms g n p b s t l i.bindings in
     let tags = tags_bound ms g n p b s t l i.bounds i.labels i.requests in
@@ -106,7 +106,7 @@ device_square first ms x g n e p (Finish names vector count) l i =
     λ j. record (device_wire ms p) { taken = taken j }
 device_square first ms x g n e p (Quit b) l i =
     let groups = groups_quit ms g n p b l i.bindings i.labels i.groups in
-    (λ j. record (device_wire ms (own p n (Quit b))) { groups = groups j })
+    (λ j. record (device_wire ms (act_alone p n (Quit b))) { groups = groups j })
     ∙ sym (pasids_put p b Off (record (device_wire ms p) { groups = map (stale_of (p.pasid b)) (device_wire ms p).groups }) i.labels
     (unreleased_unless p b i.bindings (ap is_off l.0)) refl)
 device_square first ms x g n e p (Start_arrives c b) l i =
@@ -135,7 +135,7 @@ device_square first ms x g n e p (Take c k) l i =
     λ j. record (device_wire ms p) { tags = tags j; cache = cache j; taken = taken j }
 device_square first ms x g n e p (Answered c y code) l i =
     let groups = groups_answered n p c y code i.groups in
-    λ j. record (device_wire ms (own p n (Answered c y code))) { groups = groups j }
+    λ j. record (device_wire ms (act_alone p n (Answered c y code))) { groups = groups j }
 device_square first ms x g n e p (Complete c r found answer) l i = refl
 device_square first ms x g n e p (Count c names) l i =
     let taken = taken_counted ms n p c names in

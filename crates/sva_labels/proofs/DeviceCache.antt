@@ -5,7 +5,7 @@ use Rattle.std.proofs.lemmas.Bool.Decides.{nat_tests}
 use Rattle.sva_model.specs.Words.{put, select, is_some, the}
 use Rattle.sva_model.specs.State.{Mappings, Stage, Endpoint}
 use Rattle.sva_model.specs.States.{is_unreleased, is_out, is_busy, covers}
-use Rattle.sva_model.specs.Acts.{own, LocalAct, none_if, is_replaced, binding_of, extent_of}
+use Rattle.sva_model.specs.Acts.{act_alone, LocalAct, none_if, is_replaced, binding_of, extent_of}
 use Rattle.sva_model.specs.Wire.{TranslationWire, sorted_by, insert_by, is_before, cached_wire, cache_wire, translation_wire}
 use Rattle.sva_laws.proofs.Words.{put-same, put-other, ℕ_cases}
 use Rattle.sva_laws.proofs.Legal.{LegalLocalAct}
@@ -57,10 +57,10 @@ held_made p g r m bo h = grind (arith, bo.held r)
 -- a new binding isn't that of a request
 pub cache_bound :
     (ms : Mappings) (g n : ℕ) (p : Endpoint) (b s t : ℕ) → LegalLocalAct ms g p (LocalAct.Bind b s t) → Requests p
-    → cache_wire ms (own p n (LocalAct.Bind b s t)) ≡ cache_wire ms p
+    → cache_wire ms (act_alone p n (LocalAct.Bind b s t)) ≡ cache_wire ms p
 cache_bound ms g n p b s t l ra =
     ap (sorted_by is_before)
-    (select_seen p.requests (λ r. is_some (p.held r)) (λ r. is_some (p.held r)) (cached_wire ms p) (cached_wire ms (own p n (LocalAct.Bind b s t)))
+    (select_seen p.requests (λ r. is_some (p.held r)) (λ r. is_some (p.held r)) (cached_wire ms p) (cached_wire ms (act_alone p n (LocalAct.Bind b s t)))
     (λ r m. refl)
     (λ r m h. ap (λ x. record { pasid = x; page = p.request_page r; frame = ms.frame (the (p.held r)); write = ms.write (the (p.held r)) })
     (put-other p.pasid b t (p.request_binding r) (other r m))))
@@ -69,15 +69,16 @@ cache_bound ms g n p b s t l ra =
     other r m e = ra.bound r m (ap p.stage e ∙ l.2)
 
 -- a request more has no answer yet
-pub cache_asked : (ms : Mappings) (g n : ℕ) (p : Endpoint) (b q t : ℕ) → Bounds g p → cache_wire ms (own p n (LocalAct.Ask b q t)) ≡ cache_wire ms p
+pub cache_asked : (ms : Mappings) (g n : ℕ) (p : Endpoint) (b q t : ℕ) → Bounds g p → cache_wire ms (act_alone p n (LocalAct.Ask b q t)) ≡ cache_wire ms p
 unfolding select
 cache_asked ms g n p b q t bo =
     ap (λ o. sorted_by is_before
-    (map (cached_wire ms (own p n (LocalAct.Ask b q t))) (select p.requests (λ r. is_some (p.held r)) ++ (if is_some o then p.requests ∷ [] else []))))
+    (map (cached_wire ms (act_alone p n (LocalAct.Ask b q t))) (select p.requests (λ r. is_some (p.held r)) ++ (if is_some o then p.requests ∷ [] else []))))
     (bo.held p.requests (omega arith))
-    ∙ ap (λ xs. sorted_by is_before (map (cached_wire ms (own p n (LocalAct.Ask b q t))) xs)) (append-nil (select p.requests (λ r. is_some (p.held r))))
+    ∙ ap (λ xs. sorted_by is_before (map (cached_wire ms (act_alone p n (LocalAct.Ask b q t))) xs)) (append-nil (select p.requests (λ r. is_some (p.held r))))
     ∙ ap (sorted_by is_before)
-    (select_seen p.requests (λ r. is_some (p.held r)) (λ r. is_some (p.held r)) (cached_wire ms p) (cached_wire ms (own p n (LocalAct.Ask b q t))) (λ r l. refl)
+    (select_seen p.requests (λ r. is_some (p.held r)) (λ r. is_some (p.held r)) (cached_wire ms p) (cached_wire ms (act_alone p n (LocalAct.Ask b q t)))
+    (λ r l. refl)
     (λ r l h. ap₂ (λ x y. translation_wire ms p x y (the (p.held r))) (put-other p.request_binding p.requests b r (omega arith))
     (put-other p.request_page p.requests q r (omega arith))))
 
@@ -119,7 +120,7 @@ at_page_same ms p b q r m la ow un h = ap (λ x. x && p.request_page r == q) (pa
 
 pub cache_evicted :
     (ms : Mappings) (g n : ℕ) (p : Endpoint) (r : ℕ) → LegalLocalAct ms g p (LocalAct.Evict r) → Labels p → Requests p → Owners ms p
-    → cache_wire ms (own p n (LocalAct.Evict r)) ≡ filter (λ x. not (is_at_page (p.pasid (p.request_binding r)) (p.request_page r) x)) (cache_wire ms p)
+    → cache_wire ms (act_alone p n (LocalAct.Evict r)) ≡ filter (λ x. not (is_at_page (p.pasid (p.request_binding r)) (p.request_page r) x)) (cache_wire ms p)
 cache_evicted ms g n p r l la ra ow =
     cache_filtered ms p (put p.held r None) (λ x. not (is_at_page (p.pasid (p.request_binding r)) (p.request_page r) x))
     (λ k lt h. none k h (ℕ_cases k r)) (λ k m lt h. some k m h (ℕ_cases k r))
@@ -157,7 +158,7 @@ cache_evicted ms g n p r l la ra ow =
 -- what an invalidation covers goes as it is taken
 pub cache_taken :
     (ms : Mappings) (g n : ℕ) (p : Endpoint) (c k : ℕ) → LegalLocalAct ms g p (LocalAct.Take c k) → Labels p → Orders p → Owners ms p
-    → cache_wire ms (own p n (LocalAct.Take c k))
+    → cache_wire ms (act_alone p n (LocalAct.Take c k))
     ≡ filter (λ x. not (Finding.covers (p.pasid (binding_of (p.order k))) (extent_of (p.order k)) x.pasid x.page)) (cache_wire ms p)
 cache_taken ms g n p c k l la or ow =
     cache_filtered ms p (λ r. none_if (covers (p.order k) (p.request_binding r) (p.request_page r)) (p.held r))
@@ -177,8 +178,8 @@ cache_taken ms g n p c k l la or ow =
     either m true = refl
     either m false = refl
 
-pub cache_cleared : (ms : Mappings) (n : ℕ) (p : Endpoint) (c : ℕ) → cache_wire ms (own p n (LocalAct.Reset_arrives c)) ≡ []
-cache_cleared ms n p c = ap (λ xs. sorted_by is_before (map (cached_wire ms (own p n (LocalAct.Reset_arrives c))) xs)) (nothing p.requests)
+pub cache_cleared : (ms : Mappings) (n : ℕ) (p : Endpoint) (c : ℕ) → cache_wire ms (act_alone p n (LocalAct.Reset_arrives c)) ≡ []
+cache_cleared ms n p c = ap (λ xs. sorted_by is_before (map (cached_wire ms (act_alone p n (LocalAct.Reset_arrives c))) xs)) (nothing p.requests)
   where
     nothing : (k : ℕ) → select k (λ r. false) ≡ []
     nothing k = none_selected k (λ r. false) (λ r l. refl)
@@ -187,9 +188,9 @@ cache_cleared ms n p c = ap (λ xs. sorted_by is_before (map (cached_wire ms (ow
 pub cache_kept :
     (ms : Mappings) (g n : ℕ) (p : Endpoint) (c r m : ℕ) → LegalLocalAct ms g p (LocalAct.Keep c r m) → Bounds g p → Bindings p → Labels p → Requests p
     → Owners ms p
-    → cache_wire ms (own p n (LocalAct.Keep c r m)) ≡ kept (translation_wire ms p (p.request_binding r) (p.request_page r) m) (cache_wire ms p)
+    → cache_wire ms (act_alone p n (LocalAct.Keep c r m)) ≡ kept (translation_wire ms p (p.request_binding r) (p.request_page r) m) (cache_wire ms p)
 cache_kept ms g n p c r m l bo bi la ra ow =
-    sorted_with is_before is_order (cached_wire ms (own p n (LocalAct.Keep c r m))) p.requests r (λ k. is_some (rest k))
+    sorted_with is_before is_order (cached_wire ms (act_alone p n (LocalAct.Keep c r m))) p.requests r (λ k. is_some (rest k))
     (λ k. is_some (put rest r (Some m) k)) made
     (ap (λ b. is_some (none_if b (p.held r))) self ∙ gone (p.held r))
     (ap (λ o. is_some o) (put-same rest r (Some m)))
@@ -213,15 +214,15 @@ cache_kept ms g n p c r m l bo bi la ra ow =
     gone : (o : Option ℕ) → is_some (none_if true o) ≡ false
     gone o = refl
 
-    new : cached_wire ms (own p n (LocalAct.Keep c r m)) r ≡ translation_wire ms p (p.request_binding r) (p.request_page r) m
+    new : cached_wire ms (act_alone p n (LocalAct.Keep c r m)) r ≡ translation_wire ms p (p.request_binding r) (p.request_page r) m
     new = ap (λ o. translation_wire ms p (p.request_binding r) (p.request_page r) (the o)) (put-same rest r (Some m))
 
     others :
-        map (cached_wire ms (own p n (LocalAct.Keep c r m))) (select p.requests (λ k. is_some (rest k)))
+        map (cached_wire ms (act_alone p n (LocalAct.Keep c r m))) (select p.requests (λ k. is_some (rest k)))
         ≡ map (cached_wire ms (record p { held = rest })) (select p.requests (λ k. is_some (rest k)))
     others =
         select_seen p.requests (λ k. is_some (rest k)) (λ k. is_some (rest k)) (cached_wire ms (record p { held = rest }))
-        (cached_wire ms (own p n (LocalAct.Keep c r m))) (λ k lt. refl)
+        (cached_wire ms (act_alone p n (LocalAct.Keep c r m))) (λ k lt. refl)
         (λ k lt h. ap (λ o. translation_wire ms p (p.request_binding k) (p.request_page k) (the o)) (put-other rest r (Some m) k (differ k h)))
       where
         differ : (k : ℕ) → is_some (rest k) ≡ true → k ≢ r
@@ -247,7 +248,7 @@ cache_kept ms g n p c r m l bo bi la ra ow =
         either false = refl
 
     apart : (k : ℕ) → is_some (rest k) ≡ true
-        → AreApart is_before (cached_wire ms (own p n (LocalAct.Keep c r m)) r) (cached_wire ms (own p n (LocalAct.Keep c r m)) k)
+        → AreApart is_before (cached_wire ms (act_alone p n (LocalAct.Keep c r m)) r) (cached_wire ms (act_alone p n (LocalAct.Keep c r m)) k)
     apart k h =
         comes_apart (p.pasid (p.request_binding r)) (p.request_page r) (p.pasid (p.request_binding k)) (p.request_page k)
         (by_held (p.held k) refl (is_replaced p r k) refl h)

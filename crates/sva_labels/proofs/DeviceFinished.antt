@@ -8,7 +8,7 @@ use Rattle.sva_model.specs.State.OrderState.{Queued, Sent, Taken, Lapsed, Comple
 use Rattle.sva_model.specs.State.UseState.{Running, Dead, Ended}
 use Rattle.sva_model.specs.States.{is_unreleased, is_busy, is_taken, is_running, covers}
 use Rattle.sva_model.specs.Labels
-use Rattle.sva_model.specs.Acts.{own, LocalAct, binding_of, extent_of, owe_if, lapse}
+use Rattle.sva_model.specs.Acts.{act_alone, LocalAct, binding_of, extent_of, completing_if, lapse}
 use Rattle.sva_model.specs.Wire.{chain, taken_by, is_noted, use_wire, translation_wire}
 use Rattle.sva_laws.proofs.Words.{put-same, put-other}
 use Rattle.sva_laws.proofs.Legal.{LegalLocalAct}
@@ -27,9 +27,9 @@ use Rattle.sva_wire.proofs.Lists.{tabulate_same, tabulate_set, tabulate_at}
 -- The ITags of a vector are finished.
 pub taken_finished :
     (ms : Mappings) (g n : ℕ) (p : Endpoint) (names : ℕ → Bool) (vector count : ℕ) → LegalLocalAct ms g p (LocalAct.Finish names vector count) → Labels p
-    → taken_wire ms (own p n (LocalAct.Finish names vector count)) ≡ without_named vector (taken_wire ms p)
+    → taken_wire ms (act_alone p n (LocalAct.Finish names vector count)) ≡ without_named vector (taken_wire ms p)
 taken_finished ms g n p names vector count l la =
-    tabulate_same 32 (λ t. chain (taken_seen ms (own p n (LocalAct.Finish names vector count))) (p.at_itag t))
+    tabulate_same 32 (λ t. chain (taken_seen ms (act_alone p n (LocalAct.Finish names vector count))) (p.at_itag t))
     (λ t. if Labels.is_set vector t then None else slice_index_or (taken_wire ms p) t None)
     (λ t m. go t m (p.at_itag t) refl (Labels.is_set vector t) refl
     ∙ sym (ap (λ x. if Labels.is_set vector t then None else x) (tabulate_at 32 (λ y. chain (taken_seen ms p) (p.at_itag y)) t None m)))
@@ -52,27 +52,28 @@ taken_finished ms g n p names vector count l la =
     unnamed t k h b false e = refl
     unnamed t k h b true e = absurd (cc (sym (l.5.named k e) ∙ ap (Labels.is_set vector) (la.itag_bears t k h).0 ∙ b))
 
-    owed : (k : ℕ) (s : OrderState) → taken_by ms (own p n (LocalAct.Finish names vector count)) k (owe_if true count s) ≡ None
+    owed : (k : ℕ) (s : OrderState) → taken_by ms (act_alone p n (LocalAct.Finish names vector count)) k (completing_if true count s) ≡ None
     owed k s = refl
 
     go :
         (t : ℕ) → t < 32 → (o : Option ℕ) → p.at_itag t ≡ o → (b : Bool) → Labels.is_set vector t ≡ b
-        → chain (taken_seen ms (own p n (LocalAct.Finish names vector count))) o ≡ (if b then None else chain (taken_seen ms p) o)
+        → chain (taken_seen ms (act_alone p n (LocalAct.Finish names vector count))) o ≡ (if b then None else chain (taken_seen ms p) o)
     go t m None h true e = refl
     go t m None h false e = refl
-    go t m (Some k) h true e = ap (λ x. taken_by ms (own p n (LocalAct.Finish names vector count)) k (owe_if x count (p.order_state k))) (named t k m h e)
+    go t m (Some k) h true e =
+        ap (λ x. taken_by ms (act_alone p n (LocalAct.Finish names vector count)) k (completing_if x count (p.order_state k))) (named t k m h e)
     go t m (Some k) h false e =
-        ap (λ x. taken_by ms (own p n (LocalAct.Finish names vector count)) k (owe_if x count (p.order_state k))) (unnamed t k h e (names k) refl)
-        ∙ taken_by_same ms ms p (own p n (LocalAct.Finish names vector count)) k (p.order_state k)
+        ap (λ x. taken_by ms (act_alone p n (LocalAct.Finish names vector count)) k (completing_if x count (p.order_state k))) (unnamed t k h e (names k) refl)
+        ∙ taken_by_same ms ms p (act_alone p n (LocalAct.Finish names vector count)) k (p.order_state k)
         (λ uses x. record { pasid = refl; extent = refl; slots = λ y. refl })
 
 -- An invalidation is taken: it notes the running uses that it covers.
 taken_notes :
     (ms : Mappings) (g n : ℕ) (p : Endpoint) (c k : ℕ) → LegalLocalAct ms g p (LocalAct.Take c k) → Bounds g p → Labels p → Orders p → Owners ms p
-    → tabulate 16 (notes ms (own p n (LocalAct.Take c k)) k p.uses)
+    → tabulate 16 (notes ms (act_alone p n (LocalAct.Take c k)) k p.uses)
     ≡ map (Moves.is_noted (p.pasid (binding_of (p.order k))) (extent_of (p.order k))) (slots_wire ms p)
 taken_notes ms g n p c k l bo la or ow =
-    tabulate_same 16 (notes ms (own p n (LocalAct.Take c k)) k p.uses)
+    tabulate_same 16 (notes ms (act_alone p n (LocalAct.Take c k)) k p.uses)
     (λ x. Moves.is_noted (p.pasid (binding_of (p.order k))) (extent_of (p.order k)) (option_map (use_wire ms p) (p.at_slot x)))
     (λ x m. slot x (p.at_slot x) refl)
     ∙ sym (tabulate_map (Moves.is_noted (p.pasid (binding_of (p.order k))) (extent_of (p.order k))) 16 (λ x. option_map (use_wire ms p) (p.at_slot x)))
@@ -91,7 +92,7 @@ taken_notes ms g n p c k l bo la or ow =
 
     slot :
         (x : ℕ) (o : Option ℕ) → p.at_slot x ≡ o
-        → holds_of (is_noted ms (own p n (LocalAct.Take c k)) k p.uses) o
+        → holds_of (is_noted ms (act_alone p n (LocalAct.Take c k)) k p.uses) o
         ≡ Moves.is_noted (p.pasid (binding_of (p.order k))) (extent_of (p.order k)) (option_map (use_wire ms p) o)
     slot x None h = refl
     slot x (Some u) h =
@@ -100,7 +101,7 @@ taken_notes ms g n p c k l bo la or ow =
 
 pub taken_taken :
     (ms : Mappings) (g n : ℕ) (p : Endpoint) (c k : ℕ) → LegalLocalAct ms g p (LocalAct.Take c k) → Bounds g p → Labels p → Orders p → Owners ms p
-    → taken_wire ms (own p n (LocalAct.Take c k))
+    → taken_wire ms (act_alone p n (LocalAct.Take c k))
     ≡ slice_set (taken_wire ms p) (p.itag k)
     (Some (record {
       pasid = p.pasid (binding_of (p.order k));
@@ -109,15 +110,15 @@ pub taken_taken :
           map (Moves.is_noted (p.pasid (binding_of (p.order k))) (extent_of (p.order k))) (slots_wire ms p);
     }))
 taken_taken ms g n p c k l bo la or ow =
-    tabulate_set 32 (λ t. chain (taken_seen ms p) (p.at_itag t)) (λ t. chain (taken_seen ms (own p n (LocalAct.Take c k))) (p.at_itag t)) (p.itag k)
+    tabulate_set 32 (λ t. chain (taken_seen ms p) (p.at_itag t)) (λ t. chain (taken_seen ms (act_alone p n (LocalAct.Take c k))) (p.at_itag t)) (p.itag k)
     (Some (record {
       pasid = p.pasid (binding_of (p.order k));
       extent = extent_of (p.order k);
       slots =
           map (Moves.is_noted (p.pasid (binding_of (p.order k))) (extent_of (p.order k))) (slots_wire ms p);
     }))
-    (ap (chain (taken_seen ms (own p n (LocalAct.Take c k)))) (la.bears_itag k (ap is_busy (la.sent c k l)))
-    ∙ ap (taken_by ms (own p n (LocalAct.Take c k)) k) (put-same p.order_state k (Taken p.uses))
+    (ap (chain (taken_seen ms (act_alone p n (LocalAct.Take c k)))) (la.bears_itag k (ap is_busy (la.sent c k l)))
+    ∙ ap (taken_by ms (act_alone p n (LocalAct.Take c k)) k) (put-same p.order_state k (Taken p.uses))
     ∙ ap (λ xs. Some (record { pasid = p.pasid (binding_of (p.order k)); extent = extent_of (p.order k); slots = xs }))
     (taken_notes ms g n p c k l bo la or ow))
     (λ t ne. go t ne (p.at_itag t) refl)
@@ -125,17 +126,17 @@ taken_taken ms g n p c k l bo la or ow =
     other : (t j : ℕ) → t ≢ p.itag k → p.itag j ≡ t → j ≢ k
     other t j ne e x = ne (sym e ∙ ap p.itag x)
 
-    go : (t : ℕ) → t ≢ p.itag k → (o : Option ℕ) → p.at_itag t ≡ o → chain (taken_seen ms (own p n (LocalAct.Take c k))) o ≡ chain (taken_seen ms p) o
+    go : (t : ℕ) → t ≢ p.itag k → (o : Option ℕ) → p.at_itag t ≡ o → chain (taken_seen ms (act_alone p n (LocalAct.Take c k))) o ≡ chain (taken_seen ms p) o
     go t ne None h = refl
     go t ne (Some j) h =
-        ap (taken_by ms (own p n (LocalAct.Take c k)) j) (put-other p.order_state k (Taken p.uses) j (other t j ne (la.itag_bears t j h).0))
-        ∙ taken_by_same ms ms p (own p n (LocalAct.Take c k)) j (p.order_state j) (λ uses x. record { pasid = refl; extent = refl; slots = λ y. refl })
+        ap (taken_by ms (act_alone p n (LocalAct.Take c k)) j) (put-other p.order_state k (Taken p.uses) j (other t j ne (la.itag_bears t j h).0))
+        ∙ taken_by_same ms ms p (act_alone p n (LocalAct.Take c k)) j (p.order_state j) (λ uses x. record { pasid = refl; extent = refl; slots = λ y. refl })
 
 -- A use ends: no invalidation waits for it any more.
-pub taken_ended : (ms : Mappings) (n : ℕ) (p : Endpoint) (u : ℕ) → Labels p → taken_wire ms (own p n (LocalAct.End u))
+pub taken_ended : (ms : Mappings) (n : ℕ) (p : Endpoint) (u : ℕ) → Labels p → taken_wire ms (act_alone p n (LocalAct.End u))
     ≡ map (unnoted (p.use_slot u)) (taken_wire ms p)
 taken_ended ms n p u la =
-    tabulate_same 32 (λ t. chain (taken_seen ms (own p n (LocalAct.End u))) (p.at_itag t))
+    tabulate_same 32 (λ t. chain (taken_seen ms (act_alone p n (LocalAct.End u))) (p.at_itag t))
     (λ t. unnoted (p.use_slot u) (chain (taken_seen ms p) (p.at_itag t))) (λ t m. go (p.at_itag t))
     ∙ sym (tabulate_map (unnoted (p.use_slot u)) 32 (λ t. chain (taken_seen ms p) (p.at_itag t)))
   where
@@ -144,20 +145,20 @@ taken_ended ms n p u la =
 
     old :
         (k uses y : ℕ) → y ≢ p.use_slot u → (o : Option ℕ) → p.at_slot y ≡ o
-        → holds_of (is_noted ms (own p n (LocalAct.End u)) k uses) o ≡ holds_of (is_noted ms p k uses) o
+        → holds_of (is_noted ms (act_alone p n (LocalAct.End u)) k uses) o ≡ holds_of (is_noted ms p k uses) o
     old k uses y ne None h = refl
     old k uses y ne (Some v) h =
         ap (λ s. nat_lt v uses && (is_running s && covers (p.order k) (p.use_binding v) (ms.page (p.use_mapping v))))
         (put-other p.use_state u Ended v (other y v ne (la.slot_bears y v h).0))
 
-    slots : (k uses : ℕ) → tabulate 16 (notes ms (own p n (LocalAct.End u)) k uses) ≡ slice_set (tabulate 16 (notes ms p k uses)) (p.use_slot u) false
+    slots : (k uses : ℕ) → tabulate 16 (notes ms (act_alone p n (LocalAct.End u)) k uses) ≡ slice_set (tabulate 16 (notes ms p k uses)) (p.use_slot u) false
     slots k uses =
-        tabulate_set 16 (notes ms p k uses) (notes ms (own p n (LocalAct.End u)) k uses) (p.use_slot u) false
-        (ap (holds_of (is_noted ms (own p n (LocalAct.End u)) k uses)) (put-same p.at_slot (p.use_slot u) None))
-        (λ y ne. ap (holds_of (is_noted ms (own p n (LocalAct.End u)) k uses)) (put-other p.at_slot (p.use_slot u) None y ne)
+        tabulate_set 16 (notes ms p k uses) (notes ms (act_alone p n (LocalAct.End u)) k uses) (p.use_slot u) false
+        (ap (holds_of (is_noted ms (act_alone p n (LocalAct.End u)) k uses)) (put-same p.at_slot (p.use_slot u) None))
+        (λ y ne. ap (holds_of (is_noted ms (act_alone p n (LocalAct.End u)) k uses)) (put-other p.at_slot (p.use_slot u) None y ne)
         ∙ old k uses y ne (p.at_slot y) refl)
 
-    by_state : (k : ℕ) (s : OrderState) → taken_by ms (own p n (LocalAct.End u)) k s ≡ unnoted (p.use_slot u) (taken_by ms p k s)
+    by_state : (k : ℕ) (s : OrderState) → taken_by ms (act_alone p n (LocalAct.End u)) k s ≡ unnoted (p.use_slot u) (taken_by ms p k s)
     by_state k Queued = refl
     by_state k Sent = refl
     by_state k (Taken uses) = ap (λ xs. Some (record { pasid = p.pasid (binding_of (p.order k)); extent = extent_of (p.order k); slots = xs })) (slots k uses)
@@ -166,17 +167,18 @@ taken_ended ms n p u la =
     by_state k Done = refl
     by_state k Void = refl
 
-    go : (o : Option ℕ) → chain (taken_seen ms (own p n (LocalAct.End u))) o ≡ unnoted (p.use_slot u) (chain (taken_seen ms p) o)
+    go : (o : Option ℕ) → chain (taken_seen ms (act_alone p n (LocalAct.End u))) o ≡ unnoted (p.use_slot u) (chain (taken_seen ms p) o)
     go None = refl
     go (Some k) = by_state k (p.order_state k)
 
 -- After its own reset the endpoint has nothing in its hands.
-pub taken_cleared : (ms : Mappings) (n : ℕ) (p : Endpoint) (c : ℕ) → taken_wire ms (own p n (LocalAct.Reset_arrives c)) ≡ map (λ taken. None) (taken_wire ms p)
+pub taken_cleared : (ms : Mappings) (n : ℕ) (p : Endpoint) (c : ℕ)
+    → taken_wire ms (act_alone p n (LocalAct.Reset_arrives c)) ≡ map (λ taken. None) (taken_wire ms p)
 taken_cleared ms n p c =
-    tabulate_same 32 (λ t. chain (taken_seen ms (own p n (LocalAct.Reset_arrives c))) (p.at_itag t)) (λ t. None) (λ t m. go (p.at_itag t))
+    tabulate_same 32 (λ t. chain (taken_seen ms (act_alone p n (LocalAct.Reset_arrives c))) (p.at_itag t)) (λ t. None) (λ t m. go (p.at_itag t))
     ∙ sym (tabulate_map (λ taken. None) 32 (λ t. chain (taken_seen ms p) (p.at_itag t)))
   where
-    by_state : (k : ℕ) (s : OrderState) → taken_by ms (own p n (LocalAct.Reset_arrives c)) k (lapse s) ≡ None
+    by_state : (k : ℕ) (s : OrderState) → taken_by ms (act_alone p n (LocalAct.Reset_arrives c)) k (lapse s) ≡ None
     by_state k Queued = refl
     by_state k Sent = refl
     by_state k (Taken uses) = refl
@@ -185,6 +187,6 @@ taken_cleared ms n p c =
     by_state k Done = refl
     by_state k Void = refl
 
-    go : (o : Option ℕ) → chain (taken_seen ms (own p n (LocalAct.Reset_arrives c))) o ≡ None
+    go : (o : Option ℕ) → chain (taken_seen ms (act_alone p n (LocalAct.Reset_arrives c))) o ≡ None
     go None = refl
     go (Some k) = by_state k (p.order_state k)

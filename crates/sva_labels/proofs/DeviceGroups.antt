@@ -7,7 +7,7 @@ use Rattle.sva_model.specs.Message.{Code}
 use Rattle.sva_model.specs.State.{Mappings, GroupState, Endpoint}
 use Rattle.sva_model.specs.State.GroupState.{Collecting, Awaiting, Stale, Closed}
 use Rattle.sva_model.specs.States.{is_off, is_outstanding}
-use Rattle.sva_model.specs.Acts.{own, LocalAct, sent_as, stale_if}
+use Rattle.sva_model.specs.Acts.{act_alone, LocalAct, sent_as, stale_if}
 use Rattle.sva_model.specs.Wire.{GroupWire, group_wire}
 use Rattle.sva_laws.proofs.Words.{put-same, put-other}
 use Rattle.sva_laws.proofs.Counting.{count_same, count_zero}
@@ -32,9 +32,9 @@ group_made p g x bo h = grind (arith, bo.group x)
 -- a new binding isn't the asker of a group
 pub groups_bound :
     (ms : Mappings) (g n : ℕ) (p : Endpoint) (b s t : ℕ) → LegalLocalAct ms g p (LocalAct.Bind b s t) → Bounds g p → Groups p
-    → groups_wire (own p n (LocalAct.Bind b s t)) ≡ groups_wire p
+    → groups_wire (act_alone p n (LocalAct.Bind b s t)) ≡ groups_wire p
 groups_bound ms g n p b s t l bo gr =
-    row_same 32 p.at_index (group_wire p) (group_wire (own p n (LocalAct.Bind b s t)))
+    row_same 32 p.at_index (group_wire p) (group_wire (act_alone p n (LocalAct.Bind b s t)))
     (λ i x h. ap (λ y. record { pasid = y; state = p.group x; requests = count_below p.page_requests (λ r. p.group_of r == x) })
     (put-other p.pasid b t (p.asker x) (other x (group_made p g x bo (gr.index_bears i x h).1))))
   where
@@ -85,22 +85,23 @@ count_other p y x ne =
 
 pub groups_opened :
     (ms : Mappings) (g n : ℕ) (p : Endpoint) (b i q : ℕ) (r x l : Bool) → Bounds g p → Groups p
-    → groups_wire (own p n (LocalAct.Group b i q r x l)) ≡ slice_set (groups_wire p) i (Some (record { pasid = p.pasid b; state = sent_as l; requests = 1 }))
+    → groups_wire (act_alone p n (LocalAct.Group b i q r x l))
+    ≡ slice_set (groups_wire p) i (Some (record { pasid = p.pasid b; state = sent_as l; requests = 1 }))
 groups_opened ms g n p b i q r x l bo gr =
-    row_set 32 i p.at_index (put p.at_index i (Some p.groups)) (group_wire p) (group_wire (own p n (LocalAct.Group b i q r x l)))
+    row_set 32 i p.at_index (put p.at_index i (Some p.groups)) (group_wire p) (group_wire (act_alone p n (LocalAct.Group b i q r x l)))
     (Some (record { pasid = p.pasid b; state = sent_as l; requests = 1 }))
-    (ap (option_map (group_wire (own p n (LocalAct.Group b i q r x l)))) (put-same p.at_index i (Some p.groups)) ∙ ap (λ z. Some z) fresh)
+    (ap (option_map (group_wire (act_alone p n (LocalAct.Group b i q r x l)))) (put-same p.at_index i (Some p.groups)) ∙ ap (λ z. Some z) fresh)
     (λ j ne. put-other p.at_index i (Some p.groups) j ne)
     (λ j y ne h. old y (group_made p g y bo (gr.index_bears j y h).1))
   where
-    fresh : group_wire (own p n (LocalAct.Group b i q r x l)) p.groups ≡ record { pasid = p.pasid b; state = sent_as l; requests = 1 }
+    fresh : group_wire (act_alone p n (LocalAct.Group b i q r x l)) p.groups ≡ record { pasid = p.pasid b; state = sent_as l; requests = 1 }
     fresh =
         let asker = put-same p.asker p.groups b in
         let state = put-same p.group p.groups (sent_as l) in
         let count = count_first p g bo in
         λ j. record { pasid = p.pasid (asker j); state = state j; requests = count j }
 
-    old : (y : ℕ) → y < p.groups → group_wire (own p n (LocalAct.Group b i q r x l)) y ≡ group_wire p y
+    old : (y : ℕ) → y < p.groups → group_wire (act_alone p n (LocalAct.Group b i q r x l)) y ≡ group_wire p y
     old y lt =
         let asker = put-other p.asker p.groups b y (omega arith) in
         let state = put-other p.group p.groups (sent_as l) y (omega arith) in
@@ -109,12 +110,12 @@ groups_opened ms g n p b i q r x l bo gr =
 
 pub groups_requested :
     (ms : Mappings) (g n : ℕ) (p : Endpoint) (y q : ℕ) (r x l : Bool) → LegalLocalAct ms g p (LocalAct.Request y q r x l) → Groups p
-    → groups_wire (own p n (LocalAct.Request y q r x l))
+    → groups_wire (act_alone p n (LocalAct.Request y q r x l))
     ≡ slice_set (groups_wire p) (p.index y) (with_request l (slice_index_or (groups_wire p) (p.index y) None))
 groups_requested ms g n p y q r x l le gr =
-    row_set 32 (p.index y) p.at_index p.at_index (group_wire p) (group_wire (own p n (LocalAct.Request y q r x l)))
+    row_set 32 (p.index y) p.at_index p.at_index (group_wire p) (group_wire (act_alone p n (LocalAct.Request y q r x l)))
     (with_request l (slice_index_or (groups_wire p) (p.index y) None))
-    (ap (option_map (group_wire (own p n (LocalAct.Request y q r x l)))) there ∙ ap (λ z. Some z) changed ∙ sym (ap (with_request l) found))
+    (ap (option_map (group_wire (act_alone p n (LocalAct.Request y q r x l)))) there ∙ ap (λ z. Some z) changed ∙ sym (ap (with_request l) found))
     (λ j ne. refl)
     (λ j z ne h. old z (other j z ne (gr.index_bears j z h).0))
   where
@@ -127,7 +128,7 @@ groups_requested ms g n p y q r x l le gr =
         ∙ ap (option_map (group_wire p)) there
 
     changed :
-        group_wire (own p n (LocalAct.Request y q r x l)) y
+        group_wire (act_alone p n (LocalAct.Request y q r x l)) y
         ≡ record { pasid = p.pasid (p.asker y); state = sent_as l; requests = suc (count_below p.page_requests (λ k. p.group_of k == y)) }
     changed =
         let state = put-same p.group y (sent_as l) in
@@ -140,7 +141,7 @@ groups_requested ms g n p y q r x l le gr =
     other : (j z : ℕ) → j ≢ p.index y → p.index z ≡ j → z ≢ y
     other j z ne e k = ne (sym e ∙ ap p.index k)
 
-    old : (z : ℕ) → z ≢ y → group_wire (own p n (LocalAct.Request y q r x l)) z ≡ group_wire p z
+    old : (z : ℕ) → z ≢ y → group_wire (act_alone p n (LocalAct.Request y q r x l)) z ≡ group_wire p z
     old z ne =
         let state = put-other p.group y (sent_as l) z ne in
         let count = count_other p y z ne in
@@ -149,9 +150,9 @@ groups_requested ms g n p y q r x l le gr =
 -- where a PASID is quit, its groups that await their response are stale
 pub groups_quit :
     (ms : Mappings) (g n : ℕ) (p : Endpoint) (b : ℕ) → LegalLocalAct ms g p (LocalAct.Quit b) → Bindings p → Labels p → Groups p
-    → groups_wire (own p n (LocalAct.Quit b)) ≡ map (stale_of (p.pasid b)) (groups_wire p)
+    → groups_wire (act_alone p n (LocalAct.Quit b)) ≡ map (stale_of (p.pasid b)) (groups_wire p)
 groups_quit ms g n p b l bi la gr =
-    row_map 32 p.at_index (group_wire p) (group_wire (own p n (LocalAct.Quit b))) (stale_of (p.pasid b)) refl
+    row_map 32 p.at_index (group_wire p) (group_wire (act_alone p n (LocalAct.Quit b))) (stale_of (p.pasid b)) refl
     (λ i x h. ap (λ s. Some (record { pasid = p.pasid (p.asker x); state = s; requests = count_below p.page_requests (λ r. p.group_of r == x) }))
     (by_state x (p.group x) (gr.alive x)))
   where
@@ -185,10 +186,10 @@ groups_quit ms g n p b l bi la gr =
 
 pub groups_answered :
     (n : ℕ) (p : Endpoint) (c x : ℕ) (code : Code) → Groups p
-    → groups_wire (own p n (LocalAct.Answered c x code)) ≡ slice_set (groups_wire p) (p.index x) None
+    → groups_wire (act_alone p n (LocalAct.Answered c x code)) ≡ slice_set (groups_wire p) (p.index x) None
 groups_answered n p c x code gr =
-    row_set 32 (p.index x) p.at_index (put p.at_index (p.index x) None) (group_wire p) (group_wire (own p n (LocalAct.Answered c x code))) None
-    (ap (option_map (group_wire (own p n (LocalAct.Answered c x code)))) (put-same p.at_index (p.index x) None))
+    row_set 32 (p.index x) p.at_index (put p.at_index (p.index x) None) (group_wire p) (group_wire (act_alone p n (LocalAct.Answered c x code))) None
+    (ap (option_map (group_wire (act_alone p n (LocalAct.Answered c x code)))) (put-same p.at_index (p.index x) None))
     (λ j ne. put-other p.at_index (p.index x) None j ne)
     (λ j z ne h.
     ap (λ s. record { pasid = p.pasid (p.asker z); state = s; requests = count_below p.page_requests (λ r. p.group_of r == z) })
@@ -197,5 +198,5 @@ groups_answered n p c x code gr =
     other : (j z : ℕ) → j ≢ p.index x → p.index z ≡ j → z ≢ x
     other j z ne e k = ne (sym e ∙ ap p.index k)
 
-pub groups_cleared : (n : ℕ) (p : Endpoint) (c : ℕ) → groups_wire (own p n (LocalAct.Reset_arrives c)) ≡ map (λ group. None) (groups_wire p)
+pub groups_cleared : (n : ℕ) (p : Endpoint) (c : ℕ) → groups_wire (act_alone p n (LocalAct.Reset_arrives c)) ≡ map (λ group. None) (groups_wire p)
 groups_cleared n p c = sym (tabulate_map (λ group. None) 32 (λ t. option_map (group_wire p) (p.at_index t)))

@@ -5,7 +5,7 @@ use Rattle.sva_model.specs.Words.{put, tabulate}
 use Rattle.sva_model.specs.State.{Mappings, PasidState, Endpoint}
 use Rattle.sva_model.specs.State.PasidState.{Off}
 use Rattle.sva_model.specs.States.{is_unreleased, is_off}
-use Rattle.sva_model.specs.Acts.{own, LocalAct}
+use Rattle.sva_model.specs.Acts.{act_alone, LocalAct}
 use Rattle.sva_model.specs.Wire.{DeviceWire, state_of_pasid}
 use Rattle.sva_laws.proofs.Words.{put-same, put-other, ℕ_cases}
 use Rattle.sva_laws.proofs.Legal.{LegalLocalAct}
@@ -29,9 +29,10 @@ unreleased_unless p b bi h = grind (arith, bi.on_stage b, bi.ending_stage b)
 -- a PASID that nobody bore and one that is off read alike
 pub pasids_bound :
     (ms : Mappings) (g n : ℕ) (p : Endpoint) (b s t : ℕ) → LegalLocalAct ms g p (LocalAct.Bind b s t) → Bindings p
-    → pasids_wire (own p n (LocalAct.Bind b s t)) ≡ pasids_wire p
+    → pasids_wire (act_alone p n (LocalAct.Bind b s t)) ≡ pasids_wire p
 pasids_bound ms g n p b s t l bi =
-    tabulate_same 32 (λ x. state_of_pasid (own p n (LocalAct.Bind b s t)) (put p.at_pasid t (Some b) (suc x))) (λ x. state_of_pasid p (p.at_pasid (suc x)))
+    tabulate_same 32 (λ x. state_of_pasid (act_alone p n (LocalAct.Bind b s t)) (put p.at_pasid t (Some b) (suc x)))
+    (λ x. state_of_pasid p (p.at_pasid (suc x)))
     (λ x m. go (suc x) (ℕ_cases (suc x) t))
   where
     go : (x : ℕ) → (x ≡ t) ⊎ (x ≢ t) → state_of_pasid p (put p.at_pasid t (Some b) x) ≡ state_of_pasid p (p.at_pasid x)
@@ -44,9 +45,9 @@ pasids_bound ms g n p b s t l bi =
 
 pub pasids_released :
     (ms : Mappings) (g n : ℕ) (p : Endpoint) (b : ℕ) → LegalLocalAct ms g p (LocalAct.Release b) → Bindings p → Labels p
-    → pasids_wire (own p n (LocalAct.Release b)) ≡ pasids_wire p
+    → pasids_wire (act_alone p n (LocalAct.Release b)) ≡ pasids_wire p
 pasids_released ms g n p b l bi la =
-    tabulate_same 32 (λ x. state_of_pasid (own p n (LocalAct.Release b)) (put p.at_pasid (p.pasid b) None (suc x)))
+    tabulate_same 32 (λ x. state_of_pasid (act_alone p n (LocalAct.Release b)) (put p.at_pasid (p.pasid b) None (suc x)))
     (λ x. state_of_pasid p (p.at_pasid (suc x))) (λ x m. go (suc x) (ℕ_cases (suc x) (p.pasid b)))
   where
     go : (x : ℕ) → (x ≡ p.pasid b) ⊎ (x ≢ p.pasid b) → state_of_pasid p (put p.at_pasid (p.pasid b) None x) ≡ state_of_pasid p (p.at_pasid x)
@@ -85,11 +86,11 @@ pasids_put p b state d la un same = go (p.pasid b) (la.bears_pasid b un) (la.pas
         (λ x ne. other t x (p.at_pasid (suc x)) ne h refl)))
 
 -- after its own reset each is off
-pub pasids_cleared : (n : ℕ) (p : Endpoint) (c : ℕ) → pasids_wire (own p n (LocalAct.Reset_arrives c)) ≡ map (λ state. Off) (pasids_wire p)
+pub pasids_cleared : (n : ℕ) (p : Endpoint) (c : ℕ) → pasids_wire (act_alone p n (LocalAct.Reset_arrives c)) ≡ map (λ state. Off) (pasids_wire p)
 pasids_cleared n p c =
-    tabulate_same 32 (λ x. state_of_pasid (own p n (LocalAct.Reset_arrives c)) (p.at_pasid (suc x))) (λ x. Off) (λ x l. go (p.at_pasid (suc x)))
+    tabulate_same 32 (λ x. state_of_pasid (act_alone p n (LocalAct.Reset_arrives c)) (p.at_pasid (suc x))) (λ x. Off) (λ x l. go (p.at_pasid (suc x)))
     ∙ sym (tabulate_map (λ state. Off) 32 (λ x. state_of_pasid p (p.at_pasid (suc x))))
   where
-    go : (o : Option ℕ) → state_of_pasid (own p n (LocalAct.Reset_arrives c)) o ≡ Off
+    go : (o : Option ℕ) → state_of_pasid (act_alone p n (LocalAct.Reset_arrives c)) o ≡ Off
     go None = refl
     go (Some b) = refl

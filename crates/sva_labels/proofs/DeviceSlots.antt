@@ -6,7 +6,7 @@ use Rattle.sva_model.specs.State.{Mappings, Stage, UseState, Endpoint}
 use Rattle.sva_model.specs.State.UseState.{Running, Dead, Ended}
 use Rattle.sva_model.specs.States.{is_unreleased, is_running}
 use Rattle.sva_model.specs.Acts
-use Rattle.sva_model.specs.Acts.{own, LocalAct}
+use Rattle.sva_model.specs.Acts.{act_alone, LocalAct}
 use Rattle.sva_model.specs.Wire.{UseWire, TranslationWire, use_wire, translation_wire}
 use Rattle.sva_model.specs.Wire.UseWire.{RunningWire, DeadWire}
 use Rattle.sva_laws.proofs.Words.{put-same, put-other}
@@ -39,16 +39,17 @@ running_unreleased ms p u ow h = unreleased (p.stage (p.use_binding u)) (ow.runn
 -- a new binding isn't that of a running use
 pub slots_bound :
     (ms : Mappings) (g n : ℕ) (p : Endpoint) (b s t : ℕ) → LegalLocalAct ms g p (LocalAct.Bind b s t) → Owners ms p
-    → slots_wire ms (own p n (LocalAct.Bind b s t)) ≡ slots_wire ms p
+    → slots_wire ms (act_alone p n (LocalAct.Bind b s t)) ≡ slots_wire ms p
 slots_bound ms g n p b s t l ow =
-    row_same 16 p.at_slot (use_wire ms p) (use_wire ms (own p n (LocalAct.Bind b s t))) (λ x u h. by_state u (p.use_state u) (λ e. other u (ow.running u e)))
+    row_same 16 p.at_slot (use_wire ms p) (use_wire ms (act_alone p n (LocalAct.Bind b s t)))
+    (λ x u h. by_state u (p.use_state u) (λ e. other u (ow.running u e)))
   where
     other : (u : ℕ) → is_active (p.stage (p.use_binding u)) ≡ true → p.use_binding u ≢ b
     other u a e = absurd (cc (sym a ∙ ap (λ c. is_active (p.stage c)) e ∙ ap is_active l.2))
 
     by_state :
         (u : ℕ) (state : UseState) → (state ≡ Running → p.use_binding u ≢ b)
-        → seen_use state (translation_wire ms (own p n (LocalAct.Bind b s t)) (p.use_binding u) (ms.page (p.use_mapping u)) (p.use_mapping u))
+        → seen_use state (translation_wire ms (act_alone p n (LocalAct.Bind b s t)) (p.use_binding u) (ms.page (p.use_mapping u)) (p.use_mapping u))
         ≡ seen_use state (translation_wire ms p (p.use_binding u) (ms.page (p.use_mapping u)) (p.use_mapping u))
     by_state u Running h =
         ap (λ x. RunningWire
@@ -60,16 +61,16 @@ slots_bound ms g n p b s t l ow =
 -- a use begins with the translation that the answer to a request left in the cache
 pub slots_begun :
     (ms : Mappings) (g n : ℕ) (p : Endpoint) (r m t : ℕ) → LegalLocalAct ms g p (LocalAct.Begin r m t) → Bounds g p → Labels p → Owners ms p
-    → slots_wire ms (own p n (LocalAct.Begin r m t))
+    → slots_wire ms (act_alone p n (LocalAct.Begin r m t))
     ≡ slice_set (slots_wire ms p) t (Some (RunningWire (translation_wire ms p (p.request_binding r) (p.request_page r) m)))
 slots_begun ms g n p r m t l bo la ow =
-    row_set 16 t p.at_slot (put p.at_slot t (Some p.uses)) (use_wire ms p) (use_wire ms (own p n (LocalAct.Begin r m t)))
+    row_set 16 t p.at_slot (put p.at_slot t (Some p.uses)) (use_wire ms p) (use_wire ms (act_alone p n (LocalAct.Begin r m t)))
     (Some (RunningWire (translation_wire ms p (p.request_binding r) (p.request_page r) m)))
-    (ap (option_map (use_wire ms (own p n (LocalAct.Begin r m t)))) (put-same p.at_slot t (Some p.uses)) ∙ ap (λ x. Some x) fresh)
+    (ap (option_map (use_wire ms (act_alone p n (LocalAct.Begin r m t)))) (put-same p.at_slot t (Some p.uses)) ∙ ap (λ x. Some x) fresh)
     (λ x ne. put-other p.at_slot t (Some p.uses) x ne)
     (λ x u ne h. old u (slot_made p g u bo (la.slot_bears x u h).1))
   where
-    fresh : use_wire ms (own p n (LocalAct.Begin r m t)) p.uses ≡ RunningWire (translation_wire ms p (p.request_binding r) (p.request_page r) m)
+    fresh : use_wire ms (act_alone p n (LocalAct.Begin r m t)) p.uses ≡ RunningWire (translation_wire ms p (p.request_binding r) (p.request_page r) m)
     fresh =
         let binding = put-same p.use_binding p.uses (p.request_binding r) in
         let mapping = put-same p.use_mapping p.uses m in
@@ -77,18 +78,18 @@ slots_begun ms g n p r m t l bo la ow =
         (λ i. seen_use (state i) (translation_wire ms p (binding i) (ms.page (mapping i)) (mapping i)))
         ∙ ap (λ q. RunningWire (translation_wire ms p (p.request_binding r) q m)) (ow.held_page r m l.1)
 
-    old : (u : ℕ) → u < p.uses → use_wire ms (own p n (LocalAct.Begin r m t)) u ≡ use_wire ms p u
+    old : (u : ℕ) → u < p.uses → use_wire ms (act_alone p n (LocalAct.Begin r m t)) u ≡ use_wire ms p u
     old u lt =
         let binding = put-other p.use_binding p.uses (p.request_binding r) u (omega arith) in
         let mapping = put-other p.use_mapping p.uses m u (omega arith) in
         let state = put-other p.use_state p.uses Running u (omega arith) in
         λ i. seen_use (state i) (translation_wire ms p (binding i) (ms.page (mapping i)) (mapping i))
 
-pub slots_ended : (ms : Mappings) (n : ℕ) (p : Endpoint) (u : ℕ) → Labels p → slots_wire ms (own p n (LocalAct.End u))
+pub slots_ended : (ms : Mappings) (n : ℕ) (p : Endpoint) (u : ℕ) → Labels p → slots_wire ms (act_alone p n (LocalAct.End u))
     ≡ slice_set (slots_wire ms p) (p.use_slot u) None
 slots_ended ms n p u la =
-    row_set 16 (p.use_slot u) p.at_slot (put p.at_slot (p.use_slot u) None) (use_wire ms p) (use_wire ms (own p n (LocalAct.End u))) None
-    (ap (option_map (use_wire ms (own p n (LocalAct.End u)))) (put-same p.at_slot (p.use_slot u) None))
+    row_set 16 (p.use_slot u) p.at_slot (put p.at_slot (p.use_slot u) None) (use_wire ms p) (use_wire ms (act_alone p n (LocalAct.End u))) None
+    (ap (option_map (use_wire ms (act_alone p n (LocalAct.End u)))) (put-same p.at_slot (p.use_slot u) None))
     (λ x ne. put-other p.at_slot (p.use_slot u) None x ne)
     (λ x y ne h.
     ap (λ s. seen_use s (translation_wire ms p (p.use_binding y) (ms.page (p.use_mapping y)) (p.use_mapping y)))
@@ -98,9 +99,9 @@ slots_ended ms n p u la =
     other x y ne e k = ne (sym e ∙ ap p.use_slot k)
 
 -- a reset ends the uses that run, and their slots are taken yet
-pub slots_cleared : (ms : Mappings) (n : ℕ) (p : Endpoint) (c : ℕ) → slots_wire ms (own p n (LocalAct.Reset_arrives c)) ≡ map killed (slots_wire ms p)
+pub slots_cleared : (ms : Mappings) (n : ℕ) (p : Endpoint) (c : ℕ) → slots_wire ms (act_alone p n (LocalAct.Reset_arrives c)) ≡ map killed (slots_wire ms p)
 slots_cleared ms n p c =
-    row_map 16 p.at_slot (use_wire ms p) (use_wire ms (own p n (LocalAct.Reset_arrives c))) killed refl
+    row_map 16 p.at_slot (use_wire ms p) (use_wire ms (act_alone p n (LocalAct.Reset_arrives c))) killed refl
     (λ t u h. by_state (p.use_state u) (translation_wire ms p (p.use_binding u) (ms.page (p.use_mapping u)) (p.use_mapping u)))
   where
     by_state : (s : UseState) (x : TranslationWire) → Some (seen_use (Acts.killed s) x) ≡ Some DeadWire

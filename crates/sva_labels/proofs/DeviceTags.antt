@@ -8,7 +8,7 @@ use Rattle.sva_model.specs.State.RequestState.{Out, Doomed, Over}
 use Rattle.sva_model.specs.State.Order.{RangeOf, PasidOf, Wait}
 use Rattle.sva_model.specs.States.{is_unreleased, is_out, is_busy, is_wait, is_within, covers}
 use Rattle.sva_model.specs.States.Extent.{Pages, AllPages}
-use Rattle.sva_model.specs.Acts.{own, LocalAct, doom_if, binding_of, extent_of}
+use Rattle.sva_model.specs.Acts.{act_alone, LocalAct, doom_if, binding_of, extent_of}
 use Rattle.sva_model.specs.Wire.{RequestWire, request_wire, is_doomed}
 use Rattle.sva_laws.proofs.Words.{put-same, put-other, ℕ_cases}
 use Rattle.sva_laws.proofs.Legal.{LegalLocalAct}
@@ -35,9 +35,9 @@ out_unreleased p r bi ra h = unreleased_unless p (p.request_binding r) bi (ra.al
 -- a new binding isn't that of a request
 pub tags_bound :
     (ms : Mappings) (g n : ℕ) (p : Endpoint) (b s t : ℕ) → LegalLocalAct ms g p (LocalAct.Bind b s t) → Bounds g p → Labels p → Requests p
-    → tags_wire (own p n (LocalAct.Bind b s t)) ≡ tags_wire p
+    → tags_wire (act_alone p n (LocalAct.Bind b s t)) ≡ tags_wire p
 tags_bound ms g n p b s t l bo la ra =
-    row_same 32 p.at_tag (request_wire p) (request_wire (own p n (LocalAct.Bind b s t)))
+    row_same 32 p.at_tag (request_wire p) (request_wire (act_alone p n (LocalAct.Bind b s t)))
     (λ x r h. let pasid = put-other p.pasid b t (p.request_binding r) (other r (out_made p g r bo (la.tag_bears x r h).1)) in
     λ i. record { pasid = pasid i; page = p.request_page r; is_doomed = is_doomed (p.request r) })
   where
@@ -46,15 +46,15 @@ tags_bound ms g n p b s t l bo la ra =
 
 pub tags_asked :
     (n : ℕ) (p : Endpoint) (g b q t : ℕ) → Bounds g p → Labels p
-    → tags_wire (own p n (LocalAct.Ask b q t)) ≡ slice_set (tags_wire p) t (Some (record { pasid = p.pasid b; page = q; is_doomed = false }))
+    → tags_wire (act_alone p n (LocalAct.Ask b q t)) ≡ slice_set (tags_wire p) t (Some (record { pasid = p.pasid b; page = q; is_doomed = false }))
 tags_asked n p g b q t bo la =
-    row_set 32 t p.at_tag (put p.at_tag t (Some p.requests)) (request_wire p) (request_wire (own p n (LocalAct.Ask b q t)))
+    row_set 32 t p.at_tag (put p.at_tag t (Some p.requests)) (request_wire p) (request_wire (act_alone p n (LocalAct.Ask b q t)))
     (Some (record { pasid = p.pasid b; page = q; is_doomed = false }))
-    (ap (option_map (request_wire (own p n (LocalAct.Ask b q t)))) (put-same p.at_tag t (Some p.requests)) ∙ ap (λ r. Some r) fresh)
+    (ap (option_map (request_wire (act_alone p n (LocalAct.Ask b q t)))) (put-same p.at_tag t (Some p.requests)) ∙ ap (λ r. Some r) fresh)
     (λ x ne. put-other p.at_tag t (Some p.requests) x ne)
     (λ x r ne h. old r (out_made p g r bo (la.tag_bears x r h).1))
   where
-    fresh : request_wire (own p n (LocalAct.Ask b q t)) p.requests ≡ record { pasid = p.pasid b; page = q; is_doomed = false }
+    fresh : request_wire (act_alone p n (LocalAct.Ask b q t)) p.requests ≡ record { pasid = p.pasid b; page = q; is_doomed = false }
     fresh =
         λ i.
         record {
@@ -63,7 +63,7 @@ tags_asked n p g b q t bo la =
           is_doomed = is_doomed (put-same p.request p.requests Out i);
         }
 
-    old : (r : ℕ) → r < p.requests → request_wire (own p n (LocalAct.Ask b q t)) r ≡ request_wire p r
+    old : (r : ℕ) → r < p.requests → request_wire (act_alone p n (LocalAct.Ask b q t)) r ≡ request_wire p r
     old r l =
         λ i.
         record {
@@ -90,15 +90,15 @@ tags_over p r la h =
 
 pub tags_kept :
     (ms : Mappings) (g n : ℕ) (p : Endpoint) (c r m : ℕ) → LegalLocalAct ms g p (LocalAct.Keep c r m) → Labels p
-    → tags_wire (own p n (LocalAct.Keep c r m)) ≡ slice_set (tags_wire p) (p.request_tag r) None
+    → tags_wire (act_alone p n (LocalAct.Keep c r m)) ≡ slice_set (tags_wire p) (p.request_tag r) None
 tags_kept ms g n p c r m l la = tags_over p r la (ap is_out l.1)
 
 pub tags_forgotten :
     (ms : Mappings) (g n : ℕ) (p : Endpoint) (c r : ℕ) → LegalLocalAct ms g p (LocalAct.Forget c r) → Labels p
-    → tags_wire (own p n (LocalAct.Forget c r)) ≡ slice_set (tags_wire p) (p.request_tag r) None
+    → tags_wire (act_alone p n (LocalAct.Forget c r)) ≡ slice_set (tags_wire p) (p.request_tag r) None
 tags_forgotten ms g n p c r l la = tags_over p r la l.2
 
-pub tags_cleared : (n : ℕ) (p : Endpoint) (c : ℕ) → tags_wire (own p n (LocalAct.Reset_arrives c)) ≡ map (λ tag. None) (tags_wire p)
+pub tags_cleared : (n : ℕ) (p : Endpoint) (c : ℕ) → tags_wire (act_alone p n (LocalAct.Reset_arrives c)) ≡ map (λ tag. None) (tags_wire p)
 tags_cleared n p c = sym (tabulate_map (λ tag. None) 32 (λ t. option_map (request_wire p) (p.at_tag t)))
 
 -- An order that isn't done covers by its PASID and extent the pages that it covers by its binding.
@@ -152,9 +152,10 @@ covers_same p k b q la or h un =
 -- an invalidation that is taken dooms the requests that it covers
 pub tags_taken :
     (ms : Mappings) (g n : ℕ) (p : Endpoint) (c k : ℕ) → LegalLocalAct ms g p (LocalAct.Take c k) → Bindings p → Labels p → Requests p → Orders p
-    → tags_wire (own p n (LocalAct.Take c k)) ≡ map (doomed (p.pasid (binding_of (p.order k))) (extent_of (p.order k))) (tags_wire p)
+    → tags_wire (act_alone p n (LocalAct.Take c k)) ≡ map (doomed (p.pasid (binding_of (p.order k))) (extent_of (p.order k))) (tags_wire p)
 tags_taken ms g n p c k l bi la ra or =
-    row_map 32 p.at_tag (request_wire p) (request_wire (own p n (LocalAct.Take c k))) (doomed (p.pasid (binding_of (p.order k))) (extent_of (p.order k))) refl
+    row_map 32 p.at_tag (request_wire p) (request_wire (act_alone p n (LocalAct.Take c k))) (doomed (p.pasid (binding_of (p.order k))) (extent_of (p.order k)))
+    refl
     (λ t r h.
     ap (λ d. Some (record { pasid = p.pasid (p.request_binding r); page = p.request_page r; is_doomed = d }))
     (by_state (p.request r) (la.tag_bears t r h).1 (covers (p.order k) (p.request_binding r) (p.request_page r))

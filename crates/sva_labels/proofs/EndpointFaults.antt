@@ -21,7 +21,7 @@ use Rattle.sva_laws.proofs.Invariant.{Invariant}
 use Rattle.sva_laws.proofs.Found.{found}
 use Rattle.sva_laws.proofs.Passed.{Passed, is_less}
 use Rattle.sva_laws.proofs.LegalEndpoint as Legally
-use Rattle.sva_labels.specs.Finding.{device_of, lowest_label, requests_in, outstanding, is_unfinished_of, group_at}
+use Rattle.sva_labels.specs.Finding.{device_of, lowest_label, requests_in, outstanding, has_unfinished_group, group_at}
 use Rattle.sva_labels.specs.Causes.{causes_of, may_request, is_other_group, fault_causes}
 use Rattle.sva_labels.specs.Moves.{Move}
 use Rattle.sva_labels.specs.Outcomes.{by_one, label, result_of}
@@ -228,13 +228,13 @@ other_seen :
     → is_other_group (device_of (wire w) e) t o ≡ names.is_other_group (w.part e) t o
 other_seen w e t None i l = refl
 other_seen w e t (Some x) i l =
-    ap (λ d. not (is_unfinished_of t (group_at d x))) (device_seen w e l)
-    ∙ ap (λ g. not (is_unfinished_of t g)) (group_seen w.mappings (w.part e) (i.parts e).groups.index_low x)
+    ap (λ d. not (has_unfinished_group t (group_at d x))) (device_seen w e l)
+    ∙ ap (λ g. not (has_unfinished_group t g)) (group_seen w.mappings (w.part e) (i.parts e).groups.index_low x)
     ∙ ap not (go ((w.part e).at_index x))
   where
     go :
         (o : Option ℕ)
-        → is_unfinished_of t (option_map (group_wire (w.part e)) o)
+        → has_unfinished_group t (option_map (group_wire (w.part e)) o)
         ≡ holds_of (λ g. is_collecting ((w.part e).group g) && words.is_some ((w.part e).at_pasid t) && (w.part e).asker g == Labels.bearer (w.part e) t) o
     go None = refl
     go (Some g) = group_of_pasid w e t g i

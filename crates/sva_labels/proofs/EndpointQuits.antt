@@ -20,7 +20,7 @@ use Rattle.sva_laws.proofs.Labels.{has_slot}
 use Rattle.sva_laws.proofs.Invariant.{Invariant}
 use Rattle.sva_laws.proofs.Found.{found}
 use Rattle.sva_laws.proofs.Passed.{bearer_of}
-use Rattle.sva_labels.specs.Finding.{device_of, pasid_state, is_request_of, is_use_of, is_unfinished_of}
+use Rattle.sva_labels.specs.Finding.{device_of, pasid_state, is_request_of, is_use_of, has_unfinished_group}
 use Rattle.sva_labels.specs.Causes.{causes_of, is_busy_pasid}
 use Rattle.sva_labels.specs.Moves.{Move}
 use Rattle.sva_labels.specs.Outcomes.{by_one}
@@ -73,10 +73,10 @@ unfinished_out s h = grind arith
 
 pub groups_busy :
     (w : World) (e t b : ℕ) → Invariant w → (w.part e).at_pasid t ≡ Some b
-    → list_any (is_unfinished_of t) (device_wire w.mappings (w.part e)).groups ≡ Labels.is_unfinished_of (w.part e) b
+    → list_any (has_unfinished_group t) (device_wire w.mappings (w.part e)).groups ≡ Labels.has_unfinished_group (w.part e) b
 groups_busy w e t b i h =
-    any_table 32 (λ x. option_map (group_wire p) (p.at_index x)) (is_unfinished_of t)
-    ∙ any_both 32 p.groups (λ x. is_unfinished_of t (option_map (group_wire p) (p.at_index x))) (λ g. is_collecting (p.group g) && p.asker g == b)
+    any_table 32 (λ x. option_map (group_wire p) (p.at_index x)) (has_unfinished_group t)
+    ∙ any_both 32 p.groups (λ x. has_unfinished_group t (option_map (group_wire p) (p.at_index x))) (λ g. is_collecting (p.group g) && p.asker g == b)
     (λ x l k. forth (p.at_index x) k) back
   where
     p : Endpoint
@@ -86,7 +86,7 @@ groups_busy w e t b i h =
     made g k = grind (arith, (i.parts e).bounds.group g)
 
     forth :
-        (o : Option ℕ) → is_unfinished_of t (option_map (group_wire p) o) ≡ true
+        (o : Option ℕ) → has_unfinished_group t (option_map (group_wire p) o) ≡ true
         → (g : ℕ) × (g < p.groups) × ((is_collecting (p.group g) && p.asker g == b) ≡ true)
     forth None k = absurd (cc)
     forth (Some g) k =
@@ -99,13 +99,13 @@ groups_busy w e t b i h =
 
     back :
         (g : ℕ) → g < p.groups → (is_collecting (p.group g) && p.asker g == b) ≡ true
-        → (x : ℕ) × (x < 32) × (is_unfinished_of t (option_map (group_wire p) (p.at_index x)) ≡ true)
+        → (x : ℕ) × (x < 32) × (has_unfinished_group t (option_map (group_wire p) (p.at_index x)) ≡ true)
     back g l k =
         let x = parts (is_collecting (p.group g)) (p.asker g) b k in
         let there : p.at_index (p.index g) ≡ Some g = (i.parts e).groups.bears_index g (unfinished_out (p.group g) x.0) in (
           p.index g,
           (i.parts e).groups.index_low (p.index g) g there,
-          ap (λ o. is_unfinished_of t (option_map (group_wire p) o)) there
+          ap (λ o. has_unfinished_group t (option_map (group_wire p) o)) there
               ∙ both (is_collecting (p.group g)) (p.pasid (p.asker g)) t x.0 (ap p.pasid x.1 ∙ ((i.parts e).labels.pasid_bears t b h).0),
         )
 
@@ -212,7 +212,7 @@ stopping_cause w e t i l = ap (λ d. is_ending (pasid_state d t)) (device_seen w
 busy_cause :
     (w : World) (e t b : ℕ) → Invariant w → e < w.config.endpoints → (w.part e).at_pasid t ≡ Some b
     → is_busy_pasid (device_of (wire w) e) t
-    ≡ (Labels.is_unfinished_of (w.part e) b || Labels.is_request_out_of (w.part e) b || Labels.is_use_of (w.part e) b)
+    ≡ (Labels.has_unfinished_group (w.part e) b || Labels.is_request_out_of (w.part e) b || Labels.is_use_of (w.part e) b)
 busy_cause w e t b i l h =
     ap (λ d. is_busy_pasid d t) (device_seen w e l)
     ∙ (λ j. (groups_busy w e t b i h j || tags_busy w e t b i h j || slots_busy w e t b i h j))

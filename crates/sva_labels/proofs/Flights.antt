@@ -7,7 +7,7 @@ use Rattle.sva_model.specs.Message.{Message}
 use Rattle.sva_model.specs.Message.Message.{StartMessage, StopMessage, ResetMessage, InvalidateMessage, ResponseMessage, RequestMessage}
 use Rattle.sva_model.specs.Message.Message.{InvalidatedMessage, PageRequestMessage, MarkerMessage, ResetDoneMessage}
 use Rattle.sva_model.specs.State.{Subject, Endpoint, World}
-use Rattle.sva_model.specs.Acts.{LocalAct, own, act, sends, scope_of, extent_of, binding_of, count_field}
+use Rattle.sva_model.specs.Acts.{LocalAct, act_alone, act, sends, scope_of, extent_of, binding_of, count_field}
 use Rattle.sva_model.specs.Acts.Act.{AtEndpoint}
 use Rattle.sva_model.specs.Wire.{FlightWire, number, flight_wire, wire}
 use Rattle.sva_laws.proofs.Words.{put-same, put-other, ℕ_cases}
@@ -16,7 +16,7 @@ use Rattle.sva_labels.proofs.Selected.{select_seen, select_filtered, select_more
 
 -- the endpoint after an act of it
 abbrev pub part_after : World → (e : ℕ) → LocalAct → Endpoint
-part_after w e o = own (w.part e) w.messages o
+part_after w e o = act_alone (w.part e) w.messages o
 
 -- the message that an act delivers, if it does
 abbrev pub delivers : LocalAct → Option ℕ
@@ -56,16 +56,16 @@ abbrev pub left_of : Option ℕ → (ℕ → Option Subject) → ℕ → Option 
 left_of None message = message
 left_of (Some d) message = put message d None
 
-old_message : (p : Endpoint) (n : ℕ) (o : LocalAct) (c : ℕ) → c < n → (own p n o).message c ≡ left_of (delivers o) p.message c
+old_message : (p : Endpoint) (n : ℕ) (o : LocalAct) (c : ℕ) → c < n → (act_alone p n o).message c ≡ left_of (delivers o) p.message c
 old_message p n o c l = grind (arith, nat_tests)
 
-old_carried : (p : Endpoint) (n : ℕ) (o : LocalAct) (c : ℕ) → c < n → (own p n o).carried c ≡ p.carried c
+old_carried : (p : Endpoint) (n : ℕ) (o : LocalAct) (c : ℕ) → c < n → (act_alone p n o).carried c ≡ p.carried c
 old_carried p n o c l = grind (arith, nat_tests)
 
-new_message : (p : Endpoint) (n : ℕ) (o : LocalAct) (j : ℕ) → j < sends o → is_some ((own p n o).message (n + j)) ≡ true
+new_message : (p : Endpoint) (n : ℕ) (o : LocalAct) (j : ℕ) → j < sends o → is_some ((act_alone p n o).message (n + j)) ≡ true
 new_message p n o j l = grind (arith, nat_tests)
 
-new_carried : (p : Endpoint) (n : ℕ) (o : LocalAct) (j : ℕ) → j < sends o → (own p n o).carried (n + j) ≡ said p o
+new_carried : (p : Endpoint) (n : ℕ) (o : LocalAct) (j : ℕ) → j < sends o → (act_alone p n o).carried (n + j) ≡ said p o
 new_carried p n o j l = grind (arith, nat_tests)
 
 pub old_way : (f : ℕ → ℕ) (n k e c : ℕ) → c < n → put_range f n k (λ j. e) c ≡ f c

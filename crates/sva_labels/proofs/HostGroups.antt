@@ -5,7 +5,7 @@ use Rattle.sva_model.specs.Message.{Message}
 use Rattle.sva_model.specs.Message.Message.{InvalidatedMessage}
 use Rattle.sva_model.specs.State.{HostGroupState, Mappings, Endpoint}
 use Rattle.sva_model.specs.State.HostGroupState.{NotFiled, PartFiled}
-use Rattle.sva_model.specs.Acts.{LocalAct, own}
+use Rattle.sva_model.specs.Acts.{LocalAct, act_alone}
 use Rattle.sva_model.specs.Wire.{host_groups_wire, HostGroupWire}
 use Rattle.sva_laws.proofs.Legal.{LegalLocalAct}
 use Rattle.sva_laws.proofs.Invariant.{PartInvariant}
@@ -29,7 +29,7 @@ begun_or_not s h = grind arith
 -- where a request is filed in a group that isn't a job yet, and that no reset has dropped
 pub host_groups_in_turn :
     (ms : Mappings) (x g n e first : ℕ) (p : Endpoint) (o : LocalAct) → LegalLocalAct ms g p o → PartInvariant ms x g n e p → FilesOpen p o → Filings p
-    → host_groups_wire first (own p n o) ≡ host_groups_moved (host_groups_wire first p) (own_move first e ms p o)
+    → host_groups_wire first (act_alone p n o) ≡ host_groups_moved (host_groups_wire first p) (own_move first e ms p o)
 host_groups_in_turn ms x g n e first p (LocalAct.Bind b s t) l i turn fi = refl
 host_groups_in_turn ms x g n e first p (LocalAct.Stop b) l i turn fi = refl
 host_groups_in_turn ms x g n e first p (LocalAct.Drain b cookie) l i turn fi = refl
@@ -77,5 +77,5 @@ files_open ms x g n e p _ l i on = tt
 
 pub host_groups_acts :
     (ms : Mappings) (x g n e first : ℕ) (p : Endpoint) (o : LocalAct) → LegalLocalAct ms g p o → PartInvariant ms x g n e p → OnTheWay p → Filings p
-    → host_groups_wire first (own p n o) ≡ host_groups_moved (host_groups_wire first p) (own_move first e ms p o)
+    → host_groups_wire first (act_alone p n o) ≡ host_groups_moved (host_groups_wire first p) (own_move first e ms p o)
 host_groups_acts ms x g n e first p o l i on fi = host_groups_in_turn ms x g n e first p o l i (files_open ms x g n e p o l i on) fi

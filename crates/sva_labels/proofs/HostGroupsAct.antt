@@ -6,7 +6,7 @@ use Rattle.sva_model.specs.State.{HostGroupState, Mappings, Endpoint}
 use Rattle.sva_model.specs.State.HostGroupState.{InHand, Discarded, InHandDiscarded}
 use Rattle.sva_model.specs.State.Phase.{Open}
 use Rattle.sva_model.specs.States.{is_open, is_open_group}
-use Rattle.sva_model.specs.Acts.{LocalAct, own, discarded}
+use Rattle.sva_model.specs.Acts.{LocalAct, act_alone, discarded}
 use Rattle.sva_model.specs.Wire.{number, ask_wire, asks_wire, host_group_wire, host_groups_wire, begins_open, is_part}
 use Rattle.sva_laws.proofs.Words.{put-same, put-other, ℕ_cases}
 use Rattle.sva_laws.proofs.Legal.{LegalLocalAct}
@@ -86,9 +86,9 @@ groups_alike first p q a =
 
 pub groups_group :
     (g first n : ℕ) (p : Endpoint) (b i q : ℕ) (r x l : Bool) → Bounds g p → Filings p
-    → host_groups_wire first (own p n (LocalAct.Group b i q r x l)) ≡ host_groups_wire first p
+    → host_groups_wire first (act_alone p n (LocalAct.Group b i q r x l)) ≡ host_groups_wire first p
 groups_group g first n p b i q r x l bo fi =
-    groups_alike first p (own p n (LocalAct.Group b i q r x l))
+    groups_alike first p (act_alone p n (LocalAct.Group b i q r x l))
     (record {
       filings = refl;
       filing = λ k m. refl;
@@ -113,9 +113,9 @@ groups_group g first n p b i q r x l bo fi =
 
 pub groups_request :
     (g first n : ℕ) (p : Endpoint) (w q : ℕ) (r x l : Bool) → Bounds g p → Filings p
-    → host_groups_wire first (own p n (LocalAct.Request w q r x l)) ≡ host_groups_wire first p
+    → host_groups_wire first (act_alone p n (LocalAct.Request w q r x l)) ≡ host_groups_wire first p
 groups_request g first n p w q r x l bo fi =
-    groups_alike first p (own p n (LocalAct.Request w q r x l))
+    groups_alike first p (act_alone p n (LocalAct.Request w q r x l))
     (record {
       filings = refl;
       filing = λ k m. refl;
@@ -175,14 +175,14 @@ groups_state first p g s o w =
 
 pub groups_hand :
     (ms : Mappings) (g first n : ℕ) (p : Endpoint) (x w : ℕ) → LegalLocalAct ms g p (LocalAct.Hand x w)
-    → host_groups_wire first (own p n (LocalAct.Hand x w)) ≡ host_groups_wire first p
+    → host_groups_wire first (act_alone p n (LocalAct.Hand x w)) ≡ host_groups_wire first p
 groups_hand ms g first n p x w l = groups_state first p x (InHand w) (sym (ap is_open_group l)) (λ h. sym (ap is_part l))
 
 -- a worker's answer goes nowhere: the group isn't open
 
 pub groups_discard :
     (ms : Mappings) (y g first n e : ℕ) (p : Endpoint) (x : ℕ) → LegalLocalAct ms g p (LocalAct.Discard x) → PartInvariant ms y g n e p
-    → host_groups_wire first (own p n (LocalAct.Discard x)) ≡ host_groups_wire first p
+    → host_groups_wire first (act_alone p n (LocalAct.Discard x)) ≡ host_groups_wire first p
 groups_discard ms y g first n e p x l i = go l.0
   where
     shut : (b : Bool) → is_open p.phase ≡ b → (w : ℕ) → p.host_group x ≢ InHand w
@@ -194,7 +194,7 @@ groups_discard ms y g first n e p x l i = go l.0
 
     go :
         (w : ℕ) × ((p.host_group x ≡ InHand w) ⊎ (p.host_group x ≡ InHandDiscarded w))
-        → host_groups_wire first (own p n (LocalAct.Discard x)) ≡ host_groups_wire first p
+        → host_groups_wire first (act_alone p n (LocalAct.Discard x)) ≡ host_groups_wire first p
     go (w, inl h) = absurd (shut (is_open p.phase) refl w h)
     go (w, inr h) = groups_state first p x Discarded (sym (ap is_open_group h)) (λ o. sym (ap is_part h))
 
@@ -206,8 +206,8 @@ dropped s = grind arith
 pub shut_begins : (b c : Bool) → b ≡ false → (b && c) ≡ false
 shut_begins b c h = grind arith
 
-pub groups_reset : (first n : ℕ) (p : Endpoint) → host_groups_wire first (own p n LocalAct.Reset) ≡ []
+pub groups_reset : (first n : ℕ) (p : Endpoint) → host_groups_wire first (act_alone p n LocalAct.Reset) ≡ []
 groups_reset first n p =
-    picked_none p.filings (λ k. host_group_wire first (own p n LocalAct.Reset) (filed_group p k)) (begins_open (own p n LocalAct.Reset))
+    picked_none p.filings (λ k. host_group_wire first (act_alone p n LocalAct.Reset) (filed_group p k)) (begins_open (act_alone p n LocalAct.Reset))
     (λ k l. shut_begins (is_open_group (discarded (p.host_group (filed_group p k)))) (not (any_below k (λ j. filed_group p j == filed_group p k)))
     (dropped (p.host_group (filed_group p k))))

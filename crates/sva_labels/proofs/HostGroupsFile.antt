@@ -10,7 +10,7 @@ use Rattle.sva_model.specs.State.PageRequestState.{Arrived, Dropped}
 use Rattle.sva_model.specs.State.HostGroupState.{NotFiled, PartFiled, Job, InHand, Replied, Discarded, InHandDiscarded}
 use Rattle.sva_model.specs.State.Phase.{Open}
 use Rattle.sva_model.specs.States.{is_open_group, is_outstanding, is_before_invalidating}
-use Rattle.sva_model.specs.Acts.{LocalAct, own, filed_as}
+use Rattle.sva_model.specs.Acts.{LocalAct, act_alone, filed_as}
 use Rattle.sva_model.specs.Wire.{number, ask_wire, asks_wire, page_request_wire, host_group_wire, host_groups_wire, group_job, begins_open, is_part}
 use Rattle.sva_model.specs.Wire.{AskWire, HostGroupWire}
 use Rattle.sva_wire.proofs.Lists.{none_below}
@@ -61,7 +61,7 @@ in_hand_of s t (w, inr h) d b = absurd (inactive t (d w h) b)
 
 pub groups_respond :
     (ms : Mappings) (y g first n e : ℕ) (p : Endpoint) (x : ℕ) (code : Code) → LegalLocalAct ms g p (LocalAct.Respond x code) → PartInvariant ms y g n e p
-    → host_groups_wire first (own p n (LocalAct.Respond x code)) ≡ filter (λ z. not (is_of_job (group_job first e p x) z)) (host_groups_wire first p)
+    → host_groups_wire first (act_alone p n (LocalAct.Respond x code)) ≡ filter (λ z. not (is_of_job (group_job first e p x) z)) (host_groups_wire first p)
 groups_respond ms y g first n e p x code l i =
     picked_filter p.filings (λ k. host_group_wire first p (filed_group p k)) (λ k. host_group_wire first q (filed_group p k)) (begins_open p)
     (begins_open q) (λ z. not (is_of_job (group_job first e p x) z))
@@ -70,7 +70,7 @@ groups_respond ms y g first n e p x code l i =
     (λ k m b. entry k b (ℕ_cases (filed_group p k) x))
   where
     q : Endpoint
-    q = own p n (LocalAct.Respond x code)
+    q = act_alone p n (LocalAct.Respond x code)
 
     older : ℕ → Bool
     older k = not (any_below k (λ j. filed_group p j == filed_group p k))
@@ -136,9 +136,9 @@ arrived_in ms x g n e p r i on ph a = go (p.host_group (p.group_of r)) refl
     go (InHandDiscarded w) h = absurd (cc (sym out ∙ i.groups.discarded_over (p.group_of r) w ph h))
 
 -- what is asked in a group once a request is filed
-pub asks_filed : (p : Endpoint) (n r h : ℕ) → asks_wire (own p n (LocalAct.File r)) h ≡ asks_wire p h ++ if_passes (p.group_of r == h) (ask_wire p r)
+pub asks_filed : (p : Endpoint) (n r h : ℕ) → asks_wire (act_alone p n (LocalAct.File r)) h ≡ asks_wire p h ++ if_passes (p.group_of r == h) (ask_wire p r)
 asks_filed p n r h =
-    asks_seen (own p n (LocalAct.File r)) h
+    asks_seen (act_alone p n (LocalAct.File r)) h
     ∙ picked_next (λ k. ask_wire p (put p.filing p.filings r k)) p.filings (λ k. p.group_of (put p.filing p.filings r k) == h)
     ∙ ap₂ (λ xs ys. xs ++ ys)
     (
@@ -171,7 +171,7 @@ entry_of b i asks whole = record { binding = b; index = i; asks = asks; is_whole
 module _ (ms : Mappings) (x g n e first : ℕ) (p : Endpoint) (r : ℕ) (l : LegalLocalAct ms g p (LocalAct.File r)) (i : PartInvariant ms x g n e p)
     (fi : Filings p) where
   abbrev after : Endpoint
-  after = own p n (LocalAct.File r)
+  after = act_alone p n (LocalAct.File r)
 
   abbrev own_group : ℕ
   own_group = p.group_of r
@@ -361,6 +361,7 @@ module _ (ms : Mappings) (x g n e first : ℕ) (p : Endpoint) (r : ℕ) (l : Leg
 
   pub groups_file :
       (p.host_group (p.group_of r) ≡ NotFiled) ⊎ (p.host_group (p.group_of r) ≡ PartFiled)
-      → host_groups_wire first (own p n (LocalAct.File r)) ≡ filed (number first (p.asker (p.group_of r))) (page_request_wire p r) (host_groups_wire first p)
+      → host_groups_wire first (act_alone p n (LocalAct.File r))
+      ≡ filed (number first (p.asker (p.group_of r))) (page_request_wire p r) (host_groups_wire first p)
   groups_file (inl h) = first_of h
   groups_file (inr h) = more_of h (fi.begun own_group (ap is_filed_group h))

@@ -7,7 +7,7 @@ use Rattle.sva_step.specs.declared.limits.Config.{Config}
 use Rattle.sva_step.specs.declared.steps.Step.{Step}
 use Rattle.sva_model.specs.State.{PasidRule, Mappings, Endpoint, World, opened}
 use Rattle.sva_model.specs.State.PageRequestState.{Filed, Dropped}
-use Rattle.sva_model.specs.Acts.{Act, LocalAct, act, own, submitted_if, submits, bound, cookie_of}
+use Rattle.sva_model.specs.Acts.{Act, LocalAct, act, act_alone, submitted_if, submits, bound, cookie_of}
 use Rattle.sva_model.specs.Acts.Act.{NewSpace, DropSpace, Map, Unmap, NewBinding, NewJob, Hold, LetGo, AtEndpoint}
 use Rattle.sva_model.specs.Steps.{decide, next, run, after_acts, world_after}
 use Rattle.sva_laws.proofs.Legal.{LegalLocalAct}
@@ -30,28 +30,30 @@ filed_made g p bo fi k l = made (fi.filed k l) (bo.page_request (p.filing k))
     made : p.page_request (p.filing k) ≡ Filed → (p.page_requests ≤ p.filing k → p.page_request (p.filing k) ≡ Dropped) → p.filing k < p.page_requests
     made h d = grind (arith)
 
-pub filing_same : (p : Endpoint) (n : ℕ) (o : LocalAct) (k : ℕ) → k < p.filings → (own p n o).filing k ≡ p.filing k
+pub filing_same : (p : Endpoint) (n : ℕ) (o : LocalAct) (k : ℕ) → k < p.filings → (act_alone p n o).filing k ≡ p.filing k
 filing_same p n o k l = grind (arith, nat_tests)
 
-pub group_of_same : (p : Endpoint) (n : ℕ) (o : LocalAct) (r : ℕ) → r < p.page_requests → (own p n o).group_of r ≡ p.group_of r
+pub group_of_same : (p : Endpoint) (n : ℕ) (o : LocalAct) (r : ℕ) → r < p.page_requests → (act_alone p n o).group_of r ≡ p.group_of r
 group_of_same p n o r l = grind (arith, nat_tests)
 
-more_filings : (p : Endpoint) (n : ℕ) (o : LocalAct) → p.filings ≤ (own p n o).filings
+more_filings : (p : Endpoint) (n : ℕ) (o : LocalAct) → p.filings ≤ (act_alone p n o).filings
 more_filings p n o = grind (arith, nat_tests)
 
 filed_kept :
     (ms : Mappings) (g n : ℕ) (p : Endpoint) (o : LocalAct) → LegalLocalAct ms g p o → Queued p
     → (p.page_requests ≤ p.page_requests → p.page_request p.page_requests ≡ Dropped) → (k : ℕ)
-    → (k < p.filings → p.page_request (p.filing k) ≡ Filed) → k < (own p n o).filings
-    → (own p n o).page_request ((own p n o).filing k) ≡ Filed
+    → (k < p.filings → p.page_request (p.filing k) ≡ Filed) → k < (act_alone p n o).filings
+    → (act_alone p n o).page_request ((act_alone p n o).filing k) ≡ Filed
 filed_kept ms g n p o l qu un k old h = grind (arith, nat_tests, qu.in_flight)
 
 begun_from :
-    (ms : Mappings) (g n : ℕ) (p : Endpoint) (o : LocalAct) → LegalLocalAct ms g p o → (x : ℕ) → is_filed_group ((own p n o).host_group x) ≡ true
-    → (is_filed_group (p.host_group x) ≡ true) ⊎ ((p.filings < (own p n o).filings) × ((own p n o).group_of ((own p n o).filing p.filings) ≡ x))
+    (ms : Mappings) (g n : ℕ) (p : Endpoint) (o : LocalAct) → LegalLocalAct ms g p o → (x : ℕ) → is_filed_group ((act_alone p n o).host_group x) ≡ true
+    → (is_filed_group (p.host_group x) ≡ true)
+    ⊎ ((p.filings < (act_alone p n o).filings) × ((act_alone p n o).group_of ((act_alone p n o).filing p.filings) ≡ x))
 begun_from ms g n p o l x h = grind (arith, nat_tests)
 
-pub every : (ms : Mappings) (x g n e : ℕ) (p : Endpoint) (o : LocalAct) → LegalLocalAct ms g p o → PartInvariant ms x g n e p → Filings p → Filings (own p n o)
+pub every : (ms : Mappings) (x g n e : ℕ) (p : Endpoint) (o : LocalAct) → LegalLocalAct ms g p o → PartInvariant ms x g n e p → Filings p
+    → Filings (act_alone p n o)
 every ms x g n e p o l i fi =
     record {
       filed = λ k h. filed_kept ms g n p o l i.queued (i.bounds.page_request p.page_requests) k (fi.filed k) h;
@@ -60,12 +62,16 @@ every ms x g n e p o l i fi =
   where
     go :
         (y : ℕ)
-        → (is_filed_group (p.host_group y) ≡ true) ⊎ ((p.filings < (own p n o).filings) × ((own p n o).group_of ((own p n o).filing p.filings) ≡ y))
-        → (k : ℕ) × (k < (own p n o).filings) × ((own p n o).group_of ((own p n o).filing k) ≡ y)
+        → (is_filed_group (p.host_group y) ≡ true)
+        ⊎ ((p.filings < (act_alone p n o).filings) × ((act_alone p n o).group_of ((act_alone p n o).filing p.filings) ≡ y))
+        → (k : ℕ) × (k < (act_alone p n o).filings) × ((act_alone p n o).group_of ((act_alone p n o).filing k) ≡ y)
     go y (inl h) =
         let (k, l, e) = fi.begun y h in
-        let more = more_filings p n o in
-        (k, omega (arith, l, more), ap (own p n o).group_of (filing_same p n o k l) ∙ group_of_same p n o (p.filing k) (filed_made g p i.bounds fi k l) ∙ e)
+        let more = more_filings p n o in (
+          k,
+          omega (arith, l, more),
+          ap (act_alone p n o).group_of (filing_same p n o k l) ∙ group_of_same p n o (p.filing k) (filed_made g p i.bounds fi k l) ∙ e,
+        )
     go y (inr h) = (p.filings, h.0, h.1)
 
 submitted_filings : (t : Bool) (p : Endpoint) (o : Option ℕ) (q count order cookie : ℕ) → Filings p → Filings (submitted_if t p o q count order cookie)
@@ -86,7 +92,7 @@ act_filings w (NewJob e g) l i h = h
 act_filings w (Hold x j) l i h = h
 act_filings w (LetGo x) l i h = h
 act_filings w (AtEndpoint e o) l i h =
-    put_keeps (λ k p. Filings p) w.part e (own (w.part e) w.messages o)
+    put_keeps (λ k p. Filings p) w.part e (act_alone (w.part e) w.messages o)
     (every w.mappings w.config.endpoints w.bindings w.messages e (w.part e) o l.1.0 (i.parts e) (h e)) h
 
 pub acts_filings : (acts : List Act) (w : World) → LegalAll w acts → Invariant w → AllFilings w → AllFilings (after_acts w acts)

@@ -7,7 +7,7 @@ use Rattle.sva_model.specs.Words.{put, select}
 use Rattle.sva_model.specs.State.{HostGroupState, Mappings, Endpoint, World}
 use Rattle.sva_model.specs.State.HostGroupState.{InHand}
 use Rattle.sva_model.specs.States.{is_job}
-use Rattle.sva_model.specs.Acts.{LocalAct, own, act, discarded}
+use Rattle.sva_model.specs.Acts.{LocalAct, act_alone, act, discarded}
 use Rattle.sva_model.specs.Acts.Act.{AtEndpoint}
 use Rattle.sva_model.specs.Labels
 use Rattle.sva_model.specs.Wire.{AskWire, number, ask_wire, asks_wire, group_job, job_wire, wire}
@@ -38,28 +38,29 @@ JobsPast w = (j : ℕ) → j < w.jobs → is_past ((w.part (w.job j).endpoint).h
 
 -- The entry of a group that is past.
 
-under_kept : (p : Endpoint) (n : ℕ) (o : LocalAct) (g : ℕ) → FilesOpen p o → is_past (p.host_group g) ≡ true → (own p n o).filed_under g ≡ p.filed_under g
+under_kept : (p : Endpoint) (n : ℕ) (o : LocalAct) (g : ℕ) → FilesOpen p o → is_past (p.host_group g) ≡ true → (act_alone p n o).filed_under g ≡ p.filed_under g
 under_kept p n o g f h = grind (arith, nat_tests)
 
-index_kept : (p : Endpoint) (n : ℕ) (o : LocalAct) (g : ℕ) → g < p.groups → (own p n o).index g ≡ p.index g
+index_kept : (p : Endpoint) (n : ℕ) (o : LocalAct) (g : ℕ) → g < p.groups → (act_alone p n o).index g ≡ p.index g
 index_kept p n o g l = grind (arith, nat_tests)
 
-page_kept : (p : Endpoint) (n : ℕ) (o : LocalAct) (r : ℕ) → r < p.page_requests → (own p n o).asked_page r ≡ p.asked_page r
+page_kept : (p : Endpoint) (n : ℕ) (o : LocalAct) (r : ℕ) → r < p.page_requests → (act_alone p n o).asked_page r ≡ p.asked_page r
 page_kept p n o r l = grind (arith, nat_tests)
 
-read_kept : (p : Endpoint) (n : ℕ) (o : LocalAct) (r : ℕ) → r < p.page_requests → (own p n o).asks_read r ≡ p.asks_read r
+read_kept : (p : Endpoint) (n : ℕ) (o : LocalAct) (r : ℕ) → r < p.page_requests → (act_alone p n o).asks_read r ≡ p.asks_read r
 read_kept p n o r l = grind (arith, nat_tests)
 
-write_kept : (p : Endpoint) (n : ℕ) (o : LocalAct) (r : ℕ) → r < p.page_requests → (own p n o).asks_write r ≡ p.asks_write r
+write_kept : (p : Endpoint) (n : ℕ) (o : LocalAct) (r : ℕ) → r < p.page_requests → (act_alone p n o).asks_write r ≡ p.asks_write r
 write_kept p n o r l = grind (arith, nat_tests)
 
-pub ask_kept : (p : Endpoint) (n : ℕ) (o : LocalAct) (r : ℕ) → r < p.page_requests → ask_wire (own p n o) r ≡ ask_wire p r
+pub ask_kept : (p : Endpoint) (n : ℕ) (o : LocalAct) (r : ℕ) → r < p.page_requests → ask_wire (act_alone p n o) r ≡ ask_wire p r
 ask_kept p n o r l = λ i. record { page = page_kept p n o r l i; read = read_kept p n o r l i; write = write_kept p n o r l i }
 
 -- nothing is filed, or one more, which is of another group
 filed_more :
     (p : Endpoint) (n : ℕ) (o : LocalAct) (g : ℕ) → FilesOpen p o → is_past (p.host_group g) ≡ true
-    → ((own p n o).filings ≡ p.filings) ⊎ (((own p n o).filings ≡ suc p.filings) × (((own p n o).group_of ((own p n o).filing p.filings) == g) ≡ false))
+    → ((act_alone p n o).filings ≡ p.filings)
+    ⊎ (((act_alone p n o).filings ≡ suc p.filings) × (((act_alone p n o).group_of ((act_alone p n o).filing p.filings) == g) ≡ false))
 filed_more p n (LocalAct.File r) g f h =
     inr (refl, ap (λ x. p.group_of x == g) (put-same p.filing p.filings r) ∙ other)
   where
@@ -67,35 +68,37 @@ filed_more p n (LocalAct.File r) g f h =
     other = grind (arith, nat_tests)
 filed_more p n o g f h = inl (grind arith)
 
-asks_kept : (p : Endpoint) (n : ℕ) (o : LocalAct) (g : ℕ) → FilesMade p → FilesOpen p o → is_past (p.host_group g) ≡ true → asks_wire (own p n o) g
+asks_kept : (p : Endpoint) (n : ℕ) (o : LocalAct) (g : ℕ) → FilesMade p → FilesOpen p o → is_past (p.host_group g) ≡ true → asks_wire (act_alone p n o) g
     ≡ asks_wire p g
 asks_kept p n o g made f h =
-    map_twice (ask_wire (own p n o)) (own p n o).filing (select (own p n o).filings (λ k. (own p n o).group_of ((own p n o).filing k) == g))
+    map_twice (ask_wire (act_alone p n o)) (act_alone p n o).filing
+    (select (act_alone p n o).filings (λ k. (act_alone p n o).group_of ((act_alone p n o).filing k) == g))
     ∙ same_many (filed_more p n o g f h)
-    ∙ select_seen p.filings (λ k. (own p n o).group_of ((own p n o).filing k) == g) (λ k. p.group_of (p.filing k) == g)
-    (λ k. ask_wire (own p n o) ((own p n o).filing k)) (λ k. ask_wire p (p.filing k))
-    (λ k l. ap (λ r. (own p n o).group_of r == g) (filing_kept p n o k l) ∙ ap (λ x. x == g) (group_of_kept p n o (p.filing k) (made k l)))
-    (λ k l t. ap (ask_wire (own p n o)) (filing_kept p n o k l) ∙ ask_kept p n o (p.filing k) (made k l))
+    ∙ select_seen p.filings (λ k. (act_alone p n o).group_of ((act_alone p n o).filing k) == g) (λ k. p.group_of (p.filing k) == g)
+    (λ k. ask_wire (act_alone p n o) ((act_alone p n o).filing k)) (λ k. ask_wire p (p.filing k))
+    (λ k l. ap (λ r. (act_alone p n o).group_of r == g) (filing_kept p n o k l) ∙ ap (λ x. x == g) (group_of_kept p n o (p.filing k) (made k l)))
+    (λ k l t. ap (ask_wire (act_alone p n o)) (filing_kept p n o k l) ∙ ask_kept p n o (p.filing k) (made k l))
     ∙ sym (map_twice (ask_wire p) p.filing (select p.filings (λ k. p.group_of (p.filing k) == g)))
   where
     entry : ℕ → AskWire
-    entry k = ask_wire (own p n o) ((own p n o).filing k)
+    entry k = ask_wire (act_alone p n o) ((act_alone p n o).filing k)
 
     same_many :
-        ((own p n o).filings ≡ p.filings) ⊎ (((own p n o).filings ≡ suc p.filings) × (((own p n o).group_of ((own p n o).filing p.filings) == g) ≡ false))
-        → map entry (select (own p n o).filings (λ k. (own p n o).group_of ((own p n o).filing k) == g))
-        ≡ map entry (select p.filings (λ k. (own p n o).group_of ((own p n o).filing k) == g))
-    same_many (inl e) = ap (λ m. map entry (select m (λ k. (own p n o).group_of ((own p n o).filing k) == g))) e
+        ((act_alone p n o).filings ≡ p.filings)
+        ⊎ (((act_alone p n o).filings ≡ suc p.filings) × (((act_alone p n o).group_of ((act_alone p n o).filing p.filings) == g) ≡ false))
+        → map entry (select (act_alone p n o).filings (λ k. (act_alone p n o).group_of ((act_alone p n o).filing k) == g))
+        ≡ map entry (select p.filings (λ k. (act_alone p n o).group_of ((act_alone p n o).filing k) == g))
+    same_many (inl e) = ap (λ m. map entry (select m (λ k. (act_alone p n o).group_of ((act_alone p n o).filing k) == g))) e
     same_many (inr e) =
-        ap (λ m. map entry (select m (λ k. (own p n o).group_of ((own p n o).filing k) == g))) e.0
-        ∙ select_less p.filings (λ k. (own p n o).group_of ((own p n o).filing k) == g) entry e.1
+        ap (λ m. map entry (select m (λ k. (act_alone p n o).group_of ((act_alone p n o).filing k) == g))) e.0
+        ∙ select_less p.filings (λ k. (act_alone p n o).group_of ((act_alone p n o).filing k) == g) entry e.1
 
 past_made : (g : ℕ) (p : Endpoint) → Bounds g p → (x : ℕ) → is_past (p.host_group x) ≡ true → x < p.groups
 past_made g p bo x h = grind (arith, bo.host_group x)
 
 pub group_kept :
     (first e g : ℕ) (p : Endpoint) (n : ℕ) (o : LocalAct) (x : ℕ) → Bounds g p → FilesMade p → FilesOpen p o → is_past (p.host_group x) ≡ true
-    → group_job first e (own p n o) x ≡ group_job first e p x
+    → group_job first e (act_alone p n o) x ≡ group_job first e p x
 group_kept first e g p n o x bo made f h =
     λ i.
     record {
@@ -143,7 +146,7 @@ keeps_jobs _ = true
 -- what is past stays a job, or isn't one
 still_job :
     (ms : Mappings) (b : ℕ) (p : Endpoint) (n : ℕ) (o : LocalAct) (g : ℕ) → LegalLocalAct ms b p o → FilesOpen p o → keeps_jobs o ≡ true
-    → is_past (p.host_group g) ≡ true → is_job ((own p n o).host_group g) ≡ is_job (p.host_group g)
+    → is_past (p.host_group g) ≡ true → is_job ((act_alone p n o).host_group g) ≡ is_job (p.host_group g)
 still_job ms b p n o g l f k h = grind (arith, nat_tests)
 
 pub jobs_same :

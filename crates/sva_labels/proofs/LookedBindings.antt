@@ -82,7 +82,7 @@ pub binding_named :
     (w : World) (e b : ℕ) → Invariant w → is_unreleased ((w.part e).stage b) ≡ true
     → binding_of (wire w) (number w.config.first b) ≡ Some (binding_wire w.config.first e (w.part e) b)
 binding_named w e b i u =
-    let endpoint_of : w.endpoint_of b ≡ e = i.homed e b (unreleased_bound (w.part e) b u) in
+    let endpoint_of : w.endpoint_of b ≡ e = i.one_endpoint e b (unreleased_bound (w.part e) b u) in
     let back : Labels.name w (number w.config.first b) ≡ b = omega arith in
     let made : b < w.bindings = unreleased_made w.bindings (w.part e) b (i.parts e).bounds.stage u in
     binding_found w (number w.config.first b)
@@ -97,7 +97,7 @@ pub binding_released :
     (w : World) (e b : ℕ) → Invariant w → (w.part e).stage b ≢ Unbound → is_unreleased ((w.part e).stage b) ≡ false
     → binding_of (wire w) (number w.config.first b) ≡ None
 binding_released w e b i ne u =
-    let endpoint_of : w.endpoint_of b ≡ e = i.homed e b ne in
+    let endpoint_of : w.endpoint_of b ≡ e = i.one_endpoint e b ne in
     let back : Labels.name w (number w.config.first b) ≡ b = omega arith in
     binding_missing w (number w.config.first b)
     (and_no (Labels.is_number w w.bindings (number w.config.first b)) (is_kept w (Labels.name w (number w.config.first b)))
@@ -135,7 +135,7 @@ bearer_is w e t i = find_seen (binding_seen w) (λ b. b.endpoint == e && b.pasid
         (λ b l. not_both _ (λ k. absurd (cc (sym (bears b k) ∙ h)))))
     go (Some b) h =
         let la = (i.parts e).labels.pasid_bears t b h in
-        let endpoint_of : w.endpoint_of b ≡ e = i.homed e b (unreleased_bound (w.part e) b la.1) in
+        let endpoint_of : w.endpoint_of b ≡ e = i.one_endpoint e b (unreleased_bound (w.part e) b la.1) in
         ap (option_map (binding_seen w))
         (find_only w.bindings (λ b. is_kept w b && (w.endpoint_of b == e && (w.part (w.endpoint_of b)).pasid b == t)) b
         (unreleased_made w.bindings (w.part e) b (i.parts e).bounds.stage la.1)
@@ -179,7 +179,7 @@ bound_there w n i num =
         let space : (w.part x.0).space y.0 ≡ Labels.name w n =
         same_is ((w.part x.0).space y.0) (Labels.name w n)
         (and_right (is_unreleased ((w.part x.0).stage y.0)) ((w.part x.0).space y.0 == Labels.name w n) y.2) in
-        let endpoint_of : w.endpoint_of y.0 ≡ x.0 = i.homed x.0 y.0 (unreleased_bound (w.part x.0) y.0 kept) in
+        let endpoint_of : w.endpoint_of y.0 ≡ x.0 = i.one_endpoint x.0 y.0 (unreleased_bound (w.part x.0) y.0 kept) in
         any_below-intro w.bindings (λ b. is_kept w b && w.config.first + (w.part (w.endpoint_of b)).space b == n) y.0 y.1
         (and_both (is_kept w y.0) (w.config.first + (w.part (w.endpoint_of y.0)).space y.0 == n)
         (ap (λ d. is_unreleased ((w.part d).stage y.0)) endpoint_of ∙ kept)
@@ -207,7 +207,7 @@ borne_there w t i =
     by_bearer e None h k = absurd (cc)
     by_bearer e (Some b) h k =
         let la = (i.parts e).labels.pasid_bears t b h in
-        let endpoint_of : w.endpoint_of b ≡ e = i.homed e b (unreleased_bound (w.part e) b la.1) in
+        let endpoint_of : w.endpoint_of b ≡ e = i.one_endpoint e b (unreleased_bound (w.part e) b la.1) in
         any_below-intro w.bindings (λ b. is_kept w b && (w.part (w.endpoint_of b)).pasid b == t) b
         (unreleased_made w.bindings (w.part e) b (i.parts e).bounds.stage la.1)
         (and_both (is_kept w b) ((w.part (w.endpoint_of b)).pasid b == t) (ap (λ d. is_unreleased ((w.part d).stage b)) endpoint_of ∙ la.1)

@@ -8,7 +8,7 @@ use Rattle.sva_model.specs.State.PageRequestState.{Arrived}
 use Rattle.sva_model.specs.State.HostGroupState.{NotFiled, PartFiled}
 use Rattle.sva_model.specs.State.Phase.{Open}
 use Rattle.sva_model.specs.States.{is_open_group, is_outstanding}
-use Rattle.sva_model.specs.Acts.{LocalAct, own}
+use Rattle.sva_model.specs.Acts.{LocalAct, act_alone}
 use Rattle.sva_model.specs.State.{Mappings}
 use Rattle.sva_model.specs.Wire.{number, ask_wire, asks_wire, begins_open, is_part, host_group_wire, host_groups_wire}
 use Rattle.sva_laws.proofs.Words.{find_passes, find_some}
@@ -140,7 +140,7 @@ pub asks_then :
     (ms : Mappings) (x g n e first : ℕ) (p : Endpoint) (r : ℕ) → PartInvariant ms x g n e p → OnTheWay p → Filings p → p.phase ≡ Open
     → p.page_request r ≡ Arrived
     → asks_of (lists.find (is_begun (number first (p.asker (p.group_of r))) (p.index (p.group_of r))) (host_groups_wire first p)) ++ ask_wire p r ∷ []
-    ≡ asks_wire (own p n (LocalAct.File r)) (p.group_of r)
+    ≡ asks_wire (act_alone p n (LocalAct.File r)) (p.group_of r)
 asks_then ms x g n e first p r i on fi ph ar =
     ap (λ xs. xs ++ ask_wire p r ∷ []) (asks_there ms x g n e first p r i on fi ph ar)
     ∙ ap (λ b. asks_wire p (p.group_of r) ++ if_passes b (ask_wire p r)) (sym (is_same (p.group_of r) (p.group_of r) refl))

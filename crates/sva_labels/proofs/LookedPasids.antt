@@ -68,7 +68,7 @@ pasid_there w e s i r =
         (d b : ℕ) → is_unreleased ((w.part d).stage b) ≡ true → (w.part d).space b ≡ s
         → (b < w.bindings) × ((is_kept w b && w.config.first + (w.part (w.endpoint_of b)).space b == w.config.first + s) ≡ true)
     kept_at d b u sp =
-        let endpoint_of : w.endpoint_of b ≡ d = i.homed d b (unreleased_bound (w.part d) b u) in (
+        let endpoint_of : w.endpoint_of b ≡ d = i.one_endpoint d b (unreleased_bound (w.part d) b u) in (
           unreleased_made w.bindings (w.part d) b (i.parts d).bounds.stage u,
           and_both (is_kept w b) (w.config.first + (w.part (w.endpoint_of b)).space b == w.config.first + s)
               (ap (λ x. is_unreleased ((w.part x).stage b)) endpoint_of ∙ u)
@@ -174,7 +174,7 @@ bearers w t i =
     back e None h k = absurd (cc (k))
     back e (Some b) h k =
         let la = (i.parts e).labels.pasid_bears t b h in
-        let endpoint_of : w.endpoint_of b ≡ e = i.homed e b (unreleased_bound (w.part e) b la.1) in (
+        let endpoint_of : w.endpoint_of b ≡ e = i.one_endpoint e b (unreleased_bound (w.part e) b la.1) in (
           unreleased_made w.bindings (w.part e) b (i.parts e).bounds.stage la.1,
           and_both (is_kept w b) ((w.part (w.endpoint_of b)).pasid b == t) (ap (λ d. is_unreleased ((w.part d).stage b)) endpoint_of ∙ la.1)
               (is_same ((w.part (w.endpoint_of b)).pasid b) t (ap (λ d. (w.part d).pasid b) endpoint_of ∙ la.0)),
@@ -186,9 +186,9 @@ bearers w t i =
     one_endpoint d e None p h k u v same = absurd (cc (u))
     one_endpoint d e (Some b) None h k u v same = absurd (cc (v))
     one_endpoint d e (Some b) (Some c) h k u v same =
-        sym (i.homed d b (unreleased_bound (w.part d) b ((i.parts d).labels.pasid_bears t b h).1))
+        sym (i.one_endpoint d b (unreleased_bound (w.part d) b ((i.parts d).labels.pasid_bears t b h).1))
         ∙ ap w.endpoint_of same
-        ∙ i.homed e c (unreleased_bound (w.part e) c ((i.parts e).labels.pasid_bears t c k).1)
+        ∙ i.one_endpoint e c (unreleased_bound (w.part e) c ((i.parts e).labels.pasid_bears t c k).1)
 
 pub bearer_said :
     (w : World) (t : ℕ) → Invariant w → w.rule ≡ PerSpace
@@ -240,7 +240,7 @@ bearer_said w t i r =
             by_one e None g z = absurd (cc (z))
             by_one e (Some b) g z =
                 let la = (i.parts e).labels.pasid_bears t b g in
-                let endpoint_of : w.endpoint_of b ≡ e = i.homed e b (unreleased_bound (w.part e) b la.1) in
+                let endpoint_of : w.endpoint_of b ≡ e = i.one_endpoint e b (unreleased_bound (w.part e) b la.1) in
                 absurd (cc
                 (sym (find_some w.bindings (λ b. is_kept w b && (w.part (w.endpoint_of b)).pasid b == t) b
                 (unreleased_made w.bindings (w.part e) b (i.parts e).bounds.stage la.1)

@@ -10,7 +10,7 @@ use Rattle.sva_step.specs.declared.steps.Step.TheVariants as step
 use Rattle.sva_model.specs.Range.{Range, IsRange}
 use Rattle.sva_model.specs.State.{PasidRule, Endpoint, World, opened}
 use Rattle.sva_model.specs.State.Order.{RangeOf}
-use Rattle.sva_model.specs.Acts.{Act, LocalAct, act, own, range_at, submitted, submitted_if, submits, bound, cookie_of}
+use Rattle.sva_model.specs.Acts.{Act, LocalAct, act, act_alone, range_at, submitted, submitted_if, submits, bound, cookie_of}
 use Rattle.sva_model.specs.Acts.Act.{NewSpace, DropSpace, Map, Unmap, NewBinding, NewJob, Hold, LetGo, AtEndpoint}
 use Rattle.sva_model.specs.Labels
 use Rattle.sva_model.specs.Replies.{response_to}
@@ -37,7 +37,7 @@ abbrev pub AllCanCode : List Act → Type 0
 AllCanCode [] = Unit {0}
 AllCanCode (a ∷ acts) = CanCode a × AllCanCode acts
 
-own_order : (p : Endpoint) (n : ℕ) (o : LocalAct) (k b : ℕ) (range : Range) → (own p n o).order k ≡ RangeOf b range → p.order k ≡ RangeOf b range
+own_order : (p : Endpoint) (n : ℕ) (o : LocalAct) (k b : ℕ) (range : Range) → (act_alone p n o).order k ≡ RangeOf b range → p.order k ≡ RangeOf b range
 own_order p n o k b range h = grind (arith, nat_tests)
 
 -- an order after a submission was there, or is of one of the ranges
@@ -70,7 +70,7 @@ act_ranges w (NewJob e g) c h = h
 act_ranges w (Hold x j) c h = h
 act_ranges w (LetGo x) c h = h
 act_ranges w (AtEndpoint e o) c h =
-    put_keeps (λ x p. HasRanges p) w.part e (own (w.part e) w.messages o) (λ k b range i. h e k b range (own_order (w.part e) w.messages o k b range i)) h
+    put_keeps (λ x p. HasRanges p) w.part e (act_alone (w.part e) w.messages o) (λ k b range i. h e k b range (own_order (w.part e) w.messages o k b range i)) h
 
 acts_ranges : (acts : List Act) (w : World) → AllCanCode acts → HaveRanges w → HaveRanges (after_acts w acts)
 acts_ranges [] w c h = h

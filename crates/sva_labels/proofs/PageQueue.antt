@@ -9,7 +9,7 @@ use Rattle.sva_model.specs.State.PageRequestState.{InFlight, Arrived, Filed, Dro
 use Rattle.sva_model.specs.State.Subject.{PageRequestOf}
 use Rattle.sva_model.specs.State.Stage.{Unbound}
 use Rattle.sva_model.specs.States.{is_arrived, is_before_invalidating}
-use Rattle.sva_model.specs.Acts.{LocalAct, own, dropped_arrived}
+use Rattle.sva_model.specs.Acts.{LocalAct, act_alone, dropped_arrived}
 use Rattle.sva_model.specs.Labels.{is_waiting}
 use Rattle.sva_model.specs.Wire.{page_request_wire, page_queue_wire, PageRequestWire}
 use Rattle.sva_laws.proofs.Words.{put-same, put-other}
@@ -52,9 +52,9 @@ before_bound s h e = absurd (cc (sym (ap is_before_invalidating e) ∙ h))
 
 queue_bind :
     (ms : Mappings) (g n : ℕ) (p : Endpoint) (b s t : ℕ) → LegalLocalAct ms g p (LocalAct.Bind b s t) → Groups p
-    → page_queue_wire (own p n (LocalAct.Bind b s t)) ≡ page_queue_wire p
+    → page_queue_wire (act_alone p n (LocalAct.Bind b s t)) ≡ page_queue_wire p
 queue_bind ms g n p b s t l gr =
-    queue_same p (own p n (LocalAct.Bind b s t)) refl (λ k m. refl) (λ k m. refl)
+    queue_same p (act_alone p n (LocalAct.Bind b s t)) refl (λ k m. refl) (λ k m. refl)
     (λ k m a. ap
     (λ z. asked_of z (p.index (p.group_of (p.arrival k))) (p.asked_page (p.arrival k)) (p.asks_read (p.arrival k)) (p.asks_write (p.arrival k))
     (p.is_last (p.arrival k)))
@@ -65,7 +65,7 @@ queue_bind ms g n p b s t l gr =
 
 -- a page request more at the endpoint: none that has arrived is it
 
-queue_group : (g n : ℕ) (p : Endpoint) (b i q : ℕ) (r x l : Bool) → Bounds g p → Queued p → page_queue_wire (own p n (LocalAct.Group b i q r x l))
+queue_group : (g n : ℕ) (p : Endpoint) (b i q : ℕ) (r x l : Bool) → Bounds g p → Queued p → page_queue_wire (act_alone p n (LocalAct.Group b i q r x l))
     ≡ page_queue_wire p
 queue_group g n p b i q r x l bo qu =
     queue_same p new refl (λ k m. refl)
@@ -73,7 +73,7 @@ queue_group g n p b i q r x l bo qu =
     (λ k m a. same (p.arrival k) (qu.arrival k m).1)
   where
     new : Endpoint
-    new = own p n (LocalAct.Group b i q r x l)
+    new = act_alone p n (LocalAct.Group b i q r x l)
 
     same : (y : ℕ) → y < p.page_requests → page_request_wire new y ≡ page_request_wire p y
     same y m =
@@ -83,14 +83,14 @@ queue_group g n p b i q r x l bo qu =
         (old_put p.index p.groups (p.group_of y) i (bo.group_of y m) j) (old_put p.asked_page p.page_requests y q m j)
         (old_put p.asks_read p.page_requests y r m j) (old_put p.asks_write p.page_requests y x m j) (old_put p.is_last p.page_requests y l m j))
 
-queue_request : (g n : ℕ) (p : Endpoint) (w q : ℕ) (r x l : Bool) → Queued p → page_queue_wire (own p n (LocalAct.Request w q r x l)) ≡ page_queue_wire p
+queue_request : (g n : ℕ) (p : Endpoint) (w q : ℕ) (r x l : Bool) → Queued p → page_queue_wire (act_alone p n (LocalAct.Request w q r x l)) ≡ page_queue_wire p
 queue_request g n p w q r x l qu =
     queue_same p new refl (λ k m. refl)
     (λ k m. ap is_arrived (old_put p.page_request p.page_requests (p.arrival k) InFlight (qu.arrival k m).1))
     (λ k m a. same (p.arrival k) (qu.arrival k m).1)
   where
     new : Endpoint
-    new = own p n (LocalAct.Request w q r x l)
+    new = act_alone p n (LocalAct.Request w q r x l)
 
     same : (y : ℕ) → y < p.page_requests → page_request_wire new y ≡ page_request_wire p y
     same y m =
@@ -103,10 +103,10 @@ queue_request g n p w q r x l qu =
 
 queue_file :
     (ms : Mappings) (g first n e : ℕ) (p : Endpoint) (r : ℕ) → LegalLocalAct ms g p (LocalAct.File r) → Queued p
-    → page_queue_wire (own p n (LocalAct.File r)) ≡ drop 1 (page_queue_wire p)
+    → page_queue_wire (act_alone p n (LocalAct.File r)) ≡ drop 1 (page_queue_wire p)
 queue_file ms g first n e p r l qu =
     picked_drop p.arrivals (p.arrived_as r) (λ k. page_request_wire p (p.arrival k)) (λ k. page_request_wire p (p.arrival k)) (is_waiting p)
-    (is_waiting (own p n (LocalAct.File r)))
+    (is_waiting (act_alone p n (LocalAct.File r)))
     (qu.arrived r l.1).0
     (ap (λ z. is_arrived (p.page_request z)) (qu.arrived r l.1).1 ∙ ap is_arrived l.1)
     older
@@ -127,15 +127,15 @@ landed c r p h qu k l e = qu.landed k l (ap p.page_request e ∙ (qu.in_flight c
 
 queue_miss :
     (ms : Mappings) (g n : ℕ) (p : Endpoint) (c r : ℕ) → LegalLocalAct ms g p (LocalAct.Miss c r) → Queued p
-    → page_queue_wire (own p n (LocalAct.Miss c r)) ≡ page_queue_wire p
+    → page_queue_wire (act_alone p n (LocalAct.Miss c r)) ≡ page_queue_wire p
 queue_miss ms g n p c r l qu =
-    queue_same p (own p n (LocalAct.Miss c r)) refl (λ k m. refl)
+    queue_same p (act_alone p n (LocalAct.Miss c r)) refl (λ k m. refl)
     (λ k m. ap is_arrived (put-other p.page_request r Dropped (p.arrival k) (landed c r p l.0 qu k m)))
     (λ k m a. refl)
 
 queue_arrive :
     (ms : Mappings) (g n : ℕ) (p : Endpoint) (c r : ℕ) → LegalLocalAct ms g p (LocalAct.Arrive c r) → Queued p
-    → page_queue_wire (own p n (LocalAct.Arrive c r)) ≡ page_queue_wire p ++ page_request_wire p r ∷ []
+    → page_queue_wire (act_alone p n (LocalAct.Arrive c r)) ≡ page_queue_wire p ++ page_request_wire p r ∷ []
 queue_arrive ms g n p c r l qu =
     picked_one_more p.arrivals (λ k. page_request_wire p (put p.arrival p.arrivals r k))
     (λ k. is_arrived (put p.page_request r Arrived (put p.arrival p.arrivals r k)))
@@ -155,7 +155,7 @@ queue_arrive ms g n p c r l qu =
 dropped : (s : PageRequestState) → is_arrived (dropped_arrived s) ≡ false
 dropped s = grind arith
 
-queue_reset : (n : ℕ) (p : Endpoint) → page_queue_wire (own p n LocalAct.Reset) ≡ []
+queue_reset : (n : ℕ) (p : Endpoint) → page_queue_wire (act_alone p n LocalAct.Reset) ≡ []
 queue_reset n p =
     picked_none p.arrivals (λ k. page_request_wire p (p.arrival k)) (λ k. is_arrived (dropped_arrived (p.page_request (p.arrival k))))
     (λ k l. dropped (p.page_request (p.arrival k)))
@@ -167,7 +167,7 @@ count_same first e c _ queue = refl
 
 pub page_queue_acts :
     (ms : Mappings) (x g n e first : ℕ) (p : Endpoint) (o : LocalAct) → LegalLocalAct ms g p o → PartInvariant ms x g n e p
-    → page_queue_wire (own p n o) ≡ page_queue_moved (page_queue_wire p) (own_move first e ms p o)
+    → page_queue_wire (act_alone p n o) ≡ page_queue_moved (page_queue_wire p) (own_move first e ms p o)
 page_queue_acts ms x g n e first p (LocalAct.Bind b s t) l i = queue_bind ms g n p b s t l i.groups
 page_queue_acts ms x g n e first p (LocalAct.Stop b) l i = refl
 page_queue_acts ms x g n e first p (LocalAct.Drain b cookie) l i = refl

@@ -8,7 +8,7 @@ use Rattle.sva_model.specs.State.Owed.{Nothing, Ranges, Pasid, NextReset}
 use Rattle.sva_model.specs.State.MappingState.{Gone}
 use Rattle.sva_model.specs.State.OrderState.{Done}
 use Rattle.sva_model.specs.States.{is_done, is_wait, is_busy, answered}
-use Rattle.sva_model.specs.Acts.{own, LocalAct, act}
+use Rattle.sva_model.specs.Acts.{act_alone, LocalAct, act}
 use Rattle.sva_model.specs.Acts.Act.{AtEndpoint}
 use Rattle.sva_model.specs.Wire.{PlaceWire, cookie_number, target_of, target_wire, places_wire}
 use Rattle.sva_model.specs.Wire.PlaceWire.{WithheldWire}
@@ -102,41 +102,41 @@ settles (LocalAct.Pass k) = true
 settles (LocalAct.Reopen c) = true
 settles _ = false
 
-resets_kept : (p : Endpoint) (n : ℕ) (o : LocalAct) → settles o ≡ false → (own p n o).resets ≡ p.resets
+resets_kept : (p : Endpoint) (n : ℕ) (o : LocalAct) → settles o ≡ false → (act_alone p n o).resets ≡ p.resets
 resets_kept p n o h = grind arith
 
 -- no other act makes a wait done
 undone_kept :
     (ms : Mappings) (g n : ℕ) (p : Endpoint) (o : LocalAct) → LegalLocalAct ms g p o → SentOnly p → settles o ≡ false → (x : ℕ) → x < p.orders
     → is_wait (p.order x) ≡ true → (is_busy (p.order_state x) ≡ true → is_wait (p.order x) ≡ false) → p.order_state x ≢ Done
-    → (own p n o).order_state x ≢ Done
+    → (act_alone p n o).order_state x ≢ Done
 undone_kept ms g n p o l sent h x made w nw nd d = grind (arith, nat_tests)
 
 silent_kept :
     (ms : Mappings) (g n : ℕ) (p : Endpoint) (o : LocalAct) → LegalLocalAct ms g p o → SentOnly p → Orders p → settles o ≡ false → (v : Owed)
-    → FitsDebt p v → answered p v ≡ false → answered (own p n o) v ≡ false
+    → FitsDebt p v → answered p v ≡ false → answered (act_alone p n o) v ≡ false
 silent_kept ms g n p o l sent or h Nothing d k = absurd (cc (k))
 silent_kept ms g n p o l sent or h (Ranges first count resets) d k =
     let z = ranges_open p first count resets d.1 k in
-    ranges_wait (own p n o) first count resets (z.0 ∙ sym (resets_kept p n o h))
+    ranges_wait (act_alone p n o) first count resets (z.0 ∙ sym (resets_kept p n o h))
     (undone_kept ms g n p o l sent h (first + count) d.1.made d.1.is_a_wait (or.no_wait (first + count)) z.1)
 silent_kept ms g n p o l sent or h (Pasid j x resets in_reset) d k =
     let z = pasid_open p j x resets in_reset d.1 k in
-    pasid_waits (own p n o) j x resets in_reset (z.0 ∙ sym (resets_kept p n o h))
+    pasid_waits (act_alone p n o) j x resets in_reset (z.0 ∙ sym (resets_kept p n o h))
     (undone_kept ms g n p o l sent h x d.1.made d.1.is_a_wait (or.no_wait x) z.1)
 silent_kept ms g n p o l sent or h (NextReset resets) d k = ap (nat_lt resets) (resets_kept p n o h) ∙ k
 
 pub answered_kept :
     (ms : Mappings) (g n : ℕ) (p : Endpoint) (o : LocalAct) → LegalLocalAct ms g p o → Bounds g p → SentOnly p → Orders p → settles o ≡ false → (v : Owed)
-    → FitsDebt p v → answered (own p n o) v ≡ answered p v
+    → FitsDebt p v → answered (act_alone p n o) v ≡ answered p v
 answered_kept ms g n p o l bo sent or h v d = go (answered p v) refl
   where
-    go : (b : Bool) → answered p v ≡ b → answered (own p n o) v ≡ answered p v
+    go : (b : Bool) → answered p v ≡ b → answered (act_alone p n o) v ≡ answered p v
     go true e = answered_own ms g n p o l sent bo v e ∙ sym e
     go false e = silent_kept ms g n p o l sent or h v d e ∙ sym e
 
 -- what is waited for doesn't change
-pub target_kept : (first n : ℕ) (p : Endpoint) (o : LocalAct) (v : Owed) → FitsDebt p v → target_of first (own p n o) v ≡ target_of first p v
+pub target_kept : (first n : ℕ) (p : Endpoint) (o : LocalAct) (v : Owed) → FitsDebt p v → target_of first (act_alone p n o) v ≡ target_of first p v
 target_kept first n p o Nothing d = refl
 target_kept first n p o (Ranges range count resets) d = ap (λ z. Cookie (cookie_number first z)) (own_old p n o (range + count) d.1.made)
 target_kept first n p o (Pasid k x resets true) d = refl
@@ -187,7 +187,7 @@ pub places_kept : (w : World) (e : ℕ) (o : LocalAct) → Legal w (AtEndpoint e
 places_kept w e o l i debts h =
     places_same w (act w (AtEndpoint e o)) refl refl
     (λ m owed gone. seen_same w (act w (AtEndpoint e o)) owed refl
-    (λ x k. put_keeps (λ x q. IsSeenSame w.config.first (w.part x) q (owed x)) w.part e (own (w.part e) w.messages o)
+    (λ x k. put_keeps (λ x q. IsSeenSame w.config.first (w.part x) q (owed x)) w.part e (act_alone (w.part e) w.messages o)
     (record {
       answers =
           answered_kept w.mappings w.bindings w.messages (w.part e) o l.1.0 (i.parts e).bounds (i.parts e).labels.sent (i.parts e).orders h (owed e)

@@ -16,13 +16,13 @@ use Rattle.sva_model.specs.State.RequestState.{Out, Doomed, Over}
 use Rattle.sva_model.specs.State.Subject.{StartOf, StopOf, FunctionReset, CompletionOf, InvalidateOf, ResponseOf, RequestOf, InvalidatedOf, PageRequestOf}
 use Rattle.sva_model.specs.State.Subject.{MarkerOf, ResetDone}
 use Rattle.sva_model.specs.States.{is_open, is_queued}
-use Rattle.sva_model.specs.Acts.{LocalAct, act, own, filed_as}
+use Rattle.sva_model.specs.Acts.{LocalAct, act, act_alone, filed_as}
 use Rattle.sva_model.specs.Acts.Act.{Map, LetGo, AtEndpoint}
 use Rattle.sva_model.specs.Labels
 use Rattle.sva_model.specs.Refusals.{refusals}
 use Rattle.sva_model.specs.Replies.{maps_to, reply_maps, replies_success, newly_mapped, free_list, is_write_asked, job_space, response_to}
 use Rattle.sva_model.specs.Outcomes.{outcome, unbind_outcome, advance_outcome, pump_outcome, head_outcome, wait_outcome, send_outcome, may_pass}
-use Rattle.sva_model.specs.Outcomes.{serve_outcome, file_outcome, reply_outcome, fault_outcome, about_outcome, deliver_outcome, completion_outcome}
+use Rattle.sva_model.specs.Outcomes.{serve_outcome, file_outcome, reply_outcome, fault_outcome, subject_outcome, deliver_outcome, completion_outcome}
 use Rattle.sva_model.specs.Outcomes.{keep_outcome, is_full, request_outcome, count_outcome, page_request_outcome, marker_outcome}
 use Rattle.sva_laws.proofs.Words.{put-same, any_below-true, lowest_below, lowest_cases, not_true}
 use Rattle.sva_laws.proofs.Invariant.{Invariant}
@@ -97,9 +97,9 @@ file_ready :
 file_ready w e r false h i on l = ((not_past w e r i (on e) l.0.1.0.0 l.0.1.0.1, tt), tt)
 file_ready w e r true h i on l = ((not_past w e r i (on e) l.0.1.0.0 l.0.1.0.1, tt), (job, tt))
   where
-    job : (put w.part e (own (w.part e) w.messages (LocalAct.File r)) e).host_group ((w.part e).group_of r) ≡ Job
+    job : (put w.part e (act_alone (w.part e) w.messages (LocalAct.File r)) e).host_group ((w.part e).group_of r) ≡ Job
     job =
-        ap (λ p. p.host_group ((w.part e).group_of r)) (put-same w.part e (own (w.part e) w.messages (LocalAct.File r)))
+        ap (λ p. p.host_group ((w.part e).group_of r)) (put-same w.part e (act_alone (w.part e) w.messages (LocalAct.File r)))
         ∙ put-same (w.part e).host_group ((w.part e).group_of r) (filed_as ((w.part e).is_last r))
         ∙ ap filed_as h
 
@@ -185,22 +185,22 @@ marker_ready : (w : World) (e c d : ℕ) (b : Bool) → AreReady w (marker_outco
 marker_ready w e c d true = ((tt, tt), tt)
 marker_ready w e c d false = ((tt, tt), tt)
 
-about_ready : (w : World) (p : Endpoint) (e c : ℕ) (a : Subject) → AreReady w (about_outcome w p e c a).acts
-about_ready w p e c (StartOf b) = ((tt, tt), tt)
-about_ready w p e c (StopOf b) = ((tt, tt), tt)
-about_ready w p e c FunctionReset = ((tt, tt), tt)
-about_ready w p e c (CompletionOf r found) = completion_ready w p e c r found (p.request r)
-about_ready w p e c (InvalidateOf k) = ((tt, tt), tt)
-about_ready w p e c (ResponseOf g code) = ((tt, tt), tt)
-about_ready w p e c (RequestOf r) = request_ready w p e c r (is_open p.phase)
-about_ready w p e c (InvalidatedOf names) = count_ready w p e c names (is_open p.phase)
-about_ready w p e c (PageRequestOf r) = page_request_ready w e c r (is_open p.phase)
-about_ready w p e c (MarkerOf b) = marker_ready w e c b (is_open p.phase)
-about_ready w p e c ResetDone = ((tt, tt), tt)
+subject_ready : (w : World) (p : Endpoint) (e c : ℕ) (a : Subject) → AreReady w (subject_outcome w p e c a).acts
+subject_ready w p e c (StartOf b) = ((tt, tt), tt)
+subject_ready w p e c (StopOf b) = ((tt, tt), tt)
+subject_ready w p e c FunctionReset = ((tt, tt), tt)
+subject_ready w p e c (CompletionOf r found) = completion_ready w p e c r found (p.request r)
+subject_ready w p e c (InvalidateOf k) = ((tt, tt), tt)
+subject_ready w p e c (ResponseOf g code) = ((tt, tt), tt)
+subject_ready w p e c (RequestOf r) = request_ready w p e c r (is_open p.phase)
+subject_ready w p e c (InvalidatedOf names) = count_ready w p e c names (is_open p.phase)
+subject_ready w p e c (PageRequestOf r) = page_request_ready w e c r (is_open p.phase)
+subject_ready w p e c (MarkerOf b) = marker_ready w e c b (is_open p.phase)
+subject_ready w p e c ResetDone = ((tt, tt), tt)
 
 deliver_ready : (w : World) (p : Endpoint) (e c : ℕ) (o : Option Subject) → AreReady w (deliver_outcome w p e c o).acts
 deliver_ready w p e c None = tt
-deliver_ready w p e c (Some a) = about_ready w p e c a
+deliver_ready w p e c (Some a) = subject_ready w p e c a
 
 pub outcome_ready : (w : World) (s : Step) → Invariant w → AllOn w → JobsOf w → Passed (refusals w s) → AreReady w (outcome w s).acts
 outcome_ready w step.Space i on js p = (tt, tt)

@@ -11,7 +11,7 @@ use Rattle.sva_model.specs.State.{PageRequestState, Stage, World}
 use Rattle.sva_model.specs.State.PageRequestState.{Arrived}
 use Rattle.sva_model.specs.State.Phase.{Open}
 use Rattle.sva_model.specs.States.{is_arrived, is_unreleased, is_before_invalidating}
-use Rattle.sva_model.specs.Acts.{Act, LocalAct, act, own}
+use Rattle.sva_model.specs.Acts.{Act, LocalAct, act, act_alone}
 use Rattle.sva_model.specs.Refusals as names
 use Rattle.sva_model.specs.Refusals.{Cause, refusals}
 use Rattle.sva_model.specs.Outcomes.{file_outcome, serve_outcome, take_outcome}
@@ -66,7 +66,7 @@ job_there w e r i on fi ph h =
       index = (w.part e).index ((w.part e).group_of r);
       asks = asks_then w.mappings w.config.endpoints w.bindings w.messages e w.config.first (w.part e) r (i.parts e) on fi ph h k;
     })
-    ∙ ap (λ p. group_job w.config.first e p ((w.part e).group_of r)) (sym (put-same w.part e (own (w.part e) w.messages (LocalAct.File r))))
+    ∙ ap (λ p. group_job w.config.first e p ((w.part e).group_of r)) (sym (put-same w.part e (act_alone (w.part e) w.messages (LocalAct.File r))))
 
 filed_by :
     (w : World) (e r : ℕ) → Invariant w → OnTheWay (w.part e) → Filings (w.part e) → (w.part e).phase ≡ Open
@@ -137,7 +137,7 @@ taken_by w x j rest =
     ((w.part (w.job j).endpoint).index (w.job j).group) n) (Move.Hand ∷ Move.Hold x z ∷ []))
     (length-map (Labels.asks (w.part (w.job j).endpoint) (w.job j).group) (ask_wire (w.part (w.job j).endpoint)))
     (ap (λ p. group_job w.config.first (w.job j).endpoint p (w.job j).group)
-    (sym (put-same w.part (w.job j).endpoint (own (w.part (w.job j).endpoint) w.messages (LocalAct.Hand (w.job j).group x)))))
+    (sym (put-same w.part (w.job j).endpoint (act_alone (w.part (w.job j).endpoint) w.messages (LocalAct.Hand (w.job j).group x)))))
 
 pub take_says : (w : World) (x : ℕ) → SaysAlike w (step.Take x)
 take_says w x =

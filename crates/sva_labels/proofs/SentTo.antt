@@ -6,7 +6,7 @@ use Rattle.sva_step.specs.declared.limits.Config.{Config}
 use Rattle.sva_step.specs.declared.steps.Step.{Step}
 use Rattle.sva_model.specs.Words.{put, put_range, is_some}
 use Rattle.sva_model.specs.State.{PasidRule, Mappings, Endpoint, World, opened}
-use Rattle.sva_model.specs.Acts.{Act, LocalAct, act, own, sends, submitted_if, submits, bound, cookie_of}
+use Rattle.sva_model.specs.Acts.{Act, LocalAct, act, act_alone, sends, submitted_if, submits, bound, cookie_of}
 use Rattle.sva_model.specs.Acts.Act.{NewSpace, DropSpace, Map, Unmap, NewBinding, NewJob, Hold, LetGo, AtEndpoint}
 use Rattle.sva_model.specs.Steps.{decide, next, run, after_acts, world_after}
 use Rattle.sva_laws.proofs.Words.{ℕ_cases, put-same, put-other}
@@ -23,7 +23,7 @@ AreSentTo w = (e c : ℕ) → is_some ((w.part e).message c) ≡ true → w.link
 
 -- a message that is in flight after an act was in flight before, or is one that the act sends
 message_from :
-    (ms : Mappings) (g n : ℕ) (p : Endpoint) (o : LocalAct) → LegalLocalAct ms g p o → (c : ℕ) → is_some ((own p n o).message c) ≡ true
+    (ms : Mappings) (g n : ℕ) (p : Endpoint) (o : LocalAct) → LegalLocalAct ms g p o → (c : ℕ) → is_some ((act_alone p n o).message c) ≡ true
     → (is_some (p.message c) ≡ true) ⊎ ((n ≤ c) × (c < n + sends o))
 message_from ms g n p o l c h = grind (arith, nat_tests)
 
@@ -45,14 +45,14 @@ at_sent w e o l i h x c k = go (ℕ_cases x e)
     go : (x ≡ e) ⊎ (x ≢ e) → put_range w.link_of w.messages (sends o) (λ j. e) c ≡ x
     go (inr ne) =
         let old : is_some ((w.part x).message c) ≡ true =
-        subst (λ p. is_some (p.message c) ≡ true) (put-other w.part e (own (w.part e) w.messages o) x ne) k in
+        subst (λ p. is_some (p.message c) ≡ true) (put-other w.part e (act_alone (w.part e) w.messages o) x ne) k in
         old_way w.link_of w.messages (sends o) e c (was_sent w.messages (w.part x) (i.parts x).resets c old) ∙ h x c old
     go (inl same) = here (message_from w.mappings w.bindings w.messages (w.part e) o l c there) ∙ sym same
       where
-        there : is_some ((own (w.part e) w.messages o).message c) ≡ true
+        there : is_some ((act_alone (w.part e) w.messages o).message c) ≡ true
         there =
-            subst (λ p. is_some (p.message c) ≡ true) (ap (put w.part e (own (w.part e) w.messages o)) same
-            ∙ put-same w.part e (own (w.part e) w.messages o)) k
+            subst (λ p. is_some (p.message c) ≡ true) (ap (put w.part e (act_alone (w.part e) w.messages o)) same
+            ∙ put-same w.part e (act_alone (w.part e) w.messages o)) k
 
         here : (is_some ((w.part e).message c) ≡ true) ⊎ ((w.messages ≤ c) × (c < w.messages + sends o))
             → put_range w.link_of w.messages (sends o) (λ j. e) c ≡ e

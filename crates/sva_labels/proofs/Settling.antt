@@ -11,7 +11,7 @@ use Rattle.sva_model.specs.State.MappingState.{Gone}
 use Rattle.sva_model.specs.State.Order.{RangeOf, PasidOf, Wait}
 use Rattle.sva_model.specs.State.OrderState.{Done}
 use Rattle.sva_model.specs.States.{is_done, is_wait, answered}
-use Rattle.sva_model.specs.Acts.{own, LocalAct, act}
+use Rattle.sva_model.specs.Acts.{act_alone, LocalAct, act}
 use Rattle.sva_model.specs.Acts.Act.{AtEndpoint}
 use Rattle.sva_model.specs.Wire.{TargetWire, cookie_number, target_of, target_wire, places_wire}
 use Rattle.sva_model.specs.Wire.PlaceWire.{FreeWire, WithheldWire}
@@ -64,7 +64,7 @@ settled_place e settle targets h = go (list_all is_none targets) refl
 settled_seen :
     (w : World) (e : ℕ) (o : LocalAct) (settle : Option TargetWire → Option TargetWire) (owed : ℕ → Owed) → settle None ≡ None
     → e < w.config.endpoints → w.config.endpoints ≤ 8
-    → target_wire w.config.first (own (w.part e) w.messages o) (owed e) ≡ settle (target_wire w.config.first (w.part e) (owed e))
+    → target_wire w.config.first (act_alone (w.part e) w.messages o) (owed e) ≡ settle (target_wire w.config.first (w.part e) (owed e))
     → seen_by (act w (AtEndpoint e o)) (Gone owed) ≡ settled_at e settle (seen_by w (Gone owed))
 settled_seen w e o settle owed none l low h =
     seen_targets (act w (AtEndpoint e o)) owed low
@@ -77,25 +77,26 @@ settled_seen w e o settle owed none l low h =
     before x = target_at w.config.first w.config.endpoints w.part owed x
 
     after : ℕ → Option TargetWire
-    after x = target_at w.config.first w.config.endpoints (put w.part e (own (w.part e) w.messages o)) owed x
+    after x = target_at w.config.first w.config.endpoints (put w.part e (act_alone (w.part e) w.messages o)) owed x
 
     less : (a b : ℕ) → a < b → nat_lt a b ≡ true
     less a b k = grind (arith, nat_tests)
 
     here : after e ≡ settle (before e)
     here =
-        (λ i. if less e w.config.endpoints l i then target_wire w.config.first (put-same w.part e (own (w.part e) w.messages o) i) (owed e) else None)
+        (λ i. if less e w.config.endpoints l i then target_wire w.config.first (put-same w.part e (act_alone (w.part e) w.messages o) i) (owed e) else None)
         ∙ h
         ∙ sym (ap (λ b. settle (if b then target_wire w.config.first (w.part e) (owed e) else None)) (less e w.config.endpoints l))
 
     others : (x : ℕ) → x ≢ e → after x ≡ before x
     others x ne =
-        ap (λ p. if nat_lt x w.config.endpoints then target_wire w.config.first p (owed x) else None) (put-other w.part e (own (w.part e) w.messages o) x ne)
+        ap (λ p. if nat_lt x w.config.endpoints then target_wire w.config.first p (owed x) else None)
+        (put-other w.part e (act_alone (w.part e) w.messages o) x ne)
 
 pub settled_places :
     (w : World) (e : ℕ) (o : LocalAct) (settle : Option TargetWire → Option TargetWire) → settle None ≡ None → e < w.config.endpoints
     → w.config.endpoints ≤ 8
-    → ((m : ℕ) (owed : ℕ → Owed) → w.mappings.state m ≡ Gone owed → target_wire w.config.first (own (w.part e) w.messages o) (owed e)
+    → ((m : ℕ) (owed : ℕ → Owed) → w.mappings.state m ≡ Gone owed → target_wire w.config.first (act_alone (w.part e) w.messages o) (owed e)
     ≡ settle (target_wire w.config.first (w.part e) (owed e)))
     → places_wire (act w (AtEndpoint e o)) ≡ settled e settle (places_wire w)
 settled_places w e o settle none l low h =
@@ -130,8 +131,8 @@ other_cookie cookies first p x k f mx mk wx wk ne = go (p.order x) (p.order k) r
 
 pub pass_target :
     (ms : Mappings) (g n cookies first : ℕ) (p : Endpoint) (k : ℕ) (v : Owed) → LegalLocalAct ms g p (LocalAct.Pass k) → Bounds g p → SentOnly p
-    → Fronts cookies p → FitsDebt p v → FitsDebt (own p n (LocalAct.Pass k)) v
-    → target_wire first (own p n (LocalAct.Pass k)) v ≡ settled_cookie (cookie_number first (p.order k)) (target_wire first p v)
+    → Fronts cookies p → FitsDebt p v → FitsDebt (act_alone p n (LocalAct.Pass k)) v
+    → target_wire first (act_alone p n (LocalAct.Pass k)) v ≡ settled_cookie (cookie_number first (p.order k)) (target_wire first p v)
 pass_target ms g n cookies first p k v l bo sent f before after = go (answered p v) refl
   where
     made : k < p.orders
@@ -143,56 +144,58 @@ pass_target ms g n cookies first p k v l bo sent f before after = go (answered p
         ≡ (if b then None else Some (Cookie (cookie_number first (p.order x))))
     by_cookie x b h = ap (λ z. if z then None else Some (Cookie (cookie_number first (p.order x)))) h
 
-    now_done : (x : ℕ) → x ≡ k → (own p n (LocalAct.Pass k)).order_state x ≡ Done
+    now_done : (x : ℕ) → x ≡ k → (act_alone p n (LocalAct.Pass k)).order_state x ≡ Done
     now_done x e = ap (put p.order_state k Done) e ∙ put-same p.order_state k Done
 
-    not_yet : (x : ℕ) → x ≢ k → p.order_state x ≢ Done → (own p n (LocalAct.Pass k)).order_state x ≢ Done
+    not_yet : (x : ℕ) → x ≢ k → p.order_state x ≢ Done → (act_alone p n (LocalAct.Pass k)).order_state x ≢ Done
     not_yet x ne nd h = nd (sym (put-other p.order_state k Done x ne) ∙ h)
 
     silent :
-        (v : Owed) → FitsDebt p v → FitsDebt (own p n (LocalAct.Pass k)) v → answered p v ≡ false
-        → target_wire first (own p n (LocalAct.Pass k)) v ≡ settled_cookie (cookie_number first (p.order k)) (Some (target_of first p v))
+        (v : Owed) → FitsDebt p v → FitsDebt (act_alone p n (LocalAct.Pass k)) v → answered p v ≡ false
+        → target_wire first (act_alone p n (LocalAct.Pass k)) v ≡ settled_cookie (cookie_number first (p.order k)) (Some (target_of first p v))
     silent Nothing d a h = absurd (cc (h))
     silent (Ranges range count resets) d a h = which (ℕ_cases (range + count) k) (ranges_open p range count resets d.1 h)
       where
         which :
             (range + count ≡ k) ⊎ (range + count ≢ k) → (resets ≡ p.resets) × (p.order_state (range + count) ≢ Done)
-            → target_wire first (own p n (LocalAct.Pass k)) (Ranges range count resets)
+            → target_wire first (act_alone p n (LocalAct.Pass k)) (Ranges range count resets)
             ≡ settled_cookie (cookie_number first (p.order k)) (Some (Cookie (cookie_number first (p.order (range + count)))))
         which (inl e) z =
             ap (λ b. if b then None else Some (Cookie (cookie_number first (p.order (range + count)))))
-            (or_true (all_below (suc count) (λ j. is_done ((own p n (LocalAct.Pass k)).order_state (range + j)))) (nat_lt resets p.resets)
-            (done_answers (own p n (LocalAct.Pass k)) range count resets a.1 z.0 (now_done (range + count) e)))
+            (or_true (all_below (suc count) (λ j. is_done ((act_alone p n (LocalAct.Pass k)).order_state (range + j)))) (nat_lt resets p.resets)
+            (done_answers (act_alone p n (LocalAct.Pass k)) range count resets a.1 z.0 (now_done (range + count) e)))
             ∙ sym (by_cookie (range + count) true
             (is_same (cookie_number first (p.order (range + count))) (cookie_number first (p.order k)) (ap (λ y. cookie_number first (p.order y)) e)))
         which (inr ne) z =
             ap (λ b. if b then None else Some (Cookie (cookie_number first (p.order (range + count)))))
-            (ranges_wait (own p n (LocalAct.Pass k)) range count resets z.0 (not_yet (range + count) ne z.1))
+            (ranges_wait (act_alone p n (LocalAct.Pass k)) range count resets z.0 (not_yet (range + count) ne z.1))
             ∙ sym (by_cookie (range + count) false (other_cookie cookies first p (range + count) k f d.1.made made d.1.is_a_wait l.2 ne))
     silent (Pasid j x resets true) d a h = absurd (d.2 refl (pasid_open p j x resets true d.1 h).0 l.0)
     silent (Pasid j x resets false) d a h = which (ℕ_cases x k) (pasid_open p j x resets false d.1 h)
       where
         which :
             (x ≡ k) ⊎ (x ≢ k) → (resets ≡ p.resets) × (p.order_state x ≢ Done)
-            → target_wire first (own p n (LocalAct.Pass k)) (Pasid j x resets false)
+            → target_wire first (act_alone p n (LocalAct.Pass k)) (Pasid j x resets false)
             ≡ settled_cookie (cookie_number first (p.order k)) (Some (Cookie (cookie_number first (p.order x))))
         which (inl e) z =
             ap (λ b. if b then None else Some (Cookie (cookie_number first (p.order x))))
-            (or_true (is_done ((own p n (LocalAct.Pass k)).order_state j) && is_done ((own p n (LocalAct.Pass k)).order_state x)) (nat_lt resets p.resets)
-            (both_done ((own p n (LocalAct.Pass k)).order_state j) ((own p n (LocalAct.Pass k)).order_state x)
+            (or_true (is_done ((act_alone p n (LocalAct.Pass k)).order_state j) && is_done ((act_alone p n (LocalAct.Pass k)).order_state x))
+            (nat_lt resets p.resets)
+            (both_done ((act_alone p n (LocalAct.Pass k)).order_state j) ((act_alone p n (LocalAct.Pass k)).order_state x)
             (a.1.done z.0 (now_done x e) j (omega arith) a.1.low) (now_done x e)))
             ∙ sym (by_cookie x true
             (is_same (cookie_number first (p.order x)) (cookie_number first (p.order k)) (ap (λ y. cookie_number first (p.order y)) e)))
         which (inr ne) z =
             ap (λ b. if b then None else Some (Cookie (cookie_number first (p.order x))))
-            (pasid_waits (own p n (LocalAct.Pass k)) j x resets false z.0 (not_yet x ne z.1))
+            (pasid_waits (act_alone p n (LocalAct.Pass k)) j x resets false z.0 (not_yet x ne z.1))
             ∙ sym (by_cookie x false (other_cookie cookies first p x k f d.1.made made d.1.is_a_wait l.2 ne))
     silent (NextReset resets) d a h = ap (λ b. if b then None else Some ResetEnd) h
 
     go :
         (b : Bool) → answered p v ≡ b
-        → target_wire first (own p n (LocalAct.Pass k)) v ≡ settled_cookie (cookie_number first (p.order k)) (if b then None else Some (target_of first p v))
-    go true h = ap (λ b. if b then None else Some (target_of first (own p n (LocalAct.Pass k)) v)) (answered_own ms g n p (LocalAct.Pass k) l sent bo v h)
+        → target_wire first (act_alone p n (LocalAct.Pass k)) v
+        ≡ settled_cookie (cookie_number first (p.order k)) (if b then None else Some (target_of first p v))
+    go true h = ap (λ b. if b then None else Some (target_of first (act_alone p n (LocalAct.Pass k)) v)) (answered_own ms g n p (LocalAct.Pass k) l sent bo v h)
     go false h = silent v before after h
 
 pub places_passed :
@@ -203,7 +206,7 @@ places_passed w e k l i fronts debts low =
     (λ m owed gone.
     pass_target w.mappings w.bindings w.messages w.cookies w.config.first (w.part e) k (owed e) l.1.0 (i.parts e).bounds (i.parts e).labels.sent
     (fronts e) (debts m e owed gone)
-    (subst (λ p. FitsDebt p (owed e)) (put-same w.part e (own (w.part e) w.messages (LocalAct.Pass k)))
+    (subst (λ p. FitsDebt p (owed e)) (put-same w.part e (act_alone (w.part e) w.messages (LocalAct.Pass k)))
     (act_debts w (AtEndpoint e (LocalAct.Pass k)) l i fronts debts m e owed gone)))
 
 -- A reset-done.
@@ -214,13 +217,14 @@ later a b l = grind (arith, nat_tests)
 right_true : (a b : Bool) → b ≡ true → (a || b) ≡ true
 right_true a b h = grind arith
 
-reopen_answers : (n : ℕ) (p : Endpoint) (c : ℕ) (v : Owed) → FitsDebt p v → answered (own p n (LocalAct.Reopen c)) v ≡ true
+reopen_answers : (n : ℕ) (p : Endpoint) (c : ℕ) (v : Owed) → FitsDebt p v → answered (act_alone p n (LocalAct.Reopen c)) v ≡ true
 reopen_answers n p c Nothing d = refl
 reopen_answers n p c (Ranges range count resets) d =
-    right_true (all_below (suc count) (λ j. is_done ((own p n (LocalAct.Reopen c)).order_state (range + j)))) (nat_lt resets (suc p.resets))
+    right_true (all_below (suc count) (λ j. is_done ((act_alone p n (LocalAct.Reopen c)).order_state (range + j)))) (nat_lt resets (suc p.resets))
     (later resets p.resets d.1.counted)
 reopen_answers n p c (Pasid k x resets in_reset) d =
-    right_true (is_done ((own p n (LocalAct.Reopen c)).order_state k) && is_done ((own p n (LocalAct.Reopen c)).order_state x)) (nat_lt resets (suc p.resets))
+    right_true (is_done ((act_alone p n (LocalAct.Reopen c)).order_state k) && is_done ((act_alone p n (LocalAct.Reopen c)).order_state x))
+    (nat_lt resets (suc p.resets))
     (later resets p.resets d.1.counted)
 reopen_answers n p c (NextReset resets) d = later resets p.resets d.0
 
@@ -229,5 +233,5 @@ pub places_reopened :
     → places_wire (act w (AtEndpoint e (LocalAct.Reopen c))) ≡ settled e (λ target. None) (places_wire w)
 places_reopened w e c l i debts low =
     settled_places w e (LocalAct.Reopen c) (λ target. None) refl l.0 low
-    (λ m owed gone. ap (λ b. if b then None else Some (target_of w.config.first (own (w.part e) w.messages (LocalAct.Reopen c)) (owed e)))
+    (λ m owed gone. ap (λ b. if b then None else Some (target_of w.config.first (act_alone (w.part e) w.messages (LocalAct.Reopen c)) (owed e)))
     (reopen_answers w.messages (w.part e) c (owed e) (debts m e owed gone)))

@@ -5,7 +5,7 @@ use Rattle.std.specs.Prelude.{is_some}
 use Rattle.std.specs.List.{find}
 use Rattle.sva_model.specs.Words as words
 use Rattle.sva_model.specs.State.{Endpoint, World, Stage, Phase, Subject, GroupState, PageRequestState}
-use Rattle.sva_model.specs.State.Phase.{Open, Ordered, Cleared}
+use Rattle.sva_model.specs.State.Phase.{Open, ResetSent, Cleared}
 use Rattle.sva_model.specs.State.PageRequestState.{Arrived}
 use Rattle.sva_model.specs.State.Subject.{StartOf, StopOf, FunctionReset, CompletionOf, InvalidateOf, ResponseOf, RequestOf, InvalidatedOf, PageRequestOf}
 use Rattle.sva_model.specs.State.Subject.{MarkerOf, ResetDone}
@@ -138,7 +138,7 @@ waiting_at w e k r l h =
 -- a page request waits at an open unit only
 open_or_not : (p : Phase) → (is_open p ≡ false) ⊎ (p ≡ Open)
 open_or_not Open = inr refl
-open_or_not (Ordered c) = inl refl
+open_or_not (ResetSent c) = inl refl
 open_or_not (Cleared c) = inl refl
 
 pub waiting_found :

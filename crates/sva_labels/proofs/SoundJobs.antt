@@ -198,7 +198,7 @@ none_elsewhere w e d i ne = none_such (w.part e) d (λ g o s. absurd (ne (endpoi
         let filed = open_filed ((w.part e).host_group g) o in
         let under = (i.parts e).groups.under g filed in
         let made = group_made w.bindings (w.part e) (i.parts e).bounds g filed in
-        ap w.endpoint_of (sym s ∙ under) ∙ i.homed e ((w.part e).asker g) ((i.parts e).groups.asker_bound g made)
+        ap w.endpoint_of (sym s ∙ under) ∙ i.one_endpoint e ((w.part e).asker g) ((i.parts e).groups.asker_bound g made)
 
 none_seen :
     (w : World) (e d : ℕ) → Invariant w → Filings (w.part e) → e < w.config.endpoints → Labels.has_open_group (w.part e) d ≡ false

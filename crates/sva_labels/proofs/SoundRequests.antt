@@ -11,7 +11,7 @@ use Rattle.sva_model.specs.State.PageRequestState.{InFlight, Arrived, Filed, Dro
 use Rattle.sva_model.specs.State.Subject.{PageRequestOf}
 use Rattle.sva_model.specs.State.Phase.{Open}
 use Rattle.sva_model.specs.States.{is_arrived, is_outstanding}
-use Rattle.sva_model.specs.Acts.{Act, LocalAct, act, own, submitted_if, submits, bound, cookie_of}
+use Rattle.sva_model.specs.Acts.{Act, LocalAct, act, act_alone, submitted_if, submits, bound, cookie_of}
 use Rattle.sva_model.specs.Acts.Act.{NewSpace, DropSpace, Map, Unmap, NewBinding, NewJob, Hold, LetGo, AtEndpoint}
 use Rattle.sva_model.specs.Labels.{outstanding, is_waiting}
 use Rattle.sva_model.specs.Steps.{world_after}
@@ -36,19 +36,19 @@ pub record FiledOnce (p : Endpoint) : Type 0 where
 filed_kept :
     (ms : Mappings) (g n : ℕ) (p : Endpoint) (o : LocalAct) → LegalLocalAct ms g p o → Queued p
     → (p.page_requests ≤ p.page_requests → p.page_request p.page_requests ≡ Dropped) → (k : ℕ) → (k < p.filings → p.page_request (p.filing k) ≡ Filed)
-    → k < (own p n o).filings
-    → (own p n o).page_request ((own p n o).filing k) ≡ Filed
+    → k < (act_alone p n o).filings
+    → (act_alone p n o).page_request ((act_alone p n o).filing k) ≡ Filed
 filed_kept ms g n p o l qu un k old h = grind (arith, nat_tests, qu.in_flight)
 
 once_kept :
     (ms : Mappings) (g n : ℕ) (p : Endpoint) (o : LocalAct) → LegalLocalAct ms g p o → (j k : ℕ) → (j < p.filings → p.page_request (p.filing j) ≡ Filed)
     → (k < p.filings → p.page_request (p.filing k) ≡ Filed) → (j < p.filings → k < p.filings → p.filing j ≡ p.filing k → j ≡ k)
-    → j < (own p n o).filings → k < (own p n o).filings → (own p n o).filing j ≡ (own p n o).filing k
+    → j < (act_alone p n o).filings → k < (act_alone p n o).filings → (act_alone p n o).filing j ≡ (act_alone p n o).filing k
     → j ≡ k
 once_kept ms g n p o l j k fj fk old hj hk e = grind (arith, nat_tests)
 
 own_once : (ms : Mappings) (x g n e : ℕ) (p : Endpoint) (o : LocalAct) → LegalLocalAct ms g p o → PartInvariant ms x g n e p → FiledOnce p
-    → FiledOnce (own p n o)
+    → FiledOnce (act_alone p n o)
 own_once ms x g n e p o l i fi =
     record {
       filed = λ k h. filed_kept ms g n p o l i.queued (i.bounds.page_request p.page_requests) k (fi.filed k) h;
@@ -73,7 +73,7 @@ all_kept w (NewJob e y) l g i h = h
 all_kept w (Hold x j) l g i h = h
 all_kept w (LetGo x) l g i h = h
 all_kept w (AtEndpoint e o) l g i h =
-    put_keeps (λ k p. FiledOnce p) w.part e (own (w.part e) w.messages o)
+    put_keeps (λ k p. FiledOnce p) w.part e (act_alone (w.part e) w.messages o)
     (own_once w.mappings w.config.endpoints w.bindings w.messages e (w.part e) o l.1.0 (i.parts e) (h e)) h
 
 pub always_once : (rule : PasidRule) (config : Config) (steps : List Step) → AllOnce (world_after rule config steps)

@@ -7,7 +7,7 @@ use Rattle.sva_step.specs.declared.steps.Step.{Step}
 use Rattle.sva_model.specs.Words.{put, count_below}
 use Rattle.sva_model.specs.State.{PasidRule, Mappings, Endpoint, World}
 use Rattle.sva_model.specs.States.{is_outstanding}
-use Rattle.sva_model.specs.Acts.{Act, LocalAct, act, own, submitted_if, submits, bound, cookie_of}
+use Rattle.sva_model.specs.Acts.{Act, LocalAct, act, act_alone, submitted_if, submits, bound, cookie_of}
 use Rattle.sva_model.specs.Acts.Act.{NewSpace, DropSpace, Map, Unmap, NewBinding, NewJob, Hold, LetGo, AtEndpoint}
 use Rattle.sva_model.specs.Labels
 use Rattle.sva_model.specs.Steps.{world_after}
@@ -66,15 +66,15 @@ added_few p z y out most h =
 few_kept :
     (ms : Mappings) (g n : ℕ) (p : Endpoint) (o : LocalAct) → LegalLocalAct ms g p o → Bounds g p → (y : ℕ)
     → count_below p.page_requests (λ r. p.group_of r == y) ≤ 32
-    → count_below (own p n o).page_requests (λ r. (own p n o).group_of r == y) ≤ 32
+    → count_below (act_alone p n o).page_requests (λ r. (act_alone p n o).group_of r == y) ≤ 32
 few_kept ms g n p (LocalAct.Group b i q r x l) lo bo y h = begun_few p y bo.group_of h
 few_kept ms g n p (LocalAct.Request z q r x l) lo bo y h = added_few p z y (ap is_outstanding lo.0) lo.2 h
 few_kept ms g n p _ lo bo y h = h
 
-index_kept : (ms : Mappings) (g n : ℕ) (p : Endpoint) (o : LocalAct) → LegalLocalAct ms g p o → (y : ℕ) → p.index y < 32 → (own p n o).index y < 32
+index_kept : (ms : Mappings) (g n : ℕ) (p : Endpoint) (o : LocalAct) → LegalLocalAct ms g p o → (y : ℕ) → p.index y < 32 → (act_alone p n o).index y < 32
 index_kept ms g n p o l y h = grind (arith, nat_tests)
 
-own_sized : (ms : Mappings) (g n : ℕ) (p : Endpoint) (o : LocalAct) → LegalLocalAct ms g p o → Bounds g p → Sized p → Sized (own p n o)
+own_sized : (ms : Mappings) (g n : ℕ) (p : Endpoint) (o : LocalAct) → LegalLocalAct ms g p o → Bounds g p → Sized p → Sized (act_alone p n o)
 own_sized ms g n p o l bo h =
     record {
       few = λ y. few_kept ms g n p o l bo y (h.few y);
@@ -99,7 +99,7 @@ all_kept w (NewJob e y) l g i h = h
 all_kept w (Hold x j) l g i h = h
 all_kept w (LetGo x) l g i h = h
 all_kept w (AtEndpoint e o) l g i h =
-    put_keeps (λ k p. Sized p) w.part e (own (w.part e) w.messages o)
+    put_keeps (λ k p. Sized p) w.part e (act_alone (w.part e) w.messages o)
     (own_sized w.mappings w.bindings w.messages (w.part e) o l.1.0 (i.parts e).bounds (h e)) h
 
 none_few : (y : ℕ) → count_below 0 (λ r. 0 == y) ≤ 32

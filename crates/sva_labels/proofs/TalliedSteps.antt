@@ -24,7 +24,7 @@ use Rattle.sva_model.specs.Refusals.{Cause, refusals}
 use Rattle.sva_model.specs.Replies.{maps_to, reply_maps, replies_success, newly_mapped, free_list, is_write_asked, job_space, response_to}
 use Rattle.sva_model.specs.Outcomes.{Outcome, outcome, says, frames_at, mapped_in, unmap_answer, unmap_range_answer, code_answer, response_answer}
 use Rattle.sva_model.specs.Outcomes.{look_answer, bearer_answer, unbind_outcome, advance_outcome, pump_outcome, head_outcome, wait_outcome, send_outcome}
-use Rattle.sva_model.specs.Outcomes.{may_pass, serve_outcome, file_outcome, reply_outcome, fault_outcome, about_outcome, deliver_outcome}
+use Rattle.sva_model.specs.Outcomes.{may_pass, serve_outcome, file_outcome, reply_outcome, fault_outcome, subject_outcome, deliver_outcome}
 use Rattle.sva_model.specs.Outcomes.{completion_outcome, keep_outcome, is_full, request_outcome, count_outcome, page_request_outcome, marker_outcome}
 use Rattle.sva_model.specs.Steps.{Decision, checked, decide}
 use Rattle.sva_labels.specs.Tallies.{binds, releases, begins, ends}
@@ -196,22 +196,22 @@ marker_tallied : (e c b : ℕ) (t : Bool) → AreTallied (plain (marker_outcome 
 marker_tallied e c b true = tallied _ refl refl refl refl
 marker_tallied e c b false = tallied _ refl refl refl refl
 
-about_tallied : (w : World) (p : Endpoint) (e c : ℕ) (x : Subject) → AreTallied (plain (about_outcome w p e c x))
-about_tallied w p e c (StartOf b) = tallied _ refl refl refl refl
-about_tallied w p e c (StopOf b) = tallied _ refl refl refl refl
-about_tallied w p e c FunctionReset = tallied _ refl refl refl refl
-about_tallied w p e c (CompletionOf r found) = completion_tallied p e c r found (p.request r)
-about_tallied w p e c (InvalidateOf k) = tallied _ refl refl refl refl
-about_tallied w p e c (ResponseOf g code) = response_tallied e c g code (p.group g)
-about_tallied w p e c (RequestOf r) = request_tallied w p e c r (is_open p.phase)
-about_tallied w p e c (InvalidatedOf names) = count_tallied p e c names (is_open p.phase)
-about_tallied w p e c (PageRequestOf r) = page_request_tallied e c r (is_open p.phase)
-about_tallied w p e c (MarkerOf b) = marker_tallied e c b (is_open p.phase)
-about_tallied w p e c ResetDone = tallied _ refl refl refl refl
+subject_tallied : (w : World) (p : Endpoint) (e c : ℕ) (x : Subject) → AreTallied (plain (subject_outcome w p e c x))
+subject_tallied w p e c (StartOf b) = tallied _ refl refl refl refl
+subject_tallied w p e c (StopOf b) = tallied _ refl refl refl refl
+subject_tallied w p e c FunctionReset = tallied _ refl refl refl refl
+subject_tallied w p e c (CompletionOf r found) = completion_tallied p e c r found (p.request r)
+subject_tallied w p e c (InvalidateOf k) = tallied _ refl refl refl refl
+subject_tallied w p e c (ResponseOf g code) = response_tallied e c g code (p.group g)
+subject_tallied w p e c (RequestOf r) = request_tallied w p e c r (is_open p.phase)
+subject_tallied w p e c (InvalidatedOf names) = count_tallied p e c names (is_open p.phase)
+subject_tallied w p e c (PageRequestOf r) = page_request_tallied e c r (is_open p.phase)
+subject_tallied w p e c (MarkerOf b) = marker_tallied e c b (is_open p.phase)
+subject_tallied w p e c ResetDone = tallied _ refl refl refl refl
 
 deliver_tallied : (w : World) (p : Endpoint) (e c : ℕ) (o : Option Subject) → AreTallied (plain (deliver_outcome w p e c o))
 deliver_tallied w p e c None = tallied _ refl refl refl refl
-deliver_tallied w p e c (Some x) = about_tallied w p e c x
+deliver_tallied w p e c (Some x) = subject_tallied w p e c x
 
 look_tallied : (x : Place) → AreTallied (plain (says (look_answer x) []))
 look_tallied Free = tallied _ refl refl refl refl

@@ -9,7 +9,7 @@ use Rattle.sva_model.specs.Words.{put, count_below, is_some, tabulate}
 use Rattle.sva_model.specs.State.{PasidRule, Mappings, Endpoint, World}
 use Rattle.sva_model.specs.State.Stage.{Unbound, Live, Quiet, Released}
 use Rattle.sva_model.specs.States.{is_unreleased}
-use Rattle.sva_model.specs.Acts.{Act, LocalAct, act, own, submitted_if, submits, bound, cookie_of}
+use Rattle.sva_model.specs.Acts.{Act, LocalAct, act, act_alone, submitted_if, submits, bound, cookie_of}
 use Rattle.sva_model.specs.Acts.Act.{NewSpace, DropSpace, Map, Unmap, NewBinding, NewJob, Hold, LetGo, AtEndpoint}
 use Rattle.sva_model.specs.Steps.{decide, next, after_acts, world_after, reply}
 use Rattle.sva_model.specs.Wire.{EndpointWire, UseWire, use_wire, part_wire, wire}
@@ -95,7 +95,7 @@ binds_or_releases _ = false
 
 stage_same :
     (ms : Mappings) (g n : ℕ) (p : Endpoint) (o : LocalAct) → LegalLocalAct ms g p o → binds_or_releases o ≡ false → (b : ℕ)
-    → is_unreleased ((own p n o).stage b) ≡ is_unreleased (p.stage b)
+    → is_unreleased ((act_alone p n o).stage b) ≡ is_unreleased (p.stage b)
 stage_same ms g n p o l k b = grind (arith, nat_tests)
 
 none_bound : (e : ℕ) (o : LocalAct) → binds_or_releases o ≡ false → bound_by (AtEndpoint e o) ≡ released_by (AtEndpoint e o)
@@ -106,7 +106,7 @@ at_bindings :
     → kept_count (act w (AtEndpoint e o)) + released_by (AtEndpoint e o) ≡ kept_count w + bound_by (AtEndpoint e o)
 at_bindings w e o false z l i =
     let same = count_same w.bindings (is_kept (act w (AtEndpoint e o))) (is_kept w)
-    (λ k m. kept_by w e (own (w.part e) w.messages o) k (λ s. stage_same w.mappings w.bindings w.messages (w.part e) o l.1.0 z k)) in
+    (λ k m. kept_by w e (act_alone (w.part e) w.messages o) k (λ s. stage_same w.mappings w.bindings w.messages (w.part e) o l.1.0 z k)) in
     let none = none_bound e o z in
     omega (arith, same, none)
 at_bindings w e (LocalAct.Bind b s t) true z l i =
@@ -121,15 +121,15 @@ at_bindings w e (LocalAct.Bind b s t) true z l i =
 
     now : is_kept (act w (AtEndpoint e (LocalAct.Bind b s t))) b ≡ true
     now =
-        ap (λ x. is_unreleased ((put w.part e (own (w.part e) w.messages (LocalAct.Bind b s t)) x).stage b)) endpoint_of
-        ∙ ap (λ p. is_unreleased (p.stage b)) (put-same w.part e (own (w.part e) w.messages (LocalAct.Bind b s t)))
+        ap (λ x. is_unreleased ((put w.part e (act_alone (w.part e) w.messages (LocalAct.Bind b s t)) x).stage b)) endpoint_of
+        ∙ ap (λ p. is_unreleased (p.stage b)) (put-same w.part e (act_alone (w.part e) w.messages (LocalAct.Bind b s t)))
         ∙ ap is_unreleased (put-same (w.part e).stage b Live)
 
     before : is_kept w b ≡ false
     before = ap (λ x. is_unreleased ((w.part x).stage b)) endpoint_of ∙ ap is_unreleased unbound
 
     others : (d : ℕ) → d ≢ b → is_kept (act w (AtEndpoint e (LocalAct.Bind b s t))) d ≡ is_kept w d
-    others d ne = kept_by w e (own (w.part e) w.messages (LocalAct.Bind b s t)) d (λ h. ap is_unreleased (put-other (w.part e).stage b Live d ne))
+    others d ne = kept_by w e (act_alone (w.part e) w.messages (LocalAct.Bind b s t)) d (λ h. ap is_unreleased (put-other (w.part e).stage b Live d ne))
 at_bindings w e (LocalAct.Release b) true z l i =
     let one = count_off w.bindings (is_kept w) (is_kept (act w (AtEndpoint e (LocalAct.Release b)))) b made before now (λ d ne. sym (others d ne)) in
     omega (arith, one)
@@ -138,7 +138,7 @@ at_bindings w e (LocalAct.Release b) true z l i =
     quiet = l.1.0
 
     endpoint_of : w.endpoint_of b ≡ e
-    endpoint_of = i.homed e b (λ h. absurd (cc (sym quiet ∙ h)))
+    endpoint_of = i.one_endpoint e b (λ h. absurd (cc (sym quiet ∙ h)))
 
     made : b < w.bindings
     made = grind (arith, (i.parts e).bounds.stage b, quiet)
@@ -148,12 +148,12 @@ at_bindings w e (LocalAct.Release b) true z l i =
 
     now : is_kept (act w (AtEndpoint e (LocalAct.Release b))) b ≡ false
     now =
-        ap (λ x. is_unreleased ((put w.part e (own (w.part e) w.messages (LocalAct.Release b)) x).stage b)) endpoint_of
-        ∙ ap (λ p. is_unreleased (p.stage b)) (put-same w.part e (own (w.part e) w.messages (LocalAct.Release b)))
+        ap (λ x. is_unreleased ((put w.part e (act_alone (w.part e) w.messages (LocalAct.Release b)) x).stage b)) endpoint_of
+        ∙ ap (λ p. is_unreleased (p.stage b)) (put-same w.part e (act_alone (w.part e) w.messages (LocalAct.Release b)))
         ∙ ap is_unreleased (put-same (w.part e).stage b Released)
 
     others : (d : ℕ) → d ≢ b → is_kept (act w (AtEndpoint e (LocalAct.Release b))) d ≡ is_kept w d
-    others d ne = kept_by w e (own (w.part e) w.messages (LocalAct.Release b)) d (λ h. ap is_unreleased (put-other (w.part e).stage b Released d ne))
+    others d ne = kept_by w e (act_alone (w.part e) w.messages (LocalAct.Release b)) d (λ h. ap is_unreleased (put-other (w.part e).stage b Released d ne))
 at_bindings w e o true z l i = absurd (grind arith)
 
 new_kept : (w : World) (e : ℕ) → Invariant w → kept_count (act w (NewBinding e)) ≡ kept_count w
@@ -194,7 +194,7 @@ begins_or_ends (LocalAct.Begin r m t) = true
 begins_or_ends (LocalAct.End u) = true
 begins_or_ends _ = false
 
-slot_same : (p : Endpoint) (n : ℕ) (o : LocalAct) → begins_or_ends o ≡ false → (t : ℕ) → (own p n o).at_slot t ≡ p.at_slot t
+slot_same : (p : Endpoint) (n : ℕ) (o : LocalAct) → begins_or_ends o ≡ false → (t : ℕ) → (act_alone p n o).at_slot t ≡ p.at_slot t
 slot_same p n o k t = grind arith
 
 none_begun : (e : ℕ) (o : LocalAct) → begins_or_ends o ≡ false → begun_by (AtEndpoint e o) ≡ ended_by (AtEndpoint e o)
@@ -202,9 +202,9 @@ none_begun e o h = grind arith
 
 own_slots :
     (ms : Mappings) (g n e : ℕ) (p : Endpoint) (o : LocalAct) (z : Bool) → begins_or_ends o ≡ z → LegalLocalAct ms g p o → Labels p
-    → taken_at (own p n o) + ended_by (AtEndpoint e o) ≡ taken_at p + begun_by (AtEndpoint e o)
+    → taken_at (act_alone p n o) + ended_by (AtEndpoint e o) ≡ taken_at p + begun_by (AtEndpoint e o)
 own_slots ms g n e p o false z l la =
-    let same = count_same 16 (λ t. is_some ((own p n o).at_slot t)) (λ t. is_some (p.at_slot t)) (λ t m. ap is_some (slot_same p n o z t)) in
+    let same = count_same 16 (λ t. is_some ((act_alone p n o).at_slot t)) (λ t. is_some (p.at_slot t)) (λ t m. ap is_some (slot_same p n o z t)) in
     let none = none_begun e o z in
     omega (arith, same, none)
 own_slots ms g n e p (LocalAct.Begin r m t) true z l la =
@@ -225,10 +225,10 @@ own_slots ms g n e p o true z l la = absurd (grind arith)
 
 act_slots : (w : World) (a : Act) → Legal w a → Invariant w → taken_count (act w a) + ended_by a ≡ taken_count w + begun_by a
 act_slots w (AtEndpoint e o) l i =
-    sum_changed w.config.endpoints e (λ x. taken_at (put w.part e (own (w.part e) w.messages o) x)) (λ x. taken_at (w.part x)) (ended_by (AtEndpoint e o))
+    sum_changed w.config.endpoints e (λ x. taken_at (put w.part e (act_alone (w.part e) w.messages o) x)) (λ x. taken_at (w.part x)) (ended_by (AtEndpoint e o))
     (begun_by (AtEndpoint e o)) l.0
-    (λ k ne. ap taken_at (put-other w.part e (own (w.part e) w.messages o) k ne))
-    (ap (λ p. taken_at p + ended_by (AtEndpoint e o)) (put-same w.part e (own (w.part e) w.messages o))
+    (λ k ne. ap taken_at (put-other w.part e (act_alone (w.part e) w.messages o) k ne))
+    (ap (λ p. taken_at p + ended_by (AtEndpoint e o)) (put-same w.part e (act_alone (w.part e) w.messages o))
     ∙ own_slots w.mappings w.bindings w.messages e (w.part e) o (begins_or_ends o) refl l.1.0 (i.parts e).labels)
 act_slots w (Unmap s q count order) l i =
     ap (λ n. n + 0)

@@ -2,7 +2,7 @@
 use Rattle.std.proofs.Common.{◌≡◌, ◌≢◌, refl, ap, sym, ℕ, ◌<◌}
 use Rattle.sva_model.specs.State.{Mappings, Endpoint}
 use Rattle.sva_model.specs.State.OrderState.{Queued}
-use Rattle.sva_model.specs.Acts.{LocalAct, own}
+use Rattle.sva_model.specs.Acts.{LocalAct, act_alone}
 use Rattle.sva_model.specs.Wire.{number, unit_wire}
 use Rattle.sva_laws.specs.Laws.{IsCarried}
 use Rattle.sva_laws.proofs.Legal.{LegalLocalAct}
@@ -23,7 +23,7 @@ SendsFirst p _ = Unit {0}
 pub unit_acts :
     (ms : Mappings) (x g n e first cookies : ℕ) (p : Endpoint) (o : LocalAct) → LegalLocalAct ms g p o → HasCookie cookies o → SendsFirst p o
     → PartInvariant ms x g n e p → Owed n p → IsCarried ms p
-    → unit_wire first (own p n o) ≡ unit_moved (number first cookies) (unit_wire first p) (own_move first e ms p o)
+    → unit_wire first (act_alone p n o) ≡ unit_moved (number first cookies) (unit_wire first p) (own_move first e ms p o)
 unit_acts ms x g n e first cookies p (LocalAct.Bind b s t) l c f i ow ca = unit_bind ms g first n (number first cookies) e p b s t l i.orders
 unit_acts ms x g n e first cookies p (LocalAct.Stop b) l c f i ow ca = refl
 unit_acts ms x g n e first cookies p (LocalAct.Drain b cookie) l c f i ow ca =

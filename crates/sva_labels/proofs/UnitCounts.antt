@@ -7,7 +7,7 @@ use Rattle.sva_model.specs.Words.{unless}
 use Rattle.sva_model.specs.State.{Mappings, OrderState, Endpoint}
 use Rattle.sva_model.specs.State.OrderState.{Completing}
 use Rattle.sva_model.specs.States.{is_queued, is_busy}
-use Rattle.sva_model.specs.Acts.{LocalAct, own, counted, counted_if, is_last_left}
+use Rattle.sva_model.specs.Acts.{LocalAct, act_alone, counted, counted_if, is_last_left}
 use Rattle.sva_model.specs.Labels.{is_set}
 use Rattle.sva_model.specs.Wire.{end_number, busy_wire, unit_wire, BusyWire}
 use Rattle.sva_model.specs.Wire.BusyWire.{Fresh, Counting}
@@ -99,11 +99,11 @@ same_read (suc n) = refl
 pub unit_count :
     (ms : Mappings) (g first n next e : ℕ) (p : Endpoint) (c : ℕ) (names : ℕ → Bool) → LegalLocalAct ms g p (LocalAct.Count c names) → Labels p
     → AreOwed p → IsCompleting p
-    → unit_wire first (own p n (LocalAct.Count c names)) ≡ unit_moved next (unit_wire first p) (own_move first e ms p (LocalAct.Count c names))
+    → unit_wire first (act_alone p n (LocalAct.Count c names)) ≡ unit_moved next (unit_wire first p) (own_move first e ms p (LocalAct.Count c names))
 unit_count ms g first n next e p c names l la are completing = go (are c names l.0)
   where
     q : Endpoint
-    q = own p n (LocalAct.Count c names)
+    q = act_alone p n (LocalAct.Count c names)
 
     go : IsOwedFor p c names → unit_wire first q ≡ unit_moved next (unit_wire first p) (own_move first e ms p (LocalAct.Count c names))
     go (vector, field, carried, low, bits, owed) =

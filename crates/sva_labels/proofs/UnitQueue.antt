@@ -8,7 +8,7 @@ use Rattle.sva_model.specs.State.Order.{RangeOf, PasidOf, Wait}
 use Rattle.sva_model.specs.State.OrderState.{Queued, Sent, Done, Void}
 use Rattle.sva_model.specs.State.Stage.{Unbound}
 use Rattle.sva_model.specs.States.{is_open, is_queued, is_busy, is_wait}
-use Rattle.sva_model.specs.Acts.{LocalAct, own, binding_of, end_of}
+use Rattle.sva_model.specs.Acts.{LocalAct, act_alone, binding_of, end_of}
 use Rattle.sva_model.specs.Wire.{number, end_number, cookie_number, descriptor, busy_wire, unit_wire, BusyWire, Descriptor}
 use Rattle.sva_model.specs.Wire.BusyWire.{Fresh}
 use Rattle.sva_model.specs.Wire.Descriptor.{RangeDescriptor, PasidDescriptor, WaitDescriptor}
@@ -49,14 +49,14 @@ not_bound p b d u a e = absurd (cc (sym (ap (λ z. is_active (p.stage z)) e ∙ 
 
 bind_queue :
     (ms : Mappings) (g first n : ℕ) (p : Endpoint) (b s t : ℕ) → LegalLocalAct ms g p (LocalAct.Bind b s t) → Orders p
-    → queue_of first (own p n (LocalAct.Bind b s t)) ≡ queue_of first p
+    → queue_of first (act_alone p n (LocalAct.Bind b s t)) ≡ queue_of first p
 bind_queue ms g first n p b s t l or =
-    picked_same p.orders (λ k. descriptor first (own p n (LocalAct.Bind b s t)) (p.order k)) (λ k. descriptor first p (p.order k))
+    picked_same p.orders (λ k. descriptor first (act_alone p n (LocalAct.Bind b s t)) (p.order k)) (λ k. descriptor first p (p.order k))
     (λ k. is_queued (p.order_state k)) (λ k. is_queued (p.order_state k))
     (λ k m. refl)
     (λ k m q. go (p.order k) (or.undone_stage k (queued_apart (p.order_state k) q)))
   where
-    go : (o : Order) → (is_wait o ≡ false → is_active (p.stage (binding_of o)) ≡ true) → descriptor first (own p n (LocalAct.Bind b s t)) o
+    go : (o : Order) → (is_wait o ≡ false → is_active (p.stage (binding_of o)) ≡ true) → descriptor first (act_alone p n (LocalAct.Bind b s t)) o
         ≡ descriptor first p o
     go (RangeOf d r) a = ap (λ z. RangeDescriptor z r) (put-other p.pasid b t d (not_bound p b d l.2 (a refl)))
     go (PasidOf d) a = ap (λ z. PasidDescriptor z) (put-other p.pasid b t d (not_bound p b d l.2 (a refl)))
@@ -64,9 +64,9 @@ bind_queue ms g first n p b s t l or =
 
 pub unit_bind :
     (ms : Mappings) (g first n next e : ℕ) (p : Endpoint) (b s t : ℕ) → LegalLocalAct ms g p (LocalAct.Bind b s t) → Orders p
-    → unit_wire first (own p n (LocalAct.Bind b s t)) ≡ unit_moved next (unit_wire first p) (own_move first e ms p (LocalAct.Bind b s t))
+    → unit_wire first (act_alone p n (LocalAct.Bind b s t)) ≡ unit_moved next (unit_wire first p) (own_move first e ms p (LocalAct.Bind b s t))
 unit_bind ms g first n next e p b s t l or =
-    units_same first p (own p n (LocalAct.Bind b s t)) (queue_of first p) (busy_of p) (end_number first p.front) (end_number first p.waits_end) refl
+    units_same first p (act_alone p n (LocalAct.Bind b s t)) (queue_of first p) (busy_of p) (end_number first p.front) (end_number first p.waits_end) refl
     (bind_queue ms g first n p b s t l or) refl refl refl
 
 -- A wait with drain is submitted.
@@ -76,7 +76,7 @@ old_put f i k v l = put-other f i v k (λ e. absurd (omega (arith, l, e)))
 
 pub unit_drain :
     (ms : Mappings) (g first n next e : ℕ) (p : Endpoint) (b cookie : ℕ) → Bounds g p → Labels p → next ≡ number first cookie
-    → unit_wire first (own p n (LocalAct.Drain b cookie)) ≡ unit_moved next (unit_wire first p) (own_move first e ms p (LocalAct.Drain b cookie))
+    → unit_wire first (act_alone p n (LocalAct.Drain b cookie)) ≡ unit_moved next (unit_wire first p) (own_move first e ms p (LocalAct.Drain b cookie))
 unit_drain ms g first n next e p b cookie bo la h =
     units_same first p q (queue_of first p ++ WaitDescriptor (number first cookie) true ∷ []) (busy_of p) (end_number first p.front)
     (suc (number first cookie)) refl
@@ -98,13 +98,14 @@ unit_drain ms g first n next e p b cookie bo la h =
     ∙ ap (λ z. unit_moved z (unit_wire first p) (own_move first e ms p (LocalAct.Drain b cookie))) (sym h)
   where
     q : Endpoint
-    q = own p n (LocalAct.Drain b cookie)
+    q = act_alone p n (LocalAct.Drain b cookie)
 
 -- The invalidation of all pages is submitted, and a wait.
 
 pub unit_invalidate :
     (ms : Mappings) (g first n next e : ℕ) (p : Endpoint) (b cookie : ℕ) → Bounds g p → Labels p → next ≡ number first cookie
-    → unit_wire first (own p n (LocalAct.Invalidate b cookie)) ≡ unit_moved next (unit_wire first p) (own_move first e ms p (LocalAct.Invalidate b cookie))
+    → unit_wire first (act_alone p n (LocalAct.Invalidate b cookie))
+    ≡ unit_moved next (unit_wire first p) (own_move first e ms p (LocalAct.Invalidate b cookie))
 unit_invalidate ms g first n next e p b cookie bo la h =
     units_same first p q (queue_of first p ++ PasidDescriptor (p.pasid b) ∷ WaitDescriptor (number first cookie) false ∷ []) (busy_of p)
     (end_number first p.front) (suc (number first cookie)) refl
@@ -133,7 +134,7 @@ unit_invalidate ms g first n next e p b cookie bo la h =
     ∙ ap (λ z. unit_moved z (unit_wire first p) (own_move first e ms p (LocalAct.Invalidate b cookie))) (sym h)
   where
     q : Endpoint
-    q = own p n (LocalAct.Invalidate b cookie)
+    q = act_alone p n (LocalAct.Invalidate b cookie)
 
     old_state : (k : ℕ) → k < p.orders → put (put p.order_state p.orders Queued) (suc p.orders) Queued k ≡ p.order_state k
     old_state k l = old_put (put p.order_state p.orders Queued) (suc p.orders) k Queued (omega (arith, l)) ∙ old_put p.order_state p.orders k Queued l
@@ -176,7 +177,7 @@ sent_queue g first p k s bo h i none =
 pub unit_send :
     (ms : Mappings) (g first n next e : ℕ) (p : Endpoint) (k t : ℕ) → LegalLocalAct ms g p (LocalAct.Send k t)
     → ((j : ℕ) → j < k → p.order_state j ≢ Queued) → Bounds g p → Labels p
-    → unit_wire first (own p n (LocalAct.Send k t)) ≡ unit_moved next (unit_wire first p) (own_move first e ms p (LocalAct.Send k t))
+    → unit_wire first (act_alone p n (LocalAct.Send k t)) ≡ unit_moved next (unit_wire first p) (own_move first e ms p (LocalAct.Send k t))
 unit_send ms g first n next e p k t l none bo la =
     units_same first p q (drop 1 (queue_of first p)) (slice_set (busy_of p) t (Some Fresh)) (end_number first p.front) (end_number first p.waits_end) refl
     (sent_queue g first p k Sent bo l.1 refl none)
@@ -186,7 +187,7 @@ unit_send ms g first n next e p k t l none bo la =
     refl
   where
     q : Endpoint
-    q = own p n (LocalAct.Send k t)
+    q = act_alone p n (LocalAct.Send k t)
 
     here : option_map (λ j. busy_wire (q.order_state j)) (q.at_itag t) ≡ Some Fresh
     here = ap (option_map (λ j. busy_wire (q.order_state j))) (put-same p.at_itag t (Some k)) ∙ ap (λ s. Some (busy_wire s)) (put-same p.order_state k Sent)
@@ -205,7 +206,7 @@ unit_send ms g first n next e p k t l none bo la =
 
 pub unit_pass :
     (ms : Mappings) (g first n next e : ℕ) (p : Endpoint) (k : ℕ) → LegalLocalAct ms g p (LocalAct.Pass k) → Bounds g p
-    → unit_wire first (own p n (LocalAct.Pass k)) ≡ unit_moved next (unit_wire first p) (own_move first e ms p (LocalAct.Pass k))
+    → unit_wire first (act_alone p n (LocalAct.Pass k)) ≡ unit_moved next (unit_wire first p) (own_move first e ms p (LocalAct.Pass k))
 unit_pass ms g first n next e p k l bo =
     units_same first p q (drop 1 (queue_of first p)) (busy_of p) (suc (cookie_number first (p.order k))) (end_number first p.waits_end) refl
     (sent_queue g first p k Done bo l.1 refl l.3)
@@ -214,7 +215,7 @@ unit_pass ms g first n next e p k l bo =
     refl
   where
     q : Endpoint
-    q = own p n (LocalAct.Pass k)
+    q = act_alone p n (LocalAct.Pass k)
 
     state : (j : ℕ) → busy_wire (put p.order_state k Done j) ≡ busy_wire (p.order_state j)
     state j = go (ℕ_cases j k)

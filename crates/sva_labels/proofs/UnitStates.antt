@@ -8,7 +8,7 @@ use Rattle.sva_model.specs.Words.{put, select, tabulate}
 use Rattle.sva_model.specs.State.{Mappings, OrderState, Endpoint}
 use Rattle.sva_model.specs.State.OrderState.{Queued, Sent, Taken, Lapsed, Completing, Done, Void}
 use Rattle.sva_model.specs.States.{is_open, is_queued, is_taken}
-use Rattle.sva_model.specs.Acts.{LocalAct, own, void_queued, void_undone, lapse, owe_if}
+use Rattle.sva_model.specs.Acts.{LocalAct, act_alone, void_queued, void_undone, lapse, completing_if}
 use Rattle.sva_model.specs.Wire.{end_number, descriptor, busy_wire, unit_wire, BusyWire}
 use Rattle.sva_model.specs.Wire.BusyWire.{Fresh}
 use Rattle.sva_laws.proofs.Words.{put-same, put-other, ℕ_cases}
@@ -55,7 +55,7 @@ void_busy Void = refl
 
 pub unit_reset :
     (ms : Mappings) (first n next e : ℕ) (p : Endpoint)
-    → unit_wire first (own p n LocalAct.Reset) ≡ unit_moved next (unit_wire first p) (own_move first e ms p LocalAct.Reset)
+    → unit_wire first (act_alone p n LocalAct.Reset) ≡ unit_moved next (unit_wire first p) (own_move first e ms p LocalAct.Reset)
 unit_reset ms first n next e p =
     unit_same false (map (λ k. descriptor first p (p.order k)) (select p.orders (λ k. is_queued (void_queued (p.order_state k))))) []
     (tabulate 32 (λ t. option_map (λ k. busy_wire (void_queued (p.order_state k))) (p.at_itag t)))
@@ -85,9 +85,9 @@ lapse_busy Void = refl
 
 pub unit_reset_arrives :
     (ms : Mappings) (g first n next e : ℕ) (p : Endpoint) (c : ℕ) → LegalLocalAct ms g p (LocalAct.Reset_arrives c) → Resets n p
-    → unit_wire first (own p n (LocalAct.Reset_arrives c)) ≡ unit_moved next (unit_wire first p) (own_move first e ms p (LocalAct.Reset_arrives c))
+    → unit_wire first (act_alone p n (LocalAct.Reset_arrives c)) ≡ unit_moved next (unit_wire first p) (own_move first e ms p (LocalAct.Reset_arrives c))
 unit_reset_arrives ms g first n next e p c l re =
-    units_same first p (own p n (LocalAct.Reset_arrives c)) (queue_of first p) (busy_of p) (end_number first p.front) (end_number first p.waits_end)
+    units_same first p (act_alone p n (LocalAct.Reset_arrives c)) (queue_of first p) (busy_of p) (end_number first p.front) (end_number first p.waits_end)
     (sym (ap is_open (re.down c l.0)))
     (states_queue first p (λ k. lapse (p.order_state k)) (λ k. lapse_queued (p.order_state k)))
     (states_busy p (λ k. lapse (p.order_state k)) (λ k. lapse_busy (p.order_state k)))
@@ -112,9 +112,9 @@ put_busy f i k s h = go (ℕ_cases k i)
 
 pub unit_take :
     (ms : Mappings) (g first n next e : ℕ) (p : Endpoint) (c k : ℕ) → LegalLocalAct ms g p (LocalAct.Take c k) → Labels p
-    → unit_wire first (own p n (LocalAct.Take c k)) ≡ unit_moved next (unit_wire first p) (own_move first e ms p (LocalAct.Take c k))
+    → unit_wire first (act_alone p n (LocalAct.Take c k)) ≡ unit_moved next (unit_wire first p) (own_move first e ms p (LocalAct.Take c k))
 unit_take ms g first n next e p c k l la =
-    units_same first p (own p n (LocalAct.Take c k)) (queue_of first p) (busy_of p) (end_number first p.front) (end_number first p.waits_end) refl
+    units_same first p (act_alone p n (LocalAct.Take c k)) (queue_of first p) (busy_of p) (end_number first p.front) (end_number first p.waits_end) refl
     (states_queue first p (put p.order_state k (Taken p.uses)) (λ j. put_queued p.order_state k j (Taken p.uses) (ap is_queued (la.sent c k l))))
     (states_busy p (put p.order_state k (Taken p.uses)) (λ j. put_busy p.order_state k j (Taken p.uses) (ap busy_wire (la.sent c k l))))
     refl
@@ -122,13 +122,13 @@ unit_take ms g first n next e p c k l la =
 
 -- the endpoint finishes invalidations: none of their completions has come
 
-owe_queued : (b : Bool) (count : ℕ) (s : OrderState) → (b ≡ true → is_taken s ≡ true) → is_queued (owe_if b count s) ≡ is_queued s
+owe_queued : (b : Bool) (count : ℕ) (s : OrderState) → (b ≡ true → is_taken s ≡ true) → is_queued (completing_if b count s) ≡ is_queued s
 owe_queued b count s h = grind arith
 
 pub same_number : (n : ℕ) → (n == n) ≡ true
 same_number n = grind (arith, nat_tests)
 
-owe_busy : (b : Bool) (count : ℕ) (s : OrderState) → (b ≡ true → is_taken s ≡ true) → busy_wire (owe_if b count s) ≡ busy_wire s
+owe_busy : (b : Bool) (count : ℕ) (s : OrderState) → (b ≡ true → is_taken s ≡ true) → busy_wire (completing_if b count s) ≡ busy_wire s
 owe_busy false count s h = refl
 owe_busy true count (Taken u) h = ap (λ z. if z then Fresh else BusyWire.Counting count (count - count)) (same_number count)
 owe_busy true count Queued h = absurd (let z = h refl in cc)
@@ -141,13 +141,13 @@ owe_busy true count Void h = absurd (let z = h refl in cc)
 pub unit_finish :
     (ms : Mappings) (g first n next e : ℕ) (p : Endpoint) (names : ℕ → Bool) (vector count : ℕ)
     → LegalLocalAct ms g p (LocalAct.Finish names vector count)
-    → unit_wire first (own p n (LocalAct.Finish names vector count))
+    → unit_wire first (act_alone p n (LocalAct.Finish names vector count))
     ≡ unit_moved next (unit_wire first p) (own_move first e ms p (LocalAct.Finish names vector count))
 unit_finish ms g first n next e p names vector count l =
-    units_same first p (own p n (LocalAct.Finish names vector count)) (queue_of first p) (busy_of p) (end_number first p.front)
+    units_same first p (act_alone p n (LocalAct.Finish names vector count)) (queue_of first p) (busy_of p) (end_number first p.front)
     (end_number first p.waits_end) refl
-    (states_queue first p (λ k. owe_if (names k) count (p.order_state k)) (λ k. owe_queued (names k) count (p.order_state k) (l.1 k)))
-    (states_busy p (λ k. owe_if (names k) count (p.order_state k)) (λ k. owe_busy (names k) count (p.order_state k) (l.1 k)))
+    (states_queue first p (λ k. completing_if (names k) count (p.order_state k)) (λ k. owe_queued (names k) count (p.order_state k) (l.1 k)))
+    (states_busy p (λ k. completing_if (names k) count (p.order_state k)) (λ k. owe_busy (names k) count (p.order_state k) (l.1 k)))
     refl
     refl
 
@@ -166,7 +166,7 @@ map_tabulate (suc n) f h = map-append h (tabulate n f) (f n ∷ []) ∙ ap (λ x
 
 pub unit_reopen :
     (ms : Mappings) (g first n next e : ℕ) (p : Endpoint) (c : ℕ) → LegalLocalAct ms g p (LocalAct.Reopen c) → Resets n p
-    → unit_wire first (own p n (LocalAct.Reopen c)) ≡ unit_moved next (unit_wire first p) (own_move first e ms p (LocalAct.Reopen c))
+    → unit_wire first (act_alone p n (LocalAct.Reopen c)) ≡ unit_moved next (unit_wire first p) (own_move first e ms p (LocalAct.Reopen c))
 unit_reopen ms g first n next e p c l re =
     unit_same true (map (λ k. descriptor first p (p.order k)) (select p.orders (λ k. is_queued (void_undone (p.order_state k))))) (queue_of first p)
     (tabulate 32 (λ t. option_map (λ k. busy_wire (void_undone (p.order_state k))) None))

@@ -18,7 +18,7 @@ use Rattle.sva_model.specs.Wire.StageWire.{StoppingWire, DrainingWire, Invalidat
 use Rattle.sva_model.specs.Wire.Descriptor.{RangeDescriptor, PasidDescriptor}
 use Rattle.sva_labels.specs.Finding.{is_space, pages_in, is_mapped, lowest_free, free_from, binding_of, bound_at, is_bound, pasid_for, part_of, device_of}
 use Rattle.sva_labels.specs.Finding.{unit_of, is_wait_done, lowest_label, has_room, submits, has_open_group, is_live, pasid_state, cached, is_request_of}
-use Rattle.sva_labels.specs.Finding.{is_use_of, is_unfinished_of, outstanding, group_at, use_at, taken_at, waits_for_use, held_by, flight_of, may_deliver}
+use Rattle.sva_labels.specs.Finding.{is_use_of, has_unfinished_group, outstanding, group_at, use_at, taken_at, waits_for_use, held_by, flight_of, may_deliver}
 use Rattle.sva_labels.specs.Replying.{replies_success, responds, newly_mapped, is_write_of_read_only, space_of_job}
 
 -- Causes that several steps ask.
@@ -154,7 +154,7 @@ may_request d t (Some i) = is_on (pasid_state d t) || is_ending (pasid_state d t
 
 abbrev pub is_other_group : DeviceWire → (pasid : ℕ) → Option ℕ → Bool
 is_other_group d t None = false
-is_other_group d t (Some i) = not (is_unfinished_of t (group_at d i))
+is_other_group d t (Some i) = not (has_unfinished_group t (group_at d i))
 
 abbrev pub fault_causes : Wire → DeviceWire → (pasid : ℕ) → Option ℕ → List Cause
 fault_causes w d t group =
@@ -174,7 +174,7 @@ finish_causes w d vector count =
     ∷ []
 
 abbrev pub is_busy_pasid : DeviceWire → (pasid : ℕ) → Bool
-is_busy_pasid d t = list_any (is_unfinished_of t) d.groups || list_any (is_request_of t) d.tags || list_any (is_use_of t) d.slots
+is_busy_pasid d t = list_any (has_unfinished_group t) d.groups || list_any (is_request_of t) d.tags || list_any (is_use_of t) d.slots
 
 abbrev pub quit_causes : Wire → DeviceWire → (pasid : ℕ) → List Cause
 quit_causes w d t =

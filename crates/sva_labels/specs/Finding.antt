@@ -166,9 +166,9 @@ abbrev pub is_use_of : (pasid : ℕ) → Option UseWire → Bool
 is_use_of t (Some (RunningWire x)) = x.pasid == t
 is_use_of t _ = false
 
-abbrev pub is_unfinished_of : (pasid : ℕ) → Option GroupWire → Bool
-is_unfinished_of t None = false
-is_unfinished_of t (Some g) = is_collecting g.state && g.pasid == t
+abbrev pub has_unfinished_group : (pasid : ℕ) → Option GroupWire → Bool
+has_unfinished_group t None = false
+has_unfinished_group t (Some g) = is_collecting g.state && g.pasid == t
 
 -- the page requests that are outstanding: those of all groups whose response hasn't come
 abbrev pub requests_in : Option GroupWire → ℕ

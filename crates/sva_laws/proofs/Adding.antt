@@ -19,7 +19,7 @@ use Rattle.sva_model.specs.Labels
 use Rattle.sva_model.specs.Refusals.{Cause, refusals}
 use Rattle.sva_model.specs.Replies.{maps_to, reply_maps, replies_success, newly_mapped, free_list, is_write_asked, job_space, response_to}
 use Rattle.sva_model.specs.Outcomes.{Outcome, outcome, unbind_outcome, advance_outcome, pump_outcome, head_outcome, wait_outcome, send_outcome, may_pass}
-use Rattle.sva_model.specs.Outcomes.{serve_outcome, file_outcome, reply_outcome, fault_outcome, about_outcome, deliver_outcome, completion_outcome}
+use Rattle.sva_model.specs.Outcomes.{serve_outcome, file_outcome, reply_outcome, fault_outcome, subject_outcome, deliver_outcome, completion_outcome}
 use Rattle.sva_model.specs.Outcomes.{keep_outcome, is_full, request_outcome, count_outcome, page_request_outcome, marker_outcome}
 use Rattle.sva_model.specs.States.{is_open}
 use Rattle.sva_model.specs.Steps.{checked, decide, after_acts}
@@ -236,22 +236,22 @@ marker_adds : (e c d : ℕ) (b : Bool) → AreAdding (marker_outcome e c d b).ac
 marker_adds e c d true = (tt, tt)
 marker_adds e c d false = (tt, tt)
 
-about_adds : (w : World) (p : Endpoint) (e c : ℕ) (a : Subject) → AreAdding (about_outcome w p e c a).acts
-about_adds w p e c (StartOf b) = (tt, tt)
-about_adds w p e c (StopOf b) = (tt, tt)
-about_adds w p e c FunctionReset = (tt, tt)
-about_adds w p e c (CompletionOf r found) = completion_adds p e c r found (p.request r)
-about_adds w p e c (InvalidateOf k) = (tt, tt)
-about_adds w p e c (ResponseOf g code) = (tt, tt)
-about_adds w p e c (RequestOf r) = request_adds w p e c r (is_open p.phase)
-about_adds w p e c (InvalidatedOf names) = count_adds p e c names (is_open p.phase)
-about_adds w p e c (PageRequestOf r) = page_request_adds e c r (is_open p.phase)
-about_adds w p e c (MarkerOf b) = marker_adds e c b (is_open p.phase)
-about_adds w p e c ResetDone = (tt, tt)
+subject_adds : (w : World) (p : Endpoint) (e c : ℕ) (a : Subject) → AreAdding (subject_outcome w p e c a).acts
+subject_adds w p e c (StartOf b) = (tt, tt)
+subject_adds w p e c (StopOf b) = (tt, tt)
+subject_adds w p e c FunctionReset = (tt, tt)
+subject_adds w p e c (CompletionOf r found) = completion_adds p e c r found (p.request r)
+subject_adds w p e c (InvalidateOf k) = (tt, tt)
+subject_adds w p e c (ResponseOf g code) = (tt, tt)
+subject_adds w p e c (RequestOf r) = request_adds w p e c r (is_open p.phase)
+subject_adds w p e c (InvalidatedOf names) = count_adds p e c names (is_open p.phase)
+subject_adds w p e c (PageRequestOf r) = page_request_adds e c r (is_open p.phase)
+subject_adds w p e c (MarkerOf b) = marker_adds e c b (is_open p.phase)
+subject_adds w p e c ResetDone = (tt, tt)
 
 pub deliver_adds : (w : World) (p : Endpoint) (e c : ℕ) (o : Option Subject) → AreAdding (deliver_outcome w p e c o).acts
 deliver_adds w p e c None = tt
-deliver_adds w p e c (Some a) = about_adds w p e c a
+deliver_adds w p e c (Some a) = subject_adds w p e c a
 
 outcome_kind : (w : World) (s : Step) → Kind (outcome w s).acts
 outcome_kind w step.Space = adding (tt, tt)

@@ -7,7 +7,7 @@ use Rattle.sva_model.specs.State.{Owed, Mappings, Endpoint}
 use Rattle.sva_model.specs.State.Owed.{Nothing, Ranges, Pasid, NextReset}
 use Rattle.sva_model.specs.State.OrderState.{Void}
 use Rattle.sva_model.specs.States.{is_done, answered}
-use Rattle.sva_model.specs.Acts.{own, LocalAct, submitted, submitted_if}
+use Rattle.sva_model.specs.Acts.{act_alone, LocalAct, submitted, submitted_if}
 use Rattle.sva_laws.proofs.Legal.{LegalLocalAct}
 use Rattle.sva_laws.proofs.Bounds.{Bounds}
 use Rattle.sva_laws.proofs.Orders.{SentOnly}
@@ -50,16 +50,16 @@ answered_more p q f l (Pasid k w resets c0) h =
 answered_more p q f l (NextReset resets) h = less_more resets p.resets q.resets l h
 
 done_stays : (ms : Mappings) (g n : ℕ) (p : Endpoint) (o : LocalAct) → LegalLocalAct ms g p o → SentOnly p → (k : ℕ) → (p.orders ≤ k → p.order_state k ≡ Void)
-    → is_done (p.order_state k) ≡ true → is_done ((own p n o).order_state k) ≡ true
+    → is_done (p.order_state k) ≡ true → is_done ((act_alone p n o).order_state k) ≡ true
 done_stays ms g n p o l sent k bo h = grind (arith, nat_tests)
 
-resets_grow : (ms : Mappings) (g n : ℕ) (p : Endpoint) (o : LocalAct) → LegalLocalAct ms g p o → p.resets ≤ (own p n o).resets
+resets_grow : (ms : Mappings) (g n : ℕ) (p : Endpoint) (o : LocalAct) → LegalLocalAct ms g p o → p.resets ≤ (act_alone p n o).resets
 resets_grow ms g n p o l = grind (arith, nat_tests)
 
 pub answered_own : (ms : Mappings) (g n : ℕ) (p : Endpoint) (o : LocalAct) → LegalLocalAct ms g p o → SentOnly p → Bounds g p → (v : Owed) → answered p v ≡ true
-    → answered (own p n o) v ≡ true
+    → answered (act_alone p n o) v ≡ true
 answered_own ms g n p o l sent bo v h =
-    answered_more p (own p n o) (λ k. done_stays ms g n p o l sent k (bo.order_state k)) (resets_grow ms g n p o l) v h
+    answered_more p (act_alone p n o) (λ k. done_stays ms g n p o l sent k (bo.order_state k)) (resets_grow ms g n p o l) v h
 
 submitted_done : (g b q count order cookie k : ℕ) (p : Endpoint) → Bounds g p → is_done (p.order_state k) ≡ true
     → is_done ((submitted p b q count order cookie).order_state k) ≡ true

@@ -6,7 +6,7 @@ use Rattle.sva_model.specs.State.{Mappings, Endpoint, Stage}
 use Rattle.sva_model.specs.State.Stage.{Live, Stopping}
 use Rattle.sva_model.specs.State.PasidState.{Off, On, Ending}
 use Rattle.sva_model.specs.State.Subject.{StartOf, StopOf, MarkerOf}
-use Rattle.sva_model.specs.Acts.{own, LocalAct}
+use Rattle.sva_model.specs.Acts.{act_alone, LocalAct}
 use Rattle.sva_laws.proofs.Legal.{LegalLocalAct}
 use Rattle.sva_laws.proofs.Resets.{Resets}
 
@@ -32,7 +32,7 @@ pub record Bindings (p : Endpoint) : Type 0 where
   pub marker_start : (c d b : ℕ) → p.message c ≡ Some (MarkerOf b) → p.message d ≢ Some (StartOf b)
   pub marker_stop : (c d b : ℕ) → p.message c ≡ Some (MarkerOf b) → p.message d ≢ Some (StopOf b)
 
-pub every : (ms : Mappings) (g n : ℕ) (p : Endpoint) (o : LocalAct) → LegalLocalAct ms g p o → Resets n p → Bindings p → Bindings (own p n o)
+pub every : (ms : Mappings) (g n : ℕ) (p : Endpoint) (o : LocalAct) → LegalLocalAct ms g p o → Resets n p → Bindings p → Bindings (act_alone p n o)
 every ms g n p o l re bi =
     record {
       start_once = λ c d b h i. grind (arith, nat_tests, bi.start_once c d b, bi.start_stage c b, bi.start_stage d b, re.unsent c, re.unsent d);

@@ -11,7 +11,7 @@ use Rattle.sva_model.specs.Words.{put, count_below, is_some, the}
 use Rattle.sva_model.specs.State.{PasidRule, Mappings, Endpoint, World, Stage}
 use Rattle.sva_model.specs.State.Stage.{Unbound, Live, Stopping, Draining, Invalidating, Quiet, Lost, Released}
 use Rattle.sva_model.specs.States.{is_unreleased}
-use Rattle.sva_model.specs.Acts.{Act, LocalAct, act, own, submitted_if, submits, bound, cookie_of}
+use Rattle.sva_model.specs.Acts.{Act, LocalAct, act, act_alone, submitted_if, submits, bound, cookie_of}
 use Rattle.sva_model.specs.Acts.Act.{NewSpace, DropSpace, Map, Unmap, NewBinding, NewJob, Hold, LetGo, AtEndpoint}
 use Rattle.sva_model.specs.Labels
 use Rattle.sva_model.specs.Refusals.{Cause, refusals}
@@ -36,7 +36,7 @@ is_bound_by (LocalAct.Release b) = true
 is_bound_by _ = false
 
 stage_same : (ms : Mappings) (g n : ℕ) (p : Endpoint) (o : LocalAct) → LegalLocalAct ms g p o → is_bound_by o ≡ false → (b : ℕ)
-    → is_unreleased ((own p n o).stage b) ≡ is_unreleased (p.stage b)
+    → is_unreleased ((act_alone p n o).stage b) ≡ is_unreleased (p.stage b)
 stage_same ms g n p o l h b = grind (arith, nat_tests)
 
 pub submitted_stage : (t : Bool) (p : Endpoint) (o : Option ℕ) (q count order cookie b : ℕ) → (submitted_if t p o q count order cookie).stage b ≡ p.stage b
@@ -76,7 +76,7 @@ act_same w (LetGo x) l i h = refl
 act_same w (AtEndpoint e o) l i h =
     count_same w.bindings (λ b. is_unreleased (((act w (AtEndpoint e o)).part (w.endpoint_of b)).stage b))
     (λ b. is_unreleased ((w.part (w.endpoint_of b)).stage b))
-    (λ b k. put_keeps (λ x p. (d : ℕ) → is_unreleased (p.stage d) ≡ is_unreleased ((w.part x).stage d)) w.part e (own (w.part e) w.messages o)
+    (λ b k. put_keeps (λ x p. (d : ℕ) → is_unreleased (p.stage d) ≡ is_unreleased ((w.part x).stage d)) w.part e (act_alone (w.part e) w.messages o)
     (λ d. stage_same w.mappings w.bindings w.messages (w.part e) o l.1.0 h d) (λ x d. refl) (w.endpoint_of b) b)
 
 quiet : (z : Step) (a : Act) → is_binding z ≡ false → is_advancing z ≡ false → may a z ≡ true → binds_or_releases a ≡ false
@@ -101,7 +101,8 @@ begins w e b s t i l =
     ∙ ap (λ p. is_unreleased (p.stage b)) here ∙ ap is_unreleased (put-same (w.part e).stage b Live))
     (ap (λ z. is_unreleased ((w.part z).stage b)) endpoint_of ∙ ap is_unreleased l.1.0.2)
     (λ d ne. put_keeps (λ x p. (c : ℕ) → c ≢ b → is_unreleased (p.stage c) ≡ is_unreleased ((w.part x).stage c)) w.part e
-    (own (w.part e) w.messages (LocalAct.Bind b s t)) (λ c k. ap is_unreleased (put-other (w.part e).stage b Live c k)) (λ x c k. refl) (w.endpoint_of d) d ne)
+    (act_alone (w.part e) w.messages (LocalAct.Bind b s t)) (λ c k. ap is_unreleased (put-other (w.part e).stage b Live c k)) (λ x c k. refl) (w.endpoint_of d)
+    d ne)
   where
     now : ℕ → Bool
     now d = is_unreleased (((act w (AtEndpoint e (LocalAct.Bind b s t))).part (w.endpoint_of d)).stage d)
@@ -112,8 +113,8 @@ begins w e b s t i l =
     endpoint_of : w.endpoint_of b ≡ e
     endpoint_of = l.1.1.2
 
-    here : (act w (AtEndpoint e (LocalAct.Bind b s t))).part e ≡ own (w.part e) w.messages (LocalAct.Bind b s t)
-    here = put-same w.part e (own (w.part e) w.messages (LocalAct.Bind b s t))
+    here : (act w (AtEndpoint e (LocalAct.Bind b s t))).part e ≡ act_alone (w.part e) w.messages (LocalAct.Bind b s t)
+    here = put-same w.part e (act_alone (w.part e) w.messages (LocalAct.Bind b s t))
 
 releases : (w : World) (e b : ℕ) → Invariant w → Legal w (AtEndpoint e (LocalAct.Release b)) → unreleased w
     ≡ suc (unreleased (act w (AtEndpoint e (LocalAct.Release b))))
@@ -123,7 +124,7 @@ releases w e b i l =
     (ap (λ z. is_unreleased (((act w (AtEndpoint e (LocalAct.Release b))).part z).stage b)) endpoint_of ∙ ap (λ p. is_unreleased (p.stage b)) here
     ∙ ap is_unreleased (put-same (w.part e).stage b Released))
     (λ d ne. put_keeps (λ x p. (c : ℕ) → c ≢ b → is_unreleased ((w.part x).stage c) ≡ is_unreleased (p.stage c)) w.part e
-    (own (w.part e) w.messages (LocalAct.Release b)) (λ c k. sym (ap is_unreleased (put-other (w.part e).stage b Released c k)))
+    (act_alone (w.part e) w.messages (LocalAct.Release b)) (λ c k. sym (ap is_unreleased (put-other (w.part e).stage b Released c k)))
     (λ x c k. refl) (w.endpoint_of d) d ne)
   where
     now : ℕ → Bool
@@ -136,13 +137,13 @@ releases w e b i l =
     not_unbound h = absurd (cc (sym h ∙ l.1.0))
 
     endpoint_of : w.endpoint_of b ≡ e
-    endpoint_of = i.homed e b not_unbound
+    endpoint_of = i.one_endpoint e b not_unbound
 
     made : b < w.bindings
     made = grind (arith, nat_tests, (i.parts e).bounds.stage b)
 
-    here : (act w (AtEndpoint e (LocalAct.Release b))).part e ≡ own (w.part e) w.messages (LocalAct.Release b)
-    here = put-same w.part e (own (w.part e) w.messages (LocalAct.Release b))
+    here : (act w (AtEndpoint e (LocalAct.Release b))).part e ≡ act_alone (w.part e) w.messages (LocalAct.Release b)
+    here = put-same w.part e (act_alone (w.part e) w.messages (LocalAct.Release b))
 
 -- What is said of an answer and its acts holds of a decision, where it holds of a refusal and of what is done where none holds.
 by_checked : (P : Reply → List Act → Type 0) (cs : List Cause) (o : Outcome) → ((r : Refusal) → P (Err r) []) → P (Ok o.answer) o.acts
@@ -220,7 +221,7 @@ uses_slot (LocalAct.Begin r m t) = true
 uses_slot (LocalAct.End u) = true
 uses_slot _ = false
 
-slot_same : (p : Endpoint) (n : ℕ) (o : LocalAct) → uses_slot o ≡ false → (t : ℕ) → (own p n o).at_slot t ≡ p.at_slot t
+slot_same : (p : Endpoint) (n : ℕ) (o : LocalAct) → uses_slot o ≡ false → (t : ℕ) → (act_alone p n o).at_slot t ≡ p.at_slot t
 slot_same p n o h t = grind (arith, nat_tests)
 
 pub submitted_slot : (t : Bool) (p : Endpoint) (o : Option ℕ) (q count order cookie k : ℕ) → (submitted_if t p o q count order cookie).at_slot k ≡ p.at_slot k
@@ -248,8 +249,8 @@ act_slots w (NewJob d g) e h = refl
 act_slots w (Hold x j) e h = refl
 act_slots w (LetGo x) e h = refl
 act_slots w (AtEndpoint d o) e h =
-    put_keeps (λ x p. count_below 16 (λ t. is_some (p.at_slot t)) ≡ slots w x) w.part d (own (w.part d) w.messages o)
-    (slots_same (w.part d) (own (w.part d) w.messages o) (slot_same (w.part d) w.messages o h)) (λ x. refl) e
+    put_keeps (λ x p. count_below 16 (λ t. is_some (p.at_slot t)) ≡ slots w x) w.part d (act_alone (w.part d) w.messages o)
+    (slots_same (w.part d) (act_alone (w.part d) w.messages o) (slot_same (w.part d) w.messages o h)) (λ x. refl) e
 
 still : (z : Step) (a : Act) → is_beginning z ≡ false → is_ending z ≡ false → may a z ≡ true → slots_used a ≡ false
 still z (AtEndpoint e (LocalAct.Begin r m t)) x y h = absurd (cc)
@@ -281,9 +282,9 @@ begun w d r m t e l = go (ℕ_cases e d)
     go : (e ≡ d) ⊎ (e ≢ d) → slots (act w (AtEndpoint d (LocalAct.Begin r m t))) e ≡ slots w e + (if d == e then 1 else 0)
     go (inl h) =
         subst (λ x. slots (act w (AtEndpoint d (LocalAct.Begin r m t))) x ≡ slots w x + (if d == x then 1 else 0)) (sym h)
-        (ap (λ q. count_below 16 (λ k. is_some (q.at_slot k))) (put-same w.part d (own p w.messages (LocalAct.Begin r m t)))
+        (ap (λ q. count_below 16 (λ k. is_some (q.at_slot k))) (put-same w.part d (act_alone p w.messages (LocalAct.Begin r m t)))
         ∙ here (count_below 16 (λ k. is_some (put p.at_slot t (Some p.uses) k))) new)
-    go (inr ne) = ap (λ q. count_below 16 (λ k. is_some (q.at_slot k))) (put-other w.part d (own p w.messages (LocalAct.Begin r m t)) e ne) ∙ there ne
+    go (inr ne) = ap (λ q. count_below 16 (λ k. is_some (q.at_slot k))) (put-other w.part d (act_alone p w.messages (LocalAct.Begin r m t)) e ne) ∙ there ne
 
 ended : (w : World) (d u e : ℕ) → Invariant w → Legal w (AtEndpoint d (LocalAct.End u))
     → slots (act w (AtEndpoint d (LocalAct.End u))) e + (if d == e then 1 else 0) ≡ slots w e
@@ -310,10 +311,10 @@ ended w d u e i l = go (ℕ_cases e d)
     go : (e ≡ d) ⊎ (e ≢ d) → slots (act w (AtEndpoint d (LocalAct.End u))) e + (if d == e then 1 else 0) ≡ slots w e
     go (inl h) =
         subst (λ x. slots (act w (AtEndpoint d (LocalAct.End u))) x + (if d == x then 1 else 0) ≡ slots w x) (sym h)
-        (ap (λ q. count_below 16 (λ k. is_some (q.at_slot k)) + (if d == d then 1 else 0)) (put-same w.part d (own p w.messages (LocalAct.End u)))
+        (ap (λ q. count_below 16 (λ k. is_some (q.at_slot k)) + (if d == d then 1 else 0)) (put-same w.part d (act_alone p w.messages (LocalAct.End u)))
         ∙ here (count_below 16 (λ k. is_some (put p.at_slot t None k))) old)
     go (inr ne) = ap (λ q. count_below 16 (λ k. is_some (q.at_slot k)) + (if d == e then 1 else 0))
-        (put-other w.part d (own p w.messages (LocalAct.End u)) e ne) ∙ there ne
+        (put-other w.part d (act_alone p w.messages (LocalAct.End u)) e ne) ∙ there ne
 
 abbrev Slots : World → ℕ → Step → Reply → List Act → Type 0
 Slots w e s r acts = LegalAll w acts → slots (after_acts w acts) e + ended_by e s r ≡ slots w e + begun_by e s r

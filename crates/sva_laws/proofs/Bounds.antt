@@ -12,7 +12,7 @@ use Rattle.sva_model.specs.State.GroupState.{Closed}
 use Rattle.sva_model.specs.State.HostGroupState.{NotFiled}
 use Rattle.sva_model.specs.State.OrderState.{Void, Taken}
 use Rattle.sva_model.specs.State.Subject.{CompletionOf, InvalidateOf, ResponseOf, RequestOf, PageRequestOf}
-use Rattle.sva_model.specs.Acts.{own, LocalAct}
+use Rattle.sva_model.specs.Acts.{act_alone, LocalAct}
 use Rattle.sva_laws.proofs.Legal.{LegalLocalAct}
 use Rattle.sva_laws.proofs.Resets.{Resets}
 
@@ -34,7 +34,7 @@ pub record Bounds (bindings : ℕ) (p : Endpoint) : Type 0 where
   pub requested : (c r : ℕ) → p.message c ≡ Some (PageRequestOf r) → r < p.page_requests
   pub responded : (c g : ℕ) (code : Code) → p.message c ≡ Some (ResponseOf g code) → g < p.groups
 
-pub every : (ms : Mappings) (g n : ℕ) (p : Endpoint) (o : LocalAct) → LegalLocalAct ms g p o → Resets n p → Bounds g p → Bounds g (own p n o)
+pub every : (ms : Mappings) (g n : ℕ) (p : Endpoint) (o : LocalAct) → LegalLocalAct ms g p o → Resets n p → Bounds g p → Bounds g (act_alone p n o)
 every ms g n p o l re bo =
     record {
       stage = λ b h. grind (arith, nat_tests, bo.stage b);

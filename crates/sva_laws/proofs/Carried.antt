@@ -15,7 +15,7 @@ use Rattle.sva_model.specs.State.Stage.{Unbound}
 use Rattle.sva_model.specs.State.PageRequestState.{Arrived}
 use Rattle.sva_model.specs.State.OrderState.{Sent}
 use Rattle.sva_model.specs.State.Subject.{StartOf, StopOf, FunctionReset, CompletionOf, InvalidateOf, ResponseOf, RequestOf, PageRequestOf, MarkerOf, ResetDone}
-use Rattle.sva_model.specs.Acts.{Act, LocalAct, act, own, submitted, submitted_if, submits, bound, cookie_of, binding_of, extent_of, scope_of}
+use Rattle.sva_model.specs.Acts.{Act, LocalAct, act, act_alone, submitted, submitted_if, submits, bound, cookie_of, binding_of, extent_of, scope_of}
 use Rattle.sva_model.specs.Acts.Act.{NewSpace, DropSpace, Map, Unmap, NewBinding, NewJob, Hold, LetGo, AtEndpoint}
 use Rattle.sva_model.specs.Steps.{decide, next, run, after_acts, world_after}
 use Rattle.sva_laws.specs.Laws.{IsCarried}
@@ -35,51 +35,55 @@ use Rattle.sva_laws.proofs.Runs.{step_legal, next_keeps, opened_invariant}
 
 start_kept : (ms : Mappings) (g n : ℕ) (p : Endpoint) (o : LocalAct) → LegalLocalAct ms g p o → (c b : ℕ)
     → (p.message c ≡ Some (StartOf b) → p.stage b ≢ Unbound)
-    → (p.message c ≡ Some (StartOf b) → p.carried c ≡ StartMessage (p.pasid b)) → (own p n o).message c ≡ Some (StartOf b) → (own p n o).carried c
-    ≡ StartMessage ((own p n o).pasid b)
+    → (p.message c ≡ Some (StartOf b) → p.carried c ≡ StartMessage (p.pasid b)) → (act_alone p n o).message c ≡ Some (StartOf b) → (act_alone p n o).carried c
+    ≡ StartMessage ((act_alone p n o).pasid b)
 start_kept ms g n p o l c b bound old h = grind (arith, nat_tests)
 
 stop_kept : (ms : Mappings) (g n : ℕ) (p : Endpoint) (o : LocalAct) → LegalLocalAct ms g p o → (c b : ℕ) → (p.message c ≡ Some (StopOf b) → p.stage b ≢ Unbound)
-    → (p.message c ≡ Some (StopOf b) → p.carried c ≡ StopMessage (p.pasid b)) → (own p n o).message c ≡ Some (StopOf b) → (own p n o).carried c
-    ≡ StopMessage ((own p n o).pasid b)
+    → (p.message c ≡ Some (StopOf b) → p.carried c ≡ StopMessage (p.pasid b)) → (act_alone p n o).message c ≡ Some (StopOf b) → (act_alone p n o).carried c
+    ≡ StopMessage ((act_alone p n o).pasid b)
 stop_kept ms g n p o l c b bound old h = grind (arith, nat_tests)
 
 reset_kept : (ms : Mappings) (g n : ℕ) (p : Endpoint) (o : LocalAct) → LegalLocalAct ms g p o → (c : ℕ)
-    → (p.message c ≡ Some FunctionReset → p.carried c ≡ ResetMessage) → (own p n o).message c ≡ Some FunctionReset → (own p n o).carried c ≡ ResetMessage
+    → (p.message c ≡ Some FunctionReset → p.carried c ≡ ResetMessage) → (act_alone p n o).message c ≡ Some FunctionReset
+    → (act_alone p n o).carried c ≡ ResetMessage
 reset_kept ms g n p o l c old h = grind (arith, nat_tests)
 
 reset_done_kept : (ms : Mappings) (g n : ℕ) (p : Endpoint) (o : LocalAct) → LegalLocalAct ms g p o → (c : ℕ)
-    → (p.message c ≡ Some ResetDone → p.carried c ≡ ResetDoneMessage) → (own p n o).message c ≡ Some ResetDone → (own p n o).carried c ≡ ResetDoneMessage
+    → (p.message c ≡ Some ResetDone → p.carried c ≡ ResetDoneMessage) → (act_alone p n o).message c ≡ Some ResetDone
+    → (act_alone p n o).carried c ≡ ResetDoneMessage
 reset_done_kept ms g n p o l c old h = grind (arith, nat_tests)
 
 marker_kept : (ms : Mappings) (g n : ℕ) (p : Endpoint) (o : LocalAct) → LegalLocalAct ms g p o → (c b : ℕ)
     → (p.message c ≡ Some (MarkerOf b) → p.stage b ≢ Unbound) → (p.message c ≡ Some (MarkerOf b) → p.carried c ≡ MarkerMessage (p.pasid b))
-    → (own p n o).message c ≡ Some (MarkerOf b) → (own p n o).carried c ≡ MarkerMessage ((own p n o).pasid b)
+    → (act_alone p n o).message c ≡ Some (MarkerOf b) → (act_alone p n o).carried c ≡ MarkerMessage ((act_alone p n o).pasid b)
 marker_kept ms g n p o l c b bound old h = grind (arith, nat_tests)
 
 invalidate_kept : (ms : Mappings) (g n : ℕ) (p : Endpoint) (o : LocalAct) → LegalLocalAct ms g p o → (c k : ℕ)
     → (p.message c ≡ Some (InvalidateOf k) → k < p.orders) → (p.message c ≡ Some (InvalidateOf k) → p.order_state k ≡ Sent)
     → (p.message c ≡ Some (InvalidateOf k) → p.stage (binding_of (p.order k)) ≢ Unbound)
     → (p.message c ≡ Some (InvalidateOf k) → p.carried c
-    ≡ InvalidateMessage (p.itag k) (p.pasid (binding_of (p.order k))) (scope_of (extent_of (p.order k)))) → (own p n o).message c
-    ≡ Some (InvalidateOf k) → (own p n o).carried c
-    ≡ InvalidateMessage ((own p n o).itag k) ((own p n o).pasid (binding_of ((own p n o).order k))) (scope_of (extent_of ((own p n o).order k)))
+    ≡ InvalidateMessage (p.itag k) (p.pasid (binding_of (p.order k))) (scope_of (extent_of (p.order k)))) → (act_alone p n o).message c
+    ≡ Some (InvalidateOf k) → (act_alone p n o).carried c
+    ≡ InvalidateMessage ((act_alone p n o).itag k) ((act_alone p n o).pasid (binding_of ((act_alone p n o).order k)))
+    (scope_of (extent_of ((act_alone p n o).order k)))
 invalidate_kept ms g n p o l c k made sent bound old h = grind (arith, nat_tests)
 
 response_kept : (ms : Mappings) (g n : ℕ) (p : Endpoint) (o : LocalAct) → LegalLocalAct ms g p o → (c x : ℕ) (code : Code)
     → (p.message c ≡ Some (ResponseOf x code) → x < p.groups)
     → ((r : ℕ) → p.message c ≡ Some (ResponseOf x code) → p.group_of r ≡ x → p.page_request r ≢ Arrived)
     → (p.message c ≡ Some (ResponseOf x code) → p.stage (p.filed_under x) ≢ Unbound)
-    → (p.message c ≡ Some (ResponseOf x code) → p.carried c ≡ ResponseMessage (p.pasid (p.filed_under x)) (p.index x) code) → (own p n o).message c
-    ≡ Some (ResponseOf x code) → (own p n o).carried c ≡ ResponseMessage ((own p n o).pasid ((own p n o).filed_under x)) ((own p n o).index x) code
+    → (p.message c ≡ Some (ResponseOf x code) → p.carried c ≡ ResponseMessage (p.pasid (p.filed_under x)) (p.index x) code) → (act_alone p n o).message c
+    ≡ Some (ResponseOf x code)
+    → (act_alone p n o).carried c ≡ ResponseMessage ((act_alone p n o).pasid ((act_alone p n o).filed_under x)) ((act_alone p n o).index x) code
 response_kept ms g n p o l c x code made filed bound old h = grind (arith, nat_tests)
 
 request_kept : (ms : Mappings) (g n : ℕ) (p : Endpoint) (o : LocalAct) → LegalLocalAct ms g p o → (c r : ℕ)
     → (p.message c ≡ Some (RequestOf r) → r < p.requests)
     → (p.message c ≡ Some (RequestOf r) → p.stage (p.request_binding r) ≢ Unbound)
     → (p.message c ≡ Some (RequestOf r) → p.carried c ≡ RequestMessage (p.request_tag r) (p.pasid (p.request_binding r)) (p.request_page r))
-    → (own p n o).message c ≡ Some (RequestOf r) → (own p n o).carried c
-    ≡ RequestMessage ((own p n o).request_tag r) ((own p n o).pasid ((own p n o).request_binding r)) ((own p n o).request_page r)
+    → (act_alone p n o).message c ≡ Some (RequestOf r) → (act_alone p n o).carried c
+    ≡ RequestMessage ((act_alone p n o).request_tag r) ((act_alone p n o).pasid ((act_alone p n o).request_binding r)) ((act_alone p n o).request_page r)
 request_kept ms g n p o l c r made bound old h = grind (arith, nat_tests)
 
 page_request_kept : (ms : Mappings) (g n : ℕ) (p : Endpoint) (o : LocalAct) → LegalLocalAct ms g p o → (c r : ℕ)
@@ -87,23 +91,24 @@ page_request_kept : (ms : Mappings) (g n : ℕ) (p : Endpoint) (o : LocalAct) �
     → (p.message c ≡ Some (PageRequestOf r) → p.stage (p.asker (p.group_of r)) ≢ Unbound)
     → (p.message c ≡ Some (PageRequestOf r) → p.carried c
     ≡ PageRequestMessage (p.pasid (p.asker (p.group_of r))) (p.index (p.group_of r)) (p.asked_page r) (p.asks_read r) (p.asks_write r) (p.is_last r))
-    → (own p n o).message c ≡ Some (PageRequestOf r) → (own p n o).carried c
-    ≡ PageRequestMessage ((own p n o).pasid ((own p n o).asker ((own p n o).group_of r))) ((own p n o).index ((own p n o).group_of r))
-    ((own p n o).asked_page r) ((own p n o).asks_read r) ((own p n o).asks_write r) ((own p n o).is_last r)
+    → (act_alone p n o).message c ≡ Some (PageRequestOf r) → (act_alone p n o).carried c
+    ≡ PageRequestMessage ((act_alone p n o).pasid ((act_alone p n o).asker ((act_alone p n o).group_of r)))
+    ((act_alone p n o).index ((act_alone p n o).group_of r))
+    ((act_alone p n o).asked_page r) ((act_alone p n o).asks_read r) ((act_alone p n o).asks_write r) ((act_alone p n o).is_last r)
 page_request_kept ms g n p o l c r made group bound old h = grind (arith, nat_tests)
 
 -- a completion carries the frame and the write flag of the mapping that it found
 completion_kept : (ms : Mappings) (g n : ℕ) (p : Endpoint) (o : LocalAct) → LegalLocalAct ms g p o → (c r m : ℕ)
     → (p.message c ≡ Some (CompletionOf r (Some m)) → r < p.requests) → ((d : ℕ) → p.message d ≡ Some (RequestOf r) → r < p.requests)
     → (p.message c ≡ Some (CompletionOf r (Some m)) → p.carried c ≡ CompletionMessage (p.request_tag r) (ms.frame m) true (ms.write m))
-    → (own p n o).message c ≡ Some (CompletionOf r (Some m)) → (own p n o).carried c
-    ≡ CompletionMessage ((own p n o).request_tag r) (ms.frame m) true (ms.write m)
+    → (act_alone p n o).message c ≡ Some (CompletionOf r (Some m)) → (act_alone p n o).carried c
+    ≡ CompletionMessage ((act_alone p n o).request_tag r) (ms.frame m) true (ms.write m)
 completion_kept ms g n p o l c r m made asked old h = grind (arith, nat_tests)
 
 nothing_kept : (ms : Mappings) (g n : ℕ) (p : Endpoint) (o : LocalAct) → LegalLocalAct ms g p o → (c r : ℕ)
     → (p.message c ≡ Some (CompletionOf r None) → r < p.requests) → ((d : ℕ) → p.message d ≡ Some (RequestOf r) → r < p.requests)
-    → (p.message c ≡ Some (CompletionOf r None) → p.carried c ≡ CompletionMessage (p.request_tag r) 0 false false) → (own p n o).message c
-    ≡ Some (CompletionOf r None) → (own p n o).carried c ≡ CompletionMessage ((own p n o).request_tag r) 0 false false
+    → (p.message c ≡ Some (CompletionOf r None) → p.carried c ≡ CompletionMessage (p.request_tag r) 0 false false) → (act_alone p n o).message c
+    ≡ Some (CompletionOf r None) → (act_alone p n o).carried c ≡ CompletionMessage ((act_alone p n o).request_tag r) 0 false false
 nothing_kept ms g n p o l c r made asked old h = grind (arith, nat_tests)
 
 -- of whom a message speaks was bound
@@ -118,7 +123,7 @@ bound_as : (s t : Stage) → s ≡ t → t ≢ Unbound → s ≢ Unbound
 bound_as s t e ne h = ne (sym e ∙ h)
 
 pub every : (ms : Mappings) (x g n e : ℕ) (p : Endpoint) (o : LocalAct) → LegalLocalAct ms g p o → PartInvariant ms x g n e p → Owed n p → IsCarried ms p
-    → IsCarried ms (own p n o)
+    → IsCarried ms (act_alone p n o)
 every ms x g n e p o l i ow ca =
     let bo = i.bounds in
     let bi = i.bindings in
@@ -225,7 +230,7 @@ act_carried w (NewJob e g) l i ow h = h
 act_carried w (Hold x j) l i ow h = h
 act_carried w (LetGo x) l i ow h = h
 act_carried w (AtEndpoint e o) l i ow h =
-    put_keeps (λ k p. IsCarried w.mappings p) w.part e (own (w.part e) w.messages o)
+    put_keeps (λ k p. IsCarried w.mappings p) w.part e (act_alone (w.part e) w.messages o)
     (every w.mappings w.config.endpoints w.bindings w.messages e (w.part e) o l.1.0 (i.parts e) (ow e) (h e)) h
 
 acts_carried : (acts : List Act) (w : World) → LegalAll w acts → Invariant w → AllOwed w → AllCarried w → AllCarried (after_acts w acts)

@@ -11,7 +11,7 @@ use Rattle.sva_model.specs.State.OrderState.{Queued, Sent, Taken, Lapsed, Comple
 use Rattle.sva_model.specs.State.Subject.{InvalidatedOf}
 use Rattle.sva_model.specs.State.Phase.{Open, Cleared}
 use Rattle.sva_model.specs.States.{is_taken}
-use Rattle.sva_model.specs.Acts.{Act, LocalAct, act, own, sends, counted, counted_if, owe_if, submitted, submitted_if, submits, bound, cookie_of}
+use Rattle.sva_model.specs.Acts.{Act, LocalAct, act, act_alone, sends, counted, counted_if, completing_if, submitted, submitted_if, submits, bound, cookie_of}
 use Rattle.sva_model.specs.Acts.Act.{NewSpace, DropSpace, Map, Unmap, NewBinding, NewJob, Hold, LetGo, AtEndpoint}
 use Rattle.sva_model.specs.Steps.{decide, next, run, after_acts, world_after}
 use Rattle.sva_laws.specs.Laws.{names_order, completions, left_of}
@@ -32,7 +32,8 @@ pub record Owed (n : ℕ) (p : Endpoint) : Type 0 where
 
 owing_kept : (ms : Mappings) (g n : ℕ) (p : Endpoint) (o : LocalAct) → LegalLocalAct ms g p o → (k count left : ℕ)
     → (p.order_state k ≡ Completing count (suc left) → (suc left ≤ count) × (count ≤ 8))
-    → (p.order_state k ≡ Completing count left → (0 < left) × (left ≤ count) × (count ≤ 8)) → (own p n o).order_state k ≡ Completing count left → (0 < left)
+    → (p.order_state k ≡ Completing count left → (0 < left) × (left ≤ count) × (count ≤ 8)) → (act_alone p n o).order_state k ≡ Completing count left
+    → (0 < left)
     × (left ≤ count) × (count ≤ 8)
 owing_kept ms g n p o l k count left more old h = grind (arith, nat_tests)
 
@@ -44,29 +45,29 @@ counts_completions (LocalAct.Reopen c) = true
 counts_completions _ = false
 
 old_same : (ms : Mappings) (g n : ℕ) (p : Endpoint) (o : LocalAct) → LegalLocalAct ms g p o → counts_completions o ≡ false → p.phase ≡ Open → (k c : ℕ) → c < n
-    → names_order k ((own p n o).message c) ≡ names_order k (p.message c)
+    → names_order k ((act_alone p n o).message c) ≡ names_order k (p.message c)
 old_same ms g n p o l e ph k c lt = grind (arith, nat_tests)
 
 new_none : (ms : Mappings) (g n : ℕ) (p : Endpoint) (o : LocalAct) → LegalLocalAct ms g p o → counts_completions o ≡ false → (k c : ℕ) → n ≤ c
     → p.message c ≡ None
-    → names_order k ((own p n o).message c) ≡ false
+    → names_order k ((act_alone p n o).message c) ≡ false
 new_none ms g n p o l e k c lt un = grind (arith, nat_tests)
 
 left_same : (ms : Mappings) (g n : ℕ) (p : Endpoint) (o : LocalAct) → LegalLocalAct ms g p o → counts_completions o ≡ false
     → ((c k : ℕ) → p.message c ≡ Some (Subject.InvalidateOf k) → p.order_state k ≡ Sent) → (k : ℕ) → (p.orders ≤ k → p.order_state k ≡ Void)
-    → (own p n o).phase ≡ Open → left_of ((own p n o).order_state k) ≡ left_of (p.order_state k)
+    → (act_alone p n o).phase ≡ Open → left_of ((act_alone p n o).order_state k) ≡ left_of (p.order_state k)
 left_same ms g n p o l e sent k bo ph = grind (arith, nat_tests)
 
-stays_open : (ms : Mappings) (g n : ℕ) (p : Endpoint) (o : LocalAct) → counts_completions o ≡ false → (own p n o).phase ≡ Open → p.phase ≡ Open
+stays_open : (ms : Mappings) (g n : ℕ) (p : Endpoint) (o : LocalAct) → counts_completions o ≡ false → (act_alone p n o).phase ≡ Open → p.phase ≡ Open
 stays_open ms g n p o e ph = grind arith
 
 -- Count over the messages of an act that neither sends nor takes in a completion of an open unit.
 plain_owed : (ms : Mappings) (g n : ℕ) (p : Endpoint) (o : LocalAct) → LegalLocalAct ms g p o → counts_completions o ≡ false → Resets n p → Bounds g p
     → Labels p
-    → Owed n p → (k : ℕ) → (own p n o).phase ≡ Open → completions (n + sends o) (own p n o) k ≡ left_of ((own p n o).order_state k)
+    → Owed n p → (k : ℕ) → (act_alone p n o).phase ≡ Open → completions (n + sends o) (act_alone p n o) k ≡ left_of ((act_alone p n o).order_state k)
 plain_owed ms g n p o l e re bo la ow k ph =
-    count_more n (sends o) (λ c. names_order k ((own p n o).message c)) (λ c lt m. new_none ms g n p o l e k c lt (re.unsent c lt))
-    ∙ count_same n (λ c. names_order k ((own p n o).message c)) (λ c. names_order k (p.message c)) (λ c lt. old_same ms g n p o l e was k c lt)
+    count_more n (sends o) (λ c. names_order k ((act_alone p n o).message c)) (λ c lt m. new_none ms g n p o l e k c lt (re.unsent c lt))
+    ∙ count_same n (λ c. names_order k ((act_alone p n o).message c)) (λ c. names_order k (p.message c)) (λ c lt. old_same ms g n p o l e was k c lt)
     ∙ ow.owed k was
     ∙ sym (left_same ms g n p o l e la.sent k (bo.order_state k) ph)
   where
@@ -75,11 +76,11 @@ plain_owed ms g n p o l e re bo la ow k ph =
 
 -- the endpoint sends `count` completions of the orders that it names
 finish_old : (n : ℕ) (p : Endpoint) (names : ℕ → Bool) (vector count k c : ℕ) → c < n
-    → names_order k ((own p n (LocalAct.Finish names vector count)).message c) ≡ names_order k (p.message c)
+    → names_order k ((act_alone p n (LocalAct.Finish names vector count)).message c) ≡ names_order k (p.message c)
 finish_old n p names vector count k c lt = grind (arith, nat_tests)
 
 pub finish_new : (n : ℕ) (p : Endpoint) (names : ℕ → Bool) (vector count k c : ℕ) → n ≤ c → c < n + count
-    → names_order k ((own p n (LocalAct.Finish names vector count)).message c) ≡ names k
+    → names_order k ((act_alone p n (LocalAct.Finish names vector count)).message c) ≡ names k
 finish_new n p names vector count k c lt up = grind (arith, nat_tests)
 
 taken_left : (s : OrderState) → is_taken s ≡ true → left_of s ≡ 0
@@ -87,26 +88,27 @@ taken_left s h = grind arith
 
 finish_owed : (ms : Mappings) (g n : ℕ) (p : Endpoint) (names : ℕ → Bool) (vector count : ℕ) → LegalLocalAct ms g p (LocalAct.Finish names vector count)
     → Owed n p
-    → (k : ℕ) → p.phase ≡ Open → completions (n + count) (own p n (LocalAct.Finish names vector count)) k ≡ left_of (owe_if (names k) count (p.order_state k))
+    → (k : ℕ) → p.phase ≡ Open
+    → completions (n + count) (act_alone p n (LocalAct.Finish names vector count)) k ≡ left_of (completing_if (names k) count (p.order_state k))
 finish_owed ms g n p names vector count l ow k ph = go (names k) refl
   where
     f : ℕ → Bool
-    f c = names_order k ((own p n (LocalAct.Finish names vector count)).message c)
+    f c = names_order k ((act_alone p n (LocalAct.Finish names vector count)).message c)
 
     below : count_below n f ≡ left_of (p.order_state k)
     below = count_same n f (λ c. names_order k (p.message c)) (λ c lt. finish_old n p names vector count k c lt) ∙ ow.owed k ph
 
-    go : (b : Bool) → names k ≡ b → count_below (n + count) f ≡ left_of (owe_if b count (p.order_state k))
+    go : (b : Bool) → names k ≡ b → count_below (n + count) f ≡ left_of (completing_if b count (p.order_state k))
     go true e =
         let none : left_of (p.order_state k) ≡ 0 = taken_left (p.order_state k) (l.1 k e) in
         omega (arith, below, none, count_all n count f (λ c lt up. finish_new n p names vector count k c lt up ∙ e))
     go false e = count_more n count f (λ c lt up. finish_new n p names vector count k c lt up ∙ e) ∙ below
 
 -- a completion that arrives at an open unit is counted
-count_taken : (n : ℕ) (p : Endpoint) (c : ℕ) (names : ℕ → Bool) (k : ℕ) → names_order k ((own p n (LocalAct.Count c names)).message c) ≡ false
+count_taken : (n : ℕ) (p : Endpoint) (c : ℕ) (names : ℕ → Bool) (k : ℕ) → names_order k ((act_alone p n (LocalAct.Count c names)).message c) ≡ false
 count_taken n p c names k = grind (arith, nat_tests)
 
-count_other : (n : ℕ) (p : Endpoint) (c : ℕ) (names : ℕ → Bool) (k d : ℕ) → d ≢ c → names_order k ((own p n (LocalAct.Count c names)).message d)
+count_other : (n : ℕ) (p : Endpoint) (c : ℕ) (names : ℕ → Bool) (k d : ℕ) → d ≢ c → names_order k ((act_alone p n (LocalAct.Count c names)).message d)
     ≡ names_order k (p.message d)
 count_other n p c names k d ne = grind (arith, nat_tests)
 
@@ -122,14 +124,14 @@ left_counted Done x e = absurd (omega (arith, e))
 left_counted Void x e = absurd (omega (arith, e))
 
 count_owed : (n : ℕ) (p : Endpoint) (c : ℕ) (names : ℕ → Bool) → c < n → p.message c ≡ Some (InvalidatedOf names) → Owed n p → (k : ℕ) → p.phase ≡ Open
-    → completions (n + 0) (own p n (LocalAct.Count c names)) k ≡ left_of (counted_if (names k) (p.order_state k))
+    → completions (n + 0) (act_alone p n (LocalAct.Count c names)) k ≡ left_of (counted_if (names k) (p.order_state k))
 count_owed n p c names lt me ow k ph = go (names k) refl
   where
     f : ℕ → Bool
     f d = names_order k (p.message d)
 
     after : ℕ → Bool
-    after d = names_order k ((own p n (LocalAct.Count c names)).message d)
+    after d = names_order k ((act_alone p n (LocalAct.Count c names)).message d)
 
     more : count_below (n + 0) after ≡ count_below n after
     more = count_more n 0 after (λ d a b. absurd (omega arith))
@@ -152,16 +154,16 @@ count_owed n p c names lt me ow k ph = go (names k) refl
 
 -- at the end of a reset nothing is in flight, and nothing is owed
 reopen_none : (ms : Mappings) (g n : ℕ) (p : Endpoint) (c k d : ℕ) → LegalLocalAct ms g p (LocalAct.Reopen c) → p.phase ≡ Cleared c
-    → ((a : Subject) → p.message d ≡ Some a → d ≤ c) → names_order k ((own p n (LocalAct.Reopen c)).message d) ≡ false
+    → ((a : Subject) → p.message d ≡ Some a → d ≤ c) → names_order k ((act_alone p n (LocalAct.Reopen c)).message d) ≡ false
 reopen_none ms g n p c k d l ph old = grind (arith, nat_tests)
 
-reopen_left : (n : ℕ) (p : Endpoint) (c k : ℕ) → left_of ((own p n (LocalAct.Reopen c)).order_state k) ≡ 0
+reopen_left : (n : ℕ) (p : Endpoint) (c k : ℕ) → left_of ((act_alone p n (LocalAct.Reopen c)).order_state k) ≡ 0
 reopen_left n p c k = grind arith
 
 reopen_owed : (ms : Mappings) (g n : ℕ) (p : Endpoint) (c : ℕ) → LegalLocalAct ms g p (LocalAct.Reopen c) → Resets n p → (k : ℕ)
-    → completions (n + 0) (own p n (LocalAct.Reopen c)) k ≡ left_of ((own p n (LocalAct.Reopen c)).order_state k)
+    → completions (n + 0) (act_alone p n (LocalAct.Reopen c)) k ≡ left_of ((act_alone p n (LocalAct.Reopen c)).order_state k)
 reopen_owed ms g n p c l re k =
-    count_zero (n + 0) (λ d. names_order k ((own p n (LocalAct.Reopen c)).message d))
+    count_zero (n + 0) (λ d. names_order k ((act_alone p n (LocalAct.Reopen c)).message d))
     (λ d lt. reopen_none ms g n p c k d l (re.up c l.0) (λ a h. re.older c d a (re.up c l.0) h))
     ∙ sym (reopen_left n p c k)
 
@@ -169,7 +171,8 @@ pub sent_below : (n c : ℕ) (p : Endpoint) (a : Subject) → (n ≤ c → p.mes
 sent_below n c p a un h = grind (arith, nat_tests)
 
 owed_kept : (ms : Mappings) (g n : ℕ) (p : Endpoint) (o : LocalAct) → LegalLocalAct ms g p o → Resets n p → Bounds g p → Labels p → Owed n p → (b : Bool)
-    → counts_completions o ≡ b → (k : ℕ) → (own p n o).phase ≡ Open → completions (n + sends o) (own p n o) k ≡ left_of ((own p n o).order_state k)
+    → counts_completions o ≡ b → (k : ℕ) → (act_alone p n o).phase ≡ Open
+    → completions (n + sends o) (act_alone p n o) k ≡ left_of ((act_alone p n o).order_state k)
 owed_kept ms g n p o l re bo la ow false e k ph = plain_owed ms g n p o l e re bo la ow k ph
 owed_kept ms g n p (LocalAct.Finish names vector count) l re bo la ow true e k ph = finish_owed ms g n p names vector count l ow k ph
 owed_kept ms g n p (LocalAct.Count c names) l re bo la ow true e k ph =
@@ -178,7 +181,7 @@ owed_kept ms g n p (LocalAct.Reopen c) l re bo la ow true e k ph = reopen_owed m
 owed_kept ms g n p o l re bo la ow true e k ph = absurd (grind arith)
 
 pub every : (ms : Mappings) (x g n e : ℕ) (p : Endpoint) (o : LocalAct) → LegalLocalAct ms g p o → PartInvariant ms x g n e p → Owed n p
-    → Owed (n + sends o) (own p n o)
+    → Owed (n + sends o) (act_alone p n o)
 every ms x g n e p o l i ow =
     record {
       owed = λ k ph. owed_kept ms g n p o l i.resets i.bounds i.labels ow (counts_completions o) refl k ph;
@@ -226,7 +229,7 @@ act_owed w (NewJob e g) l i h = h
 act_owed w (Hold x j) l i h = h
 act_owed w (LetGo x) l i h = h
 act_owed w (AtEndpoint e o) l i h =
-    put_keeps (λ k p. Owed (w.messages + sends o) p) w.part e (own (w.part e) w.messages o)
+    put_keeps (λ k p. Owed (w.messages + sends o) p) w.part e (act_alone (w.part e) w.messages o)
     (every w.mappings w.config.endpoints w.bindings w.messages e (w.part e) o l.1.0 (i.parts e) (h e))
     (λ d. more_messages w.messages (sends o) (w.part d) (i.parts d).resets (h d))
 

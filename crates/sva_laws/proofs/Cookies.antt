@@ -10,7 +10,7 @@ use Rattle.sva_model.specs.Words.{count_below}
 use Rattle.sva_model.specs.State.{Endpoint, World, opened}
 use Rattle.sva_model.specs.State.Order.{Wait}
 use Rattle.sva_model.specs.States.{is_unreleased}
-use Rattle.sva_model.specs.Acts.{Act, LocalAct, act, own, cookies_of, submitted, submitted_if, submits, submits_at, bound, cookie_of}
+use Rattle.sva_model.specs.Acts.{Act, LocalAct, act, act_alone, cookies_of, submitted, submitted_if, submits, submits_at, bound, cookie_of}
 use Rattle.sva_model.specs.Acts.Act.{NewSpace, DropSpace, Map, Unmap, NewBinding, NewJob, Hold, LetGo, AtEndpoint}
 use Rattle.sva_model.specs.Steps.{decide, next, run, after_acts, world_after}
 use Rattle.sva_laws.specs.UnitSteps.{GivesCookies}
@@ -114,14 +114,14 @@ more_waits w v Gets given up parts range apart co =
 
 -- Calm acts.
 
-calm_own : (p : Endpoint) (n : ℕ) (o : LocalAct) → is_calm_own o ≡ true → ((own p n o).orders ≡ p.orders)
-    × (((k : ℕ) → (own p n o).order k ≡ p.order k) × (cookies_of o ≡ 0))
+calm_own : (p : Endpoint) (n : ℕ) (o : LocalAct) → is_calm_own o ≡ true → ((act_alone p n o).orders ≡ p.orders)
+    × (((k : ℕ) → (act_alone p n o).order k ≡ p.order k) × (cookies_of o ≡ 0))
 calm_own p n o h = (orders_same, (order_same, none))
   where
-    orders_same : (own p n o).orders ≡ p.orders
+    orders_same : (act_alone p n o).orders ≡ p.orders
     orders_same = grind (arith, nat_tests)
 
-    order_same : (k : ℕ) → (own p n o).order k ≡ p.order k
+    order_same : (k : ℕ) → (act_alone p n o).order k ≡ p.order k
     order_same k = grind (arith, nat_tests)
 
     none : cookies_of o ≡ 0
@@ -149,8 +149,8 @@ calm_act w (AtEndpoint d o) h =
     let c = calm_own (w.part d) w.messages o h in
     record {
       cookies = let z = c.1.1 in omega (arith, z);
-      orders = put_keeps (λ x q. q.orders ≡ (w.part x).orders) w.part d (own (w.part d) w.messages o) c.0 (λ x. refl);
-      order = put_keeps (λ x q. (k : ℕ) → q.order k ≡ (w.part x).order k) w.part d (own (w.part d) w.messages o) c.1.0 (λ x k. refl);
+      orders = put_keeps (λ x q. q.orders ≡ (w.part x).orders) w.part d (act_alone (w.part d) w.messages o) c.0 (λ x. refl);
+      order = put_keeps (λ x q. (k : ℕ) → q.order k ≡ (w.part x).order k) w.part d (act_alone (w.part d) w.messages o) c.1.0 (λ x k. refl);
     }
 
 calm_more : (u v w : World) → Calm u v → Calm v w → Calm u w
@@ -182,21 +182,22 @@ has_cookie w s e (LocalAct.Drain b cookie) a by = by
 has_cookie w s e (LocalAct.Invalidate b cookie) a by = by
 has_cookie w s e _ a by = tt
 
-pub own_old : (p : Endpoint) (n : ℕ) (o : LocalAct) (k : ℕ) → k < p.orders → (own p n o).order k ≡ p.order k
+pub own_old : (p : Endpoint) (n : ℕ) (o : LocalAct) (k : ℕ) → k < p.orders → (act_alone p n o).order k ≡ p.order k
 own_old p n o k l = grind (arith, nat_tests)
 
-own_new : (cookies : ℕ) (p : Endpoint) (n : ℕ) (o : LocalAct) → HasCookie cookies o → (k c : ℕ) (x : Bool) → p.orders ≤ k → k < (own p n o).orders
-    → (own p n o).order k ≡ Wait c x → (cookies_of o ≡ 1) × (c ≡ cookies)
+own_new : (cookies : ℕ) (p : Endpoint) (n : ℕ) (o : LocalAct) → HasCookie cookies o → (k c : ℕ) (x : Bool) → p.orders ≤ k → k < (act_alone p n o).orders
+    → (act_alone p n o).order k ≡ Wait c x → (cookies_of o ≡ 1) × (c ≡ cookies)
 own_new cookies p n o h k c x low high i = grind (arith, nat_tests)
 
-own_once : (p : Endpoint) (n : ℕ) (o : LocalAct) (k j c : ℕ) (x y : Bool) → p.orders ≤ k → k < (own p n o).orders → p.orders ≤ j → j < (own p n o).orders
-    → (own p n o).order k ≡ Wait c x → (own p n o).order j ≡ Wait c y → k ≡ j
+own_once : (p : Endpoint) (n : ℕ) (o : LocalAct) (k j c : ℕ) (x y : Bool) → p.orders ≤ k → k < (act_alone p n o).orders → p.orders ≤ j
+    → j < (act_alone p n o).orders
+    → (act_alone p n o).order k ≡ Wait c x → (act_alone p n o).order j ≡ Wait c y → k ≡ j
 own_once p n o k j c x y low high b d h i = grind (arith, nat_tests)
 
 own_cookies : (w : World) (d : ℕ) (o : LocalAct) → HasCookie w.cookies o → GivesCookies w → GivesCookies (act w (AtEndpoint d o))
 own_cookies w d o h co =
     more_waits w (act w (AtEndpoint d o)) (λ e. (e ≡ d) × (cookies_of o ≡ 1)) (λ e. w.cookies) (omega arith)
-    (put_keeps (λ e q. PartWaits ((e ≡ d) × (cookies_of o ≡ 1)) w.cookies (w.part e) q) w.part d (own (w.part d) w.messages o)
+    (put_keeps (λ e q. PartWaits ((e ≡ d) × (cookies_of o ≡ 1)) w.cookies (w.part e) q) w.part d (act_alone (w.part d) w.messages o)
     (record {
       old = own_old (w.part d) w.messages o;
       new = λ k c x low high i. let g = own_new w.cookies (w.part d) w.messages o h k c x low high i in ((refl, g.0), g.1);

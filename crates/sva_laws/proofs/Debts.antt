@@ -13,7 +13,7 @@ use Rattle.sva_model.specs.State.OrderState.{Queued, Done, Void}
 use Rattle.sva_model.specs.State.Phase.{Open}
 use Rattle.sva_model.specs.States.{is_open, is_busy, is_wait, is_before_invalidating}
 use Rattle.sva_model.specs.Words.{put}
-use Rattle.sva_model.specs.Acts.{Act, LocalAct, act, own, owed_by, owed_by_stage, owed_by_unit, submits, submits_at, submitted, submitted_if, bound, cookie_of}
+use Rattle.sva_model.specs.Acts.{Act, LocalAct, act, act_alone, owed_by, owed_by_stage, owed_by_unit, submits, submits_at, submitted, submitted_if, bound, cookie_of}
 use Rattle.sva_model.specs.Acts.{in_range}
 use Rattle.sva_model.specs.Acts.Act.{NewSpace, DropSpace, Map, Unmap, NewBinding, NewJob, Hold, LetGo, AtEndpoint}
 use Rattle.sva_model.specs.Steps.{decide, next, run, after_acts, world_after}
@@ -32,38 +32,38 @@ use Rattle.sva_laws.proofs.Runs.{step_legal, next_keeps, opened_invariant}
 
 -- An act of the endpoint keeps a debt.
 
-made_kept : (p : Endpoint) (n : ℕ) (o : LocalAct) (x : ℕ) → x < p.orders → x < (own p n o).orders
+made_kept : (p : Endpoint) (n : ℕ) (o : LocalAct) (x : ℕ) → x < p.orders → x < (act_alone p n o).orders
 made_kept p n o x h = grind (arith, nat_tests)
 
-wait_kept : (p : Endpoint) (n : ℕ) (o : LocalAct) (x : ℕ) (b : Bool) → x < p.orders → is_wait (p.order x) ≡ b → is_wait ((own p n o).order x) ≡ b
+wait_kept : (p : Endpoint) (n : ℕ) (o : LocalAct) (x : ℕ) (b : Bool) → x < p.orders → is_wait (p.order x) ≡ b → is_wait ((act_alone p n o).order x) ≡ b
 wait_kept p n o x b made w = grind (arith, nat_tests)
 
-counted_kept : (p : Endpoint) (n : ℕ) (o : LocalAct) (resets : ℕ) → resets ≤ p.resets → resets ≤ (own p n o).resets
+counted_kept : (p : Endpoint) (n : ℕ) (o : LocalAct) (resets : ℕ) → resets ≤ p.resets → resets ≤ (act_alone p n o).resets
 counted_kept p n o resets h = grind (arith, nat_tests)
 
 not_void_kept : (ms : Mappings) (g n : ℕ) (p : Endpoint) (o : LocalAct) → LegalLocalAct ms g p o → Bounds g p → SentOnly p → (resets k : ℕ)
     → resets ≤ p.resets → k
-    < p.orders → (resets ≡ p.resets → p.phase ≡ Open → p.order_state k ≢ Void) → resets ≡ (own p n o).resets → (own p n o).phase ≡ Open
-    → (own p n o).order_state k ≢ Void
+    < p.orders → (resets ≡ p.resets → p.phase ≡ Open → p.order_state k ≢ Void) → resets ≡ (act_alone p n o).resets → (act_alone p n o).phase ≡ Open
+    → (act_alone p n o).order_state k ≢ Void
 not_void_kept ms g n p o l bo sent resets k low made old same ph = grind (arith, nat_tests, old)
 
 -- a wait becomes done at an open unit, where nothing ahead of it is undone
 done_kept : (ms : Mappings) (g n : ℕ) (p : Endpoint) (o : LocalAct) → LegalLocalAct ms g p o → SentOnly p → (resets x k : ℕ) → resets ≤ p.resets → k ≤ x → x
     < p.orders → is_wait (p.order x) ≡ true → (is_busy (p.order_state x) ≡ true → is_wait (p.order x) ≡ false)
     → (resets ≡ p.resets → p.phase ≡ Open → p.order_state k ≢ Void) → (resets ≡ p.resets → p.order_state x ≡ Done → p.order_state k ≡ Done) → resets
-    ≡ (own p n o).resets → (own p n o).order_state x ≡ Done → (own p n o).order_state k ≡ Done
+    ≡ (act_alone p n o).resets → (act_alone p n o).order_state x ≡ Done → (act_alone p n o).order_state k ≡ Done
 done_kept ms g n p o l sent resets x k low le made w nw not_void old same d = grind (arith, nat_tests, not_void, old)
 
 -- a wait becomes void by a Reset, where it was queued and so wasn't below the front; then it stays as it is till the reset-done
 void_kept : (ms : Mappings) (g n : ℕ) (p : Endpoint) (o : LocalAct) → LegalLocalAct ms g p o → SentOnly p → (resets x c : ℕ) (y : Bool) → resets ≤ p.resets → x
     < p.orders → (resets ≡ p.resets → p.phase ≡ Open → p.order_state x ≢ Void)
     → (p.order x ≡ Wait c y → c < p.front → (p.order_state x ≡ Done) ⊎ (p.order_state x ≡ Void))
-    → (resets ≡ p.resets → p.order_state x ≡ Void → p.order x ≡ Wait c y → p.front ≤ c) → resets ≡ (own p n o).resets → (own p n o).order_state x
-    ≡ Void → (own p n o).order x ≡ Wait c y → (own p n o).front ≤ c
+    → (resets ≡ p.resets → p.order_state x ≡ Void → p.order x ≡ Wait c y → p.front ≤ c) → resets ≡ (act_alone p n o).resets → (act_alone p n o).order_state x
+    ≡ Void → (act_alone p n o).order x ≡ Wait c y → (act_alone p n o).front ≤ c
 void_kept ms g n p o l sent resets x c y low made not_void passed old same v h = grind (arith, nat_tests, not_void, old)
 
 pub behind_kept : (ms : Mappings) (g n cookies : ℕ) (p : Endpoint) (o : LocalAct) → LegalLocalAct ms g p o → Bounds g p → Labels p → Orders p → Fronts cookies p
-    → (first x resets : ℕ) → IsBehind p first x resets → IsBehind (own p n o) first x resets
+    → (first x resets : ℕ) → IsBehind p first x resets → IsBehind (act_alone p n o) first x resets
 behind_kept ms g n cookies p o l bo la or f first x resets h =
     record {
       low = h.low;
@@ -80,11 +80,11 @@ behind_kept ms g n cookies p o l bo la or f first x resets h =
     }
 
 closed_kept : (ms : Mappings) (g n : ℕ) (p : Endpoint) (o : LocalAct) → LegalLocalAct ms g p o → (resets : ℕ) → resets ≤ p.resets
-    → (resets ≡ p.resets → p.phase ≢ Open) → resets ≡ (own p n o).resets → (own p n o).phase ≢ Open
+    → (resets ≡ p.resets → p.phase ≢ Open) → resets ≡ (act_alone p n o).resets → (act_alone p n o).phase ≢ Open
 closed_kept ms g n p o l resets low old same ph = grind (arith, nat_tests)
 
 own_debt : (ms : Mappings) (g n cookies : ℕ) (p : Endpoint) (o : LocalAct) → LegalLocalAct ms g p o → Bounds g p → Labels p → Orders p → Fronts cookies p
-    → (v : Owed) → FitsDebt p v → FitsDebt (own p n o) v
+    → (v : Owed) → FitsDebt p v → FitsDebt (act_alone p n o) v
 own_debt ms g n cookies p o l bo la or f Nothing h = tt
 own_debt ms g n cookies p o l bo la or f (Ranges first count resets) h = (h.0, behind_kept ms g n cookies p o l bo la or f first (first + count) resets h.1)
 own_debt ms g n cookies p o l bo la or f (Pasid k x resets in_reset) h =
@@ -248,7 +248,7 @@ act_debts w (NewJob d g) l i f h = h
 act_debts w (Hold x j) l i f h = h
 act_debts w (LetGo x) l i f h = h
 act_debts w (AtEndpoint d o) l i f h = λ m e owed g.
-    put_keeps (λ x p. FitsDebt p (owed x)) w.part d (own (w.part d) w.messages o)
+    put_keeps (λ x p. FitsDebt p (owed x)) w.part d (act_alone (w.part d) w.messages o)
     (own_debt w.mappings w.bindings w.messages w.cookies (w.part d) o l.1.0 (i.parts d).bounds (i.parts d).labels (i.parts d).orders (f d) (owed d)
     (h m d owed g))
     (λ x. h m x owed g) e

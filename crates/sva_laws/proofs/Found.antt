@@ -13,7 +13,7 @@ use Rattle.sva_model.specs.State.UseState.{Ended}
 use Rattle.sva_model.specs.State.OrderState.{Sent, Queued, Taken, Lapsed, Completing, Done, Void}
 use Rattle.sva_model.specs.State.PageRequestState.{InFlight, Arrived, Filed, Dropped}
 use Rattle.sva_model.specs.State.HostGroupState.{NotFiled, PartFiled, Job, InHand, Replied, Discarded, InHandDiscarded}
-use Rattle.sva_model.specs.State.Phase.{Open, Ordered, Cleared}
+use Rattle.sva_model.specs.State.Phase.{Open, ResetSent, Cleared}
 use Rattle.sva_model.specs.States.{is_unreleased, is_busy, is_off, is_open, is_outstanding, is_open_group, is_before_invalidating}
 use Rattle.sva_model.specs.Claims.{IsBearer}
 use Rattle.sva_model.specs.Acts.{binding_of}
@@ -85,7 +85,7 @@ sent_busy x h = grind arith
 
 isnt_cleared : (x : Phase) → ((d : ℕ) → x ≢ Cleared d) → is_cleared x ≡ false
 isnt_cleared Open h = refl
-isnt_cleared (Ordered c) h = refl
+isnt_cleared (ResetSent c) h = refl
 isnt_cleared (Cleared c) h = absurd (h c refl)
 
 isnt_off : (s : PasidState) → is_off s ≡ false → s ≢ Off
@@ -284,7 +284,7 @@ under_way w e i wa on ow =
   where
     voided : (x : Phase) → (x ≡ Open → 0 < (w.part e).resets) → (x ≢ Open) ⊎ (0 < (w.part e).resets)
     voided Open h = inr (h refl)
-    voided (Ordered c) h = inl (λ k. absurd (cc k))
+    voided (ResetSent c) h = inl (λ k. absurd (cc k))
     voided (Cleared c) h = inl (λ k. absurd (cc k))
 
     made_of : (r : ℕ) → ((w.part e).page_request r ≡ InFlight) ⊎ ((w.part e).page_request r ≡ Arrived) → r < (w.part e).page_requests

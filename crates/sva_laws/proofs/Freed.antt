@@ -22,7 +22,7 @@ use Rattle.sva_model.specs.Labels
 use Rattle.sva_model.specs.Refusals.{Cause, refusals}
 use Rattle.sva_model.specs.Replies.{maps_to, reply_maps, replies_success, newly_mapped, free_list, is_write_asked, job_space, response_to}
 use Rattle.sva_model.specs.Outcomes.{Outcome, outcome, unbind_outcome, advance_outcome, pump_outcome, head_outcome, wait_outcome, send_outcome, may_pass}
-use Rattle.sva_model.specs.Outcomes.{serve_outcome, file_outcome, reply_outcome, fault_outcome, about_outcome, deliver_outcome, completion_outcome}
+use Rattle.sva_model.specs.Outcomes.{serve_outcome, file_outcome, reply_outcome, fault_outcome, subject_outcome, deliver_outcome, completion_outcome}
 use Rattle.sva_model.specs.Outcomes.{keep_outcome, is_full, request_outcome, count_outcome, page_request_outcome, marker_outcome}
 use Rattle.sva_model.specs.States.{Place, is_open, is_free_place, place, place_at, place_by, place_of_gone, answered}
 use Rattle.sva_model.specs.States.Place.{Free, Mapped, Withheld}
@@ -141,22 +141,22 @@ marker_first : (e c d : ℕ) (b : Bool) → maps_first (marker_outcome e c d b).
 marker_first e c d true = refl
 marker_first e c d false = refl
 
-about_first : (w : World) (p : Endpoint) (e c : ℕ) (a : Subject) → maps_first (about_outcome w p e c a).acts ≡ true
-about_first w p e c (StartOf b) = refl
-about_first w p e c (StopOf b) = refl
-about_first w p e c FunctionReset = refl
-about_first w p e c (CompletionOf r found) = completion_first p e c r found (p.request r)
-about_first w p e c (InvalidateOf k) = refl
-about_first w p e c (ResponseOf g code) = refl
-about_first w p e c (RequestOf r) = request_first w p e c r (is_open p.phase)
-about_first w p e c (InvalidatedOf names) = count_first p e c names (is_open p.phase)
-about_first w p e c (PageRequestOf r) = page_request_first e c r (is_open p.phase)
-about_first w p e c (MarkerOf b) = marker_first e c b (is_open p.phase)
-about_first w p e c ResetDone = refl
+subject_first : (w : World) (p : Endpoint) (e c : ℕ) (a : Subject) → maps_first (subject_outcome w p e c a).acts ≡ true
+subject_first w p e c (StartOf b) = refl
+subject_first w p e c (StopOf b) = refl
+subject_first w p e c FunctionReset = refl
+subject_first w p e c (CompletionOf r found) = completion_first p e c r found (p.request r)
+subject_first w p e c (InvalidateOf k) = refl
+subject_first w p e c (ResponseOf g code) = refl
+subject_first w p e c (RequestOf r) = request_first w p e c r (is_open p.phase)
+subject_first w p e c (InvalidatedOf names) = count_first p e c names (is_open p.phase)
+subject_first w p e c (PageRequestOf r) = page_request_first e c r (is_open p.phase)
+subject_first w p e c (MarkerOf b) = marker_first e c b (is_open p.phase)
+subject_first w p e c ResetDone = refl
 
 deliver_first : (w : World) (p : Endpoint) (e c : ℕ) (o : Option Subject) → maps_first (deliver_outcome w p e c o).acts ≡ true
 deliver_first w p e c None = refl
-deliver_first w p e c (Some a) = about_first w p e c a
+deliver_first w p e c (Some a) = subject_first w p e c a
 
 outcome_first : (w : World) (s : Step) → maps_first (outcome w s).acts ≡ true
 outcome_first w step.Space = refl

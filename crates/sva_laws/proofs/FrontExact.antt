@@ -9,7 +9,7 @@ use Rattle.sva_model.specs.State.Order.{RangeOf, PasidOf, Wait}
 use Rattle.sva_model.specs.State.OrderState.{Queued, Done, Void}
 use Rattle.sva_model.specs.State.Phase.{Open, Cleared}
 use Rattle.sva_model.specs.States.{is_open, is_wait}
-use Rattle.sva_model.specs.Acts.{Act, LocalAct, act, own, end_of, void_queued, void_undone, submitted, submitted_if, submits, bound, cookie_of}
+use Rattle.sva_model.specs.Acts.{Act, LocalAct, act, act_alone, end_of, void_queued, void_undone, submitted, submitted_if, submits, bound, cookie_of}
 use Rattle.sva_model.specs.Acts.Act.{NewSpace, DropSpace, Map, Unmap, NewBinding, NewJob, Hold, LetGo, AtEndpoint}
 use Rattle.sva_model.specs.Steps.{decide, next, after_acts, world_after}
 use Rattle.sva_laws.specs.Waits.{IsBehind}
@@ -36,12 +36,12 @@ passes_wait (LocalAct.Pass k) = true
 passes_wait _ = false
 
 other_up : (ms : Mappings) (g n : ℕ) (p : Endpoint) (o : LocalAct) → LegalLocalAct ms g p o → passes_wait o ≡ false → p.front ≤ p.waits_end → p.front
-    ≤ (own p n o).front
+    ≤ (act_alone p n o).front
 other_up ms g n p o l e low = grind (arith, nat_tests)
 
 front_up : (ms : Mappings) (g n cookies : ℕ) (p : Endpoint) (o : LocalAct) (b : Bool) → passes_wait o ≡ b → LegalLocalAct ms g p o → Bounds g p
     → Fronts cookies p
-    → p.front ≤ (own p n o).front
+    → p.front ≤ (act_alone p n o).front
 front_up ms g n cookies p o false e l bo f = other_up ms g n p o l e f.front_low
 front_up ms g n cookies p (LocalAct.Pass k) true e l bo f = go (p.order k) refl l.2
   where
@@ -62,11 +62,11 @@ record IsOver (k c : ℕ) (x : Bool) (resets : ℕ) (p : Endpoint) : Type 0 wher
   counted : resets ≤ p.resets
   over : resets < p.resets → c < p.front
 
-counted_kept : (p : Endpoint) (n : ℕ) (o : LocalAct) (resets : ℕ) → resets ≤ p.resets → resets ≤ (own p n o).resets
+counted_kept : (p : Endpoint) (n : ℕ) (o : LocalAct) (resets : ℕ) → resets ≤ p.resets → resets ≤ (act_alone p n o).resets
 counted_kept p n o resets h = grind (arith, nat_tests)
 
 over_kept : (ms : Mappings) (g n : ℕ) (p : Endpoint) (o : LocalAct) → LegalLocalAct ms g p o → (resets c : ℕ) → resets ≤ p.resets → c < p.waits_end
-    → p.front ≤ (own p n o).front → (resets < p.resets → c < p.front) → resets < (own p n o).resets → c < (own p n o).front
+    → p.front ≤ (act_alone p n o).front → (resets < p.resets → c < p.front) → resets < (act_alone p n o).resets → c < (act_alone p n o).front
 over_kept ms g n p o l resets c low below up old h = grind (arith, nat_tests)
 
 over_parts : (k c : ℕ) (x : Bool) (resets : ℕ) → IsKeptByParts (IsOver k c x resets)
@@ -135,11 +135,11 @@ moves_front (LocalAct.Pass k) = true
 moves_front (LocalAct.Reopen c) = true
 moves_front _ = false
 
-same_front : (p : Endpoint) (n : ℕ) (o : LocalAct) → moves_front o ≡ false → (own p n o).front ≡ p.front
+same_front : (p : Endpoint) (n : ℕ) (o : LocalAct) → moves_front o ≡ false → (act_alone p n o).front ≡ p.front
 same_front p n o e = grind arith
 
 end_kept : (ms : Mappings) (g n : ℕ) (p : Endpoint) (o : LocalAct) (b : Bool) → moves_front o ≡ b → LegalLocalAct ms g p o → Bounds g p → HasGreatest p
-    → IsEndOfWait p → IsEndOfWait (own p n o)
+    → IsEndOfWait p → IsEndOfWait (act_alone p n o)
 end_kept ms g n p o false e l bo gr (inl h) = inl (same_front p n o e ∙ h)
 end_kept ms g n p o false e l bo gr (inr (k, c, x, made, h, i)) =
     let m = more_orders p n o in
@@ -149,7 +149,7 @@ end_kept ms g n p (LocalAct.Pass k) true e l bo gr h = go (p.order k) refl l.2
     made : k < p.orders
     made = grind (arith, bo.order_state k)
 
-    go : (o : Order) → p.order k ≡ o → is_wait o ≡ true → IsEndOfWait (own p n (LocalAct.Pass k))
+    go : (o : Order) → p.order k ≡ o → is_wait o ≡ true → IsEndOfWait (act_alone p n (LocalAct.Pass k))
     go (Wait d y) i w = inr (k, d, y, made, i, ap end_of i)
     go (RangeOf b r) i w = absurd (cc (w))
     go (PasidOf b) i w = absurd (cc (w))
@@ -217,7 +217,7 @@ still_more p q r a b =
       resets = b.resets ∙ a.resets;
     }
 
-still_own : (p : Endpoint) (n : ℕ) (o : LocalAct) → is_calm_own o ≡ true → Still p (own p n o)
+still_own : (p : Endpoint) (n : ℕ) (o : LocalAct) → is_calm_own o ≡ true → Still p (act_alone p n o)
 still_own p n o h =
     record {
       orders = grind (arith, nat_tests);
@@ -237,7 +237,7 @@ still_act w (NewJob d g) h e = still_same (w.part e)
 still_act w (Hold x j) h e = still_same (w.part e)
 still_act w (LetGo x) h e = still_same (w.part e)
 still_act w (AtEndpoint d o) h e =
-    put_keeps (λ x q. Still (w.part x) q) w.part d (own (w.part d) w.messages o) (still_own (w.part d) w.messages o h) (λ x. still_same (w.part x)) e
+    put_keeps (λ x q. Still (w.part x) q) w.part d (act_alone (w.part d) w.messages o) (still_own (w.part d) w.messages o h) (λ x. still_same (w.part x)) e
 
 still_acts : (acts : List Act) (w : World) → are_calm acts ≡ true → (e : ℕ) → Still (w.part e) ((after_acts w acts).part e)
 still_acts [] w h e = still_same (w.part e)
@@ -254,21 +254,21 @@ resets_unit LocalAct.Reset = true
 resets_unit (LocalAct.Reopen c) = true
 resets_unit _ = false
 
-void_made : (ms : Mappings) (g n : ℕ) (p : Endpoint) (o : LocalAct) → LegalLocalAct ms g p o → (k : ℕ) → k < (own p n o).orders → (own p n o).order_state k
+void_made : (ms : Mappings) (g n : ℕ) (p : Endpoint) (o : LocalAct) → LegalLocalAct ms g p o → (k : ℕ) → k < (act_alone p n o).orders → (act_alone p n o).order_state k
     ≡ Void → k < p.orders
 void_made ms g n p o l k made v = grind (arith, nat_tests)
 
 was_void : (ms : Mappings) (g n : ℕ) (p : Endpoint) (o : LocalAct) → LegalLocalAct ms g p o → resets_unit o ≡ false → (k : ℕ) → k < p.orders
-    → (own p n o).order_state k
+    → (act_alone p n o).order_state k
     ≡ Void → p.order_state k ≡ Void
 was_void ms g n p o l e k made v = grind (arith, nat_tests)
 
-same_resets : (p : Endpoint) (n : ℕ) (o : LocalAct) → resets_unit o ≡ false → (own p n o).resets ≡ p.resets
+same_resets : (p : Endpoint) (n : ℕ) (o : LocalAct) → resets_unit o ≡ false → (act_alone p n o).resets ≡ p.resets
 same_resets p n o e = grind arith
 
 -- in reset the front moves by the reset-done alone
 front_in_reset : (ms : Mappings) (g n : ℕ) (p : Endpoint) (o : LocalAct) → LegalLocalAct ms g p o → resets_unit o ≡ false → p.phase ≢ Open
-    → (own p n o).front ≡ p.front
+    → (act_alone p n o).front ≡ p.front
 front_in_reset ms g n p o l e closed = grind arith
 
 queued_or_void : (z : OrderState) → void_queued z ≡ Void → (z ≡ Queued) ⊎ (z ≡ Void)
@@ -285,7 +285,7 @@ closed_by p c h = ap is_open h
 
 own_turns : (w : World) (e : ℕ) (o : LocalAct) (b : Bool) → resets_unit o ≡ b → LegalLocalAct w.mappings w.bindings (w.part e) o
     → PartInvariant w.mappings w.config.endpoints w.bindings w.messages e (w.part e) → Fronts w.cookies (w.part e)
-    → Turns (w.part e) (own (w.part e) w.messages o)
+    → Turns (w.part e) (act_alone (w.part e) w.messages o)
 own_turns w e o false z l i f =
     record {
       ahead = λ k c x m h v a.
@@ -304,7 +304,7 @@ own_turns w e o false z l i f =
           (made, old, void, inl (side k c x made old void a (less_or_not c (w.part e).front), omega (arith, same)));
     }
   where
-    contrary : (k c : ℕ) → (w.part e).order_state k ≡ Void → c < (own (w.part e) w.messages o).front → (w.part e).front ≤ c
+    contrary : (k c : ℕ) → (w.part e).order_state k ≡ Void → c < (act_alone (w.part e) w.messages o).front → (w.part e).front ≤ c
         → ((w.part e).order_state k ≡ Queued) ⊎ (((w.part e).order_state k ≡ Void) × ((w.part e).phase ≢ Open)) → ⊥
     contrary k c void a high (inl q) = absurd (cc (sym q ∙ void))
     contrary k c void a high (inr y) =
@@ -312,7 +312,7 @@ own_turns w e o false z l i f =
         omega (arith, s, a, high)
 
     side : (k c : ℕ) (x : Bool) → k < (w.part e).orders → (w.part e).order k ≡ Wait c x → (w.part e).order_state k ≡ Void
-        → c < (own (w.part e) w.messages o).front → (c < (w.part e).front) ⊎ ((w.part e).front ≤ c) → c < (w.part e).front
+        → c < (act_alone (w.part e) w.messages o).front → (c < (w.part e).front) ⊎ ((w.part e).front ≤ c) → c < (w.part e).front
     side k c x made h void a (inl low) = low
     side k c x made h void a (inr high) = absurd (contrary k c void a high (f.at_front k c x made h high))
 own_turns w e LocalAct.Reset true z l i f =
@@ -375,7 +375,7 @@ step_turns w s i f e = go (decide w s).acts (step_legal w s i) (step_kind w s)
   where
     one : (d : ℕ) (o : LocalAct) → LegalAll w (AtEndpoint d o ∷ []) → Turns (w.part e) ((act w (AtEndpoint d o)).part e)
     one d o l =
-        put_keeps (λ x q. Turns (w.part x) q) w.part d (own (w.part d) w.messages o)
+        put_keeps (λ x q. Turns (w.part x) q) w.part d (act_alone (w.part d) w.messages o)
         (own_turns w d o (resets_unit o) refl l.0.1.0 (i.parts d) (f d)) (λ x. still_turns (w.part x) (w.part x) (still_same (w.part x))) e
 
     go : (acts : List Act) → LegalAll w acts → Kind w s (decide w s) → Turns (w.part e) ((next w s).part e)

@@ -11,7 +11,7 @@ use Rattle.sva_model.specs.State.OrderState.{Queued, Done, Void}
 use Rattle.sva_model.specs.State.Stage.{Draining, Invalidating}
 use Rattle.sva_model.specs.State.Phase.{Open}
 use Rattle.sva_model.specs.States.{is_busy, is_wait}
-use Rattle.sva_model.specs.Acts.{Act, LocalAct, act, own, cookies_of, end_of, submitted, submitted_if, range_at, submits, bound, cookie_of}
+use Rattle.sva_model.specs.Acts.{Act, LocalAct, act, act_alone, cookies_of, end_of, submitted, submitted_if, range_at, submits, bound, cookie_of}
 use Rattle.sva_model.specs.Acts.Act.{NewSpace, DropSpace, Map, Unmap, NewBinding, NewJob, Hold, LetGo, AtEndpoint}
 use Rattle.sva_model.specs.Steps.{decide, next, run, after_acts, world_after}
 use Rattle.sva_laws.proofs.Words.{put-same, put-other, ℕ_cases}
@@ -46,23 +46,23 @@ pub record Fronts (cookies : ℕ) (p : Endpoint) : Type 0 where
 
 rise_kept : (ms : Mappings) (g n cookies : ℕ) (p : Endpoint) (o : LocalAct) → LegalLocalAct ms g p o → HasCookie cookies o → p.waits_end ≤ cookies
     → (k j c d : ℕ) (x y : Bool) → (k < j → j < p.orders → p.order k ≡ Wait c x → p.order j ≡ Wait d y → c < d)
-    → (k < p.orders → p.order k ≡ Wait c x → c < p.waits_end) → k < j → j < (own p n o).orders → (own p n o).order k ≡ Wait c x → (own p n o).order j
+    → (k < p.orders → p.order k ≡ Wait c x → c < p.waits_end) → k < j → j < (act_alone p n o).orders → (act_alone p n o).order k ≡ Wait c x → (act_alone p n o).order j
     ≡ Wait d y → c < d
 rise_kept ms g n cookies p o l hc given k j c d x y old below lt made h i = grind (arith, nat_tests)
 
 below_kept : (ms : Mappings) (g n cookies : ℕ) (p : Endpoint) (o : LocalAct) → LegalLocalAct ms g p o → HasCookie cookies o → p.waits_end ≤ cookies
-    → (k c : ℕ) (x : Bool) → (k < p.orders → p.order k ≡ Wait c x → c < p.waits_end) → k < (own p n o).orders → (own p n o).order k ≡ Wait c x → c
-    < (own p n o).waits_end
+    → (k c : ℕ) (x : Bool) → (k < p.orders → p.order k ≡ Wait c x → c < p.waits_end) → k < (act_alone p n o).orders → (act_alone p n o).order k ≡ Wait c x → c
+    < (act_alone p n o).waits_end
 below_kept ms g n cookies p o l hc given k c x old made h = grind (arith, nat_tests)
 
 given_kept : (ms : Mappings) (g n cookies : ℕ) (p : Endpoint) (o : LocalAct) → LegalLocalAct ms g p o → HasCookie cookies o → p.waits_end ≤ cookies
-    → (own p n o).waits_end ≤ cookies + cookies_of o
+    → (act_alone p n o).waits_end ≤ cookies + cookies_of o
 given_kept ms g n cookies p o l hc given = grind (arith, nat_tests)
 
 -- one more than the cookie of the wait that is passed is within the end
 front_low_kept : (ms : Mappings) (g n cookies : ℕ) (p : Endpoint) (o : LocalAct) → LegalLocalAct ms g p o → HasCookie cookies o → Bounds g p → p.waits_end
-    ≤ cookies → ((k c : ℕ) (x : Bool) → k < p.orders → p.order k ≡ Wait c x → c < p.waits_end) → p.front ≤ p.waits_end → (own p n o).front
-    ≤ (own p n o).waits_end
+    ≤ cookies → ((k c : ℕ) (x : Bool) → k < p.orders → p.order k ≡ Wait c x → c < p.waits_end) → p.front ≤ p.waits_end → (act_alone p n o).front
+    ≤ (act_alone p n o).waits_end
 front_low_kept ms g n cookies p (LocalAct.Pass k) l hc bo given below low = go (p.order k) refl l.2
   where
     made : k < p.orders
@@ -146,20 +146,20 @@ other_front : (ms : Mappings) (g n cookies : ℕ) (p : Endpoint) (o : LocalAct) 
     → (k c : ℕ) (x : Bool) → (is_busy (p.order_state k) ≡ true → is_wait (p.order k) ≡ false)
     → (k < p.orders → p.order k ≡ Wait c x → c < p.waits_end)
     → (k < p.orders → p.order k ≡ Wait c x → p.front ≤ c → (p.order_state k ≡ Queued) ⊎ ((p.order_state k ≡ Void) × (p.phase ≢ Open))) → k
-    < (own p n o).orders → (own p n o).order k ≡ Wait c x → (own p n o).front ≤ c → ((own p n o).order_state k ≡ Queued)
-    ⊎ (((own p n o).order_state k ≡ Void) × ((own p n o).phase ≢ Open))
+    < (act_alone p n o).orders → (act_alone p n o).order k ≡ Wait c x → (act_alone p n o).front ≤ c → ((act_alone p n o).order_state k ≡ Queued)
+    ⊎ (((act_alone p n o).order_state k ≡ Void) × ((act_alone p n o).phase ≢ Open))
 other_front ms g n cookies p o l np hc sent k c x nw below old made h f = grind (arith, nat_tests)
 
 other_passed : (ms : Mappings) (g n cookies : ℕ) (p : Endpoint) (o : LocalAct) → LegalLocalAct ms g p o → passes o ≡ false → HasCookie cookies o → SentOnly p
     → (k c : ℕ) (x : Bool) → (is_busy (p.order_state k) ≡ true → is_wait (p.order k) ≡ false) → p.waits_end ≤ cookies → p.front ≤ p.waits_end
     → (k < p.orders → p.order k ≡ Wait c x → p.front ≤ c → (p.order_state k ≡ Queued) ⊎ ((p.order_state k ≡ Void) × (p.phase ≢ Open)))
-    → (k < p.orders → p.order k ≡ Wait c x → c < p.front → (p.order_state k ≡ Done) ⊎ (p.order_state k ≡ Void)) → k < (own p n o).orders
-    → (own p n o).order k ≡ Wait c x → c < (own p n o).front → ((own p n o).order_state k ≡ Done) ⊎ ((own p n o).order_state k ≡ Void)
+    → (k < p.orders → p.order k ≡ Wait c x → c < p.front → (p.order_state k ≡ Done) ⊎ (p.order_state k ≡ Void)) → k < (act_alone p n o).orders
+    → (act_alone p n o).order k ≡ Wait c x → c < (act_alone p n o).front → ((act_alone p n o).order_state k ≡ Done) ⊎ ((act_alone p n o).order_state k ≡ Void)
 other_passed ms g n cookies p o l np hc sent k c x nw given low at old made h f = grind (arith, nat_tests, at, old)
 
 at_front_kept : (ms : Mappings) (g n cookies : ℕ) (p : Endpoint) (o : LocalAct) (b : Bool) → passes o ≡ b → LegalLocalAct ms g p o → HasCookie cookies o
-    → Bounds g p → SentOnly p → Orders p → Fronts cookies p → (k c : ℕ) (x : Bool) → k < (own p n o).orders → (own p n o).order k ≡ Wait c x
-    → (own p n o).front ≤ c → ((own p n o).order_state k ≡ Queued) ⊎ (((own p n o).order_state k ≡ Void) × ((own p n o).phase ≢ Open))
+    → Bounds g p → SentOnly p → Orders p → Fronts cookies p → (k c : ℕ) (x : Bool) → k < (act_alone p n o).orders → (act_alone p n o).order k ≡ Wait c x
+    → (act_alone p n o).front ≤ c → ((act_alone p n o).order_state k ≡ Queued) ⊎ (((act_alone p n o).order_state k ≡ Void) × ((act_alone p n o).phase ≢ Open))
 at_front_kept ms g n cookies p o false e l hc bo sent or f k c x =
     other_front ms g n cookies p o l e hc sent k c x (or.no_wait k) (f.below k c x) (f.at_front k c x)
 at_front_kept ms g n cookies p (LocalAct.Pass j) true e l hc bo sent or f k c x =
@@ -169,8 +169,8 @@ at_front_kept ms g n cookies p o true e l hc bo sent or f k c x = absurd (grind 
 
 passed_kept : (ms : Mappings) (g n cookies : ℕ) (p : Endpoint) (o : LocalAct) (b : Bool) → passes o ≡ b → LegalLocalAct ms g p o → HasCookie cookies o
     → Bounds g p
-    → SentOnly p → Orders p → Fronts cookies p → (k c : ℕ) (x : Bool) → k < (own p n o).orders → (own p n o).order k ≡ Wait c x → c
-    < (own p n o).front → ((own p n o).order_state k ≡ Done) ⊎ ((own p n o).order_state k ≡ Void)
+    → SentOnly p → Orders p → Fronts cookies p → (k c : ℕ) (x : Bool) → k < (act_alone p n o).orders → (act_alone p n o).order k ≡ Wait c x → c
+    < (act_alone p n o).front → ((act_alone p n o).order_state k ≡ Done) ⊎ ((act_alone p n o).order_state k ≡ Void)
 passed_kept ms g n cookies p o false e l hc bo sent or f k c x =
     other_passed ms g n cookies p o l e hc sent k c x (or.no_wait k) f.given f.front_low (f.at_front k c x) (f.passed k c x)
 passed_kept ms g n cookies p (LocalAct.Pass j) true e l hc bo sent or f k c x =
@@ -185,13 +185,13 @@ submits_wait (LocalAct.Drain b cookie) = true
 submits_wait (LocalAct.Invalidate b cookie) = true
 submits_wait _ = false
 
-same_end : (p : Endpoint) (n : ℕ) (o : LocalAct) → submits_wait o ≡ false → (own p n o).waits_end ≡ p.waits_end
+same_end : (p : Endpoint) (n : ℕ) (o : LocalAct) → submits_wait o ≡ false → (act_alone p n o).waits_end ≡ p.waits_end
 same_end p n o h = grind arith
 
-pub more_orders : (p : Endpoint) (n : ℕ) (o : LocalAct) → p.orders ≤ (own p n o).orders
+pub more_orders : (p : Endpoint) (n : ℕ) (o : LocalAct) → p.orders ≤ (act_alone p n o).orders
 more_orders p n o = grind (arith, nat_tests)
 
-greatest_kept : (p : Endpoint) (n : ℕ) (o : LocalAct) (b : Bool) → submits_wait o ≡ b → HasGreatest p → HasGreatest (own p n o)
+greatest_kept : (p : Endpoint) (n : ℕ) (o : LocalAct) (b : Bool) → submits_wait o ≡ b → HasGreatest p → HasGreatest (act_alone p n o)
 greatest_kept p n o false e (inl h) = inl (same_end p n o e ∙ h)
 greatest_kept p n o false e (inr (k, c, x, made, h, i)) = let m =
     more_orders p n o in inr (k, c, x, omega (arith, made, m), own_old p n o k made ∙ h, same_end p n o e ∙ i)
@@ -204,19 +204,19 @@ greatest_kept p n o true e h = absurd (grind arith)
 draining_kept : (ms : Mappings) (g n cookies : ℕ) (p : Endpoint) (o : LocalAct) → LegalLocalAct ms g p o → SentOnly p → (b w c : ℕ) (x : Bool)
     → (p.stage b ≡ Draining w → w < p.orders) → (p.stage b ≡ Draining w → p.phase ≡ Open → is_queued_or_done (p.order_state w) ≡ true)
     → (w < p.orders → p.order w ≡ Wait c x → c < p.front → (p.order_state w ≡ Done) ⊎ (p.order_state w ≡ Void))
-    → (p.stage b ≡ Draining w → p.order w ≡ Wait c x → p.order_state w ≡ Void → p.front ≤ c) → (own p n o).stage b ≡ Draining w → (own p n o).order w
-    ≡ Wait c x → (own p n o).order_state w ≡ Void → (own p n o).front ≤ c
+    → (p.stage b ≡ Draining w → p.order w ≡ Wait c x → p.order_state w ≡ Void → p.front ≤ c) → (act_alone p n o).stage b ≡ Draining w → (act_alone p n o).order w
+    ≡ Wait c x → (act_alone p n o).order_state w ≡ Void → (act_alone p n o).front ≤ c
 draining_kept ms g n cookies p o l sent b w c x made state passed old h i v = grind (arith, nat_tests)
 
 invalidating_kept : (ms : Mappings) (g n cookies : ℕ) (p : Endpoint) (o : LocalAct) → LegalLocalAct ms g p o → SentOnly p → (b k w c : ℕ) (x : Bool)
     → (p.stage b ≡ Invalidating k w → w < p.orders) → (p.stage b ≡ Invalidating k w → p.phase ≡ Open → is_queued_or_done (p.order_state w) ≡ true)
     → (w < p.orders → p.order w ≡ Wait c x → c < p.front → (p.order_state w ≡ Done) ⊎ (p.order_state w ≡ Void))
-    → (p.stage b ≡ Invalidating k w → p.order w ≡ Wait c x → p.order_state w ≡ Void → p.front ≤ c) → (own p n o).stage b ≡ Invalidating k w
-    → (own p n o).order w ≡ Wait c x → (own p n o).order_state w ≡ Void → (own p n o).front ≤ c
+    → (p.stage b ≡ Invalidating k w → p.order w ≡ Wait c x → p.order_state w ≡ Void → p.front ≤ c) → (act_alone p n o).stage b ≡ Invalidating k w
+    → (act_alone p n o).order w ≡ Wait c x → (act_alone p n o).order_state w ≡ Void → (act_alone p n o).front ≤ c
 invalidating_kept ms g n cookies p o l sent b k w c x made state passed old h i v = grind (arith, nat_tests)
 
 pub every : (ms : Mappings) (g n cookies : ℕ) (p : Endpoint) (o : LocalAct) → LegalLocalAct ms g p o → HasCookie cookies o → Bounds g p → Labels p → Orders p
-    → Fronts cookies p → Fronts (cookies + cookies_of o) (own p n o)
+    → Fronts cookies p → Fronts (cookies + cookies_of o) (act_alone p n o)
 every ms g n cookies p o l hc bo la or f =
     record {
       rise = λ k j c d x y. rise_kept ms g n cookies p o l hc f.given k j c d x y (f.rise k j c d x y) (f.below k c x);
@@ -325,7 +325,7 @@ act_fronts w (NewJob e g) l i h = h
 act_fronts w (Hold x j) l i h = h
 act_fronts w (LetGo x) l i h = h
 act_fronts w (AtEndpoint e o) l i h =
-    put_keeps (λ k p. Fronts (w.cookies + cookies_of o) p) w.part e (own (w.part e) w.messages o)
+    put_keeps (λ k p. Fronts (w.cookies + cookies_of o) p) w.part e (act_alone (w.part e) w.messages o)
     (every w.mappings w.bindings w.messages w.cookies (w.part e) o l.1.0 (suits_cookie w e o l.1.1) (i.parts e).bounds (i.parts e).labels
     (i.parts e).orders (h e))
     (λ d. more_cookies w.cookies (w.cookies + cookies_of o) (w.part d) (omega arith) (h d))

@@ -14,7 +14,7 @@ use Rattle.sva_model.specs.State.OrderState.{Done}
 use Rattle.sva_model.specs.State.Subject.{FunctionReset, PageRequestOf, ResponseOf, MarkerOf, ResetDone}
 use Rattle.sva_model.specs.State.Phase.{Open, Cleared}
 use Rattle.sva_model.specs.States.{is_outstanding, is_open, is_open_group, is_before_invalidating, is_off, drains}
-use Rattle.sva_model.specs.Acts.{own, LocalAct}
+use Rattle.sva_model.specs.Acts.{act_alone, LocalAct}
 use Rattle.sva_laws.specs.Laws.{is_answerable}
 use Rattle.sva_laws.proofs.Legal.{LegalLocalAct}
 use Rattle.sva_laws.proofs.Resets.{Resets}
@@ -61,49 +61,50 @@ pub record Groups (p : Endpoint) : Type 0 where
 
 index_bears_kept : (ms : Mappings) (g n : ℕ) (p : Endpoint) (o : LocalAct) → LegalLocalAct ms g p o → (i x : ℕ)
     → (p.at_index i ≡ Some x → (p.index x ≡ i) × (is_outstanding (p.group x) ≡ true)) → (is_outstanding (p.group x) ≡ true → x < p.groups)
-    → (own p n o).at_index i ≡ Some x → ((own p n o).index x ≡ i) × (is_outstanding ((own p n o).group x) ≡ true)
+    → (act_alone p n o).at_index i ≡ Some x → ((act_alone p n o).index x ≡ i) × (is_outstanding ((act_alone p n o).group x) ≡ true)
 index_bears_kept ms g n p o l i x old made h = grind (arith, nat_tests)
 
 bears_index_kept : (ms : Mappings) (g n : ℕ) (p : Endpoint) (o : LocalAct) → LegalLocalAct ms g p o
     → ((c x : ℕ) (code : Code) → p.message c ≡ Some (ResponseOf x code) → is_outstanding (p.group x) ≡ true) → (x : ℕ)
     → ((i y : ℕ) → p.at_index i ≡ Some y → p.index y ≡ i) → ((y : ℕ) → is_outstanding (p.group y) ≡ true → p.at_index (p.index y) ≡ Some y)
-    → (is_outstanding (p.group x) ≡ true → x < p.groups) → is_outstanding ((own p n o).group x) ≡ true → (own p n o).at_index ((own p n o).index x) ≡ Some x
+    → (is_outstanding (p.group x) ≡ true → x < p.groups) → is_outstanding ((act_alone p n o).group x) ≡ true
+    → (act_alone p n o).at_index ((act_alone p n o).index x) ≡ Some x
 bears_index_kept ms g n p o l rs x ib old made h = grind (arith, nat_tests, old x)
 
 index_low_kept : (ms : Mappings) (g n : ℕ) (p : Endpoint) (o : LocalAct) → LegalLocalAct ms g p o → (i x : ℕ) → (p.at_index i ≡ Some x → i < 32)
-    → (own p n o).at_index i ≡ Some x → i < 32
+    → (act_alone p n o).at_index i ≡ Some x → i < 32
 index_low_kept ms g n p o l i x old h = grind (arith, nat_tests)
 
 first_kept : (ms : Mappings) (g n : ℕ) (p : Endpoint) (o : LocalAct) → LegalLocalAct ms g p o → (x : ℕ)
-    → (x < p.groups → (p.first_request x < p.page_requests) × (p.group_of (p.first_request x) ≡ x)) → x < (own p n o).groups
-    → ((own p n o).first_request x < (own p n o).page_requests) × ((own p n o).group_of ((own p n o).first_request x) ≡ x)
+    → (x < p.groups → (p.first_request x < p.page_requests) × (p.group_of (p.first_request x) ≡ x)) → x < (act_alone p n o).groups
+    → ((act_alone p n o).first_request x < (act_alone p n o).page_requests) × ((act_alone p n o).group_of ((act_alone p n o).first_request x) ≡ x)
 first_kept ms g n p o l x old h = grind (arith, nat_tests)
 
 asker_bound_kept : (ms : Mappings) (g n : ℕ) (p : Endpoint) (o : LocalAct) → LegalLocalAct ms g p o
     → ((b : ℕ) → is_off (p.pasid_state b) ≡ false → is_unmarked (p.stage b) ≡ true) → (x : ℕ) → (x < p.groups → p.stage (p.asker x) ≢ Unbound) → x
-    < (own p n o).groups → (own p n o).stage ((own p n o).asker x) ≢ Unbound
+    < (act_alone p n o).groups → (act_alone p n o).stage ((act_alone p n o).asker x) ≢ Unbound
 asker_bound_kept ms g n p o l on x old h = grind (arith, nat_tests)
 
 alive_kept : (ms : Mappings) (g n : ℕ) (p : Endpoint) (o : LocalAct) → LegalLocalAct ms g p o → (x : ℕ) → (is_alive_group (p.group x) ≡ true → x < p.groups)
-    → (is_alive_group (p.group x) ≡ true → is_off (p.pasid_state (p.asker x)) ≡ false) → is_alive_group ((own p n o).group x) ≡ true
-    → is_off ((own p n o).pasid_state ((own p n o).asker x)) ≡ false
+    → (is_alive_group (p.group x) ≡ true → is_off (p.pasid_state (p.asker x)) ≡ false) → is_alive_group ((act_alone p n o).group x) ≡ true
+    → is_off ((act_alone p n o).pasid_state ((act_alone p n o).asker x)) ≡ false
 alive_kept ms g n p o l x made old h = grind (arith, nat_tests)
 
 under_kept : (ms : Mappings) (g n : ℕ) (p : Endpoint) (o : LocalAct) → LegalLocalAct ms g p o → (x : ℕ)
     → ((r : ℕ) → p.page_request r ≡ Arrived → p.group_of r < p.groups) → (is_filed_group (p.host_group x) ≡ true → x < p.groups)
-    → (is_filed_group (p.host_group x) ≡ true → p.filed_under x ≡ p.asker x) → is_filed_group ((own p n o).host_group x) ≡ true
-    → (own p n o).filed_under x ≡ (own p n o).asker x
+    → (is_filed_group (p.host_group x) ≡ true → p.filed_under x ≡ p.asker x) → is_filed_group ((act_alone p n o).host_group x) ≡ true
+    → (act_alone p n o).filed_under x ≡ (act_alone p n o).asker x
 under_kept ms g n p o l x ar made old h = grind (arith, nat_tests)
 
 filed_kept : (ms : Mappings) (g n : ℕ) (p : Endpoint) (o : LocalAct) → LegalLocalAct ms g p o → (r : ℕ) → (p.page_request r ≡ Arrived → r < p.page_requests)
     → (r < p.page_requests → p.group_of r < p.groups)
-    → (p.page_request r ≡ Filed → (is_filed_group (p.host_group (p.group_of r)) ≡ true) × (r < p.page_requests)) → (own p n o).page_request r ≡ Filed
-    → (is_filed_group ((own p n o).host_group ((own p n o).group_of r)) ≡ true) × (r < (own p n o).page_requests)
+    → (p.page_request r ≡ Filed → (is_filed_group (p.host_group (p.group_of r)) ≡ true) × (r < p.page_requests)) → (act_alone p n o).page_request r ≡ Filed
+    → (is_filed_group ((act_alone p n o).host_group ((act_alone p n o).group_of r)) ≡ true) × (r < (act_alone p n o).page_requests)
 filed_kept ms g n p o l r ar bo old h = grind (arith, nat_tests)
 
 responses_kept : (ms : Mappings) (g n : ℕ) (p : Endpoint) (o : LocalAct) → LegalLocalAct ms g p o → (x : ℕ)
     → (is_whole (p.host_group x) ≡ true → (r : ℕ) → p.group_of r ≡ x → p.page_request r ≢ Arrived) → p.responses x ≡ times_replied (p.host_group x)
-    → (own p n o).responses x ≡ times_replied ((own p n o).host_group x)
+    → (act_alone p n o).responses x ≡ times_replied ((act_alone p n o).host_group x)
 responses_kept ms g n p o l x wh old = grind (arith, nat_tests)
 
 flight_stage_kept : (ms : Mappings) (g n : ℕ) (p : Endpoint) (o : LocalAct) → LegalLocalAct ms g p o
@@ -111,15 +112,16 @@ flight_stage_kept : (ms : Mappings) (g n : ℕ) (p : Endpoint) (o : LocalAct) �
     → (p.message c ≡ Some (PageRequestOf r) → r < p.page_requests) → (r < p.page_requests → p.group_of r < p.groups)
     → ((d b : ℕ) → p.message d ≡ Some (MarkerOf b) → p.message c ≡ Some (PageRequestOf r) → p.asker (p.group_of r) ≡ b → c < d)
     → ((d : ℕ) → p.message d ≡ Some ResetDone → p.message c ≡ Some (PageRequestOf r) → c < d)
-    → (p.phase ≡ Open → p.message c ≡ Some (PageRequestOf r) → is_unmarked (p.stage (p.asker (p.group_of r))) ≡ true) → (own p n o).phase ≡ Open
-    → (own p n o).message c ≡ Some (PageRequestOf r) → is_unmarked ((own p n o).stage ((own p n o).asker ((own p n o).group_of r))) ≡ true
+    → (p.phase ≡ Open → p.message c ≡ Some (PageRequestOf r) → is_unmarked (p.stage (p.asker (p.group_of r))) ≡ true) → (act_alone p n o).phase ≡ Open
+    → (act_alone p n o).message c ≡ Some (PageRequestOf r)
+    → is_unmarked ((act_alone p n o).stage ((act_alone p n o).asker ((act_alone p n o).group_of r))) ≡ true
 flight_stage_kept ms g n p o l on c r un made bo ma rd old h i = grind (arith, nat_tests)
 
 marker_after_kept : (ms : Mappings) (g n : ℕ) (p : Endpoint) (o : LocalAct) → LegalLocalAct ms g p o → (c d b r : ℕ) → (n ≤ c → p.message c ≡ None)
     → (n ≤ d → p.message d ≡ None) → (p.message d ≡ Some (PageRequestOf r) → r < p.page_requests) → (r < p.page_requests → p.group_of r < p.groups)
     → (p.message c ≡ Some (MarkerOf b) → p.pasid_state b ≡ Off)
-    → (p.message c ≡ Some (MarkerOf b) → p.message d ≡ Some (PageRequestOf r) → p.asker (p.group_of r) ≡ b → d < c) → (own p n o).message c
-    ≡ Some (MarkerOf b) → (own p n o).message d ≡ Some (PageRequestOf r) → (own p n o).asker ((own p n o).group_of r) ≡ b → d < c
+    → (p.message c ≡ Some (MarkerOf b) → p.message d ≡ Some (PageRequestOf r) → p.asker (p.group_of r) ≡ b → d < c) → (act_alone p n o).message c
+    ≡ Some (MarkerOf b) → (act_alone p n o).message d ≡ Some (PageRequestOf r) → (act_alone p n o).asker ((act_alone p n o).group_of r) ≡ b → d < c
 marker_after_kept ms g n p o l c d b r uc ud made bo off old h i e = grind (arith, nat_tests)
 
 arrived_stage_kept : (ms : Mappings) (g n : ℕ) (p : Endpoint) (o : LocalAct) → LegalLocalAct ms g p o → (r : ℕ)
@@ -127,8 +129,8 @@ arrived_stage_kept : (ms : Mappings) (g n : ℕ) (p : Endpoint) (o : LocalAct) �
     → (p.page_request r ≡ Arrived → r < p.page_requests) → ((c : ℕ) → p.message c ≡ Some (PageRequestOf r) → r < p.page_requests)
     → (r < p.page_requests → p.group_of r < p.groups) → ((c : ℕ) → p.message c ≡ Some ResetDone → p.page_request r ≢ Arrived)
     → (p.page_request r ≡ Arrived → is_before_invalidating (p.stage (p.asker (p.group_of r))) ≡ true)
-    → ((w : ℕ) → p.page_request r ≡ Arrived → p.stage (p.asker (p.group_of r)) ≡ Draining w → p.order_state w ≢ Done) → (own p n o).page_request r
-    ≡ Arrived → is_before_invalidating ((own p n o).stage ((own p n o).asker ((own p n o).group_of r))) ≡ true
+    → ((w : ℕ) → p.page_request r ≡ Arrived → p.stage (p.asker (p.group_of r)) ≡ Draining w → p.order_state w ≢ Done) → (act_alone p n o).page_request r
+    ≡ Arrived → is_before_invalidating ((act_alone p n o).stage ((act_alone p n o).asker ((act_alone p n o).group_of r))) ≡ true
 arrived_stage_kept ms g n p o l r fl made mm bo rd old wt h = grind (arith, nat_tests)
 
 arrived_wait_kept : (ms : Mappings) (g n : ℕ) (p : Endpoint) (o : LocalAct) → LegalLocalAct ms g p o → (r w : ℕ)
@@ -137,8 +139,8 @@ arrived_wait_kept : (ms : Mappings) (g n : ℕ) (p : Endpoint) (o : LocalAct) �
     → (r < p.page_requests → p.group_of r < p.groups) → ((c : ℕ) → p.message c ≡ Some ResetDone → p.page_request r ≢ Arrived)
     → (p.stage (p.asker (p.group_of r)) ≡ Draining w → (drains (p.order w) ≡ true) × (w < p.orders)
     × (p.phase ≡ Open → is_queued_or_done (p.order_state w) ≡ true))
-    → (p.page_request r ≡ Arrived → p.stage (p.asker (p.group_of r)) ≡ Draining w → p.order_state w ≢ Done) → (own p n o).page_request r ≡ Arrived
-    → (own p n o).stage ((own p n o).asker ((own p n o).group_of r)) ≡ Draining w → (own p n o).order_state w ≢ Done
+    → (p.page_request r ≡ Arrived → p.stage (p.asker (p.group_of r)) ≡ Draining w → p.order_state w ≢ Done) → (act_alone p n o).page_request r ≡ Arrived
+    → (act_alone p n o).stage ((act_alone p n o).asker ((act_alone p n o).group_of r)) ≡ Draining w → (act_alone p n o).order_state w ≢ Done
 arrived_wait_kept ms g n p o l r w fl made mm bo rd dr old h i = grind (arith, nat_tests)
 
 open_group_kept : (ms : Mappings) (g n : ℕ) (p : Endpoint) (o : LocalAct) → LegalLocalAct ms g p o
@@ -147,15 +149,15 @@ open_group_kept : (ms : Mappings) (g n : ℕ) (p : Endpoint) (o : LocalAct) → 
     × (is_before_invalidating (p.stage (p.asker (p.group_of r))) ≡ true)) → ((c : ℕ) → p.message c ≡ Some ResetDone → is_open p.phase ≡ false)
     → (x : ℕ) → (is_open p.phase ≡ false → is_open_group (p.host_group x) ≡ false) → (is_open_group (p.host_group x) ≡ true → x < p.groups)
     → (p.phase ≡ Open → is_open_group (p.host_group x) ≡ true → (is_outstanding (p.group x) ≡ true)
-    × (is_before_invalidating (p.stage (p.filed_under x)) ≡ true)) → (own p n o).phase ≡ Open → is_open_group ((own p n o).host_group x) ≡ true
-    → (is_outstanding ((own p n o).group x) ≡ true) × (is_before_invalidating ((own p n o).stage ((own p n o).filed_under x)) ≡ true)
+    × (is_before_invalidating (p.stage (p.filed_under x)) ≡ true)) → (act_alone p n o).phase ≡ Open → is_open_group ((act_alone p n o).host_group x) ≡ true
+    → (is_outstanding ((act_alone p n o).group x) ≡ true) × (is_before_invalidating ((act_alone p n o).stage ((act_alone p n o).filed_under x)) ≡ true)
 open_group_kept ms g n p o l rs ar cl x uf made old h i = grind (arith, nat_tests)
 
 discarded_kept : (ms : Mappings) (g n : ℕ) (p : Endpoint) (o : LocalAct) → LegalLocalAct ms g p o → (x w : ℕ)
     → (p.host_group x ≡ InHandDiscarded w → p.stage (p.filed_under x) ≢ Unbound)
     → (is_whole (p.host_group x) ≡ true → (r : ℕ) → p.group_of r ≡ x → p.page_request r ≢ Arrived)
-    → (p.phase ≡ Open → p.host_group x ≡ InHandDiscarded w → is_active (p.stage (p.filed_under x)) ≡ false) → (own p n o).phase ≡ Open
-    → (own p n o).host_group x ≡ InHandDiscarded w → is_active ((own p n o).stage ((own p n o).filed_under x)) ≡ false
+    → (p.phase ≡ Open → p.host_group x ≡ InHandDiscarded w → is_active (p.stage (p.filed_under x)) ≡ false) → (act_alone p n o).phase ≡ Open
+    → (act_alone p n o).host_group x ≡ InHandDiscarded w → is_active ((act_alone p n o).stage ((act_alone p n o).filed_under x)) ≡ false
 discarded_kept ms g n p o l x w bound wh old h i = grind (arith, nat_tests)
 
 response_kept : (ms : Mappings) (g n : ℕ) (p : Endpoint) (o : LocalAct) → LegalLocalAct ms g p o → (c x : ℕ) (code : Code) → (n ≤ c → p.message c ≡ None)
@@ -165,8 +167,8 @@ response_kept : (ms : Mappings) (g n : ℕ) (p : Endpoint) (o : LocalAct) → Le
     → ((d : ℕ) → p.message d ≡ Some FunctionReset → p.message c ≡ Some (ResponseOf x code) → c < d)
     → ((d : ℕ) (code' : Code) → p.message d ≡ Some (ResponseOf x code') → p.response_message x ≡ d)
     → (p.message c ≡ Some (ResponseOf x code) → (is_answerable (p.group x) ≡ true) × (p.host_group x ≡ Replied) × (p.response_message x ≡ c))
-    → (own p n o).message c ≡ Some (ResponseOf x code) → (is_answerable ((own p n o).group x) ≡ true) × ((own p n o).host_group x ≡ Replied)
-    × ((own p n o).response_message x ≡ c)
+    → (act_alone p n o).message c ≡ Some (ResponseOf x code) → (is_answerable ((act_alone p n o).group x) ≡ true) × ((act_alone p n o).host_group x ≡ Replied)
+    × ((act_alone p n o).response_message x ≡ c)
 response_kept ms g n p o l c x code un made wh ih hj rd on old h = grind (arith, nat_tests)
 
 -- what the others say, in the words of the clauses above
@@ -248,8 +250,8 @@ drain_order p or b w h = let d = or.draining b w h in (d.0, d.1, or.draining_sta
 discarded_over_kept : (ms : Mappings) (g n : ℕ) (p : Endpoint) (o : LocalAct) → LegalLocalAct ms g p o → (x w : ℕ)
     → ((c : ℕ) → p.message c ≡ Some ResetDone → p.phase ≡ Cleared c) → ((c y : ℕ) → p.phase ≡ Cleared c → p.group y ≡ Closed)
     → (p.host_group x ≡ InHandDiscarded w → x < p.groups)
-    → (p.phase ≡ Open → p.host_group x ≡ InHandDiscarded w → is_outstanding (p.group x) ≡ false) → (own p n o).phase ≡ Open
-    → (own p n o).host_group x ≡ InHandDiscarded w → is_outstanding ((own p n o).group x) ≡ false
+    → (p.phase ≡ Open → p.host_group x ≡ InHandDiscarded w → is_outstanding (p.group x) ≡ false) → (act_alone p n o).phase ≡ Open
+    → (act_alone p n o).host_group x ≡ InHandDiscarded w → is_outstanding ((act_alone p n o).group x) ≡ false
 discarded_over_kept ms g n p o l x w up fin made old h i = grind (arith, nat_tests)
 
 discarded_made : (g : ℕ) (p : Endpoint) → Bounds g p → (x w : ℕ) → p.host_group x ≡ InHandDiscarded w → x < p.groups
@@ -257,7 +259,7 @@ discarded_made g p bo x w h = grind (arith, bo.host_group x)
 
 pub every : (ms : Mappings) (g n : ℕ) (p : Endpoint) (o : LocalAct) → LegalLocalAct ms g p o → Resets n p → Bounds g p → Bindings p → Orders p → Queued p
     → Lasts p
-    → Groups p → Groups (own p n o)
+    → Groups p → Groups (act_alone p n o)
 every ms g n p o l re bo bi or qu la gr =
     record {
       index_bears = λ i x h. index_bears_kept ms g n p o l i x (gr.index_bears i x) (outstanding_made g p bo x) h;

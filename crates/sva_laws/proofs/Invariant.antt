@@ -8,7 +8,7 @@ use Rattle.sva_model.specs.State.HostGroupState.{InHand, InHandDiscarded}
 use Rattle.sva_model.specs.State.Stage.{Unbound}
 use Rattle.sva_model.specs.Words.{is_some}
 use Rattle.sva_model.specs.States.{is_unreleased, answered}
-use Rattle.sva_model.specs.Acts.{own, sends, LocalAct}
+use Rattle.sva_model.specs.Acts.{act_alone, sends, LocalAct}
 use Rattle.sva_laws.proofs.Legal.{LegalLocalAct}
 use Rattle.sva_laws.proofs.Resets
 use Rattle.sva_laws.proofs.Bounds
@@ -67,7 +67,7 @@ pub record Invariant (w : World) : Type 0 where
   pub parts : (e : ℕ) → PartInvariant w.mappings w.config.endpoints w.bindings w.messages e (w.part e)
   pub shared : w.rule ≡ PerSpace → Shared w.part
   -- a binding is at its own endpoint alone
-  pub homed : (e b : ℕ) → (w.part e).stage b ≢ Unbound → w.endpoint_of b ≡ e
+  pub one_endpoint : (e b : ℕ) → (w.part e).stage b ≢ Unbound → w.endpoint_of b ≡ e
 
 -- what the mappings say to an endpoint's act
 pub leads : (w : World) → Mapped w → Owners.Leads w.mappings
@@ -80,9 +80,9 @@ pub presents : (w : World) → Mapped w → (s q m : ℕ) → w.mappings.at s q 
 presents w ma s q m h = (ma.at_present s q m h).0
 
 -- an act of an endpoint keeps what holds of it
-pub own_keeps : (ms : Mappings) (x g n e : ℕ) (p : Endpoint) (o : LocalAct) → e < x → LegalLocalAct ms g p o → Owners.Leads ms
-    → ((s q m : ℕ) → ms.at s q ≡ Some m → ms.state m ≡ Present) → PartInvariant ms x g n e p → PartInvariant ms x g (n + sends o) e (own p n o)
-own_keeps ms x g n e p o h l le pr i =
+pub act_alone_keeps : (ms : Mappings) (x g n e : ℕ) (p : Endpoint) (o : LocalAct) → e < x → LegalLocalAct ms g p o → Owners.Leads ms
+    → ((s q m : ℕ) → ms.at s q ≡ Some m → ms.state m ≡ Present) → PartInvariant ms x g n e p → PartInvariant ms x g (n + sends o) e (act_alone p n o)
+act_alone_keeps ms x g n e p o h l le pr i =
     record {
       there = λ b u. h;
       near = λ c u. h;

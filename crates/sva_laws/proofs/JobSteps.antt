@@ -18,13 +18,13 @@ use Rattle.sva_model.specs.State.Order.{RangeOf, PasidOf, Wait}
 use Rattle.sva_model.specs.State.RequestState.{Out, Doomed, Over}
 use Rattle.sva_model.specs.State.Subject.{StartOf, StopOf, FunctionReset, CompletionOf, InvalidateOf, ResponseOf, RequestOf, InvalidatedOf, PageRequestOf}
 use Rattle.sva_model.specs.State.Subject.{MarkerOf, ResetDone}
-use Rattle.sva_model.specs.Acts.{Act, LocalAct, act, own, submitted_if, submits, bound, cookie_of, filed_as}
+use Rattle.sva_model.specs.Acts.{Act, LocalAct, act, act_alone, submitted_if, submits, bound, cookie_of, filed_as}
 use Rattle.sva_model.specs.Acts.Act.{NewSpace, DropSpace, Map, Unmap, NewBinding, NewJob, Hold, LetGo, AtEndpoint}
 use Rattle.sva_model.specs.Labels
 use Rattle.sva_model.specs.Refusals.{Cause, refusals}
 use Rattle.sva_model.specs.Replies.{maps_to, reply_maps, replies_success, newly_mapped, free_list, is_write_asked, job_space, response_to}
 use Rattle.sva_model.specs.Outcomes.{Outcome, outcome, unbind_outcome, advance_outcome, pump_outcome, head_outcome, wait_outcome, send_outcome, may_pass}
-use Rattle.sva_model.specs.Outcomes.{serve_outcome, file_outcome, take_outcome, reply_outcome, fault_outcome, about_outcome, deliver_outcome}
+use Rattle.sva_model.specs.Outcomes.{serve_outcome, file_outcome, take_outcome, reply_outcome, fault_outcome, subject_outcome, deliver_outcome}
 use Rattle.sva_model.specs.Outcomes.{completion_outcome, keep_outcome, is_full, request_outcome, count_outcome, page_request_outcome, marker_outcome}
 use Rattle.sva_model.specs.States.{is_open, is_outstanding}
 use Rattle.sva_model.specs.Steps.{checked, decide, next, run, after_acts, world_after}
@@ -70,16 +70,17 @@ AreCalm [] = Unit {0}
 AreCalm (a ∷ acts) = IsCalm a × AreCalm acts
 
 -- a reset drops jobs and open groups, and leaves those in hand in their hands
-own_job : (n : ℕ) (p : Endpoint) (o : LocalAct) → is_calm_own o ≡ true → (g : ℕ) → (own p n o).host_group g ≡ Job → p.host_group g ≡ Job
+own_job : (n : ℕ) (p : Endpoint) (o : LocalAct) → is_calm_own o ≡ true → (g : ℕ) → (act_alone p n o).host_group g ≡ Job → p.host_group g ≡ Job
 own_job n p o c g h = grind arith
 
-own_held : (n : ℕ) (p : Endpoint) (o : LocalAct) → is_calm_own o ≡ true → (g x : ℕ) → IsHeldBy ((own p n o).host_group g) x → IsHeldBy (p.host_group g) x
+own_held : (n : ℕ) (p : Endpoint) (o : LocalAct) → is_calm_own o ≡ true → (g x : ℕ) → IsHeldBy ((act_alone p n o).host_group g) x → IsHeldBy (p.host_group g) x
 own_held n p o c g x h = grind arith
 
-own_past : (n : ℕ) (p : Endpoint) (o : LocalAct) → is_calm_own o ≡ true → (g : ℕ) → is_past (p.host_group g) ≡ true → is_past ((own p n o).host_group g) ≡ true
+own_past : (n : ℕ) (p : Endpoint) (o : LocalAct) → is_calm_own o ≡ true → (g : ℕ) → is_past (p.host_group g) ≡ true
+    → is_past ((act_alone p n o).host_group g) ≡ true
 own_past n p o c g h = grind arith
 
-own_still : (n : ℕ) (p : Endpoint) (o : LocalAct) → is_calm_own o ≡ true → Still p.host_group (own p n o).host_group
+own_still : (n : ℕ) (p : Endpoint) (o : LocalAct) → is_calm_own o ≡ true → Still p.host_group (act_alone p n o).host_group
 own_still n p o c = record { job = own_job n p o c; held = own_held n p o c; past = own_past n p o c }
 
 submitted_still : (t : Bool) (p : Endpoint) (o : Option ℕ) (q count order cookie : ℕ) → Still p.host_group (submitted_if t p o q count order cookie).host_group
@@ -100,7 +101,7 @@ act_calm w (Hold x j) c h = absurd c
 act_calm w (LetGo x) c h = absurd c
 act_calm w (AtEndpoint e o) c h =
     still_jobs w.jobs w.job w.hand (λ d. (w.part d).host_group) (λ d. ((act w (AtEndpoint e o)).part d).host_group)
-    (put_keeps (λ d p. Still (w.part d).host_group p.host_group) w.part e (own (w.part e) w.messages o)
+    (put_keeps (λ d p. Still (w.part d).host_group p.host_group) w.part e (act_alone (w.part e) w.messages o)
     (own_still w.messages (w.part e) o (true_is (is_calm_own o) c)) (λ d. unchanged (w.part d).host_group))
     h
 
@@ -151,27 +152,27 @@ not_past w e r i on ph a = go (p.host_group (p.group_of r)) refl
     go (InHandDiscarded v) h = absurd (cc (sym out ∙ (i.parts e).groups.discarded_over (p.group_of r) v ph h))
 
 part_still : (n r : ℕ) (p : Endpoint) → p.is_last r ≡ false → is_past (p.host_group (p.group_of r)) ≡ false
-    → Still p.host_group (own p n (LocalAct.File r)).host_group
+    → Still p.host_group (act_alone p n (LocalAct.File r)).host_group
 part_still n r p l e = record { job = λ g h. part_job g h; held = λ g x h. part_held g x h; past = λ g h. part_past g h }
   where
-    part_job : (g : ℕ) → (own p n (LocalAct.File r)).host_group g ≡ Job → p.host_group g ≡ Job
+    part_job : (g : ℕ) → (act_alone p n (LocalAct.File r)).host_group g ≡ Job → p.host_group g ≡ Job
     part_job g h = grind (arith, nat_tests)
 
-    part_held : (g x : ℕ) → IsHeldBy ((own p n (LocalAct.File r)).host_group g) x → IsHeldBy (p.host_group g) x
+    part_held : (g x : ℕ) → IsHeldBy ((act_alone p n (LocalAct.File r)).host_group g) x → IsHeldBy (p.host_group g) x
     part_held g x h = grind (arith, nat_tests)
 
-    part_past : (g : ℕ) → is_past (p.host_group g) ≡ true → is_past ((own p n (LocalAct.File r)).host_group g) ≡ true
+    part_past : (g : ℕ) → is_past (p.host_group g) ≡ true → is_past ((act_alone p n (LocalAct.File r)).host_group g) ≡ true
     part_past g h = grind (arith, nat_tests)
 
 file_jobs : (w : World) (e r : ℕ) (b : Bool) → (w.part e).is_last r ≡ b → Invariant w → OnTheWay (w.part e)
     → LegalAll w (file_outcome e r ((w.part e).group_of r) b).acts → JobsOf w → JobsOf (after_acts w (file_outcome e r ((w.part e).group_of r) b).acts)
 file_jobs w e r false last i on l h =
     still_jobs w.jobs w.job w.hand (λ d. (w.part d).host_group) (λ d. ((act w (AtEndpoint e (LocalAct.File r))).part d).host_group)
-    (put_keeps (λ d p. Still (w.part d).host_group p.host_group) w.part e (own (w.part e) w.messages (LocalAct.File r))
+    (put_keeps (λ d p. Still (w.part d).host_group p.host_group) w.part e (act_alone (w.part e) w.messages (LocalAct.File r))
     (part_still w.messages r (w.part e) last (not_past w e r i on l.0.1.0.0 l.0.1.0.1)) (λ d. unchanged (w.part d).host_group))
     h
 file_jobs w e r true last i on l h =
-    let p = own (w.part e) w.messages (LocalAct.File r) in
+    let p = act_alone (w.part e) w.messages (LocalAct.File r) in
     let g = (w.part e).group_of r in
     let same : p.host_group ≡ put (w.part e).host_group g Job = ap (λ b. put (w.part e).host_group g (filed_as b)) last in
     filed w.jobs w.job w.hand (λ d. (w.part d).host_group) (λ d. (put w.part e p d).host_group) e g i.hands.made
@@ -189,7 +190,7 @@ take_jobs : (w : World) (x j : ℕ) → w.hand x ≡ None → JobsOf w → JobsO
 take_jobs w x j empty h =
     let e = (w.job j).endpoint in
     let g = (w.job j).group in
-    let p = own (w.part e) w.messages (LocalAct.Hand g x) in
+    let p = act_alone (w.part e) w.messages (LocalAct.Hand g x) in
     taken w.jobs w.job w.hand (λ d. (w.part d).host_group) (λ d. (put w.part e p d).host_group) x j empty (at_group w.part e p g (InHand x) refl)
     (others w.part e p g (InHand x) refl) h
 
@@ -199,7 +200,7 @@ respond_jobs : (w : World) (x j : ℕ) (code : Code) → w.hand x ≡ Some j →
 respond_jobs w x j code full h =
     let e = (w.job j).endpoint in
     let g = (w.job j).group in
-    let p = own (w.part e) w.messages (LocalAct.Respond g code) in
+    let p = act_alone (w.part e) w.messages (LocalAct.Respond g code) in
     answered w.jobs w.job w.hand (λ d. (w.part d).host_group) (λ d. (put w.part e p d).host_group) x j full
     (ap is_answered (at_group w.part e p g Replied refl)) (others w.part e p g Replied refl) h
 
@@ -208,7 +209,7 @@ discard_jobs : (w : World) (x j : ℕ) → w.hand x ≡ Some j → JobsOf w
 discard_jobs w x j full h =
     let e = (w.job j).endpoint in
     let g = (w.job j).group in
-    let p = own (w.part e) w.messages (LocalAct.Discard g) in
+    let p = act_alone (w.part e) w.messages (LocalAct.Discard g) in
     answered w.jobs w.job w.hand (λ d. (w.part d).host_group) (λ d. (put w.part e p d).host_group) x j full
     (ap is_answered (at_group w.part e p g Discarded refl)) (others w.part e p g Discarded refl) h
 
@@ -299,22 +300,22 @@ marker_calm : (e c d : ℕ) (b : Bool) → AreCalm (marker_outcome e c d b).acts
 marker_calm e c d true = (tt, tt)
 marker_calm e c d false = (tt, tt)
 
-about_calm : (w : World) (p : Endpoint) (e c : ℕ) (a : Subject) → AreCalm (about_outcome w p e c a).acts
-about_calm w p e c (StartOf b) = (tt, tt)
-about_calm w p e c (StopOf b) = (tt, tt)
-about_calm w p e c FunctionReset = (tt, tt)
-about_calm w p e c (CompletionOf r found) = completion_calm p e c r found (p.request r)
-about_calm w p e c (InvalidateOf k) = (tt, tt)
-about_calm w p e c (ResponseOf g code) = (tt, tt)
-about_calm w p e c (RequestOf r) = request_calm w p e c r (is_open p.phase)
-about_calm w p e c (InvalidatedOf names) = count_calm p e c names (is_open p.phase)
-about_calm w p e c (PageRequestOf r) = page_request_calm e c r (is_open p.phase)
-about_calm w p e c (MarkerOf b) = marker_calm e c b (is_open p.phase)
-about_calm w p e c ResetDone = (tt, tt)
+subject_calm : (w : World) (p : Endpoint) (e c : ℕ) (a : Subject) → AreCalm (subject_outcome w p e c a).acts
+subject_calm w p e c (StartOf b) = (tt, tt)
+subject_calm w p e c (StopOf b) = (tt, tt)
+subject_calm w p e c FunctionReset = (tt, tt)
+subject_calm w p e c (CompletionOf r found) = completion_calm p e c r found (p.request r)
+subject_calm w p e c (InvalidateOf k) = (tt, tt)
+subject_calm w p e c (ResponseOf g code) = (tt, tt)
+subject_calm w p e c (RequestOf r) = request_calm w p e c r (is_open p.phase)
+subject_calm w p e c (InvalidatedOf names) = count_calm p e c names (is_open p.phase)
+subject_calm w p e c (PageRequestOf r) = page_request_calm e c r (is_open p.phase)
+subject_calm w p e c (MarkerOf b) = marker_calm e c b (is_open p.phase)
+subject_calm w p e c ResetDone = (tt, tt)
 
 deliver_calm : (w : World) (p : Endpoint) (e c : ℕ) (o : Option Subject) → AreCalm (deliver_outcome w p e c o).acts
 deliver_calm w p e c None = tt
-deliver_calm w p e c (Some a) = about_calm w p e c a
+deliver_calm w p e c (Some a) = subject_calm w p e c a
 
 outcome_jobs : (w : World) (s : Step) → Invariant w → AllOn w → Passed (refusals w s) → JobsOf w → JobsOf (after_acts w (outcome w s).acts)
 outcome_jobs w step.Space i on p h = acts_calm (outcome w step.Space).acts w (tt, tt) h

@@ -13,7 +13,8 @@ use Rattle.sva_model.specs.State.RequestState.{Out}
 use Rattle.sva_model.specs.State.Phase.{Open}
 use Rattle.sva_model.specs.States.{is_unreleased, is_outstanding, is_open, is_before_invalidating, answered, is_free, place_at, place_by, place_of_gone}
 use Rattle.sva_model.specs.States.{is_free_place}
-use Rattle.sva_model.specs.Acts.{Act, LocalAct, act, own, sends, bound, submits, submits_at, owed_by, part_after_unmap, submitted, submitted_if, cookie_of}
+use Rattle.sva_model.specs.Acts.{Act, LocalAct, act, act_alone, sends, bound, submits, submits_at, owed_by, part_after_unmap, submitted, submitted_if}
+use Rattle.sva_model.specs.Acts.{cookie_of}
 use Rattle.sva_model.specs.Acts.{gone_if, in_range, without_pages}
 use Rattle.sva_model.specs.Acts.Act.{NewSpace, DropSpace, Map, Unmap, NewBinding, NewJob, Hold, LetGo, AtEndpoint}
 use Rattle.sva_model.specs.State.Stage.{Unbound}
@@ -28,7 +29,7 @@ use Rattle.sva_laws.proofs.Owners
 use Rattle.sva_laws.proofs.Safe
 use Rattle.sva_laws.proofs.PageRequests
 use Rattle.sva_laws.proofs.Groups
-use Rattle.sva_laws.proofs.Invariant.{PartInvariant, Mapped, Hands, IsHeldBy, Invariant, own_keeps, leads, presents}
+use Rattle.sva_laws.proofs.Invariant.{PartInvariant, Mapped, Hands, IsHeldBy, Invariant, act_alone_keeps, leads, presents}
 use Rattle.sva_laws.proofs.Answered.{answered_own, answered_submitted}
 use Rattle.sva_laws.proofs.Submitted
 use Rattle.sva_laws.proofs.Shared.{Shared, IsOf, WasSo, IsNew, binds, bound_space, bound_pasid, own_from, submitted_from, shared_still, shared_more}
@@ -138,12 +139,12 @@ later ms x g h n m e p a b i =
     }
 
 bound_live_own : (w : World) (e : ℕ) (o : LocalAct) → LegalLocalAct w.mappings w.bindings (w.part e) o → SuitsWorld w e o → (b : ℕ)
-    → (is_unreleased ((w.part e).stage b) ≡ true → w.is_live ((w.part e).space b) ≡ true) → is_unreleased ((own (w.part e) w.messages o).stage b)
-    ≡ true → w.is_live ((own (w.part e) w.messages o).space b) ≡ true
+    → (is_unreleased ((w.part e).stage b) ≡ true → w.is_live ((w.part e).space b) ≡ true) → is_unreleased ((act_alone (w.part e) w.messages o).stage b)
+    ≡ true → w.is_live ((act_alone (w.part e) w.messages o).space b) ≡ true
 bound_live_own w e o l bs b old h = go o bs (own_from w.mappings w.bindings w.messages (w.part e) o l b h)
   where
-    go : (x : LocalAct) → SuitsWorld w e x → WasSo (w.part e) (own (w.part e) w.messages o) b ⊎ IsNew x (own (w.part e) w.messages o) b
-        → w.is_live ((own (w.part e) w.messages o).space b) ≡ true
+    go : (x : LocalAct) → SuitsWorld w e x → WasSo (w.part e) (act_alone (w.part e) w.messages o) b ⊎ IsNew x (act_alone (w.part e) w.messages o) b
+        → w.is_live ((act_alone (w.part e) w.messages o).space b) ≡ true
     go x bs (inl k) = ap w.is_live k.2 ∙ old k.0
     go (LocalAct.Bind d s t) bs (inr k) = ap w.is_live k.2 ∙ bs.0
     go _ bs (inr k) = absurd (cc (k.0))
@@ -151,14 +152,14 @@ bound_live_own w e o l bs b old h = go o bs (own_from w.mappings w.bindings w.me
 at_parts : (w : World) (e : ℕ) (o : LocalAct) → Legal w (AtEndpoint e o) → Invariant w → (x : ℕ)
     → PartInvariant w.mappings w.config.endpoints w.bindings (w.messages + sends o) x ((act w (AtEndpoint e o)).part x)
 at_parts w e o l i =
-    put_keeps (λ x p. PartInvariant w.mappings w.config.endpoints w.bindings (w.messages + sends o) x p) w.part e (own (w.part e) w.messages o)
-    (own_keeps w.mappings w.config.endpoints w.bindings w.messages e (w.part e) o l.0 l.1.0 (leads w i.mapped) (presents w i.mapped) (i.parts e))
+    put_keeps (λ x p. PartInvariant w.mappings w.config.endpoints w.bindings (w.messages + sends o) x p) w.part e (act_alone (w.part e) w.messages o)
+    (act_alone_keeps w.mappings w.config.endpoints w.bindings w.messages e (w.part e) o l.0 l.1.0 (leads w i.mapped) (presents w i.mapped) (i.parts e))
     (λ x. later w.mappings w.config.endpoints w.bindings w.bindings w.messages (w.messages + sends o) x (w.part x) (omega arith) (omega arith) (i.parts x))
 
 at_answered : (w : World) (e : ℕ) (o : LocalAct) (v : Owed) → Legal w (AtEndpoint e o) → Invariant w → (x : ℕ) → answered (w.part x) v ≡ true
     → answered ((act w (AtEndpoint e o)).part x) v ≡ true
 at_answered w e o v l i x h =
-    put_keeps (λ x p. answered (w.part x) v ≡ true → answered p v ≡ true) w.part e (own (w.part e) w.messages o)
+    put_keeps (λ x p. answered (w.part x) v ≡ true → answered p v ≡ true) w.part e (act_alone (w.part e) w.messages o)
     (λ k. answered_own w.mappings w.bindings w.messages (w.part e) o l.1.0 (i.parts e).labels.sent (i.parts e).bounds v k)
     (λ x k. k) x h
 
@@ -187,7 +188,7 @@ not_answered w e _ l x j h same = refl
 -- a job in hand stays in hand
 held_own : (ms : Mappings) (gs n : ℕ) (p : Endpoint) (o : LocalAct) → LegalLocalAct ms gs p o → (g x : ℕ)
     → (IsHeldBy (p.host_group g) x → (r : ℕ) → p.phase ≡ Open → p.group_of r ≡ g → p.page_request r ≢ Arrived) → responds_to o g ≡ false
-    → IsHeldBy (p.host_group g) x → IsHeldBy ((own p n o).host_group g) x
+    → IsHeldBy (p.host_group g) x → IsHeldBy ((act_alone p n o).host_group g) x
 held_own ms gs n p o l g x nf ns h = grind (arith, nat_tests, nf h)
 
 -- no request of a group in hand is to be filed
@@ -204,7 +205,7 @@ at_hands w e o l i =
     record {
       made = i.hands.made;
       held = λ x j h.
-          put_keeps (λ d p. (d ≡ (w.job j).endpoint → IsHeldBy (p.host_group (w.job j).group) x)) w.part e (own (w.part e) w.messages o)
+          put_keeps (λ d p. (d ≡ (w.job j).endpoint → IsHeldBy (p.host_group (w.job j).group) x)) w.part e (act_alone (w.part e) w.messages o)
           (λ same. held_own w.mappings w.bindings w.messages (w.part e) o l.1.0 (w.job j).group x
           (held_filed w.bindings (w.part e) (i.parts e).bounds (i.parts e).lasts (i.parts e).groups (w.job j).group x)
           (not_answered w e o l.2 x j h same)
@@ -256,7 +257,7 @@ let_go_hands w x hs =
 at_shared : (w : World) (e : ℕ) (o : LocalAct) → Legal w (AtEndpoint e o) → Invariant w → w.rule ≡ PerSpace → Shared (act w (AtEndpoint e o)).part
 at_shared w e o l i rule =
     shared_more w.part (act w (AtEndpoint e o)).part o (its o l.1.1)
-    (put_keeps (λ x p. (b : ℕ) → is_unreleased (p.stage b) ≡ true → WasSo (w.part x) p b ⊎ IsNew o p b) w.part e (own (w.part e) w.messages o)
+    (put_keeps (λ x p. (b : ℕ) → is_unreleased (p.stage b) ≡ true → WasSo (w.part x) p b ⊎ IsNew o p b) w.part e (act_alone (w.part e) w.messages o)
     (own_from w.mappings w.bindings w.messages (w.part e) o l.1.0)
     (λ x b h. inl (h, refl, refl)))
     (i.shared rule)
@@ -266,16 +267,16 @@ at_shared w e o l i rule =
     its _ bs h = absurd (cc (h))
 
 -- an act begins a binding only at the binding's own endpoint
-homed_own : (w : World) (e : ℕ) (o : LocalAct) → LegalLocalAct w.mappings w.bindings (w.part e) o → SuitsWorld w e o → (b : ℕ)
-    → ((w.part e).stage b ≢ Unbound → w.endpoint_of b ≡ e) → (own (w.part e) w.messages o).stage b ≢ Unbound → w.endpoint_of b ≡ e
-homed_own w e o l bs b old h = grind (arith, nat_tests)
+one_endpoint_alone : (w : World) (e : ℕ) (o : LocalAct) → LegalLocalAct w.mappings w.bindings (w.part e) o → SuitsWorld w e o → (b : ℕ)
+    → ((w.part e).stage b ≢ Unbound → w.endpoint_of b ≡ e) → (act_alone (w.part e) w.messages o).stage b ≢ Unbound → w.endpoint_of b ≡ e
+one_endpoint_alone w e o l bs b old h = grind (arith, nat_tests)
 
-at_homed : (w : World) (e : ℕ) (o : LocalAct) → Legal w (AtEndpoint e o) → Invariant w → (x b : ℕ) → ((act w (AtEndpoint e o)).part x).stage b ≢ Unbound
+at_one_endpoint : (w : World) (e : ℕ) (o : LocalAct) → Legal w (AtEndpoint e o) → Invariant w → (x b : ℕ) → ((act w (AtEndpoint e o)).part x).stage b ≢ Unbound
     → w.endpoint_of b ≡ x
-at_homed w e o l i =
-    put_keeps (λ x p. (b : ℕ) → p.stage b ≢ Unbound → w.endpoint_of b ≡ x) w.part e (own (w.part e) w.messages o)
-    (λ b h. homed_own w e o l.1.0 l.1.1 b (i.homed e b) h)
-    i.homed
+at_one_endpoint w e o l i =
+    put_keeps (λ x p. (b : ℕ) → p.stage b ≢ Unbound → w.endpoint_of b ≡ x) w.part e (act_alone (w.part e) w.messages o)
+    (λ b h. one_endpoint_alone w e o l.1.0 l.1.1 b (i.one_endpoint e b) h)
+    i.one_endpoint
 
 at_keeps : (w : World) (e : ℕ) (o : LocalAct) → Legal w (AtEndpoint e o) → Invariant w → Invariant (act w (AtEndpoint e o))
 at_keeps w e o l i =
@@ -294,13 +295,13 @@ at_keeps w e o l i =
             passed = λ m v x g b. or_answered (answered (w.part x) (v x)) (answered ((act w (AtEndpoint e o)).part x) (v x)) (i.mapped.passed m v x g b)
                 (at_answered w e o (v x) l i x);
             bound_live =
-                put_keeps (λ x p. (b : ℕ) → is_unreleased (p.stage b) ≡ true → w.is_live (p.space b) ≡ true) w.part e (own (w.part e) w.messages o)
+                put_keeps (λ x p. (b : ℕ) → is_unreleased (p.stage b) ≡ true → w.is_live (p.space b) ≡ true) w.part e (act_alone (w.part e) w.messages o)
                 (λ b. bound_live_own w e o l.1.0 l.1.1 b (i.mapped.bound_live e b))
                 i.mapped.bound_live;
           };
       parts = at_parts w e o l i;
       shared = λ rule. at_shared w e o l i rule;
-      homed = at_homed w e o l i;
+      one_endpoint = at_one_endpoint w e o l i;
     }
 
 -- the world acts that change no mapping and no part
@@ -323,7 +324,7 @@ new_space_keeps w i =
           };
       parts = i.parts;
       shared = i.shared;
-      homed = i.homed;
+      one_endpoint = i.one_endpoint;
     }
   where
     live_put : (s : ℕ) → w.is_live s ≡ true → put w.is_live w.spaces true s ≡ true
@@ -351,11 +352,11 @@ new_binding_keeps w e i =
           };
       parts = λ x. later w.mappings w.config.endpoints w.bindings (suc w.bindings) w.messages w.messages x (w.part x) (omega arith) (omega arith) (i.parts x);
       shared = i.shared;
-      homed = λ x b h. new_home x b h;
+      one_endpoint = λ x b h. new_home x b h;
     }
   where
     new_home : (x b : ℕ) → (w.part x).stage b ≢ Unbound → put w.endpoint_of w.bindings e b ≡ x
-    new_home x b h = grind (arith, nat_tests, i.homed x b, (i.parts x).bounds.stage b)
+    new_home x b h = grind (arith, nat_tests, i.one_endpoint x b, (i.parts x).bounds.stage b)
 
 same_keeps : (w : World) (jobs : ℕ) (job : ℕ → JobName) (hand : ℕ → Option ℕ) → Hands (record w { jobs = jobs; job = job; hand = hand })
     → Invariant w → Invariant (record w { jobs = jobs; job = job; hand = hand })
@@ -377,7 +378,7 @@ same_keeps w jobs job hand hs i =
           };
       parts = i.parts;
       shared = i.shared;
-      homed = i.homed;
+      one_endpoint = i.one_endpoint;
     }
 
 -- A frame that is free is at no page, and nobody owes an answer for it.
@@ -461,7 +462,7 @@ map_keeps w s q f x l i =
       hands = record { made = i.hands.made; held = i.hands.held };
       mapped = map_mapped w s q f x l i;
       shared = i.shared;
-      homed = i.homed;
+      one_endpoint = i.one_endpoint;
       parts =
           λ e.
           record {
@@ -680,13 +681,13 @@ unmap_keeps w s q count order i =
           (i.parts e);
       shared = λ rule. shared_still w.part (part_after_unmap w s q count order)
           (λ e b h. submitted_from (submits w s e) (w.part e) (bound w e s) q count order (cookie_of w s e) b h) (i.shared rule);
-      homed = λ e b h. sub_home e b (submits w s e) (bound w e s) h;
+      one_endpoint = λ e b h. sub_home e b (submits w s e) (bound w e s) h;
     }
   where
     sub_home : (e b : ℕ) (t : Bool) (o : Option ℕ) → (submitted_if t (w.part e) o q count order (cookie_of w s e)).stage b ≢ Unbound → w.endpoint_of b ≡ e
-    sub_home e b true (Some d) h = i.homed e b h
-    sub_home e b true None h = i.homed e b h
-    sub_home e b false o h = i.homed e b h
+    sub_home e b true (Some d) h = i.one_endpoint e b h
+    sub_home e b true None h = i.one_endpoint e b h
+    sub_home e b false o h = i.one_endpoint e b h
 
     sub_live : (e b : ℕ) (t : Bool) (o : Option ℕ) → is_unreleased ((submitted_if t (w.part e) o q count order (cookie_of w s e)).stage b) ≡ true
         → w.is_live ((submitted_if t (w.part e) o q count order (cookie_of w s e)).space b) ≡ true
@@ -719,7 +720,7 @@ drop_keeps w s l i =
           (λ t pr. absurd (l e b (Unmapping.active_unreleased ((w.part e).stage b) a) (sym sp ∙ same_space m t))))
           (i.parts e);
       shared = i.shared;
-      homed = i.homed;
+      one_endpoint = i.one_endpoint;
     }
   where
     was_live : (x : ℕ) → put w.is_live s false x ≡ true → w.is_live x ≡ true

@@ -7,7 +7,7 @@ use Rattle.sva_model.specs.State.UseState.{Ended}
 use Rattle.sva_model.specs.State.Subject.{InvalidateOf}
 use Rattle.sva_model.specs.State.OrderState.{Sent}
 use Rattle.sva_model.specs.States.{is_unreleased, is_out, is_busy}
-use Rattle.sva_model.specs.Acts.{own, LocalAct}
+use Rattle.sva_model.specs.Acts.{act_alone, LocalAct}
 use Rattle.sva_laws.proofs.Legal.{LegalLocalAct}
 use Rattle.sva_laws.proofs.Resets.{Resets}
 use Rattle.sva_laws.proofs.Bounds.{Bounds}
@@ -34,7 +34,7 @@ pub record Labels (p : Endpoint) : Type 0 where
   pub sent : (c k : ℕ) → p.message c ≡ Some (InvalidateOf k) → p.order_state k ≡ Sent
   pub sent_once : (c d k : ℕ) → p.message c ≡ Some (InvalidateOf k) → p.message d ≡ Some (InvalidateOf k) → c ≡ d
 
-pub every : (ms : Mappings) (g n : ℕ) (p : Endpoint) (o : LocalAct) → LegalLocalAct ms g p o → Resets n p → Bounds g p → Labels p → Labels (own p n o)
+pub every : (ms : Mappings) (g n : ℕ) (p : Endpoint) (o : LocalAct) → LegalLocalAct ms g p o → Resets n p → Bounds g p → Labels p → Labels (act_alone p n o)
 every ms g n p o l re bo la =
     record {
       pasid_bears = λ t b h. grind (arith, nat_tests, la.pasid_bears t b);

@@ -13,7 +13,7 @@ use Rattle.sva_model.specs.State.Subject.{MarkerOf, ResetDone}
 use Rattle.sva_model.specs.States.{is_open, is_live_stage, is_out}
 use Rattle.sva_model.specs.Acts.{Act, LocalAct}
 use Rattle.sva_model.specs.Refusals.{refusals}
-use Rattle.sva_model.specs.Outcomes.{outcome, about_outcome, deliver_outcome, completion_outcome, keep_outcome, is_full, request_outcome, found_for}
+use Rattle.sva_model.specs.Outcomes.{outcome, subject_outcome, deliver_outcome, completion_outcome, keep_outcome, is_full, request_outcome, found_for}
 use Rattle.sva_model.specs.Outcomes.{completion_message, count_outcome, page_request_outcome, marker_outcome}
 use Rattle.sva_model.specs.Labels
 use Rattle.sva_laws.proofs.Words.{any_below-false, not_true}
@@ -109,26 +109,26 @@ marker_legal : (w : World) (e c d : ℕ) (b : Bool) → e < w.config.endpoints �
 marker_legal w e c d true l h n o = ((l, ((h, open_is (w.part e) o, n), tt), tt), tt)
 marker_legal w e c d false l h n o = ((l, ((MarkerOf d, h, o), tt), tt), tt)
 
-about_legal : (w : World) (e c : ℕ) (a : Subject) → e < w.config.endpoints → (w.part e).message c ≡ Some a → Labels.is_permitted (w.part e) c a ≡ true
-    → LegalAll w (about_outcome w (w.part e) e c a).acts
-about_legal w e c (StartOf b) l h p = ((l, ((h, order_down (w.part e) c StartKind (λ s. refl) (nothing_held (w.part e) c (StartOf b) p)), tt), tt), tt)
-about_legal w e c (StopOf b) l h p = ((l, ((h, order_down (w.part e) c StopKind (λ s. refl) (nothing_held (w.part e) c (StopOf b) p)), tt), tt), tt)
-about_legal w e c FunctionReset l h p = ((l, ((h, order_down (w.part e) c ResetKind (λ s. refl) (nothing_held (w.part e) c FunctionReset p)), tt), tt), tt)
-about_legal w e c (CompletionOf r found) l h p = completion_legal w e c r found ((w.part e).request r) l h refl
-about_legal w e c (InvalidateOf k) l h p = ((l, (h, tt), tt), tt)
-about_legal w e c (ResponseOf g code) l h p = ((l, (h, tt), tt), tt)
-about_legal w e c (RequestOf r) l h p = request_legal w e c r (is_open (w.part e).phase) l h refl
-about_legal w e c (InvalidatedOf names) l h p = count_legal w e c names (is_open (w.part e).phase) l h refl
-about_legal w e c (PageRequestOf r) l h p =
+subject_legal : (w : World) (e c : ℕ) (a : Subject) → e < w.config.endpoints → (w.part e).message c ≡ Some a → Labels.is_permitted (w.part e) c a ≡ true
+    → LegalAll w (subject_outcome w (w.part e) e c a).acts
+subject_legal w e c (StartOf b) l h p = ((l, ((h, order_down (w.part e) c StartKind (λ s. refl) (nothing_held (w.part e) c (StartOf b) p)), tt), tt), tt)
+subject_legal w e c (StopOf b) l h p = ((l, ((h, order_down (w.part e) c StopKind (λ s. refl) (nothing_held (w.part e) c (StopOf b) p)), tt), tt), tt)
+subject_legal w e c FunctionReset l h p = ((l, ((h, order_down (w.part e) c ResetKind (λ s. refl) (nothing_held (w.part e) c FunctionReset p)), tt), tt), tt)
+subject_legal w e c (CompletionOf r found) l h p = completion_legal w e c r found ((w.part e).request r) l h refl
+subject_legal w e c (InvalidateOf k) l h p = ((l, (h, tt), tt), tt)
+subject_legal w e c (ResponseOf g code) l h p = ((l, (h, tt), tt), tt)
+subject_legal w e c (RequestOf r) l h p = request_legal w e c r (is_open (w.part e).phase) l h refl
+subject_legal w e c (InvalidatedOf names) l h p = count_legal w e c names (is_open (w.part e).phase) l h refl
+subject_legal w e c (PageRequestOf r) l h p =
     page_request_legal w e c r (is_open (w.part e).phase) l h (last_behind (w.part e) c r (nothing_held (w.part e) c (PageRequestOf r) p)) refl
-about_legal w e c (MarkerOf b) l h p =
+subject_legal w e c (MarkerOf b) l h p =
     marker_legal w e c b (is_open (w.part e).phase) l h (marker_behind (w.part e) c (nothing_held (w.part e) c (MarkerOf b) p)) refl
-about_legal w e c ResetDone l h p = ((l, ((h, done_behind (w.part e) c (nothing_held (w.part e) c ResetDone p)), tt), tt), tt)
+subject_legal w e c ResetDone l h p = ((l, ((h, done_behind (w.part e) c (nothing_held (w.part e) c ResetDone p)), tt), tt), tt)
 
 message_legal : (w : World) (e c : ℕ) (o : Option Subject) → Invariant w → (w.part e).message c ≡ o → Labels.is_permitted_now (w.part e) c o ≡ true
     → LegalAll w (deliver_outcome w (w.part e) e c o).acts
 message_legal w e c None i h p = tt
-message_legal w e c (Some a) i h p = about_legal w e c a ((i.parts e).near c (ap is_some h)) h p
+message_legal w e c (Some a) i h p = subject_legal w e c a ((i.parts e).near c (ap is_some h)) h p
 
 pub deliver : (w : World) (n : ℕ) → Invariant w → Passed (refusals w (step.Deliver n)) → LegalAll w (outcome w (step.Deliver n)).acts
 deliver w n i h =

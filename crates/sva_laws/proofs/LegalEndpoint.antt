@@ -296,11 +296,11 @@ quit w e t i h =
     let b = Labels.bearer p t in
     let ending = bearer_of p t (λ d. is_ending (p.pasid_state d)) (not_true (Labels.is_told_to_stop p t) h.1.0) in
     let busy = h.1.1.0 in
-    let groups = or_left (Labels.is_unfinished_of p b) (Labels.is_request_out_of p b)
-    (or_left (Labels.is_unfinished_of p b || Labels.is_request_out_of p b) (Labels.is_use_of p b) busy) in
-    let requests = or_right (Labels.is_unfinished_of p b) (Labels.is_request_out_of p b)
-    (or_left (Labels.is_unfinished_of p b || Labels.is_request_out_of p b) (Labels.is_use_of p b) busy) in
-    let uses = or_right (Labels.is_unfinished_of p b || Labels.is_request_out_of p b) (Labels.is_use_of p b) busy in (
+    let groups = or_left (Labels.has_unfinished_group p b) (Labels.is_request_out_of p b)
+    (or_left (Labels.has_unfinished_group p b || Labels.is_request_out_of p b) (Labels.is_use_of p b) busy) in
+    let requests = or_right (Labels.has_unfinished_group p b) (Labels.is_request_out_of p b)
+    (or_left (Labels.has_unfinished_group p b || Labels.is_request_out_of p b) (Labels.is_use_of p b) busy) in
+    let uses = or_right (Labels.has_unfinished_group p b || Labels.is_request_out_of p b) (Labels.is_use_of p b) busy in (
       (
         is_less e w.config.endpoints h.0,
         (

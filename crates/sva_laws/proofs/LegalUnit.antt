@@ -10,7 +10,7 @@ use Rattle.sva_model.specs.State.Order.{RangeOf, PasidOf, Wait}
 use Rattle.sva_model.specs.State.OrderState.{Queued}
 use Rattle.sva_model.specs.State.Phase.{Open}
 use Rattle.sva_model.specs.States.{is_queued, is_busy, is_arrived, is_job, is_wait, drains}
-use Rattle.sva_model.specs.Acts.{LocalAct, own}
+use Rattle.sva_model.specs.Acts.{LocalAct, act_alone}
 use Rattle.sva_model.specs.Acts.Act.{AtEndpoint, Hold}
 use Rattle.sva_model.specs.Refusals.{refusals}
 use Rattle.sva_model.specs.Outcomes.{outcome, pump_outcome, head_outcome, wait_outcome, send_outcome, may_pass, serve_outcome, file_outcome}
@@ -169,8 +169,8 @@ take_at w x j i l h =
     made : (e g : ℕ) → is_job ((w.part e).host_group g) ≡ true → g < (w.part e).groups
     made e g k = grind (arith, (i.parts e).bounds.host_group g)
 
-    held : (e g : ℕ) → (put w.part e (own (w.part e) w.messages (LocalAct.Hand g x)) e).host_group g ≡ InHand x
-    held e g = ap (λ p. p.host_group g) (put-same w.part e (own (w.part e) w.messages (LocalAct.Hand g x))) ∙ put-same (w.part e).host_group g (InHand x)
+    held : (e g : ℕ) → (put w.part e (act_alone (w.part e) w.messages (LocalAct.Hand g x)) e).host_group g ≡ InHand x
+    held e g = ap (λ p. p.host_group g) (put-same w.part e (act_alone (w.part e) w.messages (LocalAct.Hand g x))) ∙ put-same (w.part e).host_group g (InHand x)
 
 pub take : (w : World) (x : ℕ) → Invariant w → Passed (refusals w (step.Take x)) → LegalAll w (outcome w (step.Take x)).acts
 take w x i h =

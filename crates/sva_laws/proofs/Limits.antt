@@ -11,7 +11,7 @@ use Rattle.sva_model.specs.State.PageRequestState.{Arrived}
 use Rattle.sva_model.specs.State.Phase.{Open}
 use Rattle.sva_model.specs.States.{Place, is_arrived, is_outstanding, is_open, place, is_free_place}
 use Rattle.sva_model.specs.States.Place.{Free, Mapped, Withheld}
-use Rattle.sva_model.specs.Acts.{Act, LocalAct, act, own, submitted_if, submits, bound, cookie_of}
+use Rattle.sva_model.specs.Acts.{Act, LocalAct, act, act_alone, submitted_if, submits, bound, cookie_of}
 use Rattle.sva_model.specs.Acts.Act.{NewSpace, DropSpace, Map, Unmap, NewBinding, NewJob, Hold, LetGo, AtEndpoint}
 use Rattle.sva_model.specs.Labels.{outstanding, is_waiting}
 use Rattle.sva_model.specs.Steps.{decide, next, run, after_acts, world_after, counts, is_mapped_at, is_withheld_at}
@@ -28,26 +28,27 @@ use Rattle.sva_laws.proofs.Runs.{always, step_legal, next_keeps, opened_invarian
 -- An act of an endpoint: a page request that was outstanding after it was so before, but for the one that is new.
 
 out_before : (ms : Mappings) (g n : ℕ) (p : Endpoint) (o : LocalAct) → LegalLocalAct ms g p o → (r : ℕ) → r < p.page_requests → p.group_of r < p.groups
-    → is_outstanding ((own p n o).group ((own p n o).group_of r)) ≡ true → is_outstanding (p.group (p.group_of r)) ≡ true
+    → is_outstanding ((act_alone p n o).group ((act_alone p n o).group_of r)) ≡ true → is_outstanding (p.group (p.group_of r)) ≡ true
 out_before ms g n p o l r lt made h = grind (arith, nat_tests)
 
-one_more : (ms : Mappings) (g n : ℕ) (p : Endpoint) (o : LocalAct) → LegalLocalAct ms g p o → ((own p n o).page_requests ≡ p.page_requests)
-    ⊎ (((own p n o).page_requests ≡ suc p.page_requests) × (outstanding p < 32))
+one_more : (ms : Mappings) (g n : ℕ) (p : Endpoint) (o : LocalAct) → LegalLocalAct ms g p o → ((act_alone p n o).page_requests ≡ p.page_requests)
+    ⊎ (((act_alone p n o).page_requests ≡ suc p.page_requests) × (outstanding p < 32))
 one_more ms g n p (LocalAct.Group b i q r x l) h = inr (refl, h.3)
 one_more ms g n p (LocalAct.Request y q r x l) h = inr (refl, h.2)
 one_more ms g n p o h = inl (grind arith)
 
-own_limited : (ms : Mappings) (g n : ℕ) (p : Endpoint) (o : LocalAct) → LegalLocalAct ms g p o → Bounds g p → outstanding p ≤ 32 → outstanding (own p n o) ≤ 32
+own_limited : (ms : Mappings) (g n : ℕ) (p : Endpoint) (o : LocalAct) → LegalLocalAct ms g p o → Bounds g p → outstanding p ≤ 32
+    → outstanding (act_alone p n o) ≤ 32
 own_limited ms g n p o l bo h = go (one_more ms g n p o l)
   where
     now : ℕ → Bool
-    now r = is_outstanding ((own p n o).group ((own p n o).group_of r))
+    now r = is_outstanding ((act_alone p n o).group ((act_alone p n o).group_of r))
 
     less : count_below p.page_requests now ≤ outstanding p
     less = count_less p.page_requests now (λ r. is_outstanding (p.group (p.group_of r))) (λ r lt t. out_before ms g n p o l r lt (bo.group_of r lt) t)
 
-    go : ((own p n o).page_requests ≡ p.page_requests) ⊎ (((own p n o).page_requests ≡ suc p.page_requests) × (outstanding p < 32))
-        → outstanding (own p n o) ≤ 32
+    go : ((act_alone p n o).page_requests ≡ p.page_requests) ⊎ (((act_alone p n o).page_requests ≡ suc p.page_requests) × (outstanding p < 32))
+        → outstanding (act_alone p n o) ≤ 32
     go (inl e) = subst (λ k. count_below k now ≤ 32) (sym e) (omega (arith, less, h))
     go (inr x) = subst (λ k. count_below k now ≤ 32) (sym x.0) (omega (arith, less, x.1, count_next p.page_requests now, bit_most (now p.page_requests)))
 
@@ -70,7 +71,7 @@ act_limited w (NewJob e g) l i h = h
 act_limited w (Hold x j) l i h = h
 act_limited w (LetGo x) l i h = h
 act_limited w (AtEndpoint e o) l i h =
-    put_keeps (λ k p. outstanding p ≤ 32) w.part e (own (w.part e) w.messages o)
+    put_keeps (λ k p. outstanding p ≤ 32) w.part e (act_alone (w.part e) w.messages o)
     (own_limited w.mappings w.bindings w.messages (w.part e) o l.1.0 (i.parts e).bounds (h e)) h
 
 acts_limited : (acts : List Act) (w : World) → LegalAll w acts → Invariant w → AllLimited w → AllLimited (after_acts w acts)

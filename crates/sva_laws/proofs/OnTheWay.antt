@@ -13,7 +13,7 @@ use Rattle.sva_model.specs.State.GroupState.{Closed}
 use Rattle.sva_model.specs.State.Subject.{ResetDone}
 use Rattle.sva_model.specs.State.Phase.{Open}
 use Rattle.sva_model.specs.States.{is_outstanding, is_open_group, is_before_invalidating}
-use Rattle.sva_model.specs.Acts.{Act, LocalAct, act, own, submitted_if, submits, bound, cookie_of}
+use Rattle.sva_model.specs.Acts.{Act, LocalAct, act, act_alone, submitted_if, submits, bound, cookie_of}
 use Rattle.sva_model.specs.Acts.Act.{NewSpace, DropSpace, Map, Unmap, NewBinding, NewJob, Hold, LetGo, AtEndpoint}
 use Rattle.sva_model.specs.Steps.{decide, next, run, after_acts, world_after}
 use Rattle.sva_laws.specs.Laws.{is_answerable}
@@ -31,14 +31,16 @@ pub record OnTheWay (p : Endpoint) : Type 0 where
   pub discarded : (g : ℕ) → p.phase ≡ Open → p.host_group g ≡ Discarded → is_outstanding (p.group g) ≡ false
 
 -- what an act says of a request that was made before
-old_last : (ms : Mappings) (g n : ℕ) (p : Endpoint) (o : LocalAct) (r : ℕ) → r < p.page_requests → (r < (own p n o).page_requests)
-    × ((own p n o).group_of r ≡ p.group_of r) × ((own p n o).is_last r ≡ p.is_last r)
+old_last : (ms : Mappings) (g n : ℕ) (p : Endpoint) (o : LocalAct) (r : ℕ) → r < p.page_requests → (r < (act_alone p n o).page_requests)
+    × ((act_alone p n o).group_of r ≡ p.group_of r) × ((act_alone p n o).is_last r ≡ p.is_last r)
 old_last ms g n p o r lt = grind (arith, nat_tests)
 
 -- a group that awaits its response did so before, or its last request is the one that the act makes
-new_last : (ms : Mappings) (g n : ℕ) (p : Endpoint) (o : LocalAct) → LegalLocalAct ms g p o → (x : ℕ) → is_answerable ((own p n o).group x) ≡ true
+new_last : (ms : Mappings) (g n : ℕ) (p : Endpoint) (o : LocalAct) → LegalLocalAct ms g p o → (x : ℕ) → is_answerable ((act_alone p n o).group x) ≡ true
     → (is_answerable (p.group x) ≡ true)
-    ⊎ ((p.page_requests < (own p n o).page_requests) × ((own p n o).group_of p.page_requests ≡ x) × ((own p n o).is_last p.page_requests ≡ true))
+    ⊎ ((p.page_requests < (act_alone p n o).page_requests)
+    × ((act_alone p n o).group_of p.page_requests ≡ x)
+    × ((act_alone p n o).is_last p.page_requests ≡ true))
 new_last ms g n p o l x h = grind (arith, nat_tests)
 
 filed_last_kept : (ms : Mappings) (g n : ℕ) (p : Endpoint) (o : LocalAct) → LegalLocalAct ms g p o → (r : ℕ)
@@ -47,35 +49,38 @@ filed_last_kept : (ms : Mappings) (g n : ℕ) (p : Endpoint) (o : LocalAct) → 
     → (p.page_requests ≤ r → p.page_request r ≡ Dropped) → ((c : ℕ) → p.message c ≡ Some ResetDone → p.group (p.group_of r) ≡ Closed)
     → (r < p.page_requests → p.group_of r < p.groups)
     → (p.phase ≡ Open → r < p.page_requests → p.is_last r ≡ true → p.page_request r ≡ Filed → is_outstanding (p.group (p.group_of r)) ≡ true
-    → is_whole (p.host_group (p.group_of r)) ≡ true) → (own p n o).phase ≡ Open → r < (own p n o).page_requests → (own p n o).is_last r ≡ true
-    → (own p n o).page_request r ≡ Filed → is_outstanding ((own p n o).group ((own p n o).group_of r)) ≡ true
-    → is_whole ((own p n o).host_group ((own p n o).group_of r)) ≡ true
+    → is_whole (p.host_group (p.group_of r)) ≡ true) → (act_alone p n o).phase ≡ Open → r < (act_alone p n o).page_requests → (act_alone p n o).is_last r ≡ true
+    → (act_alone p n o).page_request r ≡ Filed → is_outstanding ((act_alone p n o).group ((act_alone p n o).group_of r)) ≡ true
+    → is_whole ((act_alone p n o).host_group ((act_alone p n o).group_of r)) ≡ true
 filed_last_kept ms g n p o l r part in_hand un re made old ph lt la fi out = grind (arith, nat_tests)
 
 discarded_kept : (ms : Mappings) (g n : ℕ) (p : Endpoint) (o : LocalAct) → LegalLocalAct ms g p o → (x : ℕ) → (p.groups ≤ x → p.host_group x ≡ NotFiled)
     → ((c : ℕ) → p.message c ≡ Some ResetDone → p.group x ≡ Closed)
     → ((w : ℕ) → p.phase ≡ Open → p.host_group x ≡ InHandDiscarded w → is_outstanding (p.group x) ≡ false)
     → ((w : ℕ) → p.phase ≡ Open → p.host_group x ≡ InHand w → is_before_invalidating (p.stage (p.filed_under x)) ≡ true)
-    → (p.phase ≡ Open → p.host_group x ≡ Discarded → is_outstanding (p.group x) ≡ false) → (own p n o).phase ≡ Open → (own p n o).host_group x
-    ≡ Discarded → is_outstanding ((own p n o).group x) ≡ false
+    → (p.phase ≡ Open → p.host_group x ≡ Discarded → is_outstanding (p.group x) ≡ false) → (act_alone p n o).phase ≡ Open → (act_alone p n o).host_group x
+    ≡ Discarded → is_outstanding ((act_alone p n o).group x) ≡ false
 discarded_kept ms g n p o l x made re hand opened_hand old ph h = grind (arith, nat_tests)
 
 arrived_part : (p : Endpoint) → ((r : ℕ) → is_whole (p.host_group (p.group_of r)) ≡ true → r < p.page_requests → p.page_request r ≡ Filed)
     → ((r : ℕ) → p.page_requests ≤ r → p.page_request r ≡ Dropped) → (x : ℕ) → p.page_request x ≡ Arrived → is_whole (p.host_group (p.group_of x)) ≡ false
 arrived_part p whole made x h = grind (arith, nat_tests, whole x, made x)
 
-last_kept : (ms : Mappings) (g n : ℕ) (p : Endpoint) (o : LocalAct) → LegalLocalAct ms g p o → OnTheWay p → (x : ℕ) → is_answerable ((own p n o).group x) ≡ true
-    → (r : ℕ) × (r < (own p n o).page_requests) × ((own p n o).group_of r ≡ x) × ((own p n o).is_last r ≡ true)
+last_kept : (ms : Mappings) (g n : ℕ) (p : Endpoint) (o : LocalAct) → LegalLocalAct ms g p o → OnTheWay p → (x : ℕ)
+    → is_answerable ((act_alone p n o).group x) ≡ true
+    → (r : ℕ) × (r < (act_alone p n o).page_requests) × ((act_alone p n o).group_of r ≡ x) × ((act_alone p n o).is_last r ≡ true)
 last_kept ms g n p o l w x h = go (new_last ms g n p o l x h)
   where
     go : (is_answerable (p.group x) ≡ true)
-        ⊎ ((p.page_requests < (own p n o).page_requests) × ((own p n o).group_of p.page_requests ≡ x) × ((own p n o).is_last p.page_requests ≡ true))
-        → (r : ℕ) × (r < (own p n o).page_requests) × ((own p n o).group_of r ≡ x) × ((own p n o).is_last r ≡ true)
+        ⊎ ((p.page_requests < (act_alone p n o).page_requests)
+        × ((act_alone p n o).group_of p.page_requests ≡ x)
+        × ((act_alone p n o).is_last p.page_requests ≡ true))
+        → (r : ℕ) × (r < (act_alone p n o).page_requests) × ((act_alone p n o).group_of r ≡ x) × ((act_alone p n o).is_last r ≡ true)
     go (inl a) = let y = w.last x a in let z = old_last ms g n p o y.0 y.1 in (y.0, z.0, z.1 ∙ y.2, z.2 ∙ y.3)
     go (inr y) = (p.page_requests, y.0, y.1, y.2)
 
 pub every : (ms : Mappings) (x g n e : ℕ) (p : Endpoint) (o : LocalAct) → LegalLocalAct ms g p o → PartInvariant ms x g n e p → OnTheWay p
-    → OnTheWay (own p n o)
+    → OnTheWay (act_alone p n o)
 every ms x g n e p o l i w =
     let re = i.resets in
     let bo = i.bounds in
@@ -110,7 +115,7 @@ act_on w (NewJob e g) l i h = h
 act_on w (Hold x j) l i h = h
 act_on w (LetGo x) l i h = h
 act_on w (AtEndpoint e o) l i h =
-    put_keeps (λ k p. OnTheWay p) w.part e (own (w.part e) w.messages o)
+    put_keeps (λ k p. OnTheWay p) w.part e (act_alone (w.part e) w.messages o)
     (every w.mappings w.config.endpoints w.bindings w.messages e (w.part e) o l.1.0 (i.parts e) (h e)) h
 
 pub acts_on : (acts : List Act) (w : World) → LegalAll w acts → Invariant w → AllOn w → AllOn (after_acts w acts)

@@ -24,7 +24,7 @@ use Rattle.sva_model.specs.Replies.{is_write_of_read_only}
 use Rattle.sva_model.specs.Refusals.{Cause, refusals, page_range, no_such_binding, no_such_worker, no_such_endpoint, no_such_space, resetting}
 use Rattle.sva_model.specs.Refusals.{messages_spent, advance_refusals, unbind_refusals}
 use Rattle.sva_model.specs.Outcomes.{Outcome, outcome, at_one, found_for, map_outcome, bind_outcome, advance_outcome, reply_outcome, completion_message}
-use Rattle.sva_model.specs.Outcomes.{request_outcome, about_outcome, deliver_outcome, look_answer, says, bearer_answer}
+use Rattle.sva_model.specs.Outcomes.{request_outcome, subject_outcome, deliver_outcome, look_answer, says, bearer_answer}
 use Rattle.sva_model.specs.Steps.{checked, decide, next, reply, replies, after_acts}
 use Rattle.sva_laws.proofs.Words.{find_passes, holds_the, any_below-true, any_below-intro}
 use Rattle.sva_laws.proofs.Invariant.{Invariant}
@@ -76,22 +76,22 @@ request_same w p e c r true =
     ap (λ m. at_one answer.Completion e (LocalAct.Complete c r (found_for w p r) m)) (completion_same w (p.request_tag r) (found_for w p r))
 request_same w p e c r false = refl
 
-about_same : (w : World) (p : Endpoint) (e c : ℕ) (a : Subject) → about_outcome (by_space w) p e c a ≡ about_outcome w p e c a
-about_same w p e c (StartOf b) = refl
-about_same w p e c (StopOf b) = refl
-about_same w p e c FunctionReset = refl
-about_same w p e c (CompletionOf r found) = refl
-about_same w p e c (InvalidateOf k) = refl
-about_same w p e c (ResponseOf g code) = refl
-about_same w p e c (RequestOf r) = request_same w p e c r (is_open p.phase)
-about_same w p e c (InvalidatedOf names) = refl
-about_same w p e c (PageRequestOf r) = refl
-about_same w p e c (MarkerOf b) = refl
-about_same w p e c ResetDone = refl
+subject_same : (w : World) (p : Endpoint) (e c : ℕ) (a : Subject) → subject_outcome (by_space w) p e c a ≡ subject_outcome w p e c a
+subject_same w p e c (StartOf b) = refl
+subject_same w p e c (StopOf b) = refl
+subject_same w p e c FunctionReset = refl
+subject_same w p e c (CompletionOf r found) = refl
+subject_same w p e c (InvalidateOf k) = refl
+subject_same w p e c (ResponseOf g code) = refl
+subject_same w p e c (RequestOf r) = request_same w p e c r (is_open p.phase)
+subject_same w p e c (InvalidatedOf names) = refl
+subject_same w p e c (PageRequestOf r) = refl
+subject_same w p e c (MarkerOf b) = refl
+subject_same w p e c ResetDone = refl
 
 deliver_same : (w : World) (p : Endpoint) (e c : ℕ) (o : Option Subject) → deliver_outcome (by_space w) p e c o ≡ deliver_outcome w p e c o
 deliver_same w p e c None = refl
-deliver_same w p e c (Some a) = about_same w p e c a
+deliver_same w p e c (Some a) = subject_same w p e c a
 
 bearer_same : (w : World) (t : ℕ) (b : Bool) → bearer_answer (by_space w) t b ≡ bearer_answer w t b
 bearer_same w t true = refl

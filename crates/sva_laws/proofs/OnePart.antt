@@ -11,13 +11,13 @@ use Rattle.sva_model.specs.State.Order.{RangeOf, PasidOf, Wait}
 use Rattle.sva_model.specs.State.RequestState.{Out, Doomed, Over}
 use Rattle.sva_model.specs.State.Subject.{StartOf, StopOf, FunctionReset, CompletionOf, InvalidateOf, ResponseOf, RequestOf, InvalidatedOf, PageRequestOf}
 use Rattle.sva_model.specs.State.Subject.{MarkerOf, ResetDone}
-use Rattle.sva_model.specs.Acts.{Act, LocalAct, act, own}
+use Rattle.sva_model.specs.Acts.{Act, LocalAct, act, act_alone}
 use Rattle.sva_model.specs.Acts.Act.{NewSpace, DropSpace, Map, Unmap, NewBinding, NewJob, Hold, LetGo, AtEndpoint}
 use Rattle.sva_model.specs.Labels
 use Rattle.sva_model.specs.Refusals.{Cause, refusals}
 use Rattle.sva_model.specs.Replies.{maps_to, reply_maps, replies_success, newly_mapped, free_list, is_write_asked, job_space, response_to}
 use Rattle.sva_model.specs.Outcomes.{Outcome, outcome, unbind_outcome, advance_outcome, pump_outcome, head_outcome, wait_outcome, send_outcome, may_pass}
-use Rattle.sva_model.specs.Outcomes.{serve_outcome, file_outcome, reply_outcome, fault_outcome, about_outcome, deliver_outcome, completion_outcome}
+use Rattle.sva_model.specs.Outcomes.{serve_outcome, file_outcome, reply_outcome, fault_outcome, subject_outcome, deliver_outcome, completion_outcome}
 use Rattle.sva_model.specs.Outcomes.{keep_outcome, is_full, request_outcome, count_outcome, page_request_outcome, marker_outcome}
 use Rattle.sva_model.specs.States.{is_open}
 use Rattle.sva_model.specs.Words.{lowest, the}
@@ -46,7 +46,7 @@ act_one w (NewBinding d) e x ne h = refl
 act_one w (NewJob d g) e x ne h = refl
 act_one w (Hold y j) e x ne h = refl
 act_one w (LetGo y) e x ne h = refl
-act_one w (AtEndpoint d o) e x ne h = put-other w.part d (own (w.part d) w.messages o) x (λ z. ne (z ∙ h))
+act_one w (AtEndpoint d o) e x ne h = put-other w.part d (act_alone (w.part d) w.messages o) x (λ z. ne (z ∙ h))
 
 acts_one : (acts : List Act) (w : World) (e x : ℕ) → x ≢ e → AreOf e acts → (after_acts w acts).part x ≡ w.part x
 acts_one [] w e x ne h = refl
@@ -146,22 +146,22 @@ marker_one : (e c d : ℕ) (b : Bool) → AreOf e (marker_outcome e c d b).acts
 marker_one e c d true = (refl, tt)
 marker_one e c d false = (refl, tt)
 
-about_one : (w : World) (p : Endpoint) (e c : ℕ) (a : Subject) → AreOf e (about_outcome w p e c a).acts
-about_one w p e c (StartOf b) = (refl, tt)
-about_one w p e c (StopOf b) = (refl, tt)
-about_one w p e c FunctionReset = (refl, tt)
-about_one w p e c (CompletionOf r found) = completion_one p e c r found (p.request r)
-about_one w p e c (InvalidateOf k) = (refl, tt)
-about_one w p e c (ResponseOf g code) = (refl, tt)
-about_one w p e c (RequestOf r) = request_one w p e c r (is_open p.phase)
-about_one w p e c (InvalidatedOf names) = count_one p e c names (is_open p.phase)
-about_one w p e c (PageRequestOf r) = page_request_one e c r (is_open p.phase)
-about_one w p e c (MarkerOf b) = marker_one e c b (is_open p.phase)
-about_one w p e c ResetDone = (refl, tt)
+subject_one : (w : World) (p : Endpoint) (e c : ℕ) (a : Subject) → AreOf e (subject_outcome w p e c a).acts
+subject_one w p e c (StartOf b) = (refl, tt)
+subject_one w p e c (StopOf b) = (refl, tt)
+subject_one w p e c FunctionReset = (refl, tt)
+subject_one w p e c (CompletionOf r found) = completion_one p e c r found (p.request r)
+subject_one w p e c (InvalidateOf k) = (refl, tt)
+subject_one w p e c (ResponseOf g code) = (refl, tt)
+subject_one w p e c (RequestOf r) = request_one w p e c r (is_open p.phase)
+subject_one w p e c (InvalidatedOf names) = count_one p e c names (is_open p.phase)
+subject_one w p e c (PageRequestOf r) = page_request_one e c r (is_open p.phase)
+subject_one w p e c (MarkerOf b) = marker_one e c b (is_open p.phase)
+subject_one w p e c ResetDone = (refl, tt)
 
 deliver_one : (w : World) (p : Endpoint) (e c : ℕ) (o : Option Subject) → AreOf e (deliver_outcome w p e c o).acts
 deliver_one w p e c None = tt
-deliver_one w p e c (Some a) = about_one w p e c a
+deliver_one w p e c (Some a) = subject_one w p e c a
 
 outcome_one : (w : World) (s : Step) → takes_out s ≡ false → (e : ℕ) × AreOf e (outcome w s).acts
 outcome_one w step.Space h = (0, (tt, tt))

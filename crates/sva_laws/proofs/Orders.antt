@@ -10,7 +10,7 @@ use Rattle.sva_model.specs.State.OrderState.{Queued, Sent, Done, Void}
 use Rattle.sva_model.specs.State.Subject.{InvalidateOf, ResetDone}
 use Rattle.sva_model.specs.State.Phase.{Open, Cleared}
 use Rattle.sva_model.specs.States.{is_busy, is_wait, drains}
-use Rattle.sva_model.specs.Acts.{own, LocalAct, binding_of}
+use Rattle.sva_model.specs.Acts.{act_alone, LocalAct, binding_of}
 use Rattle.sva_laws.proofs.Legal.{LegalLocalAct}
 use Rattle.sva_laws.proofs.Resets.{Resets}
 use Rattle.sva_laws.proofs.Bounds.{Bounds}
@@ -55,24 +55,24 @@ SentOnly p = (c k : ℕ) → p.message c ≡ Some (InvalidateOf k) → p.order_s
 -- what is done or void stays so
 stays_done : (ms : Mappings) (g n : ℕ) (p : Endpoint) (o : LocalAct) → LegalLocalAct ms g p o → SentOnly p → (k : ℕ) → k < p.orders
     → is_undone (p.order_state k)
-    ≡ false → is_undone ((own p n o).order_state k) ≡ false
+    ≡ false → is_undone ((act_alone p n o).order_state k) ≡ false
 stays_done ms g n p o l sent k b h = grind (arith, nat_tests)
 
 -- a wait is done since before, or since now, and then nothing ahead of it is undone
 was_done : (ms : Mappings) (g n : ℕ) (p : Endpoint) (o : LocalAct) → LegalLocalAct ms g p o → (w k : ℕ) → k < w
-    → (is_busy (p.order_state w) ≡ true → is_wait (p.order w) ≡ false) → (w < p.orders ⊎ (p.order_state w ≡ Void)) → (own p n o).order_state w ≡ Done
-    → is_wait ((own p n o).order w) ≡ true → ((p.order_state w ≡ Done) × (is_wait (p.order w) ≡ true)) ⊎ (is_undone (p.order_state k) ≡ false)
+    → (is_busy (p.order_state w) ≡ true → is_wait (p.order w) ≡ false) → (w < p.orders ⊎ (p.order_state w ≡ Void)) → (act_alone p n o).order_state w ≡ Done
+    → is_wait ((act_alone p n o).order w) ≡ true → ((p.order_state w ≡ Done) × (is_wait (p.order w) ≡ true)) ⊎ (is_undone (p.order_state k) ≡ false)
 was_done ms g n p o l w k b nw made h i = grind (arith, nat_tests)
 
 made_or_void : (p : Endpoint) (g w : ℕ) → Bounds g p → (w < p.orders) ⊎ (p.order_state w ≡ Void)
 made_or_void p g w bo = grind (arith, nat_tests, bo.order_state w)
 
 done_made : (ms : Mappings) (g n : ℕ) (p : Endpoint) (o : LocalAct) → LegalLocalAct ms g p o → SentOnly p → (w : ℕ) → (w < p.orders) ⊎ (p.order_state w ≡ Void)
-    → (own p n o).order_state w ≡ Done → w < p.orders
+    → (act_alone p n o).order_state w ≡ Done → w < p.orders
 done_made ms g n p o l sent w made h = grind (arith, nat_tests)
 
 ahead_kept : (ms : Mappings) (g n : ℕ) (p : Endpoint) (o : LocalAct) → LegalLocalAct ms g p o → Bounds g p → SentOnly p → Orders p → (w k : ℕ)
-    → (own p n o).order_state w ≡ Done → is_wait ((own p n o).order w) ≡ true → k < w → is_undone ((own p n o).order_state k) ≡ false
+    → (act_alone p n o).order_state w ≡ Done → is_wait ((act_alone p n o).order w) ≡ true → k < w → is_undone ((act_alone p n o).order_state k) ≡ false
 ahead_kept ms g n p o l bo sent or w k h i b =
     let made : w < p.orders = done_made ms g n p o l sent w (made_or_void p g w bo) h in
     let old : is_undone (p.order_state k) ≡ false =
@@ -82,28 +82,29 @@ ahead_kept ms g n p o l bo sent or w k h i b =
 
 no_wait_kept : (ms : Mappings) (g n : ℕ) (p : Endpoint) (o : LocalAct) → LegalLocalAct ms g p o → SentOnly p → (k : ℕ) → (k < p.orders)
     ⊎ (p.order_state k ≡ Void)
-    → (is_busy (p.order_state k) ≡ true → is_wait (p.order k) ≡ false) → is_busy ((own p n o).order_state k) ≡ true → is_wait ((own p n o).order k) ≡ false
+    → (is_busy (p.order_state k) ≡ true → is_wait (p.order k) ≡ false) → is_busy ((act_alone p n o).order_state k) ≡ true
+    → is_wait ((act_alone p n o).order k) ≡ false
 no_wait_kept ms g n p o l sent k made old h = grind (arith, nat_tests)
 
 draining_kept : (ms : Mappings) (g n : ℕ) (p : Endpoint) (o : LocalAct) → LegalLocalAct ms g p o → (b w : ℕ)
-    → (p.stage b ≡ Draining w → (drains (p.order w) ≡ true) × (w < p.orders)) → (own p n o).stage b ≡ Draining w
-    → (drains ((own p n o).order w) ≡ true) × (w < (own p n o).orders)
+    → (p.stage b ≡ Draining w → (drains (p.order w) ≡ true) × (w < p.orders)) → (act_alone p n o).stage b ≡ Draining w
+    → (drains ((act_alone p n o).order w) ≡ true) × (w < (act_alone p n o).orders)
 draining_kept ms g n p o l b w old h = grind (arith, nat_tests)
 
 -- a wait that a binding waits for is queued or done at an open unit
 wait_state_kept : (ms : Mappings) (g n : ℕ) (p : Endpoint) (o : LocalAct) → LegalLocalAct ms g p o → SentOnly p
     → ((c : ℕ) → p.message c ≡ Some ResetDone → p.phase ≡ Cleared c) → (w : ℕ) → w < p.orders → is_wait (p.order w) ≡ true
-    → (p.phase ≡ Open → is_queued_or_done (p.order_state w) ≡ true) → p.phase ≡ Open → (own p n o).phase ≡ Open
-    → is_queued_or_done ((own p n o).order_state w) ≡ true
+    → (p.phase ≡ Open → is_queued_or_done (p.order_state w) ≡ true) → p.phase ≡ Open → (act_alone p n o).phase ≡ Open
+    → is_queued_or_done ((act_alone p n o).order_state w) ≡ true
 wait_state_kept ms g n p o l sent up w b wt old q h = grind (arith, nat_tests)
 
 -- a binding that drains or invalidates did so before, at an open unit, or begins to now
-begins_to_drain : (ms : Mappings) (g n : ℕ) (p : Endpoint) (o : LocalAct) → LegalLocalAct ms g p o → (b w : ℕ) → (own p n o).stage b ≡ Draining w
-    → (own p n o).phase ≡ Open → ((p.stage b ≡ Draining w) × (p.phase ≡ Open)) ⊎ ((w ≡ p.orders) × ((own p n o).order_state w ≡ Queued))
+begins_to_drain : (ms : Mappings) (g n : ℕ) (p : Endpoint) (o : LocalAct) → LegalLocalAct ms g p o → (b w : ℕ) → (act_alone p n o).stage b ≡ Draining w
+    → (act_alone p n o).phase ≡ Open → ((p.stage b ≡ Draining w) × (p.phase ≡ Open)) ⊎ ((w ≡ p.orders) × ((act_alone p n o).order_state w ≡ Queued))
 begins_to_drain ms g n p o l b w h i = grind (arith, nat_tests)
 
-invalidates : (ms : Mappings) (g n : ℕ) (p : Endpoint) (o : LocalAct) → LegalLocalAct ms g p o → (b k w : ℕ) → (own p n o).stage b ≡ Invalidating k w
-    → (own p n o).phase ≡ Open → ((p.stage b ≡ Invalidating k w) × (p.phase ≡ Open)) ⊎ ((own p n o).order_state w ≡ Queued)
+invalidates : (ms : Mappings) (g n : ℕ) (p : Endpoint) (o : LocalAct) → LegalLocalAct ms g p o → (b k w : ℕ) → (act_alone p n o).stage b ≡ Invalidating k w
+    → (act_alone p n o).phase ≡ Open → ((p.stage b ≡ Invalidating k w) × (p.phase ≡ Open)) ⊎ ((act_alone p n o).order_state w ≡ Queued)
 invalidates ms g n p o l b k w h i = grind (arith, nat_tests)
 
 drain_is_wait : (o : Order) → drains o ≡ true → is_wait o ≡ true
@@ -115,71 +116,73 @@ queued_is : (s : OrderState) → s ≡ Queued → is_queued_or_done s ≡ true
 queued_is s h = grind arith
 
 draining_state_kept : (ms : Mappings) (g n : ℕ) (p : Endpoint) (o : LocalAct) → LegalLocalAct ms g p o → SentOnly p → Resets n p → Orders p → (b w : ℕ)
-    → (own p n o).stage b ≡ Draining w → (own p n o).phase ≡ Open → is_queued_or_done ((own p n o).order_state w) ≡ true
+    → (act_alone p n o).stage b ≡ Draining w → (act_alone p n o).phase ≡ Open → is_queued_or_done ((act_alone p n o).order_state w) ≡ true
 draining_state_kept ms g n p o l sent re or b w h i =
     elim (begins_to_drain ms g n p o l b w h i) [
       | inl x ↦ let d = or.draining b w x.0 in wait_state_kept ms g n p o l sent re.up w d.1 (drain_is_wait (p.order w) d.0) (or.draining_state b w x.0) x.1 i
-      | inr x ↦ queued_is ((own p n o).order_state w) x.1
+      | inr x ↦ queued_is ((act_alone p n o).order_state w) x.1
     ]
 
 invalidating_kept : (ms : Mappings) (g n : ℕ) (p : Endpoint) (o : LocalAct) → LegalLocalAct ms g p o → (b k w : ℕ)
-    → (p.stage b ≡ Invalidating k w → (w ≡ suc k) × (p.order k ≡ PasidOf b) × (is_wait (p.order w) ≡ true) × (w < p.orders)) → (own p n o).stage b
-    ≡ Invalidating k w → (w ≡ suc k) × ((own p n o).order k ≡ PasidOf b) × (is_wait ((own p n o).order w) ≡ true) × (w < (own p n o).orders)
+    → (p.stage b ≡ Invalidating k w → (w ≡ suc k) × (p.order k ≡ PasidOf b) × (is_wait (p.order w) ≡ true) × (w < p.orders)) → (act_alone p n o).stage b
+    ≡ Invalidating k w → (w ≡ suc k) × ((act_alone p n o).order k ≡ PasidOf b) × (is_wait ((act_alone p n o).order w) ≡ true) × (w < (act_alone p n o).orders)
 invalidating_kept ms g n p o l b k w old h = grind (arith, nat_tests)
 
 invalidating_state_kept : (ms : Mappings) (g n : ℕ) (p : Endpoint) (o : LocalAct) → LegalLocalAct ms g p o → SentOnly p → Resets n p → Orders p → (b k w : ℕ)
-    → (own p n o).stage b ≡ Invalidating k w → (own p n o).phase ≡ Open → is_queued_or_done ((own p n o).order_state w) ≡ true
+    → (act_alone p n o).stage b ≡ Invalidating k w → (act_alone p n o).phase ≡ Open → is_queued_or_done ((act_alone p n o).order_state w) ≡ true
 invalidating_state_kept ms g n p o l sent re or b k w h i =
     elim (invalidates ms g n p o l b k w h i) [
       | inl x ↦ let d = or.invalidating b k w x.0 in wait_state_kept ms g n p o l sent re.up w d.3 d.2 (or.invalidating_state b k w x.0) x.1 i
-      | inr x ↦ queued_is ((own p n o).order_state w) x
+      | inr x ↦ queued_is ((act_alone p n o).order_state w) x
     ]
 
 -- a binding's invalidation isn't void at an open unit, so it is done where the wait behind it is
-begins_to_invalidate : (ms : Mappings) (g n : ℕ) (p : Endpoint) (o : LocalAct) → LegalLocalAct ms g p o → (b k w : ℕ) → (own p n o).stage b ≡ Invalidating k w
-    → (p.stage b ≡ Invalidating k w) ⊎ (((own p n o).order_state k ≡ Queued) × ((own p n o).order_state w ≡ Queued))
+begins_to_invalidate : (ms : Mappings) (g n : ℕ) (p : Endpoint) (o : LocalAct) → LegalLocalAct ms g p o → (b k w : ℕ)
+    → (act_alone p n o).stage b ≡ Invalidating k w
+    → (p.stage b ≡ Invalidating k w) ⊎ (((act_alone p n o).order_state k ≡ Queued) × ((act_alone p n o).order_state w ≡ Queued))
 begins_to_invalidate ms g n p o l b k w h = grind (arith, nat_tests)
 
 not_void_kept : (ms : Mappings) (g n : ℕ) (p : Endpoint) (o : LocalAct) → LegalLocalAct ms g p o → (b k w : ℕ) → p.stage b ≡ Invalidating k w
-    → (p.phase ≡ Open → p.order_state k ≢ Void) → (own p n o).stage b ≡ Invalidating k w → (own p n o).phase ≡ Open → (own p n o).order_state k ≢ Void
+    → (p.phase ≡ Open → p.order_state k ≢ Void) → (act_alone p n o).stage b ≡ Invalidating k w → (act_alone p n o).phase ≡ Open
+    → (act_alone p n o).order_state k ≢ Void
 not_void_kept ms g n p o l b k w st old h i = grind (arith, nat_tests)
 
 queued_apart : (s z : OrderState) → s ≡ Queued → is_undone z ≡ false → s ≢ z
 queued_apart s z h u = grind arith
 
-invalidation_state_kept : (ms : Mappings) (g n : ℕ) (p : Endpoint) (o : LocalAct) → LegalLocalAct ms g p o → Orders p → (b k w : ℕ) → (own p n o).stage b
-    ≡ Invalidating k w → (own p n o).phase ≡ Open → (own p n o).order_state k ≢ Void
+invalidation_state_kept : (ms : Mappings) (g n : ℕ) (p : Endpoint) (o : LocalAct) → LegalLocalAct ms g p o → Orders p → (b k w : ℕ) → (act_alone p n o).stage b
+    ≡ Invalidating k w → (act_alone p n o).phase ≡ Open → (act_alone p n o).order_state k ≢ Void
 invalidation_state_kept ms g n p o l or b k w h i =
     elim (begins_to_invalidate ms g n p o l b k w h) [
       | inl x ↦ not_void_kept ms g n p o l b k w x (or.invalidation_state b k w x) h i
-      | inr x ↦ queued_apart ((own p n o).order_state k) Void x.0 refl
+      | inr x ↦ queued_apart ((act_alone p n o).order_state k) Void x.0 refl
     ]
 
 done_behind : (ms : Mappings) (g n : ℕ) (p : Endpoint) (o : LocalAct) → LegalLocalAct ms g p o → SentOnly p → (k w : ℕ) → k < w → w < p.orders
     → is_wait (p.order w) ≡ true → (is_busy (p.order_state w) ≡ true → is_wait (p.order w) ≡ false) → (p.phase ≡ Open → p.order_state k ≢ Void)
-    → (p.order_state w ≡ Done → p.order_state k ≡ Done) → (own p n o).order_state w ≡ Done → (own p n o).order_state k ≡ Done
+    → (p.order_state w ≡ Done → p.order_state k ≡ Done) → (act_alone p n o).order_state w ≡ Done → (act_alone p n o).order_state k ≡ Done
 done_behind ms g n p o l sent k w lt made wt nw not_void old h = grind (arith, nat_tests)
 
 invalidation_done_kept : (ms : Mappings) (g n : ℕ) (p : Endpoint) (o : LocalAct) → LegalLocalAct ms g p o → SentOnly p → Orders p → (b k w : ℕ)
-    → (own p n o).stage b ≡ Invalidating k w → (own p n o).order_state w ≡ Done → (own p n o).order_state k ≡ Done
+    → (act_alone p n o).stage b ≡ Invalidating k w → (act_alone p n o).order_state w ≡ Done → (act_alone p n o).order_state k ≡ Done
 invalidation_done_kept ms g n p o l sent or b k w h i =
     elim (begins_to_invalidate ms g n p o l b k w h) [
       | inl x ↦ let d = or.invalidating b k w x in done_behind ms g n p o l sent k w (omega (arith, d.0)) d.3 d.2 (or.no_wait w)
           (or.invalidation_state b k w x) (or.invalidation_done b k w x) i
-      | inr x ↦ absurd (queued_apart ((own p n o).order_state w) Done x.1 refl i)
+      | inr x ↦ absurd (queued_apart ((act_alone p n o).order_state w) Done x.1 refl i)
     ]
 
 -- an order is void only by a reset
 void_kept : (ms : Mappings) (g n : ℕ) (p : Endpoint) (o : LocalAct) → LegalLocalAct ms g p o → (k : ℕ)
-    → (k < p.orders → p.order_state k ≡ Void → p.phase ≡ Open → 0 < p.resets) → k < (own p n o).orders → (own p n o).order_state k ≡ Void
-    → (own p n o).phase ≡ Open → 0 < (own p n o).resets
+    → (k < p.orders → p.order_state k ≡ Void → p.phase ≡ Open → 0 < p.resets) → k < (act_alone p n o).orders → (act_alone p n o).order_state k ≡ Void
+    → (act_alone p n o).phase ≡ Open → 0 < (act_alone p n o).resets
 void_kept ms g n p o l k old lt h i = grind (arith, nat_tests)
 
 undone_before_kept : (ms : Mappings) (g n : ℕ) (p : Endpoint) (o : LocalAct) → LegalLocalAct ms g p o → SentOnly p → (b k w x : ℕ) → (x < p.orders)
     ⊎ (p.order_state x ≡ Void)
     → (p.stage b ≡ Invalidating k w → is_undone (p.order_state x) ≡ true → is_wait (p.order x) ≡ false → binding_of (p.order x) ≡ b → x < w)
-    → (own p n o).stage b ≡ Invalidating k w → is_undone ((own p n o).order_state x) ≡ true → is_wait ((own p n o).order x) ≡ false
-    → binding_of ((own p n o).order x) ≡ b → x < w
+    → (act_alone p n o).stage b ≡ Invalidating k w → is_undone ((act_alone p n o).order_state x) ≡ true → is_wait ((act_alone p n o).order x) ≡ false
+    → binding_of ((act_alone p n o).order x) ≡ b → x < w
 undone_before_kept ms g n p o l sent b k w x made old h i j e = grind (arith, nat_tests)
 
 -- when its wait is done, nothing is undone of a binding that invalidates
@@ -196,12 +199,12 @@ undone_stage_kept : (ms : Mappings) (g n : ℕ) (p : Endpoint) (o : LocalAct) �
     → ((b k w : ℕ) → p.stage b ≡ Invalidating k w → p.order_state w ≡ Done → is_undone (p.order_state x) ≡ true → is_wait (p.order x) ≡ false
     → binding_of (p.order x) ≢ b)
     → (is_undone (p.order_state x) ≡ true → is_wait (p.order x) ≡ false → is_active (p.stage (binding_of (p.order x))) ≡ true)
-    → is_undone ((own p n o).order_state x) ≡ true → is_wait ((own p n o).order x) ≡ false
-    → is_active ((own p n o).stage (binding_of ((own p n o).order x))) ≡ true
+    → is_undone ((act_alone p n o).order_state x) ≡ true → is_wait ((act_alone p n o).order x) ≡ false
+    → is_active ((act_alone p n o).stage (binding_of ((act_alone p n o).order x))) ≡ true
 undone_stage_kept ms g n p o l sent x made quiet old h i = grind (arith, nat_tests)
 
 pub every : (ms : Mappings) (g n : ℕ) (p : Endpoint) (o : LocalAct) → LegalLocalAct ms g p o → Resets n p → Bounds g p → Labels p → Orders p
-    → Orders (own p n o)
+    → Orders (act_alone p n o)
 every ms g n p o l re bo la or =
     record {
       no_wait = λ k h. no_wait_kept ms g n p o l la.sent k (made_or_void p g k bo) (or.no_wait k) h;

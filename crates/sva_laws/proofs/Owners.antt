@@ -13,7 +13,7 @@ use Rattle.sva_model.specs.State.OrderState.{Queued, Sent, Taken, Done}
 use Rattle.sva_model.specs.State.Subject.{CompletionOf, ResetDone}
 use Rattle.sva_model.specs.State.Phase.{Open, Cleared}
 use Rattle.sva_model.specs.States.{is_open, is_wait, is_taken, uses_noted, covers}
-use Rattle.sva_model.specs.Acts.{own, LocalAct, binding_of}
+use Rattle.sva_model.specs.Acts.{act_alone, LocalAct, binding_of}
 use Rattle.sva_model.specs.Acts.LocalAct.{Finish}
 use Rattle.sva_laws.proofs.Legal.{LegalLocalAct}
 use Rattle.sva_laws.proofs.Resets.{Resets}
@@ -64,14 +64,14 @@ held_kept : (ms : Mappings) (g n : ℕ) (p : Endpoint) (o : LocalAct) → LegalL
     → ((r : ℕ) → p.request r ≡ Out → is_unmarked (p.stage (p.request_binding r)) ≡ true) → (r m : ℕ)
     → (p.held r ≡ Some m → is_active (p.stage (p.request_binding r)) ≡ true) → ((r : ℕ) → p.requests ≤ r → p.held r ≡ None)
     → ((k w : ℕ) → p.phase ≡ Open → p.stage (p.request_binding r) ≡ Invalidating k w → p.order_state w ≡ Done → p.held r ≢ Some m)
-    → (own p n o).held r ≡ Some m → is_active ((own p n o).stage ((own p n o).request_binding r)) ≡ true
+    → (act_alone p n o).held r ≡ Some m → is_active ((act_alone p n o).stage ((act_alone p n o).request_binding r)) ≡ true
 held_kept ms g n p o l left asker r m old bound quiet h = grind (arith, nat_tests, bound r, left.up, left.empty)
 
 running_kept : (ms : Mappings) (g n : ℕ) (p : Endpoint) (o : LocalAct) → LegalLocalAct ms g p o
     → ((r m : ℕ) → p.held r ≡ Some m → is_active (p.stage (p.request_binding r)) ≡ true) → NoneLeft p → (u : ℕ)
     → (p.use_state u ≡ Running → is_active (p.stage (p.use_binding u)) ≡ true)
     → ((k w : ℕ) → p.phase ≡ Open → p.stage (p.use_binding u) ≡ Invalidating k w → p.order_state w ≡ Done → p.use_state u ≢ Running)
-    → (own p n o).use_state u ≡ Running → is_active ((own p n o).stage ((own p n o).use_binding u)) ≡ true
+    → (act_alone p n o).use_state u ≡ Running → is_active ((act_alone p n o).stage ((act_alone p n o).use_binding u)) ≡ true
 running_kept ms g n p o l held left u old quiet h = grind (arith, nat_tests, left.up, left.dead)
 
 blocks_undone : (s : OrderState) (age : ℕ) → blocks s age ≡ true → is_undone s ≡ true
@@ -93,13 +93,13 @@ running_quiet ms p or ow u k w ph st d h =
 
 held_space_kept : (ms : Mappings) (g n : ℕ) (p : Endpoint) (o : LocalAct) → LegalLocalAct ms g p o → (r m : ℕ) → (p.requests ≤ r → p.held r ≡ None)
     → (p.held r ≡ Some m → ms.space m ≡ p.space (p.request_binding r)) → (p.held r ≡ Some m → is_active (p.stage (p.request_binding r)) ≡ true)
-    → ((c : ℕ) → p.message c ≡ Some (CompletionOf r (Some m)) → ms.space m ≡ p.space (p.request_binding r)) → (own p n o).held r ≡ Some m
-    → ms.space m ≡ (own p n o).space ((own p n o).request_binding r)
+    → ((c : ℕ) → p.message c ≡ Some (CompletionOf r (Some m)) → ms.space m ≡ p.space (p.request_binding r)) → (act_alone p n o).held r ≡ Some m
+    → ms.space m ≡ (act_alone p n o).space ((act_alone p n o).request_binding r)
 held_space_kept ms g n p o l r m bound old act flying h = grind (arith, nat_tests)
 
 held_page_kept : (ms : Mappings) (g n : ℕ) (p : Endpoint) (o : LocalAct) → LegalLocalAct ms g p o → (r m : ℕ) → (p.requests ≤ r → p.held r ≡ None)
     → (p.held r ≡ Some m → ms.page m ≡ p.request_page r) → ((c : ℕ) → p.message c ≡ Some (CompletionOf r (Some m)) → ms.page m ≡ p.request_page r)
-    → (own p n o).held r ≡ Some m → ms.page m ≡ (own p n o).request_page r
+    → (act_alone p n o).held r ≡ Some m → ms.page m ≡ (act_alone p n o).request_page r
 held_page_kept ms g n p o l r m bound old flying h = grind (arith, nat_tests)
 
 -- the mapping that a page of a space leads to is of that space and page
@@ -108,33 +108,33 @@ Leads ms = (s q m : ℕ) → ms.at s q ≡ Some m → (ms.space m ≡ s) × (ms.
 
 flying_space_kept : (ms : Mappings) (g n : ℕ) (p : Endpoint) (o : LocalAct) → LegalLocalAct ms g p o → Leads ms → (c r m : ℕ)
     → (p.message c ≡ Some (CompletionOf r (Some m)) → r < p.requests) → (r < p.requests → p.stage (p.request_binding r) ≢ Unbound)
-    → (p.message c ≡ Some (CompletionOf r (Some m)) → ms.space m ≡ p.space (p.request_binding r)) → (own p n o).message c
-    ≡ Some (CompletionOf r (Some m)) → ms.space m ≡ (own p n o).space ((own p n o).request_binding r)
+    → (p.message c ≡ Some (CompletionOf r (Some m)) → ms.space m ≡ p.space (p.request_binding r)) → (act_alone p n o).message c
+    ≡ Some (CompletionOf r (Some m)) → ms.space m ≡ (act_alone p n o).space ((act_alone p n o).request_binding r)
 flying_space_kept ms g n p o l le c r m bound made old h = grind (arith, nat_tests, le (p.space (p.request_binding r)) (p.request_page r) m)
 
 flying_page_kept : (ms : Mappings) (g n : ℕ) (p : Endpoint) (o : LocalAct) → LegalLocalAct ms g p o → Leads ms → (c r m : ℕ)
     → (p.message c ≡ Some (CompletionOf r (Some m)) → r < p.requests) → (p.message c ≡ Some (CompletionOf r (Some m)) → ms.page m ≡ p.request_page r)
-    → (own p n o).message c ≡ Some (CompletionOf r (Some m)) → ms.page m ≡ (own p n o).request_page r
+    → (act_alone p n o).message c ≡ Some (CompletionOf r (Some m)) → ms.page m ≡ (act_alone p n o).request_page r
 flying_page_kept ms g n p o l le c r m bound old h = grind (arith, nat_tests, le (p.space (p.request_binding r)) (p.request_page r) m)
 
 held_made_kept : (ms : Mappings) (g n : ℕ) (p : Endpoint) (o : LocalAct) → LegalLocalAct ms g p o → (r m : ℕ) → (p.held r ≡ Some m → m < ms.made)
-    → ((c : ℕ) → p.message c ≡ Some (CompletionOf r (Some m)) → m < ms.made) → (own p n o).held r ≡ Some m → m < ms.made
+    → ((c : ℕ) → p.message c ≡ Some (CompletionOf r (Some m)) → m < ms.made) → (act_alone p n o).held r ≡ Some m → m < ms.made
 held_made_kept ms g n p o l r m old flying h = grind (arith, nat_tests)
 
 flying_made_kept : (ms : Mappings) (g n : ℕ) (p : Endpoint) (o : LocalAct) → LegalLocalAct ms g p o → Leads ms → (c r m : ℕ)
-    → (p.message c ≡ Some (CompletionOf r (Some m)) → m < ms.made) → (own p n o).message c ≡ Some (CompletionOf r (Some m)) → m < ms.made
+    → (p.message c ≡ Some (CompletionOf r (Some m)) → m < ms.made) → (act_alone p n o).message c ≡ Some (CompletionOf r (Some m)) → m < ms.made
 flying_made_kept ms g n p o l le c r m old h = grind (arith, nat_tests, le (p.space (p.request_binding r)) (p.request_page r) m)
 
 running_made_kept : (ms : Mappings) (g n : ℕ) (p : Endpoint) (o : LocalAct) → LegalLocalAct ms g p o → (u : ℕ) → ((r m : ℕ) → p.held r ≡ Some m → m < ms.made)
-    → (p.uses ≤ u → p.use_state u ≡ Ended) → (p.use_state u ≡ Running → p.use_mapping u < ms.made) → (own p n o).use_state u ≡ Running
-    → (own p n o).use_mapping u < ms.made
+    → (p.uses ≤ u → p.use_state u ≡ Ended) → (p.use_state u ≡ Running → p.use_mapping u < ms.made) → (act_alone p n o).use_state u ≡ Running
+    → (act_alone p n o).use_mapping u < ms.made
 running_made_kept ms g n p o l u held bound old h = grind (arith, nat_tests)
 
 running_space_kept : (ms : Mappings) (g n : ℕ) (p : Endpoint) (o : LocalAct) → LegalLocalAct ms g p o
     → ((r m : ℕ) → p.held r ≡ Some m → ms.space m ≡ p.space (p.request_binding r)) → (u : ℕ) → (p.uses ≤ u → p.use_state u ≡ Ended)
     → (p.use_state u ≡ Running → is_active (p.stage (p.use_binding u)) ≡ true)
-    → (p.use_state u ≡ Running → ms.space (p.use_mapping u) ≡ p.space (p.use_binding u)) → (own p n o).use_state u ≡ Running
-    → ms.space ((own p n o).use_mapping u) ≡ (own p n o).space ((own p n o).use_binding u)
+    → (p.use_state u ≡ Running → ms.space (p.use_mapping u) ≡ p.space (p.use_binding u)) → (act_alone p n o).use_state u ≡ Running
+    → ms.space ((act_alone p n o).use_mapping u) ≡ (act_alone p n o).space ((act_alone p n o).use_binding u)
 running_space_kept ms g n p o l held u bound act old h = grind (arith, nat_tests)
 
 held_open_kept : (ms : Mappings) (g n : ℕ) (p : Endpoint) (o : LocalAct) → LegalLocalAct ms g p o → NoneLeft p → SentOnly p
@@ -142,15 +142,16 @@ held_open_kept : (ms : Mappings) (g n : ℕ) (p : Endpoint) (o : LocalAct) → L
     → (p.stage (p.request_binding r) ≡ Invalidating k w → (k < p.orders) × (p.order k ≡ PasidOf (p.request_binding r)))
     → ((x : ℕ) → p.order_state k ≡ Taken x → x ≤ p.uses)
     → (p.held r ≡ Some m → p.stage (p.request_binding r) ≡ Invalidating k w → p.phase ≡ Open → blocks (p.order_state k) p.uses ≡ true)
-    → (own p n o).held r ≡ Some m → (own p n o).stage ((own p n o).request_binding r) ≡ Invalidating k w → (own p n o).phase ≡ Open
-    → blocks ((own p n o).order_state k) (own p n o).uses ≡ true
+    → (act_alone p n o).held r ≡ Some m → (act_alone p n o).stage ((act_alone p n o).request_binding r) ≡ Invalidating k w → (act_alone p n o).phase ≡ Open
+    → blocks ((act_alone p n o).order_state k) (act_alone p n o).uses ≡ true
 held_open_kept ms g n p o l left sent asker r m k w bound inv noted old h i j = grind (arith, nat_tests, left.up, left.empty)
 
 held_closed_kept : (ms : Mappings) (g n : ℕ) (p : Endpoint) (o : LocalAct) → LegalLocalAct ms g p o → NoneLeft p → SentOnly p
     → ((r : ℕ) → p.request r ≡ Out → is_unmarked (p.stage (p.request_binding r)) ≡ true) → (r m k w : ℕ) → (p.requests ≤ r → p.held r ≡ None)
     → (p.held r ≡ Some m → p.stage (p.request_binding r) ≡ Invalidating k w → p.phase ≡ Open → blocks (p.order_state k) p.uses ≡ true)
-    → (p.held r ≡ Some m → p.stage (p.request_binding r) ≡ Invalidating k w → is_open p.phase ≡ false → p.order_state k ≢ Done) → (own p n o).held r
-    ≡ Some m → (own p n o).stage ((own p n o).request_binding r) ≡ Invalidating k w → is_open (own p n o).phase ≡ false → (own p n o).order_state k ≢ Done
+    → (p.held r ≡ Some m → p.stage (p.request_binding r) ≡ Invalidating k w → is_open p.phase ≡ false → p.order_state k ≢ Done) → (act_alone p n o).held r
+    ≡ Some m → (act_alone p n o).stage ((act_alone p n o).request_binding r) ≡ Invalidating k w → is_open (act_alone p n o).phase ≡ false
+    → (act_alone p n o).order_state k ≢ Done
 held_closed_kept ms g n p o l left sent asker r m k w bound opened old h i j d = grind (arith, nat_tests, left.up, left.empty)
 
 -- does the act finish the order?
@@ -175,23 +176,25 @@ running_open_kept : (ms : Mappings) (g n : ℕ) (p : Endpoint) (o : LocalAct) �
     → (p.stage (p.use_binding u) ≡ Invalidating k w → (k < p.orders) × (p.order k ≡ PasidOf (p.use_binding u)))
     → (p.use_state u ≡ Running → covers (p.order k) (p.use_binding u) (ms.page (p.use_mapping u)) ≡ true → blocks (p.order_state k) u ≡ true
     → finishes o k ≡ false) → (p.use_state u ≡ Running → p.stage (p.use_binding u) ≡ Invalidating k w → p.phase ≡ Open → blocks (p.order_state k) u
-    ≡ true) → (own p n o).use_state u ≡ Running → (own p n o).stage ((own p n o).use_binding u) ≡ Invalidating k w → (own p n o).phase ≡ Open
-    → blocks ((own p n o).order_state k) u ≡ true
+    ≡ true) → (act_alone p n o).use_state u ≡ Running → (act_alone p n o).stage ((act_alone p n o).use_binding u) ≡ Invalidating k w
+    → (act_alone p n o).phase ≡ Open
+    → blocks ((act_alone p n o).order_state k) u ≡ true
 running_open_kept ms g n p o l left sent on u k w bound inv spared old h i j = grind (arith, nat_tests, left.up, left.dead)
 
 running_closed_kept : (ms : Mappings) (g n : ℕ) (p : Endpoint) (o : LocalAct) → LegalLocalAct ms g p o → NoneLeft p → SentOnly p
     → ((r : ℕ) → p.pasid_state r ≡ On → is_unmarked (p.stage r) ≡ true) → (u k w : ℕ) → (p.uses ≤ u → p.use_state u ≡ Ended)
     → (p.use_state u ≡ Running → p.stage (p.use_binding u) ≡ Invalidating k w → p.phase ≡ Open → blocks (p.order_state k) u ≡ true)
     → (p.use_state u ≡ Running → p.stage (p.use_binding u) ≡ Invalidating k w → is_open p.phase ≡ false → p.order_state k ≢ Done)
-    → (own p n o).use_state u ≡ Running → (own p n o).stage ((own p n o).use_binding u) ≡ Invalidating k w → is_open (own p n o).phase ≡ false
-    → (own p n o).order_state k ≢ Done
+    → (act_alone p n o).use_state u ≡ Running → (act_alone p n o).stage ((act_alone p n o).use_binding u) ≡ Invalidating k w
+    → is_open (act_alone p n o).phase ≡ false
+    → (act_alone p n o).order_state k ≢ Done
 running_closed_kept ms g n p o l left sent on u k w bound opened old h i j d = grind (arith, nat_tests, left.up, left.dead)
 
 invalidating_order : (p : Endpoint) → Orders p → (b k w : ℕ) → p.stage b ≡ Invalidating k w → (k < p.orders) × (p.order k ≡ PasidOf b)
 invalidating_order p or b k w h = let i = or.invalidating b k w h in (omega (arith, i), i.1)
 
 pub every : (ms : Mappings) (g n : ℕ) (p : Endpoint) (o : LocalAct) → LegalLocalAct ms g p o → Leads ms → Resets n p → Bounds g p → Bindings p → Labels p
-    → Requests p → Orders p → Owners ms p → Owners ms (own p n o)
+    → Requests p → Orders p → Owners ms p → Owners ms (act_alone p n o)
 every ms g n p o l le re bo bi la ra or ow =
     record {
       held = λ r m h. held_kept ms g n p o l (none_left n p re) (λ x. asker_stage p x bi ra) r m (ow.held r m) bo.held

@@ -10,7 +10,7 @@ use Rattle.sva_model.specs.State.HostGroupState.{NotFiled, Job, InHand, Replied,
 use Rattle.sva_model.specs.State.Subject.{PageRequestOf, ResponseOf, ResetDone}
 use Rattle.sva_model.specs.State.Phase.{Open, Cleared}
 use Rattle.sva_model.specs.States.{is_outstanding, is_before_invalidating}
-use Rattle.sva_model.specs.Acts.{own, LocalAct}
+use Rattle.sva_model.specs.Acts.{act_alone, LocalAct}
 use Rattle.sva_model.specs.Acts.LocalAct.{File, Reopen}
 use Rattle.sva_laws.proofs.Legal.{LegalLocalAct}
 use Rattle.sva_laws.proofs.Resets.{Resets}
@@ -24,7 +24,7 @@ pub record Queued (p : Endpoint) : Type 0 where
   pub landed : (k : ℕ) → k < p.arrivals → p.page_request (p.arrival k) ≢ InFlight
   pub made : (r : ℕ) → p.page_request r ≡ InFlight → r < p.page_requests
 
-pub queued : (ms : Mappings) (g n : ℕ) (p : Endpoint) (o : LocalAct) → LegalLocalAct ms g p o → Resets n p → Bounds g p → Queued p → Queued (own p n o)
+pub queued : (ms : Mappings) (g n : ℕ) (p : Endpoint) (o : LocalAct) → LegalLocalAct ms g p o → Resets n p → Bounds g p → Queued p → Queued (act_alone p n o)
 queued ms g n p o l re bo qu =
     record {
       in_flight = λ c r h. grind (arith, nat_tests, qu.in_flight c r, bo.requested c r, re.unsent c);
@@ -56,8 +56,9 @@ pub record Lasts (p : Endpoint) : Type 0 where
   pub out : (r : ℕ) → p.phase ≡ Open → (p.page_request r ≡ InFlight) ⊎ (p.page_request r ≡ Arrived) → is_outstanding (p.group (p.group_of r)) ≡ true
 
 last_group_kept : (ms : Mappings) (g n : ℕ) (p : Endpoint) (o : LocalAct) → LegalLocalAct ms g p o → (r : ℕ) → (r < p.page_requests → p.group_of r < p.groups)
-    → (r < p.page_requests → p.is_last r ≡ true → p.group (p.group_of r) ≢ Collecting) → r < (own p n o).page_requests → (own p n o).is_last r ≡ true
-    → (own p n o).group ((own p n o).group_of r) ≢ Collecting
+    → (r < p.page_requests → p.is_last r ≡ true → p.group (p.group_of r) ≢ Collecting) → r < (act_alone p n o).page_requests
+    → (act_alone p n o).is_last r ≡ true
+    → (act_alone p n o).group ((act_alone p n o).group_of r) ≢ Collecting
 last_group_kept ms g n p o l r bo old h i j = grind (arith, nat_tests)
 
 either_made : (g : ℕ) (p : Endpoint) → Bounds g p → Queued p → (r : ℕ) → (p.page_request r ≡ InFlight) ⊎ (p.page_request r ≡ Arrived) → r < p.page_requests
@@ -68,8 +69,8 @@ last_once_kept : (ms : Mappings) (g n : ℕ) (p : Endpoint) (o : LocalAct) → L
     → (x < p.page_requests → p.group_of x < p.groups) → (r < p.page_requests → p.is_last r ≡ true → p.group (p.group_of r) ≢ Collecting)
     → (x < p.page_requests → p.is_last x ≡ true → p.group (p.group_of x) ≢ Collecting)
     → (r < p.page_requests → x < p.page_requests → p.is_last r ≡ true → p.is_last x ≡ true → p.group_of r ≡ p.group_of x → r ≡ x) → r
-    < (own p n o).page_requests → x < (own p n o).page_requests → (own p n o).is_last r ≡ true → (own p n o).is_last x ≡ true
-    → (own p n o).group_of r ≡ (own p n o).group_of x → r ≡ x
+    < (act_alone p n o).page_requests → x < (act_alone p n o).page_requests → (act_alone p n o).is_last r ≡ true → (act_alone p n o).is_last x ≡ true
+    → (act_alone p n o).group_of r ≡ (act_alone p n o).group_of x → r ≡ x
 last_once_kept ms g n p o l r x ir ix gr gx old h i j k e = grind (arith, nat_tests)
 
 last_flight_kept : (ms : Mappings) (g n : ℕ) (p : Endpoint) (o : LocalAct) → LegalLocalAct ms g p o → (c d y x : ℕ)
@@ -77,8 +78,8 @@ last_flight_kept : (ms : Mappings) (g n : ℕ) (p : Endpoint) (o : LocalAct) →
     → (n ≤ d → p.message d ≡ None) → (p.message c ≡ Some (PageRequestOf y) → y < p.page_requests)
     → (p.message d ≡ Some (PageRequestOf x) → x < p.page_requests) → (y < p.page_requests → p.is_last y ≡ true → p.group (p.group_of y) ≢ Collecting)
     → (p.message c ≡ Some (PageRequestOf y) → p.is_last y ≡ true → p.message d ≡ Some (PageRequestOf x) → p.group_of x ≡ p.group_of y → d ≤ c)
-    → (own p n o).message c ≡ Some (PageRequestOf y) → (own p n o).is_last y ≡ true → (own p n o).message d ≡ Some (PageRequestOf x)
-    → (own p n o).group_of x ≡ (own p n o).group_of y → d ≤ c
+    → (act_alone p n o).message c ≡ Some (PageRequestOf y) → (act_alone p n o).is_last y ≡ true → (act_alone p n o).message d ≡ Some (PageRequestOf x)
+    → (act_alone p n o).group_of x ≡ (act_alone p n o).group_of y → d ≤ c
 last_flight_kept ms g n p o l c d y x iy ix uc ud my mx gy old h i j e = grind (arith, nat_tests)
 
 last_arrived_kept : (ms : Mappings) (g n : ℕ) (p : Endpoint) (o : LocalAct) → LegalLocalAct ms g p o → (y x : ℕ)
@@ -88,8 +89,8 @@ last_arrived_kept : (ms : Mappings) (g n : ℕ) (p : Endpoint) (o : LocalAct) �
     → (p.page_request x ≡ InFlight → p.message (p.page_request_message x) ≡ Some (PageRequestOf x))
     → ((c : ℕ) → p.message c ≡ Some (PageRequestOf y) → p.is_last y ≡ true → p.message (p.page_request_message x) ≡ Some (PageRequestOf x)
     → p.group_of x ≡ p.group_of y → p.page_request_message x ≤ c) → ((c : ℕ) → p.message c ≡ Some (PageRequestOf y) → y < p.page_requests)
-    → (p.page_request y ≡ Arrived → p.is_last y ≡ true → p.group_of x ≡ p.group_of y → p.page_request x ≢ InFlight) → (own p n o).page_request y
-    ≡ Arrived → (own p n o).is_last y ≡ true → (own p n o).group_of x ≡ (own p n o).group_of y → (own p n o).page_request x ≢ InFlight
+    → (p.page_request y ≡ Arrived → p.is_last y ≡ true → p.group_of x ≡ p.group_of y → p.page_request x ≢ InFlight) → (act_alone p n o).page_request y
+    ≡ Arrived → (act_alone p n o).is_last y ≡ true → (act_alone p n o).group_of x ≡ (act_alone p n o).group_of y → (act_alone p n o).page_request x ≢ InFlight
 last_arrived_kept ms g n p o l y x iy ix my mx gy ms' fl mm old h i e j = grind (arith, nat_tests)
 
 last_order_kept : (ms : Mappings) (g n : ℕ) (p : Endpoint) (o : LocalAct) → LegalLocalAct ms g p o → (y x : ℕ)
@@ -97,8 +98,8 @@ last_order_kept : (ms : Mappings) (g n : ℕ) (p : Endpoint) (o : LocalAct) → 
     → (p.page_request y ≡ Arrived → y < p.page_requests) → (p.page_request x ≡ Arrived → x < p.page_requests)
     → (p.page_request y ≡ Arrived → p.is_last y ≡ true → p.group_of x ≡ p.group_of y → p.page_request x ≢ InFlight)
     → (p.page_request y ≡ Arrived → p.is_last y ≡ true → p.group_of x ≡ p.group_of y → p.page_request x ≡ Arrived → p.arrived_as x ≤ p.arrived_as y)
-    → (own p n o).page_request y ≡ Arrived → (own p n o).is_last y ≡ true → (own p n o).group_of x ≡ (own p n o).group_of y
-    → (own p n o).page_request x ≡ Arrived → (own p n o).arrived_as x ≤ (own p n o).arrived_as y
+    → (act_alone p n o).page_request y ≡ Arrived → (act_alone p n o).is_last y ≡ true → (act_alone p n o).group_of x ≡ (act_alone p n o).group_of y
+    → (act_alone p n o).page_request x ≡ Arrived → (act_alone p n o).arrived_as x ≤ (act_alone p n o).arrived_as y
 last_order_kept ms g n p o l y x ax fx my mx na old h i e j = grind (arith, nat_tests)
 
 -- a worker's answer is sent for a job that the host still has
@@ -108,7 +109,7 @@ HasJob p = (x w : ℕ) → p.phase ≡ Open → p.host_group x ≡ InHandDiscard
 whole_group_kept : (ms : Mappings) (g n : ℕ) (p : Endpoint) (o : LocalAct) → LegalLocalAct ms g p o → HasJob p
     → ((r : ℕ) → r < p.page_requests → p.is_last r ≡ true → p.group (p.group_of r) ≢ Collecting)
     → ((r : ℕ) → p.page_request r ≡ Arrived → r < p.page_requests) → (x : ℕ) → (p.groups ≤ x → p.host_group x ≡ NotFiled)
-    → (is_whole (p.host_group x) ≡ true → p.group x ≢ Collecting) → is_whole ((own p n o).host_group x) ≡ true → (own p n o).group x ≢ Collecting
+    → (is_whole (p.host_group x) ≡ true → p.group x ≢ Collecting) → is_whole ((act_alone p n o).host_group x) ≡ true → (act_alone p n o).group x ≢ Collecting
 whole_group_kept ms g n p o l hj lg ar x bo old h i = grind (arith, nat_tests, hj x)
 
 pub arrived_made : (g : ℕ) (p : Endpoint) → Bounds g p → (r : ℕ) → p.page_request r ≡ Arrived → r < p.page_requests
@@ -146,14 +147,15 @@ whole_kept : (ms : Mappings) (g n : ℕ) (p : Endpoint) (o : LocalAct) → Legal
     → (p.host_group p.groups ≡ NotFiled) → (r < p.page_requests → p.group_of r < p.groups)
     → ((c : ℕ) → p.message c ≡ Some (PageRequestOf r) → p.page_request r ≡ InFlight)
     → (is_whole (p.host_group (p.group_of r)) ≡ true → r < p.page_requests → p.page_request r ≡ Filed)
-    → ((x : ℕ) → is_whole (p.host_group x) ≡ true → p.group x ≢ Collecting) → is_whole ((own p n o).host_group ((own p n o).group_of r)) ≡ true → r
-    < (own p n o).page_requests → (own p n o).page_request r ≡ Filed
+    → ((x : ℕ) → is_whole (p.host_group x) ≡ true → p.group x ≢ Collecting) → is_whole ((act_alone p n o).host_group ((act_alone p n o).group_of r)) ≡ true → r
+    < (act_alone p n o).page_requests → (act_alone p n o).page_request r ≡ Filed
 whole_kept ms g n p o l hj r fl nf bo fi old wg h i = grind (arith, nat_tests, hj (p.group_of r))
 
 kept_kept : (ms : Mappings) (g n : ℕ) (p : Endpoint) (o : LocalAct) → LegalLocalAct ms g p o → ((c : ℕ) → p.message c ≡ Some ResetDone → p.phase ≡ Cleared c)
     → ((c x : ℕ) → p.phase ≡ Cleared c → p.group x ≡ Closed) → (r : ℕ) → (r < p.page_requests → p.group_of r < p.groups)
-    → (p.phase ≡ Open → r < p.page_requests → is_outstanding (p.group (p.group_of r)) ≡ true → p.page_request r ≢ Dropped) → (own p n o).phase ≡ Open
-    → r < (own p n o).page_requests → is_outstanding ((own p n o).group ((own p n o).group_of r)) ≡ true → (own p n o).page_request r ≢ Dropped
+    → (p.phase ≡ Open → r < p.page_requests → is_outstanding (p.group (p.group_of r)) ≡ true → p.page_request r ≢ Dropped) → (act_alone p n o).phase ≡ Open
+    → r < (act_alone p n o).page_requests → is_outstanding ((act_alone p n o).group ((act_alone p n o).group_of r)) ≡ true
+    → (act_alone p n o).page_request r ≢ Dropped
 kept_kept ms g n p o l up fin r bo old h i j k = grind (arith, nat_tests)
 
 abbrev pub NoneBehind : Endpoint → LocalAct → (r : ℕ) → Type 0
@@ -166,8 +168,8 @@ out_kept : (ms : Mappings) (g n : ℕ) (p : Endpoint) (o : LocalAct) → LegalLo
     → ((p.page_request r ≡ InFlight) ⊎ (p.page_request r ≡ Arrived) → r < p.page_requests) → (r < p.page_requests → p.group_of r < p.groups)
     → NoneBehind p o r → ((c : ℕ) → p.message c ≡ Some (PageRequestOf r) → p.page_request r ≡ InFlight)
     → (p.phase ≡ Open → (p.page_request r ≡ InFlight) ⊎ (p.page_request r ≡ Arrived) → is_outstanding (p.group (p.group_of r)) ≡ true)
-    → (own p n o).phase ≡ Open → ((own p n o).page_request r ≡ InFlight) ⊎ ((own p n o).page_request r ≡ Arrived)
-    → is_outstanding ((own p n o).group ((own p n o).group_of r)) ≡ true
+    → (act_alone p n o).phase ≡ Open → ((act_alone p n o).page_request r ≡ InFlight) ⊎ ((act_alone p n o).page_request r ≡ Arrived)
+    → is_outstanding ((act_alone p n o).group ((act_alone p n o).group_of r)) ≡ true
 out_kept ms g n p o l rs r wh made bo gone fi old h i = grind (arith, nat_tests)
 
 -- when a reset-done arrives, no page request is in flight or arrived
@@ -184,7 +186,7 @@ none_behind ms g n p (Reopen c) l re qu r = gone_then n p re qu c l.1 l.0 r
 none_behind ms g n p _ l re qu r = tt
 
 pub lasts : (ms : Mappings) (g n : ℕ) (p : Endpoint) (o : LocalAct) → LegalLocalAct ms g p o → Resets n p → Bounds g p → Queued p → HasJob p
-    → ((c x : ℕ) (code : Code) → p.message c ≡ Some (ResponseOf x code) → is_whole (p.host_group x) ≡ true) → Lasts p → Lasts (own p n o)
+    → ((c x : ℕ) (code : Code) → p.message c ≡ Some (ResponseOf x code) → is_whole (p.host_group x) ≡ true) → Lasts p → Lasts (act_alone p n o)
 lasts ms g n p o l re bo qu hj rs la =
     record {
       last_group = λ r h i. last_group_kept ms g n p o l r (bo.group_of r) (la.last_group r) h i;

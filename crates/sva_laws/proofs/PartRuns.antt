@@ -2,7 +2,7 @@
 use Rattle.std.specs.Prelude.{ℕ, Bool, true, false, Option, Some, None, List, [], ◌∷◌}
 use Rattle.sva_step.specs.declared.steps.Step.{Step}
 use Rattle.sva_model.specs.State.{Endpoint, World}
-use Rattle.sva_model.specs.Acts.{Act, LocalAct, act, own, submitted, submitted_if, submits, bound, cookie_of}
+use Rattle.sva_model.specs.Acts.{Act, LocalAct, act, act_alone, submitted, submitted_if, submits, bound, cookie_of}
 use Rattle.sva_model.specs.Acts.Act.{NewSpace, DropSpace, Map, Unmap, NewBinding, NewJob, Hold, LetGo, AtEndpoint}
 use Rattle.sva_model.specs.Steps.{decide, next, run, after_acts}
 use Rattle.sva_laws.proofs.Legal.{LegalLocalAct}
@@ -16,7 +16,7 @@ use Rattle.sva_laws.proofs.Runs.{step_legal, next_keeps}
 pub record IsKeptByParts (P : Endpoint → Type 0) : Type 0 where
   pub kept : (w : World) (e : ℕ) (o : LocalAct) → LegalLocalAct w.mappings w.bindings (w.part e) o
       → PartInvariant w.mappings w.config.endpoints w.bindings w.messages e (w.part e) → Fronts w.cookies (w.part e) → P (w.part e)
-      → P (own (w.part e) w.messages o)
+      → P (act_alone (w.part e) w.messages o)
   pub more : (p : Endpoint) (b q count order cookie : ℕ) → P p → P (submitted p b q count order cookie)
 
 more_if : (P : Endpoint → Type 0) → IsKeptByParts P → (t : Bool) (p : Endpoint) (o : Option ℕ) (q count order cookie : ℕ) → P p
@@ -36,7 +36,7 @@ act_part P k w (NewJob d g) l i f e h = h
 act_part P k w (Hold x j) l i f e h = h
 act_part P k w (LetGo x) l i f e h = h
 act_part P k w (AtEndpoint d o) l i f e h =
-    put_keeps (λ x q. P (w.part x) → P q) w.part d (own (w.part d) w.messages o) (k.kept w d o l.1.0 (i.parts d) (f d)) (λ x z. z) e h
+    put_keeps (λ x q. P (w.part x) → P q) w.part d (act_alone (w.part d) w.messages o) (k.kept w d o l.1.0 (i.parts d) (f d)) (λ x z. z) e h
 
 acts_part : (P : Endpoint → Type 0) → IsKeptByParts P → (acts : List Act) (w : World) → LegalAll w acts → Invariant w → AllFronts w → (e : ℕ)
     → P (w.part e) → P ((after_acts w acts).part e)

@@ -9,7 +9,7 @@ use Rattle.sva_step.specs.declared.steps.Step.TheVariants as step
 use Rattle.sva_model.specs.Words.{put, any_below, count_below, is_some}
 use Rattle.sva_model.specs.State.{PasidRule, Mappings, Endpoint, World, opened}
 use Rattle.sva_model.specs.States.{is_queued}
-use Rattle.sva_model.specs.Acts.{Act, LocalAct, act, own, submitted, submitted_if, submits, bound, cookie_of, is_replaced, none_if}
+use Rattle.sva_model.specs.Acts.{Act, LocalAct, act, act_alone, submitted, submitted_if, submits, bound, cookie_of, is_replaced, none_if}
 use Rattle.sva_model.specs.Acts.Act.{NewSpace, DropSpace, Map, Unmap, NewBinding, NewJob, Hold, LetGo, AtEndpoint}
 use Rattle.sva_model.specs.Labels.{name, queue_length}
 use Rattle.sva_model.specs.Refusals.{refusals, is_queue_short}
@@ -53,10 +53,10 @@ added (LocalAct.Invalidate b cookie) = 2
 added _ = 0
 
 queued_before : (ms : Mappings) (g n : ℕ) (p : Endpoint) (o : LocalAct) → LegalLocalAct ms g p o → (k : ℕ) → k < p.orders
-    → is_queued ((own p n o).order_state k) ≡ true → is_queued (p.order_state k) ≡ true
+    → is_queued ((act_alone p n o).order_state k) ≡ true → is_queued (p.order_state k) ≡ true
 queued_before ms g n p o l k lt h = grind (arith, nat_tests)
 
-orders_after : (p : Endpoint) (n : ℕ) (o : LocalAct) → (own p n o).orders ≡ p.orders + added o
+orders_after : (p : Endpoint) (n : ℕ) (o : LocalAct) → (act_alone p n o).orders ≡ p.orders + added o
 orders_after p n (LocalAct.Drain b cookie) = omega arith
 orders_after p n (LocalAct.Invalidate b cookie) = omega arith
 orders_after p n o = grind arith
@@ -66,10 +66,10 @@ has_place ms g p (LocalAct.Drain b cookie) l h = let r = l.2 in omega (arith, r)
 has_place ms g p (LocalAct.Invalidate b cookie) l h = let r = l.2 in omega (arith, r)
 has_place ms g p o l h = grind arith
 
-own_short : (ms : Mappings) (g n : ℕ) (p : Endpoint) (o : LocalAct) → LegalLocalAct ms g p o → queue_length p ≤ 64 → queue_length (own p n o) ≤ 64
+own_short : (ms : Mappings) (g n : ℕ) (p : Endpoint) (o : LocalAct) → LegalLocalAct ms g p o → queue_length p ≤ 64 → queue_length (act_alone p n o) ≤ 64
 own_short ms g n p o l h =
-    subst (λ k. count_below k (λ j. is_queued ((own p n o).order_state j)) ≤ 64) (sym (orders_after p n o))
-    (let m = count_added p.orders (added o) (λ j. is_queued ((own p n o).order_state j)) (λ j. is_queued (p.order_state j))
+    subst (λ k. count_below k (λ j. is_queued ((act_alone p n o).order_state j)) ≤ 64) (sym (orders_after p n o))
+    (let m = count_added p.orders (added o) (λ j. is_queued ((act_alone p n o).order_state j)) (λ j. is_queued (p.order_state j))
     (λ k lt t. queued_before ms g n p o l k lt t) in
     let r = has_place ms g p o l h in
     omega (arith, m, r))
@@ -102,7 +102,7 @@ act_short w z (NewJob e y) t m l h = h
 act_short w z (Hold x j) t m l h = h
 act_short w z (LetGo x) t m l h = h
 act_short w z (AtEndpoint e o) t m l h =
-    put_keeps (λ k p. queue_length p ≤ 64) w.part e (own (w.part e) w.messages o) (own_short w.mappings w.bindings w.messages (w.part e) o l.1.0 (h e)) h
+    put_keeps (λ k p. queue_length p ≤ 64) w.part e (act_alone (w.part e) w.messages o) (own_short w.mappings w.bindings w.messages (w.part e) o l.1.0 (h e)) h
 
 acts_short : (z : Step) (acts : List Act) (w : World) → takes_out z ≡ false → AllMay z acts → LegalAll w acts → AllShort w → AllShort (after_acts w acts)
 acts_short z [] w t m l h = h
@@ -181,11 +181,11 @@ abbrev FindsRoom : Endpoint → LocalAct → Type 0
 FindsRoom p (LocalAct.Keep c r m) = is_full p r ≡ false
 FindsRoom p _ = Unit {0}
 
-requests_after : (p : Endpoint) (n : ℕ) (o : LocalAct) → (own p n o).requests ≡ p.requests + asked o
+requests_after : (p : Endpoint) (n : ℕ) (o : LocalAct) → (act_alone p n o).requests ≡ p.requests + asked o
 requests_after p n (LocalAct.Ask b q t) = omega arith
 requests_after p n o = grind arith
 
-held_before : (p : Endpoint) (n : ℕ) (o : LocalAct) → keeps o ≡ false → (r : ℕ) → is_some ((own p n o).held r) ≡ true → is_some (p.held r) ≡ true
+held_before : (p : Endpoint) (n : ℕ) (o : LocalAct) → keeps o ≡ false → (r : ℕ) → is_some ((act_alone p n o).held r) ≡ true → is_some (p.held r) ≡ true
 held_before p n o k r h = grind (arith, nat_tests)
 
 unmade_none : (o : Option ℕ) → o ≡ None → is_some o ≡ false
@@ -204,7 +204,7 @@ kept_before p r m x ne h = go (is_replaced p r x) (p.held x) (sym (ap is_some (p
     go false None k = absurd (cc (k))
 
 own_cached : (g n : ℕ) (p : Endpoint) (o : LocalAct) (b : Bool) → keeps o ≡ b → FindsRoom p o → Bounds g p → cached_translations p ≤ 64
-    → cached_translations (own p n o) ≤ 64
+    → cached_translations (act_alone p n o) ≤ 64
 own_cached g n p (LocalAct.Keep c r m) true k room bo h =
     let few = one_beside p.requests r (λ x. is_some (put (λ y. none_if (is_replaced p r y) (p.held y)) r (Some m) x))
     (λ x. is_some (p.held x) && not (is_replaced p r x)) (λ x ne t. kept_before p r m x ne t) in
@@ -212,8 +212,8 @@ own_cached g n p (LocalAct.Keep c r m) true k room bo h =
     omega (arith, few, less)
 own_cached g n p o true k room bo h = absurd (grind arith)
 own_cached g n p o false k room bo h =
-    subst (λ z. count_below z (λ r. is_some ((own p n o).held r)) ≤ 64) (sym (requests_after p n o))
-    (let less = count_less (p.requests + asked o) (λ r. is_some ((own p n o).held r)) (λ r. is_some (p.held r)) (λ r l t. held_before p n o k r t) in
+    subst (λ z. count_below z (λ r. is_some ((act_alone p n o).held r)) ≤ 64) (sym (requests_after p n o))
+    (let less = count_less (p.requests + asked o) (λ r. is_some ((act_alone p n o).held r)) (λ r. is_some (p.held r)) (λ r l t. held_before p n o k r t) in
     let same = count_more p.requests (asked o) (λ r. is_some (p.held r)) (λ r l m. unmade_none (p.held r) (bo.held r l)) in
     omega (arith, less, same, h))
 
@@ -228,7 +228,7 @@ AllCached w = (e : ℕ) → cached_translations (w.part e) ≤ 64
 
 at_cached : (w : World) (e : ℕ) (o : LocalAct) → FindsRoom (w.part e) o → Invariant w → AllCached w → AllCached (act w (AtEndpoint e o))
 at_cached w e o room i h =
-    put_keeps (λ k p. cached_translations p ≤ 64) w.part e (own (w.part e) w.messages o)
+    put_keeps (λ k p. cached_translations p ≤ 64) w.part e (act_alone (w.part e) w.messages o)
     (own_cached w.bindings w.messages (w.part e) o (keeps o) refl room (i.parts e).bounds (h e)) h
 
 calm_room : (p : Endpoint) (o : LocalAct) → is_calm_own o ≡ true → FindsRoom p o

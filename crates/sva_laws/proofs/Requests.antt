@@ -7,7 +7,7 @@ use Rattle.sva_model.specs.State.Stage.{Unbound}
 use Rattle.sva_model.specs.State.Phase.{Cleared}
 use Rattle.sva_model.specs.State.Subject.{RequestOf, CompletionOf}
 use Rattle.sva_model.specs.States.{is_out, is_off}
-use Rattle.sva_model.specs.Acts.{own, LocalAct}
+use Rattle.sva_model.specs.Acts.{act_alone, LocalAct}
 use Rattle.sva_laws.proofs.Legal.{LegalLocalAct}
 use Rattle.sva_laws.proofs.Resets.{Resets}
 use Rattle.sva_laws.proofs.Bounds.{Bounds}
@@ -31,12 +31,12 @@ pub record Requests (p : Endpoint) : Type 0 where
 one_held_kept : (ms : Mappings) (g n : ℕ) (p : Endpoint) (o : LocalAct) → LegalLocalAct ms g p o → (r x m y : ℕ) → (p.requests ≤ r → p.held r ≡ None)
     → (p.requests ≤ x → p.held x ≡ None)
     → ((k j : ℕ) → p.held r ≡ Some k → p.held x ≡ Some j → p.request_binding r ≡ p.request_binding x → p.request_page r ≡ p.request_page x → r ≡ x)
-    → (own p n o).held r ≡ Some m → (own p n o).held x ≡ Some y → (own p n o).request_binding r ≡ (own p n o).request_binding x
-    → (own p n o).request_page r ≡ (own p n o).request_page x → r ≡ x
+    → (act_alone p n o).held r ≡ Some m → (act_alone p n o).held x ≡ Some y → (act_alone p n o).request_binding r ≡ (act_alone p n o).request_binding x
+    → (act_alone p n o).request_page r ≡ (act_alone p n o).request_page x → r ≡ x
 one_held_kept ms g n p o l r x m y br bx old h i d f = grind (arith, nat_tests)
 
 pub every : (ms : Mappings) (g n : ℕ) (p : Endpoint) (o : LocalAct) → LegalLocalAct ms g p o → Resets n p → Bounds g p → Bindings p → Requests p
-    → Requests (own p n o)
+    → Requests (act_alone p n o)
 every ms g n p o l re bo bi ra =
     record {
       bound = λ r h. grind (arith, nat_tests, ra.bound r, bi.on_stage);

@@ -11,23 +11,23 @@ use Rattle.sva_model.specs.State.PageRequestState.{Arrived}
 use Rattle.sva_model.specs.State.GroupState.{Closed}
 use Rattle.sva_model.specs.State.OrderState.{Lapsed, Queued}
 use Rattle.sva_model.specs.State.Subject.{StartOf, StopOf, FunctionReset, InvalidateOf, ResponseOf, ResetDone}
-use Rattle.sva_model.specs.State.Phase.{Ordered, Cleared}
+use Rattle.sva_model.specs.State.Phase.{ResetSent, Cleared}
 use Rattle.sva_model.specs.States.{is_open, is_out, is_taken, is_open_group}
-use Rattle.sva_model.specs.Acts.{own, sends, LocalAct}
+use Rattle.sva_model.specs.Acts.{act_alone, sends, LocalAct}
 use Rattle.sva_laws.proofs.Legal.{LegalLocalAct}
 
 pub record Resets (n : ℕ) (p : Endpoint) : Type 0 where
   pub unsent : (c : ℕ) → n ≤ c → p.message c ≡ None
   -- the one message of the reset
-  pub down : (c : ℕ) → p.message c ≡ Some FunctionReset → p.phase ≡ Ordered c
+  pub down : (c : ℕ) → p.message c ≡ Some FunctionReset → p.phase ≡ ResetSent c
   pub up : (c : ℕ) → p.message c ≡ Some ResetDone → p.phase ≡ Cleared c
-  pub ordered : (c : ℕ) → p.phase ≡ Ordered c → p.message c ≡ Some FunctionReset
+  pub ordered : (c : ℕ) → p.phase ≡ ResetSent c → p.message c ≡ Some FunctionReset
   pub cleared : (c : ℕ) → p.phase ≡ Cleared c → p.message c ≡ Some ResetDone
   -- what stands behind it
-  pub start_before : (c d b : ℕ) → p.phase ≡ Ordered c → p.message d ≡ Some (StartOf b) → d < c
-  pub stop_before : (c d b : ℕ) → p.phase ≡ Ordered c → p.message d ≡ Some (StopOf b) → d < c
-  pub invalidate_before : (c d k : ℕ) → p.phase ≡ Ordered c → p.message d ≡ Some (InvalidateOf k) → d < c
-  pub response_before : (c d g : ℕ) (code : Code) → p.phase ≡ Ordered c → p.message d ≡ Some (ResponseOf g code) → d < c
+  pub start_before : (c d b : ℕ) → p.phase ≡ ResetSent c → p.message d ≡ Some (StartOf b) → d < c
+  pub stop_before : (c d b : ℕ) → p.phase ≡ ResetSent c → p.message d ≡ Some (StopOf b) → d < c
+  pub invalidate_before : (c d k : ℕ) → p.phase ≡ ResetSent c → p.message d ≡ Some (InvalidateOf k) → d < c
+  pub response_before : (c d g : ℕ) (code : Code) → p.phase ≡ ResetSent c → p.message d ≡ Some (ResponseOf g code) → d < c
   pub older : (c d : ℕ) (a : Subject) → p.phase ≡ Cleared c → p.message d ≡ Some a → d ≤ c
   pub no_start : (c d b : ℕ) → p.phase ≡ Cleared c → p.message d ≢ Some (StartOf b)
   pub no_stop : (c d b : ℕ) → p.phase ≡ Cleared c → p.message d ≢ Some (StopOf b)
@@ -46,7 +46,7 @@ pub record Resets (n : ℕ) (p : Endpoint) : Type 0 where
   pub unarrived : (r : ℕ) → is_open p.phase ≡ false → p.page_request r ≢ Arrived
   pub unfiled : (g : ℕ) → is_open p.phase ≡ false → is_open_group (p.host_group g) ≡ false
 
-pub every : (ms : Mappings) (g n : ℕ) (p : Endpoint) (o : LocalAct) → LegalLocalAct ms g p o → Resets n p → Resets (n + sends o) (own p n o)
+pub every : (ms : Mappings) (g n : ℕ) (p : Endpoint) (o : LocalAct) → LegalLocalAct ms g p o → Resets n p → Resets (n + sends o) (act_alone p n o)
 every ms g n p o l re =
     record {
       unsent = λ c h. grind (arith, nat_tests, re.unsent c);

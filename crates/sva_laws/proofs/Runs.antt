@@ -57,7 +57,7 @@ opened_invariant rule c =
     record {
       hands = record { made = grind arith; held = grind arith };
       shared = λ r. record { same_space = grind arith; same_pasid = grind arith };
-      homed = λ e b h. absurd (h refl);
+      one_endpoint = λ e b h. absurd (h refl);
       mapped =
           record {
             unmade = λ m h. refl;

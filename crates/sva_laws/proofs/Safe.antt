@@ -14,7 +14,7 @@ use Rattle.sva_model.specs.State.OrderState.{Queued, Done, Void, Taken}
 use Rattle.sva_model.specs.State.Subject.{CompletionOf, ResetDone}
 use Rattle.sva_model.specs.State.Phase.{Open}
 use Rattle.sva_model.specs.States.{is_open, is_out, is_wait, covers}
-use Rattle.sva_model.specs.Acts.{own, LocalAct}
+use Rattle.sva_model.specs.Acts.{act_alone, LocalAct}
 use Rattle.sva_model.specs.Acts.LocalAct.{Keep, Begin, Complete}
 use Rattle.sva_laws.proofs.Legal.{LegalLocalAct}
 use Rattle.sva_laws.proofs.Resets.{Resets}
@@ -57,47 +57,47 @@ pub record Safe (ms : Mappings) (e : ℕ) (p : Endpoint) : Type 0 where
 
 -- what is held stays pending
 held_ahead : (ms : Mappings) (g n : ℕ) (p : Endpoint) (o : LocalAct) → LegalLocalAct ms g p o → NoneLeft p → SentOnly p → (r m first count resets k : ℕ)
-    → (p.requests ≤ r → p.held r ≡ None) → p.held r ≡ Some m → (own p n o).held r ≡ Some m → ms.page m ≡ p.request_page r
+    → (p.requests ≤ r → p.held r ≡ None) → p.held r ≡ Some m → (act_alone p n o).held r ≡ Some m → ms.page m ≡ p.request_page r
     → ((k x : ℕ) → p.order_state k ≡ Taken x → x ≤ p.uses) → IsAhead p (p.request_binding r) (ms.page m) p.uses first count resets k
-    → IsAhead (own p n o) (p.request_binding r) (ms.page m) (own p n o).uses first count resets k
+    → IsAhead (act_alone p n o) (p.request_binding r) (ms.page m) (act_alone p n o).uses first count resets k
 held_ahead ms g n p o l left sent r m first count resets k b h h' pg noted pe = grind (arith, nat_tests, left.up, left.empty, noted k)
 
 running_ahead : (ms : Mappings) (g n : ℕ) (p : Endpoint) (o : LocalAct) → LegalLocalAct ms g p o → NoneLeft p → SentOnly p → (u first count resets k : ℕ)
-    → p.use_state u ≡ Running → (own p n o).use_state u ≡ Running → u < p.uses
+    → p.use_state u ≡ Running → (act_alone p n o).use_state u ≡ Running → u < p.uses
     → (covers (p.order k) (p.use_binding u) (ms.page (p.use_mapping u)) ≡ true → blocks (p.order_state k) u ≡ true → finishes o k ≡ false)
     → IsAhead p (p.use_binding u) (ms.page (p.use_mapping u)) u first count resets k
-    → IsAhead (own p n o) (p.use_binding u) (ms.page (p.use_mapping u)) u first count resets k
+    → IsAhead (act_alone p n o) (p.use_binding u) (ms.page (p.use_mapping u)) u first count resets k
 running_ahead ms g n p o l left sent u first count resets k h h' b spared pe = grind (arith, nat_tests, left.up, left.dead)
 
 flying_ahead : (ms : Mappings) (g n : ℕ) (p : Endpoint) (o : LocalAct) → LegalLocalAct ms g p o → SentOnly p → (r m first count resets k : ℕ) → r < p.requests
-    → p.request r ≡ Out → (own p n o).request r ≡ Out → ((c : ℕ) → p.message c ≡ Some ResetDone → is_out (p.request r) ≡ false) → ms.page m
+    → p.request r ≡ Out → (act_alone p n o).request r ≡ Out → ((c : ℕ) → p.message c ≡ Some ResetDone → is_out (p.request r) ≡ false) → ms.page m
     ≡ p.request_page r → ((k x : ℕ) → p.order_state k ≡ Taken x → x ≤ p.uses)
     → IsAhead p (p.request_binding r) (ms.page m) p.uses first count resets k
-    → IsAhead (own p n o) (p.request_binding r) (ms.page m) (own p n o).uses first count resets k
+    → IsAhead (act_alone p n o) (p.request_binding r) (ms.page m) (act_alone p n o).uses first count resets k
 flying_ahead ms g n p o l sent r m first count resets k b h h' over pg noted pe = grind (arith, nat_tests, noted k)
 
 -- what waits for a reset-done, or for its PASID's invalidation
 reset_pending : (ms : Mappings) (g n : ℕ) (p : Endpoint) (o : LocalAct) → LegalLocalAct ms g p o → (b q age age' resets : ℕ)
-    → ((c : ℕ) → p.message c ≢ Some ResetDone) ⊎ ((own p n o).resets ≡ p.resets) → Pending p b q age (NextReset resets)
-    → Pending (own p n o) b q age' (NextReset resets)
+    → ((c : ℕ) → p.message c ≢ Some ResetDone) ⊎ ((act_alone p n o).resets ≡ p.resets) → Pending p b q age (NextReset resets)
+    → Pending (act_alone p n o) b q age' (NextReset resets)
 reset_pending ms g n p o l b q age age' resets nr pe = grind (arith, nat_tests)
 
 pasid_pending : (ms : Mappings) (g n : ℕ) (p : Endpoint) (o : LocalAct) → LegalLocalAct ms g p o → (b q age age' k w resets : ℕ) (c0 : Bool)
-    → ((c : ℕ) → p.message c ≢ Some ResetDone) ⊎ ((own p n o).resets ≡ p.resets) → (p.phase ≡ Open → p.order_state w ≢ Done)
-    → Pending p b q age (Pasid k w resets c0) → Pending (own p n o) b q age' (Pasid k w resets c0)
+    → ((c : ℕ) → p.message c ≢ Some ResetDone) ⊎ ((act_alone p n o).resets ≡ p.resets) → (p.phase ≡ Open → p.order_state w ≢ Done)
+    → Pending p b q age (Pasid k w resets c0) → Pending (act_alone p n o) b q age' (Pasid k w resets c0)
 pasid_pending ms g n p o l b q age age' k w resets c0 nr nd pe = grind (arith, nat_tests)
 
 -- whatever is usable, no reset-done arrives
 held_resets : (ms : Mappings) (g n : ℕ) (p : Endpoint) (o : LocalAct) → LegalLocalAct ms g p o → NoneLeft p → (r m : ℕ) → p.held r ≡ Some m
-    → (own p n o).resets ≡ p.resets
+    → (act_alone p n o).resets ≡ p.resets
 held_resets ms g n p o l left r m h = grind (arith, nat_tests, left.up, left.empty)
 
 running_resets : (ms : Mappings) (g n : ℕ) (p : Endpoint) (o : LocalAct) → LegalLocalAct ms g p o → NoneLeft p → (u : ℕ) → p.use_state u ≡ Running
-    → (own p n o).resets ≡ p.resets
+    → (act_alone p n o).resets ≡ p.resets
 running_resets ms g n p o l left u h = grind (arith, nat_tests, left.up, left.dead)
 
 flying_resets : (ms : Mappings) (g n : ℕ) (p : Endpoint) (o : LocalAct) → LegalLocalAct ms g p o → (r : ℕ)
-    → ((c : ℕ) → p.message c ≡ Some ResetDone → is_out (p.request r) ≡ false) → p.request r ≡ Out → (own p n o).resets ≡ p.resets
+    → ((c : ℕ) → p.message c ≡ Some ResetDone → is_out (p.request r) ≡ false) → p.request r ≡ Out → (act_alone p n o).resets ≡ p.resets
 flying_resets ms g n p o l r over h = grind (arith, nat_tests)
 
 over_at : (n : ℕ) (p : Endpoint) → Resets n p → (r c : ℕ) → p.message c ≡ Some ResetDone → is_out (p.request r) ≡ false
@@ -111,21 +111,22 @@ not_invalidating s k w h e = grind arith
 
 -- the three kinds, over whatever is owed
 held_pending : (ms : Mappings) (g n : ℕ) (p : Endpoint) (o : LocalAct) → LegalLocalAct ms g p o → Resets n p → Bounds g p → Labels p → Orders p → Owners ms p
-    → (r m : ℕ) → p.held r ≡ Some m → (own p n o).held r ≡ Some m → (v : Owed) → Pending p (p.request_binding r) (ms.page m) p.uses v
-    → Pending (own p n o) (p.request_binding r) (ms.page m) (own p n o).uses v
+    → (r m : ℕ) → p.held r ≡ Some m → (act_alone p n o).held r ≡ Some m → (v : Owed) → Pending p (p.request_binding r) (ms.page m) p.uses v
+    → Pending (act_alone p n o) (p.request_binding r) (ms.page m) (act_alone p n o).uses v
 held_pending ms g n p o l re bo la or ow r m h h' Nothing pe = pe
 held_pending ms g n p o l re bo la or ow r m h h' (Ranges first count resets) pe =
     (pe.0, held_ahead ms g n p o l (none_left n p re) la.sent r m first count resets pe.0 (bo.held r) h h' (ow.held_page r m h) bo.noted pe.1)
 held_pending ms g n p o l re bo la or ow r m h h' (Pasid k w resets c0) pe =
-    pasid_pending ms g n p o l (p.request_binding r) (ms.page m) p.uses (own p n o).uses k w resets c0
+    pasid_pending ms g n p o l (p.request_binding r) (ms.page m) p.uses (act_alone p n o).uses k w resets c0
     (inr (held_resets ms g n p o l (none_left n p re) r m h))
     (λ ph d. held_quiet ms p or ow r m k w ph pe.1 d h) pe
 held_pending ms g n p o l re bo la or ow r m h h' (NextReset resets) pe =
-    reset_pending ms g n p o l (p.request_binding r) (ms.page m) p.uses (own p n o).uses resets (inr (held_resets ms g n p o l (none_left n p re) r m h)) pe
+    reset_pending ms g n p o l (p.request_binding r) (ms.page m) p.uses (act_alone p n o).uses resets (inr (held_resets ms g n p o l (none_left n p re) r m h))
+    pe
 
 running_pending : (ms : Mappings) (g n : ℕ) (p : Endpoint) (o : LocalAct) → LegalLocalAct ms g p o → Resets n p → Bounds g p → Labels p → Orders p → Owners ms p
-    → (u : ℕ) → p.use_state u ≡ Running → (own p n o).use_state u ≡ Running → (v : Owed)
-    → Pending p (p.use_binding u) (ms.page (p.use_mapping u)) u v → Pending (own p n o) (p.use_binding u) (ms.page (p.use_mapping u)) u v
+    → (u : ℕ) → p.use_state u ≡ Running → (act_alone p n o).use_state u ≡ Running → (v : Owed)
+    → Pending p (p.use_binding u) (ms.page (p.use_mapping u)) u v → Pending (act_alone p n o) (p.use_binding u) (ms.page (p.use_mapping u)) u v
 running_pending ms g n p o l re bo la or ow u h h' Nothing pe = pe
 running_pending ms g n p o l re bo la or ow u h h' (Ranges first count resets) pe = (
   pe.0,
@@ -140,8 +141,8 @@ running_pending ms g n p o l re bo la or ow u h h' (NextReset resets) pe =
     reset_pending ms g n p o l (p.use_binding u) (ms.page (p.use_mapping u)) u u resets (inr (running_resets ms g n p o l (none_left n p re) u h)) pe
 
 flying_pending : (ms : Mappings) (g n : ℕ) (p : Endpoint) (o : LocalAct) → LegalLocalAct ms g p o → Resets n p → Bounds g p → Bindings p → Labels p → Requests p
-    → Owners ms p → (c r m : ℕ) → p.message c ≡ Some (CompletionOf r (Some m)) → p.request r ≡ Out → (own p n o).request r ≡ Out → (v : Owed)
-    → Pending p (p.request_binding r) (ms.page m) p.uses v → Pending (own p n o) (p.request_binding r) (ms.page m) (own p n o).uses v
+    → Owners ms p → (c r m : ℕ) → p.message c ≡ Some (CompletionOf r (Some m)) → p.request r ≡ Out → (act_alone p n o).request r ≡ Out → (v : Owed)
+    → Pending p (p.request_binding r) (ms.page m) p.uses v → Pending (act_alone p n o) (p.request_binding r) (ms.page m) (act_alone p n o).uses v
 flying_pending ms g n p o l re bo bi la ra ow c r m h q q' Nothing pe = pe
 flying_pending ms g n p o l re bo bi la ra ow c r m h q q' (Ranges first count resets) pe = (
   pe.0,
@@ -150,14 +151,15 @@ flying_pending ms g n p o l re bo bi la ra ow c r m h q q' (Ranges first count r
 flying_pending ms g n p o l re bo bi la ra ow c r m h q q' (Pasid k w resets c0) pe =
     absurd (not_invalidating (p.stage (p.request_binding r)) k w (asker_stage p r bi ra q) pe.1)
 flying_pending ms g n p o l re bo bi la ra ow c r m h q q' (NextReset resets) pe =
-    reset_pending ms g n p o l (p.request_binding r) (ms.page m) p.uses (own p n o).uses resets (inr (flying_resets ms g n p o l r (over_at n p re r) q)) pe
+    reset_pending ms g n p o l (p.request_binding r) (ms.page m) p.uses (act_alone p n o).uses resets (inr (flying_resets ms g n p o l r (over_at n p re r) q))
+    pe
 
 -- what is usable now was usable before, or is made so by this act
 abbrev pub keeps : LocalAct → (r m : ℕ) → Type 0
 keeps (Keep c x y) r m = (x ≡ r) × (y ≡ m)
 keeps _ r m = ⊥
 
-held_from : (ms : Mappings) (g n : ℕ) (p : Endpoint) (o : LocalAct) → LegalLocalAct ms g p o → (r m : ℕ) → (own p n o).held r ≡ Some m
+held_from : (ms : Mappings) (g n : ℕ) (p : Endpoint) (o : LocalAct) → LegalLocalAct ms g p o → (r m : ℕ) → (act_alone p n o).held r ≡ Some m
     → (p.held r ≡ Some m) ⊎ keeps o r m
 held_from ms g n p o l r m h = grind (arith, nat_tests)
 
@@ -165,7 +167,7 @@ abbrev pub begins : Endpoint → LocalAct → (u : ℕ) → Type 0
 begins p (Begin r m t) u = u ≡ p.uses
 begins p _ u = ⊥
 
-running_from : (ms : Mappings) (g n : ℕ) (p : Endpoint) (o : LocalAct) → LegalLocalAct ms g p o → (u : ℕ) → (own p n o).use_state u ≡ Running
+running_from : (ms : Mappings) (g n : ℕ) (p : Endpoint) (o : LocalAct) → LegalLocalAct ms g p o → (u : ℕ) → (act_alone p n o).use_state u ≡ Running
     → (p.use_state u ≡ Running) ⊎ begins p o u
 running_from ms g n p o l u h = grind (arith, nat_tests)
 
@@ -174,15 +176,15 @@ completes n (Complete d x (Some y) answer) c r m = (c ≡ n) × (x ≡ r) × (y 
 completes n _ c r m = ⊥
 
 flying_from : (ms : Mappings) (g n : ℕ) (p : Endpoint) (o : LocalAct) → LegalLocalAct ms g p o → (c r m : ℕ)
-    → (p.message c ≡ Some (CompletionOf r (Some m)) → r < p.requests) → (own p n o).message c ≡ Some (CompletionOf r (Some m))
-    → (own p n o).request r ≡ Out → ((p.message c ≡ Some (CompletionOf r (Some m))) × (p.request r ≡ Out)) ⊎ completes n o c r m
+    → (p.message c ≡ Some (CompletionOf r (Some m)) → r < p.requests) → (act_alone p n o).message c ≡ Some (CompletionOf r (Some m))
+    → (act_alone p n o).request r ≡ Out → ((p.message c ≡ Some (CompletionOf r (Some m))) × (p.request r ≡ Out)) ⊎ completes n o c r m
 flying_from ms g n p o l c r m made h i = grind (arith, nat_tests)
 
-same_binding : (ms : Mappings) (g n : ℕ) (p : Endpoint) (o : LocalAct) → (r : ℕ) → r < p.requests → (own p n o).request_binding r ≡ p.request_binding r
+same_binding : (ms : Mappings) (g n : ℕ) (p : Endpoint) (o : LocalAct) → (r : ℕ) → r < p.requests → (act_alone p n o).request_binding r ≡ p.request_binding r
 same_binding ms g n p o r b = grind (arith, nat_tests)
 
-same_use : (ms : Mappings) (g n : ℕ) (p : Endpoint) (o : LocalAct) → (u : ℕ) → u < p.uses → ((own p n o).use_binding u ≡ p.use_binding u)
-    × ((own p n o).use_mapping u ≡ p.use_mapping u)
+same_use : (ms : Mappings) (g n : ℕ) (p : Endpoint) (o : LocalAct) → (u : ℕ) → u < p.uses → ((act_alone p n o).use_binding u ≡ p.use_binding u)
+    × ((act_alone p n o).use_mapping u ≡ p.use_mapping u)
 same_use ms g n p o u b = grind (arith, nat_tests)
 
 held_made : (g : ℕ) (p : Endpoint) → Bounds g p → (r m : ℕ) → p.held r ≡ Some m → r < p.requests
@@ -192,21 +194,21 @@ held_made g p bo r m h = grind (arith, bo.held r)
 abbrev pub IsSafe : Mappings → ℕ → Endpoint → (b m age : ℕ) → Type 0
 IsSafe ms e p b m age = (ms.state m ≡ Present) ⊎ Pending p b (ms.page m) age (owed_of (ms.state m) e)
 
-keep_same : (p : Endpoint) (n c x y b q age : ℕ) (v : Owed) → Pending p b q age v → Pending (own p n (Keep c x y)) b q age v
+keep_same : (p : Endpoint) (n c x y b q age : ℕ) (v : Owed) → Pending p b q age v → Pending (act_alone p n (Keep c x y)) b q age v
 keep_same p n c x y b q age Nothing h = h
 keep_same p n c x y b q age (Ranges first count resets) h = h
 keep_same p n c x y b q age (Pasid k w resets c0) h = h
 keep_same p n c x y b q age (NextReset resets) h = h
 
 -- the age of what is cached grows, and that of a use is what it was when it began
-begin_same : (p : Endpoint) (n r m t b q : ℕ) (v : Owed) → Pending p b q p.uses v → Pending (own p n (Begin r m t)) b q p.uses v
+begin_same : (p : Endpoint) (n r m t b q : ℕ) (v : Owed) → Pending p b q p.uses v → Pending (act_alone p n (Begin r m t)) b q p.uses v
 begin_same p n r m t b q Nothing h = h
 begin_same p n r m t b q (Ranges first count resets) h = h
 begin_same p n r m t b q (Pasid k w resets c0) h = h
 begin_same p n r m t b q (NextReset resets) h = h
 
 kept_safe : (ms : Mappings) (g n e : ℕ) (p : Endpoint) (o : LocalAct) → LegalLocalAct ms g p o → Safe ms e p → (r m : ℕ) → keeps o r m
-    → IsSafe ms e (own p n o) ((own p n o).request_binding r) m (own p n o).uses
+    → IsSafe ms e (act_alone p n o) ((act_alone p n o).request_binding r) m (act_alone p n o).uses
 kept_safe ms g n e p (Keep c x y) l sa r m (a, b) =
     let c' : p.message c ≡ Some (CompletionOf r (Some m)) = cc in
     let q : p.request r ≡ Out = cc in
@@ -217,16 +219,16 @@ kept_safe ms g n e p (Keep c x y) l sa r m (a, b) =
 kept_safe ms g n e p _ l sa r m k = absurd k
 
 held_safe : (ms : Mappings) (g n e : ℕ) (p : Endpoint) (o : LocalAct) → LegalLocalAct ms g p o → Resets n p → Bounds g p → Labels p → Orders p → Owners ms p
-    → Safe ms e p → (r m : ℕ) → (own p n o).held r ≡ Some m → IsSafe ms e (own p n o) ((own p n o).request_binding r) m (own p n o).uses
+    → Safe ms e p → (r m : ℕ) → (act_alone p n o).held r ≡ Some m → IsSafe ms e (act_alone p n o) ((act_alone p n o).request_binding r) m (act_alone p n o).uses
 held_safe ms g n e p o l re bo la or ow sa r m h = go (held_from ms g n p o l r m h)
   where
-    still : p.held r ≡ Some m → IsSafe ms e p (p.request_binding r) m p.uses → IsSafe ms e (own p n o) (p.request_binding r) m (own p n o).uses
+    still : p.held r ≡ Some m → IsSafe ms e p (p.request_binding r) m p.uses → IsSafe ms e (act_alone p n o) (p.request_binding r) m (act_alone p n o).uses
     still old (inl x) = inl x
     still old (inr x) = inr (held_pending ms g n p o l re bo la or ow r m old h (owed_of (ms.state m) e) x)
 
-    go : (p.held r ≡ Some m) ⊎ keeps o r m → IsSafe ms e (own p n o) ((own p n o).request_binding r) m (own p n o).uses
+    go : (p.held r ≡ Some m) ⊎ keeps o r m → IsSafe ms e (act_alone p n o) ((act_alone p n o).request_binding r) m (act_alone p n o).uses
     go (inl old) =
-        subst (λ b. IsSafe ms e (own p n o) b m (own p n o).uses) (sym (same_binding ms g n p o r (held_made g p bo r m old)))
+        subst (λ b. IsSafe ms e (act_alone p n o) b m (act_alone p n o).uses) (sym (same_binding ms g n p o r (held_made g p bo r m old)))
         (still old (sa.held r m old))
     go (inr k) = kept_safe ms g n e p o l sa r m k
 
@@ -238,52 +240,54 @@ completed_safe ms g n e p (Complete d x (Some y) answer) l pr c r m k =
 completed_safe ms g n e p _ l pr c r m k = absurd k
 
 flying_safe : (ms : Mappings) (g n e : ℕ) (p : Endpoint) (o : LocalAct) → LegalLocalAct ms g p o → ((s q m : ℕ) → ms.at s q ≡ Some m → ms.state m ≡ Present)
-    → Resets n p → Bounds g p → Bindings p → Labels p → Requests p → Owners ms p → Safe ms e p → (c r m : ℕ) → (own p n o).message c
-    ≡ Some (CompletionOf r (Some m)) → (own p n o).request r ≡ Out → IsSafe ms e (own p n o) ((own p n o).request_binding r) m (own p n o).uses
+    → Resets n p → Bounds g p → Bindings p → Labels p → Requests p → Owners ms p → Safe ms e p → (c r m : ℕ) → (act_alone p n o).message c
+    ≡ Some (CompletionOf r (Some m)) → (act_alone p n o).request r ≡ Out
+    → IsSafe ms e (act_alone p n o) ((act_alone p n o).request_binding r) m (act_alone p n o).uses
 flying_safe ms g n e p o l pr re bo bi la ra ow sa c r m h i = go (flying_from ms g n p o l c r m (bo.answered c r (Some m)) h i)
   where
     still : p.message c ≡ Some (CompletionOf r (Some m)) → p.request r ≡ Out → IsSafe ms e p (p.request_binding r) m p.uses
-        → IsSafe ms e (own p n o) (p.request_binding r) m (own p n o).uses
+        → IsSafe ms e (act_alone p n o) (p.request_binding r) m (act_alone p n o).uses
     still old q (inl x) = inl x
     still old q (inr x) = inr (flying_pending ms g n p o l re bo bi la ra ow c r m old q i (owed_of (ms.state m) e) x)
 
     go : ((p.message c ≡ Some (CompletionOf r (Some m))) × (p.request r ≡ Out)) ⊎ completes n o c r m
-        → IsSafe ms e (own p n o) ((own p n o).request_binding r) m (own p n o).uses
+        → IsSafe ms e (act_alone p n o) ((act_alone p n o).request_binding r) m (act_alone p n o).uses
     go (inl (old, q)) =
-        subst (λ b. IsSafe ms e (own p n o) b m (own p n o).uses) (sym (same_binding ms g n p o r (bo.answered c r (Some m) old)))
+        subst (λ b. IsSafe ms e (act_alone p n o) b m (act_alone p n o).uses) (sym (same_binding ms g n p o r (bo.answered c r (Some m) old)))
         (still old q (sa.flying c r m old q))
     go (inr k) = inl (completed_safe ms g n e p o l pr c r m k)
 
 begun_safe : (ms : Mappings) (g n e : ℕ) (p : Endpoint) (o : LocalAct) → LegalLocalAct ms g p o → Safe ms e p → (u : ℕ) → begins p o u
-    → IsSafe ms e (own p n o) ((own p n o).use_binding u) ((own p n o).use_mapping u) u
+    → IsSafe ms e (act_alone p n o) ((act_alone p n o).use_binding u) ((act_alone p n o).use_mapping u) u
 begun_safe ms g n e p (Begin r m t) l sa u k =
-    subst (λ z. IsSafe ms e (own p n (Begin r m t)) ((own p n (Begin r m t)).use_binding z) ((own p n (Begin r m t)).use_mapping z) z) (sym k)
-    (subst (λ b. IsSafe ms e (own p n (Begin r m t)) b ((own p n (Begin r m t)).use_mapping p.uses) p.uses)
+    subst (λ z. IsSafe ms e (act_alone p n (Begin r m t)) ((act_alone p n (Begin r m t)).use_binding z) ((act_alone p n (Begin r m t)).use_mapping z) z) (sym k)
+    (subst (λ b. IsSafe ms e (act_alone p n (Begin r m t)) b ((act_alone p n (Begin r m t)).use_mapping p.uses) p.uses)
     (sym (put-same p.use_binding p.uses (p.request_binding r)))
-    (subst (λ y. IsSafe ms e (own p n (Begin r m t)) (p.request_binding r) y p.uses) (sym (put-same p.use_mapping p.uses m)) (go (sa.held r m l.1))))
+    (subst (λ y. IsSafe ms e (act_alone p n (Begin r m t)) (p.request_binding r) y p.uses) (sym (put-same p.use_mapping p.uses m)) (go (sa.held r m l.1))))
   where
-    go : IsSafe ms e p (p.request_binding r) m p.uses → IsSafe ms e (own p n (Begin r m t)) (p.request_binding r) m p.uses
+    go : IsSafe ms e p (p.request_binding r) m p.uses → IsSafe ms e (act_alone p n (Begin r m t)) (p.request_binding r) m p.uses
     go (inl x) = inl x
     go (inr x) = inr (begin_same p n r m t (p.request_binding r) (ms.page m) (owed_of (ms.state m) e) x)
 begun_safe ms g n e p _ l sa u k = absurd k
 
 running_safe : (ms : Mappings) (g n e : ℕ) (p : Endpoint) (o : LocalAct) → LegalLocalAct ms g p o → Resets n p → Bounds g p → Labels p → Orders p → Owners ms p
-    → Safe ms e p → (u : ℕ) → (own p n o).use_state u ≡ Running → IsSafe ms e (own p n o) ((own p n o).use_binding u) ((own p n o).use_mapping u) u
+    → Safe ms e p → (u : ℕ) → (act_alone p n o).use_state u ≡ Running
+    → IsSafe ms e (act_alone p n o) ((act_alone p n o).use_binding u) ((act_alone p n o).use_mapping u) u
 running_safe ms g n e p o l re bo la or ow sa u h = go (running_from ms g n p o l u h)
   where
-    still : p.use_state u ≡ Running → IsSafe ms e p (p.use_binding u) (p.use_mapping u) u → IsSafe ms e (own p n o) (p.use_binding u) (p.use_mapping u) u
+    still : p.use_state u ≡ Running → IsSafe ms e p (p.use_binding u) (p.use_mapping u) u → IsSafe ms e (act_alone p n o) (p.use_binding u) (p.use_mapping u) u
     still old (inl x) = inl x
     still old (inr x) = inr (running_pending ms g n p o l re bo la or ow u old h (owed_of (ms.state (p.use_mapping u)) e) x)
 
-    go : (p.use_state u ≡ Running) ⊎ begins p o u → IsSafe ms e (own p n o) ((own p n o).use_binding u) ((own p n o).use_mapping u) u
+    go : (p.use_state u ≡ Running) ⊎ begins p o u → IsSafe ms e (act_alone p n o) ((act_alone p n o).use_binding u) ((act_alone p n o).use_mapping u) u
     go (inl old) =
         let s = same_use ms g n p o u (running_made g p bo u old) in
-        subst (λ b. IsSafe ms e (own p n o) b ((own p n o).use_mapping u) u) (sym s.0)
-        (subst (λ m. IsSafe ms e (own p n o) (p.use_binding u) m u) (sym s.1) (still old (sa.running u old)))
+        subst (λ b. IsSafe ms e (act_alone p n o) b ((act_alone p n o).use_mapping u) u) (sym s.0)
+        (subst (λ m. IsSafe ms e (act_alone p n o) (p.use_binding u) m u) (sym s.1) (still old (sa.running u old)))
     go (inr k) = begun_safe ms g n e p o l sa u k
 
 pub every : (ms : Mappings) (g n e : ℕ) (p : Endpoint) (o : LocalAct) → LegalLocalAct ms g p o → ((s q m : ℕ) → ms.at s q ≡ Some m → ms.state m ≡ Present)
-    → Resets n p → Bounds g p → Bindings p → Labels p → Requests p → Orders p → Owners ms p → Safe ms e p → Safe ms e (own p n o)
+    → Resets n p → Bounds g p → Bindings p → Labels p → Requests p → Orders p → Owners ms p → Safe ms e p → Safe ms e (act_alone p n o)
 every ms g n e p o l pr re bo bi la ra or ow sa =
     record {
       held = λ r m h. held_safe ms g n e p o l re bo la or ow sa r m h;

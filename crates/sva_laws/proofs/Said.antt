@@ -15,7 +15,7 @@ use Rattle.sva_model.specs.State.UseState.{Running}
 use Rattle.sva_model.specs.State.Phase.{Open}
 use Rattle.sva_model.specs.States.{Place, is_open, is_done, place}
 use Rattle.sva_model.specs.States.Place.{Free, Mapped, Withheld}
-use Rattle.sva_model.specs.Acts.{LocalAct, act, own, owe_if, counted_if, is_last_left}
+use Rattle.sva_model.specs.Acts.{LocalAct, act, act_alone, completing_if, counted_if, is_last_left}
 use Rattle.sva_model.specs.Acts.Act.{AtEndpoint}
 use Rattle.sva_model.specs.Labels
 use Rattle.sva_model.specs.Refusals.{refusals}
@@ -32,16 +32,16 @@ use Rattle.sva_laws.proofs.Told.{accepted}
 use Rattle.sva_laws.proofs.UnitSteps.{delivered}
 
 -- after one act of an endpoint
-part_at : (w : World) (e : ℕ) (o : LocalAct) → (act w (AtEndpoint e o)).part e ≡ own (w.part e) w.messages o
-part_at w e o = put-same w.part e (own (w.part e) w.messages o)
+part_at : (w : World) (e : ℕ) (o : LocalAct) → (act w (AtEndpoint e o)).part e ≡ act_alone (w.part e) w.messages o
+part_at w e o = put-same w.part e (act_alone (w.part e) w.messages o)
 
 -- A finish.
 
-owed_now : (b : Bool) (count : ℕ) (s : OrderState) → b ≡ true → owe_if b count s ≡ Completing count count
-owed_now b count s h = ap (λ z. owe_if z count s) h
+owed_now : (b : Bool) (count : ℕ) (s : OrderState) → b ≡ true → completing_if b count s ≡ Completing count count
+owed_now b count s h = ap (λ z. completing_if z count s) h
 
-as_before : (b : Bool) (count : ℕ) (s : OrderState) → b ≡ false → owe_if b count s ≡ s
-as_before b count s h = ap (λ z. owe_if z count s) h
+as_before : (b : Bool) (count : ℕ) (s : OrderState) → b ≡ false → completing_if b count s ≡ s
+as_before b count s h = ap (λ z. completing_if z count s) h
 
 in_new : {A : Type 0} (f : ℕ → A) (n count j : ℕ) (g : ℕ → A) (v : A) → ((i : ℕ) → g i ≡ v) → j < count → put_range f n count g (n + j) ≡ v
 in_new f n count j g v same l = grind (arith, nat_tests, same)
@@ -170,7 +170,7 @@ always_frees rule config steps s e names ph d =
     let yes = accepted (refusals w (step.Deliver d.number)) (outcome w (step.Deliver d.number)) d.answer (sym (ap (reply w) d.step_is) ∙ d.accepted) in
     let is_answer : (outcome w (step.Deliver d.number)).answer
     ≡ answer.Freed (count_below (w.part e).orders (λ k. names k && is_last_left ((w.part e).order_state k))) =
-    ap (λ z. (deliver_outcome w (w.part z) z c ((w.part z).message c)).answer) d.way_is
+    ap (λ z. (deliver_outcome w (w.part z) z c ((w.part z).message c)).answer) d.link_is
     ∙ ap (λ z. (deliver_outcome w (w.part e) e c z).answer) d.speaks
     ∙ ap (λ b. (count_outcome (w.part e) e c names b).answer) (ap is_open ph)
     in

@@ -5,7 +5,7 @@ use Rattle.std.specs.Prelude.{Option, Some, None}
 use Rattle.std.proofs.lemmas.Bool.Decides.{nat_tests}
 use Rattle.sva_model.specs.State.{Mappings, Endpoint}
 use Rattle.sva_model.specs.States.{is_unreleased}
-use Rattle.sva_model.specs.Acts.{LocalAct, own, submitted_if}
+use Rattle.sva_model.specs.Acts.{LocalAct, act_alone, submitted_if}
 use Rattle.sva_laws.proofs.Legal.{LegalLocalAct}
 
 pub record Shared (part : ℕ → Endpoint) : Type 0 where
@@ -47,8 +47,8 @@ WasSo p q b = (is_unreleased (p.stage b) ≡ true) × (q.pasid b ≡ p.pasid b) 
 abbrev pub IsNew : LocalAct → Endpoint → ℕ → Type 0
 IsNew o q b = (binds o ≡ true) × (q.pasid b ≡ bound_pasid o) × (q.space b ≡ bound_space o)
 
-pub own_from : (ms : Mappings) (g n : ℕ) (p : Endpoint) (o : LocalAct) → LegalLocalAct ms g p o → (b : ℕ) → is_unreleased ((own p n o).stage b) ≡ true
-    → WasSo p (own p n o) b ⊎ IsNew o (own p n o) b
+pub own_from : (ms : Mappings) (g n : ℕ) (p : Endpoint) (o : LocalAct) → LegalLocalAct ms g p o → (b : ℕ) → is_unreleased ((act_alone p n o).stage b) ≡ true
+    → WasSo p (act_alone p n o) b ⊎ IsNew o (act_alone p n o) b
 own_from ms g n p o l b h = grind (arith, nat_tests)
 
 pub submitted_from : (t : Bool) (p : Endpoint) (o : Option ℕ) (q count order cookie b : ℕ)

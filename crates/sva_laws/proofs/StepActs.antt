@@ -16,7 +16,7 @@ use Rattle.sva_model.specs.Labels
 use Rattle.sva_model.specs.Refusals.{Cause, refusals}
 use Rattle.sva_model.specs.Replies.{maps_to, reply_maps, replies_success, newly_mapped, free_list, is_write_asked, job_space, response_to}
 use Rattle.sva_model.specs.Outcomes.{Outcome, outcome, unbind_outcome, advance_outcome, pump_outcome, head_outcome, wait_outcome, send_outcome, may_pass}
-use Rattle.sva_model.specs.Outcomes.{serve_outcome, file_outcome, reply_outcome, fault_outcome, about_outcome, deliver_outcome, completion_outcome}
+use Rattle.sva_model.specs.Outcomes.{serve_outcome, file_outcome, reply_outcome, fault_outcome, subject_outcome, deliver_outcome, completion_outcome}
 use Rattle.sva_model.specs.Outcomes.{keep_outcome, is_full, request_outcome, count_outcome, page_request_outcome, marker_outcome}
 use Rattle.sva_model.specs.States.{is_open}
 use Rattle.sva_model.specs.Words.{the}
@@ -160,22 +160,22 @@ marker_may : (z : Step) (e c d : ℕ) (b : Bool) → AllMay z (marker_outcome e 
 marker_may z e c d true = (refl, tt)
 marker_may z e c d false = (refl, tt)
 
-about_may : (z : Step) (w : World) (p : Endpoint) (e c : ℕ) (a : Subject) → AllMay z (about_outcome w p e c a).acts
-about_may z w p e c (StartOf b) = (refl, tt)
-about_may z w p e c (StopOf b) = (refl, tt)
-about_may z w p e c FunctionReset = (refl, tt)
-about_may z w p e c (CompletionOf r found) = completion_may z p e c r found (p.request r)
-about_may z w p e c (InvalidateOf k) = (refl, tt)
-about_may z w p e c (ResponseOf g code) = (refl, tt)
-about_may z w p e c (RequestOf r) = request_may z w p e c r (is_open p.phase)
-about_may z w p e c (InvalidatedOf names) = count_may z p e c names (is_open p.phase)
-about_may z w p e c (PageRequestOf r) = page_request_may z e c r (is_open p.phase)
-about_may z w p e c (MarkerOf b) = marker_may z e c b (is_open p.phase)
-about_may z w p e c ResetDone = (refl, tt)
+subject_may : (z : Step) (w : World) (p : Endpoint) (e c : ℕ) (a : Subject) → AllMay z (subject_outcome w p e c a).acts
+subject_may z w p e c (StartOf b) = (refl, tt)
+subject_may z w p e c (StopOf b) = (refl, tt)
+subject_may z w p e c FunctionReset = (refl, tt)
+subject_may z w p e c (CompletionOf r found) = completion_may z p e c r found (p.request r)
+subject_may z w p e c (InvalidateOf k) = (refl, tt)
+subject_may z w p e c (ResponseOf g code) = (refl, tt)
+subject_may z w p e c (RequestOf r) = request_may z w p e c r (is_open p.phase)
+subject_may z w p e c (InvalidatedOf names) = count_may z p e c names (is_open p.phase)
+subject_may z w p e c (PageRequestOf r) = page_request_may z e c r (is_open p.phase)
+subject_may z w p e c (MarkerOf b) = marker_may z e c b (is_open p.phase)
+subject_may z w p e c ResetDone = (refl, tt)
 
 deliver_may : (z : Step) (w : World) (p : Endpoint) (e c : ℕ) (o : Option Subject) → AllMay z (deliver_outcome w p e c o).acts
 deliver_may z w p e c None = tt
-deliver_may z w p e c (Some a) = about_may z w p e c a
+deliver_may z w p e c (Some a) = subject_may z w p e c a
 
 outcome_may : (w : World) (s : Step) → AllMay s (outcome w s).acts
 outcome_may w step.Space = (refl, tt)

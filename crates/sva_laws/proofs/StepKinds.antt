@@ -20,7 +20,7 @@ use Rattle.sva_model.specs.Labels
 use Rattle.sva_model.specs.Refusals.{Cause, refusals}
 use Rattle.sva_model.specs.Replies.{maps_to, reply_maps, replies_success, newly_mapped, free_list, is_write_asked, job_space, response_to}
 use Rattle.sva_model.specs.Outcomes.{Outcome, outcome, unbind_outcome, advance_outcome, pump_outcome, head_outcome, wait_outcome, send_outcome, may_pass}
-use Rattle.sva_model.specs.Outcomes.{serve_outcome, file_outcome, reply_outcome, fault_outcome, about_outcome, deliver_outcome, completion_outcome}
+use Rattle.sva_model.specs.Outcomes.{serve_outcome, file_outcome, reply_outcome, fault_outcome, subject_outcome, deliver_outcome, completion_outcome}
 use Rattle.sva_model.specs.Outcomes.{keep_outcome, is_full, request_outcome, count_outcome, page_request_outcome, marker_outcome, response_answer}
 use Rattle.sva_model.specs.States.{is_open}
 use Rattle.sva_model.specs.Steps.{Decision, checked, decide}
@@ -56,7 +56,7 @@ pub record IsDelivery (w : World) (s : Step) (e c : ℕ) : Type 0 where
   pub number : ℕ
   pub step_is : s ≡ step.Deliver number
   pub name_is : Labels.name w number ≡ c
-  pub way_is : w.link_of c ≡ e
+  pub link_is : w.link_of c ≡ e
 
 -- by which step an act is done that isn't calm
 abbrev pub IsBy : World → Step → (e : ℕ) → LocalAct → Answer → Type 0
@@ -175,22 +175,22 @@ marker_kind : (w : World) (s : Step) (e c b : ℕ) (t : Bool) → IsDelivery w s
 marker_kind w s e c b true d = single e (LocalAct.Mark c b) answer.Marked refl refl d
 marker_kind w s e c b false d = calm refl
 
-about_kind : (w : World) (s : Step) (e c : ℕ) (x : Subject) → IsDelivery w s e c → Kind w s (plain (about_outcome w (w.part e) e c x))
-about_kind w s e c (StartOf b) d = calm refl
-about_kind w s e c (StopOf b) d = calm refl
-about_kind w s e c FunctionReset d = single e (LocalAct.Reset_arrives c) answer.Reset refl refl tt
-about_kind w s e c (CompletionOf r found) d = completion_kind w s e c r found ((w.part e).request r)
-about_kind w s e c (InvalidateOf k) d = single e (LocalAct.Take c k) answer.Taken refl refl tt
-about_kind w s e c (ResponseOf g code) d = single e (LocalAct.Answered c g code) (response_answer ((w.part e).group g)) refl refl d
-about_kind w s e c (RequestOf r) d = request_kind w s (w.part e) e c r (is_open (w.part e).phase)
-about_kind w s e c (InvalidatedOf names) d = count_kind w s (w.part e) e c names (is_open (w.part e).phase) d
-about_kind w s e c (PageRequestOf r) d = page_request_kind w s e c r (is_open (w.part e).phase)
-about_kind w s e c (MarkerOf b) d = marker_kind w s e c b (is_open (w.part e).phase) d
-about_kind w s e c ResetDone d = single e (LocalAct.Reopen c) answer.ResetDone refl refl d
+subject_kind : (w : World) (s : Step) (e c : ℕ) (x : Subject) → IsDelivery w s e c → Kind w s (plain (subject_outcome w (w.part e) e c x))
+subject_kind w s e c (StartOf b) d = calm refl
+subject_kind w s e c (StopOf b) d = calm refl
+subject_kind w s e c FunctionReset d = single e (LocalAct.Reset_arrives c) answer.Reset refl refl tt
+subject_kind w s e c (CompletionOf r found) d = completion_kind w s e c r found ((w.part e).request r)
+subject_kind w s e c (InvalidateOf k) d = single e (LocalAct.Take c k) answer.Taken refl refl tt
+subject_kind w s e c (ResponseOf g code) d = single e (LocalAct.Answered c g code) (response_answer ((w.part e).group g)) refl refl d
+subject_kind w s e c (RequestOf r) d = request_kind w s (w.part e) e c r (is_open (w.part e).phase)
+subject_kind w s e c (InvalidatedOf names) d = count_kind w s (w.part e) e c names (is_open (w.part e).phase) d
+subject_kind w s e c (PageRequestOf r) d = page_request_kind w s e c r (is_open (w.part e).phase)
+subject_kind w s e c (MarkerOf b) d = marker_kind w s e c b (is_open (w.part e).phase) d
+subject_kind w s e c ResetDone d = single e (LocalAct.Reopen c) answer.ResetDone refl refl d
 
 deliver_kind : (w : World) (s : Step) (e c : ℕ) (o : Option Subject) → IsDelivery w s e c → Kind w s (plain (deliver_outcome w (w.part e) e c o))
 deliver_kind w s e c None d = calm refl
-deliver_kind w s e c (Some x) d = about_kind w s e c x d
+deliver_kind w s e c (Some x) d = subject_kind w s e c x d
 
 outcome_kind : (w : World) (s : Step) → Kind w s (plain (outcome w s))
 outcome_kind w step.Space = calm refl
@@ -218,7 +218,7 @@ outcome_kind w (step.Quit e t) = calm refl
 outcome_kind w (step.Deliver n) =
     deliver_kind w (step.Deliver n) (w.link_of (Labels.name w n)) (Labels.name w n)
     ((w.part (w.link_of (Labels.name w n))).message (Labels.name w n))
-    (record { number = n; step_is = refl; name_is = refl; way_is = refl })
+    (record { number = n; step_is = refl; name_is = refl; link_is = refl })
 outcome_kind w (step.Look f) = calm refl
 outcome_kind w (step.Bearer t) = calm refl
 

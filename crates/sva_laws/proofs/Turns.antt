@@ -12,7 +12,7 @@ use Rattle.sva_model.specs.State.OrderState.{Completing, Done}
 use Rattle.sva_model.specs.State.MappingState.{Present, Gone}
 use Rattle.sva_model.specs.States.{Place, is_done, is_busy, answered, place, place_at, place_by}
 use Rattle.sva_model.specs.States.Place.{Free, Mapped, Withheld}
-use Rattle.sva_model.specs.Acts.{LocalAct, own, submits, submitted_if, bound, cookie_of}
+use Rattle.sva_model.specs.Acts.{LocalAct, act_alone, submits, submitted_if, bound, cookie_of}
 use Rattle.sva_model.specs.Steps.{reply, decide, next, after_acts, world_after}
 use Rattle.sva_laws.specs.UnitSteps.{Delivers, PassesWait, CompletesOrder}
 use Rattle.sva_laws.specs.Waits.{IsBehind, FitsDebt}
@@ -38,7 +38,7 @@ use Rattle.sva_laws.proofs.Answered.{less_more as more}
 
 -- the counter of reset-dones stays, or a reset-done is delivered
 own_counts : (w : World) (s : Step) (e : ℕ) (a : Answer) (o : LocalAct) → reply w s ≡ Ok a → IsBy w s e o a → LegalLocalAct w.mappings w.bindings (w.part e) o
-    → ((own (w.part e) w.messages o).resets ≡ (w.part e).resets) ⊎ Delivers w s e ResetDone
+    → ((act_alone (w.part e) w.messages o).resets ≡ (w.part e).resets) ⊎ Delivers w s e ResetDone
 own_counts w s e a (LocalAct.Reopen c) h by l = inr (delivers w s e c a ResetDone h by l.0)
 own_counts w s e a _ h by l = inl refl
 
@@ -54,7 +54,7 @@ next_counts w s e i = go (step_kind w s)
     go (calm h) = inl (same_acts (decide w s).acts w h e).resets
     go (single d o a x h by) =
         subst (λ z. (((after_acts w z).part e).resets ≡ (w.part e).resets) ⊎ Delivers w s e ResetDone) (sym x)
-        (put_keeps (λ k q. (q.resets ≡ (w.part k).resets) ⊎ Delivers w s k ResetDone) w.part d (own (w.part d) w.messages o)
+        (put_keeps (λ k q. (q.resets ≡ (w.part k).resets) ⊎ Delivers w s k ResetDone) w.part d (act_alone (w.part d) w.messages o)
         (own_counts w s d a o h by ((subst (LegalAll w) x (step_legal w s i)).0).1.0)
         (λ k. inl refl)
         e)

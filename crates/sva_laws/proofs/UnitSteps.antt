@@ -16,12 +16,12 @@ use Rattle.sva_model.specs.State.Phase.{Open}
 use Rattle.sva_model.specs.State.Stage.{Stopping}
 use Rattle.sva_model.specs.State.OrderState.{Queued, Sent, Taken, Lapsed, Completing, Done, Void}
 use Rattle.sva_model.specs.States.{is_open}
-use Rattle.sva_model.specs.Acts.{Act, LocalAct, act, own, counted, counted_if, void_queued, void_undone, marked, submitted, submitted_if, submits, bound}
+use Rattle.sva_model.specs.Acts.{Act, LocalAct, act, act_alone, counted, counted_if, void_queued, void_undone, marked, submitted, submitted_if, submits, bound}
 use Rattle.sva_model.specs.Acts.{cookie_of}
 use Rattle.sva_model.specs.Acts.Act.{NewSpace, DropSpace, Map, Unmap, NewBinding, NewJob, Hold, LetGo, AtEndpoint}
 use Rattle.sva_model.specs.Labels
 use Rattle.sva_model.specs.Refusals.{refusals}
-use Rattle.sva_model.specs.Outcomes.{outcome, pump_outcome, head_outcome, wait_outcome, send_outcome, may_pass, about_outcome, deliver_outcome}
+use Rattle.sva_model.specs.Outcomes.{outcome, pump_outcome, head_outcome, wait_outcome, send_outcome, may_pass, subject_outcome, deliver_outcome}
 use Rattle.sva_model.specs.Outcomes.{count_outcome, marker_outcome}
 use Rattle.sva_model.specs.Steps.{reply, decide, next, after_acts, world_after}
 use Rattle.sva_laws.specs.UnitSteps.{Delivers, OrdersReset, PassesWait, CompletesOrder, CountsResetDones, ChangesOrders, NotesMarkers}
@@ -64,7 +64,7 @@ same_more : (p q r : Endpoint) → Same p q → Same q r → Same p r
 same_more p q r a b =
     record { orders = b.orders ∙ a.orders; state = λ k. b.state k ∙ a.state k; resets = b.resets ∙ a.resets; noted = λ x h. a.noted x (b.noted x h) }
 
-same_own : (p : Endpoint) (n : ℕ) (o : LocalAct) → is_calm_own o ≡ true → Same p (own p n o)
+same_own : (p : Endpoint) (n : ℕ) (o : LocalAct) → is_calm_own o ≡ true → Same p (act_alone p n o)
 same_own p n o h =
     record {
       orders = grind (arith, nat_tests);
@@ -83,7 +83,7 @@ same_act w (NewJob d g) h e = same_part (w.part e)
 same_act w (Hold x j) h e = same_part (w.part e)
 same_act w (LetGo x) h e = same_part (w.part e)
 same_act w (AtEndpoint d o) h e =
-    put_keeps (λ x q. Same (w.part x) q) w.part d (own (w.part d) w.messages o) (same_own (w.part d) w.messages o h) (λ x. same_part (w.part x)) e
+    put_keeps (λ x q. Same (w.part x) q) w.part d (act_alone (w.part d) w.messages o) (same_own (w.part d) w.messages o h) (λ x. same_part (w.part x)) e
 
 pub same_acts : (acts : List Act) (w : World) → are_calm acts ≡ true → (e : ℕ) → Same (w.part e) ((after_acts w acts).part e)
 same_acts [] w h e = same_part (w.part e)
@@ -148,13 +148,13 @@ delivers w s e c a subject h d m =
       step_is = d.step_is;
       answer = a;
       accepted = h;
-      way_is = ap w.link_of d.name_is ∙ d.way_is;
+      link_is = ap w.link_of d.name_is ∙ d.link_is;
       speaks =
           ap (w.part e).message d.name_is ∙ m;
     }
 
 own_resets : (w : World) (s : Step) (e : ℕ) (a : Answer) (o : LocalAct) → reply w s ≡ Ok a → IsBy w s e o a → LegalLocalAct w.mappings w.bindings (w.part e) o
-    → (Delivers w s e ResetDone → ⊥) → (own (w.part e) w.messages o).resets ≡ (w.part e).resets
+    → (Delivers w s e ResetDone → ⊥) → (act_alone (w.part e) w.messages o).resets ≡ (w.part e).resets
 own_resets w s e a (LocalAct.Reopen c) h by l none = absurd (none (delivers w s e c a ResetDone h by l.0))
 own_resets w s e a _ h by l none = refl
 
@@ -178,13 +178,13 @@ ends_order LocalAct.Reset = true
 ends_order (LocalAct.Reopen c) = true
 ends_order _ = false
 
-other_done : (ms : Mappings) (g n : ℕ) (p : Endpoint) (o : LocalAct) → LegalLocalAct ms g p o → ends_order o ≡ false → (k : ℕ) → (own p n o).order_state k
+other_done : (ms : Mappings) (g n : ℕ) (p : Endpoint) (o : LocalAct) → LegalLocalAct ms g p o → ends_order o ≡ false → (k : ℕ) → (act_alone p n o).order_state k
     ≡ Done
     → p.order_state k ≡ Done
 other_done ms g n p o l e k h = grind (arith, nat_tests)
 
 own_done : (w : World) (s : Step) (e : ℕ) (a : Answer) (o : LocalAct) (b : Bool) → ends_order o ≡ b → reply w s ≡ Ok a → IsBy w s e o a
-    → LegalLocalAct w.mappings w.bindings (w.part e) o → (k : ℕ) → (own (w.part e) w.messages o).order_state k ≡ Done → ((w.part e).order_state k ≡ Done)
+    → LegalLocalAct w.mappings w.bindings (w.part e) o → (k : ℕ) → (act_alone (w.part e) w.messages o).order_state k ≡ Done → ((w.part e).order_state k ≡ Done)
     ⊎ (PassesWait w s e k ⊎ CompletesOrder w s e k)
 own_done w s e a o false x h by l k d = inl (other_done w.mappings w.bindings w.messages (w.part e) o l x k d)
 own_done w s e a (LocalAct.Pass j) true x h by l k d = go (ℕ_cases k j)
@@ -221,16 +221,16 @@ own_done w s e a o true x h by l k d = absurd (grind arith)
 -- an invalidate in flight is of an order that was sent
 done_still : (ms : Mappings) (g n : ℕ) (p : Endpoint) (o : LocalAct) → LegalLocalAct ms g p o
     → ((c k : ℕ) → p.message c ≡ Some (InvalidateOf k) → p.order_state k ≡ Sent) → (k : ℕ) → (p.orders ≤ k → p.order_state k ≡ Void)
-    → p.order_state k ≡ Done → (own p n o).order_state k ≡ Done
+    → p.order_state k ≡ Done → (act_alone p n o).order_state k ≡ Done
 done_still ms g n p o l sent k bo h = grind (arith, nat_tests)
 
 void_still : (ms : Mappings) (g n : ℕ) (p : Endpoint) (o : LocalAct) → LegalLocalAct ms g p o
     → ((c k : ℕ) → p.message c ≡ Some (InvalidateOf k) → p.order_state k ≡ Sent) → (k : ℕ) → k < p.orders → p.order_state k ≡ Void
-    → (own p n o).order_state k ≡ Void
+    → (act_alone p n o).order_state k ≡ Void
 void_still ms g n p o l sent k lt h = grind (arith, nat_tests)
 
 other_void : (ms : Mappings) (g n : ℕ) (p : Endpoint) (o : LocalAct) → LegalLocalAct ms g p o → ends_order o ≡ false → (k : ℕ) → k < p.orders
-    → (own p n o).order_state k ≡ Void → p.order_state k ≡ Void
+    → (act_alone p n o).order_state k ≡ Void → p.order_state k ≡ Void
 other_void ms g n p o l e k lt h = grind (arith, nat_tests)
 
 void_from_queued : (x : OrderState) → void_queued x ≡ Void → (x ≡ Void) ⊎ (x ≡ Queued)
@@ -249,7 +249,7 @@ count_void : (b : Bool) (x : OrderState) → counted_if b x ≡ Void → x ≡ V
 count_void b x h = grind (arith, nat_tests)
 
 own_void : (w : World) (s : Step) (e : ℕ) (a : Answer) (o : LocalAct) (b : Bool) → ends_order o ≡ b → reply w s ≡ Ok a → IsBy w s e o a
-    → LegalLocalAct w.mappings w.bindings (w.part e) o → (k : ℕ) → k < (w.part e).orders → (own (w.part e) w.messages o).order_state k ≡ Void
+    → LegalLocalAct w.mappings w.bindings (w.part e) o → (k : ℕ) → k < (w.part e).orders → (act_alone (w.part e) w.messages o).order_state k ≡ Void
     → ((w.part e).order_state k ≡ Void)
     ⊎ ((((w.part e).order_state k ≡ Queued) × OrdersReset w s e) ⊎ (((w.part e).order_state k ≢ Done) × Delivers w s e ResetDone))
 own_void w s e a o false x h by l k lt d = inl (other_void w.mappings w.bindings w.messages (w.part e) o l x k lt d)
@@ -269,19 +269,19 @@ own_void w s e a LocalAct.Reset true x h by l k lt d = go (void_from_queued ((w.
 own_void w s e a (LocalAct.Reopen c) true x h by l k lt d = inr (inr (void_from_undone ((w.part e).order_state k) d, delivers w s e c a ResetDone h by l.0))
 own_void w s e a o true x h by l k lt d = absurd (grind arith)
 
-new_queued : (ms : Mappings) (g n : ℕ) (p : Endpoint) (o : LocalAct) → LegalLocalAct ms g p o → (k : ℕ) → p.orders ≤ k → k < (own p n o).orders
-    → (own p n o).order_state k ≡ Queued
+new_queued : (ms : Mappings) (g n : ℕ) (p : Endpoint) (o : LocalAct) → LegalLocalAct ms g p o → (k : ℕ) → p.orders ≤ k → k < (act_alone p n o).orders
+    → (act_alone p n o).order_state k ≡ Queued
 new_queued ms g n p o l k low high = grind (arith, nat_tests)
 
 abbrev pub notes_marker : LocalAct → Bool
 notes_marker (LocalAct.Mark c b) = true
 notes_marker _ = false
 
-other_noted : (p : Endpoint) (n : ℕ) (o : LocalAct) → notes_marker o ≡ false → (b : ℕ) → (own p n o).stage b ≡ Stopping true → p.stage b ≡ Stopping true
+other_noted : (p : Endpoint) (n : ℕ) (o : LocalAct) → notes_marker o ≡ false → (b : ℕ) → (act_alone p n o).stage b ≡ Stopping true → p.stage b ≡ Stopping true
 other_noted p n o e b h = grind (arith, nat_tests)
 
 own_noted : (w : World) (s : Step) (e : ℕ) (a : Answer) (o : LocalAct) (t : Bool) → notes_marker o ≡ t → reply w s ≡ Ok a → IsBy w s e o a
-    → LegalLocalAct w.mappings w.bindings (w.part e) o → (b : ℕ) → (own (w.part e) w.messages o).stage b ≡ Stopping true
+    → LegalLocalAct w.mappings w.bindings (w.part e) o → (b : ℕ) → (act_alone (w.part e) w.messages o).stage b ≡ Stopping true
     → ((w.part e).stage b ≡ Stopping true) ⊎ (((w.part e).phase ≡ Open) × Delivers w s e (MarkerOf b))
 own_noted w s e a o false x h by l b d = inl (other_noted (w.part e) w.messages o x b d)
 own_noted w s e a (LocalAct.Mark c i) true x h by l b d = go (ℕ_cases b i)
@@ -292,7 +292,7 @@ own_noted w s e a (LocalAct.Mark c i) true x h by l b d = go (ℕ_cases b i)
 own_noted w s e a o true x h by l b d = absurd (grind arith)
 
 own_changes : (w : World) (s : Step) (e : ℕ) (a : Answer) (o : LocalAct) → Invariant w → reply w s ≡ Ok a → IsBy w s e o a
-    → LegalLocalAct w.mappings w.bindings (w.part e) o → Changes w s e (w.part e) (own (w.part e) w.messages o)
+    → LegalLocalAct w.mappings w.bindings (w.part e) o → Changes w s e (w.part e) (act_alone (w.part e) w.messages o)
 own_changes w s e a o i h by l =
     record {
       resets = own_resets w s e a o h by l;
@@ -315,7 +315,7 @@ changes w s e i = go (step_kind w s)
     go (calm h) = changes_nothing w s e (w.part e) ((next w s).part e) (same_acts (decide w s).acts w h e)
     go (single d o a x h by) =
         subst (λ z. Changes w s e (w.part e) ((after_acts w z).part e)) (sym x)
-        (put_keeps (λ k q. Changes w s k (w.part k) q) w.part d (own (w.part d) w.messages o)
+        (put_keeps (λ k q. Changes w s k (w.part k) q) w.part d (act_alone (w.part d) w.messages o)
         (own_changes w s d a o i h by (first d o x).1.0)
         (λ k. changes_nothing w s k (w.part k) (w.part k) (same_part (w.part k)))
         e)
@@ -326,21 +326,21 @@ changes w s e i = go (step_kind w s)
 -- And back: from what the step is to its act.
 
 pub delivered : (w : World) (s : Step) (e : ℕ) (subject : Subject) → (d : Delivers w s e subject) → (decide w s).acts
-    ≡ (about_outcome w (w.part e) e (Labels.name w d.number) subject).acts
+    ≡ (subject_outcome w (w.part e) e (Labels.name w d.number) subject).acts
 delivered w s e subject d =
     ap (λ z. (decide w z).acts) d.step_is
     ∙ (accepted (refusals w (step.Deliver d.number)) (outcome w (step.Deliver d.number)) d.answer (sym (ap (reply w) d.step_is) ∙ d.accepted)).2
-    ∙ ap (λ z. (deliver_outcome w (w.part z) z c ((w.part z).message c)).acts) d.way_is
+    ∙ ap (λ z. (deliver_outcome w (w.part z) z c ((w.part z).message c)).acts) d.link_is
     ∙ ap (λ z. (deliver_outcome w (w.part e) e c z).acts) d.speaks
   where
     c : ℕ
     c = Labels.name w d.number
 
-pub part_after : (w : World) (s : Step) (e : ℕ) (o : LocalAct) → (decide w s).acts ≡ AtEndpoint e o ∷ [] → (next w s).part e ≡ own (w.part e) w.messages o
-part_after w s e o h = ap (λ z. (after_acts w z).part e) h ∙ put-same w.part e (own (w.part e) w.messages o)
+pub part_after : (w : World) (s : Step) (e : ℕ) (o : LocalAct) → (decide w s).acts ≡ AtEndpoint e o ∷ [] → (next w s).part e ≡ act_alone (w.part e) w.messages o
+part_after w s e o h = ap (λ z. (after_acts w z).part e) h ∙ put-same w.part e (act_alone (w.part e) w.messages o)
 
 pub reopens : (w : World) (s : Step) (e : ℕ) → (d : Delivers w s e ResetDone) → (next w s).part e
-    ≡ own (w.part e) w.messages (LocalAct.Reopen (Labels.name w d.number))
+    ≡ act_alone (w.part e) w.messages (LocalAct.Reopen (Labels.name w d.number))
 reopens w s e d = part_after w s e (LocalAct.Reopen (Labels.name w d.number)) (delivered w s e ResetDone d)
 
 completes : (w : World) (s : Step) (e k : ℕ) → CompletesOrder w s e k → ((next w s).part e).order_state k ≡ Done

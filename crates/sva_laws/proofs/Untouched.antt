@@ -18,12 +18,12 @@ use Rattle.sva_model.specs.State.RequestState.{Out, Doomed, Over}
 use Rattle.sva_model.specs.State.GroupState.{Awaiting, Stale}
 use Rattle.sva_model.specs.State.Stage.{Unbound, Invalidating, Quiet, Lost, Released}
 use Rattle.sva_model.specs.States.{covers, drains}
-use Rattle.sva_model.specs.Acts.{Act, LocalAct, act, own, none_if, is_replaced, doom_if, stale_if, disables, cut_off, submitted, submitted_if, submits, bound}
+use Rattle.sva_model.specs.Acts.{Act, LocalAct, act, act_alone, none_if, is_replaced, doom_if, stale_if, disables, cut_off, submitted, submitted_if, submits, bound}
 use Rattle.sva_model.specs.Acts.{cookie_of}
 use Rattle.sva_model.specs.Acts.Act.{NewSpace, DropSpace, Map, Unmap, NewBinding, NewJob, Hold, LetGo, AtEndpoint}
 use Rattle.sva_model.specs.Labels
 use Rattle.sva_model.specs.Refusals.{Cause, refusals}
-use Rattle.sva_model.specs.Outcomes.{Outcome, outcome, about_outcome, deliver_outcome, completion_outcome, keep_outcome, is_full}
+use Rattle.sva_model.specs.Outcomes.{Outcome, outcome, subject_outcome, deliver_outcome, completion_outcome, keep_outcome, is_full}
 use Rattle.sva_model.specs.Steps.{Reply, checked, reply, decide, next, after_acts, world_after}
 use Rattle.sva_laws.specs.UnitSteps.{Delivers}
 use Rattle.sva_laws.specs.Untouched.{Evicts, Takes, Brings, Stops, Quits, Asks, Disables, CutsOff, DrainsOnce, is_of_endpoint}
@@ -52,7 +52,7 @@ row_put f i v = (put-same f i v, λ k ne. put-other f i v k ne)
 -- What an accepted step of an endpoint makes of it.
 
 accepted_part : (w : World) (s : Step) (e : ℕ) (o : LocalAct) (said : Answer) → reply w s ≡ Ok said → (outcome w s).acts ≡ AtEndpoint e o ∷ []
-    → (next w s).part e ≡ own (w.part e) w.messages o
+    → (next w s).part e ≡ act_alone (w.part e) w.messages o
 accepted_part w s e o said h acts = part_after w s e o ((accepted (refusals w s) (outcome w s) said h).2 ∙ acts)
 
 -- at the world after the step
@@ -62,7 +62,7 @@ later_part rule config steps s e P h = subst (λ v. P (v.part e)) (sym (after_on
 
 -- An evict.
 
-own_evicts : (p : Endpoint) (n t q : ℕ) → Cached p t q → Evicts p (own p n (LocalAct.Evict (Labels.cached p (Labels.bearer p t) q))) t q
+own_evicts : (p : Endpoint) (n t q : ℕ) → Cached p t q → Evicts p (act_alone p n (LocalAct.Evict (Labels.cached p (Labels.bearer p t) q))) t q
 own_evicts p n t q c =
     let r = Labels.cached p (Labels.bearer p t) q in
     record {
@@ -90,7 +90,7 @@ always_evicts rule config steps e t q said h =
 
 -- An invalidation that is taken.
 
-own_takes : (p : Endpoint) (n c k : ℕ) → Takes p (own p n (LocalAct.Take c k)) k
+own_takes : (p : Endpoint) (n c k : ℕ) → Takes p (act_alone p n (LocalAct.Take c k)) k
 own_takes p n c k =
     record {
       dropped = λ r h. ap (λ b. none_if b (p.held r)) h;
@@ -121,8 +121,8 @@ always_takes rule config steps s e k d =
 
 -- A translation completion.
 
-own_keeps : (p : Endpoint) (n c r m : ℕ) → Brings p (own p n (LocalAct.Keep c r m)) r (Some m) answer.Held
-own_keeps p n c r m =
+act_alone_keeps : (p : Endpoint) (n c r m : ℕ) → Brings p (act_alone p n (LocalAct.Keep c r m)) r (Some m) answer.Held
+act_alone_keeps p n c r m =
     record {
       kept = λ h. (m, refl, put-same (λ x. none_if (is_replaced p r x) (p.held x)) r (Some m));
       replaced = λ h x ne b q.
@@ -142,7 +142,7 @@ own_keeps p n c r m =
     is_other : (a b x y : ℕ) → (a ≢ b) ⊎ (x ≢ y) → (a == b && x == y) ≡ false
     is_other a b x y h = grind (arith, nat_tests)
 
-own_forgets : (p : Endpoint) (n c r : ℕ) (found : Option ℕ) (said : Answer) → said ≢ answer.Held → Brings p (own p n (LocalAct.Forget c r)) r found said
+own_forgets : (p : Endpoint) (n c r : ℕ) (found : Option ℕ) (said : Answer) → said ≢ answer.Held → Brings p (act_alone p n (LocalAct.Forget c r)) r found said
 own_forgets p n c r found said ne =
     record {
       kept = λ h. absurd (ne h);
@@ -153,7 +153,7 @@ own_forgets p n c r found said ne =
       alone = refl;
     }
 
-own_ignores : (p : Endpoint) (n c r : ℕ) (found : Option ℕ) (said : Answer) → said ≢ answer.Held → Brings p (own p n (LocalAct.Ignore c)) r found said
+own_ignores : (p : Endpoint) (n c r : ℕ) (found : Option ℕ) (said : Answer) → said ≢ answer.Held → Brings p (act_alone p n (LocalAct.Ignore c)) r found said
 own_ignores p n c r found said ne =
     record {
       kept = λ h. absurd (ne h);
@@ -166,14 +166,14 @@ own_ignores p n c r found said ne =
 
 -- by the act of the outcome
 abbrev Leaves : (p q : Endpoint) (n e : ℕ) → List Act → Type 0
-Leaves p q n e acts = (o : LocalAct) → acts ≡ AtEndpoint e o ∷ [] → q ≡ own p n o
+Leaves p q n e acts = (o : LocalAct) → acts ≡ AtEndpoint e o ∷ [] → q ≡ act_alone p n o
 
 keep_brings : (p q : Endpoint) (n e c r m : ℕ) (said : Answer) (b : Bool) → (keep_outcome e c r m b).answer ≡ said
     → Leaves p q n e (keep_outcome e c r m b).acts → Brings p q r (Some m) said
 keep_brings p q n e c r m said true h f =
     subst (λ z. Brings p z r (Some m) said) (sym (f (LocalAct.Forget c r) refl)) (own_forgets p n c r (Some m) said (λ k. absurd (cc (h ∙ k))))
 keep_brings p q n e c r m said false h f =
-    subst (λ z. Brings p q r (Some m) z) h (subst (λ z. Brings p z r (Some m) answer.Held) (sym (f (LocalAct.Keep c r m) refl)) (own_keeps p n c r m))
+    subst (λ z. Brings p q r (Some m) z) h (subst (λ z. Brings p z r (Some m) answer.Held) (sym (f (LocalAct.Keep c r m) refl)) (act_alone_keeps p n c r m))
 
 completion_brings : (p q : Endpoint) (n e c r : ℕ) (found : Option ℕ) (said : Answer) (x : RequestState) → (completion_outcome p e c r found x).answer ≡ said
     → Leaves p q n e (completion_outcome p e c r found x).acts → Brings p q r found said
@@ -191,9 +191,9 @@ completion_brings p q n e c r None said Over h f =
 
 -- what a delivery answers
 said_by : (w : World) (s : Step) (e : ℕ) (subject : Subject) (said : Answer) → (d : Delivers w s e subject) → reply w s ≡ Ok said
-    → (about_outcome w (w.part e) e (Labels.name w d.number) subject).answer ≡ said
+    → (subject_outcome w (w.part e) e (Labels.name w d.number) subject).answer ≡ said
 said_by w s e subject said d h =
-    sym (ap (λ z. (deliver_outcome w (w.part z) z (Labels.name w d.number) ((w.part z).message (Labels.name w d.number))).answer) d.way_is
+    sym (ap (λ z. (deliver_outcome w (w.part z) z (Labels.name w d.number) ((w.part z).message (Labels.name w d.number))).answer) d.link_is
     ∙ ap (λ z. (deliver_outcome w (w.part e) e (Labels.name w d.number) z).answer) d.speaks)
     ∙ (accepted (refusals w (step.Deliver d.number)) (outcome w (step.Deliver d.number)) said (sym (ap (reply w) d.step_is) ∙ h)).1
 
@@ -210,7 +210,7 @@ always_brings rule config steps s e r found said d h =
 
 -- A Stop that arrives.
 
-own_stops : (p : Endpoint) (n c b : ℕ) → Stops p (own p n (LocalAct.Stop_arrives c b)) b
+own_stops : (p : Endpoint) (n c b : ℕ) → Stops p (act_alone p n (LocalAct.Stop_arrives c b)) b
 own_stops p n c b = record { ending = put-same p.pasid_state b _; others = λ d ne. put-other p.pasid_state b _ d ne; alone = refl }
 
 pub always_stops : (rule : PasidRule) (config : Config) (steps : List Step) (s : Step) (e b : ℕ)
@@ -225,7 +225,7 @@ always_stops rule config steps s e b d =
 
 -- A quit.
 
-own_quits : (p : Endpoint) (n t : ℕ) → Quits p (own p n (LocalAct.Quit (Labels.bearer p t))) t
+own_quits : (p : Endpoint) (n t : ℕ) → Quits p (act_alone p n (LocalAct.Quit (Labels.bearer p t))) t
 own_quits p n t =
     let b = Labels.bearer p t in
     record {
@@ -253,7 +253,7 @@ always_quits rule config steps e t said h =
 
 -- A translation request that is sent.
 
-own_asks : (p : Endpoint) (n t q tag : ℕ) → Asks p (own p n (LocalAct.Ask (Labels.bearer p t) q tag)) t q
+own_asks : (p : Endpoint) (n t q tag : ℕ) → Asks p (act_alone p n (LocalAct.Ask (Labels.bearer p t) q tag)) t q
 own_asks p n t q tag =
     record {
       out = put-same p.request p.requests _;
@@ -280,7 +280,7 @@ always_asks rule config steps e t q said h =
 
 -- The page request interface.
 
-calm_own : (p : Endpoint) (n : ℕ) (o : LocalAct) → is_calm_own o ≡ true → (own p n o).is_disabled ≡ p.is_disabled
+calm_own : (p : Endpoint) (n : ℕ) (o : LocalAct) → is_calm_own o ≡ true → (act_alone p n o).is_disabled ≡ p.is_disabled
 calm_own p n o h = grind arith
 
 calm_act : (w : World) (a : Act) → is_calm a ≡ true → (e : ℕ) → ((act w a).part e).is_disabled ≡ (w.part e).is_disabled
@@ -293,7 +293,7 @@ calm_act w (NewJob d g) h e = refl
 calm_act w (Hold x j) h e = refl
 calm_act w (LetGo x) h e = refl
 calm_act w (AtEndpoint d o) h e =
-    put_keeps (λ x q. q.is_disabled ≡ (w.part x).is_disabled) w.part d (own (w.part d) w.messages o) (calm_own (w.part d) w.messages o h) (λ x. refl) e
+    put_keeps (λ x q. q.is_disabled ≡ (w.part x).is_disabled) w.part d (act_alone (w.part d) w.messages o) (calm_own (w.part d) w.messages o h) (λ x. refl) e
 
 calm_acts : (acts : List Act) (w : World) → are_calm acts ≡ true → (e : ℕ) → ((after_acts w acts).part e).is_disabled ≡ (w.part e).is_disabled
 calm_acts [] w h e = refl
@@ -314,7 +314,7 @@ abbrev answers_group : LocalAct → Bool
 answers_group (LocalAct.Answered c g code) = true
 answers_group _ = false
 
-other_disabled : (p : Endpoint) (n : ℕ) (o : LocalAct) → answers_group o ≡ false → (own p n o).is_disabled ≡ true → p.is_disabled ≡ true
+other_disabled : (p : Endpoint) (n : ℕ) (o : LocalAct) → answers_group o ≡ false → (act_alone p n o).is_disabled ≡ true → p.is_disabled ≡ true
 other_disabled p n o e h = grind arith
 
 by_failure : (b : Bool) (code : Code) → (b || disables code) ≡ true → (b ≡ true) ⊎ (code ≡ FailureCode)
@@ -327,7 +327,7 @@ abbrev Disabled : World → Step → ℕ → Endpoint → Type 0
 Disabled w s e q = q.is_disabled ≡ true → ((w.part e).is_disabled ≡ true) ⊎ ((g : ℕ) × Delivers w s e (ResponseOf g FailureCode))
 
 own_disabled : (w : World) (s : Step) (e : ℕ) (o : LocalAct) (a : Answer) (b : Bool) → answers_group o ≡ b → reply w s ≡ Ok a → IsBy w s e o a
-    → LegalLocalAct w.mappings w.bindings (w.part e) o → Disabled w s e (own (w.part e) w.messages o)
+    → LegalLocalAct w.mappings w.bindings (w.part e) o → Disabled w s e (act_alone (w.part e) w.messages o)
 own_disabled w s e o a false z h by l d = inl (other_disabled (w.part e) w.messages o z d)
 own_disabled w s e (LocalAct.Answered c g code) a true z h by l d = go (by_failure (w.part e).is_disabled code d)
   where
@@ -346,7 +346,7 @@ step_disabled w s e i = go (step_kind w s)
     go (calm h) = λ d. inl (sym (calm_acts (decide w s).acts w h e) ∙ d)
     go (single d o a x h by) =
         subst (λ z. Disabled w s e ((after_acts w z).part e)) (sym x)
-        (put_keeps (λ k q. Disabled w s k q) w.part d (own (w.part d) w.messages o)
+        (put_keeps (λ k q. Disabled w s k q) w.part d (act_alone (w.part d) w.messages o)
         (own_disabled w s d o a (answers_group o) refl h by (first d o x).1.0) (λ k y. inl y) e)
     go (unmapping t q count order x) =
         subst (λ z. Disabled w s e ((after_acts w z).part e)) (sym x)
@@ -370,7 +370,7 @@ always_disables rule config steps s e =
 
 -- A reset-done.
 
-own_cuts_off : (p : Endpoint) (n c : ℕ) → CutsOff p (own p n (LocalAct.Reopen c))
+own_cuts_off : (p : Endpoint) (n c : ℕ) → CutsOff p (act_alone p n (LocalAct.Reopen c))
 own_cuts_off p n c =
     record {
       live = λ b h. ap cut_off h;
@@ -397,8 +397,8 @@ abbrev BehindPasid : Endpoint → Type 0
 BehindPasid p = (b k x : ℕ) → p.stage b ≡ Invalidating k x → (x < p.orders) × (drains (p.order x) ≡ false)
 
 behind_own : (ms : Mappings) (g n : ℕ) (p : Endpoint) (o : LocalAct) → LegalLocalAct ms g p o → (b k x : ℕ)
-    → (p.stage b ≡ Invalidating k x → (x < p.orders) × (drains (p.order x) ≡ false)) → (own p n o).stage b ≡ Invalidating k x
-    → (x < (own p n o).orders) × (drains ((own p n o).order x) ≡ false)
+    → (p.stage b ≡ Invalidating k x → (x < p.orders) × (drains (p.order x) ≡ false)) → (act_alone p n o).stage b ≡ Invalidating k x
+    → (x < (act_alone p n o).orders) × (drains ((act_alone p n o).order x) ≡ false)
 behind_own ms g n p o l b k x old h = grind (arith, nat_tests)
 
 behind_parts : IsKeptByParts BehindPasid

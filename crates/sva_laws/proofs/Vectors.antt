@@ -10,7 +10,7 @@ use Rattle.sva_model.specs.State.Subject.{InvalidateOf, InvalidatedOf}
 use Rattle.sva_model.specs.State.Phase.{Cleared}
 use Rattle.sva_model.specs.States.{is_taken}
 use Rattle.sva_model.specs.Labels.{is_set}
-use Rattle.sva_model.specs.Acts.{LocalAct, own, submitted, counted_if, owe_if, count_field}
+use Rattle.sva_model.specs.Acts.{LocalAct, act_alone, submitted, counted_if, completing_if, count_field}
 use Rattle.sva_laws.specs.Laws.{IsVectorOf, count_read, names_order, left_of}
 use Rattle.sva_laws.proofs.Words.{put-same, put-other}
 use Rattle.sva_laws.proofs.Counting.{count_off}
@@ -32,30 +32,30 @@ AreOwed p = (c : ℕ) (names : ℕ → Bool) → p.message c ≡ Some (Invalidat
 
 -- an order that is owed keeps its ITag, whatever is done
 itag_same : (ms : Mappings) (g n : ℕ) (p : Endpoint) (o : LocalAct) → LegalLocalAct ms g p o → (k count left : ℕ) → p.order_state k ≡ Completing count left
-    → (own p n o).itag k ≡ p.itag k
+    → (act_alone p n o).itag k ≡ p.itag k
 itag_same ms g n p o l k count left h = grind (arith, nat_tests)
 
 -- all acts but these leave what it is owed
 state_same : (ms : Mappings) (g n : ℕ) (p : Endpoint) (o : LocalAct) → LegalLocalAct ms g p o → counts_completions o ≡ false
     → ((c j : ℕ) → p.message c ≡ Some (InvalidateOf j) → p.order_state j ≡ Sent) → (k count left : ℕ) → (p.orders ≤ k → p.order_state k ≡ Void)
-    → p.order_state k ≡ Completing count left → (own p n o).order_state k ≡ Completing count left
+    → p.order_state k ≡ Completing count left → (act_alone p n o).order_state k ≡ Completing count left
 state_same ms g n p o l e sent k count left bo h = grind (arith, nat_tests)
 
 message_same : (ms : Mappings) (g n : ℕ) (p : Endpoint) (o : LocalAct) → LegalLocalAct ms g p o → counts_completions o ≡ false → (c : ℕ) (names : ℕ → Bool)
-    → (own p n o).message c ≡ Some (InvalidatedOf names) → p.message c ≡ Some (InvalidatedOf names)
+    → (act_alone p n o).message c ≡ Some (InvalidatedOf names) → p.message c ≡ Some (InvalidatedOf names)
 message_same ms g n p o l e c names h = grind (arith, nat_tests)
 
 carried_same : (ms : Mappings) (g n : ℕ) (p : Endpoint) (o : LocalAct) → LegalLocalAct ms g p o → (c : ℕ) (a : Subject) → (n ≤ c → p.message c ≡ None)
     → p.message c
-    ≡ Some a → (own p n o).carried c ≡ p.carried c
+    ≡ Some a → (act_alone p n o).carried c ≡ p.carried c
 carried_same ms g n p o l c a un h = grind (arith, nat_tests)
 
 -- from an order that is owed to the same after the act
 kept : (ms : Mappings) (g n : ℕ) (p : Endpoint) (o : LocalAct) → LegalLocalAct ms g p o → (c : ℕ) (names : ℕ → Bool) → (n ≤ c → p.message c ≡ None)
     → p.message c
     ≡ Some (InvalidatedOf names)
-    → ((k count left : ℕ) → names k ≡ true → p.order_state k ≡ Completing count left → (rest : ℕ) × ((own p n o).order_state k ≡ Completing count rest))
-    → IsOwedFor p c names → IsOwedFor (own p n o) c names
+    → ((k count left : ℕ) → names k ≡ true → p.order_state k ≡ Completing count left → (rest : ℕ) × ((act_alone p n o).order_state k ≡ Completing count rest))
+    → IsOwedFor p c names → IsOwedFor (act_alone p n o) c names
 kept ms g n p o l c names un m stays (vector, field, carried, low, bits, owed) = (
   vector,
   field,
@@ -68,11 +68,11 @@ kept ms g n p o l c names un m stays (vector, field, carried, low, bits, owed) =
   λ k nm. stays k (count_read field) (owed k nm).0 nm (owed k nm).1,
 )
   where
-    same : (k : ℕ) → names k ≡ true → (own p n o).itag k ≡ p.itag k
+    same : (k : ℕ) → names k ≡ true → (act_alone p n o).itag k ≡ p.itag k
     same k nm = itag_same ms g n p o l k (count_read field) (owed k nm).0 (owed k nm).1
 
 plain : (ms : Mappings) (g n : ℕ) (p : Endpoint) (o : LocalAct) → LegalLocalAct ms g p o → counts_completions o ≡ false → Resets n p → Bounds g p → Labels p
-    → AreOwed p → AreOwed (own p n o)
+    → AreOwed p → AreOwed (act_alone p n o)
 plain ms g n p o l e re bo la old c names h =
     let m : p.message c ≡ Some (InvalidatedOf names) = message_same ms g n p o l e c names h in
     kept ms g n p o l c names (re.unsent c) m (λ k count left nm s. (left, state_same ms g n p o l e la.sent k count left (bo.order_state k) s))
@@ -82,18 +82,19 @@ plain ms g n p o l e re bo la old c names h =
 below_or_not : (a b : ℕ) → (a < b) ⊎ (b ≤ a)
 below_or_not a b = grind arith
 
-finish_older : (n : ℕ) (p : Endpoint) (ns : ℕ → Bool) (vector count c : ℕ) → c < n → (own p n (LocalAct.Finish ns vector count)).message c ≡ p.message c
+finish_older : (n : ℕ) (p : Endpoint) (ns : ℕ → Bool) (vector count c : ℕ) → c < n → (act_alone p n (LocalAct.Finish ns vector count)).message c ≡ p.message c
 finish_older n p ns vector count c lt = grind (arith, nat_tests)
 
 finish_below : (n : ℕ) (p : Endpoint) (ns : ℕ → Bool) (vector count c : ℕ) (a : Subject) → p.message c ≡ None
-    → (own p n (LocalAct.Finish ns vector count)).message c ≡ Some a → c < n + count
+    → (act_alone p n (LocalAct.Finish ns vector count)).message c ≡ Some a → c < n + count
 finish_below n p ns vector count c a un h = grind (arith, nat_tests)
 
-finish_carried : (n : ℕ) (p : Endpoint) (ns : ℕ → Bool) (vector count c : ℕ) → n ≤ c → c < n + count → (own p n (LocalAct.Finish ns vector count)).carried c
+finish_carried : (n : ℕ) (p : Endpoint) (ns : ℕ → Bool) (vector count c : ℕ) → n ≤ c → c < n + count
+    → (act_alone p n (LocalAct.Finish ns vector count)).carried c
     ≡ InvalidatedMessage vector (count_field count)
 finish_carried n p ns vector count c lt up = grind (arith, nat_tests)
 
-owed_stays : (b : Bool) (s : OrderState) (more count left : ℕ) → (b ≡ true → is_taken s ≡ true) → s ≡ Completing count left → owe_if b more s
+owed_stays : (b : Bool) (s : OrderState) (more count left : ℕ) → (b ≡ true → is_taken s ≡ true) → s ≡ Completing count left → completing_if b more s
     ≡ Completing count left
 owed_stays b s more count left taken h = grind arith
 
@@ -105,10 +106,10 @@ read_back : (count : ℕ) → 0 < count → count ≤ 8 → count_read (count_fi
 read_back count l m = grind (arith, nat_tests)
 
 finished : (ms : Mappings) (g n : ℕ) (p : Endpoint) (ns : ℕ → Bool) (vector count : ℕ) → LegalLocalAct ms g p (LocalAct.Finish ns vector count) → Resets n p
-    → AreOwed p → AreOwed (own p n (LocalAct.Finish ns vector count))
+    → AreOwed p → AreOwed (act_alone p n (LocalAct.Finish ns vector count))
 finished ms g n p ns vector count l re old c names h = go (below_or_not c n)
   where
-    go : (c < n) ⊎ (n ≤ c) → IsOwedFor (own p n (LocalAct.Finish ns vector count)) c names
+    go : (c < n) ⊎ (n ≤ c) → IsOwedFor (act_alone p n (LocalAct.Finish ns vector count)) c names
     go (inl lt) =
         let m : p.message c ≡ Some (InvalidatedOf names) = sym (finish_older n p ns vector count c lt) ∙ h in
         kept ms g n p (LocalAct.Finish ns vector count) l c names (re.unsent c) m
@@ -122,7 +123,7 @@ finished ms g n p ns vector count l re old c names h = go (below_or_not c n)
         named = λ k nm. l.5.named k (same k ∙ nm);
         set = λ t low s. let b = l.5.set t low s in (b.0, sym (same b.0) ∙ b.1, b.2);
       },
-      λ k nm. (count, ap (λ b. owe_if b count (p.order_state k)) (same k ∙ nm) ∙ ap (λ z. Completing z count) (sym (read_back count l.3 l.4))),
+      λ k nm. (count, ap (λ b. completing_if b count (p.order_state k)) (same k ∙ nm) ∙ ap (λ z. Completing z count) (sym (read_back count l.3 l.4))),
     )
       where
         below : c < n + count
@@ -132,10 +133,10 @@ finished ms g n p ns vector count l re old c names h = go (below_or_not c n)
         same k = sym (finish_new n p ns vector count k c up below) ∙ ap (names_order k) h
 
 -- A completion arrives at an open unit: where an order is owed one more only, no other in flight names it.
-count_apart : (n : ℕ) (p : Endpoint) (c d : ℕ) (ns : ℕ → Bool) (a : Subject) → (own p n (LocalAct.Count c ns)).message d ≡ Some a → d ≢ c
+count_apart : (n : ℕ) (p : Endpoint) (c d : ℕ) (ns : ℕ → Bool) (a : Subject) → (act_alone p n (LocalAct.Count c ns)).message d ≡ Some a → d ≢ c
 count_apart n p c d ns a h = grind (arith, nat_tests)
 
-count_old : (n : ℕ) (p : Endpoint) (c d : ℕ) (ns : ℕ → Bool) (a : Subject) → (own p n (LocalAct.Count c ns)).message d ≡ Some a → p.message d ≡ Some a
+count_old : (n : ℕ) (p : Endpoint) (c d : ℕ) (ns : ℕ → Bool) (a : Subject) → (act_alone p n (LocalAct.Count c ns)).message d ≡ Some a → p.message d ≡ Some a
 count_old n p c d ns a h = grind (arith, nat_tests)
 
 two_pass : (n : ℕ) (f : ℕ → Bool) (c d : ℕ) → c < n → d < n → d ≢ c → f c ≡ true → f d ≡ true → count_below n f ≢ 1
@@ -148,7 +149,7 @@ two_pass n f c d lc ld ne fc fd one =
     absurd (omega (arith, one, x, y))
 
 counted_owed : (ms : Mappings) (g n : ℕ) (p : Endpoint) (c : ℕ) (ns : ℕ → Bool) → LegalLocalAct ms g p (LocalAct.Count c ns) → Resets n p → Owed n p → AreOwed p
-    → AreOwed (own p n (LocalAct.Count c ns))
+    → AreOwed (act_alone p n (LocalAct.Count c ns))
 counted_owed ms g n p c ns l re ow old d names h =
     kept ms g n p (LocalAct.Count c ns) l d names (re.unsent d) m (λ k count left nm s. go k count left nm s (ns k) refl) (old d names m)
   where
@@ -172,12 +173,12 @@ counted_owed ms g n p c ns l re ow old d names h =
 
 -- at the end of a reset nothing is in flight
 reopened : (ms : Mappings) (g n : ℕ) (p : Endpoint) (c d : ℕ) (a : Subject) → LegalLocalAct ms g p (LocalAct.Reopen c) → p.phase ≡ Cleared c
-    → ((b : Subject) → p.message d ≡ Some b → d ≤ c) → (own p n (LocalAct.Reopen c)).message d ≢ Some a
+    → ((b : Subject) → p.message d ≡ Some b → d ≤ c) → (act_alone p n (LocalAct.Reopen c)).message d ≢ Some a
 reopened ms g n p c d a l ph old h = grind (arith, nat_tests)
 
 by_act : (ms : Mappings) (g n : ℕ) (p : Endpoint) (o : LocalAct) → LegalLocalAct ms g p o → Resets n p → Bounds g p → Labels p → Owed n p → AreOwed p
     → (b : Bool)
-    → counts_completions o ≡ b → AreOwed (own p n o)
+    → counts_completions o ≡ b → AreOwed (act_alone p n o)
 by_act ms g n p o l re bo la ow old false e = plain ms g n p o l e re bo la old
 by_act ms g n p (LocalAct.Finish ns vector count) l re bo la ow old true e = finished ms g n p ns vector count l re old
 by_act ms g n p (LocalAct.Count c ns) l re bo la ow old true e = counted_owed ms g n p c ns l re ow old
@@ -186,7 +187,7 @@ by_act ms g n p (LocalAct.Reopen c) l re bo la ow old true e =
 by_act ms g n p o l re bo la ow old true e = absurd (grind arith)
 
 pub owed_for_kept : (ms : Mappings) (g n : ℕ) (p : Endpoint) (o : LocalAct) → LegalLocalAct ms g p o → Resets n p → Bounds g p → Labels p → Owed n p → AreOwed p
-    → AreOwed (own p n o)
+    → AreOwed (act_alone p n o)
 owed_for_kept ms g n p o l re bo la ow old = by_act ms g n p o l re bo la ow old (counts_completions o) refl
 
 -- a submission leaves the orders that were made

@@ -7,8 +7,8 @@ use Rattle.sva_step.specs.declared.limits.Config.{Config}
 use Rattle.sva_step.specs.declared.steps.Step.{Step}
 use Rattle.sva_model.specs.State.{Endpoint, Phase, World, opened}
 use Rattle.sva_model.specs.State.OrderState.{Void}
-use Rattle.sva_model.specs.State.Phase.{Open, Ordered, Cleared}
-use Rattle.sva_model.specs.Acts.{Act, LocalAct, act, own, submitted, submitted_if, submits, bound, cookie_of}
+use Rattle.sva_model.specs.State.Phase.{Open, ResetSent, Cleared}
+use Rattle.sva_model.specs.Acts.{Act, LocalAct, act, act_alone, submitted, submitted_if, submits, bound, cookie_of}
 use Rattle.sva_model.specs.Acts.Act.{NewSpace, DropSpace, Map, Unmap, NewBinding, NewJob, Hold, LetGo, AtEndpoint}
 use Rattle.sva_model.specs.Steps.{decide, next, run, after_acts, world_after}
 use Rattle.sva_laws.specs.UnitSteps.{IsVoidByReset}
@@ -47,7 +47,7 @@ since_more p q r a b =
     from k (inl h) (inr o) = inr (up o)
     from k (inl h) (inl o) = elim (a.void k h.0 h.1 o) [ inl x ↦ inl x | inr y ↦ inr (on y) ]
 
-since_own : (p : Endpoint) (n : ℕ) (o : LocalAct) → Since p (own p n o)
+since_own : (p : Endpoint) (n : ℕ) (o : LocalAct) → Since p (act_alone p n o)
 since_own p n o =
     record {
       resets = grind (arith, nat_tests);
@@ -73,7 +73,7 @@ since_act w (NewJob d g) e = since_same (w.part e)
 since_act w (Hold x j) e = since_same (w.part e)
 since_act w (LetGo x) e = since_same (w.part e)
 since_act w (AtEndpoint d o) e =
-    put_keeps (λ x q. Since (w.part x) q) w.part d (own (w.part d) w.messages o) (since_own (w.part d) w.messages o) (λ x. since_same (w.part x)) e
+    put_keeps (λ x q. Since (w.part x) q) w.part d (act_alone (w.part d) w.messages o) (since_own (w.part d) w.messages o) (λ x. since_same (w.part x)) e
 
 since_acts : (acts : List Act) (w : World) (e : ℕ) → Since (w.part e) ((after_acts w acts).part e)
 since_acts [] w e = since_same (w.part e)
@@ -89,7 +89,7 @@ void_by_reset p q x = record { void = λ k lt h. go k lt h q.phase refl }
     go : (k : ℕ) → k < q.orders → q.order_state k ≡ Void → (f : Phase) → q.phase ≡ f → ((k < p.orders) × (p.order_state k ≡ Void))
         ⊎ ((q.phase ≢ Open) ⊎ (p.resets < q.resets))
     go k lt h Open f = elim (x.void k lt h f) [ inl y ↦ inl y | inr z ↦ inr (inr z) ]
-    go k lt h (Ordered c) f = inr (inl (λ o. absurd (cc (sym o ∙ f))))
+    go k lt h (ResetSent c) f = inr (inl (λ o. absurd (cc (sym o ∙ f))))
     go k lt h (Cleared c) f = inr (inl (λ o. absurd (cc (sym o ∙ f))))
 
 pub always_void : (rule : PasidRule) (config : Config) (before since : List Step) (e : ℕ)

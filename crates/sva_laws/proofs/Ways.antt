@@ -12,7 +12,7 @@ use Rattle.sva_model.specs.State.HostGroupState.{NotFiled, Replied}
 use Rattle.sva_model.specs.State.Subject.{RequestOf, CompletionOf, InvalidateOf, ResponseOf, ResetDone}
 use Rattle.sva_model.specs.State.Phase.{Open}
 use Rattle.sva_model.specs.States.{is_out}
-use Rattle.sva_model.specs.Acts.{Act, LocalAct, act, own, submitted, submitted_if, submits, bound, cookie_of}
+use Rattle.sva_model.specs.Acts.{Act, LocalAct, act, act_alone, submitted, submitted_if, submits, bound, cookie_of}
 use Rattle.sva_model.specs.Acts.Act.{NewSpace, DropSpace, Map, Unmap, NewBinding, NewJob, Hold, LetGo, AtEndpoint}
 use Rattle.sva_model.specs.Steps.{decide, next, run, after_acts, world_after}
 use Rattle.sva_laws.proofs.Legal.{LegalLocalAct}
@@ -42,31 +42,31 @@ pub record Ways (p : Endpoint) : Type 0 where
 
 sent_kept : (ms : Mappings) (g n k : ℕ) (p : Endpoint) (o : LocalAct) → LegalLocalAct ms g p o
     → (n ≤ p.invalidate_message k → p.message (p.invalidate_message k) ≡ None)
-    → (p.order_state k ≡ Sent → p.message (p.invalidate_message k) ≡ Some (InvalidateOf k)) → (own p n o).order_state k ≡ Sent
-    → (own p n o).message ((own p n o).invalidate_message k) ≡ Some (InvalidateOf k)
+    → (p.order_state k ≡ Sent → p.message (p.invalidate_message k) ≡ Some (InvalidateOf k)) → (act_alone p n o).order_state k ≡ Sent
+    → (act_alone p n o).message ((act_alone p n o).invalidate_message k) ≡ Some (InvalidateOf k)
 sent_kept ms g n k p o l un old h = grind (arith, nat_tests)
 
 out_kept : (ms : Mappings) (g n r : ℕ) (p : Endpoint) (o : LocalAct) → LegalLocalAct ms g p o
     → (n ≤ p.request_message r → p.message (p.request_message r) ≡ None)
     → ((c : ℕ) → p.message c ≡ Some ResetDone → is_out (p.request r) ≡ false)
     → ((c d x : ℕ) (f : Option ℕ) → p.message c ≡ Some (CompletionOf x f) → p.message d ≡ Some (RequestOf x) → ⊥)
-    → (p.phase ≡ Open → is_out (p.request r) ≡ true → is_of_request r (p.message (p.request_message r)) ≡ true) → (own p n o).phase ≡ Open
-    → is_out ((own p n o).request r) ≡ true → is_of_request r ((own p n o).message ((own p n o).request_message r)) ≡ true
+    → (p.phase ≡ Open → is_out (p.request r) ≡ true → is_of_request r (p.message (p.request_message r)) ≡ true) → (act_alone p n o).phase ≡ Open
+    → is_out ((act_alone p n o).request r) ≡ true → is_of_request r ((act_alone p n o).message ((act_alone p n o).request_message r)) ≡ true
 out_kept ms g n r p o l un re both old ph h = grind (arith, nat_tests)
 
 response_kept : (ms : Mappings) (g n x : ℕ) (p : Endpoint) (o : LocalAct) → LegalLocalAct ms g p o
     → (n ≤ p.response_message x → p.message (p.response_message x) ≡ None) → (p.groups ≤ x → p.host_group x ≡ NotFiled)
     → (p.host_group x ≡ Replied → p.group x ≢ Collecting) → ((c : ℕ) → p.message c ≡ Some ResetDone → p.group x ≡ Closed)
     → (p.phase ≡ Open → is_answerable (p.group x) ≡ true → p.host_group x ≡ Replied → is_response_to x (p.message (p.response_message x)) ≡ true)
-    → (own p n o).phase ≡ Open → is_answerable ((own p n o).group x) ≡ true → (own p n o).host_group x ≡ Replied
-    → is_response_to x ((own p n o).message ((own p n o).response_message x)) ≡ true
+    → (act_alone p n o).phase ≡ Open → is_answerable ((act_alone p n o).group x) ≡ true → (act_alone p n o).host_group x ≡ Replied
+    → is_response_to x ((act_alone p n o).message ((act_alone p n o).response_message x)) ≡ true
 response_kept ms g n x p o l un made whole re old ph a h = grind (arith, nat_tests)
 
 -- a group whose response was sent is whole
 whole_of : (p : Endpoint) → Lasts p → (x : ℕ) → p.host_group x ≡ Replied → p.group x ≢ Collecting
 whole_of p la x h = la.whole_group x (ap is_whole h)
 
-pub every : (ms : Mappings) (x g n e : ℕ) (p : Endpoint) (o : LocalAct) → LegalLocalAct ms g p o → PartInvariant ms x g n e p → Ways p → Ways (own p n o)
+pub every : (ms : Mappings) (x g n e : ℕ) (p : Endpoint) (o : LocalAct) → LegalLocalAct ms g p o → PartInvariant ms x g n e p → Ways p → Ways (act_alone p n o)
 every ms x g n e p o l i wa =
     record {
       sent = λ k h. sent_kept ms g n k p o l (i.resets.unsent (p.invalidate_message k)) (wa.sent k) h;
@@ -102,7 +102,7 @@ act_ways w (NewJob e g) l i h = h
 act_ways w (Hold x j) l i h = h
 act_ways w (LetGo x) l i h = h
 act_ways w (AtEndpoint e o) l i h =
-    put_keeps (λ k p. Ways p) w.part e (own (w.part e) w.messages o)
+    put_keeps (λ k p. Ways p) w.part e (act_alone (w.part e) w.messages o)
     (every w.mappings w.config.endpoints w.bindings w.messages e (w.part e) o l.1.0 (i.parts e) (h e)) h
 
 acts_ways : (acts : List Act) (w : World) → LegalAll w acts → Invariant w → AllWays w → AllWays (after_acts w acts)

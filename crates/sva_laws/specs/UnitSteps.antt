@@ -25,7 +25,7 @@ pub record Delivers (w : World) (s : Step) (e : ℕ) (subject : Subject) : Type 
   pub step_is : s ≡ step.Deliver number
   pub answer : Answer
   pub accepted : reply w s ≡ Ok answer
-  pub way_is : w.link_of (name w number) ≡ e
+  pub link_is : w.link_of (name w number) ≡ e
   pub speaks : (w.part e).message (name w number) ≡ Some subject
 
 -- the step is a Reset of the unit that is accepted

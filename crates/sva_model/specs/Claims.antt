@@ -22,47 +22,57 @@ use Rattle.sva_model.specs.States.Place.{Free, Mapped, Withheld}
 use Rattle.sva_model.specs.Steps.{world_after}
 
 -- Usable translations (what a translation completion gave, or may yet give: PCI Express Base 5.0, section 10.2.3; a use is a
--- memory request with AT field 10b: section 10.2.1). At endpoint e, of binding b and page q, and by mapping m: one that is
+-- memory request with AT field 10b: section 10.2.1). At an endpoint, of a binding and a page, and by a mapping: one that is
 -- cached; that of a running use; or one that a Completion in flight carries, whose request is out and not doomed.
-pub data Usable (w : World) (e : ℕ) : (binding page mapping : ℕ) → Type 0 where
-  cached : (r m : ℕ) → (w.part e).held r ≡ Some m → Usable w e ((w.part e).request_binding r) ((w.part e).request_page r) m
-  in_use : (u : ℕ) → (w.part e).use_state u ≡ Running
-      → Usable w e ((w.part e).use_binding u) (w.mappings.page ((w.part e).use_mapping u)) ((w.part e).use_mapping u)
-  under_way : (c r m : ℕ) → (w.part e).message c ≡ Some (CompletionOf r (Some m)) → (w.part e).request r ≡ Out
-      → Usable w e ((w.part e).request_binding r) ((w.part e).request_page r) m
+pub data Usable (world : World) (endpoint : ℕ) : (binding page mapping : ℕ) → Type 0 where
+  cached :
+      (request mapping : ℕ)
+      → (world.part endpoint).held request ≡ Some mapping
+      → Usable world endpoint ((world.part endpoint).request_binding request) ((world.part endpoint).request_page request) mapping
+  in_use :
+      (used : ℕ)
+      → (world.part endpoint).use_state used ≡ Running
+      → Usable world endpoint ((world.part endpoint).use_binding used) (world.mappings.page ((world.part endpoint).use_mapping used))
+      ((world.part endpoint).use_mapping used)
+  under_way :
+      (message request mapping : ℕ)
+      → (world.part endpoint).message message ≡ Some (CompletionOf request (Some mapping))
+      → (world.part endpoint).request request ≡ Out
+      → Usable world endpoint ((world.part endpoint).request_binding request) ((world.part endpoint).request_page request) mapping
 
 -- the owner's space is live, and maps that page to that frame with that write flag
-pub record IsPresent (w : World) (e binding page mapping : ℕ) : Type 0 where
-  pub live : w.is_live ((w.part e).space binding) ≡ true
+pub record IsPresent (world : World) (endpoint binding page mapping : ℕ) : Type 0 where
+  pub live : world.is_live ((world.part endpoint).space binding) ≡ true
   pub there : ℕ
-  pub maps : w.mappings.at ((w.part e).space binding) page ≡ Some there
-  pub frame : w.mappings.frame there ≡ w.mappings.frame mapping
-  pub write : w.mappings.write there ≡ w.mappings.write mapping
+  pub maps : world.mappings.at ((world.part endpoint).space binding) page ≡ Some there
+  pub frame : world.mappings.frame there ≡ world.mappings.frame mapping
+  pub write : world.mappings.write there ≡ world.mappings.write mapping
 
 -- Frames. A frame is at a page of a live space.
-pub record IsAt (w : World) (frame space page : ℕ) : Type 0 where
-  pub live : w.is_live space ≡ true
+pub record IsAt (world : World) (frame space page : ℕ) : Type 0 where
+  pub live : world.is_live space ≡ true
   pub mapping : ℕ
-  pub maps : w.mappings.at space page ≡ Some mapping
-  pub leads : w.mappings.frame mapping ≡ frame
+  pub maps : world.mappings.at space page ≡ Some mapping
+  pub leads : world.mappings.frame mapping ≡ frame
 
 -- the frame is at some page of a live space
-pub record IsMapped (w : World) (frame : ℕ) : Type 0 where
+pub record IsMapped (world : World) (frame : ℕ) : Type 0 where
   pub space : ℕ
   pub page : ℕ
-  pub is_at : IsAt w frame space page
+  pub is_at : IsAt world frame space page
 
 -- Withheld, by looking back over the list of steps. The steps are `before`, then the step that took the frame out of a
 -- space, then `since`. An endpoint with an unreleased binding of that space just before the step has answered by now if
 -- the binding was Quiet or Lost then;
 abbrev pub WasDone : Endpoint → (binding : ℕ) → Type 0
-WasDone p b = (p.stage b ≡ Quiet) ⊎ (p.stage b ≡ Lost)
+WasDone part binding = (part.stage binding ≡ Quiet) ⊎ (part.stage binding ≡ Lost)
 
 -- or the unit was open, the binding Live, Stopping or Draining, and the orders that the step submitted at the unit are done
 -- by now, which are invalidations of ranges of its pages, one that covers the page that led to the frame among them, and a
 -- wait behind them;
 abbrev pub IsBeforeInvalidating : Endpoint → (binding : ℕ) → Type 0
-IsBeforeInvalidating p b = (p.stage b ≡ Live) ⊎ ((marked : Bool) × (p.stage b ≡ Stopping marked)) ⊎ ((wait : ℕ) × (p.stage b ≡ Draining wait))
+IsBeforeInvalidating part binding =
+    (part.stage binding ≡ Live) ⊎ ((marked : Bool) × (part.stage binding ≡ Stopping marked)) ⊎ ((wait : ℕ) × (part.stage binding ≡ Draining wait))
 
 -- The step that led from `was` to `then` submitted at the unit what the unmapping of a page of the binding asks: behind all
 -- orders that were there, invalidations of ranges of the binding, of which one covers the page, and a wait as the last of them.
@@ -73,7 +83,7 @@ pub record HasSubmitted (was then : Endpoint) (binding page : ℕ) : Type 0 wher
   pub is_last : then.orders ≡ suc wait
   pub is_a_wait : is_wait (then.order wait) ≡ true
   -- what is ahead of the wait are invalidations of ranges of the binding
-  pub ranges : (k : ℕ) → was.orders ≤ k → k < wait → (range : Range) × (then.order k ≡ RangeOf binding range)
+  pub ranges : (order : ℕ) → was.orders ≤ order → order < wait → (range : Range) × (then.order order ≡ RangeOf binding range)
   -- and one of them covers the page
   pub its_own : ℕ
   pub own_is_new : was.orders ≤ its_own
@@ -82,7 +92,7 @@ pub record HasSubmitted (was then : Endpoint) (binding page : ℕ) : Type 0 wher
 
 -- the orders of the unit from one up to another are done
 abbrev pub AreDone : Endpoint → (from to : ℕ) → Type 0
-AreDone p from to = (k : ℕ) → from ≤ k → k < to → p.order_state k ≡ Done
+AreDone part from to = (order : ℕ) → from ≤ order → order < to → part.order_state order ≡ Done
 
 -- or the binding was Invalidating, and its PASID invalidation and the wait behind it are done by now, perhaps since
 -- before the step; or a reset-done of the endpoint was delivered after the step.
@@ -127,73 +137,88 @@ pub record IsWithheld (rule : PasidRule) (config : Config) (steps : List Step) (
 -- place from what was written down when it was taken out, and that agrees with the look back; and what is at a page is a
 -- frame of the config
 pub record IsDivided (rule : PasidRule) (config : Config) (steps : List Step) : Type 0 where
-  pub low : (f s q : ℕ) → IsAt (world_after rule config steps) f s q → f < config.frames
-  pub mapped_once : (f s q t r : ℕ) → IsAt (world_after rule config steps) f s q → IsAt (world_after rule config steps) f t r → (s ≡ t) × (q ≡ r)
-  pub mapped : (f : ℕ) → (place (world_after rule config steps) f ≡ Mapped) ↔ IsMapped (world_after rule config steps) f
-  pub withheld : (f : ℕ) → (place (world_after rule config steps) f ≡ Withheld) ↔ IsWithheld rule config steps f
-  pub free : (f : ℕ) → (place (world_after rule config steps) f ≡ Free) ↔ ((IsMapped (world_after rule config steps) f → ⊥)
-      × (IsWithheld rule config steps f → ⊥))
+  pub low : (frame space page : ℕ) → IsAt (world_after rule config steps) frame space page → frame < config.frames
+  pub mapped_once :
+      (frame space page other_space other_page : ℕ)
+      → IsAt (world_after rule config steps) frame space page
+      → IsAt (world_after rule config steps) frame other_space other_page
+      → (space ≡ other_space) × (page ≡ other_page)
+  pub mapped : (frame : ℕ) → (place (world_after rule config steps) frame ≡ Mapped) ↔ IsMapped (world_after rule config steps) frame
+  pub withheld : (frame : ℕ) → (place (world_after rule config steps) frame ≡ Withheld) ↔ IsWithheld rule config steps frame
+  pub free : (frame : ℕ) → (place (world_after rule config steps) frame ≡ Free) ↔ ((IsMapped (world_after rule config steps) frame → ⊥)
+      × (IsWithheld rule config steps frame → ⊥))
 
 -- Page requests and responses. The binding under which a page request, a group or a marker was sent is its asker.
 abbrev pub asker_of : Endpoint → (page_request : ℕ) → ℕ
-asker_of p r = p.asker (p.group_of r)
+asker_of part page_request = part.asker (part.group_of page_request)
 
 -- the binding is the one unreleased binding of the endpoint that bears its PASID
-pub record IsBearer (p : Endpoint) (binding : ℕ) : Type 0 where
-  pub unreleased : is_unreleased (p.stage binding) ≡ true
-  pub bears : p.at_pasid (p.pasid binding) ≡ Some binding
-  pub alone : (other : ℕ) → is_unreleased (p.stage other) ≡ true → p.pasid other ≡ p.pasid binding → other ≡ binding
+pub record IsBearer (part : Endpoint) (binding : ℕ) : Type 0 where
+  pub unreleased : is_unreleased (part.stage binding) ≡ true
+  pub bears : part.at_pasid (part.pasid binding) ≡ Some binding
+  pub alone : (other : ℕ) → is_unreleased (part.stage other) ≡ true → part.pasid other ≡ part.pasid binding → other ≡ binding
 
 -- the endpoint has sent the binding's Stop Marker, and it has arrived: the binding bears its PASID, which is off at the
 -- endpoint since, and no Start, Stop or Marker of it is in flight
-pub record HasSentMarker (p : Endpoint) (binding : ℕ) : Type 0 where
-  pub bearer : IsBearer p binding
-  pub off : p.pasid_state binding ≡ Off
-  pub no_start : (c : ℕ) → p.message c ≢ Some (StartOf binding)
-  pub no_stop : (c : ℕ) → p.message c ≢ Some (StopOf binding)
-  pub no_marker : (c : ℕ) → p.message c ≢ Some (MarkerOf binding)
+pub record HasSentMarker (part : Endpoint) (binding : ℕ) : Type 0 where
+  pub bearer : IsBearer part binding
+  pub off : part.pasid_state binding ≡ Off
+  pub no_start : (message : ℕ) → part.message message ≢ Some (StartOf binding)
+  pub no_stop : (message : ℕ) → part.message message ≢ Some (StopOf binding)
+  pub no_marker : (message : ℕ) → part.message message ≢ Some (MarkerOf binding)
 
 -- page requests, groups, markers and responses of an endpoint are matched to who asked
-pub record IsMatched (p : Endpoint) : Type 0 where
+pub record IsMatched (part : Endpoint) : Type 0 where
   -- what the host has filed, and each job, stands under its asker
-  pub filed : (r : ℕ) → p.page_request r ≡ Filed → p.filed_under (p.group_of r) ≡ asker_of p r
-  pub job : (g : ℕ) → is_open_group (p.host_group g) ≡ true → p.filed_under g ≡ p.asker g
+  pub filed : (page_request : ℕ) → part.page_request page_request ≡ Filed → part.filed_under (part.group_of page_request) ≡ asker_of part page_request
+  pub job : (group : ℕ) → is_open_group (part.host_group group) ≡ true → part.filed_under group ≡ part.asker group
   -- at an open unit a page request in flight or arrived, and a marker in flight, finds its asker by its PASID
-  pub in_flight : (c r : ℕ) → p.phase ≡ Open → p.message c ≡ Some (PageRequestOf r) → IsBearer p (asker_of p r)
-  pub arrived : (r : ℕ) → p.phase ≡ Open → p.page_request r ≡ Arrived → IsBearer p (asker_of p r)
-  pub marker : (c b : ℕ) → p.phase ≡ Open → p.message c ≡ Some (MarkerOf b) → IsBearer p b
+  pub in_flight :
+      (message page_request : ℕ)
+      → part.phase ≡ Open
+      → part.message message ≡ Some (PageRequestOf page_request)
+      → IsBearer part (asker_of part page_request)
+  pub arrived : (page_request : ℕ) → part.phase ≡ Open → part.page_request page_request ≡ Arrived → IsBearer part (asker_of part page_request)
+  pub marker : (message binding : ℕ) → part.phase ≡ Open → part.message message ≡ Some (MarkerOf binding) → IsBearer part binding
   -- in every phase a marker that is noted stands under the binding whose endpoint sent it
-  pub noted : (b : ℕ) → p.stage b ≡ Stopping true → HasSentMarker p b
+  pub noted : (binding : ℕ) → part.stage binding ≡ Stopping true → HasSentMarker part binding
   -- a response in flight finds the group that it answers by its index, and was sent for the binding that asked
-  pub response : (c g : ℕ) (code : Code) → p.message c ≡ Some (ResponseOf g code) → (p.at_index (p.index g) ≡ Some g) × (p.filed_under g ≡ p.asker g)
-  pub once : (g : ℕ) → p.responses g ≤ 1
+  pub response :
+      (message group : ℕ) (code : Code)
+      → part.message message ≡ Some (ResponseOf group code)
+      → (part.at_index (part.index group) ≡ Some group) × (part.filed_under group ≡ part.asker group)
+  pub once : (group : ℕ) → part.responses group ≤ 1
 
 -- The agreement: after these steps each usable translation has an unreleased owner and is present or leads to a withheld
 -- frame; page requests and responses are matched; frames are divided; and two unreleased bindings of an endpoint have two
 -- PASIDs, of whatever endpoints two where they have two spaces.
 pub record Agrees (rule : PasidRule) (config : Config) (steps : List Step) : Type 0 where
-  pub owner : (e b q m : ℕ) → Usable (world_after rule config steps) e b q m → is_unreleased (((world_after rule config steps).part e).stage b) ≡ true
+  pub owner :
+      (endpoint binding page mapping : ℕ)
+      → Usable (world_after rule config steps) endpoint binding page mapping
+      → is_unreleased (((world_after rule config steps).part endpoint).stage binding) ≡ true
   pub usable :
-      (e b q m : ℕ)
-      → Usable (world_after rule config steps) e b q m
-      → IsPresent (world_after rule config steps) e b q m ⊎ IsWithheld rule config steps ((world_after rule config steps).mappings.frame m)
-  pub matched : (e : ℕ) → IsMatched ((world_after rule config steps).part e)
+      (endpoint binding page mapping : ℕ)
+      → Usable (world_after rule config steps) endpoint binding page mapping
+      → IsPresent (world_after rule config steps) endpoint binding page mapping
+      ⊎ IsWithheld rule config steps ((world_after rule config steps).mappings.frame mapping)
+  pub matched : (endpoint : ℕ) → IsMatched ((world_after rule config steps).part endpoint)
   pub divided : IsDivided rule config steps
   pub distinct :
-      (e b d : ℕ)
-      → is_unreleased (((world_after rule config steps).part e).stage b) ≡ true
-      → is_unreleased (((world_after rule config steps).part e).stage d) ≡ true
-      → ((world_after rule config steps).part e).pasid b ≡ ((world_after rule config steps).part e).pasid d
-      → b ≡ d
+      (endpoint binding other : ℕ)
+      → is_unreleased (((world_after rule config steps).part endpoint).stage binding) ≡ true
+      → is_unreleased (((world_after rule config steps).part endpoint).stage other) ≡ true
+      → ((world_after rule config steps).part endpoint).pasid binding ≡ ((world_after rule config steps).part endpoint).pasid other
+      → binding ≡ other
   -- under the rule of one PASID for each space: two unreleased bindings, of whatever endpoints, have the same PASID exactly
   -- where they have the same space
   pub shared :
-      (e b d c : ℕ)
+      (endpoint binding other_endpoint other_binding : ℕ)
       → rule ≡ PerSpace
-      → is_unreleased (((world_after rule config steps).part e).stage b) ≡ true
-      → is_unreleased (((world_after rule config steps).part d).stage c) ≡ true
-      → (((world_after rule config steps).part e).pasid b ≡ ((world_after rule config steps).part d).pasid c)
-      ↔ (((world_after rule config steps).part e).space b ≡ ((world_after rule config steps).part d).space c)
+      → is_unreleased (((world_after rule config steps).part endpoint).stage binding) ≡ true
+      → is_unreleased (((world_after rule config steps).part other_endpoint).stage other_binding) ≡ true
+      → (((world_after rule config steps).part endpoint).pasid binding ≡ ((world_after rule config steps).part other_endpoint).pasid other_binding)
+      ↔ (((world_after rule config steps).part endpoint).space binding ≡ ((world_after rule config steps).part other_endpoint).space other_binding)
 
 -- After every list of steps, however late messages come in a permitted order.
 abbrev pub AlwaysAgrees : Type 0

@@ -32,21 +32,21 @@ pub record Outcome : Type 0 where
 
 -- an answer with its acts
 abbrev pub says : Answer → List Act → Outcome
-says a acts = record { answer = a; acts = acts }
+says answer acts = record { answer = answer; acts = acts }
 
 -- an act of one endpoint or its unit alone
 abbrev pub at_one : Answer → (endpoint : ℕ) → LocalAct → Outcome
-at_one a e o = says a (Act.AtEndpoint e o ∷ [])
+at_one answer endpoint local_act = says answer (Act.AtEndpoint endpoint local_act ∷ [])
 
 -- The host.
 
 -- a page is mapped to the lowest free frame
 abbrev pub map_outcome : World → (space page : ℕ) → Bool → (frame : ℕ) → Outcome
-map_outcome w s q x f = says (answer.Frame f) (Act.Map s q f x ∷ [])
+map_outcome world space page write frame = says (answer.Frame frame) (Act.Map space page frame write ∷ [])
 
 -- the frames of `count` pages from `page` on
 abbrev pub frames_at : World → (space page count : ℕ) → List ℕ
-frames_at w s q count = tabulate count (λ j. w.mappings.frame (the (w.mappings.at s (q + j))))
+frames_at world space page count = tabulate count (λ j. world.mappings.frame (the (world.mappings.at space (page + j))))
 
 -- whether the frames of an unmapping are withheld or free
 abbrev pub unmap_answer : Bool → List ℕ → Answer
@@ -55,86 +55,89 @@ unmap_answer false frames = answer.FreeFrames frames
 
 -- an unmapping of single pages; each is a range of one
 abbrev pub unmap_outcome : World → (space page count : ℕ) → Outcome
-unmap_outcome w s q count =
-    says (unmap_answer (any_below w.config.endpoints (waits w s)) (frames_at w s q count)) (Act.Unmap s q count 0 ∷ [])
+unmap_outcome world space page count =
+    says (unmap_answer (any_below world.config.endpoints (waits world space)) (frames_at world space page count)) (Act.Unmap space page count 0 ∷ [])
 
 -- of the 2^order pages from `page` on, how many are mapped
 abbrev pub mapped_in : World → (space page order : ℕ) → ℕ
-mapped_in w s q order = count_below (2 ^ order) (λ j. Labels.is_mapped w s (q + j))
+mapped_in world space page order = count_below (2 ^ order) (λ j. Labels.is_mapped world space (page + j))
 
 -- the same of a range, by their number
 abbrev pub unmap_range_answer : Bool → (frames : ℕ) → Answer
-unmap_range_answer true n = answer.RangeWithheld n
-unmap_range_answer false n = answer.RangeFree n
+unmap_range_answer true frames = answer.RangeWithheld frames
+unmap_range_answer false frames = answer.RangeFree frames
 
 -- an unmapping of the mapped pages of one range
 abbrev pub unmap_range_outcome : World → (space page order : ℕ) → Outcome
-unmap_range_outcome w s q order =
-    says (unmap_range_answer (any_below w.config.endpoints (waits w s)) (mapped_in w s q order)) (Act.Unmap s q 1 order ∷ [])
+unmap_range_outcome world space page order =
+    says (unmap_range_answer (any_below world.config.endpoints (waits world space)) (mapped_in world space page order)) (Act.Unmap space page 1 order ∷ [])
 
 -- a binding begins, and its start is sent
 abbrev pub bind_outcome : World → (endpoint space pasid : ℕ) → Outcome
-bind_outcome w e s t =
-    says (answer.Binding (Labels.number w w.bindings) t) (Act.NewBinding e ∷ Act.AtEndpoint e (LocalAct.Bind w.bindings s t) ∷ [])
+bind_outcome world endpoint space pasid =
+    says (answer.Binding (Labels.number world world.bindings) pasid)
+    (Act.NewBinding endpoint ∷ Act.AtEndpoint endpoint (LocalAct.Bind world.bindings space pasid) ∷ [])
 
 -- a binding is told to stop; a Lost one is quiet at once
 abbrev pub unbind_outcome : (endpoint binding : ℕ) → Stage → Outcome
-unbind_outcome e b Lost = at_one answer.Quiet e (LocalAct.Quieten b)
-unbind_outcome e b stage = at_one answer.Stopping e (LocalAct.Stop b)
+unbind_outcome endpoint binding Lost = at_one answer.Quiet endpoint (LocalAct.Quieten binding)
+unbind_outcome endpoint binding stage = at_one answer.Stopping endpoint (LocalAct.Stop binding)
 
 -- a binding goes to its next stage
 abbrev pub advance_outcome : World → (endpoint binding : ℕ) → Stage → Outcome
-advance_outcome w e b (Stopping marked) = at_one answer.Draining e (LocalAct.Drain b w.cookies)
-advance_outcome w e b (Draining wait) = at_one answer.Invalidating e (LocalAct.Invalidate b w.cookies)
-advance_outcome w e b (Invalidating invalidation wait) = at_one answer.Quiet e (LocalAct.Quieten b)
-advance_outcome w e b stage = at_one answer.Released e (LocalAct.Release b)
+advance_outcome world endpoint binding (Stopping marked) = at_one answer.Draining endpoint (LocalAct.Drain binding world.cookies)
+advance_outcome world endpoint binding (Draining wait) = at_one answer.Invalidating endpoint (LocalAct.Invalidate binding world.cookies)
+advance_outcome world endpoint binding (Invalidating invalidation wait) = at_one answer.Quiet endpoint (LocalAct.Quieten binding)
+advance_outcome world endpoint binding stage = at_one answer.Released endpoint (LocalAct.Release binding)
 
 -- A wait (Intel VT-d, "Invalidation Wait Descriptor", "Page Request Drain") is taken where no ITag is busy and, if it drains,
 -- the page request queue is empty. When it is taken is this project's own.
 abbrev pub may_pass : Endpoint → Bool → Bool
-may_pass p drain = not (Labels.is_some_busy p) && (not drain || Labels.is_page_queue_empty p)
+may_pass part drain = not (Labels.is_some_busy part) && (not drain || Labels.is_page_queue_empty part)
 
 -- the wait at the head is done, or blocks
 abbrev pub wait_outcome : (endpoint order : ℕ) → Bool → Outcome
-wait_outcome e k true = at_one answer.WaitDone e (LocalAct.Pass k)
-wait_outcome e k false = says answer.Blocked []
+wait_outcome endpoint order true = at_one answer.WaitDone endpoint (LocalAct.Pass order)
+wait_outcome endpoint order false = says answer.Blocked []
 
 -- the invalidation at the head is sent under the tag, or blocks for want of one
 abbrev pub send_outcome : (endpoint order itag : ℕ) → Bool → Outcome
-send_outcome e k t true = at_one (answer.Itag t) e (LocalAct.Send k t)
-send_outcome e k t false = says answer.Blocked []
+send_outcome endpoint order itag true = at_one (answer.Itag itag) endpoint (LocalAct.Send order itag)
+send_outcome endpoint order itag false = says answer.Blocked []
 
 -- the head of the invalidation queue
 abbrev pub head_outcome : Endpoint → (endpoint order : ℕ) → Order → Outcome
-head_outcome p e k (Wait cookie drain) = wait_outcome e k (may_pass p drain)
-head_outcome p e k (RangeOf b range) = send_outcome e k (Labels.lowest_label 32 p.at_itag) (not (Labels.lowest_label 32 p.at_itag == 32))
-head_outcome p e k (PasidOf b) = send_outcome e k (Labels.lowest_label 32 p.at_itag) (not (Labels.lowest_label 32 p.at_itag == 32))
+head_outcome part endpoint order (Wait cookie drain) = wait_outcome endpoint order (may_pass part drain)
+head_outcome part endpoint order (RangeOf binding range) =
+    send_outcome endpoint order (Labels.lowest_label 32 part.at_itag) (not (Labels.lowest_label 32 part.at_itag == 32))
+head_outcome part endpoint order (PasidOf binding) =
+    send_outcome endpoint order (Labels.lowest_label 32 part.at_itag) (not (Labels.lowest_label 32 part.at_itag == 32))
 
 -- a unit's turn: idle where nothing is queued
 abbrev pub pump_outcome : Endpoint → (endpoint : ℕ) → Bool → Outcome
-pump_outcome p e true = says answer.Idle []
-pump_outcome p e false = head_outcome p e (Labels.head p) (p.order (Labels.head p))
+pump_outcome part endpoint true = says answer.Idle []
+pump_outcome part endpoint false = head_outcome part endpoint (Labels.head part) (part.order (Labels.head part))
 
 -- a page request is filed; the last one of its group makes the group a job
 abbrev pub file_outcome : (endpoint page_request group : ℕ) → Bool → Outcome
-file_outcome e r g true = says answer.Job (Act.AtEndpoint e (LocalAct.File r) ∷ Act.NewJob e g ∷ [])
-file_outcome e r g false = at_one answer.Part e (LocalAct.File r)
+file_outcome endpoint page_request group true = says answer.Job (Act.AtEndpoint endpoint (LocalAct.File page_request) ∷ Act.NewJob endpoint group ∷ [])
+file_outcome endpoint page_request group false = at_one answer.Part endpoint (LocalAct.File page_request)
 
 -- a turn of the page request queue: its oldest is filed
 abbrev pub serve_outcome : Endpoint → (endpoint : ℕ) → Bool → Outcome
-serve_outcome p e true = says answer.Empty []
-serve_outcome p e false =
-    file_outcome e (Labels.oldest_arrived p) (p.group_of (Labels.oldest_arrived p)) (p.is_last (Labels.oldest_arrived p))
+serve_outcome part endpoint true = says answer.Empty []
+serve_outcome part endpoint false =
+    file_outcome endpoint (Labels.oldest_arrived part) (part.group_of (Labels.oldest_arrived part)) (part.is_last (Labels.oldest_arrived part))
 
 -- a worker takes the oldest job
 abbrev pub take_outcome : World → (worker job : ℕ) → Outcome
-take_outcome w x j =
+take_outcome world worker job =
     says
     (answer.JobTaken
-    (Labels.number w (job_binding w j))
-    ((job_part w j).index (w.job j).group)
-    (length (job_asks w j)))
-    (Act.AtEndpoint (w.job j).endpoint (LocalAct.Hand (w.job j).group x) ∷ Act.Hold x j ∷ [])
+    (Labels.number world (job_binding world job))
+    ((job_part world job).index (world.job job).group)
+    (length (job_asks world job)))
+    (Act.AtEndpoint (world.job job).endpoint (LocalAct.Hand (world.job job).group worker) ∷ Act.Hold worker job ∷ [])
 
 -- what a reply answers, by the code that is sent
 abbrev pub code_answer : (mapped : ℕ) → Code → Answer
@@ -144,51 +147,54 @@ code_answer mapped FailureCode = answer.Failure
 
 -- a reply: the pages that it maps, and the response if one is sent
 abbrev pub reply_outcome : World → (worker job : ℕ) → List Act → Option Code → Outcome
-reply_outcome w x j maps None = says answer.Dropped (Act.LetGo x ∷ Act.AtEndpoint (w.job j).endpoint (LocalAct.Discard (w.job j).group) ∷ [])
-reply_outcome w x j maps (Some code) =
-    says (code_answer (length maps) code) (maps ++ Act.LetGo x ∷ Act.AtEndpoint (w.job j).endpoint (LocalAct.Respond (w.job j).group code) ∷ [])
+reply_outcome world worker job maps None =
+    says answer.Dropped (Act.LetGo worker ∷ Act.AtEndpoint (world.job job).endpoint (LocalAct.Discard (world.job job).group) ∷ [])
+reply_outcome world worker job maps (Some code) =
+    says (code_answer (length maps) code)
+    (maps ++ Act.LetGo worker ∷ Act.AtEndpoint (world.job job).endpoint (LocalAct.Respond (world.job job).group code) ∷ [])
 
 -- The endpoint.
 
 -- a translation request is sent under the tag
 abbrev pub ask_outcome : Endpoint → (endpoint pasid page tag : ℕ) → Outcome
-ask_outcome p e t q tag = at_one (answer.Tag tag) e (LocalAct.Ask (Labels.bearer p t) q tag)
+ask_outcome part endpoint pasid page tag = at_one (answer.Tag tag) endpoint (LocalAct.Ask (Labels.bearer part pasid) page tag)
 
 -- a use of a cached translation begins in the slot
 abbrev pub begin_outcome : World → Endpoint → (endpoint pasid page slot : ℕ) → Outcome
-begin_outcome w p e t q slot =
-    let r = Labels.cached p (Labels.bearer p t) q in
-    at_one (answer.Use slot (w.mappings.frame (the (p.held r)))) e (LocalAct.Begin r (the (p.held r)) slot)
+begin_outcome world part endpoint pasid page slot =
+    let r = Labels.cached part (Labels.bearer part pasid) page in
+    at_one (answer.Use slot (world.mappings.frame (the (part.held r)))) endpoint (LocalAct.Begin r (the (part.held r)) slot)
 
 -- a use ends; one that a reset had ended is dead
 abbrev pub end_outcome : Endpoint → (endpoint used : ℕ) → Outcome
-end_outcome p e u = at_one (if is_running (p.use_state u) then answer.Ended else answer.Dead) e (LocalAct.End u)
+end_outcome part endpoint used = at_one (if is_running (part.use_state used) then answer.Ended else answer.Dead) endpoint (LocalAct.End used)
 
 -- a page request is sent, of a new group or of one that still collects
 abbrev pub fault_outcome : Endpoint → (endpoint pasid page : ℕ) → (read write last : Bool) → Option ℕ → Outcome
-fault_outcome p e t q r x l None =
-    let i = Labels.lowest_label 32 p.at_index in
-    at_one (answer.Group i) e (LocalAct.Group (Labels.bearer p t) i q r x l)
-fault_outcome p e t q r x l (Some i) = at_one (answer.Group i) e (LocalAct.Request (the (p.at_index i)) q r x l)
+fault_outcome part endpoint pasid page read write last None =
+    let i = Labels.lowest_label 32 part.at_index in
+    at_one (answer.Group i) endpoint (LocalAct.Group (Labels.bearer part pasid) i page read write last)
+fault_outcome part endpoint pasid page read write last (Some index) =
+    at_one (answer.Group index) endpoint (LocalAct.Request (the (part.at_index index)) page read write last)
 
 -- Deliveries, each by the names that the message carries.
 
 -- has the cache no place for what this request brings?
 abbrev pub is_full : Endpoint → (request : ℕ) → Bool
-is_full p r = nat_le 64 (count_below p.requests (λ x. is_some (p.held x) && not (is_replaced p r x)))
+is_full part request = nat_le 64 (count_below part.requests (λ x. is_some (part.held x) && not (is_replaced part request x)))
 
 -- what a request brings is kept, where there is room
 abbrev pub keep_outcome : (endpoint message request mapping : ℕ) → Bool → Outcome
-keep_outcome e c r m true = at_one answer.Full e (LocalAct.Forget c r)
-keep_outcome e c r m false = at_one answer.Held e (LocalAct.Keep c r m)
+keep_outcome endpoint message request mapping true = at_one answer.Full endpoint (LocalAct.Forget message request)
+keep_outcome endpoint message request mapping false = at_one answer.Held endpoint (LocalAct.Keep message request mapping)
 
 -- A translation completion (PCI Express Base 5.0, section 10.2.3): with R and W clear there is no translation. What is
 -- doomed, and a cache of 64 translations, are this project's own.
 abbrev pub completion_outcome : Endpoint → (endpoint message request : ℕ) → Option ℕ → RequestState → Outcome
-completion_outcome p e c r (Some m) Out = keep_outcome e c r m (is_full p r)
-completion_outcome p e c r None Out = at_one answer.NoTranslation e (LocalAct.Forget c r)
-completion_outcome p e c r found Doomed = at_one answer.Dropped e (LocalAct.Forget c r)
-completion_outcome p e c r found _ = at_one answer.Dropped e (LocalAct.Ignore c)
+completion_outcome part endpoint message request (Some mapping) Out = keep_outcome endpoint message request mapping (is_full part request)
+completion_outcome part endpoint message request None Out = at_one answer.NoTranslation endpoint (LocalAct.Forget message request)
+completion_outcome part endpoint message request found Doomed = at_one answer.Dropped endpoint (LocalAct.Forget message request)
+completion_outcome part endpoint message request found _ = at_one answer.Dropped endpoint (LocalAct.Ignore message)
 
 -- whether a response finds its group awaiting it, or stale
 abbrev pub response_answer : GroupState → Answer
@@ -197,53 +203,58 @@ response_answer _ = answer.Answered
 
 -- a request is answered from the space of the binding that asked, if that is Live and maps the page
 abbrev pub found_for : World → Endpoint → (request : ℕ) → Option ℕ
-found_for w p r =
-    if is_live_stage (p.stage (p.request_binding r)) then w.mappings.at (p.space (p.request_binding r)) (p.request_page r) else None
+found_for world part request =
+    if is_live_stage (part.stage (part.request_binding request))
+    then world.mappings.at (part.space (part.request_binding request)) (part.request_page request)
+    else None
 
 -- the completion of a request, with what was found for it
 abbrev pub completion_message : World → (tag : ℕ) → Option ℕ → Message
-completion_message w tag None = CompletionMessage tag 0 false false
-completion_message w tag (Some m) = CompletionMessage tag (w.mappings.frame m) true (w.mappings.write m)
+completion_message world tag None = CompletionMessage tag 0 false false
+completion_message world tag (Some mapping) = CompletionMessage tag (world.mappings.frame mapping) true (world.mappings.write mapping)
 
 -- a translation request at its unit: answered, or dropped in reset
 abbrev pub request_outcome : World → Endpoint → (endpoint message request : ℕ) → Bool → Outcome
-request_outcome w p e c r true =
-    at_one answer.Completion e (LocalAct.Complete c r (found_for w p r) (completion_message w (p.request_tag r) (found_for w p r)))
-request_outcome w p e c r false = at_one answer.Dropped e (LocalAct.Ignore c)
+request_outcome world part endpoint message request true =
+    at_one answer.Completion endpoint
+    (LocalAct.Complete message request (found_for world part request) (completion_message world (part.request_tag request) (found_for world part request)))
+request_outcome world part endpoint message request false = at_one answer.Dropped endpoint (LocalAct.Ignore message)
 
 -- a completion of invalidations at its unit: counted, or dropped in reset
 abbrev pub count_outcome : Endpoint → (endpoint message : ℕ) → (ℕ → Bool) → Bool → Outcome
-count_outcome p e c names true = at_one (answer.Freed (count_below p.orders (λ k. names k && is_last_left (p.order_state k)))) e (LocalAct.Count c names)
-count_outcome p e c names false = at_one answer.Dropped e (LocalAct.Ignore c)
+count_outcome part endpoint message names true =
+    at_one (answer.Freed (count_below part.orders (λ k. names k && is_last_left (part.order_state k)))) endpoint (LocalAct.Count message names)
+count_outcome part endpoint message names false = at_one answer.Dropped endpoint (LocalAct.Ignore message)
 
 -- a page request at its unit: queued, or dropped in reset
 abbrev pub page_request_outcome : (endpoint message page_request : ℕ) → Bool → Outcome
-page_request_outcome e c r true = at_one answer.Queued e (LocalAct.Arrive c r)
-page_request_outcome e c r false = at_one answer.Dropped e (LocalAct.Miss c r)
+page_request_outcome endpoint message page_request true = at_one answer.Queued endpoint (LocalAct.Arrive message page_request)
+page_request_outcome endpoint message page_request false = at_one answer.Dropped endpoint (LocalAct.Miss message page_request)
 
 -- a marker at its unit: noted, or dropped in reset
 abbrev pub marker_outcome : (endpoint message binding : ℕ) → Bool → Outcome
-marker_outcome e c b true = at_one answer.Marked e (LocalAct.Mark c b)
-marker_outcome e c b false = at_one answer.Dropped e (LocalAct.Ignore c)
+marker_outcome endpoint message binding true = at_one answer.Marked endpoint (LocalAct.Mark message binding)
+marker_outcome endpoint message binding false = at_one answer.Dropped endpoint (LocalAct.Ignore message)
 
 -- the delivery of a message, by what it speaks of
-abbrev pub about_outcome : World → Endpoint → (endpoint message : ℕ) → Subject → Outcome
-about_outcome w p e c (StartOf b) = at_one answer.Started e (LocalAct.Start_arrives c b)
-about_outcome w p e c (StopOf b) = at_one answer.Stopping e (LocalAct.Stop_arrives c b)
-about_outcome w p e c FunctionReset = at_one answer.Reset e (LocalAct.Reset_arrives c)
-about_outcome w p e c (CompletionOf r found) = completion_outcome p e c r found (p.request r)
-about_outcome w p e c (InvalidateOf k) = at_one answer.Taken e (LocalAct.Take c k)
-about_outcome w p e c (ResponseOf g code) = at_one (response_answer (p.group g)) e (LocalAct.Answered c g code)
-about_outcome w p e c (RequestOf r) = request_outcome w p e c r (is_open p.phase)
-about_outcome w p e c (InvalidatedOf names) = count_outcome p e c names (is_open p.phase)
-about_outcome w p e c (PageRequestOf r) = page_request_outcome e c r (is_open p.phase)
-about_outcome w p e c (MarkerOf b) = marker_outcome e c b (is_open p.phase)
-about_outcome w p e c ResetDone = at_one answer.ResetDone e (LocalAct.Reopen c)
+abbrev pub subject_outcome : World → Endpoint → (endpoint message : ℕ) → Subject → Outcome
+subject_outcome world part endpoint message (StartOf binding) = at_one answer.Started endpoint (LocalAct.Start_arrives message binding)
+subject_outcome world part endpoint message (StopOf binding) = at_one answer.Stopping endpoint (LocalAct.Stop_arrives message binding)
+subject_outcome world part endpoint message FunctionReset = at_one answer.Reset endpoint (LocalAct.Reset_arrives message)
+subject_outcome world part endpoint message (CompletionOf request found) = completion_outcome part endpoint message request found (part.request request)
+subject_outcome world part endpoint message (InvalidateOf order) = at_one answer.Taken endpoint (LocalAct.Take message order)
+subject_outcome world part endpoint message (ResponseOf group code) =
+    at_one (response_answer (part.group group)) endpoint (LocalAct.Answered message group code)
+subject_outcome world part endpoint message (RequestOf request) = request_outcome world part endpoint message request (is_open part.phase)
+subject_outcome world part endpoint message (InvalidatedOf names) = count_outcome part endpoint message names (is_open part.phase)
+subject_outcome world part endpoint message (PageRequestOf request) = page_request_outcome endpoint message request (is_open part.phase)
+subject_outcome world part endpoint message (MarkerOf binding) = marker_outcome endpoint message binding (is_open part.phase)
+subject_outcome world part endpoint message ResetDone = at_one answer.ResetDone endpoint (LocalAct.Reopen message)
 
 -- a message that isn't in flight can't be delivered: the step is refused
 abbrev pub deliver_outcome : World → Endpoint → (endpoint message : ℕ) → Option Subject → Outcome
-deliver_outcome w p e c None = says answer.Dropped []
-deliver_outcome w p e c (Some subject) = about_outcome w p e c subject
+deliver_outcome world part endpoint message None = says answer.Dropped []
+deliver_outcome world part endpoint message (Some subject) = subject_outcome world part endpoint message subject
 
 -- where a frame is
 abbrev pub look_answer : Place → Answer
@@ -253,35 +264,43 @@ look_answer Withheld = answer.Withheld
 
 -- who bears a PASID, if anybody does
 abbrev pub bearer_answer : World → (pasid : ℕ) → Bool → Answer
-bearer_answer w t true = answer.Bearer (Labels.number w (Labels.space_under w t)) (Labels.bindings_under w t)
-bearer_answer w t false = answer.NoBearer
+bearer_answer world pasid true = answer.Bearer (Labels.number world (Labels.space_under world pasid)) (Labels.bindings_under world pasid)
+bearer_answer world pasid false = answer.NoBearer
 
 -- the outcome of every step
 abbrev pub outcome : World → Step → Outcome
-outcome w step.Space = says (answer.Space (Labels.number w w.spaces)) (Act.NewSpace ∷ [])
-outcome w (step.DropSpace n) = says answer.Gone (Act.DropSpace (Labels.name w n) ∷ [])
-outcome w (step.Map n q x) = map_outcome w (Labels.name w n) q x (Labels.lowest_frame w)
-outcome w (step.Unmap n q count) = unmap_outcome w (Labels.name w n) q count
-outcome w (step.UnmapRange n q order) = unmap_range_outcome w (Labels.name w n) q order
-outcome w (step.Bind e n) = bind_outcome w e (Labels.name w n) (the (Labels.pasid_for w e (Labels.name w n)))
-outcome w (step.Unbind n) =
-    unbind_outcome (w.endpoint_of (Labels.name w n)) (Labels.name w n) ((w.part (w.endpoint_of (Labels.name w n))).stage (Labels.name w n))
-outcome w (step.Advance n) =
-    advance_outcome w (w.endpoint_of (Labels.name w n)) (Labels.name w n) ((w.part (w.endpoint_of (Labels.name w n))).stage (Labels.name w n))
-outcome w (step.Pump e) = pump_outcome (w.part e) e (Labels.is_queue_empty (w.part e))
-outcome w (step.Serve e) = serve_outcome (w.part e) e (Labels.is_page_queue_empty (w.part e))
-outcome w (step.Reset e) = at_one answer.Resetting e LocalAct.Reset
-outcome w (step.Take x) = take_outcome w x (lowest w.jobs (Labels.is_queued_job w))
-outcome w (step.Reply x v) = reply_outcome w x (the (w.hand x)) (reply_maps w (the (w.hand x)) v) (response_to w (the (w.hand x)) v)
-outcome w (step.Ask e t q) = ask_outcome (w.part e) e t q (Labels.lowest_label 32 (w.part e).at_tag)
-outcome w (step.BeginUse e t q x) = begin_outcome w (w.part e) e t q (Labels.lowest_label 16 (w.part e).at_slot)
-outcome w (step.EndUse e u) = end_outcome (w.part e) e (the ((w.part e).at_slot u))
-outcome w (step.Evict e t q) = at_one answer.Evicted e (LocalAct.Evict (Labels.cached (w.part e) (Labels.bearer (w.part e) t) q))
-outcome w (step.Fault e t q r x group l) = fault_outcome (w.part e) e t q r x l group
-outcome w (step.Finish e vector count) = at_one (answer.Sent count) e (LocalAct.Finish (Labels.is_named (w.part e) vector) vector count)
-outcome w (step.Quit e t) = at_one answer.Marker e (LocalAct.Quit (Labels.bearer (w.part e) t))
-outcome w (step.Deliver n) =
-    deliver_outcome w (w.part (w.link_of (Labels.name w n))) (w.link_of (Labels.name w n)) (Labels.name w n)
-    ((w.part (w.link_of (Labels.name w n))).message (Labels.name w n))
-outcome w (step.Look f) = says (look_answer (place w f)) []
-outcome w (step.Bearer t) = says (bearer_answer w t (Labels.is_borne w t)) []
+outcome world step.Space = says (answer.Space (Labels.number world world.spaces)) (Act.NewSpace ∷ [])
+outcome world (step.DropSpace space) = says answer.Gone (Act.DropSpace (Labels.name world space) ∷ [])
+outcome world (step.Map space page write) = map_outcome world (Labels.name world space) page write (Labels.lowest_frame world)
+outcome world (step.Unmap space page count) = unmap_outcome world (Labels.name world space) page count
+outcome world (step.UnmapRange space page order) = unmap_range_outcome world (Labels.name world space) page order
+outcome world (step.Bind endpoint space) =
+    bind_outcome world endpoint (Labels.name world space) (the (Labels.pasid_for world endpoint (Labels.name world space)))
+outcome world (step.Unbind binding) =
+    unbind_outcome (world.endpoint_of (Labels.name world binding)) (Labels.name world binding)
+    ((world.part (world.endpoint_of (Labels.name world binding))).stage (Labels.name world binding))
+outcome world (step.Advance binding) =
+    advance_outcome world (world.endpoint_of (Labels.name world binding)) (Labels.name world binding)
+    ((world.part (world.endpoint_of (Labels.name world binding))).stage (Labels.name world binding))
+outcome world (step.Pump endpoint) = pump_outcome (world.part endpoint) endpoint (Labels.is_queue_empty (world.part endpoint))
+outcome world (step.Serve endpoint) = serve_outcome (world.part endpoint) endpoint (Labels.is_page_queue_empty (world.part endpoint))
+outcome world (step.Reset endpoint) = at_one answer.Resetting endpoint LocalAct.Reset
+outcome world (step.Take worker) = take_outcome world worker (lowest world.jobs (Labels.is_queued_job world))
+outcome world (step.Reply worker verdict) =
+    reply_outcome world worker (the (world.hand worker)) (reply_maps world (the (world.hand worker)) verdict)
+    (response_to world (the (world.hand worker)) verdict)
+outcome world (step.Ask endpoint pasid page) = ask_outcome (world.part endpoint) endpoint pasid page (Labels.lowest_label 32 (world.part endpoint).at_tag)
+outcome world (step.BeginUse endpoint pasid page write) =
+    begin_outcome world (world.part endpoint) endpoint pasid page (Labels.lowest_label 16 (world.part endpoint).at_slot)
+outcome world (step.EndUse endpoint slot) = end_outcome (world.part endpoint) endpoint (the ((world.part endpoint).at_slot slot))
+outcome world (step.Evict endpoint pasid page) =
+    at_one answer.Evicted endpoint (LocalAct.Evict (Labels.cached (world.part endpoint) (Labels.bearer (world.part endpoint) pasid) page))
+outcome world (step.Fault endpoint pasid page read write group last) = fault_outcome (world.part endpoint) endpoint pasid page read write last group
+outcome world (step.Finish endpoint vector count) =
+    at_one (answer.Sent count) endpoint (LocalAct.Finish (Labels.is_named (world.part endpoint) vector) vector count)
+outcome world (step.Quit endpoint pasid) = at_one answer.Marker endpoint (LocalAct.Quit (Labels.bearer (world.part endpoint) pasid))
+outcome world (step.Deliver message) =
+    deliver_outcome world (world.part (world.link_of (Labels.name world message))) (world.link_of (Labels.name world message)) (Labels.name world message)
+    ((world.part (world.link_of (Labels.name world message))).message (Labels.name world message))
+outcome world (step.Look frame) = says (look_answer (place world frame)) []
+outcome world (step.Bearer pasid) = says (bearer_answer world pasid (Labels.is_borne world pasid)) []

@@ -12,11 +12,11 @@ pub record Range : Type 0 where
 
 -- how many pages it has
 abbrev pub pages_in : Range → ℕ
-pages_in r = 2 ^ r.order
+pages_in range = 2 ^ range.order
 
 -- is the page one of the range?
 abbrev pub is_in : Range → (page : ℕ) → Bool
-is_in r q = nat_le r.base q && nat_lt q (r.base + pages_in r)
+is_in range page = nat_le range.base page && nat_lt page (range.base + pages_in range)
 
 -- a range that can be coded: of 1 to 512 pages, aligned to its size, of page numbers below 2^36
 pub record IsRange (r : Range) : Type 0 where
@@ -36,7 +36,7 @@ encode_by base (suc j) = record { page = base + (2 ^ j - 1); s = true }
 
 -- the code of a range
 abbrev pub encode : Range → Code
-encode r = encode_by r.base r.order
+encode range = encode_by range.base range.order
 
 -- how many bits of a number are set, of the n lowest ones from bit 0 upwards, before the first that is clear
 abbrev pub ones : (n number : ℕ) → ℕ
@@ -45,13 +45,13 @@ ones (suc n) number = if number % 2 == 1 then suc (ones n (number / 2)) else zer
 
 -- the range of 2^(j+1) pages about a page, by the j bits that are set
 abbrev pub range_about : (page j : ℕ) → Option Range
-range_about q j = if nat_lt j 9 then Some (record { base = q - q % 2 ^ suc j; order = suc j }) else None
+range_about page j = if nat_lt j 9 then Some (record { base = page - page % 2 ^ suc j; order = suc j }) else None
 
 -- the range of a code; none where it has more than 512 pages, or is no page number
 abbrev pub decode_by : Bool → Code → Option Range
-decode_by false c = None
-decode_by true c = if c.s then range_about c.page (ones 9 c.page) else Some (record { base = c.page; order = 0 })
+decode_by false code = None
+decode_by true code = if code.s then range_about code.page (ones 9 code.page) else Some (record { base = code.page; order = 0 })
 
 -- the range that a code names
 abbrev pub decode : Code → Option Range
-decode c = decode_by (nat_lt c.page (2 ^ 36)) c
+decode code = decode_by (nat_lt code.page (2 ^ 36)) code

@@ -22,30 +22,30 @@ code_of_verdict verdict.Failure = FailureCode
 
 -- the code of the response; none is sent at a unit in reset, or for a binding that is Lost, Quiet or released
 abbrev pub response : Bool → Stage → Verdict → Option Code
-response true Live v = Some (code_of_verdict v)
-response true (Stopping marked) v = Some InvalidCode
-response true (Draining wait) v = Some InvalidCode
-response _ _ v = None
+response true Live verdict = Some (code_of_verdict verdict)
+response true (Stopping marked) verdict = Some InvalidCode
+response true (Draining wait) verdict = Some InvalidCode
+response _ _ verdict = None
 
 -- the endpoint of a job, with its unit
 abbrev pub job_part : World → (job : ℕ) → Endpoint
-job_part w j = w.part (w.job j).endpoint
+job_part world job = world.part (world.job job).endpoint
 
 -- the binding that a job names
 abbrev pub job_binding : World → (job : ℕ) → ℕ
-job_binding w j = (job_part w j).filed_under (w.job j).group
+job_binding world job = (job_part world job).filed_under (world.job job).group
 
 -- the space of the binding that a job names
 abbrev pub job_space : World → (job : ℕ) → ℕ
-job_space w j = (job_part w j).space (job_binding w j)
+job_space world job = (job_part world job).space (job_binding world job)
 
 -- the code of the response to a job, if one is sent
 abbrev pub response_to : World → (job : ℕ) → Verdict → Option Code
-response_to w j v = response (is_open (job_part w j).phase) ((job_part w j).stage (job_binding w j)) v
+response_to world job verdict = response (is_open (job_part world job).phase) ((job_part world job).stage (job_binding world job)) verdict
 
 -- is a response sent to the job, whatever the verdict?
 abbrev pub responds : World → (job : ℕ) → Bool
-responds w j = is_some (response_to w j verdict.Invalid)
+responds world job = is_some (response_to world job verdict.Invalid)
 
 -- is it the code of success?
 abbrev pub is_success : Option Code → Bool
@@ -54,41 +54,44 @@ is_success _ = false
 
 -- is the job answered by success?
 abbrev pub replies_success : World → (job : ℕ) → Verdict → Bool
-replies_success w j v = is_success (response_to w j v)
+replies_success world job verdict = is_success (response_to world job verdict)
 
 -- the page requests of the job, in order of filing
 abbrev pub job_asks : World → (job : ℕ) → List ℕ
-job_asks w j = Labels.asks (job_part w j) (w.job j).group
+job_asks world job = Labels.asks (job_part world job) (world.job job).group
 
 -- the pages of a list that aren't seen yet, each once, in order
 abbrev pub unseen : (ℕ → Bool) → List ℕ → List ℕ
 unseen seen [] = []
-unseen seen (q ∷ qs) = if seen q then unseen seen qs else q ∷ unseen (λ x. x == q || seen x) qs
+unseen seen (page ∷ pages) = if seen page then unseen seen pages else page ∷ unseen (λ x. x == page || seen x) pages
 
 -- the pages that a success maps: each requested page that isn't mapped, in order of first filing
 abbrev pub newly_mapped : World → (job : ℕ) → List ℕ
-newly_mapped w j = unseen (Labels.is_mapped w (job_space w j)) (map (job_part w j).asked_page (job_asks w j))
+newly_mapped world job = unseen (Labels.is_mapped world (job_space world job)) (map (job_part world job).asked_page (job_asks world job))
 
 -- does a request of the job ask to write the page?
 abbrev pub is_write_asked : World → (job page : ℕ) → Bool
-is_write_asked w j q = list_any (λ r. (job_part w j).asked_page r == q && (job_part w j).asks_write r) (job_asks w j)
+is_write_asked world job page = list_any (λ r. (job_part world job).asked_page r == page && (job_part world job).asks_write r) (job_asks world job)
 
 -- does a request of the job ask to write a page that is mapped read-only?
 abbrev pub is_write_of_read_only : World → (job : ℕ) → Bool
-is_write_of_read_only w j =
+is_write_of_read_only world job =
     list_any
-    (λ r. (job_part w j).asks_write r && holds_of (λ m. not (w.mappings.write m)) (w.mappings.at (job_space w j) ((job_part w j).asked_page r)))
-    (job_asks w j)
+    (λ r.
+    (job_part world job).asks_write r
+    && holds_of (λ m. not (world.mappings.write m)) (world.mappings.at (job_space world job) ((job_part world job).asked_page r)))
+    (job_asks world job)
 
 -- each page to a frame, in order
 abbrev pub maps_to : (space : ℕ) → (ℕ → Bool) → List ℕ → List ℕ → List Act
-maps_to s write (q ∷ qs) (f ∷ fs) = Map s q f (write q) ∷ maps_to s write qs fs
-maps_to s write _ _ = []
+maps_to space write (page ∷ pages) (frame ∷ frames) = Map space page frame (write page) ∷ maps_to space write pages frames
+maps_to space write _ _ = []
 
 -- the free frames, lowest first
 abbrev pub free_list : World → List ℕ
-free_list w = select w.config.frames (is_free w)
+free_list world = select world.config.frames (is_free world)
 
 -- the pages that a reply maps: none but by success
 abbrev pub reply_maps : World → (job : ℕ) → Verdict → List Act
-reply_maps w j v = if replies_success w j v then maps_to (job_space w j) (is_write_asked w j) (newly_mapped w j) (free_list w) else []
+reply_maps world job verdict =
+    if replies_success world job verdict then maps_to (job_space world job) (is_write_asked world job) (newly_mapped world job) (free_list world) else []

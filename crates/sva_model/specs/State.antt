@@ -134,7 +134,7 @@ pub data Subject : Type 0 where
 -- reset-done.
 pub data Phase : Type 0 where
   Open : Phase
-  Ordered : (message : ℕ) → Phase
+  ResetSent : (message : ℕ) → Phase
   Cleared : (message : ℕ) → Phase
 
 -- an endpoint with its remapping unit

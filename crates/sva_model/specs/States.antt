@@ -144,16 +144,17 @@ is_within AllPages page = true
 
 -- it covers these pages of its own binding
 abbrev pub covers : Order → (binding page : ℕ) → Bool
-covers (RangeOf b range) binding page = b == binding && is_within (Pages range) page
-covers (PasidOf b) binding page = b == binding && is_within AllPages page
+covers (RangeOf owner range) binding page = owner == binding && is_within (Pages range) page
+covers (PasidOf owner) binding page = owner == binding && is_within AllPages page
 covers (Wait cookie drain) binding page = false
 
 -- Has the endpoint answered for a mapping that was taken out, by now?
 abbrev pub answered : Endpoint → Owed → Bool
-answered p Nothing = true
-answered p (Ranges first count resets) = all_below (suc count) (λ j. is_done (p.order_state (first + j))) || nat_lt resets p.resets
-answered p (Pasid invalidation wait resets in_reset) = (is_done (p.order_state invalidation) && is_done (p.order_state wait)) || nat_lt resets p.resets
-answered p (NextReset resets) = nat_lt resets p.resets
+answered part Nothing = true
+answered part (Ranges first count resets) = all_below (suc count) (λ j. is_done (part.order_state (first + j))) || nat_lt resets part.resets
+answered part (Pasid invalidation wait resets in_reset) =
+    (is_done (part.order_state invalidation) && is_done (part.order_state wait)) || nat_lt resets part.resets
+answered part (NextReset resets) = nat_lt resets part.resets
 
 -- does the mapping stand in its space?
 abbrev pub is_present : MappingState → Bool
@@ -173,18 +174,18 @@ place_of_gone false = Withheld
 
 -- the place of the frame of a mapping in this state
 abbrev pub place_by : World → MappingState → Place
-place_by w Present = Mapped
-place_by w (Gone owed) = place_of_gone (all_below w.config.endpoints (λ e. answered (w.part e) (owed e)))
-place_by w _ = Free
+place_by world Present = Mapped
+place_by world (Gone owed) = place_of_gone (all_below world.config.endpoints (λ e. answered (world.part e) (owed e)))
+place_by world _ = Free
 
 -- the place of a frame by its last mapping; free where it never had one
 abbrev pub place_at : World → Option ℕ → Place
-place_at w None = Free
-place_at w (Some m) = place_by w (w.mappings.state m)
+place_at world None = Free
+place_at world (Some mapping) = place_by world (world.mappings.state mapping)
 
 -- the place of a frame
 abbrev pub place : World → (frame : ℕ) → Place
-place w f = place_at w (w.mappings.latest f)
+place world frame = place_at world (world.mappings.latest frame)
 
 -- is the place free?
 abbrev pub is_free_place : Place → Bool
@@ -193,4 +194,4 @@ is_free_place _ = false
 
 -- is the frame free?
 abbrev pub is_free : World → (frame : ℕ) → Bool
-is_free w f = is_free_place (place w f)
+is_free world frame = is_free_place (place world frame)

@@ -28,30 +28,30 @@ checked causes outcome =
 
 -- what a step is answered, and what it does
 abbrev pub decide : World → Step → Decision
-decide w s = checked (refusals w s) (outcome w s)
+decide world step = checked (refusals world step) (outcome world step)
 
 -- the world after acts, one after another
 abbrev pub after_acts : World → List Act → World
-after_acts w [] = w
-after_acts w (a ∷ acts) = after_acts (act w a) acts
+after_acts world [] = world
+after_acts world (first ∷ acts) = after_acts (act world first) acts
 
 -- the answer to a step, and the next world
 abbrev pub reply : World → Step → Reply
-reply w s = (decide w s).reply
+reply world step = (decide world step).reply
 
 -- the next world
 abbrev pub next : World → Step → World
-next w s = after_acts w (decide w s).acts
+next world step = after_acts world (decide world step).acts
 
 -- the world after a list of steps
 abbrev pub run : World → List Step → World
-run w [] = w
-run w (s ∷ ss) = run (next w s) ss
+run world [] = world
+run world (step ∷ steps) = run (next world step) steps
 
 -- the answers to a list of steps
 unfoldable pub replies : World → List Step → List Reply
-replies w [] = []
-replies w (s ∷ ss) = reply w s ∷ replies (next w s) ss
+replies world [] = []
+replies world (step ∷ steps) = reply world step ∷ replies (next world step) steps
 
 -- the world after a list of steps from the first
 abbrev pub world_after : PasidRule → Config → List Step → World
@@ -75,9 +75,9 @@ pub record Counts : Type 0 where
 
 -- the counts of a world's frames
 abbrev pub counts : World → Counts
-counts w =
+counts world =
     record {
-      free = count_below w.config.frames (λ f. is_free_place (place w f));
-      mapped = count_below w.config.frames (λ f. is_mapped_at (place w f));
-      withheld = count_below w.config.frames (λ f. is_withheld_at (place w f));
+      free = count_below world.config.frames (λ f. is_free_place (place world f));
+      mapped = count_below world.config.frames (λ f. is_mapped_at (place world f));
+      withheld = count_below world.config.frames (λ f. is_withheld_at (place world f));
     }

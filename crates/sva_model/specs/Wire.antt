@@ -35,18 +35,18 @@ end_number first (suc n) = first + suc n
 
 -- what is found where the first is there
 abbrev pub chain : {A : Type 0} → (ℕ → Option A) → Option ℕ → Option A
-chain f None = None
-chain f (Some k) = f k
+chain at None = None
+chain at (Some there) = at there
 
 -- a list with an entry more, before the first entry that isn't below it
 abbrev pub insert_by : {A : Type 0} → (A → A → Bool) → A → List A → List A
-insert_by below a [] = a ∷ []
-insert_by below a (x ∷ xs) = if below x a then x ∷ insert_by below a xs else a ∷ x ∷ xs
+insert_by below entry [] = entry ∷ []
+insert_by below entry (first ∷ rest) = if below first entry then first ∷ insert_by below entry rest else entry ∷ first ∷ rest
 
 -- the list in rising order
 abbrev pub sorted_by : {A : Type 0} → (A → A → Bool) → List A → List A
 sorted_by below [] = []
-sorted_by below (x ∷ xs) = insert_by below x (sorted_by below xs)
+sorted_by below (first ∷ rest) = insert_by below first (sorted_by below rest)
 
 -- Spaces: each live one by its number, with its pages in rising order.
 
@@ -63,32 +63,33 @@ pub record SpaceWire : Type 0 where
 
 -- the page of a mapping
 abbrev pub page_wire : Mappings → (mapping : ℕ) → PageWire
-page_wire ms m = record { page = ms.page m; frame = ms.frame m; write = ms.write m }
+page_wire mappings mapping = record { page = mappings.page mapping; frame = mappings.frame mapping; write = mappings.write mapping }
 
 -- is the mapping a present one of the space?
 abbrev pub is_page_of : Mappings → (space mapping : ℕ) → Bool
-is_page_of ms s m = is_present (ms.state m) && ms.space m == s
+is_page_of mappings space mapping = is_present (mappings.state mapping) && mappings.space mapping == space
 
 -- the order of pages
 abbrev pub is_lower_page : PageWire → PageWire → Bool
-is_lower_page a b = nat_lt a.page b.page
+is_lower_page first second = nat_lt first.page second.page
 
 -- the pages of a space by the mappings below n, in rising order
 unfoldable pub pages_below : Mappings → (space n : ℕ) → List PageWire
-pages_below ms s zero = []
-pages_below ms s (suc n) = if is_page_of ms s n then insert_by is_lower_page (page_wire ms n) (pages_below ms s n) else pages_below ms s n
+pages_below mappings space zero = []
+pages_below mappings space (suc n) =
+    if is_page_of mappings space n then insert_by is_lower_page (page_wire mappings n) (pages_below mappings space n) else pages_below mappings space n
 
 -- the mapped pages of a space, in rising order
 abbrev pub pages_wire : Mappings → (space : ℕ) → List PageWire
-pages_wire ms s = pages_below ms s ms.made
+pages_wire mappings space = pages_below mappings space mappings.made
 
 -- a space by its number, with its pages
 abbrev pub space_wire : (first : ℕ) → Mappings → (space : ℕ) → SpaceWire
-space_wire first ms s = record { number = number first s; pages = pages_wire ms s }
+space_wire first mappings space = record { number = number first space; pages = pages_wire mappings space }
 
 -- the live spaces, in the order in which they began
 abbrev pub spaces_wire : (first spaces : ℕ) → (is_live : ℕ → Bool) → Mappings → List SpaceWire
-spaces_wire first spaces is_live ms = map (space_wire first ms) (select spaces is_live)
+spaces_wire first spaces is_live mappings = map (space_wire first mappings) (select spaces is_live)
 
 -- Frames: each by its number; a withheld one with what it waits for at each unit.
 
@@ -106,17 +107,17 @@ pub data PlaceWire : Type 0 where
 -- the number of the cookie of a wait
 abbrev pub cookie_number : (first : ℕ) → Order → ℕ
 cookie_number first (Wait cookie drain) = number first cookie
-cookie_number first o = 0
+cookie_number first order = 0
 
 -- what is waited for at a unit that hasn't answered: a wait that was submitted, or the end of the reset that it was in
 abbrev pub target_of : (first : ℕ) → Endpoint → Owed → TargetWire
-target_of first p (Ranges range count resets) = Cookie (cookie_number first (p.order (range + count)))
-target_of first p (Pasid invalidation wait resets in_reset) = if in_reset then ResetEnd else Cookie (cookie_number first (p.order wait))
-target_of first p _ = ResetEnd
+target_of first part (Ranges range count resets) = Cookie (cookie_number first (part.order (range + count)))
+target_of first part (Pasid invalidation wait resets in_reset) = if in_reset then ResetEnd else Cookie (cookie_number first (part.order wait))
+target_of first part _ = ResetEnd
 
 -- what is waited for at a unit, unless its endpoint has answered
 abbrev pub target_wire : (first : ℕ) → Endpoint → Owed → Option TargetWire
-target_wire first p owed = if answered p owed then None else Some (target_of first p owed)
+target_wire first part owed = if answered part owed then None else Some (target_of first part owed)
 
 -- a withheld frame, by the mapping that is gone
 abbrev pub withheld_wire : (first endpoints : ℕ) → (ℕ → Endpoint) → MappingState → PlaceWire
@@ -126,13 +127,14 @@ withheld_wire first endpoints part state = FreeWire
 
 -- a frame by its place
 abbrev pub place_wire_by : World → (frame : ℕ) → Place → PlaceWire
-place_wire_by w f Free = FreeWire
-place_wire_by w f Mapped = MappedWire
-place_wire_by w f Withheld = withheld_wire w.config.first w.config.endpoints w.part (w.mappings.state (the (w.mappings.latest f)))
+place_wire_by world frame Free = FreeWire
+place_wire_by world frame Mapped = MappedWire
+place_wire_by world frame Withheld =
+    withheld_wire world.config.first world.config.endpoints world.part (world.mappings.state (the (world.mappings.latest frame)))
 
 -- every frame, by its number
 abbrev pub places_wire : World → List PlaceWire
-places_wire w = tabulate w.config.frames (λ f. place_wire_by w f (place w f))
+places_wire world = tabulate world.config.frames (λ f. place_wire_by world f (place world f))
 
 -- Bindings: those that aren't released, in the order in which they began.
 
@@ -147,12 +149,12 @@ pub data StageWire : Type 0 where
 
 -- a stage, its wait by its cookie
 abbrev pub stage_wire : (first : ℕ) → Endpoint → Stage → StageWire
-stage_wire first p Live = LiveWire
-stage_wire first p (Stopping marked) = StoppingWire marked
-stage_wire first p (Draining wait) = DrainingWire (cookie_number first (p.order wait))
-stage_wire first p (Invalidating invalidation wait) = InvalidatingWire (cookie_number first (p.order wait))
-stage_wire first p Lost = LostWire
-stage_wire first p _ = QuietWire
+stage_wire first part Live = LiveWire
+stage_wire first part (Stopping marked) = StoppingWire marked
+stage_wire first part (Draining wait) = DrainingWire (cookie_number first (part.order wait))
+stage_wire first part (Invalidating invalidation wait) = InvalidatingWire (cookie_number first (part.order wait))
+stage_wire first part Lost = LostWire
+stage_wire first part _ = QuietWire
 
 -- an unreleased binding
 pub record BindingWire : Type 0 where
@@ -164,8 +166,14 @@ pub record BindingWire : Type 0 where
 
 -- a binding at its endpoint, by numbers
 abbrev pub binding_wire : (first endpoint : ℕ) → Endpoint → (binding : ℕ) → BindingWire
-binding_wire first e p b =
-    record { endpoint = e; space = number first (p.space b); binding = number first b; pasid = p.pasid b; stage = stage_wire first p (p.stage b) }
+binding_wire first endpoint part binding =
+    record {
+      endpoint = endpoint;
+      space = number first (part.space binding);
+      binding = number first binding;
+      pasid = part.pasid binding;
+      stage = stage_wire first part (part.stage binding);
+    }
 
 -- the unreleased bindings, in the order in which they began
 abbrev pub bindings_wire : (first bindings : ℕ) → (endpoint_of : ℕ → ℕ) → (ℕ → Endpoint) → List BindingWire
@@ -216,8 +224,8 @@ pub record DeviceWire : Type 0 where
 
 -- the state of the PASID that a binding bears; Off where none does
 abbrev pub state_of_pasid : Endpoint → Option ℕ → PasidState
-state_of_pasid p None = Off
-state_of_pasid p (Some b) = p.pasid_state b
+state_of_pasid part None = Off
+state_of_pasid part (Some binding) = part.pasid_state binding
 
 -- is it out and doomed?
 abbrev pub is_doomed : RequestState → Bool
@@ -226,61 +234,64 @@ is_doomed _ = false
 
 -- a translation request, by its binding's PASID
 abbrev pub request_wire : Endpoint → (request : ℕ) → RequestWire
-request_wire p r = record { pasid = p.pasid (p.request_binding r); page = p.request_page r; is_doomed = is_doomed (p.request r) }
+request_wire part request =
+    record { pasid = part.pasid (part.request_binding request); page = part.request_page request; is_doomed = is_doomed (part.request request) }
 
 -- a translation, by its binding's PASID
 abbrev pub translation_wire : Mappings → Endpoint → (binding page mapping : ℕ) → TranslationWire
-translation_wire ms p b q m = record { pasid = p.pasid b; page = q; frame = ms.frame m; write = ms.write m }
+translation_wire mappings part binding page mapping =
+    record { pasid = part.pasid binding; page = page; frame = mappings.frame mapping; write = mappings.write mapping }
 
 -- the order of cached translations: by PASID, then by page
 abbrev pub is_before : TranslationWire → TranslationWire → Bool
-is_before a b = nat_lt a.pasid b.pasid || (a.pasid == b.pasid && nat_lt a.page b.page)
+is_before first second = nat_lt first.pasid second.pasid || (first.pasid == second.pasid && nat_lt first.page second.page)
 
 -- the translation that the answer to a request left in the cache
 abbrev pub cached_wire : Mappings → Endpoint → (request : ℕ) → TranslationWire
-cached_wire ms p r = translation_wire ms p (p.request_binding r) (p.request_page r) (the (p.held r))
+cached_wire mappings part request = translation_wire mappings part (part.request_binding request) (part.request_page request) (the (part.held request))
 
 -- what is cached, in rising order
 abbrev pub cache_wire : Mappings → Endpoint → List TranslationWire
-cache_wire ms p = sorted_by is_before (map (cached_wire ms p) (select p.requests (λ r. is_some (p.held r))))
+cache_wire mappings part = sorted_by is_before (map (cached_wire mappings part) (select part.requests (λ r. is_some (part.held r))))
 
 -- a use, by whether it runs
 abbrev pub use_wire : Mappings → Endpoint → (used : ℕ) → UseWire
-use_wire ms p u =
-    if is_running (p.use_state u)
-    then RunningWire (translation_wire ms p (p.use_binding u) (ms.page (p.use_mapping u)) (p.use_mapping u))
+use_wire mappings part used =
+    if is_running (part.use_state used)
+    then RunningWire (translation_wire mappings part (part.use_binding used) (mappings.page (part.use_mapping used)) (part.use_mapping used))
     else DeadWire
 
 -- does a taken order wait for the use?
 abbrev pub is_noted : Mappings → Endpoint → (order uses used : ℕ) → Bool
-is_noted ms p k uses u = nat_lt u uses && Labels.is_noted_running ms p k u
+is_noted mappings part order uses used = nat_lt used uses && Labels.is_noted_running mappings part order used
 
 -- an invalidation that the endpoint has taken, by its state
 abbrev pub taken_by : Mappings → Endpoint → (order : ℕ) → OrderState → Option TakenWire
-taken_by ms p k (Taken uses) =
+taken_by mappings part order (Taken uses) =
     Some (record {
-      pasid = p.pasid (binding_of (p.order k));
+      pasid = part.pasid (binding_of (part.order order));
       extent =
-          extent_of (p.order k);
-      slots = tabulate 16 (λ t. holds_of (is_noted ms p k uses) (p.at_slot t));
+          extent_of (part.order order);
+      slots = tabulate 16 (λ t. holds_of (is_noted mappings part order uses) (part.at_slot t));
     })
-taken_by ms p k _ = None
+taken_by mappings part order _ = None
 
 -- a group, with how many of its page requests were sent
 abbrev pub group_wire : Endpoint → (group : ℕ) → GroupWire
-group_wire p g = record { pasid = p.pasid (p.asker g); state = p.group g; requests = count_below p.page_requests (λ r. p.group_of r == g) }
+group_wire part group =
+    record { pasid = part.pasid (part.asker group); state = part.group group; requests = count_below part.page_requests (λ r. part.group_of r == group) }
 
 -- the device of an endpoint
 abbrev pub device_wire : Mappings → Endpoint → DeviceWire
-device_wire ms p =
+device_wire mappings part =
     record {
-      pasids = tabulate 32 (λ t. state_of_pasid p (p.at_pasid (suc t)));
-      tags = tabulate 32 (λ t. option_map (request_wire p) (p.at_tag t));
-      cache = cache_wire ms p;
-      slots = tabulate 16 (λ t. option_map (use_wire ms p) (p.at_slot t));
-      taken = tabulate 32 (λ t. chain (λ k. taken_by ms p k (p.order_state k)) (p.at_itag t));
-      groups = tabulate 32 (λ i. option_map (group_wire p) (p.at_index i));
-      is_disabled = p.is_disabled;
+      pasids = tabulate 32 (λ t. state_of_pasid part (part.at_pasid (suc t)));
+      tags = tabulate 32 (λ t. option_map (request_wire part) (part.at_tag t));
+      cache = cache_wire mappings part;
+      slots = tabulate 16 (λ t. option_map (use_wire mappings part) (part.at_slot t));
+      taken = tabulate 32 (λ t. chain (λ k. taken_by mappings part k (part.order_state k)) (part.at_itag t));
+      groups = tabulate 32 (λ i. option_map (group_wire part) (part.at_index i));
+      is_disabled = part.is_disabled;
     }
 
 -- The unit's invalidation queue.
@@ -308,9 +319,9 @@ pub record UnitWire : Type 0 where
 
 -- an order as it stands in the queue
 abbrev pub descriptor : (first : ℕ) → Endpoint → Order → Descriptor
-descriptor first p (RangeOf b range) = RangeDescriptor (p.pasid b) range
-descriptor first p (PasidOf b) = PasidDescriptor (p.pasid b)
-descriptor first p (Wait cookie drain) = WaitDescriptor (number first cookie) drain
+descriptor first part (RangeOf binding range) = RangeDescriptor (part.pasid binding) range
+descriptor first part (PasidOf binding) = PasidDescriptor (part.pasid binding)
+descriptor first part (Wait cookie drain) = WaitDescriptor (number first cookie) drain
 
 -- an ITag by the state of its order
 abbrev pub busy_wire : OrderState → BusyWire
@@ -319,13 +330,13 @@ busy_wire _ = Fresh
 
 -- the invalidation queue of a unit
 abbrev pub unit_wire : (first : ℕ) → Endpoint → UnitWire
-unit_wire first p =
+unit_wire first part =
     record {
-      is_open = is_open p.phase;
-      queue = map (λ k. descriptor first p (p.order k)) (select p.orders (λ k. is_queued (p.order_state k)));
-      busy = tabulate 32 (λ t. option_map (λ k. busy_wire (p.order_state k)) (p.at_itag t));
-      front = end_number first p.front;
-      waits_end = end_number first p.waits_end;
+      is_open = is_open part.phase;
+      queue = map (λ k. descriptor first part (part.order k)) (select part.orders (λ k. is_queued (part.order_state k)));
+      busy = tabulate 32 (λ t. option_map (λ k. busy_wire (part.order_state k)) (part.at_itag t));
+      front = end_number first part.front;
+      waits_end = end_number first part.waits_end;
     }
 
 -- The unit's page request queue, and the groups that the host has open.
@@ -352,19 +363,25 @@ pub record HostGroupWire : Type 0 where
 
 -- what a page request asks for
 abbrev pub ask_wire : Endpoint → (page_request : ℕ) → AskWire
-ask_wire p r = record { page = p.asked_page r; read = p.asks_read r; write = p.asks_write r }
+ask_wire part page_request = record { page = part.asked_page page_request; read = part.asks_read page_request; write = part.asks_write page_request }
 
 -- a page request, by its asker's PASID and its group's index
 abbrev pub page_request_wire : Endpoint → (page_request : ℕ) → PageRequestWire
-page_request_wire p r = record { pasid = p.pasid (p.asker (p.group_of r)); index = p.index (p.group_of r); ask = ask_wire p r; last = p.is_last r }
+page_request_wire part page_request =
+    record {
+      pasid = part.pasid (part.asker (part.group_of page_request));
+      index = part.index (part.group_of page_request);
+      ask = ask_wire part page_request;
+      last = part.is_last page_request;
+    }
 
 -- the page requests that wait, oldest first
 abbrev pub page_queue_wire : Endpoint → List PageRequestWire
-page_queue_wire p = map (λ k. page_request_wire p (p.arrival k)) (select p.arrivals (Labels.is_waiting p))
+page_queue_wire part = map (λ k. page_request_wire part (part.arrival k)) (select part.arrivals (Labels.is_waiting part))
 
 -- the asks of a group that are filed, in order of filing
 abbrev pub asks_wire : Endpoint → (group : ℕ) → List AskWire
-asks_wire p g = map (ask_wire p) (Labels.asks p g)
+asks_wire part group = map (ask_wire part) (Labels.asks part group)
 
 -- is a part of the group filed, and not its last request?
 abbrev pub is_part : HostGroupState → Bool
@@ -373,17 +390,23 @@ is_part _ = false
 
 -- the filing that began a group which is open
 abbrev pub begins_open : Endpoint → (filing : ℕ) → Bool
-begins_open p k =
-    is_open_group (p.host_group (p.group_of (p.filing k))) && not (any_below k (λ j. p.group_of (p.filing j) == p.group_of (p.filing k)))
+begins_open part filing =
+    is_open_group (part.host_group (part.group_of (part.filing filing)))
+    && not (any_below filing (λ j. part.group_of (part.filing j) == part.group_of (part.filing filing)))
 
 -- a group that the host has open
 abbrev pub host_group_wire : (first : ℕ) → Endpoint → (group : ℕ) → HostGroupWire
-host_group_wire first p g =
-    record { binding = number first (p.filed_under g); index = p.index g; asks = asks_wire p g; is_whole = not (is_part (p.host_group g)) }
+host_group_wire first part group =
+    record {
+      binding = number first (part.filed_under group);
+      index = part.index group;
+      asks = asks_wire part group;
+      is_whole = not (is_part (part.host_group group));
+    }
 
 -- the groups that the host has open, in the order in which they began
 abbrev pub host_groups_wire : (first : ℕ) → Endpoint → List HostGroupWire
-host_groups_wire first p = map (λ k. host_group_wire first p (p.group_of (p.filing k))) (select p.filings (begins_open p))
+host_groups_wire first part = map (λ k. host_group_wire first part (part.group_of (part.filing k))) (select part.filings (begins_open part))
 
 -- an endpoint with its unit
 pub record EndpointWire : Type 0 where
@@ -394,8 +417,8 @@ pub record EndpointWire : Type 0 where
 
 -- an endpoint with its unit, as it is kept
 abbrev pub part_wire : (first : ℕ) → Mappings → Endpoint → EndpointWire
-part_wire first ms p =
-    record { device = device_wire ms p; unit = unit_wire first p; page_queue = page_queue_wire p; host_groups = host_groups_wire first p }
+part_wire first mappings part =
+    record { device = device_wire mappings part; unit = unit_wire first part; page_queue = page_queue_wire part; host_groups = host_groups_wire first part }
 
 -- Jobs, hands and messages in flight.
 
@@ -408,11 +431,12 @@ pub record JobWire : Type 0 where
 
 -- the job that a group makes
 abbrev pub group_job : (first endpoint : ℕ) → Endpoint → (group : ℕ) → JobWire
-group_job first e p g = record { endpoint = e; binding = number first (p.filed_under g); index = p.index g; asks = asks_wire p g }
+group_job first endpoint part group =
+    record { endpoint = endpoint; binding = number first (part.filed_under group); index = part.index group; asks = asks_wire part group }
 
 -- a job, by its group
 abbrev pub job_wire : World → (job : ℕ) → JobWire
-job_wire w j = group_job w.config.first (w.job j).endpoint (w.part (w.job j).endpoint) (w.job j).group
+job_wire world job = group_job world.config.first (world.job job).endpoint (world.part (world.job job).endpoint) (world.job job).group
 
 -- a message in flight, by its number
 pub record FlightWire : Type 0 where
@@ -422,7 +446,8 @@ pub record FlightWire : Type 0 where
 
 -- a message as it was sent
 abbrev pub flight_wire : World → (message : ℕ) → FlightWire
-flight_wire w c = record { number = number w.config.first c; endpoint = w.link_of c; message = (w.part (w.link_of c)).carried c }
+flight_wire world message =
+    record { number = number world.config.first message; endpoint = world.link_of message; message = (world.part (world.link_of message)).carried message }
 
 -- all that is kept of a world
 pub record Wire : Type 0 where
@@ -440,18 +465,18 @@ pub record Wire : Type 0 where
 
 -- what is kept of a world
 abbrev pub wire : World → Wire
-wire w =
-    let first = w.config.first in
+wire world =
+    let first = world.config.first in
     record {
-      spaces = spaces_wire first w.spaces w.is_live w.mappings;
-      places = places_wire w;
-      bindings = bindings_wire first w.bindings w.endpoint_of w.part;
-      parts = tabulate w.config.endpoints (λ e. part_wire first w.mappings (w.part e));
-      jobs = map (job_wire w) (select w.jobs (Labels.is_queued_job w));
-      hands = tabulate w.config.workers (λ x. option_map (job_wire w) (w.hand x));
-      in_flight = map (flight_wire w) (select w.messages (λ c. is_some ((w.part (w.link_of c)).message c)));
-      next_space = number first w.spaces;
-      next_binding = number first w.bindings;
-      next_message = number first w.messages;
-      next_cookie = number first w.cookies;
+      spaces = spaces_wire first world.spaces world.is_live world.mappings;
+      places = places_wire world;
+      bindings = bindings_wire first world.bindings world.endpoint_of world.part;
+      parts = tabulate world.config.endpoints (λ e. part_wire first world.mappings (world.part e));
+      jobs = map (job_wire world) (select world.jobs (Labels.is_queued_job world));
+      hands = tabulate world.config.workers (λ x. option_map (job_wire world) (world.hand x));
+      in_flight = map (flight_wire world) (select world.messages (λ c. is_some ((world.part (world.link_of c)).message c)));
+      next_space = number first world.spaces;
+      next_binding = number first world.bindings;
+      next_message = number first world.messages;
+      next_cookie = number first world.cookies;
     }

@@ -40,7 +40,7 @@ free_seen (Collecting t n) = refl
 free_seen (Out t n) = refl
 free_seen (Stale t n) = refl
 
-unfinished_seen : (t : ℕ) (group : GroupPlace) → is_collecting t group ≡ finding.is_unfinished_of t (group_seen group)
+unfinished_seen : (t : ℕ) (group : GroupPlace) → is_collecting t group ≡ finding.has_unfinished_group t (group_seen group)
 unfinished_seen t Free = refl
 unfinished_seen t (Collecting u n) = refl
 unfinished_seen t (Out u n) = refl
@@ -74,7 +74,7 @@ at_index s i = seen_at group_seen s.groups i Free
 
 other_seen : (s : Tables) (t : ℕ) (group : Option ℕ) → not (is_of_group s t group) ≡ is_other_group (device_seen s) t group
 other_seen s t None = refl
-other_seen s t (Some i) = ap (λ (b : Bool). not b) (unfinished_seen t (group_at s.groups i) ∙ ap (finding.is_unfinished_of t) (sym (at_index s i)))
+other_seen s t (Some i) = ap (λ (b : Bool). not b) (unfinished_seen t (group_at s.groups i) ∙ ap (finding.has_unfinished_group t) (sym (at_index s i)))
 
 credit_by : (n m : ℕ) → n ≡ m → not (nat_lt n 32) ≡ nat_le 32 m
 credit_by n m h = grind (arith, nat_tests)
@@ -165,11 +165,11 @@ runs_seen t slots.Dead = refl
 busy_seen : (s : Tables) (t : ℕ) → is_busy s t ≡ is_busy_pasid (device_seen s) t
 busy_seen s t =
     (λ i.
-    seen_any group_seen (is_collecting t) (finding.is_unfinished_of t) (unfinished_seen t) s.groups i
+    seen_any group_seen (is_collecting t) (finding.has_unfinished_group t) (unfinished_seen t) s.groups i
     || (seen_any tag_seen (asks_under t) (finding.is_request_of t) (asks_seen t) s.tags i
     || seen_any slot_seen (runs_under t) (finding.is_use_of t) (runs_seen t) s.uses i))
     ∙ in_turn
-    (list_any (finding.is_unfinished_of t) (map group_seen s.groups))
+    (list_any (finding.has_unfinished_group t) (map group_seen s.groups))
     (list_any (finding.is_request_of t) (map tag_seen s.tags))
     (list_any (finding.is_use_of t) (map slot_seen s.uses))
   where

@@ -28,18 +28,10 @@ use Rattle.sva_labels.specs.Outcomes.{Result, says, by_one, label, bind_result, 
 use Rattle.sva_labels.specs.Outcomes.{begin_result, end_answer, fault_result, deliver_result, message_result, completion_result, completion_by}
 use Rattle.sva_labels.specs.Outcomes.{keep_result, is_full, response_said, request_result, found_for, completion_of, count_result, count_read}
 use Rattle.sva_labels.specs.Outcomes.{page_request_result, marker_result, binding_or_0, bearer_answer, result_of}
+use Rattle.sva_served.specs.Applied.{AsksNoService}
 use Rattle.sva_served.specs.Seen.{ServiceWire, serving}
 use Rattle.sva_served.proofs.Parts.{length_with, device_with, unit_with, page_queue_with}
 use Rattle.sva_served.proofs.Changes.{LeaveService, needed_with, targets_with}
-
--- a step that doesn't ask the service, and leaves it
-abbrev pub AsksNoService : Step → Type 0
-AsksNoService (step.Advance n) = ⊥
-AsksNoService (step.Serve e) = ⊥
-AsksNoService (step.Reset e) = ⊥
-AsksNoService (step.Take x) = ⊥
-AsksNoService (step.Reply x v) = ⊥
-AsksNoService _ = Unit {0}
 
 -- Causes that several steps ask.
 

@@ -14,12 +14,13 @@ use Rattle.sva_labels.specs.Outcomes.{Result, result_of}
 use Rattle.sva_labels.specs.Waiting.{waiting}
 use Rattle.sva_labels.proofs.WaitingSteps.{filed_in_turn}
 use Rattle.sva_host.specs.Steps.{Does, ByLabels}
+use Rattle.sva_served.specs.Applied.{AsksNoService}
 use Rattle.sva_served.specs.Seen.{ServiceWire, serving}
 use Rattle.sva_served.specs.Inner.{wire_of, IsServed}
 use Rattle.sva_served.specs.declared.served.Served.TheInside.{Inside}
 use Rattle.sva_served.proofs.Changes.{LeaveService, all_moved_with}
 use Rattle.sva_served.proofs.Housed.{housed_still}
-use Rattle.sva_served.proofs.Decisions.{AsksNoService, decide_with, decide_leaves}
+use Rattle.sva_served.proofs.Decisions.{decide_with, decide_leaves}
 
 -- what the host does by moves that leave the service, it does with its service
 pub does_with : (service : ServiceWire) (d : Decision) (w after : Wire) (r : Reply) → LeaveService d.moves
@@ -78,10 +79,6 @@ pub hosted : (served : Inside) (v : Wire) (s : Step) (r : Reply) (after : Wire) 
     → ByLabels v s r (wire_of (record served { kept = after }))
 hosted served v s r after view asks is =
     subst (λ (u : Wire). ByLabels u s r (wire_of (record served { kept = after }))) view (step_with _ served.kept after s r asks is)
-
-pub looked : (served : Inside) (v : Wire) (s : Step) (r : Reply) → wire_of served ≡ v → AsksNoService s → ByLabels served.kept s r served.kept
-    → ByLabels v s r v
-looked served v s r view asks is = subst (λ (u : Wire). ByLabels u s r u) view (step_with _ served.kept served.kept s r asks is)
 
 pub still : (served : Inside) (s : Step) (r : Reply) (after : Wire) → IsServed served → AsksNoService s → ByLabels served.kept s r after
     → IsServed (record served { kept = after })

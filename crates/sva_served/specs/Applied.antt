@@ -1,4 +1,4 @@
--- Any step, by its kind, and which steps never want memory.
+-- Any step, by its kind: which ask the service of page requests, and which never want memory.
 use Rattle.std.specs.Prelude.{◌≡◌, false, Ok, Option, Some, None, []}
 use Rattle.sva_step.specs.declared.answers.Answer.TheVariants as answer
 use Rattle.sva_step.specs.declared.steps.Step.{Step}
@@ -9,6 +9,15 @@ use Rattle.sva_labels.specs.Causes.{sends_invalidate}
 use Rattle.sva_labels.specs.Finding.{binding_of, flight_of, part_of, unit_of}
 use Rattle.sva_labels.specs.Host.{reply_of}
 use Rattle.sva_host.specs.Arriving.{answers}
+
+-- a step that asks neither groups nor jobs nor hands
+abbrev pub AsksNoService : Step → Type 0
+AsksNoService (step.Advance n) = ⊥
+AsksNoService (step.Serve e) = ⊥
+AsksNoService (step.Reset e) = ⊥
+AsksNoService (step.Take x) = ⊥
+AsksNoService (step.Reply x v) = ⊥
+AsksNoService _ = Unit {0}
 
 -- an endpoint asks for a translation, uses one, or lets go of one
 abbrev pub IsOfTranslations : Step → Type 0
@@ -24,6 +33,16 @@ IsOfEndpoint (step.Fault e t q r x group l) = Unit {0}
 IsOfEndpoint (step.Finish e vector count) = Unit {0}
 IsOfEndpoint (step.Quit e t) = Unit {0}
 IsOfEndpoint s = IsOfTranslations s
+
+-- any step of spaces and frames, or of an endpoint
+abbrev pub IsOfSpaces : Step → Type 0
+IsOfSpaces step.Space = Unit {0}
+IsOfSpaces (step.DropSpace n) = Unit {0}
+IsOfSpaces (step.Map n q x) = Unit {0}
+IsOfSpaces (step.Unmap n q count) = Unit {0}
+IsOfSpaces (step.UnmapRange n q order) = Unit {0}
+IsOfSpaces (step.Look f) = Unit {0}
+IsOfSpaces s = IsOfEndpoint s
 
 -- a binding that a reset cut off
 abbrev pub IsCutOff : Option BindingWire → Type 0

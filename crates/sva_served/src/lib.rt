@@ -3,15 +3,11 @@
 
 mod advancing;
 mod applying;
-mod bindings;
-mod deliveries;
-mod endpoints;
+mod host_steps;
 mod jobs;
 mod page_requests;
-mod pumping;
 mod replying;
 mod resets;
 mod served;
-mod spaces;
 
 pub use served::Served;

@@ -2,9 +2,11 @@
 
 ghost use Rattle.std.specs.Prelude.{◌≡◌, ◌≤◌, ◌^◌, IfOk};
 ghost use Rattle.sva_labels.specs.Host.{first_wire};
+ghost use Rattle.sva_memory.specs.Steps.{Counted};
 
 use std::alloc::{AllocError, Global};
 use std::marker::Model;
+use sva_frames::Counts;
 use sva_host::Kept;
 use sva_service::Service;
 use sva_step::Config;
@@ -45,5 +47,12 @@ impl Served {
             service: Service::new(alloc),
             workers: config.workers,
         })
+    }
+
+    /// How many frames are at each place.
+    pub fn counts(&self) -> Counts
+        ensures { Counted self.now.places result }
+    {
+        sva_host::counts(&self.kept)
     }
 }

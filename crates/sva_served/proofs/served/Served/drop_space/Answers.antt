@@ -1,9 +1,0 @@
-use Rattle.sva_step.specs.declared.steps.Step.TheVariants as step
-use Rattle.sva_served.proofs.Hosting.{hosted, still}
-use Rattle.sva_served.proofs.served.Served.drop_space.Goals as goal
-
-pub invariant_of-self : goal.invariant_of-self
-invariant_of-self c = still c.self.inside (step.DropSpace c.args.space) _ _ c.self.invariant tt c.drop_space.ensures.step
-
-pub returns-clause-step : goal.returns-clause-step
-returns-clause-step c = hosted c.self.inside _ (step.DropSpace c.args.space) _ _ c.self.view_is tt c.drop_space.ensures.step

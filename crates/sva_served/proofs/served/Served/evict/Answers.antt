@@ -1,9 +1,0 @@
-use Rattle.sva_step.specs.declared.steps.Step.TheVariants as step
-use Rattle.sva_served.proofs.Hosting.{hosted, still}
-use Rattle.sva_served.proofs.served.Served.evict.Goals as goal
-
-pub invariant_of-self : goal.invariant_of-self
-invariant_of-self c = still c.self.inside (step.Evict c.args.endpoint c.args.pasid c.args.page) _ _ c.self.invariant tt c.evict.ensures.step
-
-pub returns-clause-step : goal.returns-clause-step
-returns-clause-step c = hosted c.self.inside _ (step.Evict c.args.endpoint c.args.pasid c.args.page) _ _ c.self.view_is tt c.evict.ensures.step

@@ -1,9 +1,0 @@
-use Rattle.sva_step.specs.declared.steps.Step.TheVariants as step
-use Rattle.sva_served.proofs.Hosting.{hosted, still}
-use Rattle.sva_served.proofs.served.Served.finish.Goals as goal
-
-pub invariant_of-self : goal.invariant_of-self
-invariant_of-self c = still c.self.inside (step.Finish c.args.endpoint c.args.vector c.args.count) _ _ c.self.invariant tt c.finish.ensures
-
-pub returns : goal.returns
-returns c = hosted c.self.inside _ (step.Finish c.args.endpoint c.args.vector c.args.count) _ _ c.self.view_is tt c.finish.ensures

@@ -2,3 +2,4 @@ pub mod StreamLemmas
 pub mod ScriptLemmas
 pub mod ReportLemmas
 pub mod StormLemmas
+pub mod EndLemmas

@@ -66,3 +66,6 @@ returns-clause-report g c = λ config taken fits seen.
     reporting_end {A = Unit {0}} config c.loop-step.world whole _ _ _
     (record { free = c.counts-counts.result.free; mapped = c.counts-counts.result.mapped; withheld = c.counts-counts.result.withheld }) (Ok tt)
     so_far c.counts-counts.ensures.counts c.in_ok-write_counts.ensures.written
+
+pub write_reply-requires-clause-short : goal.write_reply-requires-clause-short
+write_reply-requires-clause-short g c = c.take_step-reply.ensures.short

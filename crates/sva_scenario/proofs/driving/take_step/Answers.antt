@@ -37,3 +37,6 @@ returns-clause-short c =
       bearer = λ n m h. (omega arith, omega arith);
     })
     c.apply.result c.apply.type_inv
+
+pub returns-clause-step : goal.returns-clause-step
+returns-clause-step c = c.apply.ensures.step

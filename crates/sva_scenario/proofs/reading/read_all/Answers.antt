@@ -28,3 +28,10 @@ loop-turn-preserved g c =
       calls = omega arith;
       failures = c.in-Some.ensures.read.1 ∙ c.loop-turn.invariant.failures;
     }
+
+-- a read that failed ends in a fault, so nothing is claimed of what was kept
+pub returns-in_default-clause-ok : goal.returns-in_default-clause-ok
+returns-in_default-clause-ok g c = tt
+
+pub returns-in_default-clause-end : goal.returns-in_default-clause-end
+returns-in_default-clause-end g c = tt

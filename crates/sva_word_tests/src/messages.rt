@@ -1,8 +1,8 @@
 ghost use Rattle.std.specs.Prelude.{◌≤◌, ◌^◌};
 
+use crate::asserted::holds;
 use std::alloc::{AllocError, Global};
 use std::process::Abort;
-use std::test::Fail;
 use sva_msg::{Bag, Code, CountField, Kind, Message, PageRequest, Scope};
 
 fn page_request(last: bool) -> Kind {
@@ -106,16 +106,11 @@ fn overtakes(alloc: Global, newer: usize, older: usize) -> Result<bool, AllocErr
 }
 
 #[test]
-fn orders_each_pair_of_kinds(rt: HostRuntime) -> Result<(), Fail> {
-    for newer in 0..12 {
-        for older in 0..12 {
-            assert!(rt;
-                overtakes(rt.alloc(), newer, older)?,
-                "{newer} past {older}"
-            );
-        }
+fn orders_each_pair_of_kinds(rt: HostRuntime) {
+    for pair in 0..144 {
+        let is_so = overtakes(rt.alloc(), pair / 12, pair % 12) == Ok(true);
+        holds(&rt, is_so, "pair", pair);
     }
-    Ok(())
 }
 
 // Whether a message of a kind goes up or down, and not the other way.
@@ -127,7 +122,7 @@ fn goes(kind: Kind, is_up: bool) -> bool {
 #[test]
 fn tells_the_way(rt: HostRuntime) {
     for place in 0..12 {
-        assert!(rt; goes(kind(place), place >= 6), "kind {place}");
+        holds(&rt, goes(kind(place), place >= 6), "kind", place);
     }
 }
 
@@ -178,21 +173,28 @@ fn is_delivered(bag: &mut Bag, number: u64, page: u64) -> bool {
     bag.deliver(number) == request(page) && bag.get(number).is_none() && !bag.may_deliver(number)
 }
 
+// Sends two copies of each of 300 requests.
+fn send_hundreds<R: Abort>(rt: &R, bag: &mut Bag) {
+    for page in 0..300 {
+        assert!(rt; bag.get(2 * page).is_none());
+        assert!(rt; send(rt, bag, request(page), 2) == 2 * page);
+    }
+}
+
+// Delivers them. 7 and 600 have no common factor, so each number comes once.
+fn deliver_hundreds<R: Abort>(rt: &R, bag: &mut Bag) {
+    for step in 0..600u64 {
+        let number = step * 7 % 600;
+        let is_so = is_delivered(bag, number, number / 2);
+        holds(rt, is_so, "message", number as usize);
+    }
+}
+
 #[test]
 fn holds_hundreds(rt: HostRuntime) {
     let mut bag = open(rt.alloc(), 0);
-    for page in 0..300 {
-        assert!(rt; bag.get(2 * page).is_none());
-        assert!(rt; send(&rt, &mut bag, request(page), 2) == 2 * page);
-    }
-    // 7 and 600 have no common factor, so each number comes once.
-    for step in 0..600u64 {
-        let number = step * 7 % 600;
-        assert!(rt;
-            is_delivered(&mut bag, number, number / 2),
-            "message {number}"
-        );
-    }
+    send_hundreds(&rt, &mut bag);
+    deliver_hundreds(&rt, &mut bag);
 }
 
 // Whether the last eight numbers are left, and those from this one on are given to eight copies.
@@ -233,30 +235,42 @@ fn holds_stops_below(bag: &Bag, next: u64) -> bool {
     })
 }
 
+// Sends the stop of this number, if there is memory for it.
+fn try_stop<R: Abort>(rt: &R, bag: &mut Bag, number: u64, copies: u64) -> Result<u64, AllocError> {
+    assert!(rt; (1..=8).contains(&copies) && copies <= bag.left());
+    bag.send(stop(number), copies)
+}
+
+// Sends the stop of this number once more, where an allocation was refused: the bag is as it was, and gives that number.
+fn send_again<R: Abort>(rt: &R, bag: &mut Bag, number: u64, copies: u64, left: u64) -> u64 {
+    assert!(rt; bag.left() == left && holds_stops_below(bag, number));
+    try_stop(rt, bag, number, copies).expect(rt, "memory is refused once")
+}
+
 // Sends the stop of this number. Where an allocation is refused, the bag is as it was, and the next try gives that number.
 fn send_stop<R: Abort>(rt: &R, bag: &mut Bag, number: u64, copies: u64) {
     assert!(rt; holds_stops_below(bag, number));
     let left = bag.left();
-    assert!(rt; (1..=8).contains(&copies) && copies <= left);
-    let first = match bag.send(stop(number), copies) {
+    let first = match try_stop(rt, bag, number, copies) {
         Ok(first) => first,
-        Err(_refused) => {
-            assert!(rt; bag.left() == left && holds_stops_below(bag, number));
-            bag.send(stop(number), copies)
-                .expect(rt, "memory is refused once")
-        }
+        Err(_refused) => send_again(rt, bag, number, copies, left),
     };
-    assert!(rt; first == number && bag.left() == left - copies);
+    assert!(rt; first == number && bag.left().wrapping_add(copies) == left);
 }
 
 // The number of the first copy, and how many there are.
 static STOPS: [(u64, u64); 5] = [(5, 1), (6, 8), (14, 2), (16, 8), (24, 8)];
 
+fn send_each<R: Abort>(rt: &R, bag: &mut Bag) {
+    for place in 0..STOPS.len() {
+        let (number, copies) = STOPS[place];
+        send_stop(rt, bag, number, copies);
+    }
+}
+
 #[test]
 fn a_refused_send_changes_nothing(rt: HostRuntime) {
     let mut bag = open(rt.alloc(), 5);
-    for (number, copies) in &STOPS {
-        send_stop(&rt, &mut bag, *number, *copies);
-    }
+    send_each(&rt, &mut bag);
     assert!(rt; holds_stops_below(&bag, 32));
 }

@@ -3,6 +3,7 @@ ghost use Rattle.sva_pasid.specs.Places.{begun};
 ghost use Rattle.sva_pasid.specs.Stages.{numbers_of};
 ghost use Rattle.sva_pasid.specs.States.{numbers_of_stop, numbers_of_wait};
 
+use crate::asserted::holds;
 use std::alloc::Global;
 use std::process::Abort;
 use sva_pasid::{Draining, Invalidating, Live, Lost, Place, Quiet, Stage, Stopping, Table};
@@ -291,33 +292,27 @@ fn answers(table: &Table, call: Call) -> bool {
 }
 
 // Makes the calls one after another.
-fn make_each<R: Abort>(rt: &R, table: &mut Table, calls: &[Call]) {
+fn make_each<R: Abort>(rt: &R, table: &mut Table, what: &str, calls: &[Call]) {
     for place in 0..calls.len() {
-        assert!(rt; make(rt, table, calls[place]), "call {place}");
+        holds(rt, make(rt, table, calls[place]), what, place);
     }
 }
 
-// Makes the calls of a new table.
-fn run<R: Abort>(rt: &R, alloc: Global, calls: &[Call]) {
-    let mut table = Table::new(alloc);
-    make_each(rt, &mut table, calls);
-}
-
 // Makes the calls of a new table, and then others.
-fn run_both<R: Abort>(rt: &R, alloc: Global, first: &[Call], then: &[Call]) {
+fn run<R: Abort>(rt: &R, alloc: Global, what: &str, first: &[Call], then: &[Call]) {
     let mut table = Table::new(alloc);
-    make_each(rt, &mut table, first);
-    make_each(rt, &mut table, then);
+    make_each(rt, &mut table, what, first);
+    make_each(rt, &mut table, what, then);
 }
 
 // Binding 9 begins, and bears PASID 4.
-static BEGUN: [Call; 3] = [
+const BEGUN: [Call; 3] = [
     Call::BeginEach(3),
     Call::Begin(3, 70, 9, 4),
     Call::Stage(9, Some(Seen::Live)),
 ];
 
-static STOPPING: [Call; 9] = [
+const STOPPING: [Call; 9] = [
     Call::Move(9, Move::Stop),
     Call::Stage(9, Some(Seen::Stopping(false))),
     Call::Move(9, Move::Drain(70)),
@@ -329,13 +324,8 @@ static STOPPING: [Call; 9] = [
     Call::Release(9, 4),
 ];
 
-#[test]
-fn stops_until_its_marker_is_noted(rt: HostRuntime) {
-    run_both(&rt, rt.alloc(), &BEGUN, &STOPPING);
-}
-
 // Binding 9 has stopped, its marker was noted, and it drains under a cookie.
-static DRAINING: [Call; 6] = [
+const DRAINING: [Call; 6] = [
     Call::BeginEach(3),
     Call::Begin(3, 70, 9, 4),
     Call::Move(9, Move::Stop),
@@ -344,7 +334,7 @@ static DRAINING: [Call; 6] = [
     Call::Stage(9, Some(Seen::Draining(71, false))),
 ];
 
-static NOT_DRAINED: [Call; 5] = [
+const NOT_DRAINED: [Call; 5] = [
     Call::Move(9, Move::Invalidate(72, false)),
     Call::Stage(9, Some(Seen::Draining(71, false))),
     Call::Move(9, Move::Reset),
@@ -352,12 +342,7 @@ static NOT_DRAINED: [Call; 5] = [
     Call::Release(9, 4),
 ];
 
-#[test]
-fn drains_until_its_wait_is_done(rt: HostRuntime) {
-    run_both(&rt, rt.alloc(), &DRAINING, &NOT_DRAINED);
-}
-
-static OPEN_GROUP: [Call; 6] = [
+const OPEN_GROUP: [Call; 6] = [
     Call::Move(9, Move::Wait),
     Call::Stage(9, Some(Seen::Draining(71, true))),
     Call::Move(9, Move::Invalidate(73, true)),
@@ -366,13 +351,8 @@ static OPEN_GROUP: [Call; 6] = [
     Call::Release(9, 4),
 ];
 
-#[test]
-fn drains_until_no_group_is_open(rt: HostRuntime) {
-    run_both(&rt, rt.alloc(), &DRAINING, &OPEN_GROUP);
-}
-
 // Binding 9 has drained, no group is open, and its PASID is invalidated under a cookie.
-static INVALIDATING: [Call; 8] = [
+const INVALIDATING: [Call; 8] = [
     Call::BeginEach(3),
     Call::Begin(3, 70, 9, 4),
     Call::Move(9, Move::Stop),
@@ -383,17 +363,12 @@ static INVALIDATING: [Call; 8] = [
     Call::Stage(9, Some(Seen::Invalidating(74, false))),
 ];
 
-static NOT_INVALIDATED: [Call; 2] = [
+const NOT_INVALIDATED: [Call; 2] = [
     Call::Move(9, Move::Settle),
     Call::Stage(9, Some(Seen::Invalidating(74, false))),
 ];
 
-#[test]
-fn invalidates_until_its_wait_is_done(rt: HostRuntime) {
-    run_both(&rt, rt.alloc(), &INVALIDATING, &NOT_INVALIDATED);
-}
-
-static INVALIDATED: [Call; 6] = [
+const INVALIDATED: [Call; 6] = [
     Call::Move(9, Move::Wait),
     Call::Stage(9, Some(Seen::Invalidating(74, true))),
     Call::Move(9, Move::Settle),
@@ -402,13 +377,8 @@ static INVALIDATED: [Call; 6] = [
     Call::Count(3),
 ];
 
-#[test]
-fn is_quiet_and_released_once(rt: HostRuntime) {
-    run_both(&rt, rt.alloc(), &INVALIDATING, &INVALIDATED);
-}
-
 // Binding 1 was in use, and binding 9 was being ended.
-static CUT_OFF: [Call; 8] = [
+const CUT_OFF: [Call; 8] = [
     Call::Move(1, Move::Lose),
     Call::Stage(1, Some(Seen::Lost)),
     Call::Move(1, Move::Settle),
@@ -419,12 +389,7 @@ static CUT_OFF: [Call; 8] = [
     Call::Release(9, 4),
 ];
 
-#[test]
-fn each_move_by_reset(rt: HostRuntime) {
-    run_both(&rt, rt.alloc(), &INVALIDATING, &CUT_OFF);
-}
-
-static SPACES_AND_PASIDS: [Call; 17] = [
+const SPACES_AND_PASIDS: [Call; 17] = [
     Call::Begin(0, 70, 0, 1),
     Call::Begin(1, 71, 1, 2),
     Call::Begin(1, 70, 2, 1),
@@ -444,12 +409,7 @@ static SPACES_AND_PASIDS: [Call; 17] = [
     Call::Lowest(71, Some(2)),
 ];
 
-#[test]
-fn one_pasid_for_each_space(rt: HostRuntime) {
-    run(&rt, rt.alloc(), &SPACES_AND_PASIDS);
-}
-
-static ALL_PASIDS: [Call; 7] = [
+const ALL_PASIDS: [Call; 7] = [
     Call::BeginEach(32),
     Call::Lowest(32, None),
     Call::Lowest(31, Some(32)),
@@ -459,12 +419,7 @@ static ALL_PASIDS: [Call; 7] = [
     Call::Lowest(31, Some(32)),
 ];
 
-#[test]
-fn all_pasids_are_borne(rt: HostRuntime) {
-    run(&rt, rt.alloc(), &ALL_PASIDS);
-}
-
-static PLACES: [Call; 9] = [
+const PLACES: [Call; 9] = [
     Call::Begin(3, 70, 20, 1),
     Call::Begin(4, 70, 21, 1),
     Call::Begin(4, 71, 22, 2),
@@ -476,12 +431,7 @@ static PLACES: [Call; 9] = [
     Call::FindBetween(3, 71, None),
 ];
 
-#[test]
-fn finds_places(rt: HostRuntime) {
-    run(&rt, rt.alloc(), &PLACES);
-}
-
-static RESET: [Call; 9] = [
+const RESET: [Call; 9] = [
     Call::Begin(3, 70, 20, 1),
     Call::Begin(4, 70, 21, 1),
     Call::Begin(3, 71, 22, 2),
@@ -493,9 +443,30 @@ static RESET: [Call; 9] = [
     Call::Count(3),
 ];
 
+// What each run shows, its first calls, and its others.
+static RUNS: [(&str, &[Call], &[Call]); 10] = [
+    ("stops until its marker is noted", &BEGUN, &STOPPING),
+    ("drains until its wait is done", &DRAINING, &NOT_DRAINED),
+    ("drains until no group is open", &DRAINING, &OPEN_GROUP),
+    (
+        "invalidates until its wait is done",
+        &INVALIDATING,
+        &NOT_INVALIDATED,
+    ),
+    ("is quiet and released once", &INVALIDATING, &INVALIDATED),
+    ("each move by reset", &INVALIDATING, &CUT_OFF),
+    ("one pasid for each space", &SPACES_AND_PASIDS, &[]),
+    ("all pasids are borne", &ALL_PASIDS, &[]),
+    ("finds places", &PLACES, &[]),
+    ("a reset moves the bindings of its endpoint", &RESET, &[]),
+];
+
 #[test]
-fn a_reset_moves_the_bindings_of_its_endpoint(rt: HostRuntime) {
-    run(&rt, rt.alloc(), &RESET);
+fn answers_each_run_of_calls(rt: HostRuntime) {
+    for place in 0..RUNS.len() {
+        let (what, first, then) = RUNS[place];
+        run(&rt, rt.alloc(), what, first, then);
+    }
 }
 
 #[test]

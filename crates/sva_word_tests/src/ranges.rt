@@ -1,3 +1,4 @@
+use crate::asserted::holds;
 use sva_msg::Range;
 
 /// Of each code its page and its bit S, and of its range the first page, the order and how many pages it has, as PCI Express Base
@@ -35,8 +36,9 @@ fn is_code(page: u64, s: bool, base: u64, order: u8, pages: u64) -> bool {
 
 #[test]
 fn codes_of_ranges(rt: HostRuntime) {
-    for (page, s, base, order, pages) in &CODES {
-        assert!(rt; is_code(*page, *s, *base, *order, *pages), "{page}");
+    for place in 0..CODES.len() {
+        let (page, s, base, order, pages) = CODES[place];
+        holds(&rt, is_code(page, s, base, order, pages), "code", place);
     }
     assert!(rt; Range::decode(67, true) == Some(Range::new(64, 3)));
 }
@@ -51,7 +53,8 @@ static NO_CODES: [(u64, bool); 4] = [
 
 #[test]
 fn codes_of_no_range(rt: HostRuntime) {
-    for (page, s) in &NO_CODES {
-        assert!(rt; Range::decode(*page, *s).is_none(), "{page}");
+    for place in 0..NO_CODES.len() {
+        let (page, s) = NO_CODES[place];
+        holds(&rt, Range::decode(page, s).is_none(), "no code", place);
     }
 }

@@ -1,3 +1,4 @@
+use crate::asserted::holds;
 use std::process::Abort;
 use sva_itags::{Count, Itags};
 
@@ -64,7 +65,7 @@ fn answers(tags: &mut Itags, call: Call) -> bool {
 /// Makes the calls one after another.
 fn run<R: Abort>(rt: &R, mut tags: Itags, calls: &[Call]) {
     for place in 0..calls.len() {
-        assert!(rt; answers(&mut tags, calls[place]), "call {place}");
+        holds(rt, answers(&mut tags, calls[place]), "call", place);
     }
 }
 

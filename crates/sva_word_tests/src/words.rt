@@ -1,6 +1,6 @@
+use crate::asserted::holds;
 use std::alloc::{AllocError, Global};
 use std::process::Abort;
-use std::test::Fail;
 use sva_step::{Answer, Config, FrameList, MOST_PAGES, Refusal, Step, Verdict};
 
 // Does an answer print this text, behind a text that was there before?
@@ -46,17 +46,6 @@ static HOST_ANSWERS: [&str; 12] = [
     "> idle",
 ];
 
-#[test]
-fn host_answers(rt: HostRuntime) -> Result<(), Fail> {
-    for place in 0..HOST_ANSWERS.len() {
-        assert!(rt;
-            is_printed(rt.alloc(), host_answer(place), HOST_ANSWERS[place])?,
-            "answer {place}"
-        );
-    }
-    Ok(())
-}
-
 fn service_answer(place: usize) -> Answer {
     match place {
         0 => Answer::Itag { itag: 31 },
@@ -94,17 +83,6 @@ static SERVICE_ANSWERS: [&str; 12] = [
     "> dropped",
 ];
 
-#[test]
-fn service_answers(rt: HostRuntime) -> Result<(), Fail> {
-    for place in 0..SERVICE_ANSWERS.len() {
-        assert!(rt;
-            is_printed(rt.alloc(), service_answer(place), SERVICE_ANSWERS[place])?,
-            "answer {place}"
-        );
-    }
-    Ok(())
-}
-
 fn endpoint_answer(place: usize) -> Answer {
     match place {
         0 => Answer::Tag { tag: 10 },
@@ -129,17 +107,6 @@ static ENDPOINT_ANSWERS: [&str; 8] = [
     "> sent 8",
     "> marker",
 ];
-
-#[test]
-fn endpoint_answers(rt: HostRuntime) -> Result<(), Fail> {
-    for place in 0..ENDPOINT_ANSWERS.len() {
-        assert!(rt;
-            is_printed(rt.alloc(), endpoint_answer(place), ENDPOINT_ANSWERS[place])?,
-            "answer {place}"
-        );
-    }
-    Ok(())
-}
 
 fn delivery_down(place: usize) -> Answer {
     match place {
@@ -172,17 +139,6 @@ static DELIVERIES_DOWN: [&str; 11] = [
     "> stale",
 ];
 
-#[test]
-fn deliveries_down(rt: HostRuntime) -> Result<(), Fail> {
-    for place in 0..DELIVERIES_DOWN.len() {
-        assert!(rt;
-            is_printed(rt.alloc(), delivery_down(place), DELIVERIES_DOWN[place])?,
-            "answer {place}"
-        );
-    }
-    Ok(())
-}
-
 fn delivery_up(place: usize) -> Answer {
     match place {
         0 => Answer::Completion,
@@ -209,17 +165,6 @@ static DELIVERIES_UP: [&str; 7] = [
     "> bearer none",
 ];
 
-#[test]
-fn deliveries_up(rt: HostRuntime) -> Result<(), Fail> {
-    for place in 0..DELIVERIES_UP.len() {
-        assert!(rt;
-            is_printed(rt.alloc(), delivery_up(place), DELIVERIES_UP[place])?,
-            "answer {place}"
-        );
-    }
-    Ok(())
-}
-
 // Frames 0, 10 and 4095.
 fn three_frames() -> FrameList {
     let mut frames = FrameList::new();
@@ -229,16 +174,58 @@ fn three_frames() -> FrameList {
     frames
 }
 
-#[test]
-fn answers_with_frames(rt: HostRuntime) -> Result<(), Fail> {
+fn answer_with_frames(place: usize) -> Answer {
     let frames = three_frames();
-    let (free, withheld) = (
-        Answer::FreeFrames { frames },
-        Answer::WithheldFrames { frames },
-    );
-    assert!(rt; is_printed(rt.alloc(), free, "> free 0 10 4095")?);
-    assert!(rt; is_printed(rt.alloc(), withheld, "> withheld 0 10 4095")?);
-    Ok(())
+    match place {
+        0 => Answer::FreeFrames { frames },
+        _ => Answer::WithheldFrames { frames },
+    }
+}
+
+static ANSWERS_WITH_FRAMES: [&str; 2] = ["> free 0 10 4095", "> withheld 0 10 4095"];
+
+// The answers by what prints them.
+#[derive(Clone, Copy)]
+enum Part {
+    Host,
+    Service,
+    Endpoint,
+    Down,
+    Up,
+    WithFrames,
+}
+
+fn answer(part: Part, place: usize) -> Answer {
+    match part {
+        Part::Host => host_answer(place),
+        Part::Service => service_answer(place),
+        Part::Endpoint => endpoint_answer(place),
+        Part::Down => delivery_down(place),
+        Part::Up => delivery_up(place),
+        Part::WithFrames => answer_with_frames(place),
+    }
+}
+
+// The answers of a part print these texts.
+fn print_each<R: Abort>(rt: &R, alloc: Global, part: Part, texts: &[&str]) {
+    for place in 0..texts.len() {
+        let is_so = is_printed(alloc, answer(part, place), texts[place]) == Ok(true);
+        holds(rt, is_so, texts[place], place);
+    }
+}
+
+#[test]
+fn answers_of_the_host(rt: HostRuntime) {
+    print_each(&rt, rt.alloc(), Part::Host, &HOST_ANSWERS);
+    print_each(&rt, rt.alloc(), Part::Service, &SERVICE_ANSWERS);
+    print_each(&rt, rt.alloc(), Part::WithFrames, &ANSWERS_WITH_FRAMES);
+}
+
+#[test]
+fn answers_of_endpoints_and_deliveries(rt: HostRuntime) {
+    print_each(&rt, rt.alloc(), Part::Endpoint, &ENDPOINT_ANSWERS);
+    print_each(&rt, rt.alloc(), Part::Down, &DELIVERIES_DOWN);
+    print_each(&rt, rt.alloc(), Part::Up, &DELIVERIES_UP);
 }
 
 // Those of the host, and then the others.
@@ -300,11 +287,12 @@ fn is_told(alloc: Global, refusal: Refusal, number: u8, text: &str) -> Result<bo
 }
 
 #[test]
-fn refusals(rt: HostRuntime) -> Result<(), Fail> {
-    for (refusal, number, text) in &REFUSALS {
-        assert!(rt; is_told(rt.alloc(), *refusal, *number, text)?, "{text}");
+fn refusals(rt: HostRuntime) {
+    for place in 0..REFUSALS.len() {
+        let (refusal, number, text) = REFUSALS[place];
+        let is_so = is_told(rt.alloc(), refusal, number, text) == Ok(true);
+        holds(&rt, is_so, text, place);
     }
-    Ok(())
 }
 
 // The numbers from one on, 48 at most, each less than the one before.
@@ -318,13 +306,17 @@ fn falling(first: u32) -> FrameList {
     frames
 }
 
-#[test]
-fn frame_lists(rt: HostRuntime) {
-    let (none, frames) = (FrameList::new(), falling(100));
-    assert!(rt; (none.len(), frames.len()) == (0, 48));
-    assert!(rt; none.is_empty() && !frames.is_empty());
+// Are these the numbers from 100 on, 48 of them, each less than the one before?
+fn are_falling(frames: &FrameList) -> bool {
     let listed = frames.as_slice();
-    assert!(rt; listed.starts_with(&[100, 99]) && listed.ends_with(&[54, 53]));
+    frames.len() == 48
+        && !frames.is_empty()
+        && listed.starts_with(&[100, 99])
+        && listed.ends_with(&[54, 53])
+}
+
+// Is an answer with frames the same as itself, and no other than the same list of withheld frames, or than no frames?
+fn is_itself_alone(frames: FrameList) -> bool {
     let same = Answer::FreeFrames { frames };
     let others = [
         Answer::WithheldFrames { frames },
@@ -332,7 +324,15 @@ fn frame_lists(rt: HostRuntime) {
             frames: FrameList::default(),
         },
     ];
-    assert!(rt; same == Answer::FreeFrames { frames } && !others.contains(&same));
+    same == Answer::FreeFrames { frames } && !others.contains(&same)
+}
+
+#[test]
+fn frame_lists(rt: HostRuntime) {
+    let none = FrameList::new();
+    assert!(rt; none.len() == 0 && none.is_empty());
+    let frames = falling(100);
+    assert!(rt; are_falling(&frames) && is_itself_alone(frames));
 }
 
 // Of each config its endpoints, frames, workers and first number, and whether it fits.
@@ -362,10 +362,8 @@ fn fits(endpoints: u64, frames: u64, workers: u64, first: u64) -> bool {
 fn configs(rt: HostRuntime) {
     for place in 0..CONFIGS.len() {
         let (endpoints, frames, workers, first, does_fit) = CONFIGS[place];
-        assert!(rt;
-            fits(endpoints, frames, workers, first) == does_fit,
-            "config {place}"
-        );
+        let is_so = fits(endpoints, frames, workers, first) == does_fit;
+        holds(&rt, is_so, "config", place);
     }
 }
 
@@ -409,14 +407,17 @@ static PLAIN_STEPS: [Step; 7] = [
     Step::Bearer { pasid: 1 },
 ];
 
+// Each of these steps is plain, or none is.
+fn are_plain<R: Abort>(rt: &R, steps: &[Step], is_plain: bool) {
+    for place in 0..steps.len() {
+        holds(rt, steps[place].is_plain() == is_plain, "step", place);
+    }
+}
+
 #[test]
 fn steps_without_tokens(rt: HostRuntime) {
-    for step in &STEPS_WITH_TOKENS {
-        assert!(rt; !step.is_plain(), "{step:?}");
-    }
-    for step in &PLAIN_STEPS {
-        assert!(rt; step.is_plain(), "{step:?}");
-    }
+    are_plain(&rt, &STEPS_WITH_TOKENS, false);
+    are_plain(&rt, &PLAIN_STEPS, true);
 }
 
 // Appends an answer's text. With an allocation failing on the way, what was there stays, and the next try appends the whole
@@ -436,22 +437,29 @@ fn append_refusal<R: Abort>(rt: &R, refusal: Refusal, text: &mut Vec<u8>) {
     }
 }
 
-#[test]
-fn refused_memory(rt: HostRuntime) {
-    let mut text = Vec::new(rt.alloc());
+// Appends three texts.
+fn append_each<R: Abort>(rt: &R, text: &mut Vec<u8>) {
     let job = Answer::JobTaken {
         binding: 9223372036854775807,
         group: 31,
         pages: 32,
     };
-    append(&rt, job, &mut text);
+    append(rt, job, text);
     let frames = falling(1048);
-    append(&rt, Answer::WithheldFrames { frames }, &mut text);
-    append_refusal(&rt, Refusal::OutOfMemory, &mut text);
-    let told = text.as_slice();
-    assert!(rt;
-        told.starts_with(b"job binding 9223372036854775807 group 31 pages 32withheld 1048 1047 ")
-    );
-    assert!(rt; told.ends_with(b" 1002 1001refused 39 OutOfMemory"));
-    assert!(rt; told.len() == 49 + 8 + 48 * 5 + 22);
+    append(rt, Answer::WithheldFrames { frames }, text);
+    append_refusal(rt, Refusal::OutOfMemory, text);
+}
+
+// Are the three texts here, one behind another?
+fn are_appended(told: &[u8]) -> bool {
+    told.len() == 49 + 8 + 48 * 5 + 22
+        && told.starts_with(b"job binding 9223372036854775807 group 31 pages 32withheld 1048 1047 ")
+        && told.ends_with(b" 1002 1001refused 39 OutOfMemory")
+}
+
+#[test]
+fn refused_memory(rt: HostRuntime) {
+    let mut text = Vec::new(rt.alloc());
+    append_each(&rt, &mut text);
+    assert!(rt; are_appended(text.as_slice()));
 }

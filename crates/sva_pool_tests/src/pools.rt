@@ -1,7 +1,25 @@
+use crate::asserted::holds;
 use std::alloc::Global;
 use std::process::Abort;
-use std::test::Fail;
-use sva_frames::{Counts, FramePool, PENDING, Place, Target, UNITS, Waits};
+use sva_frames::{Counts, Frame, FramePool, PENDING, Place, Target, UNITS, Waits};
+
+/// Opens a pool of so many frames. Where memory is refused once, the same call again opens it.
+pub(crate) fn open<R: Abort>(rt: &R, alloc: Global, frames: u32) -> FramePool {
+    match FramePool::open(alloc, frames) {
+        Ok(pool) => pool,
+        Err(_refused) => FramePool::open(alloc, frames).expect(rt, "memory is refused once"),
+    }
+}
+
+/// Gives a frame back to its pool.
+pub(crate) fn give<R: Abort>(rt: &R, pool: &mut FramePool, frame: Frame) {
+    let number = frame.number();
+    assert!(rt; (number as usize) < pool.len());
+    match pool.place(number) {
+        Place::Mapped => pool.give(frame),
+        _other => panic!(rt; "a frame was given back before"),
+    }
+}
 
 /// A call of a pool, and what it has to answer.
 #[derive(Clone, Copy)]
@@ -150,20 +168,16 @@ fn tells(pool: &FramePool, call: Call) -> bool {
 }
 
 /// Makes the calls one after another.
-fn make<R: Abort>(rt: &R, pool: &mut FramePool, calls: &[Call]) {
+fn make<R: Abort>(rt: &R, pool: &mut FramePool, what: &str, calls: &[Call]) {
     for place in 0..calls.len() {
-        assert!(rt; answers(pool, calls[place]), "call {place}");
+        holds(rt, answers(pool, calls[place]), what, place);
     }
 }
 
-/// Opens a pool of so many frames, again where memory is refused once, and makes the calls.
-fn run<R: Abort>(rt: &R, alloc: Global, frames: u32, calls: &[Call]) -> Result<(), Fail> {
-    let mut pool = match FramePool::open(alloc, frames) {
-        Ok(pool) => pool,
-        Err(_refused) => FramePool::open(alloc, frames)?,
-    };
-    make(rt, &mut pool, calls);
-    Ok(())
+/// Opens a pool of so many frames, and makes the calls.
+fn run<R: Abort>(rt: &R, alloc: Global, what: &str, frames: u32, calls: &[Call]) {
+    let mut pool = open(rt, alloc, frames);
+    make(rt, &mut pool, what, calls);
 }
 
 #[test]
@@ -176,7 +190,7 @@ fn waits_tell_whether_they_are_empty(rt: HostRuntime) {
     assert!(rt; !waits.copied().is_empty());
 }
 
-static TWO_UNITS: [Call; 8] = [
+const TWO_UNITS: [Call; 8] = [
     Call::Withhold(&[(0, Target::Cookie(5)), (1, Target::Cookie(6))], Some(0)),
     Call::Settle(0, 5),
     Call::Settle(1, 5),
@@ -187,14 +201,9 @@ static TWO_UNITS: [Call; 8] = [
     Call::Look(0, Place::Free),
 ];
 
-#[test]
-fn waits_for_both_units(rt: HostRuntime) -> Result<(), Fail> {
-    run(&rt, rt.alloc(), 4, &TWO_UNITS)
-}
-
 /// A reset and a cookie, then another cookie of the same unit, then both cookies. What is settled: the unit's cookie, then
 /// another unit's, one that nobody waits for, and the reset's end.
-static THREE_FRAMES: [Call; 17] = [
+const THREE_FRAMES: [Call; 17] = [
     Call::Withhold(&[(2, Target::ResetEnd), (3, Target::Cookie(9))], Some(0)),
     Call::Withhold(&[(2, Target::Cookie(7))], Some(1)),
     Call::Withhold(&[(3, Target::Cookie(9)), (2, Target::Cookie(7))], Some(2)),
@@ -214,12 +223,7 @@ static THREE_FRAMES: [Call; 17] = [
     Call::AskEmpty(false),
 ];
 
-#[test]
-fn settles_in_turn(rt: HostRuntime) -> Result<(), Fail> {
-    run(&rt, rt.alloc(), 3, &THREE_FRAMES)
-}
-
-static LOWEST_FIRST: [Call; 6] = [
+const LOWEST_FIRST: [Call; 6] = [
     Call::Withhold(&[(7, Target::ResetEnd)], Some(0)),
     Call::TakeAndGive(
         1,
@@ -235,13 +239,8 @@ static LOWEST_FIRST: [Call; 6] = [
     Call::Withhold(&[], Some(0)),
 ];
 
-#[test]
-fn takes_the_lowest(rt: HostRuntime) -> Result<(), Fail> {
-    run(&rt, rt.alloc(), 2, &LOWEST_FIRST)
-}
-
 /// Both frames get the same waits.
-static TWO_ALIKE: [Call; 9] = [
+const TWO_ALIKE: [Call; 9] = [
     Call::Withhold(&[(7, Target::Cookie(27)), (0, Target::Cookie(20))], Some(0)),
     Call::Withhold(&[(7, Target::Cookie(27)), (0, Target::Cookie(20))], Some(1)),
     Call::Settle(0, 20),
@@ -252,11 +251,6 @@ static TWO_ALIKE: [Call; 9] = [
     Call::Look(0, Place::Free),
     Call::Look(1, Place::Free),
 ];
-
-#[test]
-fn two_frames_wait_alike(rt: HostRuntime) -> Result<(), Fail> {
-    run(&rt, rt.alloc(), 2, &TWO_ALIKE)
-}
 
 const EVERYWHERE: [(usize, Target); UNITS] = [
     (0, Target::Cookie(30)),
@@ -269,7 +263,8 @@ const EVERYWHERE: [(usize, Target); UNITS] = [
     (7, Target::Cookie(30)),
 ];
 
-static EIGHT_UNITS: [Call; 19] = [
+/// The middle one of three frames in the chain of unit 5 waits at all eight units.
+const EIGHT_UNITS: [Call; 19] = [
     Call::Withhold(&[(5, Target::Cookie(30))], Some(0)),
     Call::Withhold(&EVERYWHERE, Some(1)),
     Call::Withhold(&[(5, Target::Cookie(30))], Some(2)),
@@ -291,13 +286,8 @@ static EIGHT_UNITS: [Call; 19] = [
     Call::Count(3, 0),
 ];
 
-/// The middle one of three frames in the chain of unit 5 waits at all eight units.
-#[test]
-fn waits_at_eight_units(rt: HostRuntime) -> Result<(), Fail> {
-    run(&rt, rt.alloc(), 3, &EIGHT_UNITS)
-}
-
-static OLDER_CHAIN: [Call; 11] = [
+/// A frame joins the chain of a cookie that isn't the newest of its unit.
+const OLDER_CHAIN: [Call; 11] = [
     Call::Withhold(&[(2, Target::Cookie(11))], Some(0)),
     Call::Withhold(&[(2, Target::Cookie(12))], Some(1)),
     Call::Withhold(&[(2, Target::Cookie(13))], Some(2)),
@@ -311,13 +301,8 @@ static OLDER_CHAIN: [Call; 11] = [
     Call::Look(2, Place::Withheld),
 ];
 
-/// A frame joins the chain of a cookie that isn't the newest of its unit.
-#[test]
-fn joins_an_older_chain(rt: HostRuntime) -> Result<(), Fail> {
-    run(&rt, rt.alloc(), 4, &OLDER_CHAIN)
-}
-
-static SIXTY_FOUR_PENDING: [Call; 7] = [
+/// A unit has room for as many cookies as may be pending there, and for each of these again.
+const SIXTY_FOUR_PENDING: [Call; 7] = [
     Call::WithholdInTurn(6, PENDING as u32),
     Call::Count(36, 64),
     Call::AskRoom(&[(6, Target::Cookie(64))], false),
@@ -327,13 +312,8 @@ static SIXTY_FOUR_PENDING: [Call; 7] = [
     Call::AskRoom(&[(6, Target::Cookie(64))], true),
 ];
 
-/// A unit has room for as many cookies as may be pending there, and for each of these again.
-#[test]
-fn has_room_for_the_pending(rt: HostRuntime) -> Result<(), Fail> {
-    run(&rt, rt.alloc(), 100, &SIXTY_FOUR_PENDING)
-}
-
-static LAST_OF_MANY: [Call; 6] = [
+/// A pool of more frames than one word of its summary names finds the lowest free one past all others.
+const LAST_OF_MANY: [Call; 6] = [
     Call::WithholdAlike(&[(0, Target::Cookie(1))], 4199),
     Call::Withhold(&[], Some(4199)),
     Call::Count(1, 4199),
@@ -342,8 +322,22 @@ static LAST_OF_MANY: [Call; 6] = [
     Call::Withhold(&[(0, Target::Cookie(2))], Some(0)),
 ];
 
-/// A pool of more frames than one word of its summary names finds the lowest free one past all others.
+/// What each run shows, the frames of its pool, and its calls.
+static RUNS: [(&str, u32, &[Call]); 8] = [
+    ("waits for both units", 4, &TWO_UNITS),
+    ("settles in turn", 3, &THREE_FRAMES),
+    ("takes the lowest", 2, &LOWEST_FIRST),
+    ("two frames wait alike", 2, &TWO_ALIKE),
+    ("waits at eight units", 3, &EIGHT_UNITS),
+    ("joins an older chain", 4, &OLDER_CHAIN),
+    ("has room for the pending", 100, &SIXTY_FOUR_PENDING),
+    ("takes the last of many", 4200, &LAST_OF_MANY),
+];
+
 #[test]
-fn takes_the_last_of_many(rt: HostRuntime) -> Result<(), Fail> {
-    run(&rt, rt.alloc(), 4200, &LAST_OF_MANY)
+fn answers_each_run_of_calls(rt: HostRuntime) {
+    for place in 0..RUNS.len() {
+        let (what, frames, calls) = RUNS[place];
+        run(&rt, rt.alloc(), what, frames, calls);
+    }
 }

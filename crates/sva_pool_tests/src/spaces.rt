@@ -1,8 +1,10 @@
 ghost use Rattle.std.specs.Prelude.{◌<◌};
 
-use std::alloc::{AllocError, Global};
+use crate::asserted::holds;
+use crate::pools::{give, open};
+use std::alloc::Global;
 use std::process::Abort;
-use sva_frames::{Frame, FramePool, Place};
+use sva_frames::{Frame, FramePool};
 use sva_space::Space;
 
 /// A call of a space, and what it has to answer.
@@ -24,16 +26,6 @@ enum Call {
     AreMapped(u64, u64, bool),
     Len(usize),
     IsEmpty(bool),
-}
-
-/// Gives a frame back to its pool.
-fn give<R: Abort>(rt: &R, pool: &mut FramePool, frame: Frame) {
-    let number = frame.number();
-    assert!(rt; (number as usize) < pool.len());
-    match pool.place(number) {
-        Place::Mapped => pool.give(frame),
-        _other => panic!(rt; "frame {} was given back before", frame.number()),
-    }
 }
 
 /// Maps a page to the lowest free frame, and tells whether that was done.
@@ -96,29 +88,35 @@ fn tells(space: &Space, call: Call) -> bool {
     }
 }
 
+/// Takes the lowest page out, if there is one, and gives its frame back.
+fn unmap_lowest<R: Abort>(rt: &R, pool: &mut FramePool, space: &mut Space) {
+    if let Some((_page, frame, _write)) = space.pop_first() {
+        give(rt, pool, frame);
+    }
+}
+
 /// Takes all pages out, the lowest first, and closes the space.
 fn close<R: Abort>(rt: &R, pool: &mut FramePool, mut space: Space) {
     for _page in 0..space.len() {
-        if let Some((_page, frame, _write)) = space.pop_first() {
-            give(rt, pool, frame);
-        }
+        unmap_lowest(rt, pool, &mut space);
     }
     assert!(rt; space.is_empty());
     space.close();
 }
 
-/// Makes the calls of a new space, one after another.
-fn run<R: Abort>(rt: &R, alloc: Global, calls: &[Call]) -> Result<(), AllocError> {
-    let mut pool = FramePool::open(alloc, 4)?;
-    let mut space = Space::new(alloc);
+/// Makes the calls one after another.
+fn make<R: Abort>(rt: &R, pool: &mut FramePool, space: &mut Space, calls: &[Call]) {
     for place in 0..calls.len() {
-        assert!(rt;
-            answers(rt, &mut pool, &mut space, calls[place]),
-            "call {place}"
-        );
+        holds(rt, answers(rt, pool, space, calls[place]), "call", place);
     }
+}
+
+/// Makes the calls of a new space.
+fn run<R: Abort>(rt: &R, alloc: Global, calls: &[Call]) {
+    let mut pool = open(rt, alloc, 4);
+    let mut space = Space::new(alloc);
+    make(rt, &mut pool, &mut space, calls);
     close(rt, &mut pool, space);
-    Ok(())
 }
 
 /// Pages 17 and 16 in this order; then page 16 goes as the lowest one of a range, and page 17 by its number.
@@ -147,8 +145,8 @@ static TWO_PAGES: [Call; 21] = [
 ];
 
 #[test]
-fn maps_and_unmaps(rt: HostRuntime) -> Result<(), AllocError> {
-    run(&rt, rt.alloc(), &TWO_PAGES)
+fn maps_and_unmaps(rt: HostRuntime) {
+    run(&rt, rt.alloc(), &TWO_PAGES);
 }
 
 /// A page of the test below: the first frame is mapped at page 100, and each next one at the page below.
@@ -171,45 +169,72 @@ fn holds_frames_below(space: &Space, count: u32) -> bool {
         })
 }
 
+/// Maps the frame of this number at its page, or gives it back where memory is refused.
+fn map_once<R: Abort>(rt: &R, space: &mut Space, frame: Frame, number: u32) -> Result<(), Frame>
+    requires { number < 40 }
+{
+    let page = page_of(number);
+    assert!(rt; space.find(page).is_none());
+    match space.map(page, frame, number % 2 == 0) {
+        Ok(()) => Ok(()),
+        Err((frame, _refused)) => Err(frame),
+    }
+}
+
 /// Maps a frame at its page. Where memory is refused once, the frame comes back, the space is as it was, and the same
 /// call again maps it.
 fn map<R: Abort>(rt: &R, space: &mut Space, frame: Frame) {
     let number = frame.number();
     assert!(rt; number < 40 && holds_frames_below(space, number));
-    let (page, write) = (page_of(number), number % 2 == 0);
-    assert!(rt; space.find(page).is_none());
-    let Err((frame, _refused)) = space.map(page, frame, write) else {
+    let Err(frame) = map_once(rt, space, frame, number) else {
         return;
     };
-    assert!(rt; frame.number() == number);
-    assert!(rt; holds_frames_below(space, number));
-    if let Err((frame, _refused)) = space.map(page, frame, write) {
-        panic!(rt; "memory is refused once: frame {}", frame.number());
+    assert!(rt; frame.number() == number && holds_frames_below(space, number));
+    if let Err(_frame) = map_once(rt, space, frame, number) {
+        panic!(rt; "memory is refused once");
+    }
+}
+
+/// Maps thirty frames in turn.
+fn map_thirty<R: Abort>(rt: &R, pool: &mut FramePool, space: &mut Space) {
+    for number in 0..30 {
+        match pool.take() {
+            Some(frame) => map(rt, space, frame),
+            None => panic!(rt; "the pool has thirty frames"),
+        }
+        assert!(rt; holds_frames_below(space, number + 1));
+    }
+}
+
+/// Takes the lowest page out, which the frame of this number has, and gives that back.
+fn unmap_last<R: Abort>(rt: &R, pool: &mut FramePool, space: &mut Space, number: u32)
+    requires { number < 40 }
+{
+    match space.pop_first() {
+        Some((page, frame, write)) => {
+            let is_last = (page, frame.number(), write)
+                == (page_of(number), number, number % 2 == 0);
+            assert!(rt; is_last);
+            give(rt, pool, frame);
+        }
+        None => panic!(rt; "the space is empty"),
+    }
+}
+
+/// Takes thirty pages out, the lowest first.
+fn unmap_thirty<R: Abort>(rt: &R, pool: &mut FramePool, space: &mut Space) {
+    for number in (0..30).rev() {
+        unmap_last(rt, pool, space, number);
     }
 }
 
 /// Thirty pages, for which a space takes memory several times, and a pool of as many frames.
 #[test]
 fn a_refused_map_changes_nothing(rt: HostRuntime) {
-    let mut pool = match FramePool::open(rt.alloc(), 30) {
-        Ok(pool) => pool,
-        Err(_refused) => FramePool::open(rt.alloc(), 30).expect(&rt, "memory is refused once"),
-    };
+    let mut pool = open(&rt, rt.alloc(), 30);
     let mut space = Space::new(rt.alloc());
-    for number in 0..30 {
-        let Some(frame) = pool.take() else {
-            panic!(rt; "no frame {number}");
-        };
-        map(&rt, &mut space, frame);
-        assert!(rt; holds_frames_below(&space, number + 1));
-    }
-    for number in (0..30).rev() {
-        let Some((page, frame, write)) = space.pop_first() else {
-            panic!(rt; "the space is empty");
-        };
-        assert!(rt; (page, frame.number(), write) == (page_of(number), number, number % 2 == 0));
-        give(&rt, &mut pool, frame);
-    }
+    map_thirty(&rt, &mut pool, &mut space);
+    unmap_thirty(&rt, &mut pool, &mut space);
     assert!(rt; space.is_empty());
     space.close();
 }

@@ -1,9 +1,10 @@
 //! Ten thousand calls, each made at a pool and at its plain form, with equal answers.
+use crate::asserted::holds;
 use crate::plain::{PlainPool, Wait};
-use crate::pools::{place, waits_of, withhold_or_give};
+use crate::pools::{give, open, place, waits_of, withhold_or_give};
 use std::alloc::{AllocError, Global};
 use std::process::Abort;
-use sva_frames::{Frame, FramePool, Place, Target, UNITS, Waits};
+use sva_frames::{Frame, FramePool, Target, UNITS, Waits};
 
 /// Numbers from a fixed seed: a linear congruential generator with the multiplier and increment of Knuth's MMIX, of
 /// which the upper bits are given out.
@@ -99,11 +100,19 @@ struct Twins {
     met: Met,
 }
 
+/// The number of a frame, if one was taken.
+fn number_of(taken: &Option<Frame>) -> Option<usize> {
+    match taken {
+        Some(frame) => Some(frame.number() as usize),
+        None => None,
+    }
+}
+
 impl Twins {
-    fn open(alloc: Global, frames: u32) -> Result<Twins, AllocError> {
-        Ok(Twins {
-            pool: FramePool::open(alloc, frames)?,
-            plain: PlainPool::open(alloc, frames)?,
+    fn new(pool: FramePool, plain: PlainPool) -> Twins {
+        Twins {
+            pool,
+            plain,
             numbers: Numbers { state: 2026 },
             met: Met {
                 withheld: 0,
@@ -111,31 +120,23 @@ impl Twins {
                 empty: 0,
                 freed_many: 0,
             },
-        })
+        }
     }
 
     /// Gives a frame back that was taken of both.
     fn give<R: Abort>(&mut self, rt: &R, frame: Frame) {
-        let number = frame.number();
-        assert!(rt; (number as usize) < self.pool.len());
-        match self.pool.place(number) {
-            Place::Mapped => self.pool.give(frame),
-            _other => panic!(rt; "frame {number} isn't mapped"),
-        }
-        self.plain.give(number as usize);
+        let number = frame.number() as usize;
+        give(rt, &mut self.pool, frame);
+        self.plain.give(number);
     }
 
     /// Takes a frame of both.
     fn take<R: Abort>(&mut self, rt: &R) -> Option<Frame> {
         let taken = self.pool.take();
-        let number = match &taken {
-            Some(frame) => Some(frame.number() as usize),
-            None => {
-                self.met.note_empty();
-                None
-            }
-        };
-        assert!(rt; self.plain.take() == number);
+        if taken.is_none() {
+            self.met.note_empty();
+        }
+        assert!(rt; self.plain.take() == number_of(&taken));
         taken
     }
 
@@ -154,13 +155,18 @@ impl Twins {
         taken == Some(number)
     }
 
-    /// Takes the lowest free frame of both and withholds it, or gives it back where there is no room for it, of which both say the same.
-    fn withhold<R: Abort>(&mut self, rt: &R, alloc: Global) {
-        let (waits, plain_waits) = some_waits(alloc, &mut self.numbers).expect(rt, "memory");
-        assert!(rt; self.pool.has_room(&waits) == self.plain.has_room(&plain_waits));
+    /// Takes the lowest free frame of both and withholds it, or gives it back where there is no room for it. Whether both say the same.
+    fn withhold(&mut self, waits: Waits, plain_waits: Vec<Wait>) -> bool {
+        let have_room = self.pool.has_room(&waits) == self.plain.has_room(&plain_waits);
         let made = withhold_or_give(&mut self.pool, waits);
         self.met.note(made);
-        assert!(rt; self.withhold_plain(made, plain_waits));
+        self.withhold_plain(made, plain_waits) && have_room
+    }
+
+    /// The same for the next numbers.
+    fn withhold_next<R: Abort>(&mut self, rt: &R, alloc: Global) {
+        let (waits, plain_waits) = some_waits(alloc, &mut self.numbers).expect(rt, "memory");
+        assert!(rt; self.withhold(waits, plain_waits));
     }
 
     fn settle(&mut self, unit: u64) {
@@ -206,24 +212,32 @@ fn call_both<R: Abort>(
         0 => twins.settle_all(unit),
         1..=44 => twins.settle(unit),
         45..=54 => return twins.give_or_take(rt, hand),
-        _ => twins.withhold(rt, alloc),
+        _ => twins.withhold_next(rt, alloc),
     }
     hand
 }
 
+/// So many calls of both, after each of which another frame is compared; the frame that is in hand at their end is given back.
+fn call_each<R: Abort>(rt: &R, alloc: Global, twins: &mut Twins, calls: u32) {
+    let mut hand = None;
+    for call in 0..calls {
+        hand = call_both(rt, alloc, twins, hand);
+        holds(rt, twins.are_same(call % FRAMES), "call", call as usize);
+    }
+    if let Some(frame) = hand {
+        twins.give(rt, frame);
+    }
+}
+
+const FRAMES: u32 = 600;
+
 /// Ten thousand calls find equal answers from the pool and from the plain one.
 #[test]
 fn answers_as_the_plain_pool(rt: HostRuntime) {
-    let frames = 600;
-    let mut twins = Twins::open(rt.alloc(), frames).expect(&rt, "memory");
-    let mut hand = None;
-    for call in 0..10_000 {
-        hand = call_both(&rt, rt.alloc(), &mut twins, hand);
-        assert!(rt; twins.are_same(call % frames), "call {call}");
-    }
-    if let Some(frame) = hand {
-        twins.give(&rt, frame);
-    }
+    let pool = open(&rt, rt.alloc(), FRAMES);
+    let plain = PlainPool::open(rt.alloc(), FRAMES).expect(&rt, "memory");
+    let mut twins = Twins::new(pool, plain);
+    call_each(&rt, rt.alloc(), &mut twins, 10_000);
     // The calls were of all kinds.
     assert!(rt; twins.met.is_enough());
 }

@@ -1,3 +1,4 @@
+use crate::asserted::holds;
 use arrayvec::ArrayVec;
 use std::alloc::Global;
 use std::process::Abort;
@@ -252,25 +253,20 @@ fn answers(memory: &Memory, call: Call) -> bool {
     }
 }
 
-// Opens a memory of so many frames, whose first space has this number, and makes the calls.
-fn run<R: Abort>(rt: &R, alloc: Global, frames: u32, first: u64, calls: &[Call]) {
-    let mut memory = open(rt, alloc, frames, first);
+// Makes the calls one after another.
+fn make_each<R: Abort>(rt: &R, memory: &mut Memory, what: &str, calls: &[Call]) {
     for place in 0..calls.len() {
-        assert!(rt; make(rt, &mut memory, calls[place]), "call {place}");
+        holds(rt, make(rt, memory, calls[place]), what, place);
     }
 }
 
-// A memory of four frames with one space, whose pages 16, 17 and 20 are mapped to frames 0, 1 and 2; and then the calls.
-fn run_mapped<R: Abort>(rt: &R, alloc: Global, calls: &[Call]) {
-    let mut memory = open(rt, alloc, 4, 0);
-    for call in THREE_MAPPED {
-        assert!(rt; make(rt, &mut memory, call));
-    }
-    for place in 0..calls.len() {
-        assert!(rt; make(rt, &mut memory, calls[place]), "call {place}");
-    }
+// Makes the calls of a memory, and then others.
+fn run<R: Abort>(rt: &R, mut memory: Memory, what: &str, before: &[Call], calls: &[Call]) {
+    make_each(rt, &mut memory, what, before);
+    make_each(rt, &mut memory, what, calls);
 }
 
+// One space, whose pages 16, 17 and 20 are mapped to frames 0, 1 and 2.
 const THREE_MAPPED: [Call; 4] = [
     Call::Space(0),
     Call::Map(0, 16, true, 0),
@@ -278,7 +274,7 @@ const THREE_MAPPED: [Call; 4] = [
     Call::Map(0, 20, true, 2),
 ];
 
-static NOBODY_WAITS: [Call; 5] = [
+const NOBODY_WAITS: [Call; 5] = [
     Call::Unmap(0, 16, 2, Wait::Nothing, &[0, 1]),
     Call::Count(3, 1, 0),
     Call::NoUnmap(0, 16, 2, Refusal::NotMapped),
@@ -286,12 +282,7 @@ static NOBODY_WAITS: [Call; 5] = [
     Call::Count(4, 0, 0),
 ];
 
-#[test]
-fn frees_what_nobody_waits_for(rt: HostRuntime) {
-    run_mapped(&rt, rt.alloc(), &NOBODY_WAITS);
-}
-
-static TWO_UNITS_WAIT: [Call; 9] = [
+const TWO_UNITS_WAIT: [Call; 9] = [
     Call::Unmap(0, 16, 2, Wait::CookieAndReset(5), &[0, 1]),
     Call::Count(1, 1, 2),
     Call::Look(0, Place::Withheld),
@@ -303,12 +294,7 @@ static TWO_UNITS_WAIT: [Call; 9] = [
     Call::Count(3, 1, 0),
 ];
 
-#[test]
-fn withholds_until_all_is_settled(rt: HostRuntime) {
-    run_mapped(&rt, rt.alloc(), &TWO_UNITS_WAIT);
-}
-
-static RANGE_WAITS: [Call; 5] = [
+const RANGE_WAITS: [Call; 5] = [
     Call::UnmapRange(0, 16, 2, Wait::CookieAtUnit7(9), 2),
     Call::Count(1, 1, 2),
     Call::NoUnmapRange(0, 16, 2, Refusal::NothingMapped),
@@ -316,13 +302,8 @@ static RANGE_WAITS: [Call; 5] = [
     Call::Count(3, 1, 0),
 ];
 
-#[test]
-fn withholds_a_range(rt: HostRuntime) {
-    run_mapped(&rt, rt.alloc(), &RANGE_WAITS);
-}
-
 // The pages at both ends of a range go, mapped in falling order; those beside it stay.
-static WHOLE_RANGE: [Call; 12] = [
+const WHOLE_RANGE: [Call; 12] = [
     Call::Space(0),
     Call::Map(0, 32, true, 0),
     Call::Map(0, 31, true, 1),
@@ -337,12 +318,7 @@ static WHOLE_RANGE: [Call; 12] = [
     Call::NoUnmapRange(0, 16, 4, Refusal::NothingMapped),
 ];
 
-#[test]
-fn takes_a_range_from_end_to_end(rt: HostRuntime) {
-    run(&rt, rt.alloc(), 4, 0, &WHOLE_RANGE);
-}
-
-static REFUSED_UNMAPPINGS: [Call; 12] = [
+const REFUSED_UNMAPPINGS: [Call; 12] = [
     Call::NoUnmap(1, 16, 0, Refusal::NoSuchSpace),
     Call::NoUnmap(0, 68719476736, 0, Refusal::BadCount),
     Call::NoUnmap(0, 16, 49, Refusal::BadCount),
@@ -357,12 +333,7 @@ static REFUSED_UNMAPPINGS: [Call; 12] = [
     Call::Count(3, 1, 0),
 ];
 
-#[test]
-fn refuses_an_unmapping_in_order(rt: HostRuntime) {
-    run_mapped(&rt, rt.alloc(), &REFUSED_UNMAPPINGS);
-}
-
-static SIXTY_FOUR_COOKIES: [Call; 7] = [
+const SIXTY_FOUR_COOKIES: [Call; 7] = [
     Call::Space(0),
     Call::MapEach(0, 64, 0),
     Call::UnmapEach(64),
@@ -372,12 +343,7 @@ static SIXTY_FOUR_COOKIES: [Call; 7] = [
     Call::HasRoom(Wait::CookieAtUnit1(64), true),
 ];
 
-#[test]
-fn has_room_for_64_cookies_at_a_unit(rt: HostRuntime) {
-    run(&rt, rt.alloc(), 65, 0, &SIXTY_FOUR_COOKIES);
-}
-
-static TWO_SPACES: [Call; 11] = [
+const TWO_SPACES: [Call; 11] = [
     Call::Space(7),
     Call::Space(8),
     Call::HasSpace(7, true),
@@ -391,13 +357,7 @@ static TWO_SPACES: [Call; 11] = [
     Call::NoLook(3, Refusal::NoFrame),
 ];
 
-#[test]
-fn begins_maps_and_looks(rt: HostRuntime) {
-    run(&rt, rt.alloc(), 3, 7, &TWO_SPACES);
-    assert!(rt; open(&rt, rt.alloc(), 3, 7).len() == 3);
-}
-
-static REFUSED_MAPS: [Call; 6] = [
+const REFUSED_MAPS: [Call; 6] = [
     Call::NoMap(0, 68719476736, Refusal::NoSuchSpace),
     Call::Space(0),
     Call::NoMap(0, 68719476736, Refusal::PageRange),
@@ -406,12 +366,7 @@ static REFUSED_MAPS: [Call; 6] = [
     Call::NoMap(0, 16, Refusal::NoFrame),
 ];
 
-#[test]
-fn refuses_a_map_in_order(rt: HostRuntime) {
-    run(&rt, rt.alloc(), 1, 0, &REFUSED_MAPS);
-}
-
-static DROPPED_SPACE: [Call; 11] = [
+const DROPPED_SPACE: [Call; 11] = [
     Call::Space(0),
     Call::Space(1),
     Call::Map(0, 16, true, 0),
@@ -425,30 +380,15 @@ static DROPPED_SPACE: [Call; 11] = [
     Call::Space(2),
 ];
 
-#[test]
-fn drops_a_space_with_its_frames(rt: HostRuntime) {
-    run(&rt, rt.alloc(), 4, 0, &DROPPED_SPACE);
-}
-
-static LAST_NUMBER: [Call; 2] = [
+const LAST_NUMBER: [Call; 2] = [
     Call::Space(9223372036854775807),
     Call::NoSpace(Refusal::NumbersSpent),
 ];
 
-#[test]
-fn spends_the_last_number(rt: HostRuntime) {
-    run(&rt, rt.alloc(), 1, 9223372036854775807, &LAST_NUMBER);
-}
-
-static SIXTY_FOUR_SPACES: [Call; 2] = [Call::SpaceEach(64), Call::NoSpace(Refusal::TooManySpaces)];
-
-#[test]
-fn has_64_spaces(rt: HostRuntime) {
-    run(&rt, rt.alloc(), 1, 0, &SIXTY_FOUR_SPACES);
-}
+const SIXTY_FOUR_SPACES: [Call; 2] = [Call::SpaceEach(64), Call::NoSpace(Refusal::TooManySpaces)];
 
 // Five spaces of twelve pages, for which each list and tree grows at least once.
-static MANY_PAGES: [Call; 9] = [
+const MANY_PAGES: [Call; 9] = [
     Call::SpaceEach(5),
     Call::MapEach(0, 12, 0),
     Call::MapEach(1, 12, 12),
@@ -460,9 +400,64 @@ static MANY_PAGES: [Call; 9] = [
     Call::Count(16, 48, 0),
 ];
 
+// What each run shows, the frames of its memory and the number of its first space, its first calls, and its others.
+static RUNS: [(&str, u32, u64, &[Call], &[Call]); 12] = [
+    (
+        "frees what nobody waits for",
+        4,
+        0,
+        &THREE_MAPPED,
+        &NOBODY_WAITS,
+    ),
+    (
+        "withholds until all is settled",
+        4,
+        0,
+        &THREE_MAPPED,
+        &TWO_UNITS_WAIT,
+    ),
+    ("withholds a range", 4, 0, &THREE_MAPPED, &RANGE_WAITS),
+    ("takes a range from end to end", 4, 0, &[], &WHOLE_RANGE),
+    (
+        "refuses an unmapping in order",
+        4,
+        0,
+        &THREE_MAPPED,
+        &REFUSED_UNMAPPINGS,
+    ),
+    (
+        "has room for 64 cookies at a unit",
+        65,
+        0,
+        &[],
+        &SIXTY_FOUR_COOKIES,
+    ),
+    ("begins maps and looks", 3, 7, &[], &TWO_SPACES),
+    ("refuses a map in order", 1, 0, &[], &REFUSED_MAPS),
+    ("drops a space with its frames", 4, 0, &[], &DROPPED_SPACE),
+    (
+        "spends the last number",
+        1,
+        9223372036854775807,
+        &[],
+        &LAST_NUMBER,
+    ),
+    ("has 64 spaces", 1, 0, &[], &SIXTY_FOUR_SPACES),
+    ("goes on where memory was refused", 64, 0, &[], &MANY_PAGES),
+];
+
 #[test]
-fn goes_on_where_memory_was_refused(rt: HostRuntime) {
-    run(&rt, rt.alloc(), 64, 0, &MANY_PAGES);
+fn answers_each_run_of_calls(rt: HostRuntime) {
+    for place in 0..RUNS.len() {
+        let (what, frames, first, before, calls) = RUNS[place];
+        let memory = open(&rt, rt.alloc(), frames, first);
+        run(&rt, memory, what, before, calls);
+    }
+}
+
+#[test]
+fn has_as_many_frames_as_it_was_opened_with(rt: HostRuntime) {
+    assert!(rt; open(&rt, rt.alloc(), 3, 7).len() == 3);
 }
 
 fn ask(page: u64, write: bool) -> Ask {
@@ -500,39 +495,51 @@ fn is_refused(memory: &Memory, asks: &[Ask], why: Refusal) -> bool {
 }
 
 // Space 0, whose page 17 has frame 1.
-const ONE_MAPPED: [Call; 4] = [
+static ONE_MAPPED: [Call; 4] = [
     Call::Space(0),
     Call::Map(0, 16, true, 0),
     Call::Map(0, 17, true, 1),
     Call::Unmap(0, 16, 1, Wait::Nothing, &[0]),
 ];
 
-// Page 17 is mapped, and frame 1 is its own. A job asks for pages 30, 17 and 21, and for page 30 once more, to be written:
-// pages 30 and 21 get frames 0 and 2, and page 21 isn't to be written.
-fn job_mapped<R: Abort>(rt: &R, alloc: Global) -> Memory {
-    let mut memory = open(rt, alloc, 4, 0);
-    for call in ONE_MAPPED {
-        assert!(rt; make(rt, &mut memory, call));
-    }
+// A job asks for pages 30, 17 and 21 of space 0, and for page 30 once more, to be written: pages 30 and 21 are mapped, page 21 not to
+// be written.
+fn map_job<R: Abort>(rt: &R, memory: &mut Memory) {
     let asks = [
         ask(30, false),
         ask(17, false),
         ask(21, false),
         ask(30, true),
     ];
-    let pages = map_all(rt, &mut memory, 0, &asks);
+    let pages = map_all(rt, memory, 0, &asks);
     assert!(rt; pages.as_slice() == [30, 21].as_slice());
+}
+
+// Page 17 is mapped, and frame 1 is its own; the job's pages 30 and 21 get frames 0 and 2.
+fn job_mapped<R: Abort>(rt: &R, alloc: Global) -> Memory {
+    let mut memory = open(rt, alloc, 4, 0);
+    make_each(rt, &mut memory, "one page", &ONE_MAPPED);
+    map_job(rt, &mut memory);
     memory
+}
+
+// Whether a job may write a page of space 0.
+fn may_write(memory: &Memory, page: u64) -> bool {
+    memory.has_space(0) && memory.may_map_all(0, &[ask(page, true)]).is_ok()
+}
+
+// Whether a job is refused that would write page 21, and one for which there are too few frames.
+fn refuses(memory: &Memory) -> bool {
+    let too_many = [ask(40, true), ask(41, true), ask(21, false)];
+    is_refused(memory, &[ask(21, true)], Refusal::BadVerdict)
+        && is_refused(memory, &too_many, Refusal::NoFrame)
 }
 
 #[test]
 fn maps_what_a_job_asks_for(rt: HostRuntime) {
     let memory = job_mapped(&rt, rt.alloc());
     assert!(rt; memory.counts() == counts(1, 3, 0));
-    assert!(rt; memory.has_space(0) && memory.may_map_all(0, &[ask(30, true)]).is_ok());
-    assert!(rt; is_refused(&memory, &[ask(21, true)], Refusal::BadVerdict));
-    let too_many = [ask(40, true), ask(41, true), ask(21, false)];
-    assert!(rt; is_refused(&memory, &too_many, Refusal::NoFrame));
+    assert!(rt; may_write(&memory, 30) && refuses(&memory));
 }
 
 #[test]

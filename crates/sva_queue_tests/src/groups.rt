@@ -1,16 +1,18 @@
 ghost use Rattle.sva_queue_tests.specs.Few.{HasFew};
 
+use crate::asserted::holds;
 use std::alloc::{AllocError, Global};
 use std::process::Abort;
-use std::test::Fail;
 use sva_msg::PageRequest;
-use sva_prq::{Groups, Job};
+use sva_prq::{Ask, Groups, Job};
 
 /// A call of groups, and what it has to answer.
 #[derive(Clone, Copy)]
 enum Call {
     /// A request of a unit, a binding and an index asks for a page, and isn't the last of its group.
     Part(u64, u64, u8, u64),
+    /// So many of them, for the pages from 0 on.
+    PartEach(u64, u64, u8, u64),
     /// The last request of a group asks for the last of these pages. The group's job asks for all of them, in this order.
     Last(u64, u64, u8, &'static [u64]),
     /// The job that was made by a call of `Last` is answered; they count from 0.
@@ -117,11 +119,34 @@ fn is_job(job: &Job, numbers: (u64, u64, u8), pages: &[u64]) -> bool {
 /// Does a job ask to read these pages, in this order?
 fn asks_for(job: &Job, pages: &[u64]) -> bool {
     let asks = job.asks();
-    asks.len() == pages.len()
-        && asks
-            .iter()
-            .zip(pages)
-            .all(|(ask, page)| ask.page == *page && ask.read && !ask.write)
+    if asks.len() != pages.len() {
+        return false;
+    }
+    for place in 0..pages.len() {
+        if !reads(asks[place], pages[place]) {
+            return false;
+        }
+    }
+    true
+}
+
+fn reads(ask: Ask, page: u64) -> bool {
+    ask.page == page && ask.read && !ask.write
+}
+
+/// Files so many requests of which none is the last of its group: is there no job by any?
+fn files_each<R: Abort>(
+    rt: &R,
+    filed: &mut Filed,
+    (unit, binding, index): (u64, u64, u8),
+    pages: u64,
+) -> Result<bool, AllocError> {
+    for page in 0..pages {
+        if !filed.files_part(rt, unit, binding, request(index, page, false))? {
+            return Ok(false);
+        }
+    }
+    Ok(true)
 }
 
 /// Makes a call, and tells whether it answers as it has to.
@@ -130,43 +155,54 @@ fn answers<R: Abort>(rt: &R, filed: &mut Filed, call: Call) -> Result<bool, Allo
         Call::Part(unit, binding, index, page) => {
             filed.files_part(rt, unit, binding, request(index, page, false))
         }
+        Call::PartEach(unit, binding, index, pages) => {
+            files_each(rt, filed, (unit, binding, index), pages)
+        }
         Call::Last(unit, binding, index, pages) => match pages.last() {
             Some(page) => {
                 filed.files_last(rt, unit, binding, request(index, *page, true), pages)
             }
             None => Ok(false),
         },
-        Call::Answer(place) => Ok(filed.answered(place)),
+        _other => Ok(tells(filed, call)),
+    }
+}
+
+/// The same of a call that files nothing.
+fn tells(filed: &mut Filed, call: Call) -> bool {
+    match call {
+        Call::Answer(place) => filed.answered(place),
         Call::DropUnit(unit) => {
             filed.drop_unit(unit);
-            Ok(true)
+            true
         }
-        Call::Open(binding, is_open) => Ok(filed.groups.open_of(binding) == is_open),
+        Call::Open(binding, is_open) => filed.groups.open_of(binding) == is_open,
+        _filing => false,
     }
 }
 
 /// Makes the calls one after another.
-fn run<R: Abort>(rt: &R, alloc: Global, calls: &[Call]) -> Result<(), AllocError> {
-    let mut filed = Filed::new(alloc);
+fn make<R: Abort>(rt: &R, filed: &mut Filed, what: &str, calls: &[Call]) {
     for place in 0..calls.len() {
-        assert!(rt; answers(rt, &mut filed, calls[place])?, "call {place}");
+        let is_so = answers(rt, filed, calls[place]) == Ok(true);
+        holds(rt, is_so, what, place);
     }
-    Ok(())
 }
 
-static TWO_UNITS: [Call; 4] = [
+/// Makes the calls of no groups.
+fn run<R: Abort>(rt: &R, alloc: Global, what: &str, calls: &[Call]) {
+    let mut filed = Filed::new(alloc);
+    make(rt, &mut filed, what, calls);
+}
+
+const TWO_UNITS: [Call; 4] = [
     Call::Part(0, 7, 3, 10),
     Call::Part(1, 8, 3, 20),
     Call::Last(0, 7, 3, &[10, 11]),
     Call::Last(1, 8, 3, &[20, 21]),
 ];
 
-#[test]
-fn one_index_at_two_units(rt: HostRuntime) -> Result<(), AllocError> {
-    run(&rt, rt.alloc(), &TWO_UNITS)
-}
-
-static IN_TURN: [Call; 9] = [
+const IN_TURN: [Call; 9] = [
     Call::Part(0, 7, 3, 10),
     Call::Open(7, true),
     Call::Open(8, false),
@@ -178,12 +214,7 @@ static IN_TURN: [Call; 9] = [
     Call::Open(8, false),
 ];
 
-#[test]
-fn bindings_in_turn(rt: HostRuntime) -> Result<(), AllocError> {
-    run(&rt, rt.alloc(), &IN_TURN)
-}
-
-static UNIT_GONE: [Call; 9] = [
+const UNIT_GONE: [Call; 9] = [
     Call::Last(0, 7, 3, &[10]),
     Call::Last(1, 9, 3, &[30]),
     Call::Open(7, true),
@@ -195,14 +226,9 @@ static UNIT_GONE: [Call; 9] = [
     Call::Open(9, true),
 ];
 
-#[test]
-fn a_job_outlives_its_unit(rt: HostRuntime) -> Result<(), AllocError> {
-    run(&rt, rt.alloc(), &UNIT_GONE)
-}
-
 /// A reset drops the group of a first job, and the same binding and index have a second one. The late answer of the first
 /// leaves the second as it is.
-static LATE_ANSWER: [Call; 7] = [
+const LATE_ANSWER: [Call; 7] = [
     Call::Last(0, 7, 3, &[10]),
     Call::DropUnit(0),
     Call::Last(0, 7, 3, &[20]),
@@ -212,13 +238,8 @@ static LATE_ANSWER: [Call; 7] = [
     Call::Open(7, false),
 ];
 
-#[test]
-fn a_late_answer_ends_no_other_group(rt: HostRuntime) -> Result<(), AllocError> {
-    run(&rt, rt.alloc(), &LATE_ANSWER)
-}
-
 /// Two bindings at one unit and index, and a unit and an index that are the same by the remainder.
-static ONE_CELL: [Call; 6] = [
+const ONE_CELL: [Call; 6] = [
     Call::Part(0, 7, 3, 10),
     Call::Part(0, 8, 3, 20),
     Call::Part(8, 9, 35, 30),
@@ -227,25 +248,33 @@ static ONE_CELL: [Call; 6] = [
     Call::Last(0, 8, 3, &[20, 21]),
 ];
 
-#[test]
-fn groups_that_share_a_cell(rt: HostRuntime) -> Result<(), AllocError> {
-    run(&rt, rt.alloc(), &ONE_CELL)
-}
-
 /// The pages of the largest group, in its order.
-static MOST_PAGES: [u64; 32] = [
+const MOST_PAGES: [u64; 32] = [
     0, 1, 2, 3, 4, 5, 6, 7, 8, 9, 10, 11, 12, 13, 14, 15, 16, 17, 18, 19, 20, 21, 22, 23, 24, 25,
     26, 27, 28, 29, 30, 31,
 ];
 
+const MOST_ASKS: [Call; 2] = [
+    Call::PartEach(0, 7, 0, 31),
+    Call::Last(0, 7, 0, &MOST_PAGES),
+];
+
+/// What each run shows, and its calls.
+static RUNS: [(&str, &[Call]); 6] = [
+    ("one index at two units", &TWO_UNITS),
+    ("bindings in turn", &IN_TURN),
+    ("a job outlives its unit", &UNIT_GONE),
+    ("a late answer ends no other group", &LATE_ANSWER),
+    ("groups that share a cell", &ONE_CELL),
+    ("most asks", &MOST_ASKS),
+];
+
 #[test]
-fn most_asks(rt: HostRuntime) -> Result<(), Fail> {
-    let mut filed = Filed::new(rt.alloc());
-    for page in 0..31 {
-        assert!(rt; answers(&rt, &mut filed, Call::Part(0, 7, 0, page))?);
+fn answers_each_run_of_calls(rt: HostRuntime) {
+    for place in 0..RUNS.len() {
+        let (what, calls) = RUNS[place];
+        run(&rt, rt.alloc(), what, calls);
     }
-    assert!(rt; answers(&rt, &mut filed, Call::Last(0, 7, 0, &MOST_PAGES))?);
-    Ok(())
 }
 
 /// Has each binding below this one an open group, and no other of six?

@@ -1,5 +1,6 @@
 ghost use Rattle.std.specs.Prelude.{◌≡◌};
 
+use crate::asserted::holds;
 use std::process::Abort;
 use std::test::Fail;
 use sva_itags::Count;
@@ -64,7 +65,7 @@ fn answers(unit: &mut Unit, submitted: &[Descriptor], call: Call) -> bool {
 /// Makes the calls of a unit to which these descriptors were submitted.
 fn run(rt: &impl Abort, unit: &mut Unit, submitted: &[Descriptor], calls: &[Call]) {
     for place in 0..calls.len() {
-        assert!(rt; answers(unit, submitted, calls[place]), "call {place}");
+        holds(rt, answers(unit, submitted, calls[place]), "call", place);
     }
 }
 
@@ -121,13 +122,12 @@ static TAG_AND_DRAIN: [Call; 8] = [
 ];
 
 #[test]
-fn waits_for_tag_and_drain(rt: HostRuntime) -> Result<(), Fail> {
+fn waits_for_tag_and_drain(rt: HostRuntime) {
     let mut unit = Unit::default();
     let range = Range::new(16, 2);
     let descriptors = [Descriptor::Range { pasid: 1, range }, wait(7, true)];
-    unit.submit(&descriptors)?;
+    assert!(rt; unit.submit(&descriptors) == Ok(()));
     run(&rt, &mut unit, &descriptors, &TAG_AND_DRAIN);
-    Ok(())
 }
 
 #[test]
@@ -170,7 +170,7 @@ static UNTIL_A_RESET: [Call; 27] = [
 ];
 
 #[test]
-fn goes_in_order_until_a_reset(rt: HostRuntime) -> Result<(), Fail> {
+fn goes_in_order_until_a_reset(rt: HostRuntime) {
     let mut unit = Unit::new();
     let page = Descriptor::Range {
         pasid: 1,
@@ -182,7 +182,6 @@ fn goes_in_order_until_a_reset(rt: HostRuntime) -> Result<(), Fail> {
     };
     let all = Descriptor::Pasid { pasid: 1 };
     let descriptors = [page, other, wait(0, false), all, wait(4, true)];
-    unit.submit(&descriptors)?;
+    assert!(rt; unit.submit(&descriptors) == Ok(()));
     run(&rt, &mut unit, &descriptors, &UNTIL_A_RESET);
-    Ok(())
 }

@@ -1,4 +1,5 @@
-use std::alloc::{AllocError, Global};
+use crate::asserted::holds;
+use std::alloc::Global;
 use std::process::Abort;
 use sva_msg::PageRequest;
 use sva_service::Service;
@@ -13,13 +14,28 @@ const WHOLE: PageRequest = PageRequest {
     last: true,
 };
 
+// A call of a service, and what it has to answer.
+#[derive(Clone, Copy)]
+enum Call {
+    // The job is taken into hand 2.
+    Take,
+    // The job is in hand 2.
+    Held,
+    // The job in hand 2 is let go.
+    LetGo,
+    // The unit of the job is dropped.
+    DropUnit,
+    // How many jobs are queued, and whether binding 7 has an open group.
+    Count(usize, bool),
+}
+
 // A service with a job of unit 5 and binding 7 in its queue.
-fn with_job<R: Abort>(rt: &R, alloc: Global) -> Result<Service, AllocError> {
+fn with_job<R: Abort>(rt: &R, alloc: Global) -> Service {
     let mut service = Service::new(alloc);
-    service.reserve(5)?;
+    service.reserve(5).expect(rt, "memory");
     let made = service.file(5, 7, WHOLE);
     assert!(rt; made);
-    Ok(service)
+    service
 }
 
 // Takes the job into hand 2, if there is one and the hand is empty.
@@ -31,17 +47,6 @@ fn takes(service: &mut Service) -> bool {
     true
 }
 
-// Lets the job in hand 2 go, and tells whether the hand is empty.
-fn lets_go(service: &mut Service) -> bool {
-    service.let_go(2);
-    service.held(2).is_none()
-}
-
-// Are so many jobs queued, and has binding 7 an open group or none?
-fn is_so(service: &Service, queued: usize, is_open: bool) -> bool {
-    service.queued() == queued && service.open_of(7) == is_open
-}
-
 // Is the job in hand 2?
 fn is_held(service: &Service) -> bool {
     match service.held(2) {
@@ -50,27 +55,58 @@ fn is_held(service: &Service) -> bool {
     }
 }
 
-// A job is queued, taken and let go.
-#[test]
-fn one_job(rt: HostRuntime) -> Result<(), AllocError> {
-    let mut service = with_job(&rt, rt.alloc())?;
-    assert!(rt; is_so(&service, 1, true));
-    assert!(rt; takes(&mut service) && is_so(&service, 0, true) && is_held(&service));
-    assert!(rt; lets_go(&mut service) && is_so(&service, 0, false));
-    Ok(())
+// Makes a call, and tells whether it answers as it has to.
+fn answers(service: &mut Service, call: Call) -> bool {
+    match call {
+        Call::Take => takes(service),
+        Call::Held => is_held(service),
+        Call::LetGo => {
+            service.let_go(2);
+            service.held(2).is_none()
+        }
+        Call::DropUnit => {
+            service.drop_unit(5);
+            true
+        }
+        Call::Count(queued, is_open) => {
+            service.queued() == queued && service.open_of(7) == is_open
+        }
+    }
 }
 
-fn drop_unit(service: &mut Service) {
-    service.drop_unit(5);
+// Makes the calls of a service with a job.
+fn run<R: Abort>(rt: &R, alloc: Global, calls: &[Call]) {
+    let mut service = with_job(rt, alloc);
+    for place in 0..calls.len() {
+        holds(rt, answers(&mut service, calls[place]), "call", place);
+    }
 }
+
+static ONE_JOB: [Call; 6] = [
+    Call::Count(1, true),
+    Call::Take,
+    Call::Count(0, true),
+    Call::Held,
+    Call::LetGo,
+    Call::Count(0, false),
+];
+
+// A job is queued, taken and let go.
+#[test]
+fn one_job(rt: HostRuntime) {
+    run(&rt, rt.alloc(), &ONE_JOB);
+}
+
+static UNIT_GONE: [Call; 5] = [
+    Call::Take,
+    Call::DropUnit,
+    Call::Held,
+    Call::Count(0, false),
+    Call::LetGo,
+];
 
 // A reset takes the unit's job off the queue, and leaves the one in a hand.
 #[test]
-fn a_job_in_a_hand_stays(rt: HostRuntime) -> Result<(), AllocError> {
-    let mut service = with_job(&rt, rt.alloc())?;
-    assert!(rt; takes(&mut service));
-    drop_unit(&mut service);
-    assert!(rt; is_held(&service) && is_so(&service, 0, false));
-    assert!(rt; lets_go(&mut service));
-    Ok(())
+fn a_job_in_a_hand_stays(rt: HostRuntime) {
+    run(&rt, rt.alloc(), &UNIT_GONE);
 }

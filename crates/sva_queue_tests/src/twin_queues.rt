@@ -2,6 +2,7 @@
 ghost use Rattle.std.specs.Prelude.{◌≤◌, ◌<◌, ◌^◌, All};
 ghost use Rattle.sva_queue.specs.Cookies.{AreRising, number_after, HasNumber};
 
+use crate::asserted::holds;
 use crate::plain;
 use std::process::Abort;
 use sva_itags::Count;
@@ -152,9 +153,8 @@ impl Twins {
 /// So many calls at both, by the next numbers.
 fn call_both<R: Abort>(rt: &R, twins: &mut Twins, numbers: &mut Numbers, calls: u32) {
     for call in 0..calls {
-        let number = numbers.next();
-        assert!(rt; twins.call(number), "call {call} by {number}");
-        assert!(rt; twins.are_same(), "after call {call} by {number}");
+        let are_alike = twins.call(numbers.next()) && twins.are_same();
+        holds(rt, are_alike, "call", call as usize);
     }
 }
 
@@ -163,8 +163,12 @@ fn fill<R: Abort>(rt: &R, twins: &mut Twins) {
     twins.begin_reset();
     twins.end_reset();
     for range in 0..100 {
-        assert!(rt; twins.sends_one_more(), "range {range}");
-        assert!(rt; twins.are_same(), "after range {range}");
+        holds(
+            rt,
+            twins.sends_one_more() && twins.are_same(),
+            "range",
+            range,
+        );
     }
 }
 

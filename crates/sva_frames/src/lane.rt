@@ -1,11 +1,12 @@
 ghost use Rattle.std.specs.Prelude.{◌≡◌, ◌↔◌, IsTrue, ℕ, Some, None, replicate, slice_get, slice_set, IfOk, IfSome, IfNone, cond, is_some};
 ghost use Rattle.std.specs.Prelude.{◌<◌, List, Option, length, count_by};
 ghost use Rattle.sva_frames.specs.declared.waits.Target.{Target};
+ghost use Rattle.sva_frames.specs.declared.waits.TheConstants.{UNITS};
 ghost use Rattle.sva_frames.specs.Room.{HasRoom};
 ghost use Rattle.sva_frames.specs.Chains.{entered};
 
 use crate::heads::Heads;
-use crate::waits::Target;
+use crate::waits::{Target, UNITS};
 use std::alloc::{AllocError, Global};
 use std::marker::Model;
 
@@ -138,6 +139,17 @@ impl Lane {
         };
         self.pop(target)
     }
+}
+
+/// The lanes of all units, where none of so many frames waits for anything.
+pub(crate) fn open_all(alloc: Global, frames: u32) -> Result<Vec<Lane>, AllocError>
+    ensures { IfOk result (λ lanes. lanes.items ≡ replicate UNITS (replicate frames None)) }
+{
+    let mut lanes = Vec::with_capacity(alloc, UNITS)?;
+    for unit in 0..UNITS {
+        lanes.push(Lane::open(alloc, frames)?)?;
+    }
+    Ok(lanes)
 }
 
 /// Lets a frame that waits for nothing wait for a target at each lane, if there is one, and tells how many these are.

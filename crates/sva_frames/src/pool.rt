@@ -1,15 +1,14 @@
 ghost use Rattle.std.specs.Prelude.{◌≡◌, ◌^◌, ◌↔◌, IsTrue, ◌<◌, ◌==◌, ℕ, true, List, Option, Some, None, IfOk, IfSome, IfNone, length, position};
 ghost use Rattle.std.specs.Prelude.{count_by, slice_get, slice_set, option_map};
 
-use crate::lane::{Lane, enter_all};
+use crate::lane::{Lane, enter_all, open_all};
 use crate::ledger::{Ledger, Stage};
 use crate::waits::{Target, UNITS, Waits};
 use std::alloc::{AllocError, Global};
-use std::fmt;
 use std::marker::Model;
 
 /// Where a frame is.
-#[derive(Clone, Copy, Debug, PartialEq, Eq)]
+#[derive(Clone, Copy, PartialEq, Eq)]
 pub enum Place {
     /// In the pool, to be taken.
     Free,
@@ -34,7 +33,6 @@ pub struct Counts {
 ///
 /// A frame doesn't tell its pool: a pool accepts a frame of another one wherever its own frame of that number is mapped.
 /// So what a pool says of frames in hand it says of their numbers.
-#[derive(Debug)]
 pub struct Frame {
     number: u32,
 }
@@ -81,14 +79,6 @@ impl Model for FramePool {
     ghost invariant = { λ p. IsPool p.ledger p.lanes.items };
 }
 
-impl fmt::Debug for FramePool {
-    // How many frames are at each place, which of a pool of thousands says more than each frame would.
-    fn fmt<W: fmt::Write>(&self, f: &mut fmt::Formatter<W>) -> fmt::Result {
-        f.write_str("FramePool ")?;
-        fmt::Debug::fmt(&self.counts(), f)
-    }
-}
-
 impl FramePool {
     ghost use Rattle.sva_frames.specs.declared.waits.Target.{Target};
     ghost use Rattle.sva_frames.specs.Frames.{Mapped, Withheld, has_target, after_waits, is_free, is_mapped, is_withheld, place_of};
@@ -101,10 +91,7 @@ impl FramePool {
         ensures { IfOk result (λ pool. pool ≡ opened frames) }
     {
         let ledger = Ledger::open(alloc, frames)?;
-        let mut lanes = Vec::with_capacity(alloc, UNITS)?;
-        for unit in 0..UNITS {
-            lanes.push(Lane::open(alloc, frames)?)?;
-        }
+        let lanes = open_all(alloc, frames)?;
         Ok(FramePool { ledger, lanes })
     }
 

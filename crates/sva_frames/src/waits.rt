@@ -11,7 +11,7 @@ pub const UNITS: usize = 8;
 pub const PENDING: usize = 64;
 
 /// What a frame waits for at one unit.
-#[derive(Clone, Copy, Debug, PartialEq, Eq)]
+#[derive(Clone, Copy, PartialEq, Eq)]
 pub enum Target {
     /// That the wait descriptor with this cookie is done (Intel VT-d, "Queued Invalidation Interface").
     Cookie(u64),
@@ -22,7 +22,7 @@ pub enum Target {
 /// What a frame waits for: pairs of a unit and a target, at most one at each unit.
 ///
 /// Contracts see the table by units, a place for each of the eight: its target, if there is one.
-#[derive(Debug, Drop)]
+#[derive(Drop)]
 pub struct Waits {
     pub(crate) targets: [Option<Target>; UNITS],
 }

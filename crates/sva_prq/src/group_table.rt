@@ -322,7 +322,7 @@ impl Groups {
     pub fn answered(&mut self, job: &Job)
         ensures { self.new ≡ after_answer self.old job.now.serial }
     {
-        if let Some(key) = job_key(&self.slots, job.key(), job.serial()) {
+        if let Some(key) = job_key(&self.slots, job.key, job.serial()) {
             self.slots.remove(key);
             self.room = room_after(&self.slots, self.room, 1);
         }

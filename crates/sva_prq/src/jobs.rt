@@ -25,7 +25,8 @@ pub struct Job {
     pub(crate) binding: u64,
     pub(crate) index: u8,
     pub(crate) asks: ArrayVec<Ask, MOST_ASKS>,
-    // The serial of its group, and the key under which the group is kept while it is open.
+    // The serial of its group, and the key under which the group is kept while it is open. The key is no part of what
+    // a job is seen as: a wrong one costs time alone.
     pub(crate) serial: u64,
     pub(crate) key: usize,
 }
@@ -73,10 +74,5 @@ impl Job {
         ensures { result ≡ self.now.serial }
     {
         self.serial
-    }
-
-    // The key under which its group is kept while it is open.
-    pub(crate) fn key(&self) -> usize {
-        self.key
     }
 }

@@ -14,7 +14,7 @@ use Rattle.std.specs.FinMap.{IsAntisymmetric, nat_cmp-IsAntisymmetric, find, put
 use Rattle.std.specs.FinMap.{get-retain_keys, get-remove, len-entries, same_map, same_entries_map}
 use Rattle.std.specs.FinMap.Entries.{where_key, is_sorted-put, is_sorted-where_key, find-where_key}
 use Rattle.sva_cache.specs.declared.cached.Translation.{Translation}
-use Rattle.sva_cache.specs.Cache.{Key, Translations, key_cmp, key_cmp_total, smaller_first, place_of, has_room_for}
+use Rattle.sva_cache.specs.Cache.{Key, Translations, key_cmp, key_cmp_total, smaller_first, place_of, halvings, comparisons, has_room_for}
 use Rattle.sva_cache.proofs.Places.{others, place_le, at_place, put_at, put_in_gap, remove_at, remove_absent}
 use Rattle.sva_cache.proofs.Search.{entries_are, get_is, place_is, found_is}
 
@@ -59,6 +59,13 @@ room_left false n room is = ltb-true n 64 room
 module _ (items : List (Key × Translation)) (cache : Translations) (sorted : T (is_sorted key_cmp items)) (seen : finite.from_sorted items ≡ cache) where
   pub length_is : finite.len cache ≡ length items
   length_is = len-entries cache ∙ ap length (entries_are items cache sorted seen)
+
+  -- the comparisons of a search, by the entries themselves
+  pub all_comparisons : (q : Key) (es : List (Key × Translation)) → es ≡ items
+      → comparisons cache q ≡ halvings 7 0 (length es) (smaller_first key_cmp q es) (is_some (find key_cmp q es))
+  all_comparisons q es same =
+      (λ i. halvings 7 0 (length_is i) (place_is items cache sorted seen q i) (found_is items cache sorted seen q i))
+      ∙ ap (λ (xs : List (Key × Translation)). halvings 7 0 (length xs) (smaller_first key_cmp q xs) (is_some (find key_cmp q xs))) (sym same)
 
   -- a list that is what `put` leaves is the map with the entry put in
   pub inserted : (new : List (Key × Translation)) (q : Key) (t : Translation) → new ≡ put key_cmp q t items

@@ -1,19 +1,63 @@
 -- A search among the entries of a cache, and what an edit at a place leaves of the finite map.
-use Rattle.std.proofs.Common.{◌≡◌, ℕ, zero, suc, ◌+◌, ◌*◌, ◌/◌, ◌<◌, ◌≤◌, ◌^◌, List, sym, ◌∙◌, ap, refl, cond, true, false, Bool, Result, Ok, Err, arith}
-use Rattle.std.specs.Prelude.{T}
+use Rattle.std.proofs.Common.{◌≡◌, ℕ, zero, suc, ◌+◌, ◌-◌, ◌*◌, ◌/◌, ◌<◌, ◌≤◌, ◌^◌, List, sym, ◌∙◌, ap, refl, cond, true, false, Bool, ◌&&◌, eqb}
+use Rattle.std.proofs.Common.{Result, Ok, Err, arith}
+use Rattle.std.specs.Prelude.{T, nat_le}
+use Rattle.std.proofs.lemmas.Bool.Decides.{nat_tests}
 use native.Mathlib.Numerals.{unary_clauses}
 use Rattle.std.specs.Option.{is_some}
 use Rattle.std.specs.FinMap as finite
 use Rattle.std.specs.FinMap.{find, is_sorted, entries-from_sorted, get-from_sorted}
 use Rattle.sva_cache.specs.declared.cached.Translation.{Translation}
-use Rattle.sva_cache.specs.Cache.{Key, Translations, key_cmp, smaller_first, place_of}
+use Rattle.sva_cache.specs.Cache.{Key, Translations, key_cmp, smaller_first, place_of, middle_of, halvings}
 
 -- half of what is left is left after one comparison more
-pub halves : (size left : ℕ) → 0 < size → size < 2 ^ left → (less : ℕ) × (left ≡ less + 1) × (size / 2 < 2 ^ less)
+pub halves : (size left : ℕ) → 0 < size → size < 2 ^ left → (less : ℕ) × (left ≡ suc less) × (size / 2 < 2 ^ less)
 halves size zero some within = absurd (omega arith)
 halves size (suc less) some within =
     let twice : 2 ^ suc less ≡ 2 * 2 ^ less = simp unary_clauses (omega arith) in
-    (less, omega arith, omega arith)
+    (less, refl, omega arith)
+
+-- ---- how many comparisons are left, by what the next one says
+
+some_left : (low high : ℕ) → low < high → nat_le high low ≡ false
+some_left low high some = grind (arith, nat_tests)
+
+not_met : (is_there : Bool) (place middle : ℕ) → place + cond is_there 1 0 ≤ middle → (is_there && eqb place middle) ≡ false
+not_met true place middle before = grind (arith, nat_tests)
+not_met false place middle before = refl
+
+passed : (is_there : Bool) (place middle : ℕ) → middle < place → (is_there && eqb place middle) ≡ false
+passed true place middle behind = grind (arith, nat_tests)
+passed false place middle behind = refl
+
+pub halvings_below : (left less low high place : ℕ) (is_there : Bool) → left ≡ suc less → low < high → place + cond is_there 1 0 ≤ middle_of low high
+    → halvings left low high place is_there ≡ suc (halvings less low (middle_of low high) place is_there)
+unfolding halvings
+halvings_below left less low high place is_there more some before =
+    let within : place ≤ middle_of low high = omega arith in
+    let holds : nat_le place (middle_of low high) ≡ true = grind (arith, nat_tests) in
+    rw (more, some_left low high some, not_met is_there place (middle_of low high) before, holds) refl
+
+pub halvings_above : (left less low high place : ℕ) (is_there : Bool) → left ≡ suc less → low < high → middle_of low high < place
+    → halvings left low high place is_there ≡ suc (halvings less (middle_of low high + 1) high place is_there)
+unfolding halvings
+halvings_above left less low high place is_there more some behind =
+    let fails : nat_le place (middle_of low high) ≡ false = grind (arith, nat_tests) in
+    rw (more, some_left low high some, passed is_there place (middle_of low high) behind, fails) refl
+
+pub halvings_met : (left less low high place : ℕ) (is_there : Bool) → left ≡ suc less → low < high → place ≡ middle_of low high → is_there ≡ true
+    → halvings left low high place is_there ≡ 1
+unfolding halvings
+halvings_met left less low high place is_there more some same there =
+    let tie : eqb place (middle_of low high) ≡ true = grind (arith, nat_tests) in
+    rw (more, some_left low high some, there, tie) refl
+
+pub halvings_none : (left low high place : ℕ) (is_there : Bool) → high ≤ low → halvings left low high place is_there ≡ 0
+unfolding halvings
+halvings_none zero low high place is_there none = refl
+halvings_none (suc left) low high place is_there none =
+    let holds : nat_le high low ≡ true = grind (arith, nat_tests) in
+    rw holds refl
 
 -- what a cache's view tells of its entries
 module _ (items : List (Key × Translation)) (cache : Translations) (sorted : T (is_sorted key_cmp items)) (seen : finite.from_sorted items ≡ cache) where

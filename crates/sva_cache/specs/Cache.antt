@@ -1,6 +1,6 @@
 -- An endpoint's translation cache: a finite map from (PASID, page) to a translation (PCI Express Base 5.0, section
 -- 10.2.2: the address translation cache of a function).
-use Rattle.std.specs.Prelude.{ℕ, zero, suc, Bool, ◌||◌, not, nat_lt, refl, List, [], ◌∷◌, if◌then◌else◌}
+use Rattle.std.specs.Prelude.{ℕ, zero, suc, ◌+◌, ◌-◌, ◌/◌, Bool, ◌||◌, ◌&&◌, not, ◌==◌, nat_lt, nat_le, refl, List, [], ◌∷◌, if◌then◌else◌}
 use Rattle.std.specs.declared.cmp.Ordering.{Ordering}
 use Rattle.std.specs.Ordering.{nat_cmp, then_cmp, on, is_lt}
 use Rattle.std.specs.Cmp.{IsTotalOrder, then_total, on_total, nat_cmp_total}
@@ -38,6 +38,23 @@ smaller_first R q (e ∷ es) = if is_lt (R e.0 q) then suc (smaller_first R q es
 -- the place of a key in the order of the cached ones: so many of these are smaller
 abbrev pub place_of : Translations → Key → ℕ
 place_of cache key = smaller_first key_cmp key (finite.entries cache)
+
+abbrev pub middle_of : ℕ → ℕ → ℕ
+middle_of low high = low + (high - low) / 2
+
+-- A search by halves compares the key with the middle one of the entries from `low` on and below `high`, until it meets it or
+-- none is left. So many comparisons does it make, `most` at the most, where `place` is the key's place.
+unfoldable pub halvings : (most low high place : ℕ) → Bool → ℕ
+halvings zero low high place is_there = 0
+halvings (suc most) low high place is_there =
+    if nat_le high low then 0
+    else (if is_there && (place == middle_of low high) then 1
+    else (if nat_le place (middle_of low high) then suc (halvings most low (middle_of low high) place is_there)
+    else suc (halvings most (middle_of low high + 1) high place is_there)))
+
+-- how many comparisons a search by halves makes until it knows where a key stands, at most seven of 64 entries
+abbrev pub comparisons : Translations → Key → ℕ
+comparisons cache key = halvings 7 0 (finite.len cache) (place_of cache key) (finite.contains_key cache key)
 
 -- the cache keeps 64 translations: is there a place for that of this page?
 abbrev pub has_room_for : Translations → Key → Bool

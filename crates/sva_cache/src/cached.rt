@@ -44,7 +44,7 @@ impl Model for Cache {
 impl Cache {
     ghost use Rattle.std.specs.Prelude.{Ok, Err};
     ghost use Rattle.std.specs.FinMap.{contains_key, len};
-    ghost use Rattle.sva_cache.specs.Cache.{has_room_for, place_of, without_covered};
+    ghost use Rattle.sva_cache.specs.Cache.{comparisons, has_room_for, place_of, without_covered};
 
     /// Nothing is cached.
     pub fn new() -> Self
@@ -56,12 +56,13 @@ impl Cache {
     }
 
     /// Where the key stands in the order of the cached ones, 0 to 63, or else where it would stand, 0 to 64: that is how
-    /// many cached keys are smaller. It is found by at most seven comparisons, and by at least one where something is cached.
-    /// The ticks have to have room for them: they are below 2^32.
+    /// many cached keys are smaller. It is found by halves, each comparison being with the middle one of those that are left:
+    /// by at most seven, and by at least one where something is cached. Each is a tick more. The ticks have to have room for
+    /// them: they are below 2^32.
     pub fn search(&self, key: &CacheKey, ticks: &mut Ticks) -> Result<usize, usize>
         requires { ticks.old + 7 < 2 ^ 32 }
         ensures place { result ≡ (if contains_key self.now key.now then Ok (place_of self.now key.now) else Err (place_of self.now key.now)) }
-        ensures counted { ticks.old ≤ ticks.new }
+        ensures counted { ticks.new ≡ ticks.old + comparisons self.now key.now }
         ensures few { ticks.new ≤ ticks.old + 7 }
         ensures reached { 0 < len self.now → ticks.old < ticks.new }
     {

@@ -4,9 +4,9 @@ use Rattle.std.specs.Option.{is_some}
 use Rattle.std.specs.FinMap as finite
 use Rattle.std.specs.FinMap.{find, is_sorted}
 use Rattle.sva_cache.specs.Cache.{key_cmp, key_cmp_total, smaller_first}
-use Rattle.sva_cache.proofs.Edits.{length_is}
+use Rattle.sva_cache.proofs.Edits.{length_is, all_comparisons}
 use Rattle.sva_cache.proofs.Places.{at_most_length, less_at, greater_at, equal_at}
-use Rattle.sva_cache.proofs.Search.{halves, closed, found_at, not_found_at}
+use Rattle.sva_cache.proofs.Search.{halves, halvings_below, halvings_above, halvings_met, halvings_none, closed, found_at, not_found_at}
 use Rattle.sva_cache.proofs.cached.Cache.search.Goals as goal
 
 pub loop-low-init : goal.loop-low-init
@@ -22,6 +22,7 @@ loop-low-init c =
       few = omega arith;
       halved = omega arith;
       spent = refl;
+      exact = refl;
       begun = omega arith;
     }
 
@@ -34,14 +35,19 @@ loop-low-preserved-in-Less c =
     let long : length es ≤ 64 = subst (λ xs. length xs ≤ 64) (sym c.as_slice-entries.ensures.value) c.self.invariant.1 in
     let half = halves (high - low) c.loop-low.invariant.left (omega arith) c.loop-low.invariant.halved in
     let more = c.compare.ensures.counted in
+    let before = less_at key_cmp_total c.args.key.now es (low + (high - low) / 2) c.index-entries-middle.result sorted (omega arith)
+    (sym c.in-Less.ensures.order) in
+    let one = halvings_below c.loop-low.invariant.left half.0 low high (smaller_first key_cmp c.args.key.now es) (is_some (find key_cmp c.args.key.now es))
+    half.1 (omega arith) before in
     record {
       from = c.loop-low.invariant.from;
-      to = less_at key_cmp_total c.args.key.now es (low + (high - low) / 2) c.index-entries-middle.result sorted (omega arith) (sym c.in-Less.ensures.order);
+      to = before;
       within = omega arith;
       left = half.0;
       few = omega (arith, half.1);
       halved = omega (arith, half.2);
       spent = omega (arith, half.1, c.loop-low.invariant.spent);
+      exact = omega (arith, more, one, c.loop-low.invariant.exact);
       begun = omega (arith, more, long, half.1, c.loop-low.invariant.spent);
     }
 
@@ -56,6 +62,8 @@ loop-low-preserved c =
     let past = greater_at key_cmp_total c.args.key.now es (low + (high - low) / 2) c.index-entries-middle.result sorted (omega arith)
     (sym c.in-Greater.ensures.order) in
     let more = c.compare.ensures.counted in
+    let one = halvings_above c.loop-low.invariant.left half.0 low high (smaller_first key_cmp c.args.key.now es) (is_some (find key_cmp c.args.key.now es))
+    half.1 (omega arith) past in
     record {
       from = omega (arith, past);
       to = c.loop-low.invariant.to;
@@ -64,6 +72,7 @@ loop-low-preserved c =
       few = omega (arith, half.1);
       halved = omega (arith, half.2);
       spent = omega (arith, half.1, c.loop-low.invariant.spent);
+      exact = omega (arith, more, one, c.loop-low.invariant.exact);
       begun = omega (arith, more, long, half.1, c.loop-low.invariant.spent);
     }
 
@@ -87,6 +96,30 @@ returns-clause-place c =
     let same = c.as_slice-entries.ensures.value in
     not_found_at c.self.inside.entries.items c.args.self.now c.self.invariant.0 c.self.view_is c.args.key.now _
     (ap (smaller_first key_cmp c.args.key.now) (sym same) ∙ end.0) (ap (λ xs. is_some (find key_cmp c.args.key.now xs)) (sym same) ∙ end.1)
+
+pub returns-in-Equal-clause-counted : goal.returns-in-Equal-clause-counted
+returns-in-Equal-clause-counted c =
+    let es = c.as_slice-entries.result.now in
+    let low = c.loop-low.low in
+    let high = c.loop-low.high in
+    let sorted : T (is_sorted key_cmp es) = subst (λ xs. T (is_sorted key_cmp xs)) (sym c.as_slice-entries.ensures.value) c.self.invariant.0 in
+    let half = halves (high - low) c.loop-low.invariant.left (omega arith) c.loop-low.invariant.halved in
+    let at = equal_at key_cmp_total c.args.key.now es (low + (high - low) / 2) c.index-entries-middle.result sorted (omega arith)
+    (sym c.in-Equal.ensures.order) in
+    let one = halvings_met c.loop-low.invariant.left half.0 low high (smaller_first key_cmp c.args.key.now es) (is_some (find key_cmp c.args.key.now es))
+    half.1 (omega arith) at.0 at.1 in
+    let made = all_comparisons c.self.inside.entries.items c.args.self.now c.self.invariant.0 c.self.view_is c.args.key.now es
+    c.as_slice-entries.ensures.value in
+    omega (arith, made, one, c.compare.ensures.counted, c.loop-low.invariant.exact)
+
+pub returns-clause-counted : goal.returns-clause-counted
+returns-clause-counted c =
+    let es = c.as_slice-entries.result.now in
+    let none = halvings_none c.loop-low.invariant.left c.loop-low.low c.loop-low.high (smaller_first key_cmp c.args.key.now es)
+    (is_some (find key_cmp c.args.key.now es)) (omega arith) in
+    let made = all_comparisons c.self.inside.entries.items c.args.self.now c.self.invariant.0 c.self.view_is c.args.key.now es
+    c.as_slice-entries.ensures.value in
+    omega (arith, made, none, c.loop-low.invariant.exact)
 
 pub compare-requires : goal.compare-requires
 compare-requires c =

@@ -3,7 +3,7 @@ use Rattle.std.proofs.Common.{◌≡◌, ◌≢◌, ℕ, zero, suc, ◌+◌, ◌
 use Rattle.std.proofs.Common.{[], ◌∷◌, ◌++◌, length, map, refl, sym, ◌∙◌, ap, subst, arith, slice_index_or, slice_set}
 use Rattle.std.specs.Prelude.{All, AllPairs, find, filter, option_map, is_some, count_by, replicate}
 use Rattle.std.specs.List.{range_with_len, sum_by}
-use Rattle.std.specs.Option.{option_or}
+use Rattle.std.specs.Option.{IfSome, option_or}
 use Rattle.std.proofs.lemmas.List.{get_or-set_same, get_or-set_other, length-set}
 use Rattle.std.proofs.lemmas.List.Elements.{All-head, All-tail, All-nil, All-cons, All-push, All-filter, All-weaker, All-map}
 use Rattle.std.proofs.lemmas.List.Sums.{sum_by-cons, sum_by-append, count_by-le-length}
@@ -170,6 +170,11 @@ bearers-without b ps p bs t k f =
     set_bearers p.pasid (lowered (slot p.pasid bs)) ps (without b ps) bs k low
     (without_lowered p.pasid b ps p (slot p.pasid bs) t.apart f (k.each p.pasid low) (eq-eqb p.pasid p.pasid refl))
     (λ r n h. without_same r b ps p (slot r bs) t.apart f h (ne_eqb p.pasid r (λ i. n (sym i))))
+
+-- a space that bears a PASID has a binding under it
+pub bearer-counts : (q : ℕ) (ps : List Place) (o : Option Bearer) → IsBearer q ps o → IfSome o (λ bearer. 0 < bearer.bindings)
+bearer-counts q ps None k = tt
+bearer-counts q ps (Some bearer) k = k.1
 
 pub bearers-map : (f : Place → Place) (ps : List Place) (bs : List (Option Bearer))
     → ((p : Place) → ((f p).pasid ≡ p.pasid) × ((f p).space ≡ p.space)) → AreBearers ps bs → AreBearers (map f ps) bs

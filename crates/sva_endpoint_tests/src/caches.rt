@@ -1,3 +1,4 @@
+use crate::asserted::holds;
 use crate::plain::PlainCache;
 use std::process::Abort;
 use sva_cache::{Cache, CacheKey, Extent, Invalidation, Ticks, Translation};
@@ -34,24 +35,22 @@ fn filled(rt: &impl Abort, count: u64) -> (Cache, PlainCache) {
     (cache, plain)
 }
 
-// Both answer alike for each page near those cached, of each PASID near theirs: where a search finds it, or would, is how many of
-// those cached are below it. It takes at most 7 comparisons.
+// Both answer alike for a page of a PASID: where a search finds it, or would, is how many of those cached are below it. It takes at
+// most 7 comparisons.
+fn are_alike(cache: &Cache, plain: &PlainCache, pasid: u64, page: u64) -> bool {
+    let mut ticks = Ticks::new();
+    let found = cache.search(&CacheKey::new(pasid, page), &mut ticks);
+    found == plain.search(pasid, page)
+        && ticks.count() <= 7
+        && cache.get(pasid, page) == plain.get(pasid, page)
+        && cache.has_room_for(pasid, page) == plain.has_room_for(pasid, page)
+}
+
+// The same of each page near those cached, the pages below 100, of each PASID near theirs, the PASIDs 1 to 4.
 fn compare(rt: &impl Abort, cache: &Cache, plain: &PlainCache) {
-    for pasid in 1..5_u64 {
-        for page in 0..100_u64 {
-            assert!(rt;
-                cache.get(pasid, page) == plain.get(pasid, page),
-                "{pasid} {page}"
-            );
-            assert!(rt;
-                cache.has_room_for(pasid, page) == plain.has_room_for(pasid, page),
-                "{pasid} {page}"
-            );
-            let mut ticks = Ticks::new();
-            let found = cache.search(&CacheKey::new(pasid, page), &mut ticks);
-            assert!(rt; found == plain.search(pasid, page), "{pasid} {page}");
-            assert!(rt; ticks.count() <= 7, "{pasid} {page}");
-        }
+    for place in 0..400_u64 {
+        let is_so = are_alike(cache, plain, 1 + place / 100, place % 100);
+        holds(rt, is_so, "page", place as usize);
     }
 }
 
@@ -69,8 +68,16 @@ fn all_pages(pasid: u32) -> Invalidation {
     }
 }
 
-// Both, after each of these invalidations of caches with so many translations.
-fn invalidated(rt: &impl Abort, count: u64) {
+// Both, after an invalidation of caches with so many translations.
+fn invalidated(rt: &impl Abort, count: u64, invalidation: &Invalidation) {
+    let (mut cache, mut plain) = filled(rt, count);
+    cache.remove_covered(invalidation);
+    plain.remove_covered(invalidation);
+    compare(rt, &cache, &plain);
+}
+
+// The same for invalidations of some pages.
+fn some_invalidated(rt: &impl Abort, count: u64) {
     for invalidation in [
         in_range(2, Range::new(7, 0)),
         in_range(2, Range::new(8, 0)),
@@ -78,67 +85,87 @@ fn invalidated(rt: &impl Abort, count: u64) {
         in_range(2, Range::new(64, 6)),
         in_range(3, Range::new(0, 9)),
         in_range(1, Range::new(0, 9)),
-        all_pages(1),
-        all_pages(2),
-        all_pages(3),
-        all_pages(4),
     ] {
-        let (mut cache, mut plain) = filled(rt, count);
-        cache.remove_covered(&invalidation);
-        plain.remove_covered(&invalidation);
-        compare(rt, &cache, &plain);
+        invalidated(rt, count, &invalidation);
     }
 }
 
-// Both, after evictions and new translations in caches with so many.
-fn edited(rt: &impl Abort, count: u64) {
-    let (mut cache, mut plain) = filled(rt, count);
-    compare(rt, &cache, &plain);
-    for (pasid, page) in [(2, 1), (2, 2), (2, 40), (3, 94), (4, 0)] {
+// The same for those of all pages of a PASID.
+fn all_invalidated(rt: &impl Abort, count: u64) {
+    for pasid in 1..5 {
+        invalidated(rt, count, &all_pages(pasid));
+    }
+}
+
+// A PASID and a page for which a new translation is put in where there is room, and others that are evicted.
+static PUT_IN: [(u32, u64); 5] = [(2, 1), (2, 2), (2, 40), (3, 94), (4, 0)];
+
+static EVICTED: [(u64, u64); 5] = [(2, 1), (2, 3), (3, 94), (3, 49), (4, 0)];
+
+// Both, after new translations.
+fn put_in(rt: &impl Abort, cache: &mut Cache, plain: &mut PlainCache) {
+    for place in 0..PUT_IN.len() {
+        let (pasid, page) = PUT_IN[place];
         if cache.has_room_for(u64::from(pasid), page) {
             cache.insert(pasid, page, translation_at(100));
             plain.insert(pasid, page, translation_at(100));
         }
-        compare(rt, &cache, &plain);
+        compare(rt, cache, plain);
     }
-    for (pasid, page) in [(2, 1), (2, 3), (3, 94), (3, 49), (4, 0)] {
+}
+
+// Both, after evictions.
+fn evicted(rt: &impl Abort, cache: &mut Cache, plain: &mut PlainCache) {
+    for place in 0..EVICTED.len() {
+        let (pasid, page) = EVICTED[place];
         cache.remove(pasid, page);
         plain.remove(pasid, page);
-        compare(rt, &cache, &plain);
+        compare(rt, cache, plain);
     }
+}
+
+// Both, after new translations and evictions in caches with so many, and after invalidations of such caches.
+fn edited(rt: &impl Abort, count: u64) {
+    let (mut cache, mut plain) = filled(rt, count);
+    compare(rt, &cache, &plain);
+    put_in(rt, &mut cache, &mut plain);
+    evicted(rt, &mut cache, &mut plain);
+    some_invalidated(rt, count);
+    all_invalidated(rt, count);
 }
 
 #[test]
 fn none_is_cached(rt: HostRuntime) {
     edited(&rt, 0);
-    invalidated(&rt, 0);
 }
 
 #[test]
 fn one_is_cached(rt: HostRuntime) {
     edited(&rt, 1);
-    invalidated(&rt, 1);
 }
 
 #[test]
 fn sixty_three_are_cached(rt: HostRuntime) {
     edited(&rt, 63);
-    invalidated(&rt, 63);
 }
 
-#[test]
-fn sixty_four_are_cached(rt: HostRuntime) {
-    edited(&rt, 64);
-    invalidated(&rt, 64);
-    // 64 entries need seven comparisons for some key
-    let (cache, _plain) = filled(&rt, 64);
+// The most comparisons that a search for one of these keys takes.
+fn most_ticks(cache: &Cache) -> u32 {
     let mut most = 0;
     for page in 0..100_u64 {
         let mut ticks = Ticks::new();
         let _found = cache.search(&CacheKey::new(2, page), &mut ticks);
         most = most.max(ticks.count());
     }
-    assert!(rt; most == 7);
+    most
+}
+
+#[test]
+fn sixty_four_are_cached(rt: HostRuntime) {
+    edited(&rt, 64);
+    // 64 entries need seven comparisons for some key
+    let (cache, _plain) = filled(&rt, 64);
+    assert!(rt; most_ticks(&cache) == 7);
     assert!(rt; !cache.has_room_for(3, 0));
 }
 

@@ -1,3 +1,4 @@
+use crate::asserted::holds;
 use std::process::Abort;
 use sva_endpoint::{Asking, Endpoint, Fault, Faulting, Finishing, Using};
 use sva_itags::Count;
@@ -332,18 +333,23 @@ fn answers_other(endpoint: &mut Endpoint, call: Call) -> bool {
     }
 }
 
-// Makes the calls one after another at an endpoint at which PASID 1 has started.
-fn run(rt: &impl Abort, calls: &[Call]) {
+// Makes the calls one after another.
+fn make(rt: &impl Abort, endpoint: &mut Endpoint, what: &str, calls: &[Call]) {
+    for place in 0..calls.len() {
+        holds(rt, answers(endpoint, calls[place]), what, place);
+    }
+}
+
+// Makes the calls at an endpoint at which PASID 1 has started.
+fn run(rt: &impl Abort, what: &str, calls: &[Call]) {
     let mut endpoint = Endpoint::new();
     assert!(rt; tells(&mut endpoint, Down::Start, Told::Started));
-    for place in 0..calls.len() {
-        assert!(rt; answers(&mut endpoint, calls[place]), "call {place}");
-    }
+    make(rt, &mut endpoint, what, calls);
 }
 
 const PAGE_16: Down = Down::Invalidate(0, 1, Scope::Code { page: 16, s: false });
 
-static THIRTY_TWO_TAGS: [Call; 9] = [
+const THIRTY_TWO_TAGS: [Call; 9] = [
     Call::Refused(Try::Ask(1, 1 << 36), Refusal::PageRange),
     Call::Refused(Try::Ask(0, 16), Refusal::NotStarted),
     Call::Refused(Try::Ask(33, 16), Refusal::NotStarted),
@@ -355,12 +361,7 @@ static THIRTY_TWO_TAGS: [Call; 9] = [
     Call::Ask(16, 7),
 ];
 
-#[test]
-fn request_tags_are_32(rt: HostRuntime) {
-    run(&rt, &THIRTY_TWO_TAGS);
-}
-
-static SIXTY_FOUR_PAGES: [Call; 10] = [
+const SIXTY_FOUR_PAGES: [Call; 10] = [
     Call::HoldEach(64),
     Call::Ask(64, 0),
     Call::Tell(Down::Completion(0, 5, true, true), Told::Full),
@@ -373,12 +374,7 @@ static SIXTY_FOUR_PAGES: [Call; 10] = [
     Call::Hold(64, 6),
 ];
 
-#[test]
-fn the_cache_keeps_64(rt: HostRuntime) {
-    run(&rt, &SIXTY_FOUR_PAGES);
-}
-
-static SIXTEEN_SLOTS: [Call; 9] = [
+const SIXTEEN_SLOTS: [Call; 9] = [
     Call::Ask(16, 0),
     Call::Tell(Down::Completion(0, 3, true, false), Told::Held),
     Call::Refused(Try::Use(16, true), Refusal::ReadOnly),
@@ -390,12 +386,7 @@ static SIXTEEN_SLOTS: [Call; 9] = [
     Call::Use(16, false, Using { slot: 4, frame: 3 }),
 ];
 
-#[test]
-fn use_slots_are_16(rt: HostRuntime) {
-    run(&rt, &SIXTEEN_SLOTS);
-}
-
-static THIRTY_TWO_REQUESTS: [Call; 6] = [
+const THIRTY_TWO_REQUESTS: [Call; 6] = [
     Call::SendEach(31),
     Call::Send(32, Some(0), true, 0),
     Call::Refused(Try::Send(None), Refusal::NoCredit),
@@ -404,12 +395,7 @@ static THIRTY_TWO_REQUESTS: [Call; 6] = [
     Call::Refused(Try::Send(Some(0)), Refusal::NoSuchGroup),
 ];
 
-#[test]
-fn page_requests_are_32(rt: HostRuntime) {
-    run(&rt, &THIRTY_TWO_REQUESTS);
-}
-
-static THIRTY_TWO_GROUPS: [Call; 9] = [
+const THIRTY_TWO_GROUPS: [Call; 9] = [
     Call::GroupEach(32),
     Call::Refused(Try::Send(None), Refusal::NoCredit),
     Call::Tell(Down::Response(9, Code::InvalidRequest), Told::Answered),
@@ -421,12 +407,7 @@ static THIRTY_TWO_GROUPS: [Call; 9] = [
     Call::Permitted(Try::Send(None)),
 ];
 
-#[test]
-fn groups_are_32(rt: HostRuntime) {
-    run(&rt, &THIRTY_TWO_GROUPS);
-}
-
-static LATE_ANSWER: [Call; 7] = [
+const LATE_ANSWER: [Call; 7] = [
     Call::Ask(16, 0),
     Call::Tell(PAGE_16, Told::Taken),
     Call::Finish(1, 1, 1),
@@ -436,12 +417,7 @@ static LATE_ANSWER: [Call; 7] = [
     Call::Ask(16, 0),
 ];
 
-#[test]
-fn a_late_answer_is_dropped(rt: HostRuntime) {
-    run(&rt, &LATE_ANSWER);
-}
-
-static TWO_ANSWERS: [Call; 5] = [
+const TWO_ANSWERS: [Call; 5] = [
     Call::Ask(16, 0),
     Call::Ask(16, 1),
     Call::Tell(Down::Completion(1, 1, true, true), Told::Held),
@@ -449,13 +425,8 @@ static TWO_ANSWERS: [Call; 5] = [
     Call::Use(16, true, Using { slot: 0, frame: 0 }),
 ];
 
-#[test]
-fn the_answer_that_comes_last_is_held(rt: HostRuntime) {
-    run(&rt, &TWO_ANSWERS);
-}
-
 // A use that begins in the same slot afterwards isn't waited for.
-static USE_AND_INVALIDATION: [Call; 11] = [
+const USE_AND_INVALIDATION: [Call; 11] = [
     Call::Hold(16, 3),
     Call::Use(16, true, Using { slot: 0, frame: 3 }),
     Call::Tell(PAGE_16, Told::Taken),
@@ -469,14 +440,9 @@ static USE_AND_INVALIDATION: [Call; 11] = [
     Call::Finish(1, 8, 0),
 ];
 
-#[test]
-fn a_use_holds_an_invalidation_up(rt: HostRuntime) {
-    run(&rt, &USE_AND_INVALIDATION);
-}
-
 const PAGE_18: Scope = Scope::Code { page: 18, s: false };
 
-static SEVERAL_ITAGS: [Call; 14] = [
+const SEVERAL_ITAGS: [Call; 14] = [
     Call::Hold(16, 3),
     Call::Hold(17, 4),
     Call::Tell(Down::Invalidate(0, 1, PAGE_18), Told::Taken),
@@ -493,13 +459,8 @@ static SEVERAL_ITAGS: [Call; 14] = [
     Call::Finish(0xc000_0000, 7, 7),
 ];
 
-#[test]
-fn one_vector_names_several(rt: HostRuntime) {
-    run(&rt, &SEVERAL_ITAGS);
-}
-
 // The code is that of the eight pages from 64 on.
-static RANGE_OF_PAGES: [Call; 6] = [
+const RANGE_OF_PAGES: [Call; 6] = [
     Call::Hold(70, 1),
     Call::Hold(72, 2),
     Call::Tell(
@@ -511,13 +472,8 @@ static RANGE_OF_PAGES: [Call; 6] = [
     Call::Finish(1, 1, 1),
 ];
 
-#[test]
-fn an_invalidation_covers_a_range(rt: HostRuntime) {
-    run(&rt, &RANGE_OF_PAGES);
-}
-
 // Neither the request nor the group of before the reset has its tag or index any more.
-static RESET: [Call; 16] = [
+const RESET: [Call; 16] = [
     Call::Hold(16, 3),
     Call::Use(16, true, Using { slot: 0, frame: 3 }),
     Call::Ask(17, 0),
@@ -536,12 +492,7 @@ static RESET: [Call; 16] = [
     Call::Use(16, true, Using { slot: 0, frame: 5 }),
 ];
 
-#[test]
-fn a_reset_leaves_dead_uses(rt: HostRuntime) {
-    run(&rt, &RESET);
-}
-
-static QUIT: [Call; 13] = [
+const QUIT: [Call; 13] = [
     Call::Refused(Try::Quit, Refusal::NotStopping),
     Call::Send(32, None, false, 0),
     Call::Tell(Down::Stop, Told::Stopping),
@@ -557,7 +508,26 @@ static QUIT: [Call; 13] = [
     Call::Send(32, None, true, 0),
 ];
 
+// What each run shows, and its calls.
+static RUNS: [(&str, &[Call]); 12] = [
+    ("request tags are 32", &THIRTY_TWO_TAGS),
+    ("the cache keeps 64", &SIXTY_FOUR_PAGES),
+    ("use slots are 16", &SIXTEEN_SLOTS),
+    ("page requests are 32", &THIRTY_TWO_REQUESTS),
+    ("groups are 32", &THIRTY_TWO_GROUPS),
+    ("a late answer is dropped", &LATE_ANSWER),
+    ("the answer that comes last is held", &TWO_ANSWERS),
+    ("a use holds an invalidation up", &USE_AND_INVALIDATION),
+    ("one vector names several", &SEVERAL_ITAGS),
+    ("an invalidation covers a range", &RANGE_OF_PAGES),
+    ("a reset leaves dead uses", &RESET),
+    ("a quit leaves stale groups", &QUIT),
+];
+
 #[test]
-fn a_quit_leaves_stale_groups(rt: HostRuntime) {
-    run(&rt, &QUIT);
+fn answers_each_run_of_calls(rt: HostRuntime) {
+    for place in 0..RUNS.len() {
+        let (what, calls) = RUNS[place];
+        run(&rt, what, calls);
+    }
 }

@@ -1,3 +1,4 @@
+use crate::asserted::holds;
 use std::process::Abort;
 use sva_cache::{Extent, Invalidation};
 use sva_msg::Range;
@@ -37,8 +38,9 @@ fn two_pasids() -> PasidStates {
 #[test]
 fn pasids_are_1_to_32(rt: HostRuntime) {
     let states = two_pasids();
-    for (pasid, state) in &STATES {
-        assert!(rt; states.state_of(*pasid) == *state, "at {pasid}");
+    for place in 0..STATES.len() {
+        let (pasid, state) = STATES[place];
+        holds(&rt, states.state_of(pasid) == state, "state", place);
     }
 }
 
@@ -117,7 +119,7 @@ static DOOMED: [TagCall; 14] = [
 fn a_doomed_request_keeps_its_tag(rt: HostRuntime) {
     let mut tags = RequestTags::new();
     for place in 0..DOOMED.len() {
-        assert!(rt; tags_answer(&mut tags, DOOMED[place]), "call {place}");
+        holds(&rt, tags_answer(&mut tags, DOOMED[place]), "call", place);
     }
 }
 
@@ -185,7 +187,7 @@ fn slots_answer(uses: &mut UseSlots, call: SlotCall) -> bool {
 fn use_slots<R: Abort>(rt: &R, calls: &[SlotCall]) {
     let mut uses = UseSlots::new();
     for place in 0..calls.len() {
-        assert!(rt; slots_answer(&mut uses, calls[place]), "call {place}");
+        holds(rt, slots_answer(&mut uses, calls[place]), "call", place);
     }
 }
 
@@ -284,7 +286,7 @@ static NOTED: [TakenCall; 13] = [
 fn an_invalidation_waits_for_the_uses_it_noted(rt: HostRuntime) {
     let mut table = TakenTable::new();
     for place in 0..NOTED.len() {
-        assert!(rt; taken_answer(&mut table, NOTED[place]), "call {place}");
+        holds(&rt, taken_answer(&mut table, NOTED[place]), "call", place);
     }
 }
 
@@ -344,7 +346,7 @@ fn groups_answer(groups: &mut GroupTable, call: GroupCall) -> bool {
 fn use_groups<R: Abort>(rt: &R, calls: &[GroupCall]) {
     let mut groups = GroupTable::new();
     for place in 0..calls.len() {
-        assert!(rt; groups_answer(&mut groups, calls[place]), "call {place}");
+        holds(rt, groups_answer(&mut groups, calls[place]), "call", place);
     }
 }
 

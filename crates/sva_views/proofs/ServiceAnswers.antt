@@ -3,6 +3,7 @@ use Rattle.std.proofs.Common.{◌≡◌, inl, inr, refl, ap, ap₂, sym, ◌∙�
 use Rattle.std.specs.Prelude.{cond, ◌==◌, ◌&&◌, not, Option, Some, None, List, [], ◌∷◌, map, filter, slice_set}
 use Rattle.std.specs.List.{list_any}
 use Rattle.std.proofs.lemmas.List.{set-get_or}
+use Rattle.std.proofs.lemmas.Bool.{eq-eqb, eqb-true}
 use Rattle.sva_model.specs.Wire.{HostGroupWire}
 use Rattle.sva_labels.specs.Moves.{is_of_job}
 use Rattle.sva_prq.specs.Job.{Job}
@@ -12,7 +13,7 @@ use Rattle.sva_views.specs.Service.{group_seen, groups_seen, job_seen, jobs_seen
 use Rattle.sva_views.specs.ServiceLaws.{IsIn, IsNamed, IsWhole, IsSound, AnswerIsSeen, ServiceAnswers}
 use Rattle.sva_views.proofs.ServiceGroups.{of_unit}
 use Rattle.sva_views.proofs.ServiceJobs.{hand_set}
-use Rattle.sva_views.proofs.ServiceLists.{equals, same_of, same_tests, all_left, none_left_out, is_other, answered_is}
+use Rattle.sva_views.proofs.ServiceLists.{same_tests, all_left, none_left_out, is_other, answered_is}
 
 -- groups of a unit, left by a test that is seen
 seen_left_by : (u : ℕ) (p : OpenGroup → Bool) (q : HostGroupWire → Bool) (gs : List OpenGroup)
@@ -55,11 +56,11 @@ module _ (workers : ℕ) (s : Service) (worker : ℕ) (job : Job) (k : IsSound w
       (λ h.
       let b = both_of (g.binding == job.binding) (g.index == job.index) h in
       let named : IsNamed g job =
-      record { units = same_of g.unit job.unit u; bindings = same_of g.binding job.binding b.0; indexes = same_of g.index job.index b.1 } in
-      equals g.serial job.serial (k.own job g (inr (worker, held)) m named))
+      record { units = eqb-true g.unit job.unit u; bindings = eqb-true g.binding job.binding b.0; indexes = eqb-true g.index job.index b.1 } in
+      eq-eqb g.serial job.serial (k.own job g (inr (worker, held)) m named))
       (λ h.
-      let n : IsNamed g job = (kept_job g m (same_of g.serial job.serial h)).named in
-      ap₂ (λ a b. a && b) (equals g.binding job.binding n.bindings) (equals g.index job.index n.indexes))
+      let n : IsNamed g job = (kept_job g m (eqb-true g.serial job.serial h)).named in
+      ap₂ (λ a b. a && b) (eq-eqb g.binding job.binding n.bindings) (eq-eqb g.index job.index n.indexes))
 
   answered_here : groups_seen job.unit (after_answer s worker).groups ≡ filter (λ g. not (is_of_job (job_seen job) g)) (groups_seen job.unit s.groups)
   answered_here =
@@ -75,8 +76,8 @@ module _ (workers : ℕ) (s : Service) (worker : ℕ) (job : Job) (k : IsSound w
       stays : (g : OpenGroup) → IsIn g s.groups.groups → (g.unit == e) ≡ true → (b : Bool) → (g.serial == job.serial) ≡ b → true ≡ not b
       stays g m u false h = refl
       stays g m u true h =
-          let n : IsNamed g job = (kept_job g m (same_of g.serial job.serial h)).named in
-          absurd (cc (sym (equals e job.unit (sym (same_of g.unit e u) ∙ n.units)) ∙ apart))
+          let n : IsNamed g job = (kept_job g m (eqb-true g.serial job.serial h)).named in
+          absurd (cc (sym (eq-eqb e job.unit (sym (eqb-true g.unit e u) ∙ n.units)) ∙ apart))
 
   answered_dropped : list_any (is_of_job (job_seen job)) (groups_seen job.unit s.groups) ≡ false → (e : ℕ)
       → groups_seen e (after_answer s worker).groups ≡ groups_seen e s.groups
@@ -85,7 +86,7 @@ module _ (workers : ℕ) (s : Service) (worker : ℕ) (job : Job) (k : IsSound w
       go : (b : Bool) → (e == job.unit) ≡ b → groups_seen e (after_answer s worker).groups ≡ groups_seen e s.groups
       go false h = answered_apart e h
       go true h =
-          let same : e ≡ job.unit = same_of e job.unit h in
+          let same : e ≡ job.unit = eqb-true e job.unit h in
           ap (λ u. groups_seen u (after_answer s worker).groups) same
           ∙ answered_here
           ∙ none_left_out (is_of_job (job_seen job)) (groups_seen job.unit s.groups) none

@@ -3,26 +3,25 @@ use Rattle.std.proofs.Common.{◌≡◌, ◌⊎◌, inl, inr, refl, ap, sym, sub
 use Rattle.std.specs.Prelude.{◌==◌, ◌&&◌, if◌then◌else◌, Some, None, option_map, option_to_list, List, [], ◌∷◌, ◌++◌}
 use Rattle.std.specs.List.{count_by, list_any}
 use Rattle.std.proofs.lemmas.Bool.Decides.{nat_tests}
+use Rattle.std.proofs.lemmas.Bool.{cases_lt, eqb-true, ne_eqb}
 use Rattle.sva_msg.specs.declared.messages.PageRequest.{PageRequest}
 use Rattle.sva_prq.specs.Job.{Job, ask_of}
 use Rattle.sva_prq.specs.Groups.{OpenGroup, is_collecting, new_group, with_request, filed_among, unfinished_asks, serial_for}
 use Rattle.sva_prq.proofs.Tests.{Same, unfinished_name, unfinished_part}
 use Rattle.sva_service.specs.Service.{Service, filed}
+use Rattle.sva_labels.specs.Sound.{is_job_of}
 use Rattle.sva_views.specs.Service.{job_seen, jobs_seen}
-use Rattle.sva_views.specs.ServiceLaws.{IsIn, IsKept, AreRising, AreNamesakes, IsNamed, IsWhole, IsSound, is_with, holds, jobs_with, is_job_of, HasNoJob}
+use Rattle.sva_views.specs.ServiceLaws.{IsIn, IsKept, AreRising, AreNamesakes, IsNamed, IsWhole, IsSound, is_with, holds, jobs_with, HasNoJob}
 use Rattle.sva_views.specs.ServiceLaws.{BeginsAnew, SoundIsKept}
 use Rattle.sva_views.proofs.ServiceJobs.{held_at}
 use Rattle.sva_views.proofs.ServiceCounts.{count_append, count_cons, count_none, held_none}
-use Rattle.sva_views.proofs.ServiceLists.{same_of, differs, in_append, left_in, right_in, in_any, mapped_in, rising_between, one_of_serial}
+use Rattle.sva_views.proofs.ServiceLists.{in_append, left_in, right_in, in_any, mapped_in, rising_between, one_of_serial}
 use Rattle.sva_views.proofs.ServiceFiled.{FiledFrom, Old, Joined, Begun, unfinished_from, begun_seen, in_filed, chosen, chosen_filed, chosen_in}
 use Rattle.sva_views.proofs.ServiceFiled.{chosen_new, chosen_named, chosen_asks, next_more, rising_filed}
 use Rattle.sva_views.proofs.ServiceSound.{first_sound, reserved_sound, taken_sound, answered_sound, reset_sound}
 
 job_by : (x u y b z i : ℕ) → x ≡ u → y ≡ b → z ≡ i → ((x == u && y == b) && z == i) ≡ true
 job_by x u y b z i h k l = grind (arith, nat_tests)
-
-few_or_more : (a b : ℕ) → (a < b) ⊎ (b ≤ a)
-few_or_more a b = grind arith
 
 -- a job that is made, if one is, is the job
 made_is : (last : Bool) (made job : Job) → IsIn job (option_to_list (if last then Some made else None)) → (last ≡ true) × (made ≡ job)
@@ -102,7 +101,7 @@ module _ (workers : ℕ) (s : Service) (u b : ℕ) (request : PageRequest) (k : 
       go : IsKept s job → HasNoJob workers s u b request.index → ⊥
       go (inl n) none_is =
           absurd (cc (sym (in_any (is_job_of u b request.index) (job_seen job) (jobs_seen s) (mapped_in job_seen job s.jobs n) mine) ∙ none_is.0))
-      go (inr (x, e)) none_is = at (few_or_more x workers)
+      go (inr (x, e)) none_is = at (cases_lt x workers)
         where
           at : (x < workers) ⊎ (workers ≤ x) → ⊥
           at (inl few) = absurd (cc (sym mine ∙ none_is.1 x (job_seen job) (held_at workers x s.hands few ∙ ap (option_map job_seen) e)))
@@ -259,9 +258,9 @@ module _ (workers : ℕ) (s : Service) (u b : ℕ) (request : PageRequest) (k : 
           let more = count_append (is_with n) s.jobs (made ∷ []) in
           let own = count_cons (is_with n) made [] in
           let here : ◌≡◌ {A = ℕ} (if is_with n made then 1 else 0) 1 = ap (λ t. if t then 1 else 0) h in
-          let is : taker.serial ≡ n = same_of taker.serial n h in
-          let queued = count_none (is_with n) s.jobs (λ j m. differs j.serial n (λ e. apart j (inl m) (e ∙ sym is))) in
-          let held = held_none n s.hands (λ x j e. differs j.serial n (λ c. apart j (inr (x, e)) (c ∙ sym is))) in
+          let is : taker.serial ≡ n = eqb-true taker.serial n h in
+          let queued = count_none (is_with n) s.jobs (λ j m. ne_eqb j.serial n (λ e. apart j (inl m) (e ∙ sym is))) in
+          let held = held_none n s.hands (λ x j e. ne_eqb j.serial n (λ c. apart j (inr (x, e)) (c ∙ sym is))) in
           omega (arith, more, own, here, queued, held)
 
   -- an unfinished group after, as it was before

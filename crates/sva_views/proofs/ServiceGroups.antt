@@ -4,6 +4,7 @@ use Rattle.std.specs.Prelude.{cond, ◌==◌, ◌&&◌, ◌||◌, not, Some, unw
 use Rattle.std.specs.List.{list_any}
 use Rattle.std.proofs.lemmas.List.{map-append}
 use Rattle.std.proofs.lemmas.Bool.Decides.{nat_tests}
+use Rattle.std.proofs.lemmas.Bool.{eq-eqb, eqb-true}
 use Rattle.sva_model.specs.Wire.{HostGroupWire}
 use Rattle.sva_labels.specs.Moves as moves
 use Rattle.sva_labels.specs.Outcomes.{asks_of}
@@ -15,12 +16,6 @@ use Rattle.sva_views.specs.Service.{ask_seen, page_request_seen, group_seen, Ope
 -- those of one unit
 abbrev pub of_unit : ℕ → List OpenGroup → List HostGroupWire
 of_unit e gs = map group_seen (filter (is_of_unit e) gs)
-
-same_unit : (a b : ℕ) → (a == b) ≡ true → a ≡ b
-same_unit a b h = grind (arith, nat_tests)
-
-equal : (a b : ℕ) → a ≡ b → (a == b) ≡ true
-equal a b h = grind (arith, nat_tests)
 
 flipped : (a b : ℕ) → (a == b) ≡ (b == a)
 flipped a b = grind (arith, nat_tests)
@@ -61,7 +56,7 @@ open_is_seen s p unit binding h alone = go s.groups alone ∙ ap (list_any (of_b
             ≡ list_any (of_binding binding) (map group_seen (cond b (g ∷ filter (is_of_unit unit) gs) (filter (is_of_unit unit) gs)))
         at true k later = ap (λ t. g.binding == binding || t) later
         at false k later = ap (λ t. t || list_any (is_of_binding binding) gs)
-            (here g gs (g.unit == g.unit) (equal g.unit g.unit refl) (alone g.unit k)) ∙ later
+            (here g gs (g.unit == g.unit) (eq-eqb g.unit g.unit refl) (alone g.unit k)) ∙ later
 
 -- A page request is filed.
 
@@ -96,7 +91,7 @@ module _ (next unit binding : ℕ) (request : PageRequest) where
   seen_if b g gs = map group_seen (cond b (g ∷ filter (is_of_unit unit) gs) (filter (is_of_unit unit) gs))
 
   pub filing_seen : (gs : List OpenGroup) → of_unit unit (by_parts gs) ≡ by_labels (of_unit unit gs)
-  filing_seen [] = go (unit == unit) (equal unit unit refl)
+  filing_seen [] = go (unit == unit) (eq-eqb unit unit refl)
     where
       go : (b : Bool) → b ≡ true → seen_if b (with_request (new_group next unit binding request.index) request) [] ≡ by_labels []
       go true k = refl
@@ -138,7 +133,7 @@ module _ (next unit binding : ℕ) (request : PageRequest) where
           ≡ map group_seen (cond t (g ∷ filter (is_of_unit e) gs) (filter (is_of_unit e) gs))
       skipped k u true m =
           let here = at_unit (g.unit == unit) (g.binding == binding) (g.index == request.index) g.last u in
-          absurd (cc (sym (equal e unit (sym (same_unit g.unit e m) ∙ same_unit g.unit unit here)) ∙ h))
+          absurd (cc (sym (eq-eqb e unit (sym (eqb-true g.unit e m) ∙ eqb-true g.unit unit here)) ∙ h))
       skipped k u false m = refl
 
       go : (b : Bool) → unfinished g ≡ b → of_unit e (by_parts gs) ≡ of_unit e gs
@@ -194,7 +189,7 @@ others_of_unit u e h (g ∷ gs) = go (g.unit == u) (g.unit == e) refl refl (othe
 
     go : (a b : Bool) → (g.unit == u) ≡ a → (g.unit == e) ≡ b → of_unit e others ≡ of_unit e gs
         → of_unit e (cond (not a) (g ∷ others) others) ≡ map group_seen (cond b (g ∷ filter (is_of_unit e) gs) (filter (is_of_unit e) gs))
-    go true true k l later = absurd (cc (sym (equal e u (sym (same_unit g.unit e l) ∙ same_unit g.unit u k)) ∙ h))
+    go true true k l later = absurd (cc (sym (eq-eqb e u (sym (eqb-true g.unit e l) ∙ eqb-true g.unit u k)) ∙ h))
     go true false k l later = later
     go false true k l later =
         ap (λ t. map group_seen (cond t (g ∷ filter (is_of_unit e) others) (filter (is_of_unit e) others))) l ∙ ap (λ l. group_seen g ∷ l) later

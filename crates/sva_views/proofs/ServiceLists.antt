@@ -1,20 +1,11 @@
 -- What is among the things of a list, and groups by rising serials.
-use Rattle.std.proofs.Common.{◌≡◌, ◌≢◌, ◌⊎◌, inl, inr, refl, ap, sym, ◌∙◌, ℕ, zero, suc, ◌+◌, ◌<◌, ◌≤◌, Bool, true, false, arith}
+use Rattle.std.proofs.Common.{◌≡◌, ◌⊎◌, inl, inr, refl, ap, sym, ◌∙◌, ℕ, zero, suc, ◌+◌, ◌<◌, ◌≤◌, Bool, true, false, arith}
 use Rattle.std.specs.Prelude.{cond, ◌==◌, ◌&&◌, ◌||◌, not, Option, Some, None, List, [], ◌∷◌, ◌++◌, map, filter, drop, slice_get, slice_index_or, slice_set}
 use Rattle.std.specs.List.{list_any}
-use Rattle.std.proofs.lemmas.Bool.Decides.{nat_tests}
+use Rattle.std.proofs.lemmas.Bool.{eqb-true, ne_eqb}
 use Rattle.sva_prq.specs.Groups.{OpenGroup, answered_among}
 use Rattle.sva_views.specs.ServiceLaws.{IsIn, AreRising}
 pub use Rattle.sva_laws.proofs.OneEndpoint.{same_bool as same_tests}
-
-pub equals : (a b : ℕ) → a ≡ b → (a == b) ≡ true
-equals a b h = grind (arith, nat_tests)
-
-pub same_of : (a b : ℕ) → (a == b) ≡ true → a ≡ b
-same_of a b h = grind (arith, nat_tests)
-
-pub differs : (a b : ℕ) → a ≢ b → (a == b) ≡ false
-differs a b h = grind (arith, nat_tests)
 
 -- A thing of a list.
 
@@ -158,7 +149,7 @@ is_other n g = not (g.serial == n)
 none_past : (n low next : ℕ) (gs : List OpenGroup) → n < low → AreRising low next gs → filter (is_other n) gs ≡ gs
 none_past n low next [] l h = refl
 none_past n low next (g ∷ gs) l h =
-    let past : (g.serial == n) ≡ false = differs g.serial n (λ e. absurd (omega (arith, l, h.0, e))) in
+    let past : (g.serial == n) ≡ false = ne_eqb g.serial n (λ e. absurd (omega (arith, l, h.0, e))) in
     ap (λ b. cond (not b) (g ∷ filter (is_other n) gs) (filter (is_other n) gs)) past
     ∙ ap (λ l. g ∷ l) (none_past n (g.serial + 1) next gs (omega (arith, l, h.0)) h.1)
 
@@ -169,6 +160,6 @@ answered_is n low next (g ∷ gs) h whole = go (g.serial == n) g.last refl refl 
   where
     go : (b l : Bool) → (g.serial == n) ≡ b → g.last ≡ l → answered_among n gs ≡ filter (is_other n) gs
         → cond (b && l) gs (g ∷ answered_among n gs) ≡ cond (not b) (g ∷ filter (is_other n) gs) (filter (is_other n) gs)
-    go true true k m rest = let same : g.serial ≡ n = same_of g.serial n k in sym (none_past n (g.serial + 1) next gs (omega (arith, same)) h.1)
-    go true false k m rest = absurd (cc (sym m ∙ whole g (inl refl) (same_of g.serial n k)))
+    go true true k m rest = let same : g.serial ≡ n = eqb-true g.serial n k in sym (none_past n (g.serial + 1) next gs (omega (arith, same)) h.1)
+    go true false k m rest = absurd (cc (sym m ∙ whole g (inl refl) (eqb-true g.serial n k)))
     go false l k m rest = ap (λ l. g ∷ l) rest

@@ -2,12 +2,13 @@
 use Rattle.std.proofs.Common.{◌≡◌, ◌≢◌, ◌⊎◌, inl, inr, refl, ap, sym, subst, ◌∙◌, ℕ, zero, suc, ◌<◌, ◌≤◌, Bool, true, arith}
 use Rattle.std.specs.Prelude.{◌==◌, not, Option, Some, None, List, [], ◌∷◌, filter, length, drop, slice_get}
 use Rattle.std.proofs.lemmas.List.{get_or-set_same, get_or-set_other, length-set}
+use Rattle.std.proofs.lemmas.Bool.{eq-eqb}
 use Rattle.sva_laws.proofs.Words.{ℕ_cases}
 use Rattle.sva_prq.specs.Job.{Job}
 use Rattle.sva_prq.specs.Groups.{OpenGroup, is_of_other_unit as is_of_other}
 use Rattle.sva_service.specs.Service.{Service, no_service, with_room, hand, taken, after_answer, after_answer_of, is_of_other_unit, without_unit}
 use Rattle.sva_views.specs.ServiceLaws.{IsIn, IsKept, AreRising, IsSound, IsWhole, is_with, jobs_with}
-use Rattle.sva_views.proofs.ServiceLists.{in_filter, kept_in, all_left, first_in, behind_in, emptied, equals, rising_left, is_other}
+use Rattle.sva_views.proofs.ServiceLists.{in_filter, kept_in, all_left, first_in, behind_in, emptied, rising_left, is_other}
 use Rattle.sva_views.proofs.ServiceCounts.{count_left, count_set, count_let_go, count_first}
 use Rattle.sva_views.proofs.ServiceAnswers.{left_is}
 
@@ -173,7 +174,7 @@ answered_by workers s worker (Some job) h k =
         go (inr ne) = inr (x, other_hand x ne ∙ c)
         go (inl same) =
             let one : j ≡ job = ap or_job (sym c ∙ ap (hand s) same ∙ h) in
-            let both : (g.serial == job.serial) ≡ true = equals g.serial job.serial (sym e ∙ ap (λ (i : Job). i.serial) one) in
+            let both : (g.serial == job.serial) ≡ true = eq-eqb g.serial job.serial (sym e ∙ ap (λ (i : Job). i.serial) one) in
             absurd (cc (sym (ap (λ (t : Bool). not t) both) ∙ p))
 
 pub answered_sound : (workers : ℕ) (s : Service) (worker : ℕ) → IsSound workers s → IsSound workers (after_answer s worker)

@@ -1,11 +1,12 @@
 -- When the service of page requests is sound, that each of its calls keeps it so, and what an answered job leaves of the open
 -- groups, as the definitions by labels say it.
-use Rattle.std.specs.Prelude.{◌≡◌, ◌⊎◌, ℕ, ◌+◌, ◌<◌, ◌≤◌, Bool, true, false, ◌==◌, ◌&&◌, not, Option, Some, None, List, [], ◌∷◌, ◌^◌, filter, find, length}
+use Rattle.std.specs.Prelude.{◌≡◌, ◌⊎◌, ℕ, ◌+◌, ◌<◌, ◌≤◌, Bool, true, false, ◌==◌, not, Option, Some, None, List, [], ◌∷◌, ◌^◌, filter, find, length}
 use Rattle.std.specs.Prelude.{slice_index_or, slice_set}
 use Rattle.std.specs.List.{count_by, list_any}
 use Rattle.sva_model.specs.Wire.{EndpointWire, JobWire}
 use Rattle.sva_labels.specs.Moves.{is_begun, is_of_job}
 use Rattle.sva_labels.specs.Outcomes.{asks_of}
+use Rattle.sva_labels.specs.Sound.{is_job_of}
 use Rattle.sva_msg.specs.declared.messages.PageRequest.{PageRequest}
 use Rattle.sva_prq.specs.Job.{Job}
 use Rattle.sva_prq.specs.Groups.{OpenGroup}
@@ -75,9 +76,6 @@ pub record IsSound (workers : ℕ) (s : Service) : Type 0 where
 
 -- An index of a binding is given anew only once its group is answered: a request that begins a group has a binding and an index
 -- that no job of its unit has, queued or held. By labels, since it is so of every host by the definitions.
-abbrev pub is_job_of : (unit binding index : ℕ) → JobWire → Bool
-is_job_of unit binding index job = job.endpoint == unit && job.binding == binding && job.index == index
-
 abbrev pub HasNoJob : (workers : ℕ) → Service → (unit binding index : ℕ) → Type 0
 HasNoJob workers s unit binding index =
     (list_any (is_job_of unit binding index) (jobs_seen s) ≡ false)

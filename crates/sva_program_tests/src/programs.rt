@@ -4,7 +4,7 @@
 use crate::streams::{Broken, Slow, is_front};
 use std::alloc::{AllocError, Global};
 use std::io;
-use std::io::ErrorKind;
+use std::io::{ErrorKind, Read, Write};
 use std::sync::Wait;
 use std::test::Fail;
 use std::thread::Threads;
@@ -28,6 +28,40 @@ fn line<R: AllocGlobal>(rt: &R, words: &[&str]) -> Result<Vec<String>, AllocErro
     Ok(line)
 }
 
+/// The status of a run, and its streams behind it.
+#[derive(Drop)]
+struct Ended<R, W, E> {
+    status: u8,
+    reader: Told<R>,
+    writer: Told<W>,
+    errors: Told<E>,
+}
+
+/// Runs the program on these streams.
+fn run_over<X, R, W, E>(
+    rt: &X,
+    words: &[&str],
+    (reader, writer, errors): (R, W, E),
+) -> Result<Ended<R, W, E>, AllocError>
+where
+    X: AllocGlobal + Threads + Wait + Sync,
+    R: Read + Drop,
+    W: Write + Drop,
+    E: Write + Drop,
+{
+    let words = line(rt, words)?;
+    let mut reader = Told::new(reader);
+    let mut writer = Told::new(writer);
+    let mut errors = Told::new(errors);
+    let status = main_with(rt, words.as_slice(), &mut reader, &mut writer, &mut errors);
+    Ok(Ended {
+        status,
+        reader,
+        writer,
+        errors,
+    })
+}
+
 /// What a run wrote, its status, and how often it read.
 #[derive(Drop)]
 struct Ran {
@@ -43,16 +77,16 @@ fn run_on<R: AllocGlobal + Threads + Wait + Sync>(
     words: &[&str],
     input: &[u8],
 ) -> Result<Ran, AllocError> {
-    let words = line(rt, words)?;
-    let mut reader = Told::new(input);
-    let mut writer = Told::new(Vec::new(rt.alloc()));
-    let mut errors = Told::new(Vec::new(rt.alloc()));
-    let status = main_with(rt, words.as_slice(), &mut reader, &mut writer, &mut errors);
+    let ended = run_over(
+        rt,
+        words,
+        (input, Vec::new(rt.alloc()), Vec::new(rt.alloc())),
+    )?;
     Ok(Ran {
-        status,
-        written: writer.into_inner(),
-        said: errors.into_inner(),
-        reads: reader.calls(),
+        status: ended.status,
+        reads: ended.reader.calls(),
+        written: ended.writer.into_inner(),
+        said: ended.errors.into_inner(),
     })
 }
 
@@ -331,13 +365,10 @@ fn shows_short_help_and_the_version(rt: HostRuntime) -> Result<(), Fail> {
 
 /// A run whose reader fails behind five bytes: is the status 1, is nothing written, and is the read fault told?
 fn ends_in_read_fault<R: AllocGlobal + Threads + Wait + Sync>(rt: &R) -> Result<bool, AllocError> {
-    let words = line(rt, &["replay"])?;
-    let mut reader = Told::new(Broken::new(5));
-    let mut writer = Told::new(Vec::new(rt.alloc()));
-    let mut errors = Told::new(Vec::new(rt.alloc()));
-    let status = main_with(rt, words.as_slice(), &mut reader, &mut writer, &mut errors);
-    let is_unwritten = status == 1 && writer.inner().is_empty();
-    Ok(is_unwritten && errors.inner().as_slice() == b"svahost: read fault\n".as_slice())
+    let streams = (Broken::new(5), Vec::new(rt.alloc()), Vec::new(rt.alloc()));
+    let ended = run_over(rt, &["replay"], streams)?;
+    let is_unwritten = ended.status == 1 && ended.writer.inner().is_empty();
+    Ok(is_unwritten && ended.errors.inner().as_slice() == b"svahost: read fault\n".as_slice())
 }
 
 #[test]
@@ -359,13 +390,9 @@ fn ends_in_write_fault<R: AllocGlobal + Threads + Wait + Sync>(
     most: usize,
     text: &str,
 ) -> Result<bool, AllocError> {
-    let words = line(rt, words)?;
-    let mut reader = Told::new(SCENARIO);
-    let mut writer = Told::new(Slow::new(most));
-    let mut errors = Told::new(Vec::new(rt.alloc()));
-    let status = main_with(rt, words.as_slice(), &mut reader, &mut writer, &mut errors);
-    let is_told = errors.inner().as_slice() == b"svahost: write fault\n".as_slice();
-    Ok(status == 1 && is_told && is_cut(writer.inner(), most, text.as_bytes()))
+    let ended = run_over(rt, words, (SCENARIO, Slow::new(most), Vec::new(rt.alloc())))?;
+    let is_told = ended.errors.inner().as_slice() == b"svahost: write fault\n".as_slice();
+    Ok(ended.status == 1 && is_told && is_cut(ended.writer.inner(), most, text.as_bytes()))
 }
 
 /// Command lines, how many bytes of their text are taken, and what these are the front of.
@@ -394,12 +421,9 @@ fn keeps_status<R: AllocGlobal + Threads + Wait + Sync>(
     word: &str,
     want: u8,
 ) -> Result<bool, AllocError> {
-    let words = line(rt, &[word])?;
-    let mut reader = Told::new(Broken::new(0));
-    let mut writer = Told::new(Vec::new(rt.alloc()));
-    let mut errors = Told::new(Slow::new(3));
-    let status = main_with(rt, words.as_slice(), &mut reader, &mut writer, &mut errors);
-    Ok(status == want && writer.inner().is_empty() && errors.inner().len == 3)
+    let streams = (Broken::new(0), Vec::new(rt.alloc()), Slow::new(3));
+    let ended = run_over(rt, &[word], streams)?;
+    Ok(ended.status == want && ended.writer.inner().is_empty() && ended.errors.inner().len == 3)
 }
 
 static STATUSES: [(&str, u8); 3] = [("replay", 1), ("storm", 1), ("gale", 2)];

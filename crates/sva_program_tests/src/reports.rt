@@ -8,12 +8,40 @@ use std::io::{Read, Write};
 use std::test::Fail;
 use sva_scenario::{DriveFault, Outcome, Told, check, drive, read_scenario, report_audit};
 
+/// How a run over a reader and a writer ended, and these behind it.
+#[derive(Drop)]
+struct Ended<R, W> {
+    result: Result<Outcome, DriveFault>,
+    reader: Told<R>,
+    writer: Told<W>,
+}
+
+fn driven<R: Read + Drop, W: Write + Drop>(alloc: Global, reader: R, writer: W) -> Ended<R, W> {
+    let mut reader = Told::new(reader);
+    let mut writer = Told::new(writer);
+    let result = drive(alloc, &mut reader, &mut writer);
+    Ended {
+        result,
+        reader,
+        writer,
+    }
+}
+
+fn checked<R: Read + Drop, W: Write + Drop>(alloc: Global, reader: R, writer: W) -> Ended<R, W> {
+    let mut reader = Told::new(reader);
+    let mut writer = Told::new(writer);
+    let result = check(alloc, &mut reader, &mut writer);
+    Ended {
+        result,
+        reader,
+        writer,
+    }
+}
+
 /// Is this the report of a text, and does the run end so?
 fn reports(alloc: Global, text: &[u8], want: &[u8], end: Outcome) -> Result<bool, DriveFault> {
-    let mut reader = Told::new(text);
-    let mut writer = Told::new(Vec::new(alloc));
-    let outcome = drive(alloc, &mut reader, &mut writer)?;
-    Ok(outcome == end && is_whole(&reader, &writer, want))
+    let ended = driven(alloc, text, Vec::new(alloc));
+    Ok(ended.result? == end && is_whole(&ended.reader, &ended.writer, want))
 }
 
 /// Was all of the input read, and this written?
@@ -37,10 +65,8 @@ static FIRST_REPORT: &str = "space 0\nframe 0\nfree 0\nframe 0\nfree 3 mapped 1 
 
 /// Does a check of a text write this, and end so?
 fn checks(alloc: Global, text: &str, want: &str, end: Outcome) -> Result<bool, DriveFault> {
-    let mut reader = Told::new(text.as_bytes());
-    let mut writer = Told::new(Vec::new(alloc));
-    let outcome = check(alloc, &mut reader, &mut writer)?;
-    Ok(outcome == end && is_whole(&reader, &writer, want.as_bytes()))
+    let ended = checked(alloc, text.as_bytes(), Vec::new(alloc));
+    Ok(ended.result? == end && is_whole(&ended.reader, &ended.writer, want.as_bytes()))
 }
 
 #[test]
@@ -153,12 +179,10 @@ fn reports_large_texts(rt: HostRuntime) -> Result<(), Fail> {
 
 /// Ends a run of a reader that never ends, a byte a call, in a fault, with nothing written?
 fn reads_no_further(alloc: Global) -> bool {
-    let mut reader = Told::new(Broken::new(u64::MAX));
-    let mut writer = Told::new(Slow::new(64));
-    let result = drive(alloc, &mut reader, &mut writer);
-    result == Err(DriveFault::Read)
-        && (reader.calls(), reader.failures()) == (2_097_152, 0)
-        && is_untouched(&writer)
+    let ended = driven(alloc, Broken::new(u64::MAX), Slow::new(64));
+    ended.result == Err(DriveFault::Read)
+        && (ended.reader.calls(), ended.reader.failures()) == (2_097_152, 0)
+        && is_untouched(&ended.writer)
 }
 
 #[test]
@@ -190,33 +214,28 @@ fn is_written(writer: &Told<Slow>) -> bool {
 }
 
 #[test]
-fn reads_byte_by_byte(rt: HostRuntime) -> Result<(), Fail> {
-    let mut reader = Told::new(Drip {
+fn reads_byte_by_byte(rt: HostRuntime) {
+    let drip = Drip {
         left: FIRST.as_bytes(),
-    });
-    let mut writer = Told::new(Slow::new(64));
-    let outcome = drive(rt.alloc(), &mut reader, &mut writer)?;
-    assert!(rt; outcome == Outcome::Done && is_written(&writer));
-    assert!(rt; reader.calls() == FIRST.len() as u64 + 1);
-    Ok(())
+    };
+    let ended = driven(rt.alloc(), drip, Slow::new(64));
+    assert!(rt; ended.result == Ok(Outcome::Done) && is_written(&ended.writer));
+    assert!(rt; ended.reader.calls() == FIRST.len() as u64 + 1);
 }
 
 /// Ends a check in a fault where the sixth call of the reader fails, with nothing written?
 fn check_fails_to_read(alloc: Global) -> bool {
-    let mut reader = Told::new(Broken::new(5));
-    let mut writer = Told::new(Slow::new(64));
-    let result = check(alloc, &mut reader, &mut writer);
-    result == Err(DriveFault::Read) && (reader.failures(), writer.calls()) == (1, 0)
+    let ended = checked(alloc, Broken::new(5), Slow::new(64));
+    ended.result == Err(DriveFault::Read)
+        && (ended.reader.failures(), ended.writer.calls()) == (1, 0)
 }
 
 /// Ends a check in a fault where the writer fails behind six bytes?
 fn check_fails_to_write(alloc: Global) -> bool {
-    let mut reader = Told::new(FIRST.as_bytes());
-    let mut writer = Told::new(Slow::new(6));
-    let result = check(alloc, &mut reader, &mut writer);
-    result == Err(DriveFault::Write)
-        && (reader.failures(), writer.failures()) == (0, 1)
-        && is_front(&writer.inner().taken, b"steps ", 6)
+    let ended = checked(alloc, FIRST.as_bytes(), Slow::new(6));
+    ended.result == Err(DriveFault::Write)
+        && (ended.reader.failures(), ended.writer.failures()) == (0, 1)
+        && is_front(&ended.writer.inner().taken, b"steps ", 6)
 }
 
 #[test]
@@ -226,12 +245,10 @@ fn stops_a_check_at_a_fault(rt: HostRuntime) {
 }
 
 fn fails_to_read(alloc: Global) -> bool {
-    let mut reader = Told::new(Broken::new(5));
-    let mut writer = Told::new(Slow::new(64));
-    let result = drive(alloc, &mut reader, &mut writer);
-    result == Err(DriveFault::Read)
-        && (reader.calls(), reader.failures()) == (6, 1)
-        && is_untouched(&writer)
+    let ended = driven(alloc, Broken::new(5), Slow::new(64));
+    ended.result == Err(DriveFault::Read)
+        && (ended.reader.calls(), ended.reader.failures()) == (6, 1)
+        && is_untouched(&ended.writer)
 }
 
 fn is_untouched(writer: &Told<Slow>) -> bool {
@@ -245,17 +262,15 @@ fn stops_at_a_read_fault(rt: HostRuntime) {
 
 /// Ends a run in a fault where the writer takes so many bytes, and are these those of the report?
 fn fails_to_write(alloc: Global, most: usize) -> bool {
-    let mut reader = Told::new(FIRST.as_bytes());
-    let mut writer = Told::new(Slow::new(most));
-    let result = drive(alloc, &mut reader, &mut writer);
-    result == Err(DriveFault::Write) && fails_behind(&writer, most, FIRST_REPORT.as_bytes())
+    let ended = driven(alloc, FIRST.as_bytes(), Slow::new(most));
+    ended.result == Err(DriveFault::Write)
+        && fails_behind(&ended.writer, most, FIRST_REPORT.as_bytes())
 }
 
 /// Is the report written whole where the writer takes so many bytes?
 fn writes_whole(alloc: Global, most: usize) -> bool {
-    let mut reader = Told::new(FIRST.as_bytes());
-    let mut writer = Told::new(Slow::new(most));
-    drive(alloc, &mut reader, &mut writer) == Ok(Outcome::Done) && is_written(&writer)
+    let ended = driven(alloc, FIRST.as_bytes(), Slow::new(most));
+    ended.result == Ok(Outcome::Done) && is_written(&ended.writer)
 }
 
 #[test]
@@ -283,13 +298,9 @@ impl Write for Full {
 
 #[test]
 fn stops_where_nothing_is_taken(rt: HostRuntime) {
-    let mut reader = Told::new(FIRST.as_bytes());
-    let mut writer = Told::new(Full);
-    assert_eq!(rt;
-        drive(rt.alloc(), &mut reader, &mut writer),
-        Err(DriveFault::Write)
-    );
-    assert_eq!(rt; (writer.calls(), writer.failures()), (1, 1));
+    let ended = driven(rt.alloc(), FIRST.as_bytes(), Full);
+    assert!(rt; ended.result == Err(DriveFault::Write));
+    assert!(rt; (ended.writer.calls(), ended.writer.failures()) == (1, 1));
 }
 
 /// Is a part of the report written, and did no call fail?
@@ -302,49 +313,64 @@ fn is_cut(reader: &Told<&[u8]>, writer: &Told<Slow>) -> bool {
 /// With ample memory the report is whole. Where an allocation fails, a prefix of it is written, and nothing failed.
 #[test]
 fn stops_where_memory_lacks(rt: HostRuntime) {
-    let mut reader = Told::new(FIRST.as_bytes());
-    let mut writer = Told::new(Slow::new(64));
-    let outcome = drive(rt.alloc(), &mut reader, &mut writer);
-    assert!(rt; is_cut(&reader, &writer));
-    if outcome == Err(DriveFault::Memory) {
+    let ended = driven(rt.alloc(), FIRST.as_bytes(), Slow::new(64));
+    assert!(rt; is_cut(&ended.reader, &ended.writer));
+    if ended.result == Err(DriveFault::Memory) {
         // No other allocation fails, so that a second run has ample memory.
         assert!(rt; writes_whole(rt.alloc(), 64));
     } else {
-        assert!(rt; outcome == Ok(Outcome::Done) && writer.inner().len == 58);
+        assert!(rt; ended.result == Ok(Outcome::Done) && ended.writer.inner().len == 58);
     }
 }
+
+/// Does a text hand out a scenario of so many steps, or none, and is this written of it?
+fn hands_out(
+    alloc: Global,
+    text: &str,
+    steps: Option<usize>,
+    want: &str,
+) -> Result<bool, DriveFault> {
+    let mut reader = Told::new(text.as_bytes());
+    let mut writer = Told::new(Vec::new(alloc));
+    let found = read_scenario(alloc, &mut reader, &mut writer)?;
+    let len = found.map(|scenario| scenario.steps.len());
+    Ok(len == steps && is_whole(&reader, &writer, want.as_bytes()))
+}
+
+/// Texts, how many steps the scenario has that is handed out, and what is written.
+static SCENARIOS: [(&str, Option<usize>, &str); 4] = [
+    ("config 1 4 1\nspace\nmap 0 16 w\n", Some(2), ""),
+    ("config 1 4097 1\nspace\n", None, "refused 1 BadConfig\n"),
+    ("config 1 4 1\nspase\n", None, "line 2 UnknownStep\n"),
+    ("", None, "line 1 NoConfig\n"),
+];
 
 /// A scenario that can be played is handed out, and nothing is written; of another its fault is.
 #[test]
 fn hands_out_what_can_be_played(rt: HostRuntime) -> Result<(), Fail> {
-    let texts = [
-        (FIRST, Some(4), ""),
-        ("config 1 4097 1\nspace\n", None, "refused 1 BadConfig\n"),
-        ("config 1 4 1\nspase\n", None, "line 2 UnknownStep\n"),
-        ("", None, "line 1 NoConfig\n"),
-    ];
-    for (text, steps, want) in texts {
-        let mut reader = Told::new(text.as_bytes());
-        let mut writer = Told::new(Vec::new(rt.alloc()));
-        let found = read_scenario(rt.alloc(), &mut reader, &mut writer)?;
-        assert_eq!(rt; found.map(|scenario| scenario.steps.len()), steps, "{text}");
-        assert!(rt; writer.inner().as_slice() == want.as_bytes(), "{text}");
+    for (text, steps, want) in &SCENARIOS {
+        assert!(rt; hands_out(rt.alloc(), text, *steps, want)?, "{text}");
     }
     Ok(())
+}
+
+/// Is this written of what an audit found, and does the storm end so?
+fn tells_of_audit(
+    alloc: Global,
+    found: Option<u64>,
+    end: Outcome,
+    want: &str,
+) -> Result<bool, DriveFault> {
+    let mut writer = Told::new(Vec::new(alloc));
+    let ended = report_audit(alloc, found, &mut writer)?;
+    Ok(ended == end && writer.inner().as_slice() == want.as_bytes())
 }
 
 /// What is written of what an audit says.
 #[test]
 fn reports_audits(rt: HostRuntime) -> Result<(), Fail> {
-    let audits = [
-        (Some(4), Outcome::Done, "audit ok\nframes 4\n"),
-        (None, Outcome::Faulted, "audit bad\n"),
-    ];
-    for (found, end, want) in audits {
-        let mut writer = Told::new(Vec::new(rt.alloc()));
-        let ended = report_audit(rt.alloc(), found, &mut writer)?;
-        assert_eq!(rt; ended, end);
-        assert!(rt; writer.inner().as_slice() == want.as_bytes(), "{want}");
-    }
+    let alloc = rt.alloc();
+    assert!(rt; tells_of_audit(alloc, Some(4), Outcome::Done, "audit ok\nframes 4\n")?);
+    assert!(rt; tells_of_audit(alloc, None, Outcome::Faulted, "audit bad\n")?);
     Ok(())
 }

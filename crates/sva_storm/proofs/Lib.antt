@@ -1,5 +1,6 @@
 pub mod Tries
 pub mod Turns
 pub mod Working
-pub mod InHand
+pub mod Asking
+pub mod Lacking
 pub mod StormLemmas

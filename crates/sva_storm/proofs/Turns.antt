@@ -12,15 +12,28 @@ use Rattle.sva_fabric.specs.Receipts.{Seat}
 use Rattle.sva_fabric.specs.Stocks.{TicketNumbers}
 use Rattle.sva_fabric.specs.Tokens.{HasCalled, IsFault}
 use Rattle.sva_storm.specs.declared.endings.Turn.{Turn}
-use Rattle.sva_storm.specs.Plays.{is_accepted, HasCalledOnce, IsTurn, turn_after_fault}
+use Rattle.sva_storm.specs.Plays.{is_accepted, begins, ends, HasCalledOnce, IsTurn, turn_after_fault}
 
--- the ticket that was taken from its place is the one that was found there
+-- the token that was taken from its place is the one that was found there
+pub taken_is : {X : Type 0} (xs : List X) (place : ℕ) (x : X) (P : X → Type 0) → place < length xs → x ≡ slice_index_or xs place x
+    → IfSome (slice_get xs place) P → P x
+taken_is xs place x P within value found = subst (λ o. IfSome o P) (slice_get_read xs (length xs) place x refl within value) found
+
 pub same_ticket : (tickets : List TicketNumbers) (place e s : ℕ) (t : TicketNumbers) → place < length tickets → t ≡ slice_index_or tickets place t
     → IfSome (slice_get tickets place) (λ (found : TicketNumbers). (found.endpoint ≡ e) × (found.slot ≡ s))
     → (t.endpoint ≡ e) × (t.slot ≡ s)
-same_ticket tickets place e s t within value found =
-    subst (λ o. IfSome o (λ (found : TicketNumbers). (found.endpoint ≡ e) × (found.slot ≡ s)))
-    (slice_get_read tickets (length tickets) place t refl within value) found
+same_ticket tickets place e s t = taken_is tickets place t (λ (found : TicketNumbers). (found.endpoint ≡ e) × (found.slot ≡ s))
+
+-- a call that was accepted
+pub accepted_once : (config : Config) (before after : Seat) (step line : Step) (t u : ℕ) (a : Answer)
+    → HasCalled config before after step (Ok a) → step ≡ line → u + ends line ≡ t + begins line → HasCalledOnce line before after true t u
+accepted_once config before after step line t u a h i tokens = record {
+  receipt = h.receipt;
+  kept = h.kept;
+  of_line = h.answered.step_is ∙ i;
+  answered = ap is_accepted h.says;
+  tickets = tokens;
+}
 
 -- a use that ended
 pub ended_once : (config : Config) (before after : Seat) (e s d r t u : ℕ) (a : Answer)

@@ -4,4 +4,5 @@ pub mod Jobs
 pub mod Asks
 pub mod Hands
 pub mod Lacks
+pub mod Crews
 pub mod Storms

@@ -31,3 +31,13 @@ player_of_step (Serve endpoint) = Nobody
 player_of_step (Take worker) = Nobody
 player_of_step (Reply worker verdict) = Nobody
 player_of_step (Deliver message) = Nobody
+
+abbrev pub is_player : Player → Player → Bool
+is_player Host Host = true
+is_player (Endpoint one) (Endpoint two) = one == two
+is_player Nobody Nobody = true
+is_player _ _ = false
+
+-- the lines of one player, in their order
+abbrev pub lines_of_player : Player → List Step → List Step
+lines_of_player whose steps = filter (λ step. is_player (player_of_step step) whose) steps

@@ -1,7 +1,9 @@
 //! The threads of a storm: who sits where, and how they are started and joined.
 
-ghost use Rattle.std.specs.Prelude.{◌≡◌, ◌+◌, ◌*◌, ◌≤◌, ◌||◌, ◌++◌, ◌∷◌, [], length, vec_len, vec_capacity, IfOk};
-ghost use Rattle.sva_storm.specs.Lacks.{lacks_of};
+ghost use Rattle.std.specs.Prelude.{◌≡◌, ◌+◌, ◌*◌, ◌<◌, ◌≤◌, ◌||◌, ◌++◌, ◌∷◌, [], true, length, vec_len, vec_capacity, IfOk, OnOk};
+ghost use Rattle.sva_storm.specs.Lines.{lines_of_player};
+ghost use Rattle.sva_storm.specs.declared.lines.Player.TheVariants as player;
+ghost use Rattle.sva_storm.specs.Lacks.{lacks_of, one_lacks};
 ghost use Rattle.sva_fabric.specs.Audits.{seats_of};
 
 use crate::gates::{Device, Pager};
@@ -126,7 +128,9 @@ impl<C: Tally, D: Device + Drop, P: Pager + Drop> Crew<C, D, P> {
     }
 
     // Takes all seats apart: their ports in their order, the tokens that are left, and whether a thread wanted memory.
-    pub(crate) fn rise(self) -> (Ports<C>, Tokens<C>, bool) {
+    pub(crate) fn rise(self) -> (Ports<C>, Tokens<C>, bool)
+        ensures lacked { one_lacks (lacks_of self.seats.items) ≡ true → result.2 ≡ true }
+    {
         let Crew {
             host,
             seats,
@@ -179,29 +183,52 @@ impl<C: Tally> Risen<C> {
     }
 }
 
-// The roles of the endpoints and of the workers, in this order.
-pub(crate) fn roles_of<D: Drop, P: Drop>(
+// The lines of the host, and the roles of the endpoints and of the workers, in this order.
+pub(crate) fn cast_of<D: Drop, P: Drop>(
     alloc: Global,
     steps: &[Step],
     devices: Vec<D>,
     pagers: Vec<P>,
-) -> Result<Vec<Role<D, P>>, AllocError>
-    ensures { IfOk result (λ roles. vec_len roles ≡ vec_len devices + vec_len pagers) }
+) -> Result<(Vec<Step>, Vec<Role<D, P>>), AllocError>
+    ensures script { IfOk result (λ cast. cast.0.items ≡ lines_of_player player.Host steps.now) }
+    ensures roles { IfOk result (λ cast. vec_len cast.1 ≡ vec_len devices + vec_len pagers) }
 {
     let mut roles = Vec::new(alloc);
+    add_endpoints(alloc, steps, devices, &mut roles)?;
+    add_workers(pagers, &mut roles)?;
+    let script = lines_of(alloc, steps, Player::Host)?;
+    Ok((script, roles))
+}
+
+// Adds the roles of the endpoints, which come first.
+fn add_endpoints<D: Drop, P: Drop>(
+    alloc: Global,
+    steps: &[Step],
+    devices: Vec<D>,
+    roles: &mut Vec<Role<D, P>>,
+) -> Result<(), AllocError>
+    ensures { OnOk result (vec_len roles.new ≡ vec_len roles.old + vec_len devices) }
+{
     for device in devices {
-        let endpoint = roles.len() as u64;
-        roles.push(Role::Endpoint {
-            script: lines_of(alloc, steps, Player::Endpoint(endpoint))?,
-            device,
-        })?;
+        let script = lines_of(alloc, steps, Player::Endpoint(roles.len() as u64))?;
+        roles.push(Role::Endpoint { script, device })?;
     }
+    Ok(())
+}
+
+// Adds the roles of the workers behind those of the endpoints.
+fn add_workers<D: Drop, P: Drop>(
+    pagers: Vec<P>,
+    roles: &mut Vec<Role<D, P>>,
+) -> Result<(), AllocError>
+    ensures { OnOk result (vec_len roles.new ≡ vec_len roles.old + vec_len pagers) }
+{
     let endpoints = roles.len();
     for pager in pagers {
         let worker = (roles.len() - endpoints) as u64;
         roles.push(Role::Worker { worker, pager })?;
     }
-    Ok(roles)
+    Ok(())
 }
 
 // Memory for so many seats, and for what they leave.
@@ -299,6 +326,7 @@ fn rise_all<C: Tally, D: Device + Drop, P: Pager + Drop>(
     requires endpoints { vec_len seats ≤ vec_capacity room.endpoints }
     requires workers { vec_len seats ≤ vec_capacity room.workers }
     requires tickets { vec_len seats * 16 ≤ vec_capacity room.tickets }
+    ensures lacked { result.lacked ≡ one_lacks (lacks_of seats.items) }
 {
     let Room {
         mut tickets,
@@ -354,18 +382,36 @@ fn leave_all<C: Tally, D: Device + Drop, P: Pager + Drop>(
     requires endpoints { vec_len endpoints.old + vec_len seats ≤ vec_capacity endpoints.old }
     requires workers { vec_len workers.old + vec_len seats ≤ vec_capacity workers.old }
     requires tickets { vec_len tickets.old + vec_len seats * 16 ≤ vec_capacity tickets.old }
+    ensures lacked { result ≡ one_lacks (lacks_of seats.items) }
 {
     let mut seats = seats;
     let mut lacked = false;
-    while let Some(seat) = seats.pop() {
-        let (port, out_of_memory) = seat.leave(tickets);
+    while !seats.is_empty() {
+        let (port, out_of_memory) = leave_last(&mut seats, tickets);
         lacked |= out_of_memory;
-        if endpoints.len() < endpoint_count {
-            endpoints.push_reserved(port);
-        } else {
-            workers.push_reserved(port);
-        }
+        put_port(port, endpoint_count, endpoints, workers);
     }
     seats.destroy_empty();
     lacked
+}
+
+// Puts a port to those of the endpoints, while these are fewer than so many, and else to those of the workers.
+fn put_port<C: Tally>(
+    port: Port<C>,
+    endpoint_count: usize,
+    endpoints: &mut Vec<Port<C>>,
+    workers: &mut Vec<Port<C>>,
+)
+    requires endpoints { vec_len endpoints.old < vec_capacity endpoints.old }
+    requires workers { vec_len workers.old < vec_capacity workers.old }
+    ensures endpoints { vec_len endpoints.new ≤ vec_len endpoints.old + 1 }
+    ensures workers { vec_len workers.new ≤ vec_len workers.old + 1 }
+    ensures endpoint_room { vec_capacity endpoints.new ≡ vec_capacity endpoints.old }
+    ensures worker_room { vec_capacity workers.new ≡ vec_capacity workers.old }
+{
+    if endpoints.len() < endpoint_count {
+        endpoints.push_reserved(port);
+    } else {
+        workers.push_reserved(port);
+    }
 }

@@ -1,8 +1,8 @@
 //! The threads of the link and of the service.
 
-ghost use Rattle.std.specs.Prelude.{◌≡◌, true};
+ghost use Rattle.std.specs.Prelude.{◌≡◌, ◌-◌, ◌≤◌, true};
 ghost use Rattle.sva_step.specs.Steps.{is_plain};
-ghost use Rattle.sva_storm.specs.Asks.{service_at};
+ghost use Rattle.sva_storm.specs.Asks.{HasDelivered, HasServed, IsAsked, service_at};
 
 use crate::endings::{Spent, Turn};
 use crate::using::turn_of;
@@ -11,16 +11,27 @@ use std::thread::yield_now;
 use sva_fabric::{Fabric, Port, Tally};
 use sva_step::Step;
 
+// Asks a step that needs no token once.
+fn ask<C: Tally, R: Wait>(fabric: &Fabric<C>, rt: &R, port: &mut Port<C>, step: &Step) -> Turn
+    requires plain { is_plain step.now ≡ true }
+    ensures asked { IsAsked step.now port.old port.new result }
+{
+    turn_of(fabric.step(rt, port, step))
+}
+
 // Delivers the messages by their numbers, from 0 on, each tried until it is accepted.
 pub(crate) fn link<C: Tally, R: Wait>(
     fabric: &Fabric<C>,
     rt: &R,
     port: &mut Port<C>,
     turns: u64,
-) -> Spent {
+) -> Spent
+    ensures delivered { HasDelivered (turns - result.turns_left) port.old port.new }
+    ensures turns { result.turns_left ≤ turns }
+{
     let mut message = 0;
     for turn in 0..turns {
-        match turn_of(fabric.step(rt, port, &Step::Deliver { message })) {
+        match ask(fabric, rt, port, &Step::Deliver { message }) {
             Turn::Accepted => message += 1,
             Turn::Again => yield_now(),
             ended => return Spent::by(ended, turns - turn - 1),
@@ -52,9 +63,12 @@ pub(crate) fn service<C: Tally, R: Wait>(
     port: &mut Port<C>,
     endpoints: u64,
     turns: u64,
-) -> Spent {
+) -> Spent
+    ensures served { HasServed endpoints (turns - result.turns_left) port.old port.new }
+    ensures turns { result.turns_left ≤ turns }
+{
     for turn in 0..turns {
-        match turn_of(fabric.step(rt, port, &service_step(turn, endpoints))) {
+        match ask(fabric, rt, port, &service_step(turn, endpoints)) {
             Turn::Accepted => {}
             Turn::Again => yield_now(),
             ended => return Spent::by(ended, turns - turn - 1),

@@ -1,21 +1,22 @@
 //! A storm: a scenario that is played by threads, and the audit that ends it.
 
-ghost use Rattle.std.specs.Prelude.{◌≡◌, ◌≢◌, ◌↔◌, ◌+◌, ◌≤◌, length, vec_len, IfOk, IfErr, Ok, Err};
+ghost use Rattle.std.specs.Prelude.{◌≡◌, ◌≢◌, ◌↔◌, ◌+◌, vec_len, true, false, IfOk, IfErr, Ok, Err};
 ghost use Rattle.sva_step.specs.Limits.{Fits};
-ghost use Rattle.sva_fabric.specs.Audits.{seats_of};
+ghost use Rattle.sva_storm.specs.Crews.{is_lacking};
 ghost use Rattle.sva_storm.specs.Storms.{HasFinished, IsFound};
 ghost use Rattle.sva_storm.specs.declared.endings.StormFault.TheVariants as storm_fault;
 
-use crate::crew::{Crew, roles_of};
+use crate::crew::{Crew, cast_of};
 use crate::endings::StormFault;
 use crate::gates::{Device, Pager};
-use crate::lines::{Player, lines_of};
-use std::alloc::{AllocError, Global};
+use crate::seats::Role;
+use std::alloc::Global;
 use std::marker::Brand;
 use std::sync::Wait;
 use std::thread::Threads;
-use sva_fabric::{Audit, Blanks, Fabric, Ports, Tally};
+use sva_fabric::{Audit, Blanks, Fabric, Tally};
 use sva_grammar::Scenario;
+use sva_step::Step;
 
 /// Plays a scenario by threads: one for the host, one for the link, one for the service, one for each endpoint and one for each worker.
 /// Each has so many turns. Host and endpoints play their lines in order, each line until it is accepted; the other lines are skipped. The
@@ -39,8 +40,11 @@ pub fn storm<R: Threads + Wait + Sync, D: Device + Send + Drop, P: Pager + Send 
     if !scenario.config.fits() {
         return Err(StormFault::Config);
     }
+    let Ok((script, roles)) = cast_of(alloc, scenario.steps.as_slice(), devices, pagers) else {
+        return Err(StormFault::Memory);
+    };
     let blanks = Blanks::new(&scenario.config);
-    play_all::<Brand, R, D, P>(rt, alloc, scenario, turns, devices, pagers, blanks)
+    play_all::<Brand, R, D, P>(rt, alloc, scenario, turns, script, roles, blanks)
 }
 
 // The storm on the fabric whose calls are counted by this blank.
@@ -54,8 +58,8 @@ fn play_all<
     alloc: Global,
     scenario: &Scenario,
     turns: u64,
-    devices: Vec<D>,
-    pagers: Vec<P>,
+    script: Vec<Step>,
+    roles: Vec<Role<D, P>>,
     blanks: Blanks,
 ) -> Result<Audit, StormFault>
     requires name { blanks.calls.name ≡ C.name }
@@ -65,8 +69,7 @@ fn play_all<
     requires uses { blanks.uses.name ≡ C.uses }
     requires config { C.config ≡ scenario.now.config }
     requires fits { Fits scenario.now.config }
-    requires devices { vec_len devices ≡ scenario.now.config.endpoints }
-    requires pagers { vec_len pagers ≡ scenario.now.config.workers }
+    requires roles { vec_len roles ≡ scenario.now.config.endpoints + scenario.now.config.workers }
     ensures config { result ≢ Err storm_fault.Config }
     ensures audit { IfOk result (λ audit. HasFinished scenario.now.config (Ok audit)) }
     ensures bad { IfErr result (λ fault. IsFound scenario.now.config fault) }
@@ -74,10 +77,27 @@ fn play_all<
     let Ok((fabric, ports)) = Fabric::<C>::open(alloc, scenario.config, blanks) else {
         return Err(StormFault::Memory);
     };
-    let Ok(mut crew) = crew_for(alloc, scenario, turns, ports, devices, pagers) else {
+    let Ok(mut crew) = Crew::new(alloc, ports, script, roles, turns) else {
         return Err(StormFault::Memory);
     };
     let started = crew.run(rt, &fabric);
+    settle(fabric, crew, started)
+}
+
+// Ends a storm: its seats are taken apart, and their receipts and tokens audited. The audit is told where each thread was started, and
+// none wanted memory.
+fn settle<C: Tally, D: Device + Drop, P: Pager + Drop>(
+    fabric: Fabric<C>,
+    crew: Crew<C, D, P>,
+    started: bool,
+) -> Result<Audit, StormFault>
+    requires parts { C.parts ≡ 3 + C.config.endpoints + C.config.workers }
+    ensures config { result ≢ Err storm_fault.Config }
+    ensures audit { IfOk result (λ audit. HasFinished C.config (Ok audit)) }
+    ensures bad { IfErr result (λ fault. IsFound C.config fault) }
+    ensures lacked { is_lacking crew ≡ true → result ≡ Err storm_fault.Memory }
+    ensures started { started ≡ false → result ≡ Err storm_fault.Memory }
+{
     let (ports, tokens, lacked) = crew.rise();
     let audit = fabric.finish(ports, tokens);
     if !started | lacked {
@@ -87,22 +107,4 @@ fn play_all<
         Ok(audit) => Ok(audit),
         Err(bad) => Err(StormFault::Bad(bad)),
     }
-}
-
-// The seats of a scenario's threads.
-fn crew_for<C: Tally, D: Device + Drop, P: Pager + Drop>(
-    alloc: Global,
-    scenario: &Scenario,
-    turns: u64,
-    ports: Ports<C>,
-    devices: Vec<D>,
-    pagers: Vec<P>,
-) -> Result<Crew<C, D, P>, AllocError>
-    requires ports { length (seats_of ports) ≡ 3 + vec_len devices + vec_len pagers }
-    requires few { vec_len devices + vec_len pagers ≤ 100 }
-{
-    let steps = scenario.steps.as_slice();
-    let script = lines_of(alloc, steps, Player::Host)?;
-    let roles = roles_of(alloc, steps, devices, pagers)?;
-    Crew::new(alloc, ports, script, roles, turns)
 }

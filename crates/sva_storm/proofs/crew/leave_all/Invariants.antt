@@ -1,12 +1,14 @@
-use Rattle.std.proofs.Common.{◌≡◌, ◌+◌, ◌*◌, ◌≤◌, vec_len, vec_capacity}
+use Rattle.std.proofs.Common.{◌≡◌, ◌+◌, ◌*◌, ◌≤◌, ◌||◌, vec_len, vec_capacity}
+use Rattle.sva_storm.specs.Lacks.{lacks_of, one_lacks}
 use Rattle.sva_storm.proofs.crew.leave_all.Given as goal
 
--- there is room for what the seats that are left have
-abbrev pub invariant-loop-seat : goal.invariant-loop-seat
-invariant-loop-seat g l =
+-- there is room for what the seats that are left have, and want of memory was told of those that were taken apart
+abbrev pub invariant-loop-seats : goal.invariant-loop-seats
+invariant-loop-seats g l =
     (vec_len l.endpoints + vec_len l.seats ≤ vec_capacity l.endpoints)
     × (vec_len l.workers + vec_len l.seats ≤ vec_capacity l.workers)
     × (vec_len l.tickets + vec_len l.seats * 16 ≤ vec_capacity l.tickets)
+    × ((l.lacked || one_lacks (lacks_of l.seats.items)) ≡ one_lacks (lacks_of l.fn.seats.items))
 
-abbrev pub decreases-loop-seat : goal.decreases-loop-seat
-decreases-loop-seat g l = vec_len l.seats
+abbrev pub decreases-loop-seats : goal.decreases-loop-seats
+decreases-loop-seats g l = vec_len l.seats

@@ -1,5 +1,6 @@
-use Rattle.std.proofs.Common.{◌≤◌}
+use Rattle.sva_storm.proofs.Asking.{IsDelivering}
 use Rattle.sva_storm.proofs.linking.link.Given as goal
 
+-- the turns so far delivered the messages below this one
 abbrev pub invariant-loop-turn : goal.invariant-loop-turn
-invariant-loop-turn g l = l.message ≤ l.turn
+invariant-loop-turn g l = IsDelivering l.message l.turn l.fn.port l.port

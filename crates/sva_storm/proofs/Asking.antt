@@ -1,0 +1,126 @@
+-- What the link and the service ask, a call more.
+use Rattle.std.proofs.Common.{◌≡◌, ◌∙◌, ◌≤◌, ℕ, ◌+◌, Bool, true, false, List, [], ◌∷◌, ◌++◌, if◌then◌else◌}
+use Rattle.std.proofs.Common.{length, ap, sym, subst, arith, refl, inl, inr, ◌⊎◌, append_assoc, append-nil, length-append}
+use Rattle.sva_step.specs.declared.steps.Step.{Step}
+use Rattle.sva_step.specs.declared.steps.Step.TheVariants.{Deliver}
+use Rattle.sva_fabric.specs.declared.receipts.Receipt.{Receipt}
+use Rattle.sva_fabric.specs.Receipts.{Seat}
+use Rattle.sva_storm.specs.Plays.{is_accepted}
+use Rattle.sva_storm.specs.Asks.{due_after, due_at_last, AreDeliveries, HasDelivered, service_at, AreServices, HasServed, HasAsked, IsAsked}
+use Rattle.sva_storm.specs.declared.endings.Turn.{Turn}
+use Rattle.sva_storm.specs.declared.endings.Turn.TheVariants.{Accepted, Again, Memory, Strayed}
+
+pub deliveries_more : (message : ℕ) (calls : List Receipt) (r : Receipt)
+    → AreDeliveries message calls → r.step ≡ Deliver (due_at_last message calls) → AreDeliveries message (calls ++ r ∷ [])
+deliveries_more message [] r all step = (step, tt)
+deliveries_more message (c ∷ calls) r all step = (all.0, deliveries_more (due_after message c) calls r all.1 step)
+
+pub due_more : (message : ℕ) (calls : List Receipt) (r : Receipt)
+    → due_at_last message (calls ++ r ∷ []) ≡ due_after (due_at_last message calls) r
+due_more message [] r = refl
+due_more message (c ∷ calls) r = due_more (due_after message c) calls r
+
+-- the link under way: so many calls in so many turns, and the message that is due
+pub record IsDelivering (message turn : ℕ) (before after : Seat) : Type 0 where
+  pub calls : List Receipt
+  pub number : after.number ≡ before.number
+  pub kept : after.receipts ≡ before.receipts ++ calls
+  pub deliveries : AreDeliveries 0 calls
+  pub due : due_at_last 0 calls ≡ message
+  pub below : message ≤ turn
+  pub count : length calls ≡ turn
+
+-- nothing was delivered yet
+pub delivering_none : (seat : Seat) → IsDelivering 0 0 seat seat
+delivering_none seat = record { calls = []; number = refl; kept = sym (append-nil seat.receipts); deliveries = tt; due = refl; below = omega arith; count = refl }
+
+below_more : (message turn : ℕ) (done : Bool) → message ≤ turn → (if done then message + 1 else message) ≤ turn + 1
+below_more message turn true h = omega arith
+below_more message turn false h = omega arith
+
+-- a turn more: the next message is due where this one was accepted
+pub delivering_more : (message turn : ℕ) (before after next : Seat) (done : Bool)
+    → IsDelivering message turn before after → HasAsked (Deliver message) after next done
+    → IsDelivering (if done then message + 1 else message) (turn + 1) before next
+delivering_more message turn before after next done d h =
+    let r = h.receipt in
+    let count = d.count in
+    record {
+      calls = d.calls ++ r ∷ [];
+      number = ap (λ (s : Seat). s.number) h.kept ∙ d.number;
+      kept = ap (λ (s : Seat). s.receipts) h.kept ∙ ap (λ l. l ++ r ∷ []) d.kept ∙ append_assoc before.receipts d.calls (r ∷ []);
+      deliveries = deliveries_more 0 d.calls r d.deliveries (h.of_step ∙ ap Deliver (sym d.due));
+      due = due_more 0 d.calls r ∙ ap (λ m. if is_accepted r.answer then m + 1 else m) d.due ∙ ap (λ b. if b then message + 1 else message) h.answered;
+      below = below_more message turn done d.below;
+      count = omega (arith, length-append d.calls (r ∷ []));
+    }
+
+-- what the link has delivered when it ends, behind a turn that changed nothing too
+pub has_delivered : (message turn used : ℕ) (before after next : Seat)
+    → IsDelivering message turn before after → next ≡ after → turn ≤ used → used ≤ turn + 1 → HasDelivered used before next
+has_delivered message turn used before after next d e few each = record {
+  calls = d.calls;
+  number = ap (λ (s : Seat). s.number) e ∙ d.number;
+  kept = ap (λ (s : Seat). s.receipts) e ∙ d.kept;
+  deliveries = d.deliveries;
+  few = let count = d.count in omega arith;
+  each = let count = d.count in omega arith;
+}
+
+pub services_more : (turn endpoints : ℕ) (calls : List Receipt) (r : Receipt)
+    → AreServices turn endpoints calls → r.step ≡ service_at (turn + length calls) endpoints → AreServices turn endpoints (calls ++ r ∷ [])
+services_more turn endpoints [] r all step = (step ∙ ap (λ n. service_at n endpoints) (omega arith), tt)
+services_more turn endpoints (c ∷ calls) r all step =
+    let next : turn + length (c ∷ calls) ≡ turn + 1 + length calls = omega arith in
+    (all.0, services_more (turn + 1) endpoints calls r all.1 (step ∙ ap (λ n. service_at n endpoints) next))
+
+-- the service under way: a call in each turn so far
+pub record IsServing (endpoints turn : ℕ) (before after : Seat) : Type 0 where
+  pub calls : List Receipt
+  pub number : after.number ≡ before.number
+  pub kept : after.receipts ≡ before.receipts ++ calls
+  pub services : AreServices 0 endpoints calls
+  pub count : length calls ≡ turn
+
+-- nothing was served yet
+pub serving_none : (endpoints : ℕ) (seat : Seat) → IsServing endpoints 0 seat seat
+serving_none endpoints seat = record { calls = []; number = refl; kept = sym (append-nil seat.receipts); services = tt; count = refl }
+
+-- a turn more, accepted or not
+pub serving_more : (endpoints turn : ℕ) (before after next : Seat) (done : Bool)
+    → IsServing endpoints turn before after → HasAsked (service_at turn endpoints) after next done
+    → IsServing endpoints (turn + 1) before next
+serving_more endpoints turn before after next done s h =
+    let r = h.receipt in
+    let count = s.count in
+    let here : turn ≡ 0 + length s.calls = omega arith in
+    record {
+      calls = s.calls ++ r ∷ [];
+      number = ap (λ (s : Seat). s.number) h.kept ∙ s.number;
+      kept = ap (λ (s : Seat). s.receipts) h.kept ∙ ap (λ l. l ++ r ∷ []) s.kept ∙ append_assoc before.receipts s.calls (r ∷ []);
+      services = services_more 0 endpoints s.calls r s.services (h.of_step ∙ ap (λ n. service_at n endpoints) here);
+      count = omega (arith, length-append s.calls (r ∷ []));
+    }
+
+-- a turn after which the service goes on
+pub serving_after : (endpoints turn : ℕ) (before after next : Seat) (step : Step) (t : Turn)
+    → IsServing endpoints turn before after → step ≡ service_at turn endpoints → IsAsked step after next t → (t ≡ Accepted) ⊎ (t ≡ Again)
+    → IsServing endpoints (turn + 1) before next
+serving_after endpoints turn before after next step t s same h (inl is) =
+    serving_more endpoints turn before after next true s
+    (subst (λ x. HasAsked x after next true) same (subst (λ o. IsAsked step after next o) is h))
+serving_after endpoints turn before after next step t s same h (inr is) =
+    serving_more endpoints turn before after next false s
+    (subst (λ x. HasAsked x after next false) same (subst (λ o. IsAsked step after next o) is h))
+
+-- what the service has served when it ends, behind a turn that changed nothing too
+pub has_served : (endpoints turn used : ℕ) (before after next : Seat)
+    → IsServing endpoints turn before after → next ≡ after → turn ≤ used → used ≤ turn + 1 → HasServed endpoints used before next
+has_served endpoints turn used before after next s e few each = record {
+  calls = s.calls;
+  number = ap (λ (s : Seat). s.number) e ∙ s.number;
+  kept = ap (λ (s : Seat). s.receipts) e ∙ s.kept;
+  services = s.services;
+  few = let count = s.count in omega arith;
+  each = let count = s.count in omega arith;
+}

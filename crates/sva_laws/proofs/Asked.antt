@@ -73,7 +73,12 @@ select_has (suc n) p k h = go (p n) refl (has_either (select n p) (if p n then n
     last : n ≡ k → k < suc n
     last e = omega (arith, e)
 
-    go : (b : Bool) → p n ≡ b → Has (select n p) k ⊎ Has (if p n then n ∷ [] else []) k → (Has (select n p) k → (k < n) × (p k ≡ true)) → (k < suc n) × (p k ≡ true)
+    go :
+        (b : Bool)
+        → p n ≡ b
+        → Has (select n p) k ⊎ Has (if p n then n ∷ [] else []) k
+        → (Has (select n p) k → (k < n) × (p k ≡ true))
+        → (k < suc n) × (p k ≡ true)
     go b e (inl a) rest = let y = rest a in (up y.0, y.1)
     go true e (inr a) rest = one (subst (λ t. Has (if t then n ∷ [] else []) k) e a)
       where

@@ -254,8 +254,8 @@ resets_unit LocalAct.Reset = true
 resets_unit (LocalAct.Reopen c) = true
 resets_unit _ = false
 
-void_made : (ms : Mappings) (g n : ℕ) (p : Endpoint) (o : LocalAct) → LegalLocalAct ms g p o → (k : ℕ) → k < (act_alone p n o).orders → (act_alone p n o).order_state k
-    ≡ Void → k < p.orders
+void_made : (ms : Mappings) (g n : ℕ) (p : Endpoint) (o : LocalAct) → LegalLocalAct ms g p o → (k : ℕ) → k < (act_alone p n o).orders
+    → (act_alone p n o).order_state k ≡ Void → k < p.orders
 void_made ms g n p o l k made v = grind (arith, nat_tests)
 
 was_void : (ms : Mappings) (g n : ℕ) (p : Endpoint) (o : LocalAct) → LegalLocalAct ms g p o → resets_unit o ≡ false → (k : ℕ) → k < p.orders

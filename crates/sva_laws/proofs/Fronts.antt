@@ -46,8 +46,8 @@ pub record Fronts (cookies : ℕ) (p : Endpoint) : Type 0 where
 
 rise_kept : (ms : Mappings) (g n cookies : ℕ) (p : Endpoint) (o : LocalAct) → LegalLocalAct ms g p o → HasCookie cookies o → p.waits_end ≤ cookies
     → (k j c d : ℕ) (x y : Bool) → (k < j → j < p.orders → p.order k ≡ Wait c x → p.order j ≡ Wait d y → c < d)
-    → (k < p.orders → p.order k ≡ Wait c x → c < p.waits_end) → k < j → j < (act_alone p n o).orders → (act_alone p n o).order k ≡ Wait c x → (act_alone p n o).order j
-    ≡ Wait d y → c < d
+    → (k < p.orders → p.order k ≡ Wait c x → c < p.waits_end) → k < j → j < (act_alone p n o).orders
+    → (act_alone p n o).order k ≡ Wait c x → (act_alone p n o).order j ≡ Wait d y → c < d
 rise_kept ms g n cookies p o l hc given k j c d x y old below lt made h i = grind (arith, nat_tests)
 
 below_kept : (ms : Mappings) (g n cookies : ℕ) (p : Endpoint) (o : LocalAct) → LegalLocalAct ms g p o → HasCookie cookies o → p.waits_end ≤ cookies
@@ -204,8 +204,8 @@ greatest_kept p n o true e h = absurd (grind arith)
 draining_kept : (ms : Mappings) (g n cookies : ℕ) (p : Endpoint) (o : LocalAct) → LegalLocalAct ms g p o → SentOnly p → (b w c : ℕ) (x : Bool)
     → (p.stage b ≡ Draining w → w < p.orders) → (p.stage b ≡ Draining w → p.phase ≡ Open → is_queued_or_done (p.order_state w) ≡ true)
     → (w < p.orders → p.order w ≡ Wait c x → c < p.front → (p.order_state w ≡ Done) ⊎ (p.order_state w ≡ Void))
-    → (p.stage b ≡ Draining w → p.order w ≡ Wait c x → p.order_state w ≡ Void → p.front ≤ c) → (act_alone p n o).stage b ≡ Draining w → (act_alone p n o).order w
-    ≡ Wait c x → (act_alone p n o).order_state w ≡ Void → (act_alone p n o).front ≤ c
+    → (p.stage b ≡ Draining w → p.order w ≡ Wait c x → p.order_state w ≡ Void → p.front ≤ c)
+    → (act_alone p n o).stage b ≡ Draining w → (act_alone p n o).order w ≡ Wait c x → (act_alone p n o).order_state w ≡ Void → (act_alone p n o).front ≤ c
 draining_kept ms g n cookies p o l sent b w c x made state passed old h i v = grind (arith, nat_tests)
 
 invalidating_kept : (ms : Mappings) (g n cookies : ℕ) (p : Endpoint) (o : LocalAct) → LegalLocalAct ms g p o → SentOnly p → (b k w c : ℕ) (x : Bool)

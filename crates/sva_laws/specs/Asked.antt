@@ -1,5 +1,5 @@
--- Which pages a worker's success maps, and what its reply is answered. (This project's own; the page requests of a group are those of PCI Express Base 5.0, section
--- 10.4.1, and its code of success that of section 10.4.2.)
+-- Which pages a worker's success maps, and what its reply is answered. (This project's own; the page requests of a group are those of PCI
+-- Express Base 5.0, section 10.4.1, and its code of success that of section 10.4.2.)
 use Rattle.std.specs.Prelude.{◌≡◌, ◌≢◌, ◌⊎◌, ◌↔◌, ℕ, ◌<◌, ◌≤◌, Bool, true, false, Some, List, [], ◌∷◌, ◌++◌, Ok}
 use Rattle.sva_step.specs.declared.answers.Answer.{Answer}
 use Rattle.sva_step.specs.declared.answers.Answer.TheVariants as answer

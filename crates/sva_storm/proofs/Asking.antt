@@ -32,7 +32,8 @@ pub record IsDelivering (message turn : ℕ) (before after : Seat) : Type 0 wher
 
 -- nothing was delivered yet
 pub delivering_none : (seat : Seat) → IsDelivering 0 0 seat seat
-delivering_none seat = record { calls = []; number = refl; kept = sym (append-nil seat.receipts); deliveries = tt; due = refl; below = omega arith; count = refl }
+delivering_none seat =
+    record { calls = []; number = refl; kept = sym (append-nil seat.receipts); deliveries = tt; due = refl; below = omega arith; count = refl }
 
 below_more : (message turn : ℕ) (done : Bool) → message ≤ turn → (if done then message + 1 else message) ≤ turn + 1
 below_more message turn true h = omega arith

@@ -23,8 +23,10 @@ returns-clause-read g c is =
 
 pub returns-clause-write : goal.returns-clause-write
 returns-clause-write g c is =
-    ends_by_writing _ c.args.writer.now c.report_text.new.writer c.report_text.result c.in_ok-text.ensures.end.0 c.requires.writer.1 c.report_text.ensures.told is
+    ends_by_writing _ c.args.writer.now c.report_text.new.writer c.report_text.result c.in_ok-text.ensures.end.0 c.requires.writer.1
+    c.report_text.ensures.told is
 
 pub returns-clause-memory : goal.returns-clause-memory
 returns-clause-memory g c is =
-    ends_for_memory _ c.args.writer.now c.report_text.new.writer c.report_text.result c.in_ok-text.ensures.end.0 c.requires.writer.1 c.report_text.ensures.told is
+    ends_for_memory _ c.args.writer.now c.report_text.new.writer c.report_text.result c.in_ok-text.ensures.end.0 c.requires.writer.1
+    c.report_text.ensures.told is

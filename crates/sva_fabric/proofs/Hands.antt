@@ -1,18 +1,19 @@
 -- What a call has in hand of tokens follows its answer, as the numbers of the journal's world do.
-use Rattle.std.proofs.Common.{◌≡◌, ℕ, ◌+◌, ◌<◌, ◌≤◌, length, sym, ap, subst, ◌∙◌, arith}
-use Rattle.std.specs.Prelude.{Ok, Err}
+use Rattle.std.proofs.Common.{◌≡◌, ℕ, ◌+◌, ◌<◌, ◌≤◌, length, refl, sym, ap, subst, ◌∙◌, arith}
+use Rattle.std.specs.Prelude.{Ok, Err, true}
 use Rattle.sva_step.specs.declared.answers.Answer.{Answer}
 use Rattle.sva_step.specs.declared.answers.Answer.TheVariants as answer
 use Rattle.sva_step.specs.declared.limits.Config.{Config}
 use Rattle.sva_step.specs.declared.steps.Step.{Step}
 use Rattle.sva_step.specs.declared.steps.Step.TheVariants as step
+use Rattle.sva_step.specs.Steps.{is_plain}
 use Rattle.sva_model.specs.Steps.{Reply}
 use Rattle.sva_journal.specs.declared.journal.Entry.{Entry}
 use Rattle.sva_journal.specs.Tallies.{binds, releases, begins, ends}
 use Rattle.sva_journal.specs.Journal.{History, CountsFollow, with_entry, empty_of, bindings_of, uses_of}
 use Rattle.sva_journal.specs.Suiting.{IsBinding, IsUnbound, IsAdvanced, IsUse, IsOver, IsStill, SuitsStep, Suits}
 use Rattle.sva_journal.proofs.Entries.{none_bound, none_used}
-use Rattle.sva_fabric.specs.Stocks.{Totals, totals_of, no_totals, Holding, MayReach, IsHandedIn, IsHandedOut}
+use Rattle.sva_fabric.specs.Stocks.{Totals, totals_of, no_totals, no_token, one_binding, one_use, Holding, MayReach, IsHandedIn, IsHandedOut}
 use Rattle.sva_fabric.proofs.Standing.{length_more}
 
 -- of one kind of token one at most is made, which isn't in hand yet, or spent, which is
@@ -79,6 +80,14 @@ step_suited (step.BeginUse e t q x) a h k i = begin_suited a h k i
 step_suited (step.EndUse e u) a h k i = end_suited a h k i
 step_suited _ a h k i = still_suited a h k
 
+-- a plain step needs no token in hand
+pub plain_handed : (s : Step) → is_plain s ≡ true → IsHandedIn s no_token
+plain_handed (step.Bind e n) h = refl
+plain_handed (step.Advance b) h = absurd (cc)
+plain_handed (step.BeginUse e t q x) h = refl
+plain_handed (step.EndUse e u) h = absurd (cc)
+plain_handed _ h = tt
+
 reply_suited : (s : Step) (r : Reply) (h : Holding) → Suits s r → IsHandedIn s h → AreSuited r h
 reply_suited s (Ok a) h k i = step_suited s a h k i
 reply_suited s (Err e) h k i = suit (Err e) h (none h.bindings) (none h.uses)
@@ -126,3 +135,22 @@ empty_totals config =
     let b = none_bound config in
     let u = none_used config in
     λ i. record { calls = 0; bindings = b i; uses = u i }
+
+-- what is in hand behind a bind, and behind a use that began, where nothing was
+pub one_bound : (before after : Holding) (a : Answer) (b p : ℕ) → before ≡ no_token → a ≡ answer.Binding b p → IsHandedOut before after (Ok a)
+    → after ≡ one_binding
+one_bound before after a b p empty is out =
+    let told : IsHandedOut no_token after (Ok (answer.Binding b p)) =
+    subst (λ (h : Holding). IsHandedOut h after (Ok (answer.Binding b p))) empty (subst (λ (r : Answer). IsHandedOut before after (Ok r)) is out) in
+    let bindings : after.bindings ≡ 1 = omega (arith, told.bindings) in
+    let uses : after.uses ≡ 0 = omega (arith, told.uses) in
+    λ i. record { bindings = bindings i; uses = uses i }
+
+pub one_begun : (before after : Holding) (a : Answer) (s f : ℕ) → before ≡ no_token → a ≡ answer.Use s f → IsHandedOut before after (Ok a)
+    → after ≡ one_use
+one_begun before after a s f empty is out =
+    let told : IsHandedOut no_token after (Ok (answer.Use s f)) =
+    subst (λ (h : Holding). IsHandedOut h after (Ok (answer.Use s f))) empty (subst (λ (r : Answer). IsHandedOut before after (Ok r)) is out) in
+    let bindings : after.bindings ≡ 0 = omega (arith, told.bindings) in
+    let uses : after.uses ≡ 1 = omega (arith, told.uses) in
+    λ i. record { bindings = bindings i; uses = uses i }

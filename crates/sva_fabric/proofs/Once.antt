@@ -1,5 +1,5 @@
 -- Each place of a journal is told by one receipt: by no more, since the places of a port rise and an entry is of one port; so by one each, by counting.
-use Rattle.std.proofs.Common.{◌≡◌, ◌<◌, ◌≤◌, ℕ, zero, suc, ◌+◌, Bool, true, false, Option, Some, List, [], ◌∷◌, length}
+use Rattle.std.proofs.Common.{◌≡◌, ◌<◌, ◌≤◌, ℕ, zero, suc, ◌+◌, Bool, true, false, Option, Some, List, [], ◌∷◌, ◌++◌, length}
 use Rattle.std.proofs.Common.{refl, sym, ap, subst, ◌∙◌, arith, nat_eq}
 use Rattle.std.specs.Prelude.{slice_get, if◌then◌else◌}
 use Rattle.std.proofs.lemmas.Option.{slice_get_within}
@@ -7,8 +7,8 @@ use Rattle.std.proofs.lemmas.Bool.Decides.{nat_tests}
 use Rattle.sva_journal.specs.declared.journal.Entry.{Entry}
 use Rattle.sva_fabric.specs.declared.receipts.Receipt.{Receipt}
 use Rattle.sva_fabric.specs.Receipts.{Seat, AreRising, entry_told}
-use Rattle.sva_fabric.specs.Audits.{AllStand, EachStands, calls_of}
-use Rattle.sva_fabric.specs.Once.{told_at, told_by, AllRise, AuditsTellOnce}
+use Rattle.sva_fabric.specs.Audits.{AllStand, EachStands, calls_of, told_at, told_by, IsToldOnce}
+use Rattle.sva_fabric.specs.Once.{AllRise, AuditsTellOnce}
 
 abbrev one : Bool → ℕ
 one b = if b then 1 else 0
@@ -166,10 +166,20 @@ each_one (suc n) f few all k h =
         let below : k < n = grind (arith, nat_tests) in
         lower below
 
-pub tell_once : AuditsTellOnce
-tell_once h seats held used audit rise found =
-    let n : ℕ = length h.entries in
-    let all : total n (λ k. told_by k seats) ≡ n = total_all n h.entries 0 seats refl found.0 ∙ found.1.0 in (
-      found.0,
-      λ k within. each_one n (λ k. told_by k seats) (λ k. once_by_all k h.entries 0 seats rise found.0) all k within,
+-- where all stand, and are as many as the journal has entries, each place is told once
+pub told_once : (entries : List Entry) (seats : List Seat) → AllRise seats → EachStands entries 0 seats → calls_of seats ≡ length entries
+    → IsToldOnce entries seats
+told_once entries seats rise stand many =
+    let n : ℕ = length entries in
+    let all : total n (λ k. told_by k seats) ≡ n = total_all n entries 0 seats refl stand ∙ many in (
+      stand,
+      λ k within. each_one n (λ k. told_by k seats) (λ k. once_by_all k entries 0 seats rise stand) all k within,
     )
+
+pub tell_once : AuditsTellOnce
+tell_once h seats held used audit rise found = told_once h.entries seats rise found.0 found.1.0
+
+-- the ports of two rows
+pub rise_both : (xs ys : List Seat) → AllRise xs → AllRise ys → AllRise (xs ++ ys)
+rise_both [] ys h k = k
+rise_both (x ∷ xs) ys h k = (h.0, rise_both xs ys h.1 k)

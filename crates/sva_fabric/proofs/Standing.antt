@@ -9,7 +9,7 @@ use Rattle.sva_journal.specs.declared.journal.Entry.{Entry}
 use Rattle.sva_fabric.specs.declared.receipts.Receipt.{Receipt}
 use Rattle.sva_fabric.specs.declared.running.Strayed.{Strayed}
 use Rattle.sva_journal.specs.Journal.{History, IsLegal, CountsOf, entry_of, with_entry}
-use Rattle.sva_fabric.specs.Receipts.{Stands, HasStrayed, AreRising, IsAnswered, IsAnsweredAt, IsCounted, IsAstray, last_of, entry_told}
+use Rattle.sva_fabric.specs.Receipts.{Seat, Stands, HasStrayed, AreRising, IsAnswered, IsAnsweredAt, IsCounted, IsAstray, last_of, entry_told}
 
 get_before : {A : Type 0} (xs ys : List A) (k : ℕ) (x : A) → slice_get xs k ≡ Some x → slice_get (xs ++ ys) k ≡ Some x
 get_before [] ys k x h = absurd (cc)
@@ -73,3 +73,23 @@ rising_more (a ∷ b ∷ rs) r P h last = (
 pub length_more : {A : Type 0} (xs : List A) (x : A) → length (xs ++ x ∷ []) ≡ length xs + 1
 length_more [] x = refl
 length_more (a ∷ xs) x = omega (arith, length_more xs x)
+
+-- the port behind a call that was answered: its receipts are the old ones and this one, whose place is above theirs; and it counts each
+pub port_more : (number : ℕ) (old grown new : List Receipt) (s : Seat) (r : Receipt) → record { number = number; receipts = old } ≡ s
+    → grown ≡ old → new ≡ grown ++ r ∷ [] → record { number = number; receipts = new } ≡ record s { receipts = s.receipts ++ r ∷ [] }
+port_more number old grown new s r is same more =
+    ap (λ (rs : List Receipt). record { number = number; receipts = rs }) (more ∙ ap (λ (rs : List Receipt). rs ++ r ∷ []) same)
+    ∙ ap (λ (t : Seat). record t { receipts = t.receipts ++ r ∷ [] }) is
+
+pub rise_more : (config : Config) (port : ℕ) (old grown new : List Receipt) (last : Option Receipt) (step : Step) (r : Receipt) → AreRising old
+    → last ≡ last_of old → IsAnswered config port last step r → grown ≡ old → new ≡ grown ++ r ∷ [] → AreRising new
+rise_more config port old grown new last step r rise is here same more =
+    let there : IsAnswered config port (last_of old) step r = subst (λ (o : Option Receipt). IsAnswered config port o step r) is here in
+    let all : new ≡ old ++ r ∷ [] = more ∙ ap (λ (rs : List Receipt). rs ++ r ∷ []) same in
+    subst AreRising (sym all) (rising_more old r (λ (l : Receipt). Stands there.journal.entries port l) rise there.last_stands)
+
+pub counts_more : (after before : ℕ) (old grown new : List Receipt) (r : Receipt) → after ≡ before + 1 → before ≡ length old → grown ≡ old
+    → new ≡ grown ++ r ∷ [] → after ≡ length new
+counts_more after before old grown new r one is same more =
+    let all : new ≡ old ++ r ∷ [] = more ∙ ap (λ (rs : List Receipt). rs ++ r ∷ []) same in
+    one ∙ (ap (λ (n : ℕ). n + 1) is ∙ (sym (length_more old r) ∙ sym (ap length all)))

@@ -1,5 +1,5 @@
 -- The audit at the end: the receipts of all ports against the journal.
-use Rattle.std.specs.Prelude.{◌≡◌, ◌≤◌, ◌⊎◌, ℕ, ◌+◌, Result, Ok, Err, List, [], ◌∷◌, ◌++◌, length}
+use Rattle.std.specs.Prelude.{◌≡◌, ◌≤◌, ◌<◌, ◌⊎◌, ℕ, ◌+◌, Result, Ok, Err, List, [], ◌∷◌, ◌++◌, length, if◌then◌else◌, nat_eq, IfOk}
 use Rattle.sva_step.specs.declared.limits.Config.{Config}
 use Rattle.sva_model.specs.Steps.{counts}
 use Rattle.sva_journal.specs.declared.journal.Entry.{Entry}
@@ -73,9 +73,23 @@ IsAudit h seats held used (Err bad) =
     IsFirstBadOf h.entries 0 seats bad.port bad.place
     ⊎ (EachStands h.entries 0 seats × (AddUp h seats held used → ⊥) × (bad.port ≡ length seats) × (bad.place ≡ length h.entries))
 
+-- how many of a port's receipts name a place
+abbrev pub told_at : (place : ℕ) → List Receipt → ℕ
+told_at k [] = 0
+told_at k (r ∷ rest) = (if nat_eq r.place k then 1 else 0) + told_at k rest
+
+-- how many of all ports' receipts do
+abbrev pub told_by : (place : ℕ) → List Seat → ℕ
+told_by k [] = 0
+told_by k (s ∷ seats) = told_at k s.receipts + told_by k seats
+
+-- each receipt's entry stands at its place, and of each place one receipt tells
+abbrev pub IsToldOnce : List Entry → List Seat → Type 0
+IsToldOnce entries seats = EachStands entries 0 seats × ((k : ℕ) → k < length entries → told_by k seats ≡ 1)
+
 -- what a call that takes the journal out of the lock says: there is a legal journal of the config that was opened of which this is the
--- audit; it has each call of these ports, and, where these are all ports, no other; and there are no more tokens than its world has
--- unreleased bindings and taken use slots
+-- audit; it has each call of these ports, and, where these are all ports, no other; there are no more tokens than its world has
+-- unreleased bindings and taken use slots; and where nothing is found wrong it is what the ports' receipts tell, each once
 pub record IsFinished (config : Config) (parts : ℕ) (seats : List Seat) (held used : ℕ) (result : Result Audit FirstBadReceipt) : Type 0 where
   pub journal : History
   pub legal : IsLegal journal
@@ -85,3 +99,4 @@ pub record IsFinished (config : Config) (parts : ℕ) (seats : List Seat) (held 
   pub few_held : held ≤ bindings_of journal
   pub few_used : used ≤ uses_of journal
   pub is_audit : IsAudit journal seats held used result
+  pub once : IfOk result (λ audit. IsToldOnce journal.entries seats)

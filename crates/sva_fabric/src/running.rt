@@ -8,7 +8,8 @@ ghost use Rattle.sva_journal.specs.Journal.{IsLegal, CountsOf, bindings_of, uses
 ghost use Rattle.sva_journal.specs.Suiting.{Suits};
 ghost use Rattle.sva_fabric.specs.Receipts.{Stands, IsAnsweredAt, IsRefusedAt, HasStrayed};
 ghost use Rattle.sva_fabric.specs.Stocks.{no_totals, IsHandedIn, IsHandedOut};
-ghost use Rattle.sva_fabric.specs.Audits.{held_by, used_by, seats_of, AllStand, IsFirstBad, EachStands, IsFirstBadOf, calls_of, IsAudit};
+ghost use Rattle.sva_fabric.specs.Audits.{held_by, used_by, seats_of, AllStand, IsFirstBad, EachStands, IsFirstBadOf, calls_of, IsAudit, IsToldOnce};
+ghost use Rattle.sva_fabric.specs.Once.{AllRise};
 
 use crate::audits::{Audit, FirstBadReceipt};
 use crate::books::Books;
@@ -159,6 +160,7 @@ impl<C: Tally> Running<C> {
     /// Compares the receipts of all ports with the journal, and the tokens with its world's unreleased bindings and taken use slots.
     pub fn audit(&self, ports: &Ports<C>, tokens: &Tokens<C>) -> Result<Audit, FirstBadReceipt>
         ensures audit { IsAudit self.now (seats_of ports.now) (held_by tokens.now) (used_by tokens.now) result }
+        ensures once { IfOk result (λ audit. IsToldOnce self.now.entries (seats_of ports.now)) }
         ensures legal { IsLegal self.now }
         ensures config { self.now.config ≡ C.config }
     {
@@ -241,6 +243,7 @@ impl<C: Tally> Running<C> {
     fn first_bad_from(&self, first: u64, ports: &[Port<C>]) -> Option<FirstBadReceipt>
         requires { first + length ports.now < 2 ^ 64 }
         ensures none { IfNone result (EachStands self.now.entries first ports.now) }
+        ensures rise { IfNone result (AllRise ports.now) }
         ensures some { IfSome result (λ bad. IsFirstBadOf self.now.entries first ports.now bad.port bad.place) }
     {
         let mut number = first;
@@ -259,6 +262,7 @@ impl<C: Tally> Running<C> {
     // The first receipt that doesn't stand.
     fn first_bad(&self, ports: &Ports<C>) -> Option<FirstBadReceipt>
         ensures none { IfNone result (EachStands self.now.entries 0 (seats_of ports.now)) }
+        ensures rise { IfNone result (AllRise (seats_of ports.now)) }
         ensures some { IfSome result (λ bad. IsFirstBadOf self.now.entries 0 (seats_of ports.now) bad.port bad.place) }
     {
         if let Some(place) = self.first_bad_of(0, ports.host.receipts()) {

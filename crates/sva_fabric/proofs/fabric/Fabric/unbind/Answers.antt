@@ -1,8 +1,7 @@
-use Rattle.std.proofs.Common.{ℕ, refl, ap, subst}
-use Rattle.std.specs.Prelude.{Ok}
+use Rattle.std.proofs.Common.{ℕ, refl, ap}
 use Rattle.sva_step.specs.declared.steps.Step.TheVariants as step
-use Rattle.sva_fabric.specs.Tokens.{HasCalled, IsFault}
 use Rattle.sva_fabric.specs.Stocks.{LeaseNumbers}
+use Rattle.sva_fabric.proofs.Calls.{of_step, fault_of}
 use Rattle.sva_fabric.proofs.fabric.Fabric.unbind.Goals as goal
 
 pub returns-in-Ok-clause-leaving : goal.returns-in-Ok-clause-leaving
@@ -11,8 +10,7 @@ returns-in-Ok-clause-leaving g c = (
   record {
     said = c.in-Ok.field-0;
     suits = c.in-Ok.ensures.suits;
-    called = subst (λ (n : ℕ). HasCalled g.C.Tally.config c.args.port.now c.answer.new.port (step.Unbind n) (Ok c.in-Ok.field-0))
-        c.binding-binding.ensures c.in-Ok.ensures.called;
+    called = of_step c.in-Ok.ensures.called (ap (λ (n : ℕ). step.Unbind n) c.binding-binding.ensures);
   },
 )
 
@@ -25,6 +23,6 @@ returns-clause-leaving g c = tt
 pub returns-clause-fault : goal.returns-clause-fault
 returns-clause-fault g c = (
   refl,
-  subst (λ (n : ℕ). IsFault g.C.Tally.config c.args.port.now c.answer.new.port (step.Unbind n) c.in-Err.fault)
-      c.binding-binding.ensures c.in-Err.ensures.fault,
+  fault_of g.C.Tally.config c.args.port.now c.answer.new.port c.in-Err.fault c.in-Err.ensures.fault
+      (ap (λ (n : ℕ). step.Unbind n) c.binding-binding.ensures),
 )

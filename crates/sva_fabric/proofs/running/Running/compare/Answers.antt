@@ -1,4 +1,4 @@
-use Rattle.std.proofs.Common.{◌≤◌, ℕ, length, sym, ap, subst, ◌∙◌, arith}
+use Rattle.std.proofs.Common.{sym, ap, ◌∙◌, arith}
 use Rattle.sva_fabric.specs.Stocks.{Totals}
 use Rattle.sva_fabric.proofs.running.Running.compare.Goals as goal
 

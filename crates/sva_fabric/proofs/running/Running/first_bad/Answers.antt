@@ -2,6 +2,8 @@ use Rattle.std.proofs.Common.{◌≡◌, ◌+◌, List, ℕ, length, ap, subst, 
 use Rattle.sva_fabric.specs.declared.receipts.Receipt.{Receipt}
 use Rattle.sva_fabric.specs.Receipts.{Seat}
 use Rattle.sva_fabric.specs.Audits.{AllStand, EachStands, IsFirstBadOf}
+use Rattle.sva_fabric.specs.Once.{AllRise}
+use Rattle.sva_fabric.proofs.Once.{rise_both}
 use Rattle.sva_fabric.proofs.Sums.{each_append, bad_before, bad_behind, none_map, some_map}
 use Rattle.sva_fabric.proofs.running.Running.first_bad.Goals as goal
 
@@ -44,6 +46,20 @@ returns-clause-none g c =
       ),
     ))
     c.first_bad_from-2.ensures.none
+
+pub returns-clause-rise : goal.returns-clause-rise
+returns-clause-rise g c =
+    let p = c.args.ports.now in
+    let each : AllRise p.endpoints.items = subst AllRise c.as_slice-endpoints.ensures.value c.in_default-first_bad_from.ensures.rise in
+    none_map c.first_bad_from-2.result
+    (λ (rest : AllRise c.as_slice-workers.result.now). (
+      c.receipts.ensures.rising,
+      (
+        c.receipts-2.ensures.rising,
+        (c.receipts-3.ensures.rising, rise_both p.endpoints.items p.workers.items each (subst AllRise c.as_slice-workers.ensures.value rest)),
+      ),
+    ))
+    c.first_bad_from-2.ensures.rise
 
 pub returns-clause-some : goal.returns-clause-some
 returns-clause-some g c =

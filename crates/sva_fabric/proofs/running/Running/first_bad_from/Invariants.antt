@@ -1,5 +1,6 @@
 use Rattle.std.proofs.Common.{◌≡◌, ◌+◌, ℕ, drop}
 use Rattle.sva_fabric.specs.Audits.{EachStands, IsFirstBadOf}
+use Rattle.sva_fabric.specs.Once.{AllRise}
 use Rattle.sva_fabric.proofs.running.Running.first_bad_from.Given as goal
 
 -- what holds of the ports that are left gives what holds of all
@@ -8,4 +9,5 @@ invariant-loop-port g l =
     (EachStands l.self.entries l.number (drop l.port-index l.ports) → EachStands l.self.entries l.fn.first l.ports)
     × ((port place : ℕ) → IsFirstBadOf l.self.entries l.number (drop l.port-index l.ports) port place
     → IsFirstBadOf l.self.entries l.fn.first l.ports port place)
+    × (AllRise (drop l.port-index l.ports) → AllRise l.ports)
     × (l.number ≡ l.fn.first + l.port-index)

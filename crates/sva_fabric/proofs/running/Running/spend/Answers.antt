@@ -1,5 +1,4 @@
-use Rattle.std.proofs.Common.{ap, arith, ◌∙◌}
-use Rattle.sva_fabric.specs.Stocks.{Totals}
+use Rattle.std.proofs.Common.{◌∙◌}
 use Rattle.sva_fabric.proofs.running.Running.spend.Goals as goal
 
 pub invariant_of-self : goal.invariant_of-self

@@ -1,0 +1,13 @@
+use Rattle.std.proofs.Common.{◌≡◌, length, true, ap, ◌∙◌}
+use Rattle.sva_journal.specs.Journal.{History}
+use Rattle.sva_fabric.specs.Audits.{calls_of, seats_of}
+use Rattle.sva_fabric.proofs.Once.{told_once}
+use Rattle.sva_fabric.proofs.running.Running.audit.Goals as goal
+use Rattle.sva_fabric.proofs.running.Running.audit.Goals.{then-adds_up, else-adds_up}
+
+pub returns-clause-once : goal.returns-clause-once
+returns-clause-once g c =
+    let all : c.adds_up.result ≡ true = elim c.if-adds_up.branch [ then-adds_up w ↦ w.if-adds_up.true | else-adds_up w ↦ absurd (cc) ] in
+    let many : calls_of (seats_of c.args.ports.now) ≡ length c.args.self.now.entries =
+    c.adds_up.ensures.yes all ∙ (c.calls-calls.ensures.calls ∙ ap (λ (h : History). length h.entries) c.self.view_is) in
+    told_once c.args.self.now.entries (seats_of c.args.ports.now) c.in_default.ensures.rise c.in_default.ensures.none many

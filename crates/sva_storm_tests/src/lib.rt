@@ -1,10 +1,16 @@
-//! The tests of loops and storms. `sva_word_tests` says why they stand in a crate of their own; that it is another than `sva_thread_tests` lets
-//! the tests of what lies under the lock go on beside the proofs of `sva_storm`.
+//! The tests of loops and storms, and of what a device and a pager are told. `sva_word_tests` says why they stand in a crate of their own; that it is
+//! another than `sva_thread_tests` lets the tests of what lies under the lock go on beside the proofs of `sva_storm`.
 #![tactic(auto)]
 
 #[cfg(test)]
+mod gates;
+#[cfg(test)]
 mod loops;
+#[cfg(test)]
+mod meetings;
 #[cfg(test)]
 mod storms;
 #[cfg(test)]
 mod tokens;
+#[cfg(test)]
+mod worlds;

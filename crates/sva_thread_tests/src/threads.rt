@@ -1,18 +1,15 @@
-ghost use Rattle.std.specs.Prelude.{◌≡◌};
+//! Two threads that take turns, and three at once.
 
-use crate::worlds::{CONFIG, map};
-use std::alloc::Global;
-use std::marker::Brand;
+use crate::worlds::{Tried, answered, ends_so, map, takes};
 use std::process::Abort;
 use std::sync::{Barrier, Wait};
-use std::test::Fail;
 use std::thread;
 use std::thread::Threads;
-use sva_fabric::{Audit, Blanks, Fabric, Port, Ports, Tally, Tokens};
+use sva_fabric::{Audit, Fabric, Port, Ports, Tally};
 use sva_step::{Answer, Refusal, Step};
 
 // Each of two threads takes a step of its own, in turns: a barrier stands between one turn and the next.
-fn in_turns<C: Tally + Send + Sync, R: Threads + Wait + Abort + Sync>(
+pub(crate) fn in_turns<C: Tally + Send + Sync, R: Threads + Wait + Abort + Sync>(
     rt: &R,
     fabric: &Fabric<C>,
     ports: &mut Ports<C>,
@@ -23,60 +20,29 @@ fn in_turns<C: Tally + Send + Sync, R: Threads + Wait + Abort + Sync>(
     thread::join(
         rt,
         || {
-            let made = fabric.step(rt, host, &Step::Space);
-            assert_eq!(rt; made.map(|r| r.answer), Ok(Ok(Answer::Space { space: 0 })));
+            takes(rt, fabric, host, Step::Space, Answer::Space { space: 0 });
             meet.wait(rt);
             meet.wait(rt);
-            let mapped = fabric.step(rt, host, &map(17));
-            assert_eq!(rt;
-                mapped.map(|r| r.answer),
-                Ok(Ok(Answer::Frame { frame: 1 }))
-            );
+            takes(rt, fabric, host, map(17), Answer::Frame { frame: 1 });
         },
         || {
             meet.wait(rt);
-            let mapped = fabric.step(rt, link, &map(16));
-            assert_eq!(rt;
-                mapped.map(|r| r.answer),
-                Ok(Ok(Answer::Frame { frame: 0 }))
-            );
+            takes(rt, fabric, link, map(16), Answer::Frame { frame: 0 });
             meet.wait(rt);
         },
     );
-}
-
-fn turns<C: Tally + Send + Sync, R: Threads + Wait + Abort + Sync>(
-    rt: &R,
-    alloc: Global,
-    blanks: Blanks,
-) -> Result<(), Fail>
-    requires name { blanks.calls.name ≡ C.name }
-    requires parts { (blanks.calls.parts ≡ C.parts) × (blanks.calls.parts ≡ 6) }
-    requires bindings { blanks.bindings.name ≡ C.bindings }
-    requires uses { blanks.uses.name ≡ C.uses }
-    requires config { C.config ≡ CONFIG }
-{
-    let Ok((fabric, mut ports)) = Fabric::<C>::open(alloc, CONFIG, blanks) else {
-        return Err("it opens".into());
-    };
-    in_turns(rt, &fabric, &mut ports);
-    assert_eq!(rt; (ports.host.calls(), ports.link.calls()), (2, 1));
-    let audit = fabric.finish(ports, Tokens::new(alloc));
-    assert_eq!(rt;
-        audit,
-        Ok(Audit {
-            calls: 3,
-            free: 2,
-            mapped: 2,
-            withheld: 0
-        })
-    );
-    Ok(())
+    assert!(rt; ports.host.calls() == 2 && ports.link.calls() == 1);
 }
 
 #[test]
-fn two_threads_take_turns(rt: HostRuntime) -> Result<(), Fail> {
-    turns::<Brand, _>(&rt, rt.alloc(), Blanks::new(&CONFIG))
+fn two_threads_take_turns(rt: HostRuntime) {
+    let audit = Audit {
+        calls: 3,
+        free: 2,
+        mapped: 2,
+        withheld: 0,
+    };
+    assert!(rt; ends_so(&rt, rt.alloc(), Tried::Turns, audit));
 }
 
 // What a look at one of five frames answers, of which there are four.
@@ -90,8 +56,8 @@ fn look_answer(frame: u64) -> Result<Answer, Refusal> {
 
 // One look, whose answer is known.
 fn look<C: Tally, R: Wait + Abort>(rt: &R, fabric: &Fabric<C>, port: &mut Port<C>, frame: u64) {
-    let looked = fabric.step(rt, port, &Step::Look { frame });
-    assert_eq!(rt; looked.map(|r| r.answer), Ok(look_answer(frame)));
+    let looked = answered(rt, fabric, port, &Step::Look { frame });
+    assert!(rt; looked == look_answer(frame));
 }
 
 // As many looks as the turns.
@@ -107,7 +73,7 @@ fn look_often<C: Tally, R: Wait + Abort>(
 }
 
 // A thread for each endpoint, and one for each worker.
-fn at_once<C: Tally + Send + Sync, R: Threads + Wait + Abort + Sync>(
+pub(crate) fn at_once<C: Tally + Send + Sync, R: Threads + Wait + Abort + Sync>(
     rt: &R,
     fabric: &Fabric<C>,
     ports: &mut Ports<C>,
@@ -129,35 +95,13 @@ fn at_once<C: Tally + Send + Sync, R: Threads + Wait + Abort + Sync>(
     });
 }
 
-fn looks<C: Tally + Send + Sync, R: Threads + Wait + Abort + Sync>(
-    rt: &R,
-    alloc: Global,
-    blanks: Blanks,
-) -> Result<(), Fail>
-    requires name { blanks.calls.name ≡ C.name }
-    requires parts { (blanks.calls.parts ≡ C.parts) × (blanks.calls.parts ≡ 6) }
-    requires bindings { blanks.bindings.name ≡ C.bindings }
-    requires uses { blanks.uses.name ≡ C.uses }
-    requires config { C.config ≡ CONFIG }
-{
-    let Ok((fabric, mut ports)) = Fabric::<C>::open(alloc, CONFIG, blanks) else {
-        return Err("it opens".into());
-    };
-    at_once(rt, &fabric, &mut ports);
-    let audit = fabric.finish(ports, Tokens::new(alloc));
-    assert_eq!(rt;
-        audit,
-        Ok(Audit {
-            calls: 2500,
-            free: 4,
-            mapped: 0,
-            withheld: 0
-        })
-    );
-    Ok(())
-}
-
 #[test]
-fn three_threads_at_once(rt: HostRuntime) -> Result<(), Fail> {
-    looks::<Brand, _>(&rt, rt.alloc(), Blanks::new(&CONFIG))
+fn three_threads_at_once(rt: HostRuntime) {
+    let audit = Audit {
+        calls: 2500,
+        free: 4,
+        mapped: 0,
+        withheld: 0,
+    };
+    assert!(rt; ends_so(&rt, rt.alloc(), Tried::Looks, audit));
 }

@@ -1,10 +1,10 @@
 use Rattle.sva_thread_tests.proofs.straying.a_receipt_that_does_not_stand.Given as goal
 
-abbrev pub ghosts-strays-C-Ledger : goal.ghosts-strays-C-Ledger
-ghosts-strays-C-Ledger g a = record { name = a.blanks.calls.name; parts = a.blanks.calls.parts }
+abbrev pub ghosts-tried-C-Ledger : goal.ghosts-tried-C-Ledger
+ghosts-tried-C-Ledger g a = record { name = a.blanks.calls.name; parts = a.blanks.calls.parts }
 
-abbrev pub ghosts-strays-C-Tally : goal.ghosts-strays-C-Tally
-ghosts-strays-C-Tally g a = record {
+abbrev pub ghosts-tried-C-Tally : goal.ghosts-tried-C-Tally
+ghosts-tried-C-Tally g a = record {
   config = record { endpoints = 2; frames = 4; workers = 1; first = 0 };
   bindings = a.blanks.bindings.name;
   uses = a.blanks.uses.name;

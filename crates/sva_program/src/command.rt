@@ -14,7 +14,7 @@ const MOST_TURNS: u64 = 1_000_000;
 const USUAL_TURNS: u64 = 10_000;
 
 /// A command of the program.
-#[derive(Clone, Copy, Debug, PartialEq, Eq)]
+#[derive(Clone, Copy, PartialEq, Eq)]
 pub enum Asked {
     /// The report of a run of the steps.
     Replay,
@@ -25,6 +25,11 @@ pub enum Asked {
         /// How many turns each thread has: 1 to 1000000.
         turns: u64,
     },
+}
+
+/// What `--help` says. The text is long, and a body that names a constant has it written out in its proof: so this one alone does.
+fn whole_help() -> &'static str {
+    HELP
 }
 
 /// The option `--turns`.
@@ -50,7 +55,9 @@ fn with_bare<'a>(
 ) -> Result<Command<'a>, AllocError>
     ensures { IfOk result (λ command. app_of command ≡ with_subcommand (app_of svahost.entry) (new_app name.entry.now).top) }
 {
-    let command = Command::new(alloc, name).about(about).long_about(HELP);
+    let command = Command::new(alloc, name)
+        .about(about)
+        .long_about(whole_help());
     svahost.subcommand(command)
 }
 
@@ -58,7 +65,9 @@ fn with_bare<'a>(
 fn with_storm<'a>(svahost: Command<'a>, alloc: Global) -> Result<Command<'a>, AllocError>
     ensures { IfOk result (λ command. app_of command ≡ with_subcommand (app_of svahost.entry) (with_rule (new_app (codes "storm")) turns_rule).top) }
 {
-    let storm = Command::new(alloc, "storm").about(STORM).long_about(HELP);
+    let storm = Command::new(alloc, "storm")
+        .about(STORM)
+        .long_about(whole_help());
     let with_turns = storm.arg(turns_option(alloc))?;
     svahost.subcommand(with_turns)
 }
@@ -71,7 +80,7 @@ fn command<'a>(alloc: Global) -> Result<Command<'a>, AllocError>
         .bin_name("svahost")?
         .version(VERSION)
         .about(ABOUT)
-        .long_about(HELP)
+        .long_about(whole_help())
         .subcommand_required(true)
         .disable_help_subcommand(true);
     let replaying = with_bare(bare, alloc, "replay", REPLAY)?;

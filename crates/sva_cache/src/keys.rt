@@ -5,7 +5,7 @@ use std::cmp::Ordering;
 use std::marker::Model;
 
 /// How many comparisons of keys were made. Only a comparison adds to it.
-#[derive(Debug, Drop)]
+#[derive(Drop)]
 pub struct Ticks {
     count: u32,
 }
@@ -35,7 +35,7 @@ impl Ticks {
 }
 
 /// The key of a cached translation: its PASID, and its page within that. Keys have no equality and no order but `compare`.
-#[derive(Clone, Copy, Debug, Default)]
+#[derive(Clone, Copy, Default)]
 pub struct CacheKey {
     pasid: u64,
     page: u64,

@@ -81,7 +81,7 @@ pub struct Finishing {
 }
 
 /// What an endpoint made of a message.
-#[derive(Clone, Copy, Debug)]
+#[derive(Clone, Copy)]
 pub struct Received {
     /// What came of it.
     pub answer: Answer,

@@ -14,7 +14,7 @@ use std::marker::Model;
 const TAGS: usize = 32;
 
 /// A tag in use, and how many of the completions that it waits for have arrived.
-#[derive(Clone, Copy, Debug)]
+#[derive(Clone, Copy)]
 pub enum Busy {
     /// None has arrived, so their count isn't known.
     Fresh,
@@ -101,7 +101,7 @@ fn first_free(places: &[Option<Busy>]) -> Option<usize>
 }
 
 /// The 32 tags of a unit. No call takes memory.
-#[derive(Debug, Drop)]
+#[derive(Drop)]
 pub struct Itags {
     places: ArrayVec<Option<Busy>, TAGS>,
 }

@@ -14,7 +14,7 @@ use sva_step::NUMBERS;
 /// The messages in flight, each under its number, in order of age.
 ///
 /// Numbers are given in the order of sending, so a smaller one is older. They lie below 2^63, and none is given twice.
-#[derive(Debug, Drop)]
+#[derive(Drop)]
 pub struct Bag {
     messages: IndexMap<u64, Message>,
     next: u64,

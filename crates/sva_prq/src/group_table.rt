@@ -15,7 +15,7 @@ use sva_msg::PageRequest;
 const CELLS: usize = 256;
 
 // A page request group that is filed in part or whole and not answered.
-#[derive(Debug, Drop)]
+#[derive(Drop)]
 struct Group {
     // How many groups began before it. It tells the group from all others.
     serial: u64,
@@ -241,7 +241,7 @@ fn room_after(slots: &Slab<Group>, room: usize, gone: usize) -> usize
 ///
 /// To file and to answer costs what the group costs, however many others are open, as long as units are below 8, indexes
 /// below 32, and a unit has no two unfinished groups of one index. `open_of` and `drop_unit` look at each open group once.
-#[derive(Debug, Drop)]
+#[derive(Drop)]
 pub struct Groups {
     slots: Slab<Group>,
     // By unit and index, the key that any unfinished group of the cell has. A cell in which a group began while another

@@ -19,7 +19,7 @@ pub struct Ask {
 }
 
 /// A whole page request group, to be answered by one response (PCI Express Base 5.0, section 10.4.2).
-#[derive(Debug, Drop)]
+#[derive(Drop)]
 pub struct Job {
     pub(crate) unit: u64,
     pub(crate) binding: u64,

@@ -8,7 +8,7 @@ use sva_msg::PageRequest;
 const PLACES: usize = 32;
 
 // A page request as it lies in the table, whose unused places hold blank ones.
-#[derive(Clone, Copy, Debug)]
+#[derive(Clone, Copy)]
 struct Arrival {
     request: PageRequest,
 }
@@ -44,7 +44,7 @@ impl Default for Arrival {
 
 /// The page request queue of a remapping unit (Intel VT-d, "Page Request Queue"): 32 places, first in, first out. It is
 /// seen as the list of the requests that wait, the oldest first. No call takes memory.
-#[derive(Debug, Drop)]
+#[derive(Drop)]
 pub struct PageQueue {
     waiting: ArrayVec<Arrival, PLACES>,
 }

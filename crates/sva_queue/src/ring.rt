@@ -10,7 +10,7 @@ const PLACES: usize = 64;
 
 /// Up to 64 descriptors, first in, first out. They lie in a table of 64 places, from the place `head` on and round the table's
 /// end; what is in it never moves.
-#[derive(Debug, Drop)]
+#[derive(Drop)]
 pub struct Ring {
     places: ArrayVec<Descriptor, PLACES>,
     head: usize,

@@ -36,7 +36,7 @@ fn number_after(first: u64, descriptors: &[Descriptor]) -> u64
 /// The invalidation queue of one remapping unit and the tags of the Invalidate Requests that it sent. Descriptors leave
 /// the queue in the order of their submission, and a wait only where no tag is busy. By its front a submitter knows which of
 /// its waits are done. No call takes memory.
-#[derive(Debug, Drop)]
+#[derive(Drop)]
 pub struct Unit {
     queue: Ring,
     tags: Itags,

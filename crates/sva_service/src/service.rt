@@ -14,7 +14,7 @@ pub const MOST_WORKERS: usize = 4;
 /// The page request groups that are open at the host, the jobs that whole groups make, and the hands of the workers that
 /// answer them. Jobs form one queue over all units, first in, first out, and a worker holds one job at most. Only `reserve`
 /// takes memory.
-#[derive(Debug, Drop)]
+#[derive(Drop)]
 pub struct Service {
     groups: Groups,
     // The jobs that no worker has taken, the oldest first.

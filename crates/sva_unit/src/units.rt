@@ -39,7 +39,7 @@ fn sending_of(itag: u8, order: Descriptor) -> Sending
 /// One remapping unit of the host: its invalidation queue, the ITags of the Invalidate Requests that it sent, and its page
 /// request queue (Intel VT-d, "Queued Invalidation Interface" and "Page Request Queue"). It is seen as the definitions by
 /// labels see it. No call takes memory.
-#[derive(Debug, Drop)]
+#[derive(Drop)]
 pub struct Unit {
     queue: sva_queue::Unit,
     requests: PageQueue,

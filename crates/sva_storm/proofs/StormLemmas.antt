@@ -1,5 +1,5 @@
 -- What a storm's audit counts, and how many ports a world has.
-use Rattle.std.proofs.Common.{◌≡◌, ◌∙◌, ◌≤◌, ℕ, zero, suc, ◌+◌, List, [], ◌∷◌, ◌++◌, length, map, Ok, ap, arith, refl}
+use Rattle.std.proofs.Common.{◌≡◌, ◌∙◌, ◌≤◌, ℕ, zero, suc, ◌+◌, List, [], ◌∷◌, ◌++◌, length, map, Result, Ok, ap, subst, arith, refl}
 use Rattle.std.proofs.Common.{length-append}
 use Rattle.sva_step.specs.declared.limits.Config.{Config}
 use Rattle.sva_model.specs.State.PasidRule.{PerSpace}
@@ -7,8 +7,9 @@ use Rattle.sva_model.specs.Journal.{steps_of}
 use Rattle.sva_laws.proofs.Limits.{adds_up}
 use Rattle.sva_laws.proofs.Withheld.{config_kept}
 use Rattle.sva_fabric.specs.declared.audits.Audit.{Audit}
+use Rattle.sva_fabric.specs.declared.audits.FirstBadReceipt.{FirstBadReceipt}
 use Rattle.sva_fabric.specs.declared.ports.Ports.{Ports}
-use Rattle.sva_fabric.specs.Audits.{seats_of, new_seats}
+use Rattle.sva_fabric.specs.Audits.{seats_of, new_seats, IsFinished}
 use Rattle.sva_fabric.specs.Journal.{as_defined, world_of}
 use Rattle.sva_fabric.specs.Receipts.{Seat, seats_from, new_seat}
 use Rattle.sva_storm.specs.Storms.{HasFinished}
@@ -22,6 +23,18 @@ storm_frames config audit h =
     let all = adds_up (world_of f.journal) in
     let kept = ap (λ (c : Config). c.frames) (config_kept PerSpace f.journal.config steps ∙ f.of_config) in
     omega (arith, a.3, a.4, a.5, all, kept)
+
+-- the audit of all ports
+pub has_finished : (config : Config) (parts : ℕ) (seats : List Seat) (held used : ℕ) (result : Result Audit FirstBadReceipt)
+    → parts ≡ 3 + config.endpoints + config.workers → length seats ≡ 3 + config.endpoints + config.workers
+    → IsFinished config parts seats held used result → HasFinished config result
+has_finished config parts seats held used result is all f = record {
+  seats = seats;
+  all = all;
+  held = held;
+  used = used;
+  finished = subst (λ (n : ℕ). IsFinished config n seats held used result) is f;
+}
 
 -- so many seats in a row
 seats_count : (first count : ℕ) → length (seats_from first count) ≡ count

@@ -1,9 +1,9 @@
 //! The threads of a storm: who sits where, and how they are started and joined.
 
-ghost use Rattle.std.specs.Prelude.{◌≡◌, ◌+◌, ◌*◌, ◌<◌, ◌≤◌, ◌||◌, ◌++◌, ◌∷◌, [], true, length, vec_len, vec_capacity, IfOk, OnOk};
+ghost use Rattle.std.specs.Prelude.{◌≡◌, ◌+◌, ◌*◌, ◌<◌, ◌≤◌, ◌||◌, ◌++◌, ◌∷◌, [], length, vec_len, vec_capacity, IfOk, OnOk};
 ghost use Rattle.sva_storm.specs.Lines.{lines_of_player};
 ghost use Rattle.sva_storm.specs.declared.lines.Player.TheVariants as player;
-ghost use Rattle.sva_storm.specs.Lacks.{lacks_of, one_lacks};
+ghost use Rattle.sva_storm.specs.Lacks.{lacks_of, lacks_of_hosts, one_lacks};
 ghost use Rattle.sva_fabric.specs.Audits.{seats_of};
 
 use crate::gates::{Device, Pager};
@@ -71,6 +71,7 @@ impl<C: Tally, D: Device + Drop, P: Pager + Drop> Crew<C, D, P> {
     ) -> Result<Crew<C, D, P>, AllocError>
         requires roles { length (seats_of ports) ≡ 3 + vec_len roles }
         requires few { vec_len roles ≤ 100 }
+        ensures seats { IfOk result (λ crew. vec_len crew.seats ≡ vec_len roles + 2) }
     {
         let (seats, room) = reserved(alloc, roles.len() + 2)?;
         Ok(Crew::filled(alloc, ports, script, roles, turns, seats, room))
@@ -92,6 +93,7 @@ impl<C: Tally, D: Device + Drop, P: Pager + Drop> Crew<C, D, P> {
         requires endpoints { vec_len roles + 2 ≤ vec_capacity room.endpoints }
         requires workers { vec_len roles + 2 ≤ vec_capacity room.workers }
         requires tickets { (vec_len roles + 2) * 16 ≤ vec_capacity room.tickets }
+        ensures seats { vec_len result.seats ≡ vec_len roles + 2 }
     {
         let mut seats = seats;
         let Ports {
@@ -122,6 +124,7 @@ impl<C: Tally, D: Device + Drop, P: Pager + Drop> Crew<C, D, P> {
         C: Send + Sync,
         D: Send,
         P: Send,
+        ensures seats { vec_len self.new.seats ≡ vec_len self.old.seats }
     {
         let Crew { host, seats, .. } = self;
         sit_down(rt, fabric, host.as_mut_slice(), seats.as_mut_slice())
@@ -129,7 +132,8 @@ impl<C: Tally, D: Device + Drop, P: Pager + Drop> Crew<C, D, P> {
 
     // Takes all seats apart: their ports in their order, the tokens that are left, and whether a thread wanted memory.
     pub(crate) fn rise(self) -> (Ports<C>, Tokens<C>, bool)
-        ensures lacked { one_lacks (lacks_of self.seats.items) ≡ true → result.2 ≡ true }
+        ensures lacked { result.2 ≡ (one_lacks (lacks_of self.seats.items) || one_lacks (lacks_of_hosts self.host)) }
+        ensures ports { length (seats_of result.0) ≡ vec_len self.seats + 1 }
     {
         let Crew {
             host,
@@ -157,6 +161,7 @@ impl<C: Tally> Risen<C> {
     // What the host's seat leaves beside it: all ports in their order, all tokens, and whether a thread wanted memory.
     fn with_host(self, host: HostSeat<C>) -> (Ports<C>, Tokens<C>, bool)
         ensures lacked { result.2 ≡ (self.lacked || host.out_of_memory) }
+        ensures ports { length (seats_of result.0) ≡ 3 + vec_len self.endpoints + vec_len self.workers }
     {
         let Risen {
             link,
@@ -327,6 +332,7 @@ fn rise_all<C: Tally, D: Device + Drop, P: Pager + Drop>(
     requires workers { vec_len seats ≤ vec_capacity room.workers }
     requires tickets { vec_len seats * 16 ≤ vec_capacity room.tickets }
     ensures lacked { result.lacked ≡ one_lacks (lacks_of seats.items) }
+    ensures ports { vec_len result.endpoints + vec_len result.workers + 2 ≡ vec_len seats }
 {
     let Room {
         mut tickets,
@@ -383,6 +389,7 @@ fn leave_all<C: Tally, D: Device + Drop, P: Pager + Drop>(
     requires workers { vec_len workers.old + vec_len seats ≤ vec_capacity workers.old }
     requires tickets { vec_len tickets.old + vec_len seats * 16 ≤ vec_capacity tickets.old }
     ensures lacked { result ≡ one_lacks (lacks_of seats.items) }
+    ensures ports { vec_len endpoints.new + vec_len workers.new ≡ vec_len endpoints.old + vec_len workers.old + vec_len seats }
 {
     let mut seats = seats;
     let mut lacked = false;
@@ -406,6 +413,7 @@ fn put_port<C: Tally>(
     requires workers { vec_len workers.old < vec_capacity workers.old }
     ensures endpoints { vec_len endpoints.new ≤ vec_len endpoints.old + 1 }
     ensures workers { vec_len workers.new ≤ vec_len workers.old + 1 }
+    ensures one { vec_len endpoints.new + vec_len workers.new ≡ vec_len endpoints.old + vec_len workers.old + 1 }
     ensures endpoint_room { vec_capacity endpoints.new ≡ vec_capacity endpoints.old }
     ensures worker_room { vec_capacity workers.new ≡ vec_capacity workers.old }
 {

@@ -1,8 +1,8 @@
 //! A storm: a scenario that is played by threads, and the audit that ends it.
 
-ghost use Rattle.std.specs.Prelude.{◌≡◌, ◌≢◌, ◌↔◌, ◌+◌, vec_len, true, false, IfOk, IfErr, Ok, Err};
+ghost use Rattle.std.specs.Prelude.{◌≡◌, ◌≢◌, ◌↔◌, ◌⊎◌, ◌+◌, vec_len, true, false, IfOk, IfErr, Ok, Err};
 ghost use Rattle.sva_step.specs.Limits.{Fits};
-ghost use Rattle.sva_storm.specs.Crews.{is_lacking};
+ghost use Rattle.sva_storm.specs.Crews.{is_lacking, seat_count};
 ghost use Rattle.sva_storm.specs.Storms.{HasFinished, IsFound};
 ghost use Rattle.sva_storm.specs.declared.endings.StormFault.TheVariants as storm_fault;
 
@@ -92,11 +92,13 @@ fn settle<C: Tally, D: Device + Drop, P: Pager + Drop>(
     started: bool,
 ) -> Result<Audit, StormFault>
     requires parts { C.parts ≡ 3 + C.config.endpoints + C.config.workers }
+    requires seats { seat_count crew ≡ 3 + C.config.endpoints + C.config.workers }
     ensures config { result ≢ Err storm_fault.Config }
     ensures audit { IfOk result (λ audit. HasFinished C.config (Ok audit)) }
     ensures bad { IfErr result (λ fault. IsFound C.config fault) }
     ensures lacked { is_lacking crew ≡ true → result ≡ Err storm_fault.Memory }
     ensures started { started ≡ false → result ≡ Err storm_fault.Memory }
+    ensures memory { result ≡ Err storm_fault.Memory → (started ≡ false) ⊎ (is_lacking crew ≡ true) }
 {
     let (ports, tokens, lacked) = crew.rise();
     let audit = fabric.finish(ports, tokens);

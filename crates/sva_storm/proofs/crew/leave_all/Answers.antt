@@ -10,4 +10,5 @@ loop-seats-preserved g c = (
   omega arith,
   lacks_moved c.loop-seats.lacked c.leave_last-port.result.1 (lacks_of c.leave_last-port.new.seats.items) (lacks_of c.loop-seats.seats.items)
       (one_lacks (lacks_of c.args.seats.items)) c.leave_last-port.ensures.lacked c.loop-seats.invariant.3,
+  omega arith,
 )

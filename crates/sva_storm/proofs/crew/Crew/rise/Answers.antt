@@ -1,8 +1,12 @@
-use Rattle.std.proofs.Common.{◌∙◌}
-use Rattle.sva_storm.proofs.Lacking.{or_true}
+use Rattle.std.proofs.Common.{◌≡◌, ◌∙◌, length, sym, arith}
+use Rattle.sva_storm.proofs.Lacking.{either, host_lacks}
 use Rattle.sva_storm.proofs.crew.Crew.rise.Goals as goal
 
-pub returns : goal.returns
-returns g c = record {
-  lacked = λ h. or_true c.rise_all-risen.result.lacked _ c.with_host.result.2 c.with_host.ensures.lacked (c.rise_all-risen.ensures.lacked ∙ h);
-}
+pub returns-clause-ports : goal.returns-clause-ports
+returns-clause-ports g c = omega arith
+
+pub returns-clause-lacked : goal.returns-clause-lacked
+returns-clause-lacked g c =
+    let one : length c.args.self.host ≡ 1 = omega arith in
+    c.with_host.ensures.lacked
+    ∙ either _ _ _ _ c.rise_all-risen.ensures.lacked (sym (host_lacks c.args.self.host c.host-1.given.0 one c.host-1.given.1))

@@ -1,14 +1,16 @@
 -- What the link and the service ask, a call more.
 use Rattle.std.proofs.Common.{◌≡◌, ◌∙◌, ◌≤◌, ℕ, ◌+◌, Bool, true, false, List, [], ◌∷◌, ◌++◌, if◌then◌else◌}
 use Rattle.std.proofs.Common.{length, ap, sym, subst, arith, refl, inl, inr, ◌⊎◌, append_assoc, append-nil, length-append}
+use Rattle.sva_step.specs.declared.limits.Config.{Config}
 use Rattle.sva_step.specs.declared.steps.Step.{Step}
 use Rattle.sva_step.specs.declared.steps.Step.TheVariants.{Deliver}
 use Rattle.sva_fabric.specs.declared.receipts.Receipt.{Receipt}
 use Rattle.sva_fabric.specs.Receipts.{Seat}
-use Rattle.sva_storm.specs.Plays.{is_accepted}
+use Rattle.sva_storm.specs.Plays.{is_accepted, is_memory}
 use Rattle.sva_storm.specs.Asks.{due_after, due_at_last, AreDeliveries, HasDelivered, service_at, AreServices, HasServed, HasAsked, IsAsked}
 use Rattle.sva_storm.specs.declared.endings.Turn.{Turn}
-use Rattle.sva_storm.specs.declared.endings.Turn.TheVariants.{Accepted, Again, Memory, Strayed}
+use Rattle.sva_storm.specs.declared.endings.Turn.TheVariants.{Accepted, Again}
+use Rattle.sva_storm.proofs.Ending.{IsLast, same_at_last, spent_by_last}
 
 pub deliveries_more : (message : ℕ) (calls : List Receipt) (r : Receipt)
     → AreDeliveries message calls → r.step ≡ Deliver (due_at_last message calls) → AreDeliveries message (calls ++ r ∷ [])
@@ -56,17 +58,35 @@ delivering_more message turn before after next done d h =
       count = omega (arith, length-append d.calls (r ∷ []));
     }
 
--- what the link has delivered when it ends, behind a turn that changed nothing too
-pub has_delivered : (message turn used : ℕ) (before after next : Seat)
-    → IsDelivering message turn before after → next ≡ after → turn ≤ used → used ≤ turn + 1 → HasDelivered used before next
-has_delivered message turn used before after next d e few each = record {
+-- what the link has delivered when all its turns are used
+pub has_delivered : (config : Config) (message turn used left : ℕ) (before after : Seat)
+    → IsDelivering message turn before after → used ≡ turn → left ≡ 0 → HasDelivered config used left false before after
+has_delivered config message turn used left before after d all none = record {
   calls = d.calls;
-  number = ap (λ (s : Seat). s.number) e ∙ d.number;
-  kept = ap (λ (s : Seat). s.receipts) e ∙ d.kept;
+  number = d.number;
+  kept = d.kept;
   deliveries = d.deliveries;
   few = let count = d.count in omega arith;
   each = let count = d.count in omega arith;
+  spent = inl (all ∙ sym d.count, none);
 }
+
+-- and when its last turn made no call
+pub delivered_last : (config : Config) (message turn used left : ℕ) (before after next : Seat) (t : Turn)
+    → IsDelivering message turn before after → IsLast config after next t → used ≡ turn + 1
+    → HasDelivered config used left (is_memory t) before next
+delivered_last config message turn used left before after next t d l one =
+    let e = same_at_last config after next t l in
+    let count = d.count in
+    record {
+      calls = d.calls;
+      number = ap (λ (s : Seat). s.number) e ∙ d.number;
+      kept = ap (λ (s : Seat). s.receipts) e ∙ d.kept;
+      deliveries = d.deliveries;
+      few = omega arith;
+      each = omega arith;
+      spent = spent_by_last config (length d.calls) used left after next t l (omega arith);
+    }
 
 pub services_more : (turn endpoints : ℕ) (calls : List Receipt) (r : Receipt)
     → AreServices turn endpoints calls → r.step ≡ service_at (turn + length calls) endpoints → AreServices turn endpoints (calls ++ r ∷ [])
@@ -104,24 +124,42 @@ serving_more endpoints turn before after next done s h =
     }
 
 -- a turn after which the service goes on
-pub serving_after : (endpoints turn : ℕ) (before after next : Seat) (step : Step) (t : Turn)
-    → IsServing endpoints turn before after → step ≡ service_at turn endpoints → IsAsked step after next t → (t ≡ Accepted) ⊎ (t ≡ Again)
+pub serving_after : (config : Config) (endpoints turn : ℕ) (before after next : Seat) (step : Step) (t : Turn)
+    → IsServing endpoints turn before after → step ≡ service_at turn endpoints → IsAsked config step after next t → (t ≡ Accepted) ⊎ (t ≡ Again)
     → IsServing endpoints (turn + 1) before next
-serving_after endpoints turn before after next step t s same h (inl is) =
+serving_after config endpoints turn before after next step t s same h (inl is) =
     serving_more endpoints turn before after next true s
-    (subst (λ x. HasAsked x after next true) same (subst (λ o. IsAsked step after next o) is h))
-serving_after endpoints turn before after next step t s same h (inr is) =
+    (subst (λ x. HasAsked x after next true) same (subst (λ o. IsAsked config step after next o) is h))
+serving_after config endpoints turn before after next step t s same h (inr is) =
     serving_more endpoints turn before after next false s
-    (subst (λ x. HasAsked x after next false) same (subst (λ o. IsAsked step after next o) is h))
+    (subst (λ x. HasAsked x after next false) same (subst (λ o. IsAsked config step after next o) is h))
 
--- what the service has served when it ends, behind a turn that changed nothing too
-pub has_served : (endpoints turn used : ℕ) (before after next : Seat)
-    → IsServing endpoints turn before after → next ≡ after → turn ≤ used → used ≤ turn + 1 → HasServed endpoints used before next
-has_served endpoints turn used before after next s e few each = record {
+-- what the service has served when all its turns are used
+pub has_served : (config : Config) (endpoints turn used left : ℕ) (before after : Seat)
+    → IsServing endpoints turn before after → used ≡ turn → left ≡ 0 → HasServed config endpoints used left false before after
+has_served config endpoints turn used left before after s all none = record {
   calls = s.calls;
-  number = ap (λ (s : Seat). s.number) e ∙ s.number;
-  kept = ap (λ (s : Seat). s.receipts) e ∙ s.kept;
+  number = s.number;
+  kept = s.kept;
   services = s.services;
   few = let count = s.count in omega arith;
   each = let count = s.count in omega arith;
+  spent = inl (all ∙ sym s.count, none);
 }
+
+-- and when its last turn made no call
+pub served_last : (config : Config) (endpoints turn used left : ℕ) (before after next : Seat) (t : Turn)
+    → IsServing endpoints turn before after → IsLast config after next t → used ≡ turn + 1
+    → HasServed config endpoints used left (is_memory t) before next
+served_last config endpoints turn used left before after next t s l one =
+    let e = same_at_last config after next t l in
+    let count = s.count in
+    record {
+      calls = s.calls;
+      number = ap (λ (s : Seat). s.number) e ∙ s.number;
+      kept = ap (λ (s : Seat). s.receipts) e ∙ s.kept;
+      services = s.services;
+      few = omega arith;
+      each = omega arith;
+      spent = spent_by_last config (length s.calls) used left after next t l (omega arith);
+    }

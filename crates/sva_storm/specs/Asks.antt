@@ -1,9 +1,11 @@
 -- What the link and the service ask by the calls of a port.
 use Rattle.std.specs.Prelude.{◌≡◌, ◌≤◌, ◌==◌, ◌/◌, ◌%◌, max, ℕ, ◌+◌, Bool, true, false, List, [], ◌∷◌, ◌++◌, length, if◌then◌else◌}
+use Rattle.sva_step.specs.declared.limits.Config.{Config}
 use Rattle.sva_step.specs.declared.steps.Step.{Step}
 use Rattle.sva_step.specs.declared.steps.Step.TheVariants.{Deliver, Pump, Serve}
 use Rattle.sva_fabric.specs.declared.receipts.Receipt.{Receipt}
 use Rattle.sva_fabric.specs.Receipts.{Seat}
+use Rattle.sva_storm.specs.Ends.{HasStrayed, AreSpent}
 use Rattle.sva_storm.specs.Plays.{is_accepted}
 use Rattle.sva_storm.specs.declared.endings.Turn.{Turn}
 use Rattle.sva_storm.specs.declared.endings.Turn.TheVariants.{Accepted, Again, Memory, Strayed}
@@ -26,13 +28,14 @@ AreDeliveries message (r ∷ receipts) = (r.step ≡ Deliver message) × AreDeli
 
 -- The link has made these calls by its port, one in each turn but perhaps the last: it delivered the messages by their numbers, from 0 on,
 -- each tried until it was accepted.
-pub record HasDelivered (turns_used : ℕ) (before after : Seat) : Type 0 where
+pub record HasDelivered (config : Config) (turns_used turns_left : ℕ) (out_of_memory : Bool) (before after : Seat) : Type 0 where
   pub calls : List Receipt
   pub number : after.number ≡ before.number
   pub kept : after.receipts ≡ before.receipts ++ calls
   pub deliveries : AreDeliveries 0 calls
   pub few : length calls ≤ turns_used
   pub each : turns_used ≤ length calls + 1
+  pub spent : AreSpent config (length calls) turns_used turns_left out_of_memory after
 
 -- ---- The service
 
@@ -50,13 +53,14 @@ AreServices turn endpoints [] = Unit {0}
 AreServices turn endpoints (r ∷ receipts) = (r.step ≡ service_at turn endpoints) × AreServices (turn + 1) endpoints receipts
 
 -- The service has made these calls by its port, one in each turn but perhaps the last: it pumped and served each endpoint in turn.
-pub record HasServed (endpoints turns_used : ℕ) (before after : Seat) : Type 0 where
+pub record HasServed (config : Config) (endpoints turns_used turns_left : ℕ) (out_of_memory : Bool) (before after : Seat) : Type 0 where
   pub calls : List Receipt
   pub number : after.number ≡ before.number
   pub kept : after.receipts ≡ before.receipts ++ calls
   pub services : AreServices 0 endpoints calls
   pub few : length calls ≤ turns_used
   pub each : turns_used ≤ length calls + 1
+  pub spent : AreSpent config (length calls) turns_used turns_left out_of_memory after
 
 -- ---- One turn
 
@@ -67,8 +71,8 @@ pub record HasAsked (step : Step) (before after : Seat) (accepted : Bool) : Type
   pub of_step : receipt.step ≡ step
   pub answered : is_accepted receipt.answer ≡ accepted
 
-abbrev pub IsAsked : Step → (before after : Seat) → Turn → Type 0
-IsAsked step before after Accepted = HasAsked step before after true
-IsAsked step before after Again = HasAsked step before after false
-IsAsked step before after Memory = after ≡ before
-IsAsked step before after Strayed = after ≡ before
+abbrev pub IsAsked : Config → Step → (before after : Seat) → Turn → Type 0
+IsAsked config step before after Accepted = HasAsked step before after true
+IsAsked config step before after Again = HasAsked step before after false
+IsAsked config step before after Memory = after ≡ before
+IsAsked config step before after Strayed = (after ≡ before) × HasStrayed config before

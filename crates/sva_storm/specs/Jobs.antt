@@ -1,7 +1,8 @@
 -- How a worker's calls take and answer jobs.
-use Rattle.std.specs.Prelude.{◌≡◌, ◌≤◌, ℕ, Bool, true, false, not, List, [], ◌∷◌, ◌++◌, length, Result, Ok, Err}
+use Rattle.std.specs.Prelude.{◌≡◌, ◌≤◌, ℕ, ◌+◌, Bool, true, false, not, List, [], ◌∷◌, ◌++◌, length, Result, Ok, Err}
 use Rattle.sva_step.specs.declared.answers.Answer.{Answer}
 use Rattle.sva_step.specs.declared.answers.Answer.TheVariants.{JobTaken}
+use Rattle.sva_step.specs.declared.limits.Config.{Config}
 use Rattle.sva_step.specs.declared.refusals.Refusal.{Refusal}
 use Rattle.sva_step.specs.declared.steps.Step.{Step}
 use Rattle.sva_step.specs.declared.steps.Step.TheVariants.{Take, Reply}
@@ -9,6 +10,7 @@ use Rattle.sva_step.specs.declared.steps.Verdict.{Verdict}
 use Rattle.sva_step.specs.declared.steps.Verdict.TheVariants.{Success, Invalid, Failure}
 use Rattle.sva_fabric.specs.declared.receipts.Receipt.{Receipt}
 use Rattle.sva_fabric.specs.Receipts.{Seat}
+use Rattle.sva_storm.specs.Ends.{HasStrayed, AreSpent}
 use Rattle.sva_storm.specs.Plays.{is_accepted}
 use Rattle.sva_storm.specs.declared.endings.Turn.{Turn}
 use Rattle.sva_storm.specs.declared.endings.Turn.TheVariants.{Accepted, Again, Memory, Strayed}
@@ -38,14 +40,16 @@ abbrev pub AreJobs : (worker : ℕ) → (holds : Bool) → List Receipt → Type
 AreJobs worker holds [] = Unit {0}
 AreJobs worker holds (r ∷ receipts) = IsJobStep worker holds r.step × AreJobs worker (holds_after holds r) receipts
 
--- A loop that began with no job in hand has made these calls by its port, no more than the turns that were used: it took jobs, and
+-- A loop that began with no job in hand has made these calls by its port, one in each turn but perhaps the last: it took jobs, and
 -- answered each before it took the next.
-pub record HasAnswered (worker turns_used : ℕ) (before after : Seat) : Type 0 where
+pub record HasAnswered (config : Config) (worker turns_used turns_left : ℕ) (out_of_memory : Bool) (before after : Seat) : Type 0 where
   pub calls : List Receipt
   pub number : after.number ≡ before.number
   pub kept : after.receipts ≡ before.receipts ++ calls
   pub jobs : AreJobs worker false calls
   pub few : length calls ≤ turns_used
+  pub each : turns_used ≤ length calls + 1
+  pub spent : AreSpent config (length calls) turns_used turns_left out_of_memory after
 
 -- ---- One turn
 
@@ -66,8 +70,8 @@ pub record HasWorked (worker : ℕ) (before after : Seat) (holds held : Bool) : 
   pub of_job : IsJobStep worker holds receipt.step
   pub holding : held ≡ holds_after holds receipt
 
-abbrev pub IsJobTurn : (worker : ℕ) → (before after : Seat) → (holds held : Bool) → Turn → Type 0
-IsJobTurn worker before after holds held Accepted = HasWorked worker before after holds held
-IsJobTurn worker before after holds held Again = HasWorked worker before after holds held
-IsJobTurn worker before after holds held Memory = after ≡ before
-IsJobTurn worker before after holds held Strayed = after ≡ before
+abbrev pub IsJobTurn : Config → (worker : ℕ) → (before after : Seat) → (holds held : Bool) → Turn → Type 0
+IsJobTurn config worker before after holds held Accepted = HasWorked worker before after holds held
+IsJobTurn config worker before after holds held Again = HasWorked worker before after holds held
+IsJobTurn config worker before after holds held Memory = after ≡ before
+IsJobTurn config worker before after holds held Strayed = (after ≡ before) × HasStrayed config before

@@ -1,8 +1,9 @@
+pub mod Ends
+pub mod Hands
 pub mod Plays
 pub mod Lines
 pub mod Jobs
 pub mod Asks
-pub mod Hands
 pub mod Lacks
 pub mod Crews
 pub mod Storms

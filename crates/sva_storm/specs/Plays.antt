@@ -1,5 +1,6 @@
 -- How a script is played by the calls of a port: its lines in order, each tried until it is accepted.
 use Rattle.std.specs.Prelude.{◌≡◌, ◌≤◌, ◌⊎◌, ℕ, ◌+◌, Bool, true, false, List, [], ◌∷◌, ◌++◌, length, Option, Some, Result, Ok, Err, if◌then◌else◌}
+use Rattle.sva_step.specs.declared.limits.Config.{Config}
 use Rattle.sva_step.specs.declared.answers.Answer.{Answer}
 use Rattle.sva_step.specs.declared.refusals.Refusal.{Refusal}
 use Rattle.sva_step.specs.declared.steps.Step.{Step}
@@ -10,6 +11,8 @@ use Rattle.sva_fabric.specs.declared.running.StepFault.TheVariants as step_fault
 use Rattle.sva_fabric.specs.declared.faults.Fault.{Fault}
 use Rattle.sva_fabric.specs.declared.faults.Fault.TheVariants as fault
 use Rattle.sva_fabric.specs.Receipts.{Seat}
+use Rattle.sva_storm.specs.Ends.{HasStrayed}
+use Rattle.sva_storm.specs.Hands.{InHand}
 use Rattle.sva_storm.specs.declared.endings.Turn.{Turn}
 use Rattle.sva_storm.specs.declared.endings.Turn.TheVariants.{Accepted, Again, Memory, Strayed}
 
@@ -60,15 +63,31 @@ abbrev pub ended_by : List Receipt → ℕ
 ended_by [] = 0
 ended_by (r ∷ receipts) = (if is_accepted r.answer then ends r.step else 0) + ended_by receipts
 
+-- the first of these lines is one that is passed over, without a call
+abbrev pub IsPassed : (passes : Step → Bool) → List Step → Type 0
+IsPassed passes [] = ⊥
+IsPassed passes (line ∷ lines) = passes line ≡ true
+
+-- How a loop ended behind so many calls, with these lines left. Where it wanted memory, its last turn made no call, or it had no turn. Else each turn
+-- made a call, and no line or no turn is left; or no turn is left, and the line that is due is passed over; or the last turn made none since the port
+-- had strayed.
+abbrev pub IsPlayed : Config → (passes : Step → Bool) → List Step → (calls turns_used turns_left : ℕ) → (out_of_memory : Bool) → Seat → Type 0
+IsPlayed config passes lines calls used left true seat = (used ≡ calls + 1) ⊎ (used ≡ 0)
+IsPlayed config passes lines calls used left false seat =
+    ((used ≡ calls) × ((lines ≡ []) ⊎ (left ≡ 0)))
+    ⊎ (((left ≡ 0) × IsPassed passes lines) ⊎ ((used ≡ calls + 1) × HasStrayed config seat))
+
 -- A loop has made these calls by its port: they are tries of the script's lines in order, and no more than the turns that were used. Of
--- the uses that began by them and didn't end the tickets are left, beside those that were in hand before.
-pub record HasPlayed (script : List Step) (turns_used : ℕ) (before after : Seat) (tickets_before tickets_after : ℕ) : Type 0 where
+-- the uses that began by them and didn't end the tickets are in hand, beside those that were before.
+pub record HasPlayed (config : Config) (script : List Step) (turns_used turns_left : ℕ) (out_of_memory : Bool)
+    (before after : Seat) (hand_before hand_after : InHand) : Type 0 where
   pub calls : List Receipt
   pub number : after.number ≡ before.number
   pub kept : after.receipts ≡ before.receipts ++ calls
   pub tries : AreTries script calls
   pub few : length calls ≤ turns_used
-  pub tickets : tickets_after + ended_by calls ≡ tickets_before + begun_by calls
+  pub tickets : hand_after.tickets + ended_by calls ≡ hand_before.tickets + begun_by calls
+  pub played : IsPlayed config hand_after.passes (lines_left script calls) (length calls) turns_used turns_left out_of_memory after
 
 -- ---- One turn
 
@@ -97,9 +116,15 @@ pub record HasCalledOnce (line : Step) (before after : Seat) (accepted : Bool) (
   pub answered : is_accepted receipt.answer ≡ accepted
   pub tickets : tickets_after + (if accepted then ends line else 0) ≡ tickets_before + (if accepted then begins line else 0)
 
--- what a turn did to its port, and to the tickets in hand
-abbrev pub IsTurn : Step → (before after : Seat) → (tickets_before tickets_after : ℕ) → Turn → Type 0
-IsTurn line before after t u Accepted = HasCalledOnce line before after true t u
-IsTurn line before after t u Again = HasCalledOnce line before after false t u ⊎ ((after ≡ before) × (u ≡ t))
-IsTurn line before after t u Memory = (after ≡ before) × (u ≡ t)
-IsTurn line before after t u Strayed = (after ≡ before) × (u ≡ t)
+-- what a turn that asks its line did to the port, and to the tickets in hand
+abbrev pub IsTry : Config → Step → (before after : Seat) → (tickets_before tickets_after : ℕ) → Turn → Type 0
+IsTry config line before after t u Accepted = HasCalledOnce line before after true t u
+IsTry config line before after t u Again = HasCalledOnce line before after false t u
+IsTry config line before after t u Memory = (after ≡ before) × (u ≡ t)
+IsTry config line before after t u Strayed = (after ≡ before) × (u ≡ t) × HasStrayed config before
+
+-- what a turn did: it passes over its line exactly where that is one that can't be asked with what is in hand, and then changes nothing
+abbrev pub IsTurn : Config → Step → (before after : Seat) → (hand_before hand_after : InHand) → Turn → Type 0
+IsTurn config line before after h k turn =
+    ((h.passes line ≡ true) × (turn ≡ Again) × (after ≡ before) × (k ≡ h))
+    ⊎ ((h.passes line ≡ false) × IsTry config line before after h.tickets k.tickets turn)

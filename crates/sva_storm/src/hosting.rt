@@ -1,9 +1,10 @@
 //! The host's thread.
 
-ghost use Rattle.std.specs.Prelude.{◌≡◌, ◌-◌, ◌<◌, ◌≤◌, length, slice_get, is_some, IfSome};
+ghost use Rattle.std.specs.Prelude.{◌≡◌, ◌-◌, ◌<◌, ◌≤◌, List, true, length, slice_get, is_some, IfSome};
 ghost use Rattle.sva_step.specs.declared.steps.Step.TheVariants as step;
-ghost use Rattle.sva_storm.specs.Hands.{has_lease, has_leaving};
-ghost use Rattle.sva_storm.specs.Plays.{HasPlayed, IsTurn};
+ghost use Rattle.sva_fabric.specs.Stocks.{LeaseNumbers};
+ghost use Rattle.sva_storm.specs.Hands.{has_lease, has_leaving, hand_of_bindings};
+ghost use Rattle.sva_storm.specs.Plays.{HasPlayed, IsTry, IsTurn};
 
 use crate::endings::{Spent, Turn};
 use crate::using::{turn_after, turn_of};
@@ -53,7 +54,10 @@ pub(crate) fn host<C: Tally, R: Wait>(
     turns: u64,
     holdings: &mut Holdings<C>,
 ) -> Spent
-    ensures played { HasPlayed script.now (turns - result.turns_left) port.old port.new 0 0 }
+    ensures played { HasPlayed C.config script.now (turns - result.turns_left) result.turns_left result.out_of_memory port.old port.new
+        (hand_of_bindings holdings.old.leases.items holdings.old.leavings.items)
+        (hand_of_bindings holdings.new.leases.items holdings.new.leavings.items) }
+    ensures memory { result.out_of_memory ≡ true → result.turns_left < turns }
     ensures turns { result.turns_left ≤ turns }
 {
     let mut accepted = 0;
@@ -84,7 +88,9 @@ fn host_turn<C: Tally, R: Wait>(
     line: &Step,
     holdings: &mut Holdings<C>,
 ) -> Turn
-    ensures { IsTurn line.now port.old port.new 0 0 result }
+    ensures { IsTurn C.config line.now port.old port.new
+        (hand_of_bindings holdings.old.leases.items holdings.old.leavings.items)
+        (hand_of_bindings holdings.new.leases.items holdings.new.leavings.items) result }
 {
     if line.is_plain() {
         return turn_of(fabric.step(rt, port, line));
@@ -107,7 +113,7 @@ fn bind<C: Tally, R: Wait>(
     endpoint: u64,
     space: u64,
 ) -> Turn
-    ensures { IsTurn (step.Bind endpoint space) port.old port.new 0 0 result }
+    ensures { IsTry C.config (step.Bind endpoint space) port.old port.new 0 0 result }
 {
     if leases.reserve(1).is_err() {
         return Turn::Memory;
@@ -130,7 +136,8 @@ fn unbind<C: Tally, R: Wait>(
     leavings: &mut Vec<Leaving<C>>,
     binding: u64,
 ) -> Turn
-    ensures { IsTurn (step.Unbind binding) port.old port.new 0 0 result }
+    ensures { IsTurn C.config (step.Unbind binding) port.old port.new
+        (hand_of_bindings leases.old.items leavings.old.items) (hand_of_bindings leases.new.items leavings.new.items) result }
 {
     let Some(place) = lease_of(leases.as_slice(), binding) else {
         return Turn::Again;
@@ -159,7 +166,8 @@ fn advance<C: Tally, R: Wait>(
     leavings: &mut Vec<Leaving<C>>,
     binding: u64,
 ) -> Turn
-    ensures { IsTurn (step.Advance binding) port.old port.new 0 0 result }
+    ensures { (leases : List LeaseNumbers) → IsTurn C.config (step.Advance binding) port.old port.new
+        (hand_of_bindings leases leavings.old.items) (hand_of_bindings leases leavings.new.items) result }
 {
     let Some(place) = leaving_of(leavings.as_slice(), binding) else {
         return Turn::Again;

@@ -14,7 +14,7 @@ use sva_step::Step;
 // Asks a step that needs no token once.
 fn ask<C: Tally, R: Wait>(fabric: &Fabric<C>, rt: &R, port: &mut Port<C>, step: &Step) -> Turn
     requires plain { is_plain step.now ≡ true }
-    ensures asked { IsAsked step.now port.old port.new result }
+    ensures asked { IsAsked C.config step.now port.old port.new result }
 {
     turn_of(fabric.step(rt, port, step))
 }
@@ -26,7 +26,7 @@ pub(crate) fn link<C: Tally, R: Wait>(
     port: &mut Port<C>,
     turns: u64,
 ) -> Spent
-    ensures delivered { HasDelivered (turns - result.turns_left) port.old port.new }
+    ensures delivered { HasDelivered C.config (turns - result.turns_left) result.turns_left result.out_of_memory port.old port.new }
     ensures turns { result.turns_left ≤ turns }
 {
     let mut message = 0;
@@ -64,7 +64,7 @@ pub(crate) fn service<C: Tally, R: Wait>(
     endpoints: u64,
     turns: u64,
 ) -> Spent
-    ensures served { HasServed endpoints (turns - result.turns_left) port.old port.new }
+    ensures served { HasServed C.config endpoints (turns - result.turns_left) result.turns_left result.out_of_memory port.old port.new }
     ensures turns { result.turns_left ≤ turns }
 {
     for turn in 0..turns {

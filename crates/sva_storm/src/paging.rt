@@ -26,7 +26,7 @@ pub fn fault_loop<C: Tally, R: Wait, P: Pager>(
 ) -> Ended<C>
     ensures turns { result.turns_left ≤ turns }
     ensures none { vec_len result.tickets ≡ 0 }
-    ensures answered { HasAnswered worker (turns - result.turns_left) port.old port.new }
+    ensures answered { HasAnswered C.config worker (turns - result.turns_left) result.turns_left result.out_of_memory port.old port.new }
 {
     let Spent {
         turns_left,
@@ -49,7 +49,7 @@ pub(crate) fn answer_jobs<C: Tally, R: Wait, P: Pager>(
     turns: u64,
 ) -> Spent
     ensures turns { result.turns_left ≤ turns }
-    ensures answered { HasAnswered worker (turns - result.turns_left) port.old port.new }
+    ensures answered { HasAnswered C.config worker (turns - result.turns_left) result.turns_left result.out_of_memory port.old port.new }
 {
     let mut decided = None;
     for turn in 0..turns {
@@ -74,7 +74,7 @@ fn take_turn<C: Tally, R: Wait, P: Pager>(
     pager: &mut P,
     decided: &mut Option<Verdict>,
 ) -> Turn
-    ensures { IsJobTurn worker port.old port.new (is_some decided.old) (is_some decided.new) result }
+    ensures { IsJobTurn C.config worker port.old port.new (is_some decided.old) (is_some decided.new) result }
 {
     let Some(verdict) = *decided else {
         return take_job(fabric, rt, port, worker, pager, decided);
@@ -94,7 +94,7 @@ fn take_job<C: Tally, R: Wait, P: Pager>(
     decided: &mut Option<Verdict>,
 ) -> Turn
     requires { is_some decided.old ≡ false }
-    ensures { IsJobTurn worker port.old port.new false (is_some decided.new) result }
+    ensures { IsJobTurn C.config worker port.old port.new false (is_some decided.new) result }
 {
     let receipt = match fabric.step(rt, port, &Step::Take { worker }) {
         Ok(receipt) => receipt,

@@ -1,7 +1,8 @@
 //! The loop of an endpoint.
 
-ghost use Rattle.std.specs.Prelude.{◌≡◌, ◌-◌, ◌≤◌, vec_len, vec_capacity};
+ghost use Rattle.std.specs.Prelude.{◌≡◌, ◌-◌, ◌≤◌, [], vec_len, vec_capacity};
 ghost use Rattle.sva_step.specs.declared.steps.Step.TheVariants as step;
+ghost use Rattle.sva_storm.specs.Hands.{hand_of_tickets};
 ghost use Rattle.sva_storm.specs.Plays.{HasPlayed, IsTurn, turn_by, turn_after_fault};
 
 use crate::endings::{Ended, Spent, Turn};
@@ -15,8 +16,9 @@ use sva_step::Step;
 
 /// Plays the lines of a script in their order, each until it is accepted, in as many turns as are given. A use that begins is touched by
 /// the device, and its ticket is kept until its line ends it: 16 at most, whose places are reserved before the first turn. With 16 in
-/// hand the line of a use is a turn without a call, and so is a line whose ticket isn't in hand, or that binds, unbinds or advances.
-/// Want of memory ends the loop, and so does a port whose last receipt doesn't stand. A turn in which nothing was accepted lets other threads run.
+/// hand the line of a use is passed over in a turn without a call, and so is a line whose ticket isn't in hand, or that binds, unbinds or advances:
+/// that changes nothing, so it is passed over until no turn is left. Want of memory ends the loop, and so does a port whose last receipt doesn't stand.
+/// A turn in which nothing was accepted lets other threads run.
 pub fn endpoint_loop<C: Tally, R: Wait, D: Device>(
     fabric: &Fabric<C>,
     rt: &R,
@@ -26,7 +28,8 @@ pub fn endpoint_loop<C: Tally, R: Wait, D: Device>(
     script: &[Step],
     turns: u64,
 ) -> Ended<C>
-    ensures played { HasPlayed script.now (turns - result.turns_left) port.old port.new 0 (vec_len result.tickets) }
+    ensures played { HasPlayed C.config script.now (turns - result.turns_left) result.turns_left result.out_of_memory port.old port.new
+        (hand_of_tickets []) (hand_of_tickets result.tickets.items) }
     ensures turns { result.turns_left ≤ turns }
     ensures few { vec_len result.tickets ≤ 16 }
 {
@@ -53,7 +56,8 @@ pub(crate) fn play<C: Tally, R: Wait, D: Device>(
     tickets: &mut Vec<UseTicket<C>>,
 ) -> Spent
     requires { vec_len tickets.old ≤ 16 }
-    ensures played { HasPlayed script.now (turns - result.turns_left) port.old port.new (vec_len tickets.old) (vec_len tickets.new) }
+    ensures played { HasPlayed C.config script.now (turns - result.turns_left) result.turns_left result.out_of_memory port.old port.new
+        (hand_of_tickets tickets.old.items) (hand_of_tickets tickets.new.items) }
     ensures turns { result.turns_left ≤ turns }
     ensures few { vec_len tickets.new ≤ 16 }
 {
@@ -94,7 +98,8 @@ fn take_turn<C: Tally, R: Wait, D: Device>(
 ) -> Turn
     requires few { vec_len tickets.old ≤ 16 }
     requires room { 16 ≤ vec_capacity tickets.old }
-    ensures turn { IsTurn line.now port.old port.new (vec_len tickets.old) (vec_len tickets.new) result }
+    ensures turn { IsTurn C.config line.now port.old port.new
+        (hand_of_tickets tickets.old.items) (hand_of_tickets tickets.new.items) result }
     ensures few { vec_len tickets.new ≤ 16 }
     ensures room { vec_capacity tickets.new ≡ vec_capacity tickets.old }
 {
@@ -129,7 +134,8 @@ fn begin_use<C: Tally, R: Wait, D: Device>(
 ) -> Turn
     requires few { vec_len tickets.old ≤ 16 }
     requires room { 16 ≤ vec_capacity tickets.old }
-    ensures turn { IsTurn (step.BeginUse endpoint pasid page write) port.old port.new (vec_len tickets.old) (vec_len tickets.new) result }
+    ensures turn { IsTurn C.config (step.BeginUse endpoint pasid page write) port.old port.new
+        (hand_of_tickets tickets.old.items) (hand_of_tickets tickets.new.items) result }
     ensures few { vec_len tickets.new ≤ 16 }
     ensures room { vec_capacity tickets.new ≡ vec_capacity tickets.old }
 {
@@ -155,7 +161,8 @@ fn end_use<C: Tally, R: Wait>(
     endpoint: u64,
     slot: u64,
 ) -> Turn
-    ensures turn { IsTurn (step.EndUse endpoint slot) port.old port.new (vec_len tickets.old) (vec_len tickets.new) result }
+    ensures turn { IsTurn C.config (step.EndUse endpoint slot) port.old port.new
+        (hand_of_tickets tickets.old.items) (hand_of_tickets tickets.new.items) result }
     ensures few { vec_len tickets.new ≤ vec_len tickets.old }
     ensures room { vec_capacity tickets.new ≡ vec_capacity tickets.old }
 {

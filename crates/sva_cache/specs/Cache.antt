@@ -1,5 +1,5 @@
 -- An endpoint's translation cache: a finite map from (PASID, page) to a translation (PCI Express Base 5.0, section
--- 10.2.2: the address translation cache of a function).
+-- 10.1: the address translation cache of a function).
 use Rattle.std.specs.Prelude.{ℕ, zero, suc, ◌+◌, ◌-◌, ◌/◌, Bool, ◌||◌, ◌&&◌, not, ◌==◌, nat_lt, nat_le, refl, List, [], ◌∷◌, if◌then◌else◌}
 use Rattle.std.specs.declared.cmp.Ordering.{Ordering}
 use Rattle.std.specs.Ordering.{nat_cmp, then_cmp, on, is_lt}
@@ -18,15 +18,19 @@ Key = ℕ × ℕ
 abbrev pub key_cmp : Key → Key → Ordering
 key_cmp = then_cmp (on (λ k. k.0) nat_cmp) (on (λ k. k.1) nat_cmp)
 
+-- this order is total: so each key has one place among what is cached, and is found there by halves
 pub key_cmp_total : IsTotalOrder key_cmp
 key_cmp_total = then_total (on_total (λ k. k.0) nat_cmp_total) (on_total (λ k. k.1) nat_cmp_total)
 
+-- what is cached: under a PASID and a page at most one translation, the one that came last
 abbrev pub Translations : Type 0
 Translations = finite.FinMap key_cmp Translation
 
+-- by this proofs tell two translations apart: by frame and write flag
 abbrev pub translation_code : Coded Translation
 translation_code = code_by (ℕ × Bool) (coded× coded_ℕ coded_bool) (λ t. (t.frame, t.write)) (λ p. record { frame = p.0; write = p.1 }) (λ _. refl)
 
+-- and by this two caches: by what they hold under each PASID and page
 abbrev pub translations_code : Coded Translations
 translations_code = finite.code (coded× coded_ℕ coded_ℕ) translation_code
 
@@ -39,6 +43,7 @@ smaller_first R q (e ∷ es) = if is_lt (R e.0 q) then suc (smaller_first R q es
 abbrev pub place_of : Translations → Key → ℕ
 place_of cache key = smaller_first key_cmp key (finite.entries cache)
 
+-- which entry is the middle one of those from `low` on and below `high`: of two the upper
 abbrev pub middle_of : ℕ → ℕ → ℕ
 middle_of low high = low + (high - low) / 2
 

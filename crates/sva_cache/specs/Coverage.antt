@@ -7,6 +7,7 @@ use Rattle.sva_cache.specs.declared.coverage.Extent.{Extent}
 use Rattle.sva_cache.specs.declared.coverage.Extent.TheVariants.{Pages, All}
 use Rattle.sva_cache.specs.declared.coverage.Invalidation.{Invalidation}
 
+-- the pages of a code that was read: where it is that of no range all pages, so that nothing stays cached that it may have meant
 abbrev pub pages_of : Option Range → Extent
 pages_of (Some range) = Pages range
 pages_of None = All
@@ -31,6 +32,7 @@ abbrev pub first_key_of : ℕ → Extent → ℕ × ℕ
 first_key_of pasid (Pages range) = (pasid, range.base)
 first_key_of pasid All = (pasid, 0)
 
+-- the lowest key that the invalidation covers
 abbrev pub first_key : Invalidation → ℕ × ℕ
 first_key invalidation = first_key_of invalidation.pasid invalidation.extent
 
@@ -39,5 +41,6 @@ abbrev pub end_key_of : ℕ → Extent → ℕ × ℕ
 end_key_of pasid (Pages range) = (pasid, range.base + pages_in range)
 end_key_of pasid All = (pasid + 1, 0)
 
+-- the lowest key behind those that the invalidation covers, itself not covered
 abbrev pub end_key : Invalidation → ℕ × ℕ
 end_key invalidation = end_key_of invalidation.pasid invalidation.extent

@@ -7,6 +7,7 @@ use Rattle.sva_endpoint.specs.Steps.{asking, after_ask, using, after_begin_use, 
 use Rattle.sva_endpoint.specs.Steps.{finishing, after_finish, quitting, after_quit}
 use Rattle.sva_endpoint.specs.Deliveries.{after_receive}
 
+-- what happens to an endpoint: each of the seven steps that it takes by itself, and a message that comes
 pub data Call : Type 0 where
   Ask : (pasid page : ℕ) → Call
   BeginUse : (pasid page : ℕ) (write : Bool) → Call
@@ -28,6 +29,7 @@ is_permitted s (Finish vector count) = is_ok (finishing s vector count)
 is_permitted s (Quit pasid) = is_ok (quitting s pasid)
 is_permitted s (Receive kind) = true
 
+-- what a call leaves of the endpoint's tables; of one that isn't permitted nothing is claimed
 abbrev pub after : Tables → Call → Tables
 after s (Ask pasid page) = after_ask s pasid page
 after s (BeginUse pasid page write) = after_begin_use s pasid page
@@ -38,6 +40,7 @@ after s (Finish vector count) = after_finish s vector
 after s (Quit pasid) = after_quit s pasid
 after s (Receive kind) = after_receive s kind
 
+-- what a list of calls leaves of the endpoint's tables, one call after another
 abbrev pub run : Tables → List Call → Tables
 run s [] = s
 run s (call ∷ calls) = run (after s call) calls

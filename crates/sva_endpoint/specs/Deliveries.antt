@@ -38,6 +38,7 @@ answer_to_completion cache read Free = Dropped
 answer_to_completion cache read (Out pasid page) = if read then (if has_room_for cache (pasid, page) then Held else Full) else NoTranslation
 answer_to_completion cache read (Doomed pasid page) = Dropped
 
+-- the request under this tag is over and its tag free, whether its answer is kept or not (PCI Express Base 5.0, section 10.2.3)
 abbrev pub after_completion : Tables → ℕ → ℕ → Bool → Bool → Tables
 after_completion s tag frame read write =
     record s { cache = cache_after s.cache frame read write (request_at s.tags tag); tags = slice_set s.tags tag Free }
@@ -55,11 +56,13 @@ after_invalidate s itag invalidation =
 
 -- ---- a page request group response
 
+-- is it Response Failure (1111b), which disables the page request interface (PCI Express Base 5.0, section 10.4.2)?
 abbrev pub is_failure : Code → Bool
 is_failure Success = false
 is_failure InvalidRequest = false
 is_failure ResponseFailure = true
 
+-- whatever the code is, the response to a group whose PASID was quit meanwhile is answered as stale (this project's own rule)
 abbrev pub answer_to_response : GroupPlace → Answer
 answer_to_response NoGroup = Answered
 answer_to_response (Collecting pasid requests) = Answered
@@ -72,6 +75,8 @@ after_response s index code = record s { groups = slice_set s.groups index NoGro
 
 -- ---- each message; one that isn't sent to an endpoint changes nothing
 
+-- the endpoint after a message: a reset clears all that it keeps, but running uses leave their slots taken, as dead ones (PCI
+-- Express Base 5.0, section 6.6.2, which resets all state of a function; that the slots stay is this project's own rule)
 abbrev pub after_receive : Tables → Kind → Tables
 after_receive s (Start pasid) = record s { pasids = with_state s.pasids pasid On }
 after_receive s (Stop pasid) = record s { pasids = with_state s.pasids pasid Stopping }
@@ -81,6 +86,7 @@ after_receive s (Invalidate itag pasid scope) = after_invalidate s itag (record 
 after_receive s (Response pasid index code) = after_response s index code
 after_receive s _ = s
 
+-- what came of a message, as the step that delivers it answers
 abbrev pub answer_to : Tables → Kind → Answer
 answer_to s (Start pasid) = Started
 answer_to s (Stop pasid) = ToldToStop

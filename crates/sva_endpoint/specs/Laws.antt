@@ -35,6 +35,8 @@ abbrev pub NotesRun : Tables → Type 0
 NotesRun s = (itag slot : ℕ) (taken : Taken) → slice_index_or s.taken itag None ≡ Some taken → slice_index_or taken.noted slot false ≡ true
     → runs_covered taken.invalidation (slot_at s.uses slot) ≡ true
 
+-- An endpoint keeps within its limits, whose numbers are this project's own: its tables, its cache and its page request allocation
+-- (PCI Express Base 5.0, section 10.5.2). And what a taken invalidation notes still runs.
 pub record IsSound (s : Tables) : Type 0 where
   -- a table for the PASIDs 0 to 32, 32 tags, 16 slots, 32 ITags, 32 indexes
   pub pasids : length s.pasids ≡ 33
@@ -65,6 +67,7 @@ ends_request tag Reset = true
 ends_request tag (Completion other frame read write) = other == tag
 ends_request tag _ = false
 
+-- does the call bring such a message? Nothing else ends a request: an invalidation only dooms it
 abbrev pub is_end_of_request : ℕ → Call → Bool
 is_end_of_request tag (Receive kind) = ends_request tag kind
 is_end_of_request tag _ = false
@@ -179,6 +182,7 @@ ends_group index Reset = true
 ends_group index (Response pasid other code) = other == index
 ends_group index _ = false
 
+-- does the call bring such a message? A PASID that is quit ends no group, it leaves the group stale
 abbrev pub is_end_of_group : ℕ → Call → Bool
 is_end_of_group index (Receive kind) = ends_group index kind
 is_end_of_group index _ = false

@@ -13,6 +13,7 @@ use Rattle.sva_tables.specs.UseSlots.{no_uses}
 use Rattle.sva_tables.specs.Taken.{none_taken}
 use Rattle.sva_tables.specs.Groups.{no_groups}
 
+-- all that an endpoint keeps: its labels with what bears each, its cache, and whether it may send page requests
 pub record Tables : Type 0 where
   -- by PASID
   pub pasids : List PasidState
@@ -29,5 +30,6 @@ pub record Tables : Type 0 where
   -- is the page request interface enabled?
   pub enabled : Bool
 
+-- an endpoint to which nothing has come yet; a reset leaves the same, but for the slots of uses
 abbrev pub fresh : Tables
 fresh = record { pasids = all_off; cache = empty; tags = no_requests; uses = no_uses; taken = none_taken; groups = no_groups; enabled = true }

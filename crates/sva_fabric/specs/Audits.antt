@@ -52,6 +52,7 @@ calls_of (s ∷ seats) = length s.receipts + calls_of seats
 abbrev pub held_by : {C : Type 0} → Tokens C → ℕ
 held_by t = length t.leases.items + length t.leavings.items
 
+-- the tickets: each is for a use slot that is taken, whether its use runs or is dead
 abbrev pub used_by : {C : Type 0} → Tokens C → ℕ
 used_by t = length t.tickets.items
 

@@ -14,6 +14,7 @@ pub record Seat : Type 0 where
   pub number : ℕ
   pub receipts : List Receipt
 
+-- a port with this number that has made no call
 abbrev pub new_seat : ℕ → Seat
 new_seat n = record { number = n; receipts = [] }
 
@@ -22,6 +23,7 @@ unfoldable pub seats_from : (first count : ℕ) → List Seat
 seats_from first zero = []
 seats_from first (suc count) = seats_from first count ++ new_seat (first + count) ∷ []
 
+-- the receipt of a port's last answered call; none where there was no such call. The next call tests it against the journal
 abbrev pub last_of : List Receipt → Option Receipt
 last_of receipts = slice_get receipts (length receipts - 1)
 

@@ -27,9 +27,11 @@ pub record Totals : Type 0 where
   pub bindings : ℕ
   pub uses : ℕ
 
+-- what is counted of a world that was just opened
 abbrev pub no_totals : Totals
 no_totals = record { calls = 0; bindings = 0; uses = 0 }
 
+-- what is counted of the journal's world
 abbrev pub totals_of : History → Totals
 totals_of h = record { calls = length h.entries; bindings = bindings_of h; uses = uses_of h }
 
@@ -38,15 +40,19 @@ pub record Holding : Type 0 where
   pub bindings : ℕ
   pub uses : ℕ
 
+-- no token: what a call has in hand at first that hands in none
 abbrev pub no_token : Holding
 no_token = record { bindings = 0; uses = 0 }
 
+-- what a lease holds, and what a leaving does: the token of one binding
 abbrev pub one_binding : Holding
 one_binding = record { bindings = 1; uses = 0 }
 
+-- what a ticket holds: the token of one use
 abbrev pub one_use : Holding
 one_use = record { bindings = 0; uses = 1 }
 
+-- how many tokens there are in a place that has room for one
 abbrev pub count_of : {A : Type 0} → Option A → ℕ
 count_of None = 0
 count_of (Some a) = 1

@@ -41,6 +41,7 @@ pub record HasMoved (config : Config) (before after : Seat) (binding : ℕ) : Ty
   pub suits : IsMoved said
   pub called : HasCalled config before after (step.Advance binding) (Ok said)
 
+-- the advance of the binding was accepted: it is at its next stage and has its token again, or it is released and has none
 abbrev pub IsAdvance : {C : Type 0} → Config → (before after : Seat) → (binding : ℕ) → Moved C → Type 0
 IsAdvance config before after binding (moved.Again leaving) = (leaving ≡ binding) × HasMoved config before after binding
 IsAdvance config before after binding moved.Gone = HasCalled config before after (step.Advance binding) (Ok answer.Released)

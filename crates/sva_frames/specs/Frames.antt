@@ -12,21 +12,25 @@ pub data Holding : Type 0 where
   Mapped : Holding
   Withheld : List (Option Target) → Holding
 
+-- where a frame is, without what a withheld one waits for
 abbrev pub place_of : Holding → Place
 place_of Free = FreePlace
 place_of Mapped = MappedPlace
 place_of (Withheld waits) = WithheldPlace
 
+-- may the frame be handed out?
 abbrev pub is_free : Holding → Bool
 is_free Free = true
 is_free Mapped = false
 is_free (Withheld waits) = false
 
+-- was the frame handed out, and neither given back nor withheld since?
 abbrev pub is_mapped : Holding → Bool
 is_mapped Free = false
 is_mapped Mapped = true
 is_mapped (Withheld waits) = false
 
+-- is the frame out of every space, and does it still wait at some unit?
 abbrev pub is_withheld : Holding → Bool
 is_withheld Free = false
 is_withheld Mapped = false

@@ -13,16 +13,19 @@ stage_place Free = FreePlace
 stage_place Mapped = MappedPlace
 stage_place (Withheld left) = WithheldPlace
 
+-- may a frame of this stage be handed out? Only such a one is in the set of free frames
 abbrev pub is_free_stage : Stage → Bool
 is_free_stage Free = true
 is_free_stage Mapped = false
 is_free_stage (Withheld left) = false
 
+-- was a frame of this stage handed out, and neither given back nor withheld since?
 abbrev pub is_mapped_stage : Stage → Bool
 is_mapped_stage Free = false
 is_mapped_stage Mapped = true
 is_mapped_stage (Withheld left) = false
 
+-- does a frame of this stage still wait, at however many units?
 abbrev pub is_withheld_stage : Stage → Bool
 is_withheld_stage Free = false
 is_withheld_stage Mapped = false

@@ -4,6 +4,7 @@ use Rattle.sva_grammar.specs.declared.faults.Cause.{Cause}
 use Rattle.sva_grammar.specs.declared.faults.Cause.TheVariants.{NoConfig, UnknownStep, WordCount, BadWord, TooLarge}
 use Rattle.sva_grammar.specs.declared.faults.LineFault.{LineFault}
 
+-- the name of a cause, as the text of a line fault has it
 abbrev pub cause_name : Cause → List ℕ
 cause_name NoConfig = codes "NoConfig"
 cause_name UnknownStep = codes "UnknownStep"

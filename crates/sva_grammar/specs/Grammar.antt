@@ -20,6 +20,7 @@ use Rattle.sva_grammar.specs.declared.faults.ParseFault.TheVariants.{Line, Memor
 -- ---- What one part reads is handed to the next; the first fault stands for the whole.
 
 infixl 10 ◌>>=◌
+-- by this `do` reads one part after another: `next` reads on with what was read, and reads nothing behind a fault
 abbrev pub ◌>>=◌ : {A B E : Type 0} → Result A E → (A → Result B E) → Result B E
 (Ok x) >>= next = next x
 (Err e) >>= next = Err e
@@ -350,6 +351,7 @@ pub record Script : Type 0 where
   pub config : Config
   pub steps : List Step
 
+-- what a text is read as that has this fault at this line
 abbrev pub fault : {A : Type 0} → ℕ → Cause → Result A LineFault
 fault line cause = Err (record { line = line; cause = cause })
 

@@ -48,13 +48,16 @@ access_word write = if write then codes "w" else codes "r"
 abbrev pub flags_word : Bool → Bool → List ℕ
 flags_word read write = (if read then codes "r" else []) ++ (if write then codes "w" else [])
 
+-- the word of the group that a page request joins: a new one, or the unfinished one with this index
 abbrev pub group_word : Option ℕ → List ℕ
 group_word None = codes "new"
 group_word (Some index) = decimal index
 
+-- the word of the bit L: whether the page request finishes its group (PCI Express Base 5.0, section 10.4.1)
 abbrev pub last_word : Bool → List ℕ
 last_word last = if last then codes "last" else codes "more"
 
+-- the word of a worker's verdict on its job: with the binding Live the response bears its code (PCI Express Base 5.0, section 10.4.2)
 abbrev pub verdict_word : Verdict → List ℕ
 verdict_word Success = codes "success"
 verdict_word Invalid = codes "invalid"

@@ -16,9 +16,11 @@ pub record History : Type 0 where
   pub config : Config
   pub entries : List Entry
 
+-- the entry of one call: which port asked, for what step, and what was answered
 abbrev pub entry_of : (port : ℕ) → Step → Reply → Entry
 entry_of p s r = record { port = p; step = s; answer = r }
 
+-- the entry as the definitions have it, in which the answer is called a reply
 abbrev pub as_defined : Entry → DefinedEntry
 as_defined e = record { port = e.port; step = e.step; reply = e.answer }
 
@@ -46,6 +48,7 @@ empty_of c = record { config = c; entries = [] }
 abbrev pub bindings_of : History → ℕ
 bindings_of h = unreleased (wire (world_of h))
 
+-- the use slots that are taken: a dead use has its slot still, and counts
 abbrev pub uses_of : History → ℕ
 uses_of h = slots_taken (wire (world_of h))
 

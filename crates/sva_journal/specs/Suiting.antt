@@ -1,4 +1,4 @@
--- Which answers the steps may have that make, move or spend a token, and that no other step has these.
+-- Which answers the steps may have that make, move or spend a token, and that no other step has one that makes or spends one.
 use Rattle.std.specs.Prelude.{IfOk}
 use Rattle.sva_step.specs.declared.answers.Answer.{Answer}
 use Rattle.sva_step.specs.declared.answers.Answer.TheVariants as answer
@@ -49,6 +49,7 @@ IsStill answer.Ended = ⊥
 IsStill answer.Dead = ⊥
 IsStill _ = Unit {0}
 
+-- the answer is one that this kind of step may have, where the step isn't refused
 abbrev pub SuitsStep : Step → Answer → Type 0
 SuitsStep (step.Bind endpoint space) a = IsBinding a
 SuitsStep (step.Unbind binding) a = IsUnbound a

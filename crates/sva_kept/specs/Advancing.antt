@@ -10,6 +10,8 @@ use Rattle.sva_model.specs.Refusals.{unless_refused}
 use Rattle.sva_kept.specs.declared.advancing.Course.{Course}
 use Rattle.sva_kept.specs.declared.advancing.Course.TheVariants.{Drain, Invalidate, Settle, Release}
 
+-- by its stage: its unit drains (Intel VT-d, "Page Request Drain"), invalidates its PASID, then it is Quiet, then released. A Live and a
+-- Lost one are refused, so nothing is meant by what stands for them.
 abbrev pub course_by : BindingWire → StageWire → Course
 course_by b (StoppingWire marked) = Drain b.endpoint
 course_by b (DrainingWire cookie) = Invalidate b.endpoint b.pasid
@@ -25,6 +27,7 @@ course_of (Some b) = course_by b b.stage
 abbrev pub MayAdvance : Wire → (binding : ℕ) → Result Course Refusal → Type 0
 MayAdvance w n result = result ≡ unless_refused (causes_of w (step.Advance n)) (course_of (binding_of w n))
 
+-- does the endpoint hold nothing of the binding any more, so that its PASID can be given back?
 abbrev pub is_quiet : StageWire → Bool
 is_quiet QuietWire = true
 is_quiet _ = false

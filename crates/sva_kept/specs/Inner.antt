@@ -40,6 +40,7 @@ wire_of host =
 abbrev pub AreStaged : List Place → Type 0
 AreStaged places = All (λ (place : Place). IsSome place.stage) places
 
+-- what holds of every host: the devices of its endpoints are sound, and each binding's stage stands in its place
 pub record IsHost (host : Kept) : Type 0 where
   pub sound : All (λ (port : Port). IsSound port.device) host.ports.items
   pub staged : AreStaged host.bindings

@@ -4,6 +4,7 @@ use Rattle.sva_model.specs.Wire.{Wire, BindingWire, StageWire}
 use Rattle.sva_model.specs.Wire.StageWire.{DrainingWire}
 use Rattle.sva_labels.specs.Finding.{unit_of}
 
+-- does the binding wait for its unit to drain page requests (Intel VT-d, "Page Request Drain")?
 abbrev pub is_draining : StageWire → Bool
 is_draining (DrainingWire cookie) = true
 is_draining _ = false

@@ -10,6 +10,7 @@ use Rattle.sva_model.specs.Refusals.{unless_refused}
 use Rattle.sva_kept.specs.declared.unbinding.Ending.{Ending}
 use Rattle.sva_kept.specs.declared.unbinding.Ending.TheVariants.{AtOnce, ByStop}
 
+-- has a reset cut the binding off while it was in use?
 abbrev pub is_lost : StageWire → Bool
 is_lost LostWire = true
 is_lost _ = false

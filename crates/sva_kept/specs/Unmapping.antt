@@ -55,6 +55,7 @@ wire_with ports bindings cookie =
       next_cookie = cookie;
     }
 
+-- the endpoints' own tables, port by port, which no submission to a unit touches
 abbrev pub devices_of : List Port → List Tables
 devices_of ports = map (λ (port : Port). port.device) ports
 

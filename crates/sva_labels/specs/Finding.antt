@@ -22,17 +22,20 @@ pub use Rattle.sva_wire.specs.Host.{pages_of, page_at, is_free, lowest_free}
 
 -- Spaces and their pages.
 
+-- is it the number of a live space?
 abbrev pub is_space : Wire → (number : ℕ) → Bool
 is_space w n = is_some (pages_of w.spaces n)
 
--- the same, and no pages where there is no such space
+-- the pages that were found; none where there is no such space
 abbrev pub or_no_pages : Option (List PageWire) → List PageWire
 or_no_pages None = []
 or_no_pages (Some pages) = pages
 
+-- the mapped pages of the space of a number
 abbrev pub pages_in : Wire → (number : ℕ) → List PageWire
 pages_in w n = or_no_pages (pages_of w.spaces n)
 
+-- is the page mapped in the space that has these pages?
 abbrev pub is_mapped : List PageWire → (page : ℕ) → Bool
 is_mapped pages q = is_some (page_at pages q)
 
@@ -58,15 +61,19 @@ free_from f (place ∷ places) = if is_free place then f ∷ free_from (suc f) p
 abbrev pub binding_of : Wire → (number : ℕ) → Option BindingWire
 binding_of w n = find (λ b. b.binding == n) w.bindings
 
+-- the unreleased binding of a space at an endpoint, of which there is one at most
 abbrev pub bound_at : Wire → (endpoint space : ℕ) → Option BindingWire
 bound_at w e n = find (λ b. b.endpoint == e && b.space == n) w.bindings
 
+-- the unreleased binding that bears a PASID at an endpoint, of which there is one at most
 abbrev pub bearer : Wire → (endpoint pasid : ℕ) → Option BindingWire
 bearer w e t = find (λ b. b.endpoint == e && b.pasid == t) w.bindings
 
+-- has the space an unreleased binding at any endpoint?
 abbrev pub is_bound : Wire → (space : ℕ) → Bool
 is_bound w n = list_any (λ b. b.space == n) w.bindings
 
+-- does an unreleased binding bear the PASID, at any endpoint?
 abbrev pub is_borne : Wire → (pasid : ℕ) → Bool
 is_borne w t = list_any (λ b. b.pasid == t) w.bindings
 
@@ -75,9 +82,11 @@ abbrev pub pasid_by : Wire → Option BindingWire → Option ℕ
 pasid_by w None = Labels.lowest_pasid (λ t. not (is_borne w t))
 pasid_by w (Some b) = Some b.pasid
 
+-- the PASID that a new binding of the space is given, at whatever endpoint; none where other spaces bear all 32
 abbrev pub pasid_for : Wire → (space : ℕ) → Option ℕ
 pasid_for w n = pasid_by w (find (λ b. b.space == n) w.bindings)
 
+-- is the binding Live: neither told to stop, nor cut off by a reset?
 abbrev pub is_live : StageWire → Bool
 is_live LiveWire = true
 is_live _ = false
@@ -91,7 +100,7 @@ is_before_invalidating _ = false
 
 -- Endpoints with their units.
 
--- what an endpoint and its unit have where nothing was ever sent, asked or submitted, or all of it is over
+-- what an endpoint keeps where nothing was ever asked or sent, or all of it is over
 abbrev pub idle_device : DeviceWire
 idle_device =
     record {
@@ -104,18 +113,23 @@ idle_device =
       is_disabled = false;
     }
 
+-- a unit to which nothing was ever submitted: it is open, its queue is empty, each ITag is free, and there was no wait
 abbrev pub idle_unit : UnitWire
 idle_unit = record { is_open = true; queue = []; busy = tabulate 32 (λ t. None); front = 0; waits_end = 0 }
 
+-- an endpoint with its unit before the first step, and what is read of one that isn't there
 abbrev pub idle : EndpointWire
 idle = record { device = idle_device; unit = idle_unit; page_queue = []; host_groups = [] }
 
+-- the endpoint of a number, with its unit
 abbrev pub part_of : Wire → (endpoint : ℕ) → EndpointWire
 part_of w e = slice_index_or w.parts e idle
 
+-- what the endpoint keeps itself: its PASIDs, request tags, cache, uses and groups, and the invalidations that it has taken
 abbrev pub device_of : Wire → (endpoint : ℕ) → DeviceWire
 device_of w e = (part_of w e).device
 
+-- the endpoint's remapping unit, with its invalidation queue and its ITags
 abbrev pub unit_of : Wire → (endpoint : ℕ) → UnitWire
 unit_of w e = (part_of w e).unit
 
@@ -131,14 +145,16 @@ lowest_label table = position is_none table
 abbrev pub has_room : UnitWire → (descriptors : ℕ) → Bool
 has_room unit n = nat_le (length unit.queue + n) 64
 
+-- is an ITag of the unit busy? Then no wait is taken (Intel VT-d, "Invalidation Wait Descriptor").
 abbrev pub is_some_busy : UnitWire → Bool
 is_some_busy unit = list_any is_some unit.busy
 
--- does the unit submit invalidations and a wait, where pages of a space are taken out?
+-- does the unit get invalidations and a wait, where pages of a space are taken out?
 abbrev pub submits_by : UnitWire → Option BindingWire → Bool
 submits_by unit None = false
 submits_by unit (Some b) = unit.is_open && is_before_invalidating b.stage
 
+-- do the invalidations and the wait go to the unit of this endpoint, where pages of the space are taken out?
 abbrev pub submits : Wire → (space endpoint : ℕ) → Bool
 submits w n e = submits_by (unit_of w e) (bound_at w e n)
 
@@ -151,46 +167,56 @@ abbrev pub pasid_state : DeviceWire → (pasid : ℕ) → PasidState
 pasid_state d zero = Off
 pasid_state d (suc t) = slice_index_or d.pasids t Off
 
--- the translation that is cached for a page of a PASID
+-- is it the translation of this page of the PASID?
 abbrev pub is_at_page : (pasid page : ℕ) → TranslationWire → Bool
 is_at_page t q x = x.pasid == t && x.page == q
 
+-- the translation that is cached for a page of a PASID
 abbrev pub cached : DeviceWire → (pasid page : ℕ) → Option TranslationWire
 cached d t q = find (is_at_page t q) d.cache
 
+-- is a translation request of the PASID out under the tag? A doomed one counts, since its tag is taken until its answer comes.
 abbrev pub is_request_of : (pasid : ℕ) → Option RequestWire → Bool
 is_request_of t None = false
 is_request_of t (Some r) = r.pasid == t
 
+-- does a use of the PASID run in the slot? One that a reset has made dead is of no PASID.
 abbrev pub is_use_of : (pasid : ℕ) → Option UseWire → Bool
 is_use_of t (Some (RunningWire x)) = x.pasid == t
 is_use_of t _ = false
 
+-- is the group of the index one of the PASID, and its last page request still to come?
 abbrev pub has_unfinished_group : (pasid : ℕ) → Option GroupWire → Bool
 has_unfinished_group t None = false
 has_unfinished_group t (Some g) = is_collecting g.state && g.pasid == t
 
--- the page requests that are outstanding: those of all groups whose response hasn't come
+-- how many page requests were sent of the group that bears an index; none where the index is free
 abbrev pub requests_in : Option GroupWire → ℕ
 requests_in None = 0
 requests_in (Some g) = g.requests
 
+-- how many page requests are outstanding: those of all groups whose response hasn't come (PCI Express Base 5.0, section 10.5.2)
 abbrev pub outstanding : List (Option GroupWire) → ℕ
 outstanding [] = 0
 outstanding (group ∷ groups) = requests_in group + outstanding groups
 
+-- the group of page requests that bears a group index at the endpoint; a response finds it so (PCI Express Base 5.0, section 10.4.2)
 abbrev pub group_at : DeviceWire → (index : ℕ) → Option GroupWire
 group_at d i = slice_index_or d.groups i None
 
+-- the use, running or dead, that has a slot of the endpoint
 abbrev pub use_at : DeviceWire → (slot : ℕ) → Option UseWire
 use_at d u = slice_index_or d.slots u None
 
+-- the translation request that bears a request tag; a translation completion finds it so (PCI Express Base 5.0, section 10.2.2)
 abbrev pub tag_at : DeviceWire → (tag : ℕ) → Option RequestWire
 tag_at d tag = slice_index_or d.tags tag None
 
+-- the invalidation of an ITag that the endpoint has taken, and not finished
 abbrev pub taken_at : DeviceWire → (itag : ℕ) → Option TakenWire
 taken_at d itag = slice_index_or d.taken itag None
 
+-- of an ITag that is busy at the unit, how many completions have come so far (PCI Express Base 5.0, section 10.3.3)
 abbrev pub busy_at : UnitWire → (itag : ℕ) → Option BusyWire
 busy_at unit itag = slice_index_or unit.busy itag None
 
@@ -211,9 +237,11 @@ held_by w x = slice_index_or w.hands x None
 
 -- Messages in flight.
 
+-- the message of a number, if it is in flight
 abbrev pub flight_of : Wire → (number : ℕ) → Option FlightWire
 flight_of w n = find (λ f. f.number == n) w.in_flight
 
+-- the kind of a message, as the permitted order of the link reads it
 abbrev pub kind_of : Message → MessageKind
 kind_of (StartMessage pasid) = StartKind
 kind_of (StopMessage pasid) = StopKind
@@ -232,5 +260,6 @@ abbrev pub holds_back : FlightWire → FlightWire → Bool
 holds_back newer older =
     nat_lt older.number newer.number && older.endpoint == newer.endpoint && stays_behind (kind_of newer.message) (kind_of older.message)
 
+-- may the message be delivered, as no older one of its endpoint holds it back?
 abbrev pub may_deliver : Wire → FlightWire → Bool
 may_deliver w f = not (list_any (holds_back f) w.in_flight)

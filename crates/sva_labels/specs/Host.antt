@@ -27,9 +27,11 @@ abbrev pub checked : List Cause → outcomes.Result → Decision
 checked causes result =
     by_first_cause causes (λ refusal. record { reply = Err refusal; moves = [] }) (record { reply = Ok result.answer; moves = result.moves })
 
+-- what a step is answered, and what it moves
 abbrev pub decide_of : Wire → Step → Decision
 decide_of w s = checked (causes_of w s) (result_of w s)
 
+-- the answer to a step, or its refusal
 abbrev pub reply_of : Wire → Step → Reply
 reply_of w s = (decide_of w s).reply
 

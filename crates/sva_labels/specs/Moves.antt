@@ -26,6 +26,8 @@ use Rattle.sva_model.specs.Wire.BusyWire.{Fresh, Counting}
 use Rattle.sva_model.specs.Wire.Descriptor.{RangeDescriptor, PasidDescriptor, WaitDescriptor}
 use Rattle.sva_labels.specs.Finding.{pages_in, bound_at, part_of, device_of, unit_of, is_wait_done, submits, is_at_page, covers}
 
+-- A change of what a host keeps, by numbers and labels: that of one act of the definitions. `Ignore` is also that of a page request which
+-- a reset loses (`Miss`).
 pub data Move : Type 0 where
   -- spaces and frames
   NewSpace : Move
@@ -79,12 +81,15 @@ pub data Move : Type 0 where
 
 -- Changes of one keeper's part.
 
+-- what a host keeps, with this at an endpoint and its unit
 abbrev pub with_part : Wire → (endpoint : ℕ) → EndpointWire → Wire
 with_part w e p = record w { parts = slice_set w.parts e p }
 
+-- what a host keeps, with this as what the endpoint keeps itself
 abbrev pub with_device : Wire → (endpoint : ℕ) → DeviceWire → Wire
 with_device w e d = with_part w e (record (part_of w e) { device = d })
 
+-- what a host keeps, with this as the endpoint's unit, but for its page request queue and the groups that are open at the host
 abbrev pub with_unit : Wire → (endpoint : ℕ) → UnitWire → Wire
 with_unit w e unit = with_part w e (record (part_of w e) { unit = unit })
 
@@ -96,6 +101,7 @@ with_pages [] n change = []
 with_pages (space ∷ spaces) n change =
     (if space.number == n then record space { pages = change space.pages } else space) ∷ with_pages spaces n change
 
+-- the live spaces once that of a number is dropped
 abbrev pub without_space : (number : ℕ) → List SpaceWire → List SpaceWire
 without_space n spaces = filter (λ space. not (space.number == n)) spaces
 
@@ -103,6 +109,7 @@ without_space n spaces = filter (λ space. not (space.number == n)) spaces
 abbrev pub is_between : (page count : ℕ) → PageWire → Bool
 is_between q count entry = in_range q count entry.page
 
+-- the pages that an unmapping of pages in a row leaves in a space
 abbrev pub without_pages : (page count : ℕ) → List PageWire → List PageWire
 without_pages q count pages = filter (λ entry. not (is_between q count entry)) pages
 
@@ -120,10 +127,12 @@ abbrev pub settled_cookie : (cookie : ℕ) → Option TargetWire → Option Targ
 settled_cookie cookie (Some (Cookie c)) = if c == cookie then None else Some (Cookie c)
 settled_cookie cookie target = target
 
+-- where a frame is, once that is settled at a unit: free, if it waits for nothing else
 abbrev pub settled_at : (endpoint : ℕ) → (Option TargetWire → Option TargetWire) → PlaceWire → PlaceWire
 settled_at e settle (WithheldWire targets) = place_for (slice_set targets e (settle (slice_index_or targets e None)))
 settled_at e settle place = place
 
+-- where the frames are, once a wait of the endpoint's unit is done, or its reset has ended
 abbrev pub settled : (endpoint : ℕ) → (Option TargetWire → Option TargetWire) → List PlaceWire → List PlaceWire
 settled e settle places = map (settled_at e settle) places
 
@@ -136,6 +145,7 @@ target_by_stage unit cookie QuietWire = None
 target_by_stage unit cookie LostWire = None
 target_by_stage unit cookie stage = Some (if unit.is_open then Cookie cookie else ResetEnd)
 
+-- what the frames wait for at a unit: nothing, where their space isn't bound there
 abbrev pub target_by : UnitWire → (cookie : ℕ) → Option BindingWire → Option TargetWire
 target_by unit cookie None = None
 target_by unit cookie (Some b) = target_by_stage unit cookie b.stage
@@ -144,6 +154,7 @@ target_by unit cookie (Some b) = target_by_stage unit cookie b.stage
 abbrev pub cookie_at : Wire → (space endpoint : ℕ) → ℕ
 cookie_at w n e = w.next_cookie + count_below e (submits w n)
 
+-- what all frames of one unmapping wait for, at each of the eight units that there may be
 abbrev pub targets_of : Wire → (space : ℕ) → List (Option TargetWire)
 targets_of w n = tabulate 8 (λ e. if nat_lt e (length w.parts) then target_by (unit_of w e) (cookie_at w n e) (bound_at w e n) else None)
 
@@ -151,13 +162,16 @@ targets_of w n = tabulate 8 (λ e. if nat_lt e (length w.parts) then target_by (
 abbrev pub descriptors_for : (pasid page count order cookie : ℕ) → List Descriptor
 descriptors_for t q count order cookie = tabulate count (λ j. RangeDescriptor t (range_at q order j)) ++ WaitDescriptor cookie false ∷ []
 
+-- the unit once these are submitted, the last of them a wait with this cookie
 abbrev pub with_descriptors : UnitWire → List Descriptor → (cookie : ℕ) → UnitWire
 with_descriptors unit ds cookie = record unit { queue = unit.queue ++ ds; waits_end = suc cookie }
 
+-- the PASID that the binding bears; 0, which is given to none, where there is no binding
 abbrev pub pasid_or_0 : Option BindingWire → ℕ
 pasid_or_0 None = 0
 pasid_or_0 (Some b) = b.pasid
 
+-- an endpoint with its unit after an unmapping: the invalidations and their wait are in the queue, if it gets them
 abbrev pub part_unmapped : Wire → (space page count order endpoint : ℕ) → EndpointWire
 part_unmapped w n q count order e =
     if submits w n e
@@ -166,6 +180,7 @@ part_unmapped w n q count order e =
     }
     else part_of w e
 
+-- what a host keeps after an unmapping: the pages are out of the space, and their frames free or withheld
 abbrev pub unmapped : Wire → (space page count order : ℕ) → Wire
 unmapped w n q count order =
     record w {
@@ -177,9 +192,11 @@ unmapped w n q count order =
 
 -- Bindings.
 
+-- the bindings once that of a number has come to this stage
 abbrev pub with_stage : (binding : ℕ) → StageWire → List BindingWire → List BindingWire
 with_stage n stage bindings = map (λ (b : BindingWire). if b.binding == n then record b { stage = stage } else b) bindings
 
+-- the bindings once that of a number is released
 abbrev pub without_binding : (binding : ℕ) → List BindingWire → List BindingWire
 without_binding n bindings = filter (λ b. not (b.binding == n)) bindings
 
@@ -189,11 +206,13 @@ cut_off LiveWire = LostWire
 cut_off LostWire = LostWire
 cut_off stage = QuietWire
 
+-- the bindings after a reset-done of an endpoint; those of the others stay as they are
 abbrev pub cut_off_at : (endpoint : ℕ) → List BindingWire → List BindingWire
 cut_off_at e bindings = map (λ (b : BindingWire). if b.endpoint == e then record b { stage = cut_off b.stage } else b) bindings
 
 -- Messages in flight.
 
+-- what a host keeps once a message is in flight, to or from the endpoint, under the next number
 abbrev pub sent : (endpoint : ℕ) → Message → Wire → Wire
 sent e m w =
     record w {
@@ -209,15 +228,18 @@ sent_copies count e m w =
       next_message = w.next_message + count;
     }
 
+-- what a host keeps once the message of a number has left the link
 abbrev pub delivered : (message : ℕ) → Wire → Wire
 delivered n w = record w { in_flight = filter (λ f. not (f.number == n)) w.in_flight }
 
 -- The endpoint.
 
+-- the endpoint with a PASID off, on or told to stop; 0 is no PASID
 abbrev pub with_pasid : (pasid : ℕ) → PasidState → DeviceWire → DeviceWire
 with_pasid zero state d = d
 with_pasid (suc t) state d = record d { pasids = slice_set d.pasids t state }
 
+-- the endpoint once a translation request is over, and its tag free
 abbrev pub without_tag : (tag : ℕ) → DeviceWire → DeviceWire
 without_tag tag d = record d { tags = slice_set d.tags tag None }
 
@@ -225,6 +247,8 @@ without_tag tag d = record d { tags = slice_set d.tags tag None }
 abbrev pub kept : TranslationWire → List TranslationWire → List TranslationWire
 kept x cache = insert_by is_before x (filter (λ y. not (is_at_page x.pasid x.page y)) cache)
 
+-- a translation request that is out, once an invalidation is taken: doomed where that, or one before, covers its page (this project's own;
+-- PCI Express Base 5.0, section 10.3, leaves several ways to a function)
 abbrev pub doomed : (pasid : ℕ) → Extent → Option RequestWire → Option RequestWire
 doomed t extent None = None
 doomed t extent (Some r) = Some (record r { is_doomed = r.is_doomed || covers t extent r.pasid r.page })
@@ -239,10 +263,13 @@ abbrev pub extent_or_all : Option Range → Extent
 extent_or_all None = AllPages
 extent_or_all (Some range) = Pages range
 
+-- the pages that an Invalidate Request is of (PCI Express Base 5.0, section 10.3.1): all of its PASID, unless its code names a range here
 abbrev pub extent_in : Scope → Extent
 extent_in (Coded code) = extent_or_all (decode code)
 extent_in Everything = AllPages
 
+-- the endpoint once it has taken an invalidation: what this covers isn't cached any more, each request that is out for it is doomed, and
+-- its running uses are noted
 abbrev pub taking : (itag pasid : ℕ) → Extent → DeviceWire → DeviceWire
 taking itag t extent d =
     record d {
@@ -251,24 +278,30 @@ taking itag t extent d =
       tags = map (doomed t extent) d.tags;
     }
 
+-- an invalidation that the endpoint has taken, once the use of a slot has ended: it waits for that no more
 abbrev pub unnoted : (slot : ℕ) → Option TakenWire → Option TakenWire
 unnoted slot None = None
 unnoted slot (Some taken) = Some (record taken { slots = slice_set taken.slots slot false })
 
+-- the endpoint once the use of a slot has ended: the slot is free, and no invalidation waits for it
 abbrev pub ended : (slot : ℕ) → DeviceWire → DeviceWire
 ended slot d = record d { slots = slice_set d.slots slot None; taken = map (unnoted slot) d.taken }
 
+-- a group at its endpoint with one page request more, by whether that is its last
 abbrev pub with_request : Bool → Option GroupWire → Option GroupWire
 with_request last None = None
 with_request last (Some g) = Some (record g { state = sent_as last; requests = suc g.requests })
 
+-- the endpoint with one page request more in the group of an index
 abbrev pub requested : (index : ℕ) → Bool → DeviceWire → DeviceWire
 requested i last d = record d { groups = slice_set d.groups i (with_request last (slice_index_or d.groups i None)) }
 
+-- a group once a PASID is quit: stale, where it is of that PASID and awaits its response
 abbrev pub stale_of : (pasid : ℕ) → Option GroupWire → Option GroupWire
 stale_of t None = None
 stale_of t (Some g) = Some (record g { state = stale_if (g.pasid == t) g.state })
 
+-- a use once the endpoint has reset itself: it is dead, and keeps its slot until its end
 abbrev pub killed : Option UseWire → Option UseWire
 killed None = None
 killed (Some running) = Some DeadWire
@@ -292,33 +325,38 @@ cleared d =
 abbrev pub counting : (count arrived : ℕ) → Option BusyWire
 counting count arrived = if arrived == count then None else Some (Counting count arrived)
 
+-- an ITag that a completion names: free once all of them have come (PCI Express Base 5.0, section 10.3.3); one that isn't busy stays free
 abbrev pub one_more : (count : ℕ) → Option BusyWire → Option BusyWire
 one_more count None = None
 one_more count (Some Fresh) = counting count 1
 one_more count (Some (Counting fixed arrived)) = counting fixed (suc arrived)
 
+-- the ITags of a unit after a completion: it counts for each that its vector names (PCI Express Base 5.0, section 10.3.2)
 abbrev pub completed : (vector count : ℕ) → List (Option BusyWire) → List (Option BusyWire)
 completed vector count busy = tabulate 32 (λ t. if Labels.is_set vector t then one_more count (slice_index_or busy t None) else slice_index_or busy t None)
 
+-- what the endpoint has taken and not finished, once it has finished the invalidations that the vector names
 abbrev pub without_named : (vector : ℕ) → List (Option TakenWire) → List (Option TakenWire)
 without_named vector taken = tabulate 32 (λ t. if Labels.is_set vector t then None else slice_index_or taken t None)
 
--- the groups that are open at the host, with one request more: in the group of its binding and index that isn't whole, or in
--- a new one
+-- is it the group of this binding and index, of which the last page request isn't filed yet?
 abbrev pub is_begun : (binding index : ℕ) → HostGroupWire → Bool
 is_begun n i g = g.binding == n && g.index == i && not g.is_whole
 
+-- the groups that are open at the host, with one request more: in the group of its binding and index that isn't whole, or in
+-- a new one
 abbrev pub filed : (binding : ℕ) → PageRequestWire → List HostGroupWire → List HostGroupWire
 filed n r [] = record { binding = n; index = r.index; asks = r.ask ∷ []; is_whole = r.last } ∷ []
 filed n r (g ∷ groups) =
     if is_begun n r.index g then record g { asks = g.asks ++ r.ask ∷ []; is_whole = r.last } ∷ groups else g ∷ filed n r groups
 
--- without the group of a job that is answered
+-- is it the group of the job? Once that is answered, the group isn't open at the host any more.
 abbrev pub is_of_job : JobWire → HostGroupWire → Bool
 is_of_job job g = g.binding == job.binding && g.index == job.index
 
 -- The moves.
 
+-- what a host keeps after a move
 abbrev pub moved : Wire → Move → Wire
 moved w NewSpace = record w { spaces = w.spaces ++ record { number = w.next_space; pages = [] } ∷ []; next_space = w.next_space + 1 }
 moved w (DropSpace n) = record w { spaces = without_space n w.spaces; places = placed FreeWire (pages_in w n) w.places }
@@ -407,6 +445,7 @@ moved w (Reopen e n) =
       places = settled e (λ target. None) w.places;
     })
 
+-- what a host keeps after moves, one after another
 abbrev pub all_moved : Wire → List Move → Wire
 all_moved w [] = w
 all_moved w (m ∷ moves) = all_moved (moved w m) moves

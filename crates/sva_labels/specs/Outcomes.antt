@@ -34,6 +34,7 @@ pub record Result : Type 0 where
   pub answer : Answer
   pub moves : List Move
 
+-- an answer with its moves
 abbrev pub says : Answer → List Move → Result
 says a moves = record { answer = a; moves = moves }
 
@@ -52,20 +53,25 @@ label (Some t) = t
 abbrev pub waits : Wire → (space : ℕ) → Bool
 waits w n = any_below 8 (λ e. is_some (slice_index_or (targets_of w n) e None))
 
+-- an unmapping of single pages, each a range of one: the answer tells their frames, and whether they are withheld or free
 abbrev pub unmap_result : Wire → (space page count : ℕ) → Result
 unmap_result w n q count = by_one (unmap_answer (waits w n) (frames_of (pages_in w n) q count)) (Move.Unmap n q count 0)
 
+-- an unmapping of the mapped pages of one range: the answer tells how many they are, and whether their frames are withheld or free
 abbrev pub unmap_range_result : Wire → (space page order : ℕ) → Result
 unmap_range_result w n q order =
     by_one (unmap_range_answer (waits w n) (count_below (2 ^ order) (λ j. is_mapped (pages_in w n) (q + j)))) (Move.Unmap n q 1 order)
 
+-- a binding begins under the PASID that its space is given, and its Start is sent
 abbrev pub bind_result : Wire → (endpoint space pasid : ℕ) → Result
 bind_result w e n t = says (answer.Binding w.next_binding t) (Move.NewBinding ∷ Move.Bind e n w.next_binding t ∷ [])
 
+-- a binding is told to stop; a Lost one is quiet at once
 abbrev pub unbind_by : BindingWire → StageWire → Result
 unbind_by b LostWire = by_one answer.Quiet (Move.Quieten b.binding)
 unbind_by b stage = by_one answer.Stopping (Move.Stop b.endpoint b.binding b.pasid)
 
+-- a binding goes to its next stage: Draining, Invalidating and Quiet one after another, and is released at last
 abbrev pub advance_by : BindingWire → StageWire → Result
 advance_by b (StoppingWire marked) = by_one answer.Draining (Move.Drain b.endpoint b.binding)
 advance_by b (DrainingWire cookie) = by_one answer.Invalidating (Move.Invalidate b.endpoint b.binding b.pasid)
@@ -79,10 +85,12 @@ of_binding f (Some b) = f b
 
 -- The unit.
 
+-- the wait at the head is done, or blocks
 abbrev pub wait_result : (endpoint cookie : ℕ) → Bool → Result
 wait_result e cookie true = by_one answer.WaitDone (Move.Pass e cookie)
 wait_result e cookie false = says answer.Blocked []
 
+-- the invalidation at the head is sent under the lowest free ITag, or blocks for want of one (PCI Express Base 5.0, section 10.3.1)
 abbrev pub send_result : (endpoint pasid : ℕ) → Extent → Option ℕ → Result
 send_result e pasid extent None = says answer.Blocked []
 send_result e pasid extent (Some t) = by_one (answer.Itag t) (Move.Send e t pasid extent)
@@ -91,6 +99,7 @@ send_result e pasid extent (Some t) = by_one (answer.Itag t) (Move.Send e t pasi
 abbrev pub may_pass : EndpointWire → Bool → Bool
 may_pass p drain = not (is_some_busy p.unit) && (not drain || length p.page_queue == 0)
 
+-- a turn of the invalidation queue, by its head (Intel VT-d, "Queued Invalidation Interface"): idle where nothing is queued
 abbrev pub pump_result : EndpointWire → (endpoint : ℕ) → List Descriptor → Result
 pump_result p e [] = says answer.Idle []
 pump_result p e (RangeDescriptor pasid range ∷ queue) = send_result e pasid (Pages range) (lowest_label p.unit.busy)
@@ -102,13 +111,16 @@ abbrev pub asks_of : Option HostGroupWire → List AskWire
 asks_of None = []
 asks_of (Some g) = g.asks
 
+-- the job that a group becomes as its last page request is filed: it asks for what those before asked, and for what this one asks
 abbrev pub job_of : EndpointWire → (endpoint binding : ℕ) → PageRequestWire → JobWire
 job_of p e b r = record { endpoint = e; binding = b; index = r.index; asks = asks_of (find (is_begun b r.index) p.host_groups) ++ r.ask ∷ [] }
 
+-- a page request is filed under a binding; the last one of its group makes the group a job
 abbrev pub file_result : EndpointWire → (endpoint binding : ℕ) → PageRequestWire → Bool → Result
 file_result p e b r true = says answer.Job (Move.File e b r ∷ Move.NewJob (job_of p e b r) ∷ [])
 file_result p e b r false = by_one answer.Part (Move.File e b r)
 
+-- the number of the binding that was found; 0 where none was
 abbrev pub binding_or_0 : Option BindingWire → ℕ
 binding_or_0 None = 0
 binding_or_0 (Some b) = b.binding
@@ -120,6 +132,7 @@ serve_result w p e (r ∷ queue) = file_result p e (binding_or_0 (bearer w e r.p
 
 -- Jobs.
 
+-- a worker takes the oldest job; where there is none the step is refused
 abbrev pub take_result : (worker : ℕ) → List JobWire → Result
 take_result x [] = says answer.Dropped []
 take_result x (job ∷ jobs) =
@@ -130,34 +143,41 @@ abbrev pub maps_to : (space : ℕ) → List AskWire → List ℕ → List ℕ �
 maps_to n asks (q ∷ qs) (f ∷ fs) = Move.Map n q f (is_write_asked asks q) ∷ maps_to n asks qs fs
 maps_to n asks _ _ = []
 
+-- the pages that a reply maps, to the lowest free frames: none but by success
 abbrev pub reply_maps : Wire → JobWire → Verdict → List Move
 reply_maps w job v = if replies_success w job v then maps_to (space_of_job w job) job.asks (newly_mapped w job) (free_from 0 w.places) else []
 
+-- a reply, by the code of its response: what it maps, and the response; where none is sent the job is dropped
 abbrev pub reply_by : Wire → (worker : ℕ) → JobWire → List Move → Option Code → Result
 reply_by w x job maps None = says answer.Dropped (Move.LetGo x ∷ Move.Discard ∷ [])
 reply_by w x job maps (Some code) =
     says (code_answer (length maps) code) (maps ++ Move.LetGo x ∷ Move.Respond job (pasid_or_0 (binding_of w job.binding)) code ∷ [])
 
+-- a worker's reply to the job that it holds; where it holds none the step is refused
 abbrev pub reply_result : Wire → (worker : ℕ) → Verdict → Option JobWire → Result
 reply_result w x v None = says answer.Dropped []
 reply_result w x v (Some job) = reply_by w x job (reply_maps w job v) (response_to w job v)
 
 -- The endpoint.
 
+-- a use begins in the slot, with a copy of the cached translation; where none is cached the step is refused
 abbrev pub begin_result : (endpoint slot : ℕ) → Option TranslationWire → Result
 begin_result e slot None = says answer.Dropped []
 begin_result e slot (Some x) = by_one (answer.Use slot x.frame) (Move.Begin e slot x)
 
+-- what the end of a use answers: it ran until now, or a reset had made it dead
 abbrev pub end_answer : Option UseWire → Answer
 end_answer (Some (RunningWire x)) = answer.Ended
 end_answer _ = answer.Dead
 
+-- a page request is sent, the first of a new group under the lowest free index, or one more of an unfinished group
 abbrev pub fault_result : DeviceWire → (endpoint pasid page : ℕ) → (read write last : Bool) → Option ℕ → Result
 fault_result d e t q r x l None = by_one (answer.Group (label (lowest_label d.groups))) (Move.Group e t (label (lowest_label d.groups)) q r x l)
 fault_result d e t q r x l (Some i) = by_one (answer.Group i) (Move.Request e t i q r x l)
 
 -- Deliveries, by what the message carries.
 
+-- is the translation of another page or another PASID, so that a new one of this page and PASID doesn't replace it?
 abbrev pub is_other : (pasid page : ℕ) → TranslationWire → Bool
 is_other t q x = not (is_at_page t q x)
 
@@ -165,20 +185,25 @@ is_other t q x = not (is_at_page t q x)
 abbrev pub is_full : List TranslationWire → (pasid page : ℕ) → Bool
 is_full cache t q = nat_le 64 (count_by (is_other t q) cache)
 
+-- what a completion brings is kept, unless the cache is full; its request is over either way
 abbrev pub keep_result : (endpoint message tag : ℕ) → TranslationWire → Bool → Result
 keep_result e n tag x true = by_one answer.Full (Move.Forget e n tag)
 keep_result e n tag x false = by_one answer.Held (Move.Keep e n tag x)
 
+-- a translation completion whose request is out (PCI Express Base 5.0, section 10.2.3): what it brings is kept, but not where the request
+-- is doomed or R is clear
 abbrev pub completion_by : DeviceWire → (endpoint message tag frame : ℕ) → (read write is_doomed : Bool) → RequestWire → Result
 completion_by d e n tag f read x true r = by_one answer.Dropped (Move.Forget e n tag)
 completion_by d e n tag f false x false r = by_one answer.NoTranslation (Move.Forget e n tag)
 completion_by d e n tag f true x false r =
     keep_result e n tag (record { pasid = r.pasid; page = r.page; frame = f; write = x }) (is_full d.cache r.pasid r.page)
 
+-- a translation completion, by the request that bears its tag; where none does, the endpoint was reset since
 abbrev pub completion_result : DeviceWire → (endpoint message tag frame : ℕ) → (read write : Bool) → Option RequestWire → Result
 completion_result d e n tag f read x None = by_one answer.Dropped (Move.Ignore n)
 completion_result d e n tag f read x (Some r) = completion_by d e n tag f read x r.is_doomed r
 
+-- whether a response finds its group awaiting it, or stale
 abbrev pub response_said : Option GroupWire → Answer
 response_said None = answer.Answered
 response_said (Some g) = response_answer g.state
@@ -188,10 +213,13 @@ abbrev pub found_for : Wire → (page : ℕ) → Option BindingWire → Option P
 found_for w q None = None
 found_for w q (Some b) = if is_live b.stage then page_at (pages_in w b.space) q else None
 
+-- the completion of a translation request: the frame, R, and W if the mapping allows writes; or R and W clear where nothing was found (PCI
+-- Express Base 5.0, section 10.2.3)
 abbrev pub completion_of : (tag : ℕ) → Option PageWire → Message
 completion_of tag None = CompletionMessage tag 0 false false
 completion_of tag (Some entry) = CompletionMessage tag entry.frame true entry.write
 
+-- a translation request at its unit: answered, or dropped in reset
 abbrev pub request_result : Wire → (endpoint message tag pasid page : ℕ) → Bool → Result
 request_result w e n tag t q true = by_one answer.Completion (Move.Complete e n (completion_of tag (found_for w q (bearer w e t))))
 request_result w e n tag t q false = by_one answer.Dropped (Move.Ignore n)
@@ -207,6 +235,7 @@ is_last_of count None = false
 is_last_of count (Some Fresh) = count == 1
 is_last_of count (Some (Counting fixed arrived)) = suc arrived == fixed
 
+-- a completion of invalidations at its unit: counted, with how many ITags it frees, or dropped in reset
 abbrev pub count_result : UnitWire → (endpoint message vector count : ℕ) → Bool → Result
 count_result unit e n vector count true =
     by_one
@@ -214,14 +243,18 @@ count_result unit e n vector count true =
     (Move.Count e n vector count)
 count_result unit e n vector count false = by_one answer.Dropped (Move.Ignore n)
 
+-- a page request at its unit: queued, or dropped in reset
 abbrev pub page_request_result : (endpoint message : ℕ) → PageRequestWire → Bool → Result
 page_request_result e n r true = by_one answer.Queued (Move.Arrive e n r)
 page_request_result e n r false = by_one answer.Dropped (Move.Ignore n)
 
+-- a Stop Marker at its unit: noted at the binding that sent it, or dropped in reset (this project's own: by PCI Express Base 5.0, section
+-- 10.4.1, it is a page request)
 abbrev pub marker_result : (endpoint message binding : ℕ) → Bool → Result
 marker_result e n b true = by_one answer.Marked (Move.Mark e n b)
 marker_result e n b false = by_one answer.Dropped (Move.Ignore n)
 
+-- the delivery of a message, by its kind and its labels
 abbrev pub message_result : Wire → (endpoint message : ℕ) → Message → Result
 message_result w e n (StartMessage t) = by_one answer.Started (Move.StartArrives e n t)
 message_result w e n (StopMessage t) = by_one answer.Stopping (Move.StopArrives e n t)
@@ -236,19 +269,23 @@ message_result w e n (PageRequestMessage t i q r x l) =
 message_result w e n (MarkerMessage t) = marker_result e n (binding_or_0 (bearer w e t)) (unit_of w e).is_open
 message_result w e n ResetDoneMessage = by_one answer.ResetDone (Move.Reopen e n)
 
+-- the delivery of what is in flight under a number; where nothing is the step is refused
 abbrev pub deliver_result : Wire → Option FlightWire → Result
 deliver_result w None = says answer.Dropped []
 deliver_result w (Some f) = message_result w f.endpoint f.number f.message
 
+-- where a frame is: free, at a page of a space, or withheld
 abbrev pub look_answer : PlaceWire → Answer
 look_answer FreeWire = answer.Free
 look_answer MappedWire = answer.Mapped
 look_answer (WithheldWire targets) = answer.Withheld
 
+-- the space that bears a PASID, if one does, and how many unreleased bindings it has
 abbrev pub bearer_answer : Wire → (pasid : ℕ) → Option BindingWire → Answer
 bearer_answer w t None = answer.NoBearer
 bearer_answer w t (Some b) = answer.Bearer b.space (count_by (λ x. x.pasid == t) w.bindings)
 
+-- what every step answers and moves, unless a cause refuses it
 abbrev pub result_of : Wire → Step → Result
 result_of w step.Space = by_one (answer.Space w.next_space) Move.NewSpace
 result_of w (step.DropSpace n) = by_one answer.Gone (Move.DropSpace n)

@@ -18,16 +18,20 @@ response_by true (StoppingWire marked) v = Some InvalidCode
 response_by true (DrainingWire cookie) v = Some InvalidCode
 response_by _ _ v = None
 
+-- the same, by the binding that the job names; one that was released is found no more
 abbrev pub response_for : (is_open : Bool) → Option BindingWire → Verdict → Option Code
 response_for is_open None v = None
 response_for is_open (Some b) v = response_by is_open b.stage v
 
+-- the code of the response to a job, if one is sent
 abbrev pub response_to : Wire → JobWire → Verdict → Option Code
 response_to w job v = response_for (unit_of w job.endpoint).is_open (binding_of w job.binding) v
 
+-- is a response sent to the job, whatever the verdict?
 abbrev pub responds : Wire → JobWire → Bool
 responds w job = is_some (response_to w job verdict.Invalid)
 
+-- is the job answered by success, so that pages are mapped?
 abbrev pub replies_success : Wire → JobWire → Verdict → Bool
 replies_success w job v = is_success (response_to w job v)
 
@@ -36,9 +40,11 @@ abbrev pub space_by : Option BindingWire → ℕ
 space_by None = 0
 space_by (Some b) = b.space
 
+-- the number of the space for which a job asks
 abbrev pub space_of_job : Wire → JobWire → ℕ
 space_of_job w job = space_by (binding_of w job.binding)
 
+-- the mapped pages of the space for which a job asks
 abbrev pub pages_of_job : Wire → JobWire → List PageWire
 pages_of_job w job = pages_in w (space_of_job w job)
 
@@ -50,6 +56,7 @@ newly_mapped w job = unseen (is_mapped (pages_of_job w job)) (map (λ a. a.page)
 abbrev pub is_write_asked : List AskWire → (page : ℕ) → Bool
 is_write_asked asks q = list_any (λ a. a.page == q && a.write) asks
 
+-- does a mapping stand at the page that allows no write?
 abbrev pub is_read_only_at : Option PageWire → Bool
 is_read_only_at None = false
 is_read_only_at (Some entry) = not entry.write

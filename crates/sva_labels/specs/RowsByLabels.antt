@@ -24,15 +24,17 @@ use Rattle.sva_model.specs.RowsOfWhatStays as of_what_stays
 use Rattle.sva_labels.specs.Finding.{is_free}
 use Rattle.sva_labels.specs.Host.{first_wire, next_of, replies_of}
 
--- how many of the frames at these places are free, mapped and withheld
+-- is the frame at a page of a space?
 abbrev pub is_at_a_page : PlaceWire → Bool
 is_at_a_page MappedWire = true
 is_at_a_page _ = false
 
+-- is the frame withheld, since an endpoint hasn't answered?
 abbrev pub is_withheld : PlaceWire → Bool
 is_withheld (WithheldWire targets) = true
 is_withheld _ = false
 
+-- how many of the frames at these places are free, mapped and withheld
 abbrev pub counts_in : List PlaceWire → Counts
 counts_in places = record { free = count_by is_free places; mapped = count_by is_at_a_page places; withheld = count_by is_withheld places }
 

@@ -28,11 +28,13 @@ abbrev pub target_there : (endpoint : ℕ) → PlaceWire → Option TargetWire
 target_there e (WithheldWire targets) = slice_index_or targets e None
 target_there e place = None
 
+-- the cookies among these targets; the end of a reset has none
 abbrev pub cookies_in : List (Option TargetWire) → List ℕ
 cookies_in [] = []
 cookies_in (Some (Cookie cookie) ∷ targets) = cookie ∷ cookies_in targets
 cookies_in (_ ∷ targets) = cookies_in targets
 
+-- the cookies of the waits for which frames are withheld at a unit, one for each such frame
 abbrev pub awaited_at : (endpoint : ℕ) → List PlaceWire → List ℕ
 awaited_at e places = cookies_in (map (target_there e) places)
 
@@ -96,6 +98,7 @@ pub record IsJob (w : Wire) (job : JobWire) : Type 0 where
   pub asks_few : length job.asks ≤ 32
   pub at_home : (b : BindingWire) → binding_of w job.binding ≡ Some b → b.endpoint ≡ job.endpoint
 
+-- What a host keeps is as the calls of its parts need it. With each group of clauses stand the calls that need them.
 pub record IsSound (w : Wire) : Type 0 where
   -- numbers and cookies: a step counts on from one of these after its test that it is below 2^63 (a unit's `submit`)
   pub spaces_end : w.next_space ≤ 2 ^ 63

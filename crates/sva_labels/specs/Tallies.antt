@@ -8,14 +8,17 @@ use Rattle.sva_model.specs.Steps.{Reply, reply, next, world_after}
 use Rattle.sva_model.specs.Claims.{Fits}
 use Rattle.sva_model.specs.Wire.{Wire, EndpointWire, UseWire, wire}
 
+-- how many bindings are unreleased, at all endpoints together
 abbrev pub unreleased : Wire → ℕ
 unreleased w = length w.bindings
 
+-- how many use slots of an endpoint are taken, by running and dead uses
 abbrev pub taken_in : List (Option UseWire) → ℕ
 taken_in [] = 0
 taken_in (None ∷ slots) = taken_in slots
 taken_in (Some u ∷ slots) = suc (taken_in slots)
 
+-- how many use slots are taken at these endpoints
 abbrev pub slots_in : List EndpointWire → ℕ
 slots_in [] = 0
 slots_in (p ∷ parts) = taken_in p.device.slots + slots_in parts
@@ -30,23 +33,28 @@ abbrev pub binds : Reply → ℕ
 binds (Ok (answer.Binding binding pasid)) = 1
 binds _ = 0
 
+-- how many bindings are released: that which leaves its last stage
 abbrev pub releases : Reply → ℕ
 releases (Ok answer.Released) = 1
 releases _ = 0
 
+-- how many use slots are given out: that of a use which begins
 abbrev pub begins : Reply → ℕ
 begins (Ok (answer.Use slot frame)) = 1
 begins _ = 0
 
+-- how many use slots are given back; a dead use has its own until it is ended too
 abbrev pub ends : Reply → ℕ
 ends (Ok answer.Ended) = 1
 ends (Ok answer.Dead) = 1
 ends _ = 0
 
+-- a step with this reply changes the number of unreleased bindings and that of taken use slots as the reply says
 pub record IsTallied (before after : Wire) (r : Reply) : Type 0 where
   pub bindings : unreleased after + releases r ≡ unreleased before + binds r
   pub slots : slots_taken after + ends r ≡ slots_taken before + begins r
 
+-- after every list of steps, and by either rule of PASIDs, the next step changes these two numbers as its reply says
 abbrev pub AlwaysTallied : Type 0
 AlwaysTallied =
     (rule : PasidRule) (config : Config) (steps : List Step) (s : Step)

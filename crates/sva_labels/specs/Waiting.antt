@@ -10,6 +10,8 @@ use Rattle.sva_model.specs.Steps.{Reply}
 use Rattle.sva_model.specs.Wire.{Wire, EndpointWire, FlightWire}
 use Rattle.sva_labels.specs.Host.{reply_of, next_of}
 
+-- is it a page request? A Stop Marker isn't one here, and never stands in the queue (this project's own,
+-- in place of PCI Express Base 5.0, section 10.4.1).
 abbrev pub is_page_request : Message → Bool
 is_page_request (PageRequestMessage pasid index page read write last) = true
 is_page_request _ = false

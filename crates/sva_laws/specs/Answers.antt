@@ -30,6 +30,7 @@ pub record Finishes (w v : World) (e vector count : ℕ) (said : Answer) : Type 
   pub messages : v.messages ≡ w.messages + count
   pub sent : (j : ℕ) → j < count → ((v.part e).message (w.messages + j) ≡ Some (InvalidatedOf (is_named (w.part e) vector))) × (v.link_of (w.messages + j) ≡ e)
 
+-- each finish that is accepted, after every list of steps, leaves the orders that it names owed as many completions as it sends
 abbrev pub AlwaysFinishes : Type 0
 AlwaysFinishes =
     (rule : PasidRule) (config : Config) (steps : List Step) (e vector count : ℕ) (said : Answer)
@@ -53,6 +54,7 @@ pub record Uses (w v : World) (e pasid page : ℕ) (said : Answer) : Type 0 wher
   pub runs : (v.part e).use_state used ≡ Running
   pub by : (v.part e).use_mapping used ≡ mapping
 
+-- each use that is accepted, after every list of steps, runs in the slot that its answer names, and its frame is the one that is answered
 abbrev pub AlwaysUses : Type 0
 AlwaysUses =
     (rule : PasidRule) (config : Config) (steps : List Step) (e pasid page : ℕ) (write : Bool) (said : Answer)
@@ -66,6 +68,7 @@ pub record Looks (w : World) (frame : ℕ) (said : Answer) : Type 0 where
   pub mapped : (said ≡ answer.Mapped) ↔ (place w frame ≡ Mapped)
   pub withheld : (said ≡ answer.Withheld) ↔ (place w frame ≡ Withheld)
 
+-- each look that is accepted, after every list of steps, tells where the frame is just then
 abbrev pub AlwaysLooks : Type 0
 AlwaysLooks =
     (rule : PasidRule) (config : Config) (steps : List Step) (frame : ℕ) (said : Answer)
@@ -73,10 +76,11 @@ AlwaysLooks =
     → reply (world_after rule config steps) (step.Look frame) ≡ Ok said
     → Looks (world_after rule config steps) frame said
 
--- An invalidate completion that is counted at an open unit answers how many orders the step makes done.
+-- how many of the orders that a unit had are done now and weren't then
 abbrev pub made_done : (was now : Endpoint) → ℕ
 made_done was now = count_below was.orders (λ k. is_done (now.order_state k) && not (is_done (was.order_state k)))
 
+-- An invalidate completion that is counted at an open unit answers how many orders the step makes done (section 10.3.3).
 abbrev pub AlwaysFrees : Type 0
 AlwaysFrees =
     (rule : PasidRule) (config : Config) (steps : List Step) (s : Step) (e : ℕ) (names : ℕ → Bool)
@@ -108,6 +112,7 @@ pub record Succeeds (w v : World) (worker count : ℕ) : Type 0 where
   pub in_hand : w.hand worker ≡ Some job
   pub maps : MapsPages w v (job_space w job) count
 
+-- each reply that is answered by a success, after every list of steps, maps as many pages as the answer says
 abbrev pub AlwaysSucceeds : Type 0
 AlwaysSucceeds =
     (rule : PasidRule) (config : Config) (steps : List Step) (worker : ℕ) (verdict : Verdict) (count : ℕ)

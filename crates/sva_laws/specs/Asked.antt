@@ -39,6 +39,7 @@ pub record MapsWhatIsAsked (w v : World) (job : ℕ) : Type 0 where
   pub all : (page : ℕ) → IsAskedFor w job page → is_mapped v (job_space w job) page ≡ true
   pub writable : (m : ℕ) → w.mappings.made ≤ m → m < v.mappings.made → (v.mappings.write m ≡ true) ↔ IsAskedToWrite w job (v.mappings.page m)
 
+-- each reply that is answered by a success, after every list of steps, maps so for the job in the worker's hand
 abbrev pub AlwaysMapsWhatIsAsked : Type 0
 AlwaysMapsWhatIsAsked =
     (rule : PasidRule) (config : Config) (steps : List Step) (worker job : ℕ) (verdict : Verdict) (count : ℕ)
@@ -47,11 +48,12 @@ AlwaysMapsWhatIsAsked =
     → (world_after rule config steps).hand worker ≡ Some job
     → MapsWhatIsAsked (world_after rule config steps) (world_after rule config (steps ++ step.Reply worker verdict ∷ [])) job
 
--- What a worker's reply is answered, and so which code is sent (section 10.4.2): at an open unit the verdict of the worker where the
--- binding is Live, and Invalid Request where it stops or drains; else nothing is sent and the job is dropped.
+-- the stage of the binding that a job names
 abbrev pub stage_of : World → (job : ℕ) → Stage
 stage_of w job = (job_part w job).stage (job_binding w job)
 
+-- What a worker's reply is answered, and so which code is sent (section 10.4.2): at an open unit the verdict of the worker where the
+-- binding is Live, and Invalid Request where it stops or drains; else nothing is sent and the job is dropped.
 pub record RepliesBy (w : World) (job : ℕ) (verdict : Verdict) (said : Answer) : Type 0 where
   pub success : (count : ℕ) → said ≡ answer.Success count → ((job_part w job).phase ≡ Open) × (stage_of w job ≡ Live) × (verdict ≡ verdict_is.Success)
   pub failure : said ≡ answer.Failure → ((job_part w job).phase ≡ Open) × (stage_of w job ≡ Live) × (verdict ≡ verdict_is.Failure)
@@ -64,6 +66,7 @@ pub record RepliesBy (w : World) (job : ℕ) (verdict : Verdict) (said : Answer)
   pub one_of_four :
       ((count : ℕ) × (said ≡ answer.Success count)) ⊎ ((said ≡ answer.Failure) ⊎ ((said ≡ answer.Invalid) ⊎ (said ≡ answer.Dropped)))
 
+-- each reply that is accepted, after every list of steps, is answered so for the job in the worker's hand
 abbrev pub AlwaysRepliesBy : Type 0
 AlwaysRepliesBy =
     (rule : PasidRule) (config : Config) (steps : List Step) (worker job : ℕ) (verdict : Verdict) (said : Answer)

@@ -72,6 +72,7 @@ pub record IsFrontOf (rule : PasidRule) (config : Config) (steps : List Step) (e
       × ((part_after rule config steps e).front ≡ suc c)
       × IsPast rule config steps e wait)
 
+-- after every list of steps the number that a unit keeps as its front is what the look back over the list makes of it
 abbrev pub AlwaysFrontOf : Type 0
 AlwaysFrontOf = (rule : PasidRule) (config : Config) (steps : List Step) (e : ℕ) → Fits config → IsFrontOf rule config steps e
 
@@ -130,6 +131,7 @@ pub record KeepsTargets (rule : PasidRule) (config : Config) (before : List Step
       × (target_wire config.first (part_after rule config (before ++ step ∷ since) e) owed ≡ Some target)
       × IsTarget rule config before step since e b target
 
+-- of each mapping that a step of a list took out of its space, and at each endpoint, a host keeps so after the whole list
 abbrev pub AlwaysKeepsTargets : Type 0
 AlwaysKeepsTargets =
     (rule : PasidRule) (config : Config) (before : List Step) (step : Step) (since : List Step) (m e : ℕ) (owed : ℕ → Owed)

@@ -40,6 +40,7 @@ AlwaysOwned =
     → Usable (world_after rule config steps) e b q m
     → is_unreleased (((world_after rule config steps).part e).stage b) ≡ true
 
+-- the second half of it: the owner's live space maps the page to the same frame with the same write flag, or that frame is withheld
 abbrev pub AlwaysPresentOrWithheld : Type 0
 AlwaysPresentOrWithheld =
     (rule : PasidRule) (config : Config) (steps : List Step) (e b q m : ℕ)
@@ -47,9 +48,11 @@ AlwaysPresentOrWithheld =
     → Usable (world_after rule config steps) e b q m
     → IsPresent (world_after rule config steps) e b q m ⊎ IsWithheld rule config steps ((world_after rule config steps).mappings.frame m)
 
+-- after every list of steps page requests, markers and responses stay with the binding that asked (PCI Express Base 5.0, section 10.4)
 abbrev pub AlwaysMatched : Type 0
 AlwaysMatched = (rule : PasidRule) (config : Config) (steps : List Step) (e : ℕ) → Fits config → IsMatched ((world_after rule config steps).part e)
 
+-- each frame is at one page of one live space, or withheld, or free; and the step reads the same of it as the look back over the list
 abbrev pub AlwaysDivided : Type 0
 AlwaysDivided = (rule : PasidRule) (config : Config) (steps : List Step) → Fits config → IsDivided rule config steps
 
@@ -89,6 +92,7 @@ pub record IsTold (rule : PasidRule) (config : Config) (steps : List Step) (of_s
   pub withheld : (k f : ℕ) → slice_get frames k ≡ Some f
       → (answer ≡ WithheldFrames frames) ↔ IsWithheld rule config (steps ++ Unmap of_space page count ∷ []) f
 
+-- each unmapping of single pages that is accepted, after every list of steps, answers so
 abbrev pub AlwaysTold : Type 0
 AlwaysTold =
     (rule : PasidRule) (config : Config) (steps : List Step) (of_space page count : ℕ) (answer : Answer)
@@ -117,6 +121,7 @@ pub record IsToldOfRange (rule : PasidRule) (config : Config) (steps : List Step
       → (answer ≡ RangeWithheld frames) ↔ IsWithheld rule config (steps ++ UnmapRange of_space page order ∷ []) f
   pub gone : (k : ℕ) → k < 2 ^ order → is_mapped (world_after rule config (steps ++ UnmapRange of_space page order ∷ [])) space (page + k) ≡ false
 
+-- each unmapping of a range that is accepted, after every list of steps, answers so
 abbrev pub AlwaysToldOfRange : Type 0
 AlwaysToldOfRange =
     (rule : PasidRule) (config : Config) (steps : List Step) (of_space page order : ℕ) (answer : Answer)
@@ -260,35 +265,43 @@ pub record NeverOccurs (p : Endpoint) : Type 0 where
 abbrev pub page_queue : Endpoint → ℕ
 page_queue p = count_below p.page_requests (λ r. is_arrived (p.page_request r))
 
+-- the arrivals that stand in the unit's page request queue, oldest first (Intel VT-d, "Page Request Queue")
 abbrev pub waiting : Endpoint → List ℕ
 waiting p = select p.arrivals (is_waiting p)
 
+-- At most 32 page requests of an endpoint wait for their response (its allocation: section 10.5.2), so the 32 places of its
+-- unit's page request queue are never too few.
 pub record IsLimited (p : Endpoint) : Type 0 where
   pub outstanding : outstanding p ≤ 32
   pub page_queue : page_queue p ≤ 32
   pub waiting : length (waiting p) ≤ 32
 
+-- after every list of steps each label finds the one record that bears it, at its own endpoint and unit, and is within its limit
 abbrev pub AlwaysLabelled : Type 0
 AlwaysLabelled = (rule : PasidRule) (config : Config) (steps : List Step) (e : ℕ) → Fits config → IsLabelled ((world_after rule config steps).part e)
 
+-- after every list of steps each label that a receiver reads still means the record for which its message was sent
 abbrev pub AlwaysFound : Type 0
 AlwaysFound = (rule : PasidRule) (config : Config) (steps : List Step) (e : ℕ) → Fits config → IsFound ((world_after rule config steps).part e)
 
+-- after no list of steps does an endpoint, its unit or a worker meet one of these cases
 abbrev pub NeverOccurring : Type 0
 NeverOccurring = (rule : PasidRule) (config : Config) (steps : List Step) (e : ℕ) → Fits config → NeverOccurs ((world_after rule config steps).part e)
 
+-- after every list of steps no endpoint is beyond its allocation, and no unit's page request queue is overfull
 abbrev pub AlwaysLimited : Type 0
 AlwaysLimited = (rule : PasidRule) (config : Config) (steps : List Step) (e : ℕ) → Fits config → IsLimited ((world_after rule config steps).part e)
 
--- What is awaited at an open unit is on its way, once. Each busy ITag has exactly one of: its Invalidate in flight, an
--- invalidation that the endpoint has taken, or completions owed, each of them in flight.
+-- is it an invalidate completion in flight, and one that names the order?
 abbrev pub names_order : (order : ℕ) → Option Subject → Bool
 names_order k (Some (InvalidatedOf names)) = names k
 names_order k _ = false
 
+-- how many of the first so many messages are completions in flight that name the order
 abbrev pub completions : (messages : ℕ) → Endpoint → (order : ℕ) → ℕ
 completions n p k = count_below n (λ c. names_order k (p.message c))
 
+-- how many completions an order is owed yet; 0 as long as the endpoint hasn't finished it, and once the last has come
 abbrev pub left_of : OrderState → ℕ
 left_of (Completing count left) = left
 left_of _ = 0
@@ -308,6 +321,8 @@ pub data IsOnItsWay (p : Endpoint) (g : ℕ) : Type 0 where
   in_hand : (worker : ℕ) → p.host_group g ≡ InHand worker → IsOnItsWay p g
   answered : (c : ℕ) (code : Code) → p.message c ≡ Some (ResponseOf g code) → p.host_group g ≡ Replied → IsOnItsWay p g
 
+-- What is awaited at an open unit is on its way, once. Each busy ITag has exactly one of: its Invalidate in flight, an
+-- invalidation that the endpoint has taken, or completions owed, each of them in flight.
 pub record IsUnderWay (n : ℕ) (p : Endpoint) : Type 0 where
   pub sent : (k : ℕ) → p.order_state k ≡ Sent → p.message (p.invalidate_message k) ≡ Some (InvalidateOf k)
   pub sent_only : (c k : ℕ) → p.message c ≡ Some (InvalidateOf k) → p.order_state k ≡ Sent
@@ -342,10 +357,12 @@ pub record IsUnderWay (n : ℕ) (p : Endpoint) : Type 0 where
   pub void : (k : ℕ) → k < p.orders → p.order_state k ≡ Void → (p.phase ≢ Open) ⊎ (0 < p.resets)
   pub response_once : (c d g : ℕ) (code other : Code) → p.message c ≡ Some (ResponseOf g code) → p.message d ≡ Some (ResponseOf g other) → c ≡ d
 
+-- after every list of steps nothing is awaited at an open unit that isn't on its way
 abbrev pub AlwaysUnderWay : Type 0
 AlwaysUnderWay = (rule : PasidRule) (config : Config) (steps : List Step) (e : ℕ) → Fits config
     → IsUnderWay (world_after rule config steps).messages ((world_after rule config steps).part e)
 
+-- after every list of steps each message in flight carries what its records bear just then
 abbrev pub AlwaysCarried : Type 0
 AlwaysCarried = (rule : PasidRule) (config : Config) (steps : List Step) (e : ℕ) → Fits config
     → IsCarried (world_after rule config steps).mappings ((world_after rule config steps).part e)
@@ -383,6 +400,7 @@ pub record HoldsJobs (w : World) : Type 0 where
       → (w.job job).group ≡ (w.job same).group
       → job ≡ same
 
+-- after every list of steps the workers' hands, the job table and the groups at the host agree
 abbrev pub AlwaysHoldsJobs : Type 0
 AlwaysHoldsJobs = (rule : PasidRule) (config : Config) (steps : List Step) → Fits config → HoldsJobs (world_after rule config steps)
 
@@ -392,6 +410,7 @@ pub record FindsMappings (ms : Mappings) : Type 0 where
   pub at : (space page m : ℕ) → (ms.at space page ≡ Some m) ↔ ((ms.state m ≡ Present) × (ms.space m ≡ space) × (ms.page m ≡ page))
   pub latest : (frame m : ℕ) → (ms.latest frame ≡ Some m) ↔ ((m < ms.made) × (ms.frame m ≡ frame) × ((k : ℕ) → k < ms.made → ms.frame k ≡ frame → k ≤ m))
 
+-- after every list of steps a space and a page, and a frame, find the mapping that they should
 abbrev pub AlwaysFindsMappings : Type 0
 AlwaysFindsMappings = (rule : PasidRule) (config : Config) (steps : List Step) → Fits config → FindsMappings (world_after rule config steps).mappings
 
@@ -408,5 +427,6 @@ pub record KeepsLimits (w : World) : Type 0 where
   pub queued : (e : ℕ) → queue_length (w.part e) ≤ 64
   pub cached : (e : ℕ) → cached_translations (w.part e) ≤ 64
 
+-- after every list of steps no more is kept than these limits allow
 abbrev pub AlwaysKeepsLimits : Type 0
 AlwaysKeepsLimits = (rule : PasidRule) (config : Config) (steps : List Step) → Fits config → KeepsLimits (world_after rule config steps)

@@ -56,6 +56,7 @@ pub record CountsResetDones (w : World) (s : Step) (e : ℕ) (after : Endpoint) 
   pub rises : Delivers w s e ResetDone → after.resets ≡ suc (w.part e).resets
   pub stays : (Delivers w s e ResetDone → ⊥) → after.resets ≡ (w.part e).resets
 
+-- by which events of a step an order of the unit becomes done or void, and in which state a new one begins
 pub record ChangesOrders (w : World) (s : Step) (e : ℕ) (after : Endpoint) : Type 0 where
   -- an order is done after the step exactly where it was done before, or the step passes it, being a wait, or delivers the
   -- last of its completions
@@ -98,29 +99,34 @@ pub record GivesCookies (w : World) : Type 0 where
       → (w.part f).order other ≡ Wait cookie drains
       → (e ≡ f) × (wait ≡ other)
 
+-- after every list of steps the next step counts so; as the counter begins at 0, it tells how many reset-dones were delivered
 abbrev pub AlwaysCountsResetDones : Type 0
 AlwaysCountsResetDones =
     (rule : PasidRule) (config : Config) (steps : List Step) (s : Step) (e : ℕ)
     → Fits config
     → CountsResetDones (world_after rule config steps) s e ((world_after rule config (steps ++ s ∷ [])).part e)
 
+-- after every list of steps orders become done and void by these events of the next step, and by no others
 abbrev pub AlwaysChangesOrders : Type 0
 AlwaysChangesOrders =
     (rule : PasidRule) (config : Config) (steps : List Step) (s : Step) (e : ℕ)
     → Fits config
     → ChangesOrders (world_after rule config steps) s e ((world_after rule config (steps ++ s ∷ [])).part e)
 
+-- after every list of steps the next step notes a Stop Marker (PCI Express Base 5.0, section 10.4.1) exactly where it delivers it so
 abbrev pub AlwaysNotesMarkers : Type 0
 AlwaysNotesMarkers =
     (rule : PasidRule) (config : Config) (steps : List Step) (s : Step) (e : ℕ)
     → Fits config
     → NotesMarkers (world_after rule config steps) s e ((world_after rule config (steps ++ s ∷ [])).part e)
 
+-- between any two moments of a list of steps an order becomes void by a reset alone
 abbrev pub AlwaysVoidByReset : Type 0
 AlwaysVoidByReset =
     (rule : PasidRule) (config : Config) (before since : List Step) (e : ℕ)
     → Fits config
     → IsVoidByReset ((world_after rule config before).part e) ((world_after rule config (before ++ since)).part e)
 
+-- after every list of steps the cookies of all units' waits are different ones, each below the next that is given out
 abbrev pub AlwaysGivesCookies : Type 0
 AlwaysGivesCookies = (rule : PasidRule) (config : Config) (steps : List Step) → Fits config → GivesCookies (world_after rule config steps)

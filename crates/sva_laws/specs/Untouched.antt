@@ -33,6 +33,7 @@ pub record Evicts (p q : Endpoint) (pasid page : ℕ) : Type 0 where
   pub others : (r : ℕ) → r ≢ request → q.held r ≡ p.held r
   pub alone : record q { held = p.held } ≡ p
 
+-- each evict that is accepted, after every list of steps, takes that one translation and leaves the rest of its endpoint
 abbrev pub AlwaysEvicts : Type 0
 AlwaysEvicts =
     (rule : PasidRule) (config : Config) (steps : List Step) (e pasid page : ℕ) (said : Answer)
@@ -52,6 +53,7 @@ pub record Takes (p q : Endpoint) (order : ℕ) : Type 0 where
   pub other_orders : (k : ℕ) → k ≢ order → q.order_state k ≡ p.order_state k
   pub alone : record q { held = p.held; request = p.request; order_state = p.order_state; message = p.message } ≡ p
 
+-- each Invalidate Request that is delivered, after every list of steps, is taken so, and at once
 abbrev pub AlwaysTakes : Type 0
 AlwaysTakes =
     (rule : PasidRule) (config : Config) (steps : List Step) (s : Step) (e order : ℕ)
@@ -80,6 +82,7 @@ pub record Brings (p q : Endpoint) (request : ℕ) (found : Option ℕ) (said : 
   pub other_requests : (r : ℕ) → r ≢ request → q.request r ≡ p.request r
   pub alone : record q { held = p.held; request = p.request; at_tag = p.at_tag; message = p.message } ≡ p
 
+-- each translation completion that is delivered, after every list of steps, changes the cache only where it is answered `held`
 abbrev pub AlwaysBrings : Type 0
 AlwaysBrings =
     (rule : PasidRule) (config : Config) (steps : List Step) (s : Step) (e request : ℕ) (found : Option ℕ) (said : Answer)
@@ -94,6 +97,7 @@ pub record Stops (p q : Endpoint) (binding : ℕ) : Type 0 where
   pub others : (b : ℕ) → b ≢ binding → q.pasid_state b ≡ p.pasid_state b
   pub alone : record q { pasid_state = p.pasid_state; message = p.message } ≡ p
 
+-- each Stop that is delivered, after every list of steps, touches no translation, no request, no use and no other PASID
 abbrev pub AlwaysStops : Type 0
 AlwaysStops =
     (rule : PasidRule) (config : Config) (steps : List Step) (s : Step) (e binding : ℕ)
@@ -110,6 +114,7 @@ pub record Quits (p q : Endpoint) (pasid : ℕ) : Type 0 where
   pub other_groups : (g : ℕ) → (p.asker g ≢ bearer p pasid) ⊎ (p.group g ≢ Awaiting) → q.group g ≡ p.group g
   pub alone : record q { pasid_state = p.pasid_state; group = p.group; message = p.message; carried = p.carried } ≡ p
 
+-- each quit that is accepted, after every list of steps, touches no translation, no translation request and no other PASID
 abbrev pub AlwaysQuits : Type 0
 AlwaysQuits =
     (rule : PasidRule) (config : Config) (steps : List Step) (e pasid : ℕ) (said : Answer)
@@ -140,6 +145,7 @@ pub record Asks (p q : Endpoint) (pasid page : ℕ) : Type 0 where
         carried = p.carried;
       } ≡ p
 
+-- each `ask` that is accepted, after every list of steps, adds its own request and changes no older one
 abbrev pub AlwaysAsks : Type 0
 AlwaysAsks =
     (rule : PasidRule) (config : Config) (steps : List Step) (e pasid page : ℕ) (said : Answer)
@@ -152,6 +158,7 @@ pub record Disables (w : World) (s : Step) (e : ℕ) (after : Endpoint) : Type 0
   pub disabled : after.is_disabled ≡ true → ((w.part e).is_disabled ≡ true) ⊎ ((g : ℕ) × Delivers w s e (ResponseOf g FailureCode))
   pub disables : (g : ℕ) → Delivers w s e (ResponseOf g FailureCode) → after.is_disabled ≡ true
 
+-- after every list of steps the next step disables an endpoint's interface exactly by such a delivery
 abbrev pub AlwaysDisables : Type 0
 AlwaysDisables =
     (rule : PasidRule) (config : Config) (steps : List Step) (s : Step) (e : ℕ)
@@ -166,6 +173,7 @@ pub record CutsOff (p q : Endpoint) : Type 0 where
   pub invalidating : (b invalidation wait : ℕ) → p.stage b ≡ Invalidating invalidation wait → q.stage b ≡ Quiet
   pub others : (b : ℕ) → (p.stage b ≡ Unbound) ⊎ ((p.stage b ≡ Quiet) ⊎ ((p.stage b ≡ Lost) ⊎ (p.stage b ≡ Released))) → q.stage b ≡ p.stage b
 
+-- each reset-done that is delivered, after every list of steps, leads the bindings of its endpoint to these stages
 abbrev pub AlwaysCutsOff : Type 0
 AlwaysCutsOff =
     (rule : PasidRule) (config : Config) (steps : List Step) (s : Step) (e : ℕ)
@@ -179,6 +187,7 @@ pub record DrainsOnce (p : Endpoint) : Type 0 where
   pub draining : (b wait : ℕ) → p.stage b ≡ Draining wait → drains (p.order wait) ≡ true
   pub invalidating : (b invalidation wait : ℕ) → p.stage b ≡ Invalidating invalidation wait → drains (p.order wait) ≡ false
 
+-- after every list of steps a binding on its way out waits for one drain, and for that before its PASID is invalidated
 abbrev pub AlwaysDrainsOnce : Type 0
 AlwaysDrainsOnce = (rule : PasidRule) (config : Config) (steps : List Step) (e : ℕ) → Fits config → DrainsOnce ((world_after rule config steps).part e)
 
@@ -194,6 +203,7 @@ is_of_endpoint (step.Quit e pasid) = true
 is_of_endpoint (step.Deliver number) = true
 is_of_endpoint _ = false
 
+-- after every list of steps no act of an endpoint, and no delivery, is refused Resetting
 abbrev pub AlwaysGoesOnInReset : Type 0
 AlwaysGoesOnInReset =
     (rule : PasidRule) (config : Config) (steps : List Step) (s : Step)

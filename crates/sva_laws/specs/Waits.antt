@@ -35,6 +35,7 @@ pub record HasFront (cookies : ℕ) (p : Endpoint) : Type 0 where
   pub draining : (b wait c : ℕ) (x : Bool) → p.stage b ≡ Draining wait → p.order wait ≡ Wait c x → (p.order_state wait ≡ Done) ↔ (c < p.front)
   pub invalidating : (b k wait c : ℕ) (x : Bool) → p.stage b ≡ Invalidating k wait → p.order wait ≡ Wait c x → (p.order_state wait ≡ Done) ↔ (c < p.front)
 
+-- after every list of steps each unit's cookies rise, and its front tells which of its waits are done
 abbrev pub AlwaysHasFront : Type 0
 AlwaysHasFront = (rule : PasidRule) (config : Config) (steps : List Step) (e : ℕ) → Fits config
     → HasFront (world_after rule config steps).cookies ((world_after rule config steps).part e)
@@ -59,6 +60,7 @@ FitsDebt p (Pasid invalidation wait resets in_reset) = (wait ≡ suc invalidatio
     × (in_reset ≡ true → resets ≡ p.resets → p.phase ≢ Open)
 FitsDebt p (NextReset resets) = (resets ≤ p.resets) × (resets ≡ p.resets → p.phase ≢ Open)
 
+-- after every list of steps what is written down of each mapping that is gone fits the orders of each endpoint's unit
 abbrev pub AlwaysFitsDebts : Type 0
 AlwaysFitsDebts =
     (rule : PasidRule) (config : Config) (steps : List Step) (m e : ℕ) (owed : ℕ → Owed)
@@ -74,6 +76,7 @@ IsAwaited p wait =
     × (c : ℕ) × (x : Bool) × (p.order wait ≡ Wait c x) × (p.front ≤ c)
     × ((p.order_state wait ≡ Queued) ⊎ ((p.order_state wait ≡ Void) × (p.phase ≢ Open)))
 
+-- by what is owed: the wait behind the ranges' invalidations or behind the PASID's, or a reset's end; who owes nothing has answered
 abbrev pub AwaitsTarget : Endpoint → Owed → Type 0
 AwaitsTarget p Nothing = ⊥
 AwaitsTarget p (Ranges first count resets) = IsAwaited p (first + count)
@@ -81,6 +84,7 @@ AwaitsTarget p (Pasid invalidation wait resets false) = IsAwaited p wait
 AwaitsTarget p (Pasid invalidation wait resets true) = p.phase ≢ Open
 AwaitsTarget p (NextReset resets) = p.phase ≢ Open
 
+-- after every list of steps an endpoint that hasn't answered for a mapping that is gone waits for such a target
 abbrev pub AlwaysAwaitsTargets : Type 0
 AlwaysAwaitsTargets =
     (rule : PasidRule) (config : Config) (steps : List Step) (m e : ℕ) (owed : ℕ → Owed)
@@ -111,6 +115,7 @@ pub record AnswersByUnit (rule : PasidRule) (config : Config) (steps : List Step
       b
       ((world_after rule config before).mappings.page m))
 
+-- after every list of steps each mapping that is gone was taken out by one of these, and the look back to it tells who has answered
 abbrev pub AlwaysAnswersByUnit : Type 0
 AlwaysAnswersByUnit =
     (rule : PasidRule) (config : Config) (steps : List Step) (m : ℕ) (owed : ℕ → Owed)

@@ -22,6 +22,7 @@ use Rattle.sva_memory.specs.Unmapping.{pages_in, unmapped}
 abbrev pub ask_seen : Ask → AskWire
 ask_seen ask = record { page = ask.page; read = ask.read; write = ask.write }
 
+-- what the requests of a job ask for, in order of filing
 abbrev pub asks_seen : List Ask → List AskWire
 asks_seen asks = map ask_seen asks
 
@@ -29,6 +30,7 @@ asks_seen asks = map ask_seen asks
 abbrev pub new_among : List PageWire → List AskWire → List ℕ
 new_among pages asks = unseen (is_mapped pages) (map (λ a. a.page) asks)
 
+-- the same of the space of this number
 abbrev pub new_pages : MemorySeen → (space : ℕ) → List AskWire → List ℕ
 new_pages memory n asks = new_among (pages_in memory n) asks
 
@@ -65,6 +67,7 @@ pages_mapped asks (q ∷ qs) (f ∷ fs) pages =
     pages_mapped asks qs fs (insert_by is_lower_page (record { page = q; frame = f; write = is_write_asked asks q }) pages)
 pages_mapped asks _ _ pages = pages
 
+-- the places of frames after that: each frame that a page was mapped to is mapped
 abbrev pub places_mapped : List ℕ → List ℕ → List PlaceWire → List PlaceWire
 places_mapped (q ∷ qs) (f ∷ fs) places = places_mapped qs fs (slice_set places f MappedWire)
 places_mapped _ _ places = places
@@ -74,6 +77,7 @@ abbrev pub pages_back : List ℕ → List PageWire → List PageWire
 pages_back [] pages = pages
 pages_back (q ∷ qs) pages = without_pages q 1 (pages_back qs pages)
 
+-- the places of frames after that: each frame that one of these pages led to is free again
 abbrev pub places_back : List ℕ → List PageWire → List PlaceWire → List PlaceWire
 places_back [] pages places = places
 places_back (q ∷ qs) pages places = placed FreeWire (filter (is_between q 1) (pages_back qs pages)) (places_back qs pages places)

@@ -5,6 +5,7 @@ use Rattle.sva_memory.specs.Seen.{MemorySeen, places_seen}
 use Rattle.sva_memory.specs.Lives.{spaces_seen, count_all, AreNumbered}
 use Rattle.sva_memory.specs.Owned.{mapped_bit}
 
+-- what a memory is seen as: its live spaces, the places of its frames, and the number of the next space
 abbrev pub memory_in : Inside → MemorySeen
 memory_in memory = record { spaces = spaces_seen memory.spaces.items; places = places_seen memory.pool; next_space = memory.next_space }
 

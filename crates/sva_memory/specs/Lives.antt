@@ -5,12 +5,15 @@ use Rattle.sva_space.specs.Calls.{count_in}
 use Rattle.sva_memory.specs.declared.live.Live.{Live}
 use Rattle.sva_memory.specs.Seen.{pages_seen}
 
+-- is it the live space of this number?
 abbrev pub is_of : (number : ℕ) → Live → Bool
 is_of number live = live.number == number
 
+-- a live space, by its number, with its mapped pages
 abbrev pub space_seen : Live → SpaceWire
 space_seen live = record { number = live.number; pages = pages_seen live.space }
 
+-- the live spaces, in the order in which they began
 abbrev pub spaces_seen : List Live → List SpaceWire
 spaces_seen lives = map space_seen lives
 

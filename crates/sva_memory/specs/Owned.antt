@@ -3,6 +3,7 @@ use Rattle.std.specs.Prelude.{◌≡◌, ◌≤◌, ℕ, ◌+◌, Bool, Option, 
 use Rattle.sva_frames.specs.Frames.{Holding, Mapped}
 use Rattle.sva_space.specs.Calls.{count_in}
 
+-- 1 where the pool has the frame and it is mapped there, else 0
 abbrev pub one_if_mapped : Option Holding → ℕ
 one_if_mapped (Some Mapped) = 1
 one_if_mapped _ = 0

@@ -33,6 +33,8 @@ PageMapped pages places q x (Ok (answer.Frame f)) pages_after places_after =
 PageMapped pages places q x (Ok _) pages_after places_after = ⊥
 PageMapped pages places q x _ pages_after places_after = (pages_after ≡ pages) × (places_after ≡ places)
 
+-- A page is mapped, or refused by the first cause that holds. Want of memory changes nothing, and comes only where the page would have
+-- been mapped.
 abbrev pub MapsPage : List PageWire → List PlaceWire → (page : ℕ) (write : Bool) → Reply → List PageWire → List PlaceWire → Type 0
 MapsPage pages places q x (Err refusal.OutOfMemory) pages_after places_after =
     IsOk (map_reply places q pages) × (pages_after ≡ pages) × (places_after ≡ places)

@@ -11,13 +11,16 @@ use Rattle.sva_model.specs.Wire.PlaceWire.{FreeWire, MappedWire, WithheldWire}
 abbrev pub page_seen : ℕ × (ℕ × Bool) → PageWire
 page_seen mapping = record { page = mapping.0; frame = mapping.1.0; write = mapping.1.1 }
 
+-- the mapped pages of a space, in rising order as the space has them
 abbrev pub pages_seen : List (ℕ × (ℕ × Bool)) → List PageWire
 pages_seen mappings = map page_seen mappings
 
+-- what a withheld frame waits for at a unit: a wait by its cookie, or the end of the reset that the unit is in
 abbrev pub target_seen : Target → TargetWire
 target_seen (CookieTarget cookie) = Cookie cookie
 target_seen ResetTarget = ResetEnd
 
+-- the same at each unit, by its number; none where the frame waits for nothing there
 abbrev pub targets_seen : List (Option Target) → List (Option TargetWire)
 targets_seen targets = map (option_map target_seen) targets
 
@@ -27,6 +30,7 @@ place_seen Free = FreeWire
 place_seen Mapped = MappedWire
 place_seen (Withheld targets) = WithheldWire (targets_seen targets)
 
+-- where each frame is, by its number
 abbrev pub places_seen : List Holding → List PlaceWire
 places_seen frames = map place_seen frames
 
@@ -36,6 +40,7 @@ pub record MemorySeen : Type 0 where
   pub places : List PlaceWire
   pub next_space : ℕ
 
+-- the spaces and frames of a host, without what it keeps of bindings, endpoints and messages
 abbrev pub memory_of : Wire → MemorySeen
 memory_of w = record { spaces = w.spaces; places = w.places; next_space = w.next_space }
 

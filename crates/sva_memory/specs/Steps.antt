@@ -37,10 +37,12 @@ AllMoves moves before after = (w : Wire) → memory_of w ≡ before → with_mem
 abbrev pub has_space : MemorySeen → (number : ℕ) → Bool
 has_space memory n = is_some (pages_of memory.spaces n)
 
+-- is the frame at a page of a space?
 abbrev pub is_mapped_place : PlaceWire → Bool
 is_mapped_place MappedWire = true
 is_mapped_place _ = false
 
+-- is the frame withheld, since a unit hasn't answered for it?
 abbrev pub is_withheld_place : PlaceWire → Bool
 is_withheld_place (WithheldWire targets) = true
 is_withheld_place _ = false

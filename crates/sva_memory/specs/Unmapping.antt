@@ -22,9 +22,11 @@ pages_in memory n = or_no_pages (pages_of memory.spaces n)
 abbrev pub no_such_space : MemorySeen → (number : ℕ) → Cause
 no_such_space memory n = (not (has_space memory n), refusal.NoSuchSpace)
 
+-- against an unmapping of `count` pages in a row; whether queues have room, and cookies are left, is asked elsewhere
 abbrev pub unmap_causes_of : MemorySeen → (space page count : ℕ) → List Cause
 unmap_causes_of memory n q count = no_such_space memory n ∷ unmap_causes (pages_in memory n) q count
 
+-- against an unmapping of a range of 2^order aligned pages (PCI Express Base 5.0, section 10.3.1)
 abbrev pub range_causes_of : MemorySeen → (space page order : ℕ) → List Cause
 range_causes_of memory n q order = no_such_space memory n ∷ range_causes (pages_in memory n) q order
 
@@ -32,6 +34,7 @@ range_causes_of memory n q order = no_such_space memory n ∷ range_causes (page
 abbrev pub may_unmap : MemorySeen → (space page count : ℕ) → Result (Unit {0}) Refusal
 may_unmap memory n q count = verdict (unmap_causes_of memory n q count)
 
+-- whether a range may be unmapped: else the first cause against it
 abbrev pub may_unmap_range : MemorySeen → (space page order : ℕ) → Result (Unit {0}) Refusal
 may_unmap_range memory n q order = verdict (range_causes_of memory n q order)
 

@@ -28,6 +28,7 @@ abbrev pub sent_by : InFlight → Call → List (ℕ × Message)
 sent_by bag (Send message copies) = copies_of message bag.next copies
 sent_by bag _ = []
 
+-- the message that was found under a number, with that number; nothing where none was found
 abbrev pub numbered : ℕ → Option Message → List (ℕ × Message)
 numbered number None = []
 numbered number (Some message) = (number, message) ∷ []

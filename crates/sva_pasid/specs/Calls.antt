@@ -15,6 +15,7 @@ pub record Holder : Type 0 where
   pub places : List Place
   pub hand : ℕ → Option Life
 
+-- a table in which no binding has begun, with nothing in hand
 abbrev pub opening : Holder
 opening = record { places = []; hand = λ _. None }
 
@@ -28,27 +29,33 @@ pub data Call : Type 0 where
   take_back : (binding : ℕ) → Call
   by_reset : (endpoint : ℕ) → Call
 
+-- what is in hand of each binding, where of this one it is now that life, or nothing
 abbrev pub hand_with : ℕ → Option Life → (ℕ → Option Life) → ℕ → Option Life
 hand_with binding life hand b = if b == binding then life else hand b
 
+-- once a binding of the space begins under this PASID: its place is the last; with no PASID left none begins
 abbrev pub after_begin : ℕ → ℕ → ℕ → Option ℕ → Holder → Holder
 after_begin endpoint space binding None h = h
 after_begin endpoint space binding (Some pasid) h = record h { places = h.places ++ begun endpoint space binding pasid ∷ [] }
 
+-- once the stage of a binding is taken in hand: its place stays and is empty, so that its PASID stays borne
 abbrev pub after_take : ℕ → Option Stage → Holder → Holder
 after_take binding None h = h
 after_take binding (Some stage) h =
     record { places = with_stage binding None h.places; hand = hand_with binding (Some (at stage)) h.hand }
 
+-- once the stage in hand has made a move, which the table doesn't see before it is put back
 abbrev pub after_moving : ℕ → Move → Option Life → Holder → Holder
 after_moving binding m None h = h
 after_moving binding m (Some life) h = record h { hand = hand_with binding (Some (after_move life m)) h.hand }
 
+-- once the stage in hand is back in its place; of a binding that was released there is none to put back
 abbrev pub after_put : ℕ → Option Life → Holder → Holder
 after_put binding (Some (at stage)) h =
     record { places = with_stage binding (Some stage) h.places; hand = hand_with binding None h.hand }
 after_put binding _ h = h
 
+-- once a binding is ended by what was released of it: its place is gone, and bears its PASID no more
 abbrev pub after_end : ℕ → Option Life → Holder → Holder
 after_end binding (Some (over n)) h = record { places = without n.binding h.places; hand = hand_with binding None h.hand }
 after_end binding _ h = h
@@ -63,6 +70,7 @@ after h (end binding) = after_end binding (h.hand binding) h
 after h (take_back binding) = record h { places = without binding h.places }
 after h (by_reset endpoint) = record h { places = after_reset endpoint h.places }
 
+-- the table and what is in hand after all calls of the list
 abbrev pub after_all : Holder → List Call → Holder
 after_all h [] = h
 after_all h (c ∷ cs) = after_all (after h c) cs
@@ -73,6 +81,7 @@ IsPermitted h (begin endpoint space binding) = IsSome (lowest space h.places) ×
 IsPermitted h (take_back binding) = IsLiveIn binding h.places
 IsPermitted h _ = Unit {0}
 
+-- each call of the list is permitted where it is made
 abbrev pub ArePermitted : Holder → List Call → Type 0
 ArePermitted h [] = Unit {0}
 ArePermitted h (c ∷ cs) = IsPermitted h c × ArePermitted (after h c) cs
@@ -83,6 +92,7 @@ life_in place (Some life) = Some life
 life_in None None = None
 life_in (Some place) None = option_map (λ (stage : Stage). at stage) place.stage
 
+-- where the binding with this number is in its life; nowhere before it begins, and once it is ended or taken back
 abbrev pub life_of : ℕ → Holder → Option Life
 life_of binding h = life_in (place_of binding h.places) (h.hand binding)
 

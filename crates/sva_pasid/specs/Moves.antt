@@ -23,14 +23,17 @@ pub data Move : Type 0 where
   reset : Move
   release : Move
 
+-- where the wait with drain was submitted the binding drains (Intel VT-d, "Page Request Drain"); else it waits for its marker still
 abbrev pub at_drained : Result Wait Stop → Life
 at_drained (Ok w) = at (Draining w)
 at_drained (Err s) = at (Stopping s)
 
+-- where the PASID's invalidation was submitted the binding is invalidating; else its wait or an open group holds it back still
 abbrev pub at_invalidated : Result Wait Wait → Life
 at_invalidated (Ok w) = at (Invalidating w)
 at_invalidated (Err w) = at (Draining w)
 
+-- where the wait behind the PASID's invalidation is done the binding is quiet; else it waits for that still
 abbrev pub at_settled : Result Numbers Wait → Life
 at_settled (Ok n) = at (Quiet n)
 at_settled (Err w) = at (Invalidating w)
@@ -52,10 +55,12 @@ after_move (at (Lost n)) settle = at (Quiet n)
 after_move (at (Quiet n)) release = over n
 after_move life _ = life
 
+-- a binding after all moves of the list
 abbrev pub after_moves : Life → List Move → Life
 after_moves life [] = life
 after_moves life (m ∷ ms) = after_moves (after_move life m) ms
 
+-- the number and the PASID of a binding, which can be told when it is released too
 abbrev pub numbers_of_life : Life → Numbers
 numbers_of_life (at stage) = numbers_of stage
 numbers_of_life (over n) = n
@@ -70,6 +75,7 @@ pub data Kind : Type 0 where
   lost : Kind
   released : Kind
 
+-- the name of a stage alone: without the marker and the wait descriptor that it may wait for
 abbrev pub kind_of_stage : Stage → Kind
 kind_of_stage (Live _) = live
 kind_of_stage (Stopping _) = stopping
@@ -78,6 +84,7 @@ kind_of_stage (Invalidating _) = invalidating
 kind_of_stage (Quiet _) = quiet
 kind_of_stage (Lost _) = lost
 
+-- the name of the stage at which a binding is, or that it is released
 abbrev pub kind_of : Life → Kind
 kind_of (at stage) = kind_of_stage stage
 kind_of (over _) = released
@@ -114,14 +121,17 @@ abbrev pub is_stop : Move → Bool
 is_stop stop = true
 is_stop _ = false
 
+-- is the marker noted by it?
 abbrev pub is_mark : Move → Bool
 is_mark mark = true
 is_mark _ = false
 
+-- is the wait with drain to be submitted by it?
 abbrev pub is_drain : Move → Bool
 is_drain (drain _) = true
 is_drain _ = false
 
+-- does it tell that the wait descriptor is done for which the binding waits?
 abbrev pub is_wait_done : Move → Bool
 is_wait_done wait_done = true
 is_wait_done _ = false
@@ -131,6 +141,7 @@ abbrev pub is_invalidate : Move → Bool
 is_invalidate (invalidate _ groups_open) = not groups_open
 is_invalidate _ = false
 
+-- is the binding to become quiet by it?
 abbrev pub is_settle : Move → Bool
 is_settle settle = true
 is_settle _ = false

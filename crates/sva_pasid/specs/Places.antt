@@ -13,6 +13,7 @@ use Rattle.sva_pasid.specs.declared.bearers.Bearer.{Bearer}
 use Rattle.sva_pasid.specs.declared.bearers.TheConstants.{PASIDS}
 use Rattle.sva_pasid.specs.declared.places.Place.{Place}
 
+-- is the place that of this binding? No two places of a table are of one binding
 abbrev pub is_of : ℕ → Place → Bool
 is_of binding place = place.binding == binding
 

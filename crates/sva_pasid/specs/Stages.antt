@@ -4,6 +4,7 @@ use Rattle.sva_pasid.specs.States.{Numbers, numbers_of_stop, numbers_of_wait}
 use Rattle.sva_pasid.specs.declared.stages.Stage.{Stage}
 use Rattle.sva_pasid.specs.declared.stages.Stage.TheVariants.{Live, Stopping, Draining, Invalidating, Quiet, Lost}
 
+-- a binding's number and PASID, which each stage keeps
 abbrev pub numbers_of : Stage → Numbers
 numbers_of (Live n) = n
 numbers_of (Stopping s) = numbers_of_stop s

@@ -1,5 +1,5 @@
 -- What contracts see of a binding's states, and what each move makes of one. The moves are this project's own rule:
--- how a device is told to stop a PASID is device-specific (PCI Express Base 5.0, section 10.2).
+-- how a device is told to stop a PASID is device-specific (PCI Express Base 5.0, section 6.20).
 use Rattle.std.specs.Prelude.{ℕ, Bool, true, false, ◌&&◌, not, Result, Ok, Err, if◌then◌else◌}
 
 -- the number of a binding, and the PASID that it bears from its beginning to its release
@@ -47,6 +47,7 @@ invalidation_of w cookie groups_open =
 abbrev pub numbers_of_stop : Stop → Numbers
 numbers_of_stop s = record { binding = s.binding; pasid = s.pasid }
 
+-- of a wait the cookie is left out, and whether it was done
 abbrev pub numbers_of_wait : Wait → Numbers
 numbers_of_wait w = record { binding = w.binding; pasid = w.pasid }
 

@@ -68,10 +68,13 @@ Asks (Storm turns) words = IsStorm turns words
 abbrev pub turns_text : List Row → Option Text
 turns_text = one_of (codes "turns")
 
+-- how many turns a storm is to have: the number that was found, or 10000 where none was
 abbrev pub turns_by : Option Text → ℕ
 turns_by None = 10000
 turns_by (Some text) = digits_value 10 (without_leading_plus text)
 
+-- the command that was asked for, by the subcommand that clap entered. What is neither `check` nor `storm` stands for `replay`:
+-- where clap takes the words, it has entered one of the three
 abbrev pub asked_by : Option (Text × List Row) → Asked
 asked_by None = Replay
 asked_by (Some (name, rows)) =
@@ -81,6 +84,7 @@ asked_by (Some (name, rows)) =
 abbrev pub IsWritten : Option Text → Type 0
 IsWritten found = (text : Text) → found ≡ Some text → IsUnsignedIn 1 1000000 text
 
+-- the same of the subcommand that clap entered; where `--turns` was not found there is nothing to read
 abbrev pub IsReadable : Option (Text × List Row) → Type 0
 IsReadable entered = IsWritten (option_and_then (λ p. turns_text p.1) entered)
 

@@ -32,6 +32,7 @@ no_groups = record { groups = []; room = 0; next = 0 }
 abbrev pub is_collecting : ℕ → ℕ → ℕ → OpenGroup → Bool
 is_collecting unit binding index g = g.unit == unit && g.binding == binding && g.index == index && not g.last
 
+-- is it the group with this serial? By it a job leads to its group
 abbrev pub is_of_serial : ℕ → OpenGroup → Bool
 is_of_serial serial g = g.serial == serial
 
@@ -39,12 +40,15 @@ is_of_serial serial g = g.serial == serial
 abbrev pub has_job : ℕ → OpenGroup → Bool
 has_job serial g = is_of_serial serial g && g.last
 
+-- was the group filed under this binding? While one is open, the PASID of a Draining binding isn't invalidated
 abbrev pub is_of_binding : ℕ → OpenGroup → Bool
 is_of_binding binding g = g.binding == binding
 
+-- did the requests of the group come at this unit? A reset of the unit drops it
 abbrev pub is_of_unit : ℕ → OpenGroup → Bool
 is_of_unit unit g = g.unit == unit
 
+-- did the requests of the group come at another unit? A reset of this one leaves it
 abbrev pub is_of_other_unit : ℕ → OpenGroup → Bool
 is_of_other_unit unit g = not (is_of_unit unit g)
 

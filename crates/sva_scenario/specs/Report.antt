@@ -60,6 +60,7 @@ abbrev pub report_by : Result Script LineFault → List ℕ
 report_by (Ok script) = script_report script
 report_by (Err fault) = ended (line_fault_text fault)
 
+-- what `replay` writes of a whole text
 abbrev pub report_of : List ℕ → List ℕ
 report_of text = report_by (scenario_of text)
 
@@ -68,6 +69,7 @@ abbrev pub outcome_by : Result Script LineFault → Outcome
 outcome_by (Ok script) = if is_fit script.config then Done else Faulted
 outcome_by (Err fault) = Faulted
 
+-- how `replay` of a whole text ends
 abbrev pub outcome_of : List ℕ → Outcome
 outcome_of text = outcome_by (scenario_of text)
 
@@ -82,6 +84,7 @@ abbrev pub check_by : Result Script LineFault → List ℕ
 check_by (Ok script) = ended (steps_text (length script.steps))
 check_by (Err fault) = ended (line_fault_text fault)
 
+-- what `check` writes of a whole text
 abbrev pub check_of : List ℕ → List ℕ
 check_of text = check_by (scenario_of text)
 
@@ -90,6 +93,7 @@ abbrev pub check_outcome_by : Result Script LineFault → Outcome
 check_outcome_by (Ok script) = Done
 check_outcome_by (Err fault) = Faulted
 
+-- how `check` of a whole text ends
 abbrev pub check_outcome_of : List ℕ → Outcome
 check_outcome_of text = check_outcome_by (scenario_of text)
 

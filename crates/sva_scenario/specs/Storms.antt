@@ -23,6 +23,7 @@ abbrev pub Judged : Result Script LineFault → Option (List ℕ) → Option (Li
 Judged (Ok script) old new result = JudgedBy (is_fit script.config) script old new result
 Judged (Err fault) old new result = Writes old new (ended (line_fault_text fault)) result × IfOk result (λ o. o ≡ None)
 
+-- of a whole text, as it stands before the storm: the scenario is handed out to be played, or what is wrong with it is written
 abbrev pub JudgedOf : List ℕ → Option (List ℕ) → Option (List ℕ) → Result (Option Script) DriveFault → Type 0
 JudgedOf text old new result = Judged (scenario_of text) old new result
 
@@ -62,5 +63,6 @@ abbrev pub Storms : Result Script LineFault → Option (List ℕ) → Option (Li
 Storms (Ok script) old new result = StormsBy (is_fit script.config) script.config.frames old new result
 Storms (Err fault) old new result = Says old new (ended (line_fault_text fault)) Faulted result
 
+-- of a whole text: what `storm` writes, and how it ends
 abbrev pub StormsOf : List ℕ → Option (List ℕ) → Option (List ℕ) → Result Outcome DriveFault → Type 0
 StormsOf text old new result = Storms (scenario_of text) old new result

@@ -8,6 +8,7 @@ use Rattle.sva_views.specs.ServiceLaws.{IsSound}
 use Rattle.sva_served.specs.Seen.{with_service}
 use Rattle.sva_served.specs.declared.served.Served.TheInside.{Inside}
 
+-- what contracts see of both: the wire of the host, with the groups, jobs and hands of its service in it
 abbrev pub wire_of : Inside → Wire
 wire_of served = with_service served.workers served.service served.kept
 
@@ -15,6 +16,7 @@ wire_of served = with_service served.workers served.service served.kept
 abbrev pub AreHoused : Wire → Service → Type 0
 AreHoused w s = (e : ℕ) → length w.parts ≤ e → groups_seen e s.groups ≡ []
 
+-- what always holds of a host and its service: the host itself keeps no group, job or hand, and each open group is of a unit that it has
 pub record IsServed (served : Inside) : Type 0 where
   -- the host alone keeps no group, no job and no hand
   pub apart : served.kept ≡ with_service served.workers no_service served.kept

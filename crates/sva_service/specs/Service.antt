@@ -49,6 +49,7 @@ after_answer_of s worker None = s
 after_answer_of s worker (Some job) =
     record s { groups = groups.after_answer s.groups job.serial; hands = slice_set s.hands worker None }
 
+-- the same for whatever is in the hand; an empty one has nothing to answer
 abbrev pub after_answer : Service → (worker : ℕ) → Service
 after_answer s worker = after_answer_of s worker (hand s worker)
 
@@ -56,6 +57,7 @@ after_answer s worker = after_answer_of s worker (hand s worker)
 abbrev pub is_of_other_unit : (unit : ℕ) → Job → Bool
 is_of_other_unit unit job = not (job.unit == unit)
 
+-- did the page requests of the job come at this unit? A reset of the unit takes such a job out of the queue
 abbrev pub is_of_unit : (unit : ℕ) → Job → Bool
 is_of_unit unit job = job.unit == unit
 

@@ -34,6 +34,7 @@ pub record IsLowestBetween (first end : ℕ) (mappings : List (ℕ × (ℕ × Bo
   pub least : (page : ℕ) (mapping : ℕ × Bool) → first ≤ page → page < end → mapping_at mappings page ≡ Some mapping → lowest.0 ≤ page
   pub others : mappings_between first end mappings ≡ lowest ∷ mappings_between first end (without_page mappings lowest.0)
 
+-- So it is found after every list of calls, whatever the bounds of the range are.
 abbrev pub LowestBetween : Type 0
 LowestBetween =
     (calls : List Call) (first end : ℕ) →

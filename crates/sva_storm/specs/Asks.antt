@@ -71,6 +71,7 @@ pub record HasAsked (step : Step) (before after : Seat) (accepted : Bool) : Type
   pub of_step : receipt.step ≡ step
   pub answered : is_accepted receipt.answer ≡ accepted
 
+-- what a turn did to its port: a call of this step, or none, where memory was wanted or the port had strayed
 abbrev pub IsAsked : Config → Step → (before after : Seat) → Turn → Type 0
 IsAsked config step before after Accepted = HasAsked step before after true
 IsAsked config step before after Again = HasAsked step before after false

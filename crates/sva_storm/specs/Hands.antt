@@ -10,12 +10,15 @@ abbrev pub one_passes : {X : Type 0} → (X → Bool) → List X → Bool
 one_passes test [] = false
 one_passes test (x ∷ xs) = test x || one_passes test xs
 
+-- is the lease of the binding in hand, so that it can be unbound?
 abbrev pub has_lease : (binding : ℕ) → List LeaseNumbers → Bool
 has_lease binding leases = one_passes (λ (lease : LeaseNumbers). lease.binding == binding) leases
 
+-- is the leaving of the binding in hand, so that it can be advanced?
 abbrev pub has_leaving : (binding : ℕ) → (leavings : List ℕ) → Bool
 has_leaving binding leavings = one_passes (λ (leaving : ℕ). leaving == binding) leavings
 
+-- is the ticket of the use in the endpoint's slot in hand, so that it can be ended?
 abbrev pub has_ticket : (endpoint slot : ℕ) → List TicketNumbers → Bool
 has_ticket endpoint slot tickets = one_passes (λ (ticket : TicketNumbers). (ticket.endpoint == endpoint) && (ticket.slot == slot)) tickets
 
@@ -30,6 +33,7 @@ passes_with_tickets tickets (BeginUse endpoint pasid page write) = nat_le 16 (le
 passes_with_tickets tickets (EndUse endpoint slot) = not (has_ticket endpoint slot tickets)
 passes_with_tickets tickets line = not (is_plain line)
 
+-- what a loop of an endpoint has in hand: tickets of uses
 abbrev pub hand_of_tickets : List TicketNumbers → InHand
 hand_of_tickets tickets = record { passes = passes_with_tickets tickets; tickets = length tickets }
 
@@ -40,5 +44,6 @@ passes_with_bindings leases leavings (Unbind binding) = not (has_lease binding l
 passes_with_bindings leases leavings (Advance binding) = not (has_leaving binding leavings)
 passes_with_bindings leases leavings line = not (is_plain line)
 
+-- what the host has in hand: leases and leavings of bindings, and no ticket
 abbrev pub hand_of_bindings : List LeaseNumbers → (leavings : List ℕ) → InHand
 hand_of_bindings leases leavings = record { passes = passes_with_bindings leases leavings; tickets = 0 }

@@ -70,6 +70,7 @@ pub record HasWorked (worker : ℕ) (before after : Seat) (holds held : Bool) : 
   pub of_job : IsJobStep worker holds receipt.step
   pub holding : held ≡ holds_after holds receipt
 
+-- what a worker's turn did to its port: a call that takes a job or answers the one in hand, or none, where memory was wanted or the port had strayed
 abbrev pub IsJobTurn : Config → (worker : ℕ) → (before after : Seat) → (holds held : Bool) → Turn → Type 0
 IsJobTurn config worker before after holds held Accepted = HasWorked worker before after holds held
 IsJobTurn config worker before after holds held Again = HasWorked worker before after holds held

@@ -32,6 +32,7 @@ player_of_step (Take worker) = Nobody
 player_of_step (Reply worker verdict) = Nobody
 player_of_step (Deliver message) = Nobody
 
+-- are these the same player?
 abbrev pub is_player : Player → Player → Bool
 is_player Host Host = true
 is_player (Endpoint one) (Endpoint two) = one == two

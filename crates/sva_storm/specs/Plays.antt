@@ -45,20 +45,22 @@ abbrev pub AreTries : List Step → List Receipt → Type 0
 AreTries lines [] = Unit {0}
 AreTries lines (r ∷ receipts) = IsFirst lines r.step × AreTries (lines_after lines r) receipts
 
--- is it a use that began, or one that ended?
+-- 1 for a use that begins, else 0
 abbrev pub begins : Step → ℕ
 begins (BeginUse endpoint pasid page write) = 1
 begins _ = 0
 
+-- 1 for the end of a use, else 0
 abbrev pub ends : Step → ℕ
 ends (EndUse endpoint slot) = 1
 ends _ = 0
 
--- how many uses began by some calls, and how many ended
+-- how many uses began by some calls
 abbrev pub begun_by : List Receipt → ℕ
 begun_by [] = 0
 begun_by (r ∷ receipts) = (if is_accepted r.answer then begins r.step else 0) + begun_by receipts
 
+-- how many uses ended by some calls
 abbrev pub ended_by : List Receipt → ℕ
 ended_by [] = 0
 ended_by (r ∷ receipts) = (if is_accepted r.answer then ends r.step else 0) + ended_by receipts

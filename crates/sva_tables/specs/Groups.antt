@@ -3,6 +3,7 @@ use Rattle.std.specs.Prelude.{◌≡◌, ℕ, ◌+◌, ◌<◌, [], ◌∷◌, B
 use Rattle.sva_tables.specs.declared.groups.GroupPlace.{GroupPlace}
 use Rattle.sva_tables.specs.declared.groups.GroupPlace.TheVariants.{Free, Collecting, Out, Stale}
 
+-- no index has a group. Of the 9 bits of a Page Request Group Index 0 to 31 are used (a limit of this project)
 abbrev pub no_groups : List GroupPlace
 no_groups = replicate 32 Free
 
@@ -10,6 +11,7 @@ no_groups = replicate 32 Free
 abbrev pub group_at : List GroupPlace → ℕ → GroupPlace
 group_at groups index = slice_index_or groups index Free
 
+-- may a new group begin under the index? A stale group has its index still
 abbrev pub is_free : GroupPlace → Bool
 is_free Free = true
 is_free (Collecting pasid requests) = false

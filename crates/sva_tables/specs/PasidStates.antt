@@ -7,6 +7,7 @@ use Rattle.sva_tables.specs.declared.pasid_states.PasidState.TheVariants.{Off, O
 abbrev pub all_off : List PasidState
 all_off = replicate 33 Off
 
+-- what the endpoint does under a PASID; from 33 on each is off
 abbrev pub state_of : List PasidState → ℕ → PasidState
 state_of states pasid = slice_index_or states pasid Off
 
@@ -14,16 +15,19 @@ state_of states pasid = slice_index_or states pasid Off
 abbrev pub with_state : List PasidState → ℕ → PasidState → List PasidState
 with_state states pasid state = if nat_lt 0 pasid then slice_set states pasid state else states
 
+-- is nothing sent under the PASID? Its start hasn't come, it was quit, or a reset has cleared it
 abbrev pub is_off : PasidState → Bool
 is_off Off = true
 is_off On = false
 is_off Stopping = false
 
+-- has the start come, and since then no stop and no reset? A request, a use and a new group need it so
 abbrev pub is_on : PasidState → Bool
 is_on Off = false
 is_on On = true
 is_on Stopping = false
 
+-- has the stop come, and since then neither a quit nor a reset? Nothing new begins then, but an unfinished group goes on
 abbrev pub is_stopping : PasidState → Bool
 is_stopping Off = false
 is_stopping On = false

@@ -9,9 +9,11 @@ use Rattle.sva_cache.specs.Coverage.{covers}
 abbrev pub request_at : List RequestTag → ℕ → RequestTag
 request_at tags tag = slice_index_or tags tag Free
 
+-- no request is out: there are 32 request tags (a limit of this project)
 abbrev pub no_requests : List RequestTag
 no_requests = replicate 32 Free
 
+-- may a new request bear the tag? A doomed one bears its own still, until its completion comes
 abbrev pub is_free : RequestTag → Bool
 is_free Free = true
 is_free (Out pasid page) = false

@@ -5,6 +5,7 @@ use Rattle.sva_tables.specs.declared.use_slots.UseSlot.{UseSlot}
 use Rattle.sva_tables.specs.declared.use_slots.UseSlot.TheVariants.{Free, Running, Dead}
 use Rattle.sva_cache.specs.Coverage.{covers}
 
+-- no use has a slot: there are 16 of them (a limit of this project)
 abbrev pub no_uses : List UseSlot
 no_uses = replicate 16 Free
 
@@ -12,6 +13,7 @@ no_uses = replicate 16 Free
 abbrev pub slot_at : List UseSlot → ℕ → UseSlot
 slot_at slots slot = slice_index_or slots slot Free
 
+-- may a use begin in the slot? A dead one has its slot still
 abbrev pub is_free : UseSlot → Bool
 is_free Free = true
 is_free (Running use_of) = false

@@ -12,6 +12,7 @@ use Rattle.sva_unit.specs.Seen.{UnitSeen}
 abbrev pub freed_by : UnitWire → (vector count : ℕ) → ℕ
 freed_by unit vector count = count_below 32 (λ t. is_set vector t && is_last_of count (busy_at unit t))
 
+-- the unit once it has counted a completion (PCI Express Base 5.0, section 10.3.3): a named ITag is free where it was the last one owed
 abbrev pub unit_completed : UnitWire → (vector count : ℕ) → UnitWire
 unit_completed unit vector count = record unit { busy = completed vector count unit.busy }
 

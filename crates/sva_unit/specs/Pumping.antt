@@ -22,16 +22,19 @@ use Rattle.sva_unit.specs.Seen.{UnitSeen}
 
 -- What an invalidation is of: as the definitions see it, and as an Invalidate Request names it.
 
+-- the pages that it covers: a range, or every page of its PASID
 abbrev pub extent_seen : Extent → ExtentSeen
 extent_seen (Pages range) = ExtentSeen.Pages range
 extent_seen All = ExtentSeen.AllPages
 
+-- the field that names them (PCI Express Base 5.0, section 10.3.1): a range is named by its code, an address with the bit S
 abbrev pub scope_sent : Extent → Scope
 scope_sent (Pages range) = scope.Code (encode range).page (encode range).s
 scope_sent All = scope.All
 
 -- An invalidation of the queue under an ITag.
 
+-- is it an invalidation, which the endpoint has to answer, and no wait?
 abbrev pub is_invalidation : Order → Bool
 is_invalidation (Wait cookie drain) = false
 is_invalidation _ = true
@@ -41,11 +44,13 @@ abbrev pub extent_of : Order → Extent
 extent_of (Range pasid range) = Pages range
 extent_of _ = All
 
+-- the PASID that an invalidation is of; a wait is of none, for which 0 stands
 abbrev pub pasid_of : Order → ℕ
 pasid_of (Range pasid range) = pasid
 pasid_of (Pasid pasid) = pasid
 pasid_of (Wait cookie drain) = 0
 
+-- an invalidation as it goes to the endpoint under this ITag
 abbrev pub sending_of : (itag : ℕ) → Order → Sending
 sending_of itag order = record { itag = itag; pasid = pasid_of order; extent = extent_of order }
 
@@ -61,9 +66,11 @@ abbrev pub pass_next : (cookie : ℕ) → Bool → Next
 pass_next cookie true = Pass cookie
 pass_next cookie false = Blocked
 
+-- is the wait done that stands at the head (Intel VT-d, "Invalidation Wait Descriptor", "Page Request Drain")?
 abbrev pub may_pass : UnitSeen → (drain : Bool) → Bool
 may_pass s drain = not (is_some_busy s.unit) && (not drain || length s.page_queue == 0)
 
+-- what becomes of the first of these descriptors; with none the unit is idle
 abbrev pub next_at : UnitSeen → List Descriptor → Next
 next_at s [] = Idle
 next_at s (RangeDescriptor pasid range ∷ queue) = send_next pasid (Pages range) (lowest_label s.unit.busy)
@@ -95,5 +102,6 @@ IsPump s next =
 abbrev pub unit_sent : UnitWire → (itag : ℕ) → UnitWire
 unit_sent unit itag = record unit { queue = drop 1 unit.queue; busy = slice_set unit.busy itag (Some Fresh) }
 
+-- its front is just past the cookie of that wait, by which it is known to be done
 abbrev pub unit_passed : UnitWire → (cookie : ℕ) → UnitWire
 unit_passed unit cookie = record unit { queue = drop 1 unit.queue; front = suc cookie }

@@ -18,15 +18,18 @@ pub record UnitSeen : Type 0 where
   pub unit : UnitWire
   pub page_queue : List PageRequestWire
 
+-- a descriptor of the invalidation queue (Intel VT-d, "Queued Invalidation Interface")
 abbrev pub descriptor_seen : Descriptor → DescriptorWire
 descriptor_seen (Range pasid range) = RangeDescriptor pasid range
 descriptor_seen (Pasid pasid) = PasidDescriptor pasid
 descriptor_seen (Wait cookie drain) = WaitDescriptor cookie drain
 
+-- a busy ITag, with how many of its completions have come; their count is known from the first (PCI Express Base 5.0, section 10.3.3)
 abbrev pub busy_seen : Busy → BusyWire
 busy_seen place.Fresh = Fresh
 busy_seen (place.Counting count arrived) = Counting count arrived
 
+-- a page request in the unit's queue (PCI Express Base 5.0, section 10.4.1)
 abbrev pub request_seen : PageRequest → PageRequestWire
 request_seen request =
     record {
@@ -47,6 +50,7 @@ unit_seen queue =
       waits_end = queue.back;
     }
 
+-- a unit by its invalidation queue and the page requests that stand in its page request queue
 abbrev pub seen : Queue → List PageRequest → UnitSeen
 seen queue requests = record { unit = unit_seen queue; page_queue = map request_seen requests }
 

@@ -11,6 +11,7 @@ use Rattle.sva_pasid.specs.declared.stages.Stage.{Stage}
 use Rattle.sva_pasid.specs.declared.stages.Stage.TheVariants.{Live, Stopping, Draining, Invalidating, Quiet, Lost}
 use Rattle.sva_pasid.specs.Places.{place_of, place_under, place_between, is_bound, bearer_of, with_stage, without, lowest, begun, after_reset}
 
+-- a stage by labels: with the cookie of its wait, or with whether the Stop Marker is noted (PCI Express Base 5.0, section 10.4.1)
 abbrev pub stage_seen : Stage → StageWire
 stage_seen (Live n) = LiveWire
 stage_seen (Stopping s) = StoppingWire s.marked
@@ -24,10 +25,12 @@ abbrev pub stage_or_quiet : Option Stage → StageWire
 stage_or_quiet None = QuietWire
 stage_or_quiet (Some stage) = stage_seen stage
 
+-- the unreleased binding that has this place in the table
 abbrev pub binding_seen : Place → BindingWire
 binding_seen place =
     record { endpoint = place.endpoint; space = place.space; binding = place.binding; pasid = place.pasid; stage = stage_or_quiet place.stage }
 
+-- the unreleased bindings, in the order in which they began
 abbrev pub bindings_seen : List Place → List BindingWire
 bindings_seen places = map binding_seen places
 
@@ -54,5 +57,6 @@ pub record AreChanged (places : List Place) : Type 0 where
   pub released : (b : ℕ) → bindings_seen (without b places) ≡ moves.without_binding b (bindings_seen places)
   pub reset : (e : ℕ) → bindings_seen (after_reset e places) ≡ moves.cut_off_at e (bindings_seen places)
 
+-- each table of bindings is looked up and changed as the definitions by labels do it, at every host that keeps these bindings
 abbrev pub BindingsAreSeen : Type 0
 BindingsAreSeen = (places : List Place) → ((w : Wire) → w.bindings ≡ bindings_seen places → AreLookedUp places w) × AreChanged places

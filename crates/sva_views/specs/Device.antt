@@ -20,40 +20,49 @@ use Rattle.sva_tables.specs.declared.groups.GroupPlace.{GroupPlace}
 use Rattle.sva_tables.specs.declared.groups.GroupPlace.TheVariants.{Free as NoGroup, Collecting, Out as GroupOut, Stale}
 use Rattle.sva_endpoint.specs.Tables.{Tables}
 
+-- the state of a PASID at its endpoint (PCI Express Base 5.0, section 6.20); one that is told to stop is Ending in the definitions
 abbrev pub pasid_seen : PasidState → DeviceState
 pasid_seen Off = DeviceState.Off
 pasid_seen On = DeviceState.On
 pasid_seen Stopping = DeviceState.Ending
 
+-- the translation request that bears a tag (section 10.2.2), and whether it is doomed; none where the tag is free
 abbrev pub tag_seen : RequestTag → Option RequestWire
 tag_seen NoRequest = None
 tag_seen (Out pasid page) = Some (record { pasid = pasid; page = page; is_doomed = false })
 tag_seen (Doomed pasid page) = Some (record { pasid = pasid; page = page; is_doomed = true })
 
+-- a cached translation (section 10.2.3), with the PASID and the page by which it is found
 abbrev pub translation_seen : Key × Translation → TranslationWire
 translation_seen entry = record { pasid = entry.0.0; page = entry.0.1; frame = entry.1.frame; write = entry.1.write }
 
+-- what is cached, in rising order of PASID and page
 abbrev pub cache_seen : Translations → List TranslationWire
 cache_seen cache = map translation_seen (entries cache)
 
+-- the use that has a slot (section 10.2.1); one that a reset ended names no translation any more
 abbrev pub slot_seen : UseSlot → Option UseWire
 slot_seen NoUse = None
 slot_seen (Running u) = Some (RunningWire (record { pasid = u.pasid; page = u.page; frame = u.frame; write = u.write }))
 slot_seen Dead = Some DeadWire
 
+-- which pages of its PASID an invalidation covers (section 10.3.1): a range, or all
 abbrev pub extent_seen : Extent → DeviceExtent
 extent_seen (Pages range) = DeviceExtent.Pages range
 extent_seen All = DeviceExtent.AllPages
 
+-- an invalidation in the endpoint's hands (section 10.3), with the slots of the uses for which it waits
 abbrev pub taken_seen : Taken → TakenWire
 taken_seen taken = record { pasid = taken.invalidation.pasid; extent = extent_seen taken.invalidation.extent; slots = taken.noted }
 
+-- the group of page requests that bears an index (section 10.4.1), with how many were sent of it; none where the index is free
 abbrev pub group_seen : GroupPlace → Option GroupWire
 group_seen NoGroup = None
 group_seen (Collecting pasid requests) = Some (record { pasid = pasid; state = GroupState.Collecting; requests = requests })
 group_seen (GroupOut pasid requests) = Some (record { pasid = pasid; state = GroupState.Awaiting; requests = requests })
 group_seen (Stale pasid requests) = Some (record { pasid = pasid; state = GroupState.Stale; requests = requests })
 
+-- the device of an endpoint, table by table; its PASIDs begin at 1
 abbrev pub device_seen : Tables → DeviceWire
 device_seen s =
     record {

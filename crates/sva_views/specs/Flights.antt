@@ -19,15 +19,18 @@ use Rattle.sva_msg.specs.declared.messages.Kind.TheVariants.{Start, Stop, Reset,
 use Rattle.sva_msg.specs.declared.messages.Kind.TheVariants.{Marker, ResetDone}
 use Rattle.sva_msg.specs.Bag.{InFlight, IsNumbered, MayDeliver, message_at, with_sent, without}
 
+-- what an Invalidate Request names of its PASID (PCI Express Base 5.0, section 10.3.1): all pages, or a range by its code
 abbrev pub scope_seen : Scope → MessageScope
 scope_seen scope.All = Everything
 scope_seen (scope.Code page s) = Coded (record { page = page; s = s })
 
+-- the code of a Page Request Group Response (section 10.4.2)
 abbrev pub code_seen : Code → MessageCode
 code_seen Success = SuccessCode
 code_seen InvalidRequest = InvalidCode
 code_seen ResponseFailure = FailureCode
 
+-- a message as it was sent, by its kind: the same labels and fields
 abbrev pub kind_seen : Kind → Message
 kind_seen (Start pasid) = StartMessage pasid
 kind_seen (Stop pasid) = StopMessage pasid
@@ -41,9 +44,11 @@ kind_seen (PageRequest r) = PageRequestMessage r.pasid r.index r.page r.read r.w
 kind_seen (Marker pasid) = MarkerMessage pasid
 kind_seen ResetDone = ResetDoneMessage
 
+-- a message in flight, by its number and the endpoint on whose link it is
 abbrev pub flight_seen : ℕ × Sent → FlightWire
 flight_seen entry = record { number = entry.0; endpoint = entry.1.endpoint; message = kind_seen entry.1.kind }
 
+-- all messages in flight, oldest first
 abbrev pub flights_seen : InFlight → List FlightWire
 flights_seen bag = map flight_seen bag.messages
 
@@ -66,5 +71,6 @@ pub record FlightsAreSeen (bag : InFlight) : Type 0 where
       ≡ flights_seen bag ++ tabulate copies (λ j. record { number = bag.next + j; endpoint = sent.endpoint; message = kind_seen sent.kind })
   pub delivered : (n : ℕ) → flights_seen (without bag n) ≡ filter (λ f. not (f.number == n)) (flights_seen bag)
 
+-- in every bag in which numbers rise messages are found, permitted, sent and delivered as the definitions by labels have it
 abbrev pub FlightLaws : Type 0
 FlightLaws = (bag : InFlight) → IsNumbered bag → FlightsAreSeen bag

@@ -12,12 +12,15 @@ use Rattle.sva_prq.specs.Job.{Job, ask_of}
 use Rattle.sva_prq.specs.Groups.{OpenGroup, Groups, is_of_unit, is_open}
 use Rattle.sva_service.specs.Service.{Service, filed, hand, taken, without_unit}
 
+-- what one page request asks for (PCI Express Base 5.0, section 10.4.1): a page, to read it and to write it
 abbrev pub ask_seen : Ask → AskWire
 ask_seen ask = record { page = ask.page; read = ask.read; write = ask.write }
 
+-- a page request in the unit's queue, with its PASID, its group's index, and whether it is the last of the group
 abbrev pub page_request_seen : PageRequest → PageRequestWire
 page_request_seen request = record { pasid = request.pasid; index = request.index; ask = ask_seen (ask_of request); last = request.last }
 
+-- a group that the host has open, under the binding by which it is filed; it is whole once its last request is filed
 abbrev pub group_seen : OpenGroup → HostGroupWire
 group_seen g = record { binding = g.binding; index = g.index; asks = map ask_seen g.asks; is_whole = g.last }
 
@@ -25,9 +28,11 @@ group_seen g = record { binding = g.binding; index = g.index; asks = map ask_see
 abbrev pub groups_seen : (unit : ℕ) → Groups → List HostGroupWire
 groups_seen unit s = map group_seen (filter (is_of_unit unit) s.groups)
 
+-- a job as a worker decides it; the serial by which the service tells jobs apart isn't seen
 abbrev pub job_seen : Job → JobWire
 job_seen job = record { endpoint = job.unit; binding = job.binding; index = job.index; asks = map ask_seen job.asks }
 
+-- the jobs that no worker has taken, oldest first
 abbrev pub jobs_seen : Service → List JobWire
 jobs_seen s = map job_seen s.jobs
 
@@ -70,6 +75,7 @@ pub record ResetIsSeen (s : Service) (unit : ℕ) : Type 0 where
   pub jobs : jobs_seen (without_unit s unit) ≡ filter (λ job. not (job.endpoint == unit)) (jobs_seen s)
   pub hands : (workers : ℕ) → hands_seen workers (without_unit s unit) ≡ hands_seen workers s
 
+-- whatever a service keeps, it finds open groups, files page requests, hands out jobs and is reset as the definitions by labels have it
 pub record ServiceIsSeen : Type 0 where
   pub opens : OpenIsSeen
   pub filed : (s : Service) (unit binding : ℕ) (request : PageRequest) → FilingIsSeen s unit binding request

@@ -45,17 +45,21 @@ pub record AreNamesakes (g h : OpenGroup) : Type 0 where
   pub bindings : g.binding ≡ h.binding
   pub indexes : g.index ≡ h.index
 
--- how many jobs are kept with this serial
+-- is it the job of the group with this serial?
 abbrev pub is_with : (serial : ℕ) → Job → Bool
 is_with n job = job.serial == n
 
+-- is such a job in this hand?
 abbrev pub holds : (serial : ℕ) → Option Job → Bool
 holds n None = false
 holds n (Some job) = is_with n job
 
+-- how many jobs are kept with this serial, queued and in hands
 abbrev pub jobs_with : (serial : ℕ) → Service → ℕ
 jobs_with n s = count_by (is_with n) s.jobs + count_by (holds n) s.hands
 
+-- A sound service of so many workers. Serials tell groups apart, each whole group has one job, and a job's group is the only open one
+-- of its unit, binding and index, so that an answer ends the right one.
 pub record IsSound (workers : ℕ) (s : Service) : Type 0 where
   pub rising : AreRising 0 s.groups.next s.groups.groups
   -- no two unfinished groups share a unit, a binding and an index
@@ -81,6 +85,7 @@ HasNoJob workers s unit binding index =
     (list_any (is_job_of unit binding index) (jobs_seen s) ≡ false)
     × ((worker : ℕ) (job : JobWire) → slice_index_or (hands_seen workers s) worker None ≡ Some job → is_job_of unit binding index job ≡ false)
 
+-- where a request begins a group, since no unfinished one has its binding and index, no job of the unit has these
 abbrev pub BeginsAnew : (workers : ℕ) → Service → (unit binding index : ℕ) → Type 0
 BeginsAnew workers s unit binding index =
     list_any (is_begun binding index) (groups_seen unit s.groups) ≡ false → HasNoJob workers s unit binding index
@@ -92,6 +97,7 @@ FilingIsPermitted =
     → 0 < s.room → 0 < s.groups.room → s.groups.next + 1 < 2 ^ 64
     → length (asks_of (find (is_begun binding request.index) p.host_groups)) < 32 → CanFile s unit binding request
 
+-- Each call keeps a service sound: a filing where no job is like a group that it begins, a take where the worker's hand is empty.
 pub record SoundIsKept : Type 0 where
   pub first : (workers : ℕ) → IsSound workers no_service
   pub reserved : (workers : ℕ) (s : Service) → IsSound workers s → IsSound workers (with_room s)
@@ -113,6 +119,8 @@ pub record AnswerIsSeen (s : Service) (worker : ℕ) (job : Job) : Type 0 where
       list_any (is_of_job (job_seen job)) (groups_seen job.unit s.groups) ≡ false
       → (e : ℕ) → groups_seen e (after_answer s worker).groups ≡ groups_seen e s.groups
 
+-- An answer at a sound service ends the open group of the job in the hand, if it is still there, and no other; after it the hand is
+-- empty, and the queued jobs are the same.
 pub record ServiceAnswers : Type 0 where
   pub groups : (workers : ℕ) (s : Service) (worker : ℕ) (job : Job) → IsSound workers s → hand s worker ≡ Some job → AnswerIsSeen s worker job
   pub jobs : (s : Service) (worker : ℕ) → jobs_seen (after_answer s worker) ≡ jobs_seen s

@@ -38,12 +38,14 @@ SpacesFound =
     then Some (pages_wire (world_after rule config steps).mappings (Labels.name (world_after rule config steps) n))
     else None)
 
+-- what is found at a page of a space is the mapping that is there, and nothing where none is
 abbrev pub PagesFound : Type 0
 PagesFound =
     (rule : PasidRule) (config : Config) (steps : List Step) (s q : ℕ)
     → page_at (pages_wire (world_after rule config steps).mappings s) q
     ≡ option_map (page_wire (world_after rule config steps).mappings) ((world_after rule config steps).mappings.at s q)
 
+-- the lowest free place is that of the lowest free frame; where none is free both are the number of frames
 abbrev pub FramesFound : Type 0
 FramesFound =
     (rule : PasidRule) (config : Config) (steps : List Step)

@@ -162,8 +162,8 @@ abbrev pub gone_if : Bool → (ℕ → Owed) → MappingState → MappingState
 gone_if true owed Present = Gone owed
 gone_if _ owed state = state
 
--- is k one of `count` numbers from `first` on?
-abbrev pub in_range : (first count k : ℕ) → Bool
+-- is the number one of `count` numbers from `first` on?
+abbrev pub in_range : (first count number : ℕ) → Bool
 in_range first count number = nat_le first number && nat_lt number (first + count)
 
 -- the mappings after some pages of a space are taken out of it: each that was present is gone, and waits for what the

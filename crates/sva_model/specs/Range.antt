@@ -19,10 +19,10 @@ abbrev pub is_in : Range → (page : ℕ) → Bool
 is_in range page = nat_le range.base page && nat_lt page (range.base + pages_in range)
 
 -- a range that can be coded: of 1 to 512 pages, aligned to its size, of page numbers below 2^36
-pub record IsRange (r : Range) : Type 0 where
-  pub small : r.order ≤ 9
-  pub low : r.base < 2 ^ 36
-  pub aligned : r.base % pages_in r ≡ 0
+pub record IsRange (range : Range) : Type 0 where
+  pub small : range.order ≤ 9
+  pub low : range.base < 2 ^ 36
+  pub aligned : range.base % pages_in range ≡ 0
 
 -- the address field, as a page number, and the bit S
 pub record Code : Type 0 where
@@ -43,9 +43,9 @@ abbrev pub ones : (n number : ℕ) → ℕ
 ones zero number = zero
 ones (suc n) number = if number % 2 == 1 then suc (ones n (number / 2)) else zero
 
--- the range of 2^(j+1) pages about a page, by the j bits that are set
-abbrev pub range_about : (page j : ℕ) → Option Range
-range_about page j = if nat_lt j 9 then Some (record { base = page - page % 2 ^ suc j; order = suc j }) else None
+-- the range of 2^(bits + 1) pages about a page, of which so many lowest bits are set
+abbrev pub range_about : (page bits : ℕ) → Option Range
+range_about page bits = if nat_lt bits 9 then Some (record { base = page - page % 2 ^ suc bits; order = suc bits }) else None
 
 -- the range of a code; none where it has more than 512 pages, or is no page number
 abbrev pub decode_by : Bool → Code → Option Range

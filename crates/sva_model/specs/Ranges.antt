@@ -11,9 +11,9 @@ IsNoCode c = (2 ^ 36 ≤ c.page) ⊎ ((c.s ≡ true) × (c.page % 2 ^ 9 ≡ 2 ^ 
 -- of which it is the code. A page is in a range exactly where its number, its low bits cleared, is the range's base; so two
 -- ranges of one order have all pages in common, or none.
 pub record AreCodes : Type 0 where
-  pub read_back : (r : Range) → IsRange r → decode (encode r) ≡ Some r
-  pub apart : (r t : Range) → IsRange r → IsRange t → encode r ≡ encode t → r ≡ t
-  pub none_exactly : (c : Code) → (decode c ≡ None) ↔ IsNoCode c
-  pub in_limits : (c : Code) → IfSome (decode c) IsRange
-  pub written_back : (c : Code) → IfSome (decode c) (λ r. encode r ≡ c)
-  pub covered : (r : Range) → IsRange r → (page : ℕ) → IsTrue (is_in r page) ↔ (page - page % pages_in r ≡ r.base)
+  pub read_back : (range : Range) → IsRange range → decode (encode range) ≡ Some range
+  pub apart : (range other : Range) → IsRange range → IsRange other → encode range ≡ encode other → range ≡ other
+  pub none_exactly : (code : Code) → (decode code ≡ None) ↔ IsNoCode code
+  pub in_limits : (code : Code) → IfSome (decode code) IsRange
+  pub written_back : (code : Code) → IfSome (decode code) (λ range. encode range ≡ code)
+  pub covered : (range : Range) → IsRange range → (page : ℕ) → IsTrue (is_in range page) ↔ (page - page % pages_in range ≡ range.base)

@@ -202,7 +202,7 @@ use_behind_an_invalidation =
 
 abbrev pub UseBehindAnInvalidation : Type 0
 UseBehindAnInvalidation =
-    map (λ (p : EndpointWire). p.device.taken) (kept_after (config 1 2 1 0) use_behind_an_invalidation).parts
+    map (λ (part : EndpointWire). part.device.taken) (kept_after (config 1 2 1 0) use_behind_an_invalidation).parts
     ≡ (Some (record { pasid = 1; extent = Pages (record { base = 16; order = 0 }); slots = replicate 16 false }) ∷ replicate 31 None) ∷ []
 
 -- what two PASIDs cache is kept by PASID, and then by page
@@ -226,7 +226,7 @@ cached_by_pasid =
 
 abbrev pub CachedByPasid : Type 0
 CachedByPasid =
-    map (λ (p : EndpointWire). p.device.cache) (kept_after (config 1 2 1 0) cached_by_pasid).parts
+    map (λ (part : EndpointWire). part.device.cache) (kept_after (config 1 2 1 0) cached_by_pasid).parts
     ≡ (record { pasid = 1; page = 17; frame = 0; write = true } ∷ record { pasid = 2; page = 16; frame = 1; write = true } ∷ []) ∷ []
 
 -- a group of which the host has filed one request, and not the last
@@ -242,7 +242,7 @@ group_filed_in_part =
 
 abbrev pub GroupFiledInPart : Type 0
 GroupFiledInPart =
-    map (λ (p : EndpointWire). p.host_groups) (kept_after (config 1 1 1 0) group_filed_in_part).parts
+    map (λ (part : EndpointWire). part.host_groups) (kept_after (config 1 1 1 0) group_filed_in_part).parts
     ≡ (record { binding = 0; index = 0; asks = record { page = 32; read = true; write = false } ∷ []; is_whole = false } ∷ []) ∷ []
 
 -- the second group of an index: its page requests carry the index, and so does its response

@@ -73,11 +73,12 @@ is_page_of mappings space mapping = is_present (mappings.state mapping) && mappi
 abbrev pub is_lower_page : PageWire → PageWire → Bool
 is_lower_page first second = nat_lt first.page second.page
 
--- the pages of a space by the mappings below n, in rising order
-unfoldable pub pages_below : Mappings → (space n : ℕ) → List PageWire
+-- the pages of a space by the first `count` mappings, in rising order
+unfoldable pub pages_below : Mappings → (space count : ℕ) → List PageWire
 pages_below mappings space zero = []
-pages_below mappings space (suc n) =
-    if is_page_of mappings space n then insert_by is_lower_page (page_wire mappings n) (pages_below mappings space n) else pages_below mappings space n
+pages_below mappings space (suc mapping) =
+    if is_page_of mappings space mapping then insert_by is_lower_page (page_wire mappings mapping) (pages_below mappings space mapping)
+    else pages_below mappings space mapping
 
 -- the mapped pages of a space, in rising order
 abbrev pub pages_wire : Mappings → (space : ℕ) → List PageWire

@@ -134,5 +134,5 @@ refusal_text refusal = codes "refused " ++ decimal (number_of refusal) ++ codes 
 pub record TellApart : Type 0 where
   pub from_one : (refusal : Refusal) → 1 ≤ number_of refusal
   pub to_last : (refusal : Refusal) → number_of refusal ≤ 43
-  pub numbers : (a b : Refusal) → number_of a ≡ number_of b → a ≡ b
-  pub names : (a b : Refusal) → name_of a ≡ name_of b → a ≡ b
+  pub numbers : (refusal other : Refusal) → number_of refusal ≡ number_of other → refusal ≡ other
+  pub names : (refusal other : Refusal) → name_of refusal ≡ name_of other → refusal ≡ other

@@ -160,5 +160,5 @@ InRange _ = Unit {0}
 
 -- a line of a report tells which answer it is, and that it is no refusal
 pub record TextsTellApart : Type 0 where
-  pub answers : (a b : Answer) → InRange a → InRange b → answer_text a ≡ answer_text b → a ≡ b
-  pub no_refusal : (a : Answer) (refusal : Refusal) → InRange a → answer_text a ≢ refusal_text refusal
+  pub answers : (answer other : Answer) → InRange answer → InRange other → answer_text answer ≡ answer_text other → answer ≡ other
+  pub no_refusal : (answer : Answer) (refusal : Refusal) → InRange answer → answer_text answer ≢ refusal_text refusal

@@ -23,190 +23,210 @@ use Rattle.sva_model.specs.Claims.{Fits}
 use Rattle.sva_laws.specs.UnitSteps.{Delivers}
 
 -- An evict takes the translation that is cached for the page under the bearer of the PASID, and changes nothing else there.
-pub record Evicts (p q : Endpoint) (pasid page : ℕ) : Type 0 where
+pub record Evicts (before after : Endpoint) (pasid page : ℕ) : Type 0 where
   pub request : ℕ
   pub mapping : ℕ
-  pub was_cached : p.held request ≡ Some mapping
-  pub of_bearer : p.request_binding request ≡ bearer p pasid
-  pub of_page : p.request_page request ≡ page
-  pub gone : q.held request ≡ None
-  pub others : (r : ℕ) → r ≢ request → q.held r ≡ p.held r
-  pub alone : record q { held = p.held } ≡ p
+  pub was_cached : before.held request ≡ Some mapping
+  pub of_bearer : before.request_binding request ≡ bearer before pasid
+  pub of_page : before.request_page request ≡ page
+  pub gone : after.held request ≡ None
+  pub others : (other : ℕ) → other ≢ request → after.held other ≡ before.held other
+  pub alone : record after { held = before.held } ≡ before
 
 -- each evict that is accepted, after every list of steps, takes that one translation and leaves the rest of its endpoint
 abbrev pub AlwaysEvicts : Type 0
 AlwaysEvicts =
-    (rule : PasidRule) (config : Config) (steps : List Step) (e pasid page : ℕ) (said : Answer)
+    (rule : PasidRule) (config : Config) (steps : List Step) (endpoint pasid page : ℕ) (said : Answer)
     → Fits config
-    → reply (world_after rule config steps) (step.Evict e pasid page) ≡ Ok said
-    → Evicts ((world_after rule config steps).part e) ((world_after rule config (steps ++ step.Evict e pasid page ∷ [])).part e) pasid page
+    → reply (world_after rule config steps) (step.Evict endpoint pasid page) ≡ Ok said
+    → Evicts ((world_after rule config steps).part endpoint) ((world_after rule config (steps ++ step.Evict endpoint pasid page ∷ [])).part endpoint) pasid page
 
 -- An Invalidate Request that is taken (section 10.3.1) drops the translations that it covers, and no other; dooms the translation
 -- requests that are out and that it covers, and no other; notes how many uses had begun; and changes nothing else.
-pub record Takes (p q : Endpoint) (order : ℕ) : Type 0 where
-  pub dropped : (r : ℕ) → covers (p.order order) (p.request_binding r) (p.request_page r) ≡ true → q.held r ≡ None
-  pub kept : (r : ℕ) → covers (p.order order) (p.request_binding r) (p.request_page r) ≡ false → q.held r ≡ p.held r
-  pub doomed : (r : ℕ) → covers (p.order order) (p.request_binding r) (p.request_page r) ≡ true → p.request r ≡ Out → q.request r ≡ Doomed
-  pub not_out : (r : ℕ) → p.request r ≢ Out → q.request r ≡ p.request r
-  pub not_doomed : (r : ℕ) → covers (p.order order) (p.request_binding r) (p.request_page r) ≡ false → q.request r ≡ p.request r
-  pub taken : q.order_state order ≡ Taken p.uses
-  pub other_orders : (k : ℕ) → k ≢ order → q.order_state k ≡ p.order_state k
-  pub alone : record q { held = p.held; request = p.request; order_state = p.order_state; message = p.message } ≡ p
+pub record Takes (before after : Endpoint) (order : ℕ) : Type 0 where
+  pub dropped : (request : ℕ) → covers (before.order order) (before.request_binding request) (before.request_page request) ≡ true → after.held request ≡ None
+  pub kept :
+      (request : ℕ)
+      → covers (before.order order) (before.request_binding request) (before.request_page request) ≡ false
+      → after.held request ≡ before.held request
+  pub doomed :
+      (request : ℕ)
+      → covers (before.order order) (before.request_binding request) (before.request_page request) ≡ true
+      → before.request request ≡ Out
+      → after.request request ≡ Doomed
+  pub not_out : (request : ℕ) → before.request request ≢ Out → after.request request ≡ before.request request
+  pub not_doomed :
+      (request : ℕ)
+      → covers (before.order order) (before.request_binding request) (before.request_page request) ≡ false
+      → after.request request ≡ before.request request
+  pub taken : after.order_state order ≡ Taken before.uses
+  pub other_orders : (other : ℕ) → other ≢ order → after.order_state other ≡ before.order_state other
+  pub alone : record after { held = before.held; request = before.request; order_state = before.order_state; message = before.message } ≡ before
 
 -- each Invalidate Request that is delivered, after every list of steps, is taken so, and at once
 abbrev pub AlwaysTakes : Type 0
 AlwaysTakes =
-    (rule : PasidRule) (config : Config) (steps : List Step) (s : Step) (e order : ℕ)
+    (rule : PasidRule) (config : Config) (steps : List Step) (next : Step) (endpoint order : ℕ)
     → Fits config
-    → Delivers (world_after rule config steps) s e (InvalidateOf order)
-    → Takes ((world_after rule config steps).part e) ((world_after rule config (steps ++ s ∷ [])).part e) order
+    → Delivers (world_after rule config steps) next endpoint (InvalidateOf order)
+    → Takes ((world_after rule config steps).part endpoint) ((world_after rule config (steps ++ next ∷ [])).part endpoint) order
 
 -- A translation completion (section 10.2.3) that is kept replaces what is cached of its binding and page, and drops nothing else; one
 -- that isn't kept drops nothing; and nothing else changes but that its request is over.
-pub record Brings (p q : Endpoint) (request : ℕ) (found : Option ℕ) (said : Answer) : Type 0 where
-  pub kept : said ≡ answer.Held → (m : ℕ) × (found ≡ Some m) × (q.held request ≡ Some m)
+pub record Brings (before after : Endpoint) (request : ℕ) (found : Option ℕ) (said : Answer) : Type 0 where
+  pub kept : said ≡ answer.Held → (mapping : ℕ) × (found ≡ Some mapping) × (after.held request ≡ Some mapping)
   pub replaced :
       said ≡ answer.Held
-      → (r : ℕ)
-      → r ≢ request
-      → p.request_binding r ≡ p.request_binding request
-      → p.request_page r ≡ p.request_page request
-      → q.held r ≡ None
+      → (other : ℕ)
+      → other ≢ request
+      → before.request_binding other ≡ before.request_binding request
+      → before.request_page other ≡ before.request_page request
+      → after.held other ≡ None
   pub others :
       said ≡ answer.Held
-      → (r : ℕ)
-      → r ≢ request
-      → (p.request_binding r ≢ p.request_binding request) ⊎ (p.request_page r ≢ p.request_page request)
-      → q.held r ≡ p.held r
-  pub not_kept : said ≢ answer.Held → (r : ℕ) → q.held r ≡ p.held r
-  pub other_requests : (r : ℕ) → r ≢ request → q.request r ≡ p.request r
-  pub alone : record q { held = p.held; request = p.request; at_tag = p.at_tag; message = p.message } ≡ p
+      → (other : ℕ)
+      → other ≢ request
+      → (before.request_binding other ≢ before.request_binding request) ⊎ (before.request_page other ≢ before.request_page request)
+      → after.held other ≡ before.held other
+  pub not_kept : said ≢ answer.Held → (other : ℕ) → after.held other ≡ before.held other
+  pub other_requests : (other : ℕ) → other ≢ request → after.request other ≡ before.request other
+  pub alone : record after { held = before.held; request = before.request; at_tag = before.at_tag; message = before.message } ≡ before
 
 -- each translation completion that is delivered, after every list of steps, changes the cache only where it is answered `held`
 abbrev pub AlwaysBrings : Type 0
 AlwaysBrings =
-    (rule : PasidRule) (config : Config) (steps : List Step) (s : Step) (e request : ℕ) (found : Option ℕ) (said : Answer)
+    (rule : PasidRule) (config : Config) (steps : List Step) (next : Step) (endpoint request : ℕ) (found : Option ℕ) (said : Answer)
     → Fits config
-    → Delivers (world_after rule config steps) s e (CompletionOf request found)
-    → reply (world_after rule config steps) s ≡ Ok said
-    → Brings ((world_after rule config steps).part e) ((world_after rule config (steps ++ s ∷ [])).part e) request found said
+    → Delivers (world_after rule config steps) next endpoint (CompletionOf request found)
+    → reply (world_after rule config steps) next ≡ Ok said
+    → Brings ((world_after rule config steps).part endpoint) ((world_after rule config (steps ++ next ∷ [])).part endpoint) request found said
 
 -- A Stop that arrives tells one PASID to stop, and changes nothing else.
-pub record Stops (p q : Endpoint) (binding : ℕ) : Type 0 where
-  pub ending : q.pasid_state binding ≡ Ending
-  pub others : (b : ℕ) → b ≢ binding → q.pasid_state b ≡ p.pasid_state b
-  pub alone : record q { pasid_state = p.pasid_state; message = p.message } ≡ p
+pub record Stops (before after : Endpoint) (binding : ℕ) : Type 0 where
+  pub ending : after.pasid_state binding ≡ Ending
+  pub others : (other : ℕ) → other ≢ binding → after.pasid_state other ≡ before.pasid_state other
+  pub alone : record after { pasid_state = before.pasid_state; message = before.message } ≡ before
 
 -- each Stop that is delivered, after every list of steps, touches no translation, no request, no use and no other PASID
 abbrev pub AlwaysStops : Type 0
 AlwaysStops =
-    (rule : PasidRule) (config : Config) (steps : List Step) (s : Step) (e binding : ℕ)
+    (rule : PasidRule) (config : Config) (steps : List Step) (next : Step) (endpoint binding : ℕ)
     → Fits config
-    → Delivers (world_after rule config steps) s e (StopOf binding)
-    → Stops ((world_after rule config steps).part e) ((world_after rule config (steps ++ s ∷ [])).part e) binding
+    → Delivers (world_after rule config steps) next endpoint (StopOf binding)
+    → Stops ((world_after rule config steps).part endpoint) ((world_after rule config (steps ++ next ∷ [])).part endpoint) binding
 
 -- A quit turns one PASID off; its groups of page requests that await their response are stale (section 10.4.1.2); and nothing else
 -- changes, but for the Stop Marker that it sends.
-pub record Quits (p q : Endpoint) (pasid : ℕ) : Type 0 where
-  pub off : q.pasid_state (bearer p pasid) ≡ Off
-  pub others : (b : ℕ) → b ≢ bearer p pasid → q.pasid_state b ≡ p.pasid_state b
-  pub stale : (g : ℕ) → p.asker g ≡ bearer p pasid → p.group g ≡ Awaiting → q.group g ≡ Stale
-  pub other_groups : (g : ℕ) → (p.asker g ≢ bearer p pasid) ⊎ (p.group g ≢ Awaiting) → q.group g ≡ p.group g
-  pub alone : record q { pasid_state = p.pasid_state; group = p.group; message = p.message; carried = p.carried } ≡ p
+pub record Quits (before after : Endpoint) (pasid : ℕ) : Type 0 where
+  pub off : after.pasid_state (bearer before pasid) ≡ Off
+  pub others : (other : ℕ) → other ≢ bearer before pasid → after.pasid_state other ≡ before.pasid_state other
+  pub stale : (group : ℕ) → before.asker group ≡ bearer before pasid → before.group group ≡ Awaiting → after.group group ≡ Stale
+  pub other_groups : (group : ℕ) → (before.asker group ≢ bearer before pasid) ⊎ (before.group group ≢ Awaiting) → after.group group ≡ before.group group
+  pub alone : record after { pasid_state = before.pasid_state; group = before.group; message = before.message; carried = before.carried } ≡ before
 
 -- each quit that is accepted, after every list of steps, touches no translation, no translation request and no other PASID
 abbrev pub AlwaysQuits : Type 0
 AlwaysQuits =
-    (rule : PasidRule) (config : Config) (steps : List Step) (e pasid : ℕ) (said : Answer)
+    (rule : PasidRule) (config : Config) (steps : List Step) (endpoint pasid : ℕ) (said : Answer)
     → Fits config
-    → reply (world_after rule config steps) (step.Quit e pasid) ≡ Ok said
-    → Quits ((world_after rule config steps).part e) ((world_after rule config (steps ++ step.Quit e pasid ∷ [])).part e) pasid
+    → reply (world_after rule config steps) (step.Quit endpoint pasid) ≡ Ok said
+    → Quits ((world_after rule config steps).part endpoint) ((world_after rule config (steps ++ step.Quit endpoint pasid ∷ [])).part endpoint) pasid
 
 -- A translation request that is sent (section 10.2.2) is a new one of the bearer of the PASID; no older one changes, and what is
 -- cached, in use, started, asked for or ordered stays as it was.
-pub record Asks (p q : Endpoint) (pasid page : ℕ) : Type 0 where
-  pub out : q.request p.requests ≡ Out
-  pub of_bearer : q.request_binding p.requests ≡ bearer p pasid
-  pub of_page : q.request_page p.requests ≡ page
+pub record Asks (before after : Endpoint) (pasid page : ℕ) : Type 0 where
+  pub out : after.request before.requests ≡ Out
+  pub of_bearer : after.request_binding before.requests ≡ bearer before pasid
+  pub of_page : after.request_page before.requests ≡ page
   pub older :
-      (r : ℕ)
-      → r ≢ p.requests
-      → (q.request r ≡ p.request r) × (q.request_binding r ≡ p.request_binding r) × (q.request_page r ≡ p.request_page r)
+      (request : ℕ)
+      → request ≢ before.requests
+      → (after.request request ≡ before.request request)
+      × (after.request_binding request ≡ before.request_binding request)
+      × (after.request_page request ≡ before.request_page request)
   pub alone :
-      record q {
-        requests = p.requests;
-        request_binding = p.request_binding;
-        request_page = p.request_page;
-        request_tag = p.request_tag;
-        request = p.request;
-        request_message = p.request_message;
-        at_tag = p.at_tag;
-        message = p.message;
-        carried = p.carried;
-      } ≡ p
+      record after {
+        requests = before.requests;
+        request_binding = before.request_binding;
+        request_page = before.request_page;
+        request_tag = before.request_tag;
+        request = before.request;
+        request_message = before.request_message;
+        at_tag = before.at_tag;
+        message = before.message;
+        carried = before.carried;
+      } ≡ before
 
 -- each `ask` that is accepted, after every list of steps, adds its own request and changes no older one
 abbrev pub AlwaysAsks : Type 0
 AlwaysAsks =
-    (rule : PasidRule) (config : Config) (steps : List Step) (e pasid page : ℕ) (said : Answer)
+    (rule : PasidRule) (config : Config) (steps : List Step) (endpoint pasid page : ℕ) (said : Answer)
     → Fits config
-    → reply (world_after rule config steps) (step.Ask e pasid page) ≡ Ok said
-    → Asks ((world_after rule config steps).part e) ((world_after rule config (steps ++ step.Ask e pasid page ∷ [])).part e) pasid page
+    → reply (world_after rule config steps) (step.Ask endpoint pasid page) ≡ Ok said
+    → Asks ((world_after rule config steps).part endpoint) ((world_after rule config (steps ++ step.Ask endpoint pasid page ∷ [])).part endpoint) pasid page
 
 -- The page request interface is disabled by a Response Failure (code 1111b, section 10.4.2) that is delivered, and by nothing else.
-pub record Disables (w : World) (s : Step) (e : ℕ) (after : Endpoint) : Type 0 where
-  pub disabled : after.is_disabled ≡ true → ((w.part e).is_disabled ≡ true) ⊎ ((g : ℕ) × Delivers w s e (ResponseOf g FailureCode))
-  pub disables : (g : ℕ) → Delivers w s e (ResponseOf g FailureCode) → after.is_disabled ≡ true
+pub record Disables (world : World) (next : Step) (endpoint : ℕ) (after : Endpoint) : Type 0 where
+  pub disabled :
+      after.is_disabled ≡ true
+      → ((world.part endpoint).is_disabled ≡ true) ⊎ ((group : ℕ) × Delivers world next endpoint (ResponseOf group FailureCode))
+  pub disables : (group : ℕ) → Delivers world next endpoint (ResponseOf group FailureCode) → after.is_disabled ≡ true
 
 -- after every list of steps the next step disables an endpoint's interface exactly by such a delivery
 abbrev pub AlwaysDisables : Type 0
 AlwaysDisables =
-    (rule : PasidRule) (config : Config) (steps : List Step) (s : Step) (e : ℕ)
+    (rule : PasidRule) (config : Config) (steps : List Step) (next : Step) (endpoint : ℕ)
     → Fits config
-    → Disables (world_after rule config steps) s e ((world_after rule config (steps ++ s ∷ [])).part e)
+    → Disables (world_after rule config steps) next endpoint ((world_after rule config (steps ++ next ∷ [])).part endpoint)
 
 -- A reset-done leaves a Live binding Lost, one that was told to stop, drained or was being invalidated Quiet, and others as they were.
-pub record CutsOff (p q : Endpoint) : Type 0 where
-  pub live : (b : ℕ) → p.stage b ≡ Live → q.stage b ≡ Lost
-  pub stopping : (b : ℕ) (marked : Bool) → p.stage b ≡ Stopping marked → q.stage b ≡ Quiet
-  pub draining : (b wait : ℕ) → p.stage b ≡ Draining wait → q.stage b ≡ Quiet
-  pub invalidating : (b invalidation wait : ℕ) → p.stage b ≡ Invalidating invalidation wait → q.stage b ≡ Quiet
-  pub others : (b : ℕ) → (p.stage b ≡ Unbound) ⊎ ((p.stage b ≡ Quiet) ⊎ ((p.stage b ≡ Lost) ⊎ (p.stage b ≡ Released))) → q.stage b ≡ p.stage b
+pub record CutsOff (before after : Endpoint) : Type 0 where
+  pub live : (binding : ℕ) → before.stage binding ≡ Live → after.stage binding ≡ Lost
+  pub stopping : (binding : ℕ) (marked : Bool) → before.stage binding ≡ Stopping marked → after.stage binding ≡ Quiet
+  pub draining : (binding wait : ℕ) → before.stage binding ≡ Draining wait → after.stage binding ≡ Quiet
+  pub invalidating : (binding invalidation wait : ℕ) → before.stage binding ≡ Invalidating invalidation wait → after.stage binding ≡ Quiet
+  pub others :
+      (binding : ℕ)
+      → (before.stage binding ≡ Unbound) ⊎ ((before.stage binding ≡ Quiet) ⊎ ((before.stage binding ≡ Lost) ⊎ (before.stage binding ≡ Released)))
+      → after.stage binding ≡ before.stage binding
 
 -- each reset-done that is delivered, after every list of steps, leads the bindings of its endpoint to these stages
 abbrev pub AlwaysCutsOff : Type 0
 AlwaysCutsOff =
-    (rule : PasidRule) (config : Config) (steps : List Step) (s : Step) (e : ℕ)
+    (rule : PasidRule) (config : Config) (steps : List Step) (next : Step) (endpoint : ℕ)
     → Fits config
-    → Delivers (world_after rule config steps) s e ResetDone
-    → CutsOff ((world_after rule config steps).part e) ((world_after rule config (steps ++ s ∷ [])).part e)
+    → Delivers (world_after rule config steps) next endpoint ResetDone
+    → CutsOff ((world_after rule config steps).part endpoint) ((world_after rule config (steps ++ next ∷ [])).part endpoint)
 
 -- The wait that a draining binding waits for drains the page request queue (Intel VT-d, "Page Request Drain"), and the one behind
 -- the invalidation of a PASID doesn't.
-pub record DrainsOnce (p : Endpoint) : Type 0 where
-  pub draining : (b wait : ℕ) → p.stage b ≡ Draining wait → drains (p.order wait) ≡ true
-  pub invalidating : (b invalidation wait : ℕ) → p.stage b ≡ Invalidating invalidation wait → drains (p.order wait) ≡ false
+pub record DrainsOnce (part : Endpoint) : Type 0 where
+  pub draining : (binding wait : ℕ) → part.stage binding ≡ Draining wait → drains (part.order wait) ≡ true
+  pub invalidating : (binding invalidation wait : ℕ) → part.stage binding ≡ Invalidating invalidation wait → drains (part.order wait) ≡ false
 
 -- after every list of steps a binding on its way out waits for one drain, and for that before its PASID is invalidated
 abbrev pub AlwaysDrainsOnce : Type 0
-AlwaysDrainsOnce = (rule : PasidRule) (config : Config) (steps : List Step) (e : ℕ) → Fits config → DrainsOnce ((world_after rule config steps).part e)
+AlwaysDrainsOnce =
+    (rule : PasidRule) (config : Config) (steps : List Step) (endpoint : ℕ)
+    → Fits config
+    → DrainsOnce ((world_after rule config steps).part endpoint)
 
 -- What an endpoint does itself, and what is delivered, isn't refused because the unit is in reset.
 abbrev pub is_of_endpoint : Step → Bool
-is_of_endpoint (step.Ask e pasid page) = true
-is_of_endpoint (step.BeginUse e pasid page write) = true
-is_of_endpoint (step.EndUse e used) = true
-is_of_endpoint (step.Evict e pasid page) = true
-is_of_endpoint (step.Fault e pasid page read write group last) = true
-is_of_endpoint (step.Finish e vector count) = true
-is_of_endpoint (step.Quit e pasid) = true
+is_of_endpoint (step.Ask endpoint pasid page) = true
+is_of_endpoint (step.BeginUse endpoint pasid page write) = true
+is_of_endpoint (step.EndUse endpoint used) = true
+is_of_endpoint (step.Evict endpoint pasid page) = true
+is_of_endpoint (step.Fault endpoint pasid page read write group last) = true
+is_of_endpoint (step.Finish endpoint vector count) = true
+is_of_endpoint (step.Quit endpoint pasid) = true
 is_of_endpoint (step.Deliver number) = true
 is_of_endpoint _ = false
 
 -- after every list of steps no act of an endpoint, and no delivery, is refused Resetting
 abbrev pub AlwaysGoesOnInReset : Type 0
 AlwaysGoesOnInReset =
-    (rule : PasidRule) (config : Config) (steps : List Step) (s : Step)
+    (rule : PasidRule) (config : Config) (steps : List Step) (next : Step)
     → Fits config
-    → is_of_endpoint s ≡ true
-    → reply (world_after rule config steps) s ≢ Err refusal.Resetting
+    → is_of_endpoint next ≡ true
+    → reply (world_after rule config steps) next ≢ Err refusal.Resetting

@@ -25,15 +25,15 @@ use Rattle.sva_labels.specs.Replying.{replies_success, responds, newly_mapped, i
 
 -- the host has no endpoint of this number
 abbrev pub no_such_endpoint : Wire → ℕ → Cause
-no_such_endpoint w e = (not (nat_lt e (length w.parts)), refusal.NoSuchEndpoint)
+no_such_endpoint wire endpoint = (not (nat_lt endpoint (length wire.parts)), refusal.NoSuchEndpoint)
 
 -- no live space has this number
 abbrev pub no_such_space : Wire → ℕ → Cause
-no_such_space w n = (not (is_space w n), refusal.NoSuchSpace)
+no_such_space wire number = (not (is_space wire number), refusal.NoSuchSpace)
 
 -- the endpoint's unit is in reset
 abbrev pub resetting : Wire → ℕ → Cause
-resetting w e = (not (unit_of w e).is_open, refusal.Resetting)
+resetting wire endpoint = (not (unit_of wire endpoint).is_open, refusal.Resetting)
 
 -- fewer numbers are left below 2^63, `next` being the next one, than are needed
 abbrev pub lacks : (next needed : ℕ) → Bool
@@ -45,106 +45,107 @@ numbers_spent next needed = (lacks next needed, refusal.NumbersSpent)
 
 -- the host has no worker of this number
 abbrev pub no_such_worker : Wire → ℕ → Cause
-no_such_worker w x = (not (nat_lt x (length w.hands)), refusal.NoSuchWorker)
+no_such_worker wire worker = (not (nat_lt worker (length wire.hands)), refusal.NoSuchWorker)
 
 -- the endpoint has no translation of the page cached under the PASID
 abbrev pub not_held : DeviceWire → (pasid page : ℕ) → Cause
-not_held d t q = (is_none (cached d t q), refusal.NotHeld)
+not_held device pasid page = (is_none (cached device pasid page), refusal.NotHeld)
 
 -- the PASID isn't on at the endpoint: it is off, or told to stop (this project's own: PCI Express Base 5.0, section 6.20, leaves it to
 -- the device)
 abbrev pub not_started : DeviceWire → (pasid : ℕ) → Cause
-not_started d t = (not (is_on (pasid_state d t)), refusal.NotStarted)
+not_started device pasid = (not (is_on (pasid_state device pasid)), refusal.NotStarted)
 
 -- how many endpoints' units get descriptors where pages of a space are taken out
 abbrev pub waits_needed : Wire → (space : ℕ) → ℕ
-waits_needed w n = count_below (length w.parts) (submits w n)
+waits_needed wire space = count_below (length wire.parts) (submits wire space)
 
 -- a unit that is to get so many descriptors, where pages of the space are taken out, lacks the room for them: then no unit gets any
 abbrev pub queue_full : Wire → (space descriptors : ℕ) → Cause
-queue_full w n k = (any_below (length w.parts) (λ e. submits w n e && not (has_room (unit_of w e) k)), refusal.QueueFull)
+queue_full wire space descriptors =
+    (any_below (length wire.parts) (λ endpoint. submits wire space endpoint && not (has_room (unit_of wire endpoint) descriptors)), refusal.QueueFull)
 
 -- Of single steps.
 
 -- a new space: fewer than 64 are live, and there is a number for it
 abbrev pub space_causes : Wire → List Cause
-space_causes w = (nat_le 64 (length w.spaces), refusal.TooManySpaces) ∷ numbers_spent w.next_space 1 ∷ []
+space_causes wire = (nat_le 64 (length wire.spaces), refusal.TooManySpaces) ∷ numbers_spent wire.next_space 1 ∷ []
 
 -- a mapping: of a page below 2^36 that isn't mapped yet, in a space of fewer than 1024 pages, to a frame that is free
 abbrev pub map_causes : Wire → List PageWire → (page : ℕ) → List Cause
-map_causes w pages q =
-    page_range q 1
-    ∷ (is_mapped pages q, refusal.Mapped)
+map_causes wire pages page =
+    page_range page 1
+    ∷ (is_mapped pages page, refusal.Mapped)
     ∷ (nat_le 1024 (length pages), refusal.SpaceFull)
-    ∷ (lowest_free w.places == length w.places, refusal.NoFrame)
+    ∷ (lowest_free wire.places == length wire.places, refusal.NoFrame)
     ∷ []
 
 -- an unmapping of single pages: 1 to 48, each below 2^36 and mapped; and at each unit that gets descriptors room for an invalidation of
 -- each page and for one wait, and a cookie for that
 abbrev pub unmap_causes : Wire → (space : ℕ) → List PageWire → (page count : ℕ) → List Cause
-unmap_causes w n pages q count =
+unmap_causes wire space pages page count =
     (not (nat_le 1 count && nat_le count 48), refusal.BadCount)
-    ∷ page_range q count
-    ∷ (not (all_below count (λ j. is_mapped pages (q + j))), refusal.NotMapped)
-    ∷ queue_full w n (count + 1)
-    ∷ numbers_spent w.next_cookie (waits_needed w n)
+    ∷ page_range page count
+    ∷ (not (all_below count (λ offset. is_mapped pages (page + offset))), refusal.NotMapped)
+    ∷ queue_full wire space (count + 1)
+    ∷ numbers_spent wire.next_cookie (waits_needed wire space)
     ∷ []
 
 -- a range that is taken out: of 1 to 512 pages below 2^36, aligned, as one Invalidate Request can name it (PCI Express Base 5.0, section
 -- 10.3.1), with a page that is mapped; and at each unit that gets descriptors room for an invalidation and a wait, and a cookie for that
 abbrev pub unmap_range_causes : Wire → (space : ℕ) → List PageWire → (page order : ℕ) → List Cause
-unmap_range_causes w n pages q order =
+unmap_range_causes wire space pages page order =
     (nat_lt 9 order, refusal.BadOrder)
-    ∷ page_range q (2 ^ order)
-    ∷ (not (q % 2 ^ order == 0), refusal.NotAligned)
-    ∷ (not (any_below (2 ^ order) (λ j. is_mapped pages (q + j))), refusal.NothingMapped)
-    ∷ queue_full w n 2
-    ∷ numbers_spent w.next_cookie (waits_needed w n)
+    ∷ page_range page (2 ^ order)
+    ∷ (not (page % 2 ^ order == 0), refusal.NotAligned)
+    ∷ (not (any_below (2 ^ order) (λ offset. is_mapped pages (page + offset))), refusal.NothingMapped)
+    ∷ queue_full wire space 2
+    ∷ numbers_spent wire.next_cookie (waits_needed wire space)
     ∷ []
 
 -- a new binding: its unit is open, its space isn't bound there yet, and there are a PASID for it and numbers for it and its Start
 abbrev pub bind_causes : Wire → (endpoint space : ℕ) → List Cause
-bind_causes w e n =
-    resetting w e
-    ∷ (is_some (bound_at w e n), refusal.AlreadyBound)
-    ∷ (is_none (pasid_for w n), refusal.NoPasid)
-    ∷ numbers_spent w.next_binding 1
-    ∷ numbers_spent w.next_message 1
+bind_causes wire endpoint space =
+    resetting wire endpoint
+    ∷ (is_some (bound_at wire endpoint space), refusal.AlreadyBound)
+    ∷ (is_none (pasid_for wire space), refusal.NoPasid)
+    ∷ numbers_spent wire.next_binding 1
+    ∷ numbers_spent wire.next_message 1
     ∷ []
 
 -- a Lost binding is only ended: nothing is sent
 abbrev pub unbind_by : Wire → BindingWire → StageWire → List Cause
-unbind_by w b LostWire = []
-unbind_by w b stage = (not (is_live stage), refusal.NotLive) ∷ resetting w b.endpoint ∷ numbers_spent w.next_message 1 ∷ []
+unbind_by wire binding LostWire = []
+unbind_by wire binding stage = (not (is_live stage), refusal.NotLive) ∷ resetting wire binding.endpoint ∷ numbers_spent wire.next_message 1 ∷ []
 
 -- an unbinding: of an unreleased binding, as its stage has it
 abbrev pub unbind_causes : Wire → Option BindingWire → List Cause
-unbind_causes w None = (true, refusal.NoSuchBinding) ∷ []
-unbind_causes w (Some b) = unbind_by w b b.stage
+unbind_causes wire None = (true, refusal.NoSuchBinding) ∷ []
+unbind_causes wire (Some binding) = unbind_by wire binding binding.stage
 
 -- what the stage needs to go on, and the descriptors that it submits
 abbrev pub advance_by : Wire → BindingWire → StageWire → List Cause
-advance_by w b QuietWire = []
-advance_by w b (StoppingWire marked) =
-    resetting w b.endpoint
+advance_by wire binding QuietWire = []
+advance_by wire binding (StoppingWire marked) =
+    resetting wire binding.endpoint
     ∷ (not marked, refusal.NotYet)
-    ∷ (not (has_room (unit_of w b.endpoint) 1), refusal.QueueFull)
-    ∷ numbers_spent w.next_cookie 1
+    ∷ (not (has_room (unit_of wire binding.endpoint) 1), refusal.QueueFull)
+    ∷ numbers_spent wire.next_cookie 1
     ∷ []
-advance_by w b (DrainingWire cookie) =
-    resetting w b.endpoint
-    ∷ (not (is_wait_done (unit_of w b.endpoint) cookie) || has_open_group (part_of w b.endpoint) b.binding, refusal.NotYet)
-    ∷ (not (has_room (unit_of w b.endpoint) 2), refusal.QueueFull)
-    ∷ numbers_spent w.next_cookie 1
+advance_by wire binding (DrainingWire cookie) =
+    resetting wire binding.endpoint
+    ∷ (not (is_wait_done (unit_of wire binding.endpoint) cookie) || has_open_group (part_of wire binding.endpoint) binding.binding, refusal.NotYet)
+    ∷ (not (has_room (unit_of wire binding.endpoint) 2), refusal.QueueFull)
+    ∷ numbers_spent wire.next_cookie 1
     ∷ []
-advance_by w b (InvalidatingWire cookie) =
-    resetting w b.endpoint ∷ (not (is_wait_done (unit_of w b.endpoint) cookie), refusal.NotYet) ∷ []
-advance_by w b stage = resetting w b.endpoint ∷ (true, refusal.NotYet) ∷ []
+advance_by wire binding (InvalidatingWire cookie) =
+    resetting wire binding.endpoint ∷ (not (is_wait_done (unit_of wire binding.endpoint) cookie), refusal.NotYet) ∷ []
+advance_by wire binding stage = resetting wire binding.endpoint ∷ (true, refusal.NotYet) ∷ []
 
 -- an advance: of an unreleased binding, as its stage has it
 abbrev pub advance_causes : Wire → Option BindingWire → List Cause
-advance_causes w None = (true, refusal.NoSuchBinding) ∷ []
-advance_causes w (Some b) = advance_by w b b.stage
+advance_causes wire None = (true, refusal.NoSuchBinding) ∷ []
+advance_causes wire (Some binding) = advance_by wire binding binding.stage
 
 -- is the head of the queue an invalidation, and no wait?
 abbrev pub is_invalidation : List Descriptor → Bool
@@ -158,62 +159,63 @@ sends_invalidate unit = is_invalidation unit.queue && is_some (lowest_label unit
 
 -- a reply of a worker that holds a job
 abbrev pub reply_causes : Wire → Verdict → Option JobWire → List Cause
-reply_causes w v None = (true, refusal.NoJob) ∷ []
-reply_causes w v (Some job) =
-    (replies_success w job v && is_write_of_read_only w job, refusal.BadVerdict)
-    ∷ (replies_success w job v && nat_lt (length (free_from 0 w.places)) (length (newly_mapped w job)), refusal.NoFrame)
-    ∷ (replies_success w job v && nat_lt 1024 (length (pages_in w (space_of_job w job)) + length (newly_mapped w job)), refusal.SpaceFull)
-    ∷ (responds w job && lacks w.next_message 1, refusal.NumbersSpent)
+reply_causes wire verdict None = (true, refusal.NoJob) ∷ []
+reply_causes wire verdict (Some job) =
+    (replies_success wire job verdict && is_write_of_read_only wire job, refusal.BadVerdict)
+    ∷ (replies_success wire job verdict && nat_lt (length (free_from 0 wire.places)) (length (newly_mapped wire job)), refusal.NoFrame)
+    ∷ (replies_success wire job verdict && nat_lt 1024 (length (pages_in wire (space_of_job wire job)) + length (newly_mapped wire job)), refusal.SpaceFull)
+    ∷ (responds wire job && lacks wire.next_message 1, refusal.NumbersSpent)
     ∷ []
 
 -- a new group needs the PASID On; one that is there goes on also while the PASID stops
 abbrev pub may_request : DeviceWire → (pasid : ℕ) → Option ℕ → Bool
-may_request d t None = is_on (pasid_state d t)
-may_request d t (Some i) = is_on (pasid_state d t) || is_ending (pasid_state d t)
+may_request device pasid None = is_on (pasid_state device pasid)
+may_request device pasid (Some index) = is_on (pasid_state device pasid) || is_ending (pasid_state device pasid)
 
 -- is a group index given, and borne by no unfinished group of the PASID?
 abbrev pub is_other_group : DeviceWire → (pasid : ℕ) → Option ℕ → Bool
-is_other_group d t None = false
-is_other_group d t (Some i) = not (has_unfinished_group t (group_at d i))
+is_other_group device pasid None = false
+is_other_group device pasid (Some index) = not (has_unfinished_group pasid (group_at device index))
 
 -- a page request (PCI Express Base 5.0, section 10.4.1): its PASID, its allocation (section 10.5.2), its group, the interface, which a
 -- Response Failure disables (section 10.4.2), and a number for it
 abbrev pub fault_causes : Wire → DeviceWire → (pasid : ℕ) → Option ℕ → List Cause
-fault_causes w d t group =
-    (not (may_request d t group), refusal.NotStarted)
-    ∷ (nat_le 32 (outstanding d.groups), refusal.NoCredit)
-    ∷ (is_other_group d t group, refusal.NoSuchGroup)
-    ∷ (d.is_disabled, refusal.PriDisabled)
-    ∷ numbers_spent w.next_message 1
+fault_causes wire device pasid group =
+    (not (may_request device pasid group), refusal.NotStarted)
+    ∷ (nat_le 32 (outstanding device.groups), refusal.NoCredit)
+    ∷ (is_other_group device pasid group, refusal.NoSuchGroup)
+    ∷ (device.is_disabled, refusal.PriDisabled)
+    ∷ numbers_spent wire.next_message 1
     ∷ []
 
 -- Invalidate Completions: their vector names some ITag, and each that it names is of an invalidation which the endpoint has taken and of
 -- which no noted use runs; their Completion Count is 1 to 8 (PCI Express Base 5.0, section 10.3.2), and there is a number for each
 abbrev pub finish_causes : Wire → DeviceWire → (vector count : ℕ) → List Cause
-finish_causes w d vector count =
-    (Labels.names_none vector || any_below 32 (λ t. Labels.is_set vector t && is_none (taken_at d t)), refusal.NotPending)
-    ∷ (any_below 32 (λ t. Labels.is_set vector t && waits_for_use (taken_at d t)), refusal.InUse)
+finish_causes wire device vector count =
+    (Labels.names_none vector || any_below 32 (λ itag. Labels.is_set vector itag && is_none (taken_at device itag)), refusal.NotPending)
+    ∷ (any_below 32 (λ itag. Labels.is_set vector itag && waits_for_use (taken_at device itag)), refusal.InUse)
     ∷ (not (nat_le 1 count && nat_le count 8), refusal.BadCount)
-    ∷ numbers_spent w.next_message count
+    ∷ numbers_spent wire.next_message count
     ∷ []
 
 -- has the PASID an unfinished group, a translation request that is out, or a running use? Then it can't be quit.
 abbrev pub is_busy_pasid : DeviceWire → (pasid : ℕ) → Bool
-is_busy_pasid d t = list_any (has_unfinished_group t) d.groups || list_any (is_request_of t) d.tags || list_any (is_use_of t) d.slots
+is_busy_pasid device pasid =
+    list_any (has_unfinished_group pasid) device.groups || list_any (is_request_of pasid) device.tags || list_any (is_use_of pasid) device.slots
 
 -- a quit: the PASID is told to stop, nothing goes on under it, and there is a number for its Stop Marker, after which the endpoint sends
 -- no page request under it (PCI Express Base 5.0, section 10.4.1)
 abbrev pub quit_causes : Wire → DeviceWire → (pasid : ℕ) → List Cause
-quit_causes w d t =
-    (not (is_ending (pasid_state d t)), refusal.NotStopping)
-    ∷ (is_busy_pasid d t, refusal.Busy)
-    ∷ numbers_spent w.next_message 1
+quit_causes wire device pasid =
+    (not (is_ending (pasid_state device pasid)), refusal.NotStopping)
+    ∷ (is_busy_pasid device pasid, refusal.Busy)
+    ∷ numbers_spent wire.next_message 1
     ∷ []
 
 -- is the cached translation without the bit W (PCI Express Base 5.0, section 10.2.3)? One that isn't there allows no write either.
 abbrev pub is_read_only : Option TranslationWire → Bool
 is_read_only None = true
-is_read_only (Some x) = not x.write
+is_read_only (Some translation) = not translation.write
 
 -- only a reset, and a translation request at an open unit, send a message when they are delivered
 abbrev pub delivery_sends : UnitWire → Message → Bool
@@ -223,52 +225,53 @@ delivery_sends unit _ = false
 
 -- a delivery: of a message in flight, in the permitted order of the link, and with a number for the message that it sends, if any
 abbrev pub deliver_causes : Wire → Option FlightWire → List Cause
-deliver_causes w None = (true, refusal.NoSuchMessage) ∷ []
-deliver_causes w (Some f) =
-    (not (may_deliver w f), refusal.Overtakes)
-    ∷ (delivery_sends (unit_of w f.endpoint) f.message && lacks w.next_message 1, refusal.NumbersSpent)
+deliver_causes wire None = (true, refusal.NoSuchMessage) ∷ []
+deliver_causes wire (Some flight) =
+    (not (may_deliver wire flight), refusal.Overtakes)
+    ∷ (delivery_sends (unit_of wire flight.endpoint) flight.message && lacks wire.next_message 1, refusal.NumbersSpent)
     ∷ []
 
 -- the causes of every step, in the order in which they are asked
 abbrev pub causes_of : Wire → Step → List Cause
-causes_of w step.Space = space_causes w
-causes_of w (step.DropSpace n) = no_such_space w n ∷ (is_bound w n, refusal.StillBound) ∷ []
-causes_of w (step.Map n q x) = no_such_space w n ∷ map_causes w (pages_in w n) q
-causes_of w (step.Unmap n q count) = no_such_space w n ∷ unmap_causes w n (pages_in w n) q count
-causes_of w (step.UnmapRange n q order) = no_such_space w n ∷ unmap_range_causes w n (pages_in w n) q order
-causes_of w (step.Bind e n) = no_such_endpoint w e ∷ no_such_space w n ∷ bind_causes w e n
-causes_of w (step.Unbind n) = unbind_causes w (binding_of w n)
-causes_of w (step.Advance n) = advance_causes w (binding_of w n)
-causes_of w (step.Pump e) =
-    no_such_endpoint w e
-    ∷ resetting w e
-    ∷ (sends_invalidate (unit_of w e) && lacks w.next_message 1, refusal.NumbersSpent)
+causes_of wire step.Space = space_causes wire
+causes_of wire (step.DropSpace space) = no_such_space wire space ∷ (is_bound wire space, refusal.StillBound) ∷ []
+causes_of wire (step.Map space page write) = no_such_space wire space ∷ map_causes wire (pages_in wire space) page
+causes_of wire (step.Unmap space page count) = no_such_space wire space ∷ unmap_causes wire space (pages_in wire space) page count
+causes_of wire (step.UnmapRange space page order) = no_such_space wire space ∷ unmap_range_causes wire space (pages_in wire space) page order
+causes_of wire (step.Bind endpoint space) = no_such_endpoint wire endpoint ∷ no_such_space wire space ∷ bind_causes wire endpoint space
+causes_of wire (step.Unbind number) = unbind_causes wire (binding_of wire number)
+causes_of wire (step.Advance number) = advance_causes wire (binding_of wire number)
+causes_of wire (step.Pump endpoint) =
+    no_such_endpoint wire endpoint
+    ∷ resetting wire endpoint
+    ∷ (sends_invalidate (unit_of wire endpoint) && lacks wire.next_message 1, refusal.NumbersSpent)
     ∷ []
-causes_of w (step.Serve e) = no_such_endpoint w e ∷ resetting w e ∷ []
-causes_of w (step.Reset e) = no_such_endpoint w e ∷ resetting w e ∷ numbers_spent w.next_message 1 ∷ []
-causes_of w (step.Take x) =
-    no_such_worker w x ∷ (is_some (held_by w x), refusal.HandsFull) ∷ (length w.jobs == 0, refusal.NoJob) ∷ []
-causes_of w (step.Reply x v) = no_such_worker w x ∷ reply_causes w v (held_by w x)
-causes_of w (step.Ask e t q) =
-    no_such_endpoint w e
-    ∷ page_range q 1
-    ∷ not_started (device_of w e) t
-    ∷ (is_none (lowest_label (device_of w e).tags), refusal.NoTag)
-    ∷ numbers_spent w.next_message 1
+causes_of wire (step.Serve endpoint) = no_such_endpoint wire endpoint ∷ resetting wire endpoint ∷ []
+causes_of wire (step.Reset endpoint) = no_such_endpoint wire endpoint ∷ resetting wire endpoint ∷ numbers_spent wire.next_message 1 ∷ []
+causes_of wire (step.Take worker) =
+    no_such_worker wire worker ∷ (is_some (held_by wire worker), refusal.HandsFull) ∷ (length wire.jobs == 0, refusal.NoJob) ∷ []
+causes_of wire (step.Reply worker verdict) = no_such_worker wire worker ∷ reply_causes wire verdict (held_by wire worker)
+causes_of wire (step.Ask endpoint pasid page) =
+    no_such_endpoint wire endpoint
+    ∷ page_range page 1
+    ∷ not_started (device_of wire endpoint) pasid
+    ∷ (is_none (lowest_label (device_of wire endpoint).tags), refusal.NoTag)
+    ∷ numbers_spent wire.next_message 1
     ∷ []
-causes_of w (step.BeginUse e t q x) =
-    no_such_endpoint w e
-    ∷ page_range q 1
-    ∷ not_started (device_of w e) t
-    ∷ not_held (device_of w e) t q
-    ∷ (x && is_read_only (cached (device_of w e) t q), refusal.ReadOnly)
-    ∷ (is_none (lowest_label (device_of w e).slots), refusal.NoUseSlot)
+causes_of wire (step.BeginUse endpoint pasid page write) =
+    no_such_endpoint wire endpoint
+    ∷ page_range page 1
+    ∷ not_started (device_of wire endpoint) pasid
+    ∷ not_held (device_of wire endpoint) pasid page
+    ∷ (write && is_read_only (cached (device_of wire endpoint) pasid page), refusal.ReadOnly)
+    ∷ (is_none (lowest_label (device_of wire endpoint).slots), refusal.NoUseSlot)
     ∷ []
-causes_of w (step.EndUse e u) = no_such_endpoint w e ∷ (is_none (use_at (device_of w e) u), refusal.NoSuchUse) ∷ []
-causes_of w (step.Evict e t q) = no_such_endpoint w e ∷ page_range q 1 ∷ not_held (device_of w e) t q ∷ []
-causes_of w (step.Fault e t q r x group l) = no_such_endpoint w e ∷ page_range q 1 ∷ fault_causes w (device_of w e) t group
-causes_of w (step.Finish e vector count) = no_such_endpoint w e ∷ finish_causes w (device_of w e) vector count
-causes_of w (step.Quit e t) = no_such_endpoint w e ∷ quit_causes w (device_of w e) t
-causes_of w (step.Deliver n) = deliver_causes w (flight_of w n)
-causes_of w (step.Look f) = (not (nat_lt f (length w.places)), refusal.NoFrame) ∷ []
-causes_of w (step.Bearer t) = (not (nat_le 1 t && nat_le t 32), refusal.BadPasid) ∷ []
+causes_of wire (step.EndUse endpoint slot) = no_such_endpoint wire endpoint ∷ (is_none (use_at (device_of wire endpoint) slot), refusal.NoSuchUse) ∷ []
+causes_of wire (step.Evict endpoint pasid page) = no_such_endpoint wire endpoint ∷ page_range page 1 ∷ not_held (device_of wire endpoint) pasid page ∷ []
+causes_of wire (step.Fault endpoint pasid page read write group last) =
+    no_such_endpoint wire endpoint ∷ page_range page 1 ∷ fault_causes wire (device_of wire endpoint) pasid group
+causes_of wire (step.Finish endpoint vector count) = no_such_endpoint wire endpoint ∷ finish_causes wire (device_of wire endpoint) vector count
+causes_of wire (step.Quit endpoint pasid) = no_such_endpoint wire endpoint ∷ quit_causes wire (device_of wire endpoint) pasid
+causes_of wire (step.Deliver message) = deliver_causes wire (flight_of wire message)
+causes_of wire (step.Look frame) = (not (nat_lt frame (length wire.places)), refusal.NoFrame) ∷ []
+causes_of wire (step.Bearer pasid) = (not (nat_le 1 pasid && nat_le pasid 32), refusal.BadPasid) ∷ []

@@ -29,26 +29,26 @@ checked causes result =
 
 -- what a step is answered, and what it moves
 abbrev pub decide_of : Wire → Step → Decision
-decide_of w s = checked (causes_of w s) (result_of w s)
+decide_of wire step = checked (causes_of wire step) (result_of wire step)
 
 -- the answer to a step, or its refusal
 abbrev pub reply_of : Wire → Step → Reply
-reply_of w s = (decide_of w s).reply
+reply_of wire step = (decide_of wire step).reply
 
 -- what is kept after a step
 abbrev pub next_of : Wire → Step → Wire
-next_of w s = all_moved w (decide_of w s).moves
+next_of wire step = all_moved wire (decide_of wire step).moves
 
 -- what a host keeps before the first step
 abbrev pub first_wire : Config → Wire
 first_wire config =
     record {
       spaces = [];
-      places = tabulate config.frames (λ f. FreeWire);
+      places = tabulate config.frames (λ frame. FreeWire);
       bindings = [];
-      parts = tabulate config.endpoints (λ e. idle);
+      parts = tabulate config.endpoints (λ endpoint. idle);
       jobs = [];
-      hands = tabulate config.workers (λ x. None);
+      hands = tabulate config.workers (λ worker. None);
       in_flight = [];
       next_space = config.first;
       next_binding = config.first;
@@ -58,13 +58,13 @@ first_wire config =
 
 -- the answers to a list of steps
 unfoldable pub replies_of : Wire → List Step → List Reply
-replies_of w [] = []
-replies_of w (s ∷ ss) = reply_of w s ∷ replies_of (next_of w s) ss
+replies_of wire [] = []
+replies_of wire (step ∷ steps) = reply_of wire step ∷ replies_of (next_of wire step) steps
 
 -- what is kept after it
 abbrev pub run_of : Wire → List Step → Wire
-run_of w [] = w
-run_of w (s ∷ ss) = run_of (next_of w s) ss
+run_of wire [] = wire
+run_of wire (step ∷ steps) = run_of (next_of wire step) steps
 
 -- By the rule of one PASID for each space: at each world that some list of steps leads to, a step by labels answers what the
 -- step by names answers, and leaves what the next world is seen as.

@@ -83,35 +83,35 @@ pub data Move : Type 0 where
 
 -- what a host keeps, with this at an endpoint and its unit
 abbrev pub with_part : Wire → (endpoint : ℕ) → EndpointWire → Wire
-with_part w e p = record w { parts = slice_set w.parts e p }
+with_part wire endpoint part = record wire { parts = slice_set wire.parts endpoint part }
 
 -- what a host keeps, with this as what the endpoint keeps itself
 abbrev pub with_device : Wire → (endpoint : ℕ) → DeviceWire → Wire
-with_device w e d = with_part w e (record (part_of w e) { device = d })
+with_device wire endpoint device = with_part wire endpoint (record (part_of wire endpoint) { device = device })
 
 -- what a host keeps, with this as the endpoint's unit, but for its page request queue and the groups that are open at the host
 abbrev pub with_unit : Wire → (endpoint : ℕ) → UnitWire → Wire
-with_unit w e unit = with_part w e (record (part_of w e) { unit = unit })
+with_unit wire endpoint unit = with_part wire endpoint (record (part_of wire endpoint) { unit = unit })
 
 -- Spaces, frames.
 
 -- the spaces with other pages in that of a number
 abbrev pub with_pages : List SpaceWire → (number : ℕ) → (List PageWire → List PageWire) → List SpaceWire
-with_pages [] n change = []
-with_pages (space ∷ spaces) n change =
-    (if space.number == n then record space { pages = change space.pages } else space) ∷ with_pages spaces n change
+with_pages [] number change = []
+with_pages (space ∷ spaces) number change =
+    (if space.number == number then record space { pages = change space.pages } else space) ∷ with_pages spaces number change
 
 -- the live spaces once that of a number is dropped
 abbrev pub without_space : (number : ℕ) → List SpaceWire → List SpaceWire
-without_space n spaces = filter (λ space. not (space.number == n)) spaces
+without_space number spaces = filter (λ space. not (space.number == number)) spaces
 
 -- the pages in a row, and those that are not
 abbrev pub is_between : (page count : ℕ) → PageWire → Bool
-is_between q count entry = in_range q count entry.page
+is_between page count entry = in_range page count entry.page
 
 -- the pages that an unmapping of pages in a row leaves in a space
 abbrev pub without_pages : (page count : ℕ) → List PageWire → List PageWire
-without_pages q count pages = filter (λ entry. not (is_between q count entry)) pages
+without_pages page count pages = filter (λ entry. not (is_between page count entry)) pages
 
 -- the places of frames once these are somewhere else
 abbrev pub placed : PlaceWire → List PageWire → List PlaceWire → List PlaceWire
@@ -124,17 +124,17 @@ place_for targets = if list_all is_none targets then FreeWire else WithheldWire 
 
 -- what is settled at a unit: a wait by its cookie; or all that waits there
 abbrev pub settled_cookie : (cookie : ℕ) → Option TargetWire → Option TargetWire
-settled_cookie cookie (Some (Cookie c)) = if c == cookie then None else Some (Cookie c)
+settled_cookie cookie (Some (Cookie awaited)) = if awaited == cookie then None else Some (Cookie awaited)
 settled_cookie cookie target = target
 
 -- where a frame is, once that is settled at a unit: free, if it waits for nothing else
 abbrev pub settled_at : (endpoint : ℕ) → (Option TargetWire → Option TargetWire) → PlaceWire → PlaceWire
-settled_at e settle (WithheldWire targets) = place_for (slice_set targets e (settle (slice_index_or targets e None)))
-settled_at e settle place = place
+settled_at endpoint settle (WithheldWire targets) = place_for (slice_set targets endpoint (settle (slice_index_or targets endpoint None)))
+settled_at endpoint settle place = place
 
 -- where the frames are, once a wait of the endpoint's unit is done, or its reset has ended
 abbrev pub settled : (endpoint : ℕ) → (Option TargetWire → Option TargetWire) → List PlaceWire → List PlaceWire
-settled e settle places = map (settled_at e settle) places
+settled endpoint settle places = map (settled_at endpoint settle) places
 
 -- Unmapping. What the frames wait for at a unit, by the binding of their space there: `cookie` is that of the wait which the
 -- unit gets where it is open and the binding Live, Stopping or Draining.
@@ -148,57 +148,66 @@ target_by_stage unit cookie stage = Some (if unit.is_open then Cookie cookie els
 -- what the frames wait for at a unit: nothing, where their space isn't bound there
 abbrev pub target_by : UnitWire → (cookie : ℕ) → Option BindingWire → Option TargetWire
 target_by unit cookie None = None
-target_by unit cookie (Some b) = target_by_stage unit cookie b.stage
+target_by unit cookie (Some binding) = target_by_stage unit cookie binding.stage
 
 -- the cookies are given out in rising order of units
 abbrev pub cookie_at : Wire → (space endpoint : ℕ) → ℕ
-cookie_at w n e = w.next_cookie + count_below e (submits w n)
+cookie_at wire space endpoint = wire.next_cookie + count_below endpoint (submits wire space)
 
 -- what all frames of one unmapping wait for, at each of the eight units that there may be
 abbrev pub targets_of : Wire → (space : ℕ) → List (Option TargetWire)
-targets_of w n = tabulate 8 (λ e. if nat_lt e (length w.parts) then target_by (unit_of w e) (cookie_at w n e) (bound_at w e n) else None)
+targets_of wire space =
+    tabulate 8
+    (λ endpoint. if nat_lt endpoint (length wire.parts)
+    then target_by (unit_of wire endpoint) (cookie_at wire space endpoint) (bound_at wire endpoint space)
+    else None)
 
 -- the invalidations of ranges, one behind another, and the wait behind them
 abbrev pub descriptors_for : (pasid page count order cookie : ℕ) → List Descriptor
-descriptors_for t q count order cookie = tabulate count (λ j. RangeDescriptor t (range_at q order j)) ++ WaitDescriptor cookie false ∷ []
+descriptors_for pasid page count order cookie =
+    tabulate count (λ number. RangeDescriptor pasid (range_at page order number)) ++ WaitDescriptor cookie false ∷ []
 
 -- the unit once these are submitted, the last of them a wait with this cookie
 abbrev pub with_descriptors : UnitWire → List Descriptor → (cookie : ℕ) → UnitWire
-with_descriptors unit ds cookie = record unit { queue = unit.queue ++ ds; waits_end = suc cookie }
+with_descriptors unit descriptors cookie = record unit { queue = unit.queue ++ descriptors; waits_end = suc cookie }
 
 -- the PASID that the binding bears; 0, which is given to none, where there is no binding
 abbrev pub pasid_or_0 : Option BindingWire → ℕ
 pasid_or_0 None = 0
-pasid_or_0 (Some b) = b.pasid
+pasid_or_0 (Some binding) = binding.pasid
 
 -- an endpoint with its unit after an unmapping: the invalidations and their wait are in the queue, if it gets them
 abbrev pub part_unmapped : Wire → (space page count order endpoint : ℕ) → EndpointWire
-part_unmapped w n q count order e =
-    if submits w n e
-    then record (part_of w e) {
-      unit = with_descriptors (unit_of w e) (descriptors_for (pasid_or_0 (bound_at w e n)) q count order (cookie_at w n e)) (cookie_at w n e);
+part_unmapped wire space page count order endpoint =
+    if submits wire space endpoint
+    then record (part_of wire endpoint) {
+      unit =
+          with_descriptors
+          (unit_of wire endpoint)
+          (descriptors_for (pasid_or_0 (bound_at wire endpoint space)) page count order (cookie_at wire space endpoint))
+          (cookie_at wire space endpoint);
     }
-    else part_of w e
+    else part_of wire endpoint
 
 -- what a host keeps after an unmapping: the pages are out of the space, and their frames free or withheld
 abbrev pub unmapped : Wire → (space page count order : ℕ) → Wire
-unmapped w n q count order =
-    record w {
-      spaces = with_pages w.spaces n (without_pages q (count * 2 ^ order));
-      places = placed (place_for (targets_of w n)) (filter (is_between q (count * 2 ^ order)) (pages_in w n)) w.places;
-      parts = tabulate (length w.parts) (part_unmapped w n q count order);
-      next_cookie = w.next_cookie + count_below (length w.parts) (submits w n);
+unmapped wire space page count order =
+    record wire {
+      spaces = with_pages wire.spaces space (without_pages page (count * 2 ^ order));
+      places = placed (place_for (targets_of wire space)) (filter (is_between page (count * 2 ^ order)) (pages_in wire space)) wire.places;
+      parts = tabulate (length wire.parts) (part_unmapped wire space page count order);
+      next_cookie = wire.next_cookie + count_below (length wire.parts) (submits wire space);
     }
 
 -- Bindings.
 
 -- the bindings once that of a number has come to this stage
 abbrev pub with_stage : (binding : ℕ) → StageWire → List BindingWire → List BindingWire
-with_stage n stage bindings = map (λ (b : BindingWire). if b.binding == n then record b { stage = stage } else b) bindings
+with_stage number stage bindings = map (λ (binding : BindingWire). if binding.binding == number then record binding { stage = stage } else binding) bindings
 
 -- the bindings once that of a number is released
 abbrev pub without_binding : (binding : ℕ) → List BindingWire → List BindingWire
-without_binding n bindings = filter (λ b. not (b.binding == n)) bindings
+without_binding number bindings = filter (λ binding. not (binding.binding == number)) bindings
 
 -- a reset-done cuts off the bindings of its endpoint
 abbrev pub cut_off : StageWire → StageWire
@@ -208,55 +217,56 @@ cut_off stage = QuietWire
 
 -- the bindings after a reset-done of an endpoint; those of the others stay as they are
 abbrev pub cut_off_at : (endpoint : ℕ) → List BindingWire → List BindingWire
-cut_off_at e bindings = map (λ (b : BindingWire). if b.endpoint == e then record b { stage = cut_off b.stage } else b) bindings
+cut_off_at endpoint bindings =
+    map (λ (binding : BindingWire). if binding.endpoint == endpoint then record binding { stage = cut_off binding.stage } else binding) bindings
 
 -- Messages in flight.
 
 -- what a host keeps once a message is in flight, to or from the endpoint, under the next number
 abbrev pub sent : (endpoint : ℕ) → Message → Wire → Wire
-sent e m w =
-    record w {
-      in_flight = w.in_flight ++ record { number = w.next_message; endpoint = e; message = m } ∷ [];
-      next_message = w.next_message + 1;
+sent endpoint message wire =
+    record wire {
+      in_flight = wire.in_flight ++ record { number = wire.next_message; endpoint = endpoint; message = message } ∷ [];
+      next_message = wire.next_message + 1;
     }
 
 -- several copies
 abbrev pub sent_copies : (count endpoint : ℕ) → Message → Wire → Wire
-sent_copies count e m w =
-    record w {
-      in_flight = w.in_flight ++ tabulate count (λ j. record { number = w.next_message + j; endpoint = e; message = m });
-      next_message = w.next_message + count;
+sent_copies count endpoint message wire =
+    record wire {
+      in_flight = wire.in_flight ++ tabulate count (λ copy. record { number = wire.next_message + copy; endpoint = endpoint; message = message });
+      next_message = wire.next_message + count;
     }
 
 -- what a host keeps once the message of a number has left the link
 abbrev pub delivered : (message : ℕ) → Wire → Wire
-delivered n w = record w { in_flight = filter (λ f. not (f.number == n)) w.in_flight }
+delivered number wire = record wire { in_flight = filter (λ flight. not (flight.number == number)) wire.in_flight }
 
 -- The endpoint.
 
 -- the endpoint with a PASID off, on or told to stop; 0 is no PASID
 abbrev pub with_pasid : (pasid : ℕ) → PasidState → DeviceWire → DeviceWire
-with_pasid zero state d = d
-with_pasid (suc t) state d = record d { pasids = slice_set d.pasids t state }
+with_pasid zero state device = device
+with_pasid (suc place) state device = record device { pasids = slice_set device.pasids place state }
 
 -- the endpoint once a translation request is over, and its tag free
 abbrev pub without_tag : (tag : ℕ) → DeviceWire → DeviceWire
-without_tag tag d = record d { tags = slice_set d.tags tag None }
+without_tag tag device = record device { tags = slice_set device.tags tag None }
 
 -- the translation in place of an older one of its PASID and page
 abbrev pub kept : TranslationWire → List TranslationWire → List TranslationWire
-kept x cache = insert_by is_before x (filter (λ y. not (is_at_page x.pasid x.page y)) cache)
+kept translation cache = insert_by is_before translation (filter (λ older. not (is_at_page translation.pasid translation.page older)) cache)
 
 -- a translation request that is out, once an invalidation is taken: doomed where that, or one before, covers its page (this project's own;
 -- PCI Express Base 5.0, section 10.3, leaves several ways to a function)
 abbrev pub doomed : (pasid : ℕ) → Extent → Option RequestWire → Option RequestWire
-doomed t extent None = None
-doomed t extent (Some r) = Some (record r { is_doomed = r.is_doomed || covers t extent r.pasid r.page })
+doomed pasid extent None = None
+doomed pasid extent (Some request) = Some (record request { is_doomed = request.is_doomed || covers pasid extent request.pasid request.page })
 
 -- the use slots that an invalidation notes: those of running uses that it covers
 abbrev pub is_noted : (pasid : ℕ) → Extent → Option UseWire → Bool
-is_noted t extent (Some (RunningWire x)) = covers t extent x.pasid x.page
-is_noted t extent _ = false
+is_noted pasid extent (Some (RunningWire translation)) = covers pasid extent translation.pasid translation.page
+is_noted pasid extent _ = false
 
 -- what is kept of an invalidation is its range, read from the code
 abbrev pub extent_or_all : Option Range → Extent
@@ -271,11 +281,11 @@ extent_in Everything = AllPages
 -- the endpoint once it has taken an invalidation: what this covers isn't cached any more, each request that is out for it is doomed, and
 -- its running uses are noted
 abbrev pub taking : (itag pasid : ℕ) → Extent → DeviceWire → DeviceWire
-taking itag t extent d =
-    record d {
-      taken = slice_set d.taken itag (Some (record { pasid = t; extent = extent; slots = map (is_noted t extent) d.slots }));
-      cache = filter (λ x. not (covers t extent x.pasid x.page)) d.cache;
-      tags = map (doomed t extent) d.tags;
+taking itag pasid extent device =
+    record device {
+      taken = slice_set device.taken itag (Some (record { pasid = pasid; extent = extent; slots = map (is_noted pasid extent) device.slots }));
+      cache = filter (λ translation. not (covers pasid extent translation.pasid translation.page)) device.cache;
+      tags = map (doomed pasid extent) device.tags;
     }
 
 -- an invalidation that the endpoint has taken, once the use of a slot has ended: it waits for that no more
@@ -285,21 +295,21 @@ unnoted slot (Some taken) = Some (record taken { slots = slice_set taken.slots s
 
 -- the endpoint once the use of a slot has ended: the slot is free, and no invalidation waits for it
 abbrev pub ended : (slot : ℕ) → DeviceWire → DeviceWire
-ended slot d = record d { slots = slice_set d.slots slot None; taken = map (unnoted slot) d.taken }
+ended slot device = record device { slots = slice_set device.slots slot None; taken = map (unnoted slot) device.taken }
 
 -- a group at its endpoint with one page request more, by whether that is its last
 abbrev pub with_request : Bool → Option GroupWire → Option GroupWire
 with_request last None = None
-with_request last (Some g) = Some (record g { state = sent_as last; requests = suc g.requests })
+with_request last (Some group) = Some (record group { state = sent_as last; requests = suc group.requests })
 
 -- the endpoint with one page request more in the group of an index
 abbrev pub requested : (index : ℕ) → Bool → DeviceWire → DeviceWire
-requested i last d = record d { groups = slice_set d.groups i (with_request last (slice_index_or d.groups i None)) }
+requested index last device = record device { groups = slice_set device.groups index (with_request last (slice_index_or device.groups index None)) }
 
 -- a group once a PASID is quit: stale, where it is of that PASID and awaits its response
 abbrev pub stale_of : (pasid : ℕ) → Option GroupWire → Option GroupWire
-stale_of t None = None
-stale_of t (Some g) = Some (record g { state = stale_if (g.pasid == t) g.state })
+stale_of pasid None = None
+stale_of pasid (Some group) = Some (record group { state = stale_if (group.pasid == pasid) group.state })
 
 -- a use once the endpoint has reset itself: it is dead, and keeps its slot until its end
 abbrev pub killed : Option UseWire → Option UseWire
@@ -308,14 +318,14 @@ killed (Some running) = Some DeadWire
 
 -- after its own reset
 abbrev pub cleared : DeviceWire → DeviceWire
-cleared d =
+cleared device =
     record {
-      pasids = map (λ state. Off) d.pasids;
-      tags = map (λ tag. None) d.tags;
+      pasids = map (λ state. Off) device.pasids;
+      tags = map (λ tag. None) device.tags;
       cache = [];
-      slots = map killed d.slots;
-      taken = map (λ taken. None) d.taken;
-      groups = map (λ group. None) d.groups;
+      slots = map killed device.slots;
+      taken = map (λ taken. None) device.taken;
+      groups = map (λ group. None) device.groups;
       is_disabled = false;
     }
 
@@ -333,119 +343,145 @@ one_more count (Some (Counting fixed arrived)) = counting fixed (suc arrived)
 
 -- the ITags of a unit after a completion: it counts for each that its vector names (PCI Express Base 5.0, section 10.3.2)
 abbrev pub completed : (vector count : ℕ) → List (Option BusyWire) → List (Option BusyWire)
-completed vector count busy = tabulate 32 (λ t. if Labels.is_set vector t then one_more count (slice_index_or busy t None) else slice_index_or busy t None)
+completed vector count busy =
+    tabulate 32 (λ itag. if Labels.is_set vector itag then one_more count (slice_index_or busy itag None) else slice_index_or busy itag None)
 
 -- what the endpoint has taken and not finished, once it has finished the invalidations that the vector names
 abbrev pub without_named : (vector : ℕ) → List (Option TakenWire) → List (Option TakenWire)
-without_named vector taken = tabulate 32 (λ t. if Labels.is_set vector t then None else slice_index_or taken t None)
+without_named vector taken = tabulate 32 (λ itag. if Labels.is_set vector itag then None else slice_index_or taken itag None)
 
 -- is it the group of this binding and index, of which the last page request isn't filed yet?
 abbrev pub is_begun : (binding index : ℕ) → HostGroupWire → Bool
-is_begun n i g = g.binding == n && g.index == i && not g.is_whole
+is_begun binding index group = group.binding == binding && group.index == index && not group.is_whole
 
 -- the groups that are open at the host, with one request more: in the group of its binding and index that isn't whole, or in
 -- a new one
 abbrev pub filed : (binding : ℕ) → PageRequestWire → List HostGroupWire → List HostGroupWire
-filed n r [] = record { binding = n; index = r.index; asks = r.ask ∷ []; is_whole = r.last } ∷ []
-filed n r (g ∷ groups) =
-    if is_begun n r.index g then record g { asks = g.asks ++ r.ask ∷ []; is_whole = r.last } ∷ groups else g ∷ filed n r groups
+filed binding request [] = record { binding = binding; index = request.index; asks = request.ask ∷ []; is_whole = request.last } ∷ []
+filed binding request (group ∷ groups) =
+    if is_begun binding request.index group
+    then record group { asks = group.asks ++ request.ask ∷ []; is_whole = request.last } ∷ groups
+    else group ∷ filed binding request groups
 
 -- is it the group of the job? Once that is answered, the group isn't open at the host any more.
 abbrev pub is_of_job : JobWire → HostGroupWire → Bool
-is_of_job job g = g.binding == job.binding && g.index == job.index
+is_of_job job group = group.binding == job.binding && group.index == job.index
 
 -- The moves.
 
 -- what a host keeps after a move
 abbrev pub moved : Wire → Move → Wire
-moved w NewSpace = record w { spaces = w.spaces ++ record { number = w.next_space; pages = [] } ∷ []; next_space = w.next_space + 1 }
-moved w (DropSpace n) = record w { spaces = without_space n w.spaces; places = placed FreeWire (pages_in w n) w.places }
-moved w (Map n q f x) =
-    record w {
-      spaces = with_pages w.spaces n (insert_by is_lower_page (record { page = q; frame = f; write = x }));
-      places = slice_set w.places f MappedWire;
+moved wire NewSpace = record wire { spaces = wire.spaces ++ record { number = wire.next_space; pages = [] } ∷ []; next_space = wire.next_space + 1 }
+moved wire (DropSpace space) = record wire { spaces = without_space space wire.spaces; places = placed FreeWire (pages_in wire space) wire.places }
+moved wire (Map space page frame write) =
+    record wire {
+      spaces = with_pages wire.spaces space (insert_by is_lower_page (record { page = page; frame = frame; write = write }));
+      places = slice_set wire.places frame MappedWire;
     }
-moved w (Unmap n q count order) = unmapped w n q count order
-moved w NewBinding = record w { next_binding = w.next_binding + 1 }
-moved w (Bind e n b t) =
-    sent e (StartMessage t) (record w { bindings = w.bindings ++ record { endpoint = e; space = n; binding = b; pasid = t; stage = LiveWire } ∷ [] })
-moved w (Stop e b t) = sent e (StopMessage t) (record w { bindings = with_stage b (StoppingWire false) w.bindings })
-moved w (Drain e b) =
-    record (with_unit w e (with_descriptors (unit_of w e) (WaitDescriptor w.next_cookie true ∷ []) w.next_cookie)) {
-      bindings = with_stage b (DrainingWire w.next_cookie) w.bindings;
-      next_cookie = w.next_cookie + 1;
-    }
-moved w (Invalidate e b t) =
-    record (with_unit w e (with_descriptors (unit_of w e) (PasidDescriptor t ∷ WaitDescriptor w.next_cookie false ∷ []) w.next_cookie)) {
-      bindings = with_stage b (InvalidatingWire w.next_cookie) w.bindings;
-      next_cookie = w.next_cookie + 1;
-    }
-moved w (Quieten b) = record w { bindings = with_stage b QuietWire w.bindings }
-moved w (Release b) = record w { bindings = without_binding b w.bindings }
-moved w (Send e t pasid extent) =
-    sent e (InvalidateMessage t pasid (scope_of extent))
-    (with_unit w e (record (unit_of w e) { queue = drop 1 (unit_of w e).queue; busy = slice_set (unit_of w e).busy t (Some Fresh) }))
-moved w (Pass e cookie) =
-    record (with_unit w e (record (unit_of w e) { queue = drop 1 (unit_of w e).queue; front = suc cookie })) {
-      places = settled e (settled_cookie cookie) w.places;
-    }
-moved w (File e b r) =
-    with_part w e (record (part_of w e) { page_queue = drop 1 (part_of w e).page_queue; host_groups = filed b r (part_of w e).host_groups })
-moved w (NewJob job) = record w { jobs = w.jobs ++ job ∷ [] }
-moved w (Reset e) =
-    sent e ResetMessage
-    (record (with_part w e (record (part_of w e) { unit = record (unit_of w e) { is_open = false; queue = [] }; page_queue = []; host_groups = [] })) {
-      jobs = filter (λ job. not (job.endpoint == e)) w.jobs;
+moved wire (Unmap space page count order) = unmapped wire space page count order
+moved wire NewBinding = record wire { next_binding = wire.next_binding + 1 }
+moved wire (Bind endpoint space binding pasid) =
+    sent endpoint (StartMessage pasid)
+    (record wire {
+      bindings = wire.bindings ++ record { endpoint = endpoint; space = space; binding = binding; pasid = pasid; stage = LiveWire } ∷ [];
     })
-moved w Hand = record w { jobs = drop 1 w.jobs }
-moved w (Hold x job) = record w { hands = slice_set w.hands x (Some job) }
-moved w (LetGo x) = record w { hands = slice_set w.hands x None }
-moved w (Respond job t code) =
-    sent job.endpoint (ResponseMessage t job.index code)
-    (with_part w job.endpoint (record (part_of w job.endpoint) { host_groups = filter (λ g. not (is_of_job job g)) (part_of w job.endpoint).host_groups }))
-moved w Discard = w
-moved w (Ask e t q tag) =
-    sent e (RequestMessage tag t q)
-    (with_device w e (record (device_of w e) { tags = slice_set (device_of w e).tags tag (Some (record { pasid = t; page = q; is_doomed = false })) }))
-moved w (Begin e slot x) = with_device w e (record (device_of w e) { slots = slice_set (device_of w e).slots slot (Some (RunningWire x)) })
-moved w (End e slot) = with_device w e (ended slot (device_of w e))
-moved w (Evict e t q) = with_device w e (record (device_of w e) { cache = filter (λ x. not (is_at_page t q x)) (device_of w e).cache })
-moved w (Group e t i q r x l) =
-    sent e (PageRequestMessage t i q r x l)
-    (with_device w e (record (device_of w e) { groups = slice_set (device_of w e).groups i (Some (record { pasid = t; state = sent_as l; requests = 1 })) }))
-moved w (Request e t i q r x l) = sent e (PageRequestMessage t i q r x l) (with_device w e (requested i l (device_of w e)))
-moved w (Finish e vector count) =
-    sent_copies count e (InvalidatedMessage vector (count_field count))
-    (with_device w e (record (device_of w e) { taken = without_named vector (device_of w e).taken }))
-moved w (Quit e t) =
-    sent e (MarkerMessage t) (with_device w e (with_pasid t Off (record (device_of w e) { groups = map (stale_of t) (device_of w e).groups })))
-moved w (StartArrives e n t) = delivered n (with_device w e (with_pasid t On (device_of w e)))
-moved w (StopArrives e n t) = delivered n (with_device w e (with_pasid t Ending (device_of w e)))
-moved w (ResetArrives e n) = sent e ResetDoneMessage (delivered n (with_device w e (cleared (device_of w e))))
-moved w (Keep e n tag x) =
-    delivered n (with_device w e (without_tag tag (record (device_of w e) { cache = kept x (device_of w e).cache })))
-moved w (Forget e n tag) = delivered n (with_device w e (without_tag tag (device_of w e)))
-moved w (Take e n itag t extent) = delivered n (with_device w e (taking itag t extent (device_of w e)))
-moved w (Answered e n i code) =
-    delivered n
-    (with_device w e (record (device_of w e) {
-      groups = slice_set (device_of w e).groups i None;
-      is_disabled =
-          (device_of w e).is_disabled || disables code;
+moved wire (Stop endpoint binding pasid) = sent endpoint (StopMessage pasid) (record wire { bindings = with_stage binding (StoppingWire false) wire.bindings })
+moved wire (Drain endpoint binding) =
+    record (with_unit wire endpoint (with_descriptors (unit_of wire endpoint) (WaitDescriptor wire.next_cookie true ∷ []) wire.next_cookie)) {
+      bindings = with_stage binding (DrainingWire wire.next_cookie) wire.bindings;
+      next_cookie = wire.next_cookie + 1;
+    }
+moved wire (Invalidate endpoint binding pasid) =
+    record (with_unit wire endpoint
+    (with_descriptors (unit_of wire endpoint) (PasidDescriptor pasid ∷ WaitDescriptor wire.next_cookie false ∷ []) wire.next_cookie)) {
+      bindings = with_stage binding (InvalidatingWire wire.next_cookie) wire.bindings;
+      next_cookie = wire.next_cookie + 1;
+    }
+moved wire (Quieten binding) = record wire { bindings = with_stage binding QuietWire wire.bindings }
+moved wire (Release binding) = record wire { bindings = without_binding binding wire.bindings }
+moved wire (Send endpoint itag pasid extent) =
+    sent endpoint (InvalidateMessage itag pasid (scope_of extent))
+    (with_unit wire endpoint
+    (record (unit_of wire endpoint) { queue = drop 1 (unit_of wire endpoint).queue; busy = slice_set (unit_of wire endpoint).busy itag (Some Fresh) }))
+moved wire (Pass endpoint cookie) =
+    record (with_unit wire endpoint (record (unit_of wire endpoint) { queue = drop 1 (unit_of wire endpoint).queue; front = suc cookie })) {
+      places = settled endpoint (settled_cookie cookie) wire.places;
+    }
+moved wire (File endpoint binding request) =
+    with_part wire endpoint (record (part_of wire endpoint) {
+      page_queue = drop 1 (part_of wire endpoint).page_queue;
+      host_groups = filed binding request (part_of wire endpoint).host_groups;
+    })
+moved wire (NewJob job) = record wire { jobs = wire.jobs ++ job ∷ [] }
+moved wire (Reset endpoint) =
+    sent endpoint ResetMessage
+    (record (with_part wire endpoint
+    (record (part_of wire endpoint) { unit = record (unit_of wire endpoint) { is_open = false; queue = [] }; page_queue = []; host_groups = [] })) {
+      jobs = filter (λ job. not (job.endpoint == endpoint)) wire.jobs;
+    })
+moved wire Hand = record wire { jobs = drop 1 wire.jobs }
+moved wire (Hold worker job) = record wire { hands = slice_set wire.hands worker (Some job) }
+moved wire (LetGo worker) = record wire { hands = slice_set wire.hands worker None }
+moved wire (Respond job pasid code) =
+    sent job.endpoint (ResponseMessage pasid job.index code)
+    (with_part wire job.endpoint
+    (record (part_of wire job.endpoint) { host_groups = filter (λ group. not (is_of_job job group)) (part_of wire job.endpoint).host_groups }))
+moved wire Discard = wire
+moved wire (Ask endpoint pasid page tag) =
+    sent endpoint (RequestMessage tag pasid page)
+    (with_device wire endpoint (record (device_of wire endpoint) {
+      tags = slice_set (device_of wire endpoint).tags tag (Some (record { pasid = pasid; page = page; is_doomed = false }));
     }))
-moved w (Complete e n answer) = sent e answer (delivered n w)
-moved w (Count e n vector count) = delivered n (with_unit w e (record (unit_of w e) { busy = completed vector count (unit_of w e).busy }))
-moved w (Arrive e n r) = delivered n (with_part w e (record (part_of w e) { page_queue = (part_of w e).page_queue ++ r ∷ [] }))
-moved w (Mark e n b) = delivered n (record w { bindings = with_stage b (StoppingWire true) w.bindings })
-moved w (Ignore n) = delivered n w
-moved w (Reopen e n) =
-    delivered n
-    (record (with_unit w e (record (unit_of w e) { is_open = true; busy = map (λ tag. None) (unit_of w e).busy; front = (unit_of w e).waits_end })) {
-      bindings = cut_off_at e w.bindings;
-      places = settled e (λ target. None) w.places;
+moved wire (Begin endpoint slot translation) =
+    with_device wire endpoint (record (device_of wire endpoint) { slots = slice_set (device_of wire endpoint).slots slot (Some (RunningWire translation)) })
+moved wire (End endpoint slot) = with_device wire endpoint (ended slot (device_of wire endpoint))
+moved wire (Evict endpoint pasid page) =
+    with_device wire endpoint
+    (record (device_of wire endpoint) { cache = filter (λ translation. not (is_at_page pasid page translation)) (device_of wire endpoint).cache })
+moved wire (Group endpoint pasid index page read write last) =
+    sent endpoint (PageRequestMessage pasid index page read write last)
+    (with_device wire endpoint (record (device_of wire endpoint) {
+      groups = slice_set (device_of wire endpoint).groups index (Some (record { pasid = pasid; state = sent_as last; requests = 1 }));
+    }))
+moved wire (Request endpoint pasid index page read write last) =
+    sent endpoint (PageRequestMessage pasid index page read write last) (with_device wire endpoint (requested index last (device_of wire endpoint)))
+moved wire (Finish endpoint vector count) =
+    sent_copies count endpoint (InvalidatedMessage vector (count_field count))
+    (with_device wire endpoint (record (device_of wire endpoint) { taken = without_named vector (device_of wire endpoint).taken }))
+moved wire (Quit endpoint pasid) =
+    sent endpoint (MarkerMessage pasid)
+    (with_device wire endpoint (with_pasid pasid Off (record (device_of wire endpoint) { groups = map (stale_of pasid) (device_of wire endpoint).groups })))
+moved wire (StartArrives endpoint message pasid) = delivered message (with_device wire endpoint (with_pasid pasid On (device_of wire endpoint)))
+moved wire (StopArrives endpoint message pasid) = delivered message (with_device wire endpoint (with_pasid pasid Ending (device_of wire endpoint)))
+moved wire (ResetArrives endpoint message) = sent endpoint ResetDoneMessage (delivered message (with_device wire endpoint (cleared (device_of wire endpoint))))
+moved wire (Keep endpoint message tag translation) =
+    delivered message
+    (with_device wire endpoint (without_tag tag (record (device_of wire endpoint) { cache = kept translation (device_of wire endpoint).cache })))
+moved wire (Forget endpoint message tag) = delivered message (with_device wire endpoint (without_tag tag (device_of wire endpoint)))
+moved wire (Take endpoint message itag pasid extent) = delivered message (with_device wire endpoint (taking itag pasid extent (device_of wire endpoint)))
+moved wire (Answered endpoint message index code) =
+    delivered message
+    (with_device wire endpoint (record (device_of wire endpoint) {
+      groups = slice_set (device_of wire endpoint).groups index None;
+      is_disabled =
+          (device_of wire endpoint).is_disabled || disables code;
+    }))
+moved wire (Complete endpoint message answer) = sent endpoint answer (delivered message wire)
+moved wire (Count endpoint message vector count) =
+    delivered message (with_unit wire endpoint (record (unit_of wire endpoint) { busy = completed vector count (unit_of wire endpoint).busy }))
+moved wire (Arrive endpoint message request) =
+    delivered message (with_part wire endpoint (record (part_of wire endpoint) { page_queue = (part_of wire endpoint).page_queue ++ request ∷ [] }))
+moved wire (Mark endpoint message binding) = delivered message (record wire { bindings = with_stage binding (StoppingWire true) wire.bindings })
+moved wire (Ignore message) = delivered message wire
+moved wire (Reopen endpoint message) =
+    delivered message
+    (record (with_unit wire endpoint
+    (record (unit_of wire endpoint) { is_open = true; busy = map (λ tag. None) (unit_of wire endpoint).busy; front = (unit_of wire endpoint).waits_end })) {
+      bindings = cut_off_at endpoint wire.bindings;
+      places = settled endpoint (λ target. None) wire.places;
     })
 
 -- what a host keeps after moves, one after another
 abbrev pub all_moved : Wire → List Move → Wire
-all_moved w [] = w
-all_moved w (m ∷ moves) = all_moved (moved w m) moves
+all_moved wire [] = wire
+all_moved wire (move ∷ moves) = all_moved (moved wire move) moves

@@ -13,48 +13,48 @@ use Rattle.sva_labels.specs.Finding.{pages_in, page_at, is_mapped, binding_of, u
 
 -- the code of the response; none is sent at a unit in reset, or for a binding that is Lost, Quiet or released
 abbrev pub response_by : Bool → StageWire → Verdict → Option Code
-response_by true LiveWire v = Some (code_of_verdict v)
-response_by true (StoppingWire marked) v = Some InvalidCode
-response_by true (DrainingWire cookie) v = Some InvalidCode
-response_by _ _ v = None
+response_by true LiveWire verdict = Some (code_of_verdict verdict)
+response_by true (StoppingWire marked) verdict = Some InvalidCode
+response_by true (DrainingWire cookie) verdict = Some InvalidCode
+response_by _ _ verdict = None
 
 -- the same, by the binding that the job names; one that was released is found no more
 abbrev pub response_for : (is_open : Bool) → Option BindingWire → Verdict → Option Code
-response_for is_open None v = None
-response_for is_open (Some b) v = response_by is_open b.stage v
+response_for is_open None verdict = None
+response_for is_open (Some binding) verdict = response_by is_open binding.stage verdict
 
 -- the code of the response to a job, if one is sent
 abbrev pub response_to : Wire → JobWire → Verdict → Option Code
-response_to w job v = response_for (unit_of w job.endpoint).is_open (binding_of w job.binding) v
+response_to wire job verdict = response_for (unit_of wire job.endpoint).is_open (binding_of wire job.binding) verdict
 
 -- is a response sent to the job, whatever the verdict?
 abbrev pub responds : Wire → JobWire → Bool
-responds w job = is_some (response_to w job verdict.Invalid)
+responds wire job = is_some (response_to wire job verdict.Invalid)
 
 -- is the job answered by success, so that pages are mapped?
 abbrev pub replies_success : Wire → JobWire → Verdict → Bool
-replies_success w job v = is_success (response_to w job v)
+replies_success wire job verdict = is_success (response_to wire job verdict)
 
 -- the number of the space of the binding that the job names; 0 where that is released
 abbrev pub space_by : Option BindingWire → ℕ
 space_by None = 0
-space_by (Some b) = b.space
+space_by (Some binding) = binding.space
 
 -- the number of the space for which a job asks
 abbrev pub space_of_job : Wire → JobWire → ℕ
-space_of_job w job = space_by (binding_of w job.binding)
+space_of_job wire job = space_by (binding_of wire job.binding)
 
 -- the mapped pages of the space for which a job asks
 abbrev pub pages_of_job : Wire → JobWire → List PageWire
-pages_of_job w job = pages_in w (space_of_job w job)
+pages_of_job wire job = pages_in wire (space_of_job wire job)
 
 -- the pages that a success maps: each requested page that isn't mapped, in order of first filing
 abbrev pub newly_mapped : Wire → JobWire → List ℕ
-newly_mapped w job = unseen (is_mapped (pages_of_job w job)) (map (λ a. a.page) job.asks)
+newly_mapped wire job = unseen (is_mapped (pages_of_job wire job)) (map (λ ask. ask.page) job.asks)
 
 -- does a request of the job ask to write the page?
 abbrev pub is_write_asked : List AskWire → (page : ℕ) → Bool
-is_write_asked asks q = list_any (λ a. a.page == q && a.write) asks
+is_write_asked asks page = list_any (λ ask. ask.page == page && ask.write) asks
 
 -- does a mapping stand at the page that allows no write?
 abbrev pub is_read_only_at : Option PageWire → Bool
@@ -63,4 +63,4 @@ is_read_only_at (Some entry) = not entry.write
 
 -- does a request of the job ask to write a page that is mapped read-only?
 abbrev pub is_write_of_read_only : Wire → JobWire → Bool
-is_write_of_read_only w job = list_any (λ a. a.write && is_read_only_at (page_at (pages_of_job w job) a.page)) job.asks
+is_write_of_read_only wire job = list_any (λ ask. ask.write && is_read_only_at (page_at (pages_of_job wire job) ask.page)) job.asks

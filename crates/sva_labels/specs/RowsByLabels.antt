@@ -40,14 +40,14 @@ counts_in places = record { free = count_by is_free places; mapped = count_by is
 
 -- the counts after a list of steps; unfolded step by step, as the answers are, it is computed quickly
 unfoldable pub counts_after : Wire → List Step → Counts
-counts_after w [] = counts_in w.places
-counts_after w (s ∷ ss) = counts_after (next_of w s) ss
+counts_after wire [] = counts_in wire.places
+counts_after wire (step ∷ steps) = counts_after (next_of wire step) steps
 
 -- the answers, and the counts of frames at the end
 abbrev pub IsRowByLabels : Config → List Line → (free mapped withheld : ℕ) → Type 0
-IsRowByLabels c row free mapped withheld =
-    (replies_of (first_wire c) (steps_of row) ≡ map (λ l. l.reply) row)
-    × (counts_after (first_wire c) (steps_of row) ≡ record { free = free; mapped = mapped; withheld = withheld })
+IsRowByLabels config row free mapped withheld =
+    (replies_of (first_wire config) (steps_of row) ≡ map (λ line. line.reply) row)
+    × (counts_after (first_wire config) (steps_of row) ≡ record { free = free; mapped = mapped; withheld = withheld })
 
 -- Spaces, bindings, translations, and pages unmapped while they are in use.
 pub record TranslationsByLabels : Type 0 where

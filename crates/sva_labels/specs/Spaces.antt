@@ -10,7 +10,7 @@ use Rattle.sva_labels.specs.Finding.{is_space}
 
 -- the space of each binding is there
 abbrev pub HaveSpaces : Wire → Type 0
-HaveSpaces w = (k : ℕ) (b : BindingWire) → slice_get w.bindings k ≡ Some b → is_space w b.space ≡ true
+HaveSpaces wire = (position : ℕ) (binding : BindingWire) → slice_get wire.bindings position ≡ Some binding → is_space wire binding.space ≡ true
 
 -- so it is at each world that some list of steps leads to
 abbrev pub AlwaysHaveSpaces : Type 0

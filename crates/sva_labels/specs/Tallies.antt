@@ -10,22 +10,22 @@ use Rattle.sva_model.specs.Wire.{Wire, EndpointWire, UseWire, wire}
 
 -- how many bindings are unreleased, at all endpoints together
 abbrev pub unreleased : Wire → ℕ
-unreleased w = length w.bindings
+unreleased wire = length wire.bindings
 
 -- how many use slots of an endpoint are taken, by running and dead uses
 abbrev pub taken_in : List (Option UseWire) → ℕ
 taken_in [] = 0
 taken_in (None ∷ slots) = taken_in slots
-taken_in (Some u ∷ slots) = suc (taken_in slots)
+taken_in (Some used ∷ slots) = suc (taken_in slots)
 
 -- how many use slots are taken at these endpoints
 abbrev pub slots_in : List EndpointWire → ℕ
 slots_in [] = 0
-slots_in (p ∷ parts) = taken_in p.device.slots + slots_in parts
+slots_in (part ∷ parts) = taken_in part.device.slots + slots_in parts
 
 -- of all endpoints
 abbrev pub slots_taken : Wire → ℕ
-slots_taken w = slots_in w.parts
+slots_taken wire = slots_in wire.parts
 
 -- how many bindings begin by a step with this reply, and how many are released; and how many slots are given out, and given
 -- back, that of a use which a reset ended among them
@@ -50,13 +50,13 @@ ends (Ok answer.Dead) = 1
 ends _ = 0
 
 -- a step with this reply changes the number of unreleased bindings and that of taken use slots as the reply says
-pub record IsTallied (before after : Wire) (r : Reply) : Type 0 where
-  pub bindings : unreleased after + releases r ≡ unreleased before + binds r
-  pub slots : slots_taken after + ends r ≡ slots_taken before + begins r
+pub record IsTallied (before after : Wire) (reply : Reply) : Type 0 where
+  pub bindings : unreleased after + releases reply ≡ unreleased before + binds reply
+  pub slots : slots_taken after + ends reply ≡ slots_taken before + begins reply
 
 -- after every list of steps, and by either rule of PASIDs, the next step changes these two numbers as its reply says
 abbrev pub AlwaysTallied : Type 0
 AlwaysTallied =
-    (rule : PasidRule) (config : Config) (steps : List Step) (s : Step)
+    (rule : PasidRule) (config : Config) (steps : List Step) (step : Step)
     → Fits config
-    → IsTallied (wire (world_after rule config steps)) (wire (next (world_after rule config steps) s)) (reply (world_after rule config steps) s)
+    → IsTallied (wire (world_after rule config steps)) (wire (next (world_after rule config steps) step)) (reply (world_after rule config steps) step)

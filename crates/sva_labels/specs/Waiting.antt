@@ -18,7 +18,8 @@ is_page_request _ = false
 
 -- in flight, and in the page request queues of all endpoints
 abbrev pub waiting : Wire → ℕ
-waiting w = count_by (λ (f : FlightWire). is_page_request f.message) w.in_flight + sum_by (λ (p : EndpointWire). length p.page_queue) w.parts
+waiting wire =
+    count_by (λ (flight : FlightWire). is_page_request flight.message) wire.in_flight + sum_by (λ (part : EndpointWire). length part.page_queue) wire.parts
 
 -- how many are filed by a step with this reply
 abbrev pub files : Reply → ℕ
@@ -28,4 +29,6 @@ files _ = 0
 
 -- of every wire, whether some list of steps leads to it or not
 abbrev pub FiledInTurn : Type 0
-FiledInTurn = (w : Wire) (s : Step) → waiting (next_of w s) + files (reply_of w s) + w.next_message ≤ waiting w + (next_of w s).next_message
+FiledInTurn =
+    (wire : Wire) (step : Step)
+    → waiting (next_of wire step) + files (reply_of wire step) + wire.next_message ≤ waiting wire + (next_of wire step).next_message

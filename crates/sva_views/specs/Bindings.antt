@@ -13,12 +13,12 @@ use Rattle.sva_pasid.specs.Places.{place_of, place_under, place_between, is_boun
 
 -- a stage by labels: with the cookie of its wait, or with whether the Stop Marker is noted (PCI Express Base 5.0, section 10.4.1)
 abbrev pub stage_seen : Stage → StageWire
-stage_seen (Live n) = LiveWire
-stage_seen (Stopping s) = StoppingWire s.marked
-stage_seen (Draining w) = DrainingWire w.cookie
-stage_seen (Invalidating w) = InvalidatingWire w.cookie
-stage_seen (Quiet n) = QuietWire
-stage_seen (Lost n) = LostWire
+stage_seen (Live live) = LiveWire
+stage_seen (Stopping stopping) = StoppingWire stopping.marked
+stage_seen (Draining draining) = DrainingWire draining.cookie
+stage_seen (Invalidating invalidating) = InvalidatingWire invalidating.cookie
+stage_seen (Quiet quiet) = QuietWire
+stage_seen (Lost lost) = LostWire
 
 -- a place is empty only while its stage is in hand
 abbrev pub stage_or_quiet : Option Stage → StageWire
@@ -36,27 +36,30 @@ bindings_seen places = map binding_seen places
 
 -- the space that bears a PASID, and how many bindings are under it
 abbrev pub bearer_seen : List BindingWire → (pasid : ℕ) → Option Bearer
-bearer_seen bindings t =
-    option_map (λ (b : BindingWire). record { space = b.space; bindings = count_by (λ x. x.pasid == t) bindings }) (find (λ b. b.pasid == t) bindings)
+bearer_seen bindings pasid =
+    option_map (λ (binding : BindingWire). record { space = binding.space; bindings = count_by (λ other. other.pasid == pasid) bindings })
+    (find (λ binding. binding.pasid == pasid) bindings)
 
 -- what is looked up, of a host that keeps these bindings
-pub record AreLookedUp (places : List Place) (w : Wire) : Type 0 where
-  pub by_number : (n : ℕ) → option_map binding_seen (place_of n places) ≡ finding.binding_of w n
-  pub by_pasid : (e t : ℕ) → option_map binding_seen (place_under e t places) ≡ finding.bearer w e t
-  pub by_space : (e n : ℕ) → option_map binding_seen (place_between e n places) ≡ finding.bound_at w e n
-  pub bound : (n : ℕ) → is_bound n places ≡ finding.is_bound w n
-  pub lowest : (n : ℕ) → lowest n places ≡ finding.pasid_for w n
-  pub bearer : (t : ℕ) → bearer_of t places ≡ bearer_seen w.bindings t
+pub record AreLookedUp (places : List Place) (wire : Wire) : Type 0 where
+  pub by_number : (number : ℕ) → option_map binding_seen (place_of number places) ≡ finding.binding_of wire number
+  pub by_pasid : (endpoint pasid : ℕ) → option_map binding_seen (place_under endpoint pasid places) ≡ finding.bearer wire endpoint pasid
+  pub by_space : (endpoint space : ℕ) → option_map binding_seen (place_between endpoint space places) ≡ finding.bound_at wire endpoint space
+  pub bound : (space : ℕ) → is_bound space places ≡ finding.is_bound wire space
+  pub lowest : (space : ℕ) → lowest space places ≡ finding.pasid_for wire space
+  pub bearer : (pasid : ℕ) → bearer_of pasid places ≡ bearer_seen wire.bindings pasid
 
 -- what is changed
 pub record AreChanged (places : List Place) : Type 0 where
   pub begun :
-      (e n b t : ℕ) → bindings_seen (places ++ begun e n b t ∷ [])
-      ≡ bindings_seen places ++ record { endpoint = e; space = n; binding = b; pasid = t; stage = LiveWire } ∷ []
-  pub staged : (b : ℕ) (stage : Stage) → bindings_seen (with_stage b (Some stage) places) ≡ moves.with_stage b (stage_seen stage) (bindings_seen places)
-  pub released : (b : ℕ) → bindings_seen (without b places) ≡ moves.without_binding b (bindings_seen places)
-  pub reset : (e : ℕ) → bindings_seen (after_reset e places) ≡ moves.cut_off_at e (bindings_seen places)
+      (endpoint space binding pasid : ℕ) → bindings_seen (places ++ begun endpoint space binding pasid ∷ [])
+      ≡ bindings_seen places ++ record { endpoint = endpoint; space = space; binding = binding; pasid = pasid; stage = LiveWire } ∷ []
+  pub staged :
+      (binding : ℕ) (stage : Stage) → bindings_seen (with_stage binding (Some stage) places)
+      ≡ moves.with_stage binding (stage_seen stage) (bindings_seen places)
+  pub released : (binding : ℕ) → bindings_seen (without binding places) ≡ moves.without_binding binding (bindings_seen places)
+  pub reset : (endpoint : ℕ) → bindings_seen (after_reset endpoint places) ≡ moves.cut_off_at endpoint (bindings_seen places)
 
 -- each table of bindings is looked up and changed as the definitions by labels do it, at every host that keeps these bindings
 abbrev pub BindingsAreSeen : Type 0
-BindingsAreSeen = (places : List Place) → ((w : Wire) → w.bindings ≡ bindings_seen places → AreLookedUp places w) × AreChanged places
+BindingsAreSeen = (places : List Place) → ((wire : Wire) → wire.bindings ≡ bindings_seen places → AreLookedUp places wire) × AreChanged places

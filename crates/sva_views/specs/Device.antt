@@ -43,7 +43,7 @@ cache_seen cache = map translation_seen (entries cache)
 -- the use that has a slot (section 10.2.1); one that a reset ended names no translation any more
 abbrev pub slot_seen : UseSlot → Option UseWire
 slot_seen NoUse = None
-slot_seen (Running u) = Some (RunningWire (record { pasid = u.pasid; page = u.page; frame = u.frame; write = u.write }))
+slot_seen (Running used) = Some (RunningWire (record { pasid = used.pasid; page = used.page; frame = used.frame; write = used.write }))
 slot_seen Dead = Some DeadWire
 
 -- which pages of its PASID an invalidation covers (section 10.3.1): a range, or all
@@ -64,13 +64,13 @@ group_seen (Stale pasid requests) = Some (record { pasid = pasid; state = GroupS
 
 -- the device of an endpoint, table by table; its PASIDs begin at 1
 abbrev pub device_seen : Tables → DeviceWire
-device_seen s =
+device_seen tables =
     record {
-      pasids = map pasid_seen (drop 1 s.pasids);
-      tags = map tag_seen s.tags;
-      cache = cache_seen s.cache;
-      slots = map slot_seen s.uses;
-      taken = map (option_map taken_seen) s.taken;
-      groups = map group_seen s.groups;
-      is_disabled = not s.enabled;
+      pasids = map pasid_seen (drop 1 tables.pasids);
+      tags = map tag_seen tables.tags;
+      cache = cache_seen tables.cache;
+      slots = map slot_seen tables.uses;
+      taken = map (option_map taken_seen) tables.taken;
+      groups = map group_seen tables.groups;
+      is_disabled = not tables.enabled;
     }

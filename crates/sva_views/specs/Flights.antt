@@ -22,7 +22,7 @@ use Rattle.sva_msg.specs.Bag.{InFlight, IsNumbered, MayDeliver, message_at, with
 -- what an Invalidate Request names of its PASID (PCI Express Base 5.0, section 10.3.1): all pages, or a range by its code
 abbrev pub scope_seen : Scope → MessageScope
 scope_seen scope.All = Everything
-scope_seen (scope.Code page s) = Coded (record { page = page; s = s })
+scope_seen (scope.Code page size) = Coded (record { page = page; s = size })
 
 -- the code of a Page Request Group Response (section 10.4.2)
 abbrev pub code_seen : Code → MessageCode
@@ -40,7 +40,7 @@ kind_seen (Invalidate itag pasid scope) = InvalidateMessage itag pasid (scope_se
 kind_seen (Response pasid index code) = ResponseMessage pasid index (code_seen code)
 kind_seen (Request tag pasid page) = RequestMessage tag pasid page
 kind_seen (Invalidated vector count) = InvalidatedMessage vector count
-kind_seen (PageRequest r) = PageRequestMessage r.pasid r.index r.page r.read r.write r.last
+kind_seen (PageRequest request) = PageRequestMessage request.pasid request.index request.page request.read request.write request.last
 kind_seen (Marker pasid) = MarkerMessage pasid
 kind_seen ResetDone = ResetDoneMessage
 
@@ -54,22 +54,22 @@ flights_seen bag = map flight_seen bag.messages
 
 -- the message of a number, if it is in flight
 abbrev pub flight_at : (number : ℕ) → Option Sent → Option FlightWire
-flight_at n None = None
-flight_at n (Some sent) = Some (flight_seen (n, sent))
+flight_at number None = None
+flight_at number (Some sent) = Some (flight_seen (number, sent))
 
 -- of a bag in which numbers rise
 pub record FlightsAreSeen (bag : InFlight) : Type 0 where
-  pub by_number : (n : ℕ) → find (λ f. f.number == n) (flights_seen bag) ≡ flight_at n (message_at bag n)
+  pub by_number : (number : ℕ) → find (λ flight. flight.number == number) (flights_seen bag) ≡ flight_at number (message_at bag number)
   pub may_deliver :
-      (n : ℕ) (sent : Sent) → message_at bag n ≡ Some sent
-      → (list_any (holds_back (flight_seen (n, sent))) (flights_seen bag) ≡ false) ↔ MayDeliver bag n
+      (number : ℕ) (sent : Sent) → message_at bag number ≡ Some sent
+      → (list_any (holds_back (flight_seen (number, sent))) (flights_seen bag) ≡ false) ↔ MayDeliver bag number
   pub one_sent :
       (sent : Sent) → flights_seen (with_sent bag sent 1)
       ≡ flights_seen bag ++ record { number = bag.next; endpoint = sent.endpoint; message = kind_seen sent.kind } ∷ []
   pub copies_sent :
       (sent : Sent) (copies : ℕ) → flights_seen (with_sent bag sent copies)
-      ≡ flights_seen bag ++ tabulate copies (λ j. record { number = bag.next + j; endpoint = sent.endpoint; message = kind_seen sent.kind })
-  pub delivered : (n : ℕ) → flights_seen (without bag n) ≡ filter (λ f. not (f.number == n)) (flights_seen bag)
+      ≡ flights_seen bag ++ tabulate copies (λ copy. record { number = bag.next + copy; endpoint = sent.endpoint; message = kind_seen sent.kind })
+  pub delivered : (number : ℕ) → flights_seen (without bag number) ≡ filter (λ flight. not (flight.number == number)) (flights_seen bag)
 
 -- in every bag in which numbers rise messages are found, permitted, sent and delivered as the definitions by labels have it
 abbrev pub FlightLaws : Type 0

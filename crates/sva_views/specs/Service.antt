@@ -22,11 +22,11 @@ page_request_seen request = record { pasid = request.pasid; index = request.inde
 
 -- a group that the host has open, under the binding by which it is filed; it is whole once its last request is filed
 abbrev pub group_seen : OpenGroup → HostGroupWire
-group_seen g = record { binding = g.binding; index = g.index; asks = map ask_seen g.asks; is_whole = g.last }
+group_seen group = record { binding = group.binding; index = group.index; asks = map ask_seen group.asks; is_whole = group.last }
 
 -- those of one unit, in the order in which they began
 abbrev pub groups_seen : (unit : ℕ) → Groups → List HostGroupWire
-groups_seen unit s = map group_seen (filter (is_of_unit unit) s.groups)
+groups_seen unit groups = map group_seen (filter (is_of_unit unit) groups.groups)
 
 -- a job as a worker decides it; the serial by which the service tells jobs apart isn't seen
 abbrev pub job_seen : Job → JobWire
@@ -34,50 +34,50 @@ job_seen job = record { endpoint = job.unit; binding = job.binding; index = job.
 
 -- the jobs that no worker has taken, oldest first
 abbrev pub jobs_seen : Service → List JobWire
-jobs_seen s = map job_seen s.jobs
+jobs_seen service = map job_seen service.jobs
 
 -- the hands of the workers that there are, of the four that there can be
 abbrev pub hands_seen : (workers : ℕ) → Service → List (Option JobWire)
-hands_seen n s = take n (map (option_map job_seen) s.hands)
+hands_seen workers service = take workers (map (option_map job_seen) service.hands)
 
 -- an open group of a binding, which is at one unit alone
 abbrev pub OpenIsSeen : Type 0
 OpenIsSeen =
-    (s : Groups) (p : EndpointWire) (unit binding : ℕ) → p.host_groups ≡ groups_seen unit s
-    → ((e : ℕ) → (e == unit) ≡ false → list_any (λ g. g.binding == binding) (groups_seen e s) ≡ false)
-    → is_open binding s ≡ has_open_group p binding
+    (groups : Groups) (part : EndpointWire) (unit binding : ℕ) → part.host_groups ≡ groups_seen unit groups
+    → ((other : ℕ) → (other == unit) ≡ false → list_any (λ group. group.binding == binding) (groups_seen other groups) ≡ false)
+    → is_open binding groups ≡ has_open_group part binding
 
 -- a page request is filed; if it is the last of its group, the job stands behind all others
-pub record FilingIsSeen (s : Service) (unit binding : ℕ) (request : PageRequest) : Type 0 where
+pub record FilingIsSeen (service : Service) (unit binding : ℕ) (request : PageRequest) : Type 0 where
   pub groups :
-      groups_seen unit (filed s unit binding request).groups ≡ moves.filed binding (page_request_seen request) (groups_seen unit s.groups)
-  pub others : (e : ℕ) → (e == unit) ≡ false → groups_seen e (filed s unit binding request).groups ≡ groups_seen e s.groups
+      groups_seen unit (filed service unit binding request).groups ≡ moves.filed binding (page_request_seen request) (groups_seen unit service.groups)
+  pub others : (other : ℕ) → (other == unit) ≡ false → groups_seen other (filed service unit binding request).groups ≡ groups_seen other service.groups
   pub jobs :
-      (p : EndpointWire) → p.host_groups ≡ groups_seen unit s.groups
-      → jobs_seen (filed s unit binding request)
-      ≡ (if request.last then jobs_seen s ++ job_of p unit binding (page_request_seen request) ∷ [] else jobs_seen s)
-  pub hands : (workers : ℕ) → hands_seen workers (filed s unit binding request) ≡ hands_seen workers s
+      (part : EndpointWire) → part.host_groups ≡ groups_seen unit service.groups
+      → jobs_seen (filed service unit binding request)
+      ≡ (if request.last then jobs_seen service ++ job_of part unit binding (page_request_seen request) ∷ [] else jobs_seen service)
+  pub hands : (workers : ℕ) → hands_seen workers (filed service unit binding request) ≡ hands_seen workers service
 
 -- what is queued, what a worker holds, and the oldest job that it takes
-pub record TakeIsSeen (s : Service) (worker : ℕ) : Type 0 where
-  pub queued : length (jobs_seen s) ≡ length s.jobs
-  pub held : (workers : ℕ) → worker < workers → slice_index_or (hands_seen workers s) worker None ≡ option_map job_seen (hand s worker)
-  pub groups : (e : ℕ) → groups_seen e (taken s worker).groups ≡ groups_seen e s.groups
-  pub jobs : jobs_seen (taken s worker) ≡ drop 1 (jobs_seen s)
+pub record TakeIsSeen (service : Service) (worker : ℕ) : Type 0 where
+  pub queued : length (jobs_seen service) ≡ length service.jobs
+  pub held : (workers : ℕ) → worker < workers → slice_index_or (hands_seen workers service) worker None ≡ option_map job_seen (hand service worker)
+  pub groups : (unit : ℕ) → groups_seen unit (taken service worker).groups ≡ groups_seen unit service.groups
+  pub jobs : jobs_seen (taken service worker) ≡ drop 1 (jobs_seen service)
   pub hands :
-      (workers : ℕ) (job : JobWire) (later : List JobWire) → jobs_seen s ≡ job ∷ later
-      → hands_seen workers (taken s worker) ≡ slice_set (hands_seen workers s) worker (Some job)
+      (workers : ℕ) (job : JobWire) (later : List JobWire) → jobs_seen service ≡ job ∷ later
+      → hands_seen workers (taken service worker) ≡ slice_set (hands_seen workers service) worker (Some job)
 
 -- a reset of a unit
-pub record ResetIsSeen (s : Service) (unit : ℕ) : Type 0 where
-  pub groups : groups_seen unit (without_unit s unit).groups ≡ []
-  pub others : (e : ℕ) → (e == unit) ≡ false → groups_seen e (without_unit s unit).groups ≡ groups_seen e s.groups
-  pub jobs : jobs_seen (without_unit s unit) ≡ filter (λ job. not (job.endpoint == unit)) (jobs_seen s)
-  pub hands : (workers : ℕ) → hands_seen workers (without_unit s unit) ≡ hands_seen workers s
+pub record ResetIsSeen (service : Service) (unit : ℕ) : Type 0 where
+  pub groups : groups_seen unit (without_unit service unit).groups ≡ []
+  pub others : (other : ℕ) → (other == unit) ≡ false → groups_seen other (without_unit service unit).groups ≡ groups_seen other service.groups
+  pub jobs : jobs_seen (without_unit service unit) ≡ filter (λ job. not (job.endpoint == unit)) (jobs_seen service)
+  pub hands : (workers : ℕ) → hands_seen workers (without_unit service unit) ≡ hands_seen workers service
 
 -- whatever a service keeps, it finds open groups, files page requests, hands out jobs and is reset as the definitions by labels have it
 pub record ServiceIsSeen : Type 0 where
   pub opens : OpenIsSeen
-  pub filed : (s : Service) (unit binding : ℕ) (request : PageRequest) → FilingIsSeen s unit binding request
-  pub taken : (s : Service) (worker : ℕ) → TakeIsSeen s worker
-  pub reset : (s : Service) (unit : ℕ) → ResetIsSeen s unit
+  pub filed : (service : Service) (unit binding : ℕ) (request : PageRequest) → FilingIsSeen service unit binding request
+  pub taken : (service : Service) (worker : ℕ) → TakeIsSeen service worker
+  pub reset : (service : Service) (unit : ℕ) → ResetIsSeen service unit

@@ -10,13 +10,13 @@ use Rattle.sva_model.specs.Wire.PlaceWire.{FreeWire}
 
 -- the pages of the space of a number
 abbrev pub pages_of : List SpaceWire → (number : ℕ) → Option (List PageWire)
-pages_of [] n = None
-pages_of (space ∷ spaces) n = if space.number == n then Some space.pages else pages_of spaces n
+pages_of [] number = None
+pages_of (space ∷ spaces) number = if space.number == number then Some space.pages else pages_of spaces number
 
 -- what stands at a page of a space, if anything does
 abbrev pub page_at : List PageWire → (page : ℕ) → Option PageWire
-page_at [] q = None
-page_at (entry ∷ pages) q = if entry.page == q then Some entry else page_at pages q
+page_at [] page = None
+page_at (entry ∷ pages) page = if entry.page == page then Some entry else page_at pages page
 
 -- is the place free?
 abbrev pub is_free : PlaceWire → Bool
@@ -32,18 +32,18 @@ lowest_free (place ∷ places) = if is_free place then 0 else suc (lowest_free p
 -- space's; what stands at a page is the mapping there; and the lowest free frame is the lowest.
 abbrev pub SpacesFound : Type 0
 SpacesFound =
-    (rule : PasidRule) (config : Config) (steps : List Step) (n : ℕ)
-    → pages_of (wire (world_after rule config steps)).spaces n
-    ≡ (if Labels.is_space (world_after rule config steps) n
-    then Some (pages_wire (world_after rule config steps).mappings (Labels.name (world_after rule config steps) n))
+    (rule : PasidRule) (config : Config) (steps : List Step) (number : ℕ)
+    → pages_of (wire (world_after rule config steps)).spaces number
+    ≡ (if Labels.is_space (world_after rule config steps) number
+    then Some (pages_wire (world_after rule config steps).mappings (Labels.name (world_after rule config steps) number))
     else None)
 
 -- what is found at a page of a space is the mapping that is there, and nothing where none is
 abbrev pub PagesFound : Type 0
 PagesFound =
-    (rule : PasidRule) (config : Config) (steps : List Step) (s q : ℕ)
-    → page_at (pages_wire (world_after rule config steps).mappings s) q
-    ≡ option_map (page_wire (world_after rule config steps).mappings) ((world_after rule config steps).mappings.at s q)
+    (rule : PasidRule) (config : Config) (steps : List Step) (space page : ℕ)
+    → page_at (pages_wire (world_after rule config steps).mappings space) page
+    ≡ option_map (page_wire (world_after rule config steps).mappings) ((world_after rule config steps).mappings.at space page)
 
 -- the lowest free place is that of the lowest free frame; where none is free both are the number of frames
 abbrev pub FramesFound : Type 0

@@ -16,11 +16,11 @@ Key = ℕ × ℕ
 
 -- by PASID, and then by page
 abbrev pub key_cmp : Key → Key → Ordering
-key_cmp = then_cmp (on (λ k. k.0) nat_cmp) (on (λ k. k.1) nat_cmp)
+key_cmp = then_cmp (on (λ key. key.0) nat_cmp) (on (λ key. key.1) nat_cmp)
 
 -- this order is total: so each key has one place among what is cached, and is found there by halves
 pub key_cmp_total : IsTotalOrder key_cmp
-key_cmp_total = then_total (on_total (λ k. k.0) nat_cmp_total) (on_total (λ k. k.1) nat_cmp_total)
+key_cmp_total = then_total (on_total (λ key. key.0) nat_cmp_total) (on_total (λ key. key.1) nat_cmp_total)
 
 -- what is cached: under a PASID and a page at most one translation, the one that came last
 abbrev pub Translations : Type 0
@@ -28,16 +28,22 @@ Translations = finite.FinMap key_cmp Translation
 
 -- by this proofs tell two translations apart: by frame and write flag
 abbrev pub translation_code : Coded Translation
-translation_code = code_by (ℕ × Bool) (coded× coded_ℕ coded_bool) (λ t. (t.frame, t.write)) (λ p. record { frame = p.0; write = p.1 }) (λ _. refl)
+translation_code =
+    code_by
+    (ℕ × Bool)
+    (coded× coded_ℕ coded_bool)
+    (λ translation. (translation.frame, translation.write))
+    (λ pair. record { frame = pair.0; write = pair.1 })
+    (λ _. refl)
 
 -- and by this two caches: by what they hold under each PASID and page
 abbrev pub translations_code : Coded Translations
 translations_code = finite.code (coded× coded_ℕ coded_ℕ) translation_code
 
--- how many entries, from the first on, have smaller keys than q
+-- how many entries, from the first on, have smaller keys than this one
 abbrev pub smaller_first : {K X : Type 0} → (K → K → Ordering) → K → List (K × X) → ℕ
-smaller_first R q [] = zero
-smaller_first R q (e ∷ es) = if is_lt (R e.0 q) then suc (smaller_first R q es) else zero
+smaller_first compare key [] = zero
+smaller_first compare key (entry ∷ entries) = if is_lt (compare entry.0 key) then suc (smaller_first compare key entries) else zero
 
 -- the place of a key in the order of the cached ones: so many of these are smaller
 abbrev pub place_of : Translations → Key → ℕ

@@ -16,7 +16,7 @@ pages_of None = All
 -- range: a host sends none (this project's own rule)
 abbrev pub extent_of : Scope → Extent
 extent_of AllPages = All
-extent_of (Code page s) = pages_of (decode (record { page = page; s = s }))
+extent_of (Code page size) = pages_of (decode (record { page = page; s = size }))
 
 -- is the page one of those covered?
 abbrev pub is_within : Extent → ℕ → Bool

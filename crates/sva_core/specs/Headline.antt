@@ -18,16 +18,17 @@ use Rattle.sva_core.specs.Reached.{IsReached, Ran}
 -- can't occur don't occur there.
 pub record IsAgreed (seen : Wire) (reached : IsReached seen) : Type 0 where
   pub agrees : Agrees PerSpace reached.config reached.steps
-  pub labelled : (e : ℕ) → IsLabelled ((world_after PerSpace reached.config reached.steps).part e)
-  pub found : (e : ℕ) → IsFound ((world_after PerSpace reached.config reached.steps).part e)
+  pub labelled : (endpoint : ℕ) → IsLabelled ((world_after PerSpace reached.config reached.steps).part endpoint)
+  pub found : (endpoint : ℕ) → IsFound ((world_after PerSpace reached.config reached.steps).part endpoint)
   pub carried :
-      (e : ℕ) → IsCarried (world_after PerSpace reached.config reached.steps).mappings ((world_after PerSpace reached.config reached.steps).part e)
-  pub never : (e : ℕ) → NeverOccurs ((world_after PerSpace reached.config reached.steps).part e)
+      (endpoint : ℕ)
+      → IsCarried (world_after PerSpace reached.config reached.steps).mappings ((world_after PerSpace reached.config reached.steps).part endpoint)
+  pub never : (endpoint : ℕ) → NeverOccurs ((world_after PerSpace reached.config reached.steps).part endpoint)
 
 -- the steps of a run that were taken: those that had no memory are left out
 abbrev pub taken_of : List Step → List Reply → List Step
-taken_of (s ∷ steps) (Err refusal.OutOfMemory ∷ results) = taken_of steps results
-taken_of (s ∷ steps) (result ∷ results) = s ∷ taken_of steps results
+taken_of (step ∷ steps) (Err refusal.OutOfMemory ∷ results) = taken_of steps results
+taken_of (step ∷ steps) (result ∷ results) = step ∷ taken_of steps results
 taken_of _ _ = []
 
 -- and what they were answered

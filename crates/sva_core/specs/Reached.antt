@@ -15,14 +15,14 @@ use Rattle.sva_served.specs.Applied.{TakesNoMemory}
 -- what the definitions say of a step at one of their worlds; want of memory changes nothing, and comes only where they
 -- would have accepted the step
 abbrev pub FollowsAt : World → Step → Reply → Wire → Type 0
-FollowsAt w s (Err refusal.OutOfMemory) after = IsOk (reply w s) × (after ≡ wire w)
-FollowsAt w s result after = (result ≡ reply w s) × (after ≡ wire (next w s))
+FollowsAt world step (Err refusal.OutOfMemory) after = IsOk (reply world step) × (after ≡ wire world)
+FollowsAt world step result after = (result ≡ reply world step) × (after ≡ wire (next world step))
 
 -- a step from what the host keeps, as the definitions have it at each world after some list of steps that is seen so
 abbrev pub Follows : Wire → Step → Reply → Wire → Type 0
-Follows before s result after =
+Follows before step result after =
     (config : Config) (steps : List Step) → Fits config → before ≡ wire (world_after PerSpace config steps)
-    → FollowsAt (world_after PerSpace config steps) s result after
+    → FollowsAt (world_after PerSpace config steps) step result after
 
 -- some list of steps leads to a world that is seen so
 pub record IsReached (seen : Wire) : Type 0 where
@@ -42,10 +42,11 @@ CountsOf seen found =
 -- the answers to a list of steps, and what the last world is seen as; a step that had no memory is left out, and it is one
 -- that takes memory
 abbrev pub Ran : World → List Step → List Reply → Wire → Type 0
-Ran w [] [] last = last ≡ wire w
-Ran w (s ∷ steps) (Err refusal.OutOfMemory ∷ results) last = IsOk (reply w s) × (TakesNoMemory (wire w) s → ⊥) × Ran w steps results last
-Ran w (s ∷ steps) (result ∷ results) last = (result ≡ reply w s) × Ran (next w s) steps results last
-Ran w _ _ last = ⊥
+Ran world [] [] last = last ≡ wire world
+Ran world (step ∷ steps) (Err refusal.OutOfMemory ∷ results) last =
+    IsOk (reply world step) × (TakesNoMemory (wire world) step → ⊥) × Ran world steps results last
+Ran world (step ∷ steps) (result ∷ results) last = (result ≡ reply world step) × Ran (next world step) steps results last
+Ran world _ _ last = ⊥
 
 -- the refusals of an opening
 abbrev pub IsOpenRefusal : Refusal → Type 0

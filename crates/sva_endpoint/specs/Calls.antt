@@ -20,32 +20,32 @@ pub data Call : Type 0 where
 
 -- may the call be made? A message may come at any time
 abbrev pub is_permitted : Tables → Call → Bool
-is_permitted s (Ask pasid page) = is_ok (asking s pasid page)
-is_permitted s (BeginUse pasid page write) = is_ok (using s pasid page write)
-is_permitted s (EndUse slot) = is_ok (ending s slot)
-is_permitted s (Evict pasid page) = is_ok (evicting s pasid page)
-is_permitted s (SendFault fault) = is_ok (faulting s fault)
-is_permitted s (Finish vector count) = is_ok (finishing s vector count)
-is_permitted s (Quit pasid) = is_ok (quitting s pasid)
-is_permitted s (Receive kind) = true
+is_permitted tables (Ask pasid page) = is_ok (asking tables pasid page)
+is_permitted tables (BeginUse pasid page write) = is_ok (using tables pasid page write)
+is_permitted tables (EndUse slot) = is_ok (ending tables slot)
+is_permitted tables (Evict pasid page) = is_ok (evicting tables pasid page)
+is_permitted tables (SendFault fault) = is_ok (faulting tables fault)
+is_permitted tables (Finish vector count) = is_ok (finishing tables vector count)
+is_permitted tables (Quit pasid) = is_ok (quitting tables pasid)
+is_permitted tables (Receive kind) = true
 
 -- what a call leaves of the endpoint's tables; of one that isn't permitted nothing is claimed
 abbrev pub after : Tables → Call → Tables
-after s (Ask pasid page) = after_ask s pasid page
-after s (BeginUse pasid page write) = after_begin_use s pasid page
-after s (EndUse slot) = after_end_use s slot
-after s (Evict pasid page) = after_evict s pasid page
-after s (SendFault fault) = after_fault s fault
-after s (Finish vector count) = after_finish s vector
-after s (Quit pasid) = after_quit s pasid
-after s (Receive kind) = after_receive s kind
+after tables (Ask pasid page) = after_ask tables pasid page
+after tables (BeginUse pasid page write) = after_begin_use tables pasid page
+after tables (EndUse slot) = after_end_use tables slot
+after tables (Evict pasid page) = after_evict tables pasid page
+after tables (SendFault fault) = after_fault tables fault
+after tables (Finish vector count) = after_finish tables vector
+after tables (Quit pasid) = after_quit tables pasid
+after tables (Receive kind) = after_receive tables kind
 
 -- what a list of calls leaves of the endpoint's tables, one call after another
 abbrev pub run : Tables → List Call → Tables
-run s [] = s
-run s (call ∷ calls) = run (after s call) calls
+run tables [] = tables
+run tables (call ∷ calls) = run (after tables call) calls
 
 -- each call is permitted when its turn comes
 abbrev pub ArePermitted : Tables → List Call → Type 0
-ArePermitted s [] = Unit {0}
-ArePermitted s (call ∷ calls) = (is_permitted s call ≡ true) × ArePermitted (after s call) calls
+ArePermitted tables [] = Unit {0}
+ArePermitted tables (call ∷ calls) = (is_permitted tables call ≡ true) × ArePermitted (after tables call) calls

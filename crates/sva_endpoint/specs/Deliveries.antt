@@ -40,18 +40,18 @@ answer_to_completion cache read (Doomed pasid page) = Dropped
 
 -- the request under this tag is over and its tag free, whether its answer is kept or not (PCI Express Base 5.0, section 10.2.3)
 abbrev pub after_completion : Tables → ℕ → ℕ → Bool → Bool → Tables
-after_completion s tag frame read write =
-    record s { cache = cache_after s.cache frame read write (request_at s.tags tag); tags = slice_set s.tags tag Free }
+after_completion tables tag frame read write =
+    record tables { cache = cache_after tables.cache frame read write (request_at tables.tags tag); tags = slice_set tables.tags tag Free }
 
 -- ---- an invalidation
 
 -- it strikes what is cached, dooms the requests that are out and notes the uses that run, as far as it covers them
 abbrev pub after_invalidate : Tables → ℕ → Invalidation → Tables
-after_invalidate s itag invalidation =
-    record s {
-      cache = without_covered invalidation s.cache;
-      tags = map (doomed_by invalidation) s.tags;
-      taken = slice_set s.taken itag (Some (record { invalidation = invalidation; noted = map (runs_covered invalidation) s.uses }));
+after_invalidate tables itag invalidation =
+    record tables {
+      cache = without_covered invalidation tables.cache;
+      tags = map (doomed_by invalidation) tables.tags;
+      taken = slice_set tables.taken itag (Some (record { invalidation = invalidation; noted = map (runs_covered invalidation) tables.uses }));
     }
 
 -- ---- a page request group response
@@ -71,27 +71,27 @@ answer_to_response (Stale pasid requests) = AnsweredStale
 
 -- the group's index and its requests are free; a response failure disables the page request interface
 abbrev pub after_response : Tables → ℕ → Code → Tables
-after_response s index code = record s { groups = slice_set s.groups index NoGroup; enabled = s.enabled && not (is_failure code) }
+after_response tables index code = record tables { groups = slice_set tables.groups index NoGroup; enabled = tables.enabled && not (is_failure code) }
 
 -- ---- each message; one that isn't sent to an endpoint changes nothing
 
 -- the endpoint after a message: a reset clears all that it keeps, but running uses leave their slots taken, as dead ones (PCI
 -- Express Base 5.0, section 6.6.2, which resets all state of a function; that the slots stay is this project's own rule)
 abbrev pub after_receive : Tables → Kind → Tables
-after_receive s (Start pasid) = record s { pasids = with_state s.pasids pasid On }
-after_receive s (Stop pasid) = record s { pasids = with_state s.pasids pasid Stopping }
-after_receive s Reset = record fresh { uses = map cut_off s.uses }
-after_receive s (Completion tag frame read write) = after_completion s tag frame read write
-after_receive s (Invalidate itag pasid scope) = after_invalidate s itag (record { pasid = pasid; extent = extent_of scope })
-after_receive s (Response pasid index code) = after_response s index code
-after_receive s _ = s
+after_receive tables (Start pasid) = record tables { pasids = with_state tables.pasids pasid On }
+after_receive tables (Stop pasid) = record tables { pasids = with_state tables.pasids pasid Stopping }
+after_receive tables Reset = record fresh { uses = map cut_off tables.uses }
+after_receive tables (Completion tag frame read write) = after_completion tables tag frame read write
+after_receive tables (Invalidate itag pasid scope) = after_invalidate tables itag (record { pasid = pasid; extent = extent_of scope })
+after_receive tables (Response pasid index code) = after_response tables index code
+after_receive tables _ = tables
 
 -- what came of a message, as the step that delivers it answers
 abbrev pub answer_to : Tables → Kind → Answer
-answer_to s (Start pasid) = Started
-answer_to s (Stop pasid) = ToldToStop
-answer_to s Reset = IsReset
-answer_to s (Completion tag frame read write) = answer_to_completion s.cache read (request_at s.tags tag)
-answer_to s (Invalidate itag pasid scope) = IsTaken
-answer_to s (Response pasid index code) = answer_to_response (group_at s.groups index)
-answer_to s _ = Dropped
+answer_to tables (Start pasid) = Started
+answer_to tables (Stop pasid) = ToldToStop
+answer_to tables Reset = IsReset
+answer_to tables (Completion tag frame read write) = answer_to_completion tables.cache read (request_at tables.tags tag)
+answer_to tables (Invalidate itag pasid scope) = IsTaken
+answer_to tables (Response pasid index code) = answer_to_response (group_at tables.groups index)
+answer_to tables _ = Dropped

@@ -32,28 +32,28 @@ use Rattle.sva_endpoint.specs.Calls.{Call, EndUse, Finish, Receive, after, run, 
 
 -- a slot that an invalidation noted has a use that runs and that the invalidation covers
 abbrev pub NotesRun : Tables → Type 0
-NotesRun s = (itag slot : ℕ) (taken : Taken) → slice_index_or s.taken itag None ≡ Some taken → slice_index_or taken.noted slot false ≡ true
-    → runs_covered taken.invalidation (slot_at s.uses slot) ≡ true
+NotesRun tables = (itag slot : ℕ) (taken : Taken) → slice_index_or tables.taken itag None ≡ Some taken → slice_index_or taken.noted slot false ≡ true
+    → runs_covered taken.invalidation (slot_at tables.uses slot) ≡ true
 
 -- An endpoint keeps within its limits, whose numbers are this project's own: its tables, its cache and its page request allocation
 -- (PCI Express Base 5.0, section 10.5.2). And what a taken invalidation notes still runs.
-pub record IsSound (s : Tables) : Type 0 where
+pub record IsSound (tables : Tables) : Type 0 where
   -- a table for the PASIDs 0 to 32, 32 tags, 16 slots, 32 ITags, 32 indexes
-  pub pasids : length s.pasids ≡ 33
-  pub tags : length s.tags ≡ 32
-  pub uses : length s.uses ≡ 16
-  pub taken : length s.taken ≡ 32
-  pub groups : length s.groups ≡ 32
+  pub pasids : length tables.pasids ≡ 33
+  pub tags : length tables.tags ≡ 32
+  pub uses : length tables.uses ≡ 16
+  pub taken : length tables.taken ≡ 32
+  pub groups : length tables.groups ≡ 32
   -- there is no PASID 0
-  pub no_zero : state_of s.pasids 0 ≡ Off
+  pub no_zero : state_of tables.pasids 0 ≡ Off
   -- at most 64 translations are cached, each under its own PASID and page
-  pub cached : len s.cache ≤ 64
+  pub cached : len tables.cache ≤ 64
   -- at most 32 page requests are outstanding
-  pub credit : outstanding s.groups ≤ 32
+  pub credit : outstanding tables.groups ≤ 32
   -- a group has a request, so an index is free while fewer are outstanding
-  pub requests : HaveRequests s.groups
-  pub index : outstanding s.groups < 32 → IsSome (position is_free s.groups)
-  pub notes : NotesRun s
+  pub requests : HaveRequests tables.groups
+  pub index : outstanding tables.groups < 32 → IsSome (position is_free tables.groups)
+  pub notes : NotesRun tables
 
 -- after every list of permitted calls
 abbrev pub AlwaysSound : Type 0
@@ -80,15 +80,15 @@ asks_for pasid page (Doomed asker asked) = (asker == pasid) && (asked == page)
 
 -- the tag of a request stays taken until its completion or a reset comes
 abbrev pub TagsStayTaken : Type 0
-TagsStayTaken = (s : Tables) (tag pasid page : ℕ) (calls : List Call) → ArePermitted s calls → list_any (is_end_of_request tag) calls ≡ false
-    → asks_for pasid page (request_at s.tags tag) ≡ true → asks_for pasid page (request_at (run s calls).tags tag) ≡ true
+TagsStayTaken = (tables : Tables) (tag pasid page : ℕ) (calls : List Call) → ArePermitted tables calls → list_any (is_end_of_request tag) calls ≡ false
+    → asks_for pasid page (request_at tables.tags tag) ≡ true → asks_for pasid page (request_at (run tables calls).tags tag) ≡ true
 
 -- once an invalidation is taken that covers a request that is out, the answer to that request is thrown away, however
 -- late it comes; only a reset before it, or an earlier completion under the tag, ends the request
 abbrev pub DoomedNeverHeld : Type 0
-DoomedNeverHeld = (s : Tables) (itag tag pasid page : ℕ) (scope : Scope) (invalidation : Invalidation) (calls : List Call) (frame : ℕ) (read write : Bool)
-    → extent_of scope ≡ invalidation.extent → request_at s.tags tag ≡ Out pasid page → covers invalidation pasid page ≡ true
-    → let taken = after s (Receive (Invalidate itag invalidation.pasid scope)) in
+DoomedNeverHeld = (tables : Tables) (itag tag pasid page : ℕ) (scope : Scope) (invalidation : Invalidation) (calls : List Call) (frame : ℕ) (read write : Bool)
+    → extent_of scope ≡ invalidation.extent → request_at tables.tags tag ≡ Out pasid page → covers invalidation pasid page ≡ true
+    → let taken = after tables (Receive (Invalidate itag invalidation.pasid scope)) in
     ArePermitted taken calls → list_any (is_end_of_request tag) calls ≡ false
     → let late = run taken calls in
     (answer_to late (Completion tag frame read write) ≡ Dropped) × ((after late (Receive (Completion tag frame read write))).cache ≡ late.cache)
@@ -110,10 +110,10 @@ ends_wait itag slot _ = false
 -- while a use runs that an invalidation covered when it was taken, no completion may name that invalidation; a reset, or
 -- another invalidation under the ITag, ends the waiting
 abbrev pub FinishWaits : Type 0
-FinishWaits = (s : Tables) (itag slot : ℕ) (running : Use) (scope : Scope) (invalidation : Invalidation) (calls : List Call) (vector count : ℕ)
-    → extent_of scope ≡ invalidation.extent → itag < length s.taken → slot_at s.uses slot ≡ Running running
+FinishWaits = (tables : Tables) (itag slot : ℕ) (running : Use) (scope : Scope) (invalidation : Invalidation) (calls : List Call) (vector count : ℕ)
+    → extent_of scope ≡ invalidation.extent → itag < length tables.taken → slot_at tables.uses slot ≡ Running running
     → covers invalidation running.pasid running.page ≡ true
-    → let taken = after s (Receive (Invalidate itag invalidation.pasid scope)) in
+    → let taken = after tables (Receive (Invalidate itag invalidation.pasid scope)) in
     ArePermitted taken calls → list_any (ends_wait itag slot) calls ≡ false
     → let late = run taken calls in
     (slot_at late.uses slot ≡ Running running) × (is_named vector itag ≡ true → is_ok (finishing late vector count) ≡ false)
@@ -138,12 +138,12 @@ ends_taking itag _ = false
 -- haven't ended since: a use that begins later is none of them. A reset, or another invalidation under the ITag, ends the
 -- waiting
 abbrev pub NotesExactly : Type 0
-NotesExactly = (s : Tables) (itag slot : ℕ) (scope : Scope) (invalidation : Invalidation) (calls : List Call)
-    → extent_of scope ≡ invalidation.extent → itag < length s.taken
-    → let taken = after s (Receive (Invalidate itag invalidation.pasid scope)) in
+NotesExactly = (tables : Tables) (itag slot : ℕ) (scope : Scope) (invalidation : Invalidation) (calls : List Call)
+    → extent_of scope ≡ invalidation.extent → itag < length tables.taken
+    → let taken = after tables (Receive (Invalidate itag invalidation.pasid scope)) in
     ArePermitted taken calls → list_any (ends_taking itag) calls ≡ false
     → is_noted slot (slice_index_or (run taken calls).taken itag None)
-    ≡ (runs_covered invalidation (slot_at s.uses slot) && not (list_any (is_end_of_use slot) calls))
+    ≡ (runs_covered invalidation (slot_at tables.uses slot) && not (list_any (is_end_of_use slot) calls))
 
 -- the vector names this ITag and no other
 abbrev pub NamesAlone : ℕ → ℕ → Type 0
@@ -152,24 +152,24 @@ NamesAlone vector itag = (is_named vector itag ≡ true) × ((other : ℕ) → o
 -- a completion is refused as in use exactly while one of those uses runs, until a reset or another invalidation under the
 -- ITag
 abbrev pub InUseExactly : Type 0
-InUseExactly = (s : Tables) (itag : ℕ) (scope : Scope) (invalidation : Invalidation) (calls : List Call) (vector count : ℕ)
-    → extent_of scope ≡ invalidation.extent → itag < length s.taken → NamesAlone vector itag
-    → let taken = after s (Receive (Invalidate itag invalidation.pasid scope)) in
+InUseExactly = (tables : Tables) (itag : ℕ) (scope : Scope) (invalidation : Invalidation) (calls : List Call) (vector count : ℕ)
+    → extent_of scope ≡ invalidation.extent → itag < length tables.taken → NamesAlone vector itag
+    → let taken = after tables (Receive (Invalidate itag invalidation.pasid scope)) in
     ArePermitted taken calls → list_any (ends_taking itag) calls ≡ false
     → (finishing (run taken calls) vector count ≡ Err InUse)
-    ↔ ((slot : ℕ) × (runs_covered invalidation (slot_at s.uses slot) ≡ true) × (list_any (is_end_of_use slot) calls ≡ false))
+    ↔ ((slot : ℕ) × (runs_covered invalidation (slot_at tables.uses slot) ≡ true) × (list_any (is_end_of_use slot) calls ≡ false))
 
 -- ---- uses
 
 -- a dead use keeps its slot until it is told of its end
 abbrev pub DeadUsesStay : Type 0
-DeadUsesStay = (s : Tables) (slot : ℕ) (calls : List Call) → ArePermitted s calls → list_any (is_end_of_use slot) calls ≡ false
-    → slot_at s.uses slot ≡ DeadUse → slot_at (run s calls).uses slot ≡ DeadUse
+DeadUsesStay = (tables : Tables) (slot : ℕ) (calls : List Call) → ArePermitted tables calls → list_any (is_end_of_use slot) calls ≡ false
+    → slot_at tables.uses slot ≡ DeadUse → slot_at (run tables calls).uses slot ≡ DeadUse
 
 -- a use that a reset finds is dead from then on, and its end is answered so
 abbrev pub ResetsEndUses : Type 0
-ResetsEndUses = (s : Tables) (slot : ℕ) (calls : List Call) → is_free_slot (slot_at s.uses slot) ≡ false
-    → let reset = after s (Receive Reset) in
+ResetsEndUses = (tables : Tables) (slot : ℕ) (calls : List Call) → is_free_slot (slot_at tables.uses slot) ≡ false
+    → let reset = after tables (Receive Reset) in
     ArePermitted reset calls → list_any (is_end_of_use slot) calls ≡ false
     → let late = run reset calls in
     (slot_at late.uses slot ≡ DeadUse) × (ending late slot ≡ Ok EndedDead)
@@ -189,8 +189,8 @@ is_end_of_group index _ = false
 
 -- a stale group keeps its index and its requests until its response or a reset comes
 abbrev pub StaleGroupsStay : Type 0
-StaleGroupsStay = (s : Tables) (index pasid requests : ℕ) (calls : List Call) → ArePermitted s calls → list_any (is_end_of_group index) calls ≡ false
-    → group_at s.groups index ≡ Stale pasid requests → group_at (run s calls).groups index ≡ Stale pasid requests
+StaleGroupsStay = (tables : Tables) (index pasid requests : ℕ) (calls : List Call) → ArePermitted tables calls → list_any (is_end_of_group index) calls ≡ false
+    → group_at tables.groups index ≡ Stale pasid requests → group_at (run tables calls).groups index ≡ Stale pasid requests
 
 -- is it a group of this PASID, with so many requests at least?
 abbrev pub is_group : ℕ → ℕ → GroupPlace → Bool
@@ -201,5 +201,5 @@ is_group pasid requests (Stale sender sent) = (sender == pasid) && nat_le reques
 
 -- a group has its index until its response or a reset comes, and its requests stay outstanding until then
 abbrev pub GroupsStay : Type 0
-GroupsStay = (s : Tables) (index pasid requests : ℕ) (calls : List Call) → ArePermitted s calls → list_any (is_end_of_group index) calls ≡ false
-    → is_group pasid requests (group_at s.groups index) ≡ true → is_group pasid requests (group_at (run s calls).groups index) ≡ true
+GroupsStay = (tables : Tables) (index pasid requests : ℕ) (calls : List Call) → ArePermitted tables calls → list_any (is_end_of_group index) calls ≡ false
+    → is_group pasid requests (group_at tables.groups index) ≡ true → is_group pasid requests (group_at (run tables calls).groups index) ≡ true

@@ -39,52 +39,52 @@ is_beyond page = not (nat_lt page (2 ^ 36))
 
 -- the lowest free request tag, under which the next translation request goes out (PCI Express Base 5.0, section 10.2.2)
 abbrev pub lowest_tag : Tables → ℕ
-lowest_tag s = position_or_len is_free_tag s.tags
+lowest_tag tables = position_or_len is_free_tag tables.tags
 
 -- a translation request needs a page number below 2^36, a PASID that is on, and a free request tag
 abbrev pub refusals_of_ask : Tables → ℕ → ℕ → List Cause
-refusals_of_ask s pasid page =
-    (is_beyond page, PageRange) ∷ (not (is_on (state_of s.pasids pasid)), NotStarted) ∷ (is_none (position is_free_tag s.tags), NoTag) ∷ []
+refusals_of_ask tables pasid page =
+    (is_beyond page, PageRange) ∷ (not (is_on (state_of tables.pasids pasid)), NotStarted) ∷ (is_none (position is_free_tag tables.tags), NoTag) ∷ []
 
 -- the translation request to be sent, with its tag; or why there is none
 abbrev pub asking : Tables → ℕ → ℕ → Result Asking Refusal
-asking s pasid page =
-    unless_refused (refusals_of_ask s pasid page)
-    (record { tag = lowest_tag s; kind = Request (lowest_tag s) pasid page })
+asking tables pasid page =
+    unless_refused (refusals_of_ask tables pasid page)
+    (record { tag = lowest_tag tables; kind = Request (lowest_tag tables) pasid page })
 
 -- the request is out: its tag stays taken until its completion, or a reset, comes
 abbrev pub after_ask : Tables → ℕ → ℕ → Tables
-after_ask s pasid page = record s { tags = slice_set s.tags (lowest_tag s) (Out pasid page) }
+after_ask tables pasid page = record tables { tags = slice_set tables.tags (lowest_tag tables) (Out pasid page) }
 
 -- ---- to begin a use of a cached translation, and to end it
 
 -- the lowest free use slot, in which the next use begins
 abbrev pub lowest_slot : Tables → ℕ
-lowest_slot s = position_or_len is_free_slot s.uses
+lowest_slot tables = position_or_len is_free_slot tables.uses
 
 -- the cached translation of a page
 abbrev pub translation_at : Tables → ℕ → ℕ → Translation
-translation_at s pasid page = unwrap_or (get s.cache (pasid, page)) (record { frame = 0; write = false })
+translation_at tables pasid page = unwrap_or (get tables.cache (pasid, page)) (record { frame = 0; write = false })
 
 -- a use needs a PASID that is on, a held translation of the page, which has the bit W set where the use is to write (PCI Express
 -- Base 5.0, sections 10.2.1 and 10.2.3), and a free slot
 abbrev pub refusals_of_use : Tables → ℕ → ℕ → Bool → List Cause
-refusals_of_use s pasid page write =
-    (is_beyond page, PageRange) ∷ (not (is_on (state_of s.pasids pasid)), NotStarted) ∷ (is_none (get s.cache (pasid, page)), NotHeld)
-    ∷ (write && not (translation_at s pasid page).write, ReadOnly) ∷ (is_none (position is_free_slot s.uses), NoUseSlot) ∷ []
+refusals_of_use tables pasid page write =
+    (is_beyond page, PageRange) ∷ (not (is_on (state_of tables.pasids pasid)), NotStarted) ∷ (is_none (get tables.cache (pasid, page)), NotHeld)
+    ∷ (write && not (translation_at tables pasid page).write, ReadOnly) ∷ (is_none (position is_free_slot tables.uses), NoUseSlot) ∷ []
 
 -- the slot of a use that may begin, and the frame to which the held translation leads; or why none may
 abbrev pub using : Tables → ℕ → ℕ → Bool → Result Using Refusal
-using s pasid page write =
-    unless_refused (refusals_of_use s pasid page write)
-    (record { slot = lowest_slot s; frame = (translation_at s pasid page).frame })
+using tables pasid page write =
+    unless_refused (refusals_of_use tables pasid page write)
+    (record { slot = lowest_slot tables; frame = (translation_at tables pasid page).frame })
 
 -- a use has the write flag of its translation, whatever the step asked
 abbrev pub after_begin_use : Tables → ℕ → ℕ → Tables
-after_begin_use s pasid page =
-    let translation = translation_at s pasid page in
-    record s {
-      uses = slice_set s.uses (lowest_slot s)
+after_begin_use tables pasid page =
+    let translation = translation_at tables pasid page in
+    record tables {
+      uses = slice_set tables.uses (lowest_slot tables)
           (Running (record { pasid = pasid; page = page; frame = translation.frame; write = translation.write }));
     }
 
@@ -96,29 +96,29 @@ end_of DeadUse = Dead
 
 -- only a slot that no use has is refused: a running use may end at any time, and a dead one may too
 abbrev pub refusals_of_end : Tables → ℕ → List Cause
-refusals_of_end s slot = (is_free_slot (slot_at s.uses slot), NoSuchUse) ∷ []
+refusals_of_end tables slot = (is_free_slot (slot_at tables.uses slot), NoSuchUse) ∷ []
 
 -- the answer to the end of the use in this slot, or its refusal
 abbrev pub ending : Tables → ℕ → Result Answer Refusal
-ending s slot = unless_refused (refusals_of_end s slot) (end_of (slot_at s.uses slot))
+ending tables slot = unless_refused (refusals_of_end tables slot) (end_of (slot_at tables.uses slot))
 
 -- the slot is free, and no taken invalidation waits for that use any longer (PCI Express Base 5.0, section 10.3.3)
 abbrev pub after_end_use : Tables → ℕ → Tables
-after_end_use s slot = record s { uses = slice_set s.uses slot FreeSlot; taken = map (without_note slot) s.taken }
+after_end_use tables slot = record tables { uses = slice_set tables.uses slot FreeSlot; taken = map (without_note slot) tables.taken }
 
 -- ---- to let go of a cached translation
 
 -- a held translation may go whatever the state of its PASID is: on, stopping or off
 abbrev pub refusals_of_evict : Tables → ℕ → ℕ → List Cause
-refusals_of_evict s pasid page = (is_beyond page, PageRange) ∷ (is_none (get s.cache (pasid, page)), NotHeld) ∷ []
+refusals_of_evict tables pasid page = (is_beyond page, PageRange) ∷ (is_none (get tables.cache (pasid, page)), NotHeld) ∷ []
 
 -- a held translation may go, and nothing is sent of that (PCI Express Base 5.0, section 10.1); or why it may not
 abbrev pub evicting : Tables → ℕ → ℕ → Result (Unit {0}) Refusal
-evicting s pasid page = unless_refused (refusals_of_evict s pasid page) tt
+evicting tables pasid page = unless_refused (refusals_of_evict tables pasid page) tt
 
 -- the page isn't held under the PASID any longer. A use that began through it runs on (this project's own rule)
 abbrev pub after_evict : Tables → ℕ → ℕ → Tables
-after_evict s pasid page = record s { cache = remove s.cache (pasid, page) }
+after_evict tables pasid page = record tables { cache = remove tables.cache (pasid, page) }
 
 -- ---- to send a page request: the first of a new group, or one more of an unfinished group
 
@@ -129,31 +129,31 @@ may_send (Some index) state = not (is_off state)
 
 -- may the request join its group? Each may begin a new one; an unfinished one has to be of the same PASID
 abbrev pub is_of_group : Tables → ℕ → Option ℕ → Bool
-is_of_group s pasid None = true
-is_of_group s pasid (Some index) = is_collecting pasid (group_at s.groups index)
+is_of_group tables pasid None = true
+is_of_group tables pasid (Some index) = is_collecting pasid (group_at tables.groups index)
 
 -- the Page Request Group Index of the request: the lowest free one where it begins a group, else that of the group
 abbrev pub index_for : Tables → Option ℕ → ℕ
-index_for s None = position_or_len is_free_index s.groups
-index_for s (Some index) = index
+index_for tables None = position_or_len is_free_index tables.groups
+index_for tables (Some index) = index
 
 -- a page request needs a page number below 2^36, a PASID under which it may go out, fewer than 32 requests outstanding (PCI Express
 -- Base 5.0, section 10.5.2), a group that it may join, and an enabled page request interface
 abbrev pub refusals_of_fault : Tables → Fault → List Cause
-refusals_of_fault s fault =
-    (is_beyond fault.page, PageRange) ∷ (not (may_send fault.group (state_of s.pasids fault.pasid)), NotStarted)
-    ∷ (not (nat_lt (outstanding s.groups) 32), NoCredit) ∷ (not (is_of_group s fault.pasid fault.group), NoSuchGroup)
-    ∷ (not s.enabled, PriDisabled) ∷ []
+refusals_of_fault tables fault =
+    (is_beyond fault.page, PageRange) ∷ (not (may_send fault.group (state_of tables.pasids fault.pasid)), NotStarted)
+    ∷ (not (nat_lt (outstanding tables.groups) 32), NoCredit) ∷ (not (is_of_group tables fault.pasid fault.group), NoSuchGroup)
+    ∷ (not tables.enabled, PriDisabled) ∷ []
 
 -- the page request to be sent, with its group index (PCI Express Base 5.0, section 10.4.1); or why there is none
 abbrev pub faulting : Tables → Fault → Result Faulting Refusal
-faulting s fault =
-    unless_refused (refusals_of_fault s fault)
+faulting tables fault =
+    unless_refused (refusals_of_fault tables fault)
     (record {
-      index = index_for s fault.group;
+      index = index_for tables fault.group;
       kind = PageRequest (record {
         pasid = fault.pasid;
-        index = index_for s fault.group;
+        index = index_for tables fault.group;
         page = fault.page;
         read = fault.read;
         write =
@@ -164,47 +164,47 @@ faulting s fault =
 
 -- the group of the request once that is sent: with the bit L set it is finished, and awaits its response
 abbrev pub group_after : Tables → Fault → Option ℕ → GroupPlace
-group_after s fault None = group_of fault.pasid 1 fault.last
-group_after s fault (Some index) = with_request fault.last (group_at s.groups index)
+group_after tables fault None = group_of fault.pasid 1 fault.last
+group_after tables fault (Some index) = with_request fault.last (group_at tables.groups index)
 
 -- the request is outstanding, in a group that has its index until the response, or a reset, comes
 abbrev pub after_fault : Tables → Fault → Tables
-after_fault s fault = record s { groups = slice_set s.groups (index_for s fault.group) (group_after s fault fault.group) }
+after_fault tables fault = record tables { groups = slice_set tables.groups (index_for tables fault.group) (group_after tables fault fault.group) }
 
 -- ---- to complete invalidations
 
 -- completions need a vector that names an ITag, and none without a taken invalidation; no running use that one of these noted;
 -- and a count that the Completion Count field can tell, 1 to 8 (PCI Express Base 5.0, sections 10.3.2 and 10.3.3)
 abbrev pub refusals_of_finish : Tables → ℕ → ℕ → List Cause
-refusals_of_finish s vector count =
-    ((vector == 0) || not (are_pending vector s.taken), NotPending) ∷ (is_one_waiting vector s.taken, InUse)
+refusals_of_finish tables vector count =
+    ((vector == 0) || not (are_pending vector tables.taken), NotPending) ∷ (is_one_waiting vector tables.taken, InUse)
     ∷ ((count == 0) || nat_lt 8 count, BadCount) ∷ []
 
 -- the Invalidate Completion to be sent, and how many times; each bears the same vector and count. Or why there is none
 abbrev pub finishing : Tables → ℕ → ℕ → Result Finishing Refusal
-finishing s vector count =
-    unless_refused (refusals_of_finish s vector count)
+finishing tables vector count =
+    unless_refused (refusals_of_finish tables vector count)
     (record { count = count; kind = Invalidated vector (count_field count) })
 
 -- what the vector names is completed, so that the endpoint has no taken invalidation under those ITags any more
 abbrev pub after_finish : Tables → ℕ → Tables
-after_finish s vector = record s { taken = without_named vector s.taken }
+after_finish tables vector = record tables { taken = without_named vector tables.taken }
 
 -- ---- to stop using a PASID
 
 -- is there under the PASID an unfinished group, a request tag that is taken (a doomed request counts), or a running use?
 abbrev pub is_busy : Tables → ℕ → Bool
-is_busy s pasid = list_any (is_collecting pasid) s.groups || (list_any (asks_under pasid) s.tags || list_any (runs_under pasid) s.uses)
+is_busy tables pasid = list_any (is_collecting pasid) tables.groups || (list_any (asks_under pasid) tables.tags || list_any (runs_under pasid) tables.uses)
 
 -- a PASID can be quit once its stop has come and the endpoint has nothing unfinished under it (this project's own rule)
 abbrev pub refusals_of_quit : Tables → ℕ → List Cause
-refusals_of_quit s pasid = (not (is_stopping (state_of s.pasids pasid)), NotStopping) ∷ (is_busy s pasid, Busy) ∷ []
+refusals_of_quit tables pasid = (not (is_stopping (state_of tables.pasids pasid)), NotStopping) ∷ (is_busy tables pasid, Busy) ∷ []
 
 -- the marker to be sent, by which the endpoint says that no request follows under the PASID (Stop Marker: PCI Express Base 5.0,
 -- section 10.4.1); or why there is none
 abbrev pub quitting : Tables → ℕ → Result Kind Refusal
-quitting s pasid = unless_refused (refusals_of_quit s pasid) (Marker pasid)
+quitting tables pasid = unless_refused (refusals_of_quit tables pasid) (Marker pasid)
 
 -- the PASID is off, and its groups that await their response are stale
 abbrev pub after_quit : Tables → ℕ → Tables
-after_quit s pasid = record s { pasids = with_state s.pasids pasid Off; groups = map (stale_of pasid) s.groups }
+after_quit tables pasid = record tables { pasids = with_state tables.pasids pasid Off; groups = map (stale_of pasid) tables.groups }

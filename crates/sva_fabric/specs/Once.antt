@@ -8,10 +8,10 @@ use Rattle.sva_fabric.specs.Audits.{IsAudit, IsToldOnce}
 -- the places of each port's receipts rise, as those of every `Port` do
 abbrev pub AllRise : List Seat → Type 0
 AllRise [] = Unit {0}
-AllRise (s ∷ seats) = AreRising s.receipts × AllRise seats
+AllRise (seat ∷ seats) = AreRising seat.receipts × AllRise seats
 
 -- so of every audit of such ports
 abbrev pub AuditsTellOnce : Type 0
 AuditsTellOnce =
-    (h : History) (seats : List Seat) (held used : ℕ) (audit : Audit)
-    → AllRise seats → IsAudit h seats held used (Ok audit) → IsToldOnce h.entries seats
+    (history : History) (seats : List Seat) (held used : ℕ) (audit : Audit)
+    → AllRise seats → IsAudit history seats held used (Ok audit) → IsToldOnce history.entries seats

@@ -16,7 +16,7 @@ pub record Seat : Type 0 where
 
 -- a port with this number that has made no call
 abbrev pub new_seat : ℕ → Seat
-new_seat n = record { number = n; receipts = [] }
+new_seat number = record { number = number; receipts = [] }
 
 -- so many new ports, numbered from this number on
 unfoldable pub seats_from : (first count : ℕ) → List Seat
@@ -30,45 +30,45 @@ last_of receipts = slice_get receipts (length receipts - 1)
 -- each receipt's place is above the one before it
 abbrev pub AreRising : List Receipt → Type 0
 AreRising [] = Unit {0}
-AreRising (r ∷ []) = Unit {0}
-AreRising (r ∷ s ∷ rest) = (r.place < s.place) × AreRising (s ∷ rest)
+AreRising (first ∷ []) = Unit {0}
+AreRising (first ∷ second ∷ rest) = (first.place < second.place) × AreRising (second ∷ rest)
 
 -- the entry that a receipt of this port tells of
 abbrev pub entry_told : (port : ℕ) → Receipt → Entry
-entry_told port r = entry_of port r.step r.answer
+entry_told port receipt = entry_of port receipt.step receipt.answer
 
 -- the receipt's entry stands at its place
 abbrev pub Stands : List Entry → (port : ℕ) → Receipt → Type 0
-Stands entries port r = slice_get entries r.place ≡ Some (entry_told port r)
+Stands entries port receipt = slice_get entries receipt.place ≡ Some (entry_told port receipt)
 
 -- a call that was answered: it stands behind all that the journal had, its answer is the one of the definitions there, and the
 -- port's last receipt stands
-pub record IsAnsweredAt (before : History) (port : ℕ) (last : Option Receipt) (step : Step) (r : Receipt) : Type 0 where
-  pub step_is : r.step ≡ step
-  pub place_is : r.place ≡ length before.entries
-  pub answer_is : r.answer ≡ answer_of before step
-  pub last_stands : IfSome last (λ l. Stands before.entries port l)
+pub record IsAnsweredAt (before : History) (port : ℕ) (last : Option Receipt) (step : Step) (receipt : Receipt) : Type 0 where
+  pub step_is : receipt.step ≡ step
+  pub place_is : receipt.place ≡ length before.entries
+  pub answer_is : receipt.answer ≡ answer_of before step
+  pub last_stands : IfSome last (λ previous. Stands before.entries port previous)
 
 -- something else stands where the port's last receipt should
 abbrev pub HasStrayed : List Entry → (port : ℕ) → Option Receipt → (place : ℕ) → (found : Option Entry) → Type 0
 HasStrayed entries port last place found =
     (found ≡ slice_get entries place)
-    × IsSomeAnd last (λ l. (l.place ≡ place) × (found ≢ Some (entry_told port l)))
+    × IsSomeAnd last (λ previous. (previous.place ≡ place) × (found ≢ Some (entry_told port previous)))
 
 -- a call that was not: memory lacked, or the port strayed
 abbrev pub IsRefusedAt : List Entry → (port : ℕ) → Option Receipt → StepFault → Type 0
-IsRefusedAt entries port last fault.Memory = IfSome last (λ l. Stands entries port l)
+IsRefusedAt entries port last fault.Memory = IfSome last (λ previous. Stands entries port previous)
 IsRefusedAt entries port last (fault.Strayed place found) = HasStrayed entries port last place found
 
 -- For the calls that take the lock themselves no clause can name what lay under it. They say that there is a legal journal of the
 -- config that was opened, with what they tell: the new receipt stands in it, and before it, at a lower place, the port's last one.
-pub record IsAnswered (config : Config) (port : ℕ) (last : Option Receipt) (step : Step) (r : Receipt) : Type 0 where
+pub record IsAnswered (config : Config) (port : ℕ) (last : Option Receipt) (step : Step) (receipt : Receipt) : Type 0 where
   pub journal : History
   pub legal : IsLegal journal
   pub of_config : journal.config ≡ config
-  pub step_is : r.step ≡ step
-  pub stands : Stands journal.entries port r
-  pub last_stands : IfSome last (λ l. (l.place < r.place) × Stands journal.entries port l)
+  pub step_is : receipt.step ≡ step
+  pub stands : Stands journal.entries port receipt
+  pub last_stands : IfSome last (λ previous. (previous.place < receipt.place) × Stands journal.entries port previous)
 
 -- there is a legal journal of that config that has something else where the port's last receipt should stand
 abbrev pub IsAstray : Config → (port : ℕ) → Option Receipt → (place : ℕ) → (found : Option Entry) → Type 0
@@ -85,5 +85,5 @@ pub record IsCounted (config : Config) (port : ℕ) (last : Option Receipt) (fou
   pub journal : History
   pub legal : IsLegal journal
   pub of_config : journal.config ≡ config
-  pub last_stands : IfSome last (λ l. Stands journal.entries port l)
+  pub last_stands : IfSome last (λ previous. Stands journal.entries port previous)
   pub counts : CountsOf journal found

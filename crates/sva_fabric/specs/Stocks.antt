@@ -33,7 +33,7 @@ no_totals = record { calls = 0; bindings = 0; uses = 0 }
 
 -- what is counted of the journal's world
 abbrev pub totals_of : History → Totals
-totals_of h = record { calls = length h.entries; bindings = bindings_of h; uses = uses_of h }
+totals_of history = record { calls = length history.entries; bindings = bindings_of history; uses = uses_of history }
 
 -- for how many bindings and uses there is a token in hand
 pub record Holding : Type 0 where
@@ -55,7 +55,7 @@ one_use = record { bindings = 0; uses = 1 }
 -- how many tokens there are in a place that has room for one
 abbrev pub count_of : {A : Type 0} → Option A → ℕ
 count_of None = 0
-count_of (Some a) = 1
+count_of (Some item) = 1
 
 -- from so many tokens to so many: to one more, which isn't in hand yet, to one less, which is, or to as many
 pub record MayReach (before after held : ℕ) : Type 0 where
@@ -66,13 +66,13 @@ pub record MayReach (before after held : ℕ) : Type 0 where
 
 -- what has to be in hand for a step: a binding for an advance, a use for the end of one, and none of what the step may make
 abbrev pub IsHandedIn : Step → Holding → Type 0
-IsHandedIn (step.Bind endpoint space) h = h.bindings ≡ 0
-IsHandedIn (step.Advance binding) h = h.bindings ≡ 1
-IsHandedIn (step.BeginUse endpoint pasid page write) h = h.uses ≡ 0
-IsHandedIn (step.EndUse endpoint slot) h = h.uses ≡ 1
-IsHandedIn _ h = Unit {0}
+IsHandedIn (step.Bind endpoint space) holding = holding.bindings ≡ 0
+IsHandedIn (step.Advance binding) holding = holding.bindings ≡ 1
+IsHandedIn (step.BeginUse endpoint pasid page write) holding = holding.uses ≡ 0
+IsHandedIn (step.EndUse endpoint slot) holding = holding.uses ≡ 1
+IsHandedIn _ holding = Unit {0}
 
 -- what is in hand behind a reply: what was, with what it makes, and without what it spends
-pub record IsHandedOut (before after : Holding) (r : Reply) : Type 0 where
-  pub bindings : after.bindings + releases r ≡ before.bindings + binds r
-  pub uses : after.uses + ends r ≡ before.uses + begins r
+pub record IsHandedOut (before after : Holding) (reply : Reply) : Type 0 where
+  pub bindings : after.bindings + releases reply ≡ before.bindings + binds reply
+  pub uses : after.uses + ends reply ≡ before.uses + begins reply

@@ -16,17 +16,17 @@ use Rattle.sva_fabric.specs.Receipts.{Seat, IsAnswered, IsRefused, last_of}
 use Rattle.sva_journal.specs.Suiting.{IsUnbound, IsMoved}
 
 -- what a call that was answered did to its port: it has one receipt more, of this step and reply
-pub record HasCalled (config : Config) (before after : Seat) (s : Step) (r : Reply) : Type 0 where
+pub record HasCalled (config : Config) (before after : Seat) (asked : Step) (reply : Reply) : Type 0 where
   pub receipt : Receipt
   pub kept : after ≡ record before { receipts = before.receipts ++ receipt ∷ [] }
-  pub answered : IsAnswered config before.number (last_of before.receipts) s receipt
-  pub says : receipt.answer ≡ r
+  pub answered : IsAnswered config before.number (last_of before.receipts) asked receipt
+  pub says : receipt.answer ≡ reply
 
 -- a call that makes, moves or spends no token: it was answered by a refusal, or not at all
 abbrev pub IsFault : Config → (before after : Seat) → Step → Fault → Type 0
-IsFault config before after s (fault.Refused refusal) = HasCalled config before after s (Err refusal)
-IsFault config before after s fault.Memory = after ≡ before
-IsFault config before after s (fault.Strayed place found) =
+IsFault config before after asked (fault.Refused refusal) = HasCalled config before after asked (Err refusal)
+IsFault config before after asked fault.Memory = after ≡ before
+IsFault config before after asked (fault.Strayed place found) =
     (after ≡ before) × IsRefused config before.number (last_of before.receipts) (step_fault.Strayed place found)
 
 -- a binding that is being taken back

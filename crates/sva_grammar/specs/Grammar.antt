@@ -22,8 +22,8 @@ use Rattle.sva_grammar.specs.declared.faults.ParseFault.TheVariants.{Line, Memor
 infixl 10 ◌>>=◌
 -- by this `do` reads one part after another: `next` reads on with what was read, and reads nothing behind a fault
 abbrev pub ◌>>=◌ : {A B E : Type 0} → Result A E → (A → Result B E) → Result B E
-(Ok x) >>= next = next x
-(Err e) >>= next = Err e
+(Ok value) >>= next = next value
+(Err cause) >>= next = Err cause
 
 -- ---- Lines
 
@@ -357,7 +357,7 @@ fault line cause = Err (record { line = line; cause = cause })
 
 -- a fault stands with the number of its line
 abbrev pub at_line : {A : Type 0} → ℕ → Result A Cause → Result A LineFault
-at_line line (Ok x) = Ok x
+at_line line (Ok value) = Ok value
 at_line line (Err cause) = fault line cause
 
 -- the steps, one a line
@@ -387,6 +387,6 @@ scenario_of text = if is_too_large text then fault 0 TooLarge else script_of (le
 -- What a function of the code returned, seen by `shown`, is what the grammar reads: the value or the fault. Want of
 -- memory stands for neither.
 abbrev pub Reads : {A B : Type 0} → (A → B) → Result A ParseFault → Result B LineFault → Type 0
-Reads shown (Ok x) read = read ≡ Ok (shown x)
-Reads shown (Err (Line f)) read = read ≡ Err f
+Reads shown (Ok value) read = read ≡ Ok (shown value)
+Reads shown (Err (Line line_fault)) read = read ≡ Err line_fault
 Reads shown (Err Memory) read = Unit {0}

@@ -13,16 +13,16 @@ use Rattle.sva_grammar.specs.Grammar.{Script, is_too_large, lines_of, number, sc
 
 -- a word writes a number exactly where it is the number's decimal text
 abbrev pub NumbersAreDecimal : Type 0
-NumbersAreDecimal = (word : List ℕ) (n : ℕ) → (number word ≡ Ok n) ↔ ((n < 2 ^ 64) × (word ≡ decimal n))
+NumbersAreDecimal = (word : List ℕ) (value : ℕ) → (number word ≡ Ok value) ↔ ((value < 2 ^ 64) × (word ≡ decimal value))
 
 -- the last so many hexadecimal digits of a number, in lower case
 abbrev pub hexadecimal : ℕ → ℕ → List ℕ
-hexadecimal zero n = []
-hexadecimal (suc places) n = digit_char (n / 16 ^ places % 16) ∷ hexadecimal places n
+hexadecimal zero value = []
+hexadecimal (suc places) value = digit_char (value / 16 ^ places % 16) ∷ hexadecimal places value
 
 -- a word writes a vector exactly where it is its eight hexadecimal digits
 abbrev pub VectorsAreHexadecimal : Type 0
-VectorsAreHexadecimal = (word : List ℕ) (v : ℕ) → (vector word ≡ Ok v) ↔ ((v < 2 ^ 32) × (word ≡ hexadecimal 8 v))
+VectorsAreHexadecimal = (word : List ℕ) (value : ℕ) → (vector word ≡ Ok value) ↔ ((value < 2 ^ 32) × (word ≡ hexadecimal 8 value))
 
 -- the text is empty, or ends with an LF
 abbrev pub is_ended : List ℕ → Bool

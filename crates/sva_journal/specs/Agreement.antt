@@ -12,16 +12,17 @@ use Rattle.sva_journal.specs.Journal.{History, IsLegal, as_defined, world_of}
 -- at the world to which a legal journal leads the headline holds, after the journal's own steps
 abbrev pub JournalsAgree : Type 0
 JournalsAgree =
-    (h : History) → IsLegal h
-    → (reached : IsReached (wire (world_of h)))
-    × (reached.config ≡ h.config)
-    × (reached.steps ≡ steps_of (map as_defined h.entries))
-    × IsAgreed (wire (world_of h)) reached
+    (history : History) → IsLegal history
+    → (reached : IsReached (wire (world_of history)))
+    × (reached.config ≡ history.config)
+    × (reached.steps ≡ steps_of (map as_defined history.entries))
+    × IsAgreed (wire (world_of history)) reached
 
 -- a use of an endpoint runs at the journal's world
 abbrev pub IsRunning : History → (endpoint use_of : ℕ) → Type 0
-IsRunning h e u = ((world_of h).part e).use_state u ≡ Running
+IsRunning history endpoint use_of = ((world_of history).part endpoint).use_state use_of ≡ Running
 
 -- the frame of a use isn't free there
 abbrev pub KeepsItsFrame : History → (endpoint use_of : ℕ) → Type 0
-KeepsItsFrame h e u = place (world_of h) ((world_of h).mappings.frame (((world_of h).part e).use_mapping u)) ≢ Free
+KeepsItsFrame history endpoint use_of =
+    place (world_of history) ((world_of history).mappings.frame (((world_of history).part endpoint).use_mapping use_of)) ≢ Free

@@ -18,48 +18,48 @@ pub record History : Type 0 where
 
 -- the entry of one call: which port asked, for what step, and what was answered
 abbrev pub entry_of : (port : ℕ) → Step → Reply → Entry
-entry_of p s r = record { port = p; step = s; answer = r }
+entry_of port step answer = record { port = port; step = step; answer = answer }
 
 -- the entry as the definitions have it, in which the answer is called a reply
 abbrev pub as_defined : Entry → DefinedEntry
-as_defined e = record { port = e.port; step = e.step; reply = e.answer }
+as_defined entry = record { port = entry.port; step = entry.step; reply = entry.answer }
 
 -- legal: the config is within its limits, and each answer is the one of the definitions at the world that the entries before it lead to
 abbrev pub IsLegal : History → Type 0
-IsLegal h = IsLegalJournal PerSpace h.config (map as_defined h.entries)
+IsLegal history = IsLegalJournal PerSpace history.config (map as_defined history.entries)
 
 -- the world that the entries lead to
 abbrev pub world_of : History → World
-world_of h = world_of_journal PerSpace h.config (map as_defined h.entries)
+world_of history = world_of_journal PerSpace history.config (map as_defined history.entries)
 
 -- what the definitions answer next
 abbrev pub answer_of : History → Step → Reply
-answer_of h s = reply (world_of h) s
+answer_of history step = reply (world_of history) step
 
 -- one entry more
 abbrev pub with_entry : History → Entry → History
-with_entry h e = record h { entries = h.entries ++ e ∷ [] }
+with_entry history entry = record history { entries = history.entries ++ entry ∷ [] }
 
 -- nothing was asked yet
 abbrev pub empty_of : Config → History
-empty_of c = record { config = c; entries = [] }
+empty_of config = record { config = config; entries = [] }
 
 -- how many bindings are unreleased, and how many use slots are taken, at the journal's world
 abbrev pub bindings_of : History → ℕ
-bindings_of h = unreleased (wire (world_of h))
+bindings_of history = unreleased (wire (world_of history))
 
 -- the use slots that are taken: a dead use has its slot still, and counts
 abbrev pub uses_of : History → ℕ
-uses_of h = slots_taken (wire (world_of h))
+uses_of history = slots_taken (wire (world_of history))
 
 -- both numbers change as an answer says
-pub record CountsFollow (before after : History) (r : Reply) : Type 0 where
-  pub bindings : bindings_of after + releases r ≡ bindings_of before + binds r
-  pub uses : uses_of after + ends r ≡ uses_of before + begins r
+pub record CountsFollow (before after : History) (reply : Reply) : Type 0 where
+  pub bindings : bindings_of after + releases reply ≡ bindings_of before + binds reply
+  pub uses : uses_of after + ends reply ≡ uses_of before + begins reply
 
 -- the counts of frames at the journal's world
 abbrev pub CountsOf : History → FrameCounts → Type 0
-CountsOf h found =
-    (found.free ≡ (counts (world_of h)).free)
-    × (found.mapped ≡ (counts (world_of h)).mapped)
-    × (found.withheld ≡ (counts (world_of h)).withheld)
+CountsOf history found =
+    (found.free ≡ (counts (world_of history)).free)
+    × (found.mapped ≡ (counts (world_of history)).mapped)
+    × (found.withheld ≡ (counts (world_of history)).withheld)

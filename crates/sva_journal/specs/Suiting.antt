@@ -27,7 +27,7 @@ IsMoved _ = ⊥
 -- of an advance
 abbrev pub IsAdvanced : Answer → Type 0
 IsAdvanced answer.Released = Unit {0}
-IsAdvanced a = IsMoved a
+IsAdvanced said = IsMoved said
 
 -- of a use that begins
 abbrev pub IsUse : Answer → Type 0
@@ -51,13 +51,13 @@ IsStill _ = Unit {0}
 
 -- the answer is one that this kind of step may have, where the step isn't refused
 abbrev pub SuitsStep : Step → Answer → Type 0
-SuitsStep (step.Bind endpoint space) a = IsBinding a
-SuitsStep (step.Unbind binding) a = IsUnbound a
-SuitsStep (step.Advance binding) a = IsAdvanced a
-SuitsStep (step.BeginUse endpoint pasid page write) a = IsUse a
-SuitsStep (step.EndUse endpoint slot) a = IsOver a
-SuitsStep _ a = IsStill a
+SuitsStep (step.Bind endpoint space) said = IsBinding said
+SuitsStep (step.Unbind binding) said = IsUnbound said
+SuitsStep (step.Advance binding) said = IsAdvanced said
+SuitsStep (step.BeginUse endpoint pasid page write) said = IsUse said
+SuitsStep (step.EndUse endpoint slot) said = IsOver said
+SuitsStep _ said = IsStill said
 
 -- a refusal suits each step
 abbrev pub Suits : Step → Reply → Type 0
-Suits s r = IfOk r (λ (a : Answer). SuitsStep s a)
+Suits asked reply = IfOk reply (λ (said : Answer). SuitsStep asked said)

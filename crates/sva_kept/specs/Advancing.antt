@@ -13,19 +13,19 @@ use Rattle.sva_kept.specs.declared.advancing.Course.TheVariants.{Drain, Invalida
 -- by its stage: its unit drains (Intel VT-d, "Page Request Drain"), invalidates its PASID, then it is Quiet, then released. A Live and a
 -- Lost one are refused, so nothing is meant by what stands for them.
 abbrev pub course_by : BindingWire → StageWire → Course
-course_by b (StoppingWire marked) = Drain b.endpoint
-course_by b (DrainingWire cookie) = Invalidate b.endpoint b.pasid
-course_by b (InvalidatingWire cookie) = Settle
-course_by b stage = Release
+course_by binding (StoppingWire marked) = Drain binding.endpoint
+course_by binding (DrainingWire cookie) = Invalidate binding.endpoint binding.pasid
+course_by binding (InvalidatingWire cookie) = Settle
+course_by binding stage = Release
 
 -- one that isn't there is refused
 abbrev pub course_of : Option BindingWire → Course
 course_of None = Release
-course_of (Some b) = course_by b b.stage
+course_of (Some binding) = course_by binding binding.stage
 
 -- what refuses it: the first of its causes that holds, if one does
 abbrev pub MayAdvance : Wire → (binding : ℕ) → Result Course Refusal → Type 0
-MayAdvance w n result = result ≡ unless_refused (causes_of w (step.Advance n)) (course_of (binding_of w n))
+MayAdvance world binding result = result ≡ unless_refused (causes_of world (step.Advance binding)) (course_of (binding_of world binding))
 
 -- does the endpoint hold nothing of the binding any more, so that its PASID can be given back?
 abbrev pub is_quiet : StageWire → Bool

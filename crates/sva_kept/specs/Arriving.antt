@@ -7,11 +7,11 @@ use Rattle.sva_msg.specs.declared.messages.Kind.{Kind}
 use Rattle.sva_views.specs.Flights.{flight_seen}
 
 -- a message of this kind is in flight under a number, on the way of an endpoint, and nothing holds it back
-pub record IsArriving (w : Wire) (number endpoint : ℕ) (kind : Kind) : Type 0 where
-  pub found : flight_of w number ≡ Some (flight_seen (number, record { endpoint = endpoint; kind = kind }))
-  pub free : may_deliver w (flight_seen (number, record { endpoint = endpoint; kind = kind })) ≡ true
+pub record IsArriving (world : Wire) (number endpoint : ℕ) (kind : Kind) : Type 0 where
+  pub found : flight_of world number ≡ Some (flight_seen (number, record { endpoint = endpoint; kind = kind }))
+  pub free : may_deliver world (flight_seen (number, record { endpoint = endpoint; kind = kind })) ≡ true
 
 -- does the delivery of what is in flight, if anything is, send a message?
 abbrev pub answers : Wire → Option FlightWire → Bool
-answers w None = false
-answers w (Some f) = delivery_sends (unit_of w f.endpoint) f.message
+answers world None = false
+answers world (Some flight) = delivery_sends (unit_of world flight.endpoint) flight.message

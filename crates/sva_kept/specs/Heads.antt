@@ -11,14 +11,14 @@ use Rattle.sva_unit.specs.Pumping.{next_of, scope_sent}
 
 -- the unit of an endpoint, with its page request queue
 abbrev pub unit_at : Wire → (endpoint : ℕ) → UnitSeen
-unit_at w e = record { unit = unit_of w e; page_queue = (part_of w e).page_queue }
+unit_at world endpoint = record { unit = unit_of world endpoint; page_queue = (part_of world endpoint).page_queue }
 
 -- the endpoint is there, its unit is open, and this becomes of the head of the unit's queue
-pub record IsHead (w : Wire) (endpoint : ℕ) (next : Next) : Type 0 where
-  pub there : endpoint < length w.parts
-  pub opened : (unit_of w endpoint).is_open ≡ true
-  pub heads : next_of (unit_at w endpoint) ≡ next
+pub record IsHead (world : Wire) (endpoint : ℕ) (next : Next) : Type 0 where
+  pub there : endpoint < length world.parts
+  pub opened : (unit_of world endpoint).is_open ≡ true
+  pub heads : next_of (unit_at world endpoint) ≡ next
 
 -- the Invalidate Request of an invalidation that goes to the endpoint
 abbrev pub request_of : Sending → Kind
-request_of s = Invalidate s.itag s.pasid (scope_sent s.extent)
+request_of sending = Invalidate sending.itag sending.pasid (scope_sent sending.extent)

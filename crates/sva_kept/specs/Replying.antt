@@ -19,40 +19,41 @@ use Rattle.sva_kept.specs.declared.replying.Response.{Response}
 -- What a reply answers and moves, but that the job leaves its hand, and is discarded where nothing is sent: a host keeps no
 -- hands yet, nor groups.
 abbrev pub responded_by : Wire → JobWire → List Move → Option Code → Result
-responded_by w job maps None = says answer.Dropped []
-responded_by w job maps (Some code) =
-    says (code_answer (length maps) code) (maps ++ Move.Respond job (pasid_or_0 (binding_of w job.binding)) code ∷ [])
+responded_by world job maps None = says answer.Dropped []
+responded_by world job maps (Some code) =
+    says (code_answer (length maps) code) (maps ++ Move.Respond job (pasid_or_0 (binding_of world job.binding)) code ∷ [])
 
 -- such a reply of a worker that holds the job: refused by the first of its causes that holds, else answered and moved so
 abbrev pub responded_of : Wire → JobWire → Verdict → Decision
-responded_of w job v = checked (reply_causes w v (Some job)) (responded_by w job (reply_maps w job v) (response_to w job v))
+responded_of world job verdict =
+    checked (reply_causes world verdict (Some job)) (responded_by world job (reply_maps world job verdict) (response_to world job verdict))
 
 -- The same by the response that is sent, to a PASID: a success maps pages of a space, and another code maps nothing.
 
 -- each page that is asked for and isn't mapped yet, in order of first filing, to the lowest frame that is free then
 abbrev pub success_maps : Wire → JobWire → (space : ℕ) → List Move
-success_maps w job n = maps_to n job.asks (new_among (pages_in w n) job.asks) (free_from 0 w.places)
+success_maps world job space = maps_to space job.asks (new_among (pages_in world space) job.asks) (free_from 0 world.places)
 
 -- a reply of success: refused where its pages can't all be mapped as asked, or no number is left for the response; else they are mapped and it is sent
 abbrev pub succeeded : Wire → JobWire → (space pasid : ℕ) → Decision
-succeeded w job n t =
+succeeded world job space pasid =
     checked
-    (success_causes (pages_in w n) w.places job.asks ++ numbers_spent w.next_message 1 ∷ [])
-    (says (answer.Success (length (success_maps w job n))) (success_maps w job n ++ Move.Respond job t SuccessCode ∷ []))
+    (success_causes (pages_in world space) world.places job.asks ++ numbers_spent world.next_message 1 ∷ [])
+    (says (answer.Success (length (success_maps world job space))) (success_maps world job space ++ Move.Respond job pasid SuccessCode ∷ []))
 
 -- a reply of Invalid Request or Response Failure, which is refused only where no number is left for the response
 abbrev pub turned_down : Wire → JobWire → (pasid : ℕ) → Code → Decision
-turned_down w job t code = checked (numbers_spent w.next_message 1 ∷ []) (says (code_answer 0 code) (Move.Respond job t code ∷ []))
+turned_down world job pasid code = checked (numbers_spent world.next_message 1 ∷ []) (says (code_answer 0 code) (Move.Respond job pasid code ∷ []))
 
 -- the response that a job gets, with space and PASID of its binding
-pub record IsResponse (w : Wire) (job : JobWire) (verdict : Verdict) (response : Response) : Type 0 where
+pub record IsResponse (world : Wire) (job : JobWire) (verdict : Verdict) (response : Response) : Type 0 where
   pub binding : BindingWire
-  pub found : binding_of w job.binding ≡ Some binding
+  pub found : binding_of world job.binding ≡ Some binding
   pub space : binding.space ≡ response.space
   pub pasid : binding.pasid ≡ response.pasid
-  pub code : response_to w job verdict ≡ Some (code_seen response.code)
+  pub code : response_to world job verdict ≡ Some (code_seen response.code)
 
 -- the job gets exactly this response; it gets none where its unit is in reset, or its binding Lost, Quiet or released
 abbrev pub RespondsBy : Wire → JobWire → Verdict → Option Response → Type 0
-RespondsBy w job v None = response_to w job v ≡ None
-RespondsBy w job v (Some response) = IsResponse w job v response
+RespondsBy world job verdict None = response_to world job verdict ≡ None
+RespondsBy world job verdict (Some response) = IsResponse world job verdict response

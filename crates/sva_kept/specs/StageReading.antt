@@ -11,5 +11,5 @@ is_draining _ = false
 
 -- is the unit open that drains the page requests of a binding? None where nothing is drained for it
 abbrev pub open_drain : Wire → Option BindingWire → Option Bool
-open_drain w None = None
-open_drain w (Some b) = if is_draining b.stage then Some (unit_of w b.endpoint).is_open else None
+open_drain world None = None
+open_drain world (Some binding) = if is_draining binding.stage then Some (unit_of world binding.endpoint).is_open else None

@@ -11,11 +11,11 @@ use Rattle.sva_kept.specs.Inner.{AreStaged}
 
 -- a stage of this kind stands in the place of a binding
 abbrev pub IsIn : Kind → (binding : ℕ) → List Place → Type 0
-IsIn kind b places = IsSomeAnd (stage_of b places) (λ (stage : Stage). kind_of_stage stage ≡ kind)
+IsIn kind binding places = IsSomeAnd (stage_of binding places) (λ (stage : Stage). kind_of_stage stage ≡ kind)
 
 -- one that is seen so stands there
 abbrev pub IsSeenIn : StageWire → (binding : ℕ) → List Place → Type 0
-IsSeenIn seen b places = IsSomeAnd (stage_of b places) (λ (stage : Stage). stage_seen stage ≡ seen)
+IsSeenIn seen binding places = IsSomeAnd (stage_of binding places) (λ (stage : Stage). stage_seen stage ≡ seen)
 
 -- a binding is at another stage, and nothing else has changed
 pub record MovesTo (stage : StageWire) (binding : ℕ) (before after : List Place) : Type 0 where

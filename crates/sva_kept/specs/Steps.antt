@@ -22,24 +22,24 @@ Does decision before result after = (result ≡ decision.reply) × (after ≡ al
 
 -- the step by labels
 abbrev pub ByLabels : Wire → Step → Reply → Wire → Type 0
-ByLabels before s result after = Does (decide_of before s) before result after
+ByLabels before step result after = Does (decide_of before step) before result after
 
 -- what refuses a step: the first of its causes that holds, if one does
 abbrev pub MayStep : Wire → Step → Result (Unit {0}) Refusal → Type 0
-MayStep w s result = result ≡ unless_refused (causes_of w s) tt
+MayStep world step result = result ≡ unless_refused (causes_of world step) tt
 
 -- the endpoint of a number stands at it
 abbrev pub PortFor : Wire → (endpoint : ℕ) → Result ℕ Refusal → Type 0
-PortFor w e (Ok at) = (at ≡ e) × (nat_lt e (length w.parts) ≡ true)
-PortFor w e (Err refusal.NoSuchEndpoint) = nat_lt e (length w.parts) ≡ false
-PortFor w e _ = ⊥
+PortFor world endpoint (Ok at) = (at ≡ endpoint) × (nat_lt endpoint (length world.parts) ≡ true)
+PortFor world endpoint (Err refusal.NoSuchEndpoint) = nat_lt endpoint (length world.parts) ≡ false
+PortFor world endpoint _ = ⊥
 
 -- so many copies of a message are sent
 abbrev pub Sends : InFlight → (endpoint : ℕ) → Kind → (copies : ℕ) → Result (Unit {0}) Refusal → InFlight → Type 0
-Sends bag e kind copies (Ok _) after = (lacks bag.next copies ≡ false) × (after ≡ with_sent bag (record { endpoint = e; kind = kind }) copies)
-Sends bag e kind copies (Err refusal.NumbersSpent) after = (lacks bag.next copies ≡ true) × (after ≡ bag)
-Sends bag e kind copies (Err refusal.OutOfMemory) after = (lacks bag.next copies ≡ false) × (after ≡ bag)
-Sends bag e kind copies _ after = ⊥
+Sends bag endpoint kind copies (Ok _) after = (lacks bag.next copies ≡ false) × (after ≡ with_sent bag (record { endpoint = endpoint; kind = kind }) copies)
+Sends bag endpoint kind copies (Err refusal.NumbersSpent) after = (lacks bag.next copies ≡ true) × (after ≡ bag)
+Sends bag endpoint kind copies (Err refusal.OutOfMemory) after = (lacks bag.next copies ≡ false) × (after ≡ bag)
+Sends bag endpoint kind copies _ after = ⊥
 
 -- is it a message of a host to its endpoint, and no reset?
 abbrev pub IsDown : Message → Type 0

@@ -17,14 +17,14 @@ is_lost _ = false
 
 -- a binding that a reset cut off ends at once; of another one the endpoint is told to stop
 abbrev pub ending_by : BindingWire → StageWire → Ending
-ending_by b LostWire = AtOnce
-ending_by b stage = ByStop b.endpoint b.pasid
+ending_by binding LostWire = AtOnce
+ending_by binding stage = ByStop binding.endpoint binding.pasid
 
 -- one that isn't there is refused
 abbrev pub ending_of : Option BindingWire → Ending
 ending_of None = AtOnce
-ending_of (Some b) = ending_by b b.stage
+ending_of (Some binding) = ending_by binding binding.stage
 
 -- what refuses it: the first of its causes that holds, if one does
 abbrev pub MayUnbind : Wire → (binding : ℕ) → Result Ending Refusal → Type 0
-MayUnbind w n result = result ≡ unless_refused (causes_of w (step.Unbind n)) (ending_of (binding_of w n))
+MayUnbind world binding result = result ≡ unless_refused (causes_of world (step.Unbind binding)) (ending_of (binding_of world binding))

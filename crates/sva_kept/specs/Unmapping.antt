@@ -12,31 +12,34 @@ use Rattle.sva_kept.specs.Inner.{part_seen}
 
 -- each unit that gets descriptors where pages of the space are taken out has room for so many
 abbrev pub have_room : Wire → (space descriptors : ℕ) → Bool
-have_room w n k = not (any_below (length w.parts) (λ e. submits w n e && not (has_room (unit_of w e) k)))
+have_room world space descriptors =
+    not (any_below (length world.parts) (λ endpoint. submits world space endpoint && not (has_room (unit_of world endpoint) descriptors)))
 
 -- what frames wait for at a unit, of the first so many units
 abbrev pub target_so_far : Wire → (space units endpoint : ℕ) → Option TargetWire
-target_so_far w n units e = if nat_lt e units then target_by (unit_of w e) (cookie_at w n e) (bound_at w e n) else None
+target_so_far world space units endpoint =
+    if nat_lt endpoint units then target_by (unit_of world endpoint) (cookie_at world space endpoint) (bound_at world endpoint space) else None
 
 -- an endpoint with its unit once the first so many units have got their descriptors
 abbrev pub part_so_far : Wire → (space page count order units endpoint : ℕ) → EndpointWire
-part_so_far w n q count order units e = if nat_lt e units then part_unmapped w n q count order e else part_of w e
+part_so_far world space page count order units endpoint =
+    if nat_lt endpoint units then part_unmapped world space page count order endpoint else part_of world endpoint
 
 -- what is kept once all units have
 abbrev pub submitted : Wire → (space page count order : ℕ) → Wire
-submitted w n q count order =
-    record w {
-      parts = tabulate (length w.parts) (part_unmapped w n q count order);
-      next_cookie = w.next_cookie + count_below (length w.parts) (submits w n);
+submitted world space page count order =
+    record world {
+      parts = tabulate (length world.parts) (part_unmapped world space page count order);
+      next_cookie = world.next_cookie + count_below (length world.parts) (submits world space);
     }
 
 -- the PASID for which a unit gets descriptors, if it gets some
 abbrev pub pasid_asked : UnitWire → Option BindingWire → Option ℕ
-pasid_asked unit o = if submits_by unit o then Some (pasid_or_0 o) else None
+pasid_asked unit binding = if submits_by unit binding then Some (pasid_or_0 binding) else None
 
 -- no unit was given a cookie that is yet to come
 abbrev pub AreGiven : Wire → Type 0
-AreGiven w = (e : ℕ) → e < length w.parts → (unit_of w e).waits_end ≤ w.next_cookie
+AreGiven world = (endpoint : ℕ) → endpoint < length world.parts → (unit_of world endpoint).waits_end ≤ world.next_cookie
 
 -- what ports and bindings are seen as, beside nothing else
 abbrev pub wire_with : List Port → List Place → (next_cookie : ℕ) → Wire

@@ -28,15 +28,15 @@ asks_seen asks = map ask_seen asks
 
 -- the pages that a success maps: each requested page that isn't mapped, in order of first filing
 abbrev pub new_among : List PageWire → List AskWire → List ℕ
-new_among pages asks = unseen (is_mapped pages) (map (λ a. a.page) asks)
+new_among pages asks = unseen (is_mapped pages) (map (λ ask. ask.page) asks)
 
 -- the same of the space of this number
 abbrev pub new_pages : MemorySeen → (space : ℕ) → List AskWire → List ℕ
-new_pages memory n asks = new_among (pages_in memory n) asks
+new_pages memory space asks = new_among (pages_in memory space) asks
 
 -- does a request ask to write a page that is mapped read-only?
 abbrev pub writes_read_only : List PageWire → List AskWire → Bool
-writes_read_only pages asks = list_any (λ a. a.write && is_read_only_at (page_at pages a.page)) asks
+writes_read_only pages asks = list_any (λ ask. ask.write && is_read_only_at (page_at pages ask.page)) asks
 
 -- what refuses a success, in order
 abbrev pub success_causes : List PageWire → List PlaceWire → List AskWire → List Cause
@@ -48,39 +48,39 @@ success_causes pages places asks =
 
 -- the first of them that holds
 abbrev pub may_map_all : MemorySeen → (space : ℕ) → List AskWire → Result (Unit {0}) Refusal
-may_map_all memory n asks = verdict (success_causes (pages_in memory n) memory.places asks)
+may_map_all memory space asks = verdict (success_causes (pages_in memory space) memory.places asks)
 
 -- what a success moves
 abbrev pub maps_of : MemorySeen → (space : ℕ) → List AskWire → List Move
-maps_of memory n asks = maps_to n asks (new_pages memory n asks) (free_from 0 memory.places)
+maps_of memory space asks = maps_to space asks (new_pages memory space asks) (free_from 0 memory.places)
 
 -- what is kept once these pages are taken out again, the last first: their frames are free
 abbrev pub taken_back : MemorySeen → (space : ℕ) → List ℕ → MemorySeen
-taken_back memory n [] = memory
-taken_back memory n (q ∷ qs) = unmapped (taken_back memory n qs) n q 1 []
+taken_back memory space [] = memory
+taken_back memory space (page ∷ pages) = unmapped (taken_back memory space pages) space page 1 []
 
 -- The pages of the one space, and the places of frames.
 
 -- once these pages are mapped to these frames, in turn
 abbrev pub pages_mapped : List AskWire → List ℕ → List ℕ → List PageWire → List PageWire
-pages_mapped asks (q ∷ qs) (f ∷ fs) pages =
-    pages_mapped asks qs fs (insert_by is_lower_page (record { page = q; frame = f; write = is_write_asked asks q }) pages)
+pages_mapped asks (page ∷ others) (frame ∷ frames) pages =
+    pages_mapped asks others frames (insert_by is_lower_page (record { page = page; frame = frame; write = is_write_asked asks page }) pages)
 pages_mapped asks _ _ pages = pages
 
 -- the places of frames after that: each frame that a page was mapped to is mapped
 abbrev pub places_mapped : List ℕ → List ℕ → List PlaceWire → List PlaceWire
-places_mapped (q ∷ qs) (f ∷ fs) places = places_mapped qs fs (slice_set places f MappedWire)
+places_mapped (page ∷ others) (frame ∷ frames) places = places_mapped others frames (slice_set places frame MappedWire)
 places_mapped _ _ places = places
 
 -- once these pages are taken out, the last first
 abbrev pub pages_back : List ℕ → List PageWire → List PageWire
 pages_back [] pages = pages
-pages_back (q ∷ qs) pages = without_pages q 1 (pages_back qs pages)
+pages_back (page ∷ others) pages = without_pages page 1 (pages_back others pages)
 
 -- the places of frames after that: each frame that one of these pages led to is free again
 abbrev pub places_back : List ℕ → List PageWire → List PlaceWire → List PlaceWire
 places_back [] pages places = places
-places_back (q ∷ qs) pages places = placed FreeWire (filter (is_between q 1) (pages_back qs pages)) (places_back qs pages places)
+places_back (page ∷ others) pages places = placed FreeWire (filter (is_between page 1) (pages_back others pages)) (places_back others pages places)
 
 -- A page of a space was mapped to the lowest free frame.
 pub record MapsNew (space : List (ℕ × (ℕ × Bool))) (frames : List Holding) (page : ℕ) (write : Bool) (space_after : List (ℕ × (ℕ × Bool)))

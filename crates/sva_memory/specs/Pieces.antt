@@ -17,10 +17,10 @@ verdict causes = unless_refused causes tt
 
 -- the answer to a page that is mapped among the pages of its space
 abbrev pub map_reply : List PlaceWire → (page : ℕ) → List PageWire → Reply
-map_reply places q pages =
+map_reply places page pages =
     unless_refused
-    (page_range q 1
-    ∷ (is_mapped pages q, refusal.Mapped)
+    (page_range page 1
+    ∷ (is_mapped pages page, refusal.Mapped)
     ∷ (nat_le 1024 (length pages), refusal.SpaceFull)
     ∷ (lowest_free places == length places, refusal.NoFrame)
     ∷ [])
@@ -28,44 +28,44 @@ map_reply places q pages =
 
 -- the pages and the places after a page was mapped, by the answer
 abbrev pub PageMapped : List PageWire → List PlaceWire → (page : ℕ) (write : Bool) → Reply → List PageWire → List PlaceWire → Type 0
-PageMapped pages places q x (Ok (answer.Frame f)) pages_after places_after =
-    (pages_after ≡ insert_by is_lower_page (record { page = q; frame = f; write = x }) pages) × (places_after ≡ slice_set places f MappedWire)
-PageMapped pages places q x (Ok _) pages_after places_after = ⊥
-PageMapped pages places q x _ pages_after places_after = (pages_after ≡ pages) × (places_after ≡ places)
+PageMapped pages places page write (Ok (answer.Frame frame)) pages_after places_after =
+    (pages_after ≡ insert_by is_lower_page (record { page = page; frame = frame; write = write }) pages) × (places_after ≡ slice_set places frame MappedWire)
+PageMapped pages places page write (Ok _) pages_after places_after = ⊥
+PageMapped pages places page write _ pages_after places_after = (pages_after ≡ pages) × (places_after ≡ places)
 
 -- A page is mapped, or refused by the first cause that holds. Want of memory changes nothing, and comes only where the page would have
 -- been mapped.
 abbrev pub MapsPage : List PageWire → List PlaceWire → (page : ℕ) (write : Bool) → Reply → List PageWire → List PlaceWire → Type 0
-MapsPage pages places q x (Err refusal.OutOfMemory) pages_after places_after =
-    IsOk (map_reply places q pages) × (pages_after ≡ pages) × (places_after ≡ places)
-MapsPage pages places q x result pages_after places_after =
-    (result ≡ map_reply places q pages) × PageMapped pages places q x result pages_after places_after
+MapsPage pages places page write (Err refusal.OutOfMemory) pages_after places_after =
+    IsOk (map_reply places page pages) × (pages_after ≡ pages) × (places_after ≡ places)
+MapsPage pages places page write result pages_after places_after =
+    (result ≡ map_reply places page pages) × PageMapped pages places page write result pages_after places_after
 
 -- what refuses an unmapping among the pages of their space
 abbrev pub unmap_causes : List PageWire → (page count : ℕ) → List Cause
-unmap_causes pages q count =
+unmap_causes pages page count =
     (not (nat_le 1 count && nat_le count 48), refusal.BadCount)
-    ∷ page_range q count
-    ∷ (not (all_below count (λ j. is_mapped pages (q + j))), refusal.NotMapped)
+    ∷ page_range page count
+    ∷ (not (all_below count (λ offset. is_mapped pages (page + offset))), refusal.NotMapped)
     ∷ []
 
 -- and one of a range
 abbrev pub range_causes : List PageWire → (page order : ℕ) → List Cause
-range_causes pages q order =
+range_causes pages page order =
     (nat_lt 9 order, refusal.BadOrder)
-    ∷ page_range q (2 ^ order)
-    ∷ (not (q % 2 ^ order == 0), refusal.NotAligned)
-    ∷ (not (any_below (2 ^ order) (λ j. is_mapped pages (q + j))), refusal.NothingMapped)
+    ∷ page_range page (2 ^ order)
+    ∷ (not (page % 2 ^ order == 0), refusal.NotAligned)
+    ∷ (not (any_below (2 ^ order) (λ offset. is_mapped pages (page + offset))), refusal.NothingMapped)
     ∷ []
 
 -- each of `count` pages in a row is mapped
 unfoldable pub are_mapped : List PageWire → (page count : ℕ) → Bool
-are_mapped pages q count = all_below count (λ j. is_mapped pages (q + j))
+are_mapped pages page count = all_below count (λ offset. is_mapped pages (page + offset))
 
 -- some of them is
 unfoldable pub is_some_mapped : List PageWire → (page count : ℕ) → Bool
-is_some_mapped pages q count = any_below count (λ j. is_mapped pages (q + j))
+is_some_mapped pages page count = any_below count (λ offset. is_mapped pages (page + offset))
 
 -- how many of `count` pages in a row are mapped
 unfoldable pub count_mapped : List PageWire → (page count : ℕ) → ℕ
-count_mapped pages q count = count_below count (λ j. is_mapped pages (q + j))
+count_mapped pages page count = count_below count (λ offset. is_mapped pages (page + offset))

@@ -7,9 +7,9 @@ use Rattle.sva_model.specs.Wire.TargetWire.{Cookie, ResetEnd}
 
 -- what a frame waits for at a unit, if anything
 abbrev pub awaited_at : (endpoint : ℕ) → PlaceWire → Option TargetWire
-awaited_at e FreeWire = None
-awaited_at e MappedWire = None
-awaited_at e (WithheldWire targets) = slice_index_or targets e None
+awaited_at endpoint FreeWire = None
+awaited_at endpoint MappedWire = None
+awaited_at endpoint (WithheldWire targets) = slice_index_or targets endpoint None
 
 -- the cookies among targets, as often as they stand there
 abbrev pub cookies_in : List (Option TargetWire) → List ℕ
@@ -26,4 +26,5 @@ HasRoom targets ResetEnd = Unit {0}
 
 -- each of these targets has room at its unit
 abbrev pub HaveRoom : List PlaceWire → List (Option TargetWire) → Type 0
-HaveRoom places targets = (e : ℕ) (target : TargetWire) → slice_get targets e ≡ Some (Some target) → HasRoom (map (awaited_at e) places) target
+HaveRoom places targets =
+    (endpoint : ℕ) (target : TargetWire) → slice_get targets endpoint ≡ Some (Some target) → HasRoom (map (awaited_at endpoint) places) target

@@ -42,8 +42,8 @@ pub record MemorySeen : Type 0 where
 
 -- the spaces and frames of a host, without what it keeps of bindings, endpoints and messages
 abbrev pub memory_of : Wire → MemorySeen
-memory_of w = record { spaces = w.spaces; places = w.places; next_space = w.next_space }
+memory_of world = record { spaces = world.spaces; places = world.places; next_space = world.next_space }
 
 -- the host that keeps this, and all else as before
 abbrev pub with_memory : Wire → MemorySeen → Wire
-with_memory w memory = record w { spaces = memory.spaces; places = memory.places; next_space = memory.next_space }
+with_memory world memory = record world { spaces = memory.spaces; places = memory.places; next_space = memory.next_space }

@@ -14,28 +14,28 @@ use Rattle.sva_memory.specs.Seen.{MemorySeen, memory_of, with_memory}
 
 -- before the first step
 abbrev pub first_memory : (frames first : ℕ) → MemorySeen
-first_memory frames first = record { spaces = []; places = tabulate frames (λ f. FreeWire); next_space = first }
+first_memory frames first = record { spaces = []; places = tabulate frames (λ frame. FreeWire); next_space = first }
 
 -- the step by labels; want of memory changes nothing, and comes only where the step would have been accepted
 abbrev pub ByLabels : Wire → Step → Reply → Wire → Type 0
-ByLabels w step (Err refusal.OutOfMemory) after = IsOk (reply_of w step) × (after ≡ w)
-ByLabels w step result after = (result ≡ reply_of w step) × (after ≡ next_of w step)
+ByLabels world step (Err refusal.OutOfMemory) after = IsOk (reply_of world step) × (after ≡ world)
+ByLabels world step result after = (result ≡ reply_of world step) × (after ≡ next_of world step)
 
 -- a step that the spaces and frames alone decide, at each host that keeps them so
 abbrev pub Steps : Step → MemorySeen → Reply → MemorySeen → Type 0
-Steps step before result after = (w : Wire) → memory_of w ≡ before → ByLabels w step result (with_memory w after)
+Steps step before result after = (world : Wire) → memory_of world ≡ before → ByLabels world step result (with_memory world after)
 
 -- a move that changes spaces and frames alone, at each host that keeps them so
 abbrev pub Moves : Move → MemorySeen → MemorySeen → Type 0
-Moves move before after = (w : Wire) → memory_of w ≡ before → with_memory w after ≡ moved w move
+Moves move before after = (world : Wire) → memory_of world ≡ before → with_memory world after ≡ moved world move
 
 -- several such moves, one after another
 abbrev pub AllMoves : List Move → MemorySeen → MemorySeen → Type 0
-AllMoves moves before after = (w : Wire) → memory_of w ≡ before → with_memory w after ≡ all_moved w moves
+AllMoves moves before after = (world : Wire) → memory_of world ≡ before → with_memory world after ≡ all_moved world moves
 
 -- is there a space of this number?
 abbrev pub has_space : MemorySeen → (number : ℕ) → Bool
-has_space memory n = is_some (pages_of memory.spaces n)
+has_space memory number = is_some (pages_of memory.spaces number)
 
 -- is the frame at a page of a space?
 abbrev pub is_mapped_place : PlaceWire → Bool

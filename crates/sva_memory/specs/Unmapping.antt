@@ -16,44 +16,44 @@ use Rattle.sva_memory.specs.Steps.{has_space}
 
 -- the pages of the space of a number; none where there is no such space
 abbrev pub pages_in : MemorySeen → (number : ℕ) → List PageWire
-pages_in memory n = or_no_pages (pages_of memory.spaces n)
+pages_in memory number = or_no_pages (pages_of memory.spaces number)
 
 -- the causes of the steps by labels that the spaces decide, in their order
 abbrev pub no_such_space : MemorySeen → (number : ℕ) → Cause
-no_such_space memory n = (not (has_space memory n), refusal.NoSuchSpace)
+no_such_space memory number = (not (has_space memory number), refusal.NoSuchSpace)
 
 -- against an unmapping of `count` pages in a row; whether queues have room, and cookies are left, is asked elsewhere
 abbrev pub unmap_causes_of : MemorySeen → (space page count : ℕ) → List Cause
-unmap_causes_of memory n q count = no_such_space memory n ∷ unmap_causes (pages_in memory n) q count
+unmap_causes_of memory space page count = no_such_space memory space ∷ unmap_causes (pages_in memory space) page count
 
 -- against an unmapping of a range of 2^order aligned pages (PCI Express Base 5.0, section 10.3.1)
 abbrev pub range_causes_of : MemorySeen → (space page order : ℕ) → List Cause
-range_causes_of memory n q order = no_such_space memory n ∷ range_causes (pages_in memory n) q order
+range_causes_of memory space page order = no_such_space memory space ∷ range_causes (pages_in memory space) page order
 
 -- the first of them that holds
 abbrev pub may_unmap : MemorySeen → (space page count : ℕ) → Result (Unit {0}) Refusal
-may_unmap memory n q count = verdict (unmap_causes_of memory n q count)
+may_unmap memory space page count = verdict (unmap_causes_of memory space page count)
 
 -- whether a range may be unmapped: else the first cause against it
 abbrev pub may_unmap_range : MemorySeen → (space page order : ℕ) → Result (Unit {0}) Refusal
-may_unmap_range memory n q order = verdict (range_causes_of memory n q order)
+may_unmap_range memory space page order = verdict (range_causes_of memory space page order)
 
 -- the frames of pages in a row
 abbrev pub frames_of : MemorySeen → (space page count : ℕ) → List ℕ
-frames_of memory n q count = finding.frames_of (pages_in memory n) q count
+frames_of memory space page count = finding.frames_of (pages_in memory space) page count
 
 -- how many of pages in a row are mapped
 abbrev pub mapped_of : MemorySeen → (space page count : ℕ) → ℕ
-mapped_of memory n q count = count_below count (λ j. is_mapped (pages_in memory n) (q + j))
+mapped_of memory space page count = count_below count (λ offset. is_mapped (pages_in memory space) (page + offset))
 
 -- without those of `count` pages in a row that are mapped, where their frames wait for these targets
 abbrev pub unmapped : MemorySeen → (space page count : ℕ) → List (Option TargetWire) → MemorySeen
-unmapped memory n q count targets =
+unmapped memory space page count targets =
     record memory {
-      spaces = with_pages memory.spaces n (without_pages q count);
-      places = placed (place_for targets) (filter (is_between q count) (pages_in memory n)) memory.places;
+      spaces = with_pages memory.spaces space (without_pages page count);
+      places = placed (place_for targets) (filter (is_between page count) (pages_in memory space)) memory.places;
     }
 
 -- After a unit has passed a wait, or a reset has ended: what it has settled is waited for no more.
 abbrev pub settled : MemorySeen → (endpoint : ℕ) → (Option TargetWire → Option TargetWire) → MemorySeen
-settled memory e settle = record memory { places = labels.settled e settle memory.places }
+settled memory endpoint settle = record memory { places = labels.settled endpoint settle memory.places }

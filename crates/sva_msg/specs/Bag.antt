@@ -19,7 +19,7 @@ opened first = record { messages = []; next = first }
 -- the numbers of the messages rise; each is at least `low` and below `high`
 abbrev pub AreNumbered : ℕ → ℕ → List (ℕ × Message) → Type 0
 AreNumbered low high [] = low ≤ high
-AreNumbered low high (p ∷ ps) = (low ≤ p.0) × AreNumbered (p.0 + 1) high ps
+AreNumbered low high (entry ∷ entries) = (low ≤ entry.0) × AreNumbered (entry.0 + 1) high entries
 
 -- the messages stand in rising order of their numbers, which lie below the next one, and that is at most 2^63
 abbrev pub IsNumbered : InFlight → Type 0
@@ -50,4 +50,4 @@ must_follow newer older = nat_eq newer.endpoint older.endpoint && stays_behind (
 abbrev pub MayDeliver : InFlight → ℕ → Type 0
 MayDeliver bag number =
     (message : Message) × (message_at bag number ≡ Some message)
-    × ((k : ℕ) (older : Message) → k < number → message_at bag k ≡ Some older → must_follow message older ≡ false)
+    × ((earlier : ℕ) (older : Message) → earlier < number → message_at bag earlier ≡ Some older → must_follow message older ≡ false)

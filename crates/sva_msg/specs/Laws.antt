@@ -11,12 +11,12 @@ Always P = (first : ℕ) → first ≤ 2 ^ 63 → (calls : List Call) → ArePer
 
 -- the numbers of messages
 abbrev pub numbers : List (ℕ × Message) → List ℕ
-numbers = map (λ p. p.0)
+numbers = map (λ entry. entry.0)
 
 -- the numbers given rise strictly, so none is given twice; each is at least the first and below 2^63
 abbrev pub GivesNumbersOnce : InFlight → List Call → Type 0
 GivesNumbersOnce bag calls =
-    IsStrictlyIncreasing (numbers (sent bag calls)) × All (λ n. (bag.next ≤ n) × (n < 2 ^ 63)) (numbers (sent bag calls))
+    IsStrictlyIncreasing (numbers (sent bag calls)) × All (λ number. (bag.next ≤ number) × (number < 2 ^ 63)) (numbers (sent bag calls))
 
 -- each message that was sent was delivered or is in flight, once and not both, and no other was delivered or is in flight
 abbrev pub LosesNone : InFlight → List Call → Type 0
@@ -24,7 +24,7 @@ LosesNone bag calls = IsPermutation (sent bag calls) (delivered bag calls ++ (af
 
 -- the first message need not wait for the second: that is newer, or the first may overtake it
 abbrev pub MayPrecede : ℕ × Message → ℕ × Message → Type 0
-MayPrecede p q = q.0 < p.0 → must_follow p.1 q.1 ≡ false
+MayPrecede first second = second.0 < first.0 → must_follow first.1 second.1 ≡ false
 
 -- no message was delivered before an older one that it must not overtake, be that delivered later or still in flight
 abbrev pub KeepsOrder : InFlight → List Call → Type 0

@@ -31,60 +31,60 @@ pub data Call : Type 0 where
 
 -- what is in hand of each binding, where of this one it is now that life, or nothing
 abbrev pub hand_with : ℕ → Option Life → (ℕ → Option Life) → ℕ → Option Life
-hand_with binding life hand b = if b == binding then life else hand b
+hand_with binding life hand other = if other == binding then life else hand other
 
 -- once a binding of the space begins under this PASID: its place is the last; with no PASID left none begins
 abbrev pub after_begin : ℕ → ℕ → ℕ → Option ℕ → Holder → Holder
-after_begin endpoint space binding None h = h
-after_begin endpoint space binding (Some pasid) h = record h { places = h.places ++ begun endpoint space binding pasid ∷ [] }
+after_begin endpoint space binding None holder = holder
+after_begin endpoint space binding (Some pasid) holder = record holder { places = holder.places ++ begun endpoint space binding pasid ∷ [] }
 
 -- once the stage of a binding is taken in hand: its place stays and is empty, so that its PASID stays borne
 abbrev pub after_take : ℕ → Option Stage → Holder → Holder
-after_take binding None h = h
-after_take binding (Some stage) h =
-    record { places = with_stage binding None h.places; hand = hand_with binding (Some (at stage)) h.hand }
+after_take binding None holder = holder
+after_take binding (Some stage) holder =
+    record { places = with_stage binding None holder.places; hand = hand_with binding (Some (at stage)) holder.hand }
 
 -- once the stage in hand has made a move, which the table doesn't see before it is put back
 abbrev pub after_moving : ℕ → Move → Option Life → Holder → Holder
-after_moving binding m None h = h
-after_moving binding m (Some life) h = record h { hand = hand_with binding (Some (after_move life m)) h.hand }
+after_moving binding by None holder = holder
+after_moving binding by (Some life) holder = record holder { hand = hand_with binding (Some (after_move life by)) holder.hand }
 
 -- once the stage in hand is back in its place; of a binding that was released there is none to put back
 abbrev pub after_put : ℕ → Option Life → Holder → Holder
-after_put binding (Some (at stage)) h =
-    record { places = with_stage binding (Some stage) h.places; hand = hand_with binding None h.hand }
-after_put binding _ h = h
+after_put binding (Some (at stage)) holder =
+    record { places = with_stage binding (Some stage) holder.places; hand = hand_with binding None holder.hand }
+after_put binding _ holder = holder
 
 -- once a binding is ended by what was released of it: its place is gone, and bears its PASID no more
 abbrev pub after_end : ℕ → Option Life → Holder → Holder
-after_end binding (Some (over n)) h = record { places = without n.binding h.places; hand = hand_with binding None h.hand }
-after_end binding _ h = h
+after_end binding (Some (over numbers)) holder = record { places = without numbers.binding holder.places; hand = hand_with binding None holder.hand }
+after_end binding _ holder = holder
 
 -- a call that lacks its value in hand can't be written, and is here one that does nothing
 abbrev pub after : Holder → Call → Holder
-after h (begin endpoint space binding) = after_begin endpoint space binding (lowest space h.places) h
-after h (take binding) = after_take binding (stage_of binding h.places) h
-after h (move binding m) = after_moving binding m (h.hand binding) h
-after h (put binding) = after_put binding (h.hand binding) h
-after h (end binding) = after_end binding (h.hand binding) h
-after h (take_back binding) = record h { places = without binding h.places }
-after h (by_reset endpoint) = record h { places = after_reset endpoint h.places }
+after holder (begin endpoint space binding) = after_begin endpoint space binding (lowest space holder.places) holder
+after holder (take binding) = after_take binding (stage_of binding holder.places) holder
+after holder (move binding by) = after_moving binding by (holder.hand binding) holder
+after holder (put binding) = after_put binding (holder.hand binding) holder
+after holder (end binding) = after_end binding (holder.hand binding) holder
+after holder (take_back binding) = record holder { places = without binding holder.places }
+after holder (by_reset endpoint) = record holder { places = after_reset endpoint holder.places }
 
 -- the table and what is in hand after all calls of the list
 abbrev pub after_all : Holder → List Call → Holder
-after_all h [] = h
-after_all h (c ∷ cs) = after_all (after h c) cs
+after_all holder [] = holder
+after_all holder (call ∷ calls) = after_all (after holder call) calls
 
 -- the conditions of `begin` and of `take_back`; those of `put` and `end` are no premise, they are a law below
 abbrev pub IsPermitted : Holder → Call → Type 0
-IsPermitted h (begin endpoint space binding) = IsSome (lowest space h.places) × (place_of binding h.places ≡ None)
-IsPermitted h (take_back binding) = IsLiveIn binding h.places
-IsPermitted h _ = Unit {0}
+IsPermitted holder (begin endpoint space binding) = IsSome (lowest space holder.places) × (place_of binding holder.places ≡ None)
+IsPermitted holder (take_back binding) = IsLiveIn binding holder.places
+IsPermitted holder _ = Unit {0}
 
 -- each call of the list is permitted where it is made
 abbrev pub ArePermitted : Holder → List Call → Type 0
-ArePermitted h [] = Unit {0}
-ArePermitted h (c ∷ cs) = IsPermitted h c × ArePermitted (after h c) cs
+ArePermitted holder [] = Unit {0}
+ArePermitted holder (call ∷ calls) = IsPermitted holder call × ArePermitted (after holder call) calls
 
 -- the stage of a binding, or what was released of it, wherever it is: in hand or in its place
 abbrev pub life_in : Option Place → Option Life → Option Life
@@ -94,7 +94,7 @@ life_in (Some place) None = option_map (λ (stage : Stage). at stage) place.stag
 
 -- where the binding with this number is in its life; nowhere before it begins, and once it is ended or taken back
 abbrev pub life_of : ℕ → Holder → Option Life
-life_of binding h = life_in (place_of binding h.places) (h.hand binding)
+life_of binding holder = life_in (place_of binding holder.places) (holder.hand binding)
 
 -- a binding begins live, goes by the stage table with its number and PASID, and ends released
 abbrev pub IsLifeStep : Option Life → Option Life → Type 0
@@ -112,8 +112,9 @@ AlwaysTable = (calls : List Call) → ArePermitted opening calls → IsTable (af
 -- two unreleased bindings have the same PASID exactly where they have the same space, whatever their endpoints
 abbrev pub SharedBySpace : Type 0
 SharedBySpace =
-    (calls : List Call) (binding other : ℕ) (p q : Place) → ArePermitted opening calls → place_of binding (after_all opening calls).places ≡ Some p
-    → place_of other (after_all opening calls).places ≡ Some q → ShareAlike p q
+    (calls : List Call) (binding other : ℕ) (place other_place : Place) → ArePermitted opening calls
+    → place_of binding (after_all opening calls).places ≡ Some place
+    → place_of other (after_all opening calls).places ≡ Some other_place → ShareAlike place other_place
 
 -- what is in hand can always be put back, or ended: its place is there, empty, and of its binding and PASID
 abbrev pub AlwaysAwaited : Type 0

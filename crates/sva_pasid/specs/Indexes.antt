@@ -6,8 +6,10 @@ use Rattle.sva_pasid.specs.declared.stages.Stage.{Stage}
 use Rattle.sva_pasid.specs.declared.places.Place.{Place}
 
 -- the place of the binding is the one at i: a write there, or its removal, is that of the binding's place
-pub record IsIndexOf (binding : ℕ) (places : List Place) (i : ℕ) : Type 0 where
-  pub within : i < length places
-  pub found : (d : Place) → place_of binding places ≡ Some (slice_index_or places i d)
-  pub written : (d : Place) (s : Option Stage) → slice_set places i (record (slice_index_or places i d) { stage = s }) ≡ with_stage binding s places
-  pub removed : remove places i ≡ without binding places
+pub record IsIndexOf (binding : ℕ) (places : List Place) (index : ℕ) : Type 0 where
+  pub within : index < length places
+  pub found : (fallback : Place) → place_of binding places ≡ Some (slice_index_or places index fallback)
+  pub written :
+      (fallback : Place) (stage : Option Stage)
+      → slice_set places index (record (slice_index_or places index fallback) { stage = stage }) ≡ with_stage binding stage places
+  pub removed : remove places index ≡ without binding places

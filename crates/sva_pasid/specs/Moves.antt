@@ -25,45 +25,45 @@ pub data Move : Type 0 where
 
 -- where the wait with drain was submitted the binding drains (Intel VT-d, "Page Request Drain"); else it waits for its marker still
 abbrev pub at_drained : Result Wait Stop → Life
-at_drained (Ok w) = at (Draining w)
-at_drained (Err s) = at (Stopping s)
+at_drained (Ok wait) = at (Draining wait)
+at_drained (Err to_stop) = at (Stopping to_stop)
 
 -- where the PASID's invalidation was submitted the binding is invalidating; else its wait or an open group holds it back still
 abbrev pub at_invalidated : Result Wait Wait → Life
-at_invalidated (Ok w) = at (Invalidating w)
-at_invalidated (Err w) = at (Draining w)
+at_invalidated (Ok wait) = at (Invalidating wait)
+at_invalidated (Err wait) = at (Draining wait)
 
 -- where the wait behind the PASID's invalidation is done the binding is quiet; else it waits for that still
 abbrev pub at_settled : Result Numbers Wait → Life
-at_settled (Ok n) = at (Quiet n)
-at_settled (Err w) = at (Invalidating w)
+at_settled (Ok numbers) = at (Quiet numbers)
+at_settled (Err wait) = at (Invalidating wait)
 
 -- a move that the state has no call for, and one that is refused, leave it as it is
 abbrev pub after_move : Life → Move → Life
-after_move (at (Live n)) stop = at (Stopping (stop_of n))
-after_move (at (Live n)) reset = at (Lost n)
-after_move (at (Stopping s)) mark = at (Stopping (marked_stop s))
-after_move (at (Stopping s)) (drain cookie) = at_drained (drain_of s cookie)
-after_move (at (Stopping s)) reset = at (Quiet (numbers_of_stop s))
-after_move (at (Draining w)) wait_done = at (Draining (done_wait w))
-after_move (at (Draining w)) (invalidate cookie groups_open) = at_invalidated (invalidation_of w cookie groups_open)
-after_move (at (Draining w)) reset = at (Quiet (numbers_of_wait w))
-after_move (at (Invalidating w)) wait_done = at (Invalidating (done_wait w))
-after_move (at (Invalidating w)) settle = at_settled (quiet_of w)
-after_move (at (Invalidating w)) reset = at (Quiet (numbers_of_wait w))
-after_move (at (Lost n)) settle = at (Quiet n)
-after_move (at (Quiet n)) release = over n
+after_move (at (Live numbers)) stop = at (Stopping (stop_of numbers))
+after_move (at (Live numbers)) reset = at (Lost numbers)
+after_move (at (Stopping to_stop)) mark = at (Stopping (marked_stop to_stop))
+after_move (at (Stopping to_stop)) (drain cookie) = at_drained (drain_of to_stop cookie)
+after_move (at (Stopping to_stop)) reset = at (Quiet (numbers_of_stop to_stop))
+after_move (at (Draining wait)) wait_done = at (Draining (done_wait wait))
+after_move (at (Draining wait)) (invalidate cookie groups_open) = at_invalidated (invalidation_of wait cookie groups_open)
+after_move (at (Draining wait)) reset = at (Quiet (numbers_of_wait wait))
+after_move (at (Invalidating wait)) wait_done = at (Invalidating (done_wait wait))
+after_move (at (Invalidating wait)) settle = at_settled (quiet_of wait)
+after_move (at (Invalidating wait)) reset = at (Quiet (numbers_of_wait wait))
+after_move (at (Lost numbers)) settle = at (Quiet numbers)
+after_move (at (Quiet numbers)) release = over numbers
 after_move life _ = life
 
 -- a binding after all moves of the list
 abbrev pub after_moves : Life → List Move → Life
 after_moves life [] = life
-after_moves life (m ∷ ms) = after_moves (after_move life m) ms
+after_moves life (move ∷ moves) = after_moves (after_move life move) moves
 
 -- the number and the PASID of a binding, which can be told when it is released too
 abbrev pub numbers_of_life : Life → Numbers
 numbers_of_life (at stage) = numbers_of stage
-numbers_of_life (over n) = n
+numbers_of_life (over numbers) = numbers
 
 -- the names of the stages, and of their end
 pub data Kind : Type 0 where
@@ -105,16 +105,16 @@ IsTableStep before after = (before ≡ after) ⊎ Contains (next_of before) afte
 
 -- each move is a row of the stage table, or leaves the stage
 abbrev pub MovesByTable : Type 0
-MovesByTable = (life : Life) (m : Move) → IsTableStep (kind_of life) (kind_of (after_move life m))
+MovesByTable = (life : Life) (move : Move) → IsTableStep (kind_of life) (kind_of (after_move life move))
 
 -- each row of the stage table is a move
 abbrev pub TableByMoves : Type 0
 TableByMoves =
-    (before : Kind) → All (λ after. (life : Life) × (m : Move) × (kind_of life ≡ before) × (kind_of (after_move life m) ≡ after)) (next_of before)
+    (before : Kind) → All (λ after. (life : Life) × (move : Move) × (kind_of life ≡ before) × (kind_of (after_move life move) ≡ after)) (next_of before)
 
 -- a binding keeps its number and its PASID through all its moves: those with which it began are released
 abbrev pub KeepsNumbers : Type 0
-KeepsNumbers = (life : Life) (ms : List Move) → numbers_of_life (after_moves life ms) ≡ numbers_of_life life
+KeepsNumbers = (life : Life) (moves : List Move) → numbers_of_life (after_moves life moves) ≡ numbers_of_life life
 
 -- which call a move is
 abbrev pub is_stop : Move → Bool
@@ -148,9 +148,9 @@ is_settle _ = false
 
 -- the moves have one for each of the tests, in the tests' order
 abbrev pub HasInOrder : List (Move → Bool) → List Move → Type 0
-HasInOrder [] ms = Unit {0}
-HasInOrder (t ∷ ts) [] = ⊥
-HasInOrder (t ∷ ts) (m ∷ ms) = MatchBool (t m) (HasInOrder ts ms) (HasInOrder (t ∷ ts) ms)
+HasInOrder [] moves = Unit {0}
+HasInOrder (test ∷ tests) [] = ⊥
+HasInOrder (test ∷ tests) (move ∷ moves) = MatchBool (test move) (HasInOrder tests moves) (HasInOrder (test ∷ tests) moves)
 
 -- what has to come, in this order, before the endpoint can hold nothing of a binding any longer
 abbrev pub whole_unbinding : List (Move → Bool)
@@ -159,5 +159,5 @@ whole_unbinding = is_stop ∷ is_mark ∷ is_drain ∷ is_wait_done ∷ is_inval
 -- without a reset a binding that has begun is quiet, or released, only after the whole unbinding
 abbrev pub QuietAfterUnbinding : Type 0
 QuietAfterUnbinding =
-    (n : Numbers) (ms : List Move) → All (λ m. m ≢ reset) ms → (kind_of (after_moves (at (Live n)) ms) ≡ quiet)
-    ⊎ (kind_of (after_moves (at (Live n)) ms) ≡ released) → HasInOrder whole_unbinding ms
+    (numbers : Numbers) (moves : List Move) → All (λ move. move ≢ reset) moves → (kind_of (after_moves (at (Live numbers)) moves) ≡ quiet)
+    ⊎ (kind_of (after_moves (at (Live numbers)) moves) ≡ released) → HasInOrder whole_unbinding moves

@@ -92,12 +92,12 @@ pub record IsLowest (space : ℕ) (places : List Place) (pasid : ℕ) : Type 0 w
   pub to_last : pasid ≤ PASIDS
   pub borne : IfSome (borne_by space places) (λ own. own ≡ pasid)
   pub free : borne_by space places ≡ None → is_borne pasid places ≡ false
-  pub lower : borne_by space places ≡ None → (q : ℕ) → 1 ≤ q → q < pasid → is_borne q places ≡ true
+  pub lower : borne_by space places ≡ None → (other : ℕ) → 1 ≤ other → other < pasid → is_borne other places ≡ true
 
 -- the space bears no PASID, and all 32 are borne
 pub record IsOutOfPasids (space : ℕ) (places : List Place) : Type 0 where
   pub none : borne_by space places ≡ None
-  pub all : (q : ℕ) → 1 ≤ q → q ≤ PASIDS → is_borne q places ≡ true
+  pub all : (pasid : ℕ) → 1 ≤ pasid → pasid ≤ PASIDS → is_borne pasid places ≡ true
 
 -- the place of a binding that begins under the PASID
 abbrev pub begun : ℕ → ℕ → ℕ → ℕ → Place
@@ -118,22 +118,22 @@ after_reset endpoint places = map (reset_at endpoint) places
 
 -- the place of the binding is there and empty, and bears the PASID
 abbrev pub Awaits : Numbers → List Place → Type 0
-Awaits n places = IsSomeAnd (place_of n.binding places) (λ place. (place.pasid ≡ n.pasid) × (place.stage ≡ None))
+Awaits numbers places = IsSomeAnd (place_of numbers.binding places) (λ place. (place.pasid ≡ numbers.pasid) × (place.stage ≡ None))
 
 -- two places bear the same PASID exactly where they are of the same space
 abbrev pub ShareAlike : Place → Place → Type 0
-ShareAlike p q = (p.pasid ≡ q.pasid) ↔ (p.space ≡ q.space)
+ShareAlike place other = (place.pasid ≡ other.pasid) ↔ (place.space ≡ other.space)
 
 -- two places are of two bindings, and have the same PASID exactly where they have the same space
-pub record IsApart (p q : Place) : Type 0 where
-  pub bindings : p.binding ≢ q.binding
-  pub pasids : ShareAlike p q
+pub record IsApart (place other : Place) : Type 0 where
+  pub bindings : place.binding ≢ other.binding
+  pub pasids : ShareAlike place other
 
 -- the PASID is one of those that are given out, and a stage in the place is of its binding and PASID
-pub record IsOwn (p : Place) : Type 0 where
-  pub from_one : 1 ≤ p.pasid
-  pub to_last : p.pasid ≤ PASIDS
-  pub stage : IfSome p.stage (λ s. numbers_of s ≡ record { binding = p.binding; pasid = p.pasid })
+pub record IsOwn (place : Place) : Type 0 where
+  pub from_one : 1 ≤ place.pasid
+  pub to_last : place.pasid ≤ PASIDS
+  pub stage : IfSome place.stage (λ held. numbers_of held ≡ record { binding = place.binding; pasid = place.pasid })
 
 -- what holds of every table
 pub record IsTable (places : List Place) : Type 0 where

@@ -6,12 +6,12 @@ use Rattle.sva_pasid.specs.declared.stages.Stage.TheVariants.{Live, Stopping, Dr
 
 -- a binding's number and PASID, which each stage keeps
 abbrev pub numbers_of : Stage → Numbers
-numbers_of (Live n) = n
-numbers_of (Stopping s) = numbers_of_stop s
-numbers_of (Draining w) = numbers_of_wait w
-numbers_of (Invalidating w) = numbers_of_wait w
-numbers_of (Quiet n) = n
-numbers_of (Lost n) = n
+numbers_of (Live numbers) = numbers
+numbers_of (Stopping stop) = numbers_of_stop stop
+numbers_of (Draining wait) = numbers_of_wait wait
+numbers_of (Invalidating wait) = numbers_of_wait wait
+numbers_of (Quiet numbers) = numbers
+numbers_of (Lost numbers) = numbers
 
 -- the binding is in use
 abbrev pub IsLive : Stage → Type 0
@@ -21,9 +21,9 @@ IsLive _ = ⊥
 -- after a reset of the endpoint a binding that was in use is lost, and one that was being ended has nothing left to wait
 -- for; a quiet and a lost one stay
 abbrev pub reset_of : Stage → Stage
-reset_of (Live n) = Lost n
-reset_of (Stopping s) = Quiet (numbers_of_stop s)
-reset_of (Draining w) = Quiet (numbers_of_wait w)
-reset_of (Invalidating w) = Quiet (numbers_of_wait w)
-reset_of (Quiet n) = Quiet n
-reset_of (Lost n) = Lost n
+reset_of (Live numbers) = Lost numbers
+reset_of (Stopping stop) = Quiet (numbers_of_stop stop)
+reset_of (Draining wait) = Quiet (numbers_of_wait wait)
+reset_of (Invalidating wait) = Quiet (numbers_of_wait wait)
+reset_of (Quiet numbers) = Quiet numbers
+reset_of (Lost numbers) = Lost numbers

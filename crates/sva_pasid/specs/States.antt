@@ -22,35 +22,35 @@ pub record Wait : Type 0 where
 
 -- a stop is sent: its marker isn't noted yet
 abbrev pub stop_of : Numbers → Stop
-stop_of n = record { binding = n.binding; pasid = n.pasid; marked = false }
+stop_of numbers = record { binding = numbers.binding; pasid = numbers.pasid; marked = false }
 
 -- the marker is noted
 abbrev pub marked_stop : Stop → Stop
-marked_stop s = record s { marked = true }
+marked_stop stop = record stop { marked = true }
 
 -- the wait with drain is submitted where the marker was noted, else the stop is given back
 abbrev pub drain_of : Stop → ℕ → Result Wait Stop
-drain_of s cookie =
-    if s.marked then Ok (record { binding = s.binding; pasid = s.pasid; cookie = cookie; waited = false }) else Err s
+drain_of stop cookie =
+    if stop.marked then Ok (record { binding = stop.binding; pasid = stop.pasid; cookie = cookie; waited = false }) else Err stop
 
 -- the wait is done
 abbrev pub done_wait : Wait → Wait
-done_wait w = record w { waited = true }
+done_wait wait = record wait { waited = true }
 
 -- the invalidation of the whole PASID, and a wait behind it, are submitted where the wait with drain is done and no
 -- group of page requests of the binding is open, else the wait is given back
 abbrev pub invalidation_of : Wait → ℕ → Bool → Result Wait Wait
-invalidation_of w cookie groups_open =
-    if w.waited && not groups_open then Ok (record w { cookie = cookie; waited = false }) else Err w
+invalidation_of wait cookie groups_open =
+    if wait.waited && not groups_open then Ok (record wait { cookie = cookie; waited = false }) else Err wait
 
 -- what a stop and a wait leave of a binding
 abbrev pub numbers_of_stop : Stop → Numbers
-numbers_of_stop s = record { binding = s.binding; pasid = s.pasid }
+numbers_of_stop stop = record { binding = stop.binding; pasid = stop.pasid }
 
 -- of a wait the cookie is left out, and whether it was done
 abbrev pub numbers_of_wait : Wait → Numbers
-numbers_of_wait w = record { binding = w.binding; pasid = w.pasid }
+numbers_of_wait wait = record { binding = wait.binding; pasid = wait.pasid }
 
 -- the endpoint holds nothing any longer where the wait behind the invalidation is done, else the wait is given back
 abbrev pub quiet_of : Wait → Result Numbers Wait
-quiet_of w = if w.waited then Ok (numbers_of_wait w) else Err w
+quiet_of wait = if wait.waited then Ok (numbers_of_wait wait) else Err wait

@@ -86,7 +86,7 @@ IsWritten found = (text : Text) → found ≡ Some text → IsUnsignedIn 1 10000
 
 -- the same of the subcommand that clap entered; where `--turns` was not found there is nothing to read
 abbrev pub IsReadable : Option (Text × List Row) → Type 0
-IsReadable entered = IsWritten (option_and_then (λ p. turns_text p.1) entered)
+IsReadable entered = IsWritten (option_and_then (λ subcommand. turns_text subcommand.1) entered)
 
 -- the words ask for a run that reads standard input
 abbrev pub AsksRun : List Text → Type 0

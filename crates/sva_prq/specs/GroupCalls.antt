@@ -17,10 +17,10 @@ pub data GroupCall : Type 0 where
 
 -- the open groups after a call
 abbrev pub groups_after_call : Groups → GroupCall → Groups
-groups_after_call s (Reserve unit) = with_room s
-groups_after_call s (File unit binding request) = filed s unit binding request
-groups_after_call s (Answered job) = after_answer s job.serial
-groups_after_call s (DropUnit unit) = without_unit s unit
+groups_after_call groups (Reserve unit) = with_room groups
+groups_after_call groups (File unit binding request) = filed groups unit binding request
+groups_after_call groups (Answered job) = after_answer groups job.serial
+groups_after_call groups (DropUnit unit) = without_unit groups unit
 
 -- the open groups after a history, from none on
 abbrev pub groups_after : List GroupCall → Groups
@@ -38,11 +38,11 @@ IsGroupHistory (_ ∷ earlier) = IsGroupHistory earlier
 -- the drop of the unit
 abbrev pub asks_filed : ℕ → ℕ → ℕ → List GroupCall → List Ask
 asks_filed unit binding index [] = []
-asks_filed unit binding index (File u b request ∷ earlier) =
-    if u == unit && b == binding && request.index == index
+asks_filed unit binding index (File other_unit other_binding request ∷ earlier) =
+    if other_unit == unit && other_binding == binding && request.index == index
     then (if request.last then [] else asks_filed unit binding index earlier ++ ask_of request ∷ [])
     else asks_filed unit binding index earlier
-asks_filed unit binding index (DropUnit u ∷ earlier) = if unit == u then [] else asks_filed unit binding index earlier
+asks_filed unit binding index (DropUnit other_unit ∷ earlier) = if unit == other_unit then [] else asks_filed unit binding index earlier
 asks_filed unit binding index (_ ∷ earlier) = asks_filed unit binding index earlier
 
 -- the last request of a group makes a job, and only that. The job names the unit at which its requests came, the binding
@@ -65,7 +65,7 @@ JobsHoldTheirRequests =
 -- after all permitted calls no group has more than 32 requests
 abbrev pub GroupsAreBounded : Type 0
 GroupsAreBounded =
-    (history : List GroupCall) → IsGroupHistory history → All (λ g. length g.asks ≤ 32) (groups_after history).groups
+    (history : List GroupCall) → IsGroupHistory history → All (λ group. length group.asks ≤ 32) (groups_after history).groups
 
 -- no two unfinished groups share a unit, a binding and an index
 abbrev pub UnfinishedGroupsDiffer : Type 0
@@ -76,8 +76,8 @@ UnfinishedGroupsDiffer =
 -- a request was filed in the group with this serial
 abbrev pub was_filed : ℕ → List GroupCall → Bool
 was_filed serial [] = false
-was_filed serial (File u b request ∷ earlier) =
-    serial_for (groups_after earlier) u b request.index == serial || was_filed serial earlier
+was_filed serial (File unit binding request ∷ earlier) =
+    serial_for (groups_after earlier) unit binding request.index == serial || was_filed serial earlier
 was_filed serial (_ ∷ earlier) = was_filed serial earlier
 
 -- a group that begins takes a serial under which no request was filed before, so no job of an earlier group ends it
@@ -96,8 +96,8 @@ SerialsDiffer =
 -- the last request of the group with this serial was filed, so its job was made
 abbrev pub was_made : ℕ → List GroupCall → Bool
 was_made serial [] = false
-was_made serial (File u b request ∷ earlier) =
-    (serial_for (groups_after earlier) u b request.index == serial && request.last) || was_made serial earlier
+was_made serial (File unit binding request ∷ earlier) =
+    (serial_for (groups_after earlier) unit binding request.index == serial && request.last) || was_made serial earlier
 was_made serial (_ ∷ earlier) = was_made serial earlier
 
 -- a request of this unit and binding was filed in the group with this serial, and since then neither was the job of that
@@ -105,12 +105,12 @@ was_made serial (_ ∷ earlier) = was_made serial earlier
 abbrev pub is_pending : ℕ → ℕ → ℕ → List GroupCall → Bool
 is_pending serial unit binding [] = false
 is_pending serial unit binding (Reserve _ ∷ earlier) = is_pending serial unit binding earlier
-is_pending serial unit binding (File u b request ∷ earlier) =
-    (serial_for (groups_after earlier) u b request.index == serial && u == unit && b == binding)
+is_pending serial unit binding (File other_unit other_binding request ∷ earlier) =
+    (serial_for (groups_after earlier) other_unit other_binding request.index == serial && other_unit == unit && other_binding == binding)
     || is_pending serial unit binding earlier
 is_pending serial unit binding (Answered job ∷ earlier) =
     not (job.serial == serial && was_made serial earlier) && is_pending serial unit binding earlier
-is_pending serial unit binding (DropUnit u ∷ earlier) = not (unit == u) && is_pending serial unit binding earlier
+is_pending serial unit binding (DropUnit other_unit ∷ earlier) = not (unit == other_unit) && is_pending serial unit binding earlier
 
 -- `open_of` overlooks no group: a binding is open if a request was filed under it, and since then neither was the job of
 -- its group answered nor its unit dropped

@@ -5,18 +5,18 @@ use Rattle.sva_prq.specs.Groups.{OpenGroup}
 
 -- the slot with this key has the group
 abbrev pub IsAt : List (Option OpenGroup) → ℕ → OpenGroup → Type 0
-IsAt slots key g = slice_index_or slots key None ≡ Some g
+IsAt slots key group = slice_index_or slots key None ≡ Some group
 
 -- a group among others that stand by rising serial
 abbrev pub placed : OpenGroup → List OpenGroup → List OpenGroup
-placed g [] = g ∷ []
-placed g (h ∷ hs) = if nat_lt g.serial h.serial then g ∷ h ∷ hs else h ∷ placed g hs
+placed group [] = group ∷ []
+placed group (other ∷ others) = if nat_lt group.serial other.serial then group ∷ other ∷ others else other ∷ placed group others
 
 -- the groups of these slots by rising serial, that is in the order in which they began
 abbrev pub groups_in : List (Option OpenGroup) → List OpenGroup
 groups_in [] = []
 groups_in (None ∷ slots) = groups_in slots
-groups_in (Some g ∷ slots) = placed g (groups_in slots)
+groups_in (Some group ∷ slots) = placed group (groups_in slots)
 
 -- the cell of a unit and an index in the table of unfinished groups: 32 indexes for each of 8 units. Beyond these bounds
 -- several units or indexes share a cell
@@ -26,13 +26,14 @@ cell_of unit index = unit % 8 * 32 + index % 32
 -- groups in slots, cells that lead to those that are unfinished, and the next serial
 pub record AreKept (slots : List (Option OpenGroup)) (cells : List (Option ℕ)) (next : ℕ) : Type 0 where
   -- each serial was given, and none is there twice
-  pub given : (key : ℕ) (g : OpenGroup) → IsAt slots key g → g.serial < next
-  pub apart : (j k : ℕ) (g h : OpenGroup) → IsAt slots j g → IsAt slots k h → g.serial ≡ h.serial → j ≡ k
+  pub given : (key : ℕ) (group : OpenGroup) → IsAt slots key group → group.serial < next
+  pub apart : (key other_key : ℕ) (group other : OpenGroup) → IsAt slots key group → IsAt slots other_key other → group.serial ≡ other.serial → key ≡ other_key
   -- one unfinished group for each unit, binding and index
-  pub single : (j k : ℕ) (g h : OpenGroup) → IsAt slots j g → IsAt slots k h → g.last ≡ false → h.last ≡ false → g.unit ≡ h.unit
-      → g.binding ≡ h.binding → g.index ≡ h.index → j ≡ k
+  pub single : (key other_key : ℕ) (group other : OpenGroup) → IsAt slots key group → IsAt slots other_key other → group.last ≡ false → other.last ≡ false
+      → group.unit ≡ other.unit → group.binding ≡ other.binding → group.index ≡ other.index → key ≡ other_key
   -- a cell with a key has all unfinished groups of the cell at that key
-  pub celled : (j k : ℕ) (g : OpenGroup) → IsAt slots k g → g.last ≡ false → slice_index_or cells (cell_of g.unit g.index) None ≡ Some j → j ≡ k
+  pub celled : (noted key : ℕ) (group : OpenGroup) → IsAt slots key group → group.last ≡ false
+      → slice_index_or cells (cell_of group.unit group.index) None ≡ Some noted → noted ≡ key
 
 -- what a call of the test says of a group is what `passes` is of it
 abbrev pub IsTest : (Bor OpenGroup → Bool → Type 0) → (OpenGroup → Bool) → Type 0
@@ -41,7 +42,7 @@ IsTest post passes = (group : Bor OpenGroup) (answer : Bool) → post group answ
 -- the slot has a group that passes
 abbrev pub passes_at : (OpenGroup → Bool) → Option OpenGroup → Bool
 passes_at passes None = false
-passes_at passes (Some g) = passes g
+passes_at passes (Some group) = passes group
 
 -- the slots that may have an unfinished group of a cell: the one with its key, or any where the cell has none
 abbrev pub MayHold : Option ℕ → ℕ → Type 0

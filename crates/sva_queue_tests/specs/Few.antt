@@ -4,8 +4,8 @@ use Rattle.sva_prq.specs.Groups.{Groups, OpenGroup}
 
 -- no group has more requests than this
 abbrev pub AreFew : ℕ → List OpenGroup → Type 0
-AreFew n gs = All (λ (g : OpenGroup). length g.asks ≤ n) gs
+AreFew most groups = All (λ (group : OpenGroup). length group.asks ≤ most) groups
 
 -- and no more groups have begun
 abbrev pub HasFew : ℕ → Groups → Type 0
-HasFew n s = AreFew n s.groups × (s.next ≤ n)
+HasFew most groups = AreFew most groups.groups × (groups.next ≤ most)

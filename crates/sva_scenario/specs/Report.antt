@@ -30,11 +30,11 @@ reply_text (Err refusal) = refusal_text refusal
 
 -- `free X mapped Y withheld Z`
 abbrev pub counts_text : Counts → List ℕ
-counts_text c = codes "free " ++ decimal c.free ++ codes " mapped " ++ decimal c.mapped ++ codes " withheld " ++ decimal c.withheld
+counts_text counts = codes "free " ++ decimal counts.free ++ codes " mapped " ++ decimal counts.mapped ++ codes " withheld " ++ decimal counts.withheld
 
 -- of a list of steps from a world on: a line for each step, and last the counts of the world after them
 unfoldable pub steps_report : World → List Step → List ℕ
-steps_report w steps = flat_map (λ reply. ended (reply_text reply)) (replies w steps) ++ ended (counts_text (counts (run w steps)))
+steps_report world steps = flat_map (λ reply. ended (reply_text reply)) (replies world steps) ++ ended (counts_text (counts (run world steps)))
 
 -- is each count of the config within its limits, and does it begin to number at 2^63 or below?
 abbrev pub is_fit : Config → Bool

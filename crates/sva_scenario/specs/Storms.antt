@@ -15,13 +15,13 @@ use Rattle.sva_scenario.specs.Streams.{Writes}
 
 -- a scenario whose config is within its limits is handed out, and nothing is written; of another that is written, and none is handed out
 abbrev pub JudgedBy : Bool → Script → Option (List ℕ) → Option (List ℕ) → Result (Option Script) DriveFault → Type 0
-JudgedBy true script old new result = Writes old new [] result × IfOk result (λ o. o ≡ Some script)
-JudgedBy false script old new result = Writes old new (ended (refusal_text BadConfig)) result × IfOk result (λ o. o ≡ None)
+JudgedBy true script old new result = Writes old new [] result × IfOk result (λ given. given ≡ Some script)
+JudgedBy false script old new result = Writes old new (ended (refusal_text BadConfig)) result × IfOk result (λ given. given ≡ None)
 
 -- of what was read: a line fault is written alone, and none is handed out
 abbrev pub Judged : Result Script LineFault → Option (List ℕ) → Option (List ℕ) → Result (Option Script) DriveFault → Type 0
 Judged (Ok script) old new result = JudgedBy (is_fit script.config) script old new result
-Judged (Err fault) old new result = Writes old new (ended (line_fault_text fault)) result × IfOk result (λ o. o ≡ None)
+Judged (Err fault) old new result = Writes old new (ended (line_fault_text fault)) result × IfOk result (λ given. given ≡ None)
 
 -- of a whole text, as it stands before the storm: the scenario is handed out to be played, or what is wrong with it is written
 abbrev pub JudgedOf : List ℕ → Option (List ℕ) → Option (List ℕ) → Result (Option Script) DriveFault → Type 0
@@ -51,7 +51,7 @@ audit_outcome None = Faulted
 
 -- what was written is this text, or a prefix of it after a fault; and where there is no fault the run ended so
 abbrev pub Says : Option (List ℕ) → Option (List ℕ) → List ℕ → Outcome → Result Outcome DriveFault → Type 0
-Says old new text outcome result = Writes old new text result × IfOk result (λ o. o ≡ outcome)
+Says old new text outcome result = Writes old new text result × IfOk result (λ given. given ≡ outcome)
 
 -- a storm of a scenario: its audit is ok, and all frames of the config are there; or it is bad
 abbrev pub StormsBy : Bool → (frames : ℕ) → Option (List ℕ) → Option (List ℕ) → Result Outcome DriveFault → Type 0

@@ -24,12 +24,12 @@ AppendsProperPrefix old new bytes = (front : List ℕ) × (rest : List ℕ) × (
 
 -- known bytes grow by some bytes, or by a prefix of them where the result is a fault
 abbrev pub Writes : {A : Type 0} → Option (List ℕ) → Option (List ℕ) → List ℕ → Result A DriveFault → Type 0
-Writes old new bytes (Ok x) = Appends old new bytes
+Writes old new bytes (Ok value) = Appends old new bytes
 Writes old new bytes (Err fault) = AppendsPrefix old new bytes
 
 -- the writer's failures are told: one more where the fault is `Write`, and none where there is no fault or memory lacks
 abbrev pub Tells : {A W : Type 0} → Stream W → Stream W → Result A DriveFault → Type 0
-Tells old new (Ok x) = new.failures ≡ old.failures
+Tells old new (Ok value) = new.failures ≡ old.failures
 Tells old new (Err Read) = ⊥
 Tells old new (Err Write) = new.failures ≡ old.failures + 1
 Tells old new (Err Memory) = new.failures ≡ old.failures

@@ -13,5 +13,5 @@ held_back_by (Some is_open) has_group = if has_group then Some (if is_open then 
 
 -- what refuses its advance; nothing refuses for this where the binding isn't there
 abbrev pub held_back : Wire → Option BindingWire → Option Refusal
-held_back w None = None
-held_back w (Some b) = held_back_by (open_drain w (Some b)) (has_open_group (part_of w b.endpoint) b.binding)
+held_back world None = None
+held_back world (Some binding) = held_back_by (open_drain world (Some binding)) (has_open_group (part_of world binding.endpoint) binding.binding)

@@ -12,58 +12,58 @@ use Rattle.sva_host.specs.Arriving.{answers}
 
 -- a step that asks neither groups nor jobs nor hands
 abbrev pub AsksNoService : Step → Type 0
-AsksNoService (step.Advance n) = ⊥
-AsksNoService (step.Serve e) = ⊥
-AsksNoService (step.Reset e) = ⊥
-AsksNoService (step.Take x) = ⊥
-AsksNoService (step.Reply x v) = ⊥
+AsksNoService (step.Advance binding) = ⊥
+AsksNoService (step.Serve endpoint) = ⊥
+AsksNoService (step.Reset endpoint) = ⊥
+AsksNoService (step.Take worker) = ⊥
+AsksNoService (step.Reply worker verdict) = ⊥
 AsksNoService _ = Unit {0}
 
 -- an endpoint asks for a translation, uses one, or lets go of one
 abbrev pub IsOfTranslations : Step → Type 0
-IsOfTranslations (step.Ask e t q) = Unit {0}
-IsOfTranslations (step.BeginUse e t q x) = Unit {0}
-IsOfTranslations (step.EndUse e u) = Unit {0}
-IsOfTranslations (step.Evict e t q) = Unit {0}
+IsOfTranslations (step.Ask endpoint pasid page) = Unit {0}
+IsOfTranslations (step.BeginUse endpoint pasid page write) = Unit {0}
+IsOfTranslations (step.EndUse endpoint slot) = Unit {0}
+IsOfTranslations (step.Evict endpoint pasid page) = Unit {0}
 IsOfTranslations _ = ⊥
 
 -- any step of an endpoint
 abbrev pub IsOfEndpoint : Step → Type 0
-IsOfEndpoint (step.Fault e t q r x group l) = Unit {0}
-IsOfEndpoint (step.Finish e vector count) = Unit {0}
-IsOfEndpoint (step.Quit e t) = Unit {0}
-IsOfEndpoint s = IsOfTranslations s
+IsOfEndpoint (step.Fault endpoint pasid page read write group last) = Unit {0}
+IsOfEndpoint (step.Finish endpoint vector count) = Unit {0}
+IsOfEndpoint (step.Quit endpoint pasid) = Unit {0}
+IsOfEndpoint other = IsOfTranslations other
 
 -- any step of spaces and frames, or of an endpoint
 abbrev pub IsOfSpaces : Step → Type 0
 IsOfSpaces step.Space = Unit {0}
-IsOfSpaces (step.DropSpace n) = Unit {0}
-IsOfSpaces (step.Map n q x) = Unit {0}
-IsOfSpaces (step.Unmap n q count) = Unit {0}
-IsOfSpaces (step.UnmapRange n q order) = Unit {0}
-IsOfSpaces (step.Look f) = Unit {0}
-IsOfSpaces s = IsOfEndpoint s
+IsOfSpaces (step.DropSpace space) = Unit {0}
+IsOfSpaces (step.Map space page write) = Unit {0}
+IsOfSpaces (step.Unmap space page count) = Unit {0}
+IsOfSpaces (step.UnmapRange space page order) = Unit {0}
+IsOfSpaces (step.Look frame) = Unit {0}
+IsOfSpaces other = IsOfEndpoint other
 
 -- a binding that a reset cut off
 abbrev pub IsCutOff : Option BindingWire → Type 0
 IsCutOff None = ⊥
-IsCutOff (Some b) = b.stage ≡ LostWire
+IsCutOff (Some binding) = binding.stage ≡ LostWire
 
 -- the steps whose room was made before, by what is kept then: they never want memory
 abbrev pub TakesNoMemory : Wire → Step → Type 0
-TakesNoMemory w (step.DropSpace n) = Unit {0}
-TakesNoMemory w (step.Unmap n q count) = Unit {0}
-TakesNoMemory w (step.UnmapRange n q order) = Unit {0}
-TakesNoMemory w (step.Unbind n) = IsCutOff (binding_of w n)
-TakesNoMemory w (step.Advance n) = Unit {0}
-TakesNoMemory w (step.Pump e) = sends_invalidate (unit_of w e) ≡ false
-TakesNoMemory w (step.Serve e) = (part_of w e).page_queue ≡ []
-TakesNoMemory w (step.Take x) = Unit {0}
-TakesNoMemory w (step.Reply x v) = reply_of w (step.Reply x v) ≡ Ok answer.Dropped
-TakesNoMemory w (step.BeginUse e t q x) = Unit {0}
-TakesNoMemory w (step.EndUse e u) = Unit {0}
-TakesNoMemory w (step.Evict e t q) = Unit {0}
-TakesNoMemory w (step.Deliver n) = answers w (flight_of w n) ≡ false
-TakesNoMemory w (step.Look f) = Unit {0}
-TakesNoMemory w (step.Bearer t) = Unit {0}
-TakesNoMemory w _ = ⊥
+TakesNoMemory world (step.DropSpace space) = Unit {0}
+TakesNoMemory world (step.Unmap space page count) = Unit {0}
+TakesNoMemory world (step.UnmapRange space page order) = Unit {0}
+TakesNoMemory world (step.Unbind binding) = IsCutOff (binding_of world binding)
+TakesNoMemory world (step.Advance binding) = Unit {0}
+TakesNoMemory world (step.Pump endpoint) = sends_invalidate (unit_of world endpoint) ≡ false
+TakesNoMemory world (step.Serve endpoint) = (part_of world endpoint).page_queue ≡ []
+TakesNoMemory world (step.Take worker) = Unit {0}
+TakesNoMemory world (step.Reply worker verdict) = reply_of world (step.Reply worker verdict) ≡ Ok answer.Dropped
+TakesNoMemory world (step.BeginUse endpoint pasid page write) = Unit {0}
+TakesNoMemory world (step.EndUse endpoint slot) = Unit {0}
+TakesNoMemory world (step.Evict endpoint pasid page) = Unit {0}
+TakesNoMemory world (step.Deliver message) = answers world (flight_of world message) ≡ false
+TakesNoMemory world (step.Look frame) = Unit {0}
+TakesNoMemory world (step.Bearer pasid) = Unit {0}
+TakesNoMemory world _ = ⊥

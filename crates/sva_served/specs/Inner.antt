@@ -14,7 +14,7 @@ wire_of served = with_service served.workers served.service served.kept
 
 -- no group is open at a unit that isn't there
 abbrev pub AreHoused : Wire → Service → Type 0
-AreHoused w s = (e : ℕ) → length w.parts ≤ e → groups_seen e s.groups ≡ []
+AreHoused world service = (endpoint : ℕ) → length world.parts ≤ endpoint → groups_seen endpoint service.groups ≡ []
 
 -- what always holds of a host and its service: the host itself keeps no group, job or hand, and each open group is of a unit that it has
 pub record IsServed (served : Inside) : Type 0 where

@@ -19,12 +19,12 @@ due_after message receipt = if is_accepted receipt.answer then message + 1 else 
 -- and after some calls
 abbrev pub due_at_last : (message : ℕ) → List Receipt → ℕ
 due_at_last message [] = message
-due_at_last message (r ∷ receipts) = due_at_last (due_after message r) receipts
+due_at_last message (receipt ∷ receipts) = due_at_last (due_after message receipt) receipts
 
 -- each call delivers the message that is due then
 abbrev pub AreDeliveries : (message : ℕ) → List Receipt → Type 0
 AreDeliveries message [] = Unit {0}
-AreDeliveries message (r ∷ receipts) = (r.step ≡ Deliver message) × AreDeliveries (due_after message r) receipts
+AreDeliveries message (receipt ∷ receipts) = (receipt.step ≡ Deliver message) × AreDeliveries (due_after message receipt) receipts
 
 -- The link has made these calls by its port, one in each turn but perhaps the last: it delivered the messages by their numbers, from 0 on,
 -- each tried until it was accepted.
@@ -50,7 +50,7 @@ service_at turn endpoints = if turn % 2 == 0 then Pump (endpoint_at turn endpoin
 -- each call is what is asked in its turn
 abbrev pub AreServices : (turn endpoints : ℕ) → List Receipt → Type 0
 AreServices turn endpoints [] = Unit {0}
-AreServices turn endpoints (r ∷ receipts) = (r.step ≡ service_at turn endpoints) × AreServices (turn + 1) endpoints receipts
+AreServices turn endpoints (receipt ∷ receipts) = (receipt.step ≡ service_at turn endpoints) × AreServices (turn + 1) endpoints receipts
 
 -- The service has made these calls by its port, one in each turn but perhaps the last: it pumped and served each endpoint in turn.
 pub record HasServed (config : Config) (endpoints turns_used turns_left : ℕ) (out_of_memory : Bool) (before after : Seat) : Type 0 where

@@ -8,7 +8,7 @@ use Rattle.sva_fabric.specs.Stocks.{LeaseNumbers, TicketNumbers}
 -- does one of them pass the test?
 abbrev pub one_passes : {X : Type 0} → (X → Bool) → List X → Bool
 one_passes test [] = false
-one_passes test (x ∷ xs) = test x || one_passes test xs
+one_passes test (item ∷ items) = test item || one_passes test items
 
 -- is the lease of the binding in hand, so that it can be unbound?
 abbrev pub has_lease : (binding : ℕ) → List LeaseNumbers → Bool

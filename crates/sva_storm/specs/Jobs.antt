@@ -33,12 +33,12 @@ holds_after true receipt = not (is_accepted receipt.answer)
 -- and after some calls?
 abbrev pub holds_at_last : Bool → List Receipt → Bool
 holds_at_last holds [] = holds
-holds_at_last holds (r ∷ receipts) = holds_at_last (holds_after holds r) receipts
+holds_at_last holds (receipt ∷ receipts) = holds_at_last (holds_after holds receipt) receipts
 
 -- each call takes a job where none is held, and else answers the one that is
 abbrev pub AreJobs : (worker : ℕ) → (holds : Bool) → List Receipt → Type 0
 AreJobs worker holds [] = Unit {0}
-AreJobs worker holds (r ∷ receipts) = IsJobStep worker holds r.step × AreJobs worker (holds_after holds r) receipts
+AreJobs worker holds (receipt ∷ receipts) = IsJobStep worker holds receipt.step × AreJobs worker (holds_after holds receipt) receipts
 
 -- A loop that began with no job in hand has made these calls by its port, one in each turn but perhaps the last: it took jobs, and
 -- answered each before it took the next.

@@ -38,12 +38,12 @@ lines_after lines receipt = if is_accepted receipt.answer then lines_behind line
 -- the lines that are left after some calls
 abbrev pub lines_left : List Step → List Receipt → List Step
 lines_left lines [] = lines
-lines_left lines (r ∷ receipts) = lines_left (lines_after lines r) receipts
+lines_left lines (receipt ∷ receipts) = lines_left (lines_after lines receipt) receipts
 
 -- each call is of the first line that is left then
 abbrev pub AreTries : List Step → List Receipt → Type 0
 AreTries lines [] = Unit {0}
-AreTries lines (r ∷ receipts) = IsFirst lines r.step × AreTries (lines_after lines r) receipts
+AreTries lines (receipt ∷ receipts) = IsFirst lines receipt.step × AreTries (lines_after lines receipt) receipts
 
 -- 1 for a use that begins, else 0
 abbrev pub begins : Step → ℕ
@@ -58,12 +58,12 @@ ends _ = 0
 -- how many uses began by some calls
 abbrev pub begun_by : List Receipt → ℕ
 begun_by [] = 0
-begun_by (r ∷ receipts) = (if is_accepted r.answer then begins r.step else 0) + begun_by receipts
+begun_by (receipt ∷ receipts) = (if is_accepted receipt.answer then begins receipt.step else 0) + begun_by receipts
 
 -- how many uses ended by some calls
 abbrev pub ended_by : List Receipt → ℕ
 ended_by [] = 0
-ended_by (r ∷ receipts) = (if is_accepted r.answer then ends r.step else 0) + ended_by receipts
+ended_by (receipt ∷ receipts) = (if is_accepted receipt.answer then ends receipt.step else 0) + ended_by receipts
 
 -- the first of these lines is one that is passed over, without a call
 abbrev pub IsPassed : (passes : Step → Bool) → List Step → Type 0
@@ -120,13 +120,13 @@ pub record HasCalledOnce (line : Step) (before after : Seat) (accepted : Bool) (
 
 -- what a turn that asks its line did to the port, and to the tickets in hand
 abbrev pub IsTry : Config → Step → (before after : Seat) → (tickets_before tickets_after : ℕ) → Turn → Type 0
-IsTry config line before after t u Accepted = HasCalledOnce line before after true t u
-IsTry config line before after t u Again = HasCalledOnce line before after false t u
-IsTry config line before after t u Memory = (after ≡ before) × (u ≡ t)
-IsTry config line before after t u Strayed = (after ≡ before) × (u ≡ t) × HasStrayed config before
+IsTry config line before after tickets_before tickets_after Accepted = HasCalledOnce line before after true tickets_before tickets_after
+IsTry config line before after tickets_before tickets_after Again = HasCalledOnce line before after false tickets_before tickets_after
+IsTry config line before after tickets_before tickets_after Memory = (after ≡ before) × (tickets_after ≡ tickets_before)
+IsTry config line before after tickets_before tickets_after Strayed = (after ≡ before) × (tickets_after ≡ tickets_before) × HasStrayed config before
 
 -- what a turn did: it passes over its line exactly where that is one that can't be asked with what is in hand, and then changes nothing
 abbrev pub IsTurn : Config → Step → (before after : Seat) → (hand_before hand_after : InHand) → Turn → Type 0
-IsTurn config line before after h k turn =
-    ((h.passes line ≡ true) × (turn ≡ Again) × (after ≡ before) × (k ≡ h))
-    ⊎ ((h.passes line ≡ false) × IsTry config line before after h.tickets k.tickets turn)
+IsTurn config line before after hand_before hand_after turn =
+    ((hand_before.passes line ≡ true) × (turn ≡ Again) × (after ≡ before) × (hand_after ≡ hand_before))
+    ⊎ ((hand_before.passes line ≡ false) × IsTry config line before after hand_before.tickets hand_after.tickets turn)

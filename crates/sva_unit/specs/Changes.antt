@@ -10,7 +10,7 @@ use Rattle.sva_unit.specs.Seen.{UnitSeen}
 
 -- how many ITags a completion with this vector and count frees
 abbrev pub freed_by : UnitWire → (vector count : ℕ) → ℕ
-freed_by unit vector count = count_below 32 (λ t. is_set vector t && is_last_of count (busy_at unit t))
+freed_by unit vector count = count_below 32 (λ itag. is_set vector itag && is_last_of count (busy_at unit itag))
 
 -- the unit once it has counted a completion (PCI Express Base 5.0, section 10.3.3): a named ITag is free where it was the last one owed
 abbrev pub unit_completed : UnitWire → (vector count : ℕ) → UnitWire

@@ -68,35 +68,35 @@ pass_next cookie false = Blocked
 
 -- is the wait done that stands at the head (Intel VT-d, "Invalidation Wait Descriptor", "Page Request Drain")?
 abbrev pub may_pass : UnitSeen → (drain : Bool) → Bool
-may_pass s drain = not (is_some_busy s.unit) && (not drain || length s.page_queue == 0)
+may_pass seen drain = not (is_some_busy seen.unit) && (not drain || length seen.page_queue == 0)
 
 -- what becomes of the first of these descriptors; with none the unit is idle
 abbrev pub next_at : UnitSeen → List Descriptor → Next
-next_at s [] = Idle
-next_at s (RangeDescriptor pasid range ∷ queue) = send_next pasid (Pages range) (lowest_label s.unit.busy)
-next_at s (PasidDescriptor pasid ∷ queue) = send_next pasid All (lowest_label s.unit.busy)
-next_at s (WaitDescriptor cookie drain ∷ queue) = pass_next cookie (may_pass s drain)
+next_at seen [] = Idle
+next_at seen (RangeDescriptor pasid range ∷ queue) = send_next pasid (Pages range) (lowest_label seen.unit.busy)
+next_at seen (PasidDescriptor pasid ∷ queue) = send_next pasid All (lowest_label seen.unit.busy)
+next_at seen (WaitDescriptor cookie drain ∷ queue) = pass_next cookie (may_pass seen drain)
 
 -- what becomes of the head
 abbrev pub next_of : UnitSeen → Next
-next_of s = next_at s s.unit.queue
+next_of seen = next_at seen seen.unit.queue
 
 -- what the definitions answer and move at that
 abbrev pub pumped : (endpoint : ℕ) → Next → Result
-pumped e Idle = says answer.Idle []
-pumped e Blocked = says answer.Blocked []
-pumped e (Send sending) = by_one (answer.Itag sending.itag) (Move.Send e sending.itag sending.pasid (extent_seen sending.extent))
-pumped e (Pass cookie) = by_one answer.WaitDone (Move.Pass e cookie)
+pumped endpoint Idle = says answer.Idle []
+pumped endpoint Blocked = says answer.Blocked []
+pumped endpoint (Send sending) = by_one (answer.Itag sending.itag) (Move.Send endpoint sending.itag sending.pasid (extent_seen sending.extent))
+pumped endpoint (Pass cookie) = by_one answer.WaitDone (Move.Pass endpoint cookie)
 
 -- the unit at its endpoint, with whatever stands beside it there
 abbrev pub at_endpoint : UnitSeen → DeviceWire → List HostGroupWire → EndpointWire
-at_endpoint s device groups = record { device = device; unit = s.unit; page_queue = s.page_queue; host_groups = groups }
+at_endpoint seen device groups = record { device = device; unit = seen.unit; page_queue = seen.page_queue; host_groups = groups }
 
 -- it is what the definitions by labels do
 abbrev pub IsPump : UnitSeen → Next → Type 0
-IsPump s next =
+IsPump seen next =
     (endpoint : ℕ) (device : DeviceWire) (groups : List HostGroupWire)
-    → pump_result (at_endpoint s device groups) endpoint s.unit.queue ≡ pumped endpoint next
+    → pump_result (at_endpoint seen device groups) endpoint seen.unit.queue ≡ pumped endpoint next
 
 -- the unit once the invalidation at the head is sent under this ITag; once the wait at the head is passed
 abbrev pub unit_sent : UnitWire → (itag : ℕ) → UnitWire

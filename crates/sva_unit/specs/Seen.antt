@@ -64,7 +64,7 @@ with_unit old unit = record old { unit = unit }
 
 -- the invalidations of ranges, one behind another
 abbrev pub ranges_for : (pasid page count order : ℕ) → List Descriptor
-ranges_for pasid page count order = tabulate count (λ j. Range pasid (range_at page order j))
+ranges_for pasid page count order = tabulate count (λ number. Range pasid (range_at page order number))
 
 -- the same, and the wait behind them
 abbrev pub orders_for : (pasid page count order cookie : ℕ) → List Descriptor

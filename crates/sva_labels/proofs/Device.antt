@@ -15,7 +15,7 @@ use Rattle.sva_model.specs.Acts.LocalAct.{Complete, Count, Arrive, Miss, Mark, I
 use Rattle.sva_model.specs.Wire.{DeviceWire, device_wire}
 use Rattle.sva_laws.proofs.Legal.{LegalLocalAct}
 use Rattle.sva_laws.proofs.Bounds.{Bounds}
-use Rattle.sva_laws.proofs.Bindings.{is_unmarked}
+use Rattle.sva_laws.proofs.Bindings.{is_unmarked, unmarked_unreleased}
 use Rattle.sva_laws.proofs.Labels.{Labels}
 use Rattle.sva_laws.proofs.Invariant.{PartInvariant}
 use Rattle.sva_labels.specs.Moves.{stale_of}
@@ -29,7 +29,6 @@ use Rattle.sva_labels.proofs.DeviceOrders.{taken_bound, taken_drained, taken_inv
 use Rattle.sva_labels.proofs.DeviceOrders.{taken_begun, taken_counted, taken_reopened}
 use Rattle.sva_labels.proofs.DeviceFinished.{taken_finished, taken_taken, taken_ended, taken_cleared}
 use Rattle.sva_labels.proofs.DeviceGroups.{groups_bound, groups_opened, groups_requested, groups_quit, groups_answered, groups_cleared}
-use Rattle.sva_laws.proofs.Found.{unmarked_unreleased}
 
 -- a message that counts completions, or is let go, changes nothing that the device keeps
 count_leaves : (first e c : ℕ) (d : DeviceWire) (m : Message) → device_moved d (count_move first e c m) ≡ d

@@ -14,7 +14,7 @@ use Rattle.sva_laws.proofs.Words.{put-same, put-other}
 use Rattle.sva_laws.proofs.Legal.{LegalLocalAct}
 use Rattle.sva_laws.proofs.Bounds.{Bounds}
 use Rattle.sva_laws.proofs.Labels.{Labels}
-use Rattle.sva_laws.proofs.Orders.{Orders}
+use Rattle.sva_laws.proofs.Orders.{Orders, taken_busy}
 use Rattle.sva_laws.proofs.Owners.{Owners}
 use Rattle.sva_labels.specs.Moves
 use Rattle.sva_labels.specs.Moves.{without_named, unnoted}
@@ -41,11 +41,8 @@ taken_finished ms g n p names vector count l la =
         same : (j : ℕ) → p.at_itag (p.itag j) ≡ Some j → p.itag j ≡ t → j ≡ k
         same j a e = grind (arith)
 
-        busy : (s : OrderState) → is_taken s ≡ true → is_busy s ≡ true
-        busy s h = grind arith
-
         by_bit : (j : ℕ) × (names j ≡ true) × (p.itag j ≡ t) → names k ≡ true
-        by_bit (j, n, e) = sym (ap names (same j (la.bears_itag j (busy (p.order_state j) (l.1 j n))) e)) ∙ n
+        by_bit (j, n, e) = sym (ap names (same j (la.bears_itag j (taken_busy (p.order_state j) (l.1 j n))) e)) ∙ n
 
     -- and that of another isn't
     unnamed : (t k : ℕ) → p.at_itag t ≡ Some k → Labels.is_set vector t ≡ false → (b : Bool) → names k ≡ b → b ≡ false

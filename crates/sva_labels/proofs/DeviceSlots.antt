@@ -13,7 +13,7 @@ use Rattle.sva_laws.proofs.Words.{put-same, put-other}
 use Rattle.sva_laws.proofs.Legal.{LegalLocalAct}
 use Rattle.sva_laws.proofs.Bounds.{Bounds}
 use Rattle.sva_laws.proofs.Labels.{Labels, has_slot}
-use Rattle.sva_laws.proofs.Orders.{is_active}
+use Rattle.sva_laws.proofs.Orders.{is_active, active_unreleased}
 use Rattle.sva_laws.proofs.Owners.{Owners}
 use Rattle.sva_labels.specs.Moves.{killed}
 use Rattle.sva_labels.proofs.DeviceRows.{row_same, row_set, row_map}
@@ -31,10 +31,7 @@ slot_made p g u bo h = grind (arith, bo.use_state u)
 
 -- a running use is of a binding that isn't released
 pub running_unreleased : (ms : Mappings) (p : Endpoint) (u : ℕ) → Owners ms p → p.use_state u ≡ Running → is_unreleased (p.stage (p.use_binding u)) ≡ true
-running_unreleased ms p u ow h = unreleased (p.stage (p.use_binding u)) (ow.running u h)
-  where
-    unreleased : (s : Stage) → is_active s ≡ true → is_unreleased s ≡ true
-    unreleased s h = grind arith
+running_unreleased ms p u ow h = active_unreleased (p.stage (p.use_binding u)) (ow.running u h)
 
 -- a new binding isn't that of a running use
 pub slots_bound :

@@ -2,6 +2,7 @@
 -- keeps holds after every list of steps.
 use Rattle.std.proofs.Common.{◌≡◌, refl, ap, ◌∙◌, ℕ, suc, ◌+◌, ◌^◌, ◌<◌, ◌≤◌, Bool, true, false, arith}
 use Rattle.std.specs.Prelude.{Option, Some, None, ◌&&◌, not, ◌==◌, if◌then◌else◌, List, [], ◌∷◌, ◌++◌, Err}
+use Rattle.std.proofs.lemmas.Bool.{ltb-false}
 use Rattle.sva_step.specs.declared.limits.Config.{Config}
 use Rattle.sva_step.specs.declared.steps.Step.{Step}
 use Rattle.sva_step.specs.declared.steps.Step.TheVariants as step
@@ -29,7 +30,7 @@ use Rattle.sva_model.specs.Steps.{checked, decide, next, run, after_acts, world_
 use Rattle.sva_laws.proofs.Words.{any_below-false}
 use Rattle.sva_laws.proofs.Invariant.{Invariant}
 use Rattle.sva_laws.proofs.Keeps.{Legal, act_keeps}
-use Rattle.sva_laws.proofs.Passed.{Passed, LegalAll, is_at_most}
+use Rattle.sva_laws.proofs.Passed.{Passed, LegalAll}
 use Rattle.sva_laws.proofs.Runs.{step_legal, next_keeps, opened_invariant}
 
 -- a translation is kept where the cache has room for it
@@ -67,7 +68,7 @@ checked_granted w (c ∷ cs) o f = go (λ e. checked_granted w cs o (λ k. f (e,
     go rest false e = rest e
 
 left : (w : World) (count needed : ℕ) → Labels.lacks w count needed ≡ false → w.config.first + count + needed ≤ 2 ^ 63
-left w count needed h = is_at_most (2 ^ 63) (w.config.first + count + needed) h
+left w count needed h = ltb-false (2 ^ 63) (w.config.first + count + needed) h
 
 -- an act that sends nothing and gives out no cookie; one that sends; one that gives out a cookie
 free_of : (w : World) (e : ℕ) (o : LocalAct) → sends o ≡ 0 → cookies_of o ≡ 0 → HasRoom (w.part e) o → IsPaid w e o
@@ -82,7 +83,7 @@ waiting w e o s c r = record { messages = λ h. absurd (omega (arith, s, h)); co
 -- Unmapping.
 
 no_room_short : (p : Endpoint) (n : ℕ) → is_queue_short p n ≡ false → Labels.queue_length p + n ≤ 64
-no_room_short p n h = is_at_most 64 (Labels.queue_length p + n) h
+no_room_short p n h = ltb-false 64 (Labels.queue_length p + n) h
 
 both_false : (a b : Bool) → (a && b) ≡ false → a ≡ true → b ≡ false
 both_false true b h e = h

@@ -3,6 +3,7 @@
 use Rattle.std.proofs.Common.{◌≡◌, ◌≢◌, ◌⊎◌, inl, inr, refl, ap, sym, subst, ◌∙◌, ℕ, ◌+◌, ◌<◌, ◌≤◌, Bool, true, false, arith}
 use Rattle.std.specs.Prelude.{Option, Some, None, nat_lt, if◌then◌else◌, slice_get, slice_index_or}
 use Rattle.std.proofs.lemmas.Bool.Decides.{nat_tests}
+use Rattle.std.proofs.lemmas.Bool.{lt-ltb}
 use Rattle.sva_model.specs.Words.{all_below, tabulate}
 use Rattle.sva_model.specs.State.{Owed, MappingState, Endpoint, World, Stage, Order, OrderState}
 use Rattle.sva_model.specs.State.Owed.{Nothing, Ranges, Pasid, NextReset}
@@ -71,9 +72,6 @@ target_stands first n p v c ph a h = go (answered p v) refl h
     go true e k = absurd (cc (k))
     go false e k = owed_stands first p v c ph (a e) k
 
-less_of : (a b : ℕ) → a < b → nat_lt a b ≡ true
-less_of a b l = grind (arith, nat_tests)
-
 -- by the latest mapping of a frame
 awaited_of :
     (w : World) → AllFronts w → AllDebts w → w.config.endpoints ≤ 8 → (e c : ℕ) → e < w.config.endpoints → (w.part e).phase ≡ Open → (o : Option ℕ)
@@ -88,7 +86,7 @@ awaited_of w fs ds most e c l ph (Some m) h = by_state (w.mappings.state m) refl
         → HasWait (unit_wire w.config.first (w.part e)) c
     at_unit owed g k =
         target_stands w.config.first w.cookies (w.part e) (owed e) c ph (λ a. awaits w.cookies (w.part e) (owed e) (fs e) (ds m e owed g) a)
-        (ap (λ b. if b then target_wire w.config.first (w.part e) (owed e) else None) (sym (less_of e w.config.endpoints l))
+        (ap (λ b. if b then target_wire w.config.first (w.part e) (owed e) else None) (sym (lt-ltb e w.config.endpoints l))
         ∙ sym (tabulate_at 8 (target_at w.config.first w.config.endpoints w.part owed) e None (omega (arith, l, most)))
         ∙ k)
 

@@ -3,6 +3,7 @@
 use Rattle.std.proofs.Common.{◌≡◌, refl, ap, ap₂, sym, ◌∙◌, ℕ, ◌+◌, ◌*◌, ◌^◌, ◌<◌, ◌≤◌, Bool, true, false, arith}
 use Rattle.std.specs.Prelude.{Some, None, Option, option_map, ◌&&◌, nat_lt, if◌then◌else◌, length, map, filter}
 use Rattle.std.proofs.lemmas.Bool.Decides.{nat_tests}
+use Rattle.std.proofs.lemmas.Bool.{ltb-true}
 use Rattle.sva_model.specs.Words.{count_below, select, tabulate, is_some}
 use Rattle.sva_model.specs.State.{Owed, Mappings, Endpoint, World, Stage}
 use Rattle.sva_model.specs.State.Stage.{Unbound, Live, Stopping, Draining, Invalidating, Quiet, Lost, Released}
@@ -148,8 +149,6 @@ targets_are w s q count order i fronts =
     (λ e. if nat_lt e n then target_by (unit_of (wire w) e) (cookie_at (wire w) (number w.config.first s) e)
     (bound_at (wire w) e (number w.config.first s)) else None)) (tabulate_length w.config.endpoints (λ x. part_wire w.config.first w.mappings (w.part x))))
   where
-    less : (a b : ℕ) → nat_lt a b ≡ true → a < b
-    less a b k = grind (arith, nat_tests)
 
     at :
         (e : ℕ) (b : Bool) → nat_lt e w.config.endpoints ≡ b
@@ -158,7 +157,7 @@ targets_are w s q count order i fronts =
         else None)
     at e false k = refl
     at e true k =
-        let l = less e w.config.endpoints k in
+        let l = ltb-true e w.config.endpoints k in
         target_new w.cookies w.config.first e (w.part e) (bound w e s) q count order (cookie_of w s e) (i.parts e).orders (fronts e)
         ∙ sym (λ k. target_by (part_is w e l k).unit (cookie_is w s e i (omega (arith, l)) k) (bound_is w e s i k))
 

@@ -23,6 +23,7 @@ use Rattle.sva_model.specs.Wire.StageWire.{StoppingWire, DrainingWire, Invalidat
 use Rattle.sva_model.specs.Wire.UseWire.{RunningWire}
 use Rattle.sva_model.specs.Wire.BusyWire.{Fresh, Counting}
 use Rattle.sva_model.specs.Wire.Descriptor.{RangeDescriptor, PasidDescriptor, WaitDescriptor}
+pub use Rattle.sva_laws.specs.Laws.{count_read}
 use Rattle.sva_labels.specs.Finding.{pages_in, page_at, is_mapped, frames_of, lowest_free, free_from, binding_of, bearer, pasid_for, is_live, part_of}
 use Rattle.sva_labels.specs.Finding.{device_of, unit_of, lowest_label, is_some_busy, cached, is_at_page, use_at, tag_at, group_at, busy_at, held_by}
 use Rattle.sva_labels.specs.Finding.{flight_of}
@@ -223,11 +224,6 @@ completion_of tag (Some entry) = CompletionMessage tag entry.frame true entry.wr
 abbrev pub request_result : Wire → (endpoint message tag pasid page : ℕ) → Bool → Result
 request_result w e n tag t q true = by_one answer.Completion (Move.Complete e n (completion_of tag (found_for w q (bearer w e t))))
 request_result w e n tag t q false = by_one answer.Dropped (Move.Ignore n)
-
--- the Completion Count as it is read (PCI Express Base 5.0, section 10.3.2)
-abbrev pub count_read : (field : ℕ) → ℕ
-count_read zero = 8
-count_read (suc n) = suc n
 
 -- would one completion more of so many free the ITag?
 abbrev pub is_last_of : (count : ℕ) → Option BusyWire → Bool

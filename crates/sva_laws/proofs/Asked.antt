@@ -3,6 +3,7 @@ use Rattle.std.proofs.Common.{◌≡◌, ◌≢◌, ◌⊎◌, inl, inr, refl, a
 use Rattle.std.specs.Prelude.{Option, Some, None, ◌&&◌, ◌||◌, ◌==◌, nat_lt, List, [], ◌∷◌, ◌++◌, map, length, if◌then◌else◌, Ok}
 use Rattle.std.specs.List.{list_any}
 use Rattle.std.proofs.lemmas.Bool.Decides.{nat_tests}
+use Rattle.std.proofs.lemmas.Bool.{cases_lt, eq-eqb, eqb-true, ltb-false, not-false}
 use Rattle.sva_step.specs.declared.answers.Answer.{Answer}
 use Rattle.sva_step.specs.declared.answers.Answer.TheVariants as answer
 use Rattle.sva_step.specs.declared.limits.Config.{Config}
@@ -28,7 +29,6 @@ use Rattle.sva_model.specs.Steps.{reply, after_acts, world_after}
 use Rattle.sva_laws.specs.Asked.{IsAskedFor, IsAskedToWrite, MapsWhatIsAsked, RepliesBy, stage_of}
 use Rattle.sva_laws.proofs.Words.{put-same, put-other, ℕ_cases}
 use Rattle.sva_laws.proofs.Counting.{length_select}
-use Rattle.sva_laws.proofs.Passed.{is_at_most}
 use Rattle.sva_laws.proofs.Lookback.{after_one}
 use Rattle.sva_laws.proofs.Told.{accepted}
 
@@ -154,20 +154,14 @@ asked_is w j q h =
     let x = map_has p.asked_page (asks p (w.job j).group) q h in
     let y = map_has p.filing (select p.filings is_of) x.0 x.1 in
     let z = select_has p.filings is_of y.0 y.1 in
-    record { filing = y.0; filed = z.0; of_group = same (p.group_of (p.filing y.0)) (w.job j).group z.1; of_page = ap p.asked_page y.2 ∙ x.2 }
-  where
-    same : (a b : ℕ) → (a == b) ≡ true → a ≡ b
-    same a b h = grind (arith, nat_tests)
-
-is_same : (a b : ℕ) → a ≡ b → (a == b) ≡ true
-is_same a b h = grind (arith, nat_tests)
+    record { filing = y.0; filed = z.0; of_group = eqb-true (p.group_of (p.filing y.0)) (w.job j).group z.1; of_page = ap p.asked_page y.2 ∙ x.2 }
 
 filed_asks : (w : World) (j k : ℕ) → k < (job_part w j).filings → (job_part w j).group_of ((job_part w j).filing k) ≡ (w.job j).group
     → Has (asks (job_part w j) (w.job j).group) ((job_part w j).filing k)
 filed_asks w j k l g =
     let p = job_part w j in
     has_map p.filing (select p.filings (λ i. p.group_of (p.filing i) == (w.job j).group)) k
-    (has_select p.filings (λ i. p.group_of (p.filing i) == (w.job j).group) k l (is_same (p.group_of (p.filing k)) (w.job j).group g))
+    (has_select p.filings (λ i. p.group_of (p.filing i) == (w.job j).group) k l (eq-eqb (p.group_of (p.filing k)) (w.job j).group g))
 
 is_asked : (w : World) (j q : ℕ) → IsAskedFor w j q → Has (map (job_part w j).asked_page (asks (job_part w j) (w.job j).group)) q
 is_asked w j q a =
@@ -185,13 +179,11 @@ written_is w j q h =
     record {
       filing = y.0;
       filed = z.0;
-      of_group = same (p.group_of (p.filing y.0)) (w.job j).group z.1;
+      of_group = eqb-true (p.group_of (p.filing y.0)) (w.job j).group z.1;
       of_page = ap p.asked_page y.2 ∙ first (p.asked_page x.0) q (p.asks_write x.0) x.2;
       writes = ap p.asks_write y.2 ∙ second (p.asked_page x.0) q (p.asks_write x.0) x.2;
     }
   where
-    same : (a b : ℕ) → (a == b) ≡ true → a ≡ b
-    same a b h = grind (arith, nat_tests)
 
     first : (a b : ℕ) (t : Bool) → (a == b && t) ≡ true → a ≡ b
     first a b t h = grind (arith, nat_tests)
@@ -224,7 +216,7 @@ none_mapped w x e o s write =
 one_more : (w v : World) (s q f : ℕ) (write : ℕ → Bool) (qs : List ℕ) → MapsEach (act w (Map s q f (write q))) v s write qs → MapsEach w v s write (q ∷ qs)
 one_more w v s q f write qs b =
     record {
-      new = λ m l k. new m l k (less_or m (suc w.mappings.made));
+      new = λ m l k. new m l k (cases_lt m (suc w.mappings.made));
       all = λ r h. all r h;
       kept = λ m l.
           let y = b.kept m (omega (arith, l)) in
@@ -233,8 +225,6 @@ one_more w v s q f write qs b =
       still = λ r h. b.still r (was r h (ℕ_cases r q));
     }
   where
-    less_or : (a c : ℕ) → (a < c) ⊎ (c ≤ a)
-    less_or a c = grind arith
 
     at : (act w (Map s q f (write q))).mappings.at s ≡ put (w.mappings.at s) q (Some w.mappings.made)
     at = put-same w.mappings.at s (put (w.mappings.at s) q (Some w.mappings.made))
@@ -308,7 +298,7 @@ success_maps w x j v (Some SuccessCode) count r a room =
     (is_write_asked w j) (newly_mapped w j)) (sym succeeds)
     (all_mapped (job_space w j) (is_write_asked w j) (newly_mapped w j) (free_list w) x (w.job j).endpoint sent w
     (subst (λ n. length (newly_mapped w j) ≤ n) (sym (length_select w.config.frames (is_free w)))
-    (is_at_most (free_frames w) (length (newly_mapped w j)) (second (replies_success w j v) _ room succeeds))))
+    (ltb-false (free_frames w) (length (newly_mapped w j)) (second (replies_success w j v) _ room succeeds))))
   where
     sent : LocalAct
     sent = LocalAct.Respond (w.job j).group SuccessCode

@@ -2,6 +2,8 @@
 use Rattle.std.proofs.Common.{◌≡◌, ◌≢◌, ◌⊎◌, inl, inr, refl, ap, sym, subst, ◌∙◌, ℕ, suc, ◌+◌, ◌<◌, ◌≤◌, Bool, true, false, arith, append_assoc}
 use Rattle.std.specs.Prelude.{Option, Some, None, List, [], ◌∷◌, ◌++◌, if◌then◌else◌}
 use Rattle.std.proofs.lemmas.Bool.Decides.{nat_tests}
+use Rattle.std.proofs.lemmas.Bool.{cases_lt}
+use Rattle.std.proofs.lemmas.List.{append-nil}
 use Rattle.sva_step.specs.declared.limits.Config.{Config}
 use Rattle.sva_step.specs.declared.steps.Step.{Step}
 use Rattle.sva_model.specs.State.{PasidRule, Mappings, Order, OrderState, Endpoint, World, opened}
@@ -19,14 +21,14 @@ use Rattle.sva_laws.proofs.Bounds.{Bounds}
 use Rattle.sva_laws.proofs.Invariant.{Invariant, PartInvariant}
 use Rattle.sva_laws.proofs.Keeps.{put_keeps}
 use Rattle.sva_laws.proofs.Passed.{LegalAll}
-use Rattle.sva_laws.proofs.Cookies.{less_or_not, own_old}
+use Rattle.sva_laws.proofs.Cookies.{own_old}
 use Rattle.sva_laws.proofs.Fronts.{Fronts, AllFronts, HasGreatest, more_orders, always_fronts}
 use Rattle.sva_laws.proofs.Targets.{queued_front, done_below}
 use Rattle.sva_laws.proofs.Debts.{behind_kept, behind_submitted}
 use Rattle.sva_laws.proofs.PartRuns.{IsKeptByParts, run_part}
 use Rattle.sva_laws.proofs.StepKinds.{Kind, is_calm, is_calm_own, are_calm, step_kind}
 use Rattle.sva_laws.proofs.StepKinds.Kind.{calm, single, unmapping}
-use Rattle.sva_laws.proofs.Lookback.{run_append, after_one, append_none}
+use Rattle.sva_laws.proofs.Lookback.{run_append, after_one}
 use Rattle.sva_laws.proofs.Runs.{always, step_legal}
 
 -- The front doesn't fall.
@@ -301,7 +303,7 @@ own_turns w e o false z l i f =
           let old = sym (own_old (w.part e) w.messages o k made) ∙ h in
           let void = was_void w.mappings w.bindings w.messages (w.part e) o l z k made v in
           let same = same_resets (w.part e) w.messages o z in
-          (made, old, void, inl (side k c x made old void a (less_or_not c (w.part e).front), omega (arith, same)));
+          (made, old, void, inl (side k c x made old void a (cases_lt c (w.part e).front), omega (arith, same)));
     }
   where
     contrary : (k c : ℕ) → (w.part e).order_state k ≡ Void → c < (act_alone (w.part e) w.messages o).front → (w.part e).front ≤ c
@@ -332,7 +334,7 @@ own_turns w e LocalAct.Reset true z l i f =
 own_turns w e (LocalAct.Reopen c) true z l i f =
     record {
       ahead = λ k d x m h v a. let low = f.below k d x m h in absurd (omega (arith, low, a));
-      past = λ k d x m h v a. (m, h, void k d x m h (was_undone ((w.part e).order_state k) v) (less_or_not d (w.part e).front), inr (omega arith));
+      past = λ k d x m h v a. (m, h, void k d x m h (was_undone ((w.part e).order_state k) v) (cases_lt d (w.part e).front), inr (omega arith));
     }
   where
     closed : is_open (w.part e).phase ≡ false
@@ -450,7 +452,7 @@ moments_next rule c ss s e old =
     ahead k d x (m, h, same, inr (v, low)) = queued_more rule c ss s e k same (old.ahead k d x m h v low)
 
 moments_along : (rule : PasidRule) (c : Config) (rest before : List Step) (e : ℕ) → HasMoments rule c before e → HasMoments rule c (before ++ rest) e
-moments_along rule c [] before e old = subst (λ z. HasMoments rule c z e) (sym (append_none before)) old
+moments_along rule c [] before e old = subst (λ z. HasMoments rule c z e) (sym (append-nil before)) old
 moments_along rule c (s ∷ rest) before e old =
     subst (λ z. HasMoments rule c z e) (append_assoc before (s ∷ []) rest)
     (moments_along rule c rest (before ++ s ∷ []) e (moments_next rule c before s e old))

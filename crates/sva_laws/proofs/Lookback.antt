@@ -3,6 +3,7 @@ use Rattle.sva_model.specs.State.{PasidRule}
 use Rattle.std.proofs.Common.{◌≡◌, ◌≢◌, ◌⊎◌, inl, inr, refl, ap, sym, subst, ◌∙◌, ℕ, ◌*◌, ◌^◌, ◌≤◌, Bool, true, false, arith, append_assoc}
 use Rattle.std.specs.Prelude.{Some, ◌&&◌, ◌==◌, List, [], ◌∷◌, ◌++◌}
 use Rattle.std.proofs.lemmas.Bool.Decides.{nat_tests}
+use Rattle.std.proofs.lemmas.List.{append-nil}
 use Rattle.sva_step.specs.declared.limits.Config.{Config}
 use Rattle.sva_step.specs.declared.steps.Step.{Step}
 use Rattle.sva_model.specs.State.{Owed, MappingState, World, opened}
@@ -24,10 +25,6 @@ pub use Rattle.sva_model.proofs.FullSpace.{run_on as run_append}
 
 pub after_one : (rule : PasidRule) (c : Config) (ss : List Step) (s : Step) → world_after rule c (ss ++ s ∷ []) ≡ next (world_after rule c ss) s
 after_one rule c ss s = run_append ss (s ∷ []) (opened rule c)
-
-pub append_none : (xs : List Step) → xs ++ [] ≡ xs
-append_none [] = refl
-append_none (x ∷ xs) = ap (λ ys. x ∷ ys) (append_none xs)
 
 pub one_more : (before : List Step) (s : Step) (some : List Step) (t : Step) → before ++ s ∷ (some ++ t ∷ []) ≡ (before ++ s ∷ some) ++ t ∷ []
 one_more before s some t = sym (append_assoc before (s ∷ some) (t ∷ []))
@@ -199,8 +196,8 @@ went_along : (rule : PasidRule) (c : Config) (rest before : List Step)
     → ((m : ℕ) (owed : ℕ → Owed) → (world_after rule c before).mappings.state m ≡ Gone owed → WentAt rule c before m owed)
     → (m : ℕ) (owed : ℕ → Owed) → (world_after rule c (before ++ rest)).mappings.state m ≡ Gone owed → WentAt rule c (before ++ rest) m owed
 went_along rule c [] before old m owed h =
-    subst (λ z. WentAt rule c z m owed) (sym (append_none before))
-    (old m owed (subst (λ z. (world_after rule c z).mappings.state m ≡ Gone owed) (append_none before) h))
+    subst (λ z. WentAt rule c z m owed) (sym (append-nil before))
+    (old m owed (subst (λ z. (world_after rule c z).mappings.state m ≡ Gone owed) (append-nil before) h))
 went_along rule c (s ∷ rest) before old m owed h =
     subst (λ z. WentAt rule c z m owed) (append_assoc before (s ∷ []) rest)
     (went_along rule c rest (before ++ s ∷ []) (went_next rule c before s old) m owed

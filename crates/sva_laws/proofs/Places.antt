@@ -2,6 +2,7 @@
 use Rattle.std.proofs.Common.{◌≡◌, ◌≢◌, ◌⊎◌, inl, inr, refl, ap, sym, subst, ◌∙◌, ℕ, zero, suc, ◌+◌, ◌<◌, ◌≤◌, Bool, true, false, arith}
 use Rattle.std.specs.Prelude.{Option, Some, None, ◌&&◌, not, if◌then◌else◌, List, [], ◌∷◌}
 use Rattle.std.proofs.lemmas.Bool.Decides.{nat_tests}
+use Rattle.std.proofs.lemmas.Bool.{ltb-false}
 use Rattle.sva_step.specs.declared.answers.Answer.{Answer}
 use Rattle.sva_step.specs.declared.limits.Config.{Config}
 use Rattle.sva_step.specs.declared.steps.Step.{Step}
@@ -23,7 +24,7 @@ use Rattle.sva_laws.proofs.Legal.{LegalLocalAct}
 use Rattle.sva_laws.proofs.Bounds.{Bounds}
 use Rattle.sva_laws.proofs.Invariant.{Invariant}
 use Rattle.sva_laws.proofs.Keeps.{Legal, act_keeps, put_keeps}
-use Rattle.sva_laws.proofs.Passed.{LegalAll, is_at_most}
+use Rattle.sva_laws.proofs.Passed.{LegalAll}
 use Rattle.sva_laws.proofs.Cookies.{submits_there}
 use Rattle.sva_laws.proofs.Runs.{step_legal, next_keeps, opened_invariant}
 use Rattle.sva_laws.proofs.Rooms.{by_passed}
@@ -110,7 +111,7 @@ acts_short z (a ∷ acts) w t m l h = acts_short z acts (act w a) t m.1 l.1 (act
 
 -- a step that does
 no_room_short : (p : Endpoint) (n : ℕ) → is_queue_short p n ≡ false → queue_length p + n ≤ 64
-no_room_short p n h = is_at_most 64 (queue_length p + n) h
+no_room_short p n h = ltb-false 64 (queue_length p + n) h
 
 second_false : (a b : Bool) → (a && b) ≡ false → a ≡ true → b ≡ false
 second_false true b h e = h

@@ -17,7 +17,7 @@ use Rattle.sva_model.specs.Acts.Act.{Unmap}
 use Rattle.sva_laws.proofs.Words.{put-same, put-other, ℕ_cases, find_passes, find_some}
 use Rattle.sva_model.specs.Words.{put_range, unless}
 use Rattle.sva_laws.proofs.Bounds.{Bounds}
-use Rattle.sva_laws.proofs.Orders.{is_active}
+use Rattle.sva_laws.proofs.Orders.{is_active, active_unreleased}
 use Rattle.sva_laws.proofs.Owners.{blocks}
 use Rattle.sva_laws.proofs.Safe.{IsAhead, Pending, IsSafe, owed_of}
 use Rattle.sva_laws.proofs.Invariant.{Invariant}
@@ -137,9 +137,6 @@ new_pending p b q page count order age cookie act inside =
     go Quiet h a = absurd (cc)
     go Lost h a = absurd (cc)
     go Released h a = absurd (cc)
-
-pub active_unreleased : (s : Stage) → is_active s ≡ true → is_unreleased s ≡ true
-active_unreleased s h = grind arith
 
 -- a usable translation stays safe when pages are unmapped
 pub unmap_safe : (w : World) (s q count order e b m age : ℕ) → Invariant w → is_active ((w.part e).stage b) ≡ true → w.mappings.space m

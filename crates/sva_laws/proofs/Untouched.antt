@@ -2,6 +2,7 @@
 use Rattle.std.proofs.Common.{◌≡◌, ◌≢◌, ◌⊎◌, inl, inr, refl, ap, sym, subst, ◌∙◌, ℕ, ◌<◌, Bool, true, false, arith}
 use Rattle.std.specs.Prelude.{Option, Some, None, ◌&&◌, ◌||◌, ◌==◌, List, [], ◌∷◌, ◌++◌, if◌then◌else◌, Ok, Err}
 use Rattle.std.proofs.lemmas.Bool.Decides.{nat_tests}
+use Rattle.std.proofs.lemmas.Bool.{not-false}
 use Rattle.sva_step.specs.declared.answers.Answer.{Answer}
 use Rattle.sva_step.specs.declared.answers.Answer.TheVariants as answer
 use Rattle.sva_step.specs.declared.limits.Config.{Config}
@@ -28,7 +29,7 @@ use Rattle.sva_model.specs.Outcomes.{Outcome, outcome, subject_outcome, deliver_
 use Rattle.sva_model.specs.Steps.{Reply, checked, reply, decide, next, after_acts, world_after}
 use Rattle.sva_laws.specs.UnitSteps.{Delivers}
 use Rattle.sva_laws.specs.Untouched.{Evicts, Takes, Brings, Stops, Quits, Asks, Disables, CutsOff, DrainsOnce, is_of_endpoint}
-use Rattle.sva_laws.proofs.Words.{put-same, put-other, not_true}
+use Rattle.sva_laws.proofs.Words.{put-same, put-other}
 use Rattle.sva_laws.proofs.Legal.{LegalLocalAct}
 use Rattle.sva_laws.proofs.Invariant.{Invariant}
 use Rattle.sva_laws.proofs.Keeps.{Legal, put_keeps}
@@ -87,7 +88,7 @@ always_evicts rule config steps e t q said h =
     later_part rule config steps (step.Evict e t q) e (λ z. Evicts p z t q)
     (subst (λ z. Evicts p z t q)
     (sym (accepted_part w (step.Evict e t q) e (LocalAct.Evict (Labels.cached p (Labels.bearer p t) q)) said h refl))
-    (own_evicts p w.messages t q (cached_is p t q (not_true (Labels.is_cached p t q) yes.0.1.1.0))))
+    (own_evicts p w.messages t q (cached_is p t q (not-false (Labels.is_cached p t q) yes.0.1.1.0))))
 
 -- An invalidation that is taken.
 

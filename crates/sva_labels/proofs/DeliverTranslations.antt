@@ -22,7 +22,7 @@ use Rattle.sva_laws.proofs.Words.{some_the}
 use Rattle.sva_laws.proofs.Counting.{count_same}
 use Rattle.sva_laws.proofs.Invariant.{Invariant}
 use Rattle.sva_laws.proofs.Found.{found}
-use Rattle.sva_laws.proofs.Unmap.{open_is}
+use Rattle.sva_laws.proofs.Resets.{open_is}
 use Rattle.sva_laws.proofs.Orders.{active_unreleased}
 use Rattle.sva_laws.proofs.Tests.{none_before}
 use Rattle.sva_labels.specs.Finding.{is_live, bearer, pages_in, page_at, device_of, tag_at}

@@ -16,7 +16,7 @@ use Rattle.sva_laws.proofs.Labels as Bears
 use Rattle.sva_laws.proofs.Invariant.{PartInvariant}
 use Rattle.sva_laws.proofs.Passed.{bearer_of}
 use Rattle.sva_laws.proofs.Orders.{active_unreleased}
-use Rattle.sva_laws.proofs.Tests.{same_inside}
+use Rattle.sva_laws.proofs.Tests.{both_same, same_inside}
 use Rattle.sva_wire.proofs.Lists.{tabulate_at}
 use Rattle.sva_labels.specs.Finding.{pasid_state, is_at_page, cached, group_at, use_at, tag_at, taken_at}
 use Rattle.sva_labels.proofs.Lookups.{tabulate_past, find_one, find_none, find_sorted, alone_select, and_two}
@@ -103,9 +103,6 @@ and_three x a b c d h = grind (arith, nat_tests)
 all_three : (x : Bool) (a b c d : ℕ) → x ≡ true → a ≡ b → c ≡ d → (x && a == b && c == d) ≡ true
 all_three x a b c d h k l = grind (arith, nat_tests)
 
-all_two : (a b c d : ℕ) → a ≡ b → c ≡ d → (a == b && c == d) ≡ true
-all_two a b c d h k = grind (arith, nat_tests)
-
 -- a request whose answer is cached at a page of a PASID is one of the bearer's
 holder :
     (ms : Mappings) (x g n e : ℕ) (p : Endpoint) → PartInvariant ms x g n e p → (t q r : ℕ) → words.is_some (p.held r) ≡ true
@@ -145,7 +142,7 @@ cached_seen ms x g n e p i t q h =
     let r = Labels.cached p b q in
     let three = and_three (words.is_some (p.held r)) (p.request_binding r) b (p.request_page r) q low.1 in
     let passes : is_at_page t q (cached_wire ms p r) ≡ true =
-    all_two (p.pasid (p.request_binding r)) t (p.request_page r) q (ap p.pasid three.1 ∙ (i.labels.pasid_bears t b bears.0).0) three.2 in
+    both_same (p.pasid (p.request_binding r)) t (p.request_page r) q (ap p.pasid three.1 ∙ (i.labels.pasid_bears t b bears.0).0) three.2 in
     cache_find ms x g n e p i t q
     ∙ find_one p.requests (λ r. words.is_some (p.held r)) (cached_wire ms p) (is_at_page t q) r low.0 three.0 passes
     (λ j l s k. one_holder ms x g n e p i t q j r s three.0 k passes)

@@ -31,7 +31,7 @@ use Rattle.sva_labels.proofs.SoundLists.{IsSeen, seen_get}
 use Rattle.sva_laws.proofs.Filed.{FiledOnce}
 use Rattle.sva_labels.proofs.SoundRequests.{arrival_short, filing_short}
 use Rattle.sva_laws.proofs.Groups.{answerable_outstanding as answerable_out}
-use Rattle.sva_laws.proofs.Unmap.{open_is as opened_is}
+use Rattle.sva_laws.proofs.Resets.{open_is as opened_is}
 use Rattle.sva_laws.proofs.PageRequests.{arrived_is}
 
 -- an unreleased binding is found by its PASID

@@ -34,7 +34,7 @@ use Rattle.sva_labels.proofs.LookedUnits.{invalidated_there}
 use Rattle.sva_labels.proofs.SoundLists.{table_get, seen_there}
 use Rattle.sva_labels.proofs.SoundPasids.{IsKeptAt}
 use Rattle.sva_labels.proofs.Withholding.{target_at}
-use Rattle.sva_laws.proofs.Unmap.{open_is as opened_is}
+use Rattle.sva_laws.proofs.Resets.{open_is as opened_is}
 use Rattle.sva_labels.proofs.SoundRoom.{same_cookie}
 
 -- a wait that is queued stands in the queue

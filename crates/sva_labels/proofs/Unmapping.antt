@@ -35,7 +35,7 @@ use Rattle.sva_labels.proofs.SpaceActs.{pages_are}
 use Rattle.sva_labels.proofs.Bound.{bound_is}
 use Rattle.sva_labels.proofs.Withholding.{target_at, seen_targets, target_new, seen_still}
 use Rattle.sva_laws.proofs.Books.{submitted_stage as stage_same}
-use Rattle.sva_labels.proofs.UnitSubmitted.{old_order}
+use Rattle.sva_laws.proofs.Submitted.{old_order}
 pub use Rattle.sva_labels.proofs.EndpointViews.{part_seen as part_is}
 use Rattle.sva_labels.proofs.LookedUnits.{submits_seen}
 use Rattle.sva_labels.proofs.SentTo.{same_message as message_same}

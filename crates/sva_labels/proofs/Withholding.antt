@@ -28,9 +28,8 @@ use Rattle.sva_labels.specs.Moves.{place_for, target_by, target_by_stage}
 use Rattle.sva_labels.proofs.PlacesKept.{IsSeenSame, ranges_open, ranges_wait, pasid_open, pasid_waits}
 use Rattle.sva_laws.proofs.OneEndpoint.{same_bool as same_both}
 use Rattle.sva_laws.proofs.Tests.{not_below_itself}
-use Rattle.sva_labels.proofs.UnitSubmitted.{old_order}
+use Rattle.sva_laws.proofs.Submitted.{old_order, old_state}
 use Rattle.sva_labels.proofs.LookedUnits.{below_end as below_front}
-use Rattle.sva_labels.proofs.UnitSubmitted.{old_state}
 
 -- Where a frame is that waits for these.
 

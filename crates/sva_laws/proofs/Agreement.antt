@@ -3,14 +3,14 @@ use Rattle.std.proofs.Common.{◌≡◌, ◌≢◌, ◌⊎◌, inl, inr, refl, a
 use Rattle.std.specs.Prelude.{Option, Some, None}
 use Rattle.std.proofs.lemmas.Bool.Decides.{nat_tests}
 use Rattle.sva_model.specs.Words.{all_below}
-use Rattle.sva_model.specs.State.{Owed, MappingState, PasidState, Endpoint, World, Stage, HostGroupState, GroupState}
+use Rattle.sva_model.specs.State.{Owed, MappingState, PasidState, Endpoint, World, Stage, HostGroupState}
 use Rattle.sva_model.specs.State.Owed.{Nothing, Ranges, Pasid, NextReset}
 use Rattle.sva_model.specs.State.MappingState.{Unmade, Present, Gone}
 use Rattle.sva_model.specs.State.Stage.{Stopping, Invalidating}
 use Rattle.sva_model.specs.State.PasidState.{Off, On, Ending}
 use Rattle.sva_model.specs.State.Phase.{Open}
 use Rattle.sva_model.specs.State.OrderState.{Done}
-use Rattle.sva_model.specs.States.{is_unreleased, is_before_invalidating, is_open, is_open_group, is_outstanding, is_done, answered, place, place_at}
+use Rattle.sva_model.specs.States.{is_unreleased, is_open, is_done, answered, place, place_at}
 use Rattle.sva_model.specs.States.{place_by, place_of_gone}
 use Rattle.sva_model.specs.States.Place.{Mapped, Withheld}
 use Rattle.sva_model.specs.Claims.{Usable, IsPresent, IsAt, IsMapped, IsBearer, HasSentMarker, IsMatched, asker_of}
@@ -21,7 +21,6 @@ use Rattle.sva_laws.proofs.Labels.{Labels}
 use Rattle.sva_laws.proofs.Orders.{is_active, active_unreleased}
 use Rattle.sva_laws.proofs.Owners.{blocks, asker_stage}
 use Rattle.sva_laws.proofs.Safe.{IsAhead, Pending, IsSafe, owed_of}
-use Rattle.sva_laws.specs.Laws.{is_answerable}
 use Rattle.sva_laws.proofs.Groups.{is_filed_group, times_replied, answerable_outstanding, open_filed}
 use Rattle.sva_laws.proofs.Invariant.{Invariant}
 use Rattle.sva_laws.proofs.Passed.{unreleased_bound}
@@ -176,7 +175,6 @@ matched w e i =
       once = λ g. at_most (p.host_group g) (gr.responses g);
     }
   where
-
     at_most : (s : HostGroupState) {x : ℕ} → x ≡ times_replied s → x ≤ 1
     at_most s h = grind arith
 

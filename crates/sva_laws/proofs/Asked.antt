@@ -3,7 +3,7 @@ use Rattle.std.proofs.Common.{◌≡◌, ◌≢◌, ◌⊎◌, inl, inr, refl, a
 use Rattle.std.specs.Prelude.{Option, Some, None, ◌&&◌, ◌||◌, ◌==◌, nat_lt, List, [], ◌∷◌, ◌++◌, map, length, if◌then◌else◌, Ok}
 use Rattle.std.specs.List.{list_any}
 use Rattle.std.proofs.lemmas.Bool.Decides.{nat_tests}
-use Rattle.std.proofs.lemmas.Bool.{cases_lt, eq-eqb, eqb-true, ltb-false, not-false}
+use Rattle.std.proofs.lemmas.Bool.{cases_lt, eq-eqb, eqb-true, ltb-false}
 use Rattle.sva_step.specs.declared.answers.Answer.{Answer}
 use Rattle.sva_step.specs.declared.answers.Answer.TheVariants as answer
 use Rattle.sva_step.specs.declared.limits.Config.{Config}
@@ -15,9 +15,8 @@ use Rattle.sva_model.specs.Words.{put, select, is_some, the}
 use Rattle.sva_model.specs.States.{is_open, is_free, is_before_invalidating}
 use Rattle.sva_model.specs.Message.{Code}
 use Rattle.sva_model.specs.Message.Code.{SuccessCode, InvalidCode, FailureCode}
-use Rattle.sva_model.specs.State.{PasidRule, Stage, Endpoint, World}
+use Rattle.sva_model.specs.State.{PasidRule, Stage, World}
 use Rattle.sva_model.specs.State.Stage.{Live, Stopping, Draining}
-use Rattle.sva_model.specs.State.Phase.{Open}
 use Rattle.sva_model.specs.Acts.{Act, LocalAct, act}
 use Rattle.sva_model.specs.Acts.Act.{Map, LetGo, AtEndpoint}
 use Rattle.sva_model.specs.Labels.{asks, is_mapped, free_frames}
@@ -31,6 +30,8 @@ use Rattle.sva_laws.proofs.Words.{put-same, put-other, ℕ_cases}
 use Rattle.sva_laws.proofs.Counting.{length_select}
 use Rattle.sva_laws.proofs.Lookback.{after_one}
 use Rattle.sva_laws.proofs.Told.{accepted}
+use Rattle.sva_laws.proofs.Resets.{open_is, closed_is}
+use Rattle.sva_laws.proofs.Tests.{first_holds, second_holds, other_fails}
 
 -- What a list has.
 
@@ -180,16 +181,9 @@ written_is w j q h =
       filing = y.0;
       filed = z.0;
       of_group = eqb-true (p.group_of (p.filing y.0)) (w.job j).group z.1;
-      of_page = ap p.asked_page y.2 ∙ first (p.asked_page x.0) q (p.asks_write x.0) x.2;
-      writes = ap p.asks_write y.2 ∙ second (p.asked_page x.0) q (p.asks_write x.0) x.2;
+      of_page = ap p.asked_page y.2 ∙ eqb-true (p.asked_page x.0) q (first_holds (p.asked_page x.0 == q) (p.asks_write x.0) x.2);
+      writes = ap p.asks_write y.2 ∙ second_holds (p.asked_page x.0 == q) (p.asks_write x.0) x.2;
     }
-  where
-
-    first : (a b : ℕ) (t : Bool) → (a == b && t) ≡ true → a ≡ b
-    first a b t h = grind (arith, nat_tests)
-
-    second : (a b : ℕ) (t : Bool) → (a == b && t) ≡ true → t ≡ true
-    second a b t h = grind (arith, nat_tests)
 
 is_written : (w : World) (j q : ℕ) → IsAskedToWrite w j q → is_write_asked w j q ≡ true
 is_written w j q a =
@@ -225,7 +219,6 @@ one_more w v s q f write qs b =
       still = λ r h. b.still r (was r h (ℕ_cases r q));
     }
   where
-
     at : (act w (Map s q f (write q))).mappings.at s ≡ put (w.mappings.at s) q (Some w.mappings.made)
     at = put-same w.mappings.at s (put (w.mappings.at s) q (Some w.mappings.made))
 
@@ -298,7 +291,7 @@ success_maps w x j v (Some SuccessCode) count r a room =
     (is_write_asked w j) (newly_mapped w j)) (sym succeeds)
     (all_mapped (job_space w j) (is_write_asked w j) (newly_mapped w j) (free_list w) x (w.job j).endpoint sent w
     (subst (λ n. length (newly_mapped w j) ≤ n) (sym (length_select w.config.frames (is_free w)))
-    (ltb-false (free_frames w) (length (newly_mapped w j)) (second (replies_success w j v) _ room succeeds))))
+    (ltb-false (free_frames w) (length (newly_mapped w j)) (other_fails (replies_success w j v) _ room succeeds))))
   where
     sent : LocalAct
     sent = LocalAct.Respond (w.job j).group SuccessCode
@@ -308,10 +301,6 @@ success_maps w x j v (Some SuccessCode) count r a room =
 
     succeeds : replies_success w j v ≡ true
     succeeds = ap is_success r
-
-    second : (b c : Bool) → (b && c) ≡ false → b ≡ true → c ≡ false
-    second true c h e = h
-    second false c h e = absurd (cc)
 
 pub always_maps_asked : (rule : PasidRule) (config : Config) (steps : List Step) (x j : ℕ) (v : Verdict) (count : ℕ)
     → reply (world_after rule config steps) (step.Reply x v) ≡ Ok (answer.Success count) → (world_after rule config steps).hand x ≡ Some j
@@ -354,12 +343,6 @@ no_code true Live v h = absurd (cc)
 no_code true (Stopping m) v h = absurd (cc)
 no_code true (Draining x) v h = absurd (cc)
 no_code true s v h = inr refl
-
-open_is : (p : Endpoint) → is_open p.phase ≡ true → p.phase ≡ Open
-open_is p h = grind arith
-
-closed_is : (p : Endpoint) → is_open p.phase ≡ false → p.phase ≢ Open
-closed_is p h e = absurd (cc (sym (ap is_open e) ∙ h))
 
 replies_by : (w : World) (x j : ℕ) (v : Verdict) (said : Answer) (o : Option Code) → response_to w j v ≡ o
     → (reply_outcome w x j (reply_maps w j v) o).answer ≡ said → RepliesBy w j v said

@@ -1,7 +1,7 @@
 -- A cookie is given out once: no two waits have the same, over all units.
 use Rattle.sva_model.specs.State.{PasidRule}
 use Rattle.std.proofs.Common.{◌≡◌, ◌≢◌, ◌⊎◌, inl, inr, refl, ap, sym, subst, ◌∙◌, ℕ, zero, suc, ◌+◌, ◌<◌, ◌≤◌, Bool, true, false, arith}
-use Rattle.std.specs.Prelude.{Option, Some, None, ◌&&◌, ◌==◌, nat_lt, List, [], ◌∷◌, if◌then◌else◌}
+use Rattle.std.specs.Prelude.{Option, Some, None, ◌&&◌, ◌==◌, List, [], ◌∷◌, if◌then◌else◌}
 use Rattle.std.proofs.lemmas.Bool.Decides.{nat_tests}
 use Rattle.std.proofs.lemmas.Bool.{cases_lt}
 use Rattle.sva_step.specs.declared.answers.Answer.{Answer}
@@ -18,6 +18,7 @@ use Rattle.sva_laws.specs.UnitSteps.{GivesCookies}
 use Rattle.sva_laws.proofs.Words.{ℕ_cases, find_passes}
 use Rattle.sva_laws.proofs.Counting.{bit, count_next}
 use Rattle.sva_laws.proofs.Invariant.{Invariant}
+use Rattle.sva_laws.proofs.Submitted.{old_order}
 use Rattle.sva_laws.proofs.Keeps.{put_keeps}
 use Rattle.sva_laws.proofs.Passed.{unreleased_bound}
 use Rattle.sva_laws.proofs.Runs.{next_keeps, opened_invariant}
@@ -200,11 +201,8 @@ own_cookies w d o h co =
 -- An unmapping: the units to which it submits get cookies in their order.
 
 submitted_waits : (t : Bool) (p : Endpoint) (o : Option ℕ) (q count order cookie : ℕ) → PartWaits (t ≡ true) cookie p (submitted_if t p o q count order cookie)
-submitted_waits true p (Some b) q count order cookie = record { old = old; new = λ k c x low high h. (refl, new k c x low high h); once = once }
+submitted_waits true p (Some b) q count order cookie = record { old = old_order p b q count order cookie; new = λ k c x low high h. (refl, new k c x low high h); once = once }
   where
-    old : (k : ℕ) → k < p.orders → (submitted p b q count order cookie).order k ≡ p.order k
-    old k l = grind (arith, nat_tests)
-
     new : (k c : ℕ) (x : Bool) → p.orders ≤ k → k < p.orders + suc count → (submitted p b q count order cookie).order k ≡ Wait c x → c ≡ cookie
     new k c x low high h = grind (arith, nat_tests)
 

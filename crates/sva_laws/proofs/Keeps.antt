@@ -33,6 +33,7 @@ use Rattle.sva_laws.proofs.Invariant.{PartInvariant, Mapped, Hands, IsHeldBy, In
 use Rattle.sva_laws.proofs.Answered.{answered_own, answered_submitted}
 use Rattle.sva_laws.proofs.Submitted
 use Rattle.sva_laws.proofs.Shared.{Shared, IsOf, WasSo, IsNew, binds, bound_space, bound_pasid, own_from, submitted_from, shared_still, shared_more}
+use Rattle.sva_laws.proofs.Resets.{open_is}
 use Rattle.sva_laws.proofs.Unmap as Unmapping
 use Rattle.sva_laws.proofs.Orders.{active_unreleased}
 
@@ -649,7 +650,7 @@ part_unmapped ms s x g n e pages owed p true (Some b) q count order cookie h k i
     submitted_part ms s x g n e pages owed p b q count order cookie (opens (is_open p.phase) refl h) (before (is_open p.phase) h) k i
   where
     opens : (y : Bool) → is_open p.phase ≡ y → (y && is_before_invalidating (p.stage b)) ≡ true → p.phase ≡ Open
-    opens true f h = Unmapping.open_is p f
+    opens true f h = open_is p f
     opens false f h = absurd (cc)
 
     before : (y : Bool) → (y && is_before_invalidating (p.stage b)) ≡ true → is_before_invalidating (p.stage b) ≡ true

@@ -21,7 +21,7 @@ use Rattle.sva_laws.proofs.Words.{any_below-false}
 use Rattle.sva_laws.proofs.Legal.{NoOlderDown, NoOlderPageRequest}
 use Rattle.sva_laws.proofs.Invariant.{Invariant}
 use Rattle.sva_laws.proofs.Passed.{Passed, LegalAll}
-use Rattle.sva_laws.proofs.Unmap.{open_is}
+use Rattle.sva_laws.proofs.Resets.{open_is}
 
 -- what is permitted stays behind nothing that is older
 nothing_held : (p : Endpoint) (c : ℕ) (subject : Subject) → Labels.is_permitted p c subject ≡ true → (d : ℕ) → d < c

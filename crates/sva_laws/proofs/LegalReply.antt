@@ -24,7 +24,7 @@ use Rattle.sva_laws.proofs.Invariant.{Invariant, IsHeldBy}
 use Rattle.sva_laws.proofs.Keeps.{Legal, act_keeps}
 use Rattle.sva_laws.proofs.Passed.{Passed, LegalAll}
 use Rattle.sva_laws.proofs.LegalUnit.{group_there}
-use Rattle.sva_laws.proofs.Unmap.{open_is}
+use Rattle.sva_laws.proofs.Resets.{open_is}
 
 -- a frame is not among these
 abbrev pub NotAmong : ℕ → List ℕ → Type 0

@@ -4,7 +4,7 @@ use Rattle.std.specs.Prelude.{◌||◌, not, ◌==◌, [], ◌∷◌}
 use Rattle.std.proofs.lemmas.Bool.{not-false, not-true}
 use Rattle.sva_step.specs.declared.steps.Step.TheVariants as step
 use Rattle.sva_model.specs.Words.{put, lowest, any_below}
-use Rattle.sva_model.specs.State.{Endpoint, World, Order, OrderState, PageRequestState, HostGroupState}
+use Rattle.sva_model.specs.State.{Endpoint, World, Order, OrderState, HostGroupState}
 use Rattle.sva_model.specs.State.PageRequestState.{Arrived}
 use Rattle.sva_model.specs.State.HostGroupState.{Job, InHand}
 use Rattle.sva_model.specs.State.Order.{RangeOf, PasidOf, Wait}
@@ -123,7 +123,6 @@ oldest_is p qu h =
       first = λ x a. no_earlier (lowest p.arrivals (Labels.is_waiting p)) x back.0 low.2 a (qu.arrived x a);
     }
   where
-
     no_earlier : (k x : ℕ) → p.arrived_as (p.arrival k) ≡ k → ((i : ℕ) → i < k → Labels.is_waiting p i ≡ false) → p.page_request x ≡ Arrived
         → (p.arrived_as x < p.arrivals) × (p.arrival (p.arrived_as x) ≡ x) → p.arrived_as (p.arrival k) ≤ p.arrived_as x
     no_earlier k x b none a place =

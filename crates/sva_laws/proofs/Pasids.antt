@@ -1,7 +1,6 @@
 -- What the laws need of a rule of PASIDs, and that both rules give it.
 use Rattle.std.proofs.Common.{◌≡◌, ◌≢◌, ◌⊎◌, inl, inr, refl, ap, sym, subst, ◌∙◌, ℕ, zero, suc, ◌<◌, ◌≤◌, Bool, true, arith}
 use Rattle.std.specs.Prelude.{Option, Some, None, option_map, not, ◌==◌}
-use Rattle.std.proofs.lemmas.Bool.Decides.{nat_tests}
 use Rattle.std.proofs.lemmas.Bool.{eq-eqb, eqb-true, not-true}
 use Rattle.sva_model.specs.Words.{find, is_some, holds_of, the}
 use Rattle.sva_model.specs.State.{PasidRule, Endpoint, World}

@@ -1,8 +1,8 @@
 -- What has been tested when no cause of a step holds.
 use Rattle.std.proofs.Common.{◌≡◌, ◌≢◌, refl, ℕ, ◌<◌, ◌≤◌, Bool, true, false, arith}
-use Rattle.std.specs.Prelude.{Option, Some, None, ◌&&◌, ◌||◌, not, ◌==◌, nat_lt, if◌then◌else◌, List, [], ◌∷◌, Err}
+use Rattle.std.specs.Prelude.{Option, Some, None, ◌&&◌, not, ◌==◌, if◌then◌else◌, List, [], ◌∷◌, Err}
 use Rattle.std.proofs.lemmas.Bool.Decides.{nat_tests}
-use Rattle.std.proofs.lemmas.Bool.{ltb-false, not-true}
+use Rattle.std.proofs.lemmas.Bool.{not-true}
 use Rattle.sva_model.specs.Words.{is_some, holds_of, the}
 use Rattle.sva_model.specs.State.{Endpoint, World}
 use Rattle.sva_model.specs.State.Phase.{Open}
@@ -16,7 +16,6 @@ use Rattle.sva_model.specs.Labels
 use Rattle.sva_laws.proofs.Words.{none_is, lowest_passes, any_below-false}
 use Rattle.sva_laws.proofs.Invariant.{Invariant}
 use Rattle.sva_laws.proofs.Keeps.{Legal, act_keeps}
-use Rattle.sva_laws.proofs.Tests.{first_fails, first_holds, is_less, second_fails, second_holds}
 
 abbrev pub LegalAll : World → List Act → Type 0
 LegalAll w [] = Unit {0}

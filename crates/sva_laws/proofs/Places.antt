@@ -19,6 +19,7 @@ use Rattle.sva_model.specs.Steps.{decide, next, run, after_acts, world_after}
 use Rattle.sva_laws.specs.Laws.{cached_translations}
 use Rattle.sva_laws.specs.Steps.{takes_out}
 use Rattle.sva_laws.proofs.Words.{put-other, ℕ_cases, any_below-false}
+use Rattle.sva_laws.proofs.Tests.{other_fails}
 use Rattle.sva_laws.proofs.Counting.{bit_most, bit_less, count_next, count_less, count_more}
 use Rattle.sva_laws.proofs.Legal.{LegalLocalAct}
 use Rattle.sva_laws.proofs.Bounds.{Bounds}
@@ -113,10 +114,6 @@ acts_short z (a ∷ acts) w t m l h = acts_short z acts (act w a) t m.1 l.1 (act
 no_room_short : (p : Endpoint) (n : ℕ) → is_queue_short p n ≡ false → queue_length p + n ≤ 64
 no_room_short p n h = ltb-false 64 (queue_length p + n) h
 
-second_false : (a b : Bool) → (a && b) ≡ false → a ≡ true → b ≡ false
-second_false true b h e = h
-second_false false b h e = absurd (cc (e))
-
 unmap_short : (w : World) (s q count order n : ℕ) → n ≡ suc count → any_below w.config.endpoints (λ e. submits w s e && is_queue_short (w.part e) n) ≡ false
     → Invariant w → AllShort w → AllShort (act w (Unmap s q count order))
 unmap_short w s q count order n same full i h =
@@ -126,7 +123,7 @@ unmap_short w s q count order n same full i h =
     room e t =
         let f : (submits w s e && is_queue_short (w.part e) n) ≡ false =
         any_below-false w.config.endpoints (λ x. submits w s x && is_queue_short (w.part x) n) full e (submits_there w s e i t) in
-        let k : queue_length (w.part e) + n ≤ 64 = no_room_short (w.part e) n (second_false (submits w s e) (is_queue_short (w.part e) n) f t) in
+        let k : queue_length (w.part e) + n ≤ 64 = no_room_short (w.part e) n (other_fails (submits w s e) (is_queue_short (w.part e) n) f t) in
         omega (arith, k, same)
 
 next_short : (w : World) (s : Step) → Invariant w → AllShort w → AllShort (next w s)

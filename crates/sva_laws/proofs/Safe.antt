@@ -4,7 +4,7 @@ use Rattle.sva_laws.proofs.Words.{put-same}
 use Rattle.std.proofs.Common.{sym, subst, ◌≡◌, ◌≢◌, ◌⊎◌, inl, inr, ℕ, ◌+◌, ◌<◌, ◌≤◌, Bool, true, false, arith}
 use Rattle.std.specs.Prelude.{Some, None}
 use Rattle.std.proofs.lemmas.Bool.Decides.{nat_tests}
-use Rattle.sva_model.specs.State.{Owed, MappingState, Mappings, Endpoint, Stage}
+use Rattle.sva_model.specs.State.{Owed, MappingState, Mappings, Endpoint}
 use Rattle.sva_model.specs.State.Owed.{Nothing, Ranges, Pasid, NextReset}
 use Rattle.sva_model.specs.State.MappingState.{Unmade, Present, Gone}
 use Rattle.sva_model.specs.State.Stage.{Invalidating}
@@ -19,7 +19,7 @@ use Rattle.sva_model.specs.Acts.LocalAct.{Keep, Begin, Complete}
 use Rattle.sva_laws.proofs.Legal.{LegalLocalAct}
 use Rattle.sva_laws.proofs.Resets.{Resets}
 use Rattle.sva_laws.proofs.Bounds.{Bounds}
-use Rattle.sva_laws.proofs.Bindings.{Bindings, is_unmarked, unmarked_not_invalidating}
+use Rattle.sva_laws.proofs.Bindings.{Bindings, unmarked_not_invalidating}
 use Rattle.sva_laws.proofs.Labels.{Labels}
 use Rattle.sva_laws.proofs.Requests.{Requests}
 use Rattle.sva_laws.proofs.Orders.{Orders, SentOnly}

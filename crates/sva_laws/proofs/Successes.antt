@@ -102,7 +102,6 @@ more_pages u v w s n a b =
       mapped = λ r h. a.mapped r (b.mapped r h);
     }
   where
-
     new : (m : ℕ) → u.mappings.made ≤ m → m < w.mappings.made → (m < v.mappings.made) ⊎ (v.mappings.made ≤ m) → (w.mappings.state m ≡ Present)
         × (w.mappings.space m ≡ s) × (u.mappings.at s (w.mappings.page m) ≡ None)
     new m l k (inl x) =

@@ -20,6 +20,7 @@ use Rattle.sva_model.specs.Claims.HasAnswered.{was_done}
 use Rattle.sva_laws.specs.Waits.{FitsDebt, AwaitsTarget}
 use Rattle.sva_laws.specs.Fronts.{IsTarget, KeepsTargets, part_after}
 use Rattle.sva_laws.specs.Fronts.IsTarget.{submitted, invalidating, reset_end}
+use Rattle.sva_laws.proofs.Resets.{open_is, closed_is}
 use Rattle.sva_laws.proofs.Unmap.{bound_is}
 use Rattle.sva_laws.proofs.Fronts.{always_fronts}
 use Rattle.sva_laws.proofs.Debts.{always_debts}
@@ -61,12 +62,6 @@ orders_then : (p q : Endpoint) (b page count order cookie : ℕ) → q ≡ submi
     → submits_at p (Some b) ≡ true → q.orders ≡ p.orders + suc count
 orders_then p q b page count order cookie h s =
     ap (λ z. z.orders) h ∙ ap (λ t. (submitted_if t p (Some b) page count order cookie).orders) s
-
-open_is : (p : Endpoint) → is_open p.phase ≡ true → p.phase ≡ Open
-open_is p h = grind arith
-
-closed_is : (p : Endpoint) → is_open p.phase ≡ false → p.phase ≢ Open
-closed_is p h e = absurd (cc (sym (ap is_open e) ∙ h))
 
 before_is : (p : Endpoint) (b : ℕ) → IsBeforeInvalidating p b → is_before_invalidating (p.stage b) ≡ true
 before_is p b (inl h) = ap is_before_invalidating h

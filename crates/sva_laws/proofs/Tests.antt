@@ -1,6 +1,6 @@
 -- Tests of numbers and of Bools, where std has none of this form (its own stand in `lemmas.Bool`): for all crates of laws.
 use Rattle.std.proofs.Common.{◌≡◌, ◌⊎◌, inl, inr, refl, ℕ, ◌+◌, ◌-◌, ◌<◌, ◌≤◌, suc, Bool, true, false, arith}
-use Rattle.std.specs.Prelude.{Option, Some, ◌&&◌, ◌||◌, not, ◌==◌, nat_lt}
+use Rattle.std.specs.Prelude.{Some, ◌&&◌, ◌||◌, not, ◌==◌, nat_lt}
 use Rattle.std.proofs.lemmas.Bool.Decides.{nat_tests}
 
 -- Of two Bools.
@@ -15,6 +15,10 @@ first_fails a b h = grind arith
 
 pub second_fails : (a b : Bool) → (a || b) ≡ false → b ≡ false
 second_fails a b h = grind arith
+
+-- where both don't hold, and the first does, the second doesn't
+pub other_fails : (a b : Bool) → (a && b) ≡ false → a ≡ true → b ≡ false
+other_fails a b h k = grind arith
 
 pub one_holds : (a b : Bool) → (a || b) ≡ true → (a ≡ true) ⊎ (b ≡ true)
 one_holds true b h = inl refl
@@ -39,6 +43,9 @@ and_no b = grind arith
 -- Of numbers.
 pub is_itself : (a : ℕ) → (a == a) ≡ true
 is_itself a = grind (arith, nat_tests)
+
+pub both_same : (a b c d : ℕ) → a ≡ b → c ≡ d → (a == b && c == d) ≡ true
+both_same a b c d h k = grind (arith, nat_tests)
 
 pub lower_differs : (a b : ℕ) → a < b → (a == b) ≡ false
 lower_differs a b l = grind (arith, nat_tests)

@@ -18,6 +18,7 @@ use Rattle.sva_laws.proofs.Words.{put-same, put-other, ℕ_cases, find_passes, f
 use Rattle.sva_model.specs.Words.{put_range, unless}
 use Rattle.sva_laws.proofs.Bounds.{Bounds}
 use Rattle.sva_laws.proofs.Orders.{is_active, active_unreleased}
+use Rattle.sva_laws.proofs.Resets.{open_is}
 use Rattle.sva_laws.proofs.Owners.{blocks}
 use Rattle.sva_laws.proofs.Safe.{IsAhead, Pending, IsSafe, owed_of}
 use Rattle.sva_laws.proofs.Invariant.{Invariant}
@@ -83,9 +84,6 @@ bound_is w e b s i u sp =
 
         spaces : (is_unreleased ((w.part e).stage k) && (w.part e).space k == s) ≡ true → (w.part e).space k ≡ (w.part e).space b
         spaces h = grind (arith, nat_tests)
-
-pub open_is : (p : Endpoint) → is_open p.phase ≡ true → p.phase ≡ Open
-open_is p h = grind arith
 
 new_open : (p : Endpoint) (b q page count order age cookie j : ℕ) → p.phase ≡ Open → j < count → is_in (range_at page order j) q ≡ true
     → IsAhead (submitted p b page count order cookie) b q age p.orders count p.resets (p.orders + j)

@@ -20,7 +20,7 @@ use Rattle.sva_model.specs.State.GroupState.{Awaiting, Stale}
 use Rattle.sva_model.specs.State.Stage.{Unbound, Invalidating, Quiet, Lost, Released}
 use Rattle.sva_model.specs.States.{covers, drains}
 use Rattle.sva_model.specs.Acts.{Act, LocalAct, act, act_alone, none_if, is_replaced, doom_if, stale_if, disables}
-use Rattle.sva_model.specs.Acts.{cut_off, submitted, submitted_if, submits, bound}
+use Rattle.sva_model.specs.Acts.{cut_off, submitted_if, submits, bound}
 use Rattle.sva_model.specs.Acts.{cookie_of}
 use Rattle.sva_model.specs.Acts.Act.{NewSpace, DropSpace, Map, Unmap, NewBinding, NewJob, Hold, LetGo, AtEndpoint}
 use Rattle.sva_model.specs.Labels
@@ -29,7 +29,9 @@ use Rattle.sva_model.specs.Outcomes.{Outcome, outcome, subject_outcome, deliver_
 use Rattle.sva_model.specs.Steps.{Reply, checked, reply, decide, next, after_acts, world_after}
 use Rattle.sva_laws.specs.UnitSteps.{Delivers}
 use Rattle.sva_laws.specs.Untouched.{Evicts, Takes, Brings, Stops, Quits, Asks, Disables, CutsOff, DrainsOnce, is_of_endpoint}
+use Rattle.sva_laws.proofs.Tests.{both_same}
 use Rattle.sva_laws.proofs.Words.{put-same, put-other}
+use Rattle.sva_laws.proofs.Submitted.{old_order}
 use Rattle.sva_laws.proofs.Legal.{LegalLocalAct}
 use Rattle.sva_laws.proofs.Invariant.{Invariant}
 use Rattle.sva_laws.proofs.Keeps.{Legal, put_keeps}
@@ -129,7 +131,7 @@ act_alone_keeps p n c r m =
       kept = λ h. (m, refl, put-same (λ x. none_if (is_replaced p r x) (p.held x)) r (Some m));
       replaced = λ h x ne b q.
           put-other (λ y. none_if (is_replaced p r y) (p.held y)) r (Some m) x ne
-          ∙ ap (λ t. none_if t (p.held x)) (is_same (p.request_binding x) (p.request_binding r) (p.request_page x) (p.request_page r) b q);
+          ∙ ap (λ t. none_if t (p.held x)) (both_same (p.request_binding x) (p.request_binding r) (p.request_page x) (p.request_page r) b q);
       others = λ h x ne d.
           put-other (λ y. none_if (is_replaced p r y) (p.held y)) r (Some m) x ne
           ∙ ap (λ t. none_if t (p.held x)) (is_other (p.request_binding x) (p.request_binding r) (p.request_page x) (p.request_page r) d);
@@ -138,9 +140,6 @@ act_alone_keeps p n c r m =
       alone = refl;
     }
   where
-    is_same : (a b x y : ℕ) → a ≡ b → x ≡ y → (a == b && x == y) ≡ true
-    is_same a b x y h k = grind (arith, nat_tests)
-
     is_other : (a b x y : ℕ) → (a ≢ b) ⊎ (x ≢ y) → (a == b && x == y) ≡ false
     is_other a b x y h = grind (arith, nat_tests)
 
@@ -408,11 +407,8 @@ behind_parts =
     record {
       kept = λ w e o l i f h b k x. behind_own w.mappings w.bindings w.messages (w.part e) o l b k x (h b k x);
       more = λ p d q count order cookie h b k x st. let y = h b k x st in let m = y.0 in
-          (omega (arith, m), ap drains (old p d q count order cookie x y.0) ∙ y.1);
+          (omega (arith, m), ap drains (old_order p d q count order cookie x y.0) ∙ y.1);
     }
-  where
-    old : (p : Endpoint) (d q count order cookie x : ℕ) → x < p.orders → (submitted p d q count order cookie).order x ≡ p.order x
-    old p d q count order cookie x made = grind (arith, nat_tests)
 
 pub always_drains_once : (rule : PasidRule) (config : Config) (steps : List Step) (e : ℕ) → DrainsOnce ((world_after rule config steps).part e)
 always_drains_once rule config steps e =

@@ -2,9 +2,9 @@
 use Rattle.sva_model.specs.State.{PasidRule}
 use Rattle.std.proofs.Common.{◌≡◌, ◌≢◌, ◌⊎◌, inl, inr, refl, ap, sym, subst, ◌∙◌, ℕ, suc, ◌+◌, ◌-◌, ◌*◌, ◌^◌, ◌<◌, ◌≤◌, Bool, true, false, arith}
 use Rattle.std.proofs.Common.{append_assoc}
-use Rattle.std.specs.Prelude.{Option, Some, None, ◌&&◌, ◌||◌, ◌==◌, nat_lt, List, [], ◌∷◌, ◌++◌}
+use Rattle.std.specs.Prelude.{Option, Some, None, ◌&&◌, ◌==◌, nat_lt, List, [], ◌∷◌, ◌++◌}
 use Rattle.std.proofs.lemmas.Bool.Decides.{nat_tests}
-use Rattle.std.proofs.lemmas.Bool.{and_from, false_from_ne_true, lt-ltb, ltb-true, or_left, or_right}
+use Rattle.std.proofs.lemmas.Bool.{and_from, false_from_ne_true, ltb-true, or_left}
 use Rattle.std.proofs.lemmas.List.{append-nil}
 use Rattle.sva_step.specs.declared.limits.Config.{Config}
 use Rattle.sva_step.specs.declared.steps.Step.{Step}
@@ -27,7 +27,8 @@ use Rattle.sva_laws.proofs.Words.{put-same, find_passes, all_below-true, all_bel
 use Rattle.sva_laws.proofs.Answered.{all_below-intro}
 use Rattle.sva_laws.proofs.Invariant.{Invariant}
 use Rattle.sva_laws.proofs.Ranges.{range_of, order_of, order_covers}
-use Rattle.sva_laws.proofs.Unmap.{bound_is, open_is}
+use Rattle.sva_laws.proofs.Resets.{open_is}
+use Rattle.sva_laws.proofs.Unmap.{bound_is}
 use Rattle.sva_laws.proofs.Runs.{always, next_keeps}
 use Rattle.sva_laws.proofs.Agreement.{withheld_at}
 use Rattle.sva_laws.proofs.Lookback.{Goes, Later, moves, later, went, run_append, after_one, one_more}
@@ -261,7 +262,6 @@ not_between w u v f m owed i a b la g lv is =
     let same : x.0 ≡ m = omega (arith, low, high) in
     apart (sym (subst (λ k. u.mappings.state k ≡ Present) same x.2) ∙ g)
   where
-
     apart : Present ≡ Gone owed → ⊥
     apart h = absurd (cc)
 

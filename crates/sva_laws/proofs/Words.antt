@@ -1,9 +1,7 @@
 -- What the searches find.
 use Rattle.std.proofs.Common.{◌≡◌, ℕ, zero, suc, ◌+◌, ◌<◌, ◌≢◌, ◌⊎◌, inl, inr, refl, arith, Bool, true, false, subst}
-use Rattle.std.specs.Prelude.{Option, Some, None, if◌then◌else◌, nat_lt, not, ◌==◌}
+use Rattle.std.specs.Prelude.{Option, Some, None, if◌then◌else◌, nat_lt, ◌==◌}
 use Rattle.std.proofs.lemmas.Bool.Decides.{nat_tests}
-use Rattle.std.proofs.lemmas.Bool.{not-false}
-use Rattle.sva_laws.proofs.Tests.{is_less}
 use Rattle.sva_model.specs.Words.{put, lowest, find, if_found, any_below, all_below, is_some, the, holds_of}
 pub use Rattle.sva_model.proofs.FullSpace.{lowest_cases}
 pub use Rattle.sva_model.proofs.FullSpace.{lowest_below}

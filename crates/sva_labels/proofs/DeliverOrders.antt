@@ -8,16 +8,16 @@ use Rattle.sva_model.specs.Words.{count_below, the}
 use Rattle.sva_model.proofs.RangeLemmas.{decode-encode}
 use Rattle.sva_model.specs.Message.{Code}
 use Rattle.sva_model.specs.Message.Message.{InvalidatedMessage}
-use Rattle.sva_model.specs.State.{Endpoint, World, Order, GroupState}
+use Rattle.sva_model.specs.State.{Endpoint, World, Order}
 use Rattle.sva_model.specs.State.Order.{RangeOf, PasidOf, Wait}
 use Rattle.sva_model.specs.State.OrderState.{Completing}
 use Rattle.sva_model.specs.State.Subject.{InvalidateOf, InvalidatedOf, ResponseOf}
-use Rattle.sva_model.specs.States.{is_open, is_busy, is_outstanding}
+use Rattle.sva_model.specs.States.{is_open, is_busy}
 use Rattle.sva_model.specs.Acts.{extent_of, scope_of, binding_of, is_last_left}
 use Rattle.sva_model.specs.Labels
 use Rattle.sva_model.specs.Outcomes as outcomes
 use Rattle.sva_model.specs.Wire.{BusyWire, number, group_wire, busy_wire, wire}
-use Rattle.sva_laws.specs.Laws.{IsVectorOf, is_answerable}
+use Rattle.sva_laws.specs.Laws.{IsVectorOf}
 use Rattle.sva_laws.proofs.Counting.{count_placed}
 use Rattle.sva_wire.proofs.Lists.{tabulate_at}
 use Rattle.sva_labels.specs.Finding.{unit_of, group_at, busy_at}

@@ -1,6 +1,6 @@
 -- What a delivery by labels answers and moves, by the kind of the message: it is the outcome of the step by names.
-use Rattle.std.proofs.Common.{◌≡◌, refl, ap, ap₂, sym, subst, ◌∙◌, ℕ, ◌<◌, Bool, true, false, arith}
-use Rattle.std.specs.Prelude.{Option, Some, None, ◌&&◌}
+use Rattle.std.proofs.Common.{◌≡◌, refl, ap, ap₂, sym, subst, ◌∙◌, ℕ, ◌<◌, Bool, true, false}
+use Rattle.std.specs.Prelude.{Option, Some, None}
 use Rattle.std.proofs.lemmas.Bool.{not-false}
 use Rattle.sva_laws.proofs.Tests.{second_holds}
 use Rattle.sva_step.specs.declared.steps.Step.TheVariants as step
@@ -43,7 +43,6 @@ delivered_alike w n r h = record { alike = deliver_alike w n r; result = λ p. g
         → result_of (wire w) (step.Deliver n) ≡ result_by w (outcome w (step.Deliver n))
     go f None m = absurd (nothing f m)
       where
-
         nothing : Labels.is_in_flight w n ≡ true → (w.part e).message c ≡ None → ⊥
         nothing f m = cc (sym (ap is_some m) ∙ second_holds (Labels.is_number w w.messages n) (is_some ((w.part e).message c)) f)
     go f (Some a) m =

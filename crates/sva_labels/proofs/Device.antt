@@ -1,11 +1,11 @@
 -- What an act of an endpoint leaves of its device is what the act's move leaves of what is kept of the device.
-use Rattle.std.proofs.Common.{◌≡◌, refl, ap, sym, ◌∙◌, ℕ, ◌+◌, Bool, true, false, arith}
+use Rattle.std.proofs.Common.{◌≡◌, refl, ap, sym, ◌∙◌, ℕ, ◌+◌, Bool, true, false}
 use Rattle.std.specs.Prelude.{Option, Some, None, map}
 use Rattle.sva_model.specs.Words.{count_below}
 use Rattle.sva_model.specs.Message.{Message}
 use Rattle.sva_model.specs.Message.Message.{StartMessage, StopMessage, ResetMessage, CompletionMessage, InvalidateMessage, ResponseMessage, RequestMessage}
 use Rattle.sva_model.specs.Message.Message.{InvalidatedMessage, PageRequestMessage, MarkerMessage, ResetDoneMessage}
-use Rattle.sva_model.specs.State.{Mappings, Stage, Endpoint, World}
+use Rattle.sva_model.specs.State.{Mappings, Endpoint, World}
 use Rattle.sva_model.specs.State.PasidState.{Off, On, Ending}
 use Rattle.sva_model.specs.States.{is_unreleased, is_off}
 use Rattle.sva_model.specs.Acts.{Act, LocalAct, act, act_alone, bound, submits, submitted, submitted_if}
@@ -15,7 +15,7 @@ use Rattle.sva_model.specs.Acts.LocalAct.{Complete, Count, Arrive, Miss, Mark, I
 use Rattle.sva_model.specs.Wire.{DeviceWire, device_wire}
 use Rattle.sva_laws.proofs.Legal.{LegalLocalAct}
 use Rattle.sva_laws.proofs.Bounds.{Bounds}
-use Rattle.sva_laws.proofs.Bindings.{is_unmarked, unmarked_unreleased}
+use Rattle.sva_laws.proofs.Bindings.{unmarked_unreleased}
 use Rattle.sva_laws.proofs.Labels.{Labels}
 use Rattle.sva_laws.proofs.Invariant.{PartInvariant}
 use Rattle.sva_labels.specs.Moves.{stale_of}

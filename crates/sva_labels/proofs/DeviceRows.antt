@@ -1,6 +1,6 @@
 -- Tables by label as lists: what they are where no entry changes, where one does, and where each changes alike.
-use Rattle.std.proofs.Common.{◌≡◌, ◌≢◌, refl, ap, ap₂, sym, ◌∙◌, ℕ, zero, suc, ◌<◌, Bool, true, false, arith}
-use Rattle.std.specs.Prelude.{if◌then◌else◌, Option, Some, None, option_map, [], ◌∷◌, ◌++◌, map, slice_set}
+use Rattle.std.proofs.Common.{◌≡◌, ◌≢◌, refl, ap, sym, ◌∙◌, ℕ, zero, suc, ◌<◌, Bool, true}
+use Rattle.std.specs.Prelude.{Option, Some, None, option_map, [], ◌∷◌, ◌++◌, map, slice_set}
 use mathlib.Core.List.{map-append}
 use Rattle.sva_model.specs.Words.{select, tabulate}
 use Rattle.sva_wire.proofs.Lists.{tabulate_same, tabulate_set}

@@ -1,10 +1,9 @@
 -- The request tags of a device: what each act that touches one leaves of them.
 use Rattle.std.proofs.Common.{◌≡◌, ◌≢◌, ◌⊎◌, inl, inr, refl, ap, sym, ◌∙◌, ℕ, ◌<◌, Bool, true, false, arith}
 use Rattle.std.specs.Prelude.{Option, Some, None, option_map, ◌&&◌, ◌||◌, ◌==◌, List, map, slice_set}
-use Rattle.std.proofs.lemmas.Bool.Decides.{nat_tests}
 use Rattle.std.proofs.lemmas.Bool.{eq-eqb, ne_eqb}
 use Rattle.sva_model.specs.Words.{put, tabulate}
-use Rattle.sva_model.specs.State.{Mappings, Stage, RequestState, Order, Endpoint}
+use Rattle.sva_model.specs.State.{Mappings, RequestState, Order, Endpoint}
 use Rattle.sva_model.specs.State.RequestState.{Out, Doomed, Over}
 use Rattle.sva_model.specs.State.Order.{RangeOf, PasidOf, Wait}
 use Rattle.sva_model.specs.States.{is_unreleased, is_out, is_busy, is_wait, is_within, covers}
@@ -17,7 +16,7 @@ use Rattle.sva_laws.proofs.Bounds.{Bounds}
 use Rattle.sva_laws.proofs.Bindings.{Bindings}
 use Rattle.sva_laws.proofs.Labels.{Labels}
 use Rattle.sva_laws.proofs.Requests.{Requests}
-use Rattle.sva_laws.proofs.Orders.{Orders, is_active, is_undone, active_unreleased}
+use Rattle.sva_laws.proofs.Orders.{Orders, is_undone, active_unreleased}
 use Rattle.sva_laws.proofs.Tests.{same_inside, turned}
 use Rattle.sva_labels.specs.Finding
 use Rattle.sva_labels.specs.Moves.{doomed}
@@ -117,7 +116,6 @@ pub pasids_differ : (p : Endpoint) (b d : ℕ) → Labels p → is_unreleased (p
     ≡ (d == b)
 pasids_differ p b d la h k = go (ℕ_cases d b)
   where
-
     one : p.pasid d ≡ p.pasid b → d ≡ b
     one e = same_inside (sym (la.bears_pasid d k) ∙ ap p.at_pasid e ∙ la.bears_pasid b h)
 
@@ -132,7 +130,6 @@ covers_same p k b q la or h un =
     ap (λ x. x && is_within (extent_of (p.order k)) q) (pasids_differ p (binding_of (p.order k)) b la (busy_unreleased p k or h) un)
     ∙ by_order (p.order k) (or.no_wait k h)
   where
-
     by_order : (o : Order) → is_wait o ≡ false → ((b == binding_of o) && is_within (extent_of o) q) ≡ covers o b q
     by_order (RangeOf c range) h = ap (λ x. x && is_within (Pages range) q) (turned b c)
     by_order (PasidOf c) h = ap (λ x. x && is_within AllPages q) (turned b c)

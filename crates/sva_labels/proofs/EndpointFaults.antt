@@ -8,8 +8,7 @@ use Rattle.sva_step.specs.declared.refusals.Refusal.TheVariants as refusal
 use Rattle.sva_step.specs.declared.steps.Step.TheVariants as step
 use Rattle.sva_model.specs.Words as words
 use Rattle.sva_model.specs.Words.{count_below, tabulate, holds_of, the}
-use Rattle.sva_model.specs.State.{Endpoint, World, GroupState}
-use Rattle.sva_model.specs.State.GroupState.{Collecting}
+use Rattle.sva_model.specs.State.{Endpoint, World}
 use Rattle.sva_model.specs.States.{is_collecting, is_outstanding}
 use Rattle.sva_model.specs.Labels
 use Rattle.sva_model.specs.Refusals as names
@@ -132,7 +131,6 @@ sum_groups group_of out at label_of bears there (suc n) =
     ∙ sum_more 32 (λ i. of_group group_of n (at i)) (λ i. is_one (group_of n) (at i))
     ∙ go (out (group_of n)) refl (sum_groups group_of out at label_of bears there n)
   where
-
     bearer : (i : ℕ) (o : Option ℕ) → at i ≡ o → is_one (group_of n) o ≡ true → (label_of (group_of n) ≡ i) × (out (group_of n) ≡ true)
     bearer i None e h = absurd (cc)
     bearer i (Some g) e h = bears i (group_of n) (e ∙ ap (λ z. Some z) (sym (eqb-true (group_of n) g h)))

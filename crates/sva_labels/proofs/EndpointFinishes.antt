@@ -2,18 +2,17 @@
 use Rattle.std.proofs.Common.{◌≡◌, refl, ap, sym, ◌∙◌, ℕ, ◌<◌, Bool, true, false, arith}
 use Rattle.std.specs.Prelude.{Option, Some, None, ◌&&◌, ◌||◌, not, nat_lt, is_none}
 use Rattle.std.specs.List.{list_any}
-use Rattle.std.proofs.lemmas.Bool.Decides.{nat_tests}
 use Rattle.std.proofs.lemmas.Bool.{and_from, lt-ltb, ltb-true}
 use Rattle.sva_step.specs.declared.refusals.Refusal.TheVariants as refusal
 use Rattle.sva_step.specs.declared.steps.Step.TheVariants as step
 use Rattle.sva_model.specs.Words.{any_below, tabulate, holds_of}
-use Rattle.sva_model.specs.State.{Mappings, Endpoint, World, OrderState, UseState}
+use Rattle.sva_model.specs.State.{Mappings, Endpoint, World, OrderState}
 use Rattle.sva_model.specs.State.OrderState.{Queued, Sent, Taken, Lapsed, Completing, Done, Void}
-use Rattle.sva_model.specs.States.{is_taken, is_busy, is_running, uses_noted, covers}
+use Rattle.sva_model.specs.States.{is_taken, is_running, uses_noted, covers}
 use Rattle.sva_model.specs.Labels
 use Rattle.sva_model.specs.Refusals.{refusals}
 use Rattle.sva_model.specs.Wire.{chain, is_noted, taken_by, wire}
-use Rattle.sva_laws.proofs.Labels.{has_slot, running_slot}
+use Rattle.sva_laws.proofs.Labels.{running_slot}
 use Rattle.sva_laws.proofs.Invariant.{Invariant}
 use Rattle.sva_laws.proofs.Orders.{taken_busy}
 use Rattle.sva_laws.proofs.Tests.{first_holds, second_holds}

@@ -41,7 +41,6 @@ pub pasid_seen : (ms : Mappings) (p : Endpoint) → Bears.Labels p → (t : ℕ)
 pasid_seen ms p la zero = sym (ap (state_of_pasid p) (none_zero p la))
 pasid_seen ms p la (suc t) = go (nat_lt t 32) refl
   where
-
     go : (b : Bool) → nat_lt t 32 ≡ b → pasid_state (device_wire ms p) (suc t) ≡ state_of_pasid p (p.at_pasid (suc t))
     go true h = tabulate_at 32 (λ x. state_of_pasid p (p.at_pasid (suc x))) t Off (ltb-true t 32 h)
     go false h =
@@ -70,7 +69,6 @@ table_seen :
     → get_or (tabulate n (λ x. f (at x))) t None ≡ f (at t)
 table_seen {A = A} n at f none low t = go (nat_lt t n) refl
   where
-
     nothing : n ≤ t → (o : Option ℕ) → at t ≡ o → o ≡ None
     nothing l None h = refl
     nothing l (Some k) h = absurd (let m = low t k h in omega (arith, m, l))

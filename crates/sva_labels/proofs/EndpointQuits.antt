@@ -9,7 +9,6 @@ use Rattle.sva_step.specs.declared.refusals.Refusal.TheVariants as refusal
 use Rattle.sva_step.specs.declared.steps.Step.TheVariants as step
 use Rattle.sva_model.specs.Words.{any_below}
 use Rattle.sva_model.specs.State.{Mappings, Endpoint, World, GroupState, UseState}
-use Rattle.sva_model.specs.State.GroupState.{Collecting}
 use Rattle.sva_model.specs.State.UseState.{Running}
 use Rattle.sva_model.specs.States.{is_ending, is_out, is_running, is_collecting, is_outstanding}
 use Rattle.sva_model.specs.Claims.{IsBearer}
@@ -17,7 +16,7 @@ use Rattle.sva_model.specs.Labels
 use Rattle.sva_model.specs.Refusals.{refusals}
 use Rattle.sva_model.specs.Wire.{UseWire, request_wire, use_wire, group_wire, translation_wire, device_wire, wire}
 use Rattle.sva_laws.proofs.Words.{any_below-true, any_below-intro}
-use Rattle.sva_laws.proofs.Labels.{has_slot, running_slot}
+use Rattle.sva_laws.proofs.Labels.{running_slot}
 use Rattle.sva_laws.proofs.Invariant.{Invariant}
 use Rattle.sva_laws.proofs.Found.{found}
 use Rattle.sva_laws.proofs.Passed.{bearer_of}
@@ -216,7 +215,7 @@ ending_bearer w e t h = (bearer_of (w.part e) t (λ b. is_ending ((w.part e).pas
 pub quit_says : (w : World) (e t : ℕ) → Invariant w → SaysAlike w (step.Quit e t)
 quit_says w e t i =
     record {
-      eqb-true =
+      alike =
           same_alike (causes_of (wire w) (step.Quit e t)) (refusals w (step.Quit e t)) (
             endpoint_cause w e,
             λ f. (

@@ -2,7 +2,6 @@
 -- of them have the same index.
 use Rattle.std.proofs.Common.{◌≡◌, ◌≢◌, ◌⊎◌, inl, inr, refl, ap, ap₂, sym, ◌∙◌, ℕ, ◌<◌, ◌≤◌, Bool, true, false, arith, append-nil}
 use Rattle.std.specs.Prelude.{◌&&◌, not, ◌==◌, Some, List, [], ◌∷◌, ◌++◌, filter}
-use Rattle.std.proofs.lemmas.Bool.Decides.{nat_tests}
 use Rattle.std.proofs.lemmas.Bool.{and_left, cases_lt, eq-eqb, eqb-true, ne_eqb}
 use Rattle.sva_model.specs.Words.{put, any_below, lowest}
 use Rattle.sva_model.specs.Message.{Code}
@@ -326,7 +325,6 @@ module _ (ms : Mappings) (x g n e first : ℕ) (p : Endpoint) (r : ℕ) (l : Leg
           apart : filed_group p k ≢ own_group
           apart s = below (cases_lt k least)
             where
-
               below : (k < least) ⊎ (least ≤ k) → ⊥
               below (inl u) = absurd (cc (sym (at_least.2 k u) ∙ eq-eqb (filed_group p k) own_group s))
               below (inr u) =

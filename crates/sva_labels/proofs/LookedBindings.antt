@@ -91,7 +91,7 @@ binding_released w e b i ne u =
     let endpoint_of : w.endpoint_of b ≡ e = i.one_endpoint e b ne in
     let back : Labels.name w (number w.config.first b) ≡ b = omega arith in
     binding_missing w (number w.config.first b)
-    (second_holds (Labels.is_number w w.bindings (number w.config.first b)) (is_kept w (Labels.name w (number w.config.first b)))
+    (and_right (Labels.is_number w w.bindings (number w.config.first b)) (is_kept w (Labels.name w (number w.config.first b)))
     (ap (is_kept w) back ∙ ap (λ d. is_unreleased ((w.part d).stage b)) endpoint_of ∙ u))
 
 -- By the PASID that it bears at its endpoint.

@@ -10,7 +10,7 @@ use Rattle.sva_model.specs.Labels
 use Rattle.sva_model.specs.Wire.{number, begins_open, host_group_wire, part_wire}
 use Rattle.sva_laws.proofs.Words.{any_below-true, any_below-intro, lowest_below}
 use Rattle.sva_laws.proofs.Bounds.{Bounds}
-use Rattle.sva_laws.proofs.Groups.{is_filed_group, open_filed}
+use Rattle.sva_laws.proofs.Groups.{open_filed}
 use Rattle.sva_laws.proofs.Tests.{first_holds, second_holds}
 use Rattle.sva_wire.proofs.Lists.{none_below}
 use Rattle.sva_labels.specs.Finding.{has_open_group}

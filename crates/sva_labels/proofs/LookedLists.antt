@@ -27,7 +27,6 @@ find_step :
     → if_found (nat_lt (step_lowest (z == n) z n b) (suc n)) (step_lowest (z == n) z n b) ≡ or_first (if_found (nat_lt z n) z) n b
 find_step z n b (inl e) = here (z == n) (nat_lt z n) (eq-eqb z n e) (not_less z n e) b
   where
-
     not_less : (z n : ℕ) → z ≡ n → nat_lt z n ≡ false
     not_less z n e = grind (arith, nat_tests)
 
@@ -46,7 +45,6 @@ find_step z n b (inl e) = here (z == n) (nat_lt z n) (eq-eqb z n e) (not_less z 
     here true true h k b = absurd (cc (k))
 find_step z n b (inr l) = here (z == n) (nat_lt z n) (lower_differs z n l) (lt-ltb z n l)
   where
-
     still : nat_lt z (suc n) ≡ true
     still = grind (arith, nat_tests)
 

@@ -150,7 +150,6 @@ waits_seen first n cookie e p f wt (Some b) = target_seen first n cookie b p f (
 within : (n m : ℕ) (p : ℕ → Bool) → n ≤ m → any_below m (λ e. nat_lt e n && p e) ≡ any_below n p
 within n m p l = both_ways (any_below m (λ e. nat_lt e n && p e)) (any_below n p) forth back
   where
-
     forth : any_below m (λ e. nat_lt e n && p e) ≡ true → any_below n p ≡ true
     forth h =
         let x = any_below-true m (λ e. nat_lt e n && p e) h in

@@ -115,7 +115,6 @@ any_seen (suc n) s f p =
     ∙ ap₂ ◌||◌ (any_seen n s f p) (one (s n))
     ∙ or_if (any_below n (λ k. s k && p (f k))) (s n && p (f n))
   where
-
     one : (b : Bool) → list_any p (map f (if b then n ∷ [] else [])) ≡ (b && p (f n))
     one true = or_no (p (f n))
     one false = refl

@@ -1,8 +1,7 @@
 -- The places of frames once pages of a space went, and after an act of one endpoint: by the latest mapping of each frame.
-use Rattle.std.proofs.Common.{◌≡◌, refl, ap, ap₂, sym, ◌∙◌, ℕ, zero, suc, ◌<◌, Bool, true, false, arith}
-use Rattle.std.specs.Prelude.{Some, None, Option, ◌&&◌, ◌==◌, if◌then◌else◌, List, [], ◌∷◌, ◌++◌, map, filter}
+use Rattle.std.proofs.Common.{◌≡◌, refl, ap, ap₂, sym, ◌∙◌, ℕ, ◌<◌, Bool, true, false, arith}
+use Rattle.std.specs.Prelude.{Some, None, Option, ◌&&◌, ◌==◌, if◌then◌else◌, List, [], ◌∷◌, map, filter}
 use Rattle.std.specs.List.{list_any}
-use Rattle.std.proofs.lemmas.List.{map-append}
 use Rattle.std.proofs.lemmas.Bool.{and_from, eq-eqb, eqb-true}
 use Rattle.sva_model.specs.Words.{any_below, tabulate}
 use Rattle.sva_model.specs.State.{Owed, MappingState, World}
@@ -13,7 +12,7 @@ use Rattle.sva_model.specs.Wire.{PlaceWire, is_page_of, pages_wire, place_wire_b
 use Rattle.sva_model.specs.Wire.PlaceWire.{FreeWire, MappedWire}
 use Rattle.sva_laws.proofs.Words.{any_below-true, any_below-false}
 use Rattle.sva_laws.proofs.Invariant.{Mapped}
-use Rattle.sva_laws.proofs.Tests.{first_holds, same_inside, second_holds}
+use Rattle.sva_laws.proofs.Tests.{first_holds, second_holds}
 use Rattle.sva_wire.proofs.Lists.{tabulate_same}
 use Rattle.sva_wire.proofs.Pages.{present_is}
 use Rattle.sva_wire.proofs.Places.{seen_by, seen_at, place_seen}

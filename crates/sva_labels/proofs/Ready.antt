@@ -8,7 +8,7 @@ use Rattle.sva_step.specs.declared.steps.Step.TheVariants as step
 use Rattle.sva_step.specs.declared.steps.Verdict.{Verdict}
 use Rattle.sva_model.specs.Words.{the, any_below, lowest, put}
 use Rattle.sva_model.specs.Message.{Code}
-use Rattle.sva_model.specs.State.{Endpoint, World, Stage, Order, OrderState, Subject, RequestState}
+use Rattle.sva_model.specs.State.{Endpoint, World, Stage, Order, Subject, RequestState}
 use Rattle.sva_model.specs.State.OrderState.{Queued}
 use Rattle.sva_model.specs.State.HostGroupState.{Job}
 use Rattle.sva_model.specs.State.Stage.{Unbound, Live, Stopping, Draining, Invalidating, Quiet, Lost, Released}
@@ -60,7 +60,6 @@ advance_ready w e b Released = ((tt, tt), tt)
 head_first : (p : Endpoint) (j : ℕ) → j < Labels.head p → p.order_state j ≢ Queued
 head_first p j l = go (lowest_cases p.orders (λ k. is_queued (p.order_state k)))
   where
-
     go :
         ((Labels.head p ≡ p.orders) × ((j : ℕ) → j < p.orders → is_queued (p.order_state j) ≡ false)) ⊎ ((Labels.head p < p.orders)
         × (is_queued (p.order_state (Labels.head p)) ≡ true) × ((j : ℕ) → j < Labels.head p → is_queued (p.order_state j) ≡ false))

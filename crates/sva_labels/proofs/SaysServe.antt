@@ -1,5 +1,5 @@
 -- The steps serve and take by labels: they refuse what the steps by names refuse, and answer and move what these do.
-use Rattle.std.proofs.Common.{◌≡◌, refl, ap, ap₂, sym, ◌∙◌, ℕ, ◌<◌, Bool, true, false, arith}
+use Rattle.std.proofs.Common.{◌≡◌, refl, ap, ap₂, sym, ◌∙◌, ℕ, ◌<◌, Bool, true, false}
 use Rattle.std.specs.Prelude as prelude
 use Rattle.std.specs.Prelude.{Option, Some, None, option_map, not, ◌==◌, nat_lt, List, [], ◌∷◌, ◌++◌, map, length}
 use Rattle.std.proofs.lemmas.List.{length-map}
@@ -8,10 +8,9 @@ use Rattle.sva_step.specs.declared.answers.Answer.TheVariants as answer
 use Rattle.sva_step.specs.declared.refusals.Refusal.TheVariants as refusal
 use Rattle.sva_step.specs.declared.steps.Step.TheVariants as step
 use Rattle.sva_model.specs.Words.{is_some, lowest, any_below}
-use Rattle.sva_model.specs.State.{PageRequestState, Stage, World}
+use Rattle.sva_model.specs.State.{World}
 use Rattle.sva_model.specs.State.PageRequestState.{Arrived}
 use Rattle.sva_model.specs.State.Phase.{Open}
-use Rattle.sva_model.specs.States.{is_arrived, is_unreleased, is_before_invalidating}
 use Rattle.sva_model.specs.Acts.{Act, LocalAct, act, act_alone}
 use Rattle.sva_model.specs.Refusals as names
 use Rattle.sva_model.specs.Refusals.{Cause, refusals}

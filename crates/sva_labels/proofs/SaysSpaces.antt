@@ -1,5 +1,5 @@
 -- The steps of spaces and frames by labels: they refuse what the steps by names refuse, and answer and move what these do.
-use Rattle.std.proofs.Common.{◌≡◌, refl, ap, ap₂, sym, ◌∙◌, ℕ, ◌+◌, ◌-◌, ◌≤◌, ◌^◌, Bool, true, false, arith}
+use Rattle.std.proofs.Common.{◌≡◌, refl, ap, ap₂, sym, ◌∙◌, ℕ, ◌+◌, ◌≤◌, ◌^◌, Bool, true, false}
 use Rattle.std.specs.Prelude.{◌%◌, ◌&&◌, Option, Some, None, not, ◌==◌, nat_lt, nat_le, List, [], ◌∷◌}
 use Rattle.std.proofs.lemmas.Bool.{not-false}
 use Rattle.sva_step.specs.declared.answers.Answer.TheVariants as answer

@@ -1,7 +1,7 @@
 -- What frames wait for at a unit is settled by a wait that is done, which takes its own cookie away, and by a reset-done, which
 -- takes all away.
 use Rattle.std.proofs.Common.{◌≡◌, ◌≢◌, ◌⊎◌, inl, inr, refl, ap, sym, subst, ◌∙◌, ℕ, zero, suc, ◌+◌, ◌<◌, ◌≤◌, Bool, true, false, arith}
-use Rattle.std.specs.Prelude.{Some, None, Option, is_none, ◌&&◌, ◌||◌, ◌==◌, nat_lt, if◌then◌else◌, List, [], ◌∷◌, slice_set, slice_index_or}
+use Rattle.std.specs.Prelude.{Some, None, Option, is_none, ◌&&◌, ◌==◌, nat_lt, if◌then◌else◌, List, [], ◌∷◌, slice_set, slice_index_or}
 use Rattle.std.specs.List.{list_all}
 use Rattle.std.proofs.lemmas.Bool.Decides.{nat_tests}
 use Rattle.std.proofs.lemmas.Bool.{cases_lt, eq-eqb, lt-ltb, ne_eqb, or_left, or_right}

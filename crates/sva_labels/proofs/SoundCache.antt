@@ -6,11 +6,10 @@ use Rattle.std.proofs.lemmas.Option.{same_Some}
 use Rattle.std.proofs.lemmas.List.{append-nil}
 use mathlib.Core.List.{map-append}
 use Rattle.sva_model.specs.Words.{select, is_some, the}
-use Rattle.sva_model.specs.State.{Mappings, Endpoint, Stage}
-use Rattle.sva_model.specs.States.{is_unreleased}
+use Rattle.sva_model.specs.State.{Mappings, Endpoint}
 use Rattle.sva_model.specs.Wire.{TranslationWire, insert_by, sorted_by, is_before, cached_wire, cache_wire}
 use Rattle.sva_laws.proofs.Words.{some_the}
-use Rattle.sva_laws.proofs.Orders.{is_active, active_unreleased}
+use Rattle.sva_laws.proofs.Orders.{active_unreleased}
 use Rattle.sva_laws.proofs.Invariant.{PartInvariant}
 
 abbrev AllOf : {A : Type 0} → (A → Type 0) → List A → Type 0

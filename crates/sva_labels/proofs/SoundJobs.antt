@@ -6,12 +6,12 @@ use Rattle.std.proofs.lemmas.Bool.{cases_lt, eq-eqb, eqb-true, false_from_ne_tru
 use Rattle.sva_step.specs.declared.steps.Verdict.TheVariants as verdict
 use Rattle.sva_model.specs.Words as words
 use Rattle.sva_model.specs.Words.{count_below}
-use Rattle.sva_model.specs.State.{Endpoint, World, Stage, Phase, HostGroupState, PageRequestState, Mappings}
+use Rattle.sva_model.specs.State.{Endpoint, World, Stage, Phase, HostGroupState, Mappings}
 use Rattle.sva_model.specs.State.Stage.{Unbound}
 use Rattle.sva_model.specs.State.PageRequestState.{Arrived}
 use Rattle.sva_model.specs.State.HostGroupState.{Job, InHand, InHandDiscarded}
 use Rattle.sva_model.specs.State.Phase.{Open}
-use Rattle.sva_model.specs.States.{is_open, is_unreleased, is_before_invalidating, is_arrived, is_open_group, is_job}
+use Rattle.sva_model.specs.States.{is_open, is_unreleased, is_before_invalidating, is_open_group, is_job}
 use Rattle.sva_model.specs.Labels
 use Rattle.sva_model.specs.Replies.{response, job_binding}
 use Rattle.sva_model.specs.Wire.{BindingWire, JobWire, HostGroupWire, PageRequestWire, number, binding_wire, asks_wire, ask_wire, group_job, job_wire}

@@ -1,29 +1,20 @@
 -- A page request that is to arrive at an open unit finds a place in the page request queue; and one that is to be filed finds
 -- fewer than 32 in its group. For each of them is outstanding, and no more than 32 are.
 use Rattle.std.proofs.Common.{◌≡◌, ◌≢◌, inl, inr, refl, ap, sym, subst, ◌∙◌, ℕ, suc, ◌<◌, ◌≤◌, Bool, true, false, arith}
-use Rattle.std.specs.Prelude.{Option, Some, None, ◌&&◌, not, ◌==◌, List, length}
-use Rattle.std.proofs.lemmas.Bool.Decides.{nat_tests}
+use Rattle.std.specs.Prelude.{Some, ◌&&◌, not, ◌==◌, length}
 use Rattle.std.proofs.lemmas.Bool.{and_from, eq-eqb, eqb-true, ne_eqb}
-use Rattle.sva_step.specs.declared.limits.Config.{Config}
-use Rattle.sva_step.specs.declared.steps.Step.{Step}
 use Rattle.sva_model.specs.Words.{count_below}
-use Rattle.sva_model.specs.State.{PasidRule, Mappings, Endpoint, World, PageRequestState}
-use Rattle.sva_model.specs.State.PageRequestState.{InFlight, Arrived, Filed, Dropped}
+use Rattle.sva_model.specs.State.{Mappings, Endpoint, PageRequestState}
+use Rattle.sva_model.specs.State.PageRequestState.{InFlight, Arrived, Filed}
 use Rattle.sva_model.specs.State.Subject.{PageRequestOf}
 use Rattle.sva_model.specs.State.Phase.{Open}
-use Rattle.sva_model.specs.States.{is_arrived, is_outstanding}
-use Rattle.sva_model.specs.Acts.{Act, LocalAct, act, act_alone, submitted_if, submits, bound, cookie_of}
-use Rattle.sva_model.specs.Acts.Act.{NewSpace, DropSpace, Map, Unmap, NewBinding, NewJob, Hold, LetGo, AtEndpoint}
+use Rattle.sva_model.specs.States.{is_outstanding}
 use Rattle.sva_model.specs.Labels.{outstanding, is_waiting}
-use Rattle.sva_model.specs.Steps.{world_after}
 use Rattle.sva_model.specs.Wire.{page_request_wire, page_queue_wire, ask_wire, asks_wire}
 use Rattle.sva_laws.proofs.Counting.{count_off, count_placed}
-use Rattle.sva_laws.proofs.Legal.{LegalLocalAct}
-use Rattle.sva_laws.proofs.PageRequests.{Queued, arrived_is, arrival_once}
-use Rattle.sva_laws.proofs.Invariant.{Invariant, PartInvariant}
-use Rattle.sva_laws.proofs.Keeps.{Legal, put_keeps}
+use Rattle.sva_laws.proofs.PageRequests.{arrived_is, arrival_once}
+use Rattle.sva_laws.proofs.Invariant.{PartInvariant}
 use Rattle.sva_laws.proofs.Filed.{FiledOnce, filed_made}
-use Rattle.sva_labels.proofs.Granted.{IsGranted, always_has}
 use Rattle.sva_labels.proofs.HostGroupsAct.{filed_group, asks_seen}
 use Rattle.sva_labels.proofs.LookedLists.{length_seen}
 

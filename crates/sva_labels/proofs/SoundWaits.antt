@@ -1,8 +1,7 @@
 -- At an open unit what a frame awaits is a wait in the unit's queue, and so is what a binding awaits whose PASID is
 -- invalidated, unless that is done.
 use Rattle.std.proofs.Common.{◌≡◌, ◌≢◌, ◌⊎◌, inl, inr, refl, ap, sym, subst, ◌∙◌, ℕ, ◌+◌, ◌<◌, ◌≤◌, Bool, true, false, arith}
-use Rattle.std.specs.Prelude.{Option, Some, None, nat_lt, if◌then◌else◌, slice_get, slice_index_or}
-use Rattle.std.proofs.lemmas.Bool.Decides.{nat_tests}
+use Rattle.std.specs.Prelude.{Option, Some, None, if◌then◌else◌, slice_get, slice_index_or}
 use Rattle.std.proofs.lemmas.Bool.{lt-ltb}
 use Rattle.sva_model.specs.Words.{all_below, tabulate}
 use Rattle.sva_model.specs.State.{Owed, MappingState, Endpoint, World, Stage, Order, OrderState}
@@ -12,7 +11,7 @@ use Rattle.sva_model.specs.State.Stage.{Unbound, Live, Stopping, Draining, Inval
 use Rattle.sva_model.specs.State.Order.{RangeOf, PasidOf, Wait}
 use Rattle.sva_model.specs.State.OrderState.{Queued, Void}
 use Rattle.sva_model.specs.State.Phase.{Open}
-use Rattle.sva_model.specs.States.{is_open, is_queued, is_wait, is_done, answered, place}
+use Rattle.sva_model.specs.States.{is_queued, is_wait, is_done, answered, place}
 use Rattle.sva_model.specs.Wire.{PlaceWire, BindingWire, number, cookie_number, target_of, target_wire, place_wire_by, stage_wire, descriptor, unit_wire}
 use Rattle.sva_model.specs.Wire.{wire}
 use Rattle.sva_model.specs.Wire.PlaceWire.{WithheldWire}

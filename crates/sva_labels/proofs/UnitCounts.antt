@@ -1,8 +1,7 @@
 -- The unit, where a completion of invalidations arrives: it counts by the ITags of its vector, which are those of the orders
 -- that it names; an ITag is free once the last has come.
 use Rattle.std.proofs.Common.{◌≡◌, ◌≢◌, ◌⊎◌, inl, inr, refl, ap, sym, ◌∙◌, ℕ, zero, suc, ◌<◌, ◌≤◌, Bool, true, false, arith}
-use Rattle.std.specs.Prelude.{◌-◌, ◌&&◌, ◌==◌, if◌then◌else◌, Option, Some, None, option_map, slice_index_or}
-use Rattle.std.proofs.lemmas.Bool.Decides.{nat_tests}
+use Rattle.std.specs.Prelude.{◌-◌, ◌&&◌, if◌then◌else◌, Option, Some, None, option_map, slice_index_or}
 use Rattle.std.proofs.lemmas.Bool.{eq-eqb, ne_eqb}
 use Rattle.sva_model.specs.Words.{unless}
 use Rattle.sva_model.specs.State.{Mappings, OrderState, Endpoint}
@@ -19,7 +18,6 @@ use Rattle.sva_laws.proofs.Labels.{Labels}
 use Rattle.sva_laws.proofs.Vectors.{IsOwedFor, AreOwed}
 use Rattle.sva_laws.proofs.Words.{ℕ_cases}
 use Rattle.sva_labels.specs.Moves.{one_more, counting, completed}
-use Rattle.sva_labels.specs.Outcomes as labels
 use Rattle.sva_labels.proofs.Kept.{unit_moved}
 use Rattle.sva_labels.proofs.Named.{own_move, count_move}
 use Rattle.sva_labels.proofs.UnitQueue.{queue_of, busy_of, units_same}

@@ -2,8 +2,7 @@
 -- the endpoint takes, has taken or lets lapse is as fresh as it was.
 use Rattle.std.proofs.Common.{◌≡◌, ◌≢◌, ◌⊎◌, inl, inr, refl, ap, sym, ◌∙◌, ℕ, zero, suc, Bool, true, false, arith}
 use Rattle.std.proofs.lemmas.List.{map-append}
-use Rattle.std.specs.Prelude.{◌-◌, if◌then◌else◌, ◌==◌, Option, None, option_map, [], ◌∷◌, ◌++◌, map}
-use Rattle.std.proofs.lemmas.Bool.Decides.{nat_tests}
+use Rattle.std.specs.Prelude.{◌-◌, if◌then◌else◌, Option, None, option_map, [], ◌∷◌, ◌++◌, map}
 use Rattle.sva_model.specs.Words.{put, select, tabulate}
 use Rattle.sva_model.specs.State.{Mappings, OrderState, Endpoint}
 use Rattle.sva_model.specs.State.OrderState.{Queued, Sent, Taken, Lapsed, Completing, Done, Void}

@@ -1,7 +1,7 @@
 -- What the unit keeps after invalidations of ranges and the wait behind them are submitted: their descriptors stand at the
 -- end of its queue. The device, the page request queue and the open groups are as they were.
 use Rattle.std.proofs.Common.{◌≡◌, refl, ap, ap₂, ◌∙◌, ℕ, suc, ◌+◌, ◌<◌, ◌≤◌, Bool, true, false, arith}
-use Rattle.std.specs.Prelude.{◌-◌, ◌&&◌, nat_lt, Option, Some, None, option_map, List, [], ◌∷◌, ◌++◌, map}
+use Rattle.std.specs.Prelude.{◌&&◌, nat_lt, Option, Some, None, option_map, List, [], ◌∷◌, ◌++◌, map}
 use Rattle.std.proofs.lemmas.Bool.Decides.{nat_tests}
 use Rattle.sva_model.specs.Words.{put_range, select, tabulate, holds_of}
 use Rattle.sva_model.specs.State.{Mappings, Order, OrderState, Endpoint}

@@ -1,6 +1,6 @@
 -- What a step answers and moves where nothing refuses it, read off what a host keeps: numbers and labels alone. It is the
 -- outcome of the definitions, case by case.
-use Rattle.std.specs.Prelude.{ℕ, zero, suc, ◌+◌, ◌^◌, Bool, true, false, ◌&&◌, ◌||◌, not, ◌==◌, nat_le, if◌then◌else◌, is_some, Option, Some, None, List}
+use Rattle.std.specs.Prelude.{ℕ, suc, ◌+◌, ◌^◌, Bool, true, false, ◌&&◌, ◌||◌, not, ◌==◌, nat_le, if◌then◌else◌, is_some, Option, Some, None, List}
 use Rattle.std.specs.Prelude.{[], ◌∷◌, ◌++◌, length, slice_index_or}
 use Rattle.std.specs.List.{count_by, find}
 use Rattle.sva_step.specs.declared.answers.Answer.{Answer}

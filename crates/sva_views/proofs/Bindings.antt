@@ -137,7 +137,6 @@ row_found (suc n) first p =
     ∙ ap (λ z. shifted first (if p z then Some 0 else shifted 1 (words.find n (λ k. p (first + suc k))))) (sym zero_more)
     ∙ ap (shifted first) (sym (found_front n (λ k. p (first + k))))
   where
-
     go : (b : Bool) → (if b then Some first else shifted first (shifted 1 (words.find n (λ k. p (first + suc k)))))
         ≡ shifted first (if b then Some 0 else shifted 1 (words.find n (λ k. p (first + suc k))))
     go true = ap Some (zero_is first)

@@ -1,9 +1,8 @@
 -- Messages from the host, seen.
 use Rattle.std.proofs.Common.{◌≡◌, refl, ap, sym, ◌∙◌, ℕ, zero, suc, Bool, true, false, arith}
-use Rattle.std.specs.Prelude.{◌&&◌, ◌||◌, not, ◌==◌, if◌then◌else◌, Some, None, option_map, List, [], ◌∷◌, map, drop, length, replicate, slice_set}
+use Rattle.std.specs.Prelude.{◌&&◌, ◌||◌, not, if◌then◌else◌, Some, None, option_map, List, [], ◌∷◌, map, drop, length, replicate, slice_set}
 use Rattle.std.specs.FinMap.{insert, entries, empty, from_sorted, empty_of_len, len-entries, entries-from_sorted}
 use Rattle.std.proofs.lemmas.List.{map-set, set-get_or}
-use Rattle.std.proofs.lemmas.Bool.Decides.{nat_tests}
 use Rattle.sva_laws.proofs.Tests.{turned}
 use Rattle.sva_step.specs.declared.answers.Answer.TheVariants as answer
 use Rattle.sva_model.specs.State.{PasidState as DeviceState}

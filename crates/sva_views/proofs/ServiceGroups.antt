@@ -25,7 +25,6 @@ of_binding n g = g.binding == n
 pub open_is_seen : OpenIsSeen
 open_is_seen s p unit binding h alone = go s.groups alone ∙ ap (list_any (of_binding binding)) (sym h)
   where
-
     rest : (g : OpenGroup) (gs : List OpenGroup) (e : ℕ) (b : Bool)
         → list_any (of_binding binding) (map group_seen (cond b (g ∷ filter (is_of_unit e) gs) (filter (is_of_unit e) gs))) ≡ false
         → list_any (of_binding binding) (of_unit e gs) ≡ false

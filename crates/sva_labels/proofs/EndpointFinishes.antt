@@ -77,7 +77,8 @@ noted_seen w e k uses i =
     back u l h =
         let there : p.at_slot (p.use_slot u) ≡ Some u =
         (i.parts e).labels.bears_slot u
-        (running_slot (p.use_state u) (first_holds (is_running (p.use_state u)) (covers (p.order k) (p.use_binding u) (w.mappings.page (p.use_mapping u))) h)) in (
+        (running_slot (p.use_state u)
+        (first_holds (is_running (p.use_state u)) (covers (p.order k) (p.use_binding u) (w.mappings.page (p.use_mapping u))) h)) in (
           p.use_slot u,
           (i.parts e).labels.slot_low (p.use_slot u) u there,
           ap (holds_of (is_noted w.mappings p k uses)) there ∙ and_from (nat_lt u uses) (Labels.is_noted_running w.mappings p k u) (lt-ltb u uses l) h,

@@ -102,7 +102,8 @@ bearer_is w e t i = find_seen (binding_seen w) (λ b. b.endpoint == e && b.pasid
     bears : (b : ℕ) → (is_kept w b && (w.endpoint_of b == e && (w.part (w.endpoint_of b)).pasid b == t)) ≡ true → (w.part e).at_pasid t ≡ Some b
     bears b h =
         let rest = second_holds (is_kept w b) (w.endpoint_of b == e && (w.part (w.endpoint_of b)).pasid b == t) h in
-        let endpoint_of : w.endpoint_of b ≡ e = eqb-true (w.endpoint_of b) e (first_holds (w.endpoint_of b == e) ((w.part (w.endpoint_of b)).pasid b == t) rest) in
+        let endpoint_of : w.endpoint_of b ≡ e =
+        eqb-true (w.endpoint_of b) e (first_holds (w.endpoint_of b == e) ((w.part (w.endpoint_of b)).pasid b == t) rest) in
         let pasid : (w.part (w.endpoint_of b)).pasid b ≡ t =
         eqb-true ((w.part (w.endpoint_of b)).pasid b) t (second_holds (w.endpoint_of b == e) ((w.part (w.endpoint_of b)).pasid b == t) rest) in
         subst (λ z. (w.part e).at_pasid z ≡ Some b) (ap (λ d. (w.part d).pasid b) (sym endpoint_of) ∙ pasid)

@@ -95,7 +95,8 @@ filing_short ms x g n e p r i fi most ph ar =
 
     placed : count_below p.filings (λ k. filed_group p k == p.group_of r) ≤ count_below p.page_requests (others_out p r)
     placed =
-        count_placed p.filings p.page_requests (λ k. filed_group p k == p.group_of r) (others_out p r) p.filing (λ k l t. filed_made g p i.bounds (p.filing k) (fi.filed k l))
+        count_placed p.filings p.page_requests (λ k. filed_group p k == p.group_of r) (others_out p r) p.filing
+        (λ k l t. filed_made g p i.bounds (p.filing k) (fi.filed k l))
         (λ k l t. and_from (is_out p (p.filing k)) (not (p.filing k == r))
         (ap (λ z. is_outstanding (p.group z)) (eqb-true (filed_group p k) (p.group_of r) t) ∙ out) (differs (p.filing k) r (apart k l)))
         fi.once

@@ -1,6 +1,6 @@
 -- The steps by numbers and labels: what a host answers, and what it keeps afterwards, read off what it keeps before. And the
 -- law that they are the steps by names.
-use Rattle.std.specs.Prelude.{◌≡◌, List, [], ◌∷◌, None, Ok, Err}
+use Rattle.std.specs.Prelude.{◌≡◌, List, [], ◌∷◌, if◌then◌else◌, None, Ok, Err}
 use Rattle.sva_step.specs.declared.limits.Config.{Config}
 use Rattle.sva_step.specs.declared.steps.Step.{Step}
 use Rattle.sva_model.specs.Words.{tabulate}

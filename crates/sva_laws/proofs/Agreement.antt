@@ -171,7 +171,8 @@ matched w e i =
       arrived = λ r ph h. bearer p (asker_of p r) la (before_unreleased (p.stage (asker_of p r)) (gr.arrived_stage r h));
       noted = λ b h. has_sent_marker p b la (i.parts e).bindings h;
       marker = λ c b ph h. bearer p b la (ap is_unreleased ((i.parts e).bindings.marker_stage c b h));
-      response = λ c g code h. let x = gr.response c g code h in (gr.bears_index g (answerable_outstanding (p.group g) x.0), gr.under g (ap is_filed_group x.1));
+      response = λ c g code h. let x = gr.response c g code h in
+          (gr.bears_index g (answerable_outstanding (p.group g) x.0), gr.under g (ap is_filed_group x.1));
       once = λ g. at_most (p.host_group g) (gr.responses g);
     }
   where

@@ -201,7 +201,8 @@ own_cookies w d o h co =
 -- An unmapping: the units to which it submits get cookies in their order.
 
 submitted_waits : (t : Bool) (p : Endpoint) (o : Option ℕ) (q count order cookie : ℕ) → PartWaits (t ≡ true) cookie p (submitted_if t p o q count order cookie)
-submitted_waits true p (Some b) q count order cookie = record { old = old_order p b q count order cookie; new = λ k c x low high h. (refl, new k c x low high h); once = once }
+submitted_waits true p (Some b) q count order cookie =
+    record { old = old_order p b q count order cookie; new = λ k c x low high h. (refl, new k c x low high h); once = once }
   where
     new : (k c : ℕ) (x : Bool) → p.orders ≤ k → k < p.orders + suc count → (submitted p b q count order cookie).order k ≡ Wait c x → c ≡ cookie
     new k c x low high h = grind (arith, nat_tests)

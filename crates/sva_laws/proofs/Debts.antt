@@ -106,7 +106,9 @@ behind_submitted p b q count order cookie first x resets h =
       ahead = λ k a z. old_wait k false (let m = h.made in omega (arith, z, m)) (h.ahead k a z);
       counted = h.counted;
       not_void = λ same ph k a z v. h.not_void same ph k a z (sym (old_state p b q count order cookie k (let m = h.made in omega (arith, z, m))) ∙ v);
-      done = λ same d k a z. old_state p b q count order cookie k (let m = h.made in omega (arith, z, m)) ∙ h.done same (sym (old_state p b q count order cookie x h.made) ∙ d) k a z;
+      done = λ same d k a z.
+          old_state p b q count order cookie k (let m = h.made in omega (arith, z, m))
+          ∙ h.done same (sym (old_state p b q count order cookie x h.made) ∙ d) k a z;
       void = λ same v c y i. h.void same (sym (old_state p b q count order cookie x h.made) ∙ v) c y (sym (old_order p b q count order cookie x h.made) ∙ i);
     }
   where

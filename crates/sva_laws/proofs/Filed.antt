@@ -107,7 +107,8 @@ few ms x g n e p y i fi h op = omega (arith, length_mapped p.filing (select p.fi
 
     placed : count_below p.filings is_of ≤ outstanding p
     placed =
-        count_placed p.filings p.page_requests is_of (λ r. is_outstanding (p.group (p.group_of r))) p.filing (λ k l t. filed_made g p i.bounds (p.filing k) (fi.filed k l))
+        count_placed p.filings p.page_requests is_of (λ r. is_outstanding (p.group (p.group_of r))) p.filing
+        (λ k l t. filed_made g p i.bounds (p.filing k) (fi.filed k l))
         (λ k l t. ap (λ z. is_outstanding (p.group z)) (same k t) ∙ (i.groups.open_group y (open_phase (is_open p.phase) refl) op).0)
         fi.once
 

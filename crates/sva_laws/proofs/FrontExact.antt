@@ -346,8 +346,10 @@ own_turns w e o true z l i f = absurd (grind arith)
 submitted_turns : (t : Bool) (p : Endpoint) (o : Option ℕ) (q count order cookie : ℕ) → Turns p (submitted_if t p o q count order cookie)
 submitted_turns true p (Some b) q count order cookie =
     record {
-      ahead = λ k c x m h v a. let made = old_void k m v in (made, sym (old_order p b q count order cookie k made) ∙ h, refl, inr (sym (old_state p b q count order cookie k made) ∙ v, a));
-      past = λ k c x m h v a. let made = old_void k m v in (made, sym (old_order p b q count order cookie k made) ∙ h, sym (old_state p b q count order cookie k made) ∙ v, inl (a, omega arith));
+      ahead = λ k c x m h v a. let made = old_void k m v in
+          (made, sym (old_order p b q count order cookie k made) ∙ h, refl, inr (sym (old_state p b q count order cookie k made) ∙ v, a));
+      past = λ k c x m h v a. let made = old_void k m v in
+          (made, sym (old_order p b q count order cookie k made) ∙ h, sym (old_state p b q count order cookie k made) ∙ v, inl (a, omega arith));
     }
   where
     old_void : (k : ℕ) → k < p.orders + suc count → (submitted p b q count order cookie).order_state k ≡ Void → k < p.orders

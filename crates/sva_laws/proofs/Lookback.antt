@@ -97,7 +97,8 @@ moves_unmap w s q count order =
     back m o (inl x) = inl x
     back m o (inr x) = inr (
       x.0,
-      unmapped s q count order refl (eqb-true (w.mappings.space m) s (first_holds (w.mappings.space m == s) (in_range q (count * 2 ^ order) (w.mappings.page m)) x.1))
+      unmapped s q count order refl
+          (eqb-true (w.mappings.space m) s (first_holds (w.mappings.space m == s) (in_range q (count * 2 ^ order) (w.mappings.page m)) x.1))
           (second_holds (w.mappings.space m == s) (in_range q (count * 2 ^ order) (w.mappings.page m)) x.1) (sym x.2),
     )
 
@@ -110,7 +111,8 @@ moves_unmap w s q count order =
     on m (inr x) = inr (
       (λ e. owed_by (w.part e) count (bound w e s)),
       x.1,
-      unmapped s q count order refl (eqb-true (w.mappings.space m) s (first_holds (w.mappings.space m == s) (in_range q (count * 2 ^ order) (w.mappings.page m)) x.0))
+      unmapped s q count order refl
+          (eqb-true (w.mappings.space m) s (first_holds (w.mappings.space m == s) (in_range q (count * 2 ^ order) (w.mappings.page m)) x.0))
           (second_holds (w.mappings.space m == s) (in_range q (count * 2 ^ order) (w.mappings.page m)) x.0) refl,
     )
 

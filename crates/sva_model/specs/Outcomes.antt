@@ -290,7 +290,8 @@ outcome world (step.Take worker) = take_outcome world worker (lowest world.jobs 
 outcome world (step.Reply worker verdict) =
     reply_outcome world worker (the (world.hand worker)) (reply_maps world (the (world.hand worker)) verdict)
     (response_to world (the (world.hand worker)) verdict)
-outcome world (step.Ask endpoint pasid page) = ask_outcome (world.part endpoint) endpoint pasid page (Labels.lowest_label Limits.request_tags (world.part endpoint).at_tag)
+outcome world (step.Ask endpoint pasid page) =
+    ask_outcome (world.part endpoint) endpoint pasid page (Labels.lowest_label Limits.request_tags (world.part endpoint).at_tag)
 outcome world (step.BeginUse endpoint pasid page write) =
     begin_outcome world (world.part endpoint) endpoint pasid page (Labels.lowest_label Limits.use_slots (world.part endpoint).at_slot)
 outcome world (step.EndUse endpoint slot) = end_outcome (world.part endpoint) endpoint (the ((world.part endpoint).at_slot slot))

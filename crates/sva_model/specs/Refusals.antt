@@ -141,7 +141,11 @@ abbrev pub reply_refusals : World → (job : ℕ) → Verdict → List Cause
 reply_refusals world job verdict =
     (replies_success world job verdict && is_write_of_read_only world job, refusal.BadVerdict)
     ∷ (replies_success world job verdict && nat_lt (Labels.free_frames world) (length (newly_mapped world job)), refusal.NoFrame)
-    ∷ (replies_success world job verdict && nat_lt Limits.most_mapped (Labels.pages_of world (job_space world job) + length (newly_mapped world job)), refusal.SpaceFull)
+    ∷ (
+      replies_success world job verdict
+          && nat_lt Limits.most_mapped (Labels.pages_of world (job_space world job) + length (newly_mapped world job)),
+      refusal.SpaceFull,
+    )
     ∷ (responds world job && Labels.lacks world world.messages 1, refusal.NumbersSpent)
     ∷ []
 
@@ -209,7 +213,10 @@ deliver_refusals world message part =
 
 -- the causes of every step, in the order in which they are asked
 abbrev pub refusals : World → Step → List Cause
-refusals world step.Space = (nat_le Limits.most_spaces (Labels.live_spaces world), refusal.TooManySpaces) ∷ (Labels.lacks world world.spaces 1, refusal.NumbersSpent) ∷ []
+refusals world step.Space =
+    (nat_le Limits.most_spaces (Labels.live_spaces world), refusal.TooManySpaces)
+    ∷ (Labels.lacks world world.spaces 1, refusal.NumbersSpent)
+    ∷ []
 refusals world (step.DropSpace space) = no_such_space world space ∷ (Labels.is_bound world (Labels.name world space), refusal.StillBound) ∷ []
 refusals world (step.Map space page write) =
     no_such_space world space

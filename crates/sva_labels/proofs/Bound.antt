@@ -1,14 +1,15 @@
 -- The binding of a space at an endpoint, found by its numbers.
 use Rattle.std.proofs.Common.{◌≡◌, ◌≢◌, ◌⊎◌, inl, inr, refl, ap, ◌∙◌, ℕ, ◌+◌, Bool, true, false}
 use Rattle.std.specs.Prelude.{Some, None, Option, option_map, ◌&&◌, ◌==◌}
+use Rattle.std.proofs.lemmas.Bool.{eq-eqb, ne_eqb}
 use Rattle.sva_model.specs.State.{World}
 use Rattle.sva_model.specs.States.{is_unreleased}
 use Rattle.sva_model.specs.Acts.{bound}
 use Rattle.sva_model.specs.Wire.{BindingWire, number, binding_wire, wire}
 use Rattle.sva_laws.proofs.Words.{ℕ_cases, find_passes}
 use Rattle.sva_laws.proofs.Invariant.{Invariant}
-use Rattle.sva_laws.proofs.Passed.{unreleased_bound, and_left}
-use Rattle.sva_wire.proofs.Pages.{is_same, is_other}
+use Rattle.sva_laws.proofs.Passed.{unreleased_bound}
+use Rattle.sva_laws.proofs.Tests.{first_holds}
 use Rattle.sva_labels.specs.Finding.{bound_at}
 use Rattle.sva_labels.proofs.LookedLists.{find_same, find_seen}
 use Rattle.sva_labels.proofs.SpaceLists.{same_number}
@@ -43,11 +44,11 @@ bound_is w e s i =
     same : (b : ℕ) → (w.endpoint_of b ≡ e) ⊎ (w.endpoint_of b ≢ e) → at b (w.endpoint_of b) ≡ (is_unreleased ((w.part e).stage b) && (w.part e).space b == s)
     same b (inl h) =
         ap (at b) h
-        ∙ ap (λ z. is_unreleased ((w.part e).stage b) && (z && w.config.first + (w.part e).space b == w.config.first + s)) (is_same e e refl)
+        ∙ ap (λ z. is_unreleased ((w.part e).stage b) && (z && w.config.first + (w.part e).space b == w.config.first + s)) (eq-eqb e e refl)
         ∙ ap (λ z. is_unreleased ((w.part e).stage b) && z) (same_number w.config.first ((w.part e).space b) s)
     same b (inr ne) =
         ap (λ z. is_unreleased ((w.part (w.endpoint_of b)).stage b) && (z && w.config.first + (w.part (w.endpoint_of b)).space b == w.config.first + s))
-        (is_other (w.endpoint_of b) e ne)
+        (ne_eqb (w.endpoint_of b) e ne)
         ∙ nothing (is_unreleased ((w.part (w.endpoint_of b)).stage b)) (w.config.first + (w.part (w.endpoint_of b)).space b == w.config.first + s)
         ∙ no_other b ne (is_unreleased ((w.part e).stage b)) refl
 
@@ -56,5 +57,5 @@ bound_is w e s i =
     go (Some b) h =
         let found = find_passes w.bindings (λ d. is_unreleased ((w.part e).stage d) && (w.part e).space d == s) b h in
         let endpoint_of =
-        i.one_endpoint e b (unreleased_bound (w.part e) b (and_left (is_unreleased ((w.part e).stage b)) ((w.part e).space b == s) found.1)) in
+        i.one_endpoint e b (unreleased_bound (w.part e) b (first_holds (is_unreleased ((w.part e).stage b)) ((w.part e).space b == s) found.1)) in
         ap (λ d. Some (binding_wire w.config.first d (w.part d) b)) endpoint_of

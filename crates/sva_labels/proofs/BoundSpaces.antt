@@ -1,7 +1,8 @@
 -- The space of each binding is there.
-use Rattle.std.proofs.Common.{◌≡◌, ap, sym, subst, ◌∙◌, ℕ, ◌+◌, ◌-◌, ◌<◌, ◌≤◌, Bool, true, arith}
+use Rattle.std.proofs.Common.{◌≡◌, ap, ◌∙◌, ℕ, ◌+◌, ◌-◌, ◌<◌, true, arith}
 use Rattle.std.proofs.lemmas.Bool.Decides.{nat_tests}
-use Rattle.std.specs.Prelude.{◌&&◌, nat_le, nat_lt, Some, List, slice_get}
+use Rattle.std.specs.Prelude.{◌&&◌, nat_le, nat_lt, List}
+use Rattle.std.proofs.lemmas.Bool.{and_from}
 use Rattle.sva_step.specs.declared.limits.Config.{Config}
 use Rattle.sva_step.specs.declared.steps.Step.{Step}
 use Rattle.sva_model.specs.State.{World}
@@ -31,12 +32,9 @@ space_live w i k b x =
     live : w.is_live ((w.part (w.endpoint_of x.of)).space x.of) ≡ true
     live = i.mapped.bound_live (w.endpoint_of x.of) x.of x.passes
 
-    both : (a b : Bool) → a ≡ true → b ≡ true → (a && b) ≡ true
-    both a b ha hb = ap (λ c. c && b) ha ∙ hb
-
     there : Labels.is_space w (w.config.first + (w.part (w.endpoint_of x.of)).space x.of) ≡ true
     there =
-        both _ _
+        and_from _ _
         (numbered w.config.first w.spaces ((w.part (w.endpoint_of x.of)).space x.of) (i.mapped.live ((w.part (w.endpoint_of x.of)).space x.of) live))
         (ap w.is_live (named w.config.first ((w.part (w.endpoint_of x.of)).space x.of)) ∙ live)
 

@@ -2,6 +2,7 @@
 use Rattle.std.proofs.Common.{◌≡◌, ◌≢◌, ◌⊎◌, inl, inr, refl, ap, sym, subst, ◌∙◌, ℕ, suc, ◌+◌, ◌<◌, Bool, true, false, arith}
 use Rattle.std.specs.Prelude.{◌&&◌, not, ◌==◌, if◌then◌else◌, [], ◌∷◌, ◌++◌, map}
 use Rattle.std.proofs.lemmas.Bool.Decides.{nat_tests}
+use Rattle.std.proofs.lemmas.Bool.{ne_eqb}
 use Rattle.sva_model.specs.Words.{put, select}
 use Rattle.sva_model.specs.State.{Stage, Endpoint, World}
 use Rattle.sva_model.specs.State.Stage.{Unbound, Live, Stopping, Draining, Invalidating, Quiet, Lost, Released}
@@ -20,6 +21,7 @@ use Rattle.sva_labels.specs.Moves.{with_stage, without_binding, cut_off, cut_off
 use Rattle.sva_labels.proofs.Selected.{select_seen, select_filtered, select_one, select_less, map_twice}
 use Rattle.sva_labels.proofs.Flights.{part_after, same_view}
 use Rattle.sva_laws.proofs.Cookies.{own_old as old_order}
+use Rattle.sva_laws.proofs.Tests.{and_no, is_itself}
 
 -- What an entry of a binding reads: the order that its stage waits for among them.
 abbrev pub KeepsOrder : (p q : Endpoint) → Stage → Type 0
@@ -271,17 +273,13 @@ bindings_released w e b i legal =
         go true = refl
         go false = refl
 
-    none : (u : Bool) → (u && false) ≡ false
-    none true = refl
-    none false = refl
-
     here :
         (d : ℕ) → (d ≡ b) ⊎ (d ≢ b)
         → is_unreleased ((part_after w e o).stage d) ≡ (is_unreleased ((w.part e).stage d) && not (number w.config.first d == number w.config.first b))
     here d (inl x) =
         ap (λ z. is_unreleased ((part_after w e o).stage z)) x
         ∙ ap is_unreleased (put-same (w.part e).stage b Released)
-        ∙ sym (ap (λ t. is_unreleased ((w.part e).stage d) && not t) (own_number w.config.first d b x) ∙ none (is_unreleased ((w.part e).stage d)))
+        ∙ sym (ap (λ t. is_unreleased ((w.part e).stage d) && not t) (own_number w.config.first d b x) ∙ and_no (is_unreleased ((w.part e).stage d)))
     here d (inr ne) = ap is_unreleased (put-other (w.part e).stage b Released d ne) ∙ left (is_unreleased ((w.part e).stage d)) d ne
 
     seen :
@@ -290,7 +288,7 @@ bindings_released w e b i legal =
         → binding_wire w.config.first e (part_after w e o) d ≡ binding_wire w.config.first e (w.part e) d
     seen d (inl x) t =
         absurd (cc
-        (sym (ap (λ z. is_unreleased ((w.part e).stage d) && not z) (own_number w.config.first d b x) ∙ none (is_unreleased ((w.part e).stage d))) ∙ t))
+        (sym (ap (λ z. is_unreleased ((w.part e).stage d) && not z) (own_number w.config.first d b x) ∙ and_no (is_unreleased ((w.part e).stage d))) ∙ t))
     seen d (inr ne) t =
         binding_kept w.config.first e (w.part e) (part_after w e o) d
         (record {
@@ -326,7 +324,7 @@ bindings_cut w e c =
     (ap (λ z. if z
     then record (binding_wire w.config.first (w.endpoint_of d)
     (w.part (w.endpoint_of d)) d) { stage = cut_off (stage_wire w.config.first (w.part (w.endpoint_of d)) ((w.part (w.endpoint_of d)).stage d)) }
-    else binding_wire w.config.first (w.endpoint_of d) (w.part (w.endpoint_of d)) d) (other (w.endpoint_of d) e ne))))
+    else binding_wire w.config.first (w.endpoint_of d) (w.part (w.endpoint_of d)) d) (ne_eqb (w.endpoint_of d) e ne))))
     ∙ sym (map_twice cut _ (select w.bindings _))
   where
     o : LocalAct
@@ -335,19 +333,13 @@ bindings_cut w e c =
     cut : BindingWire → BindingWire
     cut x = if x.endpoint == e then record x { stage = cut_off x.stage } else x
 
-    same : (a : ℕ) → (a == a) ≡ true
-    same a = grind (arith, nat_tests)
-
-    other : (a b : ℕ) → a ≢ b → (a == b) ≡ false
-    other a b ne = grind (arith, nat_tests)
-
     here : (d : ℕ) → binding_wire w.config.first e (part_after w e o) d ≡ cut (binding_wire w.config.first e (w.part e) d)
     here d =
         (λ j. record (binding_wire w.config.first e (w.part e) d) { stage = cut_seen w.config.first (w.part e) (part_after w e o) ((w.part e).stage d) j })
         ∙ sym (ap
         (λ z. if z
         then record (binding_wire w.config.first e (w.part e) d) { stage = cut_off (stage_wire w.config.first (w.part e) ((w.part e).stage d)) }
-        else binding_wire w.config.first e (w.part e) d) (same e))
+        else binding_wire w.config.first e (w.part e) d) (is_itself e))
 
 -- The acts that bring a binding to another stage.
 

@@ -2,21 +2,22 @@
 use Rattle.std.proofs.Common.{◌≡◌, refl, ap, ap₂, sym, subst, ◌∙◌, ℕ, suc, ◌+◌, ◌-◌, ◌<◌, ◌≤◌, Bool, true, false, arith}
 use Rattle.std.specs.Prelude.{Some, None, option_map, ◌&&◌, ◌==◌, if◌then◌else◌}
 use Rattle.std.proofs.lemmas.Bool.Decides.{nat_tests}
+use Rattle.std.proofs.lemmas.Bool.{and_from}
 use Rattle.sva_step.specs.declared.answers.Answer.TheVariants as answer
 use Rattle.sva_model.specs.Words.{count_below, the}
 use Rattle.sva_model.proofs.RangeLemmas.{decode-encode}
 use Rattle.sva_model.specs.Message.{Code}
 use Rattle.sva_model.specs.Message.Message.{InvalidatedMessage}
-use Rattle.sva_model.specs.State.{Endpoint, World, Order, GroupState}
+use Rattle.sva_model.specs.State.{Endpoint, World, Order}
 use Rattle.sva_model.specs.State.Order.{RangeOf, PasidOf, Wait}
 use Rattle.sva_model.specs.State.OrderState.{Completing}
 use Rattle.sva_model.specs.State.Subject.{InvalidateOf, InvalidatedOf, ResponseOf}
-use Rattle.sva_model.specs.States.{is_open, is_busy, is_outstanding}
+use Rattle.sva_model.specs.States.{is_open, is_busy}
 use Rattle.sva_model.specs.Acts.{extent_of, scope_of, binding_of, is_last_left}
 use Rattle.sva_model.specs.Labels
 use Rattle.sva_model.specs.Outcomes as outcomes
 use Rattle.sva_model.specs.Wire.{BusyWire, number, group_wire, busy_wire, wire}
-use Rattle.sva_laws.specs.Laws.{IsVectorOf, is_answerable}
+use Rattle.sva_laws.specs.Laws.{IsVectorOf}
 use Rattle.sva_laws.proofs.Counting.{count_placed}
 use Rattle.sva_wire.proofs.Lists.{tabulate_at}
 use Rattle.sva_labels.specs.Finding.{unit_of, group_at, busy_at}
@@ -30,6 +31,7 @@ use Rattle.sva_labels.proofs.Reached.{IsReached}
 use Rattle.sva_labels.proofs.Alike.{result_by}
 use Rattle.sva_labels.proofs.DeliverResults.{ArrivesAlike, by_message, open_seen}
 use Rattle.sva_laws.proofs.Groups.{answerable_outstanding as waits_on}
+use Rattle.sva_laws.proofs.Tests.{first_holds, second_holds}
 
 -- An Invalidate: its range is read from the code.
 
@@ -124,15 +126,6 @@ freed_seen w e c vector field names r l v owed =
     count : ℕ
     count = count_read field
 
-    both : (a b : Bool) → a ≡ true → b ≡ true → (a && b) ≡ true
-    both a b h k = grind arith
-
-    first : (a b : Bool) → (a && b) ≡ true → a ≡ true
-    first a b h = grind arith
-
-    second : (a b : Bool) → (a && b) ≡ true → b ≡ true
-    second a b h = grind arith
-
     busy : (k left : ℕ) → p.order_state k ≡ Completing count left → is_busy (p.order_state k) ≡ true
     busy k left h = ap is_busy h
 
@@ -159,7 +152,7 @@ freed_seen w e c vector field names r l v owed =
         (t : ℕ) → t < 32 → (Labels.is_set vector t && is_last_of count (busy_at (unit_of (wire w) e) t)) ≡ true
         → (the (p.at_itag t) < p.orders) × ((names (the (p.at_itag t)) && is_last_left (p.order_state (the (p.at_itag t)))) ≡ true)
         × (p.itag (the (p.at_itag t)) ≡ t)
-    forth t m h = go (v.set t m (first (Labels.is_set vector t) (is_last_of count (busy_at (unit_of (wire w) e) t)) h))
+    forth t m h = go (v.set t m (first_holds (Labels.is_set vector t) (is_last_of count (busy_at (unit_of (wire w) e) t)) h))
       where
         go :
             (k : ℕ) × (names k ≡ true) × (p.itag k ≡ t)
@@ -169,20 +162,20 @@ freed_seen w e c vector field names r l v owed =
             let there : the (p.at_itag t) ≡ k = ap (λ z. the (p.at_itag z)) (sym same) ∙ ap the (bears k nm) in
             let last : is_last_left (p.order_state k) ≡ true =
             sym (alike k nm (low_of k nm)) ∙ ap (λ z. is_last_of count (busy_at (unit_of (wire w) e) z)) same
-            ∙ second (Labels.is_set vector t) (is_last_of count (busy_at (unit_of (wire w) e) t)) h in
+            ∙ second_holds (Labels.is_set vector t) (is_last_of count (busy_at (unit_of (wire w) e) t)) h in
             let x = owed k nm in
             subst (λ z. (z < p.orders) × ((names z && is_last_left (p.order_state z)) ≡ true) × (p.itag z ≡ t)) (sym there)
-            (made k (busy k x.0 x.1), both (names k) (is_last_left (p.order_state k)) nm last, same)
+            (made k (busy k x.0 x.1), and_from (names k) (is_last_left (p.order_state k)) nm last, same)
 
     back :
         (k : ℕ) → k < p.orders → (names k && is_last_left (p.order_state k)) ≡ true
         → (p.itag k < 32) × ((Labels.is_set vector (p.itag k) && is_last_of count (busy_at (unit_of (wire w) e) (p.itag k))) ≡ true)
         × (the (p.at_itag (p.itag k)) ≡ k)
     back k m h =
-        let nm = first (names k) (is_last_left (p.order_state k)) h in (
+        let nm = first_holds (names k) (is_last_left (p.order_state k)) h in (
           low_of k nm,
-          both (Labels.is_set vector (p.itag k)) (is_last_of count (busy_at (unit_of (wire w) e) (p.itag k))) (v.named k nm)
-              (alike k nm (low_of k nm) ∙ second (names k) (is_last_left (p.order_state k)) h),
+          and_from (Labels.is_set vector (p.itag k)) (is_last_of count (busy_at (unit_of (wire w) e) (p.itag k))) (v.named k nm)
+              (alike k nm (low_of k nm) ∙ second_holds (names k) (is_last_left (p.order_state k)) h),
           ap the (bears k nm),
         )
 

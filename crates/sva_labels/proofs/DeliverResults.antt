@@ -1,6 +1,8 @@
 -- What a delivery by labels answers and moves, by the kind of the message: it is the outcome of the step by names.
-use Rattle.std.proofs.Common.{◌≡◌, refl, ap, ap₂, sym, subst, ◌∙◌, ℕ, ◌<◌, Bool, true, false, arith}
-use Rattle.std.specs.Prelude.{Option, Some, None, ◌&&◌}
+use Rattle.std.proofs.Common.{◌≡◌, refl, ap, ap₂, sym, subst, ◌∙◌, ℕ, ◌<◌, Bool, true, false}
+use Rattle.std.specs.Prelude.{Option, Some, None}
+use Rattle.std.proofs.lemmas.Bool.{not-false}
+use Rattle.sva_laws.proofs.Tests.{second_holds}
 use Rattle.sva_step.specs.declared.steps.Step.TheVariants as step
 use Rattle.sva_model.specs.Words.{is_some}
 use Rattle.sva_model.specs.Message.{Message}
@@ -11,7 +13,6 @@ use Rattle.sva_model.specs.Labels
 use Rattle.sva_model.specs.Outcomes as names
 use Rattle.sva_model.specs.Outcomes.{outcome}
 use Rattle.sva_model.specs.Wire.{UnitWire, number, page_request_wire, wire}
-use Rattle.sva_laws.proofs.Words.{not_true}
 use Rattle.sva_labels.specs.Finding.{unit_of}
 use Rattle.sva_labels.specs.Outcomes.{Result, result_of, deliver_result, message_result, page_request_result, marker_result, binding_or_0}
 use Rattle.sva_labels.proofs.EndpointViews.{unit_seen}
@@ -29,7 +30,7 @@ pub delivered_alike :
     (w : World) (n : ℕ) → IsReached w
     → ((e c : ℕ) (a : Subject) → e < w.config.endpoints → (w.part e).message c ≡ Some a → w.link_of c ≡ e → c ≡ Labels.name w n → ArrivesAlike w e c a)
     → SaysAlike w (step.Deliver n)
-delivered_alike w n r h = record { alike = deliver_alike w n r; result = λ p. go (not_true (Labels.is_in_flight w n) p.0) ((w.part e).message c) refl }
+delivered_alike w n r h = record { alike = deliver_alike w n r; result = λ p. go (not-false (Labels.is_in_flight w n) p.0) ((w.part e).message c) refl }
   where
     c : ℕ
     c = Labels.name w n
@@ -42,11 +43,8 @@ delivered_alike w n r h = record { alike = deliver_alike w n r; result = λ p. g
         → result_of (wire w) (step.Deliver n) ≡ result_by w (outcome w (step.Deliver n))
     go f None m = absurd (nothing f m)
       where
-        last : (a b : Bool) → (a && b) ≡ true → b ≡ true
-        last a b k = grind arith
-
         nothing : Labels.is_in_flight w n ≡ true → (w.part e).message c ≡ None → ⊥
-        nothing f m = cc (sym (ap is_some m) ∙ last (Labels.is_number w w.messages n) (is_some ((w.part e).message c)) f)
+        nothing f m = cc (sym (ap is_some m) ∙ second_holds (Labels.is_number w w.messages n) (is_some ((w.part e).message c)) f)
     go f (Some a) m =
         ap (deliver_result (wire w)) (flight_seen w n f) ∙ h e c a ((r.invariant.parts e).near c (ap is_some m)) m refl refl
         ∙ sym (ap (λ o. result_by w (names.deliver_outcome w (w.part e) e c o)) m)

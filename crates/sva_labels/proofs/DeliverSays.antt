@@ -16,6 +16,7 @@ use Rattle.sva_model.specs.Refusals.{refusals}
 use Rattle.sva_model.specs.Wire.{UnitWire, FlightWire, flight_wire, wire}
 use Rattle.sva_laws.specs.Laws.{IsCarried}
 use Rattle.sva_laws.proofs.Words.{ℕ_cases}
+use Rattle.sva_laws.proofs.Tests.{is_itself}
 use Rattle.sva_labels.specs.Finding.{kind_of, flight_of, holds_back, may_deliver, unit_of}
 use Rattle.sva_labels.specs.Causes.{causes_of, deliver_causes, delivery_sends}
 use Rattle.sva_labels.proofs.Lookups.{any_seen, any_same, find_one, find_none}
@@ -119,9 +120,6 @@ permitted_seen w c a r l h =
     lower : (first d c : ℕ) → d < c → nat_lt (first + d) (first + c) ≡ true
     lower first d c l = grind (arith, nat_tests)
 
-    itself : (x : ℕ) → (x == x) ≡ true
-    itself x = grind (arith, nat_tests)
-
     -- of the same endpoint
     here :
         (d : ℕ) → d < c → (o : Option Subject) → p.message d ≡ o
@@ -129,7 +127,7 @@ permitted_seen w c a r l h =
         ≡ Labels.holds_back p (Labels.kind_of p a) o
     here d m None k = refl
     here d m (Some o) k =
-        ap₂ (λ x y. x && y && stays_behind (kind_of (p.carried c)) (kind_of (p.carried d))) (lower w.config.first d c m) (itself e)
+        ap₂ (λ x y. x && y && stays_behind (kind_of (p.carried c)) (kind_of (p.carried d))) (lower w.config.first d c m) (is_itself e)
         ∙ ap₂ stays_behind (kind_carried w.mappings p (r.carried e) c a h) (kind_carried w.mappings p (r.carried e) d o k)
 
     none_here : (d : ℕ) → w.link_of d ≢ e → (o : Option Subject) → p.message d ≡ o → Labels.holds_back p (Labels.kind_of p a) o ≡ false

@@ -22,7 +22,9 @@ use Rattle.sva_laws.proofs.Words.{some_the}
 use Rattle.sva_laws.proofs.Counting.{count_same}
 use Rattle.sva_laws.proofs.Invariant.{Invariant}
 use Rattle.sva_laws.proofs.Found.{found}
-use Rattle.sva_laws.proofs.Unmap.{active_unreleased, open_is}
+use Rattle.sva_laws.proofs.Resets.{open_is}
+use Rattle.sva_laws.proofs.Orders.{active_unreleased}
+use Rattle.sva_laws.proofs.Tests.{none_before}
 use Rattle.sva_labels.specs.Finding.{is_live, bearer, pages_in, page_at, device_of, tag_at}
 use Rattle.sva_labels.specs.Moves.{Move}
 use Rattle.sva_labels.specs.Outcomes.{by_one, found_for, completion_of, request_result, completion_result, completion_by, keep_result, is_other, is_full}
@@ -109,10 +111,7 @@ count_insert below test a [] = refl
 count_insert {A = A} below test a (x ∷ xs) = go (below x a) (count_insert below test a xs)
   where
     more : (y : A) (ys : List A) → count_by test (y ∷ ys) ≡ (if test y then 1 else 0) + count_by test ys
-    more y ys = sum_by-append (λ x. if test x then 1 else 0) (y ∷ []) ys ∙ ap (λ n. n + count_by test ys) (zero_plus (if test y then 1 else 0))
-      where
-        zero_plus : (a : ℕ) → 0 + a ≡ a
-        zero_plus a = omega arith
+    more y ys = sum_by-append (λ x. if test x then 1 else 0) (y ∷ []) ys ∙ ap (λ n. n + count_by test ys) (none_before (if test y then 1 else 0))
 
     swap : (y z n : ℕ) → y + (z + n) ≡ z + (y + n)
     swap y z n = omega arith
@@ -136,10 +135,7 @@ count_sorted {A = A} below test (x ∷ xs) =
     ∙ sym (more xs)
   where
     more : (ys : List A) → count_by test (x ∷ ys) ≡ (if test x then 1 else 0) + count_by test ys
-    more ys = sum_by-append (λ x. if test x then 1 else 0) (x ∷ []) ys ∙ ap (λ n. n + count_by test ys) (zero_plus (if test x then 1 else 0))
-      where
-        zero_plus : (a : ℕ) → 0 + a ≡ a
-        zero_plus a = omega arith
+    more ys = sum_by-append (λ x. if test x then 1 else 0) (x ∷ []) ys ∙ ap (λ n. n + count_by test ys) (none_before (if test x then 1 else 0))
 
 -- the cache is full by labels exactly where it is by names
 pub full_seen :

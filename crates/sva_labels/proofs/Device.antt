@@ -1,11 +1,11 @@
 -- What an act of an endpoint leaves of its device is what the act's move leaves of what is kept of the device.
-use Rattle.std.proofs.Common.{◌≡◌, refl, ap, sym, ◌∙◌, ℕ, ◌+◌, Bool, true, false, arith}
+use Rattle.std.proofs.Common.{◌≡◌, refl, ap, sym, ◌∙◌, ℕ, ◌+◌, Bool, true, false}
 use Rattle.std.specs.Prelude.{Option, Some, None, map}
 use Rattle.sva_model.specs.Words.{count_below}
 use Rattle.sva_model.specs.Message.{Message}
 use Rattle.sva_model.specs.Message.Message.{StartMessage, StopMessage, ResetMessage, CompletionMessage, InvalidateMessage, ResponseMessage, RequestMessage}
 use Rattle.sva_model.specs.Message.Message.{InvalidatedMessage, PageRequestMessage, MarkerMessage, ResetDoneMessage}
-use Rattle.sva_model.specs.State.{Mappings, Stage, Endpoint, World}
+use Rattle.sva_model.specs.State.{Mappings, Endpoint, World}
 use Rattle.sva_model.specs.State.PasidState.{Off, On, Ending}
 use Rattle.sva_model.specs.States.{is_unreleased, is_off}
 use Rattle.sva_model.specs.Acts.{Act, LocalAct, act, act_alone, bound, submits, submitted, submitted_if}
@@ -15,7 +15,7 @@ use Rattle.sva_model.specs.Acts.LocalAct.{Complete, Count, Arrive, Miss, Mark, I
 use Rattle.sva_model.specs.Wire.{DeviceWire, device_wire}
 use Rattle.sva_laws.proofs.Legal.{LegalLocalAct}
 use Rattle.sva_laws.proofs.Bounds.{Bounds}
-use Rattle.sva_laws.proofs.Bindings.{is_unmarked}
+use Rattle.sva_laws.proofs.Bindings.{unmarked_unreleased}
 use Rattle.sva_laws.proofs.Labels.{Labels}
 use Rattle.sva_laws.proofs.Invariant.{PartInvariant}
 use Rattle.sva_labels.specs.Moves.{stale_of}
@@ -29,7 +29,6 @@ use Rattle.sva_labels.proofs.DeviceOrders.{taken_bound, taken_drained, taken_inv
 use Rattle.sva_labels.proofs.DeviceOrders.{taken_begun, taken_counted, taken_reopened}
 use Rattle.sva_labels.proofs.DeviceFinished.{taken_finished, taken_taken, taken_ended, taken_cleared}
 use Rattle.sva_labels.proofs.DeviceGroups.{groups_bound, groups_opened, groups_requested, groups_quit, groups_answered, groups_cleared}
-use Rattle.sva_laws.proofs.Found.{unmarked_unreleased}
 
 -- a message that counts completions, or is let go, changes nothing that the device keeps
 count_leaves : (first e c : ℕ) (d : DeviceWire) (m : Message) → device_moved d (count_move first e c m) ≡ d

@@ -3,7 +3,7 @@ use Rattle.std.proofs.Common.{◌≡◌, ◌≢◌, ◌⊎◌, inl, inr, refl, a
 use Rattle.std.specs.Prelude.{Option, Some, None, ◌&&◌, ◌||◌, not, ◌==◌, nat_lt, if◌then◌else◌, [], ◌∷◌, ◌++◌, map, filter}
 use Rattle.std.proofs.lemmas.Bool.Decides.{nat_tests}
 use Rattle.sva_model.specs.Words.{put, select, is_some, the}
-use Rattle.sva_model.specs.State.{Mappings, Stage, Endpoint}
+use Rattle.sva_model.specs.State.{Mappings, Endpoint}
 use Rattle.sva_model.specs.States.{is_unreleased, is_out, is_busy, covers}
 use Rattle.sva_model.specs.Acts.{act_alone, LocalAct, none_if, is_replaced, binding_of, extent_of}
 use Rattle.sva_model.specs.Wire.{TranslationWire, sorted_by, insert_by, is_before, cached_wire, cache_wire, translation_wire}
@@ -13,7 +13,7 @@ use Rattle.sva_laws.proofs.Bounds.{Bounds}
 use Rattle.sva_laws.proofs.Bindings.{Bindings}
 use Rattle.sva_laws.proofs.Labels.{Labels}
 use Rattle.sva_laws.proofs.Requests.{Requests}
-use Rattle.sva_laws.proofs.Orders.{Orders, is_active}
+use Rattle.sva_laws.proofs.Orders.{Orders, active_unreleased}
 use Rattle.sva_laws.proofs.Owners.{Owners}
 use Rattle.sva_labels.specs.Finding
 use Rattle.sva_labels.specs.Finding.{is_at_page}
@@ -46,10 +46,7 @@ is_order =
 -- What is cached.
 
 held_unreleased : (ms : Mappings) (p : Endpoint) (r m : ℕ) → Owners ms p → p.held r ≡ Some m → is_unreleased (p.stage (p.request_binding r)) ≡ true
-held_unreleased ms p r m ow h = unreleased (p.stage (p.request_binding r)) (ow.held r m h)
-  where
-    unreleased : (s : Stage) → is_active s ≡ true → is_unreleased s ≡ true
-    unreleased s h = grind arith
+held_unreleased ms p r m ow h = active_unreleased (p.stage (p.request_binding r)) (ow.held r m h)
 
 held_made : (p : Endpoint) (g r m : ℕ) → Bounds g p → p.held r ≡ Some m → r < p.requests
 held_made p g r m bo h = grind (arith, bo.held r)

@@ -6,7 +6,7 @@ use Rattle.sva_model.specs.Words.{tabulate, holds_of}
 use Rattle.sva_model.specs.State.{Mappings, OrderState, UseState, Endpoint}
 use Rattle.sva_model.specs.State.OrderState.{Queued, Sent, Taken, Lapsed, Completing, Done, Void}
 use Rattle.sva_model.specs.State.UseState.{Running, Dead, Ended}
-use Rattle.sva_model.specs.States.{is_unreleased, is_busy, is_taken, is_running, covers}
+use Rattle.sva_model.specs.States.{is_unreleased, is_busy, is_running, covers}
 use Rattle.sva_model.specs.Labels
 use Rattle.sva_model.specs.Acts.{act_alone, LocalAct, binding_of, extent_of, completing_if, lapse}
 use Rattle.sva_model.specs.Wire.{chain, taken_by, is_noted, use_wire, translation_wire}
@@ -14,14 +14,14 @@ use Rattle.sva_laws.proofs.Words.{put-same, put-other}
 use Rattle.sva_laws.proofs.Legal.{LegalLocalAct}
 use Rattle.sva_laws.proofs.Bounds.{Bounds}
 use Rattle.sva_laws.proofs.Labels.{Labels}
-use Rattle.sva_laws.proofs.Orders.{Orders}
+use Rattle.sva_laws.proofs.Orders.{Orders, taken_busy}
 use Rattle.sva_laws.proofs.Owners.{Owners}
 use Rattle.sva_labels.specs.Moves
 use Rattle.sva_labels.specs.Moves.{without_named, unnoted}
 use Rattle.sva_labels.proofs.DeviceRows.{tabulate_map}
 use Rattle.sva_labels.proofs.DeviceTaken.{notes, taken_seen, taken_wire, taken_by_same}
 use Rattle.sva_labels.proofs.DeviceTags.{covers_same}
-use Rattle.sva_labels.proofs.DeviceSlots.{slots_wire, seen_use, slot_made, running_unreleased}
+use Rattle.sva_labels.proofs.DeviceSlots.{slots_wire, seen_use, other_use, slot_made, running_unreleased}
 use Rattle.sva_wire.proofs.Lists.{tabulate_same, tabulate_set, tabulate_at}
 
 -- The ITags of a vector are finished.
@@ -41,11 +41,8 @@ taken_finished ms g n p names vector count l la =
         same : (j : ℕ) → p.at_itag (p.itag j) ≡ Some j → p.itag j ≡ t → j ≡ k
         same j a e = grind (arith)
 
-        busy : (s : OrderState) → is_taken s ≡ true → is_busy s ≡ true
-        busy s h = grind arith
-
         by_bit : (j : ℕ) × (names j ≡ true) × (p.itag j ≡ t) → names k ≡ true
-        by_bit (j, n, e) = sym (ap names (same j (la.bears_itag j (busy (p.order_state j) (l.1 j n))) e)) ∙ n
+        by_bit (j, n, e) = sym (ap names (same j (la.bears_itag j (taken_busy (p.order_state j) (l.1 j n))) e)) ∙ n
 
     -- and that of another isn't
     unnamed : (t k : ℕ) → p.at_itag t ≡ Some k → Labels.is_set vector t ≡ false → (b : Bool) → names k ≡ b → b ≡ false
@@ -140,16 +137,13 @@ taken_ended ms n p u la =
     (λ t. unnoted (p.use_slot u) (chain (taken_seen ms p) (p.at_itag t))) (λ t m. go (p.at_itag t))
     ∙ sym (tabulate_map (unnoted (p.use_slot u)) 32 (λ t. chain (taken_seen ms p) (p.at_itag t)))
   where
-    other : (y v : ℕ) → y ≢ p.use_slot u → p.use_slot v ≡ y → v ≢ u
-    other y v ne e x = ne (sym e ∙ ap p.use_slot x)
-
     old :
         (k uses y : ℕ) → y ≢ p.use_slot u → (o : Option ℕ) → p.at_slot y ≡ o
         → holds_of (is_noted ms (act_alone p n (LocalAct.End u)) k uses) o ≡ holds_of (is_noted ms p k uses) o
     old k uses y ne None h = refl
     old k uses y ne (Some v) h =
         ap (λ s. nat_lt v uses && (is_running s && covers (p.order k) (p.use_binding v) (ms.page (p.use_mapping v))))
-        (put-other p.use_state u Ended v (other y v ne (la.slot_bears y v h).0))
+        (put-other p.use_state u Ended v (other_use p u y v ne (la.slot_bears y v h).0))
 
     slots : (k uses : ℕ) → tabulate 16 (notes ms (act_alone p n (LocalAct.End u)) k uses) ≡ slice_set (tabulate 16 (notes ms p k uses)) (p.use_slot u) false
     slots k uses =

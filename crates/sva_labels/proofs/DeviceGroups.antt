@@ -1,7 +1,7 @@
 -- The groups of page requests of a device, by index: what each act that touches one leaves of them.
 use Rattle.std.proofs.Common.{◌≡◌, ◌≢◌, refl, ap, sym, ◌∙◌, ℕ, suc, ◌<◌, Bool, true, false, arith}
 use Rattle.std.specs.Prelude.{Option, Some, None, option_map, ◌==◌, if◌then◌else◌, List, map, slice_set, slice_index_or}
-use Rattle.std.proofs.lemmas.Bool.Decides.{nat_tests}
+use Rattle.std.proofs.lemmas.Bool.{eq-eqb, ne_eqb}
 use Rattle.sva_model.specs.Words.{put, tabulate, count_below}
 use Rattle.sva_model.specs.Message.{Code}
 use Rattle.sva_model.specs.State.{Mappings, GroupState, Endpoint}
@@ -43,12 +43,6 @@ groups_bound ms g n p b s t l bo gr =
 
 -- The page requests of a group, with one more at the endpoint.
 
-same_name : (x y : ℕ) → x ≡ y → (x == y) ≡ true
-same_name x y e = grind (arith, nat_tests)
-
-other_name : (x y : ℕ) → x ≢ y → (x == y) ≡ false
-other_name x y e = grind (arith, nat_tests)
-
 pub count_more :
     (p : Endpoint) (y x : ℕ)
     → count_below (suc p.page_requests) (λ r. put p.group_of p.page_requests y r == x)
@@ -67,9 +61,9 @@ count_first : (p : Endpoint) (g : ℕ) → Bounds g p → count_below (suc p.pag
 count_first p g bo =
     count_more p p.groups p.groups
     ∙ ap (λ b. if b then suc (count_below p.page_requests (λ r. p.group_of r == p.groups)) else count_below p.page_requests
-    (λ r. p.group_of r == p.groups)) (same_name p.groups p.groups refl)
+    (λ r. p.group_of r == p.groups)) (eq-eqb p.groups p.groups refl)
     ∙ ap (λ k. suc k)
-    (count_zero p.page_requests (λ r. p.group_of r == p.groups) (λ r l. other_name (p.group_of r) p.groups (less (p.group_of r) p.groups (bo.group_of r l))))
+    (count_zero p.page_requests (λ r. p.group_of r == p.groups) (λ r l. ne_eqb (p.group_of r) p.groups (less (p.group_of r) p.groups (bo.group_of r l))))
   where
     less : (x y : ℕ) → x < y → x ≢ y
     less x y l = omega arith
@@ -81,7 +75,7 @@ count_other :
 count_other p y x ne =
     count_more p y x
     ∙ ap (λ b. if b then suc (count_below p.page_requests (λ r. p.group_of r == x)) else count_below p.page_requests (λ r. p.group_of r == x))
-    (other_name y x (λ e. ne (sym e)))
+    (ne_eqb y x (λ e. ne (sym e)))
 
 pub groups_opened :
     (ms : Mappings) (g n : ℕ) (p : Endpoint) (b i q : ℕ) (r x l : Bool) → Bounds g p → Groups p
@@ -135,7 +129,7 @@ groups_requested ms g n p y q r x l le gr =
         let count =
         count_more p y y
         ∙ ap (λ b. if b then suc (count_below p.page_requests (λ k. p.group_of k == y)) else count_below p.page_requests (λ k. p.group_of k == y))
-        (same_name y y refl) in
+        (eq-eqb y y refl) in
         λ j. record { pasid = p.pasid (p.asker y); state = state j; requests = count j }
 
     other : (j z : ℕ) → j ≢ p.index y → p.index z ≡ j → z ≢ y

@@ -1,9 +1,10 @@
 -- Tables by label as lists: what they are where no entry changes, where one does, and where each changes alike.
-use Rattle.std.proofs.Common.{◌≡◌, ◌≢◌, refl, ap, ap₂, sym, ◌∙◌, ℕ, zero, suc, ◌<◌, Bool, true, false, arith}
-use Rattle.std.specs.Prelude.{if◌then◌else◌, Option, Some, None, option_map, [], ◌∷◌, ◌++◌, map, slice_set}
+use Rattle.std.proofs.Common.{◌≡◌, ◌≢◌, refl, ap, sym, ◌∙◌, ℕ, zero, suc, ◌<◌, Bool, true}
+use Rattle.std.specs.Prelude.{Option, Some, None, option_map, [], ◌∷◌, ◌++◌, map, slice_set}
 use mathlib.Core.List.{map-append}
 use Rattle.sva_model.specs.Words.{select, tabulate}
 use Rattle.sva_wire.proofs.Lists.{tabulate_same, tabulate_set}
+use Rattle.sva_labels.proofs.Picked.{picked_same}
 
 -- a table with each entry changed alike
 pub tabulate_map : {A B : Type 0} (h : A → B) (n : ℕ) (f : ℕ → A) → map h (tabulate n f) ≡ tabulate n (λ k. h (f k))
@@ -48,14 +49,4 @@ row_map n row f g change none same =
 pub select_seen :
     {B : Type 0} (n : ℕ) (p q : ℕ → Bool) (f g : ℕ → B) → ((k : ℕ) → k < n → q k ≡ p k) → ((k : ℕ) → k < n → p k ≡ true → g k ≡ f k)
     → map g (select n q) ≡ map f (select n p)
-unfolding select
-select_seen zero p q f g h k = refl
-select_seen (suc n) p q f g h k =
-    map-append g (select n q) (if q n then n ∷ [] else [])
-    ∙ ap₂ (λ xs ys. xs ++ ys) (select_seen n p q f g (λ j l. h j (omega arith)) (λ j l. k j (omega arith)))
-    (ap (λ b. map g (if b then n ∷ [] else [])) (h n (omega arith)) ∙ last (p n) refl)
-    ∙ sym (map-append f (select n p) (if p n then n ∷ [] else []))
-  where
-    last : (b : Bool) → p n ≡ b → map g (if b then n ∷ [] else []) ≡ map f (if b then n ∷ [] else [])
-    last true e = ap (λ y. y ∷ []) (k n (omega arith) e)
-    last false e = refl
+select_seen n p q f g h k = picked_same n g f q p h (λ j l t. k j l (sym (h j l) ∙ t))

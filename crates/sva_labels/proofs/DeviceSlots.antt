@@ -2,7 +2,7 @@
 use Rattle.std.proofs.Common.{◌≡◌, ◌≢◌, refl, ap, sym, ◌∙◌, ℕ, ◌<◌, true, arith}
 use Rattle.std.specs.Prelude.{Option, Some, None, option_map, if◌then◌else◌, List, map, slice_set}
 use Rattle.sva_model.specs.Words.{put, tabulate}
-use Rattle.sva_model.specs.State.{Mappings, Stage, UseState, Endpoint}
+use Rattle.sva_model.specs.State.{Mappings, UseState, Endpoint}
 use Rattle.sva_model.specs.State.UseState.{Running, Dead, Ended}
 use Rattle.sva_model.specs.States.{is_unreleased, is_running}
 use Rattle.sva_model.specs.Acts
@@ -13,7 +13,7 @@ use Rattle.sva_laws.proofs.Words.{put-same, put-other}
 use Rattle.sva_laws.proofs.Legal.{LegalLocalAct}
 use Rattle.sva_laws.proofs.Bounds.{Bounds}
 use Rattle.sva_laws.proofs.Labels.{Labels, has_slot}
-use Rattle.sva_laws.proofs.Orders.{is_active}
+use Rattle.sva_laws.proofs.Orders.{is_active, active_unreleased}
 use Rattle.sva_laws.proofs.Owners.{Owners}
 use Rattle.sva_labels.specs.Moves.{killed}
 use Rattle.sva_labels.proofs.DeviceRows.{row_same, row_set, row_map}
@@ -31,10 +31,7 @@ slot_made p g u bo h = grind (arith, bo.use_state u)
 
 -- a running use is of a binding that isn't released
 pub running_unreleased : (ms : Mappings) (p : Endpoint) (u : ℕ) → Owners ms p → p.use_state u ≡ Running → is_unreleased (p.stage (p.use_binding u)) ≡ true
-running_unreleased ms p u ow h = unreleased (p.stage (p.use_binding u)) (ow.running u h)
-  where
-    unreleased : (s : Stage) → is_active s ≡ true → is_unreleased s ≡ true
-    unreleased s h = grind arith
+running_unreleased ms p u ow h = active_unreleased (p.stage (p.use_binding u)) (ow.running u h)
 
 -- a new binding isn't that of a running use
 pub slots_bound :
@@ -85,6 +82,10 @@ slots_begun ms g n p r m t l bo la ow =
         let state = put-other p.use_state p.uses Running u (omega arith) in
         λ i. seen_use (state i) (translation_wire ms p (binding i) (ms.page (mapping i)) (mapping i))
 
+-- a use of another slot is another use
+pub other_use : (p : Endpoint) (u x y : ℕ) → x ≢ p.use_slot u → p.use_slot y ≡ x → y ≢ u
+other_use p u x y ne e k = ne (sym e ∙ ap p.use_slot k)
+
 pub slots_ended : (ms : Mappings) (n : ℕ) (p : Endpoint) (u : ℕ) → Labels p → slots_wire ms (act_alone p n (LocalAct.End u))
     ≡ slice_set (slots_wire ms p) (p.use_slot u) None
 slots_ended ms n p u la =
@@ -93,10 +94,7 @@ slots_ended ms n p u la =
     (λ x ne. put-other p.at_slot (p.use_slot u) None x ne)
     (λ x y ne h.
     ap (λ s. seen_use s (translation_wire ms p (p.use_binding y) (ms.page (p.use_mapping y)) (p.use_mapping y)))
-    (put-other p.use_state u Ended y (other x y ne (la.slot_bears x y h).0)))
-  where
-    other : (x y : ℕ) → x ≢ p.use_slot u → p.use_slot y ≡ x → y ≢ u
-    other x y ne e k = ne (sym e ∙ ap p.use_slot k)
+    (put-other p.use_state u Ended y (other_use p u x y ne (la.slot_bears x y h).0)))
 
 -- a reset ends the uses that run, and their slots are taken yet
 pub slots_cleared : (ms : Mappings) (n : ℕ) (p : Endpoint) (c : ℕ) → slots_wire ms (act_alone p n (LocalAct.Reset_arrives c)) ≡ map killed (slots_wire ms p)

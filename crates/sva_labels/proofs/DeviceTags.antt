@@ -1,9 +1,9 @@
 -- The request tags of a device: what each act that touches one leaves of them.
 use Rattle.std.proofs.Common.{◌≡◌, ◌≢◌, ◌⊎◌, inl, inr, refl, ap, sym, ◌∙◌, ℕ, ◌<◌, Bool, true, false, arith}
 use Rattle.std.specs.Prelude.{Option, Some, None, option_map, ◌&&◌, ◌||◌, ◌==◌, List, map, slice_set}
-use Rattle.std.proofs.lemmas.Bool.Decides.{nat_tests}
+use Rattle.std.proofs.lemmas.Bool.{eq-eqb, ne_eqb}
 use Rattle.sva_model.specs.Words.{put, tabulate}
-use Rattle.sva_model.specs.State.{Mappings, Stage, RequestState, Order, Endpoint}
+use Rattle.sva_model.specs.State.{Mappings, RequestState, Order, Endpoint}
 use Rattle.sva_model.specs.State.RequestState.{Out, Doomed, Over}
 use Rattle.sva_model.specs.State.Order.{RangeOf, PasidOf, Wait}
 use Rattle.sva_model.specs.States.{is_unreleased, is_out, is_busy, is_wait, is_within, covers}
@@ -16,7 +16,8 @@ use Rattle.sva_laws.proofs.Bounds.{Bounds}
 use Rattle.sva_laws.proofs.Bindings.{Bindings}
 use Rattle.sva_laws.proofs.Labels.{Labels}
 use Rattle.sva_laws.proofs.Requests.{Requests}
-use Rattle.sva_laws.proofs.Orders.{Orders, is_active, is_undone}
+use Rattle.sva_laws.proofs.Orders.{Orders, is_undone, active_unreleased}
+use Rattle.sva_laws.proofs.Tests.{same_inside, turned}
 use Rattle.sva_labels.specs.Finding
 use Rattle.sva_labels.specs.Moves.{doomed}
 use Rattle.sva_labels.proofs.DevicePasids.{unreleased_unless}
@@ -105,34 +106,22 @@ tags_cleared n p c = sym (tabulate_map (λ tag. None) 32 (λ t. option_map (requ
 
 -- the binding of an order in the endpoint's hands isn't released
 pub busy_unreleased : (p : Endpoint) (k : ℕ) → Orders p → is_busy (p.order_state k) ≡ true → is_unreleased (p.stage (binding_of (p.order k))) ≡ true
-busy_unreleased p k or h = unreleased (p.stage (binding_of (p.order k))) (or.undone_stage k (undone h) (or.no_wait k h))
+busy_unreleased p k or h = active_unreleased (p.stage (binding_of (p.order k))) (or.undone_stage k (undone h) (or.no_wait k h))
   where
     undone : is_busy (p.order_state k) ≡ true → is_undone (p.order_state k) ≡ true
     undone h = grind arith
-
-    unreleased : (s : Stage) → is_active s ≡ true → is_unreleased s ≡ true
-    unreleased s h = grind arith
 
 -- unreleased bindings differ in their PASIDs
 pub pasids_differ : (p : Endpoint) (b d : ℕ) → Labels p → is_unreleased (p.stage b) ≡ true → is_unreleased (p.stage d) ≡ true → (p.pasid d == p.pasid b)
     ≡ (d == b)
 pasids_differ p b d la h k = go (ℕ_cases d b)
   where
-    same : (x y : ℕ) → x ≡ y → (x == y) ≡ true
-    same x y e = grind (arith, nat_tests)
-
-    other : (x y : ℕ) → x ≢ y → (x == y) ≡ false
-    other x y e = grind (arith, nat_tests)
-
     one : p.pasid d ≡ p.pasid b → d ≡ b
-    one e = inner (sym (la.bears_pasid d k) ∙ ap p.at_pasid e ∙ la.bears_pasid b h)
-      where
-        inner : {x y : ℕ} → Some x ≡ Some y → x ≡ y
-        inner e = grind arith
+    one e = same_inside (sym (la.bears_pasid d k) ∙ ap p.at_pasid e ∙ la.bears_pasid b h)
 
     go : (d ≡ b) ⊎ (d ≢ b) → (p.pasid d == p.pasid b) ≡ (d == b)
-    go (inl e) = same (p.pasid d) (p.pasid b) (ap p.pasid e) ∙ sym (same d b e)
-    go (inr ne) = other (p.pasid d) (p.pasid b) (λ e. ne (one e)) ∙ sym (other d b ne)
+    go (inl e) = eq-eqb (p.pasid d) (p.pasid b) (ap p.pasid e) ∙ sym (eq-eqb d b e)
+    go (inr ne) = ne_eqb (p.pasid d) (p.pasid b) (λ e. ne (one e)) ∙ sym (ne_eqb d b ne)
 
 pub covers_same :
     (p : Endpoint) (k b q : ℕ) → Labels p → Orders p → is_busy (p.order_state k) ≡ true → is_unreleased (p.stage b) ≡ true
@@ -141,12 +130,9 @@ covers_same p k b q la or h un =
     ap (λ x. x && is_within (extent_of (p.order k)) q) (pasids_differ p (binding_of (p.order k)) b la (busy_unreleased p k or h) un)
     ∙ by_order (p.order k) (or.no_wait k h)
   where
-    turn : (x y : ℕ) → (x == y) ≡ (y == x)
-    turn x y = grind (arith, nat_tests)
-
     by_order : (o : Order) → is_wait o ≡ false → ((b == binding_of o) && is_within (extent_of o) q) ≡ covers o b q
-    by_order (RangeOf c range) h = ap (λ x. x && is_within (Pages range) q) (turn b c)
-    by_order (PasidOf c) h = ap (λ x. x && is_within AllPages q) (turn b c)
+    by_order (RangeOf c range) h = ap (λ x. x && is_within (Pages range) q) (turned b c)
+    by_order (PasidOf c) h = ap (λ x. x && is_within AllPages q) (turned b c)
     by_order (Wait c d) h = absurd (cc)
 
 -- an invalidation that is taken dooms the requests that it covers

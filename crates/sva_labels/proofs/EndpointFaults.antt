@@ -2,24 +2,24 @@
 use Rattle.std.proofs.Common.{◌≡◌, ◌≢◌, ◌⊎◌, inl, inr, refl, ap, ap₂, sym, ◌∙◌, ℕ, zero, suc, ◌+◌, ◌<◌, Bool, true, false, arith}
 use Rattle.std.specs.Prelude.{Option, Some, None, option_map, ◌&&◌, ◌||◌, not, ◌==◌, nat_le, if◌then◌else◌, List, [], ◌∷◌, ◌++◌}
 use Rattle.std.proofs.lemmas.Bool.Decides.{nat_tests}
+use Rattle.std.proofs.lemmas.Bool.{eq-eqb, eqb-true, ne_eqb, not-false}
 use Rattle.sva_step.specs.declared.answers.Answer.TheVariants as answer
 use Rattle.sva_step.specs.declared.refusals.Refusal.TheVariants as refusal
 use Rattle.sva_step.specs.declared.steps.Step.TheVariants as step
 use Rattle.sva_model.specs.Words as words
 use Rattle.sva_model.specs.Words.{count_below, tabulate, holds_of, the}
-use Rattle.sva_model.specs.State.{Endpoint, World, GroupState}
-use Rattle.sva_model.specs.State.GroupState.{Collecting}
+use Rattle.sva_model.specs.State.{Endpoint, World}
 use Rattle.sva_model.specs.States.{is_collecting, is_outstanding}
 use Rattle.sva_model.specs.Labels
 use Rattle.sva_model.specs.Refusals as names
 use Rattle.sva_model.specs.Refusals.{refusals}
 use Rattle.sva_model.specs.Outcomes.{outcome}
 use Rattle.sva_model.specs.Wire.{DeviceWire, GroupWire, group_wire, wire}
-use Rattle.sva_laws.proofs.Words.{ℕ_cases, not_true}
+use Rattle.sva_laws.proofs.Words.{ℕ_cases}
 use Rattle.sva_laws.proofs.Counting.{count_zero, count_off}
 use Rattle.sva_laws.proofs.Invariant.{Invariant}
 use Rattle.sva_laws.proofs.Found.{found}
-use Rattle.sva_laws.proofs.Passed.{Passed, is_less}
+use Rattle.sva_laws.proofs.Passed.{Passed}
 use Rattle.sva_laws.proofs.LegalEndpoint as Legally
 use Rattle.sva_labels.specs.Finding.{device_of, lowest_label, requests_in, outstanding, has_unfinished_group, group_at}
 use Rattle.sva_labels.specs.Causes.{causes_of, may_request, is_other_group, fault_causes}
@@ -31,6 +31,7 @@ use Rattle.sva_labels.proofs.EndpointLookups.{started_seen, ending_seen, group_s
 use Rattle.sva_labels.proofs.EndpointSays.{below_seen, bearer_pasid}
 use Rattle.sva_labels.proofs.Alike.{SaysAlike, result_by}
 use Rattle.sva_laws.proofs.LegalEndpoint.{unfinished_is}
+use Rattle.sva_laws.proofs.Tests.{is_itself, is_less, same_inside}
 
 -- The page requests that are outstanding, group by group and one by one.
 
@@ -130,15 +131,9 @@ sum_groups group_of out at label_of bears there (suc n) =
     ∙ sum_more 32 (λ i. of_group group_of n (at i)) (λ i. is_one (group_of n) (at i))
     ∙ go (out (group_of n)) refl (sum_groups group_of out at label_of bears there n)
   where
-    same : (x g : ℕ) → (x == g) ≡ true → x ≡ g
-    same x g h = grind (arith, nat_tests)
-
-    itself : (x : ℕ) → (x == x) ≡ true
-    itself x = grind (arith, nat_tests)
-
     bearer : (i : ℕ) (o : Option ℕ) → at i ≡ o → is_one (group_of n) o ≡ true → (label_of (group_of n) ≡ i) × (out (group_of n) ≡ true)
     bearer i None e h = absurd (cc)
-    bearer i (Some g) e h = bears i (group_of n) (e ∙ ap (λ z. Some z) (sym (same (group_of n) g h)))
+    bearer i (Some g) e h = bears i (group_of n) (e ∙ ap (λ z. Some z) (sym (eqb-true (group_of n) g h)))
 
     none : out (group_of n) ≡ false → (i : ℕ) (b : Bool) → is_one (group_of n) (at i) ≡ b → b ≡ false
     none e i false h = refl
@@ -151,7 +146,7 @@ sum_groups group_of out at label_of bears there (suc n) =
     go true e rest =
         let x = there (group_of n) e in
         let one : count_below 32 (λ i. is_one (group_of n) (at i)) ≡ 1 =
-        count_once 32 (λ i. is_one (group_of n) (at i)) (label_of (group_of n)) x.1 (ap (is_one (group_of n)) x.0 ∙ itself (group_of n))
+        count_once 32 (λ i. is_one (group_of n) (at i)) (label_of (group_of n)) x.1 (ap (is_one (group_of n)) x.0 ∙ is_itself (group_of n))
         (λ j h. sym (bearer j (at j) refl h).0)
         in
         omega (arith, one, rest)
@@ -196,12 +191,6 @@ group_of_pasid w e t g i = go (is_collecting (p.group g)) refl
     p : Endpoint
     p = w.part e
 
-    itself : (x y : ℕ) → x ≡ y → (x == y) ≡ true
-    itself x y h = grind (arith, nat_tests)
-
-    differ : (x y : ℕ) → x ≢ y → (x == y) ≡ false
-    differ x y h = grind (arith, nat_tests)
-
     nothing : (x y : ℕ) → (true && false && x == y) ≡ false
     nothing x y = refl
 
@@ -209,15 +198,12 @@ group_of_pasid w e t g i = go (is_collecting (p.group g)) refl
         is_collecting (p.group g) ≡ true → (o : Option ℕ) → p.at_pasid t ≡ o → (p.pasid (p.asker g) ≡ t) ⊎ (p.pasid (p.asker g) ≢ t)
         → (p.pasid (p.asker g) == t) ≡ (words.is_some o && p.asker g == the o)
     by u None h (inl same) = absurd (cc (sym ((found w e i).asker g (inl (unfinished_is (p.group g) u))).0.bears ∙ ap p.at_pasid same ∙ h))
-    by u None h (inr ne) = differ (p.pasid (p.asker g)) t ne
+    by u None h (inr ne) = ne_eqb (p.pasid (p.asker g)) t ne
     by u (Some b) h (inl same) =
-        let is : p.asker g ≡ b = one (sym ((found w e i).asker g (inl (unfinished_is (p.group g) u))).0.bears ∙ ap p.at_pasid same ∙ h) in
-        itself (p.pasid (p.asker g)) t same ∙ sym (itself (p.asker g) b is)
-      where
-        one : {x y : ℕ} → Some x ≡ Some y → x ≡ y
-        one h = cc
+        let is : p.asker g ≡ b = same_inside (sym ((found w e i).asker g (inl (unfinished_is (p.group g) u))).0.bears ∙ ap p.at_pasid same ∙ h) in
+        eq-eqb (p.pasid (p.asker g)) t same ∙ sym (eq-eqb (p.asker g) b is)
     by u (Some b) h (inr ne) =
-        differ (p.pasid (p.asker g)) t ne ∙ sym (differ (p.asker g) b (λ is. ne (ap p.pasid is ∙ ((i.parts e).labels.pasid_bears t b h).0)))
+        ne_eqb (p.pasid (p.asker g)) t ne ∙ sym (ne_eqb (p.asker g) b (λ is. ne (ap p.pasid is ∙ ((i.parts e).labels.pasid_bears t b h).0)))
 
     go : (b : Bool) → is_collecting (p.group g) ≡ b → (b && p.pasid (p.asker g) == t) ≡ (b && words.is_some (p.at_pasid t) && p.asker g == Labels.bearer p t)
     go false h = refl
@@ -272,8 +258,8 @@ fault_result_is :
 fault_result_is w e t q r x l None i h =
     let legal = (Legally.fault w e t q r x None l i h).0.1.0 in
     ap₂ (λ k u. by_one (answer.Group k) (Move.Group e u k q r x l)) (index_is w e (is_less e w.config.endpoints h.0) legal.2)
-    (sym (bearer_pasid w e t i (not_true (Labels.is_started (w.part e) t) h.1.1.0)))
-fault_result_is w e t q r x l (Some k) i h = go ((w.part e).at_index k) refl (not_true (Labels.is_group_of (w.part e) t k) h.1.1.1.1.0)
+    (sym (bearer_pasid w e t i (not-false (Labels.is_started (w.part e) t) h.1.1.0)))
+fault_result_is w e t q r x l (Some k) i h = go ((w.part e).at_index k) refl (not-false (Labels.is_group_of (w.part e) t k) h.1.1.1.1.0)
   where
     p : Endpoint
     p = w.part e

@@ -2,18 +2,20 @@
 use Rattle.std.proofs.Common.{◌≡◌, refl, ap, sym, ◌∙◌, ℕ, ◌<◌, Bool, true, false, arith}
 use Rattle.std.specs.Prelude.{Option, Some, None, ◌&&◌, ◌||◌, not, nat_lt, is_none}
 use Rattle.std.specs.List.{list_any}
-use Rattle.std.proofs.lemmas.Bool.Decides.{nat_tests}
+use Rattle.std.proofs.lemmas.Bool.{and_from, lt-ltb, ltb-true}
 use Rattle.sva_step.specs.declared.refusals.Refusal.TheVariants as refusal
 use Rattle.sva_step.specs.declared.steps.Step.TheVariants as step
 use Rattle.sva_model.specs.Words.{any_below, tabulate, holds_of}
-use Rattle.sva_model.specs.State.{Mappings, Endpoint, World, OrderState, UseState}
+use Rattle.sva_model.specs.State.{Mappings, Endpoint, World, OrderState}
 use Rattle.sva_model.specs.State.OrderState.{Queued, Sent, Taken, Lapsed, Completing, Done, Void}
-use Rattle.sva_model.specs.States.{is_taken, is_busy, is_running, uses_noted, covers}
+use Rattle.sva_model.specs.States.{is_taken, is_running, uses_noted, covers}
 use Rattle.sva_model.specs.Labels
 use Rattle.sva_model.specs.Refusals.{refusals}
 use Rattle.sva_model.specs.Wire.{chain, is_noted, taken_by, wire}
-use Rattle.sva_laws.proofs.Labels.{has_slot}
+use Rattle.sva_laws.proofs.Labels.{running_slot}
 use Rattle.sva_laws.proofs.Invariant.{Invariant}
+use Rattle.sva_laws.proofs.Orders.{taken_busy}
+use Rattle.sva_laws.proofs.Tests.{first_holds, second_holds}
 use Rattle.sva_labels.specs.Finding.{device_of, taken_at, waits_for_use}
 use Rattle.sva_labels.specs.Causes.{causes_of}
 use Rattle.sva_labels.proofs.Lookups.{any_table, any_same}
@@ -22,13 +24,6 @@ use Rattle.sva_labels.proofs.EndpointLookups.{taken_seen}
 use Rattle.sva_labels.proofs.EndpointSays.{below_seen}
 use Rattle.sva_labels.proofs.EndpointQuits.{any_both}
 use Rattle.sva_labels.proofs.Alike.{SaysAlike}
-use Rattle.sva_laws.proofs.Withheld.{and_both as both}
-
-first : (a b : Bool) → (a && b) ≡ true → a ≡ true
-first a b h = grind arith
-
-second : (a b : Bool) → (a && b) ≡ true → b ≡ true
-second a b h = grind arith
 
 -- an ITag has an invalidation in the endpoint's hands where its order is taken
 none_taken :
@@ -67,23 +62,14 @@ noted_seen w e k uses i =
     p : Endpoint
     p = w.part e
 
-    less : (a b : ℕ) → nat_lt a b ≡ true → a < b
-    less a b h = grind (arith, nat_tests)
-
-    lower : (a b : ℕ) → a < b → nat_lt a b ≡ true
-    lower a b h = grind (arith, nat_tests)
-
     forth : (o : Option ℕ) → holds_of (is_noted w.mappings p k uses) o ≡ true → (u : ℕ) × (u < uses) × (Labels.is_noted_running w.mappings p k u ≡ true)
     forth None h = absurd (cc)
     forth (Some u) h = (
       u,
-      less u uses (first (nat_lt u uses) (Labels.is_noted_running w.mappings p k u) h),
-      second (nat_lt u uses)
+      ltb-true u uses (first_holds (nat_lt u uses) (Labels.is_noted_running w.mappings p k u) h),
+      second_holds (nat_lt u uses)
           (Labels.is_noted_running w.mappings p k u) h,
     )
-
-    slot_of : (s : UseState) → is_running s ≡ true → has_slot s ≡ true
-    slot_of s h = grind arith
 
     back :
         (u : ℕ) → u < uses → Labels.is_noted_running w.mappings p k u ≡ true
@@ -91,10 +77,11 @@ noted_seen w e k uses i =
     back u l h =
         let there : p.at_slot (p.use_slot u) ≡ Some u =
         (i.parts e).labels.bears_slot u
-        (slot_of (p.use_state u) (first (is_running (p.use_state u)) (covers (p.order k) (p.use_binding u) (w.mappings.page (p.use_mapping u))) h)) in (
+        (running_slot (p.use_state u)
+        (first_holds (is_running (p.use_state u)) (covers (p.order k) (p.use_binding u) (w.mappings.page (p.use_mapping u))) h)) in (
           p.use_slot u,
           (i.parts e).labels.slot_low (p.use_slot u) u there,
-          ap (holds_of (is_noted w.mappings p k uses)) there ∙ both (nat_lt u uses) (Labels.is_noted_running w.mappings p k u) (lower u uses l) h,
+          ap (holds_of (is_noted w.mappings p k uses)) there ∙ and_from (nat_lt u uses) (Labels.is_noted_running w.mappings p k u) (lt-ltb u uses l) h,
         )
 
 -- by the state of the order
@@ -127,9 +114,6 @@ in_use_seen w e vector i l =
     made : (k : ℕ) → is_taken (p.order_state k) ≡ true → k < p.orders
     made k t = grind (arith, (i.parts e).bounds.order_state k)
 
-    busy : (s : OrderState) → is_taken s ≡ true → is_busy s ≡ true
-    busy s h = grind arith
-
     forth :
         (t : ℕ) (o : Option ℕ) → p.at_itag t ≡ o
         → (Labels.is_set vector t && waits_for_use (chain (λ k. taken_by w.mappings p k (p.order_state k)) o)) ≡ true
@@ -139,32 +123,32 @@ in_use_seen w e vector i l =
         nothing : (a : Bool) → (a && false) ≡ true → ⊥
         nothing a h = grind arith
     forth t (Some k) m h =
-        let set : Labels.is_set vector t ≡ true = first (Labels.is_set vector t) (waits_for_use (taken_by w.mappings p k (p.order_state k))) h in
+        let set : Labels.is_set vector t ≡ true = first_holds (Labels.is_set vector t) (waits_for_use (taken_by w.mappings p k (p.order_state k))) h in
         let waits : (is_taken (p.order_state k) && Labels.is_in_use w p k) ≡ true =
-        sym (waits_seen w e k i (p.order_state k)) ∙ second (Labels.is_set vector t) (waits_for_use (taken_by w.mappings p k (p.order_state k))) h in
-        let taken = first (is_taken (p.order_state k)) (Labels.is_in_use w p k) waits in (
+        sym (waits_seen w e k i (p.order_state k)) ∙ second_holds (Labels.is_set vector t) (waits_for_use (taken_by w.mappings p k (p.order_state k))) h in
+        let taken = first_holds (is_taken (p.order_state k)) (Labels.is_in_use w p k) waits in (
           k,
           made k taken,
-          both (Labels.is_named p vector k) (Labels.is_in_use w p k)
-              (both (is_taken (p.order_state k)) (Labels.is_set vector (p.itag k)) taken
+          and_from (Labels.is_named p vector k) (Labels.is_in_use w p k)
+              (and_from (is_taken (p.order_state k)) (Labels.is_set vector (p.itag k)) taken
               (ap (Labels.is_set vector) ((i.parts e).labels.itag_bears t k m).0 ∙ set))
-              (second (is_taken (p.order_state k)) (Labels.is_in_use w p k) waits),
+              (second_holds (is_taken (p.order_state k)) (Labels.is_in_use w p k) waits),
         )
 
     back :
         (k : ℕ) → k < p.orders → (Labels.is_named p vector k && Labels.is_in_use w p k) ≡ true
         → (t : ℕ) × (t < 32) × ((Labels.is_set vector t && waits_for_use (chain (λ k. taken_by w.mappings p k (p.order_state k)) (p.at_itag t))) ≡ true)
     back k m h =
-        let named = first (Labels.is_named p vector k) (Labels.is_in_use w p k) h in
-        let taken = first (is_taken (p.order_state k)) (Labels.is_set vector (p.itag k)) named in
-        let there : p.at_itag (p.itag k) ≡ Some k = (i.parts e).labels.bears_itag k (busy (p.order_state k) taken) in (
+        let named = first_holds (Labels.is_named p vector k) (Labels.is_in_use w p k) h in
+        let taken = first_holds (is_taken (p.order_state k)) (Labels.is_set vector (p.itag k)) named in
+        let there : p.at_itag (p.itag k) ≡ Some k = (i.parts e).labels.bears_itag k (taken_busy (p.order_state k) taken) in (
           p.itag k,
           (i.parts e).labels.itag_low (p.itag k) k there,
           ap (λ o. Labels.is_set vector (p.itag k) && waits_for_use (chain (λ k. taken_by w.mappings p k (p.order_state k)) o)) there
-              ∙ both (Labels.is_set vector (p.itag k)) (waits_for_use (taken_by w.mappings p k (p.order_state k)))
-              (second (is_taken (p.order_state k)) (Labels.is_set vector (p.itag k)) named)
+              ∙ and_from (Labels.is_set vector (p.itag k)) (waits_for_use (taken_by w.mappings p k (p.order_state k)))
+              (second_holds (is_taken (p.order_state k)) (Labels.is_set vector (p.itag k)) named)
               (waits_seen w e k i (p.order_state k)
-              ∙ both (is_taken (p.order_state k)) (Labels.is_in_use w p k) taken (second (Labels.is_named p vector k) (Labels.is_in_use w p k) h)),
+              ∙ and_from (is_taken (p.order_state k)) (Labels.is_in_use w p k) taken (second_holds (Labels.is_named p vector k) (Labels.is_in_use w p k) h)),
         )
 
 pub finish_says : (w : World) (e vector count : ℕ) → Invariant w → SaysAlike w (step.Finish e vector count)

@@ -3,6 +3,7 @@ use Rattle.std.proofs.Common.{◌≡◌, refl, ap, sym, ◌∙◌, ℕ, zero, su
 use Rattle.std.specs.Prelude.{Option, Some, None, option_map, ◌&&◌, not, ◌==◌, nat_lt, is_none, map}
 use Rattle.std.specs.List.{find}
 use Rattle.std.proofs.lemmas.Bool.Decides.{nat_tests}
+use Rattle.std.proofs.lemmas.Bool.{ltb-false, ltb-true}
 use Rattle.sva_model.specs.Words as words
 use Rattle.sva_model.specs.Words.{any_below, lowest, select, tabulate, holds_of, the}
 use Rattle.sva_model.specs.State.{Mappings, Endpoint}
@@ -14,7 +15,8 @@ use Rattle.sva_laws.proofs.Words.{lowest_below, any_below-true, any_below-intro,
 use Rattle.sva_laws.proofs.Labels as Bears
 use Rattle.sva_laws.proofs.Invariant.{PartInvariant}
 use Rattle.sva_laws.proofs.Passed.{bearer_of}
-use Rattle.sva_laws.proofs.Unmap.{active_unreleased}
+use Rattle.sva_laws.proofs.Orders.{active_unreleased}
+use Rattle.sva_laws.proofs.Tests.{both_same, same_inside}
 use Rattle.sva_wire.proofs.Lists.{tabulate_at}
 use Rattle.sva_labels.specs.Finding.{pasid_state, is_at_page, cached, group_at, use_at, tag_at, taken_at}
 use Rattle.sva_labels.proofs.Lookups.{tabulate_past, find_one, find_none, find_sorted, alone_select, and_two}
@@ -39,16 +41,10 @@ pub pasid_seen : (ms : Mappings) (p : Endpoint) → Bears.Labels p → (t : ℕ)
 pasid_seen ms p la zero = sym (ap (state_of_pasid p) (none_zero p la))
 pasid_seen ms p la (suc t) = go (nat_lt t 32) refl
   where
-    less : (a b : ℕ) → nat_lt a b ≡ true → a < b
-    less a b h = grind (arith, nat_tests)
-
-    past : (a b : ℕ) → nat_lt a b ≡ false → b ≤ a
-    past a b h = grind (arith, nat_tests)
-
     go : (b : Bool) → nat_lt t 32 ≡ b → pasid_state (device_wire ms p) (suc t) ≡ state_of_pasid p (p.at_pasid (suc t))
-    go true h = tabulate_at 32 (λ x. state_of_pasid p (p.at_pasid (suc x))) t Off (less t 32 h)
+    go true h = tabulate_at 32 (λ x. state_of_pasid p (p.at_pasid (suc x))) t Off (ltb-true t 32 h)
     go false h =
-        let l : 32 ≤ t = past t 32 h in
+        let l : 32 ≤ t = ltb-false t 32 h in
         tabulate_past 32 (λ x. state_of_pasid p (p.at_pasid (suc x))) t Off l
         ∙ sym (ap (state_of_pasid p) (none_past p la (suc t) (omega arith)))
 
@@ -73,19 +69,13 @@ table_seen :
     → get_or (tabulate n (λ x. f (at x))) t None ≡ f (at t)
 table_seen {A = A} n at f none low t = go (nat_lt t n) refl
   where
-    less : (a b : ℕ) → nat_lt a b ≡ true → a < b
-    less a b h = grind (arith, nat_tests)
-
-    past : (a b : ℕ) → nat_lt a b ≡ false → b ≤ a
-    past a b h = grind (arith, nat_tests)
-
     nothing : n ≤ t → (o : Option ℕ) → at t ≡ o → o ≡ None
     nothing l None h = refl
     nothing l (Some k) h = absurd (let m = low t k h in omega (arith, m, l))
 
     go : (b : Bool) → nat_lt t n ≡ b → get_or (tabulate n (λ x. f (at x))) t None ≡ f (at t)
-    go true h = tabulate_at n (λ x. f (at x)) t None (less t n h)
-    go false h = tabulate_past n (λ x. f (at x)) t None (past t n h) ∙ sym (ap f (nothing (past t n h) (at t) refl) ∙ none)
+    go true h = tabulate_at n (λ x. f (at x)) t None (ltb-true t n h)
+    go false h = tabulate_past n (λ x. f (at x)) t None (ltb-false t n h) ∙ sym (ap f (nothing (ltb-false t n h) (at t) refl) ∙ none)
 
 pub tag_seen : (ms : Mappings) (p : Endpoint) → Bears.Labels p → (t : ℕ) → tag_at (device_wire ms p) t ≡ option_map (request_wire p) (p.at_tag t)
 tag_seen ms p la t = table_seen 32 p.at_tag (option_map (request_wire p)) refl la.tag_low t
@@ -111,9 +101,6 @@ and_three x a b c d h = grind (arith, nat_tests)
 all_three : (x : Bool) (a b c d : ℕ) → x ≡ true → a ≡ b → c ≡ d → (x && a == b && c == d) ≡ true
 all_three x a b c d h k l = grind (arith, nat_tests)
 
-all_two : (a b c d : ℕ) → a ≡ b → c ≡ d → (a == b && c == d) ≡ true
-all_two a b c d h k = grind (arith, nat_tests)
-
 -- a request whose answer is cached at a page of a PASID is one of the bearer's
 holder :
     (ms : Mappings) (x g n e : ℕ) (p : Endpoint) → PartInvariant ms x g n e p → (t q r : ℕ) → words.is_some (p.held r) ≡ true
@@ -130,11 +117,8 @@ pub one_holder :
 one_holder ms x g n e p i t q r s a b h k =
     let one = holder ms x g n e p i t q r a h in
     let two = holder ms x g n e p i t q s b k in
-    let same : p.request_binding r ≡ p.request_binding s = some_same (sym one.0 ∙ two.0) in
+    let same : p.request_binding r ≡ p.request_binding s = same_inside (sym one.0 ∙ two.0) in
     i.requests.one_held r s (the (p.held r)) (the (p.held s)) (some_the (p.held r) a) (some_the (p.held s) b) same (one.1 ∙ sym two.1)
-  where
-    some_same : {y z : ℕ} → Some y ≡ Some z → y ≡ z
-    some_same h = cc
 
 cache_find :
     (ms : Mappings) (x g n e : ℕ) (p : Endpoint) → PartInvariant ms x g n e p → (t q : ℕ)
@@ -156,7 +140,7 @@ cached_seen ms x g n e p i t q h =
     let r = Labels.cached p b q in
     let three = and_three (words.is_some (p.held r)) (p.request_binding r) b (p.request_page r) q low.1 in
     let passes : is_at_page t q (cached_wire ms p r) ≡ true =
-    all_two (p.pasid (p.request_binding r)) t (p.request_page r) q (ap p.pasid three.1 ∙ (i.labels.pasid_bears t b bears.0).0) three.2 in
+    both_same (p.pasid (p.request_binding r)) t (p.request_page r) q (ap p.pasid three.1 ∙ (i.labels.pasid_bears t b bears.0).0) three.2 in
     cache_find ms x g n e p i t q
     ∙ find_one p.requests (λ r. words.is_some (p.held r)) (cached_wire ms p) (is_at_page t q) r low.0 three.0 passes
     (λ j l s k. one_holder ms x g n e p i t q j r s three.0 k passes)

@@ -3,20 +3,20 @@ use Rattle.std.proofs.Common.{◌≡◌, inl, refl, ap, sym, ◌∙◌, ℕ, ◌
 use Rattle.std.specs.Prelude.{Option, Some, None, option_map, ◌&&◌, ◌||◌, not, ◌==◌, if◌then◌else◌}
 use Rattle.std.specs.List.{list_any}
 use Rattle.std.proofs.lemmas.Bool.Decides.{nat_tests}
+use Rattle.std.proofs.lemmas.Bool.{eq-eqb, eqb-true, not-false}
 use Rattle.sva_step.specs.declared.answers.Answer.TheVariants as answer
 use Rattle.sva_step.specs.declared.refusals.Refusal.TheVariants as refusal
 use Rattle.sva_step.specs.declared.steps.Step.TheVariants as step
 use Rattle.sva_model.specs.Words.{any_below}
 use Rattle.sva_model.specs.State.{Mappings, Endpoint, World, GroupState, UseState}
-use Rattle.sva_model.specs.State.GroupState.{Collecting}
 use Rattle.sva_model.specs.State.UseState.{Running}
 use Rattle.sva_model.specs.States.{is_ending, is_out, is_running, is_collecting, is_outstanding}
 use Rattle.sva_model.specs.Claims.{IsBearer}
 use Rattle.sva_model.specs.Labels
 use Rattle.sva_model.specs.Refusals.{refusals}
 use Rattle.sva_model.specs.Wire.{UseWire, request_wire, use_wire, group_wire, translation_wire, device_wire, wire}
-use Rattle.sva_laws.proofs.Words.{not_true, any_below-true, any_below-intro}
-use Rattle.sva_laws.proofs.Labels.{has_slot}
+use Rattle.sva_laws.proofs.Words.{any_below-true, any_below-intro}
+use Rattle.sva_laws.proofs.Labels.{running_slot}
 use Rattle.sva_laws.proofs.Invariant.{Invariant}
 use Rattle.sva_laws.proofs.Found.{found}
 use Rattle.sva_laws.proofs.Passed.{bearer_of}
@@ -54,12 +54,6 @@ both a x y h k = grind (arith, nat_tests)
 
 parts : (a : Bool) (x y : ℕ) → (a && x == y) ≡ true → (a ≡ true) × (x ≡ y)
 parts a x y h = grind (arith, nat_tests)
-
-alike : (x y : ℕ) → (x == y) ≡ true → x ≡ y
-alike x y h = grind (arith, nat_tests)
-
-itself : (x y : ℕ) → x ≡ y → (x == y) ≡ true
-itself x y h = grind (arith, nat_tests)
 
 -- a binding that bears its PASID, which is t, is the bearer of t
 is_bearer : (p : Endpoint) (t b d : ℕ) → p.at_pasid t ≡ Some b → IsBearer p d → p.pasid d ≡ t → d ≡ b
@@ -132,7 +126,7 @@ tags_busy w e t b i h =
           r,
           made r out,
           both (is_out (p.request r)) (p.request_binding r) b out
-              (is_bearer p t b (p.request_binding r) h ((found w e i).out r out).0 (alike (p.pasid (p.request_binding r)) t k)),
+              (is_bearer p t b (p.request_binding r) h ((found w e i).out r out).0 (eqb-true (p.pasid (p.request_binding r)) t k)),
         )
 
     back :
@@ -144,7 +138,7 @@ tags_busy w e t b i h =
           p.request_tag r,
           (i.parts e).labels.tag_low (p.request_tag r) r there,
           ap (λ o. is_request_of t (option_map (request_wire p) o)) there
-              ∙ itself (p.pasid (p.request_binding r)) t (ap p.pasid x.1 ∙ ((i.parts e).labels.pasid_bears t b h).0),
+              ∙ eq-eqb (p.pasid (p.request_binding r)) t (ap p.pasid x.1 ∙ ((i.parts e).labels.pasid_bears t b h).0),
         )
 
 running_is : (s : UseState) → is_running s ≡ true → s ≡ Running
@@ -188,15 +182,12 @@ slots_busy w e t b i h =
               (is_bearer p t b (p.use_binding u) h ((found w e i).in_use u (running_is (p.use_state u) x.0)) x.1),
         )
 
-    slot_of : (s : UseState) → is_running s ≡ true → has_slot s ≡ true
-    slot_of s k = grind arith
-
     back :
         (u : ℕ) → u < p.uses → (is_running (p.use_state u) && p.use_binding u == b) ≡ true
         → (x : ℕ) × (x < 16) × (is_use_of t (option_map (use_wire w.mappings p) (p.at_slot x)) ≡ true)
     back u l k =
         let x = parts (is_running (p.use_state u)) (p.use_binding u) b k in
-        let there : p.at_slot (p.use_slot u) ≡ Some u = (i.parts e).labels.bears_slot u (slot_of (p.use_state u) x.0) in (
+        let there : p.at_slot (p.use_slot u) ≡ Some u = (i.parts e).labels.bears_slot u (running_slot (p.use_state u) x.0) in (
           p.use_slot u,
           (i.parts e).labels.slot_low (p.use_slot u) u there,
           ap (λ o. is_use_of t (option_map (use_wire w.mappings p) o)) there
@@ -232,7 +223,7 @@ quit_says w e t i =
               λ f1. (
                 ap (λ b. (b, refusal.Busy))
                     (busy_cause w e t (Labels.bearer (w.part e) t) i (below_seen w e f)
-                    (ending_bearer w e t (sym (stopping_cause w e t i (below_seen w e f)) ∙ not_true (is_ending (pasid_state (device_of (wire w) e) t)) f1))),
+                    (ending_bearer w e t (sym (stopping_cause w e t i (below_seen w e f)) ∙ not-false (is_ending (pasid_state (device_of (wire w) e) t)) f1))),
                 λ f2. (refl, λ f3. tt),
               ),
             ),
@@ -240,5 +231,5 @@ quit_says w e t i =
       result = λ h.
           ap (λ u. by_one answer.Marker (Move.Quit e u))
           (sym ((i.parts e).labels.pasid_bears t (Labels.bearer (w.part e) t)
-          (ending_bearer w e t (not_true (Labels.is_told_to_stop (w.part e) t) h.1.0))).0);
+          (ending_bearer w e t (not-false (Labels.is_told_to_stop (w.part e) t) h.1.0))).0);
     }

@@ -3,6 +3,7 @@
 use Rattle.std.proofs.Common.{◌≡◌, refl, ap, ap₂, sym, ◌∙◌, ℕ, ◌<◌, Bool, true, false, arith}
 use Rattle.std.specs.Prelude.{Option, Some, None, ◌&&◌, not, ◌==◌, nat_lt, if◌then◌else◌, option_map, is_none, length}
 use Rattle.std.proofs.lemmas.Bool.Decides.{nat_tests}
+use Rattle.std.proofs.lemmas.Bool.{not-false}
 use Rattle.sva_step.specs.declared.answers.Answer.TheVariants as answer
 use Rattle.sva_step.specs.declared.refusals.Refusal.TheVariants as refusal
 use Rattle.sva_step.specs.declared.steps.Step.TheVariants as step
@@ -14,10 +15,11 @@ use Rattle.sva_model.specs.Labels
 use Rattle.sva_model.specs.Refusals as names
 use Rattle.sva_model.specs.Refusals.{refusals}
 use Rattle.sva_model.specs.Wire.{DeviceWire, UseWire, translation_wire, cached_wire, request_wire, use_wire, wire}
-use Rattle.sva_laws.proofs.Words.{not_true, some_the}
+use Rattle.sva_laws.proofs.Words.{some_the}
 use Rattle.sva_laws.proofs.Invariant.{Invariant}
-use Rattle.sva_laws.proofs.Passed.{is_less, and_right, bearer_of}
+use Rattle.sva_laws.proofs.Passed.{bearer_of}
 use Rattle.sva_laws.proofs.LegalEndpoint.{cached_is}
+use Rattle.sva_laws.proofs.Tests.{and_no, is_less, second_holds}
 use Rattle.sva_labels.specs.Finding.{device_of, lowest_label, cached, use_at}
 use Rattle.sva_labels.specs.Causes.{causes_of, not_started, not_held, is_read_only}
 use Rattle.sva_labels.specs.Moves.{Move}
@@ -80,7 +82,7 @@ ask_says w e t q i =
           );
       result = λ h.
           ap₂ (λ k u. by_one (answer.Tag k) (Move.Ask e u q k)) (tag_is w e (is_less e w.config.endpoints h.0) h.1.1.1.0)
-          (sym (bearer_pasid w e t i (not_true (Labels.is_started (w.part e) t) h.1.1.0)));
+          (sym (bearer_pasid w e t i (not-false (Labels.is_started (w.part e) t) h.1.1.0)));
     }
 
 -- BeginUse.
@@ -110,7 +112,7 @@ held_seen w e t q i l h =
 passed_held :
     (w : World) (e t q : ℕ) → Invariant w → e < w.config.endpoints → is_none (cached (device_of (wire w) e) t q) ≡ false
     → Labels.is_cached (w.part e) t q ≡ true
-passed_held w e t q i l f = not_true (Labels.is_cached (w.part e) t q) (sym (ap (λ c. c.0) (not_held_cause w e t q i l)) ∙ f)
+passed_held w e t q i l f = not-false (Labels.is_cached (w.part e) t q) (sym (ap (λ c. c.0) (not_held_cause w e t q i l)) ∙ f)
 
 pub begin_says : (w : World) (e t q : ℕ) (x : Bool) → Invariant w → SaysAlike w (step.BeginUse e t q x)
 begin_says w e t q x i =
@@ -134,7 +136,7 @@ begin_says w e t q x i =
           );
       result = λ h.
           ap₂ (begin_result e) (slot_is w e (is_less e w.config.endpoints h.0) h.1.1.1.1.1.0)
-          (held_seen w e t q i (is_less e w.config.endpoints h.0) (not_true (Labels.is_cached (w.part e) t q) h.1.1.1.0));
+          (held_seen w e t q i (is_less e w.config.endpoints h.0) (not-false (Labels.is_cached (w.part e) t q) h.1.1.1.0));
     }
 
 -- EndUse.
@@ -150,11 +152,8 @@ no_use w e u i l =
     low : u < 16 → (nat_lt u 16 && true) ≡ true
     low k = grind (arith, nat_tests)
 
-    none : (b : Bool) → (b && false) ≡ false
-    none b = grind arith
-
     go : (o : Option ℕ) → (w.part e).at_slot u ≡ o → is_none (option_map (use_wire w.mappings (w.part e)) o) ≡ not (nat_lt u 16 && words.is_some o)
-    go None k = sym (ap not (none (nat_lt u 16)))
+    go None k = sym (ap not (and_no (nat_lt u 16)))
     go (Some v) k = sym (ap not (low ((i.parts e).labels.slot_low u v k)))
 
 pub end_says : (w : World) (e u : ℕ) → Invariant w → SaysAlike w (step.EndUse e u)
@@ -168,7 +167,7 @@ end_says w e u i =
       result = λ h.
           let there =
           some_the ((w.part e).at_slot u)
-          (and_right (nat_lt u 16) (words.is_some ((w.part e).at_slot u)) (not_true (nat_lt u 16 && words.is_some ((w.part e).at_slot u)) h.1.0)) in
+          (second_holds (nat_lt u 16) (words.is_some ((w.part e).at_slot u)) (not-false (nat_lt u 16 && words.is_some ((w.part e).at_slot u)) h.1.0)) in
           ap₂ (λ a v. by_one a (Move.End e v))
           (ap (λ d. end_answer (use_at d u)) (device_seen w e (is_less e w.config.endpoints h.0))
           ∙ ap end_answer (use_seen w.mappings (w.part e) (i.parts e).labels u)
@@ -197,7 +196,7 @@ evict_says w e t q i =
             λ f. (refl, λ f1. (not_held_cause w e t q i (below_seen w e f), λ f2. tt)),
           );
       result = λ h.
-          let is = not_true (Labels.is_cached (w.part e) t q) h.1.1.0 in
+          let is = not-false (Labels.is_cached (w.part e) t q) h.1.1.0 in
           let c = cached_is (w.part e) t q is in
           let bears = bearer_of (w.part e) t (λ d. words.any_below (w.part e).requests (Labels.is_held_at (w.part e) d q)) is in
           ap₂ (λ u v. by_one answer.Evicted (Move.Evict e u v))

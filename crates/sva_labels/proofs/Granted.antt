@@ -2,6 +2,7 @@
 -- keeps holds after every list of steps.
 use Rattle.std.proofs.Common.{◌≡◌, refl, ap, ◌∙◌, ℕ, suc, ◌+◌, ◌^◌, ◌<◌, ◌≤◌, Bool, true, false, arith}
 use Rattle.std.specs.Prelude.{Option, Some, None, ◌&&◌, not, ◌==◌, if◌then◌else◌, List, [], ◌∷◌, ◌++◌, Err}
+use Rattle.std.proofs.lemmas.Bool.{ltb-false}
 use Rattle.sva_step.specs.declared.limits.Config.{Config}
 use Rattle.sva_step.specs.declared.steps.Step.{Step}
 use Rattle.sva_step.specs.declared.steps.Step.TheVariants as step
@@ -26,10 +27,11 @@ use Rattle.sva_model.specs.Outcomes.{Outcome, outcome, unbind_outcome, advance_o
 use Rattle.sva_model.specs.Outcomes.{serve_outcome, file_outcome, reply_outcome, fault_outcome, deliver_outcome, completion_outcome, keep_outcome, is_full}
 use Rattle.sva_model.specs.Outcomes.{request_outcome, count_outcome, page_request_outcome, marker_outcome}
 use Rattle.sva_model.specs.Steps.{checked, decide, next, run, after_acts, world_after}
+use Rattle.sva_laws.proofs.Tests.{other_fails}
 use Rattle.sva_laws.proofs.Words.{any_below-false}
 use Rattle.sva_laws.proofs.Invariant.{Invariant}
 use Rattle.sva_laws.proofs.Keeps.{Legal, act_keeps}
-use Rattle.sva_laws.proofs.Passed.{Passed, LegalAll, is_at_most}
+use Rattle.sva_laws.proofs.Passed.{Passed, LegalAll}
 use Rattle.sva_laws.proofs.Runs.{step_legal, next_keeps, opened_invariant}
 
 -- a translation is kept where the cache has room for it
@@ -67,7 +69,7 @@ checked_granted w (c ∷ cs) o f = go (λ e. checked_granted w cs o (λ k. f (e,
     go rest false e = rest e
 
 left : (w : World) (count needed : ℕ) → Labels.lacks w count needed ≡ false → w.config.first + count + needed ≤ 2 ^ 63
-left w count needed h = is_at_most (2 ^ 63) (w.config.first + count + needed) h
+left w count needed h = ltb-false (2 ^ 63) (w.config.first + count + needed) h
 
 -- an act that sends nothing and gives out no cookie; one that sends; one that gives out a cookie
 free_of : (w : World) (e : ℕ) (o : LocalAct) → sends o ≡ 0 → cookies_of o ≡ 0 → HasRoom (w.part e) o → IsPaid w e o
@@ -82,11 +84,7 @@ waiting w e o s c r = record { messages = λ h. absurd (omega (arith, s, h)); co
 -- Unmapping.
 
 no_room_short : (p : Endpoint) (n : ℕ) → is_queue_short p n ≡ false → Labels.queue_length p + n ≤ 64
-no_room_short p n h = is_at_most 64 (Labels.queue_length p + n) h
-
-both_false : (a b : Bool) → (a && b) ≡ false → a ≡ true → b ≡ false
-both_false true b h e = h
-both_false false b h e = absurd (cc (e))
+no_room_short p n h = ltb-false 64 (Labels.queue_length p + n) h
 
 unmap_granted :
     (w : World) (s q count order n : ℕ) → n ≡ suc count
@@ -99,7 +97,7 @@ unmap_granted w s q count order n same full spent =
     room e l t =
         let f : (submits w s e && is_queue_short (w.part e) n) ≡ false =
         any_below-false w.config.endpoints (λ x. submits w s x && is_queue_short (w.part x) n) full e l in
-        let k : Labels.queue_length (w.part e) + n ≤ 64 = no_room_short (w.part e) n (both_false (submits w s e) (is_queue_short (w.part e) n) f t) in
+        let k : Labels.queue_length (w.part e) + n ≤ 64 = no_room_short (w.part e) n (other_fails (submits w s e) (is_queue_short (w.part e) n) f t) in
         omega (arith, k, same)
 
 -- Bindings.
@@ -153,10 +151,10 @@ head_granted :
 head_granted w e (Wait cookie drain) h ne s = wait_granted w e (Labels.head (w.part e)) (may_pass (w.part e) drain)
 head_granted w e (RangeOf b range) h ne s =
     send_granted w e (Labels.head (w.part e)) (Labels.lowest_label 32 (w.part e).at_itag) (not (Labels.lowest_label 32 (w.part e).at_itag == 32))
-    (λ t. both_false (sends_invalidate (w.part e)) (Labels.lacks w w.messages 1) s (is_sent (w.part e) (RangeOf b range) h refl ne t))
+    (λ t. other_fails (sends_invalidate (w.part e)) (Labels.lacks w w.messages 1) s (is_sent (w.part e) (RangeOf b range) h refl ne t))
 head_granted w e (PasidOf b) h ne s =
     send_granted w e (Labels.head (w.part e)) (Labels.lowest_label 32 (w.part e).at_itag) (not (Labels.lowest_label 32 (w.part e).at_itag == 32))
-    (λ t. both_false (sends_invalidate (w.part e)) (Labels.lacks w w.messages 1) s (is_sent (w.part e) (PasidOf b) h refl ne t))
+    (λ t. other_fails (sends_invalidate (w.part e)) (Labels.lacks w w.messages 1) s (is_sent (w.part e) (PasidOf b) h refl ne t))
 
 pump_granted :
     (w : World) (e : ℕ) (b : Bool) → Labels.is_queue_empty (w.part e) ≡ b
@@ -200,7 +198,7 @@ reply_granted w x j v (Some code) e h = go (replies_success w j v)
   where
     few : Labels.lacks w w.messages 1 ≡ false
     few =
-        both_false (responds w j) (Labels.lacks w w.messages 1) h
+        other_fails (responds w j) (Labels.lacks w w.messages 1) h
         (responding (is_open (job_part w j).phase) ((job_part w j).stage (job_binding w j)) v code e)
 
     go :

@@ -1,6 +1,7 @@
 -- The groups that the host has open, where one is filed, answered or dropped, and where the endpoint begins one.
 use Rattle.std.proofs.Common.{◌≡◌, ◌≢◌, ◌⊎◌, inl, inr, refl, ap, sym, ◌∙◌, ℕ, ◌<◌, Bool, true, false, arith}
 use Rattle.std.specs.Prelude.{◌&&◌, not, ◌==◌, [], map}
+use Rattle.std.proofs.lemmas.Bool.{and_left}
 use Rattle.sva_model.specs.Words.{put, select, any_below}
 use Rattle.sva_model.specs.State.{HostGroupState, Mappings, Endpoint}
 use Rattle.sva_model.specs.State.HostGroupState.{InHand, Discarded, InHandDiscarded}
@@ -12,6 +13,7 @@ use Rattle.sva_laws.proofs.Words.{put-same, put-other, ℕ_cases}
 use Rattle.sva_laws.proofs.Legal.{LegalLocalAct}
 use Rattle.sva_laws.proofs.Bounds.{Bounds}
 use Rattle.sva_laws.proofs.Invariant.{PartInvariant}
+use Rattle.sva_laws.proofs.Tests.{first_holds}
 use Rattle.sva_labels.proofs.Picked.{picked_same, picked_none}
 use Rattle.sva_labels.proofs.Selected.{map_twice}
 use Rattle.sva_labels.proofs.UnitQueue.{old_put}
@@ -57,9 +59,6 @@ begins_alike : (p q : Endpoint) → FiledAlike p q → (k : ℕ) → k < p.filin
 begins_alike p q a k l =
     begins_same (opens p) (opens q) (filed_group p) (filed_group q) k (λ j m. filed_group_same p q a j (omega (arith, l, m))) (a.same_opens k l)
 
-pub opens_of : (b c : Bool) → (b && c) ≡ true → b ≡ true
-opens_of b c h = grind arith
-
 pub rest_of : (b c : Bool) → (b && not c) ≡ true → c ≡ false
 rest_of b c h = grind arith
 
@@ -69,7 +68,7 @@ groups_alike first p q a =
     ∙ picked_same p.filings (λ k. host_group_wire first q (filed_group q k)) (λ k. host_group_wire first p (filed_group p k)) (begins_open q) (begins_open p)
     (begins_alike p q a)
     (λ k l h. ap (host_group_wire first q) (filed_group_same p q a k l)
-    ∙ entry k l (opens_of (opens p (filed_group p k)) (not (any_below k (λ j. filed_group p j == filed_group p k))) (sym (begins_alike p q a k l) ∙ h)))
+    ∙ entry k l (first_holds (opens p (filed_group p k)) (not (any_below k (λ j. filed_group p j == filed_group p k))) (sym (begins_alike p q a k l) ∙ h)))
   where
     entry : (k : ℕ) → k < p.filings → opens p (filed_group p k) ≡ true → host_group_wire first q (filed_group p k) ≡ host_group_wire first p (filed_group p k)
     entry k l h =
@@ -203,11 +202,8 @@ groups_discard ms y g first n e p x l i = go l.0
 dropped : (s : HostGroupState) → is_open_group (discarded s) ≡ false
 dropped s = grind arith
 
-pub shut_begins : (b c : Bool) → b ≡ false → (b && c) ≡ false
-shut_begins b c h = grind arith
-
 pub groups_reset : (first n : ℕ) (p : Endpoint) → host_groups_wire first (act_alone p n LocalAct.Reset) ≡ []
 groups_reset first n p =
     picked_none p.filings (λ k. host_group_wire first (act_alone p n LocalAct.Reset) (filed_group p k)) (begins_open (act_alone p n LocalAct.Reset))
-    (λ k l. shut_begins (is_open_group (discarded (p.host_group (filed_group p k)))) (not (any_below k (λ j. filed_group p j == filed_group p k)))
+    (λ k l. and_left (is_open_group (discarded (p.host_group (filed_group p k)))) (not (any_below k (λ j. filed_group p j == filed_group p k)))
     (dropped (p.host_group (filed_group p k))))

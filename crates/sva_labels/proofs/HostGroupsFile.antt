@@ -2,7 +2,7 @@
 -- of them have the same index.
 use Rattle.std.proofs.Common.{◌≡◌, ◌≢◌, ◌⊎◌, inl, inr, refl, ap, ap₂, sym, ◌∙◌, ℕ, ◌<◌, ◌≤◌, Bool, true, false, arith, append-nil}
 use Rattle.std.specs.Prelude.{◌&&◌, not, ◌==◌, Some, List, [], ◌∷◌, ◌++◌, filter}
-use Rattle.std.proofs.lemmas.Bool.Decides.{nat_tests}
+use Rattle.std.proofs.lemmas.Bool.{and_left, cases_lt, eq-eqb, eqb-true, ne_eqb}
 use Rattle.sva_model.specs.Words.{put, any_below, lowest}
 use Rattle.sva_model.specs.Message.{Code}
 use Rattle.sva_model.specs.State.{HostGroupState, Mappings, Endpoint, Stage}
@@ -21,12 +21,13 @@ use Rattle.sva_laws.proofs.PageRequests.{is_whole}
 use Rattle.sva_laws.proofs.Groups.{Groups, is_filed_group}
 use Rattle.sva_laws.proofs.Invariant.{PartInvariant}
 use Rattle.sva_laws.proofs.OnTheWay.{OnTheWay}
+use Rattle.sva_laws.proofs.Tests.{all_three, first_alone, first_holds}
 use Rattle.sva_labels.specs.Moves.{filed, is_begun, is_of_job}
 use Rattle.sva_labels.proofs.Picked.{if_passes, picked_next, picked_same, picked_none, picked_filter}
 use Rattle.sva_labels.proofs.UnitQueue.{old_put}
 use Rattle.sva_labels.proofs.HostGroupsFiled.{Filings}
 use Rattle.sva_labels.proofs.HostGroupsLists.{begun_by, added_to, filed_new, filed_into, begins_same}
-use Rattle.sva_labels.proofs.HostGroupsAct.{filed_group, opens, asks_seen, opens_of, rest_of, shut_begins}
+use Rattle.sva_labels.proofs.HostGroupsAct.{filed_group, opens, asks_seen, rest_of}
 
 -- two open groups with the same index are one
 same_index : (p : Endpoint) → Groups p → p.phase ≡ Open → (g h : ℕ) → is_outstanding (p.group g) ≡ true → opens p h ≡ true → p.index h ≡ p.index g → h ≡ g
@@ -35,12 +36,6 @@ same_index p gr ph g h og oh e =
     let b : p.at_index (p.index h) ≡ Some h = gr.bears_index h (gr.open_group h ph oh).0 in
     let c : p.at_index (p.index h) ≡ p.at_index (p.index g) = ap p.at_index e in
     cc
-
-differs : (m n : ℕ) → m ≢ n → (m == n) ≡ false
-differs m n ne = grind (arith, nat_tests)
-
-equals : (m n : ℕ) → m ≡ n → (m == n) ≡ true
-equals m n e = grind (arith, nat_tests)
 
 -- A group is answered.
 
@@ -88,24 +83,24 @@ groups_respond ms y g first n e p x code l i =
         (k : ℕ) → begins_open p k ≡ true → (filed_group p k ≡ x) ⊎ (filed_group p k ≢ x)
         → begins_open q k ≡ not (is_of_job (group_job first e p x) (host_group_wire first p (filed_group p k)))
     passes k b (inl c) =
-        shut_begins (is_open_group (put p.host_group x Replied (filed_group p k))) (older k) (gone k c)
+        and_left (is_open_group (put p.host_group x Replied (filed_group p k))) (older k) (gone k c)
         ∙ sym (one_of (number first (p.filed_under (filed_group p k)) == number first (p.filed_under x)) (p.index (filed_group p k) == p.index x)
-        (equals (number first (p.filed_under (filed_group p k))) (number first (p.filed_under x)) (ap (λ z. number first (p.filed_under z)) c))
-        (equals (p.index (filed_group p k)) (p.index x) (ap p.index c)))
+        (eq-eqb (number first (p.filed_under (filed_group p k))) (number first (p.filed_under x)) (ap (λ z. number first (p.filed_under z)) c))
+        (eq-eqb (p.index (filed_group p k)) (p.index x) (ap p.index c)))
     passes k b (inr ne) =
         stays k ne ∙ b
         ∙ sym (none_of (number first (p.filed_under (filed_group p k)) == number first (p.filed_under x)) (p.index (filed_group p k) == p.index x)
-        (differs (p.index (filed_group p k)) (p.index x)
-        (λ s. ne (same_index p i.groups l.0 x (filed_group p k) out (opens_of (opens p (filed_group p k)) (older k) b) s))))
+        (ne_eqb (p.index (filed_group p k)) (p.index x)
+        (λ s. ne (same_index p i.groups l.0 x (filed_group p k) out (first_holds (opens p (filed_group p k)) (older k) b) s))))
 
     fails : (k : ℕ) → begins_open p k ≡ false → (filed_group p k ≡ x) ⊎ (filed_group p k ≢ x) → begins_open q k ≡ false
-    fails k b (inl c) = shut_begins (is_open_group (put p.host_group x Replied (filed_group p k))) (older k) (gone k c)
+    fails k b (inl c) = and_left (is_open_group (put p.host_group x Replied (filed_group p k))) (older k) (gone k c)
     fails k b (inr ne) = stays k ne ∙ b
 
     entry :
         (k : ℕ) → begins_open q k ≡ true → (filed_group p k ≡ x) ⊎ (filed_group p k ≢ x)
         → host_group_wire first q (filed_group p k) ≡ host_group_wire first p (filed_group p k)
-    entry k b (inl c) = absurd (cc (sym (shut_begins (is_open_group (put p.host_group x Replied (filed_group p k))) (older k) (gone k c)) ∙ b))
+    entry k b (inl c) = absurd (cc (sym (and_left (is_open_group (put p.host_group x Replied (filed_group p k))) (older k) (gone k c)) ∙ b))
     entry k b (inr ne) =
         ap (λ (s : HostGroupState). record (host_group_wire first p (filed_group p k)) { is_whole = not (is_part s) })
         (put-other p.host_group x Replied (filed_group p k) ne)
@@ -161,9 +156,6 @@ filed_whole false = refl
 begun_not : (a b c : Bool) → b ≡ false → (a && b && c) ≡ false
 begun_not a b c h = grind arith
 
-both_begin : (a b : Bool) → a ≡ true → b ≡ false → (a && not b) ≡ true
-both_begin a b h i = grind arith
-
 -- an open group by its fields
 abbrev pub entry_of : (binding index : ℕ) → List AskWire → Bool → HostGroupWire
 entry_of b i asks whole = record { binding = b; index = i; asks = asks; is_whole = whole }
@@ -196,7 +188,7 @@ module _ (ms : Mappings) (x g n e first : ℕ) (p : Endpoint) (r : ℕ) (l : Leg
         binding = number first (put-other p.filed_under own_group (p.asker own_group) h ne j);
         index = p.index h;
         asks =
-            (asks_filed p n r h ∙ ap (λ z. asks_wire p h ++ if_passes z (ask_wire p r)) (differs own_group h (λ s. ne (sym s)))
+            (asks_filed p n r h ∙ ap (λ z. asks_wire p h ++ if_passes z (ask_wire p r)) (ne_eqb own_group h (λ s. ne (sym s)))
             ∙ append-nil (asks_wire p h)) j;
         is_whole = not (is_part (put-other p.host_group own_group (filed_as (p.is_last r)) h ne j));
       }
@@ -208,7 +200,7 @@ module _ (ms : Mappings) (x g n e first : ℕ) (p : Endpoint) (r : ℕ) (l : Leg
       record {
         binding = number first (put-same p.filed_under own_group (p.asker own_group) j);
         index = p.index own_group;
-        asks = (asks_filed p n r own_group ∙ ap (λ z. asks_wire p own_group ++ if_passes z (ask_wire p r)) (equals own_group own_group refl)) j;
+        asks = (asks_filed p n r own_group ∙ ap (λ z. asks_wire p own_group ++ if_passes z (ask_wire p r)) (eq-eqb own_group own_group refl)) j;
         is_whole = (ap (λ s. not (is_part s)) (put-same p.host_group own_group (filed_as (p.is_last r))) ∙ filed_whole (p.is_last r)) j;
       }
 
@@ -222,7 +214,7 @@ module _ (ms : Mappings) (x g n e first : ℕ) (p : Endpoint) (r : ℕ) (l : Leg
   not_begun : (h : ℕ) → opens p h ≡ true → h ≢ own_group → is_begun bound (p.index own_group) (host_group_wire first p h) ≡ false
   not_begun h o ne =
       begun_not (number first (p.filed_under h) == bound) (p.index h == p.index own_group) (not (not (is_part (p.host_group h))))
-      (differs (p.index h) (p.index own_group) (λ s. ne (same_index p i.groups l.0 own_group h out o s)))
+      (ne_eqb (p.index h) (p.index own_group) (λ s. ne (same_index p i.groups l.0 own_group h out o s)))
 
   begins_old : (k : ℕ) → k < p.filings → ((filed_group p k ≡ own_group) → opens p own_group ≡ true) → begins_open after k ≡ begins_open p k
   begins_old k m o =
@@ -248,7 +240,7 @@ module _ (ms : Mappings) (x g n e first : ℕ) (p : Endpoint) (r : ℕ) (l : Leg
       (ap (host_group_wire first after) new_group ∙ own_entry
       ∙ ap (λ (xs : List AskWire). record (begun_by bound (page_request_wire p r)) { asks = xs ++ ask_wire p r ∷ [] }) none_asked))
       ∙ sym (filed_new bound (page_request_wire p r) p.filings (λ k. host_group_wire first p (filed_group p k)) (begins_open p)
-      (λ k m b. not_begun (filed_group p k) (opens_of (opens p (filed_group p k)) (not (any_below k (λ j. filed_group p j == filed_group p k))) b)
+      (λ k m b. not_begun (filed_group p k) (first_holds (opens p (filed_group p k)) (not (any_below k (λ j. filed_group p j == filed_group p k))) b)
       (apart k m)))
     where
       apart : (k : ℕ) → k < p.filings → filed_group p k ≢ own_group
@@ -256,15 +248,15 @@ module _ (ms : Mappings) (x g n e first : ℕ) (p : Endpoint) (r : ℕ) (l : Leg
 
       begins_new : begins_open after p.filings ≡ true
       begins_new =
-          both_begin (opens after (filed_group after p.filings)) (any_below p.filings (λ j. filed_group after j == filed_group after p.filings))
+          first_alone (opens after (filed_group after p.filings)) (any_below p.filings (λ j. filed_group after j == filed_group after p.filings))
           (ap (opens after) new_group ∙ own_opens)
           (none_below p.filings (λ j. filed_group after j == filed_group after p.filings)
-          (λ j m. ap₂ (λ a b. a == b) (old_group j m) new_group ∙ differs (filed_group p j) own_group (apart j m)))
+          (λ j m. ap₂ (λ a b. a == b) (old_group j m) new_group ∙ ne_eqb (filed_group p j) own_group (apart j m)))
 
       none_asked : asks_wire p own_group ≡ []
       none_asked =
           asks_seen p own_group
-          ∙ picked_none p.filings (λ k. ask_wire p (p.filing k)) (λ k. filed_group p k == own_group) (λ k m. differs (filed_group p k) own_group (apart k m))
+          ∙ picked_none p.filings (λ k. ask_wire p (p.filing k)) (λ k. filed_group p k == own_group) (λ k m. ne_eqb (filed_group p k) own_group (apart k m))
 
   -- some of its group was filed: it is added to that
   more_of :
@@ -288,34 +280,28 @@ module _ (ms : Mappings) (x g n e first : ℕ) (p : Endpoint) (r : ℕ) (l : Leg
       least = lowest p.filings (λ k. filed_group p k == own_group)
 
       at_least : (least < p.filings) × ((filed_group p least == own_group) ≡ true) × ((k : ℕ) → k < least → (filed_group p k == own_group) ≡ false)
-      at_least = lowest_below p.filings (λ k. filed_group p k == own_group) j m (equals (filed_group p j) own_group c)
+      at_least = lowest_below p.filings (λ k. filed_group p k == own_group) j m (eq-eqb (filed_group p j) own_group c)
 
       least_low : least < p.filings
       least_low = at_least.0
 
-      same : (a b : ℕ) → (a == b) ≡ true → a ≡ b
-      same a b s = grind (arith, nat_tests)
-
       least_group : filed_group p least ≡ own_group
-      least_group = same (filed_group p least) own_group at_least.1
+      least_group = eqb-true (filed_group p least) own_group at_least.1
 
       begins_least : begins_open p least ≡ true
       begins_least =
-          both_begin (opens p (filed_group p least)) (any_below least (λ k. filed_group p k == filed_group p least))
+          first_alone (opens p (filed_group p least)) (any_below least (λ k. filed_group p k == filed_group p least))
           (ap (opens p) least_group ∙ ap is_open_group h)
           (none_below least (λ k. filed_group p k == filed_group p least) (λ k t. ap (λ z. filed_group p k == z) least_group ∙ at_least.2 k t))
 
       under : p.filed_under own_group ≡ p.asker own_group
       under = i.groups.under own_group (ap is_filed_group h)
 
-      all_three : (a b c : Bool) → a ≡ true → b ≡ true → c ≡ true → (a && b && not (not c)) ≡ true
-      all_three a b c s t u = grind arith
-
       begun_least : is_begun bound (p.index own_group) (host_group_wire first p (filed_group p least)) ≡ true
       begun_least =
           ap (λ z. is_begun bound (p.index own_group) (host_group_wire first p z)) least_group
           ∙ all_three (number first (p.filed_under own_group) == bound) (p.index own_group == p.index own_group) (is_part (p.host_group own_group))
-          (equals (number first (p.filed_under own_group)) bound (ap (number first) under)) (equals (p.index own_group) (p.index own_group) refl)
+          (eq-eqb (number first (p.filed_under own_group)) bound (ap (number first) under)) (eq-eqb (p.index own_group) (p.index own_group) refl)
           (ap is_part h)
 
       least_entry : host_group_wire first after (filed_group p least) ≡ added_to (page_request_wire p r) (host_group_wire first p (filed_group p least))
@@ -332,29 +318,26 @@ module _ (ms : Mappings) (x g n e first : ℕ) (p : Endpoint) (r : ℕ) (l : Leg
           × (host_group_wire first after (filed_group p k) ≡ host_group_wire first p (filed_group p k))
       others k t ne b = (
         not_begun (filed_group p k)
-            (opens_of (opens p (filed_group p k)) (not (any_below k (λ z. filed_group p z == filed_group p k))) b) apart,
+            (first_holds (opens p (filed_group p k)) (not (any_below k (λ z. filed_group p z == filed_group p k))) b) apart,
         other_entry (filed_group p k) apart,
       )
         where
           apart : filed_group p k ≢ own_group
-          apart s = below (k_or_least k least)
+          apart s = below (cases_lt k least)
             where
-              k_or_least : (a b : ℕ) → (a < b) ⊎ (b ≤ a)
-              k_or_least a b = grind arith
-
               below : (k < least) ⊎ (least ≤ k) → ⊥
-              below (inl u) = absurd (cc (sym (at_least.2 k u) ∙ equals (filed_group p k) own_group s))
+              below (inl u) = absurd (cc (sym (at_least.2 k u) ∙ eq-eqb (filed_group p k) own_group s))
               below (inr u) =
                   absurd (cc
                   (sym (any_below-false k (λ z. filed_group p z == filed_group p k)
                   (rest_of (opens p (filed_group p k)) (any_below k (λ z. filed_group p z == filed_group p k)) b) least (omega (arith, u, ne)))
-                  ∙ equals (filed_group p least) (filed_group p k) (least_group ∙ sym s)))
+                  ∙ eq-eqb (filed_group p least) (filed_group p k) (least_group ∙ sym s)))
 
       begins_no_new : begins_open after p.filings ≡ false
       begins_no_new =
           not_first (opens after (filed_group after p.filings)) (any_below p.filings (λ k. filed_group after k == filed_group after p.filings))
           (any_below-intro p.filings (λ k. filed_group after k == filed_group after p.filings) least least_low
-          (equals (filed_group after least) (filed_group after p.filings) (old_group least least_low ∙ least_group ∙ sym new_group)))
+          (eq-eqb (filed_group after least) (filed_group after p.filings) (old_group least least_low ∙ least_group ∙ sym new_group)))
         where
           not_first : (a b : Bool) → b ≡ true → (a && not b) ≡ false
           not_first a b s = grind arith

@@ -6,18 +6,18 @@ use Rattle.std.proofs.lemmas.Bool.Decides.{nat_tests}
 use Rattle.sva_step.specs.declared.limits.Config.{Config}
 use Rattle.sva_step.specs.declared.steps.Step.{Step}
 use Rattle.sva_model.specs.State.{PasidRule, Mappings, Endpoint, World, opened}
-use Rattle.sva_model.specs.State.PageRequestState.{Filed, Dropped}
+use Rattle.sva_model.specs.State.PageRequestState.{Filed}
 use Rattle.sva_model.specs.Acts.{Act, LocalAct, act, act_alone, submitted_if, submits, bound, cookie_of}
 use Rattle.sva_model.specs.Acts.Act.{NewSpace, DropSpace, Map, Unmap, NewBinding, NewJob, Hold, LetGo, AtEndpoint}
 use Rattle.sva_model.specs.Steps.{decide, next, run, after_acts, world_after}
 use Rattle.sva_laws.proofs.Legal.{LegalLocalAct}
 use Rattle.sva_laws.proofs.Bounds.{Bounds}
-use Rattle.sva_laws.proofs.PageRequests.{Queued}
 use Rattle.sva_laws.proofs.Groups.{is_filed_group}
 use Rattle.sva_laws.proofs.Invariant.{PartInvariant, Invariant}
 use Rattle.sva_laws.proofs.Keeps.{Legal, act_keeps, put_keeps}
 use Rattle.sva_laws.proofs.Passed.{LegalAll}
 use Rattle.sva_laws.proofs.Runs.{step_legal, next_keeps, opened_invariant}
+use Rattle.sva_laws.proofs.Filed.{filed_kept, filed_made as request_made}
 
 pub record Filings (p : Endpoint) : Type 0 where
   pub filed : (k : ℕ) → k < p.filings → p.page_request (p.filing k) ≡ Filed
@@ -25,10 +25,7 @@ pub record Filings (p : Endpoint) : Type 0 where
 
 -- what is filed is made
 pub filed_made : (g : ℕ) (p : Endpoint) → Bounds g p → Filings p → (k : ℕ) → k < p.filings → p.filing k < p.page_requests
-filed_made g p bo fi k l = made (fi.filed k l) (bo.page_request (p.filing k))
-  where
-    made : p.page_request (p.filing k) ≡ Filed → (p.page_requests ≤ p.filing k → p.page_request (p.filing k) ≡ Dropped) → p.filing k < p.page_requests
-    made h d = grind (arith)
+filed_made g p bo fi k l = request_made g p bo (p.filing k) (fi.filed k l)
 
 pub filing_same : (p : Endpoint) (n : ℕ) (o : LocalAct) (k : ℕ) → k < p.filings → (act_alone p n o).filing k ≡ p.filing k
 filing_same p n o k l = grind (arith, nat_tests)
@@ -38,13 +35,6 @@ group_of_same p n o r l = grind (arith, nat_tests)
 
 more_filings : (p : Endpoint) (n : ℕ) (o : LocalAct) → p.filings ≤ (act_alone p n o).filings
 more_filings p n o = grind (arith, nat_tests)
-
-filed_kept :
-    (ms : Mappings) (g n : ℕ) (p : Endpoint) (o : LocalAct) → LegalLocalAct ms g p o → Queued p
-    → (p.page_requests ≤ p.page_requests → p.page_request p.page_requests ≡ Dropped) → (k : ℕ)
-    → (k < p.filings → p.page_request (p.filing k) ≡ Filed) → k < (act_alone p n o).filings
-    → (act_alone p n o).page_request ((act_alone p n o).filing k) ≡ Filed
-filed_kept ms g n p o l qu un k old h = grind (arith, nat_tests, qu.in_flight)
 
 begun_from :
     (ms : Mappings) (g n : ℕ) (p : Endpoint) (o : LocalAct) → LegalLocalAct ms g p o → (x : ℕ) → is_filed_group ((act_alone p n o).host_group x) ≡ true

@@ -3,6 +3,7 @@
 use Rattle.std.proofs.Common.{◌≡◌, ◌≢◌, refl, ap, sym, subst, ◌∙◌, ℕ, ◌+◌, ◌-◌, ◌<◌, Bool, true, false, arith}
 use Rattle.std.specs.Prelude.{Option, Some, None, option_map, ◌&&◌, ◌==◌, nat_lt, nat_le}
 use Rattle.std.proofs.lemmas.Bool.Decides.{nat_tests}
+use Rattle.std.proofs.lemmas.Bool.{and_from, and_right, eq-eqb, eqb-true, false_from_ne_true, ltb-true}
 use Rattle.sva_model.specs.Words.{find, is_some, any_below}
 use Rattle.sva_model.specs.State.{World}
 use Rattle.sva_model.specs.State.Stage.{Unbound}
@@ -11,35 +12,25 @@ use Rattle.sva_model.specs.Labels
 use Rattle.sva_model.specs.Wire.{number, binding_wire, wire}
 use Rattle.sva_laws.proofs.Words.{any_below-true, any_below-intro}
 use Rattle.sva_laws.proofs.Invariant.{Invariant}
-use Rattle.sva_laws.proofs.Passed.{unreleased_made, unreleased_bound, and_left, and_right}
-use Rattle.sva_wire.proofs.Pages.{and_both, same_is, is_same}
+use Rattle.sva_laws.proofs.Passed.{unreleased_made, unreleased_bound}
 use Rattle.sva_labels.specs.Finding.{binding_of, bearer, is_bound, is_borne}
 use Rattle.sva_labels.proofs.Bound.{binding_seen}
 use Rattle.sva_labels.proofs.LookedLists.{find_none, find_only, find_seen}
 use Rattle.sva_labels.proofs.Lookups.{any_seen}
 pub use Rattle.sva_laws.proofs.OneEndpoint.{same_bool as both_ways}
+use Rattle.sva_laws.proofs.Tests.{first_holds, same_inside, second_holds, taken_off}
 
 -- is it unreleased, at its own endpoint?
 abbrev pub is_kept : World → (binding : ℕ) → Bool
 is_kept w b = is_unreleased ((w.part (w.endpoint_of b)).stage b)
-
-pub not_both : (b : Bool) → (b ≡ true → ⊥) → b ≡ false
-not_both false h = refl
-not_both true h = absurd (h refl)
 
 -- By its number.
 
 number_parts : (first n k count : ℕ) → first + k ≡ n → k < count → (nat_le first n && nat_lt (n - first) count) ≡ true
 number_parts first n k count e l = grind (arith, nat_tests)
 
-named_back : (first n s : ℕ) → first + s ≡ n → n - first ≡ s
-named_back first n s e = omega arith
-
 first_at : (first n : ℕ) → nat_le first n ≡ true → first + (n - first) ≡ n
 first_at first n h = grind (arith, nat_tests)
-
-below_of : (a b : ℕ) → nat_lt a b ≡ true → a < b
-below_of a b h = grind (arith, nat_tests)
 
 pub record IsBinding (w : World) (n : ℕ) : Type 0 where
   pub number : w.config.first + Labels.name w n ≡ n
@@ -49,11 +40,11 @@ pub record IsBinding (w : World) (n : ℕ) : Type 0 where
 pub binding_is : (w : World) (n : ℕ) → Labels.is_binding w n ≡ true → IsBinding w n
 binding_is w n h =
     let number : (nat_le w.config.first n && nat_lt (Labels.name w n) w.bindings) ≡ true =
-    and_left (nat_le w.config.first n && nat_lt (Labels.name w n) w.bindings) (is_kept w (Labels.name w n)) h in
+    first_holds (nat_le w.config.first n && nat_lt (Labels.name w n) w.bindings) (is_kept w (Labels.name w n)) h in
     record {
-      number = first_at w.config.first n (and_left (nat_le w.config.first n) (nat_lt (Labels.name w n) w.bindings) number);
-      given = below_of (Labels.name w n) w.bindings (and_right (nat_le w.config.first n) (nat_lt (Labels.name w n) w.bindings) number);
-      kept = and_right (nat_le w.config.first n && nat_lt (Labels.name w n) w.bindings) (is_kept w (Labels.name w n)) h;
+      number = first_at w.config.first n (first_holds (nat_le w.config.first n) (nat_lt (Labels.name w n) w.bindings) number);
+      given = ltb-true (Labels.name w n) w.bindings (second_holds (nat_le w.config.first n) (nat_lt (Labels.name w n) w.bindings) number);
+      kept = second_holds (nat_le w.config.first n && nat_lt (Labels.name w n) w.bindings) (is_kept w (Labels.name w n)) h;
     }
 
 pub binding_found : (w : World) (n : ℕ) → Labels.is_binding w n ≡ true → binding_of (wire w) n ≡ Some (binding_seen w (Labels.name w n))
@@ -61,21 +52,21 @@ binding_found w n h =
     let x = binding_is w n h in
     find_seen (binding_seen w) (λ b. b.binding == n) w.bindings (is_kept w)
     ∙ ap (option_map (binding_seen w)) (find_only w.bindings (λ b. is_kept w b && w.config.first + b == n) (Labels.name w n) x.given
-    (and_both (is_kept w (Labels.name w n)) (w.config.first + Labels.name w n == n) x.kept (is_same (w.config.first + Labels.name w n) n x.number))
-    (λ j l t. sym (named_back w.config.first n j (same_is (w.config.first + j) n (and_right (is_kept w j) (w.config.first + j == n) t)))))
+    (and_from (is_kept w (Labels.name w n)) (w.config.first + Labels.name w n == n) x.kept (eq-eqb (w.config.first + Labels.name w n) n x.number))
+    (λ j l t. sym (taken_off w.config.first n j (eqb-true (w.config.first + j) n (second_holds (is_kept w j) (w.config.first + j == n) t)))))
 
 pub binding_missing : (w : World) (n : ℕ) → Labels.is_binding w n ≡ false → binding_of (wire w) n ≡ None
 binding_missing w n h =
     find_seen (binding_seen w) (λ b. b.binding == n) w.bindings (is_kept w)
     ∙ ap (option_map (binding_seen w))
     (find_none w.bindings (λ b. is_kept w b && w.config.first + b == n)
-    (λ k l. not_both (is_kept w k && w.config.first + k == n) (λ t. absurd (cc (sym (there k l t) ∙ h)))))
+    (λ k l. false_from_ne_true (is_kept w k && w.config.first + k == n) (λ t. absurd (cc (sym (there k l t) ∙ h)))))
   where
     there : (k : ℕ) → k < w.bindings → (is_kept w k && w.config.first + k == n) ≡ true → Labels.is_binding w n ≡ true
     there k l t =
-        let e : w.config.first + k ≡ n = same_is (w.config.first + k) n (and_right (is_kept w k) (w.config.first + k == n) t) in
-        and_both (Labels.is_number w w.bindings n) (is_kept w (Labels.name w n)) (number_parts w.config.first n k w.bindings e l)
-        (ap (is_kept w) (named_back w.config.first n k e) ∙ and_left (is_kept w k) (w.config.first + k == n) t)
+        let e : w.config.first + k ≡ n = eqb-true (w.config.first + k) n (second_holds (is_kept w k) (w.config.first + k == n) t) in
+        and_from (Labels.is_number w w.bindings n) (is_kept w (Labels.name w n)) (number_parts w.config.first n k w.bindings e l)
+        (ap (is_kept w) (taken_off w.config.first n k e) ∙ first_holds (is_kept w k) (w.config.first + k == n) t)
 
 -- an unreleased one by its name, as its endpoint shows it
 pub binding_named :
@@ -86,7 +77,7 @@ binding_named w e b i u =
     let back : Labels.name w (number w.config.first b) ≡ b = omega arith in
     let made : b < w.bindings = unreleased_made w.bindings (w.part e) b (i.parts e).bounds.stage u in
     binding_found w (number w.config.first b)
-    (and_both (Labels.is_number w w.bindings (number w.config.first b)) (is_kept w (Labels.name w (number w.config.first b)))
+    (and_from (Labels.is_number w w.bindings (number w.config.first b)) (is_kept w (Labels.name w (number w.config.first b)))
     (number_parts w.config.first (number w.config.first b) b w.bindings refl made)
     (ap (is_kept w) back ∙ ap (λ d. is_unreleased ((w.part d).stage b)) endpoint_of ∙ u))
     ∙ ap (λ z. Some (binding_seen w z)) back
@@ -100,11 +91,8 @@ binding_released w e b i ne u =
     let endpoint_of : w.endpoint_of b ≡ e = i.one_endpoint e b ne in
     let back : Labels.name w (number w.config.first b) ≡ b = omega arith in
     binding_missing w (number w.config.first b)
-    (and_no (Labels.is_number w w.bindings (number w.config.first b)) (is_kept w (Labels.name w (number w.config.first b)))
+    (and_right (Labels.is_number w w.bindings (number w.config.first b)) (is_kept w (Labels.name w (number w.config.first b)))
     (ap (is_kept w) back ∙ ap (λ d. is_unreleased ((w.part d).stage b)) endpoint_of ∙ u))
-  where
-    and_no : (a b : Bool) → b ≡ false → (a && b) ≡ false
-    and_no a b h = grind arith
 
 -- By the PASID that it bears at its endpoint.
 
@@ -113,17 +101,15 @@ bearer_is w e t i = find_seen (binding_seen w) (λ b. b.endpoint == e && b.pasid
   where
     bears : (b : ℕ) → (is_kept w b && (w.endpoint_of b == e && (w.part (w.endpoint_of b)).pasid b == t)) ≡ true → (w.part e).at_pasid t ≡ Some b
     bears b h =
-        let rest = and_right (is_kept w b) (w.endpoint_of b == e && (w.part (w.endpoint_of b)).pasid b == t) h in
-        let endpoint_of : w.endpoint_of b ≡ e = same_is (w.endpoint_of b) e (and_left (w.endpoint_of b == e) ((w.part (w.endpoint_of b)).pasid b == t) rest) in
+        let rest = second_holds (is_kept w b) (w.endpoint_of b == e && (w.part (w.endpoint_of b)).pasid b == t) h in
+        let endpoint_of : w.endpoint_of b ≡ e =
+        eqb-true (w.endpoint_of b) e (first_holds (w.endpoint_of b == e) ((w.part (w.endpoint_of b)).pasid b == t) rest) in
         let pasid : (w.part (w.endpoint_of b)).pasid b ≡ t =
-        same_is ((w.part (w.endpoint_of b)).pasid b) t (and_right (w.endpoint_of b == e) ((w.part (w.endpoint_of b)).pasid b == t) rest) in
+        eqb-true ((w.part (w.endpoint_of b)).pasid b) t (second_holds (w.endpoint_of b == e) ((w.part (w.endpoint_of b)).pasid b == t) rest) in
         subst (λ z. (w.part e).at_pasid z ≡ Some b) (ap (λ d. (w.part d).pasid b) (sym endpoint_of) ∙ pasid)
         ((i.parts e).labels.bears_pasid b
         (ap (λ d. is_unreleased ((w.part d).stage b)) (sym endpoint_of)
-        ∙ and_left (is_kept w b) (w.endpoint_of b == e && (w.part (w.endpoint_of b)).pasid b == t) h))
-
-    one : {a b : ℕ} → Some a ≡ Some b → a ≡ b
-    one h = cc
+        ∙ first_holds (is_kept w b) (w.endpoint_of b == e && (w.part (w.endpoint_of b)).pasid b == t) h))
 
     go :
         (o : Option ℕ) → (w.part e).at_pasid t ≡ o
@@ -132,18 +118,18 @@ bearer_is w e t i = find_seen (binding_seen w) (λ b. b.endpoint == e && b.pasid
     go None h =
         ap (option_map (binding_seen w))
         (find_none w.bindings (λ b. is_kept w b && (w.endpoint_of b == e && (w.part (w.endpoint_of b)).pasid b == t))
-        (λ b l. not_both _ (λ k. absurd (cc (sym (bears b k) ∙ h)))))
+        (λ b l. false_from_ne_true _ (λ k. absurd (cc (sym (bears b k) ∙ h)))))
     go (Some b) h =
         let la = (i.parts e).labels.pasid_bears t b h in
         let endpoint_of : w.endpoint_of b ≡ e = i.one_endpoint e b (unreleased_bound (w.part e) b la.1) in
         ap (option_map (binding_seen w))
         (find_only w.bindings (λ b. is_kept w b && (w.endpoint_of b == e && (w.part (w.endpoint_of b)).pasid b == t)) b
         (unreleased_made w.bindings (w.part e) b (i.parts e).bounds.stage la.1)
-        (and_both (is_kept w b) (w.endpoint_of b == e && (w.part (w.endpoint_of b)).pasid b == t)
+        (and_from (is_kept w b) (w.endpoint_of b == e && (w.part (w.endpoint_of b)).pasid b == t)
         (ap (λ d. is_unreleased ((w.part d).stage b)) endpoint_of ∙ la.1)
-        (and_both (w.endpoint_of b == e) ((w.part (w.endpoint_of b)).pasid b == t) (is_same (w.endpoint_of b) e endpoint_of)
-        (is_same ((w.part (w.endpoint_of b)).pasid b) t (ap (λ d. (w.part d).pasid b) endpoint_of ∙ la.0))))
-        (λ j l k. one (sym (bears j k) ∙ h)))
+        (and_from (w.endpoint_of b == e) ((w.part (w.endpoint_of b)).pasid b == t) (eq-eqb (w.endpoint_of b) e endpoint_of)
+        (eq-eqb ((w.part (w.endpoint_of b)).pasid b) t (ap (λ d. (w.part d).pasid b) endpoint_of ∙ la.0))))
+        (λ j l k. same_inside (sym (bears j k) ∙ h)))
         ∙ ap (λ d. Some (binding_wire w.config.first d (w.part d) b)) endpoint_of
 
 -- Is a space bound? is a PASID borne?
@@ -158,32 +144,32 @@ bound_there w n i num =
         → Labels.is_bound w (Labels.name w n) ≡ true
     forth h =
         let x = any_below-true w.bindings (λ b. is_kept w b && w.config.first + (w.part (w.endpoint_of b)).space b == n) h in
-        let kept = and_left (is_kept w x.0) (w.config.first + (w.part (w.endpoint_of x.0)).space x.0 == n) x.2 in
+        let kept = first_holds (is_kept w x.0) (w.config.first + (w.part (w.endpoint_of x.0)).space x.0 == n) x.2 in
         let space : w.config.first + (w.part (w.endpoint_of x.0)).space x.0 ≡ n =
-        same_is (w.config.first + (w.part (w.endpoint_of x.0)).space x.0) n
-        (and_right (is_kept w x.0) (w.config.first + (w.part (w.endpoint_of x.0)).space x.0 == n) x.2) in
+        eqb-true (w.config.first + (w.part (w.endpoint_of x.0)).space x.0) n
+        (second_holds (is_kept w x.0) (w.config.first + (w.part (w.endpoint_of x.0)).space x.0 == n) x.2) in
         any_below-intro w.config.endpoints (Labels.is_bound_at w (Labels.name w n)) (w.endpoint_of x.0)
         ((i.parts (w.endpoint_of x.0)).there x.0 (unreleased_bound (w.part (w.endpoint_of x.0)) x.0 kept))
         (any_below-intro w.bindings
         (λ b. is_unreleased ((w.part (w.endpoint_of x.0)).stage b) && (w.part (w.endpoint_of x.0)).space b == Labels.name w n) x.0 x.1
-        (and_both (is_kept w x.0) ((w.part (w.endpoint_of x.0)).space x.0 == Labels.name w n) kept
-        (is_same ((w.part (w.endpoint_of x.0)).space x.0) (Labels.name w n)
-        (sym (named_back w.config.first n ((w.part (w.endpoint_of x.0)).space x.0) space)))))
+        (and_from (is_kept w x.0) ((w.part (w.endpoint_of x.0)).space x.0 == Labels.name w n) kept
+        (eq-eqb ((w.part (w.endpoint_of x.0)).space x.0) (Labels.name w n)
+        (sym (taken_off w.config.first n ((w.part (w.endpoint_of x.0)).space x.0) space)))))
 
     back : Labels.is_bound w (Labels.name w n) ≡ true → any_below w.bindings (λ b. is_kept w b && w.config.first + (w.part (w.endpoint_of b)).space b == n)
         ≡ true
     back h =
         let x = any_below-true w.config.endpoints (Labels.is_bound_at w (Labels.name w n)) h in
         let y = any_below-true w.bindings (λ b. is_unreleased ((w.part x.0).stage b) && (w.part x.0).space b == Labels.name w n) x.2 in
-        let kept = and_left (is_unreleased ((w.part x.0).stage y.0)) ((w.part x.0).space y.0 == Labels.name w n) y.2 in
+        let kept = first_holds (is_unreleased ((w.part x.0).stage y.0)) ((w.part x.0).space y.0 == Labels.name w n) y.2 in
         let space : (w.part x.0).space y.0 ≡ Labels.name w n =
-        same_is ((w.part x.0).space y.0) (Labels.name w n)
-        (and_right (is_unreleased ((w.part x.0).stage y.0)) ((w.part x.0).space y.0 == Labels.name w n) y.2) in
+        eqb-true ((w.part x.0).space y.0) (Labels.name w n)
+        (second_holds (is_unreleased ((w.part x.0).stage y.0)) ((w.part x.0).space y.0 == Labels.name w n) y.2) in
         let endpoint_of : w.endpoint_of y.0 ≡ x.0 = i.one_endpoint x.0 y.0 (unreleased_bound (w.part x.0) y.0 kept) in
         any_below-intro w.bindings (λ b. is_kept w b && w.config.first + (w.part (w.endpoint_of b)).space b == n) y.0 y.1
-        (and_both (is_kept w y.0) (w.config.first + (w.part (w.endpoint_of y.0)).space y.0 == n)
+        (and_from (is_kept w y.0) (w.config.first + (w.part (w.endpoint_of y.0)).space y.0 == n)
         (ap (λ d. is_unreleased ((w.part d).stage y.0)) endpoint_of ∙ kept)
-        (is_same (w.config.first + (w.part (w.endpoint_of y.0)).space y.0) n
+        (eq-eqb (w.config.first + (w.part (w.endpoint_of y.0)).space y.0) n
         (ap (λ d. w.config.first + (w.part d).space y.0) endpoint_of ∙ ap (λ z. w.config.first + z) space ∙ num)))
 
 pub borne_there : (w : World) (t : ℕ) → Invariant w → is_borne (wire w) t ≡ Labels.is_borne w t
@@ -194,9 +180,9 @@ borne_there w t i =
     forth : any_below w.bindings (λ b. is_kept w b && (w.part (w.endpoint_of b)).pasid b == t) ≡ true → Labels.is_borne w t ≡ true
     forth h =
         let x = any_below-true w.bindings (λ b. is_kept w b && (w.part (w.endpoint_of b)).pasid b == t) h in
-        let kept = and_left (is_kept w x.0) ((w.part (w.endpoint_of x.0)).pasid x.0 == t) x.2 in
+        let kept = first_holds (is_kept w x.0) ((w.part (w.endpoint_of x.0)).pasid x.0 == t) x.2 in
         let pasid : (w.part (w.endpoint_of x.0)).pasid x.0 ≡ t =
-        same_is ((w.part (w.endpoint_of x.0)).pasid x.0) t (and_right (is_kept w x.0) ((w.part (w.endpoint_of x.0)).pasid x.0 == t) x.2) in
+        eqb-true ((w.part (w.endpoint_of x.0)).pasid x.0) t (second_holds (is_kept w x.0) ((w.part (w.endpoint_of x.0)).pasid x.0 == t) x.2) in
         any_below-intro w.config.endpoints (λ e. Labels.is_borne_at (w.part e) t) (w.endpoint_of x.0)
         ((i.parts (w.endpoint_of x.0)).there x.0 (unreleased_bound (w.part (w.endpoint_of x.0)) x.0 kept))
         (ap is_some (subst (λ z. (w.part (w.endpoint_of x.0)).at_pasid z ≡ Some x.0) pasid ((i.parts (w.endpoint_of x.0)).labels.bears_pasid x.0 kept)))
@@ -210,8 +196,8 @@ borne_there w t i =
         let endpoint_of : w.endpoint_of b ≡ e = i.one_endpoint e b (unreleased_bound (w.part e) b la.1) in
         any_below-intro w.bindings (λ b. is_kept w b && (w.part (w.endpoint_of b)).pasid b == t) b
         (unreleased_made w.bindings (w.part e) b (i.parts e).bounds.stage la.1)
-        (and_both (is_kept w b) ((w.part (w.endpoint_of b)).pasid b == t) (ap (λ d. is_unreleased ((w.part d).stage b)) endpoint_of ∙ la.1)
-        (is_same ((w.part (w.endpoint_of b)).pasid b) t (ap (λ d. (w.part d).pasid b) endpoint_of ∙ la.0)))
+        (and_from (is_kept w b) ((w.part (w.endpoint_of b)).pasid b == t) (ap (λ d. is_unreleased ((w.part d).stage b)) endpoint_of ∙ la.1)
+        (eq-eqb ((w.part (w.endpoint_of b)).pasid b) t (ap (λ d. (w.part d).pasid b) endpoint_of ∙ la.0)))
 
     back : Labels.is_borne w t ≡ true → any_below w.bindings (λ b. is_kept w b && (w.part (w.endpoint_of b)).pasid b == t) ≡ true
     back h =

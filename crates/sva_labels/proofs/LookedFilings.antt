@@ -2,6 +2,7 @@
 use Rattle.std.proofs.Common.{◌≡◌, ◌⊎◌, inl, inr, refl, ap, sym, ◌∙◌, ℕ, ◌<◌, Bool, true, arith}
 use Rattle.std.specs.Prelude.{Option, Some, None, option_map, ◌&&◌, not, ◌==◌, [], ◌∷◌, ◌++◌}
 use Rattle.std.specs.List as lists
+use Rattle.std.proofs.lemmas.Bool.{and_from, eq-eqb, eqb-true, false_from_ne_true}
 use Rattle.sva_model.specs.Words.{find}
 use Rattle.sva_model.specs.State.{Endpoint}
 use Rattle.sva_model.specs.State.PageRequestState.{Arrived}
@@ -15,15 +16,13 @@ use Rattle.sva_laws.proofs.Words.{find_passes, find_some}
 use Rattle.sva_laws.proofs.Groups.{is_filed_group}
 use Rattle.sva_laws.proofs.Invariant.{PartInvariant}
 use Rattle.sva_laws.proofs.OnTheWay.{OnTheWay}
-use Rattle.sva_laws.proofs.Passed.{and_left, and_right}
+use Rattle.sva_laws.proofs.Tests.{all_three, first_holds, same_inside, second_holds}
 use Rattle.sva_wire.proofs.Lists.{none_below}
-use Rattle.sva_wire.proofs.Pages.{and_both, same_is, is_same}
 use Rattle.sva_labels.specs.Moves.{is_begun}
 use Rattle.sva_labels.specs.Outcomes.{asks_of}
 use Rattle.sva_labels.proofs.HostGroupsAct.{filed_group, asks_seen}
 use Rattle.sva_labels.proofs.HostGroupsFile.{arrived_in, asks_filed}
 use Rattle.sva_labels.proofs.HostGroupsFiled.{Filings}
-use Rattle.sva_labels.proofs.LookedBindings.{not_both}
 use Rattle.sva_labels.proofs.LookedGroups.{Begun, begun}
 use Rattle.sva_labels.proofs.LookedLists.{find_seen}
 use Rattle.sva_labels.proofs.Picked.{if_passes}
@@ -37,7 +36,7 @@ none_filed p g fi never filed =
     asks_seen p g
     ∙ none_picked (λ k. ask_wire p (p.filing k)) p.filings (λ k. filed_group p k == g)
     (none_below p.filings (λ k. filed_group p k == g)
-    (λ k l. not_both (filed_group p k == g) (λ t. let e = same_is (filed_group p k) g t in never (p.filing k) (filed k l e) e)))
+    (λ k l. false_from_ne_true (filed_group p k == g) (λ t. let e = eqb-true (filed_group p k) g t in never (p.filing k) (filed k l e) e)))
 
 -- an open group of the same index is this one
 pub one_group :
@@ -47,10 +46,7 @@ one_group ms x g n e p y z i ph out op h =
     let a : p.at_index (p.index y) ≡ Some y = i.groups.bears_index y out in
     let b : p.at_index (p.index z) ≡ Some z = i.groups.bears_index z (i.groups.open_group z ph op).0 in
     let c : p.at_index (p.index z) ≡ p.at_index (p.index y) = ap p.at_index h in
-    one (sym b ∙ c ∙ a)
-  where
-    one : {a b : ℕ} → Some a ≡ Some b → a ≡ b
-    one h = cc
+    same_inside (sym b ∙ c ∙ a)
 
 pub asks_there :
     (ms : Mappings) (x g n e first : ℕ) (p : Endpoint) (r : ℕ) → PartInvariant ms x g n e p → OnTheWay p → Filings p → p.phase ≡ Open
@@ -77,18 +73,15 @@ asks_there ms x g n e first p r i on fi ph ar =
         → (begins_open p b.filing && is_begun (number first (p.asker (p.group_of r))) (p.index (p.group_of r))
         (host_group_wire first p (filed_group p b.filing))) ≡ true
     passes b h =
-        and_both (begins_open p b.filing)
+        and_from (begins_open p b.filing)
         (is_begun (number first (p.asker (p.group_of r))) (p.index (p.group_of r)) (host_group_wire first p (filed_group p b.filing))) b.first
         (ap (λ z. is_begun (number first (p.asker (p.group_of r))) (p.index (p.group_of r)) (host_group_wire first p z)) b.its
-        ∙ three (number first (p.filed_under (p.group_of r)) == number first (p.asker (p.group_of r)))
+        ∙ all_three (number first (p.filed_under (p.group_of r)) == number first (p.asker (p.group_of r)))
         (p.index (p.group_of r) == p.index (p.group_of r)) (is_part (p.host_group (p.group_of r)))
-        (is_same (number first (p.filed_under (p.group_of r))) (number first (p.asker (p.group_of r)))
+        (eq-eqb (number first (p.filed_under (p.group_of r))) (number first (p.asker (p.group_of r)))
         (ap (number first) (i.groups.under (p.group_of r) (ap is_filed_group h))))
-        (is_same (p.index (p.group_of r)) (p.index (p.group_of r)) refl)
+        (eq-eqb (p.index (p.group_of r)) (p.index (p.group_of r)) refl)
         (ap is_part h))
-      where
-        three : (a b c : Bool) → a ≡ true → b ≡ true → c ≡ true → (a && b && not (not c)) ≡ true
-        three a b c h k l = grind arith
 
     its_group :
         (k : ℕ)
@@ -96,14 +89,14 @@ asks_there ms x g n e first p r i on fi ph ar =
         → filed_group p k ≡ p.group_of r
     its_group k h =
         let opens =
-        and_left (is_open_group (p.host_group (filed_group p k))) _
-        (and_left (begins_open p k)
+        first_holds (is_open_group (p.host_group (filed_group p k))) _
+        (first_holds (begins_open p k)
         (is_begun (number first (p.asker (p.group_of r))) (p.index (p.group_of r)) (host_group_wire first p (filed_group p k))) h) in
         let index =
-        same_is (p.index (filed_group p k)) (p.index (p.group_of r))
+        eqb-true (p.index (filed_group p k)) (p.index (p.group_of r))
         (middle (number first (p.filed_under (filed_group p k)) == number first (p.asker (p.group_of r)))
         (p.index (filed_group p k) == p.index (p.group_of r)) (not (is_part (p.host_group (filed_group p k))))
-        (and_right (begins_open p k)
+        (second_holds (begins_open p k)
         (is_begun (number first (p.asker (p.group_of r))) (p.index (p.group_of r)) (host_group_wire first p (filed_group p k))) h)) in
         one_group ms x g n e p (p.group_of r) (filed_group p k) i ph out opens index
       where
@@ -143,5 +136,5 @@ pub asks_then :
     ≡ asks_wire (act_alone p n (LocalAct.File r)) (p.group_of r)
 asks_then ms x g n e first p r i on fi ph ar =
     ap (λ xs. xs ++ ask_wire p r ∷ []) (asks_there ms x g n e first p r i on fi ph ar)
-    ∙ ap (λ b. asks_wire p (p.group_of r) ++ if_passes b (ask_wire p r)) (sym (is_same (p.group_of r) (p.group_of r) refl))
+    ∙ ap (λ b. asks_wire p (p.group_of r) ++ if_passes b (ask_wire p r)) (sym (eq-eqb (p.group_of r) (p.group_of r) refl))
     ∙ sym (asks_filed p n r (p.group_of r))

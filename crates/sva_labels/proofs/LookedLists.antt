@@ -8,8 +8,10 @@ use Rattle.std.proofs.lemmas.List.{map-append, length-map}
 use Rattle.std.proofs.lemmas.List.Folds.{find-append}
 use Rattle.std.proofs.lemmas.List.Sums.{sum_by-append}
 use Rattle.std.proofs.lemmas.Bool.Decides.{nat_tests}
+use Rattle.std.proofs.lemmas.Bool.{eq-eqb, lt-ltb}
 use Rattle.sva_model.specs.Words.{find, if_found, lowest, step_lowest, count_below, select}
 use Rattle.sva_laws.proofs.Words.{lowest_cases, find_some}
+use Rattle.sva_laws.proofs.Tests.{lower_differs, none_before}
 use Rattle.sva_wire.proofs.Lists.{select_length}
 pub use Rattle.sva_labels.proofs.DeviceSorted.{none_selected as select_none}
 
@@ -23,11 +25,8 @@ or_first (Some k) n b = Some k
 find_step :
     (z n : ℕ) (b : Bool) → (z ≡ n) ⊎ (z < n)
     → if_found (nat_lt (step_lowest (z == n) z n b) (suc n)) (step_lowest (z == n) z n b) ≡ or_first (if_found (nat_lt z n) z) n b
-find_step z n b (inl e) = here (z == n) (nat_lt z n) (same_test z n e) (not_less z n e) b
+find_step z n b (inl e) = here (z == n) (nat_lt z n) (eq-eqb z n e) (not_less z n e) b
   where
-    same_test : (z n : ℕ) → z ≡ n → (z == n) ≡ true
-    same_test z n e = grind (arith, nat_tests)
-
     not_less : (z n : ℕ) → z ≡ n → nat_lt z n ≡ false
     not_less z n e = grind (arith, nat_tests)
 
@@ -44,14 +43,8 @@ find_step z n b (inl e) = here (z == n) (nat_lt z n) (same_test z n e) (not_less
     here true false h k false = ap (λ x. if_found x (suc n)) past
     here false u h k b = absurd (cc (h))
     here true true h k b = absurd (cc (k))
-find_step z n b (inr l) = here (z == n) (nat_lt z n) (other_test z n l) (less z n l)
+find_step z n b (inr l) = here (z == n) (nat_lt z n) (lower_differs z n l) (lt-ltb z n l)
   where
-    other_test : (z n : ℕ) → z < n → (z == n) ≡ false
-    other_test z n l = grind (arith, nat_tests)
-
-    less : (z n : ℕ) → z < n → nat_lt z n ≡ true
-    less z n l = grind (arith, nat_tests)
-
     still : nat_lt z (suc n) ≡ true
     still = grind (arith, nat_tests)
 
@@ -148,10 +141,7 @@ count_seen f test (suc n) p =
     ∙ go (p n) (test (f n)) refl (count_below n (λ k. p k && test (f k))) (count_seen f test n p)
   where
     one : count_by test (f n ∷ []) ≡ (if test (f n) then 1 else 0)
-    one = zero_plus (if test (f n) then 1 else 0)
-      where
-        zero_plus : (a : ℕ) → 0 + a ≡ a
-        zero_plus a = omega arith
+    one = none_before (if test (f n) then 1 else 0)
 
     go :
         (b c : Bool) → test (f n) ≡ c → (r : ℕ) → count_by test (map f (select n p)) ≡ r

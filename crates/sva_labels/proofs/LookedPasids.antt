@@ -3,6 +3,7 @@
 use Rattle.std.proofs.Common.{◌≡◌, ◌⊎◌, inl, inr, refl, ap, ap₂, sym, subst, ◌∙◌, ℕ, zero, suc, ◌+◌, ◌<◌, ◌≤◌, Bool, true, false, arith}
 use Rattle.std.specs.Prelude.{Option, Some, None, option_map, ◌&&◌, not, ◌==◌, if◌then◌else◌}
 use Rattle.std.specs.List as lists
+use Rattle.std.proofs.lemmas.Bool.{and_from, eq-eqb, eqb-true, false_from_ne_true}
 use Rattle.sva_step.specs.declared.answers.Answer.TheVariants as answer
 use Rattle.sva_model.specs.Words.{find, lowest, count_below, is_some, holds_of, the}
 use Rattle.sva_model.specs.State.{World}
@@ -14,13 +15,13 @@ use Rattle.sva_model.specs.Wire.{number, wire}
 use Rattle.sva_laws.proofs.Words.{any_below-true, any_below-intro, find_passes, find_some, lowest_cases}
 use Rattle.sva_laws.proofs.Counting.{count_placed}
 use Rattle.sva_laws.proofs.Invariant.{Invariant}
-use Rattle.sva_laws.proofs.Passed.{unreleased_made, unreleased_bound, and_left, and_right}
-use Rattle.sva_wire.proofs.Pages.{and_both, same_is, is_same}
+use Rattle.sva_laws.proofs.Passed.{unreleased_made, unreleased_bound}
+use Rattle.sva_laws.proofs.Tests.{first_holds, same_inside, second_holds}
 use Rattle.sva_labels.specs.Finding.{pasid_by, pasid_for, is_borne}
 use Rattle.sva_labels.specs.Outcomes.{bearer_answer}
 use Rattle.sva_labels.proofs.Bound.{binding_seen}
 use Rattle.sva_labels.proofs.LookedLists.{find_same, find_none, find_only, find_seen, count_seen}
-use Rattle.sva_labels.proofs.LookedBindings.{is_kept, not_both, borne_there}
+use Rattle.sva_labels.proofs.LookedBindings.{is_kept, borne_there}
 
 -- The lowest PASID that passes.
 
@@ -53,7 +54,7 @@ borne_by w s t h =
   where
     go : (e : ℕ) (o : Option ℕ) → (w.part e).at_pasid t ≡ o → holds_of (λ b. (w.part e).space b == s) o ≡ true → BorneBy w s t
     go e None k g = absurd (cc (g))
-    go e (Some b) k g = record { endpoint = e; binding = b; bears = k; its = same_is ((w.part e).space b) s g }
+    go e (Some b) k g = record { endpoint = e; binding = b; bears = k; its = eqb-true ((w.part e).space b) s g }
 
 pub pasid_there : (w : World) (e s : ℕ) → Invariant w → w.rule ≡ PerSpace → pasid_for (wire w) (number w.config.first s) ≡ Labels.pasid_for w e s
 pasid_there w e s i r =
@@ -70,9 +71,9 @@ pasid_there w e s i r =
     kept_at d b u sp =
         let endpoint_of : w.endpoint_of b ≡ d = i.one_endpoint d b (unreleased_bound (w.part d) b u) in (
           unreleased_made w.bindings (w.part d) b (i.parts d).bounds.stage u,
-          and_both (is_kept w b) (w.config.first + (w.part (w.endpoint_of b)).space b == w.config.first + s)
+          and_from (is_kept w b) (w.config.first + (w.part (w.endpoint_of b)).space b == w.config.first + s)
               (ap (λ x. is_unreleased ((w.part x).stage b)) endpoint_of ∙ u)
-              (is_same (w.config.first + (w.part (w.endpoint_of b)).space b) (w.config.first + s)
+              (eq-eqb (w.config.first + (w.part (w.endpoint_of b)).space b) (w.config.first + s)
               (ap (λ z. w.config.first + z) (ap (λ x. (w.part x).space b) endpoint_of ∙ sp))),
         )
 
@@ -93,14 +94,14 @@ pasid_there w e s i r =
     go None h =
         lowest_same (λ t. not (is_borne (wire w) t)) (λ t. not (Labels.is_borne w t)) (λ t. ap not (borne_there w t i))
         ∙ sym (ap (λ o. Labels.or_else o (Labels.lowest_pasid (λ t. not (Labels.is_borne w t))))
-        (lowest_none (Labels.is_borne_by w s) (λ t. not_both (Labels.is_borne_by w s t) (found_none t h))))
+        (lowest_none (Labels.is_borne_by w s) (λ t. false_from_ne_true (Labels.is_borne_by w s t) (found_none t h))))
     go (Some b) h =
         let x = find_passes w.bindings (λ b. is_kept w b && w.config.first + (w.part (w.endpoint_of b)).space b == w.config.first + s) b h in
-        let kept = and_left (is_kept w b) (w.config.first + (w.part (w.endpoint_of b)).space b == w.config.first + s) x.1 in
+        let kept = first_holds (is_kept w b) (w.config.first + (w.part (w.endpoint_of b)).space b == w.config.first + s) x.1 in
         let space : (w.part (w.endpoint_of b)).space b ≡ s =
         one_space ((w.part (w.endpoint_of b)).space b) s
-        (same_is (w.config.first + (w.part (w.endpoint_of b)).space b) (w.config.first + s)
-        (and_right (is_kept w b) (w.config.first + (w.part (w.endpoint_of b)).space b == w.config.first + s) x.1))
+        (eqb-true (w.config.first + (w.part (w.endpoint_of b)).space b) (w.config.first + s)
+        (second_holds (is_kept w b) (w.config.first + (w.part (w.endpoint_of b)).space b == w.config.first + s) x.1))
         in
         let at = (i.parts (w.endpoint_of b)).labels.bears_pasid b kept in
         let low = (i.parts (w.endpoint_of b)).labels.pasid_low ((w.part (w.endpoint_of b)).pasid b) b at in
@@ -109,7 +110,7 @@ pasid_there w e s i r =
         (any_below-intro w.config.endpoints (λ d. holds_of (λ c. (w.part d).space c == s) ((w.part d).at_pasid ((w.part (w.endpoint_of b)).pasid b)))
         (w.endpoint_of b)
         ((i.parts (w.endpoint_of b)).there b (unreleased_bound (w.part (w.endpoint_of b)) b kept))
-        (ap (holds_of (λ c. (w.part (w.endpoint_of b)).space c == s)) at ∙ is_same ((w.part (w.endpoint_of b)).space b) s space))
+        (ap (holds_of (λ c. (w.part (w.endpoint_of b)).space c == s)) at ∙ eq-eqb ((w.part (w.endpoint_of b)).space b) s space))
         (λ u g. its_pasid u (borne_by w s u g) b kept space)))
       where
         its_pasid : (u : ℕ) → BorneBy w s u → (b : ℕ) → is_kept w b ≡ true → (w.part (w.endpoint_of b)).space b ≡ s → u ≡ (w.part (w.endpoint_of b)).pasid b
@@ -148,25 +149,22 @@ bearers w t i =
     bears : (b : ℕ) → (is_kept w b && (w.part (w.endpoint_of b)).pasid b == t) ≡ true → (w.part (w.endpoint_of b)).at_pasid t ≡ Some b
     bears b h =
         subst (λ z. (w.part (w.endpoint_of b)).at_pasid z ≡ Some b)
-        (same_is ((w.part (w.endpoint_of b)).pasid b) t (and_right (is_kept w b) ((w.part (w.endpoint_of b)).pasid b == t) h))
-        ((i.parts (w.endpoint_of b)).labels.bears_pasid b (and_left (is_kept w b) ((w.part (w.endpoint_of b)).pasid b == t) h))
+        (eqb-true ((w.part (w.endpoint_of b)).pasid b) t (second_holds (is_kept w b) ((w.part (w.endpoint_of b)).pasid b == t) h))
+        ((i.parts (w.endpoint_of b)).labels.bears_pasid b (first_holds (is_kept w b) ((w.part (w.endpoint_of b)).pasid b == t) h))
 
     forth :
         (b : ℕ) → b < w.bindings → (is_kept w b && (w.part (w.endpoint_of b)).pasid b == t) ≡ true
         → (w.endpoint_of b < w.config.endpoints) × (Labels.is_borne_at (w.part (w.endpoint_of b)) t ≡ true)
     forth b l h = (
       (i.parts (w.endpoint_of b)).there b
-          (unreleased_bound (w.part (w.endpoint_of b)) b (and_left (is_kept w b) ((w.part (w.endpoint_of b)).pasid b == t) h)),
+          (unreleased_bound (w.part (w.endpoint_of b)) b (first_holds (is_kept w b) ((w.part (w.endpoint_of b)).pasid b == t) h)),
       ap is_some (bears b h),
     )
-
-    one : {a b : ℕ} → Some a ≡ Some b → a ≡ b
-    one h = cc
 
     one_binding :
         (b c : ℕ) → (is_kept w b && (w.part (w.endpoint_of b)).pasid b == t) ≡ true → (is_kept w c && (w.part (w.endpoint_of c)).pasid c == t) ≡ true
         → w.endpoint_of b ≡ w.endpoint_of c → b ≡ c
-    one_binding b c u v e = one (sym (bears b u) ∙ ap (λ d. (w.part d).at_pasid t) e ∙ bears c v)
+    one_binding b c u v e = same_inside (sym (bears b u) ∙ ap (λ d. (w.part d).at_pasid t) e ∙ bears c v)
 
     back :
         (e : ℕ) (o : Option ℕ) → (w.part e).at_pasid t ≡ o → is_some o ≡ true
@@ -176,8 +174,8 @@ bearers w t i =
         let la = (i.parts e).labels.pasid_bears t b h in
         let endpoint_of : w.endpoint_of b ≡ e = i.one_endpoint e b (unreleased_bound (w.part e) b la.1) in (
           unreleased_made w.bindings (w.part e) b (i.parts e).bounds.stage la.1,
-          and_both (is_kept w b) ((w.part (w.endpoint_of b)).pasid b == t) (ap (λ d. is_unreleased ((w.part d).stage b)) endpoint_of ∙ la.1)
-              (is_same ((w.part (w.endpoint_of b)).pasid b) t (ap (λ d. (w.part d).pasid b) endpoint_of ∙ la.0)),
+          and_from (is_kept w b) ((w.part (w.endpoint_of b)).pasid b == t) (ap (λ d. is_unreleased ((w.part d).stage b)) endpoint_of ∙ la.1)
+              (eq-eqb ((w.part (w.endpoint_of b)).pasid b) t (ap (λ d. (w.part d).pasid b) endpoint_of ∙ la.0)),
         )
 
     one_endpoint :
@@ -200,8 +198,8 @@ bearer_said w t i r =
     bears : (b : ℕ) → (is_kept w b && (w.part (w.endpoint_of b)).pasid b == t) ≡ true → (w.part (w.endpoint_of b)).at_pasid t ≡ Some b
     bears b h =
         subst (λ z. (w.part (w.endpoint_of b)).at_pasid z ≡ Some b)
-        (same_is ((w.part (w.endpoint_of b)).pasid b) t (and_right (is_kept w b) ((w.part (w.endpoint_of b)).pasid b == t) h))
-        ((i.parts (w.endpoint_of b)).labels.bears_pasid b (and_left (is_kept w b) ((w.part (w.endpoint_of b)).pasid b == t) h))
+        (eqb-true ((w.part (w.endpoint_of b)).pasid b) t (second_holds (is_kept w b) ((w.part (w.endpoint_of b)).pasid b == t) h))
+        ((i.parts (w.endpoint_of b)).labels.bears_pasid b (first_holds (is_kept w b) ((w.part (w.endpoint_of b)).pasid b == t) h))
 
     by_lowest :
         (d b : ℕ) → is_kept w b ≡ true → (w.part (w.endpoint_of b)).pasid b ≡ t → (o : Option ℕ) → (w.part d).at_pasid t ≡ o → is_some o ≡ true
@@ -229,7 +227,7 @@ bearer_said w t i r =
     go :
         (o : Option ℕ) → find w.bindings (λ b. is_kept w b && (w.part (w.endpoint_of b)).pasid b == t) ≡ o
         → bearer_answer (wire w) t (option_map (binding_seen w) o) ≡ names.bearer_answer w t (Labels.is_borne w t)
-    go None h = sym (ap (names.bearer_answer w t) (not_both (Labels.is_borne w t) (λ k. unborne k)))
+    go None h = sym (ap (names.bearer_answer w t) (false_from_ne_true (Labels.is_borne w t) (λ k. unborne k)))
       where
         unborne : Labels.is_borne w t ≡ true → ⊥
         unborne k =
@@ -244,12 +242,12 @@ bearer_said w t i r =
                 absurd (cc
                 (sym (find_some w.bindings (λ b. is_kept w b && (w.part (w.endpoint_of b)).pasid b == t) b
                 (unreleased_made w.bindings (w.part e) b (i.parts e).bounds.stage la.1)
-                (and_both (is_kept w b) ((w.part (w.endpoint_of b)).pasid b == t) (ap (λ d. is_unreleased ((w.part d).stage b)) endpoint_of ∙ la.1)
-                (is_same ((w.part (w.endpoint_of b)).pasid b) t (ap (λ d. (w.part d).pasid b) endpoint_of ∙ la.0)))) ∙ h))
+                (and_from (is_kept w b) ((w.part (w.endpoint_of b)).pasid b == t) (ap (λ d. is_unreleased ((w.part d).stage b)) endpoint_of ∙ la.1)
+                (eq-eqb ((w.part (w.endpoint_of b)).pasid b) t (ap (λ d. (w.part d).pasid b) endpoint_of ∙ la.0)))) ∙ h))
     go (Some b) h =
         let x = find_passes w.bindings (λ b. is_kept w b && (w.part (w.endpoint_of b)).pasid b == t) b h in
-        let kept = and_left (is_kept w b) ((w.part (w.endpoint_of b)).pasid b == t) x.1 in
-        let pasid = same_is ((w.part (w.endpoint_of b)).pasid b) t (and_right (is_kept w b) ((w.part (w.endpoint_of b)).pasid b == t) x.1) in
+        let kept = first_holds (is_kept w b) ((w.part (w.endpoint_of b)).pasid b == t) x.1 in
+        let pasid = eqb-true ((w.part (w.endpoint_of b)).pasid b) t (second_holds (is_kept w b) ((w.part (w.endpoint_of b)).pasid b == t) x.1) in
         let borne : Labels.is_borne w t ≡ true =
         any_below-intro w.config.endpoints (λ e. Labels.is_borne_at (w.part e) t) (w.endpoint_of b)
         ((i.parts (w.endpoint_of b)).there b (unreleased_bound (w.part (w.endpoint_of b)) b kept)) (ap is_some (bears b x.1))

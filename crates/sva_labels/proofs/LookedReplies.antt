@@ -21,6 +21,7 @@ use Rattle.sva_model.specs.Wire.{job_wire, wire}
 use Rattle.sva_laws.proofs.Groups.{is_filed_group}
 use Rattle.sva_laws.proofs.Invariant.{Invariant, IsHeldBy}
 use Rattle.sva_laws.proofs.LegalUnit.{group_there}
+use Rattle.sva_laws.proofs.Tests.{none_before}
 use Rattle.sva_wire.proofs.Lists.{select_same, select_length, tabulate_length}
 use Rattle.sva_labels.specs.Finding.{pages_in, page_at, is_mapped, is_free, free_from, binding_of}
 use Rattle.sva_labels.specs.Replying.{response_by, response_for, response_to, responds, replies_success, space_by, pages_of_job, newly_mapped}
@@ -211,10 +212,7 @@ unfolding tabulate select
 free_table zero f = refl
 free_table (suc n) f =
     free_push 0 (tabulate n f) (f n)
-    ∙ ap₂ (λ xs z. xs ++ (if is_free (f n) then z ∷ [] else [])) (free_table n f) (plain (length (tabulate n f)) ∙ tabulate_length n f)
-  where
-    plain : (k : ℕ) → 0 + k ≡ k
-    plain k = omega arith
+    ∙ ap₂ (λ xs z. xs ++ (if is_free (f n) then z ∷ [] else [])) (free_table n f) (none_before (length (tabulate n f)) ∙ tabulate_length n f)
 
 pub free_there : (w : World) → free_from 0 (places_wire w) ≡ names.free_list w
 free_there w =

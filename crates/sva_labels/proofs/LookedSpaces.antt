@@ -2,6 +2,7 @@
 use Rattle.std.proofs.Common.{◌≡◌, refl, ap, ◌∙◌, ℕ, suc, ◌+◌, ◌<◌, Bool, true, false, arith}
 use Rattle.std.specs.Prelude.{Option, Some, None, option_map, ◌&&◌, nat_lt, nat_le, is_some, length}
 use Rattle.std.proofs.lemmas.Bool.Decides.{nat_tests}
+use Rattle.std.proofs.lemmas.Bool.{and_from}
 use Rattle.sva_model.specs.Words as words
 use Rattle.sva_model.specs.Words.{the, all_below}
 use Rattle.sva_model.specs.State.{World}
@@ -43,12 +44,9 @@ number_given w count s l = go w.config.first (number w.config.first s) (Labels.n
 pub pages_of_name : (w : World) (s : ℕ) → Mapped w → w.is_live s ≡ true → pages_in (wire w) (number w.config.first s) ≡ pages_wire w.mappings s
 pages_of_name w s ma l =
     pages_there w (number w.config.first s)
-    (there (Labels.is_number w w.spaces (number w.config.first s)) (w.is_live (Labels.name w (number w.config.first s)))
+    (and_from (Labels.is_number w w.spaces (number w.config.first s)) (w.is_live (Labels.name w (number w.config.first s)))
     (number_given w w.spaces s (ma.live s l)) (ap w.is_live (name_of w s) ∙ l))
     ∙ ap (pages_wire w.mappings) (name_of w s)
-  where
-    there : (a b : Bool) → a ≡ true → b ≡ true → (a && b) ≡ true
-    there a b h k = grind arith
 
 -- Pages of a space.
 

@@ -3,6 +3,7 @@
 use Rattle.std.proofs.Common.{◌≡◌, refl, ap, ap₂, ◌∙◌, ℕ, zero, suc, ◌+◌, ◌<◌, ◌≤◌, Bool, true, false, arith}
 use Rattle.std.specs.Prelude.{◌↔◌, Option, Some, None, option_map, ◌&&◌, not, nat_lt, nat_le, if◌then◌else◌, is_some, length, slice_index_or}
 use Rattle.std.proofs.lemmas.Bool.Decides.{nat_tests}
+use Rattle.std.proofs.lemmas.Bool.{and_from, lt-ltb, ltb-true}
 use Rattle.sva_model.specs.Words.{any_below, count_below}
 use Rattle.sva_model.specs.State.{Stage, Order, OrderState, Endpoint, World}
 use Rattle.sva_model.specs.State.Stage.{Unbound, Live, Stopping, Draining, Invalidating, Quiet, Lost, Released}
@@ -19,9 +20,8 @@ use Rattle.sva_laws.specs.Waits.{HasFront}
 use Rattle.sva_laws.proofs.Words.{any_below-true, any_below-intro}
 use Rattle.sva_laws.proofs.Counting.{count_same}
 use Rattle.sva_laws.proofs.Invariant.{Invariant}
-use Rattle.sva_laws.proofs.Passed.{and_left, and_right}
+use Rattle.sva_laws.proofs.Tests.{first_holds, second_holds}
 use Rattle.sva_wire.proofs.Lists.{tabulate_at}
-use Rattle.sva_wire.proofs.Pages.{and_both}
 use Rattle.sva_labels.specs.Finding.{unit_of, bound_at, is_wait_done, is_before_invalidating, has_room, submits, submits_by}
 use Rattle.sva_labels.specs.Moves.{target_by, target_by_stage, cookie_at, targets_of}
 use Rattle.sva_labels.specs.Causes.{waits_needed}
@@ -63,17 +63,11 @@ wait_there first p k wt h = go (p.order k) refl wt
     state_done (Completing n m) e = absurd (cc)
     state_done Void e = absurd (cc)
 
-    less : (a b : ℕ) → nat_lt a b ≡ true → a < b
-    less a b e = grind (arith, nat_tests)
-
-    is_less : (a b : ℕ) → a < b → nat_lt a b ≡ true
-    is_less a b e = grind (arith, nat_tests)
-
     go : (o : Order) → p.order k ≡ o → is_wait o ≡ true → nat_lt (cookie_number first o) (end_number first p.front) ≡ is_done (p.order_state k)
     go (Wait c x) e t =
         below_end first c p.front
-        ∙ both_ways (nat_lt c p.front) (is_done (p.order_state k)) (λ l. ap is_done ((h c x e).1 (less c p.front l)))
-        (λ d. is_less c p.front ((h c x e).0 (state_done (p.order_state k) d)))
+        ∙ both_ways (nat_lt c p.front) (is_done (p.order_state k)) (λ l. ap is_done ((h c x e).1 (ltb-true c p.front l)))
+        (λ d. lt-ltb c p.front ((h c x e).0 (state_done (p.order_state k) d)))
     go (RangeOf b r) e t = absurd (cc (t))
     go (PasidOf b) e t = absurd (cc (t))
 
@@ -156,21 +150,15 @@ waits_seen first n cookie e p f wt (Some b) = target_seen first n cookie b p f (
 within : (n m : ℕ) (p : ℕ → Bool) → n ≤ m → any_below m (λ e. nat_lt e n && p e) ≡ any_below n p
 within n m p l = both_ways (any_below m (λ e. nat_lt e n && p e)) (any_below n p) forth back
   where
-    less : (a b : ℕ) → nat_lt a b ≡ true → a < b
-    less a b e = grind (arith, nat_tests)
-
-    is_less : (a b : ℕ) → a < b → nat_lt a b ≡ true
-    is_less a b e = grind (arith, nat_tests)
-
     forth : any_below m (λ e. nat_lt e n && p e) ≡ true → any_below n p ≡ true
     forth h =
         let x = any_below-true m (λ e. nat_lt e n && p e) h in
-        any_below-intro n p x.0 (less x.0 n (and_left (nat_lt x.0 n) (p x.0) x.2)) (and_right (nat_lt x.0 n) (p x.0) x.2)
+        any_below-intro n p x.0 (ltb-true x.0 n (first_holds (nat_lt x.0 n) (p x.0) x.2)) (second_holds (nat_lt x.0 n) (p x.0) x.2)
 
     back : any_below n p ≡ true → any_below m (λ e. nat_lt e n && p e) ≡ true
     back h =
         let x = any_below-true n p h in
-        any_below-intro m (λ e. nat_lt e n && p e) x.0 (omega (arith, x.1, l)) (and_both (nat_lt x.0 n) (p x.0) (is_less x.0 n x.1) x.2)
+        any_below-intro m (λ e. nat_lt e n && p e) x.0 (omega (arith, x.1, l)) (and_from (nat_lt x.0 n) (p x.0) (lt-ltb x.0 n x.1) x.2)
 
 pub waits_there :
     (w : World) (s : ℕ) → Invariant w → ((e : ℕ) → HasFront w.cookies (w.part e)) → w.config.endpoints ≤ 8
@@ -188,9 +176,6 @@ waits_there w s i f most =
         if nat_lt e (length (wire w).parts) then target_by (unit_of (wire w) e) (cookie_at (wire w) (number w.config.first s) e)
         (bound_at (wire w) e (number w.config.first s)) else None
 
-    less : (a b : ℕ) → nat_lt a b ≡ true → a < b
-    less a b e = grind (arith, nat_tests)
-
     go :
         (e : ℕ) (b : Bool) → nat_lt e w.config.endpoints ≡ b
         → is_some
@@ -198,7 +183,7 @@ waits_there w s i f most =
         else None) ≡ (b && acts.waits w s e)
     go e false h = refl
     go e true h =
-        let l : e < w.config.endpoints = less e w.config.endpoints h in
+        let l : e < w.config.endpoints = ltb-true e w.config.endpoints h in
         ap₂ (λ u o. is_some (target_by u (cookie_at (wire w) (number w.config.first s) e) o)) (unit_seen w e l) (bound_is w e s i)
         ∙ waits_seen w.config.first w.cookies (cookie_at (wire w) (number w.config.first s) e) e (w.part e) (f e)
         (λ b j k st. ((i.parts e).orders.invalidating b j k st).2) (bound w e s)

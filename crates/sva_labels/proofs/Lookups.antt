@@ -7,11 +7,13 @@ use Rattle.std.specs.Option.{option_or}
 use Rattle.std.proofs.lemmas.Bool.Decides.{nat_tests}
 use Rattle.std.proofs.lemmas.List.{map-append, append-nil, get_or_past}
 use Rattle.std.proofs.lemmas.List.Folds.{list_any-append, find-append, position_or_len_push}
+use Rattle.std.proofs.lemmas.Bool.{eq-eqb}
 use Rattle.sva_model.specs.Words as words
 use Rattle.sva_model.specs.Words.{step_lowest, lowest, any_below, select, tabulate}
 use Rattle.sva_model.specs.Labels
 use Rattle.sva_model.specs.Wire.{insert_by, sorted_by}
 use Rattle.sva_laws.proofs.Words.{ℕ_cases, lowest_cases}
+use Rattle.sva_laws.proofs.Tests.{lower_differs, or_no}
 use Rattle.sva_wire.proofs.Lists.{tabulate_length, lowest_same}
 use Rattle.sva_labels.specs.Finding.{lowest_label}
 use Rattle.sva_labels.specs.Outcomes.{label}
@@ -58,12 +60,6 @@ found_below k n l = grind (arith, nat_tests)
 none_from : (k n : ℕ) → k ≡ n → words.if_found (nat_lt k n) k ≡ None
 none_from k n e = grind (arith, nat_tests)
 
-is_at_end : (k n : ℕ) → k ≡ n → (k == n) ≡ true
-is_at_end k n e = grind (arith, nat_tests)
-
-isnt_at_end : (k n : ℕ) → k < n → (k == n) ≡ false
-isnt_at_end k n l = grind (arith, nat_tests)
-
 -- none is free exactly where the search ends past the table
 pub no_label :
     {A : Type 0} (n : ℕ) (at : ℕ → Option ℕ) (f : ℕ → Option A) → ((t : ℕ) → is_none (f t) ≡ not (words.is_some (at t)))
@@ -74,8 +70,8 @@ no_label n at f h = ap is_none (label_seen n at f h) ∙ go (lowest_cases n (λ 
         ((Labels.lowest_label n at ≡ n) × ((j : ℕ) → j < n → not (words.is_some (at j)) ≡ false)) ⊎ ((Labels.lowest_label n at < n)
         × (not (words.is_some (at (Labels.lowest_label n at))) ≡ true) × ((j : ℕ) → j < Labels.lowest_label n at → not (words.is_some (at j)) ≡ false))
         → is_none (words.if_found (nat_lt (Labels.lowest_label n at) n) (Labels.lowest_label n at)) ≡ (Labels.lowest_label n at == n)
-    go (inl x) = ap is_none (none_from (Labels.lowest_label n at) n x.0) ∙ sym (is_at_end (Labels.lowest_label n at) n x.0)
-    go (inr x) = ap is_none (found_below (Labels.lowest_label n at) n x.0) ∙ sym (isnt_at_end (Labels.lowest_label n at) n x.0)
+    go (inl x) = ap is_none (none_from (Labels.lowest_label n at) n x.0) ∙ sym (eq-eqb (Labels.lowest_label n at) n x.0)
+    go (inr x) = ap is_none (found_below (Labels.lowest_label n at) n x.0) ∙ sym (lower_differs (Labels.lowest_label n at) n x.0)
 
 pub label_is :
     {A : Type 0} (n : ℕ) (at : ℕ → Option ℕ) (f : ℕ → Option A) → ((t : ℕ) → is_none (f t) ≡ not (words.is_some (at t)))
@@ -86,7 +82,7 @@ label_is n at f h e = ap label (label_seen n at f h) ∙ go (lowest_cases n (λ 
         ((Labels.lowest_label n at ≡ n) × ((j : ℕ) → j < n → not (words.is_some (at j)) ≡ false)) ⊎ ((Labels.lowest_label n at < n)
         × (not (words.is_some (at (Labels.lowest_label n at))) ≡ true) × ((j : ℕ) → j < Labels.lowest_label n at → not (words.is_some (at j)) ≡ false))
         → label (words.if_found (nat_lt (Labels.lowest_label n at) n) (Labels.lowest_label n at)) ≡ Labels.lowest_label n at
-    go (inl x) = absurd (cc (sym e ∙ is_at_end (Labels.lowest_label n at) n x.0))
+    go (inl x) = absurd (cc (sym e ∙ eq-eqb (Labels.lowest_label n at) n x.0))
     go (inr x) = ap label (found_below (Labels.lowest_label n at) n x.0)
 
 -- an entry that is seen through is there where it was
@@ -119,10 +115,6 @@ any_seen (suc n) s f p =
     ∙ ap₂ ◌||◌ (any_seen n s f p) (one (s n))
     ∙ or_if (any_below n (λ k. s k && p (f k))) (s n && p (f n))
   where
-    or_no : (b : Bool) → (b || false) ≡ b
-    or_no true = refl
-    or_no false = refl
-
     one : (b : Bool) → list_any p (map f (if b then n ∷ [] else [])) ≡ (b && p (f n))
     one true = or_no (p (f n))
     one false = refl
@@ -134,10 +126,6 @@ any_table (suc n) f p =
     list_any-append p (tabulate n f) (f n ∷ [])
     ∙ ap₂ ◌||◌ (any_table n f p) (or_no (p (f n)))
     ∙ or_if (any_below n (λ k. p (f k))) (p (f n))
-  where
-    or_no : (b : Bool) → (b || false) ≡ b
-    or_no true = refl
-    or_no false = refl
 
 -- The one that passes.
 

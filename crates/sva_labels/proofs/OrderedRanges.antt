@@ -4,6 +4,7 @@ use Rattle.std.proofs.Common.{◌≡◌, ◌⊎◌, inl, inr, refl, subst, ℕ, 
 use Rattle.std.specs.Prelude.{Option, Some, None, not, ◌==◌, nat_lt, if◌then◌else◌, List, [], ◌∷◌, Err}
 use Rattle.std.proofs.lemmas.Bool.Decides.{nat_tests}
 use Rattle.std.proofs.lemmas.Nat.{pow_pos}
+use Rattle.std.proofs.lemmas.Bool.{ltb-false}
 use Rattle.sva_step.specs.declared.limits.Config.{Config}
 use Rattle.sva_step.specs.declared.steps.Step.{Step}
 use Rattle.sva_step.specs.declared.steps.Step.TheVariants as step
@@ -18,7 +19,7 @@ use Rattle.sva_model.specs.Words.{the}
 use Rattle.sva_model.specs.Refusals.{Cause, refusals}
 use Rattle.sva_model.specs.Outcomes.{Outcome, outcome}
 use Rattle.sva_model.specs.Steps.{checked, decide, next, run, after_acts, world_after}
-use Rattle.sva_laws.proofs.Passed.{Passed, is_at_most}
+use Rattle.sva_laws.proofs.Passed.{Passed}
 use Rattle.sva_laws.proofs.Keeps.{put_keeps}
 use Rattle.sva_laws.proofs.Adding.{IsAdding, AreAdding, unbind_adds, advance_adds, pump_adds, serve_adds, reply_adds, fault_adds, deliver_adds}
 
@@ -96,7 +97,7 @@ adding_codes (x ∷ acts) a = (one x a.0, adding_codes acts a.1)
 -- the pages of an unmapping, one range each, by what its step has tested
 pages_codes : (q count : ℕ) → nat_lt (2 ^ 36) (q + count) ≡ false → (j : ℕ) → j < count → IsRange (range_at q 0 j)
 pages_codes q count h j l =
-    let high : q + count ≤ 2 ^ 36 = is_at_most (2 ^ 36) (q + count) h in
+    let high : q + count ≤ 2 ^ 36 = ltb-false (2 ^ 36) (q + count) h in
     record { small = omega arith; low = omega (arith, high, l); aligned = omega arith }
 
 -- a range that is taken out
@@ -124,8 +125,8 @@ range_codes q order small high aligned j l =
     first : IsRange (record { base = q; order = order })
     first =
         record {
-          small = is_at_most 9 order small;
-          low = lower q (2 ^ order) (is_at_most (2 ^ 36) (q + 2 ^ order) high) (some order);
+          small = ltb-false 9 order small;
+          low = lower q (2 ^ order) (ltb-false (2 ^ 36) (q + 2 ^ order) high) (some order);
           aligned = even (q % 2 ^ order) aligned;
         }
 

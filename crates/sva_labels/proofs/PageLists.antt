@@ -2,6 +2,7 @@
 use Rattle.std.proofs.Common.{◌≡◌, ◌≢◌, ◌⊎◌, inl, inr, refl, ap, sym, subst, ◌∙◌, ℕ, zero, suc, Bool, true, false, arith}
 use Rattle.std.specs.Prelude.{◌&&◌, ◌||◌, not, ◌==◌, if◌then◌else◌, List, [], ◌∷◌, filter}
 use Rattle.std.specs.List.{list_any}
+use Rattle.std.proofs.lemmas.Bool.{eq-eqb, eqb-true, ne_eqb}
 use Rattle.sva_model.specs.Words.{put, any_below, tabulate}
 use Rattle.sva_model.specs.State.{Owed, Mappings, World}
 use Rattle.sva_model.specs.States.{is_present}
@@ -10,7 +11,7 @@ use Rattle.sva_model.specs.Wire.{PageWire, PlaceWire, insert_by, is_lower_page, 
 use Rattle.sva_laws.proofs.Words.{put-same, put-other, ℕ_cases}
 use Rattle.sva_wire.proofs.Lists.{tabulate_same, tabulate_set}
 use Rattle.sva_wire.proofs.Parts.{with_mappings}
-use Rattle.sva_wire.proofs.Pages.{pages_same, pages_rising, filter_insert, gone_test, those_kept, others_kept, same_is, is_same, is_other}
+use Rattle.sva_wire.proofs.Pages.{pages_same, pages_rising, filter_insert, gone_test, those_kept, others_kept}
 use Rattle.sva_labels.specs.Moves.{placed}
 
 -- Pages that went, of those that pass a test.
@@ -30,7 +31,7 @@ other_space w s pages owed t ne =
     pages_same (with_mappings w (without_pages w.mappings s pages owed)) w t w.mappings.made
     (λ m l. left_test w s pages owed t m
     ∙ others_kept (is_present (w.mappings.state m)) (w.mappings.space m == s) (w.mappings.space m == t) (pages (w.mappings.page m))
-    (λ a b. ne (sym (same_is (w.mappings.space m) s a) ∙ same_is (w.mappings.space m) t b)))
+    (λ a b. ne (sym (eqb-true (w.mappings.space m) s a) ∙ eqb-true (w.mappings.space m) t b)))
     (λ m l. refl)
 
 same_space :
@@ -69,10 +70,10 @@ pages_out w s pages owed t = go (ℕ_cases s t)
     go (inl e) =
         subst (λ z. pages_wire (without_pages w.mappings s pages owed) z ≡ filter (λ entry. not (pages entry.page)) (pages_wire w.mappings z)) e
         (same_space w s pages owed w.mappings.made)
-        ∙ sym (ap (λ b. if b then filter (λ entry. not (pages entry.page)) (pages_wire w.mappings t) else pages_wire w.mappings t) (is_same s t e))
+        ∙ sym (ap (λ b. if b then filter (λ entry. not (pages entry.page)) (pages_wire w.mappings t) else pages_wire w.mappings t) (eq-eqb s t e))
     go (inr ne) =
         other_space w s pages owed t ne
-        ∙ sym (ap (λ b. if b then filter (λ entry. not (pages entry.page)) (pages_wire w.mappings t) else pages_wire w.mappings t) (is_other s t ne))
+        ∙ sym (ap (λ b. if b then filter (λ entry. not (pages entry.page)) (pages_wire w.mappings t) else pages_wire w.mappings t) (ne_eqb s t ne))
 
 -- Whether a page of a list passes.
 
@@ -146,7 +147,7 @@ placed_is n g place (x ∷ pages) =
     go f b (inl e) =
         ap (λ z. if b then place else z) (ap (put g x.frame place) e ∙ put-same g x.frame place)
         ∙ same b
-        ∙ sym (ap (λ z. if z || b then place else g f) (is_same x.frame f (sym e)))
+        ∙ sym (ap (λ z. if z || b then place else g f) (eq-eqb x.frame f (sym e)))
     go f b (inr ne) =
         ap (λ z. if b then place else z) (put-other g x.frame place f ne)
-        ∙ sym (ap (λ z. if z || b then place else g f) (is_other x.frame f (λ e. ne (sym e))))
+        ∙ sym (ap (λ z. if z || b then place else g f) (ne_eqb x.frame f (λ e. ne (sym e))))

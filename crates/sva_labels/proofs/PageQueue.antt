@@ -15,7 +15,7 @@ use Rattle.sva_model.specs.Wire.{page_request_wire, page_queue_wire, PageRequest
 use Rattle.sva_laws.proofs.Words.{put-same, put-other}
 use Rattle.sva_laws.proofs.Legal.{LegalLocalAct}
 use Rattle.sva_laws.proofs.Bounds.{Bounds}
-use Rattle.sva_laws.proofs.PageRequests.{Queued}
+use Rattle.sva_laws.proofs.PageRequests.{Queued, arrived_is}
 use Rattle.sva_laws.proofs.Groups.{Groups}
 use Rattle.sva_laws.proofs.Invariant.{PartInvariant}
 use Rattle.sva_labels.proofs.Kept.{page_queue_moved}
@@ -38,9 +38,6 @@ queue_same p q n h s w =
     ∙ picked_same p.arrivals (λ k. page_request_wire q (q.arrival k)) (λ k. page_request_wire p (p.arrival k)) (is_waiting q) (is_waiting p)
     (λ k l. ap (λ r. is_arrived (q.page_request r)) (h k l) ∙ s k l)
     (λ k l a. ap (page_request_wire q) (h k l) ∙ w k l (sym (s k l) ∙ ap (λ r. is_arrived (q.page_request r)) (sym (h k l)) ∙ a))
-
-pub arrived_is : (s : PageRequestState) → is_arrived s ≡ true → s ≡ Arrived
-arrived_is s h = grind arith
 
 not_arrived : (s : PageRequestState) → s ≢ Arrived → is_arrived s ≡ false
 not_arrived s h = grind arith

@@ -2,7 +2,6 @@
 -- and when some are taken out.
 use Rattle.std.proofs.Common.{◌≡◌, ◌≢◌, ◌⊎◌, inl, inr, refl, ap, ap₂, sym, ◌∙◌, ℕ, zero, suc, ◌+◌, ◌<◌, Bool, true, false, arith, append-nil, append_assoc}
 use Rattle.std.specs.Prelude.{if◌then◌else◌, List, [], ◌∷◌, ◌++◌, map, filter, drop}
-use Rattle.std.proofs.lemmas.List.{map-append}
 use Rattle.sva_model.specs.Words.{select, tabulate}
 use Rattle.sva_laws.proofs.Words.{ℕ_cases}
 pub use Rattle.sva_labels.proofs.LookedLists.{seen_next as picked_next}

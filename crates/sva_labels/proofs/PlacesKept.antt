@@ -1,7 +1,8 @@
 -- The acts of an endpoint that leave the places of frames as they are: all but a wait that is done and a reset-done.
-use Rattle.std.proofs.Common.{◌≡◌, ◌≢◌, refl, ap, sym, ◌∙◌, ℕ, suc, ◌+◌, ◌<◌, ◌≤◌, Bool, true, false, arith}
+use Rattle.std.proofs.Common.{◌≡◌, ◌≢◌, refl, ap, sym, ◌∙◌, ℕ, suc, ◌+◌, ◌<◌, Bool, true, false, arith}
 use Rattle.std.specs.Prelude.{Some, None, ◌&&◌, ◌||◌, nat_lt, if◌then◌else◌}
 use Rattle.std.proofs.lemmas.Bool.Decides.{nat_tests}
+use Rattle.std.proofs.lemmas.Bool.{and_right, ltb-true}
 use Rattle.sva_model.specs.Words.{all_below, tabulate}
 use Rattle.sva_model.specs.State.{Owed, Mappings, Endpoint, World, OrderState}
 use Rattle.sva_model.specs.State.Owed.{Nothing, Ranges, Pasid, NextReset}
@@ -23,12 +24,12 @@ use Rattle.sva_laws.proofs.Cookies.{own_old}
 use Rattle.sva_laws.proofs.Debts.{AllDebts}
 use Rattle.sva_laws.proofs.Invariant.{Invariant}
 use Rattle.sva_laws.proofs.Keeps.{Legal, put_keeps}
-use Rattle.sva_laws.proofs.Passed.{or_left, or_right}
 use Rattle.sva_wire.proofs.Lists.{tabulate_same, all_same}
 use Rattle.sva_wire.proofs.Places.{gone_seen, seen_by}
 use Rattle.sva_labels.proofs.PlacesOut.{places_same}
 pub use Rattle.sva_laws.proofs.Targets.{no_reset}
 pub use Rattle.sva_laws.proofs.Targets.{both_done}
+use Rattle.sva_laws.proofs.Tests.{first_fails, second_fails}
 
 -- What isn't answered waits for a wait that isn't done.
 
@@ -57,16 +58,16 @@ pub ranges_open :
     (p : Endpoint) (first count resets : ℕ) → IsBehind p first (first + count) resets → answered p (Ranges first count resets) ≡ false
     → (resets ≡ p.resets) × (p.order_state (first + count) ≢ Done)
 ranges_open p first count resets b h =
-    let same = no_reset p resets b.counted (or_right (all_below (suc count) (λ j. is_done (p.order_state (first + j)))) (nat_lt resets p.resets) h) in
-    let left = or_left (all_below (suc count) (λ j. is_done (p.order_state (first + j)))) (nat_lt resets p.resets) h in
+    let same = no_reset p resets b.counted (second_fails (all_below (suc count) (λ j. is_done (p.order_state (first + j)))) (nat_lt resets p.resets) h) in
+    let left = first_fails (all_below (suc count) (λ j. is_done (p.order_state (first + j)))) (nat_lt resets p.resets) h in
     (same, λ d. absurd (cc (sym left ∙ done_answers p first count resets b same d)))
 
 pub pasid_open :
     (p : Endpoint) (k x resets : ℕ) (in_reset : Bool) → IsBehind p k x resets → answered p (Pasid k x resets in_reset) ≡ false
     → (resets ≡ p.resets) × (p.order_state x ≢ Done)
 pasid_open p k x resets in_reset b h =
-    let same = no_reset p resets b.counted (or_right (is_done (p.order_state k) && is_done (p.order_state x)) (nat_lt resets p.resets) h) in
-    let left = or_left (is_done (p.order_state k) && is_done (p.order_state x)) (nat_lt resets p.resets) h in
+    let same = no_reset p resets b.counted (second_fails (is_done (p.order_state k) && is_done (p.order_state x)) (nat_lt resets p.resets) h) in
+    let left = first_fails (is_done (p.order_state k) && is_done (p.order_state x)) (nat_lt resets p.resets) h in
     (same, λ d. absurd (cc (sym left ∙ both_done (p.order_state k) (p.order_state x) (b.done same d k (omega arith) b.low) d)))
 
 no_more : (a b : ℕ) → a ≡ b → nat_lt a b ≡ false
@@ -74,9 +75,6 @@ no_more a b e = grind (arith, nat_tests)
 
 both_false : (a b : Bool) → a ≡ false → b ≡ false → (a || b) ≡ false
 both_false a b h k = grind arith
-
-right_false : (a b : Bool) → b ≡ false → (a && b) ≡ false
-right_false a b h = grind arith
 
 -- and where its wait isn't done and no reset-done came since, it isn't
 pub ranges_wait :
@@ -91,7 +89,7 @@ pub pasid_waits : (p : Endpoint) (k x resets : ℕ) (in_reset : Bool) → resets
     ≡ false
 pasid_waits p k x resets in_reset same ne =
     both_false (is_done (p.order_state k) && is_done (p.order_state x)) (nat_lt resets p.resets)
-    (right_false (is_done (p.order_state k)) (is_done (p.order_state x)) (isnt_done (p.order_state x) ne))
+    (and_right (is_done (p.order_state k)) (is_done (p.order_state x)) (isnt_done (p.order_state x) ne))
     (no_more resets p.resets same)
 
 -- The acts.
@@ -164,14 +162,11 @@ seen_same w v owed c h =
     same_answers : all_below w.config.endpoints (λ e. answered (v.part e) (owed e)) ≡ all_below w.config.endpoints (λ e. answered (w.part e) (owed e))
     same_answers = all_same w.config.endpoints (λ e. answered (v.part e) (owed e)) (λ e. answered (w.part e) (owed e)) (λ e l. (h e l).answers)
 
-    less : (a b : ℕ) → nat_lt a b ≡ true → a < b
-    less a b k = grind (arith, nat_tests)
-
     at :
         (e : ℕ) (b : Bool) → nat_lt e w.config.endpoints ≡ b
         → (if b then target_wire w.config.first (v.part e) (owed e) else None) ≡ (if b then target_wire w.config.first (w.part e) (owed e) else None)
     at e false k = refl
-    at e true k = let z = h e (less e w.config.endpoints k) in λ i. if z.answers i then None else Some (z.target i)
+    at e true k = let z = h e (ltb-true e w.config.endpoints k) in λ i. if z.answers i then None else Some (z.target i)
 
     same_targets :
         tabulate 8 (λ e. if nat_lt e w.config.endpoints then target_wire w.config.first (v.part e) (owed e) else None)

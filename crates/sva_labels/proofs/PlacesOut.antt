@@ -1,8 +1,8 @@
 -- The places of frames once pages of a space went, and after an act of one endpoint: by the latest mapping of each frame.
-use Rattle.std.proofs.Common.{◌≡◌, refl, ap, ap₂, sym, ◌∙◌, ℕ, zero, suc, ◌<◌, Bool, true, false, arith}
-use Rattle.std.specs.Prelude.{Some, None, Option, ◌&&◌, ◌==◌, if◌then◌else◌, List, [], ◌∷◌, ◌++◌, map, filter}
+use Rattle.std.proofs.Common.{◌≡◌, refl, ap, ap₂, sym, ◌∙◌, ℕ, ◌<◌, Bool, true, false, arith}
+use Rattle.std.specs.Prelude.{Some, None, Option, ◌&&◌, ◌==◌, if◌then◌else◌, List, [], ◌∷◌, map, filter}
 use Rattle.std.specs.List.{list_any}
-use Rattle.std.proofs.lemmas.List.{map-append}
+use Rattle.std.proofs.lemmas.Bool.{and_from, eq-eqb, eqb-true}
 use Rattle.sva_model.specs.Words.{any_below, tabulate}
 use Rattle.sva_model.specs.State.{Owed, MappingState, World}
 use Rattle.sva_model.specs.State.MappingState.{Unmade, Present, Gone}
@@ -12,9 +12,9 @@ use Rattle.sva_model.specs.Wire.{PlaceWire, is_page_of, pages_wire, place_wire_b
 use Rattle.sva_model.specs.Wire.PlaceWire.{FreeWire, MappedWire}
 use Rattle.sva_laws.proofs.Words.{any_below-true, any_below-false}
 use Rattle.sva_laws.proofs.Invariant.{Mapped}
-use Rattle.sva_laws.proofs.Passed.{and_left, and_right}
+use Rattle.sva_laws.proofs.Tests.{first_holds, second_holds}
 use Rattle.sva_wire.proofs.Lists.{tabulate_same}
-use Rattle.sva_wire.proofs.Pages.{present_is, same_is, is_same, and_both}
+use Rattle.sva_wire.proofs.Pages.{present_is}
 use Rattle.sva_wire.proofs.Places.{seen_by, seen_at, place_seen}
 use Rattle.sva_labels.specs.Moves.{placed}
 use Rattle.sva_labels.proofs.PageLists.{any_among, placed_is}
@@ -55,9 +55,6 @@ places_same w v c ms gone = places_changed w v (λ p. p) c ms refl refl gone ∙
 
 -- Pages that went: the frames of those that pass the test are at one place, and all others are where they were.
 
-one : {a b : ℕ} → Some a ≡ Some b → a ≡ b
-one h = cc
-
 pub places_out :
     (w v : World) (s : ℕ) (pages : ℕ → Bool) (owed : ℕ → Owed) (there : PlaceWire) → Mapped w → v.config ≡ w.config
     → v.mappings ≡ without_pages w.mappings s pages owed → seen_by v (Gone owed) ≡ there
@@ -80,20 +77,20 @@ places_out w v s pages owed there ma c ms here older =
     out : (m : ℕ) → is_page_of w.mappings s m ≡ true → pages (w.mappings.page m) ≡ true → after m ≡ Gone owed
     out m h k =
         ap₂ (λ b z. gone_if b owed z)
-        (and_both (w.mappings.space m == s) (pages (w.mappings.page m)) (and_right (is_present (w.mappings.state m)) (w.mappings.space m == s) h) k)
-        (present_is (w.mappings.state m) (and_left (is_present (w.mappings.state m)) (w.mappings.space m == s) h))
+        (and_from (w.mappings.space m == s) (pages (w.mappings.page m)) (second_holds (is_present (w.mappings.state m)) (w.mappings.space m == s) h) k)
+        (present_is (w.mappings.state m) (first_holds (is_present (w.mappings.state m)) (w.mappings.space m == s) h))
 
     -- a frame whose page went
     taken : (f m : ℕ) → goes f m ≡ true → seen_at v after (w.mappings.latest f) ≡ there
     taken f m h =
-        let page : is_page_of w.mappings s m ≡ true = and_left (is_page_of w.mappings s m) (pages (w.mappings.page m) && w.mappings.frame m == f) h in
+        let page : is_page_of w.mappings s m ≡ true = first_holds (is_page_of w.mappings s m) (pages (w.mappings.page m) && w.mappings.frame m == f) h in
         let rest : (pages (w.mappings.page m) && w.mappings.frame m == f) ≡ true =
-        and_right (is_page_of w.mappings s m) (pages (w.mappings.page m) && w.mappings.frame m == f) h in
-        let frame : w.mappings.frame m ≡ f = same_is (w.mappings.frame m) f (and_right (pages (w.mappings.page m)) (w.mappings.frame m == f) rest) in
+        second_holds (is_page_of w.mappings s m) (pages (w.mappings.page m) && w.mappings.frame m == f) h in
+        let frame : w.mappings.frame m ≡ f = eqb-true (w.mappings.frame m) f (second_holds (pages (w.mappings.page m)) (w.mappings.frame m == f) rest) in
         let present : w.mappings.state m ≡ Present =
-        present_is (w.mappings.state m) (and_left (is_present (w.mappings.state m)) (w.mappings.space m == s) page) in
+        present_is (w.mappings.state m) (first_holds (is_present (w.mappings.state m)) (w.mappings.space m == s) page) in
         ap (seen_at v after) (sym (ap w.mappings.latest frame) ∙ ma.latest m present)
-        ∙ ap (seen_by v) (out m page (and_left (pages (w.mappings.page m)) (w.mappings.frame m == f) rest))
+        ∙ ap (seen_by v) (out m page (first_holds (pages (w.mappings.page m)) (w.mappings.frame m == f) rest))
         ∙ here
 
     unmade_stays : (b : Bool) → gone_if b owed Unmade ≡ Unmade
@@ -116,7 +113,7 @@ places_out w v s pages owed there ma c ms here older =
     kept f m frame h Present e =
         ap (λ b. seen_by v (gone_if b owed Present))
         (untested (w.mappings.space m == s) (pages (w.mappings.page m))
-        (sym (λ i. (is_present (e i) && w.mappings.space m == s) && (pages (w.mappings.page m) && is_same (w.mappings.frame m) f frame i)) ∙ h))
+        (sym (λ i. (is_present (e i) && w.mappings.space m == s) && (pages (w.mappings.page m) && eq-eqb (w.mappings.frame m) f frame i)) ∙ h))
 
     still :
         (f : ℕ) → ((m : ℕ) → m < w.mappings.made → goes f m ≡ false) → (o : Option ℕ) → w.mappings.latest f ≡ o

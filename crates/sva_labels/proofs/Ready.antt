@@ -2,12 +2,13 @@
 -- the queue, a request is filed in a group that is open to it, and the first job is handed out.
 use Rattle.std.proofs.Common.{◌≡◌, ◌≢◌, ◌⊎◌, inl, inr, refl, ap, ◌∙◌, ℕ, ◌<◌, Bool, true, false, arith}
 use Rattle.std.specs.Prelude.{Option, Some, None, not, if◌then◌else◌, List, [], ◌∷◌, ◌++◌}
+use Rattle.std.proofs.lemmas.Bool.{not-false}
 use Rattle.sva_step.specs.declared.steps.Step.{Step}
 use Rattle.sva_step.specs.declared.steps.Step.TheVariants as step
 use Rattle.sva_step.specs.declared.steps.Verdict.{Verdict}
 use Rattle.sva_model.specs.Words.{the, any_below, lowest, put}
 use Rattle.sva_model.specs.Message.{Code}
-use Rattle.sva_model.specs.State.{Endpoint, World, Stage, Order, OrderState, Subject, RequestState}
+use Rattle.sva_model.specs.State.{Endpoint, World, Stage, Order, Subject, RequestState}
 use Rattle.sva_model.specs.State.OrderState.{Queued}
 use Rattle.sva_model.specs.State.HostGroupState.{Job}
 use Rattle.sva_model.specs.State.Stage.{Unbound, Live, Stopping, Draining, Invalidating, Quiet, Lost, Released}
@@ -24,12 +25,13 @@ use Rattle.sva_model.specs.Replies.{maps_to, reply_maps, replies_success, newly_
 use Rattle.sva_model.specs.Outcomes.{outcome, unbind_outcome, advance_outcome, pump_outcome, head_outcome, wait_outcome, send_outcome, may_pass}
 use Rattle.sva_model.specs.Outcomes.{serve_outcome, file_outcome, reply_outcome, fault_outcome, subject_outcome, deliver_outcome, completion_outcome}
 use Rattle.sva_model.specs.Outcomes.{keep_outcome, is_full, request_outcome, count_outcome, page_request_outcome, marker_outcome}
-use Rattle.sva_laws.proofs.Words.{put-same, any_below-true, lowest_below, lowest_cases, not_true}
+use Rattle.sva_laws.proofs.Words.{put-same, any_below-true, lowest_below, lowest_cases}
 use Rattle.sva_laws.proofs.Invariant.{Invariant}
 use Rattle.sva_laws.proofs.OnTheWay.{AllOn}
 use Rattle.sva_laws.proofs.JobSteps.{JobsOf, not_past}
 use Rattle.sva_laws.proofs.LegalUnit as unit_steps
 use Rattle.sva_laws.proofs.Passed.{Passed, LegalAll}
+use Rattle.sva_laws.proofs.Orders.{queued_not}
 use Rattle.sva_labels.proofs.JobActs.{HandsFirst}
 use Rattle.sva_labels.proofs.Assembly.{AreReady}
 
@@ -58,15 +60,12 @@ advance_ready w e b Released = ((tt, tt), tt)
 head_first : (p : Endpoint) (j : ℕ) → j < Labels.head p → p.order_state j ≢ Queued
 head_first p j l = go (lowest_cases p.orders (λ k. is_queued (p.order_state k)))
   where
-    queued_is : (s : OrderState) → is_queued s ≡ false → s ≢ Queued
-    queued_is s k = grind arith
-
     go :
         ((Labels.head p ≡ p.orders) × ((j : ℕ) → j < p.orders → is_queued (p.order_state j) ≡ false)) ⊎ ((Labels.head p < p.orders)
         × (is_queued (p.order_state (Labels.head p)) ≡ true) × ((j : ℕ) → j < Labels.head p → is_queued (p.order_state j) ≡ false))
         → p.order_state j ≢ Queued
-    go (inl x) = queued_is (p.order_state j) (x.1 j (omega (arith, l, x.0)))
-    go (inr x) = queued_is (p.order_state j) (x.2 j l)
+    go (inl x) = queued_not (p.order_state j) (x.1 j (omega (arith, l, x.0)))
+    go (inr x) = queued_not (p.order_state j) (x.2 j l)
 
 send_ready :
     (w : World) (e t : ℕ) (b : Bool) → ((j : ℕ) → j < Labels.head (w.part e) → (w.part e).order_state j ≢ Queued)
@@ -116,7 +115,7 @@ first_job :
     → HandsFirst w (w.job (lowest w.jobs (Labels.is_queued_job w))).endpoint (w.job (lowest w.jobs (Labels.is_queued_job w))).group
     (lowest w.jobs (Labels.is_queued_job w))
 first_job w js h =
-    let some = any_below-true w.jobs (Labels.is_queued_job w) (not_true (any_below w.jobs (Labels.is_queued_job w)) h) in
+    let some = any_below-true w.jobs (Labels.is_queued_job w) (not-false (any_below w.jobs (Labels.is_queued_job w)) h) in
     let low = lowest_below w.jobs (Labels.is_queued_job w) some.0 some.1 some.2 in
     record {
       made = low.0;

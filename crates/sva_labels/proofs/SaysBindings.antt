@@ -2,6 +2,7 @@
 use Rattle.std.proofs.Common.{◌≡◌, refl, ap, sym, ◌∙◌, ℕ, ◌<◌, Bool, true, false, arith}
 use Rattle.std.specs.Prelude as prelude
 use Rattle.std.specs.Prelude.{Option, Some, None, option_map, ◌&&◌, ◌||◌, not, ◌==◌, nat_lt, nat_le, if◌then◌else◌, is_none, List, [], ◌∷◌}
+use Rattle.std.proofs.lemmas.Bool.{not-false}
 use Rattle.sva_step.specs.declared.refusals.Refusal.TheVariants as refusal
 use Rattle.sva_step.specs.declared.steps.Step.TheVariants as step
 use Rattle.sva_model.specs.Words.{is_some, the, find, any_below}
@@ -16,9 +17,10 @@ use Rattle.sva_model.specs.Outcomes.{unbind_outcome, advance_outcome}
 use Rattle.sva_model.specs.Labels
 use Rattle.sva_model.specs.Wire.{BindingWire, number, cookie_number, stage_wire, binding_wire, wire}
 use Rattle.sva_laws.specs.Waits.{HasFront}
-use Rattle.sva_laws.proofs.Words.{not_true, find_passes, find_some, any_below-true, any_below-intro}
+use Rattle.sva_laws.proofs.Words.{find_passes, find_some, any_below-true, any_below-intro}
 use Rattle.sva_laws.proofs.Invariant.{Invariant}
-use Rattle.sva_laws.proofs.Passed.{is_less, unreleased_bound}
+use Rattle.sva_laws.proofs.Passed.{unreleased_bound}
+use Rattle.sva_laws.proofs.Tests.{is_less}
 use Rattle.sva_labels.specs.Finding.{binding_of, bound_at, pasid_for, has_room, has_open_group, is_wait_done}
 use Rattle.sva_labels.specs.Causes.{causes_of, no_such_endpoint, no_such_space, resetting, numbers_spent, bind_causes, unbind_causes, advance_causes}
 use Rattle.sva_labels.specs.Causes.{unbind_by, advance_by}
@@ -88,7 +90,7 @@ bind_says w e n i r =
     record {
       alike = bind_alike w e n i r;
       result = λ k.
-          let num = space_number w n (not_true (Labels.is_space w n) k.1.0) in
+          let num = space_number w n (not-false (Labels.is_space w n) k.1.0) in
           ap (λ t. bind_result (wire w) e n t)
           (ap label (ap (pasid_for (wire w)) (sym num) ∙ pasid_there w e (Labels.name w n) i r) ∙ label_same (Labels.pasid_for w e (Labels.name w n)))
           ∙ ap (λ m. bind_result (wire w) e m (the (Labels.pasid_for w e (Labels.name w n)))) (sym num);
@@ -149,7 +151,7 @@ unbind_says w n i =
           (names.unbind_refusals w (w.endpoint_of (Labels.name w n)) ((w.part (w.endpoint_of (Labels.name w n))).stage (Labels.name w n)))
           (unbind_stages w (Labels.name w n) (home_there w (Labels.name w n) i kept) ((w.part (w.endpoint_of (Labels.name w n))).stage (Labels.name w n))));
       result = λ k.
-          ap (of_binding (λ b. results.unbind_by b b.stage)) (binding_found w n (not_true (Labels.is_binding w n) k.0))
+          ap (of_binding (λ b. results.unbind_by b b.stage)) (binding_found w n (not-false (Labels.is_binding w n) k.0))
           ∙ unbound_by w (Labels.name w n) ((w.part (w.endpoint_of (Labels.name w n))).stage (Labels.name w n));
     }
 
@@ -228,6 +230,6 @@ advance_says w n i f fi =
           (names.advance_refusals w (w.endpoint_of (Labels.name w n)) (Labels.name w n) ((w.part (w.endpoint_of (Labels.name w n))).stage (Labels.name w n)))
           (advance_stages w (Labels.name w n) i f fi (binding_is w n e).kept ((w.part (w.endpoint_of (Labels.name w n))).stage (Labels.name w n)) refl));
       result = λ k.
-          ap (of_binding (λ b. results.advance_by b b.stage)) (binding_found w n (not_true (Labels.is_binding w n) k.0))
+          ap (of_binding (λ b. results.advance_by b b.stage)) (binding_found w n (not-false (Labels.is_binding w n) k.0))
           ∙ advanced_by w (Labels.name w n) ((w.part (w.endpoint_of (Labels.name w n))).stage (Labels.name w n));
     }

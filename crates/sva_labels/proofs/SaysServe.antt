@@ -1,26 +1,29 @@
 -- The steps serve and take by labels: they refuse what the steps by names refuse, and answer and move what these do.
-use Rattle.std.proofs.Common.{◌≡◌, refl, ap, ap₂, sym, ◌∙◌, ℕ, ◌<◌, Bool, true, false, arith}
+use Rattle.std.proofs.Common.{◌≡◌, refl, ap, ap₂, sym, ◌∙◌, ℕ, ◌<◌, Bool, true, false}
 use Rattle.std.specs.Prelude as prelude
 use Rattle.std.specs.Prelude.{Option, Some, None, option_map, not, ◌==◌, nat_lt, List, [], ◌∷◌, ◌++◌, map, length}
 use Rattle.std.proofs.lemmas.List.{length-map}
+use Rattle.std.proofs.lemmas.Bool.{not-false, not-true}
 use Rattle.sva_step.specs.declared.answers.Answer.TheVariants as answer
 use Rattle.sva_step.specs.declared.refusals.Refusal.TheVariants as refusal
 use Rattle.sva_step.specs.declared.steps.Step.TheVariants as step
 use Rattle.sva_model.specs.Words.{is_some, lowest, any_below}
-use Rattle.sva_model.specs.State.{PageRequestState, Stage, World}
+use Rattle.sva_model.specs.State.{World}
 use Rattle.sva_model.specs.State.PageRequestState.{Arrived}
 use Rattle.sva_model.specs.State.Phase.{Open}
-use Rattle.sva_model.specs.States.{is_arrived, is_unreleased, is_before_invalidating}
 use Rattle.sva_model.specs.Acts.{Act, LocalAct, act, act_alone}
 use Rattle.sva_model.specs.Refusals as names
 use Rattle.sva_model.specs.Refusals.{Cause, refusals}
 use Rattle.sva_model.specs.Outcomes.{file_outcome, serve_outcome, take_outcome}
 use Rattle.sva_model.specs.Labels
 use Rattle.sva_model.specs.Wire.{JobWire, number, ask_wire, page_request_wire, page_queue_wire, part_wire, group_job, job_wire, binding_wire, wire}
-use Rattle.sva_laws.proofs.Words.{put-same, not_true, lowest_below, any_below-true}
+use Rattle.sva_laws.proofs.Words.{put-same, lowest_below, any_below-true}
 use Rattle.sva_laws.proofs.Invariant.{Invariant}
 use Rattle.sva_laws.proofs.OnTheWay.{OnTheWay}
-use Rattle.sva_laws.proofs.Passed.{is_less, not_false, opened_is}
+use Rattle.sva_laws.proofs.Passed.{opened_is}
+use Rattle.sva_laws.proofs.Bindings.{before_unreleased}
+use Rattle.sva_laws.proofs.PageRequests.{arrived_is}
+use Rattle.sva_laws.proofs.Tests.{is_less}
 use Rattle.sva_wire.proofs.Lists.{tabulate_at, tabulate_length}
 use Rattle.sva_labels.specs.Finding.{bearer, held_by}
 use Rattle.sva_labels.specs.Moves.{Move}
@@ -38,9 +41,6 @@ use Rattle.sva_labels.proofs.SaysUnits.{at_endpoint, none_picked, some_picked, c
 
 -- Serve.
 
-pub unreleased_of : (s : Stage) → is_before_invalidating s ≡ true → is_unreleased s ≡ true
-unreleased_of s h = grind arith
-
 -- the binding under which a page request that has arrived is filed
 asker_there :
     (w : World) (e r : ℕ) → Invariant w → (w.part e).page_request r ≡ Arrived
@@ -50,7 +50,7 @@ asker_there w e r i h =
     let b = (w.part e).asker ((w.part e).group_of r) in
     ap binding_or_0 (bearer_is w e ((w.part e).pasid b) i)
     ∙ ap (λ o. binding_or_0 (option_map (binding_wire w.config.first e (w.part e)) o))
-    ((i.parts e).labels.bears_pasid b (unreleased_of ((w.part e).stage b) ((i.parts e).groups.arrived_stage r h)))
+    ((i.parts e).labels.bears_pasid b (before_unreleased ((w.part e).stage b) ((i.parts e).groups.arrived_stage r h)))
 
 -- the job that the last request of a group makes
 job_there :
@@ -86,9 +86,9 @@ served_by :
 served_by w e i on fi ph true h =
     ap (serve_result (wire w) (part_wire w.config.first w.mappings (w.part e)) e)
     (none_picked (λ k. page_request_wire (w.part e) ((w.part e).arrival k)) (w.part e).arrivals (Labels.is_waiting (w.part e))
-    (not_false (any_below (w.part e).arrivals (Labels.is_waiting (w.part e))) h))
+    (not-true (any_below (w.part e).arrivals (Labels.is_waiting (w.part e))) h))
 served_by w e i on fi ph false h =
-    let some = not_true (any_below (w.part e).arrivals (Labels.is_waiting (w.part e))) h in
+    let some = not-false (any_below (w.part e).arrivals (Labels.is_waiting (w.part e))) h in
     let x = any_below-true (w.part e).arrivals (Labels.is_waiting (w.part e)) some in
     let low = lowest_below (w.part e).arrivals (Labels.is_waiting (w.part e)) x.0 x.1 x.2 in
     let arrived = arrived_is ((w.part e).page_request (Labels.oldest_arrived (w.part e))) low.1 in
@@ -98,9 +98,6 @@ served_by w e i on fi ph false h =
     ∙ ap (λ b. file_result (part_wire w.config.first w.mappings (w.part e)) e b (page_request_wire (w.part e) r) ((w.part e).is_last r))
     (asker_there w e r i arrived)
     ∙ filed_by w e r i on fi ph arrived ((w.part e).is_last r)
-  where
-    arrived_is : (s : PageRequestState) → is_arrived s ≡ true → s ≡ Arrived
-    arrived_is s k = grind arith
 
 pub serve_says : (w : World) (e : ℕ) → Invariant w → OnTheWay (w.part e) → Filings (w.part e) → SaysAlike w (step.Serve e)
 serve_says w e i on fi =
@@ -157,6 +154,6 @@ take_says w x =
             refusal.NoJob,
           ) ∷ []));
       result = λ k.
-          let some = some_picked (job_wire w) w.jobs (Labels.is_queued_job w) (not_true (any_below w.jobs (Labels.is_queued_job w)) k.1.1.0) in
+          let some = some_picked (job_wire w) w.jobs (Labels.is_queued_job w) (not-false (any_below w.jobs (Labels.is_queued_job w)) k.1.1.0) in
           ap (take_result x) some.1 ∙ taken_by w x (lowest w.jobs (Labels.is_queued_job w)) some.0;
     }

@@ -1,6 +1,7 @@
 -- The steps of spaces and frames by labels: they refuse what the steps by names refuse, and answer and move what these do.
-use Rattle.std.proofs.Common.{◌≡◌, refl, ap, ap₂, sym, ◌∙◌, ℕ, ◌+◌, ◌-◌, ◌≤◌, ◌^◌, Bool, true, false, arith}
+use Rattle.std.proofs.Common.{◌≡◌, refl, ap, ap₂, sym, ◌∙◌, ℕ, ◌+◌, ◌≤◌, ◌^◌, Bool, true, false}
 use Rattle.std.specs.Prelude.{◌%◌, ◌&&◌, Option, Some, None, not, ◌==◌, nat_lt, nat_le, List, [], ◌∷◌}
+use Rattle.std.proofs.lemmas.Bool.{not-false}
 use Rattle.sva_step.specs.declared.answers.Answer.TheVariants as answer
 use Rattle.sva_step.specs.declared.refusals.Refusal.TheVariants as refusal
 use Rattle.sva_step.specs.declared.steps.Step.TheVariants as step
@@ -15,10 +16,9 @@ use Rattle.sva_model.specs.Labels
 use Rattle.sva_model.specs.Wire.{number, pages_wire, place_wire_by, withheld_wire, wire}
 use Rattle.sva_model.specs.Wire.PlaceWire.{FreeWire}
 use Rattle.sva_laws.specs.Waits.{HasFront}
-use Rattle.sva_laws.proofs.Words.{not_true}
 use Rattle.sva_laws.proofs.Counting.{count_same}
 use Rattle.sva_laws.proofs.Invariant.{Invariant}
-use Rattle.sva_laws.proofs.Passed.{is_less}
+use Rattle.sva_laws.proofs.Tests.{added_back, is_less}
 use Rattle.sva_wire.proofs.Lists.{tabulate_at, all_same}
 use Rattle.sva_wire.proofs.Places.{gone_seen, seen_by, seen_at, place_seen, places_length}
 use Rattle.sva_wire.proofs.Spaces.{space_is, spaces_length}
@@ -47,7 +47,7 @@ pub in_space :
 in_space w n cs ds h =
     alike_more (no_such_space (wire w) n) (not (Labels.is_space w n), refusal.NoSuchSpace) cs ds
     (ap (λ b. (not b, refusal.NoSuchSpace)) (space_there w n))
-    (λ e. h (sym (space_there w n) ∙ not_true _ e))
+    (λ e. h (sym (space_there w n) ∙ not-false _ e))
 
 map_alike : (w : World) (n q : ℕ) (x : Bool) → Invariant w → IsAlike (causes_of (wire w) (step.Map n q x)) (refusals w (step.Map n q x))
 map_alike w n q x i =
@@ -72,10 +72,7 @@ map_alike w n q x i =
 
 -- the number of a space that is there is that of its name
 pub space_number : (w : World) (n : ℕ) → Labels.is_space w n ≡ true → number w.config.first (Labels.name w n) ≡ n
-space_number w n e = there w.config.first n (space_is w n e).from
-  where
-    there : (first n : ℕ) → first ≤ n → first + (n - first) ≡ n
-    there first n l = omega arith
+space_number w n e = added_back w.config.first n (space_is w n e).from
 
 pub map_says : (w : World) (n q : ℕ) (x : Bool) → Invariant w → SaysAlike w (step.Map n q x)
 map_says w n q x i =
@@ -84,7 +81,7 @@ map_says w n q x i =
       result = λ k.
           ap (λ f. by_one (answer.Frame f) (Move.Map n q f x)) (lowest_there w)
           ∙ ap (λ m. by_one (answer.Frame (Labels.lowest_frame w)) (Move.Map m q (Labels.lowest_frame w) x))
-          (sym (space_number w n (not_true (Labels.is_space w n) k.0)));
+          (sym (space_number w n (not-false (Labels.is_space w n) k.0)));
     }
 
 look_seen : (w : World) (f : ℕ) → look_answer (place_wire_by w f (place w f)) ≡ look_said (place w f)
@@ -119,7 +116,7 @@ drop_says w n i =
       alike = in_space w n ((is_bound (wire w) n, refusal.StillBound) ∷ []) ((Labels.is_bound w (Labels.name w n), refusal.StillBound) ∷ [])
           (λ e. alike_same ((is_bound (wire w) n, refusal.StillBound) ∷ []) ((Labels.is_bound w (Labels.name w n), refusal.StillBound) ∷ [])
           (ap (λ b. (b, refusal.StillBound) ∷ []) (bound_there w n i (space_number w n e))));
-      result = λ k. ap (λ m. by_one answer.Gone (Move.DropSpace m)) (sym (space_number w n (not_true (Labels.is_space w n) k.0)));
+      result = λ k. ap (λ m. by_one answer.Gone (Move.DropSpace m)) (sym (space_number w n (not-false (Labels.is_space w n) k.0)));
     }
 
 unmap_alike : (w : World) (n q count : ℕ) → Invariant w → IsAlike (causes_of (wire w) (step.Unmap n q count)) (refusals w (step.Unmap n q count))
@@ -146,10 +143,10 @@ unmap_says w n q count i f most =
     record {
       alike = unmap_alike w n q count i;
       result = λ k.
-          let e : Labels.is_space w n ≡ true = not_true (Labels.is_space w n) k.0 in
+          let e : Labels.is_space w n ≡ true = not-false (Labels.is_space w n) k.0 in
           let num = space_number w n e in
           ap₂ (λ b fs. by_one (unmap_answer b fs) (Move.Unmap n q count 0)) (ap (waits (wire w)) (sym num) ∙ waits_there w (Labels.name w n) i f most)
-          (ap (λ pages. frames_of pages q count) (pages_there w n e) ∙ frames_there w (Labels.name w n) q count i.mapped (not_true _ k.1.1.1.0))
+          (ap (λ pages. frames_of pages q count) (pages_there w n e) ∙ frames_there w (Labels.name w n) q count i.mapped (not-false _ k.1.1.1.0))
           ∙ ap (λ m. by_one (unmap_answer (any_below w.config.endpoints (acts.waits w (Labels.name w n))) (frames_at w (Labels.name w n) q count))
           (Move.Unmap m q count 0)) (sym num);
     }
@@ -179,7 +176,7 @@ range_says w n q order i f most =
     record {
       alike = range_alike w n q order i;
       result = λ k.
-          let e : Labels.is_space w n ≡ true = not_true (Labels.is_space w n) k.0 in
+          let e : Labels.is_space w n ≡ true = not-false (Labels.is_space w n) k.0 in
           let num = space_number w n e in
           ap₂ (λ b c. by_one (unmap_range_answer b c) (Move.Unmap n q 1 order)) (ap (waits (wire w)) (sym num) ∙ waits_there w (Labels.name w n) i f most)
           (ap (λ pages. count_below (2 ^ order) (λ j. is_mapped pages (q + j))) (pages_there w n e)

@@ -4,6 +4,7 @@ use Rattle.std.proofs.Common.{◌≡◌, ◌⊎◌, inl, inr, refl, ap, ap₂, s
 use Rattle.std.specs.Prelude as prelude
 use Rattle.std.specs.Prelude.{Option, Some, None, option_map, ◌&&◌, ◌||◌, not, ◌==◌, nat_lt, is_none, List, [], ◌∷◌, map, length}
 use Rattle.std.proofs.lemmas.Bool.Decides.{nat_tests}
+use Rattle.std.proofs.lemmas.Bool.{not-false, not-true}
 use Rattle.sva_step.specs.declared.answers.Answer.TheVariants as answer
 use Rattle.sva_step.specs.declared.refusals.Refusal.TheVariants as refusal
 use Rattle.sva_step.specs.declared.steps.Step.TheVariants as step
@@ -21,12 +22,12 @@ use Rattle.sva_model.specs.Outcomes as outcomes
 use Rattle.sva_model.specs.Outcomes.{outcome, head_outcome, pump_outcome, send_outcome}
 use Rattle.sva_model.specs.Labels
 use Rattle.sva_model.specs.Wire.{Descriptor, number, cookie_number, descriptor, busy_wire, unit_wire, page_request_wire, page_queue_wire, part_wire, wire}
-use Rattle.sva_laws.proofs.Words.{put-same, put-other, not_true, lowest_cases, lowest_below, any_below-true, any_below-false, any_below-intro}
+use Rattle.sva_laws.proofs.Words.{put-same, put-other, lowest_cases, lowest_below, any_below-true, any_below-false, any_below-intro}
 use Rattle.sva_laws.proofs.Counting.{count_zero, count_off}
 use Rattle.sva_laws.proofs.Labels as labels
 use Rattle.sva_laws.proofs.Bounds.{Bounds}
 use Rattle.sva_laws.proofs.Invariant.{Invariant}
-use Rattle.sva_laws.proofs.Passed.{is_less, not_false}
+use Rattle.sva_laws.proofs.Tests.{is_less}
 use Rattle.sva_labels.specs.Finding.{unit_of, lowest_label, is_some_busy}
 use Rattle.sva_labels.specs.Moves.{Move}
 use Rattle.sva_labels.specs.Causes.{no_such_endpoint, resetting, lacks, is_invalidation, sends_invalidate}
@@ -88,14 +89,14 @@ count_is_none n p = go (any_below n p) refl
 queue_none : (first : ℕ) (p : Endpoint) → Labels.is_queue_empty p ≡ true → (unit_wire first p).queue ≡ []
 queue_none first p h =
     none_picked (λ k. descriptor first p (p.order k)) p.orders (λ k. is_queued (p.order_state k))
-    (not_false (any_below p.orders (λ k. is_queued (p.order_state k))) h)
+    (not-true (any_below p.orders (λ k. is_queued (p.order_state k))) h)
 
 queue_head :
     (first : ℕ) (p : Endpoint) → Labels.is_queue_empty p ≡ false
     → (rest : List Descriptor) × ((unit_wire first p).queue ≡ descriptor first p (p.order (Labels.head p)) ∷ rest)
 queue_head first p h =
     some_picked (λ k. descriptor first p (p.order k)) p.orders (λ k. is_queued (p.order_state k))
-    (not_true (any_below p.orders (λ k. is_queued (p.order_state k))) h)
+    (not-false (any_below p.orders (λ k. is_queued (p.order_state k))) h)
 
 head_kind : (first : ℕ) (p : Endpoint) (o : Order) (rest : List Descriptor) → is_invalidation (descriptor first p o ∷ rest) ≡ not (is_wait o)
 head_kind first p (RangeOf b r) rest = refl

@@ -3,24 +3,14 @@ use Rattle.std.proofs.Common.{◌≡◌, refl, ap, ap₂, sym, ◌∙◌, ℕ, z
 use Rattle.std.specs.Prelude.{◌&&◌, if◌then◌else◌, cond, List, [], ◌∷◌, ◌++◌, map, filter}
 use Rattle.std.proofs.lemmas.List.{map-append, append-nil, append_assoc}
 use Rattle.sva_model.specs.Words.{select, tabulate}
+use Rattle.sva_labels.proofs.Picked.{picked_same}
 pub use Rattle.sva_labels.proofs.Picked.{filter_append as filter-append}
 
 -- the numbers that pass, each seen; only those below n that pass matter
 pub select_seen :
     {B : Type 0} (n : ℕ) (p q : ℕ → Bool) (f g : ℕ → B) → ((k : ℕ) → k < n → p k ≡ q k) → ((k : ℕ) → k < n → q k ≡ true → f k ≡ g k)
     → map f (select n p) ≡ map g (select n q)
-unfolding select
-select_seen zero p q f g h k = refl
-select_seen (suc n) p q f g h k =
-    map-append f (select n p) (if p n then n ∷ [] else [])
-    ∙ ap₂ (λ xs ys. xs ++ ys) (select_seen n p q f g (λ j l. h j (omega arith)) (λ j l. k j (omega arith))) (last (p n) (q n) refl (h n (omega arith)))
-    ∙ sym (map-append g (select n q) (if q n then n ∷ [] else []))
-  where
-    last : (b c : Bool) → q n ≡ c → b ≡ c → map f (if b then n ∷ [] else []) ≡ map g (if c then n ∷ [] else [])
-    last true true t e = ap (λ y. y ∷ []) (k n (omega arith) t)
-    last false false t e = refl
-    last true false t e = absurd (cc)
-    last false true t e = absurd (cc)
+select_seen n p q f g h k = picked_same n f g p q h (λ j l t. k j l (sym (h j l) ∙ t))
 
 -- those of them that pass a test as they are seen
 pub select_filtered : {B : Type 0} (n : ℕ) (p : ℕ → Bool) (f : ℕ → B) (t : B → Bool) → filter t (map f (select n p)) ≡ map f (select n (λ k. p k && t (f k)))

@@ -1,9 +1,10 @@
 -- What frames wait for at a unit is settled by a wait that is done, which takes its own cookie away, and by a reset-done, which
 -- takes all away.
 use Rattle.std.proofs.Common.{◌≡◌, ◌≢◌, ◌⊎◌, inl, inr, refl, ap, sym, subst, ◌∙◌, ℕ, zero, suc, ◌+◌, ◌<◌, ◌≤◌, Bool, true, false, arith}
-use Rattle.std.specs.Prelude.{Some, None, Option, is_none, ◌&&◌, ◌||◌, ◌==◌, nat_lt, if◌then◌else◌, List, [], ◌∷◌, slice_set, slice_index_or}
+use Rattle.std.specs.Prelude.{Some, None, Option, is_none, ◌&&◌, ◌==◌, nat_lt, if◌then◌else◌, List, [], ◌∷◌, slice_set, slice_index_or}
 use Rattle.std.specs.List.{list_all}
 use Rattle.std.proofs.lemmas.Bool.Decides.{nat_tests}
+use Rattle.std.proofs.lemmas.Bool.{cases_lt, eq-eqb, lt-ltb, ne_eqb, or_left, or_right}
 use Rattle.sva_model.specs.Words.{put, all_below, tabulate}
 use Rattle.sva_model.specs.State.{Owed, Mappings, Endpoint, World, Order}
 use Rattle.sva_model.specs.State.Owed.{Nothing, Ranges, Pasid, NextReset}
@@ -27,7 +28,6 @@ use Rattle.sva_laws.proofs.Debts.{AllDebts, act_debts}
 use Rattle.sva_laws.proofs.Invariant.{Invariant}
 use Rattle.sva_laws.proofs.Keeps.{Legal}
 use Rattle.sva_wire.proofs.Lists.{tabulate_set, tabulate_at}
-use Rattle.sva_wire.proofs.Pages.{is_same, is_other}
 use Rattle.sva_wire.proofs.Places.{seen_by}
 use Rattle.sva_labels.specs.Moves.{place_for, settled, settled_at, settled_cookie}
 use Rattle.sva_labels.proofs.PlacesOut.{places_changed}
@@ -79,14 +79,11 @@ settled_seen w e o settle owed none l low h =
     after : ℕ → Option TargetWire
     after x = target_at w.config.first w.config.endpoints (put w.part e (act_alone (w.part e) w.messages o)) owed x
 
-    less : (a b : ℕ) → a < b → nat_lt a b ≡ true
-    less a b k = grind (arith, nat_tests)
-
     here : after e ≡ settle (before e)
     here =
-        (λ i. if less e w.config.endpoints l i then target_wire w.config.first (put-same w.part e (act_alone (w.part e) w.messages o) i) (owed e) else None)
+        (λ i. if lt-ltb e w.config.endpoints l i then target_wire w.config.first (put-same w.part e (act_alone (w.part e) w.messages o) i) (owed e) else None)
         ∙ h
-        ∙ sym (ap (λ b. settle (if b then target_wire w.config.first (w.part e) (owed e) else None)) (less e w.config.endpoints l))
+        ∙ sym (ap (λ b. settle (if b then target_wire w.config.first (w.part e) (owed e) else None)) (lt-ltb e w.config.endpoints l))
 
     others : (x : ℕ) → x ≢ e → after x ≡ before x
     others x ne =
@@ -105,9 +102,6 @@ settled_places w e o settle none l low h =
 
 -- A wait that is done.
 
-or_true : (a b : Bool) → a ≡ true → (a || b) ≡ true
-or_true a b h = grind arith
-
 -- the wait of another cookie
 other_cookie :
     (cookies first : ℕ) (p : Endpoint) (x k : ℕ) → Fronts cookies p → x < p.orders → k < p.orders → is_wait (p.order x) ≡ true
@@ -118,12 +112,9 @@ other_cookie cookies first p x k f mx mk wx wk ne = go (p.order x) (p.order k) r
     differ c d (inl l) a b e = let z = a l in absurd (omega (arith, z, e))
     differ c d (inr l) a b e = let z = b (omega (arith, l, ne)) in absurd (omega (arith, z, e))
 
-    order : (a b : ℕ) → (a < b) ⊎ (b ≤ a)
-    order a b = grind arith
-
     go : (a b : Order) → p.order x ≡ a → p.order k ≡ b → is_wait a ≡ true → is_wait b ≡ true → (cookie_number first a == cookie_number first b) ≡ false
     go (Wait c y) (Wait d z) h i t u =
-        is_other (first + c) (first + d) (differ c d (order x k) (λ l. f.rise x k c d y z l mk h i) (λ l. f.rise k x d c z y l mx i h))
+        ne_eqb (first + c) (first + d) (differ c d (cases_lt x k) (λ l. f.rise x k c d y z l mk h i) (λ l. f.rise k x d c z y l mx i h))
     go (Wait c y) (RangeOf b r) h i t u = absurd (cc (u))
     go (Wait c y) (PasidOf b) h i t u = absurd (cc (u))
     go (RangeOf b r) z h i t u = absurd (cc (t))
@@ -162,10 +153,10 @@ pass_target ms g n cookies first p k v l bo sent f before after = go (answered p
             ≡ settled_cookie (cookie_number first (p.order k)) (Some (Cookie (cookie_number first (p.order (range + count)))))
         which (inl e) z =
             ap (λ b. if b then None else Some (Cookie (cookie_number first (p.order (range + count)))))
-            (or_true (all_below (suc count) (λ j. is_done ((act_alone p n (LocalAct.Pass k)).order_state (range + j)))) (nat_lt resets p.resets)
+            (or_left (all_below (suc count) (λ j. is_done ((act_alone p n (LocalAct.Pass k)).order_state (range + j)))) (nat_lt resets p.resets)
             (done_answers (act_alone p n (LocalAct.Pass k)) range count resets a.1 z.0 (now_done (range + count) e)))
             ∙ sym (by_cookie (range + count) true
-            (is_same (cookie_number first (p.order (range + count))) (cookie_number first (p.order k)) (ap (λ y. cookie_number first (p.order y)) e)))
+            (eq-eqb (cookie_number first (p.order (range + count))) (cookie_number first (p.order k)) (ap (λ y. cookie_number first (p.order y)) e)))
         which (inr ne) z =
             ap (λ b. if b then None else Some (Cookie (cookie_number first (p.order (range + count)))))
             (ranges_wait (act_alone p n (LocalAct.Pass k)) range count resets z.0 (not_yet (range + count) ne z.1))
@@ -179,12 +170,12 @@ pass_target ms g n cookies first p k v l bo sent f before after = go (answered p
             ≡ settled_cookie (cookie_number first (p.order k)) (Some (Cookie (cookie_number first (p.order x))))
         which (inl e) z =
             ap (λ b. if b then None else Some (Cookie (cookie_number first (p.order x))))
-            (or_true (is_done ((act_alone p n (LocalAct.Pass k)).order_state j) && is_done ((act_alone p n (LocalAct.Pass k)).order_state x))
+            (or_left (is_done ((act_alone p n (LocalAct.Pass k)).order_state j) && is_done ((act_alone p n (LocalAct.Pass k)).order_state x))
             (nat_lt resets p.resets)
             (both_done ((act_alone p n (LocalAct.Pass k)).order_state j) ((act_alone p n (LocalAct.Pass k)).order_state x)
             (a.1.done z.0 (now_done x e) j (omega arith) a.1.low) (now_done x e)))
             ∙ sym (by_cookie x true
-            (is_same (cookie_number first (p.order x)) (cookie_number first (p.order k)) (ap (λ y. cookie_number first (p.order y)) e)))
+            (eq-eqb (cookie_number first (p.order x)) (cookie_number first (p.order k)) (ap (λ y. cookie_number first (p.order y)) e)))
         which (inr ne) z =
             ap (λ b. if b then None else Some (Cookie (cookie_number first (p.order x))))
             (pasid_waits (act_alone p n (LocalAct.Pass k)) j x resets false z.0 (not_yet x ne z.1))
@@ -214,16 +205,13 @@ places_passed w e k l i fronts debts low =
 later : (a b : ℕ) → a ≤ b → nat_lt a (suc b) ≡ true
 later a b l = grind (arith, nat_tests)
 
-right_true : (a b : Bool) → b ≡ true → (a || b) ≡ true
-right_true a b h = grind arith
-
 reopen_answers : (n : ℕ) (p : Endpoint) (c : ℕ) (v : Owed) → FitsDebt p v → answered (act_alone p n (LocalAct.Reopen c)) v ≡ true
 reopen_answers n p c Nothing d = refl
 reopen_answers n p c (Ranges range count resets) d =
-    right_true (all_below (suc count) (λ j. is_done ((act_alone p n (LocalAct.Reopen c)).order_state (range + j)))) (nat_lt resets (suc p.resets))
+    or_right (all_below (suc count) (λ j. is_done ((act_alone p n (LocalAct.Reopen c)).order_state (range + j)))) (nat_lt resets (suc p.resets))
     (later resets p.resets d.1.counted)
 reopen_answers n p c (Pasid k x resets in_reset) d =
-    right_true (is_done ((act_alone p n (LocalAct.Reopen c)).order_state k) && is_done ((act_alone p n (LocalAct.Reopen c)).order_state x))
+    or_right (is_done ((act_alone p n (LocalAct.Reopen c)).order_state k) && is_done ((act_alone p n (LocalAct.Reopen c)).order_state x))
     (nat_lt resets (suc p.resets))
     (later resets p.resets d.1.counted)
 reopen_answers n p c (NextReset resets) d = later resets p.resets d.0

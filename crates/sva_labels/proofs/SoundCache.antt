@@ -3,15 +3,14 @@ use Rattle.std.proofs.Common.{◌≡◌, refl, ap, sym, subst, ℕ, zero, suc, �
 use Rattle.std.specs.Prelude.{Some, ◌&&◌, ◌||◌, ◌==◌, nat_lt, if◌then◌else◌, List, [], ◌∷◌, ◌++◌, map, slice_get}
 use Rattle.std.proofs.lemmas.Bool.Decides.{nat_tests}
 use Rattle.std.proofs.lemmas.Option.{same_Some}
+use Rattle.std.proofs.lemmas.List.{append-nil}
 use mathlib.Core.List.{map-append}
 use Rattle.sva_model.specs.Words.{select, is_some, the}
-use Rattle.sva_model.specs.State.{Mappings, Endpoint, Stage}
-use Rattle.sva_model.specs.States.{is_unreleased}
+use Rattle.sva_model.specs.State.{Mappings, Endpoint}
 use Rattle.sva_model.specs.Wire.{TranslationWire, insert_by, sorted_by, is_before, cached_wire, cache_wire}
 use Rattle.sva_laws.proofs.Words.{some_the}
-use Rattle.sva_laws.proofs.Orders.{is_active}
+use Rattle.sva_laws.proofs.Orders.{active_unreleased}
 use Rattle.sva_laws.proofs.Invariant.{PartInvariant}
-use Rattle.sva_laws.proofs.Unmap.{active_unreleased}
 
 abbrev AllOf : {A : Type 0} → (A → Type 0) → List A → Type 0
 AllOf P [] = Unit {0}
@@ -26,10 +25,6 @@ all_get P [] k y h g = absurd (cc (g))
 all_get P (x ∷ xs) zero y h g = subst P (same_Some x y g) h.0
 all_get P (x ∷ xs) (suc k) y h g = all_get P xs k y h.1 g
 
-append_none : {A : Type 0} (xs : List A) → xs ++ [] ≡ xs
-append_none [] = refl
-append_none (x ∷ xs) = ap (λ ys. x ∷ ys) (append_none xs)
-
 all_select : {A : Type 0} (P : A → Type 0) (n : ℕ) (q : ℕ → Bool) (f : ℕ → A) → ((k : ℕ) → k < n → q k ≡ true → P (f k)) → AllOf P (map f (select n q))
 unfolding select
 all_select P zero q f h = tt
@@ -37,7 +32,7 @@ all_select P (suc n) q f h = go (q n) refl (all_select P n q f (λ k l t. h k (o
   where
     go : (b : Bool) → q n ≡ b → AllOf P (map f (select n q)) → AllOf P (map f (select n q ++ (if b then n ∷ [] else [])))
     go true t rest = subst (AllOf P) (sym (map-append f (select n q) (n ∷ []))) (all_push P (map f (select n q)) (f n) rest (h n (omega arith) t))
-    go false t rest = subst (λ xs. AllOf P (map f xs)) (sym (append_none (select n q))) rest
+    go false t rest = subst (λ xs. AllOf P (map f xs)) (sym (append-nil (select n q))) rest
 
 -- Translations in their order.
 
@@ -115,7 +110,7 @@ pairs_select (suc n) q f h = go (q n) refl (pairs_select n q f (λ j k l m s t. 
     go true t rest =
         subst PairsApart (sym (map-append f (select n q) (n ∷ [])))
         (pairs_push (map f (select n q)) (f n) rest (all_select (λ x. AreApart x (f n)) n q f (λ k l s. h k n l (omega arith) s t)))
-    go false t rest = subst (λ xs. PairsApart (map f xs)) (sym (append_none (select n q))) rest
+    go false t rest = subst (λ xs. PairsApart (map f xs)) (sym (append-nil (select n q))) rest
 
 -- What is cached.
 

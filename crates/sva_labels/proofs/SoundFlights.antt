@@ -1,21 +1,21 @@
 -- What is in flight finds what its receiver needs; and so does a page request that is to be filed.
-use Rattle.std.proofs.Common.{◌≡◌, ◌⊎◌, inl, inr, refl, ap, sym, subst, ◌∙◌, ℕ, ◌<◌, ◌≤◌, true, false, arith}
+use Rattle.std.proofs.Common.{◌≡◌, ◌⊎◌, inl, inr, refl, ap, sym, subst, ◌∙◌, ℕ, ◌<◌, ◌≤◌, true, false}
 use Rattle.std.specs.Prelude.{Option, Some, None, option_map, length, slice_get}
 use Rattle.std.specs.Prelude.{is_some}
 use Rattle.std.specs.List.{find}
 use Rattle.sva_model.specs.Words as words
-use Rattle.sva_model.specs.State.{Endpoint, World, Stage, Phase, Subject, GroupState, PageRequestState}
+use Rattle.sva_model.specs.State.{World, Phase, Subject}
 use Rattle.sva_model.specs.State.Phase.{Open, ResetSent, Cleared}
 use Rattle.sva_model.specs.State.PageRequestState.{Arrived}
 use Rattle.sva_model.specs.State.Subject.{StartOf, StopOf, FunctionReset, CompletionOf, InvalidateOf, ResponseOf, RequestOf, InvalidatedOf, PageRequestOf}
 use Rattle.sva_model.specs.State.Subject.{MarkerOf, ResetDone}
-use Rattle.sva_model.specs.States.{is_open, is_unreleased, is_before_invalidating, is_arrived, is_outstanding}
+use Rattle.sva_model.specs.States.{is_open, is_unreleased}
 use Rattle.sva_model.specs.Acts.{binding_of}
 use Rattle.sva_model.specs.Labels.{outstanding, is_waiting}
 use Rattle.sva_model.specs.Wire.{BindingWire, FlightWire, PageRequestWire, number, flight_wire, binding_wire, page_request_wire, stage_wire}
 use Rattle.sva_model.specs.Wire.{host_groups_wire, wire}
-use Rattle.sva_laws.specs.Laws.{IsCarried, is_answerable}
-use Rattle.sva_laws.proofs.Bindings.{is_unmarked}
+use Rattle.sva_laws.specs.Laws.{IsCarried}
+use Rattle.sva_laws.proofs.Bindings.{before_unreleased, unmarked_unreleased}
 use Rattle.sva_laws.proofs.Found.{found}
 use Rattle.sva_laws.proofs.Invariant.{Invariant}
 use Rattle.sva_laws.proofs.OnTheWay.{OnTheWay}
@@ -28,12 +28,11 @@ use Rattle.sva_labels.proofs.HostGroupsFiled.{Filings}
 use Rattle.sva_labels.proofs.LookedBindings.{bearer_is}
 use Rattle.sva_labels.proofs.LookedFilings.{asks_there}
 use Rattle.sva_labels.proofs.SoundLists.{IsSeen, seen_get}
-use Rattle.sva_labels.proofs.SoundRequests.{FiledOnce, arrival_short, filing_short}
-use Rattle.sva_labels.proofs.PageQueue.{arrived_is}
+use Rattle.sva_laws.proofs.Filed.{FiledOnce}
+use Rattle.sva_labels.proofs.SoundRequests.{arrival_short, filing_short}
 use Rattle.sva_laws.proofs.Groups.{answerable_outstanding as answerable_out}
-use Rattle.sva_laws.proofs.Found.{unmarked_unreleased}
-use Rattle.sva_labels.proofs.SaysServe.{unreleased_of as before_unreleased}
-use Rattle.sva_laws.proofs.Unmap.{open_is as opened_is}
+use Rattle.sva_laws.proofs.Resets.{open_is as opened_is}
+use Rattle.sva_laws.proofs.PageRequests.{arrived_is}
 
 -- an unreleased binding is found by its PASID
 pub bearer_found :

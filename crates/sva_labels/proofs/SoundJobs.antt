@@ -2,15 +2,16 @@
 use Rattle.std.proofs.Common.{◌≡◌, ◌≢◌, ◌⊎◌, inl, inr, refl, ap, sym, subst, ◌∙◌, ℕ, ◌+◌, ◌<◌, ◌≤◌, Bool, true, false, arith}
 use Rattle.std.specs.Prelude.{Option, Some, None, option_map, ◌&&◌, ◌||◌, ◌==◌, List, [], ◌∷◌, length, slice_get}
 use Rattle.std.specs.List.{list_any}
+use Rattle.std.proofs.lemmas.Bool.{cases_lt, eq-eqb, eqb-true, false_from_ne_true}
 use Rattle.sva_step.specs.declared.steps.Verdict.TheVariants as verdict
 use Rattle.sva_model.specs.Words as words
 use Rattle.sva_model.specs.Words.{count_below}
-use Rattle.sva_model.specs.State.{Endpoint, World, Stage, Phase, HostGroupState, PageRequestState, Mappings}
+use Rattle.sva_model.specs.State.{Endpoint, World, Stage, Phase, HostGroupState, Mappings}
 use Rattle.sva_model.specs.State.Stage.{Unbound}
 use Rattle.sva_model.specs.State.PageRequestState.{Arrived}
 use Rattle.sva_model.specs.State.HostGroupState.{Job, InHand, InHandDiscarded}
 use Rattle.sva_model.specs.State.Phase.{Open}
-use Rattle.sva_model.specs.States.{is_open, is_unreleased, is_before_invalidating, is_arrived, is_open_group, is_job}
+use Rattle.sva_model.specs.States.{is_open, is_unreleased, is_before_invalidating, is_open_group, is_job}
 use Rattle.sva_model.specs.Labels
 use Rattle.sva_model.specs.Replies.{response, job_binding}
 use Rattle.sva_model.specs.Wire.{BindingWire, JobWire, HostGroupWire, PageRequestWire, number, binding_wire, asks_wire, ask_wire, group_job, job_wire}
@@ -19,12 +20,10 @@ use Rattle.sva_laws.proofs.Counting.{count_placed, pigeons}
 use Rattle.sva_laws.proofs.LegalUnit.{group_there}
 use Rattle.sva_laws.proofs.Orders.{is_active}
 use Rattle.sva_laws.proofs.Bounds.{Bounds}
-use Rattle.sva_laws.proofs.Groups.{is_filed_group, whole_filed}
-use Rattle.sva_laws.proofs.PageRequests.{is_whole}
-use Rattle.sva_laws.proofs.Passed.{and_left, and_right}
+use Rattle.sva_laws.proofs.Groups.{is_filed_group, whole_filed, open_filed}
+use Rattle.sva_laws.proofs.PageRequests.{is_whole, arrived_is}
 use Rattle.sva_laws.proofs.Invariant.{PartInvariant, Invariant, IsHeldBy}
 use Rattle.sva_wire.proofs.Lists.{none_below}
-use Rattle.sva_wire.proofs.Pages.{same_is, is_same}
 use Rattle.sva_labels.specs.Finding.{idle, part_of, binding_of, bearer, held_by, has_open_group}
 use Rattle.sva_labels.specs.Moves.{is_of_job}
 use Rattle.sva_labels.specs.Replying.{responds}
@@ -32,7 +31,7 @@ use Rattle.sva_labels.specs.Sound.{is_job_of, HasNoJob, IsJob}
 use Rattle.sva_labels.proofs.EndpointViews.{endpoints_seen, part_seen}
 use Rattle.sva_labels.proofs.HostGroupsAct.{filed_group, asks_seen}
 use Rattle.sva_labels.proofs.HostGroupsFiled.{Filings, filed_made}
-use Rattle.sva_labels.proofs.LookedBindings.{binding_named, binding_released, not_both}
+use Rattle.sva_labels.proofs.LookedBindings.{binding_named, binding_released}
 use Rattle.sva_labels.proofs.LookedFilings.{one_group}
 use Rattle.sva_labels.proofs.LookedGroups.{open_there}
 use Rattle.sva_labels.proofs.LookedLists.{length_seen}
@@ -42,18 +41,14 @@ use Rattle.sva_labels.proofs.SaysServe.{held_there}
 use Rattle.sva_labels.proofs.SoundFlights.{IsWaitingAt, waiting_at, bearer_found}
 use Rattle.sva_labels.proofs.SoundLists.{seen_get}
 use Rattle.sva_labels.proofs.SoundPasids.{IsKeptAt}
-use Rattle.sva_labels.proofs.SoundRequests.{FiledOnce}
+use Rattle.sva_laws.proofs.Filed.{FiledOnce}
 use Rattle.sva_labels.proofs.SoundSizes.{Sized}
-use Rattle.sva_labels.proofs.PageQueue.{arrived_is}
-use Rattle.sva_labels.proofs.SaysServe.{unreleased_of as before_unreleased}
-use Rattle.sva_labels.proofs.LookedGroups.{open_filed}
 use Rattle.sva_laws.proofs.Groups.{filed_made as group_made}
+use Rattle.sva_laws.proofs.Bindings.{before_unreleased}
+use Rattle.sva_laws.proofs.Tests.{first_holds, second_holds}
 
 one_of : {A : Type 0} (a c : A) → Some a ≡ Some c → a ≡ c
 one_of a c h = cc
-
-less_or_not : (a b : ℕ) → (a < b) ⊎ (b ≤ a)
-less_or_not a b = grind arith
 
 -- The group of a job that is queued, or in the hand of a worker.
 
@@ -80,7 +75,7 @@ some_asked : (p : Endpoint) (g : ℕ) → Filings p → is_filed_group (p.host_g
 some_asked p g fi h =
     let f = fi.begun g h in
     let one =
-    pigeons 1 p.filings (λ k. filed_group p k == g) (λ j. f.0) (λ j l. f.1) (λ j l. is_same (filed_group p f.0) g f.2)
+    pigeons 1 p.filings (λ k. filed_group p k == g) (λ j. f.0) (λ j l. f.1) (λ j l. eq-eqb (filed_group p f.0) g f.2)
     (λ j k l m e. omega (arith, l, m)) in
     let many = asks_count p g in
     omega (arith, one, many)
@@ -143,7 +138,7 @@ record IsInHand (w : World) (x : ℕ) (job : JobWire) : Type 0 where
   seen : job ≡ job_wire w of
 
 in_hand : (w : World) (x : ℕ) (job : JobWire) → held_by (wire w) x ≡ Some job → IsInHand w x job
-in_hand w x job h = go (less_or_not x w.config.workers)
+in_hand w x job h = go (cases_lt x w.config.workers)
   where
     by : (o : Option ℕ) → w.hand x ≡ o → option_map (job_wire w) o ≡ Some job → IsInHand w x job
     by None e s = absurd (cc (s))
@@ -170,9 +165,9 @@ none_such :
     (p : Endpoint) (d : ℕ) → ((g : ℕ) → is_open_group (p.host_group g) ≡ true → p.filed_under g ≡ d → ⊥) → Labels.has_open_group p d ≡ false
 none_such p d h =
     none_below p.groups (λ g. is_open_group (p.host_group g) && p.filed_under g == d)
-    (λ g l. not_both (is_open_group (p.host_group g) && p.filed_under g == d)
-    (λ t. h g (and_left (is_open_group (p.host_group g)) (p.filed_under g == d) t)
-    (same_is (p.filed_under g) d (and_right (is_open_group (p.host_group g)) (p.filed_under g == d) t))))
+    (λ g l. false_from_ne_true (is_open_group (p.host_group g) && p.filed_under g == d)
+    (λ t. h g (first_holds (is_open_group (p.host_group g)) (p.filed_under g == d) t)
+    (eqb-true (p.filed_under g) d (second_holds (is_open_group (p.host_group g)) (p.filed_under g == d) t))))
 
 opened_is : (p : Phase) → is_open p ≡ true → p ≡ Open
 opened_is p h = grind arith
@@ -211,10 +206,10 @@ none_seen w e d i fi l h =
 pub open_at_home :
     (w : World) → Invariant w → ((e : ℕ) → Filings (w.part e)) → (k e : ℕ) (b : BindingWire) → IsKeptAt w k b → (e == b.endpoint) ≡ false
     → has_open_group (part_of (wire w) e) b.binding ≡ false
-open_at_home w i fi k e b x ne = go (less_or_not e w.config.endpoints)
+open_at_home w i fi k e b x ne = go (cases_lt e w.config.endpoints)
   where
     away : w.endpoint_of x.of ≢ e
-    away h = absurd (cc (sym ne ∙ is_same e b.endpoint (sym (ap (λ z. z.endpoint) x.seen ∙ h))))
+    away h = absurd (cc (sym ne ∙ eq-eqb e b.endpoint (sym (ap (λ z. z.endpoint) x.seen ∙ h))))
 
     go : (e < w.config.endpoints) ⊎ (w.config.endpoints ≤ e) → has_open_group (part_of (wire w) e) b.binding ≡ false
     go (inl l) =
@@ -300,10 +295,10 @@ first_off first a b h = omega (arith, h)
 -- what a job of these labels has
 its_labels : (e n i : ℕ) (job : JobWire) → is_job_of e n i job ≡ true → (job.endpoint ≡ e) × (job.binding ≡ n) × (job.index ≡ i)
 its_labels e n i job t =
-    let both = and_left (job.endpoint == e && job.binding == n) (job.index == i) t in (
-      same_is job.endpoint e (and_left (job.endpoint == e) (job.binding == n) both),
-      same_is job.binding n (and_right (job.endpoint == e) (job.binding == n) both),
-      same_is job.index i (and_right (job.endpoint == e && job.binding == n) (job.index == i) t),
+    let both = first_holds (job.endpoint == e && job.binding == n) (job.index == i) t in (
+      eqb-true job.endpoint e (first_holds (job.endpoint == e) (job.binding == n) both),
+      eqb-true job.binding n (second_holds (job.endpoint == e) (job.binding == n) both),
+      eqb-true job.index i (second_holds (job.endpoint == e && job.binding == n) (job.index == i) t),
     )
 
 pub none_of_waiting :
@@ -317,14 +312,14 @@ none_of_waiting w i e k r b l h f =
       queued =
           any_seen w.jobs (Labels.is_queued_job w) (job_wire w) (is_job_of e b.binding r.index)
           ∙ none_below w.jobs (λ j. Labels.is_queued_job w j && is_job_of e b.binding r.index (job_wire w j))
-          (λ j m. not_both (Labels.is_queued_job w j && is_job_of e b.binding r.index (job_wire w j))
+          (λ j m. false_from_ne_true (Labels.is_queued_job w j && is_job_of e b.binding r.index (job_wire w j))
           (λ t. clash j
-          (job_kept (state j) (and_left (Labels.is_queued_job w j) (is_job_of e b.binding r.index (job_wire w j)) t))
-          (and_right (Labels.is_queued_job w j) (is_job_of e b.binding r.index (job_wire w j)) t)));
+          (job_kept (state j) (first_holds (Labels.is_queued_job w j) (is_job_of e b.binding r.index (job_wire w j)) t))
+          (second_holds (Labels.is_queued_job w j) (is_job_of e b.binding r.index (job_wire w j)) t)));
       held =
           λ v job m.
           let z = in_hand w v job m in
-          not_both (is_job_of e b.binding r.index job)
+          false_from_ne_true (is_job_of e b.binding r.index job)
           (λ t. clash z.of (held_kept (state z.of) v (i.hands.held v z.of z.held)) (ap (is_job_of e b.binding r.index) (sym z.seen) ∙ t));
     }
   where

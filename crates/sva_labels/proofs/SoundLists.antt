@@ -2,6 +2,7 @@
 use Rattle.std.proofs.Common.{◌≡◌, ◌≢◌, ◌⊎◌, inl, inr, refl, ap, sym, subst, ◌∙◌, ℕ, zero, suc, ◌<◌, Bool, true, false, arith}
 use Rattle.std.specs.Prelude.{Option, Some, None, option_map, if◌then◌else◌, List, [], ◌∷◌, ◌++◌, map, length, slice_get}
 use Rattle.std.proofs.lemmas.Option.{slice_get-map, slice_get_within}
+use Rattle.std.proofs.lemmas.List.{append-nil}
 use Rattle.sva_model.specs.Words.{select, tabulate}
 use Rattle.sva_laws.proofs.Words.{ℕ_cases}
 use Rattle.sva_wire.proofs.Lists.{tabulate_length}
@@ -25,10 +26,6 @@ old_get (y ∷ xs) a x (suc k) h = old_get xs a x k h
 end_get : {A : Type 0} (xs : List A) (a : A) → slice_get (xs ++ a ∷ []) (length xs) ≡ Some a
 end_get [] a = refl
 end_get (y ∷ xs) a = end_get xs a
-
-append_none : {A : Type 0} (xs : List A) → xs ++ [] ≡ xs
-append_none [] = refl
-append_none (x ∷ xs) = ap (λ ys. x ∷ ys) (append_none xs)
 
 -- a table
 pub table_get : {A : Type 0} (n : ℕ) (f : ℕ → A) (k : ℕ) (x : A) → slice_get (tabulate n f) k ≡ Some x → (k < n) × (x ≡ f k)
@@ -63,7 +60,7 @@ select_get (suc n) p k x h = go (λ e. let r = select_get n p k x e in (omega (a
         → slice_get (select n p ++ (if b then n ∷ [] else [])) k ≡ Some x
         → (x < suc n) × (p x ≡ true)
     go old true t e = new old t (push_get (select n p) n x k e)
-    go old false t e = old (subst (λ xs. slice_get xs k ≡ Some x) (append_none (select n p)) e)
+    go old false t e = old (subst (λ xs. slice_get xs k ≡ Some x) (append-nil (select n p)) e)
 
 select_rises : (n : ℕ) (p : ℕ → Bool) (j k x y : ℕ) → j < k → slice_get (select n p) j ≡ Some x → slice_get (select n p) k ≡ Some y → x < y
 unfolding select
@@ -87,8 +84,8 @@ select_rises (suc n) p j k x y l h i = go (λ a b. select_rises n p j k x y l a 
     go rest true a b = both rest (push_get (select n p) n x j a) (push_get (select n p) n y k b)
     go rest false a b =
         rest
-        (subst (λ xs. slice_get xs j ≡ Some x) (append_none (select n p)) a)
-        (subst (λ xs. slice_get xs k ≡ Some y) (append_none (select n p)) b)
+        (subst (λ xs. slice_get xs j ≡ Some x) (append-nil (select n p)) a)
+        (subst (λ xs. slice_get xs k ≡ Some y) (append-nil (select n p)) b)
 
 -- each that passes is there
 select_there : (n : ℕ) (p : ℕ → Bool) (x : ℕ) → x < n → p x ≡ true → (k : ℕ) × (slice_get (select n p) k ≡ Some x)
@@ -98,7 +95,7 @@ select_there (suc n) p x l t = go (λ m. select_there n p x m t) (p n) refl (ℕ
   where
     more : (b : Bool) (k : ℕ) → slice_get (select n p) k ≡ Some x → slice_get (select n p ++ (if b then n ∷ [] else [])) k ≡ Some x
     more true k e = old_get (select n p) n x k e
-    more false k e = subst (λ xs. slice_get xs k ≡ Some x) (sym (append_none (select n p))) e
+    more false k e = subst (λ xs. slice_get xs k ≡ Some x) (sym (append-nil (select n p))) e
 
     go :
         (x < n → (k : ℕ) × (slice_get (select n p) k ≡ Some x)) → (b : Bool) → p n ≡ b → (x ≡ n) ⊎ (x ≢ n)

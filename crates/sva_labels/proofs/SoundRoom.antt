@@ -7,13 +7,13 @@ use Rattle.std.specs.Set.{distinct_count, is_member, remove_key, unique_keys}
 use Rattle.std.proofs.lemmas.Map.Made.{length-remove_key}
 use Rattle.std.proofs.lemmas.Option.{get_or_from_slice_get}
 use Rattle.std.proofs.lemmas.Bool.Decides.{nat_tests}
+use Rattle.std.proofs.lemmas.Bool.{and_from, eqb-true, ltb-true, or_right}
+use Rattle.sva_laws.proofs.Tests.{first_holds, is_itself}
 use Rattle.sva_model.specs.Wire.{Wire, BindingWire, StageWire, PlaceWire, TargetWire, Descriptor, UnitWire}
 use Rattle.sva_model.specs.Wire.TargetWire.{Cookie, ResetEnd}
 use Rattle.sva_model.specs.Wire.StageWire.{LiveWire, StoppingWire, DrainingWire, InvalidatingWire, QuietWire, LostWire}
 use Rattle.sva_model.specs.Wire.Descriptor.{RangeDescriptor, PasidDescriptor, WaitDescriptor}
-use Rattle.sva_laws.proofs.Passed.{and_left}
 use Rattle.sva_wire.proofs.Lists.{tabulate_at}
-use Rattle.sva_wire.proofs.Pages.{and_both, same_is}
 use Rattle.sva_labels.specs.Finding.{unit_of, bound_at, is_wait_done, has_room, submits, submits_by, is_before_invalidating}
 use Rattle.sva_labels.specs.Moves.{targets_of, target_by, target_by_stage, cookie_at}
 use Rattle.sva_labels.specs.Sound.{IsSound, HasWait, target_there, cookies_in, awaited_at}
@@ -38,14 +38,7 @@ still_there x q (y ∷ ys) ne h = go (x == y) refl (q == y) refl h (still_there 
     go false s false t k rest = ap (λ c. c || is_member (◌==◌) (remove_key (λ z. x == z) ys) q) t ∙ rest k
 
 itself : (x : ℕ) (xs : List ℕ) → is_member (◌==◌) (x ∷ xs) x ≡ true
-itself x xs = ap (λ c. c || is_member (◌==◌) xs x) (same x)
-  where
-    same : (x : ℕ) → (x == x) ≡ true
-    same x = grind (arith, nat_tests)
-
-or_right : (a b : Bool) → b ≡ true → (a || b) ≡ true
-or_right true b h = refl
-or_right false b h = h
+itself x xs = ap (λ c. c || is_member (◌==◌) xs x) (is_itself x)
 
 pub distinct_within : (xs ys : List ℕ) → ((q : ℕ) → is_member (◌==◌) xs q ≡ true → is_member (◌==◌) ys q ≡ true) → distinct_count (◌==◌) xs ≤ length ys
 distinct_within [] ys h = omega arith
@@ -109,7 +102,7 @@ awaited_by e (x ∷ places) c h = go (target_there e x) refl h (awaited_by e pla
         (d : ℕ) → target_there e x ≡ Some (Cookie d) → (b : Bool) → (c == d) ≡ b → (b || is_member (◌==◌) (awaited_at e places) c) ≡ true
         → (is_member (◌==◌) (awaited_at e places) c ≡ true → IsAwaitedBy e places c)
         → IsAwaitedBy e (x ∷ places) c
-    here d t true s k rest = record { frame = 0; place = x; stands = refl; awaits = t ∙ ap (λ z. Some (Cookie z)) (sym (same_is c d s)) }
+    here d t true s k rest = record { frame = 0; place = x; stands = refl; awaits = t ∙ ap (λ z. Some (Cookie z)) (sym (eqb-true c d s)) }
     here d t false s k rest = later (rest k)
 
     go :
@@ -149,7 +142,7 @@ found_at e n (x ∷ bindings) b h = go (x.endpoint == e && x.space == n) refl h 
       place = 0;
       stands = k;
       endpoint =
-          ap (λ o. the_endpoint o) (sym k) ∙ same_is x.endpoint e (and_left (x.endpoint == e) (x.space == n) t);
+          ap (λ o. the_endpoint o) (sym k) ∙ eqb-true x.endpoint e (first_holds (x.endpoint == e) (x.space == n) t);
     }
       where
         the_endpoint : Option BindingWire → ℕ
@@ -190,13 +183,13 @@ few_by_wait w s e c l op h n =
     either :
         (q : ℕ) (b : Bool) → (q == c) ≡ b → (b || is_member (◌==◌) (awaited_at e w.places) q) ≡ true
         → is_member (◌==◌) (waits_in (unit_of w e).queue) q ≡ true
-    either q true t m = ap (is_member (◌==◌) (waits_in (unit_of w e).queue)) (same_is q c t) ∙ wait_in (unit_of w e).queue h.place c h.drain h.stands
+    either q true t m = ap (is_member (◌==◌) (waits_in (unit_of w e).queue)) (eqb-true q c t) ∙ wait_in (unit_of w e).queue h.place c h.drain h.stands
     either q false t m = queued_all w s e l op q m
 
 submits_so :
     (w : Wire) (e n : ℕ) (b : BindingWire) → bound_at w e n ≡ Some b → is_before_invalidating b.stage ≡ true → (unit_of w e).is_open ≡ true
     → submits w n e ≡ true
-submits_so w e n b f st op = ap (submits_by (unit_of w e)) f ∙ and_both (unit_of w e).is_open (is_before_invalidating b.stage) op st
+submits_so w e n b f st op = ap (submits_by (unit_of w e)) f ∙ and_from (unit_of w e).is_open (is_before_invalidating b.stage) op st
 
 pub room_for_waits :
     (w : Wire) → IsSound w
@@ -213,9 +206,6 @@ room_for_waits w s n room e c h new = by_table (low_or_not e)
 
     low_or_not : (e : ℕ) → (e < 8) ⊎ (8 ≤ e)
     low_or_not e = grind arith
-
-    less : (a b : ℕ) → nat_lt a b ≡ true → a < b
-    less a b t = grind (arith, nat_tests)
 
     by_submission :
         (b : BindingWire) → e < length w.parts → submits w n e ≡ true → (unit_of w e).is_open ≡ true
@@ -267,7 +257,7 @@ room_for_waits w s n room e c h new = by_table (low_or_not e)
         → (if z then target_by (unit_of w e) (cookie_at w n e) (bound_at w e n) else None) ≡ Some (Cookie c)
         → distinct_count (◌==◌) (awaited_at e w.places) < 64
     by_part false t k = absurd (cc (k))
-    by_part true t k = by_binding (less e (length w.parts) t) (bound_at w e n) refl k
+    by_part true t k = by_binding (ltb-true e (length w.parts) t) (bound_at w e n) refl k
 
     by_table : (e < 8) ⊎ (8 ≤ e) → distinct_count (◌==◌) (awaited_at e w.places) < 64
     by_table (inl l) = by_part (nat_lt e (length w.parts)) refl (sym (tabulate_at 8 target e None l) ∙ h)

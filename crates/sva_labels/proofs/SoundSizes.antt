@@ -2,6 +2,7 @@
 use Rattle.std.proofs.Common.{◌≡◌, refl, ap, sym, ◌∙◌, ℕ, suc, ◌<◌, ◌≤◌, Bool, true, false, arith}
 use Rattle.std.specs.Prelude.{Option, Some, None, ◌==◌, if◌then◌else◌, List}
 use Rattle.std.proofs.lemmas.Bool.Decides.{nat_tests}
+use Rattle.std.proofs.lemmas.Bool.{eqb-true, ne_eqb}
 use Rattle.sva_step.specs.declared.limits.Config.{Config}
 use Rattle.sva_step.specs.declared.steps.Step.{Step}
 use Rattle.sva_model.specs.Words.{put, count_below}
@@ -17,7 +18,6 @@ use Rattle.sva_laws.proofs.Legal.{LegalLocalAct}
 use Rattle.sva_laws.proofs.Bounds.{Bounds}
 use Rattle.sva_laws.proofs.Invariant.{Invariant}
 use Rattle.sva_laws.proofs.Keeps.{Legal, put_keeps}
-use Rattle.sva_wire.proofs.Pages.{same_is, is_other}
 use Rattle.sva_labels.proofs.Granted.{IsGranted, always_has}
 
 pub record Sized (p : Endpoint) : Type 0 where
@@ -42,10 +42,10 @@ begun_few p y made h =
     one_more p.page_requests (λ r. p.group_of r == y) (λ r. put p.group_of p.page_requests p.groups r == y)
     (λ k l. ap (λ z. z == y) (put-other p.group_of p.page_requests p.groups k (λ e. absurd (omega (arith, l, e)))))
     (λ t.
-    let new : p.groups ≡ y = sym (put-same p.group_of p.page_requests p.groups) ∙ same_is (put p.group_of p.page_requests p.groups p.page_requests) y t in
+    let new : p.groups ≡ y = sym (put-same p.group_of p.page_requests p.groups) ∙ eqb-true (put p.group_of p.page_requests p.groups p.page_requests) y t in
     let none =
     count_zero p.page_requests (λ r. p.group_of r == y)
-    (λ r l. let m = made r l in is_other (p.group_of r) y (λ e. absurd (omega (arith, m, e, new)))) in
+    (λ r l. let m = made r l in ne_eqb (p.group_of r) y (λ e. absurd (omega (arith, m, e, new)))) in
     omega (arith, none))
     h
 
@@ -57,9 +57,9 @@ added_few p z y out most h =
     one_more p.page_requests (λ r. p.group_of r == y) (λ r. put p.group_of p.page_requests z r == y)
     (λ k l. ap (λ x. x == y) (put-other p.group_of p.page_requests z k (λ e. absurd (omega (arith, l, e)))))
     (λ t.
-    let its : z ≡ y = sym (put-same p.group_of p.page_requests z) ∙ same_is (put p.group_of p.page_requests z p.page_requests) y t in
+    let its : z ≡ y = sym (put-same p.group_of p.page_requests z) ∙ eqb-true (put p.group_of p.page_requests z p.page_requests) y t in
     let less = count_less p.page_requests (λ r. p.group_of r == y) (λ r. is_outstanding (p.group (p.group_of r)))
-    (λ r l s. ap (λ x. is_outstanding (p.group x)) (same_is (p.group_of r) y s ∙ sym its) ∙ out) in
+    (λ r l s. ap (λ x. is_outstanding (p.group x)) (eqb-true (p.group_of r) y s ∙ sym its) ∙ out) in
     omega (arith, less, most))
     h
 

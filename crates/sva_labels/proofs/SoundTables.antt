@@ -1,5 +1,5 @@
 -- The translations that an endpoint caches are no more than 64 in what is kept of it.
-use Rattle.std.proofs.Common.{◌≡◌, refl, ap, sym, subst, ◌∙◌, ℕ, suc, ◌≤◌, Bool, true, false}
+use Rattle.std.proofs.Common.{◌≡◌, refl, ap, sym, subst, ◌∙◌, suc, ◌≤◌, Bool, true, false}
 use Rattle.std.specs.Prelude.{if◌then◌else◌, List, [], ◌∷◌, map, length}
 use Rattle.std.proofs.lemmas.List.{length-map}
 use Rattle.sva_model.specs.Words.{select, is_some}

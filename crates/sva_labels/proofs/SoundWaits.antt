@@ -1,8 +1,8 @@
 -- At an open unit what a frame awaits is a wait in the unit's queue, and so is what a binding awaits whose PASID is
 -- invalidated, unless that is done.
 use Rattle.std.proofs.Common.{◌≡◌, ◌≢◌, ◌⊎◌, inl, inr, refl, ap, sym, subst, ◌∙◌, ℕ, ◌+◌, ◌<◌, ◌≤◌, Bool, true, false, arith}
-use Rattle.std.specs.Prelude.{Option, Some, None, nat_lt, if◌then◌else◌, slice_get, slice_index_or}
-use Rattle.std.proofs.lemmas.Bool.Decides.{nat_tests}
+use Rattle.std.specs.Prelude.{Option, Some, None, if◌then◌else◌, slice_get, slice_index_or}
+use Rattle.std.proofs.lemmas.Bool.{lt-ltb}
 use Rattle.sva_model.specs.Words.{all_below, tabulate}
 use Rattle.sva_model.specs.State.{Owed, MappingState, Endpoint, World, Stage, Order, OrderState}
 use Rattle.sva_model.specs.State.Owed.{Nothing, Ranges, Pasid, NextReset}
@@ -11,7 +11,7 @@ use Rattle.sva_model.specs.State.Stage.{Unbound, Live, Stopping, Draining, Inval
 use Rattle.sva_model.specs.State.Order.{RangeOf, PasidOf, Wait}
 use Rattle.sva_model.specs.State.OrderState.{Queued, Void}
 use Rattle.sva_model.specs.State.Phase.{Open}
-use Rattle.sva_model.specs.States.{is_open, is_queued, is_wait, is_done, answered, place}
+use Rattle.sva_model.specs.States.{is_queued, is_wait, is_done, answered, place}
 use Rattle.sva_model.specs.Wire.{PlaceWire, BindingWire, number, cookie_number, target_of, target_wire, place_wire_by, stage_wire, descriptor, unit_wire}
 use Rattle.sva_model.specs.Wire.{wire}
 use Rattle.sva_model.specs.Wire.PlaceWire.{WithheldWire}
@@ -33,7 +33,7 @@ use Rattle.sva_labels.proofs.LookedUnits.{invalidated_there}
 use Rattle.sva_labels.proofs.SoundLists.{table_get, seen_there}
 use Rattle.sva_labels.proofs.SoundPasids.{IsKeptAt}
 use Rattle.sva_labels.proofs.Withholding.{target_at}
-use Rattle.sva_laws.proofs.Unmap.{open_is as opened_is}
+use Rattle.sva_laws.proofs.Resets.{open_is as opened_is}
 use Rattle.sva_labels.proofs.SoundRoom.{same_cookie}
 
 -- a wait that is queued stands in the queue
@@ -71,9 +71,6 @@ target_stands first n p v c ph a h = go (answered p v) refl h
     go true e k = absurd (cc (k))
     go false e k = owed_stands first p v c ph (a e) k
 
-less_of : (a b : ℕ) → a < b → nat_lt a b ≡ true
-less_of a b l = grind (arith, nat_tests)
-
 -- by the latest mapping of a frame
 awaited_of :
     (w : World) → AllFronts w → AllDebts w → w.config.endpoints ≤ 8 → (e c : ℕ) → e < w.config.endpoints → (w.part e).phase ≡ Open → (o : Option ℕ)
@@ -88,7 +85,7 @@ awaited_of w fs ds most e c l ph (Some m) h = by_state (w.mappings.state m) refl
         → HasWait (unit_wire w.config.first (w.part e)) c
     at_unit owed g k =
         target_stands w.config.first w.cookies (w.part e) (owed e) c ph (λ a. awaits w.cookies (w.part e) (owed e) (fs e) (ds m e owed g) a)
-        (ap (λ b. if b then target_wire w.config.first (w.part e) (owed e) else None) (sym (less_of e w.config.endpoints l))
+        (ap (λ b. if b then target_wire w.config.first (w.part e) (owed e) else None) (sym (lt-ltb e w.config.endpoints l))
         ∙ sym (tabulate_at 8 (target_at w.config.first w.config.endpoints w.part owed) e None (omega (arith, l, most)))
         ∙ k)
 

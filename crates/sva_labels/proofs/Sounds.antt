@@ -29,7 +29,7 @@ use Rattle.sva_laws.proofs.Carried.{always_carried}
 use Rattle.sva_laws.proofs.Limits.{always_outstanding}
 use Rattle.sva_laws.proofs.OnTheWay.{always_on_the_way}
 use Rattle.sva_labels.proofs.HostGroupsFiled.{always_filings}
-use Rattle.sva_labels.proofs.SoundRequests.{always_once}
+use Rattle.sva_laws.proofs.Filed.{always_filed}
 use Rattle.sva_labels.proofs.SoundFlights.{flying_at, flight_near, flight_suited, waiting_found, filing_placed}
 use Rattle.sva_labels.proofs.SoundSizes.{always_sized}
 use Rattle.sva_labels.proofs.SoundJobs.{queued_job, held_job, open_at_home, closed_where_dropped, none_of_waiting}
@@ -90,16 +90,16 @@ always_sound config steps fits =
       filing_fits =
           λ e k r b l h f.
           filing_placed w invariant (always_on_the_way PerSpace config steps) (always_filings PerSpace config steps)
-          (always_once PerSpace config steps) (always_outstanding PerSpace config steps)
+          (always_filed PerSpace config steps) (always_outstanding PerSpace config steps)
           e k r b (there e l) h f;
       filing_anew = λ e k r b l h f. none_of_waiting w invariant e k r b (there e l) h f;
       groups_at_home = λ k e b h ne. open_at_home w invariant (always_filings PerSpace config steps) k e b (kept_at w k b h) ne;
       jobs_queued =
           λ k job h.
-          queued_job w invariant (always_filings PerSpace config steps) (always_once PerSpace config steps) (always_sized PerSpace config steps) k job h;
+          queued_job w invariant (always_filings PerSpace config steps) (always_filed PerSpace config steps) (always_sized PerSpace config steps) k job h;
       jobs_held =
           λ x job h.
-          held_job w invariant (always_filings PerSpace config steps) (always_once PerSpace config steps) (always_sized PerSpace config steps) x job h;
+          held_job w invariant (always_filings PerSpace config steps) (always_filed PerSpace config steps) (always_sized PerSpace config steps) x job h;
       dropped_closed = λ x job h r. closed_where_dropped w invariant (always_filings PerSpace config steps) x job h r;
       tables =
           λ e l.

@@ -2,6 +2,7 @@
 use Rattle.std.proofs.Common.{◌≡◌, refl, ap, sym, ◌∙◌, ℕ, suc, ◌+◌, ◌<◌, Bool, true, false, arith}
 use Rattle.std.specs.Prelude.{Some, None, ◌&&◌, ◌==◌, nat_lt, if◌then◌else◌, List, [], ◌∷◌, filter}
 use Rattle.std.proofs.lemmas.Bool.Decides.{nat_tests}
+use Rattle.std.proofs.lemmas.Bool.{eqb-true}
 use Rattle.sva_model.specs.Words.{all_below, select, tabulate}
 use Rattle.sva_model.specs.State.{Mappings, World}
 use Rattle.sva_model.specs.State.Owed.{Nothing}
@@ -12,9 +13,9 @@ use Rattle.sva_model.specs.Acts.Act.{NewSpace, DropSpace, Map}
 use Rattle.sva_model.specs.Wire.{PageWire, number, insert_by, is_lower_page, is_page_of, pages_wire, withheld_wire, places_wire, device_wire, part_wire, wire}
 use Rattle.sva_model.specs.Wire.PlaceWire.{FreeWire}
 use Rattle.sva_laws.proofs.Invariant.{Invariant, Mapped}
-use Rattle.sva_laws.proofs.Passed.{and_left, and_right}
+use Rattle.sva_laws.proofs.Tests.{first_holds, second_holds}
 use Rattle.sva_wire.proofs.Lists.{tabulate_same, each_below}
-use Rattle.sva_wire.proofs.Pages.{pages_none, pages_mapped, present_is, same_is}
+use Rattle.sva_wire.proofs.Pages.{pages_none, pages_mapped, present_is}
 use Rattle.sva_wire.proofs.Places.{gone_seen, places_mapped}
 use Rattle.sva_wire.proofs.Spaces.{spaces_more}
 use Rattle.sva_labels.specs.Finding.{pages_in, or_no_pages}
@@ -67,9 +68,9 @@ no_pages w s ma h = pages_none w s w.mappings.made (λ m l. unmapped m (is_page_
     unmapped : (m : ℕ) → (b : Bool) → is_page_of w.mappings s m ≡ b → b ≡ false
     unmapped m false e = refl
     unmapped m true e =
-        let present = present_is (w.mappings.state m) (and_left (is_present (w.mappings.state m)) (w.mappings.space m == s) e) in
+        let present = present_is (w.mappings.state m) (first_holds (is_present (w.mappings.state m)) (w.mappings.space m == s) e) in
         let live = (ma.at_present (w.mappings.space m) (w.mappings.page m) m (ma.present_at m present)).3 in
-        let space : w.mappings.space m ≡ s = same_is (w.mappings.space m) s (and_right (is_present (w.mappings.state m)) (w.mappings.space m == s) e) in
+        let space : w.mappings.space m ≡ s = eqb-true (w.mappings.space m) s (second_holds (is_present (w.mappings.state m)) (w.mappings.space m == s) e) in
         let alive : w.is_live s ≡ true = sym (ap w.is_live space) ∙ live in
         absurd (cc (sym h ∙ both s w.spaces (w.is_live s) (ma.live s alive) alive))
 

@@ -3,10 +3,12 @@ use Rattle.std.proofs.Common.{◌≡◌, ◌≢◌, ◌⊎◌, inl, inr, refl, a
 use Rattle.std.specs.Prelude.{Some, None, ◌&&◌, ◌||◌, not, ◌==◌, nat_lt, if◌then◌else◌, List, [], ◌∷◌, ◌++◌, map, filter}
 use Rattle.std.specs.List.{list_any}
 use Rattle.std.proofs.lemmas.Bool.Decides.{nat_tests}
+use Rattle.std.proofs.lemmas.Bool.{eq-eqb, eqb-true, ne_eqb}
+use Rattle.std.proofs.lemmas.List.Folds.{list_any-append}
 use Rattle.sva_model.specs.Words.{put, select}
 use Rattle.sva_model.specs.Wire.{PageWire}
 use Rattle.sva_laws.proofs.Words.{put-same, put-other, ℕ_cases}
-use Rattle.sva_wire.proofs.Pages.{same_is, is_same, is_other}
+use Rattle.sva_laws.proofs.Tests.{or_no}
 use Rattle.sva_wire.proofs.Spaces.{space_by}
 use Rattle.sva_labels.specs.Finding.{pages_of}
 use Rattle.sva_labels.specs.Moves.{with_pages, without_space}
@@ -17,10 +19,10 @@ pub same_number : (first a b : ℕ) → (first + a == first + b) ≡ (a == b)
 same_number first a b = go (ℕ_cases a b)
   where
     go : (a ≡ b) ⊎ (a ≢ b) → (first + a == first + b) ≡ (a == b)
-    go (inl e) = is_same (first + a) (first + b) (ap (λ z. first + z) e) ∙ sym (is_same a b e)
+    go (inl e) = eq-eqb (first + a) (first + b) (ap (λ z. first + z) e) ∙ sym (eq-eqb a b e)
     go (inr ne) =
         let other : first + a ≢ first + b = λ e. ne (omega (arith, e)) in
-        is_other (first + a) (first + b) other ∙ sym (is_other a b ne)
+        ne_eqb (first + a) (first + b) other ∙ sym (ne_eqb a b ne)
 
 -- the pages of a number are those of its space
 pub pages_among :
@@ -36,16 +38,8 @@ pages_among first pages (t ∷ ss) s =
         → pages_of (map (space_by first pages) ss) (first + s) ≡ (if list_any (λ t. t == s) ss then Some (pages s) else None)
         → (if b then Some (pages t) else pages_of (map (space_by first pages) ss) (first + s))
         ≡ (if b || list_any (λ t. t == s) ss then Some (pages s) else None)
-    go true e rest = ap (λ z. Some (pages z)) (same_is t s e)
+    go true e rest = ap (λ z. Some (pages z)) (eqb-true t s e)
     go false e rest = rest
-
-pub any_append : {A : Type 0} (p : A → Bool) (xs ys : List A) → list_any p (xs ++ ys) ≡ (list_any p xs || list_any p ys)
-any_append p [] ys = refl
-any_append p (x ∷ xs) ys = go (p x) (any_append p xs ys)
-  where
-    go : (b : Bool) → list_any p (xs ++ ys) ≡ (list_any p xs || list_any p ys) → (b || list_any p (xs ++ ys)) ≡ ((b || list_any p xs) || list_any p ys)
-    go true h = refl
-    go false h = h
 
 none_below : (s : ℕ) → nat_lt s 0 ≡ false
 none_below s = grind (arith, nat_tests)
@@ -55,16 +49,12 @@ pub among_those : (n : ℕ) (p : ℕ → Bool) (s : ℕ) → list_any (λ t. t =
 unfolding select
 among_those zero p s = sym (ap (λ b. b && p s) (none_below s))
 among_those (suc n) p s =
-    any_append (λ t. t == s) (select n p) (if p n then n ∷ [] else [])
+    list_any-append (λ t. t == s) (select n p) (if p n then n ∷ [] else [])
     ∙ ap₂ (λ a b. a || b) (among_those n p s) (last (p n))
     ∙ go (ℕ_cases n s)
   where
     last : (b : Bool) → list_any (λ t. t == s) (if b then n ∷ [] else []) ≡ (b && n == s)
-    last true = or_false (n == s)
-      where
-        or_false : (b : Bool) → (b || false) ≡ b
-        or_false true = refl
-        or_false false = refl
+    last true = or_no (n == s)
     last false = refl
 
     here : (b : Bool) → nat_lt s n ≡ false → nat_lt s (suc n) ≡ true → (n == s) ≡ true → ((nat_lt s n && b) || (b && n == s)) ≡ (nat_lt s (suc n) && b)
@@ -98,8 +88,8 @@ among_those (suc n) p s =
     is_last e = grind (arith, nat_tests)
 
     go : (n ≡ s) ⊎ (n ≢ s) → ((nat_lt s n && p s) || (p n && n == s)) ≡ (nat_lt s (suc n) && p s)
-    go (inl e) = ap (λ z. (nat_lt s n && p s) || (p z && n == s)) e ∙ here (p s) (not_below e) (is_last e) (is_same n s e)
-    go (inr ne) = there true (p s) (p n) (below ne) (is_other n s ne)
+    go (inl e) = ap (λ z. (nat_lt s n && p s) || (p z && n == s)) e ∙ here (p s) (not_below e) (is_last e) (eq-eqb n s e)
+    go (inr ne) = there true (p s) (p n) (below ne) (ne_eqb n s ne)
 
 -- other pages in the space of a number
 pub with_pages_is :
@@ -116,8 +106,8 @@ with_pages_is first s pages others change (t ∷ ss) h =
     turned = by (ℕ_cases s t)
       where
         by : (s ≡ t) ⊎ (s ≢ t) → (s == t) ≡ (t == s)
-        by (inl e) = is_same s t e ∙ sym (is_same t s (sym e))
-        by (inr ne) = is_other s t ne ∙ sym (is_other t s (λ e. ne (sym e)))
+        by (inl e) = eq-eqb s t e ∙ sym (eq-eqb t s (sym e))
+        by (inr ne) = ne_eqb s t ne ∙ sym (ne_eqb t s (λ e. ne (sym e)))
 
     go :
         (a b : Bool) → a ≡ b
@@ -163,8 +153,8 @@ select_without (suc n) p s =
     stays false e = refl
 
     go : (n ≡ s) ⊎ (n ≢ s) → (if put p s false n then n ∷ [] else []) ≡ filter (λ t. not (t == s)) (if p n then n ∷ [] else [])
-    go (inl e) = ap (λ b. if b then n ∷ [] else []) (ap (put p s false) e ∙ put-same p s false) ∙ out (p n) (is_same n s e)
-    go (inr ne) = ap (λ b. if b then n ∷ [] else []) (put-other p s false n ne) ∙ stays (p n) (is_other n s ne)
+    go (inl e) = ap (λ b. if b then n ∷ [] else []) (ap (put p s false) e ∙ put-same p s false) ∙ out (p n) (eq-eqb n s e)
+    go (inr ne) = ap (λ b. if b then n ∷ [] else []) (put-other p s false n ne) ∙ stays (p n) (ne_eqb n s ne)
 
 -- spaces whose pages are the same, but for one that isn't there
 same_but :
@@ -179,13 +169,13 @@ same_but first s pages others (t ∷ ss) h = go (ℕ_cases t s) (same_but first 
         → map (space_by first others) (if not (t == s) then t ∷ filter (λ t. not (t == s)) ss else filter (λ t. not (t == s)) ss)
         ≡ map (space_by first pages) (if not (t == s) then t ∷ filter (λ t. not (t == s)) ss else filter (λ t. not (t == s)) ss)
     go (inl e) k =
-        ap (λ b. map (space_by first others) (if not b then t ∷ filter (λ t. not (t == s)) ss else filter (λ t. not (t == s)) ss)) (is_same t s e)
+        ap (λ b. map (space_by first others) (if not b then t ∷ filter (λ t. not (t == s)) ss else filter (λ t. not (t == s)) ss)) (eq-eqb t s e)
         ∙ k
-        ∙ sym (ap (λ b. map (space_by first pages) (if not b then t ∷ filter (λ t. not (t == s)) ss else filter (λ t. not (t == s)) ss)) (is_same t s e))
+        ∙ sym (ap (λ b. map (space_by first pages) (if not b then t ∷ filter (λ t. not (t == s)) ss else filter (λ t. not (t == s)) ss)) (eq-eqb t s e))
     go (inr ne) k =
-        ap (λ b. map (space_by first others) (if not b then t ∷ filter (λ t. not (t == s)) ss else filter (λ t. not (t == s)) ss)) (is_other t s ne)
+        ap (λ b. map (space_by first others) (if not b then t ∷ filter (λ t. not (t == s)) ss else filter (λ t. not (t == s)) ss)) (ne_eqb t s ne)
         ∙ ap₂ (λ x xs. x ∷ xs) (ap (λ z. space_by first (λ k. z) t) (h t ne)) k
-        ∙ sym (ap (λ b. map (space_by first pages) (if not b then t ∷ filter (λ t. not (t == s)) ss else filter (λ t. not (t == s)) ss)) (is_other t s ne))
+        ∙ sym (ap (λ b. map (space_by first pages) (if not b then t ∷ filter (λ t. not (t == s)) ss else filter (λ t. not (t == s)) ss)) (ne_eqb t s ne))
 
 pub without_space_is :
     (first s n : ℕ) (p : ℕ → Bool) (pages others : ℕ → List PageWire) → ((t : ℕ) → t ≢ s → others t ≡ pages t)

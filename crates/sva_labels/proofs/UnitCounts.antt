@@ -1,8 +1,8 @@
 -- The unit, where a completion of invalidations arrives: it counts by the ITags of its vector, which are those of the orders
 -- that it names; an ITag is free once the last has come.
 use Rattle.std.proofs.Common.{◌≡◌, ◌≢◌, ◌⊎◌, inl, inr, refl, ap, sym, ◌∙◌, ℕ, zero, suc, ◌<◌, ◌≤◌, Bool, true, false, arith}
-use Rattle.std.specs.Prelude.{◌-◌, ◌&&◌, ◌==◌, if◌then◌else◌, Option, Some, None, option_map, slice_index_or}
-use Rattle.std.proofs.lemmas.Bool.Decides.{nat_tests}
+use Rattle.std.specs.Prelude.{◌-◌, ◌&&◌, if◌then◌else◌, Option, Some, None, option_map, slice_index_or}
+use Rattle.std.proofs.lemmas.Bool.{eq-eqb, ne_eqb}
 use Rattle.sva_model.specs.Words.{unless}
 use Rattle.sva_model.specs.State.{Mappings, OrderState, Endpoint}
 use Rattle.sva_model.specs.State.OrderState.{Completing}
@@ -16,8 +16,8 @@ use Rattle.sva_laws.specs.Laws.{count_read}
 use Rattle.sva_laws.proofs.Legal.{LegalLocalAct}
 use Rattle.sva_laws.proofs.Labels.{Labels}
 use Rattle.sva_laws.proofs.Vectors.{IsOwedFor, AreOwed}
+use Rattle.sva_laws.proofs.Words.{ℕ_cases}
 use Rattle.sva_labels.specs.Moves.{one_more, counting, completed}
-use Rattle.sva_labels.specs.Outcomes as labels
 use Rattle.sva_labels.proofs.Kept.{unit_moved}
 use Rattle.sva_labels.proofs.Named.{own_move, count_move}
 use Rattle.sva_labels.proofs.UnitQueue.{queue_of, busy_of, units_same}
@@ -29,30 +29,21 @@ IsCompleting p = (k count left : ℕ) → p.order_state k ≡ Completing count l
 
 -- an ITag after one completion more, by the state of the order that bears it
 
-differs : (m n : ℕ) → m ≢ n → (m == n) ≡ false
-differs m n ne = grind (arith, nat_tests)
-
-equals : (m n : ℕ) → m ≡ n → (m == n) ≡ true
-equals m n e = grind (arith, nat_tests)
-
 counting_more : (count arrived : ℕ) → arrived ≢ count → counting count arrived ≡ Some (Counting count arrived)
-counting_more count arrived ne = ap (λ b. if b then None else Some (Counting count arrived)) (differs arrived count ne)
+counting_more count arrived ne = ap (λ b. if b then None else Some (Counting count arrived)) (ne_eqb arrived count ne)
 
 counting_last : (count arrived : ℕ) → arrived ≡ count → counting count arrived ≡ None
-counting_last count arrived e = ap (λ b. if b then None else Some (Counting count arrived)) (equals arrived count e)
+counting_last count arrived e = ap (λ b. if b then None else Some (Counting count arrived)) (eq-eqb arrived count e)
 
 -- the wire of an order that is owed
 owing_wire : (count left : ℕ) → left ≢ count → busy_wire (Completing count left) ≡ Counting count (count - left)
-owing_wire count left ne = ap (λ b. if b then Fresh else Counting count (count - left)) (differs left count ne)
+owing_wire count left ne = ap (λ b. if b then Fresh else Counting count (count - left)) (ne_eqb left count ne)
 
 fresh_wire : (count left : ℕ) → left ≡ count → busy_wire (Completing count left) ≡ Fresh
-fresh_wire count left e = ap (λ b. if b then Fresh else Counting count (count - left)) (equals left count e)
-
-equal_or_not : (m n : ℕ) → (m ≡ n) ⊎ (m ≢ n)
-equal_or_not m n = grind arith
+fresh_wire count left e = ap (λ b. if b then Fresh else Counting count (count - left)) (eq-eqb left count e)
 
 last_comes : (count : ℕ) → 0 < count → one_more count (Some (busy_wire (Completing count 1))) ≡ None
-last_comes count l = go (equal_or_not 1 count)
+last_comes count l = go (ℕ_cases 1 count)
   where
     go : (1 ≡ count) ⊎ (1 ≢ count) → one_more count (Some (busy_wire (Completing count 1))) ≡ None
     go (inl e) = ap (λ b. one_more count (Some b)) (fresh_wire count 1 e) ∙ counting_last count 1 e
@@ -61,7 +52,7 @@ last_comes count l = go (equal_or_not 1 count)
 more_come :
     (count left : ℕ) → suc (suc left) ≤ count
     → one_more count (Some (busy_wire (Completing count (suc (suc left))))) ≡ Some (busy_wire (Completing count (suc left)))
-more_come count left l = go (equal_or_not (suc (suc left)) count)
+more_come count left l = go (ℕ_cases (suc (suc left)) count)
   where
     after : busy_wire (Completing count (suc left)) ≡ Counting count (count - suc left)
     after = owing_wire count (suc left) (λ e. absurd (omega (arith, l, e)))
@@ -91,11 +82,6 @@ counted_named count zero l m = absurd (omega (arith, l))
 counted_named count (suc zero) l m = sym (last_comes count (omega (arith, m)))
 counted_named count (suc (suc left)) l m = sym (more_come count left m)
 
--- the count field is read alike
-same_read : (field : ℕ) → labels.count_read field ≡ count_read field
-same_read zero = refl
-same_read (suc n) = refl
-
 pub unit_count :
     (ms : Mappings) (g first n next e : ℕ) (p : Endpoint) (c : ℕ) (names : ℕ → Bool) → LegalLocalAct ms g p (LocalAct.Count c names) → Labels p
     → AreOwed p → IsCompleting p
@@ -114,7 +100,6 @@ unit_count ms g first n next e p c names l la are completing = go (are c names l
         (λ t. if is_set vector t then one_more (count_read field) (slice_index_or (busy_of p) t None) else slice_index_or (busy_of p) t None) (λ t m. at t m))
         refl
         refl
-        ∙ ap (λ z. record (unit_wire first p) { busy = completed vector z (busy_of p) }) (sym (same_read field))
         ∙ ap (λ z. unit_moved next (unit_wire first p) (count_move first e c z)) (sym carried)
       where
         queued : (k : ℕ) (b : Bool) → names k ≡ b → is_queued (counted_if (names k) (p.order_state k)) ≡ is_queued (p.order_state k)

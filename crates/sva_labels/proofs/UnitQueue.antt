@@ -17,7 +17,7 @@ use Rattle.sva_laws.proofs.Words.{put-same, put-other, ℕ_cases}
 use Rattle.sva_laws.proofs.Legal.{LegalLocalAct}
 use Rattle.sva_laws.proofs.Bounds.{Bounds}
 use Rattle.sva_laws.proofs.Labels.{Labels}
-use Rattle.sva_laws.proofs.Orders.{Orders, is_undone, is_active}
+use Rattle.sva_laws.proofs.Orders.{Orders, is_undone, is_active, not_queued}
 use Rattle.sva_labels.proofs.Kept.{unit_moved}
 use Rattle.sva_labels.proofs.Named.{own_move}
 use Rattle.sva_labels.proofs.Picked.{picked_same, picked_one_more, picked_drop}
@@ -168,9 +168,6 @@ sent_queue g first p k s bo h i none =
   where
     made : (p.orders ≤ k → p.order_state k ≡ Void) → k < p.orders
     made v = grind (arith)
-
-    not_queued : (s : OrderState) → s ≢ Queued → is_queued s ≡ false
-    not_queued s ne = grind arith
 
 -- An order is sent: it is the first in the queue, and its ITag waits for completions.
 

@@ -2,8 +2,7 @@
 -- the endpoint takes, has taken or lets lapse is as fresh as it was.
 use Rattle.std.proofs.Common.{◌≡◌, ◌≢◌, ◌⊎◌, inl, inr, refl, ap, sym, ◌∙◌, ℕ, zero, suc, Bool, true, false, arith}
 use Rattle.std.proofs.lemmas.List.{map-append}
-use Rattle.std.specs.Prelude.{◌-◌, if◌then◌else◌, ◌==◌, Option, None, option_map, [], ◌∷◌, ◌++◌, map}
-use Rattle.std.proofs.lemmas.Bool.Decides.{nat_tests}
+use Rattle.std.specs.Prelude.{◌-◌, if◌then◌else◌, Option, None, option_map, [], ◌∷◌, ◌++◌, map}
 use Rattle.sva_model.specs.Words.{put, select, tabulate}
 use Rattle.sva_model.specs.State.{Mappings, OrderState, Endpoint}
 use Rattle.sva_model.specs.State.OrderState.{Queued, Sent, Taken, Lapsed, Completing, Done, Void}
@@ -15,6 +14,8 @@ use Rattle.sva_laws.proofs.Words.{put-same, put-other, ℕ_cases}
 use Rattle.sva_laws.proofs.Legal.{LegalLocalAct}
 use Rattle.sva_laws.proofs.Resets.{Resets}
 use Rattle.sva_laws.proofs.Labels.{Labels}
+use Rattle.sva_laws.proofs.Orders.{not_queued}
+use Rattle.sva_laws.proofs.Tests.{is_itself}
 use Rattle.sva_labels.proofs.Kept.{unit_moved}
 use Rattle.sva_labels.proofs.Named.{own_move}
 use Rattle.sva_labels.proofs.Picked.{picked_same, picked_none}
@@ -125,12 +126,9 @@ unit_take ms g first n next e p c k l la =
 owe_queued : (b : Bool) (count : ℕ) (s : OrderState) → (b ≡ true → is_taken s ≡ true) → is_queued (completing_if b count s) ≡ is_queued s
 owe_queued b count s h = grind arith
 
-pub same_number : (n : ℕ) → (n == n) ≡ true
-same_number n = grind (arith, nat_tests)
-
 owe_busy : (b : Bool) (count : ℕ) (s : OrderState) → (b ≡ true → is_taken s ≡ true) → busy_wire (completing_if b count s) ≡ busy_wire s
 owe_busy false count s h = refl
-owe_busy true count (Taken u) h = ap (λ z. if z then Fresh else BusyWire.Counting count (count - count)) (same_number count)
+owe_busy true count (Taken u) h = ap (λ z. if z then Fresh else BusyWire.Counting count (count - count)) (is_itself count)
 owe_busy true count Queued h = absurd (let z = h refl in cc)
 owe_busy true count Sent h = absurd (let z = h refl in cc)
 owe_busy true count Lapsed h = absurd (let z = h refl in cc)
@@ -156,9 +154,6 @@ unit_finish ms g first n next e p names vector count l =
 undone_not_queued : (s : OrderState) → is_queued (void_undone s) ≡ false
 undone_not_queued s = grind arith
 
-none_queued : (s : OrderState) → s ≢ Queued → is_queued s ≡ false
-none_queued s h = grind arith
-
 pub map_tabulate : {A B : Type 0} (n : ℕ) (f : ℕ → A) (h : A → B) → map h (tabulate n f) ≡ tabulate n (λ k. h (f k))
 unfolding tabulate
 map_tabulate zero f h = refl
@@ -177,7 +172,7 @@ unit_reopen ms g first n next e p c l re =
     (end_number first p.waits_end)
     (
     no_queue first p (λ k. void_undone (p.order_state k)) (λ k. undone_not_queued (p.order_state k))
-    ∙ sym (no_queue first p p.order_state (λ k. none_queued (p.order_state k) (re.unqueued k (ap is_open (re.up c l.0)))))
+    ∙ sym (no_queue first p p.order_state (λ k. not_queued (p.order_state k) (re.unqueued k (ap is_open (re.up c l.0)))))
     )
     (sym (map_tabulate 32 (λ t. option_map (λ k. busy_wire (p.order_state k)) (p.at_itag t)) (λ (tag : Option BusyWire). None)))
     refl

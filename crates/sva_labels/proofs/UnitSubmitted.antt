@@ -1,7 +1,7 @@
 -- What the unit keeps after invalidations of ranges and the wait behind them are submitted: their descriptors stand at the
 -- end of its queue. The device, the page request queue and the open groups are as they were.
 use Rattle.std.proofs.Common.{◌≡◌, refl, ap, ap₂, ◌∙◌, ℕ, suc, ◌+◌, ◌<◌, ◌≤◌, Bool, true, false, arith}
-use Rattle.std.specs.Prelude.{◌-◌, ◌&&◌, nat_lt, Option, Some, None, option_map, List, [], ◌∷◌, ◌++◌, map}
+use Rattle.std.specs.Prelude.{◌&&◌, nat_lt, Option, Some, None, option_map, List, [], ◌∷◌, ◌++◌, map}
 use Rattle.std.proofs.lemmas.Bool.Decides.{nat_tests}
 use Rattle.sva_model.specs.Words.{put_range, select, tabulate, holds_of}
 use Rattle.sva_model.specs.State.{Mappings, Order, OrderState, Endpoint}
@@ -13,6 +13,7 @@ use Rattle.sva_model.specs.Wire.{number, end_number, descriptor, busy_wire, take
 use Rattle.sva_model.specs.Wire.{UnitWire, BusyWire, TakenWire, Descriptor}
 use Rattle.sva_model.specs.Wire.Descriptor.{RangeDescriptor}
 use Rattle.sva_wire.proofs.Lists.{tabulate_same}
+use Rattle.sva_laws.proofs.Submitted.{old_order, old_state}
 use Rattle.sva_laws.proofs.Words.{put-same}
 use Rattle.sva_laws.proofs.Bounds.{Bounds}
 use Rattle.sva_laws.proofs.Labels.{Labels}
@@ -56,12 +57,6 @@ chained_same {A = A} n at f g h = tabulate_same n (λ t. chain f (at t)) (λ t. 
     go (Some k) e = e k refl
 
 -- The orders of a submission.
-
-pub old_order : (p : Endpoint) (b q count order cookie k : ℕ) → k < p.orders → (submitted p b q count order cookie).order k ≡ p.order k
-old_order p b q count order cookie k l = grind (arith, nat_tests)
-
-pub old_state : (p : Endpoint) (b q count order cookie k : ℕ) → k < p.orders → (submitted p b q count order cookie).order_state k ≡ p.order_state k
-old_state p b q count order cookie k l = grind (arith, nat_tests)
 
 new_state : (p : Endpoint) (b q count order cookie j : ℕ) → j < suc count → (submitted p b q count order cookie).order_state (p.orders + j) ≡ Queued
 new_state p b q count order cookie j l = grind (arith, nat_tests)

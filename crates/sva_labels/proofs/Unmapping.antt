@@ -1,15 +1,15 @@
 -- Pages taken out of a space, by numbers: the spaces, the places of frames, the units that get invalidations, and the
 -- cookies.
 use Rattle.std.proofs.Common.{◌≡◌, refl, ap, ap₂, sym, ◌∙◌, ℕ, ◌+◌, ◌*◌, ◌^◌, ◌<◌, ◌≤◌, Bool, true, false, arith}
-use Rattle.std.specs.Prelude.{Some, None, Option, option_map, ◌&&◌, nat_lt, if◌then◌else◌, length, map, filter}
-use Rattle.std.proofs.lemmas.Bool.Decides.{nat_tests}
+use Rattle.std.specs.Prelude.{Some, None, Option, option_map, nat_lt, if◌then◌else◌, length, map, filter}
+use Rattle.std.proofs.lemmas.Bool.{ltb-true}
 use Rattle.sva_model.specs.Words.{count_below, select, tabulate, is_some}
 use Rattle.sva_model.specs.State.{Owed, Mappings, Endpoint, World, Stage}
 use Rattle.sva_model.specs.State.Stage.{Unbound, Live, Stopping, Draining, Invalidating, Quiet, Lost, Released}
-use Rattle.sva_model.specs.States.{is_open, is_unreleased, is_before_invalidating, is_job}
+use Rattle.sva_model.specs.States.{is_unreleased, is_job}
 use Rattle.sva_model.specs.Acts.{act, bound, submits, submits_at, cookie_of, owed_by, submitted, submitted_if, part_after_unmap, in_range, without_pages}
 use Rattle.sva_model.specs.Acts.Act.{Unmap}
-use Rattle.sva_model.specs.Wire.{BindingWire, EndpointWire, StageWire, number, cookie_number, target_wire, stage_wire, binding_wire, bindings_wire, unit_wire}
+use Rattle.sva_model.specs.Wire.{BindingWire, EndpointWire, StageWire, number, cookie_number, target_wire, stage_wire, binding_wire, bindings_wire}
 use Rattle.sva_model.specs.Wire.{part_wire, pages_wire, places_wire, group_job, wire}
 use Rattle.sva_laws.proofs.Counting.{count_same}
 use Rattle.sva_laws.proofs.Bounds.{Bounds}
@@ -18,7 +18,7 @@ use Rattle.sva_laws.proofs.Orders.{Orders}
 use Rattle.sva_laws.proofs.Fronts.{AllFronts}
 use Rattle.sva_laws.proofs.Debts.{AllDebts}
 use Rattle.sva_laws.proofs.Invariant.{Invariant}
-use Rattle.sva_wire.proofs.Lists.{tabulate_same, tabulate_length, tabulate_at}
+use Rattle.sva_wire.proofs.Lists.{tabulate_same, tabulate_length}
 use Rattle.sva_labels.specs.Finding as finding
 use Rattle.sva_labels.specs.Finding.{idle, part_of, unit_of, bound_at, submits_by, pages_in}
 use Rattle.sva_labels.specs.Moves as moves
@@ -34,7 +34,7 @@ use Rattle.sva_labels.proofs.SpaceActs.{pages_are}
 use Rattle.sva_labels.proofs.Bound.{bound_is}
 use Rattle.sva_labels.proofs.Withholding.{target_at, seen_targets, target_new, seen_still}
 use Rattle.sva_laws.proofs.Books.{submitted_stage as stage_same}
-use Rattle.sva_labels.proofs.UnitSubmitted.{old_order}
+use Rattle.sva_laws.proofs.Submitted.{old_order}
 pub use Rattle.sva_labels.proofs.EndpointViews.{part_seen as part_is}
 use Rattle.sva_labels.proofs.LookedUnits.{submits_seen}
 use Rattle.sva_labels.proofs.SentTo.{same_message as message_same}
@@ -148,9 +148,6 @@ targets_are w s q count order i fronts =
     (λ e. if nat_lt e n then target_by (unit_of (wire w) e) (cookie_at (wire w) (number w.config.first s) e)
     (bound_at (wire w) e (number w.config.first s)) else None)) (tabulate_length w.config.endpoints (λ x. part_wire w.config.first w.mappings (w.part x))))
   where
-    less : (a b : ℕ) → nat_lt a b ≡ true → a < b
-    less a b k = grind (arith, nat_tests)
-
     at :
         (e : ℕ) (b : Bool) → nat_lt e w.config.endpoints ≡ b
         → (if b then target_wire w.config.first (part_after_unmap w s q count order e) (owed_by (w.part e) count (bound w e s)) else None)
@@ -158,7 +155,7 @@ targets_are w s q count order i fronts =
         else None)
     at e false k = refl
     at e true k =
-        let l = less e w.config.endpoints k in
+        let l = ltb-true e w.config.endpoints k in
         target_new w.cookies w.config.first e (w.part e) (bound w e s) q count order (cookie_of w s e) (i.parts e).orders (fronts e)
         ∙ sym (λ k. target_by (part_is w e l k).unit (cookie_is w s e i (omega (arith, l)) k) (bound_is w e s i k))
 

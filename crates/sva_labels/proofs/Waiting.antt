@@ -4,13 +4,13 @@ use Rattle.std.specs.Prelude.{cond, ◌||◌, ◌==◌, not, if◌then◌else◌
 use Rattle.std.specs.List.{count_by, sum_by, find, list_any}
 use Rattle.std.proofs.lemmas.List.{take_all}
 use Rattle.std.proofs.lemmas.List.Sums.{sum_by-cons, sum_by-append, sum_by_more}
+use Rattle.std.proofs.lemmas.Bool.{eqb-true}
 use Rattle.sva_model.specs.Words.{tabulate}
 use Rattle.sva_model.specs.Message.{Message}
 use Rattle.sva_model.specs.Message.Message.{StartMessage, StopMessage, ResetMessage, InvalidateMessage, ResponseMessage, RequestMessage}
 use Rattle.sva_model.specs.Message.Message.{InvalidatedMessage, PageRequestMessage, MarkerMessage, ResetDoneMessage}
 use Rattle.sva_model.specs.Acts.{count_field, scope_of}
 use Rattle.sva_model.specs.Wire.{Wire, EndpointWire, FlightWire, DeviceWire, UnitWire, PageRequestWire}
-use Rattle.sva_wire.proofs.Pages.{same_is}
 use Rattle.sva_labels.specs.Finding.{idle, part_of, submits, flight_of}
 use Rattle.sva_labels.specs.Moves.{Move, moved, all_moved, with_part, with_device, with_unit, part_unmapped, sent, sent_copies, delivered, filed}
 use Rattle.sva_labels.specs.Waiting.{is_page_request, waiting}
@@ -90,7 +90,7 @@ found_number (g ∷ fs) n f h = go (g.number == n) refl (λ k. found_number fs n
         (b : Bool) → (g.number == n) ≡ b → (find (λ (x : FlightWire). x.number == n) fs ≡ Some f → f.number ≡ n)
         → (if b then Some g else find (λ (x : FlightWire). x.number == n) fs) ≡ Some f
         → f.number ≡ n
-    go true e rest k = sym (ap (λ x. x.number) (one g f k)) ∙ same_is g.number n e
+    go true e rest k = sym (ap (λ x. x.number) (one g f k)) ∙ eqb-true g.number n e
     go false e rest k = rest k
 
 -- In the page request queues.

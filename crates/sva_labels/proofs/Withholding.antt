@@ -3,6 +3,7 @@ use Rattle.std.proofs.Common.{◌≡◌, ◌≢◌, refl, ap, sym, ◌∙◌, �
 use Rattle.std.specs.Prelude.{Some, None, Option, option_map, is_none, ◌&&◌, ◌||◌, not, nat_lt, if◌then◌else◌, List, [], ◌∷◌, ◌++◌}
 use Rattle.std.specs.List.{list_all}
 use Rattle.std.proofs.lemmas.Bool.Decides.{nat_tests}
+use Rattle.std.proofs.lemmas.Bool.{lt-ltb, ltb-true}
 use Rattle.sva_model.specs.Words.{put_range, all_below, tabulate}
 use Rattle.sva_model.specs.State.{Owed, Endpoint, World, Stage, Order, OrderState}
 use Rattle.sva_model.specs.State.Owed.{Nothing, Ranges, Pasid, NextReset}
@@ -26,9 +27,9 @@ use Rattle.sva_wire.proofs.Places.{gone_seen, seen_by}
 use Rattle.sva_labels.specs.Moves.{place_for, target_by, target_by_stage}
 use Rattle.sva_labels.proofs.PlacesKept.{IsSeenSame, ranges_open, ranges_wait, pasid_open, pasid_waits}
 use Rattle.sva_laws.proofs.OneEndpoint.{same_bool as same_both}
-use Rattle.sva_labels.proofs.UnitSubmitted.{old_order}
+use Rattle.sva_laws.proofs.Tests.{not_below_itself}
+use Rattle.sva_laws.proofs.Submitted.{old_order, old_state}
 use Rattle.sva_labels.proofs.LookedUnits.{below_end as below_front}
-use Rattle.sva_labels.proofs.UnitSubmitted.{old_state}
 
 -- Where a frame is that waits for these.
 
@@ -64,12 +65,6 @@ seen_targets w owed low =
     at : ℕ → Option TargetWire
     at e = target_at w.config.first w.config.endpoints w.part owed e
 
-    less : (a b : ℕ) → a < b → nat_lt a b ≡ true
-    less a b l = grind (arith, nat_tests)
-
-    less_back : (a b : ℕ) → nat_lt a b ≡ true → a < b
-    less_back a b l = grind (arith, nat_tests)
-
     none_answers : (b : Bool) (t : TargetWire) → is_none (if b then None else Some t) ≡ b
     none_answers true t = refl
     none_answers false t = refl
@@ -80,12 +75,12 @@ seen_targets w owed low =
     forth h e false k = refl
     forth h e true k =
         none_answers (answered (w.part e) (owed e)) (target_of w.config.first (w.part e) (owed e))
-        ∙ all_below-true w.config.endpoints (λ e. answered (w.part e) (owed e)) h e (less_back e w.config.endpoints k)
+        ∙ all_below-true w.config.endpoints (λ e. answered (w.part e) (owed e)) h e (ltb-true e w.config.endpoints k)
 
     back : all_below 8 (λ e. is_none (at e)) ≡ true → (e : ℕ) → e < w.config.endpoints → answered (w.part e) (owed e) ≡ true
     back h e l =
         sym (none_answers (answered (w.part e) (owed e)) (target_of w.config.first (w.part e) (owed e)))
-        ∙ sym (ap (λ b. is_none (if b then target_wire w.config.first (w.part e) (owed e) else None)) (less e w.config.endpoints l))
+        ∙ sym (ap (λ b. is_none (if b then target_wire w.config.first (w.part e) (owed e) else None)) (lt-ltb e w.config.endpoints l))
         ∙ all_below-true 8 (λ e. is_none (at e)) h e (omega (arith, l, low))
 
     none_left :
@@ -106,12 +101,6 @@ seen_targets w owed low =
 
 -- What an unmapping makes its frames wait for.
 
-less_is : (a b : ℕ) → nat_lt a b ≡ true → a < b
-less_is a b h = grind (arith, nat_tests)
-
-is_less : (a b : ℕ) → a < b → nat_lt a b ≡ true
-is_less a b h = grind (arith, nat_tests)
-
 done_is : (z : OrderState) → is_done z ≡ true → z ≡ Done
 done_is z h = grind arith
 
@@ -123,16 +112,13 @@ invalidating_done cookies first p b k w or f st = go (p.order w) refl (or.invali
     front : (c : ℕ) (x : Bool) → p.order w ≡ Wait c x → nat_lt c p.front ≡ is_done (p.order_state w)
     front c x h =
         let d = (has_front cookies p or f).invalidating b k w c x st h in
-        same_both (nat_lt c p.front) (is_done (p.order_state w)) (λ l. ap is_done (d.1 (less_is c p.front l)))
-        (λ z. is_less c p.front (d.0 (done_is (p.order_state w) z)))
+        same_both (nat_lt c p.front) (is_done (p.order_state w)) (λ l. ap is_done (d.1 (ltb-true c p.front l)))
+        (λ z. lt-ltb c p.front (d.0 (done_is (p.order_state w) z)))
 
     go : (o : Order) → p.order w ≡ o → is_wait o ≡ true → nat_lt (cookie_number first o) (end_number first p.front) ≡ is_done (p.order_state w)
     go (Wait c x) h t = below_front first c p.front ∙ front c x h
     go (RangeOf d r) h t = absurd (cc (t))
     go (PasidOf d) h t = absurd (cc (t))
-
-not_itself : (r : ℕ) → nat_lt r r ≡ false
-not_itself r = grind (arith, nat_tests)
 
 both_or : (a b : Bool) → (b ≡ true → a ≡ true) → ((a && b) || false) ≡ b
 both_or a b h = grind arith
@@ -150,7 +136,7 @@ unit_target first p b q count order cookie true =
     (ranges_wait (submitted p b q count order cookie) p.orders count p.resets refl (ranges_wait_now p b q count order cookie))
     ∙ ap (λ z. Some (Cookie (cookie_number first z)))
     (put-same (put_range p.order p.orders count (λ j. RangeOf b (range_at q order j))) (p.orders + count) (Wait cookie false))
-unit_target first p b q count order cookie false = ap (λ z. if z then None else Some ResetEnd) (not_itself p.resets)
+unit_target first p b q count order cookie false = ap (λ z. if z then None else Some ResetEnd) (not_below_itself p.resets)
 
 stage_target :
     (cookies first : ℕ) (p : Endpoint) (b q count order cookie : ℕ) → Orders p → Fronts cookies p → (s : Stage) → p.stage b ≡ s
@@ -172,7 +158,7 @@ stage_target cookies first p b q count order cookie or f (Invalidating k w) st =
         ((is_done (p.order_state k) && is_done (p.order_state w)) || nat_lt p.resets p.resets)
         ≡ nat_lt (cookie_number first (p.order w)) (end_number first p.front)
     answers =
-        ap (λ z. (is_done (p.order_state k) && is_done (p.order_state w)) || z) (not_itself p.resets)
+        ap (λ z. (is_done (p.order_state k) && is_done (p.order_state w)) || z) (not_below_itself p.resets)
         ∙ both_or (is_done (p.order_state k)) (is_done (p.order_state w)) (λ h. ap is_done (or.invalidation_done b k w st (done_is (p.order_state w) h)))
         ∙ sym (invalidating_done cookies first p b k w or f st)
 

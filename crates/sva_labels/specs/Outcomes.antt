@@ -1,6 +1,6 @@
 -- What a step answers and moves where nothing refuses it, read off what a host keeps: numbers and labels alone. It is the
 -- outcome of the definitions, case by case.
-use Rattle.std.specs.Prelude.{ℕ, zero, suc, ◌+◌, ◌^◌, Bool, true, false, ◌&&◌, ◌||◌, not, ◌==◌, nat_le, if◌then◌else◌, is_some, Option, Some, None, List}
+use Rattle.std.specs.Prelude.{ℕ, suc, ◌+◌, ◌^◌, Bool, true, false, ◌&&◌, ◌||◌, not, ◌==◌, nat_le, if◌then◌else◌, is_some, Option, Some, None, List}
 use Rattle.std.specs.Prelude.{[], ◌∷◌, ◌++◌, length, slice_index_or}
 use Rattle.std.specs.List.{count_by, find}
 use Rattle.sva_step.specs.declared.answers.Answer.{Answer}
@@ -23,6 +23,7 @@ use Rattle.sva_model.specs.Wire.StageWire.{StoppingWire, DrainingWire, Invalidat
 use Rattle.sva_model.specs.Wire.UseWire.{RunningWire}
 use Rattle.sva_model.specs.Wire.BusyWire.{Fresh, Counting}
 use Rattle.sva_model.specs.Wire.Descriptor.{RangeDescriptor, PasidDescriptor, WaitDescriptor}
+pub use Rattle.sva_laws.specs.Laws.{count_read}
 use Rattle.sva_labels.specs.Finding.{pages_in, page_at, is_mapped, frames_of, lowest_free, free_from, binding_of, bearer, pasid_for, is_live, part_of}
 use Rattle.sva_labels.specs.Finding.{device_of, unit_of, lowest_label, is_some_busy, cached, is_at_page, use_at, tag_at, group_at, busy_at, held_by}
 use Rattle.sva_labels.specs.Finding.{flight_of}
@@ -237,11 +238,6 @@ abbrev pub request_result : Wire → (endpoint message tag pasid page : ℕ) →
 request_result wire endpoint message tag pasid page true =
     by_one answer.Completion (Move.Complete endpoint message (completion_of tag (found_for wire page (bearer wire endpoint pasid))))
 request_result wire endpoint message tag pasid page false = by_one answer.Dropped (Move.Ignore message)
-
--- the Completion Count as it is read (PCI Express Base 5.0, section 10.3.2)
-abbrev pub count_read : (field : ℕ) → ℕ
-count_read zero = 8
-count_read (suc below) = suc below
 
 -- would one completion more of so many free the ITag?
 abbrev pub is_last_of : (count : ℕ) → Option BusyWire → Bool

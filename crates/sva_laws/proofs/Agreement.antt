@@ -3,29 +3,27 @@ use Rattle.std.proofs.Common.{◌≡◌, ◌≢◌, ◌⊎◌, inl, inr, refl, a
 use Rattle.std.specs.Prelude.{Option, Some, None}
 use Rattle.std.proofs.lemmas.Bool.Decides.{nat_tests}
 use Rattle.sva_model.specs.Words.{all_below}
-use Rattle.sva_model.specs.State.{Owed, MappingState, PasidState, Endpoint, World, Stage, HostGroupState, GroupState}
+use Rattle.sva_model.specs.State.{Owed, MappingState, PasidState, Endpoint, World, Stage, HostGroupState}
 use Rattle.sva_model.specs.State.Owed.{Nothing, Ranges, Pasid, NextReset}
 use Rattle.sva_model.specs.State.MappingState.{Unmade, Present, Gone}
 use Rattle.sva_model.specs.State.Stage.{Stopping, Invalidating}
 use Rattle.sva_model.specs.State.PasidState.{Off, On, Ending}
 use Rattle.sva_model.specs.State.Phase.{Open}
 use Rattle.sva_model.specs.State.OrderState.{Done}
-use Rattle.sva_model.specs.States.{is_unreleased, is_before_invalidating, is_open, is_open_group, is_outstanding, is_done, answered, place, place_at}
+use Rattle.sva_model.specs.States.{is_unreleased, is_open, is_done, answered, place, place_at}
 use Rattle.sva_model.specs.States.{place_by, place_of_gone}
 use Rattle.sva_model.specs.States.Place.{Mapped, Withheld}
 use Rattle.sva_model.specs.Claims.{Usable, IsPresent, IsAt, IsMapped, IsBearer, HasSentMarker, IsMatched, asker_of}
 use Rattle.sva_model.specs.Claims.Usable.{cached, in_use, under_way}
 use Rattle.sva_laws.proofs.Words.{all_below-false}
-use Rattle.sva_laws.proofs.Bindings.{Bindings, is_unmarked}
+use Rattle.sva_laws.proofs.Bindings.{Bindings, is_unmarked, before_unreleased, unmarked_not_invalidating, unmarked_unreleased}
 use Rattle.sva_laws.proofs.Labels.{Labels}
-use Rattle.sva_laws.proofs.Orders.{is_active}
+use Rattle.sva_laws.proofs.Orders.{is_active, active_unreleased}
 use Rattle.sva_laws.proofs.Owners.{blocks, asker_stage}
 use Rattle.sva_laws.proofs.Safe.{IsAhead, Pending, IsSafe, owed_of}
-use Rattle.sva_laws.specs.Laws.{is_answerable}
-use Rattle.sva_laws.proofs.Groups.{is_filed_group, times_replied}
+use Rattle.sva_laws.proofs.Groups.{is_filed_group, times_replied, answerable_outstanding, open_filed}
 use Rattle.sva_laws.proofs.Invariant.{Invariant}
 use Rattle.sva_laws.proofs.Passed.{unreleased_bound}
-use Rattle.sva_laws.proofs.Unmap.{active_unreleased}
 
 -- Owners.
 
@@ -129,11 +127,8 @@ usable w e b q m i (under_way c r k h o) =
     safe_place w e ((w.part e).request_binding r) ((w.part e).request_page r) k (w.part e).uses i
     (active_owner w e ((w.part e).request_binding r) ((w.part e).request_page r) k i (under_way c r k h o)) (ow.flying_space c r k h)
     (ow.flying_page c r k h)
-    (λ x y inv. absurd (not_invalidating ((w.part e).stage ((w.part e).request_binding r)) x y st inv))
+    (λ x y inv. absurd (unmarked_not_invalidating ((w.part e).stage ((w.part e).request_binding r)) x y st inv))
     ((i.parts e).safe.flying c r k h o)
-  where
-    not_invalidating : (s : Stage) (x y : ℕ) → is_unmarked s ≡ true → s ≢ Invalidating x y
-    not_invalidating s x y h e = grind arith
 
 -- Page requests and responses.
 
@@ -176,22 +171,11 @@ matched w e i =
       arrived = λ r ph h. bearer p (asker_of p r) la (before_unreleased (p.stage (asker_of p r)) (gr.arrived_stage r h));
       noted = λ b h. has_sent_marker p b la (i.parts e).bindings h;
       marker = λ c b ph h. bearer p b la (ap is_unreleased ((i.parts e).bindings.marker_stage c b h));
-      response = λ c g code h. let x = gr.response c g code h in (gr.bears_index g (answerable (p.group g) x.0), gr.under g (ap is_filed_group x.1));
+      response = λ c g code h. let x = gr.response c g code h in
+          (gr.bears_index g (answerable_outstanding (p.group g) x.0), gr.under g (ap is_filed_group x.1));
       once = λ g. at_most (p.host_group g) (gr.responses g);
     }
   where
-    open_filed : (s : HostGroupState) → is_open_group s ≡ true → is_filed_group s ≡ true
-    open_filed s h = grind arith
-
-    unmarked_unreleased : (s : Stage) → is_unmarked s ≡ true → is_unreleased s ≡ true
-    unmarked_unreleased s h = grind arith
-
-    before_unreleased : (s : Stage) → is_before_invalidating s ≡ true → is_unreleased s ≡ true
-    before_unreleased s h = grind arith
-
-    answerable : (s : GroupState) → is_answerable s ≡ true → is_outstanding s ≡ true
-    answerable s h = grind arith
-
     at_most : (s : HostGroupState) {x : ℕ} → x ≡ times_replied s → x ≤ 1
     at_most s h = grind arith
 

@@ -3,6 +3,7 @@ use Rattle.std.proofs.Common.{◌≡◌, ◌≢◌, ◌⊎◌, inl, inr, refl, a
 use Rattle.std.specs.Prelude.{Option, Some, None, ◌&&◌, ◌||◌, ◌==◌, nat_lt, List, [], ◌∷◌, ◌++◌, map, length, if◌then◌else◌, Ok}
 use Rattle.std.specs.List.{list_any}
 use Rattle.std.proofs.lemmas.Bool.Decides.{nat_tests}
+use Rattle.std.proofs.lemmas.Bool.{cases_lt, eq-eqb, eqb-true, ltb-false}
 use Rattle.sva_step.specs.declared.answers.Answer.{Answer}
 use Rattle.sva_step.specs.declared.answers.Answer.TheVariants as answer
 use Rattle.sva_step.specs.declared.limits.Config.{Config}
@@ -14,9 +15,8 @@ use Rattle.sva_model.specs.Words.{put, select, is_some, the}
 use Rattle.sva_model.specs.States.{is_open, is_free, is_before_invalidating}
 use Rattle.sva_model.specs.Message.{Code}
 use Rattle.sva_model.specs.Message.Code.{SuccessCode, InvalidCode, FailureCode}
-use Rattle.sva_model.specs.State.{PasidRule, Stage, Endpoint, World}
+use Rattle.sva_model.specs.State.{PasidRule, Stage, World}
 use Rattle.sva_model.specs.State.Stage.{Live, Stopping, Draining}
-use Rattle.sva_model.specs.State.Phase.{Open}
 use Rattle.sva_model.specs.Acts.{Act, LocalAct, act}
 use Rattle.sva_model.specs.Acts.Act.{Map, LetGo, AtEndpoint}
 use Rattle.sva_model.specs.Labels.{asks, is_mapped, free_frames}
@@ -28,9 +28,10 @@ use Rattle.sva_model.specs.Steps.{reply, after_acts, world_after}
 use Rattle.sva_laws.specs.Asked.{IsAskedFor, IsAskedToWrite, MapsWhatIsAsked, RepliesBy, stage_of}
 use Rattle.sva_laws.proofs.Words.{put-same, put-other, ℕ_cases}
 use Rattle.sva_laws.proofs.Counting.{length_select}
-use Rattle.sva_laws.proofs.Passed.{is_at_most}
 use Rattle.sva_laws.proofs.Lookback.{after_one}
 use Rattle.sva_laws.proofs.Told.{accepted}
+use Rattle.sva_laws.proofs.Resets.{open_is, closed_is}
+use Rattle.sva_laws.proofs.Tests.{first_holds, second_holds, other_fails}
 
 -- What a list has.
 
@@ -154,20 +155,14 @@ asked_is w j q h =
     let x = map_has p.asked_page (asks p (w.job j).group) q h in
     let y = map_has p.filing (select p.filings is_of) x.0 x.1 in
     let z = select_has p.filings is_of y.0 y.1 in
-    record { filing = y.0; filed = z.0; of_group = same (p.group_of (p.filing y.0)) (w.job j).group z.1; of_page = ap p.asked_page y.2 ∙ x.2 }
-  where
-    same : (a b : ℕ) → (a == b) ≡ true → a ≡ b
-    same a b h = grind (arith, nat_tests)
-
-is_same : (a b : ℕ) → a ≡ b → (a == b) ≡ true
-is_same a b h = grind (arith, nat_tests)
+    record { filing = y.0; filed = z.0; of_group = eqb-true (p.group_of (p.filing y.0)) (w.job j).group z.1; of_page = ap p.asked_page y.2 ∙ x.2 }
 
 filed_asks : (w : World) (j k : ℕ) → k < (job_part w j).filings → (job_part w j).group_of ((job_part w j).filing k) ≡ (w.job j).group
     → Has (asks (job_part w j) (w.job j).group) ((job_part w j).filing k)
 filed_asks w j k l g =
     let p = job_part w j in
     has_map p.filing (select p.filings (λ i. p.group_of (p.filing i) == (w.job j).group)) k
-    (has_select p.filings (λ i. p.group_of (p.filing i) == (w.job j).group) k l (is_same (p.group_of (p.filing k)) (w.job j).group g))
+    (has_select p.filings (λ i. p.group_of (p.filing i) == (w.job j).group) k l (eq-eqb (p.group_of (p.filing k)) (w.job j).group g))
 
 is_asked : (w : World) (j q : ℕ) → IsAskedFor w j q → Has (map (job_part w j).asked_page (asks (job_part w j) (w.job j).group)) q
 is_asked w j q a =
@@ -185,19 +180,10 @@ written_is w j q h =
     record {
       filing = y.0;
       filed = z.0;
-      of_group = same (p.group_of (p.filing y.0)) (w.job j).group z.1;
-      of_page = ap p.asked_page y.2 ∙ first (p.asked_page x.0) q (p.asks_write x.0) x.2;
-      writes = ap p.asks_write y.2 ∙ second (p.asked_page x.0) q (p.asks_write x.0) x.2;
+      of_group = eqb-true (p.group_of (p.filing y.0)) (w.job j).group z.1;
+      of_page = ap p.asked_page y.2 ∙ eqb-true (p.asked_page x.0) q (first_holds (p.asked_page x.0 == q) (p.asks_write x.0) x.2);
+      writes = ap p.asks_write y.2 ∙ second_holds (p.asked_page x.0 == q) (p.asks_write x.0) x.2;
     }
-  where
-    same : (a b : ℕ) → (a == b) ≡ true → a ≡ b
-    same a b h = grind (arith, nat_tests)
-
-    first : (a b : ℕ) (t : Bool) → (a == b && t) ≡ true → a ≡ b
-    first a b t h = grind (arith, nat_tests)
-
-    second : (a b : ℕ) (t : Bool) → (a == b && t) ≡ true → t ≡ true
-    second a b t h = grind (arith, nat_tests)
 
 is_written : (w : World) (j q : ℕ) → IsAskedToWrite w j q → is_write_asked w j q ≡ true
 is_written w j q a =
@@ -224,7 +210,7 @@ none_mapped w x e o s write =
 one_more : (w v : World) (s q f : ℕ) (write : ℕ → Bool) (qs : List ℕ) → MapsEach (act w (Map s q f (write q))) v s write qs → MapsEach w v s write (q ∷ qs)
 one_more w v s q f write qs b =
     record {
-      new = λ m l k. new m l k (less_or m (suc w.mappings.made));
+      new = λ m l k. new m l k (cases_lt m (suc w.mappings.made));
       all = λ r h. all r h;
       kept = λ m l.
           let y = b.kept m (omega (arith, l)) in
@@ -233,9 +219,6 @@ one_more w v s q f write qs b =
       still = λ r h. b.still r (was r h (ℕ_cases r q));
     }
   where
-    less_or : (a c : ℕ) → (a < c) ⊎ (c ≤ a)
-    less_or a c = grind arith
-
     at : (act w (Map s q f (write q))).mappings.at s ≡ put (w.mappings.at s) q (Some w.mappings.made)
     at = put-same w.mappings.at s (put (w.mappings.at s) q (Some w.mappings.made))
 
@@ -308,7 +291,7 @@ success_maps w x j v (Some SuccessCode) count r a room =
     (is_write_asked w j) (newly_mapped w j)) (sym succeeds)
     (all_mapped (job_space w j) (is_write_asked w j) (newly_mapped w j) (free_list w) x (w.job j).endpoint sent w
     (subst (λ n. length (newly_mapped w j) ≤ n) (sym (length_select w.config.frames (is_free w)))
-    (is_at_most (free_frames w) (length (newly_mapped w j)) (second (replies_success w j v) _ room succeeds))))
+    (ltb-false (free_frames w) (length (newly_mapped w j)) (other_fails (replies_success w j v) _ room succeeds))))
   where
     sent : LocalAct
     sent = LocalAct.Respond (w.job j).group SuccessCode
@@ -318,10 +301,6 @@ success_maps w x j v (Some SuccessCode) count r a room =
 
     succeeds : replies_success w j v ≡ true
     succeeds = ap is_success r
-
-    second : (b c : Bool) → (b && c) ≡ false → b ≡ true → c ≡ false
-    second true c h e = h
-    second false c h e = absurd (cc)
 
 pub always_maps_asked : (rule : PasidRule) (config : Config) (steps : List Step) (x j : ℕ) (v : Verdict) (count : ℕ)
     → reply (world_after rule config steps) (step.Reply x v) ≡ Ok (answer.Success count) → (world_after rule config steps).hand x ≡ Some j
@@ -364,12 +343,6 @@ no_code true Live v h = absurd (cc)
 no_code true (Stopping m) v h = absurd (cc)
 no_code true (Draining x) v h = absurd (cc)
 no_code true s v h = inr refl
-
-open_is : (p : Endpoint) → is_open p.phase ≡ true → p.phase ≡ Open
-open_is p h = grind arith
-
-closed_is : (p : Endpoint) → is_open p.phase ≡ false → p.phase ≢ Open
-closed_is p h e = absurd (cc (sym (ap is_open e) ∙ h))
 
 replies_by : (w : World) (x j : ℕ) (v : Verdict) (said : Answer) (o : Option Code) → response_to w j v ≡ o
     → (reply_outcome w x j (reply_maps w j v) o).answer ≡ said → RepliesBy w j v said

@@ -3,18 +3,29 @@ use Rattle.std.proofs.Common.{◌≡◌, ◌≢◌, ℕ, ◌<◌, Bool, true, fa
 use Rattle.std.specs.Prelude.{Some, not}
 use Rattle.std.proofs.lemmas.Bool.Decides.{nat_tests}
 use Rattle.sva_model.specs.State.{Mappings, Endpoint, Stage}
-use Rattle.sva_model.specs.State.Stage.{Live, Stopping}
+use Rattle.sva_model.specs.State.Stage.{Live, Stopping, Invalidating}
 use Rattle.sva_model.specs.State.PasidState.{Off, On, Ending}
 use Rattle.sva_model.specs.State.Subject.{StartOf, StopOf, MarkerOf}
 use Rattle.sva_model.specs.Acts.{act_alone, LocalAct}
 use Rattle.sva_laws.proofs.Legal.{LegalLocalAct}
 use Rattle.sva_laws.proofs.Resets.{Resets}
+use Rattle.sva_model.specs.States.{is_unreleased, is_before_invalidating}
 
 -- Live, or Stopping with no marker noted
 abbrev pub is_unmarked : Stage → Bool
 is_unmarked Live = true
 is_unmarked (Stopping m) = not m
 is_unmarked _ = false
+
+-- What one stage says.
+pub unmarked_unreleased : (s : Stage) → is_unmarked s ≡ true → is_unreleased s ≡ true
+unmarked_unreleased s h = grind arith
+
+pub before_unreleased : (s : Stage) → is_before_invalidating s ≡ true → is_unreleased s ≡ true
+before_unreleased s h = grind arith
+
+pub unmarked_not_invalidating : (s : Stage) (k w : ℕ) → is_unmarked s ≡ true → s ≢ Invalidating k w
+unmarked_not_invalidating s k w h e = grind arith
 
 pub record Bindings (p : Endpoint) : Type 0 where
   pub start_once : (c d b : ℕ) → p.message c ≡ Some (StartOf b) → p.message d ≡ Some (StartOf b) → c ≡ d

@@ -1,8 +1,7 @@
 -- What was taken out is answered for, unit by unit, exactly where the look back over the list of steps says so.
 use Rattle.std.proofs.Common.{◌≡◌, refl, ap, sym, ◌∙◌, ℕ, true}
 use Rattle.std.specs.Prelude.{◌↔◌, Option, Some, None, ◌&&◌, ◌==◌, List, [], ◌∷◌, ◌++◌}
-use Rattle.std.proofs.lemmas.Bool.Decides.{nat_tests}
-use Rattle.std.proofs.Common.{arith}
+use Rattle.std.proofs.lemmas.Bool.{eqb-true}
 use Rattle.sva_step.specs.declared.limits.Config.{Config}
 use Rattle.sva_step.specs.declared.steps.Step.{Step}
 use Rattle.sva_model.specs.State.{PasidRule, Owed, Endpoint, World}
@@ -13,12 +12,12 @@ use Rattle.sva_model.specs.Steps.{next, world_after}
 use Rattle.sva_model.specs.Claims.{HasAnswered}
 use Rattle.sva_laws.specs.Waits.{AnswersByUnit}
 use Rattle.sva_laws.proofs.Words.{find_passes}
-use Rattle.sva_laws.proofs.Passed.{and_left, and_right}
 use Rattle.sva_laws.proofs.Unmap.{bound_is}
 use Rattle.sva_laws.proofs.Runs.{always}
 use Rattle.sva_laws.proofs.Lookback.{Goes, went, after_one}
 use Rattle.sva_laws.proofs.Lookback.Goes.{unmapped, dropped}
 use Rattle.sva_laws.proofs.Withheld.{answered_if, answers_if, then_part}
+use Rattle.sva_laws.proofs.Tests.{first_holds, second_holds}
 
 -- every unreleased binding of the space has answered by now
 abbrev pub AllAnswered : (was then now : Endpoint) (space page : ℕ) → Type 0
@@ -53,15 +52,12 @@ unit_answers rule c before step m e owed now (unmapped s q count order nx sp r o
         answers_if (w.part e) now then b (w.mappings.page m) q count order (cookie_of w s e) r u (then_part rule c before step e s q count order b nx bo)
         (ap (answered now) (sym (owes (Some b) bo)) ∙ h)
 
-    same : (a b : ℕ) → (a == b) ≡ true → a ≡ b
-    same a b h = grind (arith, nat_tests)
-
     back : AllAnswered (w.part e) then now (w.mappings.space m) (w.mappings.page m) → (o : Option ℕ) → bound w e s ≡ o → answered now (owed e) ≡ true
     back f None bo = ap (answered now) (owes None bo)
     back f (Some b) bo =
         let x = find_passes w.bindings (λ d. is_unreleased ((w.part e).stage d) && (w.part e).space d == s) b bo in
-        let u = and_left (is_unreleased ((w.part e).stage b)) ((w.part e).space b == s) x.1 in
-        let t = same ((w.part e).space b) s (and_right (is_unreleased ((w.part e).stage b)) ((w.part e).space b == s) x.1) in
+        let u = first_holds (is_unreleased ((w.part e).stage b)) ((w.part e).space b == s) x.1 in
+        let t = eqb-true ((w.part e).space b) s (second_holds (is_unreleased ((w.part e).stage b)) ((w.part e).space b == s) x.1) in
         ap (answered now) (owes (Some b) bo)
         ∙ answered_if (w.part e) now then b (w.mappings.page m) q count order (cookie_of w s e)
         (then_part rule c before step e s q count order b nx bo) (f b u (t ∙ sym sp))

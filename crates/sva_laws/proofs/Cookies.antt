@@ -1,8 +1,9 @@
 -- A cookie is given out once: no two waits have the same, over all units.
 use Rattle.sva_model.specs.State.{PasidRule}
 use Rattle.std.proofs.Common.{◌≡◌, ◌≢◌, ◌⊎◌, inl, inr, refl, ap, sym, subst, ◌∙◌, ℕ, zero, suc, ◌+◌, ◌<◌, ◌≤◌, Bool, true, false, arith}
-use Rattle.std.specs.Prelude.{Option, Some, None, ◌&&◌, ◌==◌, nat_lt, List, [], ◌∷◌, if◌then◌else◌}
+use Rattle.std.specs.Prelude.{Option, Some, None, ◌&&◌, ◌==◌, List, [], ◌∷◌, if◌then◌else◌}
 use Rattle.std.proofs.lemmas.Bool.Decides.{nat_tests}
+use Rattle.std.proofs.lemmas.Bool.{cases_lt}
 use Rattle.sva_step.specs.declared.answers.Answer.{Answer}
 use Rattle.sva_step.specs.declared.limits.Config.{Config}
 use Rattle.sva_step.specs.declared.steps.Step.{Step}
@@ -17,11 +18,13 @@ use Rattle.sva_laws.specs.UnitSteps.{GivesCookies}
 use Rattle.sva_laws.proofs.Words.{ℕ_cases, find_passes}
 use Rattle.sva_laws.proofs.Counting.{bit, count_next}
 use Rattle.sva_laws.proofs.Invariant.{Invariant}
+use Rattle.sva_laws.proofs.Submitted.{old_order}
 use Rattle.sva_laws.proofs.Keeps.{put_keeps}
-use Rattle.sva_laws.proofs.Passed.{and_left, unreleased_bound}
+use Rattle.sva_laws.proofs.Passed.{unreleased_bound}
 use Rattle.sva_laws.proofs.Runs.{next_keeps, opened_invariant}
 use Rattle.sva_laws.proofs.StepKinds.{IsBy, Kind, is_calm, is_calm_own, are_calm, step_kind}
 use Rattle.sva_laws.proofs.StepKinds.Kind.{calm, single, unmapping}
+use Rattle.sva_laws.proofs.Tests.{first_holds}
 
 -- What is counted below a number that passes is less than what is counted below a higher one.
 
@@ -45,19 +48,6 @@ count_strict n m f h t =
     let one = bit_true (f n) t in
     omega (arith, up, one, count_next n f)
 
-pub less_or_not : (a b : ℕ) → (a < b) ⊎ (b ≤ a)
-less_or_not a b = go (nat_lt a b) refl
-  where
-    less_is : nat_lt a b ≡ true → a < b
-    less_is h = grind (arith, nat_tests)
-
-    not_less : nat_lt a b ≡ false → b ≤ a
-    not_less h = grind (arith, nat_tests)
-
-    go : (c : Bool) → nat_lt a b ≡ c → (a < b) ⊎ (b ≤ a)
-    go true h = inl (less_is h)
-    go false h = inr (not_less h)
-
 -- What a step does to the waits of an endpoint: if it gives a cookie, there is one wait more, which has that.
 record PartWaits (Gets : Type 0) (given : ℕ) (p q : Endpoint) : Type 0 where
   old : (k : ℕ) → k < p.orders → q.order k ≡ p.order k
@@ -77,8 +67,8 @@ more_waits : (w v : World) (Gets : ℕ → Type 0) (given : ℕ → ℕ) → w.c
     → ((e f : ℕ) → Gets e → Gets f → given e ≡ given f → e ≡ f) → GivesCookies w → GivesCookies v
 more_waits w v Gets given up parts range apart co =
     record {
-      low = λ e k c x l h. low e k c x l h (less_or_not k (w.part e).orders);
-      once = λ e f k j c x y l m h i. once e f k j c x y l m h i (less_or_not k (w.part e).orders) (less_or_not j (w.part f).orders);
+      low = λ e k c x l h. low e k c x l h (cases_lt k (w.part e).orders);
+      once = λ e f k j c x y l m h i. once e f k j c x y l m h i (cases_lt k (w.part e).orders) (cases_lt j (w.part f).orders);
     }
   where
     low_old : (e k c : ℕ) (x : Bool) → k < (w.part e).orders → (v.part e).order k ≡ Wait c x → c < w.cookies
@@ -211,11 +201,9 @@ own_cookies w d o h co =
 -- An unmapping: the units to which it submits get cookies in their order.
 
 submitted_waits : (t : Bool) (p : Endpoint) (o : Option ℕ) (q count order cookie : ℕ) → PartWaits (t ≡ true) cookie p (submitted_if t p o q count order cookie)
-submitted_waits true p (Some b) q count order cookie = record { old = old; new = λ k c x low high h. (refl, new k c x low high h); once = once }
+submitted_waits true p (Some b) q count order cookie =
+    record { old = old_order p b q count order cookie; new = λ k c x low high h. (refl, new k c x low high h); once = once }
   where
-    old : (k : ℕ) → k < p.orders → (submitted p b q count order cookie).order k ≡ p.order k
-    old k l = grind (arith, nat_tests)
-
     new : (k c : ℕ) (x : Bool) → p.orders ≤ k → k < p.orders + suc count → (submitted p b q count order cookie).order k ≡ Wait c x → c ≡ cookie
     new k c x low high h = grind (arith, nat_tests)
 
@@ -235,14 +223,14 @@ submits_there w t e i h = go (bound w e t) refl h
     go None b h = absurd (cc)
     go (Some b) x h =
         let found = find_passes w.bindings (λ d. is_unreleased ((w.part e).stage d) && (w.part e).space d == t) b x in
-        (i.parts e).there b (unreleased_bound (w.part e) b (and_left (is_unreleased ((w.part e).stage b)) ((w.part e).space b == t) found.1))
+        (i.parts e).there b (unreleased_bound (w.part e) b (first_holds (is_unreleased ((w.part e).stage b)) ((w.part e).space b == t) found.1))
 
 unmap_cookies : (w : World) (t q count order : ℕ) → Invariant w → GivesCookies w → GivesCookies (act w (Unmap t q count order))
 unmap_cookies w t q count order i co =
     more_waits w (act w (Unmap t q count order)) (λ e. submits w t e ≡ true) (cookie_of w t) (omega arith)
     (λ e. submitted_waits (submits w t e) (w.part e) (bound w e t) q count order (cookie_of w t e))
     (λ e g. let s = count_strict e w.config.endpoints (submits w t) (submits_there w t e i g) g in (omega arith, omega (arith, s)))
-    (λ e f g h same. go e f g h same (less_or_not e f) (less_or_not f e))
+    (λ e f g h same. go e f g h same (cases_lt e f) (cases_lt f e))
     co
   where
     go : (e f : ℕ) → submits w t e ≡ true → submits w t f ≡ true → cookie_of w t e ≡ cookie_of w t f → (e < f) ⊎ (f ≤ e) → (f < e) ⊎ (e ≤ f) → e ≡ f

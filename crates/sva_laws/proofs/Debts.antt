@@ -22,7 +22,9 @@ use Rattle.sva_laws.specs.Waits.{IsBehind, FitsDebt}
 use Rattle.sva_laws.proofs.Words.{ℕ_cases}
 use Rattle.sva_laws.proofs.Legal.{LegalLocalAct}
 use Rattle.sva_laws.proofs.Bounds.{Bounds}
+use Rattle.sva_laws.proofs.Resets.{closed_is}
 use Rattle.sva_laws.proofs.Labels.{Labels}
+use Rattle.sva_laws.proofs.Submitted.{old_order, old_state}
 use Rattle.sva_laws.proofs.Orders.{Orders, SentOnly, is_queued_or_done}
 use Rattle.sva_laws.proofs.Invariant.{Invariant}
 use Rattle.sva_laws.proofs.Keeps.{Legal, act_keeps, put_keeps}
@@ -39,7 +41,7 @@ made_kept p n o x h = grind (arith, nat_tests)
 wait_kept : (p : Endpoint) (n : ℕ) (o : LocalAct) (x : ℕ) (b : Bool) → x < p.orders → is_wait (p.order x) ≡ b → is_wait ((act_alone p n o).order x) ≡ b
 wait_kept p n o x b made w = grind (arith, nat_tests)
 
-counted_kept : (p : Endpoint) (n : ℕ) (o : LocalAct) (resets : ℕ) → resets ≤ p.resets → resets ≤ (act_alone p n o).resets
+pub counted_kept : (p : Endpoint) (n : ℕ) (o : LocalAct) (resets : ℕ) → resets ≤ p.resets → resets ≤ (act_alone p n o).resets
 counted_kept p n o resets h = grind (arith, nat_tests)
 
 not_void_kept : (ms : Mappings) (g n : ℕ) (p : Endpoint) (o : LocalAct) → LegalLocalAct ms g p o → Bounds g p → SentOnly p → (resets k : ℕ)
@@ -100,22 +102,18 @@ behind_submitted p b q count order cookie first x resets h =
     record {
       low = h.low;
       made = let m = h.made in omega (arith, m);
-      is_a_wait = old_order x true h.made h.is_a_wait;
-      ahead = λ k a z. old_order k false (let m = h.made in omega (arith, z, m)) (h.ahead k a z);
+      is_a_wait = old_wait x true h.made h.is_a_wait;
+      ahead = λ k a z. old_wait k false (let m = h.made in omega (arith, z, m)) (h.ahead k a z);
       counted = h.counted;
-      not_void = λ same ph k a z v. h.not_void same ph k a z (sym (old_state k (let m = h.made in omega (arith, z, m))) ∙ v);
-      done = λ same d k a z. old_state k (let m = h.made in omega (arith, z, m)) ∙ h.done same (sym (old_state x h.made) ∙ d) k a z;
-      void = λ same v c y i. h.void same (sym (old_state x h.made) ∙ v) c y (sym (old_same x h.made) ∙ i);
+      not_void = λ same ph k a z v. h.not_void same ph k a z (sym (old_state p b q count order cookie k (let m = h.made in omega (arith, z, m))) ∙ v);
+      done = λ same d k a z.
+          old_state p b q count order cookie k (let m = h.made in omega (arith, z, m))
+          ∙ h.done same (sym (old_state p b q count order cookie x h.made) ∙ d) k a z;
+      void = λ same v c y i. h.void same (sym (old_state p b q count order cookie x h.made) ∙ v) c y (sym (old_order p b q count order cookie x h.made) ∙ i);
     }
   where
-    old_same : (k : ℕ) → k < p.orders → (submitted p b q count order cookie).order k ≡ p.order k
-    old_same k made = grind (arith, nat_tests)
-
-    old_order : (k : ℕ) (t : Bool) → k < p.orders → is_wait (p.order k) ≡ t → is_wait ((submitted p b q count order cookie).order k) ≡ t
-    old_order k t made w = ap is_wait (old_same k made) ∙ w
-
-    old_state : (k : ℕ) → k < p.orders → (submitted p b q count order cookie).order_state k ≡ p.order_state k
-    old_state k made = grind (arith, nat_tests)
+    old_wait : (k : ℕ) (t : Bool) → k < p.orders → is_wait (p.order k) ≡ t → is_wait ((submitted p b q count order cookie).order k) ≡ t
+    old_wait k t made w = ap is_wait (old_order p b q count order cookie k made) ∙ w
 
 submitted_debt : (t : Bool) (p : Endpoint) (o : Option ℕ) (q count order cookie : ℕ) (v : Owed) → FitsDebt p v
     → FitsDebt (submitted_if t p o q count order cookie) v
@@ -179,9 +177,6 @@ new_pasid cookies p b k w or f h =
         go : (j ≡ k) ⊎ (j ≢ k) → p.order_state j ≡ Done
         go (inl s) = ap p.order_state s ∙ dk
         go (inr ne) = let s : j ≡ w = omega (arith, e, a, z, ne) in ap p.order_state s ∙ dw
-
-closed_is : (p : Endpoint) → is_open p.phase ≡ false → p.phase ≢ Open
-closed_is p h e = absurd (cc (sym (ap is_open e) ∙ h))
 
 unit_debt : (p : Endpoint) (b q count order cookie : ℕ) → 0 < count → (o : Bool) → is_open p.phase ≡ o
     → FitsDebt (submitted_if (o && true) p (Some b) q count order cookie) (owed_by_unit p count o)

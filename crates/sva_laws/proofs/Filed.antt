@@ -21,12 +21,17 @@ use Rattle.sva_laws.proofs.Keeps.{Legal, act_keeps, put_keeps}
 use Rattle.sva_laws.proofs.Passed.{LegalAll}
 use Rattle.sva_laws.proofs.Limits.{always_outstanding}
 use Rattle.sva_laws.proofs.Runs.{always, step_legal, next_keeps, opened_invariant}
+use Rattle.sva_laws.proofs.Bounds.{Bounds}
 
 pub record FiledOnce (p : Endpoint) : Type 0 where
   pub filed : (k : ℕ) → k < p.filings → p.page_request (p.filing k) ≡ Filed
   pub once : (j k : ℕ) → j < p.filings → k < p.filings → p.filing j ≡ p.filing k → j ≡ k
 
-filed_kept : (ms : Mappings) (g n : ℕ) (p : Endpoint) (o : LocalAct) → LegalLocalAct ms g p o → Queued p
+-- what is filed is made
+pub filed_made : (g : ℕ) (p : Endpoint) → Bounds g p → (r : ℕ) → p.page_request r ≡ Filed → r < p.page_requests
+filed_made g p bo r h = grind (arith, bo.page_request r)
+
+pub filed_kept : (ms : Mappings) (g n : ℕ) (p : Endpoint) (o : LocalAct) → LegalLocalAct ms g p o → Queued p
     → (p.page_requests ≤ p.page_requests → p.page_request p.page_requests ≡ Dropped) → (k : ℕ)
     → (k < p.filings → p.page_request (p.filing k) ≡ Filed) → k < (act_alone p n o).filings
     → (act_alone p n o).page_request ((act_alone p n o).filing k) ≡ Filed
@@ -50,7 +55,7 @@ submitted_filed true p (Some b) q count order cookie fi = record { filed = fi.fi
 submitted_filed true p None q count order cookie fi = fi
 submitted_filed false p o q count order cookie fi = fi
 
-abbrev AllFiled : World → Type 0
+abbrev pub AllFiled : World → Type 0
 AllFiled w = (e : ℕ) → FiledOnce (w.part e)
 
 act_filed : (w : World) (a : Act) → Legal w a → Invariant w → AllFiled w → AllFiled (act w a)
@@ -74,7 +79,7 @@ run_filed : (ss : List Step) (w : World) → Invariant w → AllFiled w → AllF
 run_filed [] w i h = h
 run_filed (s ∷ ss) w i h = run_filed ss (next w s) (next_keeps w s i) (acts_filed (decide w s).acts w (step_legal w s i) i h)
 
-always_filed : (rule : PasidRule) (c : Config) (ss : List Step) → AllFiled (world_after rule c ss)
+pub always_filed : (rule : PasidRule) (c : Config) (ss : List Step) → AllFiled (world_after rule c ss)
 always_filed rule c ss =
     run_filed ss (opened rule c) (opened_invariant rule c) (λ e. record {
       filed = λ k h. absurd (omega (arith, h));
@@ -97,18 +102,13 @@ few ms x g n e p y i fi h op = omega (arith, length_mapped p.filing (select p.fi
     open_phase true k = grind arith
     open_phase false k = absurd (cc (sym op ∙ i.resets.unfiled y k))
 
-    made : (k : ℕ) → k < p.filings → p.filing k < p.page_requests
-    made k l = by (fi.filed k l) (i.bounds.page_request (p.filing k))
-      where
-        by : p.page_request (p.filing k) ≡ Filed → (p.page_requests ≤ p.filing k → p.page_request (p.filing k) ≡ Dropped) → p.filing k < p.page_requests
-        by h d = grind (arith)
-
     same : (k : ℕ) → is_of k ≡ true → p.group_of (p.filing k) ≡ y
     same k t = grind (arith, nat_tests)
 
     placed : count_below p.filings is_of ≤ outstanding p
     placed =
-        count_placed p.filings p.page_requests is_of (λ r. is_outstanding (p.group (p.group_of r))) p.filing (λ k l t. made k l)
+        count_placed p.filings p.page_requests is_of (λ r. is_outstanding (p.group (p.group_of r))) p.filing
+        (λ k l t. filed_made g p i.bounds (p.filing k) (fi.filed k l))
         (λ k l t. ap (λ z. is_outstanding (p.group z)) (same k t) ∙ (i.groups.open_group y (open_phase (is_open p.phase) refl) op).0)
         fi.once
 

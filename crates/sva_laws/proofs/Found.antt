@@ -1,7 +1,8 @@
 -- From the invariant to what labels find and what can't occur.
 use Rattle.std.proofs.Common.{◌≡◌, ◌≢◌, ◌⊎◌, inl, inr, refl, ap, sym, subst, ◌∙◌, ℕ, ◌<◌, true, false, arith}
-use Rattle.std.specs.Prelude.{Option, Some, None, ◌==◌}
+use Rattle.std.specs.Prelude.{Option, Some, None}
 use Rattle.std.proofs.lemmas.Bool.Decides.{nat_tests}
+use Rattle.std.proofs.lemmas.Bool.{eqb-true}
 use Rattle.sva_model.specs.Message.{Code}
 use Rattle.sva_model.specs.State.{Subject, PasidState, GroupState, HostGroupState, Endpoint, World, Stage, UseState, Phase, OrderState}
 use Rattle.sva_model.specs.State.Subject.{StartOf, StopOf, FunctionReset, CompletionOf, InvalidateOf, ResponseOf, RequestOf, InvalidatedOf, PageRequestOf}
@@ -19,9 +20,9 @@ use Rattle.sva_model.specs.Claims.{IsBearer}
 use Rattle.sva_model.specs.Acts.{binding_of}
 use Rattle.sva_laws.specs.Laws.{IsLabelled, IsFound, IsOnItsWay, IsUnderWay, NeverOccurs, HoldsJobs, is_answerable}
 use Rattle.sva_laws.specs.Laws.IsOnItsWay.{asked, is_job, in_hand, answered}
-use Rattle.sva_laws.proofs.Bindings.{Bindings, is_unmarked}
+use Rattle.sva_laws.proofs.Bindings.{Bindings, is_unmarked, unmarked_unreleased}
 use Rattle.sva_laws.proofs.Labels.{Labels, has_slot}
-use Rattle.sva_laws.proofs.Orders.{is_undone, is_active}
+use Rattle.sva_laws.proofs.Orders.{is_undone, is_active, active_unreleased}
 use Rattle.sva_laws.proofs.Requests.{is_cleared}
 use Rattle.sva_laws.proofs.Invariant.{Invariant, IsHeldBy}
 use Rattle.sva_laws.proofs.PageRequests.{is_whole}
@@ -31,12 +32,8 @@ use Rattle.sva_laws.proofs.Ways.{Ways, is_of_request, is_response_to}
 use Rattle.sva_laws.proofs.Jobs.{Jobs}
 use Rattle.sva_laws.proofs.Completions.{Owed}
 use Rattle.sva_laws.proofs.Agreement.{bearer}
-use Rattle.sva_laws.proofs.Unmap.{active_unreleased}
 use Rattle.sva_laws.proofs.Groups.{answerable_outstanding}
 use Rattle.sva_laws.proofs.Groups.{not_active as not_before}
-
-equal : (x y : ℕ) → (x == y) ≡ true → x ≡ y
-equal x y h = grind (arith, nat_tests)
 
 taken_slot : (u : UseState) → u ≢ Ended → has_slot u ≡ true
 taken_slot u h = grind arith
@@ -65,9 +62,6 @@ labelled w e i =
       index_low = λ g h. gr.index_low (p.index g) g (gr.bears_index g h);
       one_space = λ b d u v same. la.one_space b d u v same;
     }
-
-pub unmarked_unreleased : (s : Stage) → is_unmarked s ≡ true → is_unreleased s ≡ true
-unmarked_unreleased s h = grind arith
 
 not_cleared : (x : Phase) → x ≡ Open → is_cleared x ≡ false
 not_cleared x h = grind arith
@@ -194,8 +188,8 @@ never w e i =
 
 -- what is awaited is on its way
 request_there : (r : ℕ) (m : Option Subject) → is_of_request r m ≡ true → (m ≡ Some (RequestOf r)) ⊎ ((found : Option ℕ) × (m ≡ Some (CompletionOf r found)))
-request_there r (Some (RequestOf x)) h = inl (ap (λ y. Some (RequestOf y)) (equal x r h))
-request_there r (Some (CompletionOf x f)) h = inr (f, ap (λ y. Some (CompletionOf y f)) (equal x r h))
+request_there r (Some (RequestOf x)) h = inl (ap (λ y. Some (RequestOf y)) (eqb-true x r h))
+request_there r (Some (CompletionOf x f)) h = inr (f, ap (λ y. Some (CompletionOf y f)) (eqb-true x r h))
 request_there r None h = absurd (cc)
 request_there r (Some (StartOf b)) h = absurd (cc)
 request_there r (Some (StopOf b)) h = absurd (cc)
@@ -208,7 +202,7 @@ request_there r (Some (MarkerOf b)) h = absurd (cc)
 request_there r (Some ResetDone) h = absurd (cc)
 
 response_there : (g : ℕ) (m : Option Subject) → is_response_to g m ≡ true → (code : Code) × (m ≡ Some (ResponseOf g code))
-response_there g (Some (ResponseOf x code)) h = (code, ap (λ y. Some (ResponseOf y code)) (equal x g h))
+response_there g (Some (ResponseOf x code)) h = (code, ap (λ y. Some (ResponseOf y code)) (eqb-true x g h))
 response_there g None h = absurd (cc)
 response_there g (Some (RequestOf x)) h = absurd (cc)
 response_there g (Some (CompletionOf x f)) h = absurd (cc)

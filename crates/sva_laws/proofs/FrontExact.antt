@@ -2,6 +2,8 @@
 use Rattle.std.proofs.Common.{◌≡◌, ◌≢◌, ◌⊎◌, inl, inr, refl, ap, sym, subst, ◌∙◌, ℕ, suc, ◌+◌, ◌<◌, ◌≤◌, Bool, true, false, arith, append_assoc}
 use Rattle.std.specs.Prelude.{Option, Some, None, List, [], ◌∷◌, ◌++◌, if◌then◌else◌}
 use Rattle.std.proofs.lemmas.Bool.Decides.{nat_tests}
+use Rattle.std.proofs.lemmas.Bool.{cases_lt}
+use Rattle.std.proofs.lemmas.List.{append-nil}
 use Rattle.sva_step.specs.declared.limits.Config.{Config}
 use Rattle.sva_step.specs.declared.steps.Step.{Step}
 use Rattle.sva_model.specs.State.{PasidRule, Mappings, Order, OrderState, Endpoint, World, opened}
@@ -19,14 +21,15 @@ use Rattle.sva_laws.proofs.Bounds.{Bounds}
 use Rattle.sva_laws.proofs.Invariant.{Invariant, PartInvariant}
 use Rattle.sva_laws.proofs.Keeps.{put_keeps}
 use Rattle.sva_laws.proofs.Passed.{LegalAll}
-use Rattle.sva_laws.proofs.Cookies.{less_or_not, own_old}
+use Rattle.sva_laws.proofs.Cookies.{own_old}
 use Rattle.sva_laws.proofs.Fronts.{Fronts, AllFronts, HasGreatest, more_orders, always_fronts}
 use Rattle.sva_laws.proofs.Targets.{queued_front, done_below}
-use Rattle.sva_laws.proofs.Debts.{behind_kept, behind_submitted}
+use Rattle.sva_laws.proofs.Debts.{counted_kept, behind_kept, behind_submitted}
+use Rattle.sva_laws.proofs.Submitted.{old_order, old_state}
 use Rattle.sva_laws.proofs.PartRuns.{IsKeptByParts, run_part}
 use Rattle.sva_laws.proofs.StepKinds.{Kind, is_calm, is_calm_own, are_calm, step_kind}
 use Rattle.sva_laws.proofs.StepKinds.Kind.{calm, single, unmapping}
-use Rattle.sva_laws.proofs.Lookback.{run_append, after_one, append_none}
+use Rattle.sva_laws.proofs.Lookback.{run_append, after_one}
 use Rattle.sva_laws.proofs.Runs.{always, step_legal}
 
 -- The front doesn't fall.
@@ -62,9 +65,6 @@ record IsOver (k c : ℕ) (x : Bool) (resets : ℕ) (p : Endpoint) : Type 0 wher
   counted : resets ≤ p.resets
   over : resets < p.resets → c < p.front
 
-counted_kept : (p : Endpoint) (n : ℕ) (o : LocalAct) (resets : ℕ) → resets ≤ p.resets → resets ≤ (act_alone p n o).resets
-counted_kept p n o resets h = grind (arith, nat_tests)
-
 over_kept : (ms : Mappings) (g n : ℕ) (p : Endpoint) (o : LocalAct) → LegalLocalAct ms g p o → (resets c : ℕ) → resets ≤ p.resets → c < p.waits_end
     → p.front ≤ (act_alone p n o).front → (resets < p.resets → c < p.front) → resets < (act_alone p n o).resets → c < (act_alone p n o).front
 over_kept ms g n p o l resets c low below up old h = grind (arith, nat_tests)
@@ -81,14 +81,11 @@ over_parts k c x resets =
       };
       more = λ p b q count order cookie h. record {
         made = let z = h.made in omega (arith, z);
-        cookie = old p b q count order cookie h.made ∙ h.cookie;
+        cookie = old_order p b q count order cookie k h.made ∙ h.cookie;
         counted = h.counted;
         over = h.over;
       };
     }
-  where
-    old : (p : Endpoint) (b q count order cookie : ℕ) → k < p.orders → (submitted p b q count order cookie).order k ≡ p.order k
-    old p b q count order cookie made = grind (arith, nat_tests)
 
 -- A wait that was queued when so many reset-dones had come is void by the present reset alone while no more have.
 
@@ -105,12 +102,9 @@ here_parts k c x resets =
       };
       more = λ p b q count order cookie h. record {
         behind = behind_submitted p b q count order cookie k k resets h.behind;
-        cookie = old p b q count order cookie h.behind.made ∙ h.cookie;
+        cookie = old_order p b q count order cookie k h.behind.made ∙ h.cookie;
       };
     }
-  where
-    old : (p : Endpoint) (b q count order cookie : ℕ) → k < p.orders → (submitted p b q count order cookie).order k ≡ p.order k
-    old p b q count order cookie made = grind (arith, nat_tests)
 
 queued_behind : (p : Endpoint) (k c : ℕ) (x : Bool) → k < p.orders → p.order k ≡ Wait c x → p.order_state k ≡ Queued → IsBehind p k k p.resets
 queued_behind p k c x made h q =
@@ -163,12 +157,9 @@ end_parts =
       more = more;
     }
   where
-    old : (p : Endpoint) (b q count order cookie k : ℕ) → k < p.orders → (submitted p b q count order cookie).order k ≡ p.order k
-    old p b q count order cookie k made = grind (arith, nat_tests)
-
     more : (p : Endpoint) (b q count order cookie : ℕ) → IsEndOfWait p → IsEndOfWait (submitted p b q count order cookie)
     more p b q count order cookie (inl h) = inl h
-    more p b q count order cookie (inr (k, c, x, made, h, i)) = inr (k, c, x, omega (arith, made), old p b q count order cookie k made ∙ h, i)
+    more p b q count order cookie (inr (k, c, x, made, h, i)) = inr (k, c, x, omega (arith, made), old_order p b q count order cookie k made ∙ h, i)
 
 -- What one step does to a wait that is void after it: it was void before on the same side of the front; or the step is the Reset
 -- that made it void, or ends the reset.
@@ -301,7 +292,7 @@ own_turns w e o false z l i f =
           let old = sym (own_old (w.part e) w.messages o k made) ∙ h in
           let void = was_void w.mappings w.bindings w.messages (w.part e) o l z k made v in
           let same = same_resets (w.part e) w.messages o z in
-          (made, old, void, inl (side k c x made old void a (less_or_not c (w.part e).front), omega (arith, same)));
+          (made, old, void, inl (side k c x made old void a (cases_lt c (w.part e).front), omega (arith, same)));
     }
   where
     contrary : (k c : ℕ) → (w.part e).order_state k ≡ Void → c < (act_alone (w.part e) w.messages o).front → (w.part e).front ≤ c
@@ -332,7 +323,7 @@ own_turns w e LocalAct.Reset true z l i f =
 own_turns w e (LocalAct.Reopen c) true z l i f =
     record {
       ahead = λ k d x m h v a. let low = f.below k d x m h in absurd (omega (arith, low, a));
-      past = λ k d x m h v a. (m, h, void k d x m h (was_undone ((w.part e).order_state k) v) (less_or_not d (w.part e).front), inr (omega arith));
+      past = λ k d x m h v a. (m, h, void k d x m h (was_undone ((w.part e).order_state k) v) (cases_lt d (w.part e).front), inr (omega arith));
     }
   where
     closed : is_open (w.part e).phase ≡ false
@@ -355,18 +346,14 @@ own_turns w e o true z l i f = absurd (grind arith)
 submitted_turns : (t : Bool) (p : Endpoint) (o : Option ℕ) (q count order cookie : ℕ) → Turns p (submitted_if t p o q count order cookie)
 submitted_turns true p (Some b) q count order cookie =
     record {
-      ahead = λ k c x m h v a. let made = old_void k m v in (made, sym (old k made) ∙ h, refl, inr (sym (state k made) ∙ v, a));
-      past = λ k c x m h v a. let made = old_void k m v in (made, sym (old k made) ∙ h, sym (state k made) ∙ v, inl (a, omega arith));
+      ahead = λ k c x m h v a. let made = old_void k m v in
+          (made, sym (old_order p b q count order cookie k made) ∙ h, refl, inr (sym (old_state p b q count order cookie k made) ∙ v, a));
+      past = λ k c x m h v a. let made = old_void k m v in
+          (made, sym (old_order p b q count order cookie k made) ∙ h, sym (old_state p b q count order cookie k made) ∙ v, inl (a, omega arith));
     }
   where
     old_void : (k : ℕ) → k < p.orders + suc count → (submitted p b q count order cookie).order_state k ≡ Void → k < p.orders
     old_void k m v = grind (arith, nat_tests)
-
-    old : (k : ℕ) → k < p.orders → (submitted p b q count order cookie).order k ≡ p.order k
-    old k made = grind (arith, nat_tests)
-
-    state : (k : ℕ) → k < p.orders → (submitted p b q count order cookie).order_state k ≡ p.order_state k
-    state k made = grind (arith, nat_tests)
 submitted_turns true p None q count order cookie = still_turns p p (still_same p)
 submitted_turns false p o q count order cookie = still_turns p p (still_same p)
 
@@ -450,7 +437,7 @@ moments_next rule c ss s e old =
     ahead k d x (m, h, same, inr (v, low)) = queued_more rule c ss s e k same (old.ahead k d x m h v low)
 
 moments_along : (rule : PasidRule) (c : Config) (rest before : List Step) (e : ℕ) → HasMoments rule c before e → HasMoments rule c (before ++ rest) e
-moments_along rule c [] before e old = subst (λ z. HasMoments rule c z e) (sym (append_none before)) old
+moments_along rule c [] before e old = subst (λ z. HasMoments rule c z e) (sym (append-nil before)) old
 moments_along rule c (s ∷ rest) before e old =
     subst (λ z. HasMoments rule c z e) (append_assoc before (s ∷ []) rest)
     (moments_along rule c rest (before ++ s ∷ []) e (moments_next rule c before s e old))
@@ -481,11 +468,8 @@ order_parts k o =
           let m = more_orders (w.part e) w.messages a in
           let z = h.0 in
           (omega (arith, m, z), own_old (w.part e) w.messages a k h.0 ∙ h.1);
-      more = λ p b q count order cookie h. let z = h.0 in (omega (arith, z), old p b q count order cookie h.0 ∙ h.1);
+      more = λ p b q count order cookie h. let z = h.0 in (omega (arith, z), old_order p b q count order cookie k h.0 ∙ h.1);
     }
-  where
-    old : (p : Endpoint) (b q count order cookie : ℕ) → k < p.orders → (submitted p b q count order cookie).order k ≡ p.order k
-    old p b q count order cookie made = grind (arith, nat_tests)
 
 pub same_order : (rule : PasidRule) (c : Config) (before since : List Step) (e k : ℕ) → k < (part_after rule c before e).orders
     → (k < (part_after rule c (before ++ since) e).orders)

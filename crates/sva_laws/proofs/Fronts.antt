@@ -2,6 +2,7 @@
 use Rattle.std.proofs.Common.{◌≡◌, ◌≢◌, ◌⊎◌, inl, inr, refl, ap, sym, subst, ◌∙◌, ℕ, suc, ◌+◌, ◌<◌, ◌≤◌, Bool, true, false, arith}
 use Rattle.std.specs.Prelude.{Option, Some, None, List, [], ◌∷◌}
 use Rattle.std.proofs.lemmas.Bool.Decides.{nat_tests}
+use Rattle.std.proofs.lemmas.Bool.{cases_lt}
 use Rattle.sva_step.specs.declared.limits.Config.{Config}
 use Rattle.sva_step.specs.declared.steps.Step.{Step}
 use Rattle.sva_model.specs.Words.{put, put_range, count_below}
@@ -22,7 +23,7 @@ use Rattle.sva_laws.proofs.Orders.{Orders, SentOnly, is_queued_or_done}
 use Rattle.sva_laws.proofs.Invariant.{Invariant}
 use Rattle.sva_laws.proofs.Keeps.{Legal, SuitsWorld, act_keeps, put_keeps}
 use Rattle.sva_laws.proofs.Passed.{LegalAll}
-use Rattle.sva_laws.proofs.Cookies.{HasCookie, less_or_not, own_old, count_strict, submits_there}
+use Rattle.sva_laws.proofs.Cookies.{HasCookie, own_old, count_strict, submits_there}
 use Rattle.sva_laws.proofs.Runs.{step_legal, next_keeps, opened_invariant}
 
 -- the end of the cookies is one more than the greatest, and 0 where none was submitted
@@ -94,11 +95,11 @@ at_front_of cookies p f ph k c x made h a = elim (f.at_front k c x made h a) [ i
 
 not_passed : (cookies : ℕ) (p : Endpoint) (j d : ℕ) (y : Bool) → Fronts cookies p → IsFirst p j d y → p.front ≤ d
 not_passed cookies p j d y f is =
-    elim (less_or_not d p.front) [ inl l ↦ absurd (is_queued (p.order_state j) is.queued (f.passed j d y is.made is.cookie l)) | inr m ↦ m ]
+    elim (cases_lt d p.front) [ inl l ↦ absurd (is_queued (p.order_state j) is.queued (f.passed j d y is.made is.cookie l)) | inr m ↦ m ]
 
 pass_at : (cookies : ℕ) (p : Endpoint) (j d : ℕ) (y : Bool) → Fronts cookies p → IsFirst p j d y → (k c : ℕ) (x : Bool) → k < p.orders → p.order k
     ≡ Wait c x → d < c → put p.order_state j Done k ≡ Queued
-pass_at cookies p j d y f is k c x made h lt = go (ℕ_cases k j) (less_or_not k j)
+pass_at cookies p j d y f is k c x made h lt = go (ℕ_cases k j) (cases_lt k j)
   where
     go : (k ≡ j) ⊎ (k ≢ j) → (k < j) ⊎ (j ≤ k) → put p.order_state j Done k ≡ Queued
     go (inl e) z = let s = same_cookie (p.order j) c d x y (sym (ap p.order e) ∙ h) is.cookie in absurd (omega (arith, s, lt))
@@ -109,7 +110,7 @@ pass_at cookies p j d y f is k c x made h lt = go (ℕ_cases k j) (less_or_not k
 
 pass_below : (cookies : ℕ) (p : Endpoint) (j d : ℕ) (y : Bool) → Fronts cookies p → IsFirst p j d y → (k c : ℕ) (x : Bool) → k < p.orders → p.order k
     ≡ Wait c x → c ≤ d → (put p.order_state j Done k ≡ Done) ⊎ (put p.order_state j Done k ≡ Void)
-pass_below cookies p j d y f is k c x made h le = go (ℕ_cases k j) (less_or_not k j)
+pass_below cookies p j d y f is k c x made h le = go (ℕ_cases k j) (cases_lt k j)
   where
     before : p.order_state k ≢ Queued → (p.front ≤ c) ⊎ (c < p.front) → (p.order_state k ≡ Done) ⊎ (p.order_state k ≡ Void)
     before nq (inl a) = absurd (nq (at_front_of cookies p f is.opened k c x made h a))
@@ -125,7 +126,7 @@ pass_below cookies p j d y f is k c x made h le = go (ℕ_cases k j) (less_or_no
 
     go : (k ≡ j) ⊎ (k ≢ j) → (k < j) ⊎ (j ≤ k) → (put p.order_state j Done k ≡ Done) ⊎ (put p.order_state j Done k ≡ Void)
     go (inl e) z = inl (subst (λ i. put p.order_state j Done i ≡ Done) (sym e) (put-same p.order_state j Done))
-    go (inr ne) (inl l) = still ne (before (is.first k l) (turned (less_or_not c p.front)))
+    go (inr ne) (inl l) = still ne (before (is.first k l) (turned (cases_lt c p.front)))
     go (inr ne) (inr l) = let r = f.rise j k d c y x (omega (arith, l, ne)) made is.cookie h in absurd (omega (arith, r, le))
 
 abbrev pub passes : LocalAct → Bool

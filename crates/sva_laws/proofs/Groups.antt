@@ -28,6 +28,9 @@ abbrev pub is_filed_group : HostGroupState → Bool
 is_filed_group NotFiled = false
 is_filed_group _ = true
 
+pub open_filed : (h : HostGroupState) → is_open_group h ≡ true → is_filed_group h ≡ true
+open_filed h e = grind arith
+
 abbrev pub is_alive_group : GroupState → Bool
 is_alive_group Collecting = true
 is_alive_group Awaiting = true

@@ -3,6 +3,7 @@ use Rattle.sva_model.specs.State.{PasidRule}
 use Rattle.std.proofs.Common.{◌≡◌, ◌≢◌, ◌⊎◌, inl, inr, refl, ap, sym, ◌∙◌, ℕ, ◌<◌, Bool, true, false, arith}
 use Rattle.std.specs.Prelude.{Option, Some, None, List, [], ◌∷◌, ◌++◌, if◌then◌else◌, Err}
 use Rattle.std.proofs.lemmas.Bool.Decides.{nat_tests}
+use Rattle.std.proofs.lemmas.Bool.{not-false}
 use Rattle.sva_step.specs.declared.limits.Config.{Config}
 use Rattle.sva_step.specs.declared.steps.Step.{Step}
 use Rattle.sva_step.specs.declared.steps.Step.TheVariants as step
@@ -28,7 +29,7 @@ use Rattle.sva_model.specs.Outcomes.{serve_outcome, file_outcome, take_outcome, 
 use Rattle.sva_model.specs.Outcomes.{completion_outcome, keep_outcome, is_full, request_outcome, count_outcome, page_request_outcome, marker_outcome}
 use Rattle.sva_model.specs.States.{is_open, is_outstanding}
 use Rattle.sva_model.specs.Steps.{checked, decide, next, run, after_acts, world_after}
-use Rattle.sva_laws.proofs.Words.{put-same, put-other, ℕ_cases, none_is, some_the, not_true}
+use Rattle.sva_laws.proofs.Words.{put-same, put-other, ℕ_cases, none_is, some_the}
 use Rattle.sva_laws.proofs.PageRequests.{is_whole}
 use Rattle.sva_laws.proofs.Groups.{whole_filed}
 use Rattle.sva_laws.proofs.Invariant.{IsHeldBy, Invariant}
@@ -335,7 +336,7 @@ outcome_jobs w (step.Serve e) i on p h = serve_jobs w e (Labels.is_page_queue_em
 outcome_jobs w (step.Reset e) i on p h = acts_calm (outcome w (step.Reset e)).acts w (tt, tt) h
 outcome_jobs w (step.Take x) i on p h = take_jobs w x (lowest w.jobs (Labels.is_queued_job w)) (none_is (w.hand x) p.1.0) h
 outcome_jobs w (step.Reply x v) i on p h =
-    reply_jobs w x (the (w.hand x)) v (response_to w (the (w.hand x)) v) (some_the (w.hand x) (not_true (is_some (w.hand x)) p.1.0)) h
+    reply_jobs w x (the (w.hand x)) v (response_to w (the (w.hand x)) v) (some_the (w.hand x) (not-false (is_some (w.hand x)) p.1.0)) h
 outcome_jobs w (step.Ask e t q) i on p h = acts_calm (outcome w (step.Ask e t q)).acts w (tt, tt) h
 outcome_jobs w (step.BeginUse e t q x) i on p h = acts_calm (outcome w (step.BeginUse e t q x)).acts w (tt, tt) h
 outcome_jobs w (step.EndUse e u) i on p h = acts_calm (outcome w (step.EndUse e u)).acts w (tt, tt) h

@@ -18,7 +18,7 @@ use Rattle.sva_model.specs.Acts.{cookie_of}
 use Rattle.sva_model.specs.Acts.{gone_if, in_range, without_pages}
 use Rattle.sva_model.specs.Acts.Act.{NewSpace, DropSpace, Map, Unmap, NewBinding, NewJob, Hold, LetGo, AtEndpoint}
 use Rattle.sva_model.specs.State.Stage.{Unbound}
-use Rattle.sva_laws.proofs.Words.{put-same, put-other, ℕ_cases, all_below-true}
+use Rattle.sva_laws.proofs.Words.{put-same, put-other, ℕ_cases, all_below-true, was_true}
 use Rattle.sva_laws.proofs.Legal.{LegalLocalAct}
 use Rattle.sva_laws.proofs.Resets
 use Rattle.sva_laws.proofs.Bounds
@@ -33,7 +33,9 @@ use Rattle.sva_laws.proofs.Invariant.{PartInvariant, Mapped, Hands, IsHeldBy, In
 use Rattle.sva_laws.proofs.Answered.{answered_own, answered_submitted}
 use Rattle.sva_laws.proofs.Submitted
 use Rattle.sva_laws.proofs.Shared.{Shared, IsOf, WasSo, IsNew, binds, bound_space, bound_pasid, own_from, submitted_from, shared_still, shared_more}
+use Rattle.sva_laws.proofs.Resets.{open_is}
 use Rattle.sva_laws.proofs.Unmap as Unmapping
+use Rattle.sva_laws.proofs.Orders.{active_unreleased}
 
 -- a space is bound while it is live, at the binding's own endpoint, where PASIDs are one for each space under one that is
 -- the space's; and a wait that an advance submits has the next cookie
@@ -648,7 +650,7 @@ part_unmapped ms s x g n e pages owed p true (Some b) q count order cookie h k i
     submitted_part ms s x g n e pages owed p b q count order cookie (opens (is_open p.phase) refl h) (before (is_open p.phase) h) k i
   where
     opens : (y : Bool) → is_open p.phase ≡ y → (y && is_before_invalidating (p.stage b)) ≡ true → p.phase ≡ Open
-    opens true f h = Unmapping.open_is p f
+    opens true f h = open_is p f
     opens false f h = absurd (cc)
 
     before : (y : Bool) → (y && is_before_invalidating (p.stage b)) ≡ true → is_before_invalidating (p.stage b) ≡ true
@@ -707,7 +709,7 @@ drop_keeps w s l i =
       hands = record { made = i.hands.made; held = i.hands.held };
       mapped =
           without_mapped w s w.cookies (λ q. true) (λ e. Nothing) (put w.is_live s false) w.part
-          (λ x h. was_live x h)
+          (λ x h. was_true w.is_live s x h)
           (λ t q m h. other_live t q m (ℕ_cases t s) h)
           (λ e b h. bound_other ((w.part e).space b) (l e b h) (i.mapped.bound_live e b h))
           (λ e v h. h)
@@ -717,15 +719,12 @@ drop_keeps w s l i =
           left_part w.mappings s w.config.endpoints w.bindings w.messages e (λ q. true) (λ x. Nothing) (w.part e)
           (λ b m age a sp sa.
           Unmapping.safe_without w.mappings e (w.part e) (w.part e) b m age (w.mappings.space m == s && true) (λ x. Nothing) sa (λ v h. h)
-          (λ t pr. absurd (l e b (Unmapping.active_unreleased ((w.part e).stage b) a) (sym sp ∙ same_space m t))))
+          (λ t pr. absurd (l e b (active_unreleased ((w.part e).stage b) a) (sym sp ∙ same_space m t))))
           (i.parts e);
       shared = i.shared;
       one_endpoint = i.one_endpoint;
     }
   where
-    was_live : (x : ℕ) → put w.is_live s false x ≡ true → w.is_live x ≡ true
-    was_live x h = grind (arith, nat_tests)
-
     bound_other : (t : ℕ) → t ≢ s → w.is_live t ≡ true → put w.is_live s false t ≡ true
     bound_other t ne h = put-other w.is_live s false t ne ∙ h
 

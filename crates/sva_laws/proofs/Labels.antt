@@ -6,7 +6,7 @@ use Rattle.sva_model.specs.State.{Mappings, Endpoint, UseState}
 use Rattle.sva_model.specs.State.UseState.{Ended}
 use Rattle.sva_model.specs.State.Subject.{InvalidateOf}
 use Rattle.sva_model.specs.State.OrderState.{Sent}
-use Rattle.sva_model.specs.States.{is_unreleased, is_out, is_busy}
+use Rattle.sva_model.specs.States.{is_unreleased, is_out, is_busy, is_running}
 use Rattle.sva_model.specs.Acts.{act_alone, LocalAct}
 use Rattle.sva_laws.proofs.Legal.{LegalLocalAct}
 use Rattle.sva_laws.proofs.Resets.{Resets}
@@ -15,6 +15,9 @@ use Rattle.sva_laws.proofs.Bounds.{Bounds}
 abbrev pub has_slot : UseState → Bool
 has_slot Ended = false
 has_slot _ = true
+
+pub running_slot : (s : UseState) → is_running s ≡ true → has_slot s ≡ true
+running_slot s h = grind arith
 
 pub record Labels (p : Endpoint) : Type 0 where
   pub pasid_bears : (t b : ℕ) → p.at_pasid t ≡ Some b → (p.pasid b ≡ t) × (is_unreleased (p.stage b) ≡ true)

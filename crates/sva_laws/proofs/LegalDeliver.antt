@@ -1,6 +1,7 @@
 -- What a delivery has tested: the message is in flight, and overtakes nothing that it must not.
 use Rattle.std.proofs.Common.{◌≡◌, ◌≢◌, refl, ap, sym, ◌∙◌, ℕ, ◌<◌, Bool, true, false, arith}
 use Rattle.std.specs.Prelude.{Option, Some, None, if◌then◌else◌, [], ◌∷◌}
+use Rattle.std.proofs.lemmas.Bool.{not-false, not-true}
 use Rattle.sva_step.specs.declared.steps.Step.TheVariants as step
 use Rattle.sva_model.specs.Words.{any_below, is_some}
 use Rattle.sva_model.specs.LinkOrder.{MessageKind, stays_behind}
@@ -16,18 +17,18 @@ use Rattle.sva_model.specs.Refusals.{refusals}
 use Rattle.sva_model.specs.Outcomes.{outcome, subject_outcome, deliver_outcome, completion_outcome, keep_outcome, is_full, request_outcome, found_for}
 use Rattle.sva_model.specs.Outcomes.{completion_message, count_outcome, page_request_outcome, marker_outcome}
 use Rattle.sva_model.specs.Labels
-use Rattle.sva_laws.proofs.Words.{any_below-false, not_true}
+use Rattle.sva_laws.proofs.Words.{any_below-false}
 use Rattle.sva_laws.proofs.Legal.{NoOlderDown, NoOlderPageRequest}
 use Rattle.sva_laws.proofs.Invariant.{Invariant}
-use Rattle.sva_laws.proofs.Passed.{Passed, LegalAll, not_false}
-use Rattle.sva_laws.proofs.Unmap.{open_is}
+use Rattle.sva_laws.proofs.Passed.{Passed, LegalAll}
+use Rattle.sva_laws.proofs.Resets.{open_is}
 
 -- what is permitted stays behind nothing that is older
 nothing_held : (p : Endpoint) (c : ℕ) (subject : Subject) → Labels.is_permitted p c subject ≡ true → (d : ℕ) → d < c
     → Labels.holds_back p (Labels.kind_of p subject) (p.message d) ≡ false
 nothing_held p c subject h d l =
     any_below-false c (λ d. Labels.holds_back p (Labels.kind_of p subject) (p.message d))
-    (not_false (any_below c (λ d. Labels.holds_back p (Labels.kind_of p subject) (p.message d))) h) d l
+    (not-true (any_below c (λ d. Labels.holds_back p (Labels.kind_of p subject) (p.message d))) h) d l
 
 not_held : (p : Endpoint) (s : MessageKind) (d : ℕ) (older : Subject) → Labels.holds_back p s (p.message d) ≡ false → stays_behind s (Labels.kind_of p older)
     ≡ true → p.message d ≢ Some older
@@ -134,4 +135,4 @@ pub deliver : (w : World) (n : ℕ) → Invariant w → Passed (refusals w (step
 deliver w n i h =
     let c = Labels.name w n in
     let e = w.link_of c in
-    message_legal w e c ((w.part e).message c) i refl (not_true (Labels.is_permitted_now (w.part e) c ((w.part e).message c)) h.1.0)
+    message_legal w e c ((w.part e).message c) i refl (not-false (Labels.is_permitted_now (w.part e) c ((w.part e).message c)) h.1.0)

@@ -2,6 +2,7 @@
 use Rattle.std.proofs.Common.{◌≡◌, ◌≢◌, ◌⊎◌, inl, inr, refl, ap, sym, ◌∙◌, ℕ, ◌<◌, ◌≤◌, Bool, true, false, arith}
 use Rattle.std.specs.Prelude.{Option, Some, None, ◌&&◌, ◌||◌, not, ◌==◌, nat_le, nat_lt}
 use Rattle.std.proofs.lemmas.Bool.Decides.{nat_tests}
+use Rattle.std.proofs.lemmas.Bool.{and_from, not-false}
 use Rattle.sva_step.specs.declared.steps.Step.TheVariants as step
 use Rattle.sva_model.specs.Words.{any_below, is_some, holds_of, the}
 use Rattle.sva_model.specs.State.{Endpoint, World, PasidState, GroupState}
@@ -13,12 +14,13 @@ use Rattle.sva_model.specs.Refusals.{refusals, fault_refusals}
 use Rattle.sva_model.specs.Outcomes.{outcome, fault_outcome}
 use Rattle.sva_model.specs.Labels
 use Rattle.sva_laws.specs.Laws.{IsVectorOf}
-use Rattle.sva_laws.proofs.Words.{lowest_cases, lowest_below, some_the, any_below-false, any_below-true, not_true}
+use Rattle.sva_laws.proofs.Words.{lowest_cases, lowest_below, some_the, any_below-false, any_below-true}
 use Rattle.sva_laws.proofs.Counting.{pigeons}
 use Rattle.sva_laws.proofs.Bounds.{Bounds}
 use Rattle.sva_laws.proofs.Groups.{Groups}
 use Rattle.sva_laws.proofs.Invariant.{Invariant}
-use Rattle.sva_laws.proofs.Passed.{Passed, LegalAll, is_less, and_left, and_right, or_left, or_right, label_low, label_free, bearer_of}
+use Rattle.sva_laws.proofs.Passed.{Passed, LegalAll, label_low, label_free, bearer_of}
+use Rattle.sva_laws.proofs.Tests.{first_fails, first_holds, is_less, one_holds, second_fails, second_holds, second_holds_too}
 
 on_is : (s : PasidState) → is_on s ≡ true → s ≡ On
 on_is s h = grind arith
@@ -34,7 +36,7 @@ ask w e t q i h =
     let p = w.part e in (
       (
         is_less e w.config.endpoints h.0,
-        ((started_on p t (not_true (Labels.is_started p t) h.1.1.0), label_free 32 p.at_tag h.1.1.1.0, label_low 32 p.at_tag h.1.1.1.0), tt),
+        ((started_on p t (not-false (Labels.is_started p t) h.1.1.0), label_free 32 p.at_tag h.1.1.1.0, label_low 32 p.at_tag h.1.1.1.0), tt),
         tt,
       ),
       tt,
@@ -71,12 +73,12 @@ pub begin : (w : World) (e t q : ℕ) (x : Bool) → Invariant w → Passed (ref
     → LegalAll w (outcome w (step.BeginUse e t q x)).acts
 begin w e t q x i h =
     let p = w.part e in
-    let c = cached_is p t q (not_true (Labels.is_cached p t q) h.1.1.1.0) in (
+    let c = cached_is p t q (not-false (Labels.is_cached p t q) h.1.1.1.0) in (
       (
         is_less e w.config.endpoints h.0,
         (
           (
-            ap p.pasid_state c.binding ∙ started_on p t (not_true (Labels.is_started p t) h.1.1.0),
+            ap p.pasid_state c.binding ∙ started_on p t (not-false (Labels.is_started p t) h.1.1.0),
             c.held,
             label_free 16 p.at_slot h.1.1.1.1.1.0,
             label_low 16 p.at_slot h.1.1.1.1.1.0,
@@ -91,13 +93,13 @@ begin w e t q x i h =
 pub end : (w : World) (e u : ℕ) → Invariant w → Passed (refusals w (step.EndUse e u)) → LegalAll w (outcome w (step.EndUse e u)).acts
 end w e u i h =
     let p = w.part e in
-    let there = some_the (p.at_slot u) (and_right (nat_lt u 16) (is_some (p.at_slot u)) (not_true (nat_lt u 16 && is_some (p.at_slot u)) h.1.0)) in
+    let there = some_the (p.at_slot u) (second_holds (nat_lt u 16) (is_some (p.at_slot u)) (not-false (nat_lt u 16 && is_some (p.at_slot u)) h.1.0)) in
     ((is_less e w.config.endpoints h.0, (ap p.at_slot ((i.parts e).labels.slot_bears u (the (p.at_slot u)) there).0 ∙ there, tt), tt), tt)
 
 pub evict : (w : World) (e t q : ℕ) → Invariant w → Passed (refusals w (step.Evict e t q)) → LegalAll w (outcome w (step.Evict e t q)).acts
 evict w e t q i h =
     let p = w.part e in
-    let c = cached_is p t q (not_true (Labels.is_cached p t q) h.1.1.0) in
+    let c = cached_is p t q (not-false (Labels.is_cached p t q) h.1.1.0) in
     ((is_less e w.config.endpoints h.0, ((the (p.held (Labels.cached p (Labels.bearer p t) q)), c.held), tt), tt), tt)
 
 -- where fewer than 32 page requests are outstanding, a group index is free: each group has a page request of its own
@@ -115,7 +117,7 @@ index_free g p gr bo h = go (lowest_cases 32 (λ t. not (is_some (p.at_index t))
         ∙ (gr.index_bears k (the (p.at_index k)) (there k m all)).0)
       where
         there : (j : ℕ) → j < 32 → ((j : ℕ) → j < 32 → not (is_some (p.at_index j)) ≡ false) → p.at_index j ≡ Some (the (p.at_index j))
-        there j l all = some_the (p.at_index j) (not_true (is_some (p.at_index j)) (all j l))
+        there j l all = some_the (p.at_index j) (not-false (is_some (p.at_index j)) (all j l))
 
         made : (j : ℕ) → j < 32 → ((j : ℕ) → j < 32 → not (is_some (p.at_index j)) ≡ false) → the (p.at_index j) < p.groups
         made j l all = outstanding_made (the (p.at_index j)) (gr.index_bears j (the (p.at_index j)) (there j l all)).1
@@ -146,16 +148,16 @@ fault_at : (w : World) (e t q : ℕ) (r x l : Bool) (o : Option ℕ) → Invaria
 fault_at w e t q r x l None i b h =
     let p = w.part e in
     let some = index_free w.bindings p (i.parts e).groups (i.parts e).bounds h.1.0 in
-    ((b, ((started_on p t (not_true (Labels.is_started p t) h.0), label_free 32 p.at_index some, label_low 32 p.at_index some, credit p h.1.0), tt), tt), tt)
+    ((b, ((started_on p t (not-false (Labels.is_started p t) h.0), label_free 32 p.at_index some, label_low 32 p.at_index some, credit p h.1.0), tt), tt), tt)
 fault_at w e t q r x l (Some k) i b h =
     let p = w.part e in
-    let g = group_is (p.at_index k) (not_true (Labels.is_group_of p t k) h.1.1.0) in (
+    let g = group_is (p.at_index k) (not-false (Labels.is_group_of p t k) h.1.1.0) in (
       (
         b,
         (
           (
             unfinished_is (p.group (the (p.at_index k))) g.0,
-            alive g.1 (not_true (Labels.is_started p t || Labels.is_told_to_stop p t) h.0),
+            alive g.1 (not-false (Labels.is_started p t || Labels.is_told_to_stop p t) h.0),
             credit p h.1.0,
           ),
           tt,
@@ -178,14 +180,10 @@ fault_at w e t q r x l (Some k) i b h =
     not_off s (inl h) = ap is_off h
     not_off s (inr h) = ap is_off h
 
-    either : (a c : Bool) → (a || c) ≡ true → (a ≡ true) ⊎ (c ≡ true)
-    either true c h = inl refl
-    either false c h = inr h
-
     alive : (w.part e).asker (the ((w.part e).at_index k)) ≡ Labels.bearer (w.part e) t
         → (Labels.is_started (w.part e) t || Labels.is_told_to_stop (w.part e) t) ≡ true
         → is_off ((w.part e).pasid_state ((w.part e).asker (the ((w.part e).at_index k)))) ≡ false
-    alive same h = ap (λ b. is_off ((w.part e).pasid_state b)) same ∙ go (either (Labels.is_started (w.part e) t) (Labels.is_told_to_stop (w.part e) t) h)
+    alive same h = ap (λ b. is_off ((w.part e).pasid_state b)) same ∙ go (one_holds (Labels.is_started (w.part e) t) (Labels.is_told_to_stop (w.part e) t) h)
       where
         go : (Labels.is_started (w.part e) t ≡ true) ⊎ (Labels.is_told_to_stop (w.part e) t ≡ true)
             → is_off ((w.part e).pasid_state (Labels.bearer (w.part e) t)) ≡ false
@@ -205,14 +203,11 @@ finish_set w e vector t i pending l s =
     let there = pending_at p is_pending in
     let k = the (p.at_itag t) in
     let bears : p.itag k ≡ t = ((i.parts e).labels.itag_bears t k there.0).0 in
-    (k, both (is_taken (p.order_state k)) (Labels.is_set vector (p.itag k)) there.1 (ap (Labels.is_set vector) bears ∙ s), bears)
+    (k, and_from (is_taken (p.order_state k)) (Labels.is_set vector (p.itag k)) there.1 (ap (Labels.is_set vector) bears ∙ s), bears)
   where
     is_pending : Labels.is_pending (w.part e) t ≡ true
-    is_pending = second (Labels.is_set vector t) (Labels.is_pending (w.part e) t) s
+    is_pending = second_holds_too (Labels.is_set vector t) (Labels.is_pending (w.part e) t) s
         (any_below-false 32 (λ t. Labels.is_set vector t && not (Labels.is_pending (w.part e) t)) pending t l)
-      where
-        second : (a b : Bool) → a ≡ true → (a && not b) ≡ false → b ≡ true
-        second a b x y = grind arith
 
     pending_at : (p : Endpoint) → Labels.is_pending p t ≡ true → (p.at_itag t ≡ Some (the (p.at_itag t)))
         × (is_taken (p.order_state (the (p.at_itag t))) ≡ true)
@@ -222,13 +217,10 @@ finish_set w e vector t i pending l s =
         go None h = absurd (cc)
         go (Some k) h = (refl, h)
 
-    both : (a b : Bool) → a ≡ true → b ≡ true → (a && b) ≡ true
-    both a b x y = grind arith
-
 finish_named : (w : World) (e vector : ℕ) → Invariant w → Labels.names_none vector ≡ false
     → any_below 32 (λ t. Labels.is_set vector t && not (Labels.is_pending (w.part e) t)) ≡ false → (k : ℕ) × (Labels.is_named (w.part e) vector k ≡ true)
 finish_named w e vector i some pending =
-    let set = any_below-true 32 (Labels.is_set vector) (not_true (any_below 32 (Labels.is_set vector)) some) in
+    let set = any_below-true 32 (Labels.is_set vector) (not-false (any_below 32 (Labels.is_set vector)) some) in
     let found = finish_set w e vector set.0 i pending set.1 set.2 in
     (found.0, found.1)
 
@@ -236,7 +228,7 @@ finish_vector : (w : World) (e vector : ℕ) → Invariant w → any_below 32 (�
     → IsVectorOf (w.part e) (Labels.is_named (w.part e) vector) vector
 finish_vector w e vector i pending =
     record {
-      named = λ k nm. and_right (is_taken ((w.part e).order_state k)) (Labels.is_set vector ((w.part e).itag k)) nm;
+      named = λ k nm. second_holds (is_taken ((w.part e).order_state k)) (Labels.is_set vector ((w.part e).itag k)) nm;
       set = λ t l s. finish_set w e vector t i pending l s;
     }
 
@@ -246,7 +238,7 @@ finish_unused : (w : World) (e vector : ℕ) → Invariant w
     → covers ((w.part e).order k) ((w.part e).use_binding u) (w.mappings.page ((w.part e).use_mapping u)) ≡ false
 finish_unused w e vector i h k u nm l r =
     let p = w.part e in
-    let made : k < p.orders = taken_made k (and_left (is_taken (p.order_state k)) (Labels.is_set vector (p.itag k)) nm) in
+    let made : k < p.orders = taken_made k (first_holds (is_taken (p.order_state k)) (Labels.is_set vector (p.itag k)) nm) in
     let unused : Labels.is_in_use w p k ≡ false =
     second (Labels.is_named p vector k) (Labels.is_in_use w p k) nm
     (any_below-false p.orders (λ j. Labels.is_named p vector j && Labels.is_in_use w p j) h k made) in
@@ -263,14 +255,14 @@ pub finish : (w : World) (e vector count : ℕ) → Invariant w → Passed (refu
     → LegalAll w (outcome w (step.Finish e vector count)).acts
 finish w e vector count i h =
     let p = w.part e in
-    let some = or_left (Labels.names_none vector) (any_below 32 (λ t. Labels.is_set vector t && not (Labels.is_pending p t))) h.1.0 in
-    let pending = or_right (Labels.names_none vector) (any_below 32 (λ t. Labels.is_set vector t && not (Labels.is_pending p t))) h.1.0 in (
+    let some = first_fails (Labels.names_none vector) (any_below 32 (λ t. Labels.is_set vector t && not (Labels.is_pending p t))) h.1.0 in
+    let pending = second_fails (Labels.names_none vector) (any_below 32 (λ t. Labels.is_set vector t && not (Labels.is_pending p t))) h.1.0 in (
       (
         is_less e w.config.endpoints h.0,
         (
           (
             finish_named w e vector i some pending,
-            λ k nm. and_left (is_taken (p.order_state k)) (Labels.is_set vector (p.itag k)) nm,
+            λ k nm. first_holds (is_taken (p.order_state k)) (Labels.is_set vector (p.itag k)) nm,
             finish_unused w e vector i h.1.1.0,
             low count h.1.1.1.0,
             high count h.1.1.1.0,
@@ -294,13 +286,13 @@ pub quit : (w : World) (e t : ℕ) → Invariant w → Passed (refusals w (step.
 quit w e t i h =
     let p = w.part e in
     let b = Labels.bearer p t in
-    let ending = bearer_of p t (λ d. is_ending (p.pasid_state d)) (not_true (Labels.is_told_to_stop p t) h.1.0) in
+    let ending = bearer_of p t (λ d. is_ending (p.pasid_state d)) (not-false (Labels.is_told_to_stop p t) h.1.0) in
     let busy = h.1.1.0 in
-    let groups = or_left (Labels.has_unfinished_group p b) (Labels.is_request_out_of p b)
-    (or_left (Labels.has_unfinished_group p b || Labels.is_request_out_of p b) (Labels.is_use_of p b) busy) in
-    let requests = or_right (Labels.has_unfinished_group p b) (Labels.is_request_out_of p b)
-    (or_left (Labels.has_unfinished_group p b || Labels.is_request_out_of p b) (Labels.is_use_of p b) busy) in
-    let uses = or_right (Labels.has_unfinished_group p b || Labels.is_request_out_of p b) (Labels.is_use_of p b) busy in (
+    let groups = first_fails (Labels.has_unfinished_group p b) (Labels.is_request_out_of p b)
+    (first_fails (Labels.has_unfinished_group p b || Labels.is_request_out_of p b) (Labels.is_use_of p b) busy) in
+    let requests = second_fails (Labels.has_unfinished_group p b) (Labels.is_request_out_of p b)
+    (first_fails (Labels.has_unfinished_group p b || Labels.is_request_out_of p b) (Labels.is_use_of p b) busy) in
+    let uses = second_fails (Labels.has_unfinished_group p b || Labels.is_request_out_of p b) (Labels.is_use_of p b) busy in (
       (
         is_less e w.config.endpoints h.0,
         (

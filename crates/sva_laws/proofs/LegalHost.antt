@@ -2,6 +2,7 @@
 use Rattle.std.proofs.Common.{◌≡◌, ◌≢◌, inl, inr, refl, ap, ◌∙◌, ℕ, suc, ◌<◌, Bool, true, false, arith}
 use Rattle.std.specs.Prelude.{◌&&◌, not, ◌==◌, nat_le}
 use Rattle.std.proofs.lemmas.Bool.Decides.{nat_tests}
+use Rattle.std.proofs.lemmas.Bool.{not-false}
 use Rattle.sva_step.specs.declared.steps.Step.TheVariants as step
 use Rattle.sva_model.specs.Words.{is_some, the}
 use Rattle.sva_model.specs.State.{Endpoint, World, Stage, OrderState}
@@ -11,11 +12,12 @@ use Rattle.sva_model.specs.States.{is_unreleased, is_done, is_free, is_open_grou
 use Rattle.sva_model.specs.Refusals.{refusals, unbind_refusals, advance_refusals, is_queue_short}
 use Rattle.sva_model.specs.Outcomes.{outcome, unbind_outcome, advance_outcome}
 use Rattle.sva_model.specs.Labels
-use Rattle.sva_laws.proofs.Words.{put-same, none_is, some_the, lowest_passes, any_below-false, not_true}
+use Rattle.sva_laws.proofs.Words.{put-same, none_is, some_the, lowest_passes, any_below-false}
 use Rattle.sva_laws.proofs.Bounds.{Bounds}
 use Rattle.sva_laws.proofs.Invariant.{Invariant}
 use Rattle.sva_laws.proofs.Pasids.{every_rule}
-use Rattle.sva_laws.proofs.Passed.{Passed, LegalAll, is_less, and_right, or_left, or_right, opened_is, unreleased_bound, not_bound_at, not_bound}
+use Rattle.sva_laws.proofs.Passed.{Passed, LegalAll, opened_is, unreleased_bound, not_bound_at, not_bound}
+use Rattle.sva_laws.proofs.Tests.{first_fails, is_less, second_fails, second_holds}
 
 pub drop : (w : World) (n : ℕ) → Invariant w → Passed (refusals w (step.DropSpace n)) → LegalAll w (outcome w (step.DropSpace n)).acts
 drop w n i h = (not_bound w (Labels.name w n) i h.1.0, tt)
@@ -23,7 +25,7 @@ drop w n i h = (not_bound w (Labels.name w n) i h.1.0, tt)
 pub map_page : (w : World) (n q : ℕ) (x : Bool) → Invariant w → Passed (refusals w (step.Map n q x)) → LegalAll w (outcome w (step.Map n q x)).acts
 map_page w n q x i h = (
   (
-    and_right (Labels.is_number w w.spaces n) (w.is_live (Labels.name w n)) (not_true (Labels.is_space w n) h.0),
+    second_holds (Labels.is_number w w.spaces n) (w.is_live (Labels.name w n)) (not-false (Labels.is_space w n) h.0),
     none_is (w.mappings.at (Labels.name w n) q) h.1.1.0,
     (lowest_passes w.config.frames (is_free w) h.1.1.1.1.0).1,
     (lowest_passes w.config.frames (is_free w) h.1.1.1.1.0).0,
@@ -37,7 +39,7 @@ bind w e n i h =
     let t = the (Labels.pasid_for w e s) in
     let there = is_less e w.config.endpoints h.0 in
     let none = not_bound_at w s e i h.1.1.1.0 in
-    let given = some_the (Labels.pasid_for w e s) (not_true (is_some (Labels.pasid_for w e s)) h.1.1.1.1.0) in
+    let given = some_the (Labels.pasid_for w e s) (not-false (is_some (Labels.pasid_for w e s)) h.1.1.1.1.0) in
     let is = every_rule w.rule in (
       tt,
       (
@@ -54,7 +56,7 @@ bind w e n i h =
               none,
             ),
             (
-              and_right (Labels.is_number w w.spaces n) (w.is_live s) (not_true (Labels.is_space w n) h.1.0),
+              second_holds (Labels.is_number w w.spaces n) (w.is_live s) (not-false (Labels.is_space w n) h.1.0),
               λ r. is.its w e s t r refl i given,
               put-same w.endpoint_of w.bindings e,
             ),
@@ -71,7 +73,7 @@ home_there w n i h =
     let b = Labels.name w n in
     (i.parts (w.endpoint_of b)).there b
     (unreleased_bound (w.part (w.endpoint_of b)) b
-    (and_right (Labels.is_number w w.bindings n) (is_unreleased ((w.part (w.endpoint_of b)).stage b)) (not_true (Labels.is_binding w n) h)))
+    (second_holds (Labels.is_number w w.bindings n) (is_unreleased ((w.part (w.endpoint_of b)).stage b)) (not-false (Labels.is_binding w n) h)))
 
 unbind_at : (w : World) (e b : ℕ) (s : Stage) → e < w.config.endpoints → (w.part e).stage b ≡ s → Passed (unbind_refusals w e s)
     → LegalAll w (unbind_outcome e b s).acts
@@ -115,12 +117,12 @@ advance_at : (w : World) (e b : ℕ) (s : Stage) → Invariant w → e < w.confi
     → LegalAll w (advance_outcome w e b s).acts
 advance_at w e b Quiet i l f h = ((l, (f, tt), tt), tt)
 advance_at w e b (Stopping m) i l f h =
-    let yes : m ≡ true = not_true m h.1.0 in
+    let yes : m ≡ true = not-false m h.1.0 in
     ((l, ((opened_is (w.part e) h.0, f ∙ ap (λ x. Stopping x) yes, short_one (w.part e) h.1.1.0), refl), tt), tt)
 advance_at w e b (Draining x) i l f h =
     let done : is_done ((w.part e).order_state x) ≡ true =
-    not_true (is_done ((w.part e).order_state x)) (or_left (not (is_done ((w.part e).order_state x))) (Labels.has_open_group (w.part e) b) h.1.0) in
-    let none = or_right (not (is_done ((w.part e).order_state x))) (Labels.has_open_group (w.part e) b) h.1.0 in (
+    not-false (is_done ((w.part e).order_state x)) (first_fails (not (is_done ((w.part e).order_state x))) (Labels.has_open_group (w.part e) b) h.1.0) in
+    let none = second_fails (not (is_done ((w.part e).order_state x))) (Labels.has_open_group (w.part e) b) h.1.0 in (
       (
         l,
         (
@@ -137,7 +139,7 @@ advance_at w e b (Draining x) i l f h =
       tt,
     )
 advance_at w e b (Invalidating k x) i l f h =
-    let done : is_done ((w.part e).order_state x) ≡ true = not_true (is_done ((w.part e).order_state x)) h.1.0 in
+    let done : is_done ((w.part e).order_state x) ≡ true = not-false (is_done ((w.part e).order_state x)) h.1.0 in
     ((l, (inr (k, x, opened_is (w.part e) h.0, f, done_is ((w.part e).order_state x) done), tt), tt), tt)
 advance_at w e b Unbound i l f h = absurd (cc h.1.0)
 advance_at w e b Live i l f h = absurd (cc h.1.0)

@@ -2,6 +2,8 @@
 use Rattle.std.proofs.Common.{◌≡◌, ◌≢◌, ◌⊎◌, inl, inr, refl, ap, sym, subst, ◌∙◌, ℕ, zero, suc, ◌<◌, ◌≤◌, Bool, true, false, arith}
 use Rattle.std.specs.Prelude.{Option, Some, None, ◌||◌, ◌==◌, if◌then◌else◌, List, [], ◌∷◌, ◌++◌, map}
 use Rattle.std.proofs.lemmas.Bool.Decides.{nat_tests}
+use Rattle.std.proofs.lemmas.Bool.{not-false}
+use Rattle.std.proofs.lemmas.List.{append-nil}
 use Rattle.sva_step.specs.declared.steps.Step.TheVariants as step
 use Rattle.sva_step.specs.declared.steps.Verdict.{Verdict}
 use Rattle.sva_model.specs.Words.{put, select, is_some, the}
@@ -17,12 +19,12 @@ use Rattle.sva_model.specs.Outcomes.{outcome, reply_outcome}
 use Rattle.sva_model.specs.Replies.{response, response_to, is_success, replies_success, unseen, newly_mapped, maps_to, reply_maps, free_list}
 use Rattle.sva_model.specs.Replies.{is_write_asked, job_part, job_binding, job_space, job_asks}
 use Rattle.sva_model.specs.Labels
-use Rattle.sva_laws.proofs.Words.{put-same, put-other, ℕ_cases, none_is, some_the, not_true}
+use Rattle.sva_laws.proofs.Words.{put-same, put-other, ℕ_cases, none_is, some_the}
 use Rattle.sva_laws.proofs.Invariant.{Invariant, IsHeldBy}
 use Rattle.sva_laws.proofs.Keeps.{Legal, act_keeps}
 use Rattle.sva_laws.proofs.Passed.{Passed, LegalAll}
 use Rattle.sva_laws.proofs.LegalUnit.{group_there}
-use Rattle.sva_laws.proofs.Unmap.{open_is}
+use Rattle.sva_laws.proofs.Resets.{open_is}
 
 -- a frame is not among these
 abbrev pub NotAmong : ℕ → List ℕ → Type 0
@@ -122,10 +124,6 @@ are_free_push w n (f ∷ fs) b h a =
     let ne : n ≢ f = omega (arith, b.0) in
     (a.0, (not_among_push f n fs ne a.1.0, are_free_push w n fs b.1 h a.1.1))
 
-append_none : (xs : List ℕ) → xs ++ [] ≡ xs
-append_none [] = refl
-append_none (x ∷ xs) = ap (λ ys. x ∷ ys) (append_none xs)
-
 record Selected (w : World) (n : ℕ) (fs : List ℕ) : Type 0 where
   below : AreBelow n fs
   free : AreFree w fs
@@ -141,7 +139,7 @@ select_free w (suc n) lt = go (is_free w n) refl (select_free w n (omega (arith,
       free =
           are_free_push w n (select n (is_free w)) r.below (h, omega (arith, lt)) r.free;
     }
-    go false h r = subst (λ z. Selected w (suc n) z) (sym (append_none (select n (is_free w))))
+    go false h r = subst (λ z. Selected w (suc n) z) (sym (append-nil (select n (is_free w))))
         (record { below = below_more n (select n (is_free w)) r.below; free = r.free })
 
 -- the job of a hand is in that hand alone
@@ -238,4 +236,4 @@ reply_at w x j v (Some code) i h r =
     go false e rest = rest
 
 pub reply : (w : World) (x : ℕ) (v : Verdict) → Invariant w → Passed (refusals w (step.Reply x v)) → LegalAll w (outcome w (step.Reply x v)).acts
-reply w x v i h = reply_at w x (the (w.hand x)) v (response_to w (the (w.hand x)) v) i (some_the (w.hand x) (not_true (is_some (w.hand x)) h.1.0)) refl
+reply w x v i h = reply_at w x (the (w.hand x)) v (response_to w (the (w.hand x)) v) i (some_the (w.hand x) (not-false (is_some (w.hand x)) h.1.0)) refl

@@ -1,9 +1,10 @@
 -- What the steps at a unit have tested: pump, serve, reset, and a worker's take.
 use Rattle.std.proofs.Common.{◌≡◌, ◌≢◌, refl, ap, sym, ◌∙◌, ℕ, ◌<◌, ◌≤◌, Bool, true, false, arith}
 use Rattle.std.specs.Prelude.{◌||◌, not, ◌==◌, [], ◌∷◌}
+use Rattle.std.proofs.lemmas.Bool.{not-false, not-true}
 use Rattle.sva_step.specs.declared.steps.Step.TheVariants as step
 use Rattle.sva_model.specs.Words.{put, lowest, any_below}
-use Rattle.sva_model.specs.State.{Endpoint, World, Order, OrderState, PageRequestState, HostGroupState}
+use Rattle.sva_model.specs.State.{Endpoint, World, Order, OrderState, HostGroupState}
 use Rattle.sva_model.specs.State.PageRequestState.{Arrived}
 use Rattle.sva_model.specs.State.HostGroupState.{Job, InHand}
 use Rattle.sva_model.specs.State.Order.{RangeOf, PasidOf, Wait}
@@ -15,11 +16,13 @@ use Rattle.sva_model.specs.Acts.Act.{AtEndpoint, Hold}
 use Rattle.sva_model.specs.Refusals.{refusals}
 use Rattle.sva_model.specs.Outcomes.{outcome, pump_outcome, head_outcome, wait_outcome, send_outcome, may_pass, serve_outcome, file_outcome}
 use Rattle.sva_model.specs.Labels
-use Rattle.sva_laws.proofs.Words.{put-same, lowest_below, any_below-false, any_below-true, not_true}
+use Rattle.sva_laws.proofs.Words.{put-same, lowest_below, any_below-false, any_below-true}
 use Rattle.sva_laws.proofs.Bounds.{Bounds}
-use Rattle.sva_laws.proofs.PageRequests.{Queued as QueuedRequests}
+use Rattle.sva_laws.proofs.PageRequests.{Queued as QueuedRequests, arrived_is}
 use Rattle.sva_laws.proofs.Invariant.{Invariant}
-use Rattle.sva_laws.proofs.Passed.{Passed, LegalAll, is_less, and_left, and_right, not_false, opened_is, label_low, label_free}
+use Rattle.sva_laws.proofs.Passed.{Passed, LegalAll, opened_is, label_low, label_free}
+use Rattle.sva_laws.proofs.Orders.{queued_not}
+use Rattle.sva_laws.proofs.Tests.{first_holds, is_less, second_holds}
 
 -- Pump: the head is the lowest order that is queued.
 record Head (p : Endpoint) : Type 0 where
@@ -28,15 +31,12 @@ record Head (p : Endpoint) : Type 0 where
 
 head_is : (p : Endpoint) → not (any_below p.orders (λ k. is_queued (p.order_state k))) ≡ false → Head p
 head_is p h =
-    let some = any_below-true p.orders (λ k. is_queued (p.order_state k)) (not_true (any_below p.orders (λ k. is_queued (p.order_state k))) h) in
+    let some = any_below-true p.orders (λ k. is_queued (p.order_state k)) (not-false (any_below p.orders (λ k. is_queued (p.order_state k))) h) in
     let low = lowest_below p.orders (λ k. is_queued (p.order_state k)) some.0 some.1 some.2 in
-    record { queued = queued_is (p.order_state (Labels.head p)) low.1; lowest = λ j l. not_queued (p.order_state j) (low.2 j l) }
+    record { queued = queued_is (p.order_state (Labels.head p)) low.1; lowest = λ j l. queued_not (p.order_state j) (low.2 j l) }
   where
     queued_is : (s : OrderState) → is_queued s ≡ true → s ≡ Queued
     queued_is s k = grind arith
-
-    not_queued : (s : OrderState) → is_queued s ≡ false → s ≢ Queued
-    not_queued s k e = absurd (cc)
 
 -- no order bears an ITag: those not made yet don't either
 idle : (g : ℕ) (p : Endpoint) → Bounds g p → Labels.is_some_busy p ≡ false → (j : ℕ) → is_busy (p.order_state j) ≡ false
@@ -48,7 +48,7 @@ idle g p bo h j =
 none_arrived : (p : Endpoint) → QueuedRequests p → Labels.is_page_queue_empty p ≡ true → (r : ℕ) → p.page_request r ≢ Arrived
 none_arrived p qu h r a =
     let place = qu.arrived r a in
-    let f = any_below-false p.arrivals (Labels.is_waiting p) (not_false (any_below p.arrivals (Labels.is_waiting p)) h) (p.arrived_as r) place.0 in
+    let f = any_below-false p.arrivals (Labels.is_waiting p) (not-true (any_below p.arrivals (Labels.is_waiting p)) h) (p.arrived_as r) place.0 in
     let back : is_arrived (p.page_request (p.arrival (p.arrived_as r))) ≡ is_arrived (p.page_request r) = ap (λ z. is_arrived (p.page_request z)) place.1 in
     absurd (cc (sym f ∙ back ∙ ap is_arrived a))
 
@@ -76,12 +76,12 @@ wait_legal w e cookie drain true i l ph hd o m = (
 )
   where
     quiet : Labels.is_some_busy (w.part e) ≡ false
-    quiet = not_false (Labels.is_some_busy (w.part e))
-        (and_left (not (Labels.is_some_busy (w.part e))) (not drain || Labels.is_page_queue_empty (w.part e)) m)
+    quiet = not-true (Labels.is_some_busy (w.part e))
+        (first_holds (not (Labels.is_some_busy (w.part e))) (not drain || Labels.is_page_queue_empty (w.part e)) m)
 
     empty : drain ≡ true → Labels.is_page_queue_empty (w.part e) ≡ true
     empty d = or_drain drain (Labels.is_page_queue_empty (w.part e)) d
-        (and_right (not (Labels.is_some_busy (w.part e))) (not drain || Labels.is_page_queue_empty (w.part e)) m)
+        (second_holds (not (Labels.is_some_busy (w.part e))) (not drain || Labels.is_page_queue_empty (w.part e)) m)
       where
         or_drain : (a b : Bool) → a ≡ true → (not a || b) ≡ true → b ≡ true
         or_drain a b x y = grind arith
@@ -91,7 +91,7 @@ send_legal : (w : World) (e : ℕ) (t : Bool) → e < w.config.endpoints → (w.
     → LegalAll w (send_outcome e (Labels.head (w.part e)) (Labels.lowest_label 32 (w.part e).at_itag) t).acts
 send_legal w e false l ph hd o m = tt
 send_legal w e true l ph hd o m =
-    let some = not_false (Labels.lowest_label 32 (w.part e).at_itag == 32) m in
+    let some = not-true (Labels.lowest_label 32 (w.part e).at_itag == 32) m in
     ((l, ((ph, hd.queued, o, label_free 32 (w.part e).at_itag some, label_low 32 (w.part e).at_itag some), tt), tt), tt)
 
 head_legal : (w : World) (e : ℕ) (o : Order) → Invariant w → e < w.config.endpoints → (w.part e).phase ≡ Open → Head (w.part e)
@@ -115,7 +115,7 @@ record Oldest (p : Endpoint) : Type 0 where
 
 oldest_is : (p : Endpoint) → QueuedRequests p → Labels.is_page_queue_empty p ≡ false → Oldest p
 oldest_is p qu h =
-    let some = any_below-true p.arrivals (Labels.is_waiting p) (not_true (any_below p.arrivals (Labels.is_waiting p)) h) in
+    let some = any_below-true p.arrivals (Labels.is_waiting p) (not-false (any_below p.arrivals (Labels.is_waiting p)) h) in
     let low = lowest_below p.arrivals (Labels.is_waiting p) some.0 some.1 some.2 in
     let back = qu.arrival (lowest p.arrivals (Labels.is_waiting p)) low.0 in
     record {
@@ -123,9 +123,6 @@ oldest_is p qu h =
       first = λ x a. no_earlier (lowest p.arrivals (Labels.is_waiting p)) x back.0 low.2 a (qu.arrived x a);
     }
   where
-    arrived_is : (s : PageRequestState) → is_arrived s ≡ true → s ≡ Arrived
-    arrived_is s k = grind arith
-
     no_earlier : (k x : ℕ) → p.arrived_as (p.arrival k) ≡ k → ((i : ℕ) → i < k → Labels.is_waiting p i ≡ false) → p.page_request x ≡ Arrived
         → (p.arrived_as x < p.arrivals) × (p.arrival (p.arrived_as x) ≡ x) → p.arrived_as (p.arrival k) ≤ p.arrived_as x
     no_earlier k x b none a place =
@@ -174,6 +171,6 @@ take_at w x j i l h =
 
 pub take : (w : World) (x : ℕ) → Invariant w → Passed (refusals w (step.Take x)) → LegalAll w (outcome w (step.Take x)).acts
 take w x i h =
-    let some = any_below-true w.jobs (Labels.is_queued_job w) (not_true (any_below w.jobs (Labels.is_queued_job w)) h.1.1.0) in
+    let some = any_below-true w.jobs (Labels.is_queued_job w) (not-false (any_below w.jobs (Labels.is_queued_job w)) h.1.1.0) in
     let low = lowest_below w.jobs (Labels.is_queued_job w) some.0 some.1 some.2 in
     take_at w x (lowest w.jobs (Labels.is_queued_job w)) i low.0 low.1

@@ -1,6 +1,6 @@
 -- No endpoint has more than 32 page requests outstanding, and so no more in its page request queue.
 use Rattle.sva_model.specs.State.{PasidRule}
-use Rattle.std.proofs.Common.{◌≡◌, ◌≢◌, ◌⊎◌, inl, inr, refl, ap, sym, subst, ◌∙◌, ℕ, zero, suc, ◌+◌, ◌<◌, ◌≤◌, Bool, true, false, arith}
+use Rattle.std.proofs.Common.{◌≡◌, ◌≢◌, ◌⊎◌, inl, inr, refl, sym, subst, ℕ, zero, suc, ◌+◌, ◌<◌, ◌≤◌, Bool, true, false, arith}
 use Rattle.std.specs.Prelude.{Option, Some, None, List, [], ◌∷◌, length}
 use Rattle.std.proofs.lemmas.Bool.Decides.{nat_tests}
 use Rattle.sva_step.specs.declared.limits.Config.{Config}
@@ -19,7 +19,7 @@ use Rattle.sva_laws.specs.Laws.{page_queue, waiting}
 use Rattle.sva_laws.proofs.Counting.{bit, bit_most, count_next, count_less, length_select, count_placed}
 use Rattle.sva_laws.proofs.Legal.{LegalLocalAct}
 use Rattle.sva_laws.proofs.Bounds.{Bounds}
-use Rattle.sva_laws.proofs.PageRequests.{Queued}
+use Rattle.sva_laws.proofs.PageRequests.{Queued, arrival_once}
 use Rattle.sva_laws.proofs.Invariant.{Invariant}
 use Rattle.sva_laws.proofs.Keeps.{Legal, act_keeps, put_keeps}
 use Rattle.sva_laws.proofs.Passed.{LegalAll}
@@ -118,12 +118,9 @@ waiting_placed : (p : Endpoint) → Queued p → length (waiting p) ≤ page_que
 waiting_placed p qu =
     omega (arith, length_select p.arrivals (is_waiting p), placed)
   where
-    same : (i j : ℕ) → i < p.arrivals → j < p.arrivals → p.arrival i ≡ p.arrival j → i ≡ j
-    same i j a b e = sym (qu.arrival i a).0 ∙ ap p.arrived_as e ∙ (qu.arrival j b).0
-
     placed : count_below p.arrivals (is_waiting p) ≤ page_queue p
     placed = count_placed p.arrivals p.page_requests (is_waiting p) (λ r. is_arrived (p.page_request r)) p.arrival (λ i a t. (qu.arrival i a).1)
-        (λ i a t. t) same
+        (λ i a t. t) (arrival_once p qu)
 
 pub always_waiting : (rule : PasidRule) (c : Config) (ss : List Step) (e : ℕ) → length (waiting ((world_after rule c ss).part e)) ≤ 32
 always_waiting rule c ss e =

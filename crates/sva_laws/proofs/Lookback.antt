@@ -2,7 +2,8 @@
 use Rattle.sva_model.specs.State.{PasidRule}
 use Rattle.std.proofs.Common.{◌≡◌, ◌≢◌, ◌⊎◌, inl, inr, refl, ap, sym, subst, ◌∙◌, ℕ, ◌*◌, ◌^◌, ◌≤◌, Bool, true, false, arith, append_assoc}
 use Rattle.std.specs.Prelude.{Some, ◌&&◌, ◌==◌, List, [], ◌∷◌, ◌++◌}
-use Rattle.std.proofs.lemmas.Bool.Decides.{nat_tests}
+use Rattle.std.proofs.lemmas.Bool.{eqb-true}
+use Rattle.std.proofs.lemmas.List.{append-nil}
 use Rattle.sva_step.specs.declared.limits.Config.{Config}
 use Rattle.sva_step.specs.declared.steps.Step.{Step}
 use Rattle.sva_model.specs.State.{Owed, MappingState, World, opened}
@@ -12,6 +13,7 @@ use Rattle.sva_model.specs.States.{is_unreleased}
 use Rattle.sva_model.specs.Acts.{Act, act, bound, owed_by, gone_if, in_range}
 use Rattle.sva_model.specs.Acts.Act.{Unmap, DropSpace}
 use Rattle.sva_model.specs.Steps.{decide, next, run, after_acts, world_after}
+use Rattle.sva_laws.proofs.Tests.{first_holds, second_holds}
 use Rattle.sva_laws.proofs.Invariant.{Invariant}
 use Rattle.sva_laws.proofs.Keeps.{Legal}
 use Rattle.sva_laws.proofs.Passed.{LegalAll}
@@ -24,10 +26,6 @@ pub use Rattle.sva_model.proofs.FullSpace.{run_on as run_append}
 
 pub after_one : (rule : PasidRule) (c : Config) (ss : List Step) (s : Step) → world_after rule c (ss ++ s ∷ []) ≡ next (world_after rule c ss) s
 after_one rule c ss s = run_append ss (s ∷ []) (opened rule c)
-
-pub append_none : (xs : List Step) → xs ++ [] ≡ xs
-append_none [] = refl
-append_none (x ∷ xs) = ap (λ ys. x ∷ ys) (append_none xs)
 
 pub one_more : (before : List Step) (s : Step) (some : List Step) (t : Step) → before ++ s ∷ (some ++ t ∷ []) ≡ (before ++ s ∷ some) ++ t ∷ []
 one_more before s some t = sym (append_assoc before (s ∷ some) (t ∷ []))
@@ -76,12 +74,6 @@ present_from : (t : Bool) (owed : ℕ → Owed) (z : MappingState) → z ≡ Pre
 present_from true owed z h = inr (refl, ap (gone_if true owed) h)
 present_from false owed z h = inl h
 
-range_page : (a s : ℕ) (b : Bool) → (a == s && b) ≡ true → b ≡ true
-range_page a s b h = grind (arith, nat_tests)
-
-range_space : (a s : ℕ) (b : Bool) → (a == s && b) ≡ true → a ≡ s
-range_space a s b h = grind (arith, nat_tests)
-
 moves_unmap : (w : World) (s q count order : ℕ) → Moves w (act w (Unmap s q count order))
 moves_unmap w s q count order =
     record {
@@ -105,8 +97,9 @@ moves_unmap w s q count order =
     back m o (inl x) = inl x
     back m o (inr x) = inr (
       x.0,
-      unmapped s q count order refl (range_space (w.mappings.space m) s (in_range q (count * 2 ^ order) (w.mappings.page m)) x.1)
-          (range_page (w.mappings.space m) s (in_range q (count * 2 ^ order) (w.mappings.page m)) x.1) (sym x.2),
+      unmapped s q count order refl
+          (eqb-true (w.mappings.space m) s (first_holds (w.mappings.space m == s) (in_range q (count * 2 ^ order) (w.mappings.page m)) x.1))
+          (second_holds (w.mappings.space m == s) (in_range q (count * 2 ^ order) (w.mappings.page m)) x.1) (sym x.2),
     )
 
     on : (m : ℕ) → ((act w (Unmap s q count order)).mappings.state m ≡ Present)
@@ -118,8 +111,9 @@ moves_unmap w s q count order =
     on m (inr x) = inr (
       (λ e. owed_by (w.part e) count (bound w e s)),
       x.1,
-      unmapped s q count order refl (range_space (w.mappings.space m) s (in_range q (count * 2 ^ order) (w.mappings.page m)) x.0)
-          (range_page (w.mappings.space m) s (in_range q (count * 2 ^ order) (w.mappings.page m)) x.0) refl,
+      unmapped s q count order refl
+          (eqb-true (w.mappings.space m) s (first_holds (w.mappings.space m == s) (in_range q (count * 2 ^ order) (w.mappings.page m)) x.0))
+          (second_holds (w.mappings.space m == s) (in_range q (count * 2 ^ order) (w.mappings.page m)) x.0) refl,
     )
 
 moves_drop : (w : World) (s : ℕ) → Legal w (DropSpace s) → Moves w (act w (DropSpace s))
@@ -137,14 +131,14 @@ moves_drop w s l =
         ⊎ ((w.mappings.state m ≡ Present) × ((w.mappings.space m == s && true) ≡ true) × ((λ e. Nothing) ≡ o)) → (w.mappings.state m ≡ Gone o)
         ⊎ ((w.mappings.state m ≡ Present) × Goes w (act w (DropSpace s)) m o)
     back m o (inl x) = inl x
-    back m o (inr x) = inr (x.0, dropped s (range_space (w.mappings.space m) s true x.1) l (sym x.2))
+    back m o (inr x) = inr (x.0, dropped s (eqb-true (w.mappings.space m) s (first_holds (w.mappings.space m == s) true x.1)) l (sym x.2))
 
     on : (m : ℕ) → ((act w (DropSpace s)).mappings.state m ≡ Present)
         ⊎ (((w.mappings.space m == s && true) ≡ true) × ((act w (DropSpace s)).mappings.state m ≡ Gone (λ e. Nothing)))
         → ((act w (DropSpace s)).mappings.state m ≡ Present)
         ⊎ ((owed : ℕ → Owed) × ((act w (DropSpace s)).mappings.state m ≡ Gone owed) × Goes w (act w (DropSpace s)) m owed)
     on m (inl x) = inl x
-    on m (inr x) = inr ((λ e. Nothing), x.1, dropped s (range_space (w.mappings.space m) s true x.0) l refl)
+    on m (inr x) = inr ((λ e. Nothing), x.1, dropped s (eqb-true (w.mappings.space m) s (first_holds (w.mappings.space m == s) true x.0)) l refl)
 
 pub moves : (w : World) (s : Step) → Invariant w → Moves w (next w s)
 moves w s i = go (decide w s).acts (step_kind w s) (step_legal w s i)
@@ -199,8 +193,8 @@ went_along : (rule : PasidRule) (c : Config) (rest before : List Step)
     → ((m : ℕ) (owed : ℕ → Owed) → (world_after rule c before).mappings.state m ≡ Gone owed → WentAt rule c before m owed)
     → (m : ℕ) (owed : ℕ → Owed) → (world_after rule c (before ++ rest)).mappings.state m ≡ Gone owed → WentAt rule c (before ++ rest) m owed
 went_along rule c [] before old m owed h =
-    subst (λ z. WentAt rule c z m owed) (sym (append_none before))
-    (old m owed (subst (λ z. (world_after rule c z).mappings.state m ≡ Gone owed) (append_none before) h))
+    subst (λ z. WentAt rule c z m owed) (sym (append-nil before))
+    (old m owed (subst (λ z. (world_after rule c z).mappings.state m ≡ Gone owed) (append-nil before) h))
 went_along rule c (s ∷ rest) before old m owed h =
     subst (λ z. WentAt rule c z m owed) (append_assoc before (s ∷ []) rest)
     (went_along rule c rest (before ++ s ∷ []) (went_next rule c before s old) m owed

@@ -1,7 +1,7 @@
 -- For a config of one endpoint both rules of PASIDs give the same answers.
 use Rattle.std.proofs.Common.{◌≡◌, ◌≢◌, refl, ap, sym, ◌∙◌, ℕ, suc, ◌<◌, Bool, true, false, arith}
 use Rattle.std.specs.Prelude.{Option, Some, None, option_map, not, ◌+◌, ◌==◌, ◌&&◌, nat_lt, nat_le, length, if◌then◌else◌, List, [], ◌∷◌, Err}
-use Rattle.std.proofs.lemmas.Bool.Decides.{nat_tests}
+use Rattle.std.proofs.lemmas.Bool.{eqb-true}
 use Rattle.sva_step.specs.declared.answers.Answer.TheVariants as answer
 use Rattle.sva_step.specs.declared.limits.Config.{Config}
 use Rattle.sva_step.specs.declared.refusals.Refusal.TheVariants as refusal
@@ -28,9 +28,10 @@ use Rattle.sva_model.specs.Outcomes.{request_outcome, subject_outcome, deliver_o
 use Rattle.sva_model.specs.Steps.{checked, decide, next, reply, replies, after_acts}
 use Rattle.sva_laws.proofs.Words.{find_passes, holds_the, any_below-true, any_below-intro}
 use Rattle.sva_laws.proofs.Invariant.{Invariant}
-use Rattle.sva_laws.proofs.Passed.{is_less, not_bound_at}
+use Rattle.sva_laws.proofs.Passed.{not_bound_at}
 use Rattle.sva_laws.proofs.Runs.{next_keeps, opened_invariant}
 use Rattle.sva_laws.proofs.Withheld.{config_next, rule_next}
+use Rattle.sva_laws.proofs.Tests.{is_less}
 
 -- the same world, under the rule of one PASID for each space
 abbrev by_space : World → World
@@ -143,10 +144,7 @@ no_own w e s one there i unbound t h =
     let bears = (i.parts d.0).labels.pasid_bears t (the ((w.part d.0).at_pasid t)) c.0 in
     let same = one_of w.config.endpoints e d.0 one there d.1 in
     not_bound_at w s d.0 i (sym (ap (λ z. Labels.is_bound_at w s z) same) ∙ unbound) (the ((w.part d.0).at_pasid t)) bears.1
-    (number_is ((w.part d.0).space (the ((w.part d.0).at_pasid t))) s c.1)
-  where
-    number_is : (a b : ℕ) → (a == b) ≡ true → a ≡ b
-    number_is a b h = grind (arith, nat_tests)
+    (eqb-true ((w.part d.0).space (the ((w.part d.0).at_pasid t))) s c.1)
 
 borne_there : (w : World) (e t : ℕ) → w.config.endpoints ≡ 1 → e < w.config.endpoints → Labels.is_borne w t ≡ Labels.is_borne_at (w.part e) t
 borne_there w e t one there =

@@ -9,7 +9,7 @@ use Rattle.sva_model.specs.State.Order.{RangeOf, PasidOf, Wait}
 use Rattle.sva_model.specs.State.OrderState.{Queued, Sent, Done, Void}
 use Rattle.sva_model.specs.State.Subject.{InvalidateOf, ResetDone}
 use Rattle.sva_model.specs.State.Phase.{Open, Cleared}
-use Rattle.sva_model.specs.States.{is_busy, is_wait, drains}
+use Rattle.sva_model.specs.States.{is_busy, is_wait, drains, is_unreleased, is_taken, is_queued}
 use Rattle.sva_model.specs.Acts.{act_alone, LocalAct, binding_of}
 use Rattle.sva_laws.proofs.Legal.{LegalLocalAct}
 use Rattle.sva_laws.proofs.Resets.{Resets}
@@ -33,6 +33,19 @@ abbrev pub is_queued_or_done : OrderState → Bool
 is_queued_or_done Queued = true
 is_queued_or_done Done = true
 is_queued_or_done _ = false
+
+-- What one state says of an order or a binding.
+pub active_unreleased : (s : Stage) → is_active s ≡ true → is_unreleased s ≡ true
+active_unreleased s h = grind arith
+
+pub taken_busy : (s : OrderState) → is_taken s ≡ true → is_busy s ≡ true
+taken_busy s h = grind arith
+
+pub queued_not : (s : OrderState) → is_queued s ≡ false → s ≢ Queued
+queued_not s h e = absurd (cc)
+
+pub not_queued : (s : OrderState) → s ≢ Queued → is_queued s ≡ false
+not_queued s h = grind arith
 
 pub record Orders (p : Endpoint) : Type 0 where
   pub no_wait : (k : ℕ) → is_busy (p.order_state k) ≡ true → is_wait (p.order k) ≡ false

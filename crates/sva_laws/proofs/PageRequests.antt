@@ -1,20 +1,23 @@
 -- A page request is in flight once, then in the page request queue once; the last of a group stands behind all others.
-use Rattle.std.proofs.Common.{◌≡◌, ◌≢◌, ◌⊎◌, inl, inr, ap, ◌∙◌, ℕ, ◌<◌, ◌≤◌, Bool, true, false, arith}
+use Rattle.std.proofs.Common.{◌≡◌, ◌≢◌, ◌⊎◌, inl, inr, ap, ◌∙◌, ℕ, ◌<◌, ◌≤◌, Bool, true, false, arith, sym}
 use Rattle.std.specs.Prelude.{Some, None}
 use Rattle.std.proofs.lemmas.Bool.Decides.{nat_tests}
 use Rattle.sva_model.specs.Message.{Code}
-use Rattle.sva_model.specs.State.{Mappings, Endpoint, HostGroupState}
+use Rattle.sva_model.specs.State.{Mappings, Endpoint, HostGroupState, PageRequestState}
 use Rattle.sva_model.specs.State.PageRequestState.{InFlight, Arrived, Filed, Dropped}
 use Rattle.sva_model.specs.State.GroupState.{Collecting, Closed}
 use Rattle.sva_model.specs.State.HostGroupState.{NotFiled, Job, InHand, Replied, InHandDiscarded}
 use Rattle.sva_model.specs.State.Subject.{PageRequestOf, ResponseOf, ResetDone}
 use Rattle.sva_model.specs.State.Phase.{Open, Cleared}
-use Rattle.sva_model.specs.States.{is_outstanding, is_before_invalidating}
+use Rattle.sva_model.specs.States.{is_outstanding, is_before_invalidating, is_arrived}
 use Rattle.sva_model.specs.Acts.{act_alone, LocalAct}
 use Rattle.sva_model.specs.Acts.LocalAct.{File, Reopen}
 use Rattle.sva_laws.proofs.Legal.{LegalLocalAct}
 use Rattle.sva_laws.proofs.Resets.{Resets}
 use Rattle.sva_laws.proofs.Bounds.{Bounds}
+
+pub arrived_is : (s : PageRequestState) → is_arrived s ≡ true → s ≡ Arrived
+arrived_is s h = grind arith
 
 pub record Queued (p : Endpoint) : Type 0 where
   pub in_flight : (c r : ℕ) → p.message c ≡ Some (PageRequestOf r) → (p.page_request r ≡ InFlight) × (p.page_request_message r ≡ c)
@@ -23,6 +26,10 @@ pub record Queued (p : Endpoint) : Type 0 where
   pub arrival : (k : ℕ) → k < p.arrivals → (p.arrived_as (p.arrival k) ≡ k) × (p.arrival k < p.page_requests)
   pub landed : (k : ℕ) → k < p.arrivals → p.page_request (p.arrival k) ≢ InFlight
   pub made : (r : ℕ) → p.page_request r ≡ InFlight → r < p.page_requests
+
+-- no page request arrives twice
+pub arrival_once : (p : Endpoint) → Queued p → (j k : ℕ) → j < p.arrivals → k < p.arrivals → p.arrival j ≡ p.arrival k → j ≡ k
+arrival_once p qu j k a b e = sym (qu.arrival j a).0 ∙ ap p.arrived_as e ∙ (qu.arrival k b).0
 
 pub queued : (ms : Mappings) (g n : ℕ) (p : Endpoint) (o : LocalAct) → LegalLocalAct ms g p o → Resets n p → Bounds g p → Queued p → Queued (act_alone p n o)
 queued ms g n p o l re bo qu =

@@ -1,7 +1,7 @@
 -- What the laws need of a rule of PASIDs, and that both rules give it.
 use Rattle.std.proofs.Common.{◌≡◌, ◌≢◌, ◌⊎◌, inl, inr, refl, ap, sym, subst, ◌∙◌, ℕ, zero, suc, ◌<◌, ◌≤◌, Bool, true, arith}
 use Rattle.std.specs.Prelude.{Option, Some, None, option_map, not, ◌==◌}
-use Rattle.std.proofs.lemmas.Bool.Decides.{nat_tests}
+use Rattle.std.proofs.lemmas.Bool.{eq-eqb, eqb-true, not-true}
 use Rattle.sva_model.specs.Words.{find, is_some, holds_of, the}
 use Rattle.sva_model.specs.State.{PasidRule, Endpoint, World}
 use Rattle.sva_model.specs.State.PasidRule.{PerEndpoint, PerSpace}
@@ -10,7 +10,7 @@ use Rattle.sva_model.specs.Labels
 use Rattle.sva_laws.proofs.Words.{none_is, holds_the, find_passes, find_some, any_below-false, any_below-true, any_below-intro}
 use Rattle.sva_laws.proofs.Shared.{IsOf}
 use Rattle.sva_laws.proofs.Invariant.{Invariant}
-use Rattle.sva_laws.proofs.Passed.{not_false, unreleased_bound}
+use Rattle.sva_laws.proofs.Passed.{unreleased_bound}
 
 -- the space has no unreleased binding at the endpoint
 abbrev pub IsUnbound : World → (endpoint space : ℕ) → Type 0
@@ -41,7 +41,7 @@ none_lowest p (suc k) h pos low passes = absurd (cc (sym (ap (option_map suc) (f
 none_lowest p zero h pos low passes = absurd (omega arith)
 
 not_borne : (p : Endpoint) (t : ℕ) → not (Labels.is_borne_at p t) ≡ true → p.at_pasid t ≡ None
-not_borne p t h = none_is (p.at_pasid t) (not_false (Labels.is_borne_at p t) h)
+not_borne p t h = none_is (p.at_pasid t) (not-true (Labels.is_borne_at p t) h)
 
 -- For each endpoint apart.
 
@@ -65,15 +65,12 @@ borne_is_its w s t r i h =
     let d = any_below-true w.config.endpoints (λ e. holds_of (λ b. (w.part e).space b == s) ((w.part e).at_pasid t)) h in
     let c = holds_the (λ b. (w.part d.0).space b == s) ((w.part d.0).at_pasid t) d.2 in
     let bears = (i.parts d.0).labels.pasid_bears t (the ((w.part d.0).at_pasid t)) c.0 in
-    let sp = same_number ((w.part d.0).space (the ((w.part d.0).at_pasid t))) s c.1 in
+    let sp = eqb-true ((w.part d.0).space (the ((w.part d.0).at_pasid t))) s c.1 in
     let sh = i.shared r in
     record {
       its_space = λ e b u k. sh.same_space e d.0 b (the ((w.part d.0).at_pasid t)) u bears.1 (k ∙ sym bears.0) ∙ sp;
       its_pasid = λ e b u k. sh.same_pasid e d.0 b (the ((w.part d.0).at_pasid t)) u bears.1 (k ∙ sym sp) ∙ bears.0;
     }
-  where
-    same_number : (a b : ℕ) → (a == b) ≡ true → a ≡ b
-    same_number a b h = grind (arith, nat_tests)
 
 -- one that no space bears becomes the own one of a space that bears none
 new_is_its : (w : World) (s t : ℕ) → Invariant w → Labels.lowest_pasid (Labels.is_borne_by w s) ≡ None → not (Labels.is_borne w t) ≡ true → IsOf w.part s t
@@ -81,20 +78,17 @@ new_is_its w s t i none new =
     record {
       its_space = λ e b u k. absurd
           (cc (sym (ap is_some (subst (λ z. (w.part e).at_pasid z ≡ Some b) k ((i.parts e).labels.bears_pasid b u)))
-          ∙ any_below-false w.config.endpoints (λ d. Labels.is_borne_at (w.part d) t) (not_false (Labels.is_borne w t) new) e (there e b u)));
+          ∙ any_below-false w.config.endpoints (λ d. Labels.is_borne_at (w.part d) t) (not-true (Labels.is_borne w t) new) e (there e b u)));
       its_pasid = λ e b u k.
           let at = (i.parts e).labels.bears_pasid b u in
           let low = (i.parts e).labels.pasid_low ((w.part e).pasid b) b at in
           absurd (none_lowest (Labels.is_borne_by w s) ((w.part e).pasid b) none low.0 low.1
           (any_below-intro w.config.endpoints (λ d. holds_of (λ c. (w.part d).space c == s) ((w.part d).at_pasid ((w.part e).pasid b))) e (there e b u)
-          (ap (holds_of (λ c. (w.part e).space c == s)) at ∙ same_test ((w.part e).space b) s k)));
+          (ap (holds_of (λ c. (w.part e).space c == s)) at ∙ eq-eqb ((w.part e).space b) s k)));
     }
   where
     there : (e b : ℕ) → is_unreleased ((w.part e).stage b) ≡ true → e < w.config.endpoints
     there e b u = (i.parts e).there b (unreleased_bound (w.part e) b u)
-
-    same_test : (a b : ℕ) → a ≡ b → (a == b) ≡ true
-    same_test a b h = grind (arith, nat_tests)
 
 its_own : (w : World) (e s t : ℕ) → w.rule ≡ PerSpace → Invariant w → Labels.pasid_by PerSpace w e s ≡ Some t → IsOf w.part s t
 its_own w e s t r i h = go (own_or_new (Labels.lowest_pasid (Labels.is_borne_by w s)) (Labels.lowest_pasid (λ k. not (Labels.is_borne w k))) t h)

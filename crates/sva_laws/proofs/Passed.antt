@@ -1,7 +1,8 @@
 -- What has been tested when no cause of a step holds.
 use Rattle.std.proofs.Common.{◌≡◌, ◌≢◌, refl, ℕ, ◌<◌, ◌≤◌, Bool, true, false, arith}
-use Rattle.std.specs.Prelude.{Option, Some, None, ◌&&◌, ◌||◌, not, ◌==◌, nat_lt, if◌then◌else◌, List, [], ◌∷◌, Err}
+use Rattle.std.specs.Prelude.{Option, Some, None, ◌&&◌, not, ◌==◌, if◌then◌else◌, List, [], ◌∷◌, Err}
 use Rattle.std.proofs.lemmas.Bool.Decides.{nat_tests}
+use Rattle.std.proofs.lemmas.Bool.{not-true}
 use Rattle.sva_model.specs.Words.{is_some, holds_of, the}
 use Rattle.sva_model.specs.State.{Endpoint, World}
 use Rattle.sva_model.specs.State.Phase.{Open}
@@ -37,27 +38,6 @@ checked_legal w (c ∷ cs) o f = go (λ e. checked_legal w cs o (λ k. f (e, k))
     go rest true e = tt
     go rest false e = rest e
 
-pub is_less : (a b : ℕ) → not (nat_lt a b) ≡ false → a < b
-is_less a b h = grind (arith, nat_tests)
-
-pub is_at_most : (a b : ℕ) → nat_lt a b ≡ false → b ≤ a
-is_at_most a b h = grind (arith, nat_tests)
-
-pub and_left : (a b : Bool) → (a && b) ≡ true → a ≡ true
-and_left a b h = grind arith
-
-pub and_right : (a b : Bool) → (a && b) ≡ true → b ≡ true
-and_right a b h = grind arith
-
-pub or_left : (a b : Bool) → (a || b) ≡ false → a ≡ false
-or_left a b h = grind arith
-
-pub or_right : (a b : Bool) → (a || b) ≡ false → b ≡ false
-or_right a b h = grind arith
-
-pub not_false : (b : Bool) → not b ≡ true → b ≡ false
-not_false b h = grind arith
-
 pub opened_is : (p : Endpoint) → not (is_open p.phase) ≡ false → p.phase ≡ Open
 opened_is p h = grind arith
 
@@ -67,7 +47,7 @@ label_low n at h = (lowest_passes n (λ t. not (is_some (at t))) h).0
 
 pub label_free : (n : ℕ) (at : ℕ → Option ℕ) → (Labels.lowest_label n at == n) ≡ false → at (Labels.lowest_label n at) ≡ None
 label_free n at h = none_is (at (Labels.lowest_label n at))
-    (not_false (is_some (at (Labels.lowest_label n at))) (lowest_passes n (λ t. not (is_some (at t))) h).1)
+    (not-true (is_some (at (Labels.lowest_label n at))) (lowest_passes n (λ t. not (is_some (at t))) h).1)
 
 -- bindings
 pub unreleased_made : (g : ℕ) (p : Endpoint) (b : ℕ) → ((d : ℕ) → g ≤ d → p.stage d ≡ Unbound) → is_unreleased (p.stage b) ≡ true → b < g

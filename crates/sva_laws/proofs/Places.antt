@@ -2,6 +2,7 @@
 use Rattle.std.proofs.Common.{◌≡◌, ◌≢◌, ◌⊎◌, inl, inr, refl, ap, sym, subst, ◌∙◌, ℕ, zero, suc, ◌+◌, ◌<◌, ◌≤◌, Bool, true, false, arith}
 use Rattle.std.specs.Prelude.{Option, Some, None, ◌&&◌, not, if◌then◌else◌, List, [], ◌∷◌}
 use Rattle.std.proofs.lemmas.Bool.Decides.{nat_tests}
+use Rattle.std.proofs.lemmas.Bool.{ltb-false}
 use Rattle.sva_step.specs.declared.answers.Answer.{Answer}
 use Rattle.sva_step.specs.declared.limits.Config.{Config}
 use Rattle.sva_step.specs.declared.steps.Step.{Step}
@@ -18,12 +19,13 @@ use Rattle.sva_model.specs.Steps.{decide, next, run, after_acts, world_after}
 use Rattle.sva_laws.specs.Laws.{cached_translations}
 use Rattle.sva_laws.specs.Steps.{takes_out}
 use Rattle.sva_laws.proofs.Words.{put-other, ℕ_cases, any_below-false}
+use Rattle.sva_laws.proofs.Tests.{other_fails}
 use Rattle.sva_laws.proofs.Counting.{bit_most, bit_less, count_next, count_less, count_more}
 use Rattle.sva_laws.proofs.Legal.{LegalLocalAct}
 use Rattle.sva_laws.proofs.Bounds.{Bounds}
 use Rattle.sva_laws.proofs.Invariant.{Invariant}
 use Rattle.sva_laws.proofs.Keeps.{Legal, act_keeps, put_keeps}
-use Rattle.sva_laws.proofs.Passed.{LegalAll, is_at_most}
+use Rattle.sva_laws.proofs.Passed.{LegalAll}
 use Rattle.sva_laws.proofs.Cookies.{submits_there}
 use Rattle.sva_laws.proofs.Runs.{step_legal, next_keeps, opened_invariant}
 use Rattle.sva_laws.proofs.Rooms.{by_passed}
@@ -110,11 +112,7 @@ acts_short z (a ∷ acts) w t m l h = acts_short z acts (act w a) t m.1 l.1 (act
 
 -- a step that does
 no_room_short : (p : Endpoint) (n : ℕ) → is_queue_short p n ≡ false → queue_length p + n ≤ 64
-no_room_short p n h = is_at_most 64 (queue_length p + n) h
-
-second_false : (a b : Bool) → (a && b) ≡ false → a ≡ true → b ≡ false
-second_false true b h e = h
-second_false false b h e = absurd (cc (e))
+no_room_short p n h = ltb-false 64 (queue_length p + n) h
 
 unmap_short : (w : World) (s q count order n : ℕ) → n ≡ suc count → any_below w.config.endpoints (λ e. submits w s e && is_queue_short (w.part e) n) ≡ false
     → Invariant w → AllShort w → AllShort (act w (Unmap s q count order))
@@ -125,7 +123,7 @@ unmap_short w s q count order n same full i h =
     room e t =
         let f : (submits w s e && is_queue_short (w.part e) n) ≡ false =
         any_below-false w.config.endpoints (λ x. submits w s x && is_queue_short (w.part x) n) full e (submits_there w s e i t) in
-        let k : queue_length (w.part e) + n ≤ 64 = no_room_short (w.part e) n (second_false (submits w s e) (is_queue_short (w.part e) n) f t) in
+        let k : queue_length (w.part e) + n ≤ 64 = no_room_short (w.part e) n (other_fails (submits w s e) (is_queue_short (w.part e) n) f t) in
         omega (arith, k, same)
 
 next_short : (w : World) (s : Step) → Invariant w → AllShort w → AllShort (next w s)

@@ -1,6 +1,6 @@
 -- A reset is one message on its way, down and then up, and the unit is in reset as long. While the reset-done is on its
 -- way, the endpoint keeps and sends nothing, so nothing is in flight behind it when it arrives.
-use Rattle.std.proofs.Common.{◌≡◌, ◌≢◌, ℕ, ◌+◌, ◌<◌, ◌≤◌, arith, false}
+use Rattle.std.proofs.Common.{◌≡◌, ◌≢◌, ap, sym, ◌∙◌, ℕ, ◌+◌, ◌<◌, ◌≤◌, arith, true, false}
 use Rattle.std.specs.Prelude.{Some, None}
 use Rattle.std.proofs.lemmas.Bool.Decides.{nat_tests}
 use Rattle.sva_model.specs.Message.{Code}
@@ -11,10 +11,16 @@ use Rattle.sva_model.specs.State.PageRequestState.{Arrived}
 use Rattle.sva_model.specs.State.GroupState.{Closed}
 use Rattle.sva_model.specs.State.OrderState.{Lapsed, Queued}
 use Rattle.sva_model.specs.State.Subject.{StartOf, StopOf, FunctionReset, InvalidateOf, ResponseOf, ResetDone}
-use Rattle.sva_model.specs.State.Phase.{ResetSent, Cleared}
+use Rattle.sva_model.specs.State.Phase.{Open, ResetSent, Cleared}
 use Rattle.sva_model.specs.States.{is_open, is_out, is_taken, is_open_group}
 use Rattle.sva_model.specs.Acts.{act_alone, sends, LocalAct}
 use Rattle.sva_laws.proofs.Legal.{LegalLocalAct}
+
+pub open_is : (p : Endpoint) → is_open p.phase ≡ true → p.phase ≡ Open
+open_is p h = grind arith
+
+pub closed_is : (p : Endpoint) → is_open p.phase ≡ false → p.phase ≢ Open
+closed_is p h e = absurd (cc (sym (ap is_open e) ∙ h))
 
 pub record Resets (n : ℕ) (p : Endpoint) : Type 0 where
   pub unsent : (c : ℕ) → n ≤ c → p.message c ≡ None

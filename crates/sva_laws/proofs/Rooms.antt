@@ -1,7 +1,8 @@
 -- No more than 64 spaces are live, and no space has more than 1024 pages.
-use Rattle.std.proofs.Common.{◌≡◌, ◌≢◌, ◌⊎◌, inl, inr, refl, ap, sym, subst, ◌∙◌, ℕ, suc, ◌+◌, ◌<◌, ◌≤◌, Bool, true, false, arith}
-use Rattle.std.specs.Prelude.{Option, Some, None, ◌&&◌, ◌==◌, nat_lt, nat_le, if◌then◌else◌, List, [], ◌∷◌, ◌++◌, length, Err}
+use Rattle.std.proofs.Common.{◌≡◌, ◌≢◌, ◌⊎◌, inl, inr, refl, ap, sym, subst, ◌∙◌, ℕ, suc, ◌+◌, ◌≤◌, Bool, true, false, arith}
+use Rattle.std.specs.Prelude.{Option, Some, None, ◌&&◌, ◌==◌, nat_lt, if◌then◌else◌, List, [], ◌∷◌, ◌++◌, length, Err}
 use Rattle.std.proofs.lemmas.Bool.Decides.{nat_tests}
+use Rattle.std.proofs.lemmas.Bool.{leb-false, ltb-false}
 use Rattle.sva_step.specs.declared.limits.Config.{Config}
 use Rattle.sva_step.specs.declared.steps.Step.{Step}
 use Rattle.sva_step.specs.declared.steps.Step.TheVariants as step
@@ -18,10 +19,10 @@ use Rattle.sva_model.specs.Replies.{maps_to, reply_maps, replies_success, newly_
 use Rattle.sva_model.specs.Outcomes.{Outcome, outcome, reply_outcome}
 use Rattle.sva_model.specs.Steps.{checked, decide, next, run, after_acts, world_after}
 use Rattle.sva_laws.specs.Answers.{MapsPages}
-use Rattle.sva_laws.proofs.Words.{put-other, ℕ_cases}
+use Rattle.sva_laws.proofs.Words.{put-other, ℕ_cases, was_true}
 use Rattle.sva_laws.proofs.Counting.{bit_most, count_next, count_same, count_less, count_more}
 use Rattle.sva_laws.proofs.Invariant.{Invariant}
-use Rattle.sva_laws.proofs.Passed.{Passed, LegalAll, is_at_most}
+use Rattle.sva_laws.proofs.Passed.{Passed, LegalAll}
 use Rattle.sva_laws.proofs.Runs.{step_legal, next_keeps, opened_invariant}
 use Rattle.sva_laws.proofs.StepActs.{may, AllMay, step_may, is_making, is_mapping}
 use Rattle.sva_laws.proofs.Successes.{one_page, all_pages}
@@ -30,10 +31,7 @@ use Rattle.sva_laws.proofs.Successes.{one_page, all_pages}
 
 act_live : (w : World) (z : Step) (a : Act) → is_making z ≡ false → may a z ≡ true → Labels.live_spaces (act w a) ≤ Labels.live_spaces w
 act_live w z NewSpace h m = absurd (cc)
-act_live w z (DropSpace s) h m = count_less w.spaces (put w.is_live s false) w.is_live (λ k l t. was k t)
-  where
-    was : (k : ℕ) → put w.is_live s false k ≡ true → w.is_live k ≡ true
-    was k t = grind (arith, nat_tests)
+act_live w z (DropSpace s) h m = count_less w.spaces (put w.is_live s false) w.is_live (λ k l t. was_true w.is_live s k t)
 act_live w z (Map s q f x) h m = omega arith
 act_live w z (Unmap s q count order) h m = omega arith
 act_live w z (NewBinding e) h m = omega arith
@@ -62,16 +60,13 @@ by_passed P (c ∷ cs) o none some = go c.0 refl (λ e. by_passed P cs o none (�
     go true e rest = none
     go false e rest = rest e
 
-few_enough : (a b : ℕ) → nat_le a b ≡ false → b < a
-few_enough a b h = grind (arith, nat_tests)
-
 next_live : (w : World) (s : Step) → Labels.live_spaces w ≤ 64 → Labels.live_spaces (next w s) ≤ 64
 next_live w s h = go s (is_making s) refl
   where
     go : (z : Step) (b : Bool) → is_making z ≡ b → Labels.live_spaces (next w z) ≤ 64
     go step.Space b x =
         by_passed (λ acts. Labels.live_spaces (after_acts w acts) ≤ 64) (refusals w step.Space) (outcome w step.Space) h
-        (λ k. let one = one_live w in let few = few_enough 64 (Labels.live_spaces w) k.0 in omega (arith, one, few))
+        (λ k. let one = one_live w in let few = leb-false 64 (Labels.live_spaces w) k.0 in omega (arith, one, few))
     go z false x = let less = acts_live z (decide w z).acts w x (step_may w z) in omega (arith, h, less)
     go z true x = absurd (grind arith)
 
@@ -159,7 +154,7 @@ reply_fits w x j v (Some code) full h l = go (replies_success w j v) refl l
     maps = maps_to (job_space w j) (is_write_asked w j) (newly_mapped w j) (free_list w)
 
     room : replies_success w j v ≡ true → Labels.pages_of w (job_space w j) + length (newly_mapped w j) ≤ 1024
-    room t = is_at_most 1024 (Labels.pages_of w (job_space w j) + length (newly_mapped w j))
+    room t = ltb-false 1024 (Labels.pages_of w (job_space w j) + length (newly_mapped w j))
         (sym (ap (λ b. b && nat_lt 1024 (Labels.pages_of w (job_space w j) + length (newly_mapped w j))) t) ∙ full)
 
     go : (b : Bool) → replies_success w j v ≡ b → LegalAll w ((if b then maps else []) ++ LetGo x ∷ AtEndpoint e r ∷ [])
@@ -178,7 +173,7 @@ next_fits w s i h = go s (is_mapping s) refl
     go (step.Map n q x) b y =
         by_passed (λ acts. LegalAll w acts → AllFit (after_acts w acts)) (refusals w (step.Map n q x)) (outcome w (step.Map n q x)) (λ l. h)
         (λ k l.
-        let few = few_enough 1024 (Labels.pages_of w (Labels.name w n)) k.1.1.1.0 in
+        let few = leb-false 1024 (Labels.pages_of w (Labels.name w n)) k.1.1.1.0 in
         fits w (act w (Map (Labels.name w n) q (Labels.lowest_frame w) x)) (Labels.name w n) 1
         (one_page w (Labels.name w n) q (Labels.lowest_frame w) x l.0.1) (omega (arith, few)) h)
         (step_legal w (step.Map n q x) i)

@@ -4,7 +4,7 @@ use Rattle.sva_laws.proofs.Words.{put-same}
 use Rattle.std.proofs.Common.{sym, subst, ◌≡◌, ◌≢◌, ◌⊎◌, inl, inr, ℕ, ◌+◌, ◌<◌, ◌≤◌, Bool, true, false, arith}
 use Rattle.std.specs.Prelude.{Some, None}
 use Rattle.std.proofs.lemmas.Bool.Decides.{nat_tests}
-use Rattle.sva_model.specs.State.{Owed, MappingState, Mappings, Endpoint, Stage}
+use Rattle.sva_model.specs.State.{Owed, MappingState, Mappings, Endpoint}
 use Rattle.sva_model.specs.State.Owed.{Nothing, Ranges, Pasid, NextReset}
 use Rattle.sva_model.specs.State.MappingState.{Unmade, Present, Gone}
 use Rattle.sva_model.specs.State.Stage.{Invalidating}
@@ -19,7 +19,7 @@ use Rattle.sva_model.specs.Acts.LocalAct.{Keep, Begin, Complete}
 use Rattle.sva_laws.proofs.Legal.{LegalLocalAct}
 use Rattle.sva_laws.proofs.Resets.{Resets}
 use Rattle.sva_laws.proofs.Bounds.{Bounds}
-use Rattle.sva_laws.proofs.Bindings.{Bindings, is_unmarked}
+use Rattle.sva_laws.proofs.Bindings.{Bindings, unmarked_not_invalidating}
 use Rattle.sva_laws.proofs.Labels.{Labels}
 use Rattle.sva_laws.proofs.Requests.{Requests}
 use Rattle.sva_laws.proofs.Orders.{Orders, SentOnly}
@@ -106,9 +106,6 @@ over_at n p re r c h = re.over c r (re.up c h)
 running_made : (g : ℕ) (p : Endpoint) → Bounds g p → (u : ℕ) → p.use_state u ≡ Running → u < p.uses
 running_made g p bo u h = grind (arith, bo.use_state u)
 
-not_invalidating : (s : Stage) (k w : ℕ) → is_unmarked s ≡ true → s ≢ Invalidating k w
-not_invalidating s k w h e = grind arith
-
 -- the three kinds, over whatever is owed
 held_pending : (ms : Mappings) (g n : ℕ) (p : Endpoint) (o : LocalAct) → LegalLocalAct ms g p o → Resets n p → Bounds g p → Labels p → Orders p → Owners ms p
     → (r m : ℕ) → p.held r ≡ Some m → (act_alone p n o).held r ≡ Some m → (v : Owed) → Pending p (p.request_binding r) (ms.page m) p.uses v
@@ -149,7 +146,7 @@ flying_pending ms g n p o l re bo bi la ra ow c r m h q q' (Ranges first count r
   flying_ahead ms g n p o l la.sent r m first count resets pe.0 (bo.answered c r (Some m) h) q q' (over_at n p re r) (ow.flying_page c r m h) bo.noted pe.1,
 )
 flying_pending ms g n p o l re bo bi la ra ow c r m h q q' (Pasid k w resets c0) pe =
-    absurd (not_invalidating (p.stage (p.request_binding r)) k w (asker_stage p r bi ra q) pe.1)
+    absurd (unmarked_not_invalidating (p.stage (p.request_binding r)) k w (asker_stage p r bi ra q) pe.1)
 flying_pending ms g n p o l re bo bi la ra ow c r m h q q' (NextReset resets) pe =
     reset_pending ms g n p o l (p.request_binding r) (ms.page m) p.uses (act_alone p n o).uses resets (inr (flying_resets ms g n p o l r (over_at n p re r) q))
     pe

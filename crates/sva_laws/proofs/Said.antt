@@ -2,6 +2,7 @@
 use Rattle.std.proofs.Common.{◌≡◌, refl, ap, sym, subst, ◌∙◌, ℕ, zero, suc, ◌+◌, ◌<◌, Bool, true, false, arith}
 use Rattle.std.specs.Prelude.{◌↔◌, Some, ◌&&◌, not, List, [], ◌∷◌, ◌++◌, Ok}
 use Rattle.std.proofs.lemmas.Bool.Decides.{nat_tests}
+use Rattle.std.proofs.lemmas.Bool.{not-false}
 use Rattle.sva_step.specs.declared.answers.Answer.{Answer}
 use Rattle.sva_step.specs.declared.answers.Answer.TheVariants as answer
 use Rattle.sva_step.specs.declared.limits.Config.{Config}
@@ -23,7 +24,7 @@ use Rattle.sva_model.specs.Outcomes.{outcome, look_answer, count_outcome, delive
 use Rattle.sva_model.specs.Steps.{decide, reply, after_acts, world_after}
 use Rattle.sva_laws.specs.UnitSteps.{Delivers}
 use Rattle.sva_laws.specs.Answers.{Finishes, Uses, Looks, made_done}
-use Rattle.sva_laws.proofs.Words.{put-same, not_true}
+use Rattle.sva_laws.proofs.Words.{put-same}
 use Rattle.sva_laws.proofs.Counting.{count_same}
 use Rattle.sva_laws.proofs.Passed.{label_low}
 use Rattle.sva_laws.proofs.LegalEndpoint.{cached_is}
@@ -103,7 +104,7 @@ always_uses rule config steps e t q x said h =
     let w = world_after rule config steps in
     let p = w.part e in
     let yes = accepted (refusals w (step.BeginUse e t q x)) (outcome w (step.BeginUse e t q x)) said h in
-    let c = cached_is p t q (not_true (Labels.is_cached p t q) yes.0.1.1.1.0) in
+    let c = cached_is p t q (not-false (Labels.is_cached p t q) yes.0.1.1.1.0) in
     let r = Labels.cached p (Labels.bearer p t) q in
     subst (λ v. Uses w v e t q said) (sym (after_one rule config steps (step.BeginUse e t q x) ∙ ap (after_acts w) yes.2))
     (uses w e t q (Labels.lowest_label 16 p.at_slot) r (the (p.held r)) said (label_low 16 p.at_slot yes.0.1.1.1.1.1.0) c.held c.binding c.page (sym yes.1))

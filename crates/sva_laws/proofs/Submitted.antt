@@ -1,5 +1,5 @@
 -- What a unit's page invalidations and their wait leave as it was.
-use Rattle.std.proofs.Common.{◌≡◌, ℕ, true, arith}
+use Rattle.std.proofs.Common.{◌≡◌, ℕ, ◌<◌, true, arith}
 use Rattle.std.proofs.lemmas.Bool.Decides.{nat_tests}
 use Rattle.sva_model.specs.State.{Mappings, Endpoint}
 use Rattle.sva_model.specs.State.Phase.{Open}
@@ -14,6 +14,13 @@ use Rattle.sva_laws.proofs.Orders.{Orders}
 use Rattle.sva_laws.proofs.Owners.{Owners}
 use Rattle.sva_laws.proofs.PageRequests.{Queued, Lasts}
 use Rattle.sva_laws.proofs.Groups.{Groups}
+
+-- the orders that were there before
+pub old_order : (p : Endpoint) (b q count order cookie k : ℕ) → k < p.orders → (submitted p b q count order cookie).order k ≡ p.order k
+old_order p b q count order cookie k l = grind (arith, nat_tests)
+
+pub old_state : (p : Endpoint) (b q count order cookie k : ℕ) → k < p.orders → (submitted p b q count order cookie).order_state k ≡ p.order_state k
+old_state p b q count order cookie k l = grind (arith, nat_tests)
 
 pub resets_submitted : (n b q count order cookie : ℕ) (p : Endpoint) → p.phase ≡ Open → Resets n p → Resets n (submitted p b q count order cookie)
 resets_submitted n b q count order cookie p ph re =

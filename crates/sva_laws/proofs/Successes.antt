@@ -2,6 +2,7 @@
 use Rattle.std.proofs.Common.{◌≡◌, ◌≢◌, ◌⊎◌, inl, inr, refl, ap, sym, subst, ◌∙◌, ℕ, suc, ◌+◌, ◌<◌, ◌≤◌, Bool, true, false, arith}
 use Rattle.std.specs.Prelude.{Option, Some, None, ◌&&◌, ◌==◌, List, [], ◌∷◌, ◌++◌, length, if◌then◌else◌, Ok}
 use Rattle.std.proofs.lemmas.Bool.Decides.{nat_tests}
+use Rattle.std.proofs.lemmas.Bool.{cases_lt, not-false}
 use Rattle.sva_step.specs.declared.answers.Answer.TheVariants as answer
 use Rattle.sva_step.specs.declared.limits.Config.{Config}
 use Rattle.sva_step.specs.declared.steps.Step.{Step}
@@ -21,7 +22,7 @@ use Rattle.sva_model.specs.Replies.{maps_to, reply_maps, replies_success, newly_
 use Rattle.sva_model.specs.Outcomes.{outcome, reply_outcome}
 use Rattle.sva_model.specs.Steps.{reply, after_acts, world_after}
 use Rattle.sva_laws.specs.Answers.{MapsPages, Succeeds}
-use Rattle.sva_laws.proofs.Words.{put-same, put-other, ℕ_cases, some_the, not_true}
+use Rattle.sva_laws.proofs.Words.{put-same, put-other, ℕ_cases, some_the}
 use Rattle.sva_laws.proofs.Counting.{bit, count_next, count_same}
 use Rattle.sva_laws.proofs.Passed.{LegalAll}
 use Rattle.sva_laws.proofs.Runs.{always, step_legal}
@@ -96,14 +97,11 @@ more_pages u v w s n a b =
     record {
       pages = omega (arith, a.pages, b.pages);
       made = omega (arith, a.made, b.made);
-      fresh = λ m l k. new m l k (nat_cases m v.mappings.made);
+      fresh = λ m l k. new m l k (cases_lt m v.mappings.made);
       kept = λ m l. let x = a.kept m l in let y = b.kept m (omega (arith, l, a.made)) in (y.0 ∙ x.0, y.1 ∙ x.1, y.2 ∙ x.2);
       mapped = λ r h. a.mapped r (b.mapped r h);
     }
   where
-    nat_cases : (m n : ℕ) → (m < n) ⊎ (n ≤ m)
-    nat_cases m n = grind arith
-
     new : (m : ℕ) → u.mappings.made ≤ m → m < w.mappings.made → (m < v.mappings.made) ⊎ (v.mappings.made ≤ m) → (w.mappings.state m ≡ Present)
         × (w.mappings.space m ≡ s) × (u.mappings.at s (w.mappings.page m) ≡ None)
     new m l k (inl x) =
@@ -164,7 +162,7 @@ always_succeeds rule config steps x v count h =
     let legal = subst (LegalAll w) yes.2 (step_legal w s (always rule config steps)) in
     record {
       job = j;
-      in_hand = some_the (w.hand x) (not_true (is_some (w.hand x)) yes.0.1.0);
+      in_hand = some_the (w.hand x) (not-false (is_some (w.hand x)) yes.0.1.0);
       maps = subst (λ z. MapsPages w z (job_space w j) count) (sym (after_one rule config steps s ∙ ap (after_acts w) yes.2))
           (reply_pages w x j v (response_to w j v) count yes.1 legal);
     }

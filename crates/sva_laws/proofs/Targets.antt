@@ -3,6 +3,7 @@ use Rattle.sva_model.specs.State.{PasidRule}
 use Rattle.std.proofs.Common.{◌≡◌, ◌≢◌, ◌⊎◌, inl, inr, refl, ap, sym, ◌∙◌, ℕ, suc, ◌+◌, ◌<◌, ◌≤◌, Bool, true, false, arith}
 use Rattle.std.specs.Prelude.{◌&&◌, nat_lt, List}
 use Rattle.std.proofs.lemmas.Bool.Decides.{nat_tests}
+use Rattle.std.proofs.lemmas.Bool.{cases_lt}
 use Rattle.sva_step.specs.declared.limits.Config.{Config}
 use Rattle.sva_step.specs.declared.steps.Step.{Step}
 use Rattle.sva_model.specs.Words.{all_below}
@@ -15,14 +16,13 @@ use Rattle.sva_model.specs.State.Phase.{Open}
 use Rattle.sva_model.specs.States.{is_done, is_wait, answered}
 use Rattle.sva_model.specs.Steps.{world_after}
 use Rattle.sva_laws.specs.Waits.{HasFront, IsBehind, FitsDebt, IsAwaited, AwaitsTarget}
-use Rattle.sva_laws.proofs.Passed.{or_left, or_right}
 use Rattle.sva_laws.proofs.Answered.{all_below-intro}
 use Rattle.sva_laws.proofs.Orders.{Orders}
-use Rattle.sva_laws.proofs.Cookies.{less_or_not}
 use Rattle.sva_laws.proofs.Fronts.{Fronts, always_fronts}
 use Rattle.sva_laws.proofs.Debts.{always_debts}
 use Rattle.sva_laws.proofs.Runs.{always}
 use Rattle.sva_laws.proofs.Fronts.{is_queued as queued_apart}
+use Rattle.sva_laws.proofs.Tests.{first_fails, second_fails}
 
 done_apart : (z : OrderState) → z ≡ Done → (z ≡ Queued) ⊎ (z ≡ Void) → ⊥
 done_apart z h (inl e) = absurd (cc (sym h ∙ e))
@@ -30,14 +30,14 @@ done_apart z h (inr e) = absurd (cc (sym h ∙ e))
 
 -- what is queued isn't below the front; what is done is
 pub queued_front : (n : ℕ) (p : Endpoint) → Fronts n p → (k c : ℕ) (x : Bool) → k < p.orders → p.order k ≡ Wait c x → p.order_state k ≡ Queued → p.front ≤ c
-queued_front n p f k c x made h q = go (less_or_not c p.front)
+queued_front n p f k c x made h q = go (cases_lt c p.front)
   where
     go : (c < p.front) ⊎ (p.front ≤ c) → p.front ≤ c
     go (inl l) = absurd (queued_apart (p.order_state k) q (f.passed k c x made h l))
     go (inr l) = l
 
 pub done_below : (n : ℕ) (p : Endpoint) → Fronts n p → (k c : ℕ) (x : Bool) → k < p.orders → p.order k ≡ Wait c x → p.order_state k ≡ Done → c < p.front
-done_below n p f k c x made h d = go (less_or_not c p.front)
+done_below n p f k c x made h d = go (cases_lt c p.front)
   where
     either : (p.order_state k ≡ Queued) ⊎ ((p.order_state k ≡ Void) × (p.phase ≢ Open)) → (p.order_state k ≡ Queued) ⊎ (p.order_state k ≡ Void)
     either (inl e) = inl e
@@ -98,7 +98,7 @@ awaited n p first x resets f b same nd = let y = go (p.order x) refl b.is_a_wait
 
     go : (o : Order) → p.order x ≡ o → is_wait o ≡ true → (c : ℕ) × (y : Bool) × (p.order x ≡ Wait c y) × (p.front ≤ c)
         × ((p.order_state x ≡ Queued) ⊎ ((p.order_state x ≡ Void) × (p.phase ≢ Open)))
-    go (Wait c y) h w = let a = front c y h (less_or_not c p.front) in (c, y, h, a, f.at_front x c y b.made h a)
+    go (Wait c y) h w = let a = front c y h (cases_lt c p.front) in (c, y, h, a, f.at_front x c y b.made h a)
     go (RangeOf d r) h w = absurd (cc (w))
     go (PasidOf d) h w = absurd (cc (w))
 
@@ -114,19 +114,19 @@ both_done a b h k = grind arith
 pub awaits : (n : ℕ) (p : Endpoint) (v : Owed) → Fronts n p → FitsDebt p v → answered p v ≡ false → AwaitsTarget p v
 awaits n p Nothing f d h = absurd (cc (h))
 awaits n p (Ranges first count resets) f d h =
-    let same = no_reset p resets d.1.counted (or_right (all_below (suc count) (λ j. is_done (p.order_state (first + j)))) (nat_lt resets p.resets) h) in
-    let left = or_left (all_below (suc count) (λ j. is_done (p.order_state (first + j)))) (nat_lt resets p.resets) h in
+    let same = no_reset p resets d.1.counted (second_fails (all_below (suc count) (λ j. is_done (p.order_state (first + j)))) (nat_lt resets p.resets) h) in
+    let left = first_fails (all_below (suc count) (λ j. is_done (p.order_state (first + j)))) (nat_lt resets p.resets) h in
     awaited n p first (first + count) resets f d.1 same
     (λ e. absurd (cc (sym left
     ∙ all_below-intro (suc count) (λ j. is_done (p.order_state (first + j)))
     (λ j l. is_done_of (p.order_state (first + j)) (d.1.done same e (first + j) (omega arith) (omega (arith, l)))))))
 awaits n p (Pasid k x resets false) f d h =
-    let same = no_reset p resets d.1.counted (or_right (is_done (p.order_state k) && is_done (p.order_state x)) (nat_lt resets p.resets) h) in
-    let left = or_left (is_done (p.order_state k) && is_done (p.order_state x)) (nat_lt resets p.resets) h in
+    let same = no_reset p resets d.1.counted (second_fails (is_done (p.order_state k) && is_done (p.order_state x)) (nat_lt resets p.resets) h) in
+    let left = first_fails (is_done (p.order_state k) && is_done (p.order_state x)) (nat_lt resets p.resets) h in
     awaited n p k x resets f d.1 same
     (λ e. absurd (cc (sym left ∙ both_done (p.order_state k) (p.order_state x) (d.1.done same e k (omega arith) d.1.low) e)))
 awaits n p (Pasid k x resets true) f d h =
-    d.2 refl (no_reset p resets d.1.counted (or_right (is_done (p.order_state k) && is_done (p.order_state x)) (nat_lt resets p.resets) h))
+    d.2 refl (no_reset p resets d.1.counted (second_fails (is_done (p.order_state k) && is_done (p.order_state x)) (nat_lt resets p.resets) h))
 awaits n p (NextReset resets) f d h = d.1 (no_reset p resets d.0 h)
 
 pub always_awaits : (rule : PasidRule) (config : Config) (steps : List Step) (m e : ℕ) (owed : ℕ → Owed)

@@ -1,6 +1,7 @@
 -- Which wait, or which reset's end, an endpoint that hasn't answered is waited for by, over the list of steps.
 use Rattle.std.proofs.Common.{◌≡◌, ◌≢◌, inl, inr, refl, ap, sym, subst, ◌∙◌, ℕ, suc, ◌+◌, ◌<◌, Bool, true, false, arith, append_assoc}
 use Rattle.std.specs.Prelude.{◌↔◌, Option, Some, None, not, List, [], ◌∷◌, ◌++◌, if◌then◌else◌}
+use Rattle.std.proofs.lemmas.Bool.{false_from_ne_true}
 use Rattle.sva_step.specs.declared.limits.Config.{Config}
 use Rattle.sva_step.specs.declared.steps.Step.{Step}
 use Rattle.sva_model.specs.State.{PasidRule, Owed, Order, Stage, Endpoint, World, opened}
@@ -19,7 +20,7 @@ use Rattle.sva_model.specs.Claims.HasAnswered.{was_done}
 use Rattle.sva_laws.specs.Waits.{FitsDebt, AwaitsTarget}
 use Rattle.sva_laws.specs.Fronts.{IsTarget, KeepsTargets, part_after}
 use Rattle.sva_laws.specs.Fronts.IsTarget.{submitted, invalidating, reset_end}
-use Rattle.sva_laws.proofs.Passed.{or_right}
+use Rattle.sva_laws.proofs.Resets.{open_is, closed_is}
 use Rattle.sva_laws.proofs.Unmap.{bound_is}
 use Rattle.sva_laws.proofs.Fronts.{always_fronts}
 use Rattle.sva_laws.proofs.Debts.{always_debts}
@@ -30,6 +31,7 @@ use Rattle.sva_laws.proofs.Lookback.Goes.{unmapped, dropped}
 use Rattle.sva_laws.proofs.ByUnit.{AllAnswered, unit_answers}
 use Rattle.sva_laws.proofs.FrontExact.{same_order, is_ahead}
 use Rattle.sva_laws.proofs.Runs.{always, next_keeps}
+use Rattle.sva_laws.proofs.Tests.{second_fails}
 
 -- what is kept of a debt
 abbrev kept_by : Bool → TargetWire → Option TargetWire
@@ -60,12 +62,6 @@ orders_then : (p q : Endpoint) (b page count order cookie : ℕ) → q ≡ submi
     → submits_at p (Some b) ≡ true → q.orders ≡ p.orders + suc count
 orders_then p q b page count order cookie h s =
     ap (λ z. z.orders) h ∙ ap (λ t. (submitted_if t p (Some b) page count order cookie).orders) s
-
-open_is : (p : Endpoint) → is_open p.phase ≡ true → p.phase ≡ Open
-open_is p h = grind arith
-
-closed_is : (p : Endpoint) → is_open p.phase ≡ false → p.phase ≢ Open
-closed_is p h e = absurd (cc (sym (ap is_open e) ∙ h))
 
 before_is : (p : Endpoint) (b : ℕ) → IsBeforeInvalidating p b → is_before_invalidating (p.stage b) ≡ true
 before_is p b (inl h) = ap is_before_invalidating h
@@ -149,7 +145,7 @@ pasid_in_reset : (rule : PasidRule) (c : Config) (before : List Step) (step : St
     → answered (part_after rule c (before ++ step ∷ since) e) (Pasid k wait (part_after rule c before e).resets true) ≡ false
     → HasTarget rule c before step since e b (Pasid k wait (part_after rule c before e).resets true)
 pasid_in_reset rule c before step since e b k wait o debt silent =
-    let same = no_reset (part_after rule c (before ++ step ∷ since) e) (part_after rule c before e).resets debt.1.counted (or_right _ _ silent) in
+    let same = no_reset (part_after rule c (before ++ step ∷ since) e) (part_after rule c before e).resets debt.1.counted (second_fails _ _ silent) in
     reset_target rule c before step since e b (Pasid k wait (part_after rule c before e).resets true) o refl silent (debt.2 refl same) same
 
 -- by the stage of the binding
@@ -199,10 +195,6 @@ target_by rule c before step since e b q count order cookie then_is u not_quiet 
     go Unbound st o p = absurd (cc (sym u ∙ ap is_unreleased st))
     go Released st o p = absurd (cc (sym u ∙ ap is_unreleased st))
 
-not_true : (b : Bool) → (b ≡ true → ⊥) → b ≡ false
-not_true true h = absurd (h refl)
-not_true false h = refl
-
 some_target : (rule : PasidRule) (c : Config) (before : List Step) (step : Step) (since : List Step) (m e b : ℕ) (owed : ℕ → Owed)
     → Goes (world_after rule c before) (next (world_after rule c before) step) m owed
     → FitsDebt (part_after rule c (before ++ step ∷ since) e) (owed e)
@@ -228,7 +220,7 @@ always_targets rule config before step since m e owed present gone =
         (λ f. ap (λ b. kept_by b (target_of config.first now (owed e))) (answers.1 f)),
       );
       some = λ b u t not_yet. some_target rule config before step since m e b owed goes debt u t not_yet
-          (not_true (answered now (owed e)) (λ h. not_yet (answers.0 h b u t)));
+          (false_from_ne_true (answered now (owed e)) (λ h. not_yet (answers.0 h b u t)));
     }
   where
     w : World

@@ -5,6 +5,7 @@ use Rattle.sva_model.specs.State.{PasidRule}
 use Rattle.std.proofs.Common.{◌≡◌, ◌≢◌, ◌⊎◌, inl, inr, refl, ap, sym, subst, ◌∙◌, ℕ, zero, suc, ◌+◌, ◌*◌, ◌^◌, ◌<◌, Bool, true, false, arith, length-append}
 use Rattle.std.specs.Prelude.{◌↔◌, Option, Some, None, ◌&&◌, ◌||◌, not, ◌==◌, nat_lt, if◌then◌else◌, List, [], ◌∷◌, ◌++◌, length, slice_get, Ok, Err}
 use Rattle.std.proofs.lemmas.Bool.Decides.{nat_tests}
+use Rattle.std.proofs.lemmas.Bool.{not-false}
 use Rattle.sva_step.specs.declared.answers.Answer.{Answer}
 use Rattle.sva_step.specs.declared.answers.Answer.TheVariants.{Frame, FreeFrames, WithheldFrames, RangeFree, RangeWithheld}
 use Rattle.sva_step.specs.declared.limits.Config.{Config}
@@ -28,13 +29,14 @@ use Rattle.sva_model.specs.Outcomes.{Outcome, outcome, frames_at, unmap_answer, 
 use Rattle.sva_model.specs.Steps.{checked, decide, reply, after_acts, world_after}
 use Rattle.sva_model.specs.Claims.{IsAt, IsWithheld}
 use Rattle.sva_laws.specs.Laws.{IsTold, IsToldOfRange}
-use Rattle.sva_laws.proofs.Words.{put-same, lowest_passes, not_true, some_the, all_below-true, all_below-false}
+use Rattle.sva_laws.proofs.Words.{put-same, lowest_passes, some_the, all_below-true, all_below-false}
 use Rattle.sva_laws.proofs.Orders.{Orders}
 use Rattle.sva_laws.proofs.Invariant.{Invariant}
-use Rattle.sva_laws.proofs.Passed.{Passed, and_left, and_right}
+use Rattle.sva_laws.proofs.Passed.{Passed}
 use Rattle.sva_laws.proofs.Runs.{always}
 use Rattle.sva_laws.proofs.Lookback.{after_one}
 use Rattle.sva_laws.proofs.Withheld.{config_kept, is_withheld, place_withheld}
+use Rattle.sva_laws.proofs.Tests.{first_holds, not_below_itself, second_holds}
 
 -- What is accepted has passed every test; it answers and does what its outcome says.
 
@@ -94,10 +96,7 @@ unit_silent p b q count order cookie true = pages (first_queued)
       where
         neither : (a : Bool) (r : ℕ) → a ≡ false → (a || nat_lt r r) ≡ false
         neither a r h = grind (arith, nat_tests)
-unit_silent p b q count order cookie false = not_less p.resets
-  where
-    not_less : (r : ℕ) → nat_lt r r ≡ false
-    not_less r = grind (arith, nat_tests)
+unit_silent p b q count order cookie false = not_below_itself p.resets
 
 -- of a binding that invalidates only the wait is looked at, and the invalidation ahead of it is done where the wait is
 pasid_told : (a c : OrderState) (r : ℕ) → (c ≡ Done → a ≡ Done) → ((is_done a && is_done c) || nat_lt r r) ≡ not (not (is_done c))
@@ -217,7 +216,7 @@ pub told : (rule : PasidRule) (c : Config) (steps : List Step) (n q count : ℕ)
 told rule c steps n q count a h =
     record {
       space = s;
-      numbered = number_back w n (and_left (Labels.is_number w w.spaces n) (w.is_live s) is_space);
+      numbered = number_back w n (first_holds (Labels.is_number w w.spaces n) (w.is_live s) is_space);
       frames = fs;
       one_a_page = table_length count (λ j. w.mappings.frame (the (w.mappings.at s (q + j))));
       was_there = λ k f e. there k f (page_of k f e);
@@ -250,7 +249,7 @@ told rule c steps n q count a h =
     answer_is = by_frames some_wait fs ∙ accepts.1
 
     is_space : Labels.is_space w n ≡ true
-    is_space = not_true (Labels.is_space w n) accepts.0.0
+    is_space = not-false (Labels.is_space w n) accepts.0.0
 
     page_of : (k f : ℕ) → slice_get fs k ≡ Some f → (k < count) × (w.mappings.frame (the (w.mappings.at s (q + k))) ≡ f)
     page_of k f e = table_at count (λ j. w.mappings.frame (the (w.mappings.at s (q + j)))) k f e
@@ -258,11 +257,11 @@ told rule c steps n q count a h =
     there : (k f : ℕ) → (k < count) × (w.mappings.frame (the (w.mappings.at s (q + k))) ≡ f) → IsAt w f s (q + k)
     there k f x =
         record {
-          live = and_right (Labels.is_number w w.spaces n) (w.is_live s) is_space;
+          live = second_holds (Labels.is_number w w.spaces n) (w.is_live s) is_space;
           mapping = the (w.mappings.at s (q + k));
           maps = some_the (w.mappings.at s (q + k))
               (all_below-true count (λ j. Labels.is_mapped w s (q + j))
-              (not_true (all_below count (λ j. Labels.is_mapped w s (q + j))) accepts.0.1.1.1.0) k x.0);
+              (not-false (all_below count (λ j. Labels.is_mapped w s (q + j))) accepts.0.1.1.1.0) k x.0);
           leads = x.1;
         }
 
@@ -281,7 +280,7 @@ pub told_of_range : (rule : PasidRule) (c : Config) (steps : List Step) (n q ord
 told_of_range rule c steps n q order a h =
     record {
       space = s;
-      numbered = number_back w n (and_left (Labels.is_number w w.spaces n) (w.is_live s) is_space);
+      numbered = number_back w n (first_holds (Labels.is_number w w.spaces n) (w.is_live s) is_space);
       frames = taken;
       counted = refl;
       said = said_one some_wait (RangeFree taken) (RangeWithheld taken) a answer_is;
@@ -315,7 +314,7 @@ told_of_range rule c steps n q order a h =
     answer_is = by_range some_wait taken ∙ accepts.1
 
     is_space : Labels.is_space w n ≡ true
-    is_space = not_true (Labels.is_space w n) accepts.0.0
+    is_space = not-false (Labels.is_space w n) accepts.0.0
 
     next_is : v ≡ act w (Unmap s q 1 order)
     next_is = after_one rule c steps (step.UnmapRange n q order) ∙ ap (after_acts w) accepts.2
@@ -349,14 +348,14 @@ given rule c steps n q x a h =
     let s = Labels.name w n in
     let f = Labels.lowest_frame w in
     let yes = accepted (refusals w (step.Map n q x)) (outcome w (step.Map n q x)) a h in
-    let is_space = not_true (Labels.is_space w n) yes.0.0 in
+    let is_space = not-false (Labels.is_space w n) yes.0.0 in
     let low = lowest_passes w.config.frames (is_free w) yes.0.1.1.1.1.0 in
     let next_is = after_one rule c steps (step.Map n q x) ∙ ap (after_acts w) yes.2 in (
       s,
       f,
-      number_back w n (and_left (Labels.is_number w w.spaces n) (w.is_live s) is_space),
+      number_back w n (first_holds (Labels.is_number w w.spaces n) (w.is_live s) is_space),
       sym yes.1,
       subst (λ k. f < k.frames) (config_kept rule c steps) low.0,
       free_place (place w f) low.1,
-      subst (λ v. IsAt v f s q) (sym next_is) (at_the_page w s q f x (and_right (Labels.is_number w w.spaces n) (w.is_live s) is_space)),
+      subst (λ v. IsAt v f s q) (sym next_is) (at_the_page w s q f x (second_holds (Labels.is_number w w.spaces n) (w.is_live s) is_space)),
     )

@@ -1,6 +1,7 @@
 -- An endpoint has answered what it owes since a pump that passed the wait that it owed, or the delivery of its reset-done.
 use Rattle.std.proofs.Common.{◌≡◌, ◌⊎◌, inl, inr, refl, ap, sym, subst, ◌∙◌, ℕ, suc, ◌+◌, ◌≤◌, Bool, true, false, arith}
 use Rattle.std.specs.Prelude.{Option, Some, None, ◌&&◌, nat_lt, List, [], ◌∷◌, ◌++◌, Ok}
+use Rattle.std.proofs.lemmas.Bool.{ltb-false}
 use Rattle.sva_step.specs.declared.answers.Answer.{Answer}
 use Rattle.sva_step.specs.declared.limits.Config.{Config}
 use Rattle.sva_step.specs.declared.steps.Step.{Step}
@@ -23,7 +24,7 @@ use Rattle.sva_laws.proofs.Legal.{LegalLocalAct}
 use Rattle.sva_laws.proofs.Orders.{Orders}
 use Rattle.sva_laws.proofs.Invariant.{Invariant}
 use Rattle.sva_laws.proofs.Keeps.{put_keeps}
-use Rattle.sva_laws.proofs.Passed.{LegalAll, is_at_most, or_left, or_right, and_right}
+use Rattle.sva_laws.proofs.Passed.{LegalAll}
 use Rattle.sva_laws.proofs.Runs.{always, step_legal}
 use Rattle.sva_laws.proofs.Lookback.{after_one, moves}
 use Rattle.sva_laws.proofs.StepKinds.{IsBy, Kind, step_kind}
@@ -31,10 +32,10 @@ use Rattle.sva_laws.proofs.StepKinds.Kind.{calm, single, unmapping}
 use Rattle.sva_laws.proofs.UnitSteps.{Changes, changes, delivers, same_acts, always_counts}
 use Rattle.sva_laws.proofs.Debts.{always_debts}
 use Rattle.sva_laws.proofs.Freed.{next_place}
-use Rattle.sva_laws.proofs.Withheld.{or_cases}
 use Rattle.sva_laws.proofs.Answered.{or_more as or_kept}
 use Rattle.sva_laws.proofs.Answered.{and_more as and_kept}
 use Rattle.sva_laws.proofs.Answered.{less_more as more}
+use Rattle.sva_laws.proofs.Tests.{first_fails, one_holds, second_fails, second_holds}
 
 -- the counter of reset-dones stays, or a reset-done is delivered
 own_counts : (w : World) (s : Step) (e : ℕ) (a : Answer) (o : LocalAct) → reply w s ≡ Ok a → IsBy w s e o a → LegalLocalAct w.mappings w.bindings (w.part e) o
@@ -107,7 +108,7 @@ by_wait : (w : World) (s : Step) (e : ℕ) (q : Endpoint) (first wait resets : �
 by_wait w s e q first wait resets b or c h un d = go (c.done wait d)
   where
     same : resets ≡ (w.part e).resets
-    same = let l = is_at_most resets (w.part e).resets h in let k = b.counted in omega (arith, l, k)
+    same = let l = ltb-false resets (w.part e).resets h in let k = b.counted in omega (arith, l, k)
 
     busy : (count : ℕ) → (w.part e).order_state wait ≡ Completing count 1 → ⊥
     busy count x = absurd (cc (sym b.is_a_wait ∙ or.no_wait wait (ap is_busy x)))
@@ -126,19 +127,19 @@ turns : (w : World) (s : Step) (e : ℕ) (q : Endpoint) (v : Owed) → FitsDebt 
 turns w s e q Nothing f or c r un h = absurd (cc)
 turns w s e q (NextReset resets) f or c r un h = inr (by_reset (w.part e) q (Delivers w s e ResetDone) resets un r h)
 turns w s e q (Ranges first count resets) f or c r un h =
-    go (or_cases (all_below (suc count) (λ j. is_done (q.order_state (first + j)))) (nat_lt resets q.resets) h)
+    go (one_holds (all_below (suc count) (λ j. is_done (q.order_state (first + j)))) (nat_lt resets q.resets) h)
   where
     was : Bool
     was = all_below (suc count) (λ j. is_done ((w.part e).order_state (first + j)))
 
     no_reset : nat_lt resets (w.part e).resets ≡ false
-    no_reset = or_right was (nat_lt resets (w.part e).resets) un
+    no_reset = second_fails was (nat_lt resets (w.part e).resets) un
 
     undone : ((k : ℕ) → first ≤ k → k ≤ first + count → (w.part e).order_state k ≡ Done) → ⊥
     undone all =
         both was (all_below-intro (suc count) (λ j. is_done ((w.part e).order_state (first + j)))
         (λ j l. ap is_done (all (first + j) (omega arith) (omega (arith, l)))))
-        (or_left was (nat_lt resets (w.part e).resets) un)
+        (first_fails was (nat_lt resets (w.part e).resets) un)
 
     go : (all_below (suc count) (λ j. is_done (q.order_state (first + j))) ≡ true) ⊎ (nat_lt resets q.resets ≡ true)
         → PassesWait w s e (first + count) ⊎ Delivers w s e ResetDone
@@ -146,13 +147,13 @@ turns w s e q (Ranges first count resets) f or c r un h =
         (done_is (q.order_state (first + count)) (all_below-true (suc count) (λ j. is_done (q.order_state (first + j))) x count (omega arith))))
     go (inr x) = inr (by_reset (w.part e) q (Delivers w s e ResetDone) resets no_reset r x)
 turns w s e q (Pasid invalidation wait resets in_reset) f or c r un h =
-    go (or_cases (is_done (q.order_state invalidation) && is_done (q.order_state wait)) (nat_lt resets q.resets) h)
+    go (one_holds (is_done (q.order_state invalidation) && is_done (q.order_state wait)) (nat_lt resets q.resets) h)
   where
     was : Bool
     was = is_done ((w.part e).order_state invalidation) && is_done ((w.part e).order_state wait)
 
     no_reset : nat_lt resets (w.part e).resets ≡ false
-    no_reset = or_right was (nat_lt resets (w.part e).resets) un
+    no_reset = second_fails was (nat_lt resets (w.part e).resets) un
 
     low : invalidation ≤ wait
     low = let k = f.0 in omega (arith, k)
@@ -162,12 +163,12 @@ turns w s e q (Pasid invalidation wait resets in_reset) f or c r un h =
         both was
         (and_kept true true (is_done ((w.part e).order_state invalidation)) (is_done ((w.part e).order_state wait))
         (λ x. ap is_done (all invalidation (omega arith) low)) (λ x. ap is_done (all wait low (omega arith))) refl)
-        (or_left was (nat_lt resets (w.part e).resets) un)
+        (first_fails was (nat_lt resets (w.part e).resets) un)
 
     go : ((is_done (q.order_state invalidation) && is_done (q.order_state wait)) ≡ true) ⊎ (nat_lt resets q.resets ≡ true) → PassesWait w s e wait
         ⊎ Delivers w s e ResetDone
     go (inl x) = inl (by_wait w s e q invalidation wait resets f.1 or c no_reset undone
-        (done_is (q.order_state wait) (and_right (is_done (q.order_state invalidation)) (is_done (q.order_state wait)) x)))
+        (done_is (q.order_state wait) (second_holds (is_done (q.order_state invalidation)) (is_done (q.order_state wait)) x)))
     go (inr x) = inr (by_reset (w.part e) q (Delivers w s e ResetDone) resets no_reset r x)
 
 pub always_answers : (rule : PasidRule) (config : Config) (steps : List Step) (s : Step) (m e : ℕ) (owed : ℕ → Owed)

@@ -17,7 +17,8 @@ use Rattle.sva_model.specs.Acts.Act.{Unmap}
 use Rattle.sva_laws.proofs.Words.{put-same, put-other, ℕ_cases, find_passes, find_some}
 use Rattle.sva_model.specs.Words.{put_range, unless}
 use Rattle.sva_laws.proofs.Bounds.{Bounds}
-use Rattle.sva_laws.proofs.Orders.{is_active}
+use Rattle.sva_laws.proofs.Orders.{is_active, active_unreleased}
+use Rattle.sva_laws.proofs.Resets.{open_is}
 use Rattle.sva_laws.proofs.Owners.{blocks}
 use Rattle.sva_laws.proofs.Safe.{IsAhead, Pending, IsSafe, owed_of}
 use Rattle.sva_laws.proofs.Invariant.{Invariant}
@@ -84,9 +85,6 @@ bound_is w e b s i u sp =
         spaces : (is_unreleased ((w.part e).stage k) && (w.part e).space k == s) ≡ true → (w.part e).space k ≡ (w.part e).space b
         spaces h = grind (arith, nat_tests)
 
-pub open_is : (p : Endpoint) → is_open p.phase ≡ true → p.phase ≡ Open
-open_is p h = grind arith
-
 new_open : (p : Endpoint) (b q page count order age cookie j : ℕ) → p.phase ≡ Open → j < count → is_in (range_at page order j) q ≡ true
     → IsAhead (submitted p b page count order cookie) b q age p.orders count p.resets (p.orders + j)
 new_open p b q page count order age cookie j ph l h =
@@ -137,9 +135,6 @@ new_pending p b q page count order age cookie act inside =
     go Quiet h a = absurd (cc)
     go Lost h a = absurd (cc)
     go Released h a = absurd (cc)
-
-pub active_unreleased : (s : Stage) → is_active s ≡ true → is_unreleased s ≡ true
-active_unreleased s h = grind arith
 
 -- a usable translation stays safe when pages are unmapped
 pub unmap_safe : (w : World) (s q count order e b m age : ℕ) → Invariant w → is_active ((w.part e).stage b) ≡ true → w.mappings.space m

@@ -2,6 +2,7 @@
 use Rattle.std.proofs.Common.{◌≡◌, ◌≢◌, ◌⊎◌, inl, inr, refl, ap, sym, subst, ◌∙◌, ℕ, ◌<◌, Bool, true, false, arith}
 use Rattle.std.specs.Prelude.{Option, Some, None, ◌&&◌, ◌||◌, ◌==◌, List, [], ◌∷◌, ◌++◌, if◌then◌else◌, Ok, Err}
 use Rattle.std.proofs.lemmas.Bool.Decides.{nat_tests}
+use Rattle.std.proofs.lemmas.Bool.{not-false}
 use Rattle.sva_step.specs.declared.answers.Answer.{Answer}
 use Rattle.sva_step.specs.declared.answers.Answer.TheVariants as answer
 use Rattle.sva_step.specs.declared.limits.Config.{Config}
@@ -19,7 +20,7 @@ use Rattle.sva_model.specs.State.GroupState.{Awaiting, Stale}
 use Rattle.sva_model.specs.State.Stage.{Unbound, Invalidating, Quiet, Lost, Released}
 use Rattle.sva_model.specs.States.{covers, drains}
 use Rattle.sva_model.specs.Acts.{Act, LocalAct, act, act_alone, none_if, is_replaced, doom_if, stale_if, disables}
-use Rattle.sva_model.specs.Acts.{cut_off, submitted, submitted_if, submits, bound}
+use Rattle.sva_model.specs.Acts.{cut_off, submitted_if, submits, bound}
 use Rattle.sva_model.specs.Acts.{cookie_of}
 use Rattle.sva_model.specs.Acts.Act.{NewSpace, DropSpace, Map, Unmap, NewBinding, NewJob, Hold, LetGo, AtEndpoint}
 use Rattle.sva_model.specs.Labels
@@ -28,7 +29,9 @@ use Rattle.sva_model.specs.Outcomes.{Outcome, outcome, subject_outcome, deliver_
 use Rattle.sva_model.specs.Steps.{Reply, checked, reply, decide, next, after_acts, world_after}
 use Rattle.sva_laws.specs.UnitSteps.{Delivers}
 use Rattle.sva_laws.specs.Untouched.{Evicts, Takes, Brings, Stops, Quits, Asks, Disables, CutsOff, DrainsOnce, is_of_endpoint}
-use Rattle.sva_laws.proofs.Words.{put-same, put-other, not_true}
+use Rattle.sva_laws.proofs.Tests.{both_same}
+use Rattle.sva_laws.proofs.Words.{put-same, put-other}
+use Rattle.sva_laws.proofs.Submitted.{old_order}
 use Rattle.sva_laws.proofs.Legal.{LegalLocalAct}
 use Rattle.sva_laws.proofs.Invariant.{Invariant}
 use Rattle.sva_laws.proofs.Keeps.{Legal, put_keeps}
@@ -87,7 +90,7 @@ always_evicts rule config steps e t q said h =
     later_part rule config steps (step.Evict e t q) e (λ z. Evicts p z t q)
     (subst (λ z. Evicts p z t q)
     (sym (accepted_part w (step.Evict e t q) e (LocalAct.Evict (Labels.cached p (Labels.bearer p t) q)) said h refl))
-    (own_evicts p w.messages t q (cached_is p t q (not_true (Labels.is_cached p t q) yes.0.1.1.0))))
+    (own_evicts p w.messages t q (cached_is p t q (not-false (Labels.is_cached p t q) yes.0.1.1.0))))
 
 -- An invalidation that is taken.
 
@@ -128,7 +131,7 @@ act_alone_keeps p n c r m =
       kept = λ h. (m, refl, put-same (λ x. none_if (is_replaced p r x) (p.held x)) r (Some m));
       replaced = λ h x ne b q.
           put-other (λ y. none_if (is_replaced p r y) (p.held y)) r (Some m) x ne
-          ∙ ap (λ t. none_if t (p.held x)) (is_same (p.request_binding x) (p.request_binding r) (p.request_page x) (p.request_page r) b q);
+          ∙ ap (λ t. none_if t (p.held x)) (both_same (p.request_binding x) (p.request_binding r) (p.request_page x) (p.request_page r) b q);
       others = λ h x ne d.
           put-other (λ y. none_if (is_replaced p r y) (p.held y)) r (Some m) x ne
           ∙ ap (λ t. none_if t (p.held x)) (is_other (p.request_binding x) (p.request_binding r) (p.request_page x) (p.request_page r) d);
@@ -137,9 +140,6 @@ act_alone_keeps p n c r m =
       alone = refl;
     }
   where
-    is_same : (a b x y : ℕ) → a ≡ b → x ≡ y → (a == b && x == y) ≡ true
-    is_same a b x y h k = grind (arith, nat_tests)
-
     is_other : (a b x y : ℕ) → (a ≢ b) ⊎ (x ≢ y) → (a == b && x == y) ≡ false
     is_other a b x y h = grind (arith, nat_tests)
 
@@ -407,11 +407,8 @@ behind_parts =
     record {
       kept = λ w e o l i f h b k x. behind_own w.mappings w.bindings w.messages (w.part e) o l b k x (h b k x);
       more = λ p d q count order cookie h b k x st. let y = h b k x st in let m = y.0 in
-          (omega (arith, m), ap drains (old p d q count order cookie x y.0) ∙ y.1);
+          (omega (arith, m), ap drains (old_order p d q count order cookie x y.0) ∙ y.1);
     }
-  where
-    old : (p : Endpoint) (d q count order cookie x : ℕ) → x < p.orders → (submitted p d q count order cookie).order x ≡ p.order x
-    old p d q count order cookie x made = grind (arith, nat_tests)
 
 pub always_drains_once : (rule : PasidRule) (config : Config) (steps : List Step) (e : ℕ) → DrainsOnce ((world_after rule config steps).part e)
 always_drains_once rule config steps e =

@@ -2,6 +2,7 @@
 use Rattle.std.proofs.Common.{◌≡◌, ◌≢◌, ◌⊎◌, inl, inr, refl, ap, sym, ◌∙◌, ℕ, zero, suc, ◌+◌, ◌<◌, ◌≤◌, Bool, true, false, arith}
 use Rattle.std.specs.Prelude.{Some, None}
 use Rattle.std.proofs.lemmas.Bool.Decides.{nat_tests}
+use Rattle.std.proofs.lemmas.Bool.{cases_lt}
 use Rattle.sva_model.specs.Words.{put, count_below}
 use Rattle.sva_model.specs.Message.Message.{InvalidatedMessage}
 use Rattle.sva_model.specs.State.{Subject, Mappings, OrderState, Endpoint}
@@ -78,10 +79,6 @@ plain ms g n p o l e re bo la old c names h =
     kept ms g n p o l c names (re.unsent c) m (λ k count left nm s. (left, state_same ms g n p o l e la.sent k count left (bo.order_state k) s))
     (old c names m)
 
--- The endpoint sends completions: those in flight name other orders, which were owed before.
-below_or_not : (a b : ℕ) → (a < b) ⊎ (b ≤ a)
-below_or_not a b = grind arith
-
 finish_older : (n : ℕ) (p : Endpoint) (ns : ℕ → Bool) (vector count c : ℕ) → c < n → (act_alone p n (LocalAct.Finish ns vector count)).message c ≡ p.message c
 finish_older n p ns vector count c lt = grind (arith, nat_tests)
 
@@ -107,7 +104,7 @@ read_back count l m = grind (arith, nat_tests)
 
 finished : (ms : Mappings) (g n : ℕ) (p : Endpoint) (ns : ℕ → Bool) (vector count : ℕ) → LegalLocalAct ms g p (LocalAct.Finish ns vector count) → Resets n p
     → AreOwed p → AreOwed (act_alone p n (LocalAct.Finish ns vector count))
-finished ms g n p ns vector count l re old c names h = go (below_or_not c n)
+finished ms g n p ns vector count l re old c names h = go (cases_lt c n)
   where
     go : (c < n) ⊎ (n ≤ c) → IsOwedFor (act_alone p n (LocalAct.Finish ns vector count)) c names
     go (inl lt) =

@@ -2,8 +2,10 @@
 use Rattle.sva_model.specs.State.{PasidRule}
 use Rattle.std.proofs.Common.{◌≡◌, ◌≢◌, ◌⊎◌, inl, inr, refl, ap, sym, subst, ◌∙◌, ℕ, suc, ◌+◌, ◌-◌, ◌*◌, ◌^◌, ◌<◌, ◌≤◌, Bool, true, false, arith}
 use Rattle.std.proofs.Common.{append_assoc}
-use Rattle.std.specs.Prelude.{Option, Some, None, ◌&&◌, ◌||◌, ◌==◌, nat_lt, List, [], ◌∷◌, ◌++◌}
+use Rattle.std.specs.Prelude.{Option, Some, None, ◌&&◌, ◌==◌, nat_lt, List, [], ◌∷◌, ◌++◌}
 use Rattle.std.proofs.lemmas.Bool.Decides.{nat_tests}
+use Rattle.std.proofs.lemmas.Bool.{and_from, false_from_ne_true, ltb-true, or_left}
+use Rattle.std.proofs.lemmas.List.{append-nil}
 use Rattle.sva_step.specs.declared.limits.Config.{Config}
 use Rattle.sva_step.specs.declared.steps.Step.{Step}
 use Rattle.sva_model.specs.Words.{all_below, put_range}
@@ -25,12 +27,13 @@ use Rattle.sva_laws.proofs.Words.{put-same, find_passes, all_below-true, all_bel
 use Rattle.sva_laws.proofs.Answered.{all_below-intro}
 use Rattle.sva_laws.proofs.Invariant.{Invariant}
 use Rattle.sva_laws.proofs.Ranges.{range_of, order_of, order_covers}
-use Rattle.sva_laws.proofs.Passed.{and_left, and_right}
-use Rattle.sva_laws.proofs.Unmap.{bound_is, open_is}
+use Rattle.sva_laws.proofs.Resets.{open_is}
+use Rattle.sva_laws.proofs.Unmap.{bound_is}
 use Rattle.sva_laws.proofs.Runs.{always, next_keeps}
 use Rattle.sva_laws.proofs.Agreement.{withheld_at}
-use Rattle.sva_laws.proofs.Lookback.{Goes, Later, moves, later, went, run_append, after_one, one_more, append_none}
+use Rattle.sva_laws.proofs.Lookback.{Goes, Later, moves, later, went, run_append, after_one, one_more}
 use Rattle.sva_laws.proofs.Lookback.Goes.{unmapped, dropped}
+use Rattle.sva_laws.proofs.Tests.{first_holds, one_holds, same_inside, second_holds}
 
 -- What an endpoint owes for an unmapping is answered, exactly where it has answered for its binding.
 
@@ -47,25 +50,6 @@ resets_same false p b q count order cookie = refl
 orders_more : (t : Bool) (p : Endpoint) (b q count order cookie : ℕ) → t ≡ true → (submitted_if t p (Some b) q count order cookie).orders ≡ p.orders + suc count
 orders_more true p b q count order cookie h = refl
 orders_more false p b q count order cookie h = absurd (cc)
-
-or_first : (a b : Bool) → a ≡ true → (a || b) ≡ true
-or_first a b h = grind arith
-
-or_second : (a b : Bool) → b ≡ true → (a || b) ≡ true
-or_second a b h = grind arith
-
-pub and_both : (a b : Bool) → a ≡ true → b ≡ true → (a && b) ≡ true
-and_both a b h k = grind arith
-
-pub or_cases : (a b : Bool) → (a || b) ≡ true → (a ≡ true) ⊎ (b ≡ true)
-or_cases true b h = inl refl
-or_cases false b h = inr h
-
-less : (a b : ℕ) → a < b → nat_lt a b ≡ true
-less a b h = grind (arith, nat_tests)
-
-less_is : (a b : ℕ) → nat_lt a b ≡ true → a < b
-less_is a b h = grind (arith, nat_tests)
 
 stage_by_reset : (was now : Endpoint) (count : ℕ) (s : Stage) (o : Bool) → is_open was.phase ≡ o → was.resets < now.resets
     → answered now (owed_by_stage was count s) ≡ true
@@ -94,7 +78,7 @@ done_range now from count all k l h =
 -- what the unit submits for the binding is done: so all that it owes
 ranges_done : (was now : Endpoint) (count : ℕ) → AreDone now was.orders (was.orders + suc count) → answered now (Ranges was.orders count was.resets) ≡ true
 ranges_done was now count dn =
-    or_first (all_below (suc count) (λ j. is_done (now.order_state (was.orders + j)))) (nat_lt was.resets now.resets) (range_done now was.orders count dn)
+    or_left (all_below (suc count) (λ j. is_done (now.order_state (was.orders + j)))) (nat_lt was.resets now.resets) (range_done now was.orders count dn)
 
 before_submits : (was : Endpoint) (b : ℕ) → was.phase ≡ Open → IsBeforeInvalidating was b → submits_at was (Some b) ≡ true
 before_submits was b ph (inl h) = grind arith
@@ -118,8 +102,8 @@ answered_if was now then b page q count order cookie e (orders_done ph st su dn)
     sum = ap (λ p. p.orders) e ∙ orders_more (submits_at was (Some b)) was b q count order cookie (before_submits was b ph st)
 answered_if was now then b page q count order cookie e (pasid_done i w st x y) =
     ap (λ s. answered now (owed_by_stage was count s)) st
-    ∙ or_first (is_done (now.order_state i) && is_done (now.order_state w)) (nat_lt was.resets now.resets)
-    (and_both (is_done (now.order_state i)) (is_done (now.order_state w)) (is_done_of (now.order_state i) x) (is_done_of (now.order_state w) y))
+    ∙ or_left (is_done (now.order_state i) && is_done (now.order_state w)) (nat_lt was.resets now.resets)
+    (and_from (is_done (now.order_state i)) (is_done (now.order_state w)) (is_done_of (now.order_state i) x) (is_done_of (now.order_state w) y))
 answered_if was now then b page q count order cookie e (was_reset l) =
     stage_by_reset was now count (was.stage b) (is_open was.phase) refl
     (subst (λ z. z < now.resets) (ap (λ p. p.resets) e ∙ resets_same (submits_at was (Some b)) was b q count order cookie) l)
@@ -128,7 +112,7 @@ then_resets : (was now then : Endpoint) (b page q count order cookie : ℕ)
     → then ≡ submitted_if (submits_at was (Some b)) was (Some b) q count order cookie → nat_lt was.resets now.resets ≡ true → HasAnswered was then now b page
 then_resets was now then b page q count order cookie e h =
     was_reset (subst (λ z. z < now.resets) (sym (ap (λ p. p.resets) e ∙ resets_same (submits_at was (Some b)) was b q count order cookie))
-    (less_is was.resets now.resets h))
+    (ltb-true was.resets now.resets h))
 
 -- what is submitted for the binding: its page invalidations, and the wait behind them
 submits_wait : (was : Endpoint) (b page q count order cookie : ℕ) → in_range q (count * 2 ^ order) page ≡ true
@@ -154,7 +138,7 @@ unit_answers : (was now then : Endpoint) (b page q count order cookie : ℕ) (o 
 unit_answers was now then b page q count order cookie false r op st ow e h =
     then_resets was now then b page q count order cookie e (sym (ap (answered now) ow) ∙ h)
 unit_answers was now then b page q count order cookie true r op st ow e h =
-    by (or_cases (all_below (suc count) (λ j. is_done (now.order_state (was.orders + j)))) (nat_lt was.resets now.resets) (sym (ap (answered now) ow) ∙ h))
+    by (one_holds (all_below (suc count) (λ j. is_done (now.order_state (was.orders + j)))) (nat_lt was.resets now.resets) (sym (ap (answered now) ow) ∙ h))
   where
     sum : then.orders ≡ was.orders + suc count
     sum = ap (λ p. p.orders) e ∙ orders_more (submits_at was (Some b)) was b q count order cookie (before_submits was b (open_is was op) st)
@@ -183,12 +167,12 @@ answers_if was now then b page q count order cookie r u e h = go (was.stage b) r
     go (Draining wait) st =
         unit_answers was now then b page q count order cookie (is_open was.phase) r refl (inr (inr (wait, st))) (ap (owed_by_stage was count) st) e h
     go (Invalidating i w) st =
-        by (or_cases (is_done (now.order_state i) && is_done (now.order_state w)) (nat_lt was.resets now.resets)
+        by (one_holds (is_done (now.order_state i) && is_done (now.order_state w)) (nat_lt was.resets now.resets)
         (sym (ap (λ s. answered now (owed_by_stage was count s)) st) ∙ h))
       where
         by : ((is_done (now.order_state i) && is_done (now.order_state w)) ≡ true) ⊎ (nat_lt was.resets now.resets ≡ true) → HasAnswered was then now b page
-        by (inl x) = pasid_done i w st (done_is (now.order_state i) (and_left (is_done (now.order_state i)) (is_done (now.order_state w)) x))
-            (done_is (now.order_state w) (and_right (is_done (now.order_state i)) (is_done (now.order_state w)) x))
+        by (inl x) = pasid_done i w st (done_is (now.order_state i) (first_holds (is_done (now.order_state i)) (is_done (now.order_state w)) x))
+            (done_is (now.order_state w) (second_holds (is_done (now.order_state i)) (is_done (now.order_state w)) x))
         by (inr x) = then_resets was now then b page q count order cookie e x
 
 -- The config stays.
@@ -273,14 +257,11 @@ not_between w u v f m owed i a b la g lv is =
     let x = mapped_latest u f i is in
     let y = a.latest_grows f m la in
     let z = b.latest_grows f x.0 x.1 in
-    let low : m ≤ x.0 = subst (λ k. m ≤ k) (some_is (sym y.1 ∙ x.1)) y.2 in
-    let high : x.0 ≤ m = subst (λ k. x.0 ≤ k) (some_is (sym z.1 ∙ lv)) z.2 in
+    let low : m ≤ x.0 = subst (λ k. m ≤ k) (same_inside (sym y.1 ∙ x.1)) y.2 in
+    let high : x.0 ≤ m = subst (λ k. x.0 ≤ k) (same_inside (sym z.1 ∙ lv)) z.2 in
     let same : x.0 ≡ m = omega (arith, low, high) in
     apart (sym (subst (λ k. u.mappings.state k ≡ Present) same x.2) ∙ g)
   where
-    some_is : {j k : ℕ} → Some j ≡ Some k → j ≡ k
-    some_is h = cc
-
     apart : Present ≡ Gone owed → ⊥
     apart h = absurd (cc)
 
@@ -342,8 +323,8 @@ withheld_by rule c before step since f m e owed s q count order b o nx sp ow bo 
       endpoint = e;
       is_endpoint = o.is_endpoint;
       binding = b;
-      unreleased = and_left (is_unreleased ((w.part e).stage b)) ((w.part e).space b == s) found.1;
-      of_space = space_is (and_right (is_unreleased ((w.part e).stage b)) ((w.part e).space b == s) found.1);
+      unreleased = first_holds (is_unreleased ((w.part e).stage b)) ((w.part e).space b == s) found.1;
+      of_space = space_is (second_holds (is_unreleased ((w.part e).stage b)) ((w.part e).space b == s) found.1);
       silent = λ h. silent h;
     }
   where
@@ -441,7 +422,7 @@ latest_stays : (rule : PasidRule) (c : Config) (before : List Step) (step : Step
     ++ rest ≡ since → (world_after rule c (before ++ step ∷ some)).mappings.latest f ≡ Some m
     → (world_after rule c (before ++ step ∷ since)).mappings.latest f ≡ Some m
 latest_stays rule c before step since f m un [] some sum la =
-    subst (λ z. (world_after rule c (before ++ step ∷ z)).mappings.latest f ≡ Some m) (sym (append_none some) ∙ sum) la
+    subst (λ z. (world_after rule c (before ++ step ∷ z)).mappings.latest f ≡ Some m) (sym (append-nil some) ∙ sum) la
 latest_stays rule c before step since f m un (s ∷ rest) some sum la =
     latest_stays rule c before step since f m un rest (some ++ s ∷ []) (append_assoc some (s ∷ []) rest ∙ sum)
     (go ((moves u s (always rule c (before ++ step ∷ some))).latest_new f))
@@ -482,10 +463,6 @@ not_answered rule c before step since m e b t page owed mt mp u bt silent (unmap
 
     owes : owed e ≡ owed_by ((world_after rule c before).part e) count (Some b)
     owes = ap (λ v. v e) ow ∙ ap (owed_by ((world_after rule c before).part e) count) bo
-
-bool_false : (b : Bool) → (b ≡ true → ⊥) → b ≡ false
-bool_false true h = absurd (h refl)
-bool_false false h = refl
 
 withheld_after : (rule : PasidRule) (c : Config) (before : List Step) (step : Step) (since : List Step) (f t q e b : ℕ)
     → IsAt (world_after rule c before) f t q
@@ -537,7 +514,7 @@ withheld_after rule c before step since f t q e b is un lt u bt silent =
         withheld_at (world_after rule c (before ++ step ∷ since)) f m e x.0 end
         ((later_from_next rule c before step since).gone_on m x.0 x.1)
         (subst (λ k. e < k.endpoints) (sym (config_kept rule c (before ++ step ∷ since))) lt)
-        (bool_false (answered ((world_after rule c (before ++ step ∷ since)).part e) (x.0 e))
+        (false_from_ne_true (answered ((world_after rule c (before ++ step ∷ since)).part e) (x.0 e))
         (λ h. not_answered rule c before step since m e b t q x.0 at.1 at.2 u bt silent x.2 h))
 
 pub place_withheld : (rule : PasidRule) (c : Config) (steps : List Step) (f : ℕ) → IsWithheld rule c steps f → place (world_after rule c steps) f ≡ Withheld

@@ -1,6 +1,6 @@
 -- What the searches find.
 use Rattle.std.proofs.Common.{◌≡◌, ℕ, zero, suc, ◌+◌, ◌<◌, ◌≢◌, ◌⊎◌, inl, inr, refl, arith, Bool, true, false, subst}
-use Rattle.std.specs.Prelude.{Option, Some, None, if◌then◌else◌, nat_lt, not, ◌==◌}
+use Rattle.std.specs.Prelude.{Option, Some, None, if◌then◌else◌, nat_lt, ◌==◌}
 use Rattle.std.proofs.lemmas.Bool.Decides.{nat_tests}
 use Rattle.sva_model.specs.Words.{put, lowest, find, if_found, any_below, all_below, is_some, the, holds_of}
 pub use Rattle.sva_model.proofs.FullSpace.{lowest_cases}
@@ -12,14 +12,11 @@ put-same f i v = grind (arith, nat_tests)
 pub put-other : {A : Type 0} (f : ℕ → A) (i : ℕ) (v : A) (k : ℕ) → k ≢ i → put f i v k ≡ f k
 put-other f i v k ne = grind (arith, nat_tests)
 
+pub was_true : (f : ℕ → Bool) (i k : ℕ) → put f i false k ≡ true → f k ≡ true
+was_true f i k h = grind (arith, nat_tests)
+
 pub ℕ_cases : (a b : ℕ) → (a ≡ b) ⊎ (a ≢ b)
 ℕ_cases a b = grind arith
-
-pub not_true : (b : Bool) → not b ≡ false → b ≡ true
-not_true b h = grind arith
-
-pub below : (a b : ℕ) → not (nat_lt a b) ≡ false → a < b
-below a b h = grind (arith, nat_tests)
 
 -- a record that is there
 pub some_the : (o : Option ℕ) → is_some o ≡ true → o ≡ Some (the o)

@@ -1,6 +1,7 @@
 -- What the numbers and labels of a step mean now.
-use Rattle.std.specs.Prelude.{ℕ, suc, ◌+◌, ◌-◌, ◌^◌, Bool, false, ◌&&◌, not, ◌==◌, nat_lt, nat_le, Option, Some, None, option_map, List, map}
+use Rattle.std.specs.Prelude.{ℕ, suc, ◌+◌, ◌-◌, Bool, false, ◌&&◌, not, ◌==◌, nat_lt, nat_le, Option, Some, None, option_map, List, map}
 use Rattle.std.specs.Int.{bit_at}
+use Rattle.sva_step.specs.Limits
 use Rattle.sva_model.specs.Words.{lowest, any_below, count_below, find, select, is_some, holds_of, the}
 use Rattle.sva_model.specs.LinkOrder.{MessageKind, stays_behind}
 use Rattle.sva_model.specs.LinkOrder.MessageKind.{StartKind, StopKind, ResetKind, CompletionKind, InvalidateKind, ResponseKind, RequestKind, InvalidatedKind}
@@ -28,7 +29,7 @@ is_number world count number = nat_le world.config.first number && nat_lt (name 
 
 -- are fewer numbers left than are needed, `count` being given?
 abbrev pub lacks : World → (count needed : ℕ) → Bool
-lacks world count needed = nat_lt (2 ^ 63) (world.config.first + count + needed)
+lacks world count needed = nat_lt Limits.label_numbers (world.config.first + count + needed)
 
 -- Spaces.
 
@@ -75,7 +76,7 @@ is_bound world space = any_below world.config.endpoints (is_bound_at world space
 
 -- the lowest PASID that passes, if one does
 abbrev pub lowest_pasid : (ℕ → Bool) → Option ℕ
-lowest_pasid passes = option_map suc (find 32 (λ t. passes (suc t)))
+lowest_pasid passes = option_map suc (find Limits.pasids (λ t. passes (suc t)))
 
 -- does a binding of the endpoint bear it? and one of any endpoint? and one of the space, at any endpoint?
 abbrev pub is_borne_at : Endpoint → (pasid : ℕ) → Bool
@@ -220,7 +221,7 @@ is_set vector itag = bit_at vector itag == 1
 
 -- does the vector name no tag?
 abbrev pub names_none : (vector : ℕ) → Bool
-names_none vector = not (any_below 32 (is_set vector))
+names_none vector = not (any_below Limits.itags (is_set vector))
 
 -- has the endpoint taken an invalidation of this tag, and not answered it?
 abbrev pub is_pending : Endpoint → (itag : ℕ) → Bool

@@ -2,12 +2,13 @@
 -- messages are those of PCI Express Base 5.0, chapter 10, beside start, stop, reset and reset-done, which are this project's
 -- own; the queues are those of Intel VT-d, "Queued Invalidation Interface" and "Page Request Queue". That a label which is
 -- given out is the lowest free one is this project's own.
-use Rattle.std.specs.Prelude.{ℕ, suc, ◌+◌, ◌^◌, Bool, true, false, ◌&&◌, ◌||◌, not, ◌==◌, nat_le, if◌then◌else◌, Option, Some, None, List, [], ◌∷◌, ◌++◌}
+use Rattle.std.specs.Prelude.{ℕ, ◌+◌, ◌^◌, Bool, true, false, ◌&&◌, ◌||◌, not, ◌==◌, nat_le, if◌then◌else◌, Option, Some, None, List, [], ◌∷◌, ◌++◌}
 use Rattle.std.specs.Prelude.{length}
 use Rattle.sva_step.specs.declared.answers.Answer.{Answer}
 use Rattle.sva_step.specs.declared.answers.Answer.TheVariants as answer
 use Rattle.sva_step.specs.declared.steps.Step.{Step}
 use Rattle.sva_step.specs.declared.steps.Step.TheVariants as step
+use Rattle.sva_step.specs.Limits
 use Rattle.sva_model.specs.Words.{any_below, count_below, tabulate, lowest, is_some, the}
 use Rattle.sva_model.specs.Message.{Code, Message}
 use Rattle.sva_model.specs.Message.Code.{SuccessCode, InvalidCode, FailureCode}
@@ -109,9 +110,9 @@ send_outcome endpoint order itag false = says answer.Blocked []
 abbrev pub head_outcome : Endpoint → (endpoint order : ℕ) → Order → Outcome
 head_outcome part endpoint order (Wait cookie drain) = wait_outcome endpoint order (may_pass part drain)
 head_outcome part endpoint order (RangeOf binding range) =
-    send_outcome endpoint order (Labels.lowest_label 32 part.at_itag) (not (Labels.lowest_label 32 part.at_itag == 32))
+    send_outcome endpoint order (Labels.lowest_label Limits.itags part.at_itag) (not (Labels.lowest_label Limits.itags part.at_itag == Limits.itags))
 head_outcome part endpoint order (PasidOf binding) =
-    send_outcome endpoint order (Labels.lowest_label 32 part.at_itag) (not (Labels.lowest_label 32 part.at_itag == 32))
+    send_outcome endpoint order (Labels.lowest_label Limits.itags part.at_itag) (not (Labels.lowest_label Limits.itags part.at_itag == Limits.itags))
 
 -- a unit's turn: idle where nothing is queued
 abbrev pub pump_outcome : Endpoint → (endpoint : ℕ) → Bool → Outcome
@@ -172,7 +173,7 @@ end_outcome part endpoint used = at_one (if is_running (part.use_state used) the
 -- a page request is sent, of a new group or of one that still collects
 abbrev pub fault_outcome : Endpoint → (endpoint pasid page : ℕ) → (read write last : Bool) → Option ℕ → Outcome
 fault_outcome part endpoint pasid page read write last None =
-    let i = Labels.lowest_label 32 part.at_index in
+    let i = Labels.lowest_label Limits.groups part.at_index in
     at_one (answer.Group i) endpoint (LocalAct.Group (Labels.bearer part pasid) i page read write last)
 fault_outcome part endpoint pasid page read write last (Some index) =
     at_one (answer.Group index) endpoint (LocalAct.Request (the (part.at_index index)) page read write last)
@@ -181,7 +182,7 @@ fault_outcome part endpoint pasid page read write last (Some index) =
 
 -- has the cache no place for what this request brings?
 abbrev pub is_full : Endpoint → (request : ℕ) → Bool
-is_full part request = nat_le 64 (count_below part.requests (λ x. is_some (part.held x) && not (is_replaced part request x)))
+is_full part request = nat_le Limits.cached (count_below part.requests (λ x. is_some (part.held x) && not (is_replaced part request x)))
 
 -- what a request brings is kept, where there is room
 abbrev pub keep_outcome : (endpoint message request mapping : ℕ) → Bool → Outcome
@@ -289,9 +290,10 @@ outcome world (step.Take worker) = take_outcome world worker (lowest world.jobs 
 outcome world (step.Reply worker verdict) =
     reply_outcome world worker (the (world.hand worker)) (reply_maps world (the (world.hand worker)) verdict)
     (response_to world (the (world.hand worker)) verdict)
-outcome world (step.Ask endpoint pasid page) = ask_outcome (world.part endpoint) endpoint pasid page (Labels.lowest_label 32 (world.part endpoint).at_tag)
+outcome world (step.Ask endpoint pasid page) =
+    ask_outcome (world.part endpoint) endpoint pasid page (Labels.lowest_label Limits.request_tags (world.part endpoint).at_tag)
 outcome world (step.BeginUse endpoint pasid page write) =
-    begin_outcome world (world.part endpoint) endpoint pasid page (Labels.lowest_label 16 (world.part endpoint).at_slot)
+    begin_outcome world (world.part endpoint) endpoint pasid page (Labels.lowest_label Limits.use_slots (world.part endpoint).at_slot)
 outcome world (step.EndUse endpoint slot) = end_outcome (world.part endpoint) endpoint (the ((world.part endpoint).at_slot slot))
 outcome world (step.Evict endpoint pasid page) =
     at_one answer.Evicted endpoint (LocalAct.Evict (Labels.cached (world.part endpoint) (Labels.bearer (world.part endpoint) pasid) page))

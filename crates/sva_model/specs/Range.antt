@@ -4,6 +4,7 @@
 -- one, are no part of the address, and the range has as many times two pages as there are such bits. Here k is 9 at most.
 use Rattle.std.specs.Prelude.{ℕ, zero, suc, ◌+◌, ◌-◌, ◌/◌, ◌%◌, ◌^◌, ◌≡◌, ◌<◌, ◌≤◌, Bool, true, false, ◌&&◌, ◌==◌, nat_lt, nat_le, if◌then◌else◌, Option}
 use Rattle.std.specs.Prelude.{Some, None}
+use Rattle.sva_step.specs.Limits
 
 -- 2^order pages from `base` on
 pub record Range : Type 0 where
@@ -20,8 +21,8 @@ is_in range page = nat_le range.base page && nat_lt page (range.base + pages_in 
 
 -- a range that can be coded: of 1 to 512 pages, aligned to its size, of page numbers below 2^36
 pub record IsRange (range : Range) : Type 0 where
-  pub small : range.order ≤ 9
-  pub low : range.base < 2 ^ 36
+  pub small : range.order ≤ Limits.most_order
+  pub low : range.base < Limits.page_numbers
   pub aligned : range.base % pages_in range ≡ 0
 
 -- the address field, as a page number, and the bit S
@@ -45,13 +46,13 @@ ones (suc n) number = if number % 2 == 1 then suc (ones n (number / 2)) else zer
 
 -- the range of 2^(bits + 1) pages about a page, of which so many lowest bits are set
 abbrev pub range_about : (page bits : ℕ) → Option Range
-range_about page bits = if nat_lt bits 9 then Some (record { base = page - page % 2 ^ suc bits; order = suc bits }) else None
+range_about page bits = if nat_lt bits Limits.most_order then Some (record { base = page - page % 2 ^ suc bits; order = suc bits }) else None
 
 -- the range of a code; none where it has more than 512 pages, or is no page number
 abbrev pub decode_by : Bool → Code → Option Range
 decode_by false code = None
-decode_by true code = if code.s then range_about code.page (ones 9 code.page) else Some (record { base = code.page; order = 0 })
+decode_by true code = if code.s then range_about code.page (ones Limits.most_order code.page) else Some (record { base = code.page; order = 0 })
 
 -- the range that a code names
 abbrev pub decode : Code → Option Range
-decode code = decode_by (nat_lt code.page (2 ^ 36)) code
+decode code = decode_by (nat_lt code.page Limits.page_numbers) code

@@ -1,11 +1,12 @@
 -- What holds of ranges and of their codes.
 use Rattle.std.specs.Prelude.{◌≡◌, ℕ, ◌-◌, ◌%◌, ◌^◌, ◌≤◌, true, ◌⊎◌, ◌↔◌, IsTrue, Some, None, IfSome}
+use Rattle.sva_step.specs.Limits
 use Rattle.sva_model.specs.Range.{Range, IsRange, Code, pages_in, is_in, encode, decode}
 
 -- no code of a range: the page is no page number, or the range would have more than 2^9 pages, since S is set and so are
 -- the nine lowest bits of the page
 abbrev pub IsNoCode : Code → Type 0
-IsNoCode c = (2 ^ 36 ≤ c.page) ⊎ ((c.s ≡ true) × (c.page % 2 ^ 9 ≡ 2 ^ 9 - 1))
+IsNoCode c = (Limits.page_numbers ≤ c.page) ⊎ ((c.s ≡ true) × (c.page % 2 ^ Limits.most_order ≡ 2 ^ Limits.most_order - 1))
 
 -- A range is read from its own code, so two ranges have two codes. A code that is read gives a range within its limits,
 -- of which it is the code. A page is in a range exactly where its number, its low bits cleared, is the range's base; so two

@@ -7,6 +7,7 @@ use Rattle.sva_step.specs.declared.refusals.Refusal.TheVariants as refusal
 use Rattle.sva_step.specs.declared.steps.Step.{Step}
 use Rattle.sva_step.specs.declared.steps.Step.TheVariants as step
 use Rattle.sva_step.specs.declared.steps.Verdict.{Verdict}
+use Rattle.sva_step.specs.Limits
 use Rattle.sva_model.specs.Words.{any_below, all_below, count_below, is_some, the}
 use Rattle.sva_model.specs.State.{Stage, Subject, Endpoint, World}
 use Rattle.sva_model.specs.State.Stage.{Stopping, Draining, Invalidating, Quiet, Lost}
@@ -41,7 +42,7 @@ no_such_space world number = (not (Labels.is_space world number), refusal.NoSuch
 
 -- of the pages from `page` on, `count` in all, one is 2^36 or more
 abbrev pub page_range : (page count : ℕ) → Cause
-page_range page count = (nat_lt (2 ^ 36) (page + count), refusal.PageRange)
+page_range page count = (nat_lt Limits.page_numbers (page + count), refusal.PageRange)
 
 -- the endpoint's unit is in reset
 abbrev pub resetting : World → ℕ → Cause
@@ -69,14 +70,14 @@ not_held part pasid page = (not (Labels.is_cached part pasid page), refusal.NotH
 
 -- the descriptors don't fit into the 64 places of the unit's queue
 abbrev pub is_queue_short : Endpoint → (descriptors : ℕ) → Bool
-is_queue_short part descriptors = nat_lt 64 (Labels.queue_length part + descriptors)
+is_queue_short part descriptors = nat_lt Limits.queue_places (Labels.queue_length part + descriptors)
 
 -- Of single steps.
 
 -- an unmapping of single pages: 1 to 48, each mapped, and room at each unit that gets invalidations
 abbrev pub unmap_refusals : World → (space page count : ℕ) → List Cause
 unmap_refusals world space page count =
-    (not (nat_le 1 count && nat_le count 48), refusal.BadCount)
+    (not (nat_le 1 count && nat_le count Limits.most_pages), refusal.BadCount)
     ∷ page_range page count
     ∷ (not (all_below count (λ j. Labels.is_mapped world space (page + j))), refusal.NotMapped)
     ∷ (any_below world.config.endpoints (λ e. submits world space e && is_queue_short (world.part e) (count + 1)), refusal.QueueFull)
@@ -86,7 +87,7 @@ unmap_refusals world space page count =
 -- a range that is taken out: of 1 to 512 pages, aligned to its size, with a page that is mapped
 abbrev pub unmap_range_refusals : World → (space page order : ℕ) → List Cause
 unmap_range_refusals world space page order =
-    (nat_lt 9 order, refusal.BadOrder)
+    (nat_lt Limits.most_order order, refusal.BadOrder)
     ∷ page_range page (2 ^ order)
     ∷ (not (page % 2 ^ order == 0), refusal.NotAligned)
     ∷ (not (any_below (2 ^ order) (λ j. Labels.is_mapped world space (page + j))), refusal.NothingMapped)
@@ -133,14 +134,18 @@ abbrev pub sends_invalidate : Endpoint → Bool
 sends_invalidate part =
     not (Labels.is_queue_empty part)
     && not (is_wait (part.order (Labels.head part)))
-    && not (Labels.lowest_label 32 part.at_itag == 32)
+    && not (Labels.lowest_label Limits.itags part.at_itag == Limits.itags)
 
 -- a reply: by success its pages are writable where that is asked, and there are frames and room for them
 abbrev pub reply_refusals : World → (job : ℕ) → Verdict → List Cause
 reply_refusals world job verdict =
     (replies_success world job verdict && is_write_of_read_only world job, refusal.BadVerdict)
     ∷ (replies_success world job verdict && nat_lt (Labels.free_frames world) (length (newly_mapped world job)), refusal.NoFrame)
-    ∷ (replies_success world job verdict && nat_lt 1024 (Labels.pages_of world (job_space world job) + length (newly_mapped world job)), refusal.SpaceFull)
+    ∷ (
+      replies_success world job verdict
+          && nat_lt Limits.most_mapped (Labels.pages_of world (job_space world job) + length (newly_mapped world job)),
+      refusal.SpaceFull,
+    )
     ∷ (responds world job && Labels.lacks world world.messages 1, refusal.NumbersSpent)
     ∷ []
 
@@ -159,7 +164,7 @@ is_other_group part pasid (Some index) = not (Labels.is_group_of part pasid inde
 abbrev pub fault_refusals : World → Endpoint → (pasid : ℕ) → Option ℕ → List Cause
 fault_refusals world part pasid group =
     (not (may_request part pasid group), refusal.NotStarted)
-    ∷ (nat_le 32 (Labels.outstanding part), refusal.NoCredit)
+    ∷ (nat_le Limits.page_requests (Labels.outstanding part), refusal.NoCredit)
     ∷ (is_other_group part pasid group, refusal.NoSuchGroup)
     ∷ (part.is_disabled, refusal.PriDisabled)
     ∷ messages_spent world 1
@@ -170,9 +175,9 @@ fault_refusals world part pasid group =
 -- own, in place of section 10.3.3's rules for outstanding requests.
 abbrev pub finish_refusals : World → Endpoint → (vector count : ℕ) → List Cause
 finish_refusals world part vector count =
-    (Labels.names_none vector || any_below 32 (λ t. Labels.is_set vector t && not (Labels.is_pending part t)), refusal.NotPending)
+    (Labels.names_none vector || any_below Limits.itags (λ t. Labels.is_set vector t && not (Labels.is_pending part t)), refusal.NotPending)
     ∷ (any_below part.orders (λ k. Labels.is_named part vector k && Labels.is_in_use world part k), refusal.InUse)
-    ∷ (not (nat_le 1 count && nat_le count 8), refusal.BadCount)
+    ∷ (not (nat_le 1 count && nat_le count Limits.most_completions), refusal.BadCount)
     ∷ messages_spent world count
     ∷ []
 
@@ -208,13 +213,16 @@ deliver_refusals world message part =
 
 -- the causes of every step, in the order in which they are asked
 abbrev pub refusals : World → Step → List Cause
-refusals world step.Space = (nat_le 64 (Labels.live_spaces world), refusal.TooManySpaces) ∷ (Labels.lacks world world.spaces 1, refusal.NumbersSpent) ∷ []
+refusals world step.Space =
+    (nat_le Limits.most_spaces (Labels.live_spaces world), refusal.TooManySpaces)
+    ∷ (Labels.lacks world world.spaces 1, refusal.NumbersSpent)
+    ∷ []
 refusals world (step.DropSpace space) = no_such_space world space ∷ (Labels.is_bound world (Labels.name world space), refusal.StillBound) ∷ []
 refusals world (step.Map space page write) =
     no_such_space world space
     ∷ page_range page 1
     ∷ (Labels.is_mapped world (Labels.name world space) page, refusal.Mapped)
-    ∷ (nat_le 1024 (Labels.pages_of world (Labels.name world space)), refusal.SpaceFull)
+    ∷ (nat_le Limits.most_mapped (Labels.pages_of world (Labels.name world space)), refusal.SpaceFull)
     ∷ (Labels.lowest_frame world == world.config.frames, refusal.NoFrame)
     ∷ []
 refusals world (step.Unmap space page count) = no_such_space world space ∷ unmap_refusals world (Labels.name world space) page count
@@ -247,7 +255,7 @@ refusals world (step.Ask endpoint pasid page) =
     no_such_endpoint world endpoint
     ∷ page_range page 1
     ∷ (not (Labels.is_started (world.part endpoint) pasid), refusal.NotStarted)
-    ∷ (Labels.lowest_label 32 (world.part endpoint).at_tag == 32, refusal.NoTag)
+    ∷ (Labels.lowest_label Limits.request_tags (world.part endpoint).at_tag == Limits.request_tags, refusal.NoTag)
     ∷ messages_spent world 1
     ∷ []
 refusals world (step.BeginUse endpoint pasid page write) =
@@ -256,10 +264,10 @@ refusals world (step.BeginUse endpoint pasid page write) =
     ∷ (not (Labels.is_started (world.part endpoint) pasid), refusal.NotStarted)
     ∷ not_held (world.part endpoint) pasid page
     ∷ (write && is_read_only world (world.part endpoint) pasid page, refusal.ReadOnly)
-    ∷ (Labels.lowest_label 16 (world.part endpoint).at_slot == 16, refusal.NoUseSlot)
+    ∷ (Labels.lowest_label Limits.use_slots (world.part endpoint).at_slot == Limits.use_slots, refusal.NoUseSlot)
     ∷ []
 refusals world (step.EndUse endpoint slot) =
-    no_such_endpoint world endpoint ∷ (not (nat_lt slot 16 && is_some ((world.part endpoint).at_slot slot)), refusal.NoSuchUse) ∷ []
+    no_such_endpoint world endpoint ∷ (not (nat_lt slot Limits.use_slots && is_some ((world.part endpoint).at_slot slot)), refusal.NoSuchUse) ∷ []
 refusals world (step.Evict endpoint pasid page) = no_such_endpoint world endpoint ∷ page_range page 1 ∷ not_held (world.part endpoint) pasid page ∷ []
 refusals world (step.Fault endpoint pasid page read write group last) =
     no_such_endpoint world endpoint ∷ page_range page 1 ∷ fault_refusals world (world.part endpoint) pasid group
@@ -269,4 +277,4 @@ refusals world (step.Deliver message) =
     (not (Labels.is_in_flight world message), refusal.NoSuchMessage)
     ∷ deliver_refusals world (Labels.name world message) (world.part (world.link_of (Labels.name world message)))
 refusals world (step.Look frame) = (not (nat_lt frame world.config.frames), refusal.NoFrame) ∷ []
-refusals world (step.Bearer pasid) = (not (nat_le 1 pasid && nat_le pasid 32), refusal.BadPasid) ∷ []
+refusals world (step.Bearer pasid) = (not (nat_le 1 pasid && nat_le pasid Limits.pasids), refusal.BadPasid) ∷ []

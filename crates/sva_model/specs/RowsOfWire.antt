@@ -1,18 +1,17 @@
 -- What a host keeps after a run, worked out: the whole of it after three, and of others what stands there alone.
-use Rattle.std.specs.Prelude.{◌≡◌, ℕ, Bool, true, false, List, [], ◌∷◌, ◌++◌, Option, Some, None, replicate, map}
+use Rattle.std.specs.Prelude.{◌≡◌, ℕ, true, false, List, [], ◌∷◌, ◌++◌, Option, Some, None, replicate, map}
 use Rattle.sva_step.specs.declared.answers.Answer.TheVariants as answer
 use Rattle.sva_step.specs.declared.limits.Config.{Config}
 use Rattle.sva_step.specs.declared.steps.Step.TheVariants as step
 use Rattle.sva_model.specs.Rows.{Line, says, config, steps_of}
 use Rattle.sva_model.specs.Message.Message.{InvalidatedMessage, RequestMessage, StopMessage}
-use Rattle.sva_model.specs.State.{World}
 use Rattle.sva_model.specs.State.PasidRule.{PerSpace}
 use Rattle.sva_model.specs.State.PasidState.{Off, On}
 use Rattle.sva_model.specs.State.GroupState.{Collecting, Awaiting}
 use Rattle.sva_model.specs.States.Extent.{Pages}
 use Rattle.sva_model.specs.Steps.{world_after}
-use Rattle.sva_model.specs.Wire.{Wire, PlaceWire, TargetWire, BindingWire, StageWire, EndpointWire, RequestWire, UseWire, TakenWire, GroupWire, BusyWire}
-use Rattle.sva_model.specs.Wire.{AskWire, PageRequestWire, HostGroupWire, JobWire, Descriptor, wire}
+use Rattle.sva_model.specs.Wire.{Wire, StageWire, EndpointWire, GroupWire}
+use Rattle.sva_model.specs.Wire.{AskWire, PageRequestWire, HostGroupWire, Descriptor, wire}
 use Rattle.sva_model.specs.Wire.PlaceWire.{FreeWire, MappedWire, WithheldWire}
 use Rattle.sva_model.specs.Wire.TargetWire.{Cookie, ResetEnd}
 use Rattle.sva_model.specs.Wire.StageWire.{LiveWire, StoppingWire, DrainingWire, InvalidatingWire, QuietWire}

@@ -6,6 +6,7 @@
 -- "Invalidation Wait Descriptor" and "Page Request Queue".)
 use Rattle.std.specs.Prelude.{ℕ, zero, suc, ◌+◌, ◌-◌, Bool, true, false, ◌&&◌, ◌||◌, not, ◌==◌, nat_lt, if◌then◌else◌, Option, Some, None, option_map}
 use Rattle.std.specs.Prelude.{List, [], ◌∷◌, map}
+use Rattle.sva_step.specs.Limits
 use Rattle.sva_model.specs.Words.{any_below, count_below, select, tabulate, is_some, holds_of, the}
 use Rattle.sva_model.specs.Range.{Range}
 use Rattle.sva_model.specs.Message.{Message}
@@ -17,7 +18,7 @@ use Rattle.sva_model.specs.State.PasidState.{Off}
 use Rattle.sva_model.specs.State.RequestState.{Doomed}
 use Rattle.sva_model.specs.State.Order.{RangeOf, PasidOf, Wait}
 use Rattle.sva_model.specs.State.OrderState.{Taken, Completing}
-use Rattle.sva_model.specs.States.{Extent, Place, is_open, is_unreleased, is_running, is_open_group, is_queued, is_present, answered, covers, place}
+use Rattle.sva_model.specs.States.{Extent, Place, is_open, is_unreleased, is_running, is_open_group, is_queued, is_present, answered, place}
 use Rattle.sva_model.specs.States.Place.{Free, Mapped, Withheld}
 use Rattle.sva_model.specs.Acts.{extent_of, binding_of}
 use Rattle.sva_model.specs.Labels
@@ -123,7 +124,7 @@ target_wire first part owed = if answered part owed then None else Some (target_
 -- a withheld frame, by the mapping that is gone
 abbrev pub withheld_wire : (first endpoints : ℕ) → (ℕ → Endpoint) → MappingState → PlaceWire
 withheld_wire first endpoints part (Gone owed) =
-    WithheldWire (tabulate 8 (λ e. if nat_lt e endpoints then target_wire first (part e) (owed e) else None))
+    WithheldWire (tabulate Limits.most_endpoints (λ e. if nat_lt e endpoints then target_wire first (part e) (owed e) else None))
 withheld_wire first endpoints part state = FreeWire
 
 -- a frame by its place
@@ -273,7 +274,7 @@ taken_by mappings part order (Taken uses) =
       pasid = part.pasid (binding_of (part.order order));
       extent =
           extent_of (part.order order);
-      slots = tabulate 16 (λ t. holds_of (is_noted mappings part order uses) (part.at_slot t));
+      slots = tabulate Limits.use_slots (λ t. holds_of (is_noted mappings part order uses) (part.at_slot t));
     })
 taken_by mappings part order _ = None
 
@@ -286,12 +287,12 @@ group_wire part group =
 abbrev pub device_wire : Mappings → Endpoint → DeviceWire
 device_wire mappings part =
     record {
-      pasids = tabulate 32 (λ t. state_of_pasid part (part.at_pasid (suc t)));
-      tags = tabulate 32 (λ t. option_map (request_wire part) (part.at_tag t));
+      pasids = tabulate Limits.pasids (λ t. state_of_pasid part (part.at_pasid (suc t)));
+      tags = tabulate Limits.request_tags (λ t. option_map (request_wire part) (part.at_tag t));
       cache = cache_wire mappings part;
-      slots = tabulate 16 (λ t. option_map (use_wire mappings part) (part.at_slot t));
-      taken = tabulate 32 (λ t. chain (λ k. taken_by mappings part k (part.order_state k)) (part.at_itag t));
-      groups = tabulate 32 (λ i. option_map (group_wire part) (part.at_index i));
+      slots = tabulate Limits.use_slots (λ t. option_map (use_wire mappings part) (part.at_slot t));
+      taken = tabulate Limits.itags (λ t. chain (λ k. taken_by mappings part k (part.order_state k)) (part.at_itag t));
+      groups = tabulate Limits.groups (λ i. option_map (group_wire part) (part.at_index i));
       is_disabled = part.is_disabled;
     }
 
@@ -335,7 +336,7 @@ unit_wire first part =
     record {
       is_open = is_open part.phase;
       queue = map (λ k. descriptor first part (part.order k)) (select part.orders (λ k. is_queued (part.order_state k)));
-      busy = tabulate 32 (λ t. option_map (λ k. busy_wire (part.order_state k)) (part.at_itag t));
+      busy = tabulate Limits.itags (λ t. option_map (λ k. busy_wire (part.order_state k)) (part.at_itag t));
       front = end_number first part.front;
       waits_end = end_number first part.waits_end;
     }

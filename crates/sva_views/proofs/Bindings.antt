@@ -6,6 +6,7 @@ use Rattle.std.specs.List.{count_by, list_any, range_with_len}
 use Rattle.std.specs.Option.{option_or}
 use Rattle.std.proofs.lemmas.List.{map-append}
 use Rattle.std.proofs.lemmas.Bool.Decides.{nat_tests}
+use Rattle.sva_laws.proofs.Tests.{one_shifted}
 use Rattle.sva_model.specs.Words as words
 use Rattle.sva_model.specs.Words.{lowest, step_lowest, if_found}
 use Rattle.sva_model.specs.Wire.{Wire, BindingWire}
@@ -131,14 +132,11 @@ row_found zero first p = refl
 row_found (suc n) first p =
     let zero_more : first + 0 ≡ first = omega arith in
     ap (λ r. if p first then Some first else r) (row_found n (first + 1) p ∙ shift_more first (words.find n (λ k. p (first + 1 + k))))
-    ∙ ap (λ f. if p first then Some first else shifted first (shifted 1 (words.find n f))) (fun_ext (λ k. ap p (sums first k)))
+    ∙ ap (λ f. if p first then Some first else shifted first (shifted 1 (words.find n f))) (fun_ext (λ k. ap p (one_shifted first k)))
     ∙ go (p first)
     ∙ ap (λ z. shifted first (if p z then Some 0 else shifted 1 (words.find n (λ k. p (first + suc k))))) (sym zero_more)
     ∙ ap (shifted first) (sym (found_front n (λ k. p (first + k))))
   where
-    sums : (a k : ℕ) → a + 1 + k ≡ a + suc k
-    sums a k = omega arith
-
     go : (b : Bool) → (if b then Some first else shifted first (shifted 1 (words.find n (λ k. p (first + suc k)))))
         ≡ shifted first (if b then Some 0 else shifted 1 (words.find n (λ k. p (first + suc k))))
     go true = ap Some (zero_is first)

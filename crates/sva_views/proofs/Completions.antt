@@ -1,6 +1,6 @@
 -- Completions of invalidations, seen: by the bits of an ITag Vector.
 use Rattle.std.proofs.Common.{◌≡◌, refl, ap, sym, ◌∙◌, ℕ, zero, suc, ◌+◌, ◌<◌, ◌^◌, Bool, true, false, arith}
-use Rattle.std.specs.Prelude.{◌&&◌, ◌||◌, not, ◌==◌, nat_lt, nat_le, if◌then◌else◌, is_some, is_none, Option, Some, None, option_map, List, [], ◌∷◌, ◌++◌}
+use Rattle.std.specs.Prelude.{◌&&◌, ◌||◌, not, ◌==◌, nat_lt, nat_le, if◌then◌else◌, is_some, is_none, Option, Some, None, option_map, List, [], ◌∷◌}
 use Rattle.std.specs.Prelude.{map, length, slice_index_or}
 use Rattle.std.specs.Int.{bit_at}
 use Rattle.std.specs.List.{list_any, list_all, enumerate_from}
@@ -17,10 +17,12 @@ use Rattle.sva_tables.specs.Taken.{are_pending, is_one_waiting, without_named, w
 use Rattle.sva_endpoint.specs.Tables.{Tables}
 use Rattle.sva_endpoint.specs.Laws.{IsSound}
 use Rattle.sva_laws.proofs.Words.{any_below-false}
+use Rattle.sva_laws.proofs.Tests.{none_before, one_shifted}
 use Rattle.sva_wire.proofs.Lists.{tabulate_same}
 use Rattle.sva_views.specs.Device.{taken_seen, device_seen}
 use Rattle.sva_views.specs.DeviceLaws.{FinishIsSeen}
 use Rattle.sva_views.proofs.Tables.{seen_at, map_twice}
+pub use Rattle.sva_wire.proofs.Lists.{tabulate_first as tabulate_front}
 
 -- Searches and tables from their first number on.
 
@@ -43,14 +45,6 @@ unfolding any_below
 any_same zero p q h = refl
 any_same (suc n) p q h = λ i. if h n i then true else any_same n p q h i
 
-pub tabulate_front : {A : Type 0} (n : ℕ) (f : ℕ → A) → tabulate (suc n) f ≡ f 0 ∷ tabulate n (λ k. f (suc k))
-unfolding tabulate
-tabulate_front zero f = refl
-tabulate_front (suc n) f = ap (λ xs. xs ++ f (suc n) ∷ []) (tabulate_front n f)
-
-shifted : (n k : ℕ) → n + 1 + k ≡ n + suc k
-shifted n k = omega arith
-
 any_numbered : {A : Type 0} (p : ℕ → Option A → Bool) (n : ℕ) (xs : List (Option A))
     → list_any (λ place. p place.0 place.1) (enumerate_from n xs) ≡ any_below (length xs) (λ k. p (n + k) (slice_index_or xs k None))
 unfolding any_below
@@ -60,7 +54,7 @@ any_numbered p n (x ∷ xs) =
     (λ i. p (first i) x || any_numbered p (n + 1) xs i)
     ∙ ap (λ (b : Bool). p (n + 0) x || b)
     (any_same (length xs) (λ k. p (n + 1 + k) (slice_index_or xs k None)) (λ k. p (n + suc k) (slice_index_or xs k None))
-    (λ k. ap (λ m. p m (slice_index_or xs k None)) (shifted n k)))
+    (λ k. ap (λ m. p m (slice_index_or xs k None)) (one_shifted n k)))
     ∙ sym (any_front (length xs) (λ k. p (n + k) (slice_index_or (x ∷ xs) k None)))
 
 map_numbered : {A B : Type 0} (f : ℕ → Option A → B) (n : ℕ) (xs : List (Option A))
@@ -72,11 +66,8 @@ map_numbered f n (x ∷ xs) =
     (λ i. f (first i) x ∷ map_numbered f (n + 1) xs i)
     ∙ ap (λ l. f (n + 0) x ∷ l)
     (tabulate_same (length xs) (λ k. f (n + 1 + k) (slice_index_or xs k None)) (λ k. f (n + suc k) (slice_index_or xs k None))
-    (λ k l. ap (λ m. f m (slice_index_or xs k None)) (shifted n k)))
+    (λ k l. ap (λ m. f m (slice_index_or xs k None)) (one_shifted n k)))
     ∙ sym (tabulate_front (length xs) (λ k. f (n + k) (slice_index_or (x ∷ xs) k None)))
-
-none_before : (k : ℕ) → 0 + k ≡ k
-none_before k = omega arith
 
 any_at : {A : Type 0} (p : ℕ → Option A → Bool) (xs : List (Option A))
     → list_any (λ place. p place.0 place.1) (enumerate_from 0 xs) ≡ any_below (length xs) (λ k. p k (slice_index_or xs k None))

@@ -1,9 +1,9 @@
 -- Messages from the host, seen.
 use Rattle.std.proofs.Common.{◌≡◌, refl, ap, sym, ◌∙◌, ℕ, zero, suc, Bool, true, false, arith}
-use Rattle.std.specs.Prelude.{◌&&◌, ◌||◌, not, ◌==◌, if◌then◌else◌, Some, None, option_map, List, [], ◌∷◌, map, drop, length, replicate, slice_set}
+use Rattle.std.specs.Prelude.{◌&&◌, ◌||◌, not, if◌then◌else◌, Some, None, option_map, List, [], ◌∷◌, map, drop, length, replicate, slice_set}
 use Rattle.std.specs.FinMap.{insert, entries, empty, from_sorted, empty_of_len, len-entries, entries-from_sorted}
 use Rattle.std.proofs.lemmas.List.{map-set, set-get_or}
-use Rattle.std.proofs.lemmas.Bool.Decides.{nat_tests}
+use Rattle.sva_laws.proofs.Tests.{turned}
 use Rattle.sva_step.specs.declared.answers.Answer.TheVariants as answer
 use Rattle.sva_model.specs.State.{PasidState as DeviceState}
 use Rattle.sva_model.specs.States.{Extent as DeviceExtent}
@@ -147,11 +147,8 @@ within_seen : (extent : Extent) (q : ℕ) → is_within extent q ≡ states.is_w
 within_seen (Pages range) q = refl
 within_seen All q = refl
 
-flipped : (a b : ℕ) → (a == b) ≡ (b == a)
-flipped a b = grind (arith, nat_tests)
-
 covers_seen : (n : Invalidation) (t q : ℕ) → covers n t q ≡ finding.covers n.pasid (extent_seen n.extent) t q
-covers_seen n t q = λ i. flipped n.pasid t i && within_seen n.extent q i
+covers_seen n t q = λ i. turned n.pasid t i && within_seen n.extent q i
 
 noted_seen : (n : Invalidation) (slot : UseSlot) → runs_covered n slot ≡ moves.is_noted n.pasid (extent_seen n.extent) (slot_seen slot)
 noted_seen n slots.Free = refl

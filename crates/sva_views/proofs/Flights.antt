@@ -5,6 +5,7 @@ use Rattle.std.specs.List.{list_any, range_with_len}
 use Rattle.std.specs.Map.{lookup, remove_entry}
 use Rattle.std.proofs.lemmas.List.{map-append}
 use Rattle.std.proofs.lemmas.Bool.Decides.{nat_tests}
+use Rattle.sva_laws.proofs.Tests.{one_shifted}
 use Rattle.sva_model.specs.Words.{tabulate}
 use Rattle.sva_model.specs.LinkOrder.{stays_behind}
 use Rattle.sva_model.specs.Wire.{FlightWire}
@@ -18,7 +19,7 @@ use Rattle.sva_msg.specs.Bag.{InFlight, AreNumbered, MayDeliver, copies_of, must
 use Rattle.sva_msg.proofs.Deliverable.{any_older, may_deliver-is}
 use Rattle.sva_wire.proofs.Lists.{tabulate_same}
 use Rattle.sva_views.specs.Flights.{kind_seen, flight_seen, flights_seen, flight_at, FlightLaws}
-use Rattle.sva_views.proofs.Completions.{tabulate_front}
+use Rattle.sva_wire.proofs.Lists.{tabulate_first}
 use Rattle.sva_views.proofs.Tables.{map_twice}
 
 abbrev Entry : Type 0
@@ -86,11 +87,8 @@ row_mapped f first zero = refl
 row_mapped f first (suc n) =
     let here : first ≡ first + 0 = omega arith in
     (λ i. f (here i) ∷ row_mapped f (first + 1) n i)
-    ∙ ap (λ l. f (first + 0) ∷ l) (tabulate_same n (λ j. f (first + 1 + j)) (λ j. f (first + suc j)) (λ j l. ap f (sums first j)))
-    ∙ sym (tabulate_front n (λ j. f (first + j)))
-  where
-    sums : (a j : ℕ) → a + 1 + j ≡ a + suc j
-    sums a j = omega arith
+    ∙ ap (λ l. f (first + 0) ∷ l) (tabulate_same n (λ j. f (first + 1 + j)) (λ j. f (first + suc j)) (λ j l. ap f (one_shifted first j)))
+    ∙ sym (tabulate_first n (λ j. f (first + j)))
 
 -- A message that is delivered.
 

@@ -3,8 +3,8 @@ use Rattle.std.proofs.Common.{◌≡◌, refl, ap, sym, ◌∙◌, ℕ, Bool, tr
 use Rattle.std.specs.Prelude.{cond, ◌==◌, ◌&&◌, ◌||◌, not, Some, unwrap_or, List, [], ◌∷◌, ◌++◌, map, filter, find}
 use Rattle.std.specs.List.{list_any}
 use Rattle.std.proofs.lemmas.List.{map-append}
-use Rattle.std.proofs.lemmas.Bool.Decides.{nat_tests}
 use Rattle.std.proofs.lemmas.Bool.{eq-eqb, eqb-true}
+use Rattle.sva_laws.proofs.Tests.{first_fails, second_fails, turned}
 use Rattle.sva_model.specs.Wire.{HostGroupWire}
 use Rattle.sva_labels.specs.Moves as moves
 use Rattle.sva_labels.specs.Outcomes.{asks_of}
@@ -17,9 +17,6 @@ use Rattle.sva_views.specs.Service.{ask_seen, page_request_seen, group_seen, Ope
 abbrev pub of_unit : ℕ → List OpenGroup → List HostGroupWire
 of_unit e gs = map group_seen (filter (is_of_unit e) gs)
 
-flipped : (a b : ℕ) → (a == b) ≡ (b == a)
-flipped a b = grind (arith, nat_tests)
-
 -- An open group of a binding.
 
 abbrev of_binding : ℕ → HostGroupWire → Bool
@@ -28,22 +25,16 @@ of_binding n g = g.binding == n
 pub open_is_seen : OpenIsSeen
 open_is_seen s p unit binding h alone = go s.groups alone ∙ ap (list_any (of_binding binding)) (sym h)
   where
-    first_of : (a b : Bool) → (a || b) ≡ false → a ≡ false
-    first_of a b h = grind arith
-
-    rest_of : (a b : Bool) → (a || b) ≡ false → b ≡ false
-    rest_of a b h = grind arith
-
     rest : (g : OpenGroup) (gs : List OpenGroup) (e : ℕ) (b : Bool)
         → list_any (of_binding binding) (map group_seen (cond b (g ∷ filter (is_of_unit e) gs) (filter (is_of_unit e) gs))) ≡ false
         → list_any (of_binding binding) (of_unit e gs) ≡ false
-    rest g gs e true h = rest_of (g.binding == binding) (list_any (of_binding binding) (of_unit e gs)) h
+    rest g gs e true h = second_fails (g.binding == binding) (list_any (of_binding binding) (of_unit e gs)) h
     rest g gs e false h = h
 
     here : (g : OpenGroup) (gs : List OpenGroup) (b : Bool) → b ≡ true
         → list_any (of_binding binding) (map group_seen (cond b (g ∷ filter (is_of_unit g.unit) gs) (filter (is_of_unit g.unit) gs))) ≡ false
         → (g.binding == binding) ≡ false
-    here g gs true k h = first_of (g.binding == binding) (list_any (of_binding binding) (of_unit g.unit gs)) h
+    here g gs true k h = first_fails (g.binding == binding) (list_any (of_binding binding) (of_unit g.unit gs)) h
     here g gs false k h = absurd (cc (k))
 
     go : (gs : List OpenGroup) → ((e : ℕ) → (e == unit) ≡ false → list_any (of_binding binding) (of_unit e gs) ≡ false)
@@ -118,7 +109,7 @@ module _ (next unit binding : ℕ) (request : PageRequest) where
 
   -- at another unit nothing changes
   pub filing_apart : (e : ℕ) → (e == unit) ≡ false → (gs : List OpenGroup) → of_unit e (by_parts gs) ≡ of_unit e gs
-  filing_apart e h [] = go (unit == e) (flipped unit e ∙ h)
+  filing_apart e h [] = go (unit == e) (turned unit e ∙ h)
     where
       go : (b : Bool) → b ≡ false → map group_seen (cond b (with_request (new_group next unit binding request.index) request ∷ []) []) ≡ []
       go true k = absurd (cc (k))

@@ -17,6 +17,11 @@ unfolding tabulate
 tabulate_same zero f g h = refl
 tabulate_same (suc n) f g h = ap₂ (λ xs x. xs ++ x ∷ []) (tabulate_same n f g (λ k l. h k (omega arith))) (h n (omega arith))
 
+pub tabulate_first : {A : Type 0} (n : ℕ) (f : ℕ → A) → tabulate (suc n) f ≡ f 0 ∷ tabulate n (λ k. f (suc k))
+unfolding tabulate
+tabulate_first zero f = refl
+tabulate_first (suc n) f = ap (λ xs. xs ++ f (suc n) ∷ []) (tabulate_first n f)
+
 pub tabulate_length : {A : Type 0} (n : ℕ) (f : ℕ → A) → length (tabulate n f) ≡ n
 unfolding tabulate
 tabulate_length zero f = refl

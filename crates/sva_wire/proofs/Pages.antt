@@ -3,6 +3,7 @@
 use Rattle.std.proofs.Common.{◌≡◌, ◌≢◌, ◌⊎◌, inl, inr, refl, ap, ap₂, sym, subst, ◌∙◌, ℕ, zero, suc, ◌<◌, ◌≤◌, Bool, true, false, arith}
 use Rattle.std.specs.Prelude.{Option, Some, None, option_map, ◌&&◌, not, ◌==◌, nat_lt, if◌then◌else◌, List, [], ◌∷◌, length, filter}
 use Rattle.std.proofs.lemmas.Bool.Decides.{nat_tests}
+use Rattle.std.proofs.lemmas.Bool.{and_from, eq-eqb, eqb-true, le-ltb, ltb-false, ne_eqb}
 use Rattle.sva_model.specs.Words.{count_below}
 use Rattle.sva_model.specs.State.{Owed, MappingState, World}
 use Rattle.sva_model.specs.State.MappingState.{Unmade, Present, Gone}
@@ -12,7 +13,7 @@ use Rattle.sva_model.specs.Acts.Act.{Map}
 use Rattle.sva_model.specs.Wire.{PageWire, insert_by, is_lower_page, is_page_of, page_wire, pages_below, pages_wire}
 use Rattle.sva_laws.proofs.Words.{put-same, put-other, ℕ_cases}
 use Rattle.sva_laws.proofs.Invariant.{Mapped}
-use Rattle.sva_laws.proofs.Passed.{and_left, and_right}
+use Rattle.sva_laws.proofs.Tests.{first_holds, same_inside, second_holds}
 use Rattle.sva_wire.specs.Host.{page_at}
 
 -- Lists of pages.
@@ -48,12 +49,6 @@ all_from_filter k keeps (x ∷ xs) h = go (keeps x) (all_from_filter k keeps xs 
 lower : (a b : ℕ) → nat_lt a b ≡ true → a ≤ b
 lower a b h = grind (arith, nat_tests)
 
-not_lower : (a b : ℕ) → nat_lt a b ≡ false → b ≤ a
-not_lower a b h = grind (arith, nat_tests)
-
-is_not_lower : (a b : ℕ) → b ≤ a → nat_lt a b ≡ false
-is_not_lower a b h = grind (arith, nat_tests)
-
 rising_insert : (a : PageWire) (xs : List PageWire) → IsRising xs → IsRising (insert_by is_lower_page a xs)
 rising_insert a [] h = (tt, tt)
 rising_insert a (x ∷ xs) h = go (is_lower_page x a) refl (rising_insert a xs h.1)
@@ -61,12 +56,12 @@ rising_insert a (x ∷ xs) h = go (is_lower_page x a) refl (rising_insert a xs h
     go : (b : Bool) → is_lower_page x a ≡ b → IsRising (insert_by is_lower_page a xs) → IsRising (if b then x ∷ insert_by is_lower_page a xs else a ∷ x ∷ xs)
     go true e rest = (all_from_insert x.page a xs (lower x.page a.page e) h.0, rest)
     go false e rest =
-        let low : a.page ≤ x.page = not_lower x.page a.page e in
+        let low : a.page ≤ x.page = ltb-false x.page a.page e in
         ((low, all_from_lower a.page x.page xs low h.0), h)
 
 insert_low : (a : PageWire) (xs : List PageWire) → AllFrom a.page xs → insert_by is_lower_page a xs ≡ a ∷ xs
 insert_low a [] h = refl
-insert_low a (x ∷ xs) h = ap (λ b. if b then x ∷ insert_by is_lower_page a xs else a ∷ x ∷ xs) (is_not_lower x.page a.page h.0)
+insert_low a (x ∷ xs) h = ap (λ b. if b then x ∷ insert_by is_lower_page a xs else a ∷ x ∷ xs) (le-ltb x.page a.page h.0)
 
 -- an insertion, and then what is kept
 pub filter_insert : (keeps : PageWire → Bool) (a : PageWire) (xs : List PageWire) → IsRising xs → filter keeps (insert_by is_lower_page a xs)
@@ -93,7 +88,7 @@ filter_insert keeps a (x ∷ xs) h = go (is_lower_page x a) refl (filter_insert 
         → filter keeps (if b then x ∷ insert_by is_lower_page a xs else a ∷ x ∷ xs)
         ≡ (if keeps a then insert_by is_lower_page a (filter keeps (x ∷ xs)) else filter keeps (x ∷ xs))
     go true e rest = behind (keeps x) e (keeps a) rest
-    go false e rest = before (keeps a) (not_lower x.page a.page e)
+    go false e rest = before (keeps a) (ltb-false x.page a.page e)
 
 length_insert : (a : PageWire) (xs : List PageWire) → length (insert_by is_lower_page a xs) ≡ suc (length xs)
 length_insert a [] = refl
@@ -171,30 +166,18 @@ present_is Unmade h = absurd (cc)
 present_is Present h = refl
 present_is (Gone owed) h = absurd (cc)
 
-pub and_both : (a b : Bool) → a ≡ true → b ≡ true → (a && b) ≡ true
-and_both a b h k = grind arith
-
-pub same_is : (a b : ℕ) → (a == b) ≡ true → a ≡ b
-same_is a b h = grind (arith, nat_tests)
-
-pub is_same : (a b : ℕ) → a ≡ b → (a == b) ≡ true
-is_same a b h = grind (arith, nat_tests)
-
-pub is_other : (a b : ℕ) → a ≢ b → (a == b) ≡ false
-is_other a b h = grind (arith, nat_tests)
-
 -- the mapping of a page is there
 pub page_there : (w : World) → Mapped w → (s q m : ℕ) → is_page_of w.mappings s m ≡ true → w.mappings.page m ≡ q → w.mappings.at s q ≡ Some m
 page_there w ma s q m h e =
-    let here = ma.present_at m (present_is (w.mappings.state m) (and_left (is_present (w.mappings.state m)) (w.mappings.space m == s) h)) in
-    let space : w.mappings.space m ≡ s = same_is (w.mappings.space m) s (and_right (is_present (w.mappings.state m)) (w.mappings.space m == s) h) in
+    let here = ma.present_at m (present_is (w.mappings.state m) (first_holds (is_present (w.mappings.state m)) (w.mappings.space m == s) h)) in
+    let space : w.mappings.space m ≡ s = eqb-true (w.mappings.space m) s (second_holds (is_present (w.mappings.state m)) (w.mappings.space m == s) h) in
     subst (λ t. w.mappings.at t q ≡ Some m) space (subst (λ p. w.mappings.at (w.mappings.space m) p ≡ Some m) e here)
 
 -- and what is there is the mapping of a page
 pub there_page : (w : World) → Mapped w → (s q m : ℕ) → w.mappings.at s q ≡ Some m → is_page_of w.mappings s m ≡ true
 there_page w ma s q m h =
     let a = ma.at_present s q m h in
-    and_both (is_present (w.mappings.state m)) (w.mappings.space m == s) (ap is_present a.0) (is_same (w.mappings.space m) s a.1)
+    and_from (is_present (w.mappings.state m)) (w.mappings.space m == s) (ap is_present a.0) (eq-eqb (w.mappings.space m) s a.1)
 
 page_at_none : (w : World) (s q n : ℕ) → ((m : ℕ) → m < n → is_page_of w.mappings s m ≡ true → w.mappings.page m ≢ q)
     → page_at (pages_below w.mappings s n) q ≡ None
@@ -206,7 +189,7 @@ page_at_none w s q (suc n) h = go (is_page_of w.mappings s n) refl (page_at_none
         → page_at (if b then insert_by is_lower_page (page_wire w.mappings n) (pages_below w.mappings s n) else pages_below w.mappings s n) q ≡ None
     go true e rest =
         page_at_insert (page_wire w.mappings n) (pages_below w.mappings s n) q
-        ∙ ap (λ t. if t then Some (page_wire w.mappings n) else page_at (pages_below w.mappings s n) q) (is_other (w.mappings.page n) q (h n (omega arith) e))
+        ∙ ap (λ t. if t then Some (page_wire w.mappings n) else page_at (pages_below w.mappings s n) q) (ne_eqb (w.mappings.page n) q (h n (omega arith) e))
         ∙ rest
     go false e rest = rest
 
@@ -223,20 +206,17 @@ page_at_some w ma s q m (suc n) h l = go (ℕ_cases m n) (λ k. page_at_some w m
         (subst (λ k. is_page_of w.mappings s k ≡ true) e (there_page w ma s q m h))
         ∙ page_at_insert (page_wire w.mappings n) (pages_below w.mappings s n) q
         ∙ ap (λ t. if t then Some (page_wire w.mappings n) else page_at (pages_below w.mappings s n) q)
-        (is_same (w.mappings.page n) q (subst (λ k. w.mappings.page k ≡ q) e (ma.at_present s q m h).2))
+        (eq-eqb (w.mappings.page n) q (subst (λ k. w.mappings.page k ≡ q) e (ma.at_present s q m h).2))
 
     other : m ≢ n → is_page_of w.mappings s n ≡ true → w.mappings.page n ≢ q
-    other ne t e = ne (one (sym h ∙ page_there w ma s q n t e))
-      where
-        one : {a b : ℕ} → Some a ≡ Some b → a ≡ b
-        one h = cc
+    other ne t e = ne (same_inside (sym h ∙ page_there w ma s q n t e))
 
     there : m ≢ n → (b : Bool) → is_page_of w.mappings s n ≡ b → page_at (pages_below w.mappings s n) q ≡ Some (page_wire w.mappings m)
         → page_at (if b then insert_by is_lower_page (page_wire w.mappings n) (pages_below w.mappings s n) else pages_below w.mappings s n) q
         ≡ Some (page_wire w.mappings m)
     there ne true t rest =
         page_at_insert (page_wire w.mappings n) (pages_below w.mappings s n) q
-        ∙ ap (λ t. if t then Some (page_wire w.mappings n) else page_at (pages_below w.mappings s n) q) (is_other (w.mappings.page n) q (other ne t))
+        ∙ ap (λ t. if t then Some (page_wire w.mappings n) else page_at (pages_below w.mappings s n) q) (ne_eqb (w.mappings.page n) q (other ne t))
         ∙ rest
     there ne false t rest = rest
 

@@ -1,8 +1,8 @@
 -- Spaces by their numbers: which pages a number has, and a space more.
-use Rattle.std.proofs.Common.{◌≡◌, ◌≢◌, ◌⊎◌, inl, inr, refl, ap, ap₂, sym, ◌∙◌, ℕ, zero, suc, ◌+◌, ◌-◌, ◌<◌, ◌≤◌, Bool, true, false, arith}
+use Rattle.std.proofs.Common.{◌≡◌, ◌≢◌, ◌⊎◌, inl, inr, refl, ap, ap₂, sym, ◌∙◌, ℕ, zero, suc, ◌+◌, ◌<◌, ◌≤◌, Bool, true, false, arith}
 use Rattle.std.specs.Prelude.{Some, None, ◌&&◌, ◌==◌, nat_lt, nat_le, if◌then◌else◌, List, [], ◌∷◌, ◌++◌, map, length}
 use Rattle.std.proofs.lemmas.List.{map-append, length-map}
-use Rattle.std.proofs.lemmas.Bool.Decides.{nat_tests}
+use Rattle.std.proofs.lemmas.Bool.{and_from, eq-eqb, eqb-true, le-leb, leb-true, lt-ltb, ltb-true, ne_eqb}
 use Rattle.sva_model.specs.Words.{put, select}
 use Rattle.sva_model.specs.State.{World}
 use Rattle.sva_model.specs.States.{is_present}
@@ -12,10 +12,10 @@ use Rattle.sva_model.specs.Labels
 use Rattle.sva_model.specs.Wire.{PageWire, SpaceWire, is_page_of, pages_wire, spaces_wire}
 use Rattle.sva_laws.proofs.Words.{put-same, put-other, ℕ_cases}
 use Rattle.sva_laws.proofs.Invariant.{Mapped}
-use Rattle.sva_laws.proofs.Passed.{and_left, and_right}
+use Rattle.sva_laws.proofs.Tests.{added_back, first_holds, second_holds, taken_off}
 use Rattle.sva_wire.specs.Host.{pages_of}
 use Rattle.sva_wire.proofs.Lists.{select_same, select_length}
-use Rattle.sva_wire.proofs.Pages.{pages_same, pages_none, and_both, same_is, is_same, is_other, present_is}
+use Rattle.sva_wire.proofs.Pages.{pages_same, pages_none, present_is}
 
 -- Spaces of any names.
 
@@ -55,7 +55,7 @@ none_has first n pages (suc k) p h = go (p k) refl (none_has first n pages k p (
     go true e rest =
         ap (λ xs. pages_of xs n) (map-append (space_by first pages) (select k p) (k ∷ []))
         ∙ found_right (map (space_by first pages) (select k p)) (space_by first pages k ∷ []) n rest
-        ∙ of_number (space_by first pages k) n false (is_other (first + k) n (h k (omega arith) e))
+        ∙ of_number (space_by first pages k) n false (ne_eqb (first + k) n (h k (omega arith) e))
     go false e rest =
         ap (λ xs. pages_of xs n) (map-append (space_by first pages) (select k p) [])
         ∙ found_right (map (space_by first pages) (select k p)) [] n rest
@@ -74,7 +74,7 @@ one_has first n pages (suc k) p s l t e = go (ℕ_cases s k) (λ m. one_has firs
         ap (λ b. pages_of (map (space_by first pages) (select k p ++ (if b then k ∷ [] else []))) n) (ap p (sym c) ∙ t)
         ∙ ap (λ xs. pages_of xs n) (map-append (space_by first pages) (select k p) (k ∷ []))
         ∙ found_right (map (space_by first pages) (select k p)) (space_by first pages k ∷ []) n (none_has first n pages k p (λ r m u. omega arith))
-        ∙ of_number (space_by first pages k) n true (is_same (first + k) n here)
+        ∙ of_number (space_by first pages k) n true (eq-eqb (first + k) n here)
         ∙ ap (λ z. Some (pages z)) (sym c)
     go (inr ne) rest =
         ap (λ xs. pages_of xs n) (map-append (space_by first pages) (select k p) (if p k then k ∷ [] else []))
@@ -85,18 +85,6 @@ one_has first n pages (suc k) p s l t e = go (ℕ_cases s k) (λ m. one_has firs
 pub spaces_length : (w : World) → length ((spaces_wire w.config.first w.spaces w.is_live w.mappings)) ≡ Labels.live_spaces w
 spaces_length w = length-map (select w.spaces w.is_live) (space_by w.config.first (pages_wire w.mappings)) ∙ select_length w.spaces w.is_live
 
-from_first : (first n : ℕ) → nat_le first n ≡ true → first ≤ n
-from_first first n h = grind (arith, nat_tests)
-
-is_from_first : (first n : ℕ) → first ≤ n → nat_le first n ≡ true
-is_from_first first n h = grind (arith, nat_tests)
-
-below_is : (a b : ℕ) → nat_lt a b ≡ true → a < b
-below_is a b h = grind (arith, nat_tests)
-
-is_below : (a b : ℕ) → a < b → nat_lt a b ≡ true
-is_below a b h = grind (arith, nat_tests)
-
 pub record IsSpace (w : World) (n : ℕ) : Type 0 where
   pub from : w.config.first ≤ n
   pub given : Labels.name w n < w.spaces
@@ -105,34 +93,28 @@ pub record IsSpace (w : World) (n : ℕ) : Type 0 where
 pub space_is : (w : World) (n : ℕ) → Labels.is_space w n ≡ true → IsSpace w n
 space_is w n h =
     let number : (nat_le w.config.first n && nat_lt (Labels.name w n) w.spaces) ≡ true =
-    and_left (nat_le w.config.first n && nat_lt (Labels.name w n) w.spaces) (w.is_live (Labels.name w n)) h in
+    first_holds (nat_le w.config.first n && nat_lt (Labels.name w n) w.spaces) (w.is_live (Labels.name w n)) h in
     record {
-      from = from_first w.config.first n (and_left (nat_le w.config.first n) (nat_lt (Labels.name w n) w.spaces) number);
-      given = below_is (Labels.name w n) w.spaces (and_right (nat_le w.config.first n) (nat_lt (Labels.name w n) w.spaces) number);
-      live = and_right (nat_le w.config.first n && nat_lt (Labels.name w n) w.spaces) (w.is_live (Labels.name w n)) h;
+      from = leb-true w.config.first n (first_holds (nat_le w.config.first n) (nat_lt (Labels.name w n) w.spaces) number);
+      given = ltb-true (Labels.name w n) w.spaces (second_holds (nat_le w.config.first n) (nat_lt (Labels.name w n) w.spaces) number);
+      live = second_holds (nat_le w.config.first n && nat_lt (Labels.name w n) w.spaces) (w.is_live (Labels.name w n)) h;
     }
-
-named_back : (first n s : ℕ) → first + s ≡ n → n - first ≡ s
-named_back first n s e = omega arith
-
-named_forth : (first n : ℕ) → first ≤ n → first + (n - first) ≡ n
-named_forth first n l = omega arith
 
 pub space_found : (w : World) (n : ℕ) → Labels.is_space w n ≡ true → pages_of ((spaces_wire w.config.first w.spaces w.is_live w.mappings)) n
     ≡ Some (pages_wire w.mappings (Labels.name w n))
 space_found w n h =
     let s = space_is w n h in
-    one_has w.config.first n (pages_wire w.mappings) w.spaces w.is_live (Labels.name w n) s.given s.live (named_forth w.config.first n s.from)
+    one_has w.config.first n (pages_wire w.mappings) w.spaces w.is_live (Labels.name w n) s.given s.live (added_back w.config.first n s.from)
 
 pub space_missing : (w : World) (n : ℕ) → Labels.is_space w n ≡ false → pages_of ((spaces_wire w.config.first w.spaces w.is_live w.mappings)) n ≡ None
 space_missing w n h = none_has w.config.first n (pages_wire w.mappings) w.spaces w.is_live (λ s l t e. absurd (cc (sym (there s l t e) ∙ h)))
   where
     there : (s : ℕ) → s < w.spaces → w.is_live s ≡ true → w.config.first + s ≡ n → Labels.is_space w n ≡ true
     there s l t e =
-        let same : Labels.name w n ≡ s = named_back w.config.first n s e in
-        and_both (nat_le w.config.first n && nat_lt (Labels.name w n) w.spaces) (w.is_live (Labels.name w n))
-        (and_both (nat_le w.config.first n) (nat_lt (Labels.name w n) w.spaces) (is_from_first w.config.first n (omega arith))
-        (ap (λ z. nat_lt z w.spaces) same ∙ is_below s w.spaces l))
+        let same : Labels.name w n ≡ s = taken_off w.config.first n s e in
+        and_from (nat_le w.config.first n && nat_lt (Labels.name w n) w.spaces) (w.is_live (Labels.name w n))
+        (and_from (nat_le w.config.first n) (nat_lt (Labels.name w n) w.spaces) (le-leb w.config.first n (omega arith))
+        (ap (λ z. nat_lt z w.spaces) same ∙ lt-ltb s w.spaces l))
         (ap w.is_live same ∙ t)
 
 -- a number has the pages of its space, where that is live
@@ -169,10 +151,10 @@ spaces_more w ma =
     unmapped : (m : ℕ) → (b : Bool) → is_page_of w.mappings w.spaces m ≡ b → b ≡ false
     unmapped m false h = refl
     unmapped m true h =
-        let present = present_is (w.mappings.state m) (and_left (is_present (w.mappings.state m)) (w.mappings.space m == w.spaces) h) in
+        let present = present_is (w.mappings.state m) (first_holds (is_present (w.mappings.state m)) (w.mappings.space m == w.spaces) h) in
         let live = (ma.at_present (w.mappings.space m) (w.mappings.page m) m (ma.present_at m present)).3 in
         let space : w.mappings.space m ≡ w.spaces =
-        same_is (w.mappings.space m) w.spaces (and_right (is_present (w.mappings.state m)) (w.mappings.space m == w.spaces) h) in
+        eqb-true (w.mappings.space m) w.spaces (second_holds (is_present (w.mappings.state m)) (w.mappings.space m == w.spaces) h) in
         let below : w.mappings.space m < w.spaces = ma.live (w.mappings.space m) live in
         absurd (omega arith)
 
